@@ -1,0 +1,4 @@
+pub mod Holdings
+pub mod Cuts
+pub mod Entries
+pub mod Words

@@ -1,0 +1,7 @@
+pub mod formers
+pub mod Word
+pub mod Held
+pub mod Counts
+pub mod Outside
+pub mod Effects
+pub mod Store

@@ -1,0 +1,24 @@
+//! The ground of the kit: the outside as traits (files that are read and written whole, a sink
+//! for text), both held in memory, names, lists, port operations and the arithmetic of words.
+//!
+//! It promises what each call of the outside leaves, after an answer and after a refusal, and that
+//! a refusal of the outside comes only where one of its counts rose. It stands on std alone.
+#![tactic(auto)]
+
+mod event;
+mod files_in_memory;
+mod joined;
+mod name;
+mod outside;
+mod seq;
+mod sink_in_memory;
+mod word;
+
+pub use event::Event;
+pub use files_in_memory::FilesInMemory;
+pub use joined::join_pieces;
+pub use name::{Memory, Name};
+pub use outside::{FileErr, Files, Reads, Sink, SinkErr};
+pub use seq::Seq;
+pub use sink_in_memory::SinkInMemory;
+pub use word::{div_word, mod_word, shift_word, signed, wrap_add};

@@ -1,6 +1,6 @@
 -- What files and a sink in memory hold: their content, which of their calls fail, and their counts.
-use Rattle.std.specs.Prelude.{ℕ, ◌≡◌, ◌+◌, ◌==◌, min, Bool, List, if◌then◌else◌, [], ◌∷◌, map, length}
-use Rattle.std.specs.List.{list_any, IsDistinct}
+use Rattle.std.specs.Prelude.{ℕ, ◌≡◌, ◌+◌, ◌==◌, min, Bool, true, not, ◌&&◌, List, if◌then◌else◌, [], ◌∷◌}
+use Rattle.std.specs.List.{list_any}
 use Rattle.std.specs.Str.{bytes_eq}
 
 pub record Store : Type 0 where
@@ -40,6 +40,10 @@ pub record CountsPut (old new : Written) (failed : Bool) : Type 0 where
   pub failing : new.failing ≡ old.failing
   pub faults : new.faults ≡ (if failed then counted old.faults else old.faults)
 
--- the names are pairwise different
-abbrev pub HasDistinctNames : List (List ℕ × List ℕ) → Type 0
-HasDistinctNames files = IsDistinct bytes_eq (map (λ f. f.0) files)
+-- whether the names are pairwise different
+abbrev pub has_name : List ℕ → List (List ℕ × List ℕ) → Bool
+has_name name files = list_any (λ f. bytes_eq f.0 name) files
+
+abbrev pub are_distinct : List (List ℕ × List ℕ) → Bool
+are_distinct [] = true
+are_distinct (f ∷ fs) = not (has_name f.0 fs) && are_distinct fs

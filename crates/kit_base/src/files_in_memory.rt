@@ -3,9 +3,10 @@ ghost use Rattle.std.specs.Prelude.{◌≡◌, ◌≤◌, ◌<◌, ◌+◌, ◌+
 ghost use Rattle.std.specs.FinMap.{get, insert, contains_key};
 ghost use Rattle.std.specs.Option.{option_copied};
 ghost use Rattle.kit_base.specs.Held.{lookup, IsFirstAt, from_entries_of, emptied, appended};
+ghost use Rattle.std.specs.Bool.{OnTrue};
 ghost use Rattle.kit_base.specs.Counts.{Rose};
 ghost use Rattle.kit_base.specs.Outside.{Answers, due, HasCause, IsOfWriting, has_failed};
-ghost use Rattle.kit_base.specs.Store.{HasDistinctNames, is_failing, counted};
+ghost use Rattle.kit_base.specs.Store.{has_name, are_distinct, is_failing};
 
 use crate::name::{Memory, Name};
 use crate::outside::{FILE_LIMIT, FileErr, Files, Reads};
@@ -95,12 +96,33 @@ impl Model for FilesInMemory {
     ghost view = { λ s. record { files = s.files.items; failing = s.failing.items; calls = s.calls; faults = s.faults; misses = s.misses; overs = s.overs } };
 }
 
+fn has_name(files: &[(Name, Seq<u8>)], name: &Name) -> bool
+    ensures { result ≡ has_name name.now files.now }
+{
+    files.iter().any(|file| file.0.bytes() == name.bytes())
+}
+
 impl FilesInMemory {
     ghost use Rattle.kit_base.specs.Store.{CountsCall};
 
-    /// Files of these names and bytes, whose calls of the numbers `failing` fail.
+    /// Whether the names are pairwise different.
+    pub fn are_distinct(files: &[(Name, Seq<u8>)]) -> bool
+        ensures { result ≡ are_distinct files.now }
+    {
+        let mut rest = files;
+        'files: while let Some((first, after)) = rest.split_first() {
+            if has_name(after, &first.0) {
+                return false;
+            }
+            rest = after;
+        }
+        true
+    }
+
+    /// Files of these names and bytes, whose calls of the numbers `failing` fail. The names are
+    /// pairwise different (`are_distinct`).
     pub fn new(alloc: Global, held: Vec<(Name, Seq<u8>)>, failing: Vec<u32>) -> FilesInMemory
-        requires distinct { HasDistinctNames held.items }
+        requires distinct { IsTrue (are_distinct held.items) }
         ensures files { result.files ≡ held.items }
         ensures failing { result.failing ≡ failing.items }
         ensures counts { (result.calls ≡ 0) × (result.faults ≡ 0) × (result.misses ≡ 0) × (result.overs ≡ 0) }
@@ -126,6 +148,8 @@ impl FilesInMemory {
     /// Counts a call, and answers whether it is to fail.
     fn begins_failing(&mut self) -> bool
         ensures call { CountsCall self.old self.new result }
+        ensures rose { OnTrue result (Rose self.old.faults self.new.faults) }
+        ensures later { self.old.faults ≤ self.new.faults }
         ensures files { self.new.files ≡ self.old.files }
         ensures misses { self.new.misses ≡ self.old.misses }
         ensures overs { self.new.overs ≡ self.old.overs }

@@ -11,11 +11,15 @@ pub const FILE_LIMIT: usize = 268_435_456;
 
 /// Why a call of the files was refused: no file has that name, the system failed, the file has
 /// over 268,435,456 bytes, or memory ran out.
-#[derive(Clone, Copy, Debug, PartialEq, Eq)]
+#[derive(Clone, Copy, Debug, PartialEq, Eq, thiserror::Error)]
 pub enum FileErr {
+    #[error("no file has this name")]
     Missing,
+    #[error("the system failed")]
     Failed,
+    #[error("the file has over 268,435,456 bytes")]
     TooLong,
+    #[error("out of memory")]
     Memory,
 }
 
@@ -69,9 +73,11 @@ pub trait Files: Reads {
 }
 
 /// Why a piece was not put whole: the system failed, or memory ran out.
-#[derive(Clone, Copy, Debug, PartialEq, Eq)]
+#[derive(Clone, Copy, Debug, PartialEq, Eq, thiserror::Error)]
 pub enum SinkErr {
+    #[error("the system failed")]
     Failed,
+    #[error("out of memory")]
     Memory,
 }
 

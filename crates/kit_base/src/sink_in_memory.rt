@@ -1,6 +1,7 @@
 // A sink in memory, whose calls fail where the caller says.
 ghost use Rattle.std.specs.Prelude.{◌≡◌, ◌++◌, ◌+◌, ◌≤◌, ℕ, [], Some, OnOk, OnErr, take, IsTrue};
 ghost use Rattle.kit_base.specs.Outside.{HasSinkCause, has_sink_failed};
+ghost use Rattle.std.specs.Bool.{OnTrue};
 ghost use Rattle.kit_base.specs.Counts.{Rose};
 
 use crate::files_in_memory::is_failing;
@@ -53,6 +54,8 @@ impl SinkInMemory {
     /// Counts a call, and answers whether it is to fail.
     fn begins_failing(&mut self) -> bool
         ensures call { CountsPut self.old self.new result }
+        ensures rose { OnTrue result (Rose self.old.faults self.new.faults) }
+        ensures later { self.old.faults ≤ self.new.faults }
         ensures bytes { self.new.bytes ≡ self.old.bytes }
     {
         let fails = is_failing(&self.failing, self.calls);

@@ -25,7 +25,11 @@ pub fn div_word(a: u32, b: u32) -> Option<u32>
     if b == 0 {
         return None;
     }
-    Some(a.cast_signed().wrapping_div(b.cast_signed()).cast_unsigned())
+    Some(
+        a.cast_signed()
+            .wrapping_div(b.cast_signed())
+            .cast_unsigned(),
+    )
 }
 
 /// The signed remainder, with the sign of the dividend. That of 0x80000000 by -1 is 0; by 0 there
@@ -37,7 +41,11 @@ pub fn mod_word(a: u32, b: u32) -> Option<u32>
     if b == 0 {
         return None;
     }
-    Some(a.cast_signed().wrapping_rem(b.cast_signed()).cast_unsigned())
+    Some(
+        a.cast_signed()
+            .wrapping_rem(b.cast_signed())
+            .cast_unsigned(),
+    )
 }
 
 /// The word shifted by a signed count: left by 0 to 31, right with zeros by -1 to -31; any other

@@ -1,4 +1,4 @@
-use Rattle.std.proofs.Common.{rules, ◌≡◌, ◌∙◌, sym, ap}
+use Rattle.std.proofs.Common.{◌≡◌}
 use Rattle.std.specs.Prelude.{None}
 use Rattle.kit_base.specs.Held.{lookup, IsFirstAt}
 use Rattle.kit_base.proofs.Entries.{put_at, pushed}

@@ -1,0 +1,6 @@
+pub mod Opcodes
+pub mod ReadBack
+pub mod Spellings
+pub mod Decoded
+pub mod Steps
+pub mod LongerRuns

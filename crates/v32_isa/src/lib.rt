@@ -1,0 +1,27 @@
+//! The instructions and ports of the console, and the machine as a definition.
+//!
+//! It promises that `encode` and `decode` are the table of instruction forms, both ways, and that
+//! the port table is exactly the listed ports; its definitions say what one instruction does and
+//! what a run on a list of port answers gives. It stands on `kit_base`.
+#![tactic(auto)]
+
+mod decoding;
+mod encoding;
+mod fields;
+mod instruction;
+mod laws;
+mod port;
+mod port_table;
+mod register;
+mod stepped;
+#[cfg(test)]
+mod tests;
+
+pub use decoding::decode;
+pub use encoding::{Encoded, encode};
+pub use instruction::{Branch, Go, Instr, Mov, One, Plain, Src, Two};
+pub use laws::{decoding_is_inverse, longer_runs_extend, no_spelling_begins_another};
+pub use port::Port;
+pub use port_table::{PortRow, port_by_name, port_by_number};
+pub use register::Reg;
+pub use stepped::Stepped;

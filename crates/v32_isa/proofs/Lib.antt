@@ -4,3 +4,4 @@ pub mod Spellings
 pub mod Decoded
 pub mod Steps
 pub mod LongerRuns
+pub mod PortNumbers

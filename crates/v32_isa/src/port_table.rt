@@ -1,5 +1,5 @@
 // The ports of the console.
-ghost use Rattle.std.specs.Prelude.{◌≡◌, ◌==◌, find, map};
+ghost use Rattle.std.specs.Prelude.{◌≡◌, ◌<◌, ◌==◌, IfSome, find, map};
 ghost use Rattle.std.specs.Option.{option_map};
 ghost use Rattle.std.specs.Str.{bytes_eq};
 ghost use Rattle.v32_isa.specs.Ports.{entry_of, first_spelling, listed, port_named, port_numbered, port_spelled};
@@ -130,9 +130,10 @@ fn port_spelled_as(name: &str) -> Option<PortRow>
 
 /// The port of a name, in either spelling of the hotspot ports; the row has the first spelling.
 /// None where no port has the name: the ports of floats have none.
-#[tactic(auto, unfolding(crate::specs::Ports::port_named))]
+#[tactic(auto, using(crate::proofs::PortNumbers::spelled_in_range), unfolding(crate::specs::Ports::port_named))]
 pub fn port_by_name(name: &str) -> Option<PortRow>
-    ensures { option_map entry_of result ≡ port_named name.now }
+    ensures row { option_map entry_of result ≡ port_named name.now }
+    ensures range { IfSome result (λ r. r.number < 16384) }
 {
     port_spelled_as(with_first_spelling(name))
 }
@@ -140,7 +141,8 @@ pub fn port_by_name(name: &str) -> Option<PortRow>
 /// The port of a number; none where no port has it.
 #[tactic(auto, unfolding(crate::specs::Ports::port_numbered, crate::specs::Ports::port_table))]
 pub fn port_by_number(number: u32) -> Option<PortRow>
-    ensures { option_map entry_of result ≡ port_numbered number }
+    ensures row { option_map entry_of result ≡ port_numbered number }
+    ensures range { IfSome result (λ r. r.number < 16384) }
 {
     let entry = entry_by_number(&PORTS, number)?;
     Some(row_of(entry))

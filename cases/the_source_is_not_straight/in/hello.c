@@ -1,0 +1,1 @@
+void main() { port_out(GPU_Command, x); }

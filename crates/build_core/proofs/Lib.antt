@@ -1,0 +1,11 @@
+pub mod Printable
+pub mod StatementSteps
+pub mod Codes
+pub mod Builds
+pub mod Texts
+pub mod Numbers
+pub mod ProjectReading
+pub mod PortNames
+pub mod SourceReading
+pub mod Agreement
+pub mod Pure

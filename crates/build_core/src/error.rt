@@ -1,0 +1,70 @@
+// Why a build is refused.
+ghost use Rattle.std.specs.Prelude.{◌≡◌};
+ghost use Rattle.build_core.specs.declared.error.BuildErr.TheVariants.{Memory};
+
+use kit_base::Name;
+use std::alloc::{AllocError, AllocFailed};
+use std::fmt;
+use thiserror::Error;
+
+/// Why a build is refused.
+#[derive(Drop, Error)]
+pub enum BuildErr {
+    /// A source has no program. The code is 15: it is not a straight source. Lines count from 1.
+    #[error("error {code} in line {line} of a source")]
+    Source {
+        code: u32,
+        file: Name,
+        line: u32,
+    },
+    /// No file of this name is held.
+    #[error("a file is missing")]
+    Missing(Name),
+    /// The system failed at the file of this name.
+    #[error("a file could not be read")]
+    Failed(Name),
+    /// A text or a file is not of its grammar. The code is 94: the project's text, which is called
+    /// `project`, spells no project. Lines count from 1; files without lines have none.
+    #[error("bad data, code {code}")]
+    Bad {
+        code: u32,
+        name: Name,
+        line: Option<u32>,
+    },
+    /// The file of this name has more bytes than are read.
+    #[error("a file is too long")]
+    Limit(Name),
+    /// Memory ran out.
+    #[error("out of memory")]
+    Memory,
+}
+
+impl fmt::Debug for BuildErr {
+    fn fmt<W: fmt::Write>(&self, f: &mut fmt::Formatter<W>) -> fmt::Result {
+        fmt::Display::fmt(self, f)
+    }
+}
+
+impl From<AllocError> for BuildErr {
+    ghost from_gives = { λ _ e. e ≡ Memory };
+
+    fn from(_: AllocError) -> Self {
+        BuildErr::Memory
+    }
+}
+
+impl<T: Drop> From<AllocFailed<T>> for BuildErr {
+    ghost from_gives = { λ _ e. e ≡ Memory };
+
+    fn from(_: AllocFailed<T>) -> Self {
+        BuildErr::Memory
+    }
+}
+
+impl From<kit_base::Memory> for BuildErr {
+    ghost from_gives = { λ _ e. e ≡ Memory };
+
+    fn from(_: kit_base::Memory) -> Self {
+        BuildErr::Memory
+    }
+}

@@ -1,0 +1,113 @@
+-- A status 0 says that the build stands.
+use Rattle.std.proofs.Common.{ℕ, ◌≡◌, ◌⊎◌, inl, inr, Bool, true, false, List, [], ◌∷◌, ◌++◌, refl, sym, ap, subst, ◌∙◌, arith}
+use Rattle.std.specs.Prelude.{Option, Some, None, Result, Ok, Err, IfSome, IsSomeAnd, if◌then◌else◌, codes}
+use Rattle.std.specs.List.{list_all}
+use Rattle.std.specs.Str.{bytes_eq}
+use Rattle.std.specs.FinMap.{get}
+use Rattle.kit_base.specs.Held.{Held}
+use Rattle.kit_base.specs.Effects.{Effect, all_done}
+use Rattle.kit_base.specs.Outside.{due}
+use Rattle.build_core.specs.declared.error.BuildErr.{BuildErr}
+use Rattle.build_core.specs.declared.building.Built.{Built}
+use Rattle.build_core.specs.Build.{built_of, IsBuilt}
+use Rattle.build_core.specs.Map.{map_text}
+use Rattle.kit_core.specs.declared.refusal.Refusal.{Refusal}
+use Rattle.kit_core.specs.declared.refusal.Refusal.TheVariants as refusals
+use Rattle.kit_core.specs.Refusal.{status_of}
+use Rattle.kit_core.specs.Command.{Command, Build, is_word, build_form, form_of, command_of}
+use Rattle.kit_core.specs.Due.{◌>>=◌, Work, or_refused, or_usage, unread, unbuilt, outputs_of, build_due, work_due, command_due}
+use Rattle.kit_core.specs.Outcome.{EndsAs, Done, Refused, FileFault, OutOfMemory, SinkFault, IsOutcome}
+use Rattle.kit_core.specs.Headline.{IsBuiltInto, BuildStands}
+use Rattle.kit_core.proofs.Writes.{get_written, get_unwritten}
+
+-- the created names differ
+by_names : (project cart map_name p c n : List ℕ) (same : Bool) → bytes_eq cart map_name ≡ same
+    → (if same then None else Some (Build project cart map_name)) ≡ Some (Build p c n) → bytes_eq c n ≡ false
+by_names project cart map_name p c n true e h = cc
+by_names project cart map_name p c n false e h = let x : cart ≡ c = cc in let y : map_name ≡ n = cc in subst (λ z. bytes_eq c z ≡ false) y (subst (λ z. bytes_eq z map_name ≡ false) x e)
+
+by_arguments : (arguments : List (List ℕ)) (p c n : List ℕ) → build_form arguments ≡ Some (Build p c n) → bytes_eq c n ≡ false
+by_arguments [] p c n h = cc
+by_arguments (a ∷ []) p c n h = cc
+by_arguments (a ∷ b ∷ []) p c n h = cc
+by_arguments (project ∷ cart ∷ map_name ∷ []) p c n h = by_names project cart map_name p c n (bytes_eq cart map_name) refl h
+by_arguments (a ∷ b ∷ d ∷ e ∷ rest) p c n h = cc
+
+chosen : {A : Type 0} (test : Bool) (o : Option A) (x : A) → (if test then o else None) ≡ Some x → o ≡ Some x
+chosen true o x h = h
+chosen false o x h = cc
+
+created_differ : (words : List (List ℕ)) (p c n : List ℕ) → command_of words ≡ Some (Build p c n) → bytes_eq c n ≡ false
+created_differ [] p c n h = cc
+created_differ (name ∷ arguments) p c n h =
+    by_arguments arguments p c n (chosen (bytes_eq name (codes "build")) _ _ (chosen (list_all is_word arguments) _ _ h))
+
+-- the parts of a work that is due
+bind_ok : {A B : Type 0} (r : Result A Refusal) (f : A → Result B Refusal) (y : B) → (r >>= f) ≡ Ok y → (x : A) × (r ≡ Ok x) × (f x ≡ Ok y)
+bind_ok (Ok x) f y e = (x, refl, e)
+bind_ok (Err d) f y e = cc
+
+refused_gave : {A E : Type 0} (f : E → Refusal) (r : Result A E) (x : A) → or_refused f r ≡ Ok x → r ≡ Ok x
+refused_gave f (Ok y) x e = cc
+refused_gave f (Err d) x e = cc
+
+-- a status 0 is that of a work done
+not_zero : (e : Refusal) → status_of e ≡ 0 → ⊥
+not_zero refusals.Usage h = omega arith
+not_zero (refusals.Source c f l) h = omega arith
+not_zero (refusals.Missing n) h = omega arith
+not_zero (refusals.Failed n) h = omega arith
+not_zero (refusals.Bad c n l) h = omega arith
+not_zero (refusals.Limit n) h = omega arith
+not_zero refusals.Memory h = omega arith
+
+done_at_zero : (d : Result Work Refusal) (reads : List (List ℕ)) (m : Held) (status : ℕ) (after : Option Held) (before put : Option (List ℕ))
+    → EndsAs d reads m status after before put → status ≡ 0 → (work : Work) × (d ≡ Ok work) × (after ≡ all_done work.effects (Some m))
+done_at_zero d reads m status after before put (Done h) z = (h.work, h.is_due, h.files)
+done_at_zero d reads m status after before put (Refused h) z = absurd (not_zero h.refusal (sym h.status_is ∙ z))
+done_at_zero d reads m status after before put (FileFault h) z = absurd (omega (arith, h.status_is))
+done_at_zero d reads m status after before put (OutOfMemory s h) z = absurd (omega arith)
+done_at_zero d reads m status after before put (SinkFault s h) z = absurd (omega arith)
+
+-- both files stand
+cart_there : (m : Held) (cart map_name : List ℕ) (b : Built) (after : Option Held) → bytes_eq cart map_name ≡ false
+    → after ≡ all_done (outputs_of cart map_name b) (Some m) → IsSomeAnd after (λ files. get files cart ≡ Some b.cart)
+cart_there m cart map_name b after differ e =
+    subst (λ h. IsSomeAnd h (λ files. get files cart ≡ Some b.cart)) (sym e) (get_unwritten _ map_name (map_text b.map) cart differ ∙ get_written m cart b.cart)
+
+map_there : (m : Held) (cart map_name : List ℕ) (b : Built) (after : Option Held)
+    → after ≡ all_done (outputs_of cart map_name b) (Some m) → IsSomeAnd after (λ files. get files map_name ≡ Some (map_text b.map))
+map_there m cart map_name b after e =
+    subst (λ h. IsSomeAnd h (λ files. get files map_name ≡ Some (map_text b.map))) (sym e) (get_written _ map_name (map_text b.map))
+
+abbrev Law : Type 0
+Law = (m : Held) (project : List ℕ) (b : Built) → built_of m project ≡ Ok b → IsBuilt m project b
+
+built_into : Law → (project cart map_name : List ℕ) (m : Held) (after : Option Held) (work : Work) → bytes_eq cart map_name ≡ false
+    → build_due project cart map_name m ≡ Ok work → after ≡ all_done work.effects (Some m) → IsBuiltInto project cart map_name m after
+built_into law project cart map_name m after work differ d e =
+    let t = bind_ok (or_refused (unread project) (due m project)) _ work d in
+    let b = bind_ok (or_refused (unbuilt project) (built_of m t.0)) _ work t.2 in
+    let same : outputs_of cart map_name b.0 ≡ work.effects = cc b.2 in
+    let stands : after ≡ all_done (outputs_of cart map_name b.0) (Some m) = e ∙ ap (λ xs. all_done xs (Some m)) (sym same) in
+    record {
+      text = t.0;
+      built = b.0;
+      project_is = refused_gave _ _ _ t.1;
+      is_built = law m t.0 b.0 (refused_gave _ _ _ b.1);
+      outputs = stands;
+      cart_stands = cart_there m cart map_name b.0 after differ stands;
+      map_stands = map_there m cart map_name b.0 after stands;
+    }
+
+pub headline : Law → (words : List (List ℕ)) (m : Held) (status : ℕ) (after : Option Held) (before put : Option (List ℕ))
+    → IsOutcome words m status after before put → status ≡ 0 → BuildStands words m after
+headline law words m status after before put outcome z = λ project cart map_name named.
+    let done = done_at_zero _ _ m status after before put outcome z in
+    let is_due : build_due project cart map_name m ≡ Ok done.0 = sym (ap (λ o. or_usage o >>= λ k. work_due k m) named) ∙ done.1 in
+    built_into law project cart map_name m after done.0 (created_differ words project cart map_name named) is_due done.2
+
+pub headline_told : Law → (words : List (List ℕ)) (status : ℕ) (told after : Option Held) (before put : Option (List ℕ))
+    → IfSome told (λ m. IsOutcome words m status after before put) → IfSome told (λ m. status ≡ 0 → BuildStands words m after)
+headline_told law words status None after before put outcome = tt
+headline_told law words status (Some m) after before put outcome = headline law words m status after before put outcome

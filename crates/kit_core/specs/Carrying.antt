@@ -1,0 +1,48 @@
+-- What the parts of a command answer and leave, each by itself.
+use Rattle.std.specs.Prelude.{ℕ, ◌≡◌, ◌⊎◌, List, [], ◌∷◌, ◌++◌, take, Option, Some, Result, Ok, Err, Vec, Contains}
+use Rattle.std.specs.declared.alloc.Global.{Global}
+use Rattle.kit_base.specs.Held.{Held}
+use Rattle.kit_base.specs.Effects.{Effect, all_done, CutShort}
+use Rattle.kit_core.specs.declared.refusal.Refusal.{Refusal}
+use Rattle.kit_core.specs.declared.refusal.Refusal.TheVariants as refusals
+use Rattle.kit_core.specs.Refusal.{line_of}
+use Rattle.kit_core.specs.Due.{Work}
+use Rattle.kit_core.specs.Outcome.{putting, Comes}
+
+-- a reading part: its answer is the one that is due, unless memory ran out or a call failed
+abbrev pub GivesBy : {X Y : Type 0} → (X → Y) → Result X Refusal → Result Y Refusal → Type 0
+GivesBy view (Ok x) due = due ≡ Ok (view x)
+GivesBy view (Err refusals.Memory) due = Unit {0}
+GivesBy view (Err (refusals.Failed name)) due = Unit {0}
+GivesBy view (Err refusal) due = due ≡ Err refusal
+
+-- a call that failed was of one of these files
+abbrev pub FailsAt : List (List ℕ) → Refusal → Type 0
+FailsAt names (refusals.Failed name) = Contains names name
+FailsAt names refusal = Unit {0}
+
+-- a writing part: it was cut short inside its effects
+abbrev pub IsCut : Refusal → List Effect → Option Held → Option Held → Type 0
+IsCut (refusals.Failed name) effects before after = CutShort name effects before after
+IsCut refusals.Memory effects before after = (name : List ℕ) × CutShort name effects before after
+IsCut refusal effects before after = ⊥
+
+-- a whole command: its work was done but for its text, which is handed on, or its refusal came
+abbrev pub Leaves : Result (Vec ℕ Global) Refusal → Result Work Refusal → List (List ℕ) → Held → Option Held → Type 0
+Leaves (Ok text) due reads held after =
+    (work : Work) × (due ≡ Ok work) × (after ≡ all_done work.effects (Some held)) × (text.items ≡ work.text)
+Leaves (Err refusal) due reads held after = Comes refusal due reads held after
+
+-- one put of a text that ends a command at that status: whole, or a front of it
+abbrev pub Puts : (status_whole : ℕ) (whole : List ℕ) (status : ℕ) (before put : Option (List ℕ)) → Type 0
+Puts status_whole whole status before put =
+    ((status ≡ status_whole) × (put ≡ putting whole before))
+    ⊎ (((status ≡ 8) ⊎ (status ≡ 9)) × ((count : ℕ) × (put ≡ putting (take count whole) before)))
+
+-- The text was put whole, or memory or the sink stopped it, after a front of it and then a front of
+-- the line of the status 8.
+abbrev pub Shows : (status_whole : ℕ) (whole : List ℕ) (status : ℕ) (before put : Option (List ℕ)) → Type 0
+Shows status_whole whole status before put =
+    ((status ≡ status_whole) × (put ≡ putting whole before))
+    ⊎ (((status ≡ 8) ⊎ (status ≡ 9))
+    × ((count : ℕ) × (line_count : ℕ) × (put ≡ putting (take count whole ++ take line_count (line_of refusals.Memory)) before)))

@@ -1,0 +1,32 @@
+-- The words of the command line, and the command that they name.
+use Rattle.std.specs.Prelude.{ℕ, Bool, false, not, ◌==◌, List, [], ◌∷◌, map, Option, Some, None, String, string_bytes, if◌then◌else◌, codes}
+use Rattle.std.specs.List.{list_all}
+use Rattle.std.specs.Str.{bytes_eq}
+use Rattle.std.specs.declared.alloc.Global.{Global}
+
+-- a command with the names that its words give
+pub data Command : Type 0 where
+  -- `build project cart map`
+  Build : (project cart map_name : List ℕ) → Command
+
+abbrev pub texts : List (String Global) → List (List ℕ)
+texts words = map string_bytes words
+
+-- a word is not empty and does not begin with `-`
+abbrev pub is_word : List ℕ → Bool
+is_word [] = false
+is_word (first ∷ rest) = not (first == 45)
+
+-- The created names of a command are pairwise different.
+abbrev pub build_form : List (List ℕ) → Option Command
+build_form (project ∷ cart ∷ map_name ∷ []) = if bytes_eq cart map_name then None else Some (Build project cart map_name)
+build_form arguments = None
+
+-- the form of that name
+abbrev pub form_of : List ℕ → List (List ℕ) → Option Command
+form_of name arguments = if bytes_eq name (codes "build") then build_form arguments else None
+
+-- the command of the words after the program's own name; any others are a usage error
+abbrev pub command_of : List (List ℕ) → Option Command
+command_of [] = None
+command_of (name ∷ arguments) = if list_all is_word arguments then form_of name arguments else None

@@ -1,0 +1,87 @@
+-- What a command is due, for its words and for the files that are held: the one order of refusals.
+use Rattle.std.specs.Prelude.{ℕ, List, [], ◌∷◌, ◌++◌, Option, Some, None, Result, Ok, Err}
+use Rattle.kit_base.specs.Held.{Held}
+use Rattle.kit_base.specs.Effects.{Effect, written_file}
+use Rattle.kit_base.specs.Outside.{due}
+use Rattle.kit_base.specs.declared.outside.FileErr.{FileErr}
+use Rattle.kit_base.specs.declared.outside.FileErr.TheVariants as file_errors
+use Rattle.build_core.specs.declared.error.BuildErr.{BuildErr}
+use Rattle.build_core.specs.declared.error.BuildErr.TheVariants as build_errors
+use Rattle.build_core.specs.declared.building.Built.{Built}
+use Rattle.build_core.specs.Build.{built_of, reads_of}
+use Rattle.build_core.specs.Map.{map_text}
+use Rattle.kit_core.specs.declared.refusal.Refusal.{Refusal}
+use Rattle.kit_core.specs.declared.refusal.Refusal.TheVariants as refusals
+use Rattle.kit_core.specs.Command.{Command, Build, command_of}
+
+-- What a command does once nothing refused it: what it creates and appends, in order, and the text
+-- that is put after that.
+pub record Work : Type 0 where
+  pub effects : List Effect
+  pub text : List ℕ
+
+infixl 10 ◌>>=◌
+abbrev pub ◌>>=◌ : {A B : Type 0} → Result A Refusal → (A → Result B Refusal) → Result B Refusal
+(Ok x) >>= f = f x
+(Err e) >>= f = Err e
+
+abbrev pub or_refused : {T E : Type 0} → (E → Refusal) → Result T E → Result T Refusal
+or_refused f (Ok x) = Ok x
+or_refused f (Err e) = Err (f e)
+
+abbrev pub or_usage : {T : Type 0} → Option T → Result T Refusal
+or_usage (Some x) = Ok x
+or_usage None = Err refusals.Usage
+
+-- the refusal of a read of that file
+abbrev pub unread : List ℕ → FileErr → Refusal
+unread name file_errors.Missing = refusals.Missing name
+unread name file_errors.Failed = refusals.Failed name
+unread name file_errors.TooLong = refusals.Limit name
+unread name file_errors.Memory = refusals.Memory
+
+-- The refusal of a build. A fault in a line is one of the project's text, which goes by the name
+-- that the words give it.
+abbrev pub unbuilt : List ℕ → BuildErr → Refusal
+unbuilt project (build_errors.Source code file line) = refusals.Source code file line
+unbuilt project (build_errors.Missing name) = refusals.Missing name
+unbuilt project (build_errors.Failed name) = refusals.Failed name
+unbuilt project (build_errors.Bad code name (Some line)) = refusals.Bad code project (Some line)
+unbuilt project (build_errors.Bad code name None) = refusals.Bad code name None
+unbuilt project (build_errors.Limit name) = refusals.Limit name
+unbuilt project build_errors.Memory = refusals.Memory
+
+-- the cartridge and then the map, each created and then appended
+abbrev pub outputs_of : List ℕ → List ℕ → Built → List Effect
+outputs_of cart map_name built = written_file cart built.cart ++ written_file map_name (map_text built.map)
+
+abbrev pub build_due : (project cart map_name : List ℕ) → Held → Result Work Refusal
+build_due project cart map_name held = do
+  text ← or_refused (unread project) (due held project)
+  built ← or_refused (unbuilt project) (built_of held text)
+  Ok (record { effects = outputs_of cart map_name built; text = [] })
+
+abbrev pub work_due : Command → Held → Result Work Refusal
+work_due (Build project cart map_name) held = build_due project cart map_name held
+
+-- the work of the command of these words, or its first refusal
+abbrev pub command_due : List (List ℕ) → Held → Result Work Refusal
+command_due words held = do
+  command ← or_usage (command_of words)
+  work_due command held
+
+-- the names that a build reads after its project
+abbrev pub reads_in : Result (List ℕ) FileErr → List (List ℕ)
+reads_in (Ok text) = reads_of text
+reads_in (Err e) = []
+
+abbrev pub build_reads : List ℕ → Held → List (List ℕ)
+build_reads project held = project ∷ reads_in (due held project)
+
+abbrev pub command_reads : Option Command → Held → List (List ℕ)
+command_reads None held = []
+command_reads (Some (Build project cart map_name)) held = build_reads project held
+
+-- the names that the command of these words reads, in order
+abbrev pub reads_due : List (List ℕ) → Held → List (List ℕ)
+reads_due words held = command_reads (command_of words) held

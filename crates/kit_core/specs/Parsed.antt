@@ -1,0 +1,7 @@
+-- A command as the program holds it, with references into its words, and the command that it is.
+use Rattle.kit_core.specs.declared.command.Command.TheVariants as parsed
+use Rattle.kit_core.specs.declared.command.Command as declared
+use Rattle.kit_core.specs.Command.{Command, Build}
+
+abbrev pub command_from : declared.Command → Command
+command_from (parsed.Build project cart map) = Build project.now cart.now map.now

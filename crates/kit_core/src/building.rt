@@ -1,0 +1,86 @@
+// The command `build`.
+ghost use Rattle.std.specs.Prelude.{◌≡◌, IfSome, OnOk, IfErr};
+ghost use Rattle.kit_base.specs.Effects.{all_done};
+ghost use Rattle.build_core.specs.Build.{built_of, reads_of};
+ghost use Rattle.kit_core.specs.Carrying.{FailsAt, GivesBy, IsCut, Leaves};
+ghost use Rattle.kit_core.specs.Causes.{HasCauses};
+ghost use Rattle.kit_core.specs.Due.{build_due, build_reads, or_refused, outputs_of, unbuilt};
+
+use crate::reading::read_file;
+use crate::refusal::{Refusal, unbuilt};
+use crate::writing::write_output;
+use build_core::{Built, build, map_text};
+use kit_base::{Files, Name};
+use std::alloc::Global;
+
+/// Builds the project of that text. A refusal has the project's own name.
+fn build_text<F: Files>(
+    alloc: Global,
+    files: &mut F,
+    project: &str,
+    text: &[u8],
+) -> Result<Built, Refusal>
+    ensures held { F.held files.new ≡ F.held files.old }
+    ensures told { IfSome (F.held files.old) (λ m. GivesBy (λ b. b) result (or_refused (unbuilt project.now) (built_of m text.now))) }
+    ensures fails { IfErr result (FailsAt (reads_of text.now)) }
+    ensures causes { HasCauses result (F.faults files.old) (F.faults files.new) (F.misses files.old) (F.misses files.new) (F.overs files.old) (F.overs files.new) }
+{
+    match build(alloc, files, text) {
+        Ok(built) => Ok(built),
+        Err(error) => {
+            let Ok(name) = Name::new(alloc, project) else {
+                return Err(Refusal::Memory);
+            };
+            Err(unbuilt(name, error))
+        }
+    }
+}
+
+/// Writes the cartridge, then the map.
+fn write_outputs<F: Files>(
+    alloc: Global,
+    files: &mut F,
+    cart: &str,
+    map: &str,
+    built: &Built,
+) -> Result<(), Refusal>
+    ensures ok { OnOk result (F.held files.new ≡ all_done (outputs_of cart.now map.now built.now) (F.held files.old)) }
+    ensures err { IfErr result (λ e. IsCut e (outputs_of cart.now map.now built.now) (F.held files.old) (F.held files.new)) }
+    ensures causes { HasCauses result (F.faults files.old) (F.faults files.new) (F.misses files.old) (F.misses files.new) (F.overs files.old) (F.overs files.new) }
+{
+    let Ok(map_bytes) = map_text(alloc, &built.map) else {
+        return Err(Refusal::Memory);
+    };
+    if let Err(refusal) = write_output(alloc, files, cart, built.cart.as_slice()) {
+        return Err(refusal);
+    }
+    match write_output(alloc, files, map, &map_bytes) {
+        Ok(()) => Ok(()),
+        Err(refusal) => Err(refusal),
+    }
+}
+
+/// `build project cart map`. There is no text to put after it.
+pub fn build_command<F: Files>(
+    alloc: Global,
+    files: &mut F,
+    project: &str,
+    cart: &str,
+    map: &str,
+) -> Result<Vec<u8>, Refusal>
+    ensures told { IfSome (F.held files.old) (λ m. Leaves result (build_due project.now cart.now map.now m) (build_reads project.now m) m (F.held files.new)) }
+    ensures causes { HasCauses result (F.faults files.old) (F.faults files.new) (F.misses files.old) (F.misses files.new) (F.overs files.old) (F.overs files.new) }
+{
+    let text = match read_file(alloc, files, project) {
+        Ok(text) => text,
+        Err(refusal) => return Err(refusal),
+    };
+    let built = match build_text(alloc, files, project, &text) {
+        Ok(built) => built,
+        Err(refusal) => return Err(refusal),
+    };
+    match write_outputs(alloc, files, cart, map, &built) {
+        Ok(()) => Ok(Vec::new(alloc)),
+        Err(refusal) => Err(refusal),
+    }
+}

@@ -1,0 +1,200 @@
+// The command line, from its words to the status, the files and what is put.
+use crate::kit;
+use kit_base::{FilesInMemory, Name, Seq, SinkInMemory};
+use std::alloc::Global;
+use std::process::Abort;
+use std::test::Fail;
+
+const BUILD: &str = "build hello.project hello.cart hello.map";
+
+const PROJECT: Option<&str> = Some("title hello\nsource hello.c\n");
+
+const SOURCE: Option<&str> = Some("void main() { port_out(GPU_ClearColor, 255); }\n");
+
+const CART: &str = "4b49542d43415254010000009800000003000000000000000000000068656c6c6f\
+    000000000000000000000000000000000000000000000000000000000000000000000000000000000000000000000000\
+    0000000000000000000000000000000000000000000000000000000000000000000000000000000000000000000000\
+    5633322d5642494e0300000002020062ff00000000000000";
+
+const MAP: &str = "636f646520330a6672616d65206d61696e203078323030303030303020300a";
+
+/// What a command answered, left and put.
+#[derive(Drop)]
+struct Ran {
+    status: u8,
+    files: FilesInMemory,
+    out: SinkInMemory,
+}
+
+/// The command of these words, parted by spaces, where these texts are held. The calls of these
+/// numbers fail.
+fn run(
+    rt: &impl Abort,
+    alloc: Global,
+    words: &str,
+    project: Option<&str>,
+    source: Option<&str>,
+    failing_files: Vec<u32>,
+    failing_puts: Vec<u32>,
+) -> Result<Ran, Fail> {
+    let mut owned = Vec::new(alloc);
+    for word in words.split(' ') {
+        owned.push(String::from_str(alloc, word)?)?;
+    }
+    let mut held = Vec::new(alloc);
+    for (name, text) in [("hello.project", project), ("hello.c", source)] {
+        if let Some(text) = text {
+            let bytes = Vec::from_slice(alloc, text.as_bytes())?;
+            held.push((Name::new(alloc, name)?, Seq::from_vec(bytes)))?;
+        }
+    }
+    assert!(rt; FilesInMemory::are_distinct(&held));
+    let mut files = FilesInMemory::new(alloc, held, failing_files);
+    let mut out = SinkInMemory::new(alloc, failing_puts);
+    let status = kit(alloc, &owned, &mut files, &mut out);
+    Ok(Ran { status, files, out })
+}
+
+/// The bytes of a file in hexadecimal, or `none`.
+fn bytes_of(alloc: Global, files: &FilesInMemory, name: &str) -> Result<String, Fail> {
+    let mut text = String::new(alloc);
+    for file in files.held() {
+        if file.0.bytes() == name.as_bytes() {
+            for byte in file.1.as_slice() {
+                write!(text, "{byte:02x}")?;
+            }
+            return Ok(text);
+        }
+    }
+    text.push_str("none")?;
+    Ok(text)
+}
+
+#[test]
+fn the_first_cartridge_is_built(rt: HostRuntime) -> Result<(), Fail> {
+    let alloc = rt.alloc();
+    let ran = run(
+        &rt,
+        alloc,
+        BUILD,
+        PROJECT,
+        SOURCE,
+        Vec::new(alloc),
+        Vec::new(alloc),
+    )?;
+    assert_eq!(rt; ran.status, 0);
+    assert_eq!(rt; ran.out.written(), b"".as_slice());
+    assert_eq!(rt; bytes_of(alloc, &ran.files, "hello.cart")?.as_str(), CART);
+    assert_eq!(rt; bytes_of(alloc, &ran.files, "hello.map")?.as_str(), MAP);
+    Ok(())
+}
+
+#[test]
+fn refusals_have_their_status_and_line_and_change_no_file(rt: HostRuntime) -> Result<(), Fail> {
+    let alloc = rt.alloc();
+    let one_line = Some("title hello\n");
+    let not_straight = Some("void main() { port_out(GPU_Command, x); }");
+    let rows = [
+        ("", PROJECT, SOURCE, 1, "usage error\n"),
+        (
+            "make hello.project a b",
+            PROJECT,
+            SOURCE,
+            1,
+            "usage error\n",
+        ),
+        ("build hello.project a", PROJECT, SOURCE, 1, "usage error\n"),
+        (
+            "build hello.project a b c",
+            PROJECT,
+            SOURCE,
+            1,
+            "usage error\n",
+        ),
+        (
+            "build hello.project a ",
+            PROJECT,
+            SOURCE,
+            1,
+            "usage error\n",
+        ),
+        (
+            "build hello.project a -b",
+            PROJECT,
+            SOURCE,
+            1,
+            "usage error\n",
+        ),
+        (
+            "build hello.project a a",
+            PROJECT,
+            SOURCE,
+            1,
+            "usage error\n",
+        ),
+        (BUILD, PROJECT, not_straight, 2, "error 15 at hello.c:1\n"),
+        (BUILD, None, SOURCE, 4, "missing hello.project\n"),
+        (BUILD, PROJECT, None, 4, "missing hello.c\n"),
+        (
+            BUILD,
+            one_line,
+            SOURCE,
+            6,
+            "bad data 94 in hello.project at 1\n",
+        ),
+    ];
+    for (words, project, source, status, line) in rows {
+        let ran = run(
+            &rt,
+            alloc,
+            words,
+            project,
+            source,
+            Vec::new(alloc),
+            Vec::new(alloc),
+        )?;
+        assert_eq!(rt; ran.status, status, "{words}: {line}");
+        assert_eq!(rt; ran.out.written(), line.as_bytes());
+        for name in ["a", "b", "hello.cart", "hello.map"] {
+            assert_eq!(rt; bytes_of(alloc, &ran.files, name)?.as_str(), "none");
+        }
+    }
+    Ok(())
+}
+
+#[test]
+fn each_failing_call_of_the_files_is_told_with_its_file(rt: HostRuntime) -> Result<(), Fail> {
+    let alloc = rt.alloc();
+    // What is put, the cartridge and the map, where the call of that number fails.
+    let rows = [
+        (5, "file fault hello.project\n", "none", "none"),
+        (5, "file fault hello.c\n", "none", "none"),
+        (5, "file fault hello.cart\n", "none", "none"),
+        (5, "file fault hello.cart\n", "", "none"),
+        (5, "file fault hello.map\n", CART, "none"),
+        (5, "file fault hello.map\n", CART, ""),
+        (0, "", CART, MAP),
+    ];
+    for (call, (status, line, cart, map)) in (0u32..).zip(rows) {
+        let failing = vec![in alloc; call]?;
+        let ran = run(&rt, alloc, BUILD, PROJECT, SOURCE, failing, Vec::new(alloc))?;
+        assert_eq!(rt; ran.status, status, "call {call}");
+        assert_eq!(rt; ran.out.written(), line.as_bytes());
+        assert_eq!(rt; bytes_of(alloc, &ran.files, "hello.cart")?.as_str(), cart);
+        assert_eq!(rt; bytes_of(alloc, &ran.files, "hello.map")?.as_str(), map);
+    }
+    Ok(())
+}
+
+#[test]
+fn a_line_that_the_sink_refuses_gives_9(rt: HostRuntime) -> Result<(), Fail> {
+    let alloc = rt.alloc();
+    let rows = [(None, 9), (PROJECT, 0)];
+    for (project, status) in rows {
+        let failing = vec![in alloc; 0]?;
+        let ran = run(&rt, alloc, BUILD, project, SOURCE, Vec::new(alloc), failing)?;
+        assert_eq!(rt; ran.status, status);
+        assert_eq!(rt; ran.out.written(), b"".as_slice());
+    }
+    Ok(())
+}

@@ -1,0 +1,117 @@
+// The top call.
+ghost use Rattle.std.specs.Prelude.{◌≡◌, ◌≢◌, ◌≤◌, ◌⊎◌, ℕ, IfSome, IsErr};
+ghost use Rattle.kit_base.specs.Counts.{Rose};
+ghost use Rattle.kit_core.specs.Carrying.{Leaves, Puts, Shows};
+ghost use Rattle.kit_core.specs.Causes.{HasCauses, HasOnlyRisen, IsUnrisen};
+ghost use Rattle.kit_core.specs.Command.{texts};
+ghost use Rattle.kit_core.specs.Due.{command_due, reads_due};
+ghost use Rattle.kit_core.specs.Headline.{BuildStands};
+ghost use Rattle.kit_core.specs.Outcome.{IsOutcome, status_due};
+ghost use Rattle.kit_core.specs.Refusal.{IsStatus, line_of, status_of};
+
+use crate::building::build_command;
+use crate::command::{Command, command_of};
+use crate::refusal::{Refusal, line_of, status_of};
+use build_core::cartridge_does_what_its_source_means;
+use kit_base::{Files, Sink, SinkErr};
+use std::alloc::Global;
+
+const OUT_OF_MEMORY: &[u8] = b"out of memory\n";
+
+/// Puts a text that ends a command at that status. A refusal of the sink answers 9, or 8 where it
+/// wanted memory.
+fn put_last<S: Sink>(out: &mut S, whole: &[u8], status: u8) -> u8
+    ensures puts { Puts status whole.now result (S.written out.old) (S.written out.new) }
+    ensures unput { result ≡ 9 → (status ≡ 9) ⊎ Rose (S.faults out.old) (S.faults out.new) }
+    ensures later { S.faults out.old ≤ S.faults out.new }
+{
+    match out.put(whole) {
+        Ok(()) => status,
+        Err(SinkErr::Failed) => 9,
+        Err(SinkErr::Memory) => 8,
+    }
+}
+
+/// Puts the line of a refusal.
+fn report<S: Sink>(alloc: Global, out: &mut S, refusal: &Refusal) -> u8
+    ensures shows { Shows (status_of refusal.now) (line_of refusal.now) result (S.written out.old) (S.written out.new) }
+    ensures unput { result ≡ 9 → Rose (S.faults out.old) (S.faults out.new) }
+    ensures later { S.faults out.old ≤ S.faults out.new }
+{
+    match line_of(alloc, refusal) {
+        Ok(line) => put_last(out, &line, status_of(refusal)),
+        Err(_) => put_last(out, OUT_OF_MEMORY, 8),
+    }
+}
+
+/// Puts the text of a command whose outputs are done.
+fn finish<S: Sink>(out: &mut S, text: &[u8]) -> u8
+    ensures shows { Shows 0 text.now result (S.written out.old) (S.written out.new) }
+    ensures unput { result ≡ 9 → Rose (S.faults out.old) (S.faults out.new) }
+    ensures later { S.faults out.old ≤ S.faults out.new }
+{
+    if text.is_empty() {
+        return 0;
+    }
+    match out.put(text) {
+        Ok(()) => 0,
+        Err(SinkErr::Failed) => 9,
+        Err(SinkErr::Memory) => put_last(out, OUT_OF_MEMORY, 8),
+    }
+}
+
+/// Carries out the command of these words, up to its text.
+fn carry_out<F: Files>(alloc: Global, words: &[String], files: &mut F) -> Result<Vec<u8>, Refusal>
+    ensures told { IfSome (F.held files.old) (λ m. Leaves result (command_due (texts words.now) m) (reads_due (texts words.now) m) m (F.held files.new)) }
+    ensures causes { HasCauses result (F.faults files.old) (F.faults files.new) (F.misses files.old) (F.misses files.new) (F.overs files.old) (F.overs files.new) }
+{
+    match command_of(words) {
+        None => Err(Refusal::Usage),
+        Some(Command::Build { project, cart, map }) => {
+            build_command(alloc, files, project, cart, map)
+        }
+    }
+}
+
+/// The status of the command of these words, after its text or its line was put.
+fn status_for<F: Files, S: Sink>(alloc: Global, words: &[String], files: &mut F, out: &mut S) -> u8
+    ensures told { IfSome (F.held files.old) (λ m. IsOutcome (texts words.now) m result (F.held files.new) (S.written out.old) (S.written out.new)) }
+    ensures missing { result ≡ 4 → Rose (F.misses files.old) (F.misses files.new) }
+    ensures failed { result ≡ 5 → Rose (F.faults files.old) (F.faults files.new) }
+    ensures limit { result ≡ 7 → Rose (F.overs files.old) (F.overs files.new) }
+    ensures unput { result ≡ 9 → Rose (S.faults out.old) (S.faults out.new) }
+    ensures later { HasOnlyRisen (F.faults files.old) (F.faults files.new) (F.misses files.old) (F.misses files.new) (F.overs files.old) (F.overs files.new) (S.faults out.old) (S.faults out.new) }
+    ensures status { IsStatus result }
+{
+    match carry_out(alloc, words, files) {
+        Ok(text) => finish(out, &text),
+        Err(refusal) => report(alloc, out, &refusal),
+    }
+}
+
+/// Carries out the command of these words, those after the program's own name, and answers the exit
+/// status: 0 all was done, 1 the words are no listed form, 2 the sources give no program, 4 a file
+/// is missing, 5 a call of the files failed, 6 a file is not of its grammar, 7 a file is over
+/// 268,435,456 bytes, 8 memory ran out, 9 the sink failed. On 1 to 8 a line is put that says so.
+pub fn kit<F: Files, S: Sink>(alloc: Global, words: &[String], files: &mut F, out: &mut S) -> u8
+    // Where it is told what is held, the status, what is held after and what was put are those of
+    // the command.
+    ensures told { IfSome (F.held files.old) (λ m. IsOutcome (texts words.now) m result (F.held files.new) (S.written out.old) (S.written out.new)) }
+    // At 0 the outputs of a build stand, and its cartridge does what its source means.
+    ensures agrees { IfSome (F.held files.old) (λ m. result ≡ 0 → BuildStands (texts words.now) m (F.held files.new)) }
+    // A command whose words or input are refused changes no file, whatever its status.
+    ensures untouched { IfSome (F.held files.old) (λ m. IsErr (command_due (texts words.now) m) → F.held files.new ≡ F.held files.old) }
+    // Where no call failed, the status is the one that is due, or 8.
+    ensures complete { IfSome (F.held files.old) (λ m. IsUnrisen (F.faults files.old) (F.faults files.new) → IsUnrisen (S.faults out.old) (S.faults out.new)
+        → (result ≡ status_due (command_due (texts words.now) m)) ⊎ (result ≡ 8)) }
+    // Refusals by the outside come only where a count rose.
+    ensures missing { result ≡ 4 → Rose (F.misses files.old) (F.misses files.new) }
+    ensures failed { result ≡ 5 → Rose (F.faults files.old) (F.faults files.new) }
+    ensures limit { result ≡ 7 → Rose (F.overs files.old) (F.overs files.new) }
+    ensures unput { result ≡ 9 → Rose (S.faults out.old) (S.faults out.new) }
+    ensures later { HasOnlyRisen (F.faults files.old) (F.faults files.new) (F.misses files.old) (F.misses files.new) (F.overs files.old) (F.overs files.new) (S.faults out.old) (S.faults out.new) }
+    ensures status { IsStatus result }
+{
+    cartridge_does_what_its_source_means();
+    status_for(alloc, words, files, out)
+}

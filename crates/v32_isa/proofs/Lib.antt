@@ -5,3 +5,4 @@ pub mod Decoded
 pub mod Steps
 pub mod LongerRuns
 pub mod PortNumbers
+pub mod Endings

@@ -141,7 +141,7 @@ unfolding word_at
 kept words None k i w c h = cc
 kept words (Some cells) k i w c h =
     let g = got cells i w h in
-    rw (in_card words cells k i (omega (arith, c.0, g.0))) (ap Some (card_memory words cells i ∙ g.1))
+    rw (in_card words cells k i (omega (arith, c, g.0))) (ap Some (card_memory words cells i ∙ g.1))
 
 matches : (ss : List Statement) (words answers : List ℕ) (card : Option (List ℕ)) (n : ℕ) (r : Run) (last : ℕ) → IsCard card
     → r ≡ record { events = map event_of ss; end = machine.Halted; state = at words card last } → Matches (suc n) (length ss + 1) (straight_runs ss (suc n) answers card) r
@@ -153,8 +153,8 @@ unfolding run
 begins n s answers = refl
 
 agrees_so : (ss : List Statement) (words : List ℕ) → words ≡ code_of ss → IsShort words → AllByRecursion CanRun ss → Agrees (straight_runs ss) words
-agrees_so ss words e short can zero answers card a c = (0, rw (begins 0 (opening words card) answers) (record { events = refl; ends = (refl, omega arith) }))
-agrees_so ss words e short can (suc n) answers card a c =
+agrees_so ss words e short can zero answers card c = (0, rw (begins 0 (opening words card) answers) (record { events = refl; ends = (refl, omega arith) }))
+agrees_so ss words e short can (suc n) answers card c =
     let r = runs ss [] words answers card e short can in
     (length ss + 1, matches ss words answers card n _ r.last c r.ran)
 

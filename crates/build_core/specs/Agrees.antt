@@ -1,18 +1,15 @@
 -- The words of a program do what a source means.
-use Rattle.std.specs.Prelude.{ℕ, ◌≡◌, ◌+◌, ◌≤◌, ◌<◌, ◌^◌, List, length, Option, Some, None, All}
+use Rattle.std.specs.Prelude.{ℕ, ◌≡◌, ◌+◌, ◌≤◌, List, length, Option, Some, None}
 use Rattle.v32_isa.specs.State.{word_at}
 use Rattle.v32_isa.specs.Runs.{Run, machine_runs}
 use Rattle.v32_isa.specs.Runs as machine
 use Rattle.build_core.specs.Source.{SourceRun, Meaning}
 use Rattle.build_core.specs.Source as source
 
-abbrev pub AreWords : List ℕ → Type 0
-AreWords ws = All (λ w. w < 2 ^ 32) ws
-
 -- none is connected, or one of 262,144 words
 abbrev pub IsCard : Option (List ℕ) → Type 0
 IsCard None = Unit {0}
-IsCard (Some words) = (length words ≡ 262144) × AreWords words
+IsCard (Some words) = length words ≡ 262144
 
 -- each word that the source keeps on the card is the word at its place
 abbrev pub Keeps : SourceRun → Run → Type 0
@@ -34,5 +31,5 @@ pub record Matches (n m : ℕ) (s : SourceRun) (r : Run) : Type 0 where
 -- For every bound, answers and card there are steps in which the words do what the source means.
 abbrev pub Agrees : Meaning → List ℕ → Type 0
 Agrees meaning words =
-    (n : ℕ) (answers : List ℕ) (card : Option (List ℕ)) → AreWords answers → IsCard card
+    (n : ℕ) (answers : List ℕ) (card : Option (List ℕ)) → IsCard card
     → (m : ℕ) × Matches n m (meaning n answers card) (machine_runs words answers card m)

@@ -26,7 +26,8 @@ fn read_source<F: Files>(alloc: Global, files: &mut F, name: Name) -> Result<Vec
     ensures held { F.held files.new ≡ F.held files.old }
     ensures told { IfSome (F.held files.old) (λ m. GivesBytes result (read_of m name)) }
     ensures kinds { IfErr result (IsOfReading name) }
-    ensures causes { HasCauses result (F.faults files.old) (F.faults files.new) (F.misses files.old) (F.misses files.new) (F.overs files.old) (F.overs files.new) }
+    ensures causes { HasCauses result (F.faults files.old) (F.faults files.new)
+        (F.misses files.old) (F.misses files.new) (F.overs files.old) (F.overs files.new) }
 {
     match files.read(alloc, name.as_str()) {
         Ok(bytes) => Ok(bytes),
@@ -74,13 +75,15 @@ fn compiled(alloc: Global, parts: Project, bytes: &[u8]) -> Result<Built, BuildE
     })
 }
 
+/// The build, but for the law that what is due as built agrees with its source.
 #[tactic(auto, unfolding(crate::specs::Build::built_of, crate::specs::Build::reads_of))]
 fn build_told<F: Files>(alloc: Global, files: &mut F, project: &[u8]) -> Result<Built, BuildErr>
     ensures held { F.held files.new ≡ F.held files.old }
     ensures told { IfSome (F.held files.old) (λ m. Gives result (built_of m project.now)) }
     ensures kinds { IfErr result (CanCome project.now) }
     ensures fails { IfErr result (NamesOneOf (reads_of project.now)) }
-    ensures causes { HasCauses result (F.faults files.old) (F.faults files.new) (F.misses files.old) (F.misses files.new) (F.overs files.old) (F.overs files.new) }
+    ensures causes { HasCauses result (F.faults files.old) (F.faults files.new)
+        (F.misses files.old) (F.misses files.new) (F.overs files.old) (F.overs files.new) }
 {
     let Some(parts) = project_of(alloc, project)? else {
         return Err(BuildErr::Bad {
@@ -109,7 +112,8 @@ pub fn build<F: Files>(alloc: Global, files: &mut F, project: &[u8]) -> Result<B
     ensures kinds { IfErr result (CanCome project.now) }
     // A file that is named in a refusal is one that the project's build reads.
     ensures fails { IfErr result (NamesOneOf (reads_of project.now)) }
-    ensures causes { HasCauses result (F.faults files.old) (F.faults files.new) (F.misses files.old) (F.misses files.new) (F.overs files.old) (F.overs files.new) }
+    ensures causes { HasCauses result (F.faults files.old) (F.faults files.new)
+        (F.misses files.old) (F.misses files.new) (F.overs files.old) (F.overs files.new) }
 {
     build_told(alloc, files, project)
 }

@@ -39,6 +39,7 @@ pub enum BuildErr {
     Memory,
 }
 
+// By hand, since a name need not be text.
 impl fmt::Debug for BuildErr {
     fn fmt<W: fmt::Write>(&self, f: &mut fmt::Formatter<W>) -> fmt::Result {
         fmt::Display::fmt(self, f)

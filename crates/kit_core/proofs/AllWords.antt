@@ -1,5 +1,5 @@
 -- A test of words, as texts and as they are passed.
-use Rattle.std.proofs.Common.{◌≡◌, List, sym}
+use Rattle.std.proofs.Common.{◌≡◌, List}
 use Rattle.std.specs.Prelude.{String, string_bytes}
 use Rattle.std.specs.List.{list_all}
 use Rattle.std.specs.declared.alloc.Global.{Global}

@@ -1,23 +1,23 @@
 -- A status 0 says that the build stands.
-use Rattle.std.proofs.Common.{ℕ, ◌≡◌, ◌⊎◌, inl, inr, Bool, true, false, List, [], ◌∷◌, ◌++◌, refl, sym, ap, subst, ◌∙◌, arith}
+use Rattle.std.proofs.Common.{ℕ, ◌≡◌, Bool, true, false, List, [], ◌∷◌, refl, sym, ap, subst, ◌∙◌, arith}
 use Rattle.std.specs.Prelude.{Option, Some, None, Result, Ok, Err, IfSome, IsSomeAnd, if◌then◌else◌, codes}
 use Rattle.std.specs.List.{list_all}
 use Rattle.std.specs.Str.{bytes_eq}
 use Rattle.std.specs.FinMap.{get}
 use Rattle.kit_base.specs.Held.{Held}
-use Rattle.kit_base.specs.Effects.{Effect, all_done}
+use Rattle.kit_base.specs.Effects.{all_done}
 use Rattle.kit_base.specs.Outside.{due}
-use Rattle.build_core.specs.declared.error.BuildErr.{BuildErr}
 use Rattle.build_core.specs.declared.building.Built.{Built}
 use Rattle.build_core.specs.Build.{built_of, IsBuilt}
 use Rattle.build_core.specs.Map.{map_text}
 use Rattle.kit_core.specs.declared.refusal.Refusal.{Refusal}
 use Rattle.kit_core.specs.declared.refusal.Refusal.TheVariants as refusals
 use Rattle.kit_core.specs.Refusal.{status_of}
-use Rattle.kit_core.specs.Command.{Command, Build, is_word, build_form, form_of, command_of}
-use Rattle.kit_core.specs.Due.{◌>>=◌, Work, or_refused, or_usage, unread, unbuilt, outputs_of, build_due, work_due, command_due}
+use Rattle.kit_core.specs.Command.{Build, is_word, build_form, command_of}
+use Rattle.kit_core.specs.Due.{◌>>=◌, Work, or_refused, or_usage, unread, unbuilt, outputs_of, build_due, work_due}
 use Rattle.kit_core.specs.Outcome.{EndsAs, Done, Refused, FileFault, OutOfMemory, SinkFault, IsOutcome}
 use Rattle.kit_core.specs.Headline.{IsBuiltInto, BuildStands}
+use Rattle.kit_core.proofs.Stages.{refused_gave}
 use Rattle.kit_core.proofs.Writes.{get_written, get_unwritten}
 
 -- the created names differ
@@ -46,10 +46,6 @@ created_differ (name ∷ arguments) p c n h =
 bind_ok : {A B : Type 0} (r : Result A Refusal) (f : A → Result B Refusal) (y : B) → (r >>= f) ≡ Ok y → (x : A) × (r ≡ Ok x) × (f x ≡ Ok y)
 bind_ok (Ok x) f y e = (x, refl, e)
 bind_ok (Err d) f y e = cc
-
-refused_gave : {A E : Type 0} (f : E → Refusal) (r : Result A E) (x : A) → or_refused f r ≡ Ok x → r ≡ Ok x
-refused_gave f (Ok y) x e = cc
-refused_gave f (Err d) x e = cc
 
 -- a status 0 is that of a work done
 not_zero : (e : Refusal) → status_of e ≡ 0 → ⊥

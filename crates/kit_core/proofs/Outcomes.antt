@@ -1,7 +1,7 @@
 -- From what a command left and what was put to its outcome.
-use Rattle.std.proofs.Common.{ℕ, ◌≡◌, ◌⊎◌, inl, inr, List, [], ◌++◌, take, refl, sym, ap, ◌∙◌, append-nil}
+use Rattle.std.proofs.Common.{ℕ, ◌≡◌, ◌⊎◌, inl, inr, List, ◌++◌, take, refl, sym, ap, ◌∙◌, append-nil}
 use Rattle.std.proofs.Math.Seq.{take-length}
-use Rattle.std.specs.Prelude.{Option, Some, None, Result, Ok, Err, IfSome, Vec, length}
+use Rattle.std.specs.Prelude.{Option, Result, Ok, Vec, length}
 use Rattle.std.specs.declared.alloc.Global.{Global}
 use Rattle.kit_base.specs.Held.{Held}
 use Rattle.kit_core.specs.declared.refusal.Refusal.{Refusal}

@@ -1,18 +1,16 @@
 -- From the parts of a build to the whole.
-use Rattle.std.proofs.Common.{ℕ, zero, suc, ◌≡◌, ◌<◌, ◌+◌, ◌⊎◌, inl, inr, List, [], ◌∷◌, ◌++◌, length, refl, sym, ap, subst, ◌∙◌, arith}
+use Rattle.std.proofs.Common.{ℕ, suc, ◌≡◌, inl, inr, List, [], ◌∷◌, sym, ap, subst, ◌∙◌, arith}
 use Rattle.std.specs.Prelude.{Option, Some, None, Result, Ok, Err, IfSome, Contains, Vec}
 use Rattle.std.specs.declared.alloc.Global.{Global}
 use Rattle.kit_base.specs.Held.{Held}
-use Rattle.kit_base.specs.Effects.{Effect, all_done}
+use Rattle.kit_base.specs.Effects.{all_done}
 use Rattle.kit_base.specs.Outside.{due}
-use Rattle.build_core.specs.declared.error.BuildErr.{BuildErr}
-use Rattle.build_core.specs.declared.error.BuildErr.TheVariants as build_errors
 use Rattle.build_core.specs.declared.building.Built.{Built}
-use Rattle.build_core.specs.Build.{built_of, reads_of, NamesOneOf}
+use Rattle.build_core.specs.Build.{built_of, reads_of}
 use Rattle.kit_core.specs.declared.refusal.Refusal.{Refusal}
 use Rattle.kit_core.specs.declared.refusal.Refusal.TheVariants as refusals
 use Rattle.kit_core.specs.Due.{◌>>=◌, Work, or_refused, unread, unbuilt, outputs_of, build_due, build_reads, reads_in}
-use Rattle.kit_core.specs.Outcome.{Comes, StopsWriting}
+use Rattle.kit_core.specs.Outcome.{Comes}
 use Rattle.kit_core.specs.Carrying.{GivesBy, FailsAt, IsCut, Leaves}
 
 -- a reading part was refused, and nothing was changed
@@ -40,19 +38,6 @@ cut (refusals.Limit n) work whole names m after d h = absurd h
 contains_later : (x n : List ℕ) (xs : List (List ℕ)) → Contains xs n → Contains (x ∷ xs) n
 contains_later x n xs (k, within, is) = (suc k, omega arith, is)
 
-first_of_more : (x n : List ℕ) (xs : List (List ℕ)) → Contains (x ∷ []) n → Contains (x ∷ xs) n
-first_of_more x n xs (zero, within, is) = (0, omega arith, is)
-first_of_more x n xs (suc k, within, is) = absurd (omega arith)
-
-pub fails_first : (x : List ℕ) (xs : List (List ℕ)) (e : Refusal) → FailsAt (x ∷ []) e → FailsAt (x ∷ xs) e
-fails_first x xs (refusals.Failed n) h = first_of_more x n xs h
-fails_first x xs refusals.Memory h = tt
-fails_first x xs refusals.Usage h = tt
-fails_first x xs (refusals.Source c f l) h = tt
-fails_first x xs (refusals.Missing n) h = tt
-fails_first x xs (refusals.Bad c n l) h = tt
-fails_first x xs (refusals.Limit n) h = tt
-
 pub fails_later : (x : List ℕ) (xs : List (List ℕ)) (e : Refusal) → FailsAt xs e → FailsAt (x ∷ xs) e
 fails_later x xs (refusals.Failed n) h = contains_later x n xs h
 fails_later x xs refusals.Memory h = tt
@@ -62,7 +47,7 @@ fails_later x xs (refusals.Missing n) h = tt
 fails_later x xs (refusals.Bad c n l) h = tt
 fails_later x xs (refusals.Limit n) h = tt
 
-refused_gave : {A E : Type 0} (f : E → Refusal) (r : Result A E) (x : A) → or_refused f r ≡ Ok x → r ≡ Ok x
+pub refused_gave : {A E : Type 0} (f : E → Refusal) (r : Result A E) (x : A) → or_refused f r ≡ Ok x → r ≡ Ok x
 refused_gave f (Ok y) x e = cc
 refused_gave f (Err d) x e = cc
 

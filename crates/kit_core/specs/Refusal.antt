@@ -1,5 +1,5 @@
 -- The status of a refusal, and the line that is put for it. (The command line's table of statuses.)
-use Rattle.std.specs.Prelude.{ℕ, ◌≤◌, ◌≢◌, List, [], ◌∷◌, Option, Some, None, flat_map, codes}
+use Rattle.std.specs.Prelude.{ℕ, ◌≤◌, ◌≢◌, List, [], ◌∷◌, Some, None, flat_map, codes}
 use Rattle.std.specs.Fmt.{decimal}
 use Rattle.kit_core.specs.declared.refusal.Refusal.{Refusal}
 use Rattle.kit_core.specs.declared.refusal.Refusal.TheVariants as refusals

@@ -28,9 +28,7 @@ fn build_text<F: Files>(
     match build(alloc, files, text) {
         Ok(built) => Ok(built),
         Err(error) => {
-            let Ok(name) = Name::new(alloc, project) else {
-                return Err(Refusal::Memory);
-            };
+            let name = Name::new(alloc, project)?;
             Err(unbuilt(name, error))
         }
     }
@@ -48,16 +46,9 @@ fn write_outputs<F: Files>(
     ensures err { IfErr result (λ e. IsCut e (outputs_of cart.now map.now built.now) (F.held files.old) (F.held files.new)) }
     ensures causes { HasCauses result (F.faults files.old) (F.faults files.new) (F.misses files.old) (F.misses files.new) (F.overs files.old) (F.overs files.new) }
 {
-    let Ok(map_bytes) = map_text(alloc, &built.map) else {
-        return Err(Refusal::Memory);
-    };
-    if let Err(refusal) = write_output(alloc, files, cart, built.cart.as_slice()) {
-        return Err(refusal);
-    }
-    match write_output(alloc, files, map, &map_bytes) {
-        Ok(()) => Ok(()),
-        Err(refusal) => Err(refusal),
-    }
+    let map_bytes = map_text(alloc, &built.map)?;
+    write_output(alloc, files, cart, built.cart.as_slice())?;
+    write_output(alloc, files, map, &map_bytes)
 }
 
 /// `build project cart map`. There is no text to put after it.
@@ -71,16 +62,8 @@ pub fn build_command<F: Files>(
     ensures told { IfSome (F.held files.old) (λ m. Leaves result (build_due project.now cart.now map.now m) (build_reads project.now m) m (F.held files.new)) }
     ensures causes { HasCauses result (F.faults files.old) (F.faults files.new) (F.misses files.old) (F.misses files.new) (F.overs files.old) (F.overs files.new) }
 {
-    let text = match read_file(alloc, files, project) {
-        Ok(text) => text,
-        Err(refusal) => return Err(refusal),
-    };
-    let built = match build_text(alloc, files, project, &text) {
-        Ok(built) => built,
-        Err(refusal) => return Err(refusal),
-    };
-    match write_outputs(alloc, files, cart, map, &built) {
-        Ok(()) => Ok(Vec::new(alloc)),
-        Err(refusal) => Err(refusal),
-    }
+    let text = read_file(alloc, files, project)?;
+    let built = build_text(alloc, files, project, &text)?;
+    write_outputs(alloc, files, cart, map, &built)?;
+    Ok(Vec::new(alloc))
 }

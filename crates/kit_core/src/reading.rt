@@ -20,9 +20,7 @@ pub fn read_file<F: Files>(alloc: Global, files: &mut F, name: &str) -> Result<V
         Ok(bytes) => Ok(bytes),
         Err(FileErr::Memory) => Err(Refusal::Memory),
         Err(error) => {
-            let Ok(name) = Name::new(alloc, name) else {
-                return Err(Refusal::Memory);
-            };
+            let name = Name::new(alloc, name)?;
             Err(unread(name, error))
         }
     }

@@ -2,7 +2,7 @@
 ghost use Rattle.std.specs.Prelude.{◌≡◌, IfOk};
 ghost use Rattle.kit_core.specs.Refusal.{line_of, status_of};
 ghost use Rattle.kit_core.specs.Due.{unread, unbuilt};
-ghost use Rattle.kit_core.specs.declared.refusal.Refusal.TheVariants.{Source, Bad};
+ghost use Rattle.kit_core.specs.declared.refusal.Refusal.TheVariants.{Source, Bad, Memory};
 
 use build_core::BuildErr;
 use kit_base::{FileErr, Name, join_pieces};
@@ -28,6 +28,14 @@ pub enum Refusal {
     },
     Limit(Name),
     Memory,
+}
+
+impl From<kit_base::Memory> for Refusal {
+    ghost from_gives = { λ _ e. e ≡ Memory };
+
+    fn from(_: kit_base::Memory) -> Self {
+        Refusal::Memory
+    }
 }
 
 /// The refusal of a read of that file.

@@ -33,9 +33,7 @@ pub fn write_output<F: Files>(
     ensures err { IfErr result (λ e. IsCut e (written_file name.now bytes.now) (F.held files.old) (F.held files.new)) }
     ensures causes { HasCauses result (F.faults files.old) (F.faults files.new) (F.misses files.old) (F.misses files.new) (F.overs files.old) (F.overs files.new) }
 {
-    let Ok(own) = Name::new(alloc, name) else {
-        return Err(Refusal::Memory);
-    };
+    let own = Name::new(alloc, name)?;
     match write_file(files, name, bytes) {
         Ok(()) => Ok(()),
         Err(error) => Err(unread(own, error)),

@@ -4,10 +4,10 @@ use crate::stdout_sink::StdoutSink;
 use kit_base::{FileErr, Files, Reads, Sink};
 use std::env::temp_dir;
 use std::fs::remove_file;
-use std::process;
 use std::test::Fail;
+use std::{process, rt};
 
-fn write_file<F: Files>(files: &mut F, name: &str) -> Result<(), FileErr> {
+fn write_file<R: rt::Files>(files: &mut DiskFiles<R>, name: &str) -> Result<(), FileErr> {
     files.create(name)?;
     files.append(name, b"one ")?;
     files.append(name, b"two")
@@ -25,7 +25,10 @@ fn a_file_of_the_disk_is_written_and_read_back(rt: HostRuntime) -> Result<(), Fa
     let read = files.read(alloc, name.as_str());
     remove_file(&rt, name.as_str())?;
     assert_eq!(rt; read?.as_slice(), b"one two".as_slice());
-    assert_eq!(rt; files.read(alloc, name.as_str()).err(), Some(FileErr::Missing));
+    assert_eq!(rt;
+        files.read(alloc, name.as_str()).err(),
+        Some(FileErr::Missing)
+    );
     assert_eq!(rt; files.read(alloc, folder).err(), Some(FileErr::Failed));
     assert_eq!(rt; files.create(folder), Err(FileErr::Failed));
     assert_eq!(rt; StdoutSink::new(&rt).put(b""), Ok(()));

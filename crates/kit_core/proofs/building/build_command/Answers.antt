@@ -1,28 +1,40 @@
-use Rattle.std.proofs.Common.{rules, ◌≡◌, refl, [], List, ℕ}
-use Rattle.std.specs.Prelude.{IfSome, Err}
+use Rattle.std.proofs.Common.{rules, ◌≡◌, [], List, ℕ, sym, subst}
+use Rattle.std.specs.Prelude.{Option, IfSome, Result, Err, Vec}
+use Rattle.std.specs.declared.alloc.Global.{Global}
+use Rattle.kit_base.specs.Held.{Held}
 use Rattle.build_core.specs.declared.building.Built.{Built}
 use Rattle.build_core.specs.Build.{built_of, reads_of}
-use Rattle.kit_core.specs.Due.{or_refused, unbuilt}
-use Rattle.kit_core.specs.Carrying.{GivesBy, FailsAt}
-use Rattle.kit_core.proofs.Stages.{WasRead, WasBuilt, left_unbuilt, left_done, left_cut}
+use Rattle.kit_core.specs.declared.refusal.Refusal.{Refusal}
+use Rattle.kit_core.specs.Due.{or_refused, unbuilt, build_due, build_reads}
+use Rattle.kit_core.specs.Carrying.{GivesBy, FailsAt, Leaves}
+use Rattle.kit_core.proofs.Stages.{WasBuilt, left_unbuilt, left_done, left_cut}
 use Rattle.kit_core.proofs.building.build_command.Goals as goal
 
-pub returns-in-Err-build_text-clause-told : goal.returns-in-Err-build_text-clause-told
-returns-in-Err-build_text-clause-told g c =
-    let given : IfSome (g.F.Reads.held c.read_file.new.files) (λ m. GivesBy (λ (b : Built). b) (Err c.in-Err-build_text.refusal) (or_refused (unbuilt c.args.project.now) (built_of m c.in-Ok.text.items))) = search rules in
-    let at : FailsAt (reads_of c.in-Ok.text.items) c.in-Err-build_text.refusal = search rules in
-    left_unbuilt c.args.project.now c.args.cart.now c.args.map.now c.in-Ok.text.items c.in-Err-build_text.refusal _ (g.F.Reads.held c.read_file.new.files) _
-    c.in-Ok.ensures.told c.in-Ok.ensures.held given at c.in-Err-build_text.ensures.held
+-- the answer, where it is known
+abbrev At : List ℕ → List ℕ → List ℕ → Option Held → Option Held → Result (Vec ℕ Global) Refusal → Type 0
+At project cart map_name before after result =
+    IfSome before (λ m. Leaves result (build_due project cart map_name m) (build_reads project m) m after)
 
-pub returns-in-Ok-write_outputs-clause-told : goal.returns-in-Ok-write_outputs-clause-told
-returns-in-Ok-write_outputs-clause-told g c =
-    let built : WasBuilt c.args.project.now c.args.cart.now c.args.map.now c.in-Ok.text.items c.in-Ok-build_text.built (g.F.Reads.held c.read_file.new.files) = search rules in
-    let empty : c.new.result.items ≡ [] = search rules in
-    left_done c.args.project.now c.args.cart.now c.args.map.now c.in-Ok.text.items c.in-Ok-build_text.built c.new.result _ (g.F.Reads.held c.read_file.new.files) (g.F.Reads.held c.build_text.new.files) _
-    empty c.in-Ok.ensures.told c.in-Ok.ensures.held built c.in-Ok-build_text.ensures.held c.in-Ok-write_outputs.ensures.ok
+pub returns-in_err-built-clause-told : goal.returns-in_err-built-clause-told
+returns-in_err-built-clause-told g c =
+    let is : c.from_residual-in_err-built.result ≡ Err c.in_err-built.field-0.0 = search rules in
+    let given : IfSome (g.F.Reads.held c.read_file.new.files) (λ m. GivesBy (λ (b : Built). b) (Err c.in_err-built.field-0.0) (or_refused (unbuilt c.args.project.now) (built_of m c.in_ok-text.text.items))) = search rules in
+    let at : FailsAt (reads_of c.in_ok-text.text.items) c.in_err-built.field-0.0 = search rules in
+    subst (At c.args.project.now c.args.cart.now c.args.map.now (g.F.Reads.held c.args.files.now) (g.F.Reads.held c.build_text.new.files)) (sym is)
+    (left_unbuilt c.args.project.now c.args.cart.now c.args.map.now c.in_ok-text.text.items c.in_err-built.field-0.0 _ (g.F.Reads.held c.read_file.new.files) _
+    c.in_ok-text.ensures.told c.in_ok-text.ensures.held given at c.in_err-built.ensures.held)
+
+pub returns-in_err-write_outputs-clause-told : goal.returns-in_err-write_outputs-clause-told
+returns-in_err-write_outputs-clause-told g c =
+    let is : c.from_residual-in_err-write_outputs.result ≡ Err c.in_err-write_outputs.field-0.0 = search rules in
+    let built : WasBuilt c.args.project.now c.args.cart.now c.args.map.now c.in_ok-text.text.items c.in_ok-built.built (g.F.Reads.held c.read_file.new.files) = search rules in
+    subst (At c.args.project.now c.args.cart.now c.args.map.now (g.F.Reads.held c.args.files.now) (g.F.Reads.held c.write_outputs.new.files)) (sym is)
+    (left_cut c.args.project.now c.args.cart.now c.args.map.now c.in_ok-text.text.items c.in_ok-built.built c.in_err-write_outputs.field-0.0 _ (g.F.Reads.held c.read_file.new.files) (g.F.Reads.held c.build_text.new.files) _
+    c.in_ok-text.ensures.told c.in_ok-text.ensures.held built c.in_ok-built.ensures.held c.in_err-write_outputs.ensures.err)
 
 pub returns-clause-told : goal.returns-clause-told
 returns-clause-told g c =
-    let built : WasBuilt c.args.project.now c.args.cart.now c.args.map.now c.in-Ok.text.items c.in-Ok-build_text.built (g.F.Reads.held c.read_file.new.files) = search rules in
-    left_cut c.args.project.now c.args.cart.now c.args.map.now c.in-Ok.text.items c.in-Ok-build_text.built c.in-Err-write_outputs.refusal _ (g.F.Reads.held c.read_file.new.files) (g.F.Reads.held c.build_text.new.files) _
-    c.in-Ok.ensures.told c.in-Ok.ensures.held built c.in-Ok-build_text.ensures.held c.in-Err-write_outputs.ensures.err
+    let built : WasBuilt c.args.project.now c.args.cart.now c.args.map.now c.in_ok-text.text.items c.in_ok-built.built (g.F.Reads.held c.read_file.new.files) = search rules in
+    let empty : c.new.result.items ≡ [] = search rules in
+    left_done c.args.project.now c.args.cart.now c.args.map.now c.in_ok-text.text.items c.in_ok-built.built c.new.result _ (g.F.Reads.held c.read_file.new.files) (g.F.Reads.held c.build_text.new.files) _
+    empty c.in_ok-text.ensures.told c.in_ok-text.ensures.held built c.in_ok-built.ensures.held c.in_ok-write_outputs.ensures.ok

@@ -1,4 +1,3 @@
-use Rattle.std.proofs.Common.{List, ℕ}
 use Rattle.kit_core.specs.Command.{texts}
 use Rattle.kit_core.proofs.Headlines.{headline_told}
 use Rattle.kit_core.proofs.top.kit.Goals as goal

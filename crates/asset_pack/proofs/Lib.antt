@@ -1,0 +1,7 @@
+pub mod Bytes
+pub mod Chunks
+pub mod Accepted
+pub mod Fronts
+pub mod Wholes
+pub mod Found
+pub mod Laid

@@ -1,0 +1,85 @@
+//! Runs the processor on a program given as words, for the comparison of speeds in `bench/run`.
+//!
+//! Its arguments are the number of steps in decimal and then the program's words in hexadecimal. It
+//! puts how the run ended and where. It promises nothing beyond safety; what a step does is promised
+//! by `cpu_core`.
+#![tactic(auto)]
+
+ghost use Rattle.std.specs.Prelude.{◌<◌, ◌≤◌, length, IfSome};
+
+use cpu_core::{AnswerBus, Cpu, Stepped};
+use line_text::{decimal_word, hexadecimal_word};
+use std::alloc::Global;
+use std::{env, io};
+
+const MOST_WORDS: usize = 65_536;
+
+/// The program of these texts, 1 to 65,536 words; none where one is no word, or for want of memory.
+fn program_of(alloc: Global, texts: &[String]) -> Option<Vec<u32>>
+    ensures some { IfSome result (λ v. 0 < length v.items) }
+    ensures room { IfSome result (λ v. length v.items ≤ 0x2000000) }
+{
+    let mut program = Vec::new(alloc);
+    for text in texts {
+        let Some(word) = hexadecimal_word(text.as_str().as_bytes()) else {
+            return None;
+        };
+        if program.push(word).is_err() {
+            return None;
+        }
+    }
+    if program.is_empty() || program.len() > MOST_WORDS {
+        return None;
+    }
+    Some(program)
+}
+
+/// Does at most so many steps on no port answers, and says how the run ended.
+fn run(cpu: &mut Cpu, bus: &mut AnswerBus, steps: u32) -> &'static str {
+    for _ in 0..steps {
+        match cpu.step(bus) {
+            Stepped::Went | Stepped::Waited => {}
+            Stepped::Halted => return "halted",
+            Stepped::Starved => return "starved",
+            Stepped::Fault(_) => return "fault",
+            Stepped::Undecodable(_) => return "undecodable",
+        }
+    }
+    "going"
+}
+
+/// The steps and the program of the arguments.
+fn workload_of(alloc: Global, words: &[String]) -> Option<(u32, Vec<u32>)>
+    ensures some { IfSome result (λ w. 0 < length w.1.items) }
+    ensures room { IfSome result (λ w. length w.1.items ≤ 0x2000000) }
+{
+    match words {
+        [steps, texts @ ..] => {
+            let Some(steps) = decimal_word(steps.as_str().as_bytes()) else {
+                return None;
+            };
+            let Some(program) = program_of(alloc, texts) else {
+                return None;
+            };
+            Some((steps, program))
+        }
+        [] => None,
+    }
+}
+
+fn main(rt: HostRuntime) -> io::Result<()> {
+    let mut words = Vec::new(rt.alloc());
+    for word in env::args(&rt)?.skip(1) {
+        words.push(word)?;
+    }
+    let Some((steps, program)) = workload_of(rt.alloc(), &words) else {
+        return println!(rt; "usage: bench STEPS WORD..");
+    };
+    let Ok(mut cpu) = Cpu::open(rt.alloc(), program, None) else {
+        return println!(rt; "out of memory");
+    };
+    let mut bus = AnswerBus::new(Vec::new(rt.alloc()));
+    let end = run(&mut cpu, &mut bus, steps);
+    let address = cpu.address();
+    println!(rt; "{end} at {address:08X}")
+}

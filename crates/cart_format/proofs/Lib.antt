@@ -1,0 +1,13 @@
+pub mod Titles
+pub mod Rows
+pub mod Many
+pub mod Names
+pub mod Sizes
+pub mod Steps
+pub mod Tables
+pub mod Headers
+pub mod Carts
+pub mod Found
+pub mod Laid
+pub mod Whole
+pub mod Limits

@@ -1,0 +1,5 @@
+pub mod Table
+pub mod Cartridge
+pub mod Tests
+pub mod Reading
+pub mod Parts

@@ -1,0 +1,4 @@
+pub mod Space
+pub mod Machine
+pub mod Answers
+pub mod Stepping

@@ -1,0 +1,65 @@
+// IN and OUT.
+ghost use Rattle.std.specs.Prelude.{◌≡◌};
+ghost use Rattle.v32_isa.specs.Machine.{Acts, act};
+ghost use Rattle.v32_isa.specs.Ports.{is_readable, is_writable};
+ghost use Rattle.cpu_core.specs.Machine.{state_of};
+
+use crate::bus::Bus;
+use crate::cpu::Cpu;
+use v32_isa::{Instr, Port, Reg, Src, Stepped, port_by_number};
+
+/// Whether the port answers.
+#[tactic(auto, unfolding(v32_isa::specs::Ports::is_readable))]
+fn answers(port: Port) -> bool
+    ensures { result ≡ is_readable port }
+{
+    match port_by_number(port.number()) {
+        Some(row) => row.readable,
+        None => false,
+    }
+}
+
+/// Whether the port takes a word.
+#[tactic(auto, unfolding(v32_isa::specs::Ports::is_writable))]
+fn listens(port: Port) -> bool
+    ensures { result ≡ is_writable port }
+{
+    match port_by_number(port.number()) {
+        Some(row) => row.writable,
+        None => false,
+    }
+}
+
+impl Cpu {
+    #[tactic(auto, unfolding(v32_isa::specs::Machine::act))]
+    pub(crate) fn ask<B: Bus>(&mut self, bus: &mut B, a: Reg, port: Port, next: u32) -> Stepped
+        ensures { Acts B.input_gives B.output_gives (act (Instr.In a port) next (state_of self.old)) bus.old result (state_of self.new) bus.new }
+    {
+        if !answers(port) {
+            return Stepped::Fault(2);
+        }
+        match bus.input(port) {
+            Some(word) => self.take(a, word, next),
+            None => Stepped::Starved,
+        }
+    }
+
+    #[tactic(auto, unfolding(v32_isa::specs::Machine::act))]
+    pub(crate) fn tell<B: Bus>(
+        &mut self,
+        bus: &mut B,
+        port: Port,
+        operand: Src<u32>,
+        next: u32,
+    ) -> Stepped
+        ensures { Acts B.input_gives B.output_gives (act (Instr.Out port operand) next (state_of self.old)) bus.old result (state_of self.new) bus.new }
+    {
+        if !listens(port) {
+            return Stepped::Fault(3);
+        }
+        let word = self.value(operand);
+        bus.output(port, word);
+        self.go_to(next);
+        Stepped::Went
+    }
+}

@@ -1,0 +1,4 @@
+pub mod Keys
+pub mod Stepping
+pub mod Entries
+pub mod Whole

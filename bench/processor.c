@@ -22,6 +22,18 @@ static int write_word(uint32_t address, uint32_t word) {
     return 1;
 }
 
+/* The ports that answer (1), take words (2) or both (3). */
+static int directions(unsigned port) {
+    if (port <= 0x003) return 1;
+    if (port == 0x100) return 3;
+    if (port == 0x200 || port == 0x300) return 2;
+    if (port == 0x201 || port == 0x304 || port == 0x308) return 1;
+    if ((port >= 0x202 && port <= 0x208) || (port >= 0x20C && port <= 0x211)) return 3;
+    if ((port >= 0x302 && port <= 0x309) || port == 0x30C || port == 0x30D || port == 0x400) return 3;
+    if ((port >= 0x401 && port <= 0x40C) || (port >= 0x500 && port <= 0x503) || port == 0x600) return 1;
+    return 0;
+}
+
 static enum ended take(unsigned r, uint32_t word, uint32_t next) { registers[r] = word; counter = next; return WENT; }
 
 static int two(unsigned op, uint32_t x, uint32_t y, uint32_t *word) {
@@ -93,7 +105,13 @@ static enum ended step(void) {
     if (flag && !read_word(counter + 1, &i)) return FAULT;
     next = counter + 1 + flag;
     unsigned op = first >> 26, a = first >> 21 & 15, b = first >> 17 & 15, mode = first >> 14 & 7, port = first & 0x3FFF;
-    if (op == 0x17 || op == 0x18) return b || mode || (flag && (op == 0x17 || a)) ? UNDECODABLE : op == 0x17 ? STARVED : FAULT;
+    if (op == 0x17) return flag || b || mode ? UNDECODABLE : directions(port) & 1 ? STARVED : FAULT;
+    if (op == 0x18) {
+        if (b || mode || (flag && a)) return UNDECODABLE;
+        if (!(directions(port) & 2)) return FAULT;
+        counter = next;
+        return WENT;
+    }
     if (port) return UNDECODABLE;
     if (op == 0x13) return move(a, b, mode, flag, i, next);
     if (op == 0x14) {

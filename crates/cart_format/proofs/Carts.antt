@@ -1,11 +1,11 @@
 -- Cartridges: what is read is spelled so, and what is spelled so is read.
-use Rattle.std.proofs.Common.{◌≡◌, ℕ, zero, suc, ◌+◌, ◌*◌, ◌^◌, ◌<◌, ◌≤◌, Bool, true, false, cond, eqb, leb, ◌&&◌, List, [], ◌∷◌, ◌++◌, length, take, drop, refl, sym, ap, subst, ◌∙◌, append_assoc, append-nil, arith, inl, inr}
-use Rattle.std.specs.Prelude.{Option, Some, None, Result, Ok, Err, IfOk, IfSome}
-use Rattle.std.specs.List.{flat_map, AllByRecursion}
+use Rattle.std.proofs.Common.{◌≡◌, ℕ, zero, suc, ◌+◌, ◌^◌, ◌<◌, ◌≤◌, true, cond, eqb, leb, List, [], ◌++◌, length, drop, refl, sym, ap, subst, ◌∙◌, append_assoc, append-nil, arith, inl, inr}
+use Rattle.std.specs.Prelude.{Option, Some, None, Result, Ok, Err}
+use Rattle.std.specs.List.{flat_map}
 use Rattle.std.proofs.lemmas.Bool.{leb-true, le-leb, eqb-true, eq-eqb, and_parts, and_from, or_cases}
-use Rattle.std.proofs.lemmas.List.{nil_from_length, length-append, length-drop}
+use Rattle.std.proofs.lemmas.List.{nil_from_length, length-drop}
 use Rattle.asset_pack.specs.declared.kind.Kind.TheVariants as kinds
-use Rattle.asset_pack.specs.Words.{IsBytes, word_at, AreWords}
+use Rattle.asset_pack.specs.Words.{IsBytes, word_at}
 use Rattle.asset_pack.specs.Texts.{Image, IsTexture, IsSound, IsProgram, words_file_text, texture_text, sound_text}
 use Rattle.asset_pack.specs.Reading.{words_at, texture_at}
 use Rattle.asset_pack.proofs.Bytes.{IsBytes-drop}
@@ -13,13 +13,13 @@ use Rattle.asset_pack.proofs.Fronts.{program_takes, program_again, texture_takes
 use Rattle.cart_format.specs.declared.row.LineTable.{LineTable}
 use Rattle.cart_format.specs.declared.error.CartErr.{CartErr}
 use Rattle.cart_format.specs.declared.error.CartErr.TheVariants.{At, BadSection}
-use Rattle.cart_format.specs.Cartridge.{Cartridge, revision, tail_text, sections_text, total, cart_text, header_text, is_title, is_tail, is_cart, HasRows, IsCartridge}
+use Rattle.cart_format.specs.Cartridge.{Cartridge, revision, tail_text, sections_text, total, cart_text, header_text, is_title, is_tail, is_cart, IsCartridge}
 use Rattle.cart_format.specs.Tests.{is_revision, title_at, header_fault}
-use Rattle.cart_format.specs.Reading.{◌>>=◌, Gives, section, counted, program_at, many, texture_section, sound_section, table_at, tail_at, parts_of, titled, sections_of, unless, cart_of}
-use Rattle.cart_format.proofs.Steps.{fine, bind_ok, ended_ok, ok_is, section_ok, rest_fits, joined, many_takes, many_again}
+use Rattle.cart_format.specs.Reading.{◌>>=◌, section, counted, program_at, many, texture_section, sound_section, table_at, tail_at, parts_of, titled, sections_of, unless, cart_of}
+use Rattle.cart_format.proofs.Steps.{bind_ok, ended_ok, ok_is, section_ok, rest_fits, joined, many_takes, many_again}
 use Rattle.cart_format.proofs.Sizes.{sections_size}
 use Rattle.cart_format.proofs.Tables.{tail_takes, tail_again}
-use Rattle.cart_format.proofs.Headers.{Headed, headed, heads, Ranges, ranges, header_takes, header_again}
+use Rattle.cart_format.proofs.Headers.{headed, heads, ranges, header_takes, header_again}
 
 -- ---- sections
 

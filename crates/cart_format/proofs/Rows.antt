@@ -1,5 +1,5 @@
 -- A loop over rows.
-use Rattle.std.proofs.Common.{◌≡◌, ℕ, ◌+◌, Bool, true, false, List, [], ◌∷◌, length, refl, sym, ap, ◌∙◌}
+use Rattle.std.proofs.Common.{◌≡◌, ℕ, ◌+◌, true, false, List, ◌∷◌, length, refl, ap}
 use Rattle.std.proofs.lemmas.List.{nil_from_length}
 use Rattle.cart_format.specs.declared.row.LineRow.{LineRow}
 use Rattle.cart_format.specs.Table.{is_row, are_rows}

@@ -1,10 +1,9 @@
 -- The sizes of texts.
-use Rattle.std.proofs.Common.{◌≡◌, ℕ, ◌+◌, ◌*◌, ◌<◌, ◌≤◌, List, [], ◌∷◌, ◌++◌, length, get_or, take, replicate, append-nil, refl, sym, ap, ◌∙◌, arith}
+use Rattle.std.proofs.Common.{◌≡◌, ℕ, ◌+◌, ◌*◌, ◌<◌, List, [], ◌∷◌, ◌++◌, length, get_or, take, replicate, append-nil, ap, ◌∙◌, arith}
 use Rattle.std.specs.List.{flat_map}
 use Rattle.std.proofs.lemmas.List.{length-append, length-replicate, take_more}
 use Rattle.std.proofs.lemmas.List.Concat.{flat_map-cons}
 use Rattle.std.proofs.lemmas.Grind.{flat_map-append}
-use Rattle.asset_pack.specs.Words.{word_text, words_text}
 use Rattle.asset_pack.specs.Texts.{Image, words_file_text, texture_text, sound_text}
 use Rattle.asset_pack.proofs.Chunks.{length-words_text}
 use Rattle.cart_format.specs.declared.row.LineRow.{LineRow}

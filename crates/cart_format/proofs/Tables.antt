@@ -1,8 +1,8 @@
 -- The line table: what is read is spelled so, and what is spelled so is read.
-use Rattle.std.proofs.Common.{◌≡◌, ℕ, zero, suc, ◌+◌, ◌-◌, ◌%◌, ◌^◌, ◌<◌, ◌≤◌, Bool, true, false, cond, not, ltb, eqb, ◌||◌, List, [], ◌∷◌, ◌++◌, length, take, drop, replicate, refl, sym, ap, subst, ◌∙◌, append_assoc, append-nil, arith}
-use Rattle.std.specs.Prelude.{Option, Some, None, Result, Ok, Err, IfSome, codes, bytes_eq}
+use Rattle.std.proofs.Common.{◌≡◌, ℕ, zero, suc, ◌+◌, ◌^◌, ◌<◌, ◌≤◌, true, false, cond, not, ltb, eqb, ◌||◌, List, [], ◌∷◌, ◌++◌, length, take, drop, replicate, refl, sym, ap, subst, ◌∙◌, append_assoc, arith}
+use Rattle.std.specs.Prelude.{Option, Some, None, Ok, Err, IfSome, codes, bytes_eq}
 use Rattle.std.specs.List.{flat_map, list_all, AllByRecursion}
-use Rattle.std.proofs.lemmas.Bool.{ltb-false, le-ltb, eqb-true, eq-eqb, not-false, not_from_true, or_parts, or_from, and_parts, and_from, cond-false, cond-true, leb-true}
+use Rattle.std.proofs.lemmas.Bool.{ltb-false, le-ltb, eqb-true, not-false, or_parts, or_from, and_parts, cond-false, leb-true}
 use Rattle.std.proofs.lemmas.List.{take_at, drop_at, take-append-drop, drop-drop, length-append, length-take, length-drop, length-replicate}
 use Rattle.std.proofs.lemmas.List.Concat.{flat_map-cons}
 use Rattle.std.proofs.lemmas.Nat.{from_le_bytes-to_le_bytes_4}
@@ -11,7 +11,6 @@ use Rattle.asset_pack.specs.Words.{IsBytes, word_text, word_at}
 use Rattle.asset_pack.proofs.Bytes.{word_back, word_below}
 use Rattle.cart_format.specs.declared.row.LineRow.{LineRow}
 use Rattle.cart_format.specs.declared.row.LineTable.{LineTable}
-use Rattle.cart_format.specs.declared.error.CartErr.{CartErr}
 use Rattle.cart_format.specs.declared.error.CartErr.TheVariants.{BadSection}
 use Rattle.cart_format.specs.Table.{padding, name_text, row_text, table_text, is_table}
 use Rattle.cart_format.specs.Cartridge.{IsRow, HasRows, revision, tail_text, is_tail}

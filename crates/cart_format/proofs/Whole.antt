@@ -1,12 +1,12 @@
 -- A cartridge from its sections and its title.
-use Rattle.std.proofs.Common.{◌≡◌, ℕ, ◌+◌, Bool, true, List, drop, refl, sym, ap, ◌∙◌}
-use Rattle.std.specs.Prelude.{Option, None, Result, Ok, Err}
+use Rattle.std.proofs.Common.{◌≡◌, ℕ, true, List, drop, sym, ap, ◌∙◌}
+use Rattle.std.specs.Prelude.{Option, None, Ok, Err}
 use Rattle.asset_pack.specs.Words.{IsBytes, word_at}
 use Rattle.asset_pack.specs.Texts.{Image}
 use Rattle.cart_format.specs.declared.row.LineTable.{LineTable}
 use Rattle.cart_format.specs.declared.error.CartErr.{CartErr}
 use Rattle.cart_format.specs.declared.error.CartErr.TheVariants as errors
-use Rattle.cart_format.specs.Cartridge.{Cartridge, is_cart}
+use Rattle.cart_format.specs.Cartridge.{is_cart}
 use Rattle.cart_format.specs.Tests.{title_at, header_fault}
 use Rattle.cart_format.specs.Reading.{◌>>=◌, Fails, parts_of, titled, sections_of}
 use Rattle.cart_format.proofs.Carts.{sections_take}

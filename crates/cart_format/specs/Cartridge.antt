@@ -1,5 +1,5 @@
 -- Cartridges and the one text of each. Hold it against the kit's page on cartridge files.
-use Rattle.std.specs.Prelude.{◌≡◌, ℕ, ◌+◌, ◌-◌, ◌≤◌, ◌<◌, ◌^◌, List, [], ◌++◌, length, replicate, codes, Bool, true, ◌&&◌, nat_le, Option, Some, None, IsTrue, IfSome}
+use Rattle.std.specs.Prelude.{◌≡◌, ℕ, ◌+◌, ◌-◌, ◌<◌, ◌^◌, List, [], ◌++◌, length, replicate, codes, Bool, true, ◌&&◌, nat_le, Option, Some, None, IfSome}
 use Rattle.std.specs.List.{flat_map, list_all, AllByRecursion}
 use Rattle.asset_pack.specs.Words.{word_text, AreWords}
 use Rattle.asset_pack.specs.Texts.{Image, IsTexture, IsSound, words_file_text, texture_text, sound_text}

@@ -1,7 +1,5 @@
-use Rattle.std.proofs.Common.{◌≡◌, Bool, true, List, ℕ, ap, sym, subst, ◌∙◌, arith}
+use Rattle.std.proofs.Common.{arith}
 use Rattle.std.proofs.lemmas.Result.{err_from_is_err_and}
-use Rattle.cart_format.specs.Cartridge.{is_cart}
-use Rattle.cart_format.specs.Reading.{titled}
 use Rattle.cart_format.proofs.Whole.{whole, fails, keeps}
 use Rattle.cart_format.proofs.reading.sections_of.Goals as goal
 

@@ -1,5 +1,4 @@
 use Rattle.std.proofs.Common.{arith}
-use Rattle.cart_format.specs.Reading.{many}
 use Rattle.cart_format.proofs.Many.{goes_on, fails, is_done}
 use Rattle.cart_format.proofs.sections.many.Goals as goal
 

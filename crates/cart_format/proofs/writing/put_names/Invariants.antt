@@ -1,5 +1,5 @@
 use Rattle.std.proofs.Common.{◌≡◌, ◌++◌, take}
-use Rattle.std.specs.List.{flat_map, AllByRecursion}
+use Rattle.std.specs.List.{flat_map}
 use Rattle.cart_format.specs.Table.{name_text}
 use Rattle.cart_format.proofs.writing.put_names.Given as goal
 

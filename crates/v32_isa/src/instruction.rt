@@ -62,7 +62,7 @@ pub enum Two {
 }
 
 /// An operand: an immediate word or a register.
-#[derive(Clone, Copy, PartialEq, Eq, Debug)]
+#[derive(Clone, Copy, PartialEq, Eq, Debug, Drop)]
 pub enum Src<I> {
     Imm(I),
     Reg(Reg),
@@ -71,7 +71,7 @@ pub enum Src<I> {
 /// The forms of MOV, named by the place that is written and then the place that is read. `At` is
 /// the word of memory at an immediate, at a register, or at a register plus an offset (`Off`); the
 /// fields stand as the form is written.
-#[derive(Clone, Copy, PartialEq, Eq, Debug)]
+#[derive(Clone, Copy, PartialEq, Eq, Debug, Drop)]
 pub enum Mov<I> {
     RegImm(Reg, I),
     RegReg(Reg, Reg),
@@ -84,7 +84,7 @@ pub enum Mov<I> {
 }
 
 /// An instruction whose immediates are of type `I`: words, or in assembly text also labels.
-#[derive(Clone, Copy, PartialEq, Eq, Debug)]
+#[derive(Clone, Copy, PartialEq, Eq, Debug, Drop)]
 pub enum Instr<I> {
     Plain(Plain),
     Go(Go, Src<I>),

@@ -1,0 +1,2 @@
+mod Disassembling
+mod Spelled

@@ -1,0 +1,20 @@
+//! Assembly text as items: what it can say, its one written form, and words taken apart into items.
+//!
+//! It promises that the text written is the written form of the items, and that words are taken apart
+//! as the table of instructions spells them: the words of the items given are those words again. It
+//! stands on the instructions of `v32_isa`.
+#![tactic(auto)]
+
+mod disassembly;
+mod item;
+mod laws;
+mod mnemonic;
+mod writing;
+
+pub use disassembly::disassemble;
+pub use item::{AsmItem, Imm};
+pub use laws::words_are_given_again;
+pub use writing::write_asm;
+
+#[cfg(test)]
+mod tests;

@@ -1,13 +1,12 @@
 -- What holds of each port that has a name.
 use Rattle.std.proofs.Common.{ℕ, zero, suc, ◌≡◌, ◌<◌, Bool, true, false, cond, not, List, [], ◌∷◌, nat_lt, refl, sym, ap, subst, ◌∙◌, arith}
-use Rattle.std.specs.Prelude.{Option, Some, None, IfSome, IsUtf8, if◌then◌else◌, ◌==◌, ◌&&◌, codes, find, slice_index, option_map}
+use Rattle.std.specs.Prelude.{Option, Some, None, IsUtf8, if◌then◌else◌, ◌==◌, ◌&&◌, codes, find, slice_index}
 use Rattle.std.specs.List.{list_all}
 use Rattle.std.specs.Str.{bytes_eq}
 use Rattle.std.proofs.lemmas.Slice.Eq.{bytes_eq-Decides}
 use Rattle.std.proofs.lemmas.Str.{IsUtf8-from_ascii}
 use Rattle.std.proofs.lemmas.Bool.Decides.{nat_tests}
-use Rattle.v32_isa.specs.Ports.{PortEntry, port_table, first_spelling, port_named, port_spelled, port_numbered, is_writable, entry_of}
-use Rattle.v32_isa.specs.declared.port_table.PortRow.{PortRow}
+use Rattle.v32_isa.specs.Ports.{PortEntry, port_table, first_spelling, port_named, port_spelled, port_numbered, is_writable}
 use Rattle.build_core.proofs.Printable.{both}
 use Rattle.build_core.proofs.Texts.{lacks}
 
@@ -72,14 +71,6 @@ is_port name e h =
       text = IsUtf8-from_ascii name (λ i. name_ascii name i good);
       whole = name_lacks name good;
     }
-
--- a row of the program's table that has the name is that of a port
-row_fits : (name : List ℕ) (o : Option PortRow) → option_map entry_of o ≡ port_named name → IfSome o (λ r. r.number < 16384)
-row_fits name None e = tt
-row_fits name (Some r) e = (is_port name (entry_of r) (sym e)).number
-
-pub row_number : (name text : List ℕ) (o : Option PortRow) → text ≡ name → option_map entry_of o ≡ port_named text → IfSome o (λ r. r.number < 16384)
-row_number name text o same e = row_fits text o e
 
 -- what is no text is no name
 text_or_none : (name : List ℕ) (o : Option PortEntry) → port_named name ≡ o → (IsUtf8 name → ⊥) → o ≡ None

@@ -8,7 +8,7 @@ use Rattle.std.proofs.lemmas.List.{take-append-drop}
 use Rattle.std.proofs.lemmas.List.Quantifiers.{position-Some}
 use Rattle.std.proofs.Math.Seq.{drop-append_seam, drop-append-add, take-append_seam, drop-cons}
 use Rattle.build_core.specs.Steps.{◌>>=◌}
-use Rattle.build_core.specs.Text.{after_text, split_at_byte, is_printable}
+use Rattle.build_core.specs.Text.{after_text, split_at_byte}
 use Rattle.build_core.proofs.Printable.{both}
 
 -- a text and what follows it
@@ -66,20 +66,6 @@ split_at_byte-append byte xs ys h =
     let within : length xs < length (xs ++ byte ∷ ys) = omega (arith, length-append xs (byte ∷ ys)) in
     let behind : drop (length xs + 1) (xs ++ byte ∷ ys) ≡ ys = drop-append-add xs (byte ∷ ys) 1 in
     rw (found_at byte (length xs) (xs ++ byte ∷ ys) (place_behind byte xs ys h) within, take-append_seam xs (byte ∷ ys), behind) refl
-
--- of a list, and of its parts
-pub lacks-printable : (byte : ℕ) (bytes : List ℕ) → is_printable byte ≡ false → list_all is_printable bytes ≡ true → lacks byte bytes ≡ true
-lacks-printable byte [] u h = refl
-lacks-printable byte (b ∷ bytes) u h =
-    let p = both (is_printable b) (list_all is_printable bytes) h in
-    rw (other b byte p.0 u, lacks-printable byte bytes u p.1) refl
-  where
-    unlike : (b byte : ℕ) (e : Bool) → (b == byte) ≡ e → is_printable b ≡ true → is_printable byte ≡ false → not e ≡ true
-    unlike b byte true e p u = let same : b ≡ byte = (Decides-eqb b byte).0 e in let k : true ≡ false = sym p ∙ ap is_printable same ∙ u in cc
-    unlike b byte false e p u = refl
-
-    other : (b byte : ℕ) → is_printable b ≡ true → is_printable byte ≡ false → not (b == byte) ≡ true
-    other b byte p u = unlike b byte (b == byte) refl p u
 
 -- a reading that went on
 pub bind_some : {A B : Type 0} (o : Option A) (f : A → Option B) (y : B) → (o >>= f) ≡ Some y → (x : A) × (o ≡ Some x) × (f x ≡ Some y)

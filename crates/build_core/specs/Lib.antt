@@ -1,10 +1,9 @@
 pub mod Text
 pub mod Steps
-pub mod Project
 pub mod Source
 pub mod Straight
 pub mod Program
 pub mod Agrees
-pub mod Cart
-pub mod Map
+pub mod Due
+pub mod Causes
 pub mod Build

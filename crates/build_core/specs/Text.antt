@@ -1,7 +1,7 @@
--- Parts of a text: a fixed front, what stands before and behind a byte, printable bytes, decimals.
-use Rattle.std.specs.Prelude.{ℕ, ◌+◌, ◌-◌, ◌*◌, ◌==◌, Bool, ◌&&◌, take, drop, List, [], ◌∷◌, length, flat_map, Option, Some, None, option_map, if◌then◌else◌, nat_le, nat_eq}
+-- Parts of a text: a fixed front, what stands before and behind a byte, decimals.
+use Rattle.std.specs.Prelude.{ℕ, ◌+◌, ◌-◌, ◌*◌, ◌==◌, ◌&&◌, take, drop, List, [], ◌∷◌, length, flat_map, Option, Some, None, option_map, if◌then◌else◌, nat_le, nat_eq}
 use Rattle.std.specs.Char.{is_ascii_digit}
-use Rattle.std.specs.List.{starts_with, list_all, position}
+use Rattle.std.specs.List.{starts_with, position}
 
 -- the pieces, one after another
 abbrev pub joined : List (List ℕ) → List ℕ
@@ -14,14 +14,6 @@ after_text text bytes = if starts_with nat_eq bytes text then Some (drop (length
 -- what stands before the first such byte, and behind it, where there is one
 unfoldable pub split_at_byte : ℕ → List ℕ → Option (List ℕ × List ℕ)
 split_at_byte byte bytes = option_map (λ i. (take i bytes, drop (i + 1) bytes)) (position (λ b. b == byte) bytes)
-
--- printable ASCII is 0x20 to 0x7E
-abbrev pub is_printable : ℕ → Bool
-is_printable b = nat_le 0x20 b && nat_le b 0x7E
-
--- whether these are 1 to so many bytes, all of them printable ASCII
-unfoldable pub is_label : ℕ → List ℕ → Bool
-is_label most bytes = (nat_le 1 (length bytes) && nat_le (length bytes) most) && list_all is_printable bytes
 
 -- the number of these digits, read behind those of n, where it stays below 2 ^ 32
 abbrev pub number_from : ℕ → List ℕ → Option ℕ

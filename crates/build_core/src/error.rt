@@ -23,16 +23,18 @@ pub enum BuildErr {
     /// The system failed at the file of this name.
     #[error("a file could not be read")]
     Failed(Name),
-    /// A text or a file is not of its grammar. The code is 94: the project's text, which is called
-    /// `project`, spells no project. Lines count from 1; files without lines have none.
+    /// A text or a file is not of its grammar. The codes are 90 to 93 for the project's text, which
+    /// is called `project`, with its first faulty line, and 70 to 73 for a texture or a sound, which
+    /// have no lines. Lines count from 1.
     #[error("bad data, code {code}")]
     Bad {
         code: u32,
         name: Name,
         line: Option<u32>,
     },
-    /// The file of this name has more bytes than are read.
-    #[error("a file is too long")]
+    /// The file of this name has more bytes than are read; or this is `cartridge`, and the cartridge
+    /// would have over 268,435,456 bytes.
+    #[error("a file or the cartridge is too long")]
     Limit(Name),
     /// Memory ran out.
     #[error("out of memory")]

@@ -1,9 +1,10 @@
 // Bytes written out by hand from the layouts, and each public call once.
 use crate::{
-    BuildErr, Built, Map, build, cartridge_does_what_its_source_means, map_text, project_is_read,
-    straight_source_is_read,
+    BuildErr, Built, build, cartridge_does_what_its_source_means, straight_source_is_read,
 };
+use cart_format::read_cart;
 use kit_base::{FilesInMemory, Name, Seq};
+use project_text::write_map;
 use std::alloc::{AllocError, Global};
 use std::process::Abort;
 use std::test::Fail;
@@ -31,6 +32,37 @@ fn holding(
     let held = vec![in alloc; (name, source)]?;
     assert!(rt; FilesInMemory::are_distinct(&held));
     Ok(FilesInMemory::new(alloc, held, failing))
+}
+
+/// The first program's source, a texture of these bytes, and a sound by that name.
+fn with_assets(
+    rt: &impl Abort,
+    alloc: Global,
+    texture: &[u8],
+    sound: &[u8],
+) -> Result<FilesInMemory, Fail> {
+    let mut held = Vec::new(alloc);
+    let source = b"void main() { port_out(GPU_ClearColor, 255); }";
+    let entries: [(&[u8], &[u8]); 3] = [
+        (b"hello.c", source),
+        (b"one.tex", texture),
+        (sound, SAMPLE),
+    ];
+    for (name, bytes) in entries {
+        let name = Name::from_bytes(alloc, name)?;
+        let bytes = Seq::from_vec(Vec::from_slice(alloc, bytes)?);
+        held.push((name, bytes))?;
+    }
+    assert!(rt; FilesInMemory::are_distinct(&held));
+    Ok(FilesInMemory::new(alloc, held, Vec::new(alloc)))
+}
+
+/// The line of a refusal of the project's text.
+fn line_of(answer: &Result<Built, BuildErr>) -> Option<u32> {
+    match answer {
+        Err(BuildErr::Bad { line, .. }) => *line,
+        _ => None,
+    }
 }
 
 /// The code of a refusal, or 4, 5, 7 and 8 for those of the files and of memory.
@@ -71,26 +103,12 @@ fn the_first_program_has_152_bytes_and_a_map(rt: HostRuntime) -> Result<(), Fail
     let mut files = holding(&rt, alloc, source, Vec::new(alloc))?;
     let built = build(alloc, &mut files, HELLO)?;
     assert_eq!(rt; hexadecimal(alloc, built.cart.as_slice())?.as_str(), CART);
-    let text = map_text(alloc, &built.map)?;
+    let text = write_map(alloc, &built.map)?;
     assert_eq!(rt;
         text.as_slice(),
         b"code 3\nframe main 0x20000000 0\n".as_slice()
     );
     assert!(rt; built.asm.as_slice().is_empty());
-    Ok(())
-}
-
-#[test]
-fn a_map_has_frames_and_then_globals(rt: HostRuntime) -> Result<(), Fail> {
-    let alloc = rt.alloc();
-    let map = Map {
-        code: 4_294_967_295,
-        globals: Seq::from_vec(vec![in alloc; (Name::new(alloc, "g")?, 0x0009_ABCD, 10)]?),
-        frames: Seq::from_vec(vec![in alloc; (Name::new(alloc, "f")?, 0xEF65_4321, 0)]?),
-    };
-    let text = map_text(alloc, &map)?;
-    let lines = b"code 4294967295\nframe f 0xEF654321 0\nglobal g 0x0009ABCD 10\n";
-    assert_eq!(rt; text.as_slice(), lines.as_slice());
     Ok(())
 }
 
@@ -133,30 +151,83 @@ fn only_straight_sources_are_built(rt: HostRuntime) -> Result<(), Fail> {
     Ok(())
 }
 
+// One pixel, which is red at full, and one sample: left 1, right -1.
+const PIXEL: &[u8] = b"V32-VTEX\x01\x00\x00\x00\x01\x00\x00\x00\xff\x00\x00\xff";
+
+const SAMPLE: &[u8] = b"V32-VSND\x01\x00\x00\x00\x01\x00\xff\xff";
+
+const PARTS: &[u8] = b"# parts\r\ntitle parts\n\nsound one.snd\ntexture one.tex\nsource hello.c";
+
 #[test]
-fn only_projects_of_two_lines_are_built(rt: HostRuntime) -> Result<(), Fail> {
+fn textures_and_sounds_are_in_the_cartridge(rt: HostRuntime) -> Result<(), Fail> {
     let alloc = rt.alloc();
-    let projects: [(&[u8], Option<u32>); 9] = [
-        (b"title t\nsource hello.c", None),
-        (b"title  t~\nsource hello.c\n", None),
-        (b"", Some(94)),
-        (b"title t\n", Some(94)),
-        (b"title \nsource hello.c\n", Some(94)),
-        (b"source hello.c\ntitle t\n", Some(94)),
-        (b"title t\nsource hello.c\n\n", Some(94)),
-        (b"title t\r\nsource hello.c\r\n", Some(94)),
-        (b"title t\nsource none.c\n", Some(4)),
+    let mut files = with_assets(&rt, alloc, PIXEL, b"one.snd")?;
+    let built = build(alloc, &mut files, PARTS)?;
+    assert_eq!(rt; built.cart.as_slice().len(), 128 + 24 + 20 + 16);
+    let cart = read_cart(alloc, built.cart.as_slice())?;
+    assert_eq!(rt; cart.revision(), 1);
+    assert_eq!(rt; cart.title().bytes(), b"parts".as_slice());
+    assert_eq!(rt; cart.program(), [0x6200_0202, 255, 0].as_slice());
+    assert_eq!(rt; cart.textures().len(), 1);
+    assert_eq!(rt; cart.textures()[0].pixels(), [0xff00_00ff].as_slice());
+    assert_eq!(rt; cart.sounds().len(), 1);
+    assert_eq!(rt; cart.sounds()[0].samples(), [0xffff_0001].as_slice());
+    Ok(())
+}
+
+#[test]
+fn a_texture_that_is_cut_off_is_named(rt: HostRuntime) -> Result<(), Fail> {
+    let alloc = rt.alloc();
+    let mut files = with_assets(&rt, alloc, &PIXEL[..19], b"other.snd")?;
+    let answer = build(alloc, &mut files, PARTS);
+    let named = match &answer {
+        Err(BuildErr::Bad { name, line, .. }) => {
+            name.bytes() == b"one.tex".as_slice() && line.is_none()
+        }
+        _ => false,
+    };
+    assert!(rt; named);
+    assert_eq!(rt; refusal(&answer), Some(71));
+    Ok(())
+}
+
+#[test]
+fn a_sound_that_is_missing_is_named(rt: HostRuntime) -> Result<(), Fail> {
+    let alloc = rt.alloc();
+    let mut files = with_assets(&rt, alloc, PIXEL, b"other.snd")?;
+    let answer = build(alloc, &mut files, PARTS);
+    let named = match &answer {
+        Err(BuildErr::Missing(name)) => name.bytes() == b"one.snd".as_slice(),
+        _ => false,
+    };
+    assert!(rt; named);
+    Ok(())
+}
+
+#[test]
+fn projects_are_refused_at_their_first_faulty_line(rt: HostRuntime) -> Result<(), Fail> {
+    let alloc = rt.alloc();
+    let mut many = Vec::from_slice(alloc, b"title t\nsource hello.c\n")?;
+    for _ in 0..257 {
+        many.extend_from_slice(b"texture one.tex\n")?;
+    }
+    let projects: [(&[u8], Option<u32>); 5] = [
+        (b"", Some(1)),
+        (b"title a\nsource s.c\ntitle b\n", Some(3)),
+        (b"title \nsource hello.c\n", Some(1)),
+        (b"title t\n", Some(2)),
+        (&many, Some(259)),
     ];
-    for (project, code) in projects {
-        let source = b"void main() { port_out(GPU_Command, 0); }";
-        let mut files = holding(&rt, alloc, source, Vec::new(alloc))?;
-        assert_eq!(rt; refusal(&build(alloc, &mut files, project)), code);
+    for (project, line) in projects {
+        assert!(rt; project.len() < 10_000);
+        let mut files = with_assets(&rt, alloc, PIXEL, b"one.snd")?;
+        assert_eq!(rt; line_of(&build(alloc, &mut files, project)), line);
     }
     Ok(())
 }
 
 #[test]
-fn a_read_that_fails_names_the_source(rt: HostRuntime) -> Result<(), Fail> {
+fn a_read_that_fails_names_the_file(rt: HostRuntime) -> Result<(), Fail> {
     let alloc = rt.alloc();
     let mut files = holding(&rt, alloc, b"", vec![in alloc; 0]?)?;
     let answer = build(alloc, &mut files, HELLO);
@@ -165,7 +236,6 @@ fn a_read_that_fails_names_the_source(rt: HostRuntime) -> Result<(), Fail> {
         _ => false,
     };
     assert!(rt; named);
-    project_is_read();
     straight_source_is_read();
     cartridge_does_what_its_source_means();
     Ok(())

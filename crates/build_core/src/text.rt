@@ -1,8 +1,8 @@
 // Parts of a text.
 ghost use Rattle.std.specs.Prelude.{◌≡◌, ◌<◌, ◌==◌, IfSome, length, option_map};
-ghost use Rattle.std.specs.List.{position, list_all};
+ghost use Rattle.std.specs.List.{position};
 ghost use Rattle.std.specs.Option.{option_copied};
-ghost use Rattle.build_core.specs.Text.{after_text, split_at_byte, number_from, number_of, is_printable, is_label};
+ghost use Rattle.build_core.specs.Text.{after_text, split_at_byte, number_from, number_of};
 
 /// What follows the text, where the bytes begin with it.
 #[tactic(auto, unfolding(crate::specs::Text::after_text))]
@@ -60,18 +60,4 @@ fn number_from(digits: &[u8]) -> Option<u32>
         }
     }
     Some(number as u32)
-}
-
-/// Whether there are 1 to so many bytes, all of them printable ASCII.
-#[tactic(auto, unfolding(crate::specs::Text::is_label))]
-pub fn is_label(bytes: &[u8], most: usize) -> bool
-    ensures { result ≡ is_label most bytes.now }
-{
-    1 <= bytes.len() && bytes.len() <= most && all_printable(bytes)
-}
-
-fn all_printable(bytes: &[u8]) -> bool
-    ensures { result ≡ list_all is_printable bytes.now }
-{
-    bytes.iter().all(|b| 0x20 <= *b && *b <= 0x7E)
 }

@@ -17,6 +17,8 @@ in_first (refusals.Source c f l) es fs before after h = absurd h
 in_first (refusals.Missing n) es fs before after h = absurd h
 in_first (refusals.Bad c n l) es fs before after h = absurd h
 in_first (refusals.Limit n) es fs before after h = absurd h
+in_first (refusals.OutOfRange n) es fs before after h = absurd h
+in_first refusals.LongCartridge es fs before after h = absurd h
 
 pub in_second : (e : Refusal) (es fs : List Effect) (before middle after : Option Held) → middle ≡ all_done es before → IsCut e fs middle after → IsCut e (es ++ fs) before after
 in_second (refusals.Failed name) es fs before middle after m h = cut_second name es fs before after (rw (← m) h)
@@ -26,6 +28,8 @@ in_second (refusals.Source c f l) es fs before middle after m h = absurd h
 in_second (refusals.Missing n) es fs before middle after m h = absurd h
 in_second (refusals.Bad c n l) es fs before middle after m h = absurd h
 in_second (refusals.Limit n) es fs before middle after m h = absurd h
+in_second (refusals.OutOfRange n) es fs before middle after m h = absurd h
+in_second refusals.LongCartridge es fs before middle after m h = absurd h
 
 -- memory may run out before a file is begun
 pub not_begun : (name bytes : List ℕ) (held : Option Held) → IsCut refusals.Memory (written_file name bytes) held held

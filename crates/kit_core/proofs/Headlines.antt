@@ -8,13 +8,15 @@ use Rattle.kit_base.specs.Held.{Held}
 use Rattle.kit_base.specs.Effects.{all_done}
 use Rattle.kit_base.specs.Outside.{due}
 use Rattle.build_core.specs.declared.building.Built.{Built}
-use Rattle.build_core.specs.Build.{built_of, IsBuilt}
-use Rattle.build_core.specs.Map.{map_text}
+use Rattle.build_core.specs.Due.{built_of}
+use Rattle.build_core.specs.Build.{IsBuilt}
+use Rattle.project_text.specs.MapText.{map_text}
 use Rattle.kit_core.specs.declared.refusal.Refusal.{Refusal}
 use Rattle.kit_core.specs.declared.refusal.Refusal.TheVariants as refusals
 use Rattle.kit_core.specs.Refusal.{status_of}
-use Rattle.kit_core.specs.Command.{Build, is_word, build_form, command_of}
-use Rattle.kit_core.specs.Due.{◌>>=◌, Work, or_refused, or_usage, unread, unbuilt, outputs_of, build_due, work_due}
+use Rattle.kit_core.specs.Command.{Build, is_word, build_form, migrate_form, command_of}
+use Rattle.kit_core.specs.Inputs.{◌>>=◌, or_refused, or_usage, unread}
+use Rattle.kit_core.specs.Due.{Work, unbuilt, outputs_of, build_due, work_due}
 use Rattle.kit_core.specs.Outcome.{EndsAs, Done, Refused, FileFault, OutOfMemory, SinkFault, IsOutcome}
 use Rattle.kit_core.specs.Headline.{IsBuiltInto, BuildStands}
 use Rattle.kit_core.proofs.Stages.{refused_gave}
@@ -37,10 +39,23 @@ chosen : {A : Type 0} (test : Bool) (o : Option A) (x : A) → (if test then o e
 chosen true o x h = h
 chosen false o x h = cc
 
+-- a migration is no build
+by_migrate : (arguments : List (List ℕ)) (p c n : List ℕ) → migrate_form arguments ≡ Some (Build p c n) → ⊥
+by_migrate [] p c n h = absurd cc
+by_migrate (a ∷ []) p c n h = absurd cc
+by_migrate (cart ∷ migrated ∷ []) p c n h = absurd cc
+by_migrate (a ∷ b ∷ d ∷ rest) p c n h = absurd cc
+
+by_form : (is_build is_migrate : Bool) (arguments : List (List ℕ)) (p c n : List ℕ)
+    → (if is_build then build_form arguments else (if is_migrate then migrate_form arguments else None)) ≡ Some (Build p c n) → bytes_eq c n ≡ false
+by_form true is_migrate arguments p c n h = by_arguments arguments p c n h
+by_form false true arguments p c n h = absurd (by_migrate arguments p c n h)
+by_form false false arguments p c n h = cc
+
 created_differ : (words : List (List ℕ)) (p c n : List ℕ) → command_of words ≡ Some (Build p c n) → bytes_eq c n ≡ false
 created_differ [] p c n h = cc
 created_differ (name ∷ arguments) p c n h =
-    by_arguments arguments p c n (chosen (bytes_eq name (codes "build")) _ _ (chosen (list_all is_word arguments) _ _ h))
+    by_form (bytes_eq name (codes "build")) (bytes_eq name (codes "migrate")) arguments p c n (chosen (list_all is_word arguments) _ _ h)
 
 -- the parts of a work that is due
 bind_ok : {A B : Type 0} (r : Result A Refusal) (f : A → Result B Refusal) (y : B) → (r >>= f) ≡ Ok y → (x : A) × (r ≡ Ok x) × (f x ≡ Ok y)
@@ -55,6 +70,8 @@ not_zero (refusals.Missing n) h = omega arith
 not_zero (refusals.Failed n) h = omega arith
 not_zero (refusals.Bad c n l) h = omega arith
 not_zero (refusals.Limit n) h = omega arith
+not_zero (refusals.OutOfRange n) h = omega arith
+not_zero refusals.LongCartridge h = omega arith
 not_zero refusals.Memory h = omega arith
 
 done_at_zero : (d : Result Work Refusal) (reads : List (List ℕ)) (m : Held) (status : ℕ) (after : Option Held) (before put : Option (List ℕ))

@@ -2,6 +2,9 @@ pub mod AllWords
 pub mod Cutting
 pub mod Showing
 pub mod Stages
+pub mod Seconds
+pub mod Own
+pub mod Migrations
 pub mod Outcomes
 pub mod Writes
 pub mod Headlines

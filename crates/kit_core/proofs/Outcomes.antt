@@ -35,6 +35,8 @@ module _ (due : Result Work Refusal) (reads : List (List ℕ)) (m : Held) (statu
   shown_whole (refusals.Missing n) comes s p = Refused (record { refusal = _; is_due = comes.0; status_is = s; files = comes.1; text = p })
   shown_whole (refusals.Bad c n l) comes s p = Refused (record { refusal = _; is_due = comes.0; status_is = s; files = comes.1; text = p })
   shown_whole (refusals.Limit n) comes s p = Refused (record { refusal = _; is_due = comes.0; status_is = s; files = comes.1; text = p })
+  shown_whole (refusals.OutOfRange n) comes s p = Refused (record { refusal = _; is_due = comes.0; status_is = s; files = comes.1; text = p })
+  shown_whole refusals.LongCartridge comes s p = Refused (record { refusal = _; is_due = comes.0; status_is = s; files = comes.1; text = p })
 
   pub outcome_refused : (e : Refusal) → Comes e due reads m after → Shows (status_of e) (line_of e) status before put → EndsAs due reads m status after before put
   outcome_refused e comes (inl (s, p)) = shown_whole e comes s p

@@ -6,10 +6,11 @@ use Rattle.kit_base.specs.Held.{Held}
 use Rattle.kit_base.specs.Effects.{all_done}
 use Rattle.kit_base.specs.Outside.{due}
 use Rattle.build_core.specs.declared.building.Built.{Built}
-use Rattle.build_core.specs.Build.{built_of, reads_of}
+use Rattle.build_core.specs.Due.{built_of, reads_of}
 use Rattle.kit_core.specs.declared.refusal.Refusal.{Refusal}
 use Rattle.kit_core.specs.declared.refusal.Refusal.TheVariants as refusals
-use Rattle.kit_core.specs.Due.{◌>>=◌, Work, or_refused, unread, unbuilt, outputs_of, build_due, build_reads, reads_in}
+use Rattle.kit_core.specs.Inputs.{◌>>=◌, or_refused, unread}
+use Rattle.kit_core.specs.Due.{Work, unbuilt, outputs_of, build_due, build_reads, reads_in}
 use Rattle.kit_core.specs.Outcome.{Comes}
 use Rattle.kit_core.specs.Carrying.{GivesBy, FailsAt, IsCut, Leaves}
 
@@ -23,6 +24,8 @@ stopped view (refusals.Source c f l) d whole names m after given at on same = (o
 stopped view (refusals.Missing n) d whole names m after given at on same = (on _ given, same)
 stopped view (refusals.Bad c n l) d whole names m after given at on same = (on _ given, same)
 stopped view (refusals.Limit n) d whole names m after given at on same = (on _ given, same)
+stopped view (refusals.OutOfRange n) d whole names m after given at on same = (on _ given, same)
+stopped view refusals.LongCartridge d whole names m after given at on same = (on _ given, same)
 
 -- a writing part was cut short
 pub cut : (e : Refusal) (work : Work) (whole : Result Work Refusal) (names : List (List ℕ)) (m : Held) (after : Option Held)
@@ -34,6 +37,8 @@ cut (refusals.Source c f l) work whole names m after d h = absurd h
 cut (refusals.Missing n) work whole names m after d h = absurd h
 cut (refusals.Bad c n l) work whole names m after d h = absurd h
 cut (refusals.Limit n) work whole names m after d h = absurd h
+cut (refusals.OutOfRange n) work whole names m after d h = absurd h
+cut refusals.LongCartridge work whole names m after d h = absurd h
 
 contains_later : (x n : List ℕ) (xs : List (List ℕ)) → Contains xs n → Contains (x ∷ xs) n
 contains_later x n xs (k, within, is) = (suc k, omega arith, is)
@@ -46,6 +51,8 @@ fails_later x xs (refusals.Source c f l) h = tt
 fails_later x xs (refusals.Missing n) h = tt
 fails_later x xs (refusals.Bad c n l) h = tt
 fails_later x xs (refusals.Limit n) h = tt
+fails_later x xs (refusals.OutOfRange n) h = tt
+fails_later x xs refusals.LongCartridge h = tt
 
 pub refused_gave : {A E : Type 0} (f : E → Refusal) (r : Result A E) (x : A) → or_refused f r ≡ Ok x → r ≡ Ok x
 refused_gave f (Ok y) x e = cc
@@ -61,20 +68,21 @@ module _ (project cart map_name text : List ℕ) where
   after_read m read = ap (λ r. r >>= λ t. or_refused (unbuilt project) (built_of m t) >>= λ b. Ok (record { effects = outputs_of cart map_name b; text = [] })) read
 
   refused_after : (e : Refusal) (m : Held) (held : Option Held) → WasRead (Some m) → GivesBy (λ b. b) (Err e) (or_refused (unbuilt project) (built_of m text))
-      → FailsAt (reads_of text) e → held ≡ Some m → Comes e (build_due project cart map_name m) (build_reads project m) m held
+      → FailsAt (reads_of m text) e → held ≡ Some m → Comes e (build_due project cart map_name m) (build_reads project m) m held
   refused_after e m held read given at same =
       stopped (λ (b : Built). b) e (or_refused (unbuilt project) (built_of m text)) _ _ m held given
-      (fails_later project (reads_in (due m project)) e (subst (λ d. FailsAt (reads_in d) e) (sym (refused_gave _ _ _ read)) at))
+      (fails_later project (reads_in m (due m project)) e (subst (λ d. FailsAt (reads_in m d) e) (sym (refused_gave _ _ _ read)) at))
       (λ r is. after_read m read ∙ ap (λ d. d >>= λ b. Ok (record { effects = outputs_of cart map_name b; text = [] })) is)
       same
 
   -- the build was refused
   pub left_unbuilt : (e : Refusal) (h0 h1 h2 : Option Held) → WasRead h0 → h1 ≡ h0
-      → IfSome h1 (λ m. GivesBy (λ b. b) (Err e) (or_refused (unbuilt project) (built_of m text))) → FailsAt (reads_of text) e → h2 ≡ h1
+      → IfSome h1 (λ m. GivesBy (λ b. b) (Err e) (or_refused (unbuilt project) (built_of m text))) → IfSome h1 (λ m. FailsAt (reads_of m text) e) → h2 ≡ h1
       → IfSome h0 (λ m. Comes e (build_due project cart map_name m) (build_reads project m) m h2)
   left_unbuilt e None h1 h2 read e1 given at e2 = tt
   left_unbuilt e (Some m) h1 h2 read e1 given at e2 =
-      refused_after e m h2 read (subst (λ h. IfSome h (λ m. GivesBy (λ b. b) (Err e) (or_refused (unbuilt project) (built_of m text)))) e1 given) at (e2 ∙ e1)
+      refused_after e m h2 read (subst (λ h. IfSome h (λ m. GivesBy (λ b. b) (Err e) (or_refused (unbuilt project) (built_of m text)))) e1 given)
+      (subst (λ h. IfSome h (λ m. FailsAt (reads_of m text) e)) e1 at) (e2 ∙ e1)
 
   -- the project was built
   module _ (b : Built) where

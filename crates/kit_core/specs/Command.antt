@@ -8,6 +8,8 @@ use Rattle.std.specs.declared.alloc.Global.{Global}
 pub data Command : Type 0 where
   -- `build project cart map`
   Build : (project cart map_name : List ℕ) → Command
+  -- `migrate cart migrated`
+  Migrate : (cart migrated : List ℕ) → Command
 
 abbrev pub texts : List (String Global) → List (List ℕ)
 texts words = map string_bytes words
@@ -22,9 +24,15 @@ abbrev pub build_form : List (List ℕ) → Option Command
 build_form (project ∷ cart ∷ map_name ∷ []) = if bytes_eq cart map_name then None else Some (Build project cart map_name)
 build_form arguments = None
 
+abbrev pub migrate_form : List (List ℕ) → Option Command
+migrate_form (cart ∷ migrated ∷ []) = Some (Migrate cart migrated)
+migrate_form arguments = None
+
 -- the form of that name
 abbrev pub form_of : List ℕ → List (List ℕ) → Option Command
-form_of name arguments = if bytes_eq name (codes "build") then build_form arguments else None
+form_of name arguments =
+    if bytes_eq name (codes "build") then build_form arguments
+    else (if bytes_eq name (codes "migrate") then migrate_form arguments else None)
 
 -- the command of the words after the program's own name; any others are a usage error
 abbrev pub command_of : List (List ℕ) → Option Command

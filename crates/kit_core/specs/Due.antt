@@ -8,37 +8,20 @@ use Rattle.kit_base.specs.declared.outside.FileErr.TheVariants as file_errors
 use Rattle.build_core.specs.declared.error.BuildErr.{BuildErr}
 use Rattle.build_core.specs.declared.error.BuildErr.TheVariants as build_errors
 use Rattle.build_core.specs.declared.building.Built.{Built}
-use Rattle.build_core.specs.Build.{built_of, reads_of}
-use Rattle.build_core.specs.Map.{map_text}
+use Rattle.build_core.specs.Due.{built_of, reads_of}
+use Rattle.project_text.specs.MapText.{map_text}
+use Rattle.cart_format.specs.Cartridge.{cart_text}
 use Rattle.kit_core.specs.declared.refusal.Refusal.{Refusal}
 use Rattle.kit_core.specs.declared.refusal.Refusal.TheVariants as refusals
-use Rattle.kit_core.specs.Command.{Command, Build, command_of}
+use Rattle.kit_core.specs.Command.{Command, Build, Migrate, command_of}
+use Rattle.kit_core.specs.Inputs.{◌>>=◌, or_refused, or_usage, unread, cart_due}
+use Rattle.kit_core.specs.Migration.{second_due}
 
 -- What a command does once nothing refused it: what it creates and appends, in order, and the text
 -- that is put after that.
 pub record Work : Type 0 where
   pub effects : List Effect
   pub text : List ℕ
-
-infixl 10 ◌>>=◌
-abbrev pub ◌>>=◌ : {A B : Type 0} → Result A Refusal → (A → Result B Refusal) → Result B Refusal
-(Ok x) >>= f = f x
-(Err e) >>= f = Err e
-
-abbrev pub or_refused : {T E : Type 0} → (E → Refusal) → Result T E → Result T Refusal
-or_refused f (Ok x) = Ok x
-or_refused f (Err e) = Err (f e)
-
-abbrev pub or_usage : {T : Type 0} → Option T → Result T Refusal
-or_usage (Some x) = Ok x
-or_usage None = Err refusals.Usage
-
--- the refusal of a read of that file
-abbrev pub unread : List ℕ → FileErr → Refusal
-unread name file_errors.Missing = refusals.Missing name
-unread name file_errors.Failed = refusals.Failed name
-unread name file_errors.TooLong = refusals.Limit name
-unread name file_errors.Memory = refusals.Memory
 
 -- The refusal of a build. A fault in a line is one of the project's text, which goes by the name
 -- that the words give it.
@@ -61,8 +44,22 @@ build_due project cart map_name held = do
   built ← or_refused (unbuilt project) (built_of held text)
   Ok (record { effects = outputs_of cart map_name built; text = [] })
 
+-- the bytes of the cartridge in its second revision
+abbrev pub migrated_due : List ℕ → Held → Result (List ℕ) Refusal
+migrated_due cart held = do
+  read ← cart_due cart held
+  second ← second_due read
+  Ok (cart_text second)
+
+-- that, created and then appended
+abbrev pub migrate_due : (cart migrated : List ℕ) → Held → Result Work Refusal
+migrate_due cart migrated held = do
+  bytes ← migrated_due cart held
+  Ok (record { effects = written_file migrated bytes; text = [] })
+
 abbrev pub work_due : Command → Held → Result Work Refusal
 work_due (Build project cart map_name) held = build_due project cart map_name held
+work_due (Migrate cart migrated) held = migrate_due cart migrated held
 
 -- the work of the command of these words, or its first refusal
 abbrev pub command_due : List (List ℕ) → Held → Result Work Refusal
@@ -71,16 +68,17 @@ command_due words held = do
   work_due command held
 
 -- the names that a build reads after its project
-abbrev pub reads_in : Result (List ℕ) FileErr → List (List ℕ)
-reads_in (Ok text) = reads_of text
-reads_in (Err e) = []
+abbrev pub reads_in : Held → Result (List ℕ) FileErr → List (List ℕ)
+reads_in held (Ok text) = reads_of held text
+reads_in held (Err e) = []
 
 abbrev pub build_reads : List ℕ → Held → List (List ℕ)
-build_reads project held = project ∷ reads_in (due held project)
+build_reads project held = project ∷ reads_in held (due held project)
 
 abbrev pub command_reads : Option Command → Held → List (List ℕ)
 command_reads None held = []
 command_reads (Some (Build project cart map_name)) held = build_reads project held
+command_reads (Some (Migrate cart migrated)) held = cart ∷ []
 
 -- the names that the command of these words reads, in order
 abbrev pub reads_due : List (List ℕ) → Held → List (List ℕ)

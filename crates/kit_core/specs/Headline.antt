@@ -6,7 +6,7 @@ use Rattle.kit_base.specs.Effects.{all_done}
 use Rattle.kit_base.specs.Outside.{due}
 use Rattle.build_core.specs.declared.building.Built.{Built}
 use Rattle.build_core.specs.Build.{IsBuilt}
-use Rattle.build_core.specs.Map.{map_text}
+use Rattle.project_text.specs.MapText.{map_text}
 use Rattle.kit_core.specs.Command.{Build, command_of}
 use Rattle.kit_core.specs.Due.{outputs_of}
 

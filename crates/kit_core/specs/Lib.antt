@@ -1,8 +1,11 @@
 pub mod Refusal
 pub mod Command
 pub mod Parsed
+pub mod Inputs
+pub mod Migration
 pub mod Due
 pub mod Causes
+pub mod Limits
 pub mod Outcome
 pub mod Carrying
 pub mod Headline

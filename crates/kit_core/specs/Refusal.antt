@@ -11,6 +11,8 @@ status_of (refusals.Missing name) = 4
 status_of (refusals.Failed name) = 5
 status_of (refusals.Bad code name line) = 6
 status_of (refusals.Limit name) = 7
+status_of (refusals.OutOfRange word) = 7
+status_of refusals.LongCartridge = 7
 status_of refusals.Memory = 8
 
 -- the pieces one after another
@@ -28,6 +30,8 @@ line_of (refusals.Bad code name (Some line)) =
     joined (codes "bad data " ∷ decimal code ∷ codes " in " ∷ name ∷ codes " at " ∷ decimal line ∷ (10 ∷ []) ∷ [])
 line_of (refusals.Bad code name None) = joined (codes "bad data " ∷ decimal code ∷ codes " in " ∷ name ∷ (10 ∷ []) ∷ [])
 line_of (refusals.Limit name) = joined (codes "limit " ∷ name ∷ (10 ∷ []) ∷ [])
+line_of (refusals.OutOfRange word) = joined (codes "limit " ∷ word ∷ (10 ∷ []) ∷ [])
+line_of refusals.LongCartridge = joined (codes "limit cartridge" ∷ (10 ∷ []) ∷ [])
 line_of refusals.Memory = joined (codes "out of memory" ∷ (10 ∷ []) ∷ [])
 
 -- A status is 0, 1, 2 or 4 to 9.

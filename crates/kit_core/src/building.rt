@@ -1,16 +1,20 @@
 // The command `build`.
-ghost use Rattle.std.specs.Prelude.{◌≡◌, IfSome, OnOk, IfErr};
+ghost use Rattle.std.specs.Prelude.{◌≡◌, ◌≤◌, IfSome, OnOk, IfErr, length};
 ghost use Rattle.kit_base.specs.Effects.{all_done};
-ghost use Rattle.build_core.specs.Build.{built_of, reads_of};
+ghost use Rattle.build_core.specs.Due.{built_of, reads_of};
+ghost use Rattle.build_core.specs.Causes.{CanBeTooLarge};
 ghost use Rattle.kit_core.specs.Carrying.{FailsAt, GivesBy, IsCut, Leaves};
-ghost use Rattle.kit_core.specs.Causes.{HasCauses};
-ghost use Rattle.kit_core.specs.Due.{build_due, build_reads, or_refused, outputs_of, unbuilt};
+ghost use Rattle.kit_core.specs.Causes.{HasCauses, HasCausesOr};
+ghost use Rattle.kit_core.specs.Limits.{IsLarge};
+ghost use Rattle.kit_core.specs.Inputs.{or_refused};
+ghost use Rattle.kit_core.specs.Due.{build_due, build_reads, outputs_of, unbuilt};
 
 use crate::reading::read_file;
 use crate::refusal::{Refusal, unbuilt};
 use crate::writing::write_output;
-use build_core::{Built, build, map_text};
+use build_core::{Built, build};
 use kit_base::{Files, Name};
+use project_text::write_map;
 use std::alloc::Global;
 
 /// Builds the project of that text. A refusal has the project's own name.
@@ -20,10 +24,11 @@ fn build_text<F: Files>(
     project: &str,
     text: &[u8],
 ) -> Result<Built, Refusal>
+    requires { length text.now ≤ 268435456 }
     ensures held { F.held files.new ≡ F.held files.old }
     ensures told { IfSome (F.held files.old) (λ m. GivesBy (λ b. b) result (or_refused (unbuilt project.now) (built_of m text.now))) }
-    ensures fails { IfErr result (FailsAt (reads_of text.now)) }
-    ensures causes { HasCauses result (F.faults files.old) (F.faults files.new) (F.misses files.old) (F.misses files.new) (F.overs files.old) (F.overs files.new) }
+    ensures fails { IfSome (F.held files.old) (λ m. IfErr result (FailsAt (reads_of m text.now))) }
+    ensures causes { HasCausesOr (CanBeTooLarge text.now) result (F.faults files.old) (F.faults files.new) (F.misses files.old) (F.misses files.new) (F.overs files.old) (F.overs files.new) }
 {
     match build(alloc, files, text) {
         Ok(built) => Ok(built),
@@ -46,12 +51,13 @@ fn write_outputs<F: Files>(
     ensures err { IfErr result (λ e. IsCut e (outputs_of cart.now map.now built.now) (F.held files.old) (F.held files.new)) }
     ensures causes { HasCauses result (F.faults files.old) (F.faults files.new) (F.misses files.old) (F.misses files.new) (F.overs files.old) (F.overs files.new) }
 {
-    let map_bytes = map_text(alloc, &built.map)?;
+    let map_bytes = write_map(alloc, &built.map)?;
     write_output(alloc, files, cart, built.cart.as_slice())?;
     write_output(alloc, files, map, &map_bytes)
 }
 
 /// `build project cart map`. There is no text to put after it.
+#[tactic(auto, using(crate::proofs::Own::wider_causes))]
 pub fn build_command<F: Files>(
     alloc: Global,
     files: &mut F,
@@ -60,7 +66,7 @@ pub fn build_command<F: Files>(
     map: &str,
 ) -> Result<Vec<u8>, Refusal>
     ensures told { IfSome (F.held files.old) (λ m. Leaves result (build_due project.now cart.now map.now m) (build_reads project.now m) m (F.held files.new)) }
-    ensures causes { HasCauses result (F.faults files.old) (F.faults files.new) (F.misses files.old) (F.misses files.new) (F.overs files.old) (F.overs files.new) }
+    ensures causes { HasCausesOr (IsLarge project.now (F.held files.old)) result (F.faults files.old) (F.faults files.new) (F.misses files.old) (F.misses files.new) (F.overs files.old) (F.overs files.new) }
 {
     let text = read_file(alloc, files, project)?;
     let built = build_text(alloc, files, project, &text)?;

@@ -1,7 +1,7 @@
 // The command that the words name.
 ghost use Rattle.std.specs.Prelude.{◌≡◌, option_map, string_bytes};
 ghost use Rattle.std.specs.List.{list_all};
-ghost use Rattle.kit_core.specs.Command.{command_of, build_form, form_of, is_word, texts};
+ghost use Rattle.kit_core.specs.Command.{command_of, build_form, form_of, is_word, migrate_form, texts};
 ghost use Rattle.kit_core.specs.Parsed.{command_from};
 
 /// A command, with the words that it was given.
@@ -11,6 +11,10 @@ pub enum Command<'a> {
         project: &'a str,
         cart: &'a str,
         map: &'a str,
+    },
+    Migrate {
+        cart: &'a str,
+        migrated: &'a str,
     },
 }
 
@@ -45,13 +49,28 @@ fn build_form<'a>(arguments: &'a [String]) -> Option<Command<'a>>
     }
 }
 
+fn migrate_form<'a>(arguments: &'a [String]) -> Option<Command<'a>>
+    ensures { option_map command_from result ≡ migrate_form (texts arguments.now) }
+{
+    match arguments {
+        [cart, migrated] => Some(Command::Migrate {
+            cart: cart.as_str(),
+            migrated: migrated.as_str(),
+        }),
+        _ => None,
+    }
+}
+
 fn form_of<'a>(name: &str, arguments: &'a [String]) -> Option<Command<'a>>
     ensures { option_map command_from result ≡ form_of name.now (texts arguments.now) }
 {
     if name == "build" {
-        return build_form(arguments);
+        build_form(arguments)
+    } else if name == "migrate" {
+        migrate_form(arguments)
+    } else {
+        None
     }
-    None
 }
 
 /// The command of these words, or none where they are no listed form.

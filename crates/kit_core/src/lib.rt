@@ -8,6 +8,7 @@
 
 mod building;
 mod command;
+mod migrating;
 mod reading;
 mod refusal;
 mod top;

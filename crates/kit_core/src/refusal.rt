@@ -1,16 +1,18 @@
 // Why a command is refused, with the status and the line of each refusal.
 ghost use Rattle.std.specs.Prelude.{◌≡◌, IfOk};
 ghost use Rattle.kit_core.specs.Refusal.{line_of, status_of};
-ghost use Rattle.kit_core.specs.Due.{unread, unbuilt};
+ghost use Rattle.kit_core.specs.Inputs.{no_cart, unread};
+ghost use Rattle.kit_core.specs.Due.{unbuilt};
 ghost use Rattle.kit_core.specs.declared.refusal.Refusal.TheVariants.{Source, Bad, Memory};
 
 use build_core::BuildErr;
+use cart_format::CartErr;
 use kit_base::{FileErr, Name, join_pieces};
 use std::alloc::{AllocError, Global};
 
 /// A refusal: the words are no form (1), the sources give no program (2), a file is missing (4), a
-/// call of the files failed (5), a file is not of its grammar (6), a number is over its limit (7),
-/// or memory ran out (8).
+/// call of the files failed (5), a file is not of its grammar (6), a file that is read is too long,
+/// a number word is out of its range, or a cartridge would be too long (7), or memory ran out (8).
 #[derive(Drop)]
 pub enum Refusal {
     Usage,
@@ -27,6 +29,8 @@ pub enum Refusal {
         line: Option<u32>,
     },
     Limit(Name),
+    OutOfRange(Name),
+    LongCartridge,
     Memory,
 }
 
@@ -48,6 +52,18 @@ pub fn unread(name: Name, error: FileErr) -> Refusal
         FileErr::TooLong => Refusal::Limit(name),
         FileErr::Memory => Refusal::Memory,
     }
+}
+
+/// The refusal of a file that is no cartridge.
+pub fn no_cart(name: Name, error: CartErr) -> Refusal
+    ensures { result ≡ no_cart name error }
+{
+    let (code, line) = match error {
+        CartErr::At { code } => (code, None),
+        CartErr::BadSection(_) => (83, None),
+        CartErr::Memory => return Refusal::Memory,
+    };
+    Refusal::Bad { code, name, line }
 }
 
 /// The refusal of a build. A fault in a line of the project's text goes by the project's own name.
@@ -78,7 +94,7 @@ pub fn status_of(refusal: &Refusal) -> u8
         Refusal::Missing(_) => 4,
         Refusal::Failed(_) => 5,
         Refusal::Bad { .. } => 6,
-        Refusal::Limit(_) => 7,
+        Refusal::Limit(_) | Refusal::OutOfRange(_) | Refusal::LongCartridge => 7,
         Refusal::Memory => 8,
     }
 }
@@ -131,6 +147,8 @@ pub fn line_of(alloc: Global, refusal: &Refusal) -> Result<Vec<u8>, AllocError>
         Refusal::Failed(name) => join_pieces(alloc, &[b"file fault ", name.bytes(), b"\n"]),
         Refusal::Bad { code, name, line } => bad_line(alloc, *code, name, *line),
         Refusal::Limit(name) => join_pieces(alloc, &[b"limit ", name.bytes(), b"\n"]),
+        Refusal::OutOfRange(word) => join_pieces(alloc, &[b"limit ", word.bytes(), b"\n"]),
+        Refusal::LongCartridge => join_pieces(alloc, &[b"limit cartridge", b"\n"]),
         Refusal::Memory => join_pieces(alloc, &[b"out of memory", b"\n"]),
     }
 }

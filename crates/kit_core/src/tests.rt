@@ -1,4 +1,6 @@
 // The command line, from its words to the status, the files and what is put.
+ghost use Rattle.std.specs.Prelude.{◌<◌};
+
 use crate::kit;
 use kit_base::{FilesInMemory, Name, Seq, SinkInMemory};
 use std::alloc::Global;
@@ -16,6 +18,12 @@ const CART: &str = "4b49542d4341525401000000980000000300000000000000000000006865
     0000000000000000000000000000000000000000000000000000000000000000000000000000000000000000000000\
     5633322d5642494e0300000002020062ff00000000000000";
 
+/// The cartridge of `CART` in its second revision, with an empty line table.
+const SECOND: &str = "4b49542d4341525402000000a800000003000000000000000000000068656c6c6f\
+    000000000000000000000000000000000000000000000000000000000000000000000000000000000000000000000000\
+    0000000000000000000000000000000000000000000000000000000000000000000000000000000000000000000000\
+    5633322d5642494e0300000002020062ff000000000000004b49542d4c494e450000000000000000";
+
 const MAP: &str = "636f646520330a6672616d65206d61696e203078323030303030303020300a";
 
 /// What a command answered, left and put.
@@ -26,8 +34,28 @@ struct Ran {
     out: SinkInMemory,
 }
 
-/// The command of these words, parted by spaces, where these texts are held. The calls of these
+/// The command of these words, parted by spaces, where these files are held. The calls of these
 /// numbers fail.
+fn run_over(
+    rt: &impl Abort,
+    alloc: Global,
+    words: &str,
+    held: Vec<(Name, Seq<u8>)>,
+    failing_files: Vec<u32>,
+    failing_puts: Vec<u32>,
+) -> Result<Ran, Fail> {
+    let mut owned = Vec::new(alloc);
+    for word in words.split(' ') {
+        owned.push(String::from_str(alloc, word)?)?;
+    }
+    assert!(rt; FilesInMemory::are_distinct(&held));
+    let mut files = FilesInMemory::new(alloc, held, failing_files);
+    let mut out = SinkInMemory::new(alloc, failing_puts);
+    let status = kit(alloc, &owned, &mut files, &mut out);
+    Ok(Ran { status, files, out })
+}
+
+/// The same where these texts are held.
 fn run(
     rt: &impl Abort,
     alloc: Global,
@@ -37,10 +65,6 @@ fn run(
     failing_files: Vec<u32>,
     failing_puts: Vec<u32>,
 ) -> Result<Ran, Fail> {
-    let mut owned = Vec::new(alloc);
-    for word in words.split(' ') {
-        owned.push(String::from_str(alloc, word)?)?;
-    }
     let mut held = Vec::new(alloc);
     for (name, text) in [("hello.project", project), ("hello.c", source)] {
         if let Some(text) = text {
@@ -48,11 +72,28 @@ fn run(
             held.push((Name::new(alloc, name)?, Seq::from_vec(bytes)))?;
         }
     }
-    assert!(rt; FilesInMemory::are_distinct(&held));
-    let mut files = FilesInMemory::new(alloc, held, failing_files);
-    let mut out = SinkInMemory::new(alloc, failing_puts);
-    let status = kit(alloc, &owned, &mut files, &mut out);
-    Ok(Ran { status, files, out })
+    run_over(rt, alloc, words, held, failing_files, failing_puts)
+}
+
+fn digit_value(digit: u8) -> u8
+    ensures { result < 16 }
+{
+    match digit {
+        b'0'..=b'9' => digit - b'0',
+        b'a'..=b'f' => digit - b'a' + 10,
+        _ => 0,
+    }
+}
+
+/// The bytes of a text of hexadecimal digits.
+fn bytes_from(alloc: Global, digits: &str) -> Result<Vec<u8>, Fail> {
+    let mut bytes = Vec::new(alloc);
+    for pair in digits.as_bytes().chunks(2) {
+        if let [high, low] = pair {
+            bytes.push(digit_value(*high) * 16 + digit_value(*low))?;
+        }
+    }
+    Ok(bytes)
 }
 
 /// The bytes of a file in hexadecimal, or `none`.
@@ -140,7 +181,7 @@ fn refusals_have_their_status_and_line_and_change_no_file(rt: HostRuntime) -> Re
             one_line,
             SOURCE,
             6,
-            "bad data 94 in hello.project at 1\n",
+            "bad data 91 in hello.project at 2\n",
         ),
     ];
     for (words, project, source, status, line) in rows {
@@ -195,6 +236,31 @@ fn a_line_that_the_sink_refuses_gives_9(rt: HostRuntime) -> Result<(), Fail> {
         let ran = run(&rt, alloc, BUILD, project, SOURCE, Vec::new(alloc), failing)?;
         assert_eq!(rt; ran.status, status);
         assert_eq!(rt; ran.out.written(), b"".as_slice());
+    }
+    Ok(())
+}
+
+#[test]
+fn a_cartridge_is_migrated_and_stays_so(rt: HostRuntime) -> Result<(), Fail> {
+    let alloc = rt.alloc();
+    let cut = CART.len() - 2;
+    let rows = [
+        ("migrate old new", CART, 0, "", SECOND),
+        ("migrate old new", SECOND, 0, "", SECOND),
+        ("migrate old", CART, 1, "usage error\n", "none"),
+        ("migrate gone new", CART, 4, "missing gone\n", "none"),
+        ("migrate old new", &CART[..cut], 6, "bad data 81 in old\n", "none"),
+    ];
+    for (words, old, status, line, new) in rows {
+        let bytes = bytes_from(alloc, old)?;
+        let mut held = Vec::new(alloc);
+        held.push((Name::new(alloc, "old")?, Seq::from_vec(bytes)))?;
+        let none = (Vec::new(alloc), Vec::new(alloc));
+        let ran = run_over(&rt, alloc, words, held, none.0, none.1)?;
+        assert_eq!(rt; ran.status, status, "{words}: {line}");
+        assert_eq!(rt; ran.out.written(), line.as_bytes());
+        assert_eq!(rt; bytes_of(alloc, &ran.files, "old")?.as_str(), old);
+        assert_eq!(rt; bytes_of(alloc, &ran.files, "new")?.as_str(), new);
     }
     Ok(())
 }

@@ -2,15 +2,17 @@
 ghost use Rattle.std.specs.Prelude.{◌≡◌, ◌≢◌, ◌≤◌, ◌⊎◌, ℕ, IfSome, IsErr};
 ghost use Rattle.kit_base.specs.Counts.{Rose};
 ghost use Rattle.kit_core.specs.Carrying.{Leaves, Puts, Shows};
-ghost use Rattle.kit_core.specs.Causes.{HasCauses, HasOnlyRisen, IsUnrisen};
+ghost use Rattle.kit_core.specs.Causes.{HasCausesOr, HasOnlyRisen, IsUnrisen};
 ghost use Rattle.kit_core.specs.Command.{texts};
 ghost use Rattle.kit_core.specs.Due.{command_due, reads_due};
 ghost use Rattle.kit_core.specs.Headline.{BuildStands};
+ghost use Rattle.kit_core.specs.Limits.{IsOver};
 ghost use Rattle.kit_core.specs.Outcome.{IsOutcome, status_due};
 ghost use Rattle.kit_core.specs.Refusal.{IsStatus, line_of, status_of};
 
 use crate::building::build_command;
 use crate::command::{Command, command_of};
+use crate::migrating::migrate_command;
 use crate::refusal::{Refusal, line_of, status_of};
 use build_core::cartridge_does_what_its_source_means;
 use kit_base::{Files, Sink, SinkErr};
@@ -63,13 +65,14 @@ fn finish<S: Sink>(out: &mut S, text: &[u8]) -> u8
 /// Carries out the command of these words, up to its text.
 fn carry_out<F: Files>(alloc: Global, words: &[String], files: &mut F) -> Result<Vec<u8>, Refusal>
     ensures told { IfSome (F.held files.old) (λ m. Leaves result (command_due (texts words.now) m) (reads_due (texts words.now) m) m (F.held files.new)) }
-    ensures causes { HasCauses result (F.faults files.old) (F.faults files.new) (F.misses files.old) (F.misses files.new) (F.overs files.old) (F.overs files.new) }
+    ensures causes { HasCausesOr (IsOver (texts words.now) (F.held files.old)) result (F.faults files.old) (F.faults files.new) (F.misses files.old) (F.misses files.new) (F.overs files.old) (F.overs files.new) }
 {
     match command_of(words) {
         None => Err(Refusal::Usage),
         Some(Command::Build { project, cart, map }) => {
             build_command(alloc, files, project, cart, map)
         }
+        Some(Command::Migrate { cart, migrated }) => migrate_command(alloc, files, cart, migrated),
     }
 }
 
@@ -78,7 +81,7 @@ fn status_for<F: Files, S: Sink>(alloc: Global, words: &[String], files: &mut F,
     ensures told { IfSome (F.held files.old) (λ m. IsOutcome (texts words.now) m result (F.held files.new) (S.written out.old) (S.written out.new)) }
     ensures missing { result ≡ 4 → Rose (F.misses files.old) (F.misses files.new) }
     ensures failed { result ≡ 5 → Rose (F.faults files.old) (F.faults files.new) }
-    ensures limit { result ≡ 7 → Rose (F.overs files.old) (F.overs files.new) }
+    ensures limit { result ≡ 7 → Rose (F.overs files.old) (F.overs files.new) ⊎ IsOver (texts words.now) (F.held files.old) }
     ensures unput { result ≡ 9 → Rose (S.faults out.old) (S.faults out.new) }
     ensures later { HasOnlyRisen (F.faults files.old) (F.faults files.new) (F.misses files.old) (F.misses files.new) (F.overs files.old) (F.overs files.new) (S.faults out.old) (S.faults out.new) }
     ensures status { IsStatus result }
@@ -91,8 +94,9 @@ fn status_for<F: Files, S: Sink>(alloc: Global, words: &[String], files: &mut F,
 
 /// Carries out the command of these words, those after the program's own name, and answers the exit
 /// status: 0 all was done, 1 the words are no listed form, 2 the sources give no program, 4 a file
-/// is missing, 5 a call of the files failed, 6 a file is not of its grammar, 7 a file is over
-/// 268,435,456 bytes, 8 memory ran out, 9 the sink failed. On 1 to 8 a line is put that says so.
+/// is missing, 5 a call of the files failed, 6 a file is not of its grammar, 7 a file, or a
+/// cartridge that is to be written, is over 268,435,456 bytes, 8 memory ran out, 9 the sink failed.
+/// On 1 to 8 a line is put that says so.
 pub fn kit<F: Files, S: Sink>(alloc: Global, words: &[String], files: &mut F, out: &mut S) -> u8
     // Where it is told what is held, the status, what is held after and what was put are those of
     // the command.
@@ -104,10 +108,11 @@ pub fn kit<F: Files, S: Sink>(alloc: Global, words: &[String], files: &mut F, ou
     // Where no call failed, the status is the one that is due, or 8.
     ensures complete { IfSome (F.held files.old) (λ m. IsUnrisen (F.faults files.old) (F.faults files.new) → IsUnrisen (S.faults out.old) (S.faults out.new)
         → (result ≡ status_due (command_due (texts words.now) m)) ⊎ (result ≡ 8)) }
-    // Refusals by the outside come only where a count rose.
+    // Refusals by the outside come only where a count rose, one of a limit also where the command
+    // itself is over it.
     ensures missing { result ≡ 4 → Rose (F.misses files.old) (F.misses files.new) }
     ensures failed { result ≡ 5 → Rose (F.faults files.old) (F.faults files.new) }
-    ensures limit { result ≡ 7 → Rose (F.overs files.old) (F.overs files.new) }
+    ensures limit { result ≡ 7 → Rose (F.overs files.old) (F.overs files.new) ⊎ IsOver (texts words.now) (F.held files.old) }
     ensures unput { result ≡ 9 → Rose (S.faults out.old) (S.faults out.new) }
     ensures later { HasOnlyRisen (F.faults files.old) (F.faults files.new) (F.misses files.old) (F.misses files.new) (F.overs files.old) (F.overs files.new) (S.faults out.old) (S.faults out.new) }
     ensures status { IsStatus result }

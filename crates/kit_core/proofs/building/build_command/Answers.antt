@@ -3,9 +3,10 @@ use Rattle.std.specs.Prelude.{Option, IfSome, Result, Err, Vec}
 use Rattle.std.specs.declared.alloc.Global.{Global}
 use Rattle.kit_base.specs.Held.{Held}
 use Rattle.build_core.specs.declared.building.Built.{Built}
-use Rattle.build_core.specs.Build.{built_of, reads_of}
+use Rattle.build_core.specs.Due.{built_of, reads_of}
 use Rattle.kit_core.specs.declared.refusal.Refusal.{Refusal}
-use Rattle.kit_core.specs.Due.{or_refused, unbuilt, build_due, build_reads}
+use Rattle.kit_core.specs.Inputs.{or_refused}
+use Rattle.kit_core.specs.Due.{unbuilt, build_due, build_reads}
 use Rattle.kit_core.specs.Carrying.{GivesBy, FailsAt, Leaves}
 use Rattle.kit_core.proofs.Stages.{WasBuilt, left_unbuilt, left_done, left_cut}
 use Rattle.kit_core.proofs.building.build_command.Goals as goal
@@ -19,7 +20,7 @@ pub returns-in_err-built-clause-told : goal.returns-in_err-built-clause-told
 returns-in_err-built-clause-told g c =
     let is : c.from_residual-in_err-built.result ≡ Err c.in_err-built.field-0.0 = search rules in
     let given : IfSome (g.F.Reads.held c.read_file.new.files) (λ m. GivesBy (λ (b : Built). b) (Err c.in_err-built.field-0.0) (or_refused (unbuilt c.args.project.now) (built_of m c.in_ok-text.text.items))) = search rules in
-    let at : FailsAt (reads_of c.in_ok-text.text.items) c.in_err-built.field-0.0 = search rules in
+    let at : IfSome (g.F.Reads.held c.read_file.new.files) (λ m. FailsAt (reads_of m c.in_ok-text.text.items) c.in_err-built.field-0.0) = search rules in
     subst (At c.args.project.now c.args.cart.now c.args.map.now (g.F.Reads.held c.args.files.now) (g.F.Reads.held c.build_text.new.files)) (sym is)
     (left_unbuilt c.args.project.now c.args.cart.now c.args.map.now c.in_ok-text.text.items c.in_err-built.field-0.0 _ (g.F.Reads.held c.read_file.new.files) _
     c.in_ok-text.ensures.told c.in_ok-text.ensures.held given at c.in_err-built.ensures.held)

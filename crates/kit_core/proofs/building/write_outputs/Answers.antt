@@ -1,7 +1,7 @@
 use Rattle.std.proofs.Common.{rules, ◌≡◌}
 use Rattle.std.specs.Prelude.{IfErr}
 use Rattle.kit_base.specs.Effects.{written_file}
-use Rattle.build_core.specs.Map.{map_text}
+use Rattle.project_text.specs.MapText.{map_text}
 use Rattle.kit_core.specs.declared.refusal.Refusal.TheVariants as refusals
 use Rattle.kit_core.specs.Carrying.{IsCut}
 use Rattle.kit_core.proofs.Cutting.{not_begun_if, in_first_if, in_second_if}

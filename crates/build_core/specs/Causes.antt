@@ -1,0 +1,128 @@
+-- Which refusals of a build can come, and why.
+use Rattle.std.specs.Prelude.{ℕ, ◌≡◌, ◌≤◌, ◌<◌, ◌⊎◌, List, [], ◌∷◌, ◌++◌, length, Some, None, Result, Ok, Err, Contains, codes}
+use Rattle.kit_base.specs.Counts.{Rose}
+use Rattle.asset_pack.specs.declared.error.AssetErr.{AssetErr}
+use Rattle.asset_pack.specs.declared.error.AssetErr.TheVariants as asset_errors
+use Rattle.asset_pack.specs.Texts.{Image}
+use Rattle.cart_format.specs.Cartridge.{Cartridge, total}
+use Rattle.project_text.specs.declared.error.ProjectErr.{ProjectErr}
+use Rattle.project_text.specs.declared.error.ProjectErr.TheVariants as project_errors
+use Rattle.project_text.specs.declared.project.Project.{Project}
+use Rattle.project_text.specs.ProjectText.{IsProject}
+use Rattle.project_text.specs.Reading.{project_of}
+use Rattle.build_core.specs.declared.error.BuildErr.{BuildErr}
+use Rattle.build_core.specs.declared.error.BuildErr.TheVariants as errors
+use Rattle.build_core.specs.declared.straight.Statement.{Statement}
+use Rattle.build_core.specs.Program.{code_of}
+use Rattle.build_core.specs.Due.{first_revision}
+
+-- the files of textures and sounds that the text names
+abbrev pub assets_in : Result Project ProjectErr → List (List ℕ)
+assets_in (Ok p) = p.textures ++ p.sounds
+assets_in (Err e) = []
+
+-- all files that it names
+abbrev pub files_in : Result Project ProjectErr → List (List ℕ)
+files_in (Ok p) = p.source ∷ (p.textures ++ p.sounds)
+files_in (Err e) = []
+
+abbrev pub assets_of : List ℕ → List (List ℕ)
+assets_of project = assets_in (project_of project)
+
+abbrev pub files_of : List ℕ → List (List ℕ)
+files_of project = files_in (project_of project)
+
+-- The refusals that can come: 15 in line 1 of the source, 90 to 93 at the first faulty line of the
+-- project's text, 70 to 73 of a texture or a sound that it names, and those of the files, of the
+-- cartridge's size and of memory.
+abbrev pub CanCome : List ℕ → BuildErr → Type 0
+CanCome project (errors.Source code file line) = (code ≡ 15) × ((p : Project) × (project_of project ≡ Ok p) × (file ≡ p.source)) × (line ≡ 1)
+CanCome project (errors.Bad code name (Some line)) = (name ≡ codes "project") × (project_of project ≡ Err (project_errors.At code line))
+CanCome project (errors.Bad code name None) = (70 ≤ code) × (code ≤ 73) × Contains (assets_of project) name
+CanCome project e = Unit {0}
+
+-- a refusal of the files names one of these, unless it is that of the cartridge's size
+abbrev pub NamesOneOf : List (List ℕ) → BuildErr → Type 0
+NamesOneOf names (errors.Missing name) = Contains names name
+NamesOneOf names (errors.Failed name) = Contains names name
+NamesOneOf names (errors.Limit name) = Contains names name ⊎ (name ≡ codes "cartridge")
+NamesOneOf names e = Unit {0}
+
+-- The cartridge of a project can be too large: with a straight source's program and some textures
+-- and sounds, one for each that the project names, it has over 268,435,456 bytes.
+pub record CanBeTooLarge (project : List ℕ) : Type 0 where
+  pub parts : Project
+  pub project_is : IsProject project parts
+  pub statements : List Statement
+  pub few : length statements ≤ 1000
+  pub textures : List Image
+  pub sounds : List (List ℕ)
+  pub each_texture : length textures ≡ length parts.textures
+  pub each_sound : length sounds ≡ length parts.sounds
+  pub large : 268435456 < total (first_revision parts.title (code_of statements) textures sounds)
+
+-- a refusal of the files comes only where its count rose, that of a size also where it was too large
+abbrev pub Cause : {T : Type 0} → (List ℕ → Type 0) → Result T BuildErr → (faults faults' misses misses' overs overs' : ℕ) → Type 0
+Cause TooLarge (Err (errors.Missing n)) f f' m m' o o' = Rose m m'
+Cause TooLarge (Err (errors.Failed n)) f f' m m' o o' = Rose f f'
+Cause TooLarge (Err (errors.Limit n)) f f' m m' o o' = Rose o o' ⊎ TooLarge n
+Cause TooLarge r f f' m m' o o' = Unit {0}
+
+-- no count falls, and each refusal of the files has its cause
+pub record HasCausesOr {T : Type 0} (TooLarge : List ℕ → Type 0) (r : Result T BuildErr) (faults faults' misses misses' overs overs' : ℕ) : Type 0 where
+  pub faults_later : faults ≤ faults'
+  pub misses_later : misses ≤ misses'
+  pub overs_later : overs ≤ overs'
+  pub cause : Cause TooLarge r faults faults' misses misses' overs overs'
+
+-- what is too large is called the cartridge
+abbrev pub IsCartridgeTooLarge : List ℕ → List ℕ → Type 0
+IsCartridgeTooLarge project name = (name ≡ codes "cartridge") × CanBeTooLarge project
+
+-- the causes of a build, and those of its reads
+abbrev pub HasCauses : {T : Type 0} → List ℕ → Result T BuildErr → (faults faults' misses misses' overs overs' : ℕ) → Type 0
+HasCauses project r f f' m m' o o' = HasCausesOr (IsCartridgeTooLarge project) r f f' m m' o o'
+
+abbrev pub HasReadCauses : {T : Type 0} → Result T BuildErr → (faults faults' misses misses' overs overs' : ℕ) → Type 0
+HasReadCauses r f f' m m' o o' = HasCausesOr (λ name. ⊥) r f f' m m' o o'
+
+-- the refusals of reading a file, of a source, of a texture or a sound, of several, and of packing
+abbrev pub IsOfReading : List ℕ → BuildErr → Type 0
+IsOfReading file (errors.Missing name) = name ≡ file
+IsOfReading file (errors.Failed name) = name ≡ file
+IsOfReading file (errors.Limit name) = name ≡ file
+IsOfReading file errors.Memory = Unit {0}
+IsOfReading file e = ⊥
+
+abbrev pub IsOfSource : List ℕ → BuildErr → Type 0
+IsOfSource source (errors.Source code file line) = (code ≡ 15) × (file ≡ source) × (line ≡ 1)
+IsOfSource source e = IsOfReading source e
+
+-- a refusal of what a file says, or of memory
+abbrev pub IsOfContent : BuildErr → Type 0
+IsOfContent (errors.Missing name) = ⊥
+IsOfContent (errors.Failed name) = ⊥
+IsOfContent (errors.Limit name) = ⊥
+IsOfContent e = Unit {0}
+
+abbrev pub IsOfTesting : AssetErr → Type 0
+IsOfTesting asset_errors.Memory = Unit {0}
+IsOfTesting (asset_errors.At code) = (70 ≤ code) × (code ≤ 73)
+
+abbrev pub IsOfAsset : List ℕ → BuildErr → Type 0
+IsOfAsset file (errors.Bad code name None) = (70 ≤ code) × (code ≤ 73) × (name ≡ file)
+IsOfAsset file e = IsOfReading file e
+
+abbrev pub IsOfAssets : List (List ℕ) → BuildErr → Type 0
+IsOfAssets files (errors.Source code file line) = ⊥
+IsOfAssets files (errors.Bad code name (Some line)) = ⊥
+IsOfAssets files (errors.Bad code name None) = (70 ≤ code) × (code ≤ 73) × Contains files name
+IsOfAssets files (errors.Missing name) = Contains files name
+IsOfAssets files (errors.Failed name) = Contains files name
+IsOfAssets files (errors.Limit name) = Contains files name
+IsOfAssets files errors.Memory = Unit {0}
+
+abbrev pub IsOfPacking : Cartridge → BuildErr → Type 0
+IsOfPacking c (errors.Limit name) = (name ≡ codes "cartridge") × (268435456 < total c)
+IsOfPacking c errors.Memory = Unit {0}
+IsOfPacking c e = ⊥

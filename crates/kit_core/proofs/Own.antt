@@ -1,0 +1,80 @@
+-- Refusals that no call of the files gave, and limits that a command itself finds passed.
+use Rattle.std.proofs.Common.{ℕ, ◌≡◌, ◌⊎◌, ◌∙◌, sym, arith, List, inl, inr}
+use Rattle.std.specs.Prelude.{Option, Result, Ok, Err, Vec}
+use Rattle.std.specs.declared.alloc.Global.{Global}
+use Rattle.kit_base.specs.Counts.{Rose}
+use Rattle.kit_core.specs.Refusal.{status_of}
+use Rattle.kit_core.specs.declared.refusal.Refusal.{Refusal}
+use Rattle.kit_core.specs.declared.refusal.Refusal.TheVariants as refusals
+use Rattle.kit_core.specs.Carrying.{FailsAt, Shows}
+use Rattle.kit_core.specs.Causes.{HasCause, HasRisen, HasCausesOr, IsOwn}
+
+pub own_fails : (O : Type 0) (names : List (List ℕ)) (e : Refusal) → IsOwn O e → FailsAt names e
+own_fails O names refusals.Usage own = tt
+own_fails O names (refusals.Source c f l) own = tt
+own_fails O names (refusals.Missing n) own = absurd own
+own_fails O names (refusals.Failed n) own = absurd own
+own_fails O names (refusals.Bad c n l) own = tt
+own_fails O names (refusals.Limit n) own = absurd own
+own_fails O names (refusals.OutOfRange w) own = tt
+own_fails O names refusals.LongCartridge own = tt
+own_fails O names refusals.Memory own = tt
+
+pub own_cause : (O P : Type 0) (e : Refusal) (faults faults' misses misses' overs overs' : ℕ) → (O → P) → IsOwn O e
+    → HasCause P e faults faults' misses misses' overs overs'
+own_cause O P refusals.Usage f f' m m' o o' over own = tt
+own_cause O P (refusals.Source c l k) f f' m m' o o' over own = tt
+own_cause O P (refusals.Missing n) f f' m m' o o' over own = absurd own
+own_cause O P (refusals.Failed n) f f' m m' o o' over own = absurd own
+own_cause O P (refusals.Bad c n l) f f' m m' o o' over own = tt
+own_cause O P (refusals.Limit n) f f' m m' o o' over own = absurd own
+own_cause O P (refusals.OutOfRange w) f f' m m' o o' over own = over own
+own_cause O P refusals.LongCartridge f f' m m' o o' over own = over own
+own_cause O P refusals.Memory f f' m m' o o' over own = tt
+
+pub wider : (O P : Type 0) (e : Refusal) (faults faults' misses misses' overs overs' : ℕ) → (O → P) → HasCause O e faults faults' misses misses' overs overs'
+    → HasCause P e faults faults' misses misses' overs overs'
+wider O P refusals.Usage f f' m m' o o' over h = tt
+wider O P (refusals.Source c l k) f f' m m' o o' over h = tt
+wider O P (refusals.Missing n) f f' m m' o o' over h = h
+wider O P (refusals.Failed n) f f' m m' o o' over h = h
+wider O P (refusals.Bad c n l) f f' m m' o o' over h = tt
+wider O P (refusals.Limit n) f f' m m' o o' over (inl h) = inl h
+wider O P (refusals.Limit n) f f' m m' o o' over (inr h) = inr (over h)
+wider O P (refusals.OutOfRange w) f f' m m' o o' over h = over h
+wider O P refusals.LongCartridge f f' m m' o o' over h = over h
+wider O P refusals.Memory f f' m m' o o' over h = tt
+
+wider_risen : {T : Type 0} (O P : Type 0) (r : Result T Refusal) (faults faults' misses misses' overs overs' : ℕ) → (O → P) → HasRisen O r faults faults' misses misses' overs overs'
+    → HasRisen P r faults faults' misses misses' overs overs'
+wider_risen O P (Ok x) f f' m m' o o' over h = tt
+wider_risen O P (Err e) f f' m m' o o' over h = wider O P e f f' m m' o o' over h
+
+-- causes with a wider reason for what is over a limit
+pub wider_causes : {T : Type 0} (O P : Type 0) (r : Result T Refusal) (faults faults' misses misses' overs overs' : ℕ) → (O → P)
+    → HasCausesOr O r faults faults' misses misses' overs overs' → HasCausesOr P r faults faults' misses misses' overs overs'
+wider_causes O P r f f' m m' o o' over h =
+    record { faults_later = h.faults_later; misses_later = h.misses_later; overs_later = h.overs_later; risen = wider_risen O P r f f' m m' o o' over h.risen }
+
+shown_seven : (status_whole status : ℕ) (whole : List ℕ) (before put : Option (List ℕ)) → Shows status_whole whole status before put → status ≡ 7 → status_whole ≡ 7
+shown_seven s status whole before put (inl h) seven = sym h.0 ∙ seven
+shown_seven s status whole before put (inr h) seven = elim h.0 [ inl eight ↦ absurd (omega arith) | inr nine ↦ absurd (omega arith) ]
+
+reason : (O : Type 0) (e : Refusal) (faults faults' misses misses' overs overs' : ℕ) → HasCause O e faults faults' misses misses' overs overs' → status_of e ≡ 7
+    → Rose overs overs' ⊎ O
+reason O refusals.Usage f f' m m' o o' cause seven = absurd (omega arith)
+reason O (refusals.Source c l k) f f' m m' o o' cause seven = absurd (omega arith)
+reason O (refusals.Missing n) f f' m m' o o' cause seven = absurd (omega arith)
+reason O (refusals.Failed n) f f' m m' o o' cause seven = absurd (omega arith)
+reason O (refusals.Bad c n l) f f' m m' o o' cause seven = absurd (omega arith)
+reason O (refusals.Limit n) f f' m m' o o' cause seven = cause
+reason O (refusals.OutOfRange w) f f' m m' o o' cause seven = inr cause
+reason O refusals.LongCartridge f f' m m' o o' cause seven = inr cause
+reason O refusals.Memory f f' m m' o o' cause seven = absurd (omega arith)
+
+-- why a refusal ends with the status 7
+pub limit_reason : (O : Type 0) (e : Refusal) (faults faults' misses misses' overs overs' status : ℕ) (whole : List ℕ) (before put : Option (List ℕ))
+    → HasCausesOr {T = Vec ℕ Global} O (Err e) faults faults' misses misses' overs overs' → Shows (status_of e) whole status before put → status ≡ 7
+    → Rose overs overs' ⊎ O
+limit_reason O e f f' m m' o o' status whole before put causes shows seven =
+    reason O e f f' m m' o o' causes.risen (shown_seven (status_of e) status whole before put shows seven)

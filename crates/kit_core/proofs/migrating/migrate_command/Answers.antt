@@ -1,0 +1,22 @@
+use Rattle.std.proofs.Common.{rules, ◌≡◌, [], ◌∷◌, sym, subst}
+use Rattle.std.specs.Prelude.{IfSome, Err}
+use Rattle.kit_base.specs.Effects.{all_done, written_file}
+use Rattle.kit_core.specs.Due.{migrate_due}
+use Rattle.kit_core.specs.Carrying.{IsCut, Leaves}
+use Rattle.kit_core.proofs.Migrations.{migration_cut, migration_done}
+use Rattle.kit_core.proofs.migrating.migrate_command.Goals as goal
+
+pub returns-in_err-write_output-clause-told : goal.returns-in_err-write_output-clause-told
+returns-in_err-write_output-clause-told g c =
+    let is : c.from_residual-in_err-write_output.result ≡ Err c.in_err-write_output.field-0.0 = search rules in
+    let is_cut : IsCut c.in_err-write_output.field-0.0 (written_file c.args.migrated.now c.in_ok-bytes.bytes.items) (g.F.Reads.held c.migrated_text.new.files) (g.F.Reads.held c.write_output.new.files) = search rules in
+    subst (λ r. IfSome (g.F.Reads.held c.args.files.now) (λ m. Leaves r (migrate_due c.args.cart.now c.args.migrated.now m) (c.args.cart.now ∷ []) m (g.F.Reads.held c.write_output.new.files))) (sym is)
+    (migration_cut c.args.cart.now c.args.migrated.now c.in_ok-bytes.bytes.items c.in_err-write_output.field-0.0 _ (g.F.Reads.held c.migrated_text.new.files) _
+    c.in_ok-bytes.ensures.told c.in_ok-bytes.ensures.held is_cut)
+
+pub returns-clause-told : goal.returns-clause-told
+returns-clause-told g c =
+    let empty : c.new.result.items ≡ [] = search rules in
+    let done : g.F.Reads.held c.write_output.new.files ≡ all_done (written_file c.args.migrated.now c.in_ok-bytes.bytes.items) (g.F.Reads.held c.migrated_text.new.files) = search rules in
+    migration_done c.args.cart.now c.args.migrated.now c.in_ok-bytes.bytes.items c.new.result _ (g.F.Reads.held c.migrated_text.new.files) _
+    empty c.in_ok-bytes.ensures.told c.in_ok-bytes.ensures.held done

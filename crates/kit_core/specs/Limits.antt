@@ -1,0 +1,39 @@
+-- What a command itself finds over a limit, beside the length of a file that it reads.
+use Rattle.std.specs.Prelude.{ℕ, ◌≡◌, ◌<◌, ◌⊎◌, List, Option, Some, Ok, IfSome}
+use Rattle.kit_base.specs.Held.{Held}
+use Rattle.kit_base.specs.Outside.{due}
+use Rattle.build_core.specs.Causes.{CanBeTooLarge}
+use Rattle.cart_format.specs.Cartridge.{Cartridge, total}
+use Rattle.kit_core.specs.Command.{Build, Migrate, command_of}
+use Rattle.kit_core.specs.Inputs.{cart_due}
+use Rattle.kit_core.specs.Migration.{in_second}
+
+-- the file's cartridge would be too long in its second revision
+pub record IsLong (cart : List ℕ) (held : Option Held) : Type 0 where
+  pub value : Cartridge
+  pub read : IfSome held (λ m. cart_due cart m ≡ Ok value)
+  pub over : 268435456 < total (in_second value)
+
+-- the words are a migration of such a file
+pub record MigratesLong (words : List (List ℕ)) (held : Option Held) : Type 0 where
+  pub cart : List ℕ
+  pub migrated : List ℕ
+  pub named : command_of words ≡ Some (Migrate cart migrated)
+  pub long : IsLong cart held
+
+-- the project's cartridge can be too large: with some textures and sounds, one for each that it names
+pub record IsLarge (project : List ℕ) (held : Option Held) : Type 0 where
+  pub text : List ℕ
+  pub read : IfSome held (λ m. due m project ≡ Ok text)
+  pub over : CanBeTooLarge text
+
+-- the words are a build of such a project
+pub record BuildsLarge (words : List (List ℕ)) (held : Option Held) : Type 0 where
+  pub project : List ℕ
+  pub cart : List ℕ
+  pub map_name : List ℕ
+  pub named : command_of words ≡ Some (Build project cart map_name)
+  pub large : IsLarge project held
+
+abbrev pub IsOver : List (List ℕ) → Option Held → Type 0
+IsOver words held = MigratesLong words held ⊎ BuildsLarge words held

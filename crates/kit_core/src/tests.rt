@@ -249,7 +249,13 @@ fn a_cartridge_is_migrated_and_stays_so(rt: HostRuntime) -> Result<(), Fail> {
         ("migrate old new", SECOND, 0, "", SECOND),
         ("migrate old", CART, 1, "usage error\n", "none"),
         ("migrate gone new", CART, 4, "missing gone\n", "none"),
-        ("migrate old new", &CART[..cut], 6, "bad data 81 in old\n", "none"),
+        (
+            "migrate old new",
+            &CART[..cut],
+            6,
+            "bad data 81 in old\n",
+            "none",
+        ),
     ];
     for (words, old, status, line, new) in rows {
         let bytes = bytes_from(alloc, old)?;

@@ -7,9 +7,9 @@ ghost use Rattle.project_text.specs.Reading.{Gives, Adds, project_of};
 
 use crate::entry::{Entry, entry_of};
 use crate::error::ProjectErr;
-use line_text::first_line;
 use crate::project::Project;
 use kit_base::{Name, Seq};
+use line_text::first_line;
 use std::alloc::Global;
 use std::marker::Model;
 

@@ -14,10 +14,10 @@ use Rattle.project_text.specs.MapText.{map_text}
 use Rattle.kit_core.specs.declared.refusal.Refusal.{Refusal}
 use Rattle.kit_core.specs.declared.refusal.Refusal.TheVariants as refusals
 use Rattle.kit_core.specs.Refusal.{status_of}
-use Rattle.kit_core.specs.Command.{Build, is_word, build_form, migrate_form, command_of}
+use Rattle.kit_core.specs.Command.{Build, Trace, is_word, is_number, card_of, build_form, migrate_form, trace_form, form_of, form_with, command_of}
 use Rattle.kit_core.specs.Inputs.{◌>>=◌, or_refused, or_usage, unread}
 use Rattle.kit_core.specs.Due.{Work, unbuilt, outputs_of, build_due, work_due}
-use Rattle.kit_core.specs.Outcome.{EndsAs, Done, Refused, FileFault, OutOfMemory, SinkFault, IsOutcome}
+use Rattle.kit_core.specs.Outcome.{putting, EndsAs, Done, Refused, FileFault, OutOfMemory, SinkFault, IsOutcome}
 use Rattle.kit_core.specs.Headline.{IsBuiltInto, BuildStands}
 use Rattle.kit_core.proofs.Stages.{refused_gave}
 use Rattle.kit_core.proofs.Writes.{get_written, get_unwritten}
@@ -46,19 +46,30 @@ by_migrate (a ∷ []) p c n h = absurd cc
 by_migrate (cart ∷ migrated ∷ []) p c n h = absurd cc
 by_migrate (a ∷ b ∷ d ∷ rest) p c n h = absurd cc
 
-by_form : (is_build is_migrate : Bool) (arguments : List (List ℕ)) (p c n : List ℕ)
-    → (if is_build then build_form arguments else (if is_migrate then migrate_form arguments else None)) ≡ Some (Build p c n) → bytes_eq c n ≡ false
-by_form true is_migrate arguments p c n h = by_arguments arguments p c n h
-by_form false true arguments p c n h = absurd (by_migrate arguments p c n h)
-by_form false false arguments p c n h = cc
+-- a trace is no build
+by_trace : (arguments : List (List ℕ)) (p c n : List ℕ) → trace_form arguments ≡ Some (Build p c n) → ⊥
+by_trace [] p c n h = absurd cc
+by_trace (a ∷ []) p c n h = absurd cc
+by_trace (a ∷ b ∷ []) p c n h = absurd cc
+by_trace (a ∷ b ∷ d ∷ []) p c n h = absurd cc
+by_trace (cart ∷ answers ∷ card ∷ steps ∷ []) p c n h = let named : Some (Trace cart answers (card_of card) steps) ≡ Some (Build p c n) = chosen (is_number steps) _ _ h in absurd cc
+by_trace (a ∷ b ∷ d ∷ e ∷ f ∷ rest) p c n h = absurd cc
+
+by_form : (is_build is_migrate is_trace : Bool) (arguments : List (List ℕ)) (p c n : List ℕ)
+    → (if is_build then build_form arguments else (if is_migrate then migrate_form arguments else (if is_trace then trace_form arguments else None))) ≡ Some (Build p c n) → bytes_eq c n ≡ false
+by_form true is_migrate is_trace arguments p c n h = by_arguments arguments p c n h
+by_form false true is_trace arguments p c n h = absurd (by_migrate arguments p c n h)
+by_form false false true arguments p c n h = absurd (by_trace arguments p c n h)
+by_form false false false arguments p c n h = cc
 
 created_differ : (words : List (List ℕ)) (p c n : List ℕ) → command_of words ≡ Some (Build p c n) → bytes_eq c n ≡ false
+unfolding form_of form_with
 created_differ [] p c n h = cc
 created_differ (name ∷ arguments) p c n h =
-    by_form (bytes_eq name (codes "build")) (bytes_eq name (codes "migrate")) arguments p c n (chosen (list_all is_word arguments) _ _ h)
+    by_form (bytes_eq name (codes "build")) (bytes_eq name (codes "migrate")) (bytes_eq name (codes "trace")) arguments p c n (chosen (list_all is_word arguments) _ _ h)
 
 -- the parts of a work that is due
-bind_ok : {A B : Type 0} (r : Result A Refusal) (f : A → Result B Refusal) (y : B) → (r >>= f) ≡ Ok y → (x : A) × (r ≡ Ok x) × (f x ≡ Ok y)
+pub bind_ok : {A B : Type 0} (r : Result A Refusal) (f : A → Result B Refusal) (y : B) → (r >>= f) ≡ Ok y → (x : A) × (r ≡ Ok x) × (f x ≡ Ok y)
 bind_ok (Ok x) f y e = (x, refl, e)
 bind_ok (Err d) f y e = cc
 
@@ -74,9 +85,9 @@ not_zero (refusals.OutOfRange n) h = omega arith
 not_zero refusals.LongCartridge h = omega arith
 not_zero refusals.Memory h = omega arith
 
-done_at_zero : (d : Result Work Refusal) (reads : List (List ℕ)) (m : Held) (status : ℕ) (after : Option Held) (before put : Option (List ℕ))
-    → EndsAs d reads m status after before put → status ≡ 0 → (work : Work) × (d ≡ Ok work) × (after ≡ all_done work.effects (Some m))
-done_at_zero d reads m status after before put (Done h) z = (h.work, h.is_due, h.files)
+pub done_at_zero : (d : Result Work Refusal) (reads : List (List ℕ)) (m : Held) (status : ℕ) (after : Option Held) (before put : Option (List ℕ))
+    → EndsAs d reads m status after before put → status ≡ 0 → (work : Work) × (d ≡ Ok work) × (after ≡ all_done work.effects (Some m)) × (put ≡ putting work.text before)
+done_at_zero d reads m status after before put (Done h) z = (h.work, h.is_due, h.files, h.text)
 done_at_zero d reads m status after before put (Refused h) z = absurd (not_zero h.refusal (sym h.status_is ∙ z))
 done_at_zero d reads m status after before put (FileFault h) z = absurd (omega (arith, h.status_is))
 done_at_zero d reads m status after before put (OutOfMemory s h) z = absurd (omega arith)

@@ -4,7 +4,9 @@ pub mod Showing
 pub mod Stages
 pub mod Seconds
 pub mod Own
+pub mod Numbers
 pub mod Migrations
 pub mod Outcomes
 pub mod Writes
 pub mod Headlines
+pub mod Traces

@@ -1,15 +1,15 @@
 -- From what a command left and what was put to its outcome.
 use Rattle.std.proofs.Common.{ℕ, ◌≡◌, ◌⊎◌, inl, inr, List, ◌++◌, take, refl, sym, ap, ◌∙◌, append-nil}
 use Rattle.std.proofs.Math.Seq.{take-length}
-use Rattle.std.specs.Prelude.{Option, Result, Ok, Vec, length}
-use Rattle.std.specs.declared.alloc.Global.{Global}
+use Rattle.std.specs.Prelude.{Option, Result, Ok, length}
 use Rattle.kit_base.specs.Held.{Held}
 use Rattle.kit_core.specs.declared.refusal.Refusal.{Refusal}
 use Rattle.kit_core.specs.declared.refusal.Refusal.TheVariants as refusals
 use Rattle.kit_core.specs.Refusal.{status_of, line_of}
 use Rattle.kit_core.specs.Due.{Work}
 use Rattle.kit_core.specs.Outcome.{putting, Comes, EndsAs, Done, Refused, FileFault, OutOfMemory, SinkFault, IsCutOff}
-use Rattle.kit_core.specs.Carrying.{Leaves, Shows}
+use Rattle.kit_core.specs.Carrying.{Leaves, Shows, text_of}
+use Rattle.kit_core.specs.declared.shown.Shown.{Shown}
 
 module _ (due : Result Work Refusal) (reads : List (List ℕ)) (m : Held) (status : ℕ) (after : Option Held) (before put : Option (List ℕ)) where
   -- memory ran out, or the sink failed
@@ -17,11 +17,11 @@ module _ (due : Result Work Refusal) (reads : List (List ℕ)) (m : Held) (statu
   cut_off (inl s) h = OutOfMemory s h
   cut_off (inr s) h = SinkFault s h
 
-  pub outcome_done : (v : Vec ℕ Global) → Leaves (Ok v) due reads m after → Shows 0 v.items status before put → EndsAs due reads m status after before put
+  pub outcome_done : (v : Shown) → Leaves (Ok v) due reads m after → Shows 0 (text_of v) status before put → EndsAs due reads m status after before put
   outcome_done v (work, is_due, files, text) (inl (s, p)) =
       Done (record { work = work; is_due = is_due; status_is = s; files = files; text = p ∙ ap (λ xs. putting xs before) text })
   outcome_done v left (inr (s, (count, line_count, p))) =
-      cut_off s (record { whole = v.items; shown = inl left; count = count; line_count = line_count; text = p })
+      cut_off s (record { whole = text_of v; shown = inl left; count = count; line_count = line_count; text = p })
 
   memory_line : (list : List ℕ) → putting list before ≡ putting (take (length list) list ++ take 0 list) before
   memory_line list = ap (λ xs. putting xs before) (sym (append-nil (take (length list) list) ∙ take-length list))

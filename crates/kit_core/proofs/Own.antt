@@ -1,7 +1,6 @@
 -- Refusals that no call of the files gave, and limits that a command itself finds passed.
 use Rattle.std.proofs.Common.{ℕ, ◌≡◌, ◌⊎◌, ◌∙◌, sym, arith, List, inl, inr}
-use Rattle.std.specs.Prelude.{Option, Result, Ok, Err, Vec}
-use Rattle.std.specs.declared.alloc.Global.{Global}
+use Rattle.std.specs.Prelude.{Option, Result, Ok, Err}
 use Rattle.kit_base.specs.Counts.{Rose}
 use Rattle.kit_core.specs.Refusal.{status_of}
 use Rattle.kit_core.specs.declared.refusal.Refusal.{Refusal}
@@ -73,8 +72,8 @@ reason O refusals.LongCartridge f f' m m' o o' cause seven = inr cause
 reason O refusals.Memory f f' m m' o o' cause seven = absurd (omega arith)
 
 -- why a refusal ends with the status 7
-pub limit_reason : (O : Type 0) (e : Refusal) (faults faults' misses misses' overs overs' status : ℕ) (whole : List ℕ) (before put : Option (List ℕ))
-    → HasCausesOr {T = Vec ℕ Global} O (Err e) faults faults' misses misses' overs overs' → Shows (status_of e) whole status before put → status ≡ 7
+pub limit_reason : {T : Type 0} (O : Type 0) (e : Refusal) (faults faults' misses misses' overs overs' status : ℕ) (whole : List ℕ) (before put : Option (List ℕ))
+    → HasCausesOr {T = T} O (Err e) faults faults' misses misses' overs overs' → Shows (status_of e) whole status before put → status ≡ 7
     → Rose overs overs' ⊎ O
-limit_reason O e f f' m m' o o' status whole before put causes shows seven =
+limit_reason {T} O e f f' m m' o o' status whole before put causes shows seven =
     reason O e f f' m m' o o' causes.risen (shown_seven (status_of e) status whole before put shows seven)

@@ -71,3 +71,7 @@ pub same_second : (c : Cartridge) (n : ℕ) (title program : List ℕ) (textures
     → n ≡ revision c.table → n ≢ 2 → title ≡ c.title → program ≡ c.program → textures ≡ c.textures → sounds ≡ c.sounds → files ≡ [] → rows ≡ []
     → record { title = title; program = program; textures = textures; sounds = sounds; table = Some (record { files = files; rows = rows }) } ≡ in_second c
 same_second c n title program textures sounds files rows r other a b d e f g = rw (a, b, d, e, f, g, empty_table c.table n r other) refl
+
+-- a cartridge's program
+pub has_program : (c : Cartridge) (program : List ℕ) → program ≡ c.program → is_cart c ≡ true → (0 < length program) × (length program ≤ 33554432)
+has_program c program same h = let l = limits c h in rw same (l.some, l.words)

@@ -1,7 +1,6 @@
 -- From the parts of a build to the whole.
-use Rattle.std.proofs.Common.{ℕ, suc, ◌≡◌, inl, inr, List, [], ◌∷◌, sym, ap, subst, ◌∙◌, arith}
-use Rattle.std.specs.Prelude.{Option, Some, None, Result, Ok, Err, IfSome, Contains, Vec}
-use Rattle.std.specs.declared.alloc.Global.{Global}
+use Rattle.std.proofs.Common.{ℕ, zero, suc, ◌≡◌, inl, inr, List, [], ◌∷◌, sym, ap, subst, ◌∙◌, arith}
+use Rattle.std.specs.Prelude.{Option, Some, None, Result, Ok, Err, IfSome, Contains}
 use Rattle.kit_base.specs.Held.{Held}
 use Rattle.kit_base.specs.Effects.{all_done}
 use Rattle.kit_base.specs.Outside.{due}
@@ -12,7 +11,8 @@ use Rattle.kit_core.specs.declared.refusal.Refusal.TheVariants as refusals
 use Rattle.kit_core.specs.Inputs.{◌>>=◌, or_refused, unread}
 use Rattle.kit_core.specs.Due.{Work, unbuilt, outputs_of, build_due, build_reads, reads_in}
 use Rattle.kit_core.specs.Outcome.{Comes}
-use Rattle.kit_core.specs.Carrying.{GivesBy, FailsAt, IsCut, Leaves}
+use Rattle.kit_core.specs.Carrying.{GivesBy, FailsAt, IsCut, Leaves, text_of}
+use Rattle.kit_core.specs.declared.shown.Shown.{Shown}
 
 -- a reading part was refused, and nothing was changed
 pub stopped : {X Y : Type 0} (view : X → Y) (e : Refusal) (d : Result Y Refusal) (whole : Result Work Refusal) (names : List (List ℕ)) (m : Held) (after : Option Held)
@@ -54,6 +54,25 @@ fails_later x xs (refusals.Limit n) h = tt
 fails_later x xs (refusals.OutOfRange n) h = tt
 fails_later x xs refusals.LongCartridge h = tt
 
+fails_first : (x : List ℕ) (xs : List (List ℕ)) (e : Refusal) → FailsAt (x ∷ []) e → FailsAt (x ∷ xs) e
+fails_first x xs (refusals.Failed n) (zero, within, is) = (0, omega arith, is)
+fails_first x xs (refusals.Failed n) (suc k, within, is) = absurd (omega (arith, within))
+fails_first x xs refusals.Memory h = tt
+fails_first x xs refusals.Usage h = tt
+fails_first x xs (refusals.Source c f l) h = tt
+fails_first x xs (refusals.Missing n) h = tt
+fails_first x xs (refusals.Bad c n l) h = tt
+fails_first x xs (refusals.Limit n) h = tt
+fails_first x xs (refusals.OutOfRange n) h = tt
+fails_first x xs refusals.LongCartridge h = tt
+
+-- among the names of a trace
+pub second_fails : (x y : List ℕ) (names : List (List ℕ)) (e : Refusal) → FailsAt (y ∷ []) e → FailsAt (x ∷ y ∷ names) e
+second_fails x y names e h = fails_later x (y ∷ names) e (fails_first y names e h)
+
+pub third_fails : (x y : List ℕ) (names : List (List ℕ)) (e : Refusal) → FailsAt names e → FailsAt (x ∷ y ∷ names) e
+third_fails x y names e h = fails_later x (y ∷ names) e (fails_later y names e h)
+
 pub refused_gave : {A E : Type 0} (f : E → Refusal) (r : Result A E) (x : A) → or_refused f r ≡ Ok x → r ≡ Ok x
 refused_gave f (Ok y) x e = cc
 refused_gave f (Err d) x e = cc
@@ -92,7 +111,7 @@ module _ (project cart map_name text : List ℕ) where
     due_work : (m : Held) → WasRead (Some m) → WasBuilt (Some m) → build_due project cart map_name m ≡ Ok (record { effects = outputs_of cart map_name b; text = [] })
     due_work m read built = after_read m read ∙ ap (λ d. d >>= λ b. Ok (record { effects = outputs_of cart map_name b; text = [] })) built
 
-    pub left_done : (v : Vec ℕ Global) (h0 h1 h2 h3 : Option Held) → v.items ≡ [] → WasRead h0 → h1 ≡ h0 → WasBuilt h1 → h2 ≡ h1 → h3 ≡ all_done (outputs_of cart map_name b) h2
+    pub left_done : (v : Shown) (h0 h1 h2 h3 : Option Held) → text_of v ≡ [] → WasRead h0 → h1 ≡ h0 → WasBuilt h1 → h2 ≡ h1 → h3 ≡ all_done (outputs_of cart map_name b) h2
         → IfSome h0 (λ m. Leaves (Ok v) (build_due project cart map_name m) (build_reads project m) m h3)
     left_done v None h1 h2 h3 empty read e1 built e2 e3 = tt
     left_done v (Some m) h1 h2 h3 empty read e1 built e2 e3 =

@@ -1,8 +1,10 @@
 -- What the parts of a command answer and leave, each by itself.
-use Rattle.std.specs.Prelude.{ℕ, ◌≡◌, ◌⊎◌, List, ◌++◌, take, Option, Some, Result, Ok, Err, Vec, Contains}
-use Rattle.std.specs.declared.alloc.Global.{Global}
+use Rattle.std.specs.Prelude.{ℕ, ◌≡◌, ◌⊎◌, List, [], ◌++◌, take, Option, Some, Result, Ok, Err, Contains}
 use Rattle.kit_base.specs.Held.{Held}
 use Rattle.kit_base.specs.Effects.{Effect, all_done, CutShort}
+use Rattle.trace_core.specs.Putting.{trace_text}
+use Rattle.kit_core.specs.declared.shown.Shown.{Shown}
+use Rattle.kit_core.specs.declared.shown.Shown.TheVariants as shown
 use Rattle.kit_core.specs.declared.refusal.Refusal.{Refusal}
 use Rattle.kit_core.specs.declared.refusal.Refusal.TheVariants as refusals
 use Rattle.kit_core.specs.Refusal.{line_of}
@@ -27,10 +29,15 @@ IsCut (refusals.Failed name) effects before after = CutShort name effects before
 IsCut refusals.Memory effects before after = (name : List ℕ) × CutShort name effects before after
 IsCut refusal effects before after = ⊥
 
+-- the text that is to be put
+abbrev pub text_of : Shown → List ℕ
+text_of shown.Nothing = []
+text_of (shown.Run trace) = trace_text trace
+
 -- a whole command: its work was done but for its text, which is handed on, or its refusal came
-abbrev pub Leaves : Result (Vec ℕ Global) Refusal → Result Work Refusal → List (List ℕ) → Held → Option Held → Type 0
-Leaves (Ok text) due reads held after =
-    (work : Work) × (due ≡ Ok work) × (after ≡ all_done work.effects (Some held)) × (text.items ≡ work.text)
+abbrev pub Leaves : Result Shown Refusal → Result Work Refusal → List (List ℕ) → Held → Option Held → Type 0
+Leaves (Ok shown) due reads held after =
+    (work : Work) × (due ≡ Ok work) × (after ≡ all_done work.effects (Some held)) × (text_of shown ≡ work.text)
 Leaves (Err refusal) due reads held after = Comes refusal due reads held after
 
 -- one put of a text that ends a command at that status: whole, or a front of it

@@ -13,9 +13,10 @@ use Rattle.project_text.specs.MapText.{map_text}
 use Rattle.cart_format.specs.Cartridge.{cart_text}
 use Rattle.kit_core.specs.declared.refusal.Refusal.{Refusal}
 use Rattle.kit_core.specs.declared.refusal.Refusal.TheVariants as refusals
-use Rattle.kit_core.specs.Command.{Command, Build, Migrate, command_of}
+use Rattle.kit_core.specs.Command.{Command, Build, Migrate, Trace, command_of}
 use Rattle.kit_core.specs.Inputs.{◌>>=◌, or_refused, or_usage, unread, cart_due}
 use Rattle.kit_core.specs.Migration.{second_due}
+use Rattle.kit_core.specs.Tracing.{traced_due, trace_reads}
 
 -- What a command does once nothing refused it: what it creates and appends, in order, and the text
 -- that is put after that.
@@ -57,9 +58,16 @@ migrate_due cart migrated held = do
   bytes ← migrated_due cart held
   Ok (record { effects = written_file migrated bytes; text = [] })
 
+-- nothing is created; the text is that of the run
+abbrev pub trace_due : (cart answers : List ℕ) (card : Option (List ℕ)) (steps : List ℕ) → Held → Result Work Refusal
+trace_due cart answers card steps held = do
+  text ← traced_due cart answers card steps held
+  Ok (record { effects = []; text = text })
+
 abbrev pub work_due : Command → Held → Result Work Refusal
 work_due (Build project cart map_name) held = build_due project cart map_name held
 work_due (Migrate cart migrated) held = migrate_due cart migrated held
+work_due (Trace cart answers card steps) held = trace_due cart answers card steps held
 
 -- the work of the command of these words, or its first refusal
 abbrev pub command_due : List (List ℕ) → Held → Result Work Refusal
@@ -79,6 +87,7 @@ abbrev pub command_reads : Option Command → Held → List (List ℕ)
 command_reads None held = []
 command_reads (Some (Build project cart map_name)) held = build_reads project held
 command_reads (Some (Migrate cart migrated)) held = cart ∷ []
+command_reads (Some (Trace cart answers card steps)) held = trace_reads cart answers card
 
 -- the names that the command of these words reads, in order
 abbrev pub reads_due : List (List ℕ) → Held → List (List ℕ)

@@ -3,6 +3,7 @@ pub mod Command
 pub mod Parsed
 pub mod Inputs
 pub mod Migration
+pub mod Tracing
 pub mod Due
 pub mod Causes
 pub mod Limits

@@ -4,9 +4,10 @@ use Rattle.kit_base.specs.Held.{Held}
 use Rattle.kit_base.specs.Outside.{due}
 use Rattle.build_core.specs.Causes.{CanBeTooLarge}
 use Rattle.cart_format.specs.Cartridge.{Cartridge, total}
-use Rattle.kit_core.specs.Command.{Build, Migrate, command_of}
+use Rattle.kit_core.specs.Command.{Build, Migrate, Trace, command_of}
 use Rattle.kit_core.specs.Inputs.{cart_due}
 use Rattle.kit_core.specs.Migration.{in_second}
+use Rattle.kit_core.specs.Tracing.{number_of}
 
 -- the file's cartridge would be too long in its second revision
 pub record IsLong (cart : List ℕ) (held : Option Held) : Type 0 where
@@ -35,5 +36,14 @@ pub record BuildsLarge (words : List (List ℕ)) (held : Option Held) : Type 0 w
   pub named : command_of words ≡ Some (Build project cart map_name)
   pub large : IsLarge project held
 
+-- the words are a trace of more steps than a run may have
+pub record TracesTooFar (words : List (List ℕ)) : Type 0 where
+  pub cart : List ℕ
+  pub answers : List ℕ
+  pub card : Option (List ℕ)
+  pub steps : List ℕ
+  pub named : command_of words ≡ Some (Trace cart answers card steps)
+  pub over : 10000000 < number_of steps
+
 abbrev pub IsOver : List (List ℕ) → Option Held → Type 0
-IsOver words held = MigratesLong words held ⊎ BuildsLarge words held
+IsOver words held = MigratesLong words held ⊎ (BuildsLarge words held ⊎ TracesTooFar words)

@@ -11,6 +11,7 @@ ghost use Rattle.kit_core.specs.Due.{build_due, build_reads, outputs_of, unbuilt
 
 use crate::reading::read_file;
 use crate::refusal::{Refusal, unbuilt};
+use crate::shown::Shown;
 use crate::writing::write_output;
 use build_core::{Built, build};
 use kit_base::{Files, Name};
@@ -64,12 +65,12 @@ pub fn build_command<F: Files>(
     project: &str,
     cart: &str,
     map: &str,
-) -> Result<Vec<u8>, Refusal>
+) -> Result<Shown, Refusal>
     ensures told { IfSome (F.held files.old) (λ m. Leaves result (build_due project.now cart.now map.now m) (build_reads project.now m) m (F.held files.new)) }
     ensures causes { HasCausesOr (IsLarge project.now (F.held files.old)) result (F.faults files.old) (F.faults files.new) (F.misses files.old) (F.misses files.new) (F.overs files.old) (F.overs files.new) }
 {
     let text = read_file(alloc, files, project)?;
     let built = build_text(alloc, files, project, &text)?;
     write_outputs(alloc, files, cart, map, &built)?;
-    Ok(Vec::new(alloc))
+    Ok(Shown::Nothing)
 }

@@ -11,7 +11,9 @@ mod command;
 mod migrating;
 mod reading;
 mod refusal;
+mod shown;
 mod top;
+mod tracing;
 mod writing;
 
 pub use top::kit;

@@ -9,6 +9,7 @@ ghost use Rattle.kit_core.specs.Migration.{in_second, second_due};
 
 use crate::reading::read_cart_file;
 use crate::refusal::Refusal;
+use crate::shown::Shown;
 use crate::writing::write_output;
 use cart_format::{Cart, CartParts, write_cart};
 use kit_base::Files;
@@ -57,11 +58,11 @@ pub fn migrate_command<F: Files>(
     files: &mut F,
     cart: &str,
     migrated: &str,
-) -> Result<Vec<u8>, Refusal>
+) -> Result<Shown, Refusal>
     ensures told { IfSome (F.held files.old) (λ m. Leaves result (migrate_due cart.now migrated.now m) (cart.now ∷ []) m (F.held files.new)) }
     ensures causes { HasCausesOr (IsLong cart.now (F.held files.old)) result (F.faults files.old) (F.faults files.new) (F.misses files.old) (F.misses files.new) (F.overs files.old) (F.overs files.new) }
 {
     let bytes = migrated_text(alloc, files, cart)?;
     write_output(alloc, files, migrated, &bytes)?;
-    Ok(Vec::new(alloc))
+    Ok(Shown::Nothing)
 }

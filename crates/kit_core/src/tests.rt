@@ -270,3 +270,45 @@ fn a_cartridge_is_migrated_and_stays_so(rt: HostRuntime) -> Result<(), Fail> {
     }
     Ok(())
 }
+
+#[test]
+fn a_trace_puts_each_port_operation_and_the_end(rt: HostRuntime) -> Result<(), Fail> {
+    let alloc = rt.alloc();
+    let out = "out 0x202 0x000000FF\n";
+    let ended = "out 0x202 0x000000FF\nhalted\n";
+    let going = "out 0x202 0x000000FF\ngoing\n";
+    let none: (&str, &[u32]) = ("", &[]);
+    // The words, the answers, what is put and the status; the puts of those numbers fail.
+    let rows = [
+        ("trace cart list none 0", none, "going\n", 0),
+        ("trace cart list none 1", none, going, 0),
+        ("trace cart list none 2", none, ended, 0),
+        ("trace cart list none 0010000000", none, ended, 0),
+        ("trace cart list none 2", ("7\n0xffffFFFF\n", &[]), ended, 0),
+        (
+            "trace cart list none 2",
+            ("0x1G", &[]),
+            "bad data 111 in list at 1\n",
+            6,
+        ),
+        ("trace cart list list 2", none, "bad data 110 in list\n", 6),
+        ("trace cart list none 10000001", none, "limit 10000001\n", 7),
+        ("trace cart gone none 10000001", none, "missing gone\n", 4),
+        ("trace cart list none 1x", none, "usage error\n", 1),
+        ("trace cart list none", none, "usage error\n", 1),
+        ("trace cart list none 2", ("", &[0]), "", 9),
+        ("trace cart list none 2", ("", &[1]), out, 9),
+    ];
+    for (words, (answers, failing), text, status) in rows {
+        let bytes = bytes_from(alloc, CART)?;
+        let mut held = Vec::new(alloc);
+        held.push((Name::new(alloc, "cart")?, Seq::from_vec(bytes)))?;
+        let list = Vec::from_slice(alloc, answers.as_bytes())?;
+        held.push((Name::new(alloc, "list")?, Seq::from_vec(list)))?;
+        let failing = Vec::from_slice(alloc, failing)?;
+        let ran = run_over(&rt, alloc, words, held, Vec::new(alloc), failing)?;
+        assert_eq!(rt; ran.status, status, "{words}: {text}");
+        assert_eq!(rt; ran.out.written(), text.as_bytes());
+    }
+    Ok(())
+}

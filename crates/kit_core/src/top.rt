@@ -1,7 +1,8 @@
 // The top call.
 ghost use Rattle.std.specs.Prelude.{◌≡◌, ◌≢◌, ◌≤◌, ◌⊎◌, ℕ, IfSome, IsErr};
 ghost use Rattle.kit_base.specs.Counts.{Rose};
-ghost use Rattle.kit_core.specs.Carrying.{Leaves, Puts, Shows};
+ghost use Rattle.trace_core.specs.Putting.{trace_text};
+ghost use Rattle.kit_core.specs.Carrying.{Leaves, Puts, Shows, text_of};
 ghost use Rattle.kit_core.specs.Causes.{HasCausesOr, HasOnlyRisen, IsUnrisen};
 ghost use Rattle.kit_core.specs.Command.{texts};
 ghost use Rattle.kit_core.specs.Due.{command_due, reads_due};
@@ -9,14 +10,18 @@ ghost use Rattle.kit_core.specs.Headline.{BuildStands};
 ghost use Rattle.kit_core.specs.Limits.{IsOver};
 ghost use Rattle.kit_core.specs.Outcome.{IsOutcome, status_due};
 ghost use Rattle.kit_core.specs.Refusal.{IsStatus, line_of, status_of};
+ghost use Rattle.kit_core.specs.Tracing.{TraceStands};
 
 use crate::building::build_command;
 use crate::command::{Command, command_of};
 use crate::migrating::migrate_command;
 use crate::refusal::{Refusal, line_of, status_of};
+use crate::shown::Shown;
+use crate::tracing::trace_command;
 use build_core::cartridge_does_what_its_source_means;
 use kit_base::{Files, Sink, SinkErr};
 use std::alloc::Global;
+use trace_core::Trace;
 
 const OUT_OF_MEMORY: &[u8] = b"out of memory\n";
 
@@ -46,24 +51,33 @@ fn report<S: Sink>(alloc: Global, out: &mut S, refusal: &Refusal) -> u8
     }
 }
 
-/// Puts the text of a command whose outputs are done.
-fn finish<S: Sink>(out: &mut S, text: &[u8]) -> u8
-    ensures shows { Shows 0 text.now result (S.written out.old) (S.written out.new) }
+/// Puts the text of a run.
+fn put_trace<S: Sink>(out: &mut S, trace: Trace) -> u8
+    ensures shows { Shows 0 (trace_text trace) result (S.written out.old) (S.written out.new) }
     ensures unput { result ≡ 9 → Rose (S.faults out.old) (S.faults out.new) }
     ensures later { S.faults out.old ≤ S.faults out.new }
 {
-    if text.is_empty() {
-        return 0;
-    }
-    match out.put(text) {
+    match trace.put(out) {
         Ok(()) => 0,
         Err(SinkErr::Failed) => 9,
         Err(SinkErr::Memory) => put_last(out, OUT_OF_MEMORY, 8),
     }
 }
 
+/// Puts the text of a command whose outputs are done.
+fn finish<S: Sink>(out: &mut S, shown: Shown) -> u8
+    ensures shows { Shows 0 (text_of shown) result (S.written out.old) (S.written out.new) }
+    ensures unput { result ≡ 9 → Rose (S.faults out.old) (S.faults out.new) }
+    ensures later { S.faults out.old ≤ S.faults out.new }
+{
+    match shown {
+        Shown::Nothing => 0,
+        Shown::Run(trace) => put_trace(out, trace),
+    }
+}
+
 /// Carries out the command of these words, up to its text.
-fn carry_out<F: Files>(alloc: Global, words: &[String], files: &mut F) -> Result<Vec<u8>, Refusal>
+fn carry_out<F: Files>(alloc: Global, words: &[String], files: &mut F) -> Result<Shown, Refusal>
     ensures told { IfSome (F.held files.old) (λ m. Leaves result (command_due (texts words.now) m) (reads_due (texts words.now) m) m (F.held files.new)) }
     ensures causes { HasCausesOr (IsOver (texts words.now) (F.held files.old)) result (F.faults files.old) (F.faults files.new) (F.misses files.old) (F.misses files.new) (F.overs files.old) (F.overs files.new) }
 {
@@ -73,6 +87,14 @@ fn carry_out<F: Files>(alloc: Global, words: &[String], files: &mut F) -> Result
             build_command(alloc, files, project, cart, map)
         }
         Some(Command::Migrate { cart, migrated }) => migrate_command(alloc, files, cart, migrated),
+        Some(
+            Command::Trace {
+                cart,
+                answers,
+                card,
+                steps,
+            },
+        ) => trace_command(alloc, files, cart, answers, card, steps),
     }
 }
 
@@ -87,7 +109,7 @@ fn status_for<F: Files, S: Sink>(alloc: Global, words: &[String], files: &mut F,
     ensures status { IsStatus result }
 {
     match carry_out(alloc, words, files) {
-        Ok(text) => finish(out, &text),
+        Ok(shown) => finish(out, shown),
         Err(refusal) => report(alloc, out, &refusal),
     }
 }
@@ -95,7 +117,7 @@ fn status_for<F: Files, S: Sink>(alloc: Global, words: &[String], files: &mut F,
 /// Carries out the command of these words, those after the program's own name, and answers the exit
 /// status: 0 all was done, 1 the words are no listed form, 2 the sources give no program, 4 a file
 /// is missing, 5 a call of the files failed, 6 a file is not of its grammar, 7 a file, or a
-/// cartridge that is to be written, is over 268,435,456 bytes, 8 memory ran out, 9 the sink failed.
+/// cartridge that is to be written, is over 268,435,456 bytes, or a number of steps over 10,000,000, 8 memory ran out, 9 the sink failed.
 /// On 1 to 8 a line is put that says so.
 pub fn kit<F: Files, S: Sink>(alloc: Global, words: &[String], files: &mut F, out: &mut S) -> u8
     // Where it is told what is held, the status, what is held after and what was put are those of
@@ -103,6 +125,8 @@ pub fn kit<F: Files, S: Sink>(alloc: Global, words: &[String], files: &mut F, ou
     ensures told { IfSome (F.held files.old) (λ m. IsOutcome (texts words.now) m result (F.held files.new) (S.written out.old) (S.written out.new)) }
     // At 0 the outputs of a build stand, and its cartridge does what its source means.
     ensures agrees { IfSome (F.held files.old) (λ m. result ≡ 0 → BuildStands (texts words.now) m (F.held files.new)) }
+    // At 0 the text of a trace was put, and no file was changed.
+    ensures traces { IfSome (F.held files.old) (λ m. result ≡ 0 → TraceStands (texts words.now) m (F.held files.new) (S.written out.old) (S.written out.new)) }
     // A command whose words or input are refused changes no file, whatever its status.
     ensures untouched { IfSome (F.held files.old) (λ m. IsErr (command_due (texts words.now) m) → F.held files.new ≡ F.held files.old) }
     // Where no call failed, the status is the one that is due, or 8.

@@ -1,6 +1,7 @@
-use Rattle.std.proofs.Common.{rules, ◌≡◌, [], List, ℕ, sym, subst}
-use Rattle.std.specs.Prelude.{Option, IfSome, Result, Err, Vec}
-use Rattle.std.specs.declared.alloc.Global.{Global}
+use Rattle.std.proofs.Common.{rules, ◌≡◌, [], List, ℕ, refl, sym, subst}
+use Rattle.std.specs.Prelude.{Option, IfSome, Result, Err}
+use Rattle.kit_core.specs.declared.shown.Shown.{Shown}
+use Rattle.kit_core.specs.declared.shown.Shown.TheVariants as shown
 use Rattle.kit_base.specs.Held.{Held}
 use Rattle.build_core.specs.declared.building.Built.{Built}
 use Rattle.build_core.specs.Due.{built_of, reads_of}
@@ -12,7 +13,7 @@ use Rattle.kit_core.proofs.Stages.{WasBuilt, left_unbuilt, left_done, left_cut}
 use Rattle.kit_core.proofs.building.build_command.Goals as goal
 
 -- the answer, where it is known
-abbrev At : List ℕ → List ℕ → List ℕ → Option Held → Option Held → Result (Vec ℕ Global) Refusal → Type 0
+abbrev At : List ℕ → List ℕ → List ℕ → Option Held → Option Held → Result Shown Refusal → Type 0
 At project cart map_name before after result =
     IfSome before (λ m. Leaves result (build_due project cart map_name m) (build_reads project m) m after)
 
@@ -36,6 +37,5 @@ returns-in_err-write_outputs-clause-told g c =
 pub returns-clause-told : goal.returns-clause-told
 returns-clause-told g c =
     let built : WasBuilt c.args.project.now c.args.cart.now c.args.map.now c.in_ok-text.text.items c.in_ok-built.built (g.F.Reads.held c.read_file.new.files) = search rules in
-    let empty : c.new.result.items ≡ [] = search rules in
-    left_done c.args.project.now c.args.cart.now c.args.map.now c.in_ok-text.text.items c.in_ok-built.built c.new.result _ (g.F.Reads.held c.read_file.new.files) (g.F.Reads.held c.build_text.new.files) _
-    empty c.in_ok-text.ensures.told c.in_ok-text.ensures.held built c.in_ok-built.ensures.held c.in_ok-write_outputs.ensures.ok
+    left_done c.args.project.now c.args.cart.now c.args.map.now c.in_ok-text.text.items c.in_ok-built.built shown.Nothing _ (g.F.Reads.held c.read_file.new.files) (g.F.Reads.held c.build_text.new.files) _
+    refl c.in_ok-text.ensures.told c.in_ok-text.ensures.held built c.in_ok-built.ensures.held c.in_ok-write_outputs.ensures.ok

@@ -1,6 +1,7 @@
-use Rattle.std.proofs.Common.{rules, ◌≡◌, [], ◌∷◌, sym, subst}
+use Rattle.std.proofs.Common.{rules, ◌≡◌, [], ◌∷◌, refl, sym, subst}
 use Rattle.std.specs.Prelude.{IfSome, Err}
 use Rattle.kit_base.specs.Effects.{all_done, written_file}
+use Rattle.kit_core.specs.declared.shown.Shown.TheVariants as shown
 use Rattle.kit_core.specs.Due.{migrate_due}
 use Rattle.kit_core.specs.Carrying.{IsCut, Leaves}
 use Rattle.kit_core.proofs.Migrations.{migration_cut, migration_done}
@@ -16,7 +17,6 @@ returns-in_err-write_output-clause-told g c =
 
 pub returns-clause-told : goal.returns-clause-told
 returns-clause-told g c =
-    let empty : c.new.result.items ≡ [] = search rules in
     let done : g.F.Reads.held c.write_output.new.files ≡ all_done (written_file c.args.migrated.now c.in_ok-bytes.bytes.items) (g.F.Reads.held c.migrated_text.new.files) = search rules in
-    migration_done c.args.cart.now c.args.migrated.now c.in_ok-bytes.bytes.items c.new.result _ (g.F.Reads.held c.migrated_text.new.files) _
-    empty c.in_ok-bytes.ensures.told c.in_ok-bytes.ensures.held done
+    migration_done c.args.cart.now c.args.migrated.now c.in_ok-bytes.bytes.items shown.Nothing _ (g.F.Reads.held c.migrated_text.new.files) _
+    refl c.in_ok-bytes.ensures.told c.in_ok-bytes.ensures.held done

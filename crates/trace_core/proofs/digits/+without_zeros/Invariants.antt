@@ -1,0 +1,4 @@
+use Rattle.trace_core.proofs.digits.+without_zeros.Given as goal
+
+abbrev pub decreases-without_zeros : goal.decreases-without_zeros
+decreases-without_zeros l = l.most

@@ -1,2 +1,2 @@
 mod Disassembling
-mod Spelled
+pub mod Spelled

@@ -1,9 +1,10 @@
 -- Which refusals of a build can come, and why.
 use Rattle.std.specs.Prelude.{ℕ, ◌≡◌, ◌≤◌, ◌<◌, ◌⊎◌, List, [], ◌∷◌, ◌++◌, length, Some, None, Result, Ok, Err, Contains, codes}
+use Rattle.std.specs.List.{AllByRecursion}
 use Rattle.kit_base.specs.Counts.{Rose}
 use Rattle.asset_pack.specs.declared.error.AssetErr.{AssetErr}
 use Rattle.asset_pack.specs.declared.error.AssetErr.TheVariants as asset_errors
-use Rattle.asset_pack.specs.Texts.{Image}
+use Rattle.asset_pack.specs.Texts.{Image, HasSides, HasSamples}
 use Rattle.cart_format.specs.Cartridge.{Cartridge, total}
 use Rattle.project_text.specs.declared.error.ProjectErr.{ProjectErr}
 use Rattle.project_text.specs.declared.error.ProjectErr.TheVariants as project_errors
@@ -48,8 +49,14 @@ NamesOneOf names (errors.Failed name) = Contains names name
 NamesOneOf names (errors.Limit name) = Contains names name ⊎ (name ≡ codes "cartridge")
 NamesOneOf names e = Unit {0}
 
+-- a cartridge whose textures and sounds are within their own limits has over 268,435,456 bytes
+pub record IsTooLarge (c : Cartridge) : Type 0 where
+  pub sides : AllByRecursion HasSides c.textures
+  pub samples : AllByRecursion HasSamples c.sounds
+  pub large : 268435456 < total c
+
 -- The cartridge of a project can be too large: with a straight source's program and some textures
--- and sounds, one for each that the project names, it has over 268,435,456 bytes.
+-- and sounds, one for each that the project names.
 pub record CanBeTooLarge (project : List ℕ) : Type 0 where
   pub parts : Project
   pub project_is : IsProject project parts
@@ -59,7 +66,7 @@ pub record CanBeTooLarge (project : List ℕ) : Type 0 where
   pub sounds : List (List ℕ)
   pub each_texture : length textures ≡ length parts.textures
   pub each_sound : length sounds ≡ length parts.sounds
-  pub large : 268435456 < total (first_revision parts.title (code_of statements) textures sounds)
+  pub large : IsTooLarge (first_revision parts.title (code_of statements) textures sounds)
 
 -- a refusal of the files comes only where its count rose, that of a size also where it was too large
 abbrev pub Cause : {T : Type 0} → (List ℕ → Type 0) → Result T BuildErr → (faults faults' misses misses' overs overs' : ℕ) → Type 0
@@ -123,6 +130,6 @@ IsOfAssets files (errors.Limit name) = Contains files name
 IsOfAssets files errors.Memory = Unit {0}
 
 abbrev pub IsOfPacking : Cartridge → BuildErr → Type 0
-IsOfPacking c (errors.Limit name) = (name ≡ codes "cartridge") × (268435456 < total c)
+IsOfPacking c (errors.Limit name) = (name ≡ codes "cartridge") × IsTooLarge c
 IsOfPacking c errors.Memory = Unit {0}
 IsOfPacking c e = ⊥

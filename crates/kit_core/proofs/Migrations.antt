@@ -1,6 +1,6 @@
 -- From the parts of a migration and of a trace to the whole.
 use Rattle.std.proofs.Common.{ℕ, ◌≡◌, List, [], ◌∷◌, refl, ap, subst, ◌∙◌}
-use Rattle.std.specs.Prelude.{Option, Some, None, Result, Ok, IfSome}
+use Rattle.std.specs.Prelude.{Option, Some, None, Ok, IfSome}
 use Rattle.kit_base.specs.Held.{Held}
 use Rattle.kit_base.specs.Effects.{all_done, written_file}
 use Rattle.kit_core.specs.declared.refusal.Refusal.{Refusal}

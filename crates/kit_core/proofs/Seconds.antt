@@ -1,7 +1,7 @@
 -- When a cartridge has a file in its second revision.
 use Rattle.std.proofs.Common.{ℕ, ◌≡◌, ◌≢◌, ◌∙◌, ◌<◌, ◌≤◌, Bool, true, false, List, [], leb, refl, sym, ap, arith}
 use Rattle.std.proofs.lemmas.Bool.{and_from, le-leb}
-use Rattle.std.specs.Prelude.{Option, Some, None, Ok, Err, length, nat_lt, nat_le, if◌then◌else◌}
+use Rattle.std.specs.Prelude.{Option, Some, None, Ok, Err, length, nat_lt}
 use Rattle.asset_pack.specs.Texts.{Image}
 use Rattle.cart_format.specs.declared.row.LineRow.{LineRow}
 use Rattle.cart_format.specs.declared.row.LineTable.{LineTable}

@@ -1,11 +1,10 @@
 -- A status 0 of a trace says that its text was put.
-use Rattle.std.proofs.Common.{ℕ, ◌≡◌, ◌≤◌, ◌<◌, Bool, true, false, List, [], refl, sym, ap, ◌∙◌, arith}
+use Rattle.std.proofs.Common.{ℕ, ◌≡◌, ◌≤◌, Bool, true, false, List, [], refl, sym, ap, ◌∙◌, arith}
 use Rattle.std.specs.Prelude.{Option, Some, None, Ok, Err, IfSome, nat_lt, if◌then◌else◌}
 use Rattle.kit_base.specs.Held.{Held}
 use Rattle.kit_base.specs.Effects.{all_done}
 use Rattle.v32_isa.specs.Runs.{machine_runs}
 use Rattle.trace_core.specs.Texts.{run_text}
-use Rattle.kit_core.specs.declared.refusal.Refusal.{Refusal}
 use Rattle.kit_core.specs.declared.refusal.Refusal.TheVariants as refusals
 use Rattle.kit_core.specs.Inputs.{◌>>=◌, or_usage, cart_due, answers_due, card_due}
 use Rattle.kit_core.specs.Tracing.{number_of, steps_due, traced_due, IsTraced, TraceStands}

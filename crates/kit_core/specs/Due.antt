@@ -4,7 +4,6 @@ use Rattle.kit_base.specs.Held.{Held}
 use Rattle.kit_base.specs.Effects.{Effect, written_file}
 use Rattle.kit_base.specs.Outside.{due}
 use Rattle.kit_base.specs.declared.outside.FileErr.{FileErr}
-use Rattle.kit_base.specs.declared.outside.FileErr.TheVariants as file_errors
 use Rattle.build_core.specs.declared.error.BuildErr.{BuildErr}
 use Rattle.build_core.specs.declared.error.BuildErr.TheVariants as build_errors
 use Rattle.build_core.specs.declared.building.Built.{Built}

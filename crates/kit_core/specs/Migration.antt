@@ -1,5 +1,5 @@
 -- A cartridge in its second revision. (The page on files, cartridges and their line tables.)
-use Rattle.std.specs.Prelude.{ℕ, [], nat_lt, Option, Some, None, Result, Ok, Err, if◌then◌else◌}
+use Rattle.std.specs.Prelude.{[], nat_lt, Option, Some, None, Result, Ok, Err, if◌then◌else◌}
 use Rattle.cart_format.specs.declared.row.LineTable.{LineTable}
 use Rattle.cart_format.specs.Cartridge.{Cartridge, total}
 use Rattle.kit_core.specs.declared.refusal.Refusal.{Refusal}

@@ -117,8 +117,8 @@ fn status_for<F: Files, S: Sink>(alloc: Global, words: &[String], files: &mut F,
 /// Carries out the command of these words, those after the program's own name, and answers the exit
 /// status: 0 all was done, 1 the words are no listed form, 2 the sources give no program, 4 a file
 /// is missing, 5 a call of the files failed, 6 a file is not of its grammar, 7 a file, or a
-/// cartridge that is to be written, is over 268,435,456 bytes, or a number of steps over 10,000,000, 8 memory ran out, 9 the sink failed.
-/// On 1 to 8 a line is put that says so.
+/// cartridge that is to be written, is over 268,435,456 bytes, or a number of steps is over
+/// 10,000,000, 8 memory ran out, 9 the sink failed. On 1 to 8 a line is put that says so.
 pub fn kit<F: Files, S: Sink>(alloc: Global, words: &[String], files: &mut F, out: &mut S) -> u8
     // Where it is told what is held, the status, what is held after and what was put are those of
     // the command.

@@ -1,10 +1,9 @@
 -- The text of a run, step by step.
-use Rattle.std.proofs.Common.{ℕ, zero, suc, ◌-◌, ◌<◌, ◌≡◌, arith, List, [], ◌∷◌, ◌++◌, refl, sym, ap, subst, ◌∙◌, append_assoc}
-use Rattle.std.specs.Prelude.{Option, Some, None, Result, Ok, Err, flat_map, codes}
+use Rattle.std.proofs.Common.{ℕ, suc, ◌-◌, ◌<◌, ◌≡◌, arith, List, [], ◌∷◌, ◌++◌, refl, sym, ap, subst, ◌∙◌, append_assoc}
+use Rattle.std.specs.Prelude.{Option, Some, None, Ok, flat_map, codes}
 use Rattle.std.proofs.lemmas.List.Concat.{flat_map-cons}
 use Rattle.kit_base.specs.declared.event.Event.{Event}
 use Rattle.kit_base.specs.declared.event.Event.TheVariants as event
-use Rattle.kit_base.specs.declared.outside.SinkErr.{SinkErr}
 use Rattle.v32_isa.specs.declared.stepped.Stepped.{Stepped}
 use Rattle.v32_isa.specs.declared.stepped.Stepped.TheVariants as stepped
 use Rattle.v32_isa.specs.State.{State}
@@ -14,7 +13,7 @@ use Rattle.cpu_core.specs.Answers.{Answers, Answering, Telling}
 use Rattle.cpu_core.specs.Stepping.{run_from}
 use Rattle.cpu_core.proofs.Outcomes.{run_of_step}
 use Rattle.trace_core.specs.Texts.{event_line, end_line, run_text}
-use Rattle.trace_core.specs.Putting.{putting, HasPut, HasPutFront, PutsText}
+use Rattle.trace_core.specs.Putting.{putting, HasPut, HasPutFront}
 use Rattle.trace_core.specs.Steps.{event_of, step_text, last_line, rest_of, StepPuts}
 use Rattle.trace_core.proofs.Puts.{nothing_put, put_more, put_onto, front_more, front_of_piece}
 

@@ -1,5 +1,5 @@
 -- What one step adds to the text of a run, and what is left of it then.
-use Rattle.std.specs.Prelude.{ℕ, ◌≡◌, List, [], Option, Some, None, Result, Ok, Err}
+use Rattle.std.specs.Prelude.{ℕ, List, [], Option, Some, None, Result, Ok, Err}
 use Rattle.kit_base.specs.declared.event.Event.{Event}
 use Rattle.kit_base.specs.declared.event.Event.TheVariants as event
 use Rattle.kit_base.specs.declared.outside.SinkErr.{SinkErr}

@@ -9,7 +9,7 @@ unreachable-requires c =
     let no : is_cart (first_revision c.args.title c.in_ok-program.program.items c.args.textures.items c.args.sounds.items) ≡ false = search rules in
     let count = c.in_ok-program.ensures.length in
     let counted : c.cart_size.result ≡ min (total (first_revision c.args.title c.in_ok-program.program.items c.args.textures.items c.args.sounds.items)) (2 ^ 64 - 1) =
-    rw⁻¹ (c.deref.ensures.value, c.deref-2.ensures.value, c.deref-3.ensures.value) (c.cart_size.ensures c.args.title) in
+    rw⁻¹ (c.deref.ensures.value, c.deref-2.ensures.value, c.deref-3.ensures.value) (c.cart_size.ensures.size c.args.title) in
     let small : total (first_revision c.args.title c.in_ok-program.program.items c.args.textures.items c.args.sounds.items) ≤ 268435456 =
     not_over _ c.cart_size.result counted c.if-cart_size-gt-CART_LIMIT.false in
     let some : 1 ≤ length c.in_ok-program.program.items = omega (arith, count) in

@@ -1,4 +1,4 @@
-use Rattle.std.proofs.Common.{rules, ◌≡◌, [], List, ℕ, refl, sym, subst}
+use Rattle.std.proofs.Common.{rules, ◌≡◌, List, ℕ, refl, sym, subst}
 use Rattle.std.specs.Prelude.{Option, IfSome, Result, Err}
 use Rattle.kit_core.specs.declared.shown.Shown.{Shown}
 use Rattle.kit_core.specs.declared.shown.Shown.TheVariants as shown

@@ -1,6 +1,5 @@
-use Rattle.std.proofs.Common.{rules, ◌≡◌, true, false, sym, ap, ◌∙◌, ◌<◌}
-use Rattle.cart_format.specs.Cartridge.{Cartridge, is_cart, total}
-use Rattle.kit_core.specs.Migration.{in_second, second_due}
+use Rattle.std.proofs.Common.{rules, sym, ap, ◌∙◌}
+use Rattle.cart_format.specs.Cartridge.{is_cart}
 use Rattle.kit_core.proofs.Seconds.{second_kept, second_made, second_over, second_long, same_second}
 use Rattle.kit_core.proofs.migrating.in_second.Goals as goal
 

@@ -1,0 +1,6 @@
+mod Lookups
+mod ItemSizes
+mod Walking
+mod Whole
+mod Standing
+mod Again

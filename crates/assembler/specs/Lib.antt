@@ -1,0 +1,7 @@
+pub mod Labels
+pub mod Naming
+pub mod Placed
+pub mod Sizes
+pub mod Faults
+pub mod Survey
+pub mod Standing

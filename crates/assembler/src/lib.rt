@@ -1,0 +1,23 @@
+//! The assembler: items of assembly text to the words that they spell.
+//!
+//! It promises the words of the items one after another, each label being the address of the item
+//! after it, or the first fault. It stands on the items of `asm_items`.
+#![tactic(auto)]
+
+mod assembling;
+mod error;
+mod labels;
+mod laws;
+mod naming;
+mod placement;
+mod resolving;
+mod sizes;
+mod survey;
+
+pub use assembling::assemble;
+pub use error::AsmErr;
+pub use laws::{labels_are_addresses, words_assemble_again, words_stand_at_the_sizes_before};
+pub use placement::Placement;
+
+#[cfg(test)]
+mod tests;

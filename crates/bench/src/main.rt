@@ -34,18 +34,26 @@ fn program_of(alloc: Global, texts: &[String]) -> Option<Vec<u32>>
     Some(program)
 }
 
-/// Does at most so many steps on no port answers, and says how the run ended.
-fn run(cpu: &mut Cpu, bus: &mut AnswerBus, steps: u32) -> &'static str {
+/// Does at most so many steps on no port answers, and gives the last step's end.
+fn run(cpu: &mut Cpu, bus: &mut AnswerBus, steps: u32) -> Stepped {
     for _ in 0..steps {
         match cpu.step(bus) {
             Stepped::Went | Stepped::Waited => {}
-            Stepped::Halted => return "halted",
-            Stepped::Starved => return "starved",
-            Stepped::Fault(_) => return "fault",
-            Stepped::Undecodable(_) => return "undecodable",
+            end => return end,
         }
     }
-    "going"
+    Stepped::Went
+}
+
+/// How a run ended.
+fn name_of(end: Stepped) -> &'static str {
+    match end {
+        Stepped::Went | Stepped::Waited => "going",
+        Stepped::Halted => "halted",
+        Stepped::Starved => "starved",
+        Stepped::Fault(_) => "fault",
+        Stepped::Undecodable(_) => "undecodable",
+    }
 }
 
 /// The steps and the program of the arguments.
@@ -79,7 +87,7 @@ fn main(rt: HostRuntime) -> io::Result<()> {
         return println!(rt; "out of memory");
     };
     let mut bus = AnswerBus::new(Vec::new(rt.alloc()));
-    let end = run(&mut cpu, &mut bus, steps);
+    let end = name_of(run(&mut cpu, &mut bus, steps));
     let address = cpu.address();
     println!(rt; "{end} at {address:08X}")
 }

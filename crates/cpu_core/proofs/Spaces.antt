@@ -1,5 +1,5 @@
 -- The words that the processor keeps are the memory of the state that they stand for.
-use Rattle.std.proofs.Common.{ℕ, ◌+◌, ◌-◌, ◌<◌, ◌≤◌, ◌==◌, ◌≡◌, ◌≢◌, Bool, true, false, cond, ◌&&◌, ◌||◌, List, length, Option, Some, None, refl, sym, ◌∙◌, ap, arith, eqb-true}
+use Rattle.std.proofs.Common.{ℕ, ◌+◌, ◌-◌, ◌<◌, ◌≤◌, ◌^◌, ◌==◌, ◌≡◌, ◌≢◌, Bool, true, false, cond, ◌&&◌, ◌||◌, List, length, Option, Some, None, refl, sym, ◌∙◌, ap, arith, eqb-true}
 use Rattle.std.specs.Prelude.{nat_lt, nat_le, slice_index, slice_set, All}
 use Rattle.std.specs.List.{slice_get}
 use Rattle.std.proofs.Math.Path.{fun_ext}
@@ -7,6 +7,7 @@ use Rattle.std.proofs.lemmas.Option.{slice_get-get_or, slice_get_past}
 use Rattle.std.proofs.lemmas.List.{get_or-set_same, get_or-set_other, get_or_past}
 use Rattle.std.proofs.lemmas.List.Elements.{All-get_or}
 use Rattle.std.proofs.lemmas.Bool.Decides.{nat_tests}
+use Rattle.kit_base.specs.Word.{sub}
 use Rattle.v32_isa.specs.State.{word_at, is_readable_at, is_writable_at, written, stored}
 use Rattle.v32_isa.specs.Runs.{opening_memory}
 use Rattle.cpu_core.specs.Space.{Space, IsSized, memory_of, memory_state}
@@ -101,6 +102,59 @@ no_card_word ram program a sized h =
     let bound : length program ≤ 0x2000000 = sized.program in
     rw (lt_no a 0x400000 (omega arith), le_yes 0x20000000 a (omega arith), lt_no a (0x20000000 + length program) (omega arith)) refl
 
+-- where a list has a word and where it has none
+within : (xs : List ℕ) (i w : ℕ) → slice_get xs i ≡ Some w → i < length xs
+within xs i w h = by_test (nat_lt i (length xs)) (λ t. lt_true _ _ t) (λ t. absurd (no_word (sym h ∙ slice_get_past xs i (lt_false _ _ t))))
+  where
+    no_word : {w : ℕ} → Some w ≡ None → ⊥
+    no_word h = cc
+
+past : (xs : List ℕ) (i : ℕ) → slice_get xs i ≡ None → length xs ≤ i
+past xs i h = by_test (nat_lt i (length xs)) (λ t. absurd (no_word (sym (slice_get-get_or xs i 0 (lt_true _ _ t)) ∙ h))) (λ t. lt_false _ _ t)
+  where
+    no_word : {w : ℕ} → Some w ≡ None → ⊥
+    no_word h = cc
+
+-- a word found in RAM, or else in the program
+pub ram_hit : (s : Space) (a w : ℕ) → IsSized s → slice_get s.ram a ≡ Some w → Some w ≡ word_at (memory_state s) a
+ram_hit s a w sized h =
+    let k : a < length s.ram = within _ _ _ h in
+    sym h ∙ ram_word s a sized (omega (arith, sized.ram))
+
+pub program_hit : (s : Space) (a w : ℕ) → IsSized s → a < 2 ^ 32 → slice_get s.program (sub a 0x20000000) ≡ Some w → Some w ≡ word_at (memory_state s) a
+program_hit s a w sized word h =
+    let k : sub a 0x20000000 < length s.program = within _ _ _ h in
+    let bound : length s.program ≤ 0x2000000 = sized.program in
+    let same : sub a 0x20000000 ≡ a - 0x20000000 = omega arith in
+    sym h ∙ ap (slice_get s.program) same ∙ program_word s a (omega arith) (omega arith)
+
+-- where neither has one, below the card there is none
+missed : (s : Space) (a : ℕ) → IsSized s → a < 0x30000000 → slice_get s.ram a ≡ None → slice_get s.program (sub a 0x20000000) ≡ None → None ≡ word_at (memory_state s) a
+missed s a sized low ram program = by_test (nat_lt a 0x20000000)
+    (λ t. sym ram ∙ ram_word s a sized (lt_true _ _ t))
+    (λ t. let high : 0x20000000 ≤ a = lt_false _ _ t in
+    let same : sub a 0x20000000 ≡ a - 0x20000000 = omega arith in
+    sym program ∙ ap (slice_get s.program) same ∙ program_word s a high low)
+
+-- and from there on the card has it, where there is one
+pub card_hit : (ram program card : List ℕ) (a : ℕ) → IsSized (space ram program (Some card)) → a < 2 ^ 32 → slice_get ram a ≡ None → slice_get program (sub a 0x20000000) ≡ None
+    → slice_get card (sub a 0x30000000) ≡ word_at (memory_state (space ram program (Some card))) a
+card_hit ram program card a sized word r p =
+    let room : length card ≡ 0x40000 = sized.card card refl in
+    by_test (nat_lt a 0x30000000)
+    (λ t. let low : a < 0x30000000 = lt_true _ _ t in
+    let far : length card ≤ sub a 0x30000000 = omega arith in
+    slice_get_past card (sub a 0x30000000) far ∙ missed (space ram program (Some card)) a sized low r p)
+    (λ t. let high : 0x30000000 ≤ a = lt_false _ _ t in
+    let same : sub a 0x30000000 ≡ a - 0x30000000 = omega arith in
+    ap (slice_get card) same ∙ card_word_at ram program card a sized high)
+
+pub no_card_hit : (ram program : List ℕ) (a : ℕ) → IsSized (space ram program None) → slice_get ram a ≡ None → slice_get program (sub a 0x20000000) ≡ None
+    → None ≡ word_at (memory_state (space ram program None)) a
+no_card_hit ram program a sized r p = by_test (nat_lt a 0x30000000)
+    (λ t. missed (space ram program None) a sized (lt_true _ _ t) r p)
+    (λ t. no_card_word ram program a sized (lt_false _ _ t))
+
 -- RAM is where a word below the card can be written
 writable_in : (x card : Bool) → x ≡ (x || (card && false))
 writable_in true card = refl
@@ -121,6 +175,30 @@ card_writable ram program card a sized h =
 pub no_card_writable : (ram program : List ℕ) (a : ℕ) → 0x30000000 ≤ a → false ≡ is_writable_at (memory_state (space ram program None)) a
 unfolding is_writable_at
 no_card_writable ram program a h = rw (lt_no a 0x400000 (omega arith)) refl
+
+-- a word is written in RAM, or else in the card
+pub ram_taken : (s : Space) (a : ℕ) → IsSized s → nat_lt a (length s.ram) ≡ true → true ≡ is_writable_at (memory_state s) a
+ram_taken s a sized t =
+    let k : a < length s.ram = lt_true _ _ t in
+    sym t ∙ ram_writable s a sized (omega (arith, sized.ram))
+
+pub card_taken : (ram program card : List ℕ) (a : ℕ) → IsSized (space ram program (Some card)) → a < 2 ^ 32 → nat_lt a (length ram) ≡ false
+    → nat_lt (sub a 0x30000000) (length card) ≡ is_writable_at (memory_state (space ram program (Some card))) a
+card_taken ram program card a sized word out =
+    let room : length card ≡ 0x40000 = sized.card card refl in
+    by_test (nat_lt a 0x30000000)
+    (λ t. let low : a < 0x30000000 = lt_true _ _ t in
+    let far : length card ≤ sub a 0x30000000 = omega arith in
+    lt_no (sub a 0x30000000) (length card) far ∙ sym out ∙ ram_writable (space ram program (Some card)) a sized low)
+    (λ t. let high : 0x30000000 ≤ a = lt_false _ _ t in
+    let same : sub a 0x30000000 ≡ a - 0x30000000 = omega arith in
+    ap (λ k. nat_lt k (length card)) same ∙ card_writable ram program card a sized high)
+
+pub no_card_taken : (ram program : List ℕ) (a : ℕ) → IsSized (space ram program None) → nat_lt a (length ram) ≡ false
+    → false ≡ is_writable_at (memory_state (space ram program None)) a
+no_card_taken ram program a sized out = by_test (nat_lt a 0x30000000)
+    (λ t. sym out ∙ ram_writable (space ram program None) a sized (lt_true _ _ t))
+    (λ t. no_card_writable ram program a (lt_false _ _ t))
 
 differ : (a b : ℕ) → (a == b) ≡ false → a ≡ b → ⊥
 differ a b h e = grind (arith, nat_tests)
@@ -175,3 +253,12 @@ unfolding memory_of opening_memory
 opening_words ram program card zeros = fun_ext (λ place. by_test (nat_lt place 0x20000000)
     (λ t. rw t (zero_word ram place zeros))
     (λ t. rw t refl))
+
+pub card_kept : (ram program card : List ℕ) (a w : ℕ) → IsSized (space ram program (Some card)) → a < 2 ^ 32 → nat_lt (sub a 0x30000000) (length card) ≡ true →
+    memory_state (space ram program (Some (slice_set card (sub a 0x30000000) w))) ≡ stored (memory_state (space ram program (Some card))) a w
+card_kept ram program card a w sized word t =
+    let room : length card ≡ 0x40000 = sized.card card refl in
+    let k : sub a 0x30000000 < length card = lt_true _ _ t in
+    let high : 0x30000000 ≤ a = omega arith in
+    let same : sub a 0x30000000 ≡ a - 0x30000000 = omega arith in
+    ap (λ p. memory_state (space ram program (Some (slice_set card p w)))) same ∙ card_stored ram program card a w high (sym (ap (λ p. nat_lt p (length card)) same) ∙ t)

@@ -111,6 +111,14 @@ impl Cpu {
         self.memory.read(address)
     }
 
+    /// The same, for the words of instructions.
+    #[tactic(auto, unfolding(crate::specs::Machine::state_of, v32_isa::specs::State::word_at, v32_isa::specs::State::is_readable_at))]
+    pub(crate) fn read_code(&self, address: u32) -> Option<u32>
+        ensures { result ≡ word_at (state_of self.now) address }
+    {
+        self.memory.fetch(address)
+    }
+
     /// Stores a word at an address, where it can be written, and says whether it was.
     #[tactic(auto, unfolding(crate::specs::Machine::state_of, v32_isa::specs::State::is_writable_at))]
     pub(crate) fn write(&mut self, address: u32, word: u32) -> bool

@@ -44,19 +44,29 @@ impl Memory {
         Ok(Memory { ram, program, card })
     }
 
-    /// The word at an address, where it can be read.
+    /// The word at an address, where it can be read. RAM is tried first.
     pub fn read(&self, address: u32) -> Option<u32>
         ensures { result ≡ word_at (memory_state self.now) address }
     {
-        if address < 0x2000_0000 {
-            return word_of(&self.ram, address);
+        if let Some(word) = word_of(&self.ram, address) {
+            return Some(word);
         }
-        if address < 0x3000_0000 {
-            return word_of(&self.program, address - 0x2000_0000);
+        if let Some(word) = word_of(&self.program, address.wrapping_sub(0x2000_0000)) {
+            return Some(word);
         }
         match &self.card {
-            Some(card) => word_of(card, address - 0x3000_0000),
+            Some(card) => word_of(card, address.wrapping_sub(0x3000_0000)),
             None => None,
+        }
+    }
+
+    /// The same, for the words of instructions: the program is tried first.
+    pub fn fetch(&self, address: u32) -> Option<u32>
+        ensures { result ≡ word_at (memory_state self.now) address }
+    {
+        match word_of(&self.program, address.wrapping_sub(0x2000_0000)) {
+            Some(word) => Some(word),
+            None => self.read(address),
         }
     }
 
@@ -66,13 +76,13 @@ impl Memory {
         ensures after { result ≡ true → memory_state self.new ≡ stored (memory_state self.old) address word }
         ensures kept { result ≡ false → memory_state self.new ≡ memory_state self.old }
     {
-        if address < 0x3000_0000 {
-            return put_word(&mut self.ram, address, word);
+        if put_word(&mut self.ram, address, word) {
+            return true;
         }
         let Some(card) = &mut self.card else {
             return false;
         };
-        put_word(card, address - 0x3000_0000, word)
+        put_word(card, address.wrapping_sub(0x3000_0000), word)
     }
 
     /// The card's words.

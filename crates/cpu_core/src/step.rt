@@ -37,9 +37,9 @@ impl Cpu {
         ensures { result ≡ fetched (state_of self.now) }
     {
         let counter = self.address();
-        let first = self.read(counter)?;
+        let first = self.read_code(counter)?;
         if first / 0x0200_0000 % 2 == 1 {
-            let second = self.read(wrap_add(counter, 1))?;
+            let second = self.read_code(wrap_add(counter, 1))?;
             Some((first, Some(second)))
         } else {
             Some((first, None))

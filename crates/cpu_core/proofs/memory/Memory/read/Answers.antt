@@ -1,24 +1,28 @@
-use Rattle.std.proofs.Common.{◌∙◌}
-use Rattle.cpu_core.proofs.Spaces.{ram_word, program_word, card_word_at, no_card_word}
+use Rattle.std.proofs.Common.{◌∙◌, sym, ap}
+use Rattle.std.specs.List.{slice_get}
+use Rattle.cpu_core.proofs.Spaces.{ram_hit, program_hit, card_hit, no_card_hit}
 use Rattle.cpu_core.proofs.memory.Memory.read.Goals as goal
-
-pub returns-then-address-lt536870912 : goal.returns-then-address-lt536870912
-returns-then-address-lt536870912 c =
-    rw (← c.self.view_is) (c.word_of.ensures ∙ rw c.deref.ensures.value (ram_word _ _ c.self.invariant c.if-address-lt536870912.true))
-
-pub returns-then-address-lt805306368 : goal.returns-then-address-lt805306368
-returns-then-address-lt805306368 c =
-    rw (← c.self.view_is)
-    (c.word_of-then-address-lt805306368.ensures
-    ∙ rw c.deref-then-address-lt805306368.ensures.value (program_word _ _ c.if-address-lt536870912.false c.if-address-lt805306368.true))
 
 pub returns-in-Some : goal.returns-in-Some
 returns-in-Some c =
-    rw (← c.self.view_is, c.in-Some.is)
-    (c.word_of-in-Some.ensures
-    ∙ rw c.deref-in-Some.ensures.value (card_word_at c.self.inside.ram.items c.self.inside.program.items c.in-Some.card.items c.args.address (rw c.in-Some.is at c.self.invariant) c.if-address-lt805306368.false))
+    rw (← c.self.view_is) (ram_hit _ c.args.address _ c.self.invariant (rw (← c.deref.ensures.value) (sym c.word_of.ensures ∙ c.in-Some.is)))
+
+pub returns-in-Some-word_of : goal.returns-in-Some-word_of
+returns-in-Some-word_of c =
+    rw (← c.self.view_is) (program_hit _ c.args.address _ c.self.invariant c.ranges.address.fits
+    (rw (← c.deref-2.ensures.value) (sym c.word_of-2.ensures ∙ c.in-Some-word_of.is)))
+
+pub returns-in-Some-card : goal.returns-in-Some-card
+returns-in-Some-card c =
+    rw (← c.self.view_is, c.in-Some-card.is)
+    (c.word_of-in-Some-card.ensures
+    ∙ rw c.deref-in-Some-card.ensures.value (card_hit c.self.inside.ram.items c.self.inside.program.items c.in-Some-card.card.items c.args.address (rw c.in-Some-card.is at c.self.invariant) c.ranges.address.fits
+    (rw (← c.deref.ensures.value) (sym c.word_of.ensures ∙ c.in_default.is))
+    (rw (← c.deref-2.ensures.value) (sym c.word_of-2.ensures ∙ c.in_default-word_of.is))))
 
 pub returns-in-None : goal.returns-in-None
 returns-in-None c =
     rw (← c.self.view_is, c.in-None.is)
-    (no_card_word c.self.inside.ram.items c.self.inside.program.items c.args.address (rw c.in-None.is at c.self.invariant) c.if-address-lt805306368.false)
+    (no_card_hit c.self.inside.ram.items c.self.inside.program.items c.args.address (rw c.in-None.is at c.self.invariant)
+    (rw (← c.deref.ensures.value) (sym c.word_of.ensures ∙ c.in_default.is))
+    (rw (← c.deref-2.ensures.value) (sym c.word_of-2.ensures ∙ c.in_default-word_of.is)))

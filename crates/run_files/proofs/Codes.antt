@@ -1,6 +1,6 @@
 -- The one code of a faulty list of answers.
-use Rattle.std.proofs.Common.{◌≡◌, ℕ, ◌+◌, List, [], ◌∷◌, ◌++◌, refl, ap, sym, ◌∙◌}
-use Rattle.std.specs.Prelude.{Option, Some, None, Result, Ok, Err}
+use Rattle.std.proofs.Common.{◌≡◌, ℕ, ◌+◌, List, [], ◌∷◌, ◌++◌, ap, sym}
+use Rattle.std.specs.Prelude.{Option, Some, None, Err}
 use Rattle.line_text.specs.Reading.{Reading, read_from, after}
 use Rattle.run_files.specs.Answers.{answer_of, answer_step, with_answer}
 

@@ -1,3 +1,9 @@
 pub mod Answers
 pub mod Card
 pub mod Screens
+pub mod Script
+pub mod PadsText
+pub mod PadsReading
+pub mod PadsViews
+pub mod PadsFile
+pub mod PadsAnswer

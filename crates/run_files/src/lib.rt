@@ -7,10 +7,18 @@
 
 mod answers;
 mod card;
+mod laws;
+mod pad_lines;
+mod pads;
 mod screens;
 
 pub use answers::{AnswerErr, read_answers};
 pub use card::{CardErr, read_card};
+pub use laws::{
+    events_say_what_the_grammar_gives, headers_say_what_the_grammar_gives,
+    pads_are_what_the_lines_tell,
+};
+pub use pads::{PadEvent, Pads, PadsErr, read_pads};
 pub use screens::{frames_header, put_words, samples_header};
 
 #[cfg(test)]

@@ -1,0 +1,5 @@
+pub mod Applying
+pub mod Keeping
+pub mod Standing
+pub mod Unconnected
+pub mod Ruling

@@ -1,0 +1,2 @@
+pub mod LaneBytes
+pub mod LaneSteps

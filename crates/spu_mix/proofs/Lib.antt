@@ -1,0 +1,10 @@
+pub mod LaneSteps
+pub mod Positions
+pub mod Runs
+pub mod Sums
+pub mod Changed
+pub mod Standing
+pub mod Within
+pub mod Frames
+pub mod Selected
+pub mod Others

@@ -1,0 +1,13 @@
+// Laws of the definitions.
+ghost use Rattle.std.specs.Prelude.{ℕ, ◌≡◌};
+ghost use Rattle.v32_isa.specs.Runs.{machine_runs};
+ghost use Rattle.v32_console.specs.Machine.{end_of, operations_of};
+ghost use Rattle.v32_console.specs.Moments.{console_at, opening_moment};
+ghost use Rattle.v32_console.specs.Setup.{Setup};
+
+/// The console is the machine on a list of port answers: after k instructions and frame edges, with the answers that the
+/// devices gave up to there, the machine has after as many instructions the same port operations, end and state.
+pub fn operations_are_the_machines()
+    ensures machine { (u : Setup) (k : ℕ) → machine_runs u.program (operations_of u k (opening_moment u)).answers u.card (operations_of u k (opening_moment u)).instructions
+        ≡ record { events = (operations_of u k (opening_moment u)).events; end = end_of (console_at u k).phase; state = (console_at u k).state } }
+{}

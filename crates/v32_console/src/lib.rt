@@ -1,0 +1,19 @@
+//! The console: the processor and the devices behind its ports, frame by frame.
+//!
+//! It promises that a frame goes from one edge of the definition's console to the next, or to the end, that its screen and its
+//! samples are those of what happened at the ports so far, and that the console is the machine on the list of answers
+//! that its devices gave. Nothing after the opening takes memory. It stands on the processor and the devices.
+#![tactic(auto)]
+
+mod board;
+mod console;
+mod frame_end;
+mod laws;
+mod running;
+
+pub use console::Console;
+pub use frame_end::FrameEnd;
+pub use laws::operations_are_the_machines;
+
+#[cfg(test)]
+mod tests;

@@ -1,2 +1,3 @@
 mod Disassembling
+pub mod Names
 pub mod Spelled

@@ -4,3 +4,4 @@ pub mod Operands
 pub mod Written
 pub mod Disassembled
 pub mod Words
+pub mod Vocabulary

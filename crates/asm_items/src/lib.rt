@@ -9,11 +9,13 @@ mod disassembly;
 mod item;
 mod laws;
 mod mnemonic;
+mod vocabulary;
 mod writing;
 
 pub use disassembly::disassemble;
 pub use item::{AsmItem, Imm};
 pub use laws::words_are_given_again;
+pub use vocabulary::{DataWord, Operation, WordKind, is_label_word, is_word_byte, word_kind};
 pub use writing::write_asm;
 
 #[cfg(test)]

@@ -1,5 +1,5 @@
 // Worked rows, and each public call once.
-use crate::{AsmItem, disassemble, write_asm};
+use crate::{AsmItem, disassemble, is_label_word, write_asm};
 use either::Either;
 use kit_base::Name;
 use std::test::Fail;
@@ -29,4 +29,28 @@ fn items_are_written(rt: HostRuntime) -> Result<(), Fail> {
         "HLT\nMOV R1, [BP+0xFFFFFFFE]\nOUT 0x202, R1\nstart:\nMOV [done], SR\nIN SP, 0x3ABC\npointer start\n";
     assert_eq!(rt; text.as_slice(), wanted.as_bytes());
     Ok(())
+}
+
+#[test]
+fn words_that_mean_something_are_no_labels(rt: HostRuntime) {
+    let rows = [
+        ("start", true),
+        ("_x9", true),
+        ("R16", true),
+        ("GPU_DrawingAngle", true),
+        ("gpu_command", true),
+        ("", false),
+        ("9x", false),
+        ("a-b", false),
+        ("hLT", false),
+        ("fadd", false),
+        ("r15", false),
+        ("Sp", false),
+        ("STRING", false),
+        ("GPU_Command", false),
+        ("GPU_RegionHotSpotX", false),
+    ];
+    for (word, label) in rows {
+        assert_eq!(rt; is_label_word(word.as_bytes()), label, "at {word}");
+    }
 }

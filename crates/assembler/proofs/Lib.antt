@@ -4,3 +4,4 @@ mod Walking
 mod Whole
 mod Standing
 mod Again
+pub mod ReadingAgain

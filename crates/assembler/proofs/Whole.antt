@@ -1,12 +1,13 @@
 -- The first pass against the labels of a program, and what a program without a fault is.
-use Rattle.std.proofs.Common.{◌≡◌, ℕ, ◌+◌, ◌≤◌, ◌<◌, ◌^◌, Bool, true, false, cond, ltb, List, [], ◌∷◌, ◌++◌, refl, sym, ap, subst, ◌∙◌, append_assoc, append-nil, arith, true≢false}
+use Rattle.std.proofs.Common.{◌≡◌, ℕ, ◌+◌, ◌≤◌, ◌<◌, ◌^◌, Bool, true, false, cond, ltb, List, [], ◌∷◌, ◌++◌, length, refl, sym, ap, subst, ◌∙◌, append_assoc, append-nil, arith, true≢false}
 use Rattle.std.specs.Prelude.{Option, Some, None, is_some, bytes_eq}
 use Rattle.std.specs.Option.{option_map_or}
 use Rattle.std.proofs.lemmas.Bool.{and_parts, and_from, lt-ltb, ltb-false}
 use Rattle.std.proofs.lemmas.Slice.Eq.{bytes_eq-Decides}
+use Rattle.std.proofs.lemmas.List.{length-append}
 use Rattle.asm_items.specs.declared.item.AsmItem.{AsmItem}
 use Rattle.asm_items.specs.declared.item.AsmItem.TheVariants.{Label, Op, Integer, Pointer}
-use Rattle.asm_items.specs.Words.{words_of_items}
+use Rattle.asm_items.specs.Words.{item_words, words_of_items}
 use Rattle.assembler.specs.Labels.{address_of, address_in, has_label, are_words}
 use Rattle.assembler.specs.Naming.{is_known, named_in}
 use Rattle.assembler.specs.Placed.{item_size, label_at, labels_from, labels_of, Placed}
@@ -14,6 +15,7 @@ use Rattle.assembler.specs.Sizes.{total_size}
 use Rattle.assembler.specs.Faults.{Fault, label_in, with_name, twice_from, past_from, unknown_from, naming_fault, or_past, fault_of}
 use Rattle.assembler.specs.Survey.{with_item, collected, has_item, names_of}
 use Rattle.assembler.proofs.Walking.{among, names_more}
+use Rattle.assembler.proofs.ItemSizes.{op_size}
 
 -- ---- the same names
 
@@ -103,6 +105,25 @@ fits (item ∷ items) number words few e = elim (ltb 33554432 (words + item_size
 
 pub within : (items : List AsmItem) → fault_of items ≡ None → total_size items ≤ 33554432
 within items e = let few = fits items 1 0 (omega arith) (faultless items e).1 in omega (arith, few)
+
+-- as many words as the sizes are together, wherever labels stand
+item_words_size : (address : List ℕ → ℕ) (item : AsmItem) → length (item_words address item) ≡ item_size item
+item_words_size address (Label name) = refl
+item_words_size address (Op i) = op_size address i ∙ sym (op_size (λ name. 0) i)
+item_words_size address (Integer w) = refl
+item_words_size address (Pointer name) = refl
+
+words_size : (address : List ℕ → ℕ) (items : List AsmItem) → length (words_of_items address items) ≡ total_size items
+unfolding total_size
+words_size address [] = refl
+words_size address (item ∷ items) =
+    length-append (item_words address item) (words_of_items address items) ∙ rw (item_words_size address item, words_size address items) refl
+
+pub few_words : (items : List AsmItem) (words : List ℕ) (labels : List (List ℕ × ℕ)) → Placed items words labels → fault_of items ≡ None → length words ≤ 33554432
+few_words items words labels placed none =
+    let few = within items none in
+    let size : length words ≡ total_size items = ap length placed.words_are ∙ words_size (address_in labels) items in
+    omega (arith, few, size)
 
 -- ---- addresses are words
 

@@ -5,8 +5,8 @@ use Rattle.asm_items.specs.declared.item.AsmItem.{AsmItem}
 use Rattle.asm_items.specs.declared.item.AsmItem.TheVariants.{Label, Op, Integer, Pointer}
 use Rattle.assembler.specs.Naming.{is_known}
 use Rattle.assembler.specs.Placed.{item_size, labels_of}
-use Rattle.assembler.specs.declared.error.AsmErr.{AsmErr}
-use Rattle.assembler.specs.declared.error.AsmErr.TheVariants as errors
+use Rattle.asm_reader.specs.declared.error.AsmErr.{AsmErr}
+use Rattle.asm_reader.specs.declared.error.AsmErr.TheVariants as errors
 
 -- the name of a label
 abbrev pub label_in : AsmItem → Option (List ℕ)

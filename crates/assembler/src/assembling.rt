@@ -1,16 +1,16 @@
 // Items to words.
-ghost use Rattle.std.specs.Prelude.{◌≡◌, IfErr, IfOk, OnOk, None, []};
+ghost use Rattle.std.specs.Prelude.{◌≡◌, ◌≤◌, IfErr, IfOk, OnOk, None, [], length};
 ghost use Rattle.assembler.specs.Placed.{Placed};
 ghost use Rattle.assembler.specs.Faults.{IsRefusal, fault_of, naming_fault, or_past, twice_from};
 ghost use Rattle.assembler.specs.Survey.{collected};
 
-use crate::error::AsmErr;
 use crate::naming::first_unknown;
 use crate::placement::{Placement, labels_of};
 use crate::resolving::words_of_items;
 use crate::sizes::first_past;
 use crate::survey::{Survey, surveyed};
 use asm_items::AsmItem;
+use asm_reader::AsmErr;
 use kit_base::Seq;
 use std::alloc::Global;
 
@@ -52,10 +52,11 @@ fn fault_of(survey: &Survey<'_>, items: &[AsmItem]) -> Option<(u32, u64)>
 /// are, with the number of the first faulty item, counted from 1: 64 a label that stands twice and
 /// 65 a label that is unknown; then 66 more than 33,554,432 words, at the first item that ends past
 /// that. Want of memory is the one other error.
-#[tactic(auto, using(crate::proofs::Whole::are_addresses, crate::proofs::Whole::within, crate::proofs::Whole::placed))]
+#[tactic(auto, using(crate::proofs::Whole::are_addresses, crate::proofs::Whole::within, crate::proofs::Whole::placed, crate::proofs::Whole::few_words))]
 pub fn assemble(alloc: Global, items: &[AsmItem]) -> Result<Placement, AsmErr>
     ensures placed { IfOk result (λ p. Placed items.now p.words p.labels) }
     ensures faultless { OnOk result (fault_of items.now ≡ None) }
+    ensures few { IfOk result (λ p. length p.words ≤ 33554432) }
     ensures refused { IfErr result (IsRefusal items.now) }
 {
     let survey = surveyed(alloc, items)?;

@@ -1,11 +1,13 @@
 // Laws of the definitions.
-ghost use Rattle.std.specs.Prelude.{◌≡◌, ◌≤◌, ◌+◌, ◌++◌, ◌∷◌, ℕ, List, Option, None, Some, length};
+ghost use Rattle.std.specs.Prelude.{◌≡◌, ◌≤◌, ◌<◌, ◌^◌, ◌+◌, ◌++◌, ◌∷◌, ℕ, List, All, Option, None, Some, Ok, length};
 ghost use Rattle.asm_items.specs.declared.item.AsmItem.{AsmItem};
 ghost use Rattle.asm_items.specs.declared.item.AsmItem.TheVariants as items;
 ghost use Rattle.asm_items.specs.Disassembled.{disassembled};
+ghost use Rattle.asm_items.specs.Written.{written};
+ghost use Rattle.asm_reader.specs.Reading.{read};
 ghost use Rattle.assembler.specs.Faults.{fault_of};
 ghost use Rattle.assembler.specs.Labels.{address_of};
-ghost use Rattle.assembler.specs.Placed.{Placed};
+ghost use Rattle.assembler.specs.Placed.{Placed, labels_of};
 ghost use Rattle.assembler.specs.Standing.{Stands};
 ghost use Rattle.assembler.specs.Sizes.{total_size};
 
@@ -23,4 +25,11 @@ pub fn labels_are_addresses()
 pub fn words_assemble_again()
     ensures faultless { (words : List ℕ) → length words ≤ 33554432 → fault_of (disassembled words) ≡ None }
     ensures again { (words again : List ℕ) (labels : List (List ℕ × ℕ)) → Placed (disassembled words) again labels → again ≡ words }
+{}
+
+/// The text of words that were taken apart reads as their items again, and what it reads as has no fault and
+/// is placed as those words.
+pub fn disassembly_assembles_again()
+    ensures reads { (words : List ℕ) → All (λ w. w < 2 ^ 32) words → read (written (disassembled words)) ≡ Ok (disassembled words) }
+    ensures assembles { (words : List ℕ) (items : List AsmItem) → All (λ w. w < 2 ^ 32) words → length words ≤ 33554432 → read (written (disassembled words)) ≡ Ok items → (fault_of items ≡ None) × Placed items words (labels_of items) }
 {}

@@ -5,7 +5,6 @@
 #![tactic(auto)]
 
 mod assembling;
-mod error;
 mod labels;
 mod laws;
 mod naming;
@@ -14,8 +13,8 @@ mod resolving;
 mod sizes;
 mod survey;
 
+pub use asm_reader::{AsmErr, read_asm};
 pub use assembling::assemble;
-pub use error::AsmErr;
 pub use laws::{labels_are_addresses, words_assemble_again, words_stand_at_the_sizes_before};
 pub use placement::Placement;
 

@@ -1,0 +1,11 @@
+pub mod Faults
+pub mod Parted
+pub mod Numbers
+pub mod Quoted
+pub mod Tokens
+pub mod Operands
+pub mod Forms
+pub mod Lines
+pub mod Reading
+pub mod Grammar
+pub mod Readable

@@ -13,4 +13,6 @@ mod run;
 mod tests;
 mod text;
 
+pub use digits::word_digits;
+pub use line::Line;
 pub use run::Trace;

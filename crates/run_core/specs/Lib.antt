@@ -1,0 +1,4 @@
+pub mod Outputs
+pub mod Ending
+pub mod Writing
+pub mod Stands

@@ -1,6 +1,6 @@
 -- A status 0 says that the build stands.
-use Rattle.std.proofs.Common.{ℕ, ◌≡◌, Bool, true, false, List, [], ◌∷◌, refl, sym, ap, subst, ◌∙◌, arith}
-use Rattle.std.specs.Prelude.{Option, Some, None, Result, Ok, Err, IfSome, IsSomeAnd, if◌then◌else◌, codes}
+use Rattle.std.proofs.Common.{ℕ, ◌≡◌, ◌⊎◌, inl, inr, Bool, true, false, List, [], ◌∷◌, refl, sym, ap, subst, ◌∙◌, arith}
+use Rattle.std.specs.Prelude.{Option, Some, None, Result, Ok, Err, IfSome, IsSomeAnd, if◌then◌else◌, codes, ◌&&◌}
 use Rattle.std.specs.List.{list_all}
 use Rattle.std.specs.Str.{bytes_eq}
 use Rattle.std.specs.FinMap.{get}
@@ -14,7 +14,9 @@ use Rattle.project_text.specs.MapText.{map_text}
 use Rattle.kit_core.specs.declared.refusal.Refusal.{Refusal}
 use Rattle.kit_core.specs.declared.refusal.Refusal.TheVariants as refusals
 use Rattle.kit_core.specs.Refusal.{status_of}
-use Rattle.kit_core.specs.Command.{Build, Trace, is_word, is_number, card_of, build_form, migrate_form, trace_form, form_of, form_with, command_of}
+use Rattle.kit_core.specs.declared.conversion.Conversion.{Conversion}
+use Rattle.kit_core.specs.declared.conversion.Conversion.TheVariants.{Migrate, Assemble, Disassemble}
+use Rattle.kit_core.specs.Command.{RunWords, Build, Convert, Trace, Run, are_distinct, checked_run, run_form, is_word, is_number, card_of, build_form, convert_form, trace_form, converting_form_of, form_of, form_with, command_of}
 use Rattle.kit_core.specs.Inputs.{◌>>=◌, or_refused, or_usage, unread}
 use Rattle.kit_core.specs.Due.{Work, unbuilt, outputs_of, build_due, work_due}
 use Rattle.kit_core.specs.Outcome.{putting, EndsAs, Done, Refused, FileFault, OutOfMemory, SinkFault, IsOutcome}
@@ -39,12 +41,23 @@ chosen : {A : Type 0} (test : Bool) (o : Option A) (x : A) → (if test then o e
 chosen true o x h = h
 chosen false o x h = cc
 
--- a migration is no build
-by_migrate : (arguments : List (List ℕ)) (p c n : List ℕ) → migrate_form arguments ≡ Some (Build p c n) → ⊥
-by_migrate [] p c n h = absurd cc
-by_migrate (a ∷ []) p c n h = absurd cc
-by_migrate (cart ∷ migrated ∷ []) p c n h = absurd cc
-by_migrate (a ∷ b ∷ d ∷ rest) p c n h = absurd cc
+-- a conversion is no build
+by_convert : (conversion : Conversion) (arguments : List (List ℕ)) (p c n : List ℕ) → convert_form conversion arguments ≡ Some (Build p c n) → ⊥
+by_convert conversion [] p c n h = absurd cc
+by_convert conversion (a ∷ []) p c n h = absurd cc
+by_convert conversion (source ∷ target ∷ []) p c n h = absurd cc
+by_convert conversion (a ∷ b ∷ d ∷ rest) p c n h = absurd cc
+
+by_kind : (is_migrate is_asm is_dis : Bool) (arguments : List (List ℕ)) (p c n : List ℕ)
+    → (if is_migrate then convert_form Migrate arguments else (if is_asm then convert_form Assemble arguments else (if is_dis then convert_form Disassemble arguments else None))) ≡ Some (Build p c n) → ⊥
+by_kind true is_asm is_dis arguments p c n h = by_convert Migrate arguments p c n h
+by_kind false true is_dis arguments p c n h = by_convert Assemble arguments p c n h
+by_kind false false true arguments p c n h = by_convert Disassemble arguments p c n h
+by_kind false false false arguments p c n h = absurd cc
+
+by_converting : (name : List ℕ) (arguments : List (List ℕ)) (p c n : List ℕ) → converting_form_of name arguments ≡ Some (Build p c n) → ⊥
+unfolding converting_form_of
+by_converting name arguments p c n h = by_kind (bytes_eq name (codes "migrate")) (bytes_eq name (codes "asm")) (bytes_eq name (codes "dis")) arguments p c n h
 
 -- a trace is no build
 by_trace : (arguments : List (List ℕ)) (p c n : List ℕ) → trace_form arguments ≡ Some (Build p c n) → ⊥
@@ -55,18 +68,34 @@ by_trace (a ∷ b ∷ d ∷ []) p c n h = absurd cc
 by_trace (cart ∷ answers ∷ card ∷ steps ∷ []) p c n h = let named : Some (Trace cart answers (card_of card) steps) ≡ Some (Build p c n) = chosen (is_number steps) _ _ h in absurd cc
 by_trace (a ∷ b ∷ d ∷ e ∷ f ∷ rest) p c n h = absurd cc
 
-by_form : (is_build is_migrate is_trace : Bool) (arguments : List (List ℕ)) (p c n : List ℕ)
-    → (if is_build then build_form arguments else (if is_migrate then migrate_form arguments else (if is_trace then trace_form arguments else None))) ≡ Some (Build p c n) → bytes_eq c n ≡ false
-by_form true is_migrate is_trace arguments p c n h = by_arguments arguments p c n h
-by_form false true is_trace arguments p c n h = absurd (by_migrate arguments p c n h)
-by_form false false true arguments p c n h = absurd (by_trace arguments p c n h)
-by_form false false false arguments p c n h = cc
+-- a run is no build
+by_checked : (words : RunWords) (p c n : List ℕ) → checked_run words ≡ Some (Build p c n) → ⊥
+by_checked words p c n h = let named : Some (Run words) ≡ Some (Build p c n) = chosen (is_number words.count && are_distinct words) _ _ h in absurd cc
+
+by_run : (arguments : List (List ℕ)) (p c n : List ℕ) → run_form arguments ≡ Some (Build p c n) → ⊥
+by_run [] p c n h = absurd cc
+by_run (a ∷ []) p c n h = absurd cc
+by_run (a ∷ b ∷ []) p c n h = absurd cc
+by_run (a ∷ b ∷ d ∷ []) p c n h = absurd cc
+by_run (a ∷ b ∷ d ∷ e ∷ []) p c n h = absurd cc
+by_run (a ∷ b ∷ d ∷ e ∷ f ∷ []) p c n h = absurd cc
+by_run (cart ∷ pads ∷ frames ∷ samples ∷ count ∷ card ∷ []) p c n h =
+    by_checked (record { cart = cart; pads = pads; frames = frames; samples = samples; count = count; card = card_of card }) p c n h
+by_run (a ∷ b ∷ d ∷ e ∷ f ∷ g ∷ i ∷ rest) p c n h = absurd cc
+
+by_form : (is_build is_trace is_run : Bool) (name : List ℕ) (arguments : List (List ℕ)) (p c n : List ℕ)
+    → (if is_build then build_form arguments else (if is_trace then trace_form arguments else (if is_run then run_form arguments else converting_form_of name arguments))) ≡ Some (Build p c n)
+    → bytes_eq c n ≡ false
+by_form true is_trace is_run name arguments p c n h = by_arguments arguments p c n h
+by_form false true is_run name arguments p c n h = absurd (by_trace arguments p c n h)
+by_form false false true name arguments p c n h = absurd (by_run arguments p c n h)
+by_form false false false name arguments p c n h = absurd (by_converting name arguments p c n h)
 
 created_differ : (words : List (List ℕ)) (p c n : List ℕ) → command_of words ≡ Some (Build p c n) → bytes_eq c n ≡ false
 unfolding form_of form_with
 created_differ [] p c n h = cc
 created_differ (name ∷ arguments) p c n h =
-    by_form (bytes_eq name (codes "build")) (bytes_eq name (codes "migrate")) (bytes_eq name (codes "trace")) arguments p c n (chosen (list_all is_word arguments) _ _ h)
+    by_form (bytes_eq name (codes "build")) (bytes_eq name (codes "trace")) (bytes_eq name (codes "run")) name arguments p c n (chosen (list_all is_word arguments) _ _ h)
 
 -- the parts of a work that is due
 pub bind_ok : {A B : Type 0} (r : Result A Refusal) (f : A → Result B Refusal) (y : B) → (r >>= f) ≡ Ok y → (x : A) × (r ≡ Ok x) × (f x ≡ Ok y)
@@ -84,6 +113,31 @@ not_zero (refusals.Limit n) h = omega arith
 not_zero (refusals.OutOfRange n) h = omega arith
 not_zero refusals.LongCartridge h = omega arith
 not_zero refusals.Memory h = omega arith
+
+-- and a status 0 or 3 too
+not_three : (e : Refusal) → status_of e ≡ 3 → ⊥
+not_three refusals.Usage h = omega arith
+not_three (refusals.Source c f l) h = omega arith
+not_three (refusals.Missing n) h = omega arith
+not_three (refusals.Failed n) h = omega arith
+not_three (refusals.Bad c n l) h = omega arith
+not_three (refusals.Limit n) h = omega arith
+not_three (refusals.OutOfRange n) h = omega arith
+not_three refusals.LongCartridge h = omega arith
+not_three refusals.Memory h = omega arith
+
+pub done_at_three : (d : Result Work Refusal) (reads : List (List ℕ)) (m : Held) (status : ℕ) (after : Option Held) (before put : Option (List ℕ))
+    → EndsAs d reads m status after before put → (status ≡ 0) ⊎ (status ≡ 3)
+    → (work : Work) × (d ≡ Ok work) × (after ≡ all_done work.effects (Some m)) × (put ≡ putting work.text before) × (status ≡ work.status)
+done_at_three d reads m status after before put (Done h) z = (h.work, h.is_due, h.files, h.text, h.status_is)
+done_at_three d reads m status after before put (Refused h) (inl z) = absurd (not_zero h.refusal (sym h.status_is ∙ z))
+done_at_three d reads m status after before put (Refused h) (inr z) = absurd (not_three h.refusal (sym h.status_is ∙ z))
+done_at_three d reads m status after before put (FileFault h) (inl z) = absurd (omega (arith, h.status_is))
+done_at_three d reads m status after before put (FileFault h) (inr z) = absurd (omega (arith, h.status_is))
+done_at_three d reads m status after before put (OutOfMemory s h) (inl z) = absurd (omega arith)
+done_at_three d reads m status after before put (OutOfMemory s h) (inr z) = absurd (omega arith)
+done_at_three d reads m status after before put (SinkFault s h) (inl z) = absurd (omega arith)
+done_at_three d reads m status after before put (SinkFault s h) (inr z) = absurd (omega arith)
 
 pub done_at_zero : (d : Result Work Refusal) (reads : List (List ℕ)) (m : Held) (status : ℕ) (after : Option Held) (before put : Option (List ℕ))
     → EndsAs d reads m status after before put → status ≡ 0 → (work : Work) × (d ≡ Ok work) × (after ≡ all_done work.effects (Some m)) × (put ≡ putting work.text before)

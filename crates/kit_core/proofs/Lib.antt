@@ -5,8 +5,9 @@ pub mod Stages
 pub mod Seconds
 pub mod Own
 pub mod Numbers
-pub mod Migrations
+pub mod Conversions
 pub mod Outcomes
 pub mod Writes
 pub mod Headlines
 pub mod Traces
+pub mod Games

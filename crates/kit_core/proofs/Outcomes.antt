@@ -8,7 +8,7 @@ use Rattle.kit_core.specs.declared.refusal.Refusal.TheVariants as refusals
 use Rattle.kit_core.specs.Refusal.{status_of, line_of}
 use Rattle.kit_core.specs.Due.{Work}
 use Rattle.kit_core.specs.Outcome.{putting, Comes, EndsAs, Done, Refused, FileFault, OutOfMemory, SinkFault, IsCutOff}
-use Rattle.kit_core.specs.Carrying.{Leaves, Shows, text_of}
+use Rattle.kit_core.specs.Carrying.{Leaves, Shows, shown_status, text_of}
 use Rattle.kit_core.specs.declared.shown.Shown.{Shown}
 
 module _ (due : Result Work Refusal) (reads : List (List ℕ)) (m : Held) (status : ℕ) (after : Option Held) (before put : Option (List ℕ)) where
@@ -17,11 +17,11 @@ module _ (due : Result Work Refusal) (reads : List (List ℕ)) (m : Held) (statu
   cut_off (inl s) h = OutOfMemory s h
   cut_off (inr s) h = SinkFault s h
 
-  pub outcome_done : (v : Shown) → Leaves (Ok v) due reads m after → Shows 0 (text_of v) status before put → EndsAs due reads m status after before put
-  outcome_done v (work, is_due, files, text) (inl (s, p)) =
-      Done (record { work = work; is_due = is_due; status_is = s; files = files; text = p ∙ ap (λ xs. putting xs before) text })
-  outcome_done v left (inr (s, (count, line_count, p))) =
-      cut_off s (record { whole = text_of v; shown = inl left; count = count; line_count = line_count; text = p })
+  pub outcome_done : (v : Shown) → Leaves (Ok v) due reads m after → Shows (shown_status v) (text_of v) status before put → EndsAs due reads m status after before put
+  outcome_done v (work, is_due, files, text, same) (inl (s, p)) =
+      Done (record { work = work; is_due = is_due; status_is = s ∙ same; files = files; text = p ∙ ap (λ xs. putting xs before) text })
+  outcome_done v (work, is_due, files, text, same) (inr (s, (count, line_count, p))) =
+      cut_off s (record { whole = text_of v; shown = inl (work, is_due, files, text); count = count; line_count = line_count; text = p })
 
   memory_line : (list : List ℕ) → putting list before ≡ putting (take (length list) list ++ take 0 list) before
   memory_line list = ap (λ xs. putting xs before) (sym (append-nil (take (length list) list) ∙ take-length list))

@@ -11,7 +11,7 @@ use Rattle.kit_core.specs.declared.refusal.Refusal.TheVariants as refusals
 use Rattle.kit_core.specs.Inputs.{◌>>=◌, or_refused, unread}
 use Rattle.kit_core.specs.Due.{Work, unbuilt, outputs_of, build_due, build_reads, reads_in}
 use Rattle.kit_core.specs.Outcome.{Comes}
-use Rattle.kit_core.specs.Carrying.{GivesBy, FailsAt, IsCut, Leaves, text_of}
+use Rattle.kit_core.specs.Carrying.{GivesBy, FailsAt, IsCut, Leaves, shown_status, text_of}
 use Rattle.kit_core.specs.declared.shown.Shown.{Shown}
 
 -- a reading part was refused, and nothing was changed
@@ -83,15 +83,15 @@ module _ (project cart map_name text : List ℕ) where
   WasRead held = IfSome held (λ m. or_refused (unread project) (due m project) ≡ Ok text)
 
   after_read : (m : Held) → WasRead (Some m)
-      → build_due project cart map_name m ≡ (or_refused (unbuilt project) (built_of m text) >>= λ b. Ok (record { effects = outputs_of cart map_name b; text = [] }))
-  after_read m read = ap (λ r. r >>= λ t. or_refused (unbuilt project) (built_of m t) >>= λ b. Ok (record { effects = outputs_of cart map_name b; text = [] })) read
+      → build_due project cart map_name m ≡ (or_refused (unbuilt project) (built_of m text) >>= λ b. Ok (record { effects = outputs_of cart map_name b; text = []; status = 0 }))
+  after_read m read = ap (λ r. r >>= λ t. or_refused (unbuilt project) (built_of m t) >>= λ b. Ok (record { effects = outputs_of cart map_name b; text = []; status = 0 })) read
 
   refused_after : (e : Refusal) (m : Held) (held : Option Held) → WasRead (Some m) → GivesBy (λ b. b) (Err e) (or_refused (unbuilt project) (built_of m text))
       → FailsAt (reads_of m text) e → held ≡ Some m → Comes e (build_due project cart map_name m) (build_reads project m) m held
   refused_after e m held read given at same =
       stopped (λ (b : Built). b) e (or_refused (unbuilt project) (built_of m text)) _ _ m held given
       (fails_later project (reads_in m (due m project)) e (subst (λ d. FailsAt (reads_in m d) e) (sym (refused_gave _ _ _ read)) at))
-      (λ r is. after_read m read ∙ ap (λ d. d >>= λ b. Ok (record { effects = outputs_of cart map_name b; text = [] })) is)
+      (λ r is. after_read m read ∙ ap (λ d. d >>= λ b. Ok (record { effects = outputs_of cart map_name b; text = []; status = 0 })) is)
       same
 
   -- the build was refused
@@ -108,17 +108,17 @@ module _ (project cart map_name text : List ℕ) where
     abbrev pub WasBuilt : Option Held → Type 0
     WasBuilt held = IfSome held (λ m. or_refused (unbuilt project) (built_of m text) ≡ Ok b)
 
-    due_work : (m : Held) → WasRead (Some m) → WasBuilt (Some m) → build_due project cart map_name m ≡ Ok (record { effects = outputs_of cart map_name b; text = [] })
-    due_work m read built = after_read m read ∙ ap (λ d. d >>= λ b. Ok (record { effects = outputs_of cart map_name b; text = [] })) built
+    due_work : (m : Held) → WasRead (Some m) → WasBuilt (Some m) → build_due project cart map_name m ≡ Ok (record { effects = outputs_of cart map_name b; text = []; status = 0 })
+    due_work m read built = after_read m read ∙ ap (λ d. d >>= λ b. Ok (record { effects = outputs_of cart map_name b; text = []; status = 0 })) built
 
-    pub left_done : (v : Shown) (h0 h1 h2 h3 : Option Held) → text_of v ≡ [] → WasRead h0 → h1 ≡ h0 → WasBuilt h1 → h2 ≡ h1 → h3 ≡ all_done (outputs_of cart map_name b) h2
+    pub left_done : (v : Shown) (h0 h1 h2 h3 : Option Held) → text_of v ≡ [] → shown_status v ≡ 0 → WasRead h0 → h1 ≡ h0 → WasBuilt h1 → h2 ≡ h1 → h3 ≡ all_done (outputs_of cart map_name b) h2
         → IfSome h0 (λ m. Leaves (Ok v) (build_due project cart map_name m) (build_reads project m) m h3)
-    left_done v None h1 h2 h3 empty read e1 built e2 e3 = tt
-    left_done v (Some m) h1 h2 h3 empty read e1 built e2 e3 =
-        (record { effects = outputs_of cart map_name b; text = [] }, due_work m read (subst WasBuilt e1 built), e3 ∙ ap (all_done (outputs_of cart map_name b)) (e2 ∙ e1), empty)
+    left_done v None h1 h2 h3 empty nought read e1 built e2 e3 = tt
+    left_done v (Some m) h1 h2 h3 empty nought read e1 built e2 e3 =
+        (record { effects = outputs_of cart map_name b; text = []; status = 0 }, due_work m read (subst WasBuilt e1 built), e3 ∙ ap (all_done (outputs_of cart map_name b)) (e2 ∙ e1), empty, nought)
 
     pub left_cut : (e : Refusal) (h0 h1 h2 h3 : Option Held) → WasRead h0 → h1 ≡ h0 → WasBuilt h1 → h2 ≡ h1 → IsCut e (outputs_of cart map_name b) h2 h3
         → IfSome h0 (λ m. Comes e (build_due project cart map_name m) (build_reads project m) m h3)
     left_cut e None h1 h2 h3 read e1 built e2 is_cut = tt
     left_cut e (Some m) h1 h2 h3 read e1 built e2 is_cut =
-        cut e (record { effects = outputs_of cart map_name b; text = [] }) _ _ m h3 (due_work m read (subst WasBuilt e1 built)) (subst (λ h. IsCut e (outputs_of cart map_name b) h h3) (e2 ∙ e1) is_cut)
+        cut e (record { effects = outputs_of cart map_name b; text = []; status = 0 }) _ _ m h3 (due_work m read (subst WasBuilt e1 built)) (subst (λ h. IsCut e (outputs_of cart map_name b) h h3) (e2 ∙ e1) is_cut)

@@ -3,6 +3,8 @@ use Rattle.std.specs.Prelude.{ℕ, ◌≡◌, ◌⊎◌, List, [], ◌++◌, tak
 use Rattle.kit_base.specs.Held.{Held}
 use Rattle.kit_base.specs.Effects.{Effect, all_done, CutShort}
 use Rattle.trace_core.specs.Putting.{trace_text}
+use Rattle.run_core.specs.Ending.{end_text}
+use Rattle.kit_core.specs.Running.{end_status}
 use Rattle.kit_core.specs.declared.shown.Shown.{Shown}
 use Rattle.kit_core.specs.declared.shown.Shown.TheVariants as shown
 use Rattle.kit_core.specs.declared.refusal.Refusal.{Refusal}
@@ -33,11 +35,18 @@ IsCut refusal effects before after = ⊥
 abbrev pub text_of : Shown → List ℕ
 text_of shown.Nothing = []
 text_of (shown.Run trace) = trace_text trace
+text_of (shown.Ended ending end) = end_text ending end
+
+-- and the status that is answered then
+abbrev pub shown_status : Shown → ℕ
+shown_status shown.Nothing = 0
+shown_status (shown.Run trace) = 0
+shown_status (shown.Ended ending end) = end_status end
 
 -- a whole command: its work was done but for its text, which is handed on, or its refusal came
 abbrev pub Leaves : Result Shown Refusal → Result Work Refusal → List (List ℕ) → Held → Option Held → Type 0
 Leaves (Ok shown) due reads held after =
-    (work : Work) × (due ≡ Ok work) × (after ≡ all_done work.effects (Some held)) × (text_of shown ≡ work.text)
+    (work : Work) × (due ≡ Ok work) × (after ≡ all_done work.effects (Some held)) × (text_of shown ≡ work.text) × (shown_status shown ≡ work.status)
 Leaves (Err refusal) due reads held after = Comes refusal due reads held after
 
 -- one put of a text that ends a command at that status: whole, or a front of it

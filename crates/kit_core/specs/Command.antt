@@ -1,17 +1,30 @@
 -- The words of the command line, and the command that they name.
-use Rattle.std.specs.Prelude.{ℕ, Bool, false, not, ◌&&◌, nat_le, ◌==◌, List, [], ◌∷◌, map, Option, Some, None, String, string_bytes, if◌then◌else◌, codes}
+use Rattle.std.specs.Prelude.{ℕ, Bool, true, false, not, ◌&&◌, nat_le, ◌==◌, List, [], ◌∷◌, map, Option, Some, None, String, string_bytes, if◌then◌else◌, codes}
 use Rattle.std.specs.List.{list_all}
 use Rattle.std.specs.Str.{bytes_eq}
 use Rattle.std.specs.declared.alloc.Global.{Global}
+use Rattle.kit_core.specs.declared.conversion.Conversion.{Conversion}
+use Rattle.kit_core.specs.declared.conversion.Conversion.TheVariants.{Migrate, Assemble, Disassemble}
+
+-- the words of a run; its card is `none` or a file's name
+pub record RunWords : Type 0 where
+  pub cart : List ℕ
+  pub pads : List ℕ
+  pub frames : List ℕ
+  pub samples : List ℕ
+  pub count : List ℕ
+  pub card : Option (List ℕ)
 
 -- a command with the names that its words give
 pub data Command : Type 0 where
   -- `build project cart map`
   Build : (project cart map_name : List ℕ) → Command
-  -- `migrate cart migrated`
-  Migrate : (cart migrated : List ℕ) → Command
+  -- `migrate cart migrated`, `asm text words`, `dis words text`: one file is made of another
+  Convert : Conversion → (source target : List ℕ) → Command
   -- `trace cart answers card steps`, without a card where that word is `none`
   Trace : (cart answers : List ℕ) → (card : Option (List ℕ)) → (steps : List ℕ) → Command
+  -- `run cart pads frames samples count card`
+  Run : RunWords → Command
 
 abbrev pub texts : List (String Global) → List (List ℕ)
 texts words = map string_bytes words
@@ -26,9 +39,9 @@ abbrev pub build_form : List (List ℕ) → Option Command
 build_form (project ∷ cart ∷ map_name ∷ []) = if bytes_eq cart map_name then None else Some (Build project cart map_name)
 build_form arguments = None
 
-abbrev pub migrate_form : List (List ℕ) → Option Command
-migrate_form (cart ∷ migrated ∷ []) = Some (Migrate cart migrated)
-migrate_form arguments = None
+abbrev pub convert_form : Conversion → List (List ℕ) → Option Command
+convert_form conversion (source ∷ target ∷ []) = Some (Convert conversion source target)
+convert_form conversion arguments = None
 
 -- decimal digits, as many as one likes
 abbrev pub is_digit : ℕ → Bool
@@ -44,12 +57,35 @@ abbrev pub trace_form : List (List ℕ) → Option Command
 trace_form (cart ∷ answers ∷ card ∷ steps ∷ []) = if is_number steps then Some (Trace cart answers (card_of card) steps) else None
 trace_form arguments = None
 
+-- the files that a run creates
+abbrev pub differ_from : List ℕ → Option (List ℕ) → Bool
+differ_from name None = true
+differ_from name (Some card) = not (bytes_eq name card)
+
+abbrev pub are_distinct : RunWords → Bool
+are_distinct words = not (bytes_eq words.frames words.samples) && (differ_from words.frames words.card && differ_from words.samples words.card)
+
+abbrev pub checked_run : RunWords → Option Command
+checked_run words = if is_number words.count && are_distinct words then Some (Run words) else None
+
+abbrev pub run_form : List (List ℕ) → Option Command
+run_form (cart ∷ pads ∷ frames ∷ samples ∷ count ∷ card ∷ []) =
+    checked_run (record { cart = cart; pads = pads; frames = frames; samples = samples; count = count; card = card_of card })
+run_form arguments = None
+
 -- the form of that name
+unfoldable pub converting_form_of : List ℕ → List (List ℕ) → Option Command
+converting_form_of name arguments =
+    if bytes_eq name (codes "migrate") then convert_form Migrate arguments
+    else (if bytes_eq name (codes "asm") then convert_form Assemble arguments
+    else (if bytes_eq name (codes "dis") then convert_form Disassemble arguments else None))
+
 unfoldable pub form_of : List ℕ → List (List ℕ) → Option Command
 form_of name arguments =
     if bytes_eq name (codes "build") then build_form arguments
-    else (if bytes_eq name (codes "migrate") then migrate_form arguments
-    else (if bytes_eq name (codes "trace") then trace_form arguments else None))
+    else (if bytes_eq name (codes "trace") then trace_form arguments
+    else (if bytes_eq name (codes "run") then run_form arguments
+    else converting_form_of name arguments))
 
 unfoldable pub form_with : (name : List ℕ) → (arguments : List (List ℕ)) → Option Command
 form_with name arguments = if list_all is_word arguments then form_of name arguments else None

@@ -9,19 +9,23 @@ use Rattle.build_core.specs.declared.error.BuildErr.TheVariants as build_errors
 use Rattle.build_core.specs.declared.building.Built.{Built}
 use Rattle.build_core.specs.Due.{built_of, reads_of}
 use Rattle.project_text.specs.MapText.{map_text}
-use Rattle.cart_format.specs.Cartridge.{cart_text}
 use Rattle.kit_core.specs.declared.refusal.Refusal.{Refusal}
 use Rattle.kit_core.specs.declared.refusal.Refusal.TheVariants as refusals
-use Rattle.kit_core.specs.Command.{Command, Build, Migrate, Trace, command_of}
-use Rattle.kit_core.specs.Inputs.{◌>>=◌, or_refused, or_usage, unread, cart_due}
-use Rattle.kit_core.specs.Migration.{second_due}
+use Rattle.kit_core.specs.declared.conversion.Conversion.{Conversion}
+use Rattle.kit_core.specs.Command.{Command, RunWords, Build, Convert, Trace, Run, command_of}
+use Rattle.kit_core.specs.Inputs.{◌>>=◌, or_refused, or_usage, unread}
+use Rattle.kit_core.specs.Converting.{made_due}
 use Rattle.kit_core.specs.Tracing.{traced_due, trace_reads}
+use Rattle.kit_core.specs.Running.{end_status, game_due, game_end, names_in, run_reads}
+use Rattle.run_core.specs.Ending.{end_text}
+use Rattle.run_core.specs.Outputs.{run_outputs}
 
--- What a command does once nothing refused it: what it creates and appends, in order, and the text
--- that is put after that.
+-- What a command does once nothing refused it: what it creates and appends, in order, the text
+-- that is put after that, and the status that is answered then.
 pub record Work : Type 0 where
   pub effects : List Effect
   pub text : List ℕ
+  pub status : ℕ
 
 -- The refusal of a build. A fault in a line is one of the project's text, which goes by the name
 -- that the words give it.
@@ -42,31 +46,35 @@ abbrev pub build_due : (project cart map_name : List ℕ) → Held → Result Wo
 build_due project cart map_name held = do
   text ← or_refused (unread project) (due held project)
   built ← or_refused (unbuilt project) (built_of held text)
-  Ok (record { effects = outputs_of cart map_name built; text = [] })
+  Ok (record { effects = outputs_of cart map_name built; text = []; status = 0 })
 
--- the bytes of the cartridge in its second revision
-abbrev pub migrated_due : List ℕ → Held → Result (List ℕ) Refusal
-migrated_due cart held = do
-  read ← cart_due cart held
-  second ← second_due read
-  Ok (cart_text second)
-
--- that, created and then appended
-abbrev pub migrate_due : (cart migrated : List ℕ) → Held → Result Work Refusal
-migrate_due cart migrated held = do
-  bytes ← migrated_due cart held
-  Ok (record { effects = written_file migrated bytes; text = [] })
+-- the bytes that are made of a file, created and then appended
+abbrev pub convert_due : Conversion → (source target : List ℕ) → Held → Result Work Refusal
+convert_due conversion source target held = do
+  bytes ← made_due conversion source held
+  Ok (record { effects = written_file target bytes; text = []; status = 0 })
 
 -- nothing is created; the text is that of the run
 abbrev pub trace_due : (cart answers : List ℕ) (card : Option (List ℕ)) (steps : List ℕ) → Held → Result Work Refusal
 trace_due cart answers card steps held = do
   text ← traced_due cart answers card steps held
-  Ok (record { effects = []; text = text })
+  Ok (record { effects = []; text = text; status = 0 })
+
+-- the console's run, written frame by frame; the text is the line of a fault
+abbrev pub run_due : RunWords → Held → Result Work Refusal
+run_due words held = do
+  game ← game_due words held
+  Ok (record {
+    effects = run_outputs (names_in words) game.setup game.count;
+    text = end_text game.lines (game_end game);
+    status = end_status (game_end game);
+  })
 
 abbrev pub work_due : Command → Held → Result Work Refusal
 work_due (Build project cart map_name) held = build_due project cart map_name held
-work_due (Migrate cart migrated) held = migrate_due cart migrated held
+work_due (Convert conversion source target) held = convert_due conversion source target held
 work_due (Trace cart answers card steps) held = trace_due cart answers card steps held
+work_due (Run words) held = run_due words held
 
 -- the work of the command of these words, or its first refusal
 abbrev pub command_due : List (List ℕ) → Held → Result Work Refusal
@@ -85,8 +93,9 @@ build_reads project held = project ∷ reads_in held (due held project)
 abbrev pub command_reads : Option Command → Held → List (List ℕ)
 command_reads None held = []
 command_reads (Some (Build project cart map_name)) held = build_reads project held
-command_reads (Some (Migrate cart migrated)) held = cart ∷ []
+command_reads (Some (Convert conversion source target)) held = source ∷ []
 command_reads (Some (Trace cart answers card steps)) held = trace_reads cart answers card
+command_reads (Some (Run words)) held = run_reads words
 
 -- the names that the command of these words reads, in order
 abbrev pub reads_due : List (List ℕ) → Held → List (List ℕ)

@@ -3,10 +3,13 @@ pub mod Command
 pub mod Parsed
 pub mod Inputs
 pub mod Migration
+pub mod Converting
 pub mod Tracing
+pub mod Running
 pub mod Due
 pub mod Causes
 pub mod Limits
 pub mod Outcome
 pub mod Carrying
+pub mod Gaming
 pub mod Headline

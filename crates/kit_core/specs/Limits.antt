@@ -1,13 +1,16 @@
 -- What a command itself finds over a limit, beside the length of a file that it reads.
-use Rattle.std.specs.Prelude.{ℕ, ◌≡◌, ◌<◌, ◌⊎◌, List, Option, Some, Ok, IfSome}
+use Rattle.std.specs.Prelude.{ℕ, ◌≡◌, ◌<◌, ◌⊎◌, false, List, Option, Some, Ok, IfSome}
 use Rattle.kit_base.specs.Held.{Held}
 use Rattle.kit_base.specs.Outside.{due}
 use Rattle.build_core.specs.Causes.{CanBeTooLarge}
 use Rattle.cart_format.specs.Cartridge.{Cartridge, total}
-use Rattle.kit_core.specs.Command.{Build, Migrate, Trace, command_of}
+use Rattle.kit_core.specs.declared.conversion.Conversion.{Conversion}
+use Rattle.kit_core.specs.declared.conversion.Conversion.TheVariants.{Migrate}
+use Rattle.kit_core.specs.Command.{RunWords, Build, Convert, Trace, Run, command_of}
 use Rattle.kit_core.specs.Inputs.{cart_due}
 use Rattle.kit_core.specs.Migration.{in_second}
 use Rattle.kit_core.specs.Tracing.{number_of}
+use Rattle.kit_core.specs.Running.{is_count}
 
 -- the file's cartridge would be too long in its second revision
 pub record IsLong (cart : List ℕ) (held : Option Held) : Type 0 where
@@ -15,12 +18,18 @@ pub record IsLong (cart : List ℕ) (held : Option Held) : Type 0 where
   pub read : IfSome held (λ m. cart_due cart m ≡ Ok value)
   pub over : 268435456 < total (in_second value)
 
--- the words are a migration of such a file
+-- a migration of such a file
+pub record ConvertsLong (conversion : Conversion) (source : List ℕ) (held : Option Held) : Type 0 where
+  pub is_migration : conversion ≡ Migrate
+  pub long : IsLong source held
+
+-- the words are such a migration
 pub record MigratesLong (words : List (List ℕ)) (held : Option Held) : Type 0 where
-  pub cart : List ℕ
-  pub migrated : List ℕ
-  pub named : command_of words ≡ Some (Migrate cart migrated)
-  pub long : IsLong cart held
+  pub conversion : Conversion
+  pub source : List ℕ
+  pub target : List ℕ
+  pub named : command_of words ≡ Some (Convert conversion source target)
+  pub long : ConvertsLong conversion source held
 
 -- the project's cartridge can be too large: with some textures and sounds, one for each that it names
 pub record IsLarge (project : List ℕ) (held : Option Held) : Type 0 where
@@ -45,5 +54,11 @@ pub record TracesTooFar (words : List (List ℕ)) : Type 0 where
   pub named : command_of words ≡ Some (Trace cart answers card steps)
   pub over : 10000000 < number_of steps
 
+-- the words are a run of no frame, or of more than a run may have
+pub record RunsOutOfRange (words : List (List ℕ)) : Type 0 where
+  pub run : RunWords
+  pub named : command_of words ≡ Some (Run run)
+  pub over : is_count (number_of run.count) ≡ false
+
 abbrev pub IsOver : List (List ℕ) → Option Held → Type 0
-IsOver words held = MigratesLong words held ⊎ (BuildsLarge words held ⊎ TracesTooFar words)
+IsOver words held = MigratesLong words held ⊎ (BuildsLarge words held ⊎ (TracesTooFar words ⊎ RunsOutOfRange words))

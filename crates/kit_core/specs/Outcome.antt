@@ -27,11 +27,11 @@ Comes (refusals.Failed name) due reads held after = StopsReading name reads held
 Comes refusals.Memory due reads held after = (after ≡ Some held) ⊎ ((name : List ℕ) × StopsWriting name due held after)
 Comes refusal due reads held after = (due ≡ Err refusal) × (after ≡ Some held)
 
--- Status 0: all effects are done, and the text is put whole.
+-- Status 0, or 3 of a run that ended by a fault: all effects are done, and the text is put whole.
 pub record IsDone (due : Result Work Refusal) (held : Held) (status : ℕ) (after : Option Held) (before put : Option (List ℕ)) : Type 0 where
   pub work : Work
   pub is_due : due ≡ Ok work
-  pub status_is : status ≡ 0
+  pub status_is : status ≡ work.status
   pub files : after ≡ all_done work.effects (Some held)
   pub text : put ≡ putting work.text before
 
@@ -81,5 +81,5 @@ IsOutcome words held status after before put = EndsAs (command_due words held) (
 
 -- the status that is due, where no call fails and memory is there
 abbrev pub status_due : Result Work Refusal → ℕ
-status_due (Ok work) = 0
+status_due (Ok work) = work.status
 status_due (Err refusal) = status_of refusal

@@ -2,9 +2,21 @@
 use Rattle.std.specs.Option.{option_map}
 use Rattle.kit_core.specs.declared.command.Command.TheVariants as parsed
 use Rattle.kit_core.specs.declared.command.Command as declared
-use Rattle.kit_core.specs.Command.{Command, Build, Migrate, Trace}
+use Rattle.kit_core.specs.declared.command.RunWords as run
+use Rattle.kit_core.specs.Command.{Command, RunWords, Build, Convert, Trace, Run}
+
+abbrev pub run_words_from : run.RunWords → RunWords
+run_words_from words = record {
+  cart = words.cart.now;
+  pads = words.pads.now;
+  frames = words.frames.now;
+  samples = words.samples.now;
+  count = words.count.now;
+  card = option_map (λ word. word.now) words.card;
+}
 
 abbrev pub command_from : declared.Command → Command
 command_from (parsed.Build project cart map) = Build project.now cart.now map.now
-command_from (parsed.Migrate cart migrated) = Migrate cart.now migrated.now
+command_from (parsed.Convert conversion source target) = Convert conversion source.now target.now
 command_from (parsed.Trace cart answers card steps) = Trace cart.now answers.now (option_map (λ word. word.now) card) steps.now
+command_from (parsed.Run words) = Run (run_words_from words)

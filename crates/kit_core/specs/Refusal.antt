@@ -1,5 +1,5 @@
 -- The status of a refusal, and the line that is put for it. (The command line's table of statuses.)
-use Rattle.std.specs.Prelude.{ℕ, ◌≤◌, ◌≢◌, List, [], ◌∷◌, Some, None, flat_map, codes}
+use Rattle.std.specs.Prelude.{ℕ, ◌≤◌, List, [], ◌∷◌, Some, None, flat_map, codes}
 use Rattle.std.specs.Fmt.{decimal}
 use Rattle.kit_core.specs.declared.refusal.Refusal.{Refusal}
 use Rattle.kit_core.specs.declared.refusal.Refusal.TheVariants as refusals
@@ -34,7 +34,6 @@ line_of (refusals.OutOfRange word) = joined (codes "limit " ∷ word ∷ (10 ∷
 line_of refusals.LongCartridge = joined (codes "limit cartridge" ∷ (10 ∷ []) ∷ [])
 line_of refusals.Memory = joined (codes "out of memory" ∷ (10 ∷ []) ∷ [])
 
--- A status is 0, 1, 2 or 4 to 9.
-pub record IsStatus (status : ℕ) : Type 0 where
-  pub within : status ≤ 9
-  pub never : status ≢ 3
+-- A status is 0 to 9.
+abbrev pub IsStatus : ℕ → Type 0
+IsStatus status = status ≤ 9

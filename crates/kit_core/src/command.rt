@@ -1,8 +1,21 @@
 // The command that the words name.
 ghost use Rattle.std.specs.Prelude.{◌≡◌, option_map, string_bytes};
 ghost use Rattle.std.specs.List.{list_all};
-ghost use Rattle.kit_core.specs.Command.{command_of, build_form, card_of, form_of, form_with, is_number, is_word, migrate_form, texts, trace_form};
-ghost use Rattle.kit_core.specs.Parsed.{command_from};
+ghost use Rattle.kit_core.specs.Command.{command_of, are_distinct, build_form, card_of, checked_run, convert_form, converting_form_of, differ_from, form_of, form_with, is_number, is_word, run_form, texts, trace_form};
+ghost use Rattle.kit_core.specs.Parsed.{command_from, run_words_from};
+
+use crate::conversion::Conversion;
+
+/// The words of a run.
+#[derive(Clone, Copy)]
+pub struct RunWords<'a> {
+    pub cart: &'a str,
+    pub pads: &'a str,
+    pub frames: &'a str,
+    pub samples: &'a str,
+    pub count: &'a str,
+    pub card: Option<&'a str>,
+}
 
 /// A command, with the words that it was given.
 #[derive(Clone, Copy)]
@@ -12,9 +25,10 @@ pub enum Command<'a> {
         cart: &'a str,
         map: &'a str,
     },
-    Migrate {
-        cart: &'a str,
-        migrated: &'a str,
+    Convert {
+        conversion: Conversion,
+        source: &'a str,
+        target: &'a str,
     },
     Trace {
         cart: &'a str,
@@ -22,6 +36,7 @@ pub enum Command<'a> {
         card: Option<&'a str>,
         steps: &'a str,
     },
+    Run(RunWords<'a>),
 }
 
 /// Whether an argument may be a name or a number.
@@ -55,13 +70,14 @@ fn build_form<'a>(arguments: &'a [String]) -> Option<Command<'a>>
     }
 }
 
-fn migrate_form<'a>(arguments: &'a [String]) -> Option<Command<'a>>
-    ensures { option_map command_from result ≡ migrate_form (texts arguments.now) }
+fn convert_form<'a>(conversion: Conversion, arguments: &'a [String]) -> Option<Command<'a>>
+    ensures { option_map command_from result ≡ convert_form conversion (texts arguments.now) }
 {
     match arguments {
-        [cart, migrated] => Some(Command::Migrate {
-            cart: cart.as_str(),
-            migrated: migrated.as_str(),
+        [source, target] => Some(Command::Convert {
+            conversion,
+            source: source.as_str(),
+            target: target.as_str(),
         }),
         _ => None,
     }
@@ -104,18 +120,78 @@ fn trace_form<'a>(arguments: &'a [String]) -> Option<Command<'a>>
     }
 }
 
+/// Whether the card's file is another one.
+fn differs_from(name: &str, card: Option<&str>) -> bool
+    ensures { result ≡ differ_from name.now (option_map (λ word. word.now) card.entry) }
+{
+    match card {
+        None => true,
+        Some(card) => name != card,
+    }
+}
+
+/// Whether the files that a run creates are different ones.
+fn are_distinct(words: &RunWords<'_>) -> bool
+    ensures { result ≡ are_distinct (run_words_from words.now) }
+{
+    words.frames != words.samples
+        && differs_from(words.frames, words.card)
+        && differs_from(words.samples, words.card)
+}
+
+fn checked_run<'a>(words: RunWords<'a>) -> Option<Command<'a>>
+    ensures { option_map command_from result ≡ checked_run (run_words_from words.entry) }
+{
+    if is_number(words.count) && are_distinct(&words) {
+        Some(Command::Run(words))
+    } else {
+        None
+    }
+}
+
+fn run_form<'a>(arguments: &'a [String]) -> Option<Command<'a>>
+    ensures { option_map command_from result ≡ run_form (texts arguments.now) }
+{
+    match arguments {
+        [cart, pads, frames, samples, count, card] => checked_run(RunWords {
+            cart: cart.as_str(),
+            pads: pads.as_str(),
+            frames: frames.as_str(),
+            samples: samples.as_str(),
+            count: count.as_str(),
+            card: card_of(card.as_str()),
+        }),
+        _ => None,
+    }
+}
+
+#[tactic(auto, unfolding(crate::specs::Command::converting_form_of))]
+fn converting_form_of<'a>(name: &str, arguments: &'a [String]) -> Option<Command<'a>>
+    ensures { option_map command_from result ≡ converting_form_of name.now (texts arguments.now) }
+{
+    if name == "migrate" {
+        convert_form(Conversion::Migrate, arguments)
+    } else if name == "asm" {
+        convert_form(Conversion::Assemble, arguments)
+    } else if name == "dis" {
+        convert_form(Conversion::Disassemble, arguments)
+    } else {
+        None
+    }
+}
+
 #[tactic(auto, unfolding(crate::specs::Command::form_of))]
 fn form_of<'a>(name: &str, arguments: &'a [String]) -> Option<Command<'a>>
     ensures { option_map command_from result ≡ form_of name.now (texts arguments.now) }
 {
     if name == "build" {
         build_form(arguments)
-    } else if name == "migrate" {
-        migrate_form(arguments)
     } else if name == "trace" {
         trace_form(arguments)
+    } else if name == "run" {
+        run_form(arguments)
     } else {
-        None
+        converting_form_of(name, arguments)
     }
 }
 

@@ -8,9 +8,12 @@
 
 mod building;
 mod command;
-mod migrating;
+mod conversion;
+mod converting;
+mod number;
 mod reading;
 mod refusal;
+mod running;
 mod shown;
 mod top;
 mod tracing;

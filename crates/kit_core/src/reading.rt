@@ -78,7 +78,7 @@ fn answers_of_text(alloc: Global, name: &str, text: &[u8]) -> Result<Vec<u32>, R
             Err(Refusal::Bad {
                 code: 111,
                 name: own,
-                line: Some(line),
+                line: Some(u64::from(line)),
             })
         }
         Err(AnswerErr::Memory) => Err(Refusal::Memory),

@@ -26,7 +26,7 @@ pub enum Refusal {
     Bad {
         code: u32,
         name: Name,
-        line: Option<u32>,
+        line: Option<u64>,
     },
     Limit(Name),
     OutOfRange(Name),
@@ -74,10 +74,23 @@ pub fn unbuilt(project: Name, error: BuildErr) -> Refusal
         BuildErr::Source { code, file, line } => Refusal::Source { code, file, line },
         BuildErr::Missing(name) => Refusal::Missing(name),
         BuildErr::Failed(name) => Refusal::Failed(name),
-        BuildErr::Bad { code, name, line } => Refusal::Bad {
+        BuildErr::Bad {
             code,
-            name: if line.is_some() { project } else { name },
-            line,
+            name,
+            line: None,
+        } => Refusal::Bad {
+            code,
+            name,
+            line: None,
+        },
+        BuildErr::Bad {
+            code,
+            line: Some(line),
+            ..
+        } => Refusal::Bad {
+            code,
+            name: project,
+            line: Some(u64::from(line)),
         },
         BuildErr::Limit(name) => Refusal::Limit(name),
         BuildErr::Memory => Refusal::Memory,
@@ -118,7 +131,7 @@ fn source_line(alloc: Global, code: u32, file: &Name, line: u32) -> Result<Vec<u
     )
 }
 
-fn bad_line(alloc: Global, code: u32, name: &Name, line: Option<u32>) -> Result<Vec<u8>, AllocError>
+fn bad_line(alloc: Global, code: u32, name: &Name, line: Option<u64>) -> Result<Vec<u8>, AllocError>
     ensures { IfOk result (λ v. v.items ≡ line_of (Bad code name.now line)) }
 {
     let code = code.to_string(alloc)?;

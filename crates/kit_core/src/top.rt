@@ -2,7 +2,8 @@
 ghost use Rattle.std.specs.Prelude.{◌≡◌, ◌≢◌, ◌≤◌, ◌⊎◌, ℕ, IfSome, IsErr};
 ghost use Rattle.kit_base.specs.Counts.{Rose};
 ghost use Rattle.trace_core.specs.Putting.{trace_text};
-ghost use Rattle.kit_core.specs.Carrying.{Leaves, Puts, Shows, text_of};
+ghost use Rattle.run_core.specs.Ending.{end_text};
+ghost use Rattle.kit_core.specs.Carrying.{Leaves, Puts, Shows, shown_status, text_of};
 ghost use Rattle.kit_core.specs.Causes.{HasCausesOr, HasOnlyRisen, IsUnrisen};
 ghost use Rattle.kit_core.specs.Command.{texts};
 ghost use Rattle.kit_core.specs.Due.{command_due, reads_due};
@@ -10,18 +11,22 @@ ghost use Rattle.kit_core.specs.Headline.{BuildStands};
 ghost use Rattle.kit_core.specs.Limits.{IsOver};
 ghost use Rattle.kit_core.specs.Outcome.{IsOutcome, status_due};
 ghost use Rattle.kit_core.specs.Refusal.{IsStatus, line_of, status_of};
+ghost use Rattle.kit_core.specs.Running.{RunStands, end_status};
 ghost use Rattle.kit_core.specs.Tracing.{TraceStands};
 
 use crate::building::build_command;
 use crate::command::{Command, command_of};
-use crate::migrating::migrate_command;
+use crate::converting::convert_command;
 use crate::refusal::{Refusal, line_of, status_of};
+use crate::running::run_command;
 use crate::shown::Shown;
 use crate::tracing::trace_command;
 use build_core::cartridge_does_what_its_source_means;
 use kit_base::{Files, Sink, SinkErr};
+use run_core::Ending;
 use std::alloc::Global;
 use trace_core::Trace;
+use v32_console::FrameEnd;
 
 const OUT_OF_MEMORY: &[u8] = b"out of memory\n";
 
@@ -64,15 +69,39 @@ fn put_trace<S: Sink>(out: &mut S, trace: Trace) -> u8
     }
 }
 
+/// The status of a run that ended so.
+fn end_status(end: FrameEnd) -> u8
+    ensures { result ≡ end_status end }
+{
+    match end {
+        FrameEnd::Full | FrameEnd::Waited | FrameEnd::Halted => 0,
+        FrameEnd::Fault { .. } | FrameEnd::Undecodable(_) => 3,
+    }
+}
+
+/// Puts the line of a run that ended so, none where it did not end by a fault.
+fn put_end<S: Sink>(out: &mut S, ending: &Ending, end: FrameEnd) -> u8
+    ensures shows { Shows (end_status end) (end_text ending.now end) result (S.written out.old) (S.written out.new) }
+    ensures unput { result ≡ 9 → Rose (S.faults out.old) (S.faults out.new) }
+    ensures later { S.faults out.old ≤ S.faults out.new }
+{
+    match ending.put_end(end, out) {
+        Ok(()) => end_status(end),
+        Err(SinkErr::Failed) => 9,
+        Err(SinkErr::Memory) => put_last(out, OUT_OF_MEMORY, 8),
+    }
+}
+
 /// Puts the text of a command whose outputs are done.
 fn finish<S: Sink>(out: &mut S, shown: Shown) -> u8
-    ensures shows { Shows 0 (text_of shown) result (S.written out.old) (S.written out.new) }
+    ensures shows { Shows (shown_status shown) (text_of shown) result (S.written out.old) (S.written out.new) }
     ensures unput { result ≡ 9 → Rose (S.faults out.old) (S.faults out.new) }
     ensures later { S.faults out.old ≤ S.faults out.new }
 {
     match shown {
         Shown::Nothing => 0,
         Shown::Run(trace) => put_trace(out, trace),
+        Shown::Ended(ending, end) => put_end(out, &ending, end),
     }
 }
 
@@ -86,7 +115,13 @@ fn carry_out<F: Files>(alloc: Global, words: &[String], files: &mut F) -> Result
         Some(Command::Build { project, cart, map }) => {
             build_command(alloc, files, project, cart, map)
         }
-        Some(Command::Migrate { cart, migrated }) => migrate_command(alloc, files, cart, migrated),
+        Some(
+            Command::Convert {
+                conversion,
+                source,
+                target,
+            },
+        ) => convert_command(alloc, files, conversion, source, target),
         Some(
             Command::Trace {
                 cart,
@@ -95,6 +130,7 @@ fn carry_out<F: Files>(alloc: Global, words: &[String], files: &mut F) -> Result
                 steps,
             },
         ) => trace_command(alloc, files, cart, answers, card, steps),
+        Some(Command::Run(words)) => run_command(alloc, files, &words),
     }
 }
 
@@ -115,10 +151,11 @@ fn status_for<F: Files, S: Sink>(alloc: Global, words: &[String], files: &mut F,
 }
 
 /// Carries out the command of these words, those after the program's own name, and answers the exit
-/// status: 0 all was done, 1 the words are no listed form, 2 the sources give no program, 4 a file
-/// is missing, 5 a call of the files failed, 6 a file is not of its grammar, 7 a file, or a
-/// cartridge that is to be written, is over 268,435,456 bytes, or a number of steps is over
-/// 10,000,000, 8 memory ran out, 9 the sink failed. On 1 to 8 a line is put that says so.
+/// status: 0 all was done, 1 the words are no listed form, 2 the sources give no program, 3 a run of
+/// a console ended by a fault or at an undecodable word, 4 a file is missing, 5 a call of the files
+/// failed, 6 a file is not of its grammar, 7 a file, or a cartridge that is to be written, is over
+/// 268,435,456 bytes, or a number of steps or frames is out of its range, 8 memory ran out, 9 the
+/// sink failed. On 1 to 8 a line is put that says so.
 pub fn kit<F: Files, S: Sink>(alloc: Global, words: &[String], files: &mut F, out: &mut S) -> u8
     // Where it is told what is held, the status, what is held after and what was put are those of
     // the command.
@@ -127,6 +164,8 @@ pub fn kit<F: Files, S: Sink>(alloc: Global, words: &[String], files: &mut F, ou
     ensures agrees { IfSome (F.held files.old) (λ m. result ≡ 0 → BuildStands (texts words.now) m (F.held files.new)) }
     // At 0 the text of a trace was put, and no file was changed.
     ensures traces { IfSome (F.held files.old) (λ m. result ≡ 0 → TraceStands (texts words.now) m (F.held files.new) (S.written out.old) (S.written out.new)) }
+    // At 0 and 3 the outputs of a run are those of the console's run, and the line of its fault was put.
+    ensures runs { IfSome (F.held files.old) (λ m. (result ≡ 0) ⊎ (result ≡ 3) → RunStands (texts words.now) m result (F.held files.new) (S.written out.old) (S.written out.new)) }
     // A command whose words or input are refused changes no file, whatever its status.
     ensures untouched { IfSome (F.held files.old) (λ m. IsErr (command_due (texts words.now) m) → F.held files.new ≡ F.held files.old) }
     // Where no call failed, the status is the one that is due, or 8.

@@ -7,6 +7,7 @@ ghost use Rattle.kit_core.specs.Causes.{HasCausesOr, IsOwn};
 ghost use Rattle.kit_core.specs.Due.{trace_due};
 ghost use Rattle.kit_core.specs.Tracing.{number_of, steps_due, trace_reads, traced_due};
 
+use crate::number::number_of;
 use crate::reading::{read_answers_file, read_card_file, read_cart_file};
 use crate::refusal::Refusal;
 use crate::shown::Shown;
@@ -17,21 +18,6 @@ use trace_core::Trace;
 
 /// The most steps of a run.
 const STEP_LIMIT: u32 = 10_000_000;
-
-/// The number of decimal digits, or one more than the most steps where it is over that.
-#[tactic(auto, using(crate::proofs::Numbers::cut_number))]
-fn number_of(digits: &[u8]) -> u32
-    ensures { result ≡ min (number_of digits.now) 10000001 }
-{
-    let mut number = 0u32;
-    let mut rest = digits;
-    'digits: while let Some((first, after)) = rest.split_first() {
-        let next = number * 10 + u32::from(first.saturating_sub(48));
-        number = next.min(STEP_LIMIT + 1);
-        rest = after;
-    }
-    number
-}
 
 /// The steps of a number word.
 fn steps_of(alloc: Global, word: &str) -> Result<u32, Refusal>

@@ -38,4 +38,4 @@ pub returns-clause-told : goal.returns-clause-told
 returns-clause-told g c =
     let built : WasBuilt c.args.project.now c.args.cart.now c.args.map.now c.in_ok-text.text.items c.in_ok-built.built (g.F.Reads.held c.read_file.new.files) = search rules in
     left_done c.args.project.now c.args.cart.now c.args.map.now c.in_ok-text.text.items c.in_ok-built.built shown.Nothing _ (g.F.Reads.held c.read_file.new.files) (g.F.Reads.held c.build_text.new.files) _
-    refl c.in_ok-text.ensures.told c.in_ok-text.ensures.held built c.in_ok-built.ensures.held c.in_ok-write_outputs.ensures.ok
+    refl refl c.in_ok-text.ensures.told c.in_ok-text.ensures.held built c.in_ok-built.ensures.held c.in_ok-write_outputs.ensures.ok

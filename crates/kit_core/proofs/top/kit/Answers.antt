@@ -1,6 +1,7 @@
 use Rattle.kit_core.specs.Command.{texts}
 use Rattle.kit_core.proofs.Headlines.{headline_told}
 use Rattle.kit_core.proofs.Traces.{trace_told}
+use Rattle.kit_core.proofs.Games.{run_told}
 use Rattle.kit_core.proofs.top.kit.Goals as goal
 
 pub returns-clause-agrees : goal.returns-clause-agrees
@@ -11,4 +12,9 @@ returns-clause-agrees g c =
 pub returns-clause-traces : goal.returns-clause-traces
 returns-clause-traces g c =
     trace_told (texts c.args.words.now) c.status_for.result (g.F.Reads.held c.args.files.now) (g.F.Reads.held c.status_for.new.files)
+    (g.S.Sink.written c.args.out.now) (g.S.Sink.written c.status_for.new.out) c.status_for.ensures.told
+
+pub returns-clause-runs : goal.returns-clause-runs
+returns-clause-runs g c =
+    run_told (texts c.args.words.now) c.status_for.result (g.F.Reads.held c.args.files.now) (g.F.Reads.held c.status_for.new.files)
     (g.S.Sink.written c.args.out.now) (g.S.Sink.written c.status_for.new.out) c.status_for.ensures.told

@@ -1,5 +1,5 @@
 use Rattle.std.specs.Option.{option_map}
-use Rattle.kit_core.proofs.Migrations.{trace_opened}
+use Rattle.kit_core.proofs.Conversions.{trace_opened}
 use Rattle.kit_core.proofs.tracing.trace_command.Goals as goal
 
 pub returns-clause-told : goal.returns-clause-told

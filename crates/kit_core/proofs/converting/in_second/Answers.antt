@@ -1,7 +1,7 @@
 use Rattle.std.proofs.Common.{rules, sym, ap, ◌∙◌}
 use Rattle.cart_format.specs.Cartridge.{is_cart}
 use Rattle.kit_core.proofs.Seconds.{second_kept, second_made, second_over, second_long, same_second}
-use Rattle.kit_core.proofs.migrating.in_second.Goals as goal
+use Rattle.kit_core.proofs.converting.in_second.Goals as goal
 
 pub returns-then-revision-eq2-clause-given : goal.returns-then-revision-eq2-clause-given
 returns-then-revision-eq2-clause-given c = second_kept c.args.cart (search rules) (search rules)

@@ -1,0 +1,2 @@
+HLT
+FADD R0, R1

@@ -1,0 +1,2 @@
+a: integer 1
+a: integer 1

@@ -1,0 +1,2 @@
+integer 1
+integer 4294967296

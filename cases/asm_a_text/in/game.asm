@@ -1,0 +1,1 @@
+string "a\x41\n"

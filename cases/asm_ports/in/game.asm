@@ -1,0 +1,4 @@
+OUT GPU_ClearColor, R1
+IN R2, 0x402
+OUT 514, 255
+OUT GPU_RegionHotSpotX, R0

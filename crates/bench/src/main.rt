@@ -1,87 +1,35 @@
-//! Runs the processor on a program given as words, for the comparison of speeds in `bench/run`.
+//! Work of the processor and the devices, for the comparison of speeds in `bench/run`.
 //!
-//! Its arguments are the number of steps in decimal and then the program's words in hexadecimal. It
-//! puts how the run ended and where. It promises nothing beyond safety; what a step does is promised
-//! by `cpu_core`.
+//! `bench STEPS WORD..` runs the processor on the program of these words for so many steps, and puts how the run ended and
+//! where. `bench clears N`, `bench draws N` and `bench mixes N` clear the screen, draw over all of it, or mix a frame of
+//! sixteen looping channels so many times, and put a checksum of the pixels or the samples. Numbers are decimal, words
+//! hexadecimal. It promises nothing beyond safety; what the processor and the devices do is promised by their crates.
 #![tactic(auto)]
 
-ghost use Rattle.std.specs.Prelude.{◌<◌, ◌≤◌, length, IfSome};
+mod devices;
+mod graphics;
+mod ports;
+mod processor;
+mod sound;
 
-use cpu_core::{AnswerBus, Cpu, Stepped};
-use line_text::{decimal_word, hexadecimal_word};
-use std::alloc::Global;
+use crate::devices::{checksum_after, work_of};
+use crate::processor::{name_of, run, run_of};
+use cpu_core::{AnswerBus, Cpu};
 use std::{env, io};
-
-const MOST_WORDS: usize = 65_536;
-
-/// The program of these texts, 1 to 65,536 words; none where one is no word, or for want of memory.
-fn program_of(alloc: Global, texts: &[String]) -> Option<Vec<u32>>
-    ensures some { IfSome result (λ v. 0 < length v.items) }
-    ensures room { IfSome result (λ v. length v.items ≤ 0x2000000) }
-{
-    let mut program = Vec::new(alloc);
-    for text in texts {
-        let Some(word) = hexadecimal_word(text.as_str().as_bytes()) else {
-            return None;
-        };
-        if program.push(word).is_err() {
-            return None;
-        }
-    }
-    if program.is_empty() || program.len() > MOST_WORDS {
-        return None;
-    }
-    Some(program)
-}
-
-/// Does at most so many steps on no port answers, and gives the last step's end.
-fn run(cpu: &mut Cpu, bus: &mut AnswerBus, steps: u32) -> Stepped {
-    for _ in 0..steps {
-        match cpu.step(bus) {
-            Stepped::Went | Stepped::Waited => {}
-            end => return end,
-        }
-    }
-    Stepped::Went
-}
-
-/// How a run ended.
-fn name_of(end: Stepped) -> &'static str {
-    match end {
-        Stepped::Went | Stepped::Waited => "going",
-        Stepped::Halted => "halted",
-        Stepped::Starved => "starved",
-        Stepped::Fault(_) => "fault",
-        Stepped::Undecodable(_) => "undecodable",
-    }
-}
-
-/// The steps and the program of the arguments.
-fn workload_of(alloc: Global, words: &[String]) -> Option<(u32, Vec<u32>)>
-    ensures some { IfSome result (λ w. 0 < length w.1.items) }
-    ensures room { IfSome result (λ w. length w.1.items ≤ 0x2000000) }
-{
-    match words {
-        [steps, texts @ ..] => {
-            let Some(steps) = decimal_word(steps.as_str().as_bytes()) else {
-                return None;
-            };
-            let Some(program) = program_of(alloc, texts) else {
-                return None;
-            };
-            Some((steps, program))
-        }
-        [] => None,
-    }
-}
 
 fn main(rt: HostRuntime) -> io::Result<()> {
     let mut words = Vec::new(rt.alloc());
     for word in env::args(&rt)?.skip(1) {
         words.push(word)?;
     }
-    let Some((steps, program)) = workload_of(rt.alloc(), &words) else {
-        return println!(rt; "usage: bench STEPS WORD..");
+    if let Some(work) = work_of(&words) {
+        let Some(sum) = checksum_after(rt.alloc(), work) else {
+            return println!(rt; "out of memory");
+        };
+        return println!(rt; "{sum:08X}");
+    }
+    let Some((steps, program)) = run_of(rt.alloc(), &words) else {
+        return println!(rt; "usage: bench STEPS WORD.., or bench clears, draws or mixes N");
     };
     let Ok(mut cpu) = Cpu::open(rt.alloc(), program, None) else {
         return println!(rt; "out of memory");

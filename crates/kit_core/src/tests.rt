@@ -18,12 +18,6 @@ const CART: &str = "4b49542d4341525401000000980000000300000000000000000000006865
     0000000000000000000000000000000000000000000000000000000000000000000000000000000000000000000000\
     5633322d5642494e0300000002020062ff00000000000000";
 
-/// The cartridge of `CART` in its second revision, with an empty line table.
-const SECOND: &str = "4b49542d4341525402000000a800000003000000000000000000000068656c6c6f\
-    000000000000000000000000000000000000000000000000000000000000000000000000000000000000000000000000\
-    0000000000000000000000000000000000000000000000000000000000000000000000000000000000000000000000\
-    5633322d5642494e0300000002020062ff000000000000004b49542d4c494e450000000000000000";
-
 const MAP: &str = "636f646520330a6672616d65206d61696e203078323030303030303020300a";
 
 /// What a command answered, left and put.
@@ -130,185 +124,117 @@ fn the_first_cartridge_is_built(rt: HostRuntime) -> Result<(), Fail> {
     Ok(())
 }
 
+/// The bytes of the file of that name, or none.
+fn file_of<'a>(files: &'a FilesInMemory, name: &str) -> Option<&'a [u8]> {
+    for file in files.held() {
+        if file.0.bytes() == name.as_bytes() {
+            return Some(file.1.as_slice());
+        }
+    }
+    None
+}
+
+fn starts_with(bytes: &[u8], front: &[u8]) -> bool {
+    bytes.starts_with(front)
+}
+
+/// Whether a file is not there, or is a front of what it is in the other files.
+fn is_front(files: &FilesInMemory, whole: &FilesInMemory, name: &str) -> bool {
+    match (file_of(files, name), file_of(whole, name)) {
+        (None, _) => true,
+        (Some(front), Some(bytes)) => starts_with(bytes, front),
+        (Some(_), None) => false,
+    }
+}
+
+/// A file for each kind that a command reads.
+fn some_files(alloc: Global) -> Result<Vec<(Name, Seq<u8>)>, Fail> {
+    let mut held = Vec::new(alloc);
+    for (name, text) in [
+        ("p", "title hello\nsource s\n"),
+        ("s", "void main() { port_out(GPU_ClearColor, 255); }"),
+        ("pads", "pads 0 0 0\n"),
+        ("answers", "7\n"),
+        ("text", "a: OUT 0x202, 7\nJMP a\n"),
+    ] {
+        let bytes = Vec::from_slice(alloc, text.as_bytes())?;
+        held.push((Name::new(alloc, name)?, Seq::from_vec(bytes)))?;
+    }
+    for (name, digits) in [("cart", CART), ("words", "5633322d5642494e0100000000000000")] {
+        let bytes = bytes_from(alloc, digits)?;
+        held.push((Name::new(alloc, name)?, Seq::from_vec(bytes)))?;
+    }
+    let card = Vec::from_elem(alloc, 0u8, 1_048_576)?;
+    held.push((Name::new(alloc, "card")?, Seq::from_vec(card)))?;
+    Ok(held)
+}
+
+/// The command over these files, where the calls of these numbers fail.
+fn run_some(
+    rt: &impl Abort,
+    alloc: Global,
+    words: &str,
+    failing_files: Vec<u32>,
+    failing_puts: Vec<u32>,
+) -> Result<Ran, Fail> {
+    let held = some_files(alloc)?;
+    run_over(rt, alloc, words, held, failing_files, failing_puts)
+}
+
 #[test]
-fn refusals_have_their_status_and_line_and_change_no_file(rt: HostRuntime) -> Result<(), Fail> {
+fn each_failing_call_of_the_files_leaves_fronts(rt: HostRuntime) -> Result<(), Fail> {
     let alloc = rt.alloc();
-    let one_line = Some("title hello\n");
-    let not_straight = Some("void main() { port_out(GPU_Command, x); }");
+    // The words, the files that the command creates, and how many calls of the files it makes.
     let rows = [
-        ("", PROJECT, SOURCE, 1, "usage error\n"),
-        (
-            "make hello.project a b",
-            PROJECT,
-            SOURCE,
-            1,
-            "usage error\n",
-        ),
-        ("build hello.project a", PROJECT, SOURCE, 1, "usage error\n"),
-        (
-            "build hello.project a b c",
-            PROJECT,
-            SOURCE,
-            1,
-            "usage error\n",
-        ),
-        (
-            "build hello.project a ",
-            PROJECT,
-            SOURCE,
-            1,
-            "usage error\n",
-        ),
-        (
-            "build hello.project a -b",
-            PROJECT,
-            SOURCE,
-            1,
-            "usage error\n",
-        ),
-        (
-            "build hello.project a a",
-            PROJECT,
-            SOURCE,
-            1,
-            "usage error\n",
-        ),
-        (BUILD, PROJECT, not_straight, 2, "error 15 at hello.c:1\n"),
-        (BUILD, None, SOURCE, 4, "missing hello.project\n"),
-        (BUILD, PROJECT, None, 4, "missing hello.c\n"),
-        (
-            BUILD,
-            one_line,
-            SOURCE,
-            6,
-            "bad data 91 in hello.project at 2\n",
-        ),
+        ("build p a b", "a", "b", 6u32),
+        ("migrate cart a", "a", "a", 3),
+        ("asm text a", "a", "a", 3),
+        ("dis words a", "a", "a", 3),
+        ("trace cart answers card 5", "", "", 3),
+        ("run cart pads a b 2 card", "a", "b", 11),
     ];
-    for (words, project, source, status, line) in rows {
-        let ran = run(
-            &rt,
-            alloc,
-            words,
-            project,
-            source,
-            Vec::new(alloc),
-            Vec::new(alloc),
-        )?;
-        assert_eq!(rt; ran.status, status, "{words}: {line}");
-        assert_eq!(rt; ran.out.written(), line.as_bytes());
-        for name in ["a", "b", "hello.cart", "hello.map"] {
-            assert_eq!(rt; bytes_of(alloc, &ran.files, name)?.as_str(), "none");
+    for (words, first, second, calls) in rows {
+        let clean = run_some(&rt, alloc, words, Vec::new(alloc), Vec::new(alloc))?;
+        assert_eq!(rt; clean.status, 0, "{words}");
+        for call in 0..calls + 1 {
+            let failing = vec![in alloc; call]?;
+            let ran = run_some(&rt, alloc, words, failing, Vec::new(alloc))?;
+            let status = if call < calls { 5 } else { 0 };
+            assert_eq!(rt; ran.status, status, "{words}, call {call}");
+            assert_eq!(rt; starts_with(ran.out.written(), b"file fault "), call < calls);
+            assert!(rt; is_front(&ran.files, &clean.files, first));
+            assert!(rt; is_front(&ran.files, &clean.files, second));
+            assert!(rt; is_front(&ran.files, &clean.files, "card"));
         }
     }
     Ok(())
 }
 
 #[test]
-fn each_failing_call_of_the_files_is_told_with_its_file(rt: HostRuntime) -> Result<(), Fail> {
+fn hostile_cartridges_and_refused_puts_are_answered(rt: HostRuntime) -> Result<(), Fail> {
     let alloc = rt.alloc();
-    // What is put, the cartridge and the map, where the call of that number fails.
-    let rows = [
-        (5, "file fault hello.project\n", "none", "none"),
-        (5, "file fault hello.c\n", "none", "none"),
-        (5, "file fault hello.cart\n", "none", "none"),
-        (5, "file fault hello.cart\n", "", "none"),
-        (5, "file fault hello.map\n", CART, "none"),
-        (5, "file fault hello.map\n", CART, ""),
-        (0, "", CART, MAP),
-    ];
-    for (call, (status, line, cart, map)) in (0u32..).zip(rows) {
-        let failing = vec![in alloc; call]?;
-        let ran = run(&rt, alloc, BUILD, PROJECT, SOURCE, failing, Vec::new(alloc))?;
-        assert_eq!(rt; ran.status, status, "call {call}");
-        assert_eq!(rt; ran.out.written(), line.as_bytes());
-        assert_eq!(rt; bytes_of(alloc, &ran.files, "hello.cart")?.as_str(), cart);
-        assert_eq!(rt; bytes_of(alloc, &ran.files, "hello.map")?.as_str(), map);
+    let cart = bytes_from(alloc, CART)?;
+    for place in 0..cart.len() {
+        let cut = Vec::from_slice(alloc, &cart[..place])?;
+        let mut changed = Vec::from_slice(alloc, &cart)?;
+        changed[place] = changed[place] ^ 0x55;
+        for (bytes, least) in [(cut, 6u8), (changed, 0)] {
+            let mut held = Vec::new(alloc);
+            held.push((Name::new(alloc, "cart")?, Seq::from_vec(bytes)))?;
+            held.push((Name::new(alloc, "answers")?, Seq::from_vec(Vec::new(alloc))))?;
+            let words = "trace cart answers none 9";
+            let ran = run_over(&rt, alloc, words, held, Vec::new(alloc), Vec::new(alloc))?;
+            assert!(rt; ran.status == 0 || ran.status == 6, "{place}");
+            assert!(rt; least <= ran.status, "{place}");
+        }
     }
-    Ok(())
-}
-
-#[test]
-fn a_line_that_the_sink_refuses_gives_9(rt: HostRuntime) -> Result<(), Fail> {
-    let alloc = rt.alloc();
-    let rows = [(None, 9), (PROJECT, 0)];
-    for (project, status) in rows {
-        let failing = vec![in alloc; 0]?;
-        let ran = run(&rt, alloc, BUILD, project, SOURCE, Vec::new(alloc), failing)?;
-        assert_eq!(rt; ran.status, status);
-        assert_eq!(rt; ran.out.written(), b"".as_slice());
-    }
-    Ok(())
-}
-
-#[test]
-fn a_cartridge_is_migrated_and_stays_so(rt: HostRuntime) -> Result<(), Fail> {
-    let alloc = rt.alloc();
-    let cut = CART.len() - 2;
-    let rows = [
-        ("migrate old new", CART, 0, "", SECOND),
-        ("migrate old new", SECOND, 0, "", SECOND),
-        ("migrate old", CART, 1, "usage error\n", "none"),
-        ("migrate gone new", CART, 4, "missing gone\n", "none"),
-        (
-            "migrate old new",
-            &CART[..cut],
-            6,
-            "bad data 81 in old\n",
-            "none",
-        ),
-    ];
-    for (words, old, status, line, new) in rows {
-        let bytes = bytes_from(alloc, old)?;
-        let mut held = Vec::new(alloc);
-        held.push((Name::new(alloc, "old")?, Seq::from_vec(bytes)))?;
-        let none = (Vec::new(alloc), Vec::new(alloc));
-        let ran = run_over(&rt, alloc, words, held, none.0, none.1)?;
-        assert_eq!(rt; ran.status, status, "{words}: {line}");
-        assert_eq!(rt; ran.out.written(), line.as_bytes());
-        assert_eq!(rt; bytes_of(alloc, &ran.files, "old")?.as_str(), old);
-        assert_eq!(rt; bytes_of(alloc, &ran.files, "new")?.as_str(), new);
-    }
-    Ok(())
-}
-
-#[test]
-fn a_trace_puts_each_port_operation_and_the_end(rt: HostRuntime) -> Result<(), Fail> {
-    let alloc = rt.alloc();
-    let out = "out 0x202 0x000000FF\n";
-    let ended = "out 0x202 0x000000FF\nhalted\n";
-    let going = "out 0x202 0x000000FF\ngoing\n";
-    let none: (&str, &[u32]) = ("", &[]);
-    // The words, the answers, what is put and the status; the puts of those numbers fail.
-    let rows = [
-        ("trace cart list none 0", none, "going\n", 0),
-        ("trace cart list none 1", none, going, 0),
-        ("trace cart list none 2", none, ended, 0),
-        ("trace cart list none 0010000000", none, ended, 0),
-        ("trace cart list none 2", ("7\n0xffffFFFF\n", &[]), ended, 0),
-        (
-            "trace cart list none 2",
-            ("0x1G", &[]),
-            "bad data 111 in list at 1\n",
-            6,
-        ),
-        ("trace cart list list 2", none, "bad data 110 in list\n", 6),
-        ("trace cart list none 10000001", none, "limit 10000001\n", 7),
-        ("trace cart gone none 10000001", none, "missing gone\n", 4),
-        ("trace cart list none 1x", none, "usage error\n", 1),
-        ("trace cart list none", none, "usage error\n", 1),
-        ("trace cart list none 2", ("", &[0]), "", 9),
-        ("trace cart list none 2", ("", &[1]), out, 9),
-    ];
-    for (words, (answers, failing), text, status) in rows {
-        let bytes = bytes_from(alloc, CART)?;
-        let mut held = Vec::new(alloc);
-        held.push((Name::new(alloc, "cart")?, Seq::from_vec(bytes)))?;
-        let list = Vec::from_slice(alloc, answers.as_bytes())?;
-        held.push((Name::new(alloc, "list")?, Seq::from_vec(list)))?;
-        let failing = Vec::from_slice(alloc, failing)?;
-        let ran = run_over(&rt, alloc, words, held, Vec::new(alloc), failing)?;
-        assert_eq!(rt; ran.status, status, "{words}: {text}");
-        assert_eq!(rt; ran.out.written(), text.as_bytes());
+    let text = "out 0x202 0x000000FF\nhalted\n";
+    for put in 0..3u32 {
+        let failing = vec![in alloc; put]?;
+        let words = "trace cart answers none 9";
+        let ran = run_some(&rt, alloc, words, Vec::new(alloc), failing)?;
+        assert_eq!(rt; ran.status, if put < 2 { 9 } else { 0 });
+        assert!(rt; starts_with(text.as_bytes(), ran.out.written()));
     }
     Ok(())
 }

@@ -157,6 +157,7 @@ fn read_fields(f: &Fields, second: Option<u32>) -> Option<Instr<u32>>
 }
 
 /// The instruction whose words begin the words given; none where there is no such instruction.
+#[inline(always)]
 #[tactic(auto, unfolding(crate::specs::Decoding::decoded))]
 pub fn decode(first: u32, second: Option<u32>) -> Option<Instr<u32>>
     ensures value { result ≡ decoded first second }

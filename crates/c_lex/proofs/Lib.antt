@@ -1,0 +1,4 @@
+pub mod Quoting
+pub mod Closing
+pub mod Runs
+pub mod NumberRuns

@@ -5,3 +5,9 @@ pub mod NumberRuns
 pub mod Stands
 pub mod Words
 pub mod Numbers
+pub mod Texts
+pub mod Quotes
+pub mod Signs
+pub mod Tokens
+pub mod Steps
+pub mod Readings

@@ -11,3 +11,4 @@ pub mod Signs
 pub mod Tokens
 pub mod Steps
 pub mod Readings
+pub mod Files

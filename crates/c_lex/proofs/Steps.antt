@@ -48,7 +48,7 @@ at_gap p (b ∷ bs) some =
 token_step : (p : Place) (b : ℕ) (bs : List ℕ) → gap_len (b ∷ bs) ≡ 0 → reading_from 0 p (b ∷ bs) ≡ by_token p (b ∷ bs) (token_at (b ∷ bs)) (λ k p'. reading_from k p' bs)
 token_step p b bs no_gap = let e : by_step p (b ∷ bs) (λ k p'. reading_from k p' bs) ≡ by_token p (b ∷ bs) (token_at (b ∷ bs)) (λ k p'. reading_from k p' bs) = rw no_gap refl in one_step p b bs ∙ e
 
-within : (bytes : List ℕ) (len : ℕ) (kind : Kind) → Stands bytes len kind → len ≤ length bytes
+pub within : (bytes : List ℕ) (len : ℕ) (kind : Kind) → Stands bytes len kind → len ≤ length bytes
 within bytes len kind s = let e = ap length s.whole in omega (arith, length-append s.text s.rest, s.size)
 
 pub at_token : (p : Place) (bytes : List ℕ) (len : ℕ) (kind : Kind) → gap_len bytes ≡ 0 → token_at bytes ≡ Some (len, kind) → reading_from 0 p bytes ≡ with_front (token_of p len kind ∷ []) (reading_from 0 (past_token p len) (drop len bytes))

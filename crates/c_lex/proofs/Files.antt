@@ -1,13 +1,12 @@
 -- Tokens are of their file, on lines from 1, and no more than bytes.
-use Rattle.std.proofs.Common.{◌≡◌, ℕ, ◌<◌, ◌≤◌, ◌+◌, List, [], ◌∷◌, ◌++◌, length, drop, refl, sym, ap, subst, ◌∙◌, arith}
+use Rattle.std.proofs.Common.{◌≡◌, ℕ, ◌<◌, ◌≤◌, List, [], ◌∷◌, length, drop, refl, sym, ap, subst, ◌∙◌, arith}
 use Rattle.std.specs.List.{All}
 use Rattle.std.proofs.lemmas.List.{length-append, length-drop}
 use Rattle.std.proofs.lemmas.List.Elements.{All-cons, All-nil}
-use Rattle.c_lex.specs.declared.token.Kind.{Kind}
 use Rattle.c_lex.specs.declared.token.Token.{Token}
 use Rattle.c_lex.specs.declared.place.Place.{Place}
 use Rattle.c_lex.specs.Gaps.{gap_len}
-use Rattle.c_lex.specs.Reading.{Reading, found, stuck, Lexes, nothing, gap, token, none, Reads, with_front, past_gap, past_token, token_of, opening}
+use Rattle.c_lex.specs.Reading.{Reading, found, stuck, Lexes, nothing, gap, token, none, with_front, token_of}
 use Rattle.c_lex.specs.Found.{reading_of}
 use Rattle.c_lex.proofs.Stands.{token_some}
 use Rattle.c_lex.proofs.Readings.{reads_itself}

@@ -1,5 +1,5 @@
 -- A number is the longest spelling at its place, and takes all the digits that follow.
-use Rattle.std.proofs.Common.{◌≡◌, ℕ, ◌<◌, ◌≤◌, ◌+◌, ◌^◌, Bool, true, false, cond, eqb, ltb, ◌&&◌, not, List, [], ◌∷◌, ◌++◌, length, take, drop, refl, sym, ap, subst, ◌∙◌, arith, append_assoc}
+use Rattle.std.proofs.Common.{◌≡◌, ℕ, ◌<◌, ◌≤◌, ◌+◌, ◌^◌, Bool, true, false, cond, eqb, ltb, ◌&&◌, not, List, [], ◌++◌, length, take, drop, refl, sym, ap, subst, ◌∙◌, arith, append_assoc}
 use Rattle.std.specs.Prelude.{Option, Some, None, IsSome}
 use Rattle.std.specs.Char.{is_ascii_digit}
 use Rattle.std.proofs.lemmas.Bool.{eqb-true, eq-eqb}
@@ -10,9 +10,9 @@ use Rattle.c_lex.specs.Bytes.{begins, is_letter, is_point}
 use Rattle.c_lex.specs.Numbers.{number_len, number_value}
 use Rattle.c_lex.specs.Spelling.{IsToken, spelling_of, number_of, ends_so}
 use Rattle.c_lex.specs.Found.{number_found}
-use Rattle.c_lex.proofs.Runs.{begins_some, begins_append, begins_take}
+use Rattle.c_lex.proofs.Runs.{begins_append, begins_take}
 use Rattle.c_lex.proofs.NumberRuns.{number_front, number_own, number_some, number_within}
-use Rattle.c_lex.proofs.Stands.{Stands, some_is, both, token_some}
+use Rattle.c_lex.proofs.Stands.{Stands, some_is, both}
 
 -- what stands before a digit
 pub record Digit (bytes : List ℕ) : Type 0 where
@@ -75,12 +75,16 @@ number_stands bytes len kind d e = by (ltb v (2 ^ 32)) (not (begins is_point res
   where
     n : ℕ
     n = number_len bytes
+
     text : List ℕ
     text = take n bytes
+
     rest : List ℕ
     rest = drop n bytes
+
     v : ℕ
     v = number_value text
+
     by : (b c : Bool) → ltb v (2 ^ 32) ≡ b → not (begins is_point rest) ≡ c → cond {A = Option (ℕ × Kind)} (b && c) (Some (n, k.Number v)) None ≡ Some (len, kind) → Stands bytes len kind
     by true true small point same = subst (λ (x : ℕ × Kind). Stands bytes x.0 x.1) (some_is same) (made bytes d small point)
     by true false small point same = absurd cc

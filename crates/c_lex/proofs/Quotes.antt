@@ -1,5 +1,5 @@
 -- A text or a character is the longest spelling at its place.
-use Rattle.std.proofs.Common.{◌≡◌, ℕ, ◌<◌, ◌-◌, Bool, true, false, cond, eqb, List, [], ◌∷◌, ◌++◌, length, drop, refl, sym, ap, subst, ◌∙◌, arith, is_some, append_assoc}
+use Rattle.std.proofs.Common.{◌≡◌, ℕ, ◌<◌, ◌-◌, Bool, true, false, cond, eqb, List, [], ◌∷◌, ◌++◌, length, refl, sym, ap, subst, ◌∙◌, arith, append_assoc}
 use Rattle.std.specs.Prelude.{Option, Some, None, IsSome, option_map}
 use Rattle.std.specs.Char.{is_ascii_digit}
 use Rattle.std.proofs.lemmas.Bool.{eqb-true}
@@ -9,10 +9,10 @@ use Rattle.c_lex.specs.declared.quoted.Within.TheVariants as w
 use Rattle.c_lex.specs.Bytes.{begins, is_letter, is_quote}
 use Rattle.c_lex.specs.Quoted.{Content, quoted_at}
 use Rattle.c_lex.specs.Spelling.{IsToken, spelling_of, content_kind, whole_content, quoted_of, ends_so}
-use Rattle.c_lex.specs.Found.{Found, content_found, quoted_found}
+use Rattle.c_lex.specs.Found.{content_found, quoted_found}
 use Rattle.c_lex.proofs.Runs.{begins_append}
 use Rattle.c_lex.proofs.Stands.{Stands, some_is}
-use Rattle.c_lex.proofs.Texts.{Parts, stays, parts_of}
+use Rattle.c_lex.proofs.Texts.{stays, parts_of}
 
 pub record Quote (bytes : List ℕ) : Type 0 where
   pub letter : begins is_letter bytes ≡ false

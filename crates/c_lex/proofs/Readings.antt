@@ -1,16 +1,14 @@
 -- Every text has the reading of the function, and no other.
-use Rattle.std.proofs.Common.{◌≡◌, ℕ, zero, suc, ◌<◌, ◌≤◌, ◌+◌, Bool, true, false, ltb, List, [], ◌∷◌, ◌++◌, length, take, drop, refl, sym, ap, subst, ◌∙◌, arith}
-use Rattle.std.specs.Prelude.{Option, Some, None}
+use Rattle.std.proofs.Common.{◌≡◌, ℕ, zero, suc, ◌<◌, ◌≤◌, Bool, true, false, ltb, List, [], ◌∷◌, ◌++◌, length, take, drop, refl, sym, ap, subst, ◌∙◌, arith}
+use Rattle.std.specs.Prelude.{Some, None}
 use Rattle.std.proofs.lemmas.Bool.{ltb-false, ltb-true}
 use Rattle.std.proofs.lemmas.List.{length-append, length-drop, drop_at}
 use Rattle.c_lex.specs.declared.token.Kind.{Kind}
-use Rattle.c_lex.specs.declared.token.Token.{Token}
 use Rattle.c_lex.specs.declared.place.Place.{Place}
 use Rattle.c_lex.specs.Gaps.{gap_len}
 use Rattle.c_lex.specs.Spelling.{IsToken, reason_of}
-use Rattle.c_lex.specs.Reading.{Reading, found, stuck, Lexes, nothing, gap, token, none, Reads, with_front, past_gap, past_token, token_of, opening}
+use Rattle.c_lex.specs.Reading.{Reading, stuck, Lexes, nothing, gap, token, none, Reads, with_front, past_gap, past_token, token_of, opening}
 use Rattle.c_lex.specs.Found.{Found, token_at, reading_from, reading_of}
-use Rattle.c_lex.proofs.Stands.{Stands, some_is}
 use Rattle.c_lex.proofs.Tokens.{stands, complete}
 use Rattle.c_lex.proofs.Steps.{at_nothing, at_gap, at_token, at_none}
 

@@ -1,5 +1,5 @@
 -- A mark is the longest spelling at its place.
-use Rattle.std.proofs.Common.{◌≡◌, ℕ, zero, suc, ◌<◌, ◌≤◌, ◌+◌, ◌-◌, Bool, true, false, cond, ltb, List, [], ◌∷◌, ◌++◌, length, take, drop, refl, sym, ap, subst, ◌∙◌, arith, is_some, append_assoc}
+use Rattle.std.proofs.Common.{◌≡◌, ℕ, zero, suc, ◌<◌, ◌≤◌, ◌+◌, ◌-◌, Bool, true, false, cond, ltb, List, [], ◌∷◌, ◌++◌, length, take, drop, refl, sym, ap, subst, ◌∙◌, arith, append_assoc}
 use Rattle.std.specs.Prelude.{Option, Some, None, IsSome, option_map}
 use Rattle.std.specs.Str.{bytes_eq}
 use Rattle.std.specs.Char.{is_ascii_digit}
@@ -15,7 +15,7 @@ use Rattle.c_lex.specs.Spelling.{IsToken, spelling_of, is_mark_before, ends_so}
 use Rattle.c_lex.specs.Found.{Found, mark_kept}
 use Rattle.c_lex.proofs.Runs.{begins_append, begins_take}
 use Rattle.c_lex.proofs.Stands.{Stands, some_is, token_some}
-use Rattle.c_lex.specs.Marks.{marks, spelled_in, mark_of, mark_of_len, or_else, mark_up_to, mark_at}
+use Rattle.c_lex.specs.Marks.{marks, spelled_in, mark_of, or_else, mark_up_to, mark_at}
 
 all_short : List (List ℕ × Punct) → Bool
 all_short [] = true

@@ -1,6 +1,6 @@
 -- No text begins another.
-use Rattle.std.proofs.Common.{◌≡◌, ℕ, List, [], ◌∷◌, ◌++◌, length, drop, Bool, true, false, refl, sym, ap, subst, ◌∙◌, is_some}
-use Rattle.std.specs.Prelude.{Option, Some, None, IsSome}
+use Rattle.std.proofs.Common.{◌≡◌, ℕ, List, [], ◌∷◌, ◌++◌, refl, ap, ◌∙◌}
+use Rattle.std.specs.Prelude.{Some, None, IsSome}
 use Rattle.c_lex.specs.declared.quoted.Within.{Within}
 use Rattle.c_lex.specs.declared.quoted.Within.TheVariants as w
 use Rattle.c_lex.specs.declared.quoted.Turn.{Turn}

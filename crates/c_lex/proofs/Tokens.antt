@@ -1,6 +1,6 @@
 -- The token that is found is the one that stands there, and what stands there is found.
-use Rattle.std.proofs.Common.{◌≡◌, ℕ, Bool, true, false, cond, List, ◌++◌, length, refl, sym, ap, ◌∙◌}
-use Rattle.std.specs.Prelude.{Option, Some, None}
+use Rattle.std.proofs.Common.{◌≡◌, ℕ, Bool, true, false, cond, List, ◌++◌, length, refl, ◌∙◌}
+use Rattle.std.specs.Prelude.{Some}
 use Rattle.std.specs.Char.{is_ascii_digit}
 use Rattle.c_lex.specs.declared.token.Kind.{Kind}
 use Rattle.c_lex.specs.Bytes.{begins, is_letter, is_quote}
@@ -32,7 +32,7 @@ unfolding token_at
 complete text rest kind t =
     let some = token_some text rest kind t in
     let class : token_at (text ++ rest) ≡ by_class (begins is_letter text) (begins is_ascii_digit text) (begins is_quote text) (text ++ rest) =
-        rw (begins_append is_letter text rest some, begins_append is_ascii_digit text rest some, begins_append is_quote text rest some) refl in
+    rw (begins_append is_letter text rest some, begins_append is_ascii_digit text rest some, begins_append is_quote text rest some) refl in
     class ∙ by (begins is_letter text) (begins is_ascii_digit text) (begins is_quote text) refl refl refl
   where
     by : (a b c : Bool) → begins is_letter text ≡ a → begins is_ascii_digit text ≡ b → begins is_quote text ≡ c → by_class a b c (text ++ rest) ≡ Some (length text, kind)

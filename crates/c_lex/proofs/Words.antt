@@ -1,5 +1,5 @@
 -- A word is the longest spelling at its place, and takes all the word bytes that follow.
-use Rattle.std.proofs.Common.{◌≡◌, ℕ, ◌<◌, Bool, true, false, cond, ◌&&◌, List, [], ◌∷◌, ◌++◌, length, drop, refl, sym, ap, subst, ◌∙◌, arith, is_some}
+use Rattle.std.proofs.Common.{◌≡◌, ℕ, ◌<◌, Bool, true, false, cond, List, [], ◌∷◌, ◌++◌, length, drop, refl, sym, ap, subst, ◌∙◌, arith}
 use Rattle.std.specs.Prelude.{Option, Some, None, IsSome}
 use Rattle.std.specs.List.{list_all, take_while}
 use Rattle.std.proofs.lemmas.List.Sums.{take_while-cons}
@@ -8,9 +8,9 @@ use Rattle.c_lex.specs.declared.token.Kind.{Kind}
 use Rattle.c_lex.specs.declared.token.Kind.TheVariants as k
 use Rattle.c_lex.specs.Bytes.{begins, is_letter, is_word_byte}
 use Rattle.c_lex.specs.Spelling.{IsToken, spelling_of, word_of}
-use Rattle.c_lex.specs.Found.{Found, word_found}
+use Rattle.c_lex.specs.Found.{word_found}
 use Rattle.c_lex.proofs.Runs.{begins_some, begins_append}
-use Rattle.c_lex.proofs.Stands.{Stands, some_is, both, token_some}
+use Rattle.c_lex.proofs.Stands.{Stands, some_is, both}
 
 pub record Run (p : ℕ → Bool) (bs text rest : List ℕ) : Type 0 where
   pub whole : bs ≡ text ++ rest

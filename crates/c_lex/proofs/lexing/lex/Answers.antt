@@ -1,10 +1,9 @@
 use Rattle.std.proofs.Common.{◌≡◌, ◌≤◌, ◌<◌, ◌+◌, ℕ, List, eqb, length, sym, ap, subst, ◌∙◌, arith}
-use Rattle.std.specs.Prelude.{Option, Some, None}
+use Rattle.std.specs.Prelude.{Some, None}
 use Rattle.std.proofs.lemmas.List.Sums.{count_by-le-length}
 use Rattle.c_lex.specs.declared.place.Place.{Place}
-use Rattle.c_lex.specs.declared.token.Token.{Token}
 use Rattle.c_lex.specs.Gaps.{gap_len}
-use Rattle.c_lex.specs.Reading.{found, stuck, opening}
+use Rattle.c_lex.specs.Reading.{found, stuck}
 use Rattle.c_lex.specs.Found.{token_at, reading_of}
 use Rattle.c_lex.proofs.Tokens.{stands}
 use Rattle.c_lex.proofs.Steps.{Continues, from_start, past_a_gap, past_a_token, refused, ended, within}

@@ -12,3 +12,5 @@ pub mod Tokens
 pub mod Steps
 pub mod Readings
 pub mod Files
+pub mod Contents
+pub mod Spellings

@@ -128,7 +128,7 @@ pub record Sign (bytes : List ℕ) : Type 0 where
   pub digit : begins is_ascii_digit bytes ≡ false
   pub quote : begins is_quote bytes ≡ false
 
-is_mark_of : (a : List ℕ) → Sign a → spelling_of a ≡ option_map k.Punct (mark_of a)
+pub is_mark_of : (a : List ℕ) → Sign a → spelling_of a ≡ option_map k.Punct (mark_of a)
 unfolding spelling_of
 is_mark_of a d = rw (d.letter, d.digit, d.quote) refl
 
@@ -199,7 +199,7 @@ kept_by bytes len kind (Some x) d is e = by (is_mark_before x.1 (drop x.0 bytes)
 pub sign_stands : (bytes : List ℕ) (len : ℕ) (kind : Kind) → Sign bytes → mark_kept bytes (mark_at bytes) ≡ Some (len, kind) → Stands bytes len kind
 sign_stands bytes len kind d e = kept_by bytes len kind (mark_at bytes) d refl e
 
-spelled_mark : (o : Option Punct) (kind : Kind) → option_map k.Punct o ≡ Some kind → (m : Punct) × (o ≡ Some m) × (k.Punct m ≡ kind)
+pub spelled_mark : (o : Option Punct) (kind : Kind) → option_map k.Punct o ≡ Some kind → (m : Punct) × (o ≡ Some m) × (k.Punct m ≡ kind)
 spelled_mark None kind e = absurd cc
 spelled_mark (Some m) kind e = (m, refl, some_is e)
 

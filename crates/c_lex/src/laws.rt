@@ -1,7 +1,10 @@
 // Laws of the definitions.
-ghost use Rattle.std.specs.Prelude.{◌≡◌, ◌↔◌, ◌≤◌, ℕ, List, length};
+ghost use Rattle.std.specs.Prelude.{◌≡◌, ◌↔◌, ◌≤◌, ℕ, List, Some, length};
 ghost use Rattle.std.specs.List.{All};
+ghost use Rattle.c_lex.specs.declared.token.Kind.{Kind};
 ghost use Rattle.c_lex.specs.declared.token.Token.{Token};
+ghost use Rattle.c_lex.specs.Grammar.{IsSpelling};
+ghost use Rattle.c_lex.specs.Spelling.{spelling_of};
 ghost use Rattle.c_lex.specs.Reading.{found, Reading, Reads};
 ghost use Rattle.c_lex.specs.Found.{reading_of};
 
@@ -10,6 +13,12 @@ pub fn texts_read_one_way()
     ensures some { (file : ℕ) (bytes : List ℕ) → Reads file bytes (reading_of file bytes) }
     ensures one { (file : ℕ) (bytes : List ℕ) (r s : Reading) → Reads file bytes r → Reads file bytes s → r ≡ s }
     ensures both_ways { (file : ℕ) (bytes : List ℕ) (r : Reading) → Reads file bytes r ↔ (r ≡ reading_of file bytes) }
+{}
+
+/// A text spells the token that the grammar says, and no other: a word, a number, a character, a text
+/// or a mark.
+pub fn tokens_are_what_is_spelled()
+    ensures both_ways { (text : List ℕ) (kind : Kind) → (spelling_of text ≡ Some kind) ↔ IsSpelling text kind }
 {}
 
 /// Tokens are of their file, on lines from 1, and there are at most as many as bytes.

@@ -14,3 +14,6 @@ pub mod Readings
 pub mod Files
 pub mod Contents
 pub mod Spellings
+pub mod Lines
+pub mod Reasons
+pub mod Places

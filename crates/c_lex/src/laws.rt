@@ -4,8 +4,9 @@ ghost use Rattle.std.specs.List.{All};
 ghost use Rattle.c_lex.specs.declared.token.Kind.{Kind};
 ghost use Rattle.c_lex.specs.declared.token.Token.{Token};
 ghost use Rattle.c_lex.specs.Grammar.{IsSpelling};
+ghost use Rattle.c_lex.specs.Places.{IsPlaced, IsRefused};
 ghost use Rattle.c_lex.specs.Spelling.{spelling_of};
-ghost use Rattle.c_lex.specs.Reading.{found, Reading, Reads};
+ghost use Rattle.c_lex.specs.Reading.{found, stuck, Reading, Reads};
 ghost use Rattle.c_lex.specs.Found.{reading_of};
 
 /// Every text has a reading, and only one: the relation on whole texts is the function.
@@ -19,6 +20,14 @@ pub fn texts_read_one_way()
 /// or a mark.
 pub fn tokens_are_what_is_spelled()
     ensures both_ways { (text : List ℕ) (kind : Kind) → (spelling_of text ≡ Some kind) ↔ IsSpelling text kind }
+{}
+
+/// The bytes from a token's start up to its end spell it, and its line is one more than the LF bytes
+/// before it. A refusal tells the line and the byte of a place in the text, and its reason what stands
+/// there.
+pub fn places_are_told()
+    ensures tokens { (file : ℕ) (bytes : List ℕ) (tokens : List Token) → reading_of file bytes ≡ found tokens → All (IsPlaced bytes) tokens }
+    ensures refusals { (file : ℕ) (bytes : List ℕ) (code line byte : ℕ) → reading_of file bytes ≡ stuck code line byte → IsRefused bytes code line byte }
 {}
 
 /// Tokens are of their file, on lines from 1, and there are at most as many as bytes.

@@ -9,10 +9,9 @@ use Rattle.c_lex.specs.declared.quoted.Within.{Within}
 use Rattle.c_lex.specs.declared.quoted.Within.TheVariants as w
 use Rattle.c_lex.specs.declared.quoted.Turn.{Turn}
 use Rattle.c_lex.specs.declared.quoted.Turn.TheVariants as t
-use Rattle.c_lex.specs.Quoted.{Content, escaped, escape_turn, front, by_turn, turn_of, quoted_at}
+use Rattle.c_lex.specs.Quoted.{escaped, escape_turn, front, by_turn, turn_of, quoted_at}
 use Rattle.c_lex.specs.Grammar.{IsPiece, itself, escape, code, IsContent, nothing, piece}
 use Rattle.c_lex.proofs.Texts.{some_is, front_is}
-use Rattle.c_lex.proofs.Stands.{both}
 
 small : (b : ℕ) → is_ascii_hexdigit b ≡ true → digit_value b < 16
 small b e = grind (arith, nat_tests)

@@ -15,5 +15,6 @@ pub mod Files
 pub mod Contents
 pub mod Spellings
 pub mod Lines
+pub mod Comments
 pub mod Reasons
 pub mod Places

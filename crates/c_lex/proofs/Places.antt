@@ -1,6 +1,6 @@
 -- Tokens stand where their places say, and so does what is refused.
-use Rattle.std.proofs.Common.{◌≡◌, ℕ, ◌<◌, ◌≤◌, ◌+◌, ◌-◌, List, [], ◌∷◌, ◌++◌, length, take, drop, refl, sym, ap, subst, ◌∙◌, arith, append_assoc}
-use Rattle.std.specs.Prelude.{Option, Some, None}
+use Rattle.std.proofs.Common.{◌≡◌, ℕ, ◌<◌, ◌+◌, ◌-◌, List, [], ◌∷◌, ◌++◌, length, take, drop, refl, sym, ap, subst, ◌∙◌, arith, append_assoc}
+use Rattle.std.specs.Prelude.{Some, None}
 use Rattle.std.specs.List.{All}
 use Rattle.std.proofs.lemmas.List.{length-append, take-append-drop, take_at, drop_at}
 use Rattle.std.proofs.lemmas.List.Elements.{All-cons, All-nil}
@@ -56,7 +56,7 @@ token_placed bytes front rest text after p kind whole t h =
     let e = h.byte in
     let len : p.byte + length text - p.byte ≡ length text = omega arith in
     let own : take (p.byte + length text - p.byte) (drop p.byte bytes) ≡ text =
-        ap (λ (n : ℕ). take n (drop p.byte bytes)) len ∙ ap (take (length text)) (rest_is bytes front rest p h ∙ whole) ∙ take_at text after (length text) refl in
+    ap (λ (n : ℕ). take n (drop p.byte bytes)) len ∙ ap (take (length text)) (rest_is bytes front rest p h ∙ whole) ∙ take_at text after (length text) refl in
     record {
       line = line_is bytes front rest p h;
       some = omega arith;

@@ -1,25 +1,24 @@
 -- Where no token stands, the reason tells what stands there.
-use Rattle.std.proofs.Common.{◌≡◌, ℕ, ◌<◌, ◌≤◌, ◌+◌, ◌^◌, Bool, true, false, cond, eqb, ltb, not, ◌&&◌, ◌||◌, List, [], ◌∷◌, length, take, drop, is_some, refl, sym, ap, subst, ◌∙◌, arith, ◌⊎◌, inl, inr}
-use Rattle.std.specs.Prelude.{Option, Some, None, IsSome, option_map}
+use Rattle.std.proofs.Common.{◌≡◌, ℕ, ◌<◌, ◌+◌, ◌^◌, Bool, true, false, cond, eqb, ltb, not, ◌||◌, List, [], ◌∷◌, length, take, drop, is_some, refl, sym, ap, subst, ◌∙◌, arith, ◌⊎◌, inl, inr}
+use Rattle.std.specs.Prelude.{Option, Some, None}
 use Rattle.std.specs.Char.{is_ascii_digit}
 use Rattle.std.specs.List.{take_while}
 use Rattle.std.specs.Str.{bytes_eq}
-use Rattle.std.proofs.lemmas.Bool.{ltb-false, ltb-true, eqb-true, eqb-false}
+use Rattle.std.proofs.lemmas.Bool.{ltb-false, le-ltb, eqb-true, eqb-false}
 use Rattle.std.proofs.lemmas.Slice.Eq.{bytes_eq-Decides}
 use Rattle.std.proofs.lemmas.List.{length-take-le}
 use Rattle.c_lex.specs.declared.token.Punct.{Punct}
 use Rattle.c_lex.specs.declared.token.Punct.TheVariants as m
-use Rattle.c_lex.specs.declared.token.Kind.{Kind}
 use Rattle.c_lex.specs.declared.token.Kind.TheVariants as k
 use Rattle.c_lex.specs.Bytes.{begins, is_letter, is_word_byte, is_quote, is_point, is_slash, opens_comment}
 use Rattle.c_lex.specs.Gaps.{closed_len, close_at, gap_len}
 use Rattle.c_lex.specs.Numbers.{number_len, number_value}
 use Rattle.c_lex.specs.Marks.{marks, spelled_in, mark_of, mark_of_len, or_else, mark_up_to, mark_at}
 use Rattle.c_lex.specs.Spelling.{is_mark_before, is_stray, reason_of}
-use Rattle.c_lex.specs.Found.{Found, word_found, number_found, quoted_found, mark_kept, token_at}
+use Rattle.c_lex.specs.Found.{Found, word_found, number_found, mark_kept, token_at}
 use Rattle.c_lex.specs.Places.{IsReason, stray, quote, comment, great, point}
 use Rattle.c_lex.proofs.Stands.{some_is}
-use Rattle.c_lex.proofs.Signs.{Sign, Longest, found_longest}
+use Rattle.c_lex.proofs.Signs.{Sign, found_longest}
 
 -- ---- the mark `/`
 
@@ -70,12 +69,11 @@ some_value : (o : Option Punct) → is_some o ≡ true → (x : Punct) × (o ≡
 some_value None e = absurd cc
 some_value (Some x) e = (x, refl)
 
-wide : (b : ℕ) (bs : List ℕ) (x : Bool) → ltb (length (b ∷ bs)) 1 ≡ x → ltb (length (b ∷ bs)) 1 ≡ false
-wide b bs true e = let short = ltb-true (length (b ∷ bs)) 1 e in absurd (omega arith)
-wide b bs false e = e
+wide : (b : ℕ) (bs : List ℕ) → ltb (length (b ∷ bs)) 1 ≡ false
+wide b bs = le-ltb (length (b ∷ bs)) 1 (omega arith)
 
 one_found : (b : ℕ) (bs : List ℕ) (m : Punct) → mark_of (b ∷ []) ≡ Some m → or_else (mark_of_len 1 (b ∷ bs)) None ≡ Some (1, m)
-one_found b bs m e = rw (wide b bs (ltb (length (b ∷ bs)) 1) refl, e) refl
+one_found b bs m e = rw (wide b bs, e) refl
 
 first_found : (b : ℕ) (bs : List ℕ) → is_some (mark_of (b ∷ [])) ≡ true → (w : ℕ × Punct) × (mark_at (b ∷ bs) ≡ Some w)
 unfolding mark_at mark_up_to
@@ -163,10 +161,13 @@ pointed bytes is low = by (begins is_point (drop (number_len bytes) bytes)) (sym
   where
     n : ℕ
     n = number_len bytes
+
     v : ℕ
     v = number_value (take n bytes)
+
     whole : number_found bytes ≡ cond {A = Found} (not (begins is_point (drop n bytes))) (Some (n, k.Number v)) None
     whole = rw low refl
+
     by : (b : Bool) → cond {A = Found} (not b) (Some (n, k.Number v)) None ≡ None → b ≡ true
     by true h = refl
     by false h = absurd cc

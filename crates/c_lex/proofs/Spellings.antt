@@ -1,10 +1,10 @@
 -- A text spells the token that the grammar says.
-use Rattle.std.proofs.Common.{◌≡◌, ℕ, ◌<◌, ◌+◌, ◌^◌, Bool, true, false, cond, eqb, ltb, not, ◌&&◌, ◌||◌, List, [], ◌∷◌, ◌++◌, length, take, drop, refl, sym, ap, subst, ◌∙◌, arith, append-nil, lt-ltb, ◌⊎◌, inl, inr}
-use Rattle.std.specs.Prelude.{Option, Some, None, option_map}
+use Rattle.std.proofs.Common.{◌≡◌, ℕ, ◌<◌, ◌+◌, ◌^◌, Bool, true, false, cond, eqb, ltb, not, ◌&&◌, ◌||◌, List, [], ◌∷◌, ◌++◌, length, drop, refl, sym, ap, subst, ◌∙◌, arith, append-nil, lt-ltb, ◌⊎◌, inl, inr}
+use Rattle.std.specs.Prelude.{Option, Some, option_map}
 use Rattle.std.specs.Char.{is_ascii_digit, is_ascii_hexdigit}
 use Rattle.std.specs.List.{list_all, take_while}
 use Rattle.std.specs.Str.{bytes_eq}
-use Rattle.std.proofs.lemmas.Bool.{ltb-true, eqb-true, eqb-false, eq-eqb}
+use Rattle.std.proofs.lemmas.Bool.{ltb-true, eqb-true, eq-eqb}
 use Rattle.std.proofs.lemmas.Bool.Decides.{nat_tests}
 use Rattle.std.proofs.lemmas.List.{nil_from_length, length-append}
 use Rattle.std.proofs.lemmas.Slice.Eq.{bytes_eq-Decides}
@@ -12,18 +12,18 @@ use Rattle.c_lex.specs.declared.token.Punct.{Punct}
 use Rattle.c_lex.specs.declared.token.Kind.{Kind}
 use Rattle.c_lex.specs.declared.token.Kind.TheVariants as k
 use Rattle.c_lex.specs.declared.quoted.Within.TheVariants as w
-use Rattle.c_lex.specs.Bytes.{begins, is_letter, is_word_byte, is_quote}
+use Rattle.c_lex.specs.Bytes.{begins, is_letter, is_quote}
 use Rattle.c_lex.specs.Numbers.{value_of, begins_hex, number_len, number_value}
 use Rattle.c_lex.specs.Marks.{marks, spelled_in, mark_of}
-use Rattle.c_lex.specs.Quoted.{Content, quoted_at}
+use Rattle.c_lex.specs.Quoted.{quoted_at}
 use Rattle.c_lex.specs.Spelling.{spelling_of, word_of, number_of, quoted_of, content_kind, char_of, whole_content}
-use Rattle.c_lex.specs.Grammar.{IsWord, IsDecimal, IsHexadecimal, IsContent, IsQuoted, IsSpelling}
+use Rattle.c_lex.specs.Grammar.{IsDecimal, IsHexadecimal, IsQuoted, IsSpelling}
 use Rattle.c_lex.proofs.Stands.{some_is, both}
-use Rattle.c_lex.proofs.Words.{Run, run_of, run_taken, is_word_of, whole_word, word_whole}
-use Rattle.c_lex.proofs.Numbers.{Digit, is_number_of, number_whole, number_kind}
+use Rattle.c_lex.proofs.Words.{run_of, run_taken, is_word_of, whole_word, word_whole}
+use Rattle.c_lex.proofs.Numbers.{is_number_of, number_whole, number_kind}
 use Rattle.c_lex.proofs.Quotes.{Quote, is_quoted_of, whole_kind}
 use Rattle.c_lex.proofs.Signs.{Sign, is_mark_of, spelled_mark}
-use Rattle.c_lex.proofs.Contents.{Inside, read_inside, content_read}
+use Rattle.c_lex.proofs.Contents.{read_inside, content_read}
 
 -- ---- numbers
 

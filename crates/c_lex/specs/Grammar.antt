@@ -1,10 +1,10 @@
--- The grammar of tokens, as what each is spelled from. A text has the spelling that was read from it, both ways.
-use Rattle.std.specs.Prelude.{◌≡◌, ◌≢◌, ◌⊎◌, ℕ, ◌<◌, ◌+◌, ◌*◌, ◌^◌, List, [], ◌∷◌, ◌++◌, true, Some}
+-- The grammar of tokens and of gaps, as what each is spelled from. What is read is what is spelled so, both ways.
+use Rattle.std.specs.Prelude.{◌≡◌, ◌≢◌, ◌⊎◌, ℕ, ◌<◌, ◌+◌, ◌*◌, ◌^◌, List, [], ◌∷◌, ◌++◌, Bool, true, false, not, ◌==◌, length, Some}
 use Rattle.std.specs.Char.{is_ascii_digit, is_ascii_hexdigit}
 use Rattle.std.specs.List.{list_all}
 use Rattle.c_lex.specs.declared.token.Kind.{Kind}
 use Rattle.c_lex.specs.declared.token.Kind.TheVariants as k
-use Rattle.c_lex.specs.Bytes.{begins, is_letter, is_word_byte}
+use Rattle.c_lex.specs.Bytes.{begins, is_letter, is_word_byte, is_blank}
 use Rattle.c_lex.specs.Numbers.{digit_value, value_of}
 use Rattle.c_lex.specs.Marks.{mark_of}
 use Rattle.c_lex.specs.Quoted.{escaped}
@@ -51,3 +51,23 @@ IsSpelling text (k.Number n) = (n < 2 ^ 32) × (IsDecimal text n ⊎ IsHexadecim
 IsSpelling text (k.Char b) = IsQuoted 39 text (b ∷ [])
 IsSpelling text (k.Text content) = IsQuoted 34 text content
 IsSpelling text (k.Punct mark) = mark_of text ≡ Some mark
+
+abbrev pub is_no_lf : ℕ → Bool
+is_no_lf b = not (b == 10)
+
+-- a blank, a backslash with the end of its line, a comment up to the end of its line, or up to the next `*/`
+pub data IsGap (text rest : List ℕ) : Type 0 where
+  blank : (b : ℕ) → is_blank b ≡ true → text ≡ b ∷ [] → IsGap text rest
+  splice : text ≡ 92 ∷ 10 ∷ [] → IsGap text rest
+  long_splice : text ≡ 92 ∷ 13 ∷ 10 ∷ [] → IsGap text rest
+  line : (inner : List ℕ) → text ≡ 47 ∷ 47 ∷ inner → list_all is_no_lf inner ≡ true → begins is_no_lf rest ≡ false → IsGap text rest
+  block : (inner : List ℕ) → text ≡ 47 ∷ 42 ∷ (inner ++ 42 ∷ 47 ∷ [])
+      → ((before after : List ℕ) → inner ++ 42 ∷ 47 ∷ [] ≡ before ++ 42 ∷ 47 ∷ after → after ≡ []) → IsGap text rest
+
+-- a gap of n bytes stands at the front
+pub record BeginsGap (bytes : List ℕ) (n : ℕ) : Type 0 where
+  pub text : List ℕ
+  pub rest : List ℕ
+  pub whole : bytes ≡ text ++ rest
+  pub size : length text ≡ n
+  pub is_gap : IsGap text rest

@@ -1,9 +1,10 @@
 // Laws of the definitions.
-ghost use Rattle.std.specs.Prelude.{◌≡◌, ◌↔◌, ◌≤◌, ℕ, List, Some, length};
+ghost use Rattle.std.specs.Prelude.{◌≡◌, ◌↔◌, ◌<◌, ◌≤◌, ℕ, List, Some, length};
 ghost use Rattle.std.specs.List.{All};
 ghost use Rattle.c_lex.specs.declared.token.Kind.{Kind};
 ghost use Rattle.c_lex.specs.declared.token.Token.{Token};
-ghost use Rattle.c_lex.specs.Grammar.{IsSpelling};
+ghost use Rattle.c_lex.specs.Grammar.{BeginsGap, IsSpelling};
+ghost use Rattle.c_lex.specs.Gaps.{gap_len};
 ghost use Rattle.c_lex.specs.Places.{IsPlaced, IsRefused};
 ghost use Rattle.c_lex.specs.Spelling.{spelling_of};
 ghost use Rattle.c_lex.specs.Reading.{found, stuck, Reading, Reads};
@@ -20,6 +21,11 @@ pub fn texts_read_one_way()
 /// or a mark.
 pub fn tokens_are_what_is_spelled()
     ensures both_ways { (text : List ℕ) (kind : Kind) → (spelling_of text ≡ Some kind) ↔ IsSpelling text kind }
+{}
+
+/// The gaps are those that the grammar says.
+pub fn gaps_are_what_is_spelled()
+    ensures both_ways { (bytes : List ℕ) (n : ℕ) → 0 < n → (gap_len bytes ≡ n) ↔ BeginsGap bytes n }
 {}
 
 /// The bytes from a token's start up to its end spell it, and its line is one more than the LF bytes

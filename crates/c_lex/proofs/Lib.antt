@@ -2,6 +2,7 @@ pub mod Quoting
 pub mod Closing
 pub mod Runs
 pub mod NumberRuns
+pub mod Rows
 pub mod Stands
 pub mod Words
 pub mod Numbers
@@ -18,3 +19,4 @@ pub mod Lines
 pub mod Comments
 pub mod Reasons
 pub mod Places
+pub mod Apart

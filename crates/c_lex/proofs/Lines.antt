@@ -3,19 +3,18 @@ use Rattle.std.proofs.Common.{◌≡◌, ℕ, ◌+◌, Bool, true, false, cond, 
 use Rattle.std.specs.Prelude.{Option, Some, None}
 use Rattle.std.specs.Char.{is_ascii_digit, is_ascii_hexdigit}
 use Rattle.std.specs.List.{list_all}
-use Rattle.std.specs.Str.{bytes_eq}
 use Rattle.std.proofs.lemmas.Bool.{ne_eqb, eqb-true}
 use Rattle.std.proofs.lemmas.Bool.Decides.{nat_tests}
 use Rattle.std.proofs.lemmas.List.Folds.{list_all-append}
 use Rattle.std.proofs.lemmas.List.Sums.{sum_by-append}
-use Rattle.std.proofs.lemmas.Slice.Eq.{bytes_eq-Decides}
 use Rattle.c_lex.specs.declared.token.Punct.{Punct}
 use Rattle.c_lex.specs.declared.token.Kind.{Kind}
 use Rattle.c_lex.specs.declared.token.Kind.TheVariants as k
 use Rattle.c_lex.specs.Bytes.{is_word_byte}
-use Rattle.c_lex.specs.Marks.{marks, spelled_in, mark_of}
+use Rattle.c_lex.specs.Marks.{marks, mark_of}
 use Rattle.c_lex.specs.Quoted.{escaped}
 use Rattle.c_lex.specs.Grammar.{IsDecimal, IsHexadecimal, IsPiece, itself, escape, code, IsContent, nothing, piece, IsQuoted, IsSpelling}
+use Rattle.c_lex.proofs.Rows.{all_rows, of_rows}
 use Rattle.c_lex.proofs.Stands.{both}
 
 abbrev pub other : ℕ → Bool
@@ -76,23 +75,9 @@ quoted_other q text content no_lf d =
     let end : list_all other (q ∷ []) ≡ true = rw no_lf refl in
     ap (list_all other) d.whole ∙ rw (no_lf, both_other d.inner (q ∷ []) (content_other d.spelled) end) refl
 
-all_marks : List (List ℕ × Punct) → Bool
-all_marks [] = true
-all_marks (e ∷ es) = cond (list_all other e.0) (all_marks es) false
-
-mark_in : (text : List ℕ) (m : Punct) (es : List (List ℕ × Punct)) → all_marks es ≡ true → spelled_in text es ≡ Some m → list_all other text ≡ true
-unfolding all_marks
-mark_in text m [] all h = absurd cc
-mark_in text m (e ∷ es) all h = by (list_all other e.0) (bytes_eq text e.0) refl refl all h (mark_in text m es)
-  where
-    by : (b c : Bool) → list_all other e.0 ≡ b → bytes_eq text e.0 ≡ c → cond b (all_marks es) false ≡ true → cond c (Some e.1) (spelled_in text es) ≡ Some m → (all_marks es ≡ true → spelled_in text es ≡ Some m → list_all other text ≡ true) → list_all other text ≡ true
-    by false c here same all h more = absurd cc
-    by true true here same all h more = ap (list_all other) ((bytes_eq-Decides text e.0).0 same) ∙ here
-    by true false here same all h more = more all h
-
 mark_other : (text : List ℕ) (m : Punct) → mark_of text ≡ Some m → list_all other text ≡ true
-unfolding mark_of marks all_marks
-mark_other text m e = mark_in text m marks refl e
+unfolding marks all_rows
+mark_other text m e = of_rows (list_all other) text m refl e
 
 hexadecimal_other : (text : List ℕ) (n : ℕ) → IsHexadecimal text n → list_all other text ≡ true
 hexadecimal_other text n h = ap (list_all other) h.spelled ∙ all_other is_ascii_hexdigit hex_other h.digits h.all

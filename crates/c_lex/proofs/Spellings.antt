@@ -3,22 +3,21 @@ use Rattle.std.proofs.Common.{◌≡◌, ℕ, ◌<◌, ◌+◌, ◌^◌, Bool, t
 use Rattle.std.specs.Prelude.{Option, Some, option_map}
 use Rattle.std.specs.Char.{is_ascii_digit, is_ascii_hexdigit}
 use Rattle.std.specs.List.{list_all, take_while}
-use Rattle.std.specs.Str.{bytes_eq}
 use Rattle.std.proofs.lemmas.Bool.{ltb-true, eqb-true, eq-eqb}
 use Rattle.std.proofs.lemmas.Bool.Decides.{nat_tests}
 use Rattle.std.proofs.lemmas.List.{nil_from_length, length-append}
-use Rattle.std.proofs.lemmas.Slice.Eq.{bytes_eq-Decides}
 use Rattle.c_lex.specs.declared.token.Punct.{Punct}
 use Rattle.c_lex.specs.declared.token.Kind.{Kind}
 use Rattle.c_lex.specs.declared.token.Kind.TheVariants as k
 use Rattle.c_lex.specs.declared.quoted.Within.TheVariants as w
 use Rattle.c_lex.specs.Bytes.{begins, is_letter, is_quote}
 use Rattle.c_lex.specs.Numbers.{value_of, begins_hex, number_len, number_value}
-use Rattle.c_lex.specs.Marks.{marks, spelled_in, mark_of}
+use Rattle.c_lex.specs.Marks.{marks, mark_of}
 use Rattle.c_lex.specs.Quoted.{quoted_at}
 use Rattle.c_lex.specs.Spelling.{spelling_of, word_of, number_of, quoted_of, content_kind, char_of, whole_content}
 use Rattle.c_lex.specs.Grammar.{IsDecimal, IsHexadecimal, IsQuoted, IsSpelling}
 use Rattle.c_lex.proofs.Stands.{some_is, both}
+use Rattle.c_lex.proofs.Rows.{all_rows, of_rows}
 use Rattle.c_lex.proofs.Words.{run_of, run_taken, is_word_of, whole_word, word_whole}
 use Rattle.c_lex.proofs.Numbers.{is_number_of, number_whole, number_kind}
 use Rattle.c_lex.proofs.Quotes.{Quote, is_quoted_of, whole_kind}
@@ -155,20 +154,6 @@ spelled_quoted q text v kind d other class is =
 is_sign : ℕ → Bool
 is_sign b = not (is_letter b || (is_ascii_digit b || is_quote b))
 
-all_signs : List (List ℕ × Punct) → Bool
-all_signs [] = true
-all_signs (e ∷ es) = cond (begins is_sign e.0) (all_signs es) false
-
-signs_in : (text : List ℕ) (m : Punct) (es : List (List ℕ × Punct)) → all_signs es ≡ true → spelled_in text es ≡ Some m → begins is_sign text ≡ true
-unfolding all_signs
-signs_in text m [] all h = absurd cc
-signs_in text m (e ∷ es) all h = by (begins is_sign e.0) (bytes_eq text e.0) refl refl all h (signs_in text m es)
-  where
-    by : (b c : Bool) → begins is_sign e.0 ≡ b → bytes_eq text e.0 ≡ c → cond b (all_signs es) false ≡ true → cond c (Some e.1) (spelled_in text es) ≡ Some m → (all_signs es ≡ true → spelled_in text es ≡ Some m → begins is_sign text ≡ true) → begins is_sign text ≡ true
-    by false c sign same all h more = absurd cc
-    by true true sign same all h more = ap (begins is_sign) ((bytes_eq-Decides text e.0).0 same) ∙ sign
-    by true false sign same all h more = more all h
-
 none_of : (a b c : Bool) → not (a || (b || c)) ≡ true → (a ≡ false) × (b ≡ false) × (c ≡ false)
 none_of false false false h = (refl, refl, refl)
 none_of false false true h = absurd cc
@@ -181,8 +166,8 @@ sign_of [] e = absurd cc
 sign_of (b ∷ bs) e = let h = none_of (is_letter b) (is_ascii_digit b) (is_quote b) e in record { letter = h.0; digit = h.1; quote = h.2 }
 
 mark_sign : (text : List ℕ) (m : Punct) → mark_of text ≡ Some m → Sign text
-unfolding mark_of marks all_signs is_sign
-mark_sign text m e = sign_of text (signs_in text m marks refl e)
+unfolding marks all_rows is_sign
+mark_sign text m e = sign_of text (of_rows (begins is_sign) text m refl e)
 
 -- ---- all tokens
 

@@ -1,12 +1,12 @@
 // Laws of the definitions.
-ghost use Rattle.std.specs.Prelude.{◌≡◌, ◌↔◌, ◌<◌, ◌≤◌, ℕ, List, Some, length};
+ghost use Rattle.std.specs.Prelude.{◌≡◌, ◌++◌, ◌↔◌, ◌<◌, ◌≤◌, ℕ, List, Some, length};
 ghost use Rattle.std.specs.List.{All};
 ghost use Rattle.c_lex.specs.declared.token.Kind.{Kind};
 ghost use Rattle.c_lex.specs.declared.token.Token.{Token};
 ghost use Rattle.c_lex.specs.Grammar.{BeginsGap, IsSpelling};
 ghost use Rattle.c_lex.specs.Gaps.{gap_len};
 ghost use Rattle.c_lex.specs.Places.{IsPlaced, IsRefused};
-ghost use Rattle.c_lex.specs.Spelling.{spelling_of};
+ghost use Rattle.c_lex.specs.Spelling.{IsToken, spelling_of};
 ghost use Rattle.c_lex.specs.Reading.{found, stuck, Reading, Reads};
 ghost use Rattle.c_lex.specs.Found.{reading_of};
 
@@ -26,6 +26,11 @@ pub fn tokens_are_what_is_spelled()
 /// The gaps are those that the grammar says.
 pub fn gaps_are_what_is_spelled()
     ensures both_ways { (bytes : List ℕ) (n : ℕ) → 0 < n → (gap_len bytes ≡ n) ↔ BeginsGap bytes n }
+{}
+
+/// No gap begins where a token stands: the list of gaps and tokens is the only one.
+pub fn gaps_and_tokens_are_apart()
+    ensures apart { (text rest : List ℕ) (kind : Kind) → IsToken text rest kind → gap_len (text ++ rest) ≡ 0 }
 {}
 
 /// The bytes from a token's start up to its end spell it, and its line is one more than the LF bytes

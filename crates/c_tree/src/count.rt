@@ -4,7 +4,9 @@ ghost use Rattle.std.specs.Prelude.{◌≡◌, ◌<◌, ◌^◌, map};
 ghost use Rattle.c_tree.specs.View.{expr, init, var, stmt, arm};
 ghost use Rattle.c_tree.specs.Count.{expr_nodes, init_nodes, var_nodes, vars_nodes, stmt_nodes, arm_nodes};
 
-use crate::ast::{Arm, Expr, Init, Stmt, Var};
+use crate::expression::Expr;
+use crate::statement::{Arm, Stmt};
+use crate::variable::{Init, Var};
 
 pub fn expr_nodes(e: &Expr) -> u64
     requires fits { expr_nodes (expr e.now) < 2 ^ 64 }

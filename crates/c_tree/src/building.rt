@@ -4,13 +4,12 @@ ghost use Rattle.std.specs.Prelude.{◌≡◌, IfOk, option_map};
 ghost use Rattle.c_tree.specs.View.{expr, type, stmt};
 ghost use Rattle.c_tree.specs.Tree.{ParenE, UnaryE, BinaryE, AssignE, StepE, IndexE, MemberE, ArrowE, CastE, PointerY, ArrayY, IfS, NoneS, SomeS, WhileS, DoWhileS, ForS};
 
-use kit_base::{Memory, Name};
-use std::alloc::Global;
-
 use crate::expression::{Expr, TypeTree};
 use crate::operator::{BinOp, StepOp, UnOp};
 use crate::span::Span;
 use crate::statement::Stmt;
+use kit_base::{Memory, Name};
+use std::alloc::Global;
 
 /// `(a)`
 pub fn paren(alloc: Global, a: Expr, span: Span) -> Result<Expr, Memory>
@@ -34,7 +33,13 @@ pub fn binary(alloc: Global, op: BinOp, a: Expr, b: Expr, span: Span) -> Result<
 }
 
 /// An assignment, with the operator of a compound one.
-pub fn assign(alloc: Global, op: Option<BinOp>, a: Expr, b: Expr, span: Span) -> Result<Expr, Memory>
+pub fn assign(
+    alloc: Global,
+    op: Option<BinOp>,
+    a: Expr,
+    b: Expr,
+    span: Span,
+) -> Result<Expr, Memory>
     ensures made { IfOk result (λ r. expr r ≡ AssignE op (expr a) (expr b) span) }
 {
     Ok(Expr::Assign(op, Box::new(alloc, a)?, Box::new(alloc, b)?, span))
@@ -132,7 +137,13 @@ pub fn for_bare(test: Option<Expr>, step: Option<Expr>, body: Box<Stmt>, span: S
 }
 
 /// `for` with something before its first semicolon.
-pub fn for_from(first: Box<Stmt>, test: Option<Expr>, step: Option<Expr>, body: Box<Stmt>, span: Span) -> Stmt
+pub fn for_from(
+    first: Box<Stmt>,
+    test: Option<Expr>,
+    step: Option<Expr>,
+    body: Box<Stmt>,
+    span: Span,
+) -> Stmt
     ensures made { stmt result ≡ ForS (SomeS (stmt first.value)) (option_map expr test) (option_map expr step) (stmt body.value) span }
 {
     Stmt::For(Some(first), test, step, body, span)

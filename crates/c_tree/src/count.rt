@@ -4,19 +4,22 @@ ghost use Rattle.std.specs.Prelude.{◌≡◌, ◌<◌, ◌^◌, map, option_map
 ghost use Rattle.c_tree.specs.View.{expr, init, var, stmt, stmts, arm, item, unit};
 ghost use Rattle.c_tree.specs.Count.{expr_nodes, init_nodes, var_nodes, vars_nodes, stmt_nodes, stmts_nodes, arm_nodes, values_nodes, item_nodes, unit_nodes};
 
-use kit_base::Name;
-
 use crate::expression::Expr;
 use crate::item::{Item, Unit};
 use crate::statement::{Arm, Stmt};
 use crate::variable::{Init, Var};
+use kit_base::Name;
 
 fn expr_nodes(e: &Expr) -> u64
     requires fits { expr_nodes (expr e.now) < 2 ^ 64 }
     ensures { result ≡ expr_nodes (expr e.now) }
 {
     match e {
-        Expr::Name(_, _) | Expr::Number(_, _) | Expr::Text(_, _) | Expr::Null(_) | Expr::SizeOf(_, _) => 1,
+        Expr::Name(_, _)
+        | Expr::Number(_, _)
+        | Expr::Text(_, _)
+        | Expr::Null(_)
+        | Expr::SizeOf(_, _) => 1,
         Expr::Paren(a, _)
         | Expr::Unary(_, a, _)
         | Expr::Step(_, a, _)
@@ -163,13 +166,22 @@ fn item_nodes(i: &Item) -> u64
 {
     match i {
         Item::Record { members: None, .. } | Item::Typedef(_, _, _) => 1,
-        Item::Record { members: Some(members), .. } => vars_nodes(members.as_slice()) + 1,
+        Item::Record {
+            members: Some(members),
+            ..
+        } => vars_nodes(members.as_slice()) + 1,
         Item::Enum { values, .. } => values_nodes(values.as_slice()) + 1,
         Item::Vars(vars, _) => vars_nodes(vars.as_slice()) + 1,
-        Item::Function { params, body: None, .. } => vars_nodes(params.as_slice()) + 1,
-        Item::Function { params, body: Some(body), .. } => {
-            vars_nodes(params.as_slice()) + stmts_nodes(body.as_slice()) + 1
-        }
+        Item::Function {
+            params,
+            body: None,
+            ..
+        } => vars_nodes(params.as_slice()) + 1,
+        Item::Function {
+            params,
+            body: Some(body),
+            ..
+        } => { vars_nodes(params.as_slice()) + stmts_nodes(body.as_slice()) + 1 }
     }
 }
 

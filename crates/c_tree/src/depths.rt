@@ -4,12 +4,11 @@ ghost use Rattle.std.specs.Prelude.{◌≡◌, ◌<◌, ◌^◌, map, option_map
 ghost use Rattle.c_tree.specs.View.{expr, type, init, var, stmt, stmts, arm, item, unit};
 ghost use Rattle.c_tree.specs.Depth.{expr_depth, type_depth, init_depth, var_depth, vars_depth, stmt_depth, stmts_depth, arm_depth, maybe_expr_depth, values_depth, item_depth, unit_depth};
 
-use kit_base::Name;
-
 use crate::expression::{Expr, TypeTree};
 use crate::item::{Item, Unit};
 use crate::statement::{Arm, Stmt};
 use crate::variable::{Init, Var};
+use kit_base::Name;
 
 #[cycle(expr_depth)]
 fn expr_depth(e: &Expr) -> u32
@@ -181,14 +180,25 @@ fn item_depth(i: &Item) -> u32
 {
     match i {
         Item::Record { members: None, .. } => 1,
-        Item::Record { members: Some(members), .. } => vars_depth(members.as_slice()) + 1,
+        Item::Record {
+            members: Some(members),
+            ..
+        } => vars_depth(members.as_slice()) + 1,
         Item::Enum { values, .. } => values_depth(values.as_slice()) + 1,
         Item::Typedef(ty, _, _) => type_depth(ty) + 1,
         Item::Vars(vars, _) => vars_depth(vars.as_slice()) + 1,
-        Item::Function { result, params, body: None, .. } => {
-            type_depth(result).max(vars_depth(params.as_slice())) + 1
-        }
-        Item::Function { result, params, body: Some(body), .. } => {
+        Item::Function {
+            result,
+            params,
+            body: None,
+            ..
+        } => { type_depth(result).max(vars_depth(params.as_slice())) + 1 }
+        Item::Function {
+            result,
+            params,
+            body: Some(body),
+            ..
+        } => {
             let head = type_depth(result).max(vars_depth(params.as_slice()));
             head.max(stmts_depth(body.as_slice())) + 1
         }

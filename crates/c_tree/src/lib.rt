@@ -21,3 +21,6 @@ pub use operator::{BinOp, StepOp, UnOp};
 pub use span::Span;
 pub use statement::{Arm, Stmt};
 pub use variable::{Init, Var};
+
+#[cfg(test)]
+mod tests;

@@ -1,9 +1,8 @@
 // Expressions, and the types that stand in them.
 
-use kit_base::{Name, Seq};
-
 use crate::operator::{BinOp, StepOp, UnOp};
 use crate::span::Span;
+use kit_base::{Name, Seq};
 
 #[cycle(expr)]
 #[derive(Drop)]

@@ -1,11 +1,10 @@
 // What a unit declares and defines.
 
-use kit_base::{Name, Seq};
-
 use crate::expression::{Expr, TypeTree};
 use crate::span::Span;
 use crate::statement::Stmt;
 use crate::variable::Var;
+use kit_base::{Name, Seq};
 
 #[derive(Drop)]
 pub enum Item {

@@ -1,10 +1,9 @@
 // Statements.
 
-use kit_base::Seq;
-
 use crate::expression::Expr;
 use crate::span::Span;
 use crate::variable::Var;
+use kit_base::Seq;
 
 #[cycle(stmt)]
 #[derive(Drop)]

@@ -1,9 +1,8 @@
 // Variables and what they begin with.
 
-use kit_base::{Name, Seq};
-
 use crate::expression::{Expr, TypeTree};
 use crate::span::Span;
+use kit_base::{Name, Seq};
 
 #[derive(Drop)]
 pub enum Init {

@@ -1,9 +1,9 @@
 -- Syntax trees as plain data: no pointer and no capacity stands in them.
 use Rattle.std.specs.Prelude.{ℕ, List, Option, Bool}
-use Rattle.c_tree.specs.declared.ast.Span.{Span}
-use Rattle.c_tree.specs.declared.ast.UnOp.{UnOp}
-use Rattle.c_tree.specs.declared.ast.StepOp.{StepOp}
-use Rattle.c_tree.specs.declared.ast.BinOp.{BinOp}
+use Rattle.c_tree.specs.declared.span.Span.{Span}
+use Rattle.c_tree.specs.declared.operator.UnOp.{UnOp}
+use Rattle.c_tree.specs.declared.operator.StepOp.{StepOp}
+use Rattle.c_tree.specs.declared.operator.BinOp.{BinOp}
 
 mutual
   pub data ExprT : Type 0 where

@@ -1,18 +1,18 @@
 -- The plain tree that a tree in memory stands for.
-use Rattle.std.specs.Prelude.{ℕ, List, [], ◌∷◌, Option, Some, None, map, option_map}
-use Rattle.c_tree.specs.declared.ast.Expr.{Expr, Expr-F, fold-Expr}
-use Rattle.c_tree.specs.declared.ast.TypeTree.{TypeTree, TypeTree-F, fold-TypeTree}
-use Rattle.c_tree.specs.declared.ast.Expr.TheOpen as e
-use Rattle.c_tree.specs.declared.ast.Init.{Init, Init-F, fold-Init}
-use Rattle.c_tree.specs.declared.ast.Init.TheOpen as i
-use Rattle.c_tree.specs.declared.ast.Var.{Var}
-use Rattle.c_tree.specs.declared.ast.Stmt.{Stmt, Stmt-F, fold-Stmt}
-use Rattle.c_tree.specs.declared.ast.Arm.{Arm, Arm-F, fold-Arm}
-use Rattle.c_tree.specs.declared.ast.Arm.TheOpen as s
-use Rattle.c_tree.specs.declared.ast.Item.{Item}
-use Rattle.c_tree.specs.declared.ast.Item.TheVariants.{Record, Enum, Typedef, Vars, Function}
-use Rattle.c_tree.specs.declared.ast.Unit.{Unit as File}
-use Rattle.c_tree.specs.Tree.{ExprT, NameE, NumberE, TextE, NullE, ParenE, UnaryE, BinaryE, AssignE, StepE, IndexE, MemberE, ArrowE, CallE, CastE, SizeOfE, ExprTs, NoE, MoreE, TypeT, IntY, BoolY, VoidY, NamedY, PointerY, ArrayY, InitT, OneI, ListI, InitTs, NoI, MoreI, VarT, StmtT, BlockS, EmptyS, VarsS, DoS, IfS, WhileS, DoWhileS, ForS, SwitchS, ReturnS, BreakS, ContinueS, MaybeS, NoneS, SomeS, StmtTs, NoS, MoreS, ArmT, CaseA, DefaultA, StmtA, ArmTs, NoA, MoreA, ItemT, RecordD, EnumD, TypedefD, VarsD, FunctionD}
+use Rattle.std.specs.Prelude.{List, [], ◌∷◌, Some, None, map, option_map}
+use Rattle.c_tree.specs.declared.expression.Expr.{Expr, Expr-F, fold-Expr}
+use Rattle.c_tree.specs.declared.expression.TypeTree.{TypeTree, TypeTree-F, fold-TypeTree}
+use Rattle.c_tree.specs.declared.expression.Expr.TheOpen as e
+use Rattle.c_tree.specs.declared.variable.Init.{Init, Init-F, fold-Init}
+use Rattle.c_tree.specs.declared.variable.Init.TheOpen as i
+use Rattle.c_tree.specs.declared.variable.Var.{Var}
+use Rattle.c_tree.specs.declared.statement.Stmt.{Stmt, Stmt-F, fold-Stmt}
+use Rattle.c_tree.specs.declared.statement.Arm.{Arm, Arm-F, fold-Arm}
+use Rattle.c_tree.specs.declared.statement.Arm.TheOpen as s
+use Rattle.c_tree.specs.declared.item.Item.{Item}
+use Rattle.c_tree.specs.declared.item.Item.TheVariants.{Record, Enum, Typedef, Vars, Function}
+use Rattle.c_tree.specs.declared.item.Unit.{Unit as File}
+use Rattle.c_tree.specs.Tree.{ExprT, NameE, NumberE, TextE, NullE, ParenE, UnaryE, BinaryE, AssignE, StepE, IndexE, MemberE, ArrowE, CallE, CastE, SizeOfE, ExprTs, NoE, MoreE, TypeT, IntY, BoolY, VoidY, NamedY, PointerY, ArrayY, InitT, OneI, ListI, InitTs, NoI, MoreI, VarT, StmtT, BlockS, EmptyS, VarsS, DoS, IfS, WhileS, DoWhileS, ForS, SwitchS, ReturnS, BreakS, ContinueS, NoneS, SomeS, StmtTs, NoS, MoreS, ArmT, CaseA, DefaultA, StmtA, ArmTs, NoA, MoreA, ItemT, RecordD, EnumD, TypedefD, VarsD, FunctionD}
 
 abbrev pub exprs : List ExprT → ExprTs
 exprs [] = NoE

@@ -1,0 +1,4 @@
+pub mod Types
+pub mod Typed
+pub mod View
+pub mod Sizes

@@ -160,7 +160,10 @@ fn some_files(alloc: Global) -> Result<Vec<(Name, Seq<u8>)>, Fail> {
         let bytes = Vec::from_slice(alloc, text.as_bytes())?;
         held.push((Name::new(alloc, name)?, Seq::from_vec(bytes)))?;
     }
-    for (name, digits) in [("cart", CART), ("words", "5633322d5642494e0100000000000000")] {
+    for (name, digits) in [
+        ("cart", CART),
+        ("words", "5633322d5642494e0100000000000000"),
+    ] {
         let bytes = bytes_from(alloc, digits)?;
         held.push((Name::new(alloc, name)?, Seq::from_vec(bytes)))?;
     }
@@ -201,7 +204,10 @@ fn each_failing_call_of_the_files_leaves_fronts(rt: HostRuntime) -> Result<(), F
             let ran = run_some(&rt, alloc, words, failing, Vec::new(alloc))?;
             let status = if call < calls { 5 } else { 0 };
             assert_eq!(rt; ran.status, status, "{words}, call {call}");
-            assert_eq!(rt; starts_with(ran.out.written(), b"file fault "), call < calls);
+            assert_eq!(rt;
+                starts_with(ran.out.written(), b"file fault "),
+                call < calls
+            );
             assert!(rt; is_front(&ran.files, &clean.files, first));
             assert!(rt; is_front(&ran.files, &clean.files, second));
             assert!(rt; is_front(&ran.files, &clean.files, "card"));

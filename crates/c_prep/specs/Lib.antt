@@ -1,0 +1,4 @@
+pub mod Kinds
+pub mod Faults
+pub mod Macros
+pub mod Frames

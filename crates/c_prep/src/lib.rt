@@ -1,0 +1,13 @@
+//! The preprocessor: macros, conditions and included files.
+//!
+//! `expand` promises exactly the tokens that a source stands for, with the files that it includes, or
+//! its first fault. It stands on the tokens of `c_lex` and the files of `kit_base`.
+#![tactic(auto)]
+
+mod error;
+mod kinds;
+mod output;
+mod table;
+mod replace;
+
+pub use error::PrepErr;

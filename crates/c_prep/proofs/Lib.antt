@@ -1,3 +1,4 @@
 pub mod Comparing
+pub mod Directing
 pub mod Lookups
 pub mod Unwinding

@@ -4,10 +4,13 @@
 //! its first fault. It stands on the tokens of `c_lex` and the files of `kit_base`.
 #![tactic(auto)]
 
+mod conditions;
+mod directive;
 mod error;
 mod kinds;
 mod output;
 mod table;
 mod replace;
+mod work;
 
 pub use error::PrepErr;

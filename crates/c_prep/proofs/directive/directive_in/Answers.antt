@@ -1,0 +1,6 @@
+use Rattle.std.proofs.Common.{sym, ◌∙◌}
+use Rattle.c_prep.proofs.Directing.{is_text_line}
+use Rattle.c_prep.proofs.directive.directive_in.Goals as goal
+
+pub returns-else-begins_directive : goal.returns-else-begins_directive
+returns-else-begins_directive c = sym (is_text_line c.args.line.now c.in-Some.hash.now c.in-Some.tokens.now c.in-Some.ensures.cases.0 (sym c.begins_directive.ensures ∙ c.if-begins_directive.false))

@@ -1,0 +1,14 @@
+pub mod Quoting
+pub mod Closing
+pub mod Runs
+pub mod NumberRuns
+pub mod Stands
+pub mod Words
+pub mod Numbers
+pub mod Texts
+pub mod Quotes
+pub mod Signs
+pub mod Tokens
+pub mod Steps
+pub mod Readings
+pub mod Files

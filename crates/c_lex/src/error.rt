@@ -3,6 +3,7 @@ ghost use Rattle.std.specs.Prelude.{◌≡◌};
 ghost use Rattle.c_lex.specs.declared.error.LexErr.TheVariants as errors;
 
 use kit_base::Memory;
+use std::alloc::AllocFailed;
 use thiserror::Error;
 
 /// Why the first place without a token has none: 10 for a byte that begins no token, 11 for a text or a
@@ -20,6 +21,14 @@ impl From<Memory> for LexErr {
     ghost from_gives = { λ _ e. e ≡ errors.Memory };
 
     fn from(_: Memory) -> LexErr {
+        LexErr::Memory
+    }
+}
+
+impl<T: Drop> From<AllocFailed<T>> for LexErr {
+    ghost from_gives = { λ _ e. e ≡ errors.Memory };
+
+    fn from(_: AllocFailed<T>) -> LexErr {
         LexErr::Memory
     }
 }

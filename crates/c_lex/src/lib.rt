@@ -5,7 +5,21 @@
 #![tactic(auto)]
 
 mod error;
+mod found;
+mod gap;
+mod laws;
+mod lexing;
+mod mark;
+mod number;
+mod place;
+mod quoted;
 mod token;
+mod word;
 
 pub use error::LexErr;
+pub use laws::{texts_read_one_way, tokens_are_of_their_file};
+pub use lexing::lex;
 pub use token::{Kind, Punct, Token};
+
+#[cfg(test)]
+mod tests;

@@ -1,0 +1,103 @@
+// Texts and characters.
+ghost use Rattle.std.specs.Prelude.{◌≡◌, IfOk, option_map};
+ghost use Rattle.c_lex.specs.declared.quoted.Within.TheVariants.{Plain};
+ghost use Rattle.c_lex.specs.Quoted.{escape_turn, turn_of, quoted_at};
+
+use crate::number::digit_value;
+use kit_base::{Memory, Seq};
+use std::alloc::Global;
+
+/// Where one is behind the first quote.
+#[derive(Clone, Copy, Debug, PartialEq, Eq)]
+pub enum Within {
+    Plain,
+    Escape,
+    High,
+    Low(u8),
+}
+
+/// What a byte does there.
+#[derive(Clone, Copy, Debug, PartialEq, Eq)]
+pub enum Turn {
+    Ends,
+    Fails,
+    Goes(Within),
+    Gives(u8),
+}
+
+fn escape_turn(b: u8) -> Turn
+    ensures { result ≡ escape_turn b }
+{
+    match b {
+        b'n' => Turn::Gives(b'\n'),
+        b't' => Turn::Gives(b'\t'),
+        b'r' => Turn::Gives(b'\r'),
+        b'0' => Turn::Gives(0),
+        b'\\' => Turn::Gives(b'\\'),
+        b'\'' => Turn::Gives(b'\''),
+        b'"' => Turn::Gives(b'"'),
+        b'x' => Turn::Goes(Within::High),
+        _ => Turn::Fails,
+    }
+}
+
+#[tactic(auto, unfolding(crate::specs::Quoted::turn_of))]
+fn plain_turn(quote: u8, b: u8) -> Turn
+    ensures { result ≡ turn_of quote Plain b }
+{
+    if b == quote {
+        return Turn::Ends;
+    }
+    match b {
+        b'\n' => Turn::Fails,
+        b'\\' => Turn::Goes(Within::Escape),
+        _ => Turn::Gives(b),
+    }
+}
+
+#[tactic(auto, unfolding(crate::specs::Quoted::turn_of))]
+fn turn_of(quote: u8, within: Within, b: u8) -> Turn
+    ensures { result ≡ turn_of quote within b }
+{
+    match within {
+        Within::Plain => plain_turn(quote, b),
+        Within::Escape => escape_turn(b),
+        Within::High => {
+            if b.is_ascii_hexdigit() {
+                Turn::Goes(Within::Low(digit_value(b)))
+            } else {
+                Turn::Fails
+            }
+        }
+        Within::Low(high) => {
+            if high < 16 && b.is_ascii_hexdigit() {
+                Turn::Gives(high * 16 + digit_value(b))
+            } else {
+                Turn::Fails
+            }
+        }
+    }
+}
+
+/// The bytes that stand behind the first quote, and what stands after its end.
+#[tactic(auto, using(crate::proofs::Quoting::ends, crate::proofs::Quoting::fails, crate::proofs::Quoting::goes, crate::proofs::Quoting::gives, crate::proofs::Quoting::at_end))]
+pub fn quoted_at(alloc: Global, quote: u8, bytes: &[u8]) -> Result<Option<(Seq<u8>, &[u8])>, Memory>
+    ensures { IfOk result (λ o. option_map (λ r. (r.0, r.1.now)) o ≡ quoted_at quote Plain bytes.now) }
+{
+    let mut out = Vec::new(alloc);
+    let mut rest = bytes;
+    let mut within = Within::Plain;
+    'each: while let Some((b, after)) = rest.split_first() {
+        match turn_of(quote, within, *b) {
+            Turn::Ends => return Ok(Some((Seq::from_vec(out), after))),
+            Turn::Fails => return Ok(None),
+            Turn::Goes(next) => within = next,
+            Turn::Gives(byte) => {
+                out.push(byte)?;
+                within = Within::Plain;
+            }
+        }
+        rest = after;
+    }
+    Ok(None)
+}

@@ -2,3 +2,7 @@ pub mod Comparing
 pub mod Directing
 pub mod Lookups
 pub mod Unwinding
+pub mod LexCodes
+pub mod Causing
+pub mod Including
+pub mod Whole

@@ -6,3 +6,5 @@ pub mod Lines
 pub mod Directives
 pub mod Conditions
 pub mod Steps
+pub mod Files
+pub mod Causes

@@ -7,6 +7,8 @@
 mod conditions;
 mod directive;
 mod error;
+mod expansion;
+mod files;
 mod kinds;
 mod output;
 mod table;
@@ -14,3 +16,4 @@ mod replace;
 mod work;
 
 pub use error::PrepErr;
+pub use expansion::expand;

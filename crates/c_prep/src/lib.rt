@@ -17,3 +17,6 @@ mod work;
 
 pub use error::PrepErr;
 pub use expansion::expand;
+
+#[cfg(test)]
+mod tests;

@@ -2,6 +2,7 @@ pub mod Quoting
 pub mod Closing
 pub mod Runs
 pub mod NumberRuns
+pub mod Rows
 pub mod Stands
 pub mod Words
 pub mod Numbers
@@ -12,3 +13,10 @@ pub mod Tokens
 pub mod Steps
 pub mod Readings
 pub mod Files
+pub mod Contents
+pub mod Spellings
+pub mod Lines
+pub mod Comments
+pub mod Reasons
+pub mod Places
+pub mod Apart

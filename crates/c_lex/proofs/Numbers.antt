@@ -19,11 +19,11 @@ pub record Digit (bytes : List ℕ) : Type 0 where
   pub letter : begins is_letter bytes ≡ false
   pub digit : begins is_ascii_digit bytes ≡ true
 
-is_number_of : (a : List ℕ) → Digit a → spelling_of a ≡ number_of a
+pub is_number_of : (a : List ℕ) → Digit a → spelling_of a ≡ number_of a
 unfolding spelling_of
 is_number_of a d = rw (d.letter, d.digit) refl
 
-number_whole : (a : List ℕ) → IsSome (number_of a) → number_len a ≡ length a
+pub number_whole : (a : List ℕ) → IsSome (number_of a) → number_len a ≡ length a
 unfolding number_of
 number_whole a some = eqb-true _ _ (chosen (eqb (number_len a) (length a)) (ltb (number_value a) (2 ^ 32)) some)
   where
@@ -90,7 +90,7 @@ number_stands bytes len kind d e = by (ltb v (2 ^ 32)) (not (begins is_point res
     by true false small point same = absurd cc
     by false c small point same = absurd cc
 
-number_kind : (text : List ℕ) (kind : Kind) → number_of text ≡ Some kind → (ltb (number_value text) (2 ^ 32) ≡ true) × (k.Number (number_value text) ≡ kind)
+pub number_kind : (text : List ℕ) (kind : Kind) → number_of text ≡ Some kind → (ltb (number_value text) (2 ^ 32) ≡ true) × (k.Number (number_value text) ≡ kind)
 unfolding number_of
 number_kind text kind e = by (eqb (number_len text) (length text)) (ltb (number_value text) (2 ^ 32)) e
   where

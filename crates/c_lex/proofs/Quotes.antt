@@ -19,7 +19,7 @@ pub record Quote (bytes : List ℕ) : Type 0 where
   pub digit : begins is_ascii_digit bytes ≡ false
   pub quote : begins is_quote bytes ≡ true
 
-is_quoted_of : (q : ℕ) (f : List ℕ) → Quote (q ∷ f) → spelling_of (q ∷ f) ≡ whole_content q (quoted_at q w.Plain f)
+pub is_quoted_of : (q : ℕ) (f : List ℕ) → Quote (q ∷ f) → spelling_of (q ∷ f) ≡ whole_content q (quoted_at q w.Plain f)
 unfolding spelling_of quoted_of
 is_quoted_of q f d = rw (d.letter, d.digit, d.quote) refl
 
@@ -100,7 +100,7 @@ quoted_stands (q ∷ bs) len kind d e =
       is_token = made q p.text g.content g.after kind (subst (λ (x : List ℕ). Quote x) whole d) p.own g.kind_is;
     }
 
-whole_kind : (q : ℕ) (o : Content) (kind : Kind) → whole_content q o ≡ Some kind → (v : List ℕ) × (o ≡ Some (v, [])) × (content_kind q v ≡ Some kind)
+pub whole_kind : (q : ℕ) (o : Content) (kind : Kind) → whole_content q o ≡ Some kind → (v : List ℕ) × (o ≡ Some (v, [])) × (content_kind q v ≡ Some kind)
 whole_kind q None kind e = absurd cc
 whole_kind q (Some x) kind e = let h = chosen (eqb (length x.1) 0) e in (x.0, ap (λ (y : List ℕ). Some (x.0, y)) (nil_from_length x.1 (eqb-true _ _ h.0)), h.1)
   where

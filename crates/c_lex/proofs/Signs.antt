@@ -1,9 +1,7 @@
 -- A mark is the longest spelling at its place.
 use Rattle.std.proofs.Common.{◌≡◌, ℕ, zero, suc, ◌<◌, ◌≤◌, ◌+◌, ◌-◌, Bool, true, false, cond, ltb, List, [], ◌∷◌, ◌++◌, length, take, drop, refl, sym, ap, subst, ◌∙◌, arith, append_assoc}
 use Rattle.std.specs.Prelude.{Option, Some, None, IsSome, option_map}
-use Rattle.std.specs.Str.{bytes_eq}
 use Rattle.std.specs.Char.{is_ascii_digit}
-use Rattle.std.proofs.lemmas.Slice.Eq.{bytes_eq-Decides}
 use Rattle.std.proofs.lemmas.Bool.{ltb-false, ltb-true}
 use Rattle.std.proofs.Math.Seq.{take-append-add}
 use Rattle.std.proofs.lemmas.List.{length-append, length-take-le, take-append-drop, take_at, drop_at}
@@ -13,28 +11,25 @@ use Rattle.c_lex.specs.declared.token.Kind.TheVariants as k
 use Rattle.c_lex.specs.Bytes.{begins, is_letter, is_quote}
 use Rattle.c_lex.specs.Spelling.{IsToken, spelling_of, is_mark_before, ends_so}
 use Rattle.c_lex.specs.Found.{Found, mark_kept}
+use Rattle.c_lex.proofs.Rows.{all_rows, of_rows}
 use Rattle.c_lex.proofs.Runs.{begins_append, begins_take}
 use Rattle.c_lex.proofs.Stands.{Stands, some_is, token_some}
-use Rattle.c_lex.specs.Marks.{marks, spelled_in, mark_of, or_else, mark_up_to, mark_at}
+use Rattle.c_lex.specs.Marks.{marks, mark_of, or_else, mark_up_to, mark_at}
 
-all_short : List (List ℕ × Punct) → Bool
-all_short [] = true
-all_short (e ∷ es) = cond (ltb 3 (length e.0)) false (all_short es)
+is_short : List ℕ → Bool
+is_short text = ltb (length text) 4
 
-short_in : (text : List ℕ) (es : List (List ℕ × Punct)) → all_short es ≡ true → IsSome (spelled_in text es) → length text ≤ 3
-unfolding all_short
-short_in text [] all h = absurd cc
-short_in text (e ∷ es) all h = by (ltb 3 (length e.0)) (bytes_eq text e.0) refl refl all h (short_in text es)
-  where
-    by : (b c : Bool) → ltb 3 (length e.0) ≡ b → bytes_eq text e.0 ≡ c → cond b false (all_short es) ≡ true → IsSome (cond c (Some e.1) (spelled_in text es)) → (all_short es ≡ true → IsSome (spelled_in text es) → length text ≤ 3) → length text ≤ 3
-    by true c long same all h more = absurd cc
-    by false true long same all h more = let e = ap length ((bytes_eq-Decides text e.0).0 same) in omega (arith, ltb-false 3 _ long)
-    by false false long same all h more = more all h
+short_by : (text : List ℕ) (m : Punct) → mark_of text ≡ Some m → ltb (length text) 4 ≡ true
+unfolding marks all_rows is_short
+short_by text m e = of_rows is_short text m refl e
+
+short_of : (text : List ℕ) (o : Option Punct) → mark_of text ≡ o → IsSome o → length text ≤ 3
+short_of text None e h = absurd cc
+short_of text (Some m) e h = let short = ltb-true (length text) 4 (short_by text m e) in omega arith
 
 -- no mark has more than three bytes
 pub mark_short : (text : List ℕ) → IsSome (mark_of text) → length text ≤ 3
-unfolding mark_of marks all_short
-mark_short text h = short_in text marks refl h
+mark_short text h = short_of text (mark_of text) refl h
 
 -- the mark of that length is the longest of at most n bytes
 pub record Longest (n : ℕ) (bytes : List ℕ) (len : ℕ) (m : Punct) : Type 0 where
@@ -128,7 +123,7 @@ pub record Sign (bytes : List ℕ) : Type 0 where
   pub digit : begins is_ascii_digit bytes ≡ false
   pub quote : begins is_quote bytes ≡ false
 
-is_mark_of : (a : List ℕ) → Sign a → spelling_of a ≡ option_map k.Punct (mark_of a)
+pub is_mark_of : (a : List ℕ) → Sign a → spelling_of a ≡ option_map k.Punct (mark_of a)
 unfolding spelling_of
 is_mark_of a d = rw (d.letter, d.digit, d.quote) refl
 
@@ -199,7 +194,7 @@ kept_by bytes len kind (Some x) d is e = by (is_mark_before x.1 (drop x.0 bytes)
 pub sign_stands : (bytes : List ℕ) (len : ℕ) (kind : Kind) → Sign bytes → mark_kept bytes (mark_at bytes) ≡ Some (len, kind) → Stands bytes len kind
 sign_stands bytes len kind d e = kept_by bytes len kind (mark_at bytes) d refl e
 
-spelled_mark : (o : Option Punct) (kind : Kind) → option_map k.Punct o ≡ Some kind → (m : Punct) × (o ≡ Some m) × (k.Punct m ≡ kind)
+pub spelled_mark : (o : Option Punct) (kind : Kind) → option_map k.Punct o ≡ Some kind → (m : Punct) × (o ≡ Some m) × (k.Punct m ≡ kind)
 spelled_mark None kind e = absurd cc
 spelled_mark (Some m) kind e = (m, refl, some_is e)
 

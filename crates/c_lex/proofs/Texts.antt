@@ -38,10 +38,10 @@ pub record Parts (q : ℕ) (s : Within) (a v r : List ℕ) : Type 0 where
   pub whole : a ≡ text ++ r
   pub own : quoted_at q s text ≡ Some (v, [])
 
-some_is : {x y : List ℕ × List ℕ} → Some x ≡ Some y → x ≡ y
+pub some_is : {x y : List ℕ × List ℕ} → Some x ≡ Some y → x ≡ y
 some_is e = cc
 
-front_is : (b : ℕ) (o : Content) (v r : List ℕ) → front b o ≡ Some (v, r) → (v' : List ℕ) × (o ≡ Some (v', r)) × (b ∷ v' ≡ v)
+pub front_is : (b : ℕ) (o : Content) (v r : List ℕ) → front b o ≡ Some (v, r) → (v' : List ℕ) × (o ≡ Some (v', r)) × (b ∷ v' ≡ v)
 front_is b None v r e = absurd cc
 front_is b (Some x) v r e = let p = some_is e in (x.0, ap (λ (w : List ℕ). Some (x.0, w)) (ap (λ (y : List ℕ × List ℕ). y.1) p), ap (λ (y : List ℕ × List ℕ). y.0) p)
 

@@ -46,15 +46,15 @@ letter_in_word : (bytes : List ℕ) → begins is_letter bytes ≡ true → begi
 letter_in_word [] e = absurd cc
 letter_in_word (b ∷ bs) e = rw e refl
 
-is_word_of : (a : List ℕ) → begins is_letter a ≡ true → spelling_of a ≡ word_of a
+pub is_word_of : (a : List ℕ) → begins is_letter a ≡ true → spelling_of a ≡ word_of a
 unfolding spelling_of
 is_word_of a e = rw e refl
 
-whole_word : (a : List ℕ) → list_all is_word_byte a ≡ true → word_of a ≡ Some (k.Word a)
+pub whole_word : (a : List ℕ) → list_all is_word_byte a ≡ true → word_of a ≡ Some (k.Word a)
 unfolding word_of
 whole_word a e = rw e refl
 
-word_whole : (a : List ℕ) (kind : Kind) → word_of a ≡ Some kind → (list_all is_word_byte a ≡ true) × (k.Word a ≡ kind)
+pub word_whole : (a : List ℕ) (kind : Kind) → word_of a ≡ Some kind → (list_all is_word_byte a ≡ true) × (k.Word a ≡ kind)
 unfolding word_of
 word_whole a kind e = by (list_all is_word_byte a) e
   where

@@ -6,3 +6,5 @@ pub mod Marks
 pub mod Spelling
 pub mod Reading
 pub mod Found
+pub mod Grammar
+pub mod Places

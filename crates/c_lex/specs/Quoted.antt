@@ -7,23 +7,27 @@ use Rattle.c_lex.specs.declared.quoted.Within.TheVariants as w
 use Rattle.c_lex.specs.declared.quoted.Turn.{Turn}
 use Rattle.c_lex.specs.declared.quoted.Turn.TheVariants as t
 
--- behind a backslash: n, t, r, 0, a backslash, either quote, or x with two hexadecimal digits
-abbrev pub escape_turn : ℕ → Turn
-escape_turn b =
-    if b == 110 then t.Gives 10
-    else (if b == 116 then t.Gives 9
-    else (if b == 114 then t.Gives 13
-    else (if b == 48 then t.Gives 0
-    else (if b == 92 then t.Gives 92
-    else (if b == 39 then t.Gives 39
-    else (if b == 34 then t.Gives 34
-    else (if b == 120 then t.Goes w.High
-    else t.Fails)))))))
+-- what stands behind a backslash: n, t, r, 0, a backslash or either quote
+unfoldable pub escaped : ℕ → Option ℕ
+escaped b =
+    if b == 110 then Some 10
+    else (if b == 116 then Some 9
+    else (if b == 114 then Some 13
+    else (if b == 48 then Some 0
+    else (if b == 92 then Some 92
+    else (if b == 39 then Some 39
+    else (if b == 34 then Some 34
+    else None))))))
+
+-- or x with two hexadecimal digits
+abbrev pub escape_turn : ℕ → Option ℕ → Turn
+escape_turn b (Some given) = t.Gives given
+escape_turn b None = if b == 120 then t.Goes w.High else t.Fails
 
 -- the same quote ends it, an LF fails it, a byte that begins no escape stands for itself
 unfoldable pub turn_of : ℕ → Within → ℕ → Turn
 turn_of quote w.Plain b = if b == quote then t.Ends else (if b == 10 then t.Fails else (if b == 92 then t.Goes w.Escape else t.Gives b))
-turn_of quote w.Escape b = escape_turn b
+turn_of quote w.Escape b = escape_turn b (escaped b)
 turn_of quote w.High b = if is_ascii_hexdigit b then t.Goes (w.Low (digit_value b)) else t.Fails
 turn_of quote (w.Low high) b = if nat_lt high 16 && is_ascii_hexdigit b then t.Gives (high * 16 + digit_value b) else t.Fails
 

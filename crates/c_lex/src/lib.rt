@@ -17,7 +17,10 @@ mod token;
 mod word;
 
 pub use error::LexErr;
-pub use laws::{texts_read_one_way, tokens_are_of_their_file};
+pub use laws::{
+    gaps_and_tokens_are_apart, gaps_are_what_is_spelled, places_are_told, texts_read_one_way,
+    tokens_are_of_their_file, tokens_are_what_is_spelled,
+};
 pub use lexing::lex;
 pub use token::{Kind, Punct, Token};
 

@@ -1,7 +1,7 @@
 // Texts and characters.
 ghost use Rattle.std.specs.Prelude.{◌≡◌, IfOk, option_map};
 ghost use Rattle.c_lex.specs.declared.quoted.Within.TheVariants.{Plain};
-ghost use Rattle.c_lex.specs.Quoted.{escape_turn, turn_of, quoted_at};
+ghost use Rattle.c_lex.specs.Quoted.{escaped, escape_turn, turn_of, quoted_at};
 
 use crate::number::digit_value;
 use kit_base::{Memory, Seq};
@@ -25,19 +25,34 @@ pub enum Turn {
     Gives(u8),
 }
 
-fn escape_turn(b: u8) -> Turn
-    ensures { result ≡ escape_turn b }
+#[tactic(auto, unfolding(crate::specs::Quoted::escaped))]
+fn escaped(b: u8) -> Option<u8>
+    ensures { result ≡ escaped b }
 {
     match b {
-        b'n' => Turn::Gives(b'\n'),
-        b't' => Turn::Gives(b'\t'),
-        b'r' => Turn::Gives(b'\r'),
-        b'0' => Turn::Gives(0),
-        b'\\' => Turn::Gives(b'\\'),
-        b'\'' => Turn::Gives(b'\''),
-        b'"' => Turn::Gives(b'"'),
-        b'x' => Turn::Goes(Within::High),
-        _ => Turn::Fails,
+        b'n' => Some(b'\n'),
+        b't' => Some(b'\t'),
+        b'r' => Some(b'\r'),
+        b'0' => Some(0),
+        b'\\' => Some(b'\\'),
+        b'\'' => Some(b'\''),
+        b'"' => Some(b'"'),
+        _ => None,
+    }
+}
+
+fn escape_turn(b: u8) -> Turn
+    ensures { result ≡ escape_turn b (escaped b) }
+{
+    match escaped(b) {
+        Some(given) => Turn::Gives(given),
+        None => {
+            if b == b'x' {
+                Turn::Goes(Within::High)
+            } else {
+                Turn::Fails
+            }
+        }
     }
 }
 

@@ -3,6 +3,6 @@ pub mod Directing
 pub mod Lookups
 pub mod Unwinding
 pub mod LexCodes
-pub mod Causing
+pub mod Numbering
 pub mod Including
 pub mod Whole

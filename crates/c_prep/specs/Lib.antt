@@ -8,3 +8,4 @@ pub mod Conditions
 pub mod Steps
 pub mod Files
 pub mod Causes
+pub mod Numbers

@@ -1,8 +1,9 @@
 // The lines of a file's tokens and the directives among them.
-ghost use Rattle.std.specs.Prelude.{◌≡◌, ◌≤◌, ◌<◌, ◌∷◌, [], not, length, map, take_while, option_copied, option_map, IfSome, IfNone, bytes_eq};
+ghost use Rattle.std.specs.Prelude.{◌≡◌, ◌≤◌, ◌<◌, ◌∷◌, ℕ, [], not, length, map, take_while, option_copied, option_map, IfSome, IfNone, bytes_eq};
 ghost use Rattle.std.specs.List.{list_any};
 ghost use Rattle.c_prep.specs.Kinds.{kinds_of};
 ghost use Rattle.c_prep.specs.Lines.{begins_directive, is_hash, lines_of};
+ghost use Rattle.c_prep.specs.Numbers.{AreBelow};
 ghost use Rattle.c_prep.specs.Directives.{class_in, class_of, define_of, directive_in, directive_of, is_keyword, listed, lone, name_in, of_class, shown, shown_in, text_in};
 
 use crate::kinds::word_in;
@@ -71,6 +72,8 @@ fn line_len(tokens: &[Token]) -> usize
 pub fn first_line(tokens: &[Token]) -> Option<(&[Token], &[Token])>
     ensures some { IfSome result (λ p. lines_of tokens.now ≡ p.0.now ∷ lines_of p.1.now) }
     ensures less { IfSome result (λ p. length p.1.now < length tokens.now) }
+    ensures line { (n : ℕ) → AreBelow n tokens.now → IfSome result (λ p. AreBelow n p.0.now) }
+    ensures others { (n : ℕ) → AreBelow n tokens.now → IfSome result (λ p. AreBelow n p.1.now) }
     ensures none { IfNone result (lines_of tokens.now ≡ []) }
 {
     let Some((_, others)) = tokens.split_first() else {
@@ -232,7 +235,8 @@ fn begins_directive(token: &Token) -> bool
 /// The directive that a line is.
 #[tactic(auto, using(crate::proofs::Directing::no_directive, crate::proofs::Directing::is_directive, crate::proofs::Directing::is_text_line))]
 pub fn directive_in<'a>(line: &'a [Token]) -> Option<Directed<'a>>
-    ensures { shown_in result ≡ directive_in line.now }
+    ensures told { shown_in result ≡ directive_in line.now }
+    ensures numbers { (n : ℕ) → AreBelow n line.now → IfSome result (λ d. d.hash.now.file < n) }
 {
     let Some((hash, tokens)) = line.split_first() else {
         return None;

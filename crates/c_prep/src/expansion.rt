@@ -1,6 +1,7 @@
 // A source as the tokens that it stands for.
 ghost use Rattle.std.specs.Prelude.{◌≡◌, ◌≤◌, length, IfOk, IfSome};
 ghost use Rattle.c_prep.specs.Files.{Answers, expansion_of};
+ghost use Rattle.c_prep.specs.Numbers.{Numbered};
 ghost use Rattle.c_prep.specs.Causes.{Caused, HasFailed, IsOver, Lacks};
 
 use crate::error::PrepErr;
@@ -29,6 +30,8 @@ pub fn expand<F: Reads>(
     // Where it is told what is held, the tokens, or the first fault, are those that are due, with the
     // files' names, unless the files failed or memory ran out.
     ensures told { IfSome (F.held files.old) (λ m. Answers result names.new.items (expansion_of m name.now)) }
+    // Each file number in a token or a refusal has its name.
+    ensures numbers { Numbered (length names.new.items) result }
     ensures limits { IfOk result (λ v. length v.items ≤ 200000) }
     // No count falls. `Failed` comes only where the faults rose, `NoSource` and code 21 only where the
     // misses rose, and `TooLong` only where the overs rose.

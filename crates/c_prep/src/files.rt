@@ -1,5 +1,5 @@
 // A file with the files that it includes.
-ghost use Rattle.std.specs.Prelude.{◌≡◌, ◌≢◌, ◌<◌, ◌≤◌, ◌++◌, ◌∷◌, [], ◌&&◌, false, nat_lt, length, Some, Ok, Err, List, ℕ, IfOk, IfErr, OnOk, OnErr};
+ghost use Rattle.std.specs.Prelude.{◌≡◌, ◌≢◌, ◌<◌, ◌≤◌, ◌++◌, ◌∷◌, [], ◌&&◌, false, nat_lt, length, Some, Ok, Err, List, ℕ, IfOk, IfErr, IfSome, OnOk, OnErr};
 ghost use Rattle.kit_base.specs.Held.{Held};
 ghost use Rattle.kit_base.specs.Outside.{due};
 ghost use Rattle.c_lex.specs.Found.{reading_of};
@@ -9,6 +9,7 @@ ghost use Rattle.c_prep.specs.Conditions.{closed};
 ghost use Rattle.c_prep.specs.Steps.{step_at};
 ghost use Rattle.c_prep.specs.Files.{GivesAs, GivesOut, bytes_of, code_of, file_at, include_at, include_in, included, lexed, missing_at, refusal, refused, refusing, stopping, tokens_of};
 ghost use Rattle.c_prep.specs.Causes.{HasCauses, IsOfText, SaysMissing};
+ghost use Rattle.c_prep.specs.Numbers.{AreBelow, IsBelow, Numbered, NumberedPut};
 
 use crate::conditions::Conditions;
 use crate::directive::{Directive, directive_in, first_line};
@@ -86,6 +87,7 @@ fn read_file<F: Reads>(
     ensures held { F.held files.new ≡ F.held files.old }
     ensures told { (m : Held) → F.held files.old ≡ Some m → GivesAs (λ v. v.items) result (bytes_of missing file (due m name.now)) }
     ensures limit { IfOk result (λ v. length v.items ≤ 268435456) }
+    ensures numbers { (n : ℕ) → file < n → IsBelow n missing → IfErr result (IsBelow n) }
     ensures causes { HasCauses result (F.faults files.old) (F.faults files.new) (F.misses files.old) (F.misses files.new) (F.overs files.old) (F.overs files.new) }
 {
     match files.read(alloc, name) {
@@ -101,6 +103,7 @@ fn lex_file(alloc: Global, bytes: &[u8], file: u32) -> Result<Vec<Token>, PrepEr
     requires { length bytes.now ≤ 268435456 }
     ensures told { GivesAs (λ v. v.items) result (lexed file (reading_of file bytes.now)) }
     ensures text { IfErr result IsOfText }
+    ensures numbers { (n : ℕ) → file < n → Numbered n result }
 {
     match lex(alloc, bytes, file) {
         Ok(tokens) => Ok(tokens),
@@ -120,6 +123,7 @@ fn tokens_of<F: Reads>(
     requires { SaysMissing missing }
     ensures held { F.held files.new ≡ F.held files.old }
     ensures told { (m : Held) → F.held files.old ≡ Some m → GivesAs (λ v. v.items) result (tokens_of m missing name.now file) }
+    ensures numbers { (n : ℕ) → file < n → IsBelow n missing → Numbered n result }
     ensures causes { HasCauses result (F.faults files.old) (F.faults files.new) (F.misses files.old) (F.misses files.new) (F.overs files.old) (F.overs files.new) }
 {
     let bytes = match read_file(alloc, files, missing, name, file) {
@@ -132,7 +136,8 @@ fn tokens_of<F: Reads>(
 /// The include that a line is.
 #[tactic(auto, unfolding(crate::specs::Files::include_in))]
 fn include_in<'a>(line: &'a [Token], conds: &Conditions) -> Option<Included<'a>>
-    ensures { included result ≡ include_in line.now conds.now }
+    ensures told { included result ≡ include_in line.now conds.now }
+    ensures numbers { (n : ℕ) → AreBelow n line.now → IfSome result (λ i. i.hash.now.file < n) }
 {
     if conds.skips() {
         return None;
@@ -164,7 +169,8 @@ fn may_include(room: u32, names: &[Name], hash: &Token) -> Result<(), PrepErr>
 }
 
 fn missing_at(hash: &Token) -> PrepErr
-    ensures { result ≡ missing_at hash.now }
+    ensures told { result ≡ missing_at hash.now }
+    ensures numbers { (n : ℕ) → hash.now.file < n → IsBelow n result }
 {
     PrepErr::At {
         code: 21,
@@ -182,6 +188,7 @@ fn step_line(
 ) -> Result<(), PrepErr>
     ensures told { (names : List (List ℕ)) → GivesOut (work.new, conds.new) names result (stopping names (refusing (step_at line.now work.old conds.old))) }
     ensures text { IfErr result IsOfText }
+    ensures numbers { (n : ℕ) → AreBelow n line.now → AreBelow n work.old.out.tokens → NumberedPut n work.new.out.tokens result }
 {
     refusing(step_at(alloc, line, work, conds))
 }
@@ -189,6 +196,7 @@ fn step_line(
 fn close(conds: &Conditions, file: u32) -> Result<(), PrepErr>
     ensures told { (names : List (List ℕ)) → GivesOut tt names result (stopping names (refusing (closed file conds.now))) }
     ensures text { IfErr result IsOfText }
+    ensures numbers { (n : ℕ) → file < n → IfErr result (IsBelow n) }
 {
     refusing(conds.closed(file))
 }
@@ -206,8 +214,12 @@ pub fn expand_file<F: Reads>(
 ) -> Result<(), PrepErr>
     requires says { SaysMissing missing }
     requires few { length names.old.items < 10000 }
+    requires put { AreBelow (length names.old.items) work.old.out.tokens }
+    requires lacking { IsBelow (length names.old.items) missing }
     ensures held { F.held files.new ≡ F.held files.old }
     ensures told { (m : Held) → F.held files.old ≡ Some m → GivesOut (record { work = work.new; names = names.new.items }) names.new.items result (file_at m (include_at m room) missing name.now (record { work = work.old; names = names.old.items })) }
+    ensures more { OnOk result (length names.old.items ≤ length names.new.items) }
+    ensures numbers { NumberedPut (length names.new.items) work.new.out.tokens result }
     ensures causes { HasCauses result (F.faults files.old) (F.faults files.new) (F.misses files.old) (F.misses files.new) (F.overs files.old) (F.overs files.new) }
 {
     let Ok(file) = name_file(alloc, names, name) else {

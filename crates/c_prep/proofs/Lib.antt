@@ -4,5 +4,7 @@ pub mod Lookups
 pub mod Unwinding
 pub mod LexCodes
 pub mod Numbering
+pub mod Standing
+pub mod Room
 pub mod Including
 pub mod Whole

@@ -1,6 +1,7 @@
 pub mod Kinds
 pub mod Faults
 pub mod Macros
+pub mod Standing
 pub mod Frames
 pub mod Lines
 pub mod Directives

@@ -10,6 +10,7 @@ mod error;
 mod expansion;
 mod files;
 mod kinds;
+mod laws;
 mod output;
 mod table;
 mod replace;
@@ -17,6 +18,7 @@ mod work;
 
 pub use error::PrepErr;
 pub use expansion::expand;
+pub use laws::{room_for_names_is_never_short, tokens_are_put_as_what_they_stand_for};
 
 #[cfg(test)]
 mod tests;

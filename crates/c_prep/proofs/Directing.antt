@@ -1,5 +1,5 @@
 -- Lines of tokens, and the words of directives.
-use Rattle.std.proofs.Common.{◌≡◌, ℕ, suc, ◌<◌, ◌≤◌, ◌+◌, List, [], ◌∷◌, ◌++◌, length, take, drop, map, Bool, true, false, not, ◌||◌, cond, refl, sym, ap, ◌∙◌, add-one, arith}
+use Rattle.std.proofs.Common.{◌≡◌, ℕ, suc, ◌+◌, List, [], ◌∷◌, length, take, drop, map, Bool, true, false, not, ◌||◌, cond, refl, sym, ap, ◌∙◌, add-one, arith}
 use Rattle.std.specs.Prelude.{bytes_eq, IsUtf8, take_while, Some, None}
 use Rattle.std.specs.Str.{is_utf8}
 use Rattle.std.proofs.lemmas.Str.{IsUtf8-from_is_utf8, is_utf8-from_IsUtf8}

@@ -1,12 +1,11 @@
 -- A file, line by line, with the files that it includes.
-use Rattle.std.proofs.Common.{◌≡◌, ℕ, zero, suc, ◌-◌, ◌<◌, ◌≤◌, Bool, true, false, ◌&&◌, cond, ltb, List, [], ◌∷◌, ◌++◌, length, refl, sym, ap, ◌∙◌, subst, arith}
+use Rattle.std.proofs.Common.{◌≡◌, ℕ, zero, suc, ◌-◌, ◌<◌, Bool, true, false, ◌&&◌, ltb, List, [], ◌∷◌, ◌++◌, length, refl, sym, ap, ◌∙◌, subst, arith}
 use Rattle.std.specs.Prelude.{Option, Some, None, Result, Ok, Err}
 use Rattle.std.proofs.lemmas.Bool.{lt-ltb}
 use Rattle.kit_base.specs.Held.{Held}
 use Rattle.kit_base.specs.Outside.{due}
 use Rattle.c_lex.specs.declared.token.Token.{Token}
 use Rattle.c_lex.specs.Found.{reading_of}
-use Rattle.c_prep.specs.declared.error.FaultAt.{FaultAt}
 use Rattle.c_prep.specs.declared.error.PrepErr.{PrepErr}
 use Rattle.c_prep.specs.declared.error.PrepErr.TheVariants as e
 use Rattle.c_prep.specs.declared.conditions.Condition.{Condition}
@@ -56,7 +55,7 @@ module _ (m : Held) (include : Including) (missing : PrepErr) (name : List ℕ) 
         → GivesOut {X = Unit {0}} new names (Err x) (file_at m include missing name p)
     not_read_at tokens_in new x h =
         subst (λ (ns : List (List ℕ)). GivesOut {X = Unit {0}} new ns (Err x) (file_at m include missing name p)) (sym named)
-            (not_read tokens_in new x (subst (λ (n : ℕ). GivesAs tokens_in (Err x) (tokens_of m missing name n)) numbered h))
+        (not_read tokens_in new x (subst (λ (n : ℕ). GivesAs tokens_in (Err x) (tokens_of m missing name n)) numbered h))
 
     pub begun_at : (tokens rest : List Token) (cs : List Condition) → tokens_of m missing name file ≡ Ok tokens → rest ≡ tokens → cs ≡ []
         → (lines_at include (lines_of rest) (record { work = p.work; names = names }) cs >>= ended file) ≡ file_at m include missing name p

@@ -1,5 +1,5 @@
 -- The codes of texts that are no lists of tokens are low.
-use Rattle.std.proofs.Common.{◌≡◌, ◌≢◌, ℕ, ◌≤◌, List, [], ◌∷◌, ◌^◌, ◌||◌, take, Bool, true, false, cond, not, ltb, sym, ◌∙◌, refl, arith, subst}
+use Rattle.std.proofs.Common.{◌≡◌, ◌≢◌, ℕ, ◌≤◌, List, [], ◌∷◌, ◌^◌, take, Bool, true, false, cond, not, ltb, sym, ◌∙◌, refl, arith, subst}
 use Rattle.c_lex.specs.declared.token.Token.{Token}
 use Rattle.c_lex.specs.declared.place.Place.{Place}
 use Rattle.c_lex.specs.Bytes.{begins, is_quote, is_slash}

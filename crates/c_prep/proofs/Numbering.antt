@@ -1,5 +1,5 @@
 -- Tokens and faults are of files that have names.
-use Rattle.std.proofs.Common.{◌≡◌, ℕ, zero, suc, ◌<◌, ◌≤◌, ◌+◌, List, [], ◌∷◌, ◌++◌, length, take, drop, Bool, true, false, cond, ltb, ◌&&◌, not, refl, sym, ap, ◌∙◌, subst, arith}
+use Rattle.std.proofs.Common.{◌≡◌, ℕ, zero, suc, ◌<◌, ◌≤◌, ◌+◌, List, [], ◌∷◌, ◌++◌, length, take, drop, true, false, cond, ltb, ◌&&◌, not, ap, ◌∙◌, subst, arith}
 use Rattle.std.specs.Prelude.{Option, Some, None, Result, Ok, Err, IfErr}
 use Rattle.std.specs.List.{All}
 use Rattle.std.proofs.lemmas.List.{length-append}
@@ -7,7 +7,6 @@ use Rattle.c_prep.specs.declared.error.PrepErr.{PrepErr}
 use Rattle.c_prep.specs.declared.error.PrepErr.TheVariants as e
 use Rattle.c_lex.specs.declared.token.Kind.{Kind}
 use Rattle.c_lex.specs.declared.token.Token.{Token}
-use Rattle.c_prep.specs.declared.error.Fault.{Fault}
 use Rattle.c_prep.specs.declared.error.Fault.TheVariants.{TooManyTokens, Redefined, BadDirective}
 use Rattle.c_prep.specs.declared.error.FaultAt.{FaultAt}
 use Rattle.c_prep.specs.declared.error.StepErr.{StepErr}
@@ -19,12 +18,12 @@ use Rattle.c_lex.specs.Reading.{found}
 use Rattle.c_lex.specs.Found.{reading_of}
 use Rattle.c_lex.proofs.Files.{all_placed}
 use Rattle.c_prep.specs.Kinds.{kinds_of, same_kinds}
-use Rattle.c_prep.specs.Macros.{Table, Put, Macro, body_of, defined_by, undefined, emitted, counted, macro_of, by_macro, each, stands, replaced_at, replaced_in}
-use Rattle.c_prep.specs.Conditions.{skips, begun, turned, ended, closed}
+use Rattle.c_prep.specs.Macros.{Table, Put, Macro, body_of, defined_by, emitted, counted, macro_of, by_macro, each, stands, replaced_at, replaced_in}
+use Rattle.c_prep.specs.Conditions.{skips, turned, ended, closed}
 use Rattle.c_prep.specs.Lines.{begins_directive}
 use Rattle.c_prep.specs.Directives.{Directive, Include, Define, Undef, IfDef, IfNotDef, Else, EndIf, Error, Bad, Directed, directive_in, directive_of}
 use Rattle.c_prep.specs.Steps.{Moment, obeyed, is_condition, directed, put, step_by, step_at}
-use Rattle.c_prep.specs.Files.{Inclusion, include_of, include_by, include_in, refused}
+use Rattle.c_prep.specs.Files.{refused}
 use Rattle.c_prep.specs.Numbers.{AreBelow, IsBelow, NumberedPut}
 
 pub below_append : (n : ℕ) (xs ys : List Token) → AreBelow n xs → AreBelow n ys → AreBelow n (xs ++ ys)

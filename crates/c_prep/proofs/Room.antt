@@ -1,5 +1,5 @@
 -- Room for names inside one another is never short.
-use Rattle.std.proofs.Common.{◌≡◌, ℕ, zero, suc, ◌+◌, ◌≤◌, ◌<◌, List, [], ◌∷◌, ◌++◌, length, Bool, true, false, cond, ltb, refl, sym, ap, ◌∙◌, subst, arith}
+use Rattle.std.proofs.Common.{◌≡◌, ℕ, zero, suc, ◌+◌, ◌≤◌, List, [], ◌∷◌, ◌++◌, length, true, false, cond, ltb, refl, sym, ap, ◌∙◌, arith}
 use Rattle.std.specs.Prelude.{Option, Some, None, Result, Ok, Err}
 use Rattle.std.proofs.lemmas.Bool.{ltb-true}
 use Rattle.c_lex.specs.declared.token.Kind.{Kind}
@@ -75,6 +75,6 @@ module _ (table : Table) (t : Token) where
   room_suffices (suc room) zero inside kind o enough le = absurd (omega arith)
   room_suffices (suc room) (suc more) inside kind o enough le =
       by_macro_same (macro_of table inside kind) (λ m. each (stands more table t (inside ++ m.name ∷ [])) m.body) (λ m. each (stands room table t (inside ++ m.name ∷ [])) m.body) kind o
-          (λ m o' above. each_same (o.replaced + 1) (stands more table t (inside ++ m.name ∷ [])) (stands room table t (inside ++ m.name ∷ []))
-              (λ k o'' le''. stands_least more (o.replaced + 1) (inside ++ m.name ∷ []) k o'' le'')
-              (λ k o'' le''. room_suffices room more (inside ++ m.name ∷ []) k o'' (omega arith) (omega arith)) m.body o' above)
+      (λ m o' above. each_same (o.replaced + 1) (stands more table t (inside ++ m.name ∷ [])) (stands room table t (inside ++ m.name ∷ []))
+      (λ k o'' le''. stands_least more (o.replaced + 1) (inside ++ m.name ∷ []) k o'' le'')
+      (λ k o'' le''. room_suffices room more (inside ++ m.name ∷ []) k o'' (omega arith) (omega arith)) m.body o' above)

@@ -1,6 +1,6 @@
 -- The last expansion that was begun is put first.
-use Rattle.std.proofs.Common.{◌≡◌, ℕ, zero, suc, ◌<◌, ◌≤◌, ◌+◌, ◌-◌, ◌*◌, List, [], ◌∷◌, ◌++◌, length, map, Bool, true, false, cond, ltb, ◌||◌, refl, sym, ap, ◌∙◌, append_assoc, subst, arith}
-use Rattle.std.specs.Prelude.{Result, Ok, Err, Option, Some, None, bytes_eq}
+use Rattle.std.proofs.Common.{◌≡◌, ℕ, zero, suc, ◌<◌, ◌≤◌, ◌+◌, ◌-◌, List, [], ◌∷◌, ◌++◌, length, Bool, true, false, cond, ltb, ◌||◌, refl, sym, ap, ◌∙◌, append_assoc, arith}
+use Rattle.std.specs.Prelude.{Result, Ok, Err, Some, None, bytes_eq}
 use Rattle.std.specs.List.{list_any}
 use Rattle.std.proofs.lemmas.Bool.{ltb-true}
 use Rattle.std.proofs.lemmas.List.{map_push, length-append, nil_from_length}
@@ -12,7 +12,7 @@ use Rattle.c_prep.specs.declared.error.FaultAt.{FaultAt}
 use Rattle.c_prep.specs.declared.error.Fault.TheVariants.{TooManyTokens}
 use Rattle.c_prep.specs.declared.replace.Frame.{Frame}
 use Rattle.c_prep.specs.Faults.{◌>>=◌, Gives, fault_at}
-use Rattle.c_prep.specs.Macros.{Table, Put, Macro, each, stands, by_macro, macro_of, counted, emitted, replaced_at, replaced_in}
+use Rattle.c_prep.specs.Macros.{Table, Put, Macro, each, stands, macro_of, counted, emitted, replaced_at, replaced_in}
 use Rattle.c_prep.specs.Frames.{names, macro_in, at_place, unwound, unwound_after, Goes}
 
 abbrev Step : Type 0

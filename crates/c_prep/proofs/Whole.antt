@@ -1,11 +1,10 @@
 -- A source as a whole.
-use Rattle.std.proofs.Common.{◌≡◌, ℕ, List, [], length, refl, sym, ap, ◌∙◌, subst}
+use Rattle.std.proofs.Common.{◌≡◌, ℕ, List, [], length, refl, sym, ap, ◌∙◌}
 use Rattle.std.specs.Prelude.{Option, Some, None, Result, Ok, Err, IfSome}
 use Rattle.std.proofs.lemmas.List.{nil_from_length}
 use Rattle.kit_base.specs.Held.{Held}
 use Rattle.c_prep.specs.declared.error.PrepErr.{PrepErr}
 use Rattle.c_prep.specs.declared.error.PrepErr.TheVariants as e
-use Rattle.c_prep.specs.declared.work.Work.{Work}
 use Rattle.c_prep.specs.Faults.{◌>>=◌}
 use Rattle.c_prep.specs.Macros.{Table, Put}
 use Rattle.c_prep.specs.Files.{Progress, Stop, Expansion, file_at, include_at, opening, expansion_of, GivesOut, Answers}

@@ -1,5 +1,5 @@
 -- Why a refusal comes that the files give.
-use Rattle.std.specs.Prelude.{◌≡◌, ◌≢◌, ◌≤◌, ℕ, Result, Ok, Err}
+use Rattle.std.specs.Prelude.{◌≡◌, ◌≢◌, ◌≤◌, ℕ, Result, Err}
 use Rattle.kit_base.specs.Counts.{Rose}
 use Rattle.c_prep.specs.declared.error.PrepErr.{PrepErr}
 use Rattle.c_prep.specs.declared.error.PrepErr.TheVariants as e

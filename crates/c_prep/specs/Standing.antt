@@ -1,7 +1,7 @@
 -- What tokens stand for, with no limit: one after another, inside the expansions of these names, a name of a macro is
 -- what the macro's tokens stand for inside one name more, and any other token is itself. A name inside its own expansion
 -- names no macro (`macro_of`).
-use Rattle.std.specs.Prelude.{◌≡◌, ℕ, List, [], ◌∷◌, ◌++◌, map, Option, Some, None}
+use Rattle.std.specs.Prelude.{◌≡◌, ℕ, List, [], ◌∷◌, ◌++◌, map, Some, None}
 use Rattle.c_lex.specs.declared.token.Kind.{Kind}
 use Rattle.c_lex.specs.declared.token.Token.{Token}
 use Rattle.c_prep.specs.Macros.{Table, Macro, macro_of}

@@ -1,5 +1,5 @@
 -- What a line does, other than to include a file.
-use Rattle.std.specs.Prelude.{ℕ, List, [], ◌∷◌, Bool, true, false, not, ◌&&◌, is_some, Option, Some, None, Result, Ok, Err, if◌then◌else◌}
+use Rattle.std.specs.Prelude.{ℕ, List, Bool, true, false, not, ◌&&◌, is_some, Option, Some, None, Result, Ok, Err, if◌then◌else◌}
 use Rattle.c_lex.specs.declared.token.Token.{Token}
 use Rattle.c_prep.specs.declared.error.Fault.TheVariants.{BadDirective, ErrorDirective}
 use Rattle.c_prep.specs.declared.error.FaultAt.{FaultAt}

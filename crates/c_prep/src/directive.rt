@@ -44,8 +44,9 @@ pub struct Directed<'a> {
 }
 
 const KEYWORDS: [&str; 22] = [
-    "int", "bool", "void", "struct", "union", "enum", "typedef", "if", "else", "while", "do", "for",
-    "switch", "case", "default", "return", "break", "continue", "sizeof", "true", "false", "NULL",
+    "int", "bool", "void", "struct", "union", "enum", "typedef", "if", "else", "while", "do",
+    "for", "switch", "case", "default", "return", "break", "continue", "sizeof", "true", "false",
+    "NULL",
 ];
 
 const CLASSES: [(&str, Class); 8] = [

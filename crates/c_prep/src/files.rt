@@ -107,7 +107,13 @@ fn lex_file(alloc: Global, bytes: &[u8], file: u32) -> Result<Vec<Token>, PrepEr
 {
     match lex(alloc, bytes, file) {
         Ok(tokens) => Ok(tokens),
-        Err(LexErr::At { code, line, byte: _ }) => Err(PrepErr::At { code, file, line }),
+        Err(
+            LexErr::At {
+                code,
+                line,
+                byte: _,
+            },
+        ) => Err(PrepErr::At { code, file, line }),
         Err(LexErr::Memory) => Err(PrepErr::Memory),
     }
 }

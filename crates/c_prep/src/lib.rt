@@ -12,8 +12,8 @@ mod files;
 mod kinds;
 mod laws;
 mod output;
-mod table;
 mod replace;
+mod table;
 mod work;
 
 pub use error::PrepErr;

@@ -28,6 +28,7 @@ impl Model for Output {
 }
 
 const TOKENS: usize = 200_000;
+
 const REPLACED: u32 = 1_000_000;
 
 impl Output {

@@ -90,7 +90,10 @@ fn replace_one<'a>(
     place(alloc, macros, &mut frames, token, &token.kind, out)?;
     'each: while let Some(frame) = frames.pop() {
         if let Some((next, after)) = frame.rest.split_first() {
-            frames.push(Frame { name: frame.name, rest: after })?;
+            frames.push(Frame {
+                name: frame.name,
+                rest: after,
+            })?;
             place(alloc, macros, &mut frames, token, next, out)?;
         }
     }

@@ -81,12 +81,7 @@ fn directed(
 }
 
 /// Puts what the tokens of a line stand for.
-fn put(
-    alloc: Global,
-    line: &[Token],
-    work: &mut Work,
-    conds: &Conditions,
-) -> Result<(), StepErr>
+fn put(alloc: Global, line: &[Token], work: &mut Work, conds: &Conditions) -> Result<(), StepErr>
     ensures { Gives (work.new, conds.now) result (put line.now work.old conds.now) }
 {
     if conds.skips() {

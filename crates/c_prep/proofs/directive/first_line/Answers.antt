@@ -1,4 +1,4 @@
-use Rattle.std.proofs.Common.{◌≡◌, sym, subst}
+use Rattle.std.proofs.Common.{sym, subst}
 use Rattle.c_prep.specs.Numbers.{AreBelow}
 use Rattle.c_prep.proofs.Directing.{line_parts}
 use Rattle.c_prep.proofs.Numbering.{below_take, below_drop}

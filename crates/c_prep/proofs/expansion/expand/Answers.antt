@@ -1,7 +1,7 @@
-use Rattle.std.proofs.Common.{◌≡◌, ℕ, List, sym, ap, ◌∙◌, subst}
+use Rattle.std.proofs.Common.{List, sym, ap, ◌∙◌}
 use Rattle.std.specs.Prelude.{Result, Ok}
 use Rattle.c_lex.specs.declared.token.Token.{Token}
-use Rattle.c_prep.specs.Files.{Expansion, Stop, Progress}
+use Rattle.c_prep.specs.Files.{Expansion, Stop}
 use Rattle.c_prep.proofs.Whole.{where_told, begins, done, stopped}
 use Rattle.c_prep.proofs.expansion.expand.Goals as goal
 

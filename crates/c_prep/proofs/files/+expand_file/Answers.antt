@@ -1,13 +1,11 @@
-use Rattle.std.proofs.Common.{◌≡◌, ◌<◌, ◌≤◌, ◌+◌, ◌-◌, ◌&&◌, ltb, List, ℕ, [], length, sym, ◌∙◌, ap, subst, refl, false, arith, rules}
+use Rattle.std.proofs.Common.{◌≡◌, ◌<◌, ◌≤◌, ◌+◌, ◌-◌, ◌&&◌, ltb, List, ℕ, length, sym, ◌∙◌, ap, subst, false, arith, rules}
 use Rattle.std.specs.Prelude.{Some, None, Err, Result, Vec}
 use Rattle.std.proofs.lemmas.Result.{err_from_is_err_and}
 use Rattle.std.specs.declared.alloc.Global.{Global}
-use Rattle.kit_base.specs.Held.{Held}
 use Rattle.c_lex.specs.declared.token.Token.{Token}
 use Rattle.c_prep.specs.declared.error.PrepErr.{PrepErr}
-use Rattle.c_prep.specs.declared.conditions.Condition.{Condition}
 use Rattle.c_prep.specs.Lines.{lines_of}
-use Rattle.c_prep.specs.Files.{Progress, Stop, Inclusion, included, include_in, include_at, file_at, missing_at, refusal, GivesOut}
+use Rattle.c_prep.specs.Files.{Progress, Stop, Inclusion, included, include_in, include_at, file_at, refusal, GivesOut}
 use Rattle.c_prep.specs.declared.error.Fault.TheVariants.{TooDeep}
 use Rattle.c_prep.specs.Faults.{fault_at}
 use Rattle.c_prep.specs.Numbers.{AreBelow, IsBelow}
@@ -22,25 +20,25 @@ returns-in_err-tokens-clause-told g t c = λ m e.
 
 pub each-init : goal.each-init
 each-init g t c =
-  let old = c.args.names.now.items in
-  let new = c.name_file.new.names.items in
-  let longer : length new ≡ length old + 1 = one_longer new old c.args.name.now c.in-Ok.ensures.names in
-  let number = c.in-Ok.ensures.number in
-  let had : AreBelow (length old) c.args.work.now.out.tokens = search rules in
-  let lacking : IsBelow (length old) c.args.missing = search rules in
-  let named : c.in-Ok.file < length new = omega arith in
-  let le : length old ≤ length new = omega arith in
-  record {
-  file = named;
-  more = le;
-  put = below_more (length old) (length new) c.args.work.now.out.tokens le had;
-  left = subst (AreBelow (length new)) (sym c.as_slice-rest.ensures.value) (c.in_ok-tokens.ensures.numbers (length new) named (is_below_more (length old) (length new) c.args.missing le lacking));
-  held = c.in_ok-tokens.ensures.held;
-  faults = c.in_ok-tokens.ensures.causes.failed.later;
-  misses = c.in_ok-tokens.ensures.causes.lacked.later;
-  overs = c.in_ok-tokens.ensures.causes.over.later;
-  reads = λ m e. begun_at m (include_at m c.args.room) c.args.missing c.args.name.now (record { work = c.args.work.now; names = c.args.names.now.items }) c.in-Ok.file c.name_file.new.names.items c.in-Ok.ensures.number c.in-Ok.ensures.names c.in_ok-tokens.tokens.items c.as_slice-rest.result.now c.new-conds.result (c.in_ok-tokens.ensures.told m e) c.as_slice-rest.ensures.value c.new-conds.ensures;
-}
+    let old = c.args.names.now.items in
+    let new = c.name_file.new.names.items in
+    let longer : length new ≡ length old + 1 = one_longer new old c.args.name.now c.in-Ok.ensures.names in
+    let number = c.in-Ok.ensures.number in
+    let had : AreBelow (length old) c.args.work.now.out.tokens = search rules in
+    let lacking : IsBelow (length old) c.args.missing = search rules in
+    let named : c.in-Ok.file < length new = omega arith in
+    let le : length old ≤ length new = omega arith in
+    record {
+      file = named;
+      more = le;
+      put = below_more (length old) (length new) c.args.work.now.out.tokens le had;
+      left = subst (AreBelow (length new)) (sym c.as_slice-rest.ensures.value) (c.in_ok-tokens.ensures.numbers (length new) named (is_below_more (length old) (length new) c.args.missing le lacking));
+      held = c.in_ok-tokens.ensures.held;
+      faults = c.in_ok-tokens.ensures.causes.failed.later;
+      misses = c.in_ok-tokens.ensures.causes.lacked.later;
+      overs = c.in_ok-tokens.ensures.causes.over.later;
+      reads = λ m e. begun_at m (include_at m c.args.room) c.args.missing c.args.name.now (record { work = c.args.work.now; names = c.args.names.now.items }) c.in-Ok.file c.name_file.new.names.items c.in-Ok.ensures.number c.in-Ok.ensures.names c.in_ok-tokens.tokens.items c.as_slice-rest.result.now c.new-conds.result (c.in_ok-tokens.ensures.told m e) c.as_slice-rest.ensures.value c.new-conds.ensures;
+    }
 
 pub returns-in_err-may_include-in-Some-include_in-clause-told : goal.returns-in_err-may_include-in-Some-include_in-clause-told
 returns-in_err-may_include-in-Some-include_in-clause-told g t c = λ m e.

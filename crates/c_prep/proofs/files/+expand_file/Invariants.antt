@@ -1,4 +1,4 @@
-use Rattle.std.proofs.Common.{◌≡◌, ◌≤◌, ◌-◌, ◌<◌, ℕ, length}
+use Rattle.std.proofs.Common.{◌≡◌, ◌≤◌, ◌<◌, length}
 use Rattle.std.specs.Prelude.{Some}
 use Rattle.kit_base.specs.Held.{Held}
 use Rattle.c_prep.specs.Faults.{◌>>=◌}

@@ -1,4 +1,4 @@
-use Rattle.std.proofs.Common.{sym, ◌∙◌}
+use Rattle.std.proofs.Common.{sym}
 use Rattle.c_prep.proofs.Comparing.{differs}
 use Rattle.c_prep.proofs.kinds.same_kinds.Goals as goal
 

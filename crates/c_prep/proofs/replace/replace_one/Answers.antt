@@ -1,4 +1,4 @@
-use Rattle.std.proofs.Common.{◌≡◌, List, [], ◌∷◌, ◌++◌, length, sym, ◌∙◌, ap, refl, arith}
+use Rattle.std.proofs.Common.{◌≡◌, List, [], ◌∷◌, ◌++◌, sym, ◌∙◌, ap, refl, arith}
 use Rattle.std.proofs.lemmas.Result.{err_from_is_err_and}
 use Rattle.c_prep.specs.declared.replace.Frame.{Frame}
 use Rattle.c_prep.specs.Macros.{replaced_at}
@@ -34,8 +34,8 @@ returns-in_err-place-2 c =
     let popped : c.each.frames.items ≡ c.pop.new.self.items ++ c.in-Some.frame ∷ [] = c.in-Some.ensures.items in
     let step = next_of_top c.args.macros.now c.args.token.now c.pop.new.self.items c.in-Some.frame g c.in-Some-split_first.next.now c.each.out c.in-Some-split_first.ensures.cases.0 refl in
     rw (p.1, p.2) (refused _ _ _ c.place-in-Some-split_first.new.out c.in_err-place-2.field-0.0
-        (c.each.invariant.goes ∙ ap (λ (fs : List Frame). unwound c.args.macros.now c.args.token.now [] fs c.each.out) popped ∙ step ∙ ap (λ (fs : List Frame). unwound_after c.args.macros.now c.args.token.now fs (at_place c.args.macros.now c.args.token.now (names fs) c.in-Some-split_first.next.now c.each.out)) (sym c.in_ok-push.ensures.items))
-        c.in_err-place-2.ensures.goes)
+    (c.each.invariant.goes ∙ ap (λ (fs : List Frame). unwound c.args.macros.now c.args.token.now [] fs c.each.out) popped ∙ step ∙ ap (λ (fs : List Frame). unwound_after c.args.macros.now c.args.token.now fs (at_place c.args.macros.now c.args.token.now (names fs) c.in-Some-split_first.next.now c.each.out)) (sym c.in_ok-push.ensures.items))
+    c.in_err-place-2.ensures.goes)
 
 pub each-preserved : goal.each-preserved
 each-preserved c =

@@ -14,7 +14,8 @@ use Rattle.c_prep.specs.Faults.{◌>>=◌}
 use Rattle.c_prep.specs.Conditions.{closed}
 use Rattle.c_prep.specs.Lines.{lines_of}
 use Rattle.c_prep.specs.Steps.{step_at}
-use Rattle.c_prep.specs.Files.{Progress, Stop, Moment, Including, Inclusion, stopping, refusing, line_by, include_in, lines_at, bytes_of, lexed, tokens_of, ended, with_name, file_at, missing_at, too_deep, include_at, GivesOut, GivesAs}
+use Rattle.c_prep.specs.Files.{Progress, Stop, InFile, Including, Inclusion, stopping, refusing, line_by, include_in, lines_at, bytes_of, lexed, tokens_of, ended, with_name, file_at, missing_at, too_deep, include_at}
+use Rattle.c_prep.specs.Inner.{GivesAs, GivesOut}
 
 -- the tokens of a file
 module _ (m : Held) (missing : PrepErr) (name : List ℕ) (file : ℕ) {X Y : Type 0} (bytes_in : X → List ℕ) (tokens_in : Y → List Token) where
@@ -83,13 +84,13 @@ module _ (m : Held) (room : ℕ) (i : Inclusion) (p : Progress) where
 
 -- a line
 module _ (include : Including) (file : ℕ) (lines : List (List Token)) (line : List Token) (after : List (List Token)) (p : Progress) (cs : List Condition) (total : Result Progress Stop) (whole : lines ≡ line ∷ after) (so_far : (lines_at include lines p cs >>= ended file) ≡ total) where
-  abbrev with_conds : Progress → Result Moment Stop
+  abbrev with_conds : Progress → Result InFile Stop
   with_conds p' = Ok (p', cs)
 
-  abbrev with_names : Work × List Condition → Result Moment Stop
+  abbrev with_names : Work × List Condition → Result InFile Stop
   with_names q = Ok (record { work = q.0; names = p.names }, q.1)
 
-  abbrev on_lines : Result Moment Stop → Result Progress Stop
+  abbrev on_lines : Result InFile Stop → Result Progress Stop
   on_lines r = r >>= (λ q. lines_at include after q.0 q.1) >>= ended file
 
   abbrev after_include : Result Progress Stop → Result Progress Stop

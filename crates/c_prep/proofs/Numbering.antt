@@ -23,8 +23,8 @@ use Rattle.c_prep.specs.Conditions.{skips, turned, ended, closed}
 use Rattle.c_prep.specs.Lines.{begins_directive}
 use Rattle.c_prep.specs.Directives.{Directive, Include, Define, Undef, IfDef, IfNotDef, Else, EndIf, Error, Bad, Directed, directive_in, directive_of}
 use Rattle.c_prep.specs.Steps.{Moment, obeyed, is_condition, directed, put, step_by, step_at}
-use Rattle.c_prep.specs.Files.{refused}
-use Rattle.c_prep.specs.Numbers.{AreBelow, IsBelow, NumberedPut}
+use Rattle.c_prep.specs.Inner.{NumberedPut, refused}
+use Rattle.c_prep.specs.Numbers.{AreBelow, IsBelow}
 
 pub below_append : (n : ℕ) (xs ys : List Token) → AreBelow n xs → AreBelow n ys → AreBelow n (xs ++ ys)
 below_append n [] ys a b = b

@@ -1,5 +1,5 @@
 -- Why a refusal comes that the files give.
-use Rattle.std.specs.Prelude.{◌≡◌, ◌≢◌, ◌≤◌, ℕ, Result, Err}
+use Rattle.std.specs.Prelude.{◌≡◌, ◌≤◌, ℕ, Result, Err}
 use Rattle.kit_base.specs.Counts.{Rose}
 use Rattle.c_prep.specs.declared.error.PrepErr.{PrepErr}
 use Rattle.c_prep.specs.declared.error.PrepErr.TheVariants as e
@@ -29,15 +29,3 @@ pub record HasCauses {T : Type 0} (r : Result T PrepErr) (faults faults' misses 
   pub failed : Caused (HasFailed r) faults faults'
   pub lacked : Caused (Lacks r) misses misses'
   pub over : Caused (IsOver r) overs overs'
-
--- a refusal that says that a file is not held
-abbrev pub SaysMissing : PrepErr → Type 0
-SaysMissing (e.At code file line) = Unit {0}
-SaysMissing e.NoSource = Unit {0}
-SaysMissing _ = ⊥
-
--- a refusal of what a file says, or of memory
-abbrev pub IsOfText : PrepErr → Type 0
-IsOfText (e.At code file line) = code ≢ 21
-IsOfText e.Memory = Unit {0}
-IsOfText _ = ⊥

@@ -2,16 +2,12 @@
 -- `#error tokens`, where NAME is a word that is no keyword. A line that begins with `#` and is none of these is bad.
 use Rattle.std.specs.Prelude.{ℕ, List, [], ◌∷◌, codes, Bool, Option, Some, None, if◌then◌else◌, bytes_eq}
 use Rattle.std.specs.List.{list_any}
-use Rattle.std.specs.Borrow.{Bor}
 use Rattle.std.specs.Str.{is_utf8}
 use Rattle.c_lex.specs.declared.token.Kind.{Kind}
 use Rattle.c_lex.specs.declared.token.Kind.TheVariants as k
 use Rattle.c_lex.specs.declared.token.Token.{Token}
 use Rattle.c_prep.specs.declared.directive.Class.{Class}
 use Rattle.c_prep.specs.declared.directive.Class.TheVariants as c
-use Rattle.c_prep.specs.declared.directive.Directive.{Directive as Parsed}
-use Rattle.c_prep.specs.declared.directive.Directive.TheVariants as parsed
-use Rattle.c_prep.specs.declared.directive.Directed.{Directed as ParsedIn}
 use Rattle.c_prep.specs.Kinds.{kinds_of}
 use Rattle.c_prep.specs.Lines.{begins_directive}
 
@@ -100,23 +96,3 @@ pub record Directed : Type 0 where
 unfoldable pub directive_in : List Token → Option Directed
 directive_in [] = None
 directive_in (t ∷ ts) = if begins_directive t then Some (record { hash = t; directive = directive_of (kinds_of ts) }) else None
-
--- an entry of the program's table
-abbrev pub listed : Bor (List ℕ) × Class → List ℕ × Class
-listed e = (e.0.now, e.1)
-
--- the directive that the program sees
-abbrev pub shown : Parsed → Directive
-shown (parsed.Include name) = Include name.now
-shown (parsed.Define name body) = Define name.now (kinds_of body.now)
-shown (parsed.Undef name) = Undef name.now
-shown (parsed.IfDef name) = IfDef name.now
-shown (parsed.IfNotDef name) = IfNotDef name.now
-shown parsed.Else = Else
-shown parsed.EndIf = EndIf
-shown parsed.Error = Error
-shown parsed.Bad = Bad
-
-abbrev pub shown_in : Option ParsedIn → Option Directed
-shown_in None = None
-shown_in (Some d) = Some (record { hash = d.hash.now; directive = shown d.directive })

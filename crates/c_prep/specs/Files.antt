@@ -14,9 +14,6 @@ use Rattle.c_prep.specs.declared.error.Fault.TheVariants.{BadDirective, TooDeep,
 use Rattle.c_prep.specs.declared.error.FaultAt.{FaultAt}
 use Rattle.c_prep.specs.declared.error.PrepErr.{PrepErr}
 use Rattle.c_prep.specs.declared.error.PrepErr.TheVariants as e
-use Rattle.c_prep.specs.declared.error.StepErr.{StepErr}
-use Rattle.c_prep.specs.declared.error.StepErr.TheVariants as steps
-use Rattle.c_prep.specs.declared.files.Included.{Included}
 use Rattle.c_prep.specs.declared.conditions.Condition.{Condition}
 use Rattle.c_prep.specs.declared.work.Work.{Work}
 use Rattle.c_prep.specs.Faults.{◌>>=◌, fault_at}
@@ -70,18 +67,18 @@ include_by (Some d) = include_of d.hash d.directive
 unfoldable pub include_in : List Token → List Condition → Option Inclusion
 include_in line cs = if skips cs then None else include_by (directive_in line)
 
--- what is given in turn to the file's lines
-abbrev pub Moment : Type 0
-Moment = Progress × List Condition
+-- what is given in turn to a file's lines, with the conditions that are open there
+abbrev pub InFile : Type 0
+InFile = Progress × List Condition
 
 abbrev pub Including : Type 0
 Including = Inclusion → Progress → Result Progress Stop
 
-abbrev pub line_by : Option Inclusion → Including → List Token → Progress → List Condition → Result Moment Stop
+abbrev pub line_by : Option Inclusion → Including → List Token → Progress → List Condition → Result InFile Stop
 line_by (Some i) include line p cs = include i p >>= λ p'. Ok (p', cs)
 line_by None include line p cs = stopping p.names (refusing (step_at line p.work cs)) >>= λ q. Ok (record { work = q.0; names = p.names }, q.1)
 
-unfoldable pub lines_at : Including → List (List Token) → Progress → List Condition → Result Moment Stop
+unfoldable pub lines_at : Including → List (List Token) → Progress → List Condition → Result InFile Stop
 lines_at include [] p cs = Ok (p, cs)
 lines_at include (line ∷ lines) p cs = line_by (include_in line cs) include line p cs >>= λ q. lines_at include lines q.0 q.1
 
@@ -101,7 +98,7 @@ lexed file (stuck code line byte) = Err (e.At code file line)
 unfoldable pub tokens_of : Held → PrepErr → List ℕ → ℕ → Result (List Token) PrepErr
 tokens_of m missing name file = bytes_of missing file (due m name) >>= λ bytes. lexed file (reading_of file bytes)
 
-abbrev pub ended : ℕ → Moment → Result Progress Stop
+abbrev pub ended : ℕ → InFile → Result Progress Stop
 ended file q = stopping q.0.names (refusing (closed file q.1)) >>= λ x. Ok q.0
 
 abbrev pub with_name : List ℕ → Progress → Progress
@@ -142,28 +139,3 @@ Answers (Ok v) names due_one = due_one ≡ Ok (record { tokens = v.items; names 
 Answers (Err (e.Failed file)) names due_one = Unit {0}
 Answers (Err e.Memory) names due_one = Unit {0}
 Answers (Err x) names due_one = due_one ≡ Err (record { fault = x; names = names })
-
--- the same of a part that goes on from a state
-abbrev pub GivesOut : {X S : Type 0} → S → List (List ℕ) → Result X PrepErr → Result S Stop → Type 0
-GivesOut new names (Ok x) due_one = due_one ≡ Ok new
-GivesOut new names (Err (e.Failed file)) due_one = Unit {0}
-GivesOut new names (Err e.Memory) due_one = Unit {0}
-GivesOut new names (Err x) due_one = due_one ≡ Err (record { fault = x; names = names })
-
--- the same of a value
-abbrev pub GivesAs : {X Y : Type 0} → (X → Y) → Result X PrepErr → Result Y PrepErr → Type 0
-GivesAs view (Ok x) due_one = due_one ≡ Ok (view x)
-GivesAs view (Err (e.Failed file)) due_one = Unit {0}
-GivesAs view (Err e.Memory) due_one = Unit {0}
-GivesAs view (Err x) due_one = due_one ≡ Err x
-
--- what a step's error is told as
-abbrev pub refused : {X : Type 0} → Result X StepErr → Result X PrepErr
-refused (Ok x) = Ok x
-refused (Err (steps.At x)) = Err (refusal x)
-refused (Err steps.Memory) = Err e.Memory
-
--- the include that the program sees
-abbrev pub included : Option Included → Option Inclusion
-included None = None
-included (Some i) = Some (record { hash = i.hash.now; name = i.name.now })

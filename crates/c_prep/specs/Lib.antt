@@ -10,3 +10,4 @@ pub mod Steps
 pub mod Files
 pub mod Causes
 pub mod Numbers
+pub mod Inner

@@ -20,8 +20,3 @@ IsBelow n e.Memory = Unit {0}
 abbrev pub Numbered : ℕ → Result (Vec Token Global) PrepErr → Type 0
 Numbered n (Ok v) = AreBelow n v.items
 Numbered n (Err x) = IsBelow n x
-
--- the same of tokens that were put
-abbrev pub NumberedPut : {X : Type 0} → ℕ → List Token → Result X PrepErr → Type 0
-NumberedPut n tokens (Ok x) = AreBelow n tokens
-NumberedPut n tokens (Err x) = IsBelow n x

@@ -7,9 +7,10 @@ ghost use Rattle.c_prep.specs.declared.error.Fault.TheVariants.{TooDeep};
 ghost use Rattle.c_prep.specs.Faults.{fault_at};
 ghost use Rattle.c_prep.specs.Conditions.{closed};
 ghost use Rattle.c_prep.specs.Steps.{step_at};
-ghost use Rattle.c_prep.specs.Files.{GivesAs, GivesOut, bytes_of, code_of, file_at, include_at, include_in, included, lexed, missing_at, refusal, refused, refusing, stopping, tokens_of};
-ghost use Rattle.c_prep.specs.Causes.{HasCauses, IsOfText, SaysMissing};
-ghost use Rattle.c_prep.specs.Numbers.{AreBelow, IsBelow, Numbered, NumberedPut};
+ghost use Rattle.c_prep.specs.Files.{bytes_of, code_of, file_at, include_at, include_in, lexed, missing_at, refusal, refusing, stopping, tokens_of};
+ghost use Rattle.c_prep.specs.Inner.{GivesAs, GivesOut, IsOfText, NumberedPut, SaysMissing, included, refused};
+ghost use Rattle.c_prep.specs.Causes.{HasCauses};
+ghost use Rattle.c_prep.specs.Numbers.{AreBelow, IsBelow, Numbered};
 
 use crate::conditions::Conditions;
 use crate::directive::{Directive, directive_in, first_line};

@@ -1,7 +1,8 @@
 // What a call holds beside the files' names, and what a line does to it.
 ghost use Rattle.std.specs.Prelude.{◌≡◌, [], ◌∷◌, not};
 ghost use Rattle.c_prep.specs.Faults.{Gives};
-ghost use Rattle.c_prep.specs.Directives.{Directed as LineDirective, shown};
+ghost use Rattle.c_prep.specs.Directives.{Directed as LineDirective};
+ghost use Rattle.c_prep.specs.Inner.{shown};
 ghost use Rattle.c_prep.specs.Steps.{directed, is_condition, is_defined, obeyed, put, step_at};
 
 use crate::conditions::Conditions;

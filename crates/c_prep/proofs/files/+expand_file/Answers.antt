@@ -5,7 +5,8 @@ use Rattle.std.specs.declared.alloc.Global.{Global}
 use Rattle.c_lex.specs.declared.token.Token.{Token}
 use Rattle.c_prep.specs.declared.error.PrepErr.{PrepErr}
 use Rattle.c_prep.specs.Lines.{lines_of}
-use Rattle.c_prep.specs.Files.{Progress, Stop, Inclusion, included, include_in, include_at, file_at, refusal, GivesOut}
+use Rattle.c_prep.specs.Files.{Progress, Stop, Inclusion, include_in, include_at, file_at, refusal}
+use Rattle.c_prep.specs.Inner.{GivesOut, included}
 use Rattle.c_prep.specs.declared.error.Fault.TheVariants.{TooDeep}
 use Rattle.c_prep.specs.Faults.{fault_at}
 use Rattle.c_prep.specs.Numbers.{AreBelow, IsBelow}

@@ -8,3 +8,4 @@ pub mod Standing
 pub mod Room
 pub mod Including
 pub mod Whole
+pub mod Parting

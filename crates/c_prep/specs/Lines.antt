@@ -1,5 +1,6 @@
 -- The lines of a file's tokens: each goes up to the next token that begins one.
-use Rattle.std.specs.Prelude.{List, [], ◌∷◌, Bool, true, false, ◌&&◌, if◌then◌else◌}
+use Rattle.std.specs.Prelude.{◌≡◌, List, [], ◌∷◌, Bool, true, false, ◌&&◌, if◌then◌else◌}
+use Rattle.std.specs.List.{AllByRecursion}
 use Rattle.c_lex.specs.declared.token.Kind.{Kind}
 use Rattle.c_lex.specs.declared.token.Kind.TheVariants as k
 use Rattle.c_lex.specs.declared.token.Punct.TheVariants as m
@@ -25,3 +26,8 @@ is_hash _ = false
 -- a line that begins with `#` is a directive
 abbrev pub begins_directive : Token → Bool
 begins_directive t = t.first && is_hash t.kind
+
+-- a line's tokens but its first do not begin a line
+abbrev pub IsLine : List Token → Type 0
+IsLine [] = ⊥
+IsLine (t ∷ ts) = AllByRecursion (λ u. u.first ≡ false) ts

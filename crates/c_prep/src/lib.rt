@@ -18,7 +18,9 @@ mod work;
 
 pub use error::PrepErr;
 pub use expansion::expand;
-pub use laws::{room_for_names_is_never_short, tokens_are_put_as_what_they_stand_for};
+pub use laws::{
+    lines_part_the_tokens, room_for_names_is_never_short, tokens_are_put_as_what_they_stand_for,
+};
 
 #[cfg(test)]
 mod tests;

@@ -1,5 +1,8 @@
 // Worked texts, and the limits at their edges.
-use crate::{PrepErr, expand};
+use crate::{
+    PrepErr, expand, lines_part_the_tokens, room_for_names_is_never_short,
+    tokens_are_put_as_what_they_stand_for,
+};
 use c_lex::{Kind, Punct, Token};
 use kit_base::{FilesInMemory, Memory, Name, Reads, Seq};
 use std::alloc::{AllocError, Global};
@@ -207,6 +210,9 @@ fn limits_hold_at_their_edges(rt: HostRuntime) -> Result<(), Fail> {
             Err(_) => assert_eq!(rt; told(alloc, &answer)?.as_slice(), wanted),
         }
     }
+    lines_part_the_tokens();
+    room_for_names_is_never_short();
+    tokens_are_put_as_what_they_stand_for();
     let mut names = Vec::new(alloc);
     let mut files = holding(&rt, alloc, includes, b"", vec![in alloc; 1]?)?;
     let answer = expand(alloc, &mut files, "main.c", &mut names);

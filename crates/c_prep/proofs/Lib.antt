@@ -1,0 +1,11 @@
+pub mod Comparing
+pub mod Directing
+pub mod Lookups
+pub mod Unwinding
+pub mod LexCodes
+pub mod Numbering
+pub mod Standing
+pub mod Room
+pub mod Including
+pub mod Whole
+pub mod Parting

@@ -1,0 +1,79 @@
+-- What the program's private clauses cite: its own types seen as those of the definitions, and the answers of its parts.
+use Rattle.std.specs.Prelude.{◌≡◌, ◌≢◌, ◌<◌, ℕ, List, Option, Some, None, Result, Ok, Err}
+use Rattle.std.specs.Borrow.{Bor}
+use Rattle.c_lex.specs.declared.token.Token.{Token}
+use Rattle.c_prep.specs.declared.directive.Class.{Class}
+use Rattle.c_prep.specs.declared.directive.Directive.{Directive as Parsed}
+use Rattle.c_prep.specs.declared.directive.Directive.TheVariants as parsed
+use Rattle.c_prep.specs.declared.directive.Directed.{Directed as ParsedIn}
+use Rattle.c_prep.specs.declared.error.PrepErr.{PrepErr}
+use Rattle.c_prep.specs.declared.error.PrepErr.TheVariants as e
+use Rattle.c_prep.specs.declared.error.StepErr.{StepErr}
+use Rattle.c_prep.specs.declared.error.StepErr.TheVariants as steps
+use Rattle.c_prep.specs.declared.files.Included.{Included}
+use Rattle.c_prep.specs.Kinds.{kinds_of}
+use Rattle.c_prep.specs.Directives.{Directive, Include, Define, Undef, IfDef, IfNotDef, Else, EndIf, Error, Bad, Directed}
+use Rattle.c_prep.specs.Files.{Inclusion, Stop, refusal}
+use Rattle.c_prep.specs.Numbers.{AreBelow, IsBelow}
+
+-- an entry of the program's table
+abbrev pub listed : Bor (List ℕ) × Class → List ℕ × Class
+listed e = (e.0.now, e.1)
+
+-- the directive that the program sees
+abbrev pub shown : Parsed → Directive
+shown (parsed.Include name) = Include name.now
+shown (parsed.Define name body) = Define name.now (kinds_of body.now)
+shown (parsed.Undef name) = Undef name.now
+shown (parsed.IfDef name) = IfDef name.now
+shown (parsed.IfNotDef name) = IfNotDef name.now
+shown parsed.Else = Else
+shown parsed.EndIf = EndIf
+shown parsed.Error = Error
+shown parsed.Bad = Bad
+
+abbrev pub shown_in : Option ParsedIn → Option Directed
+shown_in None = None
+shown_in (Some d) = Some (record { hash = d.hash.now; directive = shown d.directive })
+
+-- The answer of a part that goes on from a state is the one that is due, with the names of the files.
+abbrev pub GivesOut : {X S : Type 0} → S → List (List ℕ) → Result X PrepErr → Result S Stop → Type 0
+GivesOut new names (Ok x) due_one = due_one ≡ Ok new
+GivesOut new names (Err (e.Failed file)) due_one = Unit {0}
+GivesOut new names (Err e.Memory) due_one = Unit {0}
+GivesOut new names (Err x) due_one = due_one ≡ Err (record { fault = x; names = names })
+
+-- the same of a value alone
+abbrev pub GivesAs : {X Y : Type 0} → (X → Y) → Result X PrepErr → Result Y PrepErr → Type 0
+GivesAs view (Ok x) due_one = due_one ≡ Ok (view x)
+GivesAs view (Err (e.Failed file)) due_one = Unit {0}
+GivesAs view (Err e.Memory) due_one = Unit {0}
+GivesAs view (Err x) due_one = due_one ≡ Err x
+
+-- what a step's error is told as
+abbrev pub refused : {X : Type 0} → Result X StepErr → Result X PrepErr
+refused (Ok x) = Ok x
+refused (Err (steps.At x)) = Err (refusal x)
+refused (Err steps.Memory) = Err e.Memory
+
+-- the include that the program sees
+abbrev pub included : Option Included → Option Inclusion
+included None = None
+included (Some i) = Some (record { hash = i.hash.now; name = i.name.now })
+
+-- a refusal that says that a file is not held
+abbrev pub SaysMissing : PrepErr → Type 0
+SaysMissing (e.At code file line) = Unit {0}
+SaysMissing e.NoSource = Unit {0}
+SaysMissing _ = ⊥
+
+-- a refusal of what a file says, or of memory
+abbrev pub IsOfText : PrepErr → Type 0
+IsOfText (e.At code file line) = code ≢ 21
+IsOfText e.Memory = Unit {0}
+IsOfText _ = ⊥
+
+-- tokens that were put, or a refusal, are of files below n
+abbrev pub NumberedPut : {X : Type 0} → ℕ → List Token → Result X PrepErr → Type 0
+NumberedPut n tokens (Ok x) = AreBelow n tokens
+NumberedPut n tokens (Err x) = IsBelow n x

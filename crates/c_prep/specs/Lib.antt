@@ -1,0 +1,13 @@
+pub mod Kinds
+pub mod Faults
+pub mod Macros
+pub mod Standing
+pub mod Frames
+pub mod Lines
+pub mod Directives
+pub mod Conditions
+pub mod Steps
+pub mod Files
+pub mod Causes
+pub mod Numbers
+pub mod Inner

@@ -1,0 +1,22 @@
+-- The numbers of files that an answer speaks of are below the count of the names.
+use Rattle.std.specs.Prelude.{ℕ, ◌<◌, List, Result, Ok, Err, Vec}
+use Rattle.std.specs.List.{AllByRecursion}
+use Rattle.std.specs.declared.alloc.Global.{Global}
+use Rattle.c_lex.specs.declared.token.Token.{Token}
+use Rattle.c_prep.specs.declared.error.PrepErr.{PrepErr}
+use Rattle.c_prep.specs.declared.error.PrepErr.TheVariants as e
+
+abbrev pub AreBelow : ℕ → List Token → Type 0
+AreBelow n tokens = AllByRecursion (λ t. t.file < n) tokens
+
+abbrev pub IsBelow : ℕ → PrepErr → Type 0
+IsBelow n (e.At code file line) = file < n
+IsBelow n e.NoSource = Unit {0}
+IsBelow n (e.Failed file) = file < n
+IsBelow n (e.TooLong file) = file < n
+IsBelow n e.Memory = Unit {0}
+
+-- each token's file, or that of a refusal
+abbrev pub Numbered : ℕ → Result (Vec Token Global) PrepErr → Type 0
+Numbered n (Ok v) = AreBelow n v.items
+Numbered n (Err x) = IsBelow n x

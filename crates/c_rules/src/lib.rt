@@ -9,6 +9,7 @@ mod building;
 mod code;
 mod constants;
 mod kinds;
+pub mod laws;
 mod nodes;
 mod sizes;
 

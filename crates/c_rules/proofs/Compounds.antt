@@ -48,7 +48,7 @@ plain_difference : (a b : Ty) → Plain (difference_gives a b)
 unfolding difference_gives
 plain_difference a b =
     plain_if (are_numbers a b) (Some IntY) (if is_number b then moved a b else apart a b) (plain_some IntY refl)
-      (plain_if (is_number b) (moved a b) (apart a b) (plain_moved a b) (plain_pair (target a) (target b)))
+    (plain_if (is_number b) (moved a b) (apart a b) (plain_moved a b) (plain_pair (target a) (target b)))
 
 plain : (op : BinOp) (a b : Ty) → Plain (binary_gives op a b)
 plain Mul a b = plain_given _ IntY refl

@@ -45,9 +45,10 @@ passed code ds x (Ok y) h = (h.0, λ n. skipped code n ds false (h.1 n))
 passed code ds x (Err c) h = (skipped code (number_of c) ds true h.0, λ n lt. skipped code n ds false (h.1 n lt))
 
 stopped : {A : Type 0} (code : Code) (ds : List Demand) (x : A) → ascending (number_of code) ds ≡ true → Answers (demand code false ∷ ds) x (Err code)
-stopped code ds x up =
-    (rw (eq-eqb (number_of code) (number_of code) refl) refl,
-     λ n lt. rw (other (number_of code) n true lt) (none_below (number_of code) n ds up lt))
+stopped code ds x up = (
+  rw (eq-eqb (number_of code) (number_of code) refl) refl,
+  λ n lt. rw (other (number_of code) n true lt) (none_below (number_of code) n ds up lt),
+)
 
 next : {A : Type 0} (code : Code) (h : Bool) (ds : List Demand) (x : A) → ascending (number_of code) ds ≡ true → Answers ds x (checked ds x) → Answers (demand code h ∷ ds) x (checked (demand code h ∷ ds) x)
 next code true ds x up rest = passed code ds x (checked ds x) rest

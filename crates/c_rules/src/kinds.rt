@@ -17,7 +17,8 @@ pub fn is_number(ty: &CType) -> bool
 {
     match ty {
         CType::Int | CType::Bool | CType::Enum(_) => true,
-        CType::Void | CType::Struct(_) | CType::Union(_) | CType::Pointer(_) | CType::Array(_, _) => false,
+        CType::Void | CType::Struct(_) | CType::Union(_) | CType::Pointer(_) | CType::Array(_, _) =>
+            false,
     }
 }
 
@@ -26,7 +27,13 @@ pub fn is_array(ty: &CType) -> bool
 {
     match ty {
         CType::Array(_, _) => true,
-        CType::Void | CType::Int | CType::Bool | CType::Enum(_) | CType::Struct(_) | CType::Union(_) | CType::Pointer(_) => false,
+        CType::Void
+        | CType::Int
+        | CType::Bool
+        | CType::Enum(_)
+        | CType::Struct(_)
+        | CType::Union(_)
+        | CType::Pointer(_) => false,
     }
 }
 
@@ -36,7 +43,12 @@ pub fn is_structure(ty: &CType) -> bool
 {
     match ty {
         CType::Struct(_) | CType::Union(_) => true,
-        CType::Void | CType::Int | CType::Bool | CType::Enum(_) | CType::Pointer(_) | CType::Array(_, _) => false,
+        CType::Void
+        | CType::Int
+        | CType::Bool
+        | CType::Enum(_)
+        | CType::Pointer(_)
+        | CType::Array(_, _) => false,
     }
 }
 
@@ -149,13 +161,7 @@ pub fn target(ty: &CType) -> Option<&CType>
     ensures target { option_map (λ r. ctype r.now) result ≡ target (ctype ty.now) }
 {
     match led_to(ty) {
-        Some(to) => {
-            if is_void(to) {
-                None
-            } else {
-                Some(to)
-            }
-        }
+        Some(to) => { if is_void(to) { None } else { Some(to) } }
         None => None,
     }
 }
@@ -239,7 +245,12 @@ fn is_pointer_value(ty: &CType) -> bool
 {
     match ty {
         CType::Pointer(_) | CType::Array(_, _) => true,
-        CType::Void | CType::Int | CType::Bool | CType::Enum(_) | CType::Struct(_) | CType::Union(_) => false,
+        CType::Void
+        | CType::Int
+        | CType::Bool
+        | CType::Enum(_)
+        | CType::Struct(_)
+        | CType::Union(_) => false,
     }
 }
 
@@ -248,6 +259,12 @@ fn is_pointer(ty: &CType) -> bool
 {
     match ty {
         CType::Pointer(_) => true,
-        CType::Void | CType::Int | CType::Bool | CType::Enum(_) | CType::Struct(_) | CType::Union(_) | CType::Array(_, _) => false,
+        CType::Void
+        | CType::Int
+        | CType::Bool
+        | CType::Enum(_)
+        | CType::Struct(_)
+        | CType::Union(_)
+        | CType::Array(_, _) => false,
     }
 }

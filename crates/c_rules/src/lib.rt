@@ -20,7 +20,10 @@ pub use kinds::{
     can_cast, converts, is_array, is_condition, is_number, is_structure, is_void, same_type, target,
 };
 pub use nodes::{
-    address_type, array_type, assign_type, binary_type, cast_type, check_store, compound_type, index_type,
-    step_type, type_size, unary_type,
+    address_type, array_type, assign_type, binary_type, cast_type, check_store, compound_type,
+    index_type, step_type, type_size, unary_type,
 };
 pub use sizes::{fits, is_whole};
+
+#[cfg(test)]
+mod tests;

@@ -11,7 +11,8 @@ ghost use Rattle.c_rules.specs.Nodes.{given, unary_rule, are_numbers, are_compar
 use crate::building::{array_of, copy_type, pointer_to};
 use crate::code::{Code, RuleErr, demand};
 use crate::kinds::{
-    can_cast, converts, is_array, is_condition, is_number, is_void, pointers_meet, same_type, target,
+    can_cast, converts, is_array, is_condition, is_number, is_void, pointers_meet, same_type,
+    target,
 };
 use crate::sizes::{fits, is_whole, words_within};
 use c_tree::{BinOp, StepOp, UnOp};
@@ -190,7 +191,13 @@ fn count_is_known(whole: &[bool], op: BinOp, a: &CType) -> bool
 /// The type of an operator between operands of these types. `whole` tells by their numbers which structures and unions are
 /// declared whole.
 #[tactic(auto, unfolding(crate::specs::Nodes::binary_rule))]
-pub fn binary_type(alloc: Global, whole: &[bool], op: BinOp, a: &CType, b: &CType) -> Result<CType, RuleErr>
+pub fn binary_type(
+    alloc: Global,
+    whole: &[bool],
+    op: BinOp,
+    a: &CType,
+    b: &CType,
+) -> Result<CType, RuleErr>
     ensures judged { Gives ctype result (judged (binary_rule whole.now op (ctype a.now) (ctype b.now))) }
 {
     match binary_gives(alloc, op, a, b)? {
@@ -287,7 +294,13 @@ fn step_operator(op: StepOp) -> BinOp
 }
 
 /// The type of a step up or down, as of `a += 1` or `a -= 1`.
-pub fn step_type(alloc: Global, whole: &[bool], op: StepOp, to: &CType, place: bool) -> Result<CType, RuleErr>
+pub fn step_type(
+    alloc: Global,
+    whole: &[bool],
+    op: StepOp,
+    to: &CType,
+    place: bool,
+) -> Result<CType, RuleErr>
     ensures judged { Gives ctype result (judged (step_rule whole.now op (ctype to.now) place)) }
 {
     compound_type(alloc, whole, step_operator(op), to, place, &CType::Int)

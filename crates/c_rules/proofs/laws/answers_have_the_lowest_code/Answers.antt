@@ -14,5 +14,5 @@ returns c = record {
   compound = λ whole op to place from. lowest (compound_rule whole op to place from) refl;
   cast = λ from to. lowest (cast_rule from to) refl;
   size = λ layouts whole ty. lowest (size_rule layouts whole ty) refl;
-  array = λ layouts whole of count. lowest (array_rule layouts whole of count) refl
+  array = λ layouts whole of count. lowest (array_rule layouts whole of count) refl;
 }

@@ -1,5 +1,5 @@
 -- Compound assignments are assignments of what the operator gives.
-use Rattle.std.proofs.Common.{◌≡◌, ℕ, Bool, true, false, ◌&&◌, ◌||◌, not, List, [], ◌∷◌, Option, Some, None, Result, Ok, Err, option_map, option_and_then, if◌then◌else◌, refl}
+use Rattle.std.proofs.Common.{◌≡◌, ℕ, Bool, true, false, ◌&&◌, ◌||◌, not, List, [], ◌∷◌, Option, Some, None, Ok, Err, option_map, option_and_then, if◌then◌else◌, refl}
 use Rattle.c_tree.specs.declared.operator.BinOp.{BinOp}
 use Rattle.c_tree.specs.declared.operator.BinOp.TheVariants.{Mul, Div, Mod, Add, Sub, Shl, Shr, Less, LessEq, More, MoreEq, Equal, NotEqual, BitAnd, BitXor, BitOr, AndAlso, OrElse}
 use Rattle.c_tree.specs.declared.operator.StepOp.{StepOp}
@@ -8,8 +8,8 @@ use Rattle.c_types.specs.Types.{Ty, VoidY, IntY, BoolY, EnumY, StructY, UnionY, 
 use Rattle.c_rules.specs.declared.code.Code.TheVariants.{NotAPlace, InfiniteType, TooLarge, WrongType}
 use Rattle.c_rules.specs.Kinds.{is_array, is_number, is_pointer, is_structure, converts, target, same_type}
 use Rattle.c_rules.specs.Sizes.{is_whole, fits, value_limit}
-use Rattle.c_rules.specs.Rules.{Rule, demand, checked, judged_by, judged}
-use Rattle.c_rules.specs.Lowest.{joined, lower}
+use Rattle.c_rules.specs.Rules.{demand, judged_by, judged}
+use Rattle.c_rules.specs.Lowest.{joined}
 use Rattle.c_rules.specs.Nodes.{given, moved, apart, sum_gives, difference_gives, binary_gives, binary_rule, assign_rule, kept_as, compound_rule, step_rule, count_is_known, are_numbers}
 
 -- ---- no operator gives a structure

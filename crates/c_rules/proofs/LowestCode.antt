@@ -1,11 +1,11 @@
 -- Demands that ascend are answered by the lowest code that is broken.
-use Rattle.std.proofs.Common.{◌≡◌, ℕ, ◌<◌, ◌≤◌, ◌==◌, Bool, true, false, ◌&&◌, ◌||◌, not, nat_le, List, [], ◌∷◌, Option, Some, None, Result, Ok, Err, refl, ap, sym, ◌∙◌, arith}
+use Rattle.std.proofs.Common.{◌≡◌, ℕ, ◌<◌, ◌==◌, Bool, true, false, ◌&&◌, not, nat_le, List, [], ◌∷◌, Option, Some, None, Result, Ok, Err, refl, ap, arith}
 use Rattle.std.proofs.lemmas.Bool.Decides.{nat_tests}
 use Rattle.std.proofs.lemmas.Bool.{eq-eqb}
 use Rattle.c_rules.specs.declared.code.Code.{Code}
 use Rattle.c_rules.specs.declared.code.Code.TheVariants.{WrongType}
-use Rattle.c_rules.specs.Rules.{number_of, Demand, demand, Rule, checked, judged_by, judged}
-use Rattle.c_rules.specs.Lowest.{is_given, breaks, is_broken, IsLowest, HasLowest}
+use Rattle.c_rules.specs.Rules.{number_of, Demand, demand, Rule, checked}
+use Rattle.c_rules.specs.Lowest.{breaks, IsLowest, HasLowest}
 
 abbrev pub ascending : ℕ → List Demand → Bool
 ascending least [] = true

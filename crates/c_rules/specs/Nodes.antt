@@ -1,5 +1,5 @@
 -- The rules of the nodes of expressions.
-use Rattle.std.specs.Prelude.{ℕ, ◌*◌, ◌^◌, ◌==◌, Bool, true, false, ◌&&◌, ◌||◌, not, List, [], ◌∷◌, Option, Some, None, option_map, option_and_then, nat_lt, nat_le, if◌then◌else◌}
+use Rattle.std.specs.Prelude.{ℕ, ◌^◌, ◌==◌, Bool, true, false, ◌&&◌, ◌||◌, not, List, [], ◌∷◌, Option, Some, None, option_map, option_and_then, nat_lt, if◌then◌else◌}
 use Rattle.c_tree.specs.declared.operator.UnOp.{UnOp}
 use Rattle.c_tree.specs.declared.operator.UnOp.TheVariants.{Minus, Plus, Not, Flip, Deref, Address}
 use Rattle.c_tree.specs.declared.operator.StepOp.{StepOp}
@@ -9,7 +9,7 @@ use Rattle.c_tree.specs.declared.operator.BinOp.TheVariants.{Mul, Div, Mod, Add,
 use Rattle.c_types.specs.Types.{Ty, IntY, BoolY, PointerY, ArrayY, LayoutT}
 use Rattle.c_types.specs.Sizes.{words_of}
 use Rattle.c_rules.specs.declared.code.Code.TheVariants.{NotAPlace, InfiniteType, TooLarge}
-use Rattle.c_rules.specs.Kinds.{is_void, is_number, is_array, is_pointer, is_condition, decayed, target, same_type, pointers_convert, converts, can_cast}
+use Rattle.c_rules.specs.Kinds.{is_void, is_number, is_array, is_condition, decayed, target, same_type, pointers_convert, converts, can_cast}
 use Rattle.c_rules.specs.Sizes.{is_whole, fits, type_limit, value_limit}
 use Rattle.c_rules.specs.Rules.{Rule, demand}
 

@@ -1,6 +1,6 @@
 -- Which types have a known size, and how large they may be.
-use Rattle.std.specs.Prelude.{ℕ, ◌*◌, Bool, true, false, List, Option, Some, None, slice_get, nat_le}
-use Rattle.c_types.specs.Types.{Ty, VoidY, IntY, BoolY, EnumY, StructY, UnionY, PointerY, ArrayY, LayoutT}
+use Rattle.std.specs.Prelude.{ℕ, Bool, true, false, List, slice_get, nat_le}
+use Rattle.c_types.specs.Types.{Ty, VoidY, StructY, UnionY, ArrayY, LayoutT}
 use Rattle.c_types.specs.Sizes.{words_of}
 use Rattle.c_rules.specs.Kinds.{holds}
 

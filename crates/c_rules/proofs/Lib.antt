@@ -1,0 +1,3 @@
+pub mod LowestCode
+pub mod SameTypes
+pub mod Compounds

@@ -1,0 +1,7 @@
+pub mod Kinds
+pub mod Sizes
+pub mod Rules
+pub mod Lowest
+pub mod Nodes
+pub mod Constants
+pub mod Gives

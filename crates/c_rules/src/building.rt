@@ -1,0 +1,55 @@
+// Types made from others.
+ghost use Rattle.std.specs.Prelude.{◌≡◌, IfOk};
+ghost use Rattle.c_types.specs.Types.{PointerY, ArrayY};
+ghost use Rattle.c_types.specs.View.{ctype};
+ghost use Rattle.c_rules.specs.Kinds.{decayed};
+
+use c_types::CType;
+use kit_base::Memory;
+use std::alloc::Global;
+
+/// The same type once more. The error is want of memory.
+pub fn copy_type(alloc: Global, ty: &CType) -> Result<CType, Memory>
+    ensures same { IfOk result (λ r. ctype r ≡ ctype ty.now) }
+{
+    match ty {
+        CType::Void => Ok(CType::Void),
+        CType::Int => Ok(CType::Int),
+        CType::Bool => Ok(CType::Bool),
+        CType::Enum(number) => Ok(CType::Enum(*number)),
+        CType::Struct(number) => Ok(CType::Struct(*number)),
+        CType::Union(number) => Ok(CType::Union(*number)),
+        CType::Pointer(to) => Ok(CType::Pointer(Box::new(alloc, copy_type(alloc, to)?)?)),
+        CType::Array(of, len) => Ok(CType::Array(Box::new(alloc, copy_type(alloc, of)?)?, *len)),
+    }
+}
+
+/// The type of a pointer to this one. The error is want of memory.
+pub fn pointer_to(alloc: Global, ty: &CType) -> Result<CType, Memory>
+    ensures pointer { IfOk result (λ r. ctype r ≡ PointerY (ctype ty.now)) }
+{
+    Ok(CType::Pointer(Box::new(alloc, copy_type(alloc, ty)?)?))
+}
+
+/// The type of an array of so many of these, without regard to any rule. The error is want of memory.
+pub fn array_of(alloc: Global, of: &CType, len: u32) -> Result<CType, Memory>
+    ensures array { IfOk result (λ r. ctype r ≡ ArrayY (ctype of.now) len) }
+{
+    Ok(CType::Array(Box::new(alloc, copy_type(alloc, of)?)?, len))
+}
+
+/// The type of a value: an array's is a pointer to its first element. The error is want of memory.
+pub fn decayed(alloc: Global, ty: &CType) -> Result<CType, Memory>
+    ensures value { IfOk result (λ r. ctype r ≡ decayed (ctype ty.now)) }
+{
+    match ty {
+        CType::Array(of, _) => pointer_to(alloc, of),
+        CType::Void
+        | CType::Int
+        | CType::Bool
+        | CType::Enum(_)
+        | CType::Struct(_)
+        | CType::Union(_)
+        | CType::Pointer(_) => copy_type(alloc, ty),
+    }
+}

@@ -1,0 +1,270 @@
+// Kinds of types, and which values become which.
+ghost use Rattle.std.specs.Prelude.{◌≡◌, ◌==◌, option_map, ◌||◌};
+ghost use Rattle.c_types.specs.View.{ctype};
+ghost use Rattle.c_rules.specs.Kinds.{is_void, is_number, is_array, is_structure, is_pointer, is_condition, decayed, enum_number, struct_number, union_number, pointed, element, element_count, holds, target, same_type, leads_alike, pointers_convert, converts, can_cast};
+
+use c_types::CType;
+
+pub fn is_void(ty: &CType) -> bool
+    ensures void { result ≡ is_void (ctype ty.now) }
+{
+    matches!(ty, CType::Void)
+}
+
+/// Whether arithmetic takes it: int, bool and every enumeration.
+pub fn is_number(ty: &CType) -> bool
+    ensures number { result ≡ is_number (ctype ty.now) }
+{
+    match ty {
+        CType::Int | CType::Bool | CType::Enum(_) => true,
+        CType::Void | CType::Struct(_) | CType::Union(_) | CType::Pointer(_) | CType::Array(_, _) =>
+            false,
+    }
+}
+
+pub fn is_array(ty: &CType) -> bool
+    ensures array { result ≡ is_array (ctype ty.now) }
+{
+    match ty {
+        CType::Array(_, _) => true,
+        CType::Void
+        | CType::Int
+        | CType::Bool
+        | CType::Enum(_)
+        | CType::Struct(_)
+        | CType::Union(_)
+        | CType::Pointer(_) => false,
+    }
+}
+
+/// A structure or a union.
+pub fn is_structure(ty: &CType) -> bool
+    ensures structure { result ≡ is_structure (ctype ty.now) }
+{
+    match ty {
+        CType::Struct(_) | CType::Union(_) => true,
+        CType::Void
+        | CType::Int
+        | CType::Bool
+        | CType::Enum(_)
+        | CType::Pointer(_)
+        | CType::Array(_, _) => false,
+    }
+}
+
+/// Whether a value of it can be tested: a number, a pointer or an array.
+pub fn is_condition(ty: &CType) -> bool
+    ensures condition { result ≡ is_condition (ctype ty.now) }
+{
+    match ty {
+        CType::Void | CType::Struct(_) | CType::Union(_) => false,
+        CType::Int | CType::Bool | CType::Enum(_) | CType::Pointer(_) | CType::Array(_, _) => true,
+    }
+}
+
+fn enum_number(ty: &CType) -> Option<u32>
+    ensures number { result ≡ enum_number (ctype ty.now) }
+{
+    match ty {
+        CType::Enum(number) => Some(*number),
+        CType::Void
+        | CType::Int
+        | CType::Bool
+        | CType::Struct(_)
+        | CType::Union(_)
+        | CType::Pointer(_)
+        | CType::Array(_, _) => None,
+    }
+}
+
+fn struct_number(ty: &CType) -> Option<u32>
+    ensures number { result ≡ struct_number (ctype ty.now) }
+{
+    match ty {
+        CType::Struct(number) => Some(*number),
+        CType::Void
+        | CType::Int
+        | CType::Bool
+        | CType::Enum(_)
+        | CType::Union(_)
+        | CType::Pointer(_)
+        | CType::Array(_, _) => None,
+    }
+}
+
+fn union_number(ty: &CType) -> Option<u32>
+    ensures number { result ≡ union_number (ctype ty.now) }
+{
+    match ty {
+        CType::Union(number) => Some(*number),
+        CType::Void
+        | CType::Int
+        | CType::Bool
+        | CType::Enum(_)
+        | CType::Struct(_)
+        | CType::Pointer(_)
+        | CType::Array(_, _) => None,
+    }
+}
+
+/// What a pointer leads to.
+fn pointed(ty: &CType) -> Option<&CType>
+    ensures to { option_map (λ r. ctype r.now) result ≡ pointed (ctype ty.now) }
+{
+    match ty {
+        CType::Pointer(to) => Some(to),
+        CType::Void
+        | CType::Int
+        | CType::Bool
+        | CType::Enum(_)
+        | CType::Struct(_)
+        | CType::Union(_)
+        | CType::Array(_, _) => None,
+    }
+}
+
+/// What a pointer, or an array's value, leads to.
+fn led_to(ty: &CType) -> Option<&CType>
+    ensures to { option_map (λ r. ctype r.now) result ≡ pointed (decayed (ctype ty.now)) }
+{
+    match ty {
+        CType::Pointer(to) => Some(to),
+        CType::Array(of, _) => Some(of),
+        CType::Void
+        | CType::Int
+        | CType::Bool
+        | CType::Enum(_)
+        | CType::Struct(_)
+        | CType::Union(_) => None,
+    }
+}
+
+/// The element and the count of an array.
+fn elements(ty: &CType) -> Option<(&CType, u32)>
+    ensures of { option_map (λ r. ctype r.0.now) result ≡ element (ctype ty.now) }
+    ensures count { option_map (λ r. r.1) result ≡ element_count (ctype ty.now) }
+{
+    match ty {
+        CType::Array(of, len) => Some((of, *len)),
+        CType::Void
+        | CType::Int
+        | CType::Bool
+        | CType::Enum(_)
+        | CType::Struct(_)
+        | CType::Union(_)
+        | CType::Pointer(_) => None,
+    }
+}
+
+/// What a pointer or an array leads to, where that is no void.
+pub fn target(ty: &CType) -> Option<&CType>
+    ensures target { option_map (λ r. ctype r.now) result ≡ target (ctype ty.now) }
+{
+    match led_to(ty) {
+        Some(to) => { if is_void(to) { None } else { Some(to) } }
+        None => None,
+    }
+}
+
+fn is_same(number: u32, other: Option<u32>) -> bool
+    ensures same { result ≡ holds (λ k. number == k) other }
+{
+    match other {
+        Some(other) => number == other,
+        None => false,
+    }
+}
+
+/// Whether two types are one.
+pub fn same_type(a: &CType, b: &CType) -> bool
+    ensures same { result ≡ same_type (ctype a.now) (ctype b.now) }
+{
+    match a {
+        CType::Void => matches!(b, CType::Void),
+        CType::Int => matches!(b, CType::Int),
+        CType::Bool => matches!(b, CType::Bool),
+        CType::Enum(number) => is_same(*number, enum_number(b)),
+        CType::Struct(number) => is_same(*number, struct_number(b)),
+        CType::Union(number) => is_same(*number, union_number(b)),
+        CType::Pointer(to) => match pointed(b) {
+            Some(other) => same_type(to, other),
+            None => false,
+        },
+        CType::Array(of, len) => match elements(b) {
+            Some((other, count)) => same_type(of, other) && *len == count,
+            None => false,
+        },
+    }
+}
+
+fn leads_alike(from: &CType, to: &CType) -> bool
+    ensures alike { result ≡ leads_alike (ctype from.now) (ctype to.now) }
+{
+    is_void(from) || is_void(to) || same_type(from, to)
+}
+
+/// Whether the value of a pointer or array becomes a pointer.
+fn pointer_converts(from: &CType, to: &CType) -> bool
+    ensures pointers { result ≡ pointers_convert (decayed (ctype from.now)) (ctype to.now) }
+{
+    match (led_to(from), pointed(to)) {
+        (Some(from), Some(to)) => leads_alike(from, to),
+        _ => false,
+    }
+}
+
+/// Whether of two pointers or arrays one becomes the other.
+pub(crate) fn pointers_meet(a: &CType, b: &CType) -> bool
+    ensures meet { result ≡ (pointers_convert (decayed (ctype a.now)) (decayed (ctype b.now)) || pointers_convert (decayed (ctype b.now)) (decayed (ctype a.now))) }
+{
+    match (led_to(a), led_to(b)) {
+        (Some(a), Some(b)) => leads_alike(a, b) || leads_alike(b, a),
+        _ => false,
+    }
+}
+
+/// Whether a value may be stored, passed or returned as a type: numbers as each other, a pointer or an array as a pointer to the
+/// same, to and from `void*` any pointer, a structure or union as its own type.
+pub fn converts(from: &CType, to: &CType) -> bool
+    ensures converts { result ≡ converts (ctype from.now) (ctype to.now) }
+{
+    is_number(from) && is_number(to)
+        || pointer_converts(from, to)
+        || is_structure(from) && same_type(from, to)
+}
+
+/// Whether a value may be cast: among numbers and among pointers, an array as a pointer.
+pub fn can_cast(from: &CType, to: &CType) -> bool
+    ensures cast { result ≡ can_cast (ctype from.now) (ctype to.now) }
+{
+    is_number(from) && is_number(to) || is_pointer_value(from) && is_pointer(to)
+}
+
+fn is_pointer_value(ty: &CType) -> bool
+    ensures pointer { result ≡ is_pointer (decayed (ctype ty.now)) }
+{
+    match ty {
+        CType::Pointer(_) | CType::Array(_, _) => true,
+        CType::Void
+        | CType::Int
+        | CType::Bool
+        | CType::Enum(_)
+        | CType::Struct(_)
+        | CType::Union(_) => false,
+    }
+}
+
+fn is_pointer(ty: &CType) -> bool
+    ensures pointer { result ≡ is_pointer (ctype ty.now) }
+{
+    match ty {
+        CType::Pointer(_) => true,
+        CType::Void
+        | CType::Int
+        | CType::Bool
+        | CType::Enum(_)
+        | CType::Struct(_)
+        | CType::Union(_)
+        | CType::Array(_, _) => false,
+    }
+}

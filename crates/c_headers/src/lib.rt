@@ -1,9 +1,10 @@
 //! The headers of the C dialect: eight texts, by name.
 //!
-//! `header` promises the text of each of the eight names, and none for any other name. It stands on
-//! std alone.
+//! `header` promises the text of each of the eight names, and none for any other name. No two names
+//! are equal, and each text is guarded against a second inclusion. It stands on std alone.
 #![tactic(auto)]
 
+mod laws;
 mod text;
 
 ghost use Rattle.std.specs.Prelude.{◌≡◌, not};
@@ -12,6 +13,7 @@ ghost use Rattle.std.specs.Option.{is_none, option_map};
 ghost use Rattle.std.specs.Str.{bytes_eq};
 ghost use Rattle.c_headers.specs.Headers.{header_names, text_of};
 
+pub use laws::headers_are_guarded;
 use text::audio::AUDIO;
 use text::input::INPUT;
 use text::math::MATH;

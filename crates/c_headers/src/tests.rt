@@ -1,5 +1,5 @@
 // The headers as a source includes them.
-use crate::header;
+use crate::{header, headers_are_guarded};
 use c_prep::expand;
 use kit_base::{FilesInMemory, Name, Seq};
 use std::alloc::Global;
@@ -66,6 +66,7 @@ fn headers_expand_and_count_once(rt: HostRuntime) -> Result<(), Fail> {
         all.extend_from_slice(include)?;
     }
     assert_eq!(rt; count_tokens(&rt, alloc, &all)?, 1_193);
+    headers_are_guarded();
     for name in ["", "video", "Video.h", "video.h ", "font.h"] {
         assert!(rt; header(name).is_none());
     }

@@ -1,0 +1,48 @@
+// misc.h: random numbers, blocks of memory and the end of a program.
+
+pub const MISC: &str = "\
+#ifndef MISC_H
+#define MISC_H
+
+int rand()
+{
+    return port_in(RNG_CurrentValue);
+}
+
+// a seed is 1 to 2147483646; any other is ignored
+void srand(int seed)
+{
+    port_out(RNG_CurrentValue, seed);
+}
+
+void memset(int* to, int word, int count)
+{
+    for (int i = 0; i < count; i++)
+        to[i] = word;
+}
+
+// words in ascending order
+void memcpy(int* to, int* from, int count)
+{
+    for (int i = 0; i < count; i++)
+        to[i] = from[i];
+}
+
+// the difference of the first words that differ, else 0
+int memcmp(int* a, int* b, int count)
+{
+    for (int i = 0; i < count; i++)
+    {
+        if (a[i] != b[i])
+            return a[i] - b[i];
+    }
+    return 0;
+}
+
+void exit()
+{
+    halt();
+}
+
+#endif
+";

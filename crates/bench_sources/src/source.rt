@@ -1,0 +1,65 @@
+// A source of functions, and the files that it includes.
+ghost use Rattle.std.specs.Prelude.{◌≡◌, length};
+
+use kit_base::{FilesInMemory, Name, Seq};
+use line_text::decimal_word;
+use std::alloc::Global;
+
+/// How many functions the source has, and how many files it includes; none where the arguments are none.
+pub fn numbers_of(words: &[String]) -> Option<(u32, u32)> {
+    let [work, functions, includes] = words else {
+        return None;
+    };
+    if work.as_str() != "expand" {
+        return None;
+    }
+    let functions = decimal_word(functions.as_str().as_bytes())?;
+    let includes = decimal_word(includes.as_str().as_bytes())?;
+    Some((functions, includes))
+}
+
+/// The source: a line for each file that it includes, then its functions; none for want of memory.
+fn source(alloc: Global, functions: u32, includes: u32) -> Option<String> {
+    let mut text = String::new(alloc);
+    for k in 0..includes {
+        writeln!(text, "#include \"file{k}\"").ok()?;
+    }
+    text.push_str("int f0(int x) { return x + 1; }\n").ok()?;
+    for k in 1..functions {
+        let below = k - 1;
+        writeln!(
+            text,
+            "int f{k}(int x) {{ return f{below}(x) ^ (x + {k}); }}"
+        )
+        .ok()?;
+    }
+    Some(text)
+}
+
+fn hold(alloc: Global, held: &mut Vec<(Name, Seq<u8>)>, name: &str, text: &str) -> Option<()> {
+    let bytes = Vec::from_slice(alloc, text.as_bytes()).ok()?;
+    let name = Name::new(alloc, name).ok()?;
+    held.push((name, Seq::from_vec(bytes))).ok()
+}
+
+/// The files of that source: each that it includes includes the one header; none for want of memory.
+pub fn files(alloc: Global, functions: u32, includes: u32) -> Option<FilesInMemory> {
+    let mut held = Vec::new(alloc);
+    hold(
+        alloc,
+        &mut held,
+        "source",
+        source(alloc, functions, includes)?.as_str(),
+    )?;
+    let header = "#ifndef HEADER\n#define HEADER\n#define red 0xFF0000FF\nint shown;\n#endif\n";
+    hold(alloc, &mut held, "header", header)?;
+    for k in 0..includes {
+        let mut name = String::new(alloc);
+        write!(name, "file{k}").ok()?;
+        hold(alloc, &mut held, name.as_str(), "#include \"header\"\n")?;
+    }
+    if !FilesInMemory::are_distinct(&held) {
+        return None;
+    }
+    Some(FilesInMemory::new(alloc, held, Vec::new(alloc)))
+}

@@ -1,4 +1,5 @@
--- How many nodes a tree has, outside types.
+-- How many nodes a tree has: its expressions, initialisers, variables, statements and items outside types, and its `case` and
+-- `default` labels. A parameter is a variable.
 use Rattle.std.specs.Prelude.{ℕ, ◌+◌, List, [], ◌∷◌, Option, Some, None}
 use Rattle.c_tree.specs.Tree.{ExprT, NameE, NumberE, TextE, NullE, ParenE, UnaryE, BinaryE, AssignE, StepE, IndexE, MemberE, ArrowE, CallE, CastE, SizeOfE, ExprTs, NoE, MoreE, TypeT, IntY, BoolY, VoidY, NamedY, PointerY, ArrayY, InitT, OneI, ListI, InitTs, NoI, MoreI, VarT, StmtT, BlockS, EmptyS, VarsS, DoS, IfS, WhileS, DoWhileS, ForS, SwitchS, ReturnS, BreakS, ContinueS, MaybeS, NoneS, SomeS, StmtTs, NoS, MoreS, ArmT, CaseA, DefaultA, StmtA, ArmTs, NoA, MoreA, ItemT, RecordD, EnumD, TypedefD, VarsD, FunctionD}
 
@@ -79,3 +80,26 @@ abbrev mutual
   pub arms_nodes : ArmTs → ℕ
   arms_nodes NoA = 0
   arms_nodes (MoreA a rest) = arm_nodes a + arms_nodes rest
+
+abbrev pub maybe_vars_nodes : Option (List VarT) → ℕ
+maybe_vars_nodes None = 0
+maybe_vars_nodes (Some vs) = vars_nodes vs
+
+abbrev pub maybe_stmts_nodes : Option StmtTs → ℕ
+maybe_stmts_nodes None = 0
+maybe_stmts_nodes (Some ss) = stmts_nodes ss
+
+abbrev pub values_nodes : List (List ℕ × Option ExprT) → ℕ
+values_nodes [] = 0
+values_nodes (v ∷ vs) = maybe_expr_nodes v.1 + values_nodes vs
+
+abbrev pub item_nodes : ItemT → ℕ
+item_nodes (RecordD is_union name members sp) = maybe_vars_nodes members + 1
+item_nodes (EnumD name values sp) = values_nodes values + 1
+item_nodes (TypedefD ty name sp) = 1
+item_nodes (VarsD vs sp) = vars_nodes vs + 1
+item_nodes (FunctionD gives name params body sp) = vars_nodes params + maybe_stmts_nodes body + 1
+
+abbrev pub unit_nodes : List ItemT → ℕ
+unit_nodes [] = 0
+unit_nodes (x ∷ xs) = item_nodes x + unit_nodes xs

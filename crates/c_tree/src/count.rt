@@ -1,14 +1,17 @@
 // How many nodes a tree has.
 
-ghost use Rattle.std.specs.Prelude.{◌≡◌, ◌<◌, ◌^◌, map};
-ghost use Rattle.c_tree.specs.View.{expr, init, var, stmt, arm};
-ghost use Rattle.c_tree.specs.Count.{expr_nodes, init_nodes, var_nodes, vars_nodes, stmt_nodes, arm_nodes};
+ghost use Rattle.std.specs.Prelude.{◌≡◌, ◌<◌, ◌^◌, map, option_map};
+ghost use Rattle.c_tree.specs.View.{expr, init, var, stmt, stmts, arm, item, unit};
+ghost use Rattle.c_tree.specs.Count.{expr_nodes, init_nodes, var_nodes, vars_nodes, stmt_nodes, stmts_nodes, arm_nodes, values_nodes, item_nodes, unit_nodes};
+
+use kit_base::Name;
 
 use crate::expression::Expr;
+use crate::item::{Item, Unit};
 use crate::statement::{Arm, Stmt};
 use crate::variable::{Init, Var};
 
-pub fn expr_nodes(e: &Expr) -> u64
+fn expr_nodes(e: &Expr) -> u64
     requires fits { expr_nodes (expr e.now) < 2 ^ 64 }
     ensures { result ≡ expr_nodes (expr e.now) }
 {
@@ -33,7 +36,7 @@ pub fn expr_nodes(e: &Expr) -> u64
     }
 }
 
-pub fn init_nodes(i: &Init) -> u64
+fn init_nodes(i: &Init) -> u64
     requires fits { init_nodes (init i.now) < 2 ^ 64 }
     ensures { result ≡ init_nodes (init i.now) }
 {
@@ -49,7 +52,7 @@ pub fn init_nodes(i: &Init) -> u64
     }
 }
 
-pub fn var_nodes(v: &Var) -> u64
+fn var_nodes(v: &Var) -> u64
     requires fits { var_nodes (var v.now) < 2 ^ 64 }
     ensures { result ≡ var_nodes (var v.now) }
 {
@@ -59,7 +62,7 @@ pub fn var_nodes(v: &Var) -> u64
     }
 }
 
-pub fn vars_nodes(vs: &[Var]) -> u64
+fn vars_nodes(vs: &[Var]) -> u64
     requires fits { vars_nodes (map var vs.now) < 2 ^ 64 }
     ensures { result ≡ vars_nodes (map var vs.now) }
 {
@@ -71,7 +74,7 @@ pub fn vars_nodes(vs: &[Var]) -> u64
 }
 
 #[cycle(stmt_nodes)]
-pub fn stmt_nodes(s: &Stmt) -> u64
+fn stmt_nodes(s: &Stmt) -> u64
     requires fits { stmt_nodes (stmt s.now) < 2 ^ 64 }
     ensures { result ≡ stmt_nodes (stmt s.now) }
 {
@@ -119,7 +122,7 @@ pub fn stmt_nodes(s: &Stmt) -> u64
 }
 
 #[cycle(stmt_nodes)]
-pub fn arm_nodes(a: &Arm) -> u64
+fn arm_nodes(a: &Arm) -> u64
     requires fits { arm_nodes (arm a.now) < 2 ^ 64 }
     ensures { result ≡ arm_nodes (arm a.now) }
 {
@@ -128,4 +131,57 @@ pub fn arm_nodes(a: &Arm) -> u64
         Arm::Default(_) => 1,
         Arm::Stmt(s) => stmt_nodes(s),
     }
+}
+
+fn stmts_nodes(body: &[Stmt]) -> u64
+    requires fits { stmts_nodes (stmts (map stmt body.now)) < 2 ^ 64 }
+    ensures { result ≡ stmts_nodes (stmts (map stmt body.now)) }
+{
+    let mut n = 0;
+    for s in body {
+        n += stmt_nodes(s);
+    }
+    n
+}
+
+fn values_nodes(values: &[(Name, Option<Expr>)]) -> u64
+    requires fits { values_nodes (map (λ v. (v.0, option_map expr v.1)) values.now) < 2 ^ 64 }
+    ensures { result ≡ values_nodes (map (λ v. (v.0, option_map expr v.1)) values.now) }
+{
+    let mut n = 0;
+    for v in values {
+        if let Some(e) = &v.1 {
+            n += expr_nodes(e);
+        }
+    }
+    n
+}
+
+fn item_nodes(i: &Item) -> u64
+    requires fits { item_nodes (item i.now) < 2 ^ 64 }
+    ensures { result ≡ item_nodes (item i.now) }
+{
+    match i {
+        Item::Record { members: None, .. } | Item::Typedef(_, _, _) => 1,
+        Item::Record { members: Some(members), .. } => vars_nodes(members.as_slice()) + 1,
+        Item::Enum { values, .. } => values_nodes(values.as_slice()) + 1,
+        Item::Vars(vars, _) => vars_nodes(vars.as_slice()) + 1,
+        Item::Function { params, body: None, .. } => vars_nodes(params.as_slice()) + 1,
+        Item::Function { params, body: Some(body), .. } => {
+            vars_nodes(params.as_slice()) + stmts_nodes(body.as_slice()) + 1
+        }
+    }
+}
+
+/// How many nodes a unit has: its expressions, initialisers, variables, statements and items
+/// outside types, and its `case` and `default` labels. A parameter counts as a variable.
+pub fn nodes(u: &Unit) -> u64
+    requires fits { unit_nodes (unit u.now) < 2 ^ 64 }
+    ensures counted { result ≡ unit_nodes (unit u.now) }
+{
+    let mut n = 0;
+    for i in u.items.as_slice() {
+        n += item_nodes(i);
+    }
+    n
 }

@@ -3,7 +3,9 @@
 //! Contracts see a tree as plain data without pointers. It stands on kit_base.
 #![tactic(auto)]
 
+pub mod building;
 mod count;
+mod depths;
 mod expression;
 mod item;
 mod operator;
@@ -11,7 +13,8 @@ mod span;
 mod statement;
 mod variable;
 
-pub use count::{arm_nodes, expr_nodes, init_nodes, stmt_nodes, var_nodes, vars_nodes};
+pub use count::nodes;
+pub use depths::depth;
 pub use expression::{Expr, TypeTree};
 pub use item::{Item, Unit};
 pub use operator::{BinOp, StepOp, UnOp};

@@ -1,0 +1,16 @@
+pub mod Tok
+pub mod Scope
+pub mod Marks
+pub mod Grammar
+pub mod Lists
+pub mod Declarations
+pub mod Statements
+pub mod Units
+pub mod Reader
+pub mod Leads
+pub mod Reading
+pub mod ReadingLists
+pub mod ReadingDeclarations
+pub mod ReadingStatements
+pub mod ReadingUnits
+pub mod View

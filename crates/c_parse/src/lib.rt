@@ -1,0 +1,9 @@
+//! From the tokens of a C unit to its syntax tree.
+#![tactic(auto)]
+
+mod class;
+mod fault;
+mod lead;
+mod leading;
+mod scope;
+mod tokens;

@@ -1,2 +1,5 @@
 pub mod Loops
 pub mod Steps
+pub mod Outcomes
+pub mod Fronts
+pub mod Sizes

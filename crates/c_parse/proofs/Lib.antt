@@ -5,3 +5,4 @@ pub mod Fronts
 pub mod Sizes
 pub mod ListReads
 pub mod ExprReads
+pub mod DeclReads

@@ -3,5 +3,8 @@ pub mod Steps
 pub mod Outcomes
 pub mod Fronts
 pub mod Sizes
+pub mod ListReads
+pub mod ExprReads
+pub mod DeclReads
 pub mod FrontsRead
 pub mod Soundness

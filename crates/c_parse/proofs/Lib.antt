@@ -8,3 +8,6 @@ pub mod ExprReads
 pub mod DeclReads
 pub mod FrontsRead
 pub mod Soundness
+pub mod SoundLists
+pub mod SoundDeclarations
+pub mod SoundStatements

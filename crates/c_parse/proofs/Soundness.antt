@@ -379,7 +379,7 @@ module _ (c : Context) (n : ℕ) (r : Readers) (s : Sound c n r) where
           ok_at (λ (z : Got ExprT). Found (Expr c) expr_depth (suc n) ts z) (AssignE op a.0 b.0.0 (span c ts b.0.1), b.0.1) x b.2
             (record { derived = g.assign (subst (λ (z : List Tok). Unary c ts a.0 z) o.1 (lowered d i.0)) o.2 q.derived; fits = omega (arith, g0.0, q.fits) })
 
-nothing_read : {A : Type 0} (d : Fault) (x : A) → failed d ≡ done x → ⊥
+pub nothing_read : {A : Type 0} (d : Fault) (x : A) → failed d ≡ done x → ⊥
 nothing_read d x e = cc
 
 pub readers_sound : (c : Context) (n : ℕ) → Sound c n (readers c n)

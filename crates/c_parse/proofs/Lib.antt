@@ -6,3 +6,4 @@ pub mod Sizes
 pub mod ListReads
 pub mod ExprReads
 pub mod DeclReads
+pub mod StmtReads

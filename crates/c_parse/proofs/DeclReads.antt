@@ -310,6 +310,15 @@ param_reads {c = c} (d.param {ts = ts} h f) (suc n) = reads_is _ _ (param_is c n
 param_shorter : {c : Context} {ts rest : List Tok} {v : VarT} → Param c ts v rest → length rest < length ts
 param_shorter (d.param h f) = omega (arith, ty_shorter h, field_shorter f)
 
+pub members_shorter : {c : Context} {ts rest : List Tok} {vs : List VarT} → Members c ts vs rest → length rest < length ts
+members_shorter (d.last_member h) = member_shorter h
+members_shorter (d.more_members h r) = omega (arith, member_shorter h, members_shorter r)
+
+pub params_up : {c : Context} {ts rest : List Tok} {vs : List VarT} → Params c ts vs rest → length rest ≤ length ts
+params_up d.no_params = omega arith
+params_up d.void_params = omega arith
+params_up {c = c} (d.some_params s) = omega (arith, separated_shorter var_depth vars_depth refl (λ x xs. refl) (Param c) (λ ts rest x v. param_shorter v) s)
+
 base_no_close : {c : Context} {ts rest : List Tok} {y : TypeT} → Base c ts y rest → at_close_paren ts ≡ false
 base_no_close g.int = refl
 base_no_close g.bool = refl
@@ -359,3 +368,6 @@ value_no_end (d.set_value h k) = refl
 
 pub values_read : {c : Context} {ts rest : List Tok} {vs : List (List ℕ × Option ExprT)} → Separated (Value c) ts vs rest → Ends 11 rest → at_more rest ≡ false → (n : ℕ) → Reads (values_depth vs) n (vs, rest) (listed (value c n) ts)
 values_read {c = c} s ends e n = listed_reads value_depth values_depth refl (λ x xs. refl) (Value c) (value c n) n (λ us rest x v ends'. value_reads v ends' n) (λ us rest x v. value_shorter v) (λ us rest x v. value_no_end v) s ends e
+
+pub values_shorter : {c : Context} {ts rest : List Tok} {vs : List (List ℕ × Option ExprT)} → Separated (Value c) ts vs rest → length rest < length ts
+values_shorter {c = c} s = separated_shorter value_depth values_depth refl (λ x xs. refl) (Value c) (λ ts rest x v. value_shorter v) s

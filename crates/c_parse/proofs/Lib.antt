@@ -7,3 +7,4 @@ pub mod ListReads
 pub mod ExprReads
 pub mod DeclReads
 pub mod StmtReads
+pub mod UnitReads

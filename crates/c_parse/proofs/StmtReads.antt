@@ -193,7 +193,7 @@ mutual
   stmt_shorter s.break = omega arith
   stmt_shorter s.continue = omega arith
 
-  stmts_up : {c : Context} {ts rest : List Tok} {xs : List StmtT} → Stmts c ts xs rest → length rest ≤ length ts
+  pub stmts_up : {c : Context} {ts rest : List Tok} {xs : List StmtT} → Stmts c ts xs rest → length rest ≤ length ts
   stmts_up s.no_stmts = omega arith
   stmts_up (s.more_stmts h r) = omega (arith, stmt_shorter h, stmts_up r)
 

@@ -8,3 +8,5 @@ pub mod ExprReads
 pub mod DeclReads
 pub mod StmtReads
 pub mod UnitReads
+pub mod FrontsRead
+pub mod Soundness

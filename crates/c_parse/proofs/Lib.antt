@@ -10,3 +10,4 @@ pub mod StmtReads
 pub mod UnitReads
 pub mod FrontsRead
 pub mod Soundness
+pub mod TypeAgain

@@ -57,3 +57,15 @@ module _ {A : Type 0} (turn : Turn A) (a : A) (ts : List Tok) where
   unfolding repeat
   repeat_goes zero lt o e next = absurd (omega arith)
   repeat_goes (suc n) lt o e next = rw e (next n refl)
+
+pub fits_is : {A : Type 0} (d r : ℕ) (x : A) (res : Result A Fault) → Reads d r x res → d ≤ r → res ≡ Ok x
+fits_is d r x _ (read le) fits = refl
+fits_is d r x _ (over lt) fits = absurd (omega arith)
+
+pub over_is : {A : Type 0} (d r : ℕ) (x : A) (res : Result A Fault) → Reads d r x res → r < d → (n : ℕ) × (res ≡ Err (TooDeep n))
+over_is d r x _ (read le) lt = absurd (omega arith)
+over_is d r x _ (over {n = n} lt') lt = (n, refl)
+
+pub no_syntax : {A : Type 0} (d r n : ℕ) (x : A) (res : Result A Fault) → Reads d r x res → res ≡ Err (Syntax n) → ⊥
+no_syntax d r n x _ (read le) e = cc
+no_syntax d r n x _ (over lt) e = cc

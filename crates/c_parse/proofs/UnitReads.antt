@@ -31,7 +31,7 @@ use Rattle.c_parse.specs.Declarations as d
 use Rattle.c_parse.specs.Statements.{Stmts}
 use Rattle.c_parse.specs.Units.{record_word, Gives, Item, behind_item, Items, Unit_, Derives}
 use Rattle.c_parse.specs.Units as u
-use Rattle.c_parse.proofs.Outcomes.{Reads, read, over, reads_is, bind_reads, none_reads, repeat_ends, repeat_goes, bind_twice}
+use Rattle.c_parse.proofs.Outcomes.{Reads, read, over, reads_is, bind_reads, none_reads, repeat_ends, repeat_goes, bind_twice, fits_is, over_is, no_syntax}
 use Rattle.c_parse.proofs.Fronts.{Ends, end_ends}
 use Rattle.c_parse.proofs.Sizes.{ty_shorter}
 use Rattle.c_parse.proofs.ExprReads.{ty_reads}
@@ -152,14 +152,6 @@ pub unit_reads : (ts : List Tok) (ds : List ItemT) → Unit_ ts ds → (n : ℕ)
 unfolding unit_at
 unit_reads ts ds h n pos = bind_reads _ (items_read h n pos [] (suc (length ts)) (omega arith)) (λ deep. deep) (λ fits. read fits)
 
-fits_is : {A : Type 0} (d r : ℕ) (x : A) (res : Result A Fault) → Reads d r x res → d ≤ r → res ≡ Ok x
-fits_is d r x _ (read le) fits = refl
-fits_is d r x _ (over lt) fits = absurd (omega arith)
-
-over_is : {A : Type 0} (d r : ℕ) (x : A) (res : Result A Fault) → Reads d r x res → r < d → (n : ℕ) × (res ≡ Err (TooDeep n))
-over_is d r x _ (read le) lt = absurd (omega arith)
-over_is d r x _ (over {n = n} lt') lt = (n, refl)
-
 -- what is derived is read
 pub unit_read : (ts : List Tok) (ds : List ItemT) → Derives ts ds → unit_at 199 ts ≡ Ok ds
 unit_read ts ds h = fits_is (unit_depth ds) 200 ds (unit_at 199 ts) (unit_reads ts ds h.0 199 (omega arith)) h.1
@@ -169,10 +161,6 @@ pub unit_deep : (ts : List Tok) (ds : List ItemT) → Unit_ ts ds → 200 < unit
 unit_deep ts ds h lt = over_is (unit_depth ds) 200 ds (unit_at 199 ts) (unit_reads ts ds h 199 (omega arith)) lt
 
 -- and never faulty
-no_syntax : {A : Type 0} (d r n : ℕ) (x : A) (res : Result A Fault) → Reads d r x res → res ≡ Err (Syntax n) → ⊥
-no_syntax d r n x _ (read le) e = cc
-no_syntax d r n x _ (over lt) e = cc
-
 pub never_faulty : (ts : List Tok) (ds : List ItemT) (n : ℕ) → Unit_ ts ds → unit_at 199 ts ≡ Err (Syntax n) → ⊥
 never_faulty ts ds n h e = no_syntax (unit_depth ds) 200 n ds (unit_at 199 ts) (unit_reads ts ds h 199 (omega arith)) e
 

@@ -11,3 +11,4 @@ pub mod UnitReads
 pub mod FrontsRead
 pub mod Soundness
 pub mod TypeAgain
+pub mod NodeCount

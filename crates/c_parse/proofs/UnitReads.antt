@@ -107,7 +107,7 @@ item_reads {c = c} (u.vars {rest = rest} (d.vars {ts = ts} {mid = mid} {y = y} {
 item_reads {c = c} (u.declared {ts = ts} {mid = mid} {rest = rest} {y = y} {n = w} {vs = vs} k h p) n pos = head_reads n pos k h (λ deep. omega arith) (λ le. declared_reads c n ts mid rest y w vs le p)
 item_reads {c = c} (u.defined {ts = ts} {mid = mid} {on = on} {rest = rest} {y = y} {n = w} {vs = vs} {ss = ss} k h p b) n pos = head_reads n pos k h (λ deep. omega arith) (λ le. defined_reads c n ts mid on rest y w vs ss le p b)
 
-gives_shorter : {c : Context} {ts rest : List Tok} {y : TypeT} → Gives c ts y rest → length rest < length ts
+pub gives_shorter : {c : Context} {ts rest : List Tok} {y : TypeT} → Gives c ts y rest → length rest < length ts
 gives_shorter u.gives_void = omega arith
 gives_shorter (u.gives_type k) = ty_shorter k
 
@@ -163,6 +163,14 @@ unit_deep ts ds h lt = over_is (unit_depth ds) 200 ds (unit_at 199 ts) (unit_rea
 -- and never faulty
 pub never_faulty : (ts : List Tok) (ds : List ItemT) (n : ℕ) → Unit_ ts ds → unit_at 199 ts ≡ Err (Syntax n) → ⊥
 never_faulty ts ds n h e = no_syntax (unit_depth ds) 200 n ds (unit_at 199 ts) (unit_reads ts ds h 199 (omega arith)) e
+
+-- what is derived with few enough trees on a path has no fault at all
+ok_no_fault : (x : List ItemT) (f : Fault) (res : Result (List ItemT) Fault) → res ≡ Ok x → res ≡ Err f → ⊥
+ok_no_fault x f (Ok y) a b = cc
+ok_no_fault x f (Err g) a b = cc
+
+pub derived_no_fault : (ts : List Tok) (ds : List ItemT) (f : Fault) → Derives ts ds → unit_at 199 ts ≡ Err f → ⊥
+derived_no_fault ts ds f h e = ok_no_fault ds f (unit_at 199 ts) (unit_read ts ds h) e
 
 -- the grammar is unambiguous
 abbrev found : Result (List ItemT) Fault → List ItemT → List ItemT

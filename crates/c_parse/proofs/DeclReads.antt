@@ -1,33 +1,29 @@
 -- What the grammar derives of variables, members, parameters and the values of an enumeration is read, or is too deep.
-use Rattle.std.proofs.Common.{◌≡◌, ℕ, zero, suc, ◌+◌, ◌<◌, ◌≤◌, Bool, true, false, cond, List, [], ◌∷◌, ◌++◌, length, Option, Some, None, Result, Ok, Err, refl, sym, subst, arith}
+use Rattle.std.proofs.Common.{◌≡◌, ℕ, zero, suc, ◌+◌, ◌<◌, ◌≤◌, true, false, List, [], ◌∷◌, ◌++◌, length, Option, Some, None, Ok, refl, subst, arith}
 use Rattle.std.specs.Prelude.{max, ◌||◌}
 use Rattle.std.proofs.lemmas.List.{append-nil}
-use Rattle.c_lex.specs.declared.token.Punct.{Punct}
 use Rattle.c_lex.specs.declared.token.Punct.TheVariants as m
-use Rattle.c_tree.specs.Tree as t
 use Rattle.c_tree.specs.Tree.{ExprT, TypeT, InitT, OneI, ListI, VarT}
 use Rattle.c_tree.specs.View.{inits}
-use Rattle.c_tree.specs.Depth.{expr_depth, type_depth, init_depth, inits_depth, var_depth, vars_depth, maybe_expr_depth, values_depth}
-use Rattle.c_parse.specs.declared.class.Key.TheVariants as key
-use Rattle.c_parse.specs.declared.fault.Fault.{Fault}
+use Rattle.c_tree.specs.Depth.{type_depth, init_depth, inits_depth, var_depth, vars_depth, maybe_expr_depth, values_depth}
 use Rattle.c_parse.specs.declared.lead.TypeMark.TheVariants as type_mark
-use Rattle.c_parse.specs.Tok.{Tok, keyword, word, mark}
+use Rattle.c_parse.specs.Tok.{Tok, word, mark}
 use Rattle.c_parse.specs.Scope.{Context, is_type, span}
-use Rattle.c_parse.specs.Reader.{◌>>=◌, Got, Reader, Turn, loop, repeat, goes_on, behind, name, at_comma, at_more, at_assign, at_open_brace, at_close_brace, at_close_paren, end_list, semicolon}
+use Rattle.c_parse.specs.Reader.{◌>>=◌, Got, Reader, Turn, name, at_comma, at_more, at_assign, at_open_brace, at_close_brace, at_close_paren, end_list, semicolon}
 use Rattle.c_parse.specs.Leads.{begins_expr, begins_type, type_mark_at}
-use Rattle.c_parse.specs.Reading.{level_at, expr_at, type_read}
-use Rattle.c_parse.specs.ReadingLists.{pushed, comma_by, comma_turn, more_turn, separated, listed}
-use Rattle.c_parse.specs.ReadingDeclarations.{init_by, init_at, bare_var, field, var_by, var, vars_at, member_at, members_by, members_turn, members_at, param_at, params_by, at_void, params_at, value_by, value}
+use Rattle.c_parse.specs.Reading.{type_read}
+use Rattle.c_parse.specs.ReadingLists.{pushed, comma_turn, more_turn, separated, listed}
+use Rattle.c_parse.specs.ReadingDeclarations.{init_by, init_at, field, var, vars_at, member_at, members_turn, members_at, param_at, at_void, params_at, value}
 use Rattle.c_parse.specs.Grammar.{Base, Ty, Expr, Level}
 use Rattle.c_parse.specs.Grammar as g
 use Rattle.c_parse.specs.Lists.{Separated, ListEnd}
 use Rattle.c_parse.specs.Lists as l
 use Rattle.c_parse.specs.Declarations as d
 use Rattle.c_parse.specs.Declarations.{Init, Inits, Field, Var, Vars, Member, Members, Param, Params, Value}
-use Rattle.c_parse.proofs.Outcomes.{Reads, read, over, reads_is, bind_reads, bind_twice, none_reads}
-use Rattle.c_parse.proofs.Fronts.{Ends, Ends_less, end_ends, expr_begins, level_begins, ty_type, expr_no_type}
-use Rattle.c_parse.proofs.Sizes.{expr_shorter, level_shorter, ty_shorter, type_deep}
-use Rattle.c_parse.proofs.ListReads.{Parts, Turned, stop, next, Several, several, several_reads, several_shorter, turned_reads}
+use Rattle.c_parse.proofs.Outcomes.{Reads, read, reads_is, bind_reads, none_reads}
+use Rattle.c_parse.proofs.Fronts.{Ends, Ends_less, end_ends, expr_begins, ty_type}
+use Rattle.c_parse.proofs.Sizes.{expr_shorter, level_shorter, ty_shorter}
+use Rattle.c_parse.proofs.ListReads.{Parts, Turned, stop, next, Several, several, several_reads}
 use Rattle.c_parse.proofs.ExprReads.{ty_reads, expr_reads, level_reads}
 
 -- what ends an expression is no assignment
@@ -236,7 +232,7 @@ pub vars_reads : {c : Context} {ts rest : List Tok} {vs : List VarT} → Vars c 
 vars_reads {c = c} (d.vars {ts = ts} {y = y} h s) ends e zero = vars_none c ts (ty_type h) (omega (arith, vars_deep s))
 vars_reads {c = c} (d.vars {ts = ts} {y = y} h s) ends e (suc n) = reads_is _ _ (vars_is c n ts)
     (bind_reads _ (ty_reads h (vars_front s) n) (λ deep. omega (arith, vars_deep s))
-      (λ fits. separated_reads var_depth vars_depth refl (λ x xs. refl) (Var c y) (var c n y) (suc n) (λ us rest x v ends'. var_reads n fits v ends') (λ us rest x v. var_shorter v) s ends e))
+    (λ fits. separated_reads var_depth vars_depth refl (λ x xs. refl) (Var c y) (var c n y) (suc n) (λ us rest x v ends'. var_reads n fits v ends') (λ us rest x v. var_shorter v) s ends e))
 
 member_is : (c : Context) (n : ℕ) (ts : List Tok) → member_at c (suc n) ts ≡ (type_read c n ts >>= λ y. separated (field c y.0) y.1 >>= λ vs. semicolon vs.1 >>= λ rest. Ok (vs.0, rest))
 unfolding member_at
@@ -256,8 +252,8 @@ member_reads : {c : Context} {ts rest : List Tok} {vs : List VarT} → Member c 
 member_reads {c = c} (d.member {ts = ts} {y = y} h s) zero = member_none c ts (ty_type h) (omega (arith, fields_deep s))
 member_reads {c = c} (d.member {ts = ts} {rest = rest} {y = y} h s) (suc n) = reads_is _ _ (member_is c n ts)
     (bind_reads _ (ty_reads h (fields_front s) n) (λ deep. omega (arith, fields_deep s))
-      (λ fits. bind_reads _ (separated_reads var_depth vars_depth refl (λ x xs. refl) (Field c y) (field c y) (suc n) (λ us rest x v ends'. field_reads (suc n) (omega arith) v) (λ us rest x v. field_shorter v) s (end_ends 11 m.Semicolon rest tt) refl)
-        (λ deep. deep) (λ le. read le)))
+    (λ fits. bind_reads _ (separated_reads var_depth vars_depth refl (λ x xs. refl) (Field c y) (field c y) (suc n) (λ us rest x v ends'. field_reads (suc n) (omega arith) v) (λ us rest x v. field_shorter v) s (end_ends 11 m.Semicolon rest tt) refl)
+    (λ deep. deep) (λ le. read le)))
 
 vars_depth-append : (xs ys : List VarT) → vars_depth (xs ++ ys) ≡ max (vars_depth xs) (vars_depth ys)
 vars_depth-append [] ys = omega arith

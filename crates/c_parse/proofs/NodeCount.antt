@@ -1,5 +1,5 @@
 -- A unit has at most as many nodes as tokens: each node answers for a token of its own.
-use Rattle.std.proofs.Common.{◌≡◌, ℕ, zero, suc, ◌+◌, ◌<◌, ◌≤◌, List, [], ◌∷◌, ◌++◌, length, Option, Some, None, refl, arith}
+use Rattle.std.proofs.Common.{◌≡◌, ℕ, ◌+◌, ◌<◌, ◌≤◌, List, [], ◌∷◌, ◌++◌, length, Option, arith}
 use Rattle.c_tree.specs.Tree.{ExprT, TypeT, InitT, VarT, StmtT, MaybeS, ArmT, ItemT}
 use Rattle.c_tree.specs.View.{exprs, inits, stmts, arms}
 use Rattle.c_tree.specs.Count.{expr_nodes, exprs_nodes, init_nodes, inits_nodes, maybe_expr_nodes, var_nodes, vars_nodes, stmt_nodes, maybe_nodes, stmts_nodes, arm_nodes, arms_nodes, values_nodes, item_nodes, unit_nodes}

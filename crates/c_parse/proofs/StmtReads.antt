@@ -1,6 +1,6 @@
 -- What the grammar derives of statements is read, where there is room for it, and is otherwise too deep.
-use Rattle.std.proofs.Common.{◌≡◌, ℕ, zero, suc, ◌+◌, ◌<◌, ◌≤◌, Bool, true, false, cond, List, [], ◌∷◌, ◌++◌, length, Option, Some, None, Result, Ok, Err, refl, sym, arith}
-use Rattle.std.specs.Prelude.{max, ◌||◌}
+use Rattle.std.proofs.Common.{◌≡◌, ℕ, zero, suc, ◌<◌, ◌≤◌, true, false, List, [], ◌∷◌, length, Option, Some, None, Ok, refl, arith}
+use Rattle.std.specs.Prelude.{◌||◌}
 use Rattle.c_lex.specs.declared.token.Punct.{Punct}
 use Rattle.c_lex.specs.declared.token.Punct.TheVariants as m
 use Rattle.c_tree.specs.declared.operator.UnOp.{UnOp}
@@ -8,22 +8,17 @@ use Rattle.c_tree.specs.declared.operator.StepOp.{StepOp}
 use Rattle.c_tree.specs.Tree as t
 use Rattle.c_tree.specs.Tree.{ExprT, TypeT, VarT, StmtT, MaybeS, ArmT}
 use Rattle.c_tree.specs.View.{stmts, arms}
-use Rattle.c_tree.specs.Depth.{expr_depth, vars_depth, maybe_expr_depth, stmt_depth, maybe_depth, stmts_depth, arm_depth, arms_depth}
+use Rattle.c_tree.specs.Depth.{expr_depth, maybe_expr_depth, stmt_depth, maybe_depth, stmts_depth, arm_depth, arms_depth}
 use Rattle.c_parse.specs.declared.class.Key.TheVariants as key
-use Rattle.c_parse.specs.declared.fault.Fault.{Fault}
-use Rattle.c_parse.specs.declared.lead.StmtLead.{StmtLead}
 use Rattle.c_parse.specs.declared.lead.StmtLead.TheVariants as stmt
-use Rattle.c_parse.specs.declared.lead.ArmLead.{ArmLead}
 use Rattle.c_parse.specs.declared.lead.ArmLead.TheVariants as arm
-use Rattle.c_parse.specs.Tok.{Tok, keyword, word, number, character, text, mark}
-use Rattle.c_parse.specs.Scope.{Context, is_type, span}
+use Rattle.c_parse.specs.Tok.{Tok, keyword, number, character, mark}
+use Rattle.c_parse.specs.Scope.{Context}
 use Rattle.c_parse.specs.Marks.{prefix, step_before, value}
-use Rattle.c_parse.specs.Reader.{◌>>=◌, Got, Reader, Turn, loop, repeat, behind, at_close_brace, close_brace, close_paren, at_else_word}
-use Rattle.c_parse.specs.Leads.{begins_expr, begins_type, begins_stmt, is_some_stmt, stmt_of, stmt_at, is_some_arm, arm_of, arm_at}
-use Rattle.c_parse.specs.Reading.{level_at, expr_at, type_read}
-use Rattle.c_parse.specs.ReadingLists.{pushed, brace_by, brace_turn, braced}
-use Rattle.c_parse.specs.ReadingDeclarations.{vars_at}
-use Rattle.c_parse.specs.ReadingStatements.{maybe_by, maybe_at, first_by, first_at, Bodies, test_at, if_by, if_with, while_with, do_with, for_with, switch_with, stmt_by, stmt_with, arm_by, arm_with, bodies, stmt_read, arm_read}
+use Rattle.c_parse.specs.Reader.{◌>>=◌, Got, Reader, at_close_brace, at_else_word}
+use Rattle.c_parse.specs.Leads.{begins_expr, begins_type, begins_stmt, stmt_at, is_some_arm, arm_at}
+use Rattle.c_parse.specs.ReadingLists.{pushed, brace_turn, braced}
+use Rattle.c_parse.specs.ReadingStatements.{maybe_at, first_by, first_at, test_at, stmt_with, arm_with, bodies, stmt_read, arm_read}
 use Rattle.c_parse.specs.Grammar.{Base, Ty, Expr, Level, Unary, Primary}
 use Rattle.c_parse.specs.Grammar as g
 use Rattle.c_parse.specs.Declarations.{Vars}
@@ -31,11 +26,11 @@ use Rattle.c_parse.specs.Declarations as d
 use Rattle.c_parse.specs.Statements.{NoElse, Maybe, First, Stmt, Stmts, Arm, Arms}
 use Rattle.c_parse.specs.Statements as s
 use Rattle.c_parse.proofs.Outcomes.{Reads, read, over, reads_is, bind_reads, none_reads}
-use Rattle.c_parse.proofs.Fronts.{Ends, Ends_less, end_ends, expr_begins, level_begins, expr_no_type}
+use Rattle.c_parse.proofs.Fronts.{Ends, end_ends, expr_begins, expr_no_type}
 use Rattle.c_parse.proofs.Sizes.{expr_shorter, level_shorter}
 use Rattle.c_parse.proofs.ListReads.{Parts, Turned, stop, next, turned_reads}
 use Rattle.c_parse.proofs.ExprReads.{expr_reads, level_reads}
-use Rattle.c_parse.proofs.DeclReads.{vars_reads, vars_type, vars_shorter, vars_deep}
+use Rattle.c_parse.proofs.DeclReads.{vars_reads, vars_type, vars_shorter}
 
 -- what an expression begins with begins no other statement, and no arm
 record Plain (c : Context) (ts : List Tok) : Type 0 where
@@ -281,7 +276,7 @@ mutual
       (bind_reads _ (stmt_reads h n) (λ deep. omega arith) (λ fits. bind_reads _ (test_reads e n) (λ deep. omega arith) (λ le. read (omega arith))))
   stmt_reads {c = c} (s.for {ts = ts} f x y h) (suc n) = reads_is _ _ (stmt-is c n (keyword key.For ∷ mark m.OpenParen ∷ ts))
       (bind_reads _ (first_reads f n) (λ deep. omega arith) (λ lf. bind_reads _ (maybe_reads m.Semicolon tt x n) (λ deep. omega arith) (λ lx.
-        bind_reads _ (maybe_reads m.CloseParen tt y n) (λ deep. omega arith) (λ ly. bind_reads _ (stmt_reads h n) (λ deep. omega arith) (λ lh. read (omega arith))))))
+      bind_reads _ (maybe_reads m.CloseParen tt y n) (λ deep. omega arith) (λ ly. bind_reads _ (stmt_reads h n) (λ deep. omega arith) (λ lh. read (omega arith))))))
   stmt_reads {c = c} (s.switch {ts = ts} e h) (suc n) = reads_is _ _ (stmt-is c n (keyword key.Switch ∷ mark m.OpenParen ∷ ts))
       (bind_reads _ (test_reads e n) (λ deep. omega arith) (λ fits. bind_reads _ (braced_reads arm_parts n (λ us. arm_read c n us) (arms_turned h refl n)) (λ deep. omega arith) (λ le. read (omega arith))))
   stmt_reads {c = c} (s.return {ts = ts} e) (suc n) = reads_is _ _ (stmt-is c n (keyword key.Return ∷ ts))

@@ -1,5 +1,5 @@
 -- A type that is read is read the same with less room, where it has that little depth.
-use Rattle.std.proofs.Common.{◌≡◌, ℕ, zero, suc, ◌+◌, ◌<◌, ◌≤◌, Bool, true, false, List, [], ◌∷◌, length, Option, Some, None, Result, Ok, Err, refl, sym, arith}
+use Rattle.std.proofs.Common.{◌≡◌, ℕ, zero, suc, ◌<◌, true, List, length, Option, Some, None, Result, Ok, refl, arith}
 use Rattle.std.specs.Prelude.{nat_lt}
 use Rattle.std.proofs.lemmas.Bool.{ltb-true}
 use Rattle.c_tree.specs.Tree.{TypeT, PointerY}
@@ -9,12 +9,12 @@ use Rattle.c_parse.specs.declared.lead.TypeMark.{TypeMark}
 use Rattle.c_parse.specs.declared.lead.TypeMark.TheVariants as type_mark
 use Rattle.c_parse.specs.Tok.{Tok}
 use Rattle.c_parse.specs.Scope.{Context}
-use Rattle.c_parse.specs.Reader.{◌>>=◌, Got, above, loop, repeat, behind}
-use Rattle.c_parse.specs.Leads.{begins_type, type_mark_at}
-use Rattle.c_parse.specs.Reading.{Readers, run_with, type_mark_by, type_mark_turn, base, type_with, readers, type_read}
+use Rattle.c_parse.specs.Reader.{Got, loop, behind}
+use Rattle.c_parse.specs.Leads.{type_mark_at}
+use Rattle.c_parse.specs.Reading.{Readers, run_with, type_mark_by, type_mark_turn, base, readers, type_read}
 use Rattle.c_parse.proofs.FrontsRead.{bind_ok, above_ok}
-use Rattle.c_parse.proofs.Soundness.{Found, repeat_runs, type_derived}
-use Rattle.c_parse.proofs.Outcomes.{Reads, read, over, fits_is}
+use Rattle.c_parse.proofs.Soundness.{repeat_runs, type_derived}
+use Rattle.c_parse.proofs.Outcomes.{fits_is}
 use Rattle.c_parse.proofs.ExprReads.{ty_reads}
 
 abbrev held : Option (Got TypeT) → Result (Option (Got TypeT)) Fault
@@ -35,7 +35,7 @@ type_ends c zero ts x e = absurd cc
 type_ends c (suc n) ts x e =
     let p = bind_ok (base c ts) (λ a. loop (type_mark_turn (readers c n) (suc n)) a.0 a.1) x e in
     repeat_runs (type_mark_turn (readers c n) (suc n)) (λ a us b rest. type_mark_at rest ≡ type_mark.Nothing)
-      (λ a us is. by_none (readers c n) (suc n) a us (type_mark_at us) is) (λ a us b y vs rest is h. h) (suc (length p.0.1)) p.0.0 p.0.1 x p.2
+    (λ a us is. by_none (readers c n) (suc n) a us (type_mark_at us) is) (λ a us b y vs rest is h. h) (suc (length p.0.1)) p.0.0 p.0.1 x p.2
 
 pub type_again : (c : Context) (room : ℕ) (ts : List Tok) (x : Got TypeT) → type_read c (suc room) ts ≡ Ok x → nat_lt (type_depth x.0) (suc room) ≡ true → type_read c room ts ≡ Ok x
 type_again c room ts x e lt =

@@ -1,27 +1,21 @@
 -- What the grammar derives of a unit is read, where there is room for it, and is otherwise too deep.
-use Rattle.std.proofs.Common.{◌≡◌, ℕ, zero, suc, ◌+◌, ◌<◌, ◌≤◌, Bool, true, false, cond, ltb, List, [], ◌∷◌, ◌++◌, length, Option, Some, None, Result, Ok, Err, refl, sym, ap, subst, ◌∙◌, append_assoc, arith, ◌⊎◌, inl, inr}
+use Rattle.std.proofs.Common.{◌≡◌, ℕ, suc, ◌+◌, ◌<◌, ◌≤◌, Bool, true, false, ltb, List, [], ◌∷◌, ◌++◌, length, Some, None, Result, Ok, Err, refl, sym, ap, subst, ◌∙◌, append_assoc, arith, ◌⊎◌, inl, inr}
 use Rattle.std.specs.Prelude.{max, ◌||◌}
 use Rattle.std.proofs.lemmas.Bool.{cases_lt, lt-ltb, le-ltb}
 use Rattle.std.proofs.lemmas.List.{append-nil}
 use Rattle.c_lex.specs.declared.token.Punct.TheVariants as m
-use Rattle.c_tree.specs.Tree as t
-use Rattle.c_tree.specs.Tree.{ExprT, TypeT, VoidY, VarT, StmtT, ItemT, RecordD, EnumD, TypedefD, VarsD, FunctionD}
+use Rattle.c_tree.specs.Tree.{TypeT, VarT, StmtT, ItemT, VarsD, FunctionD}
 use Rattle.c_tree.specs.View.{stmts}
-use Rattle.c_tree.specs.Depth.{type_depth, vars_depth, values_depth, stmts_depth, maybe_stmts_depth, item_depth, unit_depth}
+use Rattle.c_tree.specs.Depth.{type_depth, vars_depth, item_depth, unit_depth}
 use Rattle.c_parse.specs.declared.class.Key.TheVariants as key
 use Rattle.c_parse.specs.declared.fault.Fault.{Fault}
 use Rattle.c_parse.specs.declared.fault.Fault.TheVariants.{Syntax, TooDeep}
-use Rattle.c_parse.specs.declared.lead.ItemLead.{ItemLead}
 use Rattle.c_parse.specs.declared.lead.ItemLead.TheVariants as item
 use Rattle.c_parse.specs.Tok.{Tok, keyword, word, mark}
-use Rattle.c_parse.specs.Scope.{Context, is_type, declare, span}
-use Rattle.c_parse.specs.Reader.{◌>>=◌, Got, Reader, no_room, loop, repeat, goes_on, behind, name, at_comma, at_assign, at_semicolon, at_open_paren, at_more, close_brace, semicolon, end_list}
-use Rattle.c_parse.specs.Leads.{item_at, begins_type}
-use Rattle.c_parse.specs.Reading.{type_read}
-use Rattle.c_parse.specs.ReadingLists.{listed, braced}
-use Rattle.c_parse.specs.ReadingDeclarations.{vars_at, members_at, params_at, value}
-use Rattle.c_parse.specs.ReadingStatements.{stmt_read}
-use Rattle.c_parse.specs.ReadingUnits.{record_by, record_at, enum_at, typedef_at, body_by, function_at, vars_by, typed_by, typed_at, item_by, item_read, Unit_so_far, item_turn, unit_at}
+use Rattle.c_parse.specs.Scope.{Context, is_type, span}
+use Rattle.c_parse.specs.Reader.{◌>>=◌, Got, repeat, goes_on, at_comma, at_assign, at_semicolon, at_open_paren}
+use Rattle.c_parse.specs.Leads.{item_at}
+use Rattle.c_parse.specs.ReadingUnits.{function_at, vars_by, typed_at, item_read, Unit_so_far, item_turn, unit_at}
 use Rattle.c_parse.specs.Grammar.{Base, Ty}
 use Rattle.c_parse.specs.Grammar as g
 use Rattle.c_parse.specs.Lists.{Separated, ListEnd}
@@ -31,11 +25,11 @@ use Rattle.c_parse.specs.Declarations as d
 use Rattle.c_parse.specs.Statements.{Stmts}
 use Rattle.c_parse.specs.Units.{record_word, Gives, Item, behind_item, Items, Unit_, Derives}
 use Rattle.c_parse.specs.Units as u
-use Rattle.c_parse.proofs.Outcomes.{Reads, read, over, reads_is, bind_reads, none_reads, repeat_ends, repeat_goes, bind_twice, fits_is, over_is, no_syntax}
-use Rattle.c_parse.proofs.Fronts.{Ends, end_ends}
+use Rattle.c_parse.proofs.Outcomes.{Reads, read, over, bind_reads, repeat_ends, repeat_goes, bind_twice, fits_is, over_is, no_syntax}
+use Rattle.c_parse.proofs.Fronts.{end_ends}
 use Rattle.c_parse.proofs.Sizes.{ty_shorter}
 use Rattle.c_parse.proofs.ExprReads.{ty_reads}
-use Rattle.c_parse.proofs.DeclReads.{ends_assign, list_end_more, list_end_ends, list_end_reads, list_end_shorter, vars_deep, vars_reads, vars_shorter, members_read, members_shorter, params_read, params_up, values_read, values_shorter}
+use Rattle.c_parse.proofs.DeclReads.{list_end_more, list_end_ends, list_end_reads, list_end_shorter, vars_deep, vars_reads, vars_shorter, members_read, members_shorter, params_read, params_up, values_read, values_shorter}
 use Rattle.c_parse.proofs.StmtReads.{stmts_up, body_reads}
 
 record_item : (o : Tok) (k : Bool) (ts : List Tok) → record_word o ≡ Some k → item_at (o ∷ ts) ≡ item.Record k
@@ -143,9 +137,9 @@ items_read : {c : Context} {ts : List Tok} {ds : List ItemT} → Items c ts ds �
 items_read (u.end {c = c}) n pos xs k lt = nothing_more c xs (repeat (item_turn n) k (c, xs) []) (repeat_ends (item_turn n) (c, xs) [] k lt refl (omega arith))
 items_read (u.more {c = c} {ts = ts} {rest = rest} {d = x} {ds = ds} h r) n pos xs k lt =
     repeat_goes (item_turn n) (c, xs) ts k lt (item_read c n ts >>= λ x. Ok (Some ((behind_item x.0 c, xs ++ x.0 ∷ []), x.1))) (item_turned n (c, xs) ts (omega (arith, item_shorter h))) (λ j is.
-      bind_twice _ (goes_on (repeat (item_turn n) j) (c, xs) ts) (item_reads h n pos) (λ deep. omega arith)
-        (λ fits. deeper_reads (item_depth x) (unit_depth ds) _ fits (regroup (after_items (behind_item x c) ds) xs (x ∷ []) ds (repeat (item_turn n) j (behind_item x c, xs ++ x ∷ []) rest)
-          (items_read r n pos (xs ++ x ∷ []) j (omega (arith, item_shorter h))))))
+    bind_twice _ (goes_on (repeat (item_turn n) j) (c, xs) ts) (item_reads h n pos) (λ deep. omega arith)
+    (λ fits. deeper_reads (item_depth x) (unit_depth ds) _ fits (regroup (after_items (behind_item x c) ds) xs (x ∷ []) ds (repeat (item_turn n) j (behind_item x c, xs ++ x ∷ []) rest)
+    (items_read r n pos (xs ++ x ∷ []) j (omega (arith, item_shorter h))))))
 
 -- what the grammar derives, of any depth, is read where there is room for it, and is otherwise too deep
 pub unit_reads : (ts : List Tok) (ds : List ItemT) → Unit_ ts ds → (n : ℕ) → 0 < n → Reads (unit_depth ds) (suc n) ds (unit_at n ts)

@@ -1,31 +1,22 @@
 -- What the parts of the grammar begin with, what may come behind them, and that each takes a token at least.
-use Rattle.std.proofs.Common.{◌≡◌, ℕ, zero, suc, ◌+◌, ◌<◌, ◌≤◌, Bool, true, false, cond, eqb, List, [], ◌∷◌, length, Option, Some, None, Result, Ok, Err, refl, sym, arith}
+use Rattle.std.proofs.Common.{◌≡◌, ℕ, suc, ◌<◌, ◌≤◌, true, false, eqb, List, ◌∷◌, Option, Some, None, refl, arith}
 use Rattle.std.proofs.lemmas.Bool.Decides.{nat_tests}
 use Rattle.c_lex.specs.declared.token.Punct.{Punct}
 use Rattle.c_lex.specs.declared.token.Punct.TheVariants as m
 use Rattle.c_tree.specs.declared.operator.UnOp.{UnOp}
 use Rattle.c_tree.specs.declared.operator.StepOp.{StepOp}
 use Rattle.c_tree.specs.declared.operator.BinOp.{BinOp}
-use Rattle.c_tree.specs.Tree.{ExprT, BinaryE, TypeT}
-use Rattle.c_tree.specs.Depth.{expr_depth, type_depth}
-use Rattle.c_parse.specs.declared.class.Key.{Key}
+use Rattle.c_tree.specs.Tree.{ExprT, TypeT}
 use Rattle.c_parse.specs.declared.class.Key.TheVariants as key
-use Rattle.c_parse.specs.declared.lead.Start.{Start}
 use Rattle.c_parse.specs.declared.lead.Start.TheVariants as start
-use Rattle.c_parse.specs.declared.lead.Lead.{Lead}
 use Rattle.c_parse.specs.declared.lead.Lead.TheVariants as lead
-use Rattle.c_parse.specs.declared.lead.Suffix.{Suffix}
 use Rattle.c_parse.specs.declared.lead.Suffix.TheVariants as suffix
-use Rattle.c_parse.specs.declared.lead.TypeLead.{TypeLead}
-use Rattle.c_parse.specs.declared.lead.TypeLead.TheVariants as type_
-use Rattle.c_parse.specs.declared.lead.TypeMark.{TypeMark}
-use Rattle.c_parse.specs.declared.lead.TypeMark.TheVariants as type_mark
-use Rattle.c_parse.specs.Tok.{Tok, keyword, refused, word, number, character, text, mark}
-use Rattle.c_parse.specs.Scope.{Context, is_type}
-use Rattle.c_parse.specs.Marks.{prefix, prefix_mark, step_before, step_behind, binary, assigner, value}
-use Rattle.c_parse.specs.Reader.{at_open_paren, is_open_paren, at_comma, at_close_paren, at_close_brace, at_open_bracket}
-use Rattle.c_parse.specs.Leads.{type_of, type_at, begins_type, type_mark_at, type_mark_of, start_of, start_at, lead_of, lead_at, begins_expr, suffix_of, suffix_at}
-use Rattle.c_parse.specs.Reading.{of_level, operator_at, assigner_at, is_unary}
+use Rattle.c_parse.specs.Tok.{Tok, keyword, number, character, mark}
+use Rattle.c_parse.specs.Scope.{Context}
+use Rattle.c_parse.specs.Marks.{prefix, step_before, step_behind, binary, assigner, value}
+use Rattle.c_parse.specs.Reader.{at_open_paren, is_open_paren}
+use Rattle.c_parse.specs.Leads.{begins_type, start_at, lead_of, begins_expr, suffix_of, suffix_at}
+use Rattle.c_parse.specs.Reading.{operator_at, assigner_at, is_unary}
 use Rattle.c_parse.specs.Grammar as g
 use Rattle.c_parse.specs.Grammar.{Base, Ty, Marks, Run, Expr, Level, Tail, Unary, Suffixes, Primary, Exprs, NoBracket}
 
@@ -292,6 +283,7 @@ unary_is (g.postfix p s) = suffixes_is s (primary_is p)
     primary_is g.text_ = refl
     primary_is g.null = refl
     primary_is (g.paren d) = refl
+
     suffixes_is : {c : Context} {at ts rest : List Tok} {a e : ExprT} → Suffixes c at a ts e rest → is_unary a ≡ true → is_unary e ≡ true
     suffixes_is g.bare u = u
     suffixes_is (g.index d s) u = suffixes_is s refl

@@ -6,8 +6,13 @@ pub mod Sizes
 pub mod ListReads
 pub mod ExprReads
 pub mod DeclReads
+pub mod StmtReads
+pub mod UnitReads
 pub mod FrontsRead
 pub mod Soundness
 pub mod SoundLists
 pub mod SoundDeclarations
 pub mod SoundStatements
+pub mod TypeAgain
+pub mod NodeCount
+pub mod SoundUnits

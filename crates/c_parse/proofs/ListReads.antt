@@ -1,5 +1,5 @@
 -- Loops over lists give what their elements give.
-use Rattle.std.proofs.Common.{◌≡◌, ℕ, zero, suc, ◌+◌, ◌<◌, ◌≤◌, Bool, true, false, List, [], ◌∷◌, ◌++◌, length, Option, Some, None, Result, Ok, Err, refl, sym, subst, append_assoc, arith}
+use Rattle.std.proofs.Common.{◌≡◌, ℕ, suc, ◌<◌, ◌≤◌, List, [], ◌++◌, length, Option, Some, None, Result, Ok, sym, subst, append_assoc, arith}
 use Rattle.std.specs.Prelude.{max}
 use Rattle.std.proofs.lemmas.List.{append-nil}
 use Rattle.c_parse.specs.declared.fault.Fault.{Fault}
@@ -23,7 +23,7 @@ module _ {A B : Type 0} (p : Parts A B) (room : ℕ) (turn : Turn (List A)) wher
   pub data Turned : List Tok → List A → List Tok → Type 0 where
     stop : {rest : List Tok} → ((xs : List A) → turn xs rest ≡ Ok None) → Turned rest [] rest
     next : {ts mid rest : List Tok} {x : B} {xs : List A} {res : Result (Got B) Fault} → ((ys : List A) → turn ys ts ≡ (res >>= add ys)) → Reads (p.depth x) room (x, mid) res
-      → length mid < length ts → Turned mid xs rest → Turned ts (p.part x ++ xs) rest
+        → length mid < length ts → Turned mid xs rest → Turned ts (p.part x ++ xs) rest
 
   regroup : {D R : ℕ} (xs ys zs : List A) (rest : List Tok) (res : Result (Got (List A)) Fault) → Reads D R ((xs ++ ys) ++ zs, rest) res → Reads D R (xs ++ (ys ++ zs), rest) res
   regroup {D = D} {R = R} xs ys zs rest res h = subst (λ (l : List A). Reads D R (l, rest) res) (append_assoc xs ys zs) h
@@ -42,7 +42,7 @@ module _ {A B : Type 0} (p : Parts A B) (room : ℕ) (turn : Turn (List A)) wher
   turned_reads (stop {rest = rest} e) ys n lt = nothing_more ys rest (repeat turn n ys rest) (repeat_ends turn ys rest n lt (e ys) (omega (arith, p.none)))
   turned_reads (next {ts = ts} {mid = mid} {rest = rest} {x = x} {xs = xs} {res = res} e h less t) ys n lt =
       repeat_goes turn ys ts n lt (res >>= add ys) (e ys) (λ k is. bind_twice (add ys) (goes_on (repeat turn k) ys ts) h (λ deep. deeper x xs deep)
-        (λ fits. deepest_reads x xs (repeat turn k (ys ++ p.part x) mid) fits (regroup ys (p.part x) xs rest (repeat turn k (ys ++ p.part x) mid) (turned_reads t (ys ++ p.part x) k (omega arith)))))
+      (λ fits. deepest_reads x xs (repeat turn k (ys ++ p.part x) mid) fits (regroup ys (p.part x) xs rest (repeat turn k (ys ++ p.part x) mid) (turned_reads t (ys ++ p.part x) k (omega arith)))))
 
   -- a list that begins outside the loop
   pub data Several (reader : Reader B) : List Tok → List A → List Tok → Type 0 where

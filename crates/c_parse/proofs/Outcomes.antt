@@ -1,5 +1,5 @@
 -- What a reader gives of a tree with so many trees on a path: the tree, where there is room for them, and otherwise that it is too deep.
-use Rattle.std.proofs.Common.{◌≡◌, ℕ, zero, suc, ◌+◌, ◌<◌, ◌≤◌, Bool, true, false, cond, ltb, List, [], ◌∷◌, length, Option, Some, None, Result, Ok, Err, refl, sym, subst, arith, ◌⊎◌, inl, inr}
+use Rattle.std.proofs.Common.{◌≡◌, ℕ, zero, suc, ◌<◌, ◌≤◌, Bool, true, List, length, Option, None, Result, Ok, Err, refl, sym, subst, arith, ◌⊎◌, inl, inr}
 use Rattle.std.proofs.lemmas.Bool.{cases_lt, lt-ltb, le-ltb}
 use Rattle.c_parse.specs.declared.fault.Fault.{Fault}
 use Rattle.c_parse.specs.declared.fault.Fault.TheVariants.{Syntax, TooDeep}
@@ -57,3 +57,15 @@ module _ {A : Type 0} (turn : Turn A) (a : A) (ts : List Tok) where
   unfolding repeat
   repeat_goes zero lt o e next = absurd (omega arith)
   repeat_goes (suc n) lt o e next = rw e (next n refl)
+
+pub fits_is : {A : Type 0} (d r : ℕ) (x : A) (res : Result A Fault) → Reads d r x res → d ≤ r → res ≡ Ok x
+fits_is d r x _ (read le) fits = refl
+fits_is d r x _ (over lt) fits = absurd (omega arith)
+
+pub over_is : {A : Type 0} (d r : ℕ) (x : A) (res : Result A Fault) → Reads d r x res → r < d → (n : ℕ) × (res ≡ Err (TooDeep n))
+over_is d r x _ (read le) lt = absurd (omega arith)
+over_is d r x _ (over {n = n} lt') lt = (n, refl)
+
+pub no_syntax : {A : Type 0} (d r n : ℕ) (x : A) (res : Result A Fault) → Reads d r x res → res ≡ Err (Syntax n) → ⊥
+no_syntax d r n x _ (read le) e = cc
+no_syntax d r n x _ (over lt) e = cc

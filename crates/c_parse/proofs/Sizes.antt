@@ -1,6 +1,5 @@
 -- Each part of an expression takes a token at least, and what goes on with a tree is no less deep than the tree.
-use Rattle.std.proofs.Common.{◌≡◌, ℕ, zero, suc, ◌+◌, ◌<◌, ◌≤◌, List, [], ◌∷◌, length, arith}
-use Rattle.std.specs.Prelude.{max}
+use Rattle.std.proofs.Common.{ℕ, ◌<◌, ◌≤◌, List, length, arith}
 use Rattle.c_tree.specs.Tree as t
 use Rattle.c_tree.specs.Tree.{ExprT, TypeT}
 use Rattle.c_tree.specs.Depth.{expr_depth, type_depth}
@@ -75,6 +74,7 @@ pub marks_deeper : {c : Context} {ts rest : List Tok} {a y : TypeT} → Marks c 
 marks_deeper g.unmarked = omega arith
 marks_deeper (g.pointer d) = omega (arith, marks_deeper d)
 marks_deeper (g.array r n d) = omega (arith, run_deeper r, marks_deeper d)
+
 pub tail_deeper : {c : Context} {k : ℕ} {at ts rest : List Tok} {a e : ExprT} → Tail c k at a ts e rest → expr_depth a ≤ expr_depth e
 tail_deeper g.ended = omega arith
 tail_deeper (g.operated h d t) = omega (arith, tail_deeper t)

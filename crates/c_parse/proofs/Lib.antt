@@ -16,3 +16,5 @@ pub mod SoundStatements
 pub mod TypeAgain
 pub mod NodeCount
 pub mod SoundUnits
+pub mod Turns
+pub mod CodeSteps

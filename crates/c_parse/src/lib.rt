@@ -2,6 +2,7 @@
 #![tactic(auto)]
 
 mod class;
+mod expression;
 mod fault;
 mod lead;
 mod leading;

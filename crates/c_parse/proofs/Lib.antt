@@ -12,3 +12,6 @@ pub mod FrontsRead
 pub mod Soundness
 pub mod TypeAgain
 pub mod NodeCount
+pub mod Locality
+pub mod Shrinking
+pub mod NoUnit

@@ -18,3 +18,6 @@ pub mod NodeCount
 pub mod SoundUnits
 pub mod Turns
 pub mod CodeSteps
+pub mod Locality
+pub mod Shrinking
+pub mod NoUnit

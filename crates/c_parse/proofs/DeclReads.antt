@@ -84,7 +84,7 @@ list_end_shorter l.brace = omega arith
 list_end_shorter l.comma = omega arith
 
 mutual
-  init_shorter : {c : Context} {ts rest : List Tok} {i : InitT} → Init c ts i rest → length rest < length ts
+  pub init_shorter : {c : Context} {ts rest : List Tok} {i : InitT} → Init c ts i rest → length rest < length ts
   init_shorter (d.one e) = expr_shorter e
   init_shorter (d.list is end) = omega (arith, inits_shorter is, list_end_shorter end)
 
@@ -170,7 +170,7 @@ name_reads c n ts h = rw h refl
 field_reads : {c : Context} {y : TypeT} {ts rest : List Tok} {v : VarT} (r : ℕ) → type_depth y < r → Field c y ts v rest → Reads (var_depth v) r (v, rest) (field c y ts)
 field_reads r lt (d.field h) = rw h (read (omega arith))
 
-field_shorter : {c : Context} {y : TypeT} {ts rest : List Tok} {v : VarT} → Field c y ts v rest → length rest < length ts
+pub field_shorter : {c : Context} {y : TypeT} {ts rest : List Tok} {v : VarT} → Field c y ts v rest → length rest < length ts
 field_shorter (d.field h) = omega arith
 
 var_shorter : {c : Context} {y : TypeT} {ts rest : List Tok} {v : VarT} → Var c y ts v rest → length rest < length ts
@@ -245,7 +245,7 @@ member_none c ts b pos = none_reads (begins_type c ts) ts b pos
 member_type : {c : Context} {ts rest : List Tok} {vs : List VarT} → Member c ts vs rest → begins_type c ts ≡ true
 member_type (d.member y s) = ty_type y
 
-member_shorter : {c : Context} {ts rest : List Tok} {vs : List VarT} → Member c ts vs rest → length rest < length ts
+pub member_shorter : {c : Context} {ts rest : List Tok} {vs : List VarT} → Member c ts vs rest → length rest < length ts
 member_shorter {c = c} (d.member {y = y} h s) = omega (arith, ty_shorter h, separated_shorter var_depth vars_depth refl (λ x xs. refl) (Field c y) (λ ts rest x v. field_shorter v) s)
 
 member_reads : {c : Context} {ts rest : List Tok} {vs : List VarT} → Member c ts vs rest → (r : ℕ) → Reads (vars_depth vs) r (vs, rest) (member_at c r ts)
@@ -303,7 +303,7 @@ param_reads {c = c} (d.param {ts = ts} h f) zero = param_none c ts (ty_type h) (
 param_reads {c = c} (d.param {ts = ts} h f) (suc n) = reads_is _ _ (param_is c n ts)
     (bind_reads _ (ty_reads h (field_front f) n) (λ deep. omega (arith, field_deep f)) (λ fits. field_reads (suc n) (omega arith) f))
 
-param_shorter : {c : Context} {ts rest : List Tok} {v : VarT} → Param c ts v rest → length rest < length ts
+pub param_shorter : {c : Context} {ts rest : List Tok} {v : VarT} → Param c ts v rest → length rest < length ts
 param_shorter (d.param h f) = omega (arith, ty_shorter h, field_shorter f)
 
 pub members_shorter : {c : Context} {ts rest : List Tok} {vs : List VarT} → Members c ts vs rest → length rest < length ts
@@ -354,7 +354,7 @@ value_reads : {c : Context} {ts rest : List Tok} {v : List ℕ × Option ExprT} 
 value_reads (d.plain_value {rest = rest} h) ends n = rw (h, ends_assign rest ends) (read (omega arith))
 value_reads (d.set_value {rest = rest} h k) ends n = rw h (bind_reads _ (level_reads k (Ends_less 10 11 rest (omega arith) ends) n) (λ deep. deep) (λ fits. read fits))
 
-value_shorter : {c : Context} {ts rest : List Tok} {v : List ℕ × Option ExprT} → Value c ts v rest → length rest < length ts
+pub value_shorter : {c : Context} {ts rest : List Tok} {v : List ℕ × Option ExprT} → Value c ts v rest → length rest < length ts
 value_shorter (d.plain_value h) = omega arith
 value_shorter (d.set_value h k) = omega (arith, level_shorter k)
 

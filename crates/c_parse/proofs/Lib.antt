@@ -21,3 +21,7 @@ pub mod CodeSteps
 pub mod Locality
 pub mod Shrinking
 pub mod NoUnit
+pub mod Placed
+pub mod Less
+pub mod ListTurns
+pub mod VarLoops

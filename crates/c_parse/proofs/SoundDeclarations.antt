@@ -92,7 +92,7 @@ vars_derived c (suc n) ts x e =
 
 -- ---- members
 
-member_derived : (c : Context) (n : ℕ) → IsSound (Member c) vars_depth n (λ ts. member_at c n ts)
+pub member_derived : (c : Context) (n : ℕ) → IsSound (Member c) vars_depth n (λ ts. member_at c n ts)
 unfolding member_at
 member_derived c zero ts x e = absurd (nothing_read _ x e)
 member_derived c (suc n) ts x e =
@@ -148,7 +148,7 @@ members_derived c n ts x e =
 
 -- ---- parameters
 
-param_derived : (c : Context) (n : ℕ) → IsSound (Param c) var_depth n (λ ts. param_at c n ts)
+pub param_derived : (c : Context) (n : ℕ) → IsSound (Param c) var_depth n (λ ts. param_at c n ts)
 unfolding param_at
 param_derived c zero ts x e = absurd (nothing_read _ x e)
 param_derived c (suc n) ts x e =

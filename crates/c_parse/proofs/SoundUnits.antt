@@ -187,7 +187,7 @@ module _ (c : Context) (n : ℕ) where
       step y d fits a i true e' = function_sound ts y.0 a.0 a.1 x (subst (λ (z : List Tok). Gives c ts y.0 z) i.0 (g.gives_type d)) fits i.1 e'
       step y d fits a i false e' = vars_sound ts a.1 x _ e'
 
-  item_sound : (ts : List Tok) (x : Got ItemT) → 0 < n → item_read c n ts ≡ Ok x → Read ts x
+  pub item_sound : (ts : List Tok) (x : Got ItemT) → 0 < n → item_read c n ts ≡ Ok x → Read ts x
   item_sound ts x pos e = step (item_at ts) refl e
     where
       step : (k : ItemLead) → item_at ts ≡ k → item_by c n ts k ≡ Ok x → Read ts x

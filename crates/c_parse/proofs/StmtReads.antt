@@ -192,7 +192,7 @@ mutual
   stmts_up s.no_stmts = omega arith
   stmts_up (s.more_stmts h r) = omega (arith, stmt_shorter h, stmts_up r)
 
-  arm_shorter : {c : Context} {ts rest : List Tok} {x : ArmT} → Arm c ts x rest → length rest < length ts
+  pub arm_shorter : {c : Context} {ts rest : List Tok} {x : ArmT} → Arm c ts x rest → length rest < length ts
   arm_shorter (s.case e) = omega (arith, level_shorter e)
   arm_shorter s.default = omega arith
   arm_shorter (s.arm_stmt h) = stmt_shorter h

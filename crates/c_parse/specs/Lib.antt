@@ -14,3 +14,5 @@ pub mod ReadingDeclarations
 pub mod ReadingStatements
 pub mod ReadingUnits
 pub mod View
+pub mod Places
+pub mod Answer

@@ -2,9 +2,12 @@
 #![tactic(auto)]
 
 mod class;
+mod error;
 mod expression;
 mod fault;
 mod lead;
 mod leading;
 mod scope;
 mod tokens;
+
+pub use error::ParseErr;

@@ -25,3 +25,11 @@ pub mod Placed
 pub mod Less
 pub mod ListTurns
 pub mod VarLoops
+pub mod Skipped
+pub mod Told
+pub mod Completion
+pub mod Begins
+pub mod BeginsLists
+pub mod BeginsDeclarations
+pub mod BeginsStatements
+pub mod BeginsUnits

@@ -21,6 +21,7 @@ use Rattle.c_parse.specs.Answer.{bad_at, answer, answered}
 use Rattle.c_parse.specs.ReadingUnits.{unit_at}
 use Rattle.c_parse.proofs.UnitReads.{unit_read, unit_deep, never_faulty}
 use Rattle.c_parse.proofs.SoundUnits.{unit_derived}
+use Rattle.c_parse.proofs.BeginsUnits.{syntax_begun, deep_begun}
 use Rattle.c_parse.proofs.NoUnit.{no_unit_begins, no_shallow_unit_begins}
 
 -- the tokens before a fault are the beginning of some unit
@@ -149,3 +150,9 @@ module _ (ts : List Tok) where
     is_deep (Err read.Memory) e t is = absurd cc
     is_deep (Err (read.Fault (Syntax n))) e t is = absurd (bad_not_deep _ _ t is)
     is_deep (Err (read.Fault (TooDeep n))) e t is = subst (λ (k : ℕ). FirstDeep ts k) (ap (λ (r : Result File ParseErr). token_in (length ts - n) r) is) (first_deep begun ts n e)
+
+pub fault_begun : SyntaxBegun
+fault_begun ts n e = syntax_begun 199 ts n e
+
+pub depth_begun : DeepBegun
+depth_begun ts n e = deep_begun 199 ts n e

@@ -5,14 +5,22 @@
 #![tactic(auto)]
 
 mod class;
+mod declaration;
 mod error;
 mod expression;
 mod fault;
 mod laws;
 mod lead;
 mod leading;
+mod parser;
 mod scope;
+mod statement;
 mod tokens;
+mod unit;
 
 pub use error::ParseErr;
 pub use laws::{tokens_are_one_unit, units_have_few_nodes};
+pub use parser::parse;
+
+#[cfg(test)]
+mod tests;

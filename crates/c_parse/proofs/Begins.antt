@@ -517,8 +517,11 @@ module _ (types : List (List ℕ)) (fresh : List ℕ) (is_fresh : is_type (recor
 
     -- a suffix goes on, or can be completed from its first token on
     suffix_good_by : (room : ℕ) (at : List Tok) (a : ExprT) (ts : List Tok) (l : Suffix) → SuffixIs ts l → is_some_suffix l ≡ true → Good SuffixR ts (suffix_by (context_of t) r at a ts l) × Deep SuffixR ts (length ts)
-    suffix_good_by room at a _ _ (told.index {ts = ts}) e = (index_good at a ts, first_deep SuffixR (mark m.OpenBracket) ts (number 0 ∷ mark m.CloseBracket ∷ [])
-        (λ after p. index_suffix _ after (indexing after)))
+    suffix_good_by room at a _ _ (told.index {ts = ts}) e = (
+      index_good at a ts,
+      first_deep SuffixR (mark m.OpenBracket) ts (number 0 ∷ mark m.CloseBracket ∷ [])
+          (λ after p. index_suffix _ after (indexing after)),
+    )
     suffix_good_by room at a _ _ (told.member {ts = ts}) e = (member_good at a ts (name (context_of t) ts) (name_good t ts), first_deep SuffixR (mark m.Dot) ts (word fresh ∷ []) (λ after p. member_suffix _ after (_, refl, (fresh, refl, is_fresh))))
     suffix_good_by room at a _ _ (told.arrow {ts = ts}) e = (arrow_good at a ts (name (context_of t) ts) (name_good t ts), first_deep SuffixR (mark m.Arrow) ts (word fresh ∷ []) (λ after p. arrow_suffix _ after (_, refl, (fresh, refl, is_fresh))))
     suffix_good_by room at a _ _ (told.stepped {o = o} {op = op} {ts = ts} h) e = (record { part = o ∷ []; is = refl; any = λ after w. stepped_suffix o op (o ∷ after) after h refl }, first_deep SuffixR o ts [] (λ after p. stepped_suffix o op (o ∷ after) after h refl))
@@ -581,8 +584,8 @@ module _ (types : List (List ℕ)) (fresh : List ℕ) (is_fresh : is_type (recor
     unfolding CastR
     cast_good ts = widen CastR UnaryR cast_unary (mark m.OpenParen ∷ ts) _ (good_behind (TokR (mark m.OpenParen)) (Seq TyR (Seq (TokR (mark m.CloseParen)) UnaryR)) (mark m.OpenParen ∷ ts) ts _ (token_frame (mark m.OpenParen) ts)
         (bind_good TyR (Seq (TokR (mark m.CloseParen)) UnaryR) (seq_word (TokR (mark m.CloseParen)) UnaryR close_paren_word unary_word) ts (r.type ts) (λ y. close_paren y.1 >>= λ mid. r.level zero mid >>= λ a. Ok (CastE y.0 a.0 (span (context_of t) (mark m.OpenParen ∷ ts) a.1), a.1)) (all.type ts)
-            (λ y e. bind_good_tokens (TokR (mark m.CloseParen)) UnaryR unary_word y.1 (close_paren y.1) (λ mid. r.level zero mid >>= λ a. Ok (CastE y.0 a.0 (span (context_of t) (mark m.OpenParen ∷ ts) a.1), a.1)) (close_paren_good y.1)
-                (λ mid. cast_operand_good (mark m.OpenParen ∷ ts) mid y.0))))
+        (λ y e. bind_good_tokens (TokR (mark m.CloseParen)) UnaryR unary_word y.1 (close_paren y.1) (λ mid. r.level zero mid >>= λ a. Ok (CastE y.0 a.0 (span (context_of t) (mark m.OpenParen ∷ ts) a.1), a.1)) (close_paren_good y.1)
+        (λ mid. cast_operand_good (mark m.OpenParen ∷ ts) mid y.0))))
 
     SizeR : Rule
     SizeR = Seq (TokR (keyword key.SizeOf)) (Seq (TokR (mark m.OpenParen)) (Seq TyR (TokR (mark m.CloseParen))))
@@ -602,9 +605,9 @@ module _ (types : List (List ℕ)) (fresh : List ℕ) (is_fresh : is_type (recor
     unfolding SizeR
     size_good ts = widen SizeR UnaryR size_unary (keyword key.SizeOf ∷ ts) _ (good_behind (TokR (keyword key.SizeOf)) (Seq (TokR (mark m.OpenParen)) (Seq TyR (TokR (mark m.CloseParen)))) (keyword key.SizeOf ∷ ts) ts _ (token_frame (keyword key.SizeOf) ts)
         (bind_good_tokens (TokR (mark m.OpenParen)) (Seq TyR (TokR (mark m.CloseParen))) (seq_word TyR (TokR (mark m.CloseParen)) type_word close_paren_word) ts (open_paren ts)
-            (λ mid. r.type mid >>= λ y. close_paren y.1 >>= λ rest. Ok (SizeOfE y.0 (span (context_of t) (keyword key.SizeOf ∷ ts) rest), rest)) (open_paren_good ts)
-            (λ mid. bind_good TyR (TokR (mark m.CloseParen)) close_paren_word mid (r.type mid) (λ y. close_paren y.1 >>= λ rest. Ok (SizeOfE y.0 (span (context_of t) (keyword key.SizeOf ∷ ts) rest), rest)) (all.type mid)
-                (λ y e. size_closed_good (keyword key.SizeOf ∷ ts) y.1 y.0))))
+        (λ mid. r.type mid >>= λ y. close_paren y.1 >>= λ rest. Ok (SizeOfE y.0 (span (context_of t) (keyword key.SizeOf ∷ ts) rest), rest)) (open_paren_good ts)
+        (λ mid. bind_good TyR (TokR (mark m.CloseParen)) close_paren_word mid (r.type mid) (λ y. close_paren y.1 >>= λ rest. Ok (SizeOfE y.0 (span (context_of t) (keyword key.SizeOf ∷ ts) rest), rest)) (all.type mid)
+        (λ y e. size_closed_good (keyword key.SizeOf ∷ ts) y.1 y.0))))
 
     unary_good_by : (room : ℕ) (ts : List Tok) (l : Start) → StartIs (context_of t) ts l → Good UnaryR ts (unary_by (context_of t) r room ts l)
     unary_good_by room _ _ (told.operator {o = o} {ts = ts} {op = op} e) = operator_good o op e ts (r.level zero ts) (operand_good ts)

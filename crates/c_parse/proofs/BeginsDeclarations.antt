@@ -35,13 +35,11 @@ use Rattle.c_parse.proofs.Told as told
 use Rattle.c_parse.proofs.Told.{StartIs, start_is, LeadIs, lead_is, SuffixIs, suffix_is, TypeIs, type_is, TypeMarkIs, type_mark_is, no_bracket, open_paren_is, close_paren_is, open_bracket_is, close_bracket_is, comma_is, star_is}
 use Rattle.c_parse.proofs.Shrinking.{turns_of_types, turns_of_exprs, turns_of_suffixes, turns_of_operators}
 use Rattle.c_parse.proofs.Completion.{Rule, Plain, SameFirst, Fits, Frame, Cut, Begun, Deep, GoodFault, Good, GoodTokens, GoodTurn, Word, Seq, Nil, Implies, widen_fault, widen_frame, widen, widen_turn, good_behind, fault_behind, frame_seq, fault_front, good_turn_behind, bind_good, bind_good_tokens, seq_word, nil_word, widen_word, nil_good, first_wrong, first_deep, Repeats, repeats_word, TurnTakes, repeat_good, loop_good, above_good, above_turn_good}
-
 use Rattle.c_parse.specs.Lists as lists
 use Rattle.c_parse.specs.Lists.{Separated, ListEnd}
 use Rattle.c_parse.specs.ReadingLists.{pushed, comma_by, comma_turn, separated, more_turn, listed, brace_by, brace_turn, braced}
 use Rattle.c_parse.specs.Reader.{at_more, end_list, is_open_brace, at_open_brace, open_brace, is_close_brace, at_close_brace, close_brace, is_semicolon, at_semicolon, semicolon, is_colon, colon, is_while_word, while_word, is_assign, at_assign, is_else_word, is_void_word, at_void_word, is_new, at_new, new}
 use Rattle.c_parse.proofs.Begins.{TokR, token_frame, token_word, must_good, open_paren_good, close_paren_good, open_paren_word, close_paren_word, close_bracket_word}
-
 use Rattle.c_tree.specs.Tree.{InitT, OneI, ListI, VarT}
 use Rattle.c_tree.specs.View.{inits}
 use Rattle.c_parse.specs.Declarations as d

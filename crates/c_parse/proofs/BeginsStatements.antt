@@ -35,13 +35,11 @@ use Rattle.c_parse.proofs.Told as told
 use Rattle.c_parse.proofs.Told.{StartIs, start_is, LeadIs, lead_is, SuffixIs, suffix_is, TypeIs, type_is, TypeMarkIs, type_mark_is, no_bracket, open_paren_is, close_paren_is, open_bracket_is, close_bracket_is, comma_is, star_is}
 use Rattle.c_parse.proofs.Shrinking.{turns_of_types, turns_of_exprs, turns_of_suffixes, turns_of_operators}
 use Rattle.c_parse.proofs.Completion.{Rule, Plain, SameFirst, Fits, Frame, Cut, Begun, Deep, GoodFault, Good, GoodTokens, GoodTurn, Word, Seq, Nil, Implies, widen_fault, widen_frame, widen, widen_turn, good_behind, fault_behind, frame_seq, fault_front, good_turn_behind, bind_good, bind_good_tokens, seq_word, nil_word, widen_word, nil_good, first_wrong, first_deep, Repeats, repeats_word, TurnTakes, repeat_good, loop_good, above_good, above_turn_good}
-
 use Rattle.c_parse.specs.Lists as lists
 use Rattle.c_parse.specs.Lists.{Separated, ListEnd}
 use Rattle.c_parse.specs.ReadingLists.{pushed, comma_by, comma_turn, separated, more_turn, listed, brace_by, brace_turn, braced}
 use Rattle.c_parse.specs.Reader.{at_more, end_list, is_open_brace, at_open_brace, open_brace, is_close_brace, at_close_brace, close_brace, is_semicolon, at_semicolon, semicolon, is_colon, colon, is_while_word, while_word, is_assign, at_assign, is_else_word, is_void_word, at_void_word, is_new, at_new, new}
 use Rattle.c_parse.proofs.Begins.{TokR, token_frame, token_word, must_good, open_paren_good, close_paren_good, open_paren_word, close_paren_word, close_bracket_word}
-
 use Rattle.c_tree.specs.Tree.{InitT, OneI, ListI, VarT}
 use Rattle.c_tree.specs.View.{inits}
 use Rattle.c_parse.specs.Declarations as d
@@ -51,7 +49,6 @@ use Rattle.c_parse.proofs.Told.{open_brace_is, close_brace_is, assign_is, void_w
 use Rattle.c_parse.proofs.Shrinking.{turns_of_fields, turns_of_vars, turns_of_params, turns_of_inits, turns_of_values, turns_of_members, turns_of_stmts, turns_of_arms}
 use Rattle.c_parse.proofs.Begins.{NameR, name_word, name_good, ExprR, LevelR, UnaryR, TyR, level_word, expr_word, type_word, unary_level, zero_unary, level_expr, unary_deep, type_deep, type_room, readers_good, GoodReaders, plain_level}
 use Rattle.c_parse.proofs.BeginsLists.{mapped_good, mapped_tokens, separated_good, listed_good, braced_good, OneR, SomeR, RestR, rest_repeat, rest_join, some_word, open_brace_good, close_brace_good, semicolon_good, colon_good, while_word_good, open_brace_word, close_brace_word, semicolon_word, colon_word, while_tok_word, list_end_word, end_list_good}
-
 use Rattle.c_tree.specs.Tree.{StmtT, BlockS, EmptyS, VarsS, DoS, IfS, WhileS, DoWhileS, ForS, SwitchS, ReturnS, BreakS, ContinueS, MaybeS, NoneS, SomeS, ArmT, CaseA, DefaultA, StmtA}
 use Rattle.c_tree.specs.View.{stmts, arms}
 use Rattle.c_parse.specs.declared.lead.StmtLead.{StmtLead}
@@ -161,7 +158,7 @@ module _ (types : List (List ℕ)) (fresh : List ℕ) (is_fresh : is_type (recor
   test_good t room ts = bind_good_tokens (TokR (mark m.OpenParen)) (Seq ExprQ (TokR (mark m.CloseParen))) (seq_word ExprQ (TokR (mark m.CloseParen)) expr_w close_paren_word) ts (open_paren ts)
       (λ on. expr_at (ctx t) room on >>= λ e. close_paren e.1 >>= λ rest. Ok (e.0, rest)) (open_paren_good ts)
       (λ on. bind_good ExprQ (TokR (mark m.CloseParen)) close_paren_word on (expr_at (ctx t) room on) (λ e. close_paren e.1 >>= λ rest. Ok (e.0, rest)) (expr_good t room on)
-          (λ x e. mapped_tokens (TokR (mark m.CloseParen)) (λ rest. x.0) x.1 (close_paren x.1) (close_paren_good x.1)))
+      (λ x e. mapped_tokens (TokR (mark m.CloseParen)) (λ rest. x.0) x.1 (close_paren x.1) (close_paren_good x.1)))
 
   -- what a test says: a parenthesis, an expression, a parenthesis
   pub record Tested (t : ℕ) (ts rest : List Tok) : Type 0 where
@@ -407,7 +404,6 @@ module _ (types : List (List ℕ)) (fresh : List ℕ) (is_fresh : is_type (recor
 
     arm_stmt_good_0 : (at : List Tok) (ts : List Tok) → Good StmtR ts (r.stmt ts >>= λ g0. Ok (StmtA g0.0, g0.1))
     arm_stmt_good_0 at ts = mapped_good StmtR (λ got. StmtA got.0) ts (r.stmt ts) (all.stmt ts)
-
 
     -- `if`, and an `else` or none
 

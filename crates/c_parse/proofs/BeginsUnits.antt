@@ -37,13 +37,11 @@ use Rattle.c_parse.proofs.Told as told
 use Rattle.c_parse.proofs.Told.{StartIs, start_is, LeadIs, lead_is, SuffixIs, suffix_is, TypeIs, type_is, TypeMarkIs, type_mark_is, no_bracket, open_paren_is, close_paren_is, open_bracket_is, close_bracket_is, comma_is, star_is}
 use Rattle.c_parse.proofs.Shrinking.{turns_of_types, turns_of_exprs, turns_of_suffixes, turns_of_operators}
 use Rattle.c_parse.proofs.Completion.{Rule, Plain, SameFirst, Fits, Frame, Cut, Begun, Deep, GoodFault, Good, GoodTokens, GoodTurn, Word, Seq, Nil, Implies, widen_fault, widen_frame, widen, widen_turn, fits_part, good_behind, fault_behind, frame_seq, fault_front, good_turn_behind, bind_good, bind_good_tokens, seq_word, nil_word, widen_word, nil_good, first_wrong, first_deep, Repeats, repeats_word, TurnTakes, repeat_good, loop_good, above_good, above_turn_good}
-
 use Rattle.c_parse.specs.Lists as lists
 use Rattle.c_parse.specs.Lists.{Separated, ListEnd}
 use Rattle.c_parse.specs.ReadingLists.{pushed, comma_by, comma_turn, separated, more_turn, listed, brace_by, brace_turn, braced}
 use Rattle.c_parse.specs.Reader.{at_more, end_list, is_open_brace, at_open_brace, open_brace, is_close_brace, at_close_brace, close_brace, is_semicolon, at_semicolon, semicolon, is_colon, colon, is_while_word, while_word, is_assign, at_assign, is_else_word, is_void_word, at_void_word, is_new, at_new, new}
 use Rattle.c_parse.proofs.Begins.{TokR, token_frame, token_word, must_good, open_paren_good, close_paren_good, open_paren_word, close_paren_word, close_bracket_word}
-
 use Rattle.c_tree.specs.Tree.{InitT, OneI, ListI, VarT}
 use Rattle.c_tree.specs.View.{inits}
 use Rattle.c_parse.specs.Declarations as d
@@ -53,7 +51,6 @@ use Rattle.c_parse.proofs.Told.{open_brace_is, close_brace_is, assign_is, void_w
 use Rattle.c_parse.proofs.Shrinking.{turns_of_fields, turns_of_vars, turns_of_params, turns_of_inits, turns_of_values, turns_of_members, turns_of_stmts, turns_of_arms}
 use Rattle.c_parse.proofs.Begins.{NameR, name_word, name_good, ExprR, LevelR, UnaryR, TyR, level_word, expr_word, type_word, unary_level, zero_unary, level_expr, unary_deep, type_deep, type_room, readers_good, GoodReaders, plain_level}
 use Rattle.c_parse.proofs.BeginsLists.{mapped_good, mapped_tokens, separated_good, listed_good, braced_good, OneR, SomeR, RestR, rest_repeat, rest_join, some_word, open_brace_good, close_brace_good, semicolon_good, colon_good, while_word_good, open_brace_word, close_brace_word, semicolon_word, colon_word, while_tok_word, list_end_word, end_list_good}
-
 use Rattle.c_tree.specs.Tree.{StmtT, BlockS, EmptyS, VarsS, DoS, IfS, WhileS, DoWhileS, ForS, SwitchS, ReturnS, BreakS, ContinueS, MaybeS, NoneS, SomeS, ArmT, CaseA, DefaultA, StmtA}
 use Rattle.c_tree.specs.View.{stmts, arms}
 use Rattle.c_parse.specs.declared.lead.StmtLead.{StmtLead}
@@ -67,7 +64,6 @@ use Rattle.c_parse.specs.Reader.{is_else_word}
 use Rattle.c_parse.specs.ReadingStatements.{maybe_by, maybe_at, first_by, first_at, Bodies, test_at, if_by, stmt_by, stmt_with, arm_by, arm_with, bodies, stmt_read, arm_read}
 use Rattle.c_parse.proofs.Told.{StmtIs, stmt_is, ArmIs, arm_is, no_else, else_word_is}
 use Rattle.c_parse.proofs.BeginsDeclarations.{expr_read_good, type_read_good, level_read_good, zero_expr, VarsQ, vars_word, vars_good, vars_deep}
-
 use Rattle.c_tree.specs.Tree.{ItemT, RecordD, EnumD, TypedefD, VarsD, FunctionD}
 use Rattle.c_parse.specs.declared.lead.ItemLead.{ItemLead}
 use Rattle.c_parse.specs.declared.lead.ItemLead.TheVariants as item
@@ -370,8 +366,15 @@ module _ (types : List (List ℕ)) where
     enum_unnamed : (ts : List Tok) → GoodItem (keyword key.Enum ∷ ts) (Err (Syntax (length ts)))
     enum_unnamed ts = record {
       after = declared_with [];
-      good = record { pre = keyword key.Enum ∷ []; wrong = ts; end = word [] ∷ mark m.OpenBrace ∷ word (fresh types) ∷ mark m.CloseBrace ∷ mark m.Semicolon ∷ []; is = refl; size = refl;
-          any = λ after p. enum_rule [] _ after (enum_begun [] after); fits = λ after p. inl (refl, refl) };
+      good = record {
+        pre = keyword key.Enum ∷ [];
+        wrong = ts;
+        end = word [] ∷ mark m.OpenBrace ∷ word (fresh types) ∷ mark m.CloseBrace ∷ mark m.Semicolon ∷ [];
+        is = refl;
+        size = refl;
+        any = λ after p. enum_rule [] _ after (enum_begun [] after);
+        fits = λ after p. inl (refl, refl);
+      };
       says = tt;
     }
 
@@ -421,7 +424,7 @@ module _ (types : List (List ℕ)) where
       after = declared_with n;
       good = widen (TypedefR n) (ItemR (declared_with n)) (typedef_rule n) (keyword key.Typedef ∷ ts) _ (good_behind (TokR (keyword key.Typedef)) (Seq TyQ (NewSemiR n)) (keyword key.Typedef ∷ ts) ts _ (token_frame (keyword key.Typedef) ts)
           (good_behind TyQ (NewSemiR n) ts (word n ∷ mid) _ f (good_behind (TokR (word n)) (TokR (mark m.Semicolon)) (word n ∷ mid) mid _ (token_frame (word n) mid)
-              (mapped_tokens (TokR (mark m.Semicolon)) (λ rest. TypedefD y n (span (ctx t) (keyword key.Typedef ∷ ts) rest)) mid (semicolon mid) (semicolon_good mid)))));
+          (mapped_tokens (TokR (mark m.Semicolon)) (λ rest. TypedefD y n (span (ctx t) (keyword key.Typedef ∷ ts) rest)) mid (semicolon mid) (semicolon_good mid)))));
       says = says_bind (declared_with n) (semicolon mid) _ (λ rest. refl);
     }
 
@@ -461,7 +464,7 @@ module _ (types : List (List ℕ)) where
     function_good at y n ts = bind_good_tokens (TokR (mark m.OpenParen)) (Seq ParamsR (Seq (TokR (mark m.CloseParen)) BodyR)) params_closing_word ts (open_paren ts)
         (λ on. params_at (ctx t) room on >>= λ vs. close_paren vs.1 >>= λ mid. body_by (ctx t) room at y n vs.0 mid (at_semicolon mid)) (open_paren_good ts)
         (λ on. bind_good ParamsR (Seq (TokR (mark m.CloseParen)) BodyR) closing_word on (params_at (ctx t) room on) (λ vs. close_paren vs.1 >>= λ mid. body_by (ctx t) room at y n vs.0 mid (at_semicolon mid)) (params_good types (fresh types) (is_fresh types) t room on)
-            (λ vs met. bind_good_tokens (TokR (mark m.CloseParen)) BodyR body_word vs.1 (close_paren vs.1) (λ mid. body_by (ctx t) room at y n vs.0 mid (at_semicolon mid)) (close_paren_good vs.1) (λ mid. body_by_good at y n vs.0 mid (at_semicolon mid) refl)))
+        (λ vs met. bind_good_tokens (TokR (mark m.CloseParen)) BodyR body_word vs.1 (close_paren vs.1) (λ mid. body_by (ctx t) room at y n vs.0 mid (at_semicolon mid)) (close_paren_good vs.1) (λ mid. body_by_good at y n vs.0 mid (at_semicolon mid) refl)))
 
     body_says : (at : List Tok) (y : TypeT) (n : List ℕ) (vs : List VarT) (ts : List Tok) (b : Bool) → Says types (body_by (ctx t) room at y n vs ts b)
     body_says at y n vs ts true = refl
@@ -475,9 +478,12 @@ module _ (types : List (List ℕ)) where
     body_makes v us a b c d rest y g n f ps e h (inl k) =
         (_, u.declared (subst (λ (z : List Tok). Gives (ctx v) us y z) (n.1 ∙ ap (λ (z : List Tok). word n.0 ∷ z) f) g) n.2 (subst (λ (z : List Tok). Params (ctx v) c ps.0 z) (h ∙ ap (λ (z : List Tok). mark m.CloseParen ∷ z) k) ps.1), refl)
     body_makes v us a b c d rest y g n f ps e h (inr x) =
-        let q = x.2 in let ss = q.1 v in
-        (_, u.defined (subst (λ (z : List Tok). Gives (ctx v) us y z) (n.1 ∙ ap (λ (z : List Tok). word n.0 ∷ z) f) g) n.2 (subst (λ (z : List Tok). Params (ctx v) c ps.0 z) (h ∙ ap (λ (z : List Tok). mark m.CloseParen ∷ z) x.1) ps.1)
-            (subst (λ (z : List Tok). Stmts (ctx v) x.0 ss.0 z) q.2 ss.1), refl)
+        let q = x.2 in let ss = q.1 v in (
+          _,
+          u.defined (subst (λ (z : List Tok). Gives (ctx v) us y z) (n.1 ∙ ap (λ (z : List Tok). word n.0 ∷ z) f) g) n.2 (subst (λ (z : List Tok). Params (ctx v) c ps.0 z) (h ∙ ap (λ (z : List Tok). mark m.CloseParen ∷ z) x.1) ps.1)
+              (subst (λ (z : List Tok). Stmts (ctx v) x.0 ss.0 z) q.2 ss.1),
+          refl,
+        )
 
     -- a result's type, a name and what stands behind the name
     abbrev GivesR : Rule
@@ -571,7 +577,7 @@ module _ (types : List (List ℕ)) where
     vars_by_good at mid ts f g true = widen VarsItemR (ItemR types) vars_item at _ (vars_item_good at)
     vars_by_good at mid ts f g false = widen_fault (Seq TyQ (Seq NameQ NamedR)) (ItemR types) named_vars at (room_fault (at_semicolon ts || (at_assign ts || at_comma ts)) ts)
         (fault_behind TyQ (Seq NameQ NamedR) at mid (room_fault (at_semicolon ts || (at_assign ts || at_comma ts)) ts) f
-            (fault_behind NameQ NamedR mid ts (room_fault (at_semicolon ts || (at_assign ts || at_comma ts)) ts) g (named_room ts (at_semicolon ts || (at_assign ts || at_comma ts)) refl)))
+        (fault_behind NameQ NamedR mid ts (room_fault (at_semicolon ts || (at_assign ts || at_comma ts)) ts) g (named_room ts (at_semicolon ts || (at_assign ts || at_comma ts)) refl)))
 
     type_gives : Implies TyQ GivesR
     type_gives us rest y v = let x = y v in (_, u.gives_type x.1)

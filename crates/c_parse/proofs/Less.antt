@@ -38,7 +38,7 @@ var_less c n y ts x e =
     step w less true e' =
         let v = bind_ok (init_at c n (behind w.1)) _ x e' in
         ok_at (λ (z : Got VarT). length z.1 < length ts) (record { ty = y; name = w.0; init = Some v.0.0; span = span c ts v.0.1 }, v.0.1) x v.2
-          (omega (arith, less, init_less c n (behind w.1) v.0 v.1, behind_up w.1))
+        (omega (arith, less, init_less c n (behind w.1) v.0 v.1, behind_up w.1))
 
 pub member_less : (c : Context) (n : ℕ) (ts : List Tok) (x : Got (List VarT)) → member_at c n ts ≡ Ok x → length x.1 < length ts
 member_less c n ts x e = member_shorter (member_derived c n ts x e).derived

@@ -1505,7 +1505,7 @@ module _ (more more' : List Tok) where
 
           set_same : (room : ℕ) (y : TypeT) (n : List ℕ) {at at' : List Tok} → Agree at at' → (ts ts' : List Tok) → Agree ts ts'
               → SameGot (init_at (one types) room ts >>= with_init (one types) y n at)
-                  (init_at (other types) room ts' >>= with_init (other types) y n at')
+              (init_at (other types) room ts' >>= with_init (other types) y n at')
           set_same room y n {at = at} {at' = at'} b ts ts' w = bind_got Alike Beyond ((init_is_local room).same ts ts' w) (with_init (one types) y n at)
               (with_init (other types) y n at') (λ i us us' v. read (rw (span_same types b v) refl, v)) (λ x p. p)
 
@@ -2446,7 +2446,7 @@ module _ (more more' : List Tok) where
 
         params_opened_same : {at at' : List Tok} → Agree at at' → (y : TypeT) (n : List ℕ) (ts ts' : List Tok) → Agree ts ts'
             → SameGot (params_at (one types) two_less ts >>= λ vs. close_paren vs.1 >>= λ mid. body_by (one types) two_less at y n vs.0 mid (at_semicolon mid))
-                (params_at (other types) two_less ts' >>= λ vs. close_paren vs.1 >>= λ mid. body_by (other types) two_less at' y n vs.0 mid (at_semicolon mid))
+            (params_at (other types) two_less ts' >>= λ vs. close_paren vs.1 >>= λ mid. body_by (other types) two_less at' y n vs.0 mid (at_semicolon mid))
         params_opened_same {at = at} {at' = at'} w y n ts ts' v = bind_got Alike Beyond ((params_l types room).same ts ts' v) (λ vs. close_paren vs.1 >>= λ mid. body_by (one types) two_less at y n vs.0 mid (at_semicolon mid))
             (λ vs. close_paren vs.1 >>= λ mid. body_by (other types) two_less at' y n vs.0 mid (at_semicolon mid)) (closed_params_same w y n) (closed_params_past at y n)
 
@@ -2597,7 +2597,6 @@ module _ (more more' : List Tok) where
 
         pub item_past : (ts : List Tok) → Gone ts → PastGot (item_read (one types) two_less ts)
         item_past ts g = item_short (item_at ts) ts g
-
         -- ---- units
 
       types_behind : ItemT → List (List ℕ) → List (List ℕ)
@@ -2666,7 +2665,7 @@ module _ (more more' : List Tok) where
         items_same : (n n' : ℕ) → GoingSame n n' → (types : List (List ℕ)) (ds : List ItemT) (ts ts' : List Tok) → Agree ts ts' → length ts < suc n → length ts' < suc n'
             → (r r' : Result (Got ItemT) Fault) → item_read (one types) (suc (suc room)) ts ≡ r → SameGot r r'
             → SameUnits ((r >>= taken (one types) ds) >>= goes_on (repeat (item_turn (suc (suc room))) n) (one types, ds) ts)
-                ((r' >>= taken (other types) ds) >>= goes_on (repeat (item_turn (suc (suc room))) n') (other types, ds) ts')
+            ((r' >>= taken (other types) ds) >>= goes_on (repeat (item_turn (suc (suc room))) n') (other types, ds) ts')
         items_same n n' again types ds ts ts' w e e' _ _ f (read {x = d} {y = z} v) =
             let shorter = known.items types (suc (suc room)) ts d f in
             rw (v.0, behind_one z.0 types, behind_other z.0 types) (again (types_behind z.0 types) (ds ++ z.0 ∷ []) d.1 z.1 v.1 (omega (arith, shorter, e)) (omega (arith, shorter, e', agree_length w, agree_length v.1)))
@@ -2726,7 +2725,7 @@ module _ (pre : List Tok) (o : Tok) (more more' : List Tok) (known : KnownOf pre
       × (reading (pre ++ (o ∷ more)) ≡ Err (TooDeep (suc (length more))) → (j : ℕ) × (reading (pre ++ (o ∷ more')) ≡ Err (TooDeep j)))
   both = faults_stay more more' (length (pre ++ (o ∷ more))) (length (pre ++ (o ∷ more'))) (shifted pre o more more') known room (reading (pre ++ (o ∷ more))) (reading (pre ++ (o ∷ more')))
       (units_same more more' (length (pre ++ (o ∷ more))) (length (pre ++ (o ∷ more'))) (shifted pre o more more') known room (suc (length (pre ++ (o ∷ more)))) (suc (length (pre ++ (o ∷ more')))) [] []
-          (pre ++ (o ∷ more)) (pre ++ (o ∷ more')) (agree_behind pre o more more') (omega arith) (omega arith))
+      (pre ++ (o ∷ more)) (pre ++ (o ∷ more')) (agree_behind pre o more more') (omega arith) (omega arith))
       (suc (length more)) (omega arith)
 
   pub syntax_stays : unit_at (suc (suc room)) (pre ++ (o ∷ more)) ≡ Err (Syntax (suc (length more))) → (j : ℕ) × (unit_at (suc (suc room)) (pre ++ (o ∷ more')) ≡ Err (Syntax j))

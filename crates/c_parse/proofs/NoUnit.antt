@@ -13,7 +13,7 @@ use Rattle.c_parse.proofs.UnitReads.{never_faulty, derived_no_fault}
 known_of : (pre : List Tok) (o : Tok) (more more' : List Tok) → KnownOf pre o more more'
 known_of pre o more more' =
     known more more' (length (pre ++ (o ∷ more))) (length (pre ++ (o ∷ more'))) (shifted pre o more more')
-      (λ types room ts x. type_again (record { total = length (pre ++ (o ∷ more)); types = types }) room ts x)
+    (λ types room ts x. type_again (record { total = length (pre ++ (o ∷ more)); types = types }) room ts x)
 
 -- of any depth
 pub no_unit_begins : (pre : List Tok) (o : Tok) (more : List Tok) → unit_at 199 (pre ++ (o ∷ more)) ≡ Err (Syntax (suc (length more)))

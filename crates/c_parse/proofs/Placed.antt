@@ -44,12 +44,16 @@ first_bad begun ts n e =
     let place = front ts b.0 b.1 n b.4 b.5 in
     let rest : drop (length ts - n) ts ≡ b.1 = ap (λ (k : ℕ). drop k ts) place ∙ ap (λ (z : List Tok). drop (length b.0) z) b.4 ∙ drop-append_seam b.0 b.1 in
     record {
-      before = b.0; rest = b.1; is = b.4; place = sym place; word = ap refused_at (sym rest);
+      before = b.0;
+      rest = b.1;
+      is = b.4;
+      place = sym place;
+      word = ap refused_at (sym rest);
       begins = record { more = b.2; items = b.3; unit = b.6 };
       bad = λ o after head h.
-        let whole : ts ≡ b.0 ++ (o ∷ after) = b.4 ∙ ap (λ (z : List Tok). b.0 ++ z) head in
-        let left : n ≡ suc (length after) = sym b.5 ∙ ap length head in
-        no_unit_begins b.0 o after (ap (λ (z : List Tok). unit_at 199 z) (sym whole) ∙ e ∙ ap (λ (k : ℕ). Err (Syntax k)) left) h.more h.items
+          let whole : ts ≡ b.0 ++ (o ∷ after) = b.4 ∙ ap (λ (z : List Tok). b.0 ++ z) head in
+          let left : n ≡ suc (length after) = sym b.5 ∙ ap length head in
+          no_unit_begins b.0 o after (ap (λ (z : List Tok). unit_at 199 z) (sym whole) ∙ e ∙ ap (λ (k : ℕ). Err (Syntax k)) left) h.more h.items
           (subst (λ (z : List Tok). Unit_ z h.items) (one_on b.0 h.more o) h.unit);
       whole = λ ds d. never_faulty ts ds n d e;
     }
@@ -59,10 +63,14 @@ first_deep begun ts n e =
     let b = begun ts n e in
     let place = front ts b.0 (b.1 ∷ b.2) n b.5 b.6 in
     record {
-      before = b.0; token = b.1; after = b.2; is = b.5; place = sym place;
+      before = b.0;
+      token = b.1;
+      after = b.2;
+      is = b.5;
+      place = sym place;
       begins = record { more = b.3; items = b.4; unit = subst (λ (z : List Tok). Unit_ z b.4) (sym (one_on b.0 b.3 b.1)) b.7 };
       deep = λ h.
-        no_shallow_unit_begins b.0 b.1 b.2 (ap (λ (z : List Tok). unit_at 199 z) (sym b.5) ∙ e ∙ ap (λ (k : ℕ). Err (TooDeep k)) (sym b.6)) h.more h.items
+          no_shallow_unit_begins b.0 b.1 b.2 (ap (λ (z : List Tok). unit_at 199 z) (sym b.5) ∙ e ∙ ap (λ (k : ℕ). Err (TooDeep k)) (sym b.6)) h.more h.items
           (subst (λ (z : List Tok). Derives z h.items) (one_on b.0 h.more b.1) h.unit);
     }
 

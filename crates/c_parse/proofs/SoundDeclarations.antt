@@ -60,7 +60,7 @@ field_sound c n y le ts x e =
     let a = bind_ok (name c ts) _ x e in
     let i = f.name-is c ts a.0 a.1 in
     ok_at (λ (z : Got VarT). Found (Field c y) var_depth (suc n) ts z) (bare_var c y a.0.0 ts a.0.1, a.0.1) x a.2
-      (record { derived = subst (λ (z : List Tok). Field c y z (bare_var c y a.0.0 z a.0.1) a.0.1) (sym i.0) (g.field i.1); fits = omega arith })
+    (record { derived = subst (λ (z : List Tok). Field c y z (bare_var c y a.0.0 z a.0.1) a.0.1) (sym i.0) (g.field i.1); fits = omega arith })
 
 var_sound : (c : Context) (n : ℕ) (y : TypeT) → type_depth y ≤ n → IsSound (Var c y) var_depth (suc n) (var c n y)
 var_sound c n y le ts x e =
@@ -75,7 +75,7 @@ var_sound c n y le ts x e =
         let d = init_derived c n (behind w.1) v.0 v.1 in
         let whole : ts ≡ word w.0 ∷ mark m.Assign ∷ behind w.1 = i.0 ∙ ap (λ (z : List Tok). word w.0 ∷ z) (f.at_assign-is w.1 is) in
         ok_at (λ (z : Got VarT). Found (Var c y) var_depth (suc n) ts z) (record { ty = y; name = w.0; init = Some v.0.0; span = span c ts v.0.1 }, v.0.1) x v.2
-          (record { derived = subst (λ (z : List Tok). Var c y z (record { ty = y; name = w.0; init = Some v.0.0; span = span c z v.0.1 }) v.0.1) (sym whole) (g.set_var i.1 d.derived); fits = omega (arith, d.fits) })
+        (record { derived = subst (λ (z : List Tok). Var c y z (record { ty = y; name = w.0; init = Some v.0.0; span = span c z v.0.1 }) v.0.1) (sym whole) (g.set_var i.1 d.derived); fits = omega (arith, d.fits) })
 
 vars_deepest : (vs : List VarT) → vars_depth vs ≡ deepest var_depth vs
 vars_deepest [] = refl
@@ -131,7 +131,7 @@ members_loop c n vs ts x e = repeat_runs (members_turn c n) (MembersFit c n) (λ
         let a = bind_ok (member_at c n ts) _ _ e' in
         let d = member_derived c n ts a.0 a.1 in
         some_at (λ (z : Got (List VarT)). MembersFit c n z.0 z.1 all rest → MembersFit c n vs ts all rest) (vs ++ a.0.0, a.0.1) (vs', us) a.2
-          (λ h. (a.0.0 ++ h.0, h.1 ∙ append_assoc vs a.0.0 h.0, further (join d.derived h.2), vars_append a.0.0 h.0 n d.fits h.3)) back
+        (λ h. (a.0.0 ++ h.0, h.1 ∙ append_assoc vs a.0.0 h.0, further (join d.derived h.2), vars_append a.0.0 h.0 n d.fits h.3)) back
 
     more : (vs : List VarT) (ts : List Tok) (vs' all : List VarT) (us rest : List Tok) → members_turn c n vs ts ≡ Ok (Some (vs', us)) → MembersFit c n vs' us all rest → MembersFit c n vs ts all rest
     more vs ts vs' all us rest e' back = step vs ts vs' all us rest (at_close_brace ts) e' back
@@ -190,7 +190,7 @@ value_derived c n ts x e =
         let d = level_derived c n 10 (behind w.1) v.0 v.1 in
         let whole : ts ≡ word w.0 ∷ mark m.Assign ∷ behind w.1 = i.0 ∙ ap (λ (z : List Tok). word w.0 ∷ z) (f.at_assign-is w.1 is) in
         ok_at (λ (z : Got (List ℕ × Option ExprT)). Found (Value c) value_depth n ts z) ((w.0, Some v.0.0), v.0.1) x v.2
-          (record { derived = subst (λ (z : List Tok). Value c z (w.0, Some v.0.0) v.0.1) (sym whole) (g.set_value i.1 d.derived); fits = d.fits })
+        (record { derived = subst (λ (z : List Tok). Value c z (w.0, Some v.0.0) v.0.1) (sym whole) (g.set_value i.1 d.derived); fits = d.fits })
 
 pub values_deepest : (vs : List (List ℕ × Option ExprT)) → values_depth vs ≡ deepest value_depth vs
 values_deepest [] = refl

@@ -40,8 +40,8 @@ module _ {A : Type 0} (P : List Tok → A → List Tok → Type 0) (deep : A →
           let a = bind_ok (reader (behind ts)) _ _ e' in
           let d = s (behind ts) a.0 a.1 in
           some_at (λ (z : Got (List A)). CommaFit z.0 z.1 all rest → CommaFit xs ts all rest) (xs ++ a.0.0 ∷ [], a.0.1) (xs', us) a.2
-            (λ h. λ x vs first. let k = h a.0.0 (behind ts) d.derived in
-              (a.0.0 ∷ k.0, k.1 ∙ append_assoc xs (a.0.0 ∷ []) k.0, l.more (subst (λ (z : List Tok). P vs x z) (is_comma ts is) first) k.2, omega (arith, d.fits, k.3))) back
+          (λ h. λ x vs first. let k = h a.0.0 (behind ts) d.derived in
+          (a.0.0 ∷ k.0, k.1 ∙ append_assoc xs (a.0.0 ∷ []) k.0, l.more (subst (λ (z : List Tok). P vs x z) (is_comma ts is) first) k.2, omega (arith, d.fits, k.3))) back
 
       more : (xs : List A) (ts : List Tok) (xs' all : List A) (us rest : List Tok) → comma_by reader xs ts (test ts) ≡ Ok (Some (xs', us)) → CommaFit xs' us all rest → CommaFit xs ts all rest
       more xs ts xs' all us rest e' back = step xs ts xs' all us rest (test ts) refl e' back
@@ -82,7 +82,7 @@ module _ {A : Type 0} (P : List Tok → A → List Tok → Type 0) (deep : A →
           let a = bind_ok (reader ts) _ _ e' in
           let d = s ts a.0 a.1 in
           some_at (λ (z : Got (List A)). BraceFit z.0 z.1 all rest → BraceFit xs ts all rest) (xs ++ a.0.0 ∷ [], a.0.1) (xs', us) a.2
-            (λ h. (a.0.0 ∷ h.0, h.1 ∙ append_assoc xs (a.0.0 ∷ []) h.0, some d.derived h.2, omega (arith, d.fits, h.3))) back
+          (λ h. (a.0.0 ∷ h.0, h.1 ∙ append_assoc xs (a.0.0 ∷ []) h.0, some d.derived h.2, omega (arith, d.fits, h.3))) back
 
       more : (xs : List A) (ts : List Tok) (xs' all : List A) (us rest : List Tok) → brace_turn reader xs ts ≡ Ok (Some (xs', us)) → BraceFit xs' us all rest → BraceFit xs ts all rest
       more xs ts xs' all us rest e' back = step xs ts xs' all us rest (at_close_brace ts) e' back

@@ -203,7 +203,7 @@ test_sound c n ts x e =
     let b = bind_ok (close_paren a.0.1) _ x a.2 in
     let d = expr_derived c n o.0 a.0 a.1 in
     ok_at (λ (z : Got ExprT). Tested c n ts z) (a.0.0, b.0) x b.2
-      (record { inner = o.0; is = f.open_paren-is ts o.0 o.1; derived = subst (λ (z : List Tok). Expr c o.0 a.0.0 z) (f.close_paren-is a.0.1 b.0 b.1) d.derived; fits = d.fits })
+    (record { inner = o.0; is = f.open_paren-is ts o.0 o.1; derived = subst (λ (z : List Tok). Expr c o.0 a.0.0 z) (f.close_paren-is a.0.1 b.0 b.1) d.derived; fits = d.fits })
 
 stmts_of : {c : Context} {ts rest : List Tok} {ss : List StmtT} → Several (Stmt c) ts ss rest → Stmts c ts ss rest
 stmts_of l.none = g.no_stmts
@@ -245,7 +245,7 @@ module _ (c : Context) (n : ℕ) (r : Bodies) (s : SoundBodies c n r) where
       let p = test_sound c n (behind ts) a.0 a.1 in
       let d = s.stmt a.0.1 t.0 t.1 in
       subst (λ (z : List Tok). if_by c r z a.0.0 t.0.0 t.0.1 (at_else_word t.0.1) ≡ Ok x → At z x) (sym (is ∙ ap (λ (z : List Tok). keyword key.If ∷ z) p.is))
-        (step p.inner a.0 p.derived p.fits t.0 d.derived d.fits (at_else_word t.0.1) refl) t.2
+      (step p.inner a.0 p.derived p.fits t.0 d.derived d.fits (at_else_word t.0.1) refl) t.2
     where
       step : (us : List Tok) (a : Got ExprT) → Expr c us a.0 (mark m.CloseParen ∷ a.1) → expr_depth a.0 ≤ n → (t : Got StmtT) → Stmt c a.1 t.0 t.1 → stmt_depth t.0 ≤ n → (b : Bool) → at_else_word t.1 ≡ b
           → if_by c r (keyword key.If ∷ mark m.OpenParen ∷ us) a.0 t.0 t.1 b ≡ Ok x → At (keyword key.If ∷ mark m.OpenParen ∷ us) x
@@ -255,7 +255,7 @@ module _ (c : Context) (n : ℕ) (r : Bodies) (s : SoundBodies c n r) where
           let o = bind_ok (r.stmt (behind t.1)) _ x e' in
           let q = s.stmt (behind t.1) o.0 o.1 in
           ok_at (λ (z : Got StmtT). At (keyword key.If ∷ mark m.OpenParen ∷ us) z) (IfS a.0 t.0 (SomeS o.0.0) (span c (keyword key.If ∷ mark m.OpenParen ∷ us) o.0.1), o.0.1) x o.2
-            (record { derived = g.if_else p (subst (λ (z : List Tok). Stmt c a.1 t.0 z) (f.at_else_word-is t.1 is) d) q.derived; fits = omega (arith, q.fits) })
+          (record { derived = g.if_else p (subst (λ (z : List Tok). Stmt c a.1 t.0 z) (f.at_else_word-is t.1 is) d) q.derived; fits = omega (arith, q.fits) })
 
   while_sound : (ts : List Tok) (x : Got StmtT) → ts ≡ keyword key.While ∷ behind ts → while_with c n r ts ≡ Ok x → At ts x
   while_sound ts x is e =
@@ -330,7 +330,7 @@ module _ (c : Context) (n : ℕ) (r : Bodies) (s : SoundBodies c n r) where
           let d = stmts_sound (behind ts) a.0 a.1 in
           let inner : Stmts c (behind ts) a.0.0 (mark m.CloseBrace ∷ b.0) = subst (λ (z : List Tok). Stmts c (behind ts) a.0.0 z) (f.close_brace-is a.0.1 b.0 b.1) d.derived in
           ok_at (λ (z : Got StmtT). At ts z) (BlockS (stmts a.0.0) (span c ts b.0), b.0) x b.2
-            (record { derived = subst (λ (z : List Tok). Stmt c z (BlockS (stmts a.0.0) (span c z b.0)) b.0) (sym (block_is c ts is)) (g.block inner); fits = omega (arith, d.fits) })
+          (record { derived = subst (λ (z : List Tok). Stmt c z (BlockS (stmts a.0.0) (span c z b.0)) b.0) (sym (block_is c ts is)) (g.block inner); fits = omega (arith, d.fits) })
       step stmt.Empty is e' = ok_at (λ (z : Got StmtT). At ts z) (EmptyS (span c ts (behind ts)), behind ts) x e'
           (record { derived = subst (λ (z : List Tok). Stmt c z (EmptyS (span c z (behind ts))) (behind ts)) (sym (empty_is c ts is)) g.empty; fits = omega arith })
       step stmt.Vars is e' =
@@ -338,7 +338,7 @@ module _ (c : Context) (n : ℕ) (r : Bodies) (s : SoundBodies c n r) where
           let b = bind_ok (semicolon a.0.1) _ x a.2 in
           let d = vars_derived c n ts a.0 a.1 in
           ok_at (λ (z : Got StmtT). At ts z) (VarsS a.0.0 (span c ts b.0), b.0) x b.2
-            (record { derived = g.vars (subst (λ (z : List Tok). Vars c ts a.0.0 z) (f.semicolon-is a.0.1 b.0 b.1) d.derived); fits = omega (arith, d.fits) })
+          (record { derived = g.vars (subst (λ (z : List Tok). Vars c ts a.0.0 z) (f.semicolon-is a.0.1 b.0 b.1) d.derived); fits = omega (arith, d.fits) })
       step stmt.If is e' = if_sound ts x (if_is c ts is) e'
       step stmt.While is e' = while_sound ts x (while_is c ts is) e'
       step stmt.Do is e' = do_sound ts x (do_is c ts is) e'
@@ -350,23 +350,23 @@ module _ (c : Context) (n : ℕ) (r : Bodies) (s : SoundBodies c n r) where
           let d = maybe_sound c n (behind ts) a.0 a.1 in
           let inner : Maybe c (behind ts) a.0.0 (mark m.Semicolon ∷ b.0) = subst (λ (z : List Tok). Maybe c (behind ts) a.0.0 z) (f.semicolon-is a.0.1 b.0 b.1) d.derived in
           ok_at (λ (z : Got StmtT). At ts z) (ReturnS a.0.0 (span c ts b.0), b.0) x b.2
-            (record { derived = subst (λ (z : List Tok). Stmt c z (ReturnS a.0.0 (span c z b.0)) b.0) (sym (return_is c ts is)) (g.return inner); fits = omega (arith, d.fits) })
+          (record { derived = subst (λ (z : List Tok). Stmt c z (ReturnS a.0.0 (span c z b.0)) b.0) (sym (return_is c ts is)) (g.return inner); fits = omega (arith, d.fits) })
       step stmt.Break is e' =
           let b = bind_ok (semicolon (behind ts)) _ x e' in
           let whole : ts ≡ keyword key.Break ∷ mark m.Semicolon ∷ b.0 = break_is c ts is ∙ ap (λ (z : List Tok). keyword key.Break ∷ z) (f.semicolon-is (behind ts) b.0 b.1) in
           ok_at (λ (z : Got StmtT). At ts z) (BreakS (span c ts b.0), b.0) x b.2
-            (record { derived = subst (λ (z : List Tok). Stmt c z (BreakS (span c z b.0)) b.0) (sym whole) g.break; fits = omega arith })
+          (record { derived = subst (λ (z : List Tok). Stmt c z (BreakS (span c z b.0)) b.0) (sym whole) g.break; fits = omega arith })
       step stmt.Continue is e' =
           let b = bind_ok (semicolon (behind ts)) _ x e' in
           let whole : ts ≡ keyword key.Continue ∷ mark m.Semicolon ∷ b.0 = continue_is c ts is ∙ ap (λ (z : List Tok). keyword key.Continue ∷ z) (f.semicolon-is (behind ts) b.0 b.1) in
           ok_at (λ (z : Got StmtT). At ts z) (ContinueS (span c ts b.0), b.0) x b.2
-            (record { derived = subst (λ (z : List Tok). Stmt c z (ContinueS (span c z b.0)) b.0) (sym whole) g.continue; fits = omega arith })
+          (record { derived = subst (λ (z : List Tok). Stmt c z (ContinueS (span c z b.0)) b.0) (sym whole) g.continue; fits = omega arith })
       step stmt.Expr is e' =
           let a = bind_ok (expr_at c n ts) _ x e' in
           let b = bind_ok (semicolon a.0.1) _ x a.2 in
           let d = expr_derived c n ts a.0 a.1 in
           ok_at (λ (z : Got StmtT). At ts z) (DoS a.0.0, b.0) x b.2
-            (record { derived = g.expr (subst (λ (z : List Tok). Expr c ts a.0.0 z) (f.semicolon-is a.0.1 b.0 b.1) d.derived); fits = omega (arith, d.fits) })
+          (record { derived = g.expr (subst (λ (z : List Tok). Expr c ts a.0.0 z) (f.semicolon-is a.0.1 b.0 b.1) d.derived); fits = omega (arith, d.fits) })
 
   arm_sound : IsSound (Arm c) arm_depth (suc n) (arm_with c n r)
   arm_sound ts x e = step (arm_at ts) refl e
@@ -378,12 +378,12 @@ module _ (c : Context) (n : ℕ) (r : Bodies) (s : SoundBodies c n r) where
           let d = level_derived c n 10 (behind ts) a.0 a.1 in
           let inner : Level c 10 (behind ts) a.0.0 (mark m.Colon ∷ b.0) = subst (λ (z : List Tok). Level c 10 (behind ts) a.0.0 z) (f.colon-is a.0.1 b.0 b.1) d.derived in
           ok_at (λ (z : Got ArmT). Found (Arm c) arm_depth (suc n) ts z) (CaseA a.0.0 (span c ts b.0), b.0) x b.2
-            (record { derived = subst (λ (z : List Tok). Arm c z (CaseA a.0.0 (span c z b.0)) b.0) (sym (case_is ts is)) (g.case inner); fits = omega (arith, d.fits) })
+          (record { derived = subst (λ (z : List Tok). Arm c z (CaseA a.0.0 (span c z b.0)) b.0) (sym (case_is ts is)) (g.case inner); fits = omega (arith, d.fits) })
       step arm.Default is e' =
           let b = bind_ok (colon (behind ts)) _ x e' in
           let whole : ts ≡ keyword key.Default ∷ mark m.Colon ∷ b.0 = default_is ts is ∙ ap (λ (z : List Tok). keyword key.Default ∷ z) (f.colon-is (behind ts) b.0 b.1) in
           ok_at (λ (z : Got ArmT). Found (Arm c) arm_depth (suc n) ts z) (DefaultA (span c ts b.0), b.0) x b.2
-            (record { derived = subst (λ (z : List Tok). Arm c z (DefaultA (span c z b.0)) b.0) (sym whole) g.default; fits = omega arith })
+          (record { derived = subst (λ (z : List Tok). Arm c z (DefaultA (span c z b.0)) b.0) (sym whole) g.default; fits = omega arith })
       step arm.Stmt is e' =
           let a = bind_ok (r.stmt ts) _ x e' in
           let d = s.stmt ts a.0 a.1 in

@@ -107,7 +107,7 @@ module _ (c : Context) (n : ℕ) where
       step a named true at_end e' =
           let whole : ts ≡ o ∷ word a.0 ∷ mark m.Semicolon ∷ behind a.1 = is ∙ ap (λ (z : List Tok). o ∷ z) (named ∙ ap (λ (z : List Tok). word a.0 ∷ z) (f.at_semicolon-is a.1 at_end)) in
           ok_at (λ (z : Got ItemT). Read ts z) (RecordD u a.0 None (span c ts (behind a.1)), behind a.1) x e'
-            (record { derived = subst (λ (z : List Tok). Item c z (RecordD u a.0 None (span c z (behind a.1))) (behind a.1)) (sym whole) (g.forward w); fits = omega arith })
+          (record { derived = subst (λ (z : List Tok). Item c z (RecordD u a.0 None (span c z (behind a.1))) (behind a.1)) (sym whole) (g.forward w); fits = omega arith })
       step a named false at_end e' =
           let p = bind_ok (open_brace a.1) _ x e' in
           let v = bind_ok (members_at (declare a.0 c) n p.0) _ x p.2 in
@@ -115,10 +115,10 @@ module _ (c : Context) (n : ℕ) where
           let r = bind_ok (semicolon q.0) _ x q.2 in
           let d = members_derived (declare a.0 c) n p.0 v.0 v.1 in
           let inner : Members (declare a.0 c) p.0 v.0.0 (mark m.CloseBrace ∷ mark m.Semicolon ∷ r.0) =
-              subst (λ (z : List Tok). Members (declare a.0 c) p.0 v.0.0 z) (f.close_brace-is v.0.1 q.0 q.1 ∙ ap (λ (z : List Tok). mark m.CloseBrace ∷ z) (f.semicolon-is q.0 r.0 r.1)) d.derived in
+          subst (λ (z : List Tok). Members (declare a.0 c) p.0 v.0.0 z) (f.close_brace-is v.0.1 q.0 q.1 ∙ ap (λ (z : List Tok). mark m.CloseBrace ∷ z) (f.semicolon-is q.0 r.0 r.1)) d.derived in
           let whole : ts ≡ o ∷ word a.0 ∷ mark m.OpenBrace ∷ p.0 = is ∙ ap (λ (z : List Tok). o ∷ z) (named ∙ ap (λ (z : List Tok). word a.0 ∷ z) (f.open_brace-is a.1 p.0 p.1)) in
           ok_at (λ (z : Got ItemT). Read ts z) (RecordD u a.0 (Some v.0.0) (span c ts r.0), r.0) x r.2
-            (record { derived = subst (λ (z : List Tok). Item c z (RecordD u a.0 (Some v.0.0) (span c z r.0)) r.0) (sym whole) (g.record_ w inner); fits = omega (arith, d.fits) })
+          (record { derived = subst (λ (z : List Tok). Item c z (RecordD u a.0 (Some v.0.0) (span c z r.0)) r.0) (sym whole) (g.record_ w inner); fits = omega (arith, d.fits) })
 
   enum_sound : (ts : List Tok) (x : Got ItemT) → ts ≡ keyword key.Enum ∷ behind ts → enum_at c n ts ≡ Ok x → Read ts x
   enum_sound ts x is e =
@@ -131,7 +131,7 @@ module _ (c : Context) (n : ℕ) where
       let end : ListEnd v.0.1 (mark m.Semicolon ∷ r.0) = subst (λ (z : List Tok). ListEnd v.0.1 z) (f.semicolon-is q.0 r.0 r.1) (end_list-is v.0.1 q.0 q.1) in
       let whole : ts ≡ keyword key.Enum ∷ word a.0.0 ∷ mark m.OpenBrace ∷ p.0 = is ∙ ap (λ (z : List Tok). keyword key.Enum ∷ z) (f.new-is (behind ts) a.0 a.1 ∙ ap (λ (z : List Tok). word a.0.0 ∷ z) (f.open_brace-is a.0.1 p.0 p.1)) in
       ok_at (λ (z : Got ItemT). Read ts z) (EnumD a.0.0 v.0.0 (span c ts r.0), r.0) x r.2
-        (record { derived = subst (λ (z : List Tok). Item c z (EnumD a.0.0 v.0.0 (span c z r.0)) r.0) (sym whole) (g.enum d.derived end); fits = omega (arith, d.fits, values_deepest v.0.0) })
+      (record { derived = subst (λ (z : List Tok). Item c z (EnumD a.0.0 v.0.0 (span c z r.0)) r.0) (sym whole) (g.enum d.derived end); fits = omega (arith, d.fits, values_deepest v.0.0) })
 
   typedef_sound : (ts : List Tok) (x : Got ItemT) → ts ≡ keyword key.Typedef ∷ behind ts → typedef_at c n ts ≡ Ok x → Read ts x
   typedef_sound ts x is e =
@@ -140,9 +140,9 @@ module _ (c : Context) (n : ℕ) where
       let r = bind_ok (semicolon a.0.1) _ x a.2 in
       let t = type_derived c n (behind ts) y.0 y.1 in
       let inner : Ty c (behind ts) y.0.0 (word a.0.0 ∷ mark m.Semicolon ∷ r.0) =
-          subst (λ (z : List Tok). Ty c (behind ts) y.0.0 z) (f.new-is y.0.1 a.0 a.1 ∙ ap (λ (z : List Tok). word a.0.0 ∷ z) (f.semicolon-is a.0.1 r.0 r.1)) t.derived in
+      subst (λ (z : List Tok). Ty c (behind ts) y.0.0 z) (f.new-is y.0.1 a.0 a.1 ∙ ap (λ (z : List Tok). word a.0.0 ∷ z) (f.semicolon-is a.0.1 r.0 r.1)) t.derived in
       ok_at (λ (z : Got ItemT). Read ts z) (TypedefD y.0.0 a.0.0 (span c ts r.0), r.0) x r.2
-        (record { derived = subst (λ (z : List Tok). Item c z (TypedefD y.0.0 a.0.0 (span c z r.0)) r.0) (sym is) (g.typedef inner); fits = omega (arith, t.fits) })
+      (record { derived = subst (λ (z : List Tok). Item c z (TypedefD y.0.0 a.0.0 (span c z r.0)) r.0) (sym is) (g.typedef inner); fits = omega (arith, t.fits) })
 
   function_sound : (ts : List Tok) (y : TypeT) (w : List ℕ) (mid : List Tok) (x : Got ItemT) → Gives c ts y (word w ∷ mid) → type_depth y ≤ n → is_type c w ≡ false → function_at c n ts y w mid ≡ Ok x → Read ts x
   function_sound ts y w mid x d fits free e =
@@ -151,7 +151,7 @@ module _ (c : Context) (n : ℕ) where
       let q = bind_ok (close_paren v.0.1) _ x v.2 in
       let k = params_derived c n p.0 v.0 v.1 in
       step p.0 v.0.0 q.0 (subst (λ (z : List Tok). Gives c ts y (word w ∷ z)) (f.open_paren-is mid p.0 p.1) d)
-        (subst (λ (z : List Tok). Params c p.0 v.0.0 z) (f.close_paren-is v.0.1 q.0 q.1) k.derived) k.fits (at_semicolon q.0) refl q.2
+      (subst (λ (z : List Tok). Params c p.0 v.0.0 z) (f.close_paren-is v.0.1 q.0 q.1) k.derived) k.fits (at_semicolon q.0) refl q.2
     where
       step : (us : List Tok) (vs : List VarT) (end : List Tok) → Gives c ts y (word w ∷ mark m.OpenParen ∷ us) → Params c us vs (mark m.CloseParen ∷ end) → vars_depth vs ≤ n → (b : Bool) → at_semicolon end ≡ b
           → body_by c n ts y w vs end b ≡ Ok x → Read ts x
@@ -165,7 +165,7 @@ module _ (c : Context) (n : ℕ) where
           let params : Params c us vs (mark m.CloseParen ∷ mark m.OpenBrace ∷ o.0) = subst (λ (z : List Tok). Params c us vs (mark m.CloseParen ∷ z)) (f.open_brace-is end o.0 o.1) p in
           let body : Stmts c o.0 s.0.0 (mark m.CloseBrace ∷ r.0) = subst (λ (z : List Tok). Stmts c o.0 s.0.0 z) (f.close_brace-is s.0.1 r.0 r.1) k.derived in
           ok_at (λ (z : Got ItemT). Read ts z) (FunctionD y w vs (Some (stmts s.0.0)) (span c ts r.0), r.0) x r.2
-            (record { derived = g.defined d free params body; fits = omega (arith, k.fits) })
+          (record { derived = g.defined d free params body; fits = omega (arith, k.fits) })
 
   vars_sound : (ts mid : List Tok) (x : Got ItemT) (b : Bool) → vars_by c n ts mid b ≡ Ok x → Read ts x
   vars_sound ts mid x false e = absurd (nothing_read _ x e)
@@ -174,7 +174,7 @@ module _ (c : Context) (n : ℕ) where
       let b = bind_ok (semicolon a.0.1) _ x a.2 in
       let d = vars_derived c n ts a.0 a.1 in
       ok_at (λ (z : Got ItemT). Read ts z) (VarsD a.0.0 (span c ts b.0), b.0) x b.2
-        (record { derived = g.vars (subst (λ (z : List Tok). Vars c ts a.0.0 z) (f.semicolon-is a.0.1 b.0 b.1) d.derived); fits = omega (arith, d.fits) })
+      (record { derived = g.vars (subst (λ (z : List Tok). Vars c ts a.0.0 z) (f.semicolon-is a.0.1 b.0 b.1) d.derived); fits = omega (arith, d.fits) })
 
   typed_sound : (ts : List Tok) (x : Got ItemT) → typed_at c n ts ≡ Ok x → Read ts x
   typed_sound ts x e =
@@ -228,7 +228,7 @@ unit_loop n pos a ts x e = repeat_runs (item_turn n) (UnitFit n) end more (suc (
         let d = bind_ok (item_read a.0 n (o ∷ ts)) _ _ is in
         let s = item_sound a.0 n (o ∷ ts) d.0 pos d.1 in
         some_at (λ (z : Got Unit_so_far). UnitFit n z.0 z.1 x rest → UnitFit n a (o ∷ ts) x rest) ((behind_item d.0.0 a.0, a.1 ++ d.0.0 ∷ []), d.0.1) (b, us) d.2
-          (λ h. (d.0.0 ∷ h.0, h.1 ∙ append_assoc a.1 (d.0.0 ∷ []) h.0, g.more s.derived h.2, omega (arith, s.fits, h.3))) back
+        (λ h. (d.0.0 ∷ h.0, h.1 ∙ append_assoc a.1 (d.0.0 ∷ []) h.0, g.more s.derived h.2, omega (arith, s.fits, h.3))) back
 
 -- what is read is derived, with so many trees on a path at most
 pub unit_derived : (n : ℕ) (ts : List Tok) (ds : List ItemT) → 0 < n → unit_at n ts ≡ Ok ds → Unit_ ts ds × (unit_depth ds ≤ suc n)
@@ -237,4 +237,4 @@ unit_derived n ts ds pos e =
     let a = bind_ok (loop (item_turn n) (record { total = length ts; types = [] }, []) ts) _ ds e in
     let k = unit_loop n pos (record { total = length ts; types = [] }, []) ts a.0 a.1 in
     ok_at (λ (z : List ItemT). Unit_ ts z × (unit_depth z ≤ suc n)) a.0.0.1 ds a.2
-      (subst (λ (z : List ItemT). Unit_ ts z × (unit_depth z ≤ suc n)) (sym k.1) (k.2, k.3))
+    (subst (λ (z : List ItemT). Unit_ ts z × (unit_depth z ≤ suc n)) (sym k.1) (k.2, k.3))

@@ -119,7 +119,7 @@ module _ (c : Context) (n : ℕ) (r : Readers) (s : Sound c n r) where
           let b = bind_ok (r.run a mid) _ x e' in
           let d = s.run a mid b.0 (f.at_open_bracket-is mid is) b.1 in
           ok_at (λ (z : Got TypeT). Found (WholeRun c a) type_depth (suc n) (mark m.OpenBracket ∷ behind ts) z) (ArrayY b.0.0 e, b.0.1) x b.2
-            (record { derived = record { run = g.brackets size d.derived.run; ended = d.derived.ended }; fits = omega (arith, d.fits) })
+          (record { derived = record { run = g.brackets size d.derived.run; ended = d.derived.ended }; fits = omega (arith, d.fits) })
 
   abbrev MarksFit : TypeT → List Tok → TypeT → List Tok → Type 0
   MarksFit a ts y rest = type_depth a ≤ suc n → Marks c a ts y rest × (type_depth y ≤ suc n)
@@ -131,12 +131,12 @@ module _ (c : Context) (n : ℕ) (r : Readers) (s : Sound c n r) where
       step a ts b y us rest type_mark.Star is e' back fits =
           let g0 = above_ok (type_depth a) (suc n) ts _ _ e' in
           some_at (λ (z : Got TypeT). MarksFit z.0 z.1 y rest → Marks c a ts y rest × (type_depth y ≤ suc n)) (PointerY a, behind ts) (b, us) g0.1
-            (λ h. let k = h (omega (arith, g0.0)) in (subst (λ (z : List Tok). Marks c a z y rest) (sym (f.star-is ts is)) (g.pointer k.0), k.1)) back
+          (λ h. let k = h (omega (arith, g0.0)) in (subst (λ (z : List Tok). Marks c a z y rest) (sym (f.star-is ts is)) (g.pointer k.0), k.1)) back
       step a ts b y us rest type_mark.Bracket is e' back fits =
           let b0 = bind_ok (run_with r (suc n) a ts) _ _ e' in
           let d = run_sound a ts b0.0 (f.bracket-is ts is) b0.1 in
           some_at (λ (z : Got TypeT). MarksFit z.0 z.1 y rest → Marks c a ts y rest × (type_depth y ≤ suc n)) b0.0 (b, us) b0.2
-            (λ h. let k = h d.fits in (g.array d.derived.run d.derived.ended k.0, k.1)) back
+          (λ h. let k = h d.fits in (g.array d.derived.run d.derived.ended k.0, k.1)) back
       step a ts b y us rest type_mark.Nothing is e' back fits = absurd cc
 
       more : (a : TypeT) (ts : List Tok) (b y : TypeT) (us rest : List Tok) → type_mark_turn r (suc n) a ts ≡ Ok (Some (b, us)) → MarksFit b us y rest → MarksFit a ts y rest
@@ -187,8 +187,8 @@ module _ (c : Context) (n : ℕ) (r : Readers) (s : Sound c n r) where
           let a = bind_ok (r.whole (behind ts)) _ _ e' in
           let d = s.whole (behind ts) a.0 a.1 in
           some_at (λ (z : Got (List ExprT)). ExprsFit z.0 z.1 all rest → ExprsFit es ts all rest) (es ++ a.0.0 ∷ [], a.0.1) (es', us) a.2
-            (λ h. λ e vs first fits. let k = h a.0.0 (behind ts) d.derived d.fits in
-              (a.0.0 ∷ k.0, k.1 ∙ append_assoc es (a.0.0 ∷ []) k.0, g.more (subst (λ (z : List Tok). Expr c vs e z) (f.at_comma-is ts is) first) k.2, omega (arith, d.fits, k.3))) back
+          (λ h. λ e vs first fits. let k = h a.0.0 (behind ts) d.derived d.fits in
+          (a.0.0 ∷ k.0, k.1 ∙ append_assoc es (a.0.0 ∷ []) k.0, g.more (subst (λ (z : List Tok). Expr c vs e z) (f.at_comma-is ts is) first) k.2, omega (arith, d.fits, k.3))) back
 
       more : (es : List ExprT) (ts : List Tok) (es' all : List ExprT) (us rest : List Tok) → exprs_turn r es ts ≡ Ok (Some (es', us)) → ExprsFit es' us all rest → ExprsFit es ts all rest
       more es ts es' all us rest e' back = step es ts es' all us rest (at_comma ts) refl e' back
@@ -215,20 +215,20 @@ module _ (c : Context) (n : ℕ) (r : Readers) (s : Sound c n r) where
       let o = f.at_open_paren-is (behind ts) at' in
       let a = bind_ok (arguments_with r (behind (behind ts))) _ x e in
       ok_at (λ (z : Got ExprT). Found (Primary c) expr_depth (suc n) ts z) (CallE (bytes_at ts) (exprs a.0.0) (span c ts a.0.1), a.0.1) x a.2
-        (subst (λ (z : List Tok). Found (Primary c) expr_depth (suc n) z (CallE (bytes_at ts) (exprs a.0.0) (span c z a.0.1), a.0.1)) (sym (is ∙ ap (λ (z : List Tok). word (bytes_at ts) ∷ z) o))
-          (call (bytes_at ts) (behind (behind ts)) a.0 proper (at_close_paren (behind (behind ts))) refl a.1))
+      (subst (λ (z : List Tok). Found (Primary c) expr_depth (suc n) z (CallE (bytes_at ts) (exprs a.0.0) (span c z a.0.1), a.0.1)) (sym (is ∙ ap (λ (z : List Tok). word (bytes_at ts) ∷ z) o))
+      (call (bytes_at ts) (behind (behind ts)) a.0 proper (at_close_paren (behind (behind ts))) refl a.1))
     where
       call : (w : List ℕ) (us : List Tok) (es : Got (List ExprT)) → is_type c w ≡ false → (b : Bool) → at_close_paren us ≡ b → arguments_by r us b ≡ Ok es
           → Found (Primary c) expr_depth (suc n) (word w ∷ mark m.OpenParen ∷ us) (CallE w (exprs es.0) (span c (word w ∷ mark m.OpenParen ∷ us) es.1), es.1)
       call w us es proper true is e = ok_at (λ (z : Got (List ExprT)). Found (Primary c) expr_depth (suc n) (word w ∷ mark m.OpenParen ∷ us) (CallE w (exprs z.0) (span c (word w ∷ mark m.OpenParen ∷ us) z.1), z.1)) ([], behind us) es e
           (subst (λ (z : List Tok). Found (Primary c) expr_depth (suc n) (word w ∷ mark m.OpenParen ∷ z) (CallE w NoE (span c (word w ∷ mark m.OpenParen ∷ z) (behind us)), behind us)) (sym (f.at_close_paren-is us is))
-            (record { derived = g.call_bare proper; fits = omega arith }))
+          (record { derived = g.call_bare proper; fits = omega arith }))
       call w us es proper false is e =
           let a = bind_ok (exprs_with r us) _ es e in
           let b = bind_ok (close_paren a.0.1) _ es a.2 in
           let d = exprs_sound us a.0 a.1 in
           ok_at (λ (z : Got (List ExprT)). Found (Primary c) expr_depth (suc n) (word w ∷ mark m.OpenParen ∷ us) (CallE w (exprs z.0) (span c (word w ∷ mark m.OpenParen ∷ us) z.1), z.1)) (a.0.0, b.0) es b.2
-            (record { derived = g.call proper (subst (λ (z : List Tok). Exprs c us a.0.0 z) (f.close_paren-is a.0.1 b.0 b.1) d.derived); fits = omega (arith, d.fits) })
+          (record { derived = g.call proper (subst (λ (z : List Tok). Exprs c us a.0.0 z) (f.close_paren-is a.0.1 b.0 b.1) d.derived); fits = omega (arith, d.fits) })
 
   primary_sound : IsSound (Primary c) expr_depth (suc n) (primary_with c r)
   primary_sound ts x e = step (lead_at c ts) refl e
@@ -238,18 +238,18 @@ module _ (c : Context) (n : ℕ) (r : Readers) (s : Sound c n r) where
       step (lead.Value v) is e' =
           let i = f.value-is c ts v is in
           ok_at (λ (z : Got ExprT). Found (Primary c) expr_depth (suc n) ts z) (NumberE v (span c ts (behind ts)), behind ts) x e'
-            (record { derived = subst (λ (z : List Tok). Primary c z (NumberE v (span c z (behind ts))) (behind ts)) (sym i.1) (g.valued i.2); fits = omega arith })
+          (record { derived = subst (λ (z : List Tok). Primary c z (NumberE v (span c z (behind ts))) (behind ts)) (sym i.1) (g.valued i.2); fits = omega arith })
       step lead.Text is e' = ok_at (λ (z : Got ExprT). Found (Primary c) expr_depth (suc n) ts z) (TextE (bytes_at ts) (span c ts (behind ts)), behind ts) x e'
-            (record { derived = subst (λ (z : List Tok). Primary c z (TextE (bytes_at ts) (span c z (behind ts))) (behind ts)) (sym (f.text-is c ts is)) g.text_; fits = omega arith })
+          (record { derived = subst (λ (z : List Tok). Primary c z (TextE (bytes_at ts) (span c z (behind ts))) (behind ts)) (sym (f.text-is c ts is)) g.text_; fits = omega arith })
       step lead.Null is e' = ok_at (λ (z : Got ExprT). Found (Primary c) expr_depth (suc n) ts z) (NullE (span c ts (behind ts)), behind ts) x e'
-            (record { derived = subst (λ (z : List Tok). Primary c z (NullE (span c z (behind ts))) (behind ts)) (sym (f.null-is c ts is)) g.null; fits = omega arith })
+          (record { derived = subst (λ (z : List Tok). Primary c z (NullE (span c z (behind ts))) (behind ts)) (sym (f.null-is c ts is)) g.null; fits = omega arith })
       step lead.Paren is e' =
           let a = bind_ok (r.whole (behind ts)) _ x e' in
           let b = bind_ok (close_paren a.0.1) _ x a.2 in
           let d = s.whole (behind ts) a.0 a.1 in
           let inner : Expr c (behind ts) a.0.0 (mark m.CloseParen ∷ b.0) = subst (λ (z : List Tok). Expr c (behind ts) a.0.0 z) (f.close_paren-is a.0.1 b.0 b.1) d.derived in
           ok_at (λ (z : Got ExprT). Found (Primary c) expr_depth (suc n) ts z) (ParenE a.0.0 (span c ts b.0), b.0) x b.2
-            (record { derived = subst (λ (z : List Tok). Primary c z (ParenE a.0.0 (span c z b.0)) b.0) (sym (f.paren-is c ts is)) (g.paren inner); fits = omega (arith, d.fits) })
+          (record { derived = subst (λ (z : List Tok). Primary c z (ParenE a.0.0 (span c z b.0)) b.0) (sym (f.paren-is c ts is)) (g.paren inner); fits = omega (arith, d.fits) })
       step lead.Other is e' = absurd cc
 
   abbrev SuffixesFit : List Tok → ExprT → List Tok → ExprT → List Tok → Type 0
@@ -267,21 +267,21 @@ module _ (c : Context) (n : ℕ) (r : Readers) (s : Sound c n r) where
           let d = s.whole (behind ts) i.0 i.1 in
           let inner : Expr c (behind ts) i.0.0 (mark m.CloseBracket ∷ b.0) = subst (λ (z : List Tok). Expr c (behind ts) i.0.0 z) (f.close_bracket-is i.0.1 b.0 b.1) d.derived in
           ok_at (λ (z : Got ExprT). SuffixesFit from z.0 z.1 e rest → Suffixes c from a ts e rest × (expr_depth e ≤ suc n)) (IndexE a i.0.0 (span c from b.0), b.0) y b.2
-            (λ h. let k = h (omega (arith, d.fits)) in (subst (λ (z : List Tok). Suffixes c from a z e rest) (sym (f.index-is ts is)) (g.index inner k.0), k.1)) back
+          (λ h. let k = h (omega (arith, d.fits)) in (subst (λ (z : List Tok). Suffixes c from a z e rest) (sym (f.index-is ts is)) (g.index inner k.0), k.1)) back
       one a ts y e rest suffix.Member is over e' back =
           let w = bind_ok (name c (behind ts)) _ y e' in
           let i = f.name-is c (behind ts) w.0 w.1 in
           ok_at (λ (z : Got ExprT). SuffixesFit from z.0 z.1 e rest → Suffixes c from a ts e rest × (expr_depth e ≤ suc n)) (MemberE a w.0.0 (span c from w.0.1), w.0.1) y w.2
-            (λ h. let k = h (omega arith) in (subst (λ (z : List Tok). Suffixes c from a z e rest) (sym (f.member-is ts is ∙ ap (λ (z : List Tok). mark m.Dot ∷ z) i.0)) (g.member i.1 k.0), k.1)) back
+          (λ h. let k = h (omega arith) in (subst (λ (z : List Tok). Suffixes c from a z e rest) (sym (f.member-is ts is ∙ ap (λ (z : List Tok). mark m.Dot ∷ z) i.0)) (g.member i.1 k.0), k.1)) back
       one a ts y e rest suffix.Arrow is over e' back =
           let w = bind_ok (name c (behind ts)) _ y e' in
           let i = f.name-is c (behind ts) w.0 w.1 in
           ok_at (λ (z : Got ExprT). SuffixesFit from z.0 z.1 e rest → Suffixes c from a ts e rest × (expr_depth e ≤ suc n)) (ArrowE a w.0.0 (span c from w.0.1), w.0.1) y w.2
-            (λ h. let k = h (omega arith) in (subst (λ (z : List Tok). Suffixes c from a z e rest) (sym (f.arrow-is ts is ∙ ap (λ (z : List Tok). mark m.Arrow ∷ z) i.0)) (g.arrow i.1 k.0), k.1)) back
+          (λ h. let k = h (omega arith) in (subst (λ (z : List Tok). Suffixes c from a z e rest) (sym (f.arrow-is ts is ∙ ap (λ (z : List Tok). mark m.Arrow ∷ z) i.0)) (g.arrow i.1 k.0), k.1)) back
       one a ts y e rest (suffix.Step op) is over e' back =
           let i = f.stepped-is ts op is in
           ok_at (λ (z : Got ExprT). SuffixesFit from z.0 z.1 e rest → Suffixes c from a ts e rest × (expr_depth e ≤ suc n)) (StepE op a (span c from (behind ts)), behind ts) y e'
-            (λ h. let k = h (omega arith) in (subst (λ (z : List Tok). Suffixes c from a z e rest) (sym i.1) (g.stepped i.2 k.0), k.1)) back
+          (λ h. let k = h (omega arith) in (subst (λ (z : List Tok). Suffixes c from a z e rest) (sym i.1) (g.stepped i.2 k.0), k.1)) back
       one a ts y e rest suffix.Nothing is over e' back = absurd cc
 
       step : (a : ExprT) (ts : List Tok) (b e : ExprT) (us rest : List Tok) (k : Bool) → suffix_turn_by c r (suc n) from a ts k ≡ Ok (Some (b, us)) → SuffixesFit from b us e rest → SuffixesFit from a ts e rest
@@ -303,13 +303,13 @@ module _ (c : Context) (n : ℕ) (r : Readers) (s : Sound c n r) where
           let a = bind_ok (r.level zero (behind ts)) _ x e' in
           let d = s.level zero (behind ts) a.0 a.1 in
           ok_at (λ (z : Got ExprT). Found (Unary c) expr_depth (suc n) ts z) (UnaryE op a.0.0 (span c ts a.0.1), a.0.1) x a.2
-            (record { derived = subst (λ (z : List Tok). Unary c z (UnaryE op a.0.0 (span c z a.0.1)) a.0.1) (sym i.1) (g.operator i.2 (lowest d.derived)); fits = omega (arith, d.fits) })
+          (record { derived = subst (λ (z : List Tok). Unary c z (UnaryE op a.0.0 (span c z a.0.1)) a.0.1) (sym i.1) (g.operator i.2 (lowest d.derived)); fits = omega (arith, d.fits) })
       step (start.Step op) is e' =
           let i = f.step-is c ts op is in
           let a = bind_ok (r.level zero (behind ts)) _ x e' in
           let d = s.level zero (behind ts) a.0 a.1 in
           ok_at (λ (z : Got ExprT). Found (Unary c) expr_depth (suc n) ts z) (StepE op a.0.0 (span c ts a.0.1), a.0.1) x a.2
-            (record { derived = subst (λ (z : List Tok). Unary c z (StepE op a.0.0 (span c z a.0.1)) a.0.1) (sym i.1) (g.step i.2 (lowest d.derived)); fits = omega (arith, d.fits) })
+          (record { derived = subst (λ (z : List Tok). Unary c z (StepE op a.0.0 (span c z a.0.1)) a.0.1) (sym i.1) (g.step i.2 (lowest d.derived)); fits = omega (arith, d.fits) })
       step start.Cast is e' =
           let y = bind_ok (r.type (behind ts)) _ x e' in
           let b = bind_ok (close_paren y.0.1) _ x y.2 in
@@ -318,7 +318,7 @@ module _ (c : Context) (n : ℕ) (r : Readers) (s : Sound c n r) where
           let d = s.level zero b.0 a.0 a.1 in
           let inner : Ty c (behind ts) y.0.0 (mark m.CloseParen ∷ b.0) = subst (λ (z : List Tok). Ty c (behind ts) y.0.0 z) (f.close_paren-is y.0.1 b.0 b.1) t.derived in
           ok_at (λ (z : Got ExprT). Found (Unary c) expr_depth (suc n) ts z) (CastE y.0.0 a.0.0 (span c ts a.0.1), a.0.1) x a.2
-            (record { derived = subst (λ (z : List Tok). Unary c z (CastE y.0.0 a.0.0 (span c z a.0.1)) a.0.1) (sym (f.cast-is c ts is)) (g.cast inner (lowest d.derived)); fits = omega (arith, t.fits, d.fits) })
+          (record { derived = subst (λ (z : List Tok). Unary c z (CastE y.0.0 a.0.0 (span c z a.0.1)) a.0.1) (sym (f.cast-is c ts is)) (g.cast inner (lowest d.derived)); fits = omega (arith, t.fits, d.fits) })
       step start.Size is e' =
           let o = bind_ok (open_paren (behind ts)) _ x e' in
           let y = bind_ok (r.type o.0) _ x o.2 in
@@ -327,7 +327,7 @@ module _ (c : Context) (n : ℕ) (r : Readers) (s : Sound c n r) where
           let inner : Ty c o.0 y.0.0 (mark m.CloseParen ∷ b.0) = subst (λ (z : List Tok). Ty c o.0 y.0.0 z) (f.close_paren-is y.0.1 b.0 b.1) t.derived in
           let whole : ts ≡ keyword key.SizeOf ∷ mark m.OpenParen ∷ o.0 = f.size-is c ts is ∙ ap (λ (z : List Tok). keyword key.SizeOf ∷ z) (f.open_paren-is (behind ts) o.0 o.1) in
           ok_at (λ (z : Got ExprT). Found (Unary c) expr_depth (suc n) ts z) (SizeOfE y.0.0 (span c ts b.0), b.0) x b.2
-            (record { derived = subst (λ (z : List Tok). Unary c z (SizeOfE y.0.0 (span c z b.0)) b.0) (sym whole) (g.size inner); fits = omega (arith, t.fits) })
+          (record { derived = subst (λ (z : List Tok). Unary c z (SizeOfE y.0.0 (span c z b.0)) b.0) (sym whole) (g.size inner); fits = omega (arith, t.fits) })
       step start.Other is e' =
           let a = bind_ok (primary_with c r ts) _ x e' in
           let p = primary_sound ts a.0 a.1 in
@@ -348,7 +348,7 @@ module _ (c : Context) (n : ℕ) (r : Readers) (s : Sound c n r) where
           let y = bind_ok (r.level k (behind ts)) _ _ g0.1 in
           let d = s.level k (behind ts) y.0 y.1 in
           some_at (λ (z : Got ExprT). TailFit k from z.0 z.1 e rest → Tail c k from a ts e rest × (expr_depth e ≤ suc n)) (BinaryE op a y.0.0 (span c from y.0.1), y.0.1) (b, us) y.2
-            (λ h. let q = h (omega (arith, g0.0, d.fits)) in (subst (λ (z : List Tok). Tail c k from a z e rest) (sym i.1) (g.operated i.2 d.derived q.0), q.1)) back
+          (λ h. let q = h (omega (arith, g0.0, d.fits)) in (subst (λ (z : List Tok). Tail c k from a z e rest) (sym i.1) (g.operated i.2 d.derived q.0), q.1)) back
 
       more : (a : ExprT) (ts : List Tok) (b e : ExprT) (us rest : List Tok) → operator_turn c r (suc n) k from a ts ≡ Ok (Some (b, us)) → TailFit k from b us e rest → TailFit k from a ts e rest
       more a ts b e us rest e' back = step a ts b e us rest (operator_at (suc k) ts) refl e' back
@@ -377,7 +377,7 @@ module _ (c : Context) (n : ℕ) (r : Readers) (s : Sound c n r) where
           let b = bind_ok (r.whole (behind a.1)) _ x g0.1 in
           let q = s.whole (behind a.1) b.0 b.1 in
           ok_at (λ (z : Got ExprT). Found (Expr c) expr_depth (suc n) ts z) (AssignE op a.0 b.0.0 (span c ts b.0.1), b.0.1) x b.2
-            (record { derived = g.assign (subst (λ (z : List Tok). Unary c ts a.0 z) o.1 (lowered d i.0)) o.2 q.derived; fits = omega (arith, g0.0, q.fits) })
+          (record { derived = g.assign (subst (λ (z : List Tok). Unary c ts a.0 z) o.1 (lowered d i.0)) o.2 q.derived; fits = omega (arith, g0.0, q.fits) })
 
 pub nothing_read : {A : Type 0} (d : Fault) (x : A) → failed d ≡ done x → ⊥
 nothing_read d x e = cc

@@ -94,16 +94,16 @@ suffix_shorter c n from a ts y suffix.Index is e =
     let b = bind_ok (close_bracket i.0.1) _ y i.2 in
     let less = expr_shorter (expr_derived c n (behind ts) i.0 i.1).derived in
     ok_at (λ (z : Got ExprT). length z.1 < length ts) (IndexE a i.0.0 (span c from b.0), b.0) y b.2
-      (omega (arith, less, ap length (f.index-is ts is), ap length (f.close_bracket-is i.0.1 b.0 b.1)))
+    (omega (arith, less, ap length (f.index-is ts is), ap length (f.close_bracket-is i.0.1 b.0 b.1)))
 suffix_shorter c n from a ts y suffix.Member is e =
     let w = bind_ok (name c (behind ts)) _ y e in
     ok_at (λ (z : Got ExprT). length z.1 < length ts) (MemberE a w.0.0 (span c from w.0.1), w.0.1) y w.2
-      (omega (arith, ap length (f.member-is ts is), ap length (f.name-is c (behind ts) w.0 w.1).0))
+    (omega (arith, ap length (f.member-is ts is), ap length (f.name-is c (behind ts) w.0 w.1).0))
 suffix_shorter c n from a ts y suffix.Arrow is e =
     let w = bind_ok (name c (behind ts)) _ y e in
     ok_at (λ (z : Got ExprT). length z.1 < length ts) (ArrowE a w.0.0 (span c from w.0.1), w.0.1) y w.2
-      (omega (arith, ap length (f.arrow-is ts is), ap length (f.name-is c (behind ts) w.0 w.1).0))
+    (omega (arith, ap length (f.arrow-is ts is), ap length (f.name-is c (behind ts) w.0 w.1).0))
 suffix_shorter c n from a ts y (suffix.Step op) is e =
     ok_at (λ (z : Got ExprT). length z.1 < length ts) (StepE op a (span c from (behind ts)), behind ts) y e
-      (omega (arith, ap length (f.stepped-is ts op is).1))
+    (omega (arith, ap length (f.stepped-is ts op is).1))
 suffix_shorter c n from a ts y suffix.Nothing is e = absurd cc

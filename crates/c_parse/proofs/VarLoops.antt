@@ -58,7 +58,9 @@ pub vars_start : (c : Context) (n : ℕ) (from us rest : List Tok) (y : TypeT) (
     → VarsGo c n from found rest (vars_at c (suc n) from)
 unfolding vars_at
 vars_start c n from us rest y v found pos is first one = record {
-  y = y; behind_type = us; read = is;
+  y = y;
+  behind_type = us;
+  read = is;
   goes = rw (one, is, first) (goes_start (comma_turn (var c n y)) (v ∷ []) rest);
 }
 
@@ -78,14 +80,20 @@ module _ (c : Context) (n : ℕ) (from : List Tok) (found : List VarT) (ts : Lis
       let again : var c n h.y (behind ts) ≡ Ok (v, rest) = subst (λ (y : TypeT). var c n y (behind ts) ≡ Ok (v, rest)) same good in
       let less = var_less c n h.y (behind ts) (v, rest) again in
       record {
-        y = h.y; behind_type = h.behind_type; read = h.read;
+        y = h.y;
+        behind_type = h.behind_type;
+        read = h.read;
         goes = goes_turn _ _ _ _ h.goes _ _ (comma_ok (var c n h.y) found ts (v, rest) some again) (omega (arith, less, behind_up ts));
       }
 
 pub fields_start : (c : Context) (n : ℕ) (from us rest : List Tok) (y : TypeT) (v : VarT) (before found : List VarT) → type_read c n from ≡ Ok (y, us) → field c y us ≡ Ok (v, rest) → found ≡ before ++ v ∷ []
     → FieldsGo c n from before found rest
 fields_start c n from us rest y v before found is first one = record {
-  y = y; behind_type = us; read = is; here = v ∷ []; is = one;
+  y = y;
+  behind_type = us;
+  read = is;
+  here = v ∷ [];
+  is = one;
   goes = rw first (goes_start (comma_turn (field c y)) (v ∷ []) rest);
 }
 
@@ -121,7 +129,10 @@ module _ (c : Context) (n : ℕ) (from : List Tok) (before found : List VarT) (t
       let again : field c h.y (behind ts) ≡ Ok (v, rest) = subst (λ (y : TypeT). field c y (behind ts) ≡ Ok (v, rest)) same good in
       let less = field_less c h.y (behind ts) (v, rest) again in
       record {
-        y = h.y; behind_type = h.behind_type; read = h.read; here = h.here ++ v ∷ [];
+        y = h.y;
+        behind_type = h.behind_type;
+        read = h.read;
+        here = h.here ++ v ∷ [];
         is = ap (λ (l : List VarT). l ++ v ∷ []) h.is ∙ append_assoc before h.here (v ∷ []);
         goes = goes_turn _ _ _ _ h.goes _ _ (comma_ok (field c h.y) h.here ts (v, rest) some again) (omega (arith, less, behind_up ts));
       }

@@ -13,7 +13,7 @@ mutual
   pub data Init (c : Context) : List Tok → InitT → List Tok → Type 0 where
     one : {ts rest : List Tok} {e : ExprT} → Expr c ts e rest → Init c ts (OneI e) rest
     list : {ts mid rest : List Tok} {is : List InitT} → Inits c ts is mid → ListEnd mid rest
-      → Init c (mark m.OpenBrace ∷ ts) (ListI (inits is) (span c (mark m.OpenBrace ∷ ts) rest)) rest
+        → Init c (mark m.OpenBrace ∷ ts) (ListI (inits is) (span c (mark m.OpenBrace ∷ ts) rest)) rest
 
   pub data Inits (c : Context) : List Tok → List InitT → List Tok → Type 0 where
     last_init : {ts rest : List Tok} {i : InitT} → Init c ts i rest → Inits c ts (i ∷ []) rest
@@ -27,7 +27,7 @@ pub data Field (c : Context) (y : TypeT) : List Tok → VarT → List Tok → Ty
 pub data Var (c : Context) (y : TypeT) : List Tok → VarT → List Tok → Type 0 where
   plain_var : {ts rest : List Tok} {v : VarT} → Field c y ts v rest → Var c y ts v rest
   set_var : {ts rest : List Tok} {n : List ℕ} {i : InitT} → is_type c n ≡ false → Init c ts i rest
-    → Var c y (word n ∷ mark m.Assign ∷ ts) (record { ty = y; name = n; init = Some i; span = span c (word n ∷ mark m.Assign ∷ ts) rest }) rest
+      → Var c y (word n ∷ mark m.Assign ∷ ts) (record { ty = y; name = n; init = Some i; span = span c (word n ∷ mark m.Assign ∷ ts) rest }) rest
 
 pub data Vars (c : Context) : List Tok → List VarT → List Tok → Type 0 where
   vars : {ts mid rest : List Tok} {y : TypeT} {vs : List VarT} → Ty c ts y mid → Separated (Var c y) mid vs rest → Vars c ts vs rest

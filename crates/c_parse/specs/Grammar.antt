@@ -42,7 +42,7 @@ mutual
   pub data Expr (c : Context) : List Tok → ExprT → List Tok → Type 0 where
     plain : {ts rest : List Tok} {e : ExprT} → Level c 10 ts e rest → Expr c ts e rest
     assign : {ts mid rest : List Tok} {o : Tok} {op : Option BinOp} {a b : ExprT} → Unary c ts a (o ∷ mid) → assigner o ≡ Some op → Expr c mid b rest
-      → Expr c ts (AssignE op a b (span c ts rest)) rest
+        → Expr c ts (AssignE op a b (span c ts rest)) rest
 
   -- level 0 is `unary`, level 1 `prod`, and so on up to level 10, `or`
   pub data Level (c : Context) : ℕ → List Tok → ExprT → List Tok → Type 0 where
@@ -53,35 +53,35 @@ mutual
   pub data Tail (c : Context) : ℕ → List Tok → ExprT → List Tok → ExprT → List Tok → Type 0 where
     ended : {k : ℕ} {at ts : List Tok} {a : ExprT} → Tail c k at a ts a ts
     operated : {k : ℕ} {at ts mid rest : List Tok} {o : Tok} {op : BinOp} {a b e : ExprT} → binary o ≡ Some (suc k, op) → Level c k ts b mid
-      → Tail c k at (BinaryE op a b (span c at mid)) mid e rest → Tail c k at a (o ∷ ts) e rest
+        → Tail c k at (BinaryE op a b (span c at mid)) mid e rest → Tail c k at a (o ∷ ts) e rest
 
   pub data Unary (c : Context) : List Tok → ExprT → List Tok → Type 0 where
     operator : {ts rest : List Tok} {o : Tok} {op : UnOp} {a : ExprT} → prefix o ≡ Some op → Unary c ts a rest → Unary c (o ∷ ts) (UnaryE op a (span c (o ∷ ts) rest)) rest
     step : {ts rest : List Tok} {o : Tok} {op : StepOp} {a : ExprT} → step_before o ≡ Some op → Unary c ts a rest → Unary c (o ∷ ts) (StepE op a (span c (o ∷ ts) rest)) rest
     cast : {ts mid rest : List Tok} {y : TypeT} {a : ExprT} → Ty c ts y (mark m.CloseParen ∷ mid) → Unary c mid a rest
-      → Unary c (mark m.OpenParen ∷ ts) (CastE y a (span c (mark m.OpenParen ∷ ts) rest)) rest
+        → Unary c (mark m.OpenParen ∷ ts) (CastE y a (span c (mark m.OpenParen ∷ ts) rest)) rest
     size : {ts rest : List Tok} {y : TypeT} → Ty c ts y (mark m.CloseParen ∷ rest)
-      → Unary c (keyword key.SizeOf ∷ mark m.OpenParen ∷ ts) (SizeOfE y (span c (keyword key.SizeOf ∷ mark m.OpenParen ∷ ts) rest)) rest
+        → Unary c (keyword key.SizeOf ∷ mark m.OpenParen ∷ ts) (SizeOfE y (span c (keyword key.SizeOf ∷ mark m.OpenParen ∷ ts) rest)) rest
     postfix : {ts mid rest : List Tok} {a e : ExprT} → Primary c ts a mid → Suffixes c ts a mid e rest → Unary c ts e rest
 
   -- suffixes behind a, which begins at the tokens at, make e
   pub data Suffixes (c : Context) : List Tok → ExprT → List Tok → ExprT → List Tok → Type 0 where
     bare : {at ts : List Tok} {a : ExprT} → Suffixes c at a ts a ts
     index : {at ts mid rest : List Tok} {a i e : ExprT} → Expr c ts i (mark m.CloseBracket ∷ mid) → Suffixes c at (IndexE a i (span c at mid)) mid e rest
-      → Suffixes c at a (mark m.OpenBracket ∷ ts) e rest
+        → Suffixes c at a (mark m.OpenBracket ∷ ts) e rest
     member : {at ts rest : List Tok} {n : List ℕ} {a e : ExprT} → is_type c n ≡ false → Suffixes c at (MemberE a n (span c at ts)) ts e rest
-      → Suffixes c at a (mark m.Dot ∷ word n ∷ ts) e rest
+        → Suffixes c at a (mark m.Dot ∷ word n ∷ ts) e rest
     arrow : {at ts rest : List Tok} {n : List ℕ} {a e : ExprT} → is_type c n ≡ false → Suffixes c at (ArrowE a n (span c at ts)) ts e rest
-      → Suffixes c at a (mark m.Arrow ∷ word n ∷ ts) e rest
+        → Suffixes c at a (mark m.Arrow ∷ word n ∷ ts) e rest
     stepped : {at ts rest : List Tok} {o : Tok} {op : StepOp} {a e : ExprT} → step_behind o ≡ Some op → Suffixes c at (StepE op a (span c at ts)) ts e rest
-      → Suffixes c at a (o ∷ ts) e rest
+        → Suffixes c at a (o ∷ ts) e rest
 
   pub data Primary (c : Context) : List Tok → ExprT → List Tok → Type 0 where
     name : {rest : List Tok} {n : List ℕ} → is_type c n ≡ false → Primary c (word n ∷ rest) (NameE n (span c (word n ∷ rest) rest)) rest
     call_bare : {rest : List Tok} {n : List ℕ} → is_type c n ≡ false
-      → Primary c (word n ∷ mark m.OpenParen ∷ mark m.CloseParen ∷ rest) (CallE n NoE (span c (word n ∷ mark m.OpenParen ∷ mark m.CloseParen ∷ rest) rest)) rest
+        → Primary c (word n ∷ mark m.OpenParen ∷ mark m.CloseParen ∷ rest) (CallE n NoE (span c (word n ∷ mark m.OpenParen ∷ mark m.CloseParen ∷ rest) rest)) rest
     call : {ts rest : List Tok} {n : List ℕ} {es : List ExprT} → is_type c n ≡ false → Exprs c ts es (mark m.CloseParen ∷ rest)
-      → Primary c (word n ∷ mark m.OpenParen ∷ ts) (CallE n (exprs es) (span c (word n ∷ mark m.OpenParen ∷ ts) rest)) rest
+        → Primary c (word n ∷ mark m.OpenParen ∷ ts) (CallE n (exprs es) (span c (word n ∷ mark m.OpenParen ∷ ts) rest)) rest
     valued : {rest : List Tok} {o : Tok} {n : ℕ} → value o ≡ Some n → Primary c (o ∷ rest) (NumberE n (span c (o ∷ rest) rest)) rest
     text_ : {rest : List Tok} {t : List ℕ} → Primary c (text t ∷ rest) (TextE t (span c (text t ∷ rest) rest)) rest
     null : {rest : List Tok} → Primary c (keyword key.Null ∷ rest) (NullE (span c (keyword key.Null ∷ rest) rest)) rest

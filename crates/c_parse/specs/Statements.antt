@@ -33,18 +33,18 @@ mutual
     expr : {ts rest : List Tok} {e : ExprT} → Expr c ts e (mark m.Semicolon ∷ rest) → Stmt c ts (DoS e) rest
     -- an `else` belongs to the nearest open `if`, so none follows an `if` without one
     if_only : {ts mid rest : List Tok} {e : ExprT} {s : StmtT} → Expr c ts e (mark m.CloseParen ∷ mid) → Stmt c mid s rest → NoElse rest
-      → Stmt c (keyword key.If ∷ mark m.OpenParen ∷ ts) (IfS e s NoneS (span c (keyword key.If ∷ mark m.OpenParen ∷ ts) rest)) rest
+        → Stmt c (keyword key.If ∷ mark m.OpenParen ∷ ts) (IfS e s NoneS (span c (keyword key.If ∷ mark m.OpenParen ∷ ts) rest)) rest
     if_else : {ts mid on rest : List Tok} {e : ExprT} {s z : StmtT} → Expr c ts e (mark m.CloseParen ∷ mid) → Stmt c mid s (keyword key.Else ∷ on) → Stmt c on z rest
-      → Stmt c (keyword key.If ∷ mark m.OpenParen ∷ ts) (IfS e s (SomeS z) (span c (keyword key.If ∷ mark m.OpenParen ∷ ts) rest)) rest
+        → Stmt c (keyword key.If ∷ mark m.OpenParen ∷ ts) (IfS e s (SomeS z) (span c (keyword key.If ∷ mark m.OpenParen ∷ ts) rest)) rest
     while : {ts mid rest : List Tok} {e : ExprT} {s : StmtT} → Expr c ts e (mark m.CloseParen ∷ mid) → Stmt c mid s rest
-      → Stmt c (keyword key.While ∷ mark m.OpenParen ∷ ts) (WhileS e s (span c (keyword key.While ∷ mark m.OpenParen ∷ ts) rest)) rest
+        → Stmt c (keyword key.While ∷ mark m.OpenParen ∷ ts) (WhileS e s (span c (keyword key.While ∷ mark m.OpenParen ∷ ts) rest)) rest
     do_while : {ts mid rest : List Tok} {e : ExprT} {s : StmtT} → Stmt c ts s (keyword key.While ∷ mark m.OpenParen ∷ mid) → Expr c mid e (mark m.CloseParen ∷ mark m.Semicolon ∷ rest)
-      → Stmt c (keyword key.Do ∷ ts) (DoWhileS s e (span c (keyword key.Do ∷ ts) rest)) rest
+        → Stmt c (keyword key.Do ∷ ts) (DoWhileS s e (span c (keyword key.Do ∷ ts) rest)) rest
     for : {ts us vs mid rest : List Tok} {f : MaybeS} {x y : Option ExprT} {s : StmtT} → First c ts f (mark m.Semicolon ∷ us) → Maybe c us x (mark m.Semicolon ∷ vs)
-      → Maybe c vs y (mark m.CloseParen ∷ mid) → Stmt c mid s rest
-      → Stmt c (keyword key.For ∷ mark m.OpenParen ∷ ts) (ForS f x y s (span c (keyword key.For ∷ mark m.OpenParen ∷ ts) rest)) rest
+        → Maybe c vs y (mark m.CloseParen ∷ mid) → Stmt c mid s rest
+        → Stmt c (keyword key.For ∷ mark m.OpenParen ∷ ts) (ForS f x y s (span c (keyword key.For ∷ mark m.OpenParen ∷ ts) rest)) rest
     switch : {ts mid rest : List Tok} {e : ExprT} {xs : List ArmT} → Expr c ts e (mark m.CloseParen ∷ mark m.OpenBrace ∷ mid) → Arms c mid xs (mark m.CloseBrace ∷ rest)
-      → Stmt c (keyword key.Switch ∷ mark m.OpenParen ∷ ts) (SwitchS e (arms xs) (span c (keyword key.Switch ∷ mark m.OpenParen ∷ ts) rest)) rest
+        → Stmt c (keyword key.Switch ∷ mark m.OpenParen ∷ ts) (SwitchS e (arms xs) (span c (keyword key.Switch ∷ mark m.OpenParen ∷ ts) rest)) rest
     return : {ts rest : List Tok} {e : Option ExprT} → Maybe c ts e (mark m.Semicolon ∷ rest) → Stmt c (keyword key.Return ∷ ts) (ReturnS e (span c (keyword key.Return ∷ ts) rest)) rest
     break : {rest : List Tok} → Stmt c (keyword key.Break ∷ mark m.Semicolon ∷ rest) (BreakS (span c (keyword key.Break ∷ mark m.Semicolon ∷ rest) rest)) rest
     continue : {rest : List Tok} → Stmt c (keyword key.Continue ∷ mark m.Semicolon ∷ rest) (ContinueS (span c (keyword key.Continue ∷ mark m.Semicolon ∷ rest) rest)) rest

@@ -11,8 +11,8 @@ ghost use Rattle.c_tree.specs.Depth.{expr_depth, exprs_depth, type_depth};
 use crate::fault::ReadErr;
 use crate::lead::{Lead, Start, Suffix, TypeLead, TypeMark};
 use crate::leading::{
-    assigner_behind, begins_expr, begins_type, is_some_suffix, lead_at, operator_at, start_at, suffix_at, type_at,
-    type_mark_at,
+    assigner_behind, begins_expr, begins_type, is_some_suffix, lead_at, operator_at, start_at,
+    suffix_at, type_at, type_mark_at,
 };
 use crate::scope::{Scope, span};
 use crate::tokens::{
@@ -20,7 +20,9 @@ use crate::tokens::{
     close_paren, deep, name, no_room, open_paren, word,
 };
 use c_lex::Token;
-use c_tree::building::{array, arrow, assign, binary, cast, index, member, paren, pointer, step, unary};
+use c_tree::building::{
+    array, arrow, assign, binary, cast, index, member, paren, pointer, step, unary,
+};
 use c_tree::{Expr, TypeTree};
 use kit_base::Seq;
 use std::alloc::Global;
@@ -72,7 +74,9 @@ pub(crate) fn level<'a>(
     let (mut left, mut depth, mut rest) = unary_expression(alloc, scope, room, tokens)?;
     let mut reached = 0;
     'levels: while reached < k {
-        let (tree, tree_depth, after) = operators(alloc, scope, room, reached, left, depth, tokens, rest)?;
+        let (tree, tree_depth, after) = operators(
+            alloc, scope, room, reached, left, depth, tokens, rest,
+        )?;
         left = tree;
         depth = tree_depth;
         rest = after;
@@ -251,7 +255,11 @@ fn primary<'a>(
                 return Ok((Expr::Name(n, span(scope, tokens, rest)), 1, rest));
             }
             let (args, depth, rest) = arguments(alloc, scope, room - 1, behind(rest))?;
-            Ok((Expr::Call(n, args, span(scope, tokens, rest)), depth + 1, rest))
+            Ok((
+                Expr::Call(n, args, span(scope, tokens, rest)),
+                depth + 1,
+                rest,
+            ))
         }
         Lead::Value(n) => Ok((Expr::Number(n, span(scope, tokens, rest)), 1, rest)),
         Lead::Text => {
@@ -297,7 +305,11 @@ fn arguments<'a>(
     Ok((Seq::from_vec(found), depth, rest))
 }
 
-fn base<'a>(alloc: Global, scope: &Scope, tokens: &'a [Token]) -> Result<(TypeTree, &'a [Token]), ReadErr>
+fn base<'a>(
+    alloc: Global,
+    scope: &Scope,
+    tokens: &'a [Token],
+) -> Result<(TypeTree, &'a [Token]), ReadErr>
     ensures gives { Gives (λ x. (type x.0, toks x.1.now)) result (base (context scope.now) (toks tokens.now)) }
     ensures depth { IfOk result (λ x. type_depth (type x.0) ≡ 1) }
 {

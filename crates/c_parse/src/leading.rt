@@ -299,13 +299,7 @@ fn of_level(level: u32, found: Option<(u32, BinOp)>) -> Option<BinOp>
 {
     match found {
         None => None,
-        Some((k, op)) => {
-            if k == level {
-                Some(op)
-            } else {
-                None
-            }
-        }
+        Some((k, op)) => { if k == level { Some(op) } else { None } }
     }
 }
 

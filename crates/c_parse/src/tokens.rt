@@ -262,7 +262,11 @@ pub(crate) fn word(alloc: Global, tokens: &[Token]) -> Result<Name, ReadErr>
 }
 
 /// A name that is no type's.
-pub(crate) fn name<'a>(alloc: Global, scope: &Scope, tokens: &'a [Token]) -> Result<(Name, &'a [Token]), ReadErr>
+pub(crate) fn name<'a>(
+    alloc: Global,
+    scope: &Scope,
+    tokens: &'a [Token],
+) -> Result<(Name, &'a [Token]), ReadErr>
     ensures { Gives (λ x. (x.0, toks x.1.now)) result (reader.name (context scope.now) (toks tokens.now)) }
 {
     if !at_name(scope, tokens) {

@@ -33,3 +33,4 @@ pub mod BeginsLists
 pub mod BeginsDeclarations
 pub mod BeginsStatements
 pub mod BeginsUnits
+pub mod UnitTurns

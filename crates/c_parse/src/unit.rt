@@ -25,7 +25,7 @@ use kit_base::{Name, Seq};
 use std::alloc::Global;
 
 /// A structure or a union. Its name is a type from here on.
-fn record<'a>(
+fn structure<'a>(
     alloc: Global,
     scope: &mut Scope,
     room: u32,
@@ -92,11 +92,11 @@ fn function<'a>(
     scope: &Scope,
     room: u32,
     from: &[Token],
-    gives: TypeTree,
+    ty: TypeTree,
     name: Name,
     tokens: &'a [Token],
 ) -> Result<(Item, &'a [Token]), ReadErr>
-    ensures gives { Gives (λ x. (item x.0, toks x.1.now)) result (reading.function_at (context scope.now) room (toks from.now) (type gives) name (toks tokens.now)) }
+    ensures gives { Gives (λ x. (item x.0, toks x.1.now)) result (reading.function_at (context scope.now) room (toks from.now) (type ty) name (toks tokens.now)) }
     ensures declared { IfOk result (λ x. context scope.now ≡ behind_item (item x.0) (context scope.now)) }
 {
     let rest = open_paren(tokens)?;
@@ -105,13 +105,13 @@ fn function<'a>(
     if at_semicolon(rest) {
         let rest = behind(rest);
         let span = span(scope, from, rest);
-        return Ok((Item::Function { result: gives, name, params, body: None, span }, rest));
+        return Ok((Item::Function { result: ty, name, params, body: None, span }, rest));
     }
     let rest = open_brace(rest)?;
     let (body, rest) = statements(alloc, scope, room, rest)?;
     let rest = close_brace(rest)?;
     let span = span(scope, from, rest);
-    Ok((Item::Function { result: gives, name, params, body: Some(body), span }, rest))
+    Ok((Item::Function { result: ty, name, params, body: Some(body), span }, rest))
 }
 
 /// A function or variables, from their type on.
@@ -132,12 +132,12 @@ fn typed<'a>(alloc: Global, scope: &Scope, room: u32, tokens: &'a [Token]) -> Re
     Ok((Item::Vars(vars, span(scope, tokens, rest)), rest))
 }
 
-fn item<'a>(alloc: Global, scope: &mut Scope, room: u32, tokens: &'a [Token]) -> Result<(Item, &'a [Token]), ReadErr>
+fn read_item<'a>(alloc: Global, scope: &mut Scope, room: u32, tokens: &'a [Token]) -> Result<(Item, &'a [Token]), ReadErr>
     ensures gives { Gives (λ x. (item x.0, toks x.1.now)) result (reading.item_read (context scope.old) room (toks tokens.now)) }
     ensures declared { IfOk result (λ x. context scope.now ≡ behind_item (item x.0) (context scope.old)) }
 {
     match item_at(tokens) {
-        ItemLead::Record(is_union) => record(alloc, scope, room, is_union, tokens),
+        ItemLead::Record(is_union) => structure(alloc, scope, room, is_union, tokens),
         ItemLead::Enum => enumeration(alloc, scope, room, tokens),
         ItemLead::Typedef => type_name(alloc, scope, room, tokens),
         ItemLead::Void => {
@@ -162,7 +162,7 @@ pub(crate) fn read_unit(alloc: Global, room: u32, tokens: &[Token]) -> Result<Un
     let mut found = Vec::new(alloc);
     let mut rest = tokens;
     'items: while !rest.is_empty() {
-        let (next, after) = item(alloc, &mut scope, room, rest)?;
+        let (next, after) = read_item(alloc, &mut scope, room, rest)?;
         found.push(next)?;
         rest = after;
     }

@@ -1,9 +1,10 @@
 -- What one turn of the loop over items gives.
-use Rattle.std.proofs.Common.{◌≡◌, ℕ, zero, suc, ◌<◌, List, [], ◌∷◌, ◌++◌, length, Option, Some, None, Result, Ok, Err, refl, arith}
+use Rattle.std.proofs.Common.{◌≡◌, ℕ, zero, suc, ◌<◌, List, [], ◌∷◌, ◌++◌, length, Option, Some, None, Result, Ok, Err, refl, ap, arith}
 use Rattle.c_tree.specs.Tree.{ItemT}
 use Rattle.c_parse.specs.declared.fault.Fault.{Fault}
 use Rattle.c_parse.specs.declared.fault.ReadErr.{ReadErr}
-use Rattle.c_parse.specs.Tok.{Tok}
+use Rattle.c_lex.specs.declared.token.Token.{Token}
+use Rattle.c_parse.specs.Tok.{Tok, toks}
 use Rattle.c_parse.specs.Scope.{Context}
 use Rattle.c_parse.specs.View.{Fails}
 use Rattle.c_parse.specs.Reader.{◌>>=◌, Got, loop}
@@ -38,3 +39,7 @@ unit_fails n ts e bad = fails_on e (loop (item_turn n) (record { total = length 
 pub unit_is : (n : ℕ) (ts rest : List Tok) (a : Unit_so_far) → loop (item_turn n) (record { total = length ts; types = [] }, []) ts ≡ Ok (a, rest) → unit_at n ts ≡ Ok a.1
 unfolding unit_at
 unit_is n ts rest a e = rw e refl
+
+pub toks_length : (ts : List Token) → length (toks ts) ≡ length ts
+toks_length [] = refl
+toks_length (t ∷ ts) = ap suc (toks_length ts)

@@ -33,7 +33,7 @@ fn structure<'a>(
     tokens: &'a [Token],
 ) -> Result<(Item, &'a [Token]), ReadErr>
     ensures gives { Gives (λ x. (item x.0, toks x.1.now)) result (reading.record_at (context scope.old) room is_union (toks tokens.now)) }
-    ensures declared { IfOk result (λ x. context scope.now ≡ behind_item (item x.0) (context scope.old)) }
+    ensures declared { IfOk result (λ x. context scope.new ≡ behind_item (item x.0) (context scope.old)) }
 {
     let (name, rest) = new(alloc, behind(tokens))?;
     scope.types.push(name.copy(alloc)?)?;
@@ -57,7 +57,7 @@ fn enumeration<'a>(
     tokens: &'a [Token],
 ) -> Result<(Item, &'a [Token]), ReadErr>
     ensures gives { Gives (λ x. (item x.0, toks x.1.now)) result (reading.enum_at (context scope.old) room (toks tokens.now)) }
-    ensures declared { IfOk result (λ x. context scope.now ≡ behind_item (item x.0) (context scope.old)) }
+    ensures declared { IfOk result (λ x. context scope.new ≡ behind_item (item x.0) (context scope.old)) }
 {
     let (name, rest) = new(alloc, behind(tokens))?;
     let rest = open_brace(rest)?;
@@ -76,7 +76,7 @@ fn type_name<'a>(
     tokens: &'a [Token],
 ) -> Result<(Item, &'a [Token]), ReadErr>
     ensures gives { Gives (λ x. (item x.0, toks x.1.now)) result (reading.typedef_at (context scope.old) room (toks tokens.now)) }
-    ensures declared { IfOk result (λ x. context scope.now ≡ behind_item (item x.0) (context scope.old)) }
+    ensures declared { IfOk result (λ x. context scope.new ≡ behind_item (item x.0) (context scope.old)) }
 {
     let (ty, _depth, rest) = type_tree(alloc, scope, room, behind(tokens))?;
     let (name, rest) = new(alloc, rest)?;
@@ -134,7 +134,7 @@ fn typed<'a>(alloc: Global, scope: &Scope, room: u32, tokens: &'a [Token]) -> Re
 
 fn read_item<'a>(alloc: Global, scope: &mut Scope, room: u32, tokens: &'a [Token]) -> Result<(Item, &'a [Token]), ReadErr>
     ensures gives { Gives (λ x. (item x.0, toks x.1.now)) result (reading.item_read (context scope.old) room (toks tokens.now)) }
-    ensures declared { IfOk result (λ x. context scope.now ≡ behind_item (item x.0) (context scope.old)) }
+    ensures declared { IfOk result (λ x. context scope.new ≡ behind_item (item x.0) (context scope.old)) }
 {
     match item_at(tokens) {
         ItemLead::Record(is_union) => structure(alloc, scope, room, is_union, tokens),

@@ -1,5 +1,5 @@
 -- What one turn of the loop over items gives.
-use Rattle.std.proofs.Common.{◌≡◌, ℕ, zero, suc, ◌<◌, List, [], ◌∷◌, ◌++◌, length, Option, Some, None, Result, Ok, Err, refl, ap, arith}
+use Rattle.std.proofs.Common.{◌≡◌, ℕ, zero, suc, ◌<◌, Bool, true, false, eqb, List, [], ◌∷◌, ◌++◌, length, Option, Some, None, Result, Ok, Err, refl, ap, arith}
 use Rattle.c_tree.specs.Tree.{ItemT}
 use Rattle.c_parse.specs.declared.fault.Fault.{Fault}
 use Rattle.c_parse.specs.declared.fault.ReadErr.{ReadErr}
@@ -40,6 +40,13 @@ pub unit_is : (n : ℕ) (ts rest : List Tok) (a : Unit_so_far) → loop (item_tu
 unfolding unit_at
 unit_is n ts rest a e = rw e refl
 
+never : (b : Bool) → b ≡ true → b ≡ false → ⊥
+never b e h = cc
+
 pub toks_length : (ts : List Token) → length (toks ts) ≡ length ts
 toks_length [] = refl
 toks_length (t ∷ ts) = ap suc (toks_length ts)
+
+pub some_left : (b : Bool) (n : ℕ) → b ≡ eqb n 0 → b ≡ false → 0 < n
+some_left b zero e h = absurd (never b e h)
+some_left b (suc n) e h = omega arith

@@ -6,7 +6,7 @@ use Rattle.c_parse.specs.Tok.{toks}
 use Rattle.c_parse.specs.View.{context}
 use Rattle.c_parse.proofs.Less.{item_less}
 use Rattle.c_parse.proofs.Loops.{goes_end, goes_fail, goes_turn}
-use Rattle.c_parse.proofs.UnitTurns.{items_end, items_fail, items_go, unit_fails, unit_is, toks_length}
+use Rattle.c_parse.proofs.UnitTurns.{items_end, items_fail, items_go, unit_fails, unit_is, toks_length, some_left}
 use Rattle.c_parse.proofs.unit.read_unit.Goals as goal
 
 pub returns-in_err-next : goal.returns-in_err-next
@@ -22,7 +22,7 @@ items-smaller c = omega (arith, item_less (context c.items.scope) c.args.room (t
 
 pub items-preserved : goal.items-preserved
 items-preserved c =
-    let raw : 0 < length c.items.rest.now = grind arith in
+    let raw : 0 < length c.items.rest.now = some_left c.is_empty.result (length c.items.rest.now) c.is_empty.ensures c.items-test.true in
     let some : 0 < length (toks c.items.rest.now) = omega (arith, raw, toks_length c.items.rest.now) in
     let less = item_less (context c.items.scope) c.args.room (toks c.items.rest.now) (item c.in_ok-next.next, toks c.in_ok-next.after.now) c.requires.some c.in_ok-next.ensures.gives in
     let turned = items_go c.args.room (context c.items.scope, map item c.items.found.items) (toks c.items.rest.now) _ _ some c.in_ok-next.ensures.gives in

@@ -25,3 +25,5 @@ pub mod Placed
 pub mod Less
 pub mod ListTurns
 pub mod VarLoops
+pub mod MemberLoops
+pub mod InitLoops

@@ -159,3 +159,17 @@ stmt_read c room ts = (bodies c room).stmt ts
 
 abbrev pub arm_read : Context → ℕ → Reader ArmT
 arm_read c room ts = (bodies c room).arm ts
+
+-- whether a statement of that lead has no statement inside it
+abbrev pub is_simple : StmtLead → Bool
+is_simple stmt.Block = false
+is_simple stmt.If = false
+is_simple stmt.While = false
+is_simple stmt.Do = false
+is_simple stmt.For = false
+is_simple stmt.Switch = false
+is_simple _ = true
+
+abbrev pub maybe : Option StmtT → MaybeS
+maybe None = NoneS
+maybe (Some s) = SomeS s

@@ -2,6 +2,7 @@
 #![tactic(auto)]
 
 mod class;
+mod declaration;
 mod error;
 mod expression;
 mod fault;

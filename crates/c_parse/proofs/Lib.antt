@@ -34,3 +34,5 @@ pub mod BeginsDeclarations
 pub mod BeginsStatements
 pub mod BeginsUnits
 pub mod UnitTurns
+pub mod MemberLoops
+pub mod InitLoops

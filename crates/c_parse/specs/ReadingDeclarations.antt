@@ -58,6 +58,10 @@ member_at c (suc room) ts = do
   rest ← semicolon vs.1
   Ok (vs.0, rest)
 
+-- members behind those of the lines before
+abbrev pub behind_others : List VarT → Result (Got (List VarT)) Fault → Result (Got (List VarT)) Fault
+behind_others vs us = us >>= λ x. Ok (vs ++ x.0, x.1)
+
 abbrev pub members_by : Context → ℕ → List VarT → List Tok → Bool → Result (Option (Got (List VarT))) Fault
 members_by c room vs ts true = Ok None
 members_by c room vs ts false = do

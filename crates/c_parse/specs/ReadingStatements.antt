@@ -169,3 +169,7 @@ is_simple stmt.Do = false
 is_simple stmt.For = false
 is_simple stmt.Switch = false
 is_simple _ = true
+
+abbrev pub maybe : Option StmtT → MaybeS
+maybe None = NoneS
+maybe (Some s) = SomeS s

@@ -1,7 +1,6 @@
 // From tokens to variables, members, parameters and the values of an enumeration.
-ghost use Rattle.std.specs.Prelude.{◌≡◌, ◌++◌, Ok, map, option_map};
+ghost use Rattle.std.specs.Prelude.{◌≡◌, map, option_map};
 ghost use Rattle.c_parse.specs.ReadingDeclarations as reading;
-ghost use Rattle.c_parse.specs.Reader.{◌>>=◌};
 ghost use Rattle.c_parse.specs.ReadingLists as lists;
 ghost use Rattle.c_parse.specs.Tok.{toks};
 ghost use Rattle.c_parse.specs.View.{Gives, context};
@@ -20,7 +19,7 @@ use c_tree::{Expr, Init, TypeTree, Var};
 use kit_base::{Name, Seq};
 use std::alloc::Global;
 
-#[tactic(auto, using(crate::proofs::Steps::declaration_steps))]
+#[tactic(auto, using(crate::proofs::CodeSteps::declaration_steps))]
 #[cycle(initials)]
 fn initial<'a>(alloc: Global, scope: &Scope, room: u32, tokens: &'a [Token]) -> Result<(Init, &'a [Token]), ReadErr>
     ensures gives { Gives (λ x. (init x.0, toks x.1.now)) result (reading.init_at (context scope.now) room (toks tokens.now)) }
@@ -73,7 +72,7 @@ fn variable<'a>(
 }
 
 /// Variables, each with that room. The type is read again for each of them.
-#[tactic(auto, using(crate::proofs::Steps::declaration_steps))]
+#[tactic(auto, using(crate::proofs::CodeSteps::declaration_steps))]
 pub(crate) fn variables<'a>(
     alloc: Global,
     scope: &Scope,
@@ -99,7 +98,7 @@ pub(crate) fn variables<'a>(
 }
 
 /// The members that one line declares, behind those that were found before.
-#[tactic(auto, using(crate::proofs::Steps::declaration_steps))]
+#[tactic(auto, using(crate::proofs::CodeSteps::declaration_steps))]
 fn member<'a>(
     alloc: Global,
     scope: &Scope,
@@ -107,7 +106,7 @@ fn member<'a>(
     before: Vec<Var>,
     tokens: &'a [Token],
 ) -> Result<(Vec<Var>, &'a [Token]), ReadErr>
-    ensures gives { Gives (λ x. (map var x.0.items, toks x.1.now)) result (reading.member_at (context scope.now) room (toks tokens.now) >>= λ us. Ok (map var before.items ++ us.0, us.1)) }
+    ensures gives { Gives (λ x. (map var x.0.items, toks x.1.now)) result (reading.behind_others (map var before.items) (reading.member_at (context scope.now) room (toks tokens.now))) }
 {
     if room == 0 {
         return Err(no_room(begins_type(scope, tokens), tokens));
@@ -143,7 +142,7 @@ pub(crate) fn members<'a>(
     Ok((Seq::from_vec(found), rest))
 }
 
-#[tactic(auto, using(crate::proofs::Steps::declaration_steps))]
+#[tactic(auto, using(crate::proofs::CodeSteps::declaration_steps))]
 fn parameter<'a>(alloc: Global, scope: &Scope, room: u32, tokens: &'a [Token]) -> Result<(Var, &'a [Token]), ReadErr>
     ensures gives { Gives (λ x. (var x.0, toks x.1.now)) result (reading.param_at (context scope.now) room (toks tokens.now)) }
 {

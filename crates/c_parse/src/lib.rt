@@ -9,6 +9,7 @@ mod fault;
 mod lead;
 mod leading;
 mod scope;
+mod statement;
 mod tokens;
 
 pub use error::ParseErr;

@@ -121,3 +121,16 @@ view-Stmt s = search (rules, arm_lemmas)
 pub ruleset declaration_steps = (init_step, init_none, vars_step, vars_none, member_step, member_none, param_step, param_none, view-One, view-List)
 
 pub ruleset statement_steps = (first_step, stmt_step, stmt_none, arm_step, arm_none, view-Block, view-Switch, view-Vars, view-Do, view-Empty, view-Return, view-Break, view-Continue, view-Case, view-Default, view-Stmt)
+
+pub first_none_type : (c : Context) (ts : List Tok) → begins_type c ts ≡ true → first_at c 0 ts ≡ no_room true ts
+unfolding first_at
+first_none_type c ts a = rw a refl
+
+pub first_none_expr : (c : Context) (ts : List Tok) → begins_type c ts ≡ false → begins_expr c ts ≡ true → first_at c 0 ts ≡ no_room true ts
+unfolding first_at
+first_none_expr c ts a b = rw (a, b) refl
+
+pub first_neither : (c : Context) (n : ℕ) (ts : List Tok) → begins_type c ts ≡ false → begins_expr c ts ≡ false → first_at c n ts ≡ Ok (t.NoneS, ts)
+unfolding first_at
+first_neither c zero ts a b = rw (a, b) refl
+first_neither c (suc n) ts a b = rw (a, b) refl

@@ -1,11 +1,12 @@
 // From tokens to statements.
-ghost use Rattle.std.specs.Prelude.{◌≡◌, ◌<◌, ◌-◌, ◌*◌, Ok, map, option_map};
+ghost use Rattle.std.specs.Prelude.{◌≡◌, ◌<◌, ◌-◌, ◌*◌, Ok, map, option_map, true};
 ghost use Rattle.c_parse.specs.ReadingLists.{braced};
 ghost use Rattle.c_parse.specs.ReadingStatements as reading;
 ghost use Rattle.c_parse.specs.Tok.{toks};
 ghost use Rattle.c_parse.specs.View.{Gives, context};
 ghost use Rattle.c_tree.specs.Tree.{ForS};
-ghost use Rattle.c_tree.specs.View.{arm, expr, maybe, stmt};
+ghost use Rattle.c_parse.specs.ReadingStatements.{maybe};
+ghost use Rattle.c_tree.specs.View.{arm, expr, stmt};
 
 use crate::declaration::variables;
 use crate::expression::{expression, level};
@@ -14,7 +15,7 @@ use crate::lead::{ArmLead, StmtLead};
 use crate::leading::{arm_at, begins_expr, begins_stmt, begins_type, is_some_arm, stmt_at};
 use crate::scope::{Scope, span};
 use crate::tokens::{
-    at_close_brace, at_else_word, behind, close_brace, close_paren, colon, no_room, open_brace, open_paren,
+    at_close_brace, at_else_word, behind, close_brace, close_paren, colon, deep, no_room, open_brace, open_paren,
     semicolon, while_word,
 };
 use c_lex::Token;
@@ -35,23 +36,25 @@ fn maybe<'a>(alloc: Global, scope: &Scope, room: u32, tokens: &'a [Token]) -> Re
 }
 
 /// What a `for` begins with, before its first semicolon.
-#[tactic(auto, using(crate::proofs::Steps::statement_steps))]
+#[tactic(auto, using(crate::proofs::CodeSteps::statement_steps))]
 fn first<'a>(alloc: Global, scope: &Scope, room: u32, tokens: &'a [Token]) -> Result<(Option<Stmt>, &'a [Token]), ReadErr>
     ensures gives { Gives (λ x. (maybe (option_map stmt x.0), toks x.1.now)) result (reading.first_at (context scope.now) room (toks tokens.now)) }
 {
-    let is_type = begins_type(scope, tokens);
-    if !is_type && !begins_expr(scope, tokens) {
-        return Ok((None, tokens));
-    }
-    if room == 0 {
-        return Err(no_room(true, tokens));
-    }
-    if is_type {
+    if begins_type(scope, tokens) {
+        if room == 0 {
+            return Err(deep(tokens));
+        }
         let (vars, rest) = variables(alloc, scope, room - 1, tokens)?;
         return Ok((Some(Stmt::Vars(vars, span(scope, tokens, rest))), rest));
     }
-    let (e, _depth, rest) = expression(alloc, scope, room - 1, tokens)?;
-    Ok((Some(Stmt::Do(e)), rest))
+    if begins_expr(scope, tokens) {
+        if room == 0 {
+            return Err(deep(tokens));
+        }
+        let (e, _depth, rest) = expression(alloc, scope, room - 1, tokens)?;
+        return Ok((Some(Stmt::Do(e)), rest));
+    }
+    Ok((None, tokens))
 }
 
 /// An expression in parentheses.
@@ -64,7 +67,7 @@ fn test<'a>(alloc: Global, scope: &Scope, room: u32, tokens: &'a [Token]) -> Res
     Ok((e, rest))
 }
 
-#[tactic(auto, using(crate::proofs::Steps::statement_steps))]
+#[tactic(auto, using(crate::proofs::CodeSteps::statement_steps))]
 #[cycle(statements)]
 fn statement<'a>(alloc: Global, scope: &Scope, room: u32, tokens: &'a [Token]) -> Result<(Stmt, &'a [Token]), ReadErr>
     ensures gives { Gives (λ x. (stmt x.0, toks x.1.now)) result (reading.stmt_read (context scope.now) room (toks tokens.now)) }
@@ -213,7 +216,7 @@ pub(crate) fn statements<'a>(
     Ok((Seq::from_vec(found), rest))
 }
 
-#[tactic(auto, using(crate::proofs::Steps::statement_steps))]
+#[tactic(auto, using(crate::proofs::CodeSteps::statement_steps))]
 #[cycle(statements)]
 fn arm<'a>(alloc: Global, scope: &Scope, room: u32, tokens: &'a [Token]) -> Result<(Arm, &'a [Token]), ReadErr>
     ensures gives { Gives (λ x. (arm x.0, toks x.1.now)) result (reading.arm_read (context scope.now) room (toks tokens.now)) }

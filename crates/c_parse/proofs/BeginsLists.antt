@@ -1,0 +1,172 @@
+-- What is read of lists goes on, and what is at fault there can be completed.
+use Rattle.std.proofs.Common.{◌≡◌, ℕ, zero, suc, ◌+◌, ◌-◌, ◌<◌, ◌≤◌, Bool, true, false, cond, eqb, List, [], ◌∷◌, ◌++◌, length, Option, Some, None, Result, Ok, Err, refl, sym, ap, subst, ◌∙◌, append_assoc, arith, ◌⊎◌, inl, inr}
+use Rattle.std.specs.Prelude.{nat_lt, ◌||◌, ◌&&◌}
+use Rattle.std.proofs.lemmas.Bool.{eqb-true}
+use Rattle.c_tree.specs.declared.operator.UnOp.{UnOp}
+use Rattle.c_tree.specs.declared.operator.StepOp.{StepOp}
+use Rattle.c_tree.specs.declared.operator.BinOp.{BinOp}
+use Rattle.c_tree.specs.Tree.{ExprT, NameE, NumberE, TextE, NullE, ParenE, UnaryE, BinaryE, AssignE, StepE, IndexE, MemberE, ArrowE, CallE, CastE, SizeOfE, TypeT, IntY, BoolY, VoidY, NamedY, PointerY, ArrayY}
+use Rattle.c_tree.specs.View.{exprs}
+use Rattle.c_tree.specs.Depth.{expr_depth, type_depth}
+use Rattle.c_lex.specs.declared.token.Punct.{Punct}
+use Rattle.c_lex.specs.declared.token.Punct.TheVariants as m
+use Rattle.c_parse.specs.declared.class.Key.TheVariants as key
+use Rattle.c_parse.specs.declared.fault.Fault.{Fault}
+use Rattle.c_parse.specs.declared.fault.Fault.TheVariants.{Syntax, TooDeep}
+use Rattle.c_parse.specs.declared.lead.Start.{Start}
+use Rattle.c_parse.specs.declared.lead.Start.TheVariants as start
+use Rattle.c_parse.specs.declared.lead.Lead.{Lead}
+use Rattle.c_parse.specs.declared.lead.Lead.TheVariants as lead
+use Rattle.c_parse.specs.declared.lead.Suffix.{Suffix}
+use Rattle.c_parse.specs.declared.lead.Suffix.TheVariants as suffix
+use Rattle.c_parse.specs.declared.lead.TypeLead.{TypeLead}
+use Rattle.c_parse.specs.declared.lead.TypeLead.TheVariants as type_
+use Rattle.c_parse.specs.declared.lead.TypeMark.{TypeMark}
+use Rattle.c_parse.specs.declared.lead.TypeMark.TheVariants as type_mark
+use Rattle.c_parse.specs.Tok.{Tok, keyword, refused, word, number, character, text, mark}
+use Rattle.c_parse.specs.Scope.{Context, is_type, span}
+use Rattle.c_parse.specs.Marks.{prefix, prefix_mark, step_before, step_behind, binary, assigner, value}
+use Rattle.c_parse.specs.Grammar as g
+use Rattle.c_parse.specs.Grammar.{NoBracket, Base, Ty, Run, Expr, Level, Tail, Unary, Suffixes, Primary, Exprs}
+use Rattle.c_parse.specs.Reader.{◌>>=◌, Got, Reader, bad, deep, no_room, room_fault, above, Turn, goes_on, repeat, loop, behind, must, is_behind, at_else_word, at_open_bracket, is_open_paren, at_open_paren, open_paren, is_close_paren, at_close_paren, close_paren, is_open_bracket, is_close_bracket, at_close_bracket, close_bracket, is_comma, at_comma, is_star, at_star, is_name, at_name, name, bytes_at}
+use Rattle.c_parse.specs.Leads.{type_of, type_at, begins_type, type_mark_of, type_mark_at, start_of, start_at, is_some_type, is_some_start, is_some_lead, begins_expr, lead_of, lead_at, suffix_of, suffix_at}
+use Rattle.c_parse.specs.Reading.{Readers, run_more, run_with, type_mark_by, type_mark_turn, base_by, base, type_with, exprs_by, exprs_turn, exprs_with, arguments_by, arguments_with, named_by, primary_by, primary_with, suffix_by, is_some_suffix, suffix_turn_by, suffix_turn, postfix_with, unary_by, unary_with, of_level, operator_at, operator_by, operator_turn, level_with, is_unary, assigner_at, assigner_behind, assign_by, whole_with, readers, level_at, expr_at, type_read}
+use Rattle.c_parse.proofs.Told as told
+use Rattle.c_parse.proofs.Told.{StartIs, start_is, LeadIs, lead_is, SuffixIs, suffix_is, TypeIs, type_is, TypeMarkIs, type_mark_is, no_bracket, open_paren_is, close_paren_is, open_bracket_is, close_bracket_is, comma_is, star_is}
+use Rattle.c_parse.proofs.Shrinking.{turns_of_types, turns_of_exprs, turns_of_suffixes, turns_of_operators}
+use Rattle.c_parse.proofs.Completion.{Rule, Plain, SameFirst, Fits, Frame, Cut, Begun, Deep, GoodFault, Good, GoodTokens, GoodTurn, Word, Seq, Nil, Implies, widen_fault, widen_frame, widen, widen_turn, good_behind, fault_behind, frame_seq, fault_front, good_turn_behind, bind_good, bind_good_tokens, seq_word, nil_word, widen_word, nil_good, first_wrong, first_deep, Repeats, repeats_word, TurnTakes, repeat_good, loop_good, above_good, above_turn_good}
+use Rattle.c_parse.specs.Lists as lists
+use Rattle.c_parse.specs.Lists.{Separated, ListEnd}
+use Rattle.c_parse.specs.ReadingLists.{pushed, comma_by, comma_turn, separated, more_turn, listed, brace_by, brace_turn, braced}
+use Rattle.c_parse.specs.Reader.{at_more, end_list, is_open_brace, at_open_brace, open_brace, is_close_brace, at_close_brace, close_brace, is_semicolon, at_semicolon, semicolon, is_colon, colon, is_while_word, while_word, is_assign, at_assign, is_else_word, is_void_word, at_void_word, is_new, at_new, new}
+use Rattle.c_parse.proofs.Begins.{TokR, token_frame, token_word, must_good, open_paren_good, close_paren_good, open_paren_word, close_paren_word, close_bracket_word}
+
+-- ---- what repeats
+
+pub mapped_good : {A B : Type 0} (P : Rule) (f : Got A → B) (ts : List Tok) (x : Result (Got A) Fault) → Good P ts x → Good P ts (x >>= λ got. Ok (f got, got.1))
+mapped_good P f ts (Ok x) h = h
+mapped_good P f ts (Err e) h = h
+
+pub mapped_tokens : {B : Type 0} (P : Rule) (f : List Tok → B) (ts : List Tok) (x : Result (List Tok) Fault) → GoodTokens P ts x → Good P ts (x >>= λ rest. Ok (f rest, rest))
+mapped_tokens P f ts (Ok x) h = h
+mapped_tokens P f ts (Err e) h = h
+
+comma_tok_word : Word (TokR (mark m.Comma))
+comma_tok_word = token_word (mark m.Comma) (λ after. (refl, refl))
+
+pushed_good : {A : Type 0} (P : Rule) (xs : List A) (ts : List Tok) (x : Result (Got A) Fault) → Good P ts x → GoodTurn P ts (x >>= pushed xs)
+pushed_good P xs ts (Ok x) h = h
+pushed_good P xs ts (Err e) h = h
+
+behind_comma : {A : Type 0} (P : Rule) (read : Reader A) → ((ts : List Tok) → Good P ts (read ts)) → (xs : List A) (ts : List Tok) → GoodTurn (Seq (TokR (mark m.Comma)) P) (mark m.Comma ∷ ts) (read ts >>= pushed xs)
+behind_comma P read h xs ts = pushed_good (Seq (TokR (mark m.Comma)) P) xs (mark m.Comma ∷ ts) (read ts) (good_behind (TokR (mark m.Comma)) P (mark m.Comma ∷ ts) ts (read ts) (token_frame (mark m.Comma) ts) (h ts))
+
+comma_good : {A : Type 0} (P : Rule) (read : Reader A) → ((ts : List Tok) → Good P ts (read ts)) → (xs : List A) (ts : List Tok) (b : Bool) → (b ≡ true → at_comma ts ≡ true) → GoodTurn (Seq (TokR (mark m.Comma)) P) ts (comma_by read xs ts b)
+comma_good P read h xs ts false e = tt
+comma_good P read h xs [] true e = let bad : false ≡ true = e refl in absurd cc
+comma_good P read h xs (o ∷ ts) true e = rw (comma_is o (e refl)) (behind_comma P read h xs ts)
+
+more_comma : (ts : List Tok) → at_more ts ≡ true → at_comma ts ≡ true
+more_comma ts e = by (at_comma ts) refl e
+  where
+    by : (b : Bool) → at_comma ts ≡ b → cond b (cond (at_close_brace (behind ts)) false true) false ≡ true → at_comma ts ≡ true
+    by true is f = is
+    by false is f = absurd cc
+
+pub separated_good : {A : Type 0} (P M L : Rule) → Repeats (Seq (TokR (mark m.Comma)) P) M → Implies (Seq P M) L → (read : Reader A) → ((ts : List Tok) → Good P ts (read ts)) → TurnTakes (comma_turn read) → (ts : List Tok) → Good L ts (separated read ts)
+separated_good P M L l join read h take ts = widen (Seq P M) L join ts (separated read ts) (bind_good P M (repeats_word (Seq (TokR (mark m.Comma)) P) M l) ts (read ts) (λ x. loop (comma_turn read) (x.0 ∷ []) x.1) (h ts)
+    (λ x e. loop_good (Seq (TokR (mark m.Comma)) P) M l (comma_turn read) take (λ xs us. comma_good P read h xs us (at_comma us) (λ d. d)) (x.0 ∷ []) x.1))
+
+pub listed_good : {A : Type 0} (P M L : Rule) → Repeats (Seq (TokR (mark m.Comma)) P) M → Implies (Seq P M) L → (read : Reader A) → ((ts : List Tok) → Good P ts (read ts)) → TurnTakes (more_turn read) → (ts : List Tok) → Good L ts (listed read ts)
+listed_good P M L l join read h take ts = widen (Seq P M) L join ts (listed read ts) (bind_good P M (repeats_word (Seq (TokR (mark m.Comma)) P) M l) ts (read ts) (λ x. loop (more_turn read) (x.0 ∷ []) x.1) (h ts)
+    (λ x e. loop_good (Seq (TokR (mark m.Comma)) P) M l (more_turn read) take (λ xs us. comma_good P read h xs us (at_more us) (more_comma us)) (x.0 ∷ []) x.1))
+
+brace_good : {A : Type 0} (P : Rule) (read : Reader A) → ((ts : List Tok) → Good P ts (read ts)) → (xs : List A) (ts : List Tok) (b : Bool) → GoodTurn P ts (brace_by read xs ts b)
+brace_good P read h xs ts true = tt
+brace_good P read h xs ts false = pushed_good P xs ts (read ts) (h ts)
+
+pub braced_good : {A : Type 0} (P L : Rule) → Repeats P L → (read : Reader A) → ((ts : List Tok) → Good P ts (read ts)) → TurnTakes (brace_turn read) → (ts : List Tok) → Good L ts (braced read ts)
+braced_good P L l read h take ts = loop_good P L l (brace_turn read) take (λ xs us. brace_good P read h xs us (at_close_brace us)) [] ts
+
+-- ---- items parted by commas, of any kind
+
+module _ {A X : Type 0} (Q : ℕ → X → List Tok → A → List Tok → Type 0) where
+  abbrev pub OneR : Rule
+  OneR ts rest = (t : ℕ) (x : X) → (a : A) × Q t x ts a rest
+
+  abbrev pub SomeR : Rule
+  SomeR ts rest = (t : ℕ) (x : X) → (xs : List A) × Separated (Q t x) ts xs rest
+
+  abbrev pub RestR : Rule
+  RestR ts rest = (t : ℕ) (x : X) (us : List Tok) (a : A) → Q t x us a ts → (xs : List A) × Separated (Q t x) us xs rest
+
+  pub rest_repeat : Repeats (Seq (TokR (mark m.Comma)) OneR) RestR
+  rest_repeat = record {
+    ends = λ ts t x us a d. (a ∷ [], lists.last d);
+    goes = λ ts mid rest s l t x us a d. let b = s.2 t x in let y = l t x s.0 b.0 b.1 in (a ∷ y.0, lists.more (subst (λ (z : List Tok). Q t x us a z) s.1 d) y.1);
+  }
+
+  pub rest_join : Implies (Seq OneR RestR) SomeR
+  rest_join ts rest s t x = let a = s.1 t x in s.2 t x ts a.0 a.1
+
+  pub some_word : Word OneR → Word SomeR
+  some_word w = record { tokens = w.tokens; takes = λ after p t x. let a = w.takes after p t x in (a.0 ∷ [], lists.last a.1); plain = w.plain }
+
+-- ---- tokens
+
+pub open_brace_good : (ts : List Tok) → GoodTokens (TokR (mark m.OpenBrace)) ts (open_brace ts)
+open_brace_good [] = must_good (mark m.OpenBrace) (λ after. (refl, refl)) [] false (λ e. absurd cc)
+open_brace_good (o ∷ ts) = must_good (mark m.OpenBrace) (λ after. (refl, refl)) (o ∷ ts) (is_open_brace o) (λ e. ap (λ (z : Tok). z ∷ ts) (told.open_brace_is o e))
+
+pub close_brace_good : (ts : List Tok) → GoodTokens (TokR (mark m.CloseBrace)) ts (close_brace ts)
+close_brace_good [] = must_good (mark m.CloseBrace) (λ after. (refl, refl)) [] false (λ e. absurd cc)
+close_brace_good (o ∷ ts) = must_good (mark m.CloseBrace) (λ after. (refl, refl)) (o ∷ ts) (is_close_brace o) (λ e. ap (λ (z : Tok). z ∷ ts) (told.close_brace_is o e))
+
+pub semicolon_good : (ts : List Tok) → GoodTokens (TokR (mark m.Semicolon)) ts (semicolon ts)
+semicolon_good [] = must_good (mark m.Semicolon) (λ after. (refl, refl)) [] false (λ e. absurd cc)
+semicolon_good (o ∷ ts) = must_good (mark m.Semicolon) (λ after. (refl, refl)) (o ∷ ts) (is_semicolon o) (λ e. ap (λ (z : Tok). z ∷ ts) (told.semicolon_is o e))
+
+pub colon_good : (ts : List Tok) → GoodTokens (TokR (mark m.Colon)) ts (colon ts)
+colon_good [] = must_good (mark m.Colon) (λ after. (refl, refl)) [] false (λ e. absurd cc)
+colon_good (o ∷ ts) = must_good (mark m.Colon) (λ after. (refl, refl)) (o ∷ ts) (is_colon o) (λ e. ap (λ (z : Tok). z ∷ ts) (told.colon_is o e))
+
+pub while_word_good : (ts : List Tok) → GoodTokens (TokR (keyword key.While)) ts (while_word ts)
+while_word_good [] = must_good (keyword key.While) (λ after. (refl, refl)) [] false (λ e. absurd cc)
+while_word_good (o ∷ ts) = must_good (keyword key.While) (λ after. (refl, refl)) (o ∷ ts) (is_while_word o) (λ e. ap (λ (z : Tok). z ∷ ts) (told.while_word_is o e))
+
+pub open_brace_word : Word (TokR (mark m.OpenBrace))
+open_brace_word = token_word (mark m.OpenBrace) (λ after. (refl, refl))
+
+pub close_brace_word : Word (TokR (mark m.CloseBrace))
+close_brace_word = token_word (mark m.CloseBrace) (λ after. (refl, refl))
+
+pub semicolon_word : Word (TokR (mark m.Semicolon))
+semicolon_word = token_word (mark m.Semicolon) (λ after. (refl, refl))
+
+pub colon_word : Word (TokR (mark m.Colon))
+colon_word = token_word (mark m.Colon) (λ after. (refl, refl))
+
+pub while_tok_word : Word (TokR (keyword key.While))
+while_tok_word = token_word (keyword key.While) (λ after. (refl, refl))
+
+pub list_end_word : Word ListEnd
+list_end_word = record { tokens = mark m.CloseBrace ∷ []; takes = λ after p. lists.brace; plain = λ after p. (refl, refl) }
+
+brace_end : (ts : List Tok) (x : Result (List Tok) Fault) → GoodTokens (TokR (mark m.CloseBrace)) ts x → GoodTokens ListEnd ts x
+brace_end ts (Ok rest) h = widen_frame (TokR (mark m.CloseBrace)) ListEnd (λ us vs e. rw e lists.brace) ts rest h
+brace_end ts (Err f) h = widen_fault (TokR (mark m.CloseBrace)) ListEnd (λ us vs e. rw e lists.brace) ts f h
+
+comma_end : (ts : List Tok) (x : Result (List Tok) Fault) → GoodTokens (TokR (mark m.CloseBrace)) ts x → GoodTokens ListEnd (mark m.Comma ∷ ts) x
+comma_end ts (Ok rest) h = widen_frame (Seq (TokR (mark m.Comma)) (TokR (mark m.CloseBrace))) ListEnd (λ us vs s. rw (s.1, s.2) lists.comma) (mark m.Comma ∷ ts) rest (frame_seq (TokR (mark m.Comma)) (TokR (mark m.CloseBrace)) _ ts rest (token_frame (mark m.Comma) ts) h)
+comma_end ts (Err f) h = widen_fault (Seq (TokR (mark m.Comma)) (TokR (mark m.CloseBrace))) ListEnd (λ us vs s. rw (s.1, s.2) lists.comma) (mark m.Comma ∷ ts) f (fault_behind (TokR (mark m.Comma)) (TokR (mark m.CloseBrace)) _ ts f (token_frame (mark m.Comma) ts) h)
+
+end_good_by : (ts : List Tok) (b : Bool) → at_comma ts ≡ b → GoodTokens ListEnd ts (cond b (close_brace (behind ts)) (close_brace ts))
+end_good_by ts false e = brace_end ts (close_brace ts) (close_brace_good ts)
+end_good_by [] true e = absurd cc
+end_good_by (o ∷ ts) true e = rw (comma_is o e) (comma_end ts (close_brace ts) (close_brace_good ts))
+
+pub end_list_good : (ts : List Tok) → GoodTokens ListEnd ts (end_list ts)
+end_list_good ts = end_good_by ts (at_comma ts) refl
+
+pub checked : ℕ → ℕ
+checked n = n

@@ -1,0 +1,38 @@
+use Rattle.std.proofs.Common.{◌≡◌, length, map, ◌+◌, ◌*◌}
+use Rattle.c_tree.specs.View.{stmt, arm}
+use Rattle.c_parse.specs.Tok.{toks}
+use Rattle.c_parse.specs.View.{context}
+use Rattle.c_parse.specs.ReadingLists.{brace_turn, braced}
+use Rattle.c_parse.specs.ReadingStatements.{bodies}
+use Rattle.c_parse.proofs.Loops.{Goes}
+use Rattle.c_parse.proofs.statement.+statements.Given as goal
+
+abbrev pub decreases-statement : goal.decreases-statement
+decreases-statement l = 3 * l.room
+
+abbrev pub decreases-if_statement : goal.decreases-if_statement
+decreases-if_statement l = 3 * l.room + 1
+
+abbrev pub decreases-for_statement : goal.decreases-for_statement
+decreases-for_statement l = 3 * l.room + 1
+
+abbrev pub decreases-statements : goal.decreases-statements
+decreases-statements l = 3 * l.room + 1
+
+abbrev pub decreases-arm : goal.decreases-arm
+decreases-arm l = 3 * l.room
+
+abbrev pub decreases-arms : goal.decreases-arms
+decreases-arms l = 3 * l.room + 1
+
+abbrev pub invariant-statements-statements : goal.invariant-statements-statements
+invariant-statements-statements l = Goes (brace_turn (bodies (context l.scope) l.room).stmt) (map stmt l.found.items) (toks l.rest) (braced (bodies (context l.scope) l.room).stmt (toks l.tokens))
+
+abbrev pub decreases-statements-statements : goal.decreases-statements-statements
+decreases-statements-statements l = length (toks l.rest)
+
+abbrev pub invariant-arms-arms : goal.invariant-arms-arms
+invariant-arms-arms l = Goes (brace_turn (bodies (context l.scope) l.room).arm) (map arm l.found.items) (toks l.rest) (braced (bodies (context l.scope) l.room).arm (toks l.tokens))
+
+abbrev pub decreases-arms-arms : goal.decreases-arms-arms
+decreases-arms-arms l = length (toks l.rest)

@@ -1,0 +1,395 @@
+// From tokens to expressions and types.
+ghost use Rattle.std.specs.Prelude.{◌≡◌, ◌≤◌, ◌<◌, ◌-◌, IfOk, Ok, map};
+ghost use Rattle.c_parse.specs.Reader.{loop};
+ghost use Rattle.c_parse.specs.Tok.{toks};
+ghost use Rattle.c_parse.specs.View.{Gives, context};
+ghost use Rattle.c_parse.specs.Reading.{arguments_with, base, expr_at, level_at, operator_turn, postfix_with, primary_with, readers, run_at, suffix_by, type_read};
+ghost use Rattle.c_parse.specs.Leads as leads;
+ghost use Rattle.c_tree.specs.View.{expr, exprs, type};
+ghost use Rattle.c_tree.specs.Depth.{expr_depth, exprs_depth, type_depth};
+
+use crate::fault::ReadErr;
+use crate::lead::{Lead, Start, Suffix, TypeLead, TypeMark};
+use crate::leading::{
+    assigner_behind, begins_expr, begins_type, is_some_suffix, lead_at, operator_at, start_at,
+    suffix_at, type_at, type_mark_at,
+};
+use crate::scope::{Scope, span};
+use crate::tokens::{
+    at_close_paren, at_comma, at_open_bracket, at_open_paren, at_star, bad, behind, close_bracket,
+    close_paren, deep, name, no_room, open_paren, word,
+};
+use c_lex::Token;
+use c_tree::building::{
+    array, arrow, assign, binary, cast, index, member, paren, pointer, step, unary,
+};
+use c_tree::{Expr, TypeTree};
+use kit_base::Seq;
+use std::alloc::Global;
+
+#[tactic(auto, using(crate::proofs::Steps::reader_steps))]
+#[cycle(expressions)]
+pub(crate) fn expression<'a>(
+    alloc: Global,
+    scope: &Scope,
+    room: u32,
+    tokens: &'a [Token],
+) -> Result<(Expr, u32, &'a [Token]), ReadErr>
+    ensures gives { Gives (λ x. (expr x.0, toks x.2.now)) result (expr_at (context scope.now) room (toks tokens.now)) }
+    ensures depth { IfOk result (λ x. x.1 ≡ expr_depth (expr x.0)) }
+    ensures fits { IfOk result (λ x. x.1 ≤ room) }
+{
+    if room == 0 {
+        return Err(no_room(begins_expr(scope, tokens), tokens));
+    }
+    let (left, depth, rest) = level(alloc, scope, room, 10, tokens)?;
+    let Some(op) = assigner_behind(&left, rest) else {
+        return Ok((left, depth, rest));
+    };
+    if room <= depth {
+        return Err(deep(rest));
+    }
+    let (right, right_depth, after) = expression(alloc, scope, room - 1, behind(rest))?;
+    let tree = assign(alloc, op, left, right, span(scope, tokens, after))?;
+    Ok((tree, depth.max(right_depth) + 1, after))
+}
+
+#[tactic(auto, using(crate::proofs::Steps::reader_steps))]
+#[cycle(expressions)]
+pub(crate) fn level<'a>(
+    alloc: Global,
+    scope: &Scope,
+    room: u32,
+    k: u32,
+    tokens: &'a [Token],
+) -> Result<(Expr, u32, &'a [Token]), ReadErr>
+    requires known { k ≤ 10 }
+    ensures gives { Gives (λ x. (expr x.0, toks x.2.now)) result (level_at (context scope.now) room k (toks tokens.now)) }
+    ensures depth { IfOk result (λ x. x.1 ≡ expr_depth (expr x.0)) }
+    ensures fits { IfOk result (λ x. x.1 ≤ room) }
+{
+    if room == 0 {
+        return Err(no_room(begins_expr(scope, tokens), tokens));
+    }
+    let (mut left, mut depth, mut rest) = unary_expression(alloc, scope, room, tokens)?;
+    let mut reached = 0;
+    'levels: while reached < k {
+        let (tree, tree_depth, after) = operators(
+            alloc, scope, room, reached, left, depth, tokens, rest,
+        )?;
+        left = tree;
+        depth = tree_depth;
+        rest = after;
+        reached += 1;
+    }
+    Ok((left, depth, rest))
+}
+
+/// The expression `left`, which begins at `from`, with the operators of level `k + 1` behind it.
+#[tactic(auto, using(crate::proofs::Steps::reader_steps))]
+#[cycle(expressions)]
+fn operators<'a>(
+    alloc: Global,
+    scope: &Scope,
+    room: u32,
+    k: u32,
+    left: Expr,
+    depth: u32,
+    from: &[Token],
+    tokens: &'a [Token],
+) -> Result<(Expr, u32, &'a [Token]), ReadErr>
+    requires some { 0 < room }
+    requires known { k < 10 }
+    requires depth { depth ≡ expr_depth (expr left) }
+    requires fits { depth ≤ room }
+    ensures gives { Gives (λ x. (expr x.0, toks x.2.now)) result (loop (operator_turn (context scope.now) (readers (context scope.now) (room - 1)) room k (toks from.now)) (expr left) (toks tokens.now)) }
+    ensures depth { IfOk result (λ x. x.1 ≡ expr_depth (expr x.0)) }
+    ensures fits { IfOk result (λ x. x.1 ≤ room) }
+{
+    let mut left = left;
+    let mut depth = depth;
+    let mut rest = tokens;
+    'operators: while let Some(op) = operator_at(k + 1, rest) {
+        if room <= depth {
+            return Err(deep(rest));
+        }
+        let (right, right_depth, after) = level(alloc, scope, room - 1, k, behind(rest))?;
+        left = binary(alloc, op, left, right, span(scope, from, after))?;
+        depth = depth.max(right_depth) + 1;
+        rest = after;
+    }
+    Ok((left, depth, rest))
+}
+
+#[tactic(auto, using(crate::proofs::Steps::reader_steps))]
+#[cycle(expressions)]
+fn unary_expression<'a>(
+    alloc: Global,
+    scope: &Scope,
+    room: u32,
+    tokens: &'a [Token],
+) -> Result<(Expr, u32, &'a [Token]), ReadErr>
+    ensures gives { Gives (λ x. (expr x.0, toks x.2.now)) result (level_at (context scope.now) room 0 (toks tokens.now)) }
+    ensures depth { IfOk result (λ x. x.1 ≡ expr_depth (expr x.0)) }
+    ensures fits { IfOk result (λ x. x.1 ≤ room) }
+{
+    if room == 0 {
+        return Err(no_room(begins_expr(scope, tokens), tokens));
+    }
+    match start_at(scope, tokens) {
+        Start::Operator(op) => {
+            let (a, depth, rest) = unary_expression(alloc, scope, room - 1, behind(tokens))?;
+            let tree = unary(alloc, op, a, span(scope, tokens, rest))?;
+            Ok((tree, depth + 1, rest))
+        }
+        Start::Step(op) => {
+            let (a, depth, rest) = unary_expression(alloc, scope, room - 1, behind(tokens))?;
+            let tree = step(alloc, op, a, span(scope, tokens, rest))?;
+            Ok((tree, depth + 1, rest))
+        }
+        Start::Cast => {
+            let (ty, ty_depth, rest) = type_tree(alloc, scope, room - 1, behind(tokens))?;
+            let rest = close_paren(rest)?;
+            let (a, depth, rest) = unary_expression(alloc, scope, room - 1, rest)?;
+            let tree = cast(alloc, ty, a, span(scope, tokens, rest))?;
+            Ok((tree, ty_depth.max(depth) + 1, rest))
+        }
+        Start::Size => {
+            let rest = open_paren(behind(tokens))?;
+            let (ty, depth, rest) = type_tree(alloc, scope, room - 1, rest)?;
+            let rest = close_paren(rest)?;
+            Ok((Expr::SizeOf(ty, span(scope, tokens, rest)), depth + 1, rest))
+        }
+        Start::Other => postfix(alloc, scope, room, tokens),
+    }
+}
+
+#[tactic(auto, using(crate::proofs::Steps::reader_steps))]
+#[cycle(expressions)]
+fn postfix<'a>(
+    alloc: Global,
+    scope: &Scope,
+    room: u32,
+    tokens: &'a [Token],
+) -> Result<(Expr, u32, &'a [Token]), ReadErr>
+    requires some { 0 < room }
+    ensures gives { Gives (λ x. (expr x.0, toks x.2.now)) result (postfix_with (context scope.now) (readers (context scope.now) (room - 1)) room (toks tokens.now)) }
+    ensures depth { IfOk result (λ x. x.1 ≡ expr_depth (expr x.0)) }
+    ensures fits { IfOk result (λ x. x.1 ≤ room) }
+{
+    let (mut left, mut depth, mut rest) = primary(alloc, scope, room, tokens)?;
+    'suffixes: while is_some_suffix(suffix_at(rest)) {
+        if room <= depth {
+            return Err(deep(rest));
+        }
+        let (tree, tree_depth, after) = suffixed(alloc, scope, room, left, depth, tokens, rest)?;
+        left = tree;
+        depth = tree_depth;
+        rest = after;
+    }
+    Ok((left, depth, rest))
+}
+
+/// The expression `left`, which begins at `from`, with the suffix behind it.
+#[tactic(auto, using(crate::proofs::Steps::reader_steps))]
+#[cycle(expressions)]
+fn suffixed<'a>(
+    alloc: Global,
+    scope: &Scope,
+    room: u32,
+    left: Expr,
+    depth: u32,
+    from: &[Token],
+    tokens: &'a [Token],
+) -> Result<(Expr, u32, &'a [Token]), ReadErr>
+    requires depth { depth ≡ expr_depth (expr left) }
+    requires some { depth < room }
+    ensures gives { Gives (λ x. (expr x.0, toks x.2.now)) result (suffix_by (context scope.now) (readers (context scope.now) (room - 1)) (toks from.now) (expr left) (toks tokens.now) (leads.suffix_at (toks tokens.now))) }
+    ensures depth { IfOk result (λ x. x.1 ≡ expr_depth (expr x.0)) }
+    ensures fits { IfOk result (λ x. x.1 ≤ room) }
+{
+    match suffix_at(tokens) {
+        Suffix::Index => {
+            let (i, index_depth, rest) = expression(alloc, scope, room - 1, behind(tokens))?;
+            let rest = close_bracket(rest)?;
+            let tree = index(alloc, left, i, span(scope, from, rest))?;
+            Ok((tree, depth.max(index_depth) + 1, rest))
+        }
+        Suffix::Member => {
+            let (n, rest) = name(alloc, scope, behind(tokens))?;
+            let tree = member(alloc, left, n, span(scope, from, rest))?;
+            Ok((tree, depth + 1, rest))
+        }
+        Suffix::Arrow => {
+            let (n, rest) = name(alloc, scope, behind(tokens))?;
+            let tree = arrow(alloc, left, n, span(scope, from, rest))?;
+            Ok((tree, depth + 1, rest))
+        }
+        Suffix::Step(op) => {
+            let rest = behind(tokens);
+            let tree = step(alloc, op, left, span(scope, from, rest))?;
+            Ok((tree, depth + 1, rest))
+        }
+        Suffix::Nothing => Err(bad(tokens)),
+    }
+}
+
+#[tactic(auto, using(crate::proofs::Steps::reader_steps))]
+#[cycle(expressions)]
+fn primary<'a>(
+    alloc: Global,
+    scope: &Scope,
+    room: u32,
+    tokens: &'a [Token],
+) -> Result<(Expr, u32, &'a [Token]), ReadErr>
+    requires some { 0 < room }
+    ensures gives { Gives (λ x. (expr x.0, toks x.2.now)) result (primary_with (context scope.now) (readers (context scope.now) (room - 1)) (toks tokens.now)) }
+    ensures depth { IfOk result (λ x. x.1 ≡ expr_depth (expr x.0)) }
+    ensures fits { IfOk result (λ x. x.1 ≤ room) }
+{
+    let rest = behind(tokens);
+    match lead_at(scope, tokens) {
+        Lead::Name => {
+            let n = word(alloc, tokens)?;
+            if !at_open_paren(rest) {
+                return Ok((Expr::Name(n, span(scope, tokens, rest)), 1, rest));
+            }
+            let (args, depth, rest) = arguments(alloc, scope, room - 1, behind(rest))?;
+            Ok((
+                Expr::Call(n, args, span(scope, tokens, rest)),
+                depth + 1,
+                rest,
+            ))
+        }
+        Lead::Value(n) => Ok((Expr::Number(n, span(scope, tokens, rest)), 1, rest)),
+        Lead::Text => {
+            let text = word(alloc, tokens)?;
+            Ok((Expr::Text(text, span(scope, tokens, rest)), 1, rest))
+        }
+        Lead::Null => Ok((Expr::Null(span(scope, tokens, rest)), 1, rest)),
+        Lead::Paren => {
+            let (e, depth, rest) = expression(alloc, scope, room - 1, rest)?;
+            let rest = close_paren(rest)?;
+            Ok((paren(alloc, e, span(scope, tokens, rest))?, depth + 1, rest))
+        }
+        Lead::Other => Err(bad(tokens)),
+    }
+}
+
+/// A call's arguments, up to and with the parenthesis that closes them.
+#[tactic(auto, using(crate::proofs::Steps::reader_steps))]
+#[cycle(expressions)]
+fn arguments<'a>(
+    alloc: Global,
+    scope: &Scope,
+    room: u32,
+    tokens: &'a [Token],
+) -> Result<(Seq<Expr>, u32, &'a [Token]), ReadErr>
+    ensures gives { Gives (λ x. (map expr x.0, toks x.2.now)) result (arguments_with (readers (context scope.now) room) (toks tokens.now)) }
+    ensures depth { IfOk result (λ x. x.1 ≡ exprs_depth (exprs (map expr x.0))) }
+    ensures fits { IfOk result (λ x. x.1 ≤ room) }
+{
+    let mut found = Vec::new(alloc);
+    if at_close_paren(tokens) {
+        return Ok((Seq::from_vec(found), 0, behind(tokens)));
+    }
+    let (first, mut depth, mut rest) = expression(alloc, scope, room, tokens)?;
+    found.push(first)?;
+    'arguments: while at_comma(rest) {
+        let (next, next_depth, after) = expression(alloc, scope, room, behind(rest))?;
+        found.push(next)?;
+        depth = depth.max(next_depth);
+        rest = after;
+    }
+    let rest = close_paren(rest)?;
+    Ok((Seq::from_vec(found), depth, rest))
+}
+
+fn base<'a>(
+    alloc: Global,
+    scope: &Scope,
+    tokens: &'a [Token],
+) -> Result<(TypeTree, &'a [Token]), ReadErr>
+    ensures gives { Gives (λ x. (type x.0, toks x.1.now)) result (base (context scope.now) (toks tokens.now)) }
+    ensures depth { IfOk result (λ x. type_depth (type x.0) ≡ 1) }
+{
+    let rest = behind(tokens);
+    match type_at(scope, tokens) {
+        TypeLead::Int => Ok((TypeTree::Int, rest)),
+        TypeLead::Bool => Ok((TypeTree::Bool, rest)),
+        TypeLead::Named => Ok((TypeTree::Named(word(alloc, tokens)?), rest)),
+        TypeLead::Void => {
+            if !at_star(rest) {
+                return Err(bad(rest));
+            }
+            Ok((TypeTree::Void, rest))
+        }
+        TypeLead::Other => Err(bad(tokens)),
+    }
+}
+
+#[tactic(auto, using(crate::proofs::Steps::reader_steps))]
+#[cycle(expressions)]
+pub(crate) fn type_tree<'a>(
+    alloc: Global,
+    scope: &Scope,
+    room: u32,
+    tokens: &'a [Token],
+) -> Result<(TypeTree, u32, &'a [Token]), ReadErr>
+    ensures gives { Gives (λ x. (type x.0, toks x.2.now)) result (type_read (context scope.now) room (toks tokens.now)) }
+    ensures depth { IfOk result (λ x. x.1 ≡ type_depth (type x.0)) }
+    ensures fits { IfOk result (λ x. x.1 ≤ room) }
+{
+    if room == 0 {
+        return Err(no_room(begins_type(scope, tokens), tokens));
+    }
+    let (mut ty, mut rest) = base(alloc, scope, tokens)?;
+    let mut depth = 1;
+    'marks: loop {
+        match type_mark_at(rest) {
+            TypeMark::Star => {
+                if room <= depth {
+                    return Err(deep(rest));
+                }
+                ty = pointer(alloc, ty)?;
+                depth += 1;
+                rest = behind(rest);
+            }
+            TypeMark::Bracket => {
+                let (array, array_depth, after) = run(alloc, scope, room, ty, depth, rest)?;
+                ty = array;
+                depth = array_depth;
+                rest = after;
+            }
+            TypeMark::Nothing => return Ok((ty, depth, rest)),
+        }
+    }
+}
+
+/// The array of the type `ty` that a run of brackets makes, the first of them the outermost.
+#[tactic(auto, using(crate::proofs::Steps::reader_steps))]
+#[cycle(expressions)]
+fn run<'a>(
+    alloc: Global,
+    scope: &Scope,
+    room: u32,
+    ty: TypeTree,
+    depth: u32,
+    tokens: &'a [Token],
+) -> Result<(TypeTree, u32, &'a [Token]), ReadErr>
+    requires depth { depth ≡ type_depth (type ty) }
+    ensures gives { Gives (λ x. (type x.0, toks x.2.now)) result (run_at (context scope.now) room (type ty) (toks tokens.now)) }
+    ensures depth { IfOk result (λ x. x.1 ≡ type_depth (type x.0)) }
+    ensures fits { IfOk result (λ x. x.1 ≤ room) }
+{
+    if room <= depth {
+        return Err(deep(tokens));
+    }
+    let (size, size_depth, rest) = level(alloc, scope, room - 1, 10, behind(tokens))?;
+    let rest = close_bracket(rest)?;
+    if !at_open_bracket(rest) {
+        return Ok((array(alloc, ty, size)?, depth.max(size_depth) + 1, rest));
+    }
+    let (of, of_depth, rest) = run(alloc, scope, room - 1, ty, depth, rest)?;
+    Ok((array(alloc, of, size)?, of_depth.max(size_depth) + 1, rest))
+}

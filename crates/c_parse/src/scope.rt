@@ -1,0 +1,52 @@
+// What is known where tokens are read.
+ghost use Rattle.std.specs.Prelude.{◌≡◌, ◌-◌, length};
+ghost use Rattle.c_parse.specs.Scope.{is_type, span};
+ghost use Rattle.c_parse.specs.Tok.{bytes_of, toks};
+ghost use Rattle.c_parse.specs.View.{context};
+
+use c_lex::{Kind, Token};
+use c_tree::Span;
+use kit_base::Name;
+
+/// How many tokens the unit has, and the names that are types so far.
+#[derive(Drop)]
+pub(crate) struct Scope {
+    pub(crate) total: u32,
+    pub(crate) types: Vec<Name>,
+}
+
+/// The bytes of a word or a text.
+pub(crate) fn bytes_of(token: &Token) -> &[u8]
+    ensures { result.now ≡ bytes_of token.now.kind }
+{
+    match &token.kind {
+        Kind::Word(word) => word.bytes(),
+        Kind::Text(text) => text.bytes(),
+        _ => &[],
+    }
+}
+
+pub(crate) fn is_type(scope: &Scope, word: &[u8]) -> bool
+    ensures { result ≡ is_type (context scope.now) word.now }
+{
+    scope.types.iter().any(|t| t.bytes() == word)
+}
+
+fn place(total: u32, left: usize) -> u32
+    ensures { result ≡ total - left }
+{
+    if left >= total as usize {
+        return 0;
+    }
+    total - left as u32
+}
+
+/// The tokens up to the rest.
+pub(crate) fn span(scope: &Scope, tokens: &[Token], rest: &[Token]) -> Span
+    ensures { result ≡ span (context scope.now) (toks tokens.now) (toks rest.now) }
+{
+    Span {
+        first: place(scope.total, tokens.len()),
+        last: place(scope.total, rest.len()).saturating_sub(1),
+    }
+}

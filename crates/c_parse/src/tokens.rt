@@ -1,0 +1,301 @@
+// Single tokens at the front.
+ghost use Rattle.std.specs.Prelude.{◌≡◌, Ok, length};
+ghost use Rattle.c_parse.specs.Tok.{toks};
+ghost use Rattle.c_parse.specs.declared.fault.Fault.TheVariants.{Syntax, TooDeep};
+ghost use Rattle.c_parse.specs.declared.fault.ReadErr.TheVariants as errors;
+ghost use Rattle.c_parse.specs.Reader as reader;
+ghost use Rattle.c_parse.specs.Reader.{behind, bytes_at, must};
+ghost use Rattle.c_parse.specs.View.{Gives, context};
+
+use crate::class::{Class, Key, next};
+use crate::fault::{Fault, ReadErr};
+use crate::scope::{Scope, bytes_of, is_type};
+use c_lex::{Punct, Token};
+use kit_base::Name;
+use std::alloc::Global;
+
+/// No unit goes on with the first of these tokens.
+pub(crate) fn bad(tokens: &[Token]) -> ReadErr
+    ensures { result ≡ errors.Fault (Syntax (length (toks tokens.now))) }
+{
+    ReadErr::Fault(Fault::Syntax(tokens.len()))
+}
+
+/// No unit that is shallow enough goes on with the first of these tokens.
+pub(crate) fn deep(tokens: &[Token]) -> ReadErr
+    ensures { result ≡ errors.Fault (TooDeep (length (toks tokens.now))) }
+{
+    ReadErr::Fault(Fault::TooDeep(tokens.len()))
+}
+
+pub(crate) fn no_room(begins: bool, tokens: &[Token]) -> ReadErr
+    ensures { result ≡ errors.Fault (reader.room_fault begins (toks tokens.now)) }
+{
+    if begins { deep(tokens) } else { bad(tokens) }
+}
+
+pub(crate) fn behind(tokens: &[Token]) -> &[Token]
+    ensures { toks result.now ≡ behind (toks tokens.now) }
+{
+    match tokens {
+        [] => tokens,
+        [_, rest @ ..] => rest,
+    }
+}
+
+fn must(found: bool, tokens: &[Token]) -> Result<&[Token], ReadErr>
+    ensures { Gives (λ x. toks x.now) result (must (reader.is_behind (toks tokens.now) found) (toks tokens.now)) }
+{
+    if !found {
+        return Err(bad(tokens));
+    }
+    Ok(behind(tokens))
+}
+
+pub(crate) fn at_open_paren(tokens: &[Token]) -> bool
+    ensures { result ≡ reader.at_open_paren (toks tokens.now) }
+{
+    match next(tokens) {
+        Some((Class::Mark(Punct::OpenParen), _, _)) => true,
+        _ => false,
+    }
+}
+
+pub(crate) fn at_close_paren(tokens: &[Token]) -> bool
+    ensures { result ≡ reader.at_close_paren (toks tokens.now) }
+{
+    match next(tokens) {
+        Some((Class::Mark(Punct::CloseParen), _, _)) => true,
+        _ => false,
+    }
+}
+
+pub(crate) fn at_open_bracket(tokens: &[Token]) -> bool
+    ensures { result ≡ reader.at_open_bracket (toks tokens.now) }
+{
+    match next(tokens) {
+        Some((Class::Mark(Punct::OpenBracket), _, _)) => true,
+        _ => false,
+    }
+}
+
+fn at_close_bracket(tokens: &[Token]) -> bool
+    ensures { result ≡ reader.at_close_bracket (toks tokens.now) }
+{
+    match next(tokens) {
+        Some((Class::Mark(Punct::CloseBracket), _, _)) => true,
+        _ => false,
+    }
+}
+
+pub(crate) fn at_open_brace(tokens: &[Token]) -> bool
+    ensures { result ≡ reader.at_open_brace (toks tokens.now) }
+{
+    match next(tokens) {
+        Some((Class::Mark(Punct::OpenBrace), _, _)) => true,
+        _ => false,
+    }
+}
+
+pub(crate) fn at_close_brace(tokens: &[Token]) -> bool
+    ensures { result ≡ reader.at_close_brace (toks tokens.now) }
+{
+    match next(tokens) {
+        Some((Class::Mark(Punct::CloseBrace), _, _)) => true,
+        _ => false,
+    }
+}
+
+pub(crate) fn at_semicolon(tokens: &[Token]) -> bool
+    ensures { result ≡ reader.at_semicolon (toks tokens.now) }
+{
+    match next(tokens) {
+        Some((Class::Mark(Punct::Semicolon), _, _)) => true,
+        _ => false,
+    }
+}
+
+pub(crate) fn at_comma(tokens: &[Token]) -> bool
+    ensures { result ≡ reader.at_comma (toks tokens.now) }
+{
+    match next(tokens) {
+        Some((Class::Mark(Punct::Comma), _, _)) => true,
+        _ => false,
+    }
+}
+
+fn at_colon(tokens: &[Token]) -> bool
+    ensures { result ≡ reader.at_colon (toks tokens.now) }
+{
+    match next(tokens) {
+        Some((Class::Mark(Punct::Colon), _, _)) => true,
+        _ => false,
+    }
+}
+
+pub(crate) fn at_assign(tokens: &[Token]) -> bool
+    ensures { result ≡ reader.at_assign (toks tokens.now) }
+{
+    match next(tokens) {
+        Some((Class::Mark(Punct::Assign), _, _)) => true,
+        _ => false,
+    }
+}
+
+pub(crate) fn at_star(tokens: &[Token]) -> bool
+    ensures { result ≡ reader.at_star (toks tokens.now) }
+{
+    match next(tokens) {
+        Some((Class::Mark(Punct::Star), _, _)) => true,
+        _ => false,
+    }
+}
+
+pub(crate) fn at_else_word(tokens: &[Token]) -> bool
+    ensures { result ≡ reader.at_else_word (toks tokens.now) }
+{
+    match next(tokens) {
+        Some((Class::Key(Key::Else), _, _)) => true,
+        _ => false,
+    }
+}
+
+fn at_while_word(tokens: &[Token]) -> bool
+    ensures { result ≡ reader.at_while_word (toks tokens.now) }
+{
+    match next(tokens) {
+        Some((Class::Key(Key::While), _, _)) => true,
+        _ => false,
+    }
+}
+
+pub(crate) fn at_void_word(tokens: &[Token]) -> bool
+    ensures { result ≡ reader.at_void_word (toks tokens.now) }
+{
+    match next(tokens) {
+        Some((Class::Key(Key::Void), _, _)) => true,
+        _ => false,
+    }
+}
+
+pub(crate) fn open_paren(tokens: &[Token]) -> Result<&[Token], ReadErr>
+    ensures { Gives (λ x. toks x.now) result (reader.open_paren (toks tokens.now)) }
+{
+    must(at_open_paren(tokens), tokens)
+}
+
+pub(crate) fn close_paren(tokens: &[Token]) -> Result<&[Token], ReadErr>
+    ensures { Gives (λ x. toks x.now) result (reader.close_paren (toks tokens.now)) }
+{
+    must(at_close_paren(tokens), tokens)
+}
+
+pub(crate) fn close_bracket(tokens: &[Token]) -> Result<&[Token], ReadErr>
+    ensures { Gives (λ x. toks x.now) result (reader.close_bracket (toks tokens.now)) }
+{
+    must(at_close_bracket(tokens), tokens)
+}
+
+pub(crate) fn open_brace(tokens: &[Token]) -> Result<&[Token], ReadErr>
+    ensures { Gives (λ x. toks x.now) result (reader.open_brace (toks tokens.now)) }
+{
+    must(at_open_brace(tokens), tokens)
+}
+
+pub(crate) fn close_brace(tokens: &[Token]) -> Result<&[Token], ReadErr>
+    ensures { Gives (λ x. toks x.now) result (reader.close_brace (toks tokens.now)) }
+{
+    must(at_close_brace(tokens), tokens)
+}
+
+pub(crate) fn semicolon(tokens: &[Token]) -> Result<&[Token], ReadErr>
+    ensures { Gives (λ x. toks x.now) result (reader.semicolon (toks tokens.now)) }
+{
+    must(at_semicolon(tokens), tokens)
+}
+
+pub(crate) fn colon(tokens: &[Token]) -> Result<&[Token], ReadErr>
+    ensures { Gives (λ x. toks x.now) result (reader.colon (toks tokens.now)) }
+{
+    must(at_colon(tokens), tokens)
+}
+
+pub(crate) fn while_word(tokens: &[Token]) -> Result<&[Token], ReadErr>
+    ensures { Gives (λ x. toks x.now) result (reader.while_word (toks tokens.now)) }
+{
+    must(at_while_word(tokens), tokens)
+}
+
+fn at_name(scope: &Scope, tokens: &[Token]) -> bool
+    ensures { result ≡ reader.at_name (context scope.now) (toks tokens.now) }
+{
+    match next(tokens) {
+        Some((Class::Word, token, _)) => !is_type(scope, bytes_of(token)),
+        _ => false,
+    }
+}
+
+fn at_new(tokens: &[Token]) -> bool
+    ensures { result ≡ reader.at_new (toks tokens.now) }
+{
+    match next(tokens) {
+        Some((Class::Word, _, _)) => true,
+        _ => false,
+    }
+}
+
+fn bytes_at(tokens: &[Token]) -> &[u8]
+    ensures { result.now ≡ bytes_at (toks tokens.now) }
+{
+    match next(tokens) {
+        Some((Class::Word, token, _)) => bytes_of(token),
+        Some((Class::Text, token, _)) => bytes_of(token),
+        _ => &[],
+    }
+}
+
+/// The word or the text at the front.
+pub(crate) fn word(alloc: Global, tokens: &[Token]) -> Result<Name, ReadErr>
+    ensures { Gives (λ x. x) result (Ok (bytes_at (toks tokens.now))) }
+{
+    Ok(Name::from_bytes(alloc, bytes_at(tokens))?)
+}
+
+/// A name that is no type's.
+pub(crate) fn name<'a>(
+    alloc: Global,
+    scope: &Scope,
+    tokens: &'a [Token],
+) -> Result<(Name, &'a [Token]), ReadErr>
+    ensures { Gives (λ x. (x.0, toks x.1.now)) result (reader.name (context scope.now) (toks tokens.now)) }
+{
+    if !at_name(scope, tokens) {
+        return Err(bad(tokens));
+    }
+    Ok((word(alloc, tokens)?, behind(tokens)))
+}
+
+/// A name, be it a type's or not.
+pub(crate) fn new(alloc: Global, tokens: &[Token]) -> Result<(Name, &[Token]), ReadErr>
+    ensures { Gives (λ x. (x.0, toks x.1.now)) result (reader.new (toks tokens.now)) }
+{
+    if !at_new(tokens) {
+        return Err(bad(tokens));
+    }
+    Ok((word(alloc, tokens)?, behind(tokens)))
+}
+
+pub(crate) fn at_more(tokens: &[Token]) -> bool
+    ensures { result ≡ reader.at_more (toks tokens.now) }
+{
+    at_comma(tokens) && !at_close_brace(behind(tokens))
+}
+
+pub(crate) fn end_list(tokens: &[Token]) -> Result<&[Token], ReadErr>
+    ensures { Gives (λ x. toks x.now) result (reader.end_list (toks tokens.now)) }
+{
+    if at_comma(tokens) {
+        return close_brace(behind(tokens));
+    }
+    close_brace(tokens)
+}

@@ -1,0 +1,172 @@
+// From tokens to the items of a unit.
+ghost use Rattle.std.specs.Prelude.{◌≡◌, ◌≤◌, ◌<◌, IfOk, Ok, length, map};
+ghost use Rattle.c_parse.specs.ReadingUnits as reading;
+ghost use Rattle.c_parse.specs.Tok.{toks};
+ghost use Rattle.c_parse.specs.Units.{behind_item};
+ghost use Rattle.c_parse.specs.View.{Gives, context};
+ghost use Rattle.c_tree.specs.View.{item, type, unit, var};
+ghost use Rattle.c_tree.specs.Depth.{type_depth};
+ghost use Rattle.c_tree.specs.Tree.{VoidY};
+
+use crate::declaration::{members, parameters, values, variables};
+use crate::expression::type_tree;
+use crate::fault::ReadErr;
+use crate::lead::ItemLead;
+use crate::leading::item_at;
+use crate::scope::{Scope, span};
+use crate::statement::statements;
+use crate::tokens::{
+    at_assign, at_comma, at_open_paren, at_semicolon, behind, close_brace, close_paren, end_list, name, new,
+    no_room, open_brace, open_paren, semicolon,
+};
+use c_lex::Token;
+use c_tree::{Item, TypeTree, Unit, Var};
+use kit_base::{Name, Seq};
+use std::alloc::Global;
+
+/// A structure or a union. Its name is a type from here on.
+fn structure<'a>(
+    alloc: Global,
+    scope: &mut Scope,
+    room: u32,
+    is_union: bool,
+    tokens: &'a [Token],
+) -> Result<(Item, &'a [Token]), ReadErr>
+    ensures gives { Gives (λ x. (item x.0, toks x.1.now)) result (reading.record_at (context scope.old) room is_union (toks tokens.now)) }
+    ensures declared { IfOk result (λ x. context scope.new ≡ behind_item (item x.0) (context scope.old)) }
+{
+    let (name, rest) = new(alloc, behind(tokens))?;
+    scope.types.push(name.copy(alloc)?)?;
+    if at_semicolon(rest) {
+        let rest = behind(rest);
+        let span = span(scope, tokens, rest);
+        return Ok((Item::Record { is_union, name, members: None, span }, rest));
+    }
+    let rest = open_brace(rest)?;
+    let (members, rest) = members(alloc, scope, room, rest)?;
+    let rest = close_brace(rest)?;
+    let rest = semicolon(rest)?;
+    let span = span(scope, tokens, rest);
+    Ok((Item::Record { is_union, name, members: Some(members), span }, rest))
+}
+
+fn enumeration<'a>(
+    alloc: Global,
+    scope: &mut Scope,
+    room: u32,
+    tokens: &'a [Token],
+) -> Result<(Item, &'a [Token]), ReadErr>
+    ensures gives { Gives (λ x. (item x.0, toks x.1.now)) result (reading.enum_at (context scope.old) room (toks tokens.now)) }
+    ensures declared { IfOk result (λ x. context scope.new ≡ behind_item (item x.0) (context scope.old)) }
+{
+    let (name, rest) = new(alloc, behind(tokens))?;
+    let rest = open_brace(rest)?;
+    let (values, rest) = values(alloc, scope, room, rest)?;
+    let rest = end_list(rest)?;
+    let rest = semicolon(rest)?;
+    let span = span(scope, tokens, rest);
+    scope.types.push(name.copy(alloc)?)?;
+    Ok((Item::Enum { name, values, span }, rest))
+}
+
+fn type_name<'a>(
+    alloc: Global,
+    scope: &mut Scope,
+    room: u32,
+    tokens: &'a [Token],
+) -> Result<(Item, &'a [Token]), ReadErr>
+    ensures gives { Gives (λ x. (item x.0, toks x.1.now)) result (reading.typedef_at (context scope.old) room (toks tokens.now)) }
+    ensures declared { IfOk result (λ x. context scope.new ≡ behind_item (item x.0) (context scope.old)) }
+{
+    let (ty, _depth, rest) = type_tree(alloc, scope, room, behind(tokens))?;
+    let (name, rest) = new(alloc, rest)?;
+    let rest = semicolon(rest)?;
+    let span = span(scope, tokens, rest);
+    scope.types.push(name.copy(alloc)?)?;
+    Ok((Item::Typedef(ty, name, span), rest))
+}
+
+/// A function that begins at `from`, from behind its name.
+fn function<'a>(
+    alloc: Global,
+    scope: &Scope,
+    room: u32,
+    from: &[Token],
+    ty: TypeTree,
+    name: Name,
+    tokens: &'a [Token],
+) -> Result<(Item, &'a [Token]), ReadErr>
+    ensures gives { Gives (λ x. (item x.0, toks x.1.now)) result (reading.function_at (context scope.now) room (toks from.now) (type ty) name (toks tokens.now)) }
+    ensures declared { IfOk result (λ x. context scope.now ≡ behind_item (item x.0) (context scope.now)) }
+{
+    let rest = open_paren(tokens)?;
+    let (params, rest) = parameters(alloc, scope, room, rest)?;
+    let rest = close_paren(rest)?;
+    if at_semicolon(rest) {
+        let rest = behind(rest);
+        let span = span(scope, from, rest);
+        return Ok((Item::Function { result: ty, name, params, body: None, span }, rest));
+    }
+    let rest = open_brace(rest)?;
+    let (body, rest) = statements(alloc, scope, room, rest)?;
+    let rest = close_brace(rest)?;
+    let span = span(scope, from, rest);
+    Ok((Item::Function { result: ty, name, params, body: Some(body), span }, rest))
+}
+
+/// A function or variables, from their type on.
+fn typed<'a>(alloc: Global, scope: &Scope, room: u32, tokens: &'a [Token]) -> Result<(Item, &'a [Token]), ReadErr>
+    ensures gives { Gives (λ x. (item x.0, toks x.1.now)) result (reading.typed_at (context scope.now) room (toks tokens.now)) }
+    ensures declared { IfOk result (λ x. context scope.now ≡ behind_item (item x.0) (context scope.now)) }
+{
+    let (ty, depth, rest) = type_tree(alloc, scope, room, tokens)?;
+    let (name, rest) = name(alloc, scope, rest)?;
+    if at_open_paren(rest) {
+        return function(alloc, scope, room, tokens, ty, name, rest);
+    }
+    if room <= depth {
+        return Err(no_room(at_semicolon(rest) || (at_assign(rest) || at_comma(rest)), rest));
+    }
+    let (vars, rest) = variables(alloc, scope, room, tokens)?;
+    let rest = semicolon(rest)?;
+    Ok((Item::Vars(vars, span(scope, tokens, rest)), rest))
+}
+
+fn read_item<'a>(alloc: Global, scope: &mut Scope, room: u32, tokens: &'a [Token]) -> Result<(Item, &'a [Token]), ReadErr>
+    ensures gives { Gives (λ x. (item x.0, toks x.1.now)) result (reading.item_read (context scope.old) room (toks tokens.now)) }
+    ensures declared { IfOk result (λ x. context scope.new ≡ behind_item (item x.0) (context scope.old)) }
+{
+    match item_at(tokens) {
+        ItemLead::Record(is_union) => structure(alloc, scope, room, is_union, tokens),
+        ItemLead::Enum => enumeration(alloc, scope, room, tokens),
+        ItemLead::Typedef => type_name(alloc, scope, room, tokens),
+        ItemLead::Void => {
+            let (name, rest) = name(alloc, scope, behind(tokens))?;
+            function(alloc, scope, room, tokens, TypeTree::Void, name, rest)
+        }
+        ItemLead::Other => typed(alloc, scope, room, tokens),
+    }
+}
+
+/// The items of a unit, with so many trees on a path below each.
+#[tactic(auto, unfolding(crate::specs::ReadingUnits::unit_at))]
+pub(crate) fn read_unit(alloc: Global, room: u32, tokens: &[Token]) -> Result<Unit, ReadErr>
+    requires fits { length tokens.now ≤ 200000 }
+    requires some { 0 < room }
+    ensures { Gives unit result (reading.unit_at room (toks tokens.now)) }
+{
+    let mut scope = Scope {
+        total: tokens.len() as u32,
+        types: Vec::new(alloc),
+    };
+    let mut found = Vec::new(alloc);
+    let mut rest = tokens;
+    'items: while !rest.is_empty() {
+        let (next, after) = read_item(alloc, &mut scope, room, rest)?;
+        found.push(next)?;
+        rest = after;
+    }
+    Ok(Unit {
+        items: Seq::from_vec(found),
+    })
+}

@@ -50,15 +50,15 @@ fn tokens(alloc: Global, text: &str) -> Result<Vec<Token>, Fail> {
 }
 
 /// 0 for a unit, 1 to 4 for an error, and its numbers.
-fn outcome(alloc: Global, tokens: &[Token]) -> (u32, u32, u32) {
+fn outcome(alloc: Global, tokens: &[Token]) -> (u32, u64, u32) {
     if tokens.len() > 1000 {
         return (5, 0, 0);
     }
     match parse(alloc, tokens) {
         Ok(_) => (0, 0, 0),
-        Err(ParseErr::Syntax { token }) => (1, token, 0),
-        Err(ParseErr::TooDeep { token }) => (2, token, 0),
-        Err(ParseErr::Unsupported { token, what }) => (3, token, what),
+        Err(ParseErr::Syntax { token }) => (1, u64::from(token), 0),
+        Err(ParseErr::TooDeep { token }) => (2, u64::from(token), 0),
+        Err(ParseErr::Unsupported { token, what }) => (3, u64::from(token), what),
         Err(ParseErr::Memory) => (4, 0, 0),
     }
 }
@@ -85,7 +85,7 @@ fn errors_name_the_first_bad_token(rt: HostRuntime) -> Result<(), Fail> {
     }
     let whole = tokens(rt.alloc(), "struct s { int a ; } ; int f ( int a ) { if ( a ) return a ; }")?;
     for (n, _) in whole.iter().enumerate() {
-        let expected = if n == 0 || n == 8 { (0, 0, 0) } else { (1, n as u32, 0) };
+        let expected = if n == 0 || n == 8 { (0, 0, 0) } else { (1, n as u64, 0) };
         assert_eq!(rt; outcome(rt.alloc(), &whole[..n]), expected);
     }
     for k in [150, 197, 198, 250] {

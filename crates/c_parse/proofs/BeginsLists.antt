@@ -1,45 +1,18 @@
 -- What is read of lists goes on, and what is at fault there can be completed.
-use Rattle.std.proofs.Common.{◌≡◌, ℕ, zero, suc, ◌+◌, ◌-◌, ◌<◌, ◌≤◌, Bool, true, false, cond, eqb, List, [], ◌∷◌, ◌++◌, length, Option, Some, None, Result, Ok, Err, refl, sym, ap, subst, ◌∙◌, append_assoc, arith, ◌⊎◌, inl, inr}
-use Rattle.std.specs.Prelude.{nat_lt, ◌||◌, ◌&&◌}
-use Rattle.std.proofs.lemmas.Bool.{eqb-true}
-use Rattle.c_tree.specs.declared.operator.UnOp.{UnOp}
-use Rattle.c_tree.specs.declared.operator.StepOp.{StepOp}
-use Rattle.c_tree.specs.declared.operator.BinOp.{BinOp}
-use Rattle.c_tree.specs.Tree.{ExprT, NameE, NumberE, TextE, NullE, ParenE, UnaryE, BinaryE, AssignE, StepE, IndexE, MemberE, ArrowE, CallE, CastE, SizeOfE, TypeT, IntY, BoolY, VoidY, NamedY, PointerY, ArrayY}
-use Rattle.c_tree.specs.View.{exprs}
-use Rattle.c_tree.specs.Depth.{expr_depth, type_depth}
-use Rattle.c_lex.specs.declared.token.Punct.{Punct}
+use Rattle.std.proofs.Common.{◌≡◌, ℕ, Bool, true, false, cond, List, [], ◌∷◌, Result, Ok, Err, refl, ap, subst}
 use Rattle.c_lex.specs.declared.token.Punct.TheVariants as m
 use Rattle.c_parse.specs.declared.class.Key.TheVariants as key
 use Rattle.c_parse.specs.declared.fault.Fault.{Fault}
-use Rattle.c_parse.specs.declared.fault.Fault.TheVariants.{Syntax, TooDeep}
-use Rattle.c_parse.specs.declared.lead.Start.{Start}
-use Rattle.c_parse.specs.declared.lead.Start.TheVariants as start
-use Rattle.c_parse.specs.declared.lead.Lead.{Lead}
-use Rattle.c_parse.specs.declared.lead.Lead.TheVariants as lead
-use Rattle.c_parse.specs.declared.lead.Suffix.{Suffix}
-use Rattle.c_parse.specs.declared.lead.Suffix.TheVariants as suffix
-use Rattle.c_parse.specs.declared.lead.TypeLead.{TypeLead}
-use Rattle.c_parse.specs.declared.lead.TypeLead.TheVariants as type_
-use Rattle.c_parse.specs.declared.lead.TypeMark.{TypeMark}
-use Rattle.c_parse.specs.declared.lead.TypeMark.TheVariants as type_mark
-use Rattle.c_parse.specs.Tok.{Tok, keyword, refused, word, number, character, text, mark}
-use Rattle.c_parse.specs.Scope.{Context, is_type, span}
-use Rattle.c_parse.specs.Marks.{prefix, prefix_mark, step_before, step_behind, binary, assigner, value}
-use Rattle.c_parse.specs.Grammar as g
-use Rattle.c_parse.specs.Grammar.{NoBracket, Base, Ty, Run, Expr, Level, Tail, Unary, Suffixes, Primary, Exprs}
-use Rattle.c_parse.specs.Reader.{◌>>=◌, Got, Reader, bad, deep, no_room, room_fault, above, Turn, goes_on, repeat, loop, behind, must, is_behind, at_else_word, at_open_bracket, is_open_paren, at_open_paren, open_paren, is_close_paren, at_close_paren, close_paren, is_open_bracket, is_close_bracket, at_close_bracket, close_bracket, is_comma, at_comma, is_star, at_star, is_name, at_name, name, bytes_at}
-use Rattle.c_parse.specs.Leads.{type_of, type_at, begins_type, type_mark_of, type_mark_at, start_of, start_at, is_some_type, is_some_start, is_some_lead, begins_expr, lead_of, lead_at, suffix_of, suffix_at}
-use Rattle.c_parse.specs.Reading.{Readers, run_more, run_with, type_mark_by, type_mark_turn, base_by, base, type_with, exprs_by, exprs_turn, exprs_with, arguments_by, arguments_with, named_by, primary_by, primary_with, suffix_by, is_some_suffix, suffix_turn_by, suffix_turn, postfix_with, unary_by, unary_with, of_level, operator_at, operator_by, operator_turn, level_with, is_unary, assigner_at, assigner_behind, assign_by, whole_with, readers, level_at, expr_at, type_read}
+use Rattle.c_parse.specs.Tok.{Tok, keyword, mark}
+use Rattle.c_parse.specs.Reader.{◌>>=◌, Got, Reader, loop, behind, at_comma}
 use Rattle.c_parse.proofs.Told as told
 use Rattle.c_parse.proofs.Told.{StartIs, start_is, LeadIs, lead_is, SuffixIs, suffix_is, TypeIs, type_is, TypeMarkIs, type_mark_is, no_bracket, open_paren_is, close_paren_is, open_bracket_is, close_bracket_is, comma_is, star_is}
-use Rattle.c_parse.proofs.Shrinking.{turns_of_types, turns_of_exprs, turns_of_suffixes, turns_of_operators}
-use Rattle.c_parse.proofs.Completion.{Rule, Plain, SameFirst, Fits, Frame, Cut, Begun, Deep, GoodFault, Good, GoodTokens, GoodTurn, Word, Seq, Nil, Implies, widen_fault, widen_frame, widen, widen_turn, good_behind, fault_behind, frame_seq, fault_front, good_turn_behind, bind_good, bind_good_tokens, seq_word, nil_word, widen_word, nil_good, first_wrong, first_deep, Repeats, repeats_word, TurnTakes, repeat_good, loop_good, above_good, above_turn_good}
+use Rattle.c_parse.proofs.Completion.{Rule, Good, GoodTokens, GoodTurn, Word, Seq, Implies, widen_fault, widen_frame, widen, good_behind, fault_behind, frame_seq, bind_good, Repeats, repeats_word, TurnTakes, loop_good}
 use Rattle.c_parse.specs.Lists as lists
 use Rattle.c_parse.specs.Lists.{Separated, ListEnd}
 use Rattle.c_parse.specs.ReadingLists.{pushed, comma_by, comma_turn, separated, more_turn, listed, brace_by, brace_turn, braced}
-use Rattle.c_parse.specs.Reader.{at_more, end_list, is_open_brace, at_open_brace, open_brace, is_close_brace, at_close_brace, close_brace, is_semicolon, at_semicolon, semicolon, is_colon, colon, is_while_word, while_word, is_assign, at_assign, is_else_word, is_void_word, at_void_word, is_new, at_new, new}
-use Rattle.c_parse.proofs.Begins.{TokR, token_frame, token_word, must_good, open_paren_good, close_paren_good, open_paren_word, close_paren_word, close_bracket_word}
+use Rattle.c_parse.specs.Reader.{at_more, end_list, is_open_brace, open_brace, is_close_brace, at_close_brace, close_brace, is_semicolon, semicolon, is_colon, colon, is_while_word, while_word}
+use Rattle.c_parse.proofs.Begins.{TokR, token_frame, token_word, must_good}
 
 -- ---- what repeats
 

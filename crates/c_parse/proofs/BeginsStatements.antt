@@ -1,67 +1,39 @@
 -- What is read of statements goes on, and what is at fault there can be completed.
-use Rattle.std.proofs.Common.{◌≡◌, ℕ, zero, suc, ◌+◌, ◌-◌, ◌<◌, ◌≤◌, Bool, true, false, cond, eqb, List, [], ◌∷◌, ◌++◌, length, Option, Some, None, Result, Ok, Err, refl, sym, ap, subst, ◌∙◌, append_assoc, arith, ◌⊎◌, inl, inr}
-use Rattle.std.specs.Prelude.{nat_lt, ◌||◌, ◌&&◌}
-use Rattle.std.proofs.lemmas.Bool.{eqb-true}
-use Rattle.c_tree.specs.declared.operator.UnOp.{UnOp}
-use Rattle.c_tree.specs.declared.operator.StepOp.{StepOp}
-use Rattle.c_tree.specs.declared.operator.BinOp.{BinOp}
-use Rattle.c_tree.specs.Tree.{ExprT, NameE, NumberE, TextE, NullE, ParenE, UnaryE, BinaryE, AssignE, StepE, IndexE, MemberE, ArrowE, CallE, CastE, SizeOfE, TypeT, IntY, BoolY, VoidY, NamedY, PointerY, ArrayY}
-use Rattle.c_tree.specs.View.{exprs}
-use Rattle.c_tree.specs.Depth.{expr_depth, type_depth}
-use Rattle.c_lex.specs.declared.token.Punct.{Punct}
+use Rattle.std.proofs.Common.{◌≡◌, ℕ, zero, suc, Bool, true, false, cond, List, [], ◌∷◌, length, Option, Some, None, Ok, refl, ap, subst, ◌∙◌, ◌⊎◌, inl, inr}
+use Rattle.std.specs.Prelude.{◌||◌}
+use Rattle.c_tree.specs.Tree.{ExprT}
 use Rattle.c_lex.specs.declared.token.Punct.TheVariants as m
 use Rattle.c_parse.specs.declared.class.Key.TheVariants as key
-use Rattle.c_parse.specs.declared.fault.Fault.{Fault}
-use Rattle.c_parse.specs.declared.fault.Fault.TheVariants.{Syntax, TooDeep}
-use Rattle.c_parse.specs.declared.lead.Start.{Start}
-use Rattle.c_parse.specs.declared.lead.Start.TheVariants as start
-use Rattle.c_parse.specs.declared.lead.Lead.{Lead}
-use Rattle.c_parse.specs.declared.lead.Lead.TheVariants as lead
-use Rattle.c_parse.specs.declared.lead.Suffix.{Suffix}
-use Rattle.c_parse.specs.declared.lead.Suffix.TheVariants as suffix
-use Rattle.c_parse.specs.declared.lead.TypeLead.{TypeLead}
-use Rattle.c_parse.specs.declared.lead.TypeLead.TheVariants as type_
-use Rattle.c_parse.specs.declared.lead.TypeMark.{TypeMark}
-use Rattle.c_parse.specs.declared.lead.TypeMark.TheVariants as type_mark
-use Rattle.c_parse.specs.Tok.{Tok, keyword, refused, word, number, character, text, mark}
+use Rattle.c_parse.specs.declared.fault.Fault.TheVariants.{TooDeep}
+use Rattle.c_parse.specs.Tok.{Tok, keyword, number, mark}
 use Rattle.c_parse.specs.Scope.{Context, is_type, span}
-use Rattle.c_parse.specs.Marks.{prefix, prefix_mark, step_before, step_behind, binary, assigner}
-use Rattle.c_parse.specs.Grammar as g
-use Rattle.c_parse.specs.Grammar.{NoBracket, Base, Ty, Run, Expr, Level, Tail, Unary, Suffixes, Primary, Exprs}
-use Rattle.c_parse.specs.Reader.{◌>>=◌, Got, Reader, bad, deep, no_room, room_fault, above, Turn, goes_on, repeat, loop, behind, must, is_behind, at_else_word, at_open_bracket, is_open_paren, at_open_paren, open_paren, is_close_paren, at_close_paren, close_paren, is_open_bracket, is_close_bracket, at_close_bracket, close_bracket, is_comma, at_comma, is_star, at_star, is_name, at_name, name, bytes_at}
-use Rattle.c_parse.specs.Leads.{type_of, type_at, begins_type, type_mark_of, type_mark_at, start_of, start_at, is_some_type, is_some_start, is_some_lead, begins_expr, lead_of, lead_at, suffix_of, suffix_at}
-use Rattle.c_parse.specs.Reading.{Readers, run_more, run_with, type_mark_by, type_mark_turn, base_by, base, type_with, exprs_by, exprs_turn, exprs_with, arguments_by, arguments_with, named_by, primary_by, primary_with, suffix_by, is_some_suffix, suffix_turn_by, suffix_turn, postfix_with, unary_by, unary_with, of_level, operator_at, operator_by, operator_turn, level_with, is_unary, assigner_at, assigner_behind, assign_by, whole_with, readers, level_at, expr_at, type_read}
+use Rattle.c_parse.specs.Grammar.{Expr, Level}
+use Rattle.c_parse.specs.Reader.{◌>>=◌, no_room, room_fault, at_else_word, open_paren, close_paren}
+use Rattle.c_parse.specs.Leads.{begins_type, begins_expr}
+use Rattle.c_parse.specs.Reading.{level_at, expr_at}
 use Rattle.c_parse.proofs.Told as told
 use Rattle.c_parse.proofs.Told.{StartIs, start_is, LeadIs, lead_is, SuffixIs, suffix_is, TypeIs, type_is, TypeMarkIs, type_mark_is, no_bracket, open_paren_is, close_paren_is, open_bracket_is, close_bracket_is, comma_is, star_is}
-use Rattle.c_parse.proofs.Shrinking.{turns_of_types, turns_of_exprs, turns_of_suffixes, turns_of_operators}
-use Rattle.c_parse.proofs.Completion.{Rule, Plain, SameFirst, Fits, Frame, Cut, Begun, Deep, GoodFault, Good, GoodTokens, GoodTurn, Word, Seq, Nil, Implies, widen_fault, widen_frame, widen, widen_turn, good_behind, fault_behind, frame_seq, fault_front, good_turn_behind, bind_good, bind_good_tokens, seq_word, nil_word, widen_word, nil_good, first_wrong, first_deep, Repeats, repeats_word, TurnTakes, repeat_good, loop_good, above_good, above_turn_good}
-use Rattle.c_parse.specs.Lists as lists
-use Rattle.c_parse.specs.Lists.{Separated, ListEnd}
-use Rattle.c_parse.specs.ReadingLists.{pushed, comma_by, comma_turn, separated, more_turn, listed, brace_by, brace_turn, braced}
-use Rattle.c_parse.specs.Reader.{at_more, end_list, is_open_brace, at_open_brace, open_brace, is_close_brace, at_close_brace, close_brace, is_semicolon, at_semicolon, semicolon, is_colon, colon, is_while_word, while_word, is_assign, at_assign, is_else_word, is_void_word, at_void_word, is_new, at_new, new}
-use Rattle.c_parse.proofs.Begins.{TokR, token_frame, token_word, must_good, open_paren_good, close_paren_good, open_paren_word, close_paren_word, close_bracket_word}
-use Rattle.c_tree.specs.Tree.{InitT, OneI, ListI, VarT}
-use Rattle.c_tree.specs.View.{inits}
-use Rattle.c_parse.specs.Declarations as d
-use Rattle.c_parse.specs.Declarations.{Init, Inits, Field, Var, Vars, Member, Members, Param, Params, Value}
-use Rattle.c_parse.specs.ReadingDeclarations.{init_by, init_at, bare_var, field, var_by, var, vars_at, member_at, members_by, members_turn, members_at, param_at, params_by, at_void, params_at, value_by, value}
+use Rattle.c_parse.proofs.Completion.{Rule, Plain, Fits, Deep, GoodFault, Good, Word, Seq, Implies, widen_fault, widen, good_behind, fault_front, bind_good, bind_good_tokens, seq_word, first_wrong, first_deep, Repeats, repeats_word, TurnTakes}
+use Rattle.c_parse.specs.ReadingLists.{brace_turn, braced}
+use Rattle.c_parse.specs.Reader.{open_brace, close_brace, semicolon, colon, while_word}
+use Rattle.c_parse.proofs.Begins.{TokR, token_frame, open_paren_good, close_paren_good, open_paren_word, close_paren_word}
+use Rattle.c_tree.specs.Tree.{VarT}
+use Rattle.c_parse.specs.Declarations.{Vars}
+use Rattle.c_parse.specs.ReadingDeclarations.{vars_at}
 use Rattle.c_parse.proofs.Told.{open_brace_is, close_brace_is, assign_is, void_word_is}
-use Rattle.c_parse.proofs.Shrinking.{turns_of_fields, turns_of_vars, turns_of_params, turns_of_inits, turns_of_values, turns_of_members, turns_of_stmts, turns_of_arms}
-use Rattle.c_parse.proofs.Begins.{NameR, name_word, name_good, ExprR, LevelR, UnaryR, TyR, level_word, expr_word, type_word, unary_level, zero_unary, level_expr, unary_deep, type_deep, type_room, readers_good, GoodReaders, plain_level}
-use Rattle.c_parse.proofs.BeginsLists.{mapped_good, mapped_tokens, separated_good, listed_good, braced_good, OneR, SomeR, RestR, rest_repeat, rest_join, some_word, open_brace_good, close_brace_good, semicolon_good, colon_good, while_word_good, open_brace_word, close_brace_word, semicolon_word, colon_word, while_tok_word, list_end_word, end_list_good}
-use Rattle.c_tree.specs.Tree.{StmtT, BlockS, EmptyS, VarsS, DoS, IfS, WhileS, DoWhileS, ForS, SwitchS, ReturnS, BreakS, ContinueS, MaybeS, NoneS, SomeS, ArmT, CaseA, DefaultA, StmtA}
+use Rattle.c_parse.proofs.Shrinking.{turns_of_stmts, turns_of_arms}
+use Rattle.c_parse.proofs.Begins.{ExprR, LevelR, UnaryR, level_word, expr_word, unary_level, zero_unary, level_expr, unary_deep, type_deep}
+use Rattle.c_parse.proofs.BeginsLists.{mapped_good, mapped_tokens, braced_good, open_brace_good, close_brace_good, semicolon_good, colon_good, while_word_good, open_brace_word, close_brace_word, semicolon_word, colon_word, while_tok_word}
+use Rattle.c_tree.specs.Tree.{StmtT, BlockS, VarsS, DoS, IfS, WhileS, DoWhileS, ForS, SwitchS, ReturnS, BreakS, ContinueS, MaybeS, NoneS, SomeS, ArmT, CaseA, DefaultA, StmtA}
 use Rattle.c_tree.specs.View.{stmts, arms}
 use Rattle.c_parse.specs.declared.lead.StmtLead.{StmtLead}
-use Rattle.c_parse.specs.declared.lead.StmtLead.TheVariants as stmt
 use Rattle.c_parse.specs.declared.lead.ArmLead.{ArmLead}
-use Rattle.c_parse.specs.declared.lead.ArmLead.TheVariants as arm
 use Rattle.c_parse.specs.Statements as s
 use Rattle.c_parse.specs.Statements.{Maybe, First, Stmt, Stmts, Arm, Arms}
 use Rattle.c_parse.specs.Leads.{stmt_at, begins_stmt, is_some_stmt, arm_at, is_some_arm}
-use Rattle.c_parse.specs.Reader.{is_else_word}
-use Rattle.c_parse.specs.ReadingStatements.{maybe_by, maybe_at, first_by, first_at, Bodies, test_at, if_by, stmt_by, stmt_with, arm_by, arm_with, bodies, stmt_read, arm_read}
+use Rattle.c_parse.specs.ReadingStatements.{maybe_by, maybe_at, first_by, first_at, Bodies, test_at, if_by, stmt_by, stmt_with, arm_by, arm_with, bodies, stmt_read}
 use Rattle.c_parse.proofs.Told.{StmtIs, stmt_is, ArmIs, arm_is, no_else, else_word_is}
-use Rattle.c_parse.proofs.BeginsDeclarations.{expr_read_good, type_read_good, level_read_good, zero_expr, VarsQ, vars_word, vars_good, vars_deep}
+use Rattle.c_parse.proofs.BeginsDeclarations.{expr_read_good, level_read_good, zero_expr, VarsQ, vars_word, vars_good, vars_deep}
 
 fits_no_else : (rest after : List Tok) → at_else_word rest ≡ false → Fits rest after → at_else_word after ≡ false
 fits_no_else rest after e (inl p) = p.0

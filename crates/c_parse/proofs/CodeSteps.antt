@@ -1,5 +1,5 @@
 -- The equations of the readers above expressions, with the room as the code has it, and the views of what they build.
-use Rattle.std.proofs.Common.{◌≡◌, ℕ, zero, suc, ◌+◌, ◌-◌, ◌<◌, Bool, true, false, List, [], ◌∷◌, ◌++◌, length, Option, Some, None, option_map, Result, Ok, Err, map, refl, sym, ap, subst, ◌∙◌, append_assoc, arith, rules}
+use Rattle.std.proofs.Common.{◌≡◌, ℕ, zero, suc, ◌-◌, ◌<◌, true, false, List, Option, option_map, Ok, map, refl, arith, rules}
 use Rattle.std.specs.Prelude.{◌||◌}
 use Rattle.kit_base.specs.declared.seq.Seq.{Seq}
 use Rattle.c_tree.specs.declared.span.Span.{Span}

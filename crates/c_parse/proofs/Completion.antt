@@ -1,14 +1,10 @@
 -- What is read goes on: what was read stands in its own tokens, whatever follows them; and from a fault on tokens can be put that complete what was begun.
-use Rattle.std.proofs.Common.{◌≡◌, ℕ, zero, suc, ◌+◌, ◌-◌, ◌<◌, ◌≤◌, Bool, true, false, cond, List, [], ◌∷◌, ◌++◌, length, Option, Some, None, Result, Ok, Err, refl, sym, ap, subst, ◌∙◌, append_assoc, arith, ◌⊎◌, inl, inr}
-use Rattle.std.specs.Prelude.{nat_lt, ◌||◌, ◌&&◌}
-use Rattle.std.proofs.lemmas.List.{append-nil}
-use Rattle.c_lex.specs.declared.token.Punct.{Punct}
-use Rattle.c_lex.specs.declared.token.Punct.TheVariants as m
-use Rattle.c_parse.specs.declared.class.Key.TheVariants as key
+use Rattle.std.proofs.Common.{◌≡◌, ℕ, zero, suc, ◌<◌, Bool, true, false, cond, List, [], ◌∷◌, ◌++◌, length, Option, Some, None, Result, Ok, Err, refl, sym, ap, subst, ◌∙◌, append_assoc, arith, ◌⊎◌, inl, inr}
+use Rattle.std.specs.Prelude.{nat_lt}
 use Rattle.c_parse.specs.declared.fault.Fault.{Fault}
 use Rattle.c_parse.specs.declared.fault.Fault.TheVariants.{Syntax, TooDeep}
-use Rattle.c_parse.specs.Tok.{Tok, keyword, refused, word, number, character, text, mark}
-use Rattle.c_parse.specs.Reader.{◌>>=◌, Got, Reader, bad, deep, no_room, room_fault, above, Turn, goes_on, repeat, loop, behind, must, is_behind, at_else_word, at_open_bracket}
+use Rattle.c_parse.specs.Tok.{Tok}
+use Rattle.c_parse.specs.Reader.{◌>>=◌, Got, deep, above, Turn, goes_on, repeat, loop, at_else_word, at_open_bracket}
 
 -- tokens that a rule takes, and those behind them
 abbrev pub Rule : Type 1

@@ -1,5 +1,5 @@
 -- What a reader that looks at single tokens says of them.
-use Rattle.std.proofs.Common.{◌≡◌, ℕ, zero, suc, ◌<◌, Bool, true, false, cond, ltb, eqb, List, [], ◌∷◌, length, Option, Some, None, Result, Ok, Err, refl, sym, ap, subst, ◌∙◌, arith}
+use Rattle.std.proofs.Common.{◌≡◌, ℕ, ◌<◌, Bool, true, false, cond, ltb, eqb, List, [], ◌∷◌, Option, Some, None, Result, Ok, Err, refl, ap, subst, ◌∙◌}
 use Rattle.std.proofs.lemmas.Bool.{eqb-true, ltb-true}
 use Rattle.c_lex.specs.declared.token.Punct.{Punct}
 use Rattle.c_lex.specs.declared.token.Punct.TheVariants as m
@@ -15,16 +15,14 @@ use Rattle.c_parse.specs.declared.lead.Lead.{Lead}
 use Rattle.c_parse.specs.declared.lead.Lead.TheVariants as lead
 use Rattle.c_parse.specs.declared.lead.Suffix.{Suffix}
 use Rattle.c_parse.specs.declared.lead.Suffix.TheVariants as suffix
-use Rattle.c_parse.specs.declared.lead.TypeLead.{TypeLead}
 use Rattle.c_parse.specs.declared.lead.TypeLead.TheVariants as type_
-use Rattle.c_parse.specs.declared.lead.TypeMark.{TypeMark}
 use Rattle.c_parse.specs.declared.lead.TypeMark.TheVariants as type_mark
-use Rattle.c_parse.specs.Tok.{Tok, keyword, refused, word, number, character, text, mark}
+use Rattle.c_parse.specs.Tok.{Tok, keyword, word, number, character, text, mark}
 use Rattle.c_parse.specs.Scope.{Context, is_type}
 use Rattle.c_parse.specs.Marks.{prefix, prefix_mark, step_before, step_behind, binary, assigner, value, value_of_key}
 use Rattle.c_parse.specs.Grammar.{NoBracket}
-use Rattle.c_parse.specs.Reader.{◌>>=◌, Got, Reader, deep, above, behind, bytes_at, is_behind, must, is_name, at_name, name, at_new, new, at_open_paren, at_close_paren, at_open_bracket, at_close_bracket, at_open_brace, at_close_brace, at_semicolon, at_comma, at_colon, at_assign, at_star, at_else_word, at_while_word, at_void_word, open_paren, close_paren, open_bracket, close_bracket, open_brace, close_brace, semicolon, comma, colon, assign, star, else_word, while_word, void_word}
-use Rattle.c_parse.specs.Leads.{type_at, type_of, key_type, begins_type, type_mark_at, type_mark_of, operator_start, mark_start, start_of, start_at, key_lead, lead_of, lead_at, suffix_of, suffix_at}
+use Rattle.c_parse.specs.Reader.{◌>>=◌, Got, deep, above, behind, bytes_at, is_behind, must, at_name, name, at_new, new, at_open_paren, at_close_paren, at_open_bracket, at_close_bracket, at_open_brace, at_close_brace, at_semicolon, at_comma, at_colon, at_assign, at_star, at_else_word, at_while_word, at_void_word, open_paren, close_paren, close_bracket, open_brace, close_brace, semicolon, colon, while_word}
+use Rattle.c_parse.specs.Leads.{type_at, begins_type, type_mark_at, operator_start, mark_start, start_at, key_lead, lead_at, suffix_at}
 use Rattle.c_parse.specs.Reading.{of_level, operator_at, assigner_at}
 
 pub bind_ok : {A B : Type 0} (r : Result A Fault) (f : A → Result B Fault) (y : B) → (r >>= f) ≡ Ok y → (x : A) × (r ≡ Ok x) × (f x ≡ Ok y)

@@ -1,5 +1,5 @@
 -- Initial values in braces, from their loop.
-use Rattle.std.proofs.Common.{◌≡◌, ℕ, ◌-◌, ◌<◌, Bool, true, false, List, Result, Ok, Err, refl, arith}
+use Rattle.std.proofs.Common.{◌≡◌, ℕ, ◌-◌, ◌<◌, true, List, Ok, refl}
 use Rattle.c_tree.specs.Tree.{InitT, ListI}
 use Rattle.c_tree.specs.View.{inits}
 use Rattle.c_parse.specs.declared.fault.ReadErr.{ReadErr}

@@ -1,9 +1,9 @@
 -- What is read leaves fewer tokens.
-use Rattle.std.proofs.Common.{◌≡◌, ℕ, zero, suc, ◌<◌, Bool, true, false, List, [], ◌∷◌, length, Option, Some, None, Result, Ok, Err, refl, ap, arith}
+use Rattle.std.proofs.Common.{◌≡◌, ℕ, ◌<◌, Bool, true, false, List, length, Option, Some, Ok, ap, arith}
 use Rattle.c_tree.specs.Tree.{ExprT, TypeT, InitT, VarT, StmtT, ArmT, ItemT}
-use Rattle.c_parse.specs.Tok.{Tok, word}
+use Rattle.c_parse.specs.Tok.{Tok}
 use Rattle.c_parse.specs.Scope.{Context, span}
-use Rattle.c_parse.specs.Reader.{◌>>=◌, Got, behind, name, at_assign}
+use Rattle.c_parse.specs.Reader.{Got, behind, name, at_assign}
 use Rattle.c_parse.specs.ReadingDeclarations.{init_at, bare_var, field, var_by, var, member_at, param_at, value}
 use Rattle.c_parse.specs.ReadingStatements.{stmt_read, arm_read}
 use Rattle.c_parse.specs.ReadingUnits.{item_read}

@@ -1,10 +1,9 @@
 -- What one turn of a list's loop gives.
-use Rattle.std.proofs.Common.{◌≡◌, ℕ, Bool, true, false, List, [], ◌∷◌, ◌++◌, Option, Some, None, Result, Ok, Err, refl}
-use Rattle.c_parse.specs.declared.fault.Fault.{Fault}
+use Rattle.std.proofs.Common.{◌≡◌, true, false, List, [], ◌∷◌, ◌++◌, Some, None, Ok, refl}
 use Rattle.c_parse.specs.declared.fault.ReadErr.{ReadErr}
 use Rattle.c_parse.specs.Tok.{Tok}
 use Rattle.c_parse.specs.View.{Fails}
-use Rattle.c_parse.specs.Reader.{◌>>=◌, Got, Reader, behind, at_comma, at_more, at_close_brace}
+use Rattle.c_parse.specs.Reader.{Got, Reader, behind, at_comma, at_more, at_close_brace}
 use Rattle.c_parse.specs.ReadingLists.{pushed, comma_turn, more_turn, brace_turn}
 use Rattle.c_parse.proofs.Loops.{fails_on}
 

@@ -1,12 +1,11 @@
 -- Two lists of tokens that agree up to one token, and readings of both: what is read up to there is the same, and so are the faults.
-use Rattle.std.proofs.Common.{◌≡◌, ℕ, zero, suc, ◌+◌, ◌-◌, ◌<◌, ◌≤◌, Bool, true, false, cond, List, [], ◌∷◌, ◌++◌, length, Option, Some, None, Result, Ok, Err, refl, sym, ap, subst, ◌∙◌, arith, ◌⊎◌, inl, inr}
+use Rattle.std.proofs.Common.{◌≡◌, ℕ, zero, suc, ◌+◌, ◌-◌, ◌<◌, ◌≤◌, Bool, true, false, cond, List, [], ◌∷◌, ◌++◌, length, Option, Some, None, Result, Ok, Err, refl, sym, ap, ◌∙◌, arith, ◌⊎◌, inl, inr}
 use Rattle.std.specs.Prelude.{nat_lt, ◌||◌, ◌&&◌}
 use Rattle.c_parse.specs.declared.class.Key.TheVariants as key
-use Rattle.c_tree.specs.declared.span.Span.{Span}
 use Rattle.c_parse.specs.declared.fault.Fault.{Fault}
 use Rattle.c_parse.specs.declared.fault.Fault.TheVariants.{Syntax, TooDeep}
 use Rattle.c_parse.specs.Tok.{Tok, keyword, refused, word, number, character, text, mark}
-use Rattle.c_tree.specs.Tree.{ExprT, NameE, NumberE, TextE, NullE, ParenE, UnaryE, BinaryE, AssignE, StepE, IndexE, MemberE, ArrowE, CallE, CastE, SizeOfE, TypeT, IntY, BoolY, VoidY, NamedY, PointerY, ArrayY}
+use Rattle.c_tree.specs.Tree.{ExprT, ParenE, UnaryE, BinaryE, AssignE, StepE, IndexE, MemberE, ArrowE, CallE, CastE, SizeOfE, TypeT, VoidY, NamedY, ArrayY}
 use Rattle.c_tree.specs.View.{exprs}
 use Rattle.c_tree.specs.Depth.{expr_depth, type_depth}
 use Rattle.c_parse.specs.declared.lead.TypeLead.{TypeLead}
@@ -27,13 +26,13 @@ use Rattle.c_tree.specs.Tree.{ItemT, RecordD, EnumD, TypedefD, VarsD, FunctionD}
 use Rattle.c_parse.specs.declared.lead.ItemLead.{ItemLead}
 use Rattle.c_parse.specs.declared.lead.ItemLead.TheVariants as item
 use Rattle.c_parse.specs.Units.{behind_item}
-use Rattle.c_parse.specs.ReadingUnits.{record_by, record_at, enum_at, typedef_at, body_by, function_at, vars_by, typed_by, typed_at, item_by, item_read, Unit_so_far, item_turn, unit_at}
+use Rattle.c_parse.specs.ReadingUnits.{record_by, body_by, function_at, vars_by, typed_by, typed_at, item_by, item_read, Unit_so_far, item_turn, unit_at}
 use Rattle.c_parse.specs.Scope.{Context, span, declare}
 use Rattle.c_parse.specs.Leads.{type_of, type_at, begins_type, type_mark_of, type_mark_at, item_of, item_at, start_of, start_at, is_some_start, begins_expr, stmt_of, stmt_at, begins_stmt, arm_of, arm_at, is_some_arm, lead_of, lead_at, suffix_of, suffix_at}
 use Rattle.c_tree.specs.Tree.{InitT, OneI, ListI, VarT}
 use Rattle.c_tree.specs.View.{inits}
 use Rattle.c_parse.specs.ReadingDeclarations.{init_by, init_at, bare_var, field, var_by, var, vars_at, member_at, members_by, members_turn, members_at, param_at, params_by, at_void, params_at, value_by, value}
-use Rattle.c_tree.specs.Tree.{StmtT, BlockS, EmptyS, VarsS, DoS, IfS, WhileS, DoWhileS, ForS, SwitchS, ReturnS, BreakS, ContinueS, MaybeS, NoneS, SomeS, ArmT, CaseA, DefaultA, StmtA}
+use Rattle.c_tree.specs.Tree.{StmtT, BlockS, VarsS, DoS, IfS, WhileS, DoWhileS, ForS, SwitchS, ReturnS, BreakS, ContinueS, MaybeS, NoneS, SomeS, ArmT, CaseA, DefaultA, StmtA}
 use Rattle.c_tree.specs.View.{stmts, arms}
 use Rattle.c_parse.specs.declared.lead.StmtLead.{StmtLead}
 use Rattle.c_parse.specs.declared.lead.StmtLead.TheVariants as stmt
@@ -42,7 +41,7 @@ use Rattle.c_parse.specs.declared.lead.ArmLead.TheVariants as arm
 use Rattle.c_parse.specs.ReadingStatements.{maybe_by, maybe_at, first_by, first_at, Bodies, test_at, if_by, stmt_by, stmt_with, arm_by, arm_with, bodies, stmt_read, arm_read}
 use Rattle.c_parse.specs.ReadingLists.{pushed, comma_by, comma_turn, separated, more_turn, listed, brace_by, brace_turn, braced}
 use Rattle.c_parse.specs.Reading.{Readers, run_more, run_with, type_mark_by, type_mark_turn, base_by, base, type_with, exprs_by, exprs_turn, exprs_with, arguments_by, arguments_with, named_by, primary_by, primary_with, suffix_by, is_some_suffix, suffix_turn_by, suffix_turn, postfix_with, unary_by, unary_with, operator_at, operator_by, operator_turn, level_with, assigner_behind, assign_by, whole_with, readers, level_at, expr_at, type_read}
-use Rattle.c_parse.specs.Reader.{◌>>=◌, Got, Reader, bad, deep, no_room, room_fault, above, Turn, goes_on, repeat, loop, behind, must, is_behind, is_open_paren, open_paren, is_close_paren, close_paren, is_close_bracket, close_bracket, is_open_brace, open_brace, is_close_brace, at_close_brace, close_brace, is_semicolon, semicolon, is_colon, colon, is_while_word, while_word, is_comma, at_comma, end_list, at_more, bytes_at, is_else_word, at_else_word, at_while_word, at_colon, at_semicolon, is_void_word, at_void_word, at_open_brace, is_assign, at_assign, at_star, at_open_paren, at_close_paren, at_open_bracket, at_close_bracket, is_name, at_name, name, is_new, at_new, new}
+use Rattle.c_parse.specs.Reader.{◌>>=◌, Got, Reader, bad, deep, no_room, room_fault, above, Turn, goes_on, repeat, loop, behind, must, is_behind, is_open_paren, open_paren, is_close_paren, close_paren, is_close_bracket, close_bracket, is_open_brace, open_brace, is_close_brace, at_close_brace, close_brace, is_semicolon, semicolon, is_colon, colon, is_while_word, while_word, is_comma, at_comma, end_list, at_more, bytes_at, is_else_word, at_else_word, at_while_word, at_colon, at_semicolon, is_void_word, at_open_brace, is_assign, at_assign, at_star, at_open_paren, at_close_paren, at_open_bracket, at_close_bracket, is_name, at_name, name, is_new, at_new, new}
 
 -- ---- the readers of statements, by what is left to read
 

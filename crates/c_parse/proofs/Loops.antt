@@ -1,11 +1,11 @@
 -- Loops that read what repeats.
-use Rattle.std.proofs.Common.{◌≡◌, ℕ, zero, suc, ◌+◌, ◌<◌, ◌≤◌, List, [], ◌∷◌, length, Option, Some, None, Result, Ok, Err, refl, sym, ap, ◌∙◌, arith}
+use Rattle.std.proofs.Common.{◌≡◌, ℕ, zero, suc, ◌<◌, List, length, Some, None, Result, Ok, Err, refl, sym, ◌∙◌, arith}
 use Rattle.c_parse.specs.declared.fault.Fault.{Fault}
 use Rattle.c_parse.specs.declared.fault.ReadErr.{ReadErr}
 use Rattle.c_parse.specs.declared.fault.ReadErr.TheVariants as errors
 use Rattle.c_parse.specs.Tok.{Tok}
 use Rattle.c_parse.specs.View.{Fails}
-use Rattle.c_parse.specs.Reader.{◌>>=◌, Got, Turn, goes_on, repeat, loop, behind}
+use Rattle.c_parse.specs.Reader.{◌>>=◌, Got, Turn, goes_on, repeat, loop}
 
 -- what is still to be read gives the total, and the count of turns is enough
 pub record Goes {A : Type 0} (turn : Turn A) (a : A) (ts : List Tok) (total : Result (Got A) Fault) : Type 0 where

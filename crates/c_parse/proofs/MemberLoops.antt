@@ -1,5 +1,5 @@
 -- Parameters and members, from their loops.
-use Rattle.std.proofs.Common.{◌≡◌, ℕ, suc, ◌+◌, ◌-◌, ◌<◌, Bool, true, false, List, [], ◌∷◌, ◌++◌, length, Option, Some, None, Result, Ok, Err, refl, sym, ap, subst, ◌∙◌, arith}
+use Rattle.std.proofs.Common.{◌≡◌, ℕ, ◌<◌, Bool, true, false, List, ◌++◌, length, Option, Some, None, Result, Ok, Err, refl, sym, ap, subst}
 use Rattle.c_tree.specs.Tree.{VarT}
 use Rattle.c_parse.specs.declared.fault.Fault.{Fault}
 use Rattle.c_parse.specs.declared.fault.ReadErr.{ReadErr}
@@ -9,7 +9,7 @@ use Rattle.c_parse.specs.Scope.{Context}
 use Rattle.c_parse.specs.View.{Fails}
 use Rattle.c_parse.specs.Reader.{◌>>=◌, Got, at_close_paren, at_close_brace}
 use Rattle.c_parse.specs.ReadingLists.{separated}
-use Rattle.c_parse.specs.ReadingDeclarations.{param_at, params_by, params_at, at_void, member_at, behind_others, members_by, members_turn}
+use Rattle.c_parse.specs.ReadingDeclarations.{param_at, params_by, params_at, at_void, member_at, behind_others, members_turn}
 use Rattle.c_parse.proofs.Less.{member_less}
 use Rattle.c_parse.proofs.FrontsRead.{bind_ok, ok_at}
 

@@ -1,5 +1,5 @@
 -- No unit begins with the tokens up to and including the one that a fault names, and none of at most 200 trees on a path where they are too deep.
-use Rattle.std.proofs.Common.{◌≡◌, ℕ, suc, ◌≤◌, Bool, true, List, [], ◌∷◌, ◌++◌, length, Result, Ok, Err}
+use Rattle.std.proofs.Common.{◌≡◌, suc, List, ◌∷◌, ◌++◌, length, Err}
 use Rattle.c_tree.specs.Tree.{ItemT}
 use Rattle.c_parse.specs.declared.fault.Fault.TheVariants.{Syntax, TooDeep}
 use Rattle.c_parse.specs.Tok.{Tok}

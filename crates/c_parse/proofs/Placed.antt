@@ -1,5 +1,5 @@
 -- What is answered of a fault says where it is.
-use Rattle.std.proofs.Common.{◌≡◌, ℕ, zero, suc, ◌+◌, ◌-◌, ◌<◌, ◌≤◌, List, [], ◌∷◌, ◌++◌, length, drop, Option, Some, None, Result, Ok, Err, refl, sym, ap, subst, ◌∙◌, append_assoc, arith}
+use Rattle.std.proofs.Common.{◌≡◌, ℕ, suc, ◌+◌, ◌-◌, ◌<◌, List, [], ◌∷◌, ◌++◌, length, drop, Option, Some, None, Result, Ok, Err, sym, ap, subst, ◌∙◌, append_assoc, arith}
 use Rattle.std.specs.Prelude.{IfOk}
 use Rattle.std.proofs.Math.Seq.{drop-append_seam}
 use Rattle.std.proofs.lemmas.List.{length-append}
@@ -15,9 +15,9 @@ use Rattle.c_parse.specs.declared.fault.ReadErr.{ReadErr}
 use Rattle.c_parse.specs.declared.fault.ReadErr.TheVariants as read
 use Rattle.c_parse.specs.Tok.{Tok}
 use Rattle.c_parse.specs.Units.{Unit_, Derives}
-use Rattle.c_parse.specs.View.{Gives, Fails}
-use Rattle.c_parse.specs.Places.{Begins, BeginsShallow, refused_at, FirstBad, FirstDeep, Answers, AnswersTooDeep}
-use Rattle.c_parse.specs.Answer.{bad_at, answer, answered}
+use Rattle.c_parse.specs.View.{Gives}
+use Rattle.c_parse.specs.Places.{refused_at, FirstBad, FirstDeep, Answers, AnswersTooDeep}
+use Rattle.c_parse.specs.Answer.{bad_at, answered}
 use Rattle.c_parse.specs.ReadingUnits.{unit_at}
 use Rattle.c_parse.proofs.UnitReads.{unit_read, unit_deep, never_faulty}
 use Rattle.c_parse.proofs.SoundUnits.{unit_derived}

@@ -1,8 +1,8 @@
 -- What is left of tokens that are passed over.
-use Rattle.std.proofs.Common.{◌≡◌, ℕ, zero, suc, ◌<◌, ◌≤◌, List, [], ◌∷◌, length, drop, take, map, ◌-◌, refl, sym, ap, ◌∙◌, arith}
+use Rattle.std.proofs.Common.{◌≡◌, ℕ, zero, suc, ◌≤◌, List, [], ◌∷◌, length, drop, take, ◌-◌, refl, sym, ap, ◌∙◌, arith}
 use Rattle.std.proofs.lemmas.List.{drop-map, length-drop}
 use Rattle.c_lex.specs.declared.token.Token.{Token}
-use Rattle.c_parse.specs.Tok.{Tok, toks, seen, class_of, bytes_of}
+use Rattle.c_parse.specs.Tok.{toks, seen, class_of, bytes_of}
 
 pub skipped_toks : (n : ℕ) (ts : List Token) → toks (drop n ts) ≡ drop n (toks ts)
 skipped_toks n ts = sym (drop-map (λ (t : Token). seen (class_of t.kind) (bytes_of t.kind)) n ts)

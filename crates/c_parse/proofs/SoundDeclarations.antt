@@ -1,21 +1,18 @@
 -- The variables, members, parameters and values that are read are derived by the grammar.
-use Rattle.std.proofs.Common.{◌≡◌, ℕ, zero, suc, ◌+◌, ◌<◌, ◌≤◌, Bool, true, false, cond, List, [], ◌∷◌, ◌++◌, length, Option, Some, None, Result, Ok, Err, refl, sym, ap, subst, ◌∙◌, append_assoc, arith}
+use Rattle.std.proofs.Common.{◌≡◌, ℕ, zero, suc, ◌≤◌, Bool, true, false, List, [], ◌∷◌, ◌++◌, length, Option, Some, None, Ok, refl, sym, ap, subst, ◌∙◌, append_assoc, arith}
 use Rattle.std.specs.Prelude.{max, ◌&&◌}
 use Rattle.std.proofs.lemmas.List.{append-nil}
 use Rattle.c_lex.specs.declared.token.Punct.TheVariants as m
 use Rattle.c_tree.specs.Tree.{ExprT, TypeT, InitT, OneI, ListI, VarT}
 use Rattle.c_tree.specs.View.{inits}
-use Rattle.c_tree.specs.Depth.{expr_depth, type_depth, init_depth, inits_depth, maybe_expr_depth, var_depth, vars_depth, values_depth}
-use Rattle.c_parse.specs.declared.class.Key.TheVariants as key
-use Rattle.c_parse.specs.declared.fault.Fault.{Fault}
-use Rattle.c_parse.specs.Tok.{Tok, keyword, word, mark}
+use Rattle.c_tree.specs.Depth.{type_depth, init_depth, inits_depth, maybe_expr_depth, var_depth, vars_depth, values_depth}
+use Rattle.c_parse.specs.Tok.{Tok, word, mark}
 use Rattle.c_parse.specs.Scope.{Context, is_type, span}
-use Rattle.c_parse.specs.Grammar.{Ty, Expr, Level}
 use Rattle.c_parse.specs.Lists as l
 use Rattle.c_parse.specs.Lists.{Separated, ListEnd}
 use Rattle.c_parse.specs.Declarations as g
 use Rattle.c_parse.specs.Declarations.{Init, Inits, Field, Var, Vars, Member, Members, Param, Params, Value}
-use Rattle.c_parse.specs.Reader.{◌>>=◌, Got, Reader, Turn, loop, behind, name, at_open_brace, at_close_brace, at_assign, at_close_paren, at_void_word, semicolon, end_list}
+use Rattle.c_parse.specs.Reader.{Got, Reader, loop, behind, name, at_open_brace, at_close_brace, at_assign, at_close_paren, at_void_word, semicolon, end_list}
 use Rattle.c_parse.specs.Reading.{level_at, expr_at, type_read}
 use Rattle.c_parse.specs.ReadingLists.{separated, listed}
 use Rattle.c_parse.specs.ReadingDeclarations.{init_by, init_at, bare_var, field, var_by, var, vars_at, member_at, members_by, members_turn, members_at, param_at, at_void, params_by, params_at, value_by, value}

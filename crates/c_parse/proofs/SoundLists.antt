@@ -1,17 +1,16 @@
 -- The lists that are read are derived by the grammar.
-use Rattle.std.proofs.Common.{◌≡◌, ℕ, zero, suc, ◌+◌, ◌<◌, ◌≤◌, Bool, true, false, cond, List, [], ◌∷◌, ◌++◌, length, Option, Some, None, Result, Ok, Err, refl, sym, ap, subst, ◌∙◌, append_assoc, arith}
+use Rattle.std.proofs.Common.{◌≡◌, ℕ, suc, ◌≤◌, Bool, true, false, cond, List, [], ◌∷◌, ◌++◌, length, Some, None, Ok, refl, sym, ap, subst, ◌∙◌, append_assoc, arith}
 use Rattle.std.specs.Prelude.{max}
 use Rattle.std.proofs.lemmas.List.{append-nil}
 use Rattle.c_lex.specs.declared.token.Punct.TheVariants as m
-use Rattle.c_parse.specs.declared.fault.Fault.{Fault}
 use Rattle.c_parse.specs.Tok.{Tok, mark}
 use Rattle.c_parse.specs.Lists as l
 use Rattle.c_parse.specs.Lists.{Separated, ListEnd}
-use Rattle.c_parse.specs.Reader.{◌>>=◌, Got, Reader, Turn, loop, behind, at_comma, at_close_brace, at_more, close_brace, end_list}
-use Rattle.c_parse.specs.ReadingLists.{pushed, comma_by, separated, listed, brace_by, brace_turn, braced}
+use Rattle.c_parse.specs.Reader.{◌>>=◌, Got, Reader, loop, behind, at_comma, at_close_brace, at_more, close_brace, end_list}
+use Rattle.c_parse.specs.ReadingLists.{comma_by, separated, listed, brace_by, brace_turn, braced}
 use Rattle.c_parse.proofs.FrontsRead as f
 use Rattle.c_parse.proofs.FrontsRead.{bind_ok, ok_at}
-use Rattle.c_parse.proofs.Soundness.{Found, IsSound, repeat_runs, some_at}
+use Rattle.c_parse.proofs.Soundness.{IsSound, repeat_runs, some_at}
 
 abbrev pub deepest : {A : Type 0} → (A → ℕ) → List A → ℕ
 deepest deep [] = 0

@@ -1,12 +1,11 @@
 -- The statements that are read are derived by the grammar.
-use Rattle.std.proofs.Common.{◌≡◌, ℕ, zero, suc, ◌+◌, ◌<◌, ◌≤◌, Bool, true, false, cond, List, [], ◌∷◌, length, Option, Some, None, Result, Ok, Err, refl, sym, ap, subst, ◌∙◌, arith}
+use Rattle.std.proofs.Common.{◌≡◌, ℕ, zero, suc, ◌≤◌, Bool, true, false, cond, List, [], ◌∷◌, Option, Some, None, Ok, refl, sym, ap, subst, ◌∙◌, arith}
 use Rattle.std.specs.Prelude.{max, ◌||◌}
 use Rattle.c_lex.specs.declared.token.Punct.TheVariants as m
-use Rattle.c_tree.specs.Tree.{ExprT, VarT, StmtT, BlockS, EmptyS, VarsS, DoS, IfS, WhileS, DoWhileS, ForS, SwitchS, ReturnS, BreakS, ContinueS, MaybeS, NoneS, SomeS, ArmT, CaseA, DefaultA, StmtA}
+use Rattle.c_tree.specs.Tree.{ExprT, StmtT, BlockS, EmptyS, VarsS, DoS, IfS, WhileS, DoWhileS, ForS, SwitchS, ReturnS, BreakS, ContinueS, MaybeS, NoneS, SomeS, ArmT, CaseA, DefaultA, StmtA}
 use Rattle.c_tree.specs.View.{stmts, arms}
-use Rattle.c_tree.specs.Depth.{expr_depth, maybe_expr_depth, vars_depth, stmt_depth, maybe_depth, stmts_depth, arm_depth, arms_depth}
+use Rattle.c_tree.specs.Depth.{expr_depth, maybe_expr_depth, stmt_depth, maybe_depth, stmts_depth, arm_depth, arms_depth}
 use Rattle.c_parse.specs.declared.class.Key.TheVariants as key
-use Rattle.c_parse.specs.declared.fault.Fault.{Fault}
 use Rattle.c_parse.specs.declared.lead.StmtLead.{StmtLead}
 use Rattle.c_parse.specs.declared.lead.StmtLead.TheVariants as stmt
 use Rattle.c_parse.specs.declared.lead.ArmLead.{ArmLead}
@@ -17,7 +16,7 @@ use Rattle.c_parse.specs.Grammar.{Expr, Level}
 use Rattle.c_parse.specs.Declarations.{Vars}
 use Rattle.c_parse.specs.Statements as g
 use Rattle.c_parse.specs.Statements.{NoElse, Maybe, First, Stmt, Stmts, Arm, Arms}
-use Rattle.c_parse.specs.Reader.{◌>>=◌, Got, Reader, no_room, behind, open_paren, close_paren, open_brace, close_brace, semicolon, colon, while_word, at_else_word}
+use Rattle.c_parse.specs.Reader.{Got, no_room, behind, open_paren, close_paren, open_brace, close_brace, semicolon, colon, while_word, at_else_word}
 use Rattle.c_parse.specs.Leads.{begins_expr, begins_type, stmt_at, arm_at}
 use Rattle.c_parse.specs.Reading.{level_at, expr_at}
 use Rattle.c_parse.specs.ReadingLists.{braced}

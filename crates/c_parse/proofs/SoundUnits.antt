@@ -1,12 +1,10 @@
 -- The items and units that are read are derived by the grammar.
-use Rattle.std.proofs.Common.{◌≡◌, ℕ, zero, suc, ◌+◌, ◌<◌, ◌≤◌, Bool, true, false, cond, ltb, List, [], ◌∷◌, ◌++◌, length, Option, Some, None, Result, Ok, Err, refl, sym, ap, subst, ◌∙◌, append_assoc, arith}
-use Rattle.std.specs.Prelude.{max}
+use Rattle.std.proofs.Common.{◌≡◌, ℕ, suc, ◌<◌, ◌≤◌, Bool, true, false, cond, List, [], ◌∷◌, ◌++◌, length, Option, Some, None, Result, Ok, refl, sym, ap, subst, ◌∙◌, append_assoc, arith}
 use Rattle.std.proofs.lemmas.List.{append-nil}
-use Rattle.std.proofs.lemmas.Bool.{ltb-true}
 use Rattle.c_lex.specs.declared.token.Punct.TheVariants as m
-use Rattle.c_tree.specs.Tree.{ExprT, TypeT, VoidY, VarT, StmtT, ItemT, RecordD, EnumD, TypedefD, VarsD, FunctionD}
+use Rattle.c_tree.specs.Tree.{TypeT, VoidY, VarT, ItemT, RecordD, EnumD, TypedefD, VarsD, FunctionD}
 use Rattle.c_tree.specs.View.{stmts}
-use Rattle.c_tree.specs.Depth.{type_depth, vars_depth, values_depth, item_depth, unit_depth}
+use Rattle.c_tree.specs.Depth.{type_depth, vars_depth, item_depth, unit_depth}
 use Rattle.c_parse.specs.declared.class.Key.{Key}
 use Rattle.c_parse.specs.declared.class.Key.TheVariants as key
 use Rattle.c_parse.specs.declared.fault.Fault.{Fault}
@@ -15,12 +13,12 @@ use Rattle.c_parse.specs.declared.lead.ItemLead.TheVariants as item
 use Rattle.c_parse.specs.Tok.{Tok, keyword, word, mark}
 use Rattle.c_parse.specs.Scope.{Context, is_type, declare, span}
 use Rattle.c_parse.specs.Grammar.{Ty}
-use Rattle.c_parse.specs.Lists.{Separated, ListEnd}
+use Rattle.c_parse.specs.Lists.{ListEnd}
 use Rattle.c_parse.specs.Declarations.{Vars, Members, Params, Value}
 use Rattle.c_parse.specs.Statements.{Stmts}
 use Rattle.c_parse.specs.Units as g
 use Rattle.c_parse.specs.Units.{record_word, Gives, Item, behind_item, Items, Unit_}
-use Rattle.c_parse.specs.Reader.{◌>>=◌, Got, Reader, Turn, loop, behind, name, new, at_open_paren, open_paren, close_paren, open_brace, close_brace, at_semicolon, semicolon, at_star, end_list}
+use Rattle.c_parse.specs.Reader.{Got, loop, behind, name, new, at_open_paren, open_paren, close_paren, open_brace, close_brace, at_semicolon, semicolon, at_star, end_list}
 use Rattle.c_parse.specs.Leads.{item_at, key_item}
 use Rattle.c_parse.specs.Reading.{type_read}
 use Rattle.c_parse.specs.ReadingLists.{listed, braced}
@@ -29,10 +27,10 @@ use Rattle.c_parse.specs.ReadingStatements.{stmt_read}
 use Rattle.c_parse.specs.ReadingUnits.{record_by, record_at, enum_at, typedef_at, body_by, function_at, vars_by, typed_by, typed_at, item_by, item_read, Unit_so_far, item_turn, unit_at}
 use Rattle.c_parse.proofs.FrontsRead as f
 use Rattle.c_parse.proofs.FrontsRead.{bind_ok, ok_at}
-use Rattle.c_parse.proofs.Soundness.{Found, IsSound, repeat_runs, some_at, nothing_read, type_derived}
-use Rattle.c_parse.proofs.SoundLists.{deepest, listed_sound, end_list-is}
+use Rattle.c_parse.proofs.Soundness.{Found, repeat_runs, some_at, nothing_read, type_derived}
+use Rattle.c_parse.proofs.SoundLists.{listed_sound, end_list-is}
 use Rattle.c_parse.proofs.SoundDeclarations.{vars_derived, members_derived, params_derived, value_depth, value_derived, values_deepest}
-use Rattle.c_parse.proofs.SoundStatements.{body_depth, body_derived}
+use Rattle.c_parse.proofs.SoundStatements.{body_derived}
 
 -- ---- what leads say
 

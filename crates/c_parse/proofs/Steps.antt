@@ -1,6 +1,6 @@
 -- The readers' equations, with the room and the level as the code has them.
-use Rattle.std.proofs.Common.{◌≡◌, ℕ, zero, suc, ◌+◌, ◌-◌, ◌<◌, ◌≤◌, List, [], ◌∷◌, Option, Some, None, Result, Ok, Err, refl, sym, ap, subst, ◌∙◌, arith, rules}
-use Rattle.std.proofs.lemmas.Bool.{lt-ltb, le-ltb}
+use Rattle.std.proofs.Common.{◌≡◌, ℕ, zero, suc, ◌+◌, ◌-◌, ◌<◌, ◌≤◌, List, Ok, Err, refl, subst, ◌∙◌, arith, rules}
+use Rattle.std.proofs.lemmas.Bool.{le-ltb}
 use Rattle.c_tree.specs.declared.expression.Expr.{SizeOf}
 use Rattle.c_tree.specs.declared.expression.TypeTree.{TypeTree}
 use Rattle.c_tree.specs.declared.expression.Expr.{the_lemmas}
@@ -14,7 +14,7 @@ use Rattle.c_parse.specs.View.{Fails}
 use Rattle.c_tree.specs.Depth.{type_depth}
 use Rattle.c_parse.specs.Tok.{Tok}
 use Rattle.c_parse.specs.Scope.{Context}
-use Rattle.c_parse.specs.Reader.{◌>>=◌, deep, no_room, above, loop}
+use Rattle.c_parse.specs.Reader.{◌>>=◌, deep, no_room, loop}
 use Rattle.c_parse.specs.Leads.{begins_expr, begins_type}
 use Rattle.c_parse.specs.Reading.{unary_with, operator_turn, level_with, assigner_behind, assign_by, type_with, run_with, readers, level_at, expr_at, type_read, run_at}
 

@@ -1,11 +1,8 @@
 -- What the tests of the next token tell of it.
-use Rattle.std.proofs.Common.{◌≡◌, ℕ, Bool, true, false, cond, List, [], ◌∷◌, length, Option, Some, None, refl, sym, ap, ◌∙◌, arith, ◌⊎◌, inl, inr}
+use Rattle.std.proofs.Common.{◌≡◌, ℕ, Bool, true, false, cond, List, [], ◌∷◌, Some, refl}
 use Rattle.c_tree.specs.declared.operator.UnOp.{UnOp}
 use Rattle.c_tree.specs.declared.operator.StepOp.{StepOp}
-use Rattle.c_tree.specs.declared.operator.BinOp.{BinOp}
-use Rattle.c_lex.specs.declared.token.Punct.{Punct}
 use Rattle.c_lex.specs.declared.token.Punct.TheVariants as m
-use Rattle.c_parse.specs.declared.class.Key.{Key}
 use Rattle.c_parse.specs.declared.class.Key.TheVariants as key
 use Rattle.c_parse.specs.declared.lead.Start.{Start}
 use Rattle.c_parse.specs.declared.lead.Start.TheVariants as start
@@ -25,13 +22,12 @@ use Rattle.c_parse.specs.declared.lead.ItemLead.{ItemLead}
 use Rattle.c_parse.specs.declared.lead.ItemLead.TheVariants as item
 use Rattle.c_parse.specs.Tok.{Tok, keyword, refused, word, number, character, text, mark}
 use Rattle.c_parse.specs.Scope.{Context, is_type}
-use Rattle.c_parse.specs.Marks.{prefix, prefix_mark, step_before, step_behind, binary, assigner, value}
+use Rattle.c_parse.specs.Marks.{prefix, step_before, step_behind, value}
 use Rattle.c_parse.specs.Grammar.{NoBracket}
 use Rattle.c_parse.specs.Statements.{NoElse}
 use Rattle.c_parse.specs.Units.{record_word}
-use Rattle.c_parse.specs.Reader.{is_open_paren, is_close_paren, is_open_bracket, is_close_bracket, is_open_brace, is_close_brace, is_semicolon, is_comma, is_colon, is_assign, is_star, is_else_word, is_while_word, is_void_word, at_open_bracket, at_else_word, at_star, behind}
-use Rattle.c_parse.specs.Leads.{type_of, type_at, begins_type, is_some_type, type_mark_of, type_mark_at, start_of, start_at, operator_start, mark_start, lead_of, lead_at, suffix_of, suffix_at, stmt_of, stmt_at, arm_of, arm_at, item_of, item_at}
-use Rattle.c_parse.specs.Reading.{of_level, operator_at}
+use Rattle.c_parse.specs.Reader.{is_open_paren, is_close_paren, is_open_bracket, is_close_bracket, is_open_brace, is_close_brace, is_semicolon, is_comma, is_colon, is_assign, is_star, is_else_word, is_while_word, is_void_word, at_open_bracket, at_else_word, at_star}
+use Rattle.c_parse.specs.Leads.{type_at, begins_type, type_mark_at, start_at, lead_at, suffix_at, stmt_at, arm_at, item_at}
 
 pub open_paren_is : (o : Tok) → is_open_paren o ≡ true → o ≡ mark m.OpenParen
 open_paren_is (keyword k) e = absurd cc

@@ -1,21 +1,19 @@
 -- What one turn of a reader's loop gives.
-use Rattle.std.proofs.Common.{◌≡◌, ℕ, zero, suc, ◌+◌, ◌<◌, ◌≤◌, Bool, true, false, List, [], ◌∷◌, ◌++◌, length, Option, Some, None, Result, Ok, Err, refl, sym, ap, ◌∙◌, arith}
+use Rattle.std.proofs.Common.{◌≡◌, ℕ, suc, ◌+◌, ◌<◌, ◌≤◌, true, false, List, [], ◌∷◌, ◌++◌, length, Option, Some, None, Ok, refl, ap, arith}
 use Rattle.std.specs.Prelude.{max}
 use Rattle.std.proofs.lemmas.Bool.{lt-ltb, le-ltb}
 use Rattle.c_tree.specs.declared.operator.BinOp.{BinOp}
 use Rattle.c_tree.specs.Tree.{ExprT, BinaryE, IndexE, MemberE, ArrowE, StepE, TypeT, PointerY}
 use Rattle.c_tree.specs.View.{exprs}
 use Rattle.c_tree.specs.Depth.{expr_depth, exprs_depth, type_depth}
-use Rattle.c_parse.specs.declared.fault.Fault.{Fault}
 use Rattle.c_parse.specs.declared.fault.ReadErr.{ReadErr}
-use Rattle.c_parse.specs.declared.lead.TypeMark.{TypeMark}
 use Rattle.c_parse.specs.declared.lead.TypeMark.TheVariants as type_mark
 use Rattle.c_parse.specs.declared.lead.Suffix.{Suffix}
 use Rattle.c_parse.specs.declared.lead.Suffix.TheVariants as suffix
 use Rattle.c_parse.specs.Tok.{Tok}
 use Rattle.c_parse.specs.Scope.{Context, span}
 use Rattle.c_parse.specs.View.{Fails}
-use Rattle.c_parse.specs.Reader.{◌>>=◌, Got, deep, behind, close_paren, at_close_paren, close_bracket, name}
+use Rattle.c_parse.specs.Reader.{Got, deep, behind, close_paren, at_close_paren, close_bracket, name}
 use Rattle.c_parse.specs.Leads.{suffix_at, type_mark_at}
 use Rattle.c_parse.specs.Reading.{Readers, operator_at, operator_turn, suffix_by, is_some_suffix, suffix_turn, readers, run_with, type_mark_turn, exprs_with, arguments_with}
 use Rattle.c_parse.proofs.FrontsRead as f

@@ -1,13 +1,11 @@
 -- What one turn of the loop over items gives.
-use Rattle.std.proofs.Common.{◌≡◌, ℕ, zero, suc, ◌<◌, Bool, true, false, eqb, List, [], ◌∷◌, ◌++◌, length, Option, Some, None, Result, Ok, Err, refl, ap, arith}
+use Rattle.std.proofs.Common.{◌≡◌, ℕ, zero, suc, ◌<◌, Bool, true, false, eqb, List, [], ◌∷◌, ◌++◌, length, Some, None, Ok, refl, ap, arith}
 use Rattle.c_tree.specs.Tree.{ItemT}
-use Rattle.c_parse.specs.declared.fault.Fault.{Fault}
 use Rattle.c_parse.specs.declared.fault.ReadErr.{ReadErr}
 use Rattle.c_lex.specs.declared.token.Token.{Token}
 use Rattle.c_parse.specs.Tok.{Tok, toks}
-use Rattle.c_parse.specs.Scope.{Context}
 use Rattle.c_parse.specs.View.{Fails}
-use Rattle.c_parse.specs.Reader.{◌>>=◌, Got, loop}
+use Rattle.c_parse.specs.Reader.{loop}
 use Rattle.c_parse.specs.Units.{behind_item}
 use Rattle.c_parse.specs.ReadingUnits.{Unit_so_far, item_read, item_turn, unit_at}
 use Rattle.c_parse.proofs.Loops.{fails_on}

@@ -1,6 +1,5 @@
 -- Loops over names that share a type, which is read again for each of them.
-use Rattle.std.proofs.Common.{◌≡◌, ℕ, zero, suc, ◌<◌, Bool, true, false, List, [], ◌∷◌, ◌++◌, length, Option, Some, None, Result, Ok, Err, refl, sym, ap, subst, ◌∙◌, append_assoc, arith}
-use Rattle.std.proofs.lemmas.List.{append-nil}
+use Rattle.std.proofs.Common.{◌≡◌, ℕ, suc, ◌<◌, true, false, List, [], ◌∷◌, ◌++◌, Result, Ok, Err, refl, sym, ap, subst, ◌∙◌, append_assoc, arith}
 use Rattle.c_tree.specs.Tree.{TypeT, VarT}
 use Rattle.c_parse.specs.declared.fault.Fault.{Fault}
 use Rattle.c_parse.specs.declared.fault.ReadErr.{ReadErr}
@@ -8,13 +7,12 @@ use Rattle.c_parse.specs.declared.fault.ReadErr.TheVariants as errors
 use Rattle.c_parse.specs.Tok.{Tok}
 use Rattle.c_parse.specs.Scope.{Context}
 use Rattle.c_parse.specs.View.{Fails}
-use Rattle.c_parse.specs.Reader.{◌>>=◌, Got, Reader, behind, at_comma, semicolon}
+use Rattle.c_parse.specs.Reader.{◌>>=◌, Got, behind, at_comma, semicolon}
 use Rattle.c_parse.specs.Reading.{type_read}
 use Rattle.c_parse.specs.ReadingLists.{comma_turn, separated}
 use Rattle.c_parse.specs.ReadingDeclarations.{var, field, vars_at, member_at}
-use Rattle.c_parse.proofs.Loops.{Goes, goes_start, goes_end, goes_err, goes_fail, goes_turn, fails_on}
+use Rattle.c_parse.proofs.Loops.{Goes, goes_start, goes_end, goes_fail, goes_turn, fails_on}
 use Rattle.c_parse.proofs.ListTurns.{comma_end, comma_fail, comma_ok}
-use Rattle.c_parse.proofs.CodeSteps.{vars_step, member_step}
 use Rattle.c_parse.proofs.Less.{var_less, field_less}
 use Rattle.c_parse.proofs.Turns.{behind_up}
 use Rattle.c_parse.proofs.FrontsRead.{ok_is}

@@ -3,7 +3,6 @@ use Rattle.std.specs.Prelude.{ℕ, ◌-◌, List, length, drop, Option, Some, No
 use Rattle.c_tree.specs.declared.item.Unit.{Unit as File}
 use Rattle.c_parse.specs.declared.error.ParseErr.{ParseErr}
 use Rattle.c_parse.specs.declared.error.ParseErr.TheVariants as errors
-use Rattle.c_parse.specs.declared.fault.Fault.{Fault}
 use Rattle.c_parse.specs.declared.fault.Fault.TheVariants.{Syntax, TooDeep}
 use Rattle.c_parse.specs.declared.fault.ReadErr.{ReadErr}
 use Rattle.c_parse.specs.declared.fault.ReadErr.TheVariants as read

@@ -1,6 +1,6 @@
 -- The grammar of expressions and types. Each rule says: the tokens ts begin with this tree, and after it come the tokens rest.
 -- There is one constructor for each production.
-use Rattle.std.specs.Prelude.{◌≡◌, ℕ, zero, suc, List, [], ◌∷◌, Option, Some, None, false, true}
+use Rattle.std.specs.Prelude.{◌≡◌, ℕ, zero, suc, List, [], ◌∷◌, Option, Some, false, true}
 use Rattle.c_lex.specs.declared.token.Punct.TheVariants as m
 use Rattle.c_tree.specs.declared.operator.UnOp.{UnOp}
 use Rattle.c_tree.specs.declared.operator.StepOp.{StepOp}

@@ -1,9 +1,8 @@
 -- What tokens begin, as far as their first one or two tell.
-use Rattle.std.specs.Prelude.{◌≡◌, ℕ, Bool, true, false, List, [], ◌∷◌, Option, Some, None, ◌||◌, if◌then◌else◌}
+use Rattle.std.specs.Prelude.{Bool, true, false, List, [], ◌∷◌, Option, Some, None, ◌||◌, if◌then◌else◌}
 use Rattle.c_lex.specs.declared.token.Punct.{Punct}
 use Rattle.c_lex.specs.declared.token.Punct.TheVariants as m
 use Rattle.c_tree.specs.declared.operator.UnOp.{UnOp}
-use Rattle.c_tree.specs.declared.operator.StepOp.{StepOp}
 use Rattle.c_tree.specs.declared.operator.StepOp.TheVariants as s
 use Rattle.c_parse.specs.declared.class.Key.{Key}
 use Rattle.c_parse.specs.declared.class.Key.TheVariants as key
@@ -25,8 +24,8 @@ use Rattle.c_parse.specs.declared.lead.ItemLead.{ItemLead}
 use Rattle.c_parse.specs.declared.lead.ItemLead.TheVariants as item
 use Rattle.c_parse.specs.Tok.{Tok, keyword, word, number, character, text, mark}
 use Rattle.c_parse.specs.Scope.{Context, is_type}
-use Rattle.c_parse.specs.Marks.{prefix, prefix_mark, step_before, step_behind, value}
-use Rattle.c_parse.specs.Reader.{at_star, behind}
+use Rattle.c_parse.specs.Marks.{prefix_mark}
+use Rattle.c_parse.specs.Reader.{at_star}
 
 abbrev pub key_type : Key → TypeLead
 key_type key.Int = type_.Int

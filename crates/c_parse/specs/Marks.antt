@@ -10,7 +10,7 @@ use Rattle.c_tree.specs.declared.operator.BinOp.{BinOp}
 use Rattle.c_tree.specs.declared.operator.BinOp.TheVariants as b
 use Rattle.c_parse.specs.declared.class.Key.{Key}
 use Rattle.c_parse.specs.declared.class.Key.TheVariants as key
-use Rattle.c_parse.specs.Tok.{Tok, keyword, refused, word, number, character, text, mark}
+use Rattle.c_parse.specs.Tok.{Tok, keyword, number, character, mark}
 
 abbrev pub prefix_mark : Punct → Option UnOp
 prefix_mark m.Minus = Some u.Minus

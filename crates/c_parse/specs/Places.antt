@@ -1,5 +1,5 @@
 -- Where tokens stop to be the beginning of a unit.
-use Rattle.std.specs.Prelude.{◌≡◌, ◌<◌, ℕ, List, [], ◌∷◌, ◌++◌, length, Option, Some, None, Result, Ok, Err}
+use Rattle.std.specs.Prelude.{◌≡◌, ℕ, List, [], ◌∷◌, ◌++◌, length, Option, Some, None, Result, Ok, Err}
 use Rattle.c_tree.specs.declared.item.Unit.{Unit as File}
 use Rattle.c_tree.specs.Tree.{ItemT}
 use Rattle.c_tree.specs.View.{unit}

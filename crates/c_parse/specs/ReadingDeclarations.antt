@@ -1,5 +1,5 @@
 -- Reading variables, members, parameters and the values of an enumeration.
-use Rattle.std.specs.Prelude.{◌≡◌, ℕ, zero, suc, Bool, true, false, List, [], ◌∷◌, ◌++◌, Option, Some, None, Result, Ok, Err, ◌||◌, ◌&&◌, if◌then◌else◌}
+use Rattle.std.specs.Prelude.{ℕ, zero, suc, Bool, true, false, List, [], ◌++◌, Option, Some, None, Result, Ok, ◌||◌, ◌&&◌}
 use Rattle.c_tree.specs.Tree.{ExprT, TypeT, InitT, OneI, ListI, VarT}
 use Rattle.c_tree.specs.View.{inits}
 use Rattle.c_parse.specs.declared.fault.Fault.{Fault}

@@ -1,5 +1,5 @@
 -- Reading what repeats outside expressions, each part by a reader that is given.
-use Rattle.std.specs.Prelude.{◌≡◌, ℕ, Bool, true, false, List, [], ◌∷◌, ◌++◌, Option, Some, None, Result, Ok, Err}
+use Rattle.std.specs.Prelude.{Bool, true, false, List, [], ◌∷◌, ◌++◌, Option, Some, None, Result, Ok}
 use Rattle.c_parse.specs.declared.fault.Fault.{Fault}
 use Rattle.c_parse.specs.Tok.{Tok}
 use Rattle.c_parse.specs.Reader.{◌>>=◌, Got, Reader, Turn, loop, behind, at_comma, at_more, at_close_brace}

@@ -1,6 +1,6 @@
 -- Reading a unit's items, each with room for so many trees below it.
-use Rattle.std.specs.Prelude.{◌≡◌, ℕ, zero, suc, Bool, true, false, List, [], ◌∷◌, ◌++◌, length, Option, Some, None, Result, Ok, Err, ◌||◌, nat_lt, if◌then◌else◌}
-use Rattle.c_tree.specs.Tree.{ExprT, TypeT, VoidY, VarT, StmtT, ItemT, RecordD, EnumD, TypedefD, VarsD, FunctionD}
+use Rattle.std.specs.Prelude.{ℕ, Bool, true, false, List, [], ◌∷◌, ◌++◌, length, Some, None, Result, Ok, ◌||◌, nat_lt}
+use Rattle.c_tree.specs.Tree.{TypeT, VoidY, VarT, ItemT, RecordD, EnumD, TypedefD, VarsD, FunctionD}
 use Rattle.c_tree.specs.View.{stmts}
 use Rattle.c_tree.specs.Depth.{type_depth}
 use Rattle.c_parse.specs.declared.fault.Fault.{Fault}

@@ -1,5 +1,5 @@
 -- The grammar of statements.
-use Rattle.std.specs.Prelude.{◌≡◌, ℕ, List, [], ◌∷◌, Option, Some, None}
+use Rattle.std.specs.Prelude.{List, [], ◌∷◌, Option, Some, None}
 use Rattle.c_lex.specs.declared.token.Punct.TheVariants as m
 use Rattle.c_tree.specs.Tree.{ExprT, VarT, StmtT, BlockS, EmptyS, VarsS, DoS, IfS, WhileS, DoWhileS, ForS, SwitchS, ReturnS, BreakS, ContinueS, MaybeS, NoneS, SomeS, ArmT, CaseA, DefaultA, StmtA}
 use Rattle.c_tree.specs.View.{stmts, arms}

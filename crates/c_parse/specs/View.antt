@@ -1,5 +1,5 @@
 -- What a function returned, against what a reading gives.
-use Rattle.std.specs.Prelude.{◌≡◌, ℕ, List, Result, Ok, Err}
+use Rattle.std.specs.Prelude.{◌≡◌, Result, Ok, Err}
 use Rattle.c_parse.specs.declared.fault.Fault.{Fault}
 use Rattle.c_parse.specs.declared.fault.ReadErr.{ReadErr}
 use Rattle.c_parse.specs.declared.fault.ReadErr.TheVariants as errors

@@ -11,8 +11,8 @@ use crate::fault::ReadErr;
 use crate::leading::{begins_expr, begins_type};
 use crate::scope::{Scope, span};
 use crate::tokens::{
-    at_assign, at_close_brace, at_close_paren, at_comma, at_more, at_open_brace, at_void_word, behind,
-    end_list, name, no_room, semicolon,
+    at_assign, at_close_brace, at_close_paren, at_comma, at_more, at_open_brace, at_void_word,
+    behind, end_list, name, no_room, semicolon,
 };
 use c_lex::Token;
 use c_tree::{Expr, Init, TypeTree, Var};
@@ -21,7 +21,12 @@ use std::alloc::Global;
 
 #[tactic(auto, using(crate::proofs::CodeSteps::declaration_steps))]
 #[cycle(initials)]
-fn initial<'a>(alloc: Global, scope: &Scope, room: u32, tokens: &'a [Token]) -> Result<(Init, &'a [Token]), ReadErr>
+fn initial<'a>(
+    alloc: Global,
+    scope: &Scope,
+    room: u32,
+    tokens: &'a [Token],
+) -> Result<(Init, &'a [Token]), ReadErr>
     ensures gives { Gives (λ x. (init x.0, toks x.1.now)) result (reading.init_at (context scope.now) room (toks tokens.now)) }
 {
     if room == 0 {
@@ -40,16 +45,32 @@ fn initial<'a>(alloc: Global, scope: &Scope, room: u32, tokens: &'a [Token]) -> 
         rest = after;
     }
     let rest = end_list(rest)?;
-    Ok((Init::List(Seq::from_vec(found), span(scope, tokens, rest)), rest))
+    Ok((
+        Init::List(Seq::from_vec(found), span(scope, tokens, rest)),
+        rest,
+    ))
 }
 
 /// A name with a type, and with no initial value.
-fn field<'a>(alloc: Global, scope: &Scope, ty: TypeTree, tokens: &'a [Token]) -> Result<(Var, &'a [Token]), ReadErr>
+fn field<'a>(
+    alloc: Global,
+    scope: &Scope,
+    ty: TypeTree,
+    tokens: &'a [Token],
+) -> Result<(Var, &'a [Token]), ReadErr>
     ensures gives { Gives (λ x. (var x.0, toks x.1.now)) result (reading.field (context scope.now) (type ty) (toks tokens.now)) }
 {
     let (name, rest) = name(alloc, scope, tokens)?;
     let span = span(scope, tokens, rest);
-    Ok((Var { ty, name, init: None, span }, rest))
+    Ok((
+        Var {
+            ty,
+            name,
+            init: None,
+            span,
+        },
+        rest,
+    ))
 }
 
 fn variable<'a>(
@@ -64,11 +85,27 @@ fn variable<'a>(
     let (name, rest) = name(alloc, scope, tokens)?;
     if !at_assign(rest) {
         let span = span(scope, tokens, rest);
-        return Ok((Var { ty, name, init: None, span }, rest));
+        return Ok((
+            Var {
+                ty,
+                name,
+                init: None,
+                span,
+            },
+            rest,
+        ));
     }
     let (value, rest) = initial(alloc, scope, room, behind(rest))?;
     let span = span(scope, tokens, rest);
-    Ok((Var { ty, name, init: Some(value), span }, rest))
+    Ok((
+        Var {
+            ty,
+            name,
+            init: Some(value),
+            span,
+        },
+        rest,
+    ))
 }
 
 /// Variables, each with that room. The type is read again for each of them.
@@ -143,7 +180,12 @@ pub(crate) fn members<'a>(
 }
 
 #[tactic(auto, using(crate::proofs::CodeSteps::declaration_steps))]
-fn parameter<'a>(alloc: Global, scope: &Scope, room: u32, tokens: &'a [Token]) -> Result<(Var, &'a [Token]), ReadErr>
+fn parameter<'a>(
+    alloc: Global,
+    scope: &Scope,
+    room: u32,
+    tokens: &'a [Token],
+) -> Result<(Var, &'a [Token]), ReadErr>
     ensures gives { Gives (λ x. (var x.0, toks x.1.now)) result (reading.param_at (context scope.now) room (toks tokens.now)) }
 {
     if room == 0 {

@@ -15,8 +15,8 @@ use crate::lead::{ArmLead, StmtLead};
 use crate::leading::{arm_at, begins_expr, begins_stmt, begins_type, is_some_arm, stmt_at};
 use crate::scope::{Scope, span};
 use crate::tokens::{
-    at_close_brace, at_else_word, behind, close_brace, close_paren, colon, deep, no_room, open_brace, open_paren,
-    semicolon, while_word,
+    at_close_brace, at_else_word, behind, close_brace, close_paren, colon, deep, no_room,
+    open_brace, open_paren, semicolon, while_word,
 };
 use c_lex::Token;
 use c_tree::building::{boxed, do_while, for_bare, for_from, if_else, if_only, while_};
@@ -25,7 +25,12 @@ use kit_base::Seq;
 use std::alloc::Global;
 
 /// An expression, where one begins.
-fn maybe<'a>(alloc: Global, scope: &Scope, room: u32, tokens: &'a [Token]) -> Result<(Option<Expr>, &'a [Token]), ReadErr>
+fn maybe<'a>(
+    alloc: Global,
+    scope: &Scope,
+    room: u32,
+    tokens: &'a [Token],
+) -> Result<(Option<Expr>, &'a [Token]), ReadErr>
     ensures gives { Gives (λ x. (option_map expr x.0, toks x.1.now)) result (reading.maybe_at (context scope.now) room (toks tokens.now)) }
 {
     if !begins_expr(scope, tokens) {
@@ -37,7 +42,12 @@ fn maybe<'a>(alloc: Global, scope: &Scope, room: u32, tokens: &'a [Token]) -> Re
 
 /// What a `for` begins with, before its first semicolon.
 #[tactic(auto, using(crate::proofs::CodeSteps::statement_steps))]
-fn first<'a>(alloc: Global, scope: &Scope, room: u32, tokens: &'a [Token]) -> Result<(Option<Stmt>, &'a [Token]), ReadErr>
+fn first<'a>(
+    alloc: Global,
+    scope: &Scope,
+    room: u32,
+    tokens: &'a [Token],
+) -> Result<(Option<Stmt>, &'a [Token]), ReadErr>
     ensures gives { Gives (λ x. (maybe (option_map stmt x.0), toks x.1.now)) result (reading.first_at (context scope.now) room (toks tokens.now)) }
 {
     if begins_type(scope, tokens) {
@@ -58,7 +68,12 @@ fn first<'a>(alloc: Global, scope: &Scope, room: u32, tokens: &'a [Token]) -> Re
 }
 
 /// An expression in parentheses.
-fn test<'a>(alloc: Global, scope: &Scope, room: u32, tokens: &'a [Token]) -> Result<(Expr, &'a [Token]), ReadErr>
+fn test<'a>(
+    alloc: Global,
+    scope: &Scope,
+    room: u32,
+    tokens: &'a [Token],
+) -> Result<(Expr, &'a [Token]), ReadErr>
     ensures gives { Gives (λ x. (expr x.0, toks x.1.now)) result (reading.test_at (context scope.now) room (toks tokens.now)) }
 {
     let rest = open_paren(tokens)?;
@@ -69,7 +84,12 @@ fn test<'a>(alloc: Global, scope: &Scope, room: u32, tokens: &'a [Token]) -> Res
 
 #[tactic(auto, using(crate::proofs::CodeSteps::statement_steps))]
 #[cycle(statements)]
-fn statement<'a>(alloc: Global, scope: &Scope, room: u32, tokens: &'a [Token]) -> Result<(Stmt, &'a [Token]), ReadErr>
+fn statement<'a>(
+    alloc: Global,
+    scope: &Scope,
+    room: u32,
+    tokens: &'a [Token],
+) -> Result<(Stmt, &'a [Token]), ReadErr>
     ensures gives { Gives (λ x. (stmt x.0, toks x.1.now)) result (reading.stmt_read (context scope.now) room (toks tokens.now)) }
 {
     if room == 0 {
@@ -149,7 +169,12 @@ fn simple<'a>(
 }
 
 #[cycle(statements)]
-fn if_statement<'a>(alloc: Global, scope: &Scope, room: u32, tokens: &'a [Token]) -> Result<(Stmt, &'a [Token]), ReadErr>
+fn if_statement<'a>(
+    alloc: Global,
+    scope: &Scope,
+    room: u32,
+    tokens: &'a [Token],
+) -> Result<(Stmt, &'a [Token]), ReadErr>
     ensures gives { Gives (λ x. (stmt x.0, toks x.1.now)) result (reading.if_with (context scope.now) room (reading.bodies (context scope.now) room) (toks tokens.now)) }
 {
     let (e, rest) = test(alloc, scope, room, behind(tokens))?;
@@ -164,7 +189,12 @@ fn if_statement<'a>(alloc: Global, scope: &Scope, room: u32, tokens: &'a [Token]
 }
 
 #[cycle(statements)]
-fn for_statement<'a>(alloc: Global, scope: &Scope, room: u32, tokens: &'a [Token]) -> Result<(Stmt, &'a [Token]), ReadErr>
+fn for_statement<'a>(
+    alloc: Global,
+    scope: &Scope,
+    room: u32,
+    tokens: &'a [Token],
+) -> Result<(Stmt, &'a [Token]), ReadErr>
     ensures gives { Gives (λ x. (stmt x.0, toks x.1.now)) result (reading.for_with (context scope.now) room (reading.bodies (context scope.now) room) (toks tokens.now)) }
 {
     let rest = open_paren(behind(tokens))?;
@@ -218,7 +248,12 @@ pub(crate) fn statements<'a>(
 
 #[tactic(auto, using(crate::proofs::CodeSteps::statement_steps))]
 #[cycle(statements)]
-fn arm<'a>(alloc: Global, scope: &Scope, room: u32, tokens: &'a [Token]) -> Result<(Arm, &'a [Token]), ReadErr>
+fn arm<'a>(
+    alloc: Global,
+    scope: &Scope,
+    room: u32,
+    tokens: &'a [Token],
+) -> Result<(Arm, &'a [Token]), ReadErr>
     ensures gives { Gives (λ x. (arm x.0, toks x.1.now)) result (reading.arm_read (context scope.now) room (toks tokens.now)) }
 {
     let lead = arm_at(tokens);
@@ -244,7 +279,12 @@ fn arm<'a>(alloc: Global, scope: &Scope, room: u32, tokens: &'a [Token]) -> Resu
 
 /// The arms of a `switch`, up to its closing brace.
 #[cycle(statements)]
-fn arms<'a>(alloc: Global, scope: &Scope, room: u32, tokens: &'a [Token]) -> Result<(Seq<Arm>, &'a [Token]), ReadErr>
+fn arms<'a>(
+    alloc: Global,
+    scope: &Scope,
+    room: u32,
+    tokens: &'a [Token],
+) -> Result<(Seq<Arm>, &'a [Token]), ReadErr>
     ensures gives { Gives (λ x. (map arm x.0, toks x.1.now)) result (braced (reading.bodies (context scope.now) room).arm (toks tokens.now)) }
 {
     let mut found = Vec::new(alloc);

@@ -44,7 +44,14 @@ fn tokens(alloc: Global, text: &str) -> Result<Vec<Token>, Fail> {
             continue;
         }
         let kind = kind(alloc, piece)?;
-        found.push(Token { kind, file: 0, line: 1, start: 0, end: 0, first: false })?;
+        found.push(Token {
+            kind,
+            file: 0,
+            line: 1,
+            start: 0,
+            end: 0,
+            first: false,
+        })?;
     }
     Ok(found)
 }
@@ -69,7 +76,10 @@ fn errors_name_the_first_bad_token(rt: HostRuntime) -> Result<(), Fail> {
         ("", (0, 0, 0)),
         ("int * [ 3 ] a ; int [ 3 ] * b ;", (0, 0, 0)),
         ("typedef int t ; void f ( ) { t * p ; }", (0, 0, 0)),
-        ("struct s { s * next ; } ; enum e { A , B = 1 , } ; s x ; e y ;", (0, 0, 0)),
+        (
+            "struct s { s * next ; } ; enum e { A , B = 1 , } ; s x ; e y ;",
+            (0, 0, 0),
+        ),
         ("void main ( ) { x = 1 }", (1, 8, 0)),
         ("void main ( ) { goto a ; 1 + ; }", (3, 5, 3)),
         ("void main ( ) { 1 + ; goto a ; }", (1, 7, 0)),
@@ -83,9 +93,16 @@ fn errors_name_the_first_bad_token(rt: HostRuntime) -> Result<(), Fail> {
         let found = tokens(rt.alloc(), text)?;
         assert_eq!(rt; outcome(rt.alloc(), &found), expected);
     }
-    let whole = tokens(rt.alloc(), "struct s { int a ; } ; int f ( int a ) { if ( a ) return a ; }")?;
+    let whole = tokens(
+        rt.alloc(),
+        "struct s { int a ; } ; int f ( int a ) { if ( a ) return a ; }",
+    )?;
     for (n, _) in whole.iter().enumerate() {
-        let expected = if n == 0 || n == 8 { (0, 0, 0) } else { (1, n as u64, 0) };
+        let expected = if n == 0 || n == 8 {
+            (0, 0, 0)
+        } else {
+            (1, n as u64, 0)
+        };
         assert_eq!(rt; outcome(rt.alloc(), &whole[..n]), expected);
     }
     for k in [150, 197, 198, 250] {
@@ -116,7 +133,13 @@ fn shape(u: &Unit) -> u32 {
             },
             _ => 102,
         },
-        [.., Item::Function { body: Some(body), .. }] => match body.as_slice() {
+        [
+            ..,
+            Item::Function {
+                body: Some(body),
+                ..
+            },
+        ] => match body.as_slice() {
             [Stmt::Vars(_, _)] => 10,
             [Stmt::Do(Expr::Binary(_, a, _, _))] => match &**a {
                 Expr::Binary(_, _, _, _) => 11,

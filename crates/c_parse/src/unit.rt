@@ -16,8 +16,8 @@ use crate::leading::item_at;
 use crate::scope::{Scope, span};
 use crate::statement::statements;
 use crate::tokens::{
-    at_assign, at_comma, at_open_paren, at_semicolon, behind, close_brace, close_paren, end_list, name, new,
-    no_room, open_brace, open_paren, semicolon,
+    at_assign, at_comma, at_open_paren, at_semicolon, behind, close_brace, close_paren, end_list,
+    name, new, no_room, open_brace, open_paren, semicolon,
 };
 use c_lex::Token;
 use c_tree::{Item, TypeTree, Unit, Var};
@@ -40,14 +40,30 @@ fn structure<'a>(
     if at_semicolon(rest) {
         let rest = behind(rest);
         let span = span(scope, tokens, rest);
-        return Ok((Item::Record { is_union, name, members: None, span }, rest));
+        return Ok((
+            Item::Record {
+                is_union,
+                name,
+                members: None,
+                span,
+            },
+            rest,
+        ));
     }
     let rest = open_brace(rest)?;
     let (members, rest) = members(alloc, scope, room, rest)?;
     let rest = close_brace(rest)?;
     let rest = semicolon(rest)?;
     let span = span(scope, tokens, rest);
-    Ok((Item::Record { is_union, name, members: Some(members), span }, rest))
+    Ok((
+        Item::Record {
+            is_union,
+            name,
+            members: Some(members),
+            span,
+        },
+        rest,
+    ))
 }
 
 fn enumeration<'a>(
@@ -105,17 +121,40 @@ fn function<'a>(
     if at_semicolon(rest) {
         let rest = behind(rest);
         let span = span(scope, from, rest);
-        return Ok((Item::Function { result: ty, name, params, body: None, span }, rest));
+        return Ok((
+            Item::Function {
+                result: ty,
+                name,
+                params,
+                body: None,
+                span,
+            },
+            rest,
+        ));
     }
     let rest = open_brace(rest)?;
     let (body, rest) = statements(alloc, scope, room, rest)?;
     let rest = close_brace(rest)?;
     let span = span(scope, from, rest);
-    Ok((Item::Function { result: ty, name, params, body: Some(body), span }, rest))
+    Ok((
+        Item::Function {
+            result: ty,
+            name,
+            params,
+            body: Some(body),
+            span,
+        },
+        rest,
+    ))
 }
 
 /// A function or variables, from their type on.
-fn typed<'a>(alloc: Global, scope: &Scope, room: u32, tokens: &'a [Token]) -> Result<(Item, &'a [Token]), ReadErr>
+fn typed<'a>(
+    alloc: Global,
+    scope: &Scope,
+    room: u32,
+    tokens: &'a [Token],
+) -> Result<(Item, &'a [Token]), ReadErr>
     ensures gives { Gives (λ x. (item x.0, toks x.1.now)) result (reading.typed_at (context scope.now) room (toks tokens.now)) }
     ensures declared { IfOk result (λ x. context scope.now ≡ behind_item (item x.0) (context scope.now)) }
 {
@@ -125,14 +164,22 @@ fn typed<'a>(alloc: Global, scope: &Scope, room: u32, tokens: &'a [Token]) -> Re
         return function(alloc, scope, room, tokens, ty, name, rest);
     }
     if room <= depth {
-        return Err(no_room(at_semicolon(rest) || (at_assign(rest) || at_comma(rest)), rest));
+        return Err(no_room(
+            at_semicolon(rest) || (at_assign(rest) || at_comma(rest)),
+            rest,
+        ));
     }
     let (vars, rest) = variables(alloc, scope, room, tokens)?;
     let rest = semicolon(rest)?;
     Ok((Item::Vars(vars, span(scope, tokens, rest)), rest))
 }
 
-fn read_item<'a>(alloc: Global, scope: &mut Scope, room: u32, tokens: &'a [Token]) -> Result<(Item, &'a [Token]), ReadErr>
+fn read_item<'a>(
+    alloc: Global,
+    scope: &mut Scope,
+    room: u32,
+    tokens: &'a [Token],
+) -> Result<(Item, &'a [Token]), ReadErr>
     ensures gives { Gives (λ x. (item x.0, toks x.1.now)) result (reading.item_read (context scope.old) room (toks tokens.now)) }
     ensures declared { IfOk result (λ x. context scope.new ≡ behind_item (item x.0) (context scope.old)) }
 {

@@ -1,4 +1,4 @@
-use Rattle.std.proofs.Common.{◌≡◌, length, map, ◌-◌}
+use Rattle.std.proofs.Common.{length, map, ◌-◌}
 use Rattle.c_tree.specs.View.{init}
 use Rattle.c_parse.specs.Tok.{toks}
 use Rattle.c_parse.specs.View.{context}

@@ -1,4 +1,4 @@
-use Rattle.std.proofs.Common.{rules, ◌≡◌, map, ℕ, suc, ◌+◌, ◌-◌, ◌<◌, ◌≤◌, length, Bool, true, false, List, [], ◌∷◌, ◌++◌, Ok, arith, sym, subst, ◌∙◌}
+use Rattle.std.proofs.Common.{◌≡◌, map, ℕ, suc, ◌-◌, true, false, [], ◌∷◌, ◌++◌, Ok, arith, subst}
 use Rattle.std.proofs.lemmas.Result.{err_from_is_err_and}
 use Rattle.std.proofs.lemmas.List.{map_push}
 use Rattle.c_parse.specs.Reader.{at_comma, behind}
@@ -8,7 +8,7 @@ use Rattle.c_parse.specs.View.{Fails, context}
 use Rattle.c_tree.specs.View.{type, var}
 use Rattle.c_parse.proofs.Less.{field_less}
 use Rattle.c_parse.proofs.Turns.{behind_up}
-use Rattle.c_parse.proofs.VarLoops.{FieldsGo, fields_start, fields_fail, fields_unended, fields_end, fields_turn}
+use Rattle.c_parse.proofs.VarLoops.{fields_start, fields_fail, fields_unended, fields_end, fields_turn}
 use Rattle.c_parse.proofs.declaration.member.Goals as goal
 
 pub fields-init : goal.fields-init

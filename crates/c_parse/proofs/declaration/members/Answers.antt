@@ -1,4 +1,4 @@
-use Rattle.std.proofs.Common.{rules, ◌≡◌, map, ℕ, ◌+◌, ◌-◌, ◌<◌, ◌≤◌, length, Bool, true, false, List, [], ◌∷◌, ◌++◌, arith, sym, ◌∙◌}
+use Rattle.std.proofs.Common.{◌≡◌, map, true, false, arith}
 use Rattle.std.proofs.lemmas.Result.{err_from_is_err_and}
 use Rattle.c_parse.specs.Reader.{at_close_brace}
 use Rattle.c_parse.specs.Tok.{toks}

@@ -1,4 +1,4 @@
-use Rattle.std.proofs.Common.{rules, ◌≡◌, map, ℕ, ◌+◌, ◌-◌, ◌<◌, ◌≤◌, length, Bool, true, false, List, [], ◌∷◌, ◌++◌, arith, sym, ◌∙◌}
+use Rattle.std.proofs.Common.{◌≡◌, map, ◌<◌, length, true, false, [], ◌∷◌, ◌++◌, arith, ◌∙◌}
 use Rattle.std.proofs.lemmas.Result.{err_from_is_err_and}
 use Rattle.std.proofs.lemmas.List.{map_push}
 use Rattle.c_parse.specs.ReadingDeclarations as reading

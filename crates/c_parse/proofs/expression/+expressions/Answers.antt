@@ -1,5 +1,4 @@
-use Rattle.std.proofs.Common.{rules, ◌≡◌, ◌≤◌, ◌<◌, ◌-◌, Ok, Err, map, ℕ, suc, ◌+◌, length, Bool, true, false, List, [], ◌∷◌, ◌++◌, Some, None, refl, sym, ap, ◌∙◌, arith}
-use Rattle.std.specs.Prelude.{max}
+use Rattle.std.proofs.Common.{◌≡◌, ◌≤◌, ◌<◌, ◌-◌, map, suc, ◌+◌, length, true, false, [], ◌∷◌, ◌++◌, Some, None, refl, sym, ap, ◌∙◌, arith}
 use Rattle.std.proofs.lemmas.Result.{err_from_is_err_and}
 use Rattle.std.proofs.lemmas.List.{map_push}
 use Rattle.c_parse.specs.declared.lead.TypeMark.TheVariants as type_mark
@@ -7,11 +6,11 @@ use Rattle.c_parse.specs.Tok.{toks}
 use Rattle.c_parse.specs.Reader.{at_comma, at_close_paren, behind}
 use Rattle.c_parse.specs.Leads.{suffix_at, type_mark_at}
 use Rattle.c_parse.specs.View.{context}
-use Rattle.c_parse.specs.Reading.{operator_at, is_some_suffix, exprs_with, readers}
-use Rattle.c_tree.specs.View.{expr, exprs, type}
-use Rattle.c_tree.specs.Depth.{expr_depth, exprs_depth, type_depth}
+use Rattle.c_parse.specs.Reading.{operator_at, is_some_suffix, readers}
+use Rattle.c_tree.specs.View.{expr, type}
+use Rattle.c_tree.specs.Depth.{expr_depth, type_depth}
 use Rattle.c_parse.proofs.FrontsRead.{star-is, bracket-is}
-use Rattle.c_parse.proofs.Loops.{goes_start, goes_end, goes_err, goes_fail, goes_turn, fails_on}
+use Rattle.c_parse.proofs.Loops.{goes_end, goes_err, goes_fail, goes_turn, fails_on}
 use Rattle.c_parse.proofs.Steps.{first_fails, levels_fail, level_next, run_step}
 use Rattle.c_parse.proofs.Sizes.{expr_shorter, level_shorter, run_shorter}
 use Rattle.c_parse.proofs.Soundness.{expr_derived, level_derived, run_derived}

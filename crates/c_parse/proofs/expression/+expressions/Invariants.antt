@@ -1,4 +1,4 @@
-use Rattle.std.proofs.Common.{◌≡◌, ◌≤◌, ◌<◌, length, map, ◌+◌, ◌-◌, ◌*◌, ◌∷◌, [], Ok}
+use Rattle.std.proofs.Common.{◌≡◌, ◌≤◌, length, map, ◌+◌, ◌-◌, ◌*◌, Ok}
 use Rattle.c_tree.specs.View.{expr, exprs, type}
 use Rattle.c_tree.specs.Depth.{expr_depth, exprs_depth, type_depth}
 use Rattle.c_parse.specs.Reader.{loop}

@@ -1,4 +1,4 @@
-use Rattle.std.proofs.Common.{rules, ◌≡◌, ℕ, Bool, true, false, arith}
+use Rattle.std.proofs.Common.{◌≡◌, true, false, arith}
 use Rattle.c_parse.specs.Leads.{begins_expr, begins_type}
 use Rattle.c_parse.specs.Tok.{toks}
 use Rattle.c_parse.specs.View.{context}

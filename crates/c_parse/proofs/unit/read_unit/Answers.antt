@@ -1,7 +1,7 @@
-use Rattle.std.proofs.Common.{rules, ◌≡◌, ◌<◌, Ok, length, map, ℕ, List, [], ◌∷◌, ◌++◌, sym, arith}
+use Rattle.std.proofs.Common.{◌≡◌, ◌<◌, length, map, [], ◌∷◌, ◌++◌, arith}
 use Rattle.std.proofs.lemmas.Result.{err_from_is_err_and}
 use Rattle.std.proofs.lemmas.List.{map_push}
-use Rattle.c_tree.specs.View.{item, unit}
+use Rattle.c_tree.specs.View.{item}
 use Rattle.c_parse.specs.Tok.{toks}
 use Rattle.c_parse.specs.View.{context}
 use Rattle.c_parse.proofs.Less.{item_less}

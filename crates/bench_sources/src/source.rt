@@ -5,17 +5,26 @@ use kit_base::{FilesInMemory, Name, Seq};
 use line_text::decimal_word;
 use std::alloc::Global;
 
-/// How many functions the source has, and how many files it includes; none where the arguments are none.
-pub fn numbers_of(words: &[String]) -> Option<(u32, u32)> {
+/// What is done with the source.
+#[derive(Clone, Copy, Drop)]
+pub enum Work {
+    Expand,
+    Parse,
+}
+
+/// What is done, how many functions the source has, and how many files it includes; none where the arguments are none.
+pub fn work_of(words: &[String]) -> Option<(Work, u32, u32)> {
     let [work, functions, includes] = words else {
         return None;
     };
-    if work.as_str() != "expand" {
-        return None;
-    }
+    let work = match work.as_str() {
+        "expand" => Work::Expand,
+        "parse" => Work::Parse,
+        _ => return None,
+    };
     let functions = decimal_word(functions.as_str().as_bytes())?;
     let includes = decimal_word(includes.as_str().as_bytes())?;
-    Some((functions, includes))
+    Some((work, functions, includes))
 }
 
 /// The source: a line for each file that it includes, then its functions; none for want of memory.

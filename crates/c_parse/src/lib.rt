@@ -21,6 +21,3 @@ mod unit;
 pub use error::ParseErr;
 pub use laws::{tokens_are_one_unit, units_have_few_nodes};
 pub use parser::parse;
-
-#[cfg(test)]
-mod tests;

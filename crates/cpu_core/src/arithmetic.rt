@@ -6,6 +6,7 @@ ghost use Rattle.v32_isa.specs.Arithmetic.{two_of};
 use kit_base::{div_word, mod_word, shift_word, wrap_add};
 use v32_isa::Two;
 
+#[inline(always)]
 #[tactic(auto, using(kit_base::proofs::Words::word_facts), unfolding(kit_base::specs::Word::below))]
 pub fn is_below(a: u32, b: u32) -> bool
     ensures { result ≡ below a b }
@@ -13,6 +14,7 @@ pub fn is_below(a: u32, b: u32) -> bool
     a.cast_signed() < b.cast_signed()
 }
 
+#[inline(always)]
 pub fn wrap_sub(a: u32, b: u32) -> u32
     ensures { result ≡ sub a b }
 {
@@ -20,30 +22,35 @@ pub fn wrap_sub(a: u32, b: u32) -> u32
 }
 
 /// 1 for yes, 0 for no.
+#[inline(always)]
 pub fn word_of_bool(b: bool) -> u32
     ensures { result ≡ bool_word b }
 {
     if b { 1 } else { 0 }
 }
 
+#[inline(always)]
 fn min_word(a: u32, b: u32) -> u32
     ensures { result ≡ smaller a b }
 {
     if is_below(a, b) { a } else { b }
 }
 
+#[inline(always)]
 fn max_word(a: u32, b: u32) -> u32
     ensures { result ≡ larger a b }
 {
     if is_below(a, b) { b } else { a }
 }
 
+#[inline(always)]
 pub fn negate(a: u32) -> u32
     ensures { result ≡ negated a }
 {
     wrap_sub(0, a)
 }
 
+#[inline(always)]
 pub fn magnitude_of(a: u32) -> u32
     ensures { result ≡ magnitude a }
 {
@@ -51,6 +58,7 @@ pub fn magnitude_of(a: u32) -> u32
 }
 
 /// The word that an instruction with two operands computes; none at a division by 0.
+#[inline(always)]
 pub fn two_word(op: Two, x: u32, y: u32) -> Option<u32>
     ensures { result ≡ two_of op x y }
 {

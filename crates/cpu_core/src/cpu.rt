@@ -56,6 +56,7 @@ impl Cpu {
     }
 
     /// The program counter.
+    #[inline(always)]
     #[tactic(auto, unfolding(crate::specs::Machine::state_of))]
     pub fn address(&self) -> u32
         ensures { result ≡ (state_of self.now).counter }
@@ -73,6 +74,7 @@ impl Cpu {
 }
 
 impl Cpu {
+    #[inline(always)]
     #[tactic(auto, unfolding(crate::specs::Machine::state_of))]
     pub(crate) fn register(&self, r: Reg) -> u32
         ensures { result ≡ register_of (state_of self.now) r }
@@ -80,6 +82,7 @@ impl Cpu {
         self.registers.get(r)
     }
 
+    #[inline(always)]
     pub(crate) fn value(&self, operand: Src<u32>) -> u32
         ensures { result ≡ value_of (state_of self.now) operand }
     {
@@ -89,6 +92,7 @@ impl Cpu {
         }
     }
 
+    #[inline(always)]
     #[tactic(auto, unfolding(crate::specs::Machine::state_of))]
     pub(crate) fn set(&mut self, r: Reg, word: u32)
         ensures { state_of self.new ≡ with_register r word (state_of self.old) }
@@ -96,6 +100,7 @@ impl Cpu {
         self.registers.set(r, word);
     }
 
+    #[inline(always)]
     #[tactic(auto, unfolding(crate::specs::Machine::state_of))]
     pub(crate) fn go_to(&mut self, address: u32)
         ensures { state_of self.new ≡ going_to address (state_of self.old) }
@@ -104,6 +109,7 @@ impl Cpu {
     }
 
     /// The word at an address, where it can be read.
+    #[inline(always)]
     #[tactic(auto, unfolding(crate::specs::Machine::state_of, v32_isa::specs::State::word_at, v32_isa::specs::State::is_readable_at))]
     pub(crate) fn read(&self, address: u32) -> Option<u32>
         ensures { result ≡ word_at (state_of self.now) address }
@@ -112,6 +118,7 @@ impl Cpu {
     }
 
     /// The same, for the words of instructions.
+    #[inline(always)]
     #[tactic(auto, unfolding(crate::specs::Machine::state_of, v32_isa::specs::State::word_at, v32_isa::specs::State::is_readable_at))]
     pub(crate) fn read_code(&self, address: u32) -> Option<u32>
         ensures { result ≡ word_at (state_of self.now) address }
@@ -120,6 +127,7 @@ impl Cpu {
     }
 
     /// Stores a word at an address, where it can be written, and says whether it was.
+    #[inline(always)]
     #[tactic(auto, unfolding(crate::specs::Machine::state_of, v32_isa::specs::State::is_writable_at))]
     pub(crate) fn write(&mut self, address: u32, word: u32) -> bool
         ensures done { result ≡ is_writable_at (state_of self.old) address }
@@ -132,6 +140,7 @@ impl Cpu {
 
 impl Cpu {
     /// A register takes a word, and the processor goes on at `next`.
+    #[inline(always)]
     pub(crate) fn take(&mut self, r: Reg, word: u32, next: u32) -> Stepped
         ensures { Ends result (state_of self.new) ≡ takes r word next (state_of self.old) }
     {
@@ -141,6 +150,7 @@ impl Cpu {
     }
 
     /// A register takes the word at an address.
+    #[inline(always)]
     pub(crate) fn load(&mut self, r: Reg, address: u32, next: u32) -> Stepped
         ensures { Ends result (state_of self.new) ≡ loads r address next (state_of self.old) }
     {
@@ -151,6 +161,7 @@ impl Cpu {
     }
 
     /// A word goes to an address.
+    #[inline(always)]
     pub(crate) fn store(&mut self, address: u32, word: u32, next: u32) -> Stepped
         ensures { Ends result (state_of self.new) ≡ stores address word next (state_of self.old) }
     {

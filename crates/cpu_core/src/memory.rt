@@ -45,6 +45,7 @@ impl Memory {
     }
 
     /// The word at an address, where it can be read. RAM is tried first.
+    #[inline(always)]
     pub fn read(&self, address: u32) -> Option<u32>
         ensures { result ≡ word_at (memory_state self.now) address }
     {
@@ -61,6 +62,7 @@ impl Memory {
     }
 
     /// The same, for the words of instructions: the program is tried first.
+    #[inline(always)]
     pub fn fetch(&self, address: u32) -> Option<u32>
         ensures { result ≡ word_at (memory_state self.now) address }
     {
@@ -71,6 +73,7 @@ impl Memory {
     }
 
     /// Stores a word at an address, where it can be written, and says whether it was.
+    #[inline(always)]
     pub fn write(&mut self, address: u32, word: u32) -> bool
         ensures done { result ≡ is_writable_at (memory_state self.old) address }
         ensures after { result ≡ true → memory_state self.new ≡ stored (memory_state self.old) address word }
@@ -105,6 +108,7 @@ fn zeros(alloc: Global, n: usize) -> Result<Vec<u32>, AllocError>
     Vec::from_elem(alloc, 0u32, n)
 }
 
+#[inline(always)]
 fn word_of(words: &[u32], place: u32) -> Option<u32>
     ensures { result ≡ slice_get words.now place }
 {
@@ -112,6 +116,7 @@ fn word_of(words: &[u32], place: u32) -> Option<u32>
 }
 
 /// Puts a word at a place, where there is one, and says whether there was.
+#[inline(always)]
 fn put_word(words: &mut Vec<u32>, place: u32, word: u32) -> bool
     ensures done { result ≡ nat_lt place (length words.old.items) }
     ensures after { result ≡ true → words.new.items ≡ slice_set words.old.items place word }

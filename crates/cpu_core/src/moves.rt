@@ -9,6 +9,7 @@ use kit_base::wrap_add;
 use v32_isa::{Instr, Mov, Reg, Stepped};
 
 impl Cpu {
+    #[inline(always)]
     pub(crate) fn mov(&mut self, m: Mov<u32>, next: u32) -> Stepped
         ensures { Ends result (state_of self.new) ≡ act_mov m next (state_of self.old) }
     {
@@ -44,6 +45,7 @@ impl Cpu {
         }
     }
 
+    #[inline(always)]
     #[tactic(auto, unfolding(v32_isa::specs::Machine::act))]
     pub(crate) fn lea(&mut self, a: Reg, b: Reg, offset: Option<u32>, next: u32) -> Stepped
         ensures { Ends result (state_of self.new) ≡ act (Instr.Lea a b offset) next (state_of self.old) }

@@ -11,6 +11,7 @@ use crate::cpu::Cpu;
 use v32_isa::{Branch, Go, One, Plain, Reg, Src, Stepped, Two};
 
 impl Cpu {
+    #[inline(always)]
     pub(crate) fn plain(&mut self, p: Plain, next: u32) -> Stepped
         ensures { Ends result (state_of self.new) ≡ act_plain p next (state_of self.old) }
     {
@@ -26,6 +27,7 @@ impl Cpu {
         }
     }
 
+    #[inline(always)]
     pub(crate) fn go(&mut self, g: Go, target: Src<u32>, next: u32) -> Stepped
         ensures { Ends result (state_of self.new) ≡ act_go g target next (state_of self.old) }
     {
@@ -39,6 +41,7 @@ impl Cpu {
         }
     }
 
+    #[inline(always)]
     pub(crate) fn branch(&mut self, b: Branch, a: Reg, target: Src<u32>, next: u32) -> Stepped
         ensures { Ends result (state_of self.new) ≡ act_branch b a target next (state_of self.old) }
     {
@@ -52,6 +55,7 @@ impl Cpu {
         Stepped::Went
     }
 
+    #[inline(always)]
     pub(crate) fn one(&mut self, o: One, a: Reg, next: u32) -> Stepped
         ensures { Ends result (state_of self.new) ≡ act_one o a next (state_of self.old) }
     {
@@ -68,6 +72,7 @@ impl Cpu {
         }
     }
 
+    #[inline(always)]
     pub(crate) fn two(&mut self, t: Two, a: Reg, operand: Src<u32>, next: u32) -> Stepped
         ensures { Ends result (state_of self.new) ≡ taking a (two_of t (register_of (state_of self.old) a) (value_of (state_of self.old) operand)) next (state_of self.old) }
     {

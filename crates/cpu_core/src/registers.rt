@@ -29,12 +29,14 @@ impl Registers {
         Registers { words }
     }
 
+    #[inline(always)]
     pub fn get(&self, r: Reg) -> u32
         ensures { result ≡ slice_index self.now r }
     {
         self.words[r.number() as usize]
     }
 
+    #[inline(always)]
     pub fn set(&mut self, r: Reg, word: u32)
         ensures { self.new ≡ slice_set self.old r word }
     {

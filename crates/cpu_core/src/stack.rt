@@ -10,6 +10,7 @@ use kit_base::wrap_add;
 use v32_isa::{Go, One, Plain, Reg, Src, Stepped};
 
 impl Cpu {
+    #[inline(always)]
     pub(crate) fn push(&mut self, a: Reg, next: u32) -> Stepped
         ensures { Ends result (state_of self.new) ≡ act_one One.PUSH a next (state_of self.old) }
     {
@@ -21,6 +22,7 @@ impl Cpu {
         self.take(Reg::at(15), top, next)
     }
 
+    #[inline(always)]
     pub(crate) fn pop(&mut self, a: Reg, next: u32) -> Stepped
         ensures { Ends result (state_of self.new) ≡ act_one One.POP a next (state_of self.old) }
     {
@@ -32,6 +34,7 @@ impl Cpu {
         self.take(a, word, next)
     }
 
+    #[inline(always)]
     pub(crate) fn call(&mut self, target: Src<u32>, next: u32) -> Stepped
         ensures { Ends result (state_of self.new) ≡ act_go Go.CALL target next (state_of self.old) }
     {
@@ -43,6 +46,7 @@ impl Cpu {
         self.take(Reg::at(15), top, address)
     }
 
+    #[inline(always)]
     pub(crate) fn ret(&mut self, next: u32) -> Stepped
         ensures { Ends result (state_of self.new) ≡ act_plain Plain.RET next (state_of self.old) }
     {

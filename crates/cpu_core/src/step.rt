@@ -13,6 +13,7 @@ use v32_isa::{Instr, Stepped, decode};
 
 impl Cpu {
     /// Does an instruction; `next` is the address after it.
+    #[inline(always)]
     #[tactic(auto, unfolding(v32_isa::specs::Machine::act))]
     fn act<B: Bus>(&mut self, bus: &mut B, i: Instr<u32>, next: u32) -> Stepped
         ensures { Acts B.input_gives B.output_gives (act i next (state_of self.old)) bus.old result (state_of self.new) bus.new }
@@ -32,6 +33,7 @@ impl Cpu {
 
     /// The word at the counter, with the word after it where the flag is set; none where one can't
     /// be read.
+    #[inline(always)]
     #[tactic(auto, unfolding(v32_isa::specs::Machine::fetched))]
     fn fetch(&self) -> Option<(u32, Option<u32>)>
         ensures { result ≡ fetched (state_of self.now) }
@@ -46,6 +48,7 @@ impl Cpu {
         }
     }
 
+    #[inline(always)]
     #[tactic(auto, unfolding(v32_isa::specs::Machine::effect_of))]
     fn do_step<B: Bus>(&mut self, bus: &mut B) -> Stepped
         ensures { Steps B.input_gives B.output_gives (state_of self.old) bus.old result (state_of self.new) bus.new }
@@ -65,6 +68,7 @@ impl Cpu {
     /// division), an undecodable word, a port without an answer and HLT leave the processor as it
     /// was. An IN at a port that can be read makes one call of the bus's `input`, an OUT at a port
     /// that can be written one of its `output`; no other instruction calls the bus.
+    #[inline(always)]
     pub fn step<B: Bus>(&mut self, bus: &mut B) -> Stepped
         ensures step { Steps B.input_gives B.output_gives (state_of self.old) bus.old result (state_of self.new) bus.new }
         ensures starved { StarvesRightly B.input_gives (effect_of (state_of self.old)) bus.old result bus.new }

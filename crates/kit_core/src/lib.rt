@@ -20,6 +20,3 @@ mod tracing;
 mod writing;
 
 pub use top::kit;
-
-#[cfg(test)]
-mod tests;

@@ -25,6 +25,7 @@ pub enum Operation {
 }
 
 /// The operation of an opcode.
+#[inline(always)]
 fn operation_at(opcode: u32) -> Option<Operation>
     ensures { result ≡ operation_of opcode }
 {
@@ -72,6 +73,7 @@ fn operation_at(opcode: u32) -> Option<Operation>
 }
 
 /// A MOV of these parts.
+#[inline(always)]
 fn mov_of(a: Reg, b: Reg, mode: u32, immediate: Option<u32>) -> Option<Instr<u32>>
     ensures { result ≡ mov_at a b mode immediate }
 {
@@ -95,6 +97,7 @@ fn mov_of(a: Reg, b: Reg, mode: u32, immediate: Option<u32>) -> Option<Instr<u32
 }
 
 /// The instruction of these parts.
+#[inline(always)]
 fn instr_at(
     operation: Operation,
     a: Reg,
@@ -139,6 +142,7 @@ fn instr_at(
 }
 
 /// The instruction of a word's fields, with the word after it.
+#[inline(always)]
 #[tactic(auto, unfolding(crate::specs::Decoding::read_of, crate::specs::Decoding::reads))]
 fn read_fields(f: &Fields, second: Option<u32>) -> Option<Instr<u32>>
     requires { AreFields f.now.opcode f.now.flag f.now.one f.now.two f.now.mode f.now.port }

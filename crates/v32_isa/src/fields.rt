@@ -13,6 +13,7 @@ pub struct Fields {
     pub port: u32,
 }
 
+#[inline(always)]
 pub fn fields_of(word: u32) -> Fields
     ensures parts { result ≡ record {
       opcode = word / 2 ^ 26;

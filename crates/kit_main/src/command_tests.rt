@@ -1,8 +1,8 @@
 // The command line, from its words to the status, the files and what is put.
 ghost use Rattle.std.specs.Prelude.{◌<◌};
 
-use crate::kit;
 use kit_base::{FilesInMemory, Name, Seq, SinkInMemory};
+use kit_core::kit;
 use std::alloc::Global;
 use std::process::Abort;
 use std::test::Fail;

@@ -1,6 +1,6 @@
 // The worked cases.
-use crate::{ParseErr, parse};
 use c_lex::{Kind, Punct, Token};
+use c_parse::{ParseErr, parse};
 use c_tree::{Expr, Item, Stmt, TypeTree, Unit};
 use kit_base::Name;
 use std::alloc::Global;

@@ -1,0 +1,8 @@
+//! Cases of the C front, run as tests.
+//!
+//! They stand outside the crates that they run, so that those are not proved once more with them. It has no code of its own and promises
+//! nothing.
+#![tactic(auto)]
+
+#[cfg(test)]
+mod parsing;

@@ -11,3 +11,7 @@ pub mod Writes
 pub mod Headlines
 pub mod Traces
 pub mod Games
+pub mod Given
+pub mod Telling
+pub mod Plain
+pub mod Forms

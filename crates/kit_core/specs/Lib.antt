@@ -1,5 +1,6 @@
 pub mod Refusal
 pub mod Command
+pub mod CommandLine
 pub mod Parsed
 pub mod Inputs
 pub mod Migration

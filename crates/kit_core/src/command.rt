@@ -1,10 +1,19 @@
 // The command that the words name.
-ghost use Rattle.std.specs.Prelude.{◌≡◌, option_map, string_bytes};
+ghost use Rattle.std.specs.Prelude.{◌≡◌, IfOk, None, option_map, string_bytes};
 ghost use Rattle.std.specs.List.{list_all};
-ghost use Rattle.kit_core.specs.Command.{command_of, are_distinct, build_form, card_of, checked_run, convert_form, converting_form_of, differ_from, form_of, form_with, is_number, is_word, run_form, texts, trace_form};
+ghost use Rattle.clap.specs.Words.{found_of, rows_of, subcommand_rows_of};
+ghost use Rattle.clap.specs.Walk.{first_of};
+ghost use Rattle.clap.specs.declared.error.kind.ErrorKind.TheVariants.{OutOfMemory};
+ghost use Rattle.kit_core.specs.Command.{command_of, are_distinct, card_of, checked_run, differ_from, is_number, is_word, texts};
+ghost use Rattle.kit_core.specs.CommandLine.{build_in, command_in, convert_in, converting_in, form_in, run_in, trace_in};
 ghost use Rattle.kit_core.specs.Parsed.{command_from, run_words_from};
 
+use crate::command_line::command_line;
 use crate::conversion::Conversion;
+use clap::ArgMatches;
+use clap::error::ErrorKind;
+use kit_base::Memory;
+use std::alloc::Global;
 
 /// The words of a run.
 #[derive(Clone, Copy)]
@@ -55,32 +64,36 @@ fn are_words(arguments: &[String]) -> bool
     arguments.iter().all(|word| is_word(word.as_str()))
 }
 
-fn build_form<'a>(arguments: &'a [String]) -> Option<Command<'a>>
-    ensures { option_map command_from result ≡ build_form (texts arguments.now) }
+/// The word that was given for an argument.
+#[tactic(auto, using(crate::proofs::Given::first_rows))]
+fn word_of<'a>(given: &ArgMatches<'a>, id: &str) -> Option<&'a str>
+    ensures { option_map (λ word. word.now) result ≡ first_of id.now (rows_of (found_of given.now)) }
 {
-    match arguments {
-        [project, cart, map] => {
-            let (project, cart, map) = (project.as_str(), cart.as_str(), map.as_str());
-            if cart == map {
-                return None;
-            }
-            Some(Command::Build { project, cart, map })
-        }
-        _ => None,
-    }
+    given.get_str(id)
 }
 
-fn convert_form<'a>(conversion: Conversion, arguments: &'a [String]) -> Option<Command<'a>>
-    ensures { option_map command_from result ≡ convert_form conversion (texts arguments.now) }
+fn build_in<'a>(given: &ArgMatches<'a>) -> Option<Command<'a>>
+    ensures { option_map command_from result ≡ build_in (rows_of (found_of given.now)) }
 {
-    match arguments {
-        [source, target] => Some(Command::Convert {
-            conversion,
-            source: source.as_str(),
-            target: target.as_str(),
-        }),
-        _ => None,
+    let project = word_of(given, "project")?;
+    let cart = word_of(given, "cart")?;
+    let map = word_of(given, "map")?;
+    if cart == map {
+        return None;
     }
+    Some(Command::Build { project, cart, map })
+}
+
+fn convert_in<'a>(conversion: Conversion, given: &ArgMatches<'a>) -> Option<Command<'a>>
+    ensures { option_map command_from result ≡ convert_in conversion (rows_of (found_of given.now)) }
+{
+    let source = word_of(given, "source")?;
+    let target = word_of(given, "target")?;
+    Some(Command::Convert {
+        conversion,
+        source,
+        target,
+    })
 }
 
 /// Whether all of the word is decimal digits.
@@ -99,25 +112,23 @@ fn card_of(word: &str) -> Option<&str>
     if word == "none" { None } else { Some(word) }
 }
 
-fn trace_form<'a>(arguments: &'a [String]) -> Option<Command<'a>>
-    ensures { option_map command_from result ≡ trace_form (texts arguments.now) }
+fn trace_in<'a>(given: &ArgMatches<'a>) -> Option<Command<'a>>
+    ensures { option_map command_from result ≡ trace_in (rows_of (found_of given.now)) }
 {
-    match arguments {
-        [cart, answers, card, steps] => {
-            let (cart, answers, steps) = (cart.as_str(), answers.as_str(), steps.as_str());
-            if !is_number(steps) {
-                return None;
-            }
-            let card = card_of(card.as_str());
-            Some(Command::Trace {
-                cart,
-                answers,
-                card,
-                steps,
-            })
-        }
-        _ => None,
+    let cart = word_of(given, "cart")?;
+    let answers = word_of(given, "answers")?;
+    let card = word_of(given, "card")?;
+    let steps = word_of(given, "steps")?;
+    if !is_number(steps) {
+        return None;
     }
+    let card = card_of(card);
+    Some(Command::Trace {
+        cart,
+        answers,
+        card,
+        steps,
+    })
 }
 
 /// Whether the card's file is another one.
@@ -149,68 +160,83 @@ fn checked_run<'a>(words: RunWords<'a>) -> Option<Command<'a>>
     }
 }
 
-fn run_form<'a>(arguments: &'a [String]) -> Option<Command<'a>>
-    ensures { option_map command_from result ≡ run_form (texts arguments.now) }
+fn run_in<'a>(given: &ArgMatches<'a>) -> Option<Command<'a>>
+    ensures { option_map command_from result ≡ run_in (rows_of (found_of given.now)) }
 {
-    match arguments {
-        [cart, pads, frames, samples, count, card] => checked_run(RunWords {
-            cart: cart.as_str(),
-            pads: pads.as_str(),
-            frames: frames.as_str(),
-            samples: samples.as_str(),
-            count: count.as_str(),
-            card: card_of(card.as_str()),
-        }),
-        _ => None,
-    }
+    let cart = word_of(given, "cart")?;
+    let pads = word_of(given, "pads")?;
+    let frames = word_of(given, "frames")?;
+    let samples = word_of(given, "samples")?;
+    let count = word_of(given, "count")?;
+    let card = word_of(given, "card")?;
+    checked_run(RunWords {
+        cart,
+        pads,
+        frames,
+        samples,
+        count,
+        card: card_of(card),
+    })
 }
 
-#[tactic(auto, unfolding(crate::specs::Command::converting_form_of))]
-fn converting_form_of<'a>(name: &str, arguments: &'a [String]) -> Option<Command<'a>>
-    ensures { option_map command_from result ≡ converting_form_of name.now (texts arguments.now) }
+#[tactic(auto, unfolding(crate::specs::CommandLine::converting_in))]
+fn converting_in<'a>(name: &str, given: &ArgMatches<'a>) -> Option<Command<'a>>
+    ensures { option_map command_from result ≡ converting_in name.now (rows_of (found_of given.now)) }
 {
     if name == "migrate" {
-        convert_form(Conversion::Migrate, arguments)
+        convert_in(Conversion::Migrate, given)
     } else if name == "asm" {
-        convert_form(Conversion::Assemble, arguments)
+        convert_in(Conversion::Assemble, given)
     } else if name == "dis" {
-        convert_form(Conversion::Disassemble, arguments)
+        convert_in(Conversion::Disassemble, given)
     } else {
         None
     }
 }
 
-#[tactic(auto, unfolding(crate::specs::Command::form_of))]
-fn form_of<'a>(name: &str, arguments: &'a [String]) -> Option<Command<'a>>
-    ensures { option_map command_from result ≡ form_of name.now (texts arguments.now) }
+#[tactic(auto, unfolding(crate::specs::CommandLine::form_in))]
+fn form_in<'a>(name: &str, given: &ArgMatches<'a>) -> Option<Command<'a>>
+    ensures { option_map command_from result ≡ form_in name.now (rows_of (found_of given.now)) }
 {
     if name == "build" {
-        build_form(arguments)
+        build_in(given)
     } else if name == "trace" {
-        trace_form(arguments)
+        trace_in(given)
     } else if name == "run" {
-        run_form(arguments)
+        run_in(given)
     } else {
-        converting_form_of(name, arguments)
+        converting_in(name, given)
     }
 }
 
-#[tactic(auto, using(crate::proofs::AllWords::all_words), unfolding(crate::specs::Command::form_with))]
-fn form_with<'a>(name: &str, arguments: &'a [String]) -> Option<Command<'a>>
-    ensures { option_map command_from result ≡ form_with name.now (texts arguments.now) }
+/// The command of the subcommand that was met.
+fn command_in<'a>(matches: &ArgMatches<'a>) -> Option<Command<'a>>
+    ensures { option_map command_from result ≡ command_in (subcommand_rows_of matches.now) }
 {
-    if !are_words(arguments) {
-        return None;
-    }
-    form_of(name, arguments)
+    let (name, given) = matches.subcommand()?;
+    form_in(name, given)
 }
 
-/// The command of these words, or none where they are no listed form.
-pub fn command_of<'a>(words: &'a [String]) -> Option<Command<'a>>
-    ensures { option_map command_from result ≡ command_of (texts words.now) }
+/// What a refusal of that kind comes to: want of memory stays one, and any other says that the words
+/// are no listed form.
+fn refused<'a>(kind: ErrorKind) -> Result<Option<Command<'a>>, Memory>
+    ensures { IfOk result (λ command. (command ≡ None) × (kind ≡ OutOfMemory → ⊥)) }
 {
-    match words {
-        [] => None,
-        [name, arguments @ ..] => form_with(name.as_str(), arguments),
+    match kind {
+        ErrorKind::OutOfMemory => Err(Memory),
+        _ => Ok(None),
+    }
+}
+
+/// The command of these words, or none where they are no listed form. `Err`: memory ran out.
+pub fn command_of<'a>(alloc: Global, words: &'a [String]) -> Result<Option<Command<'a>>, Memory>
+    ensures { IfOk result (λ command. option_map command_from command ≡ command_of (texts words.now)) }
+{
+    if !are_words(words) {
+        return Ok(None);
+    }
+    match command_line(alloc)?.try_get_matches_from(words) {
+        Ok(matches) => Ok(command_in(&matches)),
+        Err(error) => refused(error.kind()),
     }
 }

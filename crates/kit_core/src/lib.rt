@@ -8,6 +8,7 @@
 
 mod building;
 mod command;
+mod command_line;
 mod conversion;
 mod converting;
 mod number;

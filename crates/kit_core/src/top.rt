@@ -110,7 +110,7 @@ fn carry_out<F: Files>(alloc: Global, words: &[String], files: &mut F) -> Result
     ensures told { IfSome (F.held files.old) (λ m. Leaves result (command_due (texts words.now) m) (reads_due (texts words.now) m) m (F.held files.new)) }
     ensures causes { HasCausesOr (IsOver (texts words.now) (F.held files.old)) result (F.faults files.old) (F.faults files.new) (F.misses files.old) (F.misses files.new) (F.overs files.old) (F.overs files.new) }
 {
-    match command_of(words) {
+    match command_of(alloc, words)? {
         None => Err(Refusal::Usage),
         Some(Command::Build { project, cart, map }) => {
             build_command(alloc, files, project, cart, map)

@@ -14,4 +14,6 @@ pub mod Games
 pub mod Given
 pub mod Telling
 pub mod Plain
+pub mod FirstWord
 pub mod Forms
+pub mod Parse

@@ -38,6 +38,7 @@ fn no_forms<'a>(alloc: Global) -> Command<'a>
         .subcommand_required(true)
 }
 
+/// The command line with one form more.
 fn with_form<'a>(
     alloc: Global,
     command: Command<'a>,

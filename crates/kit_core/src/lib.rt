@@ -3,7 +3,7 @@
 //!
 //! It promises that status, files and text are those of the command, that each refusal by the
 //! outside has its cause, and that a build that ends well stands and does what its source means. It
-//! stands on `build_core` for the build and on `kit_base` for the outside.
+//! stands on `build_core` for the build, on `clap` for the words and on `kit_base` for the outside.
 #![tactic(auto)]
 
 mod building;

@@ -7,7 +7,7 @@ use Rattle.clap.specs.Simple.{is_simple}
 use Rattle.kit_core.specs.Command.{texts}
 use Rattle.kit_core.specs.Parsed.{command_from}
 use Rattle.kit_core.proofs.AllWords.{all_words}
-use Rattle.kit_core.proofs.Forms.{command_found, command_refused, is_plain_app, is_simple_line, no_command}
+use Rattle.kit_core.proofs.Parse.{command_found, command_refused, is_plain_app, is_simple_line, no_command}
 use Rattle.kit_core.proofs.command.command_of.Goals as goal
 
 pub returns-then-not-are_words : goal.returns-then-not-are_words

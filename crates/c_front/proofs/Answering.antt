@@ -1,5 +1,5 @@
 -- The answer for a source is one that is due, and the only one where its tokens are a unit.
-use Rattle.std.proofs.Common.{ℕ, ◌≡◌, ◌≤◌, ◌<◌, List, [], ◌∷◌, ◌++◌, refl, sym, ap, subst, ◌∙◌, append_assoc, arith}
+use Rattle.std.proofs.Common.{ℕ, ◌≡◌, ◌≤◌, ◌<◌, List, [], ◌∷◌, refl, sym, ap, subst, ◌∙◌, append_assoc, arith}
 use Rattle.std.specs.Prelude.{Option, Some, None, Result, Ok, Err, Vec, IfSome}
 use Rattle.std.specs.declared.alloc.Global.{Global}
 use Rattle.kit_base.specs.Held.{Held}
@@ -12,16 +12,16 @@ use Rattle.c_prep.specs.declared.error.PrepErr.TheVariants as prep
 use Rattle.c_prep.specs.Files as expanding
 use Rattle.c_prep.specs.Files.{Expansion, Stop, expansion_of}
 use Rattle.c_parse.specs.Tok.{Tok, toks}
-use Rattle.c_parse.specs.Places.{FirstBad, FirstDeep, BeginsShallow}
+use Rattle.c_parse.specs.Places.{FirstDeep}
 use Rattle.c_parse.specs.Units.{Derives, Unit_}
 use Rattle.c_front.specs.declared.error.FrontErr.{FrontErr}
 use Rattle.c_front.specs.declared.error.FrontErr.TheVariants as errors
 use Rattle.c_front.specs.declared.places.Places.{Places}
 use Rattle.c_front.specs.declared.unit.Parsed.{Parsed}
 use Rattle.c_front.specs.Over.{over}
-use Rattle.c_front.specs.Due.{Answers, IsNoUnit, bad, deep, IsRefused, unread, unparsed, IsUnit, told_as, refusal_at}
+use Rattle.c_front.specs.Due.{Answers, IsNoUnit, bad, deep, IsRefused, unread, unparsed, IsUnit, told_as}
 use Rattle.c_front.specs.Answer.{IsTooDeep, IsUnitOf}
-use Rattle.c_front.specs.Inner.{Parses, Tells, Faults}
+use Rattle.c_front.specs.Inner.{Parses, Tells}
 
 abbrev Answer : Type 0
 Answer = Result Parsed FrontErr
@@ -38,7 +38,7 @@ module _ (m : Held) (source : List ℕ) where
   unit_due p (Ok q) named x parsed = record {
     named = ap (λ (k : Places). k.source) parsed.0 ∙ named;
     expanded = x ∙ ap (λ (k : Places). Ok (tokens_of k)) (sym parsed.0);
-    derived = subst (λ (k : Places). Derives (toks k.tokens) (unit q.unit)) (sym parsed.0) parsed.1
+    derived = subst (λ (k : Places). Derives (toks k.tokens) (unit q.unit)) (sym parsed.0) parsed.1;
   }
   unit_due p (Err (errors.Source code file line)) named x faults = no_unit p _ named x faults
   unit_due p (Err (errors.Missing name)) named x faults = no_unit p _ named x faults
@@ -89,7 +89,7 @@ module _ (m : Held) (source : List ℕ) where
       not_shallow t y other first few = first.deep (record {
         more = first.after;
         items = ds;
-        unit = (subst (λ ts. Unit_ ts ds) (first.is ∙ sym (append_assoc first.before (first.token ∷ []) first.after)) (again y other), few)
+        unit = (subst (λ ts. Unit_ ts ds) (first.is ∙ sym (append_assoc first.before (first.token ∷ []) first.after)) (again y other), few);
       })
 
       refused_never : (e : FrontErr) → unit_depth ds ≤ 200 → IsRefused m source e → ⊥
@@ -141,7 +141,7 @@ pub unit_told : (o : Option Held) (source named : List ℕ) (names : List (List 
 unit_told None source named names v p r is placed parsed told = tt
 unit_told (Some m) source named names v p r is placed parsed told =
     unit_due (over m) source p r (ap (λ (k : Places). k.source) placed ∙ is)
-      (ap (expansion_of (over m)) (sym is) ∙ told ∙ ap (λ (k : Places). Ok (tokens_of k)) (sym placed)) parsed
+    (ap (expansion_of (over m)) (sym is) ∙ told ∙ ap (λ (k : Places). Ok (tokens_of k)) (sym placed)) parsed
 
 pub refusal_told : (o : Option Held) (source named : List ℕ) (names : List (List ℕ)) (x : PrepErr) (e : FrontErr)
     → named ≡ source → Tells e (told_as named names x)

@@ -1,13 +1,13 @@
 -- What the files hold with the headers laid over them.
 use Rattle.std.proofs.Common.{ℕ, ◌≡◌, ◌≤◌, Bool, true, false, cond, List, [], ◌∷◌, length, refl, sym, ap, ◌∙◌}
-use Rattle.std.specs.Prelude.{Option, Some, None, Result, Ok, Err, Vec, IfSome, IsTrue, find, option_map, nat_le, if◌then◌else◌}
+use Rattle.std.specs.Prelude.{Option, Some, None, Result, Ok, Err, Vec, IfSome, find, option_map, nat_le, if◌then◌else◌}
 use Rattle.std.specs.List.{list_all}
 use Rattle.std.specs.Str.{bytes_eq}
 use Rattle.std.specs.declared.alloc.Global.{Global}
 use Rattle.std.proofs.lemmas.Bool.{leb-true, and_parts}
 use Rattle.std.proofs.lemmas.Cmp.{nat_list_cmp_total}
 use Rattle.std.proofs.lemmas.Map.Text.{is_eq-slice_cmp}
-use Rattle.std.specs.FinMap.{get, insert, get-insert}
+use Rattle.std.specs.FinMap.{get, get-insert}
 use Rattle.kit_base.specs.Held.{Held}
 use Rattle.kit_base.specs.Outside.{Answers, due, due_of}
 use Rattle.kit_base.specs.declared.outside.FileErr.{FileErr}
@@ -31,7 +31,7 @@ get_laid (h ∷ hs) m name =
     get-insert nat_list_cmp_total (laid hs m) h.0 h.1 name
     ∙ ap (λ b. cond b (Some h.1) (get (laid hs m) name)) (is_eq-slice_cmp name h.0)
     ∙ elim (bytes_eq name h.0) as (λ b. cond b (Some h.1) (get (laid hs m) name) ≡ or_else (option_map (λ k. k.1) (cond b (Some h) (find (λ k. bytes_eq name k.0) hs))) (get m name))
-      [ true ↦ refl | false ↦ get_laid hs m name ]
+    [ true ↦ refl | false ↦ get_laid hs m name ]
 
 get_over : (m : Held) (name : List ℕ) → get (over m) name ≡ or_else (text_of name) (get m name)
 unfolding over text_of
@@ -55,7 +55,7 @@ found_short [] name text all is = cc
 found_short (h ∷ hs) name text all is =
     let parts : (is_short h.1 ≡ true) × (list_all (λ k. is_short k.1) hs ≡ true) = and_parts _ _ all in
     (elim (bytes_eq name h.0) as (λ b. option_map (λ k. k.1) (cond b (Some h) (find (λ k. bytes_eq name k.0) hs)) ≡ Some text → is_short text ≡ true)
-      [ true ↦ (λ e. let same : h.1 ≡ text = cc in ap is_short (sym same) ∙ parts.0) | false ↦ (λ e. found_short hs name text parts.1 e) ]) is
+    [ true ↦ (λ e. let same : h.1 ≡ text = cc in ap is_short (sym same) ∙ parts.0) | false ↦ (λ e. found_short hs name text parts.1 e) ]) is
 
 text_short : (name text : List ℕ) → text_of name ≡ Some text → is_short text ≡ true
 unfolding text_of

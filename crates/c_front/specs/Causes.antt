@@ -1,5 +1,5 @@
 -- Which answers come, and why, where nothing is told of the files.
-use Rattle.std.specs.Prelude.{ℕ, ◌≡◌, ◌≢◌, ◌≤◌, List, length, Result, Ok, Err}
+use Rattle.std.specs.Prelude.{ℕ, ◌≡◌, ◌≢◌, ◌≤◌, List, length, Result, Err}
 use Rattle.c_tree.specs.Count.{unit_nodes}
 use Rattle.c_tree.specs.Depth.{unit_depth}
 use Rattle.c_tree.specs.View.{unit}

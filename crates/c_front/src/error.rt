@@ -12,11 +12,7 @@ pub enum FrontErr {
     /// 30 at a token with which none goes on, 31 at one with which none of at most 200 trees on a path
     /// does, and 32 at a word that the language refuses. Lines count from 1.
     #[error("error {code} in line {line} of a file")]
-    Source {
-        code: u32,
-        file: Name,
-        line: u32,
-    },
+    Source { code: u32, file: Name, line: u32 },
     /// The source of this name is not held.
     #[error("the source is missing")]
     Missing(Name),

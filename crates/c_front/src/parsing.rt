@@ -1,5 +1,5 @@
 // From tokens that stand somewhere to their unit.
-ghost use Rattle.std.specs.Prelude.{◌≡◌, ◌≤◌, length, IfOk, IfErr};
+ghost use Rattle.std.specs.Prelude.{◌≤◌, length, IfOk, IfErr};
 ghost use Rattle.c_front.specs.Causes.{IsOfTokens, IsWithin};
 ghost use Rattle.c_front.specs.Due.{refusal_at};
 ghost use Rattle.c_front.specs.Inner.{Parses, Tells};

@@ -1,7 +1,7 @@
 // Sources and what is told of them.
 use crate::{FrontErr, Parsed, headers_hide_files, read_unit};
 use c_tree::Span;
-use kit_base::{FilesInMemory, Memory, Name, Reads, Seq};
+use kit_base::{FilesInMemory, Memory, Name, Seq};
 use std::alloc::Global;
 use std::process::Abort;
 use std::test::Fail;
@@ -78,7 +78,10 @@ fn sources_are_read_as_units(rt: HostRuntime) -> Result<(), Fail> {
     let rows: [(&[u8], &[u8]); 13] = [
         (b"", b"items 0 main.c:01 main.c:01"),
         (b"int x;\nvoid main() {\n}", b"items 2 main.c:01 main.c:03"),
-        (b"int x;\n#include \"h.h\"\n;", b"items 2 main.c:01 main.c:03"),
+        (
+            b"int x;\n#include \"h.h\"\n;",
+            b"items 2 main.c:01 main.c:03",
+        ),
         (b"#include \"h.h\"\n = 1;", b"items 1 h.h:02 main.c:02"),
         (b"void main()\n{\nx = 1\n}", b"30 main.c:04"),
         (b"int x;\n#include \"h.h\"\n", b"30 h.h:02"),
@@ -87,10 +90,7 @@ fn sources_are_read_as_units(rt: HostRuntime) -> Result<(), Fail> {
         (b"\n#include \"gone.h\"\n", b"21 main.c:02"),
         (b"int x = 1.5;", b"14 main.c:01"),
         (b"#ifdef A\n", b"23 main.c:01"),
-        (
-            b"#include \"time.h\"\n#ifdef TIME_H\nint x;\n#endif",
-            b"",
-        ),
+        (b"#include \"time.h\"\n#ifdef TIME_H\nint x;\n#endif", b""),
         (b"#include \"video.h\"\n", b""),
     ];
     for (source, wanted) in rows {

@@ -5,7 +5,7 @@ ghost use Rattle.c_tree.specs.Tree.{ItemT};
 ghost use Rattle.c_tree.specs.View.{unit};
 ghost use Rattle.c_prep.specs.Causes.{Caused};
 ghost use Rattle.c_prep.specs.Files.{Expansion, expansion_of};
-ghost use Rattle.c_prep.specs.Numbers.{AreBelow, IsBelow};
+ghost use Rattle.c_prep.specs.Numbers.{AreBelow};
 ghost use Rattle.c_parse.specs.Tok.{toks};
 ghost use Rattle.c_parse.specs.Units.{Derives, Unit_};
 ghost use Rattle.c_front.specs.Over.{over};
@@ -61,11 +61,7 @@ fn told_as(alloc: Global, source: &Name, names: &[Name], fault: PrepErr) -> Fron
 /// includes and the headers of the dialect, which lie over the files. Of the source alone it is said that
 /// it is missing; an include that is not held is code 21. At the end of the tokens the line is that of the
 /// last, and line 1 of the source where there are none. No file changes.
-pub fn read_unit<F: Reads>(
-    alloc: Global,
-    files: &mut F,
-    source: &str,
-) -> Result<Parsed, FrontErr>
+pub fn read_unit<F: Reads>(alloc: Global, files: &mut F, source: &str) -> Result<Parsed, FrontErr>
     ensures held { F.held files.new ≡ F.held files.old }
     // Where it is told what is held, the answer is one that is due there, unless a call failed or memory
     // ran out;

@@ -19,5 +19,5 @@ returns-in-Err-TooDeep-clause-parsed c = faults_deep c.args.places c.in-Err-TooD
 pub returns-in-Err-Unsupported-clause-parsed : goal.returns-in-Err-Unsupported-clause-parsed
 returns-in-Err-Unsupported-clause-parsed c = faults_bad c.args.places c.in-Err-Unsupported.token (Some c.in-Err-Unsupported.field-0-1) c.refusal_at-in-Err-Unsupported.result
     (subst (λ (ts : List Token). FirstBad (toks ts) c.in-Err-Unsupported.token (Some c.in-Err-Unsupported.field-0-1)) c.as_slice.ensures
-      (c.in-Err-Unsupported.ensures.refused c.in-Err-Unsupported.token c.in-Err-Unsupported.field-0-1 (ap Err c.in-Err-Unsupported.field-0-is)))
+    (c.in-Err-Unsupported.ensures.refused c.in-Err-Unsupported.token c.in-Err-Unsupported.field-0-1 (ap Err c.in-Err-Unsupported.field-0-is)))
     c.refusal_at-in-Err-Unsupported.ensures

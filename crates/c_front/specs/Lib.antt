@@ -1,0 +1,7 @@
+pub mod Over
+pub mod Names
+pub mod Places
+pub mod Due
+pub mod Answer
+pub mod Causes
+pub mod Inner

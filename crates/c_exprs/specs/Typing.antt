@@ -31,15 +31,19 @@ unfoldable pub as_used : Ctx → Span → Bool → Typer TExprT → Typer TExprT
 as_used c s true r = r
 as_used c s false r = as_value c s r
 
+-- a text is an array of its words, the last one 0
+abbrev pub text_tree : Span → List Text → Text → Typer TExprT
+text_tree s ts t = do
+  k ← with_text s ts t
+  Ok (Typed (LiteralK k.0) (ArrayY IntY (length t + 1)) s, k.1)
+
 abbrev mutual
   pub typed : Ctx → List Text → ExprT → Typer TExprT
   typed c ts (NameE n s) = do
     x ← placed s (name_tree c n s)
     Ok (x, ts)
   typed c ts (NumberE n s) = Ok (Typed (NumberK n) IntY s, ts)
-  typed c ts (TextE t s) = do
-    k ← with_text s ts t
-    Ok (Typed (LiteralK k.0) (ArrayY IntY (length t + 1)) s, k.1)
+  typed c ts (TextE t s) = text_tree s ts t
   typed c ts (NullE s) = Ok (Typed NullK (PointerY VoidY) s, ts)
   typed c ts (ParenE a s) = do
     x ← typed c ts a

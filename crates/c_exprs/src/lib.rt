@@ -4,11 +4,13 @@
 //! kit_base, v32_isa for the ports, c_tree, c_types and c_rules.
 #![tactic(auto)]
 
+mod calls;
 mod error;
 mod intrinsics;
 pub mod laws;
 mod names;
 mod nodes;
+mod ports;
 mod rules;
 mod texts;
 mod trees;

@@ -255,7 +255,7 @@ mutual
 
 -- ---- what is by the rules is given by the function
 
-value_known : (c : Ctx) (ts us : List Text) (e : ExprT) (x : TExprT) → typed c ts e ≡ Ok (x, us) → at_node (span_of e) (value_rule c.layouts c.whole (type_of_typed x)) ≡ Ok tt
+pub value_known : (c : Ctx) (ts us : List Text) (e : ExprT) (x : TExprT) → typed c ts e ≡ Ok (x, us) → at_node (span_of e) (value_rule c.layouts c.whole (type_of_typed x)) ≡ Ok tt
   → as_value c (span_of e) (typed c ts e) ≡ Ok (x, us)
 unfolding as_value
 value_known c ts us e x g h = rw (g, h) refl
@@ -377,6 +377,18 @@ typed_so c ts us e x is = let P : Typer TExprT → Type 0 = λ r. Out c ts e r i
 
 pub breaks_so : (c : Ctx) (ts : List Text) (e : ExprT) (f : FaultT) → typed c ts e ≡ Err f → Breaks c ts e f
 breaks_so c ts e f is = let P : Typer TExprT → Type 0 = λ r. Out c ts e r in subst P is (outcome c ts e)
+
+pub values_so : (c : Ctx) (ts us : List Text) (e : ExprT) (x : TExprT) → as_value c (span_of e) (typed c ts e) ≡ Ok (x, us) → Values c ts e x us
+values_so c ts us e x is = let P : Typer TExprT → Type 0 = λ r. ValueOut c ts e r in subst P is (value_out c ts e (typed c ts e) (outcome c ts e))
+
+pub no_value_so : (c : Ctx) (ts : List Text) (e : ExprT) (f : FaultT) → as_value c (span_of e) (typed c ts e) ≡ Err f → NoValue c ts e f
+no_value_so c ts e f is = let P : Typer TExprT → Type 0 = λ r. ValueOut c ts e r in subst P is (value_out c ts e (typed c ts e) (outcome c ts e))
+
+pub names_so : (c : Ctx) (ts us : List Text) (s : Span) (of : TypeT) (x : Ty) → type_of c ts s of ≡ Ok (x, us) → Names c ts s of x us
+names_so c ts us s of x is = let P : Typer Ty → Type 0 = λ r. TypeOut c ts s of r in subst P is (type_outcome c ts s of)
+
+pub no_name_so : (c : Ctx) (ts : List Text) (s : Span) (of : TypeT) (f : FaultT) → type_of c ts s of ≡ Err f → NoName c ts s of f
+no_name_so c ts s of f is = let P : Typer Ty → Type 0 = λ r. TypeOut c ts s of r in subst P is (type_outcome c ts s of)
 
 -- one typed tree at most
 pub one_tree : {c : Ctx} {ts us vs : List Text} {e : ExprT} {x y : TExprT} → Types c ts e x us → Types c ts e y vs → x ≡ y

@@ -1,11 +1,12 @@
 -- What comes before the rest of a list of arguments that is typed from left to right.
-use Rattle.std.proofs.Common.{◌≡◌, true, false, List, [], ◌∷◌, ◌++◌, Result, Ok, Err, refl, ap}
+use Rattle.std.proofs.Common.{rules, ◌≡◌, true, false, List, [], ◌∷◌, ◌++◌, Result, Ok, Err, refl, ap}
 use Rattle.c_tree.specs.Tree.{ExprT, ExprTs, MoreE}
 use Rattle.c_types.specs.Typed.{TExprT, TExprTs, NoX, MoreX}
-use Rattle.c_types.specs.View.{texprs}
+use Rattle.c_types.specs.declared.typed.TExpr.{TExpr, the_lemmas}
+use Rattle.c_types.specs.View.{ctype, texpr, texprs}
 use Rattle.c_exprs.specs.Env.{Text, Ctx}
 use Rattle.c_exprs.specs.Faults.{FaultT, ◌>>=◌}
-use Rattle.c_exprs.specs.Nodes.{span_of}
+use Rattle.c_exprs.specs.Nodes.{span_of, type_of_typed}
 use Rattle.c_exprs.specs.Typing.{Typer, as_value, typed, all_valued}
 
 abbrev pub front : List TExprT → TExprTs → TExprTs
@@ -43,3 +44,7 @@ before-push c xs ts us e rest x good = rw good (push xs x (all_valued c us false
 pub before-port : (xs : List TExprT) (r : Typer TExprTs) → before xs r ≡ before xs (r >>= λ ys. Ok (ys.0, ys.1))
 before-port xs (Ok y) = refl
 before-port xs (Err e) = refl
+
+-- the type of a tree in memory
+pub seen_type : (x : TExpr) → type_of_typed (texpr x) ≡ ctype x.ty
+seen_type x = search (rules, the_lemmas)

@@ -4,3 +4,4 @@ pub mod PortTexts
 pub mod Arguments
 pub mod Fronts
 pub mod Exact
+pub mod Answered

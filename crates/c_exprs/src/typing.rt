@@ -211,6 +211,21 @@ fn type_of(
     }
 }
 
+#[tactic(auto, unfolding(crate::specs::Typing::as_value))]
+fn valued(
+    alloc: Global,
+    globals: &Globals,
+    scopes: &[Scope],
+    texts: &mut Texts,
+    e: &Expr,
+) -> Result<TExpr, CheckErr>
+    ensures { Gives (λ r. (texpr r, texts.new)) result (as_value (ctx globals.now scopes.now) (span_of (expr e.now)) (typed (ctx globals.now scopes.now) texts.old (expr e.now))) }
+{
+    let x = typed(alloc, globals, scopes, texts, e)?;
+    value_at(globals, span_of(e), &x.ty)?;
+    Ok(x)
+}
+
 /// The typed tree of an expression. Its texts are added to those so far.
 pub fn type_expr(
     alloc: Global,
@@ -227,7 +242,7 @@ pub fn type_expr(
     // A refusal names the first broken rule.
     ensures first { (k : Code) (s : Span) → result ≡ Err (At k s) → Breaks (ctx globals.now scopes.now) texts.old (expr e.now) (at s k) }
 {
-    Err(CheckErr::Memory)
+    typed(alloc, globals, scopes, texts, e)
 }
 
 /// The typed tree of an expression whose value is asked for. Its texts are added to those so far.
@@ -243,7 +258,7 @@ pub fn type_value(
     ensures only { (x : TExprT) (us : List Text) → Values (ctx globals.now scopes.now) texts.old (expr e.now) x us → Gives (λ r. (texpr r, texts.new)) result (read x us) }
     ensures first { (k : Code) (s : Span) → result ≡ Err (At k s) → NoValue (ctx globals.now scopes.now) texts.old (expr e.now) (at s k) }
 {
-    Err(CheckErr::Memory)
+    valued(alloc, globals, scopes, texts, e)
 }
 
 /// The type that a type tree names, in a node of this span. The texts of its counts are added to those so far.
@@ -260,5 +275,5 @@ pub fn type_of_tree(
     ensures only { (t : Ty) (us : List Text) → Names (ctx globals.now scopes.now) texts.old span (type ty.now) t us → Gives (λ r. (ctype r, texts.new)) result (read t us) }
     ensures first { (k : Code) (s : Span) → result ≡ Err (At k s) → NoName (ctx globals.now scopes.now) texts.old span (type ty.now) (at s k) }
 {
-    Err(CheckErr::Memory)
+    type_of(alloc, globals, scopes, texts, span, ty)
 }

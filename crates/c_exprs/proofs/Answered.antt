@@ -3,7 +3,7 @@ use Rattle.std.proofs.Common.{◌≡◌, List, Result, Ok, Err, IfOk, subst}
 use Rattle.c_tree.specs.declared.span.Span.{Span}
 use Rattle.c_rules.specs.declared.code.Code.{Code}
 use Rattle.c_exprs.specs.declared.error.CheckErr.{CheckErr}
-use Rattle.c_exprs.specs.declared.error.CheckErr.TheVariants.{At, Memory}
+use Rattle.c_exprs.specs.declared.error.CheckErr.TheVariants.{At}
 use Rattle.c_exprs.specs.Env.{Text}
 use Rattle.c_exprs.specs.Faults.{FaultT, at}
 use Rattle.c_exprs.specs.Gives.{Gives}

@@ -1,5 +1,5 @@
 -- The arguments of a call as a list.
-use Rattle.std.proofs.Common.{◌≡◌, List, [], ◌∷◌, ◌++◌, length, refl, ap}
+use Rattle.std.proofs.Common.{◌≡◌, List, [], ◌∷◌, ◌++◌, refl, ap}
 use Rattle.std.proofs.lemmas.List.{length-map}
 use Rattle.c_rules.specs.declared.code.Code.TheVariants.{WrongType, BadCall}
 use Rattle.std.specs.Prelude.{Err}

@@ -1,11 +1,11 @@
 -- What comes before the rest of a list of arguments that is typed from left to right.
-use Rattle.std.proofs.Common.{rules, ◌≡◌, true, false, List, [], ◌∷◌, ◌++◌, Result, Ok, Err, refl, ap}
+use Rattle.std.proofs.Common.{rules, ◌≡◌, false, List, [], ◌∷◌, ◌++◌, Ok, Err, refl, ap}
 use Rattle.c_tree.specs.Tree.{ExprT, ExprTs, MoreE}
 use Rattle.c_types.specs.Typed.{TExprT, TExprTs, NoX, MoreX}
 use Rattle.c_types.specs.declared.typed.TExpr.{TExpr, the_lemmas}
 use Rattle.c_types.specs.View.{ctype, texpr, texprs}
 use Rattle.c_exprs.specs.Env.{Text, Ctx}
-use Rattle.c_exprs.specs.Faults.{FaultT, ◌>>=◌}
+use Rattle.c_exprs.specs.Faults.{◌>>=◌}
 use Rattle.c_exprs.specs.Nodes.{span_of, type_of_typed}
 use Rattle.c_exprs.specs.Typing.{Typer, as_value, typed, all_valued}
 

@@ -1,14 +1,12 @@
 -- The names of ports are texts.
-use Rattle.std.proofs.Common.{◌≡◌, ℕ, ◌<◌, Bool, true, false, cond, Option, Some, None, List, [], ◌∷◌, refl, sym, ap, ◌∙◌, arith}
+use Rattle.std.proofs.Common.{◌≡◌, ℕ, Bool, true, false, cond, Option, Some, None, List, [], ◌∷◌, refl, sym, ap, ◌∙◌, arith}
 use Rattle.std.specs.Prelude.{find, nat_lt, IsUtf8, codes}
 use Rattle.std.specs.List.{list_all}
-use Rattle.std.specs.Option.{option_map}
 use Rattle.std.specs.Str.{bytes_eq, IsAscii}
 use Rattle.std.proofs.lemmas.Slice.Eq.{bytes_eq-Decides}
 use Rattle.std.proofs.lemmas.Str.{IsUtf8-from_ascii}
 use Rattle.std.proofs.lemmas.Str.Ascii.{IsAscii-nil, IsAscii-cons}
-use Rattle.v32_isa.specs.declared.port_table.PortRow.{PortRow}
-use Rattle.v32_isa.specs.Ports.{PortEntry, port_table, port_spelled, port_named, first_spelling, entry_of}
+use Rattle.v32_isa.specs.Ports.{PortEntry, port_table, port_spelled, port_named, first_spelling}
 
 abbrev is_small : ℕ → Bool
 is_small b = nat_lt b 128

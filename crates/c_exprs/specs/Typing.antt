@@ -1,14 +1,11 @@
 -- The typing of expressions: an equation for each form, the parts from left to right, then the rules of the node. The texts so far
 -- come in, and go out with those of the part.
-use Rattle.std.specs.Prelude.{ℕ, ◌+◌, Bool, true, false, List, length, Option, Some, None, Result, Ok, Err}
+use Rattle.std.specs.Prelude.{◌+◌, Bool, true, false, List, length, Some, None, Result, Ok}
 use Rattle.c_tree.specs.declared.span.Span.{Span}
-use Rattle.c_tree.specs.declared.operator.UnOp.{UnOp}
-use Rattle.c_tree.specs.declared.operator.StepOp.{StepOp}
-use Rattle.c_tree.specs.declared.operator.BinOp.{BinOp}
 use Rattle.c_tree.specs.Tree.{ExprT, NameE, NumberE, TextE, NullE, ParenE, UnaryE, BinaryE, AssignE, StepE, IndexE, MemberE, ArrowE, CallE, CastE, SizeOfE, ExprTs, NoE, MoreE, TypeT}
 use Rattle.c_tree.specs.Tree as tree
 use Rattle.c_types.specs.Types.{Ty, VoidY, IntY, BoolY, PointerY, ArrayY}
-use Rattle.c_types.specs.Typed.{TExprT, Typed, TKindT, NumberK, NullK, LiteralK, UnaryK, BinaryK, AssignK, StepK, IndexK, CastK, TExprTs, NoX, MoreX}
+use Rattle.c_types.specs.Typed.{TExprT, Typed, NumberK, NullK, LiteralK, UnaryK, BinaryK, AssignK, StepK, IndexK, CastK, TExprTs, NoX, MoreX}
 use Rattle.c_rules.specs.declared.code.Code.TheVariants.{NotConstant}
 use Rattle.c_rules.specs.Nodes.{needs_place, unary_rule, binary_rule, assign_rule, compound_rule, step_rule, index_rule, cast_rule, size_rule, array_rule}
 use Rattle.c_exprs.specs.Env.{Text, Ctx}

@@ -182,12 +182,7 @@ fn port_out_call(
     }
 }
 
-fn plain_call(
-    kind: TKind,
-    ty: CType,
-    xs: &[TExpr],
-    span: Span,
-) -> Result<(TKind, CType), CheckErr>
+fn plain_call(kind: TKind, ty: CType, xs: &[TExpr], span: Span) -> Result<(TKind, CType), CheckErr>
     ensures { Gives called result (placed span (plain_call (tkind kind) (ctype ty) (map texpr xs.now))) }
 {
     if xs.is_empty() {

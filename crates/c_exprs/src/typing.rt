@@ -33,12 +33,7 @@ use c_types::{CType, TExpr, TKind};
 use kit_base::Name;
 use std::alloc::Global;
 
-fn text_tree(
-    alloc: Global,
-    texts: &mut Texts,
-    text: &Name,
-    span: Span,
-) -> Result<TExpr, CheckErr>
+fn text_tree(alloc: Global, texts: &mut Texts, text: &Name, span: Span) -> Result<TExpr, CheckErr>
     ensures { Gives (λ r. (texpr r, texts.new)) result (text_tree span texts.old text.now) }
 {
     let number = texts.add(alloc, text, span)?;

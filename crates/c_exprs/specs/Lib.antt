@@ -1,0 +1,10 @@
+pub mod Env
+pub mod Faults
+pub mod Intrinsics
+pub mod Nodes
+pub mod Calls
+pub mod Typing
+pub mod Types
+pub mod Breaks
+pub mod View
+pub mod Gives

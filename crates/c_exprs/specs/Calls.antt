@@ -9,7 +9,9 @@ use Rattle.c_rules.specs.declared.code.Code.{Code}
 use Rattle.c_rules.specs.declared.code.Code.TheVariants.{UnknownName, Twice, WrongType, BadCall, BadPort}
 use Rattle.c_rules.specs.Kinds.{is_number, converts}
 use Rattle.c_exprs.specs.Env.{Text, find, find_in, LocalD, Decl, TypeD, ConstantD, GlobalD, FunctionD, Ctx}
-use Rattle.c_exprs.specs.Intrinsics.{Intrinsic, PortIn, PortOut, WaitFrame, Halt, CardMemory, intrinsic}
+use Rattle.c_exprs.specs.declared.intrinsics.Intrinsic.{Intrinsic}
+use Rattle.c_exprs.specs.declared.intrinsics.Intrinsic.TheVariants.{PortIn, PortOut, WaitFrame, Halt, CardMemory}
+use Rattle.c_exprs.specs.Intrinsics.{intrinsic}
 use Rattle.c_exprs.specs.Nodes.{type_of_typed}
 
 -- ---- what is called

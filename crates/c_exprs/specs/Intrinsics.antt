@@ -2,16 +2,8 @@
 use Rattle.std.specs.Prelude.{ℕ, List, Option, Some, None, codes, if◌then◌else◌}
 use Rattle.std.specs.Str.{bytes_eq}
 use Rattle.c_exprs.specs.Env.{Text}
-
-pub data Intrinsic : Type 0 where
-  -- `int port_in(PORT)`, `void port_out(PORT, word)`
-  PortIn : Intrinsic
-  PortOut : Intrinsic
-  -- `void wait_frame()`, `void halt()`
-  WaitFrame : Intrinsic
-  Halt : Intrinsic
-  -- `int* card_memory()`
-  CardMemory : Intrinsic
+use Rattle.c_exprs.specs.declared.intrinsics.Intrinsic.{Intrinsic}
+use Rattle.c_exprs.specs.declared.intrinsics.Intrinsic.TheVariants.{PortIn, PortOut, WaitFrame, Halt, CardMemory}
 
 unfoldable pub intrinsic : Text → Option Intrinsic
 intrinsic n =

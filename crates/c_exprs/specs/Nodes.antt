@@ -14,7 +14,8 @@ use Rattle.c_rules.specs.Sizes.{is_whole, fits, value_limit}
 use Rattle.c_rules.specs.Rules.{Rule, demand}
 use Rattle.c_rules.specs.Constants.{constant_unary, constant_binary}
 use Rattle.c_exprs.specs.Env.{Text, find, find_in, LocalD, Decl, TypeD, ConstantD, GlobalD, FunctionD, Ctx}
-use Rattle.c_exprs.specs.Intrinsics.{Intrinsic, intrinsic}
+use Rattle.c_exprs.specs.declared.intrinsics.Intrinsic.{Intrinsic}
+use Rattle.c_exprs.specs.Intrinsics.{intrinsic}
 
 abbrev pub type_of_typed : TExprT → Ty
 type_of_typed (Typed kind ty s) = ty

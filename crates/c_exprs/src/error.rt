@@ -2,7 +2,7 @@
 ghost use Rattle.std.specs.Prelude.{◌≡◌, Ok, Err};
 ghost use Rattle.c_exprs.specs.declared.error.CheckErr.TheVariants as errors;
 ghost use Rattle.c_exprs.specs.Faults.{known, demanded, placed};
-ghost use Rattle.c_exprs.specs.Gives.{Gives};
+ghost use Rattle.c_exprs.specs.Gives.{Gives, taken};
 
 use c_rules::{Code, RuleErr};
 use c_tree::Span;
@@ -14,4 +14,72 @@ use std::alloc::{AllocError, AllocFailed};
 pub enum CheckErr {
     At { code: Code, span: Span },
     Memory,
+}
+
+impl From<Memory> for CheckErr {
+    ghost from_gives = { λ _ e. e ≡ errors.Memory };
+
+    fn from(_: Memory) -> CheckErr {
+        CheckErr::Memory
+    }
+}
+
+impl From<AllocError> for CheckErr {
+    ghost from_gives = { λ _ e. e ≡ errors.Memory };
+
+    fn from(_: AllocError) -> CheckErr {
+        CheckErr::Memory
+    }
+}
+
+impl<T: Drop> From<AllocFailed<T>> for CheckErr {
+    ghost from_gives = { λ _ e. e ≡ errors.Memory };
+
+    fn from(_: AllocFailed<T>) -> CheckErr {
+        CheckErr::Memory
+    }
+}
+
+/// What a rule answers, with its code at a node of this span.
+pub fn at_node<T: Drop>(span: Span, answer: Result<T, RuleErr>) -> Result<T, CheckErr>
+    ensures taken { result ≡ taken span answer }
+{
+    match answer {
+        Ok(found) => Ok(found),
+        Err(RuleErr::Broken(code)) => Err(CheckErr::At { code, span }),
+        Err(RuleErr::Memory) => Err(CheckErr::Memory),
+    }
+}
+
+/// An answer that wants no memory, with its code at a node of this span.
+pub fn placed<T: Drop>(span: Span, answer: Result<T, Code>) -> Result<T, CheckErr>
+    ensures placed { Gives (λ x. x) result (placed span answer) }
+{
+    match answer {
+        Ok(found) => Ok(found),
+        Err(code) => Err(CheckErr::At { code, span }),
+    }
+}
+
+/// What has to be there at a node of this span, else the code.
+#[tactic(auto, unfolding(crate::specs::Faults::known))]
+pub fn known<T: Drop>(span: Span, code: Code, found: Option<T>) -> Result<T, CheckErr>
+    ensures known { Gives (λ x. x) result (known span code found) }
+{
+    match found {
+        Some(found) => Ok(found),
+        None => Err(CheckErr::At { code, span }),
+    }
+}
+
+/// The code at a node of this span, where the test does not hold.
+#[tactic(auto, unfolding(crate::specs::Faults::demanded))]
+pub fn demanded(span: Span, code: Code, holds: bool) -> Result<(), CheckErr>
+    ensures demanded { Gives (λ x. x) result (demanded span code holds) }
+{
+    if holds {
+        Ok(())
+    } else {
+        Err(CheckErr::At { code, span })
+    }
 }

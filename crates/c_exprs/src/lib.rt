@@ -5,7 +5,16 @@
 #![tactic(auto)]
 
 mod error;
+mod intrinsics;
+pub mod laws;
 mod names;
+mod nodes;
+mod texts;
+mod typing;
 
-pub use error::CheckErr;
-pub use names::{Decl, Globals, Local, Scope};
+pub use error::{CheckErr, at_node, demanded, known, placed};
+pub use intrinsics::{Intrinsic, is_intrinsic};
+pub use names::{Decl, Globals, Local, Scope, find_local};
+pub use nodes::{constant, is_place, span_of};
+pub use texts::Texts;
+pub use typing::{type_expr, type_of_tree, type_value};

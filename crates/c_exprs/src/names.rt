@@ -1,7 +1,12 @@
 // What names mean.
+ghost use Rattle.std.specs.Prelude.{◌≡◌, [], ◌∷◌, ◌++◌, None, IfOk, OnOk, OnErr, map, option_map, option_copied};
+ghost use Rattle.c_exprs.specs.Env.{find, find_in};
+ghost use Rattle.c_exprs.specs.View.{local, decl, scope, names, bodies};
+
 use c_types::{CType, Layout};
 use indexmap::IndexMap;
-use kit_base::Seq;
+use kit_base::{Memory, Seq};
+use std::alloc::Global;
 
 /// An object of a function's call: its number there, and its type.
 #[derive(Drop)]
@@ -33,4 +38,110 @@ pub struct Globals {
 #[derive(Drop)]
 pub struct Scope {
     names: IndexMap<Vec<u8>, Local>,
+}
+
+impl Globals {
+    /// A unit of which nothing is declared yet.
+    pub fn new(alloc: Global) -> Globals
+        ensures layouts { result.layouts.items ≡ [] }
+        ensures whole { result.whole.items ≡ [] }
+        ensures names { names result ≡ [] }
+        ensures bodies { bodies result ≡ [] }
+    {
+        Globals {
+            layouts: Vec::new(alloc),
+            whole: Vec::new(alloc),
+            names: IndexMap::new(alloc),
+            bodies: IndexMap::new(alloc),
+        }
+    }
+
+    /// What a name is declared as.
+    pub fn find(&self, name: &[u8]) -> Option<&Decl>
+        ensures found { option_map (λ d. decl d.now) result ≡ find name.now (names self.now) }
+    {
+        self.names.get(name)
+    }
+
+    /// The number of a function that has a body.
+    pub fn body(&self, name: &[u8]) -> Option<u32>
+        ensures found { result ≡ find name.now (bodies self.now) }
+    {
+        self.bodies.get(name).copied()
+    }
+
+    /// Declares a name that is not declared yet; it goes last. The error is want of memory.
+    pub fn declare(&mut self, name: Vec<u8>, meaning: Decl) -> Result<(), Memory>
+        requires new { find name.items (names self.old) ≡ None }
+        ensures declared { OnOk result (names self.new ≡ names self.old ++ (name.items, decl meaning) ∷ []) }
+        ensures refused { OnErr result (names self.new ≡ names self.old) }
+        ensures layouts { self.new.layouts ≡ self.old.layouts }
+        ensures whole { self.new.whole ≡ self.old.whole }
+        ensures bodies { bodies self.new ≡ bodies self.old }
+    {
+        self.names.insert(name, meaning)?;
+        Ok(())
+    }
+
+    /// Numbers a function with a body that has no number yet; it goes last. The error is want of memory.
+    pub fn set_body(&mut self, name: Vec<u8>, number: u32) -> Result<(), Memory>
+        requires new { find name.items (bodies self.old) ≡ None }
+        ensures numbered { OnOk result (bodies self.new ≡ bodies self.old ++ (name.items, number) ∷ []) }
+        ensures refused { OnErr result (bodies self.new ≡ bodies self.old) }
+        ensures layouts { self.new.layouts ≡ self.old.layouts }
+        ensures whole { self.new.whole ≡ self.old.whole }
+        ensures names { names self.new ≡ names self.old }
+    {
+        self.bodies.insert(name, number)?;
+        Ok(())
+    }
+}
+
+impl Scope {
+    /// A scope that declares nothing yet.
+    pub fn new(alloc: Global) -> Scope
+        ensures empty { scope result ≡ [] }
+    {
+        Scope {
+            names: IndexMap::new(alloc),
+        }
+    }
+
+    /// The object of that name.
+    pub fn find(&self, name: &[u8]) -> Option<&Local>
+        ensures found { option_map (λ l. local l.now) result ≡ find name.now (scope self.now) }
+    {
+        self.names.get(name)
+    }
+
+    /// Declares an object under a name that the scope does not have yet; it goes last. The error is want of memory.
+    pub fn add(&mut self, name: Vec<u8>, object: Local) -> Result<(), Memory>
+        requires new { find name.items (scope self.old) ≡ None }
+        ensures added { OnOk result (scope self.new ≡ scope self.old ++ (name.items, local object) ∷ []) }
+        ensures refused { OnErr result (scope self.new ≡ scope self.old) }
+    {
+        self.names.insert(name, object)?;
+        Ok(())
+    }
+
+    /// The numbers of the objects, in the order of their declarations. The error is want of memory.
+    pub fn numbers(&self, alloc: Global) -> Result<Vec<u32>, Memory>
+        ensures numbers { IfOk result (λ r. r.items ≡ map (λ e. e.1.number) (scope self.now)) }
+    {
+        let numbers = self.names.values().map(|l| l.number).collect::<Vec<u32>>(alloc)?;
+        Ok(numbers)
+    }
+}
+
+/// The object of that name in the innermost scope that has it; the innermost scope comes last.
+pub fn find_local<'a>(name: &[u8], scopes: &'a [Scope]) -> Option<&'a Local>
+    ensures found { option_map (λ l. local l.now) result ≡ find_in name.now (map scope scopes.now) }
+{
+    let mut found = None;
+    for scope in scopes {
+        if let Some(local) = scope.find(name) {
+            found = Some(local);
+        }
+    }
+    found
 }

@@ -1,3 +1,4 @@
+pub mod Stack
 pub mod Values
 pub mod InitExact
 pub mod StatementExact

@@ -9,12 +9,15 @@ mod intrinsics;
 pub mod laws;
 mod names;
 mod nodes;
+mod rules;
 mod texts;
+mod trees;
 mod typing;
 
 pub use error::{CheckErr, at_node, demanded, known, placed};
 pub use intrinsics::{Intrinsic, is_intrinsic};
 pub use names::{Decl, Globals, Local, Scope, find_local};
 pub use nodes::{constant, is_place, span_of};
+pub use rules::check_value;
 pub use texts::Texts;
 pub use typing::{type_expr, type_of_tree, type_value};

@@ -1,12 +1,13 @@
 // What names mean.
 ghost use Rattle.std.specs.Prelude.{◌≡◌, [], ◌∷◌, ◌++◌, None, IfOk, OnOk, OnErr, map, option_map, option_copied};
+ghost use Rattle.indexmap.specs.IndexMap.{values};
 ghost use Rattle.c_exprs.specs.Env.{find, find_in};
 ghost use Rattle.c_exprs.specs.View.{local, decl, scope, names, bodies};
 
 use c_types::{CType, Layout};
 use indexmap::IndexMap;
 use kit_base::{Memory, Seq};
-use std::alloc::Global;
+use std::alloc::{AllocError, Global};
 
 /// An object of a function's call: its number there, and its type.
 #[derive(Drop)]
@@ -128,12 +129,19 @@ impl Scope {
     pub fn numbers(&self, alloc: Global) -> Result<Vec<u32>, Memory>
         ensures numbers { IfOk result (λ r. r.items ≡ map (λ e. e.1.number) (scope self.now)) }
     {
-        let numbers = self.names.values().map(|l| l.number).collect::<Vec<u32>>(alloc)?;
+        let numbers = self.object_numbers(alloc)?;
         Ok(numbers)
+    }
+
+    fn object_numbers(&self, alloc: Global) -> Result<Vec<u32>, AllocError>
+        ensures { IfOk result (λ r. r.items ≡ map (λ l. l.number) (values self.now.names)) }
+    {
+        self.names.values().map(|l| l.number).collect(alloc)
     }
 }
 
 /// The object of that name in the innermost scope that has it; the innermost scope comes last.
+#[tactic(auto, using(crate::proofs::Maps::or_else_assoc))]
 pub fn find_local<'a>(name: &[u8], scopes: &'a [Scope]) -> Option<&'a Local>
     ensures found { option_map (λ l. local l.now) result ≡ find_in name.now (map scope scopes.now) }
 {

@@ -1,0 +1,177 @@
+// The trees of names and members, and types by name.
+ghost use Rattle.std.specs.Prelude.{◌≡◌, map, option_map, slice_get, IfOk};
+ghost use Rattle.c_types.specs.Types.{ArrayY, IntY};
+ghost use Rattle.c_types.specs.View.{ctype, layout, member, texpr};
+ghost use Rattle.c_rules.specs.Kinds.{decayed, pointed};
+ghost use Rattle.c_exprs.specs.declared.error.CheckErr.TheVariants as errors;
+ghost use Rattle.c_exprs.specs.Faults.{placed};
+ghost use Rattle.c_exprs.specs.Nodes.{name_tree, named_type, member_named, layout_of, layout_behind, member_in, member_at, arrow_at, type_of_typed};
+ghost use Rattle.c_exprs.specs.View.{ctx};
+ghost use Rattle.c_exprs.specs.Gives.{Gives};
+
+use crate::error::CheckErr;
+use crate::intrinsics::is_intrinsic;
+use crate::names::{Decl, Globals, Scope, find_local};
+use crate::nodes::is_place;
+use c_rules::{Code, copy_type, is_array};
+use c_tree::Span;
+use c_types::{CType, Layout, Member, TExpr, TKind};
+use kit_base::Name;
+use std::alloc::Global;
+
+/// The code at a node of this span.
+pub(crate) fn refused(span: Span, code: Code) -> CheckErr
+    ensures { result ≡ errors.At code span }
+{
+    CheckErr::At { code, span }
+}
+
+pub(crate) fn node(kind: TKind, ty: CType, span: Span) -> TExpr
+    ensures { result ≡ record { kind = kind; ty = ty; span = span } }
+{
+    TExpr { kind, ty, span }
+}
+
+#[tactic(auto, unfolding(crate::specs::Nodes::name_tree))]
+pub(crate) fn name_tree(
+    alloc: Global,
+    globals: &Globals,
+    scopes: &[Scope],
+    name: &Name,
+    span: Span,
+) -> Result<TExpr, CheckErr>
+    ensures { Gives texpr result (placed span (name_tree (ctx globals.now scopes.now) name.now span)) }
+{
+    if let Some(local) = find_local(name.bytes(), scopes) {
+        let ty = copy_type(alloc, &local.ty)?;
+        return Ok(node(TKind::Local(local.number), ty, span));
+    }
+    match globals.find(name.bytes()) {
+        Some(Decl::Alias(_)) => Err(refused(span, Code::Twice)),
+        Some(Decl::Constant(n)) => Ok(node(TKind::Number(*n), CType::Int, span)),
+        Some(Decl::Object(number, ty)) => {
+            let ty = copy_type(alloc, ty)?;
+            Ok(node(TKind::Global(*number), ty, span))
+        }
+        Some(Decl::Function(_, _)) => Err(refused(span, Code::WrongType)),
+        None => {
+            if is_intrinsic(name.bytes()) {
+                Err(refused(span, Code::WrongType))
+            } else {
+                Err(refused(span, Code::UnknownName))
+            }
+        }
+    }
+}
+
+#[tactic(auto, unfolding(crate::specs::Nodes::named_type))]
+pub(crate) fn named_type(
+    alloc: Global,
+    globals: &Globals,
+    scopes: &[Scope],
+    name: &Name,
+    span: Span,
+) -> Result<CType, CheckErr>
+    ensures { Gives ctype result (placed span (named_type (ctx globals.now scopes.now) name.now)) }
+{
+    match globals.find(name.bytes()) {
+        Some(Decl::Alias(ty)) => Ok(copy_type(alloc, ty)?),
+        Some(Decl::Constant(_)) => Err(refused(span, Code::Twice)),
+        Some(Decl::Object(_, _)) => Err(refused(span, Code::Twice)),
+        Some(Decl::Function(_, _)) => Err(refused(span, Code::Twice)),
+        None => Err(refused(span, Code::UnknownName)),
+    }
+}
+
+fn layout_numbered(layouts: &[Layout], number: u32) -> Option<&Layout>
+    ensures { option_map (λ l. layout l.now) result ≡ slice_get (map layout layouts.now) number }
+{
+    layouts.get(number as usize)
+}
+
+fn layout_of<'a>(layouts: &'a [Layout], ty: &CType) -> Option<&'a Layout>
+    ensures { option_map (λ l. layout l.now) result ≡ layout_of (map layout layouts.now) (ctype ty.now) }
+{
+    match ty {
+        CType::Struct(number) => layout_numbered(layouts, *number),
+        CType::Union(number) => layout_numbered(layouts, *number),
+        CType::Void
+        | CType::Int
+        | CType::Bool
+        | CType::Enum(_)
+        | CType::Pointer(_)
+        | CType::Array(_, _) => None,
+    }
+}
+
+/// The layout of what a pointer, or an array's value, leads to.
+fn layout_behind<'a>(layouts: &'a [Layout], ty: &CType) -> Option<&'a Layout>
+    ensures { option_map (λ l. layout l.now) result ≡ layout_behind (map layout layouts.now) (pointed (decayed (ctype ty.now))) }
+{
+    match ty {
+        CType::Pointer(to) => layout_of(layouts, to),
+        CType::Array(of, _) => layout_of(layouts, of),
+        CType::Void
+        | CType::Int
+        | CType::Bool
+        | CType::Enum(_)
+        | CType::Struct(_)
+        | CType::Union(_) => None,
+    }
+}
+
+fn member_named<'a>(members: &'a [Member], name: &[u8]) -> Option<&'a Member>
+    ensures { option_map (λ m. member m.now) result ≡ member_named name.now (map member members.now) }
+{
+    for m in members {
+        if name == m.name.bytes() {
+            return Some(m);
+        }
+    }
+    None
+}
+
+/// The tree of `x.name`.
+pub(crate) fn member_tree(
+    alloc: Global,
+    layouts: &[Layout],
+    x: TExpr,
+    name: &Name,
+    span: Span,
+) -> Result<TExpr, CheckErr>
+    ensures { Gives texpr result (placed span (member_at span (texpr x) (member_in name.now (layout_of (map layout layouts.now) (type_of_typed (texpr x)))))) }
+{
+    let Some(layout) = layout_of(layouts, &x.ty) else {
+        return Err(refused(span, Code::WrongType));
+    };
+    let Some(member) = member_named(layout.members.as_slice(), name.bytes()) else {
+        return Err(refused(span, Code::UnknownName));
+    };
+    if !is_place(&x) && is_array(&member.ty) {
+        return Err(refused(span, Code::NotAPlace));
+    }
+    let ty = copy_type(alloc, &member.ty)?;
+    let kind = TKind::Member(Box::new(alloc, x)?, member.offset);
+    Ok(node(kind, ty, span))
+}
+
+/// The tree of `x->name`.
+pub(crate) fn arrow_tree(
+    alloc: Global,
+    layouts: &[Layout],
+    x: TExpr,
+    name: &Name,
+    span: Span,
+) -> Result<TExpr, CheckErr>
+    ensures { Gives texpr result (placed span (arrow_at span (texpr x) (member_in name.now (layout_behind (map layout layouts.now) (pointed (decayed (type_of_typed (texpr x)))))))) }
+{
+    let Some(layout) = layout_behind(layouts, &x.ty) else {
+        return Err(refused(span, Code::WrongType));
+    };
+    let Some(member) = member_named(layout.members.as_slice(), name.bytes()) else {
+        return Err(refused(span, Code::UnknownName));
+    };
+    let ty = copy_type(alloc, &member.ty)?;
+    let kind = TKind::Arrow(Box::new(alloc, x)?, member.offset);
+    Ok(node(kind, ty, span))
+}

@@ -7,7 +7,8 @@ use Rattle.c_exprs.specs.Env.{Text}
 use Rattle.c_exprs.specs.Faults.{FaultT}
 use Rattle.c_exprs.specs.View.{scope, names, bodies}
 use Rattle.c_exprs.specs.declared.names.Globals.{Globals}
-use Rattle.c_stmts.specs.State.{Fn, St}
+use Rattle.c_stmts.specs.State.{Fn, St, Labels}
+use Rattle.c_stmts.specs.declared.labels.Labels.{Labels as LabelsOf}
 use Rattle.c_stmts.specs.declared.state.State.{State}
 
 abbrev pub st : State → St
@@ -24,3 +25,6 @@ reached y sq = Ok (y, sq)
 abbrev pub lone : {A : Type 0} → Option A → List A
 lone None = []
 lone (Some x) = x ∷ []
+
+abbrev pub labels : LabelsOf → Labels
+labels seen = record { cases = seen.cases.keys; has_default = seen.has_default }

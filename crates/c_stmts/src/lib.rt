@@ -5,9 +5,11 @@
 #![tactic(auto)]
 
 mod filling;
+mod labels;
 mod objects;
 mod scopes;
 mod sizes;
+mod slots;
 mod state;
 mod statements;
 

@@ -8,6 +8,7 @@ use c_types::{CType, Layout};
 
 /// The size in words of an object of this type, behind objects of `used` words, where all may have at most `limit`. A name that is
 /// not new is Twice; a type without a size is WrongType or InfiniteType; too many words are TooLarge.
+#[tactic(auto, unfolding(crate::specs::State::object_size, crate::specs::State::object_rule, c_rules::specs::Nodes::size_rule, c_rules::specs::Sizes::fits))]
 pub fn object_size(
     layouts: &[Layout],
     whole: &[bool],

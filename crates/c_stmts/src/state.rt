@@ -35,7 +35,8 @@ impl State {
     pub fn open(&mut self, alloc: Global) -> Result<(), Memory>
         ensures opened { OnOk result (st self.new ≡ opened (st self.old)) }
     {
-        Err(Memory)
+        self.scopes.push(Scope::new(alloc))?;
+        Ok(())
     }
 
     /// Whether the innermost scope does not have the name.
@@ -57,7 +58,9 @@ impl State {
         requires new { is_new name.now (st self.old) ≡ true }
         ensures added { OnOk result (st self.new ≡ record { scopes = declare name.now (record { number = length (st self.old).sizes; ty = ctype ty }) (st self.old).scopes; sizes = (st self.old).sizes ++ size ∷ []; texts = (st self.old).texts }) }
     {
-        Err(Memory)
+        let number = self.sizes.next()?;
+        declare(alloc, &mut self.scopes, name, number, ty)?;
+        self.sizes.add(size)
     }
 
     /// Closes the innermost scope, and gives the numbers of its objects in the order of their declarations. The error is want of

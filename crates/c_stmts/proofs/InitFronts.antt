@@ -1,5 +1,5 @@
 -- What comes before the rest of a brace list that is filled from left to right.
-use Rattle.std.proofs.Common.{◌≡◌, ℕ, ◌+◌, Bool, List, [], ◌∷◌, ◌++◌, Result, Ok, Err, refl, ap, length, map, add-one}
+use Rattle.std.proofs.Common.{◌≡◌, ℕ, ◌+◌, Bool, List, [], ◌∷◌, ◌++◌, Result, Ok, Err, refl, ap, length, map, add-one, length-append}
 use Rattle.c_tree.specs.declared.variable.Init.{Init}
 use Rattle.c_tree.specs.Tree.{InitT, InitTs, MoreI}
 use Rattle.c_tree.specs.View.{init, inits}
@@ -57,5 +57,8 @@ before-start c ts global slots all = rw (behind-none slots) (before-none (all_fi
 pub item_count-length : (is : List Init) → item_count (inits (map init is)) ≡ length is
 item_count-length [] = refl
 item_count-length (i ∷ is) = rw (item_count-length is) (add-one (length is))
+
+pub length-push : {A : Type 0} (xs : List A) (x : A) → length (xs ++ x ∷ []) ≡ length xs + 1
+length-push xs x = length-append xs (x ∷ [])
 
 pub ruleset init_steps = (item_count-length, before-start)

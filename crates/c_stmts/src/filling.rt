@@ -13,7 +13,7 @@ ghost use Rattle.c_exprs.specs.Faults.{at, placed};
 ghost use Rattle.c_exprs.specs.Nodes.{type_of_typed, kind_of_typed};
 ghost use Rattle.c_exprs.specs.View.{ctx};
 ghost use Rattle.c_exprs.specs.Gives.{Gives, read};
-ghost use Rattle.c_stmts.specs.Slots.{slots_for, literal_of, is_null_or_text, is_fixed, text_fills, local_fills, global_fills, value_fills, fills, filled};
+ghost use Rattle.c_stmts.specs.Slots.{slots_for, item_count, has_room, literal_of, is_null_or_text, is_fixed, text_fills, local_fills, global_fills, value_fills, fills, filled};
 ghost use Rattle.c_stmts.specs.InitTyping.{filled_by, all_filled_by};
 ghost use Rattle.c_stmts.specs.InitTypes.{Fills};
 ghost use Rattle.c_stmts.specs.InitBreaks.{NoFill};
@@ -22,7 +22,7 @@ use crate::slots::{has_room, slot_at};
 use c_exprs::{CheckErr, Globals, Scope, Texts, constant, demanded, span_of, type_value};
 use c_rules::{Code, converts, is_structure};
 use c_tree::{Init, Span};
-use c_types::{CType, TExpr, TInit, TKind};
+use c_types::{CType, Layout, TExpr, TInit, TKind};
 use kit_base::Seq;
 use std::alloc::Global;
 
@@ -151,8 +151,14 @@ fn filled(span: Span, global: bool, target: Option<&CType>, x: TExpr) -> Result<
     }
 }
 
+/// Whether the items of a brace list have a place each.
+fn have_room(layouts: &[Layout], target: Option<&CType>, items: &[Init]) -> bool
+    ensures { result ≡ has_room (item_count (inits (map init items.now))) (slots_for (map layout layouts.now) (option_map (λ t. ctype t.now) target.entry)) }
+{
+    has_room(layouts, target, items.len())
+}
+
 #[cycle(filling)]
-#[tactic(auto, using(crate::proofs::InitFronts::init_steps))]
 fn filled_by(
     alloc: Global,
     globals: &Globals,
@@ -173,7 +179,7 @@ fn filled_by(
         Init::List(items, span) => {
             let items = items.as_slice();
             let xs = all_filled_by(alloc, globals, scopes, texts, items, global, target)?;
-            let room = has_room(&globals.layouts, target, items.len());
+            let room = have_room(&globals.layouts, target, items);
             demanded(*span, Code::WrongType, room)?;
             Ok(TInit::List(Seq::from_vec(xs)))
         }

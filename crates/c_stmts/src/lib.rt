@@ -12,6 +12,7 @@ mod sizes;
 mod slots;
 mod state;
 mod statements;
+mod variables;
 
 pub use filling::fill;
 pub use objects::object_size;

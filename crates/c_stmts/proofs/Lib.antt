@@ -2,6 +2,9 @@ pub mod Stack
 pub mod Places
 pub mod InitFronts
 pub mod VarFronts
+pub mod StmtFronts
+pub mod Declared
+pub mod Built
 pub mod Values
 pub mod InitExact
 pub mod StatementExact

@@ -1,8 +1,13 @@
 -- What the values that statements are typed with stand for.
 use Rattle.std.specs.Prelude.{List, [], ◌∷◌, map, Option, Some, None, Result, Ok}
-use Rattle.c_types.specs.Types.{Ty}
+use Rattle.std.specs.Global.{Box}
+use Rattle.c_tree.specs.Tree.{MaybeS, NoneS, SomeS}
+use Rattle.c_tree.specs.View.{stmt}
+use Rattle.c_tree.specs.declared.statement.Stmt.{Stmt}
+use Rattle.c_types.specs.Typed.{MaybeZ, NoneZ, SomeZ}
 use Rattle.c_types.specs.declared.ctype.CType.{CType}
-use Rattle.c_types.specs.View.{ctype, layout}
+use Rattle.c_types.specs.declared.typed.TStmt.{TStmt}
+use Rattle.c_types.specs.View.{ctype, layout, tstmt}
 use Rattle.c_exprs.specs.Env.{Text}
 use Rattle.c_exprs.specs.Faults.{FaultT}
 use Rattle.c_exprs.specs.View.{scope, names, bodies}
@@ -28,3 +33,13 @@ lone (Some x) = x ∷ []
 
 abbrev pub labels : LabelsOf → Labels
 labels seen = record { cases = seen.cases.keys; has_default = seen.has_default }
+
+-- ---- statements that may be missing
+
+abbrev pub maybe_s : Option (Box Stmt) → MaybeS
+maybe_s None = NoneS
+maybe_s (Some s) = SomeS (stmt s.value)
+
+abbrev pub maybe_z : Option TStmt → MaybeZ
+maybe_z None = NoneZ
+maybe_z (Some s) = SomeZ (tstmt s)

@@ -4,6 +4,7 @@
 //! c_exprs for expressions, on c_rules, c_types and c_tree, and on indexmap for the labels of a switch.
 #![tactic(auto)]
 
+mod building;
 mod filling;
 mod labels;
 mod objects;

@@ -62,7 +62,8 @@ fn type_in(
     span: Span,
     of: &TypeTree,
 ) -> Result<CType, CheckErr>
-    ensures { Gives (λ r. (ctype r, st state.new)) result (type_in (fn_of globals.now gives.now) (st state.old) span (type of.now)) }
+    ensures gives { Gives (λ r. (ctype r, st state.new)) result (type_in (fn_of globals.now gives.now) (st state.old) span (type of.now)) }
+    ensures sizes { (st state.new).sizes ≡ (st state.old).sizes }
 {
     let ty = type_of_tree(alloc, globals, &state.scopes, &mut state.texts, span, of)?;
     Ok(ty)

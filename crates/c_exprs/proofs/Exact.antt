@@ -1,13 +1,13 @@
 -- The rules and the function agree: an expression has exactly the typed tree that `typed` gives, or breaks first what it gives.
-use Rattle.std.proofs.Common.{◌≡◌, ℕ, ◌+◌, Bool, true, false, List, length, Option, Some, None, Result, Ok, Err, refl, sym, subst, ap, ◌∙◌}
+use Rattle.std.proofs.Common.{◌≡◌, ℕ, ◌+◌, Bool, true, false, List, length, Some, None, Result, Ok, Err, refl, sym, subst, ap, ◌∙◌}
 use Rattle.c_tree.specs.declared.span.Span.{Span}
 use Rattle.c_tree.specs.declared.operator.UnOp.{UnOp}
 use Rattle.c_tree.specs.declared.operator.StepOp.{StepOp}
 use Rattle.c_tree.specs.declared.operator.BinOp.{BinOp}
 use Rattle.c_tree.specs.Tree.{ExprT, NameE, NumberE, TextE, NullE, ParenE, UnaryE, BinaryE, AssignE, StepE, IndexE, MemberE, ArrowE, CallE, CastE, SizeOfE, ExprTs, NoE, MoreE, TypeT}
 use Rattle.c_tree.specs.Tree as tree
-use Rattle.c_types.specs.Types.{Ty, VoidY, IntY, BoolY, PointerY, ArrayY}
-use Rattle.c_types.specs.Typed.{TExprT, Typed, TKindT, NumberK, NullK, LiteralK, UnaryK, BinaryK, AssignK, StepK, IndexK, CastK, TExprTs, NoX, MoreX}
+use Rattle.c_types.specs.Types.{Ty, IntY, PointerY, ArrayY}
+use Rattle.c_types.specs.Typed.{TExprT, Typed, TKindT, NumberK, LiteralK, UnaryK, BinaryK, AssignK, StepK, IndexK, CastK, TExprTs, MoreX}
 use Rattle.c_rules.specs.declared.code.Code.TheVariants.{NotConstant}
 use Rattle.c_rules.specs.Nodes.{needs_place, unary_rule, binary_rule, assign_rule, compound_rule, step_rule, index_rule, cast_rule, size_rule, array_rule}
 use Rattle.c_exprs.specs.Env.{Text, Ctx}
@@ -39,7 +39,7 @@ ValueOut c ts e (Ok x) = Values c ts e x.0 x.1
 ValueOut c ts e (Err f) = NoValue c ts e f
 
 value_rest : (c : Ctx) (ts : List Text) (e : ExprT) (x : TExprT × List Text) → Types c ts e x.0 x.1 → (r : Result (Unit {0}) FaultT) → at_node (span_of e) (value_rule c.layouts c.whole (type_of_typed x.0)) ≡ r
-  → ValueOut c ts e (r >>= λ _. Ok x)
+    → ValueOut c ts e (r >>= λ _. Ok x)
 value_rest c ts e x g (Ok tt) h = good.value g h
 value_rest c ts e x g (Err f) h = bad.value g h
 
@@ -255,13 +255,13 @@ mutual
 
 -- ---- what is by the rules is given by the function
 
-value_known : (c : Ctx) (ts us : List Text) (e : ExprT) (x : TExprT) → typed c ts e ≡ Ok (x, us) → at_node (span_of e) (value_rule c.layouts c.whole (type_of_typed x)) ≡ Ok tt
-  → as_value c (span_of e) (typed c ts e) ≡ Ok (x, us)
+pub value_known : (c : Ctx) (ts us : List Text) (e : ExprT) (x : TExprT) → typed c ts e ≡ Ok (x, us) → at_node (span_of e) (value_rule c.layouts c.whole (type_of_typed x)) ≡ Ok tt
+    → as_value c (span_of e) (typed c ts e) ≡ Ok (x, us)
 unfolding as_value
 value_known c ts us e x g h = rw (g, h) refl
 
 value_at : (c : Ctx) (ts us : List Text) (e : ExprT) (x : TExprT) (f : FaultT) → typed c ts e ≡ Ok (x, us) → at_node (span_of e) (value_rule c.layouts c.whole (type_of_typed x)) ≡ Err f
-  → as_value c (span_of e) (typed c ts e) ≡ Err f
+    → as_value c (span_of e) (typed c ts e) ≡ Err f
 unfolding as_value
 value_at c ts us e x f g h = rw (g, h) refl
 
@@ -377,6 +377,18 @@ typed_so c ts us e x is = let P : Typer TExprT → Type 0 = λ r. Out c ts e r i
 
 pub breaks_so : (c : Ctx) (ts : List Text) (e : ExprT) (f : FaultT) → typed c ts e ≡ Err f → Breaks c ts e f
 breaks_so c ts e f is = let P : Typer TExprT → Type 0 = λ r. Out c ts e r in subst P is (outcome c ts e)
+
+pub values_so : (c : Ctx) (ts us : List Text) (e : ExprT) (x : TExprT) → as_value c (span_of e) (typed c ts e) ≡ Ok (x, us) → Values c ts e x us
+values_so c ts us e x is = let P : Typer TExprT → Type 0 = λ r. ValueOut c ts e r in subst P is (value_out c ts e (typed c ts e) (outcome c ts e))
+
+pub no_value_so : (c : Ctx) (ts : List Text) (e : ExprT) (f : FaultT) → as_value c (span_of e) (typed c ts e) ≡ Err f → NoValue c ts e f
+no_value_so c ts e f is = let P : Typer TExprT → Type 0 = λ r. ValueOut c ts e r in subst P is (value_out c ts e (typed c ts e) (outcome c ts e))
+
+pub names_so : (c : Ctx) (ts us : List Text) (s : Span) (of : TypeT) (x : Ty) → type_of c ts s of ≡ Ok (x, us) → Names c ts s of x us
+names_so c ts us s of x is = let P : Typer Ty → Type 0 = λ r. TypeOut c ts s of r in subst P is (type_outcome c ts s of)
+
+pub no_name_so : (c : Ctx) (ts : List Text) (s : Span) (of : TypeT) (f : FaultT) → type_of c ts s of ≡ Err f → NoName c ts s of f
+no_name_so c ts s of f is = let P : Typer Ty → Type 0 = λ r. TypeOut c ts s of r in subst P is (type_outcome c ts s of)
 
 -- one typed tree at most
 pub one_tree : {c : Ctx} {ts us vs : List Text} {e : ExprT} {x y : TExprT} → Types c ts e x us → Types c ts e y vs → x ≡ y

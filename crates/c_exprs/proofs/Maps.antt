@@ -1,11 +1,10 @@
 -- Maps of names, and the words of texts.
-use Rattle.std.specs.Prelude.{Vec, sum_by, not}
+use Rattle.std.specs.Prelude.{Vec}
 use Rattle.std.specs.Option.{option_copied}
 use Rattle.std.specs.Str.{bytes_eq}
 use Rattle.std.specs.Map.{lookup, values_of}
 use Rattle.std.specs.declared.alloc.Global.{Global}
 use Rattle.std.proofs.lemmas.List.Sums.{sum_by-cons}
-use Rattle.std.proofs.lemmas.List.{map_push}
 use Rattle.std.proofs.Common.{◌≡◌, ℕ, ◌+◌, ◌≤◌, Bool, true, false, cond, List, [], ◌∷◌, ◌++◌, length, map, Option, Some, None, option_map, Bor, refl, sym, ap, ◌∙◌, arith}
 use Rattle.indexmap.specs.IndexMap.{insert_entry}
 use Rattle.c_exprs.specs.Env.{Text, find, or_else, LocalD}

@@ -1,17 +1,17 @@
 -- The rule that an expression breaks first, in the order of reading: its parts from left to right, then the node.
-use Rattle.std.specs.Prelude.{◌≡◌, ℕ, ◌+◌, Bool, true, false, List, length, Option, Some, None, Ok, Err}
+use Rattle.std.specs.Prelude.{◌≡◌, ℕ, Bool, true, false, List, Some, None, Ok, Err}
 use Rattle.c_tree.specs.declared.span.Span.{Span}
 use Rattle.c_tree.specs.declared.operator.UnOp.{UnOp}
 use Rattle.c_tree.specs.declared.operator.StepOp.{StepOp}
 use Rattle.c_tree.specs.declared.operator.BinOp.{BinOp}
 use Rattle.c_tree.specs.Tree.{ExprT, NameE, NumberE, TextE, NullE, ParenE, UnaryE, BinaryE, AssignE, StepE, IndexE, MemberE, ArrowE, CallE, CastE, SizeOfE, ExprTs, NoE, MoreE, TypeT}
 use Rattle.c_tree.specs.Tree as tree
-use Rattle.c_types.specs.Types.{Ty, VoidY, IntY, BoolY, PointerY, ArrayY}
-use Rattle.c_types.specs.Typed.{TExprT, Typed, TKindT, NumberK, NullK, LiteralK, UnaryK, BinaryK, AssignK, StepK, IndexK, CastK, TExprTs, NoX, MoreX}
+use Rattle.c_types.specs.Types.{Ty}
+use Rattle.c_types.specs.Typed.{TExprT, TExprTs}
 use Rattle.c_rules.specs.declared.code.Code.TheVariants.{NotConstant}
 use Rattle.c_rules.specs.Nodes.{needs_place, unary_rule, binary_rule, assign_rule, compound_rule, step_rule, index_rule, cast_rule, size_rule, array_rule}
 use Rattle.c_exprs.specs.Env.{Text, Ctx}
-use Rattle.c_exprs.specs.Faults.{FaultT, ◌>>=◌, placed, at_node, known, with_text}
+use Rattle.c_exprs.specs.Faults.{FaultT, placed, at_node, known, with_text}
 use Rattle.c_exprs.specs.Nodes.{type_of_typed, span_of, is_place, value_rule, name_tree, named_type, member_tree, arrow_tree, constant}
 use Rattle.c_exprs.specs.Calls.{names_port, call_node}
 use Rattle.c_exprs.specs.Types.{Types, Values, Used, AllValues, Names}
@@ -74,4 +74,4 @@ mutual
     array_count : {ts us : List Text} {s : Span} {of : TypeT} {n : ExprT} {x : TExprT} {f : FaultT} → Values c ts n x us → known (span_of n) NotConstant (constant x) ≡ Err f → NoName c ts s (tree.ArrayY of n) f
     array_of : {ts us : List Text} {s : Span} {of : TypeT} {n : ExprT} {x : TExprT} {k : ℕ} {f : FaultT} → Values c ts n x us → known (span_of n) NotConstant (constant x) ≡ Ok k → NoName c us s of f → NoName c ts s (tree.ArrayY of n) f
     array : {ts us vs : List Text} {s : Span} {of : TypeT} {n : ExprT} {x : TExprT} {k : ℕ} {t : Ty} {f : FaultT} → Values c ts n x us → known (span_of n) NotConstant (constant x) ≡ Ok k → Names c us s of t vs → at_node (span_of n) (array_rule c.layouts c.whole t k) ≡ Err f →
-      NoName c ts s (tree.ArrayY of n) f
+        NoName c ts s (tree.ArrayY of n) f

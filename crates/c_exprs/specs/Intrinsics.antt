@@ -1,5 +1,5 @@
 -- The functions that every unit has, which are the console's own.
-use Rattle.std.specs.Prelude.{ℕ, List, Option, Some, None, codes, if◌then◌else◌}
+use Rattle.std.specs.Prelude.{Option, Some, None, codes, if◌then◌else◌}
 use Rattle.std.specs.Str.{bytes_eq}
 use Rattle.c_exprs.specs.Env.{Text}
 use Rattle.c_exprs.specs.declared.intrinsics.Intrinsic.{Intrinsic}

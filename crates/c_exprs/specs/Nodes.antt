@@ -1,12 +1,11 @@
 -- The rules of nodes that look at names, members and constants.
-use Rattle.std.specs.Prelude.{ℕ, ◌+◌, Bool, true, false, ◌&&◌, ◌||◌, not, List, [], ◌∷◌, slice_get, Option, Some, None, option_and_then, Result, Ok, Err, if◌then◌else◌}
+use Rattle.std.specs.Prelude.{ℕ, Bool, true, false, ◌||◌, not, List, [], ◌∷◌, slice_get, Option, Some, None, option_and_then, Result, Ok, Err, if◌then◌else◌}
 use Rattle.std.specs.Str.{bytes_eq}
 use Rattle.c_tree.specs.declared.span.Span.{Span}
-use Rattle.c_tree.specs.declared.operator.UnOp.{UnOp}
-use Rattle.c_tree.specs.declared.operator.UnOp.TheVariants.{Minus, Plus, Not, Flip, Deref, Address}
+use Rattle.c_tree.specs.declared.operator.UnOp.TheVariants.{Deref}
 use Rattle.c_tree.specs.Tree.{ExprT, NameE, NumberE, TextE, NullE, ParenE, UnaryE, BinaryE, AssignE, StepE, IndexE, MemberE, ArrowE, CallE, CastE, SizeOfE}
-use Rattle.c_types.specs.Types.{Ty, VoidY, IntY, BoolY, EnumY, StructY, UnionY, PointerY, ArrayY, MemberT, LayoutT}
-use Rattle.c_types.specs.Typed.{TExprT, Typed, TKindT, NumberK, NullK, LiteralK, GlobalK, LocalK, UnaryK, BinaryK, AssignK, StepK, IndexK, MemberK, ArrowK, CastK, CallK, InK, OutK, WaitK, HaltK, CardK}
+use Rattle.c_types.specs.Types.{Ty, IntY, StructY, UnionY, MemberT, LayoutT}
+use Rattle.c_types.specs.Typed.{TExprT, Typed, TKindT, NumberK, LiteralK, GlobalK, LocalK, UnaryK, BinaryK, IndexK, MemberK, ArrowK}
 use Rattle.c_rules.specs.declared.code.Code.{Code}
 use Rattle.c_rules.specs.declared.code.Code.TheVariants.{UnknownName, Twice, WrongType, NotAPlace, InfiniteType, TooLarge}
 use Rattle.c_rules.specs.Kinds.{is_array, is_structure, decayed, pointed}
@@ -59,8 +58,9 @@ is_place (Typed kind ty s) = is_place_kind kind
 -- A structure or union is a value where it is declared whole and has at most 4,096 words; other values have no such rule.
 unfoldable pub value_rule : List LayoutT → List Bool → Ty → Rule (Unit {0})
 value_rule layouts whole ty = record {
-    gives = Some tt;
-    demands = demand InfiniteType (not (is_structure ty) || is_whole whole ty) ∷ demand TooLarge (not (is_structure ty) || fits layouts value_limit ty) ∷ [] }
+  gives = Some tt;
+  demands = demand InfiniteType (not (is_structure ty) || is_whole whole ty) ∷ demand TooLarge (not (is_structure ty) || fits layouts value_limit ty) ∷ [];
+}
 
 -- ---- names
 

@@ -1,5 +1,5 @@
 -- The typing of expressions by rules.
-use Rattle.std.specs.Prelude.{◌≡◌, ℕ, ◌+◌, Bool, true, false, List, length, Option, Some, None, Ok, Err}
+use Rattle.std.specs.Prelude.{◌≡◌, ℕ, ◌+◌, Bool, true, false, List, length, Some, None, Ok}
 use Rattle.c_tree.specs.declared.span.Span.{Span}
 use Rattle.c_tree.specs.declared.operator.UnOp.{UnOp}
 use Rattle.c_tree.specs.declared.operator.StepOp.{StepOp}
@@ -11,7 +11,7 @@ use Rattle.c_types.specs.Typed.{TExprT, Typed, TKindT, NumberK, NullK, LiteralK,
 use Rattle.c_rules.specs.declared.code.Code.TheVariants.{NotConstant}
 use Rattle.c_rules.specs.Nodes.{needs_place, unary_rule, binary_rule, assign_rule, compound_rule, step_rule, index_rule, cast_rule, size_rule, array_rule}
 use Rattle.c_exprs.specs.Env.{Text, Ctx}
-use Rattle.c_exprs.specs.Faults.{FaultT, ◌>>=◌, placed, at_node, known, with_text}
+use Rattle.c_exprs.specs.Faults.{placed, at_node, known, with_text}
 use Rattle.c_exprs.specs.Nodes.{type_of_typed, span_of, is_place, value_rule, name_tree, named_type, member_tree, arrow_tree, constant}
 use Rattle.c_exprs.specs.Calls.{names_port, call_node}
 
@@ -26,9 +26,9 @@ mutual
     unary : {ts us : List Text} {op : UnOp} {a : ExprT} {s : Span} {x : TExprT} {u : Ty} → Used c ts (needs_place op) a x us → at_node s (unary_rule op (type_of_typed x) (is_place x)) ≡ Ok u → Types c ts (UnaryE op a s) (Typed (UnaryK op x) u s) us
     binary : {ts us vs : List Text} {op : BinOp} {a b : ExprT} {s : Span} {x y : TExprT} {u : Ty} → Values c ts a x us → Values c us b y vs → at_node s (binary_rule c.whole op (type_of_typed x) (type_of_typed y)) ≡ Ok u → Types c ts (BinaryE op a b s) (Typed (BinaryK op x y) u s) vs
     assign : {ts us vs : List Text} {a b : ExprT} {s : Span} {x y : TExprT} {u : Ty} → Types c ts a x us → Values c us b y vs → at_node s (assign_rule c.layouts c.whole (type_of_typed x) (is_place x) (type_of_typed y)) ≡ Ok u →
-      Types c ts (AssignE None a b s) (Typed (AssignK None x y) u s) vs
+        Types c ts (AssignE None a b s) (Typed (AssignK None x y) u s) vs
     compound : {ts us vs : List Text} {op : BinOp} {a b : ExprT} {s : Span} {x y : TExprT} {u : Ty} → Types c ts a x us → Values c us b y vs → at_node s (compound_rule c.whole op (type_of_typed x) (is_place x) (type_of_typed y)) ≡ Ok u →
-      Types c ts (AssignE (Some op) a b s) (Typed (AssignK (Some op) x y) u s) vs
+        Types c ts (AssignE (Some op) a b s) (Typed (AssignK (Some op) x y) u s) vs
     step : {ts us : List Text} {op : StepOp} {a : ExprT} {s : Span} {x : TExprT} {u : Ty} → Types c ts a x us → at_node s (step_rule c.whole op (type_of_typed x) (is_place x)) ≡ Ok u → Types c ts (StepE op a s) (Typed (StepK op x) u s) us
     index : {ts us vs : List Text} {a b : ExprT} {s : Span} {x y : TExprT} {u : Ty} → Values c ts a x us → Values c us b y vs → at_node s (index_rule c.whole (type_of_typed x) (type_of_typed y)) ≡ Ok u → Types c ts (IndexE a b s) (Typed (IndexK x y) u s) vs
     member : {ts us : List Text} {a : ExprT} {n : Text} {s : Span} {x y : TExprT} → Types c ts a x us → placed s (member_tree c s x n) ≡ Ok y → Types c ts (MemberE a n s) y us
@@ -60,4 +60,4 @@ mutual
     named : {ts : List Text} {s : Span} {n : Text} {t : Ty} → placed s (named_type c n) ≡ Ok t → Names c ts s (tree.NamedY n) t ts
     pointer : {ts us : List Text} {s : Span} {to : TypeT} {t : Ty} → Names c ts s to t us → Names c ts s (tree.PointerY to) (PointerY t) us
     array : {ts us vs : List Text} {s : Span} {of : TypeT} {n : ExprT} {x : TExprT} {k : ℕ} {t u : Ty} → Values c ts n x us → known (span_of n) NotConstant (constant x) ≡ Ok k → Names c us s of t vs → at_node (span_of n) (array_rule c.layouts c.whole t k) ≡ Ok u →
-      Names c ts s (tree.ArrayY of n) u vs
+        Names c ts s (tree.ArrayY of n) u vs

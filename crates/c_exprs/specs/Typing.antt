@@ -1,14 +1,11 @@
 -- The typing of expressions: an equation for each form, the parts from left to right, then the rules of the node. The texts so far
 -- come in, and go out with those of the part.
-use Rattle.std.specs.Prelude.{ℕ, ◌+◌, Bool, true, false, List, length, Option, Some, None, Result, Ok, Err}
+use Rattle.std.specs.Prelude.{◌+◌, Bool, true, false, List, length, Some, None, Result, Ok}
 use Rattle.c_tree.specs.declared.span.Span.{Span}
-use Rattle.c_tree.specs.declared.operator.UnOp.{UnOp}
-use Rattle.c_tree.specs.declared.operator.StepOp.{StepOp}
-use Rattle.c_tree.specs.declared.operator.BinOp.{BinOp}
 use Rattle.c_tree.specs.Tree.{ExprT, NameE, NumberE, TextE, NullE, ParenE, UnaryE, BinaryE, AssignE, StepE, IndexE, MemberE, ArrowE, CallE, CastE, SizeOfE, ExprTs, NoE, MoreE, TypeT}
 use Rattle.c_tree.specs.Tree as tree
 use Rattle.c_types.specs.Types.{Ty, VoidY, IntY, BoolY, PointerY, ArrayY}
-use Rattle.c_types.specs.Typed.{TExprT, Typed, TKindT, NumberK, NullK, LiteralK, UnaryK, BinaryK, AssignK, StepK, IndexK, CastK, TExprTs, NoX, MoreX}
+use Rattle.c_types.specs.Typed.{TExprT, Typed, NumberK, NullK, LiteralK, UnaryK, BinaryK, AssignK, StepK, IndexK, CastK, TExprTs, NoX, MoreX}
 use Rattle.c_rules.specs.declared.code.Code.TheVariants.{NotConstant}
 use Rattle.c_rules.specs.Nodes.{needs_place, unary_rule, binary_rule, assign_rule, compound_rule, step_rule, index_rule, cast_rule, size_rule, array_rule}
 use Rattle.c_exprs.specs.Env.{Text, Ctx}
@@ -31,15 +28,19 @@ unfoldable pub as_used : Ctx → Span → Bool → Typer TExprT → Typer TExprT
 as_used c s true r = r
 as_used c s false r = as_value c s r
 
+-- a text is an array of its words, the last one 0
+abbrev pub text_tree : Span → List Text → Text → Typer TExprT
+text_tree s ts t = do
+  k ← with_text s ts t
+  Ok (Typed (LiteralK k.0) (ArrayY IntY (length t + 1)) s, k.1)
+
 abbrev mutual
   pub typed : Ctx → List Text → ExprT → Typer TExprT
   typed c ts (NameE n s) = do
     x ← placed s (name_tree c n s)
     Ok (x, ts)
   typed c ts (NumberE n s) = Ok (Typed (NumberK n) IntY s, ts)
-  typed c ts (TextE t s) = do
-    k ← with_text s ts t
-    Ok (Typed (LiteralK k.0) (ArrayY IntY (length t + 1)) s, k.1)
+  typed c ts (TextE t s) = text_tree s ts t
   typed c ts (NullE s) = Ok (Typed NullK (PointerY VoidY) s, ts)
   typed c ts (ParenE a s) = do
     x ← typed c ts a

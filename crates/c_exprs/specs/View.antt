@@ -1,6 +1,10 @@
 -- What the program's names and scopes stand for.
 use Rattle.std.specs.Prelude.{ℕ, List, map}
-use Rattle.c_types.specs.View.{ctype, layout}
+use Rattle.c_types.specs.declared.ctype.CType.{CType}
+use Rattle.c_types.specs.declared.typed.TKind.{TKind, fold-TKind}
+use Rattle.c_types.specs.Types.{Ty}
+use Rattle.c_types.specs.Typed.{TExprT, TKindT}
+use Rattle.c_types.specs.View.{ctype, layout, kind_layer, texpr_layer}
 use Rattle.c_exprs.specs.Env.{Text, LocalD, Decl as DeclT, TypeD, ConstantD, GlobalD, FunctionD, Ctx}
 use Rattle.c_exprs.specs.declared.names.Local.{Local}
 use Rattle.c_exprs.specs.declared.names.Decl.{Decl}
@@ -28,3 +32,10 @@ bodies g = map (λ e. (e.0.items, e.1)) g.bodies.entries
 
 abbrev pub ctx : Globals → List Scope → Ctx
 ctx g ss = record { layouts = map layout g.layouts.items; whole = g.whole.items; names = names g; bodies = bodies g; scopes = map scope ss }
+
+-- what a call is, and the type of what it gives
+abbrev pub tkind : TKind → TKindT
+tkind = fold-TKind TKindT TExprT kind_layer texpr_layer
+
+abbrev pub called : TKind × CType → TKindT × Ty
+called r = (tkind r.0, ctype r.1)

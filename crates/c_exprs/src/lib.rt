@@ -4,11 +4,13 @@
 //! kit_base, v32_isa for the ports, c_tree, c_types and c_rules.
 #![tactic(auto)]
 
+mod calls;
 mod error;
 mod intrinsics;
 pub mod laws;
 mod names;
 mod nodes;
+mod ports;
 mod rules;
 mod texts;
 mod trees;
@@ -21,3 +23,6 @@ pub use nodes::{constant, is_place, span_of};
 pub use rules::check_value;
 pub use texts::Texts;
 pub use typing::{type_expr, type_of_tree, type_value};
+
+#[cfg(test)]
+mod tests;

@@ -97,7 +97,10 @@ pub(crate) fn compound_at(
 ) -> Result<CType, CheckErr>
     ensures { Gives ctype result (at_node span (compound_rule globals.now.whole.items op (ctype to.now) place (ctype from.now))) }
 {
-    at_node(span, compound_type(alloc, &globals.whole, op, to, place, from))
+    at_node(
+        span,
+        compound_type(alloc, &globals.whole, op, to, place, from),
+    )
 }
 
 #[tactic(auto, using(crate::proofs::Placing::given_at))]

@@ -1,5 +1,5 @@
 // The texts of a unit, which are the literals of its program.
-ghost use Rattle.std.specs.Prelude.{◌≡◌, ◌≤◌, []};
+ghost use Rattle.std.specs.Prelude.{◌≡◌, ◌≤◌, ◌<◌, [], length, OnOk};
 ghost use Rattle.c_exprs.specs.Faults.{text_words, with_text};
 ghost use Rattle.c_exprs.specs.Gives.{Gives};
 
@@ -43,6 +43,7 @@ impl Texts {
     #[tactic(auto, using(crate::proofs::Maps::length_words), unfolding(crate::specs::Faults::with_text))]
     pub fn add(&mut self, alloc: Global, text: &Name, span: Span) -> Result<u32, CheckErr>
         ensures added { Gives (λ k. (k, self.new)) result (with_text span self.old text.now) }
+        ensures short { OnOk result (length text.now < 4000000) }
     {
         let long = text.bytes().len();
         if long >= 4_000_000 || self.words + (long as u32 + 1) > 4_000_000 {

@@ -1,27 +1,225 @@
 // The typing of expressions.
-ghost use Rattle.std.specs.Prelude.{◌≡◌, ℕ, List, IfOk, Err};
+ghost use Rattle.std.specs.Prelude.{◌≡◌, List, IfOk, Err, map};
 ghost use Rattle.c_tree.specs.declared.span.Span.{Span};
-ghost use Rattle.c_tree.specs.View.{expr, type};
+ghost use Rattle.c_tree.specs.View.{expr, exprs, type};
 ghost use Rattle.c_types.specs.Types.{Ty};
 ghost use Rattle.c_types.specs.Typed.{TExprT};
-ghost use Rattle.c_types.specs.View.{ctype, texpr};
+ghost use Rattle.c_types.specs.View.{ctype, texpr, texprs};
+ghost use Rattle.c_rules.specs.Nodes.{needs_place};
 ghost use Rattle.c_rules.specs.declared.code.Code.{Code};
 ghost use Rattle.c_exprs.specs.declared.error.CheckErr.TheVariants.{At};
 ghost use Rattle.c_exprs.specs.Env.{Text};
 ghost use Rattle.c_exprs.specs.Faults.{at};
 ghost use Rattle.c_exprs.specs.Nodes.{span_of};
-ghost use Rattle.c_exprs.specs.Typing.{as_value, typed, type_of};
+ghost use Rattle.c_exprs.specs.Typing.{as_value, text_tree, typed, all_valued, type_of};
 ghost use Rattle.c_exprs.specs.Types.{Types, Values, Names};
 ghost use Rattle.c_exprs.specs.Breaks.{Breaks, NoValue, NoName};
 ghost use Rattle.c_exprs.specs.View.{ctx};
 ghost use Rattle.c_exprs.specs.Gives.{Gives, read};
 
-use crate::error::CheckErr;
+use crate::calls::{call_node, names_port};
+use crate::error::{CheckErr, known};
 use crate::names::{Globals, Scope};
+use crate::nodes::{constant, is_place, span_of};
+use crate::rules::{
+    array_at, assign_at, binary_at, cast_at, compound_at, index_at, size_at, step_at, unary_at,
+    value_at,
+};
 use crate::texts::Texts;
-use c_tree::{Expr, Span, TypeTree};
-use c_types::{CType, TExpr};
+use crate::trees::{arrow_tree, member_tree, name_tree, named_type, node};
+use c_rules::{Code, array_of, pointer_to};
+use c_tree::{Expr, Span, TypeTree, UnOp};
+use c_types::{CType, TExpr, TKind};
+use kit_base::Name;
 use std::alloc::Global;
+
+fn text_tree(alloc: Global, texts: &mut Texts, text: &Name, span: Span) -> Result<TExpr, CheckErr>
+    ensures { Gives (λ r. (texpr r, texts.new)) result (text_tree span texts.old text.now) }
+{
+    let number = texts.add(alloc, text, span)?;
+    let ty = array_of(alloc, &CType::Int, text.bytes().len() as u32 + 1)?;
+    Ok(node(TKind::Literal(number), ty, span))
+}
+
+/// Whether an operator's operand is kept as a place, and its value not asked for.
+fn needs_place(op: UnOp) -> bool
+    ensures { result ≡ needs_place op }
+{
+    match op {
+        UnOp::Address => true,
+        UnOp::Minus | UnOp::Plus | UnOp::Not | UnOp::Flip | UnOp::Deref => false,
+    }
+}
+
+#[cycle(typing)]
+#[tactic(auto, unfolding(crate::specs::Typing::as_value, crate::specs::Typing::as_used, crate::specs::Nodes::member_tree, crate::specs::Nodes::arrow_tree))]
+fn typed(
+    alloc: Global,
+    globals: &Globals,
+    scopes: &[Scope],
+    texts: &mut Texts,
+    e: &Expr,
+) -> Result<TExpr, CheckErr>
+    ensures { Gives (λ r. (texpr r, texts.new)) result (typed (ctx globals.now scopes.now) texts.old (expr e.now)) }
+{
+    match e {
+        Expr::Name(name, span) => Ok(name_tree(alloc, globals, scopes, name, *span)?),
+        Expr::Number(n, span) => Ok(node(TKind::Number(*n), CType::Int, *span)),
+        Expr::Text(text, span) => text_tree(alloc, texts, text, *span),
+        Expr::Null(span) => {
+            let ty = pointer_to(alloc, &CType::Void)?;
+            Ok(node(TKind::Null, ty, *span))
+        }
+        Expr::Paren(a, _) => Ok(typed(alloc, globals, scopes, texts, a)?),
+        Expr::Unary(op, a, span) => {
+            let x = typed(alloc, globals, scopes, texts, a)?;
+            if !needs_place(*op) {
+                value_at(globals, span_of(a), &x.ty)?;
+            }
+            let ty = unary_at(alloc, *span, *op, &x.ty, is_place(&x))?;
+            Ok(node(TKind::Unary(*op, Box::new(alloc, x)?), ty, *span))
+        }
+        Expr::Binary(op, a, b, span) => {
+            let x = typed(alloc, globals, scopes, texts, a)?;
+            value_at(globals, span_of(a), &x.ty)?;
+            let y = typed(alloc, globals, scopes, texts, b)?;
+            value_at(globals, span_of(b), &y.ty)?;
+            let ty = binary_at(alloc, globals, *span, *op, &x.ty, &y.ty)?;
+            let (x, y) = (Box::new(alloc, x)?, Box::new(alloc, y)?);
+            Ok(node(TKind::Binary(*op, x, y), ty, *span))
+        }
+        Expr::Assign(None, a, b, span) => {
+            let x = typed(alloc, globals, scopes, texts, a)?;
+            let y = typed(alloc, globals, scopes, texts, b)?;
+            value_at(globals, span_of(b), &y.ty)?;
+            let ty = assign_at(alloc, globals, *span, &x.ty, is_place(&x), &y.ty)?;
+            let (x, y) = (Box::new(alloc, x)?, Box::new(alloc, y)?);
+            Ok(node(TKind::Assign(None, x, y), ty, *span))
+        }
+        Expr::Assign(Some(op), a, b, span) => {
+            let x = typed(alloc, globals, scopes, texts, a)?;
+            let y = typed(alloc, globals, scopes, texts, b)?;
+            value_at(globals, span_of(b), &y.ty)?;
+            let ty = compound_at(alloc, globals, *span, *op, &x.ty, is_place(&x), &y.ty)?;
+            let (x, y) = (Box::new(alloc, x)?, Box::new(alloc, y)?);
+            Ok(node(TKind::Assign(Some(*op), x, y), ty, *span))
+        }
+        Expr::Step(op, a, span) => {
+            let x = typed(alloc, globals, scopes, texts, a)?;
+            let ty = step_at(alloc, globals, *span, *op, &x.ty, is_place(&x))?;
+            Ok(node(TKind::Step(*op, Box::new(alloc, x)?), ty, *span))
+        }
+        Expr::Index(a, b, span) => {
+            let x = typed(alloc, globals, scopes, texts, a)?;
+            value_at(globals, span_of(a), &x.ty)?;
+            let y = typed(alloc, globals, scopes, texts, b)?;
+            value_at(globals, span_of(b), &y.ty)?;
+            let ty = index_at(alloc, globals, *span, &x.ty, &y.ty)?;
+            let (x, y) = (Box::new(alloc, x)?, Box::new(alloc, y)?);
+            Ok(node(TKind::Index(x, y), ty, *span))
+        }
+        Expr::Member(a, name, span) => {
+            let x = typed(alloc, globals, scopes, texts, a)?;
+            Ok(member_tree(alloc, &globals.layouts, x, name, *span)?)
+        }
+        Expr::Arrow(a, name, span) => {
+            let x = typed(alloc, globals, scopes, texts, a)?;
+            value_at(globals, span_of(a), &x.ty)?;
+            Ok(arrow_tree(alloc, &globals.layouts, x, name, *span)?)
+        }
+        Expr::Call(name, args, span) => {
+            let named = names_port(globals, scopes, name);
+            let xs = all_valued(alloc, globals, scopes, texts, named, args.as_slice())?;
+            let (kind, ty) = call_node(alloc, globals, scopes, name, args.as_slice(), xs, *span)?;
+            Ok(node(kind, ty, *span))
+        }
+        Expr::Cast(to, a, span) => {
+            let to = type_of(alloc, globals, scopes, texts, *span, to)?;
+            let x = typed(alloc, globals, scopes, texts, a)?;
+            value_at(globals, span_of(a), &x.ty)?;
+            let ty = cast_at(alloc, *span, &x.ty, &to)?;
+            Ok(node(TKind::Cast(Box::new(alloc, x)?), ty, *span))
+        }
+        Expr::SizeOf(of, span) => {
+            let ty = type_of(alloc, globals, scopes, texts, *span, of)?;
+            let n = size_at(globals, *span, &ty)?;
+            Ok(node(TKind::Number(n), CType::Int, *span))
+        }
+    }
+}
+
+/// The arguments of a call whose first one, where it names a port, has no type.
+#[cycle(typing)]
+#[tactic(auto, unfolding(crate::specs::Typing::as_value))]
+fn all_valued(
+    alloc: Global,
+    globals: &Globals,
+    scopes: &[Scope],
+    texts: &mut Texts,
+    named: bool,
+    es: &[Expr],
+) -> Result<Vec<TExpr>, CheckErr>
+    ensures { Gives (λ r. (texprs (map texpr r.items), texts.new)) result (all_valued (ctx globals.now scopes.now) texts.old named (exprs (map expr es.now))) }
+{
+    let mut found = Vec::new(alloc);
+    let mut named = named;
+    for e in es {
+        if named {
+            named = false;
+            continue;
+        }
+        let x = typed(alloc, globals, scopes, texts, e)?;
+        value_at(globals, span_of(e), &x.ty)?;
+        found.push(x)?;
+    }
+    Ok(found)
+}
+
+#[cycle(typing)]
+#[tactic(auto, unfolding(crate::specs::Typing::as_value))]
+fn type_of(
+    alloc: Global,
+    globals: &Globals,
+    scopes: &[Scope],
+    texts: &mut Texts,
+    span: Span,
+    ty: &TypeTree,
+) -> Result<CType, CheckErr>
+    ensures { Gives (λ r. (ctype r, texts.new)) result (type_of (ctx globals.now scopes.now) texts.old span (type ty.now)) }
+{
+    match ty {
+        TypeTree::Int => Ok(CType::Int),
+        TypeTree::Bool => Ok(CType::Bool),
+        TypeTree::Void => Ok(CType::Void),
+        TypeTree::Named(name) => Ok(named_type(alloc, globals, scopes, name, span)?),
+        TypeTree::Pointer(to) => {
+            let to = type_of(alloc, globals, scopes, texts, span, to)?;
+            Ok(CType::Pointer(Box::new(alloc, to)?))
+        }
+        TypeTree::Array(of, n) => {
+            let x = typed(alloc, globals, scopes, texts, n)?;
+            value_at(globals, span_of(n), &x.ty)?;
+            let count = known(span_of(n), Code::NotConstant, constant(&x))?;
+            let of = type_of(alloc, globals, scopes, texts, span, of)?;
+            Ok(array_at(alloc, globals, span_of(n), &of, count)?)
+        }
+    }
+}
+
+#[tactic(auto, unfolding(crate::specs::Typing::as_value))]
+fn valued(
+    alloc: Global,
+    globals: &Globals,
+    scopes: &[Scope],
+    texts: &mut Texts,
+    e: &Expr,
+) -> Result<TExpr, CheckErr>
+    ensures { Gives (λ r. (texpr r, texts.new)) result (as_value (ctx globals.now scopes.now) (span_of (expr e.now)) (typed (ctx globals.now scopes.now) texts.old (expr e.now))) }
+{
+    let x = typed(alloc, globals, scopes, texts, e)?;
+    value_at(globals, span_of(e), &x.ty)?;
+    Ok(x)
+}
 
 /// The typed tree of an expression. Its texts are added to those so far.
 pub fn type_expr(
@@ -39,7 +237,7 @@ pub fn type_expr(
     // A refusal names the first broken rule.
     ensures first { (k : Code) (s : Span) → result ≡ Err (At k s) → Breaks (ctx globals.now scopes.now) texts.old (expr e.now) (at s k) }
 {
-    Err(CheckErr::Memory)
+    typed(alloc, globals, scopes, texts, e)
 }
 
 /// The typed tree of an expression whose value is asked for. Its texts are added to those so far.
@@ -55,7 +253,7 @@ pub fn type_value(
     ensures only { (x : TExprT) (us : List Text) → Values (ctx globals.now scopes.now) texts.old (expr e.now) x us → Gives (λ r. (texpr r, texts.new)) result (read x us) }
     ensures first { (k : Code) (s : Span) → result ≡ Err (At k s) → NoValue (ctx globals.now scopes.now) texts.old (expr e.now) (at s k) }
 {
-    Err(CheckErr::Memory)
+    valued(alloc, globals, scopes, texts, e)
 }
 
 /// The type that a type tree names, in a node of this span. The texts of its counts are added to those so far.
@@ -72,5 +270,5 @@ pub fn type_of_tree(
     ensures only { (t : Ty) (us : List Text) → Names (ctx globals.now scopes.now) texts.old span (type ty.now) t us → Gives (λ r. (ctype r, texts.new)) result (read t us) }
     ensures first { (k : Code) (s : Span) → result ≡ Err (At k s) → NoName (ctx globals.now scopes.now) texts.old span (type ty.now) (at s k) }
 {
-    Err(CheckErr::Memory)
+    type_of(alloc, globals, scopes, texts, span, ty)
 }

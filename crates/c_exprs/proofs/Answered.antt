@@ -1,0 +1,19 @@
+-- From what a function gives to the clauses that callers read.
+use Rattle.std.proofs.Common.{◌≡◌, List, Result, Ok, Err, IfOk, subst}
+use Rattle.c_tree.specs.declared.span.Span.{Span}
+use Rattle.c_rules.specs.declared.code.Code.{Code}
+use Rattle.c_exprs.specs.declared.error.CheckErr.{CheckErr}
+use Rattle.c_exprs.specs.declared.error.CheckErr.TheVariants.{At}
+use Rattle.c_exprs.specs.Env.{Text}
+use Rattle.c_exprs.specs.Faults.{FaultT, at}
+use Rattle.c_exprs.specs.Gives.{Gives}
+use Rattle.c_exprs.specs.Typing.{Typer}
+
+-- what is answered is what is due, so it is by the rules
+pub good : {X Y : Type 0} (seen : X → Y × List Text) (due : Typer Y) (P : Y → List Text → Type 0) → ((y : Y) (us : List Text) → due ≡ Ok (y, us) → P y us) → (r : Result X CheckErr) → Gives seen r due → IfOk r (λ x. P (seen x).0 (seen x).1)
+good seen due P so (Ok x) g = so (seen x).0 (seen x).1 g
+good seen due P so (Err e) g = tt
+
+-- a refusal is the fault that is due, so it is the first broken rule
+pub bad : {X Y : Type 0} (seen : X → Y × List Text) (due : Typer Y) (Q : FaultT → Type 0) → ((f : FaultT) → due ≡ Err f → Q f) → (r : Result X CheckErr) (k : Code) (s : Span) → Gives seen r due → r ≡ Err (At k s) → Q (at s k)
+bad {X = X} seen due Q so r k s g is = let P : Result X CheckErr → Type 0 = λ q. Gives seen q due in so (at s k) (subst P is g)

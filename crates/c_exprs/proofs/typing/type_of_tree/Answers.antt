@@ -1,0 +1,27 @@
+use Rattle.std.proofs.Common.{List}
+use Rattle.c_tree.specs.View.{type}
+use Rattle.c_types.specs.declared.ctype.CType.{CType}
+use Rattle.c_types.specs.Types.{Ty}
+use Rattle.c_types.specs.View.{ctype}
+use Rattle.c_exprs.specs.Env.{Text}
+use Rattle.c_exprs.specs.Types.{Names}
+use Rattle.c_exprs.specs.Breaks.{NoName}
+use Rattle.c_exprs.specs.View.{ctx}
+use Rattle.c_exprs.proofs.Exact.{names_so, no_name_so, type_good}
+use Rattle.c_exprs.proofs.Answered.{good, bad}
+use Rattle.c_exprs.proofs.typing.type_of_tree.Goals as goal
+
+pub returns-clause-types : goal.returns-clause-types
+returns-clause-types c =
+    let seen : CType → Ty × List Text = λ r. (ctype r, c.type_of.new.texts) in
+    let context = ctx c.args.globals.now c.args.scopes.now in
+    good seen _ (λ x us. Names context c.args.texts.now c.args.span (type c.args.ty.now) x us) (λ x us. names_so context c.args.texts.now us c.args.span (type c.args.ty.now) x) c.type_of.result c.type_of.ensures
+
+pub returns-clause-only : goal.returns-clause-only
+returns-clause-only c = λ x us g. rw (type_good g) at c.type_of.ensures
+
+pub returns-clause-first : goal.returns-clause-first
+returns-clause-first c =
+    let seen : CType → Ty × List Text = λ r. (ctype r, c.type_of.new.texts) in
+    let context = ctx c.args.globals.now c.args.scopes.now in
+    λ k s is. bad seen _ (λ f. NoName context c.args.texts.now c.args.span (type c.args.ty.now) f) (λ f. no_name_so context c.args.texts.now c.args.span (type c.args.ty.now) f) c.type_of.result k s c.type_of.ensures is

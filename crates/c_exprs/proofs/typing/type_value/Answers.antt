@@ -1,0 +1,27 @@
+use Rattle.std.proofs.Common.{List}
+use Rattle.c_tree.specs.View.{expr}
+use Rattle.c_types.specs.declared.typed.TExpr.{TExpr}
+use Rattle.c_types.specs.Typed.{TExprT}
+use Rattle.c_types.specs.View.{texpr}
+use Rattle.c_exprs.specs.Env.{Text}
+use Rattle.c_exprs.specs.Types.{Values}
+use Rattle.c_exprs.specs.Breaks.{NoValue}
+use Rattle.c_exprs.specs.View.{ctx}
+use Rattle.c_exprs.proofs.Exact.{values_so, no_value_so, value_good}
+use Rattle.c_exprs.proofs.Answered.{good, bad}
+use Rattle.c_exprs.proofs.typing.type_value.Goals as goal
+
+pub returns-clause-types : goal.returns-clause-types
+returns-clause-types c =
+    let seen : TExpr → TExprT × List Text = λ r. (texpr r, c.valued.new.texts) in
+    let context = ctx c.args.globals.now c.args.scopes.now in
+    good seen _ (λ x us. Values context c.args.texts.now (expr c.args.e.now) x us) (λ x us. values_so context c.args.texts.now us (expr c.args.e.now) x) c.valued.result c.valued.ensures
+
+pub returns-clause-only : goal.returns-clause-only
+returns-clause-only c = λ x us g. rw (value_good g) at c.valued.ensures
+
+pub returns-clause-first : goal.returns-clause-first
+returns-clause-first c =
+    let seen : TExpr → TExprT × List Text = λ r. (texpr r, c.valued.new.texts) in
+    let context = ctx c.args.globals.now c.args.scopes.now in
+    λ k s is. bad seen _ (λ f. NoValue context c.args.texts.now (expr c.args.e.now) f) (λ f. no_value_so context c.args.texts.now (expr c.args.e.now) f) c.valued.result k s c.valued.ensures is

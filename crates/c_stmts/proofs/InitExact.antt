@@ -29,7 +29,6 @@ abbrev pub AllFillOut : Ctx → List Text → Bool → Slots → InitTs → Type
 AllFillOut c ts global slots is (Ok x) = AllFill c ts global slots is x.0 x.1
 AllFillOut c ts global slots is (Err f) = NotAllFill c ts global slots is f
 
-
 one_2 : (c : Ctx) (ts : List Text) (global : Bool) (target : Option Ty) (e : ExprT) (x : TExprT × List Text) → Values c ts e x.0 x.1 → (r : Result TInitT FaultT) → placed (span_of e) (filled global target x.0) ≡ r → FillOut c ts global target (tree.OneI e) (r >>= λ i. Ok (i, x.1))
 one_2 c ts global target e x g0 (Ok i) g1 = good.one g0 g1
 one_2 c ts global target e x g0 (Err f) g1 = bad.one g0 g1
@@ -64,7 +63,6 @@ mutual
   all_fill_outcome c ts global slots (tree.MoreI i rest) = more_items_1 c ts global slots i rest (filled_by c ts global (next_slot slots) i) (fill_outcome c ts global (next_slot slots) i) (λ us. all_fill_outcome c us global (later_slots slots) rest)
 
 mutual
-
   pub fill_good : {c : Ctx} {ts us : List Text} {global : Bool} {target : Option Ty} {i : InitT} {x : TInitT} → Fills c ts global target i x us → filled_by c ts global target i ≡ Ok (x, us)
   fill_good (good.one g0 g1) = rw (value_good g0, g1) refl
   fill_good (good.list g0 g1) = rw (all_fill_good g0, g1) refl
@@ -74,7 +72,6 @@ mutual
   all_fill_good (good.more_items g0 g1) = rw (fill_good g0, all_fill_good g1) refl
 
 mutual
-
   pub fill_bad : {c : Ctx} {ts : List Text} {global : Bool} {target : Option Ty} {i : InitT} {f : FaultT} → NoFill c ts global target i f → filled_by c ts global target i ≡ Err f
   fill_bad (bad.one_part g0) = rw (value_bad g0) refl
   fill_bad (bad.one g0 g1) = rw (value_good g0, g1) refl

@@ -43,7 +43,7 @@ push xs x (Err e) = refl
 
 -- one more is typed
 pub before-push : (c : Ctx) (xs : List TInitT) (ts us : List Text) (global : Bool) (slots : Slots) (n : ℕ) (i : InitT) (rest : InitTs) (x : TInitT) → filled_by c ts global (next_slot (slots_behind n slots)) i ≡ Ok (x, us) →
-  before (xs ++ x ∷ []) (all_filled_by c us global (slots_behind (n + 1) slots) rest) ≡ before xs (all_filled_by c ts global (slots_behind n slots) (MoreI i rest))
+    before (xs ++ x ∷ []) (all_filled_by c us global (slots_behind (n + 1) slots) rest) ≡ before xs (all_filled_by c ts global (slots_behind n slots) (MoreI i rest))
 before-push c xs ts us global slots n i rest x good = rw (good, behind-more n slots) (push xs x (all_filled_by c us global (slots_behind (n + 1) slots) rest))
 
 -- one is at fault

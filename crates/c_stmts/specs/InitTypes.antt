@@ -15,11 +15,10 @@ use Rattle.c_stmts.specs.Slots.{Slots, slots_for, next_slot, later_slots, item_c
 -- Fills c ts global target i x us: under c, after the texts ts, the initialiser i of a global, or of a variable of a function, fills the
 -- target as x does, and the texts after it are us.
 mutual
-
   pub data Fills (c : Ctx) : List Text → Bool → Option Ty → InitT → TInitT → List Text → Type 0 where
     one : {ts us : List Text} {global : Bool} {target : Option Ty} {e : ExprT} {x : TExprT} {i : TInitT} → Values c ts e x us → placed (span_of e) (filled global target x) ≡ Ok i → Fills c ts global target (tree.OneI e) i us
     list : {ts us : List Text} {global : Bool} {target : Option Ty} {items : InitTs} {s : Span} {xs : TInitTs} → AllFill c ts global (slots_for c.layouts target) items xs us → demanded s WrongType (has_room (item_count items) (slots_for c.layouts target)) ≡ Ok tt →
-      Fills c ts global target (tree.ListI items s) (ListI xs) us
+        Fills c ts global target (tree.ListI items s) (ListI xs) us
 
   -- the items of a brace list, each for the next place
   pub data AllFill (c : Ctx) : List Text → Bool → Slots → InitTs → TInitTs → List Text → Type 0 where

@@ -75,8 +75,9 @@ entered n ty st = if is_new n st then record { scopes = declare n (record { numb
 -- An object: its size, where with those before it there are at most so many words.
 unfoldable pub object_rule : List LayoutT → List Bool → ℕ → ℕ → Ty → Rule ℕ
 object_rule layouts whole limit used ty = record {
-    gives = given (not (is_void ty)) (words_of layouts ty);
-    demands = demand InfiniteType (is_whole whole ty) ∷ demand TooLarge (nat_le (used + words_of layouts ty) limit) ∷ [] }
+  gives = given (not (is_void ty)) (words_of layouts ty);
+  demands = demand InfiniteType (is_whole whole ty) ∷ demand TooLarge (nat_le (used + words_of layouts ty) limit) ∷ [];
+}
 
 -- the words that the variables of one function may have
 abbrev pub locals_limit : ℕ

@@ -37,7 +37,7 @@ pub data Undeclared (f : Fn) : St → VarT → FaultT → Type 0 where
   variable_type : {sp : St} {v : VarT} {fault : FaultT} → NoTypeIn f sp v.span v.ty fault → Undeclared f sp v fault
   variable_init : {sp sq : St} {v : VarT} {t : Ty} {fault : FaultT} → TypeIn f sp v.span v.ty t sq → NotFilled f (entered v.name t sq) t v.init fault → Undeclared f sp v fault
   variable : {sp sq sr : St} {v : VarT} {t : Ty} {i : Option TInitT} {fault : FaultT} → TypeIn f sp v.span v.ty t sq → MaybeFills f (entered v.name t sq) t v.init i sr →
-    placed v.span (object_size f.layouts f.whole locals_limit (sum sp.sizes) (is_new v.name sp) t) ≡ Err fault → Undeclared f sp v fault
+      placed v.span (object_size f.layouts f.whole locals_limit (sum sp.sizes) (is_new v.name sp) t) ≡ Err fault → Undeclared f sp v fault
 
 pub data NotAllDeclare (f : Fn) : St → List VarT → FaultT → Type 0 where
   variable_here : {sp : St} {v : VarT} {vs : List VarT} {fault : FaultT} → Undeclared f sp v fault → NotAllDeclare f sp (v ∷ vs) fault
@@ -57,7 +57,7 @@ mutual
     if_then : {sp sq : St} {breaks : Bool} {continues : Bool} {e : ExprT} {a : StmtT} {b : MaybeS} {s : Span} {x : TExprT} {fault : FaultT} → ValueIn f sp e x sq → NoStatement f sq breaks continues a fault → NoStatement f sp breaks continues (IfS e a b s) fault
     if_other : {sp sq sr : St} {breaks : Bool} {continues : Bool} {e : ExprT} {a : StmtT} {b : MaybeS} {s : Span} {x : TExprT} {y : TStmtT} {fault : FaultT} → ValueIn f sp e x sq → Statement f sq breaks continues a y sr → NoMaybeStatement f sr breaks continues b fault → NoStatement f sp breaks continues (IfS e a b s) fault
     if_else : {sp sq sr ss : St} {breaks : Bool} {continues : Bool} {e : ExprT} {a : StmtT} {b : MaybeS} {s : Span} {x : TExprT} {y : TStmtT} {z : MaybeZ} {fault : FaultT} → ValueIn f sp e x sq → Statement f sq breaks continues a y sr → MaybeStatement f sr breaks continues b z ss → demanded s WrongType (is_condition_of x) ≡ Err fault →
-      NoStatement f sp breaks continues (IfS e a b s) fault
+        NoStatement f sp breaks continues (IfS e a b s) fault
     while_test : {sp : St} {breaks : Bool} {continues : Bool} {e : ExprT} {a : StmtT} {s : Span} {fault : FaultT} → NoValueIn f sp e fault → NoStatement f sp breaks continues (WhileS e a s) fault
     while_body : {sp sq : St} {breaks : Bool} {continues : Bool} {e : ExprT} {a : StmtT} {s : Span} {x : TExprT} {fault : FaultT} → ValueIn f sp e x sq → NoStatement f sq true true a fault → NoStatement f sp breaks continues (WhileS e a s) fault
     while : {sp sq sr : St} {breaks : Bool} {continues : Bool} {e : ExprT} {a : StmtT} {s : Span} {x : TExprT} {y : TStmtT} {fault : FaultT} → ValueIn f sp e x sq → Statement f sq true true a y sr → demanded s WrongType (is_condition_of x) ≡ Err fault → NoStatement f sp breaks continues (WhileS e a s) fault
@@ -68,13 +68,13 @@ mutual
     for_test : {sp sq : St} {breaks : Bool} {continues : Bool} {first : MaybeS} {test step : Option ExprT} {a : StmtT} {s : Span} {x : MaybeZ} {fault : FaultT} → MaybeStatement f (opened sp) breaks continues first x sq → NoMaybeValue f sq test fault → NoStatement f sp breaks continues (ForS first test step a s) fault
     for_step : {sp sq sr : St} {breaks : Bool} {continues : Bool} {first : MaybeS} {test step : Option ExprT} {a : StmtT} {s : Span} {x : MaybeZ} {y : Option TExprT} {fault : FaultT} → MaybeStatement f (opened sp) breaks continues first x sq → MaybeValue f sq test y sr → NoMaybeValue f sr step fault → NoStatement f sp breaks continues (ForS first test step a s) fault
     for_body : {sp sq sr ss : St} {breaks : Bool} {continues : Bool} {first : MaybeS} {test step : Option ExprT} {a : StmtT} {s : Span} {x : MaybeZ} {y z : Option TExprT} {fault : FaultT} → MaybeStatement f (opened sp) breaks continues first x sq → MaybeValue f sq test y sr → MaybeValue f sr step z ss → NoStatement f ss true true a fault →
-      NoStatement f sp breaks continues (ForS first test step a s) fault
+        NoStatement f sp breaks continues (ForS first test step a s) fault
     for : {sp sq sr ss su : St} {breaks : Bool} {continues : Bool} {first : MaybeS} {test step : Option ExprT} {a : StmtT} {s : Span} {x : MaybeZ} {y z : Option TExprT} {w : TStmtT} {fault : FaultT} → MaybeStatement f (opened sp) breaks continues first x sq → MaybeValue f sq test y sr → MaybeValue f sr step z ss → Statement f ss true true a w su →
-      demanded s WrongType (is_test y) ≡ Err fault → NoStatement f sp breaks continues (ForS first test step a s) fault
+        demanded s WrongType (is_test y) ≡ Err fault → NoStatement f sp breaks continues (ForS first test step a s) fault
     switch_value : {sp : St} {breaks : Bool} {continues : Bool} {e : ExprT} {all : ArmTs} {s : Span} {fault : FaultT} → NoValueIn f sp e fault → NoStatement f sp breaks continues (SwitchS e all s) fault
     switch_arms : {sp sq : St} {breaks : Bool} {continues : Bool} {e : ExprT} {all : ArmTs} {s : Span} {x : TExprT} {fault : FaultT} → ValueIn f sp e x sq → NoArms f (opened sq) true continues no_labels all fault → NoStatement f sp breaks continues (SwitchS e all s) fault
     switch : {sp sq sr : St} {breaks : Bool} {continues : Bool} {e : ExprT} {all : ArmTs} {s : Span} {x : TExprT} {xs : TArmTs} {fault : FaultT} → ValueIn f sp e x sq → ArmsOf f (opened sq) true continues no_labels all xs sr → demanded s WrongType (is_number (type_of_typed x)) ≡ Err fault →
-      NoStatement f sp breaks continues (SwitchS e all s) fault
+        NoStatement f sp breaks continues (SwitchS e all s) fault
     return_part : {sp : St} {breaks : Bool} {continues : Bool} {e : ExprT} {s : Span} {fault : FaultT} → NoValueIn f sp e fault → NoStatement f sp breaks continues (ReturnS (Some e) s) fault
     return_value : {sp sq : St} {breaks : Bool} {continues : Bool} {e : ExprT} {s : Span} {x : TExprT} {fault : FaultT} → ValueIn f sp e x sq → demanded s WrongType (converts (type_of_typed x) f.gives) ≡ Err fault → NoStatement f sp breaks continues (ReturnS (Some e) s) fault
     break : {sp : St} {breaks : Bool} {continues : Bool} {s : Span} {fault : FaultT} → demanded s BreakOutside breaks ≡ Err fault → NoStatement f sp breaks continues (BreakS s) fault

@@ -34,7 +34,7 @@ pub data MaybeFills (f : Fn) : St → Ty → Option InitT → Option TInitT → 
 -- A variable: its type, its name, its initialiser, then the rules of the variable. The name holds in the initialiser.
 pub data Declares (f : Fn) : St → VarT → List TVarT → St → Type 0 where
   variable : {sp sq sr : St} {v : VarT} {t : Ty} {i : Option TInitT} {n : ℕ} → TypeIn f sp v.span v.ty t sq → MaybeFills f (entered v.name t sq) t v.init i sr →
-    placed v.span (object_size f.layouts f.whole locals_limit (sum sp.sizes) (is_new v.name sp) t) ≡ Ok n → Declares f sp v (filled_var false (length sp.sizes) t i) (sized n sr)
+      placed v.span (object_size f.layouts f.whole locals_limit (sum sp.sizes) (is_new v.name sp) t) ≡ Ok n → Declares f sp v (filled_var false (length sp.sizes) t i) (sized n sr)
 
 pub data AllDeclare (f : Fn) : St → List VarT → List TVarT → St → Type 0 where
   no_variables : {sp : St} → AllDeclare f sp [] [] sp
@@ -53,13 +53,13 @@ mutual
     variables : {sp sq : St} {breaks : Bool} {continues : Bool} {vs : List VarT} {s : Span} {xs : List TVarT} → AllDeclare f sp vs xs sq → Statement f sp breaks continues (VarsS vs s) (VarsZ xs) sq
     expression : {sp sq : St} {breaks : Bool} {continues : Bool} {e : ExprT} {x : TExprT} → ValueIn f sp e x sq → Statement f sp breaks continues (DoS e) (DoZ x) sq
     if_else : {sp sq sr ss : St} {breaks : Bool} {continues : Bool} {e : ExprT} {a : StmtT} {b : MaybeS} {s : Span} {x : TExprT} {y : TStmtT} {z : MaybeZ} → ValueIn f sp e x sq → Statement f sq breaks continues a y sr → MaybeStatement f sr breaks continues b z ss → demanded s WrongType (is_condition_of x) ≡ Ok tt →
-      Statement f sp breaks continues (IfS e a b s) (IfZ x y z) ss
+        Statement f sp breaks continues (IfS e a b s) (IfZ x y z) ss
     while : {sp sq sr : St} {breaks : Bool} {continues : Bool} {e : ExprT} {a : StmtT} {s : Span} {x : TExprT} {y : TStmtT} → ValueIn f sp e x sq → Statement f sq true true a y sr → demanded s WrongType (is_condition_of x) ≡ Ok tt → Statement f sp breaks continues (WhileS e a s) (WhileZ x y) sr
     do_while : {sp sq sr : St} {breaks : Bool} {continues : Bool} {a : StmtT} {e : ExprT} {s : Span} {y : TStmtT} {x : TExprT} → Statement f sp true true a y sq → ValueIn f sq e x sr → demanded s WrongType (is_condition_of x) ≡ Ok tt → Statement f sp breaks continues (DoWhileS a e s) (DoWhileZ y x) sr
     for : {sp sq sr ss su : St} {breaks : Bool} {continues : Bool} {first : MaybeS} {test step : Option ExprT} {a : StmtT} {s : Span} {x : MaybeZ} {y z : Option TExprT} {w : TStmtT} → MaybeStatement f (opened sp) breaks continues first x sq → MaybeValue f sq test y sr → MaybeValue f sr step z ss → Statement f ss true true a w su →
-      demanded s WrongType (is_test y) ≡ Ok tt → Statement f sp breaks continues (ForS first test step a s) (ForZ (made su) x y z w) (left su)
+        demanded s WrongType (is_test y) ≡ Ok tt → Statement f sp breaks continues (ForS first test step a s) (ForZ (made su) x y z w) (left su)
     switch : {sp sq sr : St} {breaks : Bool} {continues : Bool} {e : ExprT} {all : ArmTs} {s : Span} {x : TExprT} {xs : TArmTs} → ValueIn f sp e x sq → ArmsOf f (opened sq) true continues no_labels all xs sr → demanded s WrongType (is_number (type_of_typed x)) ≡ Ok tt →
-      Statement f sp breaks continues (SwitchS e all s) (SwitchZ x (made sr) xs) (left sr)
+        Statement f sp breaks continues (SwitchS e all s) (SwitchZ x (made sr) xs) (left sr)
     return_nothing : {sp : St} {breaks : Bool} {continues : Bool} {s : Span} → Statement f sp breaks continues (ReturnS None s) (ReturnZ None) sp
     return_value : {sp sq : St} {breaks : Bool} {continues : Bool} {e : ExprT} {s : Span} {x : TExprT} → ValueIn f sp e x sq → demanded s WrongType (converts (type_of_typed x) f.gives) ≡ Ok tt → Statement f sp breaks continues (ReturnS (Some e) s) (ReturnZ (Some x)) sq
     break : {sp : St} {breaks : Bool} {continues : Bool} {s : Span} → demanded s BreakOutside breaks ≡ Ok tt → Statement f sp breaks continues (BreakS s) BreakZ sp

@@ -127,7 +127,11 @@ fn global_fills(span: Span, ty: &CType, x: TExpr) -> Result<TInit, CheckErr>
 fn value_fills(span: Span, global: bool, ty: &CType, x: TExpr) -> Result<TInit, CheckErr>
     ensures { Gives tinit result (placed span (value_fills global (ctype ty.now) (texpr x))) }
 {
-    if global { global_fills(span, ty, x) } else { local_fills(span, ty, x) }
+    if global {
+        global_fills(span, ty, x)
+    } else {
+        local_fills(span, ty, x)
+    }
 }
 
 fn fills(span: Span, global: bool, ty: &CType, x: TExpr) -> Result<TInit, CheckErr>

@@ -48,7 +48,13 @@ fn slot_in<'a>(layouts: &'a [Layout], ty: &'a CType, index: usize) -> Option<&'a
     ensures { option_map (λ t. ctype t.now) result ≡ next_slot (slots_behind index (slots_of (map layout layouts.now) (ctype ty.now))) }
 {
     match ty {
-        CType::Array(of, count) => { if index < *count as usize { Some(of) } else { None } }
+        CType::Array(of, count) => {
+            if index < *count as usize {
+                Some(of)
+            } else {
+                None
+            }
+        }
         CType::Struct(number) => member_slot(layouts, *number, index),
         CType::Union(number) => first_slot(layouts, *number, index),
         CType::Void | CType::Int | CType::Bool | CType::Enum(_) | CType::Pointer(_) => None,

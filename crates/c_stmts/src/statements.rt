@@ -51,8 +51,8 @@ fn stmt_of(
     match s {
         Stmt::Block(body, _) => {
             state.open(alloc)?;
-            let body =
-                stmts_of(alloc, globals, state, body.as_slice(), gives, breaks, continues)?;
+            let body = body.as_slice();
+            let body = stmts_of(alloc, globals, state, body, gives, breaks, continues)?;
             let made = state.close(alloc)?;
             Ok(TStmt::Block(Seq::from_vec(made), Seq::from_vec(body)))
         }
@@ -117,7 +117,8 @@ fn stmt_of(
         Stmt::Switch(e, all, span) => {
             let x = value_in(alloc, globals, state, gives, e)?;
             state.open(alloc)?;
-            let xs = arms_of(alloc, globals, state, all.as_slice(), gives, true, continues)?;
+            let all = all.as_slice();
+            let xs = arms_of(alloc, globals, state, all, gives, true, continues)?;
             demanded(*span, Code::WrongType, is_number(&x.ty))?;
             let made = state.close(alloc)?;
             Ok(TStmt::Switch(x, Seq::from_vec(made), Seq::from_vec(xs)))
@@ -207,7 +208,9 @@ fn arms_of(
     let mut seen = no_labels(alloc);
     let mut found = Vec::new(alloc);
     for a in all {
-        let x = arm_of(alloc, globals, state, a, gives, breaks, continues, &mut seen)?;
+        let x = arm_of(
+            alloc, globals, state, a, gives, breaks, continues, &mut seen,
+        )?;
         found.push(x)?;
     }
     Ok(found)

@@ -81,7 +81,15 @@ fn fill_in(
     ensures { Gives (λ r. (tinit r, st state.new)) result (fill_in (fn_of globals.now gives.now) (st state.old) (ctype target.now) (init initialiser.now)) }
 {
     let target = Some(target);
-    let x = fill(alloc, globals, &state.scopes, &mut state.texts, false, target, initialiser)?;
+    let x = fill(
+        alloc,
+        globals,
+        &state.scopes,
+        &mut state.texts,
+        false,
+        target,
+        initialiser,
+    )?;
     Ok(x)
 }
 
@@ -152,7 +160,14 @@ fn declared(
     let ty = type_in(alloc, globals, state, gives, v.span, &v.ty)?;
     let number = enter(alloc, state, v.name.bytes(), &ty)?;
     let init = maybe_filled(alloc, globals, state, gives, &ty, &v.init)?;
-    let size = object_size(&globals.layouts, &globals.whole, 1_000_000, used, fresh, &ty);
+    let size = object_size(
+        &globals.layouts,
+        &globals.whole,
+        1_000_000,
+        used,
+        fresh,
+        &ty,
+    );
     let size = placed(v.span, size)?;
     state.sizes.add(size)?;
     Ok(filled_var(number, ty, init))

@@ -27,7 +27,8 @@ all_filled_by-loop-i-preserved t c =
     let rest = rw split at c.loop-i.invariant.due in
     record {
       counted = rw c.in_ok-push.ensures.items (length-push c.loop-i.found.items c.in_ok-x.x ∙ omega (arith, c.loop-i.invariant.counted));
-      due = rw pushed (on ∙ rest) }
+      due = rw pushed (on ∙ rest);
+    }
 
 pub all_filled_by-returns : goal.all_filled_by-returns
 all_filled_by-returns t c =

@@ -1,0 +1,35 @@
+-- From what a function gives to the clauses that callers read.
+use Rattle.std.proofs.Common.{◌≡◌, ℕ, Bool, List, Option, Result, Ok, Err, IfOk, subst}
+use Rattle.c_tree.specs.declared.span.Span.{Span}
+use Rattle.c_tree.specs.Tree.{InitT, StmtTs}
+use Rattle.c_types.specs.Types.{Ty}
+use Rattle.c_types.specs.Typed.{TInitT, TStmtTs}
+use Rattle.c_rules.specs.declared.code.Code.{Code}
+use Rattle.c_exprs.specs.declared.error.CheckErr.{CheckErr}
+use Rattle.c_exprs.specs.declared.error.CheckErr.TheVariants.{At, Memory}
+use Rattle.c_exprs.specs.Env.{Text, Ctx}
+use Rattle.c_exprs.specs.Faults.{at}
+use Rattle.c_exprs.specs.Gives.{Gives}
+use Rattle.c_stmts.specs.State.{Fn, St}
+use Rattle.c_stmts.specs.InitTyping.{filled_by}
+use Rattle.c_stmts.specs.InitTypes.{Fills}
+use Rattle.c_stmts.specs.InitBreaks.{NoFill}
+use Rattle.c_stmts.specs.StatementTyping.{statements}
+use Rattle.c_stmts.specs.StatementTypes.{Statements}
+use Rattle.c_stmts.specs.StatementBreaks.{NotStatements}
+use Rattle.c_stmts.proofs.InitExact.{FillOut, fill_outcome}
+use Rattle.c_stmts.proofs.StatementExact.{StatementsOut, statements_outcome}
+
+pub fill_types : {X : Type 0} (seen : X → TInitT × List Text) (c : Ctx) (ts : List Text) (global : Bool) (target : Option Ty) (i : InitT) (r : Result X CheckErr) → Gives seen r (filled_by c ts global target i) → IfOk r (λ x. Fills c ts global target i (seen x).0 (seen x).1)
+fill_types seen c ts global target i (Ok x) g = subst (FillOut c ts global target i) g (fill_outcome c ts global target i)
+fill_types seen c ts global target i (Err f) g = tt
+
+pub fill_breaks : {X : Type 0} (seen : X → TInitT × List Text) (c : Ctx) (ts : List Text) (global : Bool) (target : Option Ty) (i : InitT) (r : Result X CheckErr) (k : Code) (s : Span) → Gives seen r (filled_by c ts global target i) → r ≡ Err (At k s) → NoFill c ts global target i (at s k)
+fill_breaks {X = X} seen c ts global target i r k s g is = let P : Result X CheckErr → Type 0 = λ r. Gives seen r (filled_by c ts global target i) in subst (FillOut c ts global target i) (subst P is g) (fill_outcome c ts global target i)
+
+pub statements_type : {X : Type 0} (seen : X → TStmtTs × St) (f : Fn) (sp : St) (breaks continues : Bool) (all : StmtTs) (r : Result X CheckErr) → Gives seen r (statements f sp breaks continues all) → IfOk r (λ x. Statements f sp breaks continues all (seen x).0 (seen x).1)
+statements_type seen f sp breaks continues all (Ok x) g = subst (StatementsOut f sp breaks continues all) g (statements_outcome f sp breaks continues all)
+statements_type seen f sp breaks continues all (Err e) g = tt
+
+pub statements_break : {X : Type 0} (seen : X → TStmtTs × St) (f : Fn) (sp : St) (breaks continues : Bool) (all : StmtTs) (r : Result X CheckErr) (k : Code) (s : Span) → Gives seen r (statements f sp breaks continues all) → r ≡ Err (At k s) → NotStatements f sp breaks continues all (at s k)
+statements_break {X = X} seen f sp breaks continues all r k s g is = let P : Result X CheckErr → Type 0 = λ r. Gives seen r (statements f sp breaks continues all) in subst (StatementsOut f sp breaks continues all) (subst P is g) (statements_outcome f sp breaks continues all)

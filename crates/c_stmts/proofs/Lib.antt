@@ -1,0 +1,11 @@
+pub mod Stack
+pub mod Places
+pub mod InitFronts
+pub mod VarFronts
+pub mod StmtFronts
+pub mod Declared
+pub mod Built
+pub mod Values
+pub mod InitExact
+pub mod StatementExact
+pub mod Answered

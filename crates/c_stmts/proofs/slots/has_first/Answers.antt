@@ -1,0 +1,9 @@
+use Rattle.std.proofs.Common.{◌≡◌, ◌∙◌, sym, ap, List, ℕ, length, rules}
+use Rattle.std.specs.Prelude.{nat_le, min}
+use Rattle.c_types.specs.Types.{Ty}
+use Rattle.c_stmts.proofs.Places.{length-member_types, length-first_of}
+use Rattle.c_stmts.proofs.slots.has_first.Goals as goal
+
+pub returns : goal.returns
+returns c = let least : c.min.result ≡ min (length c.members.result.now) 1 = search rules in
+    ap (λ (n : ℕ). nat_le c.args.count n) (least ∙ ap (λ (n : ℕ). min n 1) (sym (length-member_types c.members.result.now) ∙ ap length c.members.ensures) ∙ sym (length-first_of _))

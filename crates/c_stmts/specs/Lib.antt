@@ -1,0 +1,10 @@
+pub mod Slots
+pub mod Places
+pub mod InitTyping
+pub mod InitTypes
+pub mod InitBreaks
+pub mod State
+pub mod View
+pub mod StatementTyping
+pub mod StatementTypes
+pub mod StatementBreaks

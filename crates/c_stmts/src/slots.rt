@@ -1,0 +1,109 @@
+// The places of a brace list.
+ghost use Rattle.std.specs.Prelude.{◌≡◌, map, option_map, slice_get, length};
+ghost use Rattle.c_types.specs.View.{ctype, layout, member};
+ghost use Rattle.c_stmts.specs.Slots.{Members, member_types, members_of, first_of, slots_of, slots_for, next_slot, has_room};
+ghost use Rattle.c_stmts.specs.Places.{slots_behind};
+
+use c_types::{CType, Layout, Member};
+
+/// The members of a structure or union.
+#[tactic(auto, using(crate::proofs::Places::member_steps))]
+fn members(layouts: &[Layout], number: u32) -> &[Member]
+    ensures { member_types (map member result.now) ≡ members_of (slice_get (map layout layouts.now) number) }
+{
+    match layouts.get(number as usize) {
+        Some(layout) => layout.members.as_slice(),
+        None => &[],
+    }
+}
+
+/// The type of the member at that index.
+#[tactic(auto, using(crate::proofs::Places::member_steps))]
+fn member_at(members: &[Member], index: usize) -> Option<&CType>
+    ensures { option_map (λ t. ctype t.now) result ≡ slice_get (member_types (map member members.now)) index }
+{
+    match members.get(index) {
+        Some(member) => Some(&member.ty),
+        None => None,
+    }
+}
+
+fn member_slot(layouts: &[Layout], number: u32, index: usize) -> Option<&CType>
+    ensures { option_map (λ t. ctype t.now) result ≡ next_slot (slots_behind index (Members (members_of (slice_get (map layout layouts.now) number)))) }
+{
+    member_at(members(layouts, number), index)
+}
+
+fn first_slot(layouts: &[Layout], number: u32, index: usize) -> Option<&CType>
+    ensures { option_map (λ t. ctype t.now) result ≡ next_slot (slots_behind index (Members (first_of (members_of (slice_get (map layout layouts.now) number))))) }
+{
+    if index > 0 {
+        return None;
+    }
+    member_at(members(layouts, number), 0)
+}
+
+#[tactic(auto, using(crate::proofs::Places::slot_steps))]
+fn slot_in<'a>(layouts: &'a [Layout], ty: &'a CType, index: usize) -> Option<&'a CType>
+    ensures { option_map (λ t. ctype t.now) result ≡ next_slot (slots_behind index (slots_of (map layout layouts.now) (ctype ty.now))) }
+{
+    match ty {
+        CType::Array(of, count) => {
+            if index < *count as usize {
+                Some(of)
+            } else {
+                None
+            }
+        }
+        CType::Struct(number) => member_slot(layouts, *number, index),
+        CType::Union(number) => first_slot(layouts, *number, index),
+        CType::Void | CType::Int | CType::Bool | CType::Enum(_) | CType::Pointer(_) => None,
+    }
+}
+
+/// The type of the place of the item at that index, where there is one.
+pub(crate) fn slot_at<'a>(
+    layouts: &'a [Layout],
+    target: Option<&'a CType>,
+    index: usize,
+) -> Option<&'a CType>
+    ensures { option_map (λ t. ctype t.now) result ≡ next_slot (slots_behind index (slots_for (map layout layouts.now) (option_map (λ t. ctype t.now) target.entry))) }
+{
+    match target {
+        Some(ty) => slot_in(layouts, ty, index),
+        None => None,
+    }
+}
+
+fn has_members(layouts: &[Layout], number: u32, count: usize) -> bool
+    ensures { result ≡ has_room count (Members (members_of (slice_get (map layout layouts.now) number))) }
+{
+    count <= members(layouts, number).len()
+}
+
+fn has_first(layouts: &[Layout], number: u32, count: usize) -> bool
+    ensures { result ≡ has_room count (Members (first_of (members_of (slice_get (map layout layouts.now) number)))) }
+{
+    count <= members(layouts, number).len().min(1)
+}
+
+fn has_room_in(layouts: &[Layout], ty: &CType, count: usize) -> bool
+    ensures { result ≡ has_room count (slots_of (map layout layouts.now) (ctype ty.now)) }
+{
+    match ty {
+        CType::Array(_, len) => count <= *len as usize,
+        CType::Struct(number) => has_members(layouts, *number, count),
+        CType::Union(number) => has_first(layouts, *number, count),
+        CType::Void | CType::Int | CType::Bool | CType::Enum(_) | CType::Pointer(_) => false,
+    }
+}
+
+/// Whether a brace list of so many items has a place for each.
+pub(crate) fn has_room(layouts: &[Layout], target: Option<&CType>, count: usize) -> bool
+    ensures { result ≡ has_room count (slots_for (map layout layouts.now) (option_map (λ t. ctype t.now) target.entry)) }
+{
+    match target {
+        Some(ty) => has_room_in(layouts, ty, count),
+        None => false,
+    }
+}

@@ -1,12 +1,12 @@
 -- From what a function gives to the clauses that callers read.
-use Rattle.std.proofs.Common.{◌≡◌, ℕ, Bool, List, Option, Result, Ok, Err, IfOk, subst}
+use Rattle.std.proofs.Common.{◌≡◌, Bool, List, Option, Result, Ok, Err, IfOk, subst}
 use Rattle.c_tree.specs.declared.span.Span.{Span}
 use Rattle.c_tree.specs.Tree.{InitT, StmtTs}
 use Rattle.c_types.specs.Types.{Ty}
 use Rattle.c_types.specs.Typed.{TInitT, TStmtTs}
 use Rattle.c_rules.specs.declared.code.Code.{Code}
 use Rattle.c_exprs.specs.declared.error.CheckErr.{CheckErr}
-use Rattle.c_exprs.specs.declared.error.CheckErr.TheVariants.{At, Memory}
+use Rattle.c_exprs.specs.declared.error.CheckErr.TheVariants.{At}
 use Rattle.c_exprs.specs.Env.{Text, Ctx}
 use Rattle.c_exprs.specs.Faults.{at}
 use Rattle.c_exprs.specs.Gives.{Gives}

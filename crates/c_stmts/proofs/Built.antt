@@ -1,7 +1,6 @@
 -- What statements stand for that may lack a part.
 use Rattle.std.proofs.Common.{◌≡◌, Some, None, Option, List, ℕ, rules, option_map}
 use Rattle.std.specs.Global.{Box}
-use Rattle.kit_base.specs.declared.seq.Seq.{Seq}
 use Rattle.c_tree.specs.declared.span.Span.{Span}
 use Rattle.c_tree.specs.declared.expression.Expr.{Expr}
 use Rattle.c_tree.specs.declared.statement.Stmt.{Stmt}

@@ -1,5 +1,5 @@
 -- A variable that is declared, from its parts.
-use Rattle.std.proofs.Common.{◌≡◌, ℕ, Option, Result, Ok, Err, refl, length, List, false}
+use Rattle.std.proofs.Common.{◌≡◌, ℕ, Option, Ok, refl, length, List, false}
 use Rattle.std.specs.Prelude.{sum}
 use Rattle.c_tree.specs.Tree.{VarT}
 use Rattle.c_types.specs.Types.{Ty}

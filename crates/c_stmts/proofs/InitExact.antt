@@ -1,17 +1,16 @@
 -- The rules of initialisers and the function agree.
-use Rattle.std.proofs.Common.{◌≡◌, ℕ, Bool, List, Option, Some, None, Result, Ok, Err, refl}
+use Rattle.std.proofs.Common.{◌≡◌, Bool, List, Option, Result, Ok, Err, refl}
 use Rattle.c_tree.specs.declared.span.Span.{Span}
 use Rattle.c_tree.specs.Tree.{ExprT, InitT, InitTs}
 use Rattle.c_tree.specs.Tree as tree
 use Rattle.c_types.specs.Types.{Ty}
-use Rattle.c_types.specs.Typed.{TExprT, TInitT, OneI, TextI, ListI, TInitTs, NoI, MoreI}
+use Rattle.c_types.specs.Typed.{TExprT, TInitT, ListI, TInitTs, MoreI}
 use Rattle.c_rules.specs.declared.code.Code.TheVariants.{WrongType}
 use Rattle.c_exprs.specs.Env.{Text, Ctx}
 use Rattle.c_exprs.specs.Faults.{FaultT, ◌>>=◌, placed, demanded}
 use Rattle.c_exprs.specs.Nodes.{span_of}
 use Rattle.c_exprs.specs.Typing.{Typer, as_value, typed}
 use Rattle.c_exprs.specs.Types.{Values}
-use Rattle.c_exprs.specs.Breaks.{NoValue}
 use Rattle.c_exprs.proofs.Exact.{ValueOut, value_good, value_bad}
 use Rattle.c_stmts.proofs.Values.{value_outcome}
 use Rattle.c_stmts.specs.Slots.{Slots, slots_for, next_slot, later_slots, item_count, has_room, filled}

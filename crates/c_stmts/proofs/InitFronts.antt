@@ -1,5 +1,5 @@
 -- What comes before the rest of a brace list that is filled from left to right.
-use Rattle.std.proofs.Common.{◌≡◌, ℕ, ◌+◌, Bool, List, [], ◌∷◌, ◌++◌, Result, Ok, Err, refl, ap, length, map, add-one, length-append}
+use Rattle.std.proofs.Common.{◌≡◌, ℕ, ◌+◌, Bool, List, [], ◌∷◌, ◌++◌, Ok, Err, refl, ap, length, map, add-one, length-append}
 use Rattle.c_tree.specs.declared.variable.Init.{Init}
 use Rattle.c_tree.specs.Tree.{InitT, InitTs, MoreI}
 use Rattle.c_tree.specs.View.{init, inits}
@@ -9,7 +9,7 @@ use Rattle.c_types.specs.View.{tinits}
 use Rattle.c_exprs.specs.Env.{Text, Ctx}
 use Rattle.c_exprs.specs.Faults.{FaultT, ◌>>=◌}
 use Rattle.c_exprs.specs.Typing.{Typer}
-use Rattle.c_stmts.specs.Slots.{Slots, next_slot, later_slots, item_count}
+use Rattle.c_stmts.specs.Slots.{Slots, next_slot, item_count}
 use Rattle.c_stmts.specs.Places.{slots_behind}
 use Rattle.c_stmts.specs.InitTyping.{filled_by, all_filled_by}
 use Rattle.c_stmts.proofs.Places.{behind-more, behind-none}

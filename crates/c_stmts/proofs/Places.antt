@@ -1,13 +1,12 @@
 -- The places of a brace list, by index.
-use Rattle.std.proofs.Common.{ℕ, zero, suc, ◌-◌, ◌+◌, ◌<◌, ◌≤◌, nat_eq, Bool, true, false, length, map, drop, Option, Some, None, option_map, arith, ◌≡◌, List, [], ◌∷◌, refl, ap, ◌∙◌, sym, add-one}
+use Rattle.std.proofs.Common.{ℕ, zero, suc, ◌-◌, ◌+◌, ◌<◌, ◌≤◌, true, false, length, map, drop, Some, None, option_map, arith, ◌≡◌, List, [], ◌∷◌, refl, ap, ◌∙◌, sym, add-one}
 use Rattle.std.proofs.lemmas.Option.{slice_get-map, slice_get_past}
 use Rattle.std.proofs.Math.ListN.{get_or}
-use Rattle.std.specs.Prelude.{slice_get, min, ◌==◌, nat_le}
-use Rattle.c_types.specs.Types.{Ty, MemberT, LayoutT}
+use Rattle.std.specs.Prelude.{slice_get, min, ◌==◌}
+use Rattle.c_types.specs.Types.{Ty}
 use Rattle.c_types.specs.declared.layout.Member.{Member}
-use Rattle.c_types.specs.declared.layout.Layout.{Layout}
-use Rattle.c_types.specs.View.{ctype, member, layout}
-use Rattle.c_stmts.specs.Slots.{Slots, NoSlots, Elements, Members, member_types, members_of, first_of, next_slot, later_slots, has_room}
+use Rattle.c_types.specs.View.{ctype, member}
+use Rattle.c_stmts.specs.Slots.{Slots, NoSlots, Elements, Members, member_types, first_of, next_slot, later_slots}
 use Rattle.c_stmts.specs.Places.{slots_behind}
 
 pub member_type_at : (ms : List Member) (i : ℕ) → slice_get (member_types (map member ms)) i ≡ option_map (λ (m : Member). ctype m.ty) (slice_get ms i)

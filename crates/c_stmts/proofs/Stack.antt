@@ -1,5 +1,5 @@
 -- The stack of scopes.
-use Rattle.std.proofs.Common.{ℕ, suc, ◌-◌, length, map, Option, Some, None, arith, ◌≡◌, List, [], ◌∷◌, ◌++◌, refl, ap, Bool, true}
+use Rattle.std.proofs.Common.{ℕ, suc, ◌-◌, length, map, Option, Some, None, arith, ◌≡◌, List, [], ◌∷◌, ◌++◌, refl, ap, true}
 use Rattle.std.specs.Prelude.{slice_get, is_some, is_none, not, option_map}
 use Rattle.c_stmts.specs.State.{Scope, innermost, closed}
 

@@ -1,9 +1,9 @@
 -- What comes before the rest of a list of statements, or of the arms of a switch.
-use Rattle.std.proofs.Common.{◌≡◌, Bool, List, [], ◌∷◌, ◌++◌, Result, Ok, Err, refl, ap}
+use Rattle.std.proofs.Common.{◌≡◌, Bool, List, [], ◌∷◌, ◌++◌, Ok, Err, refl, ap}
 use Rattle.c_tree.specs.Tree.{StmtT, StmtTs, MoreS, ArmT, ArmTs, MoreA}
 use Rattle.c_types.specs.Typed.{TStmtT, TStmtTs, NoZ, MoreZ, TArmT, TArmTs, NoB, MoreB}
 use Rattle.c_types.specs.View.{tstmts, tarms}
-use Rattle.c_exprs.specs.Faults.{FaultT, ◌>>=◌}
+use Rattle.c_exprs.specs.Faults.{◌>>=◌}
 use Rattle.c_stmts.specs.State.{Fn, St, Labels, with_label}
 use Rattle.c_stmts.specs.StatementTyping.{Does, statement, statements, arm, arms}
 

@@ -1,8 +1,8 @@
 -- Variables that are declared from left to right.
-use Rattle.std.proofs.Common.{◌≡◌, List, [], ◌∷◌, ◌++◌, Result, Ok, Err, refl, append_assoc}
+use Rattle.std.proofs.Common.{◌≡◌, List, ◌∷◌, ◌++◌, Ok, Err, refl, append_assoc}
 use Rattle.c_tree.specs.Tree.{VarT}
 use Rattle.c_types.specs.Typed.{TVarT}
-use Rattle.c_exprs.specs.Faults.{FaultT, ◌>>=◌}
+use Rattle.c_exprs.specs.Faults.{◌>>=◌}
 use Rattle.c_stmts.specs.State.{Fn, St}
 use Rattle.c_stmts.specs.StatementTyping.{Does, declared, all_declared}
 

@@ -1,13 +1,13 @@
 -- The rule that an initialiser breaks first.
-use Rattle.std.specs.Prelude.{◌≡◌, ℕ, Bool, List, Option, Some, None, Ok, Err}
+use Rattle.std.specs.Prelude.{◌≡◌, Bool, List, Option, Err}
 use Rattle.c_tree.specs.declared.span.Span.{Span}
 use Rattle.c_tree.specs.Tree.{ExprT, InitT, InitTs}
 use Rattle.c_tree.specs.Tree as tree
 use Rattle.c_types.specs.Types.{Ty}
-use Rattle.c_types.specs.Typed.{TExprT, TInitT, OneI, TextI, ListI, TInitTs, NoI, MoreI}
+use Rattle.c_types.specs.Typed.{TExprT, TInitT, TInitTs}
 use Rattle.c_rules.specs.declared.code.Code.TheVariants.{WrongType}
 use Rattle.c_exprs.specs.Env.{Text, Ctx}
-use Rattle.c_exprs.specs.Faults.{FaultT, ◌>>=◌, placed, demanded}
+use Rattle.c_exprs.specs.Faults.{FaultT, placed, demanded}
 use Rattle.c_exprs.specs.Nodes.{span_of}
 use Rattle.c_exprs.specs.Types.{Values}
 use Rattle.c_exprs.specs.Breaks.{NoValue}

@@ -1,13 +1,13 @@
 -- The typing of initialisers by rules.
-use Rattle.std.specs.Prelude.{◌≡◌, ℕ, Bool, List, Option, Some, None, Ok, Err}
+use Rattle.std.specs.Prelude.{◌≡◌, Bool, List, Option, Ok}
 use Rattle.c_tree.specs.declared.span.Span.{Span}
 use Rattle.c_tree.specs.Tree.{ExprT, InitT, InitTs}
 use Rattle.c_tree.specs.Tree as tree
 use Rattle.c_types.specs.Types.{Ty}
-use Rattle.c_types.specs.Typed.{TExprT, TInitT, OneI, TextI, ListI, TInitTs, NoI, MoreI}
+use Rattle.c_types.specs.Typed.{TExprT, TInitT, ListI, TInitTs, NoI, MoreI}
 use Rattle.c_rules.specs.declared.code.Code.TheVariants.{WrongType}
 use Rattle.c_exprs.specs.Env.{Text, Ctx}
-use Rattle.c_exprs.specs.Faults.{FaultT, ◌>>=◌, placed, demanded}
+use Rattle.c_exprs.specs.Faults.{placed, demanded}
 use Rattle.c_exprs.specs.Nodes.{span_of}
 use Rattle.c_exprs.specs.Types.{Values}
 use Rattle.c_stmts.specs.Slots.{Slots, slots_for, next_slot, later_slots, item_count, has_room, filled}

@@ -4,10 +4,10 @@ use Rattle.std.specs.Option.{option_map_or}
 use Rattle.c_tree.specs.Tree as tree
 use Rattle.c_tree.specs.Tree.{InitTs}
 use Rattle.c_types.specs.Types.{Ty, VoidY, IntY, BoolY, EnumY, StructY, UnionY, PointerY, ArrayY, MemberT, LayoutT}
-use Rattle.c_types.specs.Typed.{TExprT, Typed, TKindT, NumberK, NullK, LiteralK, GlobalK, LocalK, UnaryK, BinaryK, AssignK, StepK, IndexK, MemberK, ArrowK, CastK, CallK, InK, OutK, WaitK, HaltK, CardK, TInitT, OneI, TextI, ListI}
+use Rattle.c_types.specs.Typed.{TExprT, TKindT, NullK, LiteralK, TInitT, OneI, TextI}
 use Rattle.c_rules.specs.declared.code.Code.{Code}
 use Rattle.c_rules.specs.declared.code.Code.TheVariants.{WrongType, NotConstant}
-use Rattle.c_rules.specs.Kinds.{is_int, is_structure, element, element_count, converts}
+use Rattle.c_rules.specs.Kinds.{is_int, is_structure, element_count, converts}
 use Rattle.c_exprs.specs.Nodes.{type_of_typed, kind_of_typed, constant}
 use Rattle.c_exprs.specs.Calls.{ensured}
 

@@ -1,7 +1,6 @@
 -- What the statements of a function are read under, and what they change.
-use Rattle.std.specs.Prelude.{ℕ, ◌+◌, Bool, true, false, not, List, [], ◌∷◌, ◌++◌, length, map, sum, ◌==◌, is_some, Option, Some, None, Result, Ok, Err, nat_le, if◌then◌else◌}
+use Rattle.std.specs.Prelude.{ℕ, ◌+◌, Bool, true, false, not, List, [], ◌∷◌, ◌++◌, length, map, ◌==◌, is_some, Option, Some, None, Result, nat_le, if◌then◌else◌}
 use Rattle.std.specs.List.{list_any}
-use Rattle.c_tree.specs.Tree.{VarT}
 use Rattle.c_types.specs.Types.{Ty, LayoutT}
 use Rattle.c_types.specs.Typed.{TExprT, TInitT, TVarT, TArmT, CaseB, DefaultB, StmtB}
 use Rattle.c_types.specs.Sizes.{words_of}

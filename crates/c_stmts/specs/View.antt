@@ -8,7 +8,6 @@ use Rattle.c_types.specs.Typed.{MaybeZ, NoneZ, SomeZ}
 use Rattle.c_types.specs.declared.ctype.CType.{CType}
 use Rattle.c_types.specs.declared.typed.TStmt.{TStmt}
 use Rattle.c_types.specs.View.{ctype, layout, tstmt}
-use Rattle.c_exprs.specs.Env.{Text}
 use Rattle.c_exprs.specs.Faults.{FaultT}
 use Rattle.c_exprs.specs.View.{scope, names, bodies}
 use Rattle.c_exprs.specs.declared.names.Globals.{Globals}

@@ -197,23 +197,38 @@ fn bodies_are_typed_or_refused(rt: HostRuntime) -> Result<(), Fail> {
     Ok(())
 }
 
+/// Declares `int NAME` as a parameter.
+fn parameter(alloc: Global, state: &mut State, name: &str) -> Result<(), Fail> {
+    let name = name.as_bytes();
+    if state.is_new(name) {
+        state.add_object(alloc, name, 1, CType::Int)?;
+    }
+    Ok(())
+}
+
+/// The number of the object that the first statement fills.
+fn first_object(found: &[TStmt]) -> Option<u32> {
+    match found.first() {
+        Some(TStmt::Vars(vars)) => match vars.as_slice().first() {
+            Some(v) => Some(v.object),
+            None => None,
+        },
+        _ => None,
+    }
+}
+
 #[test]
 fn objects_are_numbered_and_sized(rt: HostRuntime) -> Result<(), Fail> {
     let alloc = rt.alloc();
     let globals = Globals::new(alloc);
     let mut state = State::new(alloc, Texts::new(alloc));
     state.open(alloc)?;
-    if state.is_new(b"n") {
-        state.add_object(alloc, b"n", 1, CType::Int)?;
-    }
+    parameter(alloc, &mut state, "n")?;
     let mut body = Vec::new(alloc);
     body.push(made(alloc, Sample::AllItems)?)?;
     let typed = type_statements(alloc, &globals, &mut state, &body, &CType::Void);
     let object = match &typed {
-        Ok(found) => match found.as_slice() {
-            [TStmt::Vars(vars)] => vars.as_slice().first().map(|v| v.object),
-            _ => None,
-        },
+        Ok(found) => first_object(found),
         Err(_) => None,
     };
     assert_eq!(rt; object, Some(1));

@@ -1,4 +1,4 @@
-use Rattle.std.proofs.Common.{◌≡◌, ◌∙◌, sym, ap, ℕ, map, option_map, Bool}
+use Rattle.std.proofs.Common.{◌∙◌, sym, ap, ℕ, map, option_map}
 use Rattle.c_types.specs.View.{ctype, layout}
 use Rattle.c_stmts.specs.Slots.{has_room, slots_for}
 use Rattle.c_stmts.proofs.InitFronts.{item_count-length}

@@ -1,6 +1,6 @@
 use Rattle.std.proofs.Common.{rules, refl, sym, ap, ◌∙◌, ◌≡◌}
 use Rattle.std.specs.Prelude.{Option, is_some, not, is_none}
-use Rattle.c_exprs.specs.Env.{LocalD, Text, find}
+use Rattle.c_exprs.specs.Env.{LocalD}
 use Rattle.c_exprs.specs.View.{scope, local}
 use Rattle.c_stmts.proofs.Stack.{innermost-last, innermost-empty, none_seen}
 use Rattle.c_stmts.proofs.scopes.is_new.Goals as goal

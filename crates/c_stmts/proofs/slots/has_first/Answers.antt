@@ -1,6 +1,5 @@
-use Rattle.std.proofs.Common.{◌≡◌, ◌∙◌, sym, ap, List, ℕ, length, rules}
+use Rattle.std.proofs.Common.{◌≡◌, ◌∙◌, sym, ap, ℕ, length, rules}
 use Rattle.std.specs.Prelude.{nat_le, min}
-use Rattle.c_types.specs.Types.{Ty}
 use Rattle.c_stmts.proofs.Places.{length-member_types, length-first_of}
 use Rattle.c_stmts.proofs.slots.has_first.Goals as goal
 

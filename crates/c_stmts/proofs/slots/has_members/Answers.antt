@@ -1,6 +1,5 @@
-use Rattle.std.proofs.Common.{◌≡◌, ◌∙◌, sym, ap, List, ℕ, length}
+use Rattle.std.proofs.Common.{◌∙◌, sym, ap, ℕ, length}
 use Rattle.std.specs.Prelude.{nat_le}
-use Rattle.c_types.specs.Types.{Ty}
 use Rattle.c_stmts.proofs.Places.{length-member_types}
 use Rattle.c_stmts.proofs.slots.has_members.Goals as goal
 

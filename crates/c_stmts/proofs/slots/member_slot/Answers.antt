@@ -1,4 +1,4 @@
-use Rattle.std.proofs.Common.{◌≡◌, ◌∙◌, sym, ap, List}
+use Rattle.std.proofs.Common.{◌∙◌, sym, ap, List}
 use Rattle.std.specs.Prelude.{slice_get}
 use Rattle.c_types.specs.Types.{Ty}
 use Rattle.c_stmts.proofs.Places.{next-member}

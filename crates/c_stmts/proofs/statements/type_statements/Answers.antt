@@ -1,8 +1,6 @@
-use Rattle.std.proofs.Common.{List, Vec, map, false}
+use Rattle.std.proofs.Common.{map, false}
 use Rattle.c_tree.specs.View.{stmt, stmts}
-use Rattle.c_types.specs.Typed.{TStmtTs}
 use Rattle.c_types.specs.View.{tstmt, tstmts}
-use Rattle.c_stmts.specs.State.{St}
 use Rattle.c_stmts.specs.View.{st, fn_of}
 use Rattle.c_stmts.proofs.StatementExact.{statements_good}
 use Rattle.c_stmts.proofs.Answered.{statements_type, statements_break}

@@ -1,4 +1,4 @@
-use Rattle.std.proofs.Common.{◌≡◌, ◌∙◌, ap, sym, refl, length, List, ℕ}
+use Rattle.std.proofs.Common.{◌≡◌, ◌∙◌, ap, length, List, ℕ}
 use Rattle.c_tree.specs.View.{var}
 use Rattle.c_stmts.specs.View.{st, fn_of}
 use Rattle.c_stmts.proofs.Declared.{declared_so}

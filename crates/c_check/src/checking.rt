@@ -1,0 +1,180 @@
+// The checker.
+ghost use Rattle.std.specs.Prelude.{◌≡◌, ◌<◌, ◌≤◌, ◌^◌, [], ℕ, List, map, option_map, Ok, Err, IfOk, OnOk};
+ghost use Rattle.c_tree.specs.declared.span.Span.{Span};
+ghost use Rattle.c_tree.specs.Tree.{ItemT};
+ghost use Rattle.c_tree.specs.View.{item, unit};
+ghost use Rattle.c_rules.specs.declared.code.Code.{Code};
+ghost use Rattle.c_exprs.specs.declared.error.CheckErr.TheVariants.{At};
+ghost use Rattle.c_exprs.specs.Faults.{at};
+ghost use Rattle.c_exprs.specs.Gives.{Gives};
+ghost use Rattle.c_exprs.specs.View.{bodies, names};
+ghost use Rattle.c_types.specs.View.{ctype};
+ghost use Rattle.c_rules.specs.Kinds.{holds};
+ghost use Rattle.c_check.specs.Reading.{bodies_of, body_name, numbered, same_types};
+ghost use Rattle.c_check.specs.View.{function, program, un};
+ghost use Rattle.c_check.specs.Whole.{ProgramT, WellTyped, FirstBroken, checked, is_plain, last_token, item_span, main_of, program_of};
+
+use crate::functions::next;
+use crate::items::read_items;
+use crate::program::{Program, TFunction};
+use crate::reading::Reading;
+use c_exprs::{CheckErr, Globals, known};
+use c_rules::{Code, is_void};
+use c_tree::{Item, Span, Unit};
+use c_types::CType;
+use kit_base::{Memory, Name, Seq};
+use std::alloc::Global;
+
+/// Whether a function takes and gives nothing.
+fn is_plain(one: Option<&TFunction>) -> bool
+    ensures { result ≡ holds is_plain (option_map (λ f. function f.now) one.entry) }
+{
+    match one {
+        Some(one) => has_no_types(one.params.as_slice()) && is_void(&one.result),
+        None => false,
+    }
+}
+
+fn has_no_types(types: &[CType]) -> bool
+    ensures { result ≡ same_types (map ctype types.now) [] }
+{
+    match next(types) {
+        Some(_) => false,
+        None => true,
+    }
+}
+
+/// The number of `void main()`.
+fn main_number(reading: &Reading) -> Option<u32>
+    ensures { result ≡ main_of (un reading.now) }
+{
+    let number = reading.globals.body("main".as_bytes())?;
+    if is_plain(reading.functions.get(number as usize)) {
+        Some(number)
+    } else {
+        None
+    }
+}
+
+fn item_span(one: &Item) -> Span
+    ensures { result ≡ item_span (item one.now) }
+{
+    match one {
+        Item::Record { span, .. } => *span,
+        Item::Enum { span, .. } => *span,
+        Item::Typedef(_, _, span) => *span,
+        Item::Vars(_, span) => *span,
+        Item::Function { span, .. } => *span,
+    }
+}
+
+/// The last token; token 0 of a unit without items.
+fn last_token(items: &[Item]) -> Span
+    ensures { result ≡ last_token (map item items.now) }
+{
+    let mut token = 0;
+    for one in items {
+        token = item_span(one).last;
+    }
+    Span {
+        first: token,
+        last: token,
+    }
+}
+
+/// The name of a function that has a body.
+fn body_name(one: &Item) -> Option<&Name>
+    ensures { option_map (λ n. n.now) result ≡ body_name (item one.now) }
+{
+    match one {
+        Item::Function {
+            name,
+            body: Some(_),
+            ..
+        } => Some(name),
+        Item::Function { body: None, .. } => None,
+        Item::Record { .. } | Item::Enum { .. } | Item::Typedef(_, _, _) | Item::Vars(_, _) => None,
+    }
+}
+
+/// Gives a function the number, where it has none. The error is want of memory.
+fn number_body(alloc: Global, globals: &mut Globals, name: &[u8], number: u32) -> Result<(), Memory>
+    ensures numbered { OnOk result (bodies globals.new ≡ numbered name.now number (bodies globals.old)) }
+    ensures names { OnOk result (names globals.new ≡ names globals.old) }
+    ensures layouts { OnOk result (globals.new.layouts ≡ globals.old.layouts) }
+    ensures whole { OnOk result (globals.new.whole ≡ globals.old.whole) }
+{
+    if globals.body(name).is_some() {
+        return Ok(());
+    }
+    let name = Vec::from_slice(alloc, name)?;
+    globals.set_body(name, number)
+}
+
+/// The numbers of the functions with a body, where nothing is declared yet. The error is want of memory.
+fn number_bodies(alloc: Global, items: &[Item]) -> Result<Globals, Memory>
+    ensures bodies { IfOk result (λ g. bodies g ≡ bodies_of (map item items.now)) }
+    ensures names { IfOk result (λ g. names g ≡ []) }
+    ensures layouts { IfOk result (λ g. g.layouts.items ≡ []) }
+    ensures whole { IfOk result (λ g. g.whole.items ≡ []) }
+{
+    let mut globals = Globals::new(alloc);
+    let mut number = 0u32;
+    for one in items {
+        if let Some(name) = body_name(one) {
+            number_body(alloc, &mut globals, name.bytes(), number)?;
+            let Some(next) = number.checked_add(1) else {
+                return Err(Memory);
+            };
+            number = next;
+        }
+    }
+    Ok(globals)
+}
+
+/// The typed program of a unit. A refusal names the first broken rule in the order of reading: the parts of a node from left to right, then the
+/// node, at one node the lowest code; that there is no `void main()` is told last, at the last token. The error `Memory` is want of memory.
+pub fn check(alloc: Global, parsed: &Unit) -> Result<Program, CheckErr>
+    // What is answered is the program of a well typed unit.
+    ensures typed { IfOk result (λ p. WellTyped (unit parsed.now) (program p)) }
+    // A well typed unit's program is answered, unless memory runs out.
+    ensures only { (p : ProgramT) → WellTyped (unit parsed.now) p → Gives program result (Ok p) }
+    // A refusal names the rule that is broken first.
+    ensures first { (k : Code) (s : Span) → result ≡ Err (At k s) → FirstBroken (unit parsed.now) (at s k) }
+{
+    checked(alloc, parsed.items.as_slice())
+}
+
+#[tactic(auto, unfolding(crate::specs::Whole::checked))]
+fn checked(alloc: Global, items: &[Item]) -> Result<Program, CheckErr>
+    ensures { Gives program result (checked (map item items.now)) }
+{
+    let globals = number_bodies(alloc, items)?;
+    let mut reading = Reading::new(alloc, globals);
+    read_items(alloc, &mut reading, items)?;
+    let main = known(last_token(items), Code::NoMain, main_number(&reading))?;
+    Ok(program_of(reading, main))
+}
+
+fn program_of(reading: Reading, main: u32) -> Program
+    ensures { program result ≡ program_of (un reading) main }
+{
+    let Reading {
+        globals,
+        records: _,
+        enums: _,
+        objects,
+        inits,
+        functions,
+        state,
+    } = reading;
+    let (_, texts) = state.into_parts();
+    Program {
+        layouts: Seq::from_vec(globals.layouts),
+        globals: Seq::from_vec(objects.into_vec()),
+        inits: Seq::from_vec(inits),
+        literals: Seq::from_vec(texts.into_vec()),
+        functions: Seq::from_vec(functions),
+        main,
+    }
+}

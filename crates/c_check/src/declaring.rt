@@ -1,0 +1,160 @@
+// Names of the unit.
+ghost use Rattle.std.specs.Prelude.{◌≡◌, ◌++◌, ◌∷◌, [], length, slice_get, OnOk, IfOk};
+ghost use Rattle.c_types.specs.View.{ctype};
+ghost use Rattle.c_exprs.specs.View.{decl, names};
+ghost use Rattle.std.specs.Str.{bytes_eq};
+ghost use Rattle.c_rules.specs.Kinds.{holds};
+ghost use Rattle.c_check.specs.Reading.{names_free, named, record_entered, record_type, record_number, number_as, own_number, enum_entered};
+ghost use Rattle.c_check.specs.View.{un};
+
+use crate::reading::Reading;
+use c_exprs::{Decl, Globals, is_intrinsic};
+use c_rules::Code;
+use c_types::{CType, Layout};
+use kit_base::{Memory, Name, Seq};
+use std::alloc::Global;
+
+/// Whether a name of the unit is declared nowhere so far.
+pub(crate) fn is_free(globals: &Globals, name: &[u8]) -> bool
+    ensures free { result ≡ names_free name.now (names globals.now) }
+{
+    globals.find(name).is_none() && !is_intrinsic(name)
+}
+
+/// Gives the name this meaning, where it is free. The error is want of memory.
+#[tactic(auto, unfolding(crate::specs::Reading::named))]
+pub(crate) fn declare(
+    alloc: Global,
+    reading: &mut Reading,
+    name: &[u8],
+    meaning: Decl,
+) -> Result<(), Memory>
+    ensures named { OnOk result (un reading.new ≡ named name.now (decl meaning) (un reading.old)) }
+{
+    if !is_free(&reading.globals, name) {
+        return Ok(());
+    }
+    let name = Vec::from_slice(alloc, name)?;
+    reading.globals.declare(name, meaning)
+}
+
+/// The type of the structure, or of the union, of that number.
+fn record_type(is_union: bool, number: u32) -> CType
+    ensures { ctype result ≡ record_type is_union number }
+{
+    if is_union {
+        CType::Union(number)
+    } else {
+        CType::Struct(number)
+    }
+}
+
+/// The number of the next structure or union. The error is that there are 2^32.
+fn next_number(globals: &Globals) -> Result<u32, Memory>
+    ensures { IfOk result (λ number. number ≡ length globals.now.layouts.items) }
+{
+    match u32::try_from(globals.layouts.len()) {
+        Ok(number) => Ok(number),
+        Err(_) => Err(Memory),
+    }
+}
+
+/// Makes the name that of a structure or union without members, where it is free. The error is want of memory.
+#[tactic(auto, unfolding(crate::specs::Reading::record_entered))]
+pub(crate) fn enter_record(
+    alloc: Global,
+    reading: &mut Reading,
+    is_union: bool,
+    name: &[u8],
+) -> Result<(), Memory>
+    ensures entered { OnOk result (un reading.new ≡ record_entered is_union name.now (un reading.old)) }
+{
+    if !is_free(&reading.globals, name) {
+        return Ok(());
+    }
+    let number = next_number(&reading.globals)?;
+    let none = Layout {
+        members: Seq::from_vec(Vec::new(alloc)),
+        size: 0,
+    };
+    reading.globals.layouts.push(none)?;
+    reading.globals.whole.push(false)?;
+    reading.records.push(Name::from_bytes(alloc, name)?)?;
+    let key = Vec::from_slice(alloc, name)?;
+    reading
+        .globals
+        .declare(key, Decl::Alias(record_type(is_union, number)))
+}
+
+/// Makes the name that of the next enumeration, where it is free. The error is want of memory, or that there are 2^32.
+#[tactic(auto, unfolding(crate::specs::Reading::enum_entered))]
+pub(crate) fn enter_enum(alloc: Global, reading: &mut Reading, name: &[u8]) -> Result<(), Memory>
+    ensures entered { OnOk result (un reading.new ≡ enum_entered name.now (un reading.old)) }
+{
+    if !is_free(&reading.globals, name) {
+        return Ok(());
+    }
+    let number = reading.enums;
+    let Some(next) = number.checked_add(1) else {
+        return Err(Memory);
+    };
+    let key = Vec::from_slice(alloc, name)?;
+    reading
+        .globals
+        .declare(key, Decl::Alias(CType::Enum(number)))?;
+    reading.enums = next;
+    Ok(())
+}
+
+fn number_as(is_union: bool, ty: &CType) -> Option<u32>
+    ensures { result ≡ number_as is_union (ctype ty.now) }
+{
+    match ty {
+        CType::Union(number) => { if is_union { Some(*number) } else { None } }
+        CType::Struct(number) => { if is_union { None } else { Some(*number) } }
+        CType::Void
+        | CType::Int
+        | CType::Bool
+        | CType::Enum(_)
+        | CType::Pointer(_)
+        | CType::Array(_, _) => None,
+    }
+}
+
+fn is_own(name: &[u8], records: &[Name], number: u32) -> bool
+    ensures { result ≡ holds (bytes_eq name.now) (slice_get records.now number) }
+{
+    match records.get(number as usize) {
+        Some(own) => name == own.bytes(),
+        None => false,
+    }
+}
+
+fn own_number(name: &[u8], records: &[Name], number: Option<u32>) -> Result<u32, Code>
+    ensures { result ≡ own_number name.now records.now number }
+{
+    match number {
+        Some(number) => {
+            if is_own(name, records, number) {
+                Ok(number)
+            } else {
+                Err(Code::Twice)
+            }
+        }
+        None => Err(Code::Twice),
+    }
+}
+
+/// The number of the structure, or of the union, that has this name; Twice for a name of anything else.
+#[tactic(auto, unfolding(crate::specs::Reading::record_number))]
+pub(crate) fn record_number(reading: &Reading, is_union: bool, name: &[u8]) -> Result<u32, Code>
+    ensures number { result ≡ record_number is_union name.now (un reading.now) }
+{
+    match reading.globals.find(name) {
+        Some(Decl::Alias(ty)) => own_number(name, &reading.records, number_as(is_union, ty)),
+        Some(Decl::Constant(_)) => Err(Code::Twice),
+        Some(Decl::Object(_, _)) => Err(Code::Twice),
+        Some(Decl::Function(_, _)) => Err(Code::Twice),
+        None => Err(Code::Twice),
+    }
+}

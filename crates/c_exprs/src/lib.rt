@@ -23,6 +23,3 @@ pub use nodes::{constant, is_place, span_of};
 pub use rules::check_value;
 pub use texts::Texts;
 pub use typing::{type_expr, type_of_tree, type_value};
-
-#[cfg(test)]
-mod tests;

@@ -1,0 +1,3 @@
+pub mod ItemExact
+pub mod WholeExact
+pub mod Lists

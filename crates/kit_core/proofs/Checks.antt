@@ -15,7 +15,7 @@ use Rattle.kit_core.specs.declared.refusal.Refusal.TheVariants as refusals
 use Rattle.kit_core.specs.declared.shown.Shown.{Shown}
 use Rattle.kit_core.specs.declared.shown.Shown.TheVariants as shown
 use Rattle.kit_core.specs.Inputs.{or_refused, unread}
-use Rattle.kit_core.specs.Due.{Work, accepted, check_due, read_check_due, unbuilt}
+use Rattle.kit_core.specs.Due.{accepted, check_due, read_check_due, unbuilt}
 use Rattle.kit_core.specs.Carrying.{GivesBy, LeavesBy}
 use Rattle.kit_core.specs.Checking.{TextChecked}
 use Rattle.kit_core.specs.Outcome.{ComesBy}

@@ -8,13 +8,13 @@ use Rattle.run_core.specs.Outputs.{Names, run_outputs}
 use Rattle.kit_core.specs.declared.refusal.Refusal.{Refusal}
 use Rattle.kit_core.specs.declared.refusal.Refusal.TheVariants as refusals
 use Rattle.kit_core.specs.declared.shown.Shown.{Shown}
-use Rattle.kit_core.specs.Command.{RunWords, Run, command_of}
+use Rattle.kit_core.specs.Command.{RunWords}
 use Rattle.kit_core.specs.Inputs.{◌>>=◌}
 use Rattle.kit_core.specs.Due.{Work, run_due, form_due}
 use Rattle.kit_core.specs.Running.{Game, IsRun, RunStands, end_status, game_due, game_end, names_in, run_reads}
-use Rattle.kit_core.specs.Gaming.{IsDone, IsWritten}
-use Rattle.kit_core.specs.Outcome.{putting, Comes, IsOutcome}
-use Rattle.kit_core.specs.Carrying.{IsCut, Leaves, shown_status, text_of}
+use Rattle.kit_core.specs.Gaming.{IsWritten}
+use Rattle.kit_core.specs.Outcome.{putting, IsOutcome}
+use Rattle.kit_core.specs.Carrying.{Leaves}
 use Rattle.kit_core.proofs.Stages.{cut}
 use Rattle.kit_core.proofs.Headlines.{bind_ok, done_at_three}
 

@@ -16,7 +16,7 @@ use Rattle.kit_core.specs.declared.refusal.Refusal.TheVariants as refusals
 use Rattle.kit_core.specs.Refusal.{status_of}
 use Rattle.kit_core.specs.declared.conversion.Conversion.{Conversion}
 use Rattle.kit_core.specs.declared.conversion.Conversion.TheVariants.{Migrate, Assemble, Disassemble}
-use Rattle.kit_core.specs.Command.{RunWords, Build, Convert, Trace, Run, Check, are_distinct, checked_run, run_form, is_word, is_number, card_of, build_form, check_form, convert_form, trace_form, converting_form_of, form_of, form_with, command_of}
+use Rattle.kit_core.specs.Command.{RunWords, Build, Trace, Run, are_distinct, checked_run, run_form, is_word, is_number, card_of, build_form, check_form, convert_form, trace_form, converting_form_of, form_of, form_with, command_of}
 use Rattle.kit_core.specs.Inputs.{◌>>=◌, or_refused, unread}
 use Rattle.kit_core.specs.Due.{Work, unbuilt, outputs_of, build_due, form_due}
 use Rattle.kit_core.specs.Outcome.{putting, EndsAs, Done, Refused, FileFault, OutOfMemory, SinkFault, IsOutcome}

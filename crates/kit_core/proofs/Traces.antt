@@ -6,7 +6,7 @@ use Rattle.kit_base.specs.Effects.{all_done}
 use Rattle.v32_isa.specs.Runs.{machine_runs}
 use Rattle.trace_core.specs.Texts.{run_text}
 use Rattle.kit_core.specs.declared.refusal.Refusal.TheVariants as refusals
-use Rattle.kit_core.specs.Inputs.{◌>>=◌, cart_due, answers_due, card_due}
+use Rattle.kit_core.specs.Inputs.{cart_due, answers_due, card_due}
 use Rattle.kit_core.specs.Tracing.{number_of, steps_due, traced_due, IsTraced, TraceStands}
 use Rattle.kit_core.specs.Due.{Work, trace_due, form_due}
 use Rattle.kit_core.specs.Outcome.{putting, IsOutcome}

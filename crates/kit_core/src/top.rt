@@ -31,6 +31,7 @@ use trace_core::Trace;
 use v32_console::FrameEnd;
 
 const OUT_OF_MEMORY: &[u8] = b"out of memory\n";
+
 const ACCEPTED: &[u8] = b"ok\n";
 
 /// Puts a text that ends a command at that status. A refusal of the sink answers 9, or 8 where it

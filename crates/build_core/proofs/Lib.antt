@@ -14,3 +14,4 @@ pub mod AssetReading
 pub mod Limits
 pub mod Builds
 pub mod Pure
+pub mod Checks

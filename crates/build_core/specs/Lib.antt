@@ -7,3 +7,4 @@ pub mod Agrees
 pub mod Due
 pub mod Causes
 pub mod Build
+pub mod Checked

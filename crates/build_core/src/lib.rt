@@ -11,6 +11,7 @@
 
 mod assets;
 mod building;
+mod checking;
 mod error;
 mod laws;
 mod packing;
@@ -21,6 +22,7 @@ mod straight;
 mod text;
 
 pub use building::{Built, build};
+pub use checking::check_sources;
 pub use error::BuildErr;
 pub use laws::{cartridge_does_what_its_source_means, straight_source_is_read};
 pub use straight::Statement;

@@ -12,7 +12,7 @@ use Rattle.clap.specs.declared.error.kind.ErrorKind.TheVariants as kind
 use Rattle.kit_core.specs.declared.conversion.Conversion.{Conversion}
 use Rattle.kit_core.specs.declared.conversion.Conversion.TheVariants.{Migrate, Assemble, Disassemble}
 use Rattle.kit_core.specs.Command.{convert_form, is_word, command_of, form_of, form_with, converting_form_of}
-use Rattle.kit_core.specs.CommandLine.{build_ids, convert_ids, trace_ids, run_ids, command_in, convert_in, command_line, converting_in, form, form_in}
+use Rattle.kit_core.specs.CommandLine.{build_ids, check_ids, convert_ids, trace_ids, run_ids, command_in, convert_in, command_line, converting_in, form, form_in}
 use Rattle.kit_core.proofs.Plain.{form_faults, form_faults_are, form_rows_are, is_flat, plain_faults, plain_walk}
 use Rattle.kit_core.proofs.FirstWord.{app, names, named_fault, named_rows}
 
@@ -86,6 +86,15 @@ run_answer (a ∷ b ∷ c ∷ d ∷ []) e = refused run (a ∷ b ∷ c ∷ d ∷
 run_answer (a ∷ b ∷ c ∷ d ∷ f ∷ []) e = refused run (a ∷ b ∷ c ∷ d ∷ f ∷ []) e kind.MissingRequiredArgument refl refl
 run_answer (a ∷ b ∷ c ∷ d ∷ f ∷ g ∷ []) e = taken run (a ∷ b ∷ c ∷ d ∷ f ∷ g ∷ []) e refl refl
 run_answer (a ∷ b ∷ c ∷ d ∷ f ∷ g ∷ h ∷ rest) e = refused run (a ∷ b ∷ c ∷ d ∷ f ∷ g ∷ h ∷ rest) e kind.UnknownArgument refl refl
+
+check : IsForm (codes "check") check_ids
+check = record { named = refl; found = refl; flat = refl }
+
+pub check_answer : (words : List Text) → list_all is_word words ≡ true → Answer (codes "check" ∷ words)
+unfolding clap_on_literals plain_walk plain_faults form_of form_in
+check_answer [] e = refused check [] e kind.MissingRequiredArgument refl refl
+check_answer (a ∷ []) e = taken check (a ∷ []) e refl refl
+check_answer (a ∷ b ∷ rest) e = refused check (a ∷ b ∷ rest) e kind.UnknownArgument refl refl
 
 -- this name's form makes one file of another
 pub record Converts (name : Text) (conversion : Conversion) : Type 0 where

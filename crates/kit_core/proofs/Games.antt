@@ -8,13 +8,13 @@ use Rattle.run_core.specs.Outputs.{Names, run_outputs}
 use Rattle.kit_core.specs.declared.refusal.Refusal.{Refusal}
 use Rattle.kit_core.specs.declared.refusal.Refusal.TheVariants as refusals
 use Rattle.kit_core.specs.declared.shown.Shown.{Shown}
-use Rattle.kit_core.specs.Command.{RunWords, Run, command_of}
-use Rattle.kit_core.specs.Inputs.{◌>>=◌, or_usage}
-use Rattle.kit_core.specs.Due.{Work, run_due, work_due}
+use Rattle.kit_core.specs.Command.{RunWords}
+use Rattle.kit_core.specs.Inputs.{◌>>=◌}
+use Rattle.kit_core.specs.Due.{Work, run_due, form_due}
 use Rattle.kit_core.specs.Running.{Game, IsRun, RunStands, end_status, game_due, game_end, names_in, run_reads}
-use Rattle.kit_core.specs.Gaming.{IsDone, IsWritten}
-use Rattle.kit_core.specs.Outcome.{putting, Comes, IsOutcome}
-use Rattle.kit_core.specs.Carrying.{IsCut, Leaves, shown_status, text_of}
+use Rattle.kit_core.specs.Gaming.{IsWritten}
+use Rattle.kit_core.specs.Outcome.{putting, IsOutcome}
+use Rattle.kit_core.specs.Carrying.{Leaves}
 use Rattle.kit_core.proofs.Stages.{cut}
 use Rattle.kit_core.proofs.Headlines.{bind_ok, done_at_three}
 
@@ -39,7 +39,7 @@ module _ (words : RunWords) (game : Game) where
   left_by : (r : Result Shown Refusal) (m : Held) (h2 : Option Held) → WasRead (Some m) → IsWritten (names_in words) game r (Some m) h2
       → Leaves r (run_due words m) (run_reads words) m h2
   left_by (Ok v) m h2 read done = (work, is_due m read, done.outputs, done.text, done.status)
-  left_by (Err e) m h2 read is_cut = cut e work _ _ m h2 (is_due m read) is_cut
+  left_by (Err e) m h2 read is_cut = cut e work (run_due words m) (run_reads words) m h2 (is_due m read) is_cut
 
   pub run_left : (r : Result Shown Refusal) (h0 h1 h2 : Option Held) → WasRead h0 → h1 ≡ h0 → IsWritten (names_in words) game r h1 h2
       → IfSome h0 (λ m. Leaves r (run_due words m) (run_reads words) m h2)
@@ -73,7 +73,7 @@ run_stands : (words : List (List ℕ)) (m : Held) (status : ℕ) (after : Option
     → IsOutcome words m status after before put → (status ≡ 0) ⊎ (status ≡ 3) → RunStands words m status after before put
 run_stands words m status after before put outcome z = λ run named.
     let done = done_at_three _ _ m status after before put outcome z in
-    let is_due : run_due run m ≡ Ok done.0 = sym (ap (λ o. or_usage o >>= λ k. work_due k m) named) ∙ done.1 in
+    let is_due : run_due run m ≡ Ok done.0 = subst (λ o. form_due o m (Ok done.0)) named done.1 in
     run_into run m status after before put done.0 is_due done.2 done.3 done.4
 
 pub run_told : (words : List (List ℕ)) (status : ℕ) (told after : Option Held) (before put : Option (List ℕ))

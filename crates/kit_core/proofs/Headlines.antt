@@ -16,9 +16,9 @@ use Rattle.kit_core.specs.declared.refusal.Refusal.TheVariants as refusals
 use Rattle.kit_core.specs.Refusal.{status_of}
 use Rattle.kit_core.specs.declared.conversion.Conversion.{Conversion}
 use Rattle.kit_core.specs.declared.conversion.Conversion.TheVariants.{Migrate, Assemble, Disassemble}
-use Rattle.kit_core.specs.Command.{RunWords, Build, Convert, Trace, Run, are_distinct, checked_run, run_form, is_word, is_number, card_of, build_form, convert_form, trace_form, converting_form_of, form_of, form_with, command_of}
-use Rattle.kit_core.specs.Inputs.{◌>>=◌, or_refused, or_usage, unread}
-use Rattle.kit_core.specs.Due.{Work, unbuilt, outputs_of, build_due, work_due}
+use Rattle.kit_core.specs.Command.{RunWords, Build, Trace, Run, are_distinct, checked_run, run_form, is_word, is_number, card_of, build_form, check_form, convert_form, trace_form, converting_form_of, form_of, form_with, command_of}
+use Rattle.kit_core.specs.Inputs.{◌>>=◌, or_refused, unread}
+use Rattle.kit_core.specs.Due.{Work, unbuilt, outputs_of, build_due, form_due}
 use Rattle.kit_core.specs.Outcome.{putting, EndsAs, Done, Refused, FileFault, OutOfMemory, SinkFault, IsOutcome}
 use Rattle.kit_core.specs.Headline.{IsBuiltInto, BuildStands}
 use Rattle.kit_core.proofs.Stages.{refused_gave}
@@ -83,19 +83,26 @@ by_run (cart ∷ pads ∷ frames ∷ samples ∷ count ∷ card ∷ []) p c n h 
     by_checked (record { cart = cart; pads = pads; frames = frames; samples = samples; count = count; card = card_of card }) p c n h
 by_run (a ∷ b ∷ d ∷ e ∷ f ∷ g ∷ i ∷ rest) p c n h = absurd cc
 
-by_form : (is_build is_trace is_run : Bool) (name : List ℕ) (arguments : List (List ℕ)) (p c n : List ℕ)
-    → (if is_build then build_form arguments else (if is_trace then trace_form arguments else (if is_run then run_form arguments else converting_form_of name arguments))) ≡ Some (Build p c n)
+-- nor is a check
+by_check : (arguments : List (List ℕ)) (p c n : List ℕ) → check_form arguments ≡ Some (Build p c n) → ⊥
+by_check [] p c n h = absurd cc
+by_check (project ∷ []) p c n h = absurd cc
+by_check (a ∷ b ∷ rest) p c n h = absurd cc
+
+by_form : (is_build is_trace is_run is_check : Bool) (name : List ℕ) (arguments : List (List ℕ)) (p c n : List ℕ)
+    → (if is_build then build_form arguments else (if is_trace then trace_form arguments else (if is_run then run_form arguments else (if is_check then check_form arguments else converting_form_of name arguments)))) ≡ Some (Build p c n)
     → bytes_eq c n ≡ false
-by_form true is_trace is_run name arguments p c n h = by_arguments arguments p c n h
-by_form false true is_run name arguments p c n h = absurd (by_trace arguments p c n h)
-by_form false false true name arguments p c n h = absurd (by_run arguments p c n h)
-by_form false false false name arguments p c n h = absurd (by_converting name arguments p c n h)
+by_form true is_trace is_run is_check name arguments p c n h = by_arguments arguments p c n h
+by_form false true is_run is_check name arguments p c n h = absurd (by_trace arguments p c n h)
+by_form false false true is_check name arguments p c n h = absurd (by_run arguments p c n h)
+by_form false false false true name arguments p c n h = absurd (by_check arguments p c n h)
+by_form false false false false name arguments p c n h = absurd (by_converting name arguments p c n h)
 
 created_differ : (words : List (List ℕ)) (p c n : List ℕ) → command_of words ≡ Some (Build p c n) → bytes_eq c n ≡ false
 unfolding form_of form_with
 created_differ [] p c n h = cc
 created_differ (name ∷ arguments) p c n h =
-    by_form (bytes_eq name (codes "build")) (bytes_eq name (codes "trace")) (bytes_eq name (codes "run")) name arguments p c n (chosen (list_all is_word arguments) _ _ h)
+    by_form (bytes_eq name (codes "build")) (bytes_eq name (codes "trace")) (bytes_eq name (codes "run")) (bytes_eq name (codes "check")) name arguments p c n (chosen (list_all is_word arguments) _ _ h)
 
 -- the parts of a work that is due
 pub bind_ok : {A B : Type 0} (r : Result A Refusal) (f : A → Result B Refusal) (y : B) → (r >>= f) ≡ Ok y → (x : A) × (r ≡ Ok x) × (f x ≡ Ok y)
@@ -126,26 +133,26 @@ not_three (refusals.OutOfRange n) h = omega arith
 not_three refusals.LongCartridge h = omega arith
 not_three refusals.Memory h = omega arith
 
-pub done_at_three : (d : Result Work Refusal) (reads : List (List ℕ)) (m : Held) (status : ℕ) (after : Option Held) (before put : Option (List ℕ))
-    → EndsAs d reads m status after before put → (status ≡ 0) ⊎ (status ≡ 3)
-    → (work : Work) × (d ≡ Ok work) × (after ≡ all_done work.effects (Some m)) × (put ≡ putting work.text before) × (status ≡ work.status)
-done_at_three d reads m status after before put (Done h) z = (h.work, h.is_due, h.files, h.text, h.status_is)
-done_at_three d reads m status after before put (Refused h) (inl z) = absurd (not_zero h.refusal (sym h.status_is ∙ z))
-done_at_three d reads m status after before put (Refused h) (inr z) = absurd (not_three h.refusal (sym h.status_is ∙ z))
-done_at_three d reads m status after before put (FileFault h) (inl z) = absurd (omega (arith, h.status_is))
-done_at_three d reads m status after before put (FileFault h) (inr z) = absurd (omega (arith, h.status_is))
-done_at_three d reads m status after before put (OutOfMemory s h) (inl z) = absurd (omega arith)
-done_at_three d reads m status after before put (OutOfMemory s h) (inr z) = absurd (omega arith)
-done_at_three d reads m status after before put (SinkFault s h) (inl z) = absurd (omega arith)
-done_at_three d reads m status after before put (SinkFault s h) (inr z) = absurd (omega arith)
+pub done_at_three : (Due : Result Work Refusal → Type 0) (Reads : List ℕ → Type 0) (m : Held) (status : ℕ) (after : Option Held) (before put : Option (List ℕ))
+    → EndsAs Due Reads m status after before put → (status ≡ 0) ⊎ (status ≡ 3)
+    → (work : Work) × Due (Ok work) × (after ≡ all_done work.effects (Some m)) × (put ≡ putting work.text before) × (status ≡ work.status)
+done_at_three Due Reads m status after before put (Done h) z = (h.work, h.is_due, h.files, h.text, h.status_is)
+done_at_three Due Reads m status after before put (Refused h) (inl z) = absurd (not_zero h.refusal (sym h.status_is ∙ z))
+done_at_three Due Reads m status after before put (Refused h) (inr z) = absurd (not_three h.refusal (sym h.status_is ∙ z))
+done_at_three Due Reads m status after before put (FileFault h) (inl z) = absurd (omega (arith, h.status_is))
+done_at_three Due Reads m status after before put (FileFault h) (inr z) = absurd (omega (arith, h.status_is))
+done_at_three Due Reads m status after before put (OutOfMemory s h) (inl z) = absurd (omega arith)
+done_at_three Due Reads m status after before put (OutOfMemory s h) (inr z) = absurd (omega arith)
+done_at_three Due Reads m status after before put (SinkFault s h) (inl z) = absurd (omega arith)
+done_at_three Due Reads m status after before put (SinkFault s h) (inr z) = absurd (omega arith)
 
-pub done_at_zero : (d : Result Work Refusal) (reads : List (List ℕ)) (m : Held) (status : ℕ) (after : Option Held) (before put : Option (List ℕ))
-    → EndsAs d reads m status after before put → status ≡ 0 → (work : Work) × (d ≡ Ok work) × (after ≡ all_done work.effects (Some m)) × (put ≡ putting work.text before)
-done_at_zero d reads m status after before put (Done h) z = (h.work, h.is_due, h.files, h.text)
-done_at_zero d reads m status after before put (Refused h) z = absurd (not_zero h.refusal (sym h.status_is ∙ z))
-done_at_zero d reads m status after before put (FileFault h) z = absurd (omega (arith, h.status_is))
-done_at_zero d reads m status after before put (OutOfMemory s h) z = absurd (omega arith)
-done_at_zero d reads m status after before put (SinkFault s h) z = absurd (omega arith)
+pub done_at_zero : (Due : Result Work Refusal → Type 0) (Reads : List ℕ → Type 0) (m : Held) (status : ℕ) (after : Option Held) (before put : Option (List ℕ))
+    → EndsAs Due Reads m status after before put → status ≡ 0 → (work : Work) × Due (Ok work) × (after ≡ all_done work.effects (Some m)) × (put ≡ putting work.text before)
+done_at_zero Due Reads m status after before put (Done h) z = (h.work, h.is_due, h.files, h.text)
+done_at_zero Due Reads m status after before put (Refused h) z = absurd (not_zero h.refusal (sym h.status_is ∙ z))
+done_at_zero Due Reads m status after before put (FileFault h) z = absurd (omega (arith, h.status_is))
+done_at_zero Due Reads m status after before put (OutOfMemory s h) z = absurd (omega arith)
+done_at_zero Due Reads m status after before put (SinkFault s h) z = absurd (omega arith)
 
 -- both files stand
 cart_there : (m : Held) (cart map_name : List ℕ) (b : Built) (after : Option Held) → bytes_eq cart map_name ≡ false
@@ -182,7 +189,7 @@ pub headline : Law → (words : List (List ℕ)) (m : Held) (status : ℕ) (afte
     → IsOutcome words m status after before put → status ≡ 0 → BuildStands words m after
 headline law words m status after before put outcome z = λ project cart map_name named.
     let done = done_at_zero _ _ m status after before put outcome z in
-    let is_due : build_due project cart map_name m ≡ Ok done.0 = sym (ap (λ o. or_usage o >>= λ k. work_due k m) named) ∙ done.1 in
+    let is_due : build_due project cart map_name m ≡ Ok done.0 = subst (λ o. form_due o m (Ok done.0)) named done.1 in
     built_into law project cart map_name m after done.0 (created_differ words project cart map_name named) is_due done.2
 
 pub headline_told : Law → (words : List (List ℕ)) (status : ℕ) (told after : Option Held) (before put : Option (List ℕ))

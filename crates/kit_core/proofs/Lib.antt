@@ -11,6 +11,8 @@ pub mod Writes
 pub mod Headlines
 pub mod Traces
 pub mod Games
+pub mod Checks
+pub mod Ends
 pub mod Given
 pub mod Telling
 pub mod Plain

@@ -7,17 +7,17 @@ use Rattle.kit_core.specs.declared.refusal.Refusal.{Refusal}
 use Rattle.kit_core.specs.declared.refusal.Refusal.TheVariants as refusals
 use Rattle.kit_core.specs.Refusal.{status_of, line_of}
 use Rattle.kit_core.specs.Due.{Work}
-use Rattle.kit_core.specs.Outcome.{putting, Comes, EndsAs, Done, Refused, FileFault, OutOfMemory, SinkFault, IsCutOff}
-use Rattle.kit_core.specs.Carrying.{Leaves, Shows, shown_status, text_of}
+use Rattle.kit_core.specs.Outcome.{putting, ComesBy, EndsAs, Done, Refused, FileFault, OutOfMemory, SinkFault, IsCutOff}
+use Rattle.kit_core.specs.Carrying.{LeavesBy, Shows, shown_status, text_of}
 use Rattle.kit_core.specs.declared.shown.Shown.{Shown}
 
-module _ (due : Result Work Refusal) (reads : List (List ℕ)) (m : Held) (status : ℕ) (after : Option Held) (before put : Option (List ℕ)) where
+module _ (Due : Result Work Refusal → Type 0) (Reads : List ℕ → Type 0) (m : Held) (status : ℕ) (after : Option Held) (before put : Option (List ℕ)) where
   -- memory ran out, or the sink failed
-  cut_off : (status ≡ 8) ⊎ (status ≡ 9) → IsCutOff due reads m after before put → EndsAs due reads m status after before put
+  cut_off : (status ≡ 8) ⊎ (status ≡ 9) → IsCutOff Due Reads m after before put → EndsAs Due Reads m status after before put
   cut_off (inl s) h = OutOfMemory s h
   cut_off (inr s) h = SinkFault s h
 
-  pub outcome_done : (v : Shown) → Leaves (Ok v) due reads m after → Shows (shown_status v) (text_of v) status before put → EndsAs due reads m status after before put
+  pub outcome_done : (v : Shown) → LeavesBy (Ok v) Due Reads m after → Shows (shown_status v) (text_of v) status before put → EndsAs Due Reads m status after before put
   outcome_done v (work, is_due, files, text, same) (inl (s, p)) =
       Done (record { work = work; is_due = is_due; status_is = s ∙ same; files = files; text = p ∙ ap (λ xs. putting xs before) text })
   outcome_done v (work, is_due, files, text, same) (inr (s, (count, line_count, p))) =
@@ -26,7 +26,7 @@ module _ (due : Result Work Refusal) (reads : List (List ℕ)) (m : Held) (statu
   memory_line : (list : List ℕ) → putting list before ≡ putting (take (length list) list ++ take 0 list) before
   memory_line list = ap (λ xs. putting xs before) (sym (append-nil (take (length list) list) ∙ take-length list))
 
-  shown_whole : (e : Refusal) → Comes e due reads m after → status ≡ status_of e → put ≡ putting (line_of e) before → EndsAs due reads m status after before put
+  shown_whole : (e : Refusal) → ComesBy e Due Reads m after → status ≡ status_of e → put ≡ putting (line_of e) before → EndsAs Due Reads m status after before put
   shown_whole (refusals.Failed name) comes s p = FileFault (record { name = name; files = comes; status_is = s; text = p })
   shown_whole refusals.Memory comes s p =
       OutOfMemory s (record { whole = line_of refusals.Memory; shown = inr (refusals.Memory, comes, refl); count = length (line_of refusals.Memory); line_count = 0; text = p ∙ memory_line (line_of refusals.Memory) })
@@ -38,7 +38,7 @@ module _ (due : Result Work Refusal) (reads : List (List ℕ)) (m : Held) (statu
   shown_whole (refusals.OutOfRange n) comes s p = Refused (record { refusal = _; is_due = comes.0; status_is = s; files = comes.1; text = p })
   shown_whole refusals.LongCartridge comes s p = Refused (record { refusal = _; is_due = comes.0; status_is = s; files = comes.1; text = p })
 
-  pub outcome_refused : (e : Refusal) → Comes e due reads m after → Shows (status_of e) (line_of e) status before put → EndsAs due reads m status after before put
+  pub outcome_refused : (e : Refusal) → ComesBy e Due Reads m after → Shows (status_of e) (line_of e) status before put → EndsAs Due Reads m status after before put
   outcome_refused e comes (inl (s, p)) = shown_whole e comes s p
   outcome_refused e comes (inr (s, (count, line_count, p))) =
       cut_off s (record { whole = line_of e; shown = inr (e, comes, refl); count = count; line_count = line_count; text = p })

@@ -89,7 +89,7 @@ module _ (project cart map_name text : List ℕ) where
   refused_after : (e : Refusal) (m : Held) (held : Option Held) → WasRead (Some m) → GivesBy (λ b. b) (Err e) (or_refused (unbuilt project) (built_of m text))
       → FailsAt (reads_of m text) e → held ≡ Some m → Comes e (build_due project cart map_name m) (build_reads project m) m held
   refused_after e m held read given at same =
-      stopped (λ (b : Built). b) e (or_refused (unbuilt project) (built_of m text)) _ _ m held given
+      stopped (λ (b : Built). b) e (or_refused (unbuilt project) (built_of m text)) (build_due project cart map_name m) (build_reads project m) m held given
       (fails_later project (reads_in m (due m project)) e (subst (λ d. FailsAt (reads_in m d) e) (sym (refused_gave _ _ _ read)) at))
       (λ r is. after_read m read ∙ ap (λ d. d >>= λ b. Ok (record { effects = outputs_of cart map_name b; text = []; status = 0 })) is)
       same
@@ -121,4 +121,4 @@ module _ (project cart map_name text : List ℕ) where
         → IfSome h0 (λ m. Comes e (build_due project cart map_name m) (build_reads project m) m h3)
     left_cut e None h1 h2 h3 read e1 built e2 is_cut = tt
     left_cut e (Some m) h1 h2 h3 read e1 built e2 is_cut =
-        cut e (record { effects = outputs_of cart map_name b; text = []; status = 0 }) _ _ m h3 (due_work m read (subst WasBuilt e1 built)) (subst (λ h. IsCut e (outputs_of cart map_name b) h h3) (e2 ∙ e1) is_cut)
+        cut e (record { effects = outputs_of cart map_name b; text = []; status = 0 }) (build_due project cart map_name m) (build_reads project m) m h3 (due_work m read (subst WasBuilt e1 built)) (subst (λ h. IsCut e (outputs_of cart map_name b) h h3) (e2 ∙ e1) is_cut)

@@ -1,14 +1,14 @@
 -- A status 0 of a trace says that its text was put.
-use Rattle.std.proofs.Common.{ℕ, ◌≡◌, ◌≤◌, Bool, true, false, List, [], refl, sym, ap, ◌∙◌, arith}
+use Rattle.std.proofs.Common.{ℕ, ◌≡◌, ◌≤◌, Bool, true, false, List, [], refl, sym, ap, subst, ◌∙◌, arith}
 use Rattle.std.specs.Prelude.{Option, Some, None, Ok, Err, IfSome, nat_lt, if◌then◌else◌}
 use Rattle.kit_base.specs.Held.{Held}
 use Rattle.kit_base.specs.Effects.{all_done}
 use Rattle.v32_isa.specs.Runs.{machine_runs}
 use Rattle.trace_core.specs.Texts.{run_text}
 use Rattle.kit_core.specs.declared.refusal.Refusal.TheVariants as refusals
-use Rattle.kit_core.specs.Inputs.{◌>>=◌, or_usage, cart_due, answers_due, card_due}
+use Rattle.kit_core.specs.Inputs.{cart_due, answers_due, card_due}
 use Rattle.kit_core.specs.Tracing.{number_of, steps_due, traced_due, IsTraced, TraceStands}
-use Rattle.kit_core.specs.Due.{Work, trace_due, work_due}
+use Rattle.kit_core.specs.Due.{Work, trace_due, form_due}
 use Rattle.kit_core.specs.Outcome.{putting, IsOutcome}
 use Rattle.kit_core.proofs.Headlines.{bind_ok, done_at_zero}
 
@@ -47,7 +47,7 @@ trace_stands : (words : List (List ℕ)) (m : Held) (status : ℕ) (after : Opti
     → IsOutcome words m status after before put → status ≡ 0 → TraceStands words m after before put
 trace_stands words m status after before put outcome z = λ cart answers card steps named.
     let done = done_at_zero _ _ m status after before put outcome z in
-    let is_due : trace_due cart answers card steps m ≡ Ok done.0 = sym (ap (λ o. or_usage o >>= λ k. work_due k m) named) ∙ done.1 in
+    let is_due : trace_due cart answers card steps m ≡ Ok done.0 = subst (λ o. form_due o m (Ok done.0)) named done.1 in
     traced_into cart answers card steps m after before put done.0 is_due done.2 done.3
 
 pub trace_told : (words : List (List ℕ)) (status : ℕ) (told after : Option Held) (before put : Option (List ℕ))

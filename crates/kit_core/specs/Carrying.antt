@@ -10,8 +10,8 @@ use Rattle.kit_core.specs.declared.shown.Shown.TheVariants as shown
 use Rattle.kit_core.specs.declared.refusal.Refusal.{Refusal}
 use Rattle.kit_core.specs.declared.refusal.Refusal.TheVariants as refusals
 use Rattle.kit_core.specs.Refusal.{line_of}
-use Rattle.kit_core.specs.Due.{Work}
-use Rattle.kit_core.specs.Outcome.{putting, Comes}
+use Rattle.kit_core.specs.Due.{Work, accepted}
+use Rattle.kit_core.specs.Outcome.{putting, ComesBy}
 
 -- a reading part: its answer is the one that is due, unless memory ran out or a call failed
 abbrev pub GivesBy : {X Y : Type 0} → (X → Y) → Result X Refusal → Result Y Refusal → Type 0
@@ -34,20 +34,26 @@ IsCut refusal effects before after = ⊥
 -- the text that is to be put
 abbrev pub text_of : Shown → List ℕ
 text_of shown.Nothing = []
+text_of shown.Accepted = accepted.text
 text_of (shown.Run trace) = trace_text trace
 text_of (shown.Ended ending end) = end_text ending end
 
 -- and the status that is answered then
 abbrev pub shown_status : Shown → ℕ
 shown_status shown.Nothing = 0
+shown_status shown.Accepted = 0
 shown_status (shown.Run trace) = 0
 shown_status (shown.Ended ending end) = end_status end
 
 -- a whole command: its work was done but for its text, which is handed on, or its refusal came
+abbrev pub LeavesBy : Result Shown Refusal → (Result Work Refusal → Type 0) → (List ℕ → Type 0) → Held → Option Held → Type 0
+LeavesBy (Ok shown) Due Reads held after =
+    (work : Work) × Due (Ok work) × (after ≡ all_done work.effects (Some held)) × (text_of shown ≡ work.text) × (shown_status shown ≡ work.status)
+LeavesBy (Err refusal) Due Reads held after = ComesBy refusal Due Reads held after
+
+-- the same where one thing is due, and these names are read
 abbrev pub Leaves : Result Shown Refusal → Result Work Refusal → List (List ℕ) → Held → Option Held → Type 0
-Leaves (Ok shown) due reads held after =
-    (work : Work) × (due ≡ Ok work) × (after ≡ all_done work.effects (Some held)) × (text_of shown ≡ work.text) × (shown_status shown ≡ work.status)
-Leaves (Err refusal) due reads held after = Comes refusal due reads held after
+Leaves result due reads held after = LeavesBy result (λ d. due ≡ d) (Contains reads) held after
 
 -- one put of a text that ends a command at that status: whole, or a front of it
 abbrev pub Puts : (status_whole : ℕ) (whole : List ℕ) (status : ℕ) (before put : Option (List ℕ)) → Type 0

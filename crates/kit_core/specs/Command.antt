@@ -25,6 +25,8 @@ pub data Command : Type 0 where
   Trace : (cart answers : List ℕ) → (card : Option (List ℕ)) → (steps : List ℕ) → Command
   -- `run cart pads frames samples count card`
   Run : RunWords → Command
+  -- `check project`
+  Check : (project : List ℕ) → Command
 
 abbrev pub texts : List (String Global) → List (List ℕ)
 texts words = map string_bytes words
@@ -73,6 +75,10 @@ run_form (cart ∷ pads ∷ frames ∷ samples ∷ count ∷ card ∷ []) =
     checked_run (record { cart = cart; pads = pads; frames = frames; samples = samples; count = count; card = card_of card })
 run_form arguments = None
 
+abbrev pub check_form : List (List ℕ) → Option Command
+check_form (project ∷ []) = Some (Check project)
+check_form arguments = None
+
 -- the form of that name
 unfoldable pub converting_form_of : List ℕ → List (List ℕ) → Option Command
 converting_form_of name arguments =
@@ -85,7 +91,8 @@ form_of name arguments =
     if bytes_eq name (codes "build") then build_form arguments
     else (if bytes_eq name (codes "trace") then trace_form arguments
     else (if bytes_eq name (codes "run") then run_form arguments
-    else converting_form_of name arguments))
+    else (if bytes_eq name (codes "check") then check_form arguments
+    else converting_form_of name arguments)))
 
 unfoldable pub form_with : (name : List ℕ) → (arguments : List (List ℕ)) → Option Command
 form_with name arguments = if list_all is_word arguments then form_of name arguments else None

@@ -1,5 +1,5 @@
 -- What a command is due, for its words and for the files that are held: the one order of refusals.
-use Rattle.std.specs.Prelude.{ℕ, List, [], ◌∷◌, ◌++◌, Option, Some, None, Result, Ok, Err}
+use Rattle.std.specs.Prelude.{ℕ, ◌≡◌, List, [], ◌∷◌, ◌++◌, Option, Some, None, Result, Ok, Err, Contains, codes}
 use Rattle.kit_base.specs.Held.{Held}
 use Rattle.kit_base.specs.Effects.{Effect, written_file}
 use Rattle.kit_base.specs.Outside.{due}
@@ -8,12 +8,14 @@ use Rattle.build_core.specs.declared.error.BuildErr.{BuildErr}
 use Rattle.build_core.specs.declared.error.BuildErr.TheVariants as build_errors
 use Rattle.build_core.specs.declared.building.Built.{Built}
 use Rattle.build_core.specs.Due.{built_of, reads_of}
+use Rattle.build_core.specs.Checked.{IsAccepted, IsRejected}
+use Rattle.c_check.specs.Whole.{ProgramT}
 use Rattle.project_text.specs.MapText.{map_text}
 use Rattle.kit_core.specs.declared.refusal.Refusal.{Refusal}
 use Rattle.kit_core.specs.declared.refusal.Refusal.TheVariants as refusals
 use Rattle.kit_core.specs.declared.conversion.Conversion.{Conversion}
-use Rattle.kit_core.specs.Command.{Command, RunWords, Build, Convert, Trace, Run, command_of}
-use Rattle.kit_core.specs.Inputs.{◌>>=◌, or_refused, or_usage, unread}
+use Rattle.kit_core.specs.Command.{Command, RunWords, Build, Convert, Trace, Run, Check, command_of}
+use Rattle.kit_core.specs.Inputs.{◌>>=◌, or_refused, unread}
 use Rattle.kit_core.specs.Converting.{made_due}
 use Rattle.kit_core.specs.Tracing.{traced_due, trace_reads}
 use Rattle.kit_core.specs.Running.{end_status, game_due, game_end, names_in, run_reads}
@@ -70,17 +72,38 @@ run_due words held = do
     status = end_status (game_end game);
   })
 
-abbrev pub work_due : Command → Held → Result Work Refusal
-work_due (Build project cart map_name) held = build_due project cart map_name held
-work_due (Convert conversion source target) held = convert_due conversion source target held
-work_due (Trace cart answers card steps) held = trace_due cart answers card steps held
-work_due (Run words) held = run_due words held
+-- nothing is created, and `ok` is put
+abbrev pub accepted : Work
+accepted = record { effects = []; text = codes "ok" ++ 10 ∷ []; status = 0 }
+
+-- what the check of a project's text is due: `ok` where its source has a program, else why it has none
+abbrev pub text_check_due : (project text : List ℕ) → Held → Result Work Refusal → Type 0
+text_check_due project text held (Ok work) = ((p : ProgramT) × IsAccepted held text p) × (accepted ≡ work)
+text_check_due project text held (Err refusal) = (e : BuildErr) × IsRejected held text e × (unbuilt project e ≡ refusal)
+
+abbrev pub read_check_due : (project : List ℕ) → Held → Result (List ℕ) FileErr → Result Work Refusal → Type 0
+read_check_due project held (Ok text) d = text_check_due project text held d
+read_check_due project held (Err e) d = Err (unread project e) ≡ d
+
+-- The project's file is read, then checked. Of tokens that are no unit more than one refusal can be due, so this is a relation.
+abbrev pub check_due : (project : List ℕ) → Held → Result Work Refusal → Type 0
+check_due project held d = read_check_due project held (due held project) d
+
+-- what a command is due: one work or refusal, but for a check
+abbrev pub work_due : Command → Held → Result Work Refusal → Type 0
+work_due (Build project cart map_name) held d = build_due project cart map_name held ≡ d
+work_due (Convert conversion source target) held d = convert_due conversion source target held ≡ d
+work_due (Trace cart answers card steps) held d = trace_due cart answers card steps held ≡ d
+work_due (Run words) held d = run_due words held ≡ d
+work_due (Check project) held d = check_due project held d
+
+abbrev pub form_due : Option Command → Held → Result Work Refusal → Type 0
+form_due None held d = Err refusals.Usage ≡ d
+form_due (Some command) held d = work_due command held d
 
 -- the work of the command of these words, or its first refusal
-abbrev pub command_due : List (List ℕ) → Held → Result Work Refusal
-command_due words held = do
-  command ← or_usage (command_of words)
-  work_due command held
+abbrev pub command_due : List (List ℕ) → Held → Result Work Refusal → Type 0
+command_due words held d = form_due (command_of words) held d
 
 -- the names that a build reads after its project
 abbrev pub reads_in : Held → Result (List ℕ) FileErr → List (List ℕ)
@@ -90,13 +113,15 @@ reads_in held (Err e) = []
 abbrev pub build_reads : List ℕ → Held → List (List ℕ)
 build_reads project held = project ∷ reads_in held (due held project)
 
-abbrev pub command_reads : Option Command → Held → List (List ℕ)
-command_reads None held = []
-command_reads (Some (Build project cart map_name)) held = build_reads project held
-command_reads (Some (Convert conversion source target)) held = source ∷ []
-command_reads (Some (Trace cart answers card steps)) held = trace_reads cart answers card
-command_reads (Some (Run words)) held = run_reads words
+-- The names that a command reads. Which files a check reads beside its project and its source is not told.
+abbrev pub command_reads : Option Command → Held → List ℕ → Type 0
+command_reads None held name = ⊥
+command_reads (Some (Build project cart map_name)) held name = Contains (build_reads project held) name
+command_reads (Some (Convert conversion source target)) held name = Contains (source ∷ []) name
+command_reads (Some (Trace cart answers card steps)) held name = Contains (trace_reads cart answers card) name
+command_reads (Some (Run words)) held name = Contains (run_reads words) name
+command_reads (Some (Check project)) held name = Unit {0}
 
--- the names that the command of these words reads, in order
-abbrev pub reads_due : List (List ℕ) → Held → List (List ℕ)
-reads_due words held = command_reads (command_of words) held
+-- the names that the command of these words reads
+abbrev pub reads_due : List (List ℕ) → Held → List ℕ → Type 0
+reads_due words held name = command_reads (command_of words) held name

@@ -12,5 +12,6 @@ pub mod Causes
 pub mod Limits
 pub mod Outcome
 pub mod Carrying
+pub mod Checking
 pub mod Gaming
 pub mod Headline

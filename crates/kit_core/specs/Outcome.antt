@@ -13,66 +13,70 @@ putting piece before = option_map (λ bytes. bytes ++ piece) before
 
 -- The outputs that were due were cut short at a refused call on the file of that name: those before
 -- it are done in full, that one in part, and none after it was begun.
-abbrev pub StopsWriting : List ℕ → Result Work Refusal → Held → Option Held → Type 0
-StopsWriting name due held after = (work : Work) × (due ≡ Ok work) × CutShort name work.effects (Some held) after
+abbrev pub StopsWriting : List ℕ → (Result Work Refusal → Type 0) → Held → Option Held → Type 0
+StopsWriting name Due held after = (work : Work) × Due (Ok work) × CutShort name work.effects (Some held) after
 
 -- a read of one of these names failed, and nothing was changed
-abbrev pub StopsReading : List ℕ → List (List ℕ) → Held → Option Held → Type 0
-StopsReading name reads held after = Contains reads name × (after ≡ Some held)
+abbrev pub StopsReading : List ℕ → (List ℕ → Type 0) → Held → Option Held → Type 0
+StopsReading name Reads held after = Reads name × (after ≡ Some held)
 
--- The refusal came, and this is held after it: the one that is due, or a failing call of the files,
+-- The refusal came, and this is held after it: one that is due, or a failing call of the files,
 -- or want of memory at any place.
+abbrev pub ComesBy : Refusal → (Result Work Refusal → Type 0) → (List ℕ → Type 0) → Held → Option Held → Type 0
+ComesBy (refusals.Failed name) Due Reads held after = StopsReading name Reads held after ⊎ StopsWriting name Due held after
+ComesBy refusals.Memory Due Reads held after = (after ≡ Some held) ⊎ ((name : List ℕ) × StopsWriting name Due held after)
+ComesBy refusal Due Reads held after = Due (Err refusal) × (after ≡ Some held)
+
+-- the same where one thing is due, and these names are read
 abbrev pub Comes : Refusal → Result Work Refusal → List (List ℕ) → Held → Option Held → Type 0
-Comes (refusals.Failed name) due reads held after = StopsReading name reads held after ⊎ StopsWriting name due held after
-Comes refusals.Memory due reads held after = (after ≡ Some held) ⊎ ((name : List ℕ) × StopsWriting name due held after)
-Comes refusal due reads held after = (due ≡ Err refusal) × (after ≡ Some held)
+Comes refusal due reads held after = ComesBy refusal (λ d. due ≡ d) (Contains reads) held after
 
 -- Status 0, or 3 of a run that ended by a fault: all effects are done, and the text is put whole.
-pub record IsDone (due : Result Work Refusal) (held : Held) (status : ℕ) (after : Option Held) (before put : Option (List ℕ)) : Type 0 where
+pub record IsDone (Due : Result Work Refusal → Type 0) (held : Held) (status : ℕ) (after : Option Held) (before put : Option (List ℕ)) : Type 0 where
   pub work : Work
-  pub is_due : due ≡ Ok work
+  pub is_due : Due (Ok work)
   pub status_is : status ≡ work.status
   pub files : after ≡ all_done work.effects (Some held)
   pub text : put ≡ putting work.text before
 
 -- Status 1, 2, 4, 6 or 7: the refusal is the one that is due, nothing was created or changed, and
 -- its line is put.
-pub record IsRefused (due : Result Work Refusal) (held : Held) (status : ℕ) (after : Option Held) (before put : Option (List ℕ)) : Type 0 where
+pub record IsRefused (Due : Result Work Refusal → Type 0) (held : Held) (status : ℕ) (after : Option Held) (before put : Option (List ℕ)) : Type 0 where
   pub refusal : Refusal
-  pub is_due : due ≡ Err refusal
+  pub is_due : Due (Err refusal)
   pub status_is : status ≡ status_of refusal
   pub files : after ≡ Some held
   pub text : put ≡ putting (line_of refusal) before
 
 -- Status 5: a call on the file of that name failed, a read or an output, and its line is put.
-pub record HasFileFault (due : Result Work Refusal) (reads : List (List ℕ)) (held : Held) (status : ℕ) (after : Option Held) (before put : Option (List ℕ)) : Type 0 where
+pub record HasFileFault (Due : Result Work Refusal → Type 0) (Reads : List ℕ → Type 0) (held : Held) (status : ℕ) (after : Option Held) (before put : Option (List ℕ)) : Type 0 where
   pub name : List ℕ
-  pub files : Comes (refusals.Failed name) due reads held after
+  pub files : ComesBy (refusals.Failed name) Due Reads held after
   pub status_is : status ≡ 5
   pub text : put ≡ putting (line_of (refusals.Failed name)) before
 
 -- what is put where these files are left: the text of the work that was done, or the line of the
 -- refusal that came
-abbrev pub IsShown : List ℕ → Result Work Refusal → List (List ℕ) → Held → Option Held → Type 0
-IsShown text due reads held after =
-    ((work : Work) × (due ≡ Ok work) × (after ≡ all_done work.effects (Some held)) × (text ≡ work.text))
-    ⊎ ((refusal : Refusal) × Comes refusal due reads held after × (text ≡ line_of refusal))
+abbrev pub IsShown : List ℕ → (Result Work Refusal → Type 0) → (List ℕ → Type 0) → Held → Option Held → Type 0
+IsShown text Due Reads held after =
+    ((work : Work) × Due (Ok work) × (after ≡ all_done work.effects (Some held)) × (text ≡ work.text))
+    ⊎ ((refusal : Refusal) × ComesBy refusal Due Reads held after × (text ≡ line_of refusal))
 
 -- Status 8, where memory ran out, and 9, where the sink failed: a front of the text or of the
 -- refusal's line was put, and then a front of the line of 8.
-pub record IsCutOff (due : Result Work Refusal) (reads : List (List ℕ)) (held : Held) (after : Option Held) (before put : Option (List ℕ)) : Type 0 where
+pub record IsCutOff (Due : Result Work Refusal → Type 0) (Reads : List ℕ → Type 0) (held : Held) (after : Option Held) (before put : Option (List ℕ)) : Type 0 where
   pub whole : List ℕ
-  pub shown : IsShown whole due reads held after
+  pub shown : IsShown whole Due Reads held after
   pub count : ℕ
   pub line_count : ℕ
   pub text : put ≡ putting (take count whole ++ take line_count (line_of refusals.Memory)) before
 
-pub data EndsAs (due : Result Work Refusal) (reads : List (List ℕ)) (held : Held) (status : ℕ) (after : Option Held) (before put : Option (List ℕ)) : Type 0 where
-  Done : IsDone due held status after before put → EndsAs due reads held status after before put
-  Refused : IsRefused due held status after before put → EndsAs due reads held status after before put
-  FileFault : HasFileFault due reads held status after before put → EndsAs due reads held status after before put
-  OutOfMemory : status ≡ 8 → IsCutOff due reads held after before put → EndsAs due reads held status after before put
-  SinkFault : status ≡ 9 → IsCutOff due reads held after before put → EndsAs due reads held status after before put
+pub data EndsAs (Due : Result Work Refusal → Type 0) (Reads : List ℕ → Type 0) (held : Held) (status : ℕ) (after : Option Held) (before put : Option (List ℕ)) : Type 0 where
+  Done : IsDone Due held status after before put → EndsAs Due Reads held status after before put
+  Refused : IsRefused Due held status after before put → EndsAs Due Reads held status after before put
+  FileFault : HasFileFault Due Reads held status after before put → EndsAs Due Reads held status after before put
+  OutOfMemory : status ≡ 8 → IsCutOff Due Reads held after before put → EndsAs Due Reads held status after before put
+  SinkFault : status ≡ 9 → IsCutOff Due Reads held after before put → EndsAs Due Reads held status after before put
 
 -- the command of these words, among the files held, ended with that status, left these files and
 -- put what is put now behind what was put before

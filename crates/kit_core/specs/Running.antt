@@ -1,8 +1,7 @@
 -- The command `run`: what it writes, what it puts, and what its statuses 0 and 3 say.
-use Rattle.std.specs.Prelude.{ℕ, ◌≡◌, ◌≤◌, ◌&&◌, Bool, List, [], ◌∷◌, ◌++◌, nat_le, Option, Some, None, option_map, Result, Ok, Err, if◌then◌else◌}
+use Rattle.std.specs.Prelude.{ℕ, ◌≡◌, ◌&&◌, Bool, List, ◌∷◌, ◌++◌, nat_le, Option, Some, option_map, Result, Ok, Err, if◌then◌else◌}
 use Rattle.kit_base.specs.Held.{Held}
 use Rattle.kit_base.specs.Effects.{all_done}
-use Rattle.cart_format.specs.Cartridge.{Cartridge}
 use Rattle.run_files.specs.PadsReading.{pads_of}
 use Rattle.run_files.specs.Script.{Script}
 use Rattle.v32_console.specs.declared.frame_end.FrameEnd.{FrameEnd}

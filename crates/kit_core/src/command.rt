@@ -5,7 +5,7 @@ ghost use Rattle.clap.specs.Words.{found_of, rows_of, subcommand_rows_of};
 ghost use Rattle.clap.specs.Walk.{first_of};
 ghost use Rattle.clap.specs.declared.error.kind.ErrorKind.TheVariants.{OutOfMemory};
 ghost use Rattle.kit_core.specs.Command.{command_of, are_distinct, card_of, checked_run, differ_from, is_number, is_word, texts};
-ghost use Rattle.kit_core.specs.CommandLine.{build_in, command_in, convert_in, converting_in, form_in, run_in, trace_in};
+ghost use Rattle.kit_core.specs.CommandLine.{build_in, check_in, command_in, convert_in, converting_in, form_in, run_in, trace_in};
 ghost use Rattle.kit_core.specs.Parsed.{command_from, run_words_from};
 
 use crate::command_line::command_line;
@@ -46,6 +46,9 @@ pub enum Command<'a> {
         steps: &'a str,
     },
     Run(RunWords<'a>),
+    Check {
+        project: &'a str,
+    },
 }
 
 /// Whether an argument may be a name or a number.
@@ -179,6 +182,13 @@ fn run_in<'a>(given: &ArgMatches<'a>) -> Option<Command<'a>>
     })
 }
 
+fn check_in<'a>(given: &ArgMatches<'a>) -> Option<Command<'a>>
+    ensures { option_map command_from result ≡ check_in (rows_of (found_of given.now)) }
+{
+    let project = word_of(given, "project")?;
+    Some(Command::Check { project })
+}
+
 #[tactic(auto, unfolding(crate::specs::CommandLine::converting_in))]
 fn converting_in<'a>(name: &str, given: &ArgMatches<'a>) -> Option<Command<'a>>
     ensures { option_map command_from result ≡ converting_in name.now (rows_of (found_of given.now)) }
@@ -204,6 +214,8 @@ fn form_in<'a>(name: &str, given: &ArgMatches<'a>) -> Option<Command<'a>>
         trace_in(given)
     } else if name == "run" {
         run_in(given)
+    } else if name == "check" {
+        check_in(given)
     } else {
         converting_in(name, given)
     }

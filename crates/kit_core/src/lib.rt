@@ -7,6 +7,7 @@
 #![tactic(auto)]
 
 mod building;
+mod checking;
 mod command;
 mod command_line;
 mod conversion;

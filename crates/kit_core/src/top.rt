@@ -1,20 +1,22 @@
 // The top call.
-ghost use Rattle.std.specs.Prelude.{◌≡◌, ◌≢◌, ◌≤◌, ◌⊎◌, ℕ, IfSome, IsErr};
+ghost use Rattle.std.specs.Prelude.{◌≡◌, ◌≢◌, ◌≤◌, ◌⊎◌, ℕ, List, IfSome, Result, Err};
 ghost use Rattle.kit_base.specs.Counts.{Rose};
 ghost use Rattle.trace_core.specs.Putting.{trace_text};
 ghost use Rattle.run_core.specs.Ending.{end_text};
-ghost use Rattle.kit_core.specs.Carrying.{Leaves, Puts, Shows, shown_status, text_of};
+ghost use Rattle.kit_core.specs.Carrying.{LeavesBy, Puts, Shows, shown_status, text_of};
 ghost use Rattle.kit_core.specs.Causes.{HasCausesOr, HasOnlyRisen, IsUnrisen};
 ghost use Rattle.kit_core.specs.Command.{texts};
-ghost use Rattle.kit_core.specs.Due.{command_due, reads_due};
+ghost use Rattle.kit_core.specs.Due.{Work, accepted, command_due, reads_due};
 ghost use Rattle.kit_core.specs.Headline.{BuildStands};
 ghost use Rattle.kit_core.specs.Limits.{IsOver};
 ghost use Rattle.kit_core.specs.Outcome.{IsOutcome, status_due};
+ghost use Rattle.kit_core.specs.declared.refusal.Refusal.{Refusal};
 ghost use Rattle.kit_core.specs.Refusal.{IsStatus, line_of, status_of};
 ghost use Rattle.kit_core.specs.Running.{RunStands, end_status};
 ghost use Rattle.kit_core.specs.Tracing.{TraceStands};
 
 use crate::building::build_command;
+use crate::checking::check_command;
 use crate::command::{Command, command_of};
 use crate::converting::convert_command;
 use crate::refusal::{Refusal, line_of, status_of};
@@ -29,6 +31,8 @@ use trace_core::Trace;
 use v32_console::FrameEnd;
 
 const OUT_OF_MEMORY: &[u8] = b"out of memory\n";
+
+const ACCEPTED: &[u8] = b"ok\n";
 
 /// Puts a text that ends a command at that status. A refusal of the sink answers 9, or 8 where it
 /// wanted memory.
@@ -69,6 +73,15 @@ fn put_trace<S: Sink>(out: &mut S, trace: Trace) -> u8
     }
 }
 
+/// Puts that a project's source has a program.
+fn put_accepted<S: Sink>(out: &mut S) -> u8
+    ensures shows { Shows 0 accepted.text result (S.written out.old) (S.written out.new) }
+    ensures unput { result ≡ 9 → Rose (S.faults out.old) (S.faults out.new) }
+    ensures later { S.faults out.old ≤ S.faults out.new }
+{
+    put_last(out, ACCEPTED, 0)
+}
+
 /// The status of a run that ended so.
 fn end_status(end: FrameEnd) -> u8
     ensures { result ≡ end_status end }
@@ -100,6 +113,7 @@ fn finish<S: Sink>(out: &mut S, shown: Shown) -> u8
 {
     match shown {
         Shown::Nothing => 0,
+        Shown::Accepted => put_accepted(out),
         Shown::Run(trace) => put_trace(out, trace),
         Shown::Ended(ending, end) => put_end(out, &ending, end),
     }
@@ -107,7 +121,7 @@ fn finish<S: Sink>(out: &mut S, shown: Shown) -> u8
 
 /// Carries out the command of these words, up to its text.
 fn carry_out<F: Files>(alloc: Global, words: &[String], files: &mut F) -> Result<Shown, Refusal>
-    ensures told { IfSome (F.held files.old) (λ m. Leaves result (command_due (texts words.now) m) (reads_due (texts words.now) m) m (F.held files.new)) }
+    ensures told { IfSome (F.held files.old) (λ m. LeavesBy result (command_due (texts words.now) m) (reads_due (texts words.now) m) m (F.held files.new)) }
     ensures causes { HasCausesOr (IsOver (texts words.now) (F.held files.old)) result (F.faults files.old) (F.faults files.new) (F.misses files.old) (F.misses files.new) (F.overs files.old) (F.overs files.new) }
 {
     match command_of(alloc, words)? {
@@ -131,6 +145,7 @@ fn carry_out<F: Files>(alloc: Global, words: &[String], files: &mut F) -> Result
             },
         ) => trace_command(alloc, files, cart, answers, card, steps),
         Some(Command::Run(words)) => run_command(alloc, files, &words),
+        Some(Command::Check { project }) => check_command(alloc, files, project),
     }
 }
 
@@ -167,10 +182,10 @@ pub fn kit<F: Files, S: Sink>(alloc: Global, words: &[String], files: &mut F, ou
     // At 0 and 3 the outputs of a run are those of the console's run, and the line of its fault was put.
     ensures runs { IfSome (F.held files.old) (λ m. (result ≡ 0) ⊎ (result ≡ 3) → RunStands (texts words.now) m result (F.held files.new) (S.written out.old) (S.written out.new)) }
     // A command whose words or input are refused changes no file, whatever its status.
-    ensures untouched { IfSome (F.held files.old) (λ m. IsErr (command_due (texts words.now) m) → F.held files.new ≡ F.held files.old) }
-    // Where no call failed, the status is the one that is due, or 8.
+    ensures untouched { IfSome (F.held files.old) (λ m. (e : Refusal) → command_due (texts words.now) m (Err e) → F.held files.new ≡ F.held files.old) }
+    // Where no call failed, the status is one that is due, or 8.
     ensures complete { IfSome (F.held files.old) (λ m. IsUnrisen (F.faults files.old) (F.faults files.new) → IsUnrisen (S.faults out.old) (S.faults out.new)
-        → (result ≡ status_due (command_due (texts words.now) m)) ⊎ (result ≡ 8)) }
+        → ((d : Result Work Refusal) × command_due (texts words.now) m d × (result ≡ status_due d)) ⊎ (result ≡ 8)) }
     // Refusals by the outside come only where a count rose, one of a limit also where the command
     // itself is over it.
     ensures missing { result ≡ 4 → Rose (F.misses files.old) (F.misses files.new) }

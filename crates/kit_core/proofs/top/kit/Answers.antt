@@ -2,6 +2,7 @@ use Rattle.kit_core.specs.Command.{texts}
 use Rattle.kit_core.proofs.Headlines.{headline_told}
 use Rattle.kit_core.proofs.Traces.{trace_told}
 use Rattle.kit_core.proofs.Games.{run_told}
+use Rattle.kit_core.proofs.Ends.{complete_told, untouched_told}
 use Rattle.kit_core.proofs.top.kit.Goals as goal
 
 pub returns-clause-agrees : goal.returns-clause-agrees
@@ -18,3 +19,13 @@ pub returns-clause-runs : goal.returns-clause-runs
 returns-clause-runs g c =
     run_told (texts c.args.words.now) c.status_for.result (g.F.Reads.held c.args.files.now) (g.F.Reads.held c.status_for.new.files)
     (g.S.Sink.written c.args.out.now) (g.S.Sink.written c.status_for.new.out) c.status_for.ensures.told
+
+pub returns-clause-untouched : goal.returns-clause-untouched
+returns-clause-untouched g c =
+    untouched_told (texts c.args.words.now) c.status_for.result (g.F.Reads.held c.args.files.now) (g.F.Reads.held c.status_for.new.files)
+    (g.S.Sink.written c.args.out.now) (g.S.Sink.written c.status_for.new.out) c.status_for.ensures.told
+
+pub returns-clause-complete : goal.returns-clause-complete
+returns-clause-complete g c =
+    complete_told (texts c.args.words.now) c.status_for.result (g.F.Reads.held c.args.files.now) (g.F.Reads.held c.status_for.new.files)
+    (g.S.Sink.written c.args.out.now) (g.S.Sink.written c.status_for.new.out) _ _ _ _ c.status_for.ensures.failed c.status_for.ensures.unput c.status_for.ensures.told

@@ -1,0 +1,2 @@
+struct A { A a; };
+void main() { }

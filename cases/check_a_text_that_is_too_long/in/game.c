@@ -1,0 +1,2 @@
+int[3] a = "abc";
+void main() { }

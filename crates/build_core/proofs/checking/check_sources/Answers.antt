@@ -1,0 +1,15 @@
+use Rattle.build_core.proofs.Checks.{project_checks, project_accepts, refused_accepts}
+use Rattle.build_core.proofs.Projects.{source_is_text}
+use Rattle.build_core.proofs.checking.check_sources.Goals as goal
+
+pub check_source-requires : goal.check_source-requires
+check_source-requires g c = source_is_text c.args.project.now c.in-Ok.parts c.in-Ok.ensures.found
+
+pub returns-in-Ok-clause-told : goal.returns-in-Ok-clause-told
+returns-in-Ok-clause-told g c = project_checks c.args.project.now (g.F.Reads.held c.args.files.now) c.in-Ok.parts c.check_source.result c.in-Ok.ensures.found c.check_source.ensures.told
+
+pub returns-in-Ok-clause-accepts : goal.returns-in-Ok-clause-accepts
+returns-in-Ok-clause-accepts g c = project_accepts c.args.project.now (g.F.Reads.held c.args.files.now) c.in-Ok.parts c.check_source.result c.in-Ok.ensures.found c.check_source.ensures.accepts
+
+pub returns-in-Err-clause-accepts : goal.returns-in-Err-clause-accepts
+returns-in-Err-clause-accepts g c = refused_accepts c.args.project.now (g.F.Reads.held c.args.files.now) c.in-Err.refusal c.in-Err.ensures.told

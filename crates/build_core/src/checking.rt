@@ -1,0 +1,108 @@
+// The check of a project's source.
+ghost use Rattle.std.specs.Prelude.{ℕ, List, ◌≡◌, ◌≤◌, Ok, IfErr, IfSome, IsUtf8, length};
+ghost use Rattle.c_tree.specs.Tree.{ItemT};
+ghost use Rattle.c_tree.specs.View.{unit};
+ghost use Rattle.c_prep.specs.Files.{Expansion, expansion_of};
+ghost use Rattle.c_parse.specs.Tok.{toks};
+ghost use Rattle.c_parse.specs.Units.{Derives};
+ghost use Rattle.c_front.specs.Over.{over};
+ghost use Rattle.c_exprs.specs.Faults.{at};
+ghost use Rattle.c_check.specs.Whole.{ProgramT, WellTyped};
+ghost use Rattle.build_core.specs.Causes.{HasReadCauses};
+ghost use Rattle.build_core.specs.Checked.{Accepts, CanBeRefused, Checks, ChecksSource, IsOfRules, IsProgramOf, MissesOnly, Tells, Types, broken, unread};
+
+use crate::error::BuildErr;
+use crate::reading::project_in;
+use c_check::{Program, check};
+use c_exprs::CheckErr;
+use c_front::{FrontErr, Parsed, Places, read_unit};
+use c_rules::{Code, code_number};
+use c_tree::Span;
+use kit_base::{Name, Reads};
+use std::alloc::Global;
+
+/// Why a source has no syntax tree, as a build tells it.
+fn unread(error: FrontErr) -> BuildErr
+    ensures { result ≡ unread error }
+{
+    match error {
+        FrontErr::Source { code, file, line } => BuildErr::Source { code, file, line },
+        FrontErr::Missing(name) => BuildErr::Missing(name),
+        FrontErr::Failed(name) => BuildErr::Failed(name),
+        FrontErr::Limit(name) => BuildErr::Limit(name),
+        FrontErr::Memory => BuildErr::Memory,
+    }
+}
+
+/// A broken rule, at the file and line of the first token of that span.
+fn broken(alloc: Global, places: &Places, code: Code, span: Span) -> BuildErr
+    ensures told { Tells result (broken places.now (at span code)) }
+    ensures content { IsOfRules result }
+{
+    let (name, line) = places.place_of(span);
+    match name.copy(alloc) {
+        Ok(file) => BuildErr::Source {
+            code: code_number(code),
+            file,
+            line,
+        },
+        Err(_) => BuildErr::Memory,
+    }
+}
+
+/// The typed program of a unit.
+fn typed(alloc: Global, parsed: &Parsed) -> Result<Program, BuildErr>
+    ensures typed { Types parsed.now result }
+    ensures only { (p : ProgramT) → WellTyped (unit parsed.now.unit) p → IsProgramOf p result }
+    ensures content { IfErr result IsOfRules }
+{
+    match check(alloc, &parsed.unit) {
+        Ok(program) => Ok(program),
+        Err(CheckErr::At { code, span }) => Err(broken(alloc, &parsed.places, code, span)),
+        Err(CheckErr::Memory) => Err(BuildErr::Memory),
+    }
+}
+
+/// The typed program of the source of that name.
+fn check_source<F: Reads>(alloc: Global, files: &mut F, source: &Name) -> Result<Program, BuildErr>
+    requires { IsUtf8 source.now }
+    ensures held { F.held files.new ≡ F.held files.old }
+    ensures told { IfSome (F.held files.old) (λ m. ChecksSource m source.now result) }
+    ensures accepts { IfSome (F.held files.old) (λ m. (x : Expansion) (ds : List ItemT) (p : ProgramT)
+        → expansion_of (over m) source.now ≡ Ok x → Derives (toks x.tokens) ds → WellTyped ds p → IsProgramOf p result) }
+    ensures kinds { IfErr result (MissesOnly source.now) }
+    ensures causes { HasReadCauses result (F.faults files.old) (F.faults files.new)
+        (F.misses files.old) (F.misses files.new) (F.overs files.old) (F.overs files.new) }
+{
+    match read_unit(alloc, files, source.as_str()) {
+        Ok(parsed) => typed(alloc, &parsed),
+        Err(error) => Err(unread(error)),
+    }
+}
+
+/// Checks the source of the project of that text, which has at most 268,435,456 bytes, and gives its
+/// typed program. The source is read from the files, with those that it includes; the dialect's headers
+/// lie over the files. A refusal `Source` has the codes 10 to 50 with the file and the line, counted from
+/// 1, of the token that decides; `Bad` is a fault of the project's text; `Missing` is the source alone.
+/// No file changes.
+pub fn check_sources<F: Reads>(
+    alloc: Global,
+    files: &mut F,
+    project: &[u8],
+) -> Result<Program, BuildErr>
+    requires { length project.now ≤ 268435456 }
+    ensures held { F.held files.new ≡ F.held files.old }
+    // Where it is told what is held, the answer is the program of a project whose source is well typed, or
+    // why there is none, unless a call of the files failed or memory ran out;
+    ensures told { IfSome (F.held files.old) (λ m. Checks m project.now result) }
+    // and where there is one, it is that one.
+    ensures accepts { IfSome (F.held files.old) (λ m. Accepts m project.now result) }
+    ensures kinds { IfErr result (CanBeRefused project.now) }
+    ensures causes { HasReadCauses result (F.faults files.old) (F.faults files.new)
+        (F.misses files.old) (F.misses files.new) (F.overs files.old) (F.overs files.new) }
+{
+    match project_in(alloc, project) {
+        Ok(parts) => check_source(alloc, files, &parts.source),
+        Err(refusal) => Err(refusal),
+    }
+}

@@ -1,0 +1,84 @@
+-- What every end of a command says.
+use Rattle.std.proofs.Common.{ℕ, ◌≡◌, ◌⊎◌, inl, inr, List, [], sym, ap, subst, ◌∙◌}
+use Rattle.std.specs.Prelude.{Option, Some, None, Result, Ok, Err, IfSome}
+use Rattle.kit_base.specs.Held.{Held}
+use Rattle.kit_base.specs.Counts.{Rose}
+use Rattle.kit_base.specs.Effects.{all_done, CutShort}
+use Rattle.kit_base.specs.Outside.{due}
+use Rattle.kit_base.specs.declared.outside.FileErr.{FileErr}
+use Rattle.kit_core.specs.declared.refusal.Refusal.{Refusal}
+use Rattle.kit_core.specs.declared.refusal.Refusal.TheVariants as refusals
+use Rattle.kit_core.specs.Causes.{IsUnrisen}
+use Rattle.kit_core.specs.Command.{Command, Build, Convert, Trace, Run, Check, command_of}
+use Rattle.kit_core.specs.Due.{Work, build_due, convert_due, trace_due, run_due, read_check_due, form_due, command_due}
+use Rattle.kit_core.specs.Outcome.{ComesBy, IsShown, EndsAs, Done, Refused, FileFault, OutOfMemory, SinkFault, IsOutcome, status_due}
+
+-- where no work with effects is due, nothing changed
+module _ (Due : Result Work Refusal → Type 0) (Reads : List ℕ → Type 0) (m : Held) (after : Option Held) (none : (w : Work) → Due (Ok w) → w.effects ≡ []) where
+  done_still : (w : Work) → Due (Ok w) → after ≡ all_done w.effects (Some m) → after ≡ Some m
+  done_still w d e = e ∙ ap (λ es. all_done es (Some m)) (none w d)
+
+  not_cut : (name : List ℕ) (w : Work) → Due (Ok w) → CutShort name w.effects (Some m) after → ⊥
+  not_cut name w d h = subst (λ es. CutShort name es (Some m) after) (none w d) h
+
+  comes_still : (e : Refusal) → ComesBy e Due Reads m after → after ≡ Some m
+  comes_still (refusals.Failed n) (inl h) = h.1
+  comes_still (refusals.Failed n) (inr (w, d, h)) = absurd (not_cut n w d h)
+  comes_still refusals.Memory (inl h) = h
+  comes_still refusals.Memory (inr (n, (w, d, h))) = absurd (not_cut n w d h)
+  comes_still refusals.Usage h = h.1
+  comes_still (refusals.Source c f l) h = h.1
+  comes_still (refusals.Missing n) h = h.1
+  comes_still (refusals.Bad c n l) h = h.1
+  comes_still (refusals.Limit n) h = h.1
+  comes_still (refusals.OutOfRange n) h = h.1
+  comes_still refusals.LongCartridge h = h.1
+
+  shown_still : (text : List ℕ) → IsShown text Due Reads m after → after ≡ Some m
+  shown_still text (inl (w, d, files, t)) = done_still w d files
+  shown_still text (inr (e, comes, t)) = comes_still e comes
+
+  ends_still : (status : ℕ) (before put : Option (List ℕ)) → EndsAs Due Reads m status after before put → after ≡ Some m
+  ends_still status before put (Done h) = done_still h.work h.is_due h.files
+  ends_still status before put (Refused h) = h.files
+  ends_still status before put (FileFault h) = comes_still (refusals.Failed h.name) h.files
+  ends_still status before put (OutOfMemory s h) = shown_still h.whole h.shown
+  ends_still status before put (SinkFault s h) = shown_still h.whole h.shown
+
+differ : (r : Result Work Refusal) (e : Refusal) (w : Work) → r ≡ Err e → r ≡ Ok w → ⊥
+differ (Ok v) e w h k = absurd cc
+differ (Err d) e w h k = absurd cc
+
+-- a check has no effects
+check_still : (project : List ℕ) (m : Held) (r : Result (List ℕ) FileErr) (w : Work) → read_check_due project m r (Ok w) → w.effects ≡ []
+check_still project m (Ok text) w h = ap (λ (v : Work). v.effects) (sym h.1)
+check_still project m (Err e) w h = absurd cc
+
+form_still : (c : Option Command) (m : Held) (e : Refusal) → form_due c m (Err e) → (w : Work) → form_due c m (Ok w) → w.effects ≡ []
+form_still None m e h w k = absurd cc
+form_still (Some (Build project cart map_name)) m e h w k = absurd (differ (build_due project cart map_name m) e w h k)
+form_still (Some (Convert conversion source target)) m e h w k = absurd (differ (convert_due conversion source target m) e w h k)
+form_still (Some (Trace cart answers card steps)) m e h w k = absurd (differ (trace_due cart answers card steps m) e w h k)
+form_still (Some (Run words)) m e h w k = absurd (differ (run_due words m) e w h k)
+form_still (Some (Check project)) m e h w k = check_still project m (due m project) w k
+
+pub untouched_told : (words : List (List ℕ)) (status : ℕ) (told after : Option Held) (before put : Option (List ℕ))
+    → IfSome told (λ m. IsOutcome words m status after before put) → IfSome told (λ m. (e : Refusal) → command_due words m (Err e) → after ≡ told)
+untouched_told words status None after before put outcome = tt
+untouched_told words status (Some m) after before put outcome = λ e h. ends_still _ _ m after (form_still (command_of words) m e h) status before put outcome
+
+-- where no call failed, the status is one that is due, or 8
+ends_due : (Due : Result Work Refusal → Type 0) (Reads : List ℕ → Type 0) (m : Held) (status : ℕ) (after : Option Held) (before put : Option (List ℕ))
+    → EndsAs Due Reads m status after before put → (status ≡ 5 → ⊥) → (status ≡ 9 → ⊥) → ((d : Result Work Refusal) × Due d × (status ≡ status_due d)) ⊎ (status ≡ 8)
+ends_due Due Reads m status after before put (Done h) five nine = inl (Ok h.work, h.is_due, h.status_is)
+ends_due Due Reads m status after before put (Refused h) five nine = inl (Err h.refusal, h.is_due, h.status_is)
+ends_due Due Reads m status after before put (FileFault h) five nine = absurd (five h.status_is)
+ends_due Due Reads m status after before put (OutOfMemory s h) five nine = inr s
+ends_due Due Reads m status after before put (SinkFault s h) five nine = absurd (nine s)
+
+pub complete_told : (words : List (List ℕ)) (status : ℕ) (told after : Option Held) (before put : Option (List ℕ)) (f f' s s' : ℕ)
+    → (status ≡ 5 → Rose f f') → (status ≡ 9 → Rose s s') → IfSome told (λ m. IsOutcome words m status after before put)
+    → IfSome told (λ m. IsUnrisen f f' → IsUnrisen s s' → ((d : Result Work Refusal) × command_due words m d × (status ≡ status_due d)) ⊎ (status ≡ 8))
+complete_told words status None after before put f f' s s' five nine outcome = tt
+complete_told words status (Some m) after before put f f' s s' five nine outcome =
+    λ no_fault no_unput. ends_due _ _ m status after before put outcome (λ e. no_fault (five e)) (λ e. no_unput (nine e))

@@ -1,0 +1,16 @@
+-- What the check of a project's text answers, by itself. Only private functions cite this.
+use Rattle.std.specs.Prelude.{ℕ, ◌≡◌, List, Result, Ok, Err}
+use Rattle.kit_base.specs.Held.{Held}
+use Rattle.c_check.specs.Whole.{ProgramT}
+use Rattle.build_core.specs.declared.error.BuildErr.{BuildErr}
+use Rattle.build_core.specs.Checked.{IsAccepted, IsRejected}
+use Rattle.kit_core.specs.declared.refusal.Refusal.{Refusal}
+use Rattle.kit_core.specs.declared.refusal.Refusal.TheVariants as refusals
+use Rattle.kit_core.specs.Due.{unbuilt}
+
+-- its source has a program, or why it has none, unless memory ran out or a call failed
+abbrev pub TextChecked : (project text : List ℕ) → Held → Result (Unit {0}) Refusal → Type 0
+TextChecked project text held (Ok x) = (p : ProgramT) × IsAccepted held text p
+TextChecked project text held (Err refusals.Memory) = Unit {0}
+TextChecked project text held (Err (refusals.Failed name)) = Unit {0}
+TextChecked project text held (Err refusal) = (e : BuildErr) × IsRejected held text e × (unbuilt project e ≡ refusal)

@@ -1,0 +1,48 @@
+// The command `check`.
+ghost use Rattle.std.specs.Prelude.{ℕ, List, ◌≡◌, ◌≤◌, IfSome, length};
+ghost use Rattle.kit_core.specs.Carrying.{LeavesBy};
+ghost use Rattle.kit_core.specs.Causes.{HasCauses};
+ghost use Rattle.kit_core.specs.Checking.{TextChecked};
+ghost use Rattle.kit_core.specs.Due.{check_due};
+
+use crate::reading::read_file;
+use crate::refusal::{Refusal, unbuilt};
+use crate::shown::Shown;
+use build_core::check_sources;
+use kit_base::{Files, Name};
+use std::alloc::Global;
+
+/// Checks the project of that text. A refusal has the project's own name.
+fn check_text<F: Files>(
+    alloc: Global,
+    files: &mut F,
+    project: &str,
+    text: &[u8],
+) -> Result<(), Refusal>
+    requires { length text.now ≤ 268435456 }
+    ensures held { F.held files.new ≡ F.held files.old }
+    ensures told { IfSome (F.held files.old) (λ m. TextChecked project.now text.now m result) }
+    ensures causes { HasCauses result (F.faults files.old) (F.faults files.new) (F.misses files.old) (F.misses files.new) (F.overs files.old) (F.overs files.new) }
+{
+    match check_sources(alloc, files, text) {
+        Ok(_) => Ok(()),
+        Err(error) => {
+            let name = Name::new(alloc, project)?;
+            Err(unbuilt(name, error))
+        }
+    }
+}
+
+/// `check project`. Nothing is created, and `ok` is put after it.
+pub fn check_command<F: Files>(
+    alloc: Global,
+    files: &mut F,
+    project: &str,
+) -> Result<Shown, Refusal>
+    ensures told { IfSome (F.held files.old) (λ m. LeavesBy result (check_due project.now m) (λ name. Unit {0}) m (F.held files.new)) }
+    ensures causes { HasCauses result (F.faults files.old) (F.faults files.new) (F.misses files.old) (F.misses files.new) (F.overs files.old) (F.overs files.new) }
+{
+    let text = read_file(alloc, files, project)?;
+    check_text(alloc, files, project, &text)?;
+    Ok(Shown::Accepted)
+}

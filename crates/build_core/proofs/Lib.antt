@@ -15,3 +15,4 @@ pub mod Limits
 pub mod Builds
 pub mod Pure
 pub mod Checks
+pub mod Either

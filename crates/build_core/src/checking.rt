@@ -5,6 +5,7 @@ ghost use Rattle.c_tree.specs.View.{unit};
 ghost use Rattle.c_prep.specs.Files.{Expansion, expansion_of};
 ghost use Rattle.c_parse.specs.Tok.{toks};
 ghost use Rattle.c_parse.specs.Units.{Derives};
+ghost use Rattle.c_front.specs.Causes.{IsWithin};
 ghost use Rattle.c_front.specs.Over.{over};
 ghost use Rattle.c_exprs.specs.Faults.{at};
 ghost use Rattle.c_check.specs.Whole.{ProgramT, WellTyped};
@@ -52,6 +53,7 @@ fn broken(alloc: Global, places: &Places, code: Code, span: Span) -> BuildErr
 
 /// The typed program of a unit.
 fn typed(alloc: Global, parsed: &Parsed) -> Result<Program, BuildErr>
+    requires within { IsWithin parsed.now }
     ensures typed { Types parsed.now result }
     ensures only { (p : ProgramT) → WellTyped (unit parsed.now.unit) p → IsProgramOf p result }
     ensures content { IfErr result IsOfRules }

@@ -1,11 +1,14 @@
 -- The rules of units and the function agree.
-use Rattle.std.proofs.Common.{◌≡◌, ℕ, List, Option, Some, None, Result, Ok, Err, refl, sym, subst, ◌∙◌}
+use Rattle.std.proofs.Common.{◌≡◌, ◌≤◌, ◌⊎◌, inl, inr, ℕ, List, Option, Some, None, Result, Ok, Err, refl, sym, subst, ◌∙◌}
+use Rattle.c_tree.specs.Count.{unit_nodes}
 use Rattle.c_tree.specs.Tree.{ItemT}
+use Rattle.c_tree.specs.declared.span.Span.{Span}
+use Rattle.c_rules.specs.declared.code.Code.{Code}
 use Rattle.c_rules.specs.declared.code.Code.TheVariants.{NoMain}
 use Rattle.c_exprs.specs.Faults.{FaultT, ◌>>=◌, known}
 use Rattle.c_check.specs.Reading.{Un, opening, bodies_of}
 use Rattle.c_check.specs.ItemTyping.{Reads, items}
-use Rattle.c_check.specs.Whole.{ProgramT, main_of, program_of, last_token, WellTyped, FirstBroken, unit, items_break, no_main, checked}
+use Rattle.c_check.specs.Whole.{ProgramT, main_of, program_of, last_token, WellTyped, IsProgram, FirstBroken, unit, items_break, no_main, checked}
 use Rattle.c_check.proofs.ItemExact.{ItemsOut, items_outcome, items_good, items_bad}
 
 abbrev pub CheckedOut : List ItemT → Result ProgramT FaultT → Type 0
@@ -42,6 +45,17 @@ checked_typed all p e = let P : Result ProgramT FaultT → Type 0 = λ r. Checke
 pub checked_broken : (all : List ItemT) (fault : FaultT) → checked all ≡ Err fault → FirstBroken all fault
 checked_broken all fault e = let P : Result ProgramT FaultT → Type 0 = λ r. CheckedOut all r in subst P e (checked_outcome all)
 
+there : (s : Span) (k : Code) (o : Option ℕ) (n : ℕ) → known s k o ≡ Ok n → o ≡ Some n
+unfolding known
+there s k None n h = absurd cc
+there s k (Some m) n h = cc
+
+-- what was read of a unit that has a `main` is a program
+pub is_program : (all : List ItemT) (x : Unit {0}) (un : Un) (s : Span) (k : ℕ) → items (opening (bodies_of all)) all ≡ Ok (x, un) → known s NoMain (main_of un) ≡ Ok k → unit_nodes all ≤ 200000 → IsProgram (program_of un k)
+is_program all tt un s k e h few =
+    let P : Reads (Unit {0}) → Type 0 = λ r. ItemsOut (opening (bodies_of all)) all r in
+    (all, unit (subst P e (items_outcome (opening (bodies_of all)) all)) (there s NoMain (main_of un) k h), few)
+
 -- one program at most
 pub one_program : {all : List ItemT} {p q : ProgramT} → WellTyped all p → WellTyped all q → p ≡ q
 one_program {p = p} {q = q} g h =
@@ -49,3 +63,27 @@ one_program {p = p} {q = q} g h =
     let two : Result ProgramT FaultT = Ok q in
     let same : one ≡ two = sym (checked_good g) ∙ checked_good h in
     cc
+
+-- one rule that is broken first
+pub one_fault : {all : List ItemT} {f g : FaultT} → FirstBroken all f → FirstBroken all g → f ≡ g
+one_fault {f = f} {g = g} h k =
+    let one : Result ProgramT FaultT = Err f in
+    let two : Result ProgramT FaultT = Err g in
+    let same : one ≡ two = sym (checked_bad h) ∙ checked_bad k in
+    cc
+
+-- a unit that has a program breaks no rule
+pub not_both : {all : List ItemT} {p : ProgramT} {f : FaultT} → WellTyped all p → FirstBroken all f → ⊥
+not_both {p = p} {f = f} h k =
+    let one : Result ProgramT FaultT = Ok p in
+    let two : Result ProgramT FaultT = Err f in
+    let same : one ≡ two = sym (checked_good h) ∙ checked_bad k in
+    cc
+
+-- a unit has a program, or breaks a rule
+pub either : (all : List ItemT) → ((p : ProgramT) × WellTyped all p) ⊎ ((f : FaultT) × FirstBroken all f)
+either all = of (checked all) (checked_outcome all)
+  where
+    of : (r : Result ProgramT FaultT) → CheckedOut all r → ((p : ProgramT) × WellTyped all p) ⊎ ((f : FaultT) × FirstBroken all f)
+    of (Ok p) h = inl (p, h)
+    of (Err f) h = inr (f, h)

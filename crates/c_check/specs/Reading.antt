@@ -4,7 +4,7 @@ use Rattle.std.specs.Str.{bytes_eq}
 use Rattle.c_tree.specs.Tree.{StmtTs, ItemT, RecordD, EnumD, TypedefD, VarsD, FunctionD}
 use Rattle.c_types.specs.Types.{Ty, EnumY, StructY, UnionY, LayoutT}
 use Rattle.c_types.specs.Typed.{TVarT, TStmtT, VarsZ, TStmtTs}
-use Rattle.c_types.specs.Sizes.{words_of}
+use Rattle.c_types.specs.Sizes.{words_of, member_named}
 use Rattle.c_rules.specs.declared.code.Code.{Code}
 use Rattle.c_rules.specs.declared.code.Code.TheVariants.{Twice, WrongType, InfiniteType, TooLarge}
 use Rattle.c_rules.specs.Kinds.{is_void, is_array, struct_number, union_number, holds, same_type}
@@ -15,7 +15,6 @@ use Rattle.c_exprs.specs.Env.{Text, find, LocalD, Decl, TypeD, ConstantD, Global
 use Rattle.c_exprs.specs.Env as env
 use Rattle.c_exprs.specs.Intrinsics.{intrinsic}
 use Rattle.c_exprs.specs.Calls.{ensured}
-use Rattle.c_exprs.specs.Nodes.{member_named}
 use Rattle.c_stmts.specs.State.{Scope, Fn, St, innermost, declare, object_size}
 
 -- a function with a body; `locals` are the sizes of the objects of a call, its parameters first
@@ -28,7 +27,7 @@ pub record TFunctionT : Type 0 where
 
 -- What was read of a unit, and the numbers of all functions with a body in it, which do not change: the layouts, with whether each is declared whole; the names of structures and unions, by their numbers; how many
 -- enumerations there are; what names are declared as; the globals with their sizes; their initialisers; the functions with a body; the texts;
--- and of the function that is read the open scopes and the sizes of its objects.
+-- and of the function that is read the open scopes, the sizes of its objects, and the words of those that are variables.
 pub record Un : Type 0 where
   pub layouts : List LayoutT
   pub whole : List Bool
@@ -41,11 +40,12 @@ pub record Un : Type 0 where
   pub texts : List Text
   pub scopes : List Scope
   pub sizes : List ℕ
+  pub used : ℕ
   pub bodies : List (Text × ℕ)
 
 -- nothing is read yet
 abbrev pub opening : List (Text × ℕ) → Un
-opening b = record { layouts = []; whole = []; records = []; enums = 0; names = []; globals = []; inits = []; functions = []; texts = []; scopes = []; sizes = []; bodies = b }
+opening b = record { layouts = []; whole = []; records = []; enums = 0; names = []; globals = []; inits = []; functions = []; texts = []; scopes = []; sizes = []; used = 0; bodies = b }
 
 -- A function with a body has the next number; a second body of one name gives that name no other number.
 abbrev pub numbered : Text → ℕ → List (Text × ℕ) → List (Text × ℕ)
@@ -77,7 +77,7 @@ abbrev pub function_under : Un → Ty → Fn
 function_under un gives = record { layouts = un.layouts; whole = un.whole; names = un.names; bodies = un.bodies; gives = gives }
 
 abbrev pub state_in : Un → St
-state_in un = record { scopes = un.scopes; sizes = un.sizes; texts = un.texts }
+state_in un = record { scopes = un.scopes; sizes = un.sizes; used = un.used; texts = un.texts }
 
 abbrev pub with_state : Un → St → Un
 with_state un st = record {
@@ -92,11 +92,12 @@ with_state un st = record {
   texts = st.texts;
   scopes = st.scopes;
   sizes = st.sizes;
+  used = st.used;
   bodies = un.bodies;
 }
 
 abbrev pub with_texts : Un → List Text → Un
-with_texts un ts = with_state un (record { scopes = un.scopes; sizes = un.sizes; texts = ts })
+with_texts un ts = with_state un (record { scopes = un.scopes; sizes = un.sizes; used = un.used; texts = ts })
 
 -- ---- names
 
@@ -120,6 +121,7 @@ with_names un ns = record {
   texts = un.texts;
   scopes = un.scopes;
   sizes = un.sizes;
+  used = un.used;
   bodies = un.bodies;
 }
 
@@ -149,6 +151,7 @@ new_record is_union n un = record {
   texts = un.texts;
   scopes = un.scopes;
   sizes = un.sizes;
+  used = un.used;
   bodies = un.bodies;
 }
 
@@ -206,6 +209,7 @@ with_layout number l un = record {
   texts = un.texts;
   scopes = un.scopes;
   sizes = un.sizes;
+  used = un.used;
   bodies = un.bodies;
 }
 
@@ -224,6 +228,7 @@ new_enum n un = record {
   texts = un.texts;
   scopes = un.scopes;
   sizes = un.sizes;
+  used = un.used;
   bodies = un.bodies;
 }
 
@@ -255,6 +260,7 @@ with_global n words un = record {
   texts = un.texts;
   scopes = un.scopes;
   sizes = un.sizes;
+  used = un.used;
   bodies = un.bodies;
 }
 
@@ -271,6 +277,7 @@ with_init xs un = record {
   texts = un.texts;
   scopes = un.scopes;
   sizes = un.sizes;
+  used = un.used;
   bodies = un.bodies;
 }
 
@@ -278,10 +285,10 @@ with_init xs un = record {
 
 -- a function is begun, with its scope, or left
 abbrev pub begun : Un → Un
-begun un = with_state un (record { scopes = [] ∷ []; sizes = []; texts = un.texts })
+begun un = with_state un (record { scopes = [] ∷ []; sizes = []; used = 0; texts = un.texts })
 
 abbrev pub ended : Un → Un
-ended un = with_state un (record { scopes = []; sizes = []; texts = un.texts })
+ended un = with_state un (record { scopes = []; sizes = []; used = 0; texts = un.texts })
 
 -- A parameter is no array; its size is known, and that of a structure at most that of a value.
 unfoldable pub parameter_rule : List LayoutT → List Bool → Ty → Rule ℕ
@@ -297,6 +304,7 @@ unfoldable pub with_parameter : Text → Ty → ℕ → Un → Un
 with_parameter n ty words un = with_state un (record {
   scopes = declare n (record { number = length un.sizes; ty = ty }) un.scopes;
   sizes = un.sizes ++ words ∷ [];
+  used = un.used;
   texts = un.texts;
 })
 
@@ -354,5 +362,6 @@ with_function n params gives (Some body) un = record {
   texts = un.texts;
   scopes = [];
   sizes = [];
+  used = 0;
   bodies = un.bodies;
 }

@@ -1,18 +1,13 @@
 -- What programs, and what was read of a unit, stand for.
 use Rattle.std.specs.Prelude.{map}
-use Rattle.c_types.specs.Types.{LayoutT}
-use Rattle.c_types.specs.View.{ctype, layout, member, tstmt, tstmts}
+use Rattle.c_types.specs.View.{layout, tstmt}
 use Rattle.c_exprs.specs.View.{names, bodies}
 use Rattle.c_stmts.specs.View.{st}
-use Rattle.c_check.specs.declared.members.Members.{Members}
-use Rattle.c_check.specs.declared.program.TFunction.{TFunction}
 use Rattle.c_check.specs.declared.program.Program.{Program}
 use Rattle.c_check.specs.declared.reading.Reading.{Reading}
-use Rattle.c_check.specs.Reading.{TFunctionT, Un}
+use Rattle.c_check.specs.Functions.{function}
+use Rattle.c_check.specs.Reading.{Un}
 use Rattle.c_check.specs.Whole.{ProgramT}
-
-abbrev pub function : TFunction → TFunctionT
-function f = record { name = f.name; params = map ctype f.params; locals = f.locals; gives = ctype f.result; body = tstmts (map tstmt f.body) }
 
 abbrev pub program : Program → ProgramT
 program p = record { layouts = map layout p.layouts; globals = p.globals; inits = map tstmt p.inits; literals = p.literals; functions = map function p.functions; main = p.main }
@@ -30,8 +25,6 @@ un r = record {
   texts = r.state.texts;
   scopes = (st r.state).scopes;
   sizes = (st r.state).sizes;
+  used = (st r.state).used;
   bodies = bodies r.globals;
 }
-
-abbrev pub layout_so_far : Members → LayoutT
-layout_so_far m = record { members = map member m.members.items; size = m.size }

@@ -1,7 +1,8 @@
 -- Units and programs.
-use Rattle.std.specs.Prelude.{◌≡◌, ℕ, Bool, ◌&&◌, List, [], ◌∷◌, slice_get, Option, Some, None, Result, Ok, codes, if◌then◌else◌}
+use Rattle.std.specs.Prelude.{◌≡◌, ◌≤◌, ℕ, Bool, ◌&&◌, List, [], ◌∷◌, slice_get, Option, Some, None, Result, Ok, codes, if◌then◌else◌}
 use Rattle.c_tree.specs.declared.span.Span.{Span}
 use Rattle.c_tree.specs.Tree.{ItemT, RecordD, EnumD, TypedefD, VarsD, FunctionD}
+use Rattle.c_tree.specs.Count.{unit_nodes}
 use Rattle.c_types.specs.Types.{LayoutT}
 use Rattle.c_types.specs.Typed.{TStmtT}
 use Rattle.c_rules.specs.declared.code.Code.TheVariants.{NoMain}
@@ -57,6 +58,10 @@ last_token all = record { first = last_from 0 all; last = last_from 0 all }
 -- The program of a unit whose items are typed and that has a `void main()`.
 pub data WellTyped (all : List ItemT) : ProgramT → Type 0 where
   unit : {un : Un} {k : ℕ} → Items (opening (bodies_of all)) all tt un → main_of un ≡ Some k → WellTyped all (program_of un k)
+
+-- A program is that of a well typed unit, of at most so many nodes.
+abbrev pub IsProgram : ProgramT → Type 0
+IsProgram p = (all : List ItemT) × WellTyped all p × (unit_nodes all ≤ 200000)
 
 -- The rule that a unit breaks first; that there is no `main` is told at its last token.
 pub data FirstBroken (all : List ItemT) : FaultT → Type 0 where

@@ -1,6 +1,7 @@
 // The checker.
 ghost use Rattle.std.specs.Prelude.{◌≡◌, ◌<◌, ◌≤◌, ◌^◌, [], ℕ, List, map, option_map, Ok, Err, IfOk, OnOk};
 ghost use Rattle.c_tree.specs.declared.span.Span.{Span};
+ghost use Rattle.c_tree.specs.Count.{unit_nodes};
 ghost use Rattle.c_tree.specs.Tree.{ItemT};
 ghost use Rattle.c_tree.specs.View.{item, unit};
 ghost use Rattle.c_rules.specs.declared.code.Code.{Code};
@@ -11,18 +12,21 @@ ghost use Rattle.c_exprs.specs.View.{bodies, names};
 ghost use Rattle.c_types.specs.View.{ctype};
 ghost use Rattle.c_rules.specs.Kinds.{holds};
 ghost use Rattle.c_check.specs.Reading.{bodies_of, body_name, numbered, same_types};
-ghost use Rattle.c_check.specs.View.{function, program, un};
-ghost use Rattle.c_check.specs.Whole.{ProgramT, WellTyped, FirstBroken, checked, is_plain, last_token, item_span, main_of, program_of};
+ghost use Rattle.c_check.specs.View.{program, un};
+ghost use Rattle.c_check.specs.Functions.{function};
+ghost use Rattle.c_check.specs.Whole.{ProgramT, WellTyped, IsProgram, FirstBroken, checked, is_plain, last_token, item_span, main_of, program_of};
 
+use crate::access::of_parts;
+use crate::function::TFunction;
 use crate::functions::next;
 use crate::items::read_items;
-use crate::program::{Program, TFunction};
+use crate::program::Program;
 use crate::reading::Reading;
 use c_exprs::{CheckErr, Globals, known};
 use c_rules::{Code, is_void};
 use c_tree::{Item, Span, Unit};
 use c_types::CType;
-use kit_base::{Memory, Name, Seq};
+use kit_base::{Memory, Name};
 use std::alloc::Global;
 
 /// Whether a function takes and gives nothing.
@@ -132,9 +136,10 @@ fn number_bodies(alloc: Global, items: &[Item]) -> Result<Globals, Memory>
     Ok(globals)
 }
 
-/// The typed program of a unit. A refusal names the first broken rule in the order of reading: the parts of a node from left to right, then the
+/// The typed program of a unit, which has at most 200,000 nodes. A refusal names the first broken rule in the order of reading: the parts of a node from left to right, then the
 /// node, at one node the lowest code; that there is no `void main()` is told last, at the last token. The error `Memory` is want of memory.
 pub fn check(alloc: Global, parsed: &Unit) -> Result<Program, CheckErr>
+    requires nodes { unit_nodes (unit parsed.now) ≤ 200000 }
     // What is answered is the program of a well typed unit.
     ensures typed { IfOk result (λ p. WellTyped (unit parsed.now) (program p)) }
     // A well typed unit's program is answered, unless memory runs out.
@@ -147,6 +152,7 @@ pub fn check(alloc: Global, parsed: &Unit) -> Result<Program, CheckErr>
 
 #[tactic(auto, unfolding(crate::specs::Whole::checked))]
 fn checked(alloc: Global, items: &[Item]) -> Result<Program, CheckErr>
+    requires nodes { unit_nodes (map item items.now) ≤ 200000 }
     ensures { Gives program result (checked (map item items.now)) }
 {
     let globals = number_bodies(alloc, items)?;
@@ -157,6 +163,7 @@ fn checked(alloc: Global, items: &[Item]) -> Result<Program, CheckErr>
 }
 
 fn program_of(reading: Reading, main: u32) -> Program
+    requires made { ∥ IsProgram (program_of (un reading) main) ∥₁ }
     ensures { program result ≡ program_of (un reading) main }
 {
     let Reading {
@@ -169,12 +176,12 @@ fn program_of(reading: Reading, main: u32) -> Program
         state,
     } = reading;
     let (_, texts) = state.into_parts();
-    Program {
-        layouts: Seq::from_vec(globals.layouts),
-        globals: Seq::from_vec(objects.into_vec()),
-        inits: Seq::from_vec(inits),
-        literals: Seq::from_vec(texts.into_vec()),
-        functions: Seq::from_vec(functions),
+    of_parts(
+        globals.layouts,
+        objects.into_vec(),
+        inits,
+        texts.into_vec(),
+        functions,
         main,
-    }
+    )
 }

@@ -11,7 +11,7 @@ use crate::reading::Reading;
 use c_exprs::{Decl, Globals, is_intrinsic};
 use c_rules::Code;
 use c_types::{CType, Layout};
-use kit_base::{Memory, Name, Seq};
+use kit_base::{Memory, Name};
 use std::alloc::Global;
 
 /// Whether a name of the unit is declared nowhere so far.
@@ -73,11 +73,7 @@ pub(crate) fn enter_record(
         return Ok(());
     }
     let number = next_number(&reading.globals)?;
-    let none = Layout {
-        members: Seq::from_vec(Vec::new(alloc)),
-        size: 0,
-    };
-    reading.globals.layouts.push(none)?;
+    reading.globals.layouts.push(Layout::new(alloc))?;
     reading.globals.whole.push(false)?;
     reading.records.push(Name::from_bytes(alloc, name)?)?;
     let key = Vec::from_slice(alloc, name)?;

@@ -13,8 +13,8 @@ ghost use Rattle.c_tree.specs.Tree.{FunctionD};
 ghost use Rattle.c_check.specs.View.{un};
 
 use crate::declaring::declare;
+use crate::function::TFunction;
 use crate::parts::{maybe_body, type_at};
-use crate::program::TFunction;
 use crate::reading::{Reading, begin, end};
 use c_exprs::{CheckErr, Decl, placed};
 use c_rules::{Code, copy_type, fits, is_array, is_void, is_whole, same_type, type_size};

@@ -4,12 +4,15 @@
 //! on c_stmts for the bodies of functions and on c_exprs for expressions.
 #![tactic(auto)]
 
+mod access;
 mod checking;
 mod declaring;
 mod enumerators;
+mod function;
 mod functions;
 mod globals;
 mod items;
+pub mod laws;
 mod members;
 mod objects;
 mod parts;
@@ -17,8 +20,9 @@ mod program;
 mod reading;
 
 pub use checking::check;
+pub use function::TFunction;
 pub use objects::Objects;
-pub use program::{Program, TFunction};
+pub use program::Program;
 pub use reading::Reading;
 
 #[cfg(test)]

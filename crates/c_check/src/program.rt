@@ -1,26 +1,21 @@
 // Checked programs.
-use c_types::{CType, Layout, TStmt};
+ghost use Rattle.std.specs.Prelude.{map};
+ghost use Rattle.c_types.specs.View.{layout, tstmt};
+ghost use Rattle.c_check.specs.Functions.{function};
+ghost use Rattle.c_check.specs.Whole.{IsProgram};
+
+use crate::function::TFunction;
+use c_types::{Layout, TStmt};
 use kit_base::{Name, Seq};
 
-/// A function with a body: the types of its parameters, the sizes in words of the objects of a call in the order of their declarations,
-/// parameters first, the type of its result (`Void` where it has none), and its body.
-#[derive(Drop)]
-pub struct TFunction {
-    pub name: Name,
-    pub params: Seq<CType>,
-    pub locals: Seq<u32>,
-    pub result: CType,
-    pub body: Seq<TStmt>,
-}
-
-/// A checked unit: the structures and unions by their numbers, the globals with their sizes in words, the statements that fill
-/// them, the texts, the functions that have a body, and the number of `main` among them.
+/// A checked unit: that of a well typed unit of at most 200,000 nodes.
 #[derive(Drop)]
 pub struct Program {
-    pub layouts: Seq<Layout>,
-    pub globals: Seq<(Name, u32)>,
-    pub inits: Seq<TStmt>,
-    pub literals: Seq<Name>,
-    pub functions: Seq<TFunction>,
-    pub main: u32,
+    pub(crate) layouts: Seq<Layout>,
+    pub(crate) globals: Seq<(Name, u32)>,
+    pub(crate) inits: Seq<TStmt>,
+    pub(crate) literals: Seq<Name>,
+    pub(crate) functions: Seq<TFunction>,
+    pub(crate) main: u32,
+    ghost made: { ∥ IsProgram (record { layouts = map layout layouts; globals = globals; inits = map tstmt inits; literals = literals; functions = map function functions; main = main }) ∥₁ },
 }

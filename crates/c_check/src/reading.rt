@@ -5,8 +5,8 @@ ghost use Rattle.c_exprs.specs.View.{bodies, names};
 ghost use Rattle.c_check.specs.Reading.{opening, begun, ended};
 ghost use Rattle.c_check.specs.View.{un};
 
+use crate::function::TFunction;
 use crate::objects::Objects;
-use crate::program::TFunction;
 use c_exprs::{Globals, Texts};
 use c_stmts::State;
 use c_types::TStmt;
@@ -51,7 +51,7 @@ impl Reading {
 /// Leaves a function, and gives the sizes of its objects.
 pub(crate) fn end(alloc: Global, state: &mut State) -> Vec<u32>
     ensures sizes { result.items ≡ (st state.old).sizes }
-    ensures after { st state.new ≡ record { scopes = []; sizes = []; texts = (st state.old).texts } }
+    ensures after { st state.new ≡ record { scopes = []; sizes = []; used = 0; texts = (st state.old).texts } }
 {
     let old = mem::replace(state, State::new(alloc, Texts::new(alloc)));
     let (sizes, texts) = old.into_parts();
@@ -61,7 +61,7 @@ pub(crate) fn end(alloc: Global, state: &mut State) -> Vec<u32>
 
 /// Begins a function, with its scope. The error is want of memory.
 pub(crate) fn begin(alloc: Global, state: &mut State) -> Result<(), Memory>
-    ensures begun { OnOk result (st state.new ≡ record { scopes = [] ∷ []; sizes = []; texts = (st state.old).texts }) }
+    ensures begun { OnOk result (st state.new ≡ record { scopes = [] ∷ []; sizes = []; used = 0; texts = (st state.old).texts }) }
 {
     end(alloc, state);
     state.open(alloc)

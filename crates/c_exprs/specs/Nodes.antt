@@ -1,10 +1,10 @@
 -- The rules of nodes that look at names, members and constants.
 use Rattle.std.specs.Prelude.{ℕ, Bool, true, false, ◌||◌, not, List, [], ◌∷◌, slice_get, Option, Some, None, option_and_then, Result, Ok, Err, if◌then◌else◌}
-use Rattle.std.specs.Str.{bytes_eq}
 use Rattle.c_tree.specs.declared.span.Span.{Span}
 use Rattle.c_tree.specs.declared.operator.UnOp.TheVariants.{Deref}
 use Rattle.c_tree.specs.Tree.{ExprT, NameE, NumberE, TextE, NullE, ParenE, UnaryE, BinaryE, AssignE, StepE, IndexE, MemberE, ArrowE, CallE, CastE, SizeOfE}
 use Rattle.c_types.specs.Types.{Ty, IntY, StructY, UnionY, MemberT, LayoutT}
+use Rattle.c_types.specs.Sizes.{member_named}
 use Rattle.c_types.specs.Typed.{TExprT, Typed, TKindT, NumberK, LiteralK, GlobalK, LocalK, UnaryK, BinaryK, IndexK, MemberK, ArrowK}
 use Rattle.c_rules.specs.declared.code.Code.{Code}
 use Rattle.c_rules.specs.declared.code.Code.TheVariants.{UnknownName, Twice, WrongType, NotAPlace, InfiniteType, TooLarge}
@@ -96,10 +96,6 @@ unfoldable pub named_type : Ctx → Text → Result Ty Code
 named_type c n = declared_type (find n c.names)
 
 -- ---- members
-
-abbrev pub member_named : Text → List MemberT → Option MemberT
-member_named n [] = None
-member_named n (m ∷ ms) = if bytes_eq n m.name then Some m else member_named n ms
 
 -- the layout of a structure or union
 abbrev pub layout_of : List LayoutT → Ty → Option LayoutT

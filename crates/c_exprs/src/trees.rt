@@ -1,11 +1,11 @@
 // The trees of names and members, and types by name.
 ghost use Rattle.std.specs.Prelude.{◌≡◌, map, option_map, slice_get, IfOk};
 ghost use Rattle.c_types.specs.Types.{ArrayY, IntY};
-ghost use Rattle.c_types.specs.View.{ctype, layout, member, texpr};
+ghost use Rattle.c_types.specs.View.{ctype, layout, texpr};
 ghost use Rattle.c_rules.specs.Kinds.{decayed, pointed};
 ghost use Rattle.c_exprs.specs.declared.error.CheckErr.TheVariants as errors;
 ghost use Rattle.c_exprs.specs.Faults.{placed};
-ghost use Rattle.c_exprs.specs.Nodes.{name_tree, named_type, member_named, layout_of, layout_behind, member_in, member_at, arrow_at, type_of_typed};
+ghost use Rattle.c_exprs.specs.Nodes.{name_tree, named_type, layout_of, layout_behind, member_in, member_at, arrow_at, type_of_typed};
 ghost use Rattle.c_exprs.specs.View.{ctx};
 ghost use Rattle.c_exprs.specs.Gives.{Gives};
 
@@ -15,7 +15,7 @@ use crate::names::{Decl, Globals, Scope, find_local};
 use crate::nodes::is_place;
 use c_rules::{Code, copy_type, is_array};
 use c_tree::Span;
-use c_types::{CType, Layout, Member, TExpr, TKind};
+use c_types::{CType, Layout, TExpr, TKind};
 use kit_base::Name;
 use std::alloc::Global;
 
@@ -120,17 +120,6 @@ fn layout_behind<'a>(layouts: &'a [Layout], ty: &CType) -> Option<&'a Layout>
     }
 }
 
-fn member_named<'a>(members: &'a [Member], name: &[u8]) -> Option<&'a Member>
-    ensures { option_map (λ m. member m.now) result ≡ member_named name.now (map member members.now) }
-{
-    for m in members {
-        if name == m.name.bytes() {
-            return Some(m);
-        }
-    }
-    None
-}
-
 /// The tree of `x.name`.
 pub(crate) fn member_tree(
     alloc: Global,
@@ -144,7 +133,7 @@ pub(crate) fn member_tree(
     let Some(layout) = layout_of(layouts, &x.ty) else {
         return Err(refused(span, Code::WrongType));
     };
-    let Some(member) = member_named(layout.members.as_slice(), name.bytes()) else {
+    let Some(member) = layout.member(name.bytes()) else {
         return Err(refused(span, Code::UnknownName));
     };
     if !is_place(&x) && is_array(&member.ty) {
@@ -168,7 +157,7 @@ pub(crate) fn arrow_tree(
     let Some(layout) = layout_behind(layouts, &x.ty) else {
         return Err(refused(span, Code::WrongType));
     };
-    let Some(member) = member_named(layout.members.as_slice(), name.bytes()) else {
+    let Some(member) = layout.member(name.bytes()) else {
         return Err(refused(span, Code::UnknownName));
     };
     let ty = copy_type(alloc, &member.ty)?;

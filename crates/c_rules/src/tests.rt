@@ -2,7 +2,6 @@
 use super::*;
 use c_tree::{BinOp, StepOp, UnOp};
 use c_types::{CType, Layout};
-use kit_base::Seq;
 use std::alloc::Global;
 use std::test::Fail;
 
@@ -47,10 +46,9 @@ fn made(alloc: Global, sample: Sample) -> Result<CType, Fail> {
 fn layouts(alloc: Global) -> Result<Vec<Layout>, Fail> {
     let mut all = Vec::new(alloc);
     for size in [2, 0, 5_000] {
-        all.push(Layout {
-            members: Seq::from_vec(Vec::new(alloc)),
-            size,
-        })?;
+        let mut one = Layout::new(alloc);
+        one.size = size;
+        all.push(one)?;
     }
     Ok(all)
 }

@@ -1,32 +1,20 @@
 -- The places of a brace list, by index.
-use Rattle.std.proofs.Common.{ℕ, zero, suc, ◌-◌, ◌+◌, ◌<◌, ◌≤◌, true, false, length, map, drop, Some, None, option_map, arith, ◌≡◌, List, [], ◌∷◌, refl, ap, ◌∙◌, sym, add-one}
-use Rattle.std.proofs.lemmas.Option.{slice_get-map, slice_get_past}
-use Rattle.std.proofs.Math.ListN.{get_or}
+use Rattle.std.proofs.Common.{ℕ, zero, suc, ◌-◌, ◌+◌, ◌<◌, ◌≤◌, true, false, length, drop, Some, None, option_map, arith, ◌≡◌, List, [], ◌∷◌, refl, ap, add-one}
 use Rattle.std.specs.Prelude.{slice_get, min, ◌==◌}
-use Rattle.c_types.specs.Types.{Ty}
-use Rattle.c_types.specs.declared.layout.Member.{Member}
-use Rattle.c_types.specs.View.{ctype, member}
+use Rattle.c_types.specs.Types.{Ty, MemberT}
 use Rattle.c_stmts.specs.Slots.{Slots, NoSlots, Elements, Members, member_types, first_of, next_slot, later_slots}
 use Rattle.c_stmts.specs.Places.{slots_behind}
 
-pub member_type_at : (ms : List Member) (i : ℕ) → slice_get (member_types (map member ms)) i ≡ option_map (λ (m : Member). ctype m.ty) (slice_get ms i)
+pub member_type_at : (ms : List MemberT) (i : ℕ) → slice_get (member_types ms) i ≡ option_map (λ (m : MemberT). m.ty) (slice_get ms i)
 member_type_at [] i = refl
 member_type_at (m ∷ ms) zero = refl
 member_type_at (m ∷ ms) (suc i) = member_type_at ms i
 
-pub member_there : (ms : List Member) (i : ℕ) (m : Member) → i < length ms → m ≡ get_or ms i m → slice_get (member_types (map member ms)) i ≡ Some (ctype m.ty)
-member_there [] i m h e = absurd (omega (arith, h))
-member_there (x ∷ ms) zero m h e = ap (λ (m : Member). Some (ctype m.ty)) (sym e)
-member_there (x ∷ ms) (suc i) m h e = member_there ms i m (omega (arith, h)) e
-
-pub member_past : (ms : List Member) (i : ℕ) → length ms ≤ i → slice_get (member_types (map member ms)) i ≡ None
-member_past ms i h = member_type_at ms i ∙ ap (option_map (λ (m : Member). ctype m.ty)) (slice_get_past ms i h)
-
-pub length-member_types : (ms : List Member) → length (member_types (map member ms)) ≡ length ms
+pub length-member_types : (ms : List MemberT) → length (member_types ms) ≡ length ms
 length-member_types [] = refl
 length-member_types (m ∷ ms) = ap suc (length-member_types ms)
 
-pub ruleset member_steps = (member_type_at, length-member_types, slice_get-map)
+pub ruleset member_steps = (member_type_at, length-member_types)
 
 pub next-elements : (of : Ty) (left i : ℕ) → i < left → next_slot (slots_behind i (Elements of left)) ≡ Some of
 next-elements of left i h = rw (more left i h) refl

@@ -1,6 +1,5 @@
 -- The rules of statements and the function agree.
 use Rattle.std.proofs.Common.{◌≡◌, ℕ, Bool, true, false, List, [], ◌∷◌, ◌++◌, length, Option, Some, None, Result, Ok, Err, refl, not}
-use Rattle.std.specs.Prelude.{sum}
 use Rattle.c_tree.specs.declared.span.Span.{Span}
 use Rattle.c_tree.specs.Tree.{ExprT, TypeT, InitT, VarT, StmtT, BlockS, EmptyS, VarsS, DoS, IfS, WhileS, DoWhileS, ForS, SwitchS, ReturnS, BreakS, ContinueS, MaybeS, NoneS, SomeS, StmtTs, NoS, MoreS, ArmT, CaseA, DefaultA, StmtA, ArmTs, NoA, MoreA}
 use Rattle.c_types.specs.Types.{Ty}
@@ -102,15 +101,15 @@ unfolding maybe_filled
 maybe_fill_outcome f sp target None = good.no_init
 maybe_fill_outcome f sp target (Some i) = init_1 f sp target i (fill_in f sp target i) (fill_in_outcome f sp target i)
 
-variable_3 : (f : Fn) (sp : St) (v : VarT) (t : Ty × St) → TypeIn f sp v.span v.ty t.0 t.1 → (i : Option TInitT × St) → MaybeFills f (entered v.name t.0 t.1) t.0 v.init i.0 i.1 → (r : Result ℕ FaultT) → placed v.span (object_size f.layouts f.whole locals_limit (sum sp.sizes) (is_new v.name sp) t.0) ≡ r → DeclaresOut f sp v (r >>= λ n. Ok (filled_var false (length sp.sizes) t.0 i.0, sized n i.1))
+variable_3 : (f : Fn) (sp : St) (v : VarT) (t : Ty × St) → TypeIn f sp v.span v.ty t.0 t.1 → (i : Option TInitT × St) → MaybeFills f (entered v.name t.0 t.1) t.0 v.init i.0 i.1 → (r : Result ℕ FaultT) → placed v.span (object_size f.layouts f.whole locals_limit sp.used (is_new v.name sp) t.0) ≡ r → DeclaresOut f sp v (r >>= λ n. Ok (filled_var false (length sp.sizes) t.0 i.0, sized n i.1))
 variable_3 f sp v t g0 i g1 (Ok n) g2 = good.variable g0 g1 g2
 variable_3 f sp v t g0 i g1 (Err fault) g2 = bad.variable g0 g1 g2
 
-variable_2 : (f : Fn) (sp : St) (v : VarT) (t : Ty × St) → TypeIn f sp v.span v.ty t.0 t.1 → (r : Result (Option TInitT × St) FaultT) → MaybeFillsOut f (entered v.name t.0 t.1) t.0 v.init r → DeclaresOut f sp v (r >>= λ i. placed v.span (object_size f.layouts f.whole locals_limit (sum sp.sizes) (is_new v.name sp) t.0) >>= λ n. Ok (filled_var false (length sp.sizes) t.0 i.0, sized n i.1))
-variable_2 f sp v t g0 (Ok i) g1 = variable_3 f sp v t g0 i g1 (placed v.span (object_size f.layouts f.whole locals_limit (sum sp.sizes) (is_new v.name sp) t.0)) refl
+variable_2 : (f : Fn) (sp : St) (v : VarT) (t : Ty × St) → TypeIn f sp v.span v.ty t.0 t.1 → (r : Result (Option TInitT × St) FaultT) → MaybeFillsOut f (entered v.name t.0 t.1) t.0 v.init r → DeclaresOut f sp v (r >>= λ i. placed v.span (object_size f.layouts f.whole locals_limit sp.used (is_new v.name sp) t.0) >>= λ n. Ok (filled_var false (length sp.sizes) t.0 i.0, sized n i.1))
+variable_2 f sp v t g0 (Ok i) g1 = variable_3 f sp v t g0 i g1 (placed v.span (object_size f.layouts f.whole locals_limit sp.used (is_new v.name sp) t.0)) refl
 variable_2 f sp v t g0 (Err fault) g1 = bad.variable_init g0 g1
 
-variable_1 : (f : Fn) (sp : St) (v : VarT) → (r : Result (Ty × St) FaultT) → TypeInOut f sp v.span v.ty r → ((us : St) (t : Ty × St) → MaybeFillsOut f (entered v.name t.0 us) t.0 v.init (maybe_filled f (entered v.name t.0 us) t.0 v.init)) → DeclaresOut f sp v (r >>= λ t. maybe_filled f (entered v.name t.0 t.1) t.0 v.init >>= λ i. placed v.span (object_size f.layouts f.whole locals_limit (sum sp.sizes) (is_new v.name sp) t.0) >>= λ n. Ok (filled_var false (length sp.sizes) t.0 i.0, sized n i.1))
+variable_1 : (f : Fn) (sp : St) (v : VarT) → (r : Result (Ty × St) FaultT) → TypeInOut f sp v.span v.ty r → ((us : St) (t : Ty × St) → MaybeFillsOut f (entered v.name t.0 us) t.0 v.init (maybe_filled f (entered v.name t.0 us) t.0 v.init)) → DeclaresOut f sp v (r >>= λ t. maybe_filled f (entered v.name t.0 t.1) t.0 v.init >>= λ i. placed v.span (object_size f.layouts f.whole locals_limit sp.used (is_new v.name sp) t.0) >>= λ n. Ok (filled_var false (length sp.sizes) t.0 i.0, sized n i.1))
 variable_1 f sp v (Ok t) g0 h1 = variable_2 f sp v t g0 (maybe_filled f (entered v.name t.0 t.1) t.0 v.init) (h1 t.1 t)
 variable_1 f sp v (Err fault) g0 h1 = bad.variable_type g0
 

@@ -25,17 +25,19 @@ pub record Fn : Type 0 where
   pub bodies : List (Text × ℕ)
   pub gives : Ty
 
--- what a statement changes: the open scopes, the innermost last; the sizes of the call's objects, by their numbers; the texts
+-- What a statement changes: the open scopes, the innermost last; the sizes of the call's objects, by their numbers; the words of those that
+-- are variables, not parameters; the texts.
 pub record St : Type 0 where
   pub scopes : List Scope
   pub sizes : List ℕ
+  pub used : ℕ
   pub texts : List Text
 
 abbrev pub under : Fn → List Scope → Ctx
 under f ss = record { layouts = f.layouts; whole = f.whole; names = f.names; bodies = f.bodies; scopes = ss }
 
 abbrev pub with_texts : St → List Text → St
-with_texts st ts = record { scopes = st.scopes; sizes = st.sizes; texts = ts }
+with_texts st ts = record { scopes = st.scopes; sizes = st.sizes; used = st.used; texts = ts }
 
 -- ---- scopes
 
@@ -53,10 +55,10 @@ abbrev pub declare : Text → LocalD → List Scope → List Scope
 declare n l ss = closed ss ++ (innermost ss ++ (n, l) ∷ []) ∷ []
 
 abbrev pub opened : St → St
-opened st = record { scopes = st.scopes ++ [] ∷ []; sizes = st.sizes; texts = st.texts }
+opened st = record { scopes = st.scopes ++ [] ∷ []; sizes = st.sizes; used = st.used; texts = st.texts }
 
 abbrev pub left : St → St
-left st = record { scopes = closed st.scopes; sizes = st.sizes; texts = st.texts }
+left st = record { scopes = closed st.scopes; sizes = st.sizes; used = st.used; texts = st.texts }
 
 -- the numbers of the objects of the innermost scope, in the order of their declarations
 abbrev pub made : St → List ℕ
@@ -69,7 +71,7 @@ is_new n st = not (is_some (find n (innermost st.scopes)))
 
 -- The name is the next object from here on; a name that its scope has already keeps its meaning.
 unfoldable pub entered : Text → Ty → St → St
-entered n ty st = if is_new n st then record { scopes = declare n (record { number = length st.sizes; ty = ty }) st.scopes; sizes = st.sizes; texts = st.texts } else st
+entered n ty st = if is_new n st then record { scopes = declare n (record { number = length st.sizes; ty = ty }) st.scopes; sizes = st.sizes; used = st.used; texts = st.texts } else st
 
 -- An object: its size, where with those before it there are at most so many words.
 unfoldable pub object_rule : List LayoutT → List Bool → ℕ → ℕ → Ty → Rule ℕ
@@ -86,7 +88,7 @@ unfoldable pub object_size : List LayoutT → List Bool → ℕ → ℕ → Bool
 object_size layouts whole limit used fresh ty = ensured Twice fresh (judged (object_rule layouts whole limit used ty))
 
 abbrev pub sized : ℕ → St → St
-sized n st = record { scopes = st.scopes; sizes = st.sizes ++ n ∷ []; texts = st.texts }
+sized n st = record { scopes = st.scopes; sizes = st.sizes ++ n ∷ []; used = st.used + n; texts = st.texts }
 
 -- a variable without an initialiser is no part of the typed tree
 abbrev pub filled_var : Bool → ℕ → Ty → Option TInitT → List TVarT

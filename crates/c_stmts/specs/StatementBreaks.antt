@@ -1,5 +1,5 @@
 -- The rule that a statement breaks first, in the order of reading.
-use Rattle.std.specs.Prelude.{◌≡◌, ℕ, Bool, true, false, not, List, ◌∷◌, sum, Option, Some, Ok, Err}
+use Rattle.std.specs.Prelude.{◌≡◌, ℕ, Bool, true, false, not, List, ◌∷◌, Option, Some, Ok, Err}
 use Rattle.c_tree.specs.declared.span.Span.{Span}
 use Rattle.c_tree.specs.Tree.{ExprT, TypeT, InitT, VarT, StmtT, BlockS, VarsS, DoS, IfS, WhileS, DoWhileS, ForS, SwitchS, ReturnS, BreakS, ContinueS, MaybeS, SomeS, StmtTs, MoreS, ArmT, CaseA, DefaultA, StmtA, ArmTs, MoreA}
 use Rattle.c_types.specs.Types.{Ty}
@@ -34,7 +34,7 @@ pub data Undeclared (f : Fn) : St → VarT → FaultT → Type 0 where
   variable_type : {sp : St} {v : VarT} {fault : FaultT} → NoTypeIn f sp v.span v.ty fault → Undeclared f sp v fault
   variable_init : {sp sq : St} {v : VarT} {t : Ty} {fault : FaultT} → TypeIn f sp v.span v.ty t sq → NotFilled f (entered v.name t sq) t v.init fault → Undeclared f sp v fault
   variable : {sp sq sr : St} {v : VarT} {t : Ty} {i : Option TInitT} {fault : FaultT} → TypeIn f sp v.span v.ty t sq → MaybeFills f (entered v.name t sq) t v.init i sr →
-      placed v.span (object_size f.layouts f.whole locals_limit (sum sp.sizes) (is_new v.name sp) t) ≡ Err fault → Undeclared f sp v fault
+      placed v.span (object_size f.layouts f.whole locals_limit sp.used (is_new v.name sp) t) ≡ Err fault → Undeclared f sp v fault
 
 pub data NotAllDeclare (f : Fn) : St → List VarT → FaultT → Type 0 where
   variable_here : {sp : St} {v : VarT} {vs : List VarT} {fault : FaultT} → Undeclared f sp v fault → NotAllDeclare f sp (v ∷ vs) fault

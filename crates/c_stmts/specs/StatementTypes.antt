@@ -1,5 +1,5 @@
 -- The typing of statements by rules.
-use Rattle.std.specs.Prelude.{◌≡◌, ℕ, Bool, true, false, not, List, [], ◌∷◌, ◌++◌, length, sum, Option, Some, None, Ok}
+use Rattle.std.specs.Prelude.{◌≡◌, ℕ, Bool, true, false, not, List, [], ◌∷◌, ◌++◌, length, Option, Some, None, Ok}
 use Rattle.c_tree.specs.declared.span.Span.{Span}
 use Rattle.c_tree.specs.Tree.{ExprT, TypeT, InitT, VarT, StmtT, BlockS, EmptyS, VarsS, DoS, IfS, WhileS, DoWhileS, ForS, SwitchS, ReturnS, BreakS, ContinueS, MaybeS, NoneS, SomeS, StmtTs, NoS, MoreS, ArmT, CaseA, DefaultA, StmtA, ArmTs, NoA, MoreA}
 use Rattle.c_types.specs.Types.{Ty}
@@ -34,7 +34,7 @@ pub data MaybeFills (f : Fn) : St → Ty → Option InitT → Option TInitT → 
 -- A variable: its type, its name, its initialiser, then the rules of the variable. The name holds in the initialiser.
 pub data Declares (f : Fn) : St → VarT → List TVarT → St → Type 0 where
   variable : {sp sq sr : St} {v : VarT} {t : Ty} {i : Option TInitT} {n : ℕ} → TypeIn f sp v.span v.ty t sq → MaybeFills f (entered v.name t sq) t v.init i sr →
-      placed v.span (object_size f.layouts f.whole locals_limit (sum sp.sizes) (is_new v.name sp) t) ≡ Ok n → Declares f sp v (filled_var false (length sp.sizes) t i) (sized n sr)
+      placed v.span (object_size f.layouts f.whole locals_limit sp.used (is_new v.name sp) t) ≡ Ok n → Declares f sp v (filled_var false (length sp.sizes) t i) (sized n sr)
 
 pub data AllDeclare (f : Fn) : St → List VarT → List TVarT → St → Type 0 where
   no_variables : {sp : St} → AllDeclare f sp [] [] sp

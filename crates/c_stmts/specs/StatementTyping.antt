@@ -1,5 +1,5 @@
 -- The typing of statements: an equation for each form, the parts in the order of reading, then the rules of the node.
-use Rattle.std.specs.Prelude.{Bool, true, false, not, List, [], ◌∷◌, ◌++◌, length, sum, Option, Some, None, Result, Ok}
+use Rattle.std.specs.Prelude.{Bool, true, false, not, List, [], ◌∷◌, ◌++◌, length, Option, Some, None, Result, Ok}
 use Rattle.c_tree.specs.declared.span.Span.{Span}
 use Rattle.c_tree.specs.Tree.{ExprT, TypeT, InitT, VarT, StmtT, BlockS, EmptyS, VarsS, DoS, IfS, WhileS, DoWhileS, ForS, SwitchS, ReturnS, BreakS, ContinueS, MaybeS, NoneS, SomeS, StmtTs, NoS, MoreS, ArmT, CaseA, DefaultA, StmtA, ArmTs, NoA, MoreA}
 use Rattle.c_types.specs.Types.{Ty}
@@ -45,7 +45,7 @@ unfoldable pub declared : Fn → St → VarT → Does (List TVarT)
 declared f sp v = do
   t ← type_in f sp v.span v.ty
   i ← maybe_filled f (entered v.name t.0 t.1) t.0 v.init
-  n ← placed v.span (object_size f.layouts f.whole locals_limit (sum sp.sizes) (is_new v.name sp) t.0)
+  n ← placed v.span (object_size f.layouts f.whole locals_limit sp.used (is_new v.name sp) t.0)
   Ok (filled_var false (length sp.sizes) t.0 i.0, sized n i.1)
 
 abbrev pub all_declared : Fn → St → List VarT → Does (List TVarT)

@@ -16,7 +16,7 @@ use Rattle.c_stmts.specs.declared.labels.Labels.{Labels as LabelsOf}
 use Rattle.c_stmts.specs.declared.state.State.{State}
 
 abbrev pub st : State → St
-st s = record { scopes = map scope s.scopes.items; sizes = s.sizes; texts = s.texts }
+st s = record { scopes = map scope s.scopes.items; sizes = s.sizes; used = s.used; texts = s.texts }
 
 abbrev pub fn_of : Globals → CType → Fn
 fn_of g t = record { layouts = map layout g.layouts.items; whole = g.whole.items; names = names g; bodies = bodies g; gives = ctype t }

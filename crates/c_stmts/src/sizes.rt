@@ -1,17 +1,14 @@
 // The sizes of the objects of a function's call.
-ghost use Rattle.std.specs.Prelude.{◌≡◌, ◌*◌, ◌≤◌, ◌++◌, ◌∷◌, [], sum, length, OnOk, IfOk};
+ghost use Rattle.std.specs.Prelude.{◌≡◌, ◌≤◌, ◌++◌, ◌∷◌, [], length, OnOk, IfOk};
 
 use kit_base::Memory;
 use std::alloc::Global;
 use std::marker::Model;
 
-/// The sizes so far, in words, by the objects' numbers, and their sum.
+/// The sizes so far, in words, by the objects' numbers.
 #[derive(Drop)]
 pub(crate) struct Sizes {
     items: Vec<u32>,
-    total: u64,
-    ghost summed: { total ≡ sum items.items },
-    ghost bounded: { total ≤ 4294967295 * length items.items },
     ghost few: { length items.items ≤ 4294967296 },
 }
 
@@ -29,14 +26,7 @@ impl Sizes {
     {
         Sizes {
             items: Vec::new(alloc),
-            total: 0,
         }
-    }
-
-    pub(crate) fn total(&self) -> u64
-        ensures total { result ≡ sum self.now }
-    {
-        self.total
     }
 
     /// The number of the next object. The error is that there are 2^32.
@@ -57,14 +47,13 @@ impl Sizes {
             return Err(Memory);
         }
         self.items.push(size)?;
-        self.total += size as u64;
         Ok(())
     }
 
     pub(crate) fn into_vec(self) -> Vec<u32>
         ensures sizes { result.items ≡ self }
     {
-        let Sizes { items, total: _ } = self;
+        let Sizes { items } = self;
         items
     }
 }

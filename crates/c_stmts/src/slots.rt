@@ -1,29 +1,35 @@
 // The places of a brace list.
 ghost use Rattle.std.specs.Prelude.{◌≡◌, map, option_map, slice_get, length};
-ghost use Rattle.c_types.specs.View.{ctype, layout, member};
-ghost use Rattle.c_stmts.specs.Slots.{Members, member_types, members_of, first_of, slots_of, slots_for, next_slot, has_room};
+ghost use Rattle.c_types.specs.View.{ctype, layout};
+ghost use Rattle.c_stmts.specs.Slots.{Members, members_of, first_of, slots_of, slots_for, next_slot, has_room};
 ghost use Rattle.c_stmts.specs.Places.{slots_behind};
 
-use c_types::{CType, Layout, Member};
+use c_types::{CType, Layout};
 
-/// The members of a structure or union.
-#[tactic(auto, using(crate::proofs::Places::member_steps))]
-fn members(layouts: &[Layout], number: u32) -> &[Member]
-    ensures { member_types (map member result.now) ≡ members_of (slice_get (map layout layouts.now) number) }
+fn layout_at(layouts: &[Layout], number: u32) -> Option<&Layout>
+    ensures { option_map (λ l. layout l.now) result ≡ slice_get (map layout layouts.now) number }
 {
-    match layouts.get(number as usize) {
-        Some(layout) => layout.members.as_slice(),
-        None => &[],
+    layouts.get(number as usize)
+}
+
+/// How many members a structure or union has.
+#[tactic(auto, using(crate::proofs::Places::member_steps))]
+fn member_count(layouts: &[Layout], number: u32) -> usize
+    ensures { result ≡ length (members_of (slice_get (map layout layouts.now) number)) }
+{
+    match layout_at(layouts, number) {
+        Some(one) => one.count(),
+        None => 0,
     }
 }
 
 /// The type of the member at that index.
 #[tactic(auto, using(crate::proofs::Places::member_steps))]
-fn member_at(members: &[Member], index: usize) -> Option<&CType>
-    ensures { option_map (λ t. ctype t.now) result ≡ slice_get (member_types (map member members.now)) index }
+fn member_at(layouts: &[Layout], number: u32, index: usize) -> Option<&CType>
+    ensures { option_map (λ t. ctype t.now) result ≡ slice_get (members_of (slice_get (map layout layouts.now) number)) index }
 {
-    match members.get(index) {
-        Some(member) => Some(&member.ty),
+    match layout_at(layouts, number) {
+        Some(one) => one.member_type(index),
         None => None,
     }
 }
@@ -31,7 +37,7 @@ fn member_at(members: &[Member], index: usize) -> Option<&CType>
 fn member_slot(layouts: &[Layout], number: u32, index: usize) -> Option<&CType>
     ensures { option_map (λ t. ctype t.now) result ≡ next_slot (slots_behind index (Members (members_of (slice_get (map layout layouts.now) number)))) }
 {
-    member_at(members(layouts, number), index)
+    member_at(layouts, number, index)
 }
 
 fn first_slot(layouts: &[Layout], number: u32, index: usize) -> Option<&CType>
@@ -40,7 +46,7 @@ fn first_slot(layouts: &[Layout], number: u32, index: usize) -> Option<&CType>
     if index > 0 {
         return None;
     }
-    member_at(members(layouts, number), 0)
+    member_at(layouts, number, 0)
 }
 
 #[tactic(auto, using(crate::proofs::Places::slot_steps))]
@@ -78,13 +84,13 @@ pub(crate) fn slot_at<'a>(
 fn has_members(layouts: &[Layout], number: u32, count: usize) -> bool
     ensures { result ≡ has_room count (Members (members_of (slice_get (map layout layouts.now) number))) }
 {
-    count <= members(layouts, number).len()
+    count <= member_count(layouts, number)
 }
 
 fn has_first(layouts: &[Layout], number: u32, count: usize) -> bool
     ensures { result ≡ has_room count (Members (first_of (members_of (slice_get (map layout layouts.now) number)))) }
 {
-    count <= members(layouts, number).len().min(1)
+    count <= member_count(layouts, number).min(1)
 }
 
 fn has_room_in(layouts: &[Layout], ty: &CType, count: usize) -> bool

@@ -1,7 +1,7 @@
 // What the statements of a function change.
 ghost use Rattle.std.specs.Prelude.{◌≡◌, ◌++◌, ◌∷◌, [], true, length, OnOk, IfOk};
 ghost use Rattle.c_types.specs.View.{ctype};
-ghost use Rattle.c_stmts.specs.State.{opened, left, made, is_new, declare};
+ghost use Rattle.c_stmts.specs.State.{opened, left, made, is_new, declare, sized};
 ghost use Rattle.c_stmts.specs.View.{st};
 
 use crate::scopes::{close, declare, is_new};
@@ -11,22 +11,25 @@ use c_types::CType;
 use kit_base::Memory;
 use std::alloc::Global;
 
-/// The open scopes, the innermost last; the sizes of the call's objects, by their numbers; the texts of the unit so far.
+/// The open scopes, the innermost last; the sizes of the call's objects, by their numbers; the words of those that are variables, not
+/// parameters; the texts of the unit so far.
 #[derive(Drop)]
 pub struct State {
     pub scopes: Vec<Scope>,
     pub(crate) sizes: Sizes,
+    pub(crate) used: u32,
     pub texts: Texts,
 }
 
 impl State {
     /// The state before a function: no scope is open, and there is no object.
     pub fn new(alloc: Global, texts: Texts) -> State
-        ensures start { st result ≡ record { scopes = []; sizes = []; texts = texts } }
+        ensures start { st result ≡ record { scopes = []; sizes = []; used = 0; texts = texts } }
     {
         State {
             scopes: Vec::new(alloc),
             sizes: Sizes::new(alloc),
+            used: 0,
             texts,
         }
     }
@@ -46,8 +49,7 @@ impl State {
         is_new(name, &self.scopes)
     }
 
-    /// Declares the next object in the innermost scope, under a name that this does not have, with its size in words, of whatever
-    /// sum. The error is want of memory, and then the state is of no further use.
+    /// Declares a parameter as the next object, in the innermost scope, under a name that this does not have, with its size in words. The error is want of memory, and then the state is of no further use.
     pub fn add_object(
         &mut self,
         alloc: Global,
@@ -56,11 +58,23 @@ impl State {
         ty: CType,
     ) -> Result<(), Memory>
         requires new { is_new name.now (st self.old) ≡ true }
-        ensures added { OnOk result (st self.new ≡ record { scopes = declare name.now (record { number = length (st self.old).sizes; ty = ctype ty }) (st self.old).scopes; sizes = (st self.old).sizes ++ size ∷ []; texts = (st self.old).texts }) }
+        ensures added { OnOk result (st self.new ≡ record { scopes = declare name.now (record { number = length (st self.old).sizes; ty = ctype ty }) (st self.old).scopes; sizes = (st self.old).sizes ++ size ∷ []; used = (st self.old).used; texts = (st self.old).texts }) }
     {
         let number = self.sizes.next()?;
         declare(alloc, &mut self.scopes, name, number, ty)?;
         self.sizes.add(size)
+    }
+
+    /// Keeps the size in words of the next object, which is a variable. The error is want of memory, or that there are 2^32 words.
+    pub(crate) fn add_variable(&mut self, size: u32) -> Result<(), Memory>
+        ensures sized { OnOk result (st self.new ≡ sized size (st self.old)) }
+    {
+        let Some(used) = self.used.checked_add(size) else {
+            return Err(Memory);
+        };
+        self.sizes.add(size)?;
+        self.used = used;
+        Ok(())
     }
 
     /// Closes the innermost scope, and gives the numbers of its objects in the order of their declarations. The error is want of
@@ -80,6 +94,7 @@ impl State {
         let State {
             scopes: _,
             sizes,
+            used: _,
             texts,
         } = self;
         (sizes.into_vec(), texts)

@@ -155,7 +155,7 @@ fn declared(
 ) -> Result<Option<TVar>, CheckErr>
     ensures { Gives (λ r. (lone (option_map tvar r), st state.new)) result (declared (fn_of globals.now gives.now) (st state.old) (var v.now)) }
 {
-    let used = state.sizes.total();
+    let used = state.used;
     let fresh = is_new(v.name.bytes(), &state.scopes);
     let ty = type_in(alloc, globals, state, gives, v.span, &v.ty)?;
     let number = enter(alloc, state, v.name.bytes(), &ty)?;
@@ -164,12 +164,12 @@ fn declared(
         &globals.layouts,
         &globals.whole,
         1_000_000,
-        used,
+        used as u64,
         fresh,
         &ty,
     );
     let size = placed(v.span, size)?;
-    state.sizes.add(size)?;
+    state.add_variable(size)?;
     Ok(filled_var(number, ty, init))
 }
 

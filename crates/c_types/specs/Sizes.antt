@@ -1,5 +1,5 @@
 -- How many words a type has, and where members stand.
-use Rattle.std.specs.Prelude.{◌≡◌, ◌<◌, ℕ, ◌+◌, ◌*◌, max, List, [], ◌∷◌, length, Option, Some, None, slice_get, if◌then◌else◌}
+use Rattle.std.specs.Prelude.{◌≡◌, ◌<◌, ℕ, ◌+◌, ◌*◌, max, List, [], ◌∷◌, length, Option, Some, None, option_map, slice_get, if◌then◌else◌}
 use Rattle.std.specs.Option.{option_map_or}
 use Rattle.std.specs.Str.{bytes_eq}
 use Rattle.c_types.specs.Types.{Ty, VoidY, IntY, BoolY, EnumY, StructY, UnionY, PointerY, ArrayY, MemberT, LayoutT}
@@ -42,7 +42,11 @@ Overlap layouts greatest (m ∷ ms) size = (m.offset ≡ 0) × Overlap layouts (
 abbrev pub IsUnion : List LayoutT → LayoutT → Type 0
 IsUnion layouts l = Overlap layouts 0 l.members l.size
 
--- the offset of the first member of that name
+-- the first member of that name
+abbrev pub member_named : List ℕ → List MemberT → Option MemberT
+member_named name [] = None
+member_named name (m ∷ ms) = if bytes_eq name m.name then Some m else member_named name ms
+
+-- its offset
 abbrev pub offset_of : List MemberT → List ℕ → Option ℕ
-offset_of [] name = None
-offset_of (m ∷ ms) name = if bytes_eq m.name name then Some m.offset else offset_of ms name
+offset_of ms name = option_map (λ m. m.offset) (member_named name ms)

@@ -45,11 +45,12 @@ type_layer (c.Array t n) = ArrayY t.value n
 abbrev pub ctype : CType → Ty
 ctype = fold-CType Ty type_layer
 
-abbrev pub member : Member → MemberT
-member m = record { name = m.name; offset = m.offset; ty = ctype m.ty }
+-- a member under its name
+abbrev pub named : List ℕ → Member → MemberT
+named name m = record { name = name; offset = m.offset; ty = ctype m.ty }
 
 abbrev pub layout : Layout → LayoutT
-layout l = record { members = map member l.members; size = l.size }
+layout l = record { members = map (λ e. named e.0.items e.1) l.members.entries; size = l.size }
 
 abbrev pub kind_layer : TKind-F TKindT TExprT → TKindT
 kind_layer (k.Number n) = NumberK n

@@ -1,24 +1,72 @@
 // How many words a type has, and where members stand.
-ghost use Rattle.std.specs.Prelude.{◌≡◌, ◌<◌, ◌^◌, length, map};
-ghost use Rattle.c_types.specs.View.{ctype, layout, member};
-ghost use Rattle.c_types.specs.Sizes.{layout_size, words_of, IsNumbered, offset_of};
+ghost use Rattle.std.specs.Prelude.{◌≡◌, ◌<◌, ◌^◌, ◌++◌, ◌∷◌, [], length, map, option_map, is_some, slice_get, false, OnOk, OnErr};
+ghost use Rattle.c_types.specs.View.{ctype, layout, named};
+ghost use Rattle.c_types.specs.Sizes.{layout_size, words_of, IsNumbered, member_named, offset_of};
 
 use crate::ctype::CType;
-use kit_base::{Name, Seq};
+use indexmap::IndexMap;
+use std::alloc::{AllocError, Global};
 
-/// A member of a structure or union: its name, its first word counted from the structure's, and its type.
+/// A member of a structure or union: its first word counted from the structure's, and its type.
 #[derive(Drop)]
 pub struct Member {
-    pub name: Name,
     pub offset: u32,
     pub ty: CType,
 }
 
-/// A structure or union: its members in their order, and its number of words.
+/// A structure or union: its members by their names, in their order, and its number of words.
 #[derive(Drop)]
 pub struct Layout {
-    pub members: Seq<Member>,
+    members: IndexMap<Vec<u8>, Member>,
     pub size: u32,
+}
+
+impl Layout {
+    /// One without members, of no words.
+    pub fn new(alloc: Global) -> Layout
+        ensures none { layout result ≡ record { members = []; size = 0 } }
+    {
+        Layout {
+            members: IndexMap::new(alloc),
+            size: 0,
+        }
+    }
+
+    /// How many members there are.
+    pub fn count(&self) -> usize
+        ensures count { result ≡ length (layout self.now).members }
+    {
+        self.members.len()
+    }
+
+    /// The member of that name.
+    pub fn member(&self, name: &[u8]) -> Option<&Member>
+        ensures found { option_map (λ m. named name.now m.now) result ≡ member_named name.now (layout self.now).members }
+    {
+        self.members.get(name)
+    }
+
+    /// The type of the member at that index.
+    pub fn member_type(&self, index: usize) -> Option<&CType>
+        ensures ty { option_map (λ t. ctype t.now) result ≡ option_map (λ m. m.ty) (slice_get (layout self.now).members index) }
+    {
+        match self.members.get_index(index) {
+            Some((_, member)) => Some(&member.ty),
+            None => None,
+        }
+    }
+
+    /// Adds a member under a name that no member has yet; it goes last. The size stays. The error is want of memory, and then the layout
+    /// stays.
+    pub fn add(&mut self, name: Vec<u8>, member: Member) -> Result<(), AllocError>
+        requires new { is_some (member_named name.items (layout self.old).members) ≡ false }
+        ensures added { OnOk result ((layout self.new).members ≡ (layout self.old).members ++ named name.items member ∷ []) }
+        ensures refused { OnErr result ((layout self.new).members ≡ (layout self.old).members) }
+        ensures size { self.new.size ≡ self.old.size }
+    {
+        self.members.insert(name, member)?;
+        Ok(())
+    }
 }
 
 /// The size of the layout of that number.
@@ -45,20 +93,12 @@ pub fn size_of(layouts: &[Layout], ty: &CType) -> u32
     }
 }
 
-fn offset_in(members: &[Member], name: &str) -> Option<u32>
-    ensures offset { result ≡ offset_of (map member members.now) name.now }
-{
-    for one in members {
-        if one.name.bytes() == name.as_bytes() {
-            return Some(one.offset);
-        }
-    }
-    None
-}
-
 /// Where the member of that name begins; none where no member has it.
 pub fn member_offset(structure: &Layout, name: &str) -> Option<u32>
     ensures offset { result ≡ offset_of (layout structure.now).members name.now }
 {
-    offset_in(structure.members.as_slice(), name)
+    match structure.member(name.as_bytes()) {
+        Some(member) => Some(member.offset),
+        None => None,
+    }
 }

@@ -1,0 +1,187 @@
+-- The functions of a unit are sound.
+use Rattle.std.proofs.Common.{◌≡◌, ℕ, ◌+◌, ◌≤◌, Bool, false, List, [], ◌∷◌, ◌++◌, length, sum, Some, Ok, refl, sym, ap, ◌∙◌, subst, subst₂, arith, append-nil, append_assoc}
+use Rattle.c_tree.specs.declared.span.Span.{Span}
+use Rattle.c_tree.specs.Tree.{TypeT, VarT, StmtTs}
+use Rattle.c_types.specs.Types.{Ty, LayoutT}
+use Rattle.c_types.specs.Typed.{TStmtTs}
+use Rattle.c_rules.specs.Rules.{judged}
+use Rattle.c_exprs.specs.Env.{Text, FunctionD}
+use Rattle.c_stmts.specs.State.{locals_limit}
+use Rattle.c_check.specs.Reading.{Un, function_under, state_in, named, begun, parameter_rule, with_parameter, result_rule}
+use Rattle.c_check.specs.ItemTypes as item
+use Rattle.c_check.specs.ItemTypes.{TypeAt, BodyAt, Parameter, Parameters}
+use Rattle.c_facts.specs.Sound.{Scene, IsKnown, IsLocal, AreStatements, AreCallObjects, in_call, IsFunction}
+use Rattle.c_facts.proofs.Within.{Begins, AllKnown}
+use Rattle.c_facts.proofs.Told.{body_is, spends_are}
+use Rattle.c_facts.proofs.Fronts.{begins_itself, begins_through, begins_at, last_at}
+use Rattle.c_facts.proofs.Stays.{words_stay, parameter_stays, result_stays, parameter_facts}
+use Rattle.c_facts.proofs.ItemRules.{parameter_rule_holds, IsRuled}
+use Rattle.c_facts.proofs.Opened.{declared_in}
+use Rattle.c_facts.proofs.Readings.{Later, later_through, Keeps, keeps_through, kept_later, by_named, named_keeps, begun_keeps, with_parameter_keeps, parameters_keep, body_keeps, type_keeps}
+use Rattle.c_facts.proofs.Sane.{Sane, kept_sane}
+use Rattle.c_facts.proofs.Counts.{numbers_then}
+use Rattle.c_facts.proofs.Meant.{Ends, Meant, literals_begin, named_meant, type_known, members_whole_then}
+
+-- ---- parameters
+
+-- the objects of parameters, each by its rule
+abbrev pub AreParameters : List LayoutT → List Bool → List Ty → List ℕ → Type 0
+AreParameters layouts whole [] [] = Unit {0}
+AreParameters layouts whole (ty ∷ tys) (n ∷ ns) = IsKnown layouts whole ty × (judged (parameter_rule layouts whole ty) ≡ Ok n) × AreParameters layouts whole tys ns
+AreParameters layouts whole _ _ = ⊥
+
+type_sizes : {un : Un} {p : Span} {of : TypeT} {t : Ty} {up : Un} → TypeAt un p of t up → (up.sizes ≡ un.sizes) × (up.used ≡ un.used)
+type_sizes (item.type_at g0) = (refl, refl)
+
+with_parameter_sizes : (n : Text) (ty : Ty) (words : ℕ) (un : Un) → ((with_parameter n ty words un).sizes ≡ un.sizes ++ words ∷ []) × ((with_parameter n ty words un).used ≡ un.used)
+unfolding with_parameter
+with_parameter_sizes n ty words un = (refl, refl)
+
+-- a parameter becomes an object of the call
+parameter_meant : {s : Scene} {un : Un} (n : Text) (ty : Ty) (words : ℕ) → Meant s un → IsKnown s.layouts s.whole ty → IsLocal s (length un.sizes) ty → Meant s (with_parameter n ty words un)
+unfolding with_parameter
+parameter_meant {s = s} {un = un} n ty words m known object = record { grows = m.grows; names = m.names; scopes = declared_in s n (record { number = length un.sizes; ty = ty }) un.scopes m.scopes (known, object) }
+
+-- what parameters add
+pub record Takes (s : Scene) (un : Un) (ps : List Ty) (up : Un) : Type 0 where
+  pub sizes : List ℕ
+  pub added : up.sizes ≡ un.sizes ++ sizes
+  pub used : up.used ≡ un.used
+  pub rules : AreParameters s.layouts s.whole ps sizes
+  pub meant : Meant s up
+
+-- one object more
+record AddsOne (un up : Un) : Type 0 where
+  size : ℕ
+  added : up.sizes ≡ un.sizes ++ size ∷ []
+  used : up.used ≡ un.used
+
+parameter_adds : {un : Un} {v : VarT} {t : Ty} {up : Un} → Parameter un v t up → AddsOne un up
+parameter_adds (item.parameter {un = un} {up = up} {v = v} {t = t} {n = n} g0 g1) =
+    let sizes = with_parameter_sizes v.name t n up in
+    let types = type_sizes g0 in
+    record { size = n; added = sizes.0 ∙ ap (λ ns. ns ++ n ∷ []) types.0; used = sizes.1 ∙ types.1 }
+
+parameters_sizes : {un : Un} {vs : List VarT} {ps : List Ty} {up : Un} → Parameters un vs ps up → Begins un.sizes up.sizes
+parameters_sizes (item.no_parameters {un = un}) = begins_itself un.sizes
+parameters_sizes (item.more_parameters {un = un} {up = up} {uq = uq} g0 rest) =
+    let one = parameter_adds g0 in
+    begins_through un.sizes up.sizes uq.sizes (one.size ∷ [], one.added) (parameters_sizes rest)
+
+-- what a parameter adds
+record TakesOne (s : Scene) (un : Un) (t : Ty) (up : Un) : Type 0 where
+  size : ℕ
+  added : up.sizes ≡ un.sizes ++ size ∷ []
+  used : up.used ≡ un.used
+  known : IsKnown s.layouts s.whole t
+  rule : judged (parameter_rule s.layouts s.whole t) ≡ Ok size
+  meant : Meant s up
+
+parameter_known : {s : Scene} {fin un : Un} {v : VarT} {t : Ty} {up : Un} → Ends s fin → Parameter un v t up → Later up fin → Begins up.sizes s.locals → Meant s un → TakesOne s un t up
+parameter_known {s = s} e (item.parameter {un = un} {up = up} {v = v} {t = t} {n = n} g0 g1) later b m =
+    let ty = type_known e g0 (later_through (kept_later (with_parameter_keeps v.name t n up)) later) m in
+    let rule = parameter_rule_holds v.span up v.name t n g1 in
+    let facts = parameter_facts up.layouts up.whole t n rule in
+    let sizes = with_parameter_sizes v.name t n up in
+    let types = type_sizes g0 in
+    let room : Begins (up.sizes ++ n ∷ []) s.locals = subst (λ ns. Begins ns s.locals) sizes.0 b in
+    let object : IsLocal s (length up.sizes) t = begins_at (up.sizes ++ n ∷ []) s.locals (length up.sizes) n room (last_at up.sizes n) ∙ ap Some (sym facts.words ∙ words_stay ty.meant.grows t facts.sized) in
+    record {
+      size = n;
+      added = sizes.0 ∙ ap (λ ns. ns ++ n ∷ []) types.0;
+      used = sizes.1 ∙ types.1;
+      known = ty.known;
+      rule = parameter_stays ty.meant.grows t n rule;
+      meant = parameter_meant v.name t n ty.meant ty.known object;
+    }
+
+pub parameters_known : {s : Scene} {fin un : Un} {vs : List VarT} {ps : List Ty} {up : Un} → Ends s fin → Parameters un vs ps up → Later up fin → Begins up.sizes s.locals → Meant s un → Takes s un ps up
+parameters_known e (item.no_parameters {un = un}) later b m = record { sizes = []; added = sym (append-nil un.sizes); used = refl; rules = tt; meant = m }
+parameters_known {s = s} e (item.more_parameters {un = un} {up = up} {uq = uq} g0 rest) later b m =
+    let one = parameter_known e g0 (later_through (kept_later (parameters_keep rest)) later) (begins_through up.sizes uq.sizes s.locals (parameters_sizes rest) b) m in
+    let others = parameters_known e rest later b one.meant in
+    record {
+      sizes = one.size ∷ others.sizes;
+      added = others.added ∙ ap (λ ns. ns ++ others.sizes) one.added ∙ append_assoc un.sizes (one.size ∷ []) others.sizes;
+      used = others.used ∙ one.used;
+      rules = (one.known, one.rule, others.rules);
+      meant = others.meant;
+    }
+
+parameters_all_known : (s : Scene) (ps : List Ty) (ns : List ℕ) → AreParameters s.layouts s.whole ps ns → AllKnown s ps
+parameters_all_known s [] [] h = tt
+parameters_all_known s [] (n ∷ ns) h = absurd h
+parameters_all_known s (p ∷ ps) [] h = absurd h
+parameters_all_known s (p ∷ ps) (n ∷ ns) h = (h.0, parameters_all_known s ps ns h.2)
+
+-- the parameters of a call, then its variables
+call_objects : (layouts : List LayoutT) (whole : List Bool) (ps : List Ty) (ms ns : List ℕ) → AreParameters layouts whole ps ms → sum ns ≤ locals_limit → AreCallObjects layouts whole ps (ms ++ ns)
+call_objects layouts whole [] [] ns h room = room
+call_objects layouts whole [] (m ∷ ms) ns h room = absurd h
+call_objects layouts whole (p ∷ ps) [] ns h room = absurd h
+call_objects layouts whole (p ∷ ps) (m ∷ ms) ns h room = (h.0, h.1, call_objects layouts whole ps ms ns h.2 room)
+
+-- ---- the head of a function
+
+pub record Heads (s : Scene) (name : Text) (t : Ty) (ps : List Ty) (uq : Un) : Type 0 where
+  pub gives : IsKnown s.layouts s.whole t
+  pub rules : AreParameters s.layouts s.whole ps uq.sizes
+  pub used : uq.used ≡ 0
+  pub meant : Meant s (named name (FunctionD ps t) uq)
+
+pub head_known : (name : Text) {s : Scene} {fin un : Un} {p : Span} {of : TypeT} {t : Ty} {vs : List VarT} {ps : List Ty} {up uq : Un} → Ends s fin → TypeAt un p of t up → Parameters (begun up) vs ps uq → Later uq fin → Begins uq.sizes s.locals → Meant s un → Heads s name t ps uq
+head_known name {s = s} {t = t} {ps = ps} {up = up} {uq = uq} e g0 g1 later b m =
+    let ty = type_known e g0 (later_through (kept_later (keeps_through (begun_keeps up) (parameters_keep g1))) later) m in
+    let begin : Meant s (begun up) = record { grows = ty.meant.grows; names = ty.meant.names; scopes = (tt, tt) } in
+    let takes = parameters_known e g1 later b begin in
+    record {
+      gives = ty.known;
+      rules = subst (λ ns. AreParameters s.layouts s.whole ps ns) (sym takes.added) takes.rules;
+      used = takes.used;
+      meant = named_meant name (FunctionD ps t) takes.meant (parameters_all_known s ps takes.sizes takes.rules, ty.known);
+    }
+
+-- ---- the body
+
+named_sizes : (name : Text) (ps : List Ty) (t : Ty) (un : Un) → ((named name (FunctionD ps t) un).sizes ≡ un.sizes) × ((named name (FunctionD ps t) un).used ≡ un.used)
+named_sizes name ps t un = by_named (λ up. (up.sizes ≡ un.sizes) × (up.used ≡ un.used)) name (FunctionD ps t) un (refl, refl) (refl, refl)
+
+-- what a body adds to the objects of the parameters
+pub record Adds (un ur : Un) : Type 0 where
+  pub taken : List ℕ
+  pub sizes : ur.sizes ≡ un.sizes ++ taken
+  pub room : un.used ≡ 0 → sum taken ≤ locals_limit
+
+pub body_adds : {un : Un} {t : Ty} {body : StmtTs} {x : TStmtTs} {ur : Un} → BodyAt un t body x ur → Adds un ur
+body_adds {t = t} {body = body} {x = x} (item.body_at {un = un} {us = us} g0) =
+    let spent = spends_are (function_under un t) (state_in un) us false false body x g0 in
+    record { taken = spent.taken; sizes = spent.sizes; room = λ z. few un.used us.used (sum spent.taken) locals_limit z spent.used spent.room }
+  where
+    few : (a b n limit : ℕ) → a ≡ 0 → b ≡ a + n → (a ≤ limit → b ≤ limit) → n ≤ limit
+    few a b n limit z e h = let k = h (omega arith) in omega arith
+
+body_known : {s : Scene} {fin un : Un} {t : Ty} {body : StmtTs} {x : TStmtTs} {ur : Un} → Ends s fin → Sane un → BodyAt un t body x ur → Later ur fin → Begins ur.sizes s.locals → Meant s un → AreStatements s x t false false
+body_known {s = s} {fin = fin} {t = t} {body = body} {x = x} e h (item.body_at {un = un} {us = us} g0) later b m =
+    body_is s (function_under un t) (state_in un) us body x m.grows m.names (numbers_then s un fin e.numbers e.functions (later_through (kept_later (body_keeps (item.body_at g0))) later)) e.members (members_whole_then h) m.scopes g0 b (literals_begin e later)
+
+pub ends_call : {s : Scene} {fin : Un} (sizes : List ℕ) → Ends s fin → Ends (in_call s sizes) fin
+ends_call sizes e = record { numbers = e.numbers; functions = e.functions; globals = e.globals; literals = e.literals; members = e.members }
+
+-- The function that an item with a body makes.
+pub function_sound : (name : Text) {s : Scene} {fin un : Un} {p : Span} {of : TypeT} {t : Ty} {vs : List VarT} {ps : List Ty} {up uq : Un} {body : StmtTs} {x : TStmtTs} {ur : Un} → Ends s fin → ((sizes : List ℕ) → Meant (in_call s sizes) un) → Sane un
+    → TypeAt un p of t up → Parameters (begun up) vs ps uq → BodyAt (named name (FunctionD ps t) uq) t body x ur → IsRuled ur name ps t (Some body) → Later ur fin → IsFunction s (record { name = name; params = ps; locals = ur.sizes; gives = t; body = x })
+function_sound name {s = s} {un = un} {t = t} {ps = ps} {up = up} {uq = uq} {ur = ur} e meant h g0 g1 g2 r later =
+    let adds = body_adds g2 in
+    let same = named_sizes name ps t uq in
+    let sizes : ur.sizes ≡ uq.sizes ++ adds.taken = adds.sizes ∙ ap (λ ns. ns ++ adds.taken) same.0 in
+    let from_body : Keeps (named name (FunctionD ps t) uq) ur = body_keeps g2 in
+    let from_names : Keeps uq (named name (FunctionD ps t) uq) = named_keeps name (FunctionD ps t) uq in
+    let before : Keeps un uq = keeps_through (type_keeps g0) (keeps_through (begun_keeps up) (parameters_keep g1)) in
+    let call = ends_call ur.sizes e in
+    let head = head_known name call g0 g1 (later_through (kept_later (keeps_through from_names from_body)) later) (adds.taken, sizes) (meant ur.sizes) in
+    record {
+      known = head.gives;
+      result = result_stays head.meant.grows t (subst₂ (λ ls ws. judged (result_rule ls ws t) ≡ Ok tt) from_body.layouts from_body.whole r.result);
+      objects = subst (λ ns. AreCallObjects s.layouts s.whole ps ns) (sym sizes) (call_objects s.layouts s.whole ps uq.sizes adds.taken head.rules (adds.room (same.1 ∙ head.used)));
+      body = body_known call (kept_sane (keeps_through before from_names) h) g2 later (begins_itself ur.sizes) head.meant;
+    }

@@ -1,0 +1,296 @@
+-- Programs that are typed are sound.
+use Rattle.std.proofs.Common.{◌≡◌, ◌⊎◌, ℕ, suc, ◌<◌, Bool, true, false, List, [], ◌∷◌, ◌++◌, length, Option, Some, None, refl, sym, ◌∙◌, subst, subst₂, inl, inr, arith, length-append}
+use Rattle.std.specs.Prelude.{slice_get, slice_set, codes, if◌then◌else◌}
+use Rattle.c_tree.specs.declared.span.Span.{Span}
+use Rattle.c_tree.specs.Tree.{TypeT, VarT, StmtTs, ItemT}
+use Rattle.c_types.specs.Types.{Ty, MemberT, LayoutT}
+use Rattle.c_types.specs.Typed.{TVarT, TStmtT, VarsZ, TStmtTs}
+use Rattle.c_rules.specs.Kinds.{holds}
+use Rattle.c_rules.specs.Sizes.{is_declared}
+use Rattle.c_exprs.specs.Env.{Text, find, TypeD, FunctionD}
+use Rattle.c_check.specs.Reading.{Un, TFunctionT, opening, bodies_of, named, no_layout, record_type, new_record, record_entered, with_layout, with_init, begun, ended, with_function}
+use Rattle.c_check.specs.ItemTypes as item
+use Rattle.c_check.specs.ItemTypes.{TypeAt, Globals, Parameters, BodyAt, MaybeBody, Item, Items}
+use Rattle.c_check.specs.Whole as check
+use Rattle.c_check.specs.Whole.{ProgramT, is_plain, plain_number, main_of, program_of, WellTyped}
+use Rattle.c_facts.specs.Sound.{Scene, IsKnown, AreSized, IsLaidOut, AreDeclaredAs, in_call, IsFunction, AreFunctions, FillGlobals, AreFilled, IsSound}
+use Rattle.c_facts.proofs.Within.{Grows, AreMeant, AllMembersKnown}
+use Rattle.c_facts.proofs.Told.{MembersKnown}
+use Rattle.c_facts.proofs.Fronts.{begins_itself, last_or_before, replaced_at}
+use Rattle.c_facts.proofs.Stays.{grows_itself, grows_through, known_stays}
+use Rattle.c_facts.proofs.Laid.{AllWhole, AreLaid, record_grows, layout_grows}
+use Rattle.c_facts.proofs.ItemRules.{members_whole, IsRuled, function_ruled}
+use Rattle.c_facts.proofs.Readings.{Later, later_itself, later_through, Keeps, keeps_through, kept_later, by_record, named_keeps, enum_keeps, type_keeps, maybe_body_keeps, enumerators_keep, members_keep}
+use Rattle.c_facts.proofs.Sane.{Sane, opening_sane, kept_sane, record_follows, global_keeps, function_keeps, with_layout_later, with_init_later, with_function_later, item_follows, items_follow}
+use Rattle.c_facts.proofs.Counts.{HaveNumbers, unit_numbers}
+use Rattle.c_facts.proofs.Meant.{Ends, Meant, meant_more, named_meant, type_known, members_known, enumeration_meant, globals_known}
+use Rattle.c_facts.proofs.Functions.{head_known, ends_call, function_sound}
+
+-- ---- what is shown of each state
+
+-- the scene of the unit that ends so, with the structures and unions of the time
+abbrev pub seen : Un → Un → Scene
+seen fin un = record { layouts = un.layouts; whole = un.whole; globals = fin.globals; literals = fin.texts; functions = fin.functions; locals = [] }
+
+-- What is read so far is sound in each scene of the unit that is not behind. Members are known in the scene of the time: that those of the whole
+-- program are known is not shown yet while it is read.
+pub record Proved (fin un : Un) : Type 0 where
+  pub meant : (s : Scene) → Ends s fin → Grows un.layouts un.whole s.layouts s.whole → Meant s un
+  pub members : MembersKnown (seen fin un)
+  pub inits : (s : Scene) → Ends s fin → Grows un.layouts un.whole s.layouts s.whole → FillGlobals s un.inits
+  pub functions : (s : Scene) → Ends s fin → Grows un.layouts un.whole s.layouts s.whole → AreFunctions s un.functions
+
+opening_proved : (fin : Un) (b : List (Text × ℕ)) → Proved fin (opening b)
+opening_proved fin b = record {
+  meant = λ s e g. record { grows = g; names = tt; scopes = tt };
+  members = λ k l e. absurd cc;
+  inits = λ s e g. tt;
+  functions = λ s e g. tt;
+}
+
+seen_ends : (fin un : Un) → HaveNumbers fin → MembersKnown (seen fin un) → Ends (seen fin un) fin
+seen_ends fin un numbers members = record { numbers = numbers; functions = refl; globals = refl; literals = refl; members = members }
+
+-- ---- members of what is whole later
+
+all_members_stay : (s r : Scene) → Grows s.layouts s.whole r.layouts r.whole → (ms : List MemberT) → AllMembersKnown s ms → AllMembersKnown r ms
+all_members_stay s r g [] h = tt
+all_members_stay s r g (m ∷ ms) h = (known_stays g m.ty h.0, all_members_stay s r g ms h.1)
+
+-- ---- parts that leave layouts, initialisers and functions as they are
+
+record Stays (un up : Un) : Type 0 where
+  layouts : up.layouts ≡ un.layouts
+  whole : up.whole ≡ un.whole
+  inits : up.inits ≡ un.inits
+  functions : up.functions ≡ un.functions
+
+stays_through : {un up uq : Un} → Stays un up → Stays up uq → Stays un uq
+stays_through g h = record { layouts = h.layouts ∙ g.layouts; whole = h.whole ∙ g.whole; inits = h.inits ∙ g.inits; functions = h.functions ∙ g.functions }
+
+kept_stay : {un up : Un} → Keeps un up → Stays un up
+kept_stay g = record { layouts = g.layouts; whole = g.whole; inits = g.inits; functions = g.functions }
+
+globals_stay : {un : Un} {vs : List VarT} {xs : List TVarT} {up : Un} → Globals un vs xs up → Stays un up
+globals_stay (item.no_globals) = record { layouts = refl; whole = refl; inits = refl; functions = refl }
+globals_stay (item.more_globals (item.global {v = v} g0 g1 g2) rest) =
+    let g = global_keeps v g0 g1 in
+    stays_through (record { layouts = g.layouts; whole = g.whole; inits = g.inits; functions = g.functions }) (globals_stay rest)
+
+grows_back : {un up : Un} → Stays un up → (layouts : List LayoutT) (whole : List Bool) → Grows up.layouts up.whole layouts whole → Grows un.layouts un.whole layouts whole
+grows_back g layouts whole h = subst₂ (λ ls ws. Grows ls ws layouts whole) g.layouts g.whole h
+
+members_stay : {un up : Un} (fin : Un) → Stays un up → MembersKnown (seen fin un) → MembersKnown (seen fin up)
+members_stay {un = un} {up = up} fin g h = subst₂ (λ ls ws. MembersKnown (record { layouts = ls; whole = ws; globals = fin.globals; literals = fin.texts; functions = fin.functions; locals = [] })) (sym g.layouts) (sym g.whole) h
+
+stays_proved : {fin un up : Un} → Stays un up → Proved fin un → ((s : Scene) → Ends s fin → Grows up.layouts up.whole s.layouts s.whole → Meant s un → Meant s up) → Proved fin up
+stays_proved {fin = fin} g p meant = record {
+  meant = λ s e h. meant s e h (p.meant s e (grows_back g s.layouts s.whole h));
+  members = members_stay fin g p.members;
+  inits = λ s e h. subst (λ xs. FillGlobals s xs) (sym g.inits) (p.inits s e (grows_back g s.layouts s.whole h));
+  functions = λ s e h. subst (λ fs. AreFunctions s fs) (sym g.functions) (p.functions s e (grows_back g s.layouts s.whole h));
+}
+
+-- ---- structures and unions
+
+record_known : (s : Scene) (is_union : Bool) (k : ℕ) → k < length s.layouts → IsKnown s.layouts s.whole (record_type is_union k)
+record_known s true k h = h
+record_known s false k h = h
+
+new_record_proved : {fin un : Un} (is_union : Bool) (n : Text) → Sane un → Proved fin un → Proved fin (new_record is_union n un)
+new_record_proved {fin = fin} {un = un} is_union n h p = record {
+  meant = λ s e later.
+      let m = p.meant s e (grows_through g later) in
+      record { grows = later; names = meant_more s un.names n (TypeD (record_type is_union (length un.layouts))) m.names (record_known s is_union (length un.layouts) (omega (arith, later.few, length-append un.layouts (no_layout ∷ [])))); scopes = m.scopes };
+  members = λ k l e. by k l (last_or_before un.layouts no_layout k l e);
+  inits = λ s e later. p.inits s e (grows_through g later);
+  functions = λ s e later. p.functions s e (grows_through g later);
+}
+  where
+    g : Grows un.layouts un.whole (un.layouts ++ no_layout ∷ []) (un.whole ++ false ∷ [])
+    g = record_grows un.layouts un.whole h.declared
+
+    by : (k : ℕ) (l : LayoutT) → (slice_get un.layouts k ≡ Some l) ⊎ ((k ≡ length un.layouts) × (no_layout ≡ l)) → AllMembersKnown (seen fin (new_record is_union n un)) l.members
+    by k l (inl e) = all_members_stay (seen fin un) (seen fin (new_record is_union n un)) g l.members (p.members k l e)
+    by k l (inr e) = subst (λ (m : LayoutT). AllMembersKnown (seen fin (new_record is_union n un)) m.members) e.1 tt
+
+record_proved : {fin un : Un} (is_union : Bool) (n : Text) → Sane un → Proved fin un → Proved fin (record_entered is_union n un)
+record_proved {fin = fin} {un = un} is_union n h p = by_record (λ up. Proved fin up) is_union n un p (new_record_proved is_union n h p)
+
+-- one that is declared whole
+layout_proved : {fin un : Un} (n : ℕ) (l : LayoutT) → Sane un → is_declared un.whole n ≡ false → Proved fin un → AllMembersKnown (seen fin un) l.members → Proved fin (with_layout n l un)
+layout_proved {fin = fin} {un = un} n l h new p known = record {
+  meant = λ s e later. let m = p.meant s e (grows_through g later) in record { grows = later; names = m.names; scopes = m.scopes };
+  members = λ k m e. by k m (replaced_at un.layouts n l k m e);
+  inits = λ s e later. p.inits s e (grows_through g later);
+  functions = λ s e later. p.functions s e (grows_through g later);
+}
+  where
+    g : Grows un.layouts un.whole (slice_set un.layouts n l) (slice_set un.whole n true)
+    g = layout_grows un.layouts un.whole n l h.declared new
+
+    by : (k : ℕ) (m : LayoutT) → ((k ≡ n) × (l ≡ m)) ⊎ (slice_get un.layouts k ≡ Some m) → AllMembersKnown (seen fin (with_layout n l un)) m.members
+    by k m (inl e) = subst (λ (x : LayoutT). AllMembersKnown (seen fin (with_layout n l un)) x.members) e.1 (all_members_stay (seen fin un) (seen fin (with_layout n l un)) g l.members known)
+    by k m (inr e) = all_members_stay (seen fin un) (seen fin (with_layout n l un)) g m.members (p.members k m e)
+
+-- ---- initialisers and functions of the unit
+
+fills_more : (s : Scene) (inits : List TStmtT) (xs : List TVarT) → FillGlobals s inits → AreFilled s true xs → FillGlobals s (inits ++ VarsZ xs ∷ [])
+fills_more s [] xs h k = (k, tt)
+fills_more s (i ∷ is) xs h k = (h.0, fills_more s is xs h.1 k)
+
+init_proved : {fin un : Un} (xs : List TVarT) → Proved fin un → ((s : Scene) → Ends s fin → Grows un.layouts un.whole s.layouts s.whole → AreFilled s true xs) → Proved fin (with_init xs un)
+init_proved {un = un} xs p filled = record {
+  meant = λ s e g. let m = p.meant s e g in record { grows = m.grows; names = m.names; scopes = m.scopes };
+  members = p.members;
+  inits = λ s e g. fills_more s un.inits xs (p.inits s e g) (filled s e g);
+  functions = p.functions;
+}
+
+functions_more : (s : Scene) (fs : List TFunctionT) (f : TFunctionT) → AreFunctions s fs → IsFunction s f → AreFunctions s (fs ++ f ∷ [])
+functions_more s [] f h k = (k, tt)
+functions_more s (g ∷ fs) f h k = (h.0, functions_more s fs f h.1 k)
+
+-- what is shown inside a function, where scopes are open
+record InFunction (fin un : Un) : Type 0 where
+  names : (s : Scene) → Ends s fin → Grows un.layouts un.whole s.layouts s.whole → AreMeant s un.names
+  members : MembersKnown (seen fin un)
+  inits : (s : Scene) → Ends s fin → Grows un.layouts un.whole s.layouts s.whole → FillGlobals s un.inits
+  functions : (s : Scene) → Ends s fin → Grows un.layouts un.whole s.layouts s.whole → AreFunctions s un.functions
+
+in_function : {fin un up : Un} → Stays un up → Proved fin un → ((s : Scene) → Ends s fin → Grows up.layouts up.whole s.layouts s.whole → AreMeant s up.names) → InFunction fin up
+in_function {fin = fin} g p names = record {
+  names = names;
+  members = members_stay fin g p.members;
+  inits = λ s e h. subst (λ xs. FillGlobals s xs) (sym g.inits) (p.inits s e (grows_back g s.layouts s.whole h));
+  functions = λ s e h. subst (λ fs. AreFunctions s fs) (sym g.functions) (p.functions s e (grows_back g s.layouts s.whole h));
+}
+
+-- a function is left
+ended_proved : {fin un : Un} → InFunction fin un → Proved fin (ended un)
+ended_proved p = record {
+  meant = λ s e g. record { grows = g; names = p.names s e g; scopes = tt };
+  members = p.members;
+  inits = p.inits;
+  functions = p.functions;
+}
+
+with_body_proved : {fin un : Un} (name : Text) (ps : List Ty) (t : Ty) (x : TStmtTs) → InFunction fin un → ((s : Scene) → Ends s fin → Grows un.layouts un.whole s.layouts s.whole → IsFunction s (record { name = name; params = ps; locals = un.sizes; gives = t; body = x })) → Proved fin (with_function name ps t (Some x) un)
+with_body_proved {un = un} name ps t x p sound = record {
+  meant = λ s e g. record { grows = g; names = p.names s e g; scopes = tt };
+  members = p.members;
+  inits = p.inits;
+  functions = λ s e g. functions_more s un.functions (record { name = name; params = ps; locals = un.sizes; gives = t; body = x }) (p.functions s e g) (sound s e g);
+}
+
+body_names : {un : Un} {t : Ty} {o : Option StmtTs} {x : Option TStmtTs} {ur : Un} → MaybeBody un t o x ur → ur.names ≡ un.names
+body_names (item.no_body) = refl
+body_names (item.has_body (item.body_at g0)) = refl
+
+function_names : (name : Text) {fin un : Un} {p : Span} {of : TypeT} {t : Ty} {vs : List VarT} {ps : List Ty} {o : Option StmtTs} {x : Option TStmtTs} {up uq ur : Un} → Proved fin un → TypeAt un p of t up → Parameters (begun up) vs ps uq → MaybeBody (named name (FunctionD ps t) uq) t o x ur → Later ur fin
+    → (s : Scene) → Ends s fin → Grows ur.layouts ur.whole s.layouts s.whole → AreMeant s ur.names
+function_names name {t = t} {ps = ps} {uq = uq} q g0 g1 g2 later s e h =
+    let after = keeps_through (named_keeps name (FunctionD ps t) uq) (maybe_body_keeps g2) in
+    let back = grows_back (kept_stay (function_keeps name g0 g1 g2)) s.layouts s.whole h in
+    let head = head_known name (ends_call uq.sizes e) g0 g1 (later_through (kept_later after) later) (begins_itself uq.sizes) (q.meant (in_call s uq.sizes) (ends_call uq.sizes e) back) in
+    subst (λ names. AreMeant s names) (sym (body_names g2)) head.meant.names
+
+function_proved : (name : Text) {fin un : Un} {p : Span} {of : TypeT} {vs : List VarT} {ps : List Ty} {up uq start : Un} {t : Ty} {o : Option StmtTs} {x : Option TStmtTs} {ur : Un} → Sane un → Proved fin un → TypeAt un p of t up → Parameters (begun up) vs ps uq → start ≡ named name (FunctionD ps t) uq → MaybeBody start t o x ur → InFunction fin ur → IsRuled ur name ps t o → Later ur fin
+    → Proved fin (with_function name ps t x ur)
+function_proved name h q g0 g1 e (item.no_body) inside r later = ended_proved inside
+function_proved name {ps = ps} h q g0 g1 e (item.has_body {up = up} {gives = t} {body = body} {x = x} g2) inside r later =
+    with_body_proved name ps t x inside (λ s ends g.
+    let g3 = subst (λ u. BodyAt u t body x up) e g2 in
+    function_sound name ends (λ sizes. q.meant (in_call s sizes) (ends_call sizes ends) (grows_back (kept_stay (function_keeps name g0 g1 (item.has_body g3))) s.layouts s.whole g)) h g0 g1 g3 r later)
+
+-- ---- items
+
+type_name_meant : {s : Scene} {fin un : Un} (name : Text) {p : Span} {of : TypeT} {t : Ty} {up : Un} → Ends s fin → TypeAt un p of t up → Later up fin → Meant s un → Meant s (named name (TypeD t) up)
+type_name_meant name {t = t} e g0 later m = let ty = type_known e g0 later m in named_meant name (TypeD t) ty.meant ty.known
+
+item_proved : {fin un : Un} {i : ItemT} {x : Unit {0}} {up : Un} → HaveNumbers fin → Sane un → Proved fin un → Item un i x up → Later up fin → Proved fin up
+item_proved numbers h p (item.record_name {is_union = is_union} {name = name} g0) later = record_proved is_union name h p
+item_proved {fin = fin} numbers h p (item.record_members {un = un} {up = up} {is_union = is_union} {name = name} {s = span} {l = l} {n = n} g0 g1) later =
+    let entered = record_entered is_union name un in
+    let sane = (record_follows is_union name un h).sane in
+    let q = record_proved is_union name h p in
+    let g : Keeps entered up = members_keep g0 in
+    let whole = members_whole span is_union name up l n g1 in
+    let after : Later up fin = later_through (with_layout_later n l up (kept_sane g sane) whole.new) later in
+    let up_proved : Proved fin up = stays_proved (kept_stay g) q (λ s e k m. (members_known e g0 after m tt).meant) in
+    let before = seen fin entered in
+    let known = members_known (seen_ends fin entered numbers q.members) g0 after (q.meant before (seen_ends fin entered numbers q.members) (grows_itself entered.layouts entered.whole)) tt in
+    layout_proved n l (kept_sane g sane) whole.new up_proved (all_members_stay before (seen fin up) (kept_later g).grows l.members known.known)
+item_proved numbers h p (item.enumeration {un = un} {name = name} g0 g1) later = stays_proved (kept_stay (keeps_through (enum_keeps name un) (enumerators_keep g0))) p (λ s e g m. enumeration_meant name g0 m)
+item_proved numbers h p (item.type_name {up = up} {name = name} {t = t} g0 g1) later =
+    let after = named_keeps name (TypeD t) up in
+    stays_proved (kept_stay (keeps_through (type_keeps g0) after)) p (λ s e g m. type_name_meant name e g0 (later_through (kept_later after) later) m)
+item_proved numbers h p (item.objects {up = up} {xs = xs} g0) later =
+    let same = globals_stay g0 in
+    let after = later_through (with_init_later xs up) later in
+    let q = stays_proved same p (λ s e g m. (globals_known e h g0 after m).meant) in
+    init_proved xs q (λ s e g. (globals_known e h g0 after (p.meant s e (grows_back same s.layouts s.whole g))).filled)
+item_proved numbers h p (item.function {ur = ur} {name = name} {o = o} {s = span} {t = t} {ps = ps} {x = x} g0 g1 g2 g3) later =
+    let keeps = function_keeps name g0 g1 g2 in
+    let after = later_through (with_function_later name ps g2) later in
+    let inside = in_function (kept_stay keeps) p (function_names name p g0 g1 g2 after) in
+    function_proved name h p g0 g1 refl g2 inside (function_ruled span ur name ps t o g3) after
+
+items_proved : {fin un : Un} {all : List ItemT} {x : Unit {0}} {up : Un} → HaveNumbers fin → Sane un → Proved fin un → Items un all x up → Later up fin → Proved fin up
+items_proved numbers h p (item.no_items) later = p
+items_proved numbers h p (item.more_items g0 g1) later =
+    let one = item_follows h g0 in
+    let rest = items_follow one.sane g1 in
+    items_proved numbers one.sane (item_proved numbers h p g0 (later_through rest.later later)) g1 later
+
+-- ---- the whole program
+
+all_sized : (layouts : List LayoutT) (whole : List Bool) (s : Scene) → s.layouts ≡ layouts → s.whole ≡ whole → (ms : List MemberT) → AllMembersKnown s ms → AllWhole whole ms → AreSized layouts whole ms
+all_sized layouts whole s e f [] h k = tt
+all_sized layouts whole s e f (m ∷ ms) h k = (record { known = subst₂ (λ ls ws. IsKnown ls ws m.ty) e f h.0; sized = k.0 }, all_sized layouts whole s e f ms h.1 k.1)
+
+laid_out : (fin : Un) (l : LayoutT) → AreLaid fin.layouts fin.whole l → AllMembersKnown (seen fin fin) l.members → IsLaidOut fin.layouts fin.whole l
+laid_out fin l a h = record { places = a.places; members = all_sized fin.layouts fin.whole (seen fin fin) refl refl l.members h a.members; size = a.size }
+
+declared_as : (layouts : List LayoutT) (whole : List Bool) (ls : List LayoutT) (ws : List Bool) → length ws ≡ length ls
+    → ((k : ℕ) (l : LayoutT) → is_declared ws k ≡ true → slice_get ls k ≡ Some l → IsLaidOut layouts whole l)
+    → ((k : ℕ) (l : LayoutT) → is_declared ws k ≡ false → slice_get ls k ≡ Some l → l ≡ no_layout) → AreDeclaredAs layouts whole ls ws
+declared_as layouts whole [] [] e laid empty = tt
+declared_as layouts whole [] (w ∷ ws) e laid empty = absurd (omega (arith, e))
+declared_as layouts whole (l ∷ ls) [] e laid empty = absurd (omega (arith, e))
+declared_as layouts whole (l ∷ ls) (true ∷ ws) e laid empty = (laid 0 l refl refl, declared_as layouts whole ls ws (omega (arith, e)) (λ k m. laid (suc k) m) (λ k m. empty (suc k) m))
+declared_as layouts whole (l ∷ ls) (false ∷ ws) e laid empty = (empty 0 l refl refl, declared_as layouts whole ls ws (omega (arith, e)) (λ k m. laid (suc k) m) (λ k m. empty (suc k) m))
+
+-- the function `main`
+main_there : (fs : List TFunctionT) (o : Option ℕ) (k : ℕ) → plain_number fs o ≡ Some k → (f : TFunctionT) × (slice_get fs k ≡ Some f) × (is_plain f ≡ true)
+main_there fs None k e = absurd cc
+main_there fs (Some j) k e = by (holds is_plain (slice_get fs j)) refl e
+  where
+    plain_there : (o : Option TFunctionT) → holds is_plain o ≡ true → (f : TFunctionT) × (o ≡ Some f) × (is_plain f ≡ true)
+    plain_there None h = absurd cc
+    plain_there (Some f) h = (f, refl, h)
+
+    by : (b : Bool) → holds is_plain (slice_get fs j) ≡ b → (if b then Some j else None) ≡ Some k → (f : TFunctionT) × (slice_get fs k ≡ Some f) × (is_plain f ≡ true)
+    by true h e = let same : j ≡ k = cc in subst (λ i. (f : TFunctionT) × (slice_get fs i ≡ Some f) × (is_plain f ≡ true)) same (plain_there (slice_get fs j) h)
+    by false h e = absurd cc
+
+unit_sound : (all : List ItemT) (fin : Un) (k : ℕ) → Items (opening (bodies_of all)) all tt fin → main_of fin ≡ Some k → IsSound (program_of fin k)
+unit_sound all fin k g m =
+    let numbers = unit_numbers all fin g in
+    let sane = (items_follow (opening_sane (bodies_of all)) g).sane in
+    let p = items_proved numbers (opening_sane (bodies_of all)) (opening_proved fin (bodies_of all)) g (later_itself fin) in
+    let e = seen_ends fin fin numbers p.members in
+    let same = grows_itself fin.layouts fin.whole in
+    record {
+      whole = fin.whole;
+      layouts = declared_as fin.layouts fin.whole fin.layouts fin.whole sane.declared.equal (λ j l d f. laid_out fin l (sane.declared.laid j l d f) (p.members j l f)) sane.declared.empty;
+      globals = sane.globals;
+      literals = sane.texts.words;
+      inits = p.inits (seen fin fin) e same;
+      functions = p.functions (seen fin fin) e same;
+      main = main_there fin.functions (find (codes "main") fin.bodies) k m;
+    }
+
+-- A program that is typed is sound.
+pub programs_sound : (all : List ItemT) (p : ProgramT) → WellTyped all p → IsSound p
+programs_sound all p (check.unit {un = un} {k = k} g m) = unit_sound all un k g m

@@ -1,13 +1,12 @@
 -- A project is accepted or rejected, never both, and accepted with one program at most.
-use Rattle.std.proofs.Common.{◌≡◌, ℕ, List, ◌∷◌, [], Ok, Err, Result, refl, sym, ap, subst, ◌∙◌, append_assoc}
+use Rattle.std.proofs.Common.{◌≡◌, ℕ, List, ◌∷◌, [], Ok, Err, Result, sym, subst, ◌∙◌, append_assoc}
 use Rattle.kit_base.specs.Held.{Held}
 use Rattle.c_tree.specs.Tree.{ItemT}
 use Rattle.c_tree.specs.View.{unit}
-use Rattle.c_lex.specs.declared.token.Token.{Token}
 use Rattle.c_prep.specs.Files.{Expansion, Stop, expansion_of}
 use Rattle.c_parse.specs.Tok.{Tok, toks}
 use Rattle.c_parse.specs.Units.{Derives}
-use Rattle.c_parse.specs.Places.{FirstBad, FirstDeep}
+use Rattle.c_parse.specs.Places.{FirstDeep}
 use Rattle.c_parse.proofs.UnitReads.{one_unit}
 use Rattle.c_front.specs.declared.error.FrontErr.{FrontErr}
 use Rattle.c_front.specs.declared.places.Places.{Places}
@@ -83,6 +82,6 @@ one_accepted m text p q h k =
 
 pub accepted_or_rejected : (m : Held) (text : List ℕ) (p : ProgramT) (e : BuildErr) → IsAccepted m text p → IsRejected m text e → ⊥
 accepted_or_rejected m text p e h (no_project due) = no_project_due text h.parts e (project_of text) (only text h.parts h.project_is) due
-accepted_or_rejected m text p e h (no_program parts is no) =
+accepted_or_rejected m text p e h (no_program parts is none) =
     let same : h.parts ≡ parts = one_project text h.parts parts h.project_is is in
-    not_both_of_source m parts.source p e (subst (λ (one : Project). HasProgram m one.source p) same h.program_is) no
+    not_both_of_source m parts.source p e (subst (λ (one : Project). HasProgram m one.source p) same h.program_is) none

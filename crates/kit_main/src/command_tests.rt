@@ -18,6 +18,12 @@ const CART: &str = "4b49542d4341525401000000980000000300000000000000000000006865
     0000000000000000000000000000000000000000000000000000000000000000000000000000000000000000000000\
     5633322d5642494e0300000002020062ff00000000000000";
 
+/// The same, but its last word is no instruction.
+const FAULTY: &str = "4b49542d43415254010000009800000003000000000000000000000068656c6c6f\
+    000000000000000000000000000000000000000000000000000000000000000000000000000000000000000000000000\
+    0000000000000000000000000000000000000000000000000000000000000000000000000000000000000000000000\
+    5633322d5642494e0300000002020062ff00000001000000";
+
 const MAP: &str = "636f646520330a6672616d65206d61696e203078323030303030303020300a";
 
 /// What a command answered, left and put.
@@ -162,6 +168,7 @@ fn some_files(alloc: Global) -> Result<Vec<(Name, Seq<u8>)>, Fail> {
     }
     for (name, digits) in [
         ("cart", CART),
+        ("faulty", FAULTY),
         ("words", "5633322d5642494e0100000000000000"),
     ] {
         let bytes = bytes_from(alloc, digits)?;
@@ -190,6 +197,7 @@ fn each_failing_call_of_the_files_leaves_fronts(rt: HostRuntime) -> Result<(), F
     // The words, the files that the command creates, and how many calls of the files it makes.
     let rows = [
         ("build p a b", "a", "b", 6u32),
+        ("check p", "", "", 2),
         ("migrate cart a", "a", "a", 3),
         ("asm text a", "a", "a", 3),
         ("dis words a", "a", "a", 3),
@@ -234,13 +242,21 @@ fn hostile_cartridges_and_refused_puts_are_answered(rt: HostRuntime) -> Result<(
             assert!(rt; least <= ran.status, "{place}");
         }
     }
-    let text = "out 0x202 0x000000FF\nhalted\n";
-    for put in 0..3u32 {
-        let failing = vec![in alloc; put]?;
-        let words = "trace cart answers none 9";
-        let ran = run_some(&rt, alloc, words, Vec::new(alloc), failing)?;
-        assert_eq!(rt; ran.status, if put < 2 { 9 } else { 0 });
-        assert!(rt; starts_with(text.as_bytes(), ran.out.written()));
+    // The words, what is put in all, in how many puts, and the status then.
+    let rows = [
+        ("trace cart answers none 9", "out 0x202 0x000000FF\nhalted\n", 2u32, 0u8),
+        ("check p", "ok\n", 1, 0),
+        ("run faulty pads a b 2 none", "undecodable at 0x20000002\n", 2, 3),
+    ];
+    for (words, text, puts, status) in rows {
+        for put in 0..puts + 1 {
+            let failing = vec![in alloc; put]?;
+            let ran = run_some(&rt, alloc, words, Vec::new(alloc), failing)?;
+            let due = if put < puts { 9 } else { status };
+            assert_eq!(rt; ran.status, due, "{words}, put {put}");
+            assert!(rt; starts_with(text.as_bytes(), ran.out.written()));
+            assert!(rt; put < puts || ran.out.written().len() == text.len());
+        }
     }
     Ok(())
 }

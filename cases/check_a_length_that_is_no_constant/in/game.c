@@ -1,0 +1,3 @@
+int n = 3;
+int[n] a;
+void main() { }

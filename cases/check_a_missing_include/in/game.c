@@ -1,0 +1,3 @@
+#include "video.h"
+#include "gone.h"
+void main() { }

@@ -1,0 +1,6 @@
+struct S { int a; };
+S s;
+void main()
+{
+    if (s) halt();
+}

@@ -1,0 +1,4 @@
+#ifndef A
+#error A is wanted
+#endif
+void main() { }

@@ -1,6 +1,6 @@
 -- The texts after what is read begin with those before it.
-use Rattle.std.proofs.Common.{◌≡◌, ℕ, ◌+◌, ◌≤◌, Bool, true, false, List, [], ◌∷◌, ◌++◌, length, Some, Result, Ok, Err, refl, sym, ap, append_assoc, append-nil, nat_le, arith}
-use Rattle.std.specs.Prelude.{slice_get, if◌then◌else◌}
+use Rattle.std.proofs.Common.{◌≡◌, ℕ, ◌+◌, ◌≤◌, Bool, true, false, List, [], ◌∷◌, ◌++◌, length, Result, Ok, Err, refl, sym, ap, nat_le, arith}
+use Rattle.std.specs.Prelude.{if◌then◌else◌}
 use Rattle.std.proofs.lemmas.Bool.Decides.{nat_tests}
 use Rattle.c_tree.specs.declared.span.Span.{Span}
 use Rattle.c_tree.specs.Tree.{ExprT, ExprTs, TypeT}
@@ -12,24 +12,7 @@ use Rattle.c_exprs.specs.Faults.{FaultT, at, text_words, text_limit, with_text}
 use Rattle.c_exprs.specs.Types as good
 use Rattle.c_exprs.specs.Types.{Types, Values, Used, AllValues, Names}
 use Rattle.c_facts.proofs.Within.{Begins}
-
-pub begins_itself : {A : Type 0} (xs : List A) → Begins xs xs
-begins_itself xs = ([], sym (append-nil xs))
-
-pub begins_more : {A : Type 0} (xs ys zs : List A) → Begins xs ys → Begins ys zs → Begins xs zs
-begins_more xs ys zs (m, e) (n, f) = (m ++ n, rw (f, e) (append_assoc xs m n))
-
--- what stands at the end of a beginning stands there in the whole
-after_front : {A : Type 0} (ts : List A) (t : A) (more : List A) → slice_get (ts ++ t ∷ more) (length ts) ≡ Some t
-after_front [] t more = refl
-after_front (x ∷ ts) t more = after_front ts t more
-
-pub last_of_beginning : {A : Type 0} (ts us all : List A) (t : A) → Begins us all → us ≡ ts ++ t ∷ [] → slice_get all (length ts) ≡ Some t
-last_of_beginning ts us all t (m, e) f = rw (e, f, append_assoc) (after_front ts t m)
-
--- what a list that begins the whole one ends with stands there
-pub begins_at : {A : Type 0} (xs all : List A) (x : A) → Begins (xs ++ x ∷ []) all → slice_get all (length xs) ≡ Some x
-begins_at xs all x h = last_of_beginning xs (xs ++ x ∷ []) all x h refl
+use Rattle.c_facts.proofs.Fronts.{begins_itself, begins_through}
 
 -- the answer to a text, by the test of the limit
 abbrev numbered_text : ℕ → List Text → Result (ℕ × List Text) FaultT
@@ -76,15 +59,15 @@ mutual
   typed_begins (good.null {ts = ts}) = begins_itself ts
   typed_begins (good.paren g0) = typed_begins g0
   typed_begins (good.unary g0 g1) = used_begins g0
-  typed_begins (good.binary {ts = ts} {us = us} {vs = vs} g0 g1 g2) = begins_more ts us vs (value_begins g0) (value_begins g1)
-  typed_begins (good.assign {ts = ts} {us = us} {vs = vs} g0 g1 g2) = begins_more ts us vs (typed_begins g0) (value_begins g1)
-  typed_begins (good.compound {ts = ts} {us = us} {vs = vs} g0 g1 g2) = begins_more ts us vs (typed_begins g0) (value_begins g1)
+  typed_begins (good.binary {ts = ts} {us = us} {vs = vs} g0 g1 g2) = begins_through ts us vs (value_begins g0) (value_begins g1)
+  typed_begins (good.assign {ts = ts} {us = us} {vs = vs} g0 g1 g2) = begins_through ts us vs (typed_begins g0) (value_begins g1)
+  typed_begins (good.compound {ts = ts} {us = us} {vs = vs} g0 g1 g2) = begins_through ts us vs (typed_begins g0) (value_begins g1)
   typed_begins (good.step g0 g1) = typed_begins g0
-  typed_begins (good.index {ts = ts} {us = us} {vs = vs} g0 g1 g2) = begins_more ts us vs (value_begins g0) (value_begins g1)
+  typed_begins (good.index {ts = ts} {us = us} {vs = vs} g0 g1 g2) = begins_through ts us vs (value_begins g0) (value_begins g1)
   typed_begins (good.member g0 g1) = typed_begins g0
   typed_begins (good.arrow g0 g1) = value_begins g0
   typed_begins (good.call g0 g1) = all_begins g0
-  typed_begins (good.cast {ts = ts} {us = us} {vs = vs} g0 g1 g2) = begins_more ts us vs (name_begins g0) (value_begins g1)
+  typed_begins (good.cast {ts = ts} {us = us} {vs = vs} g0 g1 g2) = begins_through ts us vs (name_begins g0) (value_begins g1)
   typed_begins (good.size_of g0 g1) = name_begins g0
 
   pub value_begins : {c : Ctx} {ts us : List Text} {e : ExprT} {x : TExprT} → Values c ts e x us → Begins ts us
@@ -97,7 +80,7 @@ mutual
   pub all_begins : {c : Ctx} {ts us : List Text} {named : Bool} {es : ExprTs} {xs : TExprTs} → AllValues c ts named es xs us → Begins ts us
   all_begins (good.none {ts = ts}) = begins_itself ts
   all_begins (good.port g0) = all_begins g0
-  all_begins (good.more {ts = ts} {us = us} {vs = vs} g0 g1) = begins_more ts us vs (value_begins g0) (all_begins g1)
+  all_begins (good.more {ts = ts} {us = us} {vs = vs} g0 g1) = begins_through ts us vs (value_begins g0) (all_begins g1)
 
   pub name_begins : {c : Ctx} {ts us : List Text} {s : Span} {of : TypeT} {ty : Ty} → Names c ts s of ty us → Begins ts us
   name_begins (good.int {ts = ts}) = begins_itself ts
@@ -105,4 +88,4 @@ mutual
   name_begins (good.void {ts = ts}) = begins_itself ts
   name_begins (good.named {ts = ts} g0) = begins_itself ts
   name_begins (good.pointer g0) = name_begins g0
-  name_begins (good.array {ts = ts} {us = us} {vs = vs} g0 g1 g2 g3) = begins_more ts us vs (value_begins g0) (name_begins g2)
+  name_begins (good.array {ts = ts} {us = us} {vs = vs} g0 g1 g2 g3) = begins_through ts us vs (value_begins g0) (name_begins g2)

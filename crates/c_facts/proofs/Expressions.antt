@@ -27,9 +27,10 @@ use Rattle.c_facts.specs.Sound.{Scene, IsKnown, IsTyped, IsKind, IsUsed, AreValu
 use Rattle.c_facts.proofs.Within.{Begins, Within}
 use Rattle.c_facts.proofs.Growth.{placed_answer, node_answer, value_later, binary_later, index_later, assign_later, compound_later, step_later, array_later, member_later, behind_later, member_known, behind_known}
 use Rattle.c_facts.proofs.Known.{unary_answer, binary_answer, index_answer, assign_answer, compound_answer, step_answer, cast_answer, cast_gives}
-use Rattle.c_facts.proofs.Beginnings.{begins_more, last_of_beginning, text_behind, text_fits, value_begins, all_begins}
+use Rattle.c_facts.proofs.Beginnings.{text_behind, text_fits, value_begins, all_begins}
 use Rattle.c_facts.proofs.Lookups.{name_meant, object_found}
 use Rattle.c_facts.proofs.Calls.{node_called}
+use Rattle.c_facts.proofs.Fronts.{begins_through, last_of_beginning}
 
 abbrev one_tree : TExprT → Result TExprT Code
 one_tree x = Ok x
@@ -185,11 +186,11 @@ mutual
   typed_sound s w good.null b = (tt, refl)
   typed_sound s w (good.paren g0) b = typed_sound s w g0 b
   typed_sound s w (good.unary {op = op} {s = p} {x = x} {u = u} g0 g1) b = unary_sound s p op x u (used_sound s w g0 b) g1
-  typed_sound s {c = c} w (good.binary {us = us} {vs = vs} {op = op} {s = p} {x = x} {y = y} {u = u} g0 g1 g2) b = binary_sound s c p op x y u w (value_sound s w g0 (begins_more us vs s.literals (value_begins g1) b)) (value_sound s w g1 b) g2
-  typed_sound s {c = c} w (good.assign {us = us} {vs = vs} {s = p} {x = x} {y = y} {u = u} g0 g1 g2) b = assign_sound s c p x y u w (typed_sound s w g0 (begins_more us vs s.literals (value_begins g1) b)) (value_sound s w g1 b) g2
-  typed_sound s {c = c} w (good.compound {us = us} {vs = vs} {op = op} {s = p} {x = x} {y = y} {u = u} g0 g1 g2) b = compound_sound s c p op x y u w (typed_sound s w g0 (begins_more us vs s.literals (value_begins g1) b)) (value_sound s w g1 b) g2
+  typed_sound s {c = c} w (good.binary {us = us} {vs = vs} {op = op} {s = p} {x = x} {y = y} {u = u} g0 g1 g2) b = binary_sound s c p op x y u w (value_sound s w g0 (begins_through us vs s.literals (value_begins g1) b)) (value_sound s w g1 b) g2
+  typed_sound s {c = c} w (good.assign {us = us} {vs = vs} {s = p} {x = x} {y = y} {u = u} g0 g1 g2) b = assign_sound s c p x y u w (typed_sound s w g0 (begins_through us vs s.literals (value_begins g1) b)) (value_sound s w g1 b) g2
+  typed_sound s {c = c} w (good.compound {us = us} {vs = vs} {op = op} {s = p} {x = x} {y = y} {u = u} g0 g1 g2) b = compound_sound s c p op x y u w (typed_sound s w g0 (begins_through us vs s.literals (value_begins g1) b)) (value_sound s w g1 b) g2
   typed_sound s {c = c} w (good.step {op = op} {s = p} {x = x} {u = u} g0 g1) b = step_sound s c p op x u w (typed_sound s w g0 b) g1
-  typed_sound s {c = c} w (good.index {us = us} {vs = vs} {s = p} {x = x} {y = y} {u = u} g0 g1 g2) b = index_sound s c p x y u w (value_sound s w g0 (begins_more us vs s.literals (value_begins g1) b)) (value_sound s w g1 b) g2
+  typed_sound s {c = c} w (good.index {us = us} {vs = vs} {s = p} {x = x} {y = y} {u = u} g0 g1 g2) b = index_sound s c p x y u w (value_sound s w g0 (begins_through us vs s.literals (value_begins g1) b)) (value_sound s w g1 b) g2
   typed_sound s {c = c} w (good.member {n = n} {s = p} {x = x} {y = y} g0 g1) b = member_sound s c p x y n w (typed_sound s w g0 b) (placed_answer p (member_tree c p x n) y g1)
   typed_sound s {c = c} w (good.arrow {n = n} {s = p} {x = x} {y = y} g0 g1) b = arrow_sound s c p x y n w (value_sound s w g0 b) (placed_answer p (arrow_tree c p x n) y g1)
   typed_sound s {c = c} w (good.call {n = n} {args = args} {s = p} {xs = xs} {u = u} g0 g1) b = node_called s c n args xs u w (all_sound s w g0 b) (placed_answer p (call_node c n args xs) u g1)
@@ -206,4 +207,4 @@ mutual
   all_sound : (s : Scene) {c : Ctx} {ts us : List Text} {named : Bool} {es : ExprTs} {xs : TExprTs} → Within c s → AllValues c ts named es xs us → Begins us s.literals → AreValues s xs
   all_sound s w good.none b = tt
   all_sound s w (good.port g0) b = all_sound s w g0 b
-  all_sound s w (good.more {us = us} {vs = vs} {x = x} {xs = xs} g0 g1) b = more_values s x xs (value_sound s w g0 (begins_more us vs s.literals (all_begins g1) b)) (all_sound s w g1 b)
+  all_sound s w (good.more {us = us} {vs = vs} {x = x} {xs = xs} g0 g1) b = more_values s x xs (value_sound s w g0 (begins_through us vs s.literals (all_begins g1) b)) (all_sound s w g1 b)

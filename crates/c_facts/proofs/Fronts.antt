@@ -12,6 +12,18 @@ begins_more xs ys = (ys, refl)
 pub begins_through : {A : Type 0} (xs ys zs : List A) → Begins xs ys → Begins ys zs → Begins xs zs
 begins_through xs ys zs h k = (h.0 ++ k.0, k.1 ∙ ap (λ us. us ++ k.0) h.1 ∙ append_assoc xs h.0 k.0)
 
+-- what stands at the end of a beginning stands there in the whole
+after_front : {A : Type 0} (ts : List A) (t : A) (more : List A) → slice_get (ts ++ t ∷ more) (length ts) ≡ Some t
+after_front [] t more = refl
+after_front (x ∷ ts) t more = after_front ts t more
+
+pub last_of_beginning : {A : Type 0} (ts us all : List A) (t : A) → Begins us all → us ≡ ts ++ t ∷ [] → slice_get all (length ts) ≡ Some t
+last_of_beginning ts us all t (m, e) f = rw (e, f, append_assoc) (after_front ts t m)
+
+-- what a list that begins the whole one ends with stands there
+pub begins_end : {A : Type 0} (xs all : List A) (x : A) → Begins (xs ++ x ∷ []) all → slice_get all (length xs) ≡ Some x
+begins_end xs all x h = last_of_beginning xs (xs ++ x ∷ []) all x h refl
+
 front_at : {A : Type 0} (xs ys : List A) (k : ℕ) (x : A) → slice_get xs k ≡ Some x → slice_get (xs ++ ys) k ≡ Some x
 front_at [] ys k x e = absurd cc
 front_at (y ∷ xs) ys zero x e = e

@@ -14,13 +14,14 @@ use Rattle.c_facts.specs.Sound.{Scene, IsKnown, IsLocal, AreStatements, AreCallO
 use Rattle.c_facts.proofs.Within.{Begins, AllKnown}
 use Rattle.c_facts.proofs.Told.{body_is, spends_are}
 use Rattle.c_facts.proofs.Fronts.{begins_itself, begins_through, begins_at, last_at}
-use Rattle.c_facts.proofs.Stays.{words_stay, parameter_stays, result_stays, parameter_facts}
+use Rattle.c_facts.proofs.Stays.{parameter_stays, result_stays, parameter_facts}
 use Rattle.c_facts.proofs.ItemRules.{parameter_rule_holds, IsRuled}
-use Rattle.c_facts.proofs.Opened.{declared_in}
 use Rattle.c_facts.proofs.Readings.{Later, later_through, Keeps, keeps_through, kept_later, by_named, named_keeps, begun_keeps, with_parameter_keeps, parameters_keep, body_keeps, type_keeps}
 use Rattle.c_facts.proofs.Sane.{Sane, kept_sane}
 use Rattle.c_facts.proofs.Counts.{numbers_then}
 use Rattle.c_facts.proofs.Meant.{Ends, Meant, literals_begin, named_meant, type_known, members_whole_then}
+use Rattle.c_facts.proofs.Growth.{words_later}
+use Rattle.c_facts.proofs.Scopes.{in_declared}
 
 -- ---- parameters
 
@@ -40,7 +41,7 @@ with_parameter_sizes n ty words un = (refl, refl)
 -- a parameter becomes an object of the call
 parameter_meant : {s : Scene} {un : Un} (n : Text) (ty : Ty) (words : ℕ) → Meant s un → IsKnown s.layouts s.whole ty → IsLocal s (length un.sizes) ty → Meant s (with_parameter n ty words un)
 unfolding with_parameter
-parameter_meant {s = s} {un = un} n ty words m known object = record { grows = m.grows; names = m.names; scopes = declared_in s n (record { number = length un.sizes; ty = ty }) un.scopes m.scopes (known, object) }
+parameter_meant {s = s} {un = un} n ty words m known object = record { grows = m.grows; names = m.names; scopes = in_declared s n (record { number = length un.sizes; ty = ty }) un.scopes m.scopes (known, object) }
 
 -- what parameters add
 pub record Takes (s : Scene) (un : Un) (ps : List Ty) (up : Un) : Type 0 where
@@ -85,7 +86,7 @@ parameter_known {s = s} e (item.parameter {un = un} {up = up} {v = v} {t = t} {n
     let sizes = with_parameter_sizes v.name t n up in
     let types = type_sizes g0 in
     let room : Begins (up.sizes ++ n ∷ []) s.locals = subst (λ ns. Begins ns s.locals) sizes.0 b in
-    let object : IsLocal s (length up.sizes) t = begins_at (up.sizes ++ n ∷ []) s.locals (length up.sizes) n room (last_at up.sizes n) ∙ ap Some (sym facts.words ∙ words_stay ty.meant.grows t facts.sized) in
+    let object : IsLocal s (length up.sizes) t = begins_at (up.sizes ++ n ∷ []) s.locals (length up.sizes) n room (last_at up.sizes n) ∙ ap Some (sym facts.words ∙ words_later ty.meant.grows t facts.sized) in
     record {
       size = n;
       added = sizes.0 ∙ ap (λ ns. ns ++ n ∷ []) types.0;

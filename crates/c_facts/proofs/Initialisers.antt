@@ -18,9 +18,10 @@ use Rattle.c_stmts.specs.InitTypes as init
 use Rattle.c_stmts.specs.InitTypes.{Fills, AllFill}
 use Rattle.c_facts.specs.Sound.{Scene, IsKnown, IsKind, IsTypedValue, IsLiteral, HasPlaces, FillsAs, FillEach}
 use Rattle.c_facts.proofs.Expressions.{value_sound}
-use Rattle.c_facts.proofs.Within.{Begins, Within, AllMembersKnown}
-use Rattle.c_facts.proofs.Held.{placed_ok, demanded_holds, ensured_holds}
-use Rattle.c_facts.proofs.Beginnings.{begins_itself, begins_more, value_begins}
+use Rattle.c_facts.proofs.Within.{Begins, Within, AllMembersKnown, AllWhole, MembersWhole}
+use Rattle.c_facts.proofs.Beginnings.{value_begins}
+use Rattle.c_facts.proofs.Holds.{placed_gives, demanded_gives, ensured_gives}
+use Rattle.c_facts.proofs.Fronts.{begins_itself, begins_through}
 
 -- ---- texts
 
@@ -31,7 +32,7 @@ mutual
 
   pub all_fill_texts : {c : Ctx} {ts us : List Text} {global : Bool} {slots : Slots} {items : InitTs} {xs : TInitTs} → AllFill c ts global slots items xs us → Begins ts us
   all_fill_texts (init.no_items {ts = ts}) = begins_itself ts
-  all_fill_texts (init.more_items {ts = ts} {us = us} {vs = vs} h k) = begins_more ts us vs (fills_texts h) (all_fill_texts k)
+  all_fill_texts (init.more_items {ts = ts} {us = us} {vs = vs} h k) = begins_through ts us vs (fills_texts h) (all_fill_texts k)
 
 -- ---- one expression
 
@@ -46,7 +47,7 @@ ensured_is k false x i h = cc
 -- where the type is no array the expression is kept
 value_one : (global : Bool) (ty : Ty) (x : TExprT) (i : TInitT) → value_fills global ty x ≡ Ok i → OneI x ≡ i
 value_one true ty x i h =
-    let k = ensured_holds WrongType (converts (type_of_typed x) ty && not (is_structure ty)) (ensured NotConstant (is_fixed x) (Ok (OneI x))) i h in
+    let k = ensured_gives WrongType (converts (type_of_typed x) ty && not (is_structure ty)) (ensured NotConstant (is_fixed x) (Ok (OneI x))) i h in
     (ensured_is NotConstant (is_fixed x) (OneI x) i k.1).1
 value_one false ty x i h = (ensured_is WrongType (converts (type_of_typed x) ty) (OneI x) i h).1
 
@@ -80,15 +81,6 @@ fills_as s global (ArrayY of count) (Typed kind ty span) i v h = array_fills s g
 
 -- ---- places
 
--- the members of a structure or union have sizes that are known
-abbrev pub AllWhole : List Bool → List MemberT → Type 0
-AllWhole whole [] = Unit {0}
-AllWhole whole (m ∷ ms) = (is_whole whole m.ty ≡ true) × AllWhole whole ms
-
--- what is declared whole at the time has members that are whole at the time
-abbrev pub MembersWhole : Ctx → Type 0
-MembersWhole c = (k : ℕ) (l : LayoutT) → is_declared c.whole k ≡ true → slice_get c.layouts k ≡ Some l → AllWhole c.whole l.members
-
 -- a type that is filled: it is known, and whole at the time
 pub record IsTarget (c : Ctx) (s : Scene) (ty : Ty) : Type 0 where
   pub known : IsKnown s.layouts s.whole ty
@@ -111,7 +103,7 @@ member_targets : (c : Ctx) (s : Scene) (ms : List MemberT) → AllMembersKnown s
 member_targets c s [] h k = tt
 member_targets c s (m ∷ ms) h k = (record { known = h.0; whole = k.0 }, member_targets c s ms h.1 k.1)
 
-structure_targets : (c : Ctx) (s : Scene) → Within c s → MembersWhole c → (number : ℕ) → is_declared c.whole number ≡ true → (o : Option LayoutT) → slice_get c.layouts number ≡ o → AreTargets c s (members_of o)
+structure_targets : (c : Ctx) (s : Scene) → Within c s → MembersWhole c.layouts c.whole → (number : ℕ) → is_declared c.whole number ≡ true → (o : Option LayoutT) → slice_get c.layouts number ≡ o → AreTargets c s (members_of o)
 structure_targets c s w m number h None e = tt
 structure_targets c s w m number h (Some l) e = member_targets c s l.members (w.members number l (sym (w.grows.fixed number h).1 ∙ e)) (m number l h e)
 
@@ -120,7 +112,7 @@ first_target c s [] h = tt
 first_target c s (ty ∷ tys) h = (h.0, tt)
 
 -- the places of a type that is filled
-slots_targets : (c : Ctx) (s : Scene) → Within c s → MembersWhole c → (ty : Ty) → IsTarget c s ty → HasTargets c s (slots_of c.layouts ty)
+slots_targets : (c : Ctx) (s : Scene) → Within c s → MembersWhole c.layouts c.whole → (ty : Ty) → IsTarget c s ty → HasTargets c s (slots_of c.layouts ty)
 slots_targets c s w m VoidY t = tt
 slots_targets c s w m IntY t = tt
 slots_targets c s w m BoolY t = tt
@@ -130,7 +122,7 @@ slots_targets c s w m (UnionY number) t = first_target c s (members_of (slice_ge
 slots_targets c s w m (PointerY to) t = tt
 slots_targets c s w m (ArrayY of count) t = record { known = t.known.0; whole = t.whole }
 
-targets_for : (c : Ctx) (s : Scene) → Within c s → MembersWhole c → (target : Option Ty) → MayTarget c s target → HasTargets c s (slots_for c.layouts target)
+targets_for : (c : Ctx) (s : Scene) → Within c s → MembersWhole c.layouts c.whole → (target : Option Ty) → MayTarget c s target → HasTargets c s (slots_for c.layouts target)
 targets_for c s w m None t = absurd t
 targets_for c s w m (Some ty) t = slots_targets c s w m ty t
 
@@ -188,19 +180,19 @@ one_filled c s global (Some ty) x i t v h = fills_as s global ty x i v h
 
 -- What fills a type that is known, and whole at the time, fills it so in the whole program.
 mutual
-  pub fills_sound : (s : Scene) {c : Ctx} {ts us : List Text} {global : Bool} {target : Option Ty} {i : InitT} {x : TInitT} → Within c s → MembersWhole c → Fills c ts global target i x us → Begins us s.literals → MayTarget c s target → FillsAs s global x target
-  fills_sound s {c = c} w m (init.one {ts = ts} {us = us} {global = global} {target = target} {e = e} {x = x} {i = i} h k) b t = one_filled c s global target x i t (value_sound s w h b) (placed_ok (span_of e) (filled global target x) i k)
+  pub fills_sound : (s : Scene) {c : Ctx} {ts us : List Text} {global : Bool} {target : Option Ty} {i : InitT} {x : TInitT} → Within c s → MembersWhole c.layouts c.whole → Fills c ts global target i x us → Begins us s.literals → MayTarget c s target → FillsAs s global x target
+  fills_sound s {c = c} w m (init.one {ts = ts} {us = us} {global = global} {target = target} {e = e} {x = x} {i = i} h k) b t = one_filled c s global target x i t (value_sound s w h b) (placed_gives (span_of e) (filled global target x) i k)
   fills_sound s {c = c} w m (init.list {global = global} {target = target} {items = items} {s = span} {xs = xs} h k) b t =
-      let room : has_room (item_count items) (slots_for c.layouts target) ≡ true = demanded_holds span WrongType _ k in
+      let room : has_room (item_count items) (slots_for c.layouts target) ≡ true = demanded_gives span WrongType _ k in
       list_fills c s w global target xs (item_count items) t room (all_fill_sound s w m h b room (targets_for c s w m target t))
 
-  all_fill_sound : (s : Scene) {c : Ctx} {ts us : List Text} {global : Bool} {slots : Slots} {items : InitTs} {xs : TInitTs} → Within c s → MembersWhole c → AllFill c ts global slots items xs us → Begins us s.literals → has_room (item_count items) slots ≡ true → HasTargets c s slots → FillEach s global xs slots
+  all_fill_sound : (s : Scene) {c : Ctx} {ts us : List Text} {global : Bool} {slots : Slots} {items : InitTs} {xs : TInitTs} → Within c s → MembersWhole c.layouts c.whole → AllFill c ts global slots items xs us → Begins us s.literals → has_room (item_count items) slots ≡ true → HasTargets c s slots → FillEach s global xs slots
   all_fill_sound s w m init.no_items b room t = tt
   all_fill_sound s {c = c} w m (init.more_items {us = us} {vs = vs} {slots = slots} {rest = rest} h k) b room t =
       let now = takes c s slots (item_count rest) room t in
-      (fills_sound s w m h (begins_more us vs s.literals (all_fill_texts k) b) now.next, all_fill_sound s w m k b now.room now.later)
+      (fills_sound s w m h (begins_through us vs s.literals (all_fill_texts k) b) now.next, all_fill_sound s w m k b now.room now.later)
 
 -- the initialiser of a variable
-pub init_sound : (s : Scene) {c : Ctx} {ts us : List Text} {global : Bool} {ty : Ty} {i : InitT} {x : TInitT} → Within c s → MembersWhole c → Fills c ts global (Some ty) i x us → Begins us s.literals → IsKnown s.layouts s.whole ty → is_whole c.whole ty ≡ true
+pub init_sound : (s : Scene) {c : Ctx} {ts us : List Text} {global : Bool} {ty : Ty} {i : InitT} {x : TInitT} → Within c s → MembersWhole c.layouts c.whole → Fills c ts global (Some ty) i x us → Begins us s.literals → IsKnown s.layouts s.whole ty → is_whole c.whole ty ≡ true
     → FillsAs s global x (Some ty)
 init_sound s w m h b known sized = fills_sound s w m h b (record { known = known; whole = sized })

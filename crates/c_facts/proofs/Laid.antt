@@ -9,13 +9,9 @@ use Rattle.c_rules.specs.Kinds.{holds}
 use Rattle.c_rules.specs.Sizes.{is_declared, is_whole, type_limit}
 use Rattle.c_exprs.specs.Env.{Text}
 use Rattle.c_check.specs.Reading.{no_layout, with_member}
-use Rattle.c_facts.proofs.Within.{Grows}
+use Rattle.c_facts.proofs.Within.{Grows, AllWhole}
 use Rattle.c_facts.proofs.Fronts.{begins_more, begins_at, last_or_before, within_at, others_stay, replaced_there}
-use Rattle.c_facts.proofs.Stays.{whole_stays, words_stay}
-
-abbrev pub AllWhole : List Bool → List MemberT → Type 0
-AllWhole whole [] = Unit {0}
-AllWhole whole (m ∷ ms) = (is_whole whole m.ty ≡ true) × AllWhole whole ms
+use Rattle.c_facts.proofs.Growth.{whole_later, words_later}
 
 -- a structure or union that is declared whole
 pub record AreLaid (layouts : List LayoutT) (whole : List Bool) (l : LayoutT) : Type 0 where
@@ -35,15 +31,15 @@ none_declared = record { equal = refl; empty = λ k l h e. absurd cc; laid = λ 
 
 all_whole_stay : {layouts later : List LayoutT} {whole all : List Bool} → Grows layouts whole later all → (ms : List MemberT) → AllWhole whole ms → AllWhole all ms
 all_whole_stay g [] h = tt
-all_whole_stay g (m ∷ ms) h = (whole_stays g m.ty h.0, all_whole_stay g ms h.1)
+all_whole_stay g (m ∷ ms) h = (whole_later g m.ty h.0, all_whole_stay g ms h.1)
 
 follow_stays : {layouts later : List LayoutT} {whole all : List Bool} → Grows layouts whole later all → (start end : ℕ) (ms : List MemberT) → AllWhole whole ms → Follow layouts start ms end → Follow later start ms end
 follow_stays g start end [] h f = f
-follow_stays {layouts = layouts} {later = later} g start end (m ∷ ms) h f = (f.0, follow_stays g (start + words_of later m.ty) end ms h.1 (subst (λ n. Follow layouts (start + n) ms end) (words_stay g m.ty h.0) f.1))
+follow_stays {layouts = layouts} {later = later} g start end (m ∷ ms) h f = (f.0, follow_stays g (start + words_of later m.ty) end ms h.1 (subst (λ n. Follow layouts (start + n) ms end) (words_later g m.ty h.0) f.1))
 
 overlap_stays : {layouts later : List LayoutT} {whole all : List Bool} → Grows layouts whole later all → (greatest size : ℕ) (ms : List MemberT) → AllWhole whole ms → Overlap layouts greatest ms size → Overlap later greatest ms size
 overlap_stays g greatest size [] h f = f
-overlap_stays {layouts = layouts} {later = later} g greatest size (m ∷ ms) h f = (f.0, overlap_stays g (max greatest (words_of later m.ty)) size ms h.1 (subst (λ n. Overlap layouts (max greatest n) ms size) (words_stay g m.ty h.0) f.1))
+overlap_stays {layouts = layouts} {later = later} g greatest size (m ∷ ms) h f = (f.0, overlap_stays g (max greatest (words_of later m.ty)) size ms h.1 (subst (λ n. Overlap layouts (max greatest n) ms size) (words_later g m.ty h.0) f.1))
 
 places_stay : {layouts later : List LayoutT} {whole all : List Bool} → Grows layouts whole later all → (l : LayoutT) → AllWhole whole l.members → IsStructure layouts l ⊎ IsUnion layouts l → IsStructure later l ⊎ IsUnion later l
 places_stay g l h (inl f) = inl (follow_stays g 0 l.size l.members h f)

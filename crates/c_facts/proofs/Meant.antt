@@ -13,14 +13,14 @@ use Rattle.c_check.specs.Reading.{Un, under, with_texts, is_free, named, with_me
 use Rattle.c_check.specs.ItemTypes as item
 use Rattle.c_check.specs.ItemTypes.{ValueAt, TypeAt, FillsAt, Members, Enumerator, NamedEnumerator, Enumerators, MaybeFillsAt, Global, Globals}
 use Rattle.c_facts.specs.Sound.{Scene, IsKnown, IsSized, IsGlobal, AreFilled, FillsAs}
-use Rattle.c_facts.proofs.Within.{Begins, Grows, IsMeant, AreMeant, InScopes, AllMembersKnown, Within}
-use Rattle.c_facts.proofs.Told.{MembersWhole, MembersKnown, name_is, fills_are}
+use Rattle.c_facts.proofs.Within.{Begins, Grows, IsMeant, AreMeant, InScopes, AllMembersKnown, Within, MembersWhole, MembersKnown}
+use Rattle.c_facts.proofs.Told.{name_is, fills_are}
 use Rattle.c_facts.proofs.Fronts.{begins_at, last_at}
-use Rattle.c_facts.proofs.Stays.{whole_stays, words_stay}
 use Rattle.c_facts.proofs.ItemRules.{global_room}
 use Rattle.c_facts.proofs.Readings.{Later, later_through, Keeps, keeps_through, kept_later, by_named, by_enum, named_keeps, type_keeps, fill_keeps, maybe_fill_keeps, members_keep}
 use Rattle.c_facts.proofs.Sane.{Sane, kept_sane, with_global_later, global_keeps, global_follows, globals_follow}
 use Rattle.c_facts.proofs.Counts.{HaveNumbers, numbers_then}
+use Rattle.c_facts.proofs.Growth.{whole_later, words_later}
 
 -- a scene of the unit that ends so
 pub record Ends (s : Scene) (fin : Un) : Type 0 where
@@ -150,8 +150,8 @@ global_known {s = s} {fin = fin} e h (item.global {un = un} {up = up} {uq = uq} 
     let to_named : Keeps up named_state = named_keeps v.name (GlobalD number t) up in
     let after : Later uq fin = later_through (with_global_later v.name n uq) later in
     let ty = type_known e g0 (later_through (kept_later (keeps_through to_named from_named)) after) m in
-    let object : IsGlobal s number t = object_there v.name n number t uq.globals e later.globals (sym (ap length keeps.globals)) (sym words ∙ words_stay m.grows t whole) in
-    let sized : IsSized s.layouts s.whole t = record { known = ty.known; sized = whole_stays m.grows t whole } in
+    let object : IsGlobal s number t = object_there v.name n number t uq.globals e later.globals (sym (ap length keeps.globals)) (sym words ∙ words_later m.grows t whole) in
+    let sized : IsSized s.layouts s.whole t = record { known = ty.known; sized = whole_later m.grows t whole } in
     let filled = maybe_filled number e (kept_sane (keeps_through from_type to_named) h) g1 after (named_meant v.name (GlobalD number t) ty.meant (ty.known, object)) (subst (λ w. is_whole w t ≡ true) (sym (keeps_through from_type to_named).whole) whole) sized object in
     record { filled = filled.filled; meant = record { grows = filled.meant.grows; names = filled.meant.names; scopes = filled.meant.scopes } }
 

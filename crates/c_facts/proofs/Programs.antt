@@ -14,11 +14,10 @@ use Rattle.c_check.specs.ItemTypes.{TypeAt, Globals, Parameters, BodyAt, MaybeBo
 use Rattle.c_check.specs.Whole as check
 use Rattle.c_check.specs.Whole.{ProgramT, is_plain, plain_number, main_of, program_of, WellTyped}
 use Rattle.c_facts.specs.Sound.{Scene, IsKnown, AreSized, IsLaidOut, AreDeclaredAs, in_call, IsFunction, AreFunctions, FillGlobals, AreFilled, IsSound}
-use Rattle.c_facts.proofs.Within.{Grows, AreMeant, AllMembersKnown}
-use Rattle.c_facts.proofs.Told.{MembersKnown}
+use Rattle.c_facts.proofs.Within.{Grows, AreMeant, AllMembersKnown, MembersKnown, AllWhole}
 use Rattle.c_facts.proofs.Fronts.{begins_itself, last_or_before, replaced_at}
 use Rattle.c_facts.proofs.Stays.{grows_itself, grows_through, known_stays}
-use Rattle.c_facts.proofs.Laid.{AllWhole, AreLaid, record_grows, layout_grows}
+use Rattle.c_facts.proofs.Laid.{AreLaid, record_grows, layout_grows}
 use Rattle.c_facts.proofs.ItemRules.{members_whole, IsRuled, function_ruled}
 use Rattle.c_facts.proofs.Readings.{Later, later_itself, later_through, Keeps, keeps_through, kept_later, by_record, named_keeps, enum_keeps, type_keeps, maybe_body_keeps, enumerators_keep, members_keep}
 use Rattle.c_facts.proofs.Sane.{Sane, opening_sane, kept_sane, record_follows, global_keeps, function_keeps, with_layout_later, with_init_later, with_function_later, item_follows, items_follow}

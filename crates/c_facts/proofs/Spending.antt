@@ -19,8 +19,9 @@ use Rattle.c_stmts.specs.State.{Fn, St, opened, left, declare, is_new, entered, 
 use Rattle.c_stmts.specs.StatementTypes as good
 use Rattle.c_stmts.specs.StatementTypes.{ValueIn, TypeIn, FillsIn, MaybeFills, Declares, AllDeclare, MaybeValue, Statement, MaybeStatement, Statements, ArmOf, ArmsOf}
 use Rattle.c_facts.proofs.Within.{Begins}
-use Rattle.c_facts.proofs.Beginnings.{begins_itself, begins_more, value_begins, name_begins}
+use Rattle.c_facts.proofs.Beginnings.{value_begins, name_begins}
 use Rattle.c_facts.proofs.Initialisers.{fills_texts}
+use Rattle.c_facts.proofs.Fronts.{begins_itself, begins_through}
 
 -- what reads no variable leaves the objects as they are
 pub record Keeps (sp sq : St) : Type 0 where
@@ -40,7 +41,7 @@ pub keeps_same : (st : St) → Keeps st st
 keeps_same st = record { sizes = refl; used = refl; texts = begins_itself st.texts }
 
 pub keeps_all : (sp sq sr : St) → Keeps sp sq → Keeps sq sr → Keeps sp sr
-keeps_all sp sq sr h k = record { sizes = k.sizes ∙ h.sizes; used = k.used ∙ h.used; texts = begins_more sp.texts sq.texts sr.texts h.texts k.texts }
+keeps_all sp sq sr h k = record { sizes = k.sizes ∙ h.sizes; used = k.used ∙ h.used; texts = begins_through sp.texts sq.texts sr.texts h.texts k.texts }
 
 pub spends_kept : (sp sq : St) → Keeps sp sq → Spends sp sq
 spends_kept sp sq h = record { taken = []; sizes = h.sizes ∙ sym (append-nil sp.sizes); used = omega (arith, h.used); room = λ few. omega (arith, h.used, few); texts = h.texts }
@@ -54,7 +55,7 @@ spends_all sp sq sr h k = record {
   sizes = k.sizes ∙ ap (λ ns. ns ++ k.taken) h.sizes ∙ append_assoc sp.sizes h.taken k.taken;
   used = omega (arith, h.used, k.used, sum_by-append (λ n. n) h.taken k.taken);
   room = λ few. k.room (h.room few);
-  texts = begins_more sp.texts sq.texts sr.texts h.texts k.texts;
+  texts = begins_through sp.texts sq.texts sr.texts h.texts k.texts;
 }
 
 -- ---- expressions, types, initialisers

@@ -17,13 +17,13 @@ use Rattle.c_stmts.specs.StatementTypes as good
 use Rattle.c_stmts.specs.StatementTypes.{ValueIn, TypeIn, FillsIn, MaybeFills, Declares, AllDeclare, MaybeValue, Statement, MaybeStatement, Statements, ArmOf, ArmsOf}
 use Rattle.c_facts.specs.Sound.{Scene, IsKnown, IsLocal, IsTypedValue, FillsAs, AreFilled, IsTest, MayTest, MayValue, IsStatement, MayState, AreStatements, AreArms, IsLabel, IsArm}
 use Rattle.c_facts.proofs.Expressions.{value_sound as value_read, type_sound as type_known}
-use Rattle.c_facts.proofs.Within.{Begins, Grows, AreMeant, AreBodies, InScopes, AllMembersKnown, Within}
+use Rattle.c_facts.proofs.Within.{Begins, Grows, AreMeant, AreBodies, InScopes, AllMembersKnown, Within, MembersWhole}
 use Rattle.c_facts.proofs.Growth.{whole_later, words_later}
-use Rattle.c_facts.proofs.Beginnings.{begins_more, begins_at}
-use Rattle.c_facts.proofs.Held.{demanded_holds}
 use Rattle.c_facts.proofs.Scopes.{in_closed, in_opened, in_declared, made_are_objects}
-use Rattle.c_facts.proofs.Initialisers.{MembersWhole, init_sound}
+use Rattle.c_facts.proofs.Initialisers.{init_sound}
 use Rattle.c_facts.proofs.Spending.{Keeps, Spends, spends_kept, entered_keeps, type_keeps, maybe_fill_keeps, has_size, value_keeps, maybe_value_keeps, variables_spend, statement_spends, maybe_statement_spends, statements_spend, arms_spend}
+use Rattle.c_facts.proofs.Fronts.{begins_through, begins_end}
+use Rattle.c_facts.proofs.Holds.{demanded_gives}
 
 -- how a function stands to the whole program
 pub record WithinFunction (f : Fn) (s : Scene) : Type 0 where
@@ -31,7 +31,7 @@ pub record WithinFunction (f : Fn) (s : Scene) : Type 0 where
   pub names : AreMeant s f.names
   pub bodies : AreBodies s f.names f.bodies
   pub members : (k : ℕ) (l : LayoutT) → slice_get s.layouts k ≡ Some l → AllMembersKnown s l.members
-  pub whole : MembersWhole (under f [])
+  pub whole : MembersWhole f.layouts f.whole
 
 pub within_function : (f : Fn) (s : Scene) (ss : List Scope) → WithinFunction f s → InScopes s ss → Within (under f ss) s
 within_function f s ss w i = record { grows = w.grows; names = w.names; bodies = w.bodies; scopes = i; members = w.members }
@@ -42,7 +42,7 @@ pub record Reaches (st : St) (s : Scene) : Type 0 where
   pub texts : Begins st.texts s.literals
 
 reaches_before : (s : Scene) (sp sq : St) → Spends sp sq → Reaches sq s → Reaches sp s
-reaches_before s sp sq h r = record { sizes = begins_more sp.sizes sq.sizes s.locals (h.taken, h.sizes) r.sizes; texts = begins_more sp.texts sq.texts s.literals h.texts r.texts }
+reaches_before s sp sq h r = record { sizes = begins_through sp.sizes sq.sizes s.locals (h.taken, h.sizes) r.sizes; texts = begins_through sp.texts sq.texts s.literals h.texts r.texts }
 
 reaches_kept : (s : Scene) (sp sq : St) → Keeps sp sq → Reaches sq s → Reaches sp s
 reaches_kept s sp sq h r = reaches_before s sp sq (spends_kept sp sq h) r
@@ -98,7 +98,7 @@ filled_var_sound s object ty (Some i) local known sized h = (record { kind = ref
 
 -- the object that the next size makes
 local_at : (s : Scene) (sizes : List ℕ) (n words : ℕ) → Begins (sizes ++ n ∷ []) s.locals → n ≡ words → slice_get s.locals (length sizes) ≡ Some words
-local_at s sizes n words b e = begins_at sizes s.locals n b ∙ ap Some e
+local_at s sizes n words b e = begins_end sizes s.locals n b ∙ ap Some e
 
 pub variable_sound : (s : Scene) {f : Fn} {sp sq : St} {v : VarT} {xs : List TVarT} → WithinFunction f s → Declares f sp v xs sq → InScopes s sp.scopes → Reaches sq s → AreFilled s false xs × InScopes s sq.scopes
 variable_sound s {f = f} w (good.variable {sp = sp} {sq = sq} {sr = sr} {v = v} {t = t} {i = init} {n = n} h k size) i r =
@@ -111,7 +111,7 @@ variable_sound s {f = f} w (good.variable {sp = sp} {sq = sq} {sr = sr} {v = v} 
     let words : n ≡ words_of s.layouts t = sym size_known.words ∙ words_later w.grows t size_known.sized in
     let here : IsLocal s (length sq.sizes) t = local_at s sq.sizes n (words_of s.layouts t) (subst (λ (ns : List ℕ). Begins (ns ++ n ∷ []) s.locals) same r.sizes) words in
     let local : IsLocal s (length sp.sizes) t = subst (λ (ns : List ℕ). IsLocal s (length ns) t) type_kept.sizes here in
-    let texts : Begins sq.texts s.literals = begins_more sq.texts named.texts s.literals name_kept.texts (begins_more named.texts sr.texts s.literals fill_kept.texts r.texts) in
+    let texts : Begins sq.texts s.literals = begins_through sq.texts named.texts s.literals name_kept.texts (begins_through named.texts sr.texts s.literals fill_kept.texts r.texts) in
     let typed = type_sound s w h i texts in
     let filled = maybe_fill_sound s w k (entered_in s v.name t sq typed.1 typed.0 here) r.texts typed.0 size_known.sized in
     (filled_var_sound s (length sp.sizes) t init local typed.0 (whole_later w.grows t size_known.sized) filled.0, filled.1)
@@ -134,7 +134,7 @@ not_so true h = sym h
 not_so false h = refl
 
 is_tested : (s : Scene) (p : Span) (x : TExprT) → IsTypedValue s x → demanded p WrongType (is_condition_of x) ≡ Ok tt → IsTest s x
-is_tested s p x v h = (v, demanded_holds p WrongType (is_condition_of x) h)
+is_tested s p x v h = (v, demanded_gives p WrongType (is_condition_of x) h)
 
 mutual
   pub statement_sound : (s : Scene) {f : Fn} {sp sq : St} {breaks continues : Bool} {a : StmtT} {x : TStmtT} → WithinFunction f s → Statement f sp breaks continues a x sq → InScopes s sp.scopes → Reaches sq s → IsStatement s x f.gives breaks continues × InScopes s sq.scopes
@@ -168,18 +168,18 @@ mutual
       let on = maybe_value_sound s w k first.1 test_ends.texts in
       let step = maybe_value_sound s w l on.1 step_ends.texts in
       let body = statement_sound s w m step.1 all_ends in
-      ((made_are_objects s su body.1, first.0, may_test s y on.0 (demanded_holds p WrongType (is_test y) test), step.0, body.0), in_closed s su.scopes body.1)
+      ((made_are_objects s su body.1, first.0, may_test s y on.0 (demanded_gives p WrongType (is_test y) test), step.0, body.0), in_closed s su.scopes body.1)
   statement_sound s w (good.switch {sq = sq} {sr = sr} {s = p} {x = x} h k test) i r =
       let all_ends = reaches_in s sr r in
       let on = value_sound s w h i (reaches_before s (opened sq) sr (arms_spend k) all_ends).texts in
       let arms = arms_sound s w refl k (in_opened s sq.scopes on.1) all_ends in
-      ((on.0, demanded_holds p WrongType (is_number (type_of_typed x)) test, made_are_objects s sr arms.1, arms.0), in_closed s sr.scopes arms.1)
+      ((on.0, demanded_gives p WrongType (is_number (type_of_typed x)) test, made_are_objects s sr arms.1, arms.0), in_closed s sr.scopes arms.1)
   statement_sound s w good.return_nothing i r = (tt, i)
   statement_sound s {f = f} w (good.return_value {s = p} {x = x} h test) i r =
       let on = value_sound s w h i r.texts in
-      ((on.0, demanded_holds p WrongType (converts (type_of_typed x) f.gives) test), on.1)
-  statement_sound s w (good.break {breaks = breaks} {s = p} test) i r = (demanded_holds p BreakOutside breaks test, i)
-  statement_sound s w (good.continue {continues = continues} {s = p} test) i r = (demanded_holds p BreakOutside continues test, i)
+      ((on.0, demanded_gives p WrongType (converts (type_of_typed x) f.gives) test), on.1)
+  statement_sound s w (good.break {breaks = breaks} {s = p} test) i r = (demanded_gives p BreakOutside breaks test, i)
+  statement_sound s w (good.continue {continues = continues} {s = p} test) i r = (demanded_gives p BreakOutside continues test, i)
 
   pub maybe_statement_sound : (s : Scene) {f : Fn} {sp sq : St} {breaks continues : Bool} {a : MaybeS} {x : MaybeZ} → WithinFunction f s → MaybeStatement f sp breaks continues a x sq → InScopes s sp.scopes → Reaches sq s → MayState s x f.gives breaks continues × InScopes s sq.scopes
   maybe_statement_sound s w good.nothing i r = (tt, i)
@@ -194,8 +194,8 @@ mutual
 
   -- `break` may stand in an arm of a switch
   arm_sound : (s : Scene) {f : Fn} {sp sq : St} {breaks continues : Bool} {seen : Labels} {a : ArmT} {x : TArmT} → WithinFunction f s → breaks ≡ true → ArmOf f sp breaks continues seen a x sq → InScopes s sp.scopes → Reaches sq s → IsLabel seen x × IsArm s x f.gives continues × InScopes s sq.scopes
-  arm_sound s w e (good.case {seen = seen} {s = p} {k = k} h c test) i r = (not_so (is_case k seen) (demanded_holds p Twice (not (is_case k seen)) test), tt, (value_sound s w h i r.texts).1)
-  arm_sound s w e (good.default {seen = seen} {s = p} test) i r = (not_so seen.has_default (demanded_holds p Twice (not seen.has_default) test), tt, i)
+  arm_sound s w e (good.case {seen = seen} {s = p} {k = k} h c test) i r = (not_so (is_case k seen) (demanded_gives p Twice (not (is_case k seen)) test), tt, (value_sound s w h i r.texts).1)
+  arm_sound s w e (good.default {seen = seen} {s = p} test) i r = (not_so seen.has_default (demanded_gives p Twice (not seen.has_default) test), tt, i)
   arm_sound s {f = f} w e (good.arm_statement {continues = continues} {x = x} h) i r =
       let here = statement_sound s w h i r in
       (tt, subst (λ b. IsStatement s x f.gives b continues) e here.0, here.1)

@@ -1,8 +1,7 @@
 -- What is known of a type while a unit is read holds in the whole program.
-use Rattle.std.proofs.Common.{◌≡◌, ℕ, ◌+◌, ◌*◌, ◌≤◌, Bool, true, false, ◌&&◌, ◌||◌, not, List, [], ◌∷◌, Ok, refl, sym, ap, ◌∙◌, subst, inl, inr, arith}
+use Rattle.std.proofs.Common.{◌≡◌, ℕ, ◌+◌, ◌≤◌, Bool, true, false, ◌&&◌, ◌||◌, not, List, [], ◌∷◌, Ok, refl, sym, ap, ◌∙◌, subst, inl, inr, arith}
 use Rattle.std.proofs.lemmas.Bool.{leb-true}
 use Rattle.std.specs.Prelude.{nat_le}
-use Rattle.std.specs.Option.{option_map_or}
 use Rattle.c_types.specs.Types.{Ty, VoidY, IntY, BoolY, EnumY, StructY, UnionY, PointerY, ArrayY, LayoutT}
 use Rattle.c_types.specs.Sizes.{words_of}
 use Rattle.c_rules.specs.declared.code.Code.{Code}
@@ -15,6 +14,7 @@ use Rattle.c_stmts.specs.State.{object_rule}
 use Rattle.c_check.specs.Reading.{parameter_rule, result_rule}
 use Rattle.c_facts.specs.Sound.{IsKnown}
 use Rattle.c_facts.proofs.Within.{Grows}
+use Rattle.c_facts.proofs.Growth.{whole_later, words_later}
 
 pub grows_itself : (layouts : List LayoutT) (whole : List Bool) → Grows layouts whole layouts whole
 grows_itself layouts whole = record { kept = λ k l e. inr e; fixed = λ k h. (h, refl); few = omega arith }
@@ -28,26 +28,6 @@ grows_through g h = record {
 
 -- ---- types
 
-pub whole_stays : {layouts later : List LayoutT} {whole all : List Bool} → Grows layouts whole later all → (ty : Ty) → is_whole whole ty ≡ true → is_whole all ty ≡ true
-whole_stays g VoidY h = absurd cc
-whole_stays g IntY h = refl
-whole_stays g BoolY h = refl
-whole_stays g (EnumY number) h = refl
-whole_stays g (StructY number) h = (g.fixed number h).0
-whole_stays g (UnionY number) h = (g.fixed number h).0
-whole_stays g (PointerY to) h = refl
-whole_stays g (ArrayY of count) h = whole_stays g of h
-
-pub words_stay : {layouts later : List LayoutT} {whole all : List Bool} → Grows layouts whole later all → (ty : Ty) → is_whole whole ty ≡ true → words_of layouts ty ≡ words_of later ty
-words_stay g VoidY h = refl
-words_stay g IntY h = refl
-words_stay g BoolY h = refl
-words_stay g (EnumY number) h = refl
-words_stay g (StructY number) h = ap (λ o. option_map_or (λ (l : LayoutT). l.size) o 0) (g.fixed number h).1
-words_stay g (UnionY number) h = ap (λ o. option_map_or (λ (l : LayoutT). l.size) o 0) (g.fixed number h).1
-words_stay g (PointerY to) h = refl
-words_stay g (ArrayY of count) h = ap (λ n. n * count) (words_stay g of h)
-
 pub known_stays : {layouts later : List LayoutT} {whole all : List Bool} → Grows layouts whole later all → (ty : Ty) → IsKnown layouts whole ty → IsKnown later all ty
 known_stays g VoidY h = tt
 known_stays g IntY h = tt
@@ -56,7 +36,7 @@ known_stays g (EnumY number) h = tt
 known_stays g (StructY number) h = omega (arith, h, g.few)
 known_stays g (UnionY number) h = omega (arith, h, g.few)
 known_stays g (PointerY to) h = known_stays g to h
-known_stays g (ArrayY of count) h = (known_stays g of h.0, whole_stays g of h.1, subst (λ n. n ≤ type_limit) (words_stay g (ArrayY of count) h.1) h.2)
+known_stays g (ArrayY of count) h = (known_stays g of h.0, whole_later g of h.1, subst (λ n. n ≤ type_limit) (words_later g (ArrayY of count) h.1) h.2)
 
 -- ---- rules
 
@@ -99,8 +79,8 @@ pub parameter_stays : {layouts later : List LayoutT} {whole all : List Bool} →
 unfolding parameter_rule fits
 parameter_stays {layouts = layouts} {later = later} {whole = whole} {all = all} g ty n e =
     let h = two_demands (not (is_void ty) && not (is_array ty)) (is_whole whole ty) (nat_le (words_of layouts ty) value_limit) (words_of layouts ty) n InfiniteType TooLarge e in
-    let same = words_stay g ty h.1 in
-    two_meet (not (is_void ty) && not (is_array ty)) (is_whole all ty) (nat_le (words_of later ty) value_limit) (words_of later ty) InfiniteType TooLarge h.0 (whole_stays g ty h.1) (subst (λ m. nat_le m value_limit ≡ true) same h.2)
+    let same = words_later g ty h.1 in
+    two_meet (not (is_void ty) && not (is_array ty)) (is_whole all ty) (nat_le (words_of later ty) value_limit) (words_of later ty) InfiniteType TooLarge h.0 (whole_later g ty h.1) (subst (λ m. nat_le m value_limit ≡ true) same h.2)
     ∙ ap Ok (sym same ∙ h.3)
 
 -- a result: none, or whole
@@ -109,10 +89,10 @@ words_of_result g VoidY h = (refl, refl)
 words_of_result g IntY h = (refl, refl)
 words_of_result g BoolY h = (refl, refl)
 words_of_result g (EnumY number) h = (refl, refl)
-words_of_result g (StructY number) h = (words_stay g (StructY number) h, whole_stays g (StructY number) h)
-words_of_result g (UnionY number) h = (words_stay g (UnionY number) h, whole_stays g (UnionY number) h)
+words_of_result g (StructY number) h = (words_later g (StructY number) h, whole_later g (StructY number) h)
+words_of_result g (UnionY number) h = (words_later g (UnionY number) h, whole_later g (UnionY number) h)
 words_of_result g (PointerY to) h = (refl, refl)
-words_of_result g (ArrayY of count) h = (words_stay g (ArrayY of count) h, whole_stays g (ArrayY of count) h)
+words_of_result g (ArrayY of count) h = (words_later g (ArrayY of count) h, whole_later g (ArrayY of count) h)
 
 pub result_stays : {layouts later : List LayoutT} {whole all : List Bool} → Grows layouts whole later all → (ty : Ty) → judged (result_rule layouts whole ty) ≡ Ok tt → judged (result_rule later all ty) ≡ Ok tt
 unfolding fits

@@ -1,31 +1,22 @@
 -- What the proofs on items use of expressions, initialisers and bodies, with all that it is about told.
-use Rattle.std.proofs.Common.{◌≡◌, ℕ, Bool, true, false, List, Option, Some}
-use Rattle.std.specs.Prelude.{slice_get}
+use Rattle.std.proofs.Common.{◌≡◌, Bool, true, false, List, Option, Some}
 use Rattle.c_tree.specs.declared.span.Span.{Span}
 use Rattle.c_tree.specs.Tree.{ExprT, TypeT, InitT, StmtTs}
-use Rattle.c_types.specs.Types.{Ty, LayoutT}
+use Rattle.c_types.specs.Types.{Ty}
 use Rattle.c_types.specs.Typed.{TExprT, TInitT, TStmtTs}
-use Rattle.c_rules.specs.Sizes.{is_declared, is_whole}
+use Rattle.c_rules.specs.Sizes.{is_whole}
 use Rattle.c_exprs.specs.Env.{Text, Ctx}
 use Rattle.c_exprs.specs.Types.{Values, Names}
 use Rattle.c_stmts.specs.State.{Fn, St}
 use Rattle.c_stmts.specs.InitTypes.{Fills}
 use Rattle.c_stmts.specs.StatementTypes.{Statements}
 use Rattle.c_facts.specs.Sound.{Scene, IsKnown, IsSized, IsTypedValue, FillsAs, AreStatements}
-use Rattle.c_facts.proofs.Within.{Begins, Grows, AreMeant, AreBodies, InScopes, AllMembersKnown, Within}
+use Rattle.c_facts.proofs.Within.{Begins, Grows, AreMeant, AreBodies, InScopes, Within, MembersWhole, MembersKnown}
 use Rattle.c_facts.proofs.Beginnings.{value_begins, name_begins}
 use Rattle.c_facts.proofs.Expressions.{value_sound, type_sound}
 use Rattle.c_facts.proofs.Initialisers.{fills_texts, init_sound}
 use Rattle.c_facts.proofs.Spending.{Spends, statements_spend}
 use Rattle.c_facts.proofs.Statements.{body_sound}
-use Rattle.c_facts.proofs.Laid.{AllWhole}
-
--- what is declared whole at the time has members that are whole at the time
-abbrev pub MembersWhole : List LayoutT → List Bool → Type 0
-MembersWhole layouts whole = (k : ℕ) (l : LayoutT) → is_declared whole k ≡ true → slice_get layouts k ≡ Some l → AllWhole whole l.members
-
-abbrev pub MembersKnown : Scene → Type 0
-MembersKnown s = (k : ℕ) (l : LayoutT) → slice_get s.layouts k ≡ Some l → AllMembersKnown s l.members
 
 -- ---- expressions
 

@@ -2,7 +2,7 @@
 use Rattle.std.proofs.Common.{◌≡◌, ◌⊎◌, ℕ, ◌≤◌, Bool, true, List, [], ◌∷◌, ◌++◌, length, Some}
 use Rattle.std.specs.Prelude.{slice_get}
 use Rattle.c_types.specs.Types.{Ty, MemberT, LayoutT}
-use Rattle.c_rules.specs.Sizes.{is_declared}
+use Rattle.c_rules.specs.Sizes.{is_declared, is_whole}
 use Rattle.c_exprs.specs.Env.{Text, find, LocalD, Decl, TypeD, ConstantD, GlobalD, FunctionD, Ctx}
 use Rattle.c_check.specs.Reading.{TFunctionT, no_layout}
 use Rattle.c_facts.specs.Sound.{Scene, IsKnown, IsGlobal, IsLocal}
@@ -53,6 +53,17 @@ InScopes s (es ∷ ess) = InScope s es × InScopes s ess
 abbrev pub AllMembersKnown : Scene → List MemberT → Type 0
 AllMembersKnown s [] = Unit {0}
 AllMembersKnown s (m ∷ ms) = IsKnown s.layouts s.whole m.ty × AllMembersKnown s ms
+
+-- what is declared whole has members whose sizes are known
+abbrev pub AllWhole : List Bool → List MemberT → Type 0
+AllWhole whole [] = Unit {0}
+AllWhole whole (m ∷ ms) = (is_whole whole m.ty ≡ true) × AllWhole whole ms
+
+abbrev pub MembersWhole : List LayoutT → List Bool → Type 0
+MembersWhole layouts whole = (k : ℕ) (l : LayoutT) → is_declared whole k ≡ true → slice_get layouts k ≡ Some l → AllWhole whole l.members
+
+abbrev pub MembersKnown : Scene → Type 0
+MembersKnown s = (k : ℕ) (l : LayoutT) → slice_get s.layouts k ≡ Some l → AllMembersKnown s l.members
 
 -- what expressions are read under, in the whole program
 pub record Within (c : Ctx) (s : Scene) : Type 0 where

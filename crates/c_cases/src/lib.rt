@@ -6,3 +6,7 @@
 
 #[cfg(test)]
 mod parsing;
+#[cfg(test)]
+mod programs;
+#[cfg(test)]
+mod statements;

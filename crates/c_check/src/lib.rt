@@ -24,6 +24,3 @@ pub use function::TFunction;
 pub use objects::Objects;
 pub use program::Program;
 pub use reading::Reading;
-
-#[cfg(test)]
-mod tests;

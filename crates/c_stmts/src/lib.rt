@@ -19,6 +19,3 @@ pub use filling::fill;
 pub use objects::object_size;
 pub use state::State;
 pub use statements::type_statements;
-
-#[cfg(test)]
-mod tests;

@@ -1,7 +1,7 @@
 // Bodies that the rules type, and the rules that others break first.
-use super::*;
 use c_exprs::{CheckErr, Globals, Texts};
 use c_rules::{Code, code_number};
+use c_stmts::{State, fill, object_size, type_statements};
 use c_tree::{Arm, Expr, Init, Span, Stmt, TypeTree, Var, building};
 use c_types::{CType, TInit, TStmt};
 use kit_base::{Name, Seq};

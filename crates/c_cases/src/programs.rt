@@ -1,5 +1,5 @@
 // An empty unit.
-use crate::check;
+use c_check::check;
 use c_exprs::CheckErr;
 use c_rules::Code;
 use c_tree::{Span, Unit};

@@ -1,0 +1,5 @@
+#ifdef A
+#else A // error 20
+#endif
+
+void main() { }

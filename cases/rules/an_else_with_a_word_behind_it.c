@@ -1,4 +1,4 @@
-#ifdef A
+#ifndef A
 #else A // error 20
 #endif
 

@@ -21,6 +21,8 @@ int one = ONE;
 #error this is not taken
 #pragma this is passed over
 #include <this too
+#else this is passed over
+#endif this, too
 #ifdef nested
 #else
 #endif

@@ -9,6 +9,7 @@ int[letter == 65 && size == 12 && sum == 21 && true == 1 && false == 0] valued;
 int[sizeof(int) == 1 && sizeof(bool) == 1 && sizeof(E) == 1 && sizeof(Q*) == 1 && sizeof(void*) == 1] of_a_word;
 int[sizeof(Q) == 4 && sizeof(U) == 4 && sizeof(int[3][4]) == 12 && sizeof(Q[2]) == 8 && sizeof(Q[5]*) == 1] of_several;
 int[-7 / 2 == -3 && 7 / -2 == -3 && -7 % 2 == -1 && 7 % -2 == 1] divided;
+int[7 / 2 == 3 && -7 / -2 == 3 && 7 % 2 == 1 && -7 % -2 == -1 && 0 / 5 == 0 && 0 % 5 == 0] divided_too;
 int[0x80000000 / -1 == 0x80000000 && 0x80000000 % -1 == 0] extreme;
 int[1 << 32 == 0 && -1 >> 28 == 15 && 8 << -1 == 4 && 1 << 31 == 0x80000000] shifted;
 int[0xFFFFFFFF + 1 == 0 && 0 - 1 == 0xFFFFFFFF && 65536 * 65536 == 0] wrapped_around;

@@ -14,6 +14,8 @@
 # define TWO ONE + \
     ONE
 /* before it, too */ #define THREE 3
+#define x + 1
+#define xa + 2
 
 #ifdef ONE
 int one = ONE;
@@ -35,6 +37,9 @@ this is no C, but it is tokens
 #ifdef VIDEO_H
 int[TWO * THREE - 3] four;
 int itself, there, back;
+int[0x == 1] zero_and_x; // behind a 0 without digits a word may stand
+int[0+1] zero_and_more;
+int[0xa == 10] ten;
 #else
 #endif
 

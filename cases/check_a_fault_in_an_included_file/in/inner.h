@@ -1,0 +1,4 @@
+// the first fault
+int f() {
+    return x;
+}

@@ -1,0 +1,6 @@
+#include "inner.h"
+#include "second.h"
+#include "third.h"
+
+void main() { }
+// last

@@ -1,0 +1,6 @@
+#include "math.h"
+#include "mine.h"
+
+void main() {
+    mine = abs(-1);
+}

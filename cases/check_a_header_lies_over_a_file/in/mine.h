@@ -1,0 +1,5 @@
+#ifndef MINE_H
+#define MINE_H
+int mine;
+#include "mine.h"
+#endif

@@ -1,0 +1,2 @@
+#ifndef A
+int a;

@@ -1,0 +1,3 @@
+#include "inner.h"
+
+void main() { }

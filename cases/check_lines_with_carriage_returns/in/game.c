@@ -1,0 +1,6 @@
+#define ONE \
+    1
+void main() {
+    int a = ONE;
+    x = 1;
+}

@@ -1,0 +1,5 @@
+void f() { }
+
+#include "inner.h"
+
+// nothing stands behind it

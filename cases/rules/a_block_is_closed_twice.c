@@ -1,0 +1,3 @@
+void main() {
+}
+} // error 30

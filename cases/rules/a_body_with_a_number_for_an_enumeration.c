@@ -1,0 +1,5 @@
+enum E { A };
+void f(E a);
+void f(int a) { } // error 42
+
+void main() { }

@@ -1,0 +1,4 @@
+void f(int a);
+void f(int a, int b) { } // error 42
+
+void main() { }

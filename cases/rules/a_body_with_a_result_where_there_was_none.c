@@ -1,0 +1,6 @@
+void f();
+int f() { // error 42
+    return 1;
+}
+
+void main() { }

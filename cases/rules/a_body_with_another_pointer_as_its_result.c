@@ -1,0 +1,6 @@
+int* f();
+void* f() { // error 42
+    return NULL;
+}
+
+void main() { }

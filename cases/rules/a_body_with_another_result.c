@@ -1,0 +1,6 @@
+int f();
+bool f() { // error 42
+    return true;
+}
+
+void main() { }

@@ -1,0 +1,4 @@
+int f();
+void f() { } // error 42
+
+void main() { }

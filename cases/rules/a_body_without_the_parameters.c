@@ -1,0 +1,4 @@
+void f(int a);
+void f() { } // error 42
+
+void main() { }

@@ -1,0 +1,4 @@
+void main() {
+    while (0) ;
+    break; // error 49
+}

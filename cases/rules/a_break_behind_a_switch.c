@@ -1,0 +1,4 @@
+void main() {
+    switch (1) { }
+    break; // error 49
+}

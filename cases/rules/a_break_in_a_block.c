@@ -1,0 +1,5 @@
+void main() {
+    {
+        break; // error 49
+    }
+}

@@ -1,0 +1,3 @@
+void main() {
+    break; // error 49
+}

@@ -1,0 +1,8 @@
+void f() { }
+
+void main() {
+    int f;
+    {
+        f(); // error 42
+    }
+}

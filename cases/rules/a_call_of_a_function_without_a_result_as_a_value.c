@@ -1,0 +1,5 @@
+void f() { }
+
+void main() {
+    int a = f(); // error 42
+}

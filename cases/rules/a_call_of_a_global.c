@@ -1,0 +1,5 @@
+int a;
+
+void main() {
+    a(); // error 42
+}

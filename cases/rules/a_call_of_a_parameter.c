@@ -1,0 +1,5 @@
+void f(int a) {
+    a(); // error 42
+}
+
+void main() { }

@@ -1,0 +1,5 @@
+enum E { A };
+
+void main() {
+    A(); // error 42
+}

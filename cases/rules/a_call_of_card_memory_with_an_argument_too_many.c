@@ -1,0 +1,3 @@
+void main() {
+    card_memory(1); // error 44
+}

@@ -1,0 +1,4 @@
+void main() {
+    int halt;
+    halt(); // error 42
+}

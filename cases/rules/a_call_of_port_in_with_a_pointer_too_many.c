@@ -1,0 +1,3 @@
+void main() {
+    port_in(TIM_FrameCounter, NULL); // error 44
+}

@@ -1,0 +1,3 @@
+void main() {
+    int a = wait_frame(); // error 42
+}

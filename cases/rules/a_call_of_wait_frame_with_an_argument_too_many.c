@@ -1,0 +1,3 @@
+void main() {
+    wait_frame(1); // error 44
+}

@@ -1,0 +1,5 @@
+void f(int a, int b) { }
+
+void main() {
+    f(1, 2, NULL); // error 44
+}

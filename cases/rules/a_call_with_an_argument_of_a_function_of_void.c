@@ -1,0 +1,5 @@
+void f(void) { }
+
+void main() {
+    f(1); // error 44
+}

@@ -1,0 +1,5 @@
+void f(int a, int b) { }
+
+void main() {
+    f(); // error 44
+}

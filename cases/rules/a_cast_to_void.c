@@ -1,0 +1,4 @@
+void main() {
+    int a;
+    (void) a; // error 30
+}

@@ -1,0 +1,3 @@
+void main() {
+    int a = (int); // error 30
+}

@@ -1,0 +1,3 @@
+int a = 'ab'; // error 11
+
+void main() { }

@@ -1,0 +1,3 @@
+int a = '''; // error 11
+
+void main() { }

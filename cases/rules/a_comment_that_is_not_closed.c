@@ -1,0 +1,3 @@
+void main() { }
+
+/* this comment never ends // error 12

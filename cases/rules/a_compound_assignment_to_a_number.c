@@ -1,0 +1,3 @@
+void main() {
+    1 += 2; // error 43
+}

@@ -1,0 +1,4 @@
+#if 1 // error 20
+#endif
+
+void main() { }

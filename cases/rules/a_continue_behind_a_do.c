@@ -1,0 +1,4 @@
+void main() {
+    do ; while (0);
+    continue; // error 49
+}

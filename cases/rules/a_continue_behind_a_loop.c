@@ -1,0 +1,4 @@
+void main() {
+    for (; 0; ) ;
+    continue; // error 49
+}

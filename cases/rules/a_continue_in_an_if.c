@@ -1,0 +1,4 @@
+void main() {
+    if (1)
+        continue; // error 49
+}

@@ -1,0 +1,3 @@
+void main() {
+    continue; // error 49
+}

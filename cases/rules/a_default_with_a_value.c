@@ -1,0 +1,5 @@
+void main() {
+    switch (1) {
+        default 1: ; // error 30
+    }
+}

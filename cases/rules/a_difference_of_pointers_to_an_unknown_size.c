@@ -1,0 +1,6 @@
+struct A;
+
+void main() {
+    A* p = NULL;
+    p - p; // error 47
+}

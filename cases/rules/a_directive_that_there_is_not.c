@@ -1,0 +1,3 @@
+#pragma once // error 20
+
+void main() { }

@@ -1,0 +1,3 @@
+# // error 20
+
+void main() { }

@@ -1,0 +1,4 @@
+void main() {
+    do ; while (1)
+    int a; // error 30
+}

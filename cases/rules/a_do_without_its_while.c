@@ -1,0 +1,4 @@
+void main() {
+    do ;
+    ; // error 30
+}

@@ -1,0 +1,3 @@
+int a$b; // error 10
+
+void main() { }

@@ -1,0 +1,3 @@
+void main() {
+    for (; halt(); ) ; // error 42
+}

@@ -1,0 +1,3 @@
+void main() {
+    for (1; 2; 3;) ; // error 30
+}

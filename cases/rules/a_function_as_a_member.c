@@ -1,0 +1,3 @@
+struct S { int f(); }; // error 30
+
+void main() { }

@@ -1,0 +1,3 @@
+void main() {
+    port_in(main); // error 45
+}

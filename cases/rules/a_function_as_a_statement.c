@@ -1,0 +1,5 @@
+void f() { }
+
+void main() {
+    f; // error 42
+}

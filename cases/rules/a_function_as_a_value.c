@@ -1,0 +1,7 @@
+int f() {
+    return 1;
+}
+
+void main() {
+    int a = f; // error 42
+}

@@ -1,0 +1,3 @@
+void main() {
+    void f() { } // error 30
+}

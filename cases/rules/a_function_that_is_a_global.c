@@ -1,0 +1,4 @@
+int a;
+void a() { } // error 41
+
+void main() { }

@@ -1,0 +1,4 @@
+enum E { A };
+void A() { } // error 41
+
+void main() { }

@@ -1,0 +1,5 @@
+void main() {
+    f(); // error 40
+}
+
+void f() { }

@@ -1,0 +1,4 @@
+typedef int T;
+void T() { } // error 30
+
+void main() { }

@@ -1,0 +1,3 @@
+void main() {
+    f(); // error 40
+}

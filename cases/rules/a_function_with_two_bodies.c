@@ -1,0 +1,4 @@
+void f() { }
+void f() { } // error 41
+
+void main() { }

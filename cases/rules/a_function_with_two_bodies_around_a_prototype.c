@@ -1,0 +1,5 @@
+void f() { }
+void f();
+void f() { } // error 41
+
+void main() { }

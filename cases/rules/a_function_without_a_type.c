@@ -1,0 +1,3 @@
+f() { } // error 30
+
+void main() { }

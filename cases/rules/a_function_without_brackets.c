@@ -1,0 +1,3 @@
+void f { } // error 30
+
+void main() { }

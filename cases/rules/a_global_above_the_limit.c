@@ -1,0 +1,3 @@
+int[3145729] a; // error 50
+
+void main() { }

@@ -1,0 +1,3 @@
+int[3] a = NULL; // error 42
+
+void main() { }

@@ -1,0 +1,6 @@
+int S;
+struct S {
+    S* next; // error 41
+};
+
+void main() { }

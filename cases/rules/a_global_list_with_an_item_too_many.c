@@ -1,0 +1,3 @@
+int[2] a = { 1, 2, 3 }; // error 42
+
+void main() { }

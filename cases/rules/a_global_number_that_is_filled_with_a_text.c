@@ -1,0 +1,3 @@
+int a = "abc"; // error 42
+
+void main() { }

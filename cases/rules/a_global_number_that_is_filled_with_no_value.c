@@ -1,0 +1,3 @@
+int a = halt(); // error 42
+
+void main() { }

@@ -1,0 +1,3 @@
+int a = NULL; // error 42
+
+void main() { }

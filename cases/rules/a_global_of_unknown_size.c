@@ -1,0 +1,4 @@
+struct A;
+A a; // error 47
+
+void main() { }

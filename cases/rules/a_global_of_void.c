@@ -1,0 +1,3 @@
+void a; // error 30
+
+void main() { }

@@ -1,0 +1,3 @@
+int* a = 0; // error 42
+
+void main() { }

@@ -1,0 +1,4 @@
+bool b;
+int* a = &b; // error 42
+
+void main() { }

@@ -1,0 +1,3 @@
+bool* a = "abc"; // error 42
+
+void main() { }

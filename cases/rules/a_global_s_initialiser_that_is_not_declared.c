@@ -1,0 +1,3 @@
+int a = b; // error 40
+
+void main() { }

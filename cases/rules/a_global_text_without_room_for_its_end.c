@@ -1,0 +1,3 @@
+int[3] a = "abc"; // error 42
+
+void main() { }

@@ -1,0 +1,4 @@
+#include "math.h"
+int abs; // error 41
+
+void main() { }

@@ -1,0 +1,5 @@
+struct A;
+A a; // error 47
+struct A { int b; };
+
+void main() { }

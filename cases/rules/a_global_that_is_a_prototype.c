@@ -1,0 +1,4 @@
+void a();
+int a; // error 41
+
+void main() { }

@@ -1,0 +1,4 @@
+enum E { A };
+int A; // error 41
+
+void main() { }

@@ -1,0 +1,5 @@
+void main() {
+    x = 1; // error 40
+}
+
+int x;

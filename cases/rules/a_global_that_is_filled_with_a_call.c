@@ -1,0 +1,6 @@
+int f() {
+    return 3;
+}
+int a = f(); // error 48
+
+void main() { }

@@ -1,0 +1,3 @@
+int a = port_in(TIM_FrameCounter); // error 48
+
+void main() { }

@@ -1,0 +1,3 @@
+int a = (int) 3; // error 48
+
+void main() { }

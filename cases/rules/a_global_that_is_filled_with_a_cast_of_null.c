@@ -1,0 +1,3 @@
+int* p = (int*) NULL; // error 48
+
+void main() { }

@@ -1,0 +1,3 @@
+int a = "ab" - "ab"; // error 48
+
+void main() { }

@@ -1,0 +1,5 @@
+struct S { int a; };
+S s;
+int a = s.a; // error 48
+
+void main() { }

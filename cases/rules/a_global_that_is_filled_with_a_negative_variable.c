@@ -1,0 +1,4 @@
+int n;
+int a = -n; // error 48
+
+void main() { }

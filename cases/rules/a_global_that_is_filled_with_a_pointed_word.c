@@ -1,0 +1,4 @@
+int* p;
+int a = *p; // error 48
+
+void main() { }

@@ -1,0 +1,4 @@
+int n;
+int a = 1 + n; // error 48
+
+void main() { }

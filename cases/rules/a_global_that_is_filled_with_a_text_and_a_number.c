@@ -1,0 +1,3 @@
+int* p = "abc" + 1; // error 48
+
+void main() { }

@@ -1,0 +1,3 @@
+int[4]* p = &"abc"; // error 48
+
+void main() { }

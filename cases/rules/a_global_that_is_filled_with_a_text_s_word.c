@@ -1,0 +1,3 @@
+int a = "abc"[0]; // error 48
+
+void main() { }

@@ -1,0 +1,3 @@
+int a = !NULL; // error 48
+
+void main() { }

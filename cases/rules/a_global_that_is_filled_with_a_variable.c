@@ -1,0 +1,4 @@
+int n = 3;
+int a = n; // error 48
+
+void main() { }

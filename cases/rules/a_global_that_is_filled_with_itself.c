@@ -1,0 +1,3 @@
+int a = a; // error 48
+
+void main() { }

@@ -1,0 +1,3 @@
+int* p = card_memory(); // error 48
+
+void main() { }

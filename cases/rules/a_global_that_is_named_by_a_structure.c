@@ -1,0 +1,4 @@
+struct S { int a; };
+int S; // error 30
+
+void main() { }

@@ -1,0 +1,4 @@
+typedef int T;
+bool T; // error 30
+
+void main() { }

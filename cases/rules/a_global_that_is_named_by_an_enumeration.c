@@ -1,0 +1,4 @@
+enum E { A };
+int E; // error 30
+
+void main() { }

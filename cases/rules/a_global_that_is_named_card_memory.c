@@ -1,0 +1,3 @@
+int card_memory; // error 41
+
+void main() { }

@@ -1,0 +1,3 @@
+int halt; // error 41
+
+void main() { }

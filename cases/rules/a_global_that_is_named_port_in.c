@@ -1,0 +1,3 @@
+int port_in; // error 41
+
+void main() { }

@@ -1,0 +1,3 @@
+int port_out; // error 41
+
+void main() { }

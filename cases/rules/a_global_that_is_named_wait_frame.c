@@ -1,0 +1,3 @@
+int wait_frame; // error 41
+
+void main() { }

@@ -1,0 +1,4 @@
+int a;
+int a; // error 41
+
+void main() { }

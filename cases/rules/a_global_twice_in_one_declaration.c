@@ -1,0 +1,4 @@
+int a,
+    a; // error 41
+
+void main() { }

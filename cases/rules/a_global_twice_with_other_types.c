@@ -1,0 +1,4 @@
+int a;
+bool a; // error 41
+
+void main() { }

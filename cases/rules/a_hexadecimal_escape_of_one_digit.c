@@ -1,0 +1,3 @@
+int* a = "\x4"; // error 11
+
+void main() { }

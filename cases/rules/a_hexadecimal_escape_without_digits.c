@@ -1,0 +1,3 @@
+int a = '\xg0'; // error 11
+
+void main() { }

@@ -1,0 +1,3 @@
+int a = 0x100000000; // error 13
+
+void main() { }

@@ -1,0 +1,3 @@
+int a = 0x; // error 30
+
+void main() { }

@@ -1,0 +1,3 @@
+void main() {
+    case 1: ; // error 30
+}

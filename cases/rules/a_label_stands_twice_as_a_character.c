@@ -1,0 +1,6 @@
+void main() {
+    switch (1) {
+        case 65: ;
+        case 'A': ; // error 41
+    }
+}

@@ -1,0 +1,9 @@
+int f() {
+    return 3;
+}
+
+void main() {
+    switch (1) {
+        case f(): ; // error 48
+    }
+}

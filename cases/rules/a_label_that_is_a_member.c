@@ -1,0 +1,8 @@
+struct S { int a; };
+
+void main() {
+    S s;
+    switch (1) {
+        case s.a: ; // error 48
+    }
+}

@@ -1,0 +1,5 @@
+void main() {
+    switch (1) {
+        case 1 || 1 % 0: ; // error 48
+    }
+}

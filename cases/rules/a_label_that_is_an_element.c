@@ -1,0 +1,6 @@
+void main() {
+    int[2] v;
+    switch (1) {
+        case v[0]: ; // error 48
+    }
+}

@@ -1,0 +1,5 @@
+void main() {
+    switch (1) {
+        case A: ; // error 40
+    }
+}

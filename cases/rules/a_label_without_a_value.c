@@ -1,0 +1,5 @@
+void main() {
+    switch (1) {
+        case : ; // error 30
+    }
+}

@@ -1,0 +1,3 @@
+void f(int a, int[3] b) { } // error 42
+
+void main() { }

@@ -1,0 +1,3 @@
+void main() {
+    int[4194305]* a; // error 50
+}

@@ -1,0 +1,3 @@
+void main() {
+    int a[3]; // error 30
+}

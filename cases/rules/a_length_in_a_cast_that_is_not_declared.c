@@ -1,0 +1,3 @@
+void main() {
+    void* a = (int[x]*) NULL; // error 40
+}

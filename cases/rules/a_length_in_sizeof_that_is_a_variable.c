@@ -1,0 +1,4 @@
+void main() {
+    int n = 3;
+    n = sizeof(int[n]); // error 48
+}

@@ -1,0 +1,3 @@
+void main() {
+    int[false] a; // error 42
+}

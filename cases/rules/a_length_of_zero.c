@@ -1,0 +1,3 @@
+void main() {
+    int[0] a; // error 42
+}

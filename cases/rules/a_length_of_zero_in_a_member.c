@@ -1,0 +1,3 @@
+struct T { int[0] a; }; // error 42
+
+void main() { }

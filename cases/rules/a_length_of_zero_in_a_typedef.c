@@ -1,0 +1,3 @@
+typedef int[0] T; // error 42
+
+void main() { }

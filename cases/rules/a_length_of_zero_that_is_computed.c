@@ -1,0 +1,3 @@
+void main() {
+    int[3 - 3] a; // error 42
+}

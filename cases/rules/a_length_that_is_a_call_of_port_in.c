@@ -1,0 +1,3 @@
+void main() {
+    int[port_in(TIM_FrameCounter)] a; // error 48
+}

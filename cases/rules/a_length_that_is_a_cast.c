@@ -1,0 +1,3 @@
+void main() {
+    int[(int) 3] a; // error 48
+}

@@ -1,0 +1,3 @@
+void main() {
+    int["ab" - "ab"] a; // error 48
+}

@@ -1,0 +1,5 @@
+enum E { ZERO };
+
+void main() {
+    int[1 / ZERO] a; // error 48
+}

@@ -1,0 +1,3 @@
+void main() {
+    int[1 / 0] a; // error 48
+}

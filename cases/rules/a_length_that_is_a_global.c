@@ -1,0 +1,4 @@
+int n = 3;
+int[n] a; // error 48
+
+void main() { }

@@ -1,0 +1,5 @@
+void f(int n) {
+    int[n] a; // error 48
+}
+
+void main() { }

@@ -1,0 +1,4 @@
+void main() {
+    int* p;
+    int[*p] a; // error 48
+}

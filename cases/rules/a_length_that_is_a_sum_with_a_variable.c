@@ -1,0 +1,4 @@
+void main() {
+    int n;
+    int[1 + n] a; // error 48
+}

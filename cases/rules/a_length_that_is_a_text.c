@@ -1,0 +1,3 @@
+void main() {
+    int["abc"] a; // error 48
+}

@@ -1,0 +1,3 @@
+void main() {
+    int["abc"[0]] a; // error 48
+}

@@ -1,0 +1,3 @@
+void main() {
+    int[!NULL] a; // error 48
+}

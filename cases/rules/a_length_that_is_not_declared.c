@@ -1,0 +1,3 @@
+int[n] a; // error 40
+
+void main() { }

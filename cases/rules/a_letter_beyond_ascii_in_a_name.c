@@ -1,0 +1,3 @@
+int café; // error 10
+
+void main() { }

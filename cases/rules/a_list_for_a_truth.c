@@ -1,0 +1,3 @@
+void main() {
+    bool a = { 1 }; // error 42
+}

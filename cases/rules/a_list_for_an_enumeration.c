@@ -1,0 +1,5 @@
+enum E { A };
+
+void main() {
+    E a = { A }; // error 42
+}

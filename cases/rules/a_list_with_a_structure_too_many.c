@@ -1,0 +1,6 @@
+struct S { int a; };
+
+void main() {
+    S a;
+    S[1] b = { a, a }; // error 42
+}

@@ -1,0 +1,3 @@
+; // error 30
+
+void main() { }

@@ -1,0 +1,3 @@
+#define int bool // error 20
+
+void main() { }

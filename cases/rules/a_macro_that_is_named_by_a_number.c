@@ -1,0 +1,3 @@
+#define 1 2 // error 20
+
+void main() { }

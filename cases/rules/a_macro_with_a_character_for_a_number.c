@@ -1,0 +1,4 @@
+#define A 65
+#define A 'A' // error 26
+
+void main() { }

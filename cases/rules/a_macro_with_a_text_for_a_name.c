@@ -1,0 +1,4 @@
+#define A b
+#define A "b" // error 26
+
+void main() { }

@@ -1,0 +1,3 @@
+#define // error 20
+
+void main() { }

@@ -1,0 +1,1 @@
+void Main() { } // error 46

@@ -1,0 +1,1 @@
+struct main { int a; }; // error 46

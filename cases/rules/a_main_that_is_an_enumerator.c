@@ -1,0 +1,1 @@
+enum E { main }; // error 46

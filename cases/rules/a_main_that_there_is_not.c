@@ -1,0 +1,5 @@
+int a;
+
+void f() {
+    a = 1;
+} // error 46

@@ -1,0 +1,7 @@
+struct S { int a; };
+struct T { S s; };
+
+void main() {
+    T t;
+    t.a = 1; // error 40
+}

@@ -1,0 +1,6 @@
+struct S { int a; };
+
+void main() {
+    S* p;
+    p.a; // error 42
+}

@@ -1,0 +1,3 @@
+union U { int a; bool a; }; // error 41
+
+void main() { }

@@ -1,0 +1,6 @@
+struct S { int a; };
+
+void main() {
+    S[2] v;
+    v.a; // error 42
+}

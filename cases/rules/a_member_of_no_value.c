@@ -1,0 +1,3 @@
+void main() {
+    halt().a; // error 42
+}

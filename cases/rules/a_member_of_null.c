@@ -1,0 +1,3 @@
+void main() {
+    NULL.a; // error 42
+}

@@ -1,0 +1,4 @@
+struct A;
+struct S { A a; }; // error 47
+
+void main() { }

@@ -1,0 +1,3 @@
+struct S { void a; }; // error 30
+
+void main() { }

@@ -1,0 +1,6 @@
+struct S { int a; };
+
+void main() {
+    S s;
+    s.b = 1; // error 40
+}

@@ -1,0 +1,4 @@
+typedef int T;
+struct S { bool T; }; // error 30
+
+void main() { }

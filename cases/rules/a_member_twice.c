@@ -1,0 +1,6 @@
+struct S {
+    int a;
+    int a; // error 41
+};
+
+void main() { }

@@ -1,0 +1,3 @@
+struct S { int a, a; }; // error 41
+
+void main() { }

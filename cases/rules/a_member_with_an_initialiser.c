@@ -1,0 +1,3 @@
+struct S { int a = 1; }; // error 30
+
+void main() { }

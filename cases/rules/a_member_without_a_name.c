@@ -1,0 +1,3 @@
+struct S { int; }; // error 30
+
+void main() { }

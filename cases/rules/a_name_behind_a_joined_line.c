@@ -1,0 +1,5 @@
+void main() {
+    int a = 1 + \
+        2 +
+        x; // error 40
+}

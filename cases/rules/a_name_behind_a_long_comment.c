@@ -1,0 +1,5 @@
+void main() {
+    /* one
+       two
+       three */ x = 1; // error 40
+}

@@ -1,0 +1,4 @@
+void main() {
+    int counter;
+    Counter = 1; // error 40
+}

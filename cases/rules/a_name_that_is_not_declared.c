@@ -1,0 +1,3 @@
+void main() {
+    x = 1; // error 40
+}

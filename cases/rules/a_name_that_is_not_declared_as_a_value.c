@@ -1,0 +1,3 @@
+void main() {
+    int a = 1 + x; // error 40
+}

@@ -1,0 +1,3 @@
+void main() {
+    int[-1] a; // error 50
+}

@@ -1,0 +1,4 @@
+void main() {
+    int* p;
+    0 >= p; // error 42
+}

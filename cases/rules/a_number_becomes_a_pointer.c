@@ -1,0 +1,5 @@
+void main() {
+    int* p;
+    int n;
+    p = n; // error 42
+}

@@ -1,0 +1,5 @@
+void main() {
+    void* w;
+    int n;
+    w = n; // error 42
+}

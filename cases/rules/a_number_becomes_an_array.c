@@ -1,0 +1,5 @@
+void main() {
+    int[2] v;
+    int n;
+    v = n; // error 42
+}

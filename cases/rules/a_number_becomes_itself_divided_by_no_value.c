@@ -1,0 +1,4 @@
+void main() {
+    int a;
+    a /= halt(); // error 42
+}

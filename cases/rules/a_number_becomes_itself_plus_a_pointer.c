@@ -1,0 +1,5 @@
+void main() {
+    int a;
+    int* p;
+    a += p; // error 42
+}

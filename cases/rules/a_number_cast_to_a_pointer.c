@@ -1,0 +1,4 @@
+void main() {
+    int n;
+    (int*) n; // error 42
+}

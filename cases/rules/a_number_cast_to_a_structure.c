@@ -1,0 +1,6 @@
+struct S { int a; };
+
+void main() {
+    int n;
+    (S) n; // error 42
+}

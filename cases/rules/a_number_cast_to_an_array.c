@@ -1,0 +1,4 @@
+void main() {
+    int n;
+    (int[2]) n; // error 42
+}

@@ -1,0 +1,3 @@
+int a = 1b; // error 30
+
+void main() { }

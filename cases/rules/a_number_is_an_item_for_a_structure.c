@@ -1,0 +1,7 @@
+struct S { int a; };
+struct W { S a; };
+
+void main() {
+    int n;
+    W a = { n }; // error 42
+}

@@ -1,0 +1,6 @@
+union U { int a; };
+
+void main() {
+    U u;
+    1 || u; // error 42
+}

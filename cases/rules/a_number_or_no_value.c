@@ -1,0 +1,3 @@
+void main() {
+    1 | halt(); // error 42
+}

@@ -1,0 +1,4 @@
+void main() {
+    int* p;
+    1 << p; // error 42
+}

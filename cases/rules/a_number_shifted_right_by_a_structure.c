@@ -1,0 +1,6 @@
+struct S { int a; };
+
+void main() {
+    S s;
+    1 >> s; // error 42
+}

@@ -1,0 +1,3 @@
+int a = 1.b; // error 14
+
+void main() { }

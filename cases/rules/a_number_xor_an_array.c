@@ -1,0 +1,4 @@
+void main() {
+    int[2] v;
+    1 ^ v; // error 42
+}

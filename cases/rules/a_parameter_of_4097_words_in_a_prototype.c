@@ -1,0 +1,4 @@
+struct Big { int[4097] a; };
+void f(Big a); // error 50
+
+void main() { }

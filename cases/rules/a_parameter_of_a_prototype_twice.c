@@ -1,0 +1,3 @@
+void f(int a, int a); // error 41
+
+void main() { }

@@ -1,0 +1,5 @@
+void f(int a) { }
+
+void main() {
+    a = 1; // error 40
+}

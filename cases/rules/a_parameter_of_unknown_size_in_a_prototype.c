@@ -1,0 +1,4 @@
+struct A;
+void f(A a); // error 47
+
+void main() { }

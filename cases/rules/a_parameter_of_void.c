@@ -1,0 +1,3 @@
+void f(void a) { } // error 30
+
+void main() { }

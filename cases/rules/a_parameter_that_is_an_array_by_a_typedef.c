@@ -1,0 +1,4 @@
+typedef int[3] T;
+void f(T a) { } // error 42
+
+void main() { }

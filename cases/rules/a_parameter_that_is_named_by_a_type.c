@@ -1,0 +1,4 @@
+typedef int T;
+void f(bool T) { } // error 30
+
+void main() { }

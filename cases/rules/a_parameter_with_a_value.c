@@ -1,0 +1,3 @@
+void f(int a = 1) { } // error 30
+
+void main() { }

@@ -1,0 +1,3 @@
+int f(int); // error 30
+
+void main() { }

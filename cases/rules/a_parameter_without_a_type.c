@@ -1,0 +1,3 @@
+void f(a) { } // error 30
+
+void main() { }

@@ -1,0 +1,5 @@
+void main() {
+    int n;
+    int* p;
+    n = p; // error 42
+}

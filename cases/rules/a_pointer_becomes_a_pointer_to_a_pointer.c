@@ -1,0 +1,5 @@
+void main() {
+    int** pp;
+    int* p;
+    pp = p; // error 42
+}

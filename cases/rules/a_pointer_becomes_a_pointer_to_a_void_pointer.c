@@ -1,0 +1,5 @@
+void main() {
+    void** ww;
+    int* p;
+    ww = p; // error 42
+}

@@ -1,0 +1,5 @@
+void main() {
+    bool b;
+    int* p;
+    b = p; // error 42
+}

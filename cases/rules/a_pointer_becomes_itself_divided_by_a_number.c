@@ -1,0 +1,4 @@
+void main() {
+    int* p;
+    p /= 1; // error 42
+}

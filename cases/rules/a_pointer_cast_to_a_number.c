@@ -1,0 +1,4 @@
+void main() {
+    int* p;
+    (int) p; // error 42
+}

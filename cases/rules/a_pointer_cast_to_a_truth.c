@@ -1,0 +1,4 @@
+void main() {
+    int* p;
+    (bool) p; // error 42
+}

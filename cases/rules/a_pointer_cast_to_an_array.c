@@ -1,0 +1,4 @@
+void main() {
+    int* p;
+    (int[2]) p; // error 42
+}

@@ -1,0 +1,6 @@
+enum E { A };
+
+void main() {
+    int* p;
+    (E) p; // error 42
+}

@@ -1,0 +1,5 @@
+void main() {
+    int* p;
+    int** q;
+    p == q; // error 42
+}

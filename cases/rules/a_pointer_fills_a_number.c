@@ -1,0 +1,4 @@
+void main() {
+    int* p;
+    int a = p; // error 42
+}

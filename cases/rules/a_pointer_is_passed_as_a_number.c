@@ -1,0 +1,6 @@
+void take(int a) { }
+
+void main() {
+    int* p;
+    take(p); // error 42
+}

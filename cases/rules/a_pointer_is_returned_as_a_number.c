@@ -1,0 +1,6 @@
+int give() {
+    int* p;
+    return p; // error 42
+}
+
+void main() { }

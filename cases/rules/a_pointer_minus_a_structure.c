@@ -1,0 +1,7 @@
+struct S { int a; };
+
+void main() {
+    S s;
+    S* p;
+    p - s; // error 42
+}

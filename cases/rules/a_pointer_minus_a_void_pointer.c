@@ -1,0 +1,5 @@
+void main() {
+    int* p;
+    void* q;
+    p - q; // error 42
+}

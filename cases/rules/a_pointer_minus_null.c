@@ -1,0 +1,4 @@
+void main() {
+    int* p;
+    p - NULL; // error 42
+}

@@ -1,0 +1,4 @@
+void main() {
+    int* p, q;
+    p + q; // error 42
+}

@@ -1,0 +1,4 @@
+void main() {
+    int* p;
+    p >> p; // error 42
+}

@@ -1,0 +1,5 @@
+void main() {
+    int* p;
+    int** pp;
+    p = pp; // error 42
+}

@@ -1,0 +1,5 @@
+void main() {
+    void** ww;
+    int** pp;
+    ww = pp; // error 42
+}

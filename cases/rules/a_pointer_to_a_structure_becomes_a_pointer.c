@@ -1,0 +1,7 @@
+struct S { int a; };
+
+void main() {
+    int* p;
+    S* sp;
+    p = sp; // error 42
+}

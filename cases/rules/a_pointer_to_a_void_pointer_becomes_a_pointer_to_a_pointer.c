@@ -1,0 +1,5 @@
+void main() {
+    int** pp;
+    void** ww;
+    pp = ww; // error 42
+}

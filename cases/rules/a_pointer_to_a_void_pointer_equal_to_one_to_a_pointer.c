@@ -1,0 +1,5 @@
+void main() {
+    void** p;
+    int** q;
+    p == q; // error 42
+}

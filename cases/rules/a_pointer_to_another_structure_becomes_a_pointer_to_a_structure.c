@@ -1,0 +1,8 @@
+struct S { int a; };
+struct T { int a; };
+
+void main() {
+    S* sp;
+    T* tp;
+    sp = tp; // error 42
+}

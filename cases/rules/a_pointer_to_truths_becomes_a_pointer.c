@@ -1,0 +1,5 @@
+void main() {
+    int* p;
+    bool* q;
+    p = q; // error 42
+}

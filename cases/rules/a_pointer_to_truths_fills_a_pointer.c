@@ -1,0 +1,4 @@
+void main() {
+    bool* q;
+    int* a = q; // error 42
+}

@@ -1,0 +1,6 @@
+struct W { int* a; };
+
+void main() {
+    bool* q;
+    W a = { q }; // error 42
+}

@@ -1,0 +1,6 @@
+void take(int* a) { }
+
+void main() {
+    bool* q;
+    take(q); // error 42
+}

@@ -1,0 +1,6 @@
+int* give() {
+    bool* q;
+    return q; // error 42
+}
+
+void main() { }

@@ -1,0 +1,3 @@
+void main() {
+    int a = TIM_FrameCounter; // error 40
+}

@@ -1,0 +1,3 @@
+void main() {
+    port_out(gpu_clearcolor, 1); // error 45
+}

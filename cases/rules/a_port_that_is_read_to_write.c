@@ -1,0 +1,3 @@
+void main() {
+    port_out(TIM_FrameCounter, 1); // error 45
+}

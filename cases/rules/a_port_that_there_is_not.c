@@ -1,0 +1,3 @@
+void main() {
+    port_out(RNG_Seed, 1); // error 45
+}

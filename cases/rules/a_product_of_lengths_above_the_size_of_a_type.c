@@ -1,0 +1,3 @@
+void main() {
+    int[2048][2049]* a; // error 50
+}

@@ -1,0 +1,5 @@
+int f();
+
+void main() {
+    int a = f; // error 42
+}

@@ -1,0 +1,6 @@
+int f() {
+    return 1;
+}
+bool f(); // error 42
+
+void main() { }

@@ -1,0 +1,3 @@
+void halt(); // error 41
+
+void main() { }

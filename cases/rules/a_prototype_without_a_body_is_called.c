@@ -1,0 +1,5 @@
+int f(int a);
+
+void main() {
+    f(1); // error 44
+}

@@ -1,0 +1,6 @@
+void f();
+void g() {
+    f(); // error 44
+}
+
+void main() { }

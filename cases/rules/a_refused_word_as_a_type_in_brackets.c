@@ -1,0 +1,3 @@
+void main() {
+    int a = sizeof(char); // error 32
+}

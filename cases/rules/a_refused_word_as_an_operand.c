@@ -1,0 +1,3 @@
+void main() {
+    int a = 1 + signed; // error 32
+}

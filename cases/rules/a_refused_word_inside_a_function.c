@@ -1,0 +1,3 @@
+void main() {
+    goto end; // error 32
+}

@@ -1,0 +1,5 @@
+#define real float
+
+void main() {
+    real f; // error 32
+}

@@ -1,0 +1,5 @@
+void f() {
+    return 1; // error 42
+}
+
+void main() { }

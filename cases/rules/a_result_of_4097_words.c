@@ -1,0 +1,6 @@
+struct Big { int[4097] a; };
+Big f() { // error 50
+    return;
+}
+
+void main() { }

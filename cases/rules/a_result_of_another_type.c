@@ -1,0 +1,5 @@
+int f() {
+    return NULL; // error 42
+}
+
+void main() { }

@@ -1,0 +1,3 @@
+void main() {
+    return 0; // error 42
+}

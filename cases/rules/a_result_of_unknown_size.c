@@ -1,0 +1,6 @@
+struct A;
+A f(A* a) { // error 47
+    return;
+}
+
+void main() { }

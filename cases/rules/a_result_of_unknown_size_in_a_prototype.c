@@ -1,0 +1,4 @@
+struct A;
+A f(); // error 47
+
+void main() { }

@@ -1,0 +1,5 @@
+int f() {
+    return halt(); // error 42
+}
+
+void main() { }

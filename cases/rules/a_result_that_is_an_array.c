@@ -1,0 +1,5 @@
+int[3] f() { // error 42
+    return;
+}
+
+void main() { }

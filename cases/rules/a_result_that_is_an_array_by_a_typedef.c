@@ -1,0 +1,4 @@
+typedef int[3] T;
+T f(); // error 42
+
+void main() { }

@@ -1,0 +1,3 @@
+int[3] f(); // error 42
+
+void main() { }

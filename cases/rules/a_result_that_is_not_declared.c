@@ -1,0 +1,5 @@
+int f() {
+    return x; // error 40
+}
+
+void main() { }

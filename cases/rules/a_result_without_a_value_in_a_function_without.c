@@ -1,0 +1,5 @@
+void f() {
+    return f(); // error 42
+}
+
+void main() { }

@@ -1,0 +1,6 @@
+#ifdef A
+#else
+#else // error 20
+#endif
+
+void main() { }

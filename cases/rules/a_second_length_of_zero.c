@@ -1,0 +1,3 @@
+void main() {
+    int[2][0] a; // error 42
+}

@@ -1,0 +1,4 @@
+int f();
+bool f(); // error 42
+
+void main() { }

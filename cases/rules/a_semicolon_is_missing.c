@@ -1,0 +1,4 @@
+void main() {
+    int a
+    int b; // error 30
+}

@@ -1,0 +1,3 @@
+// error 46
+
+/* The fault stands at line 1. */

@@ -1,0 +1,3 @@
+void main() {
+    int a;
+    a = 1 + // error 30

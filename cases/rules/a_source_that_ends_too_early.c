@@ -1,0 +1,3 @@
+void main() { }
+
+int a // error 30

@@ -1,0 +1,6 @@
+struct A;
+
+void main() {
+    A* p = NULL;
+    p--; // error 47
+}

@@ -1,0 +1,4 @@
+void main() {
+    void* p;
+    --p; // error 42
+}

@@ -1,0 +1,7 @@
+int f() {
+    return 1;
+}
+
+void main() {
+    f()++; // error 43
+}

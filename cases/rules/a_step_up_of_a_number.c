@@ -1,0 +1,3 @@
+void main() {
+    ++1; // error 43
+}

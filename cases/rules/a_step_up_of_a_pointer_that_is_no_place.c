@@ -1,0 +1,7 @@
+int* f() {
+    return NULL;
+}
+
+void main() {
+    ++f(); // error 43
+}

@@ -1,0 +1,7 @@
+struct S { int a; };
+
+void main() {
+    int n;
+    S s;
+    n = s; // error 42
+}

@@ -1,0 +1,7 @@
+struct S { int a; };
+
+void main() {
+    bool b;
+    S s;
+    b = s; // error 42
+}

@@ -1,0 +1,7 @@
+struct S { int a; };
+
+void main() {
+    void* w;
+    S s;
+    w = s; // error 42
+}

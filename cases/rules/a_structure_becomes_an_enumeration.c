@@ -1,0 +1,8 @@
+enum E { A };
+struct S { int a; };
+
+void main() {
+    E e;
+    S s;
+    e = s; // error 42
+}

@@ -1,0 +1,6 @@
+struct S { int a; };
+
+void main() {
+    S s;
+    s /= 1; // error 42
+}

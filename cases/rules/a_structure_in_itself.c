@@ -1,0 +1,6 @@
+struct S {
+    int a;
+    S b; // error 47
+};
+
+void main() { }

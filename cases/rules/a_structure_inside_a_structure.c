@@ -1,0 +1,3 @@
+struct S { struct T { int a; } t; }; // error 30
+
+void main() { }

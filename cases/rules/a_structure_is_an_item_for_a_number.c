@@ -1,0 +1,7 @@
+struct S { int a; };
+struct W { int a; };
+
+void main() {
+    S s;
+    W a = { s }; // error 42
+}

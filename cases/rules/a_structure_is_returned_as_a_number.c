@@ -1,0 +1,7 @@
+struct S { int a; };
+int give() {
+    S s;
+    return s; // error 42
+}
+
+void main() { }

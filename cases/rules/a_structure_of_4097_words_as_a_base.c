@@ -1,0 +1,6 @@
+struct Big { int[4097] a; };
+
+void main() {
+    Big a;
+    a[0]; // error 50
+}

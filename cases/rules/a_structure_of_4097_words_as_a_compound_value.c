@@ -1,0 +1,7 @@
+struct Big { int[4097] a; };
+
+void main() {
+    Big a;
+    int b;
+    b += a; // error 50
+}

@@ -1,0 +1,3 @@
+struct halt { int a; }; // error 41
+
+void main() { }

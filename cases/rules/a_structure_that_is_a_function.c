@@ -1,0 +1,4 @@
+void S();
+struct S { int a; }; // error 41
+
+void main() { }

@@ -1,0 +1,4 @@
+int S;
+struct S { int a; }; // error 41
+
+void main() { }

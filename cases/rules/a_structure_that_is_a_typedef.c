@@ -1,0 +1,4 @@
+typedef int S;
+struct S { int a; }; // error 41
+
+void main() { }

@@ -1,0 +1,4 @@
+union S { int a; };
+struct S { int a; }; // error 41
+
+void main() { }

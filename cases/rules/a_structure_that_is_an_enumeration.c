@@ -1,0 +1,4 @@
+enum S { A };
+struct S { int a; }; // error 41
+
+void main() { }

@@ -1,0 +1,4 @@
+enum E { S };
+struct S { int a; }; // error 41
+
+void main() { }

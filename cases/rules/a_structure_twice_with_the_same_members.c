@@ -1,0 +1,4 @@
+struct S { int a; };
+struct S { int a; }; // error 41
+
+void main() { }

@@ -1,0 +1,3 @@
+struct { int a; } s; // error 30
+
+void main() { }

@@ -1,0 +1,4 @@
+struct S { int a; }
+int b; // error 30
+
+void main() { }

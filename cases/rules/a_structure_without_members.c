@@ -1,0 +1,3 @@
+struct S { }; // error 30
+
+void main() { }

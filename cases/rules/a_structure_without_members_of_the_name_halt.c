@@ -1,0 +1,3 @@
+struct halt; // error 41
+
+void main() { }

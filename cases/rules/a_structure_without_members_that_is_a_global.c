@@ -1,0 +1,4 @@
+int S;
+struct S; // error 41
+
+void main() { }

@@ -1,0 +1,4 @@
+void main() {
+    int* p;
+    switch (p) { } // error 42
+}

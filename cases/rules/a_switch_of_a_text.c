@@ -1,0 +1,3 @@
+void main() {
+    switch ("a") { } // error 42
+}

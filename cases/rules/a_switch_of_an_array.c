@@ -1,0 +1,4 @@
+void main() {
+    int[2] v;
+    switch (v) { } // error 42
+}

@@ -1,0 +1,3 @@
+void main() {
+    switch (halt()) { } // error 42
+}

@@ -1,0 +1,3 @@
+void main() {
+    switch (NULL) { } // error 42
+}

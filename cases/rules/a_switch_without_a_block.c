@@ -1,0 +1,3 @@
+void main() {
+    switch (1) ; // error 30
+}

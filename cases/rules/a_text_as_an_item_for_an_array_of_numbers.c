@@ -1,0 +1,3 @@
+void main() {
+    int[2] a = { "a", 1 }; // error 42
+}

@@ -1,0 +1,4 @@
+void main() {
+    int n;
+    n = "a"; // error 42
+}

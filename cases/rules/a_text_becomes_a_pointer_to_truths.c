@@ -1,0 +1,4 @@
+void main() {
+    bool* q;
+    q = "a"; // error 42
+}

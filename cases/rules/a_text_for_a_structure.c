@@ -1,0 +1,5 @@
+struct S { int[4] a; };
+
+void main() {
+    S a = "abc"; // error 42
+}

@@ -1,0 +1,5 @@
+enum E { A };
+
+void main() {
+    E[4] a = "abc"; // error 42
+}

@@ -1,0 +1,3 @@
+void main() {
+    bool[4] a = "abc"; // error 42
+}

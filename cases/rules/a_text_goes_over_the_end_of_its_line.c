@@ -1,0 +1,4 @@
+int* a = "abc; // error 11
+";
+
+void main() { }

@@ -1,0 +1,3 @@
+void main() {
+    "abc" = "abc"; // error 42
+}

@@ -1,0 +1,3 @@
+void main() {
+    int[2] a = "abc"; // error 42
+}

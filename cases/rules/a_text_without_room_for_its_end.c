@@ -1,0 +1,3 @@
+void main() {
+    int[3] a = "abc"; // error 42
+}

@@ -1,0 +1,5 @@
+void main() {
+    int* p;
+    bool b;
+    p = b; // error 42
+}

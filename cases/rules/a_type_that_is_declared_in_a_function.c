@@ -1,0 +1,3 @@
+void main() {
+    typedef int T; // error 30
+}

@@ -1,0 +1,3 @@
+void main() {
+    S s; // error 30
+}

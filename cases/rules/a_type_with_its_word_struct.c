@@ -1,0 +1,5 @@
+struct S { int a; };
+
+void main() {
+    struct S s; // error 30
+}

@@ -1,0 +1,3 @@
+typedef S T; // error 30
+
+void main() { }

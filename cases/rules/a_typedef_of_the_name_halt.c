@@ -1,0 +1,3 @@
+typedef int halt; // error 41
+
+void main() { }

@@ -1,0 +1,3 @@
+typedef int T, U; // error 30
+
+void main() { }

@@ -1,0 +1,3 @@
+typedef void T; // error 30
+
+void main() { }

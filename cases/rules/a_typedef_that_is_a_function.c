@@ -1,0 +1,4 @@
+void T();
+typedef int T; // error 41
+
+void main() { }

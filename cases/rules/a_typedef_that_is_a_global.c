@@ -1,0 +1,4 @@
+int T;
+typedef int T; // error 41
+
+void main() { }

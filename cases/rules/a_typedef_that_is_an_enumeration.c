@@ -1,0 +1,4 @@
+enum T { A };
+typedef int T; // error 41
+
+void main() { }

@@ -1,0 +1,4 @@
+enum E { T };
+typedef int T; // error 41
+
+void main() { }

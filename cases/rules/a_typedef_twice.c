@@ -1,0 +1,4 @@
+typedef int T;
+typedef int T; // error 41
+
+void main() { }

@@ -1,0 +1,3 @@
+typedef int; // error 30
+
+void main() { }

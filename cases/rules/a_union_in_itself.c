@@ -1,0 +1,3 @@
+union U { U a; }; // error 47
+
+void main() { }

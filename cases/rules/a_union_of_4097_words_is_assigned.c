@@ -1,0 +1,6 @@
+union Big { int a; int[4097] b; };
+
+void main() {
+    Big a, b;
+    a = b; // error 50
+}

@@ -1,0 +1,5 @@
+union U { int a; int* b; };
+
+void main() {
+    U a = { NULL }; // error 42
+}

@@ -1,0 +1,4 @@
+struct S { int a; };
+union S { int a; }; // error 41
+
+void main() { }

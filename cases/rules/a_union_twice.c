@@ -1,0 +1,4 @@
+union S { int a; };
+union S { int b; }; // error 41
+
+void main() { }

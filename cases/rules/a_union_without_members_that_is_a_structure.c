@@ -1,0 +1,4 @@
+struct S;
+union S; // error 41
+
+void main() { }

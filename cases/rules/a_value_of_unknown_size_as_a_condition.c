@@ -1,0 +1,6 @@
+struct A;
+
+void main() {
+    A* p = NULL;
+    if (*p) ; // error 47
+}

@@ -1,0 +1,8 @@
+struct A;
+
+void main() {
+    A* p = NULL;
+    ( // error 47
+        *p
+    );
+}

@@ -1,0 +1,3 @@
+void main() {
+    int[1000001] a; // error 50
+}

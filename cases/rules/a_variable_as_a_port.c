@@ -1,0 +1,4 @@
+void main() {
+    int a;
+    port_out(a, 1); // error 45
+}

@@ -1,0 +1,5 @@
+void main() {
+    if (1)
+        int a;
+    int a; // error 41
+}

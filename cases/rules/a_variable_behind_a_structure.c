@@ -1,0 +1,3 @@
+struct S { int a; } s; // error 30
+
+void main() { }

@@ -1,0 +1,6 @@
+void main() {
+    {
+        int a;
+    }
+    a = 1; // error 40
+}

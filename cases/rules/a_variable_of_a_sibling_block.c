@@ -1,0 +1,8 @@
+void main() {
+    {
+        int a;
+    }
+    {
+        a = 1; // error 40
+    }
+}

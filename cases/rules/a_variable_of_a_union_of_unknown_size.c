@@ -1,0 +1,5 @@
+union A;
+
+void main() {
+    A a; // error 47
+}

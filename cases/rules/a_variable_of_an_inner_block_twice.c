@@ -1,0 +1,6 @@
+void main() {
+    {
+        int a;
+        int a; // error 41
+    }
+}

@@ -1,0 +1,7 @@
+void f() {
+    int a;
+}
+
+void main() {
+    a = 1; // error 40
+}

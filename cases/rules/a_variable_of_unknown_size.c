@@ -1,0 +1,5 @@
+struct A;
+
+void main() {
+    A a; // error 47
+}

@@ -1,0 +1,3 @@
+void main() {
+    void a; // error 30
+}

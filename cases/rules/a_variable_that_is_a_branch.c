@@ -1,0 +1,5 @@
+void main() {
+    int a;
+    if (1)
+        int a; // error 41
+}

@@ -1,0 +1,6 @@
+void main() {
+    int a;
+    do
+        int a; // error 41
+    while (0);
+}

@@ -1,0 +1,4 @@
+void main() {
+    for (int a; ; )
+        int a; // error 41
+}

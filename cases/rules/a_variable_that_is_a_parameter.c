@@ -1,0 +1,5 @@
+void f(int a) {
+    int a; // error 41
+}
+
+void main() { }

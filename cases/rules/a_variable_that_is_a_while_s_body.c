@@ -1,0 +1,5 @@
+void main() {
+    int a;
+    while (0)
+        int a; // error 41
+}

@@ -1,0 +1,4 @@
+void main() {
+    x = 1; // error 40
+    int x;
+}

@@ -1,0 +1,3 @@
+void main() {
+    int a = b, b = 1; // error 40
+}

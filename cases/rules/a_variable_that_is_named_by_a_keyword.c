@@ -1,0 +1,3 @@
+void main() {
+    int while; // error 30
+}

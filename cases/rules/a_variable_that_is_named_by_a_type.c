@@ -1,0 +1,5 @@
+struct S { int a; };
+
+void main() {
+    int S; // error 30
+}

@@ -1,0 +1,3 @@
+void main() {
+    int a, a; // error 41
+}

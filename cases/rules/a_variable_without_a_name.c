@@ -1,0 +1,3 @@
+void main() {
+    int; // error 30
+}

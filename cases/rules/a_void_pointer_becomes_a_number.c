@@ -1,0 +1,5 @@
+void main() {
+    int n;
+    void* w;
+    n = w; // error 42
+}

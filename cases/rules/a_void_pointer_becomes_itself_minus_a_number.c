@@ -1,0 +1,4 @@
+void main() {
+    void* p;
+    p -= 1; // error 42
+}

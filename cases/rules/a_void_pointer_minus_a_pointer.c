@@ -1,0 +1,5 @@
+void main() {
+    int* p;
+    void* q;
+    q - p; // error 42
+}

@@ -1,0 +1,6 @@
+union U { int a; };
+
+void main() {
+    U s;
+    while (s) ; // error 42
+}

@@ -1,0 +1,3 @@
+void main() {
+    while (halt()) ; // error 42
+}

@@ -1,0 +1,3 @@
+void main() {
+    while () ; // error 30
+}

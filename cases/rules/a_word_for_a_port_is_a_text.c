@@ -1,0 +1,3 @@
+void main() {
+    port_out(GPU_ClearColor, "a"); // error 42
+}

@@ -1,0 +1,5 @@
+void f(int a) { }
+
+void main() {
+    f(x); // error 40
+}

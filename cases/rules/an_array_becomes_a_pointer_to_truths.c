@@ -1,0 +1,5 @@
+void main() {
+    bool* q;
+    int[2] v;
+    q = v; // error 42
+}

@@ -1,0 +1,7 @@
+struct S { int a; };
+
+void main() {
+    S s;
+    int[2] v;
+    s = v; // error 42
+}

@@ -1,0 +1,4 @@
+void main() {
+    int[2] v;
+    v = v; // error 42
+}

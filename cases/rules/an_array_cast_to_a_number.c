@@ -1,0 +1,4 @@
+void main() {
+    int[2] v;
+    (int) v; // error 42
+}

@@ -1,0 +1,4 @@
+void main() {
+    int* b = NULL;
+    int[2] a = b; // error 42
+}

@@ -1,0 +1,3 @@
+void main() {
+    int[4] a = &"abc"; // error 42
+}

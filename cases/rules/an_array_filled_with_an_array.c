@@ -1,0 +1,4 @@
+void main() {
+    int[2] b;
+    int[2] a = b; // error 42
+}

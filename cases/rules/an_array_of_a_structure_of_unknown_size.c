@@ -1,0 +1,5 @@
+struct A;
+
+void main() {
+    A[2]* a; // error 47
+}

@@ -1,0 +1,4 @@
+void main() {
+    int[2][2] vv;
+    int* a = vv; // error 42
+}

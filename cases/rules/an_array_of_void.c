@@ -1,0 +1,3 @@
+void main() {
+    void[3] a; // error 30
+}

@@ -1,0 +1,4 @@
+void main() {
+    int b;
+    b->a; // error 42
+}

@@ -1,0 +1,4 @@
+void main() {
+    int* p;
+    p->a; // error 42
+}

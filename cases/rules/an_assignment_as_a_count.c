@@ -1,0 +1,4 @@
+void main() {
+    int b;
+    int[b = 3] a; // error 30
+}

@@ -1,0 +1,7 @@
+int f() {
+    return 1;
+}
+
+void main() {
+    f() = 1; // error 43
+}

@@ -1,0 +1,4 @@
+void main() {
+    int a;
+    (int) a = 1; // error 43
+}

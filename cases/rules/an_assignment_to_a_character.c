@@ -1,0 +1,3 @@
+void main() {
+    'b' = 1; // error 43
+}

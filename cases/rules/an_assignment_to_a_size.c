@@ -1,0 +1,3 @@
+void main() {
+    sizeof(int) = 1; // error 43
+}

@@ -1,0 +1,4 @@
+void main() {
+    int a, b;
+    a + b = 1; // error 30
+}

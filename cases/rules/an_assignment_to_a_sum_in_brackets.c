@@ -1,0 +1,4 @@
+void main() {
+    int a;
+    (a + a) = 1; // error 43
+}

@@ -1,0 +1,3 @@
+void main() {
+    true = 1; // error 43
+}

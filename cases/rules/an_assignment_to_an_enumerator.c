@@ -1,0 +1,5 @@
+enum E { A };
+
+void main() {
+    A = 1; // error 43
+}

@@ -1,0 +1,3 @@
+void main() {
+    NULL = NULL; // error 43
+}

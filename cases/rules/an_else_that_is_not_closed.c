@@ -1,0 +1,4 @@
+#ifdef A // error 23
+#else
+
+void main() { }

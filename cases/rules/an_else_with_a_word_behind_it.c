@@ -1,0 +1,5 @@
+#ifndef A
+#else A // error 20
+#endif
+
+void main() { }

@@ -1,0 +1,3 @@
+void main() {
+    else ; // error 30
+}

@@ -1,0 +1,3 @@
+#else // error 20
+
+void main() { }

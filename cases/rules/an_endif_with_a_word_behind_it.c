@@ -1,0 +1,5 @@
+#ifdef A
+#else
+#endif A // error 20
+
+void main() { }

@@ -1,0 +1,3 @@
+#endif // error 20
+
+void main() { }

@@ -1,0 +1,3 @@
+enum E { A = E() }; // error 41
+
+void main() { }

@@ -1,0 +1,3 @@
+enum halt { A }; // error 41
+
+void main() { }

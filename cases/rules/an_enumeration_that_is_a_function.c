@@ -1,0 +1,4 @@
+void E();
+enum E { A }; // error 41
+
+void main() { }

@@ -1,0 +1,4 @@
+int E;
+enum E { A }; // error 41
+
+void main() { }

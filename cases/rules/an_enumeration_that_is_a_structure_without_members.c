@@ -1,0 +1,4 @@
+struct E;
+enum E { A }; // error 41
+
+void main() { }

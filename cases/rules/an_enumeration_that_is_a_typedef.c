@@ -1,0 +1,4 @@
+typedef int E;
+enum E { A }; // error 41
+
+void main() { }

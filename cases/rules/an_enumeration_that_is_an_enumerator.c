@@ -1,0 +1,4 @@
+enum E { F };
+enum F { A }; // error 41
+
+void main() { }

@@ -1,0 +1,4 @@
+enum E { A };
+enum E { B }; // error 41
+
+void main() { }

@@ -1,0 +1,3 @@
+enum { A }; // error 30
+
+void main() { }

@@ -1,0 +1,3 @@
+enum E { }; // error 30
+
+void main() { }

@@ -1,0 +1,3 @@
+enum E { A = A }; // error 40
+
+void main() { }

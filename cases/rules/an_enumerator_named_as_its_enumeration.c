@@ -1,0 +1,3 @@
+enum E { E }; // error 41
+
+void main() { }

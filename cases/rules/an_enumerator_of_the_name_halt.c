@@ -1,0 +1,3 @@
+enum E { halt }; // error 41
+
+void main() { }

@@ -1,0 +1,4 @@
+enum E { A };
+enum F { A }; // error 41
+
+void main() { }

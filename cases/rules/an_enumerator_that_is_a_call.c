@@ -1,0 +1,6 @@
+int f() {
+    return 3;
+}
+enum X { A = f() }; // error 48
+
+void main() { }

@@ -1,0 +1,3 @@
+enum X { A = (int) 3 }; // error 48
+
+void main() { }

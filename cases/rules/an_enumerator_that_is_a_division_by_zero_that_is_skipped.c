@@ -1,0 +1,3 @@
+enum X { A = 0 && 1 / 0 }; // error 48
+
+void main() { }

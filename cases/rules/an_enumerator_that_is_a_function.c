@@ -1,0 +1,4 @@
+void A();
+enum E { A }; // error 41
+
+void main() { }

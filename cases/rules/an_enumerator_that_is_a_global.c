@@ -1,0 +1,4 @@
+int A;
+enum E { A }; // error 41
+
+void main() { }

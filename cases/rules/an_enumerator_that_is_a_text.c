@@ -1,0 +1,3 @@
+enum X { A = "abc" }; // error 48
+
+void main() { }

@@ -1,0 +1,4 @@
+typedef int A;
+enum E { A }; // error 30
+
+void main() { }

@@ -1,0 +1,3 @@
+enum X { A = NULL }; // error 48
+
+void main() { }

@@ -1,0 +1,3 @@
+enum E { A = B, B }; // error 40
+
+void main() { }

@@ -1,0 +1,6 @@
+enum E { // error 41
+    A,
+    A
+};
+
+void main() { }

@@ -1,0 +1,4 @@
+int a;
+enum E { A = a = 1 }; // error 30
+
+void main() { }

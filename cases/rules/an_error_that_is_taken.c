@@ -1,0 +1,3 @@
+#error this is not to be read // error 24
+
+void main() { }

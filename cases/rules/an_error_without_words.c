@@ -1,0 +1,3 @@
+#error // error 24
+
+void main() { }

@@ -1,0 +1,3 @@
+int* a = "\q"; // error 11
+
+void main() { }

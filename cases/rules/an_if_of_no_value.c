@@ -1,0 +1,3 @@
+void main() {
+    if (halt()) ; // error 42
+}

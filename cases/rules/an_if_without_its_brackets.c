@@ -1,0 +1,3 @@
+void main() {
+    if 1 ; // error 30
+}

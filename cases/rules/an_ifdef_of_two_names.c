@@ -1,0 +1,4 @@
+#ifdef A B // error 20
+#endif
+
+void main() { }

@@ -1,0 +1,3 @@
+#ifdef A // error 23
+
+void main() { }

@@ -1,0 +1,4 @@
+#ifdef // error 20
+#endif
+
+void main() { }

@@ -1,0 +1,4 @@
+#ifndef true // error 20
+#endif
+
+void main() { }

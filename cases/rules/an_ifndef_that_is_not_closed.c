@@ -1,0 +1,3 @@
+#ifndef A // error 23
+
+void main() { }

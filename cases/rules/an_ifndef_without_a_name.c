@@ -1,0 +1,4 @@
+#ifndef // error 20
+#endif
+
+void main() { }

@@ -1,0 +1,3 @@
+#include <video.h> // error 20
+
+void main() { }

@@ -1,0 +1,3 @@
+#include "gone.h" // error 21
+
+void main() { }

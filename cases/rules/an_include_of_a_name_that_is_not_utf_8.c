@@ -1,0 +1,3 @@
+#include "\xff.h" // error 20
+
+void main() { }

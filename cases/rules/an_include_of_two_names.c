@@ -1,0 +1,3 @@
+#include "video.h" "input.h" // error 20
+
+void main() { }

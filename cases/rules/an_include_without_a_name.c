@@ -1,0 +1,3 @@
+#include // error 20
+
+void main() { }

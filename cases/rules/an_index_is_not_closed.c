@@ -1,0 +1,4 @@
+void main() {
+    int[2] a;
+    a[0 = 1; // error 30
+}

@@ -1,0 +1,4 @@
+void main() {
+    int a;
+    a[0]; // error 42
+}

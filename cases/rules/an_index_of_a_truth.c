@@ -1,0 +1,4 @@
+void main() {
+    bool a;
+    a[0]; // error 42
+}

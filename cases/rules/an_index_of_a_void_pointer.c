@@ -1,0 +1,4 @@
+void main() {
+    void* p;
+    p[0]; // error 42
+}

@@ -1,0 +1,3 @@
+void main() {
+    halt()[0]; // error 42
+}

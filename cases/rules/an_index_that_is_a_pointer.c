@@ -1,0 +1,5 @@
+void main() {
+    int[2] v;
+    int* p;
+    v[p]; // error 42
+}

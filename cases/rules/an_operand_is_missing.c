@@ -1,0 +1,3 @@
+void main() {
+    int a = 1 + ; // error 30
+}

@@ -1,0 +1,3 @@
+void main() {
+    int a = sizeof(int[x]); // error 40
+}

@@ -1,0 +1,3 @@
+void main() {
+    x[0]; // error 40
+}

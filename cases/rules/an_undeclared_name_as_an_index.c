@@ -1,0 +1,4 @@
+void main() {
+    int[2] a;
+    a[x]; // error 40
+}

@@ -1,0 +1,3 @@
+void main() {
+    &x; // error 40
+}

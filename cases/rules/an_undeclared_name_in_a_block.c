@@ -1,0 +1,5 @@
+void main() {
+    {
+        x; // error 40
+    }
+}

@@ -1,0 +1,4 @@
+void main() {
+    while (1)
+        x; // error 40
+}

@@ -1,0 +1,3 @@
+void main() {
+    (int) x; // error 40
+}

@@ -1,0 +1,3 @@
+void main() {
+    do ; while (x); // error 40
+}

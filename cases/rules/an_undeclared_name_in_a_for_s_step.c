@@ -1,0 +1,3 @@
+void main() {
+    for (; 1; x) ; // error 40
+}

@@ -1,0 +1,3 @@
+void main() {
+    return x; // error 40
+}

@@ -1,0 +1,3 @@
+void main() {
+    switch (x) { } // error 40
+}

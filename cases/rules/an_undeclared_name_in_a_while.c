@@ -1,0 +1,3 @@
+void main() {
+    while (x) ; // error 40
+}

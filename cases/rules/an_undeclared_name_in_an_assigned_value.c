@@ -1,0 +1,4 @@
+void main() {
+    int a;
+    a = x; // error 40
+}

@@ -1,0 +1,3 @@
+void main() {
+    if (x) ; // error 40
+}

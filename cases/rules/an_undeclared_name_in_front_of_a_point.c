@@ -1,0 +1,3 @@
+void main() {
+    x.a; // error 40
+}

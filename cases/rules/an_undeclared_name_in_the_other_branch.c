@@ -1,0 +1,5 @@
+void main() {
+    if (1) ;
+    else
+        x; // error 40
+}

@@ -1,0 +1,5 @@
+#define TWICE x + x
+
+void main() {
+    int a = TWICE; // error 40
+}

@@ -1,0 +1,3 @@
+#undef NULL // error 20
+
+void main() { }

@@ -1,0 +1,3 @@
+#undef A B // error 20
+
+void main() { }

@@ -1,0 +1,3 @@
+#undef // error 20
+
+void main() { }

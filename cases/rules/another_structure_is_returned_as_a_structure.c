@@ -1,0 +1,8 @@
+struct S { int a; };
+struct T { int a; };
+S give() {
+    T t;
+    return t; // error 42
+}
+
+void main() { }

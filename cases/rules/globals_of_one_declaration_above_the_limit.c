@@ -1,0 +1,4 @@
+int[1572865] a,
+    b; // error 50
+
+void main() { }

@@ -1,0 +1,4 @@
+int a;
+int* p = a; // error 42
+
+void main() { }

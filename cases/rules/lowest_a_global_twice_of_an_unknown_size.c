@@ -1,0 +1,5 @@
+struct A;
+int a;
+A a; // error 41
+
+void main() { }

@@ -1,0 +1,4 @@
+void main() {
+    int a;
+    int[1000001] a; // error 41
+}

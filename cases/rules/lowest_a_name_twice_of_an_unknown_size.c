@@ -1,0 +1,6 @@
+struct A;
+
+void main() {
+    int a;
+    A a; // error 41
+}

@@ -1,0 +1,8 @@
+struct A;
+A* f() {
+    return NULL;
+}
+
+void main() {
+    f()++; // error 43
+}

@@ -1,0 +1,3 @@
+void main() {
+    port_out(Nothing, NULL); // error 42
+}

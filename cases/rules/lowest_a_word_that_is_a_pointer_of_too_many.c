@@ -1,0 +1,3 @@
+void main() {
+    port_out(Nothing, NULL, 1); // error 42
+}

@@ -1,0 +1,5 @@
+void f(int a, int b) { }
+
+void main() {
+    f(NULL); // error 42
+}

@@ -1,0 +1,3 @@
+void main() {
+    port_in(Nothing, 1); // error 44
+}

@@ -1,0 +1,5 @@
+struct A;
+int f();
+A f(); // error 42
+
+void main() { }

@@ -1,0 +1,5 @@
+struct A;
+
+void main() {
+    A[-1]* a; // error 47
+}

@@ -1,0 +1,3 @@
+void main() {
+    -halt(); // error 42
+}

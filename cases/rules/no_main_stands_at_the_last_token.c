@@ -1,0 +1,8 @@
+void f() {
+}
+
+struct S {
+    int a;
+}
+; // error 46
+// behind it

@@ -1,0 +1,3 @@
+void main() {
+    halt() <= 1; // error 42
+}

@@ -1,0 +1,4 @@
+void main() {
+    int n;
+    n = halt(); // error 42
+}

@@ -1,0 +1,4 @@
+void main() {
+    bool b;
+    b = halt(); // error 42
+}

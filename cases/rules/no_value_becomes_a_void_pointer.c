@@ -1,0 +1,4 @@
+void main() {
+    void* w;
+    w = halt(); // error 42
+}

@@ -1,0 +1,3 @@
+void main() {
+    (int) halt(); // error 42
+}

@@ -1,0 +1,3 @@
+void main() {
+    (void*) halt(); // error 42
+}

@@ -1,0 +1,5 @@
+struct W { int a; };
+
+void main() {
+    W a = { halt() }; // error 42
+}

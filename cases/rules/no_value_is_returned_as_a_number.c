@@ -1,0 +1,5 @@
+int give() {
+    return halt(); // error 42
+}
+
+void main() { }

@@ -1,0 +1,6 @@
+union U { int a; };
+
+void main() {
+    U u;
+    !u; // error 42
+}

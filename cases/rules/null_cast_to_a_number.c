@@ -1,0 +1,3 @@
+void main() {
+    (int) NULL; // error 42
+}

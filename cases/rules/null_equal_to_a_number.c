@@ -1,0 +1,3 @@
+void main() {
+    NULL == 0; // error 42
+}

@@ -1,0 +1,3 @@
+void main() {
+    bool a = NULL; // error 42
+}

@@ -1,0 +1,5 @@
+struct W { bool a; };
+
+void main() {
+    W a = { NULL }; // error 42
+}

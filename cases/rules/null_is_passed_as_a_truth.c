@@ -1,0 +1,5 @@
+void take(bool a) { }
+
+void main() {
+    take(NULL); // error 42
+}

@@ -1,0 +1,5 @@
+bool give() {
+    return NULL; // error 42
+}
+
+void main() { }

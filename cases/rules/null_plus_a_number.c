@@ -1,0 +1,3 @@
+void main() {
+    NULL + 1; // error 42
+}

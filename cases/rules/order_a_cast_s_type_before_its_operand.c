@@ -1,0 +1,4 @@
+void main() {
+    (int[NULL]*) // error 48
+        y;
+}

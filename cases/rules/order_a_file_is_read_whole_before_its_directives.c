@@ -1,0 +1,5 @@
+#include "gone.h"
+
+void main() { }
+
+int a = 4294967296; // error 13

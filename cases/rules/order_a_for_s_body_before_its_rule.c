@@ -1,0 +1,7 @@
+struct S { int a; };
+
+void main() {
+    S s;
+    for (; s; )
+        y; // error 40
+}

@@ -1,0 +1,5 @@
+void main() {
+    for (;
+        *1; // error 42
+        2 = 3) ;
+}

@@ -1,0 +1,6 @@
+void main() {
+    for (;
+        ;
+        2 = 3) // error 43
+        y;
+}

@@ -1,0 +1,4 @@
+int a;
+int a = a; // error 48
+
+void main() { }

@@ -1,0 +1,6 @@
+void main() {
+    switch (1) {
+        case NULL: // error 48
+            y = 1;
+    }
+}

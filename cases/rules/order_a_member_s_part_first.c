@@ -1,0 +1,3 @@
+void main() {
+    y.a; // error 40
+}

@@ -1,0 +1,4 @@
+void main() {
+    return
+        y; // error 40
+}

@@ -1,0 +1,5 @@
+void main() {
+    switch (NULL) {
+        case NULL: // error 48
+    }
+}

@@ -1,0 +1,5 @@
+void main() {
+    switch (y) { // error 40
+        case NULL:
+    }
+}

@@ -1,0 +1,4 @@
+int T;
+typedef int[NULL] T; // error 48
+
+void main() { }

@@ -1,0 +1,7 @@
+struct S { int a; };
+
+void main() {
+    S s;
+    while (s)
+        1 = 2; // error 43
+}

@@ -1,0 +1,3 @@
+enum E { A, A = y }; // error 40
+
+void main() { }

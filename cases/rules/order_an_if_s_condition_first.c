@@ -1,0 +1,4 @@
+void main() {
+    if (y) // error 40
+        1 = 2;
+}

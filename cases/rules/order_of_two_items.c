@@ -1,0 +1,4 @@
+int a = y; // error 40
+int a;
+
+void main() { }

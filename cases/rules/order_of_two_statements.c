@@ -1,0 +1,4 @@
+void main() {
+    y = 1; // error 40
+    1 = 2;
+}

@@ -1,0 +1,5 @@
+void main() {
+    f(
+        &1 // error 43
+    );
+}

@@ -1,0 +1,4 @@
+void main() {
+    int[0]
+        [-1] a; // error 50
+}

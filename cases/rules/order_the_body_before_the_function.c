@@ -1,0 +1,6 @@
+int f;
+void f() {
+    y; // error 40
+}
+
+void main() { }

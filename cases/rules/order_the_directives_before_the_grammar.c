@@ -1,0 +1,4 @@
+int 1;
+#error // error 24
+
+void main() { }

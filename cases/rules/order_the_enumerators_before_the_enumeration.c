@@ -1,0 +1,5 @@
+int E;
+enum E { A =
+    NULL }; // error 48
+
+void main() { }

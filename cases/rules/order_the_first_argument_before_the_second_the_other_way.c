@@ -1,0 +1,8 @@
+void f(int a, int b) { }
+
+void main() {
+    f(
+        *1, // error 42
+        y
+    );
+}

@@ -1,0 +1,5 @@
+void main() {
+    y = 1;
+}
+
+int 1; // error 30

@@ -1,0 +1,4 @@
+void main() {
+    1
+        [y]; // error 40
+}

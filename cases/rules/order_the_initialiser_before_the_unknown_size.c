@@ -1,0 +1,6 @@
+struct A;
+
+void main() {
+    A a =
+        y; // error 40
+}

@@ -1,0 +1,5 @@
+void main() {
+    int a;
+    int a =
+        y; // error 40
+}

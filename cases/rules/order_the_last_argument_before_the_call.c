@@ -1,0 +1,9 @@
+void f(int a) { }
+
+void main() {
+    f(
+        NULL,
+        2,
+        y // error 40
+    );
+}

@@ -1,0 +1,4 @@
+void main() {
+    y // error 40
+        + *1;
+}

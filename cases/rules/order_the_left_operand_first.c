@@ -1,0 +1,4 @@
+void main() {
+    NULL + NULL + // error 42
+        y;
+}

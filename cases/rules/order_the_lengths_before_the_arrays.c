@@ -1,0 +1,4 @@
+void main() {
+    int[0]
+        [y] a; // error 40
+}

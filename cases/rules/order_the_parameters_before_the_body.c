@@ -1,0 +1,6 @@
+void f(int a,
+    int a) { // error 41
+    y;
+}
+
+void main() { }

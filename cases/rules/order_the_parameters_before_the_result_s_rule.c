@@ -1,0 +1,4 @@
+int[3] f(int a,
+    int a); // error 41
+
+void main() { }

@@ -1,0 +1,4 @@
+void main() {
+    NULL
+        + y; // error 40
+}

@@ -1,0 +1,6 @@
+#error
+int 1;
+
+void main() { }
+
+@ // error 10

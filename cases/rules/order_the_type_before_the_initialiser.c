@@ -1,0 +1,5 @@
+void main() {
+    int[0] // error 42
+        a =
+        y;
+}

@@ -1,0 +1,6 @@
+void main() {
+    port_out(
+        Nothing,
+        y // error 40
+    );
+}

@@ -1,0 +1,3 @@
+void f(int a,) { } // error 30
+
+void main() { }

@@ -1,0 +1,3 @@
+void main() {
+    &sizeof(int); // error 43
+}

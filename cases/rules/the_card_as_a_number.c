@@ -1,0 +1,3 @@
+void main() {
+    int a = card_memory(); // error 42
+}

@@ -1,0 +1,3 @@
+void main() {
+    bool* a = card_memory(); // error 42
+}

@@ -1,0 +1,3 @@
+void main() {
+    card_memory; // error 42
+}

@@ -1,0 +1,3 @@
+void main() {
+    port_in; // error 42
+}

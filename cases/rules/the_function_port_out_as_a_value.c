@@ -1,0 +1,3 @@
+void main() {
+    port_out; // error 42
+}

@@ -1,0 +1,3 @@
+void main() {
+    wait_frame; // error 42
+}

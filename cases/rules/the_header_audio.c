@@ -1,0 +1,3 @@
+#include "audio.h"
+
+void main() { }

@@ -1,0 +1,3 @@
+#include "math.h"
+
+void main() { }

@@ -1,0 +1,3 @@
+#include "memcard.h"
+
+void main() { }

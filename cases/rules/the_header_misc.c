@@ -1,0 +1,3 @@
+#include "misc.h"
+
+void main() { }

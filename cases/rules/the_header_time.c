@@ -1,0 +1,3 @@
+#include "time.h"
+
+void main() { }

@@ -1,0 +1,3 @@
+#include "video.h"
+
+void main() { }

@@ -1,0 +1,4 @@
+#ifndef A
+#ifndef B // error 23
+
+void main() { }

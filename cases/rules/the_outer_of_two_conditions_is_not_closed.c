@@ -1,0 +1,5 @@
+#ifndef A // error 23
+#ifndef B
+#endif
+
+void main() { }

@@ -1,0 +1,3 @@
+void main() {
+    port_out(CAR_Connected, 1); // error 45
+}

@@ -1,0 +1,3 @@
+void main() {
+    port_out(GPU_DrawingAngle, 1); // error 45
+}

@@ -1,0 +1,3 @@
+void main() {
+    port_out(GPU_RemainingPixels, 1); // error 45
+}

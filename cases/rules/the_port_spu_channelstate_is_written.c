@@ -1,0 +1,3 @@
+void main() {
+    port_out(SPU_ChannelState, 1); // error 45
+}

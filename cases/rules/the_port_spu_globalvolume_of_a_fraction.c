@@ -1,0 +1,3 @@
+void main() {
+    port_out(SPU_GlobalVolume, 1); // error 45
+}

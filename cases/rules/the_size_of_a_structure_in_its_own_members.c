@@ -1,0 +1,3 @@
+struct S { int[sizeof(S)] a; }; // error 47
+
+void main() { }

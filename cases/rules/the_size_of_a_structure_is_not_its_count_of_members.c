@@ -1,0 +1,4 @@
+struct Q { int a; int[3] b; };
+int[sizeof(Q) == 2] a; // error 42
+
+void main() { }

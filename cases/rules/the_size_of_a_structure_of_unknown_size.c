@@ -1,0 +1,5 @@
+struct A;
+
+void main() {
+    int a = sizeof(A); // error 47
+}

@@ -1,0 +1,6 @@
+struct A;
+typedef A T;
+
+void main() {
+    int a = sizeof(T); // error 47
+}

@@ -1,0 +1,5 @@
+union A;
+
+void main() {
+    int a = sizeof(A); // error 47
+}

@@ -1,0 +1,3 @@
+void main() {
+    int a = sizeof 1; // error 30
+}

@@ -1,0 +1,3 @@
+asm a; // error 32
+
+void main() { }

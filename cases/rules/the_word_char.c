@@ -1,0 +1,3 @@
+char a; // error 32
+
+void main() { }

@@ -1,0 +1,3 @@
+const a; // error 32
+
+void main() { }

@@ -1,0 +1,3 @@
+double a; // error 32
+
+void main() { }

@@ -1,0 +1,3 @@
+embedded a; // error 32
+
+void main() { }

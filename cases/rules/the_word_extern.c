@@ -1,0 +1,3 @@
+extern a; // error 32
+
+void main() { }

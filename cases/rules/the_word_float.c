@@ -1,0 +1,3 @@
+float a; // error 32
+
+void main() { }

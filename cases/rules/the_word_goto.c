@@ -1,0 +1,3 @@
+goto a; // error 32
+
+void main() { }

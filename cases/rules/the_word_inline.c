@@ -1,0 +1,3 @@
+inline a; // error 32
+
+void main() { }

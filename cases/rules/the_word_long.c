@@ -1,0 +1,3 @@
+long a; // error 32
+
+void main() { }

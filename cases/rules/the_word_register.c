@@ -1,0 +1,3 @@
+register a; // error 32
+
+void main() { }

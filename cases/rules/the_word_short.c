@@ -1,0 +1,3 @@
+short a; // error 32
+
+void main() { }

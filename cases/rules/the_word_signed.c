@@ -1,0 +1,3 @@
+signed a; // error 32
+
+void main() { }

@@ -1,0 +1,3 @@
+static a; // error 32
+
+void main() { }

@@ -1,0 +1,3 @@
+unsigned a; // error 32
+
+void main() { }

@@ -1,0 +1,3 @@
+volatile a; // error 32
+
+void main() { }

@@ -1,0 +1,3 @@
+void main() {
+    halt() == halt(); // error 42
+}

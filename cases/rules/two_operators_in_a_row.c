@@ -1,0 +1,3 @@
+void main() {
+    int a = 1 * / 2; // error 30
+}

@@ -1,0 +1,6 @@
+void f();
+void f();
+
+void main() {
+    f(); // error 44
+}

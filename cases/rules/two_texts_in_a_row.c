@@ -1,0 +1,3 @@
+void main() {
+    int* a = "a" "b"; // error 30
+}

@@ -1,0 +1,4 @@
+void main() {
+    int[500001] a,
+        b; // error 50
+}

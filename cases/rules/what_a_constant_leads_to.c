@@ -1,0 +1,3 @@
+void main() {
+    *0; // error 42
+}

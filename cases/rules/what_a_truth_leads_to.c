@@ -1,0 +1,4 @@
+void main() {
+    bool a;
+    *a; // error 42
+}

@@ -1,0 +1,6 @@
+enum E { A };
+
+void main() {
+    E e;
+    *e; // error 42
+}

@@ -1,0 +1,3 @@
+void main() {
+    *NULL; // error 42
+}

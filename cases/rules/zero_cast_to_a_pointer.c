@@ -1,0 +1,3 @@
+void main() {
+    (int*) 0; // error 42
+}

@@ -1,0 +1,3 @@
+void main() {
+    int* a = 0; // error 42
+}

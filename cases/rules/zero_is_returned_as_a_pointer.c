@@ -1,0 +1,5 @@
+int* give() {
+    return 0; // error 42
+}
+
+void main() { }

@@ -1,4 +1,0 @@
-// the first fault
-int f() {
-    return x;
-}

@@ -27,6 +27,10 @@ int one = ONE;
 #endif this, too
 #ifdef nested
 #else
+#error neither is this
+#endif
+#ifndef nested
+#error nor this
 #endif
 #endif
 

@@ -1,0 +1,3 @@
+int* a = "\y41"; // error 11
+
+void main() { }

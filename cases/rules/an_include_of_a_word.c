@@ -1,0 +1,3 @@
+#include video // error 20
+
+void main() { }

@@ -1,0 +1,8 @@
+#define OPEN10 a = a = a = a = a = a = a = a = a = a =
+#define OPEN100 OPEN10 OPEN10 OPEN10 OPEN10 OPEN10 OPEN10 OPEN10 OPEN10 OPEN10 OPEN10
+
+void main() {
+    int a;
+    OPEN100 OPEN10 OPEN10 OPEN10 OPEN10 OPEN10 OPEN10 OPEN10 OPEN10 OPEN10
+    a = a = a = a = a = a = a = 1;
+}

@@ -1,0 +1,7 @@
+#define OPEN10 for (;;) for (;;) for (;;) for (;;) for (;;) for (;;) for (;;) for (;;) for (;;) for (;;)
+#define OPEN100 OPEN10 OPEN10 OPEN10 OPEN10 OPEN10 OPEN10 OPEN10 OPEN10 OPEN10 OPEN10
+
+void main() {
+    OPEN100 OPEN10 OPEN10 OPEN10 OPEN10 OPEN10 OPEN10 OPEN10 OPEN10 OPEN10
+    for (;;) for (;;) for (;;) for (;;) for (;;) for (;;) for (;;) for (;;) ;
+}

@@ -1,0 +1,8 @@
+#define OPEN10 + 1 + 1 + 1 + 1 + 1 + 1 + 1 + 1 + 1 + 1
+#define OPEN100 OPEN10 OPEN10 OPEN10 OPEN10 OPEN10 OPEN10 OPEN10 OPEN10 OPEN10 OPEN10
+
+void main() {
+    int a;
+    a OPEN100 OPEN10 OPEN10 OPEN10 OPEN10 OPEN10 OPEN10 OPEN10 OPEN10 OPEN10
+    + 1 + 1 + 1 + 1 + 1 + 1 + 1 + 1 ; // error 31
+}

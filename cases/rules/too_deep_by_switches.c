@@ -1,0 +1,9 @@
+#define OPEN10 switch (1) { switch (1) { switch (1) { switch (1) { switch (1) { switch (1) { switch (1) { switch (1) { switch (1) { switch (1) {
+#define OPEN100 OPEN10 OPEN10 OPEN10 OPEN10 OPEN10 OPEN10 OPEN10 OPEN10 OPEN10 OPEN10
+#define CLOSE10 } } } } } } } } } }
+#define CLOSE100 CLOSE10 CLOSE10 CLOSE10 CLOSE10 CLOSE10 CLOSE10 CLOSE10 CLOSE10 CLOSE10 CLOSE10
+
+void main() {
+    OPEN100 ; // error 31
+    CLOSE100
+}

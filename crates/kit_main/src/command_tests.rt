@@ -244,9 +244,19 @@ fn hostile_cartridges_and_refused_puts_are_answered(rt: HostRuntime) -> Result<(
     }
     // The words, what is put in all, in how many puts, and the status then.
     let rows = [
-        ("trace cart answers none 9", "out 0x202 0x000000FF\nhalted\n", 2u32, 0u8),
+        (
+            "trace cart answers none 9",
+            "out 0x202 0x000000FF\nhalted\n",
+            2u32,
+            0u8,
+        ),
         ("check p", "ok\n", 1, 0),
-        ("run faulty pads a b 2 none", "undecodable at 0x20000002\n", 2, 3),
+        (
+            "run faulty pads a b 2 none",
+            "undecodable at 0x20000002\n",
+            2,
+            3,
+        ),
     ];
     for (words, text, puts, status) in rows {
         for put in 0..puts + 1 {

@@ -18,5 +18,3 @@ pub use laws::words_are_given_again;
 pub use vocabulary::{DataWord, Operation, WordKind, is_label_word, is_word_byte, word_kind};
 pub use writing::write_asm;
 
-#[cfg(test)]
-mod tests;

@@ -24,5 +24,3 @@ pub use laws::{
 };
 pub use reading::read_asm;
 
-#[cfg(test)]
-mod tests;

@@ -18,5 +18,3 @@ pub use assembling::assemble;
 pub use laws::{labels_are_addresses, words_assemble_again, words_stand_at_the_sizes_before};
 pub use placement::Placement;
 
-#[cfg(test)]
-mod tests;

@@ -22,5 +22,3 @@ pub use words::{
     put_word, put_words, put_words_file, read_words, word_at, words_front, words_of, write_words,
 };
 
-#[cfg(test)]
-mod tests;

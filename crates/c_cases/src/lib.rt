@@ -5,8 +5,22 @@
 #![tactic(auto)]
 
 #[cfg(test)]
+mod headers;
+#[cfg(test)]
 mod parsing;
+#[cfg(test)]
+mod preprocessing;
 #[cfg(test)]
 mod programs;
 #[cfg(test)]
+mod rules;
+#[cfg(test)]
 mod statements;
+#[cfg(test)]
+mod tokens;
+#[cfg(test)]
+mod trees;
+#[cfg(test)]
+mod types;
+#[cfg(test)]
+mod units;

@@ -17,5 +17,3 @@ pub use laws::headers_hide_files;
 pub use places::Places;
 pub use unit::{Parsed, read_unit};
 
-#[cfg(test)]
-mod tests;

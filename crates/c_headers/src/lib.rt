@@ -42,5 +42,3 @@ pub fn header(name: &str) -> Option<&'static str>
     }
 }
 
-#[cfg(test)]
-mod tests;

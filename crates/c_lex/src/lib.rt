@@ -24,5 +24,3 @@ pub use laws::{
 pub use lexing::lex;
 pub use token::{Kind, Punct, Token};
 
-#[cfg(test)]
-mod tests;

@@ -22,5 +22,3 @@ pub use laws::{
     lines_part_the_tokens, room_for_names_is_never_short, tokens_are_put_as_what_they_stand_for,
 };
 
-#[cfg(test)]
-mod tests;

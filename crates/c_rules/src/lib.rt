@@ -25,5 +25,3 @@ pub use nodes::{
 };
 pub use sizes::{fits, is_whole};
 
-#[cfg(test)]
-mod tests;

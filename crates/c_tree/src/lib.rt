@@ -22,5 +22,3 @@ pub use span::Span;
 pub use statement::{Arm, Stmt};
 pub use variable::{Init, Var};
 
-#[cfg(test)]
-mod tests;

@@ -12,5 +12,3 @@ pub use ctype::CType;
 pub use layout::{Layout, Member, member_offset, size_of};
 pub use typed::{TArm, TExpr, TInit, TKind, TStmt, TVar};
 
-#[cfg(test)]
-mod tests;

@@ -23,5 +23,3 @@ pub use reading::read_cart;
 pub use row::LineRow;
 pub use writing::write_cart;
 
-#[cfg(test)]
-mod tests;

@@ -18,8 +18,6 @@ mod ports;
 mod registers;
 mod stack;
 mod step;
-#[cfg(test)]
-mod tests;
 
 pub use answer_bus::AnswerBus;
 pub use bus::Bus;

@@ -14,8 +14,6 @@ mod painting;
 mod region;
 mod settings;
 mod span;
-#[cfg(test)]
-mod tests;
 
 pub use gpu::Gpu;
 pub use laws::{other_events_leave_graphics, places_are_sums};

@@ -23,5 +23,3 @@ pub use seq::Seq;
 pub use sink_in_memory::SinkInMemory;
 pub use word::{div_word, mod_word, shift_word, signed, wrap_add};
 
-#[cfg(test)]
-mod tests;

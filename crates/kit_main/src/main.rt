@@ -5,8 +5,6 @@
 //! `kit_core` gives, or 10 where the system does not give the words.
 #![tactic(auto)]
 
-#[cfg(test)]
-mod command_tests;
 mod counts;
 mod disk_files;
 mod stdout_sink;

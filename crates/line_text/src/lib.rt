@@ -16,5 +16,3 @@ pub use line::first_line;
 pub use number::{decimal_word, hexadecimal_word, is_printable};
 pub use reader::{LineErr, LineReader, LinesErr, read_lines};
 
-#[cfg(test)]
-mod tests;

@@ -10,8 +10,6 @@ mod lanes;
 mod laws;
 mod pixel;
 mod rows;
-#[cfg(test)]
-mod tests;
 
 pub use blend::Blend;
 pub use laws::quotient_is_nearest;

@@ -9,8 +9,6 @@ mod controls;
 mod devices;
 mod events;
 mod laws;
-#[cfg(test)]
-mod tests;
 
 pub use devices::Devices;
 pub use laws::{controls_follow_the_rule, pads_that_are_not_connected_stay_up};

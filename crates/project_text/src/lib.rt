@@ -18,5 +18,3 @@ pub use map::{Map, write_map};
 pub use project::Project;
 pub use reading::read_project;
 
-#[cfg(test)]
-mod tests;

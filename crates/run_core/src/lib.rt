@@ -17,5 +17,3 @@ pub use laws::titles_and_tables_change_no_run;
 pub use output::{Output, RunNames, Unwritten};
 pub use run::Run;
 
-#[cfg(test)]
-mod tests;

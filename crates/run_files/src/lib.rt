@@ -21,5 +21,3 @@ pub use laws::{
 pub use pads::{PadEvent, Pads, PadsErr, read_pads};
 pub use screens::{frames_header, put_words, samples_header};
 
-#[cfg(test)]
-mod tests;

@@ -16,8 +16,6 @@ mod mixing;
 mod playing;
 mod sides;
 mod spu;
-#[cfg(test)]
-mod tests;
 
 pub use laws::{
     frames_add_up, loops_and_positions_lie_in_sounds, others_are_nothing_to_sound,

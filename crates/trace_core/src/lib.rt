@@ -9,8 +9,6 @@
 mod digits;
 mod line;
 mod run;
-#[cfg(test)]
-mod tests;
 mod text;
 
 pub use digits::word_digits;

@@ -15,5 +15,3 @@ pub use console::Console;
 pub use frame_end::FrameEnd;
 pub use laws::operations_are_the_machines;
 
-#[cfg(test)]
-mod tests;

@@ -14,8 +14,6 @@ mod port;
 mod port_table;
 mod register;
 mod stepped;
-#[cfg(test)]
-mod tests;
 
 pub use decoding::decode;
 pub use encoding::{Encoded, encode};

@@ -17,4 +17,3 @@ pub use item::{AsmItem, Imm};
 pub use laws::words_are_given_again;
 pub use vocabulary::{DataWord, Operation, WordKind, is_label_word, is_word_byte, word_kind};
 pub use writing::write_asm;
-

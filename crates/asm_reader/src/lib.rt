@@ -23,4 +23,3 @@ pub use laws::{
     parts_are_what_marks_part, words_and_numbers_are_runs_of_word_bytes,
 };
 pub use reading::read_asm;
-

@@ -21,4 +21,3 @@ pub use texture::{Texture, put_texture, read_texture, texture_front, write_textu
 pub use words::{
     put_word, put_words, put_words_file, read_words, word_at, words_front, words_of, write_words,
 };
-

@@ -26,4 +26,3 @@ pub use checking::check_sources;
 pub use error::BuildErr;
 pub use laws::{cartridge_does_what_its_source_means, straight_source_is_read};
 pub use straight::Statement;
-

@@ -16,4 +16,3 @@ pub use error::FrontErr;
 pub use laws::headers_hide_files;
 pub use places::Places;
 pub use unit::{Parsed, read_unit};
-

@@ -41,4 +41,3 @@ pub fn header(name: &str) -> Option<&'static str>
         _ => None,
     }
 }
-

@@ -23,4 +23,3 @@ pub use laws::{
 };
 pub use lexing::lex;
 pub use token::{Kind, Punct, Token};
-

@@ -21,4 +21,3 @@ pub use expansion::expand;
 pub use laws::{
     lines_part_the_tokens, room_for_names_is_never_short, tokens_are_put_as_what_they_stand_for,
 };
-

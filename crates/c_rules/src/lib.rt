@@ -24,4 +24,3 @@ pub use nodes::{
     index_type, step_type, type_size, unary_type,
 };
 pub use sizes::{fits, is_whole};
-

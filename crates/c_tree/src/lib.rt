@@ -21,4 +21,3 @@ pub use operator::{BinOp, StepOp, UnOp};
 pub use span::Span;
 pub use statement::{Arm, Stmt};
 pub use variable::{Init, Var};
-

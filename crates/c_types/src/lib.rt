@@ -11,4 +11,3 @@ mod typed;
 pub use ctype::CType;
 pub use layout::{Layout, Member, member_offset, size_of};
 pub use typed::{TArm, TExpr, TInit, TKind, TStmt, TVar};
-

@@ -22,4 +22,3 @@ pub use laws::{cartridges_read_again, texts_are_cartridges};
 pub use reading::read_cart;
 pub use row::LineRow;
 pub use writing::write_cart;
-

@@ -22,4 +22,3 @@ pub use outside::{FileErr, Files, Reads, Sink, SinkErr};
 pub use seq::Seq;
 pub use sink_in_memory::SinkInMemory;
 pub use word::{div_word, mod_word, shift_word, signed, wrap_add};
-

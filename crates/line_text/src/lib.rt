@@ -15,4 +15,3 @@ pub use field::field_at;
 pub use line::first_line;
 pub use number::{decimal_word, hexadecimal_word, is_printable};
 pub use reader::{LineErr, LineReader, LinesErr, read_lines};
-

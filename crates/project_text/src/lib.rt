@@ -17,4 +17,3 @@ pub use laws::{lines_say_what_the_grammar_gives, projects_are_what_the_lines_giv
 pub use map::{Map, write_map};
 pub use project::Project;
 pub use reading::read_project;
-

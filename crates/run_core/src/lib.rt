@@ -16,4 +16,3 @@ pub use ending::Ending;
 pub use laws::titles_and_tables_change_no_run;
 pub use output::{Output, RunNames, Unwritten};
 pub use run::Run;
-

@@ -20,4 +20,3 @@ pub use laws::{
 };
 pub use pads::{PadEvent, Pads, PadsErr, read_pads};
 pub use screens::{frames_header, put_words, samples_header};
-

@@ -14,4 +14,3 @@ mod running;
 pub use console::Console;
 pub use frame_end::FrameEnd;
 pub use laws::operations_are_the_machines;
-

@@ -8,6 +8,7 @@ mod calls;
 mod error;
 mod intrinsics;
 pub mod laws;
+mod making;
 mod names;
 mod nodes;
 mod ports;

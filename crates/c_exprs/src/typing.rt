@@ -19,12 +19,12 @@ ghost use Rattle.c_exprs.specs.Gives.{Gives, read};
 
 use crate::calls::{call_node, names_port};
 use crate::error::{CheckErr, known};
-use crate::names::{Globals, Scope};
-use crate::nodes::{constant, is_place, span_of};
-use crate::rules::{
-    array_at, assign_at, binary_at, cast_at, compound_at, index_at, size_at, step_at, unary_at,
-    value_at,
+use crate::making::{
+    assign_tree, binary_tree, cast_tree, compound_tree, index_tree, step_tree, unary_tree,
 };
+use crate::names::{Globals, Scope};
+use crate::nodes::{constant, span_of};
+use crate::rules::{array_at, size_at, value_at};
 use crate::texts::Texts;
 use crate::trees::{arrow_tree, member_tree, name_tree, named_type, node};
 use c_rules::{Code, array_of, pointer_to};
@@ -52,7 +52,7 @@ fn needs_place(op: UnOp) -> bool
 }
 
 #[cycle(typing)]
-#[tactic(auto, unfolding(crate::specs::Typing::as_value, crate::specs::Typing::as_used, crate::specs::Nodes::member_tree, crate::specs::Nodes::arrow_tree))]
+#[tactic(auto, unfolding(crate::specs::Typing::as_used, crate::specs::Nodes::member_tree, crate::specs::Nodes::arrow_tree))]
 fn typed(
     alloc: Global,
     globals: &Globals,
@@ -72,59 +72,43 @@ fn typed(
         }
         Expr::Paren(a, _) => Ok(typed(alloc, globals, scopes, texts, a)?),
         Expr::Unary(op, a, span) => {
-            let x = typed(alloc, globals, scopes, texts, a)?;
-            if !needs_place(*op) {
-                value_at(globals, span_of(a), &x.ty)?;
-            }
-            let ty = unary_at(alloc, *span, *op, &x.ty, is_place(&x))?;
-            Ok(node(TKind::Unary(*op, Box::new(alloc, x)?), ty, *span))
+            let x = if needs_place(*op) {
+                typed(alloc, globals, scopes, texts, a)?
+            } else {
+                valued(alloc, globals, scopes, texts, a)?
+            };
+            Ok(unary_tree(alloc, *op, x, *span)?)
         }
         Expr::Binary(op, a, b, span) => {
-            let x = typed(alloc, globals, scopes, texts, a)?;
-            value_at(globals, span_of(a), &x.ty)?;
-            let y = typed(alloc, globals, scopes, texts, b)?;
-            value_at(globals, span_of(b), &y.ty)?;
-            let ty = binary_at(alloc, globals, *span, *op, &x.ty, &y.ty)?;
-            let (x, y) = (Box::new(alloc, x)?, Box::new(alloc, y)?);
-            Ok(node(TKind::Binary(*op, x, y), ty, *span))
+            let x = valued(alloc, globals, scopes, texts, a)?;
+            let y = valued(alloc, globals, scopes, texts, b)?;
+            Ok(binary_tree(alloc, globals, *op, x, y, *span)?)
         }
         Expr::Assign(None, a, b, span) => {
             let x = typed(alloc, globals, scopes, texts, a)?;
-            let y = typed(alloc, globals, scopes, texts, b)?;
-            value_at(globals, span_of(b), &y.ty)?;
-            let ty = assign_at(alloc, globals, *span, &x.ty, is_place(&x), &y.ty)?;
-            let (x, y) = (Box::new(alloc, x)?, Box::new(alloc, y)?);
-            Ok(node(TKind::Assign(None, x, y), ty, *span))
+            let y = valued(alloc, globals, scopes, texts, b)?;
+            Ok(assign_tree(alloc, globals, x, y, *span)?)
         }
         Expr::Assign(Some(op), a, b, span) => {
             let x = typed(alloc, globals, scopes, texts, a)?;
-            let y = typed(alloc, globals, scopes, texts, b)?;
-            value_at(globals, span_of(b), &y.ty)?;
-            let ty = compound_at(alloc, globals, *span, *op, &x.ty, is_place(&x), &y.ty)?;
-            let (x, y) = (Box::new(alloc, x)?, Box::new(alloc, y)?);
-            Ok(node(TKind::Assign(Some(*op), x, y), ty, *span))
+            let y = valued(alloc, globals, scopes, texts, b)?;
+            Ok(compound_tree(alloc, globals, *op, x, y, *span)?)
         }
         Expr::Step(op, a, span) => {
             let x = typed(alloc, globals, scopes, texts, a)?;
-            let ty = step_at(alloc, globals, *span, *op, &x.ty, is_place(&x))?;
-            Ok(node(TKind::Step(*op, Box::new(alloc, x)?), ty, *span))
+            Ok(step_tree(alloc, globals, *op, x, *span)?)
         }
         Expr::Index(a, b, span) => {
-            let x = typed(alloc, globals, scopes, texts, a)?;
-            value_at(globals, span_of(a), &x.ty)?;
-            let y = typed(alloc, globals, scopes, texts, b)?;
-            value_at(globals, span_of(b), &y.ty)?;
-            let ty = index_at(alloc, globals, *span, &x.ty, &y.ty)?;
-            let (x, y) = (Box::new(alloc, x)?, Box::new(alloc, y)?);
-            Ok(node(TKind::Index(x, y), ty, *span))
+            let x = valued(alloc, globals, scopes, texts, a)?;
+            let y = valued(alloc, globals, scopes, texts, b)?;
+            Ok(index_tree(alloc, globals, x, y, *span)?)
         }
         Expr::Member(a, name, span) => {
             let x = typed(alloc, globals, scopes, texts, a)?;
             Ok(member_tree(alloc, &globals.layouts, x, name, *span)?)
         }
         Expr::Arrow(a, name, span) => {
-            let x = typed(alloc, globals, scopes, texts, a)?;
-            value_at(globals, span_of(a), &x.ty)?;
+            let x = valued(alloc, globals, scopes, texts, a)?;
             Ok(arrow_tree(alloc, &globals.layouts, x, name, *span)?)
         }
         Expr::Call(name, args, span) => {
@@ -135,10 +119,8 @@ fn typed(
         }
         Expr::Cast(to, a, span) => {
             let to = type_of(alloc, globals, scopes, texts, *span, to)?;
-            let x = typed(alloc, globals, scopes, texts, a)?;
-            value_at(globals, span_of(a), &x.ty)?;
-            let ty = cast_at(alloc, *span, &x.ty, &to)?;
-            Ok(node(TKind::Cast(Box::new(alloc, x)?), ty, *span))
+            let x = valued(alloc, globals, scopes, texts, a)?;
+            Ok(cast_tree(alloc, &to, x, *span)?)
         }
         Expr::SizeOf(of, span) => {
             let ty = type_of(alloc, globals, scopes, texts, *span, of)?;
@@ -146,6 +128,23 @@ fn typed(
             Ok(node(TKind::Number(n), CType::Int, *span))
         }
     }
+}
+
+/// The typed tree of an expression whose value is asked for.
+#[cycle(typing)]
+#[tactic(auto, unfolding(crate::specs::Typing::as_value))]
+fn valued(
+    alloc: Global,
+    globals: &Globals,
+    scopes: &[Scope],
+    texts: &mut Texts,
+    e: &Expr,
+) -> Result<TExpr, CheckErr>
+    ensures { Gives (λ r. (texpr r, texts.new)) result (as_value (ctx globals.now scopes.now) (span_of (expr e.now)) (typed (ctx globals.now scopes.now) texts.old (expr e.now))) }
+{
+    let x = typed(alloc, globals, scopes, texts, e)?;
+    value_at(globals, span_of(e), &x.ty)?;
+    Ok(x)
 }
 
 /// The arguments of a call whose first one, where it names a port, has no type.
@@ -168,8 +167,7 @@ fn all_valued(
             named = false;
             continue;
         }
-        let x = typed(alloc, globals, scopes, texts, e)?;
-        value_at(globals, span_of(e), &x.ty)?;
+        let x = valued(alloc, globals, scopes, texts, e)?;
         found.push(x)?;
     }
     Ok(found)
@@ -197,28 +195,12 @@ fn type_of(
             Ok(CType::Pointer(Box::new(alloc, to)?))
         }
         TypeTree::Array(of, n) => {
-            let x = typed(alloc, globals, scopes, texts, n)?;
-            value_at(globals, span_of(n), &x.ty)?;
+            let x = valued(alloc, globals, scopes, texts, n)?;
             let count = known(span_of(n), Code::NotConstant, constant(&x))?;
             let of = type_of(alloc, globals, scopes, texts, span, of)?;
             Ok(array_at(alloc, globals, span_of(n), &of, count)?)
         }
     }
-}
-
-#[tactic(auto, unfolding(crate::specs::Typing::as_value))]
-fn valued(
-    alloc: Global,
-    globals: &Globals,
-    scopes: &[Scope],
-    texts: &mut Texts,
-    e: &Expr,
-) -> Result<TExpr, CheckErr>
-    ensures { Gives (λ r. (texpr r, texts.new)) result (as_value (ctx globals.now scopes.now) (span_of (expr e.now)) (typed (ctx globals.now scopes.now) texts.old (expr e.now))) }
-{
-    let x = typed(alloc, globals, scopes, texts, e)?;
-    value_at(globals, span_of(e), &x.ty)?;
-    Ok(x)
 }
 
 /// The typed tree of an expression. Its texts are added to those so far.

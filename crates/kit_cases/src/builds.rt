@@ -1,4 +1,6 @@
 // Bytes written out by hand from the layouts, and each public call once.
+ghost use Rattle.std.specs.Prelude.{◌≤◌, length};
+
 use build_core::{
     BuildErr, Built, build, cartridge_does_what_its_source_means, straight_source_is_read,
 };
@@ -57,6 +59,13 @@ fn with_assets(
     Ok(FilesInMemory::new(alloc, held, Vec::new(alloc)))
 }
 
+/// What is built of this project. Nothing is told of it, so its callers are proved without what `build` promises.
+fn made(alloc: Global, files: &mut FilesInMemory, project: &[u8]) -> Result<Built, BuildErr>
+    requires { length project.now ≤ 268435456 }
+{
+    build(alloc, files, project)
+}
+
 /// The line of a refusal of the project's text.
 fn line_of(answer: &Result<Built, BuildErr>) -> Option<u32> {
     match answer {
@@ -101,7 +110,7 @@ fn the_first_program_has_152_bytes_and_a_map(rt: HostRuntime) -> Result<(), Fail
     let alloc = rt.alloc();
     let source = b"void main() { port_out(GPU_ClearColor, 255); }\n";
     let mut files = holding(&rt, alloc, source, Vec::new(alloc))?;
-    let built = build(alloc, &mut files, HELLO)?;
+    let built = made(alloc, &mut files, HELLO)?;
     assert_eq!(rt; hexadecimal(alloc, built.cart.as_slice())?.as_str(), CART);
     let text = write_map(alloc, &built.map)?;
     assert_eq!(rt;
@@ -117,12 +126,12 @@ fn sources_of_at_most_1000_statements_are_built(rt: HostRuntime) -> Result<(), F
     let alloc = rt.alloc();
     let most = repeated(alloc, 1000)?;
     let mut files = holding(&rt, alloc, &most, Vec::new(alloc))?;
-    let built = build(alloc, &mut files, HELLO)?;
+    let built = made(alloc, &mut files, HELLO)?;
     assert_eq!(rt; built.map.code, 2001);
     assert_eq!(rt; built.cart.as_slice().len(), 128 + 12 + 4 * 2001);
     let more = repeated(alloc, 1001)?;
     let mut files = holding(&rt, alloc, &more, Vec::new(alloc))?;
-    assert_eq!(rt; refusal(&build(alloc, &mut files, HELLO)), Some(15));
+    assert_eq!(rt; refusal(&made(alloc, &mut files, HELLO)), Some(15));
     Ok(())
 }
 
@@ -146,7 +155,7 @@ fn only_straight_sources_are_built(rt: HostRuntime) -> Result<(), Fail> {
     ];
     for (source, code) in sources {
         let mut files = holding(&rt, alloc, source, Vec::new(alloc))?;
-        assert_eq!(rt; refusal(&build(alloc, &mut files, HELLO)), code);
+        assert_eq!(rt; refusal(&made(alloc, &mut files, HELLO)), code);
     }
     Ok(())
 }
@@ -162,7 +171,7 @@ const PARTS: &[u8] = b"# parts\r\ntitle parts\n\nsound one.snd\ntexture one.tex\
 fn textures_and_sounds_are_in_the_cartridge(rt: HostRuntime) -> Result<(), Fail> {
     let alloc = rt.alloc();
     let mut files = with_assets(&rt, alloc, PIXEL, b"one.snd")?;
-    let built = build(alloc, &mut files, PARTS)?;
+    let built = made(alloc, &mut files, PARTS)?;
     assert_eq!(rt; built.cart.as_slice().len(), 128 + 24 + 20 + 16);
     let cart = read_cart(alloc, built.cart.as_slice())?;
     assert_eq!(rt; cart.revision(), 1);
@@ -179,7 +188,7 @@ fn textures_and_sounds_are_in_the_cartridge(rt: HostRuntime) -> Result<(), Fail>
 fn a_texture_that_is_cut_off_is_named(rt: HostRuntime) -> Result<(), Fail> {
     let alloc = rt.alloc();
     let mut files = with_assets(&rt, alloc, &PIXEL[..19], b"other.snd")?;
-    let answer = build(alloc, &mut files, PARTS);
+    let answer = made(alloc, &mut files, PARTS);
     let named = match &answer {
         Err(BuildErr::Bad { name, line, .. }) => {
             name.bytes() == b"one.tex".as_slice() && line.is_none()
@@ -195,7 +204,7 @@ fn a_texture_that_is_cut_off_is_named(rt: HostRuntime) -> Result<(), Fail> {
 fn a_sound_that_is_missing_is_named(rt: HostRuntime) -> Result<(), Fail> {
     let alloc = rt.alloc();
     let mut files = with_assets(&rt, alloc, PIXEL, b"other.snd")?;
-    let answer = build(alloc, &mut files, PARTS);
+    let answer = made(alloc, &mut files, PARTS);
     let named = match &answer {
         Err(BuildErr::Missing(name)) => name.bytes() == b"one.snd".as_slice(),
         _ => false,
@@ -221,7 +230,7 @@ fn projects_are_refused_at_their_first_faulty_line(rt: HostRuntime) -> Result<()
     for (project, line) in projects {
         assert!(rt; project.len() < 10_000);
         let mut files = with_assets(&rt, alloc, PIXEL, b"one.snd")?;
-        assert_eq!(rt; line_of(&build(alloc, &mut files, project)), line);
+        assert_eq!(rt; line_of(&made(alloc, &mut files, project)), line);
     }
     Ok(())
 }
@@ -230,7 +239,7 @@ fn projects_are_refused_at_their_first_faulty_line(rt: HostRuntime) -> Result<()
 fn a_read_that_fails_names_the_file(rt: HostRuntime) -> Result<(), Fail> {
     let alloc = rt.alloc();
     let mut files = holding(&rt, alloc, b"", vec![in alloc; 0]?)?;
-    let answer = build(alloc, &mut files, HELLO);
+    let answer = made(alloc, &mut files, HELLO);
     let named = match &answer {
         Err(BuildErr::Failed(name)) => name.bytes() == b"hello.c".as_slice(),
         _ => false,

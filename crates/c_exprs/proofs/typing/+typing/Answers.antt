@@ -5,11 +5,8 @@ use Rattle.std.proofs.Math.ListN.{get_or}
 use Rattle.c_tree.specs.declared.expression.Expr.{Expr}
 use Rattle.c_tree.specs.View.{expr, exprs}
 use Rattle.c_types.specs.View.{texpr}
-use Rattle.c_exprs.specs.Faults.{at_node}
-use Rattle.c_exprs.specs.Nodes.{span_of, type_of_typed, value_rule}
 use Rattle.c_exprs.specs.View.{ctx}
-use Rattle.c_exprs.proofs.Exact.{value_known}
-use Rattle.c_exprs.proofs.Fronts.{before-push, before-end, seen_type}
+use Rattle.c_exprs.proofs.Fronts.{before-push, before-end}
 use Rattle.c_exprs.proofs.typing.+typing.Goals as goal
 
 pub all_valued-loop-e-preserved : goal.all_valued-loop-e-preserved
@@ -21,9 +18,7 @@ all_valued-loop-e-preserved t c =
     let split : drop i es ≡ e ∷ drop (i + 1) es = rw (add-one, drop-cons es i e (omega arith), here) refl in
     let pushed : map texpr c.push.new.self.items ≡ map texpr c.loop-e.found.items ++ texpr c.in_ok-x.x ∷ [] = rw c.in_ok-push.ensures.items (map_push texpr c.loop-e.found.items c.in_ok-x.x) in
     let context = ctx c.args.globals.now c.args.scopes.now in
-    let fits : at_node (span_of (expr e)) (value_rule context.layouts context.whole (type_of_typed (texpr c.in_ok-x.x))) ≡ Ok tt = rw (seen_type c.in_ok-x.x) (rw c.span_of.ensures.span at c.in_ok-value_at.ensures) in
-    let valued = value_known context c.loop-e.texts c.typed.new.texts (expr e) (texpr c.in_ok-x.x) c.in_ok-x.ensures fits in
-    let on = before-push context (map texpr c.loop-e.found.items) c.loop-e.texts c.typed.new.texts (expr e) (exprs (map expr (drop (i + 1) es))) (texpr c.in_ok-x.x) valued in
+    let on = before-push context (map texpr c.loop-e.found.items) c.loop-e.texts c.valued.new.texts (expr e) (exprs (map expr (drop (i + 1) es))) (texpr c.in_ok-x.x) c.in_ok-x.ensures in
     let rest = rw (split, c.if-named.false) at c.loop-e.invariant in
     rw (pushed, c.if-named.false) (on ∙ rest)
 

@@ -6,7 +6,7 @@ use Rattle.c_types.specs.Types.{Ty, LayoutT}
 use Rattle.c_types.specs.Typed.{TStmtTs}
 use Rattle.c_rules.specs.Rules.{judged}
 use Rattle.c_exprs.specs.Env.{Text, FunctionD}
-use Rattle.c_stmts.specs.State.{locals_limit}
+use Rattle.c_stmts.specs.State.{made, locals_limit}
 use Rattle.c_check.specs.Reading.{Un, function_under, state_in, named, begun, parameter_rule, with_parameter, result_rule}
 use Rattle.c_check.specs.ItemTypes as item
 use Rattle.c_check.specs.ItemTypes.{TypeAt, BodyAt, Parameter, Parameters}
@@ -170,7 +170,7 @@ ends_call sizes e = record { numbers = e.numbers; functions = e.functions; globa
 
 -- The function that an item with a body makes.
 pub function_sound : (name : Text) {s : Scene} {fin un : Un} {p : Span} {of : TypeT} {t : Ty} {vs : List VarT} {ps : List Ty} {up uq : Un} {body : StmtTs} {x : TStmtTs} {ur : Un} → Ends s fin → ((sizes : List ℕ) → Meant (in_call s sizes) un) → Sane un
-    → TypeAt un p of t up → Parameters (begun up) vs ps uq → BodyAt (named name (FunctionD ps t) uq) t body x ur → IsRuled ur name ps t (Some body) → Later ur fin → IsFunction s (record { name = name; params = ps; locals = ur.sizes; gives = t; body = x })
+    → TypeAt un p of t up → Parameters (begun up) vs ps uq → BodyAt (named name (FunctionD ps t) uq) t body x ur → IsRuled ur name ps t (Some body) → Later ur fin → IsFunction s (record { name = name; params = ps; locals = ur.sizes; made = made (state_in ur); gives = t; body = x })
 function_sound name {s = s} {un = un} {t = t} {ps = ps} {up = up} {uq = uq} {ur = ur} e meant h g0 g1 g2 r later =
     let adds = body_adds g2 in
     let same = named_sizes name ps t uq in

@@ -162,11 +162,11 @@ array_later {layouts = layouts} {later = later} {whole = whole} {all = all} g of
 
 -- ---- members
 
-no_member : (n : Text) (m : MemberT) (l : LayoutT) → l ≡ no_layout → member_in n (Some l) ≡ Ok m → ⊥
-no_member n m l e h = let none : member_in n (Some no_layout) ≡ Ok m = subst (λ (x : LayoutT). member_in n (Some x) ≡ Ok m) e h in cc
+no_member : (n : Text) (m : MemberT) (l : LayoutT) → l ≡ no_layout l.is_union → member_in n (Some l) ≡ Ok m → ⊥
+no_member n m l e h = let none : member_in n (Some (no_layout l.is_union)) ≡ Ok m = subst (λ (x : LayoutT). member_in n (Some x) ≡ Ok m) e h in cc
 
 -- a layout that has a member stays
-kept_so : (n : Text) (m : MemberT) (l : LayoutT) (now : Option LayoutT) → (l ≡ no_layout) ⊎ (now ≡ Some l) → member_in n (Some l) ≡ Ok m → member_in n now ≡ Ok m
+kept_so : (n : Text) (m : MemberT) (l : LayoutT) (now : Option LayoutT) → (l ≡ no_layout l.is_union) ⊎ (now ≡ Some l) → member_in n (Some l) ≡ Ok m → member_in n now ≡ Ok m
 kept_so n m l now (inl none) h = absurd (no_member n m l none h)
 kept_so n m l now (inr same) h = rw same h
 

@@ -8,8 +8,9 @@ use Rattle.c_types.specs.Typed.{TVarT, TStmtT, VarsZ, TStmtTs}
 use Rattle.c_rules.specs.Kinds.{holds}
 use Rattle.c_rules.specs.Sizes.{is_declared}
 use Rattle.c_exprs.specs.Env.{Text, find, TypeD, FunctionD}
-use Rattle.c_check.specs.Reading.{Un, opening, bodies_of, named, record_type, new_record, record_entered, with_layout, with_init, begun, ended, with_function}
+use Rattle.c_check.specs.Reading.{Un, opening, bodies_of, state_in, named, record_type, new_record, record_entered, with_layout, with_init, begun, ended, with_function}
 use Rattle.c_types.specs.Sizes.{no_layout}
+use Rattle.c_stmts.specs.State.{made}
 use Rattle.c_types.specs.Programs.{TFunctionT, ProgramT}
 use Rattle.c_check.specs.ItemTypes as item
 use Rattle.c_check.specs.ItemTypes.{TypeAt, Globals, Parameters, BodyAt, MaybeBody, Item, Items}
@@ -102,16 +103,16 @@ new_record_proved : {fin un : Un} (is_union : Bool) (n : Text) → Sane un → P
 new_record_proved {fin = fin} {un = un} is_union n h p = record {
   meant = λ s e later.
       let m = p.meant s e (grows_through g later) in
-      record { grows = later; names = meant_more s un.names n (TypeD (record_type is_union (length un.layouts))) m.names (record_known s is_union (length un.layouts) (omega (arith, later.few, length-append un.layouts (no_layout ∷ [])))); scopes = m.scopes };
-  members = λ k l e. by k l (last_or_before un.layouts no_layout k l e);
+      record { grows = later; names = meant_more s un.names n (TypeD (record_type is_union (length un.layouts))) m.names (record_known s is_union (length un.layouts) (omega (arith, later.few, length-append un.layouts (no_layout is_union ∷ [])))); scopes = m.scopes };
+  members = λ k l e. by k l (last_or_before un.layouts (no_layout is_union) k l e);
   inits = λ s e later. p.inits s e (grows_through g later);
   functions = λ s e later. p.functions s e (grows_through g later);
 }
   where
-    g : Grows un.layouts un.whole (un.layouts ++ no_layout ∷ []) (un.whole ++ false ∷ [])
-    g = record_grows un.layouts un.whole h.declared
+    g : Grows un.layouts un.whole (un.layouts ++ no_layout is_union ∷ []) (un.whole ++ false ∷ [])
+    g = record_grows is_union un.layouts un.whole h.declared
 
-    by : (k : ℕ) (l : LayoutT) → (slice_get un.layouts k ≡ Some l) ⊎ ((k ≡ length un.layouts) × (no_layout ≡ l)) → AllMembersKnown (seen fin (new_record is_union n un)) l.members
+    by : (k : ℕ) (l : LayoutT) → (slice_get un.layouts k ≡ Some l) ⊎ ((k ≡ length un.layouts) × (no_layout is_union ≡ l)) → AllMembersKnown (seen fin (new_record is_union n un)) l.members
     by k l (inl e) = all_members_stay (seen fin un) (seen fin (new_record is_union n un)) g l.members (p.members k l e)
     by k l (inr e) = subst (λ (m : LayoutT). AllMembersKnown (seen fin (new_record is_union n un)) m.members) e.1 tt
 
@@ -176,12 +177,12 @@ ended_proved p = record {
   functions = p.functions;
 }
 
-with_body_proved : {fin un : Un} (name : Text) (ps : List Ty) (t : Ty) (x : TStmtTs) → InFunction fin un → ((s : Scene) → Ends s fin → Grows un.layouts un.whole s.layouts s.whole → IsFunction s (record { name = name; params = ps; locals = un.sizes; gives = t; body = x })) → Proved fin (with_function name ps t (Some x) un)
+with_body_proved : {fin un : Un} (name : Text) (ps : List Ty) (t : Ty) (x : TStmtTs) → InFunction fin un → ((s : Scene) → Ends s fin → Grows un.layouts un.whole s.layouts s.whole → IsFunction s (record { name = name; params = ps; locals = un.sizes; made = made (state_in un); gives = t; body = x })) → Proved fin (with_function name ps t (Some x) un)
 with_body_proved {un = un} name ps t x p sound = record {
   meant = λ s e g. record { grows = g; names = p.names s e g; scopes = tt };
   members = p.members;
   inits = p.inits;
-  functions = λ s e g. functions_more s un.functions (record { name = name; params = ps; locals = un.sizes; gives = t; body = x }) (p.functions s e g) (sound s e g);
+  functions = λ s e g. functions_more s un.functions (record { name = name; params = ps; locals = un.sizes; made = made (state_in un); gives = t; body = x }) (p.functions s e g) (sound s e g);
 }
 
 body_names : {un : Un} {t : Ty} {o : Option StmtTs} {x : Option TStmtTs} {ur : Un} → MaybeBody un t o x ur → ur.names ≡ un.names
@@ -255,7 +256,7 @@ laid_out fin l a h = record { places = a.places; members = all_sized fin.layouts
 
 declared_as : (layouts : List LayoutT) (whole : List Bool) (ls : List LayoutT) (ws : List Bool) → length ws ≡ length ls
     → ((k : ℕ) (l : LayoutT) → is_declared ws k ≡ true → slice_get ls k ≡ Some l → IsLaidOut layouts whole l)
-    → ((k : ℕ) (l : LayoutT) → is_declared ws k ≡ false → slice_get ls k ≡ Some l → l ≡ no_layout) → AreDeclaredAs layouts whole ls ws
+    → ((k : ℕ) (l : LayoutT) → is_declared ws k ≡ false → slice_get ls k ≡ Some l → l ≡ no_layout l.is_union) → AreDeclaredAs layouts whole ls ws
 declared_as layouts whole [] [] e laid empty = tt
 declared_as layouts whole [] (w ∷ ws) e laid empty = absurd (omega (arith, e))
 declared_as layouts whole (l ∷ ls) [] e laid empty = absurd (omega (arith, e))

@@ -8,7 +8,8 @@ use Rattle.c_types.specs.Types.{Ty, LayoutT}
 use Rattle.c_types.specs.Typed.{TInitT, TVarT, VarsZ, TStmtTs}
 use Rattle.c_rules.specs.Sizes.{is_declared}
 use Rattle.c_exprs.specs.Env.{Text, find, Decl, TypeD, GlobalD, FunctionD}
-use Rattle.c_check.specs.Reading.{Un, opening, is_free, named, record_type, new_record, record_entered, with_layout, global_words, globals_limit, with_global, with_init, begun, with_function}
+use Rattle.c_stmts.specs.State.{made}
+use Rattle.c_check.specs.Reading.{Un, opening, state_in, is_free, named, record_type, new_record, record_entered, with_layout, global_words, globals_limit, with_global, with_init, begun, with_function}
 use Rattle.c_types.specs.Programs.{TFunctionT}
 use Rattle.c_check.specs.ItemTypes as item
 use Rattle.c_check.specs.ItemTypes.{TypeAt, Members, MaybeFillsAt, Global, Globals, Parameters, MaybeBody, Item, Items}
@@ -62,7 +63,7 @@ kept_follows g h = record { later = kept_later g; sane = kept_sane g h }
 new_record_follows : (is_union : Bool) (n : Text) (un : Un) → Sane un → Follows un (new_record is_union n un)
 new_record_follows is_union n un h = record {
   later = record {
-    grows = record_grows un.layouts un.whole h.declared;
+    grows = record_grows is_union un.layouts un.whole h.declared;
     globals = begins_itself un.globals;
     inits = begins_itself un.inits;
     functions = begins_itself un.functions;
@@ -71,7 +72,7 @@ new_record_follows is_union n un h = record {
     bodies = refl;
   };
   sane = record {
-    declared = record_declared un.layouts un.whole h.declared;
+    declared = record_declared is_union un.layouts un.whole h.declared;
     globals = h.globals;
     texts = h.texts;
     functions = λ k f e. let own = h.functions k f e in (own.0, still_found f.name un.names ((n, TypeD (record_type is_union (length un.layouts))) ∷ []) (FunctionD f.params f.gives) own.1);
@@ -92,20 +93,20 @@ with_layout_later n l un h new = record {
   bodies = refl;
 }
 
-layout_follows : (n : ℕ) (l : LayoutT) (un : Un) → Sane un → AreMembers un.layouts un.whole true l ⊎ AreMembers un.layouts un.whole false l → BecomesWhole un l n → Follows un (with_layout n l un)
+layout_follows : (n : ℕ) (l : LayoutT) (un : Un) → Sane un → AreMembers un.layouts un.whole l → BecomesWhole un l n → Follows un (with_layout n l un)
 layout_follows n l un h m b = record {
   later = with_layout_later n l un h b.new;
   sane = record {
-    declared = layout_declared un.layouts un.whole n l h.declared b.new (elim m [ inl a ↦ members_laid un.layouts un.whole true l a b.size | inr a ↦ members_laid un.layouts un.whole false l a b.size ]);
+    declared = layout_declared un.layouts un.whole n l h.declared b.new (members_laid un.layouts un.whole l m b.size);
     globals = h.globals;
     texts = h.texts;
     functions = h.functions;
   };
 }
 
-pub members_so_far : {un : Un} {seen l : LayoutT} {vs : List VarT} {up : Un} → Members un seen vs l up → AreMembers un.layouts un.whole seen → AreMembers un.layouts un.whole is_union l
+pub members_so_far : {un : Un} {seen l : LayoutT} {vs : List VarT} {up : Un} → Members un seen vs l up → AreMembers un.layouts un.whole seen → AreMembers un.layouts un.whole l
 members_so_far (item.no_members) a = a
-members_so_far {is_union = is_union} {seen = seen} (item.more_members (item.member {un = un} {up = up} {v = v} {t = t} {n = n} (item.type_at g0) g1) rest) a =
+members_so_far {seen = seen} (item.more_members (item.member {un = un} {up = up} {v = v} {t = t} {n = n} (item.type_at g0) g1) rest) a =
     let words = member_words v.span up seen v.name t n g1 in
     members_so_far rest (one_member_more un.layouts un.whole seen v.name t n a words.sized words.words)
 
@@ -172,7 +173,7 @@ with_body_later name ps t x un = record {
   grows = grows_itself un.layouts un.whole;
   globals = begins_itself un.globals;
   inits = begins_itself un.inits;
-  functions = begins_more un.functions (record { name = name; params = ps; locals = un.sizes; gives = t; body = x } ∷ []);
+  functions = begins_more un.functions (record { name = name; params = ps; locals = un.sizes; made = made (state_in un); gives = t; body = x } ∷ []);
   texts = begins_itself un.texts;
   names = λ m d e. e;
   bodies = refl;
@@ -190,7 +191,7 @@ with_body_sane name ps t body x un h r = record {
   declared = h.declared;
   globals = h.globals;
   texts = h.texts;
-  functions = own_more un.names un.bodies un.functions (record { name = name; params = ps; locals = un.sizes; gives = t; body = x }) h.functions (own_number un name body r.own) r.declared;
+  functions = own_more un.names un.bodies un.functions (record { name = name; params = ps; locals = un.sizes; made = made (state_in un); gives = t; body = x }) h.functions (own_number un name body r.own) r.declared;
 }
 
 function_follows : {un : Un} (name : Text) (ps : List Ty) {t : Ty} {o : Option StmtTs} {x : Option TStmtTs} {ur : Un} → MaybeBody un t o x ur → Sane ur → IsRuled ur name ps t o → Follows ur (with_function name ps t x ur)
@@ -203,16 +204,15 @@ with_function_later name ps (item.has_body {up = up} {gives = t} {x = x} g0) = w
 
 -- ---- items
 
-kept_members : {un up : Un} (is_union : Bool) (l : LayoutT) → Keeps un up → AreMembers un.layouts un.whole is_union l → AreMembers up.layouts up.whole true l ⊎ AreMembers up.layouts up.whole false l
-kept_members true l g a = inl (subst₂ (λ ls ws. AreMembers ls ws true l) (sym g.layouts) (sym g.whole) a)
-kept_members false l g a = inr (subst₂ (λ ls ws. AreMembers ls ws false l) (sym g.layouts) (sym g.whole) a)
+kept_members : {un up : Un} (l : LayoutT) → Keeps un up → AreMembers un.layouts un.whole l → AreMembers up.layouts up.whole l
+kept_members l g a = subst₂ (λ ls ws. AreMembers ls ws l) (sym g.layouts) (sym g.whole) a
 
 pub item_follows : {un : Un} {i : ItemT} {x : Unit {0}} {up : Un} → Sane un → Item un i x up → Follows un up
 item_follows h (item.record_name {un = un} {is_union = is_union} {name = name} g0) = record_follows is_union name un h
 item_follows h (item.record_members {un = un} {up = up} {is_union = is_union} {name = name} {s = s} {l = l} {n = n} g0 g1) =
     let begun = record_follows is_union name un h in
     let g = members_keep g0 in
-    let ms = kept_members is_union l g (members_so_far g0 (no_members_yet (record_entered is_union name un).layouts (record_entered is_union name un).whole is_union)) in
+    let ms = kept_members l g (members_so_far g0 (no_members_yet (record_entered is_union name un).layouts (record_entered is_union name un).whole is_union)) in
     follows_by (later_through begun.later (kept_later g)) (layout_follows n l up (kept_sane g begun.sane) ms (members_whole s is_union name up l n g1))
 item_follows h (item.enumeration {un = un} {name = name} g0 g1) = kept_follows (keeps_through (enum_keeps name un) (enumerators_keep g0)) h
 item_follows h (item.type_name {up = up} {name = name} {t = t} g0 g1) = kept_follows (keeps_through (type_keeps g0) (named_keeps name (TypeD t) up)) h

@@ -8,6 +8,7 @@ use Rattle.c_types.specs.Sizes.{words_of, no_layout, next_offset, with_member, F
 use Rattle.c_rules.specs.Kinds.{holds}
 use Rattle.c_rules.specs.Sizes.{is_declared, is_whole, type_limit}
 use Rattle.c_exprs.specs.Env.{Text}
+use Rattle.c_check.specs.Reading.{has_members}
 use Rattle.c_facts.proofs.Within.{Grows, AllWhole}
 use Rattle.c_facts.proofs.Fronts.{begins_more, begins_at, last_or_before, within_at, others_stay, replaced_there}
 use Rattle.c_facts.proofs.Growth.{whole_later, words_later}
@@ -16,6 +17,7 @@ use Rattle.c_facts.proofs.Growth.{whole_later, words_later}
 pub record AreLaid (layouts : List LayoutT) (whole : List Bool) (l : LayoutT) : Type 0 where
   pub places : IsPlaced layouts l
   pub members : AllWhole whole l.members
+  pub some : has_members l ≡ true
   pub size : l.size ≤ type_limit
 
 pub record AreDeclared (layouts : List LayoutT) (whole : List Bool) : Type 0 where
@@ -48,11 +50,11 @@ places_stay {layouts = layouts} {later = later} g l h p = by l.is_union p
     by false f = follow_stays g 0 l.size l.members h f
 
 pub laid_stays : {layouts later : List LayoutT} {whole all : List Bool} → Grows layouts whole later all → (l : LayoutT) → AreLaid layouts whole l → AreLaid later all l
-laid_stays g l h = record { places = places_stay g l h.members h.places; members = all_whole_stay g l.members h.members; size = h.size }
+laid_stays g l h = record { places = places_stay g l h.members h.places; members = all_whole_stay g l.members h.members; some = h.some; size = h.size }
 
 -- ---- tests of numbers
 
-declared_there : (whole : List Bool) (k : ℕ) → is_declared whole k ≡ true → slice_get whole k ≡ Some true
+pub declared_there : (whole : List Bool) (k : ℕ) → is_declared whole k ≡ true → slice_get whole k ≡ Some true
 declared_there whole k h = by (slice_get whole k) h
   where
     by : (o : Option Bool) → holds (λ declared. declared) o ≡ true → o ≡ Some true
@@ -77,7 +79,7 @@ record_grows u layouts whole a = record {
     there : (k : ℕ) → (l : LayoutT) × (slice_get layouts k ≡ Some l) → slice_get layouts k ≡ slice_get (layouts ++ no_layout u ∷ []) k
     there k p = p.1 ∙ sym (begins_at layouts (layouts ++ no_layout u ∷ []) k p.0 (begins_more layouts (no_layout u ∷ [])) p.1)
 
-declared_before : (whole : List Bool) (k : ℕ) → is_declared (whole ++ false ∷ []) k ≡ true → is_declared whole k ≡ true
+pub declared_before : (whole : List Bool) (k : ℕ) → is_declared (whole ++ false ∷ []) k ≡ true → is_declared whole k ≡ true
 declared_before whole k h = by (last_or_before whole false k true (declared_there (whole ++ false ∷ []) k h))
   where
     by : (slice_get whole k ≡ Some true) ⊎ ((k ≡ length whole) × (false ≡ true)) → is_declared whole k ≡ true
@@ -183,5 +185,5 @@ one_member_more layouts whole l name ty n a h e = record {
     by true ms s p = subst (λ k. Overlap layouts 0 (ms ++ record { name = name; offset = 0; ty = ty } ∷ []) (max s k)) e (overlap_more layouts 0 s ms (record { name = name; offset = 0; ty = ty }) p refl)
     by false ms s p = subst (λ k. Follow layouts 0 (ms ++ record { name = name; offset = s; ty = ty } ∷ []) (s + k)) e (follow_more layouts 0 s ms (record { name = name; offset = s; ty = ty }) p refl)
 
-pub members_laid : (layouts : List LayoutT) (whole : List Bool) (l : LayoutT) → AreMembers layouts whole l → l.size ≤ type_limit → AreLaid layouts whole l
-members_laid layouts whole l a h = record { places = a.places; members = a.members; size = h }
+pub members_laid : (layouts : List LayoutT) (whole : List Bool) (l : LayoutT) → AreMembers layouts whole l → has_members l ≡ true → l.size ≤ type_limit → AreLaid layouts whole l
+members_laid layouts whole l a some h = record { places = a.places; members = a.members; some = some; size = h }

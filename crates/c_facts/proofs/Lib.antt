@@ -19,6 +19,7 @@ pub mod Finds
 pub mod Bodies
 pub mod Short
 pub mod Laid
+pub mod Positive
 pub mod Told
 pub mod Readings
 pub mod Equal
@@ -28,3 +29,4 @@ pub mod Counts
 pub mod Meant
 pub mod Functions
 pub mod Programs
+pub mod OneWay

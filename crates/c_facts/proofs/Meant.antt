@@ -1,6 +1,6 @@
 -- What names, members and parameters mean in a scene, part by part of an item.
 use Rattle.std.proofs.Common.{◌≡◌, ℕ, Bool, true, false, List, [], ◌∷◌, ◌++◌, length, Option, Some, refl, sym, ap, ◌∙◌, subst, subst₂}
-use Rattle.std.specs.Prelude.{slice_get}
+use Rattle.std.specs.Prelude.{slice_get, option_map}
 use Rattle.c_tree.specs.declared.span.Span.{Span}
 use Rattle.c_tree.specs.Tree.{ExprT, TypeT, InitT, VarT}
 use Rattle.c_types.specs.Types.{Ty, EnumY, MemberT, LayoutT}
@@ -134,7 +134,7 @@ object_there : {s : Scene} {fin : Un} (name : Text) (n number : ℕ) (t : Ty) (g
 object_there {s = s} {fin = fin} name n number t gs e b same words =
     let entry : Text × ℕ = (name, n) in
     let here : slice_get fin.globals (length gs) ≡ Some entry = begins_at (gs ++ entry ∷ []) fin.globals (length gs) entry b (last_at gs entry) in
-    (entry, subst₂ (λ (xs : List (Text × ℕ)) (k : ℕ). slice_get xs k ≡ Some entry) (sym e.globals) (sym same) here, words)
+    ap (option_map (λ (g : Text × ℕ). g.1)) (subst₂ (λ (xs : List (Text × ℕ)) (k : ℕ). slice_get xs k ≡ Some entry) (sym e.globals) (sym same) here) ∙ ap Some words
 
 pub global_known : {s : Scene} {fin un : Un} {v : VarT} {xs : List TVarT} {up : Un} → Ends s fin → Sane un → Global un v xs up → Later up fin → Meant s un → VariablesRead s xs up
 global_known {s = s} {fin = fin} e h (item.global {un = un} {up = up} {uq = uq} {v = v} {t = t} {i = i} {n = n} g0 g1 g2) later m =

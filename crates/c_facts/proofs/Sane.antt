@@ -97,7 +97,7 @@ layout_follows : (n : ℕ) (l : LayoutT) (un : Un) → Sane un → AreMembers un
 layout_follows n l un h m b = record {
   later = with_layout_later n l un h b.new;
   sane = record {
-    declared = layout_declared un.layouts un.whole n l h.declared b.new (members_laid un.layouts un.whole l m b.size);
+    declared = layout_declared un.layouts un.whole n l h.declared b.new (members_laid un.layouts un.whole l m b.members b.size);
     globals = h.globals;
     texts = h.texts;
     functions = h.functions;

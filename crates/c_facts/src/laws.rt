@@ -11,7 +11,7 @@ use c_check::Program;
 /// kept: 4,194,304 words of a type, 3,145,728 of all globals, 4,000,000 of all texts, 1,000,000 of the variables of a function, 4,096 of a
 /// structure or union that is a value.
 pub fn programs_are_sound(checked: &Program)
-    ensures sound { ∥ IsSound (program checked.now) ∥₁ }
+    ensures sound { IsSound (program checked.now) }
 {}
 
 /// A program has at most 200,000 nodes.

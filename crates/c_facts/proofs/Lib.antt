@@ -28,3 +28,5 @@ pub mod Counts
 pub mod Meant
 pub mod Functions
 pub mod Programs
+pub mod Filled
+pub mod Words

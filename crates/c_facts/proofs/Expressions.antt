@@ -124,7 +124,7 @@ text_sound : (s : Scene) (p : Span) (ts us : List Text) (t : Text) (k : ℕ) →
 text_sound s p ts us t k h b =
     let behind = text_behind p ts us t k h in
     let there : slice_get s.literals k ≡ Some t = subst (λ (j : ℕ). slice_get s.literals j ≡ Some t) behind.0 (last_of_beginning ts us s.literals t b behind.1) in
-    ((tt, refl, text_size s t (text_fits p ts us t k h), omega arith), (t, there, refl))
+    ((tt, refl, text_size s t (text_fits p ts us t k h)), (t, there, refl))
 
 -- ---- expressions
 

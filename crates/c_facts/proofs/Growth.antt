@@ -1,5 +1,5 @@
 -- What holds at the time of reading holds in the whole program: structures and unions may be declared whole later, and nothing else changes.
-use Rattle.std.proofs.Common.{◌≡◌, ◌⊎◌, inl, inr, ℕ, ◌*◌, ◌≤◌, Bool, true, false, ◌||◌, not, nat_le, ◌&&◌, ◌==◌, List, [], ◌∷◌, Option, Some, None, Result, Ok, Err, refl, sym, subst, ap, ◌∙◌, arith}
+use Rattle.std.proofs.Common.{◌≡◌, ◌⊎◌, inl, inr, ℕ, ◌*◌, ◌≤◌, Bool, true, false, ◌||◌, not, nat_le, List, [], ◌∷◌, Option, Some, None, Result, Ok, Err, refl, sym, subst, ap, ◌∙◌, arith}
 use Rattle.std.specs.Prelude.{slice_get, if◌then◌else◌}
 use Rattle.std.specs.Option.{option_map_or}
 use Rattle.std.specs.Str.{bytes_eq}
@@ -10,7 +10,7 @@ use Rattle.c_tree.specs.declared.operator.BinOp.{BinOp}
 use Rattle.c_types.specs.Types.{Ty, VoidY, IntY, BoolY, EnumY, StructY, UnionY, PointerY, ArrayY, MemberT, LayoutT}
 use Rattle.c_types.specs.Sizes.{words_of, member_named, no_layout}
 use Rattle.c_rules.specs.declared.code.Code.{Code}
-use Rattle.c_rules.specs.Kinds.{is_void, is_structure, target}
+use Rattle.c_rules.specs.Kinds.{is_structure, target}
 use Rattle.c_rules.specs.Sizes.{is_whole, fits, type_limit, value_limit}
 use Rattle.c_rules.specs.Rules.{Demand, Rule, checked, judged_by, judged}
 use Rattle.c_rules.specs.Nodes.{given, led_to_whole, count_is_known, counts_elements, step_operator, binary_rule, index_rule, assign_rule, compound_rule, step_rule, array_rule}
@@ -153,21 +153,12 @@ fits_within : (layouts : List LayoutT) (limit : ℕ) (ty : Ty) → fits layouts 
 unfolding fits
 fits_within layouts limit ty h = grind (arith, nat_tests)
 
-has_elements : (of : Ty) (count : ℕ) (ty : Ty) → given (not (is_void of) && not (count == 0)) (ArrayY of count) ≡ Some ty → 1 ≤ count
-has_elements of count ty h = by (not (is_void of)) (count == 0) refl h
-  where
-    by : (a b : Bool) → (count == 0) ≡ b → given (a && not b) (ArrayY of count) ≡ Some ty → 1 ≤ count
-    by true true e h = absurd cc
-    by true false e h = grind (arith, nat_tests)
-    by false b e h = absurd cc
-
 pub array_later : {layouts later : List LayoutT} {whole all : List Bool} → Grows layouts whole later all → (of : Ty) (count : ℕ) (ty : Ty) → IsKnown later all of → judged (array_rule layouts whole of count) ≡ Ok ty → IsKnown later all ty
 unfolding array_rule
 array_later {layouts = layouts} {later = later} {whole = whole} {all = all} g of count ty known h =
     let r = judged_holds (array_rule layouts whole of count) ty h in
-    let counted : 1 ≤ count = has_elements of count ty r.0 in
     let fit : fits later type_limit (ArrayY of count) ≡ true = fits_later g type_limit (ArrayY of count) r.1.0 r.1.1.1.0 in
-    subst (λ (t : Ty). IsKnown later all t) (given_is _ (ArrayY of count) ty r.0) (known, whole_later g of r.1.0, fits_within later type_limit (ArrayY of count) fit, counted)
+    subst (λ (t : Ty). IsKnown later all t) (given_is _ (ArrayY of count) ty r.0) (known, whole_later g of r.1.0, fits_within later type_limit (ArrayY of count) fit)
 
 -- ---- members
 

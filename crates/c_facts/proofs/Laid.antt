@@ -52,14 +52,14 @@ laid_stays g l h = record { places = places_stay g l h.members h.places; members
 
 -- ---- tests of numbers
 
-pub declared_there : (whole : List Bool) (k : ℕ) → is_declared whole k ≡ true → slice_get whole k ≡ Some true
+declared_there : (whole : List Bool) (k : ℕ) → is_declared whole k ≡ true → slice_get whole k ≡ Some true
 declared_there whole k h = by (slice_get whole k) h
   where
     by : (o : Option Bool) → holds (λ declared. declared) o ≡ true → o ≡ Some true
     by None h = absurd cc
     by (Some b) h = ap Some h
 
-pub declared_by : (whole : List Bool) (k : ℕ) → slice_get whole k ≡ Some true → is_declared whole k ≡ true
+declared_by : (whole : List Bool) (k : ℕ) → slice_get whole k ≡ Some true → is_declared whole k ≡ true
 declared_by whole k h = rw h refl
 
 -- ---- one more that has no members yet
@@ -77,7 +77,7 @@ record_grows u layouts whole a = record {
     there : (k : ℕ) → (l : LayoutT) × (slice_get layouts k ≡ Some l) → slice_get layouts k ≡ slice_get (layouts ++ no_layout u ∷ []) k
     there k p = p.1 ∙ sym (begins_at layouts (layouts ++ no_layout u ∷ []) k p.0 (begins_more layouts (no_layout u ∷ [])) p.1)
 
-pub declared_before : (whole : List Bool) (k : ℕ) → is_declared (whole ++ false ∷ []) k ≡ true → is_declared whole k ≡ true
+declared_before : (whole : List Bool) (k : ℕ) → is_declared (whole ++ false ∷ []) k ≡ true → is_declared whole k ≡ true
 declared_before whole k h = by (last_or_before whole false k true (declared_there (whole ++ false ∷ []) k h))
   where
     by : (slice_get whole k ≡ Some true) ⊎ ((k ≡ length whole) × (false ≡ true)) → is_declared whole k ≡ true

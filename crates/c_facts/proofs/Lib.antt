@@ -28,5 +28,3 @@ pub mod Counts
 pub mod Meant
 pub mod Functions
 pub mod Programs
-pub mod Filled
-pub mod Words

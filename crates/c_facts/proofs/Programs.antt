@@ -1,5 +1,5 @@
 -- Programs that are typed are sound.
-use Rattle.std.proofs.Common.{◌≡◌, ◌⊎◌, ℕ, suc, ◌<◌, ◌≤◌, Bool, true, false, List, [], ◌∷◌, ◌++◌, length, Option, Some, None, refl, sym, ◌∙◌, subst, subst₂, inl, inr, arith, length-append}
+use Rattle.std.proofs.Common.{◌≡◌, ◌⊎◌, ℕ, suc, ◌<◌, Bool, true, false, List, [], ◌∷◌, ◌++◌, length, Option, Some, None, refl, sym, ◌∙◌, subst, subst₂, inl, inr, arith, length-append}
 use Rattle.std.specs.Prelude.{slice_get, slice_set, codes, if◌then◌else◌}
 use Rattle.c_tree.specs.declared.span.Span.{Span}
 use Rattle.c_tree.specs.Tree.{TypeT, VarT, StmtTs, ItemT}
@@ -26,7 +26,6 @@ use Rattle.c_facts.proofs.Readings.{Later, later_itself, later_through, Keeps, k
 use Rattle.c_facts.proofs.Sane.{Sane, opening_sane, kept_sane, record_follows, global_keeps, function_keeps, with_layout_later, with_init_later, with_function_later, item_follows, items_follow}
 use Rattle.c_facts.proofs.Counts.{HaveNumbers, unit_numbers}
 use Rattle.c_facts.proofs.Meant.{Ends, Meant, meant_more, named_meant, type_known, members_known, enumeration_meant, globals_known}
-use Rattle.c_facts.proofs.Filled.{unit_full}
 use Rattle.c_facts.proofs.Functions.{head_known, ends_call, function_sound}
 
 -- ---- what is shown of each state
@@ -252,8 +251,8 @@ all_sized : (layouts : List LayoutT) (whole : List Bool) (s : Scene) → s.layou
 all_sized layouts whole s e f [] h k = tt
 all_sized layouts whole s e f (m ∷ ms) h k = (record { known = subst₂ (λ ls ws. IsKnown ls ws m.ty) e f h.0; sized = k.0 }, all_sized layouts whole s e f ms h.1 k.1)
 
-laid_out : (fin : Un) (l : LayoutT) → AreLaid fin.layouts fin.whole l → AllMembersKnown (seen fin fin) l.members → 1 ≤ l.size → IsLaidOut fin.layouts fin.whole l
-laid_out fin l a h one = record { places = a.places; members = all_sized fin.layouts fin.whole (seen fin fin) refl refl l.members h a.members; size = a.size; filled = one }
+laid_out : (fin : Un) (l : LayoutT) → AreLaid fin.layouts fin.whole l → AllMembersKnown (seen fin fin) l.members → IsLaidOut fin.layouts fin.whole l
+laid_out fin l a h = record { places = a.places; members = all_sized fin.layouts fin.whole (seen fin fin) refl refl l.members h a.members; size = a.size }
 
 declared_as : (layouts : List LayoutT) (whole : List Bool) (ls : List LayoutT) (ws : List Bool) → length ws ≡ length ls
     → ((k : ℕ) (l : LayoutT) → is_declared ws k ≡ true → slice_get ls k ≡ Some l → IsLaidOut layouts whole l)
@@ -284,10 +283,9 @@ unit_sound all fin k g m =
     let p = items_proved numbers (opening_sane (bodies_of all)) (opening_proved fin (bodies_of all)) g (later_itself fin) in
     let e = seen_ends fin fin numbers p.members in
     let same = grows_itself fin.layouts fin.whole in
-    let full = unit_full (seen fin fin) (bodies_of all) all fin refl p.members g in
     record {
       whole = fin.whole;
-      layouts = declared_as fin.layouts fin.whole fin.layouts fin.whole sane.declared.equal (λ j l d f. laid_out fin l (sane.declared.laid j l d f) (p.members j l f) (full j l d f)) sane.declared.empty;
+      layouts = declared_as fin.layouts fin.whole fin.layouts fin.whole sane.declared.equal (λ j l d f. laid_out fin l (sane.declared.laid j l d f) (p.members j l f)) sane.declared.empty;
       globals = sane.globals;
       literals = sane.texts.words;
       inits = p.inits (seen fin fin) e same;

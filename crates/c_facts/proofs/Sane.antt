@@ -204,7 +204,7 @@ with_function_later name ps (item.has_body {up = up} {gives = t} {x = x} g0) = w
 
 -- ---- items
 
-pub kept_members : {un up : Un} (l : LayoutT) → Keeps un up → AreMembers un.layouts un.whole l → AreMembers up.layouts up.whole l
+kept_members : {un up : Un} (l : LayoutT) → Keeps un up → AreMembers un.layouts un.whole l → AreMembers up.layouts up.whole l
 kept_members l g a = subst₂ (λ ls ws. AreMembers ls ws l) (sym g.layouts) (sym g.whole) a
 
 pub item_follows : {un : Un} {i : ItemT} {x : Unit {0}} {up : Un} → Sane un → Item un i x up → Follows un up

@@ -30,7 +30,7 @@ pub record Scene : Type 0 where
 
 -- ---- types
 
--- The structures and unions that a type names are there; an array has an element and a size that is known, and is no larger than a type may be.
+-- The structures and unions that a type names are there; an array has a size that is known, and is no larger than a type may be.
 abbrev pub IsKnown : List LayoutT → List Bool → Ty → Type 0
 IsKnown layouts whole VoidY = Unit {0}
 IsKnown layouts whole IntY = Unit {0}
@@ -39,7 +39,7 @@ IsKnown layouts whole (EnumY number) = Unit {0}
 IsKnown layouts whole (StructY number) = number < length layouts
 IsKnown layouts whole (UnionY number) = number < length layouts
 IsKnown layouts whole (PointerY to) = IsKnown layouts whole to
-IsKnown layouts whole (ArrayY of count) = IsKnown layouts whole of × (is_whole whole of ≡ true) × (words_of layouts (ArrayY of count) ≤ type_limit) × (1 ≤ count)
+IsKnown layouts whole (ArrayY of count) = IsKnown layouts whole of × (is_whole whole of ≡ true) × (words_of layouts (ArrayY of count) ≤ type_limit)
 
 -- what an object, a member or a parameter may be: a type that has words, of which the size is known
 pub record IsSized (layouts : List LayoutT) (whole : List Bool) (ty : Ty) : Type 0 where
@@ -222,12 +222,11 @@ abbrev pub AreSized : List LayoutT → List Bool → List MemberT → Type 0
 AreSized layouts whole [] = Unit {0}
 AreSized layouts whole (m ∷ ms) = IsSized layouts whole m.ty × AreSized layouts whole ms
 
--- A structure or union that is declared whole is laid out, has a word, and is no larger than a type may be.
+-- A structure or union that is declared whole is laid out, and no larger than a type may be.
 pub record IsLaidOut (layouts : List LayoutT) (whole : List Bool) (l : LayoutT) : Type 0 where
   pub places : IsPlaced layouts l
   pub members : AreSized layouts whole l.members
   pub size : l.size ≤ type_limit
-  pub filled : 1 ≤ l.size
 
 -- one that is not has no members
 abbrev pub IsDeclaredAs : List LayoutT → List Bool → LayoutT → Bool → Type 0

@@ -1,10 +1,7 @@
 // What holds of every program.
 ghost use Rattle.std.specs.Prelude.{◌≤◌};
 ghost use Rattle.c_check.specs.View.{program};
-ghost use Rattle.c_types.specs.Programs.{ProgramT};
-ghost use Rattle.c_types.specs.Sizes.{words_of};
-ghost use Rattle.c_types.specs.Types.{Ty};
-ghost use Rattle.c_facts.specs.Sound.{IsSized, IsSound};
+ghost use Rattle.c_facts.specs.Sound.{IsSound};
 ghost use Rattle.c_types.specs.Nodes.{program_nodes};
 
 use c_check::Program;
@@ -20,10 +17,4 @@ pub fn programs_are_sound(checked: &Program)
 /// A program has at most 200,000 nodes.
 pub fn programs_have_few_nodes(checked: &Program)
     ensures few { program_nodes (program checked.now) ≤ 200000 }
-{}
-
-/// What has a size, in a sound program, has a word at least: a structure or union that is declared whole has a member, and an array an
-/// element.
-pub fn types_with_a_size_have_a_word()
-    ensures words { (p : ProgramT) (s : IsSound p) (ty : Ty) → IsSized p.layouts s.whole ty → 1 ≤ words_of p.layouts ty }
 {}

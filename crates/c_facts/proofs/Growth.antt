@@ -149,7 +149,7 @@ compound_later {whole = whole} {all = all} g op to place from ty h = judged_late
 pub step_later : {layouts later : List LayoutT} {whole all : List Bool} → Grows layouts whole later all → (op : StepOp) (to : Ty) (place : Bool) (ty : Ty) → judged (step_rule whole op to place) ≡ Ok ty → judged (step_rule all op to place) ≡ Ok ty
 step_later g op to place ty h = compound_later g (step_operator op) to place IntY ty h
 
-given_holds : {A : Type 0} (test : Bool) (x y : A) → given test x ≡ Some y → test ≡ true
+pub given_holds : {A : Type 0} (test : Bool) (x y : A) → given test x ≡ Some y → test ≡ true
 given_holds true x y h = refl
 given_holds false x y h = cc
 

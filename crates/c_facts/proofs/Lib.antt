@@ -30,3 +30,5 @@ pub mod Meant
 pub mod Functions
 pub mod Programs
 pub mod OneWay
+pub mod KnownTypes
+pub mod Starts

@@ -3,6 +3,8 @@ ghost use Rattle.std.specs.Prelude.{◌≤◌};
 ghost use Rattle.c_check.specs.View.{program};
 ghost use Rattle.c_facts.specs.Sound.{IsSound};
 ghost use Rattle.c_types.specs.Nodes.{program_nodes};
+ghost use Rattle.c_facts.specs.Known.{SizedHaveSizes, KnownAreNumbered, KeepsItself, AssignedAreStored};
+ghost use Rattle.c_facts.specs.Start.{StartsAreGiven};
 
 use c_check::Program;
 
@@ -17,4 +19,23 @@ pub fn programs_are_sound(checked: &Program)
 /// A program has at most 200,000 nodes.
 pub fn programs_have_few_nodes(checked: &Program)
     ensures few { program_nodes (program checked.now) ≤ 200000 }
+{}
+
+/// The structures and unions of a type that a program knows are there. A complete type has at least one word and at most 4,194,304, so its
+/// size may be asked for.
+pub fn known_types_have_sizes()
+    ensures numbered { KnownAreNumbered }
+    ensures sized { SizedHaveSizes }
+{}
+
+/// A structure or union is stored, passed, returned and filled in as itself alone, nothing else becomes one, and none is cast. What is assigned
+/// converts to the type of its place.
+pub fn structures_become_themselves()
+    ensures kept { KeepsItself }
+    ensures assigned { AssignedAreStored }
+{}
+
+/// The start of a program fills the globals with constants, NULL and texts alone.
+pub fn starts_are_given()
+    ensures given { StartsAreGiven }
 {}

@@ -29,6 +29,7 @@ pub mod Counts
 pub mod Meant
 pub mod Functions
 pub mod Programs
+pub mod BodyItems
 pub mod OneWay
 pub mod KnownTypes
 pub mod Starts

@@ -1,5 +1,5 @@
 -- Programs that are typed are sound.
-use Rattle.std.proofs.Common.{◌≡◌, ◌⊎◌, ℕ, suc, ◌<◌, Bool, true, false, List, [], ◌∷◌, ◌++◌, length, Option, Some, None, refl, sym, ap, ap₂, ◌∙◌, subst, subst₂, inl, inr, arith, length-append, length-set}
+use Rattle.std.proofs.Common.{◌≡◌, ◌⊎◌, ℕ, zero, suc, ◌<◌, Bool, true, false, List, [], ◌∷◌, ◌++◌, map, length, Option, Some, None, refl, sym, ap, ap₂, ◌∙◌, subst, subst₂, inl, inr, arith, length-append, length-set}
 use Rattle.std.proofs.lemmas.Option.{slice_get_within}
 use Rattle.std.proofs.lemmas.Bool.{cases_eq}
 use Rattle.std.specs.Prelude.{slice_get, slice_set, codes, if◌then◌else◌}
@@ -9,7 +9,7 @@ use Rattle.c_types.specs.Types.{Ty, MemberT, LayoutT}
 use Rattle.c_types.specs.Typed.{TVarT, TStmtT, VarsZ, TStmtTs}
 use Rattle.c_rules.specs.Kinds.{holds}
 use Rattle.c_rules.specs.Sizes.{is_declared}
-use Rattle.c_exprs.specs.Env.{Text, find, TypeD, FunctionD}
+use Rattle.c_exprs.specs.Env.{Text, find, Decl, TypeD, GlobalD, FunctionD}
 use Rattle.c_check.specs.Reading.{Un, has_members, opening, bodies_of, state_in, named, record_type, new_record, record_entered, with_layout, with_init, begun, ended, with_function}
 use Rattle.c_types.specs.Sizes.{no_layout}
 use Rattle.c_stmts.specs.State.{made}
@@ -18,7 +18,7 @@ use Rattle.c_check.specs.ItemTypes as item
 use Rattle.c_check.specs.ItemTypes.{TypeAt, Globals, Parameters, BodyAt, MaybeBody, Item, Items}
 use Rattle.c_check.specs.Whole as check
 use Rattle.c_check.specs.Whole.{is_plain, plain_number, main_of, program_of, WellTyped}
-use Rattle.c_facts.specs.Sound.{Scene, IsKnown, AreSized, IsLaidOut, IsDeclaredAs, AreDeclaredAs, wholes, in_call, IsFunction, AreFunctions, FillGlobals, AreFilled, IsSound}
+use Rattle.c_facts.specs.Sound.{Scene, IsKnown, AreSized, IsLaidOut, IsDeclaredAs, AreDeclaredAs, AreApart, wholes, in_call, IsFunction, AreFunctions, FillGlobals, AreFilled, IsSound}
 use Rattle.c_facts.proofs.Within.{Grows, AreMeant, AllMembersKnown, MembersKnown, AllWhole}
 use Rattle.c_facts.proofs.Fronts.{begins_itself, last_or_before, replaced_at, replaced_there, others_stay}
 use Rattle.c_facts.proofs.Stays.{grows_itself, grows_through, known_stays}
@@ -26,7 +26,7 @@ use Rattle.c_facts.proofs.Positive.{HaveWords, placed_has_words}
 use Rattle.c_facts.proofs.Laid.{AreLaid, AreMembers, no_members_yet, declared_before, declared_there, record_grows, layout_grows}
 use Rattle.c_facts.proofs.ItemRules.{members_whole, IsRuled, function_ruled}
 use Rattle.c_facts.proofs.Readings.{Later, later_itself, later_through, Keeps, keeps_through, kept_later, by_record, named_keeps, enum_keeps, type_keeps, maybe_body_keeps, enumerators_keep, members_keep}
-use Rattle.c_facts.proofs.Sane.{Sane, members_so_far, opening_sane, kept_sane, record_follows, global_keeps, function_keeps, with_layout_later, with_init_later, with_function_later, item_follows, items_follow}
+use Rattle.c_facts.proofs.Sane.{AreNamed, AreOwn, Sane, members_so_far, opening_sane, kept_sane, record_follows, global_keeps, function_keeps, with_layout_later, with_init_later, with_function_later, item_follows, items_follow}
 use Rattle.c_facts.proofs.Counts.{HaveNumbers, unit_numbers}
 use Rattle.c_facts.proofs.Meant.{Ends, Meant, meant_more, named_meant, type_known, members_known, enumeration_meant, globals_known}
 use Rattle.c_facts.proofs.Functions.{head_known, ends_call, function_sound}
@@ -306,6 +306,37 @@ declared_as layouts whole (l ∷ ls) (w ∷ ws) e laid empty =
     let rest = declared_as layouts whole ls ws (omega (arith, e)) (λ k m. laid (suc k) m) (λ k m. empty (suc k) m) in
     ((one.0, rest.0), ap₂ (λ x xs. x ∷ xs) one.1 rest.1)
 
+-- ---- names
+
+one_global : (i j : ℕ) (t u : Ty) → Some (GlobalD i t) ≡ Some (GlobalD j u) → i ≡ j
+one_global i j t u e = cc
+
+one_number : (i j : ℕ) → Some i ≡ Some j → i ≡ j
+one_number i j e = cc
+
+mapped_at : {A : Type 0} (f : A → Text) (xs : List A) (k : ℕ) (n : Text) → slice_get (map f xs) k ≡ Some n → (x : A) × (slice_get xs k ≡ Some x) × (f x ≡ n)
+mapped_at f [] k n e = absurd cc
+mapped_at f (x ∷ xs) zero n e = (x, refl, cc)
+mapped_at f (x ∷ xs) (suc k) n e = mapped_at f xs k n e
+
+globals_apart : (globals : List (Text × ℕ)) (names : List (Text × Decl)) → AreNamed names globals → AreApart (map (λ g. g.0) globals)
+globals_apart globals names h i j n e f =
+    let a = mapped_at (λ (g : Text × ℕ). g.0) globals i n e in
+    let b = mapped_at (λ (g : Text × ℕ). g.0) globals j n f in
+    let x = h i a.0 a.1 in
+    let y = h j b.0 b.1 in
+    let p : find n names ≡ Some (GlobalD i x.0) = subst (λ m. find m names ≡ Some (GlobalD i x.0)) a.2 x.1 in
+    let q : find n names ≡ Some (GlobalD j y.0) = subst (λ m. find m names ≡ Some (GlobalD j y.0)) b.2 y.1 in
+    one_global i j x.0 y.0 (sym p ∙ q)
+
+functions_apart : (functions : List TFunctionT) (names : List (Text × Decl)) (bodies : List (Text × ℕ)) → AreOwn names bodies functions → AreApart (map (λ f. f.name) functions)
+functions_apart functions names bodies h i j n e f =
+    let a = mapped_at (λ (g : TFunctionT). g.name) functions i n e in
+    let b = mapped_at (λ (g : TFunctionT). g.name) functions j n f in
+    let p : find n bodies ≡ Some i = subst (λ m. find m bodies ≡ Some i) a.2 (h i a.0 a.1).0 in
+    let q : find n bodies ≡ Some j = subst (λ m. find m bodies ≡ Some j) b.2 (h j b.0 b.1).0 in
+    one_number i j (sym p ∙ q)
+
 -- the function `main`
 main_there : (fs : List TFunctionT) (o : Option ℕ) (k : ℕ) → plain_number fs o ≡ Some k → holds is_plain (slice_get fs k) ≡ true
 main_there fs None k e = absurd cc
@@ -340,6 +371,8 @@ unit_sound units fin k g m =
       literals = sane.texts.words;
       inits = all.inits;
       functions = all.functions;
+      global_names = globals_apart fin.globals fin.names sane.named;
+      function_names = functions_apart fin.functions fin.names fin.bodies sane.functions;
       main = main_there fin.functions (find (codes "main") fin.bodies) k m;
     }
 

@@ -1,3 +1,4 @@
 pub mod Sound
 pub mod Known
 pub mod Start
+pub mod Bodies

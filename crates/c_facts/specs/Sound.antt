@@ -286,10 +286,16 @@ wholes layouts = map has_members layouts
 abbrev pub scene : ProgramT → Scene
 scene p = record { layouts = p.layouts; whole = wholes p.layouts; globals = p.globals; literals = p.literals; functions = p.functions; locals = [] }
 
+-- no two names are equal
+abbrev pub AreApart : List Text → Type 0
+AreApart names = (i j : ℕ) (n : Text) → slice_get names i ≡ Some n → slice_get names j ≡ Some n → i ≡ j
+
 pub record IsSound (p : ProgramT) : Type 0 where
   pub layouts : AreDeclaredAs p.layouts (wholes p.layouts) p.layouts
   pub globals : sum_by (λ g. g.1) p.globals ≤ globals_limit
   pub literals : text_words p.literals ≤ text_limit
   pub inits : FillGlobals (scene p) p.inits
   pub functions : AreFunctions (scene p) p.functions
+  pub global_names : AreApart (map (λ g. g.0) p.globals)
+  pub function_names : AreApart (map (λ f. f.name) p.functions)
   pub main : holds is_plain (slice_get p.functions p.main) ≡ true

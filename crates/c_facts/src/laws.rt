@@ -3,6 +3,7 @@ ghost use Rattle.std.specs.Prelude.{◌≤◌};
 ghost use Rattle.c_check.specs.View.{program};
 ghost use Rattle.c_facts.specs.Sound.{IsSound};
 ghost use Rattle.c_types.specs.Nodes.{program_nodes};
+ghost use Rattle.c_facts.specs.Bodies.{FunctionsAreBodies};
 ghost use Rattle.c_facts.specs.Known.{SizedHaveSizes, KnownAreNumbered, KeepsItself, AssignedAreStored};
 ghost use Rattle.c_facts.specs.Start.{StartsAreGiven};
 
@@ -38,4 +39,10 @@ pub fn structures_become_themselves()
 /// The start of a program fills the globals with constants, NULL and texts alone.
 pub fn starts_are_given()
     ensures given { StartsAreGiven }
+{}
+
+/// The functions of a unit's program are its items with a body, in their order, by name and number of parameters; so the k-th function is
+/// defined where the k-th of these items stands.
+pub fn functions_are_bodies()
+    ensures bodies { FunctionsAreBodies }
 {}

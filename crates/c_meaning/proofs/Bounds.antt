@@ -11,7 +11,7 @@ use Rattle.c_tree.specs.declared.operator.BinOp.TheVariants.{AndAlso, OrElse}
 use Rattle.c_types.specs.Types.{Ty, VoidY, IntY, BoolY, EnumY, StructY, UnionY, PointerY, ArrayY}
 use Rattle.c_types.specs.Typed.{TExprT, Typed, TKindT, NumberK, NullK, LiteralK, GlobalK, LocalK, UnaryK, BinaryK, AssignK, StepK, IndexK, MemberK, ArrowK, CastK, CallK, InK, OutK, WaitK, HaltK, CardK, TExprTs, NoX, MoreX, TInitT, OneI, TextI, ListI, TInitTs, NoI, MoreI, TVarT, TStmtT, BlockZ, EmptyZ, VarsZ, DoZ, IfZ, WhileZ, DoWhileZ, ForZ, SwitchZ, ReturnZ, BreakZ, ContinueZ, MaybeZ, NoneZ, SomeZ, TStmtTs, NoZ, MoreZ, TArmT, CaseB, DefaultB, StmtB, TArmTs, NoB, MoreB}
 use Rattle.c_meaning.specs.Kinds.{type_of, span_of, is_structure, decayed}
-use Rattle.c_meaning.specs.Parts.{Parts, Elements, Members, parts_of, next_type, later_parts}
+use Rattle.c_meaning.specs.Parts.{part_type}
 use Rattle.c_types.specs.Programs.{TFunctionT}
 use Rattle.obj_mem.specs.declared.cell.Cell.{Cell}
 use Rattle.obj_mem.specs.declared.cell.Cell.TheVariants.{Num, Ptr, Null}
@@ -260,19 +260,25 @@ module _ (s : Setting) (n n' : ℕ) (u : Up n n') (prev prev' : Before) (p : (t 
   text_later : (number size : ℕ) (at : Cell) (w : World) → Later went w.events (text_filled s n number size at w) (text_filled s n' number size at w)
   text_later number size at w = then_went_later went _ _ (λ v. cells_later nowhere 1 (size - literal_words s number) n n' u None (further at (literal_words s number)) v) w.events _ _ (cells_later nowhere 1 (literal_words s number) n n' u (Some (literal_at s number)) at w)
 
-  rest_later : (parts : Parts) (at : Cell) (w : World) → Later went w.events (rest_filled s n parts at w) (rest_filled s n' parts at w)
-  rest_later (Elements of count) at w = cells_later nowhere 1 (words s of * count) n n' u None at w
-  rest_later (Members types) at w = same went (Through w)
+  rest_later : (ty : Ty) (k : ℕ) (at : Cell) (w : World) → Later went w.events (rest_filled s n ty k at w) (rest_filled s n' ty k at w)
+  rest_later (ArrayY of len) k at w = cells_later nowhere 1 (words s of * (len - k)) n n' u None at w
+  rest_later VoidY k at w = same went (Through w)
+  rest_later IntY k at w = same went (Through w)
+  rest_later BoolY k at w = same went (Through w)
+  rest_later (EnumY number) k at w = same went (Through w)
+  rest_later (StructY number) k at w = same went (Through w)
+  rest_later (UnionY number) k at w = same went (Through w)
+  rest_later (PointerY to) k at w = same went (Through w)
 
   mutual
     filled_later : (i : TInitT) (ty : Ty) (at : Cell) (w : World) → Later went w.events (filled s n prev i ty at w) (filled s n' prev' i ty at w)
     filled_later (OneI x) ty at w = one_later ty x at w.events _ _ (eval_later x (spend 1 w))
     filled_later (TextI number) ty at w = text_later number (words s ty) at (spend 1 w)
-    filled_later (ListI items) ty at w = all_filled_later items (parts_of s.layouts ty) at (spend 1 w)
+    filled_later (ListI items) ty at w = all_filled_later items ty 0 at (spend 1 w)
 
-    all_filled_later : (is : TInitTs) (parts : Parts) (at : Cell) (w : World) → Later went w.events (all_filled s n prev is parts at w) (all_filled s n' prev' is parts at w)
-    all_filled_later NoI parts at w = rest_later parts at w
-    all_filled_later (MoreI i rest) parts at w = then_went_later went _ _ (λ v. all_filled_later rest (later_parts parts) (further at (words s (next_type parts))) v) w.events _ _ (filled_later i (next_type parts) at w)
+    all_filled_later : (is : TInitTs) (ty : Ty) (k : ℕ) (at : Cell) (w : World) → Later went w.events (all_filled s n prev is ty k at w) (all_filled s n' prev' is ty k at w)
+    all_filled_later NoI ty k at w = rest_later ty k at w
+    all_filled_later (MoreI i rest) ty k at w = then_went_later went _ _ (λ v. all_filled_later rest ty (k + 1) (further at (words s (part_type s.layouts ty k))) v) w.events _ _ (filled_later i (part_type s.layouts ty k) at w)
 
   variable_later : (v : TVarT) (w : World) → Later went w.events (variable_filled s n prev v w) (variable_filled s n' prev' v w)
   variable_later v w = asked_later went nowhere w (object_of v.global v.object w.store) _ _ (λ at. filled_later v.init v.ty at (spend 1 w))

@@ -12,7 +12,7 @@ use Rattle.c_tree.specs.declared.operator.BinOp.TheVariants.{AndAlso, OrElse}
 use Rattle.c_types.specs.Types.{Ty, VoidY, IntY, BoolY, EnumY, StructY, UnionY, PointerY, ArrayY}
 use Rattle.c_types.specs.Typed.{TExprT, Typed, TKindT, NumberK, NullK, LiteralK, GlobalK, LocalK, UnaryK, BinaryK, AssignK, StepK, IndexK, MemberK, ArrowK, CastK, CallK, InK, OutK, WaitK, HaltK, CardK, TExprTs, NoX, MoreX, TInitT, OneI, TextI, ListI, TInitTs, NoI, MoreI, TVarT, TStmtT, BlockZ, EmptyZ, VarsZ, DoZ, IfZ, WhileZ, DoWhileZ, ForZ, SwitchZ, ReturnZ, BreakZ, ContinueZ, MaybeZ, NoneZ, SomeZ, TStmtTs, NoZ, MoreZ, TArmT, CaseB, DefaultB, StmtB, TArmTs, NoB, MoreB}
 use Rattle.c_meaning.specs.Kinds.{type_of, span_of, is_structure, decayed}
-use Rattle.c_meaning.specs.Parts.{Parts, Elements, Members, parts_of, next_type, later_parts}
+use Rattle.c_meaning.specs.Parts.{part_type}
 use Rattle.c_types.specs.Programs.{TFunctionT, ProgramT}
 use Rattle.obj_mem.specs.declared.cell.Cell.{Cell}
 use Rattle.obj_mem.specs.declared.cell.Cell.TheVariants.{Num}
@@ -370,19 +370,25 @@ module _ (d : ℕ) (es : List Event) where
     pub text_past : (number size : ℕ) (at : Cell) (w : World) → text_filled s n number size at (p w) ≡ pw (text_filled s n number size at w)
     text_past number size at w = then_went_past went _ (λ v. cells_past _ 1 n (size - literal_words s number) None (further at (literal_words s number)) v) _ _ (cells_past _ 1 n (literal_words s number) (Some (literal_at s number)) at w)
 
-    pub rest_past : (parts : Parts) (at : Cell) (w : World) → rest_filled s n parts at (p w) ≡ pw (rest_filled s n parts at w)
-    rest_past (Elements of count) at w = cells_past _ 1 n (words s of * count) None at w
-    rest_past (Members types) at w = refl
+    pub rest_past : (ty : Ty) (k : ℕ) (at : Cell) (w : World) → rest_filled s n ty k at (p w) ≡ pw (rest_filled s n ty k at w)
+    rest_past (ArrayY of len) k at w = cells_past _ 1 n (words s of * (len - k)) None at w
+    rest_past VoidY k at w = refl
+    rest_past IntY k at w = refl
+    rest_past BoolY k at w = refl
+    rest_past (EnumY number) k at w = refl
+    rest_past (StructY number) k at w = refl
+    rest_past (UnionY number) k at w = refl
+    rest_past (PointerY to) k at w = refl
 
     mutual
       pub filled_past : (i : TInitT) (ty : Ty) (at : Cell) (w : World) → filled s n prev i ty at (p w) ≡ pw (filled s n prev i ty at w)
       filled_past (OneI x) ty at w = ap (λ t. one_filled s n ty x at (evaluated s n prev x t)) (spend_past d es 1 w) ∙ one_past ty x at _ _ (evaluated_past x (spend 1 w))
       filled_past (TextI number) ty at w = ap (text_filled s n number (words s ty) at) (spend_past d es 1 w) ∙ text_past number (words s ty) at (spend 1 w)
-      filled_past (ListI items) ty at w = ap (all_filled s n prev items (parts_of s.layouts ty) at) (spend_past d es 1 w) ∙ all_filled_past items (parts_of s.layouts ty) at (spend 1 w)
+      filled_past (ListI items) ty at w = ap (all_filled s n prev items ty 0 at) (spend_past d es 1 w) ∙ all_filled_past items ty 0 at (spend 1 w)
 
-      pub all_filled_past : (is : TInitTs) (parts : Parts) (at : Cell) (w : World) → all_filled s n prev is parts at (p w) ≡ pw (all_filled s n prev is parts at w)
-      all_filled_past NoI parts at w = rest_past parts at w
-      all_filled_past (MoreI i rest) parts at w = then_went_past went _ (λ v. all_filled_past rest (later_parts parts) (further at (words s (next_type parts))) v) _ _ (filled_past i (next_type parts) at w)
+      pub all_filled_past : (is : TInitTs) (ty : Ty) (k : ℕ) (at : Cell) (w : World) → all_filled s n prev is ty k at (p w) ≡ pw (all_filled s n prev is ty k at w)
+      all_filled_past NoI ty k at w = rest_past ty k at w
+      all_filled_past (MoreI i rest) ty k at w = then_went_past went _ (λ v. all_filled_past rest ty (k + 1) (further at (words s (part_type s.layouts ty k))) v) _ _ (filled_past i (part_type s.layouts ty k) at w)
 
     variable_past : (v : TVarT) (w : World) → variable_filled s n prev v (p w) ≡ pw (variable_filled s n prev v w)
     variable_past v w = asked_past went _ w (object_of v.global v.object w.store) _ _ (λ at. ap (filled s n prev v.init v.ty at) (spend_past d es 1 w) ∙ filled_past v.init v.ty at (spend 1 w))

@@ -1,39 +1,15 @@
--- The parts of an object that a brace list fills, in their order (the C language guide, section on initialisers).
-use Rattle.std.specs.Prelude.{ℕ, ◌-◌, List, [], ◌∷◌, slice_get, Option, Some, None}
-use Rattle.c_types.specs.Types.{Ty, VoidY, StructY, UnionY, ArrayY, MemberT, LayoutT}
+-- The parts of an object that a brace list fills, by their numbers (the C language guide, section on initialisers).
+use Rattle.std.specs.Prelude.{ℕ, List, slice_get, Option, option_and_then}
+use Rattle.std.specs.Option.{option_map_or}
+use Rattle.c_types.specs.Types.{Ty, VoidY, StructY, UnionY, ArrayY, LayoutT}
 
--- So many elements of one type, or members of these types.
-pub data Parts : Type 0 where
-  Elements : (of : Ty) (left : ℕ) → Parts
-  Members : (types : List Ty) → Parts
+-- the type of a member of the structure or union of that number
+abbrev pub member_type : List LayoutT → (number k : ℕ) → Ty
+member_type layouts number k = option_map_or (λ m. m.ty) (option_and_then (λ l. slice_get l.members k) (slice_get layouts number)) VoidY
 
-abbrev pub member_types : List MemberT → List Ty
-member_types [] = []
-member_types (m ∷ ms) = m.ty ∷ member_types ms
-
-abbrev pub members_of : Option LayoutT → List Ty
-members_of None = []
-members_of (Some l) = member_types l.members
-
-abbrev pub first_of : List Ty → List Ty
-first_of [] = []
-first_of (ty ∷ tys) = ty ∷ []
-
--- An array's elements, a structure's members, a union's first member; another type has no parts.
-abbrev pub parts_of : List LayoutT → Ty → Parts
-parts_of layouts (ArrayY of len) = Elements of len
-parts_of layouts (StructY number) = Members (members_of (slice_get layouts number))
-parts_of layouts (UnionY number) = Members (first_of (members_of (slice_get layouts number)))
-parts_of layouts _ = Members []
-
--- the type of the next part
-abbrev pub next_type : Parts → Ty
-next_type (Elements of left) = of
-next_type (Members []) = VoidY
-next_type (Members (ty ∷ tys)) = ty
-
--- the parts behind it
-abbrev pub later_parts : Parts → Parts
-later_parts (Elements of left) = Elements of (left - 1)
-later_parts (Members []) = Members []
-later_parts (Members (ty ∷ tys)) = Members tys
+-- The type of a part: of an element, or of a member in its order; another type has no parts.
+abbrev pub part_type : List LayoutT → Ty → (k : ℕ) → Ty
+part_type layouts (ArrayY of len) k = of
+part_type layouts (StructY number) k = member_type layouts number k
+part_type layouts (UnionY number) k = member_type layouts number k
+part_type layouts _ k = VoidY

@@ -1,0 +1,11 @@
+pub mod Kinds
+pub mod Parts
+pub mod Outcomes
+pub mod Setting
+pub mod Operators
+pub mod Cells
+pub mod Expressions
+pub mod Initialisers
+pub mod Statements
+pub mod Runs
+pub mod Frames

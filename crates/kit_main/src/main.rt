@@ -9,8 +9,6 @@ mod counts;
 mod disk_files;
 mod stdout_sink;
 mod streams;
-#[cfg(test)]
-mod tests;
 
 use disk_files::DiskFiles;
 use kit_core::kit;

@@ -11,6 +11,7 @@ pub mod Scopes
 pub mod Initialisers
 pub mod Spending
 pub mod Statements
+pub mod Making
 pub mod ExpressionNodes
 pub mod StatementNodes
 pub mod ProgramNodes

@@ -54,12 +54,12 @@ pub record Takes (s : Scene) (un : Un) (ps : List Ty) (up : Un) : Type 0 where
   pub meant : Meant s up
 
 -- one object more
-record AddsOne (un up : Un) : Type 0 where
-  size : ℕ
-  added : up.sizes ≡ un.sizes ++ size ∷ []
-  used : up.used ≡ un.used
+pub record AddsOne (un up : Un) : Type 0 where
+  pub size : ℕ
+  pub added : up.sizes ≡ un.sizes ++ size ∷ []
+  pub used : up.used ≡ un.used
 
-parameter_adds : {un : Un} {v : VarT} {t : Ty} {up : Un} → Parameter un v t up → AddsOne un up
+pub parameter_adds : {un : Un} {v : VarT} {t : Ty} {up : Un} → Parameter un v t up → AddsOne un up
 parameter_adds (item.parameter {un = un} {up = up} {v = v} {t = t} {n = n} g0 g1) =
     let sizes = with_parameter_sizes v.name t n up in
     let types = type_sizes g0 in
@@ -146,7 +146,7 @@ head_known name {s = s} {t = t} {ps = ps} {up = up} {uq = uq} e g0 g1 later b m 
 
 -- ---- the body
 
-named_sizes : (name : Text) (ps : List Ty) (t : Ty) (un : Un) → ((named name (FunctionD ps t) un).sizes ≡ un.sizes) × ((named name (FunctionD ps t) un).used ≡ un.used)
+pub named_sizes : (name : Text) (ps : List Ty) (t : Ty) (un : Un) → ((named name (FunctionD ps t) un).sizes ≡ un.sizes) × ((named name (FunctionD ps t) un).used ≡ un.used)
 named_sizes name ps t un = by_named (λ up. (up.sizes ≡ un.sizes) × (up.used ≡ un.used)) name (FunctionD ps t) un (refl, refl) (refl, refl)
 
 -- what a body adds to the objects of the parameters

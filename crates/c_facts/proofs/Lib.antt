@@ -31,6 +31,7 @@ pub mod Meant
 pub mod Functions
 pub mod Programs
 pub mod BodyItems
+pub mod Locals
 pub mod OneWay
 pub mod KnownTypes
 pub mod Starts

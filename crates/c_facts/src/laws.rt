@@ -1,5 +1,6 @@
 // What holds of every program.
-ghost use Rattle.std.specs.Prelude.{◌≤◌};
+ghost use Rattle.std.specs.Prelude.{◌≤◌, ◌≡◌, ℕ, Some, length, slice_get};
+ghost use Rattle.c_types.specs.Programs.{TFunctionT};
 ghost use Rattle.c_check.specs.View.{program};
 ghost use Rattle.c_facts.specs.Sound.{IsSound};
 ghost use Rattle.c_types.specs.Nodes.{program_nodes};
@@ -20,6 +21,11 @@ pub fn programs_are_sound(checked: &Program)
 /// A program has at most 200,000 nodes.
 pub fn programs_have_few_nodes(checked: &Program)
     ensures few { program_nodes (program checked.now) ≤ 200000 }
+{}
+
+/// A call of a function has at most 200,000 objects.
+pub fn functions_have_few_locals(checked: &Program)
+    ensures few { (k : ℕ) (f : TFunctionT) → slice_get (program checked.now).functions k ≡ Some f → length f.locals ≤ 200000 }
 {}
 
 /// The structures and unions of a type that a program knows are there. A complete type has at least one word and at most 4,194,304, so its

@@ -7,7 +7,7 @@ use Rattle.c_types.specs.Typed.{TStmtTs}
 use Rattle.c_rules.specs.Rules.{judged}
 use Rattle.c_exprs.specs.Env.{Text, Decl, FunctionD}
 use Rattle.c_stmts.specs.State.{made, locals_limit}
-use Rattle.c_check.specs.Reading.{Un, function_under, state_in, with_state, with_texts, with_names, named, begun, parameter_rule, with_parameter, result_rule}
+use Rattle.c_check.specs.Reading.{Un, function_under, state_in, with_texts, with_names, named, begun, parameter_rule, with_parameter, result_rule}
 use Rattle.c_check.specs.ItemTypes as item
 use Rattle.c_check.specs.ItemTypes.{TypeAt, BodyAt, Parameter, Parameters}
 use Rattle.c_facts.specs.Made.{all_made_in, IsMadeOnce}

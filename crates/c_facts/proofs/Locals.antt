@@ -1,19 +1,19 @@
 -- A function has at most as many objects as its item has nodes.
-use Rattle.std.proofs.Common.{◌≡◌, ◌⊎◌, inl, inr, ℕ, ◌+◌, ◌≤◌, Bool, List, [], ◌∷◌, ◌++◌, length, Option, Some, None, refl, ap, ◌∙◌, subst, arith, length-append}
+use Rattle.std.proofs.Common.{◌≡◌, ◌⊎◌, inl, inr, ℕ, ◌+◌, ◌≤◌, Bool, List, [], ◌∷◌, ◌++◌, length, Option, Some, refl, ap, ◌∙◌, subst, arith, length-append}
 use Rattle.std.specs.Prelude.{slice_get}
 use Rattle.c_tree.specs.declared.span.Span.{Span}
-use Rattle.c_tree.specs.Tree.{ExprT, TypeT, InitT, VarT, StmtT, MaybeS, StmtTs, ArmT, ArmTs, ItemT, FunctionD}
+use Rattle.c_tree.specs.Tree.{ExprT, TypeT, VarT, StmtT, MaybeS, StmtTs, ArmT, ArmTs, ItemT, FunctionD}
 use Rattle.c_tree.specs.Count.{var_nodes, vars_nodes, stmt_nodes, maybe_nodes, stmts_nodes, item_nodes, unit_nodes}
 use Rattle.c_tree.specs.Count as tree
 use Rattle.c_types.specs.Types.{Ty}
 use Rattle.c_types.specs.Typed.{TExprT, TVarT, TStmtT, MaybeZ, TStmtTs, TArmT, TArmTs}
 use Rattle.c_types.specs.Programs.{TFunctionT, ProgramT}
-use Rattle.c_exprs.specs.Env.{Text, Decl}
+use Rattle.c_exprs.specs.Env.{Text}
 use Rattle.c_exprs.specs.Env.{FunctionD as FunctionIs}
-use Rattle.c_stmts.specs.State.{Fn, St, opened, left, made, entered, Labels}
+use Rattle.c_stmts.specs.State.{Fn, St, made, Labels}
 use Rattle.c_stmts.specs.StatementTypes as s
 use Rattle.c_stmts.specs.StatementTypes.{ValueIn, Declares, AllDeclare, MaybeValue, Statement, MaybeStatement, Statements, ArmOf, ArmsOf}
-use Rattle.c_check.specs.Reading.{Un, opening, state_in, begun, bodies_of, named, record_entered, with_function}
+use Rattle.c_check.specs.Reading.{Un, state_in, begun, named, with_function}
 use Rattle.c_check.specs.ItemTypes as item
 use Rattle.c_check.specs.ItemTypes.{BodyAt, Parameter, Parameters, MaybeBody, Item, Items}
 use Rattle.c_check.specs.Whole as check

@@ -1,10 +1,10 @@
 -- Each item with a body makes one function.
-use Rattle.std.proofs.Common.{◌≡◌, ℕ, suc, ◌+◌, List, [], ◌∷◌, ◌++◌, length, Option, Some, None, refl, sym, ap, ◌∙◌, subst, arith, append_assoc, append-nil}
+use Rattle.std.proofs.Common.{◌≡◌, suc, List, [], ◌∷◌, ◌++◌, length, Option, refl, sym, ap, ◌∙◌, subst, append_assoc, append-nil}
 use Rattle.c_tree.specs.declared.span.Span.{Span}
 use Rattle.c_tree.specs.Tree.{TypeT, VarT, StmtTs, ItemT, FunctionD}
 use Rattle.c_types.specs.Types.{Ty}
 use Rattle.c_types.specs.Typed.{TStmtTs}
-use Rattle.c_types.specs.Programs.{TFunctionT, ProgramT}
+use Rattle.c_types.specs.Programs.{TFunctionT}
 use Rattle.c_exprs.specs.Env.{Text}
 use Rattle.c_stmts.specs.State.{made}
 use Rattle.c_check.specs.Reading.{Un, opening, state_in, bodies_of, record_entered, with_function}

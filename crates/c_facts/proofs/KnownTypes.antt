@@ -1,21 +1,19 @@
 -- What follows of types that are known.
-use Rattle.std.proofs.Common.{◌≡◌, ◌⊎◌, inl, inr, ℕ, zero, suc, ◌<◌, ◌≤◌, Bool, true, false, ◌&&◌, ◌||◌, not, List, [], ◌∷◌, length, map, Option, Some, None, Ok, refl, sym, ap, ◌∙◌, subst, arith}
+use Rattle.std.proofs.Common.{◌≡◌, ◌⊎◌, inl, inr, ℕ, zero, suc, ◌<◌, ◌≤◌, Bool, true, false, ◌&&◌, ◌||◌, not, List, [], ◌∷◌, length, Option, Some, None, refl, sym, ap, ◌∙◌, subst, arith}
 use Rattle.std.specs.Prelude.{slice_get}
 use Rattle.std.specs.Option.{option_map_or}
 use Rattle.std.proofs.lemmas.Bool.{and_parts}
 use Rattle.std.proofs.lemmas.Option.{slice_get-map}
 use Rattle.c_types.specs.Types.{Ty, VoidY, IntY, BoolY, EnumY, StructY, UnionY, PointerY, ArrayY, LayoutT}
-use Rattle.c_types.specs.Typed.{TExprT, AssignK}
 use Rattle.c_types.specs.Sizes.{words_of, IsNumbered}
 use Rattle.c_types.specs.Programs.{ProgramT}
-use Rattle.c_rules.specs.Kinds.{is_void, is_number, is_array, is_structure, is_pointer, decayed, pointed, holds, leads_alike, pointers_convert, same_type, converts, can_cast}
+use Rattle.c_rules.specs.Kinds.{is_number, is_array, is_structure, is_pointer, decayed, pointed, holds, leads_alike, pointers_convert, same_type, converts, can_cast}
 use Rattle.c_rules.specs.Sizes.{is_declared, is_whole, type_limit}
-use Rattle.c_rules.specs.Rules.{judged}
-use Rattle.c_rules.specs.Nodes.{given, assign_rule}
+use Rattle.c_rules.specs.Nodes.{assign_rule}
 use Rattle.c_exprs.specs.Nodes.{type_of_typed, is_place}
 use Rattle.c_check.specs.Reading.{has_members}
-use Rattle.c_facts.specs.Sound.{Scene, IsKnown, IsSized, IsKind, IsLaidOut, IsDeclaredAs, AreDeclaredAs, wholes, IsSound}
-use Rattle.c_facts.specs.Known.{HasSize, SizedHaveSizes, KnownAreNumbered, KeepsItself, IsStored, AssignedAreStored}
+use Rattle.c_facts.specs.Sound.{IsKnown, IsLaidOut, IsDeclaredAs, AreDeclaredAs, wholes, IsSound}
+use Rattle.c_facts.specs.Known.{SizedHaveSizes, KnownAreNumbered, KeepsItself, AssignedAreStored}
 use Rattle.c_facts.proofs.Equal.{types_equal}
 use Rattle.c_facts.proofs.Fronts.{within_at}
 use Rattle.c_facts.proofs.Growth.{judged_holds, given_is, given_holds}

@@ -11,6 +11,7 @@ pub mod Scopes
 pub mod Initialisers
 pub mod Spending
 pub mod Statements
+pub mod Making
 pub mod ExpressionNodes
 pub mod StatementNodes
 pub mod ProgramNodes
@@ -30,6 +31,7 @@ pub mod Meant
 pub mod Functions
 pub mod Programs
 pub mod BodyItems
+pub mod Locals
 pub mod OneWay
 pub mod KnownTypes
 pub mod Starts

@@ -1,7 +1,6 @@
 -- That a program is sound is shown in one way.
-use Rattle.std.proofs.Common.{◌≡◌, ◌⊎◌, ℕ, ◌+◌, max, Bool, true, false, List, [], ◌∷◌, Option, Some, None, Result, Ok, Err, refl, sym, ap, ◌∙◌, subst, inl, inr, arith}
+use Rattle.std.proofs.Common.{◌≡◌, ℕ, ◌+◌, max, Bool, true, false, List, [], ◌∷◌, Option, Some, None, Result, refl, sym, subst}
 use Rattle.std.proofs.Props.{props}
-use Rattle.std.proofs.lemmas.Bool.{cases_Bool}
 use mathlib.Core.HLevel.{Discrete, hedberg}
 use Rattle.std.specs.Prelude.{slice_get}
 use Rattle.c_types.specs.Types.{Ty, VoidY, IntY, BoolY, EnumY, StructY, UnionY, PointerY, ArrayY, MemberT, LayoutT}
@@ -15,7 +14,7 @@ use Rattle.c_exprs.specs.Nodes.{type_of_typed}
 use Rattle.c_stmts.specs.Slots.{Slots, NoSlots, Elements, Members, slots_of, next_slot, later_slots}
 use Rattle.c_stmts.specs.State.{Labels, no_labels, with_label}
 use Rattle.c_check.specs.Reading.{has_members}
-use Rattle.c_facts.specs.Sound.{Scene, IsKnown, IsSized, IsValue, IsUsed, IsCall, Calls, IsTyped, IsKind, AreValues, IsTypedValue, HasPlaces, FillsAs, FillEach, IsObject, IsFilled, AreFilled, AreObjects, IsTest, MayTest, MayValue, Returns, IsLabel, IsStatement, MayState, AreStatements, AreArms, IsArm, AreSized, IsLaidOut, IsDeclaredAs, AreDeclaredAs, AreCallObjects, in_call, IsFunction, AreFunctions, FillsGlobals, FillGlobals, wholes, scene, IsSound}
+use Rattle.c_facts.specs.Sound.{Scene, IsKnown, IsSized, IsValue, IsUsed, Calls, IsTyped, IsKind, AreValues, IsTypedValue, HasPlaces, FillsAs, FillEach, IsObject, IsFilled, AreFilled, AreObjects, IsTest, MayTest, MayValue, Returns, IsLabel, IsStatement, MayState, AreStatements, AreArms, IsArm, AreSized, IsLaidOut, IsDeclaredAs, AreDeclaredAs, AreCallObjects, in_call, IsFunction, AreFunctions, FillsGlobals, FillGlobals, wholes, scene, IsSound}
 use Rattle.c_facts.proofs.Equal.{types_equal}
 use Rattle.c_facts.proofs.Lookups.{same_itself}
 

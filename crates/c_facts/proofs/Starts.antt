@@ -1,9 +1,7 @@
 -- What the start of a program fills the globals with.
-use Rattle.std.proofs.Common.{◌≡◌, ◌⊎◌, inl, inr, ℕ, Bool, true, false, ◌&&◌, ◌||◌, not, List, [], ◌∷◌, Option, Some, None, refl, subst}
-use Rattle.std.specs.Prelude.{is_some, slice_get, option_and_then}
+use Rattle.std.proofs.Common.{◌≡◌, ℕ, Bool, true, false, ◌&&◌, ◌||◌, not, List, [], ◌∷◌, Option, Some, None, refl}
+use Rattle.std.specs.Prelude.{is_some, option_and_then}
 use Rattle.std.specs.List.{list_all}
-use Rattle.std.proofs.lemmas.Bool.{and_parts}
-use Rattle.c_tree.specs.declared.operator.UnOp.{UnOp}
 use Rattle.c_tree.specs.declared.operator.UnOp.TheVariants.{Minus, Plus, Not, Flip, Deref, Address}
 use Rattle.c_tree.specs.declared.operator.BinOp.{BinOp}
 use Rattle.c_types.specs.Types.{Ty}
@@ -12,7 +10,7 @@ use Rattle.c_rules.specs.Kinds.{is_array, is_structure, converts}
 use Rattle.c_rules.specs.Constants.{constant_unary, constant_binary}
 use Rattle.c_exprs.specs.Nodes.{type_of_typed, kind_of_typed, constant, constant_kind}
 use Rattle.c_stmts.specs.Slots.{Slots, slots_of, next_slot, later_slots, is_null_or_text, is_fixed}
-use Rattle.c_facts.specs.Sound.{Scene, takes_value, FillsAs, FillEach, AreFilled, FillsGlobals, FillGlobals, scene, IsSound}
+use Rattle.c_facts.specs.Sound.{Scene, FillsAs, FillEach, AreFilled, FillsGlobals, FillGlobals, scene}
 use Rattle.c_facts.specs.Start.{is_reckoned, is_reckoned_kind, is_given, fills_with_given, all_fill_with_given, gives_globals, StartsAreGiven}
 
 both : (a b : Bool) → a ≡ true → b ≡ true → (a && b) ≡ true

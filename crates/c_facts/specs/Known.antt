@@ -1,5 +1,5 @@
 -- What known types have, and what becomes of structures and unions: follows from `Sound`.
-use Rattle.std.specs.Prelude.{◌≡◌, ℕ, ◌<◌, ◌≤◌, Bool, true, ◌||◌, None, Ok}
+use Rattle.std.specs.Prelude.{◌≡◌, ◌<◌, ◌≤◌, true, ◌||◌, None}
 use Rattle.c_types.specs.Types.{Ty}
 use Rattle.c_types.specs.Typed.{TExprT, AssignK}
 use Rattle.c_types.specs.Sizes.{words_of, IsNumbered}

@@ -1,3 +1,4 @@
+pub mod Made
 pub mod Sound
 pub mod Known
 pub mod Start

@@ -18,6 +18,7 @@ use Rattle.c_stmts.specs.State.{locals_limit, is_condition_of, Labels, no_labels
 use Rattle.c_check.specs.Reading.{has_members, parameter_rule, result_rule, globals_limit}
 use Rattle.c_types.specs.Programs.{TFunctionT, ProgramT}
 use Rattle.c_check.specs.Whole.{is_plain}
+use Rattle.c_facts.specs.Made.{IsMadeOnce}
 
 -- What the trees of a function, or those that fill the globals, name. `whole` tells by their numbers which structures and unions are
 -- declared whole; `locals` are the sizes of the objects of a call.
@@ -263,6 +264,7 @@ pub record IsFunction (s : Scene) (f : TFunctionT) : Type 0 where
   pub known : IsKnown s.layouts s.whole f.gives
   pub result : judged (result_rule s.layouts s.whole f.gives) ≡ Ok tt
   pub objects : AreCallObjects s.layouts s.whole f.params f.locals
+  pub made : IsMadeOnce f
   pub body : AreStatements (in_call s f.locals) f.body f.gives false false
 
 abbrev pub AreFunctions : Scene → List TFunctionT → Type 0

@@ -1,9 +1,9 @@
--- The start of a program, which fills the globals: it calls nothing, has no port operation, writes nothing but the globals, and cannot
--- fault. Follows from `Sound`.
-use Rattle.std.specs.Prelude.{◌≡◌, ℕ, Bool, true, false, ◌&&◌, ◌||◌, List, is_some}
+-- The start of a program, which fills the globals: it has no call, no port operation, no loop but those of its initialisers, and no zero
+-- divisor. Follows from `Sound`.
+use Rattle.std.specs.Prelude.{◌≡◌, Bool, true, false, ◌&&◌, ◌||◌, is_some}
 use Rattle.std.specs.List.{list_all}
 use Rattle.c_tree.specs.declared.operator.UnOp.TheVariants.{Minus, Plus, Not, Flip}
-use Rattle.c_types.specs.Typed.{TExprT, Typed, TKindT, NumberK, UnaryK, BinaryK, TInitT, OneI, TextI, ListI, TInitTs, NoI, MoreI, TVarT, TStmtT, VarsZ}
+use Rattle.c_types.specs.Typed.{TExprT, Typed, TKindT, NumberK, UnaryK, BinaryK, TInitT, OneI, TextI, ListI, TInitTs, NoI, MoreI, TStmtT, VarsZ}
 use Rattle.c_types.specs.Programs.{ProgramT}
 use Rattle.c_exprs.specs.Nodes.{constant, kind_of_typed}
 use Rattle.c_stmts.specs.Slots.{is_null_or_text}

@@ -1,5 +1,6 @@
 // What holds of every program.
-ghost use Rattle.std.specs.Prelude.{◌≤◌};
+ghost use Rattle.std.specs.Prelude.{◌≤◌, ◌≡◌, ℕ, Some, length, slice_get};
+ghost use Rattle.c_types.specs.Programs.{TFunctionT};
 ghost use Rattle.c_check.specs.View.{program};
 ghost use Rattle.c_facts.specs.Sound.{IsSound};
 ghost use Rattle.c_types.specs.Nodes.{program_nodes};
@@ -10,9 +11,10 @@ ghost use Rattle.c_facts.specs.Start.{StartsAreGiven};
 use c_check::Program;
 
 /// Every number of a program names what is there: a structure or union, a global, a text, a function, an object of the call, a port of the
-/// table; every tree is typed by the rule of its node from the types of its parts; structures and unions are laid out; and the limits are
-/// kept: 4,194,304 words of a type, 3,145,728 of all globals, 4,000,000 of all texts, 1,000,000 of the variables of a function, 4,096 of a
-/// structure or union that is a value.
+/// table; every tree is typed by the rule of its node from the types of its parts; structures and unions are laid out, and what is complete has
+/// words; each object of a call is made in one list of a block, `for` or `switch`, or with the call; names of functions differ, and so do those
+/// of globals; and the limits are kept: 4,194,304 words of a type, 3,145,728 of all globals, 4,000,000 of all texts, 1,000,000 of the variables
+/// of a function, 4,096 of a structure or union that is a value.
 pub fn programs_are_sound(checked: &Program)
     ensures sound { IsSound (program checked.now) }
 {}
@@ -20,6 +22,11 @@ pub fn programs_are_sound(checked: &Program)
 /// A program has at most 200,000 nodes.
 pub fn programs_have_few_nodes(checked: &Program)
     ensures few { program_nodes (program checked.now) ≤ 200000 }
+{}
+
+/// A call of a function has at most 200,000 objects.
+pub fn functions_have_few_locals(checked: &Program)
+    ensures few { (k : ℕ) (f : TFunctionT) → slice_get (program checked.now).functions k ≡ Some f → length f.locals ≤ 200000 }
 {}
 
 /// The structures and unions of a type that a program knows are there. A complete type has at least one word and at most 4,194,304, so its

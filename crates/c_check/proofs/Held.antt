@@ -163,4 +163,4 @@ unfolding counted_record item
 record_so un u n vs s =
     let entered = record_entered u n un in
     ap (λ (r : Reads LayoutT). r >>= with_record s u n) (members_held entered (no_layout u) vs)
-      ∙ record_from s u n (members entered (no_layout u) vs) (members_in entered (no_layout u) vs tt)
+    ∙ record_from s u n (members entered (no_layout u) vs) (members_in entered (no_layout u) vs tt)

@@ -19,7 +19,9 @@ ghost use Rattle.c_stmts.specs.InitTypes.{Fills};
 ghost use Rattle.c_stmts.specs.InitBreaks.{NoFill};
 
 use crate::slots::{has_room, slot_at};
-use c_exprs::{CheckErr, Globals, Scope, Texts, constant, demanded, kept_texts, span_of, type_value};
+use c_exprs::{
+    CheckErr, Globals, Scope, Texts, constant, demanded, kept_texts, span_of, type_value,
+};
 use c_rules::{Code, converts, is_structure};
 use c_tree::{Init, Span};
 use c_types::{CType, Layout, TExpr, TInit, TKind};

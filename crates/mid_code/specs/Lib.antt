@@ -20,3 +20,4 @@ pub mod Calls
 pub mod Alike
 pub mod Programs
 pub mod Whole
+pub mod Choices

@@ -19,5 +19,5 @@ pub use code::Code;
 pub use function::Function;
 pub use mid::Mid;
 pub use node::{Node, Op};
-pub use placed::{Spots, Where};
+pub use placed::{Choice, Spots, Where};
 pub use placed_code::Placed;

@@ -15,3 +15,9 @@ pub struct Spots {
     pub locals: Seq<u32>,
     pub own: Seq<u32>,
 }
+
+/// Where each temporary of a function stands, by its number.
+#[derive(Drop)]
+pub struct Choice {
+    pub at: Seq<Where>,
+}

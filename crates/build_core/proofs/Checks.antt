@@ -22,7 +22,8 @@ use Rattle.c_exprs.specs.declared.error.CheckErr.{CheckErr}
 use Rattle.c_exprs.specs.declared.error.CheckErr.TheVariants as check_errors
 use Rattle.c_check.specs.declared.program.Program.{Program}
 use Rattle.c_check.specs.View.{program}
-use Rattle.c_check.specs.Whole.{ProgramT, WellTyped, FirstBroken}
+use Rattle.c_check.specs.Whole.{WellTyped, FirstBroken}
+use Rattle.c_types.specs.Programs.{ProgramT}
 use Rattle.project_text.specs.declared.error.ProjectErr.{ProjectErr}
 use Rattle.project_text.specs.declared.error.ProjectErr.TheVariants as project_errors
 use Rattle.project_text.specs.declared.project.Project.{Project}

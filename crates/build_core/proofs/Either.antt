@@ -13,7 +13,8 @@ use Rattle.c_front.specs.declared.places.Places.{Places}
 use Rattle.c_front.specs.declared.unit.Parsed.{Parsed}
 use Rattle.c_front.specs.Due.{IsUnit, IsNoUnit, IsRefused, bad, deep, unread, unparsed, places_of}
 use Rattle.c_front.specs.Over.{over}
-use Rattle.c_check.specs.Whole.{ProgramT, WellTyped}
+use Rattle.c_check.specs.Whole.{WellTyped}
+use Rattle.c_types.specs.Programs.{ProgramT}
 use Rattle.c_check.proofs.WholeExact.{one_program, not_both}
 use Rattle.project_text.specs.declared.project.Project.{Project}
 use Rattle.project_text.specs.declared.error.ProjectErr.{ProjectErr}

@@ -18,7 +18,8 @@ use Rattle.c_rules.specs.Rules.{number_of}
 use Rattle.c_exprs.specs.Faults.{FaultT}
 use Rattle.c_check.specs.declared.program.Program.{Program}
 use Rattle.c_check.specs.View.{program}
-use Rattle.c_check.specs.Whole.{ProgramT, WellTyped, FirstBroken}
+use Rattle.c_check.specs.Whole.{WellTyped, FirstBroken}
+use Rattle.c_types.specs.Programs.{ProgramT}
 use Rattle.project_text.specs.declared.error.ProjectErr.TheVariants as project_errors
 use Rattle.project_text.specs.declared.project.Project.{Project}
 use Rattle.project_text.specs.ProjectText.{IsProject}

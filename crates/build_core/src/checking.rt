@@ -8,7 +8,8 @@ ghost use Rattle.c_parse.specs.Units.{Derives};
 ghost use Rattle.c_front.specs.Causes.{IsWithin};
 ghost use Rattle.c_front.specs.Over.{over};
 ghost use Rattle.c_exprs.specs.Faults.{at};
-ghost use Rattle.c_check.specs.Whole.{ProgramT, WellTyped};
+ghost use Rattle.c_check.specs.Whole.{WellTyped};
+ghost use Rattle.c_types.specs.Programs.{ProgramT};
 ghost use Rattle.build_core.specs.Causes.{HasReadCauses};
 ghost use Rattle.build_core.specs.Checked.{Accepts, CanBeRefused, Checks, ChecksSource, IsOfRules, IsProgramOf, MissesOnly, Tells, Types, broken, unread};
 

@@ -1,7 +1,7 @@
 // Laws over the definitions alone, each the contract of a function that does nothing.
 ghost use Rattle.std.specs.Prelude.{ℕ, ◌≡◌, ◌↔◌, List, Some, Ok};
 ghost use Rattle.kit_base.specs.Held.{Held};
-ghost use Rattle.c_check.specs.Whole.{ProgramT};
+ghost use Rattle.c_types.specs.Programs.{ProgramT};
 ghost use Rattle.build_core.specs.declared.building.Built.{Built};
 ghost use Rattle.build_core.specs.declared.error.BuildErr.{BuildErr};
 ghost use Rattle.build_core.specs.declared.straight.Statement.{Statement};

@@ -7,7 +7,8 @@ use Rattle.c_exprs.specs.declared.error.CheckErr.{CheckErr}
 use Rattle.c_exprs.specs.declared.error.CheckErr.TheVariants.{At}
 use Rattle.c_exprs.specs.Faults.{at}
 use Rattle.c_exprs.specs.Gives.{Gives}
-use Rattle.c_check.specs.Whole.{ProgramT, WellTyped, FirstBroken, checked}
+use Rattle.c_check.specs.Whole.{WellTyped, FirstBroken, checked}
+use Rattle.c_types.specs.Programs.{ProgramT}
 use Rattle.c_check.proofs.WholeExact.{checked_typed, checked_broken}
 
 pub typed : {X : Type 0} (seen : X → ProgramT) (all : List ItemT) (r : Result X CheckErr) → Gives seen r (checked all) → IfOk r (λ x. WellTyped all (seen x))

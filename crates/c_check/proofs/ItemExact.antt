@@ -11,7 +11,8 @@ use Rattle.c_exprs.specs.Env as env
 use Rattle.c_exprs.specs.Faults.{FaultT, ◌>>=◌, placed, known, demanded}
 use Rattle.c_exprs.specs.Nodes.{span_of, constant}
 use Rattle.c_stmts.specs.State.{filled_var}
-use Rattle.c_check.specs.Reading.{Un, under, function_under, state_in, with_state, with_texts, is_free, named, no_layout, record_entered, record_number, with_member, member_size, members_declared, with_layout, enum_entered, global_size, with_global, with_init, begun, parameter_size, with_parameter, function_rules, with_function}
+use Rattle.c_check.specs.Reading.{Un, under, function_under, state_in, with_state, with_texts, is_free, named, record_entered, record_number, member_size, members_declared, with_layout, enum_entered, global_size, with_global, with_init, begun, parameter_size, with_parameter, function_rules, with_function}
+use Rattle.c_types.specs.Sizes.{no_layout, with_member}
 use Rattle.c_exprs.specs.Typing.{Typer, as_value, typed, type_of}
 use Rattle.c_exprs.proofs.Exact.{ValueOut, value_good, value_bad, TypeOut, type_outcome, type_good, type_bad}
 use Rattle.c_stmts.proofs.Values.{value_outcome}
@@ -25,13 +26,13 @@ use Rattle.c_check.specs.ItemTypes.{ValueAt, TypeAt, FillsAt, BodyAt, Member, Me
 use Rattle.c_check.specs.ItemBreaks as bad
 use Rattle.c_check.specs.ItemBreaks.{NoValueAt, NoTypeAt, NoFillAt, NoBodyAt, NoMember, NoMembers, NoEnumerator, NoNamedEnumerator, NoEnumerators, NotFilledAt, NoGlobal, NoGlobals, NoParameter, NoParameters, NoMaybeBody, NoItem, NoItems}
 
-abbrev pub MemberOut : Un → Bool → LayoutT → VarT → Reads LayoutT → Type 0
-MemberOut un is_union seen v (Ok x) = Member un is_union seen v x.0 x.1
-MemberOut un is_union seen v (Err fault) = NoMember un is_union seen v fault
+abbrev pub MemberOut : Un → LayoutT → VarT → Reads LayoutT → Type 0
+MemberOut un seen v (Ok x) = Member un seen v x.0 x.1
+MemberOut un seen v (Err fault) = NoMember un seen v fault
 
-abbrev pub MembersOut : Un → Bool → LayoutT → List VarT → Reads LayoutT → Type 0
-MembersOut un is_union seen vs (Ok x) = Members un is_union seen vs x.0 x.1
-MembersOut un is_union seen vs (Err fault) = NoMembers un is_union seen vs fault
+abbrev pub MembersOut : Un → LayoutT → List VarT → Reads LayoutT → Type 0
+MembersOut un seen vs (Ok x) = Members un seen vs x.0 x.1
+MembersOut un seen vs (Err fault) = NoMembers un seen vs fault
 
 abbrev pub EnumeratorOut : Un → ℕ → Option ExprT → Reads ℕ → Type 0
 EnumeratorOut un next o (Ok x) = Enumerator un next o x.0 x.1
@@ -125,29 +126,29 @@ pub body_at_outcome : (un : Un) (gives : Ty) (body : StmtTs) → BodyAtOut un gi
 unfolding body_at
 body_at_outcome un gives body = body_at_rest un gives body (statements (function_under un gives) (state_in un) false false body) (statements_outcome (function_under un gives) (state_in un) false false body)
 
-member_2 : (un : Un) (is_union : Bool) (seen : LayoutT) (v : VarT) (t : Ty × Un) → TypeAt un v.span v.ty t.0 t.1 → (r : Result ℕ FaultT) → placed v.span (member_size t.1 seen v.name t.0) ≡ r → MemberOut un is_union seen v (r >>= λ n. Ok (with_member is_union seen v.name t.0 n, t.1))
-member_2 un is_union seen v t g0 (Ok n) g1 = good.member g0 g1
-member_2 un is_union seen v t g0 (Err fault) g1 = bad.member g0 g1
+member_2 : (un : Un) (seen : LayoutT) (v : VarT) (t : Ty × Un) → TypeAt un v.span v.ty t.0 t.1 → (r : Result ℕ FaultT) → placed v.span (member_size t.1 seen v.name t.0) ≡ r → MemberOut un seen v (r >>= λ n. Ok (with_member seen v.name t.0 n, t.1))
+member_2 un seen v t g0 (Ok n) g1 = good.member g0 g1
+member_2 un seen v t g0 (Err fault) g1 = bad.member g0 g1
 
-member_1 : (un : Un) (is_union : Bool) (seen : LayoutT) (v : VarT) → (r : Result (Ty × Un) FaultT) → TypeAtOut un v.span v.ty r → MemberOut un is_union seen v (r >>= λ t. placed v.span (member_size t.1 seen v.name t.0) >>= λ n. Ok (with_member is_union seen v.name t.0 n, t.1))
-member_1 un is_union seen v (Ok t) g0 = member_2 un is_union seen v t g0 (placed v.span (member_size t.1 seen v.name t.0)) refl
-member_1 un is_union seen v (Err fault) g0 = bad.member_type g0
+member_1 : (un : Un) (seen : LayoutT) (v : VarT) → (r : Result (Ty × Un) FaultT) → TypeAtOut un v.span v.ty r → MemberOut un seen v (r >>= λ t. placed v.span (member_size t.1 seen v.name t.0) >>= λ n. Ok (with_member seen v.name t.0 n, t.1))
+member_1 un seen v (Ok t) g0 = member_2 un seen v t g0 (placed v.span (member_size t.1 seen v.name t.0)) refl
+member_1 un seen v (Err fault) g0 = bad.member_type g0
 
-pub member_outcome : (un : Un) (is_union : Bool) (seen : LayoutT) (v : VarT) → MemberOut un is_union seen v (member un is_union seen v)
+pub member_outcome : (un : Un) (seen : LayoutT) (v : VarT) → MemberOut un seen v (member un seen v)
 unfolding member
-member_outcome un is_union seen v = member_1 un is_union seen v (type_at un v.span v.ty) (type_at_outcome un v.span v.ty)
+member_outcome un seen v = member_1 un seen v (type_at un v.span v.ty) (type_at_outcome un v.span v.ty)
 
-more_members_2 : (un : Un) (is_union : Bool) (seen : LayoutT) (v : VarT) (vs : List VarT) (x : LayoutT × Un) → Member un is_union seen v x.0 x.1 → (r : Result (LayoutT × Un) FaultT) → MembersOut x.1 is_union x.0 vs r → MembersOut un is_union seen (v ∷ vs) (r >>= λ xs. Ok (xs.0, xs.1))
-more_members_2 un is_union seen v vs x g0 (Ok xs) g1 = good.more_members g0 g1
-more_members_2 un is_union seen v vs x g0 (Err fault) g1 = bad.member_later g0 g1
+more_members_2 : (un : Un) (seen : LayoutT) (v : VarT) (vs : List VarT) (x : LayoutT × Un) → Member un seen v x.0 x.1 → (r : Result (LayoutT × Un) FaultT) → MembersOut x.1 x.0 vs r → MembersOut un seen (v ∷ vs) (r >>= λ xs. Ok (xs.0, xs.1))
+more_members_2 un seen v vs x g0 (Ok xs) g1 = good.more_members g0 g1
+more_members_2 un seen v vs x g0 (Err fault) g1 = bad.member_later g0 g1
 
-more_members_1 : (un : Un) (is_union : Bool) (seen : LayoutT) (v : VarT) (vs : List VarT) → (r : Result (LayoutT × Un) FaultT) → MemberOut un is_union seen v r → ((us : Un) (x : LayoutT × Un) → MembersOut us is_union x.0 vs (members us is_union x.0 vs)) → MembersOut un is_union seen (v ∷ vs) (r >>= λ x. members x.1 is_union x.0 vs >>= λ xs. Ok (xs.0, xs.1))
-more_members_1 un is_union seen v vs (Ok x) g0 h1 = more_members_2 un is_union seen v vs x g0 (members x.1 is_union x.0 vs) (h1 x.1 x)
-more_members_1 un is_union seen v vs (Err fault) g0 h1 = bad.member_here g0
+more_members_1 : (un : Un) (seen : LayoutT) (v : VarT) (vs : List VarT) → (r : Result (LayoutT × Un) FaultT) → MemberOut un seen v r → ((us : Un) (x : LayoutT × Un) → MembersOut us x.0 vs (members us x.0 vs)) → MembersOut un seen (v ∷ vs) (r >>= λ x. members x.1 x.0 vs >>= λ xs. Ok (xs.0, xs.1))
+more_members_1 un seen v vs (Ok x) g0 h1 = more_members_2 un seen v vs x g0 (members x.1 x.0 vs) (h1 x.1 x)
+more_members_1 un seen v vs (Err fault) g0 h1 = bad.member_here g0
 
-pub members_outcome : (un : Un) (is_union : Bool) (seen : LayoutT) (vs : List VarT) → MembersOut un is_union seen vs (members un is_union seen vs)
-members_outcome un is_union seen [] = good.no_members
-members_outcome un is_union seen (v ∷ vs) = more_members_1 un is_union seen v vs (member un is_union seen v) (member_outcome un is_union seen v) (λ us x. members_outcome us is_union x.0 vs)
+pub members_outcome : (un : Un) (seen : LayoutT) (vs : List VarT) → MembersOut un seen vs (members un seen vs)
+members_outcome un seen [] = good.no_members
+members_outcome un seen (v ∷ vs) = more_members_1 un seen v vs (member un seen v) (member_outcome un seen v) (λ us x. members_outcome us x.0 vs)
 
 valued_2 : (un : Un) (next : ℕ) (e : ExprT) (x : TExprT × Un) → ValueAt un e x.0 x.1 → (r : Result ℕ FaultT) → known (span_of e) NotConstant (constant x.0) ≡ r → EnumeratorOut un next (Some e) (r >>= λ k. Ok (k, x.1))
 valued_2 un next e x g0 (Ok k) g1 = good.valued g0 g1
@@ -260,11 +261,11 @@ record_name_1 : (un : Un) (is_union : Bool) (name : Text) (s : Span) → (r : Re
 record_name_1 un is_union name s (Ok n) g0 = good.record_name g0
 record_name_1 un is_union name s (Err fault) g0 = bad.record_name g0
 
-record_members_2 : (un : Un) (is_union : Bool) (name : Text) (vs : List VarT) (s : Span) (l : LayoutT × Un) → Members (record_entered is_union name un) is_union no_layout vs l.0 l.1 → (r : Result ℕ FaultT) → placed s (members_declared is_union name l.1 l.0) ≡ r → ItemOut un (RecordD is_union name (Some vs) s) (r >>= λ n. Ok (tt, with_layout n l.0 l.1))
+record_members_2 : (un : Un) (is_union : Bool) (name : Text) (vs : List VarT) (s : Span) (l : LayoutT × Un) → Members (record_entered is_union name un) (no_layout is_union) vs l.0 l.1 → (r : Result ℕ FaultT) → placed s (members_declared is_union name l.1 l.0) ≡ r → ItemOut un (RecordD is_union name (Some vs) s) (r >>= λ n. Ok (tt, with_layout n l.0 l.1))
 record_members_2 un is_union name vs s l g0 (Ok n) g1 = good.record_members g0 g1
 record_members_2 un is_union name vs s l g0 (Err fault) g1 = bad.record_members g0 g1
 
-record_members_1 : (un : Un) (is_union : Bool) (name : Text) (vs : List VarT) (s : Span) → (r : Result (LayoutT × Un) FaultT) → MembersOut (record_entered is_union name un) is_union no_layout vs r → ItemOut un (RecordD is_union name (Some vs) s) (r >>= λ l. placed s (members_declared is_union name l.1 l.0) >>= λ n. Ok (tt, with_layout n l.0 l.1))
+record_members_1 : (un : Un) (is_union : Bool) (name : Text) (vs : List VarT) (s : Span) → (r : Result (LayoutT × Un) FaultT) → MembersOut (record_entered is_union name un) (no_layout is_union) vs r → ItemOut un (RecordD is_union name (Some vs) s) (r >>= λ l. placed s (members_declared is_union name l.1 l.0) >>= λ n. Ok (tt, with_layout n l.0 l.1))
 record_members_1 un is_union name vs s (Ok l) g0 = record_members_2 un is_union name vs s l g0 (placed s (members_declared is_union name l.1 l.0)) refl
 record_members_1 un is_union name vs s (Err fault) g0 = bad.record_part g0
 
@@ -307,7 +308,7 @@ function_1 un of name vs o s (Err fault) g0 h1 h2 = bad.function_result g0
 pub item_outcome : (un : Un) (i : ItemT) → ItemOut un i (item un i)
 unfolding item
 item_outcome un (RecordD is_union name None s) = record_name_1 un is_union name s (placed s (record_number is_union name (record_entered is_union name un))) refl
-item_outcome un (RecordD is_union name (Some vs) s) = record_members_1 un is_union name vs s (members (record_entered is_union name un) is_union no_layout vs) (members_outcome (record_entered is_union name un) is_union no_layout vs)
+item_outcome un (RecordD is_union name (Some vs) s) = record_members_1 un is_union name vs s (members (record_entered is_union name un) (no_layout is_union) vs) (members_outcome (record_entered is_union name un) (no_layout is_union) vs)
 item_outcome un (EnumD name vs s) = enumeration_1 un name vs s (enumerators (enum_entered name un) s 0 vs) (enumerators_outcome (enum_entered name un) s 0 vs)
 item_outcome un (TypedefD of name s) = type_name_1 un of name s (type_at un s of) (type_at_outcome un s of)
 item_outcome un (VarsD vs s) = objects_1 un vs s (globals un vs) (globals_outcome un vs)
@@ -341,11 +342,11 @@ pub body_at_good : {un up : Un} {gives : Ty} {body : StmtTs} {x : TStmtTs} → B
 unfolding body_at
 body_at_good (good.body_at g0) = rw (statements_good g0) refl
 
-pub member_good : {un : Un} {is_union : Bool} {seen : LayoutT} {v : VarT} {x : LayoutT} {up : Un} → Member un is_union seen v x up → member un is_union seen v ≡ Ok (x, up)
+pub member_good : {un : Un} {seen : LayoutT} {v : VarT} {x : LayoutT} {up : Un} → Member un seen v x up → member un seen v ≡ Ok (x, up)
 unfolding member
 member_good (good.member g0 g1) = rw (type_at_good g0, g1) refl
 
-pub members_good : {un : Un} {is_union : Bool} {seen : LayoutT} {vs : List VarT} {x : LayoutT} {up : Un} → Members un is_union seen vs x up → members un is_union seen vs ≡ Ok (x, up)
+pub members_good : {un : Un} {seen : LayoutT} {vs : List VarT} {x : LayoutT} {up : Un} → Members un seen vs x up → members un seen vs ≡ Ok (x, up)
 members_good good.no_members = refl
 members_good (good.more_members g0 g1) = rw (member_good g0, members_good g1) refl
 
@@ -417,12 +418,12 @@ pub body_at_bad : {un : Un} {gives : Ty} {body : StmtTs} {fault : FaultT} → No
 unfolding body_at
 body_at_bad (bad.body_at g0) = rw (statements_bad g0) refl
 
-pub member_bad : {un : Un} {is_union : Bool} {seen : LayoutT} {v : VarT} {fault : FaultT} → NoMember un is_union seen v fault → member un is_union seen v ≡ Err fault
+pub member_bad : {un : Un} {seen : LayoutT} {v : VarT} {fault : FaultT} → NoMember un seen v fault → member un seen v ≡ Err fault
 unfolding member
 member_bad (bad.member_type g0) = rw (type_at_bad g0) refl
 member_bad (bad.member g0 g1) = rw (type_at_good g0, g1) refl
 
-pub members_bad : {un : Un} {is_union : Bool} {seen : LayoutT} {vs : List VarT} {fault : FaultT} → NoMembers un is_union seen vs fault → members un is_union seen vs ≡ Err fault
+pub members_bad : {un : Un} {seen : LayoutT} {vs : List VarT} {fault : FaultT} → NoMembers un seen vs fault → members un seen vs ≡ Err fault
 members_bad (bad.member_here g0) = rw (member_bad g0) refl
 members_bad (bad.member_later g0 g1) = rw (member_good g0, members_bad g1) refl
 

@@ -1,3 +1,4 @@
 pub mod ItemExact
 pub mod WholeExact
 pub mod Answered
+pub mod Held

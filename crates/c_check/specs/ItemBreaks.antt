@@ -4,12 +4,13 @@ use Rattle.c_tree.specs.declared.span.Span.{Span}
 use Rattle.c_tree.specs.Tree.{ExprT, TypeT, InitT, VarT, StmtTs, ItemT, RecordD, EnumD, TypedefD, VarsD, FunctionD}
 use Rattle.c_types.specs.Types.{Ty, LayoutT}
 use Rattle.c_types.specs.Typed.{TExprT, TInitT, TVarT, TStmtTs}
+use Rattle.c_types.specs.Sizes.{no_layout}
 use Rattle.c_rules.specs.declared.code.Code.TheVariants.{Twice, NotConstant}
 use Rattle.c_exprs.specs.Env.{Text, TypeD, ConstantD, GlobalD}
 use Rattle.c_exprs.specs.Env as env
 use Rattle.c_exprs.specs.Faults.{FaultT, placed, known, demanded}
 use Rattle.c_exprs.specs.Nodes.{span_of, constant}
-use Rattle.c_check.specs.Reading.{Un, under, function_under, state_in, is_free, named, no_layout, record_entered, record_number, member_size, members_declared, enum_entered, global_size, begun, parameter_size, function_rules}
+use Rattle.c_check.specs.Reading.{Un, under, function_under, state_in, is_free, named, record_entered, record_number, member_size, members_declared, enum_entered, global_size, begun, parameter_size, function_rules}
 use Rattle.c_exprs.specs.Breaks.{NoValue, NoName}
 use Rattle.c_stmts.specs.InitBreaks.{NoFill}
 use Rattle.c_stmts.specs.StatementBreaks.{NotStatements}
@@ -32,13 +33,13 @@ pub data NoBodyAt : Un → Ty → StmtTs → FaultT → Type 0 where
   body_at : {un : Un} {gives : Ty} {body : StmtTs} {fault : FaultT} → NotStatements (function_under un gives) (state_in un) false false body fault → NoBodyAt un gives body fault
 
 -- a member, behind these
-pub data NoMember : Un → Bool → LayoutT → VarT → FaultT → Type 0 where
-  member_type : {un : Un} {is_union : Bool} {seen : LayoutT} {v : VarT} {fault : FaultT} → NoTypeAt un v.span v.ty fault → NoMember un is_union seen v fault
-  member : {un up : Un} {is_union : Bool} {seen : LayoutT} {v : VarT} {t : Ty} {fault : FaultT} → TypeAt un v.span v.ty t up → placed v.span (member_size up seen v.name t) ≡ Err fault → NoMember un is_union seen v fault
+pub data NoMember : Un → LayoutT → VarT → FaultT → Type 0 where
+  member_type : {un : Un} {seen : LayoutT} {v : VarT} {fault : FaultT} → NoTypeAt un v.span v.ty fault → NoMember un seen v fault
+  member : {un up : Un} {seen : LayoutT} {v : VarT} {t : Ty} {fault : FaultT} → TypeAt un v.span v.ty t up → placed v.span (member_size up seen v.name t) ≡ Err fault → NoMember un seen v fault
 
-pub data NoMembers : Un → Bool → LayoutT → List VarT → FaultT → Type 0 where
-  member_here : {un : Un} {is_union : Bool} {seen : LayoutT} {v : VarT} {vs : List VarT} {fault : FaultT} → NoMember un is_union seen v fault → NoMembers un is_union seen (v ∷ vs) fault
-  member_later : {un up : Un} {is_union : Bool} {seen : LayoutT} {v : VarT} {vs : List VarT} {x : LayoutT} {fault : FaultT} → Member un is_union seen v x up → NoMembers up is_union x vs fault → NoMembers un is_union seen (v ∷ vs) fault
+pub data NoMembers : Un → LayoutT → List VarT → FaultT → Type 0 where
+  member_here : {un : Un} {seen : LayoutT} {v : VarT} {vs : List VarT} {fault : FaultT} → NoMember un seen v fault → NoMembers un seen (v ∷ vs) fault
+  member_later : {un up : Un} {seen : LayoutT} {v : VarT} {vs : List VarT} {x : LayoutT} {fault : FaultT} → Member un seen v x up → NoMembers up x vs fault → NoMembers un seen (v ∷ vs) fault
 
 -- the number of an enumerator; one without a value has the next number
 pub data NoEnumerator : Un → ℕ → Option ExprT → FaultT → Type 0 where
@@ -85,8 +86,8 @@ pub data NoMaybeBody : Un → Ty → Option StmtTs → FaultT → Type 0 where
 -- An item, in the order of reading. A function's own rules come behind its body.
 pub data NoItem : Un → ItemT → FaultT → Type 0 where
   record_name : {un : Un} {is_union : Bool} {name : Text} {s : Span} {fault : FaultT} → placed s (record_number is_union name (record_entered is_union name un)) ≡ Err fault → NoItem un (RecordD is_union name None s) fault
-  record_part : {un : Un} {is_union : Bool} {name : Text} {vs : List VarT} {s : Span} {fault : FaultT} → NoMembers (record_entered is_union name un) is_union no_layout vs fault → NoItem un (RecordD is_union name (Some vs) s) fault
-  record_members : {un up : Un} {is_union : Bool} {name : Text} {vs : List VarT} {s : Span} {l : LayoutT} {fault : FaultT} → Members (record_entered is_union name un) is_union no_layout vs l up → placed s (members_declared is_union name up l) ≡ Err fault → NoItem un (RecordD is_union name (Some vs) s) fault
+  record_part : {un : Un} {is_union : Bool} {name : Text} {vs : List VarT} {s : Span} {fault : FaultT} → NoMembers (record_entered is_union name un) (no_layout is_union) vs fault → NoItem un (RecordD is_union name (Some vs) s) fault
+  record_members : {un up : Un} {is_union : Bool} {name : Text} {vs : List VarT} {s : Span} {l : LayoutT} {fault : FaultT} → Members (record_entered is_union name un) (no_layout is_union) vs l up → placed s (members_declared is_union name up l) ≡ Err fault → NoItem un (RecordD is_union name (Some vs) s) fault
   enumeration_part : {un : Un} {name : Text} {vs : List (Text × Option ExprT)} {s : Span} {fault : FaultT} → NoEnumerators (enum_entered name un) s 0 vs fault → NoItem un (EnumD name vs s) fault
   enumeration : {un up : Un} {name : Text} {vs : List (Text × Option ExprT)} {s : Span} {x : Unit {0}} {fault : FaultT} → Enumerators (enum_entered name un) s 0 vs x up → demanded s Twice (is_free name un) ≡ Err fault → NoItem un (EnumD name vs s) fault
   type_name_type : {un : Un} {of : TypeT} {name : Text} {s : Span} {fault : FaultT} → NoTypeAt un s of fault → NoItem un (TypedefD of name s) fault

@@ -5,13 +5,14 @@ use Rattle.c_tree.specs.declared.span.Span.{Span}
 use Rattle.c_tree.specs.Tree.{ExprT, TypeT, InitT, VarT, StmtTs, ItemT, RecordD, EnumD, TypedefD, VarsD, FunctionD}
 use Rattle.c_types.specs.Types.{Ty, LayoutT}
 use Rattle.c_types.specs.Typed.{TExprT, TInitT, TVarT, TStmtTs}
+use Rattle.c_types.specs.Sizes.{no_layout, with_member}
 use Rattle.c_rules.specs.declared.code.Code.TheVariants.{Twice, NotConstant}
 use Rattle.c_exprs.specs.Env.{Text, TypeD, ConstantD, GlobalD}
 use Rattle.c_exprs.specs.Env as env
 use Rattle.c_exprs.specs.Faults.{placed, known, demanded}
 use Rattle.c_exprs.specs.Nodes.{span_of, constant}
 use Rattle.c_stmts.specs.State.{St, filled_var}
-use Rattle.c_check.specs.Reading.{Un, under, function_under, state_in, with_state, with_texts, is_free, named, no_layout, record_entered, record_number, with_member, member_size, members_declared, with_layout, enum_entered, global_size, with_global, with_init, begun, parameter_size, with_parameter, function_rules, with_function}
+use Rattle.c_check.specs.Reading.{Un, under, function_under, state_in, with_state, with_texts, is_free, named, record_entered, record_number, member_size, members_declared, with_layout, enum_entered, global_size, with_global, with_init, begun, parameter_size, with_parameter, function_rules, with_function}
 use Rattle.c_exprs.specs.Types.{Values, Names}
 use Rattle.c_stmts.specs.InitTypes.{Fills}
 use Rattle.c_stmts.specs.StatementTypes.{Statements}
@@ -34,12 +35,12 @@ pub data BodyAt : Un → Ty → StmtTs → TStmtTs → Un → Type 0 where
   body_at : {un : Un} {gives : Ty} {body : StmtTs} {x : TStmtTs} {us : St} → Statements (function_under un gives) (state_in un) false false body x us → BodyAt un gives body x (with_state un us)
 
 -- a member, behind these
-pub data Member : Un → Bool → LayoutT → VarT → LayoutT → Un → Type 0 where
-  member : {un up : Un} {is_union : Bool} {seen : LayoutT} {v : VarT} {t : Ty} {n : ℕ} → TypeAt un v.span v.ty t up → placed v.span (member_size up seen v.name t) ≡ Ok n → Member un is_union seen v (with_member is_union seen v.name t n) up
+pub data Member : Un → LayoutT → VarT → LayoutT → Un → Type 0 where
+  member : {un up : Un} {seen : LayoutT} {v : VarT} {t : Ty} {n : ℕ} → TypeAt un v.span v.ty t up → placed v.span (member_size up seen v.name t) ≡ Ok n → Member un seen v (with_member seen v.name t n) up
 
-pub data Members : Un → Bool → LayoutT → List VarT → LayoutT → Un → Type 0 where
-  no_members : {un : Un} {is_union : Bool} {seen : LayoutT} → Members un is_union seen [] seen un
-  more_members : {un up uq : Un} {is_union : Bool} {seen : LayoutT} {v : VarT} {vs : List VarT} {x xs : LayoutT} → Member un is_union seen v x up → Members up is_union x vs xs uq → Members un is_union seen (v ∷ vs) xs uq
+pub data Members : Un → LayoutT → List VarT → LayoutT → Un → Type 0 where
+  no_members : {un : Un} {seen : LayoutT} → Members un seen [] seen un
+  more_members : {un up uq : Un} {seen : LayoutT} {v : VarT} {vs : List VarT} {x xs : LayoutT} → Member un seen v x up → Members up x vs xs uq → Members un seen (v ∷ vs) xs uq
 
 -- the number of an enumerator; one without a value has the next number
 pub data Enumerator : Un → ℕ → Option ExprT → ℕ → Un → Type 0 where
@@ -84,7 +85,7 @@ pub data MaybeBody : Un → Ty → Option StmtTs → Option TStmtTs → Un → T
 -- An item, in the order of reading. A function's own rules come behind its body.
 pub data Item : Un → ItemT → Unit {0} → Un → Type 0 where
   record_name : {un : Un} {is_union : Bool} {name : Text} {s : Span} {n : ℕ} → placed s (record_number is_union name (record_entered is_union name un)) ≡ Ok n → Item un (RecordD is_union name None s) tt (record_entered is_union name un)
-  record_members : {un up : Un} {is_union : Bool} {name : Text} {vs : List VarT} {s : Span} {l : LayoutT} {n : ℕ} → Members (record_entered is_union name un) is_union no_layout vs l up → placed s (members_declared is_union name up l) ≡ Ok n →
+  record_members : {un up : Un} {is_union : Bool} {name : Text} {vs : List VarT} {s : Span} {l : LayoutT} {n : ℕ} → Members (record_entered is_union name un) (no_layout is_union) vs l up → placed s (members_declared is_union name up l) ≡ Ok n →
       Item un (RecordD is_union name (Some vs) s) tt (with_layout n l up)
   enumeration : {un up : Un} {name : Text} {vs : List (Text × Option ExprT)} {s : Span} {x : Unit {0}} → Enumerators (enum_entered name un) s 0 vs x up → demanded s Twice (is_free name un) ≡ Ok tt → Item un (EnumD name vs s) tt up
   type_name : {un up : Un} {of : TypeT} {name : Text} {s : Span} {t : Ty} → TypeAt un s of t up → demanded s Twice (is_free name un) ≡ Ok tt → Item un (TypedefD of name s) tt (named name (TypeD t) up)

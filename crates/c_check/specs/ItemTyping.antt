@@ -5,13 +5,14 @@ use Rattle.c_tree.specs.declared.span.Span.{Span}
 use Rattle.c_tree.specs.Tree.{ExprT, TypeT, InitT, VarT, StmtTs, ItemT, RecordD, EnumD, TypedefD, VarsD, FunctionD}
 use Rattle.c_types.specs.Types.{Ty, LayoutT}
 use Rattle.c_types.specs.Typed.{TExprT, TInitT, TVarT, TStmtTs}
+use Rattle.c_types.specs.Sizes.{no_layout, with_member}
 use Rattle.c_rules.specs.declared.code.Code.TheVariants.{Twice, NotConstant}
 use Rattle.c_exprs.specs.Env.{Text, TypeD, ConstantD, GlobalD}
 use Rattle.c_exprs.specs.Env as env
 use Rattle.c_exprs.specs.Faults.{FaultT, ◌>>=◌, placed, known, demanded}
 use Rattle.c_exprs.specs.Nodes.{span_of, constant}
 use Rattle.c_stmts.specs.State.{filled_var}
-use Rattle.c_check.specs.Reading.{Un, under, function_under, state_in, with_state, with_texts, is_free, named, no_layout, record_entered, record_number, with_member, member_size, members_declared, with_layout, enum_entered, global_size, with_global, with_init, begun, parameter_size, with_parameter, function_rules, with_function}
+use Rattle.c_check.specs.Reading.{Un, under, function_under, state_in, with_state, with_texts, is_free, named, record_entered, record_number, member_size, members_declared, with_layout, enum_entered, global_size, with_global, with_init, begun, parameter_size, with_parameter, function_rules, with_function}
 use Rattle.c_exprs.specs.Typing.{as_value, typed, type_of}
 use Rattle.c_stmts.specs.InitTyping.{filled_by}
 use Rattle.c_stmts.specs.StatementTyping.{statements}
@@ -44,17 +45,17 @@ body_at un gives body = do
   Ok (x.0, with_state un x.1)
 
 -- a member, behind these
-unfoldable pub member : Un → Bool → LayoutT → VarT → Reads LayoutT
-member un is_union seen v = do
+unfoldable pub member : Un → LayoutT → VarT → Reads LayoutT
+member un seen v = do
   t ← type_at un v.span v.ty
   n ← placed v.span (member_size t.1 seen v.name t.0)
-  Ok (with_member is_union seen v.name t.0 n, t.1)
+  Ok (with_member seen v.name t.0 n, t.1)
 
-abbrev pub members : Un → Bool → LayoutT → List VarT → Reads LayoutT
-members un is_union seen [] = Ok (seen, un)
-members un is_union seen (v ∷ vs) = do
-  x ← member un is_union seen v
-  xs ← members x.1 is_union x.0 vs
+abbrev pub members : Un → LayoutT → List VarT → Reads LayoutT
+members un seen [] = Ok (seen, un)
+members un seen (v ∷ vs) = do
+  x ← member un seen v
+  xs ← members x.1 x.0 vs
   Ok (xs.0, xs.1)
 
 -- the number of an enumerator; one without a value has the next number
@@ -128,7 +129,7 @@ item un (RecordD is_union name None s) = do
   n ← placed s (record_number is_union name (record_entered is_union name un))
   Ok (tt, record_entered is_union name un)
 item un (RecordD is_union name (Some vs) s) = do
-  l ← members (record_entered is_union name un) is_union no_layout vs
+  l ← members (record_entered is_union name un) (no_layout is_union) vs
   n ← placed s (members_declared is_union name l.1 l.0)
   Ok (tt, with_layout n l.0 l.1)
 item un (EnumD name vs s) = do

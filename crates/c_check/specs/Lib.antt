@@ -3,6 +3,5 @@ pub mod ItemTyping
 pub mod ItemTypes
 pub mod ItemBreaks
 pub mod Whole
-pub mod Functions
 pub mod View
 pub mod Steps

@@ -3,8 +3,9 @@ use Rattle.std.specs.Prelude.{ℕ, ◌+◌, ◌==◌, Bool, true, false, ◌&&�
 use Rattle.std.specs.Str.{bytes_eq}
 use Rattle.c_tree.specs.Tree.{StmtTs, ItemT, RecordD, EnumD, TypedefD, VarsD, FunctionD}
 use Rattle.c_types.specs.Types.{Ty, EnumY, StructY, UnionY, LayoutT}
+use Rattle.c_types.specs.Programs.{TFunctionT}
 use Rattle.c_types.specs.Typed.{TVarT, TStmtT, VarsZ, TStmtTs}
-use Rattle.c_types.specs.Sizes.{words_of, member_named}
+use Rattle.c_types.specs.Sizes.{words_of, no_layout, with_member, member_named}
 use Rattle.c_rules.specs.declared.code.Code.{Code}
 use Rattle.c_rules.specs.declared.code.Code.TheVariants.{Twice, WrongType, InfiniteType, TooLarge}
 use Rattle.c_rules.specs.Kinds.{is_void, is_array, struct_number, union_number, holds, same_type}
@@ -15,15 +16,7 @@ use Rattle.c_exprs.specs.Env.{Text, find, LocalD, Decl, TypeD, ConstantD, Global
 use Rattle.c_exprs.specs.Env as env
 use Rattle.c_exprs.specs.Intrinsics.{intrinsic}
 use Rattle.c_exprs.specs.Calls.{ensured}
-use Rattle.c_stmts.specs.State.{Scope, Fn, St, innermost, declare, object_size}
-
--- a function with a body; `locals` are the sizes of the objects of a call, its parameters first
-pub record TFunctionT : Type 0 where
-  pub name : Text
-  pub params : List Ty
-  pub locals : List ℕ
-  pub gives : Ty
-  pub body : TStmtTs
+use Rattle.c_stmts.specs.State.{Scope, Fn, St, innermost, declare, made, object_size}
 
 -- What was read of a unit, and the numbers of all functions with a body in it, which do not change: the layouts, with whether each is declared whole; the names of structures and unions, by their numbers; how many
 -- enumerations there are; what names are declared as; the globals with their sizes; their initialisers; the functions with a body; the texts;
@@ -80,24 +73,10 @@ abbrev pub state_in : Un → St
 state_in un = record { scopes = un.scopes; sizes = un.sizes; used = un.used; texts = un.texts }
 
 abbrev pub with_state : Un → St → Un
-with_state un st = record {
-  layouts = un.layouts;
-  whole = un.whole;
-  records = un.records;
-  enums = un.enums;
-  names = un.names;
-  globals = un.globals;
-  inits = un.inits;
-  functions = un.functions;
-  texts = st.texts;
-  scopes = st.scopes;
-  sizes = st.sizes;
-  used = st.used;
-  bodies = un.bodies;
-}
+with_state un st = record un { texts = st.texts; scopes = st.scopes; sizes = st.sizes; used = st.used }
 
 abbrev pub with_texts : Un → List Text → Un
-with_texts un ts = with_state un (record { scopes = un.scopes; sizes = un.sizes; used = un.used; texts = ts })
+with_texts un ts = record un { texts = ts }
 
 -- ---- names
 
@@ -109,21 +88,7 @@ abbrev pub is_free : Text → Un → Bool
 is_free n un = names_free n un.names
 
 abbrev pub with_names : Un → List (Text × Decl) → Un
-with_names un ns = record {
-  layouts = un.layouts;
-  whole = un.whole;
-  records = un.records;
-  enums = un.enums;
-  names = ns;
-  globals = un.globals;
-  inits = un.inits;
-  functions = un.functions;
-  texts = un.texts;
-  scopes = un.scopes;
-  sizes = un.sizes;
-  used = un.used;
-  bodies = un.bodies;
-}
+with_names un ns = record un { names = ns }
 
 -- The name has this meaning from here on; a name that is not free keeps its meaning.
 unfoldable pub named : Text → Decl → Un → Un
@@ -131,28 +96,16 @@ named n d un = if is_free n un then with_names un (un.names ++ (n, d) ∷ []) el
 
 -- ---- structures and unions
 
-abbrev pub no_layout : LayoutT
-no_layout = record { members = []; size = 0 }
-
 abbrev pub record_type : Bool → ℕ → Ty
 record_type true number = UnionY number
 record_type false number = StructY number
 
 abbrev pub new_record : Bool → Text → Un → Un
-new_record is_union n un = record {
-  layouts = un.layouts ++ no_layout ∷ [];
+new_record is_union n un = record un {
+  layouts = un.layouts ++ no_layout is_union ∷ [];
   whole = un.whole ++ false ∷ [];
   records = un.records ++ n ∷ [];
-  enums = un.enums;
   names = un.names ++ (n, TypeD (record_type is_union (length un.layouts))) ∷ [];
-  globals = un.globals;
-  inits = un.inits;
-  functions = un.functions;
-  texts = un.texts;
-  scopes = un.scopes;
-  sizes = un.sizes;
-  used = un.used;
-  bodies = un.bodies;
 }
 
 -- The name is a structure or union from here on, its own members included; a name that is not free keeps its meaning.
@@ -179,58 +132,28 @@ declared_record is_union n records (Some (env.FunctionD params gives)) = Err Twi
 unfoldable pub record_number : Bool → Text → Un → Result ℕ Code
 record_number is_union n un = declared_record is_union n un.records (find n un.names)
 
--- The members so far, and the words that they have; more words than a type may have are counted as one more than that.
-abbrev pub with_member : Bool → LayoutT → Text → Ty → ℕ → LayoutT
-with_member false l n ty words = record { members = l.members ++ record { name = n; offset = l.size; ty = ty } ∷ []; size = min (l.size + words) (type_limit + 1) }
-with_member true l n ty words = record { members = l.members ++ record { name = n; offset = 0; ty = ty } ∷ []; size = max l.size words }
-
 -- a member: its size, where no member before it has its name
 unfoldable pub member_size : Un → LayoutT → Text → Ty → Result ℕ Code
 member_size un l n ty = ensured Twice (not (is_some (member_named n l.members))) (judged (size_rule un.layouts un.whole ty))
 
+abbrev pub has_members : LayoutT → Bool
+has_members l = not (length l.members == 0)
+
 abbrev pub whole_record : Un → LayoutT → Result ℕ Code → Result ℕ Code
 whole_record un l (Err k) = Err k
-whole_record un l (Ok number) = ensured Twice (not (is_declared un.whole number)) (ensured TooLarge (nat_le l.size type_limit) (Ok number))
+whole_record un l (Ok number) = ensured Twice (not (is_declared un.whole number)) (ensured WrongType (has_members l) (ensured TooLarge (nat_le l.size type_limit) (Ok number)))
 
--- Members are declared of a structure or union of this name that has none yet; it has at most so many words.
+-- Members are declared of a structure or union of this name that has none yet; there is one at least, and they have at most so many words.
 unfoldable pub members_declared : Bool → Text → Un → LayoutT → Result ℕ Code
 members_declared is_union n un l = whole_record un l (record_number is_union n un)
 
 abbrev pub with_layout : ℕ → LayoutT → Un → Un
-with_layout number l un = record {
-  layouts = slice_set un.layouts number l;
-  whole = slice_set un.whole number true;
-  records = un.records;
-  enums = un.enums;
-  names = un.names;
-  globals = un.globals;
-  inits = un.inits;
-  functions = un.functions;
-  texts = un.texts;
-  scopes = un.scopes;
-  sizes = un.sizes;
-  used = un.used;
-  bodies = un.bodies;
-}
+with_layout number l un = record un { layouts = slice_set un.layouts number l; whole = slice_set un.whole number true }
 
 -- ---- enumerations
 
 abbrev pub new_enum : Text → Un → Un
-new_enum n un = record {
-  layouts = un.layouts;
-  whole = un.whole;
-  records = un.records;
-  enums = un.enums + 1;
-  names = un.names ++ (n, TypeD (EnumY un.enums)) ∷ [];
-  globals = un.globals;
-  inits = un.inits;
-  functions = un.functions;
-  texts = un.texts;
-  scopes = un.scopes;
-  sizes = un.sizes;
-  used = un.used;
-  bodies = un.bodies;
-}
+new_enum n un = record un { enums = un.enums + 1; names = un.names ++ (n, TypeD (EnumY un.enums)) ∷ [] }
 
 unfoldable pub enum_entered : Text → Un → Un
 enum_entered n un = if is_free n un then new_enum n un else un
@@ -248,47 +171,19 @@ unfoldable pub global_size : Un → Bool → Ty → Result ℕ Code
 global_size un fresh ty = object_size un.layouts un.whole globals_limit (global_words un) fresh ty
 
 abbrev pub with_global : Text → ℕ → Un → Un
-with_global n words un = record {
-  layouts = un.layouts;
-  whole = un.whole;
-  records = un.records;
-  enums = un.enums;
-  names = un.names;
-  globals = un.globals ++ (n, words) ∷ [];
-  inits = un.inits;
-  functions = un.functions;
-  texts = un.texts;
-  scopes = un.scopes;
-  sizes = un.sizes;
-  used = un.used;
-  bodies = un.bodies;
-}
+with_global n words un = record un { globals = un.globals ++ (n, words) ∷ [] }
 
 abbrev pub with_init : List TVarT → Un → Un
-with_init xs un = record {
-  layouts = un.layouts;
-  whole = un.whole;
-  records = un.records;
-  enums = un.enums;
-  names = un.names;
-  globals = un.globals;
-  inits = un.inits ++ VarsZ xs ∷ [];
-  functions = un.functions;
-  texts = un.texts;
-  scopes = un.scopes;
-  sizes = un.sizes;
-  used = un.used;
-  bodies = un.bodies;
-}
+with_init xs un = record un { inits = un.inits ++ VarsZ xs ∷ [] }
 
 -- ---- functions
 
 -- a function is begun, with its scope, or left
 abbrev pub begun : Un → Un
-begun un = with_state un (record { scopes = [] ∷ []; sizes = []; used = 0; texts = un.texts })
+begun un = record un { scopes = [] ∷ []; sizes = []; used = 0 }
 
 abbrev pub ended : Un → Un
-ended un = with_state un (record { scopes = []; sizes = []; used = 0; texts = un.texts })
+ended un = record un { scopes = []; sizes = []; used = 0 }
 
 -- A parameter is no array; its size is known, and that of a structure at most that of a value.
 unfoldable pub parameter_rule : List LayoutT → List Bool → Ty → Rule ℕ
@@ -301,12 +196,7 @@ unfoldable pub parameter_size : Un → Text → Ty → Result ℕ Code
 parameter_size un n ty = ensured Twice (not (is_some (find n (innermost un.scopes)))) (judged (parameter_rule un.layouts un.whole ty))
 
 unfoldable pub with_parameter : Text → Ty → ℕ → Un → Un
-with_parameter n ty words un = with_state un (record {
-  scopes = declare n (record { number = length un.sizes; ty = ty }) un.scopes;
-  sizes = un.sizes ++ words ∷ [];
-  used = un.used;
-  texts = un.texts;
-})
+with_parameter n ty words un = record un { scopes = declare n (record { number = length un.sizes; ty = ty }) un.scopes; sizes = un.sizes ++ words ∷ [] }
 
 abbrev pub same_types : List Ty → List Ty → Bool
 same_types [] [] = true
@@ -348,20 +238,8 @@ function_rules un n params gives body =
     ensured Twice (is_function (find n un.names) && is_own_body n un body)
     (ensured WrongType (agrees params gives (find n un.names)) (judged (result_rule un.layouts un.whole gives)))
 
+-- A function is left, and kept where it has a body. Its scope, the one that is open, holds its parameters and the variables that stand in its
+-- body outside every block, `for` and `switch`: these are made with the call.
 abbrev pub with_function : Text → List Ty → Ty → Option TStmtTs → Un → Un
 with_function n params gives None un = ended un
-with_function n params gives (Some body) un = record {
-  layouts = un.layouts;
-  whole = un.whole;
-  records = un.records;
-  enums = un.enums;
-  names = un.names;
-  globals = un.globals;
-  inits = un.inits;
-  functions = un.functions ++ record { name = n; params = params; locals = un.sizes; gives = gives; body = body } ∷ [];
-  texts = un.texts;
-  scopes = [];
-  sizes = [];
-  used = 0;
-  bodies = un.bodies;
-}
+with_function n params gives (Some body) un = record (ended un) { functions = un.functions ++ record { name = n; params = params; locals = un.sizes; made = made (state_in un); gives = gives; body = body } ∷ [] }

@@ -1,13 +1,12 @@
 -- What programs, and what was read of a unit, stand for.
 use Rattle.std.specs.Prelude.{map}
-use Rattle.c_types.specs.View.{layout, tstmt}
+use Rattle.c_types.specs.View.{layout, tstmt, function}
 use Rattle.c_exprs.specs.View.{names, bodies}
 use Rattle.c_stmts.specs.View.{st}
 use Rattle.c_check.specs.declared.program.Program.{Program}
 use Rattle.c_check.specs.declared.reading.Reading.{Reading}
-use Rattle.c_check.specs.Functions.{function}
 use Rattle.c_check.specs.Reading.{Un}
-use Rattle.c_check.specs.Whole.{ProgramT}
+use Rattle.c_types.specs.Programs.{ProgramT}
 
 abbrev pub program : Program → ProgramT
 program p = record { layouts = map layout p.layouts; globals = p.globals; inits = map tstmt p.inits; literals = p.literals; functions = map function p.functions; main = p.main }

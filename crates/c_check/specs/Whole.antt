@@ -3,26 +3,15 @@ use Rattle.std.specs.Prelude.{◌≡◌, ◌≤◌, ℕ, Bool, ◌&&◌, List, [
 use Rattle.c_tree.specs.declared.span.Span.{Span}
 use Rattle.c_tree.specs.Tree.{ItemT, RecordD, EnumD, TypedefD, VarsD, FunctionD}
 use Rattle.c_tree.specs.Count.{unit_nodes}
-use Rattle.c_types.specs.Types.{LayoutT}
-use Rattle.c_types.specs.Typed.{TStmtT}
+use Rattle.c_types.specs.Programs.{TFunctionT, ProgramT}
 use Rattle.c_rules.specs.declared.code.Code.TheVariants.{NoMain}
 use Rattle.c_rules.specs.Kinds.{is_void, holds}
 use Rattle.c_exprs.specs.Env.{Text, find}
 use Rattle.c_exprs.specs.Faults.{FaultT, at, ◌>>=◌, known}
-use Rattle.c_check.specs.Reading.{Un, opening, bodies_of, TFunctionT, same_types}
+use Rattle.c_check.specs.Reading.{Un, opening, bodies_of, same_types}
 use Rattle.c_check.specs.ItemTyping.{items}
 use Rattle.c_check.specs.ItemTypes.{Items}
 use Rattle.c_check.specs.ItemBreaks.{NoItems}
-
--- The layouts by the numbers of structures and unions; the globals with their sizes, and the statements that fill them; the literals; the
--- functions with a body, in their order; the number of `main`.
-pub record ProgramT : Type 0 where
-  pub layouts : List LayoutT
-  pub globals : List (Text × ℕ)
-  pub inits : List TStmtT
-  pub literals : List Text
-  pub functions : List TFunctionT
-  pub main : ℕ
 
 -- whether a function takes and gives nothing
 abbrev pub is_plain : TFunctionT → Bool

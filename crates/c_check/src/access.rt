@@ -1,13 +1,11 @@
 // The parts of checked programs.
 ghost use Rattle.std.specs.Prelude.{◌≡◌, map};
-ghost use Rattle.c_types.specs.View.{layout, tstmt};
-ghost use Rattle.c_check.specs.Functions.{function};
+ghost use Rattle.c_types.specs.View.{layout, tstmt, function};
 ghost use Rattle.c_check.specs.View.{program};
 ghost use Rattle.c_check.specs.Whole.{IsProgram};
 
-use crate::function::TFunction;
 use crate::program::Program;
-use c_types::{Layout, TStmt};
+use c_types::{Layout, TFunction, TStmt};
 use kit_base::{Name, Seq};
 
 /// The program of these parts.

@@ -9,15 +9,14 @@ ghost use Rattle.c_exprs.specs.declared.error.CheckErr.TheVariants.{At};
 ghost use Rattle.c_exprs.specs.Faults.{at};
 ghost use Rattle.c_exprs.specs.Gives.{Gives};
 ghost use Rattle.c_exprs.specs.View.{bodies, names};
-ghost use Rattle.c_types.specs.View.{ctype};
+ghost use Rattle.c_types.specs.View.{ctype, function};
 ghost use Rattle.c_rules.specs.Kinds.{holds};
 ghost use Rattle.c_check.specs.Reading.{bodies_of, body_name, numbered, same_types};
 ghost use Rattle.c_check.specs.View.{program, un};
-ghost use Rattle.c_check.specs.Functions.{function};
-ghost use Rattle.c_check.specs.Whole.{ProgramT, WellTyped, IsProgram, FirstBroken, checked, is_plain, last_token, item_span, main_of, program_of};
+ghost use Rattle.c_check.specs.Whole.{WellTyped, IsProgram, FirstBroken, checked, is_plain, last_token, item_span, main_of, program_of};
+ghost use Rattle.c_types.specs.Programs.{ProgramT};
 
 use crate::access::of_parts;
-use crate::function::TFunction;
 use crate::functions::next;
 use crate::items::read_items;
 use crate::program::Program;
@@ -25,7 +24,7 @@ use crate::reading::Reading;
 use c_exprs::{CheckErr, Globals, known};
 use c_rules::{Code, is_void};
 use c_tree::{Item, Span, Unit};
-use c_types::CType;
+use c_types::{CType, TFunction};
 use kit_base::{Memory, Name};
 use std::alloc::Global;
 

@@ -73,7 +73,7 @@ pub(crate) fn enter_record(
         return Ok(());
     }
     let number = next_number(&reading.globals)?;
-    reading.globals.layouts.push(Layout::new(alloc))?;
+    reading.globals.layouts.push(Layout::new(alloc, is_union))?;
     reading.globals.whole.push(false)?;
     reading.records.push(Name::from_bytes(alloc, name)?)?;
     let key = Vec::from_slice(alloc, name)?;

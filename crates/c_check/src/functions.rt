@@ -13,13 +13,12 @@ ghost use Rattle.c_tree.specs.Tree.{FunctionD};
 ghost use Rattle.c_check.specs.View.{un};
 
 use crate::declaring::declare;
-use crate::function::TFunction;
 use crate::parts::{maybe_body, type_at};
 use crate::reading::{Reading, begin, end};
 use c_exprs::{CheckErr, Decl, placed};
 use c_rules::{Code, copy_type, fits, is_array, is_void, is_whole, same_type, type_size};
 use c_tree::{Span, Stmt, TypeTree, Var};
-use c_types::{CType, Layout, TStmt};
+use c_types::{CType, Layout, TFunction, TStmt};
 use kit_base::{Memory, Name, Seq};
 use std::alloc::Global;
 
@@ -218,12 +217,14 @@ fn keep_function(
 ) -> Result<(), Memory>
     ensures kept { OnOk result (un reading.new ≡ with_function name.now (map ctype params.items) (ctype gives) (option_map (λ b. tstmts (map tstmt b.items)) body) (un reading.old)) }
 {
+    let made = reading.state.close(alloc)?;
     let locals = end(alloc, &mut reading.state);
     if let Some(body) = body {
         reading.functions.push(TFunction {
             name: name.copy(alloc)?,
             params: Seq::from_vec(params),
             locals: Seq::from_vec(locals),
+            made: Seq::from_vec(made),
             result: gives,
             body: Seq::from_vec(body),
         })?;

@@ -2,7 +2,8 @@
 ghost use Rattle.std.specs.Prelude.{◌≡◌, ◌⊎◌, List};
 ghost use Rattle.c_tree.specs.Tree.{ItemT};
 ghost use Rattle.c_exprs.specs.Faults.{FaultT};
-ghost use Rattle.c_check.specs.Whole.{ProgramT, WellTyped, FirstBroken};
+ghost use Rattle.c_check.specs.Whole.{WellTyped, FirstBroken};
+ghost use Rattle.c_types.specs.Programs.{ProgramT};
 
 /// A unit has a program or breaks a rule, never both; one program at most, and one rule first.
 pub fn units_have_a_program_or_break_a_rule()

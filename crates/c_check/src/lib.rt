@@ -8,7 +8,6 @@ mod access;
 mod checking;
 mod declaring;
 mod enumerators;
-mod function;
 mod functions;
 mod globals;
 mod items;
@@ -20,7 +19,6 @@ mod program;
 mod reading;
 
 pub use checking::check;
-pub use function::TFunction;
 pub use objects::Objects;
 pub use program::Program;
 pub use reading::Reading;

@@ -2,11 +2,12 @@
 ghost use Rattle.std.specs.Prelude.{◌≡◌, ◌≤◌, ◌++◌, ◌∷◌, [], OnOk, IfOk, Ok, is_some, not, map, length, slice_set, true, false};
 ghost use Rattle.c_tree.specs.View.{var};
 ghost use Rattle.c_types.specs.View.{ctype, layout};
-ghost use Rattle.c_types.specs.Sizes.{member_named};
+ghost use Rattle.c_types.specs.Sizes.{member_named, no_layout, with_member, capped};
 ghost use Rattle.c_rules.specs.Kinds.{holds};
 ghost use Rattle.c_exprs.specs.Gives.{Gives};
-ghost use Rattle.c_check.specs.Reading.{with_member, no_layout, members_declared, with_layout};
-ghost use Rattle.c_check.specs.ItemTyping.{member as the_member, members as the_members};
+ghost use Rattle.c_check.specs.Reading.{members_declared, with_layout};
+ghost use Rattle.c_check.specs.ItemTyping.{member as the_member};
+ghost use Rattle.c_check.specs.Steps.{counted, counted_members};
 ghost use Rattle.c_check.specs.View.{un};
 
 use crate::declaring::record_number;
@@ -15,7 +16,7 @@ use crate::reading::Reading;
 use c_exprs::{CheckErr, placed};
 use c_rules::{Code, is_whole, type_size};
 use c_tree::Var;
-use c_types::{CType, Layout, Member};
+use c_types::{CType, Layout};
 use kit_base::{Memory, Name};
 use std::alloc::Global;
 
@@ -25,27 +26,19 @@ fn has_member(seen: &Layout, name: &[u8]) -> bool
     seen.member(name).is_some()
 }
 
-/// Adds a member of so many words; the words of all are counted up to one more than a type may have. The error is want of memory.
+/// Adds a member of so many words. The error is want of memory.
 fn add_member(
     alloc: Global,
     seen: &mut Layout,
-    is_union: bool,
     name: &Name,
     ty: CType,
     words: u32,
 ) -> Result<(), Memory>
     requires new { is_some (member_named name.now (layout seen.old).members) ≡ false }
-    ensures added { OnOk result (layout seen.new ≡ with_member is_union (layout seen.old) name.now (ctype ty) words) }
+    ensures added { OnOk result (layout seen.new ≡ capped (with_member (layout seen.old) name.now (ctype ty) words)) }
 {
     let key = Vec::from_slice(alloc, name.bytes())?;
-    if is_union {
-        seen.add(key, Member { offset: 0, ty })?;
-        seen.size = seen.size.max(words);
-    } else {
-        let offset = seen.size;
-        seen.add(key, Member { offset, ty })?;
-        seen.size = offset.saturating_add(words).min(4_194_305);
-    }
+    seen.add(key, ty, words)?;
     Ok(())
 }
 
@@ -54,11 +47,10 @@ fn add_member(
 fn read_member(
     alloc: Global,
     reading: &mut Reading,
-    is_union: bool,
     seen: &mut Layout,
     v: &Var,
 ) -> Result<(), CheckErr>
-    ensures { Gives (λ _. (layout seen.new, un reading.new)) result (the_member (un reading.old) is_union (layout seen.old) (var v.now)) }
+    ensures { Gives (λ _. (layout seen.new, un reading.new)) result (counted (the_member (un reading.old) (layout seen.old) (var v.now))) }
 {
     let ty = type_at(alloc, reading, v.span, &v.ty)?;
     if has_member(seen, v.name.bytes()) {
@@ -69,22 +61,22 @@ fn read_member(
     }
     let size = type_size(&reading.globals.layouts, &reading.globals.whole, &ty);
     let words = placed(v.span, size)?;
-    add_member(alloc, seen, is_union, &v.name, ty, words)?;
+    add_member(alloc, seen, &v.name, ty, words)?;
     Ok(())
 }
 
-/// The members of a structure or union.
+/// The members of a structure or union. More than 2^32 - 1 words, those in front of a member too, are counted as 2^32 - 1.
 pub(crate) fn read_members(
     alloc: Global,
     reading: &mut Reading,
     is_union: bool,
     all: &[Var],
 ) -> Result<Layout, CheckErr>
-    ensures { Gives (λ r. (layout r, un reading.new)) result (the_members (un reading.old) is_union no_layout (map var all.now)) }
+    ensures { Gives (λ r. (layout r, un reading.new)) result (counted_members (un reading.old) (no_layout is_union) (map var all.now)) }
 {
-    let mut seen = Layout::new(alloc);
+    let mut seen = Layout::new(alloc, is_union);
     for v in all {
-        read_member(alloc, reading, is_union, &mut seen, v)?;
+        read_member(alloc, reading, &mut seen, v)?;
     }
     Ok(seen)
 }
@@ -103,7 +95,10 @@ pub(crate) fn members_declared(
     if is_whole(&reading.globals.whole, &CType::Struct(number)) {
         return Err(Code::Twice);
     }
-    if members.size > 4_194_304 {
+    if members.count() == 0 {
+        return Err(Code::WrongType);
+    }
+    if members.size() > 4_194_304 {
         return Err(Code::TooLarge);
     }
     Ok(number)

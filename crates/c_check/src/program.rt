@@ -1,11 +1,9 @@
 // Checked programs.
 ghost use Rattle.std.specs.Prelude.{map};
-ghost use Rattle.c_types.specs.View.{layout, tstmt};
-ghost use Rattle.c_check.specs.Functions.{function};
+ghost use Rattle.c_types.specs.View.{layout, tstmt, function};
 ghost use Rattle.c_check.specs.Whole.{IsProgram};
 
-use crate::function::TFunction;
-use c_types::{Layout, TStmt};
+use c_types::{Layout, TFunction, TStmt};
 use kit_base::{Name, Seq};
 
 /// A checked unit: that of a well typed unit of at most 200,000 nodes.

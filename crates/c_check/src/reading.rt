@@ -5,11 +5,10 @@ ghost use Rattle.c_exprs.specs.View.{bodies, names};
 ghost use Rattle.c_check.specs.Reading.{opening, begun, ended};
 ghost use Rattle.c_check.specs.View.{un};
 
-use crate::function::TFunction;
 use crate::objects::Objects;
 use c_exprs::{Globals, Texts};
 use c_stmts::State;
-use c_types::TStmt;
+use c_types::{TFunction, TStmt};
 use kit_base::{Memory, Name};
 use std::alloc::Global;
 use std::mem;

@@ -7,7 +7,8 @@ use Rattle.c_tree.specs.Tree as tree
 use Rattle.c_types.specs.Types.{Ty}
 use Rattle.c_types.specs.Typed.{TVarT, TStmtTs}
 use Rattle.c_exprs.specs.Env.{Text, find, FunctionD}
-use Rattle.c_check.specs.Reading.{Un, TFunctionT, opening, record_entered, with_function, body_name, bodies_of}
+use Rattle.c_check.specs.Reading.{Un, opening, record_entered, with_function, body_name, bodies_of}
+use Rattle.c_types.specs.Programs.{TFunctionT}
 use Rattle.c_check.specs.ItemTypes as item
 use Rattle.c_check.specs.ItemTypes.{Globals, MaybeBody, Item, Items}
 use Rattle.c_facts.specs.Sound.{Scene}

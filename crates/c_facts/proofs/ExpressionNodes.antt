@@ -20,7 +20,7 @@ use Rattle.c_exprs.specs.Types.{Types, Values, Used, AllValues}
 use Rattle.c_stmts.specs.Slots.{Slots, text_fills, value_fills, fills, filled, literal_of}
 use Rattle.c_stmts.specs.InitTypes as i
 use Rattle.c_stmts.specs.InitTypes.{Fills, AllFill}
-use Rattle.c_facts.specs.Nodes.{typed_nodes, kind_nodes, all_typed_nodes, filled_nodes, all_filled_nodes}
+use Rattle.c_types.specs.Nodes.{typed_nodes, kind_nodes, all_typed_nodes, filled_nodes, all_filled_nodes}
 
 -- ---- answers of the rules
 

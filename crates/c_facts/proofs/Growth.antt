@@ -8,7 +8,7 @@ use Rattle.c_tree.specs.declared.span.Span.{Span}
 use Rattle.c_tree.specs.declared.operator.StepOp.{StepOp}
 use Rattle.c_tree.specs.declared.operator.BinOp.{BinOp}
 use Rattle.c_types.specs.Types.{Ty, VoidY, IntY, BoolY, EnumY, StructY, UnionY, PointerY, ArrayY, MemberT, LayoutT}
-use Rattle.c_types.specs.Sizes.{words_of, member_named}
+use Rattle.c_types.specs.Sizes.{words_of, member_named, no_layout}
 use Rattle.c_rules.specs.declared.code.Code.{Code}
 use Rattle.c_rules.specs.Kinds.{is_structure, target}
 use Rattle.c_rules.specs.Sizes.{is_whole, fits, type_limit, value_limit}
@@ -17,7 +17,6 @@ use Rattle.c_rules.specs.Nodes.{given, led_to_whole, count_is_known, counts_elem
 use Rattle.c_exprs.specs.Env.{Text}
 use Rattle.c_exprs.specs.Faults.{placed, at_node}
 use Rattle.c_exprs.specs.Nodes.{value_rule, layout_of, layout_behind, member_in, known_member}
-use Rattle.c_check.specs.Reading.{no_layout}
 use Rattle.c_facts.specs.Sound.{Scene, IsKnown}
 use Rattle.c_facts.proofs.Within.{Grows, AllMembersKnown}
 

@@ -4,11 +4,10 @@ use Rattle.std.specs.Prelude.{slice_get, slice_set}
 use Rattle.std.proofs.lemmas.Option.{slice_get_within}
 use Rattle.std.proofs.lemmas.Bool.{cases_eq, cases_Bool}
 use Rattle.c_types.specs.Types.{Ty, MemberT, LayoutT}
-use Rattle.c_types.specs.Sizes.{words_of, Follow, IsStructure, Overlap, IsUnion}
+use Rattle.c_types.specs.Sizes.{words_of, Follow, IsStructure, Overlap, IsUnion, no_layout, with_member}
 use Rattle.c_rules.specs.Kinds.{holds}
 use Rattle.c_rules.specs.Sizes.{is_declared, is_whole, type_limit}
 use Rattle.c_exprs.specs.Env.{Text}
-use Rattle.c_check.specs.Reading.{no_layout, with_member}
 use Rattle.c_facts.proofs.Within.{Grows, AllWhole}
 use Rattle.c_facts.proofs.Fronts.{begins_more, begins_at, last_or_before, within_at, others_stay, replaced_there}
 use Rattle.c_facts.proofs.Growth.{whole_later, words_later}
@@ -172,7 +171,7 @@ pub record AreMembers (layouts : List LayoutT) (whole : List Bool) (is_union : B
   pub places : PlacedAs layouts is_union l
   pub members : AllWhole whole l.members
 
-pub no_members_yet : (layouts : List LayoutT) (whole : List Bool) (is_union : Bool) → AreMembers layouts whole is_union no_layout
+pub no_members_yet : (layouts : List LayoutT) (whole : List Bool) (is_union : Bool) → AreMembers layouts whole (no_layout is_union)
 no_members_yet layouts whole true = record { places = refl; members = tt }
 no_members_yet layouts whole false = record { places = λ h. refl; members = tt }
 

@@ -5,11 +5,11 @@ use Rattle.c_tree.specs.declared.span.Span.{Span}
 use Rattle.c_tree.specs.Tree.{ExprT, TypeT, InitT, VarT}
 use Rattle.c_types.specs.Types.{Ty, EnumY, MemberT, LayoutT}
 use Rattle.c_types.specs.Typed.{TInitT, TVarT}
-use Rattle.c_types.specs.Sizes.{words_of}
+use Rattle.c_types.specs.Sizes.{words_of, with_member}
 use Rattle.c_rules.specs.Sizes.{is_whole}
 use Rattle.c_exprs.specs.Env.{Text, Decl, TypeD, ConstantD, GlobalD}
 use Rattle.c_stmts.specs.State.{filled_var}
-use Rattle.c_check.specs.Reading.{Un, under, with_texts, is_free, named, with_member, enum_entered}
+use Rattle.c_check.specs.Reading.{Un, under, with_texts, is_free, named, enum_entered}
 use Rattle.c_check.specs.ItemTypes as item
 use Rattle.c_check.specs.ItemTypes.{ValueAt, TypeAt, FillsAt, Members, Enumerator, NamedEnumerator, Enumerators, MaybeFillsAt, Global, Globals}
 use Rattle.c_facts.specs.Sound.{Scene, IsKnown, IsSized, IsGlobal, AreFilled, FillsAs}
@@ -76,7 +76,7 @@ members_more : (s : Scene) (ms : List MemberT) (m : MemberT) → AllMembersKnown
 members_more s [] m h k = (k, tt)
 members_more s (x ∷ ms) m h k = (h.0, members_more s ms m h.1 k)
 
-member_more : (s : Scene) (is_union : Bool) (seen : LayoutT) (name : Text) (t : Ty) (n : ℕ) → AllMembersKnown s seen.members → IsKnown s.layouts s.whole t → AllMembersKnown s (with_member is_union seen name t n).members
+member_more : (s : Scene) (seen : LayoutT) (name : Text) (t : Ty) (n : ℕ) → AllMembersKnown s seen.members → IsKnown s.layouts s.whole t → AllMembersKnown s (with_member seen name t n).members
 member_more s true seen name t n h k = members_more s seen.members (record { name = name; offset = 0; ty = t }) h k
 member_more s false seen name t n h k = members_more s seen.members (record { name = name; offset = seen.size; ty = t }) h k
 
@@ -85,11 +85,11 @@ pub record MembersRead (s : Scene) (l : LayoutT) (up : Un) : Type 0 where
   pub known : AllMembersKnown s l.members
   pub meant : Meant s up
 
-pub members_known : {s : Scene} {fin un : Un} {is_union : Bool} {seen l : LayoutT} {vs : List VarT} {up : Un} → Ends s fin → Members un is_union seen vs l up → Later up fin → Meant s un → AllMembersKnown s seen.members → MembersRead s l up
+pub members_known : {s : Scene} {fin un : Un} {seen l : LayoutT} {vs : List VarT} {up : Un} → Ends s fin → Members un seen vs l up → Later up fin → Meant s un → AllMembersKnown s seen.members → MembersRead s l up
 members_known e (item.no_members) later m h = record { known = h; meant = m }
 members_known {s = s} {is_union = is_union} {seen = seen} e (item.more_members (item.member {v = v} {t = t} {n = n} g0 g1) rest) later m h =
     let one = type_known e g0 (later_through (kept_later (members_keep rest)) later) m in
-    members_known e rest later one.meant (member_more s is_union seen v.name t n h one.known)
+    members_known e rest later one.meant (member_more s seen v.name t n h one.known)
 
 -- ---- enumerators
 

@@ -12,8 +12,9 @@ use Rattle.c_exprs.specs.Env as env
 use Rattle.c_check.specs.Reading.{Un, named, record_entered, enum_entered, with_parameter, with_function, with_init}
 use Rattle.c_check.specs.ItemTypes as t
 use Rattle.c_check.specs.ItemTypes.{ValueAt, TypeAt, FillsAt, BodyAt, Member, Members, Enumerator, NamedEnumerator, Enumerators, MaybeFillsAt, Global, Globals, Parameter, Parameters, MaybeBody, Item, Items}
-use Rattle.c_check.specs.Whole.{ProgramT, WellTyped, unit}
-use Rattle.c_facts.specs.Nodes.{filled_nodes, variables_nodes, statement_nodes, statements_nodes, function_nodes, program_nodes}
+use Rattle.c_check.specs.Whole.{WellTyped, unit}
+use Rattle.c_types.specs.Programs.{ProgramT}
+use Rattle.c_types.specs.Nodes.{filled_nodes, variables_nodes, statement_nodes, statements_nodes, function_nodes, program_nodes}
 use Rattle.c_facts.proofs.ExpressionNodes.{fill_few}
 use Rattle.c_facts.proofs.StatementNodes.{variables_append, maybe_filled_nodes, filled_var_few, statements_few}
 

@@ -8,11 +8,13 @@ use Rattle.c_types.specs.Typed.{TVarT, TStmtT, VarsZ, TStmtTs}
 use Rattle.c_rules.specs.Kinds.{holds}
 use Rattle.c_rules.specs.Sizes.{is_declared}
 use Rattle.c_exprs.specs.Env.{Text, find, TypeD, FunctionD}
-use Rattle.c_check.specs.Reading.{Un, TFunctionT, opening, bodies_of, named, no_layout, record_type, new_record, record_entered, with_layout, with_init, begun, ended, with_function}
+use Rattle.c_check.specs.Reading.{Un, opening, bodies_of, named, record_type, new_record, record_entered, with_layout, with_init, begun, ended, with_function}
+use Rattle.c_types.specs.Sizes.{no_layout}
+use Rattle.c_types.specs.Programs.{TFunctionT, ProgramT}
 use Rattle.c_check.specs.ItemTypes as item
 use Rattle.c_check.specs.ItemTypes.{TypeAt, Globals, Parameters, BodyAt, MaybeBody, Item, Items}
 use Rattle.c_check.specs.Whole as check
-use Rattle.c_check.specs.Whole.{ProgramT, is_plain, plain_number, main_of, program_of, WellTyped}
+use Rattle.c_check.specs.Whole.{is_plain, plain_number, main_of, program_of, WellTyped}
 use Rattle.c_facts.specs.Sound.{Scene, IsKnown, AreSized, IsLaidOut, AreDeclaredAs, in_call, IsFunction, AreFunctions, FillGlobals, AreFilled, IsSound}
 use Rattle.c_facts.proofs.Within.{Grows, AreMeant, AllMembersKnown, MembersKnown, AllWhole}
 use Rattle.c_facts.proofs.Fronts.{begins_itself, last_or_before, replaced_at}

@@ -185,9 +185,9 @@ pub parameters_keep : {un up : Un} {vs : List VarT} {ts : List Ty} → Parameter
 parameters_keep (item.no_parameters {un = un}) = keeps_itself un
 parameters_keep (item.more_parameters g0 g1) = keeps_through (parameter_keeps g0) (parameters_keep g1)
 
-pub member_keeps : {un up : Un} {is_union : Bool} {seen l : LayoutT} {v : VarT} → Member un is_union seen v l up → Keeps un up
+pub member_keeps : {un up : Un} {seen l : LayoutT} {v : VarT} → Member un seen v l up → Keeps un up
 member_keeps (item.member g0 g1) = type_keeps g0
 
-pub members_keep : {un up : Un} {is_union : Bool} {seen l : LayoutT} {vs : List VarT} → Members un is_union seen vs l up → Keeps un up
+pub members_keep : {un up : Un} {seen l : LayoutT} {vs : List VarT} → Members un seen vs l up → Keeps un up
 members_keep (item.no_members {un = un}) = keeps_itself un
 members_keep (item.more_members g0 g1) = keeps_through (member_keeps g0) (members_keep g1)

@@ -8,7 +8,8 @@ use Rattle.c_types.specs.Types.{Ty, LayoutT}
 use Rattle.c_types.specs.Typed.{TInitT, TVarT, VarsZ, TStmtTs}
 use Rattle.c_rules.specs.Sizes.{is_declared}
 use Rattle.c_exprs.specs.Env.{Text, find, Decl, TypeD, GlobalD, FunctionD}
-use Rattle.c_check.specs.Reading.{Un, TFunctionT, opening, is_free, named, record_type, new_record, record_entered, with_layout, global_words, globals_limit, with_global, with_init, begun, with_function}
+use Rattle.c_check.specs.Reading.{Un, opening, is_free, named, record_type, new_record, record_entered, with_layout, global_words, globals_limit, with_global, with_init, begun, with_function}
+use Rattle.c_types.specs.Programs.{TFunctionT}
 use Rattle.c_check.specs.ItemTypes as item
 use Rattle.c_check.specs.ItemTypes.{TypeAt, Members, MaybeFillsAt, Global, Globals, Parameters, MaybeBody, Item, Items}
 use Rattle.c_facts.proofs.Fronts.{begins_itself, begins_more, last_or_before}
@@ -102,11 +103,11 @@ layout_follows n l un h m b = record {
   };
 }
 
-pub members_so_far : {un : Un} {is_union : Bool} {seen l : LayoutT} {vs : List VarT} {up : Un} → Members un is_union seen vs l up → AreMembers un.layouts un.whole is_union seen → AreMembers un.layouts un.whole is_union l
+pub members_so_far : {un : Un} {seen l : LayoutT} {vs : List VarT} {up : Un} → Members un seen vs l up → AreMembers un.layouts un.whole seen → AreMembers un.layouts un.whole is_union l
 members_so_far (item.no_members) a = a
 members_so_far {is_union = is_union} {seen = seen} (item.more_members (item.member {un = un} {up = up} {v = v} {t = t} {n = n} (item.type_at g0) g1) rest) a =
     let words = member_words v.span up seen v.name t n g1 in
-    members_so_far rest (one_member_more un.layouts un.whole is_union seen v.name t n a words.sized words.words)
+    members_so_far rest (one_member_more un.layouts un.whole seen v.name t n a words.sized words.words)
 
 -- ---- globals
 

@@ -8,7 +8,7 @@ use Rattle.c_types.specs.Typed.{TExprT, TInitT, TVarT, TStmtT, MaybeZ, TStmtTs, 
 use Rattle.c_stmts.specs.State.{Fn, St, filled_var, Labels}
 use Rattle.c_stmts.specs.StatementTypes as s
 use Rattle.c_stmts.specs.StatementTypes.{ValueIn, FillsIn, MaybeFills, Declares, AllDeclare, MaybeValue, Statement, MaybeStatement, Statements, ArmOf, ArmsOf}
-use Rattle.c_facts.specs.Nodes.{typed_nodes, filled_nodes, variables_nodes, maybe_typed_nodes, statement_nodes, maybe_statement_nodes, statements_nodes, arm_nodes, arms_nodes}
+use Rattle.c_types.specs.Nodes.{typed_nodes, filled_nodes, variables_nodes, maybe_typed_nodes, statement_nodes, maybe_statement_nodes, statements_nodes, arm_nodes, arms_nodes}
 use Rattle.c_facts.proofs.ExpressionNodes.{value_few, fill_few}
 
 -- ---- variables

@@ -4,7 +4,8 @@ use Rattle.std.specs.Prelude.{slice_get}
 use Rattle.c_types.specs.Types.{Ty, MemberT, LayoutT}
 use Rattle.c_rules.specs.Sizes.{is_declared, is_whole}
 use Rattle.c_exprs.specs.Env.{Text, find, LocalD, Decl, TypeD, ConstantD, GlobalD, FunctionD, Ctx}
-use Rattle.c_check.specs.Reading.{TFunctionT, no_layout}
+use Rattle.c_types.specs.Sizes.{no_layout}
+use Rattle.c_types.specs.Programs.{TFunctionT}
 use Rattle.c_facts.specs.Sound.{Scene, IsKnown, IsGlobal, IsLocal}
 
 -- a list that begins another

@@ -1,9 +1,9 @@
 -- What every checked program is: its numbers are in range, its trees are typed by the rules, its limits are kept.
-use Rattle.std.specs.Prelude.{◌≡◌, ℕ, ◌+◌, ◌<◌, ◌≤◌, Bool, true, false, ◌||◌, ◌⊎◌, not, List, [], ◌∷◌, length, sum, sum_by, slice_get, Option, Some, None, Ok}
+use Rattle.std.specs.Prelude.{◌≡◌, ℕ, ◌+◌, ◌<◌, ◌≤◌, Bool, true, false, ◌||◌, not, List, [], ◌∷◌, length, sum, sum_by, slice_get, Option, Some, None, Ok}
 use Rattle.v32_isa.specs.Ports.{PortEntry, port_named}
 use Rattle.c_types.specs.Types.{Ty, VoidY, IntY, BoolY, EnumY, StructY, UnionY, PointerY, ArrayY, MemberT, LayoutT}
 use Rattle.c_types.specs.Typed.{TExprT, Typed, TKindT, NumberK, NullK, LiteralK, GlobalK, LocalK, UnaryK, BinaryK, AssignK, StepK, IndexK, MemberK, ArrowK, CastK, CallK, InK, OutK, WaitK, HaltK, CardK, TExprTs, NoX, MoreX, TInitT, OneI, TextI, ListI, TInitTs, NoI, MoreI, TVarT, TStmtT, BlockZ, EmptyZ, VarsZ, DoZ, IfZ, WhileZ, DoWhileZ, ForZ, SwitchZ, ReturnZ, BreakZ, ContinueZ, MaybeZ, NoneZ, SomeZ, TStmtTs, NoZ, MoreZ, TArmT, CaseB, DefaultB, StmtB, TArmTs, NoB, MoreB}
-use Rattle.c_types.specs.Sizes.{words_of, IsStructure, IsUnion}
+use Rattle.c_types.specs.Sizes.{words_of, no_layout, IsPlaced}
 use Rattle.c_rules.specs.Kinds.{is_int, is_array, is_number, decayed, pointed, converts}
 use Rattle.c_rules.specs.Rules.{judged}
 use Rattle.c_rules.specs.Sizes.{is_whole, type_limit}
@@ -14,8 +14,9 @@ use Rattle.c_exprs.specs.Nodes.{type_of_typed, is_place, value_rule, layout_of, 
 use Rattle.c_exprs.specs.Calls.{listed, all_convert}
 use Rattle.c_stmts.specs.Slots.{Slots, NoSlots, slots_of, next_slot, later_slots, fills}
 use Rattle.c_stmts.specs.State.{locals_limit, is_condition_of, Labels, no_labels, is_case, with_label}
-use Rattle.c_check.specs.Reading.{TFunctionT, no_layout, parameter_rule, result_rule, globals_limit}
-use Rattle.c_check.specs.Whole.{ProgramT, is_plain}
+use Rattle.c_check.specs.Reading.{parameter_rule, result_rule, globals_limit}
+use Rattle.c_types.specs.Programs.{TFunctionT, ProgramT}
+use Rattle.c_check.specs.Whole.{is_plain}
 
 -- What the trees of a function, or those that fill the globals, name. `whole` tells by their numbers which structures and unions are
 -- declared whole; `locals` are the sizes of the objects of a call.
@@ -223,14 +224,14 @@ AreSized layouts whole (m ∷ ms) = IsSized layouts whole m.ty × AreSized layou
 
 -- A structure or union that is declared whole is laid out, and no larger than a type may be.
 pub record IsLaidOut (layouts : List LayoutT) (whole : List Bool) (l : LayoutT) : Type 0 where
-  pub places : IsStructure layouts l ⊎ IsUnion layouts l
+  pub places : IsPlaced layouts l
   pub members : AreSized layouts whole l.members
   pub size : l.size ≤ type_limit
 
 -- one that is not has no members
 abbrev pub IsDeclaredAs : List LayoutT → List Bool → LayoutT → Bool → Type 0
 IsDeclaredAs layouts whole l true = IsLaidOut layouts whole l
-IsDeclaredAs layouts whole l false = l ≡ no_layout
+IsDeclaredAs layouts whole l false = l ≡ no_layout l.is_union
 
 abbrev pub AreDeclaredAs : List LayoutT → List Bool → List LayoutT → List Bool → Type 0
 AreDeclaredAs layouts whole [] [] = Unit {0}

@@ -2,7 +2,7 @@
 ghost use Rattle.std.specs.Prelude.{◌≤◌};
 ghost use Rattle.c_check.specs.View.{program};
 ghost use Rattle.c_facts.specs.Sound.{IsSound};
-ghost use Rattle.c_facts.specs.Nodes.{program_nodes};
+ghost use Rattle.c_types.specs.Nodes.{program_nodes};
 
 use c_check::Program;
 

@@ -33,7 +33,7 @@ fn layout_words(layouts: &[Layout], number: u32) -> u32
     ensures size { result ≡ layout_size (map layout layouts.now) number }
 {
     match layouts.get(number as usize) {
-        Some(layout) => layout.size,
+        Some(layout) => layout.size(),
         None => 0,
     }
 }

@@ -79,7 +79,7 @@ impl State {
 
     /// Closes the innermost scope, and gives the numbers of its objects in the order of their declarations. The error is want of
     /// memory.
-    pub(crate) fn close(&mut self, alloc: Global) -> Result<Vec<u32>, Memory>
+    pub fn close(&mut self, alloc: Global) -> Result<Vec<u32>, Memory>
         ensures made { IfOk result (λ r. r.items ≡ made (st self.old)) }
         ensures left { OnOk result (st self.new ≡ left (st self.old)) }
     {

@@ -4,13 +4,13 @@ use Rattle.std.specs.Option.{option_copied}
 use Rattle.std.specs.Str.{bytes_eq}
 use Rattle.std.specs.Map.{lookup}
 use Rattle.std.specs.declared.alloc.Global.{Global}
-use Rattle.std.proofs.Common.{◌≡◌, ℕ, Bool, true, false, cond, List, [], ◌∷◌, ◌++◌, map, Option, Some, None, is_some, option_map, Bor, refl, ap, ◌∙◌}
+use Rattle.std.proofs.Common.{◌≡◌, ◌^◌, ◌-◌, min, ℕ, Bool, true, false, cond, List, [], ◌∷◌, ◌++◌, map, Option, Some, None, is_some, option_map, Bor, refl, ap, ◌∙◌}
 use Rattle.std.proofs.lemmas.Slice.Eq.{bytes_eq-Decides}
 use Rattle.indexmap.specs.IndexMap.{insert_entry}
-use Rattle.c_types.specs.Types.{MemberT}
+use Rattle.c_types.specs.Types.{MemberT, LayoutT, Ty}
 use Rattle.c_types.specs.declared.layout.Member.{Member}
-use Rattle.c_types.specs.Sizes.{member_named}
-use Rattle.c_types.specs.View.{named}
+use Rattle.c_types.specs.Sizes.{member_named, next_offset, size_with, with_member, capped}
+use Rattle.c_types.specs.View.{named, ctype}
 
 abbrev pub Key : Type 0
 Key = Vec ℕ Global
@@ -48,3 +48,8 @@ inserted key x (e ∷ es) absent = elim (bytes_eq key.items e.0.items) as (λ b.
   | true ↦ λ h. absurd cc
   | false ↦ λ h. ap (λ (ms : List MemberT). entry e ∷ ms) (inserted key x es h)
 ] absent
+
+-- the layout with a further member, by its parts
+pub laid : (l : LayoutT) (key : Key) (x : Member) (words size : ℕ) (ms : List MemberT) → ms ≡ l.members ++ entry (key, x) ∷ [] → x.offset ≡ next_offset l → size ≡ min (size_with l words) (2 ^ 32 - 1)
+    → record { is_union = l.is_union; members = ms; size = size } ≡ capped (with_member l key.items (ctype x.ty) words)
+laid l key x words size ms p q r = rw p (rw r (ap (λ (o : ℕ). record { is_union = l.is_union; members = l.members ++ record { name = key.items; offset = o; ty = ctype x.ty } ∷ []; size = min (size_with l words) (2 ^ 32 - 1) }) q))

@@ -1,4 +1,6 @@
 pub mod Types
 pub mod Typed
+pub mod Programs
+pub mod Nodes
 pub mod View
 pub mod Sizes

@@ -1,5 +1,5 @@
 -- How many words a type has, and where members stand.
-use Rattle.std.specs.Prelude.{◌≡◌, ◌<◌, ℕ, ◌+◌, ◌*◌, max, List, [], ◌∷◌, length, Option, Some, None, option_map, slice_get, if◌then◌else◌}
+use Rattle.std.specs.Prelude.{◌≡◌, ◌<◌, ℕ, ◌+◌, ◌*◌, ◌^◌, ◌-◌, max, min, Bool, true, false, List, [], ◌∷◌, ◌++◌, length, Option, Some, None, option_map, slice_get, if◌then◌else◌}
 use Rattle.std.specs.Option.{option_map_or}
 use Rattle.std.specs.Str.{bytes_eq}
 use Rattle.c_types.specs.Types.{Ty, VoidY, IntY, BoolY, EnumY, StructY, UnionY, PointerY, ArrayY, MemberT, LayoutT}
@@ -26,6 +26,28 @@ IsNumbered layouts (UnionY number) = number < length layouts
 IsNumbered layouts (ArrayY of len) = IsNumbered layouts of
 IsNumbered layouts _ = Unit {0}
 
+-- ---- members and their places
+
+-- without members
+abbrev pub no_layout : Bool → LayoutT
+no_layout is_union = record { is_union = is_union; members = []; size = 0 }
+
+-- Where the next member begins: behind those before it in a structure, at word 0 in a union.
+abbrev pub next_offset : LayoutT → ℕ
+next_offset l = if l.is_union then 0 else l.size
+
+-- The size with a further member of so many words: the sum in a structure, the greatest in a union.
+abbrev pub size_with : LayoutT → ℕ → ℕ
+size_with l words = if l.is_union then max l.size words else l.size + words
+
+-- with a further member of this type, which has so many words
+abbrev pub with_member : LayoutT → List ℕ → Ty → ℕ → LayoutT
+with_member l name ty words = record l { members = l.members ++ record { name = name; offset = next_offset l; ty = ty } ∷ []; size = size_with l words }
+
+-- as it stands in memory, where more than 2^32 - 1 words are counted as 2^32 - 1
+abbrev pub capped : LayoutT → LayoutT
+capped l = record l { size = min l.size (2 ^ 32 - 1) }
+
 -- The members of a structure follow each other from word 0, and its size is the sum of theirs.
 abbrev pub Follow : List LayoutT → ℕ → List MemberT → ℕ → Type 0
 Follow layouts start [] end = start ≡ end
@@ -41,6 +63,14 @@ Overlap layouts greatest (m ∷ ms) size = (m.offset ≡ 0) × Overlap layouts (
 
 abbrev pub IsUnion : List LayoutT → LayoutT → Type 0
 IsUnion layouts l = Overlap layouts 0 l.members l.size
+
+-- The members stand where its kind wants them.
+abbrev pub IsPlacedAs : List LayoutT → LayoutT → Bool → Type 0
+IsPlacedAs layouts l true = IsUnion layouts l
+IsPlacedAs layouts l false = IsStructure layouts l
+
+abbrev pub IsPlaced : List LayoutT → LayoutT → Type 0
+IsPlaced layouts l = IsPlacedAs layouts l l.is_union
 
 -- the first member of that name
 abbrev pub member_named : List ℕ → List MemberT → Option MemberT

@@ -1,5 +1,5 @@
 -- Types and layouts as plain data.
-use Rattle.std.specs.Prelude.{ℕ, List}
+use Rattle.std.specs.Prelude.{ℕ, Bool, List}
 
 pub data Ty : Type 0 where
   VoidY : Ty
@@ -17,6 +17,9 @@ pub record MemberT : Type 0 where
   pub offset : ℕ
   pub ty : Ty
 
+-- A structure or union: its members in their order, and its number of words. One that is declared whole has a member; one that is
+-- declared by its name alone has none.
 pub record LayoutT : Type 0 where
+  pub is_union : Bool
   pub members : List MemberT
   pub size : ℕ

@@ -13,6 +13,8 @@ use Rattle.c_types.specs.declared.typed.TVar.{TVar}
 use Rattle.c_types.specs.declared.typed.TStmt.{TStmt, TStmt-F, fold-TStmt}
 use Rattle.c_types.specs.declared.typed.TArm.{TArm, TArm-F, fold-TArm}
 use Rattle.c_types.specs.declared.typed.TArm.TheOpen as z
+use Rattle.c_types.specs.declared.function.TFunction.{TFunction}
+use Rattle.c_types.specs.Programs.{TFunctionT}
 use Rattle.c_types.specs.Types.{Ty, VoidY, IntY, BoolY, EnumY, StructY, UnionY, PointerY, ArrayY, MemberT, LayoutT}
 use Rattle.c_types.specs.Typed.{TExprT, Typed, TKindT, NumberK, NullK, LiteralK, GlobalK, LocalK, UnaryK, BinaryK, AssignK, StepK, IndexK, MemberK, ArrowK, CastK, CallK, InK, OutK, WaitK, HaltK, CardK, TExprTs, NoX, MoreX, TInitT, OneI, TextI, ListI, TInitTs, NoI, MoreI, TVarT, TStmtT, BlockZ, EmptyZ, VarsZ, DoZ, IfZ, WhileZ, DoWhileZ, ForZ, SwitchZ, ReturnZ, BreakZ, ContinueZ, MaybeZ, NoneZ, SomeZ, TStmtTs, NoZ, MoreZ, TArmT, CaseB, DefaultB, StmtB, TArmTs, NoB, MoreB}
 
@@ -50,7 +52,7 @@ abbrev pub named : List ℕ → Member → MemberT
 named name m = record { name = name; offset = m.offset; ty = ctype m.ty }
 
 abbrev pub layout : Layout → LayoutT
-layout l = record { members = map (λ e. named e.0.items e.1) l.members.entries; size = l.size }
+layout l = record { is_union = l.is_union; members = map (λ e. named e.0.items e.1) l.members.entries; size = l.size }
 
 abbrev pub kind_layer : TKind-F TKindT TExprT → TKindT
 kind_layer (k.Number n) = NumberK n
@@ -116,3 +118,6 @@ tstmt = fold-TStmt TArmT TStmtT arm_layer stmt_layer
 
 abbrev pub tarm : TArm → TArmT
 tarm = fold-TArm TArmT TStmtT arm_layer stmt_layer
+
+abbrev pub function : TFunction → TFunctionT
+function f = record { name = f.name; params = map ctype f.params; locals = f.locals; made = f.made; gives = ctype f.result; body = tstmts (map tstmt f.body) }

@@ -1,7 +1,7 @@
 // How many words a type has, and where members stand.
-ghost use Rattle.std.specs.Prelude.{◌≡◌, ◌<◌, ◌^◌, ◌++◌, ◌∷◌, [], length, map, option_map, is_some, slice_get, false, OnOk, OnErr};
+ghost use Rattle.std.specs.Prelude.{◌≡◌, ◌<◌, ◌^◌, ◌-◌, min, length, map, option_map, is_some, slice_get, false, OnOk, OnErr};
 ghost use Rattle.c_types.specs.View.{ctype, layout, named};
-ghost use Rattle.c_types.specs.Sizes.{layout_size, words_of, IsNumbered, member_named, offset_of};
+ghost use Rattle.c_types.specs.Sizes.{no_layout, next_offset, size_with, with_member, capped, layout_size, words_of, IsNumbered, member_named, offset_of};
 
 use crate::ctype::CType;
 use indexmap::IndexMap;
@@ -17,19 +17,35 @@ pub struct Member {
 /// A structure or union: its members by their names, in their order, and its number of words.
 #[derive(Drop)]
 pub struct Layout {
+    is_union: bool,
     members: IndexMap<Vec<u8>, Member>,
-    pub size: u32,
+    size: u32,
 }
 
 impl Layout {
-    /// One without members, of no words.
-    pub fn new(alloc: Global) -> Layout
-        ensures none { layout result ≡ record { members = []; size = 0 } }
+    /// A structure, or a union, without members, of no words.
+    pub fn new(alloc: Global, is_union: bool) -> Layout
+        ensures none { layout result ≡ no_layout is_union }
     {
         Layout {
+            is_union,
             members: IndexMap::new(alloc),
             size: 0,
         }
+    }
+
+    /// Whether it is a union.
+    pub fn is_union(&self) -> bool
+        ensures union { result ≡ (layout self.now).is_union }
+    {
+        self.is_union
+    }
+
+    /// Its number of words.
+    pub fn size(&self) -> u32
+        ensures size { result ≡ (layout self.now).size }
+    {
+        self.size
     }
 
     /// How many members there are.
@@ -46,6 +62,16 @@ impl Layout {
         self.members.get(name)
     }
 
+    /// The member at that index, with its name.
+    pub fn member_at(&self, index: usize) -> Option<(&[u8], &Member)>
+        ensures member { option_map (λ e. named e.0.now e.1.now) result ≡ slice_get (layout self.now).members index }
+    {
+        match self.members.get_index(index) {
+            Some((name, member)) => Some((name.as_slice(), member)),
+            None => None,
+        }
+    }
+
     /// The type of the member at that index.
     pub fn member_type(&self, index: usize) -> Option<&CType>
         ensures ty { option_map (λ t. ctype t.now) result ≡ option_map (λ m. m.ty) (slice_get (layout self.now).members index) }
@@ -56,15 +82,33 @@ impl Layout {
         }
     }
 
-    /// Adds a member under a name that no member has yet; it goes last. The size stays. The error is want of memory, and then the layout
-    /// stays.
-    pub fn add(&mut self, name: Vec<u8>, member: Member) -> Result<(), AllocError>
-        requires new { is_some (member_named name.items (layout self.old).members) ≡ false }
-        ensures added { OnOk result ((layout self.new).members ≡ (layout self.old).members ++ named name.items member ∷ []) }
-        ensures refused { OnErr result ((layout self.new).members ≡ (layout self.old).members) }
-        ensures size { self.new.size ≡ self.old.size }
+    fn next_offset(&self) -> u32
+        ensures offset { result ≡ next_offset (layout self.now) }
     {
-        self.members.insert(name, member)?;
+        if self.is_union { 0 } else { self.size }
+    }
+
+    fn size_with(&self, words: u32) -> u32
+        ensures size { result ≡ min (size_with (layout self.now) words) (2 ^ 32 - 1) }
+    {
+        if self.is_union {
+            self.size.max(words)
+        } else {
+            self.size.saturating_add(words)
+        }
+    }
+
+    /// Adds a member of so many words under a name that no member has yet. It goes last, behind those before it in a structure, at word 0 in
+    /// a union. More than 2^32 - 1 words are counted as 2^32 - 1. The error is want of memory, and then the layout stays.
+    pub fn add(&mut self, name: Vec<u8>, ty: CType, words: u32) -> Result<(), AllocError>
+        requires new { is_some (member_named name.items (layout self.old).members) ≡ false }
+        ensures added { OnOk result (layout self.new ≡ capped (with_member (layout self.old) name.items (ctype ty) words)) }
+        ensures refused { OnErr result (layout self.new ≡ layout self.old) }
+    {
+        let offset = self.next_offset();
+        let size = self.size_with(words);
+        self.members.insert(name, Member { offset, ty })?;
+        self.size = size;
         Ok(())
     }
 }

@@ -1,13 +1,16 @@
 //! Types, layouts and typed trees of a checked C unit.
 //!
-//! How many words a type has and where a structure's members stand; the trees that the checker gives, with their numbers in
-//! place of names. Contracts see types and trees as plain data without pointers. It stands on c_tree for operators and spans.
+//! How many words a type has and where a structure's members stand; the trees and functions that the checker gives, with their numbers in
+//! place of names, and how many nodes they have. Contracts see all of them as plain data without pointers. It stands on c_tree for operators
+//! and spans.
 #![tactic(auto)]
 
 mod ctype;
+mod function;
 mod layout;
 mod typed;
 
 pub use ctype::CType;
+pub use function::TFunction;
 pub use layout::{Layout, Member, member_offset, size_of};
 pub use typed::{TArm, TExpr, TInit, TKind, TStmt, TVar};

@@ -1,7 +1,7 @@
 -- What the check of a project's text answers, by itself. Only private functions cite this.
 use Rattle.std.specs.Prelude.{ℕ, ◌≡◌, List, Result, Ok, Err}
 use Rattle.kit_base.specs.Held.{Held}
-use Rattle.c_check.specs.Whole.{ProgramT}
+use Rattle.c_types.specs.Programs.{ProgramT}
 use Rattle.build_core.specs.declared.error.BuildErr.{BuildErr}
 use Rattle.build_core.specs.Checked.{IsAccepted, IsRejected}
 use Rattle.kit_core.specs.declared.refusal.Refusal.{Refusal}

@@ -9,7 +9,7 @@ use Rattle.build_core.specs.declared.error.BuildErr.TheVariants as build_errors
 use Rattle.build_core.specs.declared.building.Built.{Built}
 use Rattle.build_core.specs.Due.{built_of, reads_of}
 use Rattle.build_core.specs.Checked.{IsAccepted, IsRejected}
-use Rattle.c_check.specs.Whole.{ProgramT}
+use Rattle.c_types.specs.Programs.{ProgramT}
 use Rattle.project_text.specs.MapText.{map_text}
 use Rattle.kit_core.specs.declared.refusal.Refusal.{Refusal}
 use Rattle.kit_core.specs.declared.refusal.Refusal.TheVariants as refusals

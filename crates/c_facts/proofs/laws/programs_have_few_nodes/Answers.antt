@@ -2,7 +2,7 @@ use Rattle.std.proofs.Common.{◌≤◌, arith}
 use Rattle.std.proofs.Math.Logic.{∥∥₁_elim}
 use Rattle.std.proofs.Props.{props}
 use Rattle.c_check.specs.View.{program}
-use Rattle.c_facts.specs.Nodes.{program_nodes}
+use Rattle.c_types.specs.Nodes.{program_nodes}
 use Rattle.c_facts.proofs.ProgramNodes.{programs_have_few_nodes}
 use Rattle.c_facts.proofs.laws.programs_have_few_nodes.Goals as goal
 

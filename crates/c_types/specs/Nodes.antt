@@ -1,9 +1,8 @@
 -- How many nodes a program has: its expressions, initialisers, variables that are filled, and statements, the labels of its switches, its
--- functions and their parameters.
+-- functions and their parameters. A text as an initialiser counts as two: the initialiser and the text.
 use Rattle.std.specs.Prelude.{ℕ, ◌+◌, List, [], ◌∷◌, length, sum_by, Option, Some, None}
 use Rattle.c_types.specs.Typed.{TExprT, Typed, TKindT, NumberK, NullK, LiteralK, GlobalK, LocalK, UnaryK, BinaryK, AssignK, StepK, IndexK, MemberK, ArrowK, CastK, CallK, InK, OutK, WaitK, HaltK, CardK, TExprTs, NoX, MoreX, TInitT, OneI, TextI, ListI, TInitTs, NoI, MoreI, TVarT, TStmtT, BlockZ, EmptyZ, VarsZ, DoZ, IfZ, WhileZ, DoWhileZ, ForZ, SwitchZ, ReturnZ, BreakZ, ContinueZ, MaybeZ, NoneZ, SomeZ, TStmtTs, NoZ, MoreZ, TArmT, CaseB, DefaultB, StmtB, TArmTs, NoB, MoreB}
-use Rattle.c_check.specs.Reading.{TFunctionT}
-use Rattle.c_check.specs.Whole.{ProgramT}
+use Rattle.c_types.specs.Programs.{TFunctionT, ProgramT}
 
 abbrev mutual
   pub typed_nodes : TExprT → ℕ
@@ -37,7 +36,7 @@ abbrev mutual
 abbrev mutual
   pub filled_nodes : TInitT → ℕ
   filled_nodes (OneI x) = typed_nodes x + 1
-  filled_nodes (TextI number) = 1
+  filled_nodes (TextI number) = 2
   filled_nodes (ListI items) = all_filled_nodes items + 1
 
   pub all_filled_nodes : TInitTs → ℕ

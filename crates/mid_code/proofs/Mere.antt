@@ -1,5 +1,5 @@
 -- What mid code is, is a mere proposition: so a type can keep it.
-use Rattle.std.proofs.Common.{◌≡◌, ℕ, zero, suc, List, [], ◌∷◌, Bool, true, false, Some, length, ◌≤◌}
+use Rattle.std.proofs.Common.{ℕ, zero, suc, List, [], ◌∷◌, Bool, true, false, length, ◌≤◌}
 use Rattle.std.proofs.Props.{props}
 use Rattle.v32_isa.specs.declared.instruction.One.{One}
 use Rattle.v32_isa.specs.declared.instruction.One.TheVariants.{CIB, NOT, BNOT, ISGN, IABS}
@@ -9,7 +9,7 @@ use Rattle.mid_code.specs.Code.{OpT, ConstO, NullO, MoveO, OneO, TwoO, GlobalO, 
 use Rattle.mid_code.specs.declared.placed.Where.{Where}
 use Rattle.mid_code.specs.declared.placed.Where.TheVariants.{Reg, Slot}
 use Rattle.mid_code.specs.Placed.{SpotsT, PlacedT}
-use Rattle.mid_code.specs.Invariants.{IsOne, IsTest, IsOp, IsLoop, AreNodes, AllOf, NodeNames, Names, CallsNone, DifferFrom, AreDifferent, IsFunction, IsStart, IsCode, IsTemporary, IsMid, IsPlace, SpotWord, AreSpots, HasSlot, AllSpots, IsStartPlace, IsPlaced}
+use Rattle.mid_code.specs.Invariants.{IsOne, IsTest, IsOp, IsLoop, AreNodes, AllOf, Names, CallsNone, DifferFrom, AreDifferent, IsFunction, IsTemporary, IsMid, IsPlace, SpotWord, AreSpots, HasSlot, AllSpots, IsStartPlace, IsPlaced}
 
 one_mere : (o : One) → IsProp (IsOne o)
 one_mere CIB = hlevel props

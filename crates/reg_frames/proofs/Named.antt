@@ -1,12 +1,11 @@
 -- Slots that are named, and the keys of a set.
-use Rattle.std.proofs.Common.{◌≡◌, ℕ, zero, suc, ◌+◌, ◌<◌, Bool, true, false, ◌||◌, cond, eqb, List, [], ◌∷◌, ◌++◌, map, length, nat_eq, refl, sym, ap, ◌∙◌, if◌then◌else◌, arith}
+use Rattle.std.proofs.Common.{◌≡◌, ℕ, suc, Bool, true, false, ◌||◌, cond, eqb, List, [], ◌∷◌, ◌++◌, nat_eq, refl, sym, ap, ◌∙◌, arith}
 use Rattle.std.specs.List.{list_any, position_or_len}
 use Rattle.std.proofs.lemmas.List.Recursion.{is_position_or_len}
 use Rattle.indexmap.specs.IndexSet.{insert_key}
-use Rattle.mid_code.specs.declared.placed.Where.{Where}
-use Rattle.mid_code.specs.declared.placed.Where.TheVariants.{Reg, Slot}
+use Rattle.mid_code.specs.declared.placed.Where.TheVariants.{Slot}
 use Rattle.mid_code.specs.Live.{is_among}
-use Rattle.mid_code.specs.Choices.{with_slot, slots_from}
+use Rattle.mid_code.specs.Choices.{with_slot}
 use Rattle.reg_frames.specs.Placing.{index_in}
 
 eqb_swap : (a b : ℕ) → eqb a b ≡ nat_eq b a

@@ -117,7 +117,12 @@ module _ (w : Option ℕ → ℕ → Where) (x : CodeT ℕ) (y : CodeT Where) (f
   opened answers card = subst (λ gs. WorldsAlike (opening_world x.globals x.literals answers card) (opening_world gs y.literals answers card)) (sym F.globals) (subst (λ ls. WorldsAlike (opening_world x.globals x.literals answers card) (opening_world x.globals ls answers card)) (sym F.literals) (record {
     count = refl;
     memory = memory (opening_objects x.globals x.literals card) (opening_objects x.globals x.literals card) (λ o. twin_self (object_at (opening_objects x.globals x.literals card) o));
-    answers = refl; function = refl; locals = refl; used = refl; events = refl; work = refl;
+    answers = refl;
+    function = refl;
+    locals = refl;
+    used = refl;
+    events = refl;
+    work = refl;
   }))
 
   pub program : Program temporaries registers_and_slots x y frames frames PP

@@ -1,15 +1,15 @@
 -- What `place` promises holds of the code by the choices.
-use Rattle.std.proofs.Common.{◌≡◌, ℕ, suc, ◌+◌, ◌-◌, ◌<◌, ◌≤◌, ◌^◌, List, [], ◌∷◌, map, length, sum, refl, sym, ap, ◌∙◌, arith}
+use Rattle.std.proofs.Common.{◌≡◌, ℕ, suc, ◌≤◌, List, [], ◌∷◌, map, length, refl, ap, arith}
 use Rattle.mid_code.specs.declared.placed.Where.{Where}
 use Rattle.mid_code.specs.declared.placed.Where.TheVariants.{Reg, Slot}
 use Rattle.mid_code.specs.Code.{FunctionT, CodeT}
 use Rattle.mid_code.specs.Placed.{SpotsT, PlacedT}
 use Rattle.mid_code.specs.Safe.{IsSafe}
-use Rattle.mid_code.specs.Choices.{slot_count, EachSafe, AreSafe}
-use Rattle.mid_code.specs.Invariants.{AllOf, IsFunction, IsTemporary, IsMid, IsPlace, IsPlaced, in_registers}
-use Rattle.reg_frames.specs.Placing.{placing, placed_function, frame_size, frame_sizes, placed_functions, all_spots, placed}
+use Rattle.mid_code.specs.Choices.{EachSafe, AreSafe}
+use Rattle.mid_code.specs.Invariants.{AllOf, IsFunction, IsTemporary, IsMid, IsPlaced, in_registers}
+use Rattle.reg_frames.specs.Placing.{placing, placed_function, frame_sizes, placed_functions, all_spots, placed}
 use Rattle.reg_frames.specs.Placeable.{first_of, later, IsPlaceable, ArePlaceable}
-use Rattle.reg_frames.specs.PlacedFrom.{IsFrameOf, AreFrames, FramesFit, IsPlacedFrom}
+use Rattle.reg_frames.specs.PlacedFrom.{AreFrames, IsPlacedFrom}
 use Rattle.reg_frames.proofs.Slots.{named_count}
 use Rattle.reg_frames.proofs.Frames.{weight_same, adds_none, none_added, numbers_few, size_at_most}
 use Rattle.reg_frames.proofs.AtOnce.{frame_holds}

@@ -1,9 +1,8 @@
 -- One step of the lists of offsets, and of slots that are named.
-use Rattle.std.proofs.Common.{◌≡◌, ℕ, zero, suc, ◌+◌, ◌-◌, ◌<◌, ◌≤◌, Bool, true, false, ◌||◌, cond, eqb, List, [], ◌∷◌, ◌++◌, map, length, get_or, nat_eq, refl, sym, ap, ◌∙◌, arith}
+use Rattle.std.proofs.Common.{◌≡◌, ℕ, zero, suc, ◌+◌, ◌-◌, ◌<◌, ◌≤◌, Bool, true, false, ◌||◌, cond, eqb, List, [], ◌∷◌, ◌++◌, map, length, get_or, refl, sym, ap, ◌∙◌, arith}
 use Rattle.mid_code.specs.declared.placed.Where.{Where}
 use Rattle.mid_code.specs.declared.placed.Where.TheVariants.{Reg, Slot}
 use Rattle.mid_code.specs.Live.{is_among}
-use Rattle.mid_code.specs.Safe.{place_of}
 use Rattle.mid_code.specs.Choices.{with_slot, slots_from, slots_named}
 use Rattle.reg_frames.specs.Placing.{index_in, renumbered, placing, rising, falling}
 use Rattle.reg_frames.proofs.Slots.{with_here, with_count}

@@ -45,11 +45,7 @@ fn place_call(
     ensures { IfOk result (λ r. r ≡ Op.Call (placed_maybe (stands p.now) target) function (map (stands p.now) arguments.now)) }
 {
     let arguments = place_all(alloc, p, arguments)?;
-    Ok(Op::Call(
-        place_maybe(p, target),
-        function,
-        Seq::from_vec(arguments),
-    ))
+    Ok(Op::Call(place_maybe(p, target), function, Seq::from_vec(arguments)))
 }
 
 fn place_op(alloc: Global, p: &Places, o: &Op<u32>) -> Result<Op<Where>, Memory>
@@ -89,22 +85,10 @@ fn place_node(alloc: Global, p: &Places, n: &Node<u32>) -> Result<Node<Where>, M
         Node::Choose(q, a, b) => {
             let first = place_nodes(alloc, p, a.as_slice())?;
             let second = place_nodes(alloc, p, b.as_slice())?;
-            Ok(Node::Choose(
-                place(p, *q),
-                Seq::from_vec(first),
-                Seq::from_vec(second),
-            ))
+            Ok(Node::Choose(place(p, *q), Seq::from_vec(first), Seq::from_vec(second)))
         }
-        Node::Block(b) => Ok(Node::Block(Seq::from_vec(place_nodes(
-            alloc,
-            p,
-            b.as_slice(),
-        )?))),
-        Node::Loop(b) => Ok(Node::Loop(Seq::from_vec(place_nodes(
-            alloc,
-            p,
-            b.as_slice(),
-        )?))),
+        Node::Block(b) => Ok(Node::Block(Seq::from_vec(place_nodes(alloc, p, b.as_slice())?))),
+        Node::Loop(b) => Ok(Node::Loop(Seq::from_vec(place_nodes(alloc, p, b.as_slice())?))),
         Node::Leave(k) => Ok(Node::Leave(*k)),
         Node::Again(k) => Ok(Node::Again(*k)),
         Node::Return(q) => Ok(Node::Return(place_maybe(p, *q))),

@@ -17,8 +17,7 @@ loop-place-preserved c =
     let named : ms ≡ with_slot ns w = search rules in
     let place : c.in_ok-new_place.field-0 ≡ renumbered ms w = search rules in
     let pushed : c.push.new.self.items ≡ c.loop-place.places.items ++ c.in_ok-new_place.field-0 ∷ [] = search rules in
-    let i = c.loop-place.invariant in
-    (
+    let i = c.loop-place.invariant in (
       count_turn c.args.at.now rs ws w ns ms split named i.0,
       named_turn all rs ws w ns ms split named i.1,
       place_turn all rs ws w ns ms c.loop-place.places.items c.push.new.self.items (map (renumbered all) c.args.at.now) c.in_ok-new_place.field-0 split named place pushed i.1 i.2,

@@ -1,8 +1,6 @@
-use Rattle.std.proofs.Common.{rules, ◌≡◌, map, ap, sym, ◌∙◌, subst}
-use Rattle.mid_code.specs.Code.{FunctionT, CodeT}
-use Rattle.mid_code.specs.Placed.{PlacedT}
+use Rattle.std.proofs.Common.{rules, ◌≡◌, map, sym, ◌∙◌, subst}
 use Rattle.mid_code.specs.Functions.{function}
-use Rattle.mid_code.specs.View.{code, spots}
+use Rattle.mid_code.specs.View.{spots}
 use Rattle.mid_code.specs.Whole.{mid, placed}
 use Rattle.mid_code.specs.Invariants.{IsMid, IsPlaced}
 use Rattle.reg_frames.specs.Placing.{placing, placed_function, placed_functions, frame_sizes, all_spots}

@@ -1,0 +1,11 @@
+pub mod Agreeing
+pub mod Intervals
+pub mod Keeping
+pub mod Liveness
+pub mod Passing
+pub mod Values
+pub mod More
+pub mod Programs
+pub mod Past
+pub mod Ports
+pub mod Mere

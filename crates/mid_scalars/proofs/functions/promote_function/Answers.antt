@@ -1,0 +1,54 @@
+use Rattle.std.proofs.Common.{rules, arith, None, ◌≡◌, ◌+◌, ◌-◌, length, map}
+use Rattle.mid_code.specs.Functions.{function, node, listed}
+use Rattle.mid_scalars.specs.Table.{kept}
+use Rattle.mid_scalars.specs.Rewriting.{list_by, plan_by}
+use Rattle.mid_scalars.specs.Tabled.{IsTableOf}
+use Rattle.mid_scalars.proofs.Rewritten.{rewritten}
+use Rattle.mid_scalars.proofs.Promised.{function_is, table_fits, table_long, table_least}
+use Rattle.mid_scalars.proofs.functions.promote_function.Goals as goal
+
+pub promote_nodes-requires : goal.promote_nodes-requires
+promote_nodes-requires c =
+    let is : IsTableOf (function c.args.f.now) c.in_ok-table.table = search rules in
+    record { fits = table_fits (function c.args.f.now) c.in_ok-table.table is }
+
+pub kept_of-requires : goal.kept_of-requires
+kept_of-requires c =
+    let is : IsTableOf (function c.args.f.now) c.in_ok-table.table = search rules in
+    let long = table_long (function c.args.f.now) c.in_ok-table.table is in
+    record { long = search (rules, long) }
+
+pub overflow_cast-more : goal.overflow_cast-more
+overflow_cast-more c =
+    let is : IsTableOf (function c.args.f.now) c.in_ok-table.table = search rules in
+    let long = table_long (function c.args.f.now) c.in_ok-table.table is in
+    let count = c.requires.promotable.count in
+    let len : c.len.result ≡ length c.in_ok-table.table.plain.items = search rules in
+    omega (arith, long, count, len)
+
+pub overflow_sub-more : goal.overflow_sub-more
+overflow_sub-more c =
+    let is : IsTableOf (function c.args.f.now) c.in_ok-table.table = search rules in
+    let least = table_least (function c.args.f.now) c.in_ok-table.table is in
+    let len : c.len.result ≡ length c.in_ok-table.table.plain.items = search rules in
+    omega (arith, least, len)
+
+pub overflow_add-result : goal.overflow_add-result
+overflow_add-result c =
+    let is : IsTableOf (function c.args.f.now) c.in_ok-table.table = search rules in
+    let long = table_long (function c.args.f.now) c.in_ok-table.table is in
+    let count = c.requires.promotable.count in
+    let len : c.len.result ≡ length c.in_ok-table.table.plain.items = search rules in
+    omega (arith, long, count, len)
+
+pub returns : goal.returns
+returns c =
+    let f = function c.args.f.now in
+    let t = c.in_ok-table.table in
+    let is : IsTableOf f t = search rules in
+    let len : c.len.result ≡ length t.plain.items = search rules in
+    let temps : c.args.f.now.temps + (c.len.result - t.kept) ≡ f.temps + (length t.plain.items - t.kept) = omega (arith, len) in
+    let params : c.from_vec.result ≡ f.params = search rules in
+    let locals : c.from_vec-2.result ≡ kept t.plain.items f.locals = search rules in
+    let body : map node c.from_vec-3.result ≡ list_by (plan_by t) None (listed (map node c.args.f.now.body)) = search rules in
+    function_is f t _ c.from_vec.result c.from_vec-2.result _ is temps params locals (rewritten (plan_by t) None c.args.f.now.body c.from_vec-3.result body)

@@ -1,0 +1,13 @@
+pub mod Objects
+pub mod Moving
+pub mod Likeness
+pub mod Slots
+pub mod Placed
+pub mod Frames
+pub mod Invariants
+pub mod AtOnce
+pub mod Movedly
+pub mod Named
+pub mod Steps
+pub mod Placedly
+pub mod Promised

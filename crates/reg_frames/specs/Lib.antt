@@ -1,0 +1,5 @@
+pub mod Placing
+pub mod Pass
+pub mod Moved
+pub mod Placeable
+pub mod PlacedFrom

@@ -228,7 +228,7 @@ module _ (d : ℕ) (es : List Event) where
     given : (span : Span) (w : World) (x : Answer Cell) → asked Stops span (p w) x (λ z. Value z (p w)) ≡ pv (asked Stops span w x (λ z. Value z w))
     given span w x = asked_past val span w x _ _ (λ z. refl)
 
-    truth_past : (x : TExprT) (r' r : Val) → r' ≡ pv r → truth_of s n x r' ≡ pv (truth_of s n x r)
+    pub truth_past : (x : TExprT) (r' r : Val) → r' ≡ pv r → truth_of s n x r' ≡ pv (truth_of s n x r)
     truth_past x = tested_past val x _ _ (λ w. refl) (λ w. refl)
 
     pub unary_past : (op : UnOp) (x : TExprT) (span : Span) (r' r : Val) → r' ≡ pv r → unary s n op x span r' ≡ pv (unary s n op x span r)
@@ -318,7 +318,7 @@ module _ (d : ℕ) (es : List Event) where
     pub call_past : (f : ℕ) (vs : List Cell) (span : Span) (w : World) → call s n prev f vs span (p w) ≡ pv (call s n prev f vs span w)
     call_past f vs span w = call_of_past f (slice_get s.functions f) vs span w
 
-    argument_past : (tys : List Ty) (x : TExprT) (go : List Ty → World → Vals) → ((rest : List Ty) (w : World) → go rest (p w) ≡ pvs (go rest w)) → (r' r : Val) → r' ≡ pv r → next_argument s n tys x r' go ≡ pvs (next_argument s n tys x r go)
+    pub argument_past : (tys : List Ty) (x : TExprT) (go : List Ty → World → Vals) → ((rest : List Ty) (w : World) → go rest (p w) ≡ pvs (go rest w)) → (r' r : Val) → r' ≡ pv r → next_argument s n tys x r' go ≡ pvs (next_argument s n tys x r go)
     argument_past [] x go h = with_value_past vals x _ (λ c w. refl)
     argument_past (ty ∷ tys) x go h = with_value_past vals x _ (λ c w. asked_past vals (span_of x) w (converted ty c) _ _ (λ z. in_front_past z _ _ (h tys w)))
 

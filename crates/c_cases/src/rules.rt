@@ -50,8 +50,11 @@ fn made(alloc: Global, sample: Sample) -> Result<CType, Fail> {
 fn layouts(alloc: Global) -> Result<Vec<Layout>, Fail> {
     let mut all = Vec::new(alloc);
     for size in [2, 0, 5_000] {
-        let mut one = Layout::new(alloc);
-        one.size = size;
+        let mut one = Layout::new(alloc, size > 2);
+        if size > 0 {
+            let name = Vec::from_slice(alloc, b"a")?;
+            one.add(name, CType::Int, size)?;
+        }
         all.push(one)?;
     }
     Ok(all)

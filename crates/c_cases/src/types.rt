@@ -1,7 +1,7 @@
 // Sizes and offsets of the types of a small program.
 ghost use Rattle.std.specs.Prelude.{◌<◌};
 
-use c_types::{CType, Layout, Member, member_offset, size_of};
+use c_types::{CType, Layout, member_offset, size_of};
 use std::alloc::Global;
 use std::process::Abort;
 use std::test::Fail;
@@ -10,28 +10,22 @@ fn array(alloc: Global, of: CType, length: u32) -> Result<CType, Fail> {
     Ok(CType::Array(Box::new(alloc, of)?, length))
 }
 
-/// A layout of two members, of these offsets and types.
+/// A structure or union of two members, an int and another of so many words.
 fn layout(
     rt: &impl Abort,
     alloc: Global,
+    is_union: bool,
     names: [&str; 2],
-    offset: u32,
     second: CType,
+    words: u32,
 ) -> Result<Layout, Fail> {
-    let mut one = Layout::new(alloc);
+    let mut one = Layout::new(alloc, is_union);
     let name = Vec::from_slice(alloc, names[0].as_bytes())?;
     assert!(rt; one.member(&name).is_none());
-    one.add(
-        name,
-        Member {
-            offset: 0,
-            ty: CType::Int,
-        },
-    )?;
+    one.add(name, CType::Int, 1)?;
     let name = Vec::from_slice(alloc, names[1].as_bytes())?;
     assert!(rt; one.member(&name).is_none());
-    one.add(name, Member { offset, ty: second })?;
-    one.size = 4;
+    one.add(name, second, words)?;
     Ok(one)
 }
 
@@ -39,8 +33,8 @@ fn layout(
 fn two_layouts(rt: &impl Abort, alloc: Global) -> Result<Vec<Layout>, Fail> {
     let mut layouts = Vec::new(alloc);
     let three = array(alloc, CType::Int, 3)?;
-    layouts.push(layout(rt, alloc, ["a", "b"], 1, three)?)?;
-    layouts.push(layout(rt, alloc, ["i", "q"], 0, CType::Struct(0))?)?;
+    layouts.push(layout(rt, alloc, false, ["a", "b"], three, 3)?)?;
+    layouts.push(layout(rt, alloc, true, ["i", "q"], CType::Struct(0), 4)?)?;
     Ok(layouts)
 }
 
@@ -55,6 +49,7 @@ fn sizes_and_offsets(rt: HostRuntime) -> Result<(), Fail> {
         assert_eq!(rt; member_offset(layout, "b"), b);
         assert_eq!(rt; member_offset(layout, "q"), q);
         assert_eq!(rt; layout.count(), 2);
+        assert_eq!(rt; layout.size(), 4);
         assert!(rt; layout.member_type(1).is_some());
         assert!(rt; layout.member_type(2).is_none());
     }

@@ -2,3 +2,4 @@ pub mod ItemExact
 pub mod WholeExact
 pub mod Answered
 pub mod Held
+pub mod Spent

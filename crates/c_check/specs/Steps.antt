@@ -1,5 +1,5 @@
 -- How lists of parts are read one by one, as the functions of this crate say it.
-use Rattle.std.specs.Prelude.{◌^◌, ◌-◌, Bool, min, map, List, [], ◌∷◌, ◌++◌, Ok}
+use Rattle.std.specs.Prelude.{ℕ, ◌+◌, ◌^◌, ◌-◌, Bool, length, min, map, List, [], ◌∷◌, ◌++◌, Ok}
 use Rattle.c_tree.specs.declared.span.Span.{Span}
 use Rattle.c_tree.specs.Tree.{VarT}
 use Rattle.c_types.specs.Types.{MemberT, LayoutT}
@@ -35,3 +35,7 @@ counted_record un is_union name vs s = do
   l ← counted_members (record_entered is_union name un) (no_layout is_union) vs
   n ← placed s (members_declared is_union name l.1 l.0)
   Ok (tt, with_layout n l.0 l.1)
+
+-- how many structures and unions, enumerations, globals and functions are read
+abbrev pub spent : Un → ℕ
+spent un = length un.layouts + un.enums + length un.globals + length un.functions

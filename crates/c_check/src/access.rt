@@ -1,5 +1,5 @@
 // The parts of checked programs.
-ghost use Rattle.std.specs.Prelude.{◌≡◌, map};
+ghost use Rattle.std.specs.Prelude.{◌≡◌, map, option_map, slice_get};
 ghost use Rattle.c_types.specs.View.{layout, tstmt, function};
 ghost use Rattle.c_check.specs.View.{program};
 ghost use Rattle.c_check.specs.Whole.{IsProgram};
@@ -64,6 +64,30 @@ impl Program {
         ensures functions { map function result.now ≡ (program self.now).functions }
     {
         self.functions.as_slice()
+    }
+
+    /// The size in words of the global of that number.
+    pub fn global_size(&self, number: u32) -> Option<u32>
+        ensures size { result ≡ option_map (λ g. g.1) (slice_get (program self.now).globals number) }
+    {
+        match self.globals().get(number as usize) {
+            Some((_, size)) => Some(*size),
+            None => None,
+        }
+    }
+
+    /// The text of that number.
+    pub fn literal(&self, number: u32) -> Option<&Name>
+        ensures literal { option_map (λ t. t.now) result ≡ slice_get (program self.now).literals number }
+    {
+        self.literals().get(number as usize)
+    }
+
+    /// The function of that number.
+    pub fn function(&self, number: u32) -> Option<&TFunction>
+        ensures function { option_map (λ f. function f.now) result ≡ slice_get (program self.now).functions number }
+    {
+        self.functions().get(number as usize)
     }
 
     /// The number of `main` among the functions.

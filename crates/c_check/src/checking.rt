@@ -1,5 +1,5 @@
 // The checker.
-ghost use Rattle.std.specs.Prelude.{◌≡◌, ◌<◌, ◌≤◌, ◌^◌, [], ℕ, List, map, option_map, Ok, Err, IfOk, OnOk};
+ghost use Rattle.std.specs.Prelude.{◌≡◌, ◌<◌, ◌≤◌, ◌^◌, [], ℕ, List, length, map, option_map, Ok, Err, IfOk, OnOk};
 ghost use Rattle.c_tree.specs.declared.span.Span.{Span};
 ghost use Rattle.c_tree.specs.Count.{unit_nodes};
 ghost use Rattle.c_tree.specs.Tree.{ItemT};
@@ -116,6 +116,7 @@ fn number_body(alloc: Global, globals: &mut Globals, name: &[u8], number: u32) -
 
 /// The numbers of the functions with a body, where nothing is declared yet. The error is want of memory.
 fn number_bodies(alloc: Global, items: &[Item]) -> Result<Globals, Memory>
+    requires few { length items.now ≤ 200000 }
     ensures bodies { IfOk result (λ g. bodies g ≡ bodies_of (map item items.now)) }
     ensures names { IfOk result (λ g. names g ≡ []) }
     ensures layouts { IfOk result (λ g. g.layouts.items ≡ []) }
@@ -126,10 +127,7 @@ fn number_bodies(alloc: Global, items: &[Item]) -> Result<Globals, Memory>
     for one in items {
         if let Some(name) = body_name(one) {
             number_body(alloc, &mut globals, name.bytes(), number)?;
-            let Some(next) = number.checked_add(1) else {
-                return Err(Memory);
-            };
-            number = next;
+            number += 1;
         }
     }
     Ok(globals)
@@ -149,7 +147,7 @@ pub fn check(alloc: Global, parsed: &Unit) -> Result<Program, CheckErr>
     checked(alloc, parsed.items.as_slice())
 }
 
-#[tactic(auto, unfolding(crate::specs::Whole::checked))]
+#[tactic(auto, using(crate::proofs::Spent::items_within), unfolding(crate::specs::Whole::checked))]
 fn checked(alloc: Global, items: &[Item]) -> Result<Program, CheckErr>
     requires nodes { unit_nodes (map item items.now) ≤ 200000 }
     ensures { Gives program result (checked (map item items.now)) }

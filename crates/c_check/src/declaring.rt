@@ -1,5 +1,5 @@
 // Names of the unit.
-ghost use Rattle.std.specs.Prelude.{◌≡◌, ◌++◌, ◌∷◌, [], length, slice_get, OnOk, IfOk};
+ghost use Rattle.std.specs.Prelude.{◌≡◌, ◌≤◌, ◌++◌, ◌∷◌, [], length, slice_get, OnOk};
 ghost use Rattle.c_types.specs.View.{ctype};
 ghost use Rattle.c_exprs.specs.View.{decl, names};
 ghost use Rattle.std.specs.Str.{bytes_eq};
@@ -30,6 +30,7 @@ pub(crate) fn declare(
     meaning: Decl,
 ) -> Result<(), Memory>
     ensures named { OnOk result (un reading.new ≡ named name.now (decl meaning) (un reading.old)) }
+    ensures objects { (un reading.new).globals ≡ (un reading.old).globals }
 {
     if !is_free(&reading.globals, name) {
         return Ok(());
@@ -49,14 +50,12 @@ fn record_type(is_union: bool, number: u32) -> CType
     }
 }
 
-/// The number of the next structure or union. The error is that there are 2^32.
-fn next_number(globals: &Globals) -> Result<u32, Memory>
-    ensures { IfOk result (λ number. number ≡ length globals.now.layouts.items) }
+/// The number of the next structure or union.
+fn next_number(globals: &Globals) -> u32
+    requires few { length globals.now.layouts.items ≤ 200000 }
+    ensures { result ≡ length globals.now.layouts.items }
 {
-    match u32::try_from(globals.layouts.len()) {
-        Ok(number) => Ok(number),
-        Err(_) => Err(Memory),
-    }
+    globals.layouts.len() as u32
 }
 
 /// Makes the name that of a structure or union without members, where it is free. The error is want of memory.
@@ -67,12 +66,13 @@ pub(crate) fn enter_record(
     is_union: bool,
     name: &[u8],
 ) -> Result<(), Memory>
+    requires few { length (un reading.old).layouts ≤ 200000 }
     ensures entered { OnOk result (un reading.new ≡ record_entered is_union name.now (un reading.old)) }
 {
     if !is_free(&reading.globals, name) {
         return Ok(());
     }
-    let number = next_number(&reading.globals)?;
+    let number = next_number(&reading.globals);
     reading.globals.layouts.push(Layout::new(alloc, is_union))?;
     reading.globals.whole.push(false)?;
     reading.records.push(Name::from_bytes(alloc, name)?)?;
@@ -82,23 +82,21 @@ pub(crate) fn enter_record(
         .declare(key, Decl::Alias(record_type(is_union, number)))
 }
 
-/// Makes the name that of the next enumeration, where it is free. The error is want of memory, or that there are 2^32.
+/// Makes the name that of the next enumeration, where it is free. The error is want of memory.
 #[tactic(auto, unfolding(crate::specs::Reading::enum_entered))]
 pub(crate) fn enter_enum(alloc: Global, reading: &mut Reading, name: &[u8]) -> Result<(), Memory>
+    requires few { (un reading.old).enums ≤ 200000 }
     ensures entered { OnOk result (un reading.new ≡ enum_entered name.now (un reading.old)) }
 {
     if !is_free(&reading.globals, name) {
         return Ok(());
     }
     let number = reading.enums;
-    let Some(next) = number.checked_add(1) else {
-        return Err(Memory);
-    };
     let key = Vec::from_slice(alloc, name)?;
     reading
         .globals
         .declare(key, Decl::Alias(CType::Enum(number)))?;
-    reading.enums = next;
+    reading.enums = number + 1;
     Ok(())
 }
 

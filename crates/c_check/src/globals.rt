@@ -1,13 +1,14 @@
 // The globals.
-ghost use Rattle.std.specs.Prelude.{◌≡◌, ◌++◌, ◌∷◌, [], map, option_map, OnOk, true};
+ghost use Rattle.std.specs.Prelude.{◌≡◌, ◌+◌, ◌<◌, ◌≤◌, ◌++◌, ◌∷◌, [], length, map, option_map, OnOk, true};
 ghost use Rattle.c_tree.specs.Tree.{VarsD};
+ghost use Rattle.c_tree.specs.Count.{vars_nodes};
 ghost use Rattle.c_tree.specs.View.{var};
 ghost use Rattle.c_types.specs.View.{ctype, tinit, tvar};
 ghost use Rattle.c_exprs.specs.Gives.{Gives};
 ghost use Rattle.c_stmts.specs.State.{filled_var};
 ghost use Rattle.c_check.specs.Reading.{global_size, with_init};
 ghost use Rattle.c_check.specs.ItemTyping.{global, globals, item};
-ghost use Rattle.c_check.specs.Steps.{before};
+ghost use Rattle.c_check.specs.Steps.{before, spent};
 ghost use Rattle.c_check.specs.View.{un};
 
 use crate::declaring::{declare, is_free};
@@ -64,9 +65,11 @@ fn read_global(
     filled: &mut Vec<TVar>,
     v: &Var,
 ) -> Result<(), CheckErr>
-    ensures { Gives (λ _. (map tvar filled.new.items, un reading.new)) result (before (map tvar filled.old.items) (global (un reading.old) (var v.now))) }
+    requires few { length (un reading.old).globals < 200000 }
+    ensures gives { Gives (λ _. (map tvar filled.new.items, un reading.new)) result (before (map tvar filled.old.items) (global (un reading.old) (var v.now))) }
+    ensures count { OnOk result (length (un reading.new).globals ≡ length (un reading.old).globals + 1) }
 {
-    let object = reading.objects.next()?;
+    let object = reading.objects.next();
     let fresh = is_free(&reading.globals, v.name.bytes());
     let ty = type_at(alloc, reading, v.span, &v.ty)?;
     let named = copy_type(alloc, &ty)?;
@@ -80,6 +83,7 @@ fn read_global(
 }
 
 fn read_globals(alloc: Global, reading: &mut Reading, all: &[Var]) -> Result<Vec<TVar>, CheckErr>
+    requires few { length (un reading.old).globals + length all.now ≤ 200000 }
     ensures { Gives (λ r. (map tvar r.items, un reading.new)) result (globals (un reading.old) (map var all.now)) }
 {
     let mut filled = Vec::new(alloc);
@@ -90,13 +94,14 @@ fn read_globals(alloc: Global, reading: &mut Reading, all: &[Var]) -> Result<Vec
 }
 
 /// Reads the globals of an item, with the statement that fills them.
-#[tactic(auto, unfolding(crate::specs::ItemTyping::item))]
+#[tactic(auto, using(crate::proofs::Spent::vars_within), unfolding(crate::specs::ItemTyping::item))]
 pub(crate) fn read_objects(
     alloc: Global,
     reading: &mut Reading,
     span: Span,
     all: &[Var],
 ) -> Result<(), CheckErr>
+    requires few { spent (un reading.old) + vars_nodes (map var all.now) ≤ 200000 }
     ensures { Gives (λ r. (r, un reading.new)) result (item (un reading.old) (VarsD (map var all.now) span)) }
 {
     let filled = read_globals(alloc, reading, all)?;

@@ -1,10 +1,11 @@
 // The items of a unit.
-ghost use Rattle.std.specs.Prelude.{◌≡◌, ℕ, map, option_map, Some, None, length};
+ghost use Rattle.std.specs.Prelude.{◌≡◌, ℕ, ◌+◌, ◌≤◌, map, option_map, Some, None, length};
+ghost use Rattle.c_tree.specs.Count.{item_nodes, unit_nodes};
 ghost use Rattle.c_tree.specs.Tree.{RecordD, EnumD, TypedefD, VarsD};
 ghost use Rattle.c_tree.specs.View.{expr, item, type, var};
 ghost use Rattle.c_exprs.specs.Gives.{Gives};
 ghost use Rattle.c_check.specs.ItemTyping.{item as read_by, items as all_read_by};
-ghost use Rattle.c_check.specs.Steps.{counted_record};
+ghost use Rattle.c_check.specs.Steps.{counted_record, spent};
 ghost use Rattle.c_check.specs.View.{un};
 
 use crate::declaring::{declare, enter_enum, enter_record, is_free, record_number};
@@ -29,6 +30,7 @@ fn read_record_name(
     is_union: bool,
     name: &Name,
 ) -> Result<(), CheckErr>
+    requires few { spent (un reading.old) ≤ 200000 }
     ensures { Gives (λ r. (r, un reading.new)) result (read_by (un reading.old) (RecordD is_union name.now None span)) }
 {
     enter_record(alloc, reading, is_union, name.bytes())?;
@@ -47,6 +49,7 @@ fn read_counted(
     name: &Name,
     all: &[Var],
 ) -> Result<(), CheckErr>
+    requires few { spent (un reading.old) ≤ 200000 }
     ensures { Gives (λ r. (r, un reading.new)) result (counted_record (un reading.old) is_union name.now (map var all.now) span) }
 {
     enter_record(alloc, reading, is_union, name.bytes())?;
@@ -67,6 +70,7 @@ fn read_record(
     name: &Name,
     all: &[Var],
 ) -> Result<(), CheckErr>
+    requires few { spent (un reading.old) ≤ 200000 }
     ensures { Gives (λ r. (r, un reading.new)) result (read_by (un reading.old) (RecordD is_union name.now (Some (map var all.now)) span)) }
 {
     read_counted(alloc, reading, span, is_union, name, all)
@@ -80,6 +84,7 @@ fn read_enum(
     name: &Name,
     values: &[(Name, Option<Expr>)],
 ) -> Result<(), CheckErr>
+    requires few { spent (un reading.old) ≤ 200000 }
     ensures { Gives (λ r. (r, un reading.new)) result (read_by (un reading.old) (EnumD name.now (map (λ v. (v.0, option_map expr v.1)) values.now) span)) }
 {
     let fresh = is_free(&reading.globals, name.bytes());
@@ -107,6 +112,7 @@ fn read_typedef(
 
 /// Reads an item.
 fn read_item(alloc: Global, reading: &mut Reading, one: &Item) -> Result<(), CheckErr>
+    requires few { spent (un reading.old) + item_nodes (item one.now) ≤ 200000 }
     ensures { Gives (λ r. (r, un reading.new)) result (read_by (un reading.old) (item one.now)) }
 {
     match one {
@@ -139,6 +145,7 @@ fn read_item(alloc: Global, reading: &mut Reading, one: &Item) -> Result<(), Che
 
 /// Reads the items of a unit.
 pub(crate) fn read_items(alloc: Global, reading: &mut Reading, all: &[Item]) -> Result<(), CheckErr>
+    requires few { spent (un reading.old) + unit_nodes (map item all.now) ≤ 200000 }
     ensures { Gives (λ r. (r, un reading.new)) result (all_read_by (un reading.old) (map item all.now)) }
 {
     for one in all {

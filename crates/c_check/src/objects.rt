@@ -1,5 +1,5 @@
 // The globals of a unit.
-ghost use Rattle.std.specs.Prelude.{◌≡◌, ◌*◌, ◌≤◌, ◌++◌, ◌∷◌, [], sum_by, length, OnOk, IfOk};
+ghost use Rattle.std.specs.Prelude.{◌≡◌, ◌*◌, ◌^◌, ◌<◌, ◌≤◌, ◌++◌, ◌∷◌, [], sum_by, length, OnOk};
 
 use kit_base::{Memory, Name};
 use std::alloc::Global;
@@ -39,23 +39,19 @@ impl Objects {
         self.words
     }
 
-    /// The number of the next global. The error is that there are 2^32.
-    pub(crate) fn next(&self) -> Result<u32, Memory>
-        ensures next { IfOk result (λ number. number ≡ length self.now) }
+    /// The number of the next global.
+    pub(crate) fn next(&self) -> u32
+        requires few { length self.now < 2 ^ 32 }
+        ensures next { result ≡ length self.now }
     {
-        match u32::try_from(self.items.len()) {
-            Ok(number) => Ok(number),
-            Err(_) => Err(Memory),
-        }
+        self.items.len() as u32
     }
 
-    /// Adds the next global. The error is want of memory, or that there are 2^32.
+    /// Adds the next global. The error is want of memory.
     pub(crate) fn add(&mut self, name: Name, size: u32) -> Result<(), Memory>
+        requires few { length self.old < 2 ^ 32 }
         ensures added { OnOk result (self.new ≡ self.old ++ (name, size) ∷ []) }
     {
-        if self.items.len() > 0xFFFF_FFFF {
-            return Err(Memory);
-        }
         self.items.push((name, size))?;
         self.words += size as u64;
         Ok(())

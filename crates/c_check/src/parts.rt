@@ -36,7 +36,8 @@ pub(crate) fn type_at(
     span: Span,
     ty: &TypeTree,
 ) -> Result<CType, CheckErr>
-    ensures { Gives (λ r. (ctype r, un reading.new)) result (type_at (un reading.old) span (type ty.now)) }
+    ensures gives { Gives (λ r. (ctype r, un reading.new)) result (type_at (un reading.old) span (type ty.now)) }
+    ensures objects { (un reading.new).globals ≡ (un reading.old).globals }
 {
     type_of_tree(
         alloc,
@@ -56,7 +57,8 @@ fn fill_at(
     target: &CType,
     i: &Init,
 ) -> Result<TInit, CheckErr>
-    ensures { Gives (λ r. (tinit r, un reading.new)) result (fill_at (un reading.old) (ctype target.now) (init i.now)) }
+    ensures gives { Gives (λ r. (tinit r, un reading.new)) result (fill_at (un reading.old) (ctype target.now) (init i.now)) }
+    ensures objects { (un reading.new).globals ≡ (un reading.old).globals }
 {
     fill(
         alloc,
@@ -77,7 +79,8 @@ pub(crate) fn maybe_fill_at(
     target: &CType,
     i: &Option<Init>,
 ) -> Result<Option<TInit>, CheckErr>
-    ensures { Gives (λ r. (option_map tinit r, un reading.new)) result (maybe_fill_at (un reading.old) (ctype target.now) (option_map init i.now)) }
+    ensures gives { Gives (λ r. (option_map tinit r, un reading.new)) result (maybe_fill_at (un reading.old) (ctype target.now) (option_map init i.now)) }
+    ensures objects { (un reading.new).globals ≡ (un reading.old).globals }
 {
     match i {
         None => Ok(None),

@@ -1,0 +1,5 @@
+struct S;
+
+void main() {
+    S s = { 1 }; // error 42
+}

@@ -17,6 +17,7 @@ use Rattle.c_exprs.specs.Env as env
 use Rattle.c_exprs.specs.Intrinsics.{intrinsic}
 use Rattle.c_exprs.specs.Calls.{ensured}
 use Rattle.c_stmts.specs.State.{Scope, Fn, St, innermost, declare, made, object_size}
+use Rattle.c_check.specs.Words.{is_word}
 
 -- What was read of a unit, and the numbers of all functions with a body in it, which do not change: the layouts, with whether each is declared whole; the names of structures and unions, by their numbers; how many
 -- enumerations there are; what names are declared as; the globals with their sizes; their initialisers; the functions with a body; the texts;
@@ -232,11 +233,11 @@ result_rule layouts whole gives = record {
 }
 
 -- The rules of a function, behind its body. Its name is a function's, by this item or one before it, with no body before where it has one
--- here; that function has these types; its result is none or a value's type.
+-- here; it is a word, as in every unit that was read from text; that function has these types; its result is none or a value's type.
 unfoldable pub function_rules : Un → Text → List Ty → Ty → Option StmtTs → Result (Unit {0}) Code
 function_rules un n params gives body =
     ensured Twice (is_function (find n un.names) && is_own_body n un body)
-    (ensured WrongType (agrees params gives (find n un.names)) (judged (result_rule un.layouts un.whole gives)))
+    (ensured WrongType (is_word n && agrees params gives (find n un.names)) (judged (result_rule un.layouts un.whole gives)))
 
 -- A function is left, and kept where it has a body. Its scope, the one that is open, holds its parameters and the variables that stand in its
 -- body outside every block, `for` and `switch`: these are made with the call.

@@ -15,6 +15,7 @@ ghost use Rattle.c_check.specs.View.{un};
 use crate::declaring::declare;
 use crate::parts::{maybe_body, type_at};
 use crate::reading::{Reading, begin, end};
+use crate::words::is_word;
 use c_exprs::{CheckErr, Decl, placed};
 use c_rules::{Code, copy_type, fits, is_array, is_void, is_whole, same_type, type_size};
 use c_tree::{Span, Stmt, TypeTree, Var};
@@ -185,7 +186,7 @@ fn check_function(
     if !is_function(found) || !is_own_body(reading, name, body) {
         return Err(Code::Twice);
     }
-    if !agrees(params, gives, found) {
+    if !is_word(name) || !agrees(params, gives, found) {
         return Err(Code::WrongType);
     }
     check_result(&reading.globals.layouts, &reading.globals.whole, gives)

@@ -17,6 +17,7 @@ mod objects;
 mod parts;
 mod program;
 mod reading;
+mod words;
 
 pub use checking::check;
 pub use objects::Objects;

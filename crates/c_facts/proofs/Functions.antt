@@ -22,8 +22,8 @@ use Rattle.c_facts.proofs.Sane.{Sane, kept_sane}
 use Rattle.c_facts.proofs.Counts.{numbers_then}
 use Rattle.c_facts.proofs.Meant.{Ends, Meant, literals_begin, named_meant, type_known, members_whole_then}
 use Rattle.c_facts.proofs.Growth.{words_later}
-use Rattle.c_facts.proofs.Scopes.{in_declared}
-use Rattle.c_facts.proofs.Making.{Makes, makes_same, makes_itself, makes_all, declared_makes, statements_make, made_once}
+use Rattle.c_facts.proofs.Scopes.{in_declared, objects_rise}
+use Rattle.c_facts.proofs.Making.{Makes, makes_same, makes_itself, makes_all, declared_makes, statements_make, made_once, Between, call_rises}
 
 -- ---- parameters
 
@@ -186,11 +186,18 @@ named_makes name d un = by_named (λ up. Makes (state_in un) (state_in up) []) n
 body_makes : {un : Un} {t : Ty} {body : StmtTs} {x : TStmtTs} {ur : Un} → BodyAt un t body x ur → Makes (state_in un) (state_in ur) (all_made_in x)
 body_makes (item.body_at {un = un} {us = us} g0) = statements_make g0
 
-function_made : (name : Text) (up : Un) {uq : Un} {vs : List VarT} {ps : List Ty} {t : Ty} {body : StmtTs} {x : TStmtTs} {ur : Un} → Parameters (begun up) vs ps uq → BodyAt (named name (FunctionD ps t) uq) t body x ur → IsMadeOnce (record { name = name; params = ps; locals = ur.sizes; made = made (state_in ur); gives = t; body = x })
-function_made name up {uq = uq} {ps = ps} {t = t} {x = x} {ur = ur} g1 g2 k =
+function_makes : (name : Text) (up : Un) {uq : Un} {vs : List VarT} {ps : List Ty} {t : Ty} {body : StmtTs} {x : TStmtTs} {ur : Un} → Parameters (begun up) vs ps uq → BodyAt (named name (FunctionD ps t) uq) t body x ur → Makes (state_in (begun up)) (state_in ur) (all_made_in x)
+function_makes name up {uq = uq} {ps = ps} {t = t} {x = x} {ur = ur} g1 g2 =
     let named_now = named name (FunctionD ps t) uq in
     let head = makes_all (state_in (begun up)) (state_in uq) (state_in named_now) [] [] (parameters_make g1) (named_makes name (FunctionD ps t) uq) in
-    made_once (state_in (begun up)) (state_in ur) (all_made_in x) refl refl (makes_all (state_in (begun up)) (state_in named_now) (state_in ur) [] (all_made_in x) head (body_makes g2)) k
+    makes_all (state_in (begun up)) (state_in named_now) (state_in ur) [] (all_made_in x) head (body_makes g2)
+
+function_made : (name : Text) (up : Un) {uq : Un} {vs : List VarT} {ps : List Ty} {t : Ty} {body : StmtTs} {x : TStmtTs} {ur : Un} → Parameters (begun up) vs ps uq → BodyAt (named name (FunctionD ps t) uq) t body x ur → IsMadeOnce (record { name = name; params = ps; locals = ur.sizes; made = made (state_in ur); gives = t; body = x })
+function_made name up {uq = uq} {ps = ps} {t = t} {x = x} {ur = ur} g1 g2 k = made_once (state_in (begun up)) (state_in ur) (all_made_in x) refl refl (function_makes name up g1 g2) k
+
+function_rises : (name : Text) (up : Un) {uq : Un} {vs : List VarT} {ps : List Ty} {t : Ty} {body : StmtTs} {x : TStmtTs} {ur : Un} → Parameters (begun up) vs ps uq → BodyAt (named name (FunctionD ps t) uq) t body x ur → Between 0 (made (state_in ur)) (length ur.sizes)
+function_rises name up {uq = uq} {ps = ps} {t = t} {x = x} {ur = ur} g1 g2 =
+    call_rises (state_in (begun up)) (state_in ur) (all_made_in x) refl (function_makes name up g1 g2)
 
 -- The function that an item with a body makes.
 pub function_sound : (name : Text) {s : Scene} {fin un : Un} {p : Span} {of : TypeT} {t : Ty} {vs : List VarT} {ps : List Ty} {up uq : Un} {body : StmtTs} {x : TStmtTs} {ur : Un} → Ends s fin → ((sizes : List ℕ) → Meant (in_call s sizes) un) → Sane un
@@ -203,11 +210,14 @@ function_sound name {s = s} {un = un} {t = t} {ps = ps} {up = up} {uq = uq} {ur 
     let from_names : Keeps uq (named name (FunctionD ps t) uq) = named_keeps name (FunctionD ps t) uq in
     let before : Keeps un uq = keeps_through (type_keeps g0) (keeps_through (begun_keeps up) (parameters_keep g1)) in
     let call = ends_call ur.sizes e in
+    let call_scene = in_call s ur.sizes in
     let head = head_known name call g0 g1 (later_through (kept_later (keeps_through from_names from_body)) later) (adds.taken, sizes) (meant ur.sizes) in
     record {
+      word = r.word;
       known = head.gives;
       result = result_stays head.meant.grows t (subst₂ (λ ls ws. judged (result_rule ls ws t) ≡ Ok tt) from_body.layouts from_body.whole r.result);
       objects = subst (λ ns. AreCallObjects s.layouts s.whole ps ns) (sym sizes) (call_objects s.layouts s.whole ps uq.sizes adds.taken head.rules (adds.room (same.1 ∙ head.used)));
       made = function_made name up g1 g2;
+      rising = objects_rise call_scene 0 (made (state_in ur)) (length ur.sizes) (function_rises name up g1 g2) (omega arith);
       body = body_known call (kept_sane (keeps_through before from_names) h) g2 later (begins_itself ur.sizes) head.meant;
     }

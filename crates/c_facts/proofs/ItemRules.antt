@@ -16,6 +16,7 @@ use Rattle.c_exprs.specs.Faults.{placed}
 use Rattle.c_exprs.specs.Calls.{ensured}
 use Rattle.c_types.specs.Sizes.{member_named}
 use Rattle.c_stmts.specs.State.{innermost, object_rule, object_size}
+use Rattle.c_check.specs.Words.{is_word}
 use Rattle.c_check.specs.Reading.{Un, record_number, has_members, whole_record, member_size, members_declared, global_words, globals_limit, global_size, parameter_rule, parameter_size, same_types, is_function, agrees, is_own_body, result_rule, function_rules}
 use Rattle.c_facts.proofs.Holds.{placed_gives, ensured_gives}
 use Rattle.c_facts.proofs.Stays.{HasWords, size_facts, object_facts}
@@ -69,6 +70,7 @@ parameter_rule_holds s un name ty n h = (ensured_gives Twice (not (is_some (find
 -- a function, whose name is that of a function with these types
 pub record IsRuled (un : Un) (name : Text) (params : List Ty) (gives : Ty) (body : Option StmtTs) : Type 0 where
   pub own : is_own_body name un body ≡ true
+  pub word : is_word name ≡ true
   pub declared : find name un.names ≡ Some (FunctionD params gives)
   pub result : judged (result_rule un.layouts un.whole gives) ≡ Ok tt
 
@@ -88,9 +90,10 @@ pub function_ruled : (s : Span) (un : Un) (name : Text) (params : List Ty) (give
 unfolding function_rules
 function_ruled s un name params gives body h =
     let r = judged (result_rule un.layouts un.whole gives) in
-    let e = ensured_gives Twice (is_function (find name un.names) && is_own_body name un body) (ensured WrongType (agrees params gives (find name un.names)) r) tt (placed_gives s (function_rules un name params gives body) tt h) in
-    let f = ensured_gives WrongType (agrees params gives (find name un.names)) r tt e.1 in
-    record { own = (and_parts _ _ e.0).1; declared = agreed params gives (find name un.names) f.0; result = f.1 }
+    let e = ensured_gives Twice (is_function (find name un.names) && is_own_body name un body) (ensured WrongType (is_word name && agrees params gives (find name un.names)) r) tt (placed_gives s (function_rules un name params gives body) tt h) in
+    let f = ensured_gives WrongType (is_word name && agrees params gives (find name un.names)) r tt e.1 in
+    let g = and_parts _ _ f.0 in
+    record { own = (and_parts _ _ e.0).1; word = g.0; declared = agreed params gives (find name un.names) g.1; result = f.1 }
 
 number_is : (n : ℕ) (o : Option ℕ) → holds (λ k. k == n) o ≡ true → o ≡ Some n
 number_is n None h = absurd cc

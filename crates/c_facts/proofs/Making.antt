@@ -1,5 +1,5 @@
 -- Statements put each new object into one open scope, and a list that is made is what its scope has.
-use Rattle.std.proofs.Common.{◌≡◌, ℕ, ◌+◌, ◌==◌, Bool, true, List, [], ◌∷◌, ◌++◌, map, length, Option, Ok, refl, ap, ◌∙◌, arith, if◌then◌else◌, length-append}
+use Rattle.std.proofs.Common.{◌≡◌, ℕ, ◌+◌, ◌==◌, ◌≤◌, Bool, true, List, [], ◌∷◌, ◌++◌, map, length, Option, Ok, refl, sym, ap, ◌∙◌, subst, subst₂, arith, if◌then◌else◌, length-append}
 use Rattle.std.proofs.lemmas.Bool.Decides.{nat_tests}
 use Rattle.c_tree.specs.declared.span.Span.{Span}
 use Rattle.c_tree.specs.Tree.{ExprT, TypeT, InitT, VarT, StmtT, MaybeS, StmtTs, ArmT, ArmTs}
@@ -62,13 +62,47 @@ open_declared k n l ss =
 pub next_below : (k n : ℕ) → once_below (n + 1) k ≡ once_below n k + times k (n ∷ [])
 next_below k n = grind (arith, nat_tests)
 
+-- ---- rising order
+
+-- in rising order, from one number up to another
+abbrev pub Between : ℕ → List ℕ → ℕ → Type 0
+Between low [] high = low ≤ high
+Between low (k ∷ ks) high = (low ≤ k) × Between (k + 1) ks high
+
+pub between_bounds : (low : ℕ) (ks : List ℕ) (high : ℕ) → Between low ks high → low ≤ high
+between_bounds low [] high h = h
+between_bounds low (k ∷ ks) high h = omega (arith, h.0, between_bounds (k + 1) ks high h.1)
+
+between_more : (low : ℕ) (ks : List ℕ) (high more : ℕ) → high ≤ more → Between low ks high → Between low ks more
+between_more low [] high more e h = omega (arith, e, h)
+between_more low (k ∷ ks) high more e h = (h.0, between_more (k + 1) ks high more e h.1)
+
+between_next : (low : ℕ) (ks : List ℕ) (high : ℕ) → Between low ks high → Between low (ks ++ high ∷ []) (high + 1)
+between_next low [] high h = (h, omega arith)
+between_next low (k ∷ ks) high h = (h.0, between_next (k + 1) ks high h.1)
+
+innermost_last : (ss : List Scope) (es : Scope) → innermost (ss ++ es ∷ []) ≡ es
+unfolding innermost
+innermost_last [] es = refl
+innermost_last (ds ∷ []) es = refl
+innermost_last (ds ∷ fs ∷ ss) es = innermost_last (fs ∷ ss) es
+
+numbers_declared : (n : Text) (l : LocalD) (ss : List Scope) → numbers (innermost (declare n l ss)) ≡ numbers (innermost ss) ++ l.number ∷ []
+numbers_declared n l ss = ap numbers (innermost_last (closed ss) (innermost ss ++ (n, l) ∷ [])) ∙ numbers_append (innermost ss) n l
+
+-- a scope that is new has no numbers
+none_rising : (ss : List Scope) (n : ℕ) → Between 0 (numbers (innermost (ss ++ [] ∷ []))) n
+none_rising ss n = subst (λ es. Between 0 (numbers es) n) (sym (innermost_last ss [])) (omega arith)
+
 -- ---- states
 
 -- From one state to another these lists are made: every number stands as often in them and in the open scopes as before, and once more where
--- it is new; the scopes around the innermost one stay.
+-- it is new; the scopes around the innermost one stay, and the numbers of the innermost one still rise.
 pub record Makes (sp sq : St) (lists : List ℕ) : Type 0 where
   pub count : (k : ℕ) → times_open k sq.scopes + times k lists + once_below (length sp.sizes) k ≡ times_open k sp.scopes + once_below (length sq.sizes) k
   pub outer : closed sq.scopes ≡ closed sp.scopes
+  pub few : length sp.sizes ≤ length sq.sizes
+  pub rising : Between 0 (made sp) (length sp.sizes) → Between 0 (made sq) (length sq.sizes)
 
 -- nothing changes
 pub record Same (sp sq : St) : Type 0 where
@@ -79,16 +113,20 @@ pub makes_same : (sp sq : St) → Same sp sq → Makes sp sq []
 makes_same sp sq h = record {
   count = λ k. let a = ap (times_open k) h.scopes in let b = ap (λ ns. once_below (length ns) k) h.sizes in omega (arith, a, b);
   outer = ap closed h.scopes;
+  few = omega (arith, ap length h.sizes);
+  rising = λ b. subst₂ (λ ss ns. Between 0 (numbers (innermost ss)) (length ns)) (sym h.scopes) (sym h.sizes) b;
 }
 
 pub makes_all : (sp sq sr : St) (xs ys : List ℕ) → Makes sp sq xs → Makes sq sr ys → Makes sp sr (xs ++ ys)
 makes_all sp sq sr xs ys h g = record {
   count = λ k. omega (arith, h.count k, g.count k, times_append k xs ys);
   outer = g.outer ∙ h.outer;
+  few = omega (arith, h.few, g.few);
+  rising = λ b. g.rising (h.rising b);
 }
 
 nothing_after : (sp sq : St) (xs : List ℕ) → Makes sp sq (xs ++ []) → Makes sp sq xs
-nothing_after sp sq xs h = record { count = λ k. omega (arith, h.count k, times_append k xs []); outer = h.outer }
+nothing_after sp sq xs h = record { count = λ k. omega (arith, h.count k, times_append k xs []); outer = h.outer; few = h.few; rising = h.rising }
 
 pub makes_itself : (st : St) → Makes st st []
 makes_itself st = makes_same st st (record { scopes = refl; sizes = refl })
@@ -100,7 +138,13 @@ scope_makes sp sq xs h =
     record {
       count = λ k. let a = ap (times_open k) same in omega (arith, h.count k, open_parts k sq.scopes, open_append k sp.scopes ([] ∷ []), times_append k (made sq) xs);
       outer = ap closed same;
+      few = h.few;
+      rising = λ b. subst (λ ss. Between 0 (numbers (innermost ss)) (length sq.sizes)) (sym same) (between_more 0 (made sp) (length sp.sizes) (length sq.sizes) h.few b);
     }
+
+-- the numbers of a scope rise where it is left
+pub scope_rises : (sp sq : St) (xs : List ℕ) → Makes (opened sp) sq xs → Between 0 (made sq) (length sq.sizes)
+scope_rises sp sq xs h = h.rising (none_rising sp.scopes (length sp.sizes))
 
 -- ---- expressions, types, initialisers
 
@@ -144,7 +188,14 @@ declared_makes sp sq n l size same scopes sizes = record {
       let c : once_below (length sq.sizes) k ≡ once_below (length sp.sizes + 1) k = ap (λ j. once_below j k) (omega (arith, ap length sizes, length-append sp.sizes (size ∷ []))) in
       omega (arith, a, b, c, next_below k (length sp.sizes));
   outer = ap closed scopes ∙ closed_last (closed sp.scopes) (innermost sp.scopes ++ (n, l) ∷ []);
+  few = omega (arith, more);
+  rising = λ b.
+      let at : numbers (innermost sq.scopes) ≡ numbers (innermost sp.scopes) ++ length sp.sizes ∷ [] = ap (λ ss. numbers (innermost ss)) scopes ∙ numbers_declared n l sp.scopes ∙ ap (λ j. numbers (innermost sp.scopes) ++ j ∷ []) same in
+      subst₂ (λ ks m. Between 0 ks m) (sym at) (sym more) (between_next 0 (made sp) (length sp.sizes) b);
 }
+  where
+    more : length sq.sizes ≡ length sp.sizes + 1
+    more = omega (arith, ap length sizes, length-append sp.sizes (size ∷ []))
 
 is_fresh : (s : Span) (f : Fn) (used : ℕ) (fresh : Bool) (ty : Ty) (n : ℕ) → placed s (object_size f.layouts f.whole locals_limit used fresh ty) ≡ Ok n → fresh ≡ true
 unfolding object_size
@@ -165,6 +216,10 @@ variables_make (good.more_variables {sp = sp} {sq = sq} {sr = sr} h g) = makes_a
 
 -- ---- statements
 
+-- what is in a `for`
+pub for_makes : {f : Fn} {sp sq sr ss su : St} {e d : Option ExprT} {y z : Option TExprT} {xs ys : List ℕ} → Makes sp sq xs → MaybeValue f sq e y sr → MaybeValue f sr d z ss → Makes ss su ys → Makes sp su (xs ++ ys)
+for_makes {sp = sp} {sq = sq} {sr = sr} {ss = ss} {su = su} {xs = xs} {ys = ys} h g l m = makes_all sp sq su xs ys h (makes_all sq sr su [] ys (maybe_value_makes g) (makes_all sr ss su [] ys (maybe_value_makes l) m))
+
 mutual
   pub statement_makes : {f : Fn} {sp sq : St} {breaks continues : Bool} {a : StmtT} {x : TStmtT} → Statement f sp breaks continues a x sq → Makes sp sq (made_in x)
   statement_makes (good.block {sp = sp} {sq = sq} {xs = xs} h) = scope_makes sp sq (all_made_in xs) (statements_make h)
@@ -174,8 +229,7 @@ mutual
   statement_makes (good.if_else {sp = sp} {sq = sq} {sr = sr} {ss = ss} {y = y} {z = z} h g l test) = makes_all sp sq ss [] (made_in y ++ maybe_made_in z) (value_makes h) (makes_all sq sr ss (made_in y) (maybe_made_in z) (statement_makes g) (maybe_statement_makes l))
   statement_makes (good.while {sp = sp} {sq = sq} {sr = sr} {y = y} h g test) = makes_all sp sq sr [] (made_in y) (value_makes h) (statement_makes g)
   statement_makes (good.do_while {sp = sp} {sq = sq} {sr = sr} {y = y} h g test) = nothing_after sp sr (made_in y) (makes_all sp sq sr (made_in y) [] (statement_makes h) (value_makes g))
-  statement_makes (good.for {sp = sp} {sq = sq} {sr = sr} {ss = ss} {su = su} {x = x} {w = w} h g l m test) =
-      scope_makes sp su (maybe_made_in x ++ made_in w) (makes_all (opened sp) sq su (maybe_made_in x) (made_in w) (maybe_statement_makes h) (makes_all sq sr su [] (made_in w) (maybe_value_makes g) (makes_all sr ss su [] (made_in w) (maybe_value_makes l) (statement_makes m))))
+  statement_makes (good.for {sp = sp} {su = su} {x = x} {w = w} h g l m test) = scope_makes sp su (maybe_made_in x ++ made_in w) (for_makes (maybe_statement_makes h) g l (statement_makes m))
   statement_makes (good.switch {sp = sp} {sq = sq} {sr = sr} {xs = xs} h g test) = makes_all sp sq (left sr) [] (made sr ++ arms_made_in xs) (value_makes h) (scope_makes sq sr (arms_made_in xs) (arms_make g))
   statement_makes (good.return_nothing {sp = sp}) = makes_itself sp
   statement_makes (good.return_value h test) = value_makes h
@@ -214,3 +268,7 @@ made_once sp sq lists scopes sizes h k =
     let before : times_open k sp.scopes ≡ 0 + 0 = ap (times_open k) scopes in
     let none : once_below (length sp.sizes) k ≡ 0 = ap (λ ns. once_below (length ns) k) sizes ∙ none_below k in
     omega (arith, h.count k, open_parts k sq.scopes, outer, before, none, times_append k (made sq) lists)
+
+-- and those of its one scope rise
+pub call_rises : (sp sq : St) (lists : List ℕ) → sp.scopes ≡ [] ∷ [] → Makes sp sq lists → Between 0 (made sq) (length sq.sizes)
+call_rises sp sq lists scopes h = h.rising (subst (λ ss. Between 0 (numbers (innermost ss)) (length sp.sizes)) (sym scopes) (none_rising [] (length sp.sizes)))

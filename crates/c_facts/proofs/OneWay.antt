@@ -127,9 +127,9 @@ all_filled_one s global (v ∷ vs) = hlevel (props, filled_one s global v, all_f
 
 -- ---- statements
 
-objects_one : (s : Scene) (ks : List ℕ) → IsProp (AreObjects s ks)
-objects_one s [] = hlevel props
-objects_one s (k ∷ ks) = hlevel (props, objects_one s ks)
+objects_one : (s : Scene) (low : ℕ) (ks : List ℕ) → IsProp (AreObjects s low ks)
+objects_one s low [] = hlevel props
+objects_one s low (k ∷ ks) = hlevel (props, objects_one s (k + 1) ks)
 
 test_one : (s : Scene) (x : TExprT) → IsProp (IsTest s x)
 test_one s x = hlevel (props, typed_value_one s x)
@@ -153,15 +153,15 @@ label_one seen (StmtB x) = hlevel props
 
 mutual
   statement_one : (s : Scene) (x : TStmtT) (gives : Ty) (b c : Bool) → IsProp (IsStatement s x gives b c)
-  statement_one s (BlockZ made body) gives b c = hlevel (props, objects_one s made, statements_one s body gives b c)
+  statement_one s (BlockZ made body) gives b c = hlevel (props, objects_one s 0 made, statements_one s body gives b c)
   statement_one s EmptyZ gives b c = hlevel props
   statement_one s (VarsZ vars) gives b c = all_filled_one s false vars
   statement_one s (DoZ x) gives b c = typed_value_one s x
   statement_one s (IfZ x y z) gives b c = hlevel (props, test_one s x, statement_one s y gives b c, may_state_one s z gives b c)
   statement_one s (WhileZ x y) gives b c = hlevel (props, test_one s x, statement_one s y gives true true)
   statement_one s (DoWhileZ y x) gives b c = hlevel (props, test_one s x, statement_one s y gives true true)
-  statement_one s (ForZ made first test step y) gives b c = hlevel (props, objects_one s made, may_state_one s first gives b c, may_test_one s test, may_value_one s step, statement_one s y gives true true)
-  statement_one s (SwitchZ x made arms) gives b c = hlevel (props, typed_value_one s x, objects_one s made, arms_one s arms gives c no_labels)
+  statement_one s (ForZ made first test step y) gives b c = hlevel (props, objects_one s 0 made, may_state_one s first gives b c, may_test_one s test, may_value_one s step, statement_one s y gives true true)
+  statement_one s (SwitchZ x made arms) gives b c = hlevel (props, typed_value_one s x, objects_one s 0 made, arms_one s arms gives c no_labels)
   statement_one s (ReturnZ e) gives b c = returns_one s gives e
   statement_one s BreakZ gives b c = hlevel props
   statement_one s ContinueZ gives b c = hlevel props
@@ -218,7 +218,7 @@ call_objects_one layouts whole (ty ∷ tys) [] = hlevel props
 call_objects_one layouts whole (ty ∷ tys) (n ∷ ns) = hlevel (props, code_set, known_one layouts whole ty, call_objects_one layouts whole tys ns)
 
 function_one : (s : Scene) (f : TFunctionT) → IsProp (IsFunction s f)
-function_one s f = hlevel (props, code_set, known_one s.layouts s.whole f.gives, call_objects_one s.layouts s.whole f.params f.locals, statements_one (in_call s f.locals) f.body f.gives false false)
+function_one s f = hlevel (props, code_set, known_one s.layouts s.whole f.gives, call_objects_one s.layouts s.whole f.params f.locals, objects_one (in_call s f.locals) 0 f.made, statements_one (in_call s f.locals) f.body f.gives false false)
 
 functions_one : (s : Scene) (fs : List TFunctionT) → IsProp (AreFunctions s fs)
 functions_one s [] = hlevel props

@@ -1,11 +1,10 @@
 -- The open scopes hold objects of the call, through all that statements do with them.
-use Rattle.std.proofs.Common.{List, [], ◌∷◌, ◌++◌, map}
-use Rattle.std.proofs.lemmas.Option.{slice_get_within}
-use Rattle.c_types.specs.Sizes.{words_of}
+use Rattle.std.proofs.Common.{ℕ, ◌+◌, ◌≤◌, List, [], ◌∷◌, ◌++◌, length, length-append, ap, arith}
 use Rattle.c_exprs.specs.Env.{Text, LocalD}
-use Rattle.c_stmts.specs.State.{Scope, St, innermost, closed, declare, made}
+use Rattle.c_stmts.specs.State.{Scope, St, innermost, closed, opened, declare, made}
 use Rattle.c_facts.specs.Sound.{Scene, AreObjects}
-use Rattle.c_facts.proofs.Within.{IsObjectOf, InScope, InScopes}
+use Rattle.c_facts.proofs.Within.{Begins, IsObjectOf, InScope, InScopes}
+use Rattle.c_facts.proofs.Making.{Between, between_bounds, Makes, scope_rises}
 
 in_both : (s : Scene) (es ds : Scope) → InScope s es → InScope s ds → InScope s (es ++ ds)
 in_both s [] ds h k = k
@@ -36,10 +35,11 @@ in_opened s ss h = in_all s ss ([] ∷ []) h (tt, tt)
 pub in_declared : (s : Scene) (n : Text) (l : LocalD) (ss : List Scope) → InScopes s ss → IsObjectOf s l → InScopes s (declare n l ss)
 in_declared s n l ss h o = in_all s (closed ss) ((innermost ss ++ (n, l) ∷ []) ∷ []) (in_closed s ss h) (in_both s (innermost ss) ((n, l) ∷ []) (in_innermost s ss h) (o, tt), tt)
 
-numbers_are_objects : (s : Scene) (es : Scope) → InScope s es → AreObjects s (map (λ e. e.1.number) es)
-numbers_are_objects s [] h = tt
-numbers_are_objects s (e ∷ es) h = (slice_get_within s.locals e.1.number (words_of s.layouts e.1.ty) h.0.1, numbers_are_objects s es h.1)
+-- numbers that rise below the count of objects
+pub objects_rise : (s : Scene) (low : ℕ) (ks : List ℕ) (high : ℕ) → Between low ks high → high ≤ length s.locals → AreObjects s low ks
+objects_rise s low [] high h e = tt
+objects_rise s low (k ∷ ks) high h e = (h.0, omega (arith, e, between_bounds (k + 1) ks high h.1), objects_rise s (k + 1) ks high h.1 e)
 
 -- what a scope made are objects of the call
-pub made_are_objects : (s : Scene) (st : St) → InScopes s st.scopes → AreObjects s (made st)
-made_are_objects s st h = numbers_are_objects s (innermost st.scopes) (in_innermost s st.scopes h)
+pub made_are_objects : (s : Scene) (sp sq : St) (xs : List ℕ) → Makes (opened sp) sq xs → Begins sq.sizes s.locals → AreObjects s 0 (made sq)
+made_are_objects s sp sq xs h b = objects_rise s 0 (made sq) (length sq.sizes) (scope_rises sp sq xs h) (omega (arith, ap length b.1, length-append sq.sizes b.0))

@@ -20,6 +20,8 @@ use Rattle.c_facts.proofs.Expressions.{value_sound as value_read, type_sound as 
 use Rattle.c_facts.proofs.Within.{Begins, Grows, AreMeant, AreBodies, InScopes, AllMembersKnown, Within, MembersWhole}
 use Rattle.c_facts.proofs.Growth.{whole_later, words_later}
 use Rattle.c_facts.proofs.Scopes.{in_closed, in_opened, in_declared, made_are_objects}
+use Rattle.c_facts.specs.Made.{made_in, maybe_made_in, all_made_in, arms_made_in}
+use Rattle.c_facts.proofs.Making.{statement_makes, maybe_statement_makes, statements_make, arms_make, for_makes}
 use Rattle.c_facts.proofs.Initialisers.{init_sound}
 use Rattle.c_facts.proofs.Spending.{Keeps, Spends, spends_kept, entered_keeps, type_keeps, maybe_fill_keeps, has_size, value_keeps, maybe_value_keeps, variables_spend, statement_spends, maybe_statement_spends, statements_spend, arms_spend}
 use Rattle.c_facts.proofs.Fronts.{begins_through, begins_end}
@@ -138,9 +140,10 @@ is_tested s p x v h = (v, demanded_gives p WrongType (is_condition_of x) h)
 
 mutual
   pub statement_sound : (s : Scene) {f : Fn} {sp sq : St} {breaks continues : Bool} {a : StmtT} {x : TStmtT} → WithinFunction f s → Statement f sp breaks continues a x sq → InScopes s sp.scopes → Reaches sq s → IsStatement s x f.gives breaks continues × InScopes s sq.scopes
-  statement_sound s w (good.block {sp = sp} {sq = sq} h) i r =
-      let body = statements_sound s w h (in_opened s sp.scopes i) (reaches_in s sq r) in
-      ((made_are_objects s sq body.1, body.0), in_closed s sq.scopes body.1)
+  statement_sound s w (good.block {sp = sp} {sq = sq} {xs = xs} h) i r =
+      let ends = reaches_in s sq r in
+      let body = statements_sound s w h (in_opened s sp.scopes i) ends in
+      ((made_are_objects s sp sq (all_made_in xs) (statements_make h) ends.sizes, body.0), in_closed s sq.scopes body.1)
   statement_sound s w good.empty i r = (tt, i)
   statement_sound s w (good.variables h) i r = variables_sound s w h i r
   statement_sound s w (good.expression h) i r = value_sound s w h i r.texts
@@ -159,7 +162,7 @@ mutual
       let body = statement_sound s w h i (reaches_kept s sq sr (value_keeps k) r) in
       let on = value_sound s w k body.1 r.texts in
       ((body.0, is_tested s p x on.0 test), on.1)
-  statement_sound s w (good.for {sp = sp} {sq = sq} {sr = sr} {ss = ss} {su = su} {s = p} {y = y} h k l m test) i r =
+  statement_sound s w (good.for {sp = sp} {sq = sq} {sr = sr} {ss = ss} {su = su} {s = p} {x = x} {y = y} {w = z} h k l m test) i r =
       let all_ends = reaches_in s su r in
       let step_ends = reaches_before s ss su (statement_spends m) all_ends in
       let test_ends = reaches_kept s sr ss (maybe_value_keeps l) step_ends in
@@ -168,12 +171,12 @@ mutual
       let on = maybe_value_sound s w k first.1 test_ends.texts in
       let step = maybe_value_sound s w l on.1 step_ends.texts in
       let body = statement_sound s w m step.1 all_ends in
-      ((made_are_objects s su body.1, first.0, may_test s y on.0 (demanded_gives p WrongType (is_test y) test), step.0, body.0), in_closed s su.scopes body.1)
-  statement_sound s w (good.switch {sq = sq} {sr = sr} {s = p} {x = x} h k test) i r =
+      ((made_are_objects s sp su (maybe_made_in x ++ made_in z) (for_makes (maybe_statement_makes h) k l (statement_makes m)) all_ends.sizes, first.0, may_test s y on.0 (demanded_gives p WrongType (is_test y) test), step.0, body.0), in_closed s su.scopes body.1)
+  statement_sound s w (good.switch {sq = sq} {sr = sr} {s = p} {x = x} {xs = xs} h k test) i r =
       let all_ends = reaches_in s sr r in
       let on = value_sound s w h i (reaches_before s (opened sq) sr (arms_spend k) all_ends).texts in
       let arms = arms_sound s w refl k (in_opened s sq.scopes on.1) all_ends in
-      ((on.0, demanded_gives p WrongType (is_number (type_of_typed x)) test, made_are_objects s sr arms.1, arms.0), in_closed s sr.scopes arms.1)
+      ((on.0, demanded_gives p WrongType (is_number (type_of_typed x)) test, made_are_objects s sq sr (arms_made_in xs) (arms_make k) all_ends.sizes, arms.0), in_closed s sr.scopes arms.1)
   statement_sound s w good.return_nothing i r = (tt, i)
   statement_sound s {f = f} w (good.return_value {s = p} {x = x} h test) i r =
       let on = value_sound s w h i r.texts in

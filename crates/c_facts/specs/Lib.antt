@@ -3,3 +3,4 @@ pub mod Sound
 pub mod Known
 pub mod Start
 pub mod Bodies
+pub mod Words

@@ -15,6 +15,7 @@ use Rattle.c_exprs.specs.Nodes.{type_of_typed, is_place, value_rule, layout_of, 
 use Rattle.c_exprs.specs.Calls.{listed, all_convert}
 use Rattle.c_stmts.specs.Slots.{Slots, NoSlots, slots_of, next_slot, later_slots, is_fixed}
 use Rattle.c_stmts.specs.State.{locals_limit, is_condition_of, Labels, no_labels, is_case, with_label}
+use Rattle.c_check.specs.Words.{is_word}
 use Rattle.c_check.specs.Reading.{has_members, parameter_rule, result_rule, globals_limit}
 use Rattle.c_types.specs.Programs.{TFunctionT, ProgramT}
 use Rattle.c_check.specs.Whole.{is_plain}
@@ -170,9 +171,10 @@ AreFilled s global (v ∷ vs) = IsFilled s global v × AreFilled s global vs
 
 -- ---- statements
 
-abbrev pub AreObjects : Scene → List ℕ → Type 0
-AreObjects s [] = Unit {0}
-AreObjects s (k ∷ ks) = (k < length s.locals) × AreObjects s ks
+-- objects of the call in rising order, none below this one
+abbrev pub AreObjects : Scene → ℕ → List ℕ → Type 0
+AreObjects s least [] = Unit {0}
+AreObjects s least (k ∷ ks) = (least ≤ k) × (k < length s.locals) × AreObjects s (k + 1) ks
 
 abbrev pub IsTest : Scene → TExprT → Type 0
 IsTest s x = IsTypedValue s x × (is_condition_of x ≡ true)
@@ -198,15 +200,15 @@ IsLabel seen (StmtB x) = Unit {0}
 -- A statement of a function with this result, where `break` and `continue` may stand or may not.
 abbrev mutual
   pub IsStatement : Scene → TStmtT → Ty → Bool → Bool → Type 0
-  IsStatement s (BlockZ made body) gives breaks continues = AreObjects s made × AreStatements s body gives breaks continues
+  IsStatement s (BlockZ made body) gives breaks continues = AreObjects s 0 made × AreStatements s body gives breaks continues
   IsStatement s EmptyZ gives breaks continues = Unit {0}
   IsStatement s (VarsZ vars) gives breaks continues = AreFilled s false vars
   IsStatement s (DoZ x) gives breaks continues = IsTypedValue s x
   IsStatement s (IfZ x a b) gives breaks continues = IsTest s x × IsStatement s a gives breaks continues × MayState s b gives breaks continues
   IsStatement s (WhileZ x a) gives breaks continues = IsTest s x × IsStatement s a gives true true
   IsStatement s (DoWhileZ a x) gives breaks continues = IsStatement s a gives true true × IsTest s x
-  IsStatement s (ForZ made first test step a) gives breaks continues = AreObjects s made × MayState s first gives breaks continues × MayTest s test × MayValue s step × IsStatement s a gives true true
-  IsStatement s (SwitchZ x made arms) gives breaks continues = IsTypedValue s x × (is_number (type_of_typed x) ≡ true) × AreObjects s made × AreArms s arms gives continues no_labels
+  IsStatement s (ForZ made first test step a) gives breaks continues = AreObjects s 0 made × MayState s first gives breaks continues × MayTest s test × MayValue s step × IsStatement s a gives true true
+  IsStatement s (SwitchZ x made arms) gives breaks continues = IsTypedValue s x × (is_number (type_of_typed x) ≡ true) × AreObjects s 0 made × AreArms s arms gives continues no_labels
   IsStatement s (ReturnZ e) gives breaks continues = Returns s gives e
   IsStatement s BreakZ gives breaks continues = breaks ≡ true
   IsStatement s ContinueZ gives breaks continues = continues ≡ true
@@ -261,10 +263,12 @@ abbrev pub in_call : Scene → List ℕ → Scene
 in_call s sizes = record { layouts = s.layouts; whole = s.whole; globals = s.globals; literals = s.literals; functions = s.functions; locals = sizes }
 
 pub record IsFunction (s : Scene) (f : TFunctionT) : Type 0 where
+  pub word : is_word f.name ≡ true
   pub known : IsKnown s.layouts s.whole f.gives
   pub result : judged (result_rule s.layouts s.whole f.gives) ≡ Ok tt
   pub objects : AreCallObjects s.layouts s.whole f.params f.locals
   pub made : IsMadeOnce f
+  pub rising : AreObjects (in_call s f.locals) 0 f.made
   pub body : AreStatements (in_call s f.locals) f.body f.gives false false
 
 abbrev pub AreFunctions : Scene → List TFunctionT → Type 0

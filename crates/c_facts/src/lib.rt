@@ -5,3 +5,6 @@
 #![tactic(auto)]
 
 pub mod laws;
+mod words;
+
+pub use words::numbers_are_words;

@@ -1,0 +1,5 @@
+pub mod Sets
+pub mod Marked
+pub mod Checked
+pub mod Tests
+pub mod Scan

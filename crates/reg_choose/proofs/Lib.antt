@@ -6,3 +6,5 @@ pub mod Chosen
 pub mod Spares
 pub mod Tested
 pub mod Whole
+pub mod Trailed
+pub mod Hulls

@@ -3,3 +3,4 @@ pub mod Marked
 pub mod Checked
 pub mod Tests
 pub mod Scan
+pub mod Trails

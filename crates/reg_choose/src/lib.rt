@@ -6,5 +6,7 @@ mod checks;
 mod live;
 mod safe;
 mod sets;
+mod spans;
+mod trail;
 
 pub use safe::is_safe;

@@ -8,3 +8,4 @@ pub mod Tested
 pub mod Whole
 pub mod Trailed
 pub mod Hulls
+pub mod Crossed

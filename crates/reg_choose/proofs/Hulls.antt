@@ -84,9 +84,9 @@ targeted x fs c n r =
     let a = hull_stood (Live x fs c) (is_live_at x fs c) n r (computed_path x fs c) (path_computed x fs c) in
     let b = hull_stood (is_target c x ≡ true) (is_target c x) n (stood (is_live_at x fs c) n r) (λ e. e) (λ e. e) in
     hull_as (λ p. ((p ≡ n) × (is_target c x ≡ true)) ⊎ ((p ≡ n) × Live x fs c)) (λ p. (p ≡ n) × Stands x fs c) r (stood (is_target c x) n (stood (is_live_at x fs c) n r))
-        (λ p k. elim k [ inl h ↦ (h.0, inr (inl h.1)) | inr h ↦ (h.0, inr (inr h.1)) ])
-        (λ p k. elim k.1 [ inl u ↦ inr (k.0, computed_path x fs c (found_used x fs c u)) | inr h ↦ elim h [ inl e ↦ inl (k.0, e) | inr l ↦ inr (k.0, l) ] ])
-        (hull_join (λ p. (p ≡ n) × Live x fs c) (λ p. (p ≡ n) × (is_target c x ≡ true)) r (stood (is_live_at x fs c) n r) (stood (is_target c x) n (stood (is_live_at x fs c) n r)) a b)
+    (λ p k. elim k [ inl h ↦ (h.0, inr (inl h.1)) | inr h ↦ (h.0, inr (inr h.1)) ])
+    (λ p k. elim k.1 [ inl u ↦ inr (k.0, computed_path x fs c (found_used x fs c u)) | inr h ↦ elim h [ inl e ↦ inl (k.0, e) | inr l ↦ inr (k.0, l) ] ])
+    (hull_join (λ p. (p ≡ n) × Live x fs c) (λ p. (p ≡ n) × (is_target c x ≡ true)) r (stood (is_live_at x fs c) n r) (stood (is_target c x) n (stood (is_live_at x fs c) n r)) a b)
 
 pub trail_hull : (x : ℕ) (fs : List (Frame ℕ)) (c : NodesT ℕ) (n : ℕ) (r : Trail) → Hull (λ p. StandsAt x fs c n p) r (trailed x (labels x fs) c (live_behind x fs) n r)
 trail_hull x fs Stop n r = hull_none r
@@ -106,23 +106,23 @@ trail_hull x fs (Choose q a b c) n r =
     let h2 = trail_hull x (Branched c ∷ fs) b (suc (places a + n)) r1 in
     let h3 = trail_hull x (Branched c ∷ fs) a (suc n) r2 in
     hull_join _ (λ p. (p ≡ n) × Stands x fs (Choose q a b c)) r r3 _
-        (hull_join _ (λ p. StandsAt x (Branched c ∷ fs) a (suc n) p) r r2 r3
-            (hull_join (λ p. StandsAt x fs c m p) (λ p. StandsAt x (Branched c ∷ fs) b (suc (places a + n)) p) r r1 r2 h1 h2) h3)
-        (plainly x fs (Choose q a b c) n r3 refl)
+    (hull_join _ (λ p. StandsAt x (Branched c ∷ fs) a (suc n) p) r r2 r3
+    (hull_join (λ p. StandsAt x fs c m p) (λ p. StandsAt x (Branched c ∷ fs) b (suc (places a + n)) p) r r1 r2 h1 h2) h3)
+    (plainly x fs (Choose q a b c) n r3 refl)
 trail_hull x fs (Block b c) n r =
     let m = suc (places b + n) in
     let r1 = trailed x (labels x fs) c (live_behind x fs) m r in
     let r2 = trailed x (labels x (Blocked c ∷ fs)) b (is_live_at x fs c) (suc n) r1 in
     hull_join _ (λ p. (p ≡ n) × Stands x fs (Block b c)) r r2 _
-        (hull_join (λ p. StandsAt x fs c m p) (λ p. StandsAt x (Blocked c ∷ fs) b (suc n) p) r r1 r2 (trail_hull x fs c m r) (trail_hull x (Blocked c ∷ fs) b (suc n) r1))
-        (plainly x fs (Block b c) n r2 refl)
+    (hull_join (λ p. StandsAt x fs c m p) (λ p. StandsAt x (Blocked c ∷ fs) b (suc n) p) r r1 r2 (trail_hull x fs c m r) (trail_hull x (Blocked c ∷ fs) b (suc n) r1))
+    (plainly x fs (Block b c) n r2 refl)
 trail_hull x fs (Loop b c) n r =
     let m = suc (places b + n) in
     let r1 = trailed x (labels x fs) c (live_behind x fs) m r in
     let r2 = trailed x (labels x (Looped b c ∷ fs)) b (is_live_at x fs c) (suc n) r1 in
     hull_join _ (λ p. (p ≡ n) × Stands x fs (Loop b c)) r r2 _
-        (hull_join (λ p. StandsAt x fs c m p) (λ p. StandsAt x (Looped b c ∷ fs) b (suc n) p) r r1 r2 (trail_hull x fs c m r) (trail_hull x (Looped b c ∷ fs) b (suc n) r1))
-        (plainly x fs (Loop b c) n r2 refl)
+    (hull_join (λ p. StandsAt x fs c m p) (λ p. StandsAt x (Looped b c ∷ fs) b (suc n) p) r r1 r2 (trail_hull x fs c m r) (trail_hull x (Looped b c ∷ fs) b (suc n) r1))
+    (plainly x fs (Loop b c) n r2 refl)
 trail_hull x fs (Leave k c) n r =
     let r1 = trailed x (labels x fs) c (live_behind x fs) (suc n) r in
     hull_join (λ p. StandsAt x fs c (suc n) p) (λ p. (p ≡ n) × Stands x fs (Leave k c)) r r1 _ (trail_hull x fs c (suc n) r) (plainly x fs (Leave k c) n r1 refl)

@@ -19,7 +19,11 @@ use std::alloc::Global;
 fn one_less(place: u32) -> Result<u32, Memory>
     ensures { IfOk result (λ n. n + 1 ≡ place) }
 {
-    if place == 0 { Err(Memory) } else { Ok(place - 1) }
+    if place == 0 {
+        Err(Memory)
+    } else {
+        Ok(place - 1)
+    }
 }
 
 fn no_trail() -> Trail
@@ -223,7 +227,14 @@ fn walk_node(
         }
         Node::Choose(p, a, b) => {
             let mut other = copy(alloc, s)?;
-            let between = walk_nodes(alloc, b.as_slice(), &*m, other.as_mut_slice(), trails, place)?;
+            let between = walk_nodes(
+                alloc,
+                b.as_slice(),
+                &*m,
+                other.as_mut_slice(),
+                trails,
+                place,
+            )?;
             let inside = walk_nodes(alloc, a.as_slice(), &*m, s, trails, between)?;
             join(s, other.as_slice());
             put(s, *p);
@@ -315,7 +326,11 @@ fn walk_nodes(
 fn one_more(count: u32) -> Result<u32, Memory>
     ensures { IfOk result (λ n. n ≡ count + 1) }
 {
-    if count == u32::MAX { Err(Memory) } else { Ok(count + 1) }
+    if count == u32::MAX {
+        Err(Memory)
+    } else {
+        Ok(count + 1)
+    }
 }
 
 /// The place behind nodes that begin at this one. Where a word cannot number the places there is no room for the nodes.
@@ -358,7 +373,14 @@ fn walk_function(alloc: Global, f: &Function<u32>, trails: &mut [Trail]) -> Resu
 {
     let mut live = none(alloc, trails.len())?;
     let end = behind_nodes(f.body.as_slice(), 1)?;
-    walk_nodes(alloc, f.body.as_slice(), &outside(), live.as_mut_slice(), trails, end)?;
+    walk_nodes(
+        alloc,
+        f.body.as_slice(),
+        &outside(),
+        live.as_mut_slice(),
+        trails,
+        end,
+    )?;
     let params = set_of(alloc, trails.len(), f.params.as_slice())?;
     stand(trails, params.as_slice(), 0);
     Ok(())

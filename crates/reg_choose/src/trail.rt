@@ -1,0 +1,10 @@
+// Where a temporary stands.
+
+/// The first and the last place where a temporary stands, once it is known to stand anywhere, and whether it is live across a call.
+#[derive(Clone, Copy)]
+pub(crate) struct Trail {
+    pub(crate) held: bool,
+    pub(crate) first: u32,
+    pub(crate) last: u32,
+    pub(crate) crosses: bool,
+}

@@ -4,6 +4,7 @@ ghost use Rattle.c_tree.specs.Tree.{RecordD, EnumD, TypedefD, VarsD};
 ghost use Rattle.c_tree.specs.View.{expr, item, type, var};
 ghost use Rattle.c_exprs.specs.Gives.{Gives};
 ghost use Rattle.c_check.specs.ItemTyping.{item as read_by, items as all_read_by};
+ghost use Rattle.c_check.specs.Steps.{counted_record};
 ghost use Rattle.c_check.specs.View.{un};
 
 use crate::declaring::{declare, enter_enum, enter_record, is_free, record_number};
@@ -36,8 +37,28 @@ fn read_record_name(
     Ok(())
 }
 
+/// A structure or union with its members, whose words are counted as far as memory holds them.
+#[tactic(auto, unfolding(crate::specs::Steps::counted_record))]
+fn read_counted(
+    alloc: Global,
+    reading: &mut Reading,
+    span: Span,
+    is_union: bool,
+    name: &Name,
+    all: &[Var],
+) -> Result<(), CheckErr>
+    ensures { Gives (λ r. (r, un reading.new)) result (counted_record (un reading.old) is_union name.now (map var all.now) span) }
+{
+    enter_record(alloc, reading, is_union, name.bytes())?;
+    let members = read_members(alloc, reading, is_union, all)?;
+    let declared = members_declared(reading, is_union, name.bytes(), &members);
+    let number = placed(span, declared)?;
+    set_layout(reading, number, members);
+    Ok(())
+}
+
 /// A structure or union with its members.
-#[tactic(auto, unfolding(crate::specs::ItemTyping::item))]
+#[tactic(auto, using(crate::proofs::Held::record_so))]
 fn read_record(
     alloc: Global,
     reading: &mut Reading,
@@ -48,12 +69,7 @@ fn read_record(
 ) -> Result<(), CheckErr>
     ensures { Gives (λ r. (r, un reading.new)) result (read_by (un reading.old) (RecordD is_union name.now (Some (map var all.now)) span)) }
 {
-    enter_record(alloc, reading, is_union, name.bytes())?;
-    let members = read_members(alloc, reading, is_union, all)?;
-    let declared = members_declared(reading, is_union, name.bytes(), &members);
-    let number = placed(span, declared)?;
-    set_layout(reading, number, members);
-    Ok(())
+    read_counted(alloc, reading, span, is_union, name, all)
 }
 
 #[tactic(auto, unfolding(crate::specs::ItemTyping::item))]

@@ -1,5 +1,5 @@
 -- From what a function gives to the clauses that callers read.
-use Rattle.std.proofs.Common.{◌≡◌, List, Result, Ok, Err, IfOk, subst}
+use Rattle.std.proofs.Common.{◌≡◌, List, Result, Ok, Err, IfOk, OnOk, sym, subst}
 use Rattle.c_tree.specs.declared.span.Span.{Span}
 use Rattle.c_rules.specs.declared.code.Code.{Code}
 use Rattle.c_exprs.specs.declared.error.CheckErr.{CheckErr}
@@ -17,3 +17,8 @@ good seen due P so (Err e) g = tt
 -- a refusal is the fault that is due, so it is the first broken rule
 pub bad : {X Y : Type 0} (seen : X → Y × List Text) (due : Typer Y) (Q : FaultT → Type 0) → ((f : FaultT) → due ≡ Err f → Q f) → (r : Result X CheckErr) (k : Code) (s : Span) → Gives seen r due → r ≡ Err (At k s) → Q (at s k)
 bad {X = X} seen due Q so r k s g is = let P : Result X CheckErr → Type 0 = λ q. Gives seen q due in so (at s k) (subst P is g)
+
+-- what stands behind an answer is told of the texts that are kept
+pub kept : {X Y : Type 0} (seen : X → Y) (due : Typer Y) (p r : Result X CheckErr) (us vs : List Text) → Gives (λ x. (seen x, us)) p due → r ≡ p → OnOk r (vs ≡ us) → Gives (λ x. (seen x, vs)) r due
+kept seen due p (Ok x) us vs g same is = subst (λ ts. due ≡ Ok (seen x, ts)) (sym is) (subst (λ q. Gives (λ x. (seen x, us)) q due) (sym same) g)
+kept seen due p (Err e) us vs g same is = subst (λ q. Gives (λ x. (seen x, us)) q due) (sym same) g

@@ -8,11 +8,14 @@ use c_rules::{Code, RuleErr};
 use c_tree::Span;
 use kit_base::Memory;
 use std::alloc::{AllocError, AllocFailed};
+use thiserror::Error;
 
 /// The rule that a unit breaks first, with the tokens of the node that breaks it; or want of memory.
-#[derive(Clone, Copy, Debug, PartialEq, Eq)]
+#[derive(Clone, Copy, Debug, PartialEq, Eq, Error)]
 pub enum CheckErr {
+    #[error("{code}")]
     At { code: Code, span: Span },
+    #[error("out of memory")]
     Memory,
 }
 

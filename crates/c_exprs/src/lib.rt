@@ -22,5 +22,5 @@ pub use intrinsics::{Intrinsic, is_intrinsic};
 pub use names::{Decl, Globals, Local, Scope, find_local};
 pub use nodes::{constant, is_place, span_of};
 pub use rules::check_value;
-pub use texts::Texts;
+pub use texts::{Texts, kept_texts};
 pub use typing::{type_expr, type_of_tree, type_value};

@@ -1,5 +1,5 @@
 // The texts of a unit, which are the literals of its program.
-ghost use Rattle.std.specs.Prelude.{◌≡◌, ◌≤◌, ◌<◌, [], length, OnOk};
+ghost use Rattle.std.specs.Prelude.{◌≡◌, ◌≤◌, ◌<◌, [], length, OnOk, OnErr};
 ghost use Rattle.c_exprs.specs.Faults.{text_words, with_text};
 ghost use Rattle.c_exprs.specs.Gives.{Gives};
 
@@ -69,5 +69,24 @@ impl Texts {
     {
         let Texts { items, words: _ } = self;
         items
+    }
+}
+
+/// An answer, behind which there are no texts where it is a refusal.
+pub fn kept_texts<T: Drop>(
+    alloc: Global,
+    texts: &mut Texts,
+    answer: Result<T, CheckErr>,
+) -> Result<T, CheckErr>
+    ensures same { result ≡ answer }
+    ensures kept { OnOk result (texts.new ≡ texts.old) }
+    ensures refused { OnErr result (texts.new ≡ []) }
+{
+    match answer {
+        Ok(found) => Ok(found),
+        Err(error) => {
+            *texts = Texts::new(alloc);
+            Err(error)
+        }
     }
 }

@@ -1,5 +1,5 @@
 // The typing of expressions.
-ghost use Rattle.std.specs.Prelude.{◌≡◌, List, IfOk, Err, map};
+ghost use Rattle.std.specs.Prelude.{◌≡◌, [], List, IfOk, OnErr, Err, map};
 ghost use Rattle.c_tree.specs.declared.span.Span.{Span};
 ghost use Rattle.c_tree.specs.View.{expr, exprs, type};
 ghost use Rattle.c_types.specs.Types.{Ty};
@@ -25,7 +25,7 @@ use crate::making::{
 use crate::names::{Globals, Scope};
 use crate::nodes::{constant, span_of};
 use crate::rules::{array_at, size_at, value_at};
-use crate::texts::Texts;
+use crate::texts::{Texts, kept_texts};
 use crate::trees::{arrow_tree, member_tree, name_tree, named_type, node};
 use c_rules::{Code, array_of, pointer_to};
 use c_tree::{Expr, Span, TypeTree, UnOp};
@@ -203,7 +203,7 @@ fn type_of(
     }
 }
 
-/// The typed tree of an expression. Its texts are added to those so far.
+/// The typed tree of an expression. Its texts are added to those so far; after a refusal there are none.
 pub fn type_expr(
     alloc: Global,
     globals: &Globals,
@@ -218,11 +218,14 @@ pub fn type_expr(
     ensures only { (x : TExprT) (us : List Text) → Types (ctx globals.now scopes.now) texts.old (expr e.now) x us → Gives (λ r. (texpr r, texts.new)) result (read x us) }
     // A refusal names the first broken rule.
     ensures first { (k : Code) (s : Span) → result ≡ Err (At k s) → Breaks (ctx globals.now scopes.now) texts.old (expr e.now) (at s k) }
+    // After a refusal there are no texts: the unit is read no further.
+    ensures refused { OnErr result (texts.new ≡ []) }
 {
-    typed(alloc, globals, scopes, texts, e)
+    let answer = typed(alloc, globals, scopes, texts, e);
+    kept_texts(alloc, texts, answer)
 }
 
-/// The typed tree of an expression whose value is asked for. Its texts are added to those so far.
+/// The typed tree of an expression whose value is asked for. Its texts are added to those so far; after a refusal there are none.
 pub fn type_value(
     alloc: Global,
     globals: &Globals,
@@ -234,11 +237,15 @@ pub fn type_value(
     ensures types { IfOk result (λ r. Values (ctx globals.now scopes.now) texts.old (expr e.now) (texpr r) texts.new) }
     ensures only { (x : TExprT) (us : List Text) → Values (ctx globals.now scopes.now) texts.old (expr e.now) x us → Gives (λ r. (texpr r, texts.new)) result (read x us) }
     ensures first { (k : Code) (s : Span) → result ≡ Err (At k s) → NoValue (ctx globals.now scopes.now) texts.old (expr e.now) (at s k) }
+    // After a refusal there are no texts: the unit is read no further.
+    ensures refused { OnErr result (texts.new ≡ []) }
 {
-    valued(alloc, globals, scopes, texts, e)
+    let answer = valued(alloc, globals, scopes, texts, e);
+    kept_texts(alloc, texts, answer)
 }
 
-/// The type that a type tree names, in a node of this span. The texts of its counts are added to those so far.
+/// The type that a type tree names, in a node of this span. The texts of its counts are added to those so far; after a
+/// refusal there are none.
 pub fn type_of_tree(
     alloc: Global,
     globals: &Globals,
@@ -251,6 +258,9 @@ pub fn type_of_tree(
     ensures types { IfOk result (λ r. Names (ctx globals.now scopes.now) texts.old span (type ty.now) (ctype r) texts.new) }
     ensures only { (t : Ty) (us : List Text) → Names (ctx globals.now scopes.now) texts.old span (type ty.now) t us → Gives (λ r. (ctype r, texts.new)) result (read t us) }
     ensures first { (k : Code) (s : Span) → result ≡ Err (At k s) → NoName (ctx globals.now scopes.now) texts.old span (type ty.now) (at s k) }
+    // After a refusal there are no texts: the unit is read no further.
+    ensures refused { OnErr result (texts.new ≡ []) }
 {
-    type_of(alloc, globals, scopes, texts, span, ty)
+    let answer = type_of(alloc, globals, scopes, texts, span, ty);
+    kept_texts(alloc, texts, answer)
 }

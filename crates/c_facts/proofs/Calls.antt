@@ -1,8 +1,12 @@
 -- A call is that of a function of the whole program, or of one that every unit has.
-use Rattle.std.proofs.Common.{◌≡◌, ℕ, ◌==◌, Bool, true, false, List, length, Option, Some, None, Result, Ok, Err, refl, sym, subst, ap, ◌∙◌, arith}
+use Rattle.std.proofs.Common.{◌≡◌, ℕ, ◌==◌, Bool, true, false, ◌&&◌, ◌||◌, not, cond, List, [], ◌∷◌, length, Option, Some, None, Result, Ok, Err, refl, sym, subst, ap, ◌∙◌, arith}
 use Rattle.std.proofs.lemmas.Bool.Decides.{nat_tests}
 use Rattle.std.specs.Prelude.{slice_get}
-use Rattle.v32_isa.specs.Ports.{PortEntry, port_named}
+use Rattle.std.specs.List.{list_all}
+use Rattle.std.specs.List.{find as find_port}
+use Rattle.std.specs.Str.{bytes_eq}
+use Rattle.std.proofs.lemmas.Bool.{and_parts}
+use Rattle.v32_isa.specs.Ports.{PortEntry, port_table, first_spelling, port_spelled, port_named, port_numbered, is_readable, is_writable}
 use Rattle.c_tree.specs.Tree.{ExprTs, NoE, MoreE}
 use Rattle.c_types.specs.Types.{Ty, VoidY, IntY, PointerY}
 use Rattle.c_types.specs.Typed.{TExprT, TKindT, CallK, InK, OutK, WaitK, HaltK, CardK, TExprTs, NoX, MoreX}
@@ -16,7 +20,8 @@ use Rattle.c_exprs.specs.Intrinsics.{intrinsic}
 use Rattle.c_exprs.specs.Nodes.{type_of_typed}
 use Rattle.c_exprs.specs.Calls.{callee, local_or_callee, intrinsic_callee, ensured, listed, all_convert, with_body, function_call, lone_name, port_by, first_port, read_port, written_port, plain_call, intrinsic_call, call_of, call_node}
 use Rattle.c_types.specs.Programs.{TFunctionT}
-use Rattle.c_facts.specs.Sound.{Scene, IsKnown, IsTyped, IsKind, IsValue, AreValues}
+use Rattle.c_facts.specs.Sound.{Scene, IsKnown, IsTyped, IsKind, IsValue, AreValues, IsCall}
+use Rattle.c_facts.specs.Sound.{Calls as CallsAs}
 use Rattle.c_facts.proofs.Within.{Within, IsMeant}
 use Rattle.c_facts.proofs.Lookups.{name_meant}
 
@@ -49,7 +54,8 @@ Body s params gives k = (f : TFunctionT) × (slice_get s.functions k ≡ Some f)
 
 body_called : (s : Scene) (params : List Ty) (gives : Ty) (k : ℕ) (xs : TExprTs) → Body s params gives k → AreValues s xs → all_convert (listed xs) params ≡ true → length (listed xs) ≡ length params → IsKind s (CallK k xs) gives
 body_called s params gives k xs (f, at, takes, result) values convert count =
-    (f, at, values, record { convert = subst (λ (ps : List Ty). all_convert (listed xs) ps ≡ true) (sym takes) convert; count = count ∙ ap length (sym takes); gives = result })
+    let call : IsCall f xs gives = record { convert = subst (λ (ps : List Ty). all_convert (listed xs) ps ≡ true) (sym takes) convert; count = count ∙ ap length (sym takes); gives = result } in
+    (values, subst (λ (o : Option TFunctionT). CallsAs o xs gives) (sym at) call)
 
 numbered_call : (s : Scene) (params : List Ty) (gives : Ty) (xs : TExprTs) (u : Node) (o : Option ℕ) → ((k : ℕ) → o ≡ Some k → Body s params gives k) → IsKnown s.layouts s.whole gives → AreValues s xs
     → all_convert (listed xs) params ≡ true → length (listed xs) ≡ length params → with_body gives xs o ≡ Ok u → IsNode s u
@@ -68,6 +74,38 @@ function_called s params gives xs u o body known values h =
     numbered_call s params gives xs u o body known values first.0 (as_many _ _ second.0) second.1
 
 -- ---- ports
+
+-- what the table says of a port by its name it says of it by its number
+abbrev is_listed : PortEntry → Bool
+is_listed p = (not p.readable || is_readable p.number) && (not p.writable || is_writable p.number)
+
+all_listed : list_all is_listed port_table ≡ true
+unfolding port_table port_numbered is_readable is_writable
+all_listed = refl
+
+listed_first : (q p : PortEntry) (b : Bool) (rest : Option PortEntry) → is_listed q ≡ true → (rest ≡ Some p → is_listed p ≡ true) → cond b (Some q) rest ≡ Some p → is_listed p ≡ true
+listed_first q p true rest here later e = let same : q ≡ p = cc in subst (λ (r : PortEntry). is_listed r ≡ true) same here
+listed_first q p false rest here later e = later e
+
+found_listed : (test : PortEntry → Bool) (ps : List PortEntry) (p : PortEntry) → list_all is_listed ps ≡ true → find_port test ps ≡ Some p → is_listed p ≡ true
+found_listed test [] p all h = cc
+found_listed test (q ∷ qs) p all h =
+    let parts : (is_listed q ≡ true) × (list_all is_listed qs ≡ true) = and_parts (is_listed q) (list_all is_listed qs) all in
+    listed_first q p (test q) (find_port test qs) parts.0 (found_listed test qs p parts.1) h
+
+named_listed : (n : Text) (p : PortEntry) → port_named n ≡ Some p → is_listed p ≡ true
+unfolding port_named port_spelled
+named_listed n p h = found_listed (λ e. bytes_eq e.name (first_spelling n)) port_table p all_listed h
+
+implied : (a b : Bool) → (not a || b) ≡ true → a ≡ true → b ≡ true
+implied true b h e = h
+implied false b h e = cc
+
+reads_there : (n : Text) (p : PortEntry) → port_named n ≡ Some p → p.readable ≡ true → is_readable p.number ≡ true
+reads_there n p h e = implied p.readable (is_readable p.number) (and_parts _ _ (named_listed n p h)).0 e
+
+writes_there : (n : Text) (p : PortEntry) → port_named n ≡ Some p → p.writable ≡ true → is_writable p.number ≡ true
+writes_there n p h e = implied p.writable (is_writable p.number) (and_parts _ _ (named_listed n p h)).1 e
 
 port_text : (o : Option Text) (p : PortEntry) → port_by o ≡ Some p → (n : Text) × (port_named n ≡ Some p)
 port_text None p h = cc
@@ -91,7 +129,7 @@ port_read s args u (Ok None) e h = cc
 port_read s args u (Ok (Some p)) e h =
     let named : (n : Text) × (port_named n ≡ Some p) = first_named args p e in
     let now = ensured_answer BadPort p.readable (answer (InK p.number) IntY) u h in
-    node_is s (InK p.number) IntY u tt ((named.0, p, named.1, now.0, refl), refl) now.1
+    node_is s (InK p.number) IntY u tt (reads_there named.0 p named.1 now.0, refl) now.1
 
 port_written : (s : Scene) (args : ExprTs) (x : TExprT) (u : Node) (r : Result (Option PortEntry) Code) → IsTyped s x → IsValue s (type_of_typed x) → is_number (type_of_typed x) ≡ true → first_port args ≡ r → written_port x r ≡ Ok u → IsNode s u
 port_written s args x u (Err k) typed value number e h = cc
@@ -99,7 +137,7 @@ port_written s args x u (Ok None) typed value number e h = cc
 port_written s args x u (Ok (Some p)) typed value number e h =
     let named : (n : Text) × (port_named n ≡ Some p) = first_named args p e in
     let now = ensured_answer BadPort p.writable (answer (OutK p.number x) VoidY) u h in
-    node_is s (OutK p.number x) VoidY u tt ((named.0, p, named.1, now.0, refl), typed, value, number, refl) now.1
+    node_is s (OutK p.number x) VoidY u tt (writes_there named.0 p named.1 now.0, typed, value, number, refl) now.1
 
 read_called : (s : Scene) (args : ExprTs) (xs : TExprTs) (u : Node) → intrinsic_call PortIn args (listed xs) ≡ Ok u → IsNode s u
 unfolding intrinsic_call

@@ -7,7 +7,8 @@ use Rattle.c_tree.specs.Tree as tree
 use Rattle.c_types.specs.Types.{Ty}
 use Rattle.c_types.specs.Typed.{TVarT, TStmtTs}
 use Rattle.c_exprs.specs.Env.{Text, find, FunctionD}
-use Rattle.c_check.specs.Reading.{Un, opening, record_entered, with_function, body_name, bodies_of}
+use Rattle.c_stmts.specs.State.{made}
+use Rattle.c_check.specs.Reading.{Un, opening, state_in, record_entered, with_function, body_name, bodies_of}
 use Rattle.c_types.specs.Programs.{TFunctionT}
 use Rattle.c_check.specs.ItemTypes as item
 use Rattle.c_check.specs.ItemTypes.{Globals, MaybeBody, Item, Items}
@@ -30,7 +31,7 @@ globals_functions (item.more_globals (item.global {v = v} g0 g1 g2) rest) = glob
 
 function_count : {un : Un} (of : TypeT) (name : Text) (vs : List VarT) (s : Span) (ps : List Ty) {t : Ty} {o : Option StmtTs} {x : Option TStmtTs} {ur : Un} → MaybeBody un t o x ur → length (with_function name ps t x ur).functions ≡ length ur.functions + body_count (body_name (tree.FunctionD of name vs o s) ∷ [])
 function_count of name vs s ps (item.no_body {un = un}) = same_count un.functions un.functions refl
-function_count of name vs s ps (item.has_body {up = up} {gives = t} {x = x} g0) = length-append up.functions (record { name = name; params = ps; locals = up.sizes; gives = t; body = x } ∷ [])
+function_count of name vs s ps (item.has_body {up = up} {gives = t} {x = x} g0) = length-append up.functions (record { name = name; params = ps; locals = up.sizes; made = made (state_in up); gives = t; body = x } ∷ [])
 
 item_count : {un : Un} {i : ItemT} {x : Unit {0}} {up : Un} → Item un i x up → length up.functions ≡ length un.functions + body_count (body_name i ∷ [])
 item_count (item.record_name {un = un} {is_union = is_union} {name = name} g0) = same_count un.functions (record_entered is_union name un).functions (record_functions is_union name un)

@@ -6,7 +6,7 @@ use Rattle.c_tree.specs.declared.span.Span.{Span}
 use Rattle.c_tree.specs.Tree.{ExprT, ExprTs, InitT, InitTs}
 use Rattle.c_tree.specs.Count.{expr_nodes, exprs_nodes, init_nodes, inits_nodes}
 use Rattle.c_types.specs.Types.{Ty, VoidY, IntY, BoolY, EnumY, StructY, UnionY, PointerY, ArrayY, MemberT}
-use Rattle.c_types.specs.Typed.{TExprT, TKindT, TExprTs, NoX, MoreX, TInitT, TInitTs}
+use Rattle.c_types.specs.Typed.{TExprT, Typed, TKindT, TExprTs, NoX, MoreX, TInitT, TInitTs}
 use Rattle.c_rules.specs.declared.code.Code.{Code}
 use Rattle.c_exprs.specs.Env.{Text, LocalD, Decl, TypeD, ConstantD, GlobalD, FunctionD, Ctx, find, find_in}
 use Rattle.c_exprs.specs.declared.intrinsics.Intrinsic.{Intrinsic}
@@ -185,7 +185,7 @@ mutual
 
 text_gives : (x : TExprT) (of : Ty) (count : ℕ) (number : Option ℕ) (text : Ty) → Gives (IsFewFilled (typed_nodes x + 1)) (text_fills of count number text)
 text_gives x of count None text = tt
-text_gives x of count (Some number) text = search (arith, tested_gives (IsFewFilled (typed_nodes x + 1)))
+text_gives (Typed kind ty span) of count (Some number) text = search (arith, tested_gives (IsFewFilled (kind_nodes kind + 1 + 1)))
 
 value_gives : (global : Bool) (ty : Ty) (x : TExprT) → Gives (IsFewFilled (typed_nodes x + 1)) (value_fills global ty x)
 value_gives true ty x = search (arith, tested_gives (IsFewFilled (typed_nodes x + 1)))

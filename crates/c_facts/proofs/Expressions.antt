@@ -1,6 +1,6 @@
 -- What is typed while a unit is read is sound in the whole program.
-use Rattle.std.proofs.Common.{◌≡◌, ℕ, ◌+◌, ◌≤◌, Bool, true, false, ◌||◌, not, List, length, Option, Some, None, Result, Ok, Err, refl, subst, arith}
-use Rattle.std.specs.Prelude.{slice_get, if◌then◌else◌}
+use Rattle.std.proofs.Common.{◌≡◌, ℕ, ◌+◌, ◌≤◌, Bool, true, false, ◌||◌, not, List, length, Option, Some, None, Result, Ok, Err, refl, ap, subst, arith}
+use Rattle.std.specs.Prelude.{slice_get, option_map, if◌then◌else◌}
 use Rattle.c_tree.specs.declared.span.Span.{Span}
 use Rattle.c_tree.specs.declared.operator.UnOp.{UnOp}
 use Rattle.c_tree.specs.declared.operator.StepOp.{StepOp}
@@ -23,12 +23,12 @@ use Rattle.c_exprs.specs.Nodes.{type_of_typed, span_of, is_place, value_rule, in
 use Rattle.c_exprs.specs.Calls.{call_node}
 use Rattle.c_exprs.specs.Types as good
 use Rattle.c_exprs.specs.Types.{Types, Values, Used, AllValues, Names}
-use Rattle.c_facts.specs.Sound.{Scene, IsKnown, IsTyped, IsKind, IsUsed, AreValues, IsTypedValue}
+use Rattle.c_facts.specs.Sound.{Scene, IsKnown, IsTyped, IsKind, IsUsed, AreValues, IsTypedValue, text_type}
 use Rattle.c_facts.proofs.Within.{Begins, Within}
 use Rattle.c_facts.proofs.Growth.{placed_answer, node_answer, value_later, binary_later, index_later, assign_later, compound_later, step_later, array_later, member_later, behind_later, member_known, behind_known}
 use Rattle.c_facts.proofs.Known.{unary_answer, binary_answer, index_answer, assign_answer, compound_answer, step_answer, cast_answer, cast_gives}
 use Rattle.c_facts.proofs.Beginnings.{text_behind, text_fits, value_begins, all_begins}
-use Rattle.c_facts.proofs.Lookups.{name_meant, object_found}
+use Rattle.c_facts.proofs.Lookups.{name_meant, object_found, member_there}
 use Rattle.c_facts.proofs.Calls.{node_called}
 use Rattle.c_facts.proofs.Fronts.{begins_through, last_of_beginning}
 
@@ -98,7 +98,7 @@ member_found : (s : Scene) (c : Ctx) (p : Span) (x y : TExprT) (n : Text) (r : R
 member_found s c p x y n (Err k) w typed e h = cc
 member_found s c p x y n (Ok m) w typed e h =
     let there : member_in n (layout_of s.layouts (type_of_typed x)) ≡ Ok m = member_later w.grows n (type_of_typed x) m e in
-    member_is s p x y m (is_place x || not (is_array m.ty)) (member_known s w.members n (type_of_typed x) m there) (λ place. (typed, (n, m, there, refl, refl), place)) h
+    member_is s p x y m (is_place x || not (is_array m.ty)) (member_known s w.members n (type_of_typed x) m there) (λ place. (typed, member_there n (layout_of s.layouts (type_of_typed x)) m there, place)) h
 
 member_sound : (s : Scene) (c : Ctx) (p : Span) (x y : TExprT) (n : Text) → Within c s → IsTyped s x → member_tree c p x n ≡ Ok y → IsTyped s y
 unfolding member_tree
@@ -108,7 +108,7 @@ arrow_found : (s : Scene) (c : Ctx) (p : Span) (x y : TExprT) (n : Text) (r : Re
 arrow_found s c p x y n (Err k) w good e h = cc
 arrow_found s c p x y n (Ok m) w good e h =
     let there : member_in n (layout_behind s.layouts (pointed (decayed (type_of_typed x)))) ≡ Ok m = behind_later w.grows n (pointed (decayed (type_of_typed x))) m e in
-    tree_is s (Typed (ArrowK x m.offset) m.ty p) y (behind_known s w.members n (pointed (decayed (type_of_typed x))) m there, (good.typed, good.value, (n, m, there, refl, refl))) h
+    tree_is s (Typed (ArrowK x m.offset) m.ty p) y (behind_known s w.members n (pointed (decayed (type_of_typed x))) m there, (good.typed, good.value, member_there n (layout_behind s.layouts (pointed (decayed (type_of_typed x)))) m there)) h
 
 arrow_sound : (s : Scene) (c : Ctx) (p : Span) (x y : TExprT) (n : Text) → Within c s → IsTypedValue s x → arrow_tree c p x n ≡ Ok y → IsTyped s y
 unfolding arrow_tree
@@ -124,7 +124,7 @@ text_sound : (s : Scene) (p : Span) (ts us : List Text) (t : Text) (k : ℕ) →
 text_sound s p ts us t k h b =
     let behind = text_behind p ts us t k h in
     let there : slice_get s.literals k ≡ Some t = subst (λ (j : ℕ). slice_get s.literals j ≡ Some t) behind.0 (last_of_beginning ts us s.literals t b behind.1) in
-    ((tt, refl, text_size s t (text_fits p ts us t k h)), (t, there, refl))
+    ((tt, refl, omega arith, text_size s t (text_fits p ts us t k h)), ap (option_map text_type) there)
 
 -- ---- expressions
 

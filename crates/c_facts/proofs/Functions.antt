@@ -5,11 +5,12 @@ use Rattle.c_tree.specs.Tree.{TypeT, VarT, StmtTs}
 use Rattle.c_types.specs.Types.{Ty, LayoutT}
 use Rattle.c_types.specs.Typed.{TStmtTs}
 use Rattle.c_rules.specs.Rules.{judged}
-use Rattle.c_exprs.specs.Env.{Text, FunctionD}
-use Rattle.c_stmts.specs.State.{locals_limit}
-use Rattle.c_check.specs.Reading.{Un, function_under, state_in, named, begun, parameter_rule, with_parameter, result_rule}
+use Rattle.c_exprs.specs.Env.{Text, Decl, FunctionD}
+use Rattle.c_stmts.specs.State.{made, locals_limit}
+use Rattle.c_check.specs.Reading.{Un, function_under, state_in, with_texts, with_names, named, begun, parameter_rule, with_parameter, result_rule}
 use Rattle.c_check.specs.ItemTypes as item
 use Rattle.c_check.specs.ItemTypes.{TypeAt, BodyAt, Parameter, Parameters}
+use Rattle.c_facts.specs.Made.{all_made_in, IsMadeOnce}
 use Rattle.c_facts.specs.Sound.{Scene, IsKnown, IsLocal, AreStatements, AreCallObjects, in_call, IsFunction}
 use Rattle.c_facts.proofs.Within.{Begins, AllKnown}
 use Rattle.c_facts.proofs.Told.{body_is, spends_are}
@@ -22,6 +23,7 @@ use Rattle.c_facts.proofs.Counts.{numbers_then}
 use Rattle.c_facts.proofs.Meant.{Ends, Meant, literals_begin, named_meant, type_known, members_whole_then}
 use Rattle.c_facts.proofs.Growth.{words_later}
 use Rattle.c_facts.proofs.Scopes.{in_declared}
+use Rattle.c_facts.proofs.Making.{Makes, makes_same, makes_itself, makes_all, declared_makes, statements_make, made_once}
 
 -- ---- parameters
 
@@ -52,12 +54,12 @@ pub record Takes (s : Scene) (un : Un) (ps : List Ty) (up : Un) : Type 0 where
   pub meant : Meant s up
 
 -- one object more
-record AddsOne (un up : Un) : Type 0 where
-  size : ℕ
-  added : up.sizes ≡ un.sizes ++ size ∷ []
-  used : up.used ≡ un.used
+pub record AddsOne (un up : Un) : Type 0 where
+  pub size : ℕ
+  pub added : up.sizes ≡ un.sizes ++ size ∷ []
+  pub used : up.used ≡ un.used
 
-parameter_adds : {un : Un} {v : VarT} {t : Ty} {up : Un} → Parameter un v t up → AddsOne un up
+pub parameter_adds : {un : Un} {v : VarT} {t : Ty} {up : Un} → Parameter un v t up → AddsOne un up
 parameter_adds (item.parameter {un = un} {up = up} {v = v} {t = t} {n = n} g0 g1) =
     let sizes = with_parameter_sizes v.name t n up in
     let types = type_sizes g0 in
@@ -144,7 +146,7 @@ head_known name {s = s} {t = t} {ps = ps} {up = up} {uq = uq} e g0 g1 later b m 
 
 -- ---- the body
 
-named_sizes : (name : Text) (ps : List Ty) (t : Ty) (un : Un) → ((named name (FunctionD ps t) un).sizes ≡ un.sizes) × ((named name (FunctionD ps t) un).used ≡ un.used)
+pub named_sizes : (name : Text) (ps : List Ty) (t : Ty) (un : Un) → ((named name (FunctionD ps t) un).sizes ≡ un.sizes) × ((named name (FunctionD ps t) un).used ≡ un.used)
 named_sizes name ps t un = by_named (λ up. (up.sizes ≡ un.sizes) × (up.used ≡ un.used)) name (FunctionD ps t) un (refl, refl) (refl, refl)
 
 -- what a body adds to the objects of the parameters
@@ -168,9 +170,31 @@ body_known {s = s} {fin = fin} {t = t} {body = body} {x = x} e h (item.body_at {
 pub ends_call : {s : Scene} {fin : Un} (sizes : List ℕ) → Ends s fin → Ends (in_call s sizes) fin
 ends_call sizes e = record { numbers = e.numbers; functions = e.functions; globals = e.globals; literals = e.literals; members = e.members }
 
+-- ---- where the objects of a call are made
+
+parameter_makes : {un : Un} {v : VarT} {t : Ty} {up : Un} → Parameter un v t up → Makes (state_in un) (state_in up) []
+unfolding with_parameter
+parameter_makes (item.parameter {v = v} {t = t} {n = n} (item.type_at {un = un} {us = us} g0) g1) = declared_makes (state_in un) (state_in (with_parameter v.name t n (with_texts un us))) v.name (record { number = length un.sizes; ty = t }) n refl refl refl
+
+parameters_make : {un : Un} {vs : List VarT} {ps : List Ty} {up : Un} → Parameters un vs ps up → Makes (state_in un) (state_in up) []
+parameters_make (item.no_parameters {un = un}) = makes_itself (state_in un)
+parameters_make (item.more_parameters {un = un} {up = up} {uq = uq} g0 rest) = makes_all (state_in un) (state_in up) (state_in uq) [] [] (parameter_makes g0) (parameters_make rest)
+
+named_makes : (name : Text) (d : Decl) (un : Un) → Makes (state_in un) (state_in (named name d un)) []
+named_makes name d un = by_named (λ up. Makes (state_in un) (state_in up) []) name d un (makes_itself (state_in un)) (makes_same (state_in un) (state_in (with_names un (un.names ++ (name, d) ∷ []))) (record { scopes = refl; sizes = refl }))
+
+body_makes : {un : Un} {t : Ty} {body : StmtTs} {x : TStmtTs} {ur : Un} → BodyAt un t body x ur → Makes (state_in un) (state_in ur) (all_made_in x)
+body_makes (item.body_at {un = un} {us = us} g0) = statements_make g0
+
+function_made : (name : Text) (up : Un) {uq : Un} {vs : List VarT} {ps : List Ty} {t : Ty} {body : StmtTs} {x : TStmtTs} {ur : Un} → Parameters (begun up) vs ps uq → BodyAt (named name (FunctionD ps t) uq) t body x ur → IsMadeOnce (record { name = name; params = ps; locals = ur.sizes; made = made (state_in ur); gives = t; body = x })
+function_made name up {uq = uq} {ps = ps} {t = t} {x = x} {ur = ur} g1 g2 k =
+    let named_now = named name (FunctionD ps t) uq in
+    let head = makes_all (state_in (begun up)) (state_in uq) (state_in named_now) [] [] (parameters_make g1) (named_makes name (FunctionD ps t) uq) in
+    made_once (state_in (begun up)) (state_in ur) (all_made_in x) refl refl (makes_all (state_in (begun up)) (state_in named_now) (state_in ur) [] (all_made_in x) head (body_makes g2)) k
+
 -- The function that an item with a body makes.
 pub function_sound : (name : Text) {s : Scene} {fin un : Un} {p : Span} {of : TypeT} {t : Ty} {vs : List VarT} {ps : List Ty} {up uq : Un} {body : StmtTs} {x : TStmtTs} {ur : Un} → Ends s fin → ((sizes : List ℕ) → Meant (in_call s sizes) un) → Sane un
-    → TypeAt un p of t up → Parameters (begun up) vs ps uq → BodyAt (named name (FunctionD ps t) uq) t body x ur → IsRuled ur name ps t (Some body) → Later ur fin → IsFunction s (record { name = name; params = ps; locals = ur.sizes; gives = t; body = x })
+    → TypeAt un p of t up → Parameters (begun up) vs ps uq → BodyAt (named name (FunctionD ps t) uq) t body x ur → IsRuled ur name ps t (Some body) → Later ur fin → IsFunction s (record { name = name; params = ps; locals = ur.sizes; made = made (state_in ur); gives = t; body = x })
 function_sound name {s = s} {un = un} {t = t} {ps = ps} {up = up} {uq = uq} {ur = ur} e meant h g0 g1 g2 r later =
     let adds = body_adds g2 in
     let same = named_sizes name ps t uq in
@@ -184,5 +208,6 @@ function_sound name {s = s} {un = un} {t = t} {ps = ps} {up = up} {uq = uq} {ur 
       known = head.gives;
       result = result_stays head.meant.grows t (subst₂ (λ ls ws. judged (result_rule ls ws t) ≡ Ok tt) from_body.layouts from_body.whole r.result);
       objects = subst (λ ns. AreCallObjects s.layouts s.whole ps ns) (sym sizes) (call_objects s.layouts s.whole ps uq.sizes adds.taken head.rules (adds.room (same.1 ∙ head.used)));
+      made = function_made name up g1 g2;
       body = body_known call (kept_sane (keeps_through before from_names) h) g2 later (begins_itself ur.sizes) head.meant;
     }

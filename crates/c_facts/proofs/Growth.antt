@@ -1,8 +1,9 @@
 -- What holds at the time of reading holds in the whole program: structures and unions may be declared whole later, and nothing else changes.
-use Rattle.std.proofs.Common.{◌≡◌, ◌⊎◌, inl, inr, ℕ, ◌*◌, ◌≤◌, Bool, true, false, ◌||◌, not, nat_le, List, [], ◌∷◌, Option, Some, None, Result, Ok, Err, refl, sym, subst, ap, ◌∙◌, arith}
+use Rattle.std.proofs.Common.{◌≡◌, ◌⊎◌, inl, inr, ℕ, ◌*◌, ◌==◌, ◌<◌, ◌≤◌, Bool, true, false, ◌||◌, not, nat_le, List, [], ◌∷◌, Option, Some, None, Result, Ok, Err, refl, sym, subst, ap, ◌∙◌, arith}
 use Rattle.std.specs.Prelude.{slice_get, if◌then◌else◌}
 use Rattle.std.specs.Option.{option_map_or}
 use Rattle.std.specs.Str.{bytes_eq}
+use Rattle.std.proofs.lemmas.Bool.{and_parts}
 use Rattle.std.proofs.lemmas.Bool.Decides.{nat_tests}
 use Rattle.c_tree.specs.declared.span.Span.{Span}
 use Rattle.c_tree.specs.declared.operator.StepOp.{StepOp}
@@ -10,7 +11,7 @@ use Rattle.c_tree.specs.declared.operator.BinOp.{BinOp}
 use Rattle.c_types.specs.Types.{Ty, VoidY, IntY, BoolY, EnumY, StructY, UnionY, PointerY, ArrayY, MemberT, LayoutT}
 use Rattle.c_types.specs.Sizes.{words_of, member_named, no_layout}
 use Rattle.c_rules.specs.declared.code.Code.{Code}
-use Rattle.c_rules.specs.Kinds.{is_structure, target}
+use Rattle.c_rules.specs.Kinds.{is_void, is_structure, target}
 use Rattle.c_rules.specs.Sizes.{is_whole, fits, type_limit, value_limit}
 use Rattle.c_rules.specs.Rules.{Demand, Rule, checked, judged_by, judged}
 use Rattle.c_rules.specs.Nodes.{given, led_to_whole, count_is_known, counts_elements, step_operator, binary_rule, index_rule, assign_rule, compound_rule, step_rule, array_rule}
@@ -148,6 +149,13 @@ compound_later {whole = whole} {all = all} g op to place from ty h = judged_late
 pub step_later : {layouts later : List LayoutT} {whole all : List Bool} → Grows layouts whole later all → (op : StepOp) (to : Ty) (place : Bool) (ty : Ty) → judged (step_rule whole op to place) ≡ Ok ty → judged (step_rule all op to place) ≡ Ok ty
 step_later g op to place ty h = compound_later g (step_operator op) to place IntY ty h
 
+pub given_holds : {A : Type 0} (test : Bool) (x y : A) → given test x ≡ Some y → test ≡ true
+given_holds true x y h = refl
+given_holds false x y h = cc
+
+not_none : (n : ℕ) → not (n == 0) ≡ true → 0 < n
+not_none n h = grind (arith, nat_tests)
+
 -- an array that may be one is one in the whole program
 fits_within : (layouts : List LayoutT) (limit : ℕ) (ty : Ty) → fits layouts limit ty ≡ true → words_of layouts ty ≤ limit
 unfolding fits
@@ -158,15 +166,16 @@ unfolding array_rule
 array_later {layouts = layouts} {later = later} {whole = whole} {all = all} g of count ty known h =
     let r = judged_holds (array_rule layouts whole of count) ty h in
     let fit : fits later type_limit (ArrayY of count) ≡ true = fits_later g type_limit (ArrayY of count) r.1.0 r.1.1.1.0 in
-    subst (λ (t : Ty). IsKnown later all t) (given_is _ (ArrayY of count) ty r.0) (known, whole_later g of r.1.0, fits_within later type_limit (ArrayY of count) fit)
+    let some : (not (is_void of) ≡ true) × (not (count == 0) ≡ true) = and_parts _ _ (given_holds _ (ArrayY of count) ty r.0) in
+    subst (λ (t : Ty). IsKnown later all t) (given_is _ (ArrayY of count) ty r.0) (known, whole_later g of r.1.0, not_none count some.1, fits_within later type_limit (ArrayY of count) fit)
 
 -- ---- members
 
-no_member : (n : Text) (m : MemberT) (l : LayoutT) → l ≡ no_layout → member_in n (Some l) ≡ Ok m → ⊥
-no_member n m l e h = let none : member_in n (Some no_layout) ≡ Ok m = subst (λ (x : LayoutT). member_in n (Some x) ≡ Ok m) e h in cc
+no_member : (n : Text) (m : MemberT) (l : LayoutT) → l ≡ no_layout l.is_union → member_in n (Some l) ≡ Ok m → ⊥
+no_member n m l e h = let none : member_in n (Some (no_layout l.is_union)) ≡ Ok m = subst (λ (x : LayoutT). member_in n (Some x) ≡ Ok m) e h in cc
 
 -- a layout that has a member stays
-kept_so : (n : Text) (m : MemberT) (l : LayoutT) (now : Option LayoutT) → (l ≡ no_layout) ⊎ (now ≡ Some l) → member_in n (Some l) ≡ Ok m → member_in n now ≡ Ok m
+kept_so : (n : Text) (m : MemberT) (l : LayoutT) (now : Option LayoutT) → (l ≡ no_layout l.is_union) ⊎ (now ≡ Some l) → member_in n (Some l) ≡ Ok m → member_in n now ≡ Ok m
 kept_so n m l now (inl none) h = absurd (no_member n m l none h)
 kept_so n m l now (inr same) h = rw same h
 

@@ -1,14 +1,14 @@
 -- What fills a variable fills it so in the whole program.
-use Rattle.std.proofs.Common.{◌≡◌, ℕ, ◌+◌, ◌==◌, Bool, true, false, ◌&&◌, nat_le, List, [], ◌∷◌, length, Option, Some, None, Ok, refl, sym, ap, ◌∙◌, subst, arith, not, if◌then◌else◌, leb-true, ne_eqb}
+use Rattle.std.proofs.Common.{◌≡◌, ℕ, ◌+◌, ◌==◌, Bool, true, false, ◌&&◌, ◌||◌, nat_le, List, [], ◌∷◌, Option, Some, None, Ok, refl, sym, ap, ◌∙◌, subst, arith, not, if◌then◌else◌, leb-true, ne_eqb}
 use Rattle.std.proofs.lemmas.Bool.Decides.{nat_tests}
-use Rattle.std.specs.Prelude.{slice_get}
+use Rattle.std.specs.Prelude.{slice_get, option_map}
 use Rattle.std.specs.Option.{option_map_or}
 use Rattle.c_tree.specs.Tree.{InitT, InitTs}
 use Rattle.c_types.specs.Types.{Ty, VoidY, IntY, BoolY, EnumY, StructY, UnionY, PointerY, ArrayY, MemberT, LayoutT}
 use Rattle.c_types.specs.Typed.{TExprT, Typed, TKindT, LiteralK, TInitT, OneI, TextI, ListI, TInitTs}
 use Rattle.c_rules.specs.declared.code.Code.{Code}
 use Rattle.c_rules.specs.declared.code.Code.TheVariants.{WrongType, NotConstant}
-use Rattle.c_rules.specs.Kinds.{is_int, is_structure, element_count, converts}
+use Rattle.c_rules.specs.Kinds.{is_int, is_array, is_structure, element_count, converts}
 use Rattle.c_rules.specs.Sizes.{is_declared, is_whole}
 use Rattle.c_exprs.specs.Env.{Text, Ctx}
 use Rattle.c_exprs.specs.Nodes.{type_of_typed, span_of}
@@ -16,7 +16,7 @@ use Rattle.c_exprs.specs.Calls.{ensured}
 use Rattle.c_stmts.specs.Slots.{Slots, NoSlots, Elements, Members, members_of, first_of, member_types, slots_of, slots_for, next_slot, later_slots, item_count, has_room, is_fixed, literal_of, text_fills, value_fills, fills, filled}
 use Rattle.c_stmts.specs.InitTypes as init
 use Rattle.c_stmts.specs.InitTypes.{Fills, AllFill}
-use Rattle.c_facts.specs.Sound.{Scene, IsKnown, IsKind, IsTypedValue, IsLiteral, HasPlaces, FillsAs, FillEach}
+use Rattle.c_facts.specs.Sound.{Scene, IsKnown, IsKind, IsTypedValue, IsLiteral, text_type, takes_value, takes_text, HasPlaces, FillsAs, FillEach}
 use Rattle.c_facts.proofs.Expressions.{value_sound}
 use Rattle.c_facts.proofs.Within.{Begins, Within, AllMembersKnown, AllWhole, MembersWhole}
 use Rattle.c_facts.proofs.Beginnings.{value_begins}
@@ -36,20 +36,34 @@ mutual
 
 -- ---- one expression
 
--- a value that is kept as it is
-one_fills : (s : Scene) (global : Bool) (ty : Ty) (x : TExprT) (i : TInitT) → IsTypedValue s x → fills global ty x ≡ Ok i → OneI x ≡ i → FillsAs s global i (Some ty)
-one_fills s global ty x i v h e = subst (λ j. FillsAs s global j (Some ty)) e (v, h ∙ ap Ok (sym e))
-
 ensured_is : (k : Code) (test : Bool) (x i : TInitT) → ensured k test (Ok x) ≡ Ok i → (test ≡ true) × (x ≡ i)
 ensured_is k true x i h = (refl, cc)
 ensured_is k false x i h = cc
 
 -- where the type is no array the expression is kept
-value_one : (global : Bool) (ty : Ty) (x : TExprT) (i : TInitT) → value_fills global ty x ≡ Ok i → OneI x ≡ i
-value_one true ty x i h =
+value_one : (global : Bool) (ty : Ty) (x : TExprT) (i : TInitT) → is_array ty ≡ false → value_fills global ty x ≡ Ok i → (takes_value global ty x ≡ true) × (OneI x ≡ i)
+value_one true ty x i n h =
     let k = ensured_gives WrongType (converts (type_of_typed x) ty && not (is_structure ty)) (ensured NotConstant (is_fixed x) (Ok (OneI x))) i h in
-    (ensured_is NotConstant (is_fixed x) (OneI x) i k.1).1
-value_one false ty x i h = (ensured_is WrongType (converts (type_of_typed x) ty) (OneI x) i h).1
+    let fixed = ensured_is NotConstant (is_fixed x) (OneI x) i k.1 in
+    (takes_fixed (is_array ty) (converts (type_of_typed x) ty) (is_structure ty) (is_fixed x) n k.0 fixed.0, fixed.1)
+  where
+    takes_fixed : (a c s f : Bool) → a ≡ false → (c && not s) ≡ true → f ≡ true → (not a && c && (not true || (not s && f))) ≡ true
+    takes_fixed false true false f e h k = k
+    takes_fixed false true true f e h k = cc
+    takes_fixed false false s f e h k = cc
+    takes_fixed true c s f e h k = cc
+value_one false ty x i n h =
+    let k = ensured_is WrongType (converts (type_of_typed x) ty) (OneI x) i h in
+    (takes_kept (is_array ty) (converts (type_of_typed x) ty) (not (is_structure ty) && is_fixed x) n k.0, k.1)
+  where
+    takes_kept : (a c f : Bool) → a ≡ false → c ≡ true → (not a && c && (not false || f)) ≡ true
+    takes_kept false true f e h = refl
+    takes_kept false false f e h = cc
+    takes_kept true c f e h = cc
+
+-- a value that is kept as it is
+one_fills : (s : Scene) (global : Bool) (ty : Ty) (x : TExprT) (i : TInitT) → IsTypedValue s x → is_array ty ≡ false → value_fills global ty x ≡ Ok i → FillsAs s global i (Some ty)
+one_fills s global ty x i v h k = let one = value_one global ty x i h k in subst (λ j. FillsAs s global j (Some ty)) one.1 (v, one.0)
 
 both_hold : (a b : Bool) → (a && b) ≡ true → (a ≡ true) × (b ≡ true)
 both_hold true true h = (refl, refl)
@@ -60,9 +74,11 @@ both_hold false b h = cc
 text_fits : (s : Scene) (global : Bool) (of : Ty) (count number : ℕ) (ty : Ty) (i : TInitT) → IsLiteral s number ty → text_fills of count (Some number) ty ≡ Ok i → FillsAs s global i (Some (ArrayY of count))
 text_fits s global of count number ty i l h =
     let k = ensured_is WrongType (is_int of && nat_le (option_map_or (λ n. n) (element_count ty) 0) count) (TextI number) i h in
-    let size : option_map_or (λ n. n) (element_count ty) 0 ≡ length l.0 + 1 = ap (λ t. option_map_or (λ n. n) (element_count t) 0) l.2 in
-    let tests = both_hold (is_int of) (nat_le (option_map_or (λ n. n) (element_count ty) 0) count) k.0 in
-    subst (λ j. FillsAs s global j (Some (ArrayY of count))) k.1 (l.0, l.1, (tests.0, omega (arith, size, leb-true _ _ tests.1)))
+    subst (λ j. FillsAs s global j (Some (ArrayY of count))) k.1 (text_taken of count (slice_get s.literals number) ty l k.0)
+  where
+    text_taken : (of : Ty) (count : ℕ) (o : Option Text) (ty : Ty) → option_map text_type o ≡ Some ty → (is_int of && nat_le (option_map_or (λ n. n) (element_count ty) 0) count) ≡ true → takes_text (ArrayY of count) o ≡ true
+    text_taken of count None ty l h = cc
+    text_taken of count (Some t) ty l h = let e : ty ≡ text_type t = cc in subst (λ (u : Ty). (is_int of && nat_le (option_map_or (λ n. n) (element_count u) 0) count) ≡ true) e h
 
 array_fills : (s : Scene) (global : Bool) (of : Ty) (count : ℕ) (kind : TKindT) (ty : Ty) (i : TInitT) → IsKind s kind ty → text_fills of count (literal_of kind) ty ≡ Ok i → FillsAs s global i (Some (ArrayY of count))
 array_fills s global of count (LiteralK number) ty i l h = text_fits s global of count number ty i l h
@@ -70,13 +86,13 @@ array_fills s global of count kind ty i l h = cc
 
 -- an expression that fills a type
 fills_as : (s : Scene) (global : Bool) (ty : Ty) (x : TExprT) (i : TInitT) → IsTypedValue s x → fills global ty x ≡ Ok i → FillsAs s global i (Some ty)
-fills_as s global VoidY x i v h = one_fills s global VoidY x i v h (value_one global VoidY x i h)
-fills_as s global IntY x i v h = one_fills s global IntY x i v h (value_one global IntY x i h)
-fills_as s global BoolY x i v h = one_fills s global BoolY x i v h (value_one global BoolY x i h)
-fills_as s global (EnumY number) x i v h = one_fills s global (EnumY number) x i v h (value_one global (EnumY number) x i h)
-fills_as s global (StructY number) x i v h = one_fills s global (StructY number) x i v h (value_one global (StructY number) x i h)
-fills_as s global (UnionY number) x i v h = one_fills s global (UnionY number) x i v h (value_one global (UnionY number) x i h)
-fills_as s global (PointerY to) x i v h = one_fills s global (PointerY to) x i v h (value_one global (PointerY to) x i h)
+fills_as s global VoidY x i v h = one_fills s global VoidY x i v refl h
+fills_as s global IntY x i v h = one_fills s global IntY x i v refl h
+fills_as s global BoolY x i v h = one_fills s global BoolY x i v refl h
+fills_as s global (EnumY number) x i v h = one_fills s global (EnumY number) x i v refl h
+fills_as s global (StructY number) x i v h = one_fills s global (StructY number) x i v refl h
+fills_as s global (UnionY number) x i v h = one_fills s global (UnionY number) x i v refl h
+fills_as s global (PointerY to) x i v h = one_fills s global (PointerY to) x i v refl h
 fills_as s global (ArrayY of count) (Typed kind ty span) i v h = array_fills s global of count kind ty i v.typed.1 h
 
 -- ---- places

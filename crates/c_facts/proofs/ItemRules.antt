@@ -16,7 +16,7 @@ use Rattle.c_exprs.specs.Faults.{placed}
 use Rattle.c_exprs.specs.Calls.{ensured}
 use Rattle.c_types.specs.Sizes.{member_named}
 use Rattle.c_stmts.specs.State.{innermost, object_rule, object_size}
-use Rattle.c_check.specs.Reading.{Un, record_number, whole_record, member_size, members_declared, global_words, globals_limit, global_size, parameter_rule, parameter_size, same_types, is_function, agrees, is_own_body, result_rule, function_rules}
+use Rattle.c_check.specs.Reading.{Un, record_number, has_members, whole_record, member_size, members_declared, global_words, globals_limit, global_size, parameter_rule, parameter_size, same_types, is_function, agrees, is_own_body, result_rule, function_rules}
 use Rattle.c_facts.proofs.Holds.{placed_gives, ensured_gives}
 use Rattle.c_facts.proofs.Stays.{HasWords, size_facts, object_facts}
 use Rattle.c_facts.proofs.Equal.{types_equal, all_types_equal}
@@ -30,15 +30,17 @@ member_words s un l name ty n h =
 -- a structure or union that is declared whole
 pub record BecomesWhole (un : Un) (l : LayoutT) (n : ℕ) : Type 0 where
   pub new : is_declared un.whole n ≡ false
+  pub members : has_members l ≡ true
   pub size : l.size ≤ type_limit
 
 whole_by : (un : Un) (l : LayoutT) (r : Result ℕ Code) (n : ℕ) → whole_record un l r ≡ Ok n → BecomesWhole un l n
 whole_by un l (Err k) n h = absurd cc
 whole_by un l (Ok number) n h =
-    let e = ensured_gives Twice (not (is_declared un.whole number)) (ensured TooLarge (nat_le l.size type_limit) (Ok number)) n h in
-    let f = ensured_gives TooLarge (nat_le l.size type_limit) (Ok number) n e.1 in
+    let e = ensured_gives Twice (not (is_declared un.whole number)) (ensured WrongType (has_members l) (ensured TooLarge (nat_le l.size type_limit) (Ok number))) n h in
+    let d = ensured_gives WrongType (has_members l) (ensured TooLarge (nat_le l.size type_limit) (Ok number)) n e.1 in
+    let f = ensured_gives TooLarge (nat_le l.size type_limit) (Ok number) n d.1 in
     let same : number ≡ n = same_number number n f.1 in
-    record { new = subst (λ k. is_declared un.whole k ≡ false) same (not-true (is_declared un.whole number) e.0); size = leb-true l.size type_limit f.0 }
+    record { new = subst (λ k. is_declared un.whole k ≡ false) same (not-true (is_declared un.whole number) e.0); members = d.0; size = leb-true l.size type_limit f.0 }
   where
     same_number : (a b : ℕ) → ◌≡◌ {A = Result ℕ Code} (Ok a) (Ok b) → a ≡ b
     same_number a b e = cc

@@ -1,26 +1,28 @@
 -- Structures and unions while a unit is read: one that is declared whole is laid out by the layouts of the time, one that is not has no members.
-use Rattle.std.proofs.Common.{◌≡◌, ◌⊎◌, ℕ, ◌+◌, ◌<◌, ◌≤◌, Bool, true, false, min, max, List, [], ◌∷◌, ◌++◌, length, Option, Some, None, refl, sym, ap, ◌∙◌, subst, inl, inr, arith, length-append, length-set}
+use Rattle.std.proofs.Common.{◌≡◌, ◌⊎◌, ℕ, ◌+◌, ◌<◌, ◌≤◌, Bool, true, false, max, List, [], ◌∷◌, ◌++◌, length, Option, Some, None, refl, sym, ap, ◌∙◌, subst, inl, inr, arith, length-append, length-set}
 use Rattle.std.specs.Prelude.{slice_get, slice_set}
 use Rattle.std.proofs.lemmas.Option.{slice_get_within}
 use Rattle.std.proofs.lemmas.Bool.{cases_eq, cases_Bool}
 use Rattle.c_types.specs.Types.{Ty, MemberT, LayoutT}
-use Rattle.c_types.specs.Sizes.{words_of, Follow, IsStructure, Overlap, IsUnion, no_layout, with_member}
+use Rattle.c_types.specs.Sizes.{words_of, no_layout, next_offset, with_member, Follow, Overlap, IsPlacedAs, IsPlaced}
 use Rattle.c_rules.specs.Kinds.{holds}
 use Rattle.c_rules.specs.Sizes.{is_declared, is_whole, type_limit}
 use Rattle.c_exprs.specs.Env.{Text}
+use Rattle.c_check.specs.Reading.{has_members}
 use Rattle.c_facts.proofs.Within.{Grows, AllWhole}
 use Rattle.c_facts.proofs.Fronts.{begins_more, begins_at, last_or_before, within_at, others_stay, replaced_there}
 use Rattle.c_facts.proofs.Growth.{whole_later, words_later}
 
 -- a structure or union that is declared whole
 pub record AreLaid (layouts : List LayoutT) (whole : List Bool) (l : LayoutT) : Type 0 where
-  pub places : IsStructure layouts l ⊎ IsUnion layouts l
+  pub places : IsPlaced layouts l
   pub members : AllWhole whole l.members
+  pub some : has_members l ≡ true
   pub size : l.size ≤ type_limit
 
 pub record AreDeclared (layouts : List LayoutT) (whole : List Bool) : Type 0 where
   pub equal : length whole ≡ length layouts
-  pub empty : (k : ℕ) (l : LayoutT) → is_declared whole k ≡ false → slice_get layouts k ≡ Some l → l ≡ no_layout
+  pub empty : (k : ℕ) (l : LayoutT) → is_declared whole k ≡ false → slice_get layouts k ≡ Some l → l ≡ no_layout l.is_union
   pub laid : (k : ℕ) (l : LayoutT) → is_declared whole k ≡ true → slice_get layouts k ≡ Some l → AreLaid layouts whole l
 
 pub none_declared : AreDeclared [] []
@@ -40,16 +42,19 @@ overlap_stays : {layouts later : List LayoutT} {whole all : List Bool} → Grows
 overlap_stays g greatest size [] h f = f
 overlap_stays {layouts = layouts} {later = later} g greatest size (m ∷ ms) h f = (f.0, overlap_stays g (max greatest (words_of later m.ty)) size ms h.1 (subst (λ n. Overlap layouts (max greatest n) ms size) (words_later g m.ty h.0) f.1))
 
-places_stay : {layouts later : List LayoutT} {whole all : List Bool} → Grows layouts whole later all → (l : LayoutT) → AllWhole whole l.members → IsStructure layouts l ⊎ IsUnion layouts l → IsStructure later l ⊎ IsUnion later l
-places_stay g l h (inl f) = inl (follow_stays g 0 l.size l.members h f)
-places_stay g l h (inr f) = inr (overlap_stays g 0 l.size l.members h f)
+places_stay : {layouts later : List LayoutT} {whole all : List Bool} → Grows layouts whole later all → (l : LayoutT) → AllWhole whole l.members → IsPlaced layouts l → IsPlaced later l
+places_stay {layouts = layouts} {later = later} g l h p = by l.is_union p
+  where
+    by : (u : Bool) → IsPlacedAs layouts l u → IsPlacedAs later l u
+    by true f = overlap_stays g 0 l.size l.members h f
+    by false f = follow_stays g 0 l.size l.members h f
 
 pub laid_stays : {layouts later : List LayoutT} {whole all : List Bool} → Grows layouts whole later all → (l : LayoutT) → AreLaid layouts whole l → AreLaid later all l
-laid_stays g l h = record { places = places_stay g l h.members h.places; members = all_whole_stay g l.members h.members; size = h.size }
+laid_stays g l h = record { places = places_stay g l h.members h.places; members = all_whole_stay g l.members h.members; some = h.some; size = h.size }
 
 -- ---- tests of numbers
 
-declared_there : (whole : List Bool) (k : ℕ) → is_declared whole k ≡ true → slice_get whole k ≡ Some true
+pub declared_there : (whole : List Bool) (k : ℕ) → is_declared whole k ≡ true → slice_get whole k ≡ Some true
 declared_there whole k h = by (slice_get whole k) h
   where
     by : (o : Option Bool) → holds (λ declared. declared) o ≡ true → o ≡ Some true
@@ -61,20 +66,20 @@ declared_by whole k h = rw h refl
 
 -- ---- one more that has no members yet
 
-pub record_grows : (layouts : List LayoutT) (whole : List Bool) → AreDeclared layouts whole → Grows layouts whole (layouts ++ no_layout ∷ []) (whole ++ false ∷ [])
-record_grows layouts whole a = record {
-  kept = λ k l e. inr (begins_at layouts (layouts ++ no_layout ∷ []) k l (begins_more layouts (no_layout ∷ [])) e);
+pub record_grows : (u : Bool) (layouts : List LayoutT) (whole : List Bool) → AreDeclared layouts whole → Grows layouts whole (layouts ++ no_layout u ∷ []) (whole ++ false ∷ [])
+record_grows u layouts whole a = record {
+  kept = λ k l e. inr (begins_at layouts (layouts ++ no_layout u ∷ []) k l (begins_more layouts (no_layout u ∷ [])) e);
   fixed = λ k h. (more k h, there k (within_at layouts k (omega (arith, a.equal, slice_get_within whole k true (declared_there whole k h)))));
-  few = omega (arith, length-append layouts (no_layout ∷ []));
+  few = omega (arith, length-append layouts (no_layout u ∷ []));
 }
   where
     more : (k : ℕ) → is_declared whole k ≡ true → is_declared (whole ++ false ∷ []) k ≡ true
     more k h = declared_by (whole ++ false ∷ []) k (begins_at whole (whole ++ false ∷ []) k true (begins_more whole (false ∷ [])) (declared_there whole k h))
 
-    there : (k : ℕ) → (l : LayoutT) × (slice_get layouts k ≡ Some l) → slice_get layouts k ≡ slice_get (layouts ++ no_layout ∷ []) k
-    there k p = p.1 ∙ sym (begins_at layouts (layouts ++ no_layout ∷ []) k p.0 (begins_more layouts (no_layout ∷ [])) p.1)
+    there : (k : ℕ) → (l : LayoutT) × (slice_get layouts k ≡ Some l) → slice_get layouts k ≡ slice_get (layouts ++ no_layout u ∷ []) k
+    there k p = p.1 ∙ sym (begins_at layouts (layouts ++ no_layout u ∷ []) k p.0 (begins_more layouts (no_layout u ∷ [])) p.1)
 
-declared_before : (whole : List Bool) (k : ℕ) → is_declared (whole ++ false ∷ []) k ≡ true → is_declared whole k ≡ true
+pub declared_before : (whole : List Bool) (k : ℕ) → is_declared (whole ++ false ∷ []) k ≡ true → is_declared whole k ≡ true
 declared_before whole k h = by (last_or_before whole false k true (declared_there (whole ++ false ∷ []) k h))
   where
     by : (slice_get whole k ≡ Some true) ⊎ ((k ≡ length whole) × (false ≡ true)) → is_declared whole k ≡ true
@@ -88,19 +93,19 @@ not_declared_before whole k h = by (cases_Bool (is_declared whole k))
     by (inl e) = let f = declared_by (whole ++ false ∷ []) k (begins_at whole (whole ++ false ∷ []) k true (begins_more whole (false ∷ [])) (declared_there whole k e)) in absurd cc
     by (inr e) = e
 
-pub record_declared : (layouts : List LayoutT) (whole : List Bool) → AreDeclared layouts whole → AreDeclared (layouts ++ no_layout ∷ []) (whole ++ false ∷ [])
-record_declared layouts whole a = record {
-  equal = omega (arith, a.equal, length-append layouts (no_layout ∷ []), length-append whole (false ∷ []));
-  empty = λ k l h e. empty_by k l (not_declared_before whole k h) (last_or_before layouts no_layout k l e);
-  laid = λ k l h e. laid_by k l (declared_before whole k h) (last_or_before layouts no_layout k l e);
+pub record_declared : (u : Bool) (layouts : List LayoutT) (whole : List Bool) → AreDeclared layouts whole → AreDeclared (layouts ++ no_layout u ∷ []) (whole ++ false ∷ [])
+record_declared u layouts whole a = record {
+  equal = omega (arith, a.equal, length-append layouts (no_layout u ∷ []), length-append whole (false ∷ []));
+  empty = λ k l h e. empty_by k l (not_declared_before whole k h) (last_or_before layouts (no_layout u) k l e);
+  laid = λ k l h e. laid_by k l (declared_before whole k h) (last_or_before layouts (no_layout u) k l e);
 }
   where
-    empty_by : (k : ℕ) (l : LayoutT) → is_declared whole k ≡ false → (slice_get layouts k ≡ Some l) ⊎ ((k ≡ length layouts) × (no_layout ≡ l)) → l ≡ no_layout
+    empty_by : (k : ℕ) (l : LayoutT) → is_declared whole k ≡ false → (slice_get layouts k ≡ Some l) ⊎ ((k ≡ length layouts) × (no_layout u ≡ l)) → l ≡ no_layout l.is_union
     empty_by k l h (inl e) = a.empty k l h e
-    empty_by k l h (inr e) = sym e.1
+    empty_by k l h (inr e) = subst (λ (m : LayoutT). m ≡ no_layout m.is_union) e.1 refl
 
-    laid_by : (k : ℕ) (l : LayoutT) → is_declared whole k ≡ true → (slice_get layouts k ≡ Some l) ⊎ ((k ≡ length layouts) × (no_layout ≡ l)) → AreLaid (layouts ++ no_layout ∷ []) (whole ++ false ∷ []) l
-    laid_by k l h (inl e) = laid_stays (record_grows layouts whole a) l (a.laid k l h e)
+    laid_by : (k : ℕ) (l : LayoutT) → is_declared whole k ≡ true → (slice_get layouts k ≡ Some l) ⊎ ((k ≡ length layouts) × (no_layout u ≡ l)) → AreLaid (layouts ++ no_layout u ∷ []) (whole ++ false ∷ []) l
+    laid_by k l h (inl e) = laid_stays (record_grows u layouts whole a) l (a.laid k l h e)
     laid_by k l h (inr e) = absurd (omega (arith, a.equal, e.0, slice_get_within whole k true (declared_there whole k h)))
 
 -- ---- one that is declared whole
@@ -115,7 +120,7 @@ layout_grows layouts whole n l a h = record {
   few = omega (arith, length-set layouts n l);
 }
   where
-    kept_by : (k : ℕ) (m : LayoutT) → slice_get layouts k ≡ Some m → (k ≡ n) ⊎ (k ≡ n → ⊥) → (m ≡ no_layout) ⊎ (slice_get (slice_set layouts n l) k ≡ Some m)
+    kept_by : (k : ℕ) (m : LayoutT) → slice_get layouts k ≡ Some m → (k ≡ n) ⊎ (k ≡ n → ⊥) → (m ≡ no_layout m.is_union) ⊎ (slice_get (slice_set layouts n l) k ≡ Some m)
     kept_by k m e (inl s) = inl (a.empty n m h (subst (λ j. slice_get layouts j ≡ Some m) s e))
     kept_by k m e (inr s) = inr (others_stay layouts n l k s ∙ e)
 
@@ -132,7 +137,7 @@ layout_declared layouts whole n l a h r = record {
     inside : (k : ℕ) (m : LayoutT) → slice_get (slice_set layouts n l) k ≡ Some m → k < length layouts
     inside k m e = omega (arith, length-set layouts n l, slice_get_within (slice_set layouts n l) k m e)
 
-    empty_by : (k : ℕ) (m : LayoutT) → is_declared (slice_set whole n true) k ≡ false → slice_get (slice_set layouts n l) k ≡ Some m → (k ≡ n) ⊎ (k ≡ n → ⊥) → m ≡ no_layout
+    empty_by : (k : ℕ) (m : LayoutT) → is_declared (slice_set whole n true) k ≡ false → slice_get (slice_set layouts n l) k ≡ Some m → (k ≡ n) ⊎ (k ≡ n → ⊥) → m ≡ no_layout m.is_union
     empty_by k m d e (inl s) =
         let f = declared_by (slice_set whole n true) n (replaced_there whole n true (omega (arith, a.equal, s, inside k m e))) in
         let g : is_declared (slice_set whole n true) n ≡ false = subst (λ j. is_declared (slice_set whole n true) j ≡ false) s d in
@@ -161,35 +166,24 @@ whole_more : (whole : List Bool) (ms : List MemberT) (m : MemberT) → AllWhole 
 whole_more whole [] m h e = (e, tt)
 whole_more whole (x ∷ ms) m h e = (h.0, whole_more whole ms m h.1 e)
 
--- A structure that has no more words than a type may have was not clipped.
-abbrev pub PlacedAs : List LayoutT → Bool → LayoutT → Type 0
-PlacedAs layouts false l = l.size ≤ type_limit → IsStructure layouts l
-PlacedAs layouts true l = IsUnion layouts l
-
 -- the members so far
-pub record AreMembers (layouts : List LayoutT) (whole : List Bool) (is_union : Bool) (l : LayoutT) : Type 0 where
-  pub places : PlacedAs layouts is_union l
+pub record AreMembers (layouts : List LayoutT) (whole : List Bool) (l : LayoutT) : Type 0 where
+  pub places : IsPlaced layouts l
   pub members : AllWhole whole l.members
 
 pub no_members_yet : (layouts : List LayoutT) (whole : List Bool) (is_union : Bool) → AreMembers layouts whole (no_layout is_union)
 no_members_yet layouts whole true = record { places = refl; members = tt }
-no_members_yet layouts whole false = record { places = λ h. refl; members = tt }
+no_members_yet layouts whole false = record { places = refl; members = tt }
 
-not_clipped : (a n limit : ℕ) → min (a + n) (limit + 1) ≤ limit → (a ≤ limit) × (min (a + n) (limit + 1) ≡ a + n)
-not_clipped a n limit h = (omega arith, omega arith)
-
-pub one_member_more : (layouts : List LayoutT) (whole : List Bool) (is_union : Bool) (l : LayoutT) (name : Text) (ty : Ty) (n : ℕ) → AreMembers layouts whole is_union l → is_whole whole ty ≡ true → words_of layouts ty ≡ n → AreMembers layouts whole is_union (with_member is_union l name ty n)
-one_member_more layouts whole true l name ty n a h e = record {
-  places = subst (λ k. Overlap layouts 0 (l.members ++ record { name = name; offset = 0; ty = ty } ∷ []) (max l.size k)) e (overlap_more layouts 0 l.size l.members (record { name = name; offset = 0; ty = ty }) a.places refl);
-  members = whole_more whole l.members (record { name = name; offset = 0; ty = ty }) a.members h;
+pub one_member_more : (layouts : List LayoutT) (whole : List Bool) (l : LayoutT) (name : Text) (ty : Ty) (n : ℕ) → AreMembers layouts whole l → is_whole whole ty ≡ true → words_of layouts ty ≡ n → AreMembers layouts whole (with_member l name ty n)
+one_member_more layouts whole l name ty n a h e = record {
+  places = by l.is_union l.members l.size a.places;
+  members = whole_more whole l.members (record { name = name; offset = next_offset l; ty = ty }) a.members h;
 }
-one_member_more layouts whole false l name ty n a h e = record {
-  places = λ short.
-      let clip = not_clipped l.size n type_limit short in
-      subst (λ k. Follow layouts 0 (l.members ++ record { name = name; offset = l.size; ty = ty } ∷ []) k) (ap (λ k. l.size + k) e ∙ sym clip.1) (follow_more layouts 0 l.size l.members (record { name = name; offset = l.size; ty = ty }) (a.places clip.0) refl);
-  members = whole_more whole l.members (record { name = name; offset = l.size; ty = ty }) a.members h;
-}
+  where
+    by : (u : Bool) (ms : List MemberT) (s : ℕ) → IsPlaced layouts (record { is_union = u; members = ms; size = s }) → IsPlaced layouts (with_member (record { is_union = u; members = ms; size = s }) name ty n)
+    by true ms s p = subst (λ k. Overlap layouts 0 (ms ++ record { name = name; offset = 0; ty = ty } ∷ []) (max s k)) e (overlap_more layouts 0 s ms (record { name = name; offset = 0; ty = ty }) p refl)
+    by false ms s p = subst (λ k. Follow layouts 0 (ms ++ record { name = name; offset = s; ty = ty } ∷ []) (s + k)) e (follow_more layouts 0 s ms (record { name = name; offset = s; ty = ty }) p refl)
 
-pub members_laid : (layouts : List LayoutT) (whole : List Bool) (is_union : Bool) (l : LayoutT) → AreMembers layouts whole is_union l → l.size ≤ type_limit → AreLaid layouts whole l
-members_laid layouts whole true l a h = record { places = inr a.places; members = a.members; size = h }
-members_laid layouts whole false l a h = record { places = inl (a.places h); members = a.members; size = h }
+pub members_laid : (layouts : List LayoutT) (whole : List Bool) (l : LayoutT) → AreMembers layouts whole l → has_members l ≡ true → l.size ≤ type_limit → AreLaid layouts whole l
+members_laid layouts whole l a some h = record { places = a.places; members = a.members; some = some; size = h }

@@ -11,6 +11,7 @@ pub mod Scopes
 pub mod Initialisers
 pub mod Spending
 pub mod Statements
+pub mod Making
 pub mod ExpressionNodes
 pub mod StatementNodes
 pub mod ProgramNodes
@@ -19,6 +20,7 @@ pub mod Finds
 pub mod Bodies
 pub mod Short
 pub mod Laid
+pub mod Positive
 pub mod Told
 pub mod Readings
 pub mod Equal
@@ -28,3 +30,8 @@ pub mod Counts
 pub mod Meant
 pub mod Functions
 pub mod Programs
+pub mod BodyItems
+pub mod Locals
+pub mod OneWay
+pub mod KnownTypes
+pub mod Starts

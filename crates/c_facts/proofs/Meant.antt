@@ -1,11 +1,11 @@
 -- What names, members and parameters mean in a scene, part by part of an item.
-use Rattle.std.proofs.Common.{◌≡◌, ℕ, Bool, true, false, List, [], ◌∷◌, ◌++◌, length, Option, Some, refl, sym, ap, ◌∙◌, subst, subst₂}
-use Rattle.std.specs.Prelude.{slice_get}
+use Rattle.std.proofs.Common.{◌≡◌, ℕ, true, List, [], ◌∷◌, ◌++◌, length, Option, Some, refl, sym, ap, ◌∙◌, subst, subst₂}
+use Rattle.std.specs.Prelude.{slice_get, option_map}
 use Rattle.c_tree.specs.declared.span.Span.{Span}
 use Rattle.c_tree.specs.Tree.{ExprT, TypeT, InitT, VarT}
 use Rattle.c_types.specs.Types.{Ty, EnumY, MemberT, LayoutT}
 use Rattle.c_types.specs.Typed.{TInitT, TVarT}
-use Rattle.c_types.specs.Sizes.{words_of, with_member}
+use Rattle.c_types.specs.Sizes.{words_of, next_offset, with_member}
 use Rattle.c_rules.specs.Sizes.{is_whole}
 use Rattle.c_exprs.specs.Env.{Text, Decl, TypeD, ConstantD, GlobalD}
 use Rattle.c_stmts.specs.State.{filled_var}
@@ -77,8 +77,7 @@ members_more s [] m h k = (k, tt)
 members_more s (x ∷ ms) m h k = (h.0, members_more s ms m h.1 k)
 
 member_more : (s : Scene) (seen : LayoutT) (name : Text) (t : Ty) (n : ℕ) → AllMembersKnown s seen.members → IsKnown s.layouts s.whole t → AllMembersKnown s (with_member seen name t n).members
-member_more s true seen name t n h k = members_more s seen.members (record { name = name; offset = 0; ty = t }) h k
-member_more s false seen name t n h k = members_more s seen.members (record { name = name; offset = seen.size; ty = t }) h k
+member_more s seen name t n h k = members_more s seen.members (record { name = name; offset = next_offset seen; ty = t }) h k
 
 -- a structure or union with these members
 pub record MembersRead (s : Scene) (l : LayoutT) (up : Un) : Type 0 where
@@ -87,7 +86,7 @@ pub record MembersRead (s : Scene) (l : LayoutT) (up : Un) : Type 0 where
 
 pub members_known : {s : Scene} {fin un : Un} {seen l : LayoutT} {vs : List VarT} {up : Un} → Ends s fin → Members un seen vs l up → Later up fin → Meant s un → AllMembersKnown s seen.members → MembersRead s l up
 members_known e (item.no_members) later m h = record { known = h; meant = m }
-members_known {s = s} {is_union = is_union} {seen = seen} e (item.more_members (item.member {v = v} {t = t} {n = n} g0 g1) rest) later m h =
+members_known {s = s} {seen = seen} e (item.more_members (item.member {v = v} {t = t} {n = n} g0 g1) rest) later m h =
     let one = type_known e g0 (later_through (kept_later (members_keep rest)) later) m in
     members_known e rest later one.meant (member_more s seen v.name t n h one.known)
 
@@ -135,7 +134,7 @@ object_there : {s : Scene} {fin : Un} (name : Text) (n number : ℕ) (t : Ty) (g
 object_there {s = s} {fin = fin} name n number t gs e b same words =
     let entry : Text × ℕ = (name, n) in
     let here : slice_get fin.globals (length gs) ≡ Some entry = begins_at (gs ++ entry ∷ []) fin.globals (length gs) entry b (last_at gs entry) in
-    (entry, subst₂ (λ (xs : List (Text × ℕ)) (k : ℕ). slice_get xs k ≡ Some entry) (sym e.globals) (sym same) here, words)
+    ap (option_map (λ (g : Text × ℕ). g.1)) (subst₂ (λ (xs : List (Text × ℕ)) (k : ℕ). slice_get xs k ≡ Some entry) (sym e.globals) (sym same) here) ∙ ap Some words
 
 pub global_known : {s : Scene} {fin un : Un} {v : VarT} {xs : List TVarT} {up : Un} → Ends s fin → Sane un → Global un v xs up → Later up fin → Meant s un → VariablesRead s xs up
 global_known {s = s} {fin = fin} e h (item.global {un = un} {up = up} {uq = uq} {v = v} {t = t} {i = i} {n = n} g0 g1 g2) later m =

@@ -9,7 +9,8 @@ use Rattle.c_types.specs.Types.{Ty, LayoutT}
 use Rattle.c_types.specs.Typed.{TExprT, TInitT, TVarT, VarsZ, TStmtTs}
 use Rattle.c_exprs.specs.Env.{Text, Decl, GlobalD}
 use Rattle.c_exprs.specs.Env as env
-use Rattle.c_check.specs.Reading.{Un, named, record_entered, enum_entered, with_parameter, with_function, with_init}
+use Rattle.c_stmts.specs.State.{made}
+use Rattle.c_check.specs.Reading.{Un, state_in, named, record_entered, enum_entered, with_parameter, with_function, with_init}
 use Rattle.c_check.specs.ItemTypes as t
 use Rattle.c_check.specs.ItemTypes.{ValueAt, TypeAt, FillsAt, BodyAt, Member, Members, Enumerator, NamedEnumerator, Enumerators, MaybeFillsAt, Global, Globals, Parameter, Parameters, MaybeBody, Item, Items}
 use Rattle.c_check.specs.Whole.{WellTyped, unit}
@@ -50,10 +51,10 @@ value_at_adds (t.value_at g) = refl
 type_at_adds : {un up : Un} {s : Span} {of : TypeT} {ty : Ty} → TypeAt un s of ty up → read_nodes up ≡ read_nodes un
 type_at_adds (t.type_at g) = refl
 
-member_adds : {un up : Un} {is_union : Bool} {l m : LayoutT} {v : VarT} → Member un is_union l v m up → read_nodes up ≡ read_nodes un
+member_adds : {un up : Un} {l m : LayoutT} {v : VarT} → Member un l v m up → read_nodes up ≡ read_nodes un
 member_adds (t.member y h) = type_at_adds y
 
-members_add : {un up : Un} {is_union : Bool} {l m : LayoutT} {vs : List VarT} → Members un is_union l vs m up → read_nodes up ≡ read_nodes un
+members_add : {un up : Un} {l m : LayoutT} {vs : List VarT} → Members un l vs m up → read_nodes up ≡ read_nodes un
 members_add t.no_members = refl
 members_add (t.more_members g k) = omega (arith, member_adds g, members_add k)
 
@@ -130,7 +131,7 @@ init_nodes_added xs un = omega (arith, last_added statement_nodes un.inits (Vars
 
 function_nodes_added : (n : Text) (tys : List Ty) (ty : Ty) (o : Option TStmtTs) (un : Un) → read_nodes (with_function n tys ty o un) ≤ read_nodes un + length tys + maybe_body_nodes o + 1
 function_nodes_added n tys ty None un = omega arith
-function_nodes_added n tys ty (Some body) un = omega (arith, last_added function_nodes un.functions (record { name = n; params = tys; locals = un.sizes; gives = ty; body = body }))
+function_nodes_added n tys ty (Some body) un = omega (arith, last_added function_nodes un.functions (record { name = n; params = tys; locals = un.sizes; made = made (state_in un); gives = ty; body = body }))
 
 -- ---- items
 

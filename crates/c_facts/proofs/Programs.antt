@@ -1,5 +1,7 @@
 -- Programs that are typed are sound.
-use Rattle.std.proofs.Common.{◌≡◌, ◌⊎◌, ℕ, suc, ◌<◌, Bool, true, false, List, [], ◌∷◌, ◌++◌, length, Option, Some, None, refl, sym, ◌∙◌, subst, subst₂, inl, inr, arith, length-append}
+use Rattle.std.proofs.Common.{◌≡◌, ◌⊎◌, ℕ, zero, suc, ◌<◌, Bool, true, false, List, [], ◌∷◌, ◌++◌, map, length, Option, Some, None, refl, sym, ap, ap₂, ◌∙◌, subst, subst₂, inl, inr, arith, length-append, length-set}
+use Rattle.std.proofs.lemmas.Option.{slice_get_within}
+use Rattle.std.proofs.lemmas.Bool.{cases_eq}
 use Rattle.std.specs.Prelude.{slice_get, slice_set, codes, if◌then◌else◌}
 use Rattle.c_tree.specs.declared.span.Span.{Span}
 use Rattle.c_tree.specs.Tree.{TypeT, VarT, StmtTs, ItemT}
@@ -7,22 +9,24 @@ use Rattle.c_types.specs.Types.{Ty, MemberT, LayoutT}
 use Rattle.c_types.specs.Typed.{TVarT, TStmtT, VarsZ, TStmtTs}
 use Rattle.c_rules.specs.Kinds.{holds}
 use Rattle.c_rules.specs.Sizes.{is_declared}
-use Rattle.c_exprs.specs.Env.{Text, find, TypeD, FunctionD}
-use Rattle.c_check.specs.Reading.{Un, opening, bodies_of, named, record_type, new_record, record_entered, with_layout, with_init, begun, ended, with_function}
+use Rattle.c_exprs.specs.Env.{Text, find, Decl, TypeD, GlobalD, FunctionD}
+use Rattle.c_check.specs.Reading.{Un, has_members, opening, bodies_of, state_in, named, record_type, new_record, record_entered, with_layout, with_init, begun, ended, with_function}
 use Rattle.c_types.specs.Sizes.{no_layout}
+use Rattle.c_stmts.specs.State.{made}
 use Rattle.c_types.specs.Programs.{TFunctionT, ProgramT}
 use Rattle.c_check.specs.ItemTypes as item
 use Rattle.c_check.specs.ItemTypes.{TypeAt, Globals, Parameters, BodyAt, MaybeBody, Item, Items}
 use Rattle.c_check.specs.Whole as check
 use Rattle.c_check.specs.Whole.{is_plain, plain_number, main_of, program_of, WellTyped}
-use Rattle.c_facts.specs.Sound.{Scene, IsKnown, AreSized, IsLaidOut, AreDeclaredAs, in_call, IsFunction, AreFunctions, FillGlobals, AreFilled, IsSound}
+use Rattle.c_facts.specs.Sound.{Scene, IsKnown, AreSized, IsLaidOut, IsDeclaredAs, AreDeclaredAs, AreApart, wholes, in_call, IsFunction, AreFunctions, FillGlobals, AreFilled, IsSound}
 use Rattle.c_facts.proofs.Within.{Grows, AreMeant, AllMembersKnown, MembersKnown, AllWhole}
-use Rattle.c_facts.proofs.Fronts.{begins_itself, last_or_before, replaced_at}
+use Rattle.c_facts.proofs.Fronts.{begins_itself, last_or_before, replaced_at, replaced_there, others_stay}
 use Rattle.c_facts.proofs.Stays.{grows_itself, grows_through, known_stays}
-use Rattle.c_facts.proofs.Laid.{AreLaid, record_grows, layout_grows}
+use Rattle.c_facts.proofs.Positive.{HaveWords, placed_has_words}
+use Rattle.c_facts.proofs.Laid.{AreLaid, AreMembers, no_members_yet, declared_before, declared_there, record_grows, layout_grows}
 use Rattle.c_facts.proofs.ItemRules.{members_whole, IsRuled, function_ruled}
 use Rattle.c_facts.proofs.Readings.{Later, later_itself, later_through, Keeps, keeps_through, kept_later, by_record, named_keeps, enum_keeps, type_keeps, maybe_body_keeps, enumerators_keep, members_keep}
-use Rattle.c_facts.proofs.Sane.{Sane, opening_sane, kept_sane, record_follows, global_keeps, function_keeps, with_layout_later, with_init_later, with_function_later, item_follows, items_follow}
+use Rattle.c_facts.proofs.Sane.{AreNamed, AreOwn, Sane, members_so_far, opening_sane, kept_sane, record_follows, global_keeps, function_keeps, with_layout_later, with_init_later, with_function_later, item_follows, items_follow}
 use Rattle.c_facts.proofs.Counts.{HaveNumbers, unit_numbers}
 use Rattle.c_facts.proofs.Meant.{Ends, Meant, meant_more, named_meant, type_known, members_known, enumeration_meant, globals_known}
 use Rattle.c_facts.proofs.Functions.{head_known, ends_call, function_sound}
@@ -38,6 +42,7 @@ seen fin un = record { layouts = un.layouts; whole = un.whole; globals = fin.glo
 pub record Proved (fin un : Un) : Type 0 where
   pub meant : (s : Scene) → Ends s fin → Grows un.layouts un.whole s.layouts s.whole → Meant s un
   pub members : MembersKnown (seen fin un)
+  pub words : HaveWords un.layouts un.whole
   pub inits : (s : Scene) → Ends s fin → Grows un.layouts un.whole s.layouts s.whole → FillGlobals s un.inits
   pub functions : (s : Scene) → Ends s fin → Grows un.layouts un.whole s.layouts s.whole → AreFunctions s un.functions
 
@@ -45,6 +50,7 @@ opening_proved : (fin : Un) (b : List (Text × ℕ)) → Proved fin (opening b)
 opening_proved fin b = record {
   meant = λ s e g. record { grows = g; names = tt; scopes = tt };
   members = λ k l e. absurd cc;
+  words = λ k l d e. absurd cc;
   inits = λ s e g. tt;
   functions = λ s e g. tt;
 }
@@ -84,10 +90,14 @@ grows_back g layouts whole h = subst₂ (λ ls ws. Grows ls ws layouts whole) g.
 members_stay : {un up : Un} (fin : Un) → Stays un up → MembersKnown (seen fin un) → MembersKnown (seen fin up)
 members_stay {un = un} {up = up} fin g h = subst₂ (λ ls ws. MembersKnown (record { layouts = ls; whole = ws; globals = fin.globals; literals = fin.texts; functions = fin.functions; locals = [] })) (sym g.layouts) (sym g.whole) h
 
+words_stay : {un up : Un} → Stays un up → HaveWords un.layouts un.whole → HaveWords up.layouts up.whole
+words_stay g h = subst₂ HaveWords (sym g.layouts) (sym g.whole) h
+
 stays_proved : {fin un up : Un} → Stays un up → Proved fin un → ((s : Scene) → Ends s fin → Grows up.layouts up.whole s.layouts s.whole → Meant s un → Meant s up) → Proved fin up
 stays_proved {fin = fin} g p meant = record {
   meant = λ s e h. meant s e h (p.meant s e (grows_back g s.layouts s.whole h));
   members = members_stay fin g p.members;
+  words = words_stay g p.words;
   inits = λ s e h. subst (λ xs. FillGlobals s xs) (sym g.inits) (p.inits s e (grows_back g s.layouts s.whole h));
   functions = λ s e h. subst (λ fs. AreFunctions s fs) (sym g.functions) (p.functions s e (grows_back g s.layouts s.whole h));
 }
@@ -102,27 +112,35 @@ new_record_proved : {fin un : Un} (is_union : Bool) (n : Text) → Sane un → P
 new_record_proved {fin = fin} {un = un} is_union n h p = record {
   meant = λ s e later.
       let m = p.meant s e (grows_through g later) in
-      record { grows = later; names = meant_more s un.names n (TypeD (record_type is_union (length un.layouts))) m.names (record_known s is_union (length un.layouts) (omega (arith, later.few, length-append un.layouts (no_layout ∷ [])))); scopes = m.scopes };
-  members = λ k l e. by k l (last_or_before un.layouts no_layout k l e);
+      record { grows = later; names = meant_more s un.names n (TypeD (record_type is_union (length un.layouts))) m.names (record_known s is_union (length un.layouts) (omega (arith, later.few, length-append un.layouts (no_layout is_union ∷ [])))); scopes = m.scopes };
+  members = λ k l e. by k l (last_or_before un.layouts (no_layout is_union) k l e);
+  words = λ k l d e. words_by k l d (last_or_before un.layouts (no_layout is_union) k l e);
   inits = λ s e later. p.inits s e (grows_through g later);
   functions = λ s e later. p.functions s e (grows_through g later);
 }
   where
-    g : Grows un.layouts un.whole (un.layouts ++ no_layout ∷ []) (un.whole ++ false ∷ [])
-    g = record_grows un.layouts un.whole h.declared
+    g : Grows un.layouts un.whole (un.layouts ++ no_layout is_union ∷ []) (un.whole ++ false ∷ [])
+    g = record_grows is_union un.layouts un.whole h.declared
 
-    by : (k : ℕ) (l : LayoutT) → (slice_get un.layouts k ≡ Some l) ⊎ ((k ≡ length un.layouts) × (no_layout ≡ l)) → AllMembersKnown (seen fin (new_record is_union n un)) l.members
+    by : (k : ℕ) (l : LayoutT) → (slice_get un.layouts k ≡ Some l) ⊎ ((k ≡ length un.layouts) × (no_layout is_union ≡ l)) → AllMembersKnown (seen fin (new_record is_union n un)) l.members
     by k l (inl e) = all_members_stay (seen fin un) (seen fin (new_record is_union n un)) g l.members (p.members k l e)
     by k l (inr e) = subst (λ (m : LayoutT). AllMembersKnown (seen fin (new_record is_union n un)) m.members) e.1 tt
+
+    words_by : (k : ℕ) (l : LayoutT) → is_declared (un.whole ++ false ∷ []) k ≡ true → (slice_get un.layouts k ≡ Some l) ⊎ ((k ≡ length un.layouts) × (no_layout is_union ≡ l)) → 0 < l.size
+    words_by k l d (inl e) = p.words k l (declared_before un.whole k d) e
+    words_by k l d (inr e) =
+        let there : is_declared un.whole (length un.layouts) ≡ true = subst (λ j. is_declared un.whole j ≡ true) e.0 (declared_before un.whole k d) in
+        absurd (omega (arith, h.declared.equal, slice_get_within un.whole (length un.layouts) true (declared_there un.whole (length un.layouts) there)))
 
 record_proved : {fin un : Un} (is_union : Bool) (n : Text) → Sane un → Proved fin un → Proved fin (record_entered is_union n un)
 record_proved {fin = fin} {un = un} is_union n h p = by_record (λ up. Proved fin up) is_union n un p (new_record_proved is_union n h p)
 
 -- one that is declared whole
-layout_proved : {fin un : Un} (n : ℕ) (l : LayoutT) → Sane un → is_declared un.whole n ≡ false → Proved fin un → AllMembersKnown (seen fin un) l.members → Proved fin (with_layout n l un)
-layout_proved {fin = fin} {un = un} n l h new p known = record {
+layout_proved : {fin un : Un} (n : ℕ) (l : LayoutT) → Sane un → is_declared un.whole n ≡ false → Proved fin un → AllMembersKnown (seen fin un) l.members → 0 < l.size → Proved fin (with_layout n l un)
+layout_proved {fin = fin} {un = un} n l h new p known words = record {
   meant = λ s e later. let m = p.meant s e (grows_through g later) in record { grows = later; names = m.names; scopes = m.scopes };
   members = λ k m e. by k m (replaced_at un.layouts n l k m e);
+  words = λ k m d e. words_by k m d e (cases_eq k n);
   inits = λ s e later. p.inits s e (grows_through g later);
   functions = λ s e later. p.functions s e (grows_through g later);
 }
@@ -134,6 +152,14 @@ layout_proved {fin = fin} {un = un} n l h new p known = record {
     by k m (inl e) = subst (λ (x : LayoutT). AllMembersKnown (seen fin (with_layout n l un)) x.members) e.1 (all_members_stay (seen fin un) (seen fin (with_layout n l un)) g l.members known)
     by k m (inr e) = all_members_stay (seen fin un) (seen fin (with_layout n l un)) g m.members (p.members k m e)
 
+    words_by : (k : ℕ) (m : LayoutT) → is_declared (slice_set un.whole n true) k ≡ true → slice_get (slice_set un.layouts n l) k ≡ Some m → (k ≡ n) ⊎ (k ≡ n → ⊥) → 0 < m.size
+    words_by k m d e (inl s) =
+        let f = replaced_there un.layouts n l (omega (arith, s, length-set un.layouts n l, slice_get_within (slice_set un.layouts n l) k m e)) in
+        let at : slice_get (slice_set un.layouts n l) n ≡ Some m = subst (λ j. slice_get (slice_set un.layouts n l) j ≡ Some m) s e in
+        let same : l ≡ m = cc in
+        subst (λ (x : LayoutT). 0 < x.size) same words
+    words_by k m d e (inr s) = p.words k m (sym (ap (λ o. holds (λ (declared : Bool). declared) o) (others_stay un.whole n true k s)) ∙ d) (sym (others_stay un.layouts n l k s) ∙ e)
+
 -- ---- initialisers and functions of the unit
 
 fills_more : (s : Scene) (inits : List TStmtT) (xs : List TVarT) → FillGlobals s inits → AreFilled s true xs → FillGlobals s (inits ++ VarsZ xs ∷ [])
@@ -144,6 +170,7 @@ init_proved : {fin un : Un} (xs : List TVarT) → Proved fin un → ((s : Scene)
 init_proved {un = un} xs p filled = record {
   meant = λ s e g. let m = p.meant s e g in record { grows = m.grows; names = m.names; scopes = m.scopes };
   members = p.members;
+  words = p.words;
   inits = λ s e g. fills_more s un.inits xs (p.inits s e g) (filled s e g);
   functions = p.functions;
 }
@@ -156,6 +183,7 @@ functions_more s (g ∷ fs) f h k = (h.0, functions_more s fs f h.1 k)
 record InFunction (fin un : Un) : Type 0 where
   names : (s : Scene) → Ends s fin → Grows un.layouts un.whole s.layouts s.whole → AreMeant s un.names
   members : MembersKnown (seen fin un)
+  words : HaveWords un.layouts un.whole
   inits : (s : Scene) → Ends s fin → Grows un.layouts un.whole s.layouts s.whole → FillGlobals s un.inits
   functions : (s : Scene) → Ends s fin → Grows un.layouts un.whole s.layouts s.whole → AreFunctions s un.functions
 
@@ -163,6 +191,7 @@ in_function : {fin un up : Un} → Stays un up → Proved fin un → ((s : Scene
 in_function {fin = fin} g p names = record {
   names = names;
   members = members_stay fin g p.members;
+  words = words_stay g p.words;
   inits = λ s e h. subst (λ xs. FillGlobals s xs) (sym g.inits) (p.inits s e (grows_back g s.layouts s.whole h));
   functions = λ s e h. subst (λ fs. AreFunctions s fs) (sym g.functions) (p.functions s e (grows_back g s.layouts s.whole h));
 }
@@ -172,16 +201,18 @@ ended_proved : {fin un : Un} → InFunction fin un → Proved fin (ended un)
 ended_proved p = record {
   meant = λ s e g. record { grows = g; names = p.names s e g; scopes = tt };
   members = p.members;
+  words = p.words;
   inits = p.inits;
   functions = p.functions;
 }
 
-with_body_proved : {fin un : Un} (name : Text) (ps : List Ty) (t : Ty) (x : TStmtTs) → InFunction fin un → ((s : Scene) → Ends s fin → Grows un.layouts un.whole s.layouts s.whole → IsFunction s (record { name = name; params = ps; locals = un.sizes; gives = t; body = x })) → Proved fin (with_function name ps t (Some x) un)
+with_body_proved : {fin un : Un} (name : Text) (ps : List Ty) (t : Ty) (x : TStmtTs) → InFunction fin un → ((s : Scene) → Ends s fin → Grows un.layouts un.whole s.layouts s.whole → IsFunction s (record { name = name; params = ps; locals = un.sizes; made = made (state_in un); gives = t; body = x })) → Proved fin (with_function name ps t (Some x) un)
 with_body_proved {un = un} name ps t x p sound = record {
   meant = λ s e g. record { grows = g; names = p.names s e g; scopes = tt };
   members = p.members;
+  words = p.words;
   inits = p.inits;
-  functions = λ s e g. functions_more s un.functions (record { name = name; params = ps; locals = un.sizes; gives = t; body = x }) (p.functions s e g) (sound s e g);
+  functions = λ s e g. functions_more s un.functions (record { name = name; params = ps; locals = un.sizes; made = made (state_in un); gives = t; body = x }) (p.functions s e g) (sound s e g);
 }
 
 body_names : {un : Un} {t : Ty} {o : Option StmtTs} {x : Option TStmtTs} {ur : Un} → MaybeBody un t o x ur → ur.names ≡ un.names
@@ -221,7 +252,10 @@ item_proved {fin = fin} numbers h p (item.record_members {un = un} {up = up} {is
     let up_proved : Proved fin up = stays_proved (kept_stay g) q (λ s e k m. (members_known e g0 after m tt).meant) in
     let before = seen fin entered in
     let known = members_known (seen_ends fin entered numbers q.members) g0 after (q.meant before (seen_ends fin entered numbers q.members) (grows_itself entered.layouts entered.whole)) tt in
-    layout_proved n l (kept_sane g sane) whole.new up_proved (all_members_stay before (seen fin up) (kept_later g).grows l.members known.known)
+    let members_now = all_members_stay before (seen fin up) (kept_later g).grows l.members known.known in
+    let so_far = members_so_far g0 (no_members_yet entered.layouts entered.whole is_union) in
+    let placed = subst₂ (λ ls ws. AreMembers ls ws l) (sym g.layouts) (sym g.whole) so_far in
+    layout_proved n l (kept_sane g sane) whole.new up_proved members_now (placed_has_words (seen fin up) l up_proved.words placed.places whole.members members_now placed.members)
 item_proved numbers h p (item.enumeration {un = un} {name = name} g0 g1) later = stays_proved (kept_stay (keeps_through (enum_keeps name un) (enumerators_keep g0))) p (λ s e g m. enumeration_meant name g0 m)
 item_proved numbers h p (item.type_name {up = up} {name = name} {t = t} g0 g1) later =
     let after = named_keeps name (TypeD t) up in
@@ -250,45 +284,95 @@ all_sized : (layouts : List LayoutT) (whole : List Bool) (s : Scene) → s.layou
 all_sized layouts whole s e f [] h k = tt
 all_sized layouts whole s e f (m ∷ ms) h k = (record { known = subst₂ (λ ls ws. IsKnown ls ws m.ty) e f h.0; sized = k.0 }, all_sized layouts whole s e f ms h.1 k.1)
 
-laid_out : (fin : Un) (l : LayoutT) → AreLaid fin.layouts fin.whole l → AllMembersKnown (seen fin fin) l.members → IsLaidOut fin.layouts fin.whole l
-laid_out fin l a h = record { places = a.places; members = all_sized fin.layouts fin.whole (seen fin fin) refl refl l.members h a.members; size = a.size }
+laid_out : (fin : Un) (l : LayoutT) → AreLaid fin.layouts fin.whole l → AllMembersKnown (seen fin fin) l.members → 0 < l.size → IsLaidOut fin.layouts fin.whole l
+laid_out fin l a h words = record { places = a.places; members = all_sized fin.layouts fin.whole (seen fin fin) refl refl l.members h a.members; words = words; size = a.size }
+
+-- one that has members, or none
+is_one : (layouts : List LayoutT) (whole : List Bool) (l : LayoutT) (w : Bool) → (w ≡ true → IsLaidOut layouts whole l × (has_members l ≡ true)) → (w ≡ false → l ≡ no_layout l.is_union) → IsDeclaredAs layouts whole l (has_members l) × (w ≡ has_members l)
+is_one layouts whole l true laid empty = let h = laid refl in (subst (IsDeclaredAs layouts whole l) (sym h.1) h.0, sym h.1)
+is_one layouts whole l false laid empty =
+    let h = empty refl in
+    let none : has_members l ≡ false = ap (λ (x : LayoutT). has_members x) h in
+    (subst (IsDeclaredAs layouts whole l) (sym none) (ap (λ (x : LayoutT). x.size) h), sym none)
 
 declared_as : (layouts : List LayoutT) (whole : List Bool) (ls : List LayoutT) (ws : List Bool) → length ws ≡ length ls
-    → ((k : ℕ) (l : LayoutT) → is_declared ws k ≡ true → slice_get ls k ≡ Some l → IsLaidOut layouts whole l)
-    → ((k : ℕ) (l : LayoutT) → is_declared ws k ≡ false → slice_get ls k ≡ Some l → l ≡ no_layout) → AreDeclaredAs layouts whole ls ws
-declared_as layouts whole [] [] e laid empty = tt
+    → ((k : ℕ) (l : LayoutT) → is_declared ws k ≡ true → slice_get ls k ≡ Some l → IsLaidOut layouts whole l × (has_members l ≡ true))
+    → ((k : ℕ) (l : LayoutT) → is_declared ws k ≡ false → slice_get ls k ≡ Some l → l ≡ no_layout l.is_union) → AreDeclaredAs layouts whole ls × (ws ≡ wholes ls)
+declared_as layouts whole [] [] e laid empty = (tt, refl)
 declared_as layouts whole [] (w ∷ ws) e laid empty = absurd (omega (arith, e))
 declared_as layouts whole (l ∷ ls) [] e laid empty = absurd (omega (arith, e))
-declared_as layouts whole (l ∷ ls) (true ∷ ws) e laid empty = (laid 0 l refl refl, declared_as layouts whole ls ws (omega (arith, e)) (λ k m. laid (suc k) m) (λ k m. empty (suc k) m))
-declared_as layouts whole (l ∷ ls) (false ∷ ws) e laid empty = (empty 0 l refl refl, declared_as layouts whole ls ws (omega (arith, e)) (λ k m. laid (suc k) m) (λ k m. empty (suc k) m))
+declared_as layouts whole (l ∷ ls) (w ∷ ws) e laid empty =
+    let one = is_one layouts whole l w (λ d. laid 0 l d refl) (λ d. empty 0 l d refl) in
+    let rest = declared_as layouts whole ls ws (omega (arith, e)) (λ k m. laid (suc k) m) (λ k m. empty (suc k) m) in
+    ((one.0, rest.0), ap₂ (λ x xs. x ∷ xs) one.1 rest.1)
+
+-- ---- names
+
+one_global : (i j : ℕ) (t u : Ty) → Some (GlobalD i t) ≡ Some (GlobalD j u) → i ≡ j
+one_global i j t u e = cc
+
+one_number : (i j : ℕ) → Some i ≡ Some j → i ≡ j
+one_number i j e = cc
+
+mapped_at : {A : Type 0} (f : A → Text) (xs : List A) (k : ℕ) (n : Text) → slice_get (map f xs) k ≡ Some n → (x : A) × (slice_get xs k ≡ Some x) × (f x ≡ n)
+mapped_at f [] k n e = absurd cc
+mapped_at f (x ∷ xs) zero n e = (x, refl, cc)
+mapped_at f (x ∷ xs) (suc k) n e = mapped_at f xs k n e
+
+globals_apart : (globals : List (Text × ℕ)) (names : List (Text × Decl)) → AreNamed names globals → AreApart (map (λ g. g.0) globals)
+globals_apart globals names h i j n e f =
+    let a = mapped_at (λ (g : Text × ℕ). g.0) globals i n e in
+    let b = mapped_at (λ (g : Text × ℕ). g.0) globals j n f in
+    let x = h i a.0 a.1 in
+    let y = h j b.0 b.1 in
+    let p : find n names ≡ Some (GlobalD i x.0) = subst (λ m. find m names ≡ Some (GlobalD i x.0)) a.2 x.1 in
+    let q : find n names ≡ Some (GlobalD j y.0) = subst (λ m. find m names ≡ Some (GlobalD j y.0)) b.2 y.1 in
+    one_global i j x.0 y.0 (sym p ∙ q)
+
+functions_apart : (functions : List TFunctionT) (names : List (Text × Decl)) (bodies : List (Text × ℕ)) → AreOwn names bodies functions → AreApart (map (λ f. f.name) functions)
+functions_apart functions names bodies h i j n e f =
+    let a = mapped_at (λ (g : TFunctionT). g.name) functions i n e in
+    let b = mapped_at (λ (g : TFunctionT). g.name) functions j n f in
+    let p : find n bodies ≡ Some i = subst (λ m. find m bodies ≡ Some i) a.2 (h i a.0 a.1).0 in
+    let q : find n bodies ≡ Some j = subst (λ m. find m bodies ≡ Some j) b.2 (h j b.0 b.1).0 in
+    one_number i j (sym p ∙ q)
 
 -- the function `main`
-main_there : (fs : List TFunctionT) (o : Option ℕ) (k : ℕ) → plain_number fs o ≡ Some k → (f : TFunctionT) × (slice_get fs k ≡ Some f) × (is_plain f ≡ true)
+main_there : (fs : List TFunctionT) (o : Option ℕ) (k : ℕ) → plain_number fs o ≡ Some k → holds is_plain (slice_get fs k) ≡ true
 main_there fs None k e = absurd cc
 main_there fs (Some j) k e = by (holds is_plain (slice_get fs j)) refl e
   where
-    plain_there : (o : Option TFunctionT) → holds is_plain o ≡ true → (f : TFunctionT) × (o ≡ Some f) × (is_plain f ≡ true)
-    plain_there None h = absurd cc
-    plain_there (Some f) h = (f, refl, h)
-
-    by : (b : Bool) → holds is_plain (slice_get fs j) ≡ b → (if b then Some j else None) ≡ Some k → (f : TFunctionT) × (slice_get fs k ≡ Some f) × (is_plain f ≡ true)
-    by true h e = let same : j ≡ k = cc in subst (λ i. (f : TFunctionT) × (slice_get fs i ≡ Some f) × (is_plain f ≡ true)) same (plain_there (slice_get fs j) h)
+    by : (b : Bool) → holds is_plain (slice_get fs j) ≡ b → (if b then Some j else None) ≡ Some k → holds is_plain (slice_get fs k) ≡ true
+    by true h e = let same : j ≡ k = cc in subst (λ i. holds is_plain (slice_get fs i) ≡ true) same h
     by false h e = absurd cc
 
+-- a scene of the whole program, under the structures and unions that are declared whole
+abbrev scene_with : Un → List Bool → Scene
+scene_with fin whole = record { layouts = fin.layouts; whole = whole; globals = fin.globals; literals = fin.texts; functions = fin.functions; locals = [] }
+
+record Parts (fin : Un) (whole : List Bool) : Type 0 where
+  layouts : AreDeclaredAs fin.layouts whole fin.layouts
+  inits : FillGlobals (scene_with fin whole) fin.inits
+  functions : AreFunctions (scene_with fin whole) fin.functions
+
 unit_sound : (all : List ItemT) (fin : Un) (k : ℕ) → Items (opening (bodies_of all)) all tt fin → main_of fin ≡ Some k → IsSound (program_of fin k)
-unit_sound all fin k g m =
-    let numbers = unit_numbers all fin g in
-    let sane = (items_follow (opening_sane (bodies_of all)) g).sane in
-    let p = items_proved numbers (opening_sane (bodies_of all)) (opening_proved fin (bodies_of all)) g (later_itself fin) in
+unit_sound units fin k g m =
+    let numbers = unit_numbers units fin g in
+    let sane = (items_follow (opening_sane (bodies_of units)) g).sane in
+    let p = items_proved numbers (opening_sane (bodies_of units)) (opening_proved fin (bodies_of units)) g (later_itself fin) in
     let e = seen_ends fin fin numbers p.members in
     let same = grows_itself fin.layouts fin.whole in
+    let declared = declared_as fin.layouts fin.whole fin.layouts fin.whole sane.declared.equal (λ j l d f. let a = sane.declared.laid j l d f in (laid_out fin l a (p.members j l f) (p.words j l d f), a.some)) sane.declared.empty in
+    let parts : Parts fin fin.whole = record { layouts = declared.0; inits = p.inits (seen fin fin) e same; functions = p.functions (seen fin fin) e same } in
+    let all : Parts fin (wholes fin.layouts) = subst (Parts fin) declared.1 parts in
     record {
-      whole = fin.whole;
-      layouts = declared_as fin.layouts fin.whole fin.layouts fin.whole sane.declared.equal (λ j l d f. laid_out fin l (sane.declared.laid j l d f) (p.members j l f)) sane.declared.empty;
+      layouts = all.layouts;
       globals = sane.globals;
       literals = sane.texts.words;
-      inits = p.inits (seen fin fin) e same;
-      functions = p.functions (seen fin fin) e same;
+      inits = all.inits;
+      functions = all.functions;
+      global_names = globals_apart fin.globals fin.names sane.named;
+      function_names = functions_apart fin.functions fin.names fin.bodies sane.functions;
       main = main_there fin.functions (find (codes "main") fin.bodies) k m;
     }
 

@@ -36,7 +36,7 @@ known_stays g (EnumY number) h = tt
 known_stays g (StructY number) h = omega (arith, h, g.few)
 known_stays g (UnionY number) h = omega (arith, h, g.few)
 known_stays g (PointerY to) h = known_stays g to h
-known_stays g (ArrayY of count) h = (known_stays g of h.0, whole_later g of h.1, subst (λ n. n ≤ type_limit) (words_later g (ArrayY of count) h.1) h.2)
+known_stays g (ArrayY of count) h = (known_stays g of h.0, whole_later g of h.1, h.2, subst (λ n. n ≤ type_limit) (words_later g (ArrayY of count) h.1) h.3)
 
 -- ---- rules
 

@@ -14,7 +14,7 @@ Begins xs all = (more : List _) × (all ≡ xs ++ more)
 
 -- Structures and unions may still be declared whole; one that is whole stays as it is, and one that is not has no members.
 pub record Grows (layouts : List LayoutT) (whole : List Bool) (later : List LayoutT) (all : List Bool) : Type 0 where
-  pub kept : (k : ℕ) (l : LayoutT) → slice_get layouts k ≡ Some l → (l ≡ no_layout) ⊎ (slice_get later k ≡ Some l)
+  pub kept : (k : ℕ) (l : LayoutT) → slice_get layouts k ≡ Some l → (l ≡ no_layout l.is_union) ⊎ (slice_get later k ≡ Some l)
   pub fixed : (k : ℕ) → is_declared whole k ≡ true → (is_declared all k ≡ true) × (slice_get layouts k ≡ slice_get later k)
   pub few : length layouts ≤ length later
 

@@ -1,1 +1,5 @@
+pub mod Made
 pub mod Sound
+pub mod Known
+pub mod Start
+pub mod Bodies

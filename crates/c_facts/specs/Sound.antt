@@ -1,22 +1,24 @@
 -- What every checked program is: its numbers are in range, its trees are typed by the rules, its limits are kept.
-use Rattle.std.specs.Prelude.{◌≡◌, ℕ, ◌+◌, ◌<◌, ◌≤◌, Bool, true, false, ◌||◌, not, List, [], ◌∷◌, length, sum, sum_by, slice_get, Option, Some, None, Ok}
-use Rattle.v32_isa.specs.Ports.{PortEntry, port_named}
+use Rattle.std.specs.Prelude.{◌≡◌, ℕ, ◌+◌, ◌==◌, ◌<◌, ◌≤◌, Bool, true, false, ◌&&◌, ◌||◌, not, List, [], ◌∷◌, length, map, sum, sum_by, nat_le, slice_get, Option, Some, None, option_map, Ok}
+use Rattle.std.specs.List.{list_any}
+use Rattle.v32_isa.specs.Ports.{is_readable, is_writable}
 use Rattle.c_types.specs.Types.{Ty, VoidY, IntY, BoolY, EnumY, StructY, UnionY, PointerY, ArrayY, MemberT, LayoutT}
 use Rattle.c_types.specs.Typed.{TExprT, Typed, TKindT, NumberK, NullK, LiteralK, GlobalK, LocalK, UnaryK, BinaryK, AssignK, StepK, IndexK, MemberK, ArrowK, CastK, CallK, InK, OutK, WaitK, HaltK, CardK, TExprTs, NoX, MoreX, TInitT, OneI, TextI, ListI, TInitTs, NoI, MoreI, TVarT, TStmtT, BlockZ, EmptyZ, VarsZ, DoZ, IfZ, WhileZ, DoWhileZ, ForZ, SwitchZ, ReturnZ, BreakZ, ContinueZ, MaybeZ, NoneZ, SomeZ, TStmtTs, NoZ, MoreZ, TArmT, CaseB, DefaultB, StmtB, TArmTs, NoB, MoreB}
-use Rattle.c_types.specs.Sizes.{words_of, no_layout, IsPlaced}
-use Rattle.c_rules.specs.Kinds.{is_int, is_array, is_number, decayed, pointed, converts}
+use Rattle.c_types.specs.Sizes.{words_of, IsPlaced}
+use Rattle.c_rules.specs.Kinds.{is_int, is_array, is_number, is_structure, decayed, pointed, holds, same_type, converts}
 use Rattle.c_rules.specs.Rules.{judged}
 use Rattle.c_rules.specs.Sizes.{is_whole, type_limit}
 use Rattle.c_rules.specs.Nodes.{needs_place, unary_rule, binary_rule, assign_rule, compound_rule, step_rule, index_rule, cast_rule}
 use Rattle.c_exprs.specs.Env.{Text}
 use Rattle.c_exprs.specs.Faults.{text_words, text_limit}
-use Rattle.c_exprs.specs.Nodes.{type_of_typed, is_place, value_rule, layout_of, layout_behind, member_in}
+use Rattle.c_exprs.specs.Nodes.{type_of_typed, is_place, value_rule, layout_of, layout_behind}
 use Rattle.c_exprs.specs.Calls.{listed, all_convert}
-use Rattle.c_stmts.specs.Slots.{Slots, NoSlots, slots_of, next_slot, later_slots, fills}
+use Rattle.c_stmts.specs.Slots.{Slots, NoSlots, slots_of, next_slot, later_slots, is_fixed}
 use Rattle.c_stmts.specs.State.{locals_limit, is_condition_of, Labels, no_labels, is_case, with_label}
-use Rattle.c_check.specs.Reading.{parameter_rule, result_rule, globals_limit}
+use Rattle.c_check.specs.Reading.{has_members, parameter_rule, result_rule, globals_limit}
 use Rattle.c_types.specs.Programs.{TFunctionT, ProgramT}
 use Rattle.c_check.specs.Whole.{is_plain}
+use Rattle.c_facts.specs.Made.{IsMadeOnce}
 
 -- What the trees of a function, or those that fill the globals, name. `whole` tells by their numbers which structures and unions are
 -- declared whole; `locals` are the sizes of the objects of a call.
@@ -30,7 +32,7 @@ pub record Scene : Type 0 where
 
 -- ---- types
 
--- The structures and unions that a type names are there; an array has a size that is known, and is no larger than a type may be.
+-- The structures and unions that a type names are there; an array has elements, whose size is known, and is no larger than a type may be.
 abbrev pub IsKnown : List LayoutT → List Bool → Ty → Type 0
 IsKnown layouts whole VoidY = Unit {0}
 IsKnown layouts whole IntY = Unit {0}
@@ -39,7 +41,7 @@ IsKnown layouts whole (EnumY number) = Unit {0}
 IsKnown layouts whole (StructY number) = number < length layouts
 IsKnown layouts whole (UnionY number) = number < length layouts
 IsKnown layouts whole (PointerY to) = IsKnown layouts whole to
-IsKnown layouts whole (ArrayY of count) = IsKnown layouts whole of × (is_whole whole of ≡ true) × (words_of layouts (ArrayY of count) ≤ type_limit)
+IsKnown layouts whole (ArrayY of count) = IsKnown layouts whole of × (is_whole whole of ≡ true) × (0 < count) × (words_of layouts (ArrayY of count) ≤ type_limit)
 
 -- what an object, a member or a parameter may be: a type that has words, of which the size is known
 pub record IsSized (layouts : List LayoutT) (whole : List Bool) (ty : Ty) : Type 0 where
@@ -56,30 +58,37 @@ abbrev pub IsUsed : Scene → Bool → Ty → Type 0
 IsUsed s true ty = Unit {0}
 IsUsed s false ty = IsValue s ty
 
--- a member that some name finds: its offset and its type
-abbrev pub HasMember : Option LayoutT → ℕ → Ty → Type 0
-HasMember l offset ty = (n : Text) × (m : MemberT) × (member_in n l ≡ Ok m) × (m.offset ≡ offset) × (m.ty ≡ ty)
+-- a member of this type that begins at this word
+abbrev pub is_member : ℕ → Ty → MemberT → Bool
+is_member offset ty m = (m.offset == offset) && same_type m.ty ty
+
+abbrev pub has_member : Option LayoutT → ℕ → Ty → Bool
+has_member l offset ty = holds (λ k. list_any (is_member offset ty) k.members) l
 
 -- A text is an array of its words, the last one 0.
+abbrev pub text_type : Text → Ty
+text_type t = ArrayY IntY (length t + 1)
+
 abbrev pub IsLiteral : Scene → ℕ → Ty → Type 0
-IsLiteral s number ty = (t : Text) × (slice_get s.literals number ≡ Some t) × (ty ≡ ArrayY IntY (length t + 1))
+IsLiteral s number ty = option_map text_type (slice_get s.literals number) ≡ Some ty
 
 -- An object has as many words as its type.
 abbrev pub IsGlobal : Scene → ℕ → Ty → Type 0
-IsGlobal s number ty = (g : Text × ℕ) × (slice_get s.globals number ≡ Some g) × (g.1 ≡ words_of s.layouts ty)
+IsGlobal s number ty = option_map (λ (g : Text × ℕ). g.1) (slice_get s.globals number) ≡ Some (words_of s.layouts ty)
 
 abbrev pub IsLocal : Scene → ℕ → Ty → Type 0
 IsLocal s number ty = slice_get s.locals number ≡ Some (words_of s.layouts ty)
-
--- a port of the table, in a direction that it has
-abbrev pub IsPort : (PortEntry → Bool) → ℕ → Type 0
-IsPort allows number = (n : Text) × (p : PortEntry) × (port_named n ≡ Some p) × (allows p ≡ true) × (p.number ≡ number)
 
 -- The arguments of a call of that function become its parameters, one by one.
 pub record IsCall (f : TFunctionT) (xs : TExprTs) (ty : Ty) : Type 0 where
   pub convert : all_convert (listed xs) f.params ≡ true
   pub count : length (listed xs) ≡ length f.params
   pub gives : f.gives ≡ ty
+
+-- and the function is there
+abbrev pub Calls : Option TFunctionT → TExprTs → Ty → Type 0
+Calls None xs ty = ⊥
+Calls (Some f) xs ty = IsCall f xs ty
 
 -- An expression of this kind has this type: its parts are so, and the rule of the node gives the type.
 abbrev mutual
@@ -98,12 +107,12 @@ abbrev mutual
   IsKind s (AssignK (Some op) x y) ty = IsTyped s x × IsTyped s y × IsValue s (type_of_typed y) × (judged (compound_rule s.whole op (type_of_typed x) (is_place x) (type_of_typed y)) ≡ Ok ty)
   IsKind s (StepK op x) ty = IsTyped s x × (judged (step_rule s.whole op (type_of_typed x) (is_place x)) ≡ Ok ty)
   IsKind s (IndexK x y) ty = IsTyped s x × IsValue s (type_of_typed x) × IsTyped s y × IsValue s (type_of_typed y) × (judged (index_rule s.whole (type_of_typed x) (type_of_typed y)) ≡ Ok ty)
-  IsKind s (MemberK x offset) ty = IsTyped s x × HasMember (layout_of s.layouts (type_of_typed x)) offset ty × ((is_place x || not (is_array ty)) ≡ true)
-  IsKind s (ArrowK x offset) ty = IsTyped s x × IsValue s (type_of_typed x) × HasMember (layout_behind s.layouts (pointed (decayed (type_of_typed x)))) offset ty
+  IsKind s (MemberK x offset) ty = IsTyped s x × (has_member (layout_of s.layouts (type_of_typed x)) offset ty ≡ true) × ((is_place x || not (is_array ty)) ≡ true)
+  IsKind s (ArrowK x offset) ty = IsTyped s x × IsValue s (type_of_typed x) × (has_member (layout_behind s.layouts (pointed (decayed (type_of_typed x)))) offset ty ≡ true)
   IsKind s (CastK x) ty = IsTyped s x × IsValue s (type_of_typed x) × (judged (cast_rule (type_of_typed x) ty) ≡ Ok ty)
-  IsKind s (CallK number xs) ty = (f : TFunctionT) × (slice_get s.functions number ≡ Some f) × AreValues s xs × IsCall f xs ty
-  IsKind s (InK number) ty = IsPort (λ p. p.readable) number × (ty ≡ IntY)
-  IsKind s (OutK number x) ty = IsPort (λ p. p.writable) number × IsTyped s x × IsValue s (type_of_typed x) × (is_number (type_of_typed x) ≡ true) × (ty ≡ VoidY)
+  IsKind s (CallK number xs) ty = AreValues s xs × Calls (slice_get s.functions number) xs ty
+  IsKind s (InK number) ty = (is_readable number ≡ true) × (ty ≡ IntY)
+  IsKind s (OutK number x) ty = (is_writable number ≡ true) × IsTyped s x × IsValue s (type_of_typed x) × (is_number (type_of_typed x) ≡ true) × (ty ≡ VoidY)
   IsKind s WaitK ty = ty ≡ VoidY
   IsKind s HaltK ty = ty ≡ VoidY
   IsKind s CardK ty = ty ≡ PointerY IntY
@@ -119,10 +128,14 @@ pub record IsTypedValue (s : Scene) (x : TExprT) : Type 0 where
 
 -- ---- initialisers
 
+-- A value fills a type that it becomes, which is no array. A global is filled with what is fixed, and not with a structure as a whole.
+abbrev pub takes_value : Bool → Ty → TExprT → Bool
+takes_value global ty x = not (is_array ty) && converts (type_of_typed x) ty && (not global || (not (is_structure ty) && is_fixed x))
+
 -- An array of int is filled with a text that has room with its 0.
-abbrev pub TakesText : Ty → ℕ → Type 0
-TakesText (ArrayY of count) words = (is_int of ≡ true) × (words ≤ count)
-TakesText _ words = ⊥
+abbrev pub takes_text : Ty → Option Text → Bool
+takes_text (ArrayY of count) t = is_int of && holds (λ words. nat_le (length words + 1) count) t
+takes_text _ t = false
 
 abbrev pub HasPlaces : Slots → Type 0
 HasPlaces NoSlots = ⊥
@@ -132,8 +145,8 @@ HasPlaces _ = Unit {0}
 abbrev mutual
   pub FillsAs : Scene → Bool → TInitT → Option Ty → Type 0
   FillsAs s global i None = ⊥
-  FillsAs s global (OneI x) (Some ty) = IsTypedValue s x × (fills global ty x ≡ Ok (OneI x))
-  FillsAs s global (TextI number) (Some ty) = (t : Text) × (slice_get s.literals number ≡ Some t) × TakesText ty (length t + 1)
+  FillsAs s global (OneI x) (Some ty) = IsTypedValue s x × (takes_value global ty x ≡ true)
+  FillsAs s global (TextI number) (Some ty) = takes_text ty (slice_get s.literals number) ≡ true
   FillsAs s global (ListI items) (Some ty) = HasPlaces (slots_of s.layouts ty) × FillEach s global items (slots_of s.layouts ty)
 
   pub FillEach : Scene → Bool → TInitTs → Slots → Type 0
@@ -222,21 +235,21 @@ abbrev pub AreSized : List LayoutT → List Bool → List MemberT → Type 0
 AreSized layouts whole [] = Unit {0}
 AreSized layouts whole (m ∷ ms) = IsSized layouts whole m.ty × AreSized layouts whole ms
 
--- A structure or union that is declared whole is laid out, and no larger than a type may be.
+-- A structure or union that is declared whole is laid out, has words, and no more than a type may have.
 pub record IsLaidOut (layouts : List LayoutT) (whole : List Bool) (l : LayoutT) : Type 0 where
   pub places : IsPlaced layouts l
   pub members : AreSized layouts whole l.members
+  pub words : 0 < l.size
   pub size : l.size ≤ type_limit
 
--- one that is not has no members
+-- One that has members is declared whole; one that has none has no words.
 abbrev pub IsDeclaredAs : List LayoutT → List Bool → LayoutT → Bool → Type 0
 IsDeclaredAs layouts whole l true = IsLaidOut layouts whole l
-IsDeclaredAs layouts whole l false = l ≡ no_layout l.is_union
+IsDeclaredAs layouts whole l false = l.size ≡ 0
 
-abbrev pub AreDeclaredAs : List LayoutT → List Bool → List LayoutT → List Bool → Type 0
-AreDeclaredAs layouts whole [] [] = Unit {0}
-AreDeclaredAs layouts whole (l ∷ ls) (w ∷ ws) = IsDeclaredAs layouts whole l w × AreDeclaredAs layouts whole ls ws
-AreDeclaredAs layouts whole _ _ = ⊥
+abbrev pub AreDeclaredAs : List LayoutT → List Bool → List LayoutT → Type 0
+AreDeclaredAs layouts whole [] = Unit {0}
+AreDeclaredAs layouts whole (l ∷ ls) = IsDeclaredAs layouts whole l (has_members l) × AreDeclaredAs layouts whole ls
 
 -- The objects of a call: its parameters first, each with the words of its rule, then its variables with at most so many words.
 abbrev pub AreCallObjects : List LayoutT → List Bool → List Ty → List ℕ → Type 0
@@ -251,6 +264,7 @@ pub record IsFunction (s : Scene) (f : TFunctionT) : Type 0 where
   pub known : IsKnown s.layouts s.whole f.gives
   pub result : judged (result_rule s.layouts s.whole f.gives) ≡ Ok tt
   pub objects : AreCallObjects s.layouts s.whole f.params f.locals
+  pub made : IsMadeOnce f
   pub body : AreStatements (in_call s f.locals) f.body f.gives false false
 
 abbrev pub AreFunctions : Scene → List TFunctionT → Type 0
@@ -266,16 +280,24 @@ abbrev pub FillGlobals : Scene → List TStmtT → Type 0
 FillGlobals s [] = Unit {0}
 FillGlobals s (x ∷ xs) = FillsGlobals s x × FillGlobals s xs
 
--- what the trees of a program name outside functions
-abbrev pub scene : List Bool → ProgramT → Scene
-scene whole p = record { layouts = p.layouts; whole = whole; globals = p.globals; literals = p.literals; functions = p.functions; locals = [] }
+-- which structures and unions are declared whole, by their numbers
+abbrev pub wholes : List LayoutT → List Bool
+wholes layouts = map has_members layouts
 
--- A program, with the structures and unions that are declared whole.
+-- what the trees of a program name outside functions
+abbrev pub scene : ProgramT → Scene
+scene p = record { layouts = p.layouts; whole = wholes p.layouts; globals = p.globals; literals = p.literals; functions = p.functions; locals = [] }
+
+-- no two names are equal
+abbrev pub AreApart : List Text → Type 0
+AreApart names = (i j : ℕ) (n : Text) → slice_get names i ≡ Some n → slice_get names j ≡ Some n → i ≡ j
+
 pub record IsSound (p : ProgramT) : Type 0 where
-  pub whole : List Bool
-  pub layouts : AreDeclaredAs p.layouts whole p.layouts whole
+  pub layouts : AreDeclaredAs p.layouts (wholes p.layouts) p.layouts
   pub globals : sum_by (λ g. g.1) p.globals ≤ globals_limit
   pub literals : text_words p.literals ≤ text_limit
-  pub inits : FillGlobals (scene whole p) p.inits
-  pub functions : AreFunctions (scene whole p) p.functions
-  pub main : (f : TFunctionT) × (slice_get p.functions p.main ≡ Some f) × (is_plain f ≡ true)
+  pub inits : FillGlobals (scene p) p.inits
+  pub functions : AreFunctions (scene p) p.functions
+  pub global_names : AreApart (map (λ g. g.0) p.globals)
+  pub function_names : AreApart (map (λ f. f.name) p.functions)
+  pub main : holds is_plain (slice_get p.functions p.main) ≡ true

@@ -4,30 +4,44 @@ ghost use Rattle.c_rules.specs.Rules.{number_of};
 ghost use Rattle.c_rules.specs.declared.code.RuleErr.TheVariants as errors;
 
 use kit_base::Memory;
+use thiserror::Error;
 
 /// The rules that a checked unit keeps, by the numbers that a report gives: an unknown name; a name declared twice; operands that
 /// no rule types; what has to be a place is none; a call with a wrong count of arguments or without a body; a port that is no such
 /// port; no `main`; a size that is asked for is not known; what has to be a constant is none; a `break` or `continue` without its
 /// loop; a limit is passed.
-#[derive(Clone, Copy, Debug, PartialEq, Eq)]
+#[derive(Clone, Copy, Debug, PartialEq, Eq, Error)]
 pub enum Code {
+    #[error("unknown name")]
     UnknownName,
+    #[error("declared twice")]
     Twice,
+    #[error("wrong type")]
     WrongType,
+    #[error("not a place")]
     NotAPlace,
+    #[error("bad call")]
     BadCall,
+    #[error("bad port")]
     BadPort,
+    #[error("no main")]
     NoMain,
+    #[error("unknown size")]
     InfiniteType,
+    #[error("not a constant")]
     NotConstant,
+    #[error("outside a loop")]
     BreakOutside,
+    #[error("too large")]
     TooLarge,
 }
 
 /// Why a node has no type: the lowest code that is broken there, or want of memory.
-#[derive(Clone, Copy, Debug, PartialEq, Eq)]
+#[derive(Clone, Copy, Debug, PartialEq, Eq, Error)]
 pub enum RuleErr {
+    #[error("{0}")]
     Broken(Code),
+    #[error("out of memory")]
     Memory,
 }
 

@@ -1,5 +1,5 @@
 -- From what a function gives to the clauses that callers read.
-use Rattle.std.proofs.Common.{◌≡◌, Bool, List, Option, Result, Ok, Err, IfOk, subst}
+use Rattle.std.proofs.Common.{◌≡◌, Bool, List, Option, Result, Ok, Err, IfOk, OnOk, sym, subst}
 use Rattle.c_tree.specs.declared.span.Span.{Span}
 use Rattle.c_tree.specs.Tree.{InitT, StmtTs}
 use Rattle.c_types.specs.Types.{Ty}
@@ -8,7 +8,7 @@ use Rattle.c_rules.specs.declared.code.Code.{Code}
 use Rattle.c_exprs.specs.declared.error.CheckErr.{CheckErr}
 use Rattle.c_exprs.specs.declared.error.CheckErr.TheVariants.{At}
 use Rattle.c_exprs.specs.Env.{Text, Ctx}
-use Rattle.c_exprs.specs.Faults.{at}
+use Rattle.c_exprs.specs.Faults.{FaultT, at}
 use Rattle.c_exprs.specs.Gives.{Gives}
 use Rattle.c_stmts.specs.State.{Fn, St}
 use Rattle.c_stmts.specs.InitTyping.{filled_by}
@@ -33,3 +33,8 @@ statements_type seen f sp breaks continues all (Err e) g = tt
 
 pub statements_break : {X : Type 0} (seen : X → TStmtTs × St) (f : Fn) (sp : St) (breaks continues : Bool) (all : StmtTs) (r : Result X CheckErr) (k : Code) (s : Span) → Gives seen r (statements f sp breaks continues all) → r ≡ Err (At k s) → NotStatements f sp breaks continues all (at s k)
 statements_break {X = X} seen f sp breaks continues all r k s g is = let P : Result X CheckErr → Type 0 = λ r. Gives seen r (statements f sp breaks continues all) in subst (StatementsOut f sp breaks continues all) (subst P is g) (statements_outcome f sp breaks continues all)
+
+-- what stands behind an answer is told of the state that is kept
+pub kept : {X Y Z : Type 0} (seen : X → Y) (due : Result (Y × Z) FaultT) (p r : Result X CheckErr) (us vs : Z) → Gives (λ x. (seen x, us)) p due → r ≡ p → OnOk r (vs ≡ us) → Gives (λ x. (seen x, vs)) r due
+kept seen due p (Ok x) us vs g same is = subst (λ z. due ≡ Ok (seen x, z)) (sym is) (subst (λ q. Gives (λ x. (seen x, us)) q due) (sym same) g)
+kept seen due p (Err e) us vs g same is = subst (λ q. Gives (λ x. (seen x, us)) q due) (sym same) g

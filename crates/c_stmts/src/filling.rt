@@ -1,5 +1,5 @@
 // The typing of initialisers.
-ghost use Rattle.std.specs.Prelude.{◌≡◌, ℕ, List, map, option_map, length, IfOk, Err};
+ghost use Rattle.std.specs.Prelude.{◌≡◌, ℕ, [], List, map, option_map, length, IfOk, OnErr, Err};
 ghost use Rattle.std.specs.Option.{option_map_or};
 ghost use Rattle.c_tree.specs.declared.span.Span.{Span};
 ghost use Rattle.c_tree.specs.View.{init, inits};
@@ -19,7 +19,7 @@ ghost use Rattle.c_stmts.specs.InitTypes.{Fills};
 ghost use Rattle.c_stmts.specs.InitBreaks.{NoFill};
 
 use crate::slots::{has_room, slot_at};
-use c_exprs::{CheckErr, Globals, Scope, Texts, constant, demanded, span_of, type_value};
+use c_exprs::{CheckErr, Globals, Scope, Texts, constant, demanded, kept_texts, span_of, type_value};
 use c_rules::{Code, converts, is_structure};
 use c_tree::{Init, Span};
 use c_types::{CType, Layout, TExpr, TInit, TKind};
@@ -214,7 +214,8 @@ fn all_filled_by(
 }
 
 /// What a target of this type is filled with, a global's or that of a variable of a function. An item of a brace list that has no
-/// place has no target. The texts of the initialiser are added to those so far.
+/// place has no target. The texts of the initialiser are added to those so far; after a refusal
+/// there are none.
 pub fn fill(
     alloc: Global,
     globals: &Globals,
@@ -231,6 +232,9 @@ pub fn fill(
     ensures only { (x : TInitT) (us : List Text) → Fills (ctx globals.now scopes.now) texts.old global (option_map (λ t. ctype t.now) target.entry) (init initialiser.now) x us → Gives (λ r. (tinit r, texts.new)) result (read x us) }
     // A refusal names the first broken rule.
     ensures first { (k : Code) (s : Span) → result ≡ Err (errors.At k s) → NoFill (ctx globals.now scopes.now) texts.old global (option_map (λ t. ctype t.now) target.entry) (init initialiser.now) (at s k) }
+    // After a refusal there are no texts: the unit is read no further.
+    ensures refused { OnErr result (texts.new ≡ []) }
 {
-    filled_by(alloc, globals, scopes, texts, initialiser, global, target)
+    let answer = filled_by(alloc, globals, scopes, texts, initialiser, global, target);
+    kept_texts(alloc, texts, answer)
 }

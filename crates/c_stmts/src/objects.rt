@@ -1,5 +1,5 @@
 // The rule of an object.
-ghost use Rattle.std.specs.Prelude.{◌≡◌, ◌≤◌, map};
+ghost use Rattle.std.specs.Prelude.{◌≡◌, ◌+◌, ◌≤◌, map, IfOk};
 ghost use Rattle.c_types.specs.View.{ctype, layout};
 ghost use Rattle.c_stmts.specs.State.{object_size};
 
@@ -19,6 +19,7 @@ pub fn object_size(
 ) -> Result<u32, Code>
     requires limit { limit ≤ 4194304 }
     ensures size { result ≡ object_size (map layout layouts.now) whole.now limit used fresh (ctype ty.now) }
+    ensures room { IfOk result (λ n. used + n ≤ limit) }
 {
     if !fresh {
         return Err(Code::Twice);

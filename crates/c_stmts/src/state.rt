@@ -1,12 +1,12 @@
 // What the statements of a function change.
-ghost use Rattle.std.specs.Prelude.{◌≡◌, ◌++◌, ◌∷◌, [], true, length, OnOk, IfOk};
+ghost use Rattle.std.specs.Prelude.{◌≡◌, ◌+◌, ◌≤◌, ◌++◌, ◌∷◌, [], true, length, OnOk, IfOk, OnErr};
 ghost use Rattle.c_types.specs.View.{ctype};
 ghost use Rattle.c_stmts.specs.State.{opened, left, made, is_new, declare, sized};
 ghost use Rattle.c_stmts.specs.View.{st};
 
 use crate::scopes::{close, declare, is_new};
 use crate::sizes::Sizes;
-use c_exprs::{Scope, Texts};
+use c_exprs::{CheckErr, Scope, Texts};
 use c_types::CType;
 use kit_base::Memory;
 use std::alloc::Global;
@@ -65,15 +65,13 @@ impl State {
         self.sizes.add(size)
     }
 
-    /// Keeps the size in words of the next object, which is a variable. The error is want of memory, or that there are 2^32 words.
+    /// Keeps the size in words of the next object, which is a variable. The error is want of memory.
     pub(crate) fn add_variable(&mut self, size: u32) -> Result<(), Memory>
+        requires room { (st self.old).used + size ≤ 1000000 }
         ensures sized { OnOk result (st self.new ≡ sized size (st self.old)) }
     {
-        let Some(used) = self.used.checked_add(size) else {
-            return Err(Memory);
-        };
         self.sizes.add(size)?;
-        self.used = used;
+        self.used += size;
         Ok(())
     }
 
@@ -98,5 +96,24 @@ impl State {
             texts,
         } = self;
         (sizes.into_vec(), texts)
+    }
+}
+
+/// An answer, behind which the state is that before a function without texts, where it is a refusal.
+pub(crate) fn kept_state<T: Drop>(
+    alloc: Global,
+    state: &mut State,
+    answer: Result<T, CheckErr>,
+) -> Result<T, CheckErr>
+    ensures same { result ≡ answer }
+    ensures kept { OnOk result (st state.new ≡ st state.old) }
+    ensures refused { OnErr result (st state.new ≡ record { scopes = []; sizes = []; used = 0; texts = [] }) }
+{
+    match answer {
+        Ok(found) => Ok(found),
+        Err(error) => {
+            *state = State::new(alloc, Texts::new(alloc));
+            Err(error)
+        }
     }
 }

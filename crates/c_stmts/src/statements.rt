@@ -1,5 +1,5 @@
 // The typing of statements.
-ghost use Rattle.std.specs.Prelude.{◌≡◌, ℕ, List, false, map, option_map, IfOk, Err};
+ghost use Rattle.std.specs.Prelude.{◌≡◌, ℕ, [], List, false, map, option_map, IfOk, OnErr, Err};
 ghost use Rattle.c_tree.specs.declared.span.Span.{Span};
 ghost use Rattle.c_tree.specs.View.{stmt, stmts, arm, arms};
 ghost use Rattle.c_types.specs.Typed.{TStmtTs};
@@ -16,7 +16,7 @@ ghost use Rattle.c_stmts.specs.StatementBreaks.{NotStatements};
 
 use crate::building::{do_while, for_, if_else, while_};
 use crate::labels::{Labels, add_case, add_default, no_labels};
-use crate::state::State;
+use crate::state::{State, kept_state};
 use crate::variables::{all_declared, maybe_value, value_in};
 use c_exprs::{CheckErr, Globals, constant, demanded, known, span_of};
 use c_rules::{Code, converts, is_condition, is_number};
@@ -217,7 +217,7 @@ fn arms_of(
 }
 
 /// The typed trees of the statements of a function's body, whose result is of the type `gives`. Scopes, objects and texts are
-/// added to those of the state.
+/// added to those of the state; after a refusal it has none.
 pub fn type_statements(
     alloc: Global,
     globals: &Globals,
@@ -232,6 +232,9 @@ pub fn type_statements(
     ensures only { (x : TStmtTs) (sq : St) → Statements (fn_of globals.now gives.now) (st state.old) false false (stmts (map stmt body.now)) x sq → Gives (λ r. (tstmts (map tstmt r.items), st state.new)) result (reached x sq) }
     // A refusal names the first broken rule.
     ensures first { (k : Code) (s : Span) → result ≡ Err (At k s) → NotStatements (fn_of globals.now gives.now) (st state.old) false false (stmts (map stmt body.now)) (at s k) }
+    // After a refusal nothing is left of the state: the unit is read no further.
+    ensures refused { OnErr result (st state.new ≡ record { scopes = []; sizes = []; used = 0; texts = [] }) }
 {
-    stmts_of(alloc, globals, state, body, gives, false, false)
+    let answer = stmts_of(alloc, globals, state, body, gives, false, false);
+    kept_state(alloc, state, answer)
 }

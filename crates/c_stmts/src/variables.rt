@@ -64,6 +64,7 @@ fn type_in(
 ) -> Result<CType, CheckErr>
     ensures gives { Gives (λ r. (ctype r, st state.new)) result (type_in (fn_of globals.now gives.now) (st state.old) span (type of.now)) }
     ensures sizes { (st state.new).sizes ≡ (st state.old).sizes }
+    ensures used { (st state.new).used ≡ (st state.old).used }
 {
     let ty = type_of_tree(alloc, globals, &state.scopes, &mut state.texts, span, of)?;
     Ok(ty)
@@ -78,7 +79,8 @@ fn fill_in(
     target: &CType,
     initialiser: &Init,
 ) -> Result<TInit, CheckErr>
-    ensures { Gives (λ r. (tinit r, st state.new)) result (fill_in (fn_of globals.now gives.now) (st state.old) (ctype target.now) (init initialiser.now)) }
+    ensures gives { Gives (λ r. (tinit r, st state.new)) result (fill_in (fn_of globals.now gives.now) (st state.old) (ctype target.now) (init initialiser.now)) }
+    ensures used { (st state.new).used ≡ (st state.old).used }
 {
     let target = Some(target);
     let x = fill(
@@ -103,7 +105,8 @@ fn maybe_filled(
     target: &CType,
     initialiser: &Option<Init>,
 ) -> Result<Option<TInit>, CheckErr>
-    ensures { Gives (λ r. (option_map tinit r, st state.new)) result (maybe_filled (fn_of globals.now gives.now) (st state.old) (ctype target.now) (option_map init initialiser.now)) }
+    ensures gives { Gives (λ r. (option_map tinit r, st state.new)) result (maybe_filled (fn_of globals.now gives.now) (st state.old) (ctype target.now) (option_map init initialiser.now)) }
+    ensures used { (st state.new).used ≡ (st state.old).used }
 {
     match initialiser {
         Some(initialiser) => {
@@ -119,6 +122,7 @@ fn maybe_filled(
 fn enter(alloc: Global, state: &mut State, name: &[u8], ty: &CType) -> Result<u32, Memory>
     ensures number { IfOk result (λ number. number ≡ length (st state.old).sizes) }
     ensures entered { OnOk result (st state.new ≡ entered name.now (ctype ty.now) (st state.old)) }
+    ensures used { (st state.new).used ≡ (st state.old).used }
 {
     let number = state.sizes.next()?;
     if !is_new(name, &state.scopes) {

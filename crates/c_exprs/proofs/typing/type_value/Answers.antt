@@ -8,20 +8,23 @@ use Rattle.c_exprs.specs.Types.{Values}
 use Rattle.c_exprs.specs.Breaks.{NoValue}
 use Rattle.c_exprs.specs.View.{ctx}
 use Rattle.c_exprs.proofs.Exact.{values_so, no_value_so, value_good}
-use Rattle.c_exprs.proofs.Answered.{good, bad}
+use Rattle.c_exprs.proofs.Answered.{good, bad, kept}
 use Rattle.c_exprs.proofs.typing.type_value.Goals as goal
 
 pub returns-clause-types : goal.returns-clause-types
 returns-clause-types c =
-    let seen : TExpr → TExprT × List Text = λ r. (texpr r, c.valued.new.texts) in
+    let seen : TExpr → TExprT × List Text = λ r. (texpr r, c.kept_texts.new.texts) in
     let context = ctx c.args.globals.now c.args.scopes.now in
-    good seen _ (λ x us. Values context c.args.texts.now (expr c.args.e.now) x us) (λ x us. values_so context c.args.texts.now us (expr c.args.e.now) x) c.valued.result c.valued.ensures
+    good seen _ (λ x us. Values context c.args.texts.now (expr c.args.e.now) x us) (λ x us. values_so context c.args.texts.now us (expr c.args.e.now) x) c.kept_texts.result (kept texpr _ c.valued-answer.result c.kept_texts.result c.valued-answer.new.texts c.kept_texts.new.texts c.valued-answer.ensures c.kept_texts.ensures.same c.kept_texts.ensures.kept)
 
 pub returns-clause-only : goal.returns-clause-only
-returns-clause-only c = λ x us g. rw (value_good g) at c.valued.ensures
+returns-clause-only c = λ x us g. rw (value_good g) at (kept texpr _ c.valued-answer.result c.kept_texts.result c.valued-answer.new.texts c.kept_texts.new.texts c.valued-answer.ensures c.kept_texts.ensures.same c.kept_texts.ensures.kept)
 
 pub returns-clause-first : goal.returns-clause-first
 returns-clause-first c =
-    let seen : TExpr → TExprT × List Text = λ r. (texpr r, c.valued.new.texts) in
+    let seen : TExpr → TExprT × List Text = λ r. (texpr r, c.kept_texts.new.texts) in
     let context = ctx c.args.globals.now c.args.scopes.now in
-    λ k s is. bad seen _ (λ f. NoValue context c.args.texts.now (expr c.args.e.now) f) (λ f. no_value_so context c.args.texts.now (expr c.args.e.now) f) c.valued.result k s c.valued.ensures is
+    λ k s is. bad seen _ (λ f. NoValue context c.args.texts.now (expr c.args.e.now) f) (λ f. no_value_so context c.args.texts.now (expr c.args.e.now) f) c.kept_texts.result k s (kept texpr _ c.valued-answer.result c.kept_texts.result c.valued-answer.new.texts c.kept_texts.new.texts c.valued-answer.ensures c.kept_texts.ensures.same c.kept_texts.ensures.kept) is
+
+pub returns-clause-gives : goal.returns-clause-gives
+returns-clause-gives c = kept texpr _ c.valued-answer.result c.kept_texts.result c.valued-answer.new.texts c.kept_texts.new.texts c.valued-answer.ensures c.kept_texts.ensures.same c.kept_texts.ensures.kept

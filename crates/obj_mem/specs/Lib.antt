@@ -1,0 +1,9 @@
+pub mod Objects
+pub mod Living
+pub mod Rising
+pub mod Stores
+pub mod Worlds
+pub mod Queries
+pub mod Runs
+pub mod View
+pub mod LiveView

@@ -1,0 +1,25 @@
+//! The memory of the C meaning and of mid code: objects of cells, and what a run does to them.
+//!
+//! A pointer is an object and an offset, never an address. Contracts see the objects as a list, and say what a read, a write, a new object
+//! and the end of one do to it. The definitions also have the world that a run of a program goes over, and what is asked of it. It stands on
+//! kit_base for words and port operations.
+#![tactic(auto)]
+
+mod access;
+mod cell;
+mod frames;
+mod laws;
+mod live;
+mod object;
+mod objects;
+mod refusal;
+
+pub use access::Access;
+pub use cell::{Cell, ObjectKind};
+pub use frames::Frames;
+pub use laws::living_tells_all;
+pub use objects::Objects;
+pub use refusal::Refusal;
+
+#[cfg(test)]
+mod tests;

@@ -1,0 +1,12 @@
+pub mod Wrapping
+pub mod Stacks
+pub mod Turns
+pub mod Items
+pub mod Counting
+pub mod Before
+pub mod Linked
+pub mod Ending
+pub mod Moving
+pub mod Stepping
+pub mod Running
+pub mod Opened

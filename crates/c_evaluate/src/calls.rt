@@ -1,0 +1,267 @@
+// Calls and their arguments.
+ghost use Rattle.std.specs.Prelude.{◌≡◌, ◌<◌, ◌+◌, ◌^◌, List, IfOk, OnOk, map, slice_get};
+ghost use Rattle.c_types.specs.View.{ctype, function, texpr, texprs};
+ghost use Rattle.obj_mem.specs.Stores.{has_room};
+ghost use Rattle.c_meaning.specs.Expressions.{result_place, with_result, params_of, all_released};
+ghost use Rattle.c_evaluate.specs.Machine.{FrameT};
+ghost use Rattle.c_evaluate.specs.Results.{Gives, Leads};
+ghost use Rattle.c_evaluate.specs.FocusView.{at, stack_of};
+ghost use Rattle.c_evaluate.specs.SettingView.{setting_of};
+ghost use Rattle.c_evaluate.specs.StoreView.{store_of, caller};
+ghost use Rattle.c_evaluate.specs.Storing.{params_in};
+ghost use Rattle.c_evaluate.specs.Steps.{body_of, in_room, enter, call, args_of, argument_in, argument_step, back_step};
+
+use crate::cells::{located, stored};
+use crate::exec::rest;
+use crate::filling::nowhere;
+use crate::frame::{Caller, Came, Focus, Frame, How};
+use crate::operators::converted;
+use crate::setting::Setting;
+use crate::stack::{next, push};
+use crate::stop::Stop;
+use crate::store::{
+    Store, back, end_temporary, enter as enter_function, fresh_all, local_cell, released, temporary,
+};
+use crate::types::is_structure;
+use crate::using::taken;
+use c_meaning::End;
+use c_tree::Span;
+use c_types::{CType, TExpr, TFunction};
+use kit_base::Memory;
+use obj_mem::Cell;
+
+/// The parameters take the arguments.
+fn params<'a>(
+    s: &Setting<'a>,
+    n: u32,
+    tys: &[CType],
+    values: &[Cell],
+    store: &mut Store<'a>,
+) -> Result<(), Stop>
+    ensures { Gives (λ _. store_of store.new) result (params_in (setting_of s.now) n 0 (map ctype tys.now) values.now (store_of store.old)) }
+{
+    let mut k = 0;
+    let mut types = tys;
+    let mut cells = values;
+    'params: while let Some((ty, later)) = next(types) {
+        let Some((c, after)) = next(cells) else {
+            return Err(Stop::Ends(End::Stray(nowhere())));
+        };
+        let p = located(nowhere(), local_cell(&store.locals, k))?;
+        stored(s, n, ty, nowhere(), p, *c, store)?;
+        types = later;
+        cells = after;
+        k += 1;
+    }
+    if cells.is_empty() {
+        Ok(())
+    } else {
+        Err(Stop::Ends(End::Stray(nowhere())))
+    }
+}
+
+/// Into the body of a function, whose arguments are there and which has room.
+fn body<'a>(
+    s: &Setting<'a>,
+    m: u32,
+    f: u32,
+    g: &'a TFunction,
+    values: Vec<Cell>,
+    r: Cell,
+    span: Span,
+    frame: u32,
+    stack: &mut Vec<Frame<'a>>,
+    store: &mut Store<'a>,
+) -> Result<Focus<'a>, Stop>
+    requires room { store.old.used + (frame + 2) < 2 ^ 32 }
+    requires words { frame ≡ (setting_of s.now).sizes.frame f }
+    ensures { Leads (λ x. at x (stack_of stack.new.items) (store_of store.new)) result (body_of (setting_of s.now) m f (function g.now) values.items r span (stack_of stack.old.items) (store_of store.old)) }
+{
+    let caller = enter_function(s, store, f, frame)?;
+    fresh_all(s, store, g.made.as_slice())?;
+    params(s, m, g.params.as_slice(), &values, store)?;
+    push(stack, Frame::Back(f, values, r, span, caller))?;
+    rest(m, r, g.body.as_slice(), stack)
+}
+
+/// Into a function with that bound, where there is room.
+fn enter_in<'a>(
+    s: &Setting<'a>,
+    m: u32,
+    f: u32,
+    g: &'a TFunction,
+    values: Vec<Cell>,
+    r: Cell,
+    span: Span,
+    stack: &mut Vec<Frame<'a>>,
+    store: &mut Store<'a>,
+) -> Result<Focus<'a>, Stop>
+    ensures { Leads (λ x. at x (stack_of stack.new.items) (store_of store.new)) result (in_room (has_room (setting_of s.now).sizes f (store_of store.old)) span (body_of (setting_of s.now) m f (function g.now) values.items r span (stack_of stack.old.items) (store_of store.old))) }
+{
+    if !s.has_room(f, store.used) {
+        return Err(Stop::Ends(End::Deep(span)));
+    }
+    body(s, m, f, g, values, r, span, s.frame(f), stack, store)
+}
+
+/// Into a function, where the bound and the room allow it.
+fn enter<'a>(
+    s: &Setting<'a>,
+    n: u32,
+    f: u32,
+    g: &'a TFunction,
+    values: Vec<Cell>,
+    r: Cell,
+    span: Span,
+    stack: &mut Vec<Frame<'a>>,
+    store: &mut Store<'a>,
+) -> Result<Focus<'a>, Stop>
+    ensures { Leads (λ x. at x (stack_of stack.new.items) (store_of store.new)) result (enter (setting_of s.now) n f (function g.now) values.items r span (stack_of stack.old.items) (store_of store.old)) }
+{
+    if n == 0 {
+        return Err(Stop::Ends(End::OutOfBound));
+    }
+    enter_in(s, n - 1, f, g, values, r, span, stack, store)
+}
+
+/// The place of a structure that a function gives.
+fn result_place<'a>(s: &Setting<'a>, ty: &CType, store: &mut Store<'a>) -> Result<Cell, Memory>
+    ensures place { IfOk result (λ r. r ≡ result_place (ctype ty.now) (store_of store.old)) }
+    ensures made { OnOk result (store_of store.new ≡ with_result (setting_of s.now) (ctype ty.now) (store_of store.old)) }
+{
+    if is_structure(ty) {
+        return temporary(s, store, s.words(ty));
+    }
+    Ok(Cell::Unwritten)
+}
+
+/// Calls a function.
+pub(crate) fn call<'a>(
+    s: &Setting<'a>,
+    n: u32,
+    f: u32,
+    values: Vec<Cell>,
+    span: Span,
+    stack: &mut Vec<Frame<'a>>,
+    store: &mut Store<'a>,
+) -> Result<Focus<'a>, Stop>
+    ensures { Leads (λ x. at x (stack_of stack.new.items) (store_of store.new)) result (call (setting_of s.now) n f values.items span (stack_of stack.old.items) (store_of store.old)) }
+{
+    let Some(g) = s.function(f) else {
+        return Err(Stop::Ends(End::Stray(span)));
+    };
+    let r = result_place(s, &g.result, store)?;
+    enter(s, n, f, g, values, r, span, stack, store)
+}
+
+/// On to the next argument, or into the function.
+pub(crate) fn arguments<'a>(
+    s: &Setting<'a>,
+    n: u32,
+    f: u32,
+    span: Span,
+    values: Vec<Cell>,
+    xs: &'a [TExpr],
+    stack: &mut Vec<Frame<'a>>,
+    store: &mut Store<'a>,
+) -> Result<Focus<'a>, Stop>
+    ensures { Leads (λ x. at x (stack_of stack.new.items) (store_of store.new)) result (args_of (setting_of s.now) n f span values.items (texprs (map texpr xs.now)) (stack_of stack.old.items) (store_of store.old)) }
+{
+    match next(xs) {
+        None => call(s, n, f, values, span, stack, store),
+        Some((x, _)) => {
+            push(stack, Frame::Argument(n, f, span, values, xs))?;
+            Ok(Focus::Eval(n, x))
+        }
+    }
+}
+
+/// What came of an argument, converted to the type of its parameter.
+fn argument<'a>(s: &Setting<'a>, f: u32, k: usize, x: &TExpr, c: Cell) -> Result<Cell, Stop>
+    ensures { Gives (λ z. z) result (argument_in (slice_get (params_of (slice_get (setting_of s.now).functions f)) k) (texpr x.now) c) }
+{
+    match s.parameter(f, k) {
+        None => Err(Stop::Ends(End::Stray(x.span))),
+        Some(ty) => located(x.span, converted(ty, c)),
+    }
+}
+
+/// An argument came.
+pub(crate) fn argument_came<'a>(
+    s: &Setting<'a>,
+    n: u32,
+    f: u32,
+    span: Span,
+    mut values: Vec<Cell>,
+    xs: &'a [TExpr],
+    v: Came,
+    stack: &mut Vec<Frame<'a>>,
+    store: &mut Store<'a>,
+) -> Result<Focus<'a>, Stop>
+    ensures { Leads (λ x. at x (stack_of stack.new.items) (store_of store.new)) result (argument_step (setting_of s.now) n f span values.items (texprs (map texpr xs.now)) v (stack_of stack.old.items) (store_of store.old)) }
+{
+    match next(xs) {
+        None => Ok(Focus::Came(v)),
+        Some((x, later)) => {
+            let c = taken(s, n, x, v, store)?;
+            let z = argument(s, f, values.len(), x, c)?;
+            values.push(z)?;
+            arguments(s, n, f, span, values, later, stack, store)
+        }
+    }
+}
+
+/// The structures that were passed end.
+fn released_all<'a>(tys: &[CType], values: &[Cell], store: &mut Store<'a>)
+    ensures { store_of store.new ≡ all_released (map ctype tys.now) values.now (store_of store.old) }
+{
+    let mut types = tys;
+    let mut cells = values;
+    'types: while let Some((ty, later)) = next(types) {
+        let Some((c, after)) = next(cells) else {
+            return;
+        };
+        released(store, ty, *c);
+        types = later;
+        cells = after;
+    }
+}
+
+/// The structures that were passed to a function end.
+fn released_args<'a>(s: &Setting<'a>, f: u32, values: &[Cell], store: &mut Store<'a>)
+    ensures { store_of store.new ≡ all_released (params_of (slice_get (setting_of s.now).functions f)) values.now (store_of store.old) }
+{
+    match s.function(f) {
+        None => {}
+        Some(g) => released_all(g.params.as_slice(), values, store),
+    }
+}
+
+/// A function was left.
+pub(crate) fn back_from<'a>(
+    s: &Setting<'a>,
+    f: u32,
+    values: &[Cell],
+    r: Cell,
+    span: Span,
+    c: Caller,
+    h: How,
+    store: &mut Store<'a>,
+) -> Result<Focus<'a>, Stop>
+    ensures { (k : List FrameT) → Leads (λ x. at x k (store_of store.new)) result (back_step (params_of (slice_get (setting_of s.now).functions f)) values.now r span (caller c) h k (store_of store.old)) }
+{
+    match h {
+        How::On | How::Return(None) => {
+            back(store, c);
+            end_temporary(store, r);
+            released_args(s, f, values, store);
+            Ok(Focus::Came(Came::Nothing))
+        }
+        How::Return(Some(z)) => {
+            back(store, c);
+            released_args(s, f, values, store);
+            Ok(Focus::Came(Came::Value(z)))
+        }
+        How::Break | How::Continue => Err(Stop::Ends(End::Stray(span))),
+    }
+}

@@ -1,0 +1,105 @@
+// Expressions begun.
+ghost use Rattle.std.specs.Prelude.{◌≡◌, ◌∷◌, List};
+ghost use Rattle.c_types.specs.View.{texpr};
+ghost use Rattle.obj_mem.specs.Stores as stores;
+ghost use Rattle.c_meaning.specs.Setting.{global_at};
+ghost use Rattle.c_evaluate.specs.Machine.{EvalF, FirstW, FrameT, Going};
+ghost use Rattle.c_evaluate.specs.Results.{Leads};
+ghost use Rattle.c_evaluate.specs.FocusView.{at, stack_of};
+ghost use Rattle.c_evaluate.specs.SettingView.{setting_of};
+ghost use Rattle.c_evaluate.specs.StoreView.{store_of};
+ghost use Rattle.c_evaluate.specs.Steps.{input, eval_of};
+
+use crate::calls::arguments;
+use crate::cells::located;
+use crate::frame::{Came, Focus, Frame};
+use crate::setting::Setting;
+use crate::stack::{next, push};
+use crate::stop::Stop;
+use crate::store::{Store, local_cell};
+use c_meaning::End;
+use c_types::{TExpr, TKind};
+use kit_base::Event;
+use obj_mem::Cell;
+
+/// The first operand of an expression.
+fn operand<'a>(
+    n: u32,
+    e: &'a TExpr,
+    x: &'a TExpr,
+    stack: &mut Vec<Frame<'a>>,
+) -> Result<Focus<'a>, Stop>
+    ensures { (u : stores.Store) → Leads (λ f. at f (stack_of stack.new.items) u) result (Going (EvalF n (texpr x.now)) (FirstW n (texpr e.now) ∷ stack_of stack.old.items) u) }
+{
+    push(stack, Frame::First(n, e))?;
+    Ok(Focus::Eval(n, x))
+}
+
+/// The first answer left.
+fn input<'a>(port: u32, store: &mut Store<'a>) -> Result<Focus<'a>, Stop>
+    ensures { (k : List FrameT) → Leads (λ f. at f k (store_of store.new)) result (input port (store_of store.old).answers k (store_of store.old)) }
+{
+    match next(store.answers) {
+        None => Err(Stop::Ends(End::Starved)),
+        Some((x, rest)) => {
+            let word = *x;
+            store.answers = rest;
+            Ok(Focus::Made(Event::In(port, word), Came::Value(Cell::Num(word))))
+        }
+    }
+}
+
+/// Begins an expression.
+#[tactic(auto, unfolding(crate::specs::Steps::eval))]
+pub(crate) fn eval<'a>(
+    s: &Setting<'a>,
+    n: u32,
+    e: &'a TExpr,
+    stack: &mut Vec<Frame<'a>>,
+    store: &mut Store<'a>,
+) -> Result<Focus<'a>, Stop>
+    ensures { Leads (λ f. at f (stack_of stack.new.items) (store_of store.new)) result (eval_of (setting_of s.now) n (texpr e.now) (stack_of stack.old.items) (store_of store.old)) }
+{
+    match &e.kind {
+        TKind::Number(x) => Ok(Focus::Came(Came::Value(Cell::Num(*x)))),
+        TKind::Null => Ok(Focus::Came(Came::Value(Cell::Null))),
+        TKind::Literal(number) => Ok(Focus::Came(Came::Place(s.literal_at(*number)))),
+        TKind::Global(number) => Ok(Focus::Came(Came::Place(global_at(*number)))),
+        TKind::Local(number) => {
+            let p = located(e.span, local_cell(&store.locals, *number as usize))?;
+            Ok(Focus::Came(Came::Place(p)))
+        }
+        TKind::Unary(_, x) => operand(n, e, x, stack),
+        TKind::Binary(_, x, _) => operand(n, e, x, stack),
+        TKind::Assign(_, x, _) => operand(n, e, x, stack),
+        TKind::Step(_, x) => operand(n, e, x, stack),
+        TKind::Index(x, _) => operand(n, e, x, stack),
+        TKind::Member(x, _) => operand(n, e, x, stack),
+        TKind::Arrow(x, _) => operand(n, e, x, stack),
+        TKind::Cast(x) => operand(n, e, x, stack),
+        TKind::Call(f, xs) => arguments(
+            s,
+            n,
+            *f,
+            e.span,
+            Vec::new(s.alloc),
+            xs.as_slice(),
+            stack,
+            store,
+        ),
+        TKind::In(port) => input(*port, store),
+        TKind::Out(_, x) => operand(n, e, x, stack),
+        TKind::Wait => Ok(Focus::Made(Event::Wait, Came::Nothing)),
+        TKind::Halt => Err(Stop::Ends(End::Halted)),
+        TKind::Card => Ok(Focus::Came(Came::Value(s.card_at()))),
+    }
+}
+
+fn global_at(number: u32) -> Cell
+    ensures { result ≡ global_at number }
+{
+    Cell::Ptr {
+        object: u64::from(number),
+        offset: 0,
+    }
+}

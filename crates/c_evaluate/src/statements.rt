@@ -1,0 +1,482 @@
+// What came of the parts of statements.
+ghost use Rattle.std.specs.Prelude.{◌≡◌, map, option_map};
+ghost use Rattle.c_types.specs.View.{ctype, texpr, tstmt, tarm, tarms};
+ghost use Rattle.obj_mem.specs.Stores as stores;
+ghost use Rattle.c_meaning.specs.Statements.{arms_before_case, arms_before_default, arms_before};
+ghost use Rattle.c_evaluate.specs.Results.{Gives, Leads};
+ghost use Rattle.c_evaluate.specs.FocusView.{at, stack_of};
+ghost use Rattle.c_evaluate.specs.SettingView.{setting_of};
+ghost use Rattle.c_evaluate.specs.StoreView.{store_of};
+ghost use Rattle.c_evaluate.specs.Storing.{returned_in};
+ghost use Rattle.c_evaluate.specs.Steps.{after_body, after_on, again, do_again, turn_of, step_dropped, step_of, value_looped, value_switched, value_returned, value_step, step_step, body_step, begin_step};
+
+use crate::cells::{cells, located};
+use crate::exec::{arms, ask, part, turn};
+use crate::filling::nowhere;
+use crate::frame::{Came, Focus, Frame, How, Stage};
+use crate::operators::converted;
+use crate::queries::word_of;
+use crate::setting::Setting;
+use crate::stack::{next, push};
+use crate::stop::Stop;
+use crate::store::{Store, fresh_all, released};
+use crate::types::is_structure;
+use crate::using::{dropped, taken, tested};
+use c_meaning::End;
+use c_types::{CType, TArm, TExpr, TStmt};
+use obj_mem::Cell;
+
+/// How many arms of a switch stand before the label of a word.
+fn before_case(word: u32, xs: &[TArm]) -> Option<usize>
+    ensures { result ≡ arms_before_case word (tarms (map tarm xs.now)) }
+{
+    let mut left = xs;
+    let mut count = 0;
+    'arms: while let Some((z, later)) = next(left) {
+        if let TArm::Case(label) = z {
+            if word == *label {
+                return Some(count);
+            }
+        }
+        left = later;
+        count += 1;
+    }
+    None
+}
+
+/// How many stand before `default`.
+fn before_default(xs: &[TArm]) -> usize
+    ensures { result ≡ arms_before_default (tarms (map tarm xs.now)) }
+{
+    let mut left = xs;
+    let mut count = 0;
+    'arms: while let Some((z, later)) = next(left) {
+        if let TArm::Default = z {
+            return count;
+        }
+        left = later;
+        count += 1;
+    }
+    count
+}
+
+fn before(word: u32, xs: &[TArm]) -> usize
+    ensures { result ≡ arms_before word (tarms (map tarm xs.now)) }
+{
+    match before_case(word, xs) {
+        Some(count) => count,
+        None => before_default(xs),
+    }
+}
+
+/// A further turn of a `while` or a `for`.
+fn again<'a>(
+    n: u32,
+    r: Cell,
+    a: &'a TStmt,
+    test: Option<&'a TExpr>,
+    body: &'a TStmt,
+    stack: &mut Vec<Frame<'a>>,
+) -> Result<Focus<'a>, Stop>
+    ensures { (u : stores.Store) → Leads (λ f. at f (stack_of stack.new.items) u) result (again n r (tstmt a.now) (option_map (λ x. texpr x.now) test.entry) (tstmt body.now) (stack_of stack.old.items) u) }
+{
+    if n == 0 {
+        return Err(Stop::Ends(End::OutOfBound));
+    }
+    turn(n - 1, r, a, test, body, stack)
+}
+
+/// A further turn of a `do`.
+fn do_again<'a>(
+    n: u32,
+    r: Cell,
+    a: &'a TStmt,
+    body: &'a TStmt,
+    stack: &mut Vec<Frame<'a>>,
+) -> Result<Focus<'a>, Stop>
+    ensures { (u : stores.Store) → Leads (λ f. at f (stack_of stack.new.items) u) result (do_again n r (tstmt a.now) (tstmt body.now) (stack_of stack.old.items) u) }
+{
+    if n == 0 {
+        return Err(Stop::Ends(End::OutOfBound));
+    }
+    push(stack, Frame::InStmt(Stage::Body, n - 1, r, a))?;
+    Ok(Focus::Do(n - 1, r, body))
+}
+
+/// The step of a `for`, and the next turn.
+fn step<'a>(
+    n: u32,
+    r: Cell,
+    a: &'a TStmt,
+    test: Option<&'a TExpr>,
+    step: Option<&'a TExpr>,
+    body: &'a TStmt,
+    stack: &mut Vec<Frame<'a>>,
+) -> Result<Focus<'a>, Stop>
+    ensures { (u : stores.Store) → Leads (λ f. at f (stack_of stack.new.items) u) result (step_of n r (tstmt a.now) (option_map (λ x. texpr x.now) test.entry) (option_map (λ x. texpr x.now) step.entry) (tstmt body.now) (stack_of stack.old.items) u) }
+{
+    match step {
+        None => again(n, r, a, test, body, stack),
+        Some(y) => {
+            push(stack, Frame::InStmt(Stage::Step, n, r, a))?;
+            Ok(Focus::Eval(n, y))
+        }
+    }
+}
+
+/// What is returned; a structure by its place.
+fn returned<'a>(
+    s: &Setting<'a>,
+    n: u32,
+    ty: &CType,
+    r: Cell,
+    c: Cell,
+    store: &mut Store<'a>,
+) -> Result<Cell, Stop>
+    ensures { Gives (λ z. (z, store_of store.new)) result (returned_in (setting_of s.now) n (ctype ty.now) r c (store_of store.old)) }
+{
+    if is_structure(ty) {
+        cells(nowhere(), n, u64::from(s.words(ty)), Some(c), r, store)?;
+        released(store, ty, c);
+        return Ok(r);
+    }
+    Ok(c)
+}
+
+/// The value of a `return` came.
+fn returns<'a>(
+    s: &Setting<'a>,
+    n: u32,
+    r: Cell,
+    x: &TExpr,
+    v: Came,
+    stack: &Vec<Frame<'a>>,
+    store: &mut Store<'a>,
+) -> Result<Focus<'a>, Stop>
+    ensures { Leads (λ f. at f (stack_of stack.now.items) (store_of store.new)) result (value_returned (setting_of s.now) n r (texpr x.now) v (stack_of stack.now.items) (store_of store.old)) }
+{
+    let c = taken(s, n, x, v, store)?;
+    let void = CType::Void;
+    let ty = match s.result_of(store.function) {
+        None => &void,
+        Some(ty) => ty,
+    };
+    let z = located(x.span, converted(ty, c))?;
+    let w = returned(s, n, ty, r, z, store)?;
+    Ok(Focus::Left(How::Return(Some(w))))
+}
+
+/// The value of a switch came.
+fn switches<'a>(
+    s: &Setting<'a>,
+    n: u32,
+    r: Cell,
+    x: &TExpr,
+    made: &'a [u32],
+    xs: &'a [TArm],
+    v: Came,
+    stack: &mut Vec<Frame<'a>>,
+    store: &mut Store<'a>,
+) -> Result<Focus<'a>, Stop>
+    ensures { Leads (λ f. at f (stack_of stack.new.items) (store_of store.new)) result (value_switched (setting_of s.now) n r (texpr x.now) made.now (tarms (map tarm xs.now)) v (stack_of stack.old.items) (store_of store.old)) }
+{
+    let c = taken(s, n, x, v, store)?;
+    let word = located(x.span, word_of(c))?;
+    fresh_all(s, store, made)?;
+    push(stack, Frame::End(made))?;
+    push(stack, Frame::Switch)?;
+    arms(n, r, before(word, xs), xs, stack)
+}
+
+/// A condition came: the body of the loop, or on.
+fn loops<'a>(
+    s: &Setting<'a>,
+    n: u32,
+    r: Cell,
+    a: &'a TStmt,
+    x: &TExpr,
+    body: &'a TStmt,
+    v: Came,
+    stack: &mut Vec<Frame<'a>>,
+    store: &mut Store<'a>,
+) -> Result<Focus<'a>, Stop>
+    ensures { Leads (λ f. at f (stack_of stack.new.items) (store_of store.new)) result (value_looped (setting_of s.now) n r (tstmt a.now) (texpr x.now) (tstmt body.now) v (stack_of stack.old.items) (store_of store.old)) }
+{
+    if tested(s, n, x, v, store)? {
+        part(Stage::Body, n, r, a, body, stack)
+    } else {
+        Ok(Focus::Left(How::On))
+    }
+}
+
+/// The value that a statement asks for came.
+#[tactic(auto, unfolding(crate::specs::Steps::value_step))]
+pub(crate) fn value_came<'a>(
+    s: &Setting<'a>,
+    n: u32,
+    r: Cell,
+    a: &'a TStmt,
+    v: Came,
+    stack: &mut Vec<Frame<'a>>,
+    store: &mut Store<'a>,
+) -> Result<Focus<'a>, Stop>
+    ensures { Leads (λ f. at f (stack_of stack.new.items) (store_of store.new)) result (value_step (setting_of s.now) n r (tstmt a.now) v (stack_of stack.old.items) (store_of store.old)) }
+{
+    match a {
+        TStmt::Do(x) => {
+            dropped(s, n, x, v, store)?;
+            Ok(Focus::Left(How::On))
+        }
+        TStmt::If(x, b, None) => {
+            if tested(s, n, x, v, store)? {
+                Ok(Focus::Do(n, r, b))
+            } else {
+                Ok(Focus::Left(How::On))
+            }
+        }
+        TStmt::If(x, b, Some(other)) => {
+            if tested(s, n, x, v, store)? {
+                Ok(Focus::Do(n, r, b))
+            } else {
+                Ok(Focus::Do(n, r, other))
+            }
+        }
+        TStmt::While(x, body) => loops(s, n, r, a, x, body, v, stack, store),
+        TStmt::DoWhile(body, x) => {
+            if tested(s, n, x, v, store)? {
+                do_again(n, r, a, body, stack)
+            } else {
+                Ok(Focus::Left(How::On))
+            }
+        }
+        TStmt::For(_, None, Some(x), _, body) => loops(s, n, r, a, x, body, v, stack, store),
+        TStmt::For(_, Some(_), Some(x), _, body) => loops(s, n, r, a, x, body, v, stack, store),
+        TStmt::Switch(x, made, xs) => switches(
+            s,
+            n,
+            r,
+            x,
+            made.as_slice(),
+            xs.as_slice(),
+            v,
+            stack,
+            store,
+        ),
+        TStmt::Return(Some(x)) => returns(s, n, r, x, v, stack, store),
+        TStmt::For(_, None, None, _, _) | TStmt::For(_, Some(_), None, _, _) => Err(Stop::Ends(
+            End::Stray(nowhere()),
+        )),
+        TStmt::Return(None) | TStmt::Block(_, _) | TStmt::Empty | TStmt::Vars(_) => Err(Stop::Ends(
+            End::Stray(nowhere()),
+        )),
+        TStmt::Break | TStmt::Continue => Err(Stop::Ends(End::Stray(nowhere()))),
+    }
+}
+
+/// A step is dropped, and the next turn begins.
+fn stepped<'a>(
+    s: &Setting<'a>,
+    n: u32,
+    r: Cell,
+    a: &'a TStmt,
+    test: Option<&'a TExpr>,
+    y: &TExpr,
+    body: &'a TStmt,
+    v: Came,
+    stack: &mut Vec<Frame<'a>>,
+    store: &mut Store<'a>,
+) -> Result<Focus<'a>, Stop>
+    ensures { Leads (λ f. at f (stack_of stack.new.items) (store_of store.new)) result (step_dropped (setting_of s.now) n r (tstmt a.now) (option_map (λ x. texpr x.now) test.entry) (texpr y.now) (tstmt body.now) v (stack_of stack.old.items) (store_of store.old)) }
+{
+    dropped(s, n, y, v, store)?;
+    again(n, r, a, test, body, stack)
+}
+
+/// The step of a `for` came.
+#[tactic(auto, unfolding(crate::specs::Steps::step_step))]
+pub(crate) fn step_came<'a>(
+    s: &Setting<'a>,
+    n: u32,
+    r: Cell,
+    a: &'a TStmt,
+    v: Came,
+    stack: &mut Vec<Frame<'a>>,
+    store: &mut Store<'a>,
+) -> Result<Focus<'a>, Stop>
+    ensures { Leads (λ f. at f (stack_of stack.new.items) (store_of store.new)) result (step_step (setting_of s.now) n r (tstmt a.now) v (stack_of stack.old.items) (store_of store.old)) }
+{
+    match a {
+        TStmt::For(_, None, test, Some(y), body) => stepped(
+            s,
+            n,
+            r,
+            a,
+            test.as_ref(),
+            y,
+            body,
+            v,
+            stack,
+            store,
+        ),
+        TStmt::For(_, Some(_), test, Some(y), body) => stepped(
+            s,
+            n,
+            r,
+            a,
+            test.as_ref(),
+            y,
+            body,
+            v,
+            stack,
+            store,
+        ),
+        TStmt::For(_, None, _, None, _) | TStmt::For(_, Some(_), _, None, _) => Err(Stop::Ends(
+            End::Stray(nowhere()),
+        )),
+        TStmt::Block(_, _) | TStmt::Empty | TStmt::Vars(_) | TStmt::Do(_) | TStmt::If(_, _, None) =>
+            Err(Stop::Ends(End::Stray(nowhere()))),
+        TStmt::If(_, _, Some(_))
+        | TStmt::While(_, _)
+        | TStmt::DoWhile(_, _)
+        | TStmt::Switch(_, _, _) => Err(Stop::Ends(End::Stray(nowhere()))),
+        TStmt::Return(_) | TStmt::Break | TStmt::Continue => Err(Stop::Ends(End::Stray(nowhere()))),
+    }
+}
+
+/// The body of a `for` was left.
+fn for_left<'a>(
+    n: u32,
+    r: Cell,
+    a: &'a TStmt,
+    test: Option<&'a TExpr>,
+    y: Option<&'a TExpr>,
+    body: &'a TStmt,
+    h: How,
+    stack: &mut Vec<Frame<'a>>,
+    store: &Store<'a>,
+) -> Result<Focus<'a>, Stop>
+    ensures { Leads (λ f. at f (stack_of stack.new.items) (store_of store.now)) result (after_body h (stack_of stack.old.items) (store_of store.now) (step_of n r (tstmt a.now) (option_map (λ x. texpr x.now) test.entry) (option_map (λ x. texpr x.now) y.entry) (tstmt body.now) (stack_of stack.old.items) (store_of store.now))) }
+{
+    match h {
+        How::On => step(n, r, a, test, y, body, stack),
+        How::Continue => step(n, r, a, test, y, body, stack),
+        How::Break => Ok(Focus::Left(How::On)),
+        How::Return(c) => Ok(Focus::Left(How::Return(c))),
+    }
+}
+
+/// The first part of a `for` was left.
+fn for_begun<'a>(
+    n: u32,
+    r: Cell,
+    a: &'a TStmt,
+    test: Option<&'a TExpr>,
+    body: &'a TStmt,
+    h: How,
+    stack: &mut Vec<Frame<'a>>,
+    store: &Store<'a>,
+) -> Result<Focus<'a>, Stop>
+    ensures { Leads (λ f. at f (stack_of stack.new.items) (store_of store.now)) result (after_on h (stack_of stack.old.items) (store_of store.now) (turn_of n r (tstmt a.now) (option_map (λ x. texpr x.now) test.entry) (tstmt body.now) (stack_of stack.old.items) (store_of store.now))) }
+{
+    match h {
+        How::On => turn(n, r, a, test, body, stack),
+        How::Break | How::Continue | How::Return(_) => Ok(Focus::Left(h)),
+    }
+}
+
+/// The body of a loop was left.
+#[tactic(auto, unfolding(crate::specs::Steps::body_step))]
+pub(crate) fn body_left<'a>(
+    n: u32,
+    r: Cell,
+    a: &'a TStmt,
+    h: How,
+    stack: &mut Vec<Frame<'a>>,
+    store: &Store<'a>,
+) -> Result<Focus<'a>, Stop>
+    ensures { Leads (λ f. at f (stack_of stack.new.items) (store_of store.now)) result (body_step n r (tstmt a.now) h (stack_of stack.old.items) (store_of store.now)) }
+{
+    match a {
+        TStmt::While(x, body) => match h {
+            How::On => again(n, r, a, Some(x), body, stack),
+            How::Continue => again(n, r, a, Some(x), body, stack),
+            How::Break => Ok(Focus::Left(How::On)),
+            How::Return(c) => Ok(Focus::Left(How::Return(c))),
+        },
+        TStmt::DoWhile(_, x) => match h {
+            How::On => ask(n, r, a, x, stack),
+            How::Continue => ask(n, r, a, x, stack),
+            How::Break => Ok(Focus::Left(How::On)),
+            How::Return(c) => Ok(Focus::Left(How::Return(c))),
+        },
+        TStmt::For(_, None, test, y, body) => for_left(
+            n,
+            r,
+            a,
+            test.as_ref(),
+            y.as_ref(),
+            body,
+            h,
+            stack,
+            store,
+        ),
+        TStmt::For(_, Some(_), test, y, body) => for_left(
+            n,
+            r,
+            a,
+            test.as_ref(),
+            y.as_ref(),
+            body,
+            h,
+            stack,
+            store,
+        ),
+        TStmt::Block(_, _) | TStmt::Empty | TStmt::Vars(_) | TStmt::Do(_) | TStmt::If(_, _, None) =>
+            Ok(Focus::Left(h)),
+        TStmt::If(_, _, Some(_)) | TStmt::Switch(_, _, _) | TStmt::Return(_) => Ok(Focus::Left(h)),
+        TStmt::Break | TStmt::Continue => Ok(Focus::Left(h)),
+    }
+}
+
+/// The first part of a `for` was left.
+#[tactic(auto, unfolding(crate::specs::Steps::begin_step))]
+pub(crate) fn begin_left<'a>(
+    n: u32,
+    r: Cell,
+    a: &'a TStmt,
+    h: How,
+    stack: &mut Vec<Frame<'a>>,
+    store: &Store<'a>,
+) -> Result<Focus<'a>, Stop>
+    ensures { Leads (λ f. at f (stack_of stack.new.items) (store_of store.now)) result (begin_step n r (tstmt a.now) h (stack_of stack.old.items) (store_of store.now)) }
+{
+    match a {
+        TStmt::For(_, None, test, _, body) => for_begun(
+            n,
+            r,
+            a,
+            test.as_ref(),
+            body,
+            h,
+            stack,
+            store,
+        ),
+        TStmt::For(_, Some(_), test, _, body) => for_begun(
+            n,
+            r,
+            a,
+            test.as_ref(),
+            body,
+            h,
+            stack,
+            store,
+        ),
+        TStmt::Block(_, _) | TStmt::Empty | TStmt::Vars(_) | TStmt::Do(_) | TStmt::If(_, _, None) =>
+            Ok(Focus::Left(h)),
+        TStmt::If(_, _, Some(_))
+        | TStmt::While(_, _)
+        | TStmt::DoWhile(_, _)
+        | TStmt::Switch(_, _, _) => Ok(Focus::Left(h)),
+        TStmt::Return(_) | TStmt::Break | TStmt::Continue => Ok(Focus::Left(h)),
+    }
+}

@@ -1,0 +1,187 @@
+// What a run has made so far.
+ghost use Rattle.std.specs.Prelude.{◌≡◌, IfOk, OnOk, ◌<◌, ◌+◌, ◌^◌, slice_get, set, Some, replicate};
+ghost use Rattle.std.specs.Option.{option_flatten};
+ghost use Rattle.c_types.specs.View.{ctype};
+ghost use Rattle.obj_mem.specs.declared.cell.ObjectKind.TheVariants.{Local};
+ghost use Rattle.obj_mem.specs.Objects.{made, unwritten};
+ghost use Rattle.obj_mem.specs.Stores.{local_object, end_local, fresh, fresh_all, end_all, with_temporary, next_object, entered};
+ghost use Rattle.obj_mem.specs.Queries.{first_cell};
+ghost use Rattle.obj_mem.specs.View.{objects};
+ghost use Rattle.c_meaning.specs.Cells.{end_temporary, released};
+ghost use Rattle.c_evaluate.specs.Machine.{caller_of, back_in};
+ghost use Rattle.c_evaluate.specs.SettingView.{setting_of};
+ghost use Rattle.c_evaluate.specs.StoreView.{store_of, caller};
+
+use crate::frame::Caller;
+use crate::setting::Setting;
+use crate::types::is_structure;
+use c_types::CType;
+use kit_base::Memory;
+use obj_mem::{Cell, ObjectKind, Objects, Refusal};
+use std::alloc::Global;
+
+/// The objects, the answers left, the function that is called, the objects of its locals, and the words of the frames in use.
+#[derive(Drop)]
+pub(crate) struct Store<'a> {
+    pub(crate) objects: Objects,
+    pub(crate) answers: &'a [u32],
+    pub(crate) function: Option<u32>,
+    pub(crate) locals: Vec<Option<u64>>,
+    pub(crate) used: u32,
+}
+
+/// The object of a local, where it was made.
+pub(crate) fn local_object(locals: &[Option<u64>], k: usize) -> Option<u64>
+    ensures { result ≡ local_object locals.now k }
+{
+    match locals.get(k) {
+        None => None,
+        Some(at) => *at,
+    }
+}
+
+fn end_local(os: &mut Objects, at: Option<u64>)
+    ensures { objects os.new ≡ end_local at (objects os.old) }
+{
+    if let Some(o) = at {
+        os.end(o);
+    }
+}
+
+fn set_local(locals: &mut Vec<Option<u64>>, k: u32, o: u64)
+    ensures { locals.new.items ≡ set locals.old.items k (Some o) }
+{
+    if (k as usize) < locals.len() {
+        locals[k as usize] = Some(o);
+    }
+}
+
+/// Makes an object of so many unwritten cells.
+fn make(alloc: Global, os: &mut Objects, words: u32) -> Result<(), Memory>
+    ensures { OnOk result (objects os.new ≡ made (objects os.old) Local (unwritten words)) }
+{
+    let cells = Vec::from_elem(alloc, Cell::Unwritten, words as usize)?;
+    os.make(ObjectKind::Local, cells)?;
+    Ok(())
+}
+
+/// Makes an object that is no local.
+pub(crate) fn temporary<'a>(
+    s: &Setting<'a>,
+    store: &mut Store<'a>,
+    size: u32,
+) -> Result<Cell, Memory>
+    ensures made { OnOk result (store_of store.new ≡ with_temporary size (store_of store.old)) }
+    ensures place { IfOk result (λ p. p ≡ next_object (store_of store.old)) }
+{
+    let object = store.objects.count();
+    make(s.alloc, &mut store.objects, size)?;
+    Ok(Cell::Ptr { object, offset: 0 })
+}
+
+/// Makes a local anew.
+fn fresh<'a>(s: &Setting<'a>, store: &mut Store<'a>, k: u32) -> Result<(), Memory>
+    ensures { OnOk result (store_of store.new ≡ fresh (setting_of s.now).sizes k (store_of store.old)) }
+{
+    let words = s.local_words(store.function, k);
+    let object = store.objects.count();
+    let at = local_object(&store.locals, k as usize);
+    end_local(&mut store.objects, at);
+    make(s.alloc, &mut store.objects, words)?;
+    set_local(&mut store.locals, k, object);
+    Ok(())
+}
+
+/// Makes locals anew, in order.
+pub(crate) fn fresh_all<'a>(
+    s: &Setting<'a>,
+    store: &mut Store<'a>,
+    ks: &[u32],
+) -> Result<(), Memory>
+    ensures { OnOk result (store_of store.new ≡ fresh_all (setting_of s.now).sizes ks.now (store_of store.old)) }
+{
+    'locals: for k in ks {
+        fresh(s, store, *k)?;
+    }
+    Ok(())
+}
+
+/// A pointer to a local, where it was made.
+pub(crate) fn local_cell(locals: &[Option<u64>], k: usize) -> Result<Cell, Refusal>
+    ensures { result ≡ first_cell (local_object locals.now k) }
+{
+    match local_object(locals, k) {
+        None => Err(Refusal::Strays),
+        Some(object) => Ok(Cell::Ptr { object, offset: 0 }),
+    }
+}
+
+/// Ends locals.
+pub(crate) fn end_all<'a>(store: &mut Store<'a>, ks: &[u32])
+    ensures { store_of store.new ≡ end_all ks.now (store_of store.old) }
+{
+    'locals: for k in ks {
+        let at = local_object(&store.locals, *k as usize);
+        end_local(&mut store.objects, at);
+    }
+}
+
+/// Ends the object that a structure stands in.
+pub(crate) fn end_temporary<'a>(store: &mut Store<'a>, c: Cell)
+    ensures { store_of store.new ≡ end_temporary c (store_of store.old) }
+{
+    match c {
+        Cell::Ptr { object, .. } => store.objects.end(object),
+        Cell::Unwritten | Cell::Num(_) | Cell::Null => {}
+    }
+}
+
+/// A value of a type was used.
+pub(crate) fn released<'a>(store: &mut Store<'a>, ty: &CType, c: Cell)
+    ensures { store_of store.new ≡ released (ctype ty.now) c (store_of store.old) }
+{
+    if is_structure(ty) {
+        end_temporary(store, c);
+    }
+}
+
+/// Into a function whose locals are not made yet. What is kept of the caller is answered.
+pub(crate) fn enter<'a>(
+    s: &Setting<'a>,
+    store: &mut Store<'a>,
+    f: u32,
+    frame: u32,
+) -> Result<Caller, Memory>
+    requires room { store.old.used + (frame + 2) < 2 ^ 32 }
+    requires words { frame ≡ (setting_of s.now).sizes.frame f }
+    ensures caller { IfOk result (λ c. caller c ≡ caller_of (store_of store.old)) }
+    ensures entered { OnOk result (store_of store.new ≡ entered (setting_of s.now).sizes f (store_of store.old)) }
+{
+    let made = Vec::from_elem(s.alloc, None, s.local_count(f))?;
+    let outer = std::mem::replace(&mut store.locals, made);
+    let caller = Caller {
+        objects: store.objects.count(),
+        function: store.function,
+        locals: outer,
+        used: store.used,
+    };
+    store.function = Some(f);
+    store.used = store.used + (frame + 2);
+    Ok(caller)
+}
+
+/// Back in the caller.
+pub(crate) fn back<'a>(store: &mut Store<'a>, c: Caller)
+    ensures { store_of store.new ≡ back_in (caller c) (store_of store.old) }
+{
+    let Caller {
+        objects,
+        function,
+        locals,
+        used,
+    } = c;
+    store.objects.end_from(objects);
+    store.function = function;
+    store.locals = locals;
+    store.used = used;
+}

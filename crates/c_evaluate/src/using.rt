@@ -1,0 +1,83 @@
+// What came of an expression, used.
+ghost use Rattle.std.specs.Prelude.{◌≡◌};
+ghost use Rattle.c_types.specs.View.{texpr};
+ghost use Rattle.c_evaluate.specs.Results.{Gives};
+ghost use Rattle.c_evaluate.specs.SettingView.{setting_of};
+ghost use Rattle.c_evaluate.specs.StoreView.{store_of};
+ghost use Rattle.c_evaluate.specs.Storing.{taken, tested_in, dropped_in, placed_in};
+
+use crate::cells::{fetched, located};
+use crate::frame::Came;
+use crate::operators::is_true;
+use crate::setting::Setting;
+use crate::stop::Stop;
+use crate::store::{Store, released};
+use c_meaning::End;
+use c_tree::Span;
+use c_types::TExpr;
+use obj_mem::Cell;
+
+/// Its value.
+pub(crate) fn taken<'a>(
+    s: &Setting<'a>,
+    n: u32,
+    x: &TExpr,
+    v: Came,
+    store: &mut Store<'a>,
+) -> Result<Cell, Stop>
+    ensures { Gives (λ c. (c, store_of store.new)) result (taken (setting_of s.now) n (texpr x.now) v (store_of store.old)) }
+{
+    match v {
+        Came::Value(c) => Ok(c),
+        Came::Place(p) => fetched(s, n, &x.ty, x.span, p, store),
+        Came::Nothing => Err(Stop::Ends(End::Stray(x.span))),
+    }
+}
+
+/// Whether it is true.
+pub(crate) fn tested<'a>(
+    s: &Setting<'a>,
+    n: u32,
+    x: &TExpr,
+    v: Came,
+    store: &mut Store<'a>,
+) -> Result<bool, Stop>
+    ensures { Gives (λ b. (b, store_of store.new)) result (tested_in (setting_of s.now) n (texpr x.now) v (store_of store.old)) }
+{
+    let c = taken(s, n, x, v, store)?;
+    located(x.span, is_true(&store.objects, &x.ty, c))
+}
+
+/// Its value is dropped; a call may have returned none.
+pub(crate) fn dropped<'a>(
+    s: &Setting<'a>,
+    n: u32,
+    x: &TExpr,
+    v: Came,
+    store: &mut Store<'a>,
+) -> Result<(), Stop>
+    ensures { Gives (λ _. store_of store.new) result (dropped_in (setting_of s.now) n (texpr x.now) v (store_of store.old)) }
+{
+    match v {
+        Came::Value(c) => {
+            released(store, &x.ty, c);
+            Ok(())
+        }
+        Came::Place(p) => {
+            let c = fetched(s, n, &x.ty, x.span, p, store)?;
+            released(store, &x.ty, c);
+            Ok(())
+        }
+        Came::Nothing => Ok(()),
+    }
+}
+
+/// Its place.
+pub(crate) fn placed(span: Span, v: Came) -> Result<Cell, Stop>
+    ensures { Gives (λ p. p) result (placed_in span v) }
+{
+    match v {
+        Came::Place(p) => Ok(p),
+        Came::Value(_) | Came::Nothing => Err(Stop::Ends(End::Stray(span))),
+    }
+}

@@ -5,7 +5,6 @@ use Rattle.std.proofs.lemmas.Option.{slice_get-get_or}
 use Rattle.std.proofs.lemmas.Bool.{lt-ltb}
 use Rattle.std.proofs.lemmas.List.{length-map}
 use Rattle.std.proofs.lemmas.List.Sums.{sum_by-cons}
-use Rattle.kit_base.specs.Word.{add}
 use Rattle.mid_code.specs.declared.placed.Where.{Where}
 use Rattle.mid_code.specs.Placed.{SpotsT, PlacedT}
 use Rattle.mid_code.specs.Code.{FunctionT}
@@ -15,7 +14,7 @@ use Rattle.asm_laws.specs.Names.{literal_label}
 use Rattle.asm_laws.specs.Holds.{Setting, Fits}
 use Rattle.asm_laws.specs.Laid.{spread, literal_sizes}
 use Rattle.asm_laws.specs.Linked.{setting}
-use Rattle.asm_laws.specs.Tables.{Number, OfFunction, OfStart, OfRest, number_of, spots_at, frame_for, depth_for, slot_for, called_for, locals_for, addresses, addresses_from, fixed_for, count_of, plan_of}
+use Rattle.asm_laws.specs.Tables.{Number, OfFunction, OfStart, OfRest, number_of, spots_at, frame_for, depth_for, slot_for, called_for, locals_for, addresses, fixed_for, count_of, plan_of}
 use Rattle.asm_laws.proofs.Spotted.{Conventions, conventions, spots_here, slot_stands, local_stands}
 use Rattle.asm_laws.proofs.Words.{below_not}
 use Rattle.asm_laws.proofs.Lists.{below_or_not}
@@ -35,14 +34,6 @@ pub address_is : (ns : List ℕ) (p k : ℕ) → k < length ns → get_or (addre
 address_is [] p k lt = absurd (omega (arith, lt))
 address_is (n ∷ ns) p zero lt = refl
 address_is (n ∷ ns) p (suc k) lt = address_is ns (p + n) k (omega (arith, lt))
-
--- where the sum is a word, none wraps
-pub addresses_same : (ns : List ℕ) (p : ℕ) → p + sum ns < 0x100000000 → addresses_from p ns ≡ addresses p ns
-addresses_same [] p lt = refl
-addresses_same (n ∷ ns) p lt =
-    let s = sum_by-cons (λ x. x) n ns in
-    let e : add p n ≡ p + n = omega (arith, lt, s) in
-    ap (λ q. p ∷ addresses_from q ns) e ∙ ap (λ l. p ∷ l) (addresses_same ns (p + n) (omega (arith, lt, s)))
 
 module _ (x : PlacedT) (placed : IsPlaced x) (names : List (List ℕ)) (address : List ℕ → ℕ) (enters leaves : ℕ → ℕ) (first : ℕ) (words : List ℕ) (has_card : Bool) where
   abbrev S : Setting

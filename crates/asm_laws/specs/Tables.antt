@@ -1,6 +1,5 @@
 -- The setting of placed code with its frames and spots.
 use Rattle.std.specs.Prelude.{◌≡◌, ℕ, ◌+◌, ◌-◌, ◌<◌, ◌≤◌, cond, ltb, eqb, List, [], ◌∷◌, length, get_or, Option, Some, None}
-use Rattle.kit_base.specs.Word.{add}
 use Rattle.mid_code.specs.Placed.{SpotsT, PlacedT}
 use Rattle.mid_code.specs.States.{function_at}
 use Rattle.asm_laws.specs.Operations.{Frame, Whole, start_frame}
@@ -47,11 +46,6 @@ locals_for x OfRest f = []
 abbrev pub addresses : ℕ → List ℕ → List ℕ
 addresses p [] = []
 addresses p (n ∷ ns) = p ∷ addresses (p + n) ns
-
--- the same where sums wrap
-abbrev pub addresses_from : ℕ → List ℕ → List ℕ
-addresses_from p [] = []
-addresses_from p (n ∷ ns) = p ∷ addresses_from (add p n) ns
 
 abbrev pub fixed_for : PlacedT → (first_literal : ℕ) → ℕ → ℕ
 fixed_for x first o = cond (ltb o (length x.code.globals)) (spread x.code.globals 0 o) (cond (ltb o (length x.code.globals + length x.code.literals)) (spread (literal_sizes x.code.literals) first (o - length x.code.globals)) 0x30000000)

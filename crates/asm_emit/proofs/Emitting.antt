@@ -8,9 +8,9 @@ use Rattle.mid_code.specs.Placed.{PlacedT}
 use Rattle.mid_code.specs.Invariants.{IsPlaced}
 use Rattle.asm_laws.specs.Tables.{addresses, whole_of}
 use Rattle.asm_laws.specs.Emitted.{program_items, labels_of}
-use Rattle.asm_laws.specs.EmittedFrom.{CanBeEmitted, IsEmitted}
+use Rattle.asm_emit.specs.EmittedFrom.{CanBeEmitted, IsEmitted}
 use Rattle.asm_laws.proofs.Sizes.{program_few, few_texts, few_functions}
-use Rattle.asm_laws.proofs.Promised.{is_emitted}
+use Rattle.asm_emit.proofs.Promised.{is_emitted}
 use Rattle.asm_emit.specs.View.{whole_of_parts, wrapped_addresses}
 
 -- where the sum is a word, none wraps

@@ -1,3 +1,6 @@
 pub mod Calling
-pub mod Joining
+pub mod InMemory
+pub mod Forward
+pub mod Agreeing
+pub mod Promised
 pub mod Emitting

@@ -229,7 +229,7 @@ fn put_nodes(
 }
 
 /// Adds the items of a body whose labels begin at n; the number of the next label.
-#[tactic(auto, using(crate::proofs::Joining::list_counts, crate::proofs::Joining::list_are))]
+#[tactic(auto, using(crate::proofs::InMemory::list_counts, crate::proofs::InMemory::list_are))]
 pub(crate) fn put_body(
     alloc: Global,
     out: &mut Vec<AsmItem>,

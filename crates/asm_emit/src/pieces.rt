@@ -66,7 +66,11 @@ pub(crate) fn keeps(out: &mut Vec<AsmItem>, s: &Scope<'_>, t: Where) -> Result<(
     op(out, keep(s, t, Reg::at(9)))
 }
 
-pub(crate) fn keeps_some(out: &mut Vec<AsmItem>, s: &Scope<'_>, t: Option<Where>) -> Result<(), Memory>
+pub(crate) fn keeps_some(
+    out: &mut Vec<AsmItem>,
+    s: &Scope<'_>,
+    t: Option<Where>,
+) -> Result<(), Memory>
     ensures { OnOk result (out.new.items ≡ out.old.items ++ keeps_some (frame s.now) t) }
 {
     match t {

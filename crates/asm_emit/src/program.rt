@@ -6,7 +6,7 @@ ghost use Rattle.mid_code.specs.View.{code, spots};
 ghost use Rattle.mid_code.specs.Whole.{placed};
 ghost use Rattle.asm_laws.specs.Operations.{literal_items, literals_items};
 ghost use Rattle.asm_laws.specs.Emitted.{labels, labels_of, functions_labels, entry_items, exit_items, function_items, functions_items, start_items, closing_items, program_items};
-ghost use Rattle.asm_laws.specs.EmittedFrom.{CanBeEmitted, IsEmitted};
+ghost use Rattle.asm_emit.specs.EmittedFrom.{CanBeEmitted, IsEmitted};
 ghost use Rattle.asm_emit.specs.View.{frame, whole, whole_of_parts, wrapped_addresses};
 
 use crate::names::{function_label, literal_label};
@@ -222,5 +222,11 @@ pub fn emit(alloc: Global, x: &Placed, names: &[Name]) -> Result<Vec<AsmItem>, M
     ensures emitted { IfOk result (λ v. IsEmitted (placed x.now) names.now v.items) }
 {
     placed_code_is_sound(x);
-    items_of(alloc, x.code(), x.spots(), x.frames().sizes.as_slice(), names)
+    items_of(
+        alloc,
+        x.code(),
+        x.spots(),
+        x.frames().sizes.as_slice(),
+        names,
+    )
 }

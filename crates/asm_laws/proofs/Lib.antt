@@ -34,6 +34,3 @@ pub mod Known
 pub mod CodeAt
 pub mod Same
 pub mod Found
-pub mod Forward
-pub mod Joined
-pub mod Promised

@@ -17,4 +17,3 @@ pub mod Tables
 pub mod PlacedAt
 pub mod Emitted
 pub mod Labelled
-pub mod EmittedFrom

@@ -18,7 +18,7 @@ use Rattle.asm_laws.specs.Labelled.{label_of_function, HasLabel}
 use Rattle.asm_laws.specs.Operations.{Frame, Whole, fetches, keeps, keeps_some, slot_arg, slot_args, pushed_arg, pushed_args, popped_arg, popped_args, args_items, call_items, op_items, giving}
 use Rattle.asm_laws.specs.Framing.{frame_made, frame_gone}
 use Rattle.asm_laws.specs.Emitted.{labels, enclosing, jump, jump_unless, mark, first_part, second_part, choice, enclosed, returning, code_items, call_item, own_items, exit_items}
-use Rattle.asm_laws.specs.EmittedFrom.{IsCalled, GoesOn, AllGoOn}
+use Rattle.asm_emit.specs.EmittedFrom.{IsCalled, GoesOn, AllGoOn}
 use Rattle.asm_laws.proofs.Enclosing.{innermost, further}
 use Rattle.asm_laws.proofs.Known.{marked_left, marked_right, function_there}
 

@@ -24,11 +24,11 @@ use Rattle.asm_laws.specs.Operations.{Whole, literal_items, literals_items}
 use Rattle.asm_laws.specs.Framing.{frame_made}
 use Rattle.asm_laws.specs.Emitted.{labels, functions_labels, mark, code_items, own_items, function_items, functions_items, start_items, program_items, labels_of}
 use Rattle.asm_laws.specs.Tables.{addresses, whole_of}
-use Rattle.asm_laws.specs.EmittedFrom.{literal_words, CanBeEmitted, AreData, IsCalled, AreItemsOf, AreFunctions, IsEmitted}
+use Rattle.asm_emit.specs.EmittedFrom.{literal_words, CanBeEmitted, AreData, IsCalled, AreItemsOf, AreFunctions, IsEmitted}
 use Rattle.asm_laws.proofs.Sizes.{program_size, program_few}
 use Rattle.asm_laws.proofs.Known.{no_fault}
-use Rattle.asm_laws.proofs.Forward.{own_go_on}
-use Rattle.asm_laws.proofs.Joined.{sound, few_labels, words_agree}
+use Rattle.asm_emit.proofs.Forward.{own_go_on}
+use Rattle.asm_emit.proofs.Agreeing.{sound, few_labels, words_agree}
 
 -- ---- literals are data
 

@@ -31,7 +31,7 @@ use Rattle.asm_laws.specs.Linked.{setting}
 use Rattle.asm_laws.specs.Program.{BodyAt, ProgramAt}
 use Rattle.asm_laws.specs.Tables.{Number, OfFunction, OfStart, OfRest, number_of, frame_for, called_for, addresses, whole_of, count_of, plan_of}
 use Rattle.asm_laws.specs.PlacedAt.{PlacedAt}
-use Rattle.asm_laws.specs.EmittedFrom.{CanBeEmitted}
+use Rattle.asm_emit.specs.EmittedFrom.{CanBeEmitted}
 use Rattle.asm_laws.proofs.Words.{below_not}
 use Rattle.asm_laws.proofs.Spotted.{function_is}
 use Rattle.asm_laws.proofs.Tables.{number_function, function_number}

@@ -41,7 +41,8 @@ use Rattle.asm_laws.proofs.LabelKinds.{Differ}
 use Rattle.asm_laws.proofs.Walked.{placed_stand}
 use Rattle.asm_laws.proofs.Sizes.{Counts, program_size, program_few}
 use Rattle.asm_laws.proofs.Known.{Sound, function_there, no_fault}
-use Rattle.asm_laws.proofs.CodeAt.{split, body_at}
+use Rattle.asm_laws.proofs.Split.{split}
+use Rattle.asm_laws.proofs.CodeAt.{body_at}
 use Rattle.asm_laws.proofs.Same.{framed, program_same}
 use Rattle.asm_laws.proofs.Found.{FoundAt, enters_of, leaves_of, functions_found}
 

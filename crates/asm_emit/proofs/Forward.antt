@@ -1,10 +1,13 @@
 -- In code without a loop each item goes on.
 use Rattle.std.proofs.Common.{◌≡◌, ℕ, zero, suc, ◌+◌, ◌-◌, ◌^◌, ◌<◌, ◌⊎◌, inl, inr, Bool, true, false, List, [], ◌∷◌, ◌++◌, length, Option, Some, None, refl, sym, ap, ◌∙◌, subst, arith, append_assoc, length-append}
-use Rattle.std.specs.Prelude.{slice_get, get_or}
+use Rattle.std.specs.Prelude.{cond, slice_get, get_or}
 use Rattle.std.proofs.lemmas.Option.{get_or_from_slice_get}
 use Rattle.kit_base.specs.Word.{add}
 use Rattle.v32_isa.specs.declared.instruction.One.{One}
 use Rattle.v32_isa.specs.declared.instruction.One.TheVariants.{CIB, NOT, BNOT, ISGN, IABS}
+use Rattle.v32_isa.specs.declared.instruction.Two.{Two}
+use Rattle.v32_isa.specs.declared.instruction.Two.TheVariants.{IADD, ISUB}
+use Rattle.v32_isa.specs.declared.instruction.Src.TheVariants as src
 use Rattle.v32_isa.specs.declared.instruction.Instr.TheVariants as instr
 use Rattle.asm_items.specs.declared.item.AsmItem.{AsmItem}
 use Rattle.asm_items.specs.declared.item.AsmItem.TheVariants as item
@@ -15,7 +18,7 @@ use Rattle.mid_code.specs.Invariants.{IsOne, IsOp, IsLoop, AreNodes}
 use Rattle.mid_code.specs.Calls.{loops, CallsTo}
 use Rattle.asm_laws.specs.Names.{jump_label, function_label}
 use Rattle.asm_laws.specs.Labelled.{label_of_function, HasLabel}
-use Rattle.asm_laws.specs.Operations.{Frame, Whole, fetches, keeps, keeps_some, slot_arg, slot_args, pushed_arg, pushed_args, popped_arg, popped_args, args_items, call_items, op_items, giving}
+use Rattle.asm_laws.specs.Operations.{Frame, Whole, register, keep, fetches, keeps, keeps_some, is_in, hand, brings, takes, aim, lays, moves, changes, is_direct, in_place, apart, computes, slot_arg, slot_args, pushed_arg, pushed_args, popped_arg, popped_args, args_items, call_items, op_items, giving}
 use Rattle.asm_laws.specs.Framing.{frame_made, frame_gone}
 use Rattle.asm_laws.specs.Emitted.{labels, enclosing, jump, jump_unless, mark, first_part, second_part, choice, enclosed, returning, code_items, call_item, own_items, exit_items}
 use Rattle.asm_emit.specs.EmittedFrom.{IsCalled, GoesOn, AllGoOn}
@@ -50,20 +53,52 @@ module _ (names : List (List ℕ)) (body : NodesT Where) where
   some_ahead F None later = tt
   some_ahead F (Some t) later = (keep_ahead F t later, tt)
 
-  one_ahead : (o : One) (later : List AsmItem) → IsOne o → GoesOn names body (item.Op (instr.One o 9)) later
-  one_ahead CIB later h = tt
-  one_ahead NOT later h = tt
-  one_ahead BNOT later h = tt
-  one_ahead ISGN later h = tt
-  one_ahead IABS later h = tt
-  one_ahead _ later h = absurd h
+  one_ahead : (o : One) (m : ℕ) (later : List AsmItem) → IsOne o → GoesOn names body (item.Op (instr.One o m)) later
+  one_ahead CIB m later h = tt
+  one_ahead NOT m later h = tt
+  one_ahead BNOT m later h = tt
+  one_ahead ISGN m later h = tt
+  one_ahead IABS m later h = tt
+  one_ahead _ m later h = absurd h
+
+  brought_ahead : (F : Frame) (p : Where) (r : ℕ) (xs later : List AsmItem) → Ahead xs later → Ahead (brings F p r ++ xs) later
+  brought_ahead F (Reg q) r xs later h = h
+  brought_ahead F (Slot k) r xs later h = (tt, h)
+
+  one_of_both : (b : Bool) (xs ys later : List AsmItem) → Ahead xs later → Ahead ys later → Ahead (cond b xs ys) later
+  one_of_both true xs ys later h g = h
+  one_of_both false xs ys later h g = g
+
+  takes_ahead : (F : Frame) (p : Where) (m : ℕ) (later : List AsmItem) → Ahead (takes F p m) later
+  takes_ahead F p m later = one_of_both (is_in p m) [] (fetches F p m ∷ []) later tt (fetch_ahead F p m _, tt)
+
+  lays_ahead : (F : Frame) (t : Where) (later : List AsmItem) → Ahead (lays F t) later
+  lays_ahead F (Reg q) later = tt
+  lays_ahead F (Slot k) later = (tt, tt)
+
+  keep_from_ahead : (F : Frame) (t : Where) (r : ℕ) (later : List AsmItem) → GoesOn names body (item.Op (keep F t r)) later
+  keep_from_ahead F (Reg q) r later = tt
+  keep_from_ahead F (Slot k) r later = tt
+
+  moves_ahead : (F : Frame) (t a : Where) (later : List AsmItem) → Ahead (moves F t a) later
+  moves_ahead F t (Reg q) later = one_of_both (is_in t (register q)) [] (item.Op (keep F t (register q)) ∷ []) later tt (keep_from_ahead F t (register q) _, tt)
+  moves_ahead F t (Slot k) later = (tt, lays_ahead F t later)
+
+  changes_ahead : (F : Frame) (o : One) (t a : Where) (later : List AsmItem) → IsOne o → Ahead (changes F o t a) later
+  changes_ahead F o t a later ok = ahead_append (takes F a (aim t)) (item.Op (instr.One o (aim t)) ∷ lays F t) later (takes_ahead F a (aim t) _) (one_ahead o (aim t) _ ok, lays_ahead F t later)
+
+  computes_ahead : (F : Frame) (o : Two) (t a b : Where) (later : List AsmItem) → Ahead (computes F o t a b) later
+  computes_ahead F o t a b later =
+      one_of_both (is_direct o t b) (in_place F o (aim t) a b) (apart F o t a b) later
+      (ahead_append (takes F a (aim t)) (brings F b 10 ++ item.Op (instr.Two o (aim t) (src.Reg (hand b 10))) ∷ []) later (takes_ahead F a (aim t) _) (brought_ahead F b 10 _ later (tt, tt)))
+      (fetch_ahead F a 9 _, brought_ahead F b 10 _ later (tt, (keep_ahead F t _, tt)))
 
   slot_ahead : (F G : Frame) (p a : Where) (later : List AsmItem) → Ahead (slot_arg F G p a) later
   slot_ahead F G (Reg q) a later = tt
-  slot_ahead F G (Slot k) a later = (fetch_ahead F a 9 _, (tt, tt))
+  slot_ahead F G (Slot k) a later = brought_ahead F a 9 _ later (tt, tt)
 
   pushed_ahead : (F : Frame) (p a : Where) (later : List AsmItem) → Ahead (pushed_arg F p a) later
-  pushed_ahead F (Reg q) a later = (fetch_ahead F a 9 _, (tt, tt))
+  pushed_ahead F (Reg q) a later = brought_ahead F a 9 _ later (tt, tt)
   pushed_ahead F (Slot k) a later = tt
 
   popped_ahead : (p : Where) (later : List AsmItem) → Ahead (popped_arg p) later
@@ -92,24 +127,24 @@ module _ (names : List (List ℕ)) (body : NodesT Where) where
   module _ (x : CodeT Where) (W : Whole) (named : (g : ℕ) → g < length x.functions → CallsTo g body → IsCalled names body (function_label W.names g)) (m : ℕ) (F : Frame) where
     op_ahead : (o : OpT Where) (later : List AsmItem) → IsOp x m o → Ahead (op_items W F o) later
     unfolding op_items
-    op_ahead (ConstO t n) later ok = (tt, (keep_ahead F t _, tt))
-    op_ahead (NullO t) later ok = (tt, (keep_ahead F t _, tt))
-    op_ahead (MoveO t a) later ok = (fetch_ahead F a 9 _, (keep_ahead F t _, tt))
-    op_ahead (OneO o t a) later ok = (fetch_ahead F a 9 _, (one_ahead o _ ok, (keep_ahead F t _, tt)))
-    op_ahead (TwoO o t a b) later ok = (fetch_ahead F a 9 _, (fetch_ahead F b 10 _, (tt, (keep_ahead F t _, tt))))
-    op_ahead (GlobalO t k) later ok = (tt, (keep_ahead F t _, tt))
-    op_ahead (LocalO t k) later ok = (tt, (keep_ahead F t _, tt))
-    op_ahead (LiteralO t k) later ok = (tt, (keep_ahead F t _, tt))
-    op_ahead (CardO t) later ok = (tt, (keep_ahead F t _, tt))
-    op_ahead (StepO t p n) later ok = (fetch_ahead F p 9 _, (fetch_ahead F n 10 _, (tt, (keep_ahead F t _, tt))))
-    op_ahead (ApartO t p q) later ok = (fetch_ahead F p 9 _, (fetch_ahead F q 10 _, (tt, (keep_ahead F t _, tt))))
-    op_ahead (PtrTestO o t p q) later ok = (fetch_ahead F p 9 _, (fetch_ahead F q 10 _, (tt, (keep_ahead F t _, tt))))
-    op_ahead (LoadO t p) later ok = (fetch_ahead F p 9 _, (tt, (keep_ahead F t _, tt)))
-    op_ahead (StoreO p a) later ok = (fetch_ahead F p 9 _, (fetch_ahead F a 10 _, (tt, tt)))
+    op_ahead (ConstO t n) later ok = (tt, lays_ahead F t later)
+    op_ahead (NullO t) later ok = (tt, lays_ahead F t later)
+    op_ahead (MoveO t a) later ok = moves_ahead F t a later
+    op_ahead (OneO o t a) later ok = changes_ahead F o t a later ok
+    op_ahead (TwoO o t a b) later ok = computes_ahead F o t a b later
+    op_ahead (GlobalO t k) later ok = (tt, lays_ahead F t later)
+    op_ahead (LocalO t k) later ok = (tt, lays_ahead F t later)
+    op_ahead (LiteralO t k) later ok = (tt, lays_ahead F t later)
+    op_ahead (CardO t) later ok = (tt, lays_ahead F t later)
+    op_ahead (StepO t p n) later ok = computes_ahead F IADD t p n later
+    op_ahead (ApartO t p q) later ok = computes_ahead F ISUB t p q later
+    op_ahead (PtrTestO o t p q) later ok = computes_ahead F o t p q later
+    op_ahead (LoadO t p) later ok = brought_ahead F p 9 _ later (tt, lays_ahead F t later)
+    op_ahead (StoreO p a) later ok = brought_ahead F p 9 _ later (brought_ahead F a 10 _ later (tt, tt))
     op_ahead (FreshO k) later ok = tt
     op_ahead (EndO k) later ok = tt
-    op_ahead (InO t port) later ok = (tt, (keep_ahead F t _, tt))
-    op_ahead (OutO port a) later ok = (fetch_ahead F a 9 _, (tt, tt))
+    op_ahead (InO t port) later ok = (tt, lays_ahead F t later)
+    op_ahead (OutO port a) later ok = brought_ahead F a 9 _ later (tt, tt)
     op_ahead WaitO later ok = (tt, tt)
     op_ahead HaltO later ok = (tt, tt)
 
@@ -154,7 +189,7 @@ module _ (names : List (List ℕ)) (body : NodesT Where) where
         let on : HasLabel (inner ++ (second ++ later)) (jump_label n) = marked_left inner (second ++ later) (jump_label n) (marked_right a (jump w ∷ mark n ∷ []) (jump_label n) (inl refl)) in
         let out : HasLabel ((mark n ∷ []) ++ (second ++ later)) (jump_label w) = marked_right (mark n ∷ []) (second ++ later) (jump_label w) (marked_left second later (jump_label w) (marked_right b (mark w ∷ []) (jump_label w) (inl refl))) in
         ahead_append (first_part F p n w a) second later
-        (fetch_ahead F p 9 _, (on, ahead_append a (jump w ∷ mark n ∷ []) (second ++ later) ha (out, (tt, tt))))
+        (brought_ahead F p 9 (jump_unless (hand p 9) n ∷ inner) (second ++ later) (on, ahead_append a (jump w ∷ mark n ∷ []) (second ++ later) ha (out, (tt, tt))))
         (ahead_append b (mark w ∷ []) later hb (tt, tt))
 
     deeper : (ls : List ℕ) (n : ℕ) (bs : List Bool) (b : Bool) → length ls ≡ length bs → length (ls ++ n ∷ []) ≡ length (b ∷ bs)

@@ -3,8 +3,8 @@ ghost use Rattle.std.specs.Prelude.{◌≡◌, ◌++◌, ◌∷◌, [], OnOk, If
 ghost use Rattle.asm_laws.specs.Operations.{slot_arg, slot_args, pushed_arg, pushed_args, popped_arg, popped_args, args_items, call_items};
 ghost use Rattle.asm_emit.specs.View.{frame, whole};
 
+use crate::hands::{brings, hand, keeps_some, op, register};
 use crate::names::function_label;
-use crate::pieces::{fetches, keeps_some, op, register};
 use crate::scope::{Around, Scope, params_at, scope_at, slot_word};
 use asm_items::AsmItem;
 use either::Either;
@@ -26,10 +26,10 @@ fn put_slot_arg(
         Where::Reg(_) => Ok(()),
         Where::Slot(k) => {
             let word = slot_word(callee, k).wrapping_sub(2);
-            fetches(out, s, a, 9)?;
+            brings(out, s, a, 9)?;
             op(
                 out,
-                Instr::Mov(Mov::AtOffReg(Reg::at(15), Either::Left(word), Reg::at(9))),
+                Instr::Mov(Mov::AtOffReg(Reg::at(15), Either::Left(word), hand(a, 9))),
             )
         }
     }
@@ -40,8 +40,8 @@ fn push_arg(out: &mut Vec<AsmItem>, s: &Scope<'_>, p: Where, a: Where) -> Result
 {
     match p {
         Where::Reg(_) => {
-            fetches(out, s, a, 9)?;
-            op(out, Instr::One(One::PUSH, Reg::at(9)))
+            brings(out, s, a, 9)?;
+            op(out, Instr::One(One::PUSH, hand(a, 9)))
         }
         Where::Slot(_) => Ok(()),
     }

@@ -6,6 +6,7 @@
 #![tactic(auto)]
 
 mod calls;
+mod hands;
 mod names;
 mod nodes;
 mod operations;

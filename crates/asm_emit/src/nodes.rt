@@ -7,9 +7,9 @@ ghost use Rattle.asm_laws.specs.Emitted.{labels, enclosing, jump, jump_unless, m
 ghost use Rattle.asm_emit.specs.Listed.{node_labels, list_labels, node_items, list_items};
 ghost use Rattle.asm_emit.specs.View.{frame, whole};
 
+use crate::hands::{brings, fetches, hand, op};
 use crate::names::jump_label;
 use crate::operations::put_op;
-use crate::pieces::{fetches, op};
 use crate::scope::{Around, Scope};
 use asm_items::AsmItem;
 use either::Either;
@@ -26,14 +26,14 @@ pub(crate) fn put_jump(alloc: Global, out: &mut Vec<AsmItem>, n: u32) -> Result<
     op(out, Instr::Go(Go::JMP, Src::Imm(Either::Right(label))))
 }
 
-/// Adds a jump to a label where register 9 is 0.
-fn put_jump_unless(alloc: Global, out: &mut Vec<AsmItem>, n: u32) -> Result<(), Memory>
-    ensures { OnOk result (out.new.items ≡ out.old.items ++ jump_unless n ∷ []) }
+/// Adds a jump to a label where a register is 0.
+fn put_jump_unless(alloc: Global, out: &mut Vec<AsmItem>, r: Reg, n: u32) -> Result<(), Memory>
+    ensures { OnOk result (out.new.items ≡ out.old.items ++ jump_unless r n ∷ []) }
 {
     let label = jump_label(alloc, n)?;
     op(
         out,
-        Instr::Branch(Branch::JF, Reg::at(9), Src::Imm(Either::Right(label))),
+        Instr::Branch(Branch::JF, r, Src::Imm(Either::Right(label))),
     )
 }
 
@@ -91,8 +91,8 @@ fn put_first(
     ensures labels { OnOk result (ls.new.items ≡ ls.old.items) }
     ensures next { IfOk result (λ m. m ≡ n + 1 + list_labels (listed (map node a.now))) }
 {
-    fetches(out, s, p, 9)?;
-    put_jump_unless(alloc, out, n)?;
+    brings(out, s, p, 9)?;
+    put_jump_unless(alloc, out, hand(p, 9), n)?;
     let m = put_nodes(alloc, out, w, s, end, ls, n + 1, a)?;
     put_jump(alloc, out, m)?;
     put_mark(alloc, out, n)?;

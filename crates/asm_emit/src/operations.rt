@@ -4,8 +4,9 @@ ghost use Rattle.asm_emit.specs.Listed.{do_items};
 ghost use Rattle.asm_emit.specs.View.{frame, whole};
 
 use crate::calls::put_call;
+use crate::hands::{aim, brings, hand, lays, op};
 use crate::names::literal_label;
-use crate::pieces::{computes, fetches, keeps, op, port, sets};
+use crate::pieces::{changes, computes, moves, port, sets};
 use crate::scope::{Around, Scope, at_or, local_word};
 use asm_items::AsmItem;
 use either::Either;
@@ -28,27 +29,14 @@ pub(crate) fn put_op(
     match o {
         Op::Const(t, n) => sets(out, s, *t, Either::Left(*n)),
         Op::Null(t) => sets(out, s, *t, Either::Left(0xFFFF_FFFF)),
-        Op::Move(t, a) => {
-            fetches(out, s, *a, 9)?;
-            keeps(out, s, *t)
-        }
-        Op::One(o, t, a) => {
-            fetches(out, s, *a, 9)?;
-            op(out, Instr::One(*o, Reg::at(9)))?;
-            keeps(out, s, *t)
-        }
+        Op::Move(t, a) => moves(out, s, *t, *a),
+        Op::One(o, t, a) => changes(out, s, *o, *t, *a),
         Op::Two(o, t, a, b) => computes(out, s, *o, *t, *a, *b),
         Op::Global(t, k) => sets(out, s, *t, Either::Left(at_or(w.globals, *k, 0))),
         Op::Local(t, k) => {
-            op(
-                out,
-                Instr::Lea(
-                    Reg::at(9),
-                    Reg::at(14),
-                    Some(Either::Left(local_word(s, *k))),
-                ),
-            )?;
-            keeps(out, s, *t)
+            let word = Some(Either::Left(local_word(s, *k)));
+            op(out, Instr::Lea(aim(*t), Reg::at(14), word))?;
+            lays(out, s, *t)
         }
         Op::Literal(t, k) => sets(out, s, *t, Either::Right(literal_label(alloc, *k)?)),
         Op::Card(t) => sets(out, s, *t, Either::Left(0x3000_0000)),
@@ -56,25 +44,25 @@ pub(crate) fn put_op(
         Op::Apart(t, p, q) => computes(out, s, Two::ISUB, *t, *p, *q),
         Op::PtrTest(o, t, p, q) => computes(out, s, *o, *t, *p, *q),
         Op::Load(t, p) => {
-            fetches(out, s, *p, 9)?;
-            op(out, Instr::Mov(Mov::RegAtReg(Reg::at(9), Reg::at(9))))?;
-            keeps(out, s, *t)
+            brings(out, s, *p, 9)?;
+            op(out, Instr::Mov(Mov::RegAtReg(aim(*t), hand(*p, 9))))?;
+            lays(out, s, *t)
         }
         Op::Store(p, a) => {
-            fetches(out, s, *p, 9)?;
-            fetches(out, s, *a, 10)?;
-            op(out, Instr::Mov(Mov::AtRegReg(Reg::at(9), Reg::at(10))))
+            brings(out, s, *p, 9)?;
+            brings(out, s, *a, 10)?;
+            op(out, Instr::Mov(Mov::AtRegReg(hand(*p, 9), hand(*a, 10))))
         }
         Op::Fresh(_) => Ok(()),
         Op::End(_) => Ok(()),
         Op::Call(t, g, args) => put_call(alloc, out, w, s, *t, *g, args.as_slice()),
         Op::In(t, p) => {
-            op(out, Instr::In(Reg::at(9), port(*p)))?;
-            keeps(out, s, *t)
+            op(out, Instr::In(aim(*t), port(*p)))?;
+            lays(out, s, *t)
         }
         Op::Out(p, a) => {
-            fetches(out, s, *a, 9)?;
-            op(out, Instr::Out(port(*p), Src::Reg(Reg::at(9))))
+            brings(out, s, *a, 9)?;
+            op(out, Instr::Out(port(*p), Src::Reg(hand(*a, 9))))
         }
         Op::Wait => op(out, Instr::Plain(Plain::WAIT)),
         Op::Halt => op(out, Instr::Plain(Plain::HLT)),

@@ -9,9 +9,9 @@ ghost use Rattle.asm_laws.specs.Emitted.{labels, labels_of, functions_labels, en
 ghost use Rattle.asm_emit.specs.EmittedFrom.{CanBeEmitted, IsEmitted};
 ghost use Rattle.asm_emit.specs.View.{frame, whole, whole_of_parts, wrapped_addresses};
 
+use crate::hands::op;
 use crate::names::{function_label, literal_label};
 use crate::nodes::{put_body, put_mark};
-use crate::pieces::op;
 use crate::scope::{Around, Scope, scope_at};
 use asm_items::AsmItem;
 use either::Either;

@@ -280,7 +280,7 @@ module _ (S : Setting) (fits : Fits S) where
         }
         go (Some q) named k =
             let ys = s1.world.store.answers in
-            let r = keeps_so C F S.address (gone_back gv.words) home.to ys next q (register_of m1 9) k.0 (room S fits κ (returned_to st s1.world.store) (after_call registers_and_slots s.cells) gv.place (gone_back gv.words) holds) (good_at κ.fn q named.0) home.held (home.at ∙ link_2) home.nine k.1 in
+            let r = keeps_so C F S.address (gone_back gv.words) home.to ys next q 9 (register_of m1 9) k.0 (omega arith) (room S fits κ (returned_to st s1.world.store) (after_call registers_and_slots s.cells) gv.place (gone_back gv.words) holds) (good_at κ.fn q named.0) home.held (home.at ∙ link_2) home.nine k.1 in
             record {
               steps = 3 + r.steps;
               made = [];

@@ -9,21 +9,18 @@ use Rattle.mid_code.specs.declared.placed.Where.{Where}
 use Rattle.mid_code.specs.Code.{NodesT, Stop, Do, Call, Choose, Block, Loop, Leave, Again, Return, CodeT}
 use Rattle.mid_code.specs.Invariants.{AreNodes}
 use Rattle.asm_laws.specs.Names.{jump_label}
-use Rattle.asm_laws.specs.Operations.{Frame, Whole, fetches, giving, op_items, call_items}
+use Rattle.asm_laws.specs.Operations.{Frame, Whole, hand, brings, giving, op_items, call_items}
 use Rattle.asm_laws.specs.Emitted.{labels, enclosing, jump, jump_unless, mark, choice, first_part, second_part, enclosed, returning, code_items}
 use Rattle.asm_laws.specs.Placing.{Line, Bounds, end_of, begin_of, Jumps, At}
 use Rattle.asm_laws.specs.Standing.{Stand}
 use Rattle.asm_laws.specs.Holds.{Setting}
 use Rattle.asm_laws.specs.Program.{items_at}
+use Rattle.asm_laws.proofs.Split.{split}
 use Rattle.asm_laws.proofs.Enclosing.{innermost, further}
 use Rattle.asm_laws.proofs.Known.{loop_there}
 
 abbrev Few : ℕ → Type 0
 Few n = n < 2 ^ 32 - 1
-
-pub split : (words : List ℕ) (address : List ℕ → ℕ) (a b : List AsmItem) (pc e : ℕ) → Stand words address pc (a ++ b) e → (q : ℕ) × Stand words address pc a q × Stand words address q b e
-split words address [] b pc e h = (pc, refl, h)
-split words address (x ∷ a) b pc e h = let r = split words address a b h.0 e h.2 in (r.0, (h.0, h.1, r.1), r.2)
 
 module _ (S : Setting) (f out : ℕ) (leave : S.address (jump_label out) ≡ S.leaves f) where
   abbrev label : ℕ → ℕ
@@ -112,19 +109,20 @@ module _ (S : Setting) (f out : ℕ) (leave : S.address (jump_label out) ≡ S.l
         let two = items ls (m + 1) b in
         let h0 = parts (choice F w n m one two) (items ls (n + (2 + labels a + labels b)) c) pc e h in
         let h1 = parts (first_part F w n m one) (second_part m two) pc h0.0 h0.1 in
-        let t = h1.1 in
-        let h2 = parts one (jump m ∷ mark n ∷ []) t.2.0 h1.0 t.2.2 in
+        let t = parts (brings F w 9) (jump_unless (hand w 9) n ∷ (one ++ jump m ∷ mark n ∷ [])) pc h1.0 h1.1 in
+        let u = t.2 in
+        let h2 = parts one (jump m ∷ mark n ∷ []) u.0 h1.0 u.2 in
         let h3 = parts two (mark m ∷ []) h1.0 h0.0 h1.2 in
         let j = h2.2 in
         let at_n : label n ≡ h1.0 = j.2.1.0 ∙ sym j.2.1.1 ∙ j.2.2 in
         let at_m : h3.0 ≡ label m = sym h3.2.1.0 in
         let q_m : h0.0 ≡ label m = sym h3.2.2 ∙ h3.2.1.1 ∙ at_m in (
-          t.2.0,
+          u.0,
           h2.0,
           label n,
           label m,
-          (t.0, (t.0, t.1, refl), t.2.1),
-          code_at a bs ls es (n + 1) t.2.0 h2.0 ok.0 same (omega (arith, few)) en h2.1,
+          (t.0, t.1, u.1),
+          code_at a bs ls es (n + 1) u.0 h2.0 ok.0 same (omega (arith, few)) en h2.1,
           (j.0, j.1),
           from es h1.0 (label n) (label m) b (sym at_n) (upto es h1.0 h3.0 (label m) b at_m (code_at b bs ls es (m + 1) h1.0 h3.0 ok.1 same (omega (arith, few)) en h3.1)),
           from es h0.0 (label m) e c q_m (code_at c bs ls es (n + (2 + labels a + labels b)) h0.0 e ok.2 same (omega (arith, few)) en h0.2),

@@ -10,7 +10,7 @@ use Rattle.asm_laws.specs.Operations.{Whole}
 use Rattle.asm_laws.specs.Framing.{frame_made, frame_gone}
 use Rattle.asm_laws.specs.Emitted.{labels, functions_labels, code_items, entry_items, exit_items, function_items, functions_items}
 use Rattle.asm_laws.specs.Standing.{Stand}
-use Rattle.asm_laws.proofs.CodeAt.{split}
+use Rattle.asm_laws.proofs.Split.{split}
 
 module _ (words : List ℕ) (address : List ℕ → ℕ) (W : Whole) where
   abbrev Here : ℕ → List AsmItem → ℕ → Type 0

@@ -6,6 +6,10 @@ use Rattle.std.proofs.lemmas.Slice.Eq.{bytes_eq-Decides}
 use Rattle.std.proofs.lemmas.Bool.{le-ltb}
 use Rattle.std.specs.Option.{option_map_or}
 use Rattle.kit_base.specs.Word.{add}
+use Rattle.v32_isa.specs.declared.instruction.One.{One as OneOf}
+use Rattle.v32_isa.specs.declared.instruction.Two.{Two as TwoOf}
+use Rattle.v32_isa.specs.declared.instruction.Two.TheVariants.{IADD, ISUB}
+use Rattle.v32_isa.specs.declared.instruction.Instr.TheVariants as instr
 use Rattle.asm_items.specs.declared.item.AsmItem.{AsmItem}
 use Rattle.asm_items.specs.declared.item.AsmItem.TheVariants as item
 use Rattle.assembler.specs.Faults.{twice_from, unknown_from, past_from, fault_of}
@@ -20,8 +24,8 @@ use Rattle.mid_code.specs.Invariants.{IsOp, IsLoop, parameter_count, AreNodes, A
 use Rattle.mid_code.specs.Runs.{weight}
 use Rattle.asm_laws.specs.Labelled.{HasLabel}
 use Rattle.asm_laws.specs.Names.{jump_label, literal_label, function_label}
-use Rattle.asm_laws.specs.Operations.{Frame, Whole, fetches, keeps, keeps_some, slot_arg, slot_args, pushed_arg, pushed_args, popped_arg, popped_args, args_items, call_items, op_items, giving, start_frame, opening_items, literal_items, literals_items}
-use Rattle.asm_laws.specs.Emitted.{labels, functions_labels, enclosing, jump, mark, first_part, second_part, choice, enclosed, returning, code_items, entry_items, exit_items, function_items, functions_items, closing_items, start_items, program_items, labels_of}
+use Rattle.asm_laws.specs.Operations.{Frame, Whole, register, keep, fetches, keeps, keeps_some, is_in, hand, brings, takes, aim, lays, moves, changes, is_direct, in_place, apart, computes, slot_arg, slot_args, pushed_arg, pushed_args, popped_arg, popped_args, args_items, call_items, op_items, giving, start_frame, opening_items, literal_items, literals_items}
+use Rattle.asm_laws.specs.Emitted.{labels, functions_labels, enclosing, jump, jump_unless, mark, first_part, second_part, choice, enclosed, returning, code_items, entry_items, exit_items, function_items, functions_items, closing_items, start_items, program_items, labels_of}
 use Rattle.asm_laws.proofs.Programs.{mapped_from}
 use Rattle.asm_laws.proofs.Walked.{total_more}
 use Rattle.asm_laws.proofs.Enclosing.{innermost, further}
@@ -112,12 +116,43 @@ module _ (x : CodeT Where) (W : Whole) (Q : List ℕ → Type 0) (of_function : 
   some_uses F None = tt
   some_uses F (Some t) = (keep_uses F t, tt)
 
+  brought_uses : (F : Frame) (p : Where) (r : ℕ) (xs : List AsmItem) → Uses Q xs → Uses Q (brings F p r ++ xs)
+  brought_uses F (Reg q) r xs h = h
+  brought_uses F (Slot k) r xs h = (tt, h)
+
+  one_of_both : (b : Bool) (xs ys : List AsmItem) → Uses Q xs → Uses Q ys → Uses Q (cond b xs ys)
+  one_of_both true xs ys h g = h
+  one_of_both false xs ys h g = g
+
+  takes_uses : (F : Frame) (p : Where) (m : ℕ) → Uses Q (takes F p m)
+  takes_uses F p m = one_of_both (is_in p m) [] (fetches F p m ∷ []) tt (fetch_uses F p m, tt)
+
+  lays_uses : (F : Frame) (t : Where) → Uses Q (lays F t)
+  lays_uses F (Reg q) = tt
+  lays_uses F (Slot k) = (tt, tt)
+
+  keep_from_uses : (F : Frame) (t : Where) (r : ℕ) → Named Q (named_in (item.Op (keep F t r)))
+  keep_from_uses F (Reg q) r = tt
+  keep_from_uses F (Slot k) r = tt
+
+  moves_uses : (F : Frame) (t a : Where) → Uses Q (moves F t a)
+  moves_uses F t (Reg q) = one_of_both (is_in t (register q)) [] (item.Op (keep F t (register q)) ∷ []) tt (keep_from_uses F t (register q), tt)
+  moves_uses F t (Slot k) = (fetch_uses F (Slot k) (aim t), lays_uses F t)
+
+  changes_uses : (F : Frame) (o : OneOf) (t a : Where) → Uses Q (changes F o t a)
+  changes_uses F o t a = uses_append Q (takes F a (aim t)) (item.Op (instr.One o (aim t)) ∷ lays F t) (takes_uses F a (aim t)) (tt, lays_uses F t)
+
+  computes_uses : (F : Frame) (o : TwoOf) (t a b : Where) → Uses Q (computes F o t a b)
+  computes_uses F o t a b =
+      one_of_both (is_direct o t b) (in_place F o (aim t) a b) (apart F o t a b)
+      (uses_append Q (takes F a (aim t)) _ (takes_uses F a (aim t)) (brought_uses F b 10 _ (tt, tt))) (fetch_uses F a 9, brought_uses F b 10 _ (tt, (keep_uses F t, tt)))
+
   slot_uses : (F G : Frame) (p a : Where) → Uses Q (slot_arg F G p a)
   slot_uses F G (Reg q) a = tt
-  slot_uses F G (Slot k) a = (fetch_uses F a 9, (tt, tt))
+  slot_uses F G (Slot k) a = brought_uses F a 9 _ (tt, tt)
 
   pushed_uses : (F : Frame) (p a : Where) → Uses Q (pushed_arg F p a)
-  pushed_uses F (Reg q) a = (fetch_uses F a 9, (tt, tt))
+  pushed_uses F (Reg q) a = brought_uses F a 9 _ (tt, tt)
   pushed_uses F (Slot k) a = tt
 
   popped_uses : (p : Where) → Uses Q (popped_arg p)
@@ -143,24 +178,24 @@ module _ (x : CodeT Where) (W : Whole) (Q : List ℕ → Type 0) (of_function : 
 
   op_uses : (m : ℕ) (F : Frame) (o : OpT Where) → IsOp x m o → Uses Q (op_items W F o)
   unfolding op_items
-  op_uses m F (ConstO t n) ok = (tt, (keep_uses F t, tt))
-  op_uses m F (NullO t) ok = (tt, (keep_uses F t, tt))
-  op_uses m F (MoveO t a) ok = (fetch_uses F a 9, (keep_uses F t, tt))
-  op_uses m F (OneO o t a) ok = (fetch_uses F a 9, (tt, (keep_uses F t, tt)))
-  op_uses m F (TwoO o t a b) ok = (fetch_uses F a 9, (fetch_uses F b 10, (tt, (keep_uses F t, tt))))
-  op_uses m F (GlobalO t k) ok = (tt, (keep_uses F t, tt))
-  op_uses m F (LocalO t k) ok = (tt, (keep_uses F t, tt))
-  op_uses m F (LiteralO t k) ok = (of_text k ok, (keep_uses F t, tt))
-  op_uses m F (CardO t) ok = (tt, (keep_uses F t, tt))
-  op_uses m F (StepO t p n) ok = (fetch_uses F p 9, (fetch_uses F n 10, (tt, (keep_uses F t, tt))))
-  op_uses m F (ApartO t p q) ok = (fetch_uses F p 9, (fetch_uses F q 10, (tt, (keep_uses F t, tt))))
-  op_uses m F (PtrTestO o t p q) ok = (fetch_uses F p 9, (fetch_uses F q 10, (tt, (keep_uses F t, tt))))
-  op_uses m F (LoadO t p) ok = (fetch_uses F p 9, (tt, (keep_uses F t, tt)))
-  op_uses m F (StoreO p a) ok = (fetch_uses F p 9, (fetch_uses F a 10, (tt, tt)))
+  op_uses m F (ConstO t n) ok = (tt, lays_uses F t)
+  op_uses m F (NullO t) ok = (tt, lays_uses F t)
+  op_uses m F (MoveO t a) ok = moves_uses F t a
+  op_uses m F (OneO o t a) ok = changes_uses F o t a
+  op_uses m F (TwoO o t a b) ok = computes_uses F o t a b
+  op_uses m F (GlobalO t k) ok = (tt, lays_uses F t)
+  op_uses m F (LocalO t k) ok = (tt, lays_uses F t)
+  op_uses m F (LiteralO t k) ok = (of_text k ok, lays_uses F t)
+  op_uses m F (CardO t) ok = (tt, lays_uses F t)
+  op_uses m F (StepO t p n) ok = computes_uses F IADD t p n
+  op_uses m F (ApartO t p q) ok = computes_uses F ISUB t p q
+  op_uses m F (PtrTestO o t p q) ok = computes_uses F o t p q
+  op_uses m F (LoadO t p) ok = brought_uses F p 9 _ (tt, lays_uses F t)
+  op_uses m F (StoreO p a) ok = brought_uses F p 9 _ (brought_uses F a 10 _ (tt, tt))
   op_uses m F (FreshO k) ok = tt
   op_uses m F (EndO k) ok = tt
-  op_uses m F (InO t p) ok = (tt, (keep_uses F t, tt))
-  op_uses m F (OutO p a) ok = (fetch_uses F a 9, (tt, tt))
+  op_uses m F (InO t p) ok = (tt, lays_uses F t)
+  op_uses m F (OutO p a) ok = brought_uses F a 9 _ (tt, tt)
   op_uses m F WaitO ok = (tt, tt)
   op_uses m F HaltO ok = (tt, tt)
 
@@ -195,13 +230,15 @@ module _ (x : CodeT Where) (W : Whole) (Q : List ℕ → Type 0) (of_function : 
   module _ (F : Frame) (out : ℕ) (ends : Q (jump_label out)) where
     choice_uses : (p : Where) (n m : ℕ) (a b : List AsmItem) → Knows (choice F p n m a b) → (Knows a → Uses Q a) → (Knows b → Uses Q b) → Uses Q (choice F p n m a b)
     choice_uses p n m a b k ua ub =
-        let left : Knows (first_part F p n m a) = λ x h. k x (marked_left (first_part F p n m a) (second_part m b) x h) in
+        let inner = a ++ jump m ∷ mark n ∷ [] in
+        let j = jump_unless (hand p 9) n in
+        let left : Knows inner = λ x h. k x (marked_left (first_part F p n m a) (second_part m b) x (marked_right (brings F p 9) (j ∷ inner) x h)) in
         let right : Knows (second_part m b) = λ x h. k x (marked_right (first_part F p n m a) (second_part m b) x h) in
         let qn : Q (jump_label n) = left (jump_label n) (marked_right a (jump m ∷ mark n ∷ []) (jump_label n) (inl refl)) in
         let qm : Q (jump_label m) = right (jump_label m) (marked_right b (mark m ∷ []) (jump_label m) (inl refl)) in
         let one = uses_append Q a (jump m ∷ mark n ∷ []) (ua (λ x h. left x (marked_left a (jump m ∷ mark n ∷ []) x h))) (qm, (tt, tt)) in
         let two = uses_append Q b (mark m ∷ []) (ub (λ x h. right x (marked_left b (mark m ∷ []) x h))) (tt, tt) in
-        uses_append Q (first_part F p n m a) (second_part m b) (fetch_uses F p 9, (qn, one)) two
+        uses_append Q (first_part F p n m a) (second_part m b) (brought_uses F p 9 (j ∷ inner) (qn, one)) two
 
     enclosed_uses : (n : ℕ) (a : List AsmItem) (ls : List ℕ) → n < 2 ^ 32 - 1 → Jumpable ls → Knows (enclosed n a) → (Jumpable (ls ++ n ∷ []) → Knows a → Uses Q a) → Uses Q (enclosed n a)
     enclosed_uses n a ls few j k ua =

@@ -1,5 +1,7 @@
 pub mod Control
+pub mod Split
 pub mod Stepping
+pub mod Hands
 pub mod LinksStep
 pub mod OperationsStep
 pub mod Lists

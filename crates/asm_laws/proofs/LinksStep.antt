@@ -17,17 +17,20 @@ use Rattle.v32_isa.specs.State.{State, register_of, with_register, going_to, sto
 use Rattle.v32_isa.specs.Machine.{act}
 use Rattle.v32_isa.specs.Machine.Effect.{Ends as EndsIn}
 use Rattle.v32_isa.proofs.Steps.{reaches_here, reaches_on, reaches_went}
+use Rattle.either.specs.declared.Either.TheVariants.{Left}
 use Rattle.asm_items.specs.declared.item.AsmItem.{AsmItem}
+use Rattle.asm_items.specs.declared.item.AsmItem.TheVariants as item
 use Rattle.mid_code.specs.declared.placed.Where.{Where}
 use Rattle.mid_code.specs.declared.placed.Where.TheVariants.{Reg, Slot}
 use Rattle.mid_code.specs.Invariants.{in_registers}
-use Rattle.asm_laws.specs.Operations.{Frame, slot_word, slot_arg, slot_args, pushed_arg, pushed_args, popped_arg, popped_args, args_items}
+use Rattle.asm_laws.specs.Operations.{Frame, slot_word, hand, brings, slot_arg, slot_args, pushed_arg, pushed_args, popped_arg, popped_args, args_items}
 use Rattle.asm_laws.specs.Placing.{Line}
 use Rattle.asm_laws.specs.Standing.{Stand}
 use Rattle.asm_laws.specs.Addresses.{Addr, Console, word_of, store, Room, Good, Held, Arrives}
 use Rattle.asm_laws.specs.Framing.{frame_made, frame_gone}
 use Rattle.asm_laws.specs.Links.{new_slot, passed, all_passed, push, pushed, all_pushed, popped, all_popped, entered, slot_steps, called, gone_back}
 use Rattle.asm_laws.proofs.Stepping.{readable_word, ram_readable, ram_writable, writes_at, line_effect, reg_same, reg_other, took, scratch, moved, kept, stores, fetches_so, reg_number}
+use Rattle.asm_laws.proofs.Hands.{hand_fits, brings_at}
 
 module _ (C : Console) where
   -- the top of the stack, and the end of the frame, are other addresses
@@ -95,7 +98,7 @@ module _ (C : Console) where
   pops : (a : Addr) (s : State) (xs : List ℕ) (pc q next : ℕ) → q < 9 → a.top < 0x400000 → Held C a s → s.counter ≡ pc → Line C.words pc (instr.One POP q) next → Arrives C 1 s xs next [] xs (popped (Reg q) a)
   pops a s xs pc q next lt hi h e l =
       one a (popped (Reg q) a) s (going_to next (with_register q (a.memory a.top) (with_register 15 (a.top + 1) s))) xs pc (instr.One POP q) next h e l (omega arith, omega arith, omega arith) (pop_act a s q next hi h)
-      (kept C (record a { top = a.top + 1 }) (with_register 15 (a.top + 1) s) next q (a.memory a.top) lt (top_held a s (a.top + 1) h))
+      (kept C (record a { top = a.top + 1 }) (with_register 15 (a.top + 1) s) next q (a.memory a.top) (omega (arith, lt)) (top_held a s (a.top + 1) h))
 
   -- ---- arguments
 
@@ -113,9 +116,9 @@ module _ (C : Console) where
       pub below : G.size + 2 ≤ a.top
       pub above : a.top ≤ 0x400000
 
-    store_act : (a : Addr) (s : State) (k v next : ℕ) → Roomy a → get_or G.slots k k < G.size → register_of s 9 ≡ v → Held C a s → act (instr.Mov (AtOffReg 15 (sub (slot_word G k) 2) 9)) next s ≡ EndsIn stepped.Went (going_to next (stored s (new_slot G k a) v))
+    store_act : (a : Addr) (s : State) (k m v next : ℕ) → Roomy a → get_or G.slots k k < G.size → register_of s m ≡ v → Held C a s → act (instr.Mov (AtOffReg 15 (sub (slot_word G k) 2) m)) next s ≡ EndsIn stepped.Went (going_to next (stored s (new_slot G k a) v))
     unfolding act
-    store_act a s k v next r good is h =
+    store_act a s k m v next r good is h =
         let d : add (register_of s 15) (sub (slot_word G k) 2) ≡ new_slot G k a = omega (arith, h.top, r.below, r.above, good) in
         let w : is_writable_at s (new_slot G k a) ≡ true = writes_at C a s (new_slot G k a) h ∙ ram_writable C (new_slot G k a) (omega (arith, r.below, r.above)) in
         rw (d, w, is) refl
@@ -124,13 +127,16 @@ module _ (C : Console) where
     passes a s xs pc e (Reg q) x r gp gx h c k = let n = nothing s xs pc e a h c k in record { steps = n.steps; to = n.to; by = n.by; at = n.at; held = n.held; few = omega (arith, n.few) }
     passes a s xs pc e (Slot i) x r gp gx h c k =
         let v = word_of F x a in
-        let t = took C k.0 9 v s in
-        let ht = scratch C a s k.0 9 v (omega arith) (omega arith) h in
-        let f : Arrives C 1 t xs k.2.0 [] xs (passed F G (Slot i) x a) =
-        one a (passed F G (Slot i) x a) t (going_to k.2.0 (stored t (new_slot G i a) v)) xs k.0 (instr.Mov (AtOffReg 15 (sub (slot_word G i) 2) 9)) k.2.0 ht refl k.2.1 (omega arith, omega arith, omega arith)
-        (store_act a t i v k.2.0 r gp (reg_same C s 9 v (omega (arith, h.sixteen))) ht) (stores C a t k.2.0 (new_slot G i a) v (ram_writable C (new_slot G i a) (omega (arith, r.below, r.above))) ht) in
-        subst (λ q. Arrives C 2 s xs q [] xs (passed F G (Slot i) x a)) k.2.2
-        (record { steps = 1 + f.steps; to = f.to; by = reaches_on 1 f.steps s t f.to xs xs xs [] [] (fetches_so C F address a s xs pc x 9 k.0 r.room gx (omega arith) h c k.1) f.by; at = f.at; held = f.held; few = omega (arith, f.few) })
+        let o = instr.Mov (AtOffReg 15 (sub (slot_word G i) 2) (hand x 9)) in
+        let d = part (brings F x 9) (item.Op (instr.Mov (AtOffReg 15 (Left (sub (slot_word G i) 2)) (hand x 9))) ∷ []) pc e k in
+        let b = brings_at C F address a s xs pc d.0 x 9 r.room gx (omega arith) (omega arith) h c d.1 in
+        let t = b.to in
+        let l = d.2 in
+        let f : Arrives C 1 t xs l.0 [] xs (passed F G (Slot i) x a) =
+        one a (passed F G (Slot i) x a) t (going_to l.0 (stored t (new_slot G i a) v)) xs d.0 o l.0 b.held b.at l.1 (omega arith, hand_fits x 9 (omega arith), omega arith)
+        (store_act a t i (hand x 9) v l.0 r gp b.is b.held) (stores C a t l.0 (new_slot G i a) v (ram_writable C (new_slot G i a) (omega (arith, r.below, r.above))) b.held) in
+        subst (λ q. Arrives C 2 s xs q [] xs (passed F G (Slot i) x a)) l.2
+        (record { steps = b.steps + f.steps; to = f.to; by = reaches_on b.steps f.steps s t f.to xs xs xs [] [] b.by f.by; at = f.at; held = f.held; few = let n = f.few in let m = b.few in omega (arith, n, m) })
 
     abbrev pub AllOf : (Where → Type 0) → List Where → Type 0
     AllOf P [] = Unit {0}
@@ -157,11 +163,13 @@ module _ (C : Console) where
     pushes_one a s xs pc e (Slot i) x room lo hi gx h c k = let n = nothing s xs pc e a h c k in record { steps = n.steps; to = n.to; by = n.by; at = n.at; held = n.held; few = omega (arith, n.few) }
     pushes_one a s xs pc e (Reg q) x room lo hi gx h c k =
         let v = word_of F x a in
-        let t = took C k.0 9 v s in
-        let ht = scratch C a s k.0 9 v (omega arith) (omega arith) h in
-        let f = pushes a t xs k.0 9 v k.2.0 (omega arith) lo hi (reg_same C s 9 v (omega (arith, h.sixteen))) ht refl k.2.1 in
-        subst (λ q1. Arrives C 2 s xs q1 [] xs (push v a)) k.2.2
-        (record { steps = 1 + f.steps; to = f.to; by = reaches_on 1 f.steps s t f.to xs xs xs [] [] (fetches_so C F address a s xs pc x 9 k.0 room gx (omega arith) h c k.1) f.by; at = f.at; held = f.held; few = omega (arith, f.few) })
+        let d = part (brings F x 9) (item.Op (instr.One PUSH (hand x 9)) ∷ []) pc e k in
+        let b = brings_at C F address a s xs pc d.0 x 9 room gx (omega arith) (omega arith) h c d.1 in
+        let t = b.to in
+        let l = d.2 in
+        let f = pushes a t xs d.0 (hand x 9) v l.0 (hand_fits x 9 (omega arith)) lo hi b.is b.held b.at l.1 in
+        subst (λ q1. Arrives C 2 s xs q1 [] xs (push v a)) l.2
+        (record { steps = b.steps + f.steps; to = f.to; by = reaches_on b.steps f.steps s t f.to xs xs xs [] [] b.by f.by; at = f.at; held = f.held; few = let n = f.few in let m = b.few in omega (arith, n, m) })
 
     pushed_base : (p x : Where) (a : Addr) → (pushed F p x a).base ≡ a.base
     pushed_base (Reg q) x a = refl

@@ -1,8 +1,12 @@
 -- The labels of emitted items differ.
-use Rattle.std.proofs.Common.{◌≡◌, ◌≢◌, ℕ, ◌+◌, ◌^◌, ◌<◌, ◌≤◌, Bool, true, false, cond, List, [], ◌∷◌, ◌++◌, length, map, Option, Some, None, refl, sym, ap, ◌∙◌, subst, arith, true≢false}
+use Rattle.std.proofs.Common.{◌≡◌, ◌≢◌, ℕ, ◌+◌, ◌^◌, ◌<◌, ◌≤◌, Bool, true, false, cond, List, [], ◌∷◌, ◌++◌, length, map, Option, Some, None, refl, sym, ap, ◌∙◌, subst, arith, append_assoc, true≢false}
 use Rattle.std.specs.Prelude.{bytes_eq, ◌||◌}
 use Rattle.std.specs.List.{list_any}
 use Rattle.std.proofs.lemmas.Slice.Eq.{bytes_eq-Decides}
+use Rattle.v32_isa.specs.declared.instruction.One.{One as OneOf}
+use Rattle.v32_isa.specs.declared.instruction.Two.{Two as TwoOf}
+use Rattle.v32_isa.specs.declared.instruction.Two.TheVariants.{IADD, ISUB}
+use Rattle.v32_isa.specs.declared.instruction.Instr.TheVariants as instr
 use Rattle.asm_items.specs.declared.item.AsmItem.{AsmItem}
 use Rattle.asm_items.specs.declared.item.AsmItem.TheVariants as item
 use Rattle.assembler.specs.Faults.{twice_from}
@@ -10,7 +14,7 @@ use Rattle.mid_code.specs.declared.placed.Where.{Where}
 use Rattle.mid_code.specs.declared.placed.Where.TheVariants.{Reg, Slot}
 use Rattle.mid_code.specs.Code.{OpT, ConstO, NullO, MoveO, OneO, TwoO, GlobalO, LocalO, LiteralO, CardO, StepO, ApartO, PtrTestO, LoadO, StoreO, FreshO, EndO, InO, OutO, WaitO, HaltO, NodesT, Stop, Do, Call, Choose, Block, Loop, Leave, Again, Return, FunctionT, CodeT}
 use Rattle.asm_laws.specs.Names.{literal_label}
-use Rattle.asm_laws.specs.Operations.{Frame, Whole, fetches, keeps_some, slot_arg, slot_args, pushed_arg, pushed_args, popped_arg, popped_args, args_items, call_items, op_items, giving, start_frame, opening_items, literal_items, literals_items}
+use Rattle.asm_laws.specs.Operations.{Frame, Whole, register, keep, fetches, keeps_some, is_in, hand, brings, takes, aim, lays, moves, changes, is_direct, in_place, apart, computes, slot_arg, slot_args, pushed_arg, pushed_args, popped_arg, popped_args, args_items, call_items, op_items, giving, start_frame, opening_items, literal_items, literals_items}
 use Rattle.asm_laws.specs.Emitted.{labels, functions_labels, enclosing, jump, jump_unless, mark, choice, enclosed, returning, code_items, entry_items, exit_items, function_items, functions_items, closing_items, start_items, program_items, labels_of}
 use Rattle.asm_laws.proofs.LabelKinds.{Differ, Kind, Jump, Fun, Text, name_of, Valid, kind_same, Range, Box, Within, Aside, jumps, jumps_within, jumps_below, jumps_above}
 
@@ -106,12 +110,42 @@ module _ (W : Whole) (differ : Differ W.names) where
   some_bare F None = tt
   some_bare F (Some t) = tt
 
+  brings_bare : (F : Frame) (p : Where) (r : ℕ) → Bare (brings F p r)
+  brings_bare F (Reg q) r = tt
+  brings_bare F (Slot k) r = tt
+
+  brought_bare : (F : Frame) (p : Where) (r : ℕ) (xs : List AsmItem) → Bare xs → Bare (brings F p r ++ xs)
+  brought_bare F p r xs h = names_append (λ m. ⊥) (brings F p r) xs (brings_bare F p r) h
+
+  one_of_both : (b : Bool) (xs ys : List AsmItem) → Bare xs → Bare ys → Bare (cond b xs ys)
+  one_of_both true xs ys h g = h
+  one_of_both false xs ys h g = g
+
+  takes_bare : (F : Frame) (p : Where) (m : ℕ) → Bare (takes F p m)
+  takes_bare F p m = one_of_both (is_in p m) [] (fetches F p m ∷ []) tt tt
+
+  lays_bare : (F : Frame) (t : Where) → Bare (lays F t)
+  lays_bare F (Reg q) = tt
+  lays_bare F (Slot k) = tt
+
+  moves_bare : (F : Frame) (t a : Where) → Bare (moves F t a)
+  moves_bare F t (Reg q) = one_of_both (is_in t (register q)) [] (item.Op (keep F t (register q)) ∷ []) tt tt
+  moves_bare F t (Slot k) = lays_bare F t
+
+  changes_bare : (F : Frame) (o : OneOf) (t a : Where) → Bare (changes F o t a)
+  changes_bare F o t a = names_append (λ m. ⊥) (takes F a (aim t)) (item.Op (instr.One o (aim t)) ∷ lays F t) (takes_bare F a (aim t)) (lays_bare F t)
+
+  computes_bare : (F : Frame) (o : TwoOf) (t a b : Where) → Bare (computes F o t a b)
+  computes_bare F o t a b =
+      one_of_both (is_direct o t b) (in_place F o (aim t) a b) (apart F o t a b)
+      (names_append (λ m. ⊥) (takes F a (aim t)) _ (takes_bare F a (aim t)) (brought_bare F b 10 _ tt)) (brought_bare F b 10 _ tt)
+
   slot_bare : (F G : Frame) (p a : Where) → Bare (slot_arg F G p a)
   slot_bare F G (Reg q) a = tt
-  slot_bare F G (Slot k) a = tt
+  slot_bare F G (Slot k) a = brought_bare F a 9 _ tt
 
   pushed_bare : (F : Frame) (p a : Where) → Bare (pushed_arg F p a)
-  pushed_bare F (Reg q) a = tt
+  pushed_bare F (Reg q) a = brought_bare F a 9 _ tt
   pushed_bare F (Slot k) a = tt
 
   popped_bare : (p : Where) → Bare (popped_arg p)
@@ -137,24 +171,24 @@ module _ (W : Whole) (differ : Differ W.names) where
 
   op_bare : (F : Frame) (o : OpT Where) → Bare (op_items W F o)
   unfolding op_items
-  op_bare F (ConstO t n) = tt
-  op_bare F (NullO t) = tt
-  op_bare F (MoveO t a) = tt
-  op_bare F (OneO o t a) = tt
-  op_bare F (TwoO o t a b) = tt
-  op_bare F (GlobalO t k) = tt
-  op_bare F (LocalO t k) = tt
-  op_bare F (LiteralO t k) = tt
-  op_bare F (CardO t) = tt
-  op_bare F (StepO t p n) = tt
-  op_bare F (ApartO t p q) = tt
-  op_bare F (PtrTestO o t p q) = tt
-  op_bare F (LoadO t p) = tt
-  op_bare F (StoreO p a) = tt
+  op_bare F (ConstO t n) = lays_bare F t
+  op_bare F (NullO t) = lays_bare F t
+  op_bare F (MoveO t a) = moves_bare F t a
+  op_bare F (OneO o t a) = changes_bare F o t a
+  op_bare F (TwoO o t a b) = computes_bare F o t a b
+  op_bare F (GlobalO t k) = lays_bare F t
+  op_bare F (LocalO t k) = lays_bare F t
+  op_bare F (LiteralO t k) = lays_bare F t
+  op_bare F (CardO t) = lays_bare F t
+  op_bare F (StepO t p n) = computes_bare F IADD t p n
+  op_bare F (ApartO t p q) = computes_bare F ISUB t p q
+  op_bare F (PtrTestO o t p q) = computes_bare F o t p q
+  op_bare F (LoadO t p) = brought_bare F p 9 _ (lays_bare F t)
+  op_bare F (StoreO p a) = brought_bare F p 9 _ (brought_bare F a 10 _ tt)
   op_bare F (FreshO k) = tt
   op_bare F (EndO k) = tt
-  op_bare F (InO t p) = tt
-  op_bare F (OutO p a) = tt
+  op_bare F (InO t p) = lays_bare F t
+  op_bare F (OutO p a) = brought_bare F a 9 _ tt
   op_bare F WaitO = tt
   op_bare F HaltO = tt
 
@@ -172,7 +206,10 @@ module _ (W : Whole) (differ : Differ W.names) where
       let one = bare_then (jumps n (n + 1)) (jump m ∷ []) (mark n ∷ []) tt (mark_one n (omega arith)) in
       let first = falling n (n + 1) m a (jump m ∷ mark n ∷ []) (omega arith) x ma one in
       let second = falling m (m + 1) e b (mark m ∷ []) (omega arith) y mb (mark_one m (omega arith)) in
-      bare_then (jumps n e) (fetches F p 9 ∷ jump_unless n ∷ []) ((a ++ jump m ∷ mark n ∷ []) ++ (b ++ mark m ∷ [])) tt (rising n m e (a ++ jump m ∷ mark n ∷ []) (b ++ mark m ∷ []) (omega arith) (omega arith) first second)
+      let inner = a ++ jump m ∷ mark n ∷ [] in
+      subst (Marks (jumps n e)) (sym (append_assoc (brings F p 9) (jump_unless (hand p 9) n ∷ inner) (b ++ mark m ∷ [])))
+      (bare_then (jumps n e) (brings F p 9) (jump_unless (hand p 9) n ∷ (inner ++ (b ++ mark m ∷ []))) (brings_bare F p 9)
+      (bare_then (jumps n e) (jump_unless (hand p 9) n ∷ []) (inner ++ (b ++ mark m ∷ [])) tt (rising n m e inner (b ++ mark m ∷ []) (omega arith) (omega arith) first second)))
 
   enclosed_marks : (n e : ℕ) (a : List AsmItem) → n + 2 ≤ e → e ≤ 2 ^ 32 → Marks (jumps (n + 2) e) a → Marks (jumps n e) (enclosed n a)
   enclosed_marks n e a x few ma =

@@ -20,13 +20,14 @@ use Rattle.mid_code.specs.declared.placed.Where.{Where}
 use Rattle.mid_code.specs.Code.{OpT, ConstO, NullO, MoveO, OneO, TwoO, GlobalO, LocalO, LiteralO, CardO, StepO, ApartO, PtrTestO, LoadO, StoreO, FreshO, EndO, InO, OutO, WaitO, HaltO}
 use Rattle.mid_code.specs.Meaning.{Did, On, Ends, node_weight}
 use Rattle.mid_code.specs.States.{State, spent, op_weight, word_tested, registers_and_slots, acted}
-use Rattle.asm_laws.specs.Operations.{Frame}
+use Rattle.asm_laws.specs.Operations.{Frame, hand}
 use Rattle.asm_laws.specs.Placing.{Line, Jumps}
 use Rattle.asm_laws.specs.Following.{begin, spare, Came, Stopped, DidSim, TestSim}
 use Rattle.asm_laws.specs.Tests.{Tests}
 use Rattle.asm_laws.specs.Addresses.{Addr, Does, Console, word_of, GoodOp, Held, Follows, does}
 use Rattle.asm_laws.specs.Addresses as words
 use Rattle.asm_laws.proofs.Stepping.{same_or_not, line_effect, took, scratch, moved, reg_same, fetches_so}
+use Rattle.asm_laws.proofs.Hands.{hand_fits, brings_at}
 use Rattle.asm_laws.proofs.OperationsStep.{op_follows}
 use Rattle.asm_laws.specs.Holds.{Setting, sizes, Named, Fits, Ctx, Stands}
 use Rattle.asm_laws.specs.Acting.{Holds, DoesAs, Fitting}
@@ -45,9 +46,9 @@ jump_reaches C a m xs pc to h e j = reaches_went m (going_to to m) xs (line_effe
 not_zero : (v a b : ℕ) → (if suc v == 0 then a else b) ≡ b
 not_zero v a b = elim (same_or_not (suc v) 0) [ inl x ↦ absurd (omega (arith, x.0)) | inr x ↦ ap (λ t. if t then a else b) x.1 ]
 
-branch_effect : (m : machine.State) (to next v : ℕ) → register_of m 9 ≡ v → act (instr.Branch JF 9 (src.Imm to)) next m ≡ EndsIn stepped.Went (going_to (if v == 0 then to else next) m)
+branch_effect : (m : machine.State) (r to next v : ℕ) → register_of m r ≡ v → act (instr.Branch JF r (src.Imm to)) next m ≡ EndsIn stepped.Went (going_to (if v == 0 then to else next) m)
 unfolding act
-branch_effect m to next v is = rw is refl
+branch_effect m r to next v is = rw is refl
 
 module _ (S : Setting) (fits : Fits S) where
   abbrev C : Console
@@ -133,21 +134,19 @@ module _ (S : Setting) (fits : Fits S) where
       let F = Of κ in
       let xs = s.world.store.answers in
       let v = word_of F p h.words in
-      let a = t.1 in
-      let u = took C a.0 9 v m in
-      let hu = scratch C h.words m a.0 9 v (omega arith) (omega arith) h.held in
-      let nine : register_of u 9 ≡ v = reg_same C m 9 v (omega (arith, h.held.sixteen)) in
-      let l = subst (λ z. Line C.words z (instr.Branch JF 9 (src.Imm to)) next) (sym a.2) t.2 in
-      let eff = line_effect C h.words u a.0 (instr.Branch JF 9 (src.Imm to)) next hu refl l (omega arith, omega arith, omega arith) ∙ branch_effect u to next v nine in
+      let b = brings_at C F S.address h.words m xs pc t.0 p 9 (room S fits κ s.world.store s.cells h.place h.words h.at) (good S fits κ p named) (omega arith) (omega arith) h.held e t.1 in
+      let r = hand p 9 in
+      let u = b.to in
+      let eff = line_effect C h.words u t.0 (instr.Branch JF r (src.Imm to)) next b.held b.at t.2 (hand_fits p 9 (omega arith), omega arith, omega arith) ∙ branch_effect u r to next v b.is in
       record {
-        steps = 1 + 1;
+        steps = b.steps + 1;
         made = [];
         to = going_to (if v == 0 then to else next) u;
-        by = reaches_on 1 1 m u (going_to (if v == 0 then to else next) u) xs xs xs [] [] (fetches_so C F S.address h.words m xs pc p 9 a.0 (room S fits κ s.world.store s.cells h.place h.words h.at) (good S fits κ p named) (omega arith) h.held e a.1) (reaches_went u (going_to (if v == 0 then to else next) u) xs eff);
+        by = reaches_on b.steps 1 m u (going_to (if v == 0 then to else next) u) xs xs xs [] [] b.by (reaches_went u (going_to (if v == 0 then to else next) u) xs eff);
         at = is;
-        held = record { place = h.place; words = h.words; at = h.at; held = moved C h.words u (if v == 0 then to else next) hu };
+        held = record { place = h.place; words = h.words; at = h.at; held = moved C h.words u (if v == 0 then to else next) b.held };
         events = sym (append-nil s.world.events);
-        cost = omega arith;
+        cost = let n = b.few in omega (arith, n);
         many = omega arith;
       }
 

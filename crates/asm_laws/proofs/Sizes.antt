@@ -1,11 +1,13 @@
 -- Items have at most as many words as their code weighs.
 use Rattle.std.proofs.Common.{◌≡◌, ℕ, ◌+◌, ◌*◌, ◌≤◌, List, [], ◌∷◌, ◌++◌, length, map, Option, Some, None, arith}
-use Rattle.std.specs.Prelude.{Bool, true, false, get_or, sum_by}
+use Rattle.std.specs.Prelude.{cond, Bool, true, false, get_or, sum_by}
 use Rattle.std.proofs.lemmas.List.Sums.{sum_by-cons}
 use Rattle.either.specs.declared.Either.TheVariants.{Left, Right}
 use Rattle.v32_isa.specs.declared.instruction.Plain.TheVariants.{HLT, WAIT, RET}
 use Rattle.v32_isa.specs.declared.instruction.Go.TheVariants.{CALL}
+use Rattle.v32_isa.specs.declared.instruction.One.{One as OneOf}
 use Rattle.v32_isa.specs.declared.instruction.One.TheVariants.{PUSH, POP}
+use Rattle.v32_isa.specs.declared.instruction.Two.{Two as TwoOf}
 use Rattle.v32_isa.specs.declared.instruction.Two.TheVariants.{IADD, ISUB}
 use Rattle.v32_isa.specs.declared.instruction.Mov.TheVariants.{RegImm, RegReg, RegAtReg, AtRegReg, AtOffReg}
 use Rattle.v32_isa.specs.declared.instruction.Src.TheVariants as src
@@ -24,7 +26,7 @@ use Rattle.mid_code.specs.Runs.{nodes_weight, function_weight, weight}
 use Rattle.asm_laws.specs.Names.{literal_label, function_label}
 use Rattle.kit_base.specs.Word.{add, sub}
 use Rattle.asm_laws.specs.Operations as operations
-use Rattle.asm_laws.specs.Operations.{Frame, Whole, slot_word, local_word, fetches, keeps, keeps_some, slot_arg, slot_args, pushed_arg, pushed_args, popped_arg, popped_args, args_items, call_items, op_items, giving, start_frame, opening_items, literal_items, literals_items}
+use Rattle.asm_laws.specs.Operations.{Frame, Whole, register, slot_word, local_word, fetches, keeps, keeps_some, is_in, hand, brings, takes, aim, lays, moves, changes, is_direct, in_place, apart, computes, slot_arg, slot_args, pushed_arg, pushed_args, popped_arg, popped_args, args_items, call_items, op_items, giving, start_frame, opening_items, literal_items, literals_items}
 use Rattle.asm_laws.specs.Emitted.{labels, enclosing, jump, jump_unless, mark, choice, enclosed, returning, code_items, entry_items, exit_items, function_items, functions_items, functions_labels, call_item, closing_items, start_items, program_items, labels_of}
 use Rattle.asm_laws.proofs.Walked.{total_append, total_one, total_none, total_more}
 
@@ -55,13 +57,33 @@ some_size : (F : Frame) (t : Option Where) → size (keeps_some F t) ≤ 2
 some_size F None = omega (arith, total_none)
 some_size F (Some t) = one_item (keeps F t) 2 (keep_size F t)
 
+brings_size : (F : Frame) (p : Where) (r : ℕ) → size (brings F p r) ≤ 2
+brings_size F (Reg q) r = omega (arith, total_none)
+brings_size F (Slot k) r = one_item (fetches F (Slot k) r) 2 (fetch_size F (Slot k) r)
+
+takes_size : (F : Frame) (p : Where) (m : ℕ) → size (takes F p m) ≤ 2
+takes_size F p m = go (is_in p m)
+  where
+    go : (b : Bool) → size (cond b [] (fetches F p m ∷ [])) ≤ 2
+    go true = omega (arith, total_none)
+    go false = one_item (fetches F p m) 2 (fetch_size F p m)
+
+lays_size : (F : Frame) (t : Where) → size (lays F t) ≤ 2
+lays_size F (Reg q) = omega (arith, total_none)
+lays_size F (Slot k) = one_item (keeps F (Slot k)) 2 (keep_size F (Slot k))
+
+-- items that bring a word, and another one
+brought_size : (F : Frame) (p : Where) (r n : ℕ) (xs : List AsmItem) → size xs ≤ n → size (brings F p r ++ xs) ≤ 2 + n
+brought_size F p r n xs le = omega (arith, total_append (brings F p r) xs, brings_size F p r, le)
+
 arg_size : (F G : Frame) (p a : Where) → size (slot_arg F G p a) + size (pushed_arg F p a) + size (popped_arg p) ≤ 4
 arg_size F G (Reg q) a =
-    let x : size (pushed_arg F (Reg q) a) ≤ 3 = two_items (fetches F a 9) (item.Op (instr.One PUSH 9)) 2 1 (fetch_size F a 9) (omega arith) in
-    let y : size (popped_arg (Reg q)) ≤ 1 = one_item (item.Op (instr.One POP (operations.register q))) 1 (omega arith) in
+    let x : size (pushed_arg F (Reg q) a) ≤ 2 + 1 = brought_size F a 9 1 (item.Op (instr.One PUSH (hand a 9)) ∷ []) (one_item (item.Op (instr.One PUSH (hand a 9))) 1 (omega arith)) in
+    let y : size (popped_arg (Reg q)) ≤ 1 = one_item (item.Op (instr.One POP (register q))) 1 (omega arith) in
     omega (arith, total_none, x, y)
 arg_size F G (Slot k) a =
-    let x : size (slot_arg F G (Slot k) a) ≤ 4 = two_items (fetches F a 9) (item.Op (instr.Mov (AtOffReg 15 (Left (sub (slot_word G k) 2)) 9))) 2 2 (fetch_size F a 9) (omega arith) in
+    let o = item.Op (instr.Mov (AtOffReg 15 (Left (sub (slot_word G k) 2)) (hand a 9))) in
+    let x : size (slot_arg F G (Slot k) a) ≤ 2 + 2 = brought_size F a 9 2 (o ∷ []) (one_item o 2 (omega arith)) in
     omega (arith, total_none, x)
 
 args_size : (F G : Frame) (ps args : List Where) → length args ≡ length ps → size (slot_args F G ps args) + size (pushed_args F ps args) + size (popped_args ps) ≤ 4 * length args
@@ -71,32 +93,66 @@ args_size F G (p ∷ ps) (a ∷ args) e =
     let r = args_size F G ps args (omega arith) in
     omega (arith, r, arg_size F G p a, total_append (slot_arg F G p a) (slot_args F G ps args), total_append (pushed_arg F p a) (pushed_args F ps args), total_append (popped_args ps) (popped_arg p))
 
-sets_size : (F : Frame) (t : Where) (x : AsmItem) → item_size x ≤ 2 → size (x ∷ keeps F t ∷ []) ≤ 4
-sets_size F t x le = two_items x (keeps F t) 2 2 le (keep_size F t)
+laid_size : (F : Frame) (t : Where) (x : AsmItem) (n : ℕ) → item_size x ≤ n → size (x ∷ lays F t) ≤ n + 2
+laid_size F t x n le = omega (arith, total_more x (lays F t), lays_size F t, le)
 
-computes_size : (F : Frame) (t p q : Where) (x : AsmItem) → item_size x ≤ 1 → size (fetches F p 9 ∷ fetches F q 10 ∷ x ∷ keeps F t ∷ []) ≤ 7
-computes_size F t p q x le = four_items (fetches F p 9) (fetches F q 10) x (keeps F t) 2 2 1 2 (fetch_size F p 9) (fetch_size F q 10) le (keep_size F t)
+moves_size : (F : Frame) (t a : Where) → size (moves F t a) ≤ 4
+moves_size F t (Reg q) = go (is_in t (register q))
+  where
+    item_at_most : (t : Where) → item_size (item.Op (operations.keep F t (register q))) ≤ 2
+    item_at_most (Reg r) = omega arith
+    item_at_most (Slot k) = omega arith
+
+    go : (b : Bool) → size (cond b [] (item.Op (operations.keep F t (register q)) ∷ [])) ≤ 4
+    go true = omega (arith, total_none)
+    go false = let r = one_item (item.Op (operations.keep F t (register q))) 2 (item_at_most t) in omega (arith, r)
+moves_size F t (Slot k) = laid_size F t (fetches F (Slot k) (aim t)) 2 (fetch_size F (Slot k) (aim t))
+
+changes_size : (F : Frame) (o : OneOf) (t a : Where) → size (changes F o t a) ≤ 5
+changes_size F o t a = omega (arith, total_append (takes F a (aim t)) (item.Op (instr.One o (aim t)) ∷ lays F t), takes_size F a (aim t), laid_size F t (item.Op (instr.One o (aim t))) 1 (omega arith))
+
+computes_size : (F : Frame) (o : TwoOf) (t p q : Where) → size (computes F o t p q) ≤ 7
+computes_size F o t p q = go (is_direct o t q)
+  where
+    in_place_size : size (in_place F o (aim t) p q) ≤ 5
+    in_place_size =
+        let x = item.Op (instr.Two o (aim t) (src.Reg (hand q 10))) in
+        let b = brought_size F q 10 1 (x ∷ []) (one_item x 1 (omega arith)) in
+        omega (arith, total_append (takes F p (aim t)) (brings F q 10 ++ x ∷ []), takes_size F p (aim t), b)
+
+    apart_size : size (apart F o t p q) ≤ 7
+    apart_size =
+        let x = item.Op (instr.Two o 9 (src.Reg (hand q 10))) in
+        let b = brought_size F q 10 3 (x ∷ keeps F t ∷ []) (two_items x (keeps F t) 1 2 (omega arith) (keep_size F t)) in
+        omega (arith, total_more (fetches F p 9) (brings F q 10 ++ x ∷ keeps F t ∷ []), fetch_size F p 9, b)
+
+    go : (b : Bool) → size (cond b (in_place F o (aim t) p q) (apart F o t p q)) ≤ 7
+    go true = let r = in_place_size in omega (arith, r)
+    go false = apart_size
 
 pub op_size : (W : Whole) (F : Frame) (o : OpT Where) → size (op_items W F o) ≤ op_weight o
 unfolding op_items
-op_size W F (ConstO t n) = let r = sets_size F t (item.Op (instr.Mov (RegImm 9 (Left n)))) (omega arith) in omega (arith, r)
-op_size W F (NullO t) = let r = sets_size F t (item.Op (instr.Mov (RegImm 9 (Left 0xFFFFFFFF)))) (omega arith) in omega (arith, r)
-op_size W F (MoveO t a) = let r = two_items (fetches F a 9) (keeps F t) 2 2 (fetch_size F a 9) (keep_size F t) in omega (arith, r)
-op_size W F (OneO o t a) = let r = three_items (fetches F a 9) (item.Op (instr.One o 9)) (keeps F t) 2 1 2 (fetch_size F a 9) (omega arith) (keep_size F t) in omega (arith, r)
-op_size W F (TwoO o t a b) = let r = computes_size F t a b (item.Op (instr.Two o 9 (src.Reg 10))) (omega arith) in omega (arith, r)
-op_size W F (GlobalO t k) = let r = sets_size F t (item.Op (instr.Mov (RegImm 9 (Left (get_or W.globals k 0))))) (omega arith) in omega (arith, r)
-op_size W F (LocalO t k) = let r = sets_size F t (item.Op (instr.Lea 9 14 (Some (Left (local_word F k))))) (omega arith) in omega (arith, r)
-op_size W F (LiteralO t k) = let r = sets_size F t (item.Op (instr.Mov (RegImm 9 (Right (literal_label k))))) (omega arith) in omega (arith, r)
-op_size W F (CardO t) = let r = sets_size F t (item.Op (instr.Mov (RegImm 9 (Left 0x30000000)))) (omega arith) in omega (arith, r)
-op_size W F (StepO t p n) = let r = computes_size F t p n (item.Op (instr.Two IADD 9 (src.Reg 10))) (omega arith) in omega (arith, r)
-op_size W F (ApartO t p q) = let r = computes_size F t p q (item.Op (instr.Two ISUB 9 (src.Reg 10))) (omega arith) in omega (arith, r)
-op_size W F (PtrTestO o t p q) = let r = computes_size F t p q (item.Op (instr.Two o 9 (src.Reg 10))) (omega arith) in omega (arith, r)
-op_size W F (LoadO t p) = let r = three_items (fetches F p 9) (item.Op (instr.Mov (RegAtReg 9 9))) (keeps F t) 2 1 2 (fetch_size F p 9) (omega arith) (keep_size F t) in omega (arith, r)
-op_size W F (StoreO p a) = let r = three_items (fetches F p 9) (fetches F a 10) (item.Op (instr.Mov (AtRegReg 9 10))) 2 2 1 (fetch_size F p 9) (fetch_size F a 10) (omega arith) in omega (arith, r)
+op_size W F (ConstO t n) = let r = laid_size F t (item.Op (instr.Mov (RegImm (aim t) (Left n)))) 2 (omega arith) in omega (arith, r)
+op_size W F (NullO t) = let r = laid_size F t (item.Op (instr.Mov (RegImm (aim t) (Left 0xFFFFFFFF)))) 2 (omega arith) in omega (arith, r)
+op_size W F (MoveO t a) = let r = moves_size F t a in omega (arith, r)
+op_size W F (OneO o t a) = let r = changes_size F o t a in omega (arith, r)
+op_size W F (TwoO o t a b) = let r = computes_size F o t a b in omega (arith, r)
+op_size W F (GlobalO t k) = let r = laid_size F t (item.Op (instr.Mov (RegImm (aim t) (Left (get_or W.globals k 0))))) 2 (omega arith) in omega (arith, r)
+op_size W F (LocalO t k) = let r = laid_size F t (item.Op (instr.Lea (aim t) 14 (Some (Left (local_word F k))))) 2 (omega arith) in omega (arith, r)
+op_size W F (LiteralO t k) = let r = laid_size F t (item.Op (instr.Mov (RegImm (aim t) (Right (literal_label k))))) 2 (omega arith) in omega (arith, r)
+op_size W F (CardO t) = let r = laid_size F t (item.Op (instr.Mov (RegImm (aim t) (Left 0x30000000)))) 2 (omega arith) in omega (arith, r)
+op_size W F (StepO t p n) = let r = computes_size F IADD t p n in omega (arith, r)
+op_size W F (ApartO t p q) = let r = computes_size F ISUB t p q in omega (arith, r)
+op_size W F (PtrTestO o t p q) = let r = computes_size F o t p q in omega (arith, r)
+op_size W F (LoadO t p) = let x = item.Op (instr.Mov (RegAtReg (aim t) (hand p 9))) in let r = brought_size F p 9 3 (x ∷ lays F t) (laid_size F t x 1 (omega arith)) in omega (arith, r)
+op_size W F (StoreO p a) =
+    let x = item.Op (instr.Mov (AtRegReg (hand p 9) (hand a 10))) in
+    let r = brought_size F p 9 3 (brings F a 10 ++ x ∷ []) (brought_size F a 10 1 (x ∷ []) (one_item x 1 (omega arith))) in
+    omega (arith, r)
 op_size W F (FreshO k) = omega (arith, total_none)
 op_size W F (EndO k) = omega (arith, total_none)
-op_size W F (InO t p) = let r = two_items (item.Op (instr.In 9 (operations.port p))) (keeps F t) 1 2 (omega arith) (keep_size F t) in omega (arith, r)
-op_size W F (OutO p a) = let r = two_items (fetches F a 9) (item.Op (instr.Out (operations.port p) (src.Reg 9))) 2 1 (fetch_size F a 9) (omega arith) in omega (arith, r)
+op_size W F (InO t p) = let r = laid_size F t (item.Op (instr.In (aim t) (operations.port p))) 1 (omega arith) in omega (arith, r)
+op_size W F (OutO p a) = let x = item.Op (instr.Out (operations.port p) (src.Reg (hand a 9))) in let r = brought_size F a 9 1 (x ∷ []) (one_item x 1 (omega arith)) in omega (arith, r)
 op_size W F WaitO = let r = one_item (item.Op (instr.Plain WAIT)) 1 (omega arith) in omega (arith, r)
 op_size W F HaltO = let r = one_item (item.Op (instr.Plain HLT)) 1 (omega arith) in omega (arith, r)
 
@@ -117,15 +173,17 @@ giving_size F (Some p) = one_item (fetches F p 9) 2 (fetch_size F p 9)
 
 choice_size : (F : Frame) (p : Where) (n m wa wb : ℕ) (a b : List AsmItem) → size a ≤ wa → size b ≤ wb → size (choice F p n m a b) ≤ wa + wb + 8
 choice_size F p n m wa wb a b la lb =
-    let first = fetches F p 9 ∷ jump_unless n ∷ (a ++ jump m ∷ mark n ∷ []) in
+    let inner = a ++ jump m ∷ mark n ∷ [] in
+    let j = jump_unless (hand p 9) n in
+    let first = brings F p 9 ++ j ∷ inner in
     let x = total_append first (b ++ mark m ∷ []) in
-    let x1 = total_more (fetches F p 9) (jump_unless n ∷ (a ++ jump m ∷ mark n ∷ [])) in
-    let x2 = total_more (jump_unless n) (a ++ jump m ∷ mark n ∷ []) in
+    let x1 = total_append (brings F p 9) (j ∷ inner) in
+    let x2 = total_more j inner in
     let x3 = total_append a (jump m ∷ mark n ∷ []) in
     let x4 = two_items (jump m) (mark n) 2 0 (omega arith) (omega arith) in
     let x5 = total_append b (mark m ∷ []) in
     let x6 = one_item (mark m) 0 (omega arith) in
-    omega (arith, x, x1, x2, x3, x4, x5, x6, la, lb, fetch_size F p 9)
+    omega (arith, x, x1, x2, x3, x4, x5, x6, la, lb, brings_size F p 9)
 
 enclosed_size : (n w : ℕ) (a : List AsmItem) → size a ≤ w → size (enclosed n a) ≤ w + 8
 enclosed_size n w a le =

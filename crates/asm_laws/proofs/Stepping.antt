@@ -132,8 +132,8 @@ module _ (C : Console) where
     memory = h.memory;
   }
 
-  -- a register of temporaries
-  pub kept : (a : Addr) (s : State) (next r v : ℕ) → r < 9 → Held C a s → Held C (record a { regs = written a.regs r v }) (took next r v s)
+  -- a register of temporaries or of the emitter's own
+  pub kept : (a : Addr) (s : State) (next r v : ℕ) → r < 11 → Held C a s → Held C (record a { regs = written a.regs r v }) (took next r v s)
   kept a s next r v lt h = record {
     program_length = h.program_length;
     card = h.card;
@@ -179,7 +179,7 @@ module _ (C : Console) where
     pub reg_number : (r : ℕ) → r < 9 → register r ≡ r
     reg_number r lt = omega arith
 
-    fetch_act : (a : Addr) (s : State) (p : Where) (r next : ℕ) → Room F a → Good F p → Held C a s → act (instr_with (imm_word address) (fetch F p r)) next s ≡ Ends stepped.Went (took next r (word_of F p a) s)
+    pub fetch_act : (a : Addr) (s : State) (p : Where) (r next : ℕ) → Room F a → Good F p → Held C a s → act (instr_with (imm_word address) (fetch F p r)) next s ≡ Ends stepped.Went (took next r (word_of F p a) s)
     unfolding act
     fetch_act a s (Reg q) r next room good h =
         ap (λ v. Ends stepped.Went (took next r v s)) (ap (λ n. register_of s n) (reg_number q good) ∙ h.regs q good)
@@ -191,37 +191,40 @@ module _ (C : Console) where
     fetch_fits (Reg q) r lt = (omega arith, omega arith, omega arith)
     fetch_fits (Slot k) r lt = (omega arith, omega arith, omega arith)
 
+    pub fetch_effect : (a : Addr) (s : State) (pc : ℕ) (p : Where) (r next : ℕ) → Room F a → Good F p → r < 16 → Held C a s → s.counter ≡ pc → Line C.words pc (instr_with (imm_word address) (fetch F p r)) next → effect_of s ≡ Ends stepped.Went (took next r (word_of F p a) s)
+    fetch_effect a s pc p r next room good lt h e l = line_effect a s pc (instr_with (imm_word address) (fetch F p r)) next h e l (fetch_fits p r lt) ∙ fetch_act a s p r next room good h
+
     -- a register takes the word of a place
     pub fetches_so : (a : Addr) (s : State) (xs : List ℕ) (pc : ℕ) (p : Where) (r next : ℕ) → Room F a → Good F p → r < 16 → Held C a s → s.counter ≡ pc →
         Line C.words pc (instr_with (imm_word address) (fetch F p r)) next → Reaches 1 s xs [] (took next r (word_of F p a) s) xs
     fetches_so a s xs pc p r next room good lt h e l =
-        reaches_went s (took next r (word_of F p a) s) xs (line_effect a s pc (instr_with (imm_word address) (fetch F p r)) next h e l (fetch_fits p r lt) ∙ fetch_act a s p r next room good h)
+        reaches_went s (took next r (word_of F p a) s) xs (fetch_effect a s pc p r next room good lt h e l)
 
     keep_fits : (t : Where) (r : ℕ) → r < 16 → Fits (instr_with (imm_word address) (keep F t r))
     keep_fits (Reg q) r lt = (omega arith, omega arith, omega arith)
     keep_fits (Slot k) r lt = (omega arith, omega arith, omega arith)
 
-    -- a place takes the word of register 9
-    pub keeps_so : (a : Addr) (s : State) (xs : List ℕ) (pc : ℕ) (t : Where) (v next : ℕ) → Room F a → Good F t → Held C a s → s.counter ≡ pc → register_of s 9 ≡ v →
-        Line C.words pc (instr_with (imm_word address) (keep F t 9)) next → Arrives C 1 s xs next [] xs (put F t v a)
+    -- a place takes the word of a register
+    pub keeps_so : (a : Addr) (s : State) (xs : List ℕ) (pc : ℕ) (t : Where) (r v next : ℕ) → r < 16 → Room F a → Good F t → Held C a s → s.counter ≡ pc → register_of s r ≡ v →
+        Line C.words pc (instr_with (imm_word address) (keep F t r)) next → Arrives C 1 s xs next [] xs (put F t v a)
     unfolding act
-    keeps_so a s xs pc (Reg q) v next room good h e is l =
-        let act_is : act (instr_with (imm_word address) (keep F (Reg q) 9)) next s ≡ Ends stepped.Went (took next q v s) = rw (reg_number q good, is) refl in
+    keeps_so a s xs pc (Reg q) r v next lt room good h e is l =
+        let act_is : act (instr_with (imm_word address) (keep F (Reg q) r)) next s ≡ Ends stepped.Went (took next q v s) = rw (reg_number q good, is) refl in
         record {
           steps = 1;
           to = took next q v s;
-          by = reaches_went s (took next q v s) xs (line_effect a s pc (instr_with (imm_word address) (keep F (Reg q) 9)) next h e l (keep_fits (Reg q) 9 (omega arith)) ∙ act_is);
+          by = reaches_went s (took next q v s) xs (line_effect a s pc (instr_with (imm_word address) (keep F (Reg q) r)) next h e l (keep_fits (Reg q) r lt) ∙ act_is);
           at = refl;
-          held = kept a s next q v good h;
+          held = kept a s next q v (omega (arith, good)) h;
           few = omega arith;
         }
-    keeps_so a s xs pc (Slot k) v next room good h e is l =
+    keeps_so a s xs pc (Slot k) r v next lt room good h e is l =
         let w : is_writable_at s (slot_address F k a) ≡ true = writes_at a s (slot_address F k a) h ∙ ram_writable (slot_address F k a) (slot_low a k room good) in
-        let act_is : act (instr_with (imm_word address) (keep F (Slot k) 9)) next s ≡ Ends stepped.Went (going_to next (stored s (slot_address F k a) v)) = rw (slot_is a s k room good h, w, is) refl in
+        let act_is : act (instr_with (imm_word address) (keep F (Slot k) r)) next s ≡ Ends stepped.Went (going_to next (stored s (slot_address F k a) v)) = rw (slot_is a s k room good h, w, is) refl in
         record {
           steps = 1;
           to = going_to next (stored s (slot_address F k a) v);
-          by = reaches_went s _ xs (line_effect a s pc (instr_with (imm_word address) (keep F (Slot k) 9)) next h e l (keep_fits (Slot k) 9 (omega arith)) ∙ act_is);
+          by = reaches_went s _ xs (line_effect a s pc (instr_with (imm_word address) (keep F (Slot k) r)) next h e l (keep_fits (Slot k) r lt) ∙ act_is);
           at = refl;
           held = stores a s next (slot_address F k a) v (ram_writable (slot_address F k a) (slot_low a k room good)) h;
           few = omega arith;

@@ -12,7 +12,7 @@ use Rattle.asm_items.specs.declared.item.AsmItem.TheVariants as items
 use Rattle.mid_code.specs.declared.placed.Where.{Where}
 use Rattle.mid_code.specs.Code.{NodesT, Stop, Do, Call, Choose, Block, Loop, Leave, Again, Return, FunctionT, CodeT}
 use Rattle.asm_laws.specs.Names.{jump_label, function_label}
-use Rattle.asm_laws.specs.Operations.{Frame, Whole, fetches, giving, op_items, call_items, start_frame, opening_items, literals_items}
+use Rattle.asm_laws.specs.Operations.{Frame, Whole, hand, brings, giving, op_items, call_items, start_frame, opening_items, literals_items}
 use Rattle.asm_laws.specs.Framing.{frame_made, frame_gone}
 
 -- how many labels nodes take
@@ -35,15 +35,15 @@ enclosing ls k = get_or ls (length ls - suc k) 0
 abbrev pub jump : ℕ → AsmItem
 jump n = items.Op (instr.Go JMP (src.Imm (Right (jump_label n))))
 
-abbrev pub jump_unless : ℕ → AsmItem
-jump_unless n = items.Op (instr.Branch JF 9 (src.Imm (Right (jump_label n))))
+abbrev pub jump_unless : (register n : ℕ) → AsmItem
+jump_unless r n = items.Op (instr.Branch JF r (src.Imm (Right (jump_label n))))
 
 abbrev pub mark : ℕ → AsmItem
 mark n = items.Label (jump_label n)
 
 -- a choice between two parts by a word, with the labels n before the second and m behind it
 abbrev pub first_part : Frame → Where → ℕ → ℕ → List AsmItem → List AsmItem
-first_part F p n m a = fetches F p 9 ∷ jump_unless n ∷ (a ++ jump m ∷ mark n ∷ [])
+first_part F p n m a = brings F p 9 ++ jump_unless (hand p 9) n ∷ (a ++ jump m ∷ mark n ∷ [])
 
 abbrev pub second_part : ℕ → List AsmItem → List AsmItem
 second_part m b = b ++ mark m ∷ []

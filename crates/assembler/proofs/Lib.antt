@@ -2,6 +2,6 @@ mod Lookups
 mod ItemSizes
 mod Walking
 mod Whole
-mod Standing
+pub mod Standing
 mod Again
 pub mod ReadingAgain

@@ -1,0 +1,42 @@
+-- From the parts of placed code to what is promised of its items.
+use Rattle.std.proofs.Common.{◌≡◌, ℕ, ◌+◌, ◌-◌, ◌^◌, ◌<◌, ◌≤◌, List, [], ◌∷◌, length, refl, ap, ◌∙◌, arith}
+use Rattle.std.specs.Prelude.{sum, Result, Ok, Err, IfOk}
+use Rattle.std.proofs.lemmas.List.Sums.{sum_by-cons}
+use Rattle.kit_base.specs.Word.{add}
+use Rattle.asm_items.specs.declared.item.AsmItem.{AsmItem}
+use Rattle.mid_code.specs.Placed.{PlacedT}
+use Rattle.mid_code.specs.Invariants.{IsPlaced}
+use Rattle.asm_laws.specs.Tables.{addresses, whole_of}
+use Rattle.asm_laws.specs.Emitted.{program_items, labels_of}
+use Rattle.asm_emit.specs.EmittedFrom.{CanBeEmitted, IsEmitted}
+use Rattle.asm_laws.proofs.Sizes.{program_few, few_texts, few_functions}
+use Rattle.asm_emit.proofs.Promised.{is_emitted}
+use Rattle.asm_emit.specs.View.{whole_of_parts, wrapped_addresses}
+
+-- where the sum is a word, none wraps
+pub addresses_same : (ns : List ℕ) (p : ℕ) → p + sum ns < 0x100000000 → wrapped_addresses p ns ≡ addresses p ns
+addresses_same [] p lt = refl
+addresses_same (n ∷ ns) p lt =
+    let s = sum_by-cons (λ x. x) n ns in
+    let e : add p n ≡ p + n = omega (arith, lt, s) in
+    ap (λ q. p ∷ wrapped_addresses q ns) e ∙ ap (λ l. p ∷ l) (addresses_same ns (p + n) (omega (arith, lt, s)))
+
+module _ (x : PlacedT) (names : List (List ℕ)) (placed : IsPlaced x) (can : CanBeEmitted x names) where
+  pub few_labels : labels_of x.code < 2 ^ 32 - 1
+  few_labels = let p = program_few x.code in let r = can.room in omega (arith, p, r)
+
+  pub few_function_numbers : length x.code.functions < 2 ^ 32 - 1
+  few_function_numbers = let p = few_functions x.code.functions in let r = can.room in omega (arith, p, r)
+
+  pub few_literal_numbers : length x.code.literals < 2 ^ 32 - 1
+  few_literal_numbers = let p = few_texts x.code.literals in let r = can.room in omega (arith, p, r)
+
+  pub promised : (items : List AsmItem) → items ≡ program_items (whole_of_parts x.code.functions x.spots x.frames names (wrapped_addresses 0 x.code.globals)) x.code → IsEmitted x names items
+  promised items e =
+      let few = placed.code.globals in
+      let same = addresses_same x.code.globals 0 (omega (arith, few)) in
+      is_emitted x names items placed can (e ∙ ap (λ globals. program_items (whole_of_parts x.code.functions x.spots x.frames names globals) x.code) same)
+
+pub if_ok : {T E A : Type 0} (items : T → A) (Q : A → Type 0) (y : A) → ((xs : A) → xs ≡ y → Q xs) → (r : Result T E) → IfOk r (λ v. items v ≡ y) → IfOk r (λ v. Q (items v))
+if_ok items Q y f (Ok v) h = f (items v) h
+if_ok items Q y f (Err e) h = tt

@@ -1,0 +1,248 @@
+-- In code without a loop each item goes on.
+use Rattle.std.proofs.Common.{◌≡◌, ℕ, zero, suc, ◌+◌, ◌-◌, ◌^◌, ◌<◌, ◌⊎◌, inl, inr, Bool, true, false, List, [], ◌∷◌, ◌++◌, length, Option, Some, None, refl, sym, ap, ◌∙◌, subst, arith, append_assoc, length-append}
+use Rattle.std.specs.Prelude.{cond, slice_get, get_or}
+use Rattle.std.proofs.lemmas.Option.{get_or_from_slice_get}
+use Rattle.kit_base.specs.Word.{add}
+use Rattle.v32_isa.specs.declared.instruction.One.{One}
+use Rattle.v32_isa.specs.declared.instruction.One.TheVariants.{CIB, NOT, BNOT, ISGN, IABS}
+use Rattle.v32_isa.specs.declared.instruction.Two.{Two}
+use Rattle.v32_isa.specs.declared.instruction.Two.TheVariants.{IADD, ISUB}
+use Rattle.v32_isa.specs.declared.instruction.Src.TheVariants as src
+use Rattle.v32_isa.specs.declared.instruction.Instr.TheVariants as instr
+use Rattle.asm_items.specs.declared.item.AsmItem.{AsmItem}
+use Rattle.asm_items.specs.declared.item.AsmItem.TheVariants as item
+use Rattle.mid_code.specs.declared.placed.Where.{Where}
+use Rattle.mid_code.specs.declared.placed.Where.TheVariants.{Reg, Slot}
+use Rattle.mid_code.specs.Code.{OpT, ConstO, NullO, MoveO, OneO, TwoO, GlobalO, LocalO, LiteralO, CardO, StepO, ApartO, PtrTestO, LoadO, StoreO, FreshO, EndO, InO, OutO, WaitO, HaltO, NodesT, Stop, Do, Call, Choose, Block, Loop, Leave, Again, Return, CodeT}
+use Rattle.mid_code.specs.Invariants.{IsOne, IsOp, IsLoop, AreNodes}
+use Rattle.mid_code.specs.Calls.{loops, CallsTo}
+use Rattle.asm_laws.specs.Names.{jump_label, function_label}
+use Rattle.asm_laws.specs.Labelled.{label_of_function, HasLabel}
+use Rattle.asm_laws.specs.Operations.{Frame, Whole, register, keep, fetches, keeps, keeps_some, is_in, hand, brings, takes, aim, lays, moves, changes, is_direct, in_place, apart, computes, slot_arg, slot_args, pushed_arg, pushed_args, popped_arg, popped_args, args_items, call_items, op_items, giving}
+use Rattle.asm_laws.specs.Framing.{frame_made, frame_gone}
+use Rattle.asm_laws.specs.Emitted.{labels, enclosing, jump, jump_unless, mark, first_part, second_part, choice, enclosed, returning, code_items, call_item, own_items, exit_items}
+use Rattle.asm_emit.specs.EmittedFrom.{IsCalled, GoesOn, AllGoOn}
+use Rattle.asm_laws.proofs.Enclosing.{innermost, further}
+use Rattle.asm_laws.proofs.Known.{marked_left, marked_right, function_there}
+
+module _ (names : List (List ℕ)) (body : NodesT Where) where
+  -- each of these items goes on to those behind it, or to later ones
+  abbrev Ahead : List AsmItem → List AsmItem → Type 0
+  Ahead [] later = Unit {0}
+  Ahead (x ∷ xs) later = GoesOn names body x (xs ++ later) × Ahead xs later
+
+  ahead_append : (xs ys later : List AsmItem) → Ahead xs (ys ++ later) → Ahead ys later → Ahead (xs ++ ys) later
+  ahead_append [] ys later h g = g
+  ahead_append (x ∷ xs) ys later h g = (subst (GoesOn names body x) (sym (append_assoc xs ys later)) h.0, ahead_append xs ys later h.1 g)
+
+  ahead_all : (xs ys : List AsmItem) → Ahead xs ys → AllGoOn names body ys → AllGoOn names body (xs ++ ys)
+  ahead_all [] ys h g = g
+  ahead_all (x ∷ xs) ys h g = (h.0, ahead_all xs ys h.1 g)
+
+  -- ---- operations
+
+  fetch_ahead : (F : Frame) (p : Where) (r : ℕ) (later : List AsmItem) → GoesOn names body (fetches F p r) later
+  fetch_ahead F (Reg q) r later = tt
+  fetch_ahead F (Slot k) r later = tt
+
+  keep_ahead : (F : Frame) (t : Where) (later : List AsmItem) → GoesOn names body (keeps F t) later
+  keep_ahead F (Reg q) later = tt
+  keep_ahead F (Slot k) later = tt
+
+  some_ahead : (F : Frame) (t : Option Where) (later : List AsmItem) → Ahead (keeps_some F t) later
+  some_ahead F None later = tt
+  some_ahead F (Some t) later = (keep_ahead F t later, tt)
+
+  one_ahead : (o : One) (m : ℕ) (later : List AsmItem) → IsOne o → GoesOn names body (item.Op (instr.One o m)) later
+  one_ahead CIB m later h = tt
+  one_ahead NOT m later h = tt
+  one_ahead BNOT m later h = tt
+  one_ahead ISGN m later h = tt
+  one_ahead IABS m later h = tt
+  one_ahead _ m later h = absurd h
+
+  brought_ahead : (F : Frame) (p : Where) (r : ℕ) (xs later : List AsmItem) → Ahead xs later → Ahead (brings F p r ++ xs) later
+  brought_ahead F (Reg q) r xs later h = h
+  brought_ahead F (Slot k) r xs later h = (tt, h)
+
+  one_of_both : (b : Bool) (xs ys later : List AsmItem) → Ahead xs later → Ahead ys later → Ahead (cond b xs ys) later
+  one_of_both true xs ys later h g = h
+  one_of_both false xs ys later h g = g
+
+  takes_ahead : (F : Frame) (p : Where) (m : ℕ) (later : List AsmItem) → Ahead (takes F p m) later
+  takes_ahead F p m later = one_of_both (is_in p m) [] (fetches F p m ∷ []) later tt (fetch_ahead F p m _, tt)
+
+  lays_ahead : (F : Frame) (t : Where) (later : List AsmItem) → Ahead (lays F t) later
+  lays_ahead F (Reg q) later = tt
+  lays_ahead F (Slot k) later = (tt, tt)
+
+  keep_from_ahead : (F : Frame) (t : Where) (r : ℕ) (later : List AsmItem) → GoesOn names body (item.Op (keep F t r)) later
+  keep_from_ahead F (Reg q) r later = tt
+  keep_from_ahead F (Slot k) r later = tt
+
+  moves_ahead : (F : Frame) (t a : Where) (later : List AsmItem) → Ahead (moves F t a) later
+  moves_ahead F t (Reg q) later = one_of_both (is_in t (register q)) [] (item.Op (keep F t (register q)) ∷ []) later tt (keep_from_ahead F t (register q) _, tt)
+  moves_ahead F t (Slot k) later = (tt, lays_ahead F t later)
+
+  changes_ahead : (F : Frame) (o : One) (t a : Where) (later : List AsmItem) → IsOne o → Ahead (changes F o t a) later
+  changes_ahead F o t a later ok = ahead_append (takes F a (aim t)) (item.Op (instr.One o (aim t)) ∷ lays F t) later (takes_ahead F a (aim t) _) (one_ahead o (aim t) _ ok, lays_ahead F t later)
+
+  computes_ahead : (F : Frame) (o : Two) (t a b : Where) (later : List AsmItem) → Ahead (computes F o t a b) later
+  computes_ahead F o t a b later =
+      one_of_both (is_direct o t b) (in_place F o (aim t) a b) (apart F o t a b) later
+      (ahead_append (takes F a (aim t)) (brings F b 10 ++ item.Op (instr.Two o (aim t) (src.Reg (hand b 10))) ∷ []) later (takes_ahead F a (aim t) _) (brought_ahead F b 10 _ later (tt, tt)))
+      (fetch_ahead F a 9 _, brought_ahead F b 10 _ later (tt, (keep_ahead F t _, tt)))
+
+  slot_ahead : (F G : Frame) (p a : Where) (later : List AsmItem) → Ahead (slot_arg F G p a) later
+  slot_ahead F G (Reg q) a later = tt
+  slot_ahead F G (Slot k) a later = brought_ahead F a 9 _ later (tt, tt)
+
+  pushed_ahead : (F : Frame) (p a : Where) (later : List AsmItem) → Ahead (pushed_arg F p a) later
+  pushed_ahead F (Reg q) a later = brought_ahead F a 9 _ later (tt, tt)
+  pushed_ahead F (Slot k) a later = tt
+
+  popped_ahead : (p : Where) (later : List AsmItem) → Ahead (popped_arg p) later
+  popped_ahead (Reg q) later = (tt, tt)
+  popped_ahead (Slot k) later = tt
+
+  slots_ahead : (F G : Frame) (ps args : List Where) (later : List AsmItem) → Ahead (slot_args F G ps args) later
+  slots_ahead F G [] args later = tt
+  slots_ahead F G (p ∷ ps) [] later = tt
+  slots_ahead F G (p ∷ ps) (a ∷ args) later = ahead_append (slot_arg F G p a) (slot_args F G ps args) later (slot_ahead F G p a _) (slots_ahead F G ps args later)
+
+  pushes_ahead : (F : Frame) (ps args : List Where) (later : List AsmItem) → Ahead (pushed_args F ps args) later
+  pushes_ahead F [] args later = tt
+  pushes_ahead F (p ∷ ps) [] later = tt
+  pushes_ahead F (p ∷ ps) (a ∷ args) later = ahead_append (pushed_arg F p a) (pushed_args F ps args) later (pushed_ahead F p a _) (pushes_ahead F ps args later)
+
+  pops_ahead : (ps : List Where) (later : List AsmItem) → Ahead (popped_args ps) later
+  pops_ahead [] later = tt
+  pops_ahead (p ∷ ps) later = ahead_append (popped_args ps) (popped_arg p) later (pops_ahead ps _) (popped_ahead p later)
+
+  args_ahead : (F G : Frame) (ps args : List Where) (later : List AsmItem) → Ahead (args_items F G ps args) later
+  args_ahead F G ps args later =
+      ahead_append (slot_args F G ps args) (pushed_args F ps args ++ popped_args ps) later (slots_ahead F G ps args _)
+      (ahead_append (pushed_args F ps args) (popped_args ps) later (pushes_ahead F ps args _) (pops_ahead ps later))
+
+  module _ (x : CodeT Where) (W : Whole) (named : (g : ℕ) → g < length x.functions → CallsTo g body → IsCalled names body (function_label W.names g)) (m : ℕ) (F : Frame) where
+    op_ahead : (o : OpT Where) (later : List AsmItem) → IsOp x m o → Ahead (op_items W F o) later
+    unfolding op_items
+    op_ahead (ConstO t n) later ok = (tt, lays_ahead F t later)
+    op_ahead (NullO t) later ok = (tt, lays_ahead F t later)
+    op_ahead (MoveO t a) later ok = moves_ahead F t a later
+    op_ahead (OneO o t a) later ok = changes_ahead F o t a later ok
+    op_ahead (TwoO o t a b) later ok = computes_ahead F o t a b later
+    op_ahead (GlobalO t k) later ok = (tt, lays_ahead F t later)
+    op_ahead (LocalO t k) later ok = (tt, lays_ahead F t later)
+    op_ahead (LiteralO t k) later ok = (tt, lays_ahead F t later)
+    op_ahead (CardO t) later ok = (tt, lays_ahead F t later)
+    op_ahead (StepO t p n) later ok = computes_ahead F IADD t p n later
+    op_ahead (ApartO t p q) later ok = computes_ahead F ISUB t p q later
+    op_ahead (PtrTestO o t p q) later ok = computes_ahead F o t p q later
+    op_ahead (LoadO t p) later ok = brought_ahead F p 9 _ later (tt, lays_ahead F t later)
+    op_ahead (StoreO p a) later ok = brought_ahead F p 9 _ later (brought_ahead F a 10 _ later (tt, tt))
+    op_ahead (FreshO k) later ok = tt
+    op_ahead (EndO k) later ok = tt
+    op_ahead (InO t port) later ok = (tt, lays_ahead F t later)
+    op_ahead (OutO port a) later ok = brought_ahead F a 9 _ later (tt, tt)
+    op_ahead WaitO later ok = (tt, tt)
+    op_ahead HaltO later ok = (tt, tt)
+
+    call_ahead : (t : Option Where) (g : ℕ) (args : List Where) (later : List AsmItem) → g < length x.functions → CallsTo g body → Ahead (call_items W F t g args) later
+    call_ahead t g args later lt calls =
+        ahead_append (args_items F (W.frames g) (W.params g) args) (call_item W g ∷ keeps_some F t) later (args_ahead F (W.frames g) (W.params g) args _) (named g lt calls, some_ahead F t later)
+
+    giving_ahead : (p : Option Where) (later : List AsmItem) → Ahead (giving F p) later
+    giving_ahead None later = tt
+    giving_ahead (Some p) later = (fetch_ahead F p 9 _, tt)
+
+    -- ---- nodes
+
+    -- the ends of enclosing blocks come later
+    abbrev Ends : List ℕ → List AsmItem → Type 0
+    Ends ls later = (k : ℕ) → k < length ls → HasLabel later (jump_label (add (enclosing ls k) 1))
+
+    abbrev NoLoop : List Bool → Type 0
+    NoLoop bs = (k : ℕ) → IsLoop bs k → ⊥
+
+    no_loop : (bs : List Bool) → NoLoop bs → NoLoop (false ∷ bs)
+    no_loop bs h zero e = cc
+    no_loop bs h (suc k) l = h k l
+
+    ends_later : (ls : List ℕ) (xs later : List AsmItem) → Ends ls later → Ends ls (xs ++ later)
+    ends_later ls xs later h k lt = marked_right xs later (jump_label (add (enclosing ls k) 1)) (h k lt)
+
+    ends_inside : (ls : List ℕ) (n : ℕ) (later : List AsmItem) → n < 2 ^ 32 - 1 → Ends ls later → HasLabel later (jump_label (n + 1)) → Ends (ls ++ n ∷ []) later
+    ends_inside ls n later few h here zero lt =
+        let e = innermost ls n in
+        let s : n + 1 ≡ add (enclosing (ls ++ n ∷ []) 0) 1 = omega (arith, e, few) in
+        subst (λ w. HasLabel later (jump_label w)) s here
+    ends_inside ls n later few h here (suc k) lt =
+        let e = further ls n k lt in
+        let l = length-append ls (n ∷ []) in
+        subst (λ w. HasLabel later (jump_label (add w 1))) (sym e) (h k (omega (arith, l, lt)))
+
+    choice_ahead : (p : Where) (n w : ℕ) (a b later : List AsmItem) → Ahead a ((jump w ∷ mark n ∷ []) ++ (second_part w b ++ later)) → Ahead b ((mark w ∷ []) ++ later) → Ahead (choice F p n w a b) later
+    choice_ahead p n w a b later ha hb =
+        let inner = a ++ jump w ∷ mark n ∷ [] in
+        let second = second_part w b in
+        let on : HasLabel (inner ++ (second ++ later)) (jump_label n) = marked_left inner (second ++ later) (jump_label n) (marked_right a (jump w ∷ mark n ∷ []) (jump_label n) (inl refl)) in
+        let out : HasLabel ((mark n ∷ []) ++ (second ++ later)) (jump_label w) = marked_right (mark n ∷ []) (second ++ later) (jump_label w) (marked_left second later (jump_label w) (marked_right b (mark w ∷ []) (jump_label w) (inl refl))) in
+        ahead_append (first_part F p n w a) second later
+        (brought_ahead F p 9 (jump_unless (hand p 9) n ∷ inner) (second ++ later) (on, ahead_append a (jump w ∷ mark n ∷ []) (second ++ later) ha (out, (tt, tt))))
+        (ahead_append b (mark w ∷ []) later hb (tt, tt))
+
+    deeper : (ls : List ℕ) (n : ℕ) (bs : List Bool) (b : Bool) → length ls ≡ length bs → length (ls ++ n ∷ []) ≡ length (b ∷ bs)
+    deeper ls n bs b same = let h = length-append ls (n ∷ []) in omega (arith, h, same)
+
+    module _ (out : ℕ) where
+      pub code_ahead : (c : NodesT Where) (bs : List Bool) (ls : List ℕ) (n : ℕ) (later : List AsmItem) → AreNodes x m bs c → length ls ≡ length bs → NoLoop bs → loops c ≡ 0 → n + labels c < 2 ^ 32 - 1 →
+          ((g : ℕ) → CallsTo g c → CallsTo g body) → Ends ls later → HasLabel later (jump_label out) → Ahead (code_items W F out ls n c) later
+      code_ahead Stop bs ls n later ok same nl none few calls ends over = tt
+      code_ahead (Do o c) bs ls n later ok same nl none few calls ends over =
+          ahead_append (op_items W F o) (code_items W F out ls n c) later (op_ahead o _ ok.0) (code_ahead c bs ls n later ok.1 same nl none few calls ends over)
+      code_ahead (Call t g args c) bs ls n later ok same nl none few calls ends over =
+          ahead_append (call_items W F t g args) (code_items W F out ls n c) later (call_ahead t g args _ (function_there x g (length args) ok.0) (calls g (inl refl)))
+          (code_ahead c bs ls n later ok.1 same nl none few (λ h k. calls h (inr k)) ends over)
+      code_ahead (Choose p a b c) bs ls n later ok same nl none few calls ends over =
+          let w = n + 1 + labels a in
+          let one = code_items W F out ls (n + 1) a in
+          let two = code_items W F out ls (w + 1) b in
+          let rest = code_items W F out ls (n + (2 + labels a + labels b)) c in
+          let after = rest ++ later in
+          let ends1 = ends_later ls rest later ends in
+          let over1 = marked_right rest later (jump_label out) over in
+          let tail = (jump w ∷ mark n ∷ []) ++ second_part w two in
+          ahead_append (choice F p n w one two) rest later
+          (choice_ahead p n w one two after
+          (code_ahead a bs ls (n + 1) ((jump w ∷ mark n ∷ []) ++ (second_part w two ++ after)) ok.0 same nl (omega (arith, none)) (omega (arith, few)) (λ h k. calls h (inl k))
+          (ends_later ls (jump w ∷ mark n ∷ []) (second_part w two ++ after) (ends_later ls (second_part w two) after ends1))
+          (marked_right (jump w ∷ mark n ∷ []) (second_part w two ++ after) (jump_label out) (marked_right (second_part w two) after (jump_label out) over1)))
+          (code_ahead b bs ls (w + 1) ((mark w ∷ []) ++ after) ok.1 same nl (omega (arith, none)) (omega (arith, few)) (λ h k. calls h (inr (inl k))) (ends_later ls (mark w ∷ []) after ends1) (marked_right (mark w ∷ []) after (jump_label out) over1)))
+          (code_ahead c bs ls (n + (2 + labels a + labels b)) later ok.2 same nl (omega (arith, none)) (omega (arith, few)) (λ h k. calls h (inr (inr k))) ends over)
+      code_ahead (Block b c) bs ls n later ok same nl none few calls ends over =
+          let one = code_items W F out (ls ++ n ∷ []) (n + 2) b in
+          let rest = code_items W F out ls (n + (2 + labels b)) c in
+          let after = rest ++ later in
+          let ends1 = ends_later ls (mark (n + 1) ∷ []) after (ends_later ls rest later ends) in
+          let inside = code_ahead b (false ∷ bs) (ls ++ n ∷ []) (n + 2) ((mark (n + 1) ∷ []) ++ after) ok.0 (deeper ls n bs false same) (no_loop bs nl) (omega (arith, none)) (omega (arith, few)) (λ h k. calls h (inl k))
+          (ends_inside ls n ((mark (n + 1) ∷ []) ++ after) (omega (arith, few)) ends1 (inl refl)) (marked_right (mark (n + 1) ∷ []) after (jump_label out) (marked_right rest later (jump_label out) over)) in
+          ahead_append (enclosed n one) rest later (tt, ahead_append one (mark (n + 1) ∷ []) after inside (tt, tt))
+          (code_ahead c bs ls (n + (2 + labels b)) later ok.1 same nl (omega (arith, none)) (omega (arith, few)) (λ h k. calls h (inr k)) ends over)
+      code_ahead (Loop b c) bs ls n later ok same nl none few calls ends over = absurd (omega (arith, none))
+      code_ahead (Leave k c) bs ls n later ok same nl none few calls ends over =
+          let l = ok.0 in
+          (marked_right (code_items W F out ls n c) later (jump_label (add (enclosing ls k) 1)) (ends k (omega (arith, l, same))), code_ahead c bs ls n later ok.1 same nl none few calls ends over)
+      code_ahead (Again k c) bs ls n later ok same nl none few calls ends over = absurd (nl k ok.0)
+      code_ahead (Return p c) bs ls n later ok same nl none few calls ends over =
+          let rest = code_items W F out ls n c in
+          ahead_append (returning F p out) rest later (ahead_append (giving F p) (jump out ∷ []) (rest ++ later) (giving_ahead p _) (marked_right rest later (jump_label out) over, tt))
+          (code_ahead c bs ls n later ok same nl none few calls ends over)
+
+  -- the items of a function without a loop
+  pub own_go_on : (x : CodeT Where) (W : Whole) → ((g : ℕ) → g < length x.functions → CallsTo g body → IsCalled names body (function_label W.names g)) → (m f n : ℕ) → AreNodes x m [] body → loops body ≡ 0 → n + 1 + labels body < 2 ^ 32 - 1 → AllGoOn names body (own_items W f n body)
+  own_go_on x W named m f n ok none few =
+      let F = W.frames f in
+      let items = code_items W F n [] (n + 1) body in
+      let ahead = code_ahead x W named m F n body [] [] (n + 1) (exit_items n) ok refl (λ k h. absurd h) none few (λ g h. h) (λ k lt. absurd (omega (arith, lt))) (inl refl) in
+      (tt, (tt, (tt, ahead_all items (exit_items n) ahead (tt, (tt, (tt, (tt, tt)))))))

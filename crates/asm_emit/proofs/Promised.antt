@@ -1,0 +1,112 @@
+-- What is promised of the items of placed code.
+use Rattle.std.proofs.Common.{◌≡◌, ℕ, zero, suc, ◌+◌, ◌-◌, ◌^◌, ◌<◌, ◌≤◌, List, [], ◌∷◌, ◌++◌, length, map, Some, None, refl, sym, ap, ◌∙◌, subst, arith, append_assoc}
+use Rattle.std.specs.Prelude.{get_or, slice_get}
+use Rattle.std.proofs.lemmas.Option.{get_or_from_slice_get, slice_get-get_or}
+use Rattle.v32_isa.specs.declared.instruction.Plain.TheVariants.{RET}
+use Rattle.v32_isa.specs.declared.instruction.One.TheVariants.{POP}
+use Rattle.v32_isa.specs.declared.instruction.Mov.TheVariants.{RegReg}
+use Rattle.v32_isa.specs.declared.instruction.Instr.TheVariants as instr
+use Rattle.asm_items.specs.declared.item.AsmItem.{AsmItem}
+use Rattle.asm_items.specs.declared.item.AsmItem.TheVariants as item
+use Rattle.assembler.specs.Faults.{fault_of}
+use Rattle.assembler.specs.Placed as asm
+use Rattle.assembler.specs.Sizes.{total_size}
+use Rattle.mid_code.specs.declared.placed.Where.{Where}
+use Rattle.mid_code.specs.Placed.{PlacedT}
+use Rattle.mid_code.specs.Code.{NodesT, FunctionT, CodeT}
+use Rattle.mid_code.specs.Invariants.{AllOf, AreNodes, IsPlaced}
+use Rattle.mid_code.specs.Calls.{CallsTo}
+use Rattle.mid_code.specs.Runs.{placed_runs, weight}
+use Rattle.mid_code.specs.Agrees.{AgreesWithin}
+use Rattle.asm_laws.specs.Names.{function_label, literal_label}
+use Rattle.asm_laws.specs.Labelled.{label_of_function}
+use Rattle.asm_laws.specs.Operations.{Whole, literal_items, literals_items}
+use Rattle.asm_laws.specs.Framing.{frame_made}
+use Rattle.asm_laws.specs.Emitted.{labels, functions_labels, mark, code_items, own_items, function_items, functions_items, start_items, program_items, labels_of}
+use Rattle.asm_laws.specs.Tables.{addresses, whole_of}
+use Rattle.asm_emit.specs.EmittedFrom.{literal_words, CanBeEmitted, AreData, IsCalled, AreItemsOf, AreFunctions, IsEmitted}
+use Rattle.asm_laws.proofs.Sizes.{program_size, program_few}
+use Rattle.asm_laws.proofs.Known.{no_fault}
+use Rattle.asm_emit.proofs.Forward.{own_go_on}
+use Rattle.asm_emit.proofs.Agreeing.{sound, few_labels, words_agree}
+
+-- ---- literals are data
+
+data_append : (xs ys : List AsmItem) → AreData xs → AreData ys → AreData (xs ++ ys)
+data_append [] ys h g = g
+data_append (item.Label l ∷ xs) ys h g = data_append xs ys h g
+data_append (item.Op i ∷ xs) ys h g = absurd h
+data_append (item.Integer w ∷ xs) ys h g = data_append xs ys h g
+data_append (item.Pointer l ∷ xs) ys h g = data_append xs ys h g
+
+integers_data : (bytes : List ℕ) → AreData (map item.Integer bytes)
+integers_data [] = tt
+integers_data (b ∷ bytes) = integers_data bytes
+
+literals_data : (k : ℕ) (texts : List (List ℕ)) → AreData (literals_items k texts)
+literals_data k [] = tt
+literals_data k (text ∷ texts) =
+    data_append (literal_items k text) (literals_items (k + 1) texts) (data_append (map item.Integer text) (item.Integer 0 ∷ []) (integers_data text) tt) (literals_data (k + 1) texts)
+
+-- ---- functions
+
+module _ (x : CodeT Where) (W : Whole) (count : length W.names ≡ length x.functions) where
+  called : (body : NodesT Where) (g : ℕ) → g < length x.functions → CallsTo g body → IsCalled W.names body (function_label W.names g)
+  called body g lt calls = (g, get_or W.names g [], slice_get-get_or W.names g [] (omega (arith, lt, count)), refl, calls)
+
+  are_items : (f n : ℕ) (g : FunctionT Where) → AreNodes x (length g.locals) [] g.body → n + 1 + labels g.body < 2 ^ 32 - 1 → AreItemsOf W.names g (own_items W f n g.body)
+  are_items f n g ok few =
+      let items = code_items W (W.frames f) n [] (n + 1) g.body in
+      let away = mark n ∷ item.Op (instr.Mov (RegReg 15 14)) ∷ item.Op (instr.One POP 14) ∷ [] in
+      record {
+        some = tt;
+        ends = (frame_made (W.frames f).size ++ (items ++ away), ap (λ z. frame_made (W.frames f).size ++ z) (sym (append_assoc items away (item.Op (instr.Plain RET) ∷ []))));
+        straight = λ none. own_go_on W.names g.body x W (called g.body) (length g.locals) f n ok none few;
+      }
+
+  -- the names that are left are those from a number on
+  abbrev Left : ℕ → List (List ℕ) → Type 0
+  Left f left = (k : ℕ) (name : List ℕ) → slice_get left k ≡ Some name → slice_get W.names (f + k) ≡ Some name
+
+  later : (f : ℕ) (name : List ℕ) (left : List (List ℕ)) → Left f (name ∷ left) → Left (f + 1) left
+  later f name left h k m e = let z : f + suc k ≡ f + 1 + k = omega arith in subst (λ i. slice_get W.names i ≡ Some m) z (h (suc k) m e)
+
+  here : (f : ℕ) (name : List ℕ) (left : List (List ℕ)) → Left f (name ∷ left) → get_or W.names f [] ≡ name
+  here f name left h = let z : f + 0 ≡ f = omega arith in get_or_from_slice_get W.names f name [] (subst (λ i. slice_get W.names i ≡ Some name) z (h 0 name refl))
+
+  are_functions : (f n : ℕ) (left : List (List ℕ)) (gs : List (FunctionT Where)) (texts : List (List ℕ)) → length left ≡ length gs → Left f left → AllOf (λ g. AreNodes x (length g.locals) [] g.body) gs → n + functions_labels gs < 2 ^ 32 - 1 →
+      AreFunctions W.names left gs (functions_items W f n gs ++ literals_items 0 texts)
+  are_functions f n [] [] texts same h ok few = literals_data 0 texts
+  are_functions f n [] (g ∷ gs) texts same h ok few = absurd (omega (arith, same))
+  are_functions f n (name ∷ left) [] texts same h ok few = absurd (omega (arith, same))
+  are_functions f n (name ∷ left) (g ∷ gs) texts same h ok few =
+      let m = n + 1 + labels g.body in
+      let own = own_items W f n g.body in
+      let rest = functions_items W (f + 1) m gs ++ literals_items 0 texts in
+      let label : function_label W.names f ≡ label_of_function name = ap label_of_function (here f name left h) in (
+        own,
+        rest,
+        append_assoc (function_items W f n g.body) (functions_items W (f + 1) m gs) (literals_items 0 texts) ∙ ap (λ l. item.Label l ∷ own ++ rest) label,
+        are_items f n g ok.0 (omega (arith, few)),
+        are_functions (f + 1) m left gs texts (omega (arith, same)) (later f name left h) ok.1 (omega (arith, few)),
+      )
+
+-- ---- the whole program
+
+pub is_emitted : (x : PlacedT) (names : List (List ℕ)) (items : List AsmItem) → IsPlaced x → CanBeEmitted x names → items ≡ program_items (whole_of x names) x.code → IsEmitted x names items
+is_emitted x names items placed can e =
+    let W = whole_of x names in
+    let s = sound x names placed can in
+    let less = program_size x.code W s.counts s.start s.each in
+    let few = few_labels x names placed can in
+    record {
+      faultless = ap fault_of e ∙ no_fault x.code W s;
+      agrees = λ words labels at. words_agree x names placed can words labels (subst (λ xs. asm.Placed xs words labels) e at);
+      functions = (
+        start_items W x.code.main x.code.start.body,
+        functions_items W 0 (1 + labels x.code.start.body) x.code.functions ++ literals_items 0 x.code.literals,
+        e,
+        are_functions x.code W can.named 0 (1 + labels x.code.start.body) names x.code.functions x.code.literals can.named (λ k name q. let z : k ≡ 0 + k = omega arith in subst (λ i. slice_get names i ≡ Some name) z q) s.each (omega (arith, few)),
+      );
+      small = let t = ap total_size e in omega (arith, t, less);
+    }

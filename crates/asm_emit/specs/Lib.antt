@@ -1,0 +1,3 @@
+pub mod EmittedFrom
+pub mod View
+pub mod Listed

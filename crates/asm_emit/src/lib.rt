@@ -1,0 +1,17 @@
+//! Placed code as items of assembly text: the emitter.
+//!
+//! It promises that the words that the items are placed as do what the code means, in at most as many steps as its work and 64; that no label
+//! stands twice and none is missing; where the functions, the globals and the literals stand; how many words there are; and that code without
+//! loops only goes on. It stands on the laws of `asm_laws`.
+#![tactic(auto)]
+
+mod calls;
+mod hands;
+mod names;
+mod nodes;
+mod operations;
+mod pieces;
+mod program;
+mod scope;
+
+pub use program::emit;

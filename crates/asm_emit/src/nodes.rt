@@ -1,0 +1,248 @@
+// Nodes.
+ghost use Rattle.std.specs.Prelude.{◌≡◌, ◌+◌, ◌-◌, ◌<◌, ◌^◌, ◌++◌, ◌∷◌, [], map, suc, length, get_or, OnOk, IfOk};
+ghost use Rattle.kit_base.specs.Word.{add};
+ghost use Rattle.mid_code.specs.Functions.{node, nodes, listed, BlockN};
+ghost use Rattle.asm_laws.specs.Operations.{giving};
+ghost use Rattle.asm_laws.specs.Emitted.{labels, enclosing, jump, jump_unless, mark, first_part, second_part, returning, code_items};
+ghost use Rattle.asm_emit.specs.Listed.{node_labels, list_labels, node_items, list_items};
+ghost use Rattle.asm_emit.specs.View.{frame, whole};
+
+use crate::hands::{brings, fetches, hand, op};
+use crate::names::jump_label;
+use crate::operations::put_op;
+use crate::scope::{Around, Scope};
+use asm_items::AsmItem;
+use either::Either;
+use kit_base::Memory;
+use mid_code::{Node, Where};
+use std::alloc::Global;
+use v32_isa::{Branch, Go, Instr, Reg, Src};
+
+/// Adds a jump to a label.
+pub(crate) fn put_jump(alloc: Global, out: &mut Vec<AsmItem>, n: u32) -> Result<(), Memory>
+    ensures { OnOk result (out.new.items ≡ out.old.items ++ jump n ∷ []) }
+{
+    let label = jump_label(alloc, n)?;
+    op(out, Instr::Go(Go::JMP, Src::Imm(Either::Right(label))))
+}
+
+/// Adds a jump to a label where a register is 0.
+fn put_jump_unless(alloc: Global, out: &mut Vec<AsmItem>, r: Reg, n: u32) -> Result<(), Memory>
+    ensures { OnOk result (out.new.items ≡ out.old.items ++ jump_unless r n ∷ []) }
+{
+    let label = jump_label(alloc, n)?;
+    op(
+        out,
+        Instr::Branch(Branch::JF, r, Src::Imm(Either::Right(label))),
+    )
+}
+
+/// Adds a label.
+pub(crate) fn put_mark(alloc: Global, out: &mut Vec<AsmItem>, n: u32) -> Result<(), Memory>
+    ensures { OnOk result (out.new.items ≡ out.old.items ++ mark n ∷ []) }
+{
+    let label = jump_label(alloc, n)?;
+    out.push(AsmItem::Label(label))?;
+    Ok(())
+}
+
+/// The number of the label at the beginning of the k-th enclosing block or loop.
+fn enclosing(ls: &[u32], k: u32) -> u32
+    ensures { result ≡ enclosing ls.now k }
+{
+    let place = ls.len().saturating_sub(k as usize + 1);
+    match ls.get(place) {
+        Some(n) => *n,
+        None => 0,
+    }
+}
+
+fn put_giving(out: &mut Vec<AsmItem>, s: &Scope<'_>, p: Option<Where>) -> Result<(), Memory>
+    ensures { OnOk result (out.new.items ≡ out.old.items ++ giving (frame s.now) p) }
+{
+    match p {
+        Some(p) => fetches(out, s, p, 9),
+        None => Ok(()),
+    }
+}
+
+fn open(ls: &mut Vec<u32>, n: u32) -> Result<(), Memory>
+    ensures { OnOk result (ls.new.items ≡ ls.old.items ++ n ∷ []) }
+{
+    ls.push(n)?;
+    Ok(())
+}
+
+/// Adds the test and the first part of a choice, whose label behind it is the number given back.
+#[cycle(items)]
+fn put_first(
+    alloc: Global,
+    out: &mut Vec<AsmItem>,
+    w: &Around<'_>,
+    s: &Scope<'_>,
+    end: u32,
+    ls: &mut Vec<u32>,
+    n: u32,
+    p: Where,
+    a: &[Node<Where>],
+) -> Result<u32, Memory>
+    requires fits { n + 1 + list_labels (listed (map node a.now)) < 2 ^ 32 - 1 }
+    ensures items { OnOk result (out.new.items ≡ out.old.items ++ first_part (frame s.now) p n (n + 1 + list_labels (listed (map node a.now))) (list_items (whole w.now) (frame s.now) end ls.old.items (n + 1) (listed (map node a.now)))) }
+    ensures labels { OnOk result (ls.new.items ≡ ls.old.items) }
+    ensures next { IfOk result (λ m. m ≡ n + 1 + list_labels (listed (map node a.now))) }
+{
+    brings(out, s, p, 9)?;
+    put_jump_unless(alloc, out, hand(p, 9), n)?;
+    let m = put_nodes(alloc, out, w, s, end, ls, n + 1, a)?;
+    put_jump(alloc, out, m)?;
+    put_mark(alloc, out, n)?;
+    Ok(m)
+}
+
+/// Adds the second part of a choice.
+#[cycle(items)]
+fn put_second(
+    alloc: Global,
+    out: &mut Vec<AsmItem>,
+    w: &Around<'_>,
+    s: &Scope<'_>,
+    end: u32,
+    ls: &mut Vec<u32>,
+    m: u32,
+    b: &[Node<Where>],
+) -> Result<u32, Memory>
+    requires fits { m + 1 + list_labels (listed (map node b.now)) < 2 ^ 32 - 1 }
+    ensures items { OnOk result (out.new.items ≡ out.old.items ++ second_part m (list_items (whole w.now) (frame s.now) end ls.old.items (m + 1) (listed (map node b.now)))) }
+    ensures labels { OnOk result (ls.new.items ≡ ls.old.items) }
+    ensures next { IfOk result (λ k. k ≡ m + 1 + list_labels (listed (map node b.now))) }
+{
+    let next = put_nodes(alloc, out, w, s, end, ls, m + 1, b)?;
+    put_mark(alloc, out, m)?;
+    Ok(next)
+}
+
+/// Adds a block or loop.
+#[cycle(items)]
+fn put_enclosed(
+    alloc: Global,
+    out: &mut Vec<AsmItem>,
+    w: &Around<'_>,
+    s: &Scope<'_>,
+    end: u32,
+    ls: &mut Vec<u32>,
+    n: u32,
+    b: &[Node<Where>],
+) -> Result<u32, Memory>
+    requires fits { n + node_labels (BlockN (listed (map node b.now))) < 2 ^ 32 - 1 }
+    ensures items { OnOk result (out.new.items ≡ out.old.items ++ node_items (whole w.now) (frame s.now) end ls.old.items n (BlockN (listed (map node b.now)))) }
+    ensures labels { OnOk result (ls.new.items ≡ ls.old.items) }
+    ensures next { IfOk result (λ m. m ≡ n + node_labels (BlockN (listed (map node b.now)))) }
+{
+    put_mark(alloc, out, n)?;
+    open(ls, n)?;
+    let next = put_nodes(alloc, out, w, s, end, ls, n + 2, b)?;
+    ls.pop();
+    put_mark(alloc, out, n + 1)?;
+    Ok(next)
+}
+
+/// Adds a jump behind the word that is given back.
+fn put_return(
+    alloc: Global,
+    out: &mut Vec<AsmItem>,
+    s: &Scope<'_>,
+    end: u32,
+    p: Option<Where>,
+) -> Result<(), Memory>
+    ensures { OnOk result (out.new.items ≡ out.old.items ++ returning (frame s.now) p end) }
+{
+    put_giving(out, s, p)?;
+    put_jump(alloc, out, end)
+}
+
+/// Adds the items of a node whose labels begin at n, inside blocks and loops with the labels ls; the number of the
+/// next label.
+#[cycle(items)]
+fn put_node(
+    alloc: Global,
+    out: &mut Vec<AsmItem>,
+    w: &Around<'_>,
+    s: &Scope<'_>,
+    end: u32,
+    ls: &mut Vec<u32>,
+    n: u32,
+    x: &Node<Where>,
+) -> Result<u32, Memory>
+    requires fits { n + node_labels (node x.now) < 2 ^ 32 - 1 }
+    ensures items { OnOk result (out.new.items ≡ out.old.items ++ node_items (whole w.now) (frame s.now) end ls.old.items n (node x.now)) }
+    ensures labels { OnOk result (ls.new.items ≡ ls.old.items) }
+    ensures next { IfOk result (λ m. m ≡ n + node_labels (node x.now)) }
+{
+    match x {
+        Node::Do(o) => {
+            put_op(alloc, out, w, s, o)?;
+            Ok(n)
+        }
+        Node::Choose(p, a, b) => {
+            let m = put_first(alloc, out, w, s, end, ls, n, *p, a.as_slice())?;
+            put_second(alloc, out, w, s, end, ls, m, b.as_slice())
+        }
+        Node::Block(b) => put_enclosed(alloc, out, w, s, end, ls, n, b.as_slice()),
+        Node::Loop(b) => put_enclosed(alloc, out, w, s, end, ls, n, b.as_slice()),
+        Node::Leave(k) => {
+            put_jump(alloc, out, enclosing(ls, *k).wrapping_add(1))?;
+            Ok(n)
+        }
+        Node::Again(k) => {
+            put_jump(alloc, out, enclosing(ls, *k))?;
+            Ok(n)
+        }
+        Node::Return(p) => {
+            put_return(alloc, out, s, end, *p)?;
+            Ok(n)
+        }
+    }
+}
+
+/// Adds the items of nodes, one after another.
+#[cycle(items)]
+fn put_nodes(
+    alloc: Global,
+    out: &mut Vec<AsmItem>,
+    w: &Around<'_>,
+    s: &Scope<'_>,
+    end: u32,
+    ls: &mut Vec<u32>,
+    n: u32,
+    xs: &[Node<Where>],
+) -> Result<u32, Memory>
+    requires fits { n + list_labels (listed (map node xs.now)) < 2 ^ 32 - 1 }
+    ensures items { OnOk result (out.new.items ≡ out.old.items ++ list_items (whole w.now) (frame s.now) end ls.old.items n (listed (map node xs.now))) }
+    ensures labels { OnOk result (ls.new.items ≡ ls.old.items) }
+    ensures next { IfOk result (λ m. m ≡ n + list_labels (listed (map node xs.now))) }
+{
+    let mut next = n;
+    for x in xs {
+        next = put_node(alloc, out, w, s, end, ls, next, x)?;
+    }
+    Ok(next)
+}
+
+/// Adds the items of a body whose labels begin at n; the number of the next label.
+#[tactic(auto, using(crate::proofs::InMemory::list_counts, crate::proofs::InMemory::list_are))]
+pub(crate) fn put_body(
+    alloc: Global,
+    out: &mut Vec<AsmItem>,
+    w: &Around<'_>,
+    s: &Scope<'_>,
+    end: u32,
+    n: u32,
+    body: &[Node<Where>],
+) -> Result<u32, Memory>
+    requires fits { n + labels (nodes body.now) < 2 ^ 32 - 1 }
+    ensures items { OnOk result (out.new.items ≡ out.old.items ++ code_items (whole w.now) (frame s.now) end [] n (nodes body.now)) }
+    ensures next { IfOk result (λ m. m ≡ n + labels (nodes body.now)) }
+{
+    let mut ls = Vec::new(alloc);
+    put_nodes(alloc, out, w, s, end, &mut ls, n, body)
+}

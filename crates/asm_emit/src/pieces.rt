@@ -1,0 +1,131 @@
+// Pieces of which the operations are made.
+ghost use Rattle.std.specs.Prelude.{◌≡◌, ◌++◌, ◌∷◌, [], OnOk};
+ghost use Rattle.asm_laws.specs.Operations.{port, sets, moves, changes, is_division, is_direct, in_place, apart, computes};
+ghost use Rattle.asm_emit.specs.View.{frame};
+
+use crate::hands::{
+    aim, brings, fetch, fetches, hand, is_in, keep, keeps, lays, op, register, takes,
+};
+use crate::scope::Scope;
+use asm_items::{AsmItem, Imm};
+use kit_base::Memory;
+use mid_code::Where;
+use v32_isa::{Instr, Mov, One, Port, Reg, Src, Two};
+
+/// The port of a number.
+pub(crate) fn port(p: u32) -> Port
+    ensures { result ≡ port p }
+{
+    Port::at(p % 16384)
+}
+
+/// A place takes a word.
+pub(crate) fn sets(out: &mut Vec<AsmItem>, s: &Scope<'_>, t: Where, i: Imm) -> Result<(), Memory>
+    ensures { OnOk result (out.new.items ≡ out.old.items ++ sets (frame s.now) t i) }
+{
+    op(out, Instr::Mov(Mov::RegImm(aim(t), i)))?;
+    lays(out, s, t)
+}
+
+/// A place takes the word of a place.
+pub(crate) fn moves(out: &mut Vec<AsmItem>, s: &Scope<'_>, t: Where, a: Where) -> Result<(), Memory>
+    ensures { OnOk result (out.new.items ≡ out.old.items ++ moves (frame s.now) t a) }
+{
+    match a {
+        Where::Reg(q) => {
+            if is_in(t, register(q)) {
+                Ok(())
+            } else {
+                op(out, keep(s, t, register(q)))
+            }
+        }
+        Where::Slot(_) => {
+            op(out, fetch(s, a, aim(t)))?;
+            lays(out, s, t)
+        }
+    }
+}
+
+/// A place takes the word computed of that of a place.
+pub(crate) fn changes(
+    out: &mut Vec<AsmItem>,
+    s: &Scope<'_>,
+    o: One,
+    t: Where,
+    a: Where,
+) -> Result<(), Memory>
+    ensures { OnOk result (out.new.items ≡ out.old.items ++ changes (frame s.now) o t a) }
+{
+    takes(out, s, a, aim(t))?;
+    op(out, Instr::One(o, aim(t)))?;
+    lays(out, s, t)
+}
+
+fn is_division(o: Two) -> bool
+    ensures { result ≡ is_division o }
+{
+    match o {
+        Two::IDIV => true,
+        Two::IMOD => true,
+        _ => false,
+    }
+}
+
+/// Whether an operator can work in the register of its target: it does not fault, and its second word does not stand there.
+fn is_direct(o: Two, t: Where, b: Where) -> bool
+    ensures { result ≡ is_direct o t b }
+{
+    match t {
+        Where::Reg(q) => !is_division(o) && !is_in(b, register(q)),
+        Where::Slot(_) => false,
+    }
+}
+
+fn in_place(
+    out: &mut Vec<AsmItem>,
+    s: &Scope<'_>,
+    o: Two,
+    m: Reg,
+    a: Where,
+    b: Where,
+) -> Result<(), Memory>
+    ensures { OnOk result (out.new.items ≡ out.old.items ++ in_place (frame s.now) o m a b) }
+{
+    takes(out, s, a, m)?;
+    brings(out, s, b, 10)?;
+    op(out, Instr::Two(o, m, Src::Reg(hand(b, 10))))
+}
+
+fn apart(
+    out: &mut Vec<AsmItem>,
+    s: &Scope<'_>,
+    o: Two,
+    t: Where,
+    a: Where,
+    b: Where,
+) -> Result<(), Memory>
+    ensures { OnOk result (out.new.items ≡ out.old.items ++ apart (frame s.now) o t a b) }
+{
+    fetches(out, s, a, 9)?;
+    brings(out, s, b, 10)?;
+    op(out, Instr::Two(o, Reg::at(9), Src::Reg(hand(b, 10))))?;
+    keeps(out, s, t)
+}
+
+/// A place takes the word computed of those of two places.
+pub(crate) fn computes(
+    out: &mut Vec<AsmItem>,
+    s: &Scope<'_>,
+    o: Two,
+    t: Where,
+    a: Where,
+    b: Where,
+) -> Result<(), Memory>
+    ensures { OnOk result (out.new.items ≡ out.old.items ++ computes (frame s.now) o t a b) }
+{
+    if is_direct(o, t, b) {
+        in_place(out, s, o, aim(t), a, b)
+    } else {
+        apart(out, s, o, t, a, b)
+    }
+}

@@ -1,0 +1,306 @@
+-- Calls of placed code are followed.
+use Rattle.std.proofs.Common.{◌≡◌, ◌≢◌, ℕ, zero, suc, ◌+◌, ◌-◌, ◌*◌, ◌<◌, ◌≤◌, Bool, true, false, List, [], ◌∷◌, length, Option, Some, None, refl, sym, ap, ◌∙◌, subst, arith, append-nil}
+use Rattle.std.specs.Prelude.{map, leb}
+use Rattle.std.proofs.lemmas.Bool.{leb-true}
+use Rattle.v32_isa.specs.declared.instruction.Plain.TheVariants.{RET}
+use Rattle.v32_isa.specs.declared.instruction.Go.TheVariants.{CALL}
+use Rattle.v32_isa.specs.declared.instruction.One.TheVariants.{POP}
+use Rattle.v32_isa.specs.declared.instruction.Src.TheVariants as src
+use Rattle.v32_isa.specs.declared.instruction.Mov.TheVariants.{RegReg}
+use Rattle.v32_isa.specs.declared.instruction.Instr.TheVariants as instr
+use Rattle.v32_isa.specs.declared.stepped.Stepped.TheVariants as stepped
+use Rattle.v32_isa.specs.State.{register_of, with_register, going_to, written}
+use Rattle.v32_isa.specs.State as machine
+use Rattle.v32_isa.specs.Machine.Effect.{Ends as EndsIn}
+use Rattle.v32_isa.specs.Runs.{run}
+use Rattle.v32_isa.proofs.Steps.{Reaches, reaches_here, reaches_on, reaches_went}
+use Rattle.asm_items.specs.declared.item.AsmItem.TheVariants as item
+use Rattle.either.specs.declared.Either.TheVariants.{Right}
+use Rattle.obj_mem.specs.Stores.{Store, entered, returned_to}
+use Rattle.mid_code.specs.declared.placed.Where.{Where}
+use Rattle.mid_code.specs.declared.placed.Where.TheVariants.{Reg, Slot}
+use Rattle.mid_code.specs.Code.{maybe}
+use Rattle.mid_code.specs.States.{State, spent, registers_and_slots, function_at, received, after_call, begun, back, if_room}
+use Rattle.mid_code.specs.Invariants.{AllOf, in_registers}
+use Rattle.asm_laws.specs.Names.{function_label}
+use Rattle.asm_laws.specs.Operations.{Frame, args_items, keeps_some}
+use Rattle.asm_laws.specs.Placing.{Line}
+use Rattle.asm_laws.specs.Following.{begin, spare, Came, Enters, CallSim}
+use Rattle.asm_laws.specs.Standing.{Stand}
+use Rattle.asm_laws.specs.Addresses.{Addr, Console, store, put, Good, Held, Arrives}
+use Rattle.asm_laws.specs.Framing.{frame_gone}
+use Rattle.asm_laws.specs.Links.{all_passed, all_pushed, all_popped, new_slot, called, gone_back}
+use Rattle.asm_laws.proofs.Stepping.{line_effect, reg_other, moved, keeps_so, written_same, written_other}
+use Rattle.asm_laws.proofs.LinksStep.{Roomy, calls, part, top_held, base_held, copy_act, popbase_act, ret_act, passed_same}
+use Rattle.asm_laws.proofs.LinksStep as emitted_calls
+use Rattle.asm_laws.specs.Holds.{Setting, sizes, Named, Fits, Ctx, slot_place, Stands, Temps, HoldsAt}
+use Rattle.asm_laws.specs.Calling.{Callable, Mach, Given, lang, holder, CallAt, shapes, FunctionAt}
+use Rattle.asm_laws.proofs.Lists.{length_end_from}
+use Rattle.asm_laws.proofs.First.{stands_more, room, set_target}
+use Rattle.asm_laws.proofs.Frames.{top_of, inner, room_of, low_write, enter_holds, link_stays, back_holds}
+use Rattle.asm_laws.proofs.Args.{pushed_under, pushed_top, pushed_base, popped_memory, popped_base, popped_tops, all_passed_holds, slots_passed, all_pushed_holds, regs_popped}
+
+-- steps that change something are some
+reaches_same : (s t : machine.State) (xs : List ℕ) → Reaches 0 s xs [] t xs → s ≡ t
+unfolding run
+reaches_same s t xs r = ap (λ x. x.state) (r 0)
+
+some_steps : (steps : ℕ) (s t : machine.State) (xs : List ℕ) → Reaches steps s xs [] t xs → register_of s 14 ≢ register_of t 14 → 1 ≤ steps
+some_steps zero s t xs r n = absurd (n (ap (λ x. register_of x 14) (reaches_same s t xs r)))
+some_steps (suc k) s t xs r n = omega arith
+
+-- from a function's end to the address that its call left, with register 9 as it was
+record Returned (C : Console) (a : Addr) (s : machine.State) (xs : List ℕ) : Type 0 where
+  to : machine.State
+  by : Reaches 3 s xs [] to xs
+  at : to.counter ≡ a.memory (a.base + 1)
+  held : Held C (gone_back a) to
+  nine : register_of to 9 ≡ register_of s 9
+
+returns : (C : Console) (address : List ℕ → ℕ) (F : Frame) (a : Addr) (s : machine.State) (xs : List ℕ) (pc e : ℕ) → a.base + 1 < 0x400000 → Held C a s → s.counter ≡ pc → Stand C.words address pc frame_gone e → Returned C a s xs
+returns C address F a s xs pc e hi h c k =
+    let a1 = record a { top = a.base } in
+    let a2 = record a { top = a.base + 1; base = a.memory a.base } in
+    let u1 = going_to k.0 (with_register 15 a.base s) in
+    let h1 : Held C a1 u1 = moved C a1 (with_register 15 a.base s) k.0 (top_held C a s a.base h) in
+    let e1 = line_effect C a s pc (instr.Mov (RegReg 15 14)) k.0 h c k.1 (omega arith, omega arith, omega arith) ∙ copy_act C address F F s 15 14 k.0 ∙ ap (λ x. EndsIn stepped.Went (going_to k.0 (with_register 15 x s))) h.base in
+    let u2 = going_to k.2.0 (with_register 14 (a.memory a.base) (with_register 15 (a.base + 1) u1)) in
+    let h2 : Held C a2 u2 = moved C a2 (with_register 14 (a.memory a.base) (with_register 15 (a.base + 1) u1)) k.2.0 (base_held C (record a1 { top = a.base + 1 }) (with_register 15 (a.base + 1) u1) (a.memory a.base) (top_held C a1 u1 (a.base + 1) h1)) in
+    let e2 = line_effect C a1 u1 k.0 (instr.One POP 14) k.2.0 h1 refl k.2.1 (omega arith, omega arith, omega arith) ∙ popbase_act C address F F a1 u1 k.2.0 (omega (arith, hi)) h1 in
+    let d : a.base + 1 + 1 ≡ a.base + 2 = omega arith in
+    let u3 = going_to (a.memory (a.base + 1)) (with_register 15 (a.base + 2) u2) in
+    let e3 = line_effect C a2 u2 k.2.0 (instr.Plain RET) k.2.2.0 h2 refl k.2.2.1 (omega arith, omega arith, omega arith) ∙ ret_act C address F F a2 u2 k.2.2.0 (omega (arith, hi)) h2 ∙ ap (λ x. EndsIn stepped.Went (going_to (a.memory (a.base + 1)) (with_register 15 x u2))) d in
+    record {
+      to = u3;
+      by = reaches_on 1 2 s u1 u3 xs xs xs [] [] (reaches_went s u1 xs e1) (reaches_on 1 1 u1 u2 u3 xs xs xs [] [] (reaches_went u1 u2 xs e2) (reaches_went u2 u3 xs e3));
+      at = refl;
+      held = moved C (gone_back a) (with_register 15 (a.base + 2) u2) (a.memory (a.base + 1)) (top_held C a2 u2 (a.base + 2) h2);
+      nine = reg_other C u2 15 (a.base + 2) 9 (omega arith) ∙ reg_other C (with_register 15 (a.base + 1) u1) 14 (a.memory a.base) 9 (omega arith) ∙ reg_other C u1 15 (a.base + 1) 9 (omega arith) ∙ reg_other C s 15 a.base 9 (omega arith);
+    }
+
+entered_memory : (P : Addr) (m : ℕ → ℕ) (t b next : ℕ) → P.top ≡ t → P.memory ≡ m → P.base ≡ b → written (written P.memory (P.top - 1) next) (P.top - 1 - 1) P.base ≡ written (written m (t - 1) next) (t - 2) b
+entered_memory P m t b next et em eb =
+    let d : P.top - 1 - 1 ≡ t - 2 = omega (arith, et) in
+    ap (λ x. written (written x (P.top - 1) next) (P.top - 1 - 1) P.base) em ∙ ap (λ x. written (written m (x - 1) next) (P.top - 1 - 1) P.base) et ∙ ap (λ x. written (written m (t - 1) next) x P.base) d ∙ ap (λ x. written (written m (t - 1) next) (t - 2) x) eb
+
+module _ (S : Setting) (fits : Fits S) where
+  abbrev C : Console
+  C = S.console
+
+  all_good : (f : ℕ) (F G : Frame) (ps : List Where) → ((p : Where) → Named S f p → Good (S.whole.frames f) p) → AllOf (Named S f) ps → emitted_calls.AllOf C S.address F G (Good (S.whole.frames f)) ps
+  all_good f F G [] go named = tt
+  all_good f F G (p ∷ ps) go named = (go p named.0, all_good f F G ps go named.1)
+
+  good_at : (f : ℕ) (p : Where) → Named S f p → Good (S.whole.frames f) p
+  good_at f (Reg r) n = n
+  good_at f (Slot k) n = fits.slot_in f k n
+
+  module _ (functions : (g : ℕ) → Callable S g → FunctionAt S g) (κ : Ctx) (pc p : ℕ) (t : Option Where) (g : ℕ) (args : List Where) (s : State Where) (m : machine.State) (at : CallAt S κ.fn pc t g args p) (epc : m.counter ≡ pc) (h : Mach S κ s m)
+      (fit : s.world.store.used + ((sizes S).frame g + 2) + (sizes S).globals ≤ 4194304) (w : ℕ) (paid : 3 * length args ≤ 4 + w) where
+    abbrev F : Frame
+    F = S.whole.frames κ.fn
+
+    abbrev G : Frame
+    G = S.whole.frames g
+
+    abbrev ps : List Where
+    ps = S.whole.params g
+
+    abbrev a : Addr
+    a = h.words
+
+    abbrev T : ℕ
+    T = top_of S κ
+
+    abbrev st : Store
+    st = s.world.store
+
+    abbrev N : ℕ
+    N = length st.objects
+
+    abbrev xs : List ℕ
+    xs = st.answers
+
+    big : (sizes S).globals + G.size + 2 ≤ T
+    big = room_of S fits κ st s.cells h.place a g at.callable h.at fit
+
+    top_a : a.top ≡ T
+    top_a = let e = h.at.stack.top_is in omega (arith, e)
+
+    low_t : T ≤ 0x400000
+    low_t = let e = h.at.stack.high in omega (arith, e)
+
+    abbrev split : (q : ℕ) × Stand C.words S.address pc (args_items F G ps args) q × Stand C.words S.address q (item.Op (instr.Go CALL (src.Imm (Right (function_label S.whole.names g)))) ∷ keeps_some F t) p
+    split = part C S.address F G (args_items F G ps args) (item.Op (instr.Go CALL (src.Imm (Right (function_label S.whole.names g)))) ∷ keeps_some F t) pc p at.stands
+
+    abbrev next : ℕ
+    next = split.2.0
+
+    -- the words after the arguments and the link, with the stack's top as before
+    abbrev a1 : Addr
+    a1 = all_passed F G ps args a
+
+    abbrev a2 : Addr
+    a2 = all_pushed F ps args a1
+
+    abbrev P : Addr
+    P = all_popped ps a2
+
+    abbrev aT : Addr
+    aT = record a2 { top = T }
+
+    abbrev a3 : Addr
+    a3 = store (T - 2) a.base (store (T - 1) next aT)
+
+    h1 : HoldsAt S κ st s.cells h.place a1
+    h1 = all_passed_holds S fits κ st s.cells h.place g at.callable at.depth big ps args a at.callable.params_named h.at
+
+    top_1 : a1.top ≡ T
+    top_1 = let e = h1.stack.top_is in omega (arith, e)
+
+    h1T : HoldsAt S κ st s.cells h.place (record a1 { top = T })
+    h1T = subst (λ q. HoldsAt S κ st s.cells h.place (record a1 { top = q })) top_1 h1
+
+    room_1 : (sizes S).globals + in_registers ps ≤ a1.top
+    room_1 = let r = at.callable.registers_in in omega (arith, r, big, top_1)
+
+    hT : HoldsAt S κ st s.cells h.place aT
+    hT = all_pushed_holds S fits κ st s.cells h.place g at.callable at.depth big ps args a1 (omega (arith, top_1)) room_1 h1T
+
+    h3 : HoldsAt S κ st s.cells h.place a3
+    h3 = low_write S fits κ st s.cells h.place (store (T - 1) next aT) (T - 2) a.base (omega (arith, big)) (omega (arith, big)) at.depth (low_write S fits κ st s.cells h.place aT (T - 1) next (omega (arith, big)) (omega (arith, big)) at.depth hT)
+
+    top_2 : a2.top + in_registers ps ≡ T
+    top_2 = pushed_top F ps args a1 at.count (omega (arith, room_1)) ∙ top_1
+
+    P_top : P.top ≡ T
+    P_top = popped_tops ps a2 ∙ top_2
+
+    P_base : P.base ≡ a.base
+    P_base = popped_base ps a2 ∙ pushed_base F ps args a1 ∙ (passed_same C S.address F G ps args a).0
+
+    abbrev b : Addr
+    b = called F G ps args next a
+
+    memory_is : b.memory ≡ a3.memory
+    memory_is = entered_memory P a2.memory T a.base next P_top (popped_memory ps a2) P_base
+
+    abbrev κ2 : Ctx
+    κ2 = inner S κ g st.objects h.place a3.memory
+
+    slot_at : (k : ℕ) → S.has_slot g k → Stands N h.place (received registers_and_slots ps (map s.cells args) (Slot k)) (b.memory (slot_place S κ2 k))
+    slot_at k has =
+        let u = fits.slot_in g k has in
+        let o = at.callable.own_in k has in
+        let q = slot_place S κ2 k in
+        let e1 : q ≡ new_slot G k a = omega (arith, top_a) in
+        let wq : b.memory q ≡ a1.memory (new_slot G k a) =
+        ap (λ f. f q) memory_is ∙ written_other (store (T - 1) next aT).memory (T - 2) a.base q (omega (arith, u, big)) ∙ written_other a2.memory (T - 1) next q (omega (arith, u, big)) ∙ pushed_under F ps args a1 q (omega (arith, u, big, o, top_1)) ∙ ap a1.memory e1 in
+        subst (λ z. Stands N h.place (received registers_and_slots ps (map s.cells args) (Slot k)) z) (sym wq) (slots_passed S fits κ st s.cells h.place g at.callable at.depth big ps args a at.callable.params_named at.callable.params_differ at.args_named h.at k has)
+
+    temps : Temps S κ2 N h.place (received registers_and_slots ps (map s.cells args)) b.regs b.memory
+    temps = record {
+      in_regs = λ r lt. regs_popped S fits κ st s.cells h.place g at.callable at.depth big ps args a1 at.args_named at.count (omega (arith, top_1)) room_1 h1T r;
+      in_slots = slot_at;
+    }
+
+    inside : HoldsAt S κ2 (entered (sizes S) g st) (received registers_and_slots (function_at S.code g).params (map s.cells args)) h.place b
+    inside = subst (λ qs. HoldsAt S κ2 (entered (sizes S) g st) (received registers_and_slots qs (map s.cells args)) h.place b) at.callable.params
+        (enter_holds S fits κ st s.cells h.place a3 b g ps (map s.cells args) at.callable h3 at.depth fit memory_is (omega (arith, P_top)) (omega (arith, P_top, big)) temps)
+
+    roomy : Roomy C S.address F G a
+    roomy = record { room = room S fits κ st s.cells h.place a h.at; below = omega (arith, big, top_a); above = omega (arith, low_t, top_a) }
+
+    registers_fit : in_registers ps ≤ a.top
+    registers_fit = let r = at.callable.registers_in in omega (arith, r, big, top_a)
+
+    -- the machine is at the body
+    comes : (fn : FunctionAt S g) → Arrives C (3 * length args + 4) m xs (S.enters g) [] xs b
+    comes fn = calls C S.address F G a m xs pc split.0 next fn.begins (S.enters g) ps args roomy at.count registers_fit (all_good g F G ps (good_at g) at.callable.params_named) (all_good κ.fn F G args (good_at κ.fn) at.args_named) h.held epc split.1
+        (subst (λ z. Line C.words split.0 (instr.Go CALL (src.Imm z)) next) fn.label split.2.1) fn.entry
+
+    goes : FunctionAt S g → Came (holder S) m (spare 8 (begin (holder S) s)) (begun registers_and_slots (sizes S) (function_at S.code g).params g args (spent w s)) (S.enters g) 1 0 (Mach S κ2 (begun registers_and_slots (sizes S) (function_at S.code g).params g args (spent w s)))
+    goes fn =
+        let r = comes fn in
+        let base_m : register_of m 14 ≡ κ.base = h.held.base ∙ h.at.stack.base_is in
+        let base_t : register_of r.to 14 ≡ T - 2 = r.held.base ∙ ap (λ z. z - 2) P_top in
+        record {
+          steps = r.steps;
+          made = [];
+          to = r.to;
+          by = r.by;
+          at = r.at;
+          held = record { place = h.place; words = b; at = inside; held = r.held };
+          events = sym (append-nil s.world.events);
+          cost = let f = r.few in omega (arith, f, paid);
+          many = some_steps r.steps m r.to xs r.by (λ e. omega (arith, e, base_m, base_t, big));
+        }
+
+    -- ---- the way back
+
+    back_at : FunctionAt S g → (s1 : State Where) (m1 : machine.State) → Given S κ2 s1 m1 → m1.counter ≡ S.leaves g → Came (holder S) m1 (begin (holder S) s1) (back registers_and_slots t (spent w s) s1) p 0 8 (Mach S κ (back registers_and_slots t (spent w s) s1))
+    back_at fn s1 m1 gv e1 = go t at.target split.2.2
+      where
+        base_v : gv.words.base ≡ T - 2
+        base_v = gv.at.stack.base_is
+
+        high_v : gv.words.base + 1 < 0x400000
+        high_v = omega (arith, base_v, low_t, big)
+
+        link_1 : gv.words.memory gv.words.base ≡ κ.base
+        link_1 = ap gv.words.memory base_v ∙ link_stays S fits κ st s1.world.store s.cells s1.cells h.place a3.memory gv.place a3 gv.words g (T - 2) h3 gv.at (omega (arith, big)) (omega arith) (omega (arith, big))
+            ∙ written_same (store (T - 1) next aT).memory (T - 2) a.base (T - 2) refl ∙ h.at.stack.base_is
+
+        link_2 : gv.words.memory (gv.words.base + 1) ≡ next
+        link_2 =
+            let e : gv.words.base + 1 ≡ T - 1 = omega (arith, base_v, big) in
+            ap gv.words.memory e ∙ link_stays S fits κ st s1.world.store s.cells s1.cells h.place a3.memory gv.place a3 gv.words g (T - 1) h3 gv.at (omega (arith, big)) (omega (arith, big)) (omega (arith, big))
+            ∙ written_other (store (T - 1) next aT).memory (T - 2) a.base (T - 1) (omega (arith, big)) ∙ written_same a2.memory (T - 1) next (T - 1) refl
+
+        home : Returned C gv.words m1 s1.world.store.answers
+        home = returns C S.address F gv.words m1 s1.world.store.answers (S.leaves g) fn.ends high_v gv.held e1 fn.exit
+
+        holds : HoldsAt S κ (returned_to st s1.world.store) (after_call registers_and_slots s.cells) gv.place (gone_back gv.words)
+        holds = back_holds S fits κ st s1.world.store s.cells s1.cells h.place gv.place a3 gv.words (gone_back gv.words) g h3 at.depth gv.at refl link_1 (let q = h.at.stack.top_is in omega (arith, base_v, q, big, top_a))
+
+        given : Stands (length (returned_to st s1.world.store).objects) gv.place s1.given (register_of m1 9)
+        given = stands_more (length s1.world.store.objects) (length (returned_to st s1.world.store).objects) gv.place gv.place s1.given (register_of m1 9) (let l = length_end_from (length st.objects) s1.world.store.objects in omega (arith, l)) (λ o q. refl) gv.given
+
+        go : (t : Option Where) → AllOf (Named S κ.fn) (maybe t) → Stand C.words S.address next (keeps_some F t) p → Came (holder S) m1 (begin (holder S) s1) (back registers_and_slots t (spent w s) s1) p 0 8 (Mach S κ (back registers_and_slots t (spent w s) s1))
+        go None named k = record {
+          steps = 3;
+          made = [];
+          to = home.to;
+          by = home.by;
+          at = home.at ∙ link_2 ∙ k;
+          held = record { place = gv.place; words = gone_back gv.words; at = holds; held = home.held };
+          events = sym (append-nil s1.world.events);
+          cost = omega arith;
+          many = omega arith;
+        }
+        go (Some q) named k =
+            let ys = s1.world.store.answers in
+            let r = keeps_so C F S.address (gone_back gv.words) home.to ys next q 9 (register_of m1 9) k.0 (omega arith) (room S fits κ (returned_to st s1.world.store) (after_call registers_and_slots s.cells) gv.place (gone_back gv.words) holds) (good_at κ.fn q named.0) home.held (home.at ∙ link_2) home.nine k.1 in
+            record {
+              steps = 3 + r.steps;
+              made = [];
+              to = r.to;
+              by = reaches_on 3 r.steps m1 home.to r.to ys ys ys [] [] home.by r.by;
+              at = r.at ∙ k.2;
+              held = record { place = gv.place; words = put F q (register_of m1 9) (gone_back gv.words); at = set_target S fits κ (returned_to st s1.world.store) (after_call registers_and_slots s.cells) gv.place (gone_back gv.words) q s1.given (register_of m1 9) named.0 holds given; held = r.held };
+              events = sym (append-nil s1.world.events);
+              cost = let f = r.few in omega (arith, f);
+              many = omega arith;
+            }
+
+    pub enters : FunctionAt S g → Enters (holder S) (shapes S) κ p t g (spent w s) (begun registers_and_slots (sizes S) (function_at S.code g).params g args (spent w s)) m (begin (holder S) s)
+    enters fn = record { inner = κ2; placed = fn.body; goes = goes fn; back = back_at fn }
+
+  pub call_sim : (functions : (g : ℕ) → Callable S g → FunctionAt S g) (κ : Ctx) (pc p : ℕ) (t : Option Where) (g : ℕ) (args : List Where) (s : State Where) (m : machine.State) (w : ℕ) → 3 * length args ≤ 4 + w → CallAt S κ.fn pc t g args p → m.counter ≡ pc → Mach S κ s m →
+      CallSim (holder S) (shapes S) κ p t g (spent w s) m (begin (holder S) s) ((lang S).enter g args (spent w s))
+  call_sim functions κ pc p t g args s m w paid at epc h = go (leb (s.world.store.used + ((sizes S).frame g + 2) + (sizes S).globals) 4194304) refl
+    where
+      go : (x : Bool) → leb (s.world.store.used + ((sizes S).frame g + 2) + (sizes S).globals) 4194304 ≡ x →
+          CallSim (holder S) (shapes S) κ p t g (spent w s) m (begin (holder S) s) (if_room x (spent w s) (begun registers_and_slots (sizes S) (function_at S.code g).params g args (spent w s)))
+      go true e = enters functions κ pc p t g args s m at epc h (leb-true (s.world.store.used + ((sizes S).frame g + 2) + (sizes S).globals) 4194304 e) w paid (functions g at.callable)
+      go false e = λ n. record { steps = 0; made = []; to = m; left = s.world.store.answers; by = reaches_here m s.world.store.answers; events = sym (append-nil s.world.events); cost = omega arith; many = omega arith }

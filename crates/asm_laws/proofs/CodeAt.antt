@@ -1,0 +1,158 @@
+-- Items of structured code that stand among the words are code that stands there.
+use Rattle.std.proofs.Common.{◌≡◌, ℕ, zero, suc, ◌+◌, ◌-◌, ◌^◌, ◌<◌, Bool, true, false, List, [], ◌∷◌, ◌++◌, length, refl, sym, ap, ◌∙◌, subst, arith, length-append}
+use Rattle.kit_base.specs.Word.{add}
+use Rattle.v32_isa.specs.declared.instruction.Go.TheVariants.{JMP}
+use Rattle.v32_isa.specs.declared.instruction.Src.TheVariants as src
+use Rattle.v32_isa.specs.declared.instruction.Instr.TheVariants as instr
+use Rattle.asm_items.specs.declared.item.AsmItem.{AsmItem}
+use Rattle.mid_code.specs.declared.placed.Where.{Where}
+use Rattle.mid_code.specs.Code.{NodesT, Stop, Do, Call, Choose, Block, Loop, Leave, Again, Return, CodeT}
+use Rattle.mid_code.specs.Invariants.{AreNodes}
+use Rattle.asm_laws.specs.Names.{jump_label}
+use Rattle.asm_laws.specs.Operations.{Frame, Whole, hand, brings, giving, op_items, call_items}
+use Rattle.asm_laws.specs.Emitted.{labels, enclosing, jump, jump_unless, mark, choice, first_part, second_part, enclosed, returning, code_items}
+use Rattle.asm_laws.specs.Placing.{Line, Bounds, end_of, begin_of, Jumps, At}
+use Rattle.asm_laws.specs.Standing.{Stand}
+use Rattle.asm_laws.specs.Holds.{Setting}
+use Rattle.asm_laws.specs.Program.{items_at}
+use Rattle.asm_laws.proofs.Split.{split}
+use Rattle.asm_laws.proofs.Enclosing.{innermost, further}
+use Rattle.asm_laws.proofs.Known.{loop_there}
+
+abbrev Few : ℕ → Type 0
+Few n = n < 2 ^ 32 - 1
+
+module _ (S : Setting) (f out : ℕ) (leave : S.address (jump_label out) ≡ S.leaves f) where
+  abbrev label : ℕ → ℕ
+  label n = S.address (jump_label n)
+
+  abbrev F : Frame
+  F = S.whole.frames f
+
+  abbrev items : List ℕ → ℕ → NodesT Where → List AsmItem
+  items = code_items S.whole (S.whole.frames f) out
+
+  abbrev CodeAt : List Bounds → ℕ → NodesT Where → ℕ → Type 0
+  CodeAt = At (items_at S) f
+
+  abbrev Here : ℕ → List AsmItem → ℕ → Type 0
+  Here = Stand S.console.words S.address
+
+  abbrev parts : (a b : List AsmItem) (pc e : ℕ) → Here pc (a ++ b) e → (q : ℕ) × Here pc a q × Here q b e
+  parts = split S.console.words S.address
+
+  -- the labels of the enclosing blocks and loops are where these begin and end
+  pub record Enclose (ls : List ℕ) (es : List Bounds) : Type 0 where
+    pub few : (k : ℕ) → k < length ls → Few (enclosing ls k)
+    pub ends : (k : ℕ) → k < length ls → end_of es k ≡ label (enclosing ls k + 1)
+    pub begins : (k : ℕ) → k < length ls → begin_of es k ≡ label (enclosing ls k)
+
+  enter : (ls : List ℕ) (es : List Bounds) (n : ℕ) → Few n → Enclose ls es → Enclose (ls ++ n ∷ []) (record { begins = label n; ends = label (n + 1) } ∷ es)
+  enter ls es n few en = record {
+    few = few_of;
+    ends = ends_of;
+    begins = begins_of;
+  }
+    where
+      below : (k : ℕ) → suc k < length (ls ++ n ∷ []) → k < length ls
+      below k lt = let h = length-append ls (n ∷ []) in omega (arith, h)
+
+      few_of : (k : ℕ) → k < length (ls ++ n ∷ []) → Few (enclosing (ls ++ n ∷ []) k)
+      few_of zero lt = omega (arith, innermost ls n)
+      few_of (suc k) lt = omega (arith, further ls n k lt, en.few k (below k lt))
+
+      ends_of : (k : ℕ) → k < length (ls ++ n ∷ []) → end_of (record { begins = label n; ends = label (n + 1) } ∷ es) k ≡ label (enclosing (ls ++ n ∷ []) k + 1)
+      ends_of zero lt = ap (λ m. label (m + 1)) (sym (innermost ls n))
+      ends_of (suc k) lt = en.ends k (below k lt) ∙ ap (λ m. label (m + 1)) (sym (further ls n k lt))
+
+      begins_of : (k : ℕ) → k < length (ls ++ n ∷ []) → begin_of (record { begins = label n; ends = label (n + 1) } ∷ es) k ≡ label (enclosing (ls ++ n ∷ []) k)
+      begins_of zero lt = ap label (sym (innermost ls n))
+      begins_of (suc k) lt = en.begins k (below k lt) ∙ ap label (sym (further ls n k lt))
+
+  jumps_to : (pc next a b : ℕ) → Line S.console.words pc (instr.Go JMP (src.Imm a)) next → a ≡ b → Jumps S.console.words pc b
+  jumps_to pc next a b h e = (next, subst (λ t. Line S.console.words pc (instr.Go JMP (src.Imm t)) next) e h)
+
+  from : (es : List Bounds) (pc q e : ℕ) (c : NodesT Where) → pc ≡ q → CodeAt es pc c e → CodeAt es q c e
+  from es pc q e c same h = subst (λ n. CodeAt es n c e) same h
+
+  upto : (es : List Bounds) (pc e q : ℕ) (c : NodesT Where) → e ≡ q → CodeAt es pc c e → CodeAt es pc c q
+  upto es pc e q c same h = subst (λ n. CodeAt es pc c n) same h
+
+  -- a block or loop stands between its labels
+  enclosed_at : (b : NodesT Where) (a : List AsmItem) (es : List Bounds) (n pc q : ℕ) → ((p e : ℕ) → Here p a e → CodeAt (record { begins = label n; ends = label (n + 1) } ∷ es) p b e) → Here pc (enclosed n a) q →
+      (p : ℕ) × CodeAt (record { begins = pc; ends = p } ∷ es) pc b p × (q ≡ p)
+  enclosed_at b a es n pc q go h =
+      let s = parts a (mark (n + 1) ∷ []) h.0 q h.2 in
+      let at_n : h.0 ≡ label n = h.1.1 ∙ sym h.1.0 in
+      let pc_n : label n ≡ pc = h.1.0 in
+      let at_e : s.0 ≡ label (n + 1) = sym s.2.1.0 in
+      let q_e : q ≡ label (n + 1) = sym s.2.2 ∙ s.2.1.1 ∙ at_e in
+      let around = record { begins = label n; ends = label (n + 1) } ∷ es in
+      let inner = from around h.0 pc (label (n + 1)) b (at_n ∙ pc_n) (upto around h.0 s.0 (label (n + 1)) b at_e (go h.0 s.0 s.1)) in
+      (label (n + 1), subst (λ m. CodeAt (record { begins = m; ends = label (n + 1) } ∷ es) pc b (label (n + 1))) pc_n inner, q_e)
+
+  deeper : (ls : List ℕ) (n : ℕ) (bs : List Bool) (b : Bool) → length ls ≡ length bs → length (ls ++ n ∷ []) ≡ length (b ∷ bs)
+  deeper ls n bs b same = let h = length-append ls (n ∷ []) in omega (arith, h, same)
+
+  module _ (x : CodeT Where) (m : ℕ) where
+    pub code_at : (c : NodesT Where) (bs : List Bool) (ls : List ℕ) (es : List Bounds) (n pc e : ℕ) → AreNodes x m bs c → length ls ≡ length bs → Few (n + labels c) → Enclose ls es → Here pc (items ls n c) e → CodeAt es pc c e
+    code_at Stop bs ls es n pc e ok same few en h = h
+    code_at (Do o c) bs ls es n pc e ok same few en h =
+        let s = parts (op_items S.whole F o) (items ls n c) pc e h in
+        (s.0, s.1, code_at c bs ls es n s.0 e ok.1 same few en s.2)
+    code_at (Call t g args c) bs ls es n pc e ok same few en h =
+        let s = parts (call_items S.whole F t g args) (items ls n c) pc e h in
+        (s.0, s.1, code_at c bs ls es n s.0 e ok.1 same few en s.2)
+    code_at (Choose w a b c) bs ls es n pc e ok same few en h =
+        let m = n + 1 + labels a in
+        let one = items ls (n + 1) a in
+        let two = items ls (m + 1) b in
+        let h0 = parts (choice F w n m one two) (items ls (n + (2 + labels a + labels b)) c) pc e h in
+        let h1 = parts (first_part F w n m one) (second_part m two) pc h0.0 h0.1 in
+        let t = parts (brings F w 9) (jump_unless (hand w 9) n ∷ (one ++ jump m ∷ mark n ∷ [])) pc h1.0 h1.1 in
+        let u = t.2 in
+        let h2 = parts one (jump m ∷ mark n ∷ []) u.0 h1.0 u.2 in
+        let h3 = parts two (mark m ∷ []) h1.0 h0.0 h1.2 in
+        let j = h2.2 in
+        let at_n : label n ≡ h1.0 = j.2.1.0 ∙ sym j.2.1.1 ∙ j.2.2 in
+        let at_m : h3.0 ≡ label m = sym h3.2.1.0 in
+        let q_m : h0.0 ≡ label m = sym h3.2.2 ∙ h3.2.1.1 ∙ at_m in (
+          u.0,
+          h2.0,
+          label n,
+          label m,
+          (t.0, t.1, u.1),
+          code_at a bs ls es (n + 1) u.0 h2.0 ok.0 same (omega (arith, few)) en h2.1,
+          (j.0, j.1),
+          from es h1.0 (label n) (label m) b (sym at_n) (upto es h1.0 h3.0 (label m) b at_m (code_at b bs ls es (m + 1) h1.0 h3.0 ok.1 same (omega (arith, few)) en h3.1)),
+          from es h0.0 (label m) e c q_m (code_at c bs ls es (n + (2 + labels a + labels b)) h0.0 e ok.2 same (omega (arith, few)) en h0.2),
+        )
+    code_at (Block b c) bs ls es n pc e ok same few en h =
+        let one = items (ls ++ n ∷ []) (n + 2) b in
+        let s = parts (enclosed n one) (items ls (n + (2 + labels b)) c) pc e h in
+        let around = record { begins = label n; ends = label (n + 1) } ∷ es in
+        let r = enclosed_at b one es n pc s.0 (λ p q k. code_at b (false ∷ bs) (ls ++ n ∷ []) around (n + 2) p q ok.0 (deeper ls n bs false same) (omega (arith, few)) (enter ls es n (omega (arith, few)) en) k) s.1 in
+        (r.0, r.1, from es s.0 r.0 e c r.2 (code_at c bs ls es (n + (2 + labels b)) s.0 e ok.1 same (omega (arith, few)) en s.2))
+    code_at (Loop b c) bs ls es n pc e ok same few en h =
+        let one = items (ls ++ n ∷ []) (n + 2) b in
+        let s = parts (enclosed n one) (items ls (n + (2 + labels b)) c) pc e h in
+        let around = record { begins = label n; ends = label (n + 1) } ∷ es in
+        let r = enclosed_at b one es n pc s.0 (λ p q k. code_at b (true ∷ bs) (ls ++ n ∷ []) around (n + 2) p q ok.0 (deeper ls n bs true same) (omega (arith, few)) (enter ls es n (omega (arith, few)) en) k) s.1 in
+        (r.0, r.1, from es s.0 r.0 e c r.2 (code_at c bs ls es (n + (2 + labels b)) s.0 e ok.1 same (omega (arith, few)) en s.2))
+    code_at (Leave k c) bs ls es n pc e ok same few en h =
+        let l = ok.0 in
+        let lt : k < length ls = omega (arith, l, same) in
+        let w : add (enclosing ls k) 1 ≡ enclosing ls k + 1 = omega (arith, en.few k lt) in
+        (jumps_to pc h.0 _ (end_of es k) h.1 (ap label w ∙ sym (en.ends k lt)), (h.0, code_at c bs ls es n h.0 e ok.1 same few en h.2))
+    code_at (Again k c) bs ls es n pc e ok same few en h =
+        let l = loop_there bs k ok.0 in
+        let lt : k < length ls = omega (arith, l, same) in
+        (jumps_to pc h.0 _ (begin_of es k) h.1 (sym (en.begins k lt)), (h.0, code_at c bs ls es n h.0 e ok.1 same few en h.2))
+    code_at (Return w c) bs ls es n pc e ok same few en h =
+        let s = parts (returning F w out) (items ls n c) pc e h in
+        let t = parts (giving F w) (jump out ∷ []) pc s.0 s.1 in
+        ((t.0, t.1, jumps_to t.0 t.2.0 (label out) (S.leaves f) t.2.1 leave), (s.0, code_at c bs ls es n s.0 e ok same few en s.2))
+
+    -- the body of a function stands where its items do
+    pub body_at : (c : NodesT Where) (n pc e : ℕ) → AreNodes x m [] c → Few (n + labels c) → Here pc (items [] n c) e → CodeAt [] pc c e
+    body_at c n pc e ok few h = code_at c [] [] [] n pc e ok refl few (record { few = λ k lt. absurd (omega arith); ends = λ k lt. absurd (omega arith); begins = λ k lt. absurd (omega arith) }) h

@@ -1,0 +1,252 @@
+-- Structured code that stands among the words is followed by the machine, whatever the states are.
+use Rattle.std.proofs.Common.{◌≡◌, ℕ, zero, suc, ◌+◌, ◌*◌, ◌<◌, ◌≤◌, List, [], ◌∷◌, ◌++◌, Option, Some, None, length, refl, sym, ap, ◌∙◌, subst, arith, append_assoc, append-nil}
+use Rattle.kit_base.specs.declared.event.Event.{Event}
+use Rattle.v32_isa.specs.State.{State, going_to}
+use Rattle.v32_isa.specs.Runs.{Run, run}
+use Rattle.v32_isa.specs.Runs as machine
+use Rattle.v32_isa.proofs.Steps.{before, Reaches, reaches_here, reaches_on}
+use Rattle.obj_mem.specs.Runs.{Ending, Halted, Fault, Starved, Stray, Deep, OutOfBound}
+use Rattle.mid_code.specs.declared.placed.Where.{Where}
+use Rattle.mid_code.specs.Code.{OpT, NodesT, Stop, Do, Call, Choose, Block, Loop, Leave, Again, Return}
+use Rattle.mid_code.specs.Meaning.{Did, On, Ends, Res, Next, Leaves, Repeats, Returns, Over, Lang, node_weight, call_weight, then_next, did, block_done, turn_done, choose, ask, call_done, called, does, below, runs}
+use Rattle.asm_laws.specs.Placing.{Shapes, Bounds, end_of, begin_of, Jumps, At}
+use Rattle.asm_laws.specs.Following.{Holder, Begin, begin, spare, Came, Stopped, Going, Final, Sim, DidSim, Enters, CallSim, TestSim, Parts}
+
+module _ (L : Lang Where) (X : Holder L) where
+  came_came : (m : State) (b : Begin) (t u : L.S) (pc q i j k x : ℕ) (R Q : State → Type 0) → (f : Came X m b t pc i 0 R) → (g : Came X f.to (begin X t) u q j x Q) → k ≤ i + j → Came X m b u q k x Q
+  came_came m b t u pc q i j k x R Q f g le = record {
+    steps = f.steps + g.steps;
+    made = f.made ++ g.made;
+    to = g.to;
+    by = reaches_on f.steps g.steps m f.to g.to b.answers (X.answers t) (X.answers u) f.made g.made f.by g.by;
+    at = g.at;
+    held = g.held;
+    events = g.events ∙ ap (λ es. es ++ g.made) f.events ∙ append_assoc b.events f.made g.made;
+    cost = omega (arith, f.cost, g.cost);
+    many = omega (arith, f.many, g.many, le);
+  }
+
+  came_stopped : (m : State) (b : Begin) (t u : L.S) (pc i : ℕ) (R : State → Type 0) (how : machine.End) → (f : Came X m b t pc i 0 R) → Stopped X f.to (begin X t) u how → Stopped X m b u how
+  came_stopped m b t u pc i R how f g = record {
+    steps = f.steps + g.steps;
+    made = f.made ++ g.made;
+    to = g.to;
+    by = λ k. (let e : f.steps + g.steps + k ≡ f.steps + (g.steps + k) = omega arith in ap (λ j. run j m b.answers) e) ∙ f.by (g.steps + k) ∙ ap (before f.made) (g.by k);
+    held = g.held;
+    events = g.events ∙ ap (λ es. es ++ g.made) f.events ∙ append_assoc b.events f.made g.made;
+    cost = omega (arith, f.cost, g.cost);
+  }
+
+  came_going : (m : State) (b : Begin) (t u : L.S) (pc i j k : ℕ) (R : State → Type 0) → (f : Came X m b t pc i 0 R) → Going X f.to (begin X t) u j → k ≤ i + j → Going X m b u k
+  came_going m b t u pc i j k R f g le = record {
+    steps = f.steps + g.steps;
+    made = f.made ++ g.made;
+    to = g.to;
+    left = g.left;
+    by = reaches_on f.steps g.steps m f.to g.to b.answers (X.answers t) g.left f.made g.made f.by g.by;
+    events = g.events ∙ ap (λ es. es ++ g.made) f.events ∙ append_assoc b.events f.made g.made;
+    cost = omega (arith, f.cost, g.cost);
+    many = omega (arith, f.many, g.many, le);
+  }
+
+  came_final : (m : State) (b : Begin) (t u : L.S) (pc i n k : ℕ) (R : State → Type 0) (g : Ending) → n ≤ i + k → (f : Came X m b t pc i 0 R) → Final X k f.to (begin X t) g u → Final X n m b g u
+  came_final m b t u pc i n k R Halted le f a = came_stopped m b t u pc i R machine.Halted f a
+  came_final m b t u pc i n k R (Fault x) le f a = came_stopped m b t u pc i R (machine.Fault x) f a
+  came_final m b t u pc i n k R Starved le f a = came_stopped m b t u pc i R machine.Starved f a
+  came_final m b t u pc i n k R Stray le f a = came_going m b t u pc i 0 0 R f a (omega arith)
+  came_final m b t u pc i n k R Deep le f a = came_going m b t u pc i 0 0 R f a (omega arith)
+  came_final m b t u pc i n k R OutOfBound le f a = came_going m b t u pc i k n R f a le
+
+  still : (m : State) (b : Begin) (t : L.S) (pc i : ℕ) (R : State → Type 0) → Came X m b t pc i 0 R → Going X m b t 0
+  still m b t pc i R f = record { steps = f.steps; made = f.made; to = f.to; left = X.answers t; by = f.by; events = f.events; cost = omega (arith, f.cost); many = omega arith }
+
+  -- what follows, where i steps pay for the difference of the bounds
+  after : (κ : X.K) (m : State) (b : Begin) (t : L.S) (pc i n k e : ℕ) (ls : List Bounds) (R : State → Type 0) (r : Res L.S) → n ≤ i + k → (f : Came X m b t pc i 0 R) → Sim X κ f.to (begin X t) e k ls r → Sim X κ m b e n ls r
+  after κ m b t pc i n k e ls R (Next u) le f g = came_came m b t u pc e i 0 0 0 R (X.M κ u) f g (omega arith)
+  after κ m b t pc i n k e ls R (Leaves j u) le f g = came_came m b t u pc (end_of ls j) i 0 0 0 R (X.M κ u) f g (omega arith)
+  after κ m b t pc i n k e ls R (Repeats j u) le f g = came_came m b t u pc (begin_of ls j) i 1 1 0 R (X.M κ u) f g (omega arith)
+  after κ m b t pc i n k e ls R (Returns u) le f g = came_came m b t u pc (X.way_out (X.fn κ)) i 0 0 0 R (X.G κ u) f g (omega arith)
+  after κ m b t pc i n k e ls R (Over h u) le f g = came_final m b t u pc i n k R h le f g
+
+  -- the same from an earlier beginning
+  earlier_came : (m : State) (b d : Begin) (t : L.S) (pc i x : ℕ) (R : State → Type 0) → d.answers ≡ b.answers → d.events ≡ b.events → b.work ≤ d.work → Came X m d t pc i x R → Came X m b t pc i x R
+  earlier_came m b d t pc i x R ea ee le f = record { steps = f.steps; made = f.made; to = f.to; by = subst (λ xs. Reaches f.steps m xs f.made f.to (X.answers t)) ea f.by; at = f.at; held = f.held; events = f.events ∙ ap (λ es. es ++ f.made) ee; cost = omega (arith, f.cost, le); many = f.many }
+
+  earlier_stopped : (m : State) (b d : Begin) (t : L.S) (how : machine.End) → d.answers ≡ b.answers → d.events ≡ b.events → b.work ≤ d.work → Stopped X m d t how → Stopped X m b t how
+  earlier_stopped m b d t how ea ee le f = record { steps = f.steps; made = f.made; to = f.to; by = subst (λ xs. (n : ℕ) → run (f.steps + n) m xs ≡ record { events = f.made; end = how; state = f.to }) ea f.by; held = f.held; events = f.events ∙ ap (λ es. es ++ f.made) ee; cost = omega (arith, f.cost, le) }
+
+  earlier_going : (m : State) (b d : Begin) (t : L.S) (n : ℕ) → d.answers ≡ b.answers → d.events ≡ b.events → b.work ≤ d.work → Going X m d t n → Going X m b t n
+  earlier_going m b d t n ea ee le f = record { steps = f.steps; made = f.made; to = f.to; left = f.left; by = subst (λ xs. Reaches f.steps m xs f.made f.to f.left) ea f.by; events = f.events ∙ ap (λ es. es ++ f.made) ee; cost = omega (arith, f.cost, le); many = f.many }
+
+  earlier_final : (m : State) (b d : Begin) (t : L.S) (n : ℕ) (g : Ending) → d.answers ≡ b.answers → d.events ≡ b.events → b.work ≤ d.work → Final X n m d g t → Final X n m b g t
+  earlier_final m b d t n Halted ea ee le f = earlier_stopped m b d t machine.Halted ea ee le f
+  earlier_final m b d t n (Fault k) ea ee le f = earlier_stopped m b d t (machine.Fault k) ea ee le f
+  earlier_final m b d t n Starved ea ee le f = earlier_stopped m b d t machine.Starved ea ee le f
+  earlier_final m b d t n Stray ea ee le f = earlier_going m b d t 0 ea ee le f
+  earlier_final m b d t n Deep ea ee le f = earlier_going m b d t 0 ea ee le f
+  earlier_final m b d t n OutOfBound ea ee le f = earlier_going m b d t n ea ee le f
+
+  earlier : (κ : X.K) (m : State) (b d : Begin) (e n : ℕ) (ls : List Bounds) (r : Res L.S) → d.answers ≡ b.answers → d.events ≡ b.events → b.work ≤ d.work → Sim X κ m d e n ls r → Sim X κ m b e n ls r
+  earlier κ m b d e n ls (Next t) ea ee le f = earlier_came m b d t e 0 0 (X.M κ t) ea ee le f
+  earlier κ m b d e n ls (Leaves k t) ea ee le f = earlier_came m b d t (end_of ls k) 0 0 (X.M κ t) ea ee le f
+  earlier κ m b d e n ls (Repeats k t) ea ee le f = earlier_came m b d t (begin_of ls k) 1 0 (X.M κ t) ea ee le f
+  earlier κ m b d e n ls (Returns t) ea ee le f = earlier_came m b d t (X.way_out (X.fn κ)) 0 0 (X.G κ t) ea ee le f
+  earlier κ m b d e n ls (Over g t) ea ee le f = earlier_final m b d t n g ea ee le f
+
+  here : (κ : X.K) (m : State) (s : L.S) (pc : ℕ) → m.counter ≡ pc → X.M κ s m → Came X m (begin X s) s pc 0 0 (X.M κ s)
+  here κ m s pc e h = record { steps = 0; made = []; to = m; by = reaches_here m (X.answers s); at = e; held = h; events = sym (append-nil (X.events s)); cost = omega arith; many = omega arith }
+
+  then_sim : (κ : X.K) (m : State) (b : Begin) (p e n : ℕ) (ls : List Bounds) (r : Res L.S) (go : L.S → Res L.S) → Sim X κ m b p n ls r → ((t : L.S) (m1 : State) → m1.counter ≡ p → X.M κ t m1 → Sim X κ m1 (begin X t) e n ls (go t)) → Sim X κ m b e n ls (then_next r go)
+  then_sim κ m b p e n ls (Next t) go a f = after κ m b t p 0 n n e ls (X.M κ t) (go t) (omega arith) a (f t a.to a.at a.held)
+  then_sim κ m b p e n ls (Leaves k t) go a f = a
+  then_sim κ m b p e n ls (Repeats k t) go a f = a
+  then_sim κ m b p e n ls (Returns t) go a f = a
+  then_sim κ m b p e n ls (Over g t) go a f = a
+
+  did_sim : (κ : X.K) (m : State) (b : Begin) (p e n : ℕ) (ls : List Bounds) (d : Did L.S) (go : L.S → Res L.S) → DidSim X κ m b p d → ((t : L.S) (m1 : State) → m1.counter ≡ p → X.M κ t m1 → Sim X κ m1 (begin X t) e n ls (go t)) → Sim X κ m b e n ls (did d go)
+  did_sim κ m b p e n ls (On t) go a f = after κ m b t p 0 n n e ls (X.M κ t) (go t) (omega arith) a (f t a.to a.at a.held)
+  did_sim κ m b p e n ls (Ends g t) go a f = a n
+
+  block_sim : (κ : X.K) (m : State) (b : Begin) (e n pc : ℕ) (ls : List Bounds) (r : Res L.S) → Sim X κ m b e n (record { begins = pc; ends = e } ∷ ls) r → Sim X κ m b e n ls (block_done r)
+  block_sim κ m b e n pc ls (Next t) a = a
+  block_sim κ m b e n pc ls (Leaves zero t) a = a
+  block_sim κ m b e n pc ls (Leaves (suc k) t) a = a
+  block_sim κ m b e n pc ls (Repeats zero t) a = still m b t pc 1 (X.M κ t) a
+  block_sim κ m b e n pc ls (Repeats (suc k) t) a = a
+  block_sim κ m b e n pc ls (Returns t) a = a
+  block_sim κ m b e n pc ls (Over g t) a = a
+
+  turn_sim : (κ : X.K) (m : State) (b : Begin) (e n k pc : ℕ) (ls : List Bounds) (r : Res L.S) (again : L.S → Res L.S) → n ≤ suc k → Sim X κ m b e n (record { begins = pc; ends = e } ∷ ls) r →
+      ((t : L.S) (m1 : State) → m1.counter ≡ pc → X.M κ t m1 → Sim X κ m1 (begin X t) e k ls (again t)) → Sim X κ m b e n ls (turn_done r again)
+  turn_sim κ m b e n k pc ls (Next t) again le a f = a
+  turn_sim κ m b e n k pc ls (Leaves zero t) again le a f = a
+  turn_sim κ m b e n k pc ls (Leaves (suc j) t) again le a f = a
+  turn_sim κ m b e n k pc ls (Repeats zero t) again le a f = after κ m b t pc 1 n k e ls (X.M κ t) (again t) (omega (arith, le)) a (f t a.to a.at a.held)
+  turn_sim κ m b e n k pc ls (Repeats (suc j) t) again le a f = a
+  turn_sim κ m b e n k pc ls (Returns t) again le a f = a
+  turn_sim κ m b e n k pc ls (Over g t) again le a f = a
+
+  module _ (H : Shapes) (parts : Parts L X H) where
+    -- the first part of a choice ends with a jump past the second
+    jump_end : (κ : X.K) (m : State) (b : Begin) (p e n : ℕ) (ls : List Bounds) (r : Res L.S) → Jumps H.words p e → Sim X κ m (spare 1 b) p n ls r → Sim X κ m b e n ls r
+    jump_end κ m b p e n ls (Next t) j a =
+        let g = parts.jump κ t a.to p e a.held a.at j in
+        record {
+          steps = a.steps + 1;
+          made = a.made ++ [];
+          to = going_to e a.to;
+          by = reaches_on a.steps 1 m a.to (going_to e a.to) b.answers (X.answers t) (X.answers t) a.made [] a.by g.0;
+          at = refl;
+          held = g.1;
+          events = a.events ∙ ap (λ es. b.events ++ es) (sym (append-nil a.made));
+          cost = omega (arith, a.cost);
+          many = omega arith;
+        }
+    jump_end κ m b p e n ls (Leaves k t) j a = earlier κ m b (spare 1 b) e n ls (Leaves k t) refl refl (omega arith) a
+    jump_end κ m b p e n ls (Repeats k t) j a = earlier κ m b (spare 1 b) e n ls (Repeats k t) refl refl (omega arith) a
+    jump_end κ m b p e n ls (Returns t) j a = earlier κ m b (spare 1 b) e n ls (Returns t) refl refl (omega arith) a
+    jump_end κ m b p e n ls (Over g t) j a = earlier κ m b (spare 1 b) e n ls (Over g t) refl refl (omega arith) a
+
+    -- a jump that is a node
+    jump_node : (κ : X.K) (pc to : ℕ) (s : L.S) (m : State) → Jumps H.words pc to → m.counter ≡ pc → X.M κ s m → Came X m (begin X s) (L.tick node_weight s) to 1 0 (X.M κ (L.tick node_weight s))
+    jump_node κ pc to s m j e h =
+        let g = parts.jump κ s m pc to h e j in
+        record {
+          steps = 1;
+          made = [];
+          to = going_to to m;
+          by = subst (λ xs. Reaches 1 m (X.answers s) [] (going_to to m) xs) (sym (parts.tick_answers node_weight s)) g.0;
+          at = refl;
+          held = parts.ticks κ node_weight s (going_to to m) g.1;
+          events = parts.tick_events node_weight s ∙ sym (append-nil (X.events s));
+          cost = omega (arith, parts.tick_work node_weight s);
+          many = omega arith;
+        }
+
+    choose_sim : (κ : X.K) (m : State) (b : Begin) (px py pe pz n : ℕ) (ls : List Bounds) (s : L.S) (o : Option ℕ) (go other : L.S → Res L.S) → Going X m b s 0 → Jumps H.words pe pz → TestSim X κ py px m b s o →
+        ((m1 : State) → m1.counter ≡ px → X.M κ s m1 → Sim X κ m1 (begin X s) pe n ls (go s)) → ((m1 : State) → m1.counter ≡ py → X.M κ s m1 → Sim X κ m1 (begin X s) pz n ls (other s)) → Sim X κ m b pz n ls (choose o s go other)
+    choose_sim κ m b px py pe pz n ls s None go other st j t gx gy = st
+    choose_sim κ m b px py pe pz n ls s (Some zero) go other st j t gx gy =
+        earlier κ m b (spare 1 b) pz n ls (other s) refl refl (omega arith) (after κ m (spare 1 b) s py 0 n n pz ls (X.M κ s) (other s) (omega arith) t (gy t.to t.at t.held))
+    choose_sim κ m b px py pe pz n ls s (Some (suc v)) go other st j t gx gy =
+        jump_end κ m b pe pz n ls (go s) j (after κ m (spare 1 b) s px 0 n n pe ls (X.M κ s) (go s) (omega arith) t (gx t.to t.at t.held))
+
+    -- what is assumed of the meaning at one less
+    abbrev pub Before : ℕ → (NodesT Where → L.S → Res L.S) → Type 0
+    Before k prev = (κ : X.K) (pc e : ℕ) (ls : List Bounds) (c : NodesT Where) (s : L.S) (m : State) → At H (X.fn κ) ls pc c e → m.counter ≡ pc → X.M κ s m → Sim X κ m (begin X s) e k ls (prev c s)
+
+    going_here : (κ : X.K) (m : State) (s : L.S) (k : ℕ) → Going X m (begin X s) (L.tick k s) 0
+    going_here κ m s k = record { steps = 0; made = []; to = m; left = X.answers s; by = reaches_here m (X.answers s); events = parts.tick_events k s ∙ sym (append-nil (X.events s)); cost = omega (arith, parts.tick_work k s); many = omega arith }
+
+    -- a body that has ended, and the way back
+    call_end : (κ : X.K) (p n k : ℕ) (ls : List Bounds) (t : Option Where) (f : ℕ) (u s0 : L.S) (m : State) (b : Begin) (r : Res L.S) → (en : Enters X H κ p t f u s0 m b) → n ≤ suc k →
+        ((m1 : State) → m1.counter ≡ X.entry f → X.M en.inner s0 m1 → Sim X en.inner m1 (begin X s0) (X.way_out (X.fn en.inner)) k [] r) → Sim X κ m b p n ls (call_done L.none (L.back t u) r)
+    call_end κ p n k ls t f u s0 m b r en le go = finish r (after en.inner m (spare 8 b) s0 (X.entry f) 1 n k (X.way_out (X.fn en.inner)) [] (X.M en.inner s0) r (omega (arith, le)) en.goes (go en.goes.to en.goes.at en.goes.held))
+      where
+        home : (s1 : L.S) → (a : Came X m (spare 8 b) s1 (X.way_out (X.fn en.inner)) 0 0 (X.G en.inner s1)) → Came X m b (L.back t u s1) p 0 0 (X.M κ (L.back t u s1))
+        home s1 a =
+            let g = en.back s1 a.to a.held a.at in
+            let c = came_came m (spare 8 b) s1 (L.back t u s1) (X.way_out (X.fn en.inner)) p 0 0 0 8 (X.G en.inner s1) (X.M κ (L.back t u s1)) a g (omega arith) in
+            record { steps = c.steps; made = c.made; to = c.to; by = c.by; at = c.at; held = c.held; events = c.events; cost = omega (arith, c.cost); many = omega arith }
+
+        unset : (s1 : L.S) → Came X m (spare 8 b) s1 (X.way_out (X.fn en.inner)) 0 0 (X.M en.inner s1) → Came X m (spare 8 b) (L.none s1) (X.way_out (X.fn en.inner)) 0 0 (X.G en.inner (L.none s1))
+        unset s1 a = record { steps = a.steps; made = a.made; to = a.to; by = subst (λ xs. Reaches a.steps m b.answers a.made a.to xs) (sym (parts.none_answers s1)) a.by; at = a.at; held = parts.none en.inner s1 a.to a.held; events = parts.none_events s1 ∙ a.events; cost = omega (arith, a.cost, parts.none_work s1); many = omega arith }
+
+        strays : (s1 : L.S) (q i : ℕ) → Came X m (spare 8 b) s1 q i 0 (X.M en.inner s1) → Going X m b s1 0
+        strays s1 q i a = earlier_going m b (spare 8 b) s1 0 refl refl (omega arith) (still m (spare 8 b) s1 q i (X.M en.inner s1) a)
+
+        finish : (r : Res L.S) → Sim X en.inner m (spare 8 b) (X.way_out (X.fn en.inner)) n [] r → Sim X κ m b p n ls (call_done L.none (L.back t u) r)
+        finish (Next s1) a = home (L.none s1) (unset s1 a)
+        finish (Leaves j s1) a = strays s1 (end_of [] j) 0 a
+        finish (Repeats j s1) a = strays s1 (begin_of [] j) 1 a
+        finish (Returns s1) a = home s1 a
+        finish (Over g s1) a = earlier_final m b (spare 8 b) s1 n g refl refl (omega arith) a
+
+    pub entered_sim : (κ : X.K) (p n k : ℕ) (ls : List Bounds) (t : Option Where) (f : ℕ) (u : L.S) (m : State) (b : Begin) (d : Did L.S) (prev : NodesT Where → L.S → Res L.S) → n ≤ suc k → Before k prev → CallSim X H κ p t f u m b d →
+        Sim X κ m b p n ls (did d (λ v. call_done L.none (L.back t u) (prev (L.body f) v)))
+    entered_sim κ p n k ls t f u m b (On s0) prev le bef en = call_end κ p n k ls t f u s0 m b (prev (L.body f) s0) en le (λ m1 e1 h1. bef en.inner (X.entry f) (X.way_out (X.fn en.inner)) [] (L.body f) s0 m1 en.placed e1 h1)
+    entered_sim κ p n k ls t f u m b (Ends g s0) prev le bef a = a n
+
+    called_sim : (κ : X.K) (p n k w : ℕ) (ls : List Bounds) (t : Option Where) (f : ℕ) (args : List Where) (s : L.S) (m : State) (prev : NodesT Where → L.S → Res L.S) → n ≤ suc k → Before k prev → X.M κ s m →
+        CallSim X H κ p t f (L.tick w s) m (begin X s) (L.enter f args (L.tick w s)) → Sim X κ m (begin X s) p n ls (called L n prev t f args (L.tick w s))
+    called_sim κ p zero k w ls t f args s m prev le bef h a = going_here κ m s w
+    called_sim κ p (suc n) k w ls t f args s m prev le bef h a = entered_sim κ p (suc n) k ls t f (L.tick w s) m (begin X s) (L.enter f args (L.tick w s)) prev le bef a
+
+    -- the same from the state before it was counted
+    ticked : (κ : X.K) (w : ℕ) (s : L.S) (m : State) (e n : ℕ) (ls : List Bounds) (r : Res L.S) → Sim X κ m (begin X (L.tick w s)) e n ls r → Sim X κ m (begin X s) e n ls r
+    ticked κ w s m e n ls r a = earlier κ m (begin X s) (begin X (L.tick w s)) e n ls r (parts.tick_answers w s) (parts.tick_events w s) (omega (arith, parts.tick_work w s)) a
+
+    nodes : (n k : ℕ) (prev : NodesT Where → L.S → Res L.S) → n ≤ suc k → Before k prev → (κ : X.K) (pc e : ℕ) (ls : List Bounds) (c : NodesT Where) (s : L.S) (m : State) → At H (X.fn κ) ls pc c e → m.counter ≡ pc → X.M κ s m → Sim X κ m (begin X s) e n ls (does L n prev c s)
+    nodes n k prev le bef κ pc e ls Stop s m at eq h = here κ m s e (eq ∙ at) h
+    nodes n k prev le bef κ pc e ls (Do o c) s m at eq h =
+        did_sim κ m (begin X s) at.0 e n ls (L.act o s) (does L n prev c) (parts.op κ pc at.0 o s m at.1 eq h) (λ t m1 e1 h1. nodes n k prev le bef κ at.0 e ls c t m1 at.2 e1 h1)
+    nodes n k prev le bef κ pc e ls (Call t f args c) s m at eq h =
+        then_sim κ m (begin X s) at.0 e n ls (called L n prev t f args (L.tick (call_weight args) s)) (does L n prev c)
+        (called_sim κ at.0 n k (call_weight args) ls t f args s m prev le bef h (parts.call κ pc at.0 t f args s m at.1 eq h)) (λ t1 m1 e1 h1. nodes n k prev le bef κ at.0 e ls c t1 m1 at.2 e1 h1)
+    nodes n k prev le bef κ pc e ls (Choose p x y c) s m at eq h =
+        then_sim κ m (begin X s) at.3 e n ls (choose (L.test p s) (L.tick node_weight s) (does L n prev x) (does L n prev y)) (does L n prev c)
+        (choose_sim κ m (begin X s) at.0 at.2 at.1 at.3 n ls (L.tick node_weight s) (L.test p s) (does L n prev x) (does L n prev y) (going_here κ m s node_weight) at.6 (parts.test κ pc at.2 at.0 p s m at.4 eq h)
+        (λ m1 e1 h1. nodes n k prev le bef κ at.0 at.1 ls x (L.tick node_weight s) m1 at.5 e1 h1) (λ m1 e1 h1. nodes n k prev le bef κ at.2 at.3 ls y (L.tick node_weight s) m1 at.7 e1 h1))
+        (λ t m1 e1 h1. nodes n k prev le bef κ at.3 e ls c t m1 at.8 e1 h1)
+    nodes n k prev le bef κ pc e ls (Block b c) s m at eq h =
+        then_sim κ m (begin X s) at.0 e n ls (block_done (does L n prev b (L.tick node_weight s))) (does L n prev c)
+        (block_sim κ m (begin X s) at.0 n pc ls (does L n prev b (L.tick node_weight s)) (ticked κ node_weight s m at.0 n (record { begins = pc; ends = at.0 } ∷ ls) (does L n prev b (L.tick node_weight s))
+        (nodes n k prev le bef κ pc at.0 (record { begins = pc; ends = at.0 } ∷ ls) b (L.tick node_weight s) m at.1 eq (parts.ticks κ node_weight s m h))))
+        (λ t m1 e1 h1. nodes n k prev le bef κ at.0 e ls c t m1 at.2 e1 h1)
+    nodes n k prev le bef κ pc e ls (Loop b c) s m at eq h =
+        then_sim κ m (begin X s) at.0 e n ls (turn_done (does L n prev b (L.tick node_weight s)) (prev (Loop b Stop))) (does L n prev c)
+        (turn_sim κ m (begin X s) at.0 n k pc ls (does L n prev b (L.tick node_weight s)) (prev (Loop b Stop)) le (ticked κ node_weight s m at.0 n (record { begins = pc; ends = at.0 } ∷ ls) (does L n prev b (L.tick node_weight s))
+        (nodes n k prev le bef κ pc at.0 (record { begins = pc; ends = at.0 } ∷ ls) b (L.tick node_weight s) m at.1 eq (parts.ticks κ node_weight s m h)))
+        (λ t m1 e1 h1. bef κ pc at.0 ls (Loop b Stop) t m1 (at.0, at.1, refl) e1 h1))
+        (λ t m1 e1 h1. nodes n k prev le bef κ at.0 e ls c t m1 at.2 e1 h1)
+    nodes n k prev le bef κ pc e ls (Leave j c) s m at eq h =
+        let f = jump_node κ pc (end_of ls j) s m at.0 eq h in record { steps = f.steps; made = f.made; to = f.to; by = f.by; at = f.at; held = f.held; events = f.events; cost = f.cost; many = omega arith }
+    nodes n k prev le bef κ pc e ls (Again j c) s m at eq h = jump_node κ pc (begin_of ls j) s m at.0 eq h
+    nodes n k prev le bef κ pc e ls (Return w c) s m at eq h = parts.give κ pc w s m at.0 eq h
+
+    -- for every bound the machine follows the code
+    pub follows : (n : ℕ) (κ : X.K) (pc e : ℕ) (ls : List Bounds) (c : NodesT Where) (s : L.S) (m : State) → At H (X.fn κ) ls pc c e → m.counter ≡ pc → X.M κ s m → Sim X κ m (begin X s) e n ls (runs L n c s)
+    follows zero κ pc e ls c s m at eq h =
+        nodes zero 0 (below L zero) (omega arith) (λ κ1 pc1 e1 ls1 d t m1 a1 q1 h1. record { steps = 0; made = []; to = m1; left = X.answers t; by = reaches_here m1 (X.answers t); events = sym (append-nil (X.events t)); cost = omega arith; many = omega arith }) κ pc e ls c s m at eq h
+    follows (suc n) κ pc e ls c s m at eq h =
+        nodes (suc n) n (below L (suc n)) (omega arith) (λ κ1 pc1 e1 ls1 d t m1 a1 q1 h1. follows n κ1 pc1 e1 ls1 d t m1 a1 q1 h1) κ pc e ls c s m at eq h

@@ -1,0 +1,326 @@
+-- The machine's steps of a call up to the body of the function, and of the way back.
+use Rattle.std.proofs.Common.{◌≡◌, ℕ, ◌+◌, ◌-◌, ◌*◌, ◌<◌, ◌≤◌, true, List, [], ◌∷◌, ◌++◌, length, refl, ap, ◌∙◌, subst, arith}
+use Rattle.std.specs.Prelude.{get_or}
+use Rattle.std.proofs.lemmas.List.{length-set}
+use Rattle.kit_base.specs.Word.{add, sub}
+use Rattle.v32_isa.specs.declared.instruction.Plain.TheVariants.{RET}
+use Rattle.v32_isa.specs.declared.instruction.Go.TheVariants.{CALL}
+use Rattle.v32_isa.specs.declared.instruction.One.TheVariants.{PUSH, POP}
+use Rattle.v32_isa.specs.declared.instruction.Two.TheVariants.{ISUB}
+use Rattle.v32_isa.specs.declared.instruction.Src.TheVariants as src
+use Rattle.v32_isa.specs.declared.instruction.Mov.TheVariants.{RegReg, AtOffReg}
+use Rattle.v32_isa.specs.declared.instruction.Instr.{Instr}
+use Rattle.v32_isa.specs.declared.instruction.Instr.TheVariants as instr
+use Rattle.v32_isa.specs.declared.stepped.Stepped.TheVariants as stepped
+use Rattle.v32_isa.specs.Table.{Fits}
+use Rattle.v32_isa.specs.State.{State, register_of, with_register, going_to, stored, is_writable_at}
+use Rattle.v32_isa.specs.Machine.{act}
+use Rattle.v32_isa.specs.Machine.Effect.{Ends as EndsIn}
+use Rattle.v32_isa.proofs.Steps.{reaches_here, reaches_on, reaches_went}
+use Rattle.either.specs.declared.Either.TheVariants.{Left}
+use Rattle.asm_items.specs.declared.item.AsmItem.{AsmItem}
+use Rattle.asm_items.specs.declared.item.AsmItem.TheVariants as item
+use Rattle.mid_code.specs.declared.placed.Where.{Where}
+use Rattle.mid_code.specs.declared.placed.Where.TheVariants.{Reg, Slot}
+use Rattle.mid_code.specs.Invariants.{in_registers}
+use Rattle.asm_laws.specs.Operations.{Frame, slot_word, hand, brings, slot_arg, slot_args, pushed_arg, pushed_args, popped_arg, popped_args, args_items}
+use Rattle.asm_laws.specs.Placing.{Line}
+use Rattle.asm_laws.specs.Standing.{Stand}
+use Rattle.asm_laws.specs.Addresses.{Addr, Console, word_of, store, Room, Good, Held, Arrives}
+use Rattle.asm_laws.specs.Framing.{frame_made, frame_gone}
+use Rattle.asm_laws.specs.Links.{new_slot, passed, all_passed, push, pushed, all_pushed, popped, all_popped, entered, slot_steps, called, gone_back}
+use Rattle.asm_laws.proofs.Stepping.{readable_word, ram_readable, ram_writable, writes_at, line_effect, reg_same, reg_other, took, scratch, moved, kept, stores, fetches_so, reg_number}
+use Rattle.asm_laws.proofs.Hands.{hand_fits, brings_at}
+
+module _ (C : Console) where
+  -- the top of the stack, and the end of the frame, are other addresses
+  pub top_held : (a : Addr) (s : State) (x : ℕ) → Held C a s → Held C (record a { top = x }) (with_register 15 x s)
+  top_held a s x h = record {
+    program_length = h.program_length;
+    card = h.card;
+    short = h.short;
+    text = h.text;
+    sixteen = length-set s.registers 15 x ∙ h.sixteen;
+    regs = λ q lt. reg_other C s 15 x q (omega arith) ∙ h.regs q lt;
+    base = reg_other C s 15 x 14 (omega arith) ∙ h.base;
+    top = reg_same C s 15 x (omega (arith, h.sixteen));
+    memory = h.memory;
+  }
+
+  pub base_held : (a : Addr) (s : State) (x : ℕ) → Held C a s → Held C (record a { base = x }) (with_register 14 x s)
+  base_held a s x h = record {
+    program_length = h.program_length;
+    card = h.card;
+    short = h.short;
+    text = h.text;
+    sixteen = length-set s.registers 14 x ∙ h.sixteen;
+    regs = λ q lt. reg_other C s 14 x q (omega arith) ∙ h.regs q lt;
+    base = reg_same C s 14 x (omega (arith, h.sixteen));
+    top = reg_other C s 14 x 15 (omega arith) ∙ h.top;
+    memory = h.memory;
+  }
+
+  chain : (i j : ℕ) (s : State) (xs : List ℕ) (p q : ℕ) (a b : Addr) → Arrives C i s xs p [] xs a → ((t : State) → t.counter ≡ p → Held C a t → Arrives C j t xs q [] xs b) → Arrives C (i + j) s xs q [] xs b
+  chain i j s xs p q a b f g =
+      let r = g f.to f.at f.held in
+      record { steps = f.steps + r.steps; to = r.to; by = reaches_on f.steps r.steps s f.to r.to xs xs xs [] [] f.by r.by; at = r.at; held = r.held; few = omega (arith, f.few, r.few) }
+
+  pub one : (a b : Addr) (s t : State) (xs : List ℕ) (pc : ℕ) (i : Instr ℕ) (next : ℕ) → Held C a s → s.counter ≡ pc → Line C.words pc i next → Fits i → act i next s ≡ EndsIn stepped.Went t → Held C b t → Arrives C 1 s xs t.counter [] xs b
+  one a b s t xs pc i next h e l fits is held = record { steps = 1; to = t; by = reaches_went s t xs (line_effect C a s pc i next h e l fits ∙ is); at = refl; held = held; few = omega arith }
+
+  nothing : (s : State) (xs : List ℕ) (pc p : ℕ) (a : Addr) → Held C a s → s.counter ≡ pc → pc ≡ p → Arrives C 0 s xs p [] xs a
+  nothing s xs pc p a h e k = record { steps = 0; to = s; by = reaches_here s xs; at = e ∙ k; held = h; few = omega arith }
+
+  -- a word is pushed
+  push_act : (a : Addr) (s : State) (r v next : ℕ) → 1 ≤ a.top → a.top ≤ 0x400000 → register_of s r ≡ v → Held C a s → act (instr.One PUSH r) next s ≡ EndsIn stepped.Went (going_to next (with_register 15 (a.top - 1) (stored s (a.top - 1) v)))
+  unfolding act
+  push_act a s r v next lo hi is h =
+      let d : sub (register_of s 15) 1 ≡ a.top - 1 = omega (arith, h.top, lo, hi) in
+      let w : is_writable_at s (a.top - 1) ≡ true = writes_at C a s (a.top - 1) h ∙ ram_writable C (a.top - 1) (omega (arith, lo, hi)) in
+      rw (d, w, is) refl
+
+  push_held : (a : Addr) (s : State) (v next : ℕ) → 1 ≤ a.top → a.top ≤ 0x400000 → Held C a s → Held C (push v a) (going_to next (with_register 15 (a.top - 1) (stored s (a.top - 1) v)))
+  push_held a s v next lo hi h =
+      moved C (push v a) (with_register 15 (a.top - 1) (stored s (a.top - 1) v)) next
+      (top_held (store (a.top - 1) v a) (stored s (a.top - 1) v) (a.top - 1) (moved C (store (a.top - 1) v a) (going_to s.counter (stored s (a.top - 1) v)) s.counter (stores C a s s.counter (a.top - 1) v (ram_writable C (a.top - 1) (omega (arith, lo, hi))) h)))
+
+  pushes : (a : Addr) (s : State) (xs : List ℕ) (pc r v next : ℕ) → r < 16 → 1 ≤ a.top → a.top ≤ 0x400000 → register_of s r ≡ v → Held C a s → s.counter ≡ pc → Line C.words pc (instr.One PUSH r) next → Arrives C 1 s xs next [] xs (push v a)
+  pushes a s xs pc r v next lt lo hi is h e l = one a (push v a) s (going_to next (with_register 15 (a.top - 1) (stored s (a.top - 1) v))) xs pc (instr.One PUSH r) next h e l (lt, omega arith, omega arith) (push_act a s r v next lo hi is h) (push_held a s v next lo hi h)
+
+  -- a word is popped into a register
+  pop_act : (a : Addr) (s : State) (r next : ℕ) → a.top < 0x400000 → Held C a s → act (instr.One POP r) next s ≡ EndsIn stepped.Went (going_to next (with_register r (a.memory a.top) (with_register 15 (a.top + 1) s)))
+  unfolding act
+  pop_act a s r next hi h =
+      let w = readable_word C a s a.top h (ram_readable C a.top hi) in
+      let u : add a.top 1 ≡ a.top + 1 = omega (arith, hi) in
+      rw (h.top, w, u) refl
+
+  pops : (a : Addr) (s : State) (xs : List ℕ) (pc q next : ℕ) → q < 9 → a.top < 0x400000 → Held C a s → s.counter ≡ pc → Line C.words pc (instr.One POP q) next → Arrives C 1 s xs next [] xs (popped (Reg q) a)
+  pops a s xs pc q next lt hi h e l =
+      one a (popped (Reg q) a) s (going_to next (with_register q (a.memory a.top) (with_register 15 (a.top + 1) s))) xs pc (instr.One POP q) next h e l (omega arith, omega arith, omega arith) (pop_act a s q next hi h)
+      (kept C (record a { top = a.top + 1 }) (with_register 15 (a.top + 1) s) next q (a.memory a.top) (omega (arith, lt)) (top_held a s (a.top + 1) h))
+
+  -- ---- arguments
+
+  module _ (address : List ℕ → ℕ) (F G : Frame) where
+    abbrev Here : ℕ → List AsmItem → ℕ → Type 0
+    Here = Stand C.words address
+
+    pub part : (x y : List AsmItem) (pc e : ℕ) → Here pc (x ++ y) e → (q : ℕ) × Here pc x q × Here q y e
+    part [] y pc e h = (pc, refl, h)
+    part (i ∷ x) y pc e h = let r = part x y h.0 e h.2 in (r.0, (h.0, h.1, r.1), r.2)
+
+    -- the frame lies in RAM, and so will the next one
+    pub record Roomy (a : Addr) : Type 0 where
+      pub room : Room F a
+      pub below : G.size + 2 ≤ a.top
+      pub above : a.top ≤ 0x400000
+
+    store_act : (a : Addr) (s : State) (k m v next : ℕ) → Roomy a → get_or G.slots k k < G.size → register_of s m ≡ v → Held C a s → act (instr.Mov (AtOffReg 15 (sub (slot_word G k) 2) m)) next s ≡ EndsIn stepped.Went (going_to next (stored s (new_slot G k a) v))
+    unfolding act
+    store_act a s k m v next r good is h =
+        let d : add (register_of s 15) (sub (slot_word G k) 2) ≡ new_slot G k a = omega (arith, h.top, r.below, r.above, good) in
+        let w : is_writable_at s (new_slot G k a) ≡ true = writes_at C a s (new_slot G k a) h ∙ ram_writable C (new_slot G k a) (omega (arith, r.below, r.above)) in
+        rw (d, w, is) refl
+
+    passes : (a : Addr) (s : State) (xs : List ℕ) (pc e : ℕ) (p x : Where) → Roomy a → Good G p → Good F x → Held C a s → s.counter ≡ pc → Here pc (slot_arg F G p x) e → Arrives C 2 s xs e [] xs (passed F G p x a)
+    passes a s xs pc e (Reg q) x r gp gx h c k = let n = nothing s xs pc e a h c k in record { steps = n.steps; to = n.to; by = n.by; at = n.at; held = n.held; few = omega (arith, n.few) }
+    passes a s xs pc e (Slot i) x r gp gx h c k =
+        let v = word_of F x a in
+        let o = instr.Mov (AtOffReg 15 (sub (slot_word G i) 2) (hand x 9)) in
+        let d = part (brings F x 9) (item.Op (instr.Mov (AtOffReg 15 (Left (sub (slot_word G i) 2)) (hand x 9))) ∷ []) pc e k in
+        let b = brings_at C F address a s xs pc d.0 x 9 r.room gx (omega arith) (omega arith) h c d.1 in
+        let t = b.to in
+        let l = d.2 in
+        let f : Arrives C 1 t xs l.0 [] xs (passed F G (Slot i) x a) =
+        one a (passed F G (Slot i) x a) t (going_to l.0 (stored t (new_slot G i a) v)) xs d.0 o l.0 b.held b.at l.1 (omega arith, hand_fits x 9 (omega arith), omega arith)
+        (store_act a t i (hand x 9) v l.0 r gp b.is b.held) (stores C a t l.0 (new_slot G i a) v (ram_writable C (new_slot G i a) (omega (arith, r.below, r.above))) b.held) in
+        subst (λ q. Arrives C 2 s xs q [] xs (passed F G (Slot i) x a)) l.2
+        (record { steps = b.steps + f.steps; to = f.to; by = reaches_on b.steps f.steps s t f.to xs xs xs [] [] b.by f.by; at = f.at; held = f.held; few = let n = f.few in let m = b.few in omega (arith, n, m) })
+
+    abbrev pub AllOf : (Where → Type 0) → List Where → Type 0
+    AllOf P [] = Unit {0}
+    AllOf P (p ∷ ps) = P p × AllOf P ps
+
+    roomy_passed : (p x : Where) (a : Addr) → Roomy a → Roomy (passed F G p x a)
+    roomy_passed (Reg q) x a r = r
+    roomy_passed (Slot k) x a r = record { room = record { low = r.room.low; high = r.room.high }; below = r.below; above = r.above }
+
+    all_passes : (a : Addr) (s : State) (xs : List ℕ) (pc e : ℕ) (ps args : List Where) → Roomy a → AllOf (Good G) ps → AllOf (Good F) args → Held C a s → s.counter ≡ pc → Here pc (slot_args F G ps args) e → Arrives C (slot_steps ps) s xs e [] xs (all_passed F G ps args a)
+    all_passes a s xs pc e [] args r gp gx h c k = let n = nothing s xs pc e a h c k in record { steps = n.steps; to = n.to; by = n.by; at = n.at; held = n.held; few = omega (arith, n.few) }
+    all_passes a s xs pc e (p ∷ ps) [] r gp gx h c k = let n = nothing s xs pc e a h c k in record { steps = n.steps; to = n.to; by = n.by; at = n.at; held = n.held; few = omega (arith, n.few) }
+    all_passes a s xs pc e (Reg q ∷ ps) (x ∷ args) r gp gx h c k = all_passes a s xs pc e ps args r gp.1 gx.1 h c k
+    all_passes a s xs pc e (Slot i ∷ ps) (x ∷ args) r gp gx h c k =
+        let d = part (slot_arg F G (Slot i) x) (slot_args F G ps args) pc e k in
+        chain 2 (slot_steps ps) s xs d.0 e (passed F G (Slot i) x a) (all_passed F G ps args (passed F G (Slot i) x a)) (passes a s xs pc d.0 (Slot i) x r gp.0 gx.0 h c d.1)
+        (λ t c1 h1. all_passes (passed F G (Slot i) x a) t xs d.0 e ps args (roomy_passed (Slot i) x a r) gp.1 gx.1 h1 c1 d.2)
+
+    roomy : (a b : Addr) → b.base ≡ a.base → Room F a → Room F b
+    roomy a b e r = record { low = omega (arith, e, r.low); high = omega (arith, e, r.high) }
+
+    -- register parameters are pushed
+    pushes_one : (a : Addr) (s : State) (xs : List ℕ) (pc e : ℕ) (p x : Where) → Room F a → 1 ≤ a.top → a.top ≤ 0x400000 → Good F x → Held C a s → s.counter ≡ pc → Here pc (pushed_arg F p x) e → Arrives C 2 s xs e [] xs (pushed F p x a)
+    pushes_one a s xs pc e (Slot i) x room lo hi gx h c k = let n = nothing s xs pc e a h c k in record { steps = n.steps; to = n.to; by = n.by; at = n.at; held = n.held; few = omega (arith, n.few) }
+    pushes_one a s xs pc e (Reg q) x room lo hi gx h c k =
+        let v = word_of F x a in
+        let d = part (brings F x 9) (item.Op (instr.One PUSH (hand x 9)) ∷ []) pc e k in
+        let b = brings_at C F address a s xs pc d.0 x 9 room gx (omega arith) (omega arith) h c d.1 in
+        let t = b.to in
+        let l = d.2 in
+        let f = pushes a t xs d.0 (hand x 9) v l.0 (hand_fits x 9 (omega arith)) lo hi b.is b.held b.at l.1 in
+        subst (λ q1. Arrives C 2 s xs q1 [] xs (push v a)) l.2
+        (record { steps = b.steps + f.steps; to = f.to; by = reaches_on b.steps f.steps s t f.to xs xs xs [] [] b.by f.by; at = f.at; held = f.held; few = let n = f.few in let m = b.few in omega (arith, n, m) })
+
+    pushed_base : (p x : Where) (a : Addr) → (pushed F p x a).base ≡ a.base
+    pushed_base (Reg q) x a = refl
+    pushed_base (Slot k) x a = refl
+
+    pushed_top : (p x : Where) (ps : List Where) (a : Addr) → in_registers (p ∷ ps) ≤ a.top → in_registers ps ≤ (pushed F p x a).top
+    pushed_top (Reg q) x ps a le = omega (arith, le)
+    pushed_top (Slot k) x ps a le = le
+
+    pushed_high : (p x : Where) (a : Addr) → a.top ≤ 0x400000 → (pushed F p x a).top ≤ 0x400000
+    pushed_high (Reg q) x a le = omega (arith, le)
+    pushed_high (Slot k) x a le = le
+
+    all_pushes : (a : Addr) (s : State) (xs : List ℕ) (pc e : ℕ) (ps args : List Where) → Room F a → in_registers ps ≤ a.top → a.top ≤ 0x400000 → AllOf (Good F) args → Held C a s → s.counter ≡ pc → Here pc (pushed_args F ps args) e → Arrives C (2 * in_registers ps) s xs e [] xs (all_pushed F ps args a)
+    all_pushes a s xs pc e [] args room lo hi gx h c k = let n = nothing s xs pc e a h c k in record { steps = n.steps; to = n.to; by = n.by; at = n.at; held = n.held; few = omega (arith, n.few) }
+    all_pushes a s xs pc e (p ∷ ps) [] room lo hi gx h c k = let n = nothing s xs pc e a h c k in record { steps = n.steps; to = n.to; by = n.by; at = n.at; held = n.held; few = omega (arith, n.few) }
+    all_pushes a s xs pc e (Slot i ∷ ps) (x ∷ args) room lo hi gx h c k = all_pushes a s xs pc e ps args room lo hi gx.1 h c k
+    all_pushes a s xs pc e (Reg q ∷ ps) (x ∷ args) room lo hi gx h c k =
+        let d = part (pushed_arg F (Reg q) x) (pushed_args F ps args) pc e k in
+        let b = pushed F (Reg q) x a in
+        let f = chain 2 (2 * in_registers ps) s xs d.0 e b (all_pushed F ps args b) (pushes_one a s xs pc d.0 (Reg q) x room (omega (arith, lo)) hi gx.0 h c d.1)
+        (λ t c1 h1. all_pushes b t xs d.0 e ps args (roomy a b (pushed_base (Reg q) x a) room) (pushed_top (Reg q) x ps a lo) (pushed_high (Reg q) x a hi) gx.1 h1 c1 d.2) in
+        record { steps = f.steps; to = f.to; by = f.by; at = f.at; held = f.held; few = omega (arith, f.few) }
+
+    -- and popped in the opposite order
+    pub popped_top : (ps : List Where) (a : Addr) → (all_popped ps a).top ≡ a.top + in_registers ps
+    popped_top [] a = omega arith
+    popped_top (Reg q ∷ ps) a = let r = popped_top ps a in omega (arith, r)
+    popped_top (Slot k ∷ ps) a = popped_top ps a
+
+    pops_one : (a : Addr) (s : State) (xs : List ℕ) (pc e : ℕ) (p : Where) (ps : List Where) → Good G p → a.top + in_registers (p ∷ ps) ≤ 0x400000 → Held C (all_popped ps a) s → s.counter ≡ pc → Here pc (popped_arg p) e → Arrives C 1 s xs e [] xs (popped p (all_popped ps a))
+    pops_one a s xs pc e (Slot k) ps gp hi h c st = let n = nothing s xs pc e (all_popped ps a) h c st in record { steps = n.steps; to = n.to; by = n.by; at = n.at; held = n.held; few = omega (arith, n.few) }
+    pops_one a s xs pc e (Reg q) ps gp hi h c st =
+        let l = subst (λ r. Line C.words pc (instr.One POP r) st.0) (reg_number C F address q gp) st.1 in
+        subst (λ q1. Arrives C 1 s xs q1 [] xs (popped (Reg q) (all_popped ps a))) st.2 (pops (all_popped ps a) s xs pc q st.0 gp (omega (arith, popped_top ps a, hi)) h c l)
+
+    fewer_pops : (p : Where) (ps : List Where) (n : ℕ) → n + in_registers (p ∷ ps) ≤ 0x400000 → n + in_registers ps ≤ 0x400000
+    fewer_pops (Reg q) ps n le = omega (arith, le)
+    fewer_pops (Slot k) ps n le = le
+
+    all_pops : (a : Addr) (s : State) (xs : List ℕ) (pc e : ℕ) (ps : List Where) → AllOf (Good G) ps → a.top + in_registers ps ≤ 0x400000 → Held C a s → s.counter ≡ pc → Here pc (popped_args ps) e → Arrives C (in_registers ps) s xs e [] xs (all_popped ps a)
+    all_pops a s xs pc e [] gp hi h c k = nothing s xs pc e a h c k
+    all_pops a s xs pc e (Slot i ∷ ps) gp hi h c k =
+        let d = part (popped_args ps) (popped_arg (Slot i)) pc e k in
+        subst (λ q. Arrives C (in_registers ps) s xs q [] xs (all_popped ps a)) d.2 (all_pops a s xs pc d.0 ps gp.1 hi h c d.1)
+    all_pops a s xs pc e (Reg q ∷ ps) gp hi h c k =
+        let d = part (popped_args ps) (popped_arg (Reg q)) pc e k in
+        let f = chain (in_registers ps) 1 s xs d.0 e (all_popped ps a) (popped (Reg q) (all_popped ps a)) (all_pops a s xs pc d.0 ps gp.1 (fewer_pops (Reg q) ps a.top hi) h c d.1)
+        (λ t c1 h1. pops_one a t xs d.0 e (Reg q) ps gp.0 hi h1 c1 d.2) in
+        record { steps = f.steps; to = f.to; by = f.by; at = f.at; held = f.held; few = omega (arith, f.few) }
+
+    -- ---- the call, and the new frame
+
+    call_act : (a : Addr) (s : State) (to next : ℕ) → 1 ≤ a.top → a.top ≤ 0x400000 → Held C a s → act (instr.Go CALL (src.Imm to)) next s ≡ EndsIn stepped.Went (going_to to (with_register 15 (a.top - 1) (stored s (a.top - 1) next)))
+    unfolding act
+    call_act a s to next lo hi h =
+        let d : sub (register_of s 15) 1 ≡ a.top - 1 = omega (arith, h.top, lo, hi) in
+        let w : is_writable_at s (a.top - 1) ≡ true = writes_at C a s (a.top - 1) h ∙ ram_writable C (a.top - 1) (omega (arith, lo, hi)) in
+        rw (d, w) refl
+
+    pub copy_act : (s : State) (r q next : ℕ) → act (instr.Mov (RegReg r q)) next s ≡ EndsIn stepped.Went (going_to next (with_register r (register_of s q) s))
+    unfolding act
+    copy_act s r q next = refl
+
+    less_act : (a : Addr) (s : State) (n next : ℕ) → n ≤ a.top → a.top ≤ 0x400000 → Held C a s → act (instr.Two ISUB 15 (src.Imm n)) next s ≡ EndsIn stepped.Went (going_to next (with_register 15 (a.top - n) s))
+    unfolding act
+    less_act a s n next lo hi h = let d : sub (register_of s 15) n ≡ a.top - n = omega (arith, h.top, lo, hi) in rw d refl
+
+    -- from the call to the function's body
+    pub enters : (a : Addr) (s : State) (xs : List ℕ) (pc next begins body : ℕ) → G.size + 2 ≤ a.top → a.top ≤ 0x400000 → Held C a s → s.counter ≡ pc → Line C.words pc (instr.Go CALL (src.Imm begins)) next → Here begins (frame_made G.size) body → Arrives C 4 s xs body [] xs (entered G next a)
+    enters a s xs pc next begins body lo hi h e l k =
+        let a1 = push next a in
+        let a2 = push a.base a1 in
+        let a3 = record a2 { base = a.top - 2 } in
+        let same : a1.top - 1 ≡ a.top - 2 = omega arith in
+        let f1 : Arrives C 1 s xs begins [] xs a1 = one a a1 s (going_to begins (with_register 15 (a.top - 1) (stored s (a.top - 1) next))) xs pc (instr.Go CALL (src.Imm begins)) next h e l (omega arith, omega arith, omega arith) (call_act a s begins next (omega (arith, lo)) hi h) (push_held a s next begins (omega (arith, lo)) hi h) in
+        chain 1 3 s xs begins body a1 (entered G next a) f1 (λ t1 e1 h1.
+        chain 1 2 t1 xs k.0 body a2 (entered G next a) (pushes a1 t1 xs begins 14 a.base k.0 (omega arith) (omega (arith, lo)) (omega (arith, hi)) h1.base h1 e1 k.1) (λ t2 e2 h2.
+        let v : register_of t2 15 ≡ a.top - 2 = h2.top ∙ same in
+        let u2 = going_to k.2.0 (with_register 14 (a.top - 2) t2) in
+        let f3 : Arrives C 1 t2 xs k.2.0 [] xs a3 = one a2 a3 t2 u2 xs k.0 (instr.Mov (RegReg 14 15)) k.2.0 h2 e2 k.2.1 (omega arith, omega arith, omega arith) (copy_act t2 14 15 k.2.0 ∙ ap (λ x. EndsIn stepped.Went (going_to k.2.0 (with_register 14 x t2))) v) (moved C a3 (with_register 14 (a.top - 2) t2) k.2.0 (base_held a2 t2 (a.top - 2) h2)) in
+        chain 1 1 t2 xs k.2.0 body a3 (entered G next a) f3 (λ t3 e3 h3.
+        let d : a3.top - G.size ≡ a.top - 2 - G.size = omega arith in
+        let u3 = going_to k.2.2.0 (with_register 15 (a.top - 2 - G.size) t3) in
+        subst (λ q. Arrives C 1 t3 xs q [] xs (entered G next a)) k.2.2.2
+        (one a3 (entered G next a) t3 u3 xs k.2.0 (instr.Two ISUB 15 (src.Imm G.size)) k.2.2.0 h3 e3 k.2.2.1 (omega arith, omega arith, omega arith) (less_act a3 t3 G.size k.2.2.0 (omega (arith, lo)) (omega (arith, hi)) h3 ∙ ap (λ x. EndsIn stepped.Went (going_to k.2.2.0 (with_register 15 x t3))) d) (moved C (entered G next a) (with_register 15 (a.top - 2 - G.size) t3) k.2.2.0 (top_held a3 t3 (a.top - 2 - G.size) h3))))))
+
+    -- ---- the way back
+
+    pub popbase_act : (a : Addr) (s : State) (next : ℕ) → a.top < 0x400000 → Held C a s → act (instr.One POP 14) next s ≡ EndsIn stepped.Went (going_to next (with_register 14 (a.memory a.top) (with_register 15 (a.top + 1) s)))
+    unfolding act
+    popbase_act a s next hi h =
+        let w = readable_word C a s a.top h (ram_readable C a.top hi) in
+        let u : add a.top 1 ≡ a.top + 1 = omega (arith, hi) in
+        rw (h.top, w, u) refl
+
+    pub ret_act : (a : Addr) (s : State) (next : ℕ) → a.top < 0x400000 → Held C a s → act (instr.Plain RET) next s ≡ EndsIn stepped.Went (going_to (a.memory a.top) (with_register 15 (a.top + 1) s))
+    unfolding act
+    ret_act a s next hi h =
+        let w = readable_word C a s a.top h (ram_readable C a.top hi) in
+        let u : add a.top 1 ≡ a.top + 1 = omega (arith, hi) in
+        rw (h.top, w, u) refl
+
+    -- from a function's end to the address that its call left
+    pub leaves : (a : Addr) (s : State) (xs : List ℕ) (pc e : ℕ) → a.base + 1 < 0x400000 → Held C a s → s.counter ≡ pc → Here pc frame_gone e → Arrives C 3 s xs (a.memory (a.base + 1)) [] xs (gone_back a)
+    leaves a s xs pc e hi h c k =
+        let a1 = record a { top = a.base } in
+        let a2 = record a { top = a.base + 1; base = a.memory a.base } in
+        let u1 = going_to k.0 (with_register 15 a.base s) in
+        let f1 : Arrives C 1 s xs k.0 [] xs a1 = one a a1 s u1 xs pc (instr.Mov (RegReg 15 14)) k.0 h c k.1 (omega arith, omega arith, omega arith) (copy_act s 15 14 k.0 ∙ ap (λ x. EndsIn stepped.Went (going_to k.0 (with_register 15 x s))) h.base) (moved C a1 (with_register 15 a.base s) k.0 (top_held a s a.base h)) in
+        chain 1 2 s xs k.0 (a.memory (a.base + 1)) a1 (gone_back a) f1 (λ t1 e1 h1.
+        let u2 = going_to k.2.0 (with_register 14 (a.memory a.base) (with_register 15 (a.base + 1) t1)) in
+        let f2 : Arrives C 1 t1 xs k.2.0 [] xs a2 = one a1 a2 t1 u2 xs k.0 (instr.One POP 14) k.2.0 h1 e1 k.2.1 (omega arith, omega arith, omega arith) (popbase_act a1 t1 k.2.0 (omega (arith, hi)) h1) (moved C a2 (with_register 14 (a.memory a.base) (with_register 15 (a.base + 1) t1)) k.2.0 (base_held (record a1 { top = a.base + 1 }) (with_register 15 (a.base + 1) t1) (a.memory a.base) (top_held a1 t1 (a.base + 1) h1))) in
+        chain 1 1 t1 xs k.2.0 (a.memory (a.base + 1)) a2 (gone_back a) f2 (λ t2 e2 h2.
+        let d : a.base + 1 + 1 ≡ a.base + 2 = omega arith in
+        let u3 = going_to (a.memory (a.base + 1)) (with_register 15 (a.base + 2) t2) in
+        one a2 (gone_back a) t2 u3 xs k.2.0 (instr.Plain RET) k.2.2.0 h2 e2 k.2.2.1 (omega arith, omega arith, omega arith) (ret_act a2 t2 k.2.2.0 (omega (arith, hi)) h2 ∙ ap (λ x. EndsIn stepped.Went (going_to (a.memory (a.base + 1)) (with_register 15 x t2))) d) (moved C (gone_back a) (with_register 15 (a.base + 2) t2) (a.memory (a.base + 1)) (top_held a2 t2 (a.base + 2) h2))))
+
+    -- ---- the whole call
+
+    pub passed_same : (ps args : List Where) (a : Addr) → ((all_passed F G ps args a).base ≡ a.base) × ((all_passed F G ps args a).top ≡ a.top)
+    passed_same [] args a = (refl, refl)
+    passed_same (p ∷ ps) [] a = (refl, refl)
+    passed_same (Reg q ∷ ps) (x ∷ args) a = passed_same ps args a
+    passed_same (Slot k ∷ ps) (x ∷ args) a = passed_same ps args (passed F G (Slot k) x a)
+
+    pub all_pushed_top : (ps args : List Where) (a : Addr) → length args ≡ length ps → in_registers ps ≤ a.top → (all_pushed F ps args a).top + in_registers ps ≡ a.top
+    all_pushed_top [] args a n le = omega arith
+    all_pushed_top (p ∷ ps) [] a n le = absurd (omega (arith, n))
+    all_pushed_top (Reg q ∷ ps) (x ∷ args) a n le = let r = all_pushed_top ps args (pushed F (Reg q) x a) (omega (arith, n)) (omega (arith, le)) in omega (arith, r, le)
+    all_pushed_top (Slot k ∷ ps) (x ∷ args) a n le = all_pushed_top ps args a (omega (arith, n)) le
+
+    few_steps : (ps : List Where) → slot_steps ps + (2 * in_registers ps + in_registers ps) ≤ 3 * length ps
+    few_steps [] = omega arith
+    few_steps (Reg q ∷ ps) = let r = few_steps ps in omega (arith, r)
+    few_steps (Slot k ∷ ps) = let r = few_steps ps in omega (arith, r)
+
+    -- from a call to the body of its function, in at most three steps for each argument and four more
+    pub calls : (a : Addr) (s : State) (xs : List ℕ) (pc call next begins body : ℕ) (ps args : List Where) → Roomy a → length args ≡ length ps → in_registers ps ≤ a.top → AllOf (Good G) ps → AllOf (Good F) args → Held C a s → s.counter ≡ pc →
+        Here pc (args_items F G ps args) call → Line C.words call (instr.Go CALL (src.Imm begins)) next → Here begins (frame_made G.size) body → Arrives C (3 * length args + 4) s xs body [] xs (called F G ps args next a)
+    calls a s xs pc call next begins body ps args r n le gp gx h c k l m =
+        let d1 = part (slot_args F G ps args) (pushed_args F ps args ++ popped_args ps) pc call k in
+        let d2 = part (pushed_args F ps args) (popped_args ps) d1.0 call d1.2 in
+        let a1 = all_passed F G ps args a in
+        let a2 = all_pushed F ps args a1 in
+        let a3 = all_popped ps a2 in
+        let same = passed_same ps args a in
+        let t2 = all_pushed_top ps args a1 n (omega (arith, le, same.1)) in
+        let t3 = popped_top ps a2 in
+        let f = chain (slot_steps ps) (2 * in_registers ps + (in_registers ps + 4)) s xs d1.0 body a1 (entered G next a3) (all_passes a s xs pc d1.0 ps args r gp gx h c d1.1) (λ s1 c1 h1.
+        chain (2 * in_registers ps) (in_registers ps + 4) s1 xs d2.0 body a2 (entered G next a3) (all_pushes a1 s1 xs d1.0 d2.0 ps args (roomy a a1 same.0 r.room) (omega (arith, le, same.1)) (omega (arith, same.1, r.above)) gx h1 c1 d2.1) (λ s2 c2 h2.
+        chain (in_registers ps) 4 s2 xs call body a3 (entered G next a3) (all_pops a2 s2 xs d2.0 call ps gp (omega (arith, t2, same.1, r.above)) h2 c2 d2.2) (λ s3 c3 h3.
+        enters a3 s3 xs call next begins body (omega (arith, t3, t2, same.1, r.below)) (omega (arith, t3, t2, same.1, r.above)) h3 c3 l m))) in
+        record { steps = f.steps; to = f.to; by = f.by; at = f.at; held = f.held; few = omega (arith, f.few, few_steps ps, n) }

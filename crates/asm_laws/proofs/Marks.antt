@@ -1,0 +1,380 @@
+-- The labels of emitted items differ.
+use Rattle.std.proofs.Common.{◌≡◌, ◌≢◌, ℕ, ◌+◌, ◌^◌, ◌<◌, ◌≤◌, Bool, true, false, cond, List, [], ◌∷◌, ◌++◌, length, map, Option, Some, None, refl, sym, ap, ◌∙◌, subst, arith, append_assoc, true≢false}
+use Rattle.std.specs.Prelude.{bytes_eq, ◌||◌}
+use Rattle.std.specs.List.{list_any}
+use Rattle.std.proofs.lemmas.Slice.Eq.{bytes_eq-Decides}
+use Rattle.v32_isa.specs.declared.instruction.One.{One as OneOf}
+use Rattle.v32_isa.specs.declared.instruction.Two.{Two as TwoOf}
+use Rattle.v32_isa.specs.declared.instruction.Two.TheVariants.{IADD, ISUB}
+use Rattle.v32_isa.specs.declared.instruction.Instr.TheVariants as instr
+use Rattle.asm_items.specs.declared.item.AsmItem.{AsmItem}
+use Rattle.asm_items.specs.declared.item.AsmItem.TheVariants as item
+use Rattle.assembler.specs.Faults.{twice_from}
+use Rattle.mid_code.specs.declared.placed.Where.{Where}
+use Rattle.mid_code.specs.declared.placed.Where.TheVariants.{Reg, Slot}
+use Rattle.mid_code.specs.Code.{OpT, ConstO, NullO, MoveO, OneO, TwoO, GlobalO, LocalO, LiteralO, CardO, StepO, ApartO, PtrTestO, LoadO, StoreO, FreshO, EndO, InO, OutO, WaitO, HaltO, NodesT, Stop, Do, Call, Choose, Block, Loop, Leave, Again, Return, FunctionT, CodeT}
+use Rattle.asm_laws.specs.Names.{literal_label}
+use Rattle.asm_laws.specs.Operations.{Frame, Whole, register, keep, fetches, keeps_some, is_in, hand, brings, takes, aim, lays, moves, changes, is_direct, in_place, apart, computes, slot_arg, slot_args, pushed_arg, pushed_args, popped_arg, popped_args, args_items, call_items, op_items, giving, start_frame, opening_items, literal_items, literals_items}
+use Rattle.asm_laws.specs.Emitted.{labels, functions_labels, enclosing, jump, jump_unless, mark, choice, enclosed, returning, code_items, entry_items, exit_items, function_items, functions_items, closing_items, start_items, program_items, labels_of}
+use Rattle.asm_laws.proofs.LabelKinds.{Differ, Kind, Jump, Fun, Text, name_of, Valid, kind_same, Range, Box, Within, Aside, jumps, jumps_within, jumps_below, jumps_above}
+
+-- ---- labels of items
+
+abbrev pub Names : (List ℕ → Type 0) → List AsmItem → Type 0
+Names P [] = Unit {0}
+Names P (item.Label m ∷ xs) = P m × Names P xs
+Names P (item.Op i ∷ xs) = Names P xs
+Names P (item.Integer w ∷ xs) = Names P xs
+Names P (item.Pointer m ∷ xs) = Names P xs
+
+-- no label stands twice
+abbrev pub Distinct : List AsmItem → Type 0
+Distinct [] = Unit {0}
+Distinct (item.Label m ∷ xs) = Names (λ k. m ≢ k) xs × Distinct xs
+Distinct (item.Op i ∷ xs) = Distinct xs
+Distinct (item.Integer w ∷ xs) = Distinct xs
+Distinct (item.Pointer m ∷ xs) = Distinct xs
+
+names_append : (P : List ℕ → Type 0) (a b : List AsmItem) → Names P a → Names P b → Names P (a ++ b)
+names_append P [] b h g = g
+names_append P (item.Label m ∷ a) b h g = (h.0, names_append P a b h.1 g)
+names_append P (item.Op i ∷ a) b h g = names_append P a b h g
+names_append P (item.Integer w ∷ a) b h g = names_append P a b h g
+names_append P (item.Pointer m ∷ a) b h g = names_append P a b h g
+
+names_more : (P Q : List ℕ → Type 0) → ((m : List ℕ) → P m → Q m) → (a : List AsmItem) → Names P a → Names Q a
+names_more P Q f [] h = tt
+names_more P Q f (item.Label m ∷ a) h = (f m h.0, names_more P Q f a h.1)
+names_more P Q f (item.Op i ∷ a) h = names_more P Q f a h
+names_more P Q f (item.Integer w ∷ a) h = names_more P Q f a h
+names_more P Q f (item.Pointer m ∷ a) h = names_more P Q f a h
+
+distinct_append : (P Q : List ℕ → Type 0) → ((m k : List ℕ) → P m → Q k → m ≢ k) → (a b : List AsmItem) → Names P a → Distinct a → Names Q b → Distinct b → Distinct (a ++ b)
+distinct_append P Q f [] b na da nb db = db
+distinct_append P Q f (item.Label m ∷ a) b na da nb db = (names_append (λ k. m ≢ k) a b da.0 (names_more Q (λ k. m ≢ k) (λ k q. f m k na.0 q) b nb), distinct_append P Q f a b na.1 da.1 nb db)
+distinct_append P Q f (item.Op i ∷ a) b na da nb db = distinct_append P Q f a b na da nb db
+distinct_append P Q f (item.Integer w ∷ a) b na da nb db = distinct_append P Q f a b na da nb db
+distinct_append P Q f (item.Pointer m ∷ a) b na da nb db = distinct_append P Q f a b na da nb db
+
+-- no labels
+abbrev Bare : List AsmItem → Type 0
+Bare xs = Names (λ m. ⊥) xs
+
+bare_distinct : (xs : List AsmItem) → Bare xs → Distinct xs
+bare_distinct [] h = tt
+bare_distinct (item.Label m ∷ xs) h = absurd h.0
+bare_distinct (item.Op i ∷ xs) h = bare_distinct xs h
+bare_distinct (item.Integer w ∷ xs) h = bare_distinct xs h
+bare_distinct (item.Pointer m ∷ xs) h = bare_distinct xs h
+
+module _ (W : Whole) (differ : Differ W.names) where
+  abbrev pub Of : Range → List ℕ → Type 0
+  Of r m = (x : Kind) × Valid W.names x × (m ≡ name_of W.names x) × Box r x
+
+  pub record Marks (r : Range) (xs : List AsmItem) : Type 0 where
+    pub names : Names (Of r) xs
+    pub distinct : Distinct xs
+
+  marks_both : (r s t : Range) (a b : List AsmItem) → Within r t → Within s t → Aside r s → Marks r a → Marks s b → Marks t (a ++ b)
+  marks_both r s t a b wr ws off ma mb = record {
+    names = names_append (Of t) a b (names_more (Of r) (Of t) (λ m h. (h.0, h.1, h.2, wr h.0 h.3)) a ma.names) (names_more (Of s) (Of t) (λ m h. (h.0, h.1, h.2, ws h.0 h.3)) b mb.names);
+    distinct = distinct_append (Of r) (Of s) (λ m k p q e. off p.0 p.3 (subst (Box s) (sym (kind_same W.names p.0 q.0 differ p.1 q.1 (sym p.2 ∙ e ∙ q.2))) q.3)) a b ma.names ma.distinct mb.names mb.distinct;
+  }
+
+  marks_bare : (r : Range) (xs : List AsmItem) → Bare xs → Marks r xs
+  marks_bare r xs h = record { names = names_more (λ m. ⊥) (Of r) (λ m x. absurd x) xs h; distinct = bare_distinct xs h }
+
+  marks_more : (r s : Range) (xs : List AsmItem) → Within r s → Marks r xs → Marks s xs
+  marks_more r s xs w m = record { names = names_more (Of r) (Of s) (λ n h. (h.0, h.1, h.2, w h.0 h.3)) xs m.names; distinct = m.distinct }
+
+  -- items without labels before others
+  bare_then : (r : Range) (a b : List AsmItem) → Bare a → Marks r b → Marks r (a ++ b)
+  bare_then r a b h m = record { names = names_append (Of r) a b (names_more (λ k. ⊥) (Of r) (λ k x. absurd x) a h) m.names; distinct = distinct_append (λ k. ⊥) (Of r) (λ x k p q. absurd p) a b h (bare_distinct a h) m.names m.distinct }
+
+  then_bare : (r : Range) (a b : List AsmItem) → Marks r a → Bare b → Marks r (a ++ b)
+  then_bare r a b m h = record { names = names_append (Of r) a b m.names (names_more (λ k. ⊥) (Of r) (λ k x. absurd x) b h); distinct = distinct_append (Of r) (λ k. ⊥) (λ x k p q. absurd q) a b m.names m.distinct h (bare_distinct b h) }
+
+  mark_one : (n : ℕ) → n < 2 ^ 32 → Marks (jumps n (n + 1)) (mark n ∷ [])
+  mark_one n lt = record { names = ((Jump n, lt, refl, (omega arith, omega arith)), tt); distinct = (tt, tt) }
+
+  -- two parts with neighbouring ranges of labels, in either order
+  rising : (lo mid hi : ℕ) (a b : List AsmItem) → lo ≤ mid → mid ≤ hi → Marks (jumps lo mid) a → Marks (jumps mid hi) b → Marks (jumps lo hi) (a ++ b)
+  rising lo mid hi a b x y ma mb = marks_both (jumps lo mid) (jumps mid hi) (jumps lo hi) a b (jumps_within lo mid lo hi (omega arith) y) (jumps_within mid hi lo hi x (omega arith)) (jumps_below lo mid mid hi (omega arith)) ma mb
+
+  falling : (lo mid hi : ℕ) (a b : List AsmItem) → lo ≤ mid → mid ≤ hi → Marks (jumps mid hi) a → Marks (jumps lo mid) b → Marks (jumps lo hi) (a ++ b)
+  falling lo mid hi a b x y ma mb = marks_both (jumps mid hi) (jumps lo mid) (jumps lo hi) a b (jumps_within mid hi lo hi x (omega arith)) (jumps_within lo mid lo hi (omega arith) y) (jumps_above lo mid mid hi (omega arith)) ma mb
+
+  -- ---- operations have none
+
+  some_bare : (F : Frame) (t : Option Where) → Bare (keeps_some F t)
+  some_bare F None = tt
+  some_bare F (Some t) = tt
+
+  brings_bare : (F : Frame) (p : Where) (r : ℕ) → Bare (brings F p r)
+  brings_bare F (Reg q) r = tt
+  brings_bare F (Slot k) r = tt
+
+  brought_bare : (F : Frame) (p : Where) (r : ℕ) (xs : List AsmItem) → Bare xs → Bare (brings F p r ++ xs)
+  brought_bare F p r xs h = names_append (λ m. ⊥) (brings F p r) xs (brings_bare F p r) h
+
+  one_of_both : (b : Bool) (xs ys : List AsmItem) → Bare xs → Bare ys → Bare (cond b xs ys)
+  one_of_both true xs ys h g = h
+  one_of_both false xs ys h g = g
+
+  takes_bare : (F : Frame) (p : Where) (m : ℕ) → Bare (takes F p m)
+  takes_bare F p m = one_of_both (is_in p m) [] (fetches F p m ∷ []) tt tt
+
+  lays_bare : (F : Frame) (t : Where) → Bare (lays F t)
+  lays_bare F (Reg q) = tt
+  lays_bare F (Slot k) = tt
+
+  moves_bare : (F : Frame) (t a : Where) → Bare (moves F t a)
+  moves_bare F t (Reg q) = one_of_both (is_in t (register q)) [] (item.Op (keep F t (register q)) ∷ []) tt tt
+  moves_bare F t (Slot k) = lays_bare F t
+
+  changes_bare : (F : Frame) (o : OneOf) (t a : Where) → Bare (changes F o t a)
+  changes_bare F o t a = names_append (λ m. ⊥) (takes F a (aim t)) (item.Op (instr.One o (aim t)) ∷ lays F t) (takes_bare F a (aim t)) (lays_bare F t)
+
+  computes_bare : (F : Frame) (o : TwoOf) (t a b : Where) → Bare (computes F o t a b)
+  computes_bare F o t a b =
+      one_of_both (is_direct o t b) (in_place F o (aim t) a b) (apart F o t a b)
+      (names_append (λ m. ⊥) (takes F a (aim t)) _ (takes_bare F a (aim t)) (brought_bare F b 10 _ tt)) (brought_bare F b 10 _ tt)
+
+  slot_bare : (F G : Frame) (p a : Where) → Bare (slot_arg F G p a)
+  slot_bare F G (Reg q) a = tt
+  slot_bare F G (Slot k) a = brought_bare F a 9 _ tt
+
+  pushed_bare : (F : Frame) (p a : Where) → Bare (pushed_arg F p a)
+  pushed_bare F (Reg q) a = brought_bare F a 9 _ tt
+  pushed_bare F (Slot k) a = tt
+
+  popped_bare : (p : Where) → Bare (popped_arg p)
+  popped_bare (Reg q) = tt
+  popped_bare (Slot k) = tt
+
+  slots_bare : (F G : Frame) (ps args : List Where) → Bare (slot_args F G ps args)
+  slots_bare F G [] args = tt
+  slots_bare F G (p ∷ ps) [] = tt
+  slots_bare F G (p ∷ ps) (a ∷ args) = names_append (λ m. ⊥) (slot_arg F G p a) (slot_args F G ps args) (slot_bare F G p a) (slots_bare F G ps args)
+
+  pushes_bare : (F : Frame) (ps args : List Where) → Bare (pushed_args F ps args)
+  pushes_bare F [] args = tt
+  pushes_bare F (p ∷ ps) [] = tt
+  pushes_bare F (p ∷ ps) (a ∷ args) = names_append (λ m. ⊥) (pushed_arg F p a) (pushed_args F ps args) (pushed_bare F p a) (pushes_bare F ps args)
+
+  pops_bare : (ps : List Where) → Bare (popped_args ps)
+  pops_bare [] = tt
+  pops_bare (p ∷ ps) = names_append (λ m. ⊥) (popped_args ps) (popped_arg p) (pops_bare ps) (popped_bare p)
+
+  args_bare : (F G : Frame) (ps args : List Where) → Bare (args_items F G ps args)
+  args_bare F G ps args = names_append (λ m. ⊥) (slot_args F G ps args) (pushed_args F ps args ++ popped_args ps) (slots_bare F G ps args) (names_append (λ m. ⊥) (pushed_args F ps args) (popped_args ps) (pushes_bare F ps args) (pops_bare ps))
+
+  op_bare : (F : Frame) (o : OpT Where) → Bare (op_items W F o)
+  unfolding op_items
+  op_bare F (ConstO t n) = lays_bare F t
+  op_bare F (NullO t) = lays_bare F t
+  op_bare F (MoveO t a) = moves_bare F t a
+  op_bare F (OneO o t a) = changes_bare F o t a
+  op_bare F (TwoO o t a b) = computes_bare F o t a b
+  op_bare F (GlobalO t k) = lays_bare F t
+  op_bare F (LocalO t k) = lays_bare F t
+  op_bare F (LiteralO t k) = lays_bare F t
+  op_bare F (CardO t) = lays_bare F t
+  op_bare F (StepO t p n) = computes_bare F IADD t p n
+  op_bare F (ApartO t p q) = computes_bare F ISUB t p q
+  op_bare F (PtrTestO o t p q) = computes_bare F o t p q
+  op_bare F (LoadO t p) = brought_bare F p 9 _ (lays_bare F t)
+  op_bare F (StoreO p a) = brought_bare F p 9 _ (brought_bare F a 10 _ tt)
+  op_bare F (FreshO k) = tt
+  op_bare F (EndO k) = tt
+  op_bare F (InO t p) = lays_bare F t
+  op_bare F (OutO p a) = brought_bare F a 9 _ tt
+  op_bare F WaitO = tt
+  op_bare F HaltO = tt
+
+  call_bare : (F : Frame) (t : Option Where) (g : ℕ) (args : List Where) → Bare (call_items W F t g args)
+  call_bare F t g args = names_append (λ m. ⊥) (args_items F (W.frames g) (W.params g) args) _ (args_bare F (W.frames g) (W.params g) args) (some_bare F t)
+
+  giving_bare : (F : Frame) (p : Option Where) → Bare (giving F p)
+  giving_bare F None = tt
+  giving_bare F (Some p) = tt
+
+  -- ---- nodes
+
+  choice_marks : (F : Frame) (p : Where) (n m e : ℕ) (a b : List AsmItem) → n + 1 ≤ m → m + 1 ≤ e → e ≤ 2 ^ 32 → Marks (jumps (n + 1) m) a → Marks (jumps (m + 1) e) b → Marks (jumps n e) (choice F p n m a b)
+  choice_marks F p n m e a b x y few ma mb =
+      let one = bare_then (jumps n (n + 1)) (jump m ∷ []) (mark n ∷ []) tt (mark_one n (omega arith)) in
+      let first = falling n (n + 1) m a (jump m ∷ mark n ∷ []) (omega arith) x ma one in
+      let second = falling m (m + 1) e b (mark m ∷ []) (omega arith) y mb (mark_one m (omega arith)) in
+      let inner = a ++ jump m ∷ mark n ∷ [] in
+      subst (Marks (jumps n e)) (sym (append_assoc (brings F p 9) (jump_unless (hand p 9) n ∷ inner) (b ++ mark m ∷ [])))
+      (bare_then (jumps n e) (brings F p 9) (jump_unless (hand p 9) n ∷ (inner ++ (b ++ mark m ∷ []))) (brings_bare F p 9)
+      (bare_then (jumps n e) (jump_unless (hand p 9) n ∷ []) (inner ++ (b ++ mark m ∷ [])) tt (rising n m e inner (b ++ mark m ∷ []) (omega arith) (omega arith) first second)))
+
+  enclosed_marks : (n e : ℕ) (a : List AsmItem) → n + 2 ≤ e → e ≤ 2 ^ 32 → Marks (jumps (n + 2) e) a → Marks (jumps n e) (enclosed n a)
+  enclosed_marks n e a x few ma =
+      let here : n + 1 + 1 ≡ n + 2 = omega arith in
+      let last = subst (λ h. Marks (jumps (n + 1) h) (mark (n + 1) ∷ [])) here (mark_one (n + 1) (omega arith)) in
+      rising n (n + 1) e (mark n ∷ []) (a ++ mark (n + 1) ∷ []) (omega arith) (omega arith) (mark_one n (omega arith)) (falling (n + 1) (n + 2) e a (mark (n + 1) ∷ []) (omega arith) x ma last)
+
+  module _ (F : Frame) (out : ℕ) where
+    pub code_marks : (c : NodesT Where) (ls : List ℕ) (n e : ℕ) → n + labels c ≡ e → e ≤ 2 ^ 32 → Marks (jumps n e) (code_items W F out ls n c)
+    code_marks Stop ls n e is few = marks_bare (jumps n e) [] tt
+    code_marks (Do o c) ls n e is few = bare_then (jumps n e) (op_items W F o) (code_items W F out ls n c) (op_bare F o) (code_marks c ls n e is few)
+    code_marks (Call t g args c) ls n e is few = bare_then (jumps n e) (call_items W F t g args) (code_items W F out ls n c) (call_bare F t g args) (code_marks c ls n e is few)
+    code_marks (Choose p a b c) ls n e is few =
+        let m = n + 1 + labels a in
+        let k = n + (2 + labels a + labels b) in
+        rising n k e (choice F p n m (code_items W F out ls (n + 1) a) (code_items W F out ls (m + 1) b)) (code_items W F out ls k c) (omega arith) (omega (arith, is))
+        (choice_marks F p n m k (code_items W F out ls (n + 1) a) (code_items W F out ls (m + 1) b) (omega arith) (omega arith) (omega (arith, is, few))
+        (code_marks a ls (n + 1) m (omega arith) (omega (arith, is, few))) (code_marks b ls (m + 1) k (omega arith) (omega (arith, is, few))))
+        (code_marks c ls k e (omega (arith, is)) few)
+    code_marks (Block b c) ls n e is few =
+        let k = n + (2 + labels b) in
+        rising n k e (enclosed n (code_items W F out (ls ++ n ∷ []) (n + 2) b)) (code_items W F out ls k c) (omega arith) (omega (arith, is))
+        (enclosed_marks n k (code_items W F out (ls ++ n ∷ []) (n + 2) b) (omega arith) (omega (arith, is, few)) (code_marks b (ls ++ n ∷ []) (n + 2) k (omega arith) (omega (arith, is, few))))
+        (code_marks c ls k e (omega (arith, is)) few)
+    code_marks (Loop b c) ls n e is few =
+        let k = n + (2 + labels b) in
+        rising n k e (enclosed n (code_items W F out (ls ++ n ∷ []) (n + 2) b)) (code_items W F out ls k c) (omega arith) (omega (arith, is))
+        (enclosed_marks n k (code_items W F out (ls ++ n ∷ []) (n + 2) b) (omega arith) (omega (arith, is, few)) (code_marks b (ls ++ n ∷ []) (n + 2) k (omega arith) (omega (arith, is, few))))
+        (code_marks c ls k e (omega (arith, is)) few)
+    code_marks (Leave k c) ls n e is few = bare_then (jumps n e) (jump _ ∷ []) (code_items W F out ls n c) tt (code_marks c ls n e is few)
+    code_marks (Again k c) ls n e is few = bare_then (jumps n e) (jump (enclosing ls k) ∷ []) (code_items W F out ls n c) tt (code_marks c ls n e is few)
+    code_marks (Return p c) ls n e is few = bare_then (jumps n e) (returning F p out) (code_items W F out ls n c) (names_append (λ m. ⊥) (giving F p) (jump out ∷ []) (giving_bare F p) tt) (code_marks c ls n e is few)
+
+  -- ---- the whole program
+
+  abbrev pub span : (n e f g k j : ℕ) → Range
+  span n e f g k j = record { j0 = n; j1 = e; f0 = f; f1 = g; t0 = k; t1 = j }
+
+  closing_marks : (main : ℕ) → Marks (jumps 0 1) (closing_items W main)
+  closing_marks main = let one : 0 + 1 ≡ 1 = omega arith in subst (λ h. Marks (jumps 0 h) (closing_items W main)) one (then_bare (jumps 0 (0 + 1)) (mark 0 ∷ []) (item.Op _ ∷ item.Op _ ∷ []) (mark_one 0 (omega arith)) tt)
+
+  start_marks : (main : ℕ) (body : NodesT Where) (e : ℕ) → 1 + labels body ≡ e → e ≤ 2 ^ 32 → Marks (jumps 0 e) (start_items W main body)
+  start_marks main body e is few =
+      bare_then (jumps 0 e) opening_items (code_items W start_frame 0 [] 1 body ++ closing_items W main) tt
+      (falling 0 1 e (code_items W start_frame 0 [] 1 body) (closing_items W main) (omega arith) (omega (arith, is)) (code_marks start_frame 0 body [] 1 e is few) (closing_marks main))
+
+  entry_marks : (f : ℕ) → f < length W.names → Marks (span 0 0 f (f + 1) 0 0) (entry_items W f (W.frames f))
+  entry_marks f lt = record { names = ((Fun f, lt, refl, (omega arith, omega arith)), tt); distinct = (tt, tt) }
+
+  exit_marks : (n : ℕ) → n < 2 ^ 32 → Marks (jumps n (n + 1)) (exit_items n)
+  exit_marks n lt = then_bare (jumps n (n + 1)) (mark n ∷ []) _ (mark_one n lt) tt
+
+  function_marks : (f n e : ℕ) (body : NodesT Where) → f < length W.names → n + 1 + labels body ≡ e → e ≤ 2 ^ 32 → Marks (span n e f (f + 1) 0 0) (function_items W f n body)
+  function_marks f n e body lt is few =
+      marks_both (span 0 0 f (f + 1) 0 0) (jumps n e) (span n e f (f + 1) 0 0) (entry_items W f (W.frames f)) (code_items W (W.frames f) n [] (n + 1) body ++ exit_items n) left right apart (entry_marks f lt)
+      (falling n (n + 1) e (code_items W (W.frames f) n [] (n + 1) body) (exit_items n) (omega arith) (omega (arith, is)) (code_marks (W.frames f) n body [] (n + 1) e is few) (exit_marks n (omega (arith, is, few))))
+    where
+      left : Within (span 0 0 f (f + 1) 0 0) (span n e f (f + 1) 0 0)
+      left (Jump k) h = (omega (arith, h), omega (arith, h))
+      left (Fun k) h = (omega (arith, h), omega (arith, h))
+      left (Text k) h = (omega (arith, h), omega (arith, h))
+
+      right : Within (jumps n e) (span n e f (f + 1) 0 0)
+      right (Jump k) h = (omega (arith, h), omega (arith, h))
+      right (Fun k) h = (omega (arith, h), omega (arith, h))
+      right (Text k) h = (omega (arith, h), omega (arith, h))
+
+      apart : Aside (span 0 0 f (f + 1) 0 0) (jumps n e)
+      apart (Jump k) h g = omega (arith, h)
+      apart (Fun k) h g = omega (arith, g)
+      apart (Text k) h g = omega (arith, g)
+
+  functions_marks : (f j n e : ℕ) (gs : List (FunctionT Where)) → f + length gs ≡ j → j ≤ length W.names → n + functions_labels gs ≡ e → e ≤ 2 ^ 32 → Marks (span n e f j 0 0) (functions_items W f n gs)
+  functions_marks f j n e [] count named is few = marks_bare (span n e f j 0 0) [] tt
+  functions_marks f j n e (g ∷ gs) count named is few =
+      marks_both (span n m f (f + 1) 0 0) (span m e (f + 1) j 0 0) (span n e f j 0 0) (function_items W f n g.body) (functions_items W (f + 1) m gs) left right apart
+      (function_marks f n m g.body (omega (arith, count, named)) refl (omega (arith, is, few))) (functions_marks (f + 1) j m e gs (omega (arith, count)) named (omega (arith, is)) few)
+    where
+      m : ℕ
+      m = n + 1 + labels g.body
+
+      left : Within (span n (n + 1 + labels g.body) f (f + 1) 0 0) (span n e f j 0 0)
+      left (Jump k) h = (omega (arith, h), omega (arith, h, is))
+      left (Fun k) h = (omega (arith, h), omega (arith, h, count))
+      left (Text k) h = (omega (arith, h), omega (arith, h))
+
+      right : Within (span (n + 1 + labels g.body) e (f + 1) j 0 0) (span n e f j 0 0)
+      right (Jump k) h = (omega (arith, h), omega (arith, h))
+      right (Fun k) h = (omega (arith, h), omega (arith, h))
+      right (Text k) h = (omega (arith, h), omega (arith, h))
+
+      apart : Aside (span n (n + 1 + labels g.body) f (f + 1) 0 0) (span (n + 1 + labels g.body) e (f + 1) j 0 0)
+      apart (Jump k) h i = omega (arith, h, i)
+      apart (Fun k) h i = omega (arith, h, i)
+      apart (Text k) h i = omega (arith, h, i)
+
+  integers_bare : (bytes : List ℕ) → Bare (map item.Integer bytes)
+  integers_bare [] = tt
+  integers_bare (b ∷ bytes) = integers_bare bytes
+
+  literal_marks : (k : ℕ) (text : List ℕ) → k < 2 ^ 32 → Marks (span 0 0 0 0 k (k + 1)) (literal_items k text)
+  literal_marks k text lt =
+      then_bare (span 0 0 0 0 k (k + 1)) (item.Label (literal_label k) ∷ []) (map item.Integer text ++ item.Integer 0 ∷ [])
+      (record { names = ((Text k, lt, refl, (omega arith, omega arith)), tt); distinct = (tt, tt) }) (names_append (λ m. ⊥) (map item.Integer text) (item.Integer 0 ∷ []) (integers_bare text) tt)
+
+  literals_marks : (k j : ℕ) (texts : List (List ℕ)) → k + length texts ≡ j → j ≤ 2 ^ 32 → Marks (span 0 0 0 0 k j) (literals_items k texts)
+  literals_marks k j [] count few = marks_bare (span 0 0 0 0 k j) [] tt
+  literals_marks k j (text ∷ texts) count few =
+      marks_both (span 0 0 0 0 k (k + 1)) (span 0 0 0 0 (k + 1) j) (span 0 0 0 0 k j) (literal_items k text) (literals_items (k + 1) texts) left right apart
+      (literal_marks k text (omega (arith, count, few))) (literals_marks (k + 1) j texts (omega (arith, count)) few)
+    where
+      left : Within (span 0 0 0 0 k (k + 1)) (span 0 0 0 0 k j)
+      left (Jump i) h = (omega (arith, h), omega (arith, h))
+      left (Fun i) h = (omega (arith, h), omega (arith, h))
+      left (Text i) h = (omega (arith, h), omega (arith, h, count))
+
+      right : Within (span 0 0 0 0 (k + 1) j) (span 0 0 0 0 k j)
+      right (Jump i) h = (omega (arith, h), omega (arith, h))
+      right (Fun i) h = (omega (arith, h), omega (arith, h))
+      right (Text i) h = (omega (arith, h), omega (arith, h))
+
+      apart : Aside (span 0 0 0 0 k (k + 1)) (span 0 0 0 0 (k + 1) j)
+      apart (Jump i) h g = omega (arith, h)
+      apart (Fun i) h g = omega (arith, h)
+      apart (Text i) h g = omega (arith, h, g)
+
+  pub program_marks : (x : CodeT Where) → length x.functions ≤ length W.names → labels_of x ≤ 2 ^ 32 → length x.literals ≤ 2 ^ 32 → Marks (span 0 (labels_of x) 0 (length x.functions) 0 (length x.literals)) (program_items W x)
+  program_marks x named few fewer =
+      marks_both (jumps 0 s) (span s e 0 (length x.functions) 0 (length x.literals)) (span 0 e 0 (length x.functions) 0 (length x.literals)) (start_items W x.main x.start.body) (functions_items W 0 s x.functions ++ literals_items 0 x.literals) left right apart
+      (start_marks x.main x.start.body s refl (omega (arith, few)))
+      (marks_both (span s e 0 (length x.functions) 0 0) (span 0 0 0 0 0 (length x.literals)) (span s e 0 (length x.functions) 0 (length x.literals)) (functions_items W 0 s x.functions) (literals_items 0 x.literals) left2 right2 apart2
+      (functions_marks 0 (length x.functions) s e x.functions (omega arith) named refl few) (literals_marks 0 (length x.literals) x.literals (omega arith) fewer))
+    where
+      s : ℕ
+      s = 1 + labels x.start.body
+
+      e : ℕ
+      e = labels_of x
+
+      left : Within (jumps 0 (1 + labels x.start.body)) (span 0 (labels_of x) 0 (length x.functions) 0 (length x.literals))
+      left (Jump i) h = (omega (arith, h), omega (arith, h))
+      left (Fun i) h = (omega (arith, h), omega (arith, h))
+      left (Text i) h = (omega (arith, h), omega (arith, h))
+
+      right : Within (span (1 + labels x.start.body) (labels_of x) 0 (length x.functions) 0 (length x.literals)) (span 0 (labels_of x) 0 (length x.functions) 0 (length x.literals))
+      right (Jump i) h = (omega (arith, h), omega (arith, h))
+      right (Fun i) h = (omega (arith, h), omega (arith, h))
+      right (Text i) h = (omega (arith, h), omega (arith, h))
+
+      apart : Aside (jumps 0 (1 + labels x.start.body)) (span (1 + labels x.start.body) (labels_of x) 0 (length x.functions) 0 (length x.literals))
+      apart (Jump i) h g = omega (arith, h, g)
+      apart (Fun i) h g = omega (arith, h)
+      apart (Text i) h g = omega (arith, h)
+
+      left2 : Within (span (1 + labels x.start.body) (labels_of x) 0 (length x.functions) 0 0) (span (1 + labels x.start.body) (labels_of x) 0 (length x.functions) 0 (length x.literals))
+      left2 (Jump i) h = (omega (arith, h), omega (arith, h))
+      left2 (Fun i) h = (omega (arith, h), omega (arith, h))
+      left2 (Text i) h = (omega (arith, h), omega (arith, h))
+
+      right2 : Within (span 0 0 0 0 0 (length x.literals)) (span (1 + labels x.start.body) (labels_of x) 0 (length x.functions) 0 (length x.literals))
+      right2 (Jump i) h = (omega (arith, h), omega (arith, h))
+      right2 (Fun i) h = (omega (arith, h), omega (arith, h))
+      right2 (Text i) h = (omega (arith, h), omega (arith, h))
+
+      apart2 : Aside (span (1 + labels x.start.body) (labels_of x) 0 (length x.functions) 0 0) (span 0 0 0 0 0 (length x.literals))
+      apart2 (Jump i) h g = omega (arith, g)
+      apart2 (Fun i) h g = omega (arith, g)
+      apart2 (Text i) h g = omega (arith, h)

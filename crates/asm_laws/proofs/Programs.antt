@@ -1,0 +1,126 @@
+-- A program that stands among the words is linked.
+use Rattle.std.proofs.Common.{◌≡◌, ℕ, Bool, true, false, List, [], ◌∷◌, ◌++◌, length, Option, Some, None, refl, sym, ap, ◌∙◌, subst}
+use Rattle.std.specs.Prelude.{is_some, slice_get, option_map}
+use Rattle.v32_isa.specs.declared.instruction.One.{One}
+use Rattle.v32_isa.specs.declared.instruction.One.TheVariants.{CIB, NOT, BNOT, ISGN, IABS}
+use Rattle.obj_mem.specs.Runs.{IsCard}
+use Rattle.mid_code.specs.declared.placed.Where.{Where}
+use Rattle.mid_code.specs.Code.{OpT, ConstO, NullO, MoveO, OneO, TwoO, GlobalO, LocalO, LiteralO, CardO, StepO, ApartO, PtrTestO, LoadO, StoreO, FreshO, EndO, InO, OutO, WaitO, HaltO, FunctionT, NodesT, Stop, Do, Call, Choose, Block, Loop, Leave, Again, Return}
+use Rattle.mid_code.specs.Invariants.{IsOne, IsOp, AreNodes, NodeNames, Names, CallsNone}
+use Rattle.mid_code.specs.Runs.{placed_runs}
+use Rattle.mid_code.specs.Agrees.{AgreesWithin}
+use Rattle.either.specs.declared.Either.TheVariants.{Right}
+use Rattle.v32_isa.specs.declared.instruction.Go.TheVariants.{CALL}
+use Rattle.v32_isa.specs.declared.instruction.Src.TheVariants as src
+use Rattle.v32_isa.specs.declared.instruction.Mov.TheVariants.{RegReg}
+use Rattle.v32_isa.specs.declared.instruction.Instr.TheVariants as instr
+use Rattle.asm_items.specs.declared.item.AsmItem.TheVariants as item
+use Rattle.asm_laws.specs.Names.{function_label}
+use Rattle.asm_laws.specs.Placing.{Line, Bounds, At}
+use Rattle.asm_laws.specs.Operations.{args_items}
+use Rattle.asm_laws.specs.Addresses.{IsPlainOne}
+use Rattle.asm_laws.specs.Standing.{Stand}
+use Rattle.asm_laws.specs.Holds.{Setting, Named}
+use Rattle.asm_laws.specs.Acting.{Fitting}
+use Rattle.asm_laws.specs.Calling.{Callable, shapes}
+use Rattle.asm_laws.specs.Linked.{Linked, Plan, setting}
+use Rattle.asm_laws.specs.Program.{items_at, ProgramAt, Sound, Program}
+use Rattle.asm_laws.proofs.Opening.{opens}
+use Rattle.asm_laws.proofs.Agrees.{agrees}
+
+plain_one : (o : One) → IsOne o → IsPlainOne o
+plain_one CIB h = tt
+plain_one NOT h = tt
+plain_one BNOT h = tt
+plain_one ISGN h = tt
+plain_one IABS h = tt
+plain_one _ h = absurd h
+
+pub mapped_from : {A B : Type 0} (f : A → B) (o : Option A) (b : B) → option_map f o ≡ Some b → (v : A) × (o ≡ Some v) × (f v ≡ b)
+mapped_from f None b e = cc
+mapped_from f (Some v) b e = (v, refl, cc)
+
+module _ (S : Setting) (boot rest : ℕ) (card : Option (List ℕ)) (ok : IsCard card) (P : Program S boot rest card) where
+  fitting : (f : ℕ) → Sound S f → (o : OpT Where) (c : NodesT Where) → IsOp S.code (length (S.locals f)) o → NodeNames (Named S f) (Do o c) → Fitting S f o
+  fitting f so (ConstO t n) c i m = m.1.0
+  fitting f so (NullO t) c i m = m.1.0
+  fitting f so (MoveO t p) c i m = (m.1.0, m.0.0)
+  fitting f so (OneO o t p) c i m = (plain_one o i, m.1.0, m.0.0)
+  fitting f so (TwoO o t p q) c i m = (m.1.0, m.0.0, m.0.1.0)
+  fitting f so (GlobalO t k) c i m = (m.1.0, i)
+  fitting f so (LocalO t k) c i m = (m.1.0, i, so.local_there k i)
+  fitting f so (LiteralO t k) c i m = (m.1.0, i)
+  fitting f so (CardO t) c i m = m.1.0
+  fitting f so (StepO t p n) c i m = (m.1.0, m.0.0, m.0.1.0)
+  fitting f so (ApartO t p q) c i m = (m.1.0, m.0.0, m.0.1.0)
+  fitting f so (PtrTestO o t p q) c i m = (i, m.1.0, m.0.0, m.0.1.0)
+  fitting f so (LoadO t p) c i m = (m.1.0, m.0.0)
+  fitting f so (StoreO p q) c i m = (m.0.0, m.0.1.0)
+  fitting f so (FreshO k) c i m = i
+  fitting f so (EndO k) c i m = tt
+  fitting f so (InO t port) c i m = (m.1.0, P.readable port i, i)
+  fitting f so (OutO port p) c i m = (m.0.0, P.writable port i, i)
+  fitting f so WaitO c i m = tt
+  fitting f so HaltO c i m = tt
+
+  abbrev Calls : ℕ → Type 0
+  Calls f = (g : ℕ) (fn : FunctionT Where) → slice_get S.code.functions g ≡ Some fn → (S.depth f ≡ (S.whole.frames f).size) × Callable S g × (S.whole.params g ≡ fn.params)
+
+  at_of : (f : ℕ) → Sound S f → Calls f → (ls : List Bounds) (bs : List Bool) (c : NodesT Where) (pc e : ℕ) → AreNodes S.code (length (S.locals f)) bs c → Names (Named S f) c → At (items_at S) f ls pc c e → At (shapes S) f ls pc c e
+  at_of f so cs ls bs Stop pc e n m at = at
+  at_of f so cs ls bs (Do o c) pc e n m at = (at.0, (fitting f so o c n.0 m.0, at.1), at_of f so cs ls bs c at.0 e n.1 m.1 at.2)
+  at_of f so cs ls bs (Call t g args c) pc e n m at =
+      let i = mapped_from (λ h. length h.params) (slice_get S.code.functions g) (length args) n.0 in
+      let s = cs g i.0 i.1 in
+      (at.0, record { depth = s.0; callable = s.1; target = m.0.1; args_named = m.0.0; count = sym i.2 ∙ ap length (sym s.2); stands = at.1 }, at_of f so cs ls bs c at.0 e n.1 m.1 at.2)
+  at_of f so cs ls bs (Choose w x y c) pc e n m at =
+      (at.0, at.1, at.2, at.3, (m.0.0.0, at.4), at_of f so cs ls bs x at.0 at.1 n.0 m.1 at.5, at.6, at_of f so cs ls bs y at.2 at.3 n.1 m.2 at.7, at_of f so cs ls bs c at.3 e n.2 m.3 at.8)
+  at_of f so cs ls bs (Block b c) pc e n m at = (at.0, at_of f so cs (record { begins = pc; ends = at.0 } ∷ ls) (false ∷ bs) b pc at.0 n.0 m.0 at.1, at_of f so cs ls bs c at.0 e n.1 m.1 at.2)
+  at_of f so cs ls bs (Loop b c) pc e n m at = (at.0, at_of f so cs (record { begins = pc; ends = at.0 } ∷ ls) (true ∷ bs) b pc at.0 n.0 m.0 at.1, at_of f so cs ls bs c at.0 e n.1 m.1 at.2)
+  at_of f so cs ls bs (Leave k c) pc e n m at = (at.0, (at.1.0, at_of f so cs ls bs c at.1.0 e n.1 m at.1.1))
+  at_of f so cs ls bs (Again k c) pc e n m at = (at.0, (at.1.0, at_of f so cs ls bs c at.1.0 e n.1 m at.1.1))
+  at_of f so cs ls bs (Return w c) pc e n m at = (record { named = m.0.0; then = at.0.0; stands = at.0.1; jumps = at.0.2 }, (at.1.0, at_of f so cs ls bs c at.1.0 e n m.1 at.1.1))
+
+  -- the start calls none
+  at_quiet : (f : ℕ) → Sound S f → (ls : List Bounds) (bs : List Bool) (c : NodesT Where) (pc e : ℕ) → AreNodes S.code (length (S.locals f)) bs c → Names (Named S f) c → CallsNone c → At (items_at S) f ls pc c e → At (shapes S) f ls pc c e
+  at_quiet f so ls bs Stop pc e n m q at = at
+  at_quiet f so ls bs (Do o c) pc e n m q at = (at.0, (fitting f so o c n.0 m.0, at.1), at_quiet f so ls bs c at.0 e n.1 m.1 q at.2)
+  at_quiet f so ls bs (Call t g args c) pc e n m q at = absurd q
+  at_quiet f so ls bs (Choose w x y c) pc e n m q at =
+      (at.0, at.1, at.2, at.3, (m.0.0.0, at.4), at_quiet f so ls bs x at.0 at.1 n.0 m.1 q.0 at.5, at.6, at_quiet f so ls bs y at.2 at.3 n.1 m.2 q.1 at.7, at_quiet f so ls bs c at.3 e n.2 m.3 q.2 at.8)
+  at_quiet f so ls bs (Block b c) pc e n m q at = (at.0, at_quiet f so (record { begins = pc; ends = at.0 } ∷ ls) (false ∷ bs) b pc at.0 n.0 m.0 q.0 at.1, at_quiet f so ls bs c at.0 e n.1 m.1 q.1 at.2)
+  at_quiet f so ls bs (Loop b c) pc e n m q at = (at.0, at_quiet f so (record { begins = pc; ends = at.0 } ∷ ls) (true ∷ bs) b pc at.0 n.0 m.0 q.0 at.1, at_quiet f so ls bs c at.0 e n.1 m.1 q.1 at.2)
+  at_quiet f so ls bs (Leave k c) pc e n m q at = (at.0, (at.1.0, at_quiet f so ls bs c at.1.0 e n.1 m q at.1.1))
+  at_quiet f so ls bs (Again k c) pc e n m q at = (at.0, (at.1.0, at_quiet f so ls bs c at.1.0 e n.1 m q at.1.1))
+  at_quiet f so ls bs (Return w c) pc e n m q at = (record { named = m.0.0; then = at.0.0; stands = at.0.1; jumps = at.0.2 }, (at.1.0, at_quiet f so ls bs c at.1.0 e n m.1 q at.1.1))
+
+  pub linked : ProgramAt S boot → Linked S card boot rest
+  linked at = record {
+    fits = P.fits;
+    functions = λ g c. let b = at.functions g c in record { begins = b.begins; label = b.label; entry = b.entry; body = at_of g (P.sound g c) (P.calls g c) [] [] _ (S.enters g) (S.leaves g) (P.nodes g c) (P.names g c) b.body; ends = b.ends; exit = b.exit };
+    has_card = P.laid.has_card;
+    opening = subst (λ z. Line S.console.words 0x20000000 (instr.Mov (RegReg 14 15)) z) at.opening.2 at.opening.1;
+    start = at_quiet boot P.start_sound [] [] S.code.start.body (S.enters boot) (S.leaves boot) P.start_nodes P.start_names P.start_quiet at.start;
+    rest_as = P.rest_as;
+    boot_as = P.laid.called_as;
+    boot_depth = P.laid.depth;
+    rest_depth = P.rest_depth;
+    rest_size = P.rest_size;
+    rest_slots = P.rest_slots;
+    after = at.closing.0;
+    calls_main = record {
+      depth = P.rest_depth ∙ sym P.rest_size;
+      callable = P.main;
+      target = tt;
+      args_named = tt;
+      count = ap length (sym P.main_params);
+      stands = subst (λ ps. Stand S.console.words S.address (S.leaves boot) (args_items (S.whole.frames rest) (S.whole.frames S.code.main) ps [] ++ item.Op (instr.Go CALL (src.Imm (Right (function_label S.whole.names S.code.main)))) ∷ []) at.closing.0) (sym P.main_params) (at.closing.0, at.closing.1, refl);
+    };
+    last = at.closing.2.0;
+    halt = at.closing.2.1;
+    opens = opens S boot card ok P.laid;
+  }
+
+-- the words of a program agree with its placed code, within its work
+pub program_agrees : (A : Plan) (words : List ℕ) (boot rest : ℕ) → ((card : Option (List ℕ)) → IsCard card → Program (setting A words (is_some card)) boot rest card × ProgramAt (setting A words (is_some card)) boot) → AgreesWithin 1 A.whole.globals (placed_runs A.placed) words
+program_agrees A words boot rest p = agrees A words boot rest (λ card ok. let q = p card ok in linked (setting A words (is_some card)) boot rest card ok q.0 q.1)

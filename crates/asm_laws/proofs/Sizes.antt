@@ -1,0 +1,303 @@
+-- Items have at most as many words as their code weighs.
+use Rattle.std.proofs.Common.{◌≡◌, ℕ, ◌+◌, ◌*◌, ◌≤◌, List, [], ◌∷◌, ◌++◌, length, map, Option, Some, None, arith}
+use Rattle.std.specs.Prelude.{cond, Bool, true, false, get_or, sum_by}
+use Rattle.std.proofs.lemmas.List.Sums.{sum_by-cons}
+use Rattle.either.specs.declared.Either.TheVariants.{Left, Right}
+use Rattle.v32_isa.specs.declared.instruction.Plain.TheVariants.{HLT, WAIT, RET}
+use Rattle.v32_isa.specs.declared.instruction.Go.TheVariants.{CALL}
+use Rattle.v32_isa.specs.declared.instruction.One.{One as OneOf}
+use Rattle.v32_isa.specs.declared.instruction.One.TheVariants.{PUSH, POP}
+use Rattle.v32_isa.specs.declared.instruction.Two.{Two as TwoOf}
+use Rattle.v32_isa.specs.declared.instruction.Two.TheVariants.{IADD, ISUB}
+use Rattle.v32_isa.specs.declared.instruction.Mov.TheVariants.{RegImm, RegReg, RegAtReg, AtRegReg, AtOffReg}
+use Rattle.v32_isa.specs.declared.instruction.Src.TheVariants as src
+use Rattle.v32_isa.specs.declared.instruction.Instr.TheVariants as instr
+use Rattle.asm_items.specs.declared.item.AsmItem.{AsmItem}
+use Rattle.asm_items.specs.declared.item.AsmItem.TheVariants as item
+use Rattle.assembler.specs.Placed.{item_size}
+use Rattle.assembler.specs.Sizes.{total_size}
+use Rattle.mid_code.specs.declared.placed.Where.{Where}
+use Rattle.mid_code.specs.declared.placed.Where.TheVariants.{Reg, Slot}
+use Rattle.mid_code.specs.Code.{OpT, ConstO, NullO, MoveO, OneO, TwoO, GlobalO, LocalO, LiteralO, CardO, StepO, ApartO, PtrTestO, LoadO, StoreO, FreshO, EndO, InO, OutO, WaitO, HaltO, NodesT, Stop, Do, Call, Choose, Block, Loop, Leave, Again, Return, FunctionT, CodeT}
+use Rattle.mid_code.specs.Meaning.{call_weight}
+use Rattle.mid_code.specs.States.{op_weight}
+use Rattle.mid_code.specs.Invariants.{AreNodes, AllOf, parameter_count}
+use Rattle.mid_code.specs.Runs.{nodes_weight, function_weight, weight}
+use Rattle.asm_laws.specs.Names.{literal_label, function_label}
+use Rattle.kit_base.specs.Word.{add, sub}
+use Rattle.asm_laws.specs.Operations as operations
+use Rattle.asm_laws.specs.Operations.{Frame, Whole, register, slot_word, local_word, fetches, keeps, keeps_some, is_in, hand, brings, takes, aim, lays, moves, changes, is_direct, in_place, apart, computes, slot_arg, slot_args, pushed_arg, pushed_args, popped_arg, popped_args, args_items, call_items, op_items, giving, start_frame, opening_items, literal_items, literals_items}
+use Rattle.asm_laws.specs.Emitted.{labels, enclosing, jump, jump_unless, mark, choice, enclosed, returning, code_items, entry_items, exit_items, function_items, functions_items, functions_labels, call_item, closing_items, start_items, program_items, labels_of}
+use Rattle.asm_laws.proofs.Walked.{total_append, total_one, total_none, total_more}
+
+abbrev size : List AsmItem → ℕ
+size = total_size
+
+fetch_size : (F : Frame) (p : Where) (r : ℕ) → item_size (fetches F p r) ≤ 2
+fetch_size F (Reg q) r = omega arith
+fetch_size F (Slot k) r = omega arith
+
+keep_size : (F : Frame) (t : Where) → item_size (keeps F t) ≤ 2
+keep_size F (Reg q) = omega arith
+keep_size F (Slot k) = omega arith
+
+one_item : (x : AsmItem) (n : ℕ) → item_size x ≤ n → size (x ∷ []) ≤ n
+one_item x n le = omega (arith, total_one x, le)
+
+two_items : (x y : AsmItem) (n m : ℕ) → item_size x ≤ n → item_size y ≤ m → size (x ∷ y ∷ []) ≤ n + m
+two_items x y n m a b = omega (arith, total_more x (y ∷ []), total_one y, a, b)
+
+three_items : (x y z : AsmItem) (n m k : ℕ) → item_size x ≤ n → item_size y ≤ m → item_size z ≤ k → size (x ∷ y ∷ z ∷ []) ≤ n + m + k
+three_items x y z n m k a b c = let r = two_items y z m k b c in omega (arith, total_more x (y ∷ z ∷ []), r, a)
+
+four_items : (x y z w : AsmItem) (n m k j : ℕ) → item_size x ≤ n → item_size y ≤ m → item_size z ≤ k → item_size w ≤ j → size (x ∷ y ∷ z ∷ w ∷ []) ≤ n + m + k + j
+four_items x y z w n m k j a b c d = let r = three_items y z w m k j b c d in omega (arith, total_more x (y ∷ z ∷ w ∷ []), r, a)
+
+some_size : (F : Frame) (t : Option Where) → size (keeps_some F t) ≤ 2
+some_size F None = omega (arith, total_none)
+some_size F (Some t) = one_item (keeps F t) 2 (keep_size F t)
+
+brings_size : (F : Frame) (p : Where) (r : ℕ) → size (brings F p r) ≤ 2
+brings_size F (Reg q) r = omega (arith, total_none)
+brings_size F (Slot k) r = one_item (fetches F (Slot k) r) 2 (fetch_size F (Slot k) r)
+
+takes_size : (F : Frame) (p : Where) (m : ℕ) → size (takes F p m) ≤ 2
+takes_size F p m = go (is_in p m)
+  where
+    go : (b : Bool) → size (cond b [] (fetches F p m ∷ [])) ≤ 2
+    go true = omega (arith, total_none)
+    go false = one_item (fetches F p m) 2 (fetch_size F p m)
+
+lays_size : (F : Frame) (t : Where) → size (lays F t) ≤ 2
+lays_size F (Reg q) = omega (arith, total_none)
+lays_size F (Slot k) = one_item (keeps F (Slot k)) 2 (keep_size F (Slot k))
+
+-- items that bring a word, and another one
+brought_size : (F : Frame) (p : Where) (r n : ℕ) (xs : List AsmItem) → size xs ≤ n → size (brings F p r ++ xs) ≤ 2 + n
+brought_size F p r n xs le = omega (arith, total_append (brings F p r) xs, brings_size F p r, le)
+
+arg_size : (F G : Frame) (p a : Where) → size (slot_arg F G p a) + size (pushed_arg F p a) + size (popped_arg p) ≤ 4
+arg_size F G (Reg q) a =
+    let x : size (pushed_arg F (Reg q) a) ≤ 2 + 1 = brought_size F a 9 1 (item.Op (instr.One PUSH (hand a 9)) ∷ []) (one_item (item.Op (instr.One PUSH (hand a 9))) 1 (omega arith)) in
+    let y : size (popped_arg (Reg q)) ≤ 1 = one_item (item.Op (instr.One POP (register q))) 1 (omega arith) in
+    omega (arith, total_none, x, y)
+arg_size F G (Slot k) a =
+    let o = item.Op (instr.Mov (AtOffReg 15 (Left (sub (slot_word G k) 2)) (hand a 9))) in
+    let x : size (slot_arg F G (Slot k) a) ≤ 2 + 2 = brought_size F a 9 2 (o ∷ []) (one_item o 2 (omega arith)) in
+    omega (arith, total_none, x)
+
+args_size : (F G : Frame) (ps args : List Where) → length args ≡ length ps → size (slot_args F G ps args) + size (pushed_args F ps args) + size (popped_args ps) ≤ 4 * length args
+args_size F G [] args e = omega (arith, total_none)
+args_size F G (p ∷ ps) [] e = absurd (omega arith)
+args_size F G (p ∷ ps) (a ∷ args) e =
+    let r = args_size F G ps args (omega arith) in
+    omega (arith, r, arg_size F G p a, total_append (slot_arg F G p a) (slot_args F G ps args), total_append (pushed_arg F p a) (pushed_args F ps args), total_append (popped_args ps) (popped_arg p))
+
+laid_size : (F : Frame) (t : Where) (x : AsmItem) (n : ℕ) → item_size x ≤ n → size (x ∷ lays F t) ≤ n + 2
+laid_size F t x n le = omega (arith, total_more x (lays F t), lays_size F t, le)
+
+moves_size : (F : Frame) (t a : Where) → size (moves F t a) ≤ 4
+moves_size F t (Reg q) = go (is_in t (register q))
+  where
+    item_at_most : (t : Where) → item_size (item.Op (operations.keep F t (register q))) ≤ 2
+    item_at_most (Reg r) = omega arith
+    item_at_most (Slot k) = omega arith
+
+    go : (b : Bool) → size (cond b [] (item.Op (operations.keep F t (register q)) ∷ [])) ≤ 4
+    go true = omega (arith, total_none)
+    go false = let r = one_item (item.Op (operations.keep F t (register q))) 2 (item_at_most t) in omega (arith, r)
+moves_size F t (Slot k) = laid_size F t (fetches F (Slot k) (aim t)) 2 (fetch_size F (Slot k) (aim t))
+
+changes_size : (F : Frame) (o : OneOf) (t a : Where) → size (changes F o t a) ≤ 5
+changes_size F o t a = omega (arith, total_append (takes F a (aim t)) (item.Op (instr.One o (aim t)) ∷ lays F t), takes_size F a (aim t), laid_size F t (item.Op (instr.One o (aim t))) 1 (omega arith))
+
+computes_size : (F : Frame) (o : TwoOf) (t p q : Where) → size (computes F o t p q) ≤ 7
+computes_size F o t p q = go (is_direct o t q)
+  where
+    in_place_size : size (in_place F o (aim t) p q) ≤ 5
+    in_place_size =
+        let x = item.Op (instr.Two o (aim t) (src.Reg (hand q 10))) in
+        let b = brought_size F q 10 1 (x ∷ []) (one_item x 1 (omega arith)) in
+        omega (arith, total_append (takes F p (aim t)) (brings F q 10 ++ x ∷ []), takes_size F p (aim t), b)
+
+    apart_size : size (apart F o t p q) ≤ 7
+    apart_size =
+        let x = item.Op (instr.Two o 9 (src.Reg (hand q 10))) in
+        let b = brought_size F q 10 3 (x ∷ keeps F t ∷ []) (two_items x (keeps F t) 1 2 (omega arith) (keep_size F t)) in
+        omega (arith, total_more (fetches F p 9) (brings F q 10 ++ x ∷ keeps F t ∷ []), fetch_size F p 9, b)
+
+    go : (b : Bool) → size (cond b (in_place F o (aim t) p q) (apart F o t p q)) ≤ 7
+    go true = let r = in_place_size in omega (arith, r)
+    go false = apart_size
+
+pub op_size : (W : Whole) (F : Frame) (o : OpT Where) → size (op_items W F o) ≤ op_weight o
+unfolding op_items
+op_size W F (ConstO t n) = let r = laid_size F t (item.Op (instr.Mov (RegImm (aim t) (Left n)))) 2 (omega arith) in omega (arith, r)
+op_size W F (NullO t) = let r = laid_size F t (item.Op (instr.Mov (RegImm (aim t) (Left 0xFFFFFFFF)))) 2 (omega arith) in omega (arith, r)
+op_size W F (MoveO t a) = let r = moves_size F t a in omega (arith, r)
+op_size W F (OneO o t a) = let r = changes_size F o t a in omega (arith, r)
+op_size W F (TwoO o t a b) = let r = computes_size F o t a b in omega (arith, r)
+op_size W F (GlobalO t k) = let r = laid_size F t (item.Op (instr.Mov (RegImm (aim t) (Left (get_or W.globals k 0))))) 2 (omega arith) in omega (arith, r)
+op_size W F (LocalO t k) = let r = laid_size F t (item.Op (instr.Lea (aim t) 14 (Some (Left (local_word F k))))) 2 (omega arith) in omega (arith, r)
+op_size W F (LiteralO t k) = let r = laid_size F t (item.Op (instr.Mov (RegImm (aim t) (Right (literal_label k))))) 2 (omega arith) in omega (arith, r)
+op_size W F (CardO t) = let r = laid_size F t (item.Op (instr.Mov (RegImm (aim t) (Left 0x30000000)))) 2 (omega arith) in omega (arith, r)
+op_size W F (StepO t p n) = let r = computes_size F IADD t p n in omega (arith, r)
+op_size W F (ApartO t p q) = let r = computes_size F ISUB t p q in omega (arith, r)
+op_size W F (PtrTestO o t p q) = let r = computes_size F o t p q in omega (arith, r)
+op_size W F (LoadO t p) = let x = item.Op (instr.Mov (RegAtReg (aim t) (hand p 9))) in let r = brought_size F p 9 3 (x ∷ lays F t) (laid_size F t x 1 (omega arith)) in omega (arith, r)
+op_size W F (StoreO p a) =
+    let x = item.Op (instr.Mov (AtRegReg (hand p 9) (hand a 10))) in
+    let r = brought_size F p 9 3 (brings F a 10 ++ x ∷ []) (brought_size F a 10 1 (x ∷ []) (one_item x 1 (omega arith))) in
+    omega (arith, r)
+op_size W F (FreshO k) = omega (arith, total_none)
+op_size W F (EndO k) = omega (arith, total_none)
+op_size W F (InO t p) = let r = laid_size F t (item.Op (instr.In (aim t) (operations.port p))) 1 (omega arith) in omega (arith, r)
+op_size W F (OutO p a) = let x = item.Op (instr.Out (operations.port p) (src.Reg (hand a 9))) in let r = brought_size F a 9 1 (x ∷ []) (one_item x 1 (omega arith)) in omega (arith, r)
+op_size W F WaitO = let r = one_item (item.Op (instr.Plain WAIT)) 1 (omega arith) in omega (arith, r)
+op_size W F HaltO = let r = one_item (item.Op (instr.Plain HLT)) 1 (omega arith) in omega (arith, r)
+
+pub call_size : (W : Whole) (F : Frame) (t : Option Where) (g : ℕ) (args : List Where) → length args ≡ length (W.params g) → size (call_items W F t g args) ≤ call_weight args
+call_size W F t g args ok =
+    let ps = W.params g in
+    let G = W.frames g in
+    let r = args_size F G ps args ok in
+    let c = total_append (args_items F G ps args) (call_item W g ∷ keeps_some F t) in
+    let d = total_append (slot_args F G ps args) (pushed_args F ps args ++ popped_args ps) in
+    let e = total_append (pushed_args F ps args) (popped_args ps) in
+    let b = total_more (call_item W g) (keeps_some F t) in
+    omega (arith, r, c, d, e, b, some_size F t)
+
+giving_size : (F : Frame) (p : Option Where) → size (giving F p) ≤ 2
+giving_size F None = omega (arith, total_none)
+giving_size F (Some p) = one_item (fetches F p 9) 2 (fetch_size F p 9)
+
+choice_size : (F : Frame) (p : Where) (n m wa wb : ℕ) (a b : List AsmItem) → size a ≤ wa → size b ≤ wb → size (choice F p n m a b) ≤ wa + wb + 8
+choice_size F p n m wa wb a b la lb =
+    let inner = a ++ jump m ∷ mark n ∷ [] in
+    let j = jump_unless (hand p 9) n in
+    let first = brings F p 9 ++ j ∷ inner in
+    let x = total_append first (b ++ mark m ∷ []) in
+    let x1 = total_append (brings F p 9) (j ∷ inner) in
+    let x2 = total_more j inner in
+    let x3 = total_append a (jump m ∷ mark n ∷ []) in
+    let x4 = two_items (jump m) (mark n) 2 0 (omega arith) (omega arith) in
+    let x5 = total_append b (mark m ∷ []) in
+    let x6 = one_item (mark m) 0 (omega arith) in
+    omega (arith, x, x1, x2, x3, x4, x5, x6, la, lb, brings_size F p 9)
+
+enclosed_size : (n w : ℕ) (a : List AsmItem) → size a ≤ w → size (enclosed n a) ≤ w + 8
+enclosed_size n w a le =
+    let x1 = total_more (mark n) (a ++ mark (n + 1) ∷ []) in
+    let x2 = total_append a (mark (n + 1) ∷ []) in
+    let x3 = one_item (mark (n + 1)) 0 (omega arith) in
+    omega (arith, x1, x2, x3, le)
+
+returning_size : (F : Frame) (p : Option Where) (out : ℕ) → size (returning F p out) ≤ 8
+returning_size F p out = let x = total_append (giving F p) (jump out ∷ []) in let r = one_item (jump out) 2 (omega arith) in omega (arith, x, r, giving_size F p)
+
+jump_size : (n : ℕ) → item_size (jump n) ≤ 2
+jump_size n = omega arith
+
+-- the parameters of functions are those of the program
+abbrev pub Counts : CodeT Where → Whole → Type 0
+Counts x W = (g n : ℕ) → parameter_count x g ≡ Some n → n ≡ length (W.params g)
+
+module _ (x : CodeT Where) (W : Whole) (counts : Counts x W) (m : ℕ) (F : Frame) (out : ℕ) where
+  pub code_size : (c : NodesT Where) (bs : List Bool) (ls : List ℕ) (n : ℕ) → AreNodes x m bs c → size (code_items W F out ls n c) ≤ nodes_weight c
+  code_size Stop bs ls n ok = omega (arith, total_none)
+  code_size (Do o c) bs ls n ok = let t = total_append (op_items W F o) (code_items W F out ls n c) in omega (arith, t, op_size W F o, code_size c bs ls n ok.1)
+  code_size (Call t g args c) bs ls n ok = let s = total_append (call_items W F t g args) (code_items W F out ls n c) in omega (arith, s, call_size W F t g args (counts g (length args) ok.0), code_size c bs ls n ok.1)
+  code_size (Choose p a b c) bs ls n ok =
+      let xs = choice F p n (n + 1 + labels a) (code_items W F out ls (n + 1) a) (code_items W F out ls (n + 1 + labels a + 1) b) in
+      let s = total_append xs (code_items W F out ls (n + (2 + labels a + labels b)) c) in
+      let h = choice_size F p n (n + 1 + labels a) (nodes_weight a) (nodes_weight b) _ _ (code_size a bs ls (n + 1) ok.0) (code_size b bs ls (n + 1 + labels a + 1) ok.1) in
+      omega (arith, s, h, code_size c bs ls (n + (2 + labels a + labels b)) ok.2)
+  code_size (Block b c) bs ls n ok =
+      let s = total_append (enclosed n (code_items W F out (ls ++ n ∷ []) (n + 2) b)) (code_items W F out ls (n + (2 + labels b)) c) in
+      let h = enclosed_size n (nodes_weight b) _ (code_size b (false ∷ bs) (ls ++ n ∷ []) (n + 2) ok.0) in
+      omega (arith, s, h, code_size c bs ls (n + (2 + labels b)) ok.1)
+  code_size (Loop b c) bs ls n ok =
+      let s = total_append (enclosed n (code_items W F out (ls ++ n ∷ []) (n + 2) b)) (code_items W F out ls (n + (2 + labels b)) c) in
+      let h = enclosed_size n (nodes_weight b) _ (code_size b (true ∷ bs) (ls ++ n ∷ []) (n + 2) ok.0) in
+      omega (arith, s, h, code_size c bs ls (n + (2 + labels b)) ok.1)
+  code_size (Leave k c) bs ls n ok = let j = jump_size (add (enclosing ls k) 1) in let s = total_more (jump (add (enclosing ls k) 1)) (code_items W F out ls n c) in omega (arith, s, j, code_size c bs ls n ok.1)
+  code_size (Again k c) bs ls n ok = let j = jump_size (enclosing ls k) in let s = total_more (jump (enclosing ls k)) (code_items W F out ls n c) in omega (arith, s, j, code_size c bs ls n ok.1)
+  code_size (Return p c) bs ls n ok = let s = total_append (returning F p out) (code_items W F out ls n c) in omega (arith, s, returning_size F p out, code_size c bs ls n ok)
+
+-- ---- the whole program
+
+module _ (x : CodeT Where) (W : Whole) (counts : Counts x W) where
+  abbrev Sound : FunctionT Where → Type 0
+  Sound f = AreNodes x (length f.locals) [] f.body
+
+  function_size : (f n : ℕ) (g : FunctionT Where) → Sound g → size (function_items W f n g.body) ≤ function_weight g
+  function_size f n g ok =
+      let F = W.frames f in
+      let x0 = total_append (entry_items W f F) (code_items W F n [] (n + 1) g.body ++ exit_items n) in
+      let y = total_append (code_items W F n [] (n + 1) g.body) (exit_items n) in
+      let e = four_items (item.Label (function_label W.names f)) (item.Op (instr.One PUSH 14)) (item.Op (instr.Mov (RegReg 14 15))) (item.Op (instr.Two ISUB 15 (src.Imm (Left F.size)))) 0 1 1 2 (omega arith) (omega arith) (omega arith) (omega arith) in
+      let z = four_items (mark n) (item.Op (instr.Mov (RegReg 15 14))) (item.Op (instr.One POP 14)) (item.Op (instr.Plain RET)) 0 1 1 1 (omega arith) (omega arith) (omega arith) (omega arith) in
+      omega (arith, x0, y, e, z, code_size x W counts (length g.locals) F n g.body [] [] (n + 1) ok)
+
+  functions_size : (f n : ℕ) (gs : List (FunctionT Where)) → AllOf Sound gs → size (functions_items W f n gs) ≤ sum_by function_weight gs
+  functions_size f n [] ok = omega (arith, total_none)
+  functions_size f n (g ∷ gs) ok =
+      let t = total_append (function_items W f n g.body) (functions_items W (f + 1) (n + 1 + labels g.body) gs) in
+      omega (arith, t, function_size f n g ok.0, functions_size (f + 1) (n + 1 + labels g.body) gs ok.1, sum_by-cons function_weight g gs)
+
+  start_size : (main : ℕ) (g : FunctionT Where) → Sound g → size (start_items W main g.body) ≤ nodes_weight g.body + 4
+  start_size main g ok =
+      let x0 = total_append opening_items (code_items W start_frame 0 [] 1 g.body ++ closing_items W main) in
+      let y = total_append (code_items W start_frame 0 [] 1 g.body) (closing_items W main) in
+      let o = one_item (item.Op (instr.Mov (RegReg 14 15))) 1 (omega arith) in
+      let c = three_items (mark 0) (call_item W main) (item.Op (instr.Plain HLT)) 0 2 1 (omega arith) (omega arith) (omega arith) in
+      omega (arith, x0, y, o, c, code_size x W counts (length g.locals) start_frame 0 g.body [] [] 1 ok)
+
+integers_size : (bytes : List ℕ) → size (map item.Integer bytes) ≡ length bytes
+integers_size [] = total_none
+integers_size (b ∷ bytes) = let r = integers_size bytes in let m = total_more (item.Integer b) (map item.Integer bytes) in omega (arith, r, m)
+
+abbrev pub text_words : List ℕ → ℕ
+text_words text = length text + 1
+
+pub literals_size : (k : ℕ) (texts : List (List ℕ)) → size (literals_items k texts) ≡ sum_by text_words texts
+literals_size k [] = total_none
+literals_size k (text ∷ texts) =
+    let x = total_append (literal_items k text) (literals_items (k + 1) texts) in
+    let y = total_more (item.Label (literal_label k)) (map item.Integer text ++ item.Integer 0 ∷ []) in
+    let z = total_append (map item.Integer text) (item.Integer 0 ∷ []) in
+    omega (arith, x, y, z, integers_size text, total_one (item.Integer 0), literals_size (k + 1) texts, sum_by-cons text_words text texts)
+
+-- at most the weight, the words of the literals and 4 more
+pub program_size : (x : CodeT Where) (W : Whole) → Counts x W → AreNodes x (length x.start.locals) [] x.start.body → AllOf (λ f. AreNodes x (length f.locals) [] f.body) x.functions → size (program_items W x) ≤ weight x + sum_by text_words x.literals + 4
+program_size x W counts ok each =
+    let s = total_append (start_items W x.main x.start.body) (functions_items W 0 (1 + labels x.start.body) x.functions ++ literals_items 0 x.literals) in
+    let y = total_append (functions_items W 0 (1 + labels x.start.body) x.functions) (literals_items 0 x.literals) in
+    omega (arith, s, y, start_size x W counts x.main x.start ok, functions_size x W counts 0 (1 + labels x.start.body) x.functions each, literals_size 0 x.literals)
+
+-- code takes at most a label for each four of its weight
+nodes_few : (c : NodesT Where) → 4 * labels c ≤ nodes_weight c
+nodes_few Stop = omega arith
+nodes_few (Do o c) = let r = nodes_few c in omega (arith, r)
+nodes_few (Call t g args c) = let r = nodes_few c in omega (arith, r)
+nodes_few (Choose p a b c) = omega (arith, nodes_few a, nodes_few b, nodes_few c)
+nodes_few (Block b c) = omega (arith, nodes_few b, nodes_few c)
+nodes_few (Loop b c) = omega (arith, nodes_few b, nodes_few c)
+nodes_few (Leave k c) = omega (arith, nodes_few c)
+nodes_few (Again k c) = omega (arith, nodes_few c)
+nodes_few (Return p c) = omega (arith, nodes_few c)
+
+functions_few : (gs : List (FunctionT Where)) → 4 * functions_labels gs ≤ sum_by function_weight gs
+functions_few [] = omega arith
+functions_few (g ∷ gs) = omega (arith, nodes_few g.body, functions_few gs, sum_by-cons function_weight g gs)
+
+pub program_few : (x : CodeT Where) → 4 * labels_of x ≤ weight x + 4
+program_few x = omega (arith, nodes_few x.start.body, functions_few x.functions)
+
+pub few_texts : (texts : List (List ℕ)) → length texts ≤ sum_by text_words texts
+few_texts [] = omega arith
+few_texts (text ∷ texts) = omega (arith, few_texts texts, sum_by-cons text_words text texts)
+
+pub few_functions : (gs : List (FunctionT Where)) → length gs ≤ sum_by function_weight gs
+few_functions [] = omega arith
+few_functions (g ∷ gs) = omega (arith, few_functions gs, sum_by-cons function_weight g gs)

@@ -1,0 +1,101 @@
+-- How the machine holds the states of placed code, and where its parts stand.
+use Rattle.std.specs.Prelude.{◌≡◌, ℕ, ◌+◌, ◌<◌, ◌≤◌, List, [], length, get_or, Option, Some}
+use Rattle.v32_isa.specs.State.{register_of}
+use Rattle.v32_isa.specs.State as machine
+use Rattle.mid_code.specs.declared.placed.Where.{Where}
+use Rattle.mid_code.specs.Code.{maybe}
+use Rattle.mid_code.specs.Meaning.{Lang}
+use Rattle.mid_code.specs.States.{State, registers_and_slots, function_at, over_worlds}
+use Rattle.mid_code.specs.Invariants.{AllOf, AreDifferent, in_registers}
+use Rattle.asm_laws.specs.Placing.{Shapes, Jumps, At}
+use Rattle.asm_laws.specs.Following.{Holder}
+use Rattle.asm_laws.specs.Names.{function_label}
+use Rattle.asm_laws.specs.Operations.{op_items, call_items, giving}
+use Rattle.asm_laws.specs.Standing.{Stand}
+use Rattle.asm_laws.specs.Tests.{Tests}
+use Rattle.asm_laws.specs.Addresses.{Addr, Held}
+use Rattle.asm_laws.specs.Framing.{frame_made, frame_gone}
+use Rattle.asm_laws.specs.Holds.{Setting, slot_offset, Named, Ctx, Stands, HoldsAt}
+use Rattle.asm_laws.specs.Acting.{Fitting}
+
+-- a function that can be called
+pub record Callable (S : Setting) (f : ℕ) : Type 0 where
+  pub called_as : S.called_as f ≡ Some f
+  pub depth : S.depth f ≡ (S.whole.frames f).size
+  pub frame : get_or S.frames f 0 ≡ (S.whole.frames f).size
+  pub params : S.whole.params f ≡ (function_at S.code f).params
+  pub params_named : AllOf (Named S f) (S.whole.params f)
+  pub params_differ : AreDifferent (S.whole.params f)
+  -- arguments of registers are pushed where the link and words of the emitter's own will stand
+  pub own_in : (k : ℕ) → S.has_slot f k → slot_offset S f k + in_registers (S.whole.params f) < (S.whole.frames f).size + 2
+  pub registers_in : in_registers (S.whole.params f) ≤ (S.whole.frames f).size + 2
+
+-- the machine holds a state
+pub record Mach (S : Setting) (κ : Ctx) (s : State Where) (m : machine.State) : Type 0 where
+  pub place : ℕ → ℕ
+  pub words : Addr
+  pub at : HoldsAt S κ s.world.store s.cells place words
+  pub held : Held S.console words m
+
+-- at a function's end, with the result in register 9
+pub record Given (S : Setting) (κ : Ctx) (s : State Where) (m : machine.State) : Type 0 where
+  pub place : ℕ → ℕ
+  pub words : Addr
+  pub at : HoldsAt S κ s.world.store s.cells place words
+  pub held : Held S.console words m
+  pub given : Stands (length s.world.store.objects) place s.given (register_of m 9)
+
+pub record EndedIn (S : Setting) (s : State Where) (m : machine.State) : Type 0 where
+  pub context : Ctx
+  pub mach : Mach S context s m
+
+abbrev pub lang : Setting → Lang Where
+lang S = over_worlds registers_and_slots S.code S.frames
+
+abbrev pub holder : (S : Setting) → Holder (lang S)
+holder S = record {
+  K = Ctx;
+  M = Mach S;
+  G = Given S;
+  E = EndedIn S;
+  answers = λ s. s.world.store.answers;
+  events = λ s. s.world.events;
+  work = λ s. s.world.work;
+  fn = λ κ. κ.fn;
+  entry = S.enters;
+  way_out = S.leaves;
+}
+
+-- a call of a function
+pub record CallAt (S : Setting) (f pc : ℕ) (t : Option Where) (g : ℕ) (args : List Where) (p : ℕ) : Type 0 where
+  pub depth : S.depth f ≡ (S.whole.frames f).size
+  pub callable : Callable S g
+  pub target : AllOf (Named S f) (maybe t)
+  pub args_named : AllOf (Named S f) args
+  pub count : length args ≡ length (S.whole.params g)
+  pub stands : Stand S.console.words S.address pc (call_items S.whole (S.whole.frames f) t g args) p
+
+-- a result is given, and the function's end comes next
+pub record GivingAt (S : Setting) (f pc : ℕ) (w : Option Where) : Type 0 where
+  pub named : AllOf (Named S f) (maybe w)
+  pub then : ℕ
+  pub stands : Stand S.console.words S.address pc (giving (S.whole.frames f) w) then
+  pub jumps : Jumps S.console.words then (S.leaves f)
+
+abbrev pub shapes : Setting → Shapes
+shapes S = record {
+  words = S.console.words;
+  op = λ f pc o p. Fitting S f o × Stand S.console.words S.address pc (op_items S.whole (S.whole.frames f) o) p;
+  call = CallAt S;
+  test = λ f pc w other next. Named S f w × Tests S.console.words S.address (S.whole.frames f) pc w other next;
+  giving = GivingAt S;
+}
+
+-- a function stands among the words
+pub record FunctionAt (S : Setting) (f : ℕ) : Type 0 where
+  pub begins : ℕ
+  pub label : S.address (function_label S.whole.names f) ≡ begins
+  pub entry : Stand S.console.words S.address begins (frame_made (S.whole.frames f).size) (S.enters f)
+  pub body : At (shapes S) f [] (S.enters f) (function_at S.code f).body (S.leaves f)
+  pub ends : ℕ
+  pub exit : Stand S.console.words S.address (S.leaves f) frame_gone ends

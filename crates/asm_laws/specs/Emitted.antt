@@ -1,0 +1,114 @@
+-- The items of placed code: its instructions one after another, with labels where jumps go.
+use Rattle.std.specs.Prelude.{ℕ, suc, ◌+◌, ◌-◌, List, [], ◌∷◌, ◌++◌, length, Option, get_or}
+use Rattle.either.specs.declared.Either.TheVariants.{Left, Right}
+use Rattle.v32_isa.specs.declared.instruction.Plain.TheVariants.{HLT}
+use Rattle.v32_isa.specs.declared.instruction.Go.TheVariants.{JMP, CALL}
+use Rattle.v32_isa.specs.declared.instruction.Branch.TheVariants.{JF}
+use Rattle.v32_isa.specs.declared.instruction.Src.TheVariants as src
+use Rattle.v32_isa.specs.declared.instruction.Instr.TheVariants as instr
+use Rattle.kit_base.specs.Word.{add}
+use Rattle.asm_items.specs.declared.item.AsmItem.{AsmItem}
+use Rattle.asm_items.specs.declared.item.AsmItem.TheVariants as items
+use Rattle.mid_code.specs.declared.placed.Where.{Where}
+use Rattle.mid_code.specs.Code.{NodesT, Stop, Do, Call, Choose, Block, Loop, Leave, Again, Return, FunctionT, CodeT}
+use Rattle.asm_laws.specs.Names.{jump_label, function_label}
+use Rattle.asm_laws.specs.Operations.{Frame, Whole, hand, brings, giving, op_items, call_items, start_frame, opening_items, literals_items}
+use Rattle.asm_laws.specs.Framing.{frame_made, frame_gone}
+
+-- how many labels nodes take
+abbrev pub labels : NodesT Where → ℕ
+labels Stop = 0
+labels (Do o c) = labels c
+labels (Call t g args c) = labels c
+labels (Choose p a b c) = 2 + labels a + labels b + labels c
+labels (Block b c) = 2 + labels b + labels c
+labels (Loop b c) = 2 + labels b + labels c
+labels (Leave k c) = labels c
+labels (Again k c) = labels c
+labels (Return p c) = labels c
+
+-- The number of the label at the beginning of the k-th enclosing block or loop from the inside; the innermost stands last. That at its end has
+-- the next number.
+abbrev pub enclosing : List ℕ → ℕ → ℕ
+enclosing ls k = get_or ls (length ls - suc k) 0
+
+abbrev pub jump : ℕ → AsmItem
+jump n = items.Op (instr.Go JMP (src.Imm (Right (jump_label n))))
+
+abbrev pub jump_unless : (register n : ℕ) → AsmItem
+jump_unless r n = items.Op (instr.Branch JF r (src.Imm (Right (jump_label n))))
+
+abbrev pub mark : ℕ → AsmItem
+mark n = items.Label (jump_label n)
+
+-- a choice between two parts by a word, with the labels n before the second and m behind it
+abbrev pub first_part : Frame → Where → ℕ → ℕ → List AsmItem → List AsmItem
+first_part F p n m a = brings F p 9 ++ jump_unless (hand p 9) n ∷ (a ++ jump m ∷ mark n ∷ [])
+
+abbrev pub second_part : ℕ → List AsmItem → List AsmItem
+second_part m b = b ++ mark m ∷ []
+
+abbrev pub choice : Frame → Where → ℕ → ℕ → List AsmItem → List AsmItem → List AsmItem
+choice F p n m a b = first_part F p n m a ++ second_part m b
+
+-- a block or loop, with the label n before it and the next one behind it
+abbrev pub enclosed : ℕ → List AsmItem → List AsmItem
+enclosed n a = mark n ∷ (a ++ mark (n + 1) ∷ [])
+
+-- a result is given back in register 9, by a jump to the function's end
+abbrev pub returning : Frame → Option Where → ℕ → List AsmItem
+returning F p out = giving F p ++ jump out ∷ []
+
+module _ (W : Whole) (F : Frame) (out : ℕ) where
+  -- the items of nodes whose labels begin at n, inside blocks and loops with these labels
+  abbrev pub code_items : List ℕ → ℕ → NodesT Where → List AsmItem
+  code_items ls n Stop = []
+  code_items ls n (Do o c) = op_items W F o ++ code_items ls n c
+  code_items ls n (Call t g args c) = call_items W F t g args ++ code_items ls n c
+  code_items ls n (Choose p a b c) =
+      choice F p n (n + 1 + labels a) (code_items ls (n + 1) a) (code_items ls (n + 1 + labels a + 1) b) ++ code_items ls (n + (2 + labels a + labels b)) c
+  code_items ls n (Block b c) = enclosed n (code_items (ls ++ n ∷ []) (n + 2) b) ++ code_items ls (n + (2 + labels b)) c
+  code_items ls n (Loop b c) = enclosed n (code_items (ls ++ n ∷ []) (n + 2) b) ++ code_items ls (n + (2 + labels b)) c
+  code_items ls n (Leave k c) = jump (add (enclosing ls k) 1) ∷ code_items ls n c
+  code_items ls n (Again k c) = jump (enclosing ls k) ∷ code_items ls n c
+  code_items ls n (Return p c) = returning F p out ++ code_items ls n c
+
+-- a function begins with its label and makes its frame; at its end it takes the frame away and goes back
+abbrev pub entry_items : Whole → ℕ → Frame → List AsmItem
+entry_items W f F = items.Label (function_label W.names f) ∷ frame_made F.size
+
+abbrev pub exit_items : ℕ → List AsmItem
+exit_items n = mark n ∷ frame_gone
+
+-- the items of a function behind its label
+abbrev pub own_items : Whole → ℕ → ℕ → NodesT Where → List AsmItem
+own_items W f n body = frame_made (W.frames f).size ++ (code_items W (W.frames f) n [] (n + 1) body ++ exit_items n)
+
+abbrev pub function_items : Whole → ℕ → ℕ → NodesT Where → List AsmItem
+function_items W f n body = items.Label (function_label W.names f) ∷ own_items W f n body
+
+-- the functions from a number on, whose labels begin at n
+abbrev pub functions_items : Whole → ℕ → ℕ → List (FunctionT Where) → List AsmItem
+functions_items W f n [] = []
+functions_items W f n (g ∷ gs) = function_items W f n g.body ++ functions_items W (f + 1) (n + 1 + labels g.body) gs
+
+abbrev pub functions_labels : List (FunctionT Where) → ℕ
+functions_labels [] = 0
+functions_labels (g ∷ gs) = 1 + labels g.body + functions_labels gs
+
+-- the start: its body, the call of main, the halt
+abbrev pub call_item : Whole → ℕ → AsmItem
+call_item W g = items.Op (instr.Go CALL (src.Imm (Right (function_label W.names g))))
+
+abbrev pub closing_items : Whole → ℕ → List AsmItem
+closing_items W main = mark 0 ∷ call_item W main ∷ items.Op (instr.Plain HLT) ∷ []
+
+abbrev pub start_items : Whole → ℕ → NodesT Where → List AsmItem
+start_items W main body = opening_items ++ (code_items W start_frame 0 [] 1 body ++ closing_items W main)
+
+-- the whole program: the start, the functions in order, the literals
+abbrev pub program_items : Whole → CodeT Where → List AsmItem
+program_items W x = start_items W x.main x.start.body ++ (functions_items W 0 (1 + labels x.start.body) x.functions ++ literals_items 0 x.literals)
+
+abbrev pub labels_of : CodeT Where → ℕ
+labels_of x = 1 + labels x.start.body + functions_labels x.functions

@@ -1,0 +1,122 @@
+-- What it is for the machine to follow structured code, over any states.
+use Rattle.std.specs.Prelude.{ℕ, zero, suc, ◌≡◌, ◌+◌, ◌≤◌, List, [], ◌∷◌, ◌++◌, Option, Some, None}
+use Rattle.kit_base.specs.declared.event.Event.{Event}
+use Rattle.v32_isa.specs.State.{State, going_to}
+use Rattle.v32_isa.specs.Runs.{Run, run}
+use Rattle.v32_isa.specs.Runs as machine
+use Rattle.v32_isa.proofs.Steps.{Reaches}
+use Rattle.obj_mem.specs.Runs.{Ending, Halted, Fault, Starved, Stray, Deep, OutOfBound}
+use Rattle.mid_code.specs.declared.placed.Where.{Where}
+use Rattle.mid_code.specs.Code.{OpT, NodesT}
+use Rattle.mid_code.specs.Meaning.{Did, On, Ends, Res, Next, Leaves, Repeats, Returns, Over, Lang, node_weight, call_weight}
+use Rattle.asm_laws.specs.Placing.{Shapes, Bounds, end_of, begin_of, Jumps, At}
+
+-- how the machine holds a state: inside a function, at its end with the result, and where the run has ended
+pub record Holder (L : Lang Where) : Type 1 where
+  pub K : Type 0
+  pub M : K → L.S → State → Type 0
+  pub G : K → L.S → State → Type 0
+  pub E : L.S → State → Type 0
+  pub answers : L.S → List ℕ
+  pub events : L.S → List Event
+  pub work : L.S → ℕ
+  -- the function of a call, where the bodies of functions begin, and where they end
+  pub fn : K → ℕ
+  pub entry : ℕ → ℕ
+  pub way_out : ℕ → ℕ
+
+-- what there is at the beginning of some steps: answers, events, work
+pub record Begin : Type 0 where
+  pub answers : List ℕ
+  pub events : List Event
+  pub work : ℕ
+
+abbrev pub begin : {L : Lang Where} → Holder L → L.S → Begin
+begin X s = record { answers = X.answers s; events = X.events s; work = X.work s }
+
+abbrev pub spare : ℕ → Begin → Begin
+spare k b = record b { work = b.work + k }
+
+-- the machine comes to an address and the state t, in at least so many steps and at most the work between and `more`
+pub record Came {L : Lang Where} (X : Holder L) (m : State) (b : Begin) (t : L.S) (pc least more : ℕ) (R : State → Type 0) : Type 0 where
+  pub steps : ℕ
+  pub made : List Event
+  pub to : State
+  pub by : Reaches steps m b.answers made to (X.answers t)
+  pub at : to.counter ≡ pc
+  pub held : R to
+  pub events : X.events t ≡ b.events ++ made
+  pub cost : steps + b.work ≤ X.work t + more
+  pub many : least ≤ steps
+
+pub record Stopped {L : Lang Where} (X : Holder L) (m : State) (b : Begin) (t : L.S) (how : machine.End) : Type 0 where
+  pub steps : ℕ
+  pub made : List Event
+  pub to : State
+  pub by : (n : ℕ) → run (steps + n) m b.answers ≡ record { events = made; end = how; state = to }
+  pub held : X.E t to
+  pub events : X.events t ≡ b.events ++ made
+  pub cost : steps + b.work ≤ X.work t
+
+pub record Going {L : Lang Where} (X : Holder L) (m : State) (b : Begin) (t : L.S) (least : ℕ) : Type 0 where
+  pub steps : ℕ
+  pub made : List Event
+  pub to : State
+  pub left : List ℕ
+  pub by : Reaches steps m b.answers made to left
+  pub events : X.events t ≡ b.events ++ made
+  pub cost : steps + b.work ≤ X.work t
+  pub many : least ≤ steps
+
+-- the table of ends
+abbrev pub Final : {L : Lang Where} → (X : Holder L) → (n : ℕ) → State → Begin → Ending → L.S → Type 0
+Final X n m b Halted t = Stopped X m b t machine.Halted
+Final X n m b (Fault k) t = Stopped X m b t (machine.Fault k)
+Final X n m b Starved t = Stopped X m b t machine.Starved
+Final X n m b Stray t = Going X m b t 0
+Final X n m b Deep t = Going X m b t 0
+Final X n m b OutOfBound t = Going X m b t n
+
+abbrev pub Sim : {L : Lang Where} → (X : Holder L) → X.K → State → Begin → (e n : ℕ) → List Bounds → Res L.S → Type 0
+Sim X κ m b e n ls (Next t) = Came X m b t e 0 0 (X.M κ t)
+Sim X κ m b e n ls (Leaves k t) = Came X m b t (end_of ls k) 0 0 (X.M κ t)
+Sim X κ m b e n ls (Repeats k t) = Came X m b t (begin_of ls k) 1 0 (X.M κ t)
+Sim X κ m b e n ls (Returns t) = Came X m b t (X.way_out (X.fn κ)) 0 0 (X.G κ t)
+Sim X κ m b e n ls (Over f t) = Final X n m b f t
+
+abbrev pub DidSim : {L : Lang Where} → (X : Holder L) → X.K → State → Begin → ℕ → Did L.S → Type 0
+DidSim X κ m b p (On t) = Came X m b t p 0 0 (X.M κ t)
+DidSim X κ m b p (Ends f t) = (n : ℕ) → Final X n m b f t
+
+-- A call has come to the function's body, with 8 spare for the way back; from the function's end it comes back.
+pub record Enters {L : Lang Where} (X : Holder L) (H : Shapes) (κ : X.K) (p : ℕ) (t : Option Where) (f : ℕ) (u s0 : L.S) (m : State) (b : Begin) : Type 0 where
+  pub inner : X.K
+  pub placed : At H (X.fn inner) [] (X.entry f) (L.body f) (X.way_out (X.fn inner))
+  pub goes : Came X m (spare 8 b) s0 (X.entry f) 1 0 (X.M inner s0)
+  pub back : (s1 : L.S) (m1 : State) → X.G inner s1 m1 → m1.counter ≡ X.way_out (X.fn inner) → Came X m1 (begin X s1) (L.back t u s1) p 0 8 (X.M κ (L.back t u s1))
+
+abbrev pub CallSim : {L : Lang Where} → (X : Holder L) → Shapes → X.K → ℕ → Option Where → ℕ → L.S → State → Begin → Did L.S → Type 0
+CallSim X H κ p t f u m b (On s0) = Enters X H κ p t f u s0 m b
+CallSim X H κ p t f u m b (Ends g s0) = (n : ℕ) → Final X n m b g s0
+
+-- a choice has gone its way, with 1 spare for the jump behind its first part
+abbrev pub TestSim : {L : Lang Where} → (X : Holder L) → X.K → (other next : ℕ) → State → Begin → L.S → Option ℕ → Type 0
+TestSim X κ py px m b s None = Unit {0}
+TestSim X κ py px m b s (Some zero) = Came X m (spare 1 b) s py 0 0 (X.M κ s)
+TestSim X κ py px m b s (Some (suc v)) = Came X m (spare 1 b) s px 0 0 (X.M κ s)
+
+-- what the parts keep
+pub record Parts (L : Lang Where) (X : Holder L) (H : Shapes) : Type 0 where
+  pub tick_answers : (n : ℕ) (s : L.S) → X.answers (L.tick n s) ≡ X.answers s
+  pub tick_events : (n : ℕ) (s : L.S) → X.events (L.tick n s) ≡ X.events s
+  pub tick_work : (n : ℕ) (s : L.S) → X.work (L.tick n s) ≡ X.work s + n
+  pub ticks : (κ : X.K) (n : ℕ) (s : L.S) (m : State) → X.M κ s m → X.M κ (L.tick n s) m
+  pub jump : (κ : X.K) (s : L.S) (m : State) (pc to : ℕ) → X.M κ s m → m.counter ≡ pc → Jumps H.words pc to → Reaches 1 m (X.answers s) [] (going_to to m) (X.answers s) × X.M κ s (going_to to m)
+  pub none : (κ : X.K) (s : L.S) (m : State) → X.M κ s m → X.G κ (L.none s) m
+  pub none_answers : (s : L.S) → X.answers (L.none s) ≡ X.answers s
+  pub none_events : (s : L.S) → X.events (L.none s) ≡ X.events s
+  pub none_work : (s : L.S) → X.work (L.none s) ≡ X.work s
+  pub op : (κ : X.K) (pc p : ℕ) (o : OpT Where) (s : L.S) (m : State) → H.op (X.fn κ) pc o p → m.counter ≡ pc → X.M κ s m → DidSim X κ m (begin X s) p (L.act o s)
+  pub test : (κ : X.K) (pc py px : ℕ) (w : Where) (s : L.S) (m : State) → H.test (X.fn κ) pc w py px → m.counter ≡ pc → X.M κ s m → TestSim X κ py px m (begin X s) (L.tick node_weight s) (L.test w s)
+  pub give : (κ : X.K) (pc : ℕ) (w : Option Where) (s : L.S) (m : State) → H.giving (X.fn κ) pc w → m.counter ≡ pc → X.M κ s m → Came X m (begin X s) (L.give w (L.tick node_weight s)) (X.way_out (X.fn κ)) 0 0 (X.G κ (L.give w (L.tick node_weight s)))
+  pub call : (κ : X.K) (pc p : ℕ) (t : Option Where) (f : ℕ) (args : List Where) (s : L.S) (m : State) → H.call (X.fn κ) pc t f args p → m.counter ≡ pc → X.M κ s m → CallSim X H κ p t f (L.tick (call_weight args) s) m (begin X s) (L.enter f args (L.tick (call_weight args) s))

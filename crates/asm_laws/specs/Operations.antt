@@ -1,0 +1,219 @@
+-- The instructions of each operation of placed code.
+use Rattle.std.specs.Prelude.{ℕ, ◌+◌, ◌%◌, ◌==◌, ◌&&◌, not, cond, Bool, true, false, List, [], ◌∷◌, ◌++◌, map, Option, Some, None, get_or}
+use Rattle.either.specs.declared.Either.TheVariants.{Left, Right}
+use Rattle.kit_base.specs.Word.{sub}
+use Rattle.v32_isa.specs.declared.instruction.Plain.TheVariants.{HLT, WAIT}
+use Rattle.v32_isa.specs.declared.instruction.Go.TheVariants.{CALL}
+use Rattle.v32_isa.specs.declared.instruction.One.{One as OneOf}
+use Rattle.v32_isa.specs.declared.instruction.One.TheVariants.{PUSH, POP}
+use Rattle.v32_isa.specs.declared.instruction.Two.{Two as TwoOf}
+use Rattle.v32_isa.specs.declared.instruction.Two.TheVariants.{IADD, ISUB, IDIV, IMOD}
+use Rattle.v32_isa.specs.declared.instruction.Src.TheVariants as src
+use Rattle.v32_isa.specs.declared.instruction.Mov.TheVariants.{RegImm, RegReg, RegAtReg, RegAtOff, AtRegReg, AtOffReg}
+use Rattle.v32_isa.specs.declared.instruction.Instr.{Instr}
+use Rattle.v32_isa.specs.declared.instruction.Instr.TheVariants as instr
+use Rattle.asm_items.specs.declared.item.AsmItem.{AsmItem}
+use Rattle.asm_items.specs.declared.item.AsmItem.TheVariants as item
+use Rattle.asm_items.specs.Items.{Imm}
+use Rattle.mid_code.specs.declared.placed.Where.{Where}
+use Rattle.mid_code.specs.declared.placed.Where.TheVariants.{Reg, Slot}
+use Rattle.mid_code.specs.Code.{OpT, ConstO, NullO, MoveO, OneO, TwoO, GlobalO, LocalO, LiteralO, CardO, StepO, ApartO, PtrTestO, LoadO, StoreO, FreshO, EndO, InO, OutO, WaitO, HaltO}
+use Rattle.asm_laws.specs.Names.{literal_label, function_label}
+
+-- the frame of a function: its size, and the offsets of its slots and of its locals' first words. Offset 0 is the
+-- frame's lowest word. A slot that is not listed has its number as its offset
+pub record Frame : Type 0 where
+  pub slots : List ℕ
+  pub locals : List ℕ
+  pub size : ℕ
+
+-- the frame of each function, the places that take its arguments, its name, the addresses of the globals
+pub record Whole : Type 0 where
+  pub frames : ℕ → Frame
+  pub params : ℕ → List Where
+  pub names : List (List ℕ)
+  pub globals : List ℕ
+
+-- what is added to the end of a frame for the word at an offset
+abbrev pub word_at : Frame → ℕ → ℕ
+word_at F offset = sub offset F.size
+
+abbrev pub slot_word : Frame → ℕ → ℕ
+slot_word F k = word_at F (get_or F.slots k k)
+
+abbrev pub local_word : Frame → ℕ → ℕ
+local_word F k = word_at F (get_or F.locals k 0)
+
+-- a number as that of a register or of a port
+abbrev pub register : ℕ → ℕ
+register r = r % 16
+
+abbrev pub port : ℕ → ℕ
+port p = p % 16384
+
+-- register r takes the word of a place, or a place takes the word of register r; BP, which is 14, is the frame's end
+abbrev pub fetch : Frame → Where → ℕ → Instr Imm
+fetch F (Reg q) r = instr.Mov (RegReg r (register q))
+fetch F (Slot k) r = instr.Mov (RegAtOff r 14 (Left (slot_word F k)))
+
+abbrev pub keep : Frame → Where → ℕ → Instr Imm
+keep F (Reg q) r = instr.Mov (RegReg (register q) r)
+keep F (Slot k) r = instr.Mov (AtOffReg 14 (Left (slot_word F k)) r)
+
+-- an item that is an instruction, and one that copies a word from a place to a place
+abbrev pub fetches : Frame → Where → ℕ → AsmItem
+fetches F p r = item.Op (fetch F p r)
+
+abbrev pub keeps : Frame → Where → AsmItem
+keeps F t = item.Op (keep F t 9)
+
+abbrev pub keeps_some : Frame → Option Where → List AsmItem
+keeps_some F None = []
+keeps_some F (Some t) = keeps F t ∷ []
+
+-- ---- words where they stand
+
+-- whether a place is a register of this number
+abbrev pub is_in : Where → ℕ → Bool
+is_in (Reg q) r = register q == r
+is_in (Slot k) r = false
+
+-- The word of a place is brought into a register: its own, else the one that is given.
+abbrev pub hand : Where → ℕ → ℕ
+hand (Reg q) r = register q
+hand (Slot k) r = r
+
+abbrev pub brings : Frame → Where → ℕ → List AsmItem
+brings F (Reg q) r = []
+brings F (Slot k) r = fetches F (Slot k) r ∷ []
+
+-- A register takes the word of a place, where it is not that place.
+abbrev pub takes : Frame → Where → ℕ → List AsmItem
+takes F p r = cond (is_in p r) [] (fetches F p r ∷ [])
+
+-- A word for a place is made in a register: its own, else register 9, from where it is laid at the place.
+abbrev pub aim : Where → ℕ
+aim (Reg q) = register q
+aim (Slot k) = 9
+
+abbrev pub lays : Frame → Where → List AsmItem
+lays F (Reg q) = []
+lays F (Slot k) = keeps F (Slot k) ∷ []
+
+-- ---- operations
+
+-- a word is put at a place
+abbrev pub sets : Frame → Where → Imm → List AsmItem
+sets F t i = item.Op (instr.Mov (RegImm (aim t) i)) ∷ lays F t
+
+-- a word is copied
+abbrev pub moves : Frame → Where → Where → List AsmItem
+moves F t (Reg q) = cond (is_in t (register q)) [] (item.Op (keep F t (register q)) ∷ [])
+moves F t (Slot k) = fetches F (Slot k) (aim t) ∷ lays F t
+
+-- an operator on one word
+abbrev pub changes : Frame → OneOf → Where → Where → List AsmItem
+changes F o t a = takes F a (aim t) ++ item.Op (instr.One o (aim t)) ∷ lays F t
+
+-- the operators that can fault
+abbrev pub is_division : TwoOf → Bool
+is_division IDIV = true
+is_division IMOD = true
+is_division _ = false
+
+-- An operator works in the register of its target, where it does not fault, and the second word does not stand there.
+abbrev pub is_direct : TwoOf → Where → Where → Bool
+is_direct o (Slot k) b = false
+is_direct o (Reg q) b = not (is_division o) && not (is_in b (register q))
+
+abbrev pub in_place : Frame → TwoOf → (target : ℕ) → Where → Where → List AsmItem
+in_place F o m a b = takes F a m ++ (brings F b 10 ++ item.Op (instr.Two o m (src.Reg (hand b 10))) ∷ [])
+
+abbrev pub apart : Frame → TwoOf → Where → Where → Where → List AsmItem
+apart F o t a b = fetches F a 9 ∷ (brings F b 10 ++ item.Op (instr.Two o 9 (src.Reg (hand b 10))) ∷ keeps F t ∷ [])
+
+-- a word computed of two words is put at a place
+abbrev pub computes : Frame → TwoOf → Where → Where → Where → List AsmItem
+computes F o t a b = cond (is_direct o t b) (in_place F o (aim t) a b) (apart F o t a b)
+
+-- ---- calls
+
+-- the arguments that go into slots stand in the frame that the call will have, below the two words of its link
+abbrev pub slot_arg : Frame → Frame → Where → Where → List AsmItem
+slot_arg F G (Reg q) a = []
+slot_arg F G (Slot k) a = brings F a 9 ++ item.Op (instr.Mov (AtOffReg 15 (Left (sub (slot_word G k) 2)) (hand a 9))) ∷ []
+
+abbrev pub slot_args : Frame → Frame → List Where → List Where → List AsmItem
+slot_args F G [] args = []
+slot_args F G (p ∷ ps) [] = []
+slot_args F G (p ∷ ps) (a ∷ args) = slot_arg F G p a ++ slot_args F G ps args
+
+-- the arguments that go into registers are pushed, and popped in the opposite order
+abbrev pub pushed_arg : Frame → Where → Where → List AsmItem
+pushed_arg F (Reg q) a = brings F a 9 ++ item.Op (instr.One PUSH (hand a 9)) ∷ []
+pushed_arg F (Slot k) a = []
+
+abbrev pub pushed_args : Frame → List Where → List Where → List AsmItem
+pushed_args F [] args = []
+pushed_args F (p ∷ ps) [] = []
+pushed_args F (p ∷ ps) (a ∷ args) = pushed_arg F p a ++ pushed_args F ps args
+
+abbrev pub popped_arg : Where → List AsmItem
+popped_arg (Reg q) = item.Op (instr.One POP (register q)) ∷ []
+popped_arg (Slot k) = []
+
+abbrev pub popped_args : List Where → List AsmItem
+popped_args [] = []
+popped_args (p ∷ ps) = popped_args ps ++ popped_arg p
+
+abbrev pub args_items : Frame → Frame → List Where → List Where → List AsmItem
+args_items F G ps args = slot_args F G ps args ++ (pushed_args F ps args ++ popped_args ps)
+
+abbrev pub call_items : Whole → Frame → Option Where → ℕ → List Where → List AsmItem
+call_items W F t g args =
+    args_items F (W.frames g) (W.params g) args
+    ++ item.Op (instr.Go CALL (src.Imm (Right (function_label W.names g)))) ∷ keeps_some F t
+
+-- ---- all operations
+
+unfoldable pub op_items : Whole → Frame → OpT Where → List AsmItem
+op_items W F (ConstO t n) = sets F t (Left n)
+op_items W F (NullO t) = sets F t (Left 0xFFFFFFFF)
+op_items W F (MoveO t a) = moves F t a
+op_items W F (OneO o t a) = changes F o t a
+op_items W F (TwoO o t a b) = computes F o t a b
+op_items W F (GlobalO t k) = sets F t (Left (get_or W.globals k 0))
+op_items W F (LocalO t k) = item.Op (instr.Lea (aim t) 14 (Some (Left (local_word F k)))) ∷ lays F t
+op_items W F (LiteralO t k) = sets F t (Right (literal_label k))
+op_items W F (CardO t) = sets F t (Left 0x30000000)
+op_items W F (StepO t p n) = computes F IADD t p n
+op_items W F (ApartO t p q) = computes F ISUB t p q
+op_items W F (PtrTestO o t p q) = computes F o t p q
+op_items W F (LoadO t p) = brings F p 9 ++ item.Op (instr.Mov (RegAtReg (aim t) (hand p 9))) ∷ lays F t
+op_items W F (StoreO p a) = brings F p 9 ++ (brings F a 10 ++ item.Op (instr.Mov (AtRegReg (hand p 9) (hand a 10))) ∷ [])
+op_items W F (FreshO k) = []
+op_items W F (EndO k) = []
+op_items W F (InO t p) = item.Op (instr.In (aim t) (port p)) ∷ lays F t
+op_items W F (OutO p a) = brings F a 9 ++ item.Op (instr.Out (port p) (src.Reg (hand a 9))) ∷ []
+op_items W F WaitO = item.Op (instr.Plain WAIT) ∷ []
+op_items W F HaltO = item.Op (instr.Plain HLT) ∷ []
+
+-- a result is given back in register 9
+abbrev pub giving : Frame → Option Where → List AsmItem
+giving F None = []
+giving F (Some p) = fetches F p 9 ∷ []
+
+-- the start's slots lie where the frame of main comes to stand
+abbrev pub start_frame : Frame
+start_frame = record { slots = []; locals = []; size = 1000000 }
+
+abbrev pub opening_items : List AsmItem
+opening_items = item.Op (instr.Mov (RegReg 14 15)) ∷ []
+
+-- a literal: its label, its words and a zero
+abbrev pub literal_items : ℕ → List ℕ → List AsmItem
+literal_items k text = item.Label (literal_label k) ∷ (map item.Integer text ++ item.Integer 0 ∷ [])
+
+abbrev pub literals_items : ℕ → List (List ℕ) → List AsmItem
+literals_items k [] = []
+literals_items k (text ∷ texts) = literal_items k text ++ literals_items (k + 1) texts

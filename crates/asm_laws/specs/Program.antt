@@ -1,0 +1,72 @@
+-- A program of placed code among its words, as the emitter promises it.
+use Rattle.std.specs.Prelude.{◌≡◌, ℕ, ◌<◌, true, List, [], ◌∷◌, length, slice_get, Option, Some}
+use Rattle.either.specs.declared.Either.TheVariants.{Right}
+use Rattle.v32_isa.specs.declared.instruction.Plain.TheVariants.{HLT}
+use Rattle.v32_isa.specs.declared.instruction.Go.TheVariants.{CALL}
+use Rattle.v32_isa.specs.declared.instruction.Src.TheVariants as src
+use Rattle.v32_isa.specs.declared.instruction.Instr.TheVariants as instr
+use Rattle.v32_isa.specs.Ports.{is_readable, is_writable}
+use Rattle.asm_items.specs.declared.item.AsmItem.TheVariants as item
+use Rattle.mid_code.specs.declared.placed.Where.{Where}
+use Rattle.mid_code.specs.Code.{FunctionT}
+use Rattle.mid_code.specs.States.{function_at}
+use Rattle.mid_code.specs.Invariants.{AreNodes, Names, CallsNone}
+use Rattle.asm_laws.specs.Placing.{Shapes, Jumps, At}
+use Rattle.asm_laws.specs.Names.{function_label}
+use Rattle.asm_laws.specs.Operations.{op_items, call_items, giving, opening_items}
+use Rattle.asm_laws.specs.Standing.{Stand}
+use Rattle.asm_laws.specs.Tests.{Tests}
+use Rattle.asm_laws.specs.Framing.{frame_made, frame_gone}
+use Rattle.asm_laws.specs.Holds.{Setting, local_offset, Named, Fits}
+use Rattle.asm_laws.specs.Calling.{Callable}
+use Rattle.asm_laws.specs.Laid.{Laid}
+
+-- the items of each part, with nothing said of places and numbers
+abbrev pub items_at : Setting → Shapes
+items_at S = record {
+  words = S.console.words;
+  op = λ f pc o p. Stand S.console.words S.address pc (op_items S.whole (S.whole.frames f) o) p;
+  call = λ f pc t g args p. Stand S.console.words S.address pc (call_items S.whole (S.whole.frames f) t g args) p;
+  test = λ f pc w other next. Tests S.console.words S.address (S.whole.frames f) pc w other next;
+  giving = λ f pc w. (q : ℕ) × Stand S.console.words S.address pc (giving (S.whole.frames f) w) q × Jumps S.console.words q (S.leaves f);
+}
+
+-- a function stands among the words
+pub record BodyAt (S : Setting) (f : ℕ) : Type 0 where
+  pub begins : ℕ
+  pub label : S.address (function_label S.whole.names f) ≡ begins
+  pub entry : Stand S.console.words S.address begins (frame_made (S.whole.frames f).size) (S.enters f)
+  pub body : At (items_at S) f [] (S.enters f) (function_at S.code f).body (S.leaves f)
+  pub ends : ℕ
+  pub exit : Stand S.console.words S.address (S.leaves f) frame_gone ends
+
+pub record ProgramAt (S : Setting) (boot : ℕ) : Type 0 where
+  pub opening : Stand S.console.words S.address 0x20000000 opening_items (S.enters boot)
+  pub start : At (items_at S) boot [] (S.enters boot) S.code.start.body (S.leaves boot)
+  pub last : ℕ
+  pub closing : Stand S.console.words S.address (S.leaves boot) (item.Op (instr.Go CALL (src.Imm (Right (function_label S.whole.names S.code.main)))) ∷ item.Op (instr.Plain HLT) ∷ []) last
+  pub functions : (g : ℕ) → Callable S g → BodyAt S g
+
+-- what a program is, in a function of a number
+pub record Sound (S : Setting) (f : ℕ) : Type 0 where
+  pub local_there : (k : ℕ) → k < length (S.locals f) → local_offset S f k < (S.whole.frames f).size
+
+pub record Program (S : Setting) (boot rest : ℕ) (card : Option (List ℕ)) : Type 1 where
+  pub fits : Fits S
+  pub laid : Laid S boot card
+  pub readable : (port : ℕ) → is_readable port ≡ true → port < 16384
+  pub writable : (port : ℕ) → is_writable port ≡ true → port < 16384
+  pub start_nodes : AreNodes S.code (length (S.locals boot)) [] S.code.start.body
+  pub start_names : Names (Named S boot) S.code.start.body
+  pub start_sound : Sound S boot
+  pub start_quiet : CallsNone S.code.start.body
+  pub nodes : (g : ℕ) → Callable S g → AreNodes S.code (length (S.locals g)) [] (function_at S.code g).body
+  pub names : (g : ℕ) → Callable S g → Names (Named S g) (function_at S.code g).body
+  pub sound : (g : ℕ) → Callable S g → Sound S g
+  pub calls : (f : ℕ) → Callable S f → (g : ℕ) (fn : FunctionT Where) → slice_get S.code.functions g ≡ Some fn → (S.depth f ≡ (S.whole.frames f).size) × Callable S g × (S.whole.params g ≡ fn.params)
+  pub main : Callable S S.code.main
+  pub main_params : S.whole.params S.code.main ≡ []
+  pub rest_as : S.called_as rest ≡ S.called_as boot
+  pub rest_depth : S.depth rest ≡ 0
+  pub rest_size : (S.whole.frames rest).size ≡ 0
+  pub rest_slots : (k : ℕ) → S.has_slot rest k → ⊥

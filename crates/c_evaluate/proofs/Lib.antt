@@ -8,5 +8,6 @@ pub mod Linked
 pub mod Ending
 pub mod Moving
 pub mod Stepping
+pub mod Reaching
 pub mod Running
 pub mod Opened

@@ -1,5 +1,5 @@
 -- What the loop over steps keeps.
-use Rattle.std.proofs.Common.{◌≡◌, ℕ, ◌+◌, ◌*◌, ◌<◌, arith, List, [], ◌∷◌, ◌++◌, refl, sym, ap, ◌∙◌}
+use Rattle.std.proofs.Common.{◌≡◌, ℕ, ◌+◌, ◌*◌, ◌≤◌, ◌<◌, arith, List, [], ◌∷◌, ◌++◌, refl, sym, ap, ◌∙◌}
 use Rattle.kit_base.specs.declared.event.Event.{Event}
 use Rattle.obj_mem.specs.Stores.{Store}
 use Rattle.obj_mem.specs.Worlds.{bare}
@@ -16,7 +16,9 @@ use Rattle.c_evaluate.specs.Turning.{Works, GoesOn, stepped}
 use Rattle.c_evaluate.specs.Steps.{step}
 use Rattle.c_evaluate.proofs.Before.{resume_past}
 use Rattle.c_evaluate.proofs.Moving.{Later, busy, load, size}
+use Rattle.c_evaluate.specs.Swift.{step_on, stepped_on}
 use Rattle.c_evaluate.proofs.Stepping.{step_later}
+use Rattle.c_evaluate.proofs.Reaching.{Reaches, here, further, step_reaches}
 
 -- a port operation is given
 module _ (s : Setting) (e : Event) (k : List FrameT) (u : Store) where
@@ -44,15 +46,38 @@ step_falls s (Going f k u) g = let l = step_later s f k u g in falls_by (work_le
     falls_by w w' z z' t e h = omega (arith, e, h)
 step_falls s (Over end) g = absurd g
 
--- a turn of the loop over steps, between whose parts the setting stays
-pub turn_keeps : (o q r : Setting) (c c1 c2 : Config) → q ≡ o → r ≡ q → GoesOn c1 → c1 ≡ c → c2 ≡ stepped r c1 → run_left o c2 ≡ run_left o c
-turn_keeps o q r c c1 c2 eq er g e f = let k = step_run r c1 g in cc
+reached_run : (s : Setting) (c d : Config) → Reaches s c d → run_left s c ≡ run_left s d
+reached_run s _ _ (here c) = refl
+reached_run s _ _ (further f k u d g r) = (step_later s f k u g).left ∙ reached_run s (step s f k u) d r
 
-pub turn_falls : (q r t : Setting) (c c1 c2 : Config) → r ≡ q → t ≡ r → GoesOn c1 → c1 ≡ c → c2 ≡ stepped r c1 → 9 * work_left t c2 + size c2 < 9 * work_left q c + size c
+reached_falls : (s : Setting) (c d : Config) → Reaches s c d → 9 * work_left s d + size d ≤ 9 * work_left s c + size c
+reached_falls s _ _ (here c) = omega arith
+reached_falls s _ _ (further f k u d g r) =
+    let one : 9 * work_left s (step s f k u) + size (step s f k u) < 9 * work_left s (Going f k u) + size (Going f k u) = step_falls s (Going f k u) g in
+    let all : 9 * work_left s d + size d ≤ 9 * work_left s (step s f k u) + size (step s f k u) = reached_falls s (step s f k u) d r in
+    omega (arith, one, all)
+
+-- so do several steps at once
+steps_run : (s : Setting) (c : Config) → GoesOn c → run_left s c ≡ run_left s (stepped_on s c)
+steps_run s (Going f k u) g = step_run s (Going f k u) g ∙ reached_run s (step s f k u) (step_on s f k u) (step_reaches s f k u)
+steps_run s (Over end) g = absurd g
+
+steps_fall : (s : Setting) (c : Config) → GoesOn c → 9 * work_left s (stepped_on s c) + size (stepped_on s c) < 9 * work_left s c + size c
+steps_fall s (Going f k u) g =
+    let one : 9 * work_left s (step s f k u) + size (step s f k u) < 9 * work_left s (Going f k u) + size (Going f k u) = step_falls s (Going f k u) g in
+    let all : 9 * work_left s (step_on s f k u) + size (step_on s f k u) ≤ 9 * work_left s (step s f k u) + size (step s f k u) = reached_falls s (step s f k u) (step_on s f k u) (step_reaches s f k u) in
+    omega (arith, one, all)
+steps_fall s (Over end) g = absurd g
+
+-- a turn of the loop over steps, between whose parts the setting stays
+pub turn_keeps : (o q r : Setting) (c c1 c2 : Config) → q ≡ o → r ≡ q → GoesOn c1 → c1 ≡ c → c2 ≡ stepped_on r c1 → run_left o c2 ≡ run_left o c
+turn_keeps o q r c c1 c2 eq er g e f = let k = steps_run r c1 g in cc
+
+pub turn_falls : (q r t : Setting) (c c1 c2 : Config) → r ≡ q → t ≡ r → GoesOn c1 → c1 ≡ c → c2 ≡ stepped_on r c1 → 9 * work_left t c2 + size c2 < 9 * work_left q c + size c
 turn_falls q r t c c1 c2 er et g e f =
-    let a : work_left t c2 ≡ work_left r (stepped r c1) = cc in
+    let a : work_left t c2 ≡ work_left r (stepped_on r c1) = cc in
     let b : work_left q c ≡ work_left r c1 = cc in
-    let x : size c2 ≡ size (stepped r c1) = ap size f in
+    let x : size c2 ≡ size (stepped_on r c1) = ap size f in
     let y : size c1 ≡ size c = ap size e in
-    let h : 9 * work_left r (stepped r c1) + size (stepped r c1) < 9 * work_left r c1 + size c1 = step_falls r c1 g in
+    let h : 9 * work_left r (stepped_on r c1) + size (stepped_on r c1) < 9 * work_left r c1 + size c1 = steps_fall r c1 g in
     omega arith

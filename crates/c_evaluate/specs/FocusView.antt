@@ -39,7 +39,7 @@ abbrev pub frame : Frame → FrameT
 frame (f.First n x) = FirstW n (texpr x.now)
 frame (f.Second n x c) = SecondW n (texpr x.now) c
 frame (f.Argument n g span vs xs) = ArgumentW n g span vs.items (texprs (map texpr xs.now))
-frame (f.Back g vs r span c) = BackW g vs.items r span (caller c)
+frame (f.Back g vs r span c) = BackW g vs.items r span (caller c.value)
 frame (f.InStmt stage n r a) = stmt_frame stage n r (tstmt a.now)
 frame (f.Rest n r xs) = RestW n r (tstmts (map tstmt xs.now))
 frame (f.Arms n r xs) = ArmsW n r (tarms (map tarm xs.now))

@@ -9,3 +9,4 @@ pub mod StoreView
 pub mod FocusView
 pub mod Turning
 pub mod MachineView
+pub mod Swift

@@ -3,7 +3,8 @@ ghost use Rattle.std.specs.Prelude.{◌≡◌, IfOk, IfNone, IfSome, OnOk};
 ghost use Rattle.c_evaluate.specs.Evaluation.{Gives};
 ghost use Rattle.c_evaluate.specs.Machine.{run_left};
 ghost use Rattle.c_evaluate.specs.Results.{Leads};
-ghost use Rattle.c_evaluate.specs.Turning.{GoesOn, stepped};
+ghost use Rattle.c_evaluate.specs.Swift.{stepped_on};
+ghost use Rattle.c_evaluate.specs.Turning.{GoesOn};
 ghost use Rattle.c_evaluate.specs.FocusView.{at, stack_of};
 ghost use Rattle.c_evaluate.specs.StoreView.{store_of};
 ghost use Rattle.c_evaluate.specs.MachineView.{config_of, setting_of};
@@ -22,10 +23,11 @@ use kit_base::Memory;
 
 impl<'a> Machine<'a> {
     /// What is looked at next.
-    #[tactic(auto, unfolding(crate::specs::Steps::step))]
+    #[inline(always)]
+    #[tactic(auto, unfolding(crate::specs::Swift::step_on, crate::specs::Steps::step))]
     fn next_focus(&mut self) -> Result<Focus<'a>, Stop>
         ensures same { setting_of self.new ≡ setting_of self.old }
-        ensures steps { Leads (λ x. at x (stack_of self.new.stack.items) (store_of self.new.store)) result (stepped (setting_of self.old) (config_of self.old)) }
+        ensures steps { Leads (λ x. at x (stack_of self.new.stack.items) (store_of self.new.store)) result (stepped_on (setting_of self.old) (config_of self.old)) }
     {
         match self.focus {
             Focus::Eval(n, e) => eval(&self.setting, n, e, &mut self.stack, &mut self.store),
@@ -55,9 +57,10 @@ impl<'a> Machine<'a> {
         }
     }
 
+    #[inline(always)]
     fn step(&mut self) -> Result<(), Memory>
         ensures same { setting_of self.new ≡ setting_of self.old }
-        ensures steps { OnOk result (config_of self.new ≡ stepped (setting_of self.old) (config_of self.old)) }
+        ensures steps { OnOk result (config_of self.new ≡ stepped_on (setting_of self.old) (config_of self.old)) }
     {
         match self.next_focus() {
             Ok(x) => {
@@ -73,6 +76,7 @@ impl<'a> Machine<'a> {
     }
 
     /// What is given before the next step.
+    #[inline(always)]
     #[tactic(auto, using(crate::proofs::Running::event_made, crate::proofs::Running::run_ended))]
     fn pause(&mut self) -> Option<Advanced>
         ensures same { setting_of self.new ≡ setting_of self.old }

@@ -18,6 +18,7 @@ use c_types::{CType, TExpr};
 use obj_mem::Cell;
 
 /// Stores a value at a place of the expression's type.
+#[inline(always)]
 pub(crate) fn assigned<'a>(
     s: &Setting<'a>,
     n: u32,
@@ -35,6 +36,7 @@ pub(crate) fn assigned<'a>(
 }
 
 /// The old cell at a place, and what the operator makes of it.
+#[inline(always)]
 fn changed<'a>(
     s: &Setting<'a>,
     op: BinOp,
@@ -52,6 +54,7 @@ fn changed<'a>(
     Ok((old, new))
 }
 
+#[inline(always)]
 fn step_operator(op: StepOp) -> BinOp
     ensures { result ≡ step_operator op }
 {
@@ -61,6 +64,7 @@ fn step_operator(op: StepOp) -> BinOp
     }
 }
 
+#[inline(always)]
 fn gives_old(op: StepOp) -> bool
     ensures { result ≡ gives_old op }
 {
@@ -71,6 +75,7 @@ fn gives_old(op: StepOp) -> bool
 }
 
 /// Steps a place.
+#[inline(always)]
 pub(crate) fn stepped_place<'a>(
     s: &Setting<'a>,
     n: u32,
@@ -97,6 +102,7 @@ pub(crate) fn stepped_place<'a>(
 }
 
 /// Assigns a value, behind an operator where there is one.
+#[inline(always)]
 pub(crate) fn second_assigned<'a>(
     s: &Setting<'a>,
     n: u32,
@@ -120,6 +126,7 @@ pub(crate) fn second_assigned<'a>(
 }
 
 /// The value of an operator on two values.
+#[inline(always)]
 pub(crate) fn second_operated<'a>(
     s: &Setting<'a>,
     op: BinOp,

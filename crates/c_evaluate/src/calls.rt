@@ -77,7 +77,7 @@ fn body<'a>(
     requires words { frame ≡ (setting_of s.now).sizes.frame f }
     ensures { Leads (λ x. at x (stack_of stack.new.items) (store_of store.new)) result (body_of (setting_of s.now) m f (function g.now) values.items r span (stack_of stack.old.items) (store_of store.old)) }
 {
-    let caller = enter_function(s, store, f, frame)?;
+    let caller = Box::new(s.alloc, enter_function(s, store, f, frame)?)?;
     fresh_all(s, store, g.made.as_slice())?;
     params(s, m, g.params.as_slice(), &values, store)?;
     push(stack, Frame::Back(f, values, r, span, caller))?;

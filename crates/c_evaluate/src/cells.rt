@@ -22,6 +22,7 @@ use c_types::CType;
 use obj_mem::{Cell, Objects, Refusal};
 
 /// An answer, with the tokens where the program strays.
+#[inline(always)]
 pub(crate) fn located<T>(span: Span, answer: Result<T, Refusal>) -> Result<T, Stop>
     ensures { Gives (λ x. x) result (at_span span answer) }
 {
@@ -125,6 +126,7 @@ fn structure<'a>(
 }
 
 /// The value of a place.
+#[inline(always)]
 pub(crate) fn fetched<'a>(
     s: &Setting<'a>,
     n: u32,
@@ -148,6 +150,7 @@ pub(crate) fn fetched<'a>(
 }
 
 /// Stores a value of a type at a place.
+#[inline(always)]
 pub(crate) fn stored<'a>(
     s: &Setting<'a>,
     n: u32,

@@ -11,6 +11,7 @@ ghost use Rattle.c_types.specs.View.{texpr, tstmt};
 ghost use Rattle.c_evaluate.specs.SettingView.{or_void};
 ghost use Rattle.c_evaluate.specs.Machine.{OneW};
 ghost use Rattle.c_evaluate.specs.Steps.{give, leave, fill_up, switched, main_step};
+ghost use Rattle.c_evaluate.specs.Swift.{give_on};
 
 use crate::calls::{argument_came, back_from, call};
 use crate::exec::{arms, rest};
@@ -33,6 +34,7 @@ fn strays<'a>() -> Result<Focus<'a>, Stop>
 }
 
 /// A value of a statement came.
+#[inline(always)]
 #[tactic(auto, unfolding(crate::specs::Steps::give))]
 fn give_statement<'a>(
     s: &Setting<'a>,
@@ -79,7 +81,8 @@ fn give_one<'a>(
 }
 
 /// Something came of an expression.
-#[tactic(auto, unfolding(crate::specs::Steps::give))]
+#[inline(always)]
+#[tactic(auto, unfolding(crate::specs::Swift::give_on, crate::specs::Steps::give))]
 pub(crate) fn give<'a>(
     s: &Setting<'a>,
     f: Frame<'a>,
@@ -87,7 +90,7 @@ pub(crate) fn give<'a>(
     stack: &mut Vec<Frame<'a>>,
     store: &mut Store<'a>,
 ) -> Result<Focus<'a>, Stop>
-    ensures { Leads (λ x. at x (stack_of stack.new.items) (store_of store.new)) result (give (setting_of s.now) (frame f.entry) v (stack_of stack.old.items) (store_of store.old)) }
+    ensures { Leads (λ x. at x (stack_of stack.new.items) (store_of store.new)) result (give_on (setting_of s.now) (frame f.entry) v (stack_of stack.old.items) (store_of store.old)) }
 {
     match f {
         Frame::First(n, e) => first(s, n, e, v, stack, store),
@@ -108,6 +111,7 @@ pub(crate) fn give<'a>(
 }
 
 /// A part of a statement was left.
+#[inline(always)]
 #[tactic(auto, unfolding(crate::specs::Steps::leave))]
 fn leave_statement<'a>(
     s: &Setting<'a>,
@@ -129,6 +133,7 @@ fn leave_statement<'a>(
     }
 }
 
+#[inline(always)]
 fn switched(h: How) -> How
     ensures { result ≡ switched h }
 {
@@ -159,6 +164,7 @@ fn main_called<'a>(
 }
 
 /// A statement was left.
+#[inline(always)]
 #[tactic(auto, unfolding(crate::specs::Steps::leave))]
 pub(crate) fn leave<'a>(
     s: &Setting<'a>,
@@ -170,7 +176,16 @@ pub(crate) fn leave<'a>(
     ensures { Leads (λ x. at x (stack_of stack.new.items) (store_of store.new)) result (leave (setting_of s.now) (frame f.entry) h (stack_of stack.old.items) (store_of store.old)) }
 {
     match f {
-        Frame::Back(f, values, r, span, c) => back_from(s, f, &values, r, span, c, h, store),
+        Frame::Back(f, values, r, span, c) => back_from(
+            s,
+            f,
+            &values,
+            r,
+            span,
+            Box::into_inner(c),
+            h,
+            store,
+        ),
         Frame::InStmt(stage, n, r, a) => leave_statement(s, stage, n, r, a, h, stack, store),
         Frame::Rest(n, r, xs) => match h {
             How::On => rest(n, r, xs, stack),
@@ -214,6 +229,7 @@ fn full_statement<'a>(
 }
 
 /// An initialiser is filled in.
+#[inline(always)]
 #[tactic(auto, unfolding(crate::specs::Steps::fill_up))]
 pub(crate) fn fill_up<'a>(
     s: &Setting<'a>,

@@ -1,18 +1,19 @@
 // Expressions begun.
-ghost use Rattle.std.specs.Prelude.{◌≡◌, ◌∷◌, List};
+ghost use Rattle.std.specs.Prelude.{List};
 ghost use Rattle.c_types.specs.View.{texpr};
-ghost use Rattle.obj_mem.specs.Stores as stores;
-ghost use Rattle.c_meaning.specs.Setting.{global_at};
-ghost use Rattle.c_evaluate.specs.Machine.{EvalF, FirstW, FrameT, Going};
+ghost use Rattle.c_evaluate.specs.Machine.{FrameT};
 ghost use Rattle.c_evaluate.specs.Results.{Leads};
 ghost use Rattle.c_evaluate.specs.FocusView.{at, stack_of};
 ghost use Rattle.c_evaluate.specs.SettingView.{setting_of};
 ghost use Rattle.c_evaluate.specs.StoreView.{store_of};
-ghost use Rattle.c_evaluate.specs.Steps.{input, eval_of};
+ghost use Rattle.c_evaluate.specs.Steps.{input};
+ghost use Rattle.c_evaluate.specs.Swift.{eval_of_on, operand_on};
 
 use crate::calls::arguments;
 use crate::cells::located;
 use crate::frame::{Came, Focus, Frame};
+use crate::leaf::{at_once, global_at};
+use crate::operands::first;
 use crate::setting::Setting;
 use crate::stack::{next, push};
 use crate::stop::Stop;
@@ -24,15 +25,22 @@ use obj_mem::Cell;
 
 /// The first operand of an expression.
 fn operand<'a>(
+    s: &Setting<'a>,
     n: u32,
     e: &'a TExpr,
     x: &'a TExpr,
     stack: &mut Vec<Frame<'a>>,
+    store: &mut Store<'a>,
 ) -> Result<Focus<'a>, Stop>
-    ensures { (u : stores.Store) → Leads (λ f. at f (stack_of stack.new.items) u) result (Going (EvalF n (texpr x.now)) (FirstW n (texpr e.now) ∷ stack_of stack.old.items) u) }
+    ensures { Leads (λ f. at f (stack_of stack.new.items) (store_of store.new)) result (operand_on (setting_of s.now) n (texpr e.now) (texpr x.now) (stack_of stack.old.items) (store_of store.old)) }
 {
-    push(stack, Frame::First(n, e))?;
-    Ok(Focus::Eval(n, x))
+    match at_once(s, x, store) {
+        Some(v) => first(s, n, e, v, stack, store),
+        None => {
+            push(stack, Frame::First(n, e))?;
+            Ok(Focus::Eval(n, x))
+        }
+    }
 }
 
 /// The first answer left.
@@ -50,7 +58,8 @@ fn input<'a>(port: u32, store: &mut Store<'a>) -> Result<Focus<'a>, Stop>
 }
 
 /// Begins an expression.
-#[tactic(auto, unfolding(crate::specs::Steps::eval))]
+#[inline(always)]
+#[tactic(auto, unfolding(crate::specs::Swift::eval_on, crate::specs::Steps::eval))]
 pub(crate) fn eval<'a>(
     s: &Setting<'a>,
     n: u32,
@@ -58,7 +67,7 @@ pub(crate) fn eval<'a>(
     stack: &mut Vec<Frame<'a>>,
     store: &mut Store<'a>,
 ) -> Result<Focus<'a>, Stop>
-    ensures { Leads (λ f. at f (stack_of stack.new.items) (store_of store.new)) result (eval_of (setting_of s.now) n (texpr e.now) (stack_of stack.old.items) (store_of store.old)) }
+    ensures { Leads (λ f. at f (stack_of stack.new.items) (store_of store.new)) result (eval_of_on (setting_of s.now) n (texpr e.now) (stack_of stack.old.items) (store_of store.old)) }
 {
     match &e.kind {
         TKind::Number(x) => Ok(Focus::Came(Came::Value(Cell::Num(*x)))),
@@ -69,14 +78,14 @@ pub(crate) fn eval<'a>(
             let p = located(e.span, local_cell(&store.locals, *number as usize))?;
             Ok(Focus::Came(Came::Place(p)))
         }
-        TKind::Unary(_, x) => operand(n, e, x, stack),
-        TKind::Binary(_, x, _) => operand(n, e, x, stack),
-        TKind::Assign(_, x, _) => operand(n, e, x, stack),
-        TKind::Step(_, x) => operand(n, e, x, stack),
-        TKind::Index(x, _) => operand(n, e, x, stack),
-        TKind::Member(x, _) => operand(n, e, x, stack),
-        TKind::Arrow(x, _) => operand(n, e, x, stack),
-        TKind::Cast(x) => operand(n, e, x, stack),
+        TKind::Unary(_, x) => operand(s, n, e, x, stack, store),
+        TKind::Binary(_, x, _) => operand(s, n, e, x, stack, store),
+        TKind::Assign(_, x, _) => operand(s, n, e, x, stack, store),
+        TKind::Step(_, x) => operand(s, n, e, x, stack, store),
+        TKind::Index(x, _) => operand(s, n, e, x, stack, store),
+        TKind::Member(x, _) => operand(s, n, e, x, stack, store),
+        TKind::Arrow(x, _) => operand(s, n, e, x, stack, store),
+        TKind::Cast(x) => operand(s, n, e, x, stack, store),
         TKind::Call(f, xs) => arguments(
             s,
             n,
@@ -88,18 +97,9 @@ pub(crate) fn eval<'a>(
             store,
         ),
         TKind::In(port) => input(*port, store),
-        TKind::Out(_, x) => operand(n, e, x, stack),
+        TKind::Out(_, x) => operand(s, n, e, x, stack, store),
         TKind::Wait => Ok(Focus::Made(Event::Wait, Came::Nothing)),
         TKind::Halt => Err(Stop::Ends(End::Halted)),
         TKind::Card => Ok(Focus::Came(Came::Value(s.card_at()))),
-    }
-}
-
-fn global_at(number: u32) -> Cell
-    ensures { result ≡ global_at number }
-{
-    Cell::Ptr {
-        object: u64::from(number),
-        offset: 0,
     }
 }

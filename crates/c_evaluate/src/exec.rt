@@ -19,6 +19,7 @@ use c_types::{TArm, TExpr, TStmt};
 use obj_mem::Cell;
 
 /// On to the next statement of a list.
+#[inline(always)]
 pub(crate) fn rest<'a>(
     n: u32,
     r: Cell,
@@ -63,6 +64,7 @@ pub(crate) fn arms<'a>(
 }
 
 /// Begins a turn of a `while` or a `for`.
+#[inline(always)]
 pub(crate) fn turn<'a>(
     n: u32,
     r: Cell,
@@ -86,6 +88,7 @@ pub(crate) fn turn<'a>(
 }
 
 /// Asks for the value that a statement needs first.
+#[inline(always)]
 pub(crate) fn ask<'a>(
     n: u32,
     r: Cell,
@@ -100,6 +103,7 @@ pub(crate) fn ask<'a>(
 }
 
 /// Does a part of a statement first.
+#[inline(always)]
 pub(crate) fn part<'a>(
     stage: Stage,
     n: u32,
@@ -115,6 +119,7 @@ pub(crate) fn part<'a>(
 }
 
 /// Begins a statement.
+#[inline(always)]
 #[tactic(auto, unfolding(crate::specs::Steps::exec))]
 pub(crate) fn exec<'a>(
     s: &Setting<'a>,

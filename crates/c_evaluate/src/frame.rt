@@ -60,7 +60,7 @@ pub(crate) enum Frame<'a> {
     First(u32, &'a TExpr),
     Second(u32, &'a TExpr, Cell),
     Argument(u32, u32, Span, Vec<Cell>, &'a [TExpr]),
-    Back(u32, Vec<Cell>, Cell, Span, Caller),
+    Back(u32, Vec<Cell>, Cell, Span, Box<Caller>),
     InStmt(Stage, u32, Cell, &'a TStmt),
     Rest(u32, Cell, &'a [TStmt]),
     Arms(u32, Cell, &'a [TArm]),

@@ -15,6 +15,7 @@ mod eval;
 mod exec;
 mod filling;
 mod frame;
+mod leaf;
 mod lookup;
 mod machine;
 mod opening;

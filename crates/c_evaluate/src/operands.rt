@@ -1,21 +1,22 @@
 // What came of the operands of expressions.
-ghost use Rattle.std.specs.Prelude.{◌≡◌, ◌∷◌, List};
+ghost use Rattle.std.specs.Prelude.{List};
 ghost use Rattle.c_types.specs.View.{ctype, texpr};
-ghost use Rattle.obj_mem.specs.Stores as stores;
 ghost use Rattle.kit_base.specs.declared.event.Event.TheVariants.{Out};
 ghost use Rattle.obj_mem.specs.Queries.{word_of};
 ghost use Rattle.c_evaluate.specs.declared.frame.Came.TheVariants.{Nothing};
-ghost use Rattle.c_evaluate.specs.Machine.{EvalF, FrameT, Going, MadeF, SecondW};
+ghost use Rattle.c_evaluate.specs.Machine.{FrameT, Going, MadeF};
 ghost use Rattle.c_evaluate.specs.Storing.{at_span};
 ghost use Rattle.c_evaluate.specs.Results.{Leads};
 ghost use Rattle.c_evaluate.specs.FocusView.{at, stack_of};
 ghost use Rattle.c_evaluate.specs.SettingView.{setting_of};
 ghost use Rattle.c_evaluate.specs.StoreView.{store_of};
-ghost use Rattle.c_evaluate.specs.Steps.{on, binary_of, combined, unary_first, member_first, binary_second, first_of, second_of};
+ghost use Rattle.c_evaluate.specs.Steps.{on, combined, unary_first, member_first, binary_second, second_of};
+ghost use Rattle.c_evaluate.specs.Swift.{binary_on, first_of_on, second_on};
 
 use crate::assigning::{member, second_assigned, second_operated, stepped_place};
 use crate::cells::located;
 use crate::frame::{Came, Focus, Frame};
+use crate::leaf::at_once;
 use crate::operators::{cell_unary, converted, stepped, truth};
 use crate::queries::{further, step, word_of};
 use crate::setting::Setting;
@@ -30,6 +31,7 @@ use kit_base::Event;
 use obj_mem::Cell;
 
 /// What came of the operand of a unary operator.
+#[inline(always)]
 fn unary<'a>(
     s: &Setting<'a>,
     n: u32,
@@ -65,19 +67,27 @@ fn unary<'a>(
 
 /// The second operand of an expression, whose first came to a cell.
 fn second<'a>(
+    s: &Setting<'a>,
     n: u32,
     e: &'a TExpr,
     y: &'a TExpr,
     c: Cell,
     stack: &mut Vec<Frame<'a>>,
+    store: &mut Store<'a>,
 ) -> Result<Focus<'a>, Stop>
-    ensures { (u : stores.Store) → Leads (λ f. at f (stack_of stack.new.items) u) result (Going (EvalF n (texpr y.now)) (SecondW n (texpr e.now) c ∷ stack_of stack.old.items) u) }
+    ensures { Leads (λ f. at f (stack_of stack.new.items) (store_of store.new)) result (second_on (setting_of s.now) n (texpr e.now) (texpr y.now) c (stack_of stack.old.items) (store_of store.old)) }
 {
-    push(stack, Frame::Second(n, e, c))?;
-    Ok(Focus::Eval(n, y))
+    match at_once(s, y, store) {
+        Some(v) => second_came(s, n, e, c, v, stack, store),
+        None => {
+            push(stack, Frame::Second(n, e, c))?;
+            Ok(Focus::Eval(n, y))
+        }
+    }
 }
 
 /// The structure or pointer of a member came.
+#[inline(always)]
 fn member_of<'a>(
     ty: &CType,
     x: &TExpr,
@@ -116,6 +126,7 @@ fn output<'a>(
 }
 
 /// What came of the first operand of a binary operator.
+#[inline(always)]
 fn binary<'a>(
     s: &Setting<'a>,
     n: u32,
@@ -127,12 +138,12 @@ fn binary<'a>(
     stack: &mut Vec<Frame<'a>>,
     store: &mut Store<'a>,
 ) -> Result<Focus<'a>, Stop>
-    ensures { Leads (λ f. at f (stack_of stack.new.items) (store_of store.new)) result (binary_of (setting_of s.now) n op (texpr e.now) (texpr x.now) (texpr y.now) v (stack_of stack.old.items) (store_of store.old)) }
+    ensures { Leads (λ f. at f (stack_of stack.new.items) (store_of store.new)) result (binary_on (setting_of s.now) n op (texpr e.now) (texpr x.now) (texpr y.now) v (stack_of stack.old.items) (store_of store.old)) }
 {
     match op {
         BinOp::AndAlso => {
             if tested(s, n, x, v, store)? {
-                second(n, e, y, Cell::Unwritten, stack)
+                second(s, n, e, y, Cell::Unwritten, stack, store)
             } else {
                 Ok(Focus::Came(Came::Value(truth(false))))
             }
@@ -141,7 +152,7 @@ fn binary<'a>(
             if tested(s, n, x, v, store)? {
                 Ok(Focus::Came(Came::Value(truth(true))))
             } else {
-                second(n, e, y, Cell::Unwritten, stack)
+                second(s, n, e, y, Cell::Unwritten, stack, store)
             }
         }
         BinOp::Mul
@@ -154,7 +165,7 @@ fn binary<'a>(
         | BinOp::Less
         | BinOp::LessEq => {
             let c = taken(s, n, x, v, store)?;
-            second(n, e, y, c, stack)
+            second(s, n, e, y, c, stack, store)
         }
         BinOp::More
         | BinOp::MoreEq
@@ -164,12 +175,13 @@ fn binary<'a>(
         | BinOp::BitXor
         | BinOp::BitOr => {
             let c = taken(s, n, x, v, store)?;
-            second(n, e, y, c, stack)
+            second(s, n, e, y, c, stack, store)
         }
     }
 }
 
 /// The value of an operator other than `&&` and `||`, whose second operand came.
+#[inline(always)]
 fn combined<'a>(
     s: &Setting<'a>,
     n: u32,
@@ -190,6 +202,7 @@ fn combined<'a>(
 }
 
 /// What came of the second operand of a binary operator.
+#[inline(always)]
 fn binary_second<'a>(
     s: &Setting<'a>,
     n: u32,
@@ -229,7 +242,8 @@ fn binary_second<'a>(
 }
 
 /// What came of the first operand.
-#[tactic(auto, unfolding(crate::specs::Steps::first_step))]
+#[inline(always)]
+#[tactic(auto, unfolding(crate::specs::Swift::first_on, crate::specs::Steps::first_step))]
 pub(crate) fn first<'a>(
     s: &Setting<'a>,
     n: u32,
@@ -238,14 +252,14 @@ pub(crate) fn first<'a>(
     stack: &mut Vec<Frame<'a>>,
     store: &mut Store<'a>,
 ) -> Result<Focus<'a>, Stop>
-    ensures { Leads (λ f. at f (stack_of stack.new.items) (store_of store.new)) result (first_of (setting_of s.now) n (texpr e.now) v (stack_of stack.old.items) (store_of store.old)) }
+    ensures { Leads (λ f. at f (stack_of stack.new.items) (store_of store.new)) result (first_of_on (setting_of s.now) n (texpr e.now) v (stack_of stack.old.items) (store_of store.old)) }
 {
     match &e.kind {
         TKind::Unary(op, x) => unary(s, n, *op, x, e.span, v, stack, store),
         TKind::Binary(op, x, y) => binary(s, n, *op, e, x, y, v, stack, store),
         TKind::Assign(_, _, y) => {
             let p = placed(e.span, v)?;
-            second(n, e, y, p, stack)
+            second(s, n, e, y, p, stack, store)
         }
         TKind::Step(op, x) => {
             let p = placed(e.span, v)?;
@@ -254,7 +268,7 @@ pub(crate) fn first<'a>(
         }
         TKind::Index(x, y) => {
             let c = taken(s, n, x, v, store)?;
-            second(n, e, y, c, stack)
+            second(s, n, e, y, c, stack, store)
         }
         TKind::Member(x, offset) => member_of(&e.ty, x, e.span, *offset, v, store),
         TKind::Arrow(x, offset) => {
@@ -280,6 +294,7 @@ pub(crate) fn first<'a>(
 }
 
 /// What came of the second operand, where the first came to a cell.
+#[inline(always)]
 #[tactic(auto, unfolding(crate::specs::Steps::second_step))]
 pub(crate) fn second_came<'a>(
     s: &Setting<'a>,

@@ -16,6 +16,7 @@ use c_types::CType;
 use kit_base::{div_word, mod_word, shift_word, signed, wrap_add};
 use obj_mem::{Cell, Objects, Refusal};
 
+#[inline(always)]
 fn is_of(ty: &CType, c: Cell) -> bool
     ensures { result ≡ is_of (ctype ty.now) c }
 {
@@ -33,6 +34,7 @@ fn is_of(ty: &CType, c: Cell) -> bool
 }
 
 /// The cell at a pointer, which has to be of a type.
+#[inline(always)]
 pub(crate) fn read_as(ty: &CType, os: &Objects, p: Cell) -> Result<Cell, Refusal>
     ensures { result ≡ read_as (ctype ty.now) (objects os.now) p }
 {
@@ -44,12 +46,14 @@ pub(crate) fn read_as(ty: &CType, os: &Objects, p: Cell) -> Result<Cell, Refusal
     }
 }
 
+#[inline(always)]
 fn bool_word(b: bool) -> u32
     ensures { result ≡ bool_word b }
 {
     if b { 1 } else { 0 }
 }
 
+#[inline(always)]
 pub(crate) fn truth(b: bool) -> Cell
     ensures { result ≡ truth b }
 {
@@ -57,6 +61,7 @@ pub(crate) fn truth(b: bool) -> Cell
 }
 
 /// The value that is stored at a type.
+#[inline(always)]
 pub(crate) fn converted(ty: &CType, c: Cell) -> Result<Cell, Refusal>
     ensures { result ≡ converted (ctype ty.now) c }
 {
@@ -71,6 +76,7 @@ pub(crate) fn converted(ty: &CType, c: Cell) -> Result<Cell, Refusal>
 }
 
 /// Whether a value of a type is true.
+#[inline(always)]
 pub(crate) fn is_true(os: &Objects, ty: &CType, c: Cell) -> Result<bool, Refusal>
     ensures { result ≡ is_true (objects os.now) (decayed (ctype ty.now)) c }
 {
@@ -82,6 +88,7 @@ pub(crate) fn is_true(os: &Objects, ty: &CType, c: Cell) -> Result<bool, Refusal
     Ok(x != 0)
 }
 
+#[inline(always)]
 fn word_unary(op: UnOp, x: u32) -> Result<u32, Refusal>
     ensures { result ≡ word_unary op x }
 {
@@ -93,6 +100,7 @@ fn word_unary(op: UnOp, x: u32) -> Result<u32, Refusal>
     }
 }
 
+#[inline(always)]
 pub(crate) fn cell_unary(op: UnOp, c: Cell) -> Result<Cell, Refusal>
     ensures { result ≡ cell_unary op c }
 {
@@ -101,6 +109,7 @@ pub(crate) fn cell_unary(op: UnOp, c: Cell) -> Result<Cell, Refusal>
     Ok(Cell::Num(z))
 }
 
+#[inline(always)]
 #[tactic(auto, using(kit_base::proofs::Words::word_facts), unfolding(kit_base::specs::Word::below))]
 fn below(x: u32, y: u32) -> bool
     ensures { result ≡ below x y }
@@ -108,6 +117,7 @@ fn below(x: u32, y: u32) -> bool
     signed(x) < signed(y)
 }
 
+#[inline(always)]
 fn divided(x: u32, y: u32) -> Result<u32, Refusal>
     ensures { result ≡ unless_zero y (quotient x y) }
 {
@@ -117,6 +127,7 @@ fn divided(x: u32, y: u32) -> Result<u32, Refusal>
     }
 }
 
+#[inline(always)]
 fn rest_of(x: u32, y: u32) -> Result<u32, Refusal>
     ensures { result ≡ unless_zero y (remainder x y) }
 {
@@ -126,12 +137,14 @@ fn rest_of(x: u32, y: u32) -> Result<u32, Refusal>
     }
 }
 
+#[inline(always)]
 fn wrap_mul(x: u32, y: u32) -> u32
     ensures { result ≡ mul x y }
 {
     x.wrapping_mul(y)
 }
 
+#[inline(always)]
 fn word_binary(op: BinOp, x: u32, y: u32) -> Result<u32, Refusal>
     ensures { result ≡ word_binary op x y }
 {
@@ -156,6 +169,7 @@ fn word_binary(op: BinOp, x: u32, y: u32) -> Result<u32, Refusal>
     }
 }
 
+#[inline(always)]
 fn cell_binary(op: BinOp, c: Cell, d: Cell) -> Result<Cell, Refusal>
     ensures { result ≡ cell_binary op c d }
 {
@@ -166,6 +180,7 @@ fn cell_binary(op: BinOp, c: Cell, d: Cell) -> Result<Cell, Refusal>
 }
 
 /// A pointer so many elements of a size on.
+#[inline(always)]
 pub(crate) fn stepped(size: u32, p: Cell, c: Cell) -> Result<Cell, Refusal>
     ensures { result ≡ stepped size p c }
 {
@@ -236,6 +251,7 @@ fn pointer_operated(
 }
 
 /// A binary operator other than `&&` and `||` on values of two types.
+#[inline(always)]
 pub(crate) fn operated<'a>(
     s: &Setting<'a>,
     op: BinOp,

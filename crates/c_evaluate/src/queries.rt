@@ -9,6 +9,7 @@ use obj_mem::{Access, Cell, Objects, Refusal};
 
 const CARD_WORDS: u32 = 262_144;
 
+#[inline(always)]
 pub(crate) fn word_of(c: Cell) -> Result<u32, Refusal>
     ensures { result ≡ word_of c }
 {
@@ -19,6 +20,7 @@ pub(crate) fn word_of(c: Cell) -> Result<u32, Refusal>
 }
 
 /// Why an access is refused, where `fault` is that of a literal or a card.
+#[inline(always)]
 fn refused(fault: u32, offset: u32, access: Access) -> Refusal
     ensures { result ≡ refused fault offset access }
 {
@@ -36,6 +38,7 @@ fn refused(fault: u32, offset: u32, access: Access) -> Refusal
 }
 
 /// The cell at a pointer.
+#[inline(always)]
 pub(crate) fn read(os: &Objects, p: Cell) -> Result<Cell, Refusal>
     ensures { result ≡ read (objects os.now) p }
 {
@@ -49,6 +52,7 @@ pub(crate) fn read(os: &Objects, p: Cell) -> Result<Cell, Refusal>
 }
 
 /// Writes the cell at a pointer.
+#[inline(always)]
 pub(crate) fn write(os: &mut Objects, p: Cell, c: Cell) -> Result<(), Refusal>
     ensures ok { OnOk result (write (objects os.old) p c ≡ Ok (objects os.new)) }
     ensures err { IfErr result (λ why. write (objects os.old) p c ≡ Err why) }
@@ -63,6 +67,7 @@ pub(crate) fn write(os: &mut Objects, p: Cell, c: Cell) -> Result<(), Refusal>
 }
 
 /// A pointer so many words on.
+#[inline(always)]
 pub(crate) fn step(p: Cell, n: u32) -> Result<Cell, Refusal>
     ensures { result ≡ step p n }
 {
@@ -75,6 +80,7 @@ pub(crate) fn step(p: Cell, n: u32) -> Result<Cell, Refusal>
     }
 }
 
+#[inline(always)]
 pub(crate) fn further(p: Cell, n: u32) -> Cell
     ensures { result ≡ further p n }
 {
@@ -157,6 +163,7 @@ pub(crate) fn apart(os: &Objects, p: Cell, q: Cell) -> Result<u32, Refusal>
     Ok(wrap_sub(i, j))
 }
 
+#[inline(always)]
 pub(crate) fn wrap_sub(a: u32, b: u32) -> u32
     ensures { result ≡ sub a b }
 {

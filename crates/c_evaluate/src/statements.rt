@@ -70,6 +70,7 @@ fn before(word: u32, xs: &[TArm]) -> usize
 }
 
 /// A further turn of a `while` or a `for`.
+#[inline(always)]
 fn again<'a>(
     n: u32,
     r: Cell,
@@ -87,6 +88,7 @@ fn again<'a>(
 }
 
 /// A further turn of a `do`.
+#[inline(always)]
 fn do_again<'a>(
     n: u32,
     r: Cell,
@@ -104,6 +106,7 @@ fn do_again<'a>(
 }
 
 /// The step of a `for`, and the next turn.
+#[inline(always)]
 fn step<'a>(
     n: u32,
     r: Cell,
@@ -189,6 +192,7 @@ fn switches<'a>(
 }
 
 /// A condition came: the body of the loop, or on.
+#[inline(always)]
 fn loops<'a>(
     s: &Setting<'a>,
     n: u32,
@@ -210,6 +214,7 @@ fn loops<'a>(
 }
 
 /// The value that a statement asks for came.
+#[inline(always)]
 #[tactic(auto, unfolding(crate::specs::Steps::value_step))]
 pub(crate) fn value_came<'a>(
     s: &Setting<'a>,
@@ -385,6 +390,7 @@ fn for_begun<'a>(
 }
 
 /// The body of a loop was left.
+#[inline(always)]
 #[tactic(auto, unfolding(crate::specs::Steps::body_step))]
 pub(crate) fn body_left<'a>(
     n: u32,

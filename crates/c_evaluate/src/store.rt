@@ -31,6 +31,7 @@ pub(crate) struct Store<'a> {
 }
 
 /// The object of a local, where it was made.
+#[inline(always)]
 pub(crate) fn local_object(locals: &[Option<u64>], k: usize) -> Option<u64>
     ensures { result ≡ local_object locals.now k }
 {
@@ -107,6 +108,7 @@ pub(crate) fn fresh_all<'a>(
 }
 
 /// A pointer to a local, where it was made.
+#[inline(always)]
 pub(crate) fn local_cell(locals: &[Option<u64>], k: usize) -> Result<Cell, Refusal>
     ensures { result ≡ first_cell (local_object locals.now k) }
 {
@@ -137,6 +139,7 @@ pub(crate) fn end_temporary<'a>(store: &mut Store<'a>, c: Cell)
 }
 
 /// A value of a type was used.
+#[inline(always)]
 pub(crate) fn released<'a>(store: &mut Store<'a>, ty: &CType, c: Cell)
     ensures { store_of store.new ≡ released (ctype ty.now) c (store_of store.old) }
 {

@@ -5,6 +5,7 @@ ghost use Rattle.c_meaning.specs.Kinds.{is_structure, decayed, pointed, is_point
 
 use c_types::CType;
 
+#[inline(always)]
 pub(crate) fn is_structure(ty: &CType) -> bool
     ensures { result ≡ is_structure (ctype ty.now) }
 {
@@ -20,6 +21,7 @@ pub(crate) fn is_structure(ty: &CType) -> bool
 }
 
 /// What a pointer or an array leads to.
+#[inline(always)]
 pub(crate) fn target(ty: &CType) -> Option<&CType>
     ensures { option_map (λ t. ctype t.now) result ≡ pointed (decayed (ctype ty.now)) }
 {
@@ -36,6 +38,7 @@ pub(crate) fn target(ty: &CType) -> Option<&CType>
 }
 
 /// Whether a value of a type is a pointer.
+#[inline(always)]
 pub(crate) fn is_pointer(ty: &CType) -> bool
     ensures { result ≡ is_pointer (decayed (ctype ty.now)) }
 {

@@ -18,6 +18,7 @@ use c_types::TExpr;
 use obj_mem::Cell;
 
 /// Its value.
+#[inline(always)]
 pub(crate) fn taken<'a>(
     s: &Setting<'a>,
     n: u32,
@@ -35,6 +36,7 @@ pub(crate) fn taken<'a>(
 }
 
 /// Whether it is true.
+#[inline(always)]
 pub(crate) fn tested<'a>(
     s: &Setting<'a>,
     n: u32,
@@ -49,6 +51,7 @@ pub(crate) fn tested<'a>(
 }
 
 /// Its value is dropped; a call may have returned none.
+#[inline(always)]
 pub(crate) fn dropped<'a>(
     s: &Setting<'a>,
     n: u32,
@@ -73,6 +76,7 @@ pub(crate) fn dropped<'a>(
 }
 
 /// Its place.
+#[inline(always)]
 pub(crate) fn placed(span: Span, v: Came) -> Result<Cell, Stop>
     ensures { Gives (λ p. p) result (placed_in span v) }
 {

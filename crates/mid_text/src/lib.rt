@@ -1,0 +1,12 @@
+//! The text of mid code, for tests and for people.
+//!
+//! It promises that the text is exactly the written form of the code, a line for each node. It stands on mid_code.
+#![tactic(auto)]
+
+mod nodes;
+mod operations;
+mod operators;
+mod pieces;
+mod program;
+
+pub use program::write_mid;

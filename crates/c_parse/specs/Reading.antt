@@ -113,18 +113,26 @@ primary_by c r ts lead.Other = bad ts
 abbrev pub primary_with : Context → Readers → Reader ExprT
 primary_with c r ts = primary_by c r ts (lead_at c ts)
 
+-- a member of the expression a, which begins at the tokens at
+abbrev pub member_suffix : Context → List Tok → ExprT → Reader ExprT
+member_suffix c at a ts = do
+  n ← name c (behind ts)
+  Ok (MemberE a n.0 (span c at n.1), n.1)
+
+-- a member behind a pointer
+abbrev pub arrow_suffix : Context → List Tok → ExprT → Reader ExprT
+arrow_suffix c at a ts = do
+  n ← name c (behind ts)
+  Ok (ArrowE a n.0 (span c at n.1), n.1)
+
 -- a suffix behind the expression a, which begins at the tokens at
 abbrev pub suffix_by : Context → Readers → List Tok → ExprT → List Tok → Suffix → Result (Got ExprT) Fault
 suffix_by c r at a ts suffix.Index = do
   i ← r.whole (behind ts)
   rest ← close_bracket i.1
   Ok (IndexE a i.0 (span c at rest), rest)
-suffix_by c r at a ts suffix.Member = do
-  n ← name c (behind ts)
-  Ok (MemberE a n.0 (span c at n.1), n.1)
-suffix_by c r at a ts suffix.Arrow = do
-  n ← name c (behind ts)
-  Ok (ArrowE a n.0 (span c at n.1), n.1)
+suffix_by c r at a ts suffix.Member = member_suffix c at a ts
+suffix_by c r at a ts suffix.Arrow = arrow_suffix c at a ts
 suffix_by c r at a ts (suffix.Step op) = Ok (StepE op a (span c at (behind ts)), behind ts)
 suffix_by c r at a ts suffix.Nothing = bad ts
 

@@ -8,6 +8,7 @@ ghost use Rattle.c_tree.specs.View.{expr, init, type, var};
 
 use crate::expression::{expression, level, type_tree};
 use crate::fault::ReadErr;
+use crate::keeping::keeping;
 use crate::leading::{begins_expr, begins_type};
 use crate::scope::{Scope, span};
 use crate::tokens::{
@@ -60,7 +61,7 @@ fn field<'a>(
 ) -> Result<(Var, &'a [Token]), ReadErr>
     ensures gives { Gives (λ x. (var x.0, toks x.1.now)) result (reading.field (context scope.now) (type ty) (toks tokens.now)) }
 {
-    let (name, rest) = name(alloc, scope, tokens)?;
+    let (ty, (name, rest)) = keeping(ty, name(alloc, scope, tokens))?;
     let span = span(scope, tokens, rest);
     Ok((
         Var {
@@ -82,7 +83,7 @@ fn variable<'a>(
 ) -> Result<(Var, &'a [Token]), ReadErr>
     ensures gives { Gives (λ x. (var x.0, toks x.1.now)) result (reading.var (context scope.now) room (type ty) (toks tokens.now)) }
 {
-    let (name, rest) = name(alloc, scope, tokens)?;
+    let (ty, (name, rest)) = keeping(ty, name(alloc, scope, tokens))?;
     if !at_assign(rest) {
         let span = span(scope, tokens, rest);
         return Ok((
@@ -95,7 +96,8 @@ fn variable<'a>(
             rest,
         ));
     }
-    let (value, rest) = initial(alloc, scope, room, behind(rest))?;
+    let value = initial(alloc, scope, room, behind(rest));
+    let ((ty, name), (value, rest)) = keeping((ty, name), value)?;
     let span = span(scope, tokens, rest);
     Ok((
         Var {

@@ -1,14 +1,18 @@
 // From tokens to expressions and types.
-ghost use Rattle.std.specs.Prelude.{◌≡◌, ◌≤◌, ◌<◌, ◌-◌, IfOk, Ok, map};
-ghost use Rattle.c_parse.specs.Reader.{loop};
+ghost use Rattle.std.specs.Prelude.{◌≡◌, ◌≤◌, ◌<◌, ◌-◌, ◌+◌, ◌^◌, IfOk, Ok, Some, map};
+ghost use Rattle.c_parse.specs.declared.lead.Lead.TheVariants as main_leads;
+ghost use Rattle.c_parse.specs.declared.lead.Start.TheVariants as starts;
+ghost use Rattle.c_parse.specs.declared.lead.Suffix.TheVariants as suffixes;
+ghost use Rattle.c_parse.specs.Reader.{at_open_paren, behind, loop};
 ghost use Rattle.c_parse.specs.Tok.{toks};
 ghost use Rattle.c_parse.specs.View.{Gives, context};
-ghost use Rattle.c_parse.specs.Reading.{arguments_with, base, expr_at, level_at, operator_turn, postfix_with, primary_with, readers, run_at, suffix_by, type_read};
+ghost use Rattle.c_parse.specs.Reading.{arrow_suffix, assign_by, member_suffix, named_by, primary_by, suffix_by, unary_by, arguments_with, base, expr_at, level_at, operator_turn, postfix_with, primary_with, readers, run_at, type_read};
 ghost use Rattle.c_parse.specs.Leads as leads;
 ghost use Rattle.c_tree.specs.View.{expr, exprs, type};
 ghost use Rattle.c_tree.specs.Depth.{expr_depth, exprs_depth, type_depth};
 
 use crate::fault::ReadErr;
+use crate::keeping::keeping;
 use crate::lead::{Lead, Start, Suffix, TypeLead, TypeMark};
 use crate::leading::{
     assigner_behind, begins_expr, begins_type, is_some_suffix, lead_at, operator_at, start_at,
@@ -23,7 +27,7 @@ use c_lex::Token;
 use c_tree::building::{
     array, arrow, assign, binary, cast, index, member, paren, pointer, step, unary,
 };
-use c_tree::{Expr, TypeTree};
+use c_tree::{BinOp, Expr, TypeTree};
 use kit_base::Seq;
 use std::alloc::Global;
 
@@ -46,12 +50,35 @@ pub(crate) fn expression<'a>(
     let Some(op) = assigner_behind(&left, rest) else {
         return Ok((left, depth, rest));
     };
+    assigned(alloc, scope, room, op, left, depth, tokens, rest)
+}
+
+/// The assignment to `left`, which begins at `from`, with the operator before it or none.
+#[tactic(auto, using(crate::proofs::Steps::reader_steps))]
+#[cycle(expressions)]
+fn assigned<'a>(
+    alloc: Global,
+    scope: &Scope,
+    room: u32,
+    op: Option<BinOp>,
+    left: Expr,
+    depth: u32,
+    from: &[Token],
+    tokens: &'a [Token],
+) -> Result<(Expr, u32, &'a [Token]), ReadErr>
+    requires some { 0 < room }
+    requires depth { depth ≡ expr_depth (expr left) }
+    ensures gives { Gives (λ x. (expr x.0, toks x.2.now)) result (assign_by (context scope.now) (readers (context scope.now) (room - 1)) room (toks from.now) (expr left) (toks tokens.now) (Some op)) }
+    ensures depth { IfOk result (λ x. x.1 ≡ expr_depth (expr x.0)) }
+    ensures fits { IfOk result (λ x. x.1 ≤ room) }
+{
     if room <= depth {
-        return Err(deep(rest));
+        return Err(deep(tokens));
     }
-    let (right, right_depth, after) = expression(alloc, scope, room - 1, behind(rest))?;
-    let tree = assign(alloc, op, left, right, span(scope, tokens, after))?;
-    Ok((tree, depth.max(right_depth) + 1, after))
+    let found = expression(alloc, scope, room - 1, behind(tokens));
+    let (left, (right, right_depth, rest)) = keeping(left, found)?;
+    let tree = assign(alloc, op, left, right, span(scope, from, rest))?;
+    Ok((tree, depth.max(right_depth) + 1, rest))
 }
 
 #[tactic(auto, using(crate::proofs::Steps::reader_steps))]
@@ -147,21 +174,50 @@ fn unary_expression<'a>(
             let tree = step(alloc, op, a, span(scope, tokens, rest))?;
             Ok((tree, depth + 1, rest))
         }
-        Start::Cast => {
-            let (ty, ty_depth, rest) = type_tree(alloc, scope, room - 1, behind(tokens))?;
-            let rest = close_paren(rest)?;
-            let (a, depth, rest) = unary_expression(alloc, scope, room - 1, rest)?;
-            let tree = cast(alloc, ty, a, span(scope, tokens, rest))?;
-            Ok((tree, ty_depth.max(depth) + 1, rest))
-        }
-        Start::Size => {
-            let rest = open_paren(behind(tokens))?;
-            let (ty, depth, rest) = type_tree(alloc, scope, room - 1, rest)?;
-            let rest = close_paren(rest)?;
-            Ok((Expr::SizeOf(ty, span(scope, tokens, rest)), depth + 1, rest))
-        }
+        Start::Cast => cast_expression(alloc, scope, room, tokens),
+        Start::Size => size_expression(alloc, scope, room, tokens),
         Start::Other => postfix(alloc, scope, room, tokens),
     }
+}
+
+#[tactic(auto, using(crate::proofs::Steps::reader_steps))]
+#[cycle(expressions)]
+fn cast_expression<'a>(
+    alloc: Global,
+    scope: &Scope,
+    room: u32,
+    tokens: &'a [Token],
+) -> Result<(Expr, u32, &'a [Token]), ReadErr>
+    requires some { 0 < room }
+    ensures gives { Gives (λ x. (expr x.0, toks x.2.now)) result (unary_by (context scope.now) (readers (context scope.now) (room - 1)) room (toks tokens.now) starts.Cast) }
+    ensures depth { IfOk result (λ x. x.1 ≡ expr_depth (expr x.0)) }
+    ensures fits { IfOk result (λ x. x.1 ≤ room) }
+{
+    let (ty, ty_depth, rest) = type_tree(alloc, scope, room - 1, behind(tokens))?;
+    let (ty, rest) = keeping(ty, close_paren(rest))?;
+    let found = unary_expression(alloc, scope, room - 1, rest);
+    let (ty, (a, depth, rest)) = keeping(ty, found)?;
+    let tree = cast(alloc, ty, a, span(scope, tokens, rest))?;
+    Ok((tree, ty_depth.max(depth) + 1, rest))
+}
+
+#[tactic(auto, using(crate::proofs::Steps::reader_steps))]
+#[cycle(expressions)]
+fn size_expression<'a>(
+    alloc: Global,
+    scope: &Scope,
+    room: u32,
+    tokens: &'a [Token],
+) -> Result<(Expr, u32, &'a [Token]), ReadErr>
+    requires some { 0 < room }
+    ensures gives { Gives (λ x. (expr x.0, toks x.2.now)) result (unary_by (context scope.now) (readers (context scope.now) (room - 1)) room (toks tokens.now) starts.Size) }
+    ensures depth { IfOk result (λ x. x.1 ≡ expr_depth (expr x.0)) }
+    ensures fits { IfOk result (λ x. x.1 ≤ room) }
+{
+    let rest = open_paren(behind(tokens))?;
+    let (ty, depth, rest) = type_tree(alloc, scope, room - 1, rest)?;
+    let (ty, rest) = keeping(ty, close_paren(rest))?;
+    Ok((Expr::SizeOf(ty, span(scope, tokens, rest)), depth + 1, rest))
 }
 
 #[tactic(auto, using(crate::proofs::Steps::reader_steps))]
@@ -209,22 +265,9 @@ fn suffixed<'a>(
     ensures fits { IfOk result (λ x. x.1 ≤ room) }
 {
     match suffix_at(tokens) {
-        Suffix::Index => {
-            let (i, index_depth, rest) = expression(alloc, scope, room - 1, behind(tokens))?;
-            let rest = close_bracket(rest)?;
-            let tree = index(alloc, left, i, span(scope, from, rest))?;
-            Ok((tree, depth.max(index_depth) + 1, rest))
-        }
-        Suffix::Member => {
-            let (n, rest) = name(alloc, scope, behind(tokens))?;
-            let tree = member(alloc, left, n, span(scope, from, rest))?;
-            Ok((tree, depth + 1, rest))
-        }
-        Suffix::Arrow => {
-            let (n, rest) = name(alloc, scope, behind(tokens))?;
-            let tree = arrow(alloc, left, n, span(scope, from, rest))?;
-            Ok((tree, depth + 1, rest))
-        }
+        Suffix::Index => indexed(alloc, scope, room, left, depth, from, tokens),
+        Suffix::Member => with_member(alloc, scope, left, depth, from, tokens),
+        Suffix::Arrow => with_arrow(alloc, scope, left, depth, from, tokens),
         Suffix::Step(op) => {
             let rest = behind(tokens);
             let tree = step(alloc, op, left, span(scope, from, rest))?;
@@ -232,6 +275,70 @@ fn suffixed<'a>(
         }
         Suffix::Nothing => Err(bad(tokens)),
     }
+}
+
+#[tactic(auto, using(crate::proofs::Steps::reader_steps))]
+#[cycle(expressions)]
+fn indexed<'a>(
+    alloc: Global,
+    scope: &Scope,
+    room: u32,
+    left: Expr,
+    depth: u32,
+    from: &[Token],
+    tokens: &'a [Token],
+) -> Result<(Expr, u32, &'a [Token]), ReadErr>
+    requires depth { depth ≡ expr_depth (expr left) }
+    requires some { depth < room }
+    ensures gives { Gives (λ x. (expr x.0, toks x.2.now)) result (suffix_by (context scope.now) (readers (context scope.now) (room - 1)) (toks from.now) (expr left) (toks tokens.now) suffixes.Index) }
+    ensures depth { IfOk result (λ x. x.1 ≡ expr_depth (expr x.0)) }
+    ensures fits { IfOk result (λ x. x.1 ≤ room) }
+{
+    let found = expression(alloc, scope, room - 1, behind(tokens));
+    let (left, (i, index_depth, rest)) = keeping(left, found)?;
+    let ((left, i), rest) = keeping((left, i), close_bracket(rest))?;
+    let tree = index(alloc, left, i, span(scope, from, rest))?;
+    Ok((tree, depth.max(index_depth) + 1, rest))
+}
+
+fn with_member<'a>(
+    alloc: Global,
+    scope: &Scope,
+    left: Expr,
+    depth: u32,
+    from: &[Token],
+    tokens: &'a [Token],
+) -> Result<(Expr, u32, &'a [Token]), ReadErr>
+    requires depth { depth ≡ expr_depth (expr left) }
+    requires some { depth < 2 ^ 32 - 1 }
+    ensures gives { Gives (λ x. (expr x.0, toks x.2.now)) result (member_suffix (context scope.now) (toks from.now) (expr left) (toks tokens.now)) }
+    ensures depth { IfOk result (λ x. x.1 ≡ expr_depth (expr x.0)) }
+    ensures fits { IfOk result (λ x. x.1 ≡ depth + 1) }
+{
+    let found = name(alloc, scope, behind(tokens));
+    let (left, (n, rest)) = keeping(left, found)?;
+    let tree = member(alloc, left, n, span(scope, from, rest))?;
+    Ok((tree, depth + 1, rest))
+}
+
+fn with_arrow<'a>(
+    alloc: Global,
+    scope: &Scope,
+    left: Expr,
+    depth: u32,
+    from: &[Token],
+    tokens: &'a [Token],
+) -> Result<(Expr, u32, &'a [Token]), ReadErr>
+    requires depth { depth ≡ expr_depth (expr left) }
+    requires some { depth < 2 ^ 32 - 1 }
+    ensures gives { Gives (λ x. (expr x.0, toks x.2.now)) result (arrow_suffix (context scope.now) (toks from.now) (expr left) (toks tokens.now)) }
+    ensures depth { IfOk result (λ x. x.1 ≡ expr_depth (expr x.0)) }
+    ensures fits { IfOk result (λ x. x.1 ≡ depth + 1) }
+{
+    let found = name(alloc, scope, behind(tokens));
+    let (left, (n, rest)) = keeping(left, found)?;
+    let tree = arrow(alloc, left, n, span(scope, from, rest))?;
+    Ok((tree, depth + 1, rest))
 }
 
 #[tactic(auto, using(crate::proofs::Steps::reader_steps))]
@@ -249,31 +356,62 @@ fn primary<'a>(
 {
     let rest = behind(tokens);
     match lead_at(scope, tokens) {
-        Lead::Name => {
-            let n = word(alloc, tokens)?;
-            if !at_open_paren(rest) {
-                return Ok((Expr::Name(n, span(scope, tokens, rest)), 1, rest));
-            }
-            let (args, depth, rest) = arguments(alloc, scope, room - 1, behind(rest))?;
-            Ok((
-                Expr::Call(n, args, span(scope, tokens, rest)),
-                depth + 1,
-                rest,
-            ))
-        }
+        Lead::Name => named(alloc, scope, room, tokens),
         Lead::Value(n) => Ok((Expr::Number(n, span(scope, tokens, rest)), 1, rest)),
         Lead::Text => {
             let text = word(alloc, tokens)?;
             Ok((Expr::Text(text, span(scope, tokens, rest)), 1, rest))
         }
         Lead::Null => Ok((Expr::Null(span(scope, tokens, rest)), 1, rest)),
-        Lead::Paren => {
-            let (e, depth, rest) = expression(alloc, scope, room - 1, rest)?;
-            let rest = close_paren(rest)?;
-            Ok((paren(alloc, e, span(scope, tokens, rest))?, depth + 1, rest))
-        }
+        Lead::Paren => parenthesised(alloc, scope, room, tokens),
         Lead::Other => Err(bad(tokens)),
     }
+}
+
+/// A name or a call, from the name on.
+#[tactic(auto, using(crate::proofs::Steps::reader_steps))]
+#[cycle(expressions)]
+fn named<'a>(
+    alloc: Global,
+    scope: &Scope,
+    room: u32,
+    tokens: &'a [Token],
+) -> Result<(Expr, u32, &'a [Token]), ReadErr>
+    requires some { 0 < room }
+    ensures gives { Gives (λ x. (expr x.0, toks x.2.now)) result (named_by (context scope.now) (readers (context scope.now) (room - 1)) (toks tokens.now) (at_open_paren (behind (toks tokens.now)))) }
+    ensures depth { IfOk result (λ x. x.1 ≡ expr_depth (expr x.0)) }
+    ensures fits { IfOk result (λ x. x.1 ≤ room) }
+{
+    let rest = behind(tokens);
+    let n = word(alloc, tokens)?;
+    if !at_open_paren(rest) {
+        return Ok((Expr::Name(n, span(scope, tokens, rest)), 1, rest));
+    }
+    let found = arguments(alloc, scope, room - 1, behind(rest));
+    let (n, (args, depth, rest)) = keeping(n, found)?;
+    Ok((
+        Expr::Call(n, args, span(scope, tokens, rest)),
+        depth + 1,
+        rest,
+    ))
+}
+
+#[tactic(auto, using(crate::proofs::Steps::reader_steps))]
+#[cycle(expressions)]
+fn parenthesised<'a>(
+    alloc: Global,
+    scope: &Scope,
+    room: u32,
+    tokens: &'a [Token],
+) -> Result<(Expr, u32, &'a [Token]), ReadErr>
+    requires some { 0 < room }
+    ensures gives { Gives (λ x. (expr x.0, toks x.2.now)) result (primary_by (context scope.now) (readers (context scope.now) (room - 1)) (toks tokens.now) main_leads.Paren) }
+    ensures depth { IfOk result (λ x. x.1 ≡ expr_depth (expr x.0)) }
+    ensures fits { IfOk result (λ x. x.1 ≤ room) }
+{
+    let (e, depth, rest) = expression(alloc, scope, room - 1, behind(tokens))?;
+    let (e, rest) = keeping(e, close_paren(rest))?;
+    Ok((paren(alloc, e, span(scope, tokens, rest))?, depth + 1, rest))
 }
 
 /// A call's arguments, up to and with the parenthesis that closes them.
@@ -385,11 +523,13 @@ fn run<'a>(
     if room <= depth {
         return Err(deep(tokens));
     }
-    let (size, size_depth, rest) = level(alloc, scope, room - 1, 10, behind(tokens))?;
-    let rest = close_bracket(rest)?;
+    let found = level(alloc, scope, room - 1, 10, behind(tokens));
+    let (ty, (size, size_depth, rest)) = keeping(ty, found)?;
+    let ((ty, size), rest) = keeping((ty, size), close_bracket(rest))?;
     if !at_open_bracket(rest) {
         return Ok((array(alloc, ty, size)?, depth.max(size_depth) + 1, rest));
     }
-    let (of, of_depth, rest) = run(alloc, scope, room - 1, ty, depth, rest)?;
+    let found = run(alloc, scope, room - 1, ty, depth, rest);
+    let (size, (of, of_depth, rest)) = keeping(size, found)?;
     Ok((array(alloc, of, size)?, of_depth.max(size_depth) + 1, rest))
 }

@@ -9,6 +9,7 @@ mod declaration;
 mod error;
 mod expression;
 mod fault;
+mod keeping;
 mod laws;
 mod lead;
 mod leading;

@@ -1,5 +1,6 @@
 // From tokens to statements.
 ghost use Rattle.std.specs.Prelude.{◌≡◌, ◌<◌, ◌-◌, ◌*◌, Ok, map, option_map, true};
+ghost use Rattle.c_parse.specs.declared.lead.StmtLead.TheVariants as leads;
 ghost use Rattle.c_parse.specs.ReadingLists.{braced};
 ghost use Rattle.c_parse.specs.ReadingStatements as reading;
 ghost use Rattle.c_parse.specs.Tok.{toks};
@@ -11,6 +12,7 @@ ghost use Rattle.c_tree.specs.View.{arm, expr, stmt};
 use crate::declaration::variables;
 use crate::expression::{expression, level};
 use crate::fault::ReadErr;
+use crate::keeping::keeping;
 use crate::lead::{ArmLead, StmtLead};
 use crate::leading::{arm_at, begins_expr, begins_stmt, begins_type, is_some_arm, stmt_at};
 use crate::scope::{Scope, span};
@@ -78,8 +80,7 @@ fn test<'a>(
 {
     let rest = open_paren(tokens)?;
     let (e, _depth, rest) = expression(alloc, scope, room, rest)?;
-    let rest = close_paren(rest)?;
-    Ok((e, rest))
+    keeping(e, close_paren(rest))
 }
 
 #[tactic(auto, using(crate::proofs::CodeSteps::statement_steps))]
@@ -96,34 +97,75 @@ fn statement<'a>(
         return Err(no_room(begins_stmt(scope, tokens), tokens));
     }
     match stmt_at(scope, tokens) {
-        StmtLead::Block => {
-            let (body, rest) = statements(alloc, scope, room - 1, behind(tokens))?;
-            let rest = close_brace(rest)?;
-            Ok((Stmt::Block(body, span(scope, tokens, rest)), rest))
-        }
+        StmtLead::Block => block(alloc, scope, room - 1, tokens),
         StmtLead::If => if_statement(alloc, scope, room - 1, tokens),
-        StmtLead::While => {
-            let (e, rest) = test(alloc, scope, room - 1, behind(tokens))?;
-            let (body, rest) = statement(alloc, scope, room - 1, rest)?;
-            Ok((while_(alloc, e, body, span(scope, tokens, rest))?, rest))
-        }
-        StmtLead::Do => {
-            let (body, rest) = statement(alloc, scope, room - 1, behind(tokens))?;
-            let rest = while_word(rest)?;
-            let (e, rest) = test(alloc, scope, room - 1, rest)?;
-            let rest = semicolon(rest)?;
-            Ok((do_while(alloc, body, e, span(scope, tokens, rest))?, rest))
-        }
+        StmtLead::While => while_statement(alloc, scope, room - 1, tokens),
+        StmtLead::Do => do_statement(alloc, scope, room - 1, tokens),
         StmtLead::For => for_statement(alloc, scope, room - 1, tokens),
-        StmtLead::Switch => {
-            let (e, rest) = test(alloc, scope, room - 1, behind(tokens))?;
-            let rest = open_brace(rest)?;
-            let (arms, rest) = arms(alloc, scope, room - 1, rest)?;
-            let rest = close_brace(rest)?;
-            Ok((Stmt::Switch(e, arms, span(scope, tokens, rest)), rest))
-        }
+        StmtLead::Switch => switch_statement(alloc, scope, room - 1, tokens),
         lead => simple(alloc, scope, room - 1, lead, tokens),
     }
+}
+
+#[cycle(statements)]
+fn block<'a>(
+    alloc: Global,
+    scope: &Scope,
+    room: u32,
+    tokens: &'a [Token],
+) -> Result<(Stmt, &'a [Token]), ReadErr>
+    ensures gives { Gives (λ x. (stmt x.0, toks x.1.now)) result (reading.stmt_by (context scope.now) room (reading.bodies (context scope.now) room) (toks tokens.now) leads.Block) }
+{
+    let (body, rest) = statements(alloc, scope, room, behind(tokens))?;
+    let (body, rest) = keeping(body, close_brace(rest))?;
+    Ok((Stmt::Block(body, span(scope, tokens, rest)), rest))
+}
+
+#[cycle(statements)]
+fn while_statement<'a>(
+    alloc: Global,
+    scope: &Scope,
+    room: u32,
+    tokens: &'a [Token],
+) -> Result<(Stmt, &'a [Token]), ReadErr>
+    ensures gives { Gives (λ x. (stmt x.0, toks x.1.now)) result (reading.stmt_by (context scope.now) room (reading.bodies (context scope.now) room) (toks tokens.now) leads.While) }
+{
+    let (e, rest) = test(alloc, scope, room, behind(tokens))?;
+    let body = statement(alloc, scope, room, rest);
+    let (e, (body, rest)) = keeping(e, body)?;
+    Ok((while_(alloc, e, body, span(scope, tokens, rest))?, rest))
+}
+
+#[cycle(statements)]
+fn do_statement<'a>(
+    alloc: Global,
+    scope: &Scope,
+    room: u32,
+    tokens: &'a [Token],
+) -> Result<(Stmt, &'a [Token]), ReadErr>
+    ensures gives { Gives (λ x. (stmt x.0, toks x.1.now)) result (reading.stmt_by (context scope.now) room (reading.bodies (context scope.now) room) (toks tokens.now) leads.Do) }
+{
+    let (body, rest) = statement(alloc, scope, room, behind(tokens))?;
+    let (body, rest) = keeping(body, while_word(rest))?;
+    let (body, (e, rest)) = keeping(body, test(alloc, scope, room, rest))?;
+    let ((body, e), rest) = keeping((body, e), semicolon(rest))?;
+    Ok((do_while(alloc, body, e, span(scope, tokens, rest))?, rest))
+}
+
+#[cycle(statements)]
+fn switch_statement<'a>(
+    alloc: Global,
+    scope: &Scope,
+    room: u32,
+    tokens: &'a [Token],
+) -> Result<(Stmt, &'a [Token]), ReadErr>
+    ensures gives { Gives (λ x. (stmt x.0, toks x.1.now)) result (reading.stmt_by (context scope.now) room (reading.bodies (context scope.now) room) (toks tokens.now) leads.Switch) }
+{
+    let (e, rest) = test(alloc, scope, room, behind(tokens))?;
+    let (e, rest) = keeping(e, open_brace(rest))?;
+    let (e, (arms, rest)) = keeping(e, arms(alloc, scope, room, rest))?;
+    let ((e, arms), rest) = keeping((e, arms), close_brace(rest))?;
+    Ok((Stmt::Switch(e, arms, span(scope, tokens, rest)), rest))
 }
 
 /// A statement that has no statement inside it.
@@ -144,12 +186,12 @@ fn simple<'a>(
         }
         StmtLead::Vars => {
             let (vars, rest) = variables(alloc, scope, room, tokens)?;
-            let rest = semicolon(rest)?;
+            let (vars, rest) = keeping(vars, semicolon(rest))?;
             Ok((Stmt::Vars(vars, span(scope, tokens, rest)), rest))
         }
         StmtLead::Return => {
             let (e, rest) = maybe(alloc, scope, room, behind(tokens))?;
-            let rest = semicolon(rest)?;
+            let (e, rest) = keeping(e, semicolon(rest))?;
             Ok((Stmt::Return(e, span(scope, tokens, rest)), rest))
         }
         StmtLead::Break => {
@@ -162,7 +204,7 @@ fn simple<'a>(
         }
         _ => {
             let (e, _depth, rest) = expression(alloc, scope, room, tokens)?;
-            let rest = semicolon(rest)?;
+            let (e, rest) = keeping(e, semicolon(rest))?;
             Ok((Stmt::Do(e), rest))
         }
     }
@@ -178,13 +220,14 @@ fn if_statement<'a>(
     ensures gives { Gives (λ x. (stmt x.0, toks x.1.now)) result (reading.if_with (context scope.now) room (reading.bodies (context scope.now) room) (toks tokens.now)) }
 {
     let (e, rest) = test(alloc, scope, room, behind(tokens))?;
-    let (then, rest) = statement(alloc, scope, room, rest)?;
-    let then = boxed(alloc, then)?;
+    let (e, (then, rest)) = keeping(e, statement(alloc, scope, room, rest))?;
+    let (e, then) = keeping(e, boxed(alloc, then))?;
     if !at_else_word(rest) {
         return Ok((if_only(e, then, span(scope, tokens, rest)), rest));
     }
-    let (other, rest) = statement(alloc, scope, room, behind(rest))?;
-    let other = boxed(alloc, other)?;
+    let other = statement(alloc, scope, room, behind(rest));
+    let ((e, then), (other, rest)) = keeping((e, then), other)?;
+    let ((e, then), other) = keeping((e, then), boxed(alloc, other))?;
     Ok((if_else(e, then, other, span(scope, tokens, rest)), rest))
 }
 
@@ -199,12 +242,13 @@ fn for_statement<'a>(
 {
     let rest = open_paren(behind(tokens))?;
     let (from, rest) = first(alloc, scope, room, rest)?;
-    let rest = semicolon(rest)?;
-    let (check, rest) = maybe(alloc, scope, room, rest)?;
-    let rest = semicolon(rest)?;
-    let (step, rest) = maybe(alloc, scope, room, rest)?;
-    let rest = close_paren(rest)?;
-    let (body, rest) = statement(alloc, scope, room, rest)?;
+    let (from, rest) = keeping(from, semicolon(rest))?;
+    let (from, (check, rest)) = keeping(from, maybe(alloc, scope, room, rest))?;
+    let ((from, check), rest) = keeping((from, check), semicolon(rest))?;
+    let ((from, check), (step, rest)) = keeping((from, check), maybe(alloc, scope, room, rest))?;
+    let ((from, check, step), rest) = keeping((from, check, step), close_paren(rest))?;
+    let body = statement(alloc, scope, room, rest);
+    let ((from, check, step), (body, rest)) = keeping((from, check, step), body)?;
     let span = span(scope, tokens, rest);
     Ok((for_(alloc, from, check, step, body, span)?, rest))
 }

@@ -11,6 +11,7 @@ ghost use Rattle.c_tree.specs.Tree.{VoidY};
 use crate::declaration::{members, parameters, values, variables};
 use crate::expression::type_tree;
 use crate::fault::ReadErr;
+use crate::keeping::keeping;
 use crate::lead::ItemLead;
 use crate::leading::item_at;
 use crate::scope::{Scope, span};
@@ -52,8 +53,8 @@ fn structure<'a>(
     }
     let rest = open_brace(rest)?;
     let (members, rest) = members(alloc, scope, room, rest)?;
-    let rest = close_brace(rest)?;
-    let rest = semicolon(rest)?;
+    let (members, rest) = keeping(members, close_brace(rest))?;
+    let (members, rest) = keeping(members, semicolon(rest))?;
     let span = span(scope, tokens, rest);
     Ok((
         Item::Record {
@@ -78,8 +79,8 @@ fn enumeration<'a>(
     let (name, rest) = new(alloc, behind(tokens))?;
     let rest = open_brace(rest)?;
     let (values, rest) = values(alloc, scope, room, rest)?;
-    let rest = end_list(rest)?;
-    let rest = semicolon(rest)?;
+    let (values, rest) = keeping(values, end_list(rest))?;
+    let (values, rest) = keeping(values, semicolon(rest))?;
     let span = span(scope, tokens, rest);
     scope.types.push(name.copy(alloc)?)?;
     Ok((Item::Enum { name, values, span }, rest))
@@ -95,10 +96,12 @@ fn type_name<'a>(
     ensures declared { IfOk result (λ x. context scope.new ≡ behind_item (item x.0) (context scope.old)) }
 {
     let (ty, _depth, rest) = type_tree(alloc, scope, room, behind(tokens))?;
-    let (name, rest) = new(alloc, rest)?;
-    let rest = semicolon(rest)?;
+    let (ty, (name, rest)) = keeping(ty, new(alloc, rest))?;
+    let ((ty, name), rest) = keeping((ty, name), semicolon(rest))?;
     let span = span(scope, tokens, rest);
-    scope.types.push(name.copy(alloc)?)?;
+    let copy = name.copy(alloc);
+    let ((ty, name), copy) = keeping((ty, name), copy)?;
+    let ((ty, name), _) = keeping((ty, name), scope.types.push(copy))?;
     Ok((Item::Typedef(ty, name, span), rest))
 }
 
@@ -115,9 +118,9 @@ fn function<'a>(
     ensures gives { Gives (λ x. (item x.0, toks x.1.now)) result (reading.function_at (context scope.now) room (toks from.now) (type ty) name (toks tokens.now)) }
     ensures declared { IfOk result (λ x. context scope.now ≡ behind_item (item x.0) (context scope.now)) }
 {
-    let rest = open_paren(tokens)?;
-    let (params, rest) = parameters(alloc, scope, room, rest)?;
-    let rest = close_paren(rest)?;
+    let ((ty, name), rest) = keeping((ty, name), open_paren(tokens))?;
+    let ((ty, name), (params, rest)) = keeping((ty, name), parameters(alloc, scope, room, rest))?;
+    let ((ty, name, params), rest) = keeping((ty, name, params), close_paren(rest))?;
     if at_semicolon(rest) {
         let rest = behind(rest);
         let span = span(scope, from, rest);
@@ -132,13 +135,14 @@ fn function<'a>(
             rest,
         ));
     }
-    let rest = open_brace(rest)?;
-    let (body, rest) = statements(alloc, scope, room, rest)?;
-    let rest = close_brace(rest)?;
+    let (head, rest) = keeping((ty, name, params), open_brace(rest))?;
+    let (head, (body, rest)) = keeping(head, statements(alloc, scope, room, rest))?;
+    let ((head, body), rest) = keeping((head, body), close_brace(rest))?;
+    let (result, name, params) = head;
     let span = span(scope, from, rest);
     Ok((
         Item::Function {
-            result: ty,
+            result,
             name,
             params,
             body: Some(body),
@@ -159,7 +163,7 @@ fn typed<'a>(
     ensures declared { IfOk result (λ x. context scope.now ≡ behind_item (item x.0) (context scope.now)) }
 {
     let (ty, depth, rest) = type_tree(alloc, scope, room, tokens)?;
-    let (name, rest) = name(alloc, scope, rest)?;
+    let (ty, (name, rest)) = keeping(ty, name(alloc, scope, rest))?;
     if at_open_paren(rest) {
         return function(alloc, scope, room, tokens, ty, name, rest);
     }
@@ -170,7 +174,7 @@ fn typed<'a>(
         ));
     }
     let (vars, rest) = variables(alloc, scope, room, tokens)?;
-    let rest = semicolon(rest)?;
+    let (vars, rest) = keeping(vars, semicolon(rest))?;
     Ok((Item::Vars(vars, span(scope, tokens, rest)), rest))
 }
 

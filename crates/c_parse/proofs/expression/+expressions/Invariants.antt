@@ -11,11 +11,20 @@ use Rattle.c_parse.proofs.expression.+expressions.Given as goal
 abbrev pub decreases-expression : goal.decreases-expression
 decreases-expression l = 20 * l.room + 16
 
+abbrev pub decreases-assigned : goal.decreases-assigned
+decreases-assigned l = 20 * l.room + 1
+
 abbrev pub decreases-level : goal.decreases-level
 decreases-level l = 20 * l.room + 5
 
 abbrev pub decreases-unary_expression : goal.decreases-unary_expression
 decreases-unary_expression l = 20 * l.room + 4
+
+abbrev pub decreases-cast_expression : goal.decreases-cast_expression
+decreases-cast_expression l = 20 * l.room + 1
+
+abbrev pub decreases-size_expression : goal.decreases-size_expression
+decreases-size_expression l = 20 * l.room + 1
 
 abbrev pub decreases-postfix : goal.decreases-postfix
 decreases-postfix l = 20 * l.room + 3
@@ -23,8 +32,17 @@ decreases-postfix l = 20 * l.room + 3
 abbrev pub decreases-suffixed : goal.decreases-suffixed
 decreases-suffixed l = 20 * l.room + 2
 
+abbrev pub decreases-indexed : goal.decreases-indexed
+decreases-indexed l = 20 * l.room + 1
+
 abbrev pub decreases-primary : goal.decreases-primary
 decreases-primary l = 20 * l.room + 2
+
+abbrev pub decreases-named : goal.decreases-named
+decreases-named l = 20 * l.room + 1
+
+abbrev pub decreases-parenthesised : goal.decreases-parenthesised
+decreases-parenthesised l = 20 * l.room + 1
 
 abbrev pub decreases-arguments : goal.decreases-arguments
 decreases-arguments l = 20 * l.room + 17

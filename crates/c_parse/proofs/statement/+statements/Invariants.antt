@@ -10,6 +10,18 @@ use Rattle.c_parse.proofs.statement.+statements.Given as goal
 abbrev pub decreases-statement : goal.decreases-statement
 decreases-statement l = 3 * l.room
 
+abbrev pub decreases-block : goal.decreases-block
+decreases-block l = 3 * l.room + 2
+
+abbrev pub decreases-while_statement : goal.decreases-while_statement
+decreases-while_statement l = 3 * l.room + 1
+
+abbrev pub decreases-do_statement : goal.decreases-do_statement
+decreases-do_statement l = 3 * l.room + 1
+
+abbrev pub decreases-switch_statement : goal.decreases-switch_statement
+decreases-switch_statement l = 3 * l.room + 2
+
 abbrev pub decreases-if_statement : goal.decreases-if_statement
 decreases-if_statement l = 3 * l.room + 1
 

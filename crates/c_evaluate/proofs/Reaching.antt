@@ -1,25 +1,24 @@
 -- Several steps at once are steps one after another.
-use Rattle.std.proofs.Common.{◌≡◌, ℕ, ◌+◌, ◌*◌, ◌≤◌, ◌<◌, arith, Bool, true, false, List, [], ◌∷◌, refl, ◌∙◌}
+use Rattle.std.proofs.Common.{◌≡◌, ℕ, Bool, true, false, List, [], ◌∷◌, refl}
 use Rattle.std.specs.Prelude.{Option, Some, None, Result, Ok, Err}
 use Rattle.c_tree.specs.declared.span.Span.{Span}
 use Rattle.c_tree.specs.declared.operator.BinOp.{BinOp}
 use Rattle.c_tree.specs.declared.operator.BinOp.TheVariants as bin
 use Rattle.c_types.specs.Types.{Ty}
-use Rattle.c_types.specs.Typed.{TExprT, Typed, TKindT, NumberK, NullK, LiteralK, GlobalK, LocalK, UnaryK, BinaryK, AssignK, StepK, IndexK, MemberK, ArrowK, CastK, CallK, InK, OutK, WaitK, HaltK, CardK}
+use Rattle.c_types.specs.Typed.{TExprT, Typed, NumberK, NullK, LiteralK, GlobalK, LocalK, UnaryK, BinaryK, AssignK, StepK, IndexK, MemberK, ArrowK, CastK, CallK, InK, OutK, WaitK, HaltK, CardK}
 use Rattle.obj_mem.specs.declared.cell.Cell.{Cell}
 use Rattle.obj_mem.specs.declared.cell.Cell.TheVariants.{Unwritten}
 use Rattle.obj_mem.specs.Stores.{Store, local_object}
-use Rattle.obj_mem.specs.Queries.{first_cell, truth}
+use Rattle.obj_mem.specs.Queries.{truth}
 use Rattle.c_meaning.specs.declared.end.End.{End}
 use Rattle.c_meaning.specs.Setting.{Setting}
 use Rattle.c_evaluate.specs.declared.frame.Came.{Came}
-use Rattle.c_evaluate.specs.declared.frame.Came.TheVariants.{Value, Place}
-use Rattle.c_evaluate.specs.Storing.{With, at_span, taken, tested_in, placed_in}
-use Rattle.c_evaluate.specs.Machine.{FocusT, EvalF, FillF, DoF, CameF, MadeF, LeftF, FullF, FrameT, FirstW, SecondW, ArgumentW, BackW, ValueW, StepW, BodyW, BeginW, RestW, ArmsW, EndW, SwitchW, OneW, ItemsW, VarsW, FilledW, MainW, Config, Going, Over, run_left, work_left}
-use Rattle.c_evaluate.specs.Steps.{on, came, place_here, either_of, eval, first_step, second_step, second_of, second_of_node, binary_of, give, step}
+use Rattle.c_evaluate.specs.declared.frame.Came.TheVariants.{Value}
+use Rattle.c_evaluate.specs.Storing.{taken, tested_in, placed_in}
+use Rattle.c_evaluate.specs.Machine.{FocusT, EvalF, FillF, DoF, CameF, MadeF, LeftF, FullF, FrameT, FirstW, SecondW, ArgumentW, BackW, ValueW, StepW, BodyW, BeginW, RestW, ArmsW, EndW, SwitchW, OneW, ItemsW, VarsW, FilledW, MainW, Config, Going}
+use Rattle.c_evaluate.specs.Steps.{on, came, either_of, eval, first_step, second_of, second_of_node, binary_of, give, step}
 use Rattle.c_evaluate.specs.Turning.{Works}
 use Rattle.c_evaluate.specs.Swift.{at_once, local_at_once, handed, second_on, binary_on, first_on, first_of_on, operand_on, eval_on, give_on, step_on}
-use Rattle.c_evaluate.proofs.Moving.{size}
 
 -- so many steps lead from one configuration to the other
 pub data Reaches (s : Setting) : Config → Config → Type 0 where

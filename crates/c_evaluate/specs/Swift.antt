@@ -1,5 +1,5 @@
 -- Several steps at once: an operand that is a number, NULL, a text, a global or a local that was made comes without waiting in a frame.
-use Rattle.std.specs.Prelude.{ℕ, true, false, List, [], ◌∷◌, Option, Some, None}
+use Rattle.std.specs.Prelude.{ℕ, true, false, List, ◌∷◌, Option, Some, None}
 use Rattle.c_tree.specs.declared.span.Span.{Span}
 use Rattle.c_tree.specs.declared.operator.BinOp.{BinOp}
 use Rattle.c_tree.specs.declared.operator.BinOp.TheVariants.{AndAlso, OrElse}

@@ -60,7 +60,10 @@ module _ (x : CodeT Where) (W : Whole) (count : length W.names ≡ length x.func
       let away = mark n ∷ item.Op (instr.Mov (RegReg 15 14)) ∷ item.Op (instr.One POP 14) ∷ [] in
       record {
         some = tt;
-        ends = (frame_made (W.frames f).size ++ (items ++ away), ap (λ z. frame_made (W.frames f).size ++ z) (sym (append_assoc items away (item.Op (instr.Plain RET) ∷ []))));
+        ends = (
+          frame_made (W.frames f).size ++ (items ++ away),
+          ap (λ z. frame_made (W.frames f).size ++ z) (sym (append_assoc items away (item.Op (instr.Plain RET) ∷ []))) ∙ sym (append_assoc (frame_made (W.frames f).size) (items ++ away) (item.Op (instr.Plain RET) ∷ [])),
+        );
         straight = λ none. own_go_on W.names g.body x W (called g.body) (length g.locals) f n ok none few;
       }
 

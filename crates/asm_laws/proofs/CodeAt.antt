@@ -9,11 +9,10 @@ use Rattle.mid_code.specs.declared.placed.Where.{Where}
 use Rattle.mid_code.specs.Code.{NodesT, Stop, Do, Call, Choose, Block, Loop, Leave, Again, Return, CodeT}
 use Rattle.mid_code.specs.Invariants.{AreNodes}
 use Rattle.asm_laws.specs.Names.{jump_label}
-use Rattle.asm_laws.specs.Operations.{Frame, Whole, hand, brings, giving, op_items, call_items}
+use Rattle.asm_laws.specs.Operations.{Frame, hand, brings, giving, op_items, call_items}
 use Rattle.asm_laws.specs.Emitted.{labels, enclosing, jump, jump_unless, mark, choice, first_part, second_part, one_way, is_stop, enclosed, returning, code_items}
-use Rattle.asm_laws.specs.Placing.{Line, Bounds, end_of, begin_of, Jumps, Passes, At}
+use Rattle.asm_laws.specs.Placing.{Line, Bounds, end_of, begin_of, Jumps, At}
 use Rattle.asm_laws.specs.Standing.{Stand}
-use Rattle.asm_laws.specs.Tests.{Tests}
 use Rattle.asm_laws.specs.Holds.{Setting}
 use Rattle.asm_laws.specs.Program.{items_at}
 use Rattle.asm_laws.proofs.Split.{split}

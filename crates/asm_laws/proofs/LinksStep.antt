@@ -31,7 +31,7 @@ use Rattle.asm_laws.specs.Standing.{Stand}
 use Rattle.asm_laws.specs.Addresses.{Addr, Console, word_of, store, Room, Good, Held, Arrives}
 use Rattle.asm_laws.specs.Framing.{room_made, frame_made, frame_gone}
 use Rattle.asm_laws.specs.Links.{new_slot, passed, all_passed, push, pushed, all_pushed, popped, all_popped, entered, slot_steps, called, gone_back}
-use Rattle.asm_laws.proofs.Stepping.{readable_word, ram_readable, ram_writable, writes_at, line_effect, reg_same, reg_other, took, scratch, moved, kept, stores, fetches_so, reg_number}
+use Rattle.asm_laws.proofs.Stepping.{readable_word, ram_readable, ram_writable, writes_at, line_effect, reg_same, reg_other, moved, kept, stores, reg_number}
 use Rattle.asm_laws.proofs.Hands.{held_alike, hand_fits, brings_at}
 
 module _ (C : Console) where

@@ -4,7 +4,6 @@ use Rattle.std.specs.Prelude.{◌==◌, cond, Bool, true, false, get_or, sum_by}
 use Rattle.std.proofs.lemmas.List.Sums.{sum_by-cons}
 use Rattle.either.specs.declared.Either.TheVariants.{Left, Right}
 use Rattle.v32_isa.specs.declared.instruction.Plain.TheVariants.{HLT, WAIT, RET}
-use Rattle.v32_isa.specs.declared.instruction.Go.TheVariants.{CALL}
 use Rattle.v32_isa.specs.declared.instruction.One.{One as OneOf}
 use Rattle.v32_isa.specs.declared.instruction.One.TheVariants.{PUSH, POP}
 use Rattle.v32_isa.specs.declared.instruction.Two.{Two as TwoOf}

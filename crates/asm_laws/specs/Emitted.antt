@@ -1,6 +1,6 @@
 -- The items of placed code: its instructions one after another, with labels where jumps go.
 use Rattle.std.specs.Prelude.{ℕ, suc, Bool, true, false, cond, ◌+◌, ◌-◌, List, [], ◌∷◌, ◌++◌, length, Option, get_or}
-use Rattle.either.specs.declared.Either.TheVariants.{Left, Right}
+use Rattle.either.specs.declared.Either.TheVariants.{Right}
 use Rattle.v32_isa.specs.declared.instruction.Plain.TheVariants.{HLT}
 use Rattle.v32_isa.specs.declared.instruction.Go.TheVariants.{JMP, CALL}
 use Rattle.v32_isa.specs.declared.instruction.Branch.TheVariants.{JF}

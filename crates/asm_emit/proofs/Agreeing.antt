@@ -1,14 +1,12 @@
 -- The words that the items of placed code are placed as are words among which it stands.
-use Rattle.std.proofs.Common.{◌≡◌, ℕ, zero, suc, ◌+◌, ◌-◌, ◌^◌, ◌<◌, ◌≤◌, inl, inr, List, [], ◌∷◌, ◌++◌, length, Some, None, refl, sym, ap, ◌∙◌, subst, arith}
+use Rattle.std.proofs.Common.{◌≡◌, ℕ, zero, suc, ◌+◌, ◌-◌, ◌^◌, ◌<◌, ◌≤◌, inl, inr, List, [], ◌∷◌, ◌++◌, length, Some, refl, sym, ap, ◌∙◌, subst, arith}
 use Rattle.std.specs.Prelude.{Bool, false, get_or, slice_get, cond, ltb}
 use Rattle.std.proofs.lemmas.Option.{get_or_from_slice_get}
 use Rattle.std.proofs.lemmas.Bool.{lt-ltb}
-use Rattle.either.specs.declared.Either.TheVariants.{Right}
 use Rattle.v32_isa.specs.declared.instruction.Plain.TheVariants.{HLT}
 use Rattle.v32_isa.specs.declared.instruction.Instr.TheVariants as instr
 use Rattle.asm_items.specs.declared.item.AsmItem.{AsmItem}
 use Rattle.asm_items.specs.declared.item.AsmItem.TheVariants as item
-use Rattle.assembler.specs.Faults.{fault_of}
 use Rattle.assembler.specs.Labels.{address_in}
 use Rattle.assembler.specs.Placed as asm
 use Rattle.assembler.specs.Sizes.{total_size}
@@ -20,13 +18,10 @@ use Rattle.mid_code.specs.States.{no_function, function_at}
 use Rattle.mid_code.specs.Invariants.{AllOf, AreNodes, DifferFrom, AreDifferent, IsFunction, IsPlace, IsPlaced}
 use Rattle.mid_code.specs.Runs.{placed_runs}
 use Rattle.mid_code.specs.Agrees.{AgreesWithin}
-use Rattle.asm_laws.specs.Names.{jump_label}
 use Rattle.asm_laws.specs.Operations.{Frame, Whole, start_frame, opening_items, literals_items}
-use Rattle.asm_laws.specs.Framing.{frame_made, frame_gone}
-use Rattle.asm_laws.specs.Emitted.{labels, functions_labels, labels_of, code_items, functions_items, call_item, closing_items, start_items, program_items}
+use Rattle.asm_laws.specs.Emitted.{labels, labels_of, code_items, functions_items, call_item, closing_items, start_items, program_items}
 use Rattle.asm_laws.specs.Standing.{Stand}
 use Rattle.asm_laws.specs.Holds.{Setting}
-use Rattle.asm_laws.specs.Calling.{Callable}
 use Rattle.asm_laws.specs.Linked.{setting}
 use Rattle.asm_laws.specs.Program.{BodyAt, ProgramAt}
 use Rattle.asm_laws.specs.Tables.{Number, OfFunction, OfStart, OfRest, number_of, frame_for, called_for, addresses, whole_of, count_of, plan_of}

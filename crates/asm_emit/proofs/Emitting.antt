@@ -1,12 +1,12 @@
 -- From the parts of placed code to what is promised of its items.
-use Rattle.std.proofs.Common.{◌≡◌, ℕ, ◌+◌, ◌-◌, ◌^◌, ◌<◌, ◌≤◌, List, [], ◌∷◌, length, refl, ap, ◌∙◌, arith}
+use Rattle.std.proofs.Common.{◌≡◌, ℕ, ◌+◌, ◌-◌, ◌^◌, ◌<◌, List, [], ◌∷◌, length, refl, ap, ◌∙◌, arith}
 use Rattle.std.specs.Prelude.{sum, Result, Ok, Err, IfOk}
 use Rattle.std.proofs.lemmas.List.Sums.{sum_by-cons}
 use Rattle.kit_base.specs.Word.{add}
 use Rattle.asm_items.specs.declared.item.AsmItem.{AsmItem}
 use Rattle.mid_code.specs.Placed.{PlacedT}
 use Rattle.mid_code.specs.Invariants.{IsPlaced}
-use Rattle.asm_laws.specs.Tables.{addresses, whole_of}
+use Rattle.asm_laws.specs.Tables.{addresses}
 use Rattle.asm_laws.specs.Emitted.{program_items, labels_of}
 use Rattle.asm_emit.specs.EmittedFrom.{CanBeEmitted, IsEmitted}
 use Rattle.asm_laws.proofs.Sizes.{program_few, few_texts, few_functions}

@@ -1,8 +1,8 @@
 -- In code without a loop each item goes on.
-use Rattle.std.proofs.Common.{◌≡◌, ℕ, zero, suc, ◌+◌, ◌-◌, ◌^◌, ◌<◌, ◌⊎◌, inl, inr, Bool, true, false, List, [], ◌∷◌, ◌++◌, length, Option, Some, None, refl, sym, ap, ◌∙◌, subst, arith, append_assoc, length-append}
-use Rattle.std.specs.Prelude.{cond, slice_get, get_or}
-use Rattle.std.proofs.lemmas.Option.{get_or_from_slice_get}
+use Rattle.std.proofs.Common.{◌≡◌, ℕ, zero, suc, ◌+◌, ◌-◌, ◌^◌, ◌<◌, inl, inr, Bool, true, false, List, [], ◌∷◌, ◌++◌, length, Option, Some, None, refl, sym, subst, arith, append_assoc, length-append}
+use Rattle.std.specs.Prelude.{◌==◌, cond}
 use Rattle.kit_base.specs.Word.{add}
+use Rattle.either.specs.declared.Either.TheVariants.{Left}
 use Rattle.v32_isa.specs.declared.instruction.One.{One}
 use Rattle.v32_isa.specs.declared.instruction.One.TheVariants.{CIB, NOT, BNOT, ISGN, IABS}
 use Rattle.v32_isa.specs.declared.instruction.Two.{Two}
@@ -17,10 +17,10 @@ use Rattle.mid_code.specs.Code.{OpT, ConstO, NullO, MoveO, OneO, TwoO, GlobalO, 
 use Rattle.mid_code.specs.Invariants.{IsOne, IsOp, IsLoop, AreNodes}
 use Rattle.mid_code.specs.Calls.{loops, CallsTo}
 use Rattle.asm_laws.specs.Names.{jump_label, function_label}
-use Rattle.asm_laws.specs.Labelled.{label_of_function, HasLabel}
+use Rattle.asm_laws.specs.Labelled.{HasLabel}
 use Rattle.asm_laws.specs.Operations.{Frame, Whole, register, keep, fetches, keeps, keeps_some, is_in, hand, brings, takes, aim, lays, moves, changes, is_direct, in_place, apart, computes, slot_arg, slot_args, pushed_arg, pushed_args, popped_arg, popped_args, args_items, call_items, op_items, giving}
-use Rattle.asm_laws.specs.Framing.{frame_made, frame_gone}
-use Rattle.asm_laws.specs.Emitted.{labels, enclosing, jump, jump_unless, mark, first_part, second_part, choice, enclosed, returning, code_items, call_item, own_items, exit_items}
+use Rattle.asm_laws.specs.Framing.{room_made}
+use Rattle.asm_laws.specs.Emitted.{labels, enclosing, jump, jump_unless, mark, first_part, second_part, choice, one_way, is_stop, enclosed, returning, code_items, call_item, own_items, exit_items}
 use Rattle.asm_emit.specs.EmittedFrom.{IsCalled, GoesOn, AllGoOn}
 use Rattle.asm_laws.proofs.Enclosing.{innermost, further}
 use Rattle.asm_laws.proofs.Known.{marked_left, marked_right, function_there}
@@ -192,6 +192,16 @@ module _ (names : List (List ℕ)) (body : NodesT Where) where
         (brought_ahead F p 9 (jump_unless (hand p 9) n ∷ inner) (second ++ later) (on, ahead_append a (jump w ∷ mark n ∷ []) (second ++ later) ha (out, (tt, tt))))
         (ahead_append b (mark w ∷ []) later hb (tt, tt))
 
+    one_way_ahead : (p : Where) (n : ℕ) (a later : List AsmItem) → Ahead a ((mark n ∷ []) ++ later) → Ahead (one_way F p n a) later
+    one_way_ahead p n a later ha =
+        let inner = a ++ mark n ∷ [] in
+        let on : HasLabel (inner ++ later) (jump_label n) = marked_left inner later (jump_label n) (marked_right a (mark n ∷ []) (jump_label n) (inl refl)) in
+        brought_ahead F p 9 (jump_unless (hand p 9) n ∷ inner) later (on, ahead_append a (mark n ∷ []) later ha (tt, tt))
+
+    chosen_ahead : (p : Where) (n w : ℕ) (t : Bool) (a b later : List AsmItem) → (t ≡ true → Ahead a ((mark n ∷ []) ++ later)) → Ahead a ((jump w ∷ mark n ∷ []) ++ (second_part w b ++ later)) → Ahead b ((mark w ∷ []) ++ later) → Ahead (cond t (one_way F p n a) (choice F p n w a b)) later
+    chosen_ahead p n w true a b later one ha hb = one_way_ahead p n a later (one refl)
+    chosen_ahead p n w false a b later one ha hb = choice_ahead p n w a b later ha hb
+
     deeper : (ls : List ℕ) (n : ℕ) (bs : List Bool) (b : Bool) → length ls ≡ length bs → length (ls ++ n ∷ []) ≡ length (b ∷ bs)
     deeper ls n bs b same = let h = length-append ls (n ∷ []) in omega (arith, h, same)
 
@@ -212,9 +222,9 @@ module _ (names : List (List ℕ)) (body : NodesT Where) where
           let after = rest ++ later in
           let ends1 = ends_later ls rest later ends in
           let over1 = marked_right rest later (jump_label out) over in
-          let tail = (jump w ∷ mark n ∷ []) ++ second_part w two in
-          ahead_append (choice F p n w one two) rest later
-          (choice_ahead p n w one two after
+          ahead_append (cond (is_stop b) (one_way F p n one) (choice F p n w one two)) rest later
+          (chosen_ahead p n w (is_stop b) one two after
+          (λ is. code_ahead a bs ls (n + 1) ((mark n ∷ []) ++ after) ok.0 same nl (omega (arith, none)) (omega (arith, few)) (λ h k. calls h (inl k)) (ends_later ls (mark n ∷ []) after ends1) (marked_right (mark n ∷ []) after (jump_label out) over1))
           (code_ahead a bs ls (n + 1) ((jump w ∷ mark n ∷ []) ++ (second_part w two ++ after)) ok.0 same nl (omega (arith, none)) (omega (arith, few)) (λ h k. calls h (inl k))
           (ends_later ls (jump w ∷ mark n ∷ []) (second_part w two ++ after) (ends_later ls (second_part w two) after ends1))
           (marked_right (jump w ∷ mark n ∷ []) (second_part w two ++ after) (jump_label out) (marked_right (second_part w two) after (jump_label out) over1)))
@@ -245,4 +255,5 @@ module _ (names : List (List ℕ)) (body : NodesT Where) where
       let F = W.frames f in
       let items = code_items W F n [] (n + 1) body in
       let ahead = code_ahead x W named m F n body [] [] (n + 1) (exit_items n) ok refl (λ k h. absurd h) none few (λ g h. h) (λ k lt. absurd (omega (arith, lt))) (inl refl) in
-      (tt, (tt, (tt, ahead_all items (exit_items n) ahead (tt, (tt, (tt, (tt, tt)))))))
+      let rest = ahead_all items (exit_items n) ahead (tt, (tt, (tt, (tt, tt)))) in
+      (tt, (tt, ahead_all (room_made F.size) (items ++ exit_items n) (one_of_both (F.size == 0) [] (item.Op (instr.Two ISUB 15 (src.Imm (Left F.size))) ∷ []) (items ++ exit_items n) tt (tt, tt)) rest))

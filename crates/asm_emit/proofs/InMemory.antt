@@ -1,38 +1,55 @@
 -- The items of nodes in memory are those of the plain nodes.
-use Rattle.std.proofs.Common.{◌≡◌, ℕ, ◌+◌, List, [], ◌∷◌, ◌++◌, refl, sym, ap, ◌∙◌, append_assoc, arith}
+use Rattle.std.proofs.Common.{◌≡◌, ℕ, ◌+◌, List, [], ◌∷◌, ◌++◌, refl, ap, ◌∙◌, arith, false, cond, Option}
 use Rattle.kit_base.specs.Word.{add}
 use Rattle.asm_items.specs.declared.item.AsmItem.{AsmItem}
 use Rattle.mid_code.specs.declared.placed.Where.{Where}
 use Rattle.mid_code.specs.declared.node.Op.{Op}
 use Rattle.mid_code.specs.declared.node.Op.TheVariants as op
-use Rattle.mid_code.specs.Code.{NodesT, Stop}
+use Rattle.mid_code.specs.Code.{OpT, ConstO, NullO, MoveO, OneO, TwoO, GlobalO, LocalO, LiteralO, CardO, StepO, ApartO, PtrTestO, LoadO, StoreO, FreshO, EndO, InO, OutO, WaitO, HaltO, NodesT, Do, Call}
 use Rattle.mid_code.specs.Functions.{op_before, NodeT, DoN, ChooseN, BlockN, LoopN, LeaveN, AgainN, ReturnN, ListT, NoN, MoreN, before, joined}
-use Rattle.asm_laws.specs.Operations.{Frame, Whole, giving}
-use Rattle.asm_laws.specs.Emitted.{labels, enclosing, jump, choice, enclosed, returning, code_items}
-use Rattle.asm_emit.specs.Listed.{node_labels, list_labels, do_items, node_items, list_items}
+use Rattle.asm_laws.specs.Operations.{Frame, Whole}
+use Rattle.asm_laws.specs.Emitted.{labels, enclosing, jump, one_way, is_stop, choice, enclosed, returning, code_items}
+use Rattle.asm_emit.specs.Listed.{node_labels, list_labels, is_none, do_items, node_items, list_items}
+
+-- an operation before nodes is a node of its own, or a call
+op_parts : (Q : NodesT Where → NodesT Where → Type 0) → ((o : OpT Where) (c : NodesT Where) → Q c (Do o c)) → ((t : Option Where) (f : ℕ) (args : List Where) (c : NodesT Where) → Q c (Call t f args c)) → (o : Op Where) (c : NodesT Where) → Q c (op_before o c)
+op_parts Q one call (op.Const t word) c = one (ConstO t word) c
+op_parts Q one call (op.Null t) c = one (NullO t) c
+op_parts Q one call (op.Move t a) c = one (MoveO t a) c
+op_parts Q one call (op.One o t a) c = one (OneO o t a) c
+op_parts Q one call (op.Two o t a b) c = one (TwoO o t a b) c
+op_parts Q one call (op.Global t k) c = one (GlobalO t k) c
+op_parts Q one call (op.Local t k) c = one (LocalO t k) c
+op_parts Q one call (op.Literal t k) c = one (LiteralO t k) c
+op_parts Q one call (op.Card t) c = one (CardO t) c
+op_parts Q one call (op.Step t p s) c = one (StepO t p s) c
+op_parts Q one call (op.Apart t p q) c = one (ApartO t p q) c
+op_parts Q one call (op.PtrTest o t p q) c = one (PtrTestO o t p q) c
+op_parts Q one call (op.Load t p) c = one (LoadO t p) c
+op_parts Q one call (op.Store p a) c = one (StoreO p a) c
+op_parts Q one call (op.Fresh k) c = one (FreshO k) c
+op_parts Q one call (op.End k) c = one (EndO k) c
+op_parts Q one call (op.Call t f args) c = call t f args c
+op_parts Q one call (op.In t p) c = one (InO t p) c
+op_parts Q one call (op.Out p a) c = one (OutO p a) c
+op_parts Q one call op.Wait c = one WaitO c
+op_parts Q one call op.Halt c = one HaltO c
 
 op_labels : (o : Op Where) (c : NodesT Where) → labels (op_before o c) ≡ labels c
-op_labels (op.Const t word) c = refl
-op_labels (op.Null t) c = refl
-op_labels (op.Move t a) c = refl
-op_labels (op.One o t a) c = refl
-op_labels (op.Two o t a b) c = refl
-op_labels (op.Global t k) c = refl
-op_labels (op.Local t k) c = refl
-op_labels (op.Literal t k) c = refl
-op_labels (op.Card t) c = refl
-op_labels (op.Step t p n) c = refl
-op_labels (op.Apart t p q) c = refl
-op_labels (op.PtrTest o t p q) c = refl
-op_labels (op.Load t p) c = refl
-op_labels (op.Store p a) c = refl
-op_labels (op.Fresh k) c = refl
-op_labels (op.End k) c = refl
-op_labels (op.Call t f args) c = refl
-op_labels (op.In t p) c = refl
-op_labels (op.Out p a) c = refl
-op_labels op.Wait c = refl
-op_labels op.Halt c = refl
+op_labels o c = op_parts (λ c n. labels n ≡ labels c) (λ o c. refl) (λ t f args c. refl) o c
+
+node_goes : (x : NodeT Where) (c : NodesT Where) → is_stop (before x c) ≡ false
+node_goes (DoN o) c = op_parts (λ c n. is_stop n ≡ false) (λ o c. refl) (λ t f args c. refl) o c
+node_goes (ChooseN p a b) c = refl
+node_goes (BlockN b) c = refl
+node_goes (LoopN b) c = refl
+node_goes (LeaveN k) c = refl
+node_goes (AgainN k) c = refl
+node_goes (ReturnN p) c = refl
+
+stops_alike : (xs : ListT Where) → is_stop (joined xs) ≡ is_none xs
+stops_alike NoN = refl
+stops_alike (MoreN x rest) = node_goes x (joined rest)
 
 mutual
   node_counts : (x : NodeT Where) (c : NodesT Where) → labels (before x c) ≡ node_labels x + labels c
@@ -86,8 +103,9 @@ module _ (W : Whole) (F : Frame) (out : ℕ) where
         let lb = list_counts b in
         let one = list_are a ls (n + 1) in
         let two = list_are b ls (n + 1 + list_labels a + 1) in
-        (λ i. choice F p n (n + 1 + la i) (items ls (n + 1) (joined a)) (items ls (n + 1 + la i + 1) (joined b)) ++ items ls (n + (2 + la i + lb i)) c)
-        ∙ (λ i. choice F p n (n + 1 + list_labels a) (one i) (two i) ++ items ls (n + (2 + list_labels a + list_labels b)) c)
+        let st = stops_alike b in
+        (λ i. cond (st i) (one_way F p n (items ls (n + 1) (joined a))) (choice F p n (n + 1 + la i) (items ls (n + 1) (joined a)) (items ls (n + 1 + la i + 1) (joined b))) ++ items ls (n + (2 + la i + lb i)) c)
+        ∙ (λ i. cond (is_none b) (one_way F p n (one i)) (choice F p n (n + 1 + list_labels a) (one i) (two i)) ++ items ls (n + (2 + list_labels a + list_labels b)) c)
     node_are (BlockN b) ls n c =
         let lb = list_counts b in
         let one = list_are b (ls ++ n ∷ []) (n + 2) in

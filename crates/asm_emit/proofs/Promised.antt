@@ -1,5 +1,5 @@
 -- What is promised of the items of placed code.
-use Rattle.std.proofs.Common.{◌≡◌, ℕ, zero, suc, ◌+◌, ◌-◌, ◌^◌, ◌<◌, ◌≤◌, List, [], ◌∷◌, ◌++◌, length, map, Some, None, refl, sym, ap, ◌∙◌, subst, arith, append_assoc}
+use Rattle.std.proofs.Common.{◌≡◌, ℕ, suc, ◌+◌, ◌-◌, ◌^◌, ◌<◌, List, [], ◌∷◌, ◌++◌, length, map, Some, refl, sym, ap, ◌∙◌, subst, arith, append_assoc}
 use Rattle.std.specs.Prelude.{get_or, slice_get}
 use Rattle.std.proofs.lemmas.Option.{get_or_from_slice_get, slice_get-get_or}
 use Rattle.v32_isa.specs.declared.instruction.Plain.TheVariants.{RET}
@@ -16,16 +16,14 @@ use Rattle.mid_code.specs.Placed.{PlacedT}
 use Rattle.mid_code.specs.Code.{NodesT, FunctionT, CodeT}
 use Rattle.mid_code.specs.Invariants.{AllOf, AreNodes, IsPlaced}
 use Rattle.mid_code.specs.Calls.{CallsTo}
-use Rattle.mid_code.specs.Runs.{placed_runs, weight}
-use Rattle.mid_code.specs.Agrees.{AgreesWithin}
-use Rattle.asm_laws.specs.Names.{function_label, literal_label}
+use Rattle.asm_laws.specs.Names.{function_label}
 use Rattle.asm_laws.specs.Labelled.{label_of_function}
 use Rattle.asm_laws.specs.Operations.{Whole, literal_items, literals_items}
 use Rattle.asm_laws.specs.Framing.{frame_made}
-use Rattle.asm_laws.specs.Emitted.{labels, functions_labels, mark, code_items, own_items, function_items, functions_items, start_items, program_items, labels_of}
-use Rattle.asm_laws.specs.Tables.{addresses, whole_of}
-use Rattle.asm_emit.specs.EmittedFrom.{literal_words, CanBeEmitted, AreData, IsCalled, AreItemsOf, AreFunctions, IsEmitted}
-use Rattle.asm_laws.proofs.Sizes.{program_size, program_few}
+use Rattle.asm_laws.specs.Emitted.{labels, functions_labels, mark, code_items, own_items, function_items, functions_items, start_items, program_items}
+use Rattle.asm_laws.specs.Tables.{whole_of}
+use Rattle.asm_emit.specs.EmittedFrom.{CanBeEmitted, AreData, IsCalled, AreItemsOf, AreFunctions, IsEmitted}
+use Rattle.asm_laws.proofs.Sizes.{program_size}
 use Rattle.asm_laws.proofs.Known.{no_fault}
 use Rattle.asm_emit.proofs.Forward.{own_go_on}
 use Rattle.asm_emit.proofs.Agreeing.{sound, few_labels, words_agree}
@@ -60,7 +58,10 @@ module _ (x : CodeT Where) (W : Whole) (count : length W.names ≡ length x.func
       let away = mark n ∷ item.Op (instr.Mov (RegReg 15 14)) ∷ item.Op (instr.One POP 14) ∷ [] in
       record {
         some = tt;
-        ends = (frame_made (W.frames f).size ++ (items ++ away), ap (λ z. frame_made (W.frames f).size ++ z) (sym (append_assoc items away (item.Op (instr.Plain RET) ∷ []))));
+        ends = (
+          frame_made (W.frames f).size ++ (items ++ away),
+          ap (λ z. frame_made (W.frames f).size ++ z) (sym (append_assoc items away (item.Op (instr.Plain RET) ∷ []))) ∙ sym (append_assoc (frame_made (W.frames f).size) (items ++ away) (item.Op (instr.Plain RET) ∷ [])),
+        );
         straight = λ none. own_go_on W.names g.body x W (called g.body) (length g.locals) f n ok none few;
       }
 

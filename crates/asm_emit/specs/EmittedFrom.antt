@@ -1,5 +1,5 @@
 -- What `emit` promises: assembly items of placed code.
-use Rattle.std.specs.Prelude.{ℕ, ◌≡◌, ◌≤◌, ◌+◌, List, [], ◌∷◌, ◌++◌, length, sum_by, slice_get, Some, None, ◌⊎◌}
+use Rattle.std.specs.Prelude.{ℕ, ◌≡◌, ◌≤◌, ◌+◌, List, [], ◌∷◌, ◌++◌, length, sum_by, slice_get, Some, None}
 use Rattle.either.specs.declared.Either.TheVariants.{Right}
 use Rattle.v32_isa.specs.declared.instruction.Plain.TheVariants.{RET, MOVS, SETS}
 use Rattle.v32_isa.specs.declared.instruction.Go.TheVariants.{JMP, CALL}

@@ -3,7 +3,7 @@ ghost use Rattle.std.specs.Prelude.{◌≡◌, ◌+◌, ◌-◌, ◌<◌, ◌^�
 ghost use Rattle.kit_base.specs.Word.{add};
 ghost use Rattle.mid_code.specs.Functions.{node, nodes, listed, BlockN};
 ghost use Rattle.asm_laws.specs.Operations.{giving};
-ghost use Rattle.asm_laws.specs.Emitted.{labels, enclosing, jump, jump_unless, mark, first_part, second_part, returning, code_items};
+ghost use Rattle.asm_laws.specs.Emitted.{labels, enclosing, jump, jump_unless, mark, first_part, second_part, one_way, returning, code_items};
 ghost use Rattle.asm_emit.specs.Listed.{node_labels, list_labels, node_items, list_items};
 ghost use Rattle.asm_emit.specs.View.{frame, whole};
 
@@ -121,6 +121,31 @@ fn put_second(
     Ok(next)
 }
 
+/// Adds a choice that has nothing in its second part; the number of the next label.
+#[cycle(items)]
+fn put_one_way(
+    alloc: Global,
+    out: &mut Vec<AsmItem>,
+    w: &Around<'_>,
+    s: &Scope<'_>,
+    end: u32,
+    ls: &mut Vec<u32>,
+    n: u32,
+    p: Where,
+    a: &[Node<Where>],
+) -> Result<u32, Memory>
+    requires fits { n + 2 + list_labels (listed (map node a.now)) < 2 ^ 32 - 1 }
+    ensures items { OnOk result (out.new.items ≡ out.old.items ++ one_way (frame s.now) p n (list_items (whole w.now) (frame s.now) end ls.old.items (n + 1) (listed (map node a.now)))) }
+    ensures labels { OnOk result (ls.new.items ≡ ls.old.items) }
+    ensures next { IfOk result (λ m. m ≡ n + 2 + list_labels (listed (map node a.now))) }
+{
+    brings(out, s, p, 9)?;
+    put_jump_unless(alloc, out, hand(p, 9), n)?;
+    let next = put_nodes(alloc, out, w, s, end, ls, n + 1, a)?;
+    put_mark(alloc, out, n)?;
+    Ok(next + 1)
+}
+
 /// Adds a block or loop.
 #[cycle(items)]
 fn put_enclosed(
@@ -183,10 +208,13 @@ fn put_node(
             put_op(alloc, out, w, s, o)?;
             Ok(n)
         }
-        Node::Choose(p, a, b) => {
-            let m = put_first(alloc, out, w, s, end, ls, n, *p, a.as_slice())?;
-            put_second(alloc, out, w, s, end, ls, m, b.as_slice())
-        }
+        Node::Choose(p, a, b) => match b.as_slice().split_first() {
+            None => put_one_way(alloc, out, w, s, end, ls, n, *p, a.as_slice()),
+            Some(_) => {
+                let m = put_first(alloc, out, w, s, end, ls, n, *p, a.as_slice())?;
+                put_second(alloc, out, w, s, end, ls, m, b.as_slice())
+            }
+        },
         Node::Block(b) => put_enclosed(alloc, out, w, s, end, ls, n, b.as_slice()),
         Node::Loop(b) => put_enclosed(alloc, out, w, s, end, ls, n, b.as_slice()),
         Node::Leave(k) => {

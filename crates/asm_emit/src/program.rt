@@ -5,6 +5,7 @@ ghost use Rattle.mid_code.specs.Functions.{nodes, function};
 ghost use Rattle.mid_code.specs.View.{code, spots};
 ghost use Rattle.mid_code.specs.Whole.{placed};
 ghost use Rattle.asm_laws.specs.Operations.{literal_items, literals_items};
+ghost use Rattle.asm_laws.specs.Framing.{room_made};
 ghost use Rattle.asm_laws.specs.Emitted.{labels, labels_of, functions_labels, entry_items, exit_items, function_items, functions_items, start_items, closing_items, program_items};
 ghost use Rattle.asm_emit.specs.EmittedFrom.{CanBeEmitted, IsEmitted};
 ghost use Rattle.asm_emit.specs.View.{frame, whole, whole_of_parts, wrapped_addresses};
@@ -21,6 +22,20 @@ use mid_code::{Code, Function, Node, Placed, Spots, Where};
 use std::alloc::Global;
 use v32_isa::{Go, Instr, Mov, One, Plain, Reg, Src, Two};
 
+/// Adds what makes room for the words of a frame, where it has any.
+fn put_room(out: &mut Vec<AsmItem>, size: u32) -> Result<(), Memory>
+    ensures { OnOk result (out.new.items ≡ out.old.items ++ room_made size) }
+{
+    if size == 0 {
+        Ok(())
+    } else {
+        op(
+            out,
+            Instr::Two(Two::ISUB, Reg::at(15), Src::Imm(Either::Left(size))),
+        )
+    }
+}
+
 /// Adds the label of a function and what makes its frame.
 fn put_entry(
     alloc: Global,
@@ -35,10 +50,7 @@ fn put_entry(
     out.push(AsmItem::Label(label))?;
     op(out, Instr::One(One::PUSH, Reg::at(14)))?;
     op(out, Instr::Mov(Mov::RegReg(Reg::at(14), Reg::at(15))))?;
-    op(
-        out,
-        Instr::Two(Two::ISUB, Reg::at(15), Src::Imm(Either::Left(s.size))),
-    )
+    put_room(out, s.size)
 }
 
 /// Adds the end of a function, which has a label.

@@ -1,5 +1,5 @@
 -- Items of structured code that stand among the words are code that stands there.
-use Rattle.std.proofs.Common.{◌≡◌, ℕ, zero, suc, ◌+◌, ◌-◌, ◌^◌, ◌<◌, Bool, true, false, List, [], ◌∷◌, ◌++◌, length, refl, sym, ap, ◌∙◌, subst, arith, length-append}
+use Rattle.std.proofs.Common.{◌≡◌, ℕ, zero, suc, ◌+◌, ◌-◌, ◌^◌, ◌<◌, inl, inr, Bool, true, false, cond, List, [], ◌∷◌, ◌++◌, length, refl, sym, ap, ◌∙◌, subst, arith, length-append}
 use Rattle.kit_base.specs.Word.{add}
 use Rattle.v32_isa.specs.declared.instruction.Go.TheVariants.{JMP}
 use Rattle.v32_isa.specs.declared.instruction.Src.TheVariants as src
@@ -9,8 +9,8 @@ use Rattle.mid_code.specs.declared.placed.Where.{Where}
 use Rattle.mid_code.specs.Code.{NodesT, Stop, Do, Call, Choose, Block, Loop, Leave, Again, Return, CodeT}
 use Rattle.mid_code.specs.Invariants.{AreNodes}
 use Rattle.asm_laws.specs.Names.{jump_label}
-use Rattle.asm_laws.specs.Operations.{Frame, Whole, hand, brings, giving, op_items, call_items}
-use Rattle.asm_laws.specs.Emitted.{labels, enclosing, jump, jump_unless, mark, choice, first_part, second_part, enclosed, returning, code_items}
+use Rattle.asm_laws.specs.Operations.{Frame, hand, brings, giving, op_items, call_items}
+use Rattle.asm_laws.specs.Emitted.{labels, enclosing, jump, jump_unless, mark, choice, first_part, second_part, one_way, is_stop, enclosed, returning, code_items}
 use Rattle.asm_laws.specs.Placing.{Line, Bounds, end_of, begin_of, Jumps, At}
 use Rattle.asm_laws.specs.Standing.{Stand}
 use Rattle.asm_laws.specs.Holds.{Setting}
@@ -21,6 +21,17 @@ use Rattle.asm_laws.proofs.Known.{loop_there}
 
 abbrev Few : ℕ → Type 0
 Few n = n < 2 ^ 32 - 1
+
+stops : (c : NodesT Where) → is_stop c ≡ true → c ≡ Stop
+stops Stop e = refl
+stops (Do o c) e = absurd cc
+stops (Call t g args c) e = absurd cc
+stops (Choose p a b c) e = absurd cc
+stops (Block b c) e = absurd cc
+stops (Loop b c) e = absurd cc
+stops (Leave k c) e = absurd cc
+stops (Again k c) e = absurd cc
+stops (Return p c) e = absurd cc
 
 module _ (S : Setting) (f out : ℕ) (leave : S.address (jump_label out) ≡ S.leaves f) where
   abbrev label : ℕ → ℕ
@@ -78,6 +89,46 @@ module _ (S : Setting) (f out : ℕ) (leave : S.address (jump_label out) ≡ S.l
   upto : (es : List Bounds) (pc e q : ℕ) (c : NodesT Where) → e ≡ q → CodeAt es pc c e → CodeAt es pc c q
   upto es pc e q c same h = subst (λ n. CodeAt es pc c n) same h
 
+  -- a choice, with nothing in its second part or something
+  chosen : (w : Where) (a b c : NodesT Where) (es : List Bounds) (n m pc e : ℕ) (one two rest : List AsmItem) (t : Bool) → is_stop b ≡ t → ((p q : ℕ) → Here p one q → CodeAt es p a q) → ((p q : ℕ) → Here p two q → CodeAt es p b q) → ((q : ℕ) → Here q rest e → CodeAt es q c e) →
+      (q : ℕ) × Here pc (cond t (one_way F w n one) (choice F w n m one two)) q × Here q rest e → CodeAt es pc (Choose w a b c) e
+  chosen w a b c es n m pc e one two rest true is one_at two_at behind h0 =
+      let t = parts (brings F w 9) (jump_unless (hand w 9) n ∷ (one ++ mark n ∷ [])) pc h0.0 h0.1 in
+      let u = t.2 in
+      let h2 = parts one (mark n ∷ []) u.0 h0.0 u.2 in
+      let l = h2.2 in
+      let q_n : h0.0 ≡ label n = sym l.2 ∙ l.1.1 ∙ sym l.1.0 in (
+        u.0,
+        h2.0,
+        label n,
+        label n,
+        (t.0, t.1, u.1),
+        one_at u.0 h2.0 h2.1,
+        inr (sym l.1.0),
+        subst (λ y. CodeAt es (label n) y (label n)) (sym (stops b is)) refl,
+        from es h0.0 (label n) e c q_n (behind h0.0 h0.2),
+      )
+  chosen w a b c es n m pc e one two rest false is one_at two_at behind h0 =
+      let h1 = parts (first_part F w n m one) (second_part m two) pc h0.0 h0.1 in
+      let t = parts (brings F w 9) (jump_unless (hand w 9) n ∷ (one ++ jump m ∷ mark n ∷ [])) pc h1.0 h1.1 in
+      let u = t.2 in
+      let h2 = parts one (jump m ∷ mark n ∷ []) u.0 h1.0 u.2 in
+      let h3 = parts two (mark m ∷ []) h1.0 h0.0 h1.2 in
+      let j = h2.2 in
+      let at_n : label n ≡ h1.0 = j.2.1.0 ∙ sym j.2.1.1 ∙ j.2.2 in
+      let at_m : h3.0 ≡ label m = sym h3.2.1.0 in
+      let q_m : h0.0 ≡ label m = sym h3.2.2 ∙ h3.2.1.1 ∙ at_m in (
+        u.0,
+        h2.0,
+        label n,
+        label m,
+        (t.0, t.1, u.1),
+        one_at u.0 h2.0 h2.1,
+        inl (j.0, j.1),
+        from es h1.0 (label n) (label m) b (sym at_n) (upto es h1.0 h3.0 (label m) b at_m (two_at h1.0 h3.0 h3.1)),
+        from es h0.0 (label m) e c q_m (behind h0.0 h0.2),
+      )
+
   -- a block or loop stands between its labels
   enclosed_at : (b : NodesT Where) (a : List AsmItem) (es : List Bounds) (n pc q : ℕ) → ((p e : ℕ) → Here p a e → CodeAt (record { begins = label n; ends = label (n + 1) } ∷ es) p b e) → Here pc (enclosed n a) q →
       (p : ℕ) × CodeAt (record { begins = pc; ends = p } ∷ es) pc b p × (q ≡ p)
@@ -104,29 +155,12 @@ module _ (S : Setting) (f out : ℕ) (leave : S.address (jump_label out) ≡ S.l
         let s = parts (call_items S.whole F t g args) (items ls n c) pc e h in
         (s.0, s.1, code_at c bs ls es n s.0 e ok.1 same few en s.2)
     code_at (Choose w a b c) bs ls es n pc e ok same few en h =
-        let m = n + 1 + labels a in
         let one = items ls (n + 1) a in
-        let two = items ls (m + 1) b in
-        let h0 = parts (choice F w n m one two) (items ls (n + (2 + labels a + labels b)) c) pc e h in
-        let h1 = parts (first_part F w n m one) (second_part m two) pc h0.0 h0.1 in
-        let t = parts (brings F w 9) (jump_unless (hand w 9) n ∷ (one ++ jump m ∷ mark n ∷ [])) pc h1.0 h1.1 in
-        let u = t.2 in
-        let h2 = parts one (jump m ∷ mark n ∷ []) u.0 h1.0 u.2 in
-        let h3 = parts two (mark m ∷ []) h1.0 h0.0 h1.2 in
-        let j = h2.2 in
-        let at_n : label n ≡ h1.0 = j.2.1.0 ∙ sym j.2.1.1 ∙ j.2.2 in
-        let at_m : h3.0 ≡ label m = sym h3.2.1.0 in
-        let q_m : h0.0 ≡ label m = sym h3.2.2 ∙ h3.2.1.1 ∙ at_m in (
-          u.0,
-          h2.0,
-          label n,
-          label m,
-          (t.0, t.1, u.1),
-          code_at a bs ls es (n + 1) u.0 h2.0 ok.0 same (omega (arith, few)) en h2.1,
-          (j.0, j.1),
-          from es h1.0 (label n) (label m) b (sym at_n) (upto es h1.0 h3.0 (label m) b at_m (code_at b bs ls es (m + 1) h1.0 h3.0 ok.1 same (omega (arith, few)) en h3.1)),
-          from es h0.0 (label m) e c q_m (code_at c bs ls es (n + (2 + labels a + labels b)) h0.0 e ok.2 same (omega (arith, few)) en h0.2),
-        )
+        let two = items ls (n + 1 + labels a + 1) b in
+        let rest = items ls (n + (2 + labels a + labels b)) c in
+        chosen w a b c es n (n + 1 + labels a) pc e one two rest (is_stop b) refl
+        (λ p q k. code_at a bs ls es (n + 1) p q ok.0 same (omega (arith, few)) en k) (λ p q k. code_at b bs ls es (n + 1 + labels a + 1) p q ok.1 same (omega (arith, few)) en k) (λ q k. code_at c bs ls es (n + (2 + labels a + labels b)) q e ok.2 same (omega (arith, few)) en k)
+        (parts (cond (is_stop b) (one_way F w n one) (choice F w n (n + 1 + labels a) one two)) rest pc e h)
     code_at (Block b c) bs ls es n pc e ok same few en h =
         let one = items (ls ++ n ∷ []) (n + 2) b in
         let s = parts (enclosed n one) (items ls (n + (2 + labels b)) c) pc e h in

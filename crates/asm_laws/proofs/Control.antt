@@ -1,15 +1,14 @@
 -- Structured code that stands among the words is followed by the machine, whatever the states are.
-use Rattle.std.proofs.Common.{◌≡◌, ℕ, zero, suc, ◌+◌, ◌*◌, ◌<◌, ◌≤◌, List, [], ◌∷◌, ◌++◌, Option, Some, None, length, refl, sym, ap, ◌∙◌, subst, arith, append_assoc, append-nil}
-use Rattle.kit_base.specs.declared.event.Event.{Event}
+use Rattle.std.proofs.Common.{◌≡◌, ℕ, zero, suc, ◌+◌, ◌≤◌, inl, inr, List, [], ◌∷◌, ◌++◌, Option, Some, None, refl, sym, ap, ◌∙◌, subst, arith, append_assoc, append-nil}
 use Rattle.v32_isa.specs.State.{State, going_to}
 use Rattle.v32_isa.specs.Runs.{Run, run}
 use Rattle.v32_isa.specs.Runs as machine
 use Rattle.v32_isa.proofs.Steps.{before, Reaches, reaches_here, reaches_on}
 use Rattle.obj_mem.specs.Runs.{Ending, Halted, Fault, Starved, Stray, Deep, OutOfBound}
 use Rattle.mid_code.specs.declared.placed.Where.{Where}
-use Rattle.mid_code.specs.Code.{OpT, NodesT, Stop, Do, Call, Choose, Block, Loop, Leave, Again, Return}
-use Rattle.mid_code.specs.Meaning.{Did, On, Ends, Res, Next, Leaves, Repeats, Returns, Over, Lang, node_weight, call_weight, then_next, did, block_done, turn_done, choose, ask, call_done, called, does, below, runs}
-use Rattle.asm_laws.specs.Placing.{Shapes, Bounds, end_of, begin_of, Jumps, At}
+use Rattle.mid_code.specs.Code.{NodesT, Stop, Do, Call, Choose, Block, Loop, Leave, Again, Return}
+use Rattle.mid_code.specs.Meaning.{Did, On, Ends, Res, Next, Leaves, Repeats, Returns, Over, Lang, node_weight, call_weight, then_next, did, block_done, turn_done, choose, call_done, called, does, below, runs}
+use Rattle.asm_laws.specs.Placing.{Shapes, Bounds, end_of, begin_of, Jumps, Passes, At}
 use Rattle.asm_laws.specs.Following.{Holder, Begin, begin, spare, Came, Stopped, Going, Final, Sim, DidSim, Enters, CallSim, TestSim, Parts}
 
 module _ (L : Lang Where) (X : Holder L) where
@@ -147,6 +146,11 @@ module _ (L : Lang Where) (X : Holder L) where
     jump_end κ m b p e n ls (Returns t) j a = earlier κ m b (spare 1 b) e n ls (Returns t) refl refl (omega arith) a
     jump_end κ m b p e n ls (Over g t) j a = earlier κ m b (spare 1 b) e n ls (Over g t) refl refl (omega arith) a
 
+    -- or stands right before it
+    pass_end : (κ : X.K) (m : State) (b : Begin) (p e n : ℕ) (ls : List Bounds) (r : Res L.S) → Passes H.words p e → Sim X κ m (spare 1 b) p n ls r → Sim X κ m b e n ls r
+    pass_end κ m b p e n ls r (inl j) a = jump_end κ m b p e n ls r j a
+    pass_end κ m b p e n ls r (inr q) a = earlier κ m b (spare 1 b) e n ls r refl refl (omega arith) (subst (λ z. Sim X κ m (spare 1 b) z n ls r) q a)
+
     -- a jump that is a node
     jump_node : (κ : X.K) (pc to : ℕ) (s : L.S) (m : State) → Jumps H.words pc to → m.counter ≡ pc → X.M κ s m → Came X m (begin X s) (L.tick node_weight s) to 1 0 (X.M κ (L.tick node_weight s))
     jump_node κ pc to s m j e h =
@@ -163,13 +167,13 @@ module _ (L : Lang Where) (X : Holder L) where
           many = omega arith;
         }
 
-    choose_sim : (κ : X.K) (m : State) (b : Begin) (px py pe pz n : ℕ) (ls : List Bounds) (s : L.S) (o : Option ℕ) (go other : L.S → Res L.S) → Going X m b s 0 → Jumps H.words pe pz → TestSim X κ py px m b s o →
+    choose_sim : (κ : X.K) (m : State) (b : Begin) (px py pe pz n : ℕ) (ls : List Bounds) (s : L.S) (o : Option ℕ) (go other : L.S → Res L.S) → Going X m b s 0 → Passes H.words pe pz → TestSim X κ py px m b s o →
         ((m1 : State) → m1.counter ≡ px → X.M κ s m1 → Sim X κ m1 (begin X s) pe n ls (go s)) → ((m1 : State) → m1.counter ≡ py → X.M κ s m1 → Sim X κ m1 (begin X s) pz n ls (other s)) → Sim X κ m b pz n ls (choose o s go other)
     choose_sim κ m b px py pe pz n ls s None go other st j t gx gy = st
     choose_sim κ m b px py pe pz n ls s (Some zero) go other st j t gx gy =
         earlier κ m b (spare 1 b) pz n ls (other s) refl refl (omega arith) (after κ m (spare 1 b) s py 0 n n pz ls (X.M κ s) (other s) (omega arith) t (gy t.to t.at t.held))
     choose_sim κ m b px py pe pz n ls s (Some (suc v)) go other st j t gx gy =
-        jump_end κ m b pe pz n ls (go s) j (after κ m (spare 1 b) s px 0 n n pe ls (X.M κ s) (go s) (omega arith) t (gx t.to t.at t.held))
+        pass_end κ m b pe pz n ls (go s) j (after κ m (spare 1 b) s px 0 n n pe ls (X.M κ s) (go s) (omega arith) t (gx t.to t.at t.held))
 
     -- what is assumed of the meaning at one less
     abbrev pub Before : ℕ → (NodesT Where → L.S → Res L.S) → Type 0

@@ -1,5 +1,5 @@
 -- Where the functions of a program stand among the words that its items stand in.
-use Rattle.std.proofs.Common.{◌≡◌, ℕ, zero, suc, ◌+◌, ◌-◌, ◌^◌, ◌<◌, ◌≤◌, List, [], ◌∷◌, ◌++◌, length, refl, sym, ap, ◌∙◌, subst, arith}
+use Rattle.std.proofs.Common.{◌≡◌, ℕ, zero, suc, ◌+◌, ◌-◌, ◌^◌, ◌<◌, List, [], ◌∷◌, ◌++◌, length, subst, arith}
 use Rattle.std.specs.Prelude.{get_or}
 use Rattle.asm_items.specs.declared.item.AsmItem.{AsmItem}
 use Rattle.mid_code.specs.declared.placed.Where.{Where}

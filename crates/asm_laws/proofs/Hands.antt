@@ -1,7 +1,6 @@
 -- Words that are brought into registers, and laid at places.
 use Rattle.std.proofs.Common.{◌≡◌, ◌≢◌, ℕ, ◌+◌, ◌<◌, ◌≤◌, inl, inr, Bool, true, false, cond, List, [], ◌∷◌, refl, sym, ap, ◌∙◌, subst, arith}
 use Rattle.std.proofs.lemmas.Bool.{eqb-true, eqb-false}
-use Rattle.v32_isa.specs.declared.instruction.Instr.{Instr}
 use Rattle.v32_isa.specs.declared.stepped.Stepped.TheVariants as stepped
 use Rattle.v32_isa.specs.State.{State, register_of, written}
 use Rattle.v32_isa.specs.Machine.{effect_of}
@@ -9,11 +8,9 @@ use Rattle.v32_isa.specs.Machine.Effect.{Ends as EndsIn}
 use Rattle.v32_isa.proofs.Steps.{Reaches, reaches_here, reaches_on, reaches_went}
 use Rattle.asm_items.specs.declared.item.AsmItem.{AsmItem}
 use Rattle.asm_items.specs.declared.item.AsmItem.TheVariants as item
-use Rattle.asm_items.specs.Items.{instr_with}
-use Rattle.asm_items.specs.Words.{imm_word}
 use Rattle.mid_code.specs.declared.placed.Where.{Where}
 use Rattle.mid_code.specs.declared.placed.Where.TheVariants.{Reg, Slot}
-use Rattle.asm_laws.specs.Operations.{Frame, register, keep, fetches, keeps, is_in, hand, brings, takes, aim, lays}
+use Rattle.asm_laws.specs.Operations.{Frame, register, keep, fetches, is_in, hand, brings, takes, aim, lays}
 use Rattle.asm_laws.specs.Standing.{Stand}
 use Rattle.asm_laws.specs.Addresses.{Addr, Console, word_of, put, Room, Good, Held, Arrives}
 use Rattle.asm_laws.proofs.Stepping.{same_or_not, written_same, written_other, reg_same, reg_other, took, scratch, kept, reg_number, fetches_so, keeps_so}

@@ -1,14 +1,16 @@
 -- Each label that emitted items use is one of theirs, so they have no fault.
 use Rattle.std.proofs.Common.{◌≡◌, ℕ, zero, suc, ◌+◌, ◌-◌, ◌^◌, ◌<◌, ◌≤◌, ◌⊎◌, inl, inr, Bool, true, false, cond, List, [], ◌∷◌, ◌++◌, length, map, Option, Some, None, refl, sym, ap, ◌∙◌, subst, arith, length-append}
-use Rattle.std.specs.Prelude.{is_some, bytes_eq, sum_by, slice_get}
+use Rattle.std.specs.Prelude.{◌==◌, is_some, bytes_eq, sum_by, slice_get}
 use Rattle.std.proofs.lemmas.Option.{slice_get_within}
 use Rattle.std.proofs.lemmas.Slice.Eq.{bytes_eq-Decides}
 use Rattle.std.proofs.lemmas.Bool.{le-ltb}
 use Rattle.std.specs.Option.{option_map_or}
 use Rattle.kit_base.specs.Word.{add}
+use Rattle.either.specs.declared.Either.TheVariants.{Left}
 use Rattle.v32_isa.specs.declared.instruction.One.{One as OneOf}
 use Rattle.v32_isa.specs.declared.instruction.Two.{Two as TwoOf}
 use Rattle.v32_isa.specs.declared.instruction.Two.TheVariants.{IADD, ISUB}
+use Rattle.v32_isa.specs.declared.instruction.Src.TheVariants as src
 use Rattle.v32_isa.specs.declared.instruction.Instr.TheVariants as instr
 use Rattle.asm_items.specs.declared.item.AsmItem.{AsmItem}
 use Rattle.asm_items.specs.declared.item.AsmItem.TheVariants as item
@@ -25,7 +27,8 @@ use Rattle.mid_code.specs.Runs.{weight}
 use Rattle.asm_laws.specs.Labelled.{HasLabel}
 use Rattle.asm_laws.specs.Names.{jump_label, literal_label, function_label}
 use Rattle.asm_laws.specs.Operations.{Frame, Whole, register, keep, fetches, keeps, keeps_some, is_in, hand, brings, takes, aim, lays, moves, changes, is_direct, in_place, apart, computes, slot_arg, slot_args, pushed_arg, pushed_args, popped_arg, popped_args, args_items, call_items, op_items, giving, start_frame, opening_items, literal_items, literals_items}
-use Rattle.asm_laws.specs.Emitted.{labels, functions_labels, enclosing, jump, jump_unless, mark, first_part, second_part, choice, enclosed, returning, code_items, entry_items, exit_items, function_items, functions_items, closing_items, start_items, program_items, labels_of}
+use Rattle.asm_laws.specs.Framing.{room_made}
+use Rattle.asm_laws.specs.Emitted.{labels, functions_labels, enclosing, jump, jump_unless, mark, first_part, second_part, choice, one_way, is_stop, enclosed, returning, code_items, entry_items, exit_items, function_items, functions_items, closing_items, start_items, program_items}
 use Rattle.asm_laws.proofs.Programs.{mapped_from}
 use Rattle.asm_laws.proofs.Walked.{total_more}
 use Rattle.asm_laws.proofs.Enclosing.{innermost, further}
@@ -240,6 +243,18 @@ module _ (x : CodeT Where) (W : Whole) (Q : List ℕ → Type 0) (of_function : 
         let two = uses_append Q b (mark m ∷ []) (ub (λ x h. right x (marked_left b (mark m ∷ []) x h))) (tt, tt) in
         uses_append Q (first_part F p n m a) (second_part m b) (brought_uses F p 9 (j ∷ inner) (qn, one)) two
 
+    one_way_uses : (p : Where) (n : ℕ) (a : List AsmItem) → Knows (one_way F p n a) → (Knows a → Uses Q a) → Uses Q (one_way F p n a)
+    one_way_uses p n a k ua =
+        let inner = a ++ mark n ∷ [] in
+        let j = jump_unless (hand p 9) n in
+        let left : Knows inner = λ x h. k x (marked_right (brings F p 9) (j ∷ inner) x h) in
+        let qn : Q (jump_label n) = left (jump_label n) (marked_right a (mark n ∷ []) (jump_label n) (inl refl)) in
+        brought_uses F p 9 (j ∷ inner) (qn, uses_append Q a (mark n ∷ []) (ua (λ x h. left x (marked_left a (mark n ∷ []) x h))) (tt, tt))
+
+    chosen_uses : (p : Where) (n m : ℕ) (t : Bool) (a b : List AsmItem) → Knows (cond t (one_way F p n a) (choice F p n m a b)) → (Knows a → Uses Q a) → (Knows b → Uses Q b) → Uses Q (cond t (one_way F p n a) (choice F p n m a b))
+    chosen_uses p n m true a b k ua ub = one_way_uses p n a k ua
+    chosen_uses p n m false a b k ua ub = choice_uses p n m a b k ua ub
+
     enclosed_uses : (n : ℕ) (a : List AsmItem) (ls : List ℕ) → n < 2 ^ 32 - 1 → Jumpable ls → Knows (enclosed n a) → (Jumpable (ls ++ n ∷ []) → Knows a → Uses Q a) → Uses Q (enclosed n a)
     enclosed_uses n a ls few j k ua =
         let qn : Q (jump_label n) = k (jump_label n) (inl refl) in
@@ -259,10 +274,10 @@ module _ (x : CodeT Where) (W : Whole) (Q : List ℕ → Type 0) (of_function : 
     code_uses m (Choose p a b c) bs ls n same ok few j k =
         let one = code_items W F out ls (n + 1) a in
         let two = code_items W F out ls (n + 1 + labels a + 1) b in
-        let xs = choice F p n (n + 1 + labels a) one two in
+        let xs = cond (is_stop b) (one_way F p n one) (choice F p n (n + 1 + labels a) one two) in
         let ys = code_items W F out ls (n + (2 + labels a + labels b)) c in
         uses_append Q xs ys
-        (choice_uses p n (n + 1 + labels a) one two (λ w h. k w (marked_left xs ys w h)) (λ h. code_uses m a bs ls (n + 1) same ok.0 (omega (arith, few)) j h) (λ h. code_uses m b bs ls (n + 1 + labels a + 1) same ok.1 (omega (arith, few)) j h))
+        (chosen_uses p n (n + 1 + labels a) (is_stop b) one two (λ w h. k w (marked_left xs ys w h)) (λ h. code_uses m a bs ls (n + 1) same ok.0 (omega (arith, few)) j h) (λ h. code_uses m b bs ls (n + 1 + labels a + 1) same ok.1 (omega (arith, few)) j h))
         (code_uses m c bs ls (n + (2 + labels a + labels b)) same ok.2 (omega (arith, few)) j (λ w h. k w (marked_right xs ys w h)))
     code_uses m (Block b c) bs ls n same ok few j k =
         let one = code_items W F out (ls ++ n ∷ []) (n + 2) b in
@@ -287,6 +302,9 @@ module _ (x : CodeT Where) (W : Whole) (Q : List ℕ → Type 0) (of_function : 
 
   -- ---- the whole program
 
+  room_uses : (n : ℕ) → Uses Q (room_made n)
+  room_uses n = one_of_both (n == 0) [] (item.Op (instr.Two ISUB 15 (src.Imm (Left n))) ∷ []) tt (tt, tt)
+
   outermost : Jumpable []
   outermost k lt = absurd (omega arith)
 
@@ -299,7 +317,7 @@ module _ (x : CodeT Where) (W : Whole) (Q : List ℕ → Type 0) (of_function : 
       let b = code_items W F n [] (n + 1) g.body in
       let more : Knows (b ++ exit_items n) = λ m h. k m (marked_right (entry_items W f F) (b ++ exit_items n) m h) in
       let end : Q (jump_label n) = more (jump_label n) (marked_right b (exit_items n) (jump_label n) (inl refl)) in
-      uses_append Q (entry_items W f F) (b ++ exit_items n) (tt, (tt, (tt, (tt, tt)))) (uses_append Q b (exit_items n) (code_uses F n end (length g.locals) g.body [] [] (n + 1) refl ok few outermost (λ m h. more m (marked_left b (exit_items n) m h))) (tt, (tt, (tt, (tt, tt)))))
+      uses_append Q (entry_items W f F) (b ++ exit_items n) (tt, (tt, (tt, room_uses F.size))) (uses_append Q b (exit_items n) (code_uses F n end (length g.locals) g.body [] [] (n + 1) refl ok few outermost (λ m h. more m (marked_left b (exit_items n) m h))) (tt, (tt, (tt, (tt, tt)))))
 
   functions_uses : (f n : ℕ) (gs : List (FunctionT Where)) → AllOf Fine gs → n + functions_labels gs < 2 ^ 32 - 1 → Knows (functions_items W f n gs) → Uses Q (functions_items W f n gs)
   functions_uses f n [] ok few k = tt

@@ -1,5 +1,7 @@
 -- The machine's steps of a call up to the body of the function, and of the way back.
-use Rattle.std.proofs.Common.{◌≡◌, ℕ, ◌+◌, ◌-◌, ◌*◌, ◌<◌, ◌≤◌, true, List, [], ◌∷◌, ◌++◌, length, refl, ap, ◌∙◌, subst, arith}
+use Rattle.std.proofs.lemmas.Bool.{eqb-true}
+use Rattle.std.specs.Prelude.{◌==◌}
+use Rattle.std.proofs.Common.{◌≡◌, ℕ, ◌+◌, ◌-◌, ◌*◌, ◌<◌, ◌≤◌, true, List, [], ◌∷◌, ◌++◌, length, refl, ap, ◌∙◌, subst, arith, Bool, false, cond}
 use Rattle.std.specs.Prelude.{get_or}
 use Rattle.std.proofs.lemmas.List.{length-set}
 use Rattle.kit_base.specs.Word.{add, sub}
@@ -27,10 +29,10 @@ use Rattle.asm_laws.specs.Operations.{Frame, slot_word, hand, brings, slot_arg, 
 use Rattle.asm_laws.specs.Placing.{Line}
 use Rattle.asm_laws.specs.Standing.{Stand}
 use Rattle.asm_laws.specs.Addresses.{Addr, Console, word_of, store, Room, Good, Held, Arrives}
-use Rattle.asm_laws.specs.Framing.{frame_made, frame_gone}
+use Rattle.asm_laws.specs.Framing.{room_made, frame_made, frame_gone}
 use Rattle.asm_laws.specs.Links.{new_slot, passed, all_passed, push, pushed, all_pushed, popped, all_popped, entered, slot_steps, called, gone_back}
-use Rattle.asm_laws.proofs.Stepping.{readable_word, ram_readable, ram_writable, writes_at, line_effect, reg_same, reg_other, took, scratch, moved, kept, stores, fetches_so, reg_number}
-use Rattle.asm_laws.proofs.Hands.{hand_fits, brings_at}
+use Rattle.asm_laws.proofs.Stepping.{readable_word, ram_readable, ram_writable, writes_at, line_effect, reg_same, reg_other, moved, kept, stores, reg_number}
+use Rattle.asm_laws.proofs.Hands.{held_alike, hand_fits, brings_at}
 
 module _ (C : Console) where
   -- the top of the stack, and the end of the frame, are other addresses
@@ -238,6 +240,20 @@ module _ (C : Console) where
     unfolding act
     less_act a s n next lo hi h = let d : sub (register_of s 15) n ≡ a.top - n = omega (arith, h.top, lo, hi) in rw d refl
 
+    -- room is made for the words of a frame, where it has any
+    rooms : (a : Addr) (s : State) (xs : List ℕ) (pc body size : ℕ) → size ≤ a.top → a.top ≤ 0x400000 → Held C a s → s.counter ≡ pc → Here pc (room_made size) body → Arrives C 1 s xs body [] xs (record a { top = a.top - size })
+    rooms a s xs pc body size lo hi h e k = go (size == 0) refl k
+      where
+        go : (b : Bool) → (size == 0) ≡ b → Here pc (cond b [] (item.Op (instr.Two ISUB 15 (src.Imm (Left size))) ∷ [])) body → Arrives C 1 s xs body [] xs (record a { top = a.top - size })
+        go true is k =
+            let z : size ≡ 0 = eqb-true size 0 is in
+            let d : a.top ≡ a.top - size = omega (arith, z) in
+            record { steps = 0; to = s; by = reaches_here s xs; at = e ∙ k; held = held_alike C a (record a { top = a.top - size }) s (λ r lt. refl) (λ q. refl) refl d h; few = omega arith }
+        go false is k =
+            let u = going_to k.0 (with_register 15 (a.top - size) s) in
+            subst (λ q. Arrives C 1 s xs q [] xs (record a { top = a.top - size })) k.2
+            (one a (record a { top = a.top - size }) s u xs pc (instr.Two ISUB 15 (src.Imm size)) k.0 h e k.1 (omega arith, omega arith, omega arith) (less_act a s size k.0 lo hi h) (moved C (record a { top = a.top - size }) (with_register 15 (a.top - size) s) k.0 (top_held a s (a.top - size) h)))
+
     -- from the call to the function's body
     pub enters : (a : Addr) (s : State) (xs : List ℕ) (pc next begins body : ℕ) → G.size + 2 ≤ a.top → a.top ≤ 0x400000 → Held C a s → s.counter ≡ pc → Line C.words pc (instr.Go CALL (src.Imm begins)) next → Here begins (frame_made G.size) body → Arrives C 4 s xs body [] xs (entered G next a)
     enters a s xs pc next begins body lo hi h e l k =
@@ -253,9 +269,7 @@ module _ (C : Console) where
         let f3 : Arrives C 1 t2 xs k.2.0 [] xs a3 = one a2 a3 t2 u2 xs k.0 (instr.Mov (RegReg 14 15)) k.2.0 h2 e2 k.2.1 (omega arith, omega arith, omega arith) (copy_act t2 14 15 k.2.0 ∙ ap (λ x. EndsIn stepped.Went (going_to k.2.0 (with_register 14 x t2))) v) (moved C a3 (with_register 14 (a.top - 2) t2) k.2.0 (base_held a2 t2 (a.top - 2) h2)) in
         chain 1 1 t2 xs k.2.0 body a3 (entered G next a) f3 (λ t3 e3 h3.
         let d : a3.top - G.size ≡ a.top - 2 - G.size = omega arith in
-        let u3 = going_to k.2.2.0 (with_register 15 (a.top - 2 - G.size) t3) in
-        subst (λ q. Arrives C 1 t3 xs q [] xs (entered G next a)) k.2.2.2
-        (one a3 (entered G next a) t3 u3 xs k.2.0 (instr.Two ISUB 15 (src.Imm G.size)) k.2.2.0 h3 e3 k.2.2.1 (omega arith, omega arith, omega arith) (less_act a3 t3 G.size k.2.2.0 (omega (arith, lo)) (omega (arith, hi)) h3 ∙ ap (λ x. EndsIn stepped.Went (going_to k.2.2.0 (with_register 15 x t3))) d) (moved C (entered G next a) (with_register 15 (a.top - 2 - G.size) t3) k.2.2.0 (top_held a3 t3 (a.top - 2 - G.size) h3))))))
+        subst (λ z. Arrives C 1 t3 xs body [] xs (record a3 { top = z })) d (rooms a3 t3 xs k.2.0 body G.size (omega (arith, lo)) (omega (arith, hi)) h3 e3 k.2.2))))
 
     -- ---- the way back
 

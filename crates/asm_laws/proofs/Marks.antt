@@ -1,21 +1,21 @@
 -- The labels of emitted items differ.
-use Rattle.std.proofs.Common.{◌≡◌, ◌≢◌, ℕ, ◌+◌, ◌^◌, ◌<◌, ◌≤◌, Bool, true, false, cond, List, [], ◌∷◌, ◌++◌, length, map, Option, Some, None, refl, sym, ap, ◌∙◌, subst, arith, append_assoc, true≢false}
-use Rattle.std.specs.Prelude.{bytes_eq, ◌||◌}
-use Rattle.std.specs.List.{list_any}
-use Rattle.std.proofs.lemmas.Slice.Eq.{bytes_eq-Decides}
+use Rattle.std.proofs.Common.{◌≡◌, ◌≢◌, ℕ, ◌+◌, ◌^◌, ◌<◌, ◌≤◌, Bool, true, false, cond, List, [], ◌∷◌, ◌++◌, length, map, Option, Some, None, refl, sym, ◌∙◌, subst, arith, append_assoc}
+use Rattle.std.specs.Prelude.{◌==◌}
+use Rattle.either.specs.declared.Either.TheVariants.{Left}
 use Rattle.v32_isa.specs.declared.instruction.One.{One as OneOf}
 use Rattle.v32_isa.specs.declared.instruction.Two.{Two as TwoOf}
 use Rattle.v32_isa.specs.declared.instruction.Two.TheVariants.{IADD, ISUB}
+use Rattle.v32_isa.specs.declared.instruction.Src.TheVariants as src
 use Rattle.v32_isa.specs.declared.instruction.Instr.TheVariants as instr
 use Rattle.asm_items.specs.declared.item.AsmItem.{AsmItem}
 use Rattle.asm_items.specs.declared.item.AsmItem.TheVariants as item
-use Rattle.assembler.specs.Faults.{twice_from}
 use Rattle.mid_code.specs.declared.placed.Where.{Where}
 use Rattle.mid_code.specs.declared.placed.Where.TheVariants.{Reg, Slot}
 use Rattle.mid_code.specs.Code.{OpT, ConstO, NullO, MoveO, OneO, TwoO, GlobalO, LocalO, LiteralO, CardO, StepO, ApartO, PtrTestO, LoadO, StoreO, FreshO, EndO, InO, OutO, WaitO, HaltO, NodesT, Stop, Do, Call, Choose, Block, Loop, Leave, Again, Return, FunctionT, CodeT}
-use Rattle.asm_laws.specs.Names.{literal_label}
+use Rattle.asm_laws.specs.Names.{function_label, literal_label}
 use Rattle.asm_laws.specs.Operations.{Frame, Whole, register, keep, fetches, keeps_some, is_in, hand, brings, takes, aim, lays, moves, changes, is_direct, in_place, apart, computes, slot_arg, slot_args, pushed_arg, pushed_args, popped_arg, popped_args, args_items, call_items, op_items, giving, start_frame, opening_items, literal_items, literals_items}
-use Rattle.asm_laws.specs.Emitted.{labels, functions_labels, enclosing, jump, jump_unless, mark, choice, enclosed, returning, code_items, entry_items, exit_items, function_items, functions_items, closing_items, start_items, program_items, labels_of}
+use Rattle.asm_laws.specs.Framing.{frame_made}
+use Rattle.asm_laws.specs.Emitted.{labels, functions_labels, enclosing, jump, jump_unless, mark, choice, one_way, is_stop, enclosed, returning, code_items, entry_items, exit_items, function_items, functions_items, closing_items, start_items, program_items, labels_of}
 use Rattle.asm_laws.proofs.LabelKinds.{Differ, Kind, Jump, Fun, Text, name_of, Valid, kind_same, Range, Box, Within, Aside, jumps, jumps_within, jumps_below, jumps_above}
 
 -- ---- labels of items
@@ -211,6 +211,15 @@ module _ (W : Whole) (differ : Differ W.names) where
       (bare_then (jumps n e) (brings F p 9) (jump_unless (hand p 9) n ∷ (inner ++ (b ++ mark m ∷ []))) (brings_bare F p 9)
       (bare_then (jumps n e) (jump_unless (hand p 9) n ∷ []) (inner ++ (b ++ mark m ∷ [])) tt (rising n m e inner (b ++ mark m ∷ []) (omega arith) (omega arith) first second)))
 
+  one_way_marks : (F : Frame) (p : Where) (n m : ℕ) (a : List AsmItem) → n + 1 ≤ m → m ≤ 2 ^ 32 → Marks (jumps (n + 1) m) a → Marks (jumps n m) (one_way F p n a)
+  one_way_marks F p n m a x few ma =
+      bare_then (jumps n m) (brings F p 9) (jump_unless (hand p 9) n ∷ (a ++ mark n ∷ [])) (brings_bare F p 9)
+      (bare_then (jumps n m) (jump_unless (hand p 9) n ∷ []) (a ++ mark n ∷ []) tt (falling n (n + 1) m a (mark n ∷ []) (omega arith) x ma (mark_one n (omega (arith, x, few)))))
+
+  chosen_marks : (F : Frame) (p : Where) (n m e : ℕ) (t : Bool) (a b : List AsmItem) → n + 1 ≤ m → m + 1 ≤ e → e ≤ 2 ^ 32 → Marks (jumps (n + 1) m) a → Marks (jumps (m + 1) e) b → Marks (jumps n e) (cond t (one_way F p n a) (choice F p n m a b))
+  chosen_marks F p n m e true a b x y few ma mb = marks_more (jumps n m) (jumps n e) (one_way F p n a) (jumps_within n m n e (omega arith) (omega (arith, y))) (one_way_marks F p n m a x (omega (arith, y, few)) ma)
+  chosen_marks F p n m e false a b x y few ma mb = choice_marks F p n m e a b x y few ma mb
+
   enclosed_marks : (n e : ℕ) (a : List AsmItem) → n + 2 ≤ e → e ≤ 2 ^ 32 → Marks (jumps (n + 2) e) a → Marks (jumps n e) (enclosed n a)
   enclosed_marks n e a x few ma =
       let here : n + 1 + 1 ≡ n + 2 = omega arith in
@@ -225,8 +234,8 @@ module _ (W : Whole) (differ : Differ W.names) where
     code_marks (Choose p a b c) ls n e is few =
         let m = n + 1 + labels a in
         let k = n + (2 + labels a + labels b) in
-        rising n k e (choice F p n m (code_items W F out ls (n + 1) a) (code_items W F out ls (m + 1) b)) (code_items W F out ls k c) (omega arith) (omega (arith, is))
-        (choice_marks F p n m k (code_items W F out ls (n + 1) a) (code_items W F out ls (m + 1) b) (omega arith) (omega arith) (omega (arith, is, few))
+        rising n k e (cond (is_stop b) (one_way F p n (code_items W F out ls (n + 1) a)) (choice F p n m (code_items W F out ls (n + 1) a) (code_items W F out ls (m + 1) b))) (code_items W F out ls k c) (omega arith) (omega (arith, is))
+        (chosen_marks F p n m k (is_stop b) (code_items W F out ls (n + 1) a) (code_items W F out ls (m + 1) b) (omega arith) (omega arith) (omega (arith, is, few))
         (code_marks a ls (n + 1) m (omega arith) (omega (arith, is, few))) (code_marks b ls (m + 1) k (omega arith) (omega (arith, is, few))))
         (code_marks c ls k e (omega (arith, is)) few)
     code_marks (Block b c) ls n e is few =
@@ -257,7 +266,10 @@ module _ (W : Whole) (differ : Differ W.names) where
       (falling 0 1 e (code_items W start_frame 0 [] 1 body) (closing_items W main) (omega arith) (omega (arith, is)) (code_marks start_frame 0 body [] 1 e is few) (closing_marks main))
 
   entry_marks : (f : ℕ) → f < length W.names → Marks (span 0 0 f (f + 1) 0 0) (entry_items W f (W.frames f))
-  entry_marks f lt = record { names = ((Fun f, lt, refl, (omega arith, omega arith)), tt); distinct = (tt, tt) }
+  entry_marks f lt =
+      let label = item.Label (function_label W.names f) in
+      then_bare (span 0 0 f (f + 1) 0 0) (label ∷ []) (frame_made (W.frames f).size) (record { names = ((Fun f, lt, refl, (omega arith, omega arith)), tt); distinct = (tt, tt) })
+      (one_of_both ((W.frames f).size == 0) [] (item.Op (instr.Two ISUB 15 (src.Imm (Left (W.frames f).size))) ∷ []) tt tt)
 
   exit_marks : (n : ℕ) → n < 2 ^ 32 → Marks (jumps n (n + 1)) (exit_items n)
   exit_marks n lt = then_bare (jumps n (n + 1)) (mark n ∷ []) _ (mark_one n lt) tt

@@ -1,5 +1,5 @@
 -- Each operation but a call is followed by the machine, in at most eight steps.
-use Rattle.std.proofs.Common.{◌≡◌, ◌≢◌, ℕ, suc, ◌+◌, ◌<◌, ◌≤◌, inl, inr, Bool, true, false, cond, List, [], ◌∷◌, ◌++◌, Option, Some, None, refl, sym, ap, ◌∙◌, subst, arith}
+use Rattle.std.proofs.Common.{◌≡◌, ℕ, suc, ◌+◌, ◌<◌, ◌≤◌, inl, inr, Bool, true, false, cond, List, [], ◌∷◌, ◌++◌, Option, Some, None, refl, sym, ap, ◌∙◌, subst, arith}
 use Rattle.std.specs.Prelude.{get_or, not, ◌&&◌}
 use Rattle.std.proofs.lemmas.Bool.{eqb-true}
 use Rattle.either.specs.declared.Either.TheVariants.{Left, Right}
@@ -37,9 +37,9 @@ use Rattle.asm_laws.specs.Operations.{Frame, Whole, register, local_word, fetch,
 use Rattle.asm_laws.specs.Operations as emitted
 use Rattle.asm_laws.specs.Placing.{Line}
 use Rattle.asm_laws.specs.Standing.{Stand}
-use Rattle.asm_laws.specs.Addresses.{Addr, Console, readable, writable, word_of, local_address, store, put, Room, Good, Does, Goes, Ends, computed, loaded, saved, asked, does, IsPlainOne, GoodOp, Held, Arrives, HasEnded, Follows}
-use Rattle.asm_laws.proofs.Stepping.{same_or_not, written_same, written_other, readable_word, unreadable_word, writes_at, line_effect, reg_same, reg_other, took, scratch, kept, moved, stores, reg_number, fetch_effect, fetches_so}
-use Rattle.asm_laws.proofs.Hands.{Like, like_self, with_reg, like_with, hand_fits, aim_fits, aim_low, hand_other, held_alike, Brought, brings_at, Taken, takes_at, word_other, kept_at, lays_from, lays_at}
+use Rattle.asm_laws.specs.Addresses.{Addr, Console, readable, writable, word_of, local_address, put, Room, Good, Does, Goes, Ends, computed, loaded, saved, asked, does, IsPlainOne, GoodOp, Held, Arrives, HasEnded, Follows}
+use Rattle.asm_laws.proofs.Stepping.{same_or_not, written_same, written_other, readable_word, unreadable_word, writes_at, line_effect, reg_same, took, scratch, kept, moved, stores, reg_number, fetch_effect, fetches_so}
+use Rattle.asm_laws.proofs.Hands.{like_self, with_reg, like_with, hand_fits, aim_fits, aim_low, hand_other, held_alike, brings_at, takes_at, word_other, kept_at, lays_from, lays_at}
 use Rattle.asm_laws.proofs.Split.{split}
 
 -- steps before those that follow

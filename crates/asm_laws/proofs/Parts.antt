@@ -21,7 +21,7 @@ use Rattle.mid_code.specs.Code.{OpT, ConstO, NullO, MoveO, OneO, TwoO, GlobalO, 
 use Rattle.mid_code.specs.Meaning.{Did, On, Ends, node_weight}
 use Rattle.mid_code.specs.States.{State, spent, op_weight, word_tested, registers_and_slots, acted}
 use Rattle.asm_laws.specs.Operations.{Frame, hand}
-use Rattle.asm_laws.specs.Placing.{Line, Jumps}
+use Rattle.asm_laws.specs.Placing.{Jumps}
 use Rattle.asm_laws.specs.Following.{begin, spare, Came, Stopped, DidSim, TestSim}
 use Rattle.asm_laws.specs.Tests.{Tests}
 use Rattle.asm_laws.specs.Addresses.{Addr, Does, Console, word_of, GoodOp, Held, Follows, does}

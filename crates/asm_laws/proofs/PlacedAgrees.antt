@@ -1,5 +1,5 @@
 -- The words of placed code agree with it.
-use Rattle.std.proofs.Common.{◌≡◌, ℕ, zero, suc, ◌+◌, ◌<◌, inl, inr, Bool, true, false, List, [], ◌∷◌, length, Option, Some, refl, sym, ap, ◌∙◌, subst, arith}
+use Rattle.std.proofs.Common.{◌≡◌, ℕ, ◌+◌, ◌<◌, inl, inr, Bool, true, false, List, [], ◌∷◌, length, Option, Some, refl, sym, ap, ◌∙◌, subst, arith}
 use Rattle.std.specs.Prelude.{get_or, slice_get, is_some, cond, eqb}
 use Rattle.std.proofs.lemmas.Option.{slice_get_within, get_or_from_slice_get}
 use Rattle.std.proofs.lemmas.Bool.{eq-eqb, eqb-true}
@@ -7,7 +7,7 @@ use Rattle.obj_mem.specs.Runs.{IsCard}
 use Rattle.mid_code.specs.declared.placed.Where.{Where}
 use Rattle.mid_code.specs.declared.placed.Where.TheVariants.{Reg, Slot}
 use Rattle.mid_code.specs.Placed.{PlacedT}
-use Rattle.mid_code.specs.Code.{NodesT, Stop, Do, Call, Choose, Block, Loop, Leave, Again, Return, FunctionT, CodeT, node_uses, node_target, maybe}
+use Rattle.mid_code.specs.Code.{NodesT, Stop, Do, Call, Choose, Block, Loop, Leave, Again, Return, FunctionT, node_uses, node_target, maybe}
 use Rattle.mid_code.specs.States.{no_function, function_at}
 use Rattle.mid_code.specs.Invariants.{AllOf, AreNodes, NodeNames, Names, HasSlot, IsFunction, IsPlace, IsStartPlace}
 use Rattle.mid_code.specs.Runs.{placed_runs}

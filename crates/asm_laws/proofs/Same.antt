@@ -1,5 +1,5 @@
 -- Items do not depend on the frames of functions that are not there.
-use Rattle.std.proofs.Common.{◌≡◌, ℕ, ◌+◌, ◌<◌, Bool, true, false, List, [], ◌∷◌, ◌++◌, length, Option, refl, ap, ◌∙◌, arith}
+use Rattle.std.proofs.Common.{◌≡◌, ℕ, ◌+◌, ◌<◌, Bool, true, false, cond, List, [], ◌∷◌, ◌++◌, length, Option, refl, ap, ◌∙◌, arith}
 use Rattle.kit_base.specs.Word.{add}
 use Rattle.asm_items.specs.declared.item.AsmItem.{AsmItem}
 use Rattle.asm_items.specs.declared.item.AsmItem.TheVariants as item
@@ -8,7 +8,7 @@ use Rattle.mid_code.specs.Code.{OpT, ConstO, NullO, MoveO, OneO, TwoO, GlobalO, 
 use Rattle.mid_code.specs.Invariants.{AreNodes, AllOf}
 use Rattle.asm_laws.specs.Names.{function_label}
 use Rattle.asm_laws.specs.Operations.{Frame, Whole, op_items, call_items, args_items, keeps_some, start_frame, opening_items, literals_items}
-use Rattle.asm_laws.specs.Emitted.{labels, enclosing, jump, choice, enclosed, returning, code_items, function_items, functions_items, call_item, exit_items, closing_items, start_items, program_items}
+use Rattle.asm_laws.specs.Emitted.{labels, enclosing, jump, choice, one_way, is_stop, enclosed, returning, code_items, function_items, functions_items, call_item, exit_items, closing_items, program_items}
 use Rattle.asm_laws.specs.Framing.{frame_made}
 use Rattle.asm_laws.proofs.Known.{function_there}
 
@@ -51,7 +51,7 @@ module _ (x : CodeT Where) (W : Whole) (fr : ℕ → Frame) (same : (g : ℕ) �
       let one = code_same m F out a bs ls (n + 1) ok.0 in
       let two = code_same m F out b bs ls (n + 1 + labels a + 1) ok.1 in
       let rest = code_same m F out c bs ls (n + (2 + labels a + labels b)) ok.2 in
-      λ i. choice F p n (n + 1 + labels a) (one i) (two i) ++ rest i
+      λ i. cond (is_stop b) (one_way F p n (one i)) (choice F p n (n + 1 + labels a) (one i) (two i)) ++ rest i
   code_same m F out (Block b c) bs ls n ok = let p = code_same m F out b (false ∷ bs) (ls ++ n ∷ []) (n + 2) ok.0 in let q = code_same m F out c bs ls (n + (2 + labels b)) ok.1 in λ i. enclosed n (p i) ++ q i
   code_same m F out (Loop b c) bs ls n ok = let p = code_same m F out b (true ∷ bs) (ls ++ n ∷ []) (n + 2) ok.0 in let q = code_same m F out c bs ls (n + (2 + labels b)) ok.1 in λ i. enclosed n (p i) ++ q i
   code_same m F out (Leave k c) bs ls n ok = ap (λ y. jump (add (enclosing ls k) 1) ∷ y) (code_same m F out c bs ls n ok.1)

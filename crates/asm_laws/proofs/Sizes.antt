@@ -1,10 +1,9 @@
 -- Items have at most as many words as their code weighs.
 use Rattle.std.proofs.Common.{◌≡◌, ℕ, ◌+◌, ◌*◌, ◌≤◌, List, [], ◌∷◌, ◌++◌, length, map, Option, Some, None, arith}
-use Rattle.std.specs.Prelude.{cond, Bool, true, false, get_or, sum_by}
+use Rattle.std.specs.Prelude.{◌==◌, cond, Bool, true, false, get_or, sum_by}
 use Rattle.std.proofs.lemmas.List.Sums.{sum_by-cons}
 use Rattle.either.specs.declared.Either.TheVariants.{Left, Right}
 use Rattle.v32_isa.specs.declared.instruction.Plain.TheVariants.{HLT, WAIT, RET}
-use Rattle.v32_isa.specs.declared.instruction.Go.TheVariants.{CALL}
 use Rattle.v32_isa.specs.declared.instruction.One.{One as OneOf}
 use Rattle.v32_isa.specs.declared.instruction.One.TheVariants.{PUSH, POP}
 use Rattle.v32_isa.specs.declared.instruction.Two.{Two as TwoOf}
@@ -27,7 +26,8 @@ use Rattle.asm_laws.specs.Names.{literal_label, function_label}
 use Rattle.kit_base.specs.Word.{add, sub}
 use Rattle.asm_laws.specs.Operations as operations
 use Rattle.asm_laws.specs.Operations.{Frame, Whole, register, slot_word, local_word, fetches, keeps, keeps_some, is_in, hand, brings, takes, aim, lays, moves, changes, is_direct, in_place, apart, computes, slot_arg, slot_args, pushed_arg, pushed_args, popped_arg, popped_args, args_items, call_items, op_items, giving, start_frame, opening_items, literal_items, literals_items}
-use Rattle.asm_laws.specs.Emitted.{labels, enclosing, jump, jump_unless, mark, choice, enclosed, returning, code_items, entry_items, exit_items, function_items, functions_items, functions_labels, call_item, closing_items, start_items, program_items, labels_of}
+use Rattle.asm_laws.specs.Framing.{room_made}
+use Rattle.asm_laws.specs.Emitted.{labels, enclosing, jump, jump_unless, mark, choice, one_way, is_stop, enclosed, returning, code_items, entry_items, exit_items, function_items, functions_items, functions_labels, call_item, closing_items, start_items, program_items, labels_of}
 use Rattle.asm_laws.proofs.Walked.{total_append, total_one, total_none, total_more}
 
 abbrev size : List AsmItem → ℕ
@@ -185,6 +185,20 @@ choice_size F p n m wa wb a b la lb =
     let x6 = one_item (mark m) 0 (omega arith) in
     omega (arith, x, x1, x2, x3, x4, x5, x6, la, lb, brings_size F p 9)
 
+one_way_size : (F : Frame) (p : Where) (n w : ℕ) (a : List AsmItem) → size a ≤ w → size (one_way F p n a) ≤ w + 8
+one_way_size F p n w a le =
+    let inner = a ++ mark n ∷ [] in
+    let j = jump_unless (hand p 9) n in
+    let x1 = total_append (brings F p 9) (j ∷ inner) in
+    let x2 = total_more j inner in
+    let x3 = total_append a (mark n ∷ []) in
+    let x4 = one_item (mark n) 0 (omega arith) in
+    omega (arith, x1, x2, x3, x4, le, brings_size F p 9)
+
+chosen_size : (F : Frame) (p : Where) (n m wa wb : ℕ) (t : Bool) (a b : List AsmItem) → size a ≤ wa → size b ≤ wb → size (cond t (one_way F p n a) (choice F p n m a b)) ≤ wa + wb + 8
+chosen_size F p n m wa wb true a b la lb = let r = one_way_size F p n wa a la in omega (arith, r)
+chosen_size F p n m wa wb false a b la lb = choice_size F p n m wa wb a b la lb
+
 enclosed_size : (n w : ℕ) (a : List AsmItem) → size a ≤ w → size (enclosed n a) ≤ w + 8
 enclosed_size n w a le =
     let x1 = total_more (mark n) (a ++ mark (n + 1) ∷ []) in
@@ -208,9 +222,9 @@ module _ (x : CodeT Where) (W : Whole) (counts : Counts x W) (m : ℕ) (F : Fram
   code_size (Do o c) bs ls n ok = let t = total_append (op_items W F o) (code_items W F out ls n c) in omega (arith, t, op_size W F o, code_size c bs ls n ok.1)
   code_size (Call t g args c) bs ls n ok = let s = total_append (call_items W F t g args) (code_items W F out ls n c) in omega (arith, s, call_size W F t g args (counts g (length args) ok.0), code_size c bs ls n ok.1)
   code_size (Choose p a b c) bs ls n ok =
-      let xs = choice F p n (n + 1 + labels a) (code_items W F out ls (n + 1) a) (code_items W F out ls (n + 1 + labels a + 1) b) in
+      let xs = cond (is_stop b) (one_way F p n (code_items W F out ls (n + 1) a)) (choice F p n (n + 1 + labels a) (code_items W F out ls (n + 1) a) (code_items W F out ls (n + 1 + labels a + 1) b)) in
       let s = total_append xs (code_items W F out ls (n + (2 + labels a + labels b)) c) in
-      let h = choice_size F p n (n + 1 + labels a) (nodes_weight a) (nodes_weight b) _ _ (code_size a bs ls (n + 1) ok.0) (code_size b bs ls (n + 1 + labels a + 1) ok.1) in
+      let h = chosen_size F p n (n + 1 + labels a) (nodes_weight a) (nodes_weight b) (is_stop b) _ _ (code_size a bs ls (n + 1) ok.0) (code_size b bs ls (n + 1 + labels a + 1) ok.1) in
       omega (arith, s, h, code_size c bs ls (n + (2 + labels a + labels b)) ok.2)
   code_size (Block b c) bs ls n ok =
       let s = total_append (enclosed n (code_items W F out (ls ++ n ∷ []) (n + 2) b)) (code_items W F out ls (n + (2 + labels b)) c) in
@@ -226,6 +240,13 @@ module _ (x : CodeT Where) (W : Whole) (counts : Counts x W) (m : ℕ) (F : Fram
 
 -- ---- the whole program
 
+room_size : (n : ℕ) → size (room_made n) ≤ 2
+room_size n = go (n == 0)
+  where
+    go : (b : Bool) → size (cond b [] (item.Op (instr.Two ISUB 15 (src.Imm (Left n))) ∷ [])) ≤ 2
+    go true = omega (arith, total_none)
+    go false = one_item (item.Op (instr.Two ISUB 15 (src.Imm (Left n)))) 2 (omega arith)
+
 module _ (x : CodeT Where) (W : Whole) (counts : Counts x W) where
   abbrev Sound : FunctionT Where → Type 0
   Sound f = AreNodes x (length f.locals) [] f.body
@@ -235,9 +256,15 @@ module _ (x : CodeT Where) (W : Whole) (counts : Counts x W) where
       let F = W.frames f in
       let x0 = total_append (entry_items W f F) (code_items W F n [] (n + 1) g.body ++ exit_items n) in
       let y = total_append (code_items W F n [] (n + 1) g.body) (exit_items n) in
-      let e = four_items (item.Label (function_label W.names f)) (item.Op (instr.One PUSH 14)) (item.Op (instr.Mov (RegReg 14 15))) (item.Op (instr.Two ISUB 15 (src.Imm (Left F.size)))) 0 1 1 2 (omega arith) (omega arith) (omega arith) (omega arith) in
+      let l = item.Label (function_label W.names f) in
+      let p = item.Op (instr.One PUSH 14) in
+      let v = item.Op (instr.Mov (RegReg 14 15)) in
+      let e1 = total_more l (p ∷ v ∷ room_made F.size) in
+      let e2 = total_more p (v ∷ room_made F.size) in
+      let e3 = total_more v (room_made F.size) in
+      let e4 = room_size F.size in
       let z = four_items (mark n) (item.Op (instr.Mov (RegReg 15 14))) (item.Op (instr.One POP 14)) (item.Op (instr.Plain RET)) 0 1 1 1 (omega arith) (omega arith) (omega arith) (omega arith) in
-      omega (arith, x0, y, e, z, code_size x W counts (length g.locals) F n g.body [] [] (n + 1) ok)
+      omega (arith, x0, y, e1, e2, e3, e4, z, code_size x W counts (length g.locals) F n g.body [] [] (n + 1) ok)
 
   functions_size : (f n : ℕ) (gs : List (FunctionT Where)) → AllOf Sound gs → size (functions_items W f n gs) ≤ sum_by function_weight gs
   functions_size f n [] ok = omega (arith, total_none)

@@ -7,7 +7,7 @@ use Rattle.mid_code.specs.declared.placed.Where.{Where}
 use Rattle.mid_code.specs.Placed.{SpotsT, PlacedT}
 use Rattle.mid_code.specs.Code.{FunctionT, CodeT}
 use Rattle.mid_code.specs.States.{no_function, function_at}
-use Rattle.mid_code.specs.Invariants.{in_registers, AreSpots, AllSpots, HasSlot, AllOf, Names, SpotWord, StandsAt, slot, local, emitter, OfSlot, OfLocal, OfEmitter, IsFunction, IsPlace, IsPlaced}
+use Rattle.mid_code.specs.Invariants.{in_registers, AreSpots, AllSpots, HasSlot, AllOf, Names, StandsAt, slot, local, emitter, OfSlot, OfLocal, OfEmitter, IsFunction, IsPlace, IsPlaced}
 use Rattle.asm_laws.specs.Tables.{spots_at, count_of}
 use Rattle.asm_laws.proofs.Lists.{below_or_not}
 

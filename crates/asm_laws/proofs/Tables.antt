@@ -1,14 +1,10 @@
 -- Placed code with its spots fits its frames.
 use Rattle.std.proofs.Common.{◌≡◌, ◌≢◌, ℕ, zero, suc, ◌+◌, ◌-◌, ◌<◌, ◌≤◌, inl, inr, Bool, true, false, List, [], ◌∷◌, length, Some, None, refl, sym, ap, ◌∙◌, subst, arith}
 use Rattle.std.specs.Prelude.{get_or, cond, ltb, eqb, sum}
-use Rattle.std.proofs.lemmas.Option.{slice_get-get_or}
 use Rattle.std.proofs.lemmas.Bool.{lt-ltb}
 use Rattle.std.proofs.lemmas.List.{length-map}
-use Rattle.std.proofs.lemmas.List.Sums.{sum_by-cons}
-use Rattle.mid_code.specs.declared.placed.Where.{Where}
-use Rattle.mid_code.specs.Placed.{SpotsT, PlacedT}
-use Rattle.mid_code.specs.Code.{FunctionT}
-use Rattle.mid_code.specs.States.{no_function, function_at}
+use Rattle.mid_code.specs.Placed.{PlacedT}
+use Rattle.mid_code.specs.States.{function_at}
 use Rattle.mid_code.specs.Invariants.{AreSpots, StandsAt, OfSlot, OfLocal, IsPlaced}
 use Rattle.asm_laws.specs.Names.{literal_label}
 use Rattle.asm_laws.specs.Holds.{Setting, Fits}

@@ -1,6 +1,6 @@
 -- The items of placed code: its instructions one after another, with labels where jumps go.
-use Rattle.std.specs.Prelude.{ℕ, suc, ◌+◌, ◌-◌, List, [], ◌∷◌, ◌++◌, length, Option, get_or}
-use Rattle.either.specs.declared.Either.TheVariants.{Left, Right}
+use Rattle.std.specs.Prelude.{ℕ, suc, Bool, true, false, cond, ◌+◌, ◌-◌, List, [], ◌∷◌, ◌++◌, length, Option, get_or}
+use Rattle.either.specs.declared.Either.TheVariants.{Right}
 use Rattle.v32_isa.specs.declared.instruction.Plain.TheVariants.{HLT}
 use Rattle.v32_isa.specs.declared.instruction.Go.TheVariants.{JMP, CALL}
 use Rattle.v32_isa.specs.declared.instruction.Branch.TheVariants.{JF}
@@ -51,6 +51,14 @@ second_part m b = b ++ mark m ∷ []
 abbrev pub choice : Frame → Where → ℕ → ℕ → List AsmItem → List AsmItem → List AsmItem
 choice F p n m a b = first_part F p n m a ++ second_part m b
 
+-- a choice with nothing in its second part, with the label n behind the first
+abbrev pub one_way : Frame → Where → ℕ → List AsmItem → List AsmItem
+one_way F p n a = brings F p 9 ++ jump_unless (hand p 9) n ∷ (a ++ mark n ∷ [])
+
+abbrev pub is_stop : NodesT Where → Bool
+is_stop Stop = true
+is_stop _ = false
+
 -- a block or loop, with the label n before it and the next one behind it
 abbrev pub enclosed : ℕ → List AsmItem → List AsmItem
 enclosed n a = mark n ∷ (a ++ mark (n + 1) ∷ [])
@@ -66,7 +74,8 @@ module _ (W : Whole) (F : Frame) (out : ℕ) where
   code_items ls n (Do o c) = op_items W F o ++ code_items ls n c
   code_items ls n (Call t g args c) = call_items W F t g args ++ code_items ls n c
   code_items ls n (Choose p a b c) =
-      choice F p n (n + 1 + labels a) (code_items ls (n + 1) a) (code_items ls (n + 1 + labels a + 1) b) ++ code_items ls (n + (2 + labels a + labels b)) c
+      cond (is_stop b) (one_way F p n (code_items ls (n + 1) a)) (choice F p n (n + 1 + labels a) (code_items ls (n + 1) a) (code_items ls (n + 1 + labels a + 1) b))
+      ++ code_items ls (n + (2 + labels a + labels b)) c
   code_items ls n (Block b c) = enclosed n (code_items (ls ++ n ∷ []) (n + 2) b) ++ code_items ls (n + (2 + labels b)) c
   code_items ls n (Loop b c) = enclosed n (code_items (ls ++ n ∷ []) (n + 2) b) ++ code_items ls (n + (2 + labels b)) c
   code_items ls n (Leave k c) = jump (add (enclosing ls k) 1) ∷ code_items ls n c

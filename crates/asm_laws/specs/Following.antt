@@ -1,5 +1,5 @@
 -- What it is for the machine to follow structured code, over any states.
-use Rattle.std.specs.Prelude.{ℕ, zero, suc, ◌≡◌, ◌+◌, ◌≤◌, List, [], ◌∷◌, ◌++◌, Option, Some, None}
+use Rattle.std.specs.Prelude.{ℕ, zero, suc, ◌≡◌, ◌+◌, ◌≤◌, List, [], ◌++◌, Option, Some, None}
 use Rattle.kit_base.specs.declared.event.Event.{Event}
 use Rattle.v32_isa.specs.State.{State, going_to}
 use Rattle.v32_isa.specs.Runs.{Run, run}
@@ -7,7 +7,7 @@ use Rattle.v32_isa.specs.Runs as machine
 use Rattle.v32_isa.proofs.Steps.{Reaches}
 use Rattle.obj_mem.specs.Runs.{Ending, Halted, Fault, Starved, Stray, Deep, OutOfBound}
 use Rattle.mid_code.specs.declared.placed.Where.{Where}
-use Rattle.mid_code.specs.Code.{OpT, NodesT}
+use Rattle.mid_code.specs.Code.{OpT}
 use Rattle.mid_code.specs.Meaning.{Did, On, Ends, Res, Next, Leaves, Repeats, Returns, Over, Lang, node_weight, call_weight}
 use Rattle.asm_laws.specs.Placing.{Shapes, Bounds, end_of, begin_of, Jumps, At}
 
@@ -118,5 +118,7 @@ pub record Parts (L : Lang Where) (X : Holder L) (H : Shapes) : Type 0 where
   pub none_work : (s : L.S) → X.work (L.none s) ≡ X.work s
   pub op : (κ : X.K) (pc p : ℕ) (o : OpT Where) (s : L.S) (m : State) → H.op (X.fn κ) pc o p → m.counter ≡ pc → X.M κ s m → DidSim X κ m (begin X s) p (L.act o s)
   pub test : (κ : X.K) (pc py px : ℕ) (w : Where) (s : L.S) (m : State) → H.test (X.fn κ) pc w py px → m.counter ≡ pc → X.M κ s m → TestSim X κ py px m (begin X s) (L.tick node_weight s) (L.test w s)
-  pub give : (κ : X.K) (pc : ℕ) (w : Option Where) (s : L.S) (m : State) → H.giving (X.fn κ) pc w → m.counter ≡ pc → X.M κ s m → Came X m (begin X s) (L.give w (L.tick node_weight s)) (X.way_out (X.fn κ)) 0 0 (X.G κ (L.give w (L.tick node_weight s)))
-  pub call : (κ : X.K) (pc p : ℕ) (t : Option Where) (f : ℕ) (args : List Where) (s : L.S) (m : State) → H.call (X.fn κ) pc t f args p → m.counter ≡ pc → X.M κ s m → CallSim X H κ p t f (L.tick (call_weight args) s) m (begin X s) (L.enter f args (L.tick (call_weight args) s))
+  pub give : (κ : X.K) (pc : ℕ) (w : Option Where) (s : L.S) (m : State) → H.giving (X.fn κ) pc w → m.counter ≡ pc → X.M κ s m →
+      Came X m (begin X s) (L.give w (L.tick node_weight s)) (X.way_out (X.fn κ)) 0 0 (X.G κ (L.give w (L.tick node_weight s)))
+  pub call : (κ : X.K) (pc p : ℕ) (t : Option Where) (f : ℕ) (args : List Where) (s : L.S) (m : State) → H.call (X.fn κ) pc t f args p → m.counter ≡ pc → X.M κ s m →
+      CallSim X H κ p t f (L.tick (call_weight args) s) m (begin X s) (L.enter f args (L.tick (call_weight args) s))

@@ -1,5 +1,5 @@
 -- The setting of placed code with its frames and spots.
-use Rattle.std.specs.Prelude.{◌≡◌, ℕ, ◌+◌, ◌-◌, ◌<◌, ◌≤◌, cond, ltb, eqb, List, [], ◌∷◌, length, get_or, Option, Some, None}
+use Rattle.std.specs.Prelude.{ℕ, ◌+◌, ◌-◌, ◌<◌, cond, ltb, eqb, List, [], ◌∷◌, length, get_or, Option, Some, None}
 use Rattle.mid_code.specs.Placed.{SpotsT, PlacedT}
 use Rattle.mid_code.specs.States.{function_at}
 use Rattle.asm_laws.specs.Operations.{Frame, Whole, start_frame}
@@ -48,7 +48,9 @@ addresses p [] = []
 addresses p (n ∷ ns) = p ∷ addresses (p + n) ns
 
 abbrev pub fixed_for : PlacedT → (first_literal : ℕ) → ℕ → ℕ
-fixed_for x first o = cond (ltb o (length x.code.globals)) (spread x.code.globals 0 o) (cond (ltb o (length x.code.globals + length x.code.literals)) (spread (literal_sizes x.code.literals) first (o - length x.code.globals)) 0x30000000)
+fixed_for x first o =
+    cond (ltb o (length x.code.globals)) (spread x.code.globals 0 o)
+    (cond (ltb o (length x.code.globals + length x.code.literals)) (spread (literal_sizes x.code.literals) first (o - length x.code.globals)) 0x30000000)
 
 abbrev pub count_of : PlacedT → ℕ
 count_of x = length x.code.functions

@@ -1,5 +1,5 @@
 -- Where tests and results stand among the words of a program.
-use Rattle.std.specs.Prelude.{ℕ, List, [], ◌∷◌}
+use Rattle.std.specs.Prelude.{ℕ, List}
 use Rattle.v32_isa.specs.declared.instruction.Branch.TheVariants.{JF}
 use Rattle.v32_isa.specs.declared.instruction.Src.TheVariants as src
 use Rattle.v32_isa.specs.declared.instruction.Instr.TheVariants as instr

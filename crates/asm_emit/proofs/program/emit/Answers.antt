@@ -1,6 +1,4 @@
-use Rattle.std.proofs.Common.{rules, ◌≡◌, ℕ, ◌+◌, ◌-◌, ◌^◌, ◌<◌, List, map, length, sym, subst, IfOk}
-use Rattle.asm_items.specs.declared.item.AsmItem.{AsmItem}
-use Rattle.mid_code.specs.Functions.{function}
+use Rattle.std.proofs.Common.{rules, ◌≡◌, ◌-◌, ◌^◌, ◌<◌, map, length, sym, subst, IfOk}
 use Rattle.mid_code.specs.View.{code, spots}
 use Rattle.mid_code.specs.Whole.{placed}
 use Rattle.mid_code.specs.Invariants.{IsPlaced}

@@ -9,3 +9,9 @@ pub mod Whole
 pub mod Trailed
 pub mod Hulls
 pub mod Crossed
+pub mod Held
+pub mod Numbered
+pub mod Handed
+pub mod Collected
+pub mod Tenants
+pub mod Chooser

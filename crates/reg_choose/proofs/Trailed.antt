@@ -3,9 +3,9 @@ use Rattle.std.proofs.Common.{◌≡◌, ℕ, suc, ◌+◌, Bool, true, false, �
 use Rattle.mid_code.specs.declared.node.Op.{Op}
 use Rattle.mid_code.specs.declared.node.Op.TheVariants as op
 use Rattle.mid_code.specs.declared.node.Node.{Node}
-use Rattle.mid_code.specs.Code.{NodesT, Stop, Do, Call, Choose, Block, Loop, FunctionT}
+use Rattle.mid_code.specs.Code.{NodesT, Stop, Choose, Block, Loop, FunctionT}
 use Rattle.mid_code.specs.Functions.{NodeT, ListT, DoN, ChooseN, BlockN, LoopN, LeaveN, AgainN, ReturnN, before, joined, op_before, node, nodes}
-use Rattle.mid_code.specs.Live.{Label, label, live_before, is_live, is_among, is_used, is_target}
+use Rattle.mid_code.specs.Live.{Label, label, live_before, is_live, is_among, is_target}
 use Rattle.mid_code.specs.Spans.{places}
 use Rattle.reg_choose.specs.declared.trail.Trail.{Trail}
 use Rattle.reg_choose.specs.Trails.{no_trail, stood, called, trailed, trail_of}

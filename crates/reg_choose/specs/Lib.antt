@@ -4,3 +4,4 @@ pub mod Checked
 pub mod Tests
 pub mod Scan
 pub mod Trails
+pub mod Handing

@@ -3,10 +3,15 @@
 
 mod apart;
 mod checks;
+mod choice;
+mod interval;
 mod live;
+mod ordered;
+mod registers;
 mod safe;
 mod sets;
 mod spans;
 mod trail;
 
+pub use choice::choose;
 pub use safe::is_safe;

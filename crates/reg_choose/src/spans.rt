@@ -1,5 +1,5 @@
 // The spans of temporaries, found in one walk from the end.
-ghost use Rattle.std.specs.Prelude.{◌≡◌, ◌∷◌, ℕ, ◌+◌, ◌<◌, ◌&&◌, ◌||◌, not, length, IfOk, OnOk, true, false, cond, eqb};
+ghost use Rattle.std.specs.Prelude.{◌≡◌, ◌∷◌, ℕ, ◌+◌, ◌<◌, ◌^◌, ◌&&◌, ◌||◌, not, length, IfOk, OnOk, true, false, cond, eqb};
 ghost use Rattle.mid_code.specs.Code.{Stop, maybe};
 ghost use Rattle.mid_code.specs.Functions.{op_before, node, nodes, before, function};
 ghost use Rattle.mid_code.specs.Live.{label, is_live, is_among, is_target};
@@ -16,7 +16,7 @@ use mid_code::{Function, Node, Op};
 use std::alloc::Global;
 
 /// The place before one. There are no more than a word can number.
-fn one_less(place: u32) -> Result<u32, Memory>
+fn one_less(place: u64) -> Result<u64, Memory>
     ensures { IfOk result (λ n. n + 1 ≡ place) }
 {
     if place == 0 {
@@ -37,7 +37,7 @@ fn no_trail() -> Trail
     }
 }
 
-fn with_place(r: Trail, place: u32) -> Trail
+fn with_place(r: Trail, place: u64) -> Trail
     ensures { result ≡ longer place r }
 {
     Trail {
@@ -60,7 +60,7 @@ fn with_crossing(r: Trail) -> Trail
 }
 
 /// The place, added to what is in the set.
-fn stand(trails: &mut [Trail], s: &[bool], place: u32)
+fn stand(trails: &mut [Trail], s: &[bool], place: u64)
     requires sizes { length s.now ≡ length trails.old }
     ensures len { length trails.new ≡ length trails.old }
     ensures is { (y : ℕ) → y < length trails.old → trail_at trails.new y ≡ stood (on s.now y) place (trail_at trails.old y) }
@@ -98,7 +98,7 @@ fn cross(trails: &mut [Trail], s: &[bool], t: &Option<u32>)
     }
 }
 
-fn stand_one(trails: &mut [Trail], x: u32, place: u32)
+fn stand_one(trails: &mut [Trail], x: u32, place: u64)
     ensures len { length trails.new ≡ length trails.old }
     ensures is { (y : ℕ) → y < length trails.old → trail_at trails.new y ≡ stood (eqb x y || false) place (trail_at trails.old y) }
 {
@@ -108,7 +108,7 @@ fn stand_one(trails: &mut [Trail], x: u32, place: u32)
     }
 }
 
-fn stand_target(trails: &mut [Trail], o: &Op<u32>, place: u32)
+fn stand_target(trails: &mut [Trail], o: &Op<u32>, place: u64)
     ensures len { length trails.new ≡ length trails.old }
     ensures is { (y : ℕ) → y < length trails.old → trail_at trails.new y ≡ stood (is_target (op_before o.now Stop) y) place (trail_at trails.old y) }
 {
@@ -172,7 +172,7 @@ fn call(trails: &mut [Trail], o: &Op<u32>, s: &[bool])
 }
 
 #[tactic(auto, using(crate::proofs::Trailed::op_trailed))]
-fn walk_op(o: &Op<u32>, m: &Marks, s: &mut [bool], trails: &mut [Trail], place: u32)
+fn walk_op(o: &Op<u32>, m: &Marks, s: &mut [bool], trails: &mut [Trail], place: u64)
     requires sizes { length s.old ≡ length trails.old }
     ensures len { length s.new ≡ length s.old }
     ensures trails_len { length trails.new ≡ length trails.old }
@@ -210,8 +210,8 @@ fn walk_node(
     m: &Marks,
     s: &mut [bool],
     trails: &mut [Trail],
-    place: u32,
-) -> Result<u32, Memory>
+    place: u64,
+) -> Result<u64, Memory>
     requires sizes { length s.old ≡ length trails.old }
     ensures len { OnOk result (length s.new ≡ length s.old) }
     ensures trails_len { OnOk result (length trails.new ≡ length trails.old) }
@@ -305,8 +305,8 @@ fn walk_nodes(
     m: &Marks,
     s: &mut [bool],
     trails: &mut [Trail],
-    place: u32,
-) -> Result<u32, Memory>
+    place: u64,
+) -> Result<u64, Memory>
     requires sizes { length s.old ≡ length trails.old }
     ensures len { OnOk result (length s.new ≡ length s.old) }
     ensures trails_len { OnOk result (length trails.new ≡ length trails.old) }
@@ -323,10 +323,10 @@ fn walk_nodes(
     Ok(first)
 }
 
-fn one_more(count: u32) -> Result<u32, Memory>
+fn one_more(count: u64) -> Result<u64, Memory>
     ensures { IfOk result (λ n. n ≡ count + 1) }
 {
-    if count == u32::MAX {
+    if count == u64::MAX {
         Err(Memory)
     } else {
         Ok(count + 1)
@@ -335,7 +335,7 @@ fn one_more(count: u32) -> Result<u32, Memory>
 
 /// The place behind nodes that begin at this one. Where a word cannot number the places there is no room for the nodes.
 #[cycle(count)]
-fn behind_node(x: &Node<u32>, first: u32) -> Result<u32, Memory>
+fn behind_node(x: &Node<u32>, first: u64) -> Result<u64, Memory>
     ensures { IfOk result (λ n. n ≡ first + places (before (node x.now) Stop)) }
 {
     match x {
@@ -355,7 +355,7 @@ fn behind_node(x: &Node<u32>, first: u32) -> Result<u32, Memory>
 
 #[cycle(count)]
 #[tactic(auto, using(crate::proofs::Trailed::places_turn))]
-fn behind_nodes(ns: &[Node<u32>], first: u32) -> Result<u32, Memory>
+fn behind_nodes(ns: &[Node<u32>], first: u64) -> Result<u64, Memory>
     ensures { IfOk result (λ n. n ≡ first + places (nodes ns.now)) }
 {
     let mut place = first;
@@ -398,6 +398,7 @@ fn no_trails(alloc: Global, count: usize) -> Result<Vec<Trail>, Memory>
 /// The trails of a function's temporaries.
 pub(crate) fn trails_of(alloc: Global, f: &Function<u32>) -> Result<Vec<Trail>, Memory>
     ensures len { IfOk result (λ r. length r.items ≡ (function f.now).temps) }
+    ensures few { IfOk result (λ r. length r.items < 2 ^ 32) }
     ensures is { IfOk result (λ r. (y : ℕ) → y < (function f.now).temps → trail_at r.items y ≡ trail_of (function f.now) y) }
 {
     let mut trails = no_trails(alloc, f.temps as usize)?;

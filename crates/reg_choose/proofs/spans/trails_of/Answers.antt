@@ -1,4 +1,4 @@
-use Rattle.std.proofs.Common.{rules, ◌≡◌, ◌<◌, ◌++◌, ◌∙◌, ap, ℕ, length, take, drop}
+use Rattle.std.proofs.Common.{rules, ◌≡◌, ◌∙◌, ap, length, drop}
 use Rattle.mid_code.specs.Functions.{function}
 use Rattle.reg_choose.specs.Trails.{trail_at, trail_of}
 use Rattle.reg_choose.proofs.Facts.{taken_back}

@@ -1,10 +1,10 @@
-use Rattle.std.proofs.Common.{rules, arith, ◌≡◌, ◌<◌, ◌+◌, ◌∙◌, [], ap, length, false}
+use Rattle.std.proofs.Common.{rules, arith, ◌≡◌, ◌+◌, ◌∙◌, ap, length, false}
 use Rattle.mid_code.specs.Functions.{function, nodes}
 use Rattle.mid_code.specs.Live.{is_among}
 use Rattle.mid_code.specs.Spans.{places}
 use Rattle.reg_choose.specs.Sets.{on}
 use Rattle.reg_choose.specs.Marked.{marks}
-use Rattle.reg_choose.specs.Trails.{no_trail, trail_at}
+use Rattle.reg_choose.specs.Trails.{trail_at}
 use Rattle.reg_choose.proofs.Trailed.{whole_trail}
 use Rattle.reg_choose.proofs.spans.walk_function.Goals as goal
 

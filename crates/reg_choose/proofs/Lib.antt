@@ -15,3 +15,9 @@ pub mod Handed
 pub mod Collected
 pub mod Tenants
 pub mod Chooser
+pub mod Ranges
+pub mod Sparsely
+pub mod Shortcut
+pub mod Bits
+pub mod Walked
+pub mod Gathered

@@ -57,7 +57,7 @@ op_on (op.Out k a) y ls c j n r = refl
 op_on op.Wait y ls c j n r = refl
 op_on op.Halt y ls c j n r = refl
 
-op_places : (o : Op ℕ) (c : NodesT ℕ) → places (op_before o c) ≡ suc (places c)
+pub op_places : (o : Op ℕ) (c : NodesT ℕ) → places (op_before o c) ≡ suc (places c)
 op_places (op.Const t w) c = refl
 op_places (op.Null t) c = refl
 op_places (op.Move t a) c = refl

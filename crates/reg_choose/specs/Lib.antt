@@ -5,3 +5,5 @@ pub mod Tests
 pub mod Scan
 pub mod Trails
 pub mod Handing
+pub mod Sparse
+pub mod Seen

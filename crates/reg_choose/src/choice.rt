@@ -7,10 +7,10 @@ ghost use Rattle.reg_choose.specs.Scan.{scan, AllG, Has};
 ghost use Rattle.reg_choose.specs.Trails.{trail_at};
 ghost use Rattle.reg_choose.specs.Handing.{span, flag, kept, got, give, first_got, numbered};
 
+use crate::gather::trails_of;
 use crate::interval::Interval;
 use crate::ordered::in_order;
 use crate::registers::{hand_out, put_out_longest};
-use crate::spans::trails_of;
 use crate::trail::Trail;
 use kit_base::{Memory, Seq};
 use mid_code::{Choice, Function, Where};

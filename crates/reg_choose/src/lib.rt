@@ -4,6 +4,7 @@
 mod apart;
 mod checks;
 mod choice;
+mod gather;
 mod interval;
 mod live;
 mod ordered;
@@ -11,6 +12,7 @@ mod registers;
 mod safe;
 mod sets;
 mod spans;
+mod stands;
 mod trail;
 
 pub use choice::choose;

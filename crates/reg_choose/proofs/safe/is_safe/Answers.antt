@@ -1,4 +1,4 @@
-use Rattle.std.proofs.Common.{rules, ◌≡◌, length, map, List, [], Bool, false, ap, sym, ◌∙◌, subst}
+use Rattle.std.proofs.Common.{rules, arith, ◌≡◌, ℕ, length, map, List, [], false, ap, sym, ◌∙◌, subst}
 use Rattle.mid_code.specs.Functions.{function, listed, joined, node}
 use Rattle.mid_code.specs.Live.{is_among}
 use Rattle.mid_code.specs.Safe.{IsSafe}
@@ -18,13 +18,13 @@ returns c =
     let v : at ≡ c.args.c.now.at = search rules in
     let ns = c.as_slice-3.result.now in
     let x = listed (map node ns) in
-    let ps : List Bool = c.as_slice-2.result.now in
-    let s : List Bool = c.as_slice-4.result.now in
+    let ps : List ℕ = c.as_slice-2.result.now in
+    let s : List ℕ = c.as_slice-4.result.now in
     let ls : Labels = λ y. marks y c.outside.result in
     let body : f.body ≡ joined x = ap (λ z. joined (listed (map node z))) (search rules) in
     let p0 : ps ≡ c.in_ok-params.params.items = search rules in
     let p1 : c.as_slice.result.now ≡ f.params = search rules in
-    let i : Like n (on ps) (is_among f.params) = λ y l. ap (λ z. on z y) p0 ∙ c.in_ok-params.ensures.is y l ∙ ap (λ z. is_among z y) p1 in
+    let i : Like n (on ps) (is_among f.params) = λ y l. ap (λ z. on z y) p0 ∙ c.in_ok-params.ensures.is y (let q = c.in_ok-params.ensures.len in omega (arith, l, q)) ∙ ap (λ z. is_among z y) p1 in
     let s0 : s ≡ c.in_ok-behind.behind.items = search rules in
     let k : Like n (on s) (λ y. false) = λ y l. ap (λ z. on z y) s0 ∙ c.in_ok-behind.ensures.is y in
     let j : Like n ls (λ y. []) = λ y l. c.outside.ensures y in

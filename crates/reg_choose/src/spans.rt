@@ -91,7 +91,12 @@ fn walk_op(
 }
 
 /// What is live at the head of a loop.
-fn head_of(alloc: Global, b: &[Node<u32>], m: &Marks, s: &[u64]) -> Result<Vec<u64>, Memory>
+pub(crate) fn head_of(
+    alloc: Global,
+    b: &[Node<u32>],
+    m: &Marks,
+    s: &[u64],
+) -> Result<Vec<u64>, Memory>
     ensures len { IfOk result (λ v. length v.items ≡ length s.now) }
     ensures is { IfOk result (λ v. (y : ℕ) → y < room s.now → on v.items y ≡ is_live y (label false (on s.now y) ∷ marks y m.now) (nodes b.now) (on s.now y)) }
 {

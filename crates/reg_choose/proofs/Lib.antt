@@ -23,3 +23,4 @@ pub mod Handed
 pub mod Collected
 pub mod Numbered
 pub mod Chooser
+pub mod Program

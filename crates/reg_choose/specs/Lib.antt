@@ -7,3 +7,4 @@ pub mod Sparse
 pub mod Seen
 pub mod Scan
 pub mod Handing
+pub mod Each

@@ -5,6 +5,7 @@
 
 mod checks;
 mod choice;
+mod each;
 mod gather;
 mod hold;
 mod interval;
@@ -20,4 +21,5 @@ mod target;
 mod trail;
 
 pub use choice::choose;
+pub use each::choose_all;
 pub use safe::is_safe;

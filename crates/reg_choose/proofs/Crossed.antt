@@ -1,10 +1,10 @@
 -- What is live across a call has a trail that says so.
-use Rattle.std.proofs.Common.{◌≡◌, ◌≢◌, ℕ, suc, ◌+◌, inl, inr, Bool, true, false, ◌||◌, ◌&&◌, not, eqb, List, [], ◌∷◌, Option, Some, None, refl, ap, sym, ◌∙◌, subst}
+use Rattle.std.proofs.Common.{◌≡◌, ◌≢◌, ℕ, suc, ◌+◌, Bool, true, false, ◌||◌, ◌&&◌, not, eqb, List, ◌∷◌, Option, Some, None, refl, ap, ◌∙◌}
 use Rattle.std.proofs.lemmas.Bool.{false≢true, eqb-true, eq-eqb}
 use Rattle.mid_code.specs.declared.placed.Where.{Where}
 use Rattle.mid_code.specs.Code.{NodesT, Stop, Do, Call, Choose, Block, Loop, Leave, Again, Return, maybe}
 use Rattle.mid_code.specs.Paths.{Frame, Branched, Blocked, Looped, Each}
-use Rattle.mid_code.specs.Live.{is_among, is_target, Live, is_live, labels, live_behind, is_live_at}
+use Rattle.mid_code.specs.Live.{is_among, is_target, labels, live_behind, is_live_at}
 use Rattle.mid_code.specs.Spans.{places, NoneCrosses}
 use Rattle.mid_code.specs.Safe.{place_of, IsSlot}
 use Rattle.mid_code.proofs.Intervals.{Across}
@@ -12,7 +12,7 @@ use Rattle.mid_code.proofs.Liveness.{path_computed, computed_path}
 use Rattle.reg_choose.specs.declared.trail.Trail.{Trail}
 use Rattle.reg_choose.specs.Trails.{stood, crossing, trailed}
 
-stood_keeps : (b : Bool) (n : ℕ) (r : Trail) → r.crosses ≡ true → (stood b n r).crosses ≡ true
+pub stood_keeps : (b : Bool) (n : ℕ) (r : Trail) → r.crosses ≡ true → (stood b n r).crosses ≡ true
 stood_keeps true n r e = e
 stood_keeps false n r e = e
 
@@ -69,7 +69,7 @@ crossed_across ws fs (Return p c) n s h = (tt, crossed_across ws fs c (suc n) s 
 
 -- ---- where nothing is live across a call
 
-none_stood : (b : Bool) (n : ℕ) (r : Trail) → r.crosses ≡ false → (stood b n r).crosses ≡ false
+pub none_stood : (b : Bool) (n : ℕ) (r : Trail) → r.crosses ≡ false → (stood b n r).crosses ≡ false
 none_stood true n r e = e
 none_stood false n r e = e
 

@@ -1,14 +1,14 @@
 -- A trail has the least range that holds each place where its temporary stands.
-use Rattle.std.proofs.Common.{◌≡◌, ℕ, suc, ◌+◌, ◌≤◌, ◌⊎◌, inl, inr, Bool, true, false, ◌||◌, ◌&&◌, not, cond, min, max, List, [], ◌∷◌, refl, ap, sym, ◌∙◌, subst, arith}
-use Rattle.std.proofs.lemmas.Bool.{false≢true, true≢false}
+use Rattle.std.proofs.Common.{◌≡◌, ℕ, suc, ◌+◌, ◌≤◌, ◌⊎◌, inl, inr, Bool, true, false, ◌&&◌, not, min, max, List, [], ◌∷◌, refl, sym, ◌∙◌, subst, arith}
+use Rattle.std.proofs.lemmas.Bool.{false≢true}
 use Rattle.mid_code.specs.Code.{NodesT, Stop, Do, Call, Choose, Block, Loop, Leave, Again, Return, FunctionT, maybe}
 use Rattle.mid_code.specs.Paths.{Frame, Branched, Blocked, Looped}
-use Rattle.mid_code.specs.Live.{is_among, is_used, is_target, Live, is_live, labels, live_behind, is_live_at}
+use Rattle.mid_code.specs.Live.{is_among, is_target, Live, labels, live_behind, is_live_at}
 use Rattle.mid_code.specs.Spans.{places, Stands, StandsAt, HeldAt, Span, IsSpan}
 use Rattle.mid_code.proofs.Liveness.{path_computed, computed_path, found_used}
 use Rattle.reg_choose.proofs.Scanned.{le_or}
 use Rattle.reg_choose.specs.declared.trail.Trail.{Trail}
-use Rattle.reg_choose.specs.Trails.{no_trail, longer, stood, crossing, called, trailed, trail_of}
+use Rattle.reg_choose.specs.Trails.{no_trail, longer, stood, crossing, trailed, trail_of}
 
 -- the range of R is that of r, and the places H
 pub record Hull (H : ℕ → Type 0) (r R : Trail) : Type 0 where

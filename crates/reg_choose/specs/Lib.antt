@@ -1,6 +1,10 @@
 pub mod Sets
 pub mod Marked
 pub mod Checked
-pub mod Tests
-pub mod Scan
+pub mod Holding
 pub mod Trails
+pub mod Sparse
+pub mod Seen
+pub mod Scan
+pub mod Handing
+pub mod Each

@@ -1,12 +1,17 @@
 // Whether a choice is safe.
-ghost use Rattle.std.specs.Prelude.{◌≡◌, ℕ, ◌<◌, ◌↔◌, length, IfOk, true};
+ghost use Rattle.std.specs.Prelude.{◌≡◌, ℕ, ◌+◌, ◌<◌, ◌≤◌, ◌↔◌, length, IfOk, Bool, true, false};
 ghost use Rattle.mid_code.specs.Functions.{function};
 ghost use Rattle.mid_code.specs.Invariants.{Names, AllOf, IsTemporary};
+ghost use Rattle.mid_code.specs.Live.{is_among};
 ghost use Rattle.mid_code.specs.Safe.{IsSafe, IsChosen, AllPlaces};
+ghost use Rattle.reg_choose.specs.Sets.{on, room};
+ghost use Rattle.reg_choose.specs.Checked.{ApartIn};
+ghost use Rattle.reg_choose.specs.Holding.{IsPlan, Stands};
 
-use crate::apart::apart;
-use crate::checks::check_nodes;
-use crate::live::{outside, set_of};
+use crate::checks::try_nodes;
+use crate::hold::lay_all;
+use crate::live::outside;
+use crate::plan::plan;
 use crate::sets::none;
 use kit_base::Memory;
 use mid_code::{Choice, Function, Where};
@@ -32,6 +37,31 @@ fn all_chosen(at: &[Where]) -> bool
     true
 }
 
+/// Holders of no set.
+#[tactic(auto, using(crate::proofs::Planned::none_stands))]
+fn no_holders(alloc: Global, at: &[Where], s: &[u64]) -> Result<Vec<usize>, Memory>
+    requires chosen { AllPlaces IsChosen at.now }
+    requires wide { length at.now ≤ room s.now }
+    requires nothing { (y : ℕ) → on s.now y ≡ false }
+    ensures { IfOk result (λ v. Stands at.now s.now v.items) }
+{
+    let mut held = Vec::new(alloc);
+    held.resize(at.len() + 11, 0)?;
+    Ok(held)
+}
+
+/// Whether no two of these share a place.
+fn apart(alloc: Global, at: &[Where], numbers: &[usize], xs: &[u32]) -> Result<bool, Memory>
+    requires chosen { AllPlaces IsChosen at.now }
+    requires plan { IsPlan at.now numbers.now }
+    ensures { IfOk result (λ b. (b ≡ true) ↔ ApartIn (length at.now) at.now (is_among xs.now)) }
+{
+    let mut s = none(alloc, at.len())?;
+    let mut held = no_holders(alloc, at, s.as_slice())?;
+    let fits = lay_all(at, numbers, s.as_mut_slice(), held.as_mut_slice(), xs);
+    Ok(fits)
+}
+
 /// Whether the choice is safe for the function, whose temporaries are named by numbers below their count. It is computed by live sets alone. A
 /// choice without one place per temporary is not safe. `Memory` comes only where the live sets find no room.
 pub fn is_safe(alloc: Global, f: &Function<u32>, c: &Choice) -> Result<bool, Memory>
@@ -43,10 +73,20 @@ pub fn is_safe(alloc: Global, f: &Function<u32>, c: &Choice) -> Result<bool, Mem
     if at.len() != f.temps as usize || !all_chosen(at) {
         return Ok(false);
     }
-    let params = set_of(alloc, at.len(), f.params.as_slice())?;
-    if !apart(params.as_slice(), at) {
+    let numbers = plan(alloc, at)?;
+    if !apart(alloc, at, numbers.as_slice(), f.params.as_slice())? {
         return Ok(false);
     }
-    let behind = none(alloc, at.len())?;
-    Ok(check_nodes(alloc, f.body.as_slice(), at, &outside(), behind.as_slice())?)
+    let mut behind = none(alloc, at.len())?;
+    let mut held = no_holders(alloc, at, behind.as_slice())?;
+    let safe = try_nodes(
+        alloc,
+        f.body.as_slice(),
+        at,
+        numbers.as_slice(),
+        &outside(),
+        behind.as_mut_slice(),
+        held.as_mut_slice(),
+    )?;
+    Ok(safe)
 }

@@ -4,7 +4,7 @@
 #[derive(Clone, Copy)]
 pub(crate) struct Trail {
     pub(crate) held: bool,
-    pub(crate) first: u32,
-    pub(crate) last: u32,
+    pub(crate) first: u64,
+    pub(crate) last: u64,
     pub(crate) crosses: bool,
 }

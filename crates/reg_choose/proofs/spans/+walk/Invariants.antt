@@ -1,10 +1,11 @@
-use Rattle.std.proofs.Common.{◌≡◌, ℕ, ◌+◌, ◌<◌, ◌≤◌, length, drop}
+use Rattle.std.proofs.Common.{◌≡◌, ℕ, ◌+◌, ◌<◌, ◌≤◌, length, drop, false}
 use Rattle.mid_code.specs.Live.{is_live}
 use Rattle.mid_code.specs.Functions.{nodes}
 use Rattle.mid_code.specs.Spans.{places}
-use Rattle.reg_choose.specs.Sets.{on}
+use Rattle.reg_choose.specs.Sets.{on, room}
 use Rattle.reg_choose.specs.Marked.{marks}
-use Rattle.reg_choose.specs.Trails.{trail_at, trailed}
+use Rattle.reg_choose.specs.Sparse.{sparse}
+use Rattle.reg_choose.specs.Seen.{seen}
 use Rattle.reg_choose.proofs.spans.+walk.Given as goal
 
 abbrev pub invariant-walk_nodes-loop-i : goal.invariant-walk_nodes-loop-i
@@ -12,9 +13,10 @@ invariant-walk_nodes-loop-i l = record {
   bound : l.i ≤ length l.ns;
   len : length l.s ≡ length l.initial.s;
   trails_len : length l.trails ≡ length l.initial.trails;
-  live : (y : ℕ) → y < length l.s → on l.s y ≡ is_live y (marks y l.m) (nodes (drop l.i l.ns)) (on l.initial.s y);
+  crossed_len : length l.crossed ≡ length l.initial.crossed;
+  live : (y : ℕ) → y < room l.s → on l.s y ≡ is_live y (marks y l.m) (nodes (drop l.i l.ns)) (on l.initial.s y);
   place : l.first + places (nodes (drop l.i l.ns)) ≡ l.place;
-  trails : (y : ℕ) → y < length l.s → trail_at l.trails y ≡ trailed y (marks y l.m) (nodes (drop l.i l.ns)) (on l.initial.s y) l.first (trail_at l.initial.trails y);
+  trails : (y : ℕ) → y < length l.trails → seen l.trails l.crossed y ≡ sparse y (marks y l.m) (nodes (drop l.i l.ns)) (on l.initial.s y) false l.first (seen l.initial.trails l.initial.crossed y);
 }
 
 abbrev pub decreases-walk_nodes-loop-i : goal.decreases-walk_nodes-loop-i

@@ -1,0 +1,23 @@
+use Rattle.std.proofs.Common.{rules, arith, ◌≡◌, ◌+◌, ◌&&◌}
+use Rattle.mid_code.specs.Functions.{nodes}
+use Rattle.mid_code.specs.Spans.{places}
+use Rattle.reg_choose.specs.Sets.{on}
+use Rattle.reg_choose.specs.Marked.{marks}
+use Rattle.reg_choose.specs.Sparse.{follows}
+use Rattle.reg_choose.specs.Seen.{seen}
+use Rattle.reg_choose.proofs.Walked.{seen_stood}
+use Rattle.reg_choose.proofs.Gathered.{body_seen}
+use Rattle.reg_choose.proofs.gather.walk_body.Goals as goal
+
+pub returns-clause-is : goal.returns-clause-is
+returns-clause-is c = λ y h.
+    let b = nodes c.args.ns.now in
+    let w = c.in_ok-walk_nodes.ensures in
+    let n = c.in_ok-walk_nodes.field-0 in
+    let end : c.in_ok-end.end ≡ 1 + places b = search rules in
+    let first : n ≡ 1 = (let p = w.place in omega (arith, p, end)) in
+    let l = c.requires.sizes in
+    let m = w.trails_len in
+    let cs = c.walk_nodes.new.crossed in
+    let v = on c.walk_nodes.new.s y in
+    body_seen y (marks y c.outside.result) b (on c.args.s.now y) v (follows b) n (seen c.args.trails.now c.args.crossed.now y) (seen c.walk_nodes.new.trails cs y) (seen c.begin.new.trails cs y) (c.outside.ensures y) (c.requires.nothing y) first (w.live y (omega (arith, h, l))) (w.trails y h) (seen_stood c.walk_nodes.new.trails c.begin.new.trails cs y (v && follows b) 1 (c.begin.ensures.is y (omega (arith, h, m))))

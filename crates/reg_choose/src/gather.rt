@@ -1,0 +1,168 @@
+// The spans of a function's temporaries, and what crosses calls.
+ghost use Rattle.std.specs.Prelude.{◌≡◌, ℕ, ◌+◌, ◌<◌, ◌≤◌, ◌&&◌, ◌^◌, [], length, IfOk, OnOk, Bool, false};
+ghost use Rattle.mid_code.specs.Code.{Stop};
+ghost use Rattle.mid_code.specs.Functions.{node, nodes, before, function};
+ghost use Rattle.mid_code.specs.Live.{is_live};
+ghost use Rattle.mid_code.specs.Spans.{places};
+ghost use Rattle.reg_choose.specs.Sets.{on, room};
+ghost use Rattle.reg_choose.specs.Trails.{stood, crossing, no_trail, trail_at, trail_of};
+ghost use Rattle.reg_choose.specs.Sparse.{sparse, follows};
+ghost use Rattle.reg_choose.specs.Seen.{seen};
+
+use crate::live::outside;
+use crate::sets::{has, none};
+use crate::spans::{more_from, walk_nodes};
+use crate::stands::{stand, stand_all};
+use crate::trail::Trail;
+use kit_base::Memory;
+use mid_code::{Function, Node};
+use std::alloc::Global;
+
+fn one_more(count: u64) -> Result<u64, Memory>
+    ensures { IfOk result (λ n. n ≡ count + 1) }
+{
+    if count == u64::MAX {
+        Err(Memory)
+    } else {
+        Ok(count + 1)
+    }
+}
+
+/// The place behind nodes that begin at this one. Where 64 bits cannot number the places there is no room for the nodes.
+#[cycle(count)]
+fn behind_node(x: &Node<u32>, first: u64) -> Result<u64, Memory>
+    ensures { IfOk result (λ n. n ≡ first + places (before (node x.now) Stop)) }
+{
+    match x {
+        Node::Do(_) => one_more(first),
+        Node::Choose(_, a, b) => {
+            let inside = one_more(first)?;
+            let between = behind_nodes(a.as_slice(), inside)?;
+            behind_nodes(b.as_slice(), between)
+        }
+        Node::Block(b) => behind_nodes(b.as_slice(), one_more(first)?),
+        Node::Loop(b) => behind_nodes(b.as_slice(), one_more(first)?),
+        Node::Leave(_) => one_more(first),
+        Node::Again(_) => one_more(first),
+        Node::Return(_) => one_more(first),
+    }
+}
+
+#[cycle(count)]
+#[tactic(auto, using(crate::proofs::Trailed::places_turn))]
+fn behind_nodes(ns: &[Node<u32>], first: u64) -> Result<u64, Memory>
+    ensures { IfOk result (λ n. n ≡ first + places (nodes ns.now)) }
+{
+    let mut place = first;
+    for n in ns {
+        place = behind_node(n, place)?;
+    }
+    Ok(place)
+}
+
+/// The first place, added to what is live there, where there are nodes.
+#[tactic(auto, using(crate::proofs::Gathered::begun, crate::proofs::Gathered::not_begun))]
+fn begin(trails: &mut [Trail], live: &[u64], ns: &[Node<u32>], nothing: &[u64])
+    requires nothing { (y : ℕ) → on nothing.now y ≡ false }
+    ensures len { length trails.new ≡ length trails.old }
+    ensures is { (y : ℕ) → y < length trails.old → trail_at trails.new y ≡ stood (on live.now y && follows (nodes ns.now)) 1 (trail_at trails.old y) }
+{
+    if more_from(ns, 0) {
+        stand(trails, live, nothing, 1);
+    }
+}
+
+/// What a function's nodes add to the trails, with what is live before them.
+fn walk_body(
+    alloc: Global,
+    ns: &[Node<u32>],
+    s: &mut [u64],
+    trails: &mut [Trail],
+    crossed: &mut [u64],
+) -> Result<(), Memory>
+    requires sizes { length trails.old ≤ room s.old }
+    requires crossed_sizes { length trails.old ≤ room crossed.old }
+    requires nothing { (y : ℕ) → on s.old y ≡ false }
+    ensures trails_len { OnOk result (length trails.new ≡ length trails.old) }
+    ensures crossed_len { OnOk result (length crossed.new ≡ length crossed.old) }
+    ensures is { OnOk result ((y : ℕ) → y < length trails.old → seen trails.new crossed.new y ≡ stood (is_live y [] (nodes ns.now) false && follows (nodes ns.now)) 1 (sparse y [] (nodes ns.now) false false 1 (seen trails.old crossed.old y))) }
+{
+    let nothing = none(alloc, 0)?;
+    let end = behind_nodes(ns, 1)?;
+    walk_nodes(alloc, ns, &outside(), s, trails, crossed, end)?;
+    begin(trails, s, ns, nothing.as_slice());
+    Ok(())
+}
+
+fn with_crossing(r: Trail, crosses: bool) -> Trail
+    ensures { result ≡ crossing crosses r }
+{
+    Trail {
+        held: r.held,
+        first: r.first,
+        last: r.last,
+        crosses: crosses || r.crosses,
+    }
+}
+
+/// What crosses a call, told in the trails.
+fn tell_crossing(trails: &mut [Trail], crossed: &[u64])
+    ensures len { length trails.new ≡ length trails.old }
+    ensures is { (y : ℕ) → y < length trails.old → trail_at trails.new y ≡ seen trails.old crossed.now y }
+{
+    let mut i = 0;
+    while i < trails.len() {
+        trails[i] = with_crossing(trails[i], has(crossed, i));
+        i += 1;
+    }
+}
+
+fn walk_function(alloc: Global, f: &Function<u32>, trails: &mut [Trail]) -> Result<(), Memory>
+    requires empty { (y : ℕ) → trail_at trails.old y ≡ no_trail }
+    ensures len { OnOk result (length trails.new ≡ length trails.old) }
+    ensures is { OnOk result ((y : ℕ) → y < length trails.old → trail_at trails.new y ≡ trail_of (function f.now) y) }
+{
+    let mut live = none(alloc, trails.len())?;
+    let mut crossed = none(alloc, trails.len())?;
+    walk_body(
+        alloc,
+        f.body.as_slice(),
+        live.as_mut_slice(),
+        trails,
+        crossed.as_mut_slice(),
+    )?;
+    stand_all(trails, f.params.as_slice(), 0);
+    tell_crossing(trails, crossed.as_slice());
+    Ok(())
+}
+
+fn no_trail() -> Trail
+    ensures { result ≡ no_trail }
+{
+    Trail {
+        held: false,
+        first: 0,
+        last: 0,
+        crosses: false,
+    }
+}
+
+fn no_trails(alloc: Global, count: usize) -> Result<Vec<Trail>, Memory>
+    ensures len { IfOk result (λ r. length r.items ≡ count) }
+    ensures is { IfOk result (λ r. (y : ℕ) → trail_at r.items y ≡ no_trail) }
+{
+    let mut trails = Vec::new(alloc);
+    trails.resize(count, no_trail())?;
+    Ok(trails)
+}
+
+/// The trails of a function's temporaries.
+pub(crate) fn trails_of(alloc: Global, f: &Function<u32>) -> Result<Vec<Trail>, Memory>
+    ensures len { IfOk result (λ r. length r.items ≡ (function f.now).temps) }
+    ensures few { IfOk result (λ r. length r.items < 2 ^ 32) }
+    ensures is { IfOk result (λ r. (y : ℕ) → y < (function f.now).temps → trail_at r.items y ≡ trail_of (function f.now) y) }
+{
+    let mut trails = no_trails(alloc, f.temps as usize)?;
+    walk_function(alloc, f, trails.as_mut_slice())?;
+    Ok(trails)
+}

@@ -6,8 +6,8 @@ use Rattle.c_meaning.specs.Kinds.{is_structure}
 use Rattle.c_meaning.specs.Outcomes.{Before}
 use Rattle.c_meaning.specs.Setting.{Setting}
 use Rattle.mid_code.specs.Code.{NodesT, CodeT}
-use Rattle.mid_code.specs.Meaning.{Res}
-use Rattle.mid_code.specs.States.{function_at}
+use Rattle.mid_code.specs.Meaning.{Res, below}
+use Rattle.mid_code.specs.States.{temporaries, function_at, over_worlds}
 use Rattle.mid_lower.specs.Parts.{first_param}
 use Rattle.mid_lower.specs.Lowered.{args_from}
 use Rattle.mid_lower.proofs.Grows.{Mid, Grows}
@@ -38,3 +38,4 @@ pub record Site : Type 1 where
   pub prev : Before
   pub prev' : NodesT ℕ → Mid → Res Mid
   pub grows : (c : NodesT ℕ) (t : Mid) → Grows t (prev' c t)
+  pub is_below : prev' ≡ below (over_worlds temporaries code frames) bound

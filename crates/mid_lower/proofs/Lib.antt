@@ -13,3 +13,4 @@ mod Calling
 mod OperatorForms
 mod PlaceForms
 mod EveryExpression
+mod CellLoops

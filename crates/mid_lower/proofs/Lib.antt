@@ -14,3 +14,4 @@ mod OperatorForms
 mod PlaceForms
 mod EveryExpression
 mod CellLoops
+mod Filling

@@ -6,6 +6,8 @@ use Rattle.c_types.specs.Types.{Ty, ArrayY, LayoutT}
 use Rattle.c_types.specs.Typed.{TExprT, Typed, TKindT, NumberK, NullK, LiteralK, GlobalK, LocalK, UnaryK, BinaryK, AssignK, StepK, IndexK, MemberK, ArrowK, CastK, CallK, InK, OutK, WaitK, HaltK, CardK, TExprTs, NoX, MoreX, TInitT, OneI, TextI, ListI, TInitTs, NoI, MoreI, TVarT, TStmtT, BlockZ, EmptyZ, VarsZ, DoZ, IfZ, WhileZ, DoWhileZ, ForZ, SwitchZ, ReturnZ, BreakZ, ContinueZ, MaybeZ, NoneZ, SomeZ, TStmtTs, NoZ, MoreZ, TArmT, CaseB, DefaultB, StmtB, TArmTs, NoB, MoreB}
 use Rattle.c_exprs.specs.Nodes.{is_place}
 use Rattle.c_meaning.specs.Kinds.{type_of, is_structure}
+use Rattle.c_meaning.specs.Parts.{part_type}
+use Rattle.mid_lower.specs.Shape.{Shape, words, literal_words}
 
 -- the value of this is no structure
 abbrev pub IsScalar : TExprT → Type 0
@@ -35,3 +37,23 @@ abbrev mutual
 
 abbrev pub PlainValue : TExprT → Type 0
 PlainValue x = Plain x × IsScalar x
+
+-- ---- initialisers: of scalars one by one, of texts and of lists; so many words are set to 0 behind the last item
+
+abbrev pub RestFits : Shape → Ty → (k : ℕ) → Type 0
+RestFits h (ArrayY of len) k = words h of * (len - k) ≤ 2 ^ 32
+RestFits h _ k = Unit {0}
+
+abbrev mutual
+  pub Fills : Shape → TInitT → Ty → Type 0
+  Fills h (OneI x) ty = Plain x × IsScalar x × (is_structure ty ≡ false)
+  Fills h (TextI number) ty = literal_words h number ≤ 2 ^ 32
+  Fills h (ListI items) ty = FillAll h items ty 0
+
+  pub FillAll : Shape → TInitTs → Ty → (k : ℕ) → Type 0
+  FillAll h NoI ty k = RestFits h ty k
+  FillAll h (MoreI i rest) ty k = Fills h i (part_type h.layouts ty k) × FillAll h rest ty (k + 1)
+
+abbrev pub FillVars : Shape → List TVarT → Type 0
+FillVars h [] = Unit {0}
+FillVars h (v ∷ vs) = Fills h v.init v.ty × FillVars h vs

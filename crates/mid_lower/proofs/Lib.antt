@@ -15,3 +15,5 @@ mod PlaceForms
 mod EveryExpression
 mod CellLoops
 mod Filling
+mod Outcomes
+mod Locals

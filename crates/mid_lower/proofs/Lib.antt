@@ -17,3 +17,4 @@ mod CellLoops
 mod Filling
 mod Outcomes
 mod Locals
+mod LoopForms

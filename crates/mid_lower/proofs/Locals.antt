@@ -20,11 +20,7 @@ use Rattle.mid_lower.proofs.Under.{Under, under_length, under_join, under_end_lo
 use Rattle.mid_lower.proofs.Fits.{Site}
 use Rattle.mid_lower.proofs.Following.{Side, mk, Goal, Now, Fin, M, M_grows}
 use Rattle.mid_lower.proofs.Outcomes.{SimD}
-
--- these are own locals
-abbrev pub Below : ℕ → List ℕ → Type 0
-Below own [] = Unit {0}
-Below own (k ∷ ks) = (k < own) × Below own ks
+use Rattle.mid_lower.proofs.Trees.{Below}
 
 pub local_own : (l e : List (Option ℕ)) (k : ℕ) → k < length l → local_object (l ++ e) k ≡ local_object l k
 local_own [] e k lt = absurd (omega (arith, lt))

@@ -57,3 +57,44 @@ abbrev mutual
 abbrev pub FillVars : Shape → List TVarT → Type 0
 FillVars h [] = Unit {0}
 FillVars h (v ∷ vs) = Fills h v.init v.ty × FillVars h vs
+
+-- ---- statements: of a function with so many locals of its own, which gives a result or none
+
+-- these are own locals
+abbrev pub Below : ℕ → List ℕ → Type 0
+Below own [] = Unit {0}
+Below own (k ∷ ks) = (k < own) × Below own ks
+
+abbrev pub PlainMaybe : Option TExprT → Type 0
+PlainMaybe None = Unit {0}
+PlainMaybe (Some x) = PlainValue x
+
+abbrev mutual
+  pub PlainStmt : Shape → (own : ℕ) → (void : Bool) → TStmtT → Type 0
+  PlainStmt h own v (BlockZ made body) = Below own made × PlainStmts h own v body
+  PlainStmt h own v EmptyZ = Unit {0}
+  PlainStmt h own v (VarsZ vars) = FillVars h vars
+  PlainStmt h own v (DoZ x) = PlainValue x
+  PlainStmt h own v (IfZ x a b) = PlainValue x × PlainStmt h own v a × PlainOther h own v b
+  PlainStmt h own v (WhileZ x a) = PlainValue x × PlainStmt h own v a
+  PlainStmt h own v (DoWhileZ a x) = PlainStmt h own v a × PlainValue x
+  PlainStmt h own v (ForZ made first test step a) = Below own made × PlainOther h own v first × PlainMaybe test × PlainMaybe step × PlainStmt h own v a
+  PlainStmt h own v (SwitchZ x made arms) = PlainValue x × Below own made × PlainArms h own v arms
+  PlainStmt h own v (ReturnZ None) = Unit {0}
+  PlainStmt h own v (ReturnZ (Some x)) = PlainValue x × (v ≡ false)
+  PlainStmt h own v BreakZ = Unit {0}
+  PlainStmt h own v ContinueZ = Unit {0}
+
+  pub PlainOther : Shape → ℕ → Bool → MaybeZ → Type 0
+  PlainOther h own v NoneZ = Unit {0}
+  PlainOther h own v (SomeZ a) = PlainStmt h own v a
+
+  pub PlainStmts : Shape → ℕ → Bool → TStmtTs → Type 0
+  PlainStmts h own v NoZ = Unit {0}
+  PlainStmts h own v (MoreZ a rest) = PlainStmt h own v a × PlainStmts h own v rest
+
+  pub PlainArms : Shape → ℕ → Bool → TArmTs → Type 0
+  PlainArms h own v NoB = Unit {0}
+  PlainArms h own v (MoreB (CaseB label) rest) = PlainArms h own v rest
+  PlainArms h own v (MoreB DefaultB rest) = PlainArms h own v rest
+  PlainArms h own v (MoreB (StmtB a) rest) = PlainStmt h own v a × PlainArms h own v rest

@@ -3,6 +3,7 @@ mod Under
 mod Words
 mod Flagged
 mod Trees
+mod Chosen
 mod Fits
 mod Following
 mod Instructions
@@ -18,3 +19,4 @@ mod Filling
 mod Outcomes
 mod Locals
 mod LoopForms
+mod SwitchForms

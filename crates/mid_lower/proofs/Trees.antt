@@ -7,6 +7,7 @@ use Rattle.c_types.specs.Typed.{TExprT, Typed, TKindT, NumberK, NullK, LiteralK,
 use Rattle.c_exprs.specs.Nodes.{is_place}
 use Rattle.c_meaning.specs.Kinds.{type_of, is_structure}
 use Rattle.c_meaning.specs.Parts.{part_type}
+use Rattle.c_meaning.specs.Statements.{labels}
 use Rattle.mid_lower.specs.Shape.{Shape, words, literal_words}
 
 -- the value of this is no structure
@@ -79,7 +80,7 @@ abbrev mutual
   PlainStmt h own v (WhileZ x a) = PlainValue x × PlainStmt h own v a
   PlainStmt h own v (DoWhileZ a x) = PlainStmt h own v a × PlainValue x
   PlainStmt h own v (ForZ made first test step a) = Below own made × PlainOther h own v first × PlainMaybe test × PlainMaybe step × PlainStmt h own v a
-  PlainStmt h own v (SwitchZ x made arms) = PlainValue x × Below own made × PlainArms h own v arms
+  PlainStmt h own v (SwitchZ x made arms) = PlainValue x × Below own made × PlainArms h own v arms × (2 * labels arms ≤ 2 ^ 32)
   PlainStmt h own v (ReturnZ None) = Unit {0}
   PlainStmt h own v (ReturnZ (Some x)) = PlainValue x × (v ≡ false)
   PlainStmt h own v BreakZ = Unit {0}

@@ -20,3 +20,4 @@ mod Outcomes
 mod Locals
 mod LoopForms
 mod SwitchForms
+mod EveryStatement

@@ -16,10 +16,10 @@ use Rattle.c_meaning.specs.declared.end.End.{End}
 use Rattle.c_meaning.specs.declared.end.End.TheVariants.{Stray, OutOfBound}
 use Rattle.c_meaning.specs.Outcomes.{Went, Through, CutOff, asked, then_went}
 use Rattle.c_meaning.specs.Cells.{source, cell_set, next_turn, cells_set}
-use Rattle.mid_code.specs.Code.{ConstO, TwoO, StepO, LoadO, StoreO, NodesT, Stop, Do, Choose, Loop, Again}
+use Rattle.mid_code.specs.Code.{CodeT, ConstO, TwoO, StepO, LoadO, StoreO, NodesT, Stop, Do, Choose, Loop, Again}
 use Rattle.mid_code.specs.Meaning.{Res, Next, Leaves, Repeats, Returns, Over, then_next, turn_done, choose, does}
 use Rattle.mid_code.specs.Meaning.{below as mid_below}
-use Rattle.mid_code.specs.States.{temporaries, to, spent, two_words, word_tested}
+use Rattle.mid_code.specs.States.{temporaries, to, spent, two_words, word_tested, over_worlds}
 use Rattle.mid_code.specs.States as mid
 use Rattle.mid_code.specs.Passing.{Prefix}
 use Rattle.mid_lower.specs.Parts as part
@@ -41,13 +41,13 @@ sub_one left lt = ap (λ n. n % 2 ^ 32) sums ∙ add-mod_right left (2 ^ 32) ∙
     less = omega arith
 
 -- port operations only come with each bound
-pub below_grows : (S : Site) (n : ℕ) (c : NodesT ℕ) (t : Mid) → Grows t (mid_below (L S) n c t)
-below_grows S zero c t = all_of _
-below_grows S (suc n) c t = node_grows S.code S.frames n (mid_below (L S) n) (below_grows S n) c t
+pub below_grows : (code : CodeT ℕ) (frames : List ℕ) (n : ℕ) (c : NodesT ℕ) (t : Mid) → Grows t (mid_below (over_worlds temporaries code frames) n c t)
+below_grows code frames zero c t = all_of _
+below_grows code frames (suc n) c t = node_grows code frames n (mid_below (over_worlds temporaries code frames) n) (below_grows code frames n) c t
 
 -- the same program at another bound
 abbrev pub site_at : Site → ℕ → Site
-site_at S n = record { s = S.s; code = S.code; frames = S.frames; fits = S.fits; bound = n; prev = S.prev; prev' = mid_below (L S) n; grows = below_grows S n; is_below = refl }
+site_at S n = record { s = S.s; code = S.code; frames = S.frames; fits = S.fits; bound = n; prev = S.prev; prev' = mid_below (L S) n; grows = below_grows S.code S.frames n; is_below = refl }
 
 -- temporaries but those of the loops
 abbrev pub Others : Side → Side → Type 0
@@ -58,7 +58,7 @@ abbrev pub SimL : Goal → ℕ → Side → Went → Res Mid → Type 0
 SimL γ s x (Through w) q = (y : Side) × (q ≡ Next (mk w y)) × Now γ (s + 16) w y × Others x y
 SimL γ s x (CutOff f w) q = Kept γ f w q
 
-next_same : (r : Res Mid) → then_next r (λ t. Next t) ≡ r
+pub next_same : (r : Res Mid) → then_next r (λ t. Next t) ≡ r
 next_same (Next t) = refl
 next_same (Leaves k t) = refl
 next_same (Repeats k t) = refl
@@ -76,7 +76,7 @@ module _ (S : Site) (γ : Goal) (span : Span) (cost : ℕ) (some : 1 ≤ cost) w
     K q = then_next (turn_done q (mid_below (L S) n (Loop turn Stop))) (M (site_at S n) Stop)
 
     K_grows : (q : Res Mid) → Prefix (events_of q) (events_of (K q))
-    K_grows q = more _ _ _ (turn_grows q (mid_below (L S) n (Loop turn Stop)) (below_grows S n (Loop turn Stop))) (then_grows (turn_done q (mid_below (L S) n (Loop turn Stop))) (M (site_at S n) Stop) (M_grows (site_at S n) Stop))
+    K_grows q = more _ _ _ (turn_grows q (mid_below (L S) n (Loop turn Stop)) (below_grows S.code S.frames n (Loop turn Stop))) (then_grows (turn_done q (mid_below (L S) n (Loop turn Stop))) (M (site_at S n) Stop) (M_grows (site_at S n) Stop))
 
     abbrev way_turn : Way γ
     way_turn = record { R = Went; stop = CutOff; T = λ r q. SimL γ s0 x0 r (K q); stops = λ f w m k. kept_through γ f w m K (λ g t. refl) K_grows k }

@@ -56,18 +56,18 @@ module _ (S : Site) (before : Earlier S) (r : Cell) (ty : Ty) (v : Bool) (own : 
   tick w = spend 1 w
 
   abbrev H : World → Type 0
-  H w = HomeOf S ty w.store.function own
+  H w = HomeOf S.s S.code S.frames ty w.store.function own
 
-  after : (γ : Goal) (s0 : ℕ) (w : World) (x : Side) → HomeOf S ty γ.function own → Now γ s0 w x → H w
+  after : (γ : Goal) (s0 : ℕ) (w : World) (x : Side) → HomeOf S.s S.code S.frames ty γ.function own → Now γ s0 w x → H w
   after = home_after S before r ty v own
 
-  home_in : (γ : Goal) → HomeOf S ty γ.function own → γ.own ≡ own → HomeOf S ty γ.function γ.own
-  home_in γ home e = subst (λ o. HomeOf S ty γ.function o) (sym e) home
+  home_in : (γ : Goal) → HomeOf S.s S.code S.frames ty γ.function own → γ.own ≡ own → HomeOf S.s S.code S.frames ty γ.function γ.own
+  home_in γ home e = subst (λ o. HomeOf S.s S.code S.frames ty γ.function o) (sym e) home
 
   below_in : (γ : Goal) (ks : List ℕ) → γ.own ≡ own → Below own ks → Below γ.own ks
   below_in γ ks e b = subst (λ o. Below o ks) (sym e) b
 
-  returns_sim : (γ : Goal) (b : ℕ) (j : Jump) (k : Mid → Res Mid) (e : TExprT) → PlainValue e → v ≡ false → (n m : ℕ) (c : NodesT ℕ) (w : World) (x : Side) → 8 ≤ n → γ.first ≤ n → HomeOf S ty γ.function own → Now γ 24 w x → SimD v γ b j k (returned S.s S.bound r e (evaluated S.s S.bound S.prev e w)) (R (low_value h e n (n + 1) m (part.converted ty (is_flag e) n (low.returned h ty n c))) (mk w x))
+  returns_sim : (γ : Goal) (b : ℕ) (j : Jump) (k : Mid → Res Mid) (e : TExprT) → PlainValue e → v ≡ false → (n m : ℕ) (c : NodesT ℕ) (w : World) (x : Side) → 8 ≤ n → γ.first ≤ n → HomeOf S.s S.code S.frames ty γ.function own → Now γ 24 w x → SimD v γ b j k (returned S.s S.bound r e (evaluated S.s S.bound S.prev e w)) (R (low_value h e n (n + 1) m (part.converted ty (is_flag e) n (low.returned h ty n c))) (mk w x))
   returns_sim γ b j k e sc gives n m c w x sn le home h0 =
       let σ : Way γ = way_d v γ b j k in
       let c1 : NodesT ℕ = low.returned h ty n c in

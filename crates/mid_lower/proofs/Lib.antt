@@ -21,3 +21,5 @@ mod Locals
 mod LoopForms
 mod SwitchForms
 mod EveryStatement
+mod EveryBound
+mod Kept

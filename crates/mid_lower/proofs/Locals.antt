@@ -8,9 +8,9 @@ use Rattle.obj_mem.specs.Stores.{Store, with_objects, local_object, words_here, 
 use Rattle.obj_mem.specs.Worlds.{World, on_store}
 use Rattle.c_meaning.specs.Kinds.{is_structure}
 use Rattle.c_meaning.specs.Outcomes.{Done, Goes, Breaks, Continues, Returns, Ended}
-use Rattle.c_meaning.specs.Setting.{result_of}
+use Rattle.c_meaning.specs.Setting.{Setting, result_of}
 use Rattle.c_meaning.specs.Statements.{left}
-use Rattle.mid_code.specs.Code.{FreshO, NodesT, Do}
+use Rattle.mid_code.specs.Code.{FreshO, NodesT, Do, CodeT}
 use Rattle.mid_code.specs.Meaning.{Res}
 use Rattle.mid_code.specs.States.{sizes_of}
 use Rattle.mid_lower.specs.Statements.{Jump}
@@ -69,9 +69,9 @@ ends v γ b j k ks (Ended f w) q a = a
 -- ---- what is made
 
 -- what is known of the function that is called: the words of its own locals, and the type of its result
-pub record HomeOf (S : Site) (ty : Ty) (fn : Option ℕ) (own : ℕ) : Type 0 where
-  pub words : (k : ℕ) → k < own → words_here (sizes_of S.code S.frames) fn k ≡ words_here S.s.sizes fn k
-  pub result : result_of S.s fn ≡ ty
+pub record HomeOf (s : Setting) (code : CodeT ℕ) (frames : List ℕ) (ty : Ty) (fn : Option ℕ) (own : ℕ) : Type 0 where
+  pub words : (k : ℕ) → k < own → words_here (sizes_of code frames) fn k ≡ words_here s.sizes fn k
+  pub result : result_of s fn ≡ ty
   pub scalar : is_structure ty ≡ false
 
 module _ (S : Site) where
@@ -102,10 +102,10 @@ module _ (S : Site) where
     cost = omega (arith, h.cost);
   }
 
-  words_at : (ty : Ty) (γ : Goal) (s0 k : ℕ) (w : World) (x : Side) → HomeOf S ty γ.function γ.own → Now γ s0 w x → k < γ.own → words_here (sizes_of S.code S.frames) w.store.function k ≡ words_here S.s.sizes w.store.function k
+  words_at : (ty : Ty) (γ : Goal) (s0 k : ℕ) (w : World) (x : Side) → HomeOf S.s S.code S.frames ty γ.function γ.own → Now γ s0 w x → k < γ.own → words_here (sizes_of S.code S.frames) w.store.function k ≡ words_here S.s.sizes w.store.function k
   words_at ty γ s0 k w x home h lt = subst (λ fn. words_here (sizes_of S.code S.frames) fn k ≡ words_here S.s.sizes fn k) (sym h.stays.same_function) (home.words k lt)
 
-  pub mades : (ty : Ty) (γ : Goal) (s0 : ℕ) {A : Type 0} (T : A → Res Mid → Type 0) (ks : List ℕ) (w : World) (x : Side) (c : NodesT ℕ) → HomeOf S ty γ.function γ.own → Below γ.own ks → Now γ s0 w x → (go : World → A) → ((wa : World) (xa : Side) → Now γ s0 wa xa → xa.temps ≡ x.temps → T (go wa) (R c (mk wa xa))) → T (go (on_store (fresh_all S.s.sizes ks) w)) (R (part.made ks c) (mk w x))
+  pub mades : (ty : Ty) (γ : Goal) (s0 : ℕ) {A : Type 0} (T : A → Res Mid → Type 0) (ks : List ℕ) (w : World) (x : Side) (c : NodesT ℕ) → HomeOf S.s S.code S.frames ty γ.function γ.own → Below γ.own ks → Now γ s0 w x → (go : World → A) → ((wa : World) (xa : Side) → Now γ s0 wa xa → xa.temps ≡ x.temps → T (go wa) (R c (mk wa xa))) → T (go (on_store (fresh_all S.s.sizes ks) w)) (R (part.made ks c) (mk w x))
   mades ty γ s0 T [] w x c home bl h go f = f w x h refl
   mades ty γ s0 T (y ∷ ks) w x c home bl h go f =
       subst (T (go (on_store (fresh_all S.s.sizes ks) (on_store (fresh S.s.sizes y) w)))) (sym (freshed y (part.made ks c) w x h.stays.under (omega (arith, h.stays.same_own, bl.0)) (words_at ty γ s0 y w x home h bl.0)))

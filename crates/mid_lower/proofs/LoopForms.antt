@@ -35,11 +35,11 @@ use Rattle.mid_lower.proofs.Locals.{HomeOf}
 -- what is known of the bound that is one less
 pub record Earlier (S : Site) : Type 0 where
   pub called : BodiesFollow S
-  pub while_turn : (r : Cell) (ty : Ty) (v : Bool) (own : ℕ) (e : TExprT) (a : TStmtT) (n m b : ℕ) (j : Jump) (w : World) (x : Side) → Under w.store.objects x.objs → HomeOf S ty w.store.function own → length w.store.locals ≡ own → PlainValue e → PlainStmt (shape_in S.s) own v a → 8 ≤ n
+  pub while_turn : (r : Cell) (ty : Ty) (v : Bool) (own : ℕ) (e : TExprT) (a : TStmtT) (n m b : ℕ) (j : Jump) (w : World) (x : Side) → Under w.store.objects x.objs → HomeOf S.s S.code S.frames ty w.store.function own → length w.store.locals ≡ own → PlainValue e → PlainStmt (shape_in S.s) own v a → 8 ≤ n
       → SimD v (turning n w x) b j (λ t. Next t) (S.prev (Turn r (Some e) None a) w) (S.prev' (low_stmt (shape_in S.s) ty (WhileZ e a) n m 0 (ToEnd 0) Stop) (mk w x))
-  pub do_turn : (r : Cell) (ty : Ty) (v : Bool) (own : ℕ) (e : TExprT) (a : TStmtT) (n m b : ℕ) (j : Jump) (w : World) (x : Side) → Under w.store.objects x.objs → HomeOf S ty w.store.function own → length w.store.locals ≡ own → PlainValue e → PlainStmt (shape_in S.s) own v a → 8 ≤ n
+  pub do_turn : (r : Cell) (ty : Ty) (v : Bool) (own : ℕ) (e : TExprT) (a : TStmtT) (n m b : ℕ) (j : Jump) (w : World) (x : Side) → Under w.store.objects x.objs → HomeOf S.s S.code S.frames ty w.store.function own → length w.store.locals ≡ own → PlainValue e → PlainStmt (shape_in S.s) own v a → 8 ≤ n
       → SimD v (turning n w x) b j (λ t. Next t) (S.prev (DoTurn r a e) w) (S.prev' (low_stmt (shape_in S.s) ty (DoWhileZ a e) n m 0 (ToEnd 0) Stop) (mk w x))
-  pub for_turn : (r : Cell) (ty : Ty) (v : Bool) (own : ℕ) (test step : Option TExprT) (a : TStmtT) (n m b : ℕ) (j : Jump) (w : World) (x : Side) → Under w.store.objects x.objs → HomeOf S ty w.store.function own → length w.store.locals ≡ own → PlainMaybe test → PlainMaybe step → PlainStmt (shape_in S.s) own v a → 8 ≤ n
+  pub for_turn : (r : Cell) (ty : Ty) (v : Bool) (own : ℕ) (test step : Option TExprT) (a : TStmtT) (n m b : ℕ) (j : Jump) (w : World) (x : Side) → Under w.store.objects x.objs → HomeOf S.s S.code S.frames ty w.store.function own → length w.store.locals ≡ own → PlainMaybe test → PlainMaybe step → PlainStmt (shape_in S.s) own v a → 8 ≤ n
       → SimD v (turning n w x) b j (λ t. Next t) (S.prev (Turn r test step a) w) (S.prev' (low.turns (shape_in S.s) test step a (λ p q. low_stmt (shape_in S.s) ty a p q 1 (ToEnd 0) Stop) n m Stop) (mk w x))
 
 module _ (S : Site) (before : Earlier S) (r : Cell) (ty : Ty) (v : Bool) (own : ℕ) where
@@ -53,13 +53,13 @@ module _ (S : Site) (before : Earlier S) (r : Cell) (ty : Ty) (v : Bool) (own : 
   k_next t = Next t
 
   abbrev pub Home : World → Type 0
-  Home w = HomeOf S ty w.store.function own
+  Home w = HomeOf S.s S.code S.frames ty w.store.function own
 
   pub sim : (e : TExprT) → PlainValue e → Follow S e
   sim e sc = expr_sim S before.called e sc.0
 
-  pub home_after : (γ : Goal) (s0 : ℕ) (w : World) (x : Side) → HomeOf S ty γ.function own → Now γ s0 w x → Home w
-  home_after γ s0 w x home hn = subst (λ fn. HomeOf S ty fn own) (sym hn.stays.same_function) home
+  pub home_after : (γ : Goal) (s0 : ℕ) (w : World) (x : Side) → HomeOf S.s S.code S.frames ty γ.function own → Now γ s0 w x → Home w
+  home_after γ s0 w x home hn = subst (λ fn. HomeOf S.s S.code S.frames ty fn own) (sym hn.stays.same_function) home
 
   -- a statement
   abbrev pub FollowStmt : TStmtT → Type 0
@@ -87,7 +87,7 @@ module _ (S : Site) (before : Earlier S) (r : Cell) (ty : Ty) (v : Bool) (own : 
 
   -- ---- `while` and `do`
 
-  module _ (e : TExprT) (a : TStmtT) (sc : PlainValue e) (fa : FollowStmt a) (γ : Goal) (skips : 2 ≤ γ.skip) (n m b : ℕ) (j : Jump) (c : NodesT ℕ) (w : World) (x : Side) (sn : 8 ≤ n) (le : γ.first ≤ n) (home : HomeOf S ty γ.function own) (eo : γ.own ≡ own) (h0 : Now γ 24 w x) (again : World → Done) where
+  module _ (e : TExprT) (a : TStmtT) (sc : PlainValue e) (fa : FollowStmt a) (γ : Goal) (skips : 2 ≤ γ.skip) (n m b : ℕ) (j : Jump) (c : NodesT ℕ) (w : World) (x : Side) (sn : 8 ≤ n) (le : γ.first ≤ n) (home : HomeOf S.s S.code S.frames ty γ.function own) (eo : γ.own ≡ own) (h0 : Now γ 24 w x) (again : World → Done) where
     -- a turn of a `while`, of which the first costs the statement's node
     pub while_sim : ((wa : World) (xa : Side) → Now γ 24 wa xa → SimD v γ b j k_next (again wa) (S.prev' (low_stmt h ty (WhileZ e a) n m 0 (ToEnd 0) Stop) (mk wa xa)))
         → SimD v γ b j (R c) (turn S.s S.bound S.prev (Some e) None (does S.s S.bound S.prev r a) again w) (R (low_stmt h ty (WhileZ e a) n m b j c) (mk w x))
@@ -151,13 +151,13 @@ module _ (S : Site) (before : Earlier S) (r : Cell) (ty : Ty) (v : Bool) (own : 
       drops S (more_for γ) σ 16 n (n + 1) m w x (Again 0 Stop) (more_now γ 16 w x h0) (above_free (more_for γ) n le) (omega (arith, le)) (omega (arith, sn)) (omega arith) e sc.1 (λ z. Continues z) (sim e sc)
       (λ wa xa ha. (paid xa, refl, less_now (more_for γ) 36 wa (paid xa) (paid_now (more_for γ) 36 wa xa ha)))
 
-  rest_sim : (γ : Goal) → 2 ≤ γ.skip → (step : Option TExprT) (a : TStmtT) → PlainMaybe step → FollowStmt a → (n m k l : ℕ) (w : World) (x : Side) → γ.first ≤ n → 8 ≤ n → γ.first ≤ k → 8 ≤ k → HomeOf S ty γ.function own → γ.own ≡ own → Now γ 8 w x
+  rest_sim : (γ : Goal) → 2 ≤ γ.skip → (step : Option TExprT) (a : TStmtT) → PlainMaybe step → FollowStmt a → (n m k l : ℕ) (w : World) (x : Side) → γ.first ≤ n → 8 ≤ n → γ.first ≤ k → 8 ≤ k → HomeOf S.s S.code S.frames ty γ.function own → γ.own ≡ own → Now γ 8 w x
       → SimD v (more_for γ) 0 (ToTurn 0) k_next (inner (does S.s S.bound S.prev r a w) (step_end step)) (R (Block (low_stmt h ty a n m 1 (ToEnd 0) Stop) (low.low_dropped h step k l (Again 0 Stop))) (mk w x))
   rest_sim γ skips step a sc fa n m k l w x le sn lk sk home eo h0 =
       blocks S v γ skips n w (paid x) (paid_now γ 0 w x h0) le (low.low_dropped h step k l (Again 0 Stop)) (does S.s S.bound S.prev r a w) (R (low_stmt h ty a n m 1 (ToEnd 0) Stop) (mk w (paid x)))
       (fa n m 1 (ToEnd 0) Stop w (paid x) sn h0.stays.under (home_after γ 8 w x home h0) (h0.stays.same_own ∙ eo)) (step_end step) (λ wa xa ha. steps_sim γ step sc k l wa xa lk sk ha)
 
-  pub for_sim : (test step : Option TExprT) (a : TStmtT) → PlainMaybe test → PlainMaybe step → FollowStmt a → (γ : Goal) → 2 ≤ γ.skip → (n m b : ℕ) (j : Jump) (c : NodesT ℕ) (w : World) (x : Side) → 8 ≤ n → γ.first ≤ n → HomeOf S ty γ.function own → γ.own ≡ own → Now γ 24 w x → (again : World → Done)
+  pub for_sim : (test step : Option TExprT) (a : TStmtT) → PlainMaybe test → PlainMaybe step → FollowStmt a → (γ : Goal) → 2 ≤ γ.skip → (n m b : ℕ) (j : Jump) (c : NodesT ℕ) (w : World) (x : Side) → 8 ≤ n → γ.first ≤ n → HomeOf S.s S.code S.frames ty γ.function own → γ.own ≡ own → Now γ 24 w x → (again : World → Done)
       → ((wa : World) (xa : Side) → Now γ 24 wa xa → SimD v γ b j k_next (again wa) (S.prev' (low.turns h test step a (λ p q. low_stmt h ty a p q 1 (ToEnd 0) Stop) n m Stop) (mk wa xa)))
       → SimD v γ b j (R c) (turn S.s S.bound S.prev test step (does S.s S.bound S.prev r a) again w) (R (low.turns h test step a (λ p q. low_stmt h ty a p q 1 (ToEnd 0) Stop) n m c) (mk w x))
   for_sim None step a sct scs fa γ skips n m b j c w x sn le home eo h0 again f =

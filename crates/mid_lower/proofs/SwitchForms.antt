@@ -124,7 +124,7 @@ module _ (S : Site) where
     choose_more t p a b c w x e = ap (λ z. then_next (choose (word_tested z) (mk w (paid x)) (R a) (R b)) (R c)) e
 
     -- from the label that is chosen on, each arm goes on into the next
-    falls_sim : (arms : TArmTs) → AllFollow arms → (γ : Goal) → 2 ≤ γ.skip → (t n m b : ℕ) (j : Jump) (w : World) (x : Side) → 8 ≤ t → t < n → γ.first ≤ n → HomeOf S ty γ.function own → γ.own ≡ own → Now γ (16 * labels arms) w x → x.temps t ≡ Num 0
+    falls_sim : (arms : TArmTs) → AllFollow arms → (γ : Goal) → 2 ≤ γ.skip → (t n m b : ℕ) (j : Jump) (w : World) (x : Side) → 8 ≤ t → t < n → γ.first ≤ n → HomeOf S.s S.code S.frames ty γ.function own → γ.own ≡ own → Now γ (16 * labels arms) w x → x.temps t ≡ Num 0
         → SimD v γ b j k_next (does_arms S.s S.bound S.prev r zero arms w) (then_next (R (low_group h ty arms n m b j) (mk w x)) (R (low_arms h ty t arms n m b j)))
     falls_sim NoB fs γ skips t n m b j w x lt tf le home eo hn e = (x, refl, less_now γ (16 * 0) w x hn)
     falls_sim (MoreB (StmtB a) rest) fs γ skips t n m b j w x lt tf le home eo hn e =
@@ -153,7 +153,7 @@ module _ (S : Site) where
         (λ y hy at rest. f y hy at (rest part.one (eqb_less part.one t (omega (arith, lt))) ∙ e1)))
 
     -- the labels before the one that is chosen are passed over
-    passes_sim : (arms : TArmTs) → AllFollow arms → (p k : ℕ) → Passes arms p k → p ≤ 2 ^ 32 → (γ : Goal) → 2 ≤ γ.skip → (t n m b : ℕ) (j : Jump) (w : World) (x : Side) → 8 ≤ t → t < n → γ.first ≤ t → HomeOf S ty γ.function own → γ.own ≡ own → Now γ (16 * labels arms) w x → x.temps t ≡ Num p → x.temps part.one ≡ Num 1
+    passes_sim : (arms : TArmTs) → AllFollow arms → (p k : ℕ) → Passes arms p k → p ≤ 2 ^ 32 → (γ : Goal) → 2 ≤ γ.skip → (t n m b : ℕ) (j : Jump) (w : World) (x : Side) → 8 ≤ t → t < n → γ.first ≤ t → HomeOf S.s S.code S.frames ty γ.function own → γ.own ≡ own → Now γ (16 * labels arms) w x → x.temps t ≡ Num p → x.temps part.one ≡ Num 1
         → SimD v γ b j k_next (does_arms S.s S.bound S.prev r k arms w) (R (low_arms h ty t arms n m b j) (mk w x))
     passes_sim NoB fs p zero ps fits γ skips t n m b j w x lt tn le home eo hn e e1 = (x, refl, less_now γ (16 * 0) w x hn)
     passes_sim NoB fs p (suc k) ps fits γ skips t n m b j w x lt tn le home eo hn e e1 = (x, refl, less_now γ (16 * 0) w x hn)
@@ -212,7 +212,7 @@ module _ (S : Site) where
         arms_run z wb y hy at =
             let γ = stmt n w x in
             sets S (SimD v γ b j (R c)) γ (16 + 16 * labels arms) wb y part.one (Num 1) (ConstO part.one 1) (part.made ks c2) (spare γ (24 + 16 * labels arms) (16 + 16 * labels arms + 8) wb y (omega arith) hy) (low_free γ part.one (omega arith)) refl (go z (on_store (fresh_all S.s.sizes ks) wb)) (λ y1 hy1 at1 rest1.
-            mades S ty γ (16 + 16 * labels arms) (SimD v γ b j (R c)) ks wb y1 c2 (subst (λ o. HomeOf S ty γ.function o) (sym eo) home) (subst (λ o. Below o ks) (sym eo) bl) hy1 (go z) (λ wc y2 hy2 same_temps.
+            mades S ty γ (16 + 16 * labels arms) (SimD v γ b j (R c)) ks wb y1 c2 (subst (λ o. HomeOf S.s S.code S.frames ty γ.function o) (sym eo) home) (subst (λ o. Below o ks) (sym eo) bl) hy1 (go z) (λ wc y2 hy2 same_temps.
             done_sim γ b j c (does_arms S.s S.bound S.prev r (arms_before z arms) arms wc) (R (low_arms h ty n arms (second e n) (beyond h e m) 0 (further j)) (mk wc (paid y2)))
                 (passes_sim arms fs (chosen z 0 (labels_before_default arms) arms) (arms_before z arms) (chosen_passes z arms) (chosen_fits z arms fits) γ (omega arith) n (second e n) (beyond h e m) 0 (further j) wc (paid y2) sn (omega arith) (omega arith) home eo
                     (paid_now γ (16 * labels arms) wc y2 (spare γ (16 + 16 * labels arms) (16 * labels arms + 8) wc y2 (omega arith) hy2)) (ap (λ f. f n) same_temps ∙ rest1 n (eqb_more n part.one (omega (arith, sn))) ∙ at) (ap (λ f. f part.one) same_temps ∙ at1))))

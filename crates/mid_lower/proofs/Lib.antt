@@ -22,4 +22,4 @@ mod LoopForms
 mod SwitchForms
 mod EveryStatement
 mod EveryBound
-mod Kept
+mod RunsKept

@@ -6,3 +6,6 @@ pub mod Expressions
 pub mod Initialisers
 pub mod Statements
 pub mod Lowered
+pub mod Levels
+pub mod SourceLoops
+pub mod LoweredFrom

@@ -1,6 +1,6 @@
 -- Initialisers: mid code follows them. A pointer to the object stands in p, and the part begins so many words behind it.
 use Rattle.std.proofs.Common.{◌≡◌, ℕ, zero, suc, ◌+◌, ◌*◌, ◌-◌, ◌%◌, ◌^◌, ◌<◌, ◌≤◌, Bool, true, false, eqb, List, [], ◌∷◌, ◌++◌, length, Option, Some, None, Ok, Err, refl, sym, ap, ◌∙◌, subst, arith, if◌then◌else◌}
-use Rattle.std.proofs.Math.Nat.{mod-add-mod}
+use Rattle.std.proofs.Math.Nat.{mod-add-mod, mod-eq_of_lt}
 use Rattle.c_tree.specs.declared.span.Span.{Span}
 use Rattle.c_types.specs.Types.{Ty, VoidY, IntY, BoolY, EnumY, StructY, UnionY, PointerY, ArrayY}
 use Rattle.c_types.specs.Sizes.{words_of}
@@ -59,8 +59,8 @@ way_went γ σ go = record { R = Went; stop = CutOff; T = λ r q. σ.T (then_wen
 abbrev pub part_of : (o offset : ℕ) → Cell
 part_of o offset = Ptr o (offset % 2 ^ 32)
 
-part_further : (o offset size : ℕ) → further (part_of o offset) size ≡ part_of o (offset + size)
-part_further o offset size = ap (λ k. Ptr o k) (mod-add-mod offset (2 ^ 32) size)
+part_further : (o offset size : ℕ) → further (part_of o offset) size ≡ part_of o ((offset + size) % 2 ^ 32)
+part_further o offset size = ap (λ k. Ptr o k) (mod-add-mod offset (2 ^ 32) size ∙ sym (mod-eq_of_lt (in_words (offset + size))))
 
 part_stepped : (o offset : ℕ) → step (Ptr o 0) offset ≡ Ok (part_of o offset)
 part_stepped o offset = ap (λ k. Ok (Ptr o (k % 2 ^ 32))) plain
@@ -108,7 +108,9 @@ module _ (S : Site) (bodies : BodiesFollow S) (γ : Goal) (skips : 2 ≤ γ.skip
 
   rest_sim : (ty : Ty) (k : ℕ) → RestFits h ty k → (σ : Way γ) (s0 o p offset : ℕ) (w : World) (x : Side) (c : NodesT ℕ) → Now γ (s0 + 40) w x → 7 ≤ p → x.temps p ≡ Ptr o 0 → (go : World → σ.R) → ((v : World) (y : Side) → Now γ s0 v y → ((j : ℕ) → scratch ≤ j → y.temps j ≡ x.temps j) → σ.T (go v) (R c (mk v y)))
       → σ.T (then_went σ.stop (rest_filled S.s S.bound ty k (part_of o offset) w) go) (R (low.low_rest h ty k p offset c) (mk w x))
-  rest_sim (ArrayY of len) k fits σ s0 o p offset w x c hn le e go f = zeros_sim σ s0 (words h of * (len - k)) o p offset fits w x c hn le e go f
+  rest_sim (ArrayY of len) k fits σ s0 o p offset w x c hn le e go f =
+      subst (λ q. σ.T (then_went σ.stop (cells_set nowhere 1 S.bound (words h of * (len - k)) None (part_of o offset) w) go) (R (low.part_zeroed p offset q c) (mk w x))) (sym (mod-eq_of_lt fits))
+      (zeros_sim σ s0 (words h of * (len - k)) o p offset (omega (arith, fits)) w x c hn le e go f)
   rest_sim VoidY k fits σ s0 o p offset w x c hn le e go f = f w x (spare γ (s0 + 40) s0 w x (omega arith) hn) (λ j g. refl)
   rest_sim IntY k fits σ s0 o p offset w x c hn le e go f = f w x (spare γ (s0 + 40) s0 w x (omega arith) hn) (λ j g. refl)
   rest_sim BoolY k fits σ s0 o p offset w x c hn le e go f = f w x (spare γ (s0 + 40) s0 w x (omega arith) hn) (λ j g. refl)
@@ -142,7 +144,7 @@ module _ (S : Site) (bodies : BodiesFollow S) (γ : Goal) (skips : 2 ≤ γ.skip
   text_sim number ty fits σ s0 o p offset n m w x c hn le ep go f =
       let w1 : World = spend 1 w in
       let size : ℕ = literal_words h number in
-      let more : NodesT ℕ = low.part_zeroed p (offset + size) (words h ty - size) c in
+      let more : NodesT ℕ = low.part_zeroed p ((offset + size) % 2 ^ 32) (words h ty - size) c in
       let rest_of : World → Went = λ v. cells_set nowhere 1 S.bound (words h ty - size) None (further (part_of o offset) size) v in
       let r : σ.R = then_went σ.stop (filled S.s S.bound S.prev (TextI number) ty (part_of o offset) w) go in
       sets S σ.T γ (s0 + 56) w1 x part.from (literal_at S.s number) (LiteralO part.from number) (low.part_at p offset (part.copied size more)) (spare γ (s0 + 64) (s0 + 56 + 8) w1 x (omega arith) (worked s0 w x hn)) (low_free γ part.from (omega arith)) (ap (λ k. to temporaries part.from (Ok (Ptr (k + number) 0)) (spent 8 (mk w1 x))) S.fits.first_literal) r (λ y hy at rest.
@@ -150,7 +152,7 @@ module _ (S : Site) (bodies : BodiesFollow S) (γ : Goal) (skips : 2 ≤ γ.skip
       subst (λ d. σ.T d (R (part.copied size more) (mk w1 z))) (sym (went_went σ.stop (cells_set nowhere 1 S.bound size (Some (literal_at S.s number)) (part_of o offset) w1) rest_of go))
       (copies S γ nowhere 1 (omega arith) σ (s0 + 24) size fits (literal_at S.s number) (part_of o offset) w1 z more (spare γ (s0 + 40) (s0 + 24 + 16) w1 z (omega arith) hz) (rest2 part.from refl ∙ at) at2 (λ v. then_went σ.stop (rest_of v) go) (λ v u hu others.
       subst (λ q. σ.T (then_went σ.stop (cells_set nowhere 1 S.bound (words h ty - size) None q v) go) (R more (mk v u))) (sym (part_further o offset size))
-      (zeros_sim σ s0 (words h ty - size) o p (offset + size) (let lt : words h ty < 2 ^ 32 = in_words (words_of h.layouts ty) in omega (arith, lt)) v u c (spare γ (s0 + 24 + 16) (s0 + 40) v u (omega arith) hu) le (others p (omega (arith, le)) ∙ rest2 p (eqb_more p part.to (omega (arith, le))) ∙ rest p (eqb_more p part.from (omega (arith, le))) ∙ ep) go
+      (zeros_sim σ s0 (words h ty - size) o p ((offset + size) % 2 ^ 32) (let lt : words h ty < 2 ^ 32 = in_words (words_of h.layouts ty) in omega (arith, lt)) v u c (spare γ (s0 + 24 + 16) (s0 + 40) v u (omega arith) hu) le (others p (omega (arith, le)) ∙ rest2 p (eqb_more p part.to (omega (arith, le))) ∙ rest p (eqb_more p part.from (omega (arith, le))) ∙ ep) go
           (λ v2 e he alike. f v2 e he (λ j g l. alike j (omega (arith, g)) ∙ others j (omega (arith, g)) ∙ rest2 j (eqb_more j part.to (omega (arith, g))) ∙ rest j (eqb_more j part.from (omega (arith, g))))))))))
 
   mutual
@@ -168,12 +170,12 @@ module _ (S : Site) (bodies : BodiesFollow S) (γ : Goal) (skips : 2 ≤ γ.skip
         let tp : Ty = part_type h.layouts ty k in
         let n2 : ℕ = n + init_temps i in
         let m2 : ℕ = m + length (init_sizes h i) in
-        let c2 : NodesT ℕ = low.low_inits h rest ty (k + 1) p (offset + words h tp) n2 m2 c in
+        let c2 : NodesT ℕ = low.low_inits h rest ty (k + 1) p ((offset + words h tp) % 2 ^ 32) n2 m2 c in
         let next : World → Went = λ v. all_filled S.s S.bound S.prev rest ty (k + 1) (further (part_of o offset) (words h tp)) v in
         subst (λ d. σ.T d (R (low.low_init h i tp p offset n m c2) (mk w x))) (sym (went_went σ.stop (filled S.s S.bound S.prev i tp (part_of o offset) w) next go))
         (fills_sim i tp fs.0 σ (s0 + 40) o p offset n m w x c2 hn le lt first ep (λ v. then_went σ.stop (next v) go)
         (λ v y hy keep. subst (λ q. σ.T (then_went σ.stop (all_filled S.s S.bound S.prev rest ty (k + 1) q v) go) (R c2 (mk v y))) (sym (part_further o offset (words h tp)))
-            (all_fill_sim rest ty (k + 1) fs.1 σ s0 o p (offset + words h tp) n2 m2 v y c hy le (omega (arith, lt)) (omega (arith, first)) (keep p le lt ∙ ep) go
+            (all_fill_sim rest ty (k + 1) fs.1 σ s0 o p ((offset + words h tp) % 2 ^ 32) n2 m2 v y c hy le (omega (arith, lt)) (omega (arith, first)) (keep p le lt ∙ ep) go
                 (λ v2 z hz keep2. f v2 z hz (λ j g l. keep2 j g (omega (arith, l)) ∙ keep j g l)))))
 
   -- ---- variables

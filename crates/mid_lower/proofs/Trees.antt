@@ -42,7 +42,7 @@ PlainValue x = Plain x × IsScalar x
 -- ---- initialisers: of scalars one by one, of texts and of lists; so many words are set to 0 behind the last item
 
 abbrev pub RestFits : Shape → Ty → (k : ℕ) → Type 0
-RestFits h (ArrayY of len) k = words h of * (len - k) ≤ 2 ^ 32
+RestFits h (ArrayY of len) k = words h of * (len - k) < 2 ^ 32
 RestFits h _ k = Unit {0}
 
 abbrev mutual

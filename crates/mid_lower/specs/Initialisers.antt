@@ -1,5 +1,6 @@
--- Initialisers lowered to mid code. A pointer to the object stands in p; the part that is filled begins so many words behind it.
-use Rattle.std.specs.Prelude.{ℕ, zero, suc, ◌+◌, ◌-◌, ◌*◌, Bool, true, false, List, [], ◌∷◌, length, if◌then◌else◌}
+-- Initialisers lowered to mid code. A pointer to the object stands in p; the part that is filled begins so many words behind it. Offsets and sizes are
+-- words, as in the meaning; in a program they are small.
+use Rattle.std.specs.Prelude.{ℕ, zero, suc, ◌+◌, ◌-◌, ◌*◌, ◌%◌, ◌^◌, Bool, true, false, List, [], ◌∷◌, length, if◌then◌else◌}
 use Rattle.c_types.specs.Types.{Ty, ArrayY}
 use Rattle.c_types.specs.Typed.{TInitT, OneI, TextI, ListI, TInitTs, NoI, MoreI, TVarT}
 use Rattle.c_meaning.specs.Kinds.{is_structure}
@@ -33,11 +34,11 @@ part_zeroed p offset (suc left) c = part_at p offset (zeroed (suc left) c)
 abbrev pub low_text : Shape → (number size p offset : ℕ) → Nodes → Nodes
 low_text h number size p offset c =
     Do (LiteralO from number) (part_at p offset (copied (literal_words h number)
-    (part_zeroed p (offset + literal_words h number) (size - literal_words h number) c)))
+    (part_zeroed p ((offset + literal_words h number) % 2 ^ 32) (size - literal_words h number) c)))
 
 -- the elements of an array from a number on are set to 0
 abbrev pub low_rest : Shape → Ty → (k : ℕ) → (p offset : ℕ) → Nodes → Nodes
-low_rest h (ArrayY of len) k p offset c = part_zeroed p offset (words h of * (len - k)) c
+low_rest h (ArrayY of len) k p offset c = part_zeroed p offset (words h of * (len - k) % 2 ^ 32) c
 low_rest h _ k p offset c = c
 
 abbrev mutual
@@ -51,7 +52,7 @@ abbrev mutual
   low_inits h NoI ty k p offset n m c = low_rest h ty k p offset c
   low_inits h (MoreI i rest) ty k p offset n m c =
       low_init h i (part_type h.layouts ty k) p offset n m
-      (low_inits h rest ty (k + 1) p (offset + words h (part_type h.layouts ty k)) (n + init_temps i) (m + length (init_sizes h i)) c)
+      (low_inits h rest ty (k + 1) p ((offset + words h (part_type h.layouts ty k)) % 2 ^ 32) (n + init_temps i) (m + length (init_sizes h i)) c)
 
 -- ---- variables
 

@@ -105,7 +105,7 @@ module _ (S : Site) (γ : Goal) (span : Span) (cost : ℕ) (some : 1 ≤ cost) w
   copy_tail n left s0 x0 lt o i p j w y h keep ec e1 ef et f =
       let r : Went = next_turn left n w (λ m v. cells_set span cost m left (Some (further (Ptr o i) 1)) (further (Ptr p j) 1) v) in
       sets (site_at S n) (way_turn n part.copy_turn s0 x0).T γ (s0 + 32) w y part.count (Num left) (TwoO ISUB part.count part.count part.one) (Choose part.count copy_steps Stop Stop) (spare γ (s0 + 40) (s0 + 32 + 8) w y (omega arith) h) (low_free γ part.count (omega arith))
-          (ap (λ q. to temporaries part.count q (spent 8 (mk w y))) (two_eq ISUB (Num (suc left)) (Num 1) (y.temps part.count) (y.temps part.one) ec e1 ∙ ap (λ k. Ok (Num k)) (sub_one left lt))) r
+      (ap (λ q. to temporaries part.count q (spent 8 (mk w y))) (two_eq ISUB (Num (suc left)) (Num 1) (y.temps part.count) (y.temps part.one) ec e1 ∙ ap (λ k. Ok (Num k)) (sub_one left lt))) r
       (λ z hz at rest. chosen left refl z hz at (λ k le. rest k (eqb_more k part.count (omega (arith, le))) ∙ keep k le) (rest part.one refl ∙ e1) (rest part.from refl ∙ ef) (rest part.to refl ∙ et))
     where
       chosen : (l : ℕ) → left ≡ l → (z : Side) → Now γ (s0 + 32) w z → z.temps part.count ≡ Num l → Others x0 z → z.temps part.one ≡ Num 1 → z.temps part.from ≡ Ptr o i → z.temps part.to ≡ Ptr p j
@@ -131,7 +131,7 @@ module _ (S : Site) (γ : Goal) (span : Span) (cost : ℕ) (some : 1 ≤ cost) w
       let w1 : World = spend cost w in
       subst (λ r. SimL γ s0 x r (M (site_at S n) (Loop part.copy_turn Stop) (mk w x))) (sym (asked_then CutOff span w1 (read w.store.objects (Ptr o i)) (λ c. write w.store.objects q c) (next q)))
       (op (site_at S n) γ (way_turn n part.copy_turn s0 x) (s0 + 48) span w1 (paid x) part.cell (read w.store.objects (Ptr o i)) (read x.objs (x.temps part.from)) (LoadO part.cell part.from) (Do (StoreO part.to part.cell) tail) (paid_now γ (s0 + 48 + 8) w1 x (spare γ (s0 + 64) (s0 + 48 + 8 + 8) w1 x (omega arith) (counted s0 w x h))) (low_free γ part.cell (omega arith))
-          (from_eq (read w.store.objects (Ptr o i)) (read x.objs (Ptr o i)) (read x.objs (x.temps part.from)) (ap (λ u. read x.objs u) ef) (read_both w.store.objects x.objs (Ptr o i) h.stays.under)) refl (λ c. asked CutOff span w1 (write w.store.objects q c) (next q))
+      (from_eq (read w.store.objects (Ptr o i)) (read x.objs (Ptr o i)) (read x.objs (x.temps part.from)) (ap (λ u. read x.objs u) ef) (read_both w.store.objects x.objs (Ptr o i) h.stays.under)) refl (λ c. asked CutOff span w1 (write w.store.objects q c) (next q))
       (λ c y hy at rest. written q c y hy at (λ k le. rest k (eqb_more k part.cell (omega (arith, le)))) (rest part.count refl ∙ ec) (rest part.one refl ∙ e1) (rest part.from refl ∙ ef) (rest part.to refl ∙ et)))
     where
       tail : NodesT ℕ
@@ -145,8 +145,8 @@ module _ (S : Site) (γ : Goal) (span : Span) (cost : ℕ) (some : 1 ≤ cost) w
       written (Ptr p j) c y hy at keep ec2 e12 ef2 et2 =
           stores (site_at S n) γ (way_turn n part.copy_turn s0 x) span (spend cost w) (s0 + 40) y part.to part.cell (Ptr p j) c tail (spare γ (s0 + 48) (s0 + 40 + 8) (spend cost w) y (omega arith) hy) et2 at (λ u. next_turn left n u (λ m v. cells_set span cost m left (Some (further (Ptr o i) 1)) (further (Ptr p j) 1) v))
           (λ os z hz alike. copy_tail n left s0 x lt o i p j (on_store (with_objects os) (spend cost w)) z hz (λ k le. alike k ∙ keep k le) (alike part.count ∙ ec2) (alike part.one ∙ e12) (alike part.from ∙ ef2) (alike part.to ∙ et2)
-              (λ m l em el u hu euc eu1 euf eut. subst (λ k. SimL γ s0 u (cells_set span cost m k (Some (further (Ptr o i) 1)) (further (Ptr p j) 1) (on_store (with_objects os) (spend cost w))) (M (site_at S m) (Loop part.copy_turn Stop) (mk (on_store (with_objects os) (spend cost w)) u))) (sym el)
-                  (rec m l em el s0 (omega (arith, lt, el)) (further (Ptr o i) 1) (further (Ptr p j) 1) (on_store (with_objects os) (spend cost w)) u hu euc eu1 euf eut)))
+          (λ m l em el u hu euc eu1 euf eut. subst (λ k. SimL γ s0 u (cells_set span cost m k (Some (further (Ptr o i) 1)) (further (Ptr p j) 1) (on_store (with_objects os) (spend cost w))) (M (site_at S m) (Loop part.copy_turn Stop) (mk (on_store (with_objects os) (spend cost w)) u))) (sym el)
+          (rec m l em el s0 (omega (arith, lt, el)) (further (Ptr o i) 1) (further (Ptr p j) 1) (on_store (with_objects os) (spend cost w)) u hu euc eu1 euf eut)))
       written Unwritten c y hy at keep ec2 e12 ef2 et2 = (way_turn n part.copy_turn s0 x).stops (Stray span) (spend cost w) (M (site_at S n) (Do (StoreO part.to part.cell) tail) (mk (spend cost w) y)) (M_grows (site_at S n) (Do (StoreO part.to part.cell) tail) (mk (spend cost w) y))
       written (Num k) c y hy at keep ec2 e12 ef2 et2 = (way_turn n part.copy_turn s0 x).stops (Stray span) (spend cost w) (M (site_at S n) (Do (StoreO part.to part.cell) tail) (mk (spend cost w) y)) (M_grows (site_at S n) (Do (StoreO part.to part.cell) tail) (mk (spend cost w) y))
       written Null c y hy at keep ec2 e12 ef2 et2 = (way_turn n part.copy_turn s0 x).stops (Stray span) (spend cost w) (M (site_at S n) (Do (StoreO part.to part.cell) tail) (mk (spend cost w) y)) (M_grows (site_at S n) (Do (StoreO part.to part.cell) tail) (mk (spend cost w) y))
@@ -172,7 +172,7 @@ module _ (S : Site) (γ : Goal) (span : Span) (cost : ℕ) (some : 1 ≤ cost) w
   zero_step n left rec s0 lt (Ptr p j) w x h ec e1 ez et =
       stores (site_at S n) γ (way_turn n part.zero_turn s0 x) span w1 (s0 + 48) (paid x) part.to part.cell (Ptr p j) (Num 0) tail (paid_now γ (s0 + 48 + 8) w1 x (spare γ (s0 + 64) (s0 + 48 + 8 + 8) w1 x (omega arith) (counted s0 w x h))) et ez next
       (λ os z hz alike. sets (site_at S n) (way_turn n part.zero_turn s0 x).T γ (s0 + 40) (on_store (with_objects os) w1) z part.count (Num left) (TwoO ISUB part.count part.count part.one) (Choose part.count zero_steps Stop Stop) (spare γ (s0 + 48) (s0 + 40 + 8) (on_store (with_objects os) w1) z (omega arith) hz) (low_free γ part.count (omega arith))
-          (ap (λ q. to temporaries part.count q (spent 8 (mk (on_store (with_objects os) w1) z))) (two_eq ISUB (Num (suc left)) (Num 1) (z.temps part.count) (z.temps part.one) (alike part.count ∙ ec) (alike part.one ∙ e1) ∙ ap (λ k. Ok (Num k)) (sub_one left lt))) (next (on_store (with_objects os) w1))
+      (ap (λ q. to temporaries part.count q (spent 8 (mk (on_store (with_objects os) w1) z))) (two_eq ISUB (Num (suc left)) (Num 1) (z.temps part.count) (z.temps part.one) (alike part.count ∙ ec) (alike part.one ∙ e1) ∙ ap (λ k. Ok (Num k)) (sub_one left lt))) (next (on_store (with_objects os) w1))
       (λ y hy at rest. chosen os left refl y hy at (λ k le. rest k (eqb_more k part.count (omega (arith, le))) ∙ alike k) (rest part.one refl ∙ alike part.one ∙ e1) (rest part.cell refl ∙ alike part.cell ∙ ez) (rest part.to refl ∙ alike part.to ∙ et)))
     where
       w1 : World
@@ -199,7 +199,7 @@ module _ (S : Site) (γ : Goal) (span : Span) (cost : ℕ) (some : 1 ≤ cost) w
           let hb2 = paid_now γ s0 v b (spare γ (s0 + 24) (s0 + 8) v b (omega arith) hb) in
           again n part.zero_turn s0 x l v (paid b) (λ m u. cells_set span cost m left None (further (Ptr p j) 1) u) hb2 (λ k le. restb k (eqb_more k part.to (omega (arith, le))) ∙ kz k le)
           (λ m em. subst (λ k. SimL γ s0 (paid b) (cells_set span cost m k None (further (Ptr p j) 1) v) (M (site_at S m) (Loop part.zero_turn Stop) (mk v (paid b)))) (sym el)
-              (rec m l em el s0 (omega (arith, lt, el)) (further (Ptr p j) 1) v (paid b) hb2 (restb part.count refl ∙ at) (restb part.one refl ∙ e1z) (restb part.cell refl ∙ ezz) atb))))
+          (rec m l em el s0 (omega (arith, lt, el)) (further (Ptr p j) 1) v (paid b) hb2 (restb part.count refl ∙ at) (restb part.one refl ∙ e1z) (restb part.cell refl ∙ ezz) atb))))
   zero_step n left rec s0 lt Unwritten w x h ec e1 ez et = M_grows (site_at S n) (Loop part.zero_turn Stop) (mk w x)
   zero_step n left rec s0 lt (Num k) w x h ec e1 ez et = M_grows (site_at S n) (Loop part.zero_turn Stop) (mk w x)
   zero_step n left rec s0 lt Null w x h ec e1 ez et = M_grows (site_at S n) (Loop part.zero_turn Stop) (mk w x)
@@ -230,7 +230,7 @@ module _ (S : Site) (γ : Goal) (span : Span) (cost : ℕ) (some : 1 ≤ cost) w
       sets S σ.T γ s0 w y part.one (Num 1) (ConstO part.one 1) (Loop part.copy_turn c) hy (low_free γ part.one (omega arith)) refl r (λ z hz at2 rest2.
       subst (σ.T r) (looped part.copy_turn c (mk w z))
       (after_loop σ s0 z c go (λ v u hu others. f v u hu (λ j g. others j g ∙ rest2 j (eqb_more j part.one (omega (arith, g))) ∙ rest j (eqb_more j part.count (omega (arith, g))))) (cells_set span cost S.bound (suc left) (Some p) q w) (M (site_at S S.bound) (Loop part.copy_turn Stop) (mk w z))
-          (copy_loop left S.bound s0 (omega (arith, le)) p q w z hz (rest2 part.count refl ∙ at) at2 (rest2 part.from refl ∙ rest part.from refl ∙ ef) (rest2 part.to refl ∙ rest part.to refl ∙ et)))))
+      (copy_loop left S.bound s0 (omega (arith, le)) p q w z hz (rest2 part.count refl ∙ at) at2 (rest2 part.from refl ∙ rest part.from refl ∙ ef) (rest2 part.to refl ∙ rest part.to refl ∙ et)))))
 
   -- so many cells are set to 0
   pub zeroes : (σ : Way γ) (s0 size : ℕ) → size ≤ 2 ^ 32 → (q : Cell) (w : World) (x : Side) (c : NodesT ℕ) → Now γ (s0 + 24) w x → x.temps part.to ≡ q → (go : World → σ.R) → ((v : World) (y : Side) → Now γ (s0 + 16) v y → Others x y → σ.T (go v) (M S c (mk v y)))
@@ -243,4 +243,4 @@ module _ (S : Site) (γ : Goal) (span : Span) (cost : ℕ) (some : 1 ≤ cost) w
       sets S σ.T γ s0 w z part.cell (Num 0) (ConstO part.cell 0) (Loop part.zero_turn c) hz (low_free γ part.cell (omega arith)) refl r (λ u hu at3 rest3.
       subst (σ.T r) (looped part.zero_turn c (mk w u))
       (after_loop σ s0 u c go (λ v e he others. f v e he (λ j g. others j g ∙ rest3 j (eqb_more j part.cell (omega (arith, g))) ∙ rest2 j (eqb_more j part.one (omega (arith, g))) ∙ rest j (eqb_more j part.count (omega (arith, g))))) (cells_set span cost S.bound (suc left) None q w) (M (site_at S S.bound) (Loop part.zero_turn Stop) (mk w u))
-          (zero_loop left S.bound s0 (omega (arith, le)) q w u hu (rest3 part.count refl ∙ rest2 part.count refl ∙ at) (rest3 part.one refl ∙ at2) at3 (rest3 part.to refl ∙ rest2 part.to refl ∙ rest part.to refl ∙ et))))))
+      (zero_loop left S.bound s0 (omega (arith, le)) q w u hu (rest3 part.count refl ∙ rest2 part.count refl ∙ at) (rest3 part.one refl ∙ at2) at3 (rest3 part.to refl ∙ rest2 part.to refl ∙ rest part.to refl ∙ et))))))

@@ -84,11 +84,11 @@ module _ (S : Site) where
         let q : Answer Cell = then_ask (equal_pointers w.store.objects v Null) (λ b. Ok (truth (not b))) in
         subst (λ r. σ.T r (R (part.tested_as (PointerY of) t c) (mk w x))) (sym (not_null w (equal_pointers w.store.objects v Null)))
         (sets S σ.T γ (s0 + 8) w x part.other Null (NullO part.other) (Do (PtrTestO INE t t part.other) c) (spare γ (s0 + 16) (s0 + 8 + 8) w x (omega arith) h0) (low_free γ part.other (omega arith)) refl
-            (asked σ.stop span w q (λ z. asked σ.stop span w (then_ask (word_of z) (λ i. Ok (not (i == 0)))) (λ b. either_way b w go last))) (λ y hy at rest.
+        (asked σ.stop span w q (λ z. asked σ.stop span w (then_ask (word_of z) (λ i. Ok (not (i == 0)))) (λ b. either_way b w go last))) (λ y hy at rest.
         op_of S γ σ s0 span w y t q (pointers_tested INE y.objs (y.temps t) (y.temps part.other)) (PtrTestO INE t t part.other) c hy free
-            (from_eq q (pointers_tested INE y.objs v Null) (pointers_tested INE y.objs (y.temps t) (y.temps part.other)) (tested_eq INE y.objs v Null (y.temps t) (y.temps part.other) (rest t (eqb_more t part.other (omega (arith, st))) ∙ e) at) (then_both (equal_pointers w.store.objects v Null) (equal_pointers y.objs v Null) _ _ (equal_both w.store.objects y.objs v Null hy.stays.under) (λ z. refl))) refl
-            (λ z. asked σ.stop span w (then_ask (word_of z) (λ i. Ok (not (i == 0)))) (λ b. either_way b w go last))
-            (λ z qz u hu at2 rest2. test_word s0 (flag || true) w u z (λ fl. answered_flag q z (not_flag (equal_pointers w.store.objects v Null)) qz) hu at2 (λ j a b ne. rest2 j ne ∙ rest j (eqb_more j part.other (omega (arith, a))) ∙ below j a b ne) f)))
+        (from_eq q (pointers_tested INE y.objs v Null) (pointers_tested INE y.objs (y.temps t) (y.temps part.other)) (tested_eq INE y.objs v Null (y.temps t) (y.temps part.other) (rest t (eqb_more t part.other (omega (arith, st))) ∙ e) at) (then_both (equal_pointers w.store.objects v Null) (equal_pointers y.objs v Null) _ _ (equal_both w.store.objects y.objs v Null hy.stays.under) (λ z. refl))) refl
+        (λ z. asked σ.stop span w (then_ask (word_of z) (λ i. Ok (not (i == 0)))) (λ b. either_way b w go last))
+        (λ z qz u hu at2 rest2. test_word s0 (flag || true) w u z (λ fl. answered_flag q z (not_flag (equal_pointers w.store.objects v Null)) qz) hu at2 (λ j a b ne. rest2 j ne ∙ rest j (eqb_more j part.other (omega (arith, a))) ∙ below j a b ne) f)))
     test_as s0 flag w x VoidY v k h0 free e below f = test_word s0 (flag || false) w x v (λ fl. k (or_false flag fl)) (spare γ (s0 + 16) s0 w x (omega arith) h0) e below f
     test_as s0 flag w x IntY v k h0 free e below f = test_word s0 (flag || false) w x v (λ fl. k (or_false flag fl)) (spare γ (s0 + 16) s0 w x (omega arith) h0) e below f
     test_as s0 flag w x BoolY v k h0 free e below f = test_word s0 (flag || false) w x v (λ fl. k (or_false flag fl)) (spare γ (s0 + 16) s0 w x (omega arith) h0) e below f
@@ -125,7 +125,7 @@ module _ (S : Site) where
       let ty : Ty = type_of e in
       converts S γ σ span w (s0 + 8) x ty known a v (Do (StoreO p a) c) (spare γ (s0 + 16) (s0 + 8 + 8) w x (omega arith) h0) free ev flag (λ z. then_went Stops (stored S.s S.bound 0 ty (span_of e) vp z w) (λ u. Value z u))
       (λ z y hy at rest.
-          subst (λ b. T (then_went Stops (if b then cells_set (span_of e) (0 + 1) S.bound (words h ty) (Some z) vp w else asked CutOff (span_of e) (spend 0 w) (write w.store.objects vp z) (λ os. Through (on_store (with_objects os) (spend 0 w)))) (λ u. Value z u)) (R (Do (StoreO p a) c) (mk w y))) (sym ns)
-          (subst (λ r. T r (R (Do (StoreO p a) c) (mk w y))) (sym (went_asked Stops (span_of e) (spend 0 w) (write w.store.objects vp z) (λ os. on_store (with_objects os) (spend 0 w)) (λ u. Value z u)))
-          (stores S γ σ (span_of e) (spend 0 w) s0 y p a vp z c (nothing_spent γ (s0 + 8) w y hy) (rest p ne ∙ ep) at (λ u. Value z u)
-              (λ os u hu alike. f z (on_store (with_objects os) (spend 0 w)) u hu (alike a ∙ at) (λ j nj. alike j ∙ rest j nj)))))
+      subst (λ b. T (then_went Stops (if b then cells_set (span_of e) (0 + 1) S.bound (words h ty) (Some z) vp w else asked CutOff (span_of e) (spend 0 w) (write w.store.objects vp z) (λ os. Through (on_store (with_objects os) (spend 0 w)))) (λ u. Value z u)) (R (Do (StoreO p a) c) (mk w y))) (sym ns)
+      (subst (λ r. T r (R (Do (StoreO p a) c) (mk w y))) (sym (went_asked Stops (span_of e) (spend 0 w) (write w.store.objects vp z) (λ os. on_store (with_objects os) (spend 0 w)) (λ u. Value z u)))
+      (stores S γ σ (span_of e) (spend 0 w) s0 y p a vp z c (nothing_spent γ (s0 + 8) w y hy) (rest p ne ∙ ep) at (λ u. Value z u)
+      (λ os u hu alike. f z (on_store (with_objects os) (spend 0 w)) u hu (alike a ∙ at) (λ j nj. alike j ∙ rest j nj)))))

@@ -66,9 +66,10 @@ firsts_same a (ty ∷ tys) (v ∷ vs) ρ ρ' e h = (e a (omega arith) ∙ h.0, f
 firsts_received : (a : ℕ) (tys : List Ty) (vs : List Cell) → Firsts a tys vs (received temporaries (args_from a tys) vs)
 firsts_received a [] vs = tt
 firsts_received a (ty ∷ tys) [] = tt
-firsts_received a (ty ∷ tys) (v ∷ vs) =
-    (ap (λ b. cond b v (received temporaries (args_from (a + 1) tys) vs a)) (eq-eqb a a refl),
-    firsts_same (a + 1) tys vs (received temporaries (args_from (a + 1) tys) vs) (received temporaries (args_from a (ty ∷ tys)) (v ∷ vs)) (λ j le. ap (λ b. cond b v (received temporaries (args_from (a + 1) tys) vs j)) (eqb_more j a (omega (arith, le)))) (firsts_received (a + 1) tys vs))
+firsts_received a (ty ∷ tys) (v ∷ vs) = (
+  ap (λ b. cond b v (received temporaries (args_from (a + 1) tys) vs a)) (eq-eqb a a refl),
+  firsts_same (a + 1) tys vs (received temporaries (args_from (a + 1) tys) vs) (received temporaries (args_from a (ty ∷ tys)) (v ∷ vs)) (λ j le. ap (λ b. cond b v (received temporaries (args_from (a + 1) tys) vs j)) (eqb_more j a (omega (arith, le)))) (firsts_received (a + 1) tys vs),
+)
 
 -- the address of a parameter stands in a fixed temporary
 param_fixed : (k : ℕ) → part.param_at k < 16
@@ -123,14 +124,14 @@ module _ (S : Site) (v : Bool) where
       let inside : Cell → Went = λ p. then_went CutOff (stored S.s S.bound 0 ty nowhere p z w) rest in
       subst (λ q. SimF v γ (then_went Ended (asked CutOff nowhere w (first_cell (local_object w.store.locals k)) inside) go) (R (if q then Do (MoveO part.from a) (Do (LocalO part.to k) (part.copied (words h ty) c1)) else Do (LocalO t k) (Do (StoreO t a) c1)) (mk w x))) (sym sc.0)
       (op S γ (way_w γ go) (s0 + 16 * length vs + 8) nowhere w x t (first_cell (local_object w.store.locals k)) (first_cell (local_object (w.store.locals ++ x.extra) k)) (LocalO t k) (Do (StoreO t a) c1)
-          (spare γ (s0 + 16 * suc (length vs)) (s0 + 16 * length vs + 8 + 8) w x (omega arith) h0) (λ j g l ne. absurd (omega (arith, l, e))) (local_front w.store.locals x.extra k) refl inside
+      (spare γ (s0 + 16 * suc (length vs)) (s0 + 16 * length vs + 8 + 8) w x (omega arith) h0) (λ j g l ne. absurd (omega (arith, l, e))) (local_front w.store.locals x.extra k) refl inside
       (λ p y hy at keep.
-          subst (λ d. SimF v γ d (R (Do (StoreO t a) c1) (mk w y))) (sym (went_went Ended (stored S.s S.bound 0 ty nowhere p z w) rest go))
-          (subst (λ q. SimF v γ (then_went Ended (if q then cells_set nowhere (0 + 1) S.bound (words h ty) (Some z) p w else asked CutOff nowhere (spend 0 w) (write w.store.objects p z) (λ os. Through (on_store (with_objects os) (spend 0 w)))) (λ u. then_went Ended (rest u) go)) (R (Do (StoreO t a) c1) (mk w y))) (sym sc.0)
-          (subst (λ d. SimF v γ d (R (Do (StoreO t a) c1) (mk w y))) (sym (went_asked Ended nowhere (spend 0 w) (write w.store.objects p z) (λ os. on_store (with_objects os) (spend 0 w)) (λ u. then_went Ended (rest u) go)))
-          (stores S γ (way_f γ) nowhere (spend 0 w) (s0 + 16 * length vs) y t a p z c1 (zero_now γ (s0 + 16 * length vs + 8) w y hy) at (keep a (eqb_more a t (omega (arith, sa, small))) ∙ fs.0) (λ u. then_went Ended (rest u) go)
-              (λ os u hu alike. params_sim γ tys sc.1 vs s0 (k + 1) (a + 1) (on_store (with_objects os) (spend 0 w)) u c e (omega (arith, sa)) hu
-                  (firsts_same (a + 1) tys vs x.temps u.temps (λ j le. alike j ∙ keep j (eqb_more j t (omega (arith, le, sa, small)))) fs.1) go f))))))
+      subst (λ d. SimF v γ d (R (Do (StoreO t a) c1) (mk w y))) (sym (went_went Ended (stored S.s S.bound 0 ty nowhere p z w) rest go))
+      (subst (λ q. SimF v γ (then_went Ended (if q then cells_set nowhere (0 + 1) S.bound (words h ty) (Some z) p w else asked CutOff nowhere (spend 0 w) (write w.store.objects p z) (λ os. Through (on_store (with_objects os) (spend 0 w)))) (λ u. then_went Ended (rest u) go)) (R (Do (StoreO t a) c1) (mk w y))) (sym sc.0)
+      (subst (λ d. SimF v γ d (R (Do (StoreO t a) c1) (mk w y))) (sym (went_asked Ended nowhere (spend 0 w) (write w.store.objects p z) (λ os. on_store (with_objects os) (spend 0 w)) (λ u. then_went Ended (rest u) go)))
+      (stores S γ (way_f γ) nowhere (spend 0 w) (s0 + 16 * length vs) y t a p z c1 (zero_now γ (s0 + 16 * length vs + 8) w y hy) at (keep a (eqb_more a t (omega (arith, sa, small))) ∙ fs.0) (λ u. then_went Ended (rest u) go)
+      (λ os u hu alike. params_sim γ tys sc.1 vs s0 (k + 1) (a + 1) (on_store (with_objects os) (spend 0 w)) u c e (omega (arith, sa)) hu
+      (firsts_same (a + 1) tys vs x.temps u.temps (λ j le. alike j ∙ keep j (eqb_more j t (omega (arith, le, sa, small)))) fs.1) go f))))))
 
   -- the body stands in a block
   blocked : (γ : Goal) (w0 : World) (x0 : Side) (m : ℕ) → Now γ 0 w0 x0 → (d : Done) (q : Res Mid) → SimD v (plain m w0 x0) 0 (ToEnd 0) (λ t. Next t) d q → SimF v γ d (then_next (block_done q) (R Stop))
@@ -165,12 +166,12 @@ module _ (s : Setting) (code : CodeT ℕ) (frames : List ℕ) (lowers : Lowers s
       subst (λ o. SimF void γ (body_of s i (below s i) o vs Unwritten w1) (M S (function_at code f).body (mk w1 x1))) (sym eg)
       (subst (λ c. SimF void γ (body_of s i (below s i) (Some g) vs Unwritten w1) (M S c (mk w1 x1))) (sym (lowers.body f g eg))
       (mades S g.gives γ (8 + 16 * length vs) (SimF void γ) g.made w1 x1 (all_received (shape_in s) g.params 0 part.first_param (Block cb Stop)) (subst (λ o. HomeOf s code frames g.gives (Some f) o) (sym counts) home) (subst (λ o. Below o g.made) (sym counts) (lowers.made f g eg))
-          (record { stays = record { under = u; same_function = refl; same_own = refl }; below = λ j a lt ne. refl; cost = omega arith })
-          (λ y. then_went Ended (params_stored s i 0 g.params vs y) (does_all s i (below s i) Unwritten g.body))
+      (record { stays = record { under = u; same_function = refl; same_own = refl }; below = λ j a lt ne. refl; cost = omega arith })
+      (λ y. then_went Ended (params_stored s i 0 g.params vs y) (does_all s i (below s i) Unwritten g.body))
       (λ wa xa ha same_temps. params_sim S void γ g.params sc.0 vs 8 0 part.first_param wa xa (Block cb Stop) refl (omega arith) ha
-          (subst (Firsts part.first_param g.params vs) (sym same_temps) (subst (λ ps. Firsts part.first_param g.params vs (received temporaries ps vs)) (sym (lowers.fits.params f g eg)) (firsts_received part.first_param g.params vs))) (does_all s i (below s i) Unwritten g.body)
+      (subst (Firsts part.first_param g.params vs) (sym same_temps) (subst (λ ps. Firsts part.first_param g.params vs (received temporaries ps vs)) (sym (lowers.fits.params f g eg)) (firsts_received part.first_param g.params vs))) (does_all s i (below s i) Unwritten g.body)
       (λ wb xb hb. blocked S void γ wb (paid xb) n (paid_now γ 0 wb xb hb) (does_all s i (below s i) Unwritten g.body wb) (M S cb (mk wb (paid xb)))
-          (all_sim S before Unwritten g.gives void own g.body (lowers.tidy f g eg) n (length g.locals) 0 (ToEnd 0) Stop wb (paid xb) (omega arith) hb.stays.under (subst (λ fn. HomeOf s code frames g.gives fn own) (sym hb.stays.same_function) home) (hb.stays.same_own ∙ counts))))))
+      (all_sim S before Unwritten g.gives void own g.body (lowers.tidy f g eg) n (length g.locals) 0 (ToEnd 0) Stop wb (paid xb) (omega arith) hb.stays.under (subst (λ fn. HomeOf s code frames g.gives fn own) (sym hb.stays.same_function) home) (hb.stays.same_own ∙ counts))))))
 
   abbrev its_shape : Shape
   its_shape = shape_in s

@@ -74,11 +74,11 @@ module _ (S : Site) (before : Earlier S) (r : Cell) (ty : Ty) (v : Bool) (own : 
       uses S γ σ 24 n (n + 1) m w x (part.converted ty (is_flag e) n c1) h0 (above_free γ n le) (omega (arith, le)) (omega (arith, sn)) (omega arith) e sc.1
       (λ d u. asked Ended (span_of e) u (converted (result_of S.s u.store.function) d) (λ z. returned_as S.s S.bound (result_of S.s u.store.function) r z u)) (sim S before r ty v own e sc)
       (λ d wa xa flag ha at below.
-          subst (λ t. SimD v γ b j k (asked Ended (span_of e) wa (converted t d) (λ z. returned_as S.s S.bound t r z wa)) (R (part.converted ty (is_flag e) n c1) (mk wa xa))) (sym (ap (λ fn. result_of S.s fn) ha.stays.same_function ∙ home.result))
-          (converts S γ σ (span_of e) wa 44 xa ty (is_flag e) n d c1 ha (above_free γ n le) at flag (λ z. returned_as S.s S.bound ty r z wa)
-          (λ z xb hb eb rest.
-              subst (λ q. SimD v γ b j k (if q then then_went Ended (cells_set nowhere 1 S.bound (words h ty) (Some z) r wa) (λ y. Returns (Some r) (on_store (released ty z) y)) else Returns (Some z) wa) (R (if q then Do (MoveO part.from n) (Do (MoveO part.to part.result_at) (part.copied (words h ty) (Return no_place c))) else Return (Some n) c) (mk wa xb))) (sym home.scalar)
-              (gives, record (paid xb) { given = xb.temps n }, refl, record { under = hb.stays.under; cost = omega (arith, hb.cost) }, eb))))
+      subst (λ t. SimD v γ b j k (asked Ended (span_of e) wa (converted t d) (λ z. returned_as S.s S.bound t r z wa)) (R (part.converted ty (is_flag e) n c1) (mk wa xa))) (sym (ap (λ fn. result_of S.s fn) ha.stays.same_function ∙ home.result))
+      (converts S γ σ (span_of e) wa 44 xa ty (is_flag e) n d c1 ha (above_free γ n le) at flag (λ z. returned_as S.s S.bound ty r z wa)
+      (λ z xb hb eb rest.
+      subst (λ q. SimD v γ b j k (if q then then_went Ended (cells_set nowhere 1 S.bound (words h ty) (Some z) r wa) (λ y. Returns (Some r) (on_store (released ty z) y)) else Returns (Some z) wa) (R (if q then Do (MoveO part.from n) (Do (MoveO part.to part.result_at) (part.copied (words h ty) (Return no_place c))) else Return (Some n) c) (mk wa xb))) (sym home.scalar)
+      (gives, record (paid xb) { given = xb.temps n }, refl, record { under = hb.stays.under; cost = omega (arith, hb.cost) }, eb))))
 
   mutual
     pub stmt_sim : (a : TStmtT) → PlainStmt h own v a → FollowStmt S before r ty v own a
@@ -105,10 +105,10 @@ module _ (S : Site) (before : Earlier S) (r : Cell) (ty : Ty) (v : Bool) (own : 
         let cb : NodesT ℕ = low_other h ty rest nb mb b j Stop in
         tests S γ σ 24 n (n + 1) m (tick w) x (Choose n ca cb c) (begin_stmt n w x u) (above_free γ n (omega arith)) (omega arith) (omega (arith, sn)) (omega arith) e sc.0.1 (does S.s S.bound S.prev r a) (does_maybe S.s S.bound S.prev r rest) (sim S before r ty v own e sc.0)
         (λ i wa xa flag ha at below. chooses S (SimD v γ b j (R c)) wa xa n i ca cb c (does S.s S.bound S.prev r a) (does_maybe S.s S.bound S.prev r rest) at
-            (through S v γ b j c (does S.s S.bound S.prev r a wa) (R ca (mk wa (paid xa))) (wide γ (omega arith) 28 na wa (paid xa) (paid_now γ 28 wa xa ha) (omega arith) v b j k_next (does S.s S.bound S.prev r a wa) (R ca (mk wa (paid xa)))
-                (stmt_plain v na b j k_next wa (paid xa) (does S.s S.bound S.prev r a wa) (R ca (mk wa (paid xa))) (stmt_sim a sc.1 na ma b j Stop wa (paid xa) (omega (arith, sn)) ha.stays.under (after γ 36 wa xa home ha) (ha.stays.same_own ∙ eo)))))
-            (through S v γ b j c (does_maybe S.s S.bound S.prev r rest wa) (R cb (mk wa (paid xa))) (wide γ (omega arith) 28 nb wa (paid xa) (paid_now γ 28 wa xa ha) (omega arith) v b j k_next (does_maybe S.s S.bound S.prev r rest wa) (R cb (mk wa (paid xa)))
-                (other_sim rest sc.2 nb mb b j Stop wa (paid xa) (omega (arith, sn)) ha.stays.under (after γ 36 wa xa home ha) (ha.stays.same_own ∙ eo)))))
+        (through S v γ b j c (does S.s S.bound S.prev r a wa) (R ca (mk wa (paid xa))) (wide γ (omega arith) 28 na wa (paid xa) (paid_now γ 28 wa xa ha) (omega arith) v b j k_next (does S.s S.bound S.prev r a wa) (R ca (mk wa (paid xa)))
+        (stmt_plain v na b j k_next wa (paid xa) (does S.s S.bound S.prev r a wa) (R ca (mk wa (paid xa))) (stmt_sim a sc.1 na ma b j Stop wa (paid xa) (omega (arith, sn)) ha.stays.under (after γ 36 wa xa home ha) (ha.stays.same_own ∙ eo)))))
+        (through S v γ b j c (does_maybe S.s S.bound S.prev r rest wa) (R cb (mk wa (paid xa))) (wide γ (omega arith) 28 nb wa (paid xa) (paid_now γ 28 wa xa ha) (omega arith) v b j k_next (does_maybe S.s S.bound S.prev r rest wa) (R cb (mk wa (paid xa)))
+        (other_sim rest sc.2 nb mb b j Stop wa (paid xa) (omega (arith, sn)) ha.stays.under (after γ 36 wa xa home ha) (ha.stays.same_own ∙ eo)))))
     stmt_sim (WhileZ e a) sc n m b j c w x sn u home eo =
         let γ = stmt n w x in
         while_sim S before r ty v own e a sc.0 (stmt_sim a sc.1) γ (omega arith) n m b j c (tick w) x sn (omega arith) home eo (begin_stmt n w x u) (S.prev (Turn r (Some e) None a))
@@ -128,7 +128,7 @@ module _ (S : Site) (before : Earlier S) (r : Cell) (ty : Ty) (v : Bool) (own : 
         (mades S ty γ 24 (SimD v γ b j (R c)) ks (tick w) x (low_other h ty first n m b j cl) (home_in γ home eo) (below_in γ ks eo sc.0) (begin_stmt n w x u) (λ w1. then_done (does_maybe S.s S.bound S.prev r first w1) go)
         (λ wa xa ha same_temps. seqs γ (omega arith) 24 n wa xa ha (omega arith) v b j (R c) (R cl) (does_maybe S.s S.bound S.prev r first wa) (R (low_other h ty first n m b j cl) (mk wa xa)) (other_sim first sc.1 n m b j cl wa xa sn ha.stays.under (after γ 24 wa xa home ha) (ha.stays.same_own ∙ eo)) go
         (λ wb xb hb. for_sim S before r ty v own test step a sc.2 sc.3 (stmt_sim a sc.4) γ (omega arith) n1 m1 b j c wb xb (omega (arith, sn)) (omega arith) home eo hb again
-            (λ wc xc hc. turn_wide v γ (omega arith) n1 b j k_next wc xc hc (omega arith) (again wc) (S.prev' (low.turns h test step a (λ k l. low_stmt h ty a k l 1 (ToEnd 0) Stop) n1 m1 Stop) (mk wc xc)) (before.for_turn r ty v own test step a n1 m1 b j wc xc hc.stays.under (after γ 24 wc xc home hc) (hc.stays.same_own ∙ eo) sc.2 sc.3 sc.4 (omega (arith, sn)))))))
+        (λ wc xc hc. turn_wide v γ (omega arith) n1 b j k_next wc xc hc (omega arith) (again wc) (S.prev' (low.turns h test step a (λ k l. low_stmt h ty a k l 1 (ToEnd 0) Stop) n1 m1 Stop) (mk wc xc)) (before.for_turn r ty v own test step a n1 m1 b j wc xc hc.stays.under (after γ 24 wc xc home hc) (hc.stays.same_own ∙ eo) sc.2 sc.3 sc.4 (omega (arith, sn)))))))
     stmt_sim (SwitchZ e ks arms) sc n m b j c w x sn u home eo = switch_sim S before r ty v own e ks arms sc.0 sc.1 sc.3 (arms_follow arms sc.2) n m b j c w x sn u home eo
     stmt_sim (ReturnZ None) sc n m b j c w x sn u home eo = (record (paid x) { given = none_given }, refl, record { under = u; cost = omega arith })
     stmt_sim (ReturnZ (Some e)) sc n m b j c w x sn u home eo = returns_sim (stmt n w x) b j (R c) e sc.0 sc.1 n m c (tick w) x sn (omega arith) home (begin_stmt n w x u)

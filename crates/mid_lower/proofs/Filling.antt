@@ -134,10 +134,10 @@ module _ (S : Site) (bodies : BodiesFollow S) (γ : Goal) (skips : 2 ≤ γ.skip
       (λ d u. asked CutOff nowhere u (converted ty d) (λ z. then_went CutOff (stored S.s S.bound 1 ty nowhere (part_of o offset) z u) (λ v. Through (on_store (released ty z) v)))) (expr_sim S bodies e fs.0)
       (λ d wa xa flag ha at below. converts S γ σ' nowhere wa (s0 + 84) xa ty (is_flag e) part.item d c1 (spare γ (s0 + 64 + 28) (s0 + 84 + 8) wa xa (omega arith) ha) (low_free γ part.item (omega (arith, skips))) at flag (λ z. then_went CutOff (stored S.s S.bound 1 ty nowhere (part_of o offset) z wa) (λ v. Through (on_store (released ty z) v)))
       (λ z xb hb eb rest.
-          subst (λ q. σ.T (then_went σ.stop (then_went CutOff (if q then cells_set nowhere (1 + 1) S.bound (words h ty) (Some z) (part_of o offset) wa else asked CutOff nowhere (spend 1 wa) (write wa.store.objects (part_of o offset) z) (λ os. Through (on_store (with_objects os) (spend 1 wa)))) (λ v. Through (on_store (λ t. if q then end_temporary z t else t) v))) go) (R (if q then Do (MoveO part.from part.item) (low.part_at p offset (part.copied (words h ty) c)) else low.cell_filled p offset c) (mk wa xb))) (sym fs.2)
-          (subst (λ d2. σ.T d2 (R (low.cell_filled p offset c) (mk wa xb))) (sym (went_went σ.stop (asked CutOff nowhere (spend 1 wa) (write wa.store.objects (part_of o offset) z) (λ os. Through (on_store (with_objects os) (spend 1 wa)))) (λ v. Through v) go ∙ went_asked σ.stop nowhere (spend 1 wa) (write wa.store.objects (part_of o offset) z) (λ os. on_store (with_objects os) (spend 1 wa)) go))
-          (cell_sim σ s0 o p offset (spend 1 wa) xb z c (spare γ (s0 + 84 + 64) (s0 + 24) (spend 1 wa) xb (omega arith) (worked (s0 + 84) wa xb hb)) le (rest p (eqb_more p part.item (omega (arith, le))) ∙ below p (omega (arith, le)) lt (eqb_more p part.item (omega (arith, le))) ∙ ep) eb go
-              (λ os y hy alike. f (on_store (with_objects os) (spend 1 wa)) y hy (λ j g l. alike j (omega (arith, g)) ∙ rest j (eqb_more j part.item (omega (arith, g))) ∙ below j (omega (arith, g)) l (eqb_more j part.item (omega (arith, g)))))))))
+      subst (λ q. σ.T (then_went σ.stop (then_went CutOff (if q then cells_set nowhere (1 + 1) S.bound (words h ty) (Some z) (part_of o offset) wa else asked CutOff nowhere (spend 1 wa) (write wa.store.objects (part_of o offset) z) (λ os. Through (on_store (with_objects os) (spend 1 wa)))) (λ v. Through (on_store (λ t. if q then end_temporary z t else t) v))) go) (R (if q then Do (MoveO part.from part.item) (low.part_at p offset (part.copied (words h ty) c)) else low.cell_filled p offset c) (mk wa xb))) (sym fs.2)
+      (subst (λ d2. σ.T d2 (R (low.cell_filled p offset c) (mk wa xb))) (sym (went_went σ.stop (asked CutOff nowhere (spend 1 wa) (write wa.store.objects (part_of o offset) z) (λ os. Through (on_store (with_objects os) (spend 1 wa)))) (λ v. Through v) go ∙ went_asked σ.stop nowhere (spend 1 wa) (write wa.store.objects (part_of o offset) z) (λ os. on_store (with_objects os) (spend 1 wa)) go))
+      (cell_sim σ s0 o p offset (spend 1 wa) xb z c (spare γ (s0 + 84 + 64) (s0 + 24) (spend 1 wa) xb (omega arith) (worked (s0 + 84) wa xb hb)) le (rest p (eqb_more p part.item (omega (arith, le))) ∙ below p (omega (arith, le)) lt (eqb_more p part.item (omega (arith, le))) ∙ ep) eb go
+      (λ os y hy alike. f (on_store (with_objects os) (spend 1 wa)) y hy (λ j g l. alike j (omega (arith, g)) ∙ rest j (eqb_more j part.item (omega (arith, g))) ∙ below j (omega (arith, g)) l (eqb_more j part.item (omega (arith, g)))))))))
 
   text_sim : (number : ℕ) (ty : Ty) → Fills h (TextI number) ty → (σ : Way γ) (s0 o p offset n m : ℕ) (w : World) (x : Side) (c : NodesT ℕ) → Now γ s0 w x → 7 ≤ p → x.temps p ≡ Ptr o 0 → (go : World → σ.R) → Goes σ s0 n x c go
       → σ.T (then_went σ.stop (filled S.s S.bound S.prev (TextI number) ty (part_of o offset) w) go) (R (low.low_init h (TextI number) ty p offset n m c) (mk w x))
@@ -153,7 +153,7 @@ module _ (S : Site) (bodies : BodiesFollow S) (γ : Goal) (skips : 2 ≤ γ.skip
       (copies S γ nowhere 1 (omega arith) σ (s0 + 24) size fits (literal_at S.s number) (part_of o offset) w1 z more (spare γ (s0 + 40) (s0 + 24 + 16) w1 z (omega arith) hz) (rest2 part.from refl ∙ at) at2 (λ v. then_went σ.stop (rest_of v) go) (λ v u hu others.
       subst (λ q. σ.T (then_went σ.stop (cells_set nowhere 1 S.bound (words h ty - size) None q v) go) (R more (mk v u))) (sym (part_further o offset size))
       (zeros_sim σ s0 (words h ty - size) o p ((offset + size) % 2 ^ 32) (let lt : words h ty < 2 ^ 32 = in_words (words_of h.layouts ty) in omega (arith, lt)) v u c (spare γ (s0 + 24 + 16) (s0 + 40) v u (omega arith) hu) le (others p (omega (arith, le)) ∙ rest2 p (eqb_more p part.to (omega (arith, le))) ∙ rest p (eqb_more p part.from (omega (arith, le))) ∙ ep) go
-          (λ v2 e he alike. f v2 e he (λ j g l. alike j (omega (arith, g)) ∙ others j (omega (arith, g)) ∙ rest2 j (eqb_more j part.to (omega (arith, g))) ∙ rest j (eqb_more j part.from (omega (arith, g))))))))))
+      (λ v2 e he alike. f v2 e he (λ j g l. alike j (omega (arith, g)) ∙ others j (omega (arith, g)) ∙ rest2 j (eqb_more j part.to (omega (arith, g))) ∙ rest j (eqb_more j part.from (omega (arith, g))))))))))
 
   mutual
     pub fills_sim : (i : TInitT) (ty : Ty) → Fills h i ty → (σ : Way γ) (s0 o p offset n m : ℕ) (w : World) (x : Side) (c : NodesT ℕ) → Now γ s0 w x → 7 ≤ p → p < n → γ.first ≤ n → x.temps p ≡ Ptr o 0 → (go : World → σ.R) → Goes σ s0 n x c go
@@ -175,8 +175,8 @@ module _ (S : Site) (bodies : BodiesFollow S) (γ : Goal) (skips : 2 ≤ γ.skip
         subst (λ d. σ.T d (R (low.low_init h i tp p offset n m c2) (mk w x))) (sym (went_went σ.stop (filled S.s S.bound S.prev i tp (part_of o offset) w) next go))
         (fills_sim i tp fs.0 σ (s0 + 40) o p offset n m w x c2 hn le lt first ep (λ v. then_went σ.stop (next v) go)
         (λ v y hy keep. subst (λ q. σ.T (then_went σ.stop (all_filled S.s S.bound S.prev rest ty (k + 1) q v) go) (R c2 (mk v y))) (sym (part_further o offset (words h tp)))
-            (all_fill_sim rest ty (k + 1) fs.1 σ s0 o p ((offset + words h tp) % 2 ^ 32) n2 m2 v y c hy le (omega (arith, lt)) (omega (arith, first)) (keep p le lt ∙ ep) go
-                (λ v2 z hz keep2. f v2 z hz (λ j g l. keep2 j g (omega (arith, l)) ∙ keep j g l)))))
+        (all_fill_sim rest ty (k + 1) fs.1 σ s0 o p ((offset + words h tp) % 2 ^ 32) n2 m2 v y c hy le (omega (arith, lt)) (omega (arith, first)) (keep p le lt ∙ ep) go
+        (λ v2 z hz keep2. f v2 z hz (λ j g l. keep2 j g (omega (arith, l)) ∙ keep j g l)))))
 
   -- ---- variables
 
@@ -230,4 +230,4 @@ module _ (S : Site) (bodies : BodiesFollow S) (γ : Goal) (skips : 2 ≤ γ.skip
       subst (λ d. σ.T d (R (low.low_vars h (v ∷ vs) n m c) (mk w x))) (sym (went_went σ.stop (variable_filled S.s S.bound S.prev v w) (variables_filled S.s S.bound S.prev vs) go ∙ object_is σ.stop (object_of v.global v.object w.store) w (λ p. fill p (spend 1 w)) rest))
       (object_sim σ v.global v.object s0 a (low.low_init h v.init v.ty a 0 nb m c2) w x (address_free v.init n first) hn (λ p u. then_went σ.stop (fill p u) rest)
       (λ o y hy at keep. fills_sim v.init v.ty fs.0 σ (s0 + 56) o a 0 nb m (spend 1 w) y c2 hy (address_least v.init n le) (address_before v.init n le) (omega (arith, first, behind)) at rest
-          (λ u z hz keep2. vars_sim vs fs.1 σ s0 n2 m2 c u z (omega (arith, first, behind)) (omega (arith, le, behind)) (spare γ (s0 + 56) s0 u z (omega arith) hz) go f)))
+      (λ u z hz keep2. vars_sim vs fs.1 σ s0 n2 m2 c u z (omega (arith, first, behind)) (omega (arith, le, behind)) (spare γ (s0 + 56) s0 u z (omega arith) hz) go f)))

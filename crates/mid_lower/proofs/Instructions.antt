@@ -131,8 +131,8 @@ module _ (S : Site) where
         word γ σ span w x (low.with_word bin.Shr t a b c) vb (λ j. then_ask (word_binary bin.Shr i j) (λ z. Ok (Num z))) go (λ j ej.
         sets S σ.T γ (s0 + 8) w x b (Num (negated j)) (OneO ISGN b b) (Do (TwoO SHL t a b) c) (spare γ (s0 + 32) (s0 + 8 + 8) w x (omega arith) h0) k.free_b (ap (λ u. to temporaries b (one_word ISGN u) (spent 8 (mk w x))) (eb ∙ ej)) (asked σ.stop span w (cell_binary bin.Shr (Num i) (Num j)) go) (λ y hy at rest.
         op S γ σ s0 span w y t (cell_binary bin.Shr (Num i) (Num j)) (two_words SHL (y.temps a) (y.temps b)) (TwoO SHL t a b) c hy k.free_t
-            (same (cell_binary bin.Shr (Num i) (Num j)) (two_words SHL (y.temps a) (y.temps b)) (two_eq SHL (Num i) (Num (negated j)) (y.temps a) (y.temps b) (rest a k.a_b ∙ ea ∙ ei) at)) refl go
-            (λ v u hu at3 rest3. f v u hu at3 (λ l nt nb. rest3 l nt ∙ rest l nb)))))
+        (same (cell_binary bin.Shr (Num i) (Num j)) (two_words SHL (y.temps a) (y.temps b)) (two_eq SHL (Num i) (Num (negated j)) (y.temps a) (y.temps b) (rest a k.a_b ∙ ea ∙ ei) at)) refl go
+        (λ v u hu at3 rest3. f v u hu at3 (λ l nt nb. rest3 l nt ∙ rest l nb)))))
 
     -- ---- pointers
 
@@ -170,12 +170,12 @@ module _ (S : Site) where
         let numbers : Answer Cell = then_ask (apart w.store.objects va vb) (λ i. Ok (Num i)) in
         subst (λ r. σ.T r (R (low.distant size t a b c) (mk w x))) (sym (split (apart w.store.objects va vb)))
         (op S γ σ (s0 + 16) span w x t numbers (mid.distance x.objs (x.temps a) (x.temps b)) (ApartO t a b) (Do (ConstO b size) (Do (TwoO IDIV t t b) c)) (spare γ (s0 + 32) (s0 + 16 + 8) w x (omega arith) h0) k.free_t
-            (from_eq numbers (mid.distance x.objs va vb) (mid.distance x.objs (x.temps a) (x.temps b)) (ap (λ u. mid.distance x.objs u (x.temps b)) ea ∙ ap (λ u. mid.distance x.objs va u) eb) (then_both (apart w.store.objects va vb) (apart x.objs va vb) _ _ (apart_both w.store.objects x.objs va vb h0.stays.under) (λ i. refl))) refl (λ z. asked σ.stop span w (cell_binary bin.Div z (Num size)) go)
-            (λ z y hy at rest.
+        (from_eq numbers (mid.distance x.objs va vb) (mid.distance x.objs (x.temps a) (x.temps b)) (ap (λ u. mid.distance x.objs u (x.temps b)) ea ∙ ap (λ u. mid.distance x.objs va u) eb) (then_both (apart w.store.objects va vb) (apart x.objs va vb) _ _ (apart_both w.store.objects x.objs va vb h0.stays.under) (λ i. refl))) refl (λ z. asked σ.stop span w (cell_binary bin.Div z (Num size)) go)
+        (λ z y hy at rest.
         sets S σ.T γ (s0 + 8) w y b (Num size) (ConstO b size) (Do (TwoO IDIV t t b) c) (spare γ (s0 + 16) (s0 + 8 + 8) w y (omega arith) hy) k.free_b refl (asked σ.stop span w (cell_binary bin.Div z (Num size)) go) (λ u hu at2 rest2.
         op S γ σ s0 span w u t (cell_binary bin.Div z (Num size)) (two_words IDIV (u.temps t) (u.temps b)) (TwoO IDIV t t b) c hu k.free_t
-            (same (cell_binary bin.Div z (Num size)) (two_words IDIV (u.temps t) (u.temps b)) (two_eq IDIV z (Num size) (u.temps t) (u.temps b) (rest2 t k.t_b ∙ at) at2 ∙ div_words z (Num size))) refl go
-            (λ v e he at4 rest4. f v e he at4 (λ l nt nb. rest4 l nt ∙ rest2 l nb ∙ rest l nt)))))
+        (same (cell_binary bin.Div z (Num size)) (two_words IDIV (u.temps t) (u.temps b)) (two_eq IDIV z (Num size) (u.temps t) (u.temps b) (rest2 t k.t_b ∙ at) at2 ∙ div_words z (Num size))) refl go
+        (λ v e he at4 rest4. f v e he at4 (λ l nt nb. rest4 l nt ∙ rest2 l nb ∙ rest l nt)))))
       where
         split : (q : Answer ℕ) → asked σ.stop span w (then_ask q (λ i. then_ask (word_binary bin.Div i size) (λ z. Ok (Num z)))) go ≡ asked σ.stop span w (then_ask q (λ i. Ok (Num i))) (λ z. asked σ.stop span w (cell_binary bin.Div z (Num size)) go)
         split (Ok i) = refl

@@ -23,3 +23,10 @@ mod SwitchForms
 mod EveryStatement
 mod EveryBound
 mod RunsKept
+pub mod Operands
+pub mod Simple
+pub mod SoundExpressions
+pub mod SoundInitialisers
+pub mod GlobalsSimple
+pub mod SoundPrograms
+pub mod SoundRuns

@@ -100,12 +100,12 @@ module _ (S : Site) (before : Earlier S) (r : Cell) (ty : Ty) (v : Bool) (own : 
         let go : World → Done = λ u. body_done (does S.s S.bound S.prev r a u) again in
         tests S γ σ 16 n (n + 1) m w (paid x) (Choose n ca Stop Stop) (paid_now γ 16 w x h0) (above_free γ n le) (omega (arith, le)) (omega (arith, sn)) (omega arith) e sc.1 go (λ u. Goes u) (sim e sc)
         (λ i wa xa flag ha at below. chooses S σ.T wa xa n i ca Stop Stop go (λ u. Goes u) at
-            (subst (λ d. σ.T d (then_next (R ca (mk wa (paid xa))) (R Stop))) (sym (inner_is (does S.s S.bound S.prev r a wa) again (λ u. Continues u) again (λ u. refl)))
-                (loops S v γ b j lb c (inner (does S.s S.bound S.prev r a wa) (λ u. Continues u)) (then_next (R ca (mk wa (paid xa))) (R Stop))
-                    (through S v (more_for γ) 0 (ToTurn 0) Stop (inner (does S.s S.bound S.prev r a wa) (λ u. Continues u)) (R ca (mk wa (paid xa)))
-                        (turns S v γ skips na wa (paid xa) (spare γ 20 0 wa (paid xa) (omega arith) (paid_now γ 20 wa xa ha)) (omega (arith, le)) (does S.s S.bound S.prev r a wa) (R ca (mk wa (paid xa)))
-                            (fa na ma 0 (ToTurn 0) (Again 0 Stop) wa (paid xa) (omega (arith, sn)) ha.stays.under (home_after γ 28 wa xa home ha) (ha.stays.same_own ∙ eo)))) again f))
-            (paid xa, refl, less_now γ 20 wa (paid xa) (paid_now γ 20 wa xa ha)))
+        (subst (λ d. σ.T d (then_next (R ca (mk wa (paid xa))) (R Stop))) (sym (inner_is (does S.s S.bound S.prev r a wa) again (λ u. Continues u) again (λ u. refl)))
+        (loops S v γ b j lb c (inner (does S.s S.bound S.prev r a wa) (λ u. Continues u)) (then_next (R ca (mk wa (paid xa))) (R Stop))
+        (through S v (more_for γ) 0 (ToTurn 0) Stop (inner (does S.s S.bound S.prev r a wa) (λ u. Continues u)) (R ca (mk wa (paid xa)))
+        (turns S v γ skips na wa (paid xa) (spare γ 20 0 wa (paid xa) (omega arith) (paid_now γ 20 wa xa ha)) (omega (arith, le)) (does S.s S.bound S.prev r a wa) (R ca (mk wa (paid xa)))
+        (fa na ma 0 (ToTurn 0) (Again 0 Stop) wa (paid xa) (omega (arith, sn)) ha.stays.under (home_after γ 28 wa xa home ha) (ha.stays.same_own ∙ eo)))) again f))
+        (paid xa, refl, less_now γ 20 wa (paid xa) (paid_now γ 20 wa xa ha)))
 
     pub do_sim : ((wa : World) (xa : Side) → Now γ 24 wa xa → SimD v γ b j k_next (again wa) (S.prev' (low_stmt h ty (DoWhileZ a e) n m 0 (ToEnd 0) Stop) (mk wa xa)))
         → SimD v γ b j (R c) (do_turn S.s S.bound S.prev e (does S.s S.bound S.prev r a) again w) (R (low_stmt h ty (DoWhileZ a e) n m b j c) (mk w x))
@@ -121,12 +121,12 @@ module _ (S : Site) (before : Earlier S) (r : Cell) (ty : Ty) (v : Bool) (own : 
         let σ : Way (more_for γ) = way_d v (more_for γ) 0 (ToTurn 0) k_next in
         subst (λ d. SimD v γ b j (R c) d (R (low_stmt h ty (DoWhileZ a e) n m b j c) (mk w x))) (sym (inner_is (does S.s S.bound S.prev r a w) go go' again (λ u. tested_end e (evaluated S.s S.bound S.prev e u) again)))
         (loops S v γ b j (Loop lb Stop) c (inner (does S.s S.bound S.prev r a w) go') (R lb (mk w (paid x)))
-            (blocks S v γ skips n w (paid (paid x)) (spare γ 8 0 w (paid (paid x)) (omega arith) h1) le (low_test h e ne (ne + 1) me ce) (does S.s S.bound S.prev r a w) (R ca (mk w (paid (paid x))))
-                (fa n m 1 (ToEnd 0) Stop w (paid (paid x)) sn h1.stays.under (home_after γ 24 w x home h0) (h0.stays.same_own ∙ eo)) go'
-                (λ wa xa ha. tests S (more_for γ) σ 16 ne (ne + 1) me wa xa ce (more_now γ 16 wa xa ha) (above_free (more_for γ) ne (omega (arith, le))) (omega (arith, le)) (omega (arith, sn)) (omega arith) e sc.1 (λ z. Continues z) (λ z. Goes z) (sim e sc)
-                    (λ i wb xb flag hb at below. chooses S σ.T wb xb ne i (Again 0 Stop) Stop Stop (λ z. Continues z) (λ z. Goes z) at
-                        (paid (paid xb), refl, less_now (more_for γ) 12 wb (paid (paid xb)) (paid_now (more_for γ) 12 wb (paid xb) (paid_now (more_for γ) 20 wb xb hb)))
-                        (paid xb, refl, less_now (more_for γ) 20 wb (paid xb) (paid_now (more_for γ) 20 wb xb hb))))) again f)
+        (blocks S v γ skips n w (paid (paid x)) (spare γ 8 0 w (paid (paid x)) (omega arith) h1) le (low_test h e ne (ne + 1) me ce) (does S.s S.bound S.prev r a w) (R ca (mk w (paid (paid x))))
+        (fa n m 1 (ToEnd 0) Stop w (paid (paid x)) sn h1.stays.under (home_after γ 24 w x home h0) (h0.stays.same_own ∙ eo)) go'
+        (λ wa xa ha. tests S (more_for γ) σ 16 ne (ne + 1) me wa xa ce (more_now γ 16 wa xa ha) (above_free (more_for γ) ne (omega (arith, le))) (omega (arith, le)) (omega (arith, sn)) (omega arith) e sc.1 (λ z. Continues z) (λ z. Goes z) (sim e sc)
+        (λ i wb xb flag hb at below. chooses S σ.T wb xb ne i (Again 0 Stop) Stop Stop (λ z. Continues z) (λ z. Goes z) at
+        (paid (paid xb), refl, less_now (more_for γ) 12 wb (paid (paid xb)) (paid_now (more_for γ) 12 wb (paid xb) (paid_now (more_for γ) 20 wb xb hb)))
+        (paid xb, refl, less_now (more_for γ) 20 wb (paid xb) (paid_now (more_for γ) 20 wb xb hb))))) again f)
 
   -- ---- `for`
 
@@ -168,7 +168,7 @@ module _ (S : Site) (before : Earlier S) (r : Cell) (ty : Ty) (v : Bool) (own : 
       let cr : NodesT ℕ = Block (low_stmt h ty a na ma 1 (ToEnd 0) Stop) (low.low_dropped h step k l (Again 0 Stop)) in
       subst (λ d. SimD v γ b j (R c) d (R (low.turns h None step a (λ p q. low_stmt h ty a p q 1 (ToEnd 0) Stop) n m c) (mk w x))) (sym (inner_is (does S.s S.bound S.prev r a w) (λ z. step_done S.s S.bound S.prev step z again) (step_end step) again (λ u. step_is step u again)))
       (loops S v γ b j (Loop cr Stop) c (inner (does S.s S.bound S.prev r a w) (step_end step)) (R cr (mk w (paid x)))
-          (rest_sim γ skips step a scs fa na ma k l w (paid x) (omega (arith, le)) (omega (arith, sn)) (omega (arith, le)) (omega (arith, sn)) home eo (spare γ 16 8 w (paid x) (omega arith) (paid_now γ 16 w x h0))) again f)
+      (rest_sim γ skips step a scs fa na ma k l w (paid x) (omega (arith, le)) (omega (arith, sn)) (omega (arith, le)) (omega (arith, sn)) home eo (spare γ 16 8 w (paid x) (omega arith) (paid_now γ 16 w x h0))) again f)
   for_sim (Some e) step a sct scs fa γ skips n m b j c w x sn le home eo h0 again f =
       let na : ℕ = n + maybe_temps (Some e) in
       let ma : ℕ = beyond h e m in
@@ -180,8 +180,8 @@ module _ (S : Site) (before : Earlier S) (r : Cell) (ty : Ty) (v : Bool) (own : 
       let go : World → Done = λ u. body_done (does S.s S.bound S.prev r a u) (λ z. step_done S.s S.bound S.prev step z again) in
       tests S γ σ 16 n (n + 1) m w (paid x) (Choose n cr Stop Stop) (paid_now γ 16 w x h0) (above_free γ n le) (omega (arith, le)) (omega (arith, sn)) (omega arith) e sct.1 go (λ u. Goes u) (sim e sct)
       (λ i wa xa flag ha at below. chooses S σ.T wa xa n i cr Stop Stop go (λ u. Goes u) at
-          (subst (λ d. σ.T d (then_next (R cr (mk wa (paid xa))) (R Stop))) (sym (inner_is (does S.s S.bound S.prev r a wa) (λ z. step_done S.s S.bound S.prev step z again) (step_end step) again (λ u. step_is step u again)))
-              (loops S v γ b j lb c (inner (does S.s S.bound S.prev r a wa) (step_end step)) (then_next (R cr (mk wa (paid xa))) (R Stop))
-                  (through S v (more_for γ) 0 (ToTurn 0) Stop (inner (does S.s S.bound S.prev r a wa) (step_end step)) (R cr (mk wa (paid xa)))
-                      (rest_sim γ skips step a scs fa na ma k l wa (paid xa) (omega (arith, le)) (omega (arith, sn)) (omega (arith, le)) (omega (arith, sn)) home eo (spare γ 20 8 wa (paid xa) (omega arith) (paid_now γ 20 wa xa ha)))) again f))
-          (paid xa, refl, less_now γ 20 wa (paid xa) (paid_now γ 20 wa xa ha)))
+      (subst (λ d. σ.T d (then_next (R cr (mk wa (paid xa))) (R Stop))) (sym (inner_is (does S.s S.bound S.prev r a wa) (λ z. step_done S.s S.bound S.prev step z again) (step_end step) again (λ u. step_is step u again)))
+      (loops S v γ b j lb c (inner (does S.s S.bound S.prev r a wa) (step_end step)) (then_next (R cr (mk wa (paid xa))) (R Stop))
+      (through S v (more_for γ) 0 (ToTurn 0) Stop (inner (does S.s S.bound S.prev r a wa) (step_end step)) (R cr (mk wa (paid xa)))
+      (rest_sim γ skips step a scs fa na ma k l wa (paid xa) (omega (arith, le)) (omega (arith, sn)) (omega (arith, le)) (omega (arith, sn)) home eo (spare γ 20 8 wa (paid xa) (omega arith) (paid_now γ 20 wa xa ha)))) again f))
+      (paid xa, refl, less_now γ 20 wa (paid xa) (paid_now γ 20 wa xa ha)))

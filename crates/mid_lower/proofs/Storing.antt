@@ -53,7 +53,7 @@ module _ (S : Site) where
     loads x ty t p vp c h0 free e go f =
         subst (λ r. σ.T r (R (Do (LoadO t p) c) (mk w x))) (sym (asked_then σ.stop span w (read w.store.objects vp) (λ z. answer_if (is_of ty z) z) go))
         (op S γ σ s0 span w x t (read w.store.objects vp) (read x.objs (x.temps p)) (LoadO t p) c h0 free (from_eq (read w.store.objects vp) (read x.objs vp) (read x.objs (x.temps p)) (ap (λ u. read x.objs u) e) (read_both w.store.objects x.objs vp h0.stays.under)) refl
-            (λ z. asked σ.stop span w (answer_if (is_of ty z) z) go) (λ z y hy at rest. sound y (is_of ty z) z go c (f z y hy at rest)))
+        (λ z. asked σ.stop span w (answer_if (is_of ty z) z) go) (λ z y hy at rest. sound y (is_of ty z) z go c (f z y hy at rest)))
 
     -- the cell in a is converted
     pub converts : (x : Side) (ty : Ty) (known : Bool) (a : ℕ) (va : Cell) (c : NodesT ℕ) → Now γ (s0 + 8) w x → Free γ a → x.temps a ≡ va → (known ≡ true → converted BoolY va ≡ Ok va) → (go : Cell → σ.R) → Sets S γ σ s0 w x a c go → σ.T (asked σ.stop span w (converted ty va) go) (R (low.converted ty known a c) (mk w x))

@@ -61,9 +61,9 @@ module _ (S : Site) where
       let choice : NodesT ℕ = Choose part.other (Do (ConstO t i) (Leave 0 Stop)) Stop (low_match t (suc i) d rest) in
       sets S T γ (s1 + 16) w x part.other (Num label) (ConstO part.other label) (Do (TwoO IEQ part.other t part.other) choice) (spare γ (s + 16 + 24 * suc (labels rest)) (s1 + 16 + 8) w x (omega arith) h) (low_free γ part.other (omega arith)) refl p (λ y hy at keep.
       sets S T γ (s1 + 8) w y part.other (Num (bool_word (z == label))) (TwoO IEQ part.other t part.other) choice (spare γ (s1 + 16) (s1 + 8 + 8) w y (omega arith) hy) (low_free γ part.other (omega arith))
-          (ap (λ q. to temporaries part.other q (spent 8 (mk w y))) (two_eq IEQ (Num z) (Num label) (y.temps t) (y.temps part.other) (keep t (eqb_more t part.other (omega (arith, st))) ∙ e) at)) p (λ u hu at2 keep2.
+      (ap (λ q. to temporaries part.other q (spent 8 (mk w y))) (two_eq IEQ (Num z) (Num label) (y.temps t) (y.temps part.other) (keep t (eqb_more t part.other (omega (arith, st))) ∙ e) at)) p (λ u hu at2 keep2.
       by (z == label) u hu at2 (keep2 t (eqb_more t part.other (omega (arith, st))) ∙ keep t (eqb_more t part.other (omega (arith, st))) ∙ e) (λ j a. keep2 j (eqb_more j part.other (omega (arith, a))) ∙ keep j (eqb_more j part.other (omega (arith, a))))
-          (λ v hv ev. match_sim γ s t z (suc i) d rest w v free st hv ev)))
+      (λ v hv ev. match_sim γ s t z (suc i) d rest w v free st hv ev)))
     where
       by : (b : Bool) (u : Side) → Now γ (s + 16 + 24 * labels rest + 8) w u → u.temps part.other ≡ Num (bool_word b) → u.temps t ≡ Num z → ((j : ℕ) → scratch ≤ j → u.temps j ≡ x.temps j) → ((v : Side) → Now γ (s + 16 + 24 * labels rest) w v → v.temps t ≡ Num z → Matched γ s t (chosen z (suc i) d rest) w v (R (low_match t (suc i) d rest) (mk w v)))
           → Matched γ s t (if b then i else chosen z (suc i) d rest) w x (R (Choose part.other (Do (ConstO t i) (Leave 0 Stop)) Stop (low_match t (suc i) d rest)) (mk w u))
@@ -133,9 +133,9 @@ module _ (S : Site) where
         let group : NodesT ℕ = low_group h ty rest n1 m1 b j in
         let last : NodesT ℕ = low_arms h ty t rest n1 m1 b j in
         group_seqs γ skips (16 * labels rest) n b j (R group) last w x hn le (does S.s S.bound S.prev r a w) (R (low_stmt h ty a n m b j group) (mk w x))
-            (stmt_plain v n b j (R group) w x (does S.s S.bound S.prev r a w) (R (low_stmt h ty a n m b j group) (mk w x)) (fs.0 n m b j group w x (omega (arith, lt, tf)) hn.stays.under (home_after S before r ty v own γ (16 * labels rest) w x home hn) (hn.stays.same_own ∙ eo)))
-            (does_arms S.s S.bound S.prev r zero rest)
-            (λ wa xa ha keep. falls_sim rest fs.1 γ skips t n1 m1 b j wa xa lt (omega (arith, tf)) (omega (arith, le)) home eo ha (keep t lt tf ∙ e))
+        (stmt_plain v n b j (R group) w x (does S.s S.bound S.prev r a w) (R (low_stmt h ty a n m b j group) (mk w x)) (fs.0 n m b j group w x (omega (arith, lt, tf)) hn.stays.under (home_after S before r ty v own γ (16 * labels rest) w x home hn) (hn.stays.same_own ∙ eo)))
+        (does_arms S.s S.bound S.prev r zero rest)
+        (λ wa xa ha keep. falls_sim rest fs.1 γ skips t n1 m1 b j wa xa lt (omega (arith, tf)) (omega (arith, le)) home eo ha (keep t lt tf ∙ e))
     falls_sim (MoreB (CaseB label) rest) fs γ skips t n m b j w x lt tf le home eo hn e =
         subst (SimD v γ b j k_next (does_arms S.s S.bound S.prev r zero rest w)) (sym (choose_zero t (Do (TwoO ISUB t t part.one) Stop) (low_group h ty rest n m b j) (low_arms h ty t rest n m b j) w x e))
         (falls_sim rest fs γ skips t n m b j w (paid x) lt tf le home eo (paid_now γ (16 * labels rest) w x (spare γ (16 * suc (labels rest)) (16 * labels rest + 8) w x (omega arith) hn)) e)
@@ -149,7 +149,7 @@ module _ (S : Site) where
     passed γ s t p d b j w x group last fits lt free hn e e1 f =
         subst (SimD v γ b j k_next d) (sym (choose_more t p (Do (TwoO ISUB t t part.one) Stop) group last w x e))
         (sets S (λ z q. SimD v γ b j k_next z (then_next q (R last))) γ s w (paid x) t (Num p) (TwoO ISUB t t part.one) Stop (paid_now γ (s + 8) w x (spare γ (s + 16) (s + 8 + 8) w x (omega arith) hn)) free
-            (ap (λ q. to temporaries t q (spent 8 (mk w (paid x)))) (two_eq ISUB (Num (suc p)) (Num 1) (x.temps t) (x.temps part.one) e e1 ∙ ap (λ k. Ok (Num k)) (sub_one p fits))) d
+        (ap (λ q. to temporaries t q (spent 8 (mk w (paid x)))) (two_eq ISUB (Num (suc p)) (Num 1) (x.temps t) (x.temps part.one) e e1 ∙ ap (λ k. Ok (Num k)) (sub_one p fits))) d
         (λ y hy at rest. f y hy at (rest part.one (eqb_less part.one t (omega (arith, lt))) ∙ e1)))
 
     -- the labels before the one that is chosen are passed over
@@ -214,8 +214,8 @@ module _ (S : Site) where
             sets S (SimD v γ b j (R c)) γ (16 + 16 * labels arms) wb y part.one (Num 1) (ConstO part.one 1) (part.made ks c2) (spare γ (24 + 16 * labels arms) (16 + 16 * labels arms + 8) wb y (omega arith) hy) (low_free γ part.one (omega arith)) refl (go z (on_store (fresh_all S.s.sizes ks) wb)) (λ y1 hy1 at1 rest1.
             mades S ty γ (16 + 16 * labels arms) (SimD v γ b j (R c)) ks wb y1 c2 (subst (λ o. HomeOf S.s S.code S.frames ty γ.function o) (sym eo) home) (subst (λ o. Below o ks) (sym eo) bl) hy1 (go z) (λ wc y2 hy2 same_temps.
             done_sim γ b j c (does_arms S.s S.bound S.prev r (arms_before z arms) arms wc) (R (low_arms h ty n arms (second e n) (beyond h e m) 0 (further j)) (mk wc (paid y2)))
-                (passes_sim arms fs (chosen z 0 (labels_before_default arms) arms) (arms_before z arms) (chosen_passes z arms) (chosen_fits z arms fits) γ (omega arith) n (second e n) (beyond h e m) 0 (further j) wc (paid y2) sn (omega arith) (omega arith) home eo
-                    (paid_now γ (16 * labels arms) wc y2 (spare γ (16 + 16 * labels arms) (16 * labels arms + 8) wc y2 (omega arith) hy2)) (ap (λ f. f n) same_temps ∙ rest1 n (eqb_more n part.one (omega (arith, sn))) ∙ at) (ap (λ f. f part.one) same_temps ∙ at1))))
+            (passes_sim arms fs (chosen z 0 (labels_before_default arms) arms) (arms_before z arms) (chosen_passes z arms) (chosen_fits z arms fits) γ (omega arith) n (second e n) (beyond h e m) 0 (further j) wc (paid y2) sn (omega arith) (omega arith) home eo
+            (paid_now γ (16 * labels arms) wc y2 (spare γ (16 + 16 * labels arms) (16 * labels arms + 8) wc y2 (omega arith) hy2)) (ap (λ f. f n) same_temps ∙ rest1 n (eqb_more n part.one (omega (arith, sn))) ∙ at) (ap (λ f. f part.one) same_temps ∙ at1))))
 
         by : (d : Cell) (wa : World) (xa : Side) → Now (stmt n w x) (24 + 28) wa xa → xa.temps n ≡ d → SimD v (stmt n w x) b j (R c) (asked Ended (span_of e) wa (word_of d) (λ z. went z wa)) (R c0 (mk wa xa))
         by Unwritten wa xa ha at = R_grows c0 (mk wa xa)

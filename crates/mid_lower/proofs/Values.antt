@@ -120,7 +120,7 @@ module _ (S : Site) where
       placed_value na nf (Place p wa) q a f =
           subst (σ.T (make (fetched S.s S.bound (type_of e) (span_of e) p wa))) (sym a.2)
           (fetches (type_of e) (span_of e) p wa a.1 ns na (value_now γ s0 n (n + 1) true w wa x a.1 h0 (above_free γ n le) (omega (arith, le)) a.3) a.4 (λ j d b. a.3.below j (omega (arith, d)) (omega (arith, b)) (eqb_less j n b)) make go mk_is
-              (λ v ya hy at keep. f v wa ya (λ fl. absurd (false≢true (sym nf ∙ fl))) hy at keep))
+          (λ v ya hy at keep. f v wa ya (λ fl. absurd (false≢true (sym nf ∙ fl))) hy at keep))
       placed_value na nf (Value p wa) q a f = absurd (false≢true (sym a.0))
       placed_value na nf (NoValue wa) q a f = absurd (false≢true (sym a.0))
       placed_value na nf (Stops g wa) q a f = subst (λ r. σ.T r q) (sym (mk_is.of_stop g wa)) (σ.stops g wa q (kept_wider γ (goal true n (n + 1) w x) (omega (arith, h0.cost)) g wa q a))

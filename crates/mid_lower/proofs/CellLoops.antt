@@ -1,5 +1,5 @@
 -- Loops over cells: one turn per cell, in mid code as in the meaning.
-use Rattle.std.proofs.Common.{◌≡◌, ℕ, zero, suc, ◌+◌, ◌*◌, ◌-◌, ◌%◌, ◌^◌, ◌<◌, ◌≤◌, Bool, true, false, eqb, List, [], ◌∷◌, ◌++◌, Option, Some, None, Ok, Err, refl, sym, ap, ◌∙◌, subst, arith, option_map}
+use Rattle.std.proofs.Common.{◌≡◌, ℕ, zero, suc, ◌+◌, ◌*◌, ◌-◌, ◌%◌, ◌^◌, ◌<◌, ◌≤◌, List, Some, None, Ok, refl, sym, ap, ◌∙◌, subst, arith}
 use Rattle.std.proofs.Math.Nat.{add-mod_right}
 use Rattle.std.proofs.lemmas.Nat.{mod-mul-add}
 use Rattle.kit_base.specs.Word.{sub}
@@ -8,25 +8,22 @@ use Rattle.v32_isa.specs.declared.instruction.Two.TheVariants.{ISUB}
 use Rattle.obj_mem.specs.Objects.{ObjectT}
 use Rattle.obj_mem.specs.declared.cell.Cell.{Cell}
 use Rattle.obj_mem.specs.declared.cell.Cell.TheVariants.{Unwritten, Num, Ptr, Null}
-use Rattle.obj_mem.specs.declared.refusal.Refusal.TheVariants.{Strays, Faults}
 use Rattle.obj_mem.specs.Stores.{with_objects}
 use Rattle.obj_mem.specs.Worlds.{World, on_store, spend}
-use Rattle.obj_mem.specs.Queries.{Answer, then_ask, read, write, further}
-use Rattle.c_meaning.specs.declared.end.End.{End}
+use Rattle.obj_mem.specs.Queries.{read, write, further}
 use Rattle.c_meaning.specs.declared.end.End.TheVariants.{Stray, OutOfBound}
 use Rattle.c_meaning.specs.Outcomes.{Went, Through, CutOff, asked, then_went}
-use Rattle.c_meaning.specs.Cells.{source, cell_set, next_turn, cells_set}
+use Rattle.c_meaning.specs.Cells.{next_turn, cells_set}
 use Rattle.mid_code.specs.Code.{CodeT, ConstO, TwoO, StepO, LoadO, StoreO, NodesT, Stop, Do, Choose, Loop, Again}
 use Rattle.mid_code.specs.Meaning.{Res, Next, Leaves, Repeats, Returns, Over, then_next, turn_done, choose, does}
 use Rattle.mid_code.specs.Meaning.{below as mid_below}
-use Rattle.mid_code.specs.States.{temporaries, to, spent, two_words, word_tested, over_worlds}
-use Rattle.mid_code.specs.States as mid
+use Rattle.mid_code.specs.States.{temporaries, to, spent, word_tested, over_worlds}
 use Rattle.mid_code.specs.Passing.{Prefix}
 use Rattle.mid_lower.specs.Parts as part
 use Rattle.mid_lower.proofs.Grows.{Mid, Grows, all_of, more, then_grows, turn_grows, node_grows}
-use Rattle.mid_lower.proofs.Under.{Under, Alike, same, read_both}
+use Rattle.mid_lower.proofs.Under.{read_both}
 use Rattle.mid_lower.proofs.Fits.{Site}
-use Rattle.mid_lower.proofs.Following.{Side, mk, Goal, Now, Fin, Way, Kept, Rest, events_of, scratch, paid, paid_now, fin_now, stopped, spare, now_work, kept_through, low_free, eqb_more, eqb_less, L, M, M_grows, op, sets}
+use Rattle.mid_lower.proofs.Following.{Side, mk, Goal, Now, Way, Kept, events_of, paid, paid_now, fin_now, stopped, spare, now_work, kept_through, low_free, eqb_more, L, M, M_grows, op, sets}
 use Rattle.mid_lower.proofs.Instructions.{asked_then, two_eq, step_eq, from_eq}
 use Rattle.mid_lower.proofs.Storing.{stores}
 

@@ -1,22 +1,19 @@
 -- Functions, and every bound: mid code follows the trees.
-use Rattle.std.proofs.Common.{◌≡◌, ℕ, zero, suc, ◌+◌, ◌*◌, ◌<◌, ◌≤◌, Bool, true, false, cond, eqb, List, [], ◌∷◌, ◌++◌, map, length, replicate, get_or, slice_get, nat_lt, Option, Some, None, Ok, Err, refl, sym, ap, ◌∙◌, subst, arith, if◌then◌else◌}
+use Rattle.std.proofs.Common.{◌≡◌, ℕ, zero, suc, ◌+◌, ◌*◌, ◌<◌, ◌≤◌, Bool, true, false, cond, List, [], ◌∷◌, ◌++◌, length, get_or, slice_get, nat_lt, Some, None, refl, sym, ap, ◌∙◌, subst, arith, if◌then◌else◌}
 use Rattle.std.proofs.lemmas.Bool.{eq-eqb, ltb-true}
 use Rattle.std.specs.Option.{option_map_or}
 use Rattle.c_types.specs.Types.{Ty, VoidY}
-use Rattle.c_types.specs.Typed.{TExprT, TStmtT, WhileZ, DoWhileZ}
+use Rattle.c_types.specs.Typed.{WhileZ, DoWhileZ}
 use Rattle.c_types.specs.Programs.{TFunctionT}
-use Rattle.obj_mem.specs.Objects.{ObjectT}
 use Rattle.obj_mem.specs.declared.cell.Cell.{Cell}
 use Rattle.obj_mem.specs.declared.cell.Cell.TheVariants.{Unwritten}
-use Rattle.obj_mem.specs.Stores.{with_objects, local_object, entered, fresh_all}
+use Rattle.obj_mem.specs.Stores.{with_objects, local_object, entered}
 use Rattle.obj_mem.specs.Worlds.{World, on_store, spend}
 use Rattle.obj_mem.specs.Queries.{write, first_cell}
-use Rattle.c_meaning.specs.declared.end.End.TheVariants.{Stray, OutOfBound}
-use Rattle.c_meaning.specs.Kinds.{is_structure}
-use Rattle.c_meaning.specs.Outcomes.{Went, Through, CutOff, Done, Goes, Breaks, Continues, Returns, Ended, Turn, DoTurn, Body, nowhere, asked, then_went}
+use Rattle.c_meaning.specs.Outcomes.{Went, Through, CutOff, Done, Goes, Breaks, Continues, Returns, Ended, Turn, DoTurn, nowhere, asked, then_went}
 use Rattle.c_meaning.specs.Setting.{Setting}
 use Rattle.c_meaning.specs.Cells.{cells_set, stored}
-use Rattle.c_meaning.specs.Statements.{does, does_all, params_stored, body_of, task_done, below}
+use Rattle.c_meaning.specs.Statements.{does_all, params_stored, body_of, below}
 use Rattle.mid_code.specs.Code.{MoveO, LocalO, StoreO, NodesT, Stop, Do, Block, CodeT}
 use Rattle.mid_code.specs.Meaning.{Res, Next, then_next, block_done}
 use Rattle.mid_code.specs.Meaning.{below as mid_below}
@@ -29,10 +26,9 @@ use Rattle.mid_lower.specs.Statements.{ToEnd, low_stmt, low_stmts}
 use Rattle.mid_lower.specs.Statements as low
 use Rattle.mid_lower.specs.Lowered.{args_from, all_received, first_of, low_body}
 use Rattle.mid_lower.proofs.Grows.{Mid, Grows, all_of, more, then_grows, block_grows}
-use Rattle.mid_lower.proofs.Under.{Under}
 use Rattle.mid_lower.proofs.Trees.{PlainStmts, Below}
 use Rattle.mid_lower.proofs.Fits.{Site, Fits, ScalarTypes}
-use Rattle.mid_lower.proofs.Following.{events_of, Side, mk, Goal, Now, Fin, Kept, Way, Free, scratch, paid, paid_now, fin_now, spare, now_work, kept_wider, kept_through, eqb_less, eqb_more, M, M_grows, op}
+use Rattle.mid_lower.proofs.Following.{events_of, Side, mk, Goal, Now, Way, paid, paid_now, spare, now_work, kept_wider, kept_through, eqb_more, M, M_grows, op}
 use Rattle.mid_lower.proofs.Storing.{stores, went_asked}
 use Rattle.mid_lower.proofs.Values.{local_front}
 use Rattle.mid_lower.proofs.Calling.{SimF, body_goal, at_entry, unmade, BodiesFollow}

@@ -1,8 +1,7 @@
 -- Every form of an expression: mid code follows it.
-use Rattle.std.proofs.Common.{◌≡◌, ℕ, zero, suc, ◌+◌, ◌*◌, ◌<◌, ◌≤◌, Bool, true, false, eqb, List, [], ◌∷◌, ◌++◌, length, slice_get, Option, Some, None, Ok, Err, refl, sym, ap, ◌∙◌, subst, arith}
+use Rattle.std.proofs.Common.{◌≡◌, ℕ, suc, ◌+◌, ◌*◌, ◌<◌, ◌≤◌, true, false, List, [], ◌∷◌, ◌++◌, length, slice_get, Option, Some, None, Ok, refl, sym, ap, ◌∙◌, subst, arith}
 use Rattle.std.specs.Option.{option_map_or}
 use Rattle.c_tree.specs.declared.span.Span.{Span}
-use Rattle.c_tree.specs.declared.operator.UnOp.{UnOp}
 use Rattle.c_tree.specs.declared.operator.UnOp.TheVariants as un
 use Rattle.c_types.specs.Types.{Ty}
 use Rattle.c_types.specs.Typed.{TExprT, Typed, TKindT, NumberK, NullK, LiteralK, GlobalK, LocalK, UnaryK, BinaryK, AssignK, StepK, IndexK, MemberK, ArrowK, CastK, CallK, InK, OutK, WaitK, HaltK, CardK, TExprTs, NoX, MoreX}
@@ -15,24 +14,23 @@ use Rattle.obj_mem.specs.Stores.{local_object}
 use Rattle.obj_mem.specs.Worlds.{World, spend, happened}
 use Rattle.obj_mem.specs.Queries.{first_cell}
 use Rattle.c_meaning.specs.declared.end.End.TheVariants.{Halted, Stray}
-use Rattle.c_meaning.specs.Kinds.{type_of, span_of, is_structure}
-use Rattle.c_meaning.specs.Outcomes.{Val, Value, Place, Vals, Short, asked, then_values, in_front}
+use Rattle.c_meaning.specs.Kinds.{span_of}
+use Rattle.c_meaning.specs.Outcomes.{Val, Place, Vals, Short, asked, then_values, in_front}
 use Rattle.c_meaning.specs.Operators.{converted}
 use Rattle.c_meaning.specs.Expressions as src
 use Rattle.c_meaning.specs.Expressions.{evaluated, evaluated_all}
 use Rattle.mid_code.specs.Code.{LocalO, GlobalO, LiteralO, CardO, ConstO, NullO, NodesT}
 use Rattle.mid_code.specs.Meaning.{Res}
 use Rattle.mid_code.specs.States.{temporaries, to, spent}
-use Rattle.mid_lower.specs.Shape.{Shape, shape_in, params_of, result_of}
+use Rattle.mid_lower.specs.Shape.{Shape, shape_in, result_of}
 use Rattle.mid_lower.specs.Flags.{is_flag}
 use Rattle.mid_lower.specs.Parts as part
 use Rattle.mid_lower.specs.Counts.{sizes_all}
 use Rattle.mid_lower.specs.Expressions as low
 use Rattle.mid_lower.specs.Expressions.{low_args, spots}
 use Rattle.mid_lower.proofs.Grows.{Mid, Grows}
-use Rattle.mid_lower.proofs.Under.{Under}
 use Rattle.mid_lower.proofs.Fits.{Site}
-use Rattle.mid_lower.proofs.Following.{Side, mk, Goal, goal, Now, Way, way_v, SimV, scratch, paid, paid_now, less_now, fin_now, stopped, spare, at_free, above_free, eqb_less, M, M_grows, op}
+use Rattle.mid_lower.proofs.Following.{Side, mk, goal, Now, Way, way_v, SimV, scratch, paid, paid_now, less_now, fin_now, stopped, spare, at_free, above_free, eqb_less, M, M_grows, op}
 use Rattle.mid_lower.proofs.Trees.{Plain, PlainKind, PlainAll}
 use Rattle.mid_lower.proofs.Storing.{converts}
 use Rattle.mid_lower.proofs.Values.{local_front, Follow, uses}

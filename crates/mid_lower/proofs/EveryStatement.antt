@@ -1,39 +1,39 @@
 -- Every form of a statement: mid code follows it.
-use Rattle.std.proofs.Common.{◌≡◌, ℕ, zero, suc, ◌+◌, ◌*◌, ◌<◌, ◌≤◌, Bool, true, false, not, ◌==◌, List, [], ◌∷◌, ◌++◌, length, Option, Some, None, refl, sym, ap, ◌∙◌, subst, arith, if◌then◌else◌}
+use Rattle.std.proofs.Common.{◌≡◌, ℕ, ◌+◌, ◌≤◌, Bool, false, List, length, Option, Some, None, refl, sym, ap, ◌∙◌, subst, arith, if◌then◌else◌}
 use Rattle.c_types.specs.Types.{Ty}
 use Rattle.c_types.specs.Typed.{TExprT, TStmtT, BlockZ, EmptyZ, VarsZ, DoZ, IfZ, WhileZ, DoWhileZ, ForZ, SwitchZ, ReturnZ, BreakZ, ContinueZ, MaybeZ, NoneZ, SomeZ, TStmtTs, NoZ, MoreZ, TArmTs, CaseB, DefaultB, StmtB, NoB, MoreB}
 use Rattle.obj_mem.specs.declared.cell.Cell.{Cell}
 use Rattle.obj_mem.specs.declared.cell.Cell.TheVariants.{Unwritten}
 use Rattle.obj_mem.specs.Stores.{fresh_all}
 use Rattle.obj_mem.specs.Worlds.{World, on_store, spend}
-use Rattle.c_meaning.specs.Kinds.{type_of, span_of, is_structure}
-use Rattle.c_meaning.specs.Outcomes.{Done, Goes, Breaks, Continues, Returns, Ended, Turn, DoTurn, nowhere, asked, then_went, then_done}
+use Rattle.c_meaning.specs.Kinds.{span_of}
+use Rattle.c_meaning.specs.Outcomes.{Done, Goes, Returns, Ended, Turn, DoTurn, nowhere, asked, then_went, then_done}
 use Rattle.c_meaning.specs.Setting.{result_of}
 use Rattle.c_meaning.specs.Operators.{converted}
 use Rattle.c_meaning.specs.Cells.{cells_set, released}
 use Rattle.c_meaning.specs.Expressions.{evaluated}
 use Rattle.c_meaning.specs.Statements.{does, does_all, does_maybe, turn, returned, returned_as}
-use Rattle.mid_code.specs.Code.{MoveO, NodesT, Stop, Do, Choose, Again, Return}
+use Rattle.mid_code.specs.Code.{MoveO, NodesT, Stop, Do, Choose, Return}
 use Rattle.mid_code.specs.Meaning.{Res, Next}
 use Rattle.mid_lower.specs.Shape.{Shape, shape_in, words}
-use Rattle.mid_lower.specs.Flags.{is_flag, tests_flag}
+use Rattle.mid_lower.specs.Flags.{is_flag}
 use Rattle.mid_lower.specs.Parts as part
 use Rattle.mid_lower.specs.Counts.{stmt_temps, stmt_sizes, other_temps, other_sizes}
 use Rattle.mid_lower.specs.Expressions.{second, beyond, low_value}
 use Rattle.mid_lower.specs.Statements as low
 use Rattle.mid_lower.specs.Statements.{Jump, ToEnd, ToTurn, low_stmt, low_stmts, low_other}
-use Rattle.mid_lower.proofs.Grows.{Mid, Grows}
+use Rattle.mid_lower.proofs.Grows.{Mid}
 use Rattle.mid_lower.proofs.Under.{Under}
 use Rattle.mid_lower.proofs.Trees.{PlainValue, PlainStmt, PlainStmts, PlainOther, PlainArms, Below}
 use Rattle.mid_lower.proofs.Fits.{Site}
-use Rattle.mid_lower.proofs.Following.{Side, mk, Goal, Now, Fin, Way, paid, paid_now, less_now, spare, above_free, M, M_grows}
+use Rattle.mid_lower.proofs.Following.{Side, mk, Goal, Now, Way, paid, paid_now, less_now, above_free, M}
 use Rattle.mid_lower.proofs.Storing.{converts}
 use Rattle.mid_lower.proofs.Values.{uses, drops}
 use Rattle.mid_lower.proofs.Choices.{tests, chooses}
 use Rattle.mid_lower.proofs.Filling.{vars_sim}
 use Rattle.mid_lower.proofs.Outcomes.{SimD, way_d, plain, stmt, wide, stmt_plain, seqs, turn_wide, here, begin_stmt, through}
 use Rattle.mid_lower.proofs.Locals.{HomeOf, ends, mades}
-use Rattle.mid_lower.proofs.LoopForms.{Earlier, FollowStmt, Home, sim, home_after, while_sim, do_sim, for_sim}
+use Rattle.mid_lower.proofs.LoopForms.{Earlier, FollowStmt, sim, home_after, while_sim, do_sim, for_sim}
 use Rattle.mid_lower.proofs.SwitchForms.{AllFollow, switch_sim}
 
 abbrev no_place : Option ℕ

@@ -1,7 +1,6 @@
 -- Initialisers: mid code follows them. A pointer to the object stands in p, and the part begins so many words behind it.
-use Rattle.std.proofs.Common.{◌≡◌, ℕ, zero, suc, ◌+◌, ◌*◌, ◌-◌, ◌%◌, ◌^◌, ◌<◌, ◌≤◌, Bool, true, false, eqb, List, [], ◌∷◌, ◌++◌, length, Option, Some, None, Ok, Err, refl, sym, ap, ◌∙◌, subst, arith, if◌then◌else◌}
+use Rattle.std.proofs.Common.{◌≡◌, ℕ, zero, suc, ◌+◌, ◌*◌, ◌-◌, ◌%◌, ◌^◌, ◌<◌, ◌≤◌, Bool, true, false, List, [], ◌∷◌, ◌++◌, length, Option, Some, None, Ok, Err, refl, sym, ap, ◌∙◌, subst, arith, if◌then◌else◌}
 use Rattle.std.proofs.Math.Nat.{mod-add-mod, mod-eq_of_lt}
-use Rattle.c_tree.specs.declared.span.Span.{Span}
 use Rattle.c_types.specs.Types.{Ty, VoidY, IntY, BoolY, EnumY, StructY, UnionY, PointerY, ArrayY}
 use Rattle.c_types.specs.Sizes.{words_of}
 use Rattle.c_types.specs.Typed.{TExprT, TInitT, OneI, TextI, ListI, TInitTs, NoI, MoreI, TVarT}
@@ -9,42 +8,37 @@ use Rattle.obj_mem.specs.Objects.{ObjectT}
 use Rattle.obj_mem.specs.declared.cell.Cell.{Cell}
 use Rattle.obj_mem.specs.declared.cell.Cell.TheVariants.{Num, Ptr}
 use Rattle.obj_mem.specs.declared.refusal.Refusal.TheVariants.{Strays, Faults}
-use Rattle.obj_mem.specs.Stores.{Store, with_objects, local_object}
+use Rattle.obj_mem.specs.Stores.{with_objects, local_object}
 use Rattle.obj_mem.specs.Worlds.{World, on_store, spend}
 use Rattle.obj_mem.specs.Queries.{Answer, write, further, step, first_cell}
 use Rattle.c_meaning.specs.declared.end.End.{End}
 use Rattle.c_meaning.specs.declared.end.End.TheVariants.{Stray}
-use Rattle.c_meaning.specs.Kinds.{is_structure}
 use Rattle.c_meaning.specs.Outcomes.{Went, Through, CutOff, nowhere, asked, then_went}
-use Rattle.c_meaning.specs.Setting.{Setting, literal_at}
-use Rattle.c_meaning.specs.Setting as src
+use Rattle.c_meaning.specs.Setting.{literal_at}
 use Rattle.c_meaning.specs.Parts.{part_type}
 use Rattle.c_meaning.specs.Operators.{converted}
 use Rattle.c_meaning.specs.Cells.{cells_set, stored, released, end_temporary}
-use Rattle.c_meaning.specs.Expressions.{with_value, evaluated}
-use Rattle.c_meaning.specs.Initialisers.{one_filled, text_filled, rest_filled, filled, all_filled, object_of, variable_filled, variables_filled}
+use Rattle.c_meaning.specs.Initialisers.{rest_filled, filled, all_filled, object_of, variable_filled, variables_filled}
 use Rattle.mid_code.specs.Code.{MoveO, ConstO, StepO, GlobalO, LocalO, LiteralO, StoreO, NodesT, Do}
 use Rattle.mid_code.specs.Meaning.{Res}
 use Rattle.mid_code.specs.States.{temporaries, to, spent}
-use Rattle.mid_code.specs.States as mid
 use Rattle.mid_lower.specs.Shape.{Shape, shape_in, words, literal_words}
 use Rattle.mid_lower.specs.Flags.{is_flag}
 use Rattle.mid_lower.specs.Parts as part
 use Rattle.mid_lower.specs.Counts.{init_temps, init_sizes, behind_address}
 use Rattle.mid_lower.specs.Initialisers as low
-use Rattle.mid_lower.specs.Expressions.{low_value}
 use Rattle.mid_lower.proofs.Grows.{Mid, Grows}
-use Rattle.mid_lower.proofs.Under.{Under, Alike}
+use Rattle.mid_lower.proofs.Under.{Alike}
 use Rattle.mid_lower.proofs.Words.{in_words}
 use Rattle.mid_lower.proofs.Trees.{Fills, FillAll, FillVars, RestFits}
 use Rattle.mid_lower.proofs.Fits.{Site}
-use Rattle.mid_lower.proofs.Following.{Side, mk, Goal, Now, Way, Free, Rest, scratch, paid, paid_now, spare, now_work, low_free, above_free, eqb_less, eqb_more, M, M_grows, op, sets}
+use Rattle.mid_lower.proofs.Following.{Side, mk, Goal, Now, Way, Free, Rest, scratch, spare, now_work, low_free, above_free, eqb_more, M, M_grows, sets}
 use Rattle.mid_lower.proofs.Instructions.{step_eq}
 use Rattle.mid_lower.proofs.Storing.{converts, stores, went_asked}
-use Rattle.mid_lower.proofs.Values.{local_front, Follow, uses}
+use Rattle.mid_lower.proofs.Values.{local_front, uses}
 use Rattle.mid_lower.proofs.Calling.{BodiesFollow}
 use Rattle.mid_lower.proofs.EveryExpression.{expr_sim}
-use Rattle.mid_lower.proofs.CellLoops.{Others, copies, zeroes}
+use Rattle.mid_lower.proofs.CellLoops.{copies, zeroes}
 
 -- one loop or store after another
 pub went_went : {A : Type 0} (stop : End → World → A) (v : Went) (rest : World → Went) (go : World → A) → then_went stop (then_went CutOff v rest) go ≡ then_went stop v (λ z. then_went stop (rest z) go)

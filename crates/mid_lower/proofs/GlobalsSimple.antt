@@ -1,5 +1,5 @@
 -- What fills globals is fixed, so no structure is a value in it.
-use Rattle.std.proofs.Common.{◌≡◌, ℕ, Bool, true, false, not, ◌&&◌, ◌||◌, List, [], ◌∷◌, Option, Some, None, refl}
+use Rattle.std.proofs.Common.{◌≡◌, ℕ, Bool, true, false, not, ◌&&◌, List, [], ◌∷◌, Option, Some, None, refl}
 use Rattle.std.specs.Prelude.{is_some, option_and_then}
 use Rattle.c_tree.specs.declared.operator.BinOp.{BinOp}
 use Rattle.c_types.specs.Types.{Ty, VoidY, IntY, BoolY, EnumY, StructY, UnionY, PointerY, ArrayY}
@@ -7,7 +7,7 @@ use Rattle.c_types.specs.Typed.{TExprT, Typed, TKindT, NumberK, NullK, LiteralK,
 use Rattle.c_rules.specs.Kinds.{is_array, converts}
 use Rattle.c_rules.specs.Kinds as rules
 use Rattle.c_rules.specs.Constants.{constant_unary, constant_binary}
-use Rattle.c_exprs.specs.Nodes.{type_of_typed, kind_of_typed, constant, constant_kind}
+use Rattle.c_exprs.specs.Nodes.{type_of_typed, constant, constant_kind}
 use Rattle.c_stmts.specs.Slots.{Slots, slots_of, next_slot, later_slots, is_null_or_text, is_fixed}
 use Rattle.c_facts.specs.Sound.{Scene, takes_value, FillsAs, FillEach, AreFilled}
 use Rattle.c_meaning.specs.Kinds.{is_structure}

@@ -1,39 +1,37 @@
 -- Operators, reading, converting and storing: mid code follows them.
-use Rattle.std.proofs.Common.{◌≡◌, ℕ, suc, ◌+◌, ◌*◌, ◌<◌, ◌≤◌, ◌%◌, ◌^◌, Bool, true, false, not, ◌==◌, cond, eqb, List, Option, Some, None, Result, Ok, Err, refl, sym, ap, ◌∙◌, subst, arith, if◌then◌else◌}
+use Rattle.std.proofs.Common.{◌≡◌, ℕ, ◌+◌, Bool, true, false, not, ◌==◌, eqb, List, Option, Some, None, Ok, Err, refl, sym, ap, ◌∙◌, subst, arith, if◌then◌else◌}
 use Rattle.std.proofs.lemmas.Bool.{eqb-true}
-use Rattle.kit_base.specs.Word.{mul, negated, bool_word}
+use Rattle.kit_base.specs.Word.{mul, negated}
 use Rattle.c_tree.specs.declared.span.Span.{Span}
 use Rattle.c_tree.specs.declared.operator.BinOp.{BinOp}
 use Rattle.c_tree.specs.declared.operator.BinOp.TheVariants as bin
-use Rattle.c_types.specs.Types.{Ty, VoidY, IntY, BoolY, EnumY, StructY, UnionY, PointerY, ArrayY}
-use Rattle.c_meaning.specs.Kinds.{decayed, pointed, is_pointer, is_structure}
-use Rattle.v32_isa.specs.declared.instruction.One.{One}
-use Rattle.v32_isa.specs.declared.instruction.One.TheVariants.{CIB, ISGN}
+use Rattle.c_types.specs.Types.{Ty}
+use Rattle.c_meaning.specs.Kinds.{decayed, pointed, is_pointer}
+use Rattle.v32_isa.specs.declared.instruction.One.TheVariants.{ISGN}
 use Rattle.v32_isa.specs.declared.instruction.Two.{Two}
 use Rattle.v32_isa.specs.declared.instruction.Two.TheVariants.{IEQ, INE, IGT, IGE, ILT, ILE, AND, OR, XOR, SHL, IADD, ISUB, IMUL, IDIV, IMOD}
 use Rattle.obj_mem.specs.Objects.{ObjectT}
 use Rattle.obj_mem.specs.declared.cell.Cell.{Cell}
 use Rattle.obj_mem.specs.declared.cell.Cell.TheVariants.{Unwritten, Num, Ptr, Null}
 use Rattle.obj_mem.specs.declared.refusal.Refusal.TheVariants.{Strays, Faults}
-use Rattle.obj_mem.specs.Stores.{with_objects}
-use Rattle.obj_mem.specs.Worlds.{World, on_store, spend}
-use Rattle.obj_mem.specs.Queries.{Answer, then_ask, answer_if, word_of, word_or_fault, truth, read, write, step, equal_pointers, offsets, apart}
+use Rattle.obj_mem.specs.Worlds.{World}
+use Rattle.obj_mem.specs.Queries.{Answer, then_ask, word_of, truth, step, equal_pointers, offsets, apart}
 use Rattle.c_meaning.specs.declared.end.End.{End}
-use Rattle.c_meaning.specs.declared.end.End.TheVariants.{Fault, Stray}
-use Rattle.c_meaning.specs.Outcomes.{Went, Through, CutOff, asked, then_went}
-use Rattle.c_meaning.specs.Setting.{Setting, words}
-use Rattle.c_meaning.specs.Operators.{is_of, read_as, converted, cell_binary, word_binary, stepped, stepped_back, distance, ordered, pointer_operated, operated_on, operated}
-use Rattle.mid_code.specs.Code.{OpT, ConstO, OneO, TwoO, StepO, ApartO, PtrTestO, LoadO, StoreO, NodesT, Do}
-use Rattle.mid_code.specs.Meaning.{Res, did}
+use Rattle.c_meaning.specs.declared.end.End.TheVariants.{Stray}
+use Rattle.c_meaning.specs.Outcomes.{asked}
+use Rattle.c_meaning.specs.Setting.{words}
+use Rattle.c_meaning.specs.Operators.{cell_binary, word_binary, stepped, stepped_back, distance, ordered, pointer_operated, operated_on, operated}
+use Rattle.mid_code.specs.Code.{ConstO, OneO, TwoO, StepO, ApartO, PtrTestO, NodesT, Do}
+use Rattle.mid_code.specs.Meaning.{Res}
 use Rattle.mid_code.specs.States.{temporaries, to, to_objects, spent, one_word, two_words, pointers_tested}
 use Rattle.mid_code.specs.States as mid
 use Rattle.mid_lower.specs.Shape.{Shape, shape_in}
 use Rattle.mid_lower.specs.Parts as low
 use Rattle.mid_lower.proofs.Grows.{Mid, Grows}
-use Rattle.mid_lower.proofs.Under.{Under, Alike, same, then_both, read_both, WriteBoth, write_both, equal_both, offsets_both}
-use Rattle.mid_lower.proofs.Words.{step_once, step_words, negated_once, in_words, same_words, div_words, mod_words}
+use Rattle.mid_lower.proofs.Under.{Under, Alike, same, then_both, equal_both, offsets_both}
+use Rattle.mid_lower.proofs.Words.{step_words, same_words, div_words, mod_words}
 use Rattle.mid_lower.proofs.Fits.{Site}
-use Rattle.mid_lower.proofs.Following.{Side, mk, Goal, Now, Way, Free, Rest, spare, paid, paid_now, fin_now, stopped, L, M, M_grows, op, sets}
+use Rattle.mid_lower.proofs.Following.{Side, mk, Goal, Now, Way, Free, Rest, spare, M, M_grows, op, sets}
 
 -- one question after another
 pub asked_then : {A B R : Type 0} (stop : End → World → R) (span : Span) (w : World) (q : Answer A) (r : A → Answer B) (go : B → R) → asked stop span w (then_ask q r) go ≡ asked stop span w q (λ a. asked stop span w (r a) go)

@@ -1,8 +1,7 @@
 -- Locals that are made, and that end: mid code makes them, and ends none.
-use Rattle.std.proofs.Common.{◌≡◌, ℕ, zero, suc, ◌+◌, ◌*◌, ◌<◌, ◌≤◌, Bool, true, false, List, [], ◌∷◌, ◌++◌, length, set, Option, Some, None, refl, sym, ap, ◌∙◌, subst, arith}
+use Rattle.std.proofs.Common.{◌≡◌, ℕ, zero, suc, ◌+◌, ◌<◌, Bool, false, List, [], ◌∷◌, ◌++◌, length, set, Option, Some, None, refl, sym, ap, ◌∙◌, subst, arith}
 use Rattle.c_types.specs.Types.{Ty}
 use Rattle.obj_mem.specs.Objects.{ObjectT, object, made, unwritten}
-use Rattle.obj_mem.specs.declared.cell.Cell.{Cell}
 use Rattle.obj_mem.specs.declared.cell.ObjectKind.TheVariants as kind
 use Rattle.obj_mem.specs.Stores.{Store, with_objects, local_object, words_here, end_local, fresh, fresh_all, end_one, end_all}
 use Rattle.obj_mem.specs.Worlds.{World, on_store}
@@ -15,10 +14,10 @@ use Rattle.mid_code.specs.Meaning.{Res}
 use Rattle.mid_code.specs.States.{sizes_of}
 use Rattle.mid_lower.specs.Statements.{Jump}
 use Rattle.mid_lower.specs.Parts as part
-use Rattle.mid_lower.proofs.Grows.{Mid, Grows}
+use Rattle.mid_lower.proofs.Grows.{Mid}
 use Rattle.mid_lower.proofs.Under.{Under, under_length, under_join, under_end_local, end_both}
 use Rattle.mid_lower.proofs.Fits.{Site}
-use Rattle.mid_lower.proofs.Following.{Side, mk, Goal, Now, Fin, M, M_grows}
+use Rattle.mid_lower.proofs.Following.{Side, mk, Goal, Now, Fin, M}
 use Rattle.mid_lower.proofs.Outcomes.{SimD}
 use Rattle.mid_lower.proofs.Trees.{Below}
 

@@ -1,5 +1,5 @@
 -- Loops: mid code follows them, where it follows the turns with one less of the bound.
-use Rattle.std.proofs.Common.{◌≡◌, ℕ, zero, suc, ◌+◌, ◌*◌, ◌<◌, ◌≤◌, Bool, true, false, not, ◌==◌, List, length, Option, Some, None, Ok, Err, refl, sym, ap, ◌∙◌, subst, arith}
+use Rattle.std.proofs.Common.{◌≡◌, ℕ, ◌+◌, ◌≤◌, Bool, true, false, length, Option, Some, None, Ok, Err, refl, sym, ◌∙◌, subst, arith}
 use Rattle.c_tree.specs.declared.span.Span.{Span}
 use Rattle.c_types.specs.Types.{Ty}
 use Rattle.c_types.specs.Typed.{TExprT, TStmtT, WhileZ, DoWhileZ}
@@ -7,24 +7,23 @@ use Rattle.obj_mem.specs.declared.cell.Cell.{Cell}
 use Rattle.obj_mem.specs.declared.refusal.Refusal.TheVariants.{Strays, Faults}
 use Rattle.obj_mem.specs.Queries.{Answer}
 use Rattle.obj_mem.specs.Worlds.{World}
-use Rattle.c_meaning.specs.Kinds.{type_of, span_of, decayed, is_structure}
-use Rattle.c_meaning.specs.Outcomes.{Val, Value, Place, NoValue, Stops, then_value, either_way, Done, Goes, Breaks, Continues, Returns, Ended, Turn, DoTurn, asked}
+use Rattle.c_meaning.specs.Kinds.{type_of, span_of, decayed}
+use Rattle.c_meaning.specs.Outcomes.{Val, Value, Place, NoValue, Stops, then_value, either_way, Done, Goes, Continues, Ended, Turn, DoTurn, asked}
 use Rattle.c_meaning.specs.Operators.{is_true}
 use Rattle.c_meaning.specs.Expressions.{value_of, evaluated, tested, dropped, dropped_value}
 use Rattle.c_meaning.specs.Statements.{does, turn, do_turn, step_done, body_done}
 use Rattle.mid_code.specs.Code.{NodesT, Stop, Choose, Block, Loop, Again}
 use Rattle.mid_code.specs.Meaning.{Res, Next, then_next}
 use Rattle.mid_lower.specs.Shape.{Shape, shape_in}
-use Rattle.mid_lower.specs.Flags.{tests_flag}
-use Rattle.mid_lower.specs.Counts.{value_temps, value_sizes, maybe_temps, maybe_sizes, stmt_temps, stmt_sizes}
+use Rattle.mid_lower.specs.Counts.{maybe_temps, stmt_temps, stmt_sizes}
 use Rattle.mid_lower.specs.Expressions.{low_test, second, beyond}
 use Rattle.mid_lower.specs.Statements as low
 use Rattle.mid_lower.specs.Statements.{Jump, ToEnd, ToTurn, low_stmt}
-use Rattle.mid_lower.proofs.Grows.{Mid, Grows}
+use Rattle.mid_lower.proofs.Grows.{Mid}
 use Rattle.mid_lower.proofs.Under.{Under}
 use Rattle.mid_lower.proofs.Trees.{PlainValue, PlainMaybe, PlainStmt}
 use Rattle.mid_lower.proofs.Fits.{Site}
-use Rattle.mid_lower.proofs.Following.{Side, mk, Goal, Now, Way, paid, paid_now, less_now, spare, above_free, M, M_grows}
+use Rattle.mid_lower.proofs.Following.{Side, mk, Goal, Now, Way, paid, paid_now, less_now, spare, above_free, M}
 use Rattle.mid_lower.proofs.Values.{Follow, drops}
 use Rattle.mid_lower.proofs.Choices.{tests, chooses}
 use Rattle.mid_lower.proofs.Calling.{BodiesFollow}

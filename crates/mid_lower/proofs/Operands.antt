@@ -1,15 +1,13 @@
 -- What the rules of nodes take as operands is no structure, save what is assigned, passed, given or filled in whole.
-use Rattle.std.proofs.Common.{◌≡◌, ℕ, Bool, true, false, not, ◌&&◌, ◌||◌, List, [], ◌∷◌, Option, Some, None, Result, Ok, Err, refl, sym, ap, ◌∙◌, subst, if◌then◌else◌}
-use Rattle.std.specs.Prelude.{option_map, option_and_then}
-use Rattle.std.proofs.lemmas.Bool.{false≢true}
+use Rattle.std.proofs.Common.{◌≡◌, ℕ, Bool, true, false, not, ◌&&◌, ◌||◌, List, [], ◌∷◌, Option, Some, None, Ok, Err, refl, ap, if◌then◌else◌}
+use Rattle.std.specs.Prelude.{option_map}
 use Rattle.c_tree.specs.declared.operator.UnOp.{UnOp}
 use Rattle.c_tree.specs.declared.operator.UnOp.TheVariants as un
 use Rattle.c_tree.specs.declared.operator.BinOp.{BinOp}
 use Rattle.c_tree.specs.declared.operator.BinOp.TheVariants as bin
 use Rattle.c_types.specs.Types.{Ty, VoidY, IntY, BoolY, EnumY, StructY, UnionY, PointerY, ArrayY, LayoutT}
-use Rattle.c_rules.specs.declared.code.Code.{Code}
 use Rattle.c_rules.specs.Kinds.{is_number, is_array, is_pointer, is_condition, decayed, pointed, target, pointers_convert, converts, can_cast}
-use Rattle.c_rules.specs.Rules.{Rule, Demand, checked, judged_by, judged}
+use Rattle.c_rules.specs.Rules.{Demand, checked, judged_by, judged}
 use Rattle.c_rules.specs.Nodes.{given, needs_place, unary_gives, unary_rule, are_numbers, are_comparable, moved, apart, sum_gives, difference_gives, binary_gives, binary_rule, index_rule, assign_rule, kept_as, compound_rule, cast_rule}
 use Rattle.c_exprs.specs.Nodes.{layout_behind}
 use Rattle.c_facts.specs.Sound.{has_member}

@@ -1,7 +1,6 @@
 -- Numbers, names, and operators on values: mid code follows them.
-use Rattle.std.proofs.Common.{◌≡◌, ℕ, zero, suc, ◌+◌, ◌*◌, ◌<◌, ◌≤◌, Bool, true, false, not, ◌==◌, cond, eqb, List, [], ◌∷◌, ◌++◌, length, Option, Some, None, Ok, Err, refl, sym, ap, ◌∙◌, subst, arith}
+use Rattle.std.proofs.Common.{◌≡◌, ℕ, ◌+◌, ◌<◌, ◌≤◌, Bool, true, false, not, ◌==◌, Ok, Err, refl, sym, ap, ◌∙◌, subst, arith}
 use Rattle.std.proofs.lemmas.Bool.{false≢true}
-use Rattle.kit_base.specs.Word.{bool_word}
 use Rattle.c_tree.specs.declared.span.Span.{Span}
 use Rattle.c_tree.specs.declared.operator.UnOp.{UnOp}
 use Rattle.c_tree.specs.declared.operator.UnOp.TheVariants as un
@@ -18,7 +17,6 @@ use Rattle.obj_mem.specs.declared.cell.Cell.TheVariants.{Unwritten, Num, Ptr, Nu
 use Rattle.obj_mem.specs.declared.refusal.Refusal.TheVariants.{Strays, Faults}
 use Rattle.obj_mem.specs.Worlds.{World, spend}
 use Rattle.obj_mem.specs.Queries.{Answer, then_ask, word_of, truth, equal_pointers}
-use Rattle.c_meaning.specs.declared.end.End.TheVariants.{Stray}
 use Rattle.c_meaning.specs.Kinds.{type_of, span_of, decayed, is_structure}
 use Rattle.c_meaning.specs.Outcomes.{Val, Value, Place, NoValue, Stops, asked, either_way}
 use Rattle.c_meaning.specs.Operators.{is_true, cell_unary, operated}
@@ -30,13 +28,12 @@ use Rattle.mid_code.specs.States.{temporaries, to, spent, one_word, pointers_tes
 use Rattle.mid_lower.specs.Shape.{Shape, shape_in}
 use Rattle.mid_lower.specs.Flags.{tests_flag}
 use Rattle.mid_lower.specs.Parts as part
-use Rattle.mid_lower.specs.Counts.{value_temps}
 use Rattle.mid_lower.specs.Expressions as low
 use Rattle.mid_lower.proofs.Grows.{Mid, Grows, then_grows}
 use Rattle.mid_lower.proofs.Under.{Under, same, then_both, equal_both}
 use Rattle.mid_lower.proofs.Flagged.{IsFlag}
 use Rattle.mid_lower.proofs.Fits.{Site}
-use Rattle.mid_lower.proofs.Following.{Side, mk, Goal, goal, Now, SimV, Way, way_v, scratch, paid, paid_now, less_now, spare, bind_place, kept_through, at_free, above_free, low_free, eqb_less, eqb_more, L, M, M_grows, op, sets}
+use Rattle.mid_lower.proofs.Following.{Side, mk, Goal, goal, Now, SimV, way_v, scratch, paid, paid_now, less_now, spare, bind_place, kept_through, at_free, above_free, low_free, eqb_less, eqb_more, L, M, M_grows, op, sets}
 use Rattle.mid_lower.proofs.Instructions.{Three, operates, word, from_eq, tested_eq}
 use Rattle.mid_lower.proofs.Values.{Follow, uses}
 use Rattle.mid_lower.proofs.Choices.{tests, chooses}

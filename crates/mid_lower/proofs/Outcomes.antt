@@ -1,28 +1,17 @@
 -- Statements: the parts of following them.
-use Rattle.std.proofs.Common.{◌≡◌, ℕ, zero, suc, ◌+◌, ◌*◌, ◌<◌, ◌≤◌, Bool, true, false, not, ◌==◌, cond, eqb, List, [], ◌∷◌, ◌++◌, length, get_or, set, Option, Some, None, Ok, Err, refl, sym, ap, ◌∙◌, subst, arith}
-use Rattle.c_types.specs.Types.{Ty}
-use Rattle.c_types.specs.Typed.{TStmtT}
-use Rattle.obj_mem.specs.Objects.{ObjectT, object, made, unwritten}
-use Rattle.obj_mem.specs.declared.cell.Cell.{Cell}
-use Rattle.obj_mem.specs.declared.cell.ObjectKind.TheVariants as kind
-use Rattle.obj_mem.specs.Stores.{Store, with_objects, local_object, words_here, end_local, fresh, fresh_all, end_one, end_all}
-use Rattle.obj_mem.specs.Worlds.{World, on_store, spend}
-use Rattle.c_meaning.specs.declared.end.End.{End}
-use Rattle.c_meaning.specs.Kinds.{is_structure}
+use Rattle.std.proofs.Common.{◌≡◌, ℕ, ◌+◌, ◌*◌, ◌<◌, ◌≤◌, Bool, false, eqb, length, Some, None, refl, sym, ap, ◌∙◌, subst, arith}
+use Rattle.obj_mem.specs.Worlds.{World, spend}
 use Rattle.c_meaning.specs.Outcomes.{Done, Goes, Breaks, Continues, Returns, Ended, then_done}
-use Rattle.c_meaning.specs.Setting.{Setting, result_of}
-use Rattle.c_meaning.specs.Statements.{left, body_done}
-use Rattle.mid_code.specs.Code.{FreshO, NodesT, Stop, Do, Again, Loop}
+use Rattle.c_meaning.specs.Statements.{body_done}
+use Rattle.mid_code.specs.Code.{NodesT, Stop, Again}
 use Rattle.mid_code.specs.Meaning.{Res, Next, Leaves, Repeats, Over, then_next, block_done, turn_done, did}
 use Rattle.mid_code.specs.Meaning as res
-use Rattle.mid_code.specs.States.{sizes_of}
 use Rattle.mid_code.specs.Passing.{Prefix}
-use Rattle.mid_lower.specs.Statements.{Jump, ToEnd, ToTurn, further}
-use Rattle.mid_lower.specs.Parts as part
-use Rattle.mid_lower.proofs.Grows.{Mid, Grows, all_of, more, then_grows, block_grows, turn_grows}
-use Rattle.mid_lower.proofs.Under.{Under, under_length, under_join, under_end_local, end_both}
+use Rattle.mid_lower.specs.Statements.{Jump, ToEnd, ToTurn}
+use Rattle.mid_lower.proofs.Grows.{Mid, Grows, more, then_grows, block_grows, turn_grows}
+use Rattle.mid_lower.proofs.Under.{Under}
 use Rattle.mid_lower.proofs.Fits.{Site}
-use Rattle.mid_lower.proofs.Following.{events_of, Side, mk, Goal, Stays, Now, Fin, Kept, Way, scratch, paid, paid_now, less_now, fin_now, spare, kept_wider, kept_through, eqb_more, M, M_grows}
+use Rattle.mid_lower.proofs.Following.{events_of, Side, mk, Goal, Now, Fin, Kept, Way, scratch, paid, paid_now, less_now, kept_wider, kept_through, eqb_more, M, M_grows}
 
 abbrev pub jumped : Jump → Mid → Res Mid
 jumped (ToEnd k) t = Leaves k t

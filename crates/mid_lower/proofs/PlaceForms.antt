@@ -1,10 +1,9 @@
 -- Assignments, steps, elements, members, casts and ports: mid code follows them.
-use Rattle.std.proofs.Common.{◌≡◌, ℕ, zero, suc, ◌+◌, ◌*◌, ◌<◌, ◌≤◌, Bool, true, false, not, ◌==◌, cond, eqb, List, [], ◌∷◌, ◌++◌, length, Option, Some, None, Ok, Err, refl, sym, ap, ◌∙◌, subst, arith, if◌then◌else◌}
+use Rattle.std.proofs.Common.{◌≡◌, ℕ, ◌+◌, ◌<◌, ◌≤◌, true, false, eqb, List, [], ◌∷◌, length, Option, Some, None, refl, sym, ap, ◌∙◌, subst, arith, if◌then◌else◌}
 use Rattle.std.proofs.lemmas.Bool.{false≢true}
 use Rattle.kit_base.specs.declared.event.Event.TheVariants as event
 use Rattle.c_tree.specs.declared.span.Span.{Span}
 use Rattle.c_tree.specs.declared.operator.BinOp.{BinOp}
-use Rattle.c_tree.specs.declared.operator.BinOp.TheVariants as bin
 use Rattle.c_tree.specs.declared.operator.StepOp.{StepOp}
 use Rattle.c_tree.specs.declared.operator.StepOp.TheVariants as stepping
 use Rattle.c_types.specs.Types.{Ty, IntY}
@@ -15,8 +14,8 @@ use Rattle.obj_mem.specs.declared.cell.Cell.TheVariants.{Unwritten, Num, Ptr, Nu
 use Rattle.obj_mem.specs.Worlds.{World, spend, happened, answered}
 use Rattle.obj_mem.specs.Queries.{word_of, step}
 use Rattle.c_meaning.specs.declared.end.End.{End}
-use Rattle.c_meaning.specs.declared.end.End.TheVariants.{Starved, Stray}
-use Rattle.c_meaning.specs.Kinds.{type_of, span_of, decayed, pointed, is_structure}
+use Rattle.c_meaning.specs.declared.end.End.TheVariants.{Starved}
+use Rattle.c_meaning.specs.Kinds.{type_of, span_of, is_structure}
 use Rattle.c_meaning.specs.Outcomes.{Val, Value, Place, NoValue, Stops, asked, then_place}
 use Rattle.c_meaning.specs.Setting.{words}
 use Rattle.c_meaning.specs.Operators.{converted, read_as, operated, stepped}
@@ -29,13 +28,12 @@ use Rattle.mid_code.specs.States as mid
 use Rattle.mid_lower.specs.Shape.{Shape, shape_in}
 use Rattle.mid_lower.specs.Flags.{is_flag}
 use Rattle.mid_lower.specs.Parts as part
-use Rattle.mid_lower.specs.Counts.{temps, sizes}
+use Rattle.mid_lower.specs.Counts.{sizes}
 use Rattle.mid_lower.specs.Expressions as low
 use Rattle.mid_lower.proofs.Grows.{Mid, Grows}
 use Rattle.mid_lower.proofs.Under.{Under, same}
-use Rattle.mid_lower.proofs.Flagged.{IsFlag}
 use Rattle.mid_lower.proofs.Fits.{Site}
-use Rattle.mid_lower.proofs.Following.{Side, mk, Goal, goal, Now, SimV, Way, way_v, Rest, scratch, set, paid, paid_now, set_now, less_now, fin_now, stopped, spare, now_work, bind_place, at_free, above_free, eqb_less, eqb_more, putting, put_at, M, M_grows, op, sets}
+use Rattle.mid_lower.proofs.Following.{Side, mk, Goal, goal, Now, SimV, Way, way_v, scratch, set, paid, paid_now, set_now, less_now, fin_now, stopped, spare, now_work, bind_place, at_free, above_free, eqb_less, eqb_more, putting, put_at, M, M_grows, op, sets}
 use Rattle.mid_lower.proofs.Instructions.{Three, Sets, operates, steps, step_eq}
 use Rattle.mid_lower.proofs.Storing.{loads, converts, ups, downs}
 use Rattle.mid_lower.proofs.Values.{Follow, uses}

@@ -1,11 +1,10 @@
 -- Programs: their code follows them, so it keeps their runs in at most 64 times the work.
 use Rattle.std.specs.Prelude.{◌≢◌}
-use Rattle.std.proofs.Common.{◌≡◌, ℕ, zero, suc, ◌+◌, ◌*◌, ◌≤◌, Bool, true, false, List, [], ◌∷◌, ◌++◌, map, length, sum, sum_by, get_or, slice_get, Option, Some, None, refl, sym, ap, ◌∙◌, subst, arith, if◌then◌else◌}
+use Rattle.std.proofs.Common.{◌≡◌, ℕ, zero, suc, ◌+◌, ◌*◌, ◌≤◌, Bool, true, false, List, [], ◌∷◌, ◌++◌, map, length, get_or, slice_get, Option, Some, None, refl, sym, ap, ◌∙◌, subst, arith, if◌then◌else◌}
 use Rattle.std.specs.Option.{option_map_or}
 use Rattle.std.proofs.lemmas.Bool.{false≢true}
 use Rattle.std.specs.List.{fold}
-use Rattle.kit_base.specs.declared.event.Event.{Event}
-use Rattle.c_types.specs.Types.{Ty, VoidY}
+use Rattle.c_types.specs.Types.{VoidY}
 use Rattle.c_types.specs.View.{tstmts}
 use Rattle.c_types.specs.Programs.{TFunctionT, ProgramT}
 use Rattle.obj_mem.specs.Objects.{ObjectT, object_at, global_object, literal_object, card_object, opening_objects}
@@ -20,13 +19,12 @@ use Rattle.c_meaning.specs.Kinds.{is_structure}
 use Rattle.c_meaning.specs.Outcomes.{Val, Value, Place, NoValue, Stops, Done, Goes, Breaks, Continues, Returns, Ended, nowhere}
 use Rattle.c_meaning.specs.Setting.{Setting, setting, words}
 use Rattle.c_meaning.specs.Expressions as src
-use Rattle.c_meaning.specs.Statements.{below, does_all}
+use Rattle.c_meaning.specs.Statements.{does_all}
 use Rattle.c_meaning.specs.Runs as c
 use Rattle.c_meaning.specs.Runs.{ending}
-use Rattle.mid_code.specs.Code.{NodesT, Stop, CodeT}
+use Rattle.mid_code.specs.Code.{Stop, CodeT}
 use Rattle.mid_code.specs.Meaning.{Res, Next, Leaves, Repeats, Returns, Over, then_next, called}
-use Rattle.mid_code.specs.Meaning as res
-use Rattle.mid_code.specs.States.{temporaries, over_worlds, no_function, function_at}
+use Rattle.mid_code.specs.States.{temporaries, no_function, function_at}
 use Rattle.mid_code.specs.Runs as mid
 use Rattle.mid_code.specs.Keeps.{WorksAtMost, KeepsRuns, KeepsRun, SameRun, global_cell}
 use Rattle.mid_code.specs.Passing.{Prefix}
@@ -36,11 +34,11 @@ use Rattle.mid_lower.specs.Parts.{first_param, result_at}
 use Rattle.mid_lower.specs.Expressions.{is_void}
 use Rattle.mid_lower.specs.Statements.{ToEnd, low_stmts}
 use Rattle.mid_lower.specs.Lowered.{low_function, lowered, args_from}
-use Rattle.mid_lower.proofs.Grows.{Mid, Grows, all_of, more, called_grows}
+use Rattle.mid_lower.proofs.Grows.{Mid, all_of, more, called_grows}
 use Rattle.mid_lower.proofs.Under.{Kin, Under, AllEmpty, under_self, under_at}
 use Rattle.mid_lower.proofs.Trees.{PlainStmts, Below}
 use Rattle.mid_lower.proofs.Fits.{Site, Fits, ScalarTypes}
-use Rattle.mid_lower.proofs.Following.{Side, mk, goal, Goal, Now, SimV, Kept, M, L, events_of, spare}
+use Rattle.mid_lower.proofs.Following.{Side, mk, goal, Goal, SimV, M, L, events_of, spare}
 use Rattle.mid_lower.proofs.Calling.{asks}
 use Rattle.mid_lower.proofs.CellLoops.{next_same}
 use Rattle.mid_lower.proofs.OperatorForms.{begin_value}

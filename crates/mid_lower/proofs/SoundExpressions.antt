@@ -1,18 +1,16 @@
 -- Typed expressions of which no structure is a value are plain.
-use Rattle.std.proofs.Common.{◌≡◌, ℕ, Bool, true, false, List, [], ◌∷◌, length, slice_get, Option, Some, None, refl}
-use Rattle.c_tree.specs.declared.operator.UnOp.{UnOp}
+use Rattle.std.proofs.Common.{◌≡◌, ℕ, true, false, List, [], ◌∷◌, length, slice_get, Option, Some, None, refl}
 use Rattle.c_tree.specs.declared.operator.UnOp.TheVariants as un
 use Rattle.c_types.specs.Types.{Ty, IntY}
 use Rattle.c_types.specs.Typed.{TExprT, Typed, TKindT, NumberK, NullK, LiteralK, GlobalK, LocalK, UnaryK, BinaryK, AssignK, StepK, IndexK, MemberK, ArrowK, CastK, CallK, InK, OutK, WaitK, HaltK, CardK, TExprTs, NoX, MoreX}
 use Rattle.c_types.specs.Programs.{TFunctionT}
-use Rattle.c_rules.specs.Kinds.{is_number, converts}
-use Rattle.c_rules.specs.Rules.{judged}
-use Rattle.c_rules.specs.Nodes.{needs_place, unary_rule, step_operator}
+use Rattle.c_rules.specs.Kinds.{converts}
+use Rattle.c_rules.specs.Nodes.{step_operator}
 use Rattle.c_exprs.specs.Nodes.{type_of_typed, is_place}
 use Rattle.c_exprs.specs.Calls.{listed, all_convert}
-use Rattle.c_facts.specs.Sound.{Scene, Calls, IsTyped, IsKind, AreValues, IsTypedValue}
+use Rattle.c_facts.specs.Sound.{Scene, Calls, IsTyped, IsKind, AreValues}
 use Rattle.c_meaning.specs.Kinds.{type_of, is_structure}
-use Rattle.mid_lower.proofs.Trees.{IsScalar, Plain, PlainKind, PlainAll, PlainValue}
+use Rattle.mid_lower.proofs.Trees.{IsScalar, Plain, PlainKind, PlainAll}
 use Rattle.mid_lower.proofs.Fits.{ScalarTypes}
 use Rattle.mid_lower.proofs.Simple.{Simple, SimpleKind, SimpleAll}
 use Rattle.mid_lower.proofs.Operands.{both_first, both_second, number_scalar, behind_scalar, from_scalar, unary_operand, binary_operands, index_operands, compound_operands, assigned_operands, cast_operand}

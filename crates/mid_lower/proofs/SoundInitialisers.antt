@@ -1,5 +1,5 @@
 -- Initialisers that fill what they are for, of which no structure is a value, are plain: what is set to 0 behind the last item has few words.
-use Rattle.std.proofs.Common.{◌≡◌, ℕ, zero, suc, ◌+◌, ◌*◌, ◌-◌, ◌%◌, ◌^◌, ◌<◌, ◌≤◌, ◌==◌, Bool, true, false, List, [], ◌∷◌, length, sum_by, slice_get, Option, Some, None, refl, sym, ap, ◌∙◌, subst, arith, if◌then◌else◌}
+use Rattle.std.proofs.Common.{◌≡◌, ℕ, zero, suc, ◌+◌, ◌*◌, ◌-◌, ◌%◌, ◌^◌, ◌<◌, ◌≤◌, ◌==◌, Bool, true, false, List, [], ◌∷◌, length, slice_get, Option, Some, None, refl, sym, ap, ◌∙◌, subst, arith, if◌then◌else◌}
 use Rattle.std.specs.Option.{option_map_or}
 use Rattle.std.specs.Prelude.{option_and_then, not, ◌&&◌, ◌||◌}
 use Rattle.std.proofs.Math.Nat.{mod-eq_of_lt}
@@ -7,19 +7,17 @@ use Rattle.std.proofs.lemmas.Bool.Decides.{nat_tests}
 use Rattle.std.proofs.lemmas.List.Sums.{sum_by-cons}
 use Rattle.c_types.specs.Types.{Ty, VoidY, IntY, BoolY, EnumY, StructY, UnionY, PointerY, ArrayY, MemberT, LayoutT}
 use Rattle.c_types.specs.Sizes.{words_of}
-use Rattle.c_types.specs.Typed.{TExprT, Typed, TInitT, OneI, TextI, ListI, TInitTs, NoI, MoreI, TVarT}
+use Rattle.c_types.specs.Typed.{TExprT, TInitT, OneI, TextI, ListI, TInitTs, NoI, MoreI, TVarT}
 use Rattle.c_types.specs.Programs.{TFunctionT, ProgramT}
 use Rattle.c_rules.specs.Kinds.{is_array, converts}
 use Rattle.c_rules.specs.Kinds as rules
-use Rattle.c_rules.specs.Sizes.{is_whole, type_limit}
 use Rattle.c_exprs.specs.Faults.{text_words}
 use Rattle.c_exprs.specs.Nodes.{type_of_typed}
 use Rattle.c_stmts.specs.Slots.{Slots, NoSlots, Elements, Members, member_types, members_of, first_of, slots_of, next_slot, later_slots, is_fixed}
 use Rattle.c_check.specs.Reading.{has_members}
-use Rattle.c_facts.specs.Sound.{Scene, IsKnown, IsSized, IsTypedValue, takes_value, FillsAs, FillEach, AreFilled, AreSized, IsLaidOut, IsDeclaredAs, AreDeclaredAs, in_call, wholes, scene}
-use Rattle.c_meaning.specs.Kinds.{type_of, is_structure}
-use Rattle.c_meaning.specs.Parts.{member_type, part_type}
-use Rattle.mid_lower.specs.Shape.{Shape, shape, words, literal_words}
+use Rattle.c_facts.specs.Sound.{Scene, IsKnown, IsSized, takes_value, FillsAs, FillEach, AreFilled, AreSized, IsLaidOut, IsDeclaredAs, AreDeclaredAs, in_call, wholes, scene}
+use Rattle.c_meaning.specs.Parts.{part_type}
+use Rattle.mid_lower.specs.Shape.{Shape, shape}
 use Rattle.mid_lower.proofs.Trees.{RestFits, Fills, FillAll, FillVars}
 use Rattle.mid_lower.proofs.Fits.{ScalarTypes}
 use Rattle.mid_lower.proofs.Simple.{SimpleFill, SimpleFills, SimpleVars}

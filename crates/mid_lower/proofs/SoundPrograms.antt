@@ -1,27 +1,22 @@
 -- Sound programs of which no structure is a value are plain.
-use Rattle.std.proofs.Common.{◌≡◌, ℕ, zero, suc, ◌+◌, ◌*◌, ◌^◌, ◌<◌, ◌≤◌, Bool, true, false, List, [], ◌∷◌, length, sum_by, slice_get, Option, Some, None, refl, sym, ap, ◌∙◌, subst, arith}
-use Rattle.std.proofs.lemmas.List.Sums.{sum_by-cons}
+use Rattle.std.proofs.Common.{◌≡◌, ℕ, ◌+◌, ◌≤◌, Bool, true, false, List, [], ◌∷◌, length, slice_get, Option, Some, None, refl, arith}
 use Rattle.c_types.specs.Types.{Ty, VoidY, IntY, BoolY, EnumY, StructY, UnionY, PointerY, ArrayY}
-use Rattle.c_types.specs.Typed.{TExprT, Typed, TStmtT, BlockZ, EmptyZ, VarsZ, DoZ, IfZ, WhileZ, DoWhileZ, ForZ, SwitchZ, ReturnZ, BreakZ, ContinueZ, MaybeZ, NoneZ, SomeZ, TStmtTs, NoZ, MoreZ, TArmT, CaseB, DefaultB, StmtB, TArmTs, NoB, MoreB}
-use Rattle.c_types.specs.View.{tstmts}
-use Rattle.c_types.specs.Nodes.{statement_nodes, maybe_statement_nodes, statements_nodes, arm_nodes, arms_nodes, function_nodes, program_nodes}
+use Rattle.c_types.specs.Typed.{TExprT, TStmtT, BlockZ, EmptyZ, VarsZ, DoZ, IfZ, WhileZ, DoWhileZ, ForZ, SwitchZ, ReturnZ, BreakZ, ContinueZ, MaybeZ, NoneZ, SomeZ, TStmtTs, NoZ, MoreZ, CaseB, DefaultB, StmtB, TArmTs, NoB, MoreB}
+use Rattle.c_types.specs.Nodes.{statement_nodes, maybe_statement_nodes, statements_nodes, arms_nodes}
 use Rattle.c_types.specs.Programs.{TFunctionT, ProgramT}
-use Rattle.c_rules.specs.Kinds.{holds, converts}
-use Rattle.c_rules.specs.Kinds as rules
+use Rattle.c_rules.specs.Kinds.{converts}
 use Rattle.c_exprs.specs.Nodes.{type_of_typed}
 use Rattle.c_exprs.specs.Faults.{text_words}
-use Rattle.c_stmts.specs.State.{Labels, no_labels, with_label, is_condition_of}
-use Rattle.c_check.specs.Reading.{same_types}
-use Rattle.c_check.specs.Whole.{is_plain}
-use Rattle.c_facts.specs.Sound.{Scene, AreObjects, IsTest, MayTest, MayValue, Returns, IsTypedValue, IsStatement, MayState, AreStatements, AreArms, IsArm, IsFunction, AreFunctions, AreFilled, FillsGlobals, FillGlobals, AreDeclaredAs, in_call, wholes, scene, IsSound}
+use Rattle.c_stmts.specs.State.{Labels, no_labels, with_label}
+use Rattle.c_facts.specs.Sound.{Scene, AreObjects, IsTest, MayTest, MayValue, IsStatement, MayState, AreStatements, AreArms, AreDeclaredAs, in_call, wholes, scene}
 use Rattle.c_meaning.specs.Kinds.{is_structure}
 use Rattle.c_meaning.specs.Statements.{labels}
 use Rattle.mid_lower.specs.Shape.{Shape, shape}
 use Rattle.mid_lower.specs.Expressions.{is_void}
-use Rattle.mid_lower.proofs.Trees.{Below, PlainValue, PlainMaybe, PlainStmt, PlainOther, PlainStmts, PlainArms, FillVars}
+use Rattle.mid_lower.proofs.Trees.{Below, PlainValue, PlainMaybe, PlainStmt, PlainOther, PlainStmts, PlainArms}
 use Rattle.mid_lower.proofs.Fits.{ScalarTypes}
-use Rattle.mid_lower.proofs.Simple.{Simple, SimpleMaybe, SimpleDropped, SimpleStmt, SimpleOther, SimpleStmts, SimpleArms, SimpleArm, IsSimple}
-use Rattle.mid_lower.proofs.Operands.{both_first, both_second, number_scalar, condition_scalar, from_scalar, never_void}
+use Rattle.mid_lower.proofs.Simple.{Simple, SimpleMaybe, SimpleDropped, SimpleStmt, SimpleOther, SimpleStmts, SimpleArms}
+use Rattle.mid_lower.proofs.Operands.{number_scalar, condition_scalar, from_scalar, never_void}
 use Rattle.mid_lower.proofs.SoundExpressions.{plain, scalar_of}
 use Rattle.mid_lower.proofs.SoundInitialisers.{vars_plain}
 

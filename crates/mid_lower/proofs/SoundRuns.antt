@@ -1,17 +1,16 @@
 -- The lowered code of a sound program keeps its runs, where no structure or union is a value.
-use Rattle.std.proofs.Common.{◌≡◌, ℕ, zero, suc, ◌+◌, ◌≤◌, Bool, true, false, ◌&&◌, List, [], ◌∷◌, length, sum_by, slice_get, Option, Some, None, refl, sym, ap, subst, arith}
+use Rattle.std.proofs.Common.{◌≡◌, ℕ, zero, suc, ◌≤◌, true, false, List, [], ◌∷◌, length, sum_by, slice_get, Option, Some, None, refl, subst, arith}
 use Rattle.std.proofs.lemmas.List.Sums.{sum_by-cons}
 use Rattle.c_types.specs.Types.{Ty, VoidY, IntY, BoolY, EnumY, StructY, UnionY, PointerY, ArrayY}
 use Rattle.c_types.specs.Typed.{TStmtT, BlockZ, EmptyZ, VarsZ, DoZ, IfZ, WhileZ, DoWhileZ, ForZ, SwitchZ, ReturnZ, BreakZ, ContinueZ}
 use Rattle.c_types.specs.View.{tstmts}
-use Rattle.c_types.specs.Nodes.{statement_nodes, statements_nodes, function_nodes, program_nodes}
+use Rattle.c_types.specs.Nodes.{statements_nodes, function_nodes, program_nodes}
 use Rattle.c_types.specs.Programs.{TFunctionT, ProgramT}
 use Rattle.c_rules.specs.Kinds.{holds}
 use Rattle.c_rules.specs.Kinds as rules
 use Rattle.c_check.specs.Reading.{same_types}
 use Rattle.c_check.specs.Whole.{is_plain}
-use Rattle.c_facts.specs.Sound.{Scene, AreFilled, FillsGlobals, FillGlobals, IsFunction, AreFunctions, scene, IsSound}
-use Rattle.c_meaning.specs.Kinds.{is_structure}
+use Rattle.c_facts.specs.Sound.{Scene, FillGlobals, IsFunction, AreFunctions, scene, IsSound}
 use Rattle.c_meaning.specs.Runs as c
 use Rattle.mid_code.specs.Runs as mid
 use Rattle.mid_code.specs.Keeps.{WorksAtMost, KeepsRuns}

@@ -1,38 +1,35 @@
 -- Switches: mid code follows them.
-use Rattle.std.proofs.Common.{◌≡◌, ℕ, zero, suc, ◌+◌, ◌*◌, ◌-◌, ◌^◌, ◌<◌, ◌≤◌, Bool, true, false, not, ◌==◌, eqb, List, length, Option, Some, None, Ok, Err, refl, sym, ap, ◌∙◌, subst, arith, if◌then◌else◌}
-use Rattle.std.proofs.Math.Nat.{add-mod_right}
+use Rattle.std.proofs.Common.{◌≡◌, ℕ, zero, suc, ◌+◌, ◌*◌, ◌^◌, ◌<◌, ◌≤◌, Bool, true, false, ◌==◌, eqb, List, length, Some, None, Ok, refl, sym, ap, ◌∙◌, subst, arith, if◌then◌else◌}
 use Rattle.kit_base.specs.Word.{bool_word}
 use Rattle.c_types.specs.Types.{Ty}
-use Rattle.c_types.specs.Typed.{TExprT, TStmtT, SwitchZ, TArmTs, CaseB, DefaultB, StmtB, NoB, MoreB}
+use Rattle.c_types.specs.Typed.{TExprT, SwitchZ, TArmTs, CaseB, DefaultB, StmtB, NoB, MoreB}
 use Rattle.v32_isa.specs.declared.instruction.Two.TheVariants.{IEQ, ISUB}
 use Rattle.obj_mem.specs.declared.cell.Cell.{Cell}
 use Rattle.obj_mem.specs.declared.cell.Cell.TheVariants.{Unwritten, Num, Ptr, Null}
 use Rattle.obj_mem.specs.Stores.{fresh_all}
 use Rattle.obj_mem.specs.Worlds.{World, on_store, spend}
 use Rattle.obj_mem.specs.Queries.{word_of}
-use Rattle.c_meaning.specs.Kinds.{type_of, span_of}
+use Rattle.c_meaning.specs.Kinds.{span_of}
 use Rattle.c_meaning.specs.Outcomes.{Done, Goes, Breaks, Continues, Returns, Ended, asked, then_done}
-use Rattle.c_meaning.specs.Expressions.{evaluated}
-use Rattle.c_meaning.specs.Statements.{does, does_arms, arms_before, labels, left, switch_done, switched}
+use Rattle.c_meaning.specs.Statements.{does, does_arms, arms_before, labels, left, switch_done}
 use Rattle.mid_code.specs.Code.{ConstO, TwoO, NodesT, Stop, Do, Choose, Block, Leave}
-use Rattle.mid_code.specs.Meaning.{Res, Next, Leaves, Repeats, Over, then_next, block_done, choose}
+use Rattle.mid_code.specs.Meaning.{Res, Next, then_next, block_done, choose}
 use Rattle.mid_code.specs.States.{temporaries, to, spent, word_tested}
 use Rattle.mid_lower.specs.Shape.{Shape, shape_in}
 use Rattle.mid_lower.specs.Parts as part
 use Rattle.mid_lower.specs.Counts.{stmt_temps, stmt_sizes}
-use Rattle.mid_lower.specs.Expressions.{second, beyond, low_value}
+use Rattle.mid_lower.specs.Expressions.{second, beyond}
 use Rattle.mid_lower.specs.Statements as low
 use Rattle.mid_lower.specs.Statements.{Jump, ToEnd, ToTurn, further, low_stmt, low_arms, low_group, low_match, labels_before_default}
 use Rattle.mid_lower.proofs.Grows.{Mid, Grows, more, then_grows, block_grows}
-use Rattle.mid_lower.proofs.Under.{Under}
 use Rattle.mid_lower.proofs.Trees.{PlainValue, Below}
 use Rattle.mid_lower.proofs.Fits.{Site}
-use Rattle.mid_lower.proofs.Following.{Side, mk, Goal, Now, Fin, Way, Free, scratch, paid, paid_now, less_now, spare, now_work, kept_through, low_free, above_free, eqb_less, eqb_more, M, M_grows, sets}
-use Rattle.mid_lower.proofs.Instructions.{word, two_eq}
+use Rattle.mid_lower.proofs.Following.{Side, mk, Goal, Now, Way, Free, scratch, paid, paid_now, less_now, spare, now_work, kept_through, low_free, above_free, eqb_less, eqb_more, M, M_grows, sets}
+use Rattle.mid_lower.proofs.Instructions.{two_eq}
 use Rattle.mid_lower.proofs.Values.{uses}
-use Rattle.mid_lower.proofs.Outcomes.{SimD, way_d, plain, stmt, jumped, wide, stmt_plain, stmt_now, here, begin_stmt}
+use Rattle.mid_lower.proofs.Outcomes.{SimD, way_d, plain, stmt, wide, stmt_plain, stmt_now, begin_stmt}
 use Rattle.mid_lower.proofs.Locals.{HomeOf, ends, mades}
-use Rattle.mid_lower.proofs.LoopForms.{Earlier, FollowStmt, Home, sim, home_after}
+use Rattle.mid_lower.proofs.LoopForms.{Earlier, FollowStmt, sim, home_after}
 use Rattle.mid_lower.proofs.Chosen.{Passes, chosen, chosen_passes, chosen_fits}
 use Rattle.mid_lower.proofs.CellLoops.{sub_one}
 

@@ -30,3 +30,6 @@ pub mod SoundInitialisers
 pub mod GlobalsSimple
 pub mod SoundPrograms
 pub mod SoundRuns
+pub mod Temporaries
+pub mod Nesting
+pub mod NestingStatements

@@ -1,0 +1,39 @@
+-- What is made of a program.
+use Rattle.std.specs.Prelude.{ℕ, List, map}
+use Rattle.asm_items.specs.declared.item.AsmItem.{AsmItem}
+use Rattle.c_types.specs.Programs.{ProgramT}
+use Rattle.mid_code.specs.declared.placed.Where.{Where}
+use Rattle.mid_code.specs.Code.{CodeT}
+use Rattle.mid_code.specs.Plain.{IsPromoted}
+use Rattle.mid_code.specs.Placed.{PlacedT}
+use Rattle.mid_code.specs.Choices.{AreSafe}
+use Rattle.mid_code.specs.Whole.{mid, placed}
+use Rattle.reg_choose.specs.Each.{AllSpare}
+use Rattle.reg_frames.specs.Placeable.{places_of}
+use Rattle.reg_frames.specs.PlacedFrom.{IsPlacedFrom}
+use Rattle.asm_emit.specs.EmittedFrom.{IsEmitted}
+use Rattle.pass_laws.specs.Meeting.{DoesAsMeant}
+use Rattle.c_compile.specs.declared.compiling.Compiled.{Compiled}
+
+-- Mid code without plain locals, where its temporaries stand, the code over these places, and its items.
+pub record CompiledT : Type 0 where
+  pub mid : CodeT ℕ
+  pub choices : List (List Where)
+  pub placed : PlacedT
+  pub items : List AsmItem
+
+abbrev pub compiled : Compiled → CompiledT
+compiled c = record { mid = mid c.mid; choices = places_of c.choices.items; placed = placed c.placed; items = c.items.items }
+
+abbrev pub names_of : ProgramT → List (List ℕ)
+names_of p = map (λ f. f.name) p.functions
+
+pub record IsCompiled (p : ProgramT) (c : CompiledT) : Type 0 where
+  pub promoted : IsPromoted c.mid
+  pub safe : AreSafe c.mid c.choices
+  -- no choice has a slot where it needs none
+  pub spares : AllSpare c.mid c.choices
+  pub placed : IsPlacedFrom c.mid c.choices c.placed
+  pub emitted : IsEmitted c.placed (names_of p) c.items
+  -- the words that the items are placed as do what the program means
+  pub does : DoesAsMeant p c.placed c.items

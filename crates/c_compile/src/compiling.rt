@@ -1,0 +1,51 @@
+// The passes in their order.
+ghost use Rattle.std.specs.Prelude.{IfOk};
+ghost use Rattle.c_check.specs.View.{program};
+ghost use Rattle.mid_code.specs.Whole.{mid};
+ghost use Rattle.mid_lower.specs.LoweredFrom.{IsLoweredFrom};
+ghost use Rattle.c_compile.specs.Compiling.{compiled, IsCompiled};
+
+use crate::naming::names_of;
+use asm_emit::emit;
+use asm_items::AsmItem;
+use c_check::Program;
+use c_facts::laws::{programs_are_sound, programs_have_few_nodes};
+use kit_base::Memory;
+use mid_code::{Choice, Mid, Placed};
+use mid_scalars::promote;
+use pass_laws::passes_meet;
+use reg_choose::choose_all;
+use reg_frames::place;
+use std::alloc::Global;
+
+/// What is made of a program: mid code without locals that need no address, the choice of a register or slot for each temporary, that of the start
+/// first, the code over these places, and its assembly items.
+#[derive(Drop)]
+pub struct Compiled {
+    pub mid: Mid,
+    pub choices: Vec<Choice>,
+    pub placed: Placed,
+    pub items: Vec<AsmItem>,
+}
+
+/// What is made of a program that was lowered to this code. The error is want of memory.
+#[tactic(auto, using(crate::proofs::Emitting::can_be_emitted, crate::proofs::Emitting::is_compiled))]
+pub fn compile_lowered(alloc: Global, checked: &Program, lowered: Mid) -> Result<Compiled, Memory>
+    requires lowered { IsLoweredFrom (program checked.now) (mid lowered) }
+    ensures compiled { IfOk result (λ c. IsCompiled (program checked.now) (compiled c)) }
+{
+    programs_are_sound(checked);
+    programs_have_few_nodes(checked);
+    passes_meet();
+    let mid = promote(alloc, lowered)?;
+    let choices = choose_all(alloc, &mid)?;
+    let placed = place(alloc, &mid, &choices)?;
+    let names = names_of(alloc, checked.functions())?;
+    let items = emit(alloc, &placed, &names)?;
+    Ok(Compiled {
+        mid,
+        choices,
+        placed,
+        items,
+    })
+}

@@ -1,0 +1,58 @@
+-- The promises of the passes meet: words that are made of a program by all of them do what it means.
+use Rattle.std.proofs.Common.{◌≡◌, ℕ, ◌≤◌, ◌+◌, ◌*◌, List, map, subst, ◌∙◌, arith}
+use Rattle.c_types.specs.Programs.{ProgramT}
+use Rattle.c_types.specs.Programs.{TFunctionT}
+use Rattle.c_types.specs.Nodes.{program_nodes}
+use Rattle.c_meaning.specs.Setting.{Setting}
+use Rattle.c_meaning.specs.Runs.{c_runs}
+use Rattle.obj_mem.specs.Runs.{Meaning}
+use Rattle.assembler.specs.Placed as asm
+use Rattle.assembler.specs.Sizes.{total_size}
+use Rattle.asm_items.specs.declared.item.AsmItem.{AsmItem}
+use Rattle.mid_code.specs.declared.placed.Where.{Where}
+use Rattle.mid_code.specs.Code.{FunctionT, CodeT}
+use Rattle.mid_code.specs.Calls.{loops, CallsTo, AddsNone}
+use Rattle.mid_code.specs.Placed.{PlacedT}
+use Rattle.mid_code.specs.Runs.{mid_runs, placed_runs}
+use Rattle.mid_code.specs.Keeps.{KeepsRuns, WorksAtMost}
+use Rattle.mid_code.specs.Agrees.{AgreesWithin}
+use Rattle.mid_code.proofs.Keeping.{keeps_through}
+use Rattle.mid_code.proofs.Agreeing.{within_through, works_through}
+use Rattle.mid_lower.specs.LoweredFrom.{IsLoweredFunction, IsLoweredFrom}
+use Rattle.mid_lower.specs.SourceLoops.{HasNoLoops, TreeCalls}
+use Rattle.mid_scalars.specs.PromotedFrom.{IsPromotedFrom}
+use Rattle.reg_frames.specs.PlacedFrom.{IsPlacedFrom}
+use Rattle.asm_emit.specs.EmittedFrom.{IsEmitted, literal_words}
+use Rattle.asm_laws.specs.Tables.{addresses}
+
+module _ (p : ProgramT) (m promoted : CodeT ℕ) (cs : List (List Where)) (x : PlacedT) (names : List (List ℕ)) (items : List AsmItem)
+    (l : IsLoweredFrom p m) (o : IsPromotedFrom m promoted) (c : IsPlacedFrom promoted cs x) (e : IsEmitted x names items) where
+  abbrev source : Meaning
+  source = c_runs p x.frames
+
+  lowered_keeps : KeepsRuns source (mid_runs promoted x.frames)
+  lowered_keeps = keeps_through source (mid_runs m x.frames) (mid_runs promoted x.frames) (l.keeps x.frames) (o.keeps x.frames)
+
+  pub keeps : KeepsRuns source (placed_runs x)
+  keeps = keeps_through source (mid_runs promoted x.frames) (placed_runs x) lowered_keeps c.keeps
+
+  pub works : WorksAtMost 64 source (placed_runs x)
+  works =
+      works_through 64 source (mid_runs promoted x.frames) (placed_runs x) lowered_keeps
+      (works_through 64 source (mid_runs m x.frames) (mid_runs promoted x.frames) (l.keeps x.frames) (l.works x.frames) (o.works x.frames)) c.works
+
+  same_globals : x.code.globals ≡ map (λ g. g.1) p.globals
+  same_globals = c.globals ∙ o.globals ∙ l.globals
+
+  pub agrees : (words : List ℕ) (labels : List (List ℕ × ℕ)) → asm.Placed items words labels → AgreesWithin 64 (addresses 0 (map (λ g. g.1) p.globals)) source words
+  agrees words labels stands =
+      subst (λ globals. AgreesWithin 64 (addresses 0 globals) source words) same_globals
+      (within_through 64 (addresses 0 x.code.globals) source (placed_runs x) words keeps works (e.agrees words labels stands))
+
+  pub small : total_size items ≤ 128 * program_nodes p + literal_words x + 64
+  small = omega (arith, e.small, c.weighs, o.weighs, l.weighs)
+
+-- A function without loops has none in placed code, and calls there only what its tree calls.
+pub straight : {P Q : Type 0} (s : Setting) (f : TFunctionT) (g : FunctionT ℕ) (h : FunctionT P) (k : FunctionT Q)
+    → IsLoweredFunction s f g → AddsNone g.body h.body → AddsNone h.body k.body → HasNoLoops s f → (loops k.body ≡ 0) × ((n : ℕ) → CallsTo n k.body → TreeCalls n f)
+straight s f g h k a b c none = (omega (arith, c.loop_count, b.loop_count, (a.straight none).loop_count), λ n calls. (a.straight none).calls n (b.calls n (c.calls n calls)))

@@ -1,0 +1,14 @@
+-- The laws from their parts.
+use Rattle.pass_laws.specs.Meeting.{PassesMeet, StraightStays}
+use Rattle.pass_laws.proofs.Chain as chain
+use Rattle.pass_laws.proofs.FrameChain.{frames_fit}
+
+pub meet : PassesMeet
+meet p m promoted cs x names items l o a c e = record {
+  agrees = chain.agrees p m promoted cs x names items l o c e;
+  small = chain.small p m promoted cs x names items l o c e;
+  frames = frames_fit p m promoted cs x l o a c;
+}
+
+pub stays : StraightStays
+stays s f g h k a b c none = chain.straight s f g h k a b c none

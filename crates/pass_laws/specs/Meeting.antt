@@ -1,0 +1,40 @@
+-- What words do that are made of a program by all passes.
+use Rattle.std.specs.Prelude.{◌≡◌, ℕ, ◌≤◌, ◌+◌, ◌*◌, List, [], map}
+use Rattle.c_types.specs.Programs.{ProgramT, TFunctionT}
+use Rattle.c_types.specs.Nodes.{program_nodes}
+use Rattle.c_meaning.specs.Setting.{Setting, setting}
+use Rattle.c_meaning.specs.Runs.{c_runs}
+use Rattle.c_meaning.specs.Frames.{EachFits}
+use Rattle.assembler.specs.Placed as asm
+use Rattle.assembler.specs.Sizes.{total_size}
+use Rattle.asm_items.specs.declared.item.AsmItem.{AsmItem}
+use Rattle.mid_code.specs.declared.placed.Where.{Where}
+use Rattle.mid_code.specs.Code.{FunctionT, CodeT}
+use Rattle.mid_code.specs.Calls.{loops, CallsTo, AddsNone}
+use Rattle.mid_code.specs.Choices.{AreSafe}
+use Rattle.mid_code.specs.Placed.{PlacedT}
+use Rattle.mid_code.specs.Agrees.{AgreesWithin}
+use Rattle.mid_lower.specs.LoweredFrom.{IsLoweredFunction, IsLoweredFrom}
+use Rattle.mid_lower.specs.SourceLoops.{HasNoLoops, TreeCalls}
+use Rattle.mid_scalars.specs.PromotedFrom.{IsPromotedFrom}
+use Rattle.reg_frames.specs.PlacedFrom.{IsPlacedFrom}
+use Rattle.asm_laws.specs.Tables.{addresses}
+use Rattle.asm_emit.specs.EmittedFrom.{IsEmitted, literal_words}
+
+-- Items of a program whose frames have these sizes: the words that they are placed as do what it means, each global at the sum of the sizes
+-- before it.
+pub record DoesAsMeant (p : ProgramT) (x : PlacedT) (items : List AsmItem) : Type 0 where
+  pub agrees : (words : List ℕ) (labels : List (List ℕ × ℕ)) → asm.Placed items words labels → AgreesWithin 64 (addresses 0 (map (λ g. g.1) p.globals)) (c_runs p x.frames) words
+  pub small : total_size items ≤ 128 * program_nodes p + literal_words x + 64
+  pub frames : EachFits (setting p []) p.functions x.frames
+
+abbrev pub PassesMeet : Type 0
+PassesMeet =
+    (p : ProgramT) (m promoted : CodeT ℕ) (cs : List (List Where)) (x : PlacedT) (names : List (List ℕ)) (items : List AsmItem)
+    → IsLoweredFrom p m → IsPromotedFrom m promoted → AreSafe promoted cs → IsPlacedFrom promoted cs x → IsEmitted x names items → DoesAsMeant p x items
+
+-- a function in the tree, lowered, promoted and placed
+abbrev pub StraightStays : Type 0
+StraightStays =
+    (s : Setting) (f : TFunctionT) (g h : FunctionT ℕ) (k : FunctionT Where)
+    → IsLoweredFunction s f g → AddsNone g.body h.body → AddsNone h.body k.body → HasNoLoops s f → (loops k.body ≡ 0) × ((n : ℕ) → CallsTo n k.body → TreeCalls n f)

@@ -1,5 +1,5 @@
 -- Initialisers, statements and functions: how deep their code nests.
-use Rattle.std.proofs.Common.{◌≡◌, ℕ, zero, suc, ◌+◌, ◌-◌, ◌*◌, ◌≤◌, max, arith, refl, Bool, true, false, List, [], ◌∷◌, length, Option, Some, None}
+use Rattle.std.proofs.Common.{◌≡◌, ℕ, zero, suc, ◌+◌, ◌-◌, ◌*◌, ◌%◌, ◌^◌, ◌≤◌, max, arith, refl, Bool, true, false, List, [], ◌∷◌, length, Option, Some, None}
 use Rattle.c_types.specs.Types.{Ty, VoidY, IntY, BoolY, EnumY, StructY, UnionY, PointerY, ArrayY}
 use Rattle.c_types.specs.Typed.{TExprT, TInitT, OneI, TextI, ListI, TInitTs, NoI, MoreI, TVarT, TStmtT, BlockZ, EmptyZ, VarsZ, DoZ, IfZ, WhileZ, DoWhileZ, ForZ, SwitchZ, ReturnZ, BreakZ, ContinueZ, MaybeZ, NoneZ, SomeZ, TStmtTs, NoZ, MoreZ, CaseB, DefaultB, StmtB, TArmTs, NoB, MoreB}
 use Rattle.c_types.specs.Programs.{TFunctionT, ProgramT}
@@ -39,11 +39,11 @@ rest_zero_nests p offset (suc left) c k e l = rw (at_nests p offset (zeroed (suc
 
 text_nests : (h : Shape) (number size p offset : ℕ) (c : Nodes) (k : ℕ) → 2 ≤ k → nesting c ≤ k → nesting (low_text h number size p offset c) ≤ k
 text_nests h number size p offset c k e l =
-    rw (at_nests p offset (copied (literal_words h number) (part_zeroed p (offset + literal_words h number) (size - literal_words h number) c)))
-    (copied_nests (literal_words h number) _ k e (rest_zero_nests p (offset + literal_words h number) (size - literal_words h number) c k e l))
+    rw (at_nests p offset (copied (literal_words h number) (part_zeroed p ((offset + literal_words h number) % 2 ^ 32) (size - literal_words h number) c)))
+    (copied_nests (literal_words h number) _ k e (rest_zero_nests p ((offset + literal_words h number) % 2 ^ 32) (size - literal_words h number) c k e l))
 
 rest_nests : (h : Shape) (ty : Ty) (j p offset : ℕ) (c : Nodes) (k : ℕ) → 2 ≤ k → nesting c ≤ k → nesting (low_rest h ty j p offset c) ≤ k
-rest_nests h (ArrayY of len) j p offset c k e l = rest_zero_nests p offset (words h of * (len - j)) c k e l
+rest_nests h (ArrayY of len) j p offset c k e l = rest_zero_nests p offset (words h of * (len - j) % 2 ^ 32) c k e l
 rest_nests h VoidY j p offset c k e l = l
 rest_nests h IntY j p offset c k e l = l
 rest_nests h BoolY j p offset c k e l = l
@@ -63,7 +63,7 @@ mutual
   inits_nests h NoI ty j p offset n m c k e le l = rest_nests h ty j p offset c k e l
   inits_nests h (MoreI i rest) ty j p offset n m c k e le l =
       init_nests h i (part_type h.layouts ty j) p offset n m _ k (omega (arith, le))
-      (inits_nests h rest ty (j + 1) p (offset + words h (part_type h.layouts ty j)) (n + init_temps i) (m + length (init_sizes h i)) c k e (omega (arith, le)) l)
+      (inits_nests h rest ty (j + 1) p ((offset + words h (part_type h.layouts ty j)) % 2 ^ 32) (n + init_temps i) (m + length (init_sizes h i)) c k e (omega (arith, le)) l)
 
 object_nests : (global : Bool) (number t : ℕ) (c : Nodes) → nesting (object_to global number t c) ≡ nesting c
 object_nests true number t c = refl

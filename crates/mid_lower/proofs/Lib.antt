@@ -33,3 +33,5 @@ pub mod SoundRuns
 pub mod Temporaries
 pub mod Nesting
 pub mod NestingStatements
+pub mod Loopless
+pub mod LooplessExpressions

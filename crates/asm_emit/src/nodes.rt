@@ -57,6 +57,7 @@ fn enclosing(ls: &[u32], k: u32) -> u32
     }
 }
 
+/// Puts the word that a function gives back into register 9.
 fn put_giving(out: &mut Vec<AsmItem>, s: &Scope<'_>, p: Option<Where>) -> Result<(), Memory>
     ensures { OnOk result (out.new.items ≡ out.old.items ++ giving (frame s.now) p) }
 {
@@ -66,6 +67,7 @@ fn put_giving(out: &mut Vec<AsmItem>, s: &Scope<'_>, p: Option<Where>) -> Result
     }
 }
 
+/// Goes into a block or loop whose labels begin at n.
 fn open(ls: &mut Vec<u32>, n: u32) -> Result<(), Memory>
     ensures { OnOk result (ls.new.items ≡ ls.old.items ++ n ∷ []) }
 {

@@ -1,0 +1,32 @@
+mod Grows
+mod Under
+mod Words
+mod Flagged
+mod Trees
+mod Chosen
+mod Fits
+mod Following
+mod Instructions
+mod Storing
+mod Values
+mod Choices
+mod Calling
+mod OperatorForms
+mod PlaceForms
+mod EveryExpression
+mod CellLoops
+mod Filling
+mod Outcomes
+mod Locals
+mod LoopForms
+mod SwitchForms
+mod EveryStatement
+mod EveryBound
+mod RunsKept
+pub mod Operands
+pub mod Simple
+pub mod SoundExpressions
+pub mod SoundInitialisers
+pub mod GlobalsSimple
+pub mod SoundPrograms
+pub mod SoundRuns

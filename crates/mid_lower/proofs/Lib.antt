@@ -45,3 +45,4 @@ pub mod InRange
 pub mod StartKept
 pub mod IsMidCode
 pub mod Finished
+pub mod LocalWords

@@ -9,3 +9,8 @@ pub mod Lowered
 pub mod Levels
 pub mod SourceLoops
 pub mod LoweredFrom
+pub mod ListedParts
+pub mod ListedExpressions
+pub mod ListedInitialisers
+pub mod ListedStatements
+pub mod ListedFunctions

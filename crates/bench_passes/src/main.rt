@@ -15,7 +15,9 @@ fn main(rt: HostRuntime) -> io::Result<()> {
         words.push(word)?;
     }
     let Some(work) = words_of(&words) else {
-        return println!(rt; "usage: bench_passes chain|wide|locals|calls COUNT none|promote|choose|safe|place TIMES");
+        return println!(rt;
+            "usage: bench_passes chain|wide|locals|calls COUNT none|promote|choose|safe|place TIMES"
+        );
     };
     println!(rt; "{}", repeated(rt.alloc(), work))
 }

@@ -63,11 +63,7 @@ fn sum(alloc: Global) -> Result<Function<u32>, Memory> {
     function_of(alloc, 4, 0, nodes)
 }
 
-fn with_parameters(
-    alloc: Global,
-    f: Function<u32>,
-    count: u32,
-) -> Result<Function<u32>, Memory> {
+fn with_parameters(alloc: Global, f: Function<u32>, count: u32) -> Result<Function<u32>, Memory> {
     let mut params = Vec::new(alloc);
     for i in 0..count {
         params.push(i)?;

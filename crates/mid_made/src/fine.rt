@@ -64,10 +64,9 @@ fn op_fine(o: &Op<u32>, of: &Code<u32>, temps: u32, locals: u32) -> bool
         Op::Store(p, a) => *p < temps && *a < temps,
         Op::Fresh(k) => *k < locals,
         Op::End(k) => *k < locals,
-        Op::Call(t, function, args) =>
-            maybe_below(t, temps)
-                && all_below(args.as_slice(), temps)
-                && call_fits(of, *function, args.as_slice()),
+        Op::Call(t, function, args) => maybe_below(t, temps)
+            && all_below(args.as_slice(), temps)
+            && call_fits(of, *function, args.as_slice()),
         Op::In(_, _) => false,
         Op::Out(_, _) => false,
         Op::Wait => true,
@@ -81,10 +80,9 @@ fn node_fine(n: &Node<u32>, of: &Code<u32>, temps: u32, locals: u32) -> bool
 {
     match n {
         Node::Do(o) => op_fine(o, of, temps, locals),
-        Node::Choose(p, a, b) =>
-            *p < temps
-                && is_fine(a.as_slice(), of, temps, locals)
-                && is_fine(b.as_slice(), of, temps, locals),
+        Node::Choose(p, a, b) => *p < temps
+            && is_fine(a.as_slice(), of, temps, locals)
+            && is_fine(b.as_slice(), of, temps, locals),
         Node::Block(_) => false,
         Node::Loop(_) => false,
         Node::Leave(_) => false,

@@ -52,8 +52,7 @@ fn function_fine(f: &Function<u32>, of: &Code<u32>) -> bool
     if !are_few(f) || !are_numbered(params) || !are_ones(locals) {
         return false;
     }
-    params.len() <= f.temps as usize
-        && is_fine(f.body.as_slice(), of, f.temps, locals.len() as u32)
+    params.len() <= f.temps as usize && is_fine(f.body.as_slice(), of, f.temps, locals.len() as u32)
 }
 
 fn functions_fine(fs: &[Function<u32>], of: &Code<u32>) -> bool

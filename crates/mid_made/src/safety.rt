@@ -1,23 +1,16 @@
 // Whether choices are safe for the functions of a program.
-use kit_base::Memory;
-use mid_code::laws::mid_code_is_sound;
-use mid_code::{Choice, Mid};
-use reg_choose::is_safe;
-use std::alloc::Global;
-
 ghost use Rattle.std.specs.Prelude.{map};
 ghost use Rattle.mid_code.specs.Functions.{function};
 ghost use Rattle.mid_code.specs.Invariants.{AllOf};
 ghost use Rattle.reg_choose.specs.Each.{IsNamed};
 
-use mid_code::Function;
+use kit_base::Memory;
+use mid_code::laws::mid_code_is_sound;
+use mid_code::{Choice, Function, Mid};
+use reg_choose::is_safe;
+use std::alloc::Global;
 
-fn is_safe_among(
-    alloc: Global,
-    fs: &[Function<u32>],
-    k: usize,
-    c: &Choice,
-) -> Result<bool, Memory>
+fn is_safe_among(alloc: Global, fs: &[Function<u32>], k: usize, c: &Choice) -> Result<bool, Memory>
     requires named { AllOf IsNamed (map function fs.now) }
 {
     if k < fs.len() {

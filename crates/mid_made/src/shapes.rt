@@ -72,7 +72,10 @@ fn caller(alloc: Global, before: Option<u32>) -> Result<Vec<Node<u32>>, Memory> 
     through_local(&mut nodes, 0, 0)?;
     put(&mut nodes, Op::Const(4, 2))?;
     if let Some(f) = before {
-        put(&mut nodes, Op::Call(Some(4), f, Seq::from_vec(Vec::new(alloc))))?;
+        put(
+            &mut nodes,
+            Op::Call(Some(4), f, Seq::from_vec(Vec::new(alloc))),
+        )?;
     }
     put(&mut nodes, Op::Two(Two::IADD, 5, 3, 4))?;
     nodes.push(Node::Return(Some(5)))?;

@@ -1,12 +1,9 @@
 -- Made-up code is mid code.
 use Rattle.std.specs.Bool.{OnTrue}
-use Rattle.std.proofs.Common.{◌≡◌, ◌≢◌, Bool, true, false, ℕ, zero, suc, ◌+◌, ◌<◌, ◌≤◌, List, [], ◌∷◌, length, get_or, map, sum, Option, Some, refl, ap, sym, ◌∙◌, subst, arith}
-use Rattle.std.specs.Prelude.{slice_get, option_map}
+use Rattle.std.proofs.Common.{◌≡◌, Bool, true, false, ℕ, suc, ◌+◌, ◌<◌, ◌≤◌, List, [], ◌∷◌, length, get_or, sum, refl, ◌∙◌, arith}
 use Rattle.std.specs.List.{fold}
-use Rattle.mid_code.specs.declared.function.Function.{Function}
-use Rattle.mid_code.specs.Code.{NodesT, Stop, FunctionT, CodeT}
-use Rattle.mid_code.specs.Functions.{function}
-use Rattle.mid_code.specs.Invariants.{AreNodes, Names, AllOf, DifferFrom, AreDifferent, IsFunction, IsStart, IsMid, IsTemporary, CallsNone, IsMain}
+use Rattle.mid_code.specs.Code.{FunctionT, CodeT}
+use Rattle.mid_code.specs.Invariants.{AllOf, DifferFrom, AreDifferent, IsFunction, IsTemporary}
 use Rattle.mid_made.specs.Fine.{Fine}
 
 from_differ : (k n : ℕ) (ps : List ℕ) → k < n → ((i d : ℕ) → i < length ps → get_or ps i d ≡ n + i) → DifferFrom k ps

@@ -1,4 +1,4 @@
-use Rattle.std.proofs.Common.{rules, ◌≡◌, ◌<◌, length, subst, sym}
+use Rattle.std.proofs.Common.{rules, ◌<◌, length, subst, sym}
 use Rattle.mid_code.specs.Functions.{function}
 use Rattle.reg_choose.specs.Each.{IsNamed}
 use Rattle.reg_choose.proofs.Program.{named_in}

@@ -1,4 +1,4 @@
-use Rattle.std.proofs.Common.{rules, arith, ◌≡◌, ◌+◌, ◌≤◌, suc, length, List, [], ◌∷◌, ◌++◌, map, drop, get_or, ap, sym, ◌∙◌, subst}
+use Rattle.std.proofs.Common.{rules, arith, ◌≡◌, ◌+◌, ◌≤◌, suc, length, [], ◌∷◌, ◌++◌, map, drop, ap, sym, ◌∙◌, subst}
 use Rattle.mid_code.specs.Functions.{function}
 use Rattle.reg_choose.specs.Each.{places_in, IsNamed}
 use Rattle.reg_choose.proofs.Program.{Goes, goes_on, goes_begin, goes_end, places_more, functions_drop, named_in}

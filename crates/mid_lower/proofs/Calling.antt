@@ -26,8 +26,9 @@ use Rattle.mid_lower.specs.Expressions as low
 use Rattle.mid_lower.specs.Expressions.{is_void}
 use Rattle.mid_lower.proofs.Grows.{Mid, Grows, more, then_grows, done_grows}
 use Rattle.mid_lower.proofs.Under.{Under, under_length, under_from}
+use Rattle.mid_lower.proofs.Lives.{later_then, later_from}
 use Rattle.mid_lower.proofs.Fits.{Site, ScalarTypes}
-use Rattle.mid_lower.proofs.Following.{Side, mk, Goal, goal, Now, Fin, Kept, SimV, events_of, putting, put_at, put_other, fin_now, stopped, kept_wider, kept_through, M, M_grows, L}
+use Rattle.mid_lower.proofs.Following.{Side, mk, Goal, goal, base_of, stays_later, Now, Out, now_work, Kept, SimV, events_of, putting, put_at, put_other, fin_now, stopped, kept_wider, kept_through, M, M_grows, L}
 
 abbrev the_none : Option ℕ
 the_none = None
@@ -64,16 +65,16 @@ unmade_all (x ∷ a) b = ap (λ l. the_none ∷ l) (unmade_all a b)
 
 -- a body that comes to an outcome; one of a function without a result gives none
 abbrev pub SimF : (void : Bool) → Goal → Done → Res Mid → Type 0
-SimF b γ (Goes w) m = (x : Side) × (m ≡ res.Next (mk w x)) × Fin γ w x
+SimF b γ (Goes w) m = (x : Side) × (m ≡ res.Next (mk w x)) × Out γ w x
 SimF b γ (Breaks w) m = Prefix w.events (events_of m)
 SimF b γ (Continues w) m = Prefix w.events (events_of m)
-SimF b γ (Returns None w) m = (x : Side) × (m ≡ res.Returns (mk w x)) × Fin γ w x
-SimF b γ (Returns (Some c) w) m = (b ≡ false) × (x : Side) × (m ≡ res.Returns (mk w x)) × Fin γ w x × (x.given ≡ c)
+SimF b γ (Returns None w) m = (x : Side) × (m ≡ res.Returns (mk w x)) × Out γ w x
+SimF b γ (Returns (Some c) w) m = (b ≡ false) × (x : Side) × (m ≡ res.Returns (mk w x)) × Out γ w x × (x.given ≡ c)
 SimF b γ (Ended f w) m = Kept γ f w m
 
 -- a body may do with 8, and 16 for each parameter, more
 abbrev pub body_goal : List Cell → World → Side → Goal
-body_goal vs w x = record { at = 0; first = 0; skip = 2; temps = x.temps; less = 64 * w.work; from = x.work + 16 * length vs + 8; function = w.store.function; own = length w.store.locals }
+body_goal vs w x = record { at = 0; first = 0; skip = 2; temps = x.temps; less = 64 * w.work; from = x.work + 16 * length vs + 8; ends = 16; base = base_of w x }
 
 -- ---- structures end, of which there are none
 
@@ -106,7 +107,7 @@ module _ (S : Site) where
 
   -- the side of a call that begins
   abbrev pub at_entry : ℕ → List Cell → Side → Side
-  at_entry f vs x = record { objs = x.objs; work = x.work + 16; temps = received temporaries (function_at S.code f).params vs; given = Unwritten; extra = unmade (S.fits.more f) }
+  at_entry f vs x = record { objs = x.objs; work = x.work + 16; temps = received temporaries (function_at S.code f).params vs; given = Unwritten; extra = unmade (S.fits.more f); floor = 0 }
 
   -- the functions' bodies follow
   abbrev pub BodiesFollow : Type 0
@@ -149,21 +150,19 @@ module _ (S : Site) where
 
     -- back in the caller
     abbrev came : Bool → Side → Cell → Side
-    came b x2 v = record { objs = end_from (length x.objs) x2.objs; work = x2.work; temps = after b x.temps t v; given = x.given; extra = x.extra }
+    came b x2 v = record { objs = end_from (length x.objs) x2.objs; work = x2.work; temps = after b x.temps t v; given = x.given; extra = x.extra; floor = x.floor }
 
     came_temps : (b : Bool) (v : Cell) (j : ℕ) → eqb j t ≡ false → after b x.temps t v j ≡ x.temps j
     came_temps true v j ne = refl
     came_temps false v j ne = put_other x.temps t j v ne
 
-    came_now : (b : Bool) (w2 : World) (x2 : Side) (v : Cell) → Fin γ1 w2 x2 → Now γ 0 (on_store (returned_to w.store) w2) (came b x2 v)
-    came_now b w2 x2 v fin = record {
-      stays = record {
-        under = subst (λ k. Under (end_from (length w.store.objects) w2.store.objects) (end_from k x2.objs)) (sym (under_length w.store.objects x.objs h0.stays.under)) (under_from (length w.store.objects) w2.store.objects x2.objs fin.under);
-        same_function = h0.stays.same_function;
-        same_own = h0.stays.same_own;
-      };
+    came_now : (b : Bool) (w2 : World) (x2 : Side) (v : Cell) → Out γ1 w2 x2 → Now γ 0 (on_store (returned_to w.store) w2) (came b x2 v)
+    came_now b w2 x2 v out = record {
+      stays = stays_later γ.base w x (on_store (returned_to w.store) w2) (came b x2 v) refl refl refl refl
+          (subst (λ k. Under (end_from (length w.store.objects) w2.store.objects) (end_from k x2.objs)) (sym (under_length w.store.objects x.objs h0.stays.fit.under)) (under_from (length w.store.objects) w2.store.objects x2.objs out.under))
+          (later_then w.store.objects w2.store.objects (end_from (length w.store.objects) w2.store.objects) out.later (later_from (length w.store.objects) w2.store.objects)) h0.stays;
       below = λ j sc lt ne. came_temps b v j ne ∙ h0.below j sc lt ne;
-      cost = omega (arith, h0.cost, fin.cost, same_length, cw_le);
+      cost = omega (arith, h0.cost, out.cost, same_length, cw_le);
     }
 
     abbrev back_done : Bool → Res Mid → Res Mid
@@ -196,7 +195,7 @@ module _ (S : Site) where
         (kept_through γ1 e w2 q (back_done b) (λ i u. refl) (back_more b) a)
 
     counted : (s0 : ℕ) → s0 + 8 + 4 * length vs ≤ 36 + 20 * length vs → Now γ s0 w xc
-    counted s0 le = record { stays = record { under = h0.stays.under; same_function = h0.stays.same_function; same_own = h0.stays.same_own }; below = h0.below; cost = omega (arith, h0.cost, le, same_length, cw_le) }
+    counted s0 le = now_work γ (36 + 20 * length vs) s0 w w x (x.work + cw) refl (omega (arith, h0.cost, le, same_length, cw_le)) h0
 
     module _ (b : Bool) (void : is_void g.gives ≡ b) (bodies : BodiesFollow) where
       rooms : (room : Bool) → Holds bs vs x.temps → slice_get S.s.functions f ≡ Some g
@@ -204,7 +203,7 @@ module _ (S : Site) where
           (then_next (did (if_room room (mk w xc) (begun temporaries (sizes_of S.code S.frames) (function_at S.code f).params f bs (mk w xc))) (λ v. res.call_done (L S).none ((L S).back (target_of b t) (mk w xc)) (S.prev' (function_at S.code f).body v))) (R c))
       rooms true holds eg =
           subst (λ u. SimV γ (R c) false (call_done g.params vs Unwritten span w.store (S.prev (Body f vs Unwritten) w1)) (back_done b (S.prev' (function_at S.code f).body u))) (sym (begins f bs vs w xc holds))
-          (backs b (S.prev (Body f vs Unwritten) w1) (S.prev' (function_at S.code f).body (mk w1 x1)) (subst (λ z. SimF z γ1 (S.prev (Body f vs Unwritten) w1) (S.prev' (function_at S.code f).body (mk w1 x1))) void (bodies f g eg vs w xc h0.stays.under)))
+          (backs b (S.prev (Body f vs Unwritten) w1) (S.prev' (function_at S.code f).body (mk w1 x1)) (subst (λ z. SimF z γ1 (S.prev (Body f vs Unwritten) w1) (S.prev' (function_at S.code f).body (mk w1 x1))) void (bodies f g eg vs w xc h0.stays.fit.under)))
       rooms false holds eg = stopped γ (Deep span) w xc _ (fin_now γ 0 w xc (counted 0 (omega arith))) refl
 
       pub asks : (k : ℕ) → Holds bs vs x.temps → slice_get S.s.functions f ≡ Some g

@@ -128,7 +128,7 @@ module _ (S : Site) (γ : Goal) (span : Span) (cost : ℕ) (some : 1 ≤ cost) w
       let w1 : World = spend cost w in
       subst (λ r. SimL γ s0 x r (M (site_at S n) (Loop part.copy_turn Stop) (mk w x))) (sym (asked_then CutOff span w1 (read w.store.objects (Ptr o i)) (λ c. write w.store.objects q c) (next q)))
       (op (site_at S n) γ (way_turn n part.copy_turn s0 x) (s0 + 48) span w1 (paid x) part.cell (read w.store.objects (Ptr o i)) (read x.objs (x.temps part.from)) (LoadO part.cell part.from) (Do (StoreO part.to part.cell) tail) (paid_now γ (s0 + 48 + 8) w1 x (spare γ (s0 + 64) (s0 + 48 + 8 + 8) w1 x (omega arith) (counted s0 w x h))) (low_free γ part.cell (omega arith))
-      (from_eq (read w.store.objects (Ptr o i)) (read x.objs (Ptr o i)) (read x.objs (x.temps part.from)) (ap (λ u. read x.objs u) ef) (read_both w.store.objects x.objs (Ptr o i) h.stays.under)) refl (λ c. asked CutOff span w1 (write w.store.objects q c) (next q))
+      (from_eq (read w.store.objects (Ptr o i)) (read x.objs (Ptr o i)) (read x.objs (x.temps part.from)) (ap (λ u. read x.objs u) ef) (read_both w.store.objects x.objs (Ptr o i) h.stays.fit.under)) refl (λ c. asked CutOff span w1 (write w.store.objects q c) (next q))
       (λ c y hy at rest. written q c y hy at (λ k le. rest k (eqb_more k part.cell (omega (arith, le)))) (rest part.count refl ∙ ec) (rest part.one refl ∙ e1) (rest part.from refl ∙ ef) (rest part.to refl ∙ et)))
     where
       tail : NodesT ℕ

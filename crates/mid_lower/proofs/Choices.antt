@@ -29,6 +29,8 @@ use Rattle.mid_lower.proofs.Under.{then_both, equal_both}
 use Rattle.mid_lower.proofs.Words.{is_word}
 use Rattle.mid_lower.proofs.Flagged.{IsFlag, bool_flag, FlagAnswer, then_flag}
 use Rattle.mid_lower.proofs.Fits.{Site}
+use Rattle.mid_lower.specs.Counts.{value_sizes}
+use Rattle.mid_lower.proofs.Room.{Room}
 use Rattle.mid_lower.proofs.Following.{Side, mk, Goal, Now, Kept, Way, Free, Before, Rest, scratch, paid, spare, now_work, low_free, eqb_more, M, M_grows, op_of, sets}
 use Rattle.mid_lower.proofs.Instructions.{from_eq, tested_eq}
 use Rattle.mid_lower.proofs.Values.{Follow, uses}
@@ -80,7 +82,7 @@ module _ (S : Site) where
         (sets S σ.T γ (s0 + 8) w x part.other Null (NullO part.other) (Do (PtrTestO INE t t part.other) c) (spare γ (s0 + 16) (s0 + 8 + 8) w x (omega arith) h0) (low_free γ part.other (omega arith)) refl
         (asked σ.stop span w q (λ z. asked σ.stop span w (then_ask (word_of z) (λ i. Ok (not (i == 0)))) (λ b. either_way b w go last))) (λ y hy at rest.
         op_of S γ σ s0 span w y t q (pointers_tested INE y.objs (y.temps t) (y.temps part.other)) (PtrTestO INE t t part.other) c hy free
-        (from_eq q (pointers_tested INE y.objs v Null) (pointers_tested INE y.objs (y.temps t) (y.temps part.other)) (tested_eq INE y.objs v Null (y.temps t) (y.temps part.other) (rest t (eqb_more t part.other (omega (arith, st))) ∙ e) at) (then_both (equal_pointers w.store.objects v Null) (equal_pointers y.objs v Null) _ _ (equal_both w.store.objects y.objs v Null hy.stays.under) (λ z. refl))) refl
+        (from_eq q (pointers_tested INE y.objs v Null) (pointers_tested INE y.objs (y.temps t) (y.temps part.other)) (tested_eq INE y.objs v Null (y.temps t) (y.temps part.other) (rest t (eqb_more t part.other (omega (arith, st))) ∙ e) at) (then_both (equal_pointers w.store.objects v Null) (equal_pointers y.objs v Null) _ _ (equal_both w.store.objects y.objs v Null hy.stays.fit.under) (λ z. refl))) refl
         (λ z. asked σ.stop span w (then_ask (word_of z) (λ i. Ok (not (i == 0)))) (λ b. either_way b w go last))
         (λ z qz u hu at2 rest2. test_word s0 (flag || true) w u z (λ fl. answered_flag q z (not_flag (equal_pointers w.store.objects v Null)) qz) hu at2 (λ j a b ne. rest2 j ne ∙ rest j (eqb_more j part.other (omega (arith, a))) ∙ below j a b ne) f)))
     test_as s0 flag w x VoidY v k h0 free e below f = test_word s0 (flag || false) w x v (λ fl. k (or_false flag fl)) (spare γ (s0 + 16) s0 w x (omega arith) h0) e below f
@@ -92,10 +94,10 @@ module _ (S : Site) where
     test_as s0 flag w x (ArrayY of i) v k h0 free e below f = test_word s0 (flag || false) w x v (λ fl. k (or_false flag fl)) (spare γ (s0 + 16) s0 w x (omega arith) h0) e below f
 
   -- a condition
-  pub tests : (γ : Goal) (σ : Way γ) (s0 t n m : ℕ) (w : World) (x : Side) (c : NodesT ℕ) → Now γ s0 w x → Free γ t → γ.first ≤ n → scratch ≤ t → t < n → (e : TExprT) → is_structure (type_of e) ≡ false → (go last : World → σ.R) → Follow S e → Tests γ σ (s0 + 12) t n x c (tests_flag e) go last
+  pub tests : (γ : Goal) (σ : Way γ) (s0 t n m : ℕ) (w : World) (x : Side) (c : NodesT ℕ) → Now γ s0 w x → Free γ t → γ.first ≤ n → scratch ≤ t → t < n → (e : TExprT) → is_structure (type_of e) ≡ false → Room S γ.base m (value_sizes (shape_in S.s) e) → (go last : World → σ.R) → Follow S e → Tests γ σ (s0 + 12) t n x c (tests_flag e) go last
       → σ.T (tested σ.stop S.s S.bound e (evaluated S.s S.bound S.prev e w) go last) (R (test h e (low h e) t n m c) (mk w x))
-  tests γ σ s0 t n m w x c h0 free le st tn e ns go last sim f =
-      uses S γ σ s0 t n m w x (part.tested_as (decayed (type_of e)) t c) h0 free le st tn e ns (λ v u. asked σ.stop (span_of e) u (is_true u.store.objects (decayed (type_of e)) v) (λ b. either_way b u go last)) sim
+  tests γ σ s0 t n m w x c h0 free le st tn e ns room go last sim f =
+      uses S γ σ s0 t n m w x (part.tested_as (decayed (type_of e)) t c) h0 free le st tn e ns room (λ v u. asked σ.stop (span_of e) u (is_true u.store.objects (decayed (type_of e)) v) (λ b. either_way b u go last)) sim
       (λ v wa xa flag ha at below. test_as γ σ (span_of e) t n c x go last st (s0 + 12) (is_flag e) wa xa (decayed (type_of e)) v flag (spare γ (s0 + 28) (s0 + 12 + 16) wa xa (omega arith) ha) free at below f)
 
   -- a choice by a word

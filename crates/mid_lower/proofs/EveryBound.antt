@@ -26,14 +26,18 @@ use Rattle.mid_lower.specs.Statements.{ToEnd, low_stmt, low_stmts}
 use Rattle.mid_lower.specs.Statements as low
 use Rattle.mid_lower.specs.Lowered.{args_from, all_received, first_of, low_body}
 use Rattle.mid_lower.proofs.Grows.{Mid, Grows, all_of, more, then_grows, block_grows}
+use Rattle.mid_lower.proofs.Lives.{later_then}
 use Rattle.mid_lower.proofs.Trees.{PlainStmts, Below}
 use Rattle.mid_lower.proofs.Fits.{Site, Fits, ScalarTypes}
-use Rattle.mid_lower.proofs.Following.{events_of, Side, mk, Goal, Now, Way, paid, paid_now, spare, now_work, kept_wider, kept_through, eqb_more, M, M_grows, op}
+use Rattle.mid_lower.proofs.Lives.{Gone}
+use Rattle.mid_lower.specs.Counts.{value_sizes, stmt_sizes, maybe_sizes, stmts_sizes}
+use Rattle.mid_lower.proofs.Room.{Room, room_at, get_second}
+use Rattle.mid_lower.proofs.Following.{base_of, events_of, Side, mk, Goal, stays_here, Now, Way, paid, paid_now, spare, now_work, kept_wider, kept_through, eqb_more, M, M_grows, op}
 use Rattle.mid_lower.proofs.Storing.{stores, went_asked}
 use Rattle.mid_lower.proofs.Values.{local_front}
 use Rattle.mid_lower.proofs.Calling.{SimF, body_goal, at_entry, unmade, BodiesFollow}
 use Rattle.mid_lower.proofs.CellLoops.{below_grows}
-use Rattle.mid_lower.proofs.Filling.{went_went}
+use Rattle.mid_lower.proofs.FillParts.{went_went}
 use Rattle.mid_lower.proofs.Outcomes.{SimD, plain, turning, turn_wide, turn_now}
 use Rattle.mid_lower.proofs.Locals.{HomeOf, mades}
 use Rattle.mid_lower.proofs.LoopForms.{Earlier, while_sim, do_sim, for_sim}
@@ -44,6 +48,7 @@ pub record Lowers (s : Setting) (code : CodeT ℕ) (frames : List ℕ) : Type 0 
   pub fits : Fits s code frames
   pub body : (f : ℕ) (g : TFunctionT) → slice_get s.functions f ≡ Some g → (function_at code f).body ≡ low_body (shape_in s) g
   pub own : (f : ℕ) (g : TFunctionT) → slice_get s.functions f ≡ Some g → s.sizes.locals f ≡ g.locals
+  pub behind : (f : ℕ) (g : TFunctionT) → slice_get s.functions f ≡ Some g → fits.more f ≡ stmts_sizes (shape_in s) g.body
   pub made : (f : ℕ) (g : TFunctionT) → slice_get s.functions f ≡ Some g → Below (length g.locals) g.made
   pub tidy : (f : ℕ) (g : TFunctionT) → slice_get s.functions f ≡ Some g → PlainStmts (shape_in s) (length g.locals) (is_void g.gives) g.body
 
@@ -79,6 +84,11 @@ get_front : (a b : List ℕ) (k : ℕ) → k < length a → get_or (a ++ b) k 0 
 get_front [] b k lt = absurd (omega (arith, lt))
 get_front (x ∷ a) b zero lt = refl
 get_front (x ∷ a) b (suc k) lt = get_front a b k (omega (arith, lt))
+
+unmade_none : (l : List ℕ) (k : ℕ) → local_object (unmade l) k ≡ None
+unmade_none [] k = refl
+unmade_none (x ∷ l) zero = refl
+unmade_none (x ∷ l) (suc k) = unmade_none l k
 
 unmade_length : (l : List ℕ) → length (unmade l) ≡ length l
 unmade_length [] = refl
@@ -131,11 +141,11 @@ module _ (S : Site) (v : Bool) where
 
   -- the body stands in a block
   blocked : (γ : Goal) (w0 : World) (x0 : Side) (m : ℕ) → Now γ 0 w0 x0 → (d : Done) (q : Res Mid) → SimD v (plain m w0 x0) 0 (ToEnd 0) (λ t. Next t) d q → SimF v γ d (then_next (block_done q) (R Stop))
-  blocked γ w0 x0 m h0 (Goes w) q a = (a.0, ap (λ r. then_next (block_done r) (R Stop)) a.1, record { under = a.2.stays.under; cost = omega (arith, h0.cost, a.2.cost) })
+  blocked γ w0 x0 m h0 (Goes w) q a = (a.0, ap (λ r. then_next (block_done r) (R Stop)) a.1, record { under = a.2.stays.fit.under; later = later_then γ.base.objects w0.store.objects w.store.objects h0.stays.later a.2.stays.later; cost = omega (arith, h0.cost, a.2.cost) })
   blocked γ w0 x0 m h0 (Breaks w) q a = subst (λ r. Prefix w.events (events_of (then_next (block_done r) (R Stop)))) (sym a.1) (all_of w.events)
   blocked γ w0 x0 m h0 (Continues w) q a = subst (λ r. Prefix w.events (events_of (then_next (block_done r) (R Stop)))) (sym a.1) (all_of w.events)
-  blocked γ w0 x0 m h0 (Returns None w) q a = (a.0, ap (λ r. then_next (block_done r) (R Stop)) a.1, record { under = a.2.under; cost = omega (arith, h0.cost, a.2.cost) })
-  blocked γ w0 x0 m h0 (Returns (Some c) w) q a = (a.0, a.1, ap (λ r. then_next (block_done r) (R Stop)) a.2, record { under = a.3.under; cost = omega (arith, h0.cost, a.3.cost) }, a.4)
+  blocked γ w0 x0 m h0 (Returns None w) q a = (a.0, ap (λ r. then_next (block_done r) (R Stop)) a.1, record { under = a.2.under; later = later_then γ.base.objects w0.store.objects w.store.objects h0.stays.later a.2.later; cost = omega (arith, h0.cost, a.2.cost) })
+  blocked γ w0 x0 m h0 (Returns (Some c) w) q a = (a.0, a.1, ap (λ r. then_next (block_done r) (R Stop)) a.2, record { under = a.3.under; later = later_then γ.base.objects w0.store.objects w.store.objects h0.stays.later a.3.later; cost = omega (arith, h0.cost, a.3.cost) }, a.4)
   blocked γ w0 x0 m h0 (Ended f w) q a = kept_through γ f w q (λ r. then_next (block_done r) (R Stop)) (λ g t. refl) (λ r. more _ _ _ (block_grows r) (then_grows (block_done r) (R Stop) (R_grows Stop))) (kept_wider γ (plain m w0 x0) (omega (arith, h0.cost)) f w q a)
 
 module _ (s : Setting) (code : CodeT ℕ) (frames : List ℕ) (lowers : Lowers s code frames) where
@@ -162,12 +172,23 @@ module _ (s : Setting) (code : CodeT ℕ) (frames : List ℕ) (lowers : Lowers s
       subst (λ o. SimF void γ (body_of s i (below s i) o vs Unwritten w1) (M S (function_at code f).body (mk w1 x1))) (sym eg)
       (subst (λ c. SimF void γ (body_of s i (below s i) (Some g) vs Unwritten w1) (M S c (mk w1 x1))) (sym (lowers.body f g eg))
       (mades S g.gives γ (8 + 16 * length vs) (SimF void γ) g.made w1 x1 (all_received (shape_in s) g.params 0 part.first_param (Block cb Stop)) (subst (λ o. HomeOf s code frames g.gives (Some f) o) (sym counts) home) (subst (λ o. Below o g.made) (sym counts) (lowers.made f g eg))
-      (record { stays = record { under = u; same_function = refl; same_own = refl }; below = λ j a lt ne. refl; cost = omega arith })
+      (record { stays = stays_here w1 x1 (record { under = u; unused = λ k le. subst (Gone w1.store.objects) (sym (unmade_none (lowers.fits.more f) k)) tt }); below = λ j a lt ne. refl; cost = omega arith })
       (λ y. then_went Ended (params_stored s i 0 g.params vs y) (does_all s i (below s i) Unwritten g.body))
       (λ wa xa ha same_temps. params_sim S void γ g.params sc.0 vs 8 0 part.first_param wa xa (Block cb Stop) refl (omega arith) ha
       (subst (Firsts part.first_param g.params vs) (sym same_temps) (subst (λ ps. Firsts part.first_param g.params vs (received temporaries ps vs)) (sym (lowers.fits.params f g eg)) (firsts_received part.first_param g.params vs))) (does_all s i (below s i) Unwritten g.body)
       (λ wb xb hb. blocked S void γ wb (paid xb) n (paid_now γ 0 wb xb hb) (does_all s i (below s i) Unwritten g.body wb) (M S cb (mk wb (paid xb)))
-      (all_sim S before Unwritten g.gives void own g.body (lowers.tidy f g eg) n (length g.locals) 0 (ToEnd 0) Stop wb (paid xb) (omega arith) hb.stays.under (subst (λ fn. HomeOf s code frames g.gives fn own) (sym hb.stays.same_function) home) (hb.stays.same_own ∙ counts))))))
+      (all_sim S before Unwritten g.gives void own g.body (lowers.tidy f g eg) n (length g.locals) 0 (ToEnd 0) Stop wb (paid xb) (omega arith) hb.stays.fit (subst (λ fn. HomeOf s code frames g.gives fn own) (sym hb.stays.same_function) home) (hb.stays.same_own ∙ counts) (room_at S γ.base own (stmts_sizes (shape_in s) g.body) wb xb (room_for own counts) hb.stays))))))
+    where
+      room_for : (own : ℕ) → length (unmade (s.sizes.locals f)) ≡ own → Room (at i) (base_of (on_store (entered s.sizes f) w) (at_entry (at i) f vs x)) own (stmts_sizes (shape_in s) g.body)
+      room_for own e =
+          let el = unmade_length (s.sizes.locals f) in
+          let em = unmade_length (lowers.fits.more f) in
+          let eb : length (lowers.fits.more f) ≡ length (stmts_sizes (shape_in s) g.body) = ap (λ l. length l) (lowers.behind f g eg) in
+          record {
+            free = omega (arith, e);
+            fits = omega (arith, e, em, eb);
+            words = λ j lt. ap (λ l. get_or l (own + j) 0) (lowers.fits.locals f) ∙ get_second (s.sizes.locals f) (lowers.fits.more f) (own + j) j (omega (arith, e, el)) ∙ ap (λ l. get_or l j 0) (lowers.behind f g eg);
+          }
 
   abbrev its_shape : Shape
   its_shape = shape_in s
@@ -179,21 +200,21 @@ module _ (s : Setting) (code : CodeT ℕ) (frames : List ℕ) (lowers : Lowers s
   step : (n : ℕ) → Earlier (at n) → Earlier (at (suc n))
   step i before = record {
     called = function_sim i before;
-    while_turn = λ r ty v own e a n m b j w x u home eo sce sca sn. while_sim (at i) before r ty v own e a sce (stmt_sim (at i) before r ty v own a sca) (turning n w x) (omega arith) n m b j Stop w x sn (omega arith) home eo (turn_now n w x u) (below s i (Turn r (Some e) None a))
-        (λ wa xa ha. turn_wide v (turning n w x) (omega arith) n b j k_next wa xa ha (omega arith) (below s i (Turn r (Some e) None a) wa) (mid_below (over_worlds temporaries code frames) i (low_stmt its_shape ty (WhileZ e a) n m 0 (ToEnd 0) Stop) (mk wa xa)) (before.while_turn r ty v own e a n m b j wa xa ha.stays.under (subst (λ fn. HomeOf s code frames ty fn own) (sym ha.stays.same_function) home) (ha.stays.same_own ∙ eo) sce sca sn));
-    do_turn = λ r ty v own e a n m b j w x u home eo sce sca sn. do_sim (at i) before r ty v own e a sce (stmt_sim (at i) before r ty v own a sca) (turning n w x) (omega arith) n m b j Stop w x sn (omega arith) home eo (turn_now n w x u) (below s i (DoTurn r a e))
-        (λ wa xa ha. turn_wide v (turning n w x) (omega arith) n b j k_next wa xa ha (omega arith) (below s i (DoTurn r a e) wa) (mid_below (over_worlds temporaries code frames) i (low_stmt its_shape ty (DoWhileZ a e) n m 0 (ToEnd 0) Stop) (mk wa xa)) (before.do_turn r ty v own e a n m b j wa xa ha.stays.under (subst (λ fn. HomeOf s code frames ty fn own) (sym ha.stays.same_function) home) (ha.stays.same_own ∙ eo) sce sca sn));
-    for_turn = λ r ty v own test each a n m b j w x u home eo sct scs sca sn. for_sim (at i) before r ty v own test each a sct scs (stmt_sim (at i) before r ty v own a sca) (turning n w x) (omega arith) n m b j Stop w x sn (omega arith) home eo (turn_now n w x u) (below s i (Turn r test each a))
-        (λ wa xa ha. turn_wide v (turning n w x) (omega arith) n b j k_next wa xa ha (omega arith) (below s i (Turn r test each a) wa) (mid_below (over_worlds temporaries code frames) i (low.turns its_shape test each a (λ k l. low_stmt its_shape ty a k l 1 (ToEnd 0) Stop) n m Stop) (mk wa xa)) (before.for_turn r ty v own test each a n m b j wa xa ha.stays.under (subst (λ fn. HomeOf s code frames ty fn own) (sym ha.stays.same_function) home) (ha.stays.same_own ∙ eo) sct scs sca sn));
+    while_turn = λ r ty v own e a n m b j w x u home eo sce sca sn room. while_sim (at i) before r ty v own e a sce (stmt_sim (at i) before r ty v own a sca) (turning n w x) (omega arith) n m b j Stop w x sn (omega arith) home eo (turn_now n w x u) (below s i (Turn r (Some e) None a)) room
+        (λ wa xa ha. turn_wide v (turning n w x) (omega arith) n b j k_next wa xa ha (omega arith) (below s i (Turn r (Some e) None a) wa) (mid_below (over_worlds temporaries code frames) i (low_stmt its_shape ty (WhileZ e a) n m 0 (ToEnd 0) Stop) (mk wa xa)) (before.while_turn r ty v own e a n m b j wa xa ha.stays.fit (subst (λ fn. HomeOf s code frames ty fn own) (sym ha.stays.same_function) home) (ha.stays.same_own ∙ eo) sce sca sn (room_at (at i) (base_of w x) m (value_sizes its_shape e ++ stmt_sizes its_shape a) wa xa room ha.stays)));
+    do_turn = λ r ty v own e a n m b j w x u home eo sce sca sn room. do_sim (at i) before r ty v own e a sce (stmt_sim (at i) before r ty v own a sca) (turning n w x) (omega arith) n m b j Stop w x sn (omega arith) home eo (turn_now n w x u) (below s i (DoTurn r a e)) room
+        (λ wa xa ha. turn_wide v (turning n w x) (omega arith) n b j k_next wa xa ha (omega arith) (below s i (DoTurn r a e) wa) (mid_below (over_worlds temporaries code frames) i (low_stmt its_shape ty (DoWhileZ a e) n m 0 (ToEnd 0) Stop) (mk wa xa)) (before.do_turn r ty v own e a n m b j wa xa ha.stays.fit (subst (λ fn. HomeOf s code frames ty fn own) (sym ha.stays.same_function) home) (ha.stays.same_own ∙ eo) sce sca sn (room_at (at i) (base_of w x) m (stmt_sizes its_shape a ++ value_sizes its_shape e) wa xa room ha.stays)));
+    for_turn = λ r ty v own test each a n m b j w x u home eo sct scs sca sn room. for_sim (at i) before r ty v own test each a sct scs (stmt_sim (at i) before r ty v own a sca) (turning n w x) (omega arith) n m b j Stop w x sn (omega arith) home eo (turn_now n w x u) room (below s i (Turn r test each a))
+        (λ wa xa ha. turn_wide v (turning n w x) (omega arith) n b j k_next wa xa ha (omega arith) (below s i (Turn r test each a) wa) (mid_below (over_worlds temporaries code frames) i (low.turns its_shape test each a (λ k l. low_stmt its_shape ty a k l 1 (ToEnd 0) Stop) n m Stop) (mk wa xa)) (before.for_turn r ty v own test each a n m b j wa xa ha.stays.fit (subst (λ fn. HomeOf s code frames ty fn own) (sym ha.stays.same_function) home) (ha.stays.same_own ∙ eo) sct scs sca sn (room_at (at i) (base_of w x) m (maybe_sizes its_shape test ++ (stmt_sizes its_shape a ++ maybe_sizes its_shape each)) wa xa room ha.stays)));
   }
 
   -- with a bound of 0 all is out of bound
   none : Earlier (at 0)
   none = record {
     called = λ f g e vs w x u. (at_entry (at 0) f vs x, refl, record { under = u; cost = omega arith });
-    while_turn = λ r ty v own e a n m b j w x u home eo sce sca sn. (x, refl, record { under = u; cost = omega arith });
-    do_turn = λ r ty v own e a n m b j w x u home eo sce sca sn. (x, refl, record { under = u; cost = omega arith });
-    for_turn = λ r ty v own test each a n m b j w x u home eo sct scs sca sn. (x, refl, record { under = u; cost = omega arith });
+    while_turn = λ r ty v own e a n m b j w x u home eo sce sca sn room. (x, refl, record { under = u.under; cost = omega arith });
+    do_turn = λ r ty v own e a n m b j w x u home eo sce sca sn room. (x, refl, record { under = u.under; cost = omega arith });
+    for_turn = λ r ty v own test each a n m b j w x u home eo sct scs sca sn room. (x, refl, record { under = u.under; cost = omega arith });
   }
 
   -- at every bound mid code follows

@@ -6,6 +6,7 @@ use Rattle.c_tree.specs.declared.span.Span.{Span}
 use Rattle.obj_mem.specs.Objects.{ObjectT}
 use Rattle.obj_mem.specs.declared.cell.Cell.{Cell}
 use Rattle.obj_mem.specs.declared.refusal.Refusal.TheVariants.{Strays, Faults}
+use Rattle.obj_mem.specs.Stores.{local_object}
 use Rattle.obj_mem.specs.Queries.{Answer}
 use Rattle.obj_mem.specs.Worlds.{World}
 use Rattle.obj_mem.specs.Runs as run
@@ -19,15 +20,18 @@ use Rattle.mid_code.specs.States.{temporaries, put, to, spent, over_worlds}
 use Rattle.mid_code.specs.Passing.{state_of, Prefix}
 use Rattle.mid_lower.proofs.Grows.{Mid, Grows, append_nil, more, node_grows}
 use Rattle.mid_lower.proofs.Under.{Under, Alike}
+use Rattle.mid_lower.proofs.Lives.{Later, Gone, later_same, later_then, later_gone}
 use Rattle.mid_lower.proofs.Fits.{Site}
 
--- what a state of mid code has beside the world of the tree: `extra` are the objects of the locals behind the function's own
+-- What a state of mid code has beside the world of the tree: `extra` are the objects of the locals behind the function's own, of which those before
+-- `floor` may be in use. No code reads `floor`.
 pub record Side : Type 0 where
   pub objs : List ObjectT
   pub work : ℕ
   pub temps : ℕ → Cell
   pub given : Cell
   pub extra : List (Option ℕ)
+  pub floor : ℕ
 
 abbrev pub mk : World → Side → Mid
 mk w x = record { world = record { store = record w.store { objects = x.objs; locals = w.store.locals ++ x.extra }; events = w.events; work = x.work }; cells = x.temps; given = x.given }
@@ -40,8 +44,20 @@ set t v x = record x { temps = put temporaries x.temps t v; work = x.work + 8 }
 abbrev pub paid : Side → Side
 paid x = record x { work = x.work + 8 }
 
+-- The beginning of what is asked for: the function that is called, how many locals are its own, the objects, and those of the locals behind its own;
+-- and how many of these may be in use.
+pub record Base : Type 0 where
+  pub function : Option ℕ
+  pub own : ℕ
+  pub objects : List ObjectT
+  pub extra : List (Option ℕ)
+  pub floor : ℕ
+
+abbrev pub base_of : World → Side → Base
+base_of w x = record { function = w.store.function; own = length w.store.locals; objects = w.store.objects; extra = x.extra; floor = x.floor }
+
 -- Where what is asked for is to come; which temporaries stay: those before `first`, but this one, and but the fixed ones of which these are
--- passed over; what the work may be; the function that is called, and how many locals are its own.
+-- passed over; what the work may be, and how much more at an end; the beginning.
 pub record Goal : Type 0 where
   pub at : ℕ
   pub first : ℕ
@@ -49,8 +65,8 @@ pub record Goal : Type 0 where
   pub temps : ℕ → Cell
   pub less : ℕ
   pub from : ℕ
-  pub function : Option ℕ
-  pub own : ℕ
+  pub ends : ℕ
+  pub base : Base
 
 -- what an expression leaves of its work: a place has to be read
 abbrev pub left : Bool → ℕ
@@ -58,7 +74,7 @@ left true = 52
 left false = 28
 
 abbrev pub goal : Bool → (t n : ℕ) → World → Side → Goal
-goal b t n w x = record { at = t; first = n; skip = 0; temps = x.temps; less = 64 * w.work + left b; from = x.work; function = w.store.function; own = length w.store.locals }
+goal b t n w x = record { at = t; first = n; skip = 0; temps = x.temps; less = 64 * w.work + left b; from = x.work; ends = left b; base = base_of w x }
 
 abbrev pub events_of : Res Mid → List Event
 events_of q = (state_of q).world.events
@@ -67,22 +83,40 @@ events_of q = (state_of q).world.events
 abbrev pub scratch : ℕ
 scratch = 6
 
--- the objects and locals of a point on the way
-pub record Stays (function : Option ℕ) (own : ℕ) (w : World) (x : Side) : Type 0 where
-  pub under : Under w.store.objects x.objs
-  pub same_function : w.store.function ≡ function
-  pub same_own : length w.store.locals ≡ own
+-- What mid code has is what the tree has, as far as it lives; and the locals that are not in use have no object that lives.
+pub record Fitting (os os' : List ObjectT) (extra : List (Option ℕ)) (floor : ℕ) : Type 0 where
+  pub under : Under os os'
+  pub unused : (i : ℕ) → floor ≤ i → Gone os (local_object extra i)
+
+abbrev pub Fit : World → Side → Type 0
+Fit w x = Fitting w.store.objects x.objs x.extra x.floor
+
+-- The objects and locals of a point on the way. The locals in use are as they were.
+pub record Stays (β : Base) (w : World) (x : Side) : Type 0 where
+  pub fit : Fit w x
+  pub same_function : w.store.function ≡ β.function
+  pub same_own : length w.store.locals ≡ β.own
+  pub later : Later β.objects w.store.objects
+  pub same_floor : x.floor ≡ β.floor
+  pub long : length x.extra ≡ length β.extra
+  pub keep : (i : ℕ) → i < β.floor → local_object x.extra i ≡ local_object β.extra i
 
 -- a point on the way, with so much to spare
 pub record Now (γ : Goal) (s : ℕ) (w : World) (x : Side) : Type 0 where
-  pub stays : Stays γ.function γ.own w x
+  pub stays : Stays γ.base w x
   pub below : (j : ℕ) → scratch + γ.skip ≤ j → j < γ.first → eqb j γ.at ≡ false → x.temps j ≡ γ.temps j
   pub cost : x.work + γ.less + s ≤ γ.from + 64 * w.work
+
+-- a function that returns
+pub record Out (γ : Goal) (w : World) (x : Side) : Type 0 where
+  pub under : Under w.store.objects x.objs
+  pub later : Later γ.base.objects w.store.objects
+  pub cost : x.work + γ.less ≤ γ.from + 64 * w.work
 
 -- the end of a run
 pub record Fin (γ : Goal) (w : World) (x : Side) : Type 0 where
   pub under : Under w.store.objects x.objs
-  pub cost : x.work + γ.less ≤ γ.from + 64 * w.work
+  pub cost : x.work + γ.less ≤ γ.from + γ.ends + 64 * w.work
 
 -- a temporary that may be set
 abbrev pub Free : Goal → ℕ → Type 0
@@ -150,9 +184,51 @@ low_free γ t lt j a b c = eqb_more j t (omega (arith, lt, a))
 
 -- ---- points
 
+-- the same objects and locals
+pub restay : (β : Base) (w : World) (x : Side) (v : World) (y : Side) → v.store ≡ w.store → y.objs ≡ x.objs → y.extra ≡ x.extra → y.floor ≡ x.floor → Stays β w x → Stays β v y
+restay β w x v y es eo ex el h = record {
+  fit = record {
+    under = subst (λ os. Under v.store.objects os) (sym eo) (subst (λ u. Under u.objects x.objs) (sym es) h.fit.under);
+    unused = λ i le. subst (λ e. Gone v.store.objects (local_object e i)) (sym ex) (subst (λ u. Gone u.objects (local_object x.extra i)) (sym es) (h.fit.unused i (omega (arith, le, el))));
+  };
+  same_function = ap (λ u. u.function) es ∙ h.same_function;
+  same_own = ap (λ u. length u.locals) es ∙ h.same_own;
+  later = subst (λ u. Later β.objects u.objects) (sym es) h.later;
+  same_floor = el ∙ h.same_floor;
+  long = ap length ex ∙ h.long;
+  keep = λ i lt. ap (λ e. local_object e i) ex ∙ h.keep i lt;
+}
+
+-- behind a part that began here
+pub stays_then : (β : Base) (w : World) (x : Side) (v : World) (y : Side) → Stays β w x → Stays (base_of w x) v y → Stays β v y
+stays_then β w x v y h p = record {
+  fit = p.fit;
+  same_function = p.same_function ∙ h.same_function;
+  same_own = p.same_own ∙ h.same_own;
+  later = later_then β.objects w.store.objects v.store.objects h.later p.later;
+  same_floor = p.same_floor ∙ h.same_floor;
+  long = p.long ∙ h.long;
+  keep = λ i lt. p.keep i (let e = h.same_floor in omega (arith, lt, e)) ∙ h.keep i lt;
+}
+
+pub stays_here : (w : World) (x : Side) → Fit w x → Stays (base_of w x) w x
+stays_here w x u = record { fit = u; same_function = refl; same_own = refl; later = later_same w.store.objects; same_floor = refl; long = refl; keep = λ i lt. refl }
+
+-- what changes the objects alone
+pub stays_later : (β : Base) (w : World) (x : Side) (v : World) (y : Side) → v.store.function ≡ w.store.function → length v.store.locals ≡ length w.store.locals → y.extra ≡ x.extra → y.floor ≡ x.floor → Under v.store.objects y.objs → Later w.store.objects v.store.objects → Stays β w x → Stays β v y
+stays_later β w x v y ef el ex eo u l h = record {
+  fit = record { under = u; unused = λ i le. subst (λ e. Gone v.store.objects (local_object e i)) (sym ex) (later_gone w.store.objects v.store.objects (local_object x.extra i) l (h.fit.unused i (omega (arith, le, eo)))) };
+  same_function = ef ∙ h.same_function;
+  same_own = el ∙ h.same_own;
+  later = later_then β.objects w.store.objects v.store.objects h.later l;
+  same_floor = eo ∙ h.same_floor;
+  long = ap length ex ∙ h.long;
+  keep = λ i lt. ap (λ e. local_object e i) ex ∙ h.keep i lt;
+}
+
 pub set_now : (γ : Goal) (s : ℕ) (w : World) (x : Side) (t : ℕ) (v : Cell) → Free γ t → Now γ (s + 8) w x → Now γ s w (set t v x)
 set_now γ s w x t v free h = record {
-  stays = record { under = h.stays.under; same_function = h.stays.same_function; same_own = h.stays.same_own };
+  stays = restay γ.base w x w (set t v x) refl refl refl refl h.stays;
   below = λ j a b c. put_other x.temps t j v (free j a b c) ∙ h.below j a b c;
   cost = omega (arith, h.cost);
 }
@@ -160,7 +236,7 @@ set_now γ s w x t v free h = record {
 -- the work alone differs
 pub now_work : (γ : Goal) (s s' : ℕ) (w v : World) (x : Side) (work : ℕ) → v.store ≡ w.store → work + γ.less + s' ≤ γ.from + 64 * v.work → Now γ s w x → Now γ s' v (record x { work = work })
 now_work γ s s' w v x work e le h = record {
-  stays = record { under = subst (λ u. Under u.objects x.objs) (sym e) h.stays.under; same_function = ap (λ u. u.function) e ∙ h.stays.same_function; same_own = ap (λ u. length u.locals) e ∙ h.stays.same_own };
+  stays = restay γ.base w x v (record x { work = work }) e refl refl refl h.stays;
   below = h.below;
   cost = le;
 }
@@ -175,7 +251,7 @@ pub paid_now : (γ : Goal) (s : ℕ) (w : World) (x : Side) → Now γ (s + 8) w
 paid_now γ s w x h = now_work γ (s + 8) s w w x (x.work + 8) refl (omega (arith, h.cost)) h
 
 pub fin_now : (γ : Goal) (s : ℕ) (w : World) (x : Side) → Now γ s w x → Fin γ w x
-fin_now γ s w x h = record { under = h.stays.under; cost = omega (arith, h.cost) }
+fin_now γ s w x h = record { under = h.stays.fit.under; cost = omega (arith, h.cost) }
 
 -- an end at this point
 pub stopped : (γ : Goal) (f : End) (w : World) (x : Side) (m : Res Mid) → Fin γ w x → m ≡ Over (ending f) (mk w x) → Kept γ f w m
@@ -187,7 +263,7 @@ stopped γ (Deep span) w x m h e = (x, e, h)
 stopped γ OutOfBound w x m h e = (x, e, h)
 
 -- the ends of a part are those of the whole
-module _ (γ γ' : Goal) (le : γ.less + γ'.from ≤ γ'.less + γ.from) where
+module _ (γ γ' : Goal) (le : γ.less + γ'.from + γ'.ends ≤ γ'.less + γ.from + γ.ends) where
   wider : (w : World) (x : Side) → Fin γ' w x → Fin γ w x
   wider w x h = record { under = h.under; cost = omega (arith, h.cost, le) }
 
@@ -213,12 +289,12 @@ kept_through γ OutOfBound w m go h g k = (k.0, ap go k.1 ∙ h run.OutOfBound (
 -- after a part's value, in a, whose own temporaries were those from n on
 pub value_now : (γ : Goal) (s a n : ℕ) (b : Bool) (w wa : World) (x xa : Side) → Now γ s w x → Free γ a → γ.first ≤ n → Now (goal b a n w x) 0 wa xa → Now γ (s + left b) wa xa
 value_now γ s a n b w wa x xa h free le p = record {
-  stays = record { under = p.stays.under; same_function = p.stays.same_function ∙ h.stays.same_function; same_own = p.stays.same_own ∙ h.stays.same_own };
+  stays = stays_then γ.base w x wa xa h.stays p.stays;
   below = λ j c d e. p.below j (omega (arith, c)) (omega (arith, d, le)) (free j c d e) ∙ h.below j c d e;
   cost = omega (arith, h.cost, p.cost);
 }
 
-part_le : (γ : Goal) (s a n : ℕ) (b : Bool) (w : World) (x : Side) → Now γ s w x → γ.less + (goal b a n w x).from ≤ (goal b a n w x).less + γ.from
+part_le : (γ : Goal) (s a n : ℕ) (b : Bool) (w : World) (x : Side) → Now γ s w x → γ.less + (goal b a n w x).from + (goal b a n w x).ends ≤ (goal b a n w x).less + γ.from + γ.ends
 part_le γ s a n b w x h = omega (arith, h.cost)
 
 -- the temporaries before n stay, but a

@@ -168,7 +168,7 @@ module _ (S : Site) where
         let numbers : Answer Cell = then_ask (apart w.store.objects va vb) (λ i. Ok (Num i)) in
         subst (λ r. σ.T r (R (low.distant size t a b c) (mk w x))) (sym (split (apart w.store.objects va vb)))
         (op S γ σ (s0 + 16) span w x t numbers (mid.distance x.objs (x.temps a) (x.temps b)) (ApartO t a b) (Do (ConstO b size) (Do (TwoO IDIV t t b) c)) (spare γ (s0 + 32) (s0 + 16 + 8) w x (omega arith) h0) k.free_t
-        (from_eq numbers (mid.distance x.objs va vb) (mid.distance x.objs (x.temps a) (x.temps b)) (ap (λ u. mid.distance x.objs u (x.temps b)) ea ∙ ap (λ u. mid.distance x.objs va u) eb) (then_both (apart w.store.objects va vb) (apart x.objs va vb) _ _ (apart_both w.store.objects x.objs va vb h0.stays.under) (λ i. refl))) refl (λ z. asked σ.stop span w (cell_binary bin.Div z (Num size)) go)
+        (from_eq numbers (mid.distance x.objs va vb) (mid.distance x.objs (x.temps a) (x.temps b)) (ap (λ u. mid.distance x.objs u (x.temps b)) ea ∙ ap (λ u. mid.distance x.objs va u) eb) (then_both (apart w.store.objects va vb) (apart x.objs va vb) _ _ (apart_both w.store.objects x.objs va vb h0.stays.fit.under) (λ i. refl))) refl (λ z. asked σ.stop span w (cell_binary bin.Div z (Num size)) go)
         (λ z y hy at rest.
         sets S σ.T γ (s0 + 8) w y b (Num size) (ConstO b size) (Do (TwoO IDIV t t b) c) (spare γ (s0 + 16) (s0 + 8 + 8) w y (omega arith) hy) k.free_b refl (asked σ.stop span w (cell_binary bin.Div z (Num size)) go) (λ u hu at2 rest2.
         op S γ σ s0 span w u t (cell_binary bin.Div z (Num size)) (two_words IDIV (u.temps t) (u.temps b)) (TwoO IDIV t t b) c hu k.free_t
@@ -187,12 +187,12 @@ module _ (S : Site) where
     pointers_sim x bin.Add size two t a b va vb c h0 k ea eb go f = stepped_sim x size t a b va vb c h0 k ea eb go f
     pointers_sim x bin.Sub size true t a b va vb c h0 k ea eb go f = distance_sim x size t a b va vb c h0 k ea eb go f
     pointers_sim x bin.Sub size false t a b va vb c h0 k ea eb go f = back_sim x size t a b va vb c h0 k ea eb go f
-    pointers_sim x bin.Equal size two t a b va vb c h0 k ea eb go f = one_test x IEQ t a b va vb (then_ask (equal_pointers w.store.objects va vb) (λ z. Ok (truth z))) c (then_both (equal_pointers w.store.objects va vb) (equal_pointers x.objs va vb) _ _ (equal_both w.store.objects x.objs va vb h0.stays.under) (λ z. refl)) h0 k ea eb go f
-    pointers_sim x bin.NotEqual size two t a b va vb c h0 k ea eb go f = one_test x INE t a b va vb (then_ask (equal_pointers w.store.objects va vb) (λ z. Ok (truth (not z)))) c (then_both (equal_pointers w.store.objects va vb) (equal_pointers x.objs va vb) _ _ (equal_both w.store.objects x.objs va vb h0.stays.under) (λ z. refl)) h0 k ea eb go f
-    pointers_sim x bin.Less size two t a b va vb c h0 k ea eb go f = one_test x ILT t a b va vb (ordered bin.Less w.store.objects va vb) c (then_both (offsets w.store.objects va vb) (offsets x.objs va vb) _ _ (offsets_both w.store.objects x.objs va vb h0.stays.under) (λ z. refl)) h0 k ea eb go f
-    pointers_sim x bin.LessEq size two t a b va vb c h0 k ea eb go f = one_test x ILE t a b va vb (ordered bin.LessEq w.store.objects va vb) c (then_both (offsets w.store.objects va vb) (offsets x.objs va vb) _ _ (offsets_both w.store.objects x.objs va vb h0.stays.under) (λ z. refl)) h0 k ea eb go f
-    pointers_sim x bin.More size two t a b va vb c h0 k ea eb go f = one_test x IGT t a b va vb (ordered bin.More w.store.objects va vb) c (then_both (offsets w.store.objects va vb) (offsets x.objs va vb) _ _ (offsets_both w.store.objects x.objs va vb h0.stays.under) (λ z. refl)) h0 k ea eb go f
-    pointers_sim x bin.MoreEq size two t a b va vb c h0 k ea eb go f = one_test x IGE t a b va vb (ordered bin.MoreEq w.store.objects va vb) c (then_both (offsets w.store.objects va vb) (offsets x.objs va vb) _ _ (offsets_both w.store.objects x.objs va vb h0.stays.under) (λ z. refl)) h0 k ea eb go f
+    pointers_sim x bin.Equal size two t a b va vb c h0 k ea eb go f = one_test x IEQ t a b va vb (then_ask (equal_pointers w.store.objects va vb) (λ z. Ok (truth z))) c (then_both (equal_pointers w.store.objects va vb) (equal_pointers x.objs va vb) _ _ (equal_both w.store.objects x.objs va vb h0.stays.fit.under) (λ z. refl)) h0 k ea eb go f
+    pointers_sim x bin.NotEqual size two t a b va vb c h0 k ea eb go f = one_test x INE t a b va vb (then_ask (equal_pointers w.store.objects va vb) (λ z. Ok (truth (not z)))) c (then_both (equal_pointers w.store.objects va vb) (equal_pointers x.objs va vb) _ _ (equal_both w.store.objects x.objs va vb h0.stays.fit.under) (λ z. refl)) h0 k ea eb go f
+    pointers_sim x bin.Less size two t a b va vb c h0 k ea eb go f = one_test x ILT t a b va vb (ordered bin.Less w.store.objects va vb) c (then_both (offsets w.store.objects va vb) (offsets x.objs va vb) _ _ (offsets_both w.store.objects x.objs va vb h0.stays.fit.under) (λ z. refl)) h0 k ea eb go f
+    pointers_sim x bin.LessEq size two t a b va vb c h0 k ea eb go f = one_test x ILE t a b va vb (ordered bin.LessEq w.store.objects va vb) c (then_both (offsets w.store.objects va vb) (offsets x.objs va vb) _ _ (offsets_both w.store.objects x.objs va vb h0.stays.fit.under) (λ z. refl)) h0 k ea eb go f
+    pointers_sim x bin.More size two t a b va vb c h0 k ea eb go f = one_test x IGT t a b va vb (ordered bin.More w.store.objects va vb) c (then_both (offsets w.store.objects va vb) (offsets x.objs va vb) _ _ (offsets_both w.store.objects x.objs va vb h0.stays.fit.under) (λ z. refl)) h0 k ea eb go f
+    pointers_sim x bin.MoreEq size two t a b va vb c h0 k ea eb go f = one_test x IGE t a b va vb (ordered bin.MoreEq w.store.objects va vb) c (then_both (offsets w.store.objects va vb) (offsets x.objs va vb) _ _ (offsets_both w.store.objects x.objs va vb h0.stays.fit.under) (λ z. refl)) h0 k ea eb go f
     pointers_sim x bin.Mul size two t a b va vb c h0 k ea eb go f = none_sim x c go
     pointers_sim x bin.Div size two t a b va vb c h0 k ea eb go f = none_sim x c go
     pointers_sim x bin.Mod size two t a b va vb c h0 k ea eb go f = none_sim x c go

@@ -1,11 +1,13 @@
 mod Grows
 mod Under
+mod Lives
 mod Words
 mod Flagged
 mod Trees
 mod Chosen
 mod Fits
 mod Following
+mod Room
 mod Instructions
 mod Storing
 mod Values
@@ -15,6 +17,7 @@ mod OperatorForms
 mod PlaceForms
 mod EveryExpression
 mod CellLoops
+mod FillParts
 mod Filling
 mod Outcomes
 mod Locals
@@ -23,11 +26,18 @@ mod SwitchForms
 mod EveryStatement
 mod EveryBound
 mod RunsKept
+pub mod StructureValues
+pub mod Taken
+pub mod Structures
+pub mod StructureUses
+pub mod StructureMembers
+pub mod StructureFills
 pub mod Operands
-pub mod Simple
+pub mod ResultTypes
+pub mod NoStructurePassed
 pub mod SoundExpressions
 pub mod SoundInitialisers
-pub mod GlobalsSimple
+pub mod FixedGlobals
 pub mod SoundPrograms
 pub mod SoundRuns
 pub mod Temporaries

@@ -16,8 +16,9 @@ use Rattle.mid_lower.specs.Statements.{Jump}
 use Rattle.mid_lower.specs.Parts as part
 use Rattle.mid_lower.proofs.Grows.{Mid}
 use Rattle.mid_lower.proofs.Under.{Under, under_length, under_join, under_end_local, end_both}
+use Rattle.mid_lower.proofs.Lives.{Later, later_same, later_then, later_end_local, later_join}
 use Rattle.mid_lower.proofs.Fits.{Site}
-use Rattle.mid_lower.proofs.Following.{Side, mk, Goal, Now, Fin, M}
+use Rattle.mid_lower.proofs.Following.{Side, mk, Goal, stays_later, Now, Out, M}
 use Rattle.mid_lower.proofs.Outcomes.{SimD}
 use Rattle.mid_lower.proofs.Trees.{Below}
 
@@ -51,11 +52,15 @@ pub closed_under : (ks : List ℕ) (at : List (Option ℕ)) (os os' : List Objec
 closed_under [] at os os' u = u
 closed_under (k ∷ ks) at os os' u = closed_under ks at (end_local (local_object at k) os) os' (under_end_local (local_object at k) os os' u)
 
-closes_now : (γ : Goal) (s : ℕ) (ks : List ℕ) (w : World) (x : Side) → Now γ s w x → Now γ s (on_store (with_objects (closed ks w.store.locals w.store.objects)) w) x
-closes_now γ s ks w x h = record { stays = record { under = closed_under ks w.store.locals w.store.objects x.objs h.stays.under; same_function = h.stays.same_function; same_own = h.stays.same_own }; below = h.below; cost = h.cost }
+closed_later : (ks : List ℕ) (at : List (Option ℕ)) (os : List ObjectT) → Later os (closed ks at os)
+closed_later [] at os = later_same os
+closed_later (k ∷ ks) at os = later_then os (end_local (local_object at k) os) (closed ks at (end_local (local_object at k) os)) (later_end_local (local_object at k) os) (closed_later ks at (end_local (local_object at k) os))
 
-closes_fin : (γ : Goal) (ks : List ℕ) (w : World) (x : Side) → Fin γ w x → Fin γ (on_store (with_objects (closed ks w.store.locals w.store.objects)) w) x
-closes_fin γ ks w x h = record { under = closed_under ks w.store.locals w.store.objects x.objs h.under; cost = h.cost }
+closes_now : (γ : Goal) (s : ℕ) (ks : List ℕ) (w : World) (x : Side) → Now γ s w x → Now γ s (on_store (with_objects (closed ks w.store.locals w.store.objects)) w) x
+closes_now γ s ks w x h = record { stays = stays_later γ.base w x (on_store (with_objects (closed ks w.store.locals w.store.objects)) w) x refl refl refl refl (closed_under ks w.store.locals w.store.objects x.objs h.stays.fit.under) (closed_later ks w.store.locals w.store.objects) h.stays; below = h.below; cost = h.cost }
+
+closes_fin : (γ : Goal) (ks : List ℕ) (w : World) (x : Side) → Out γ w x → Out γ (on_store (with_objects (closed ks w.store.locals w.store.objects)) w) x
+closes_fin γ ks w x h = record { under = closed_under ks w.store.locals w.store.objects x.objs h.under; later = later_then γ.base.objects w.store.objects (closed ks w.store.locals w.store.objects) h.later (closed_later ks w.store.locals w.store.objects); cost = h.cost }
 
 pub ends : (v : Bool) (γ : Goal) (b : ℕ) (j : Jump) (k : Mid → Res Mid) (ks : List ℕ) (d : Done) (q : Res Mid) → SimD v γ b j k d q → SimD v γ b j k (left ks d) q
 ends v γ b j k ks (Goes w) q a = subst (λ st. SimD v γ b j k (Goes (record w { store = st })) q) (sym (closed_is ks w.store)) (a.0, a.1, closes_now γ 0 ks w a.0 a.2)
@@ -91,21 +96,22 @@ module _ (S : Site) where
       ∙ ap (λ ls. R c (fresh_state (local_object w.store.locals k) (words_here S.s.sizes w.store.function k) ls w x)) (set_own w.store.locals x.extra k (Some (length w.store.objects)) lt)
 
   fresh_now : (γ : Goal) (s0 k : ℕ) (w : World) (x : Side) → Now γ s0 w x → Now γ s0 (on_store (fresh S.s.sizes k) w) (fresh_side k w x)
-  fresh_now γ s0 k w x h = record {
-    stays = record {
-      under = under_join (end_local (local_object w.store.locals k) w.store.objects) (end_local (local_object w.store.locals k) x.objs) (object kind.Local (unwritten (words_here S.s.sizes w.store.function k))) refl (end_both (local_object w.store.locals k) w.store.objects x.objs h.stays.under);
-      same_function = h.stays.same_function;
-      same_own = set_length w.store.locals k (Some (length w.store.objects)) ∙ h.stays.same_own;
-    };
-    below = h.below;
-    cost = omega (arith, h.cost);
-  }
+  fresh_now γ s0 k w x h =
+      let lo : Option ℕ = local_object w.store.locals k in
+      let size : ℕ = words_here S.s.sizes w.store.function k in
+      record {
+        stays = stays_later γ.base w x (on_store (fresh S.s.sizes k) w) (fresh_side k w x) refl (set_length w.store.locals k (Some (length w.store.objects))) refl refl
+            (under_join (end_local lo w.store.objects) (end_local lo x.objs) (object kind.Local (unwritten size)) refl (end_both lo w.store.objects x.objs h.stays.fit.under))
+            (later_then w.store.objects (end_local lo w.store.objects) (made (end_local lo w.store.objects) kind.Local (unwritten size)) (later_end_local lo w.store.objects) (later_join (end_local lo w.store.objects) (object kind.Local (unwritten size) ∷ []))) h.stays;
+        below = h.below;
+        cost = omega (arith, h.cost);
+      }
 
-  words_at : (ty : Ty) (γ : Goal) (s0 k : ℕ) (w : World) (x : Side) → HomeOf S.s S.code S.frames ty γ.function γ.own → Now γ s0 w x → k < γ.own → words_here (sizes_of S.code S.frames) w.store.function k ≡ words_here S.s.sizes w.store.function k
+  words_at : (ty : Ty) (γ : Goal) (s0 k : ℕ) (w : World) (x : Side) → HomeOf S.s S.code S.frames ty γ.base.function γ.base.own → Now γ s0 w x → k < γ.base.own → words_here (sizes_of S.code S.frames) w.store.function k ≡ words_here S.s.sizes w.store.function k
   words_at ty γ s0 k w x home h lt = subst (λ fn. words_here (sizes_of S.code S.frames) fn k ≡ words_here S.s.sizes fn k) (sym h.stays.same_function) (home.words k lt)
 
-  pub mades : (ty : Ty) (γ : Goal) (s0 : ℕ) {A : Type 0} (T : A → Res Mid → Type 0) (ks : List ℕ) (w : World) (x : Side) (c : NodesT ℕ) → HomeOf S.s S.code S.frames ty γ.function γ.own → Below γ.own ks → Now γ s0 w x → (go : World → A) → ((wa : World) (xa : Side) → Now γ s0 wa xa → xa.temps ≡ x.temps → T (go wa) (R c (mk wa xa))) → T (go (on_store (fresh_all S.s.sizes ks) w)) (R (part.made ks c) (mk w x))
+  pub mades : (ty : Ty) (γ : Goal) (s0 : ℕ) {A : Type 0} (T : A → Res Mid → Type 0) (ks : List ℕ) (w : World) (x : Side) (c : NodesT ℕ) → HomeOf S.s S.code S.frames ty γ.base.function γ.base.own → Below γ.base.own ks → Now γ s0 w x → (go : World → A) → ((wa : World) (xa : Side) → Now γ s0 wa xa → xa.temps ≡ x.temps → T (go wa) (R c (mk wa xa))) → T (go (on_store (fresh_all S.s.sizes ks) w)) (R (part.made ks c) (mk w x))
   mades ty γ s0 T [] w x c home bl h go f = f w x h refl
   mades ty γ s0 T (y ∷ ks) w x c home bl h go f =
-      subst (T (go (on_store (fresh_all S.s.sizes ks) (on_store (fresh S.s.sizes y) w)))) (sym (freshed y (part.made ks c) w x h.stays.under (omega (arith, h.stays.same_own, bl.0)) (words_at ty γ s0 y w x home h bl.0)))
+      subst (T (go (on_store (fresh_all S.s.sizes ks) (on_store (fresh S.s.sizes y) w)))) (sym (freshed y (part.made ks c) w x h.stays.fit.under (omega (arith, h.stays.same_own, bl.0)) (words_at ty γ s0 y w x home h bl.0)))
       (mades ty γ s0 T ks (on_store (fresh S.s.sizes y) w) (fresh_side y w x) c home bl.1 (fresh_now γ s0 y w x h) go f)

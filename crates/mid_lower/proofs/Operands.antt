@@ -34,7 +34,7 @@ either false b e = Second e
 
 -- ---- what a rule gives
 
-checked_gives : {A : Type 0} (ds : List Demand) (x z : A) → checked ds x ≡ Ok z → x ≡ z
+pub checked_gives : {A : Type 0} (ds : List Demand) (x z : A) → checked ds x ≡ Ok z → x ≡ z
 checked_gives [] x z e = cc
 checked_gives (d ∷ ds) x z e = by (λ g. checked_gives ds x z g) d.holds e
   where
@@ -42,11 +42,11 @@ checked_gives (d ∷ ds) x z e = by (λ g. checked_gives ds x z g) d.holds e
     by rest true e = rest e
     by rest false e = cc
 
-judged_gives : {A : Type 0} (o : Option A) (ds : List Demand) (z : A) → judged_by o ds ≡ Ok z → o ≡ Some z
+pub judged_gives : {A : Type 0} (o : Option A) (ds : List Demand) (z : A) → judged_by o ds ≡ Ok z → o ≡ Some z
 judged_gives None ds z e = cc
 judged_gives (Some x) ds z e = ap Some (checked_gives ds x z e)
 
-given_holds : {A : Type 0} (t : Bool) (y z : A) → given t y ≡ Some z → t ≡ true
+pub given_holds : {A : Type 0} (t : Bool) (y z : A) → given t y ≡ Some z → t ≡ true
 given_holds true y z e = refl
 given_holds false y z e = cc
 
@@ -166,13 +166,13 @@ pub record Scalars (a b : Ty) : Type 0 where
   pub first : is_structure a ≡ false
   pub second : is_structure b ≡ false
 
-numbers_two : (a b : Ty) → are_numbers a b ≡ true → Scalars a b
+pub numbers_two : (a b : Ty) → are_numbers a b ≡ true → Scalars a b
 numbers_two a b e = record { first = number_scalar a (both_first (is_number a) (is_number b) e); second = number_scalar b (both_second (is_number a) (is_number b) e) }
 
 conditions_two : (a b : Ty) → (is_condition a && is_condition b) ≡ true → Scalars a b
 conditions_two a b e = record { first = condition_scalar a (both_first (is_condition a) (is_condition b) e); second = condition_scalar b (both_second (is_condition a) (is_condition b) e) }
 
-pointed_pointer : (ty to : Ty) → pointed ty ≡ Some to → is_pointer ty ≡ true
+pub pointed_pointer : (ty to : Ty) → pointed ty ≡ Some to → is_pointer ty ≡ true
 pointed_pointer VoidY to e = cc
 pointed_pointer IntY to e = cc
 pointed_pointer BoolY to e = cc
@@ -237,7 +237,7 @@ difference_two a b z e = by (are_numbers a b) (is_number b) refl e
     by false true et e = moved_two a b z e
     by false false et e = apart_two a b z e
 
-binary_two : (op : BinOp) (a b z : Ty) → binary_gives op a b ≡ Some z → Scalars a b
+pub binary_two : (op : BinOp) (a b z : Ty) → binary_gives op a b ≡ Some z → Scalars a b
 binary_two bin.Mul a b z e = numbers_two a b (given_holds (are_numbers a b) IntY z e)
 binary_two bin.Div a b z e = numbers_two a b (given_holds (are_numbers a b) IntY z e)
 binary_two bin.Mod a b z e = numbers_two a b (given_holds (are_numbers a b) IntY z e)

@@ -1,5 +1,6 @@
 -- Statements: the parts of following them.
-use Rattle.std.proofs.Common.{◌≡◌, ℕ, ◌+◌, ◌*◌, ◌<◌, ◌≤◌, Bool, false, eqb, length, Some, None, refl, sym, ap, ◌∙◌, subst, arith}
+use Rattle.std.proofs.Common.{◌≡◌, ℕ, ◌+◌, ◌*◌, ◌<◌, ◌≤◌, Bool, false, eqb, List, Some, None, refl, sym, ap, ◌∙◌, subst, arith}
+use Rattle.obj_mem.specs.Objects.{ObjectT}
 use Rattle.obj_mem.specs.Worlds.{World, spend}
 use Rattle.c_meaning.specs.Outcomes.{Done, Goes, Breaks, Continues, Returns, Ended, then_done}
 use Rattle.c_meaning.specs.Statements.{body_done}
@@ -9,9 +10,9 @@ use Rattle.mid_code.specs.Meaning as res
 use Rattle.mid_code.specs.Passing.{Prefix}
 use Rattle.mid_lower.specs.Statements.{Jump, ToEnd, ToTurn}
 use Rattle.mid_lower.proofs.Grows.{Mid, Grows, more, then_grows, block_grows, turn_grows}
-use Rattle.mid_lower.proofs.Under.{Under}
+use Rattle.mid_lower.proofs.Lives.{Later, later_then}
 use Rattle.mid_lower.proofs.Fits.{Site}
-use Rattle.mid_lower.proofs.Following.{events_of, Side, mk, Goal, Now, Fin, Kept, Way, scratch, paid, paid_now, less_now, kept_wider, kept_through, eqb_more, M, M_grows}
+use Rattle.mid_lower.proofs.Following.{Fit, events_of, Side, mk, Goal, base_of, Stays, restay, stays_then, stays_here, Now, Out, Kept, Way, scratch, paid, paid_now, less_now, kept_wider, kept_through, eqb_more, M, M_grows}
 
 abbrev pub jumped : Jump → Mid → Res Mid
 jumped (ToEnd k) t = Leaves k t
@@ -22,52 +23,52 @@ abbrev pub SimD : (void : Bool) → Goal → ℕ → Jump → (Mid → Res Mid) 
 SimD v γ b j k (Goes w) m = (x : Side) × (m ≡ k (mk w x)) × Now γ 0 w x
 SimD v γ b j k (Breaks w) m = (x : Side) × (m ≡ Leaves b (mk w x)) × Now γ 0 w x
 SimD v γ b j k (Continues w) m = (x : Side) × (m ≡ jumped j (mk w x)) × Now γ 0 w x
-SimD v γ b j k (Returns None w) m = (x : Side) × (m ≡ res.Returns (mk w x)) × Fin γ w x
-SimD v γ b j k (Returns (Some c) w) m = (v ≡ false) × (x : Side) × (m ≡ res.Returns (mk w x)) × Fin γ w x × (x.given ≡ c)
+SimD v γ b j k (Returns None w) m = (x : Side) × (m ≡ res.Returns (mk w x)) × Out γ w x
+SimD v γ b j k (Returns (Some c) w) m = (v ≡ false) × (x : Side) × (m ≡ res.Returns (mk w x)) × Out γ w x × (x.given ≡ c)
 SimD v γ b j k (Ended f w) m = Kept γ f w m
 
 abbrev pub way_d : (void : Bool) → (γ : Goal) → ℕ → Jump → (Mid → Res Mid) → Way γ
 way_d v γ b j k = record { R = Done; stop = Ended; T = SimD v γ b j k; stops = λ f w m h. h }
 
 -- among statements the temporaries of initialisers are passed over too
-abbrev pub with_spare : (less from n : ℕ) → World → Side → Goal
-with_spare less from n w x = record { at = 0; first = n; skip = 2; temps = x.temps; less = less; from = from; function = w.store.function; own = length w.store.locals }
+abbrev pub with_spare : (less from ends n : ℕ) → World → Side → Goal
+with_spare less from ends n w x = record { at = 0; first = n; skip = 2; temps = x.temps; less = less; from = from; ends = ends; base = base_of w x }
 
 abbrev pub plain : ℕ → World → Side → Goal
-plain n w x = with_spare (64 * w.work) x.work n w x
+plain n w x = with_spare (64 * w.work) x.work 0 n w x
 
 -- a statement leaves of its work what a turn of a loop costs
 abbrev pub stmt : ℕ → World → Side → Goal
-stmt n w x = with_spare (64 * w.work + 40) x.work n w x
+stmt n w x = with_spare (64 * w.work + 40) x.work 40 n w x
 
 -- a further turn of a loop takes over what is left of the turn before
 abbrev pub turning : ℕ → World → Side → Goal
-turning n w x = with_spare (64 * w.work) (x.work + 24) n w x
+turning n w x = with_spare (64 * w.work) (x.work + 24) 0 n w x
 
 abbrev pub more_for : Goal → Goal
-more_for γ = record γ { less = γ.less + 24 }
+more_for γ = record γ { less = γ.less + 24; ends = γ.ends + 24 }
 
 -- ---- after a part
 
 -- the same for any goal at the same point
-module _ (v : Bool) (γ γ' : Goal) (keeps : (i : ℕ) → scratch + γ.skip ≤ i → i < γ.first → eqb i γ.at ≡ false → (scratch + γ'.skip ≤ i) × (i < γ'.first) × (eqb i γ'.at ≡ false) × (γ'.temps i ≡ γ.temps i)) (cost : γ.less + γ'.from ≤ γ'.less + γ.from) (function : γ'.function ≡ γ.function) (own : γ'.own ≡ γ.own) where
+module _ (v : Bool) (γ γ' : Goal) (keeps : (i : ℕ) → scratch + γ.skip ≤ i → i < γ.first → eqb i γ.at ≡ false → (scratch + γ'.skip ≤ i) × (i < γ'.first) × (eqb i γ'.at ≡ false) × (γ'.temps i ≡ γ.temps i)) (cost : γ.less + γ'.from ≤ γ'.less + γ.from) (at_ends : γ.less + γ'.from + γ'.ends ≤ γ'.less + γ.from + γ.ends) (stays : (w : World) (x : Side) → Stays γ'.base w x → Stays γ.base w x) (later : (os : List ObjectT) → Later γ'.base.objects os → Later γ.base.objects os) where
   looser_now : (w : World) (x : Side) → Now γ' 0 w x → Now γ 0 w x
   looser_now w x h = record {
-    stays = record { under = h.stays.under; same_function = h.stays.same_function ∙ function; same_own = h.stays.same_own ∙ own };
+    stays = stays w x h.stays;
     below = λ i a b c. let k = keeps i a b c in h.below i k.0 k.1 k.2 ∙ k.3;
     cost = omega (arith, h.cost, cost);
   }
 
-  looser_fin : (w : World) (x : Side) → Fin γ' w x → Fin γ w x
-  looser_fin w x h = record { under = h.under; cost = omega (arith, h.cost, cost) }
+  looser_out : (w : World) (x : Side) → Out γ' w x → Out γ w x
+  looser_out w x h = record { under = h.under; later = later w.store.objects h.later; cost = omega (arith, h.cost, cost) }
 
   pub looser : (b : ℕ) (j : Jump) (k : Mid → Res Mid) (d : Done) (q : Res Mid) → SimD v γ' b j k d q → SimD v γ b j k d q
   looser b j k (Goes w) q a = (a.0, a.1, looser_now w a.0 a.2)
   looser b j k (Breaks w) q a = (a.0, a.1, looser_now w a.0 a.2)
   looser b j k (Continues w) q a = (a.0, a.1, looser_now w a.0 a.2)
-  looser b j k (Returns None w) q a = (a.0, a.1, looser_fin w a.0 a.2)
-  looser b j k (Returns (Some c) w) q a = (a.0, a.1, a.2, looser_fin w a.1 a.3, a.4)
-  looser b j k (Ended f w) q a = kept_wider γ γ' cost f w q a
+  looser b j k (Returns None w) q a = (a.0, a.1, looser_out w a.0 a.2)
+  looser b j k (Returns (Some c) w) q a = (a.0, a.1, a.2, looser_out w a.1 a.3, a.4)
+  looser b j k (Ended f w) q a = kept_wider γ γ' at_ends f w q a
 
 -- behind statements whose own temporaries begin at m
 module _ (γ : Goal) (skips : 2 ≤ γ.skip) (s m : ℕ) (w : World) (x : Side) (h : Now γ s w x) (le : γ.first ≤ m) where
@@ -76,24 +77,24 @@ module _ (γ : Goal) (skips : 2 ≤ γ.skip) (s m : ℕ) (w : World) (x : Side) 
 
   pub after_stmt : (wa : World) (xa : Side) → Now (stmt m w x) 0 wa xa → Now γ (s + 40) wa xa
   after_stmt wa xa a = record {
-    stays = record { under = a.stays.under; same_function = a.stays.same_function ∙ h.stays.same_function; same_own = a.stays.same_own ∙ h.stays.same_own };
+    stays = stays_then γ.base w x wa xa h.stays a.stays;
     below = λ i c d e. let k = part_keeps i c d e in a.below i k.0 k.1 k.2 ∙ k.3;
     cost = omega (arith, h.cost, a.cost);
   }
 
   pub stmt_now : (wa : World) (xa : Side) → Now (plain m w x) 0 wa xa → Now γ s wa xa
   stmt_now wa xa a = record {
-    stays = record { under = a.stays.under; same_function = a.stays.same_function ∙ h.stays.same_function; same_own = a.stays.same_own ∙ h.stays.same_own };
+    stays = stays_then γ.base w x wa xa h.stays a.stays;
     below = λ i c d e. let k = part_keeps i c d e in a.below i k.0 k.1 k.2 ∙ k.3;
     cost = omega (arith, h.cost, a.cost);
   }
 
   -- the part's goal is met, so the whole's is
   pub wide : (v : Bool) (b : ℕ) (j : Jump) (k : Mid → Res Mid) (d : Done) (q : Res Mid) → SimD v (plain m w x) b j k d q → SimD v γ b j k d q
-  wide v b j k d q a = looser v γ (plain m w x) part_keeps (omega (arith, h.cost)) h.stays.same_function h.stays.same_own b j k d q a
+  wide v b j k d q a = looser v γ (plain m w x) part_keeps (omega (arith, h.cost)) (omega (arith, h.cost)) (λ wa xa. stays_then γ.base w x wa xa h.stays) (λ os. later_then γ.base.objects w.store.objects os h.stays.later) b j k d q a
 
-  pub fin_stmt : (wa : World) (xa : Side) → Fin (stmt m w x) wa xa → Fin (more_for γ) wa xa
-  fin_stmt wa xa a = record { under = a.under; cost = omega (arith, h.cost, a.cost) }
+  pub fin_stmt : (wa : World) (xa : Side) → Out (stmt m w x) wa xa → Out (more_for γ) wa xa
+  fin_stmt wa xa a = record { under = a.under; later = later_then γ.base.objects w.store.objects wa.store.objects h.stays.later a.later; cost = omega (arith, h.cost, a.cost) }
 
   pub seqs : (v : Bool) (b : ℕ) (j : Jump) (k ka : Mid → Res Mid) (d : Done) (q : Res Mid) → SimD v (plain m w x) b j ka d q → (go : World → Done) → ((wa : World) (xa : Side) → Now γ s wa xa → SimD v γ b j k (go wa) (ka (mk wa xa))) → SimD v γ b j k (then_done d go) q
   seqs v b j k ka (Goes wa) q a go f = subst (λ r. SimD v γ b j k (go wa) r) (sym a.1) (f wa a.0 (stmt_now wa a.0 a.2))
@@ -106,32 +107,32 @@ module _ (γ : Goal) (skips : 2 ≤ γ.skip) (s m : ℕ) (w : World) (x : Side) 
 -- a further turn
 pub turn_wide : (v : Bool) (γ : Goal) → 2 ≤ γ.skip → (m b : ℕ) (j : Jump) (k : Mid → Res Mid) (w : World) (x : Side) → Now γ 24 w x → γ.first ≤ m → (d : Done) (q : Res Mid) → SimD v (turning m w x) b j k d q → SimD v γ b j k d q
 turn_wide v γ skips m b j k w x h le d q a =
-    looser v γ (turning m w x) (λ i c e g. (omega (arith, c, skips), omega (arith, e, le), eqb_more i 0 (omega (arith, c)), h.below i c e g)) (omega (arith, h.cost)) h.stays.same_function h.stays.same_own b j k d q a
+    looser v γ (turning m w x) (λ i c e g. (omega (arith, c, skips), omega (arith, e, le), eqb_more i 0 (omega (arith, c)), h.below i c e g)) (omega (arith, h.cost)) (omega (arith, h.cost)) (λ wa xa. stays_then γ.base w x wa xa h.stays) (λ os. later_then γ.base.objects w.store.objects os h.stays.later) b j k d q a
 
 -- a statement among others
 pub stmt_plain : (v : Bool) (m b : ℕ) (j : Jump) (k : Mid → Res Mid) (w : World) (x : Side) (d : Done) (q : Res Mid) → SimD v (stmt m w x) b j k d q → SimD v (plain m w x) b j k d q
-stmt_plain v m b j k w x d q a = looser v (plain m w x) (stmt m w x) (λ i c e g. (c, e, g, refl)) (omega arith) refl refl b j k d q a
+stmt_plain v m b j k w x d q a = looser v (plain m w x) (stmt m w x) (λ i c e g. (c, e, g, refl)) (omega arith) (omega arith) (λ wa xa p. p) (λ os p. p) b j k d q a
 
 pub keep_more : (γ : Goal) (s : ℕ) (w : World) (x : Side) → 24 ≤ s → Now γ s w x → Now (more_for γ) 0 w x
-keep_more γ s w x le h = record { stays = record { under = h.stays.under; same_function = h.stays.same_function; same_own = h.stays.same_own }; below = h.below; cost = omega (arith, h.cost, le) }
+keep_more γ s w x le h = record { stays = h.stays; below = h.below; cost = omega (arith, h.cost, le) }
 
 give_more : (γ : Goal) (w : World) (x : Side) → Now (more_for γ) 0 w x → Now γ 24 w x
-give_more γ w x h = record { stays = record { under = h.stays.under; same_function = h.stays.same_function; same_own = h.stays.same_own }; below = h.below; cost = omega (arith, h.cost) }
+give_more γ w x h = record { stays = h.stays; below = h.below; cost = omega (arith, h.cost) }
 
-more_fin : (γ : Goal) (w : World) (x : Side) → Fin (more_for γ) w x → Fin γ w x
-more_fin γ w x h = record { under = h.under; cost = omega (arith, h.cost) }
+more_fin : (γ : Goal) (w : World) (x : Side) → Out (more_for γ) w x → Out γ w x
+more_fin γ w x h = record { under = h.under; later = h.later; cost = omega (arith, h.cost) }
 
 pub more_now : (γ : Goal) (s0 : ℕ) (w : World) (x : Side) → Now γ (s0 + 24) w x → Now (more_for γ) s0 w x
-more_now γ s0 w x h = record { stays = record { under = h.stays.under; same_function = h.stays.same_function; same_own = h.stays.same_own }; below = h.below; cost = omega (arith, h.cost) }
+more_now γ s0 w x h = record { stays = h.stays; below = h.below; cost = omega (arith, h.cost) }
 
-pub begin_stmt : (m : ℕ) (w : World) (x : Side) → Under w.store.objects x.objs → Now (stmt m w x) 24 (spend 1 w) x
-begin_stmt m w x u = record { stays = record { under = u; same_function = refl; same_own = refl }; below = λ j sc lt ne. refl; cost = omega arith }
+pub begin_stmt : (m : ℕ) (w : World) (x : Side) → Fit w x → Now (stmt m w x) 24 (spend 1 w) x
+begin_stmt m w x u = record { stays = restay (base_of w x) w x (spend 1 w) x refl refl refl refl (stays_here w x u); below = λ j sc lt ne. refl; cost = omega arith }
 
-pub here : (m : ℕ) (w : World) (x : Side) → Under w.store.objects x.objs → Now (plain m w x) 0 w x
-here m w x u = record { stays = record { under = u; same_function = refl; same_own = refl }; below = λ j sc lt ne. refl; cost = omega arith }
+pub here : (m : ℕ) (w : World) (x : Side) → Fit w x → Now (plain m w x) 0 w x
+here m w x u = record { stays = stays_here w x u; below = λ j sc lt ne. refl; cost = omega arith }
 
-pub turn_now : (m : ℕ) (w : World) (x : Side) → Under w.store.objects x.objs → Now (turning m w x) 24 w x
-turn_now m w x u = record { stays = record { under = u; same_function = refl; same_own = refl }; below = λ j sc lt ne. refl; cost = omega arith }
+pub turn_now : (m : ℕ) (w : World) (x : Side) → Fit w x → Now (turning m w x) 24 w x
+turn_now m w x u = record { stays = stays_here w x u; below = λ j sc lt ne. refl; cost = omega arith }
 
 -- ---- turns of loops
 

@@ -38,7 +38,8 @@ use Rattle.mid_lower.proofs.Grows.{Mid, all_of, more, called_grows}
 use Rattle.mid_lower.proofs.Under.{Kin, Under, AllEmpty, under_self, under_at}
 use Rattle.mid_lower.proofs.Trees.{PlainStmts, Below}
 use Rattle.mid_lower.proofs.Fits.{Site, Fits, ScalarTypes}
-use Rattle.mid_lower.proofs.Following.{Side, mk, goal, Goal, SimV, M, L, events_of, spare}
+use Rattle.mid_lower.proofs.Room.{Room}
+use Rattle.mid_lower.proofs.Following.{base_of, Fit, Side, mk, goal, Goal, SimV, M, L, events_of, spare}
 use Rattle.mid_lower.proofs.Calling.{asks}
 use Rattle.mid_lower.proofs.CellLoops.{next_same}
 use Rattle.mid_lower.proofs.OperatorForms.{begin_value}
@@ -99,6 +100,7 @@ pub record IsPlain (p : ProgramT) : Type 0 where
   pub made : (f : ℕ) (g : TFunctionT) → slice_get p.functions f ≡ Some g → Below (length g.locals) g.made
   pub tidy : (f : ℕ) (g : TFunctionT) → slice_get p.functions f ≡ Some g → PlainStmts (shape p) (length g.locals) (is_void g.gives) g.body
   pub inits : PlainStmts (shape p) 0 true (tstmts p.inits)
+  pub quiet : stmts_sizes (shape p) (tstmts p.inits) ≡ []
   pub main : (g : TFunctionT) × (slice_get p.functions p.main ≡ Some g) × (is_void g.gives ≡ true)
 
 lives_empty : (x : ObjectT) → x.lives ≡ true → x.lives ≡ false → x.cells ≡ []
@@ -150,6 +152,7 @@ module _ (p : ProgramT) (frames : List ℕ) (sc : IsPlain p) where
     fits = fits;
     body = λ f g e. ap (λ k. k.body) (function_is (shape p) p.functions f g e);
     own = λ f g e. ap (λ o. option_map_or (λ k. k.locals) o []) e;
+    behind = λ f g e. ap (λ o. option_map_or (λ k. stmts_sizes (shape p) k.body) o []) e;
     made = sc.made;
     tidy = sc.tidy;
   }
@@ -165,11 +168,11 @@ module _ (p : ProgramT) (frames : List ℕ) (sc : IsPlain p) where
     w0 = c.opening p answers card
 
     abbrev x0 : Side
-    x0 = record { objs = w0.store.objects; work = 0; temps = λ q. Unwritten; given = Unwritten; extra = [] }
+    x0 = record { objs = w0.store.objects; work = 0; temps = λ q. Unwritten; given = Unwritten; extra = []; floor = 0 }
 
     -- ---- the call of main
 
-    module _ (w : World) (y : Side) (under : Under w.store.objects y.objs) where
+    module _ (w : World) (y : Side) (fit : Fit w y) where
       abbrev γ : Goal
       γ = goal false 0 1 w y
 
@@ -184,7 +187,7 @@ module _ (p : ProgramT) (frames : List ℕ) (sc : IsPlain p) where
           subst (SimV γ (M S Stop) false (src.call s n S.prev p.main [] nowhere (spend 1 w))) (ap (λ k. then_next (with_work k) (M S Stop)) no_more ∙ next_same main_result)
           (subst (λ o. SimV γ (M S Stop) false (src.call_of s n S.prev p.main o [] nowhere (spend 1 w)) (then_next (with_work (y.work + 0)) (M S Stop))) (sym e)
           (subst (λ b. SimV γ (M S Stop) false (src.enter s n S.prev p.main g [] (if b then next_object w.store else Unwritten) nowhere (on_store (λ u. if b then with_temporary (words s g.gives) u else u) (spend 1 w))) (then_next (with_work (y.work + 0)) (M S Stop))) (sym ty.1)
-          (asks S 0 1 w y Stop p.main g nowhere ty.0 [] [] (spend 1 w) y refl 0 (omega arith) (spare γ 36 (36 + 20 * 0) (spend 1 w) y (omega arith) (begin_value S 0 1 w y under)) true sc.main.2 before.called n tt e)))
+          (asks S 0 1 w y Stop p.main g nowhere ty.0 [] [] (spend 1 w) y refl 0 (omega arith) (spare γ 36 (36 + 20 * 0) (spend 1 w) y (omega arith) (begin_value S 0 1 w y fit)) true sc.main.2 before.called n tt e)))
         where
           with_work : ℕ → Res Mid
           with_work k = called (L S) n S.prev' None p.main [] (mk w (record y { work = k }))
@@ -193,9 +196,9 @@ module _ (p : ProgramT) (frames : List ℕ) (sc : IsPlain p) where
           no_more = omega arith
 
       finished : y.work ≤ 64 * w.work → (v : Val) (q : Res Mid) → SimV γ (M S Stop) false v q → Agree (c.main_done v).end (c.main_done v).world (mid.main_done q)
-      finished le (Value d u) q a = subst (λ r. Agree Halted u (mid.main_done r)) (sym a.2) (record { ends = refl; events = refl; under = a.3.stays.under; work = omega (arith, a.3.cost, le) })
+      finished le (Value d u) q a = subst (λ r. Agree Halted u (mid.main_done r)) (sym a.2) (record { ends = refl; events = refl; under = a.3.stays.fit.under; work = omega (arith, a.3.cost, le) })
       finished le (Place d u) q a = absurd (false≢true a.0)
-      finished le (NoValue u) q a = subst (λ r. Agree Halted u (mid.main_done r)) (sym a.2) (record { ends = refl; events = refl; under = a.3.stays.under; work = omega (arith, a.3.cost, le) })
+      finished le (NoValue u) q a = subst (λ r. Agree Halted u (mid.main_done r)) (sym a.2) (record { ends = refl; events = refl; under = a.3.stays.fit.under; work = omega (arith, a.3.cost, le) })
       finished le (Stops (Stray span) u) q a = subst (Prefix u.events) (sym (main_events q)) a
       finished le (Stops Halted u) q a = subst (λ r. Agree Halted u (mid.main_done r)) (sym a.1) (record { ends = refl; events = refl; under = a.2.under; work = omega (arith, a.2.cost, le) })
       finished le (Stops (Fault k) u) q a = subst (λ r. Agree (Fault k) u (mid.main_done r)) (sym a.1) (record { ends = refl; events = refl; under = a.2.under; work = omega (arith, a.2.cost, le) })
@@ -224,7 +227,7 @@ module _ (p : ProgramT) (frames : List ℕ) (sc : IsPlain p) where
     started : (d : Done) (q : Res Mid) → SimD true (plain first_param w0 x0) 0 (ToEnd 0) (M S Stop) d q → Agree (source_done d).end (source_done d).world (mid.start_done q go_on)
     started (Goes w) q a =
         subst (λ r. Agree (source_done (Goes w)).end (source_done (Goes w)).world (mid.start_done r go_on)) (sym a.1)
-        (finished w a.0 a.2.stays.under (omega (arith, a.2.cost)) (src.call s n S.prev p.main [] nowhere (spend 1 w)) (main_result w a.0 a.2.stays.under) (main_sim w a.0 a.2.stays.under))
+        (finished w a.0 a.2.stays.fit (omega (arith, a.2.cost)) (src.call s n S.prev p.main [] nowhere (spend 1 w)) (main_result w a.0 a.2.stays.fit) (main_sim w a.0 a.2.stays.fit))
     started (Breaks w) q a = subst (λ r. Prefix w.events (mid.start_done r go_on).world.events) (sym a.1) (all_of w.events)
     started (Continues w) q a = subst (λ r. Prefix w.events (mid.start_done r go_on).world.events) (sym a.1) (all_of w.events)
     started (Returns None w) q a = subst (λ r. Prefix w.events (mid.start_done r go_on).world.events) (sym a.1) (go_more (mk w a.0))
@@ -243,7 +246,7 @@ module _ (p : ProgramT) (frames : List ℕ) (sc : IsPlain p) where
     follows : Agree (c.final_of p frames n answers card).end (c.final_of p frames n answers card).world (mid.final_of temporaries x frames n answers card)
     follows =
         started (does_all s n S.prev Unwritten (tstmts p.inits) w0) (M S (low_stmts (shape p) VoidY (tstmts p.inits) first_param 0 0 (ToEnd 0) Stop) (mk w0 x0))
-        (all_sim S before Unwritten VoidY true 0 (tstmts p.inits) sc.inits first_param 0 0 (ToEnd 0) Stop w0 x0 (omega arith) (under_self w0.store.objects (opening_empty (map (λ g. g.1) p.globals) p.literals card)) home refl)
+        (all_sim S before Unwritten VoidY true 0 (tstmts p.inits) sc.inits first_param 0 0 (ToEnd 0) Stop w0 x0 (omega arith) (record { under = under_self w0.store.objects (opening_empty (map (λ g. g.1) p.globals) p.literals card); unused = λ i le. tt }) home refl (subst (Room S (base_of w0 x0) 0) (sym sc.quiet) (record { free = omega arith; fits = omega arith; words = λ j lt. absurd (omega (arith, lt)) })))
 
 -- ---- the public statement on work
 

@@ -16,13 +16,14 @@ use Rattle.c_exprs.specs.Nodes.{type_of_typed}
 use Rattle.c_stmts.specs.Slots.{Slots, NoSlots, Elements, Members, member_types, members_of, first_of, slots_of, next_slot, later_slots, is_fixed}
 use Rattle.c_check.specs.Reading.{has_members}
 use Rattle.c_facts.specs.Sound.{Scene, IsKnown, IsSized, takes_value, FillsAs, FillEach, AreFilled, AreSized, IsLaidOut, IsDeclaredAs, AreDeclaredAs, in_call, wholes, scene}
+use Rattle.c_meaning.specs.Kinds.{is_structure}
 use Rattle.c_meaning.specs.Parts.{part_type}
 use Rattle.mid_lower.specs.Shape.{Shape, shape}
 use Rattle.mid_lower.proofs.Trees.{RestFits, Fills, FillAll, FillVars}
 use Rattle.mid_lower.proofs.Fits.{ScalarTypes}
-use Rattle.mid_lower.proofs.Simple.{SimpleFill, SimpleFills, SimpleVars}
-use Rattle.mid_lower.proofs.Operands.{both_first, both_second, to_scalar}
-use Rattle.mid_lower.proofs.SoundExpressions.{plain, of_scalar}
+use Rattle.mid_lower.proofs.Operands.{both_first, both_second, from_scalar}
+use Rattle.mid_lower.proofs.ResultTypes.{from_structure}
+use Rattle.mid_lower.proofs.SoundExpressions.{plain, structure, scalar_of, structure_of}
 
 -- ---- the places of a type, from one on
 
@@ -156,7 +157,7 @@ text_few (t ∷ ts) (suc k) = let e = sum_by-cons (λ t. length t + 1) t ts in l
 
 -- ---- initialisers, of a program whose layouts and texts are sound
 
-module _ (p : ProgramT) (declared : AreDeclaredAs p.layouts (wholes p.layouts) p.layouts) (texts : text_words p.literals ≤ 4000000) (sc : (f : ℕ) (g : TFunctionT) → slice_get p.functions f ≡ Some g → ScalarTypes g.params) (locals : List ℕ) where
+module _ (p : ProgramT) (declared : AreDeclaredAs p.layouts (wholes p.layouts) p.layouts) (texts : text_words p.literals ≤ 4000000) (sc : (f : ℕ) (g : TFunctionT) → slice_get p.functions f ≡ Some g → ScalarTypes g.params × (is_structure g.gives ≡ false)) (locals : List ℕ) where
   abbrev z : Scene
   z = in_call (scene p) locals
 
@@ -181,17 +182,21 @@ module _ (p : ProgramT) (declared : AreDeclaredAs p.layouts (wholes p.layouts) p
       record { ty = part; same = m.0; sized = m.1; filled = is }
 
   mutual
-    pub fill_plain : (global : Bool) (i : TInitT) (ty : Ty) → IsSized p.layouts (wholes p.layouts) ty → FillsAs z global i (Some ty) → SimpleFill i → Fills h i ty
-    fill_plain global (OneI x) ty sized is s = (plain z sc x (is.0).typed s.0, s.1, to_scalar (type_of_typed x) ty (value_taken global ty x is.1) (of_scalar x s.1))
-    fill_plain global (TextI number) ty sized is s = let le = text_few p.literals number in omega (arith, le, texts)
-    fill_plain global (ListI items) ty sized is s = fills_plain global items ty 0 sized (subst (FillEach z global items) (places_first p.layouts ty) is.1) s
+    pub fill_plain : (global : Bool) (i : TInitT) (ty : Ty) → IsSized p.layouts (wholes p.layouts) ty → FillsAs z global i (Some ty) → Fills h i ty
+    fill_plain global (OneI x) ty sized is =
+        let becomes = value_taken global ty x is.1 in (
+          λ e. let ex = from_scalar (type_of_typed x) ty becomes e in (plain z sc x (is.0).typed (λ f. ex), scalar_of x ex),
+          λ e. let ex = from_structure (type_of_typed x) ty becomes e in (structure z sc x (is.0).typed ex, structure_of x ex),
+        )
+    fill_plain global (TextI number) ty sized is = let le = text_few p.literals number in omega (arith, le, texts)
+    fill_plain global (ListI items) ty sized is = fills_plain global items ty 0 sized (subst (FillEach z global items) (places_first p.layouts ty) is.1)
 
-    fills_plain : (global : Bool) (items : TInitTs) (ty : Ty) (k : ℕ) → IsSized p.layouts (wholes p.layouts) ty → FillEach z global items (places p.layouts ty k) → SimpleFills items → FillAll h items ty k
-    fills_plain global NoI ty k sized is s = rest_few p.layouts h refl (wholes p.layouts) ty sized.known k
-    fills_plain global (MoreI i rest) ty k sized is s =
+    fills_plain : (global : Bool) (items : TInitTs) (ty : Ty) (k : ℕ) → IsSized p.layouts (wholes p.layouts) ty → FillEach z global items (places p.layouts ty k) → FillAll h items ty k
+    fills_plain global NoI ty k sized is = rest_few p.layouts h refl (wholes p.layouts) ty sized.known k
+    fills_plain global (MoreI i rest) ty k sized is =
         let m = part_filled global i ty k sized (next_slot (places p.layouts ty k)) refl is.0 in
-        (subst (Fills h i) (sym m.same) (fill_plain global i m.ty m.sized m.filled s.0), fills_plain global rest ty (k + 1) sized (subst (FillEach z global rest) (places_later p.layouts ty k) is.1) s.1)
+        (subst (Fills h i) (sym m.same) (fill_plain global i m.ty m.sized m.filled), fills_plain global rest ty (k + 1) sized (subst (FillEach z global rest) (places_later p.layouts ty k) is.1))
 
-  pub vars_plain : (global : Bool) (vs : List TVarT) → AreFilled z global vs → SimpleVars vs → FillVars h vs
-  vars_plain global [] is s = tt
-  vars_plain global (v ∷ vs) is s = (fill_plain global v.init v.ty (is.0).sized (is.0).filled s.0, vars_plain global vs is.1 s.1)
+  pub vars_plain : (global : Bool) (vs : List TVarT) → AreFilled z global vs → FillVars h vs
+  vars_plain global [] is = tt
+  vars_plain global (v ∷ vs) is = (fill_plain global v.init v.ty (is.0).sized (is.0).filled, vars_plain global vs is.1)

@@ -28,9 +28,10 @@ use Rattle.mid_lower.specs.Shape.{Shape, shape_in}
 use Rattle.mid_lower.specs.Parts as low
 use Rattle.mid_lower.proofs.Grows.{Mid, Grows}
 use Rattle.mid_lower.proofs.Under.{Under, same, read_both, WriteBoth, write_both}
+use Rattle.mid_lower.proofs.Lives.{Later, later_write}
 use Rattle.mid_lower.proofs.Words.{step_once, negated_once, in_words, same_words}
 use Rattle.mid_lower.proofs.Fits.{Site}
-use Rattle.mid_lower.proofs.Following.{Side, mk, Goal, Now, Way, Free, spare, paid, paid_now, fin_now, stopped, M, M_grows, op, sets}
+use Rattle.mid_lower.proofs.Following.{Side, mk, Goal, stays_later, Now, Way, Free, spare, paid, paid_now, fin_now, stopped, M, M_grows, op, sets}
 use Rattle.mid_lower.proofs.Instructions.{asked_then, two_eq, step_eq, from_eq, Sets}
 
 module _ (S : Site) where
@@ -52,7 +53,7 @@ module _ (S : Site) where
     pub loads : (x : Side) (ty : Ty) (t p : ℕ) (vp : Cell) (c : NodesT ℕ) → Now γ (s0 + 8) w x → Free γ t → x.temps p ≡ vp → (go : Cell → σ.R) → Sets S γ σ s0 w x t c go → σ.T (asked σ.stop span w (read_as ty w.store.objects vp) go) (R (Do (LoadO t p) c) (mk w x))
     loads x ty t p vp c h0 free e go f =
         subst (λ r. σ.T r (R (Do (LoadO t p) c) (mk w x))) (sym (asked_then σ.stop span w (read w.store.objects vp) (λ z. answer_if (is_of ty z) z) go))
-        (op S γ σ s0 span w x t (read w.store.objects vp) (read x.objs (x.temps p)) (LoadO t p) c h0 free (from_eq (read w.store.objects vp) (read x.objs vp) (read x.objs (x.temps p)) (ap (λ u. read x.objs u) e) (read_both w.store.objects x.objs vp h0.stays.under)) refl
+        (op S γ σ s0 span w x t (read w.store.objects vp) (read x.objs (x.temps p)) (LoadO t p) c h0 free (from_eq (read w.store.objects vp) (read x.objs vp) (read x.objs (x.temps p)) (ap (λ u. read x.objs u) e) (read_both w.store.objects x.objs vp h0.stays.fit.under)) refl
         (λ z. asked σ.stop span w (answer_if (is_of ty z) z) go) (λ z y hy at rest. sound y (is_of ty z) z go c (f z y hy at rest)))
 
     -- the cell in a is converted
@@ -112,17 +113,17 @@ module _ (S : Site) where
     pub downs : (x : Side) (ty : Ty) (t a : ℕ) (va : Cell) (c : NodesT ℕ) → Now γ (s0 + 24) w x → Free γ t → eqb a t ≡ false → x.temps a ≡ va → (go : Cell → σ.R) → Sets S γ σ s0 w x t c go → σ.T (asked σ.stop span w (operated S.s bin.Sub ty IntY w.store.objects va (Num 1)) go) (R (low.one_less h (pointed (decayed ty)) t a c) (mk w x))
     downs x ty t a va c h0 free ne e go f = less_by x (pointed (decayed ty)) t a va c h0 free ne e go f
 
-    objects_now : (x : Side) (os os' : List ObjectT) → Now γ (s0 + 8) w x → Under os os' → Now γ s0 (on_store (with_objects os) w) (paid (record x { objs = os' }))
-    objects_now x os os' h0 u = record { stays = record { under = u; same_function = h0.stays.same_function; same_own = h0.stays.same_own }; below = h0.below; cost = omega (arith, h0.cost) }
+    objects_now : (x : Side) (os os' : List ObjectT) → Now γ (s0 + 8) w x → Under os os' → Later w.store.objects os → Now γ s0 (on_store (with_objects os) w) (paid (record x { objs = os' }))
+    objects_now x os os' h0 u l = record { stays = stays_later γ.base w x (on_store (with_objects os) w) (paid (record x { objs = os' })) refl refl refl refl u l h0.stays; below = h0.below; cost = omega (arith, h0.cost) }
 
     -- the cell in a is stored at the place in p
     pub stores : (x : Side) (p a : ℕ) (vp va : Cell) (c : NodesT ℕ) → Now γ (s0 + 8) w x → x.temps p ≡ vp → x.temps a ≡ va → (go : World → σ.R) → ((os : List ObjectT) (y : Side) → Now γ s0 (on_store (with_objects os) w) y → ((j : ℕ) → y.temps j ≡ x.temps j) → σ.T (go (on_store (with_objects os) w)) (R c (mk (on_store (with_objects os) w) y))) → σ.T (asked σ.stop span w (write w.store.objects vp va) (λ os. go (on_store (with_objects os) w))) (R (Do (StoreO p a) c) (mk w x))
-    stores x p a vp va c h0 ep ea go f = by (write w.store.objects vp va) (subst (WriteBoth (write w.store.objects vp va)) (sym (ap (λ u. write x.objs u (x.temps a)) ep ∙ ap (λ u. write x.objs vp u) ea)) (write_both w.store.objects x.objs vp va h0.stays.under))
+    stores x p a vp va c h0 ep ea go f = by (write w.store.objects vp va) refl (subst (WriteBoth (write w.store.objects vp va)) (sym (ap (λ u. write x.objs u (x.temps a)) ep ∙ ap (λ u. write x.objs vp u) ea)) (write_both w.store.objects x.objs vp va h0.stays.fit.under))
       where
-        by : (q : Answer (List ObjectT)) → WriteBoth q (write x.objs (x.temps p) (x.temps a)) → σ.T (asked σ.stop span w q (λ os. go (on_store (with_objects os) w))) (R (Do (StoreO p a) c) (mk w x))
-        by (Ok os) k = subst (σ.T (go (on_store (with_objects os) w))) (sym (ap (λ q. did (to_objects q (spent 8 (mk w x))) (R c)) k.1)) (f os (paid (record x { objs = k.0 })) (objects_now x os k.0 h0 k.2) (λ j. refl))
-        by (Err Strays) k = σ.stops (Stray span) w (R (Do (StoreO p a) c) (mk w x)) (R_grows (Do (StoreO p a) c) (mk w x))
-        by (Err (Faults v)) k = σ.stops (Fault v) w (R (Do (StoreO p a) c) (mk w x)) (stopped γ (Fault v) w (paid x) (R (Do (StoreO p a) c) (mk w x)) (fin_now γ s0 w (paid x) (paid_now γ s0 w x h0)) (ap (λ q. did (to_objects q (spent 8 (mk w x))) (R c)) k))
+        by : (q : Answer (List ObjectT)) → write w.store.objects vp va ≡ q → WriteBoth q (write x.objs (x.temps p) (x.temps a)) → σ.T (asked σ.stop span w q (λ os. go (on_store (with_objects os) w))) (R (Do (StoreO p a) c) (mk w x))
+        by (Ok os) eq k = subst (σ.T (go (on_store (with_objects os) w))) (sym (ap (λ q. did (to_objects q (spent 8 (mk w x))) (R c)) k.1)) (f os (paid (record x { objs = k.0 })) (objects_now x os k.0 h0 k.2 (later_write w.store.objects vp va os eq)) (λ j. refl))
+        by (Err Strays) eq k = σ.stops (Stray span) w (R (Do (StoreO p a) c) (mk w x)) (R_grows (Do (StoreO p a) c) (mk w x))
+        by (Err (Faults v)) eq k = σ.stops (Fault v) w (R (Do (StoreO p a) c) (mk w x)) (stopped γ (Fault v) w (paid x) (R (Do (StoreO p a) c) (mk w x)) (fin_now γ s0 w (paid x) (paid_now γ s0 w x h0)) (ap (λ q. did (to_objects q (spent 8 (mk w x))) (R c)) k))
 
 -- a store that may be followed
 pub went_asked : {A : Type 0} (stop : End → World → A) (span : Span) (w : World) (q : Answer (List ObjectT)) (f : List ObjectT → World) (go : World → A) → then_went stop (asked CutOff span w q (λ os. Through (f os))) go ≡ asked stop span w q (λ os. go (f os))

@@ -2,7 +2,7 @@
 use Rattle.std.proofs.Common.{◌≡◌, ℕ, ◌+◌, ◌*◌, ◌-◌, ◌^◌, ◌≤◌, ◌<◌, Bool, true, false, List, [], ◌∷◌, Option, Some, None}
 use Rattle.c_tree.specs.declared.operator.UnOp.TheVariants as un
 use Rattle.c_types.specs.Types.{Ty, ArrayY}
-use Rattle.c_types.specs.Typed.{TExprT, Typed, TKindT, UnaryK, BinaryK, AssignK, StepK, IndexK, MemberK, ArrowK, CastK, CallK, OutK, TExprTs, NoX, MoreX, TInitT, OneI, TextI, ListI, TInitTs, NoI, MoreI, TVarT, TStmtT, BlockZ, EmptyZ, VarsZ, DoZ, IfZ, WhileZ, DoWhileZ, ForZ, SwitchZ, ReturnZ, BreakZ, ContinueZ, MaybeZ, NoneZ, SomeZ, TStmtTs, NoZ, MoreZ, CaseB, DefaultB, StmtB, TArmTs, NoB, MoreB}
+use Rattle.c_types.specs.Typed.{TExprT, Typed, TKindT, UnaryK, BinaryK, AssignK, StepK, IndexK, MemberK, ArrowK, CastK, CallK, OutK, TExprTs, NoX, MoreX, TInitT, OneI, TextI, ListI, TInitTs, NoI, MoreI, TVarT, TStmtT, BlockZ, EmptyZ, VarsZ, DoZ, IfZ, WhileZ, DoWhileZ, ForZ, SwitchZ, ReturnZ, BreakZ, ContinueZ, MaybeZ, NoneZ, SomeZ, TStmtTs, NoZ, MoreZ, CaseB, DefaultB, StmtB, TArmTs, NoB, MoreB, GlobalK, LocalK}
 use Rattle.c_exprs.specs.Nodes.{is_place}
 use Rattle.c_meaning.specs.Kinds.{type_of, is_structure}
 use Rattle.c_meaning.specs.Parts.{part_type}
@@ -15,21 +15,35 @@ IsScalar x = is_structure (type_of x) ≡ false
 
 abbrev mutual
   pub Plain : TExprT → Type 0
-  Plain (Typed kind ty span) = PlainKind kind
+  Plain (Typed kind ty span) = PlainKind kind ty
 
-  pub PlainKind : TKindT → Type 0
-  PlainKind (UnaryK un.Address x) = Plain x
-  PlainKind (UnaryK op x) = Plain x × IsScalar x
-  PlainKind (BinaryK op x y) = Plain x × IsScalar x × Plain y × IsScalar y
-  PlainKind (AssignK op x y) = Plain x × IsScalar x × Plain y × IsScalar y
-  PlainKind (StepK op x) = Plain x × IsScalar x
-  PlainKind (IndexK x y) = Plain x × IsScalar x × Plain y × IsScalar y
-  PlainKind (MemberK x offset) = Plain x × (is_place x ≡ true)
-  PlainKind (ArrowK x offset) = Plain x × IsScalar x
-  PlainKind (CastK x) = Plain x × IsScalar x
-  PlainKind (CallK f xs) = PlainAll xs
-  PlainKind (OutK port x) = Plain x × IsScalar x
-  PlainKind _ = Unit {0}
+  pub PlainKind : TKindT → Ty → Type 0
+  PlainKind (UnaryK un.Address x) ty = Plain x
+  PlainKind (UnaryK op x) ty = Plain x × IsScalar x
+  PlainKind (BinaryK op x y) ty = Plain x × IsScalar x × Plain y × IsScalar y
+  PlainKind (AssignK op x y) ty = Plain x × IsScalar x × Plain y × IsScalar y
+  PlainKind (StepK op x) ty = Plain x × IsScalar x
+  PlainKind (IndexK x y) ty = Plain x × IsScalar x × Plain y × IsScalar y
+  PlainKind (MemberK x offset) ty = (is_place x ≡ true → Plain x) × (is_place x ≡ false → PlainStructure x × (is_structure ty ≡ false))
+  PlainKind (ArrowK x offset) ty = Plain x × IsScalar x
+  PlainKind (CastK x) ty = Plain x × IsScalar x
+  PlainKind (CallK f xs) ty = PlainAll xs
+  PlainKind (OutK port x) ty = Plain x × IsScalar x
+  PlainKind _ ty = Unit {0}
+
+  -- what has a structure as its value, which no function is passed or gives
+  pub PlainStructure : TExprT → Type 0
+  PlainStructure (Typed kind ty span) = StructureKind kind ty
+
+  pub StructureKind : TKindT → Ty → Type 0
+  StructureKind (GlobalK number) ty = Unit {0}
+  StructureKind (LocalK number) ty = Unit {0}
+  StructureKind (UnaryK un.Deref x) ty = Plain x × IsScalar x
+  StructureKind (AssignK None x y) ty = Plain x × (is_structure (type_of x) ≡ true) × PlainStructure y × (is_structure (type_of y) ≡ true)
+  StructureKind (IndexK x y) ty = Plain x × IsScalar x × Plain y × IsScalar y
+  StructureKind (MemberK x offset) ty = (is_place x ≡ true → Plain x) × (is_place x ≡ false → PlainStructure x) × (is_structure ty ≡ true)
+  StructureKind (ArrowK x offset) ty = Plain x × IsScalar x
+  StructureKind _ ty = ⊥
 
   pub PlainAll : TExprTs → Type 0
   PlainAll NoX = Unit {0}
@@ -46,7 +60,7 @@ RestFits h _ k = Unit {0}
 
 abbrev mutual
   pub Fills : Shape → TInitT → Ty → Type 0
-  Fills h (OneI x) ty = Plain x × IsScalar x × (is_structure ty ≡ false)
+  Fills h (OneI x) ty = (is_structure ty ≡ false → Plain x × IsScalar x) × (is_structure ty ≡ true → PlainStructure x × (is_structure (type_of x) ≡ true))
   Fills h (TextI number) ty = literal_words h number ≤ 2 ^ 32
   Fills h (ListI items) ty = FillAll h items ty 0
 
@@ -69,16 +83,24 @@ abbrev pub PlainMaybe : Option TExprT → Type 0
 PlainMaybe None = Unit {0}
 PlainMaybe (Some x) = PlainValue x
 
+-- an expression whose value, a structure or not, is dropped
+abbrev pub PlainDropped : TExprT → Type 0
+PlainDropped x = (is_structure (type_of x) ≡ false → Plain x) × (is_structure (type_of x) ≡ true → PlainStructure x)
+
+abbrev pub PlainStep : Option TExprT → Type 0
+PlainStep None = Unit {0}
+PlainStep (Some x) = PlainDropped x
+
 abbrev mutual
   pub PlainStmt : Shape → (own : ℕ) → (void : Bool) → TStmtT → Type 0
   PlainStmt h own v (BlockZ made body) = Below own made × PlainStmts h own v body
   PlainStmt h own v EmptyZ = Unit {0}
   PlainStmt h own v (VarsZ vars) = FillVars h vars
-  PlainStmt h own v (DoZ x) = PlainValue x
+  PlainStmt h own v (DoZ x) = PlainDropped x
   PlainStmt h own v (IfZ x a b) = PlainValue x × PlainStmt h own v a × PlainOther h own v b
   PlainStmt h own v (WhileZ x a) = PlainValue x × PlainStmt h own v a
   PlainStmt h own v (DoWhileZ a x) = PlainStmt h own v a × PlainValue x
-  PlainStmt h own v (ForZ made first test step a) = Below own made × PlainOther h own v first × PlainMaybe test × PlainMaybe step × PlainStmt h own v a
+  PlainStmt h own v (ForZ made first test step a) = Below own made × PlainOther h own v first × PlainMaybe test × PlainStep step × PlainStmt h own v a
   PlainStmt h own v (SwitchZ x made arms) = PlainValue x × Below own made × PlainArms h own v arms × (2 * labels arms ≤ 2 ^ 32)
   PlainStmt h own v (ReturnZ None) = Unit {0}
   PlainStmt h own v (ReturnZ (Some x)) = PlainValue x × (v ≡ false)

@@ -23,12 +23,13 @@ use Rattle.mid_lower.specs.Shape.{Shape, shape_in}
 use Rattle.mid_lower.specs.Flags.{is_flag}
 use Rattle.mid_lower.specs.Expressions.{low, value, test}
 use Rattle.mid_lower.specs.Expressions as low
-use Rattle.mid_lower.specs.Counts.{sizes}
+use Rattle.mid_lower.specs.Counts.{sizes, read_sizes, value_sizes}
 use Rattle.mid_lower.proofs.Grows.{Mid, Grows}
-use Rattle.mid_lower.proofs.Under.{Under, Alike, same}
+use Rattle.mid_lower.proofs.Under.{Alike, same}
 use Rattle.mid_lower.proofs.Flagged.{IsFlag, flag_value, no_flag}
 use Rattle.mid_lower.proofs.Fits.{Site}
-use Rattle.mid_lower.proofs.Following.{Side, mk, Goal, goal, Now, SimV, Way, Free, Before, scratch, spare, kept_wider, value_now, above_free, eqb_less, eqb_more, M, M_grows}
+use Rattle.mid_lower.proofs.Room.{Room, room_at, room_first}
+use Rattle.mid_lower.proofs.Following.{base_of, Fit, Side, mk, Goal, goal, Now, SimV, Way, Free, Before, scratch, spare, kept_wider, value_now, above_free, eqb_less, eqb_more, M, M_grows}
 use Rattle.mid_lower.proofs.Storing.{loads}
 
 -- the first objects of a list of locals
@@ -74,7 +75,7 @@ module _ (S : Site) where
 
   -- that mid code follows an expression wherever it stands
   abbrev pub Follow : TExprT → Type 0
-  Follow e = (t n m : ℕ) (c : NodesT ℕ) (w : World) (x : Side) → scratch ≤ t → t < n → Under w.store.objects x.objs → SimV (goal (is_place e) t n w x) (R c) (is_place e) (evaluated S.s S.bound S.prev e w) (R (low h e t n m c) (mk w x))
+  Follow e = (t n m : ℕ) (c : NodesT ℕ) (w : World) (x : Side) → scratch ≤ t → t < n → Fit w x → Room S (base_of w x) m (sizes h e) → SimV (goal (is_place e) t n w x) (R c) (is_place e) (evaluated S.s S.bound S.prev e w) (R (low h e t n m c) (mk w x))
 
   -- what follows a value in t: where it is told to be a flag it is one
   abbrev pub Uses : (γ : Goal) (σ : Way γ) → (s0 t n : ℕ) → Side → NodesT ℕ → TExprT → (Cell → World → σ.R) → Type 0
@@ -142,14 +143,14 @@ module _ (S : Site) where
       by_place true k part r nf flag sim f = by_type (type_of e) refl k part r (nf refl) sim f
       by_place false k part r nf flag sim f = plain_value r (R (part t n m c) (mk w x)) (sim t n c st tn) flag f
 
-      made_sim : Follow e → Uses γ σ (s0 + 28) t n x c e go → σ.T (make (value_of S.s S.bound e (evaluated S.s S.bound S.prev e w))) (R (value h e (low h e) t n m c) (mk w x))
-      made_sim sim f = by_place (is_place e) (m + length (sizes h e)) (low h e) (evaluated S.s S.bound S.prev e w) (no_flag e) (λ v wa q fl. flag_value S.s S.bound S.prev e w v wa q fl) (λ u v d su uv. sim u v m d w x su uv h0.stays.under) f
+      made_sim : Follow e → Room S γ.base m (value_sizes h e) → Uses γ σ (s0 + 28) t n x c e go → σ.T (make (value_of S.s S.bound e (evaluated S.s S.bound S.prev e w))) (R (value h e (low h e) t n m c) (mk w x))
+      made_sim sim room f = by_place (is_place e) (m + length (sizes h e)) (low h e) (evaluated S.s S.bound S.prev e w) (no_flag e) (λ v wa q fl. flag_value S.s S.bound S.prev e w v wa q fl) (λ u v d su uv. sim u v m d w x su uv h0.stays.fit (room_at S γ.base m (sizes h e) w x (room_first S γ.base m (sizes h e) (read_sizes h (is_place e) (type_of e)) room) h0.stays)) f
 
     -- a value that is used
-    pub uses : (e : TExprT) → is_structure (type_of e) ≡ false → (go : Cell → World → σ.R) → Follow e → Uses γ σ (s0 + 28) t n x c e go → σ.T (with_value σ.stop S.s S.bound e (evaluated S.s S.bound S.prev e w) go) (R (value h e (low h e) t n m c) (mk w x))
-    uses e ns go sim f = made_sim e ns (λ v. then_value σ.stop (span_of e) v go) go (record { of_value = λ d u. refl; of_stop = λ g u. refl }) (λ wa xa ha. σ.stops (Stray (span_of e)) wa (R c (mk wa xa)) (R_grows c (mk wa xa))) sim f
+    pub uses : (e : TExprT) → is_structure (type_of e) ≡ false → Room S γ.base m (value_sizes h e) → (go : Cell → World → σ.R) → Follow e → Uses γ σ (s0 + 28) t n x c e go → σ.T (with_value σ.stop S.s S.bound e (evaluated S.s S.bound S.prev e w) go) (R (value h e (low h e) t n m c) (mk w x))
+    uses e ns room go sim f = made_sim e ns (λ v. then_value σ.stop (span_of e) v go) go (record { of_value = λ d u. refl; of_stop = λ g u. refl }) (λ wa xa ha. σ.stops (Stray (span_of e)) wa (R c (mk wa xa)) (R_grows c (mk wa xa))) sim room f
 
     -- a value that is dropped; there may be none
-    pub drops : (e : TExprT) → is_structure (type_of e) ≡ false → (go : World → σ.R) → Follow e → ((wa : World) (xa : Side) → Now γ (s0 + 28) wa xa → σ.T (go wa) (R c (mk wa xa))) → σ.T (dropped σ.stop S.s S.bound e (evaluated S.s S.bound S.prev e w) go) (R (value h e (low h e) t n m c) (mk w x))
-    drops e ns go sim f =
-        made_sim e ns (λ v. dropped_value σ.stop e v go) (λ d u. go u) (record { of_value = λ d u. ap (λ b. go (record u { store = if b then end_temporary d u.store else u.store })) ns; of_stop = λ g u. refl }) f sim (λ v wa xa flag ha at keep. f wa xa ha)
+    pub drops : (e : TExprT) → is_structure (type_of e) ≡ false → Room S γ.base m (value_sizes h e) → (go : World → σ.R) → Follow e → ((wa : World) (xa : Side) → Now γ (s0 + 28) wa xa → σ.T (go wa) (R c (mk wa xa))) → σ.T (dropped σ.stop S.s S.bound e (evaluated S.s S.bound S.prev e w) go) (R (value h e (low h e) t n m c) (mk w x))
+    drops e ns room go sim f =
+        made_sim e ns (λ v. dropped_value σ.stop e v go) (λ d u. go u) (record { of_value = λ d u. ap (λ b. go (record u { store = if b then end_temporary d u.store else u.store })) ns; of_stop = λ g u. refl }) f sim room (λ v wa xa flag ha at keep. f wa xa ha)

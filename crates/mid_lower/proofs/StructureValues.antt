@@ -1,0 +1,206 @@
+-- A structure that is a value stands in a local that was not in use, and the local is no longer in use once the value was used.
+use Rattle.std.proofs.Common.{◌≡◌, nat_lt, ℕ, zero, suc, ◌+◌, ◌<◌, ◌≤◌, ◌^◌, Bool, true, false, eqb, List, [], ◌∷◌, ◌++◌, length, set, Option, Some, None, Ok, refl, sym, ap, ◌∙◌, subst, arith}
+use Rattle.std.proofs.lemmas.Bool.{false≢true, ltb-true}
+use Rattle.std.proofs.lemmas.Bool.Decides.{nat_tests}
+use Rattle.c_tree.specs.declared.span.Span.{Span}
+use Rattle.obj_mem.specs.Objects.{ObjectT, object, made, unwritten, end_object}
+use Rattle.obj_mem.specs.declared.cell.Cell.{Cell}
+use Rattle.obj_mem.specs.declared.cell.Cell.TheVariants.{Ptr}
+use Rattle.obj_mem.specs.declared.cell.ObjectKind.TheVariants as kind
+use Rattle.obj_mem.specs.Stores.{local_object, words_here, end_local, with_temporary, next_object}
+use Rattle.obj_mem.specs.Queries.{first_cell}
+use Rattle.obj_mem.specs.Worlds.{World, on_store}
+use Rattle.c_meaning.specs.Cells.{cells_set, end_temporary}
+use Rattle.c_meaning.specs.Outcomes.{then_went}
+use Rattle.mid_code.specs.Code.{FreshO, MoveO, LocalO, NodesT, Do}
+use Rattle.mid_code.specs.Meaning.{Res}
+use Rattle.mid_code.specs.States.{temporaries, sizes_of, to, spent}
+use Rattle.mid_lower.specs.Parts as part
+use Rattle.mid_lower.proofs.Grows.{Mid}
+use Rattle.mid_lower.proofs.Under.{Under, under_end, under_join, under_length}
+use Rattle.mid_lower.proofs.Lives.{Ended, Gone, Later, later_then, later_gone, later_end, later_join, end_ends}
+use Rattle.mid_lower.proofs.Fits.{Site}
+use Rattle.mid_lower.proofs.Following.{Side, mk, base_of, Goal, Fit, stays_here, Now, Way, Free, spare, kept_wider, low_free, eqb_more, M, sets}
+use Rattle.mid_lower.proofs.Locals.{set_length}
+use Rattle.mid_lower.proofs.CellLoops.{copies}
+
+-- ---- locals behind the function's own
+
+local_behind : (l e : List (Option ℕ)) (k i : ℕ) → k ≡ length l + i → local_object (l ++ e) k ≡ local_object e i
+local_behind [] e k i eq = ap (local_object e) (omega (arith, eq))
+local_behind (o ∷ l) e zero i eq = absurd (omega (arith, eq))
+local_behind (o ∷ l) e (suc k) i eq = local_behind l e k i (omega (arith, eq))
+
+set_behind : (l e : List (Option ℕ)) (k i : ℕ) (v : Option ℕ) → k ≡ length l + i → set (l ++ e) k v ≡ l ++ set e i v
+set_behind [] e k i v eq = ap (λ j. set e j v) (omega (arith, eq))
+set_behind (o ∷ l) e zero i v eq = absurd (omega (arith, eq))
+set_behind (o ∷ l) e (suc k) i v eq = ap (λ r. o ∷ r) (set_behind l e k i v (omega (arith, eq)))
+
+pub set_there : (e : List (Option ℕ)) (i : ℕ) (v : Option ℕ) → i < length e → local_object (set e i v) i ≡ v
+set_there [] i v lt = absurd (omega (arith, lt))
+set_there (o ∷ e) zero v lt = refl
+set_there (o ∷ e) (suc i) v lt = set_there e i v (omega (arith, lt))
+
+pub set_elsewhere : (e : List (Option ℕ)) (i j : ℕ) (v : Option ℕ) → (j ≡ i → ⊥) → local_object (set e i v) j ≡ local_object e j
+set_elsewhere [] i j v ne = refl
+set_elsewhere (o ∷ e) zero zero v ne = absurd (ne refl)
+set_elsewhere (o ∷ e) zero (suc j) v ne = refl
+set_elsewhere (o ∷ e) (suc i) zero v ne = refl
+set_elsewhere (o ∷ e) (suc i) (suc j) v ne = set_elsewhere e i j v (λ q. ne (ap suc q))
+
+-- mid code ends what has ended
+under_gone : (xs ys : List ObjectT) (o : ℕ) → Under xs ys → o < length xs → Ended xs o → Under xs (end_object ys o)
+under_gone [] ys o u lt e = absurd (omega (arith, lt))
+under_gone (x ∷ xs) [] o u lt e = absurd u
+under_gone (x ∷ xs) (y ∷ ys) zero u lt e = ((λ l. absurd (false≢true (sym e ∙ l)), (u.0).1), u.1)
+under_gone (x ∷ xs) (y ∷ ys) (suc o) u lt e = (u.0, under_gone xs ys o u.1 (omega (arith, lt)) e)
+
+under_gone_local : (l : Option ℕ) (xs ys : List ObjectT) → Under xs ys → Gone xs l → Under xs (end_local l ys)
+under_gone_local None xs ys u g = u
+under_gone_local (Some o) xs ys u g = under_gone xs ys o u g.0 g.1
+
+-- ---- a local that is taken, and left
+
+-- the same goal from here on
+abbrev pub anew : Goal → World → Side → Goal
+anew γ w x = record γ { base = base_of w x }
+
+abbrev pub with_value : ℕ → World → World
+with_value size w = on_store (with_temporary size) w
+
+-- the local behind so many is taken
+abbrev pub taken : (i size : ℕ) → World → Side → Side
+taken i size w x = record x {
+  objs = made (end_local (local_object x.extra i) x.objs) kind.Local (unwritten size);
+  work = x.work + 0;
+  extra = set x.extra i (Some (length w.store.objects));
+  floor = suc i;
+}
+
+pub end_long : (l : Option ℕ) (xs : List ObjectT) → length (end_local l xs) ≡ length xs
+end_long None xs = refl
+end_long (Some o) xs = go xs o
+  where
+    go : (xs : List ObjectT) (o : ℕ) → length (end_object xs o) ≡ length xs
+    go [] o = refl
+    go (x ∷ xs) zero = refl
+    go (x ∷ xs) (suc o) = ap suc (go xs o)
+
+pub join_one : (xs : List ObjectT) (y : ObjectT) → length (xs ++ y ∷ []) ≡ suc (length xs)
+join_one [] y = refl
+join_one (x ∷ xs) y = ap suc (join_one xs y)
+
+both_not : (k i : ℕ) → nat_lt k i ≡ false → nat_lt i k ≡ false → k ≡ i
+both_not k i a b = grind (arith, nat_tests)
+
+taken_fit : (i size : ℕ) (w : World) (x : Side) → Fit w x → x.floor ≤ i → Fit (with_value size w) (taken i size w x)
+taken_fit i size w x h le = record {
+  under = under_join w.store.objects (end_local (local_object x.extra i) x.objs) (object kind.Local (unwritten size)) refl (under_gone_local (local_object x.extra i) w.store.objects x.objs h.under (h.unused i le));
+  unused = λ j lt. subst (Gone (w.store.objects ++ object kind.Local (unwritten size) ∷ [])) (sym (set_elsewhere x.extra i j (Some (length w.store.objects)) (λ e. omega (arith, lt, e))))
+      (later_gone w.store.objects (w.store.objects ++ object kind.Local (unwritten size) ∷ []) (local_object x.extra j) (later_join w.store.objects (object kind.Local (unwritten size) ∷ [])) (h.unused j (omega (arith, lt, le))));
+}
+
+taken_now : (γ : Goal) (s i size : ℕ) (w : World) (x : Side) → Now γ s w x → x.floor ≤ i → Now (anew γ (with_value size w) (taken i size w x)) s (with_value size w) (taken i size w x)
+taken_now γ s i size w x h le = record {
+  stays = stays_here (with_value size w) (taken i size w x) (taken_fit i size w x h.stays.fit le);
+  below = h.below;
+  cost = omega (arith, h.cost);
+}
+
+-- the local of an object that a tree has made
+abbrev pub at_object : World → Option ℕ
+at_object w = Some (length w.store.objects)
+
+-- no longer in use
+abbrev pub back_to : ℕ → Side → Side
+back_to floor y = record y { floor = floor }
+
+pub leave : (γ : Goal) (s s' i size j : ℕ) (w : World) (x : Side) (v : World) (y : Side) → Now γ s w x → x.floor ≤ i → i < length x.extra → Now (anew γ (with_value size w) (taken i size w x)) s' v y → Now γ s' (on_store (end_temporary (Ptr (length w.store.objects) j)) v) (back_to x.floor y)
+leave γ s s' i size j w x v y h le lt p =
+    let o : ℕ = length w.store.objects in
+    let w1 : World = with_value size w in
+    let longer : o < length v.store.objects = let l = p.stays.later.longer in let m = join_one w.store.objects (object kind.Local (unwritten size)) in omega (arith, l, m) in
+    let before : Later w.store.objects v.store.objects = later_then w.store.objects w1.store.objects v.store.objects (later_join w.store.objects (object kind.Local (unwritten size) ∷ [])) p.stays.later in
+    let after : Later w.store.objects (end_object v.store.objects o) = later_then w.store.objects v.store.objects (end_object v.store.objects o) before (later_end v.store.objects o) in
+    let fl = h.stays.same_floor in
+    record {
+      stays = record {
+        fit = record {
+          under = under_end v.store.objects y.objs o p.stays.fit.under;
+          unused = λ k g. free k g (ends_at longer) (later_end v.store.objects o) after;
+        };
+        same_function = p.stays.same_function ∙ h.stays.same_function;
+        same_own = p.stays.same_own ∙ h.stays.same_own;
+        later = later_then γ.base.objects w.store.objects (end_object v.store.objects o) h.stays.later after;
+        same_floor = fl;
+        long = p.stays.long ∙ set_length x.extra i (Some o) ∙ h.stays.long;
+        keep = λ k g. p.stays.keep k (omega (arith, g, fl, le)) ∙ set_elsewhere x.extra i k (Some o) (λ e. omega (arith, g, fl, le, e)) ∙ h.stays.keep k g;
+      };
+      below = p.below;
+      cost = p.cost;
+    }
+  where
+    ends_at : length w.store.objects < length v.store.objects → Gone (end_object v.store.objects (length w.store.objects)) (Some (length w.store.objects))
+    ends_at l = (let e = end_long (Some (length w.store.objects)) v.store.objects in omega (arith, l, e), end_ends v.store.objects (length w.store.objects))
+
+    free : (k : ℕ) → x.floor ≤ k → Gone (end_object v.store.objects (length w.store.objects)) (Some (length w.store.objects)) → Later v.store.objects (end_object v.store.objects (length w.store.objects)) → Later w.store.objects (end_object v.store.objects (length w.store.objects)) → Gone (end_object v.store.objects (length w.store.objects)) (local_object y.extra k)
+    free k g at l la = by (nat_lt k i) (nat_lt i k) refl refl
+      where
+        by : (a b : Bool) → nat_lt k i ≡ a → nat_lt i k ≡ b → Gone (end_object v.store.objects (length w.store.objects)) (local_object y.extra k)
+        by true b ea eb =
+            let lk : k < i = ltb-true k i ea in
+            subst (Gone (end_object v.store.objects (length w.store.objects))) (sym (p.stays.keep k (omega (arith, lk)) ∙ set_elsewhere x.extra i k (Some (length w.store.objects)) (λ e. omega (arith, lk, e))))
+            (later_gone w.store.objects (end_object v.store.objects (length w.store.objects)) (local_object x.extra k) la (h.stays.fit.unused k g))
+        by false true ea eb =
+            let lk : i < k = ltb-true i k eb in
+            let fl = p.stays.same_floor in
+            later_gone v.store.objects (end_object v.store.objects (length w.store.objects)) (local_object y.extra k) l (p.stays.fit.unused k (omega (arith, lk, fl)))
+        by false false ea eb =
+            let same : k ≡ i = both_not k i ea eb in
+            subst (λ q. Gone (end_object v.store.objects (length w.store.objects)) (local_object y.extra q)) (sym same)
+            (subst (Gone (end_object v.store.objects (length w.store.objects))) (sym (p.stays.keep i (omega arith) ∙ set_there x.extra i (Some (length w.store.objects)) lt)) at)
+
+-- ---- a structure that is read
+
+module _ (S : Site) where
+  abbrev R : NodesT ℕ → Mid → Res Mid
+  R = M S
+
+  abbrev taking : Option ℕ → ℕ → List (Option ℕ) → World → Side → Mid
+  taking lo size ls w x = record { world = record { store = record w.store { objects = made (end_local lo x.objs) kind.Local (unwritten size); locals = ls }; events = w.events; work = x.work + 0 }; cells = x.temps; given = x.given }
+
+  taken_is : (i size k : ℕ) (c : NodesT ℕ) (w : World) (x : Side) → Fit w x → k ≡ length w.store.locals + i → words_here (sizes_of S.code S.frames) w.store.function k ≡ size → x.floor ≤ i → R (Do (FreshO k) c) (mk w x) ≡ R c (mk (with_value size w) (taken i size w x))
+  taken_is i size k c w x h at e le =
+      ap (λ lo. R c (taking lo (words_here (sizes_of S.code S.frames) w.store.function k) (set (w.store.locals ++ x.extra) k (Some (length x.objs))) w x)) (local_behind w.store.locals x.extra k i at)
+      ∙ ap (λ z. R c (taking (local_object x.extra i) z (set (w.store.locals ++ x.extra) k (Some (length x.objs))) w x)) e
+      ∙ ap (λ l. R c (taking (local_object x.extra i) size (set (w.store.locals ++ x.extra) k (Some l)) w x)) (under_length w.store.objects x.objs h.under)
+      ∙ ap (λ ls. R c (taking (local_object x.extra i) size ls w x)) (set_behind w.store.locals x.extra k i (Some (length w.store.objects)) at)
+
+  -- the structure at the place in t is copied to a local; what follows has a pointer to that in t
+  module _ (γ : Goal) (σ : Way γ) (s t k i size : ℕ) (span : Span) (w : World) (x : Side) (c : NodesT ℕ) (h : Now γ (s + 52) w x) (free : Free γ t) (six : 5 ≤ t) (at : k ≡ length w.store.locals + i) (words : words_here (sizes_of S.code S.frames) w.store.function k ≡ size) (few : size ≤ 2 ^ 32) (le : x.floor ≤ i) (lt : i < length x.extra) where
+    abbrev γ1 : Goal
+    γ1 = anew γ (with_value size w) (taken i size w x)
+
+    abbrev σ1 : Way γ1
+    σ1 = record { R = σ.R; stop = σ.stop; T = σ.T; stops = λ f v m q. σ.stops f v m (kept_wider γ γ1 (omega arith) f v m q) }
+
+    abbrev value_at : Cell
+    value_at = Ptr (length w.store.objects) 0
+
+    here : (v : World) (y : Side) (q : ℕ) → Now γ1 q v y → first_cell (local_object (v.store.locals ++ y.extra) k) ≡ Ok value_at
+    here v y q n = ap first_cell (local_behind v.store.locals y.extra k i (at ∙ ap (λ l. l + i) (sym n.stays.same_own)) ∙ n.stays.keep i (omega arith) ∙ set_there x.extra i (Some (length w.store.objects)) lt)
+
+    pub structure_copied : (p : Cell) → x.temps t ≡ p → (go : World → σ.R) → ((v : World) (y : Side) → Now γ1 (s + 28) v y → y.temps t ≡ value_at → ((j : ℕ) → 5 ≤ j → eqb j t ≡ false → y.temps j ≡ x.temps j) → σ.T (go v) (R c (mk v y)))
+        → σ.T (then_went σ.stop (cells_set span 1 S.bound size (Some p) (next_object w.store) (with_value size w)) go) (R (part.structure_read size k t c) (mk w x))
+    structure_copied p ep go f =
+        let w1 : World = with_value size w in
+        let x1 : Side = taken i size w x in
+        let c3 : NodesT ℕ = Do (LocalO t k) c in
+        let c2 : NodesT ℕ = part.copied size c3 in
+        let r : σ.R = then_went σ.stop (cells_set span 1 S.bound size (Some p) value_at w1) go in
+        subst (σ.T r) (sym (taken_is i size k (Do (MoveO part.from t) (Do (LocalO part.to k) c2)) w x h.stays.fit at words le))
+        (sets S σ.T γ1 (s + 44) w1 x1 part.from (x.temps t) (MoveO part.from t) (Do (LocalO part.to k) c2) (spare γ1 (s + 52) (s + 44 + 8) w1 x1 (omega arith) (taken_now γ (s + 52) i size w x h le)) (low_free γ1 part.from (omega arith)) refl r (λ y hy ey rest.
+        sets S σ.T γ1 (s + 36) w1 y part.to value_at (LocalO part.to k) c2 (spare γ1 (s + 44) (s + 36 + 8) w1 y (omega arith) hy) (low_free γ1 part.to (omega arith)) (ap (λ q. to temporaries part.to q (spent 8 (mk w1 y))) (here w1 y (s + 44) hy)) r (λ z hz ez rest2.
+        copies S γ1 span 1 (omega arith) σ1 (s + 20) size few p value_at w1 z c3 (spare γ1 (s + 36) (s + 20 + 16) w1 z (omega arith) hz) (rest2 part.from refl ∙ ey ∙ ep) ez go (λ v u hu others.
+        sets S σ.T γ1 (s + 28) v u t value_at (LocalO t k) c (spare γ1 (s + 20 + 16) (s + 28 + 8) v u (omega arith) hu) free (ap (λ q. to temporaries t q (spent 8 (mk v u))) (here v u (s + 20 + 16) hu)) (go v) (λ b hb eb rest3.
+        f v b hb eb (λ j five ne. rest3 j ne ∙ others j five ∙ rest2 j (eqb_more j part.to (omega (arith, five))) ∙ rest j (eqb_more j part.from (omega (arith, five)))))))))

@@ -61,3 +61,6 @@ pub mod StartKept
 pub mod IsMidCode
 pub mod Finished
 pub mod LocalWords
+pub mod Weights
+pub mod WeighedExpressions
+pub mod WeighedStatements

@@ -1,0 +1,12 @@
+pub mod Wrapped
+pub mod Onto
+pub mod PartsListed
+pub mod ExpressionsListed
+pub mod InitialisersListed
+pub mod StatementsListed
+pub mod FunctionsListed
+pub mod Kept
+pub mod KeptExpressions
+pub mod KeptStatements
+pub mod Joins
+pub mod Counted

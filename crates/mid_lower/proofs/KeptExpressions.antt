@@ -192,7 +192,7 @@ spots_length : (xs : TExprTs) (n : ℕ) → length (spots xs n) ≡ length (list
 spots_length NoX n = refl
 spots_length (MoreX x xs) n = ap suc (spots_length xs (second x n))
 
-args_length : (a : ℕ) (tys : List Ty) → length (args_from a tys) ≡ length tys
+pub args_length : (a : ℕ) (tys : List Ty) → length (args_from a tys) ≡ length tys
 args_length a [] = refl
 args_length a (ty ∷ tys) = ap suc (args_length (a + 1) tys)
 

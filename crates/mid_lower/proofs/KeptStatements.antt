@@ -139,7 +139,7 @@ jump_kept : {s : Site} {ls : List Bool} (j : Jump) → JumpsTo ls j → Keeps s 
 jump_kept (ToEnd k) is = leave_kept k is
 jump_kept (ToTurn k) is = again_kept k is
 
-objects_there : (s : Site) (z : Scene) (h : Shape) → Linked s z h → (least : ℕ) (ks : List ℕ) → AreObjects z least ks → AllOf (λ k. k < s.locals) ks
+pub objects_there : (s : Site) (z : Scene) (h : Shape) → Linked s z h → (least : ℕ) (ks : List ℕ) → AreObjects z least ks → AllOf (λ k. k < s.locals) ks
 objects_there s z h link least [] is = tt
 objects_there s z h link least (k ∷ ks) is = (omega (arith, is.1, link.locals), objects_there s z h link (k + 1) ks is.2)
 

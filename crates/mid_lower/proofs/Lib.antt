@@ -1,3 +1,19 @@
+mod Grows
+mod Under
+mod Words
+mod Flagged
+mod Trees
+mod Fits
+mod Following
+mod Instructions
+mod Storing
+mod Values
+mod Choices
+mod Calling
+mod OperatorForms
+mod PlaceForms
+mod EveryExpression
+mod CellLoops
 pub mod Wrapped
 pub mod Onto
 pub mod PartsListed

@@ -11,13 +11,15 @@ use Rattle.c_check.specs.Reading.{Un, function_under, state_in, with_texts, with
 use Rattle.c_check.specs.ItemTypes as item
 use Rattle.c_check.specs.ItemTypes.{TypeAt, BodyAt, Parameter, Parameters}
 use Rattle.c_facts.specs.Made.{all_made_in, IsMadeOnce}
-use Rattle.c_facts.specs.Sound.{Scene, IsKnown, IsLocal, AreStatements, AreCallObjects, in_call, IsFunction}
+use Rattle.c_facts.specs.Sound.{Scene, IsKnown, IsLocal, AreStatements, AreCallObjects, AllHaveWords, in_call, IsFunction}
 use Rattle.c_facts.proofs.Within.{Begins, AllKnown}
 use Rattle.c_facts.proofs.Told.{body_is, spends_are}
+use Rattle.c_facts.proofs.ObjectWords.{plain_words, all_push, body_words_are}
+use Rattle.c_facts.proofs.Positive.{HaveWords}
 use Rattle.c_facts.proofs.Fronts.{begins_itself, begins_through, begins_at, last_at}
 use Rattle.c_facts.proofs.Stays.{parameter_stays, result_stays, parameter_facts}
 use Rattle.c_facts.proofs.ItemRules.{parameter_rule_holds, IsRuled}
-use Rattle.c_facts.proofs.Readings.{Later, later_through, Keeps, keeps_through, kept_later, by_named, named_keeps, begun_keeps, with_parameter_keeps, parameters_keep, body_keeps, type_keeps}
+use Rattle.c_facts.proofs.Readings.{Later, later_through, Keeps, keeps_through, kept_later, by_named, named_keeps, begun_keeps, with_parameter_keeps, parameter_keeps, parameters_keep, body_keeps, type_keeps}
 use Rattle.c_facts.proofs.Sane.{Sane, kept_sane}
 use Rattle.c_facts.proofs.Counts.{numbers_then}
 use Rattle.c_facts.proofs.Meant.{Ends, Meant, literals_begin, named_meant, type_known, members_whole_then}
@@ -124,6 +126,25 @@ call_objects layouts whole [] (m ∷ ms) ns h room = absurd h
 call_objects layouts whole (p ∷ ps) [] ns h room = absurd h
 call_objects layouts whole (p ∷ ps) (m ∷ ms) ns h room = (h.0, h.1, call_objects layouts whole ps ms ns h.2 room)
 
+-- each parameter has a word at least
+parameter_words : {un : Un} {v : VarT} {t : Ty} {up : Un} → Parameter un v t up → HaveWords un.layouts un.whole → length un.whole ≡ length un.layouts → AllHaveWords un.sizes → AllHaveWords up.sizes
+parameter_words (item.parameter {un = un} {up = up} {v = v} {t = t} {n = n} g0 g1) h e all =
+    let keeps = type_keeps g0 in
+    let types = type_sizes g0 in
+    let sizes = with_parameter_sizes v.name t n up in
+    let words = subst₂ HaveWords (sym keeps.layouts) (sym keeps.whole) h in
+    let equal = ap length keeps.whole ∙ e ∙ ap length (sym keeps.layouts) in
+    let one = plain_words up.layouts up.whole words equal t n (parameter_rule_holds v.span up v.name t n g1) in
+    subst AllHaveWords (sym sizes.0) (all_push up.sizes n (subst AllHaveWords (sym types.0) all) one)
+
+parameters_words : {un : Un} {vs : List VarT} {ps : List Ty} {up : Un} → Parameters un vs ps up → HaveWords un.layouts un.whole → length un.whole ≡ length un.layouts → AllHaveWords un.sizes → AllHaveWords up.sizes
+parameters_words (item.no_parameters) h e all = all
+parameters_words (item.more_parameters {un = un} {up = up} g0 rest) h e all =
+    let keeps = parameter_keeps g0 in
+    let words = subst₂ HaveWords (sym keeps.layouts) (sym keeps.whole) h in
+    let equal = ap length keeps.whole ∙ e ∙ ap length (sym keeps.layouts) in
+    parameters_words rest words equal (parameter_words g0 h e all)
+
 -- ---- the head of a function
 
 pub record Heads (s : Scene) (name : Text) (t : Ty) (ps : List Ty) (uq : Un) : Type 0 where
@@ -167,6 +188,11 @@ body_known : {s : Scene} {fin un : Un} {t : Ty} {body : StmtTs} {x : TStmtTs} {u
 body_known {s = s} {fin = fin} {t = t} {body = body} {x = x} e h (item.body_at {un = un} {us = us} g0) later b m =
     body_is s (function_under un t) (state_in un) us body x m.grows m.names (numbers_then s un fin e.numbers e.functions (later_through (kept_later (body_keeps (item.body_at g0))) later)) e.members (members_whole_then h) m.scopes g0 b (literals_begin e later)
 
+-- so has each object of a body
+body_words : {s : Scene} {fin un : Un} {t : Ty} {body : StmtTs} {x : TStmtTs} {ur : Un} → Ends s fin → Sane un → HaveWords un.layouts un.whole → AllHaveWords un.sizes → BodyAt un t body x ur → Later ur fin → Begins ur.sizes s.locals → Meant s un → AllHaveWords ur.sizes
+body_words {s = s} {fin = fin} {t = t} {body = body} {x = x} e h words all (item.body_at {un = un} {us = us} g0) later b m =
+    body_words_are s (function_under un t) (state_in un) us body x m.grows m.names (numbers_then s un fin e.numbers e.functions (later_through (kept_later (body_keeps (item.body_at g0))) later)) e.members (members_whole_then h) words h.declared.equal m.scopes g0 b (literals_begin e later) all
+
 pub ends_call : {s : Scene} {fin : Un} (sizes : List ℕ) → Ends s fin → Ends (in_call s sizes) fin
 ends_call sizes e = record { numbers = e.numbers; functions = e.functions; globals = e.globals; literals = e.literals; members = e.members }
 
@@ -200,9 +226,9 @@ function_rises name up {uq = uq} {ps = ps} {t = t} {x = x} {ur = ur} g1 g2 =
     call_rises (state_in (begun up)) (state_in ur) (all_made_in x) refl (function_makes name up g1 g2)
 
 -- The function that an item with a body makes.
-pub function_sound : (name : Text) {s : Scene} {fin un : Un} {p : Span} {of : TypeT} {t : Ty} {vs : List VarT} {ps : List Ty} {up uq : Un} {body : StmtTs} {x : TStmtTs} {ur : Un} → Ends s fin → ((sizes : List ℕ) → Meant (in_call s sizes) un) → Sane un
+pub function_sound : (name : Text) {s : Scene} {fin un : Un} {p : Span} {of : TypeT} {t : Ty} {vs : List VarT} {ps : List Ty} {up uq : Un} {body : StmtTs} {x : TStmtTs} {ur : Un} → Ends s fin → ((sizes : List ℕ) → Meant (in_call s sizes) un) → Sane un → HaveWords un.layouts un.whole
     → TypeAt un p of t up → Parameters (begun up) vs ps uq → BodyAt (named name (FunctionD ps t) uq) t body x ur → IsRuled ur name ps t (Some body) → Later ur fin → IsFunction s (record { name = name; params = ps; locals = ur.sizes; made = made (state_in ur); gives = t; body = x })
-function_sound name {s = s} {un = un} {t = t} {ps = ps} {up = up} {uq = uq} {ur = ur} e meant h g0 g1 g2 r later =
+function_sound name {s = s} {un = un} {t = t} {ps = ps} {up = up} {uq = uq} {ur = ur} e meant h words g0 g1 g2 r later =
     let adds = body_adds g2 in
     let same = named_sizes name ps t uq in
     let sizes : ur.sizes ≡ uq.sizes ++ adds.taken = adds.sizes ∙ ap (λ ns. ns ++ adds.taken) same.0 in
@@ -212,11 +238,16 @@ function_sound name {s = s} {un = un} {t = t} {ps = ps} {up = up} {uq = uq} {ur 
     let call = ends_call ur.sizes e in
     let call_scene = in_call s ur.sizes in
     let head = head_known name call g0 g1 (later_through (kept_later (keeps_through from_names from_body)) later) (adds.taken, sizes) (meant ur.sizes) in
+    let begun_words = subst₂ HaveWords (sym (type_keeps g0).layouts) (sym (type_keeps g0).whole) words in
+    let begun_equal = ap length (type_keeps g0).whole ∙ h.declared.equal ∙ ap length (sym (type_keeps g0).layouts) in
+    let parameters = parameters_words g1 begun_words begun_equal tt in
+    let body_scene : Keeps un (named name (FunctionD ps t) uq) = keeps_through before from_names in
     record {
       word = r.word;
       known = head.gives;
       result = result_stays head.meant.grows t (subst₂ (λ ls ws. judged (result_rule ls ws t) ≡ Ok tt) from_body.layouts from_body.whole r.result);
       objects = subst (λ ns. AreCallObjects s.layouts s.whole ps ns) (sym sizes) (call_objects s.layouts s.whole ps uq.sizes adds.taken head.rules (adds.room (same.1 ∙ head.used)));
+      words = body_words call (kept_sane body_scene h) (subst₂ HaveWords (sym body_scene.layouts) (sym body_scene.whole) words) (subst AllHaveWords (sym same.0) parameters) g2 later (begins_itself ur.sizes) head.meant;
       made = function_made name up g1 g2;
       rising = objects_rise call_scene 0 (made (state_in ur)) (length ur.sizes) (function_rises name up g1 g2) (omega arith);
       body = body_known call (kept_sane (keeps_through before from_names) h) g2 later (begins_itself ur.sizes) head.meant;

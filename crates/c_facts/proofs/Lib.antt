@@ -22,6 +22,7 @@ pub mod Short
 pub mod Laid
 pub mod Positive
 pub mod Told
+pub mod ObjectWords
 pub mod Readings
 pub mod Equal
 pub mod ItemRules

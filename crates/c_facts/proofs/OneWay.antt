@@ -14,7 +14,7 @@ use Rattle.c_exprs.specs.Nodes.{type_of_typed}
 use Rattle.c_stmts.specs.Slots.{Slots, NoSlots, Elements, Members, slots_of, next_slot, later_slots}
 use Rattle.c_stmts.specs.State.{Labels, no_labels, with_label}
 use Rattle.c_check.specs.Reading.{has_members}
-use Rattle.c_facts.specs.Sound.{Scene, IsKnown, IsSized, IsValue, IsUsed, Calls, IsTyped, IsKind, AreValues, IsTypedValue, HasPlaces, FillsAs, FillEach, IsObject, IsFilled, AreFilled, AreObjects, IsTest, MayTest, MayValue, Returns, IsLabel, IsStatement, MayState, AreStatements, AreArms, IsArm, AreSized, IsLaidOut, IsDeclaredAs, AreDeclaredAs, AreCallObjects, in_call, IsFunction, AreFunctions, FillsGlobals, FillGlobals, wholes, scene, IsSound}
+use Rattle.c_facts.specs.Sound.{Scene, IsKnown, IsSized, IsValue, IsUsed, Calls, IsTyped, IsKind, AreValues, IsTypedValue, HasPlaces, FillsAs, FillEach, IsObject, IsFilled, AreFilled, AreObjects, IsTest, MayTest, MayValue, Returns, IsLabel, IsStatement, MayState, AreStatements, AreArms, IsArm, AreSized, IsLaidOut, IsDeclaredAs, AreDeclaredAs, AreCallObjects, AllHaveWords, in_call, IsFunction, AreFunctions, FillsGlobals, FillGlobals, wholes, scene, IsSound}
 use Rattle.c_facts.proofs.Equal.{types_equal}
 use Rattle.c_facts.proofs.Lookups.{same_itself}
 
@@ -217,8 +217,12 @@ call_objects_one layouts whole [] ns = hlevel props
 call_objects_one layouts whole (ty ∷ tys) [] = hlevel props
 call_objects_one layouts whole (ty ∷ tys) (n ∷ ns) = hlevel (props, code_set, known_one layouts whole ty, call_objects_one layouts whole tys ns)
 
+words_one : (ns : List ℕ) → IsProp (AllHaveWords ns)
+words_one [] = hlevel props
+words_one (n ∷ ns) = hlevel (props, words_one ns)
+
 function_one : (s : Scene) (f : TFunctionT) → IsProp (IsFunction s f)
-function_one s f = hlevel (props, code_set, known_one s.layouts s.whole f.gives, call_objects_one s.layouts s.whole f.params f.locals, objects_one (in_call s f.locals) 0 f.made, statements_one (in_call s f.locals) f.body f.gives false false)
+function_one s f = hlevel (props, code_set, known_one s.layouts s.whole f.gives, call_objects_one s.layouts s.whole f.params f.locals, words_one f.locals, objects_one (in_call s f.locals) 0 f.made, statements_one (in_call s f.locals) f.body f.gives false false)
 
 functions_one : (s : Scene) (fs : List TFunctionT) → IsProp (AreFunctions s fs)
 functions_one s [] = hlevel props

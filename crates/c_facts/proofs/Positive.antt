@@ -15,10 +15,10 @@ use Rattle.c_facts.proofs.Fronts.{within_at}
 abbrev pub HaveWords : List LayoutT → List Bool → Type 0
 HaveWords layouts whole = (k : ℕ) (l : LayoutT) → is_declared whole k ≡ true → slice_get layouts k ≡ Some l → 0 < l.size
 
-abbrev size_there : Option LayoutT → ℕ
+abbrev pub size_there : Option LayoutT → ℕ
 size_there o = option_map_or (λ l. l.size) o 0
 
-layout_has_words : (layouts : List LayoutT) (whole : List Bool) → HaveWords layouts whole → (k : ℕ) → k < length layouts → is_declared whole k ≡ true → 0 < size_there (slice_get layouts k)
+pub layout_has_words : (layouts : List LayoutT) (whole : List Bool) → HaveWords layouts whole → (k : ℕ) → k < length layouts → is_declared whole k ≡ true → 0 < size_there (slice_get layouts k)
 layout_has_words layouts whole h k l d = let there : (x : LayoutT) × (slice_get layouts k ≡ Some x) = within_at layouts k l in rw (there.1) (h k there.0 d there.1)
 
 product : (m n : ℕ) → 0 < m → 0 < n → 0 < m * n

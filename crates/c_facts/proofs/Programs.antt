@@ -233,7 +233,7 @@ function_proved name h q g0 g1 e (item.no_body) inside r later = ended_proved in
 function_proved name {ps = ps} h q g0 g1 e (item.has_body {up = up} {gives = t} {body = body} {x = x} g2) inside r later =
     with_body_proved name ps t x inside (λ s ends g.
     let g3 = subst (λ u. BodyAt u t body x up) e g2 in
-    function_sound name ends (λ sizes. q.meant (in_call s sizes) (ends_call sizes ends) (grows_back (kept_stay (function_keeps name g0 g1 (item.has_body g3))) s.layouts s.whole g)) h g0 g1 g3 r later)
+    function_sound name ends (λ sizes. q.meant (in_call s sizes) (ends_call sizes ends) (grows_back (kept_stay (function_keeps name g0 g1 (item.has_body g3))) s.layouts s.whole g)) h q.words g0 g1 g3 r later)
 
 -- ---- items
 

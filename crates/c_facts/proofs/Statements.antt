@@ -43,13 +43,13 @@ pub record Reaches (st : St) (s : Scene) : Type 0 where
   pub sizes : Begins st.sizes s.locals
   pub texts : Begins st.texts s.literals
 
-reaches_before : (s : Scene) (sp sq : St) → Spends sp sq → Reaches sq s → Reaches sp s
+pub reaches_before : (s : Scene) (sp sq : St) → Spends sp sq → Reaches sq s → Reaches sp s
 reaches_before s sp sq h r = record { sizes = begins_through sp.sizes sq.sizes s.locals (h.taken, h.sizes) r.sizes; texts = begins_through sp.texts sq.texts s.literals h.texts r.texts }
 
-reaches_kept : (s : Scene) (sp sq : St) → Keeps sp sq → Reaches sq s → Reaches sp s
+pub reaches_kept : (s : Scene) (sp sq : St) → Keeps sp sq → Reaches sq s → Reaches sp s
 reaches_kept s sp sq h r = reaches_before s sp sq (spends_kept sp sq h) r
 
-reaches_in : (s : Scene) (st : St) → Reaches (left st) s → Reaches st s
+pub reaches_in : (s : Scene) (st : St) → Reaches (left st) s → Reaches st s
 reaches_in s st r = record { sizes = r.sizes; texts = r.texts }
 
 -- ---- expressions, types, initialisers

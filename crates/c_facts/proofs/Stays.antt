@@ -40,7 +40,7 @@ known_stays g (ArrayY of count) h = (known_stays g of h.0, whole_later g of h.1,
 
 -- ---- rules
 
-two_demands : {A : Type 0} (b t u : Bool) (x n : A) (c d : Code) → judged_by (given b x) (demand c t ∷ demand d u ∷ []) ≡ Ok n → (b ≡ true) × (t ≡ true) × (u ≡ true) × (x ≡ n)
+pub two_demands : {A : Type 0} (b t u : Bool) (x n : A) (c d : Code) → judged_by (given b x) (demand c t ∷ demand d u ∷ []) ≡ Ok n → (b ≡ true) × (t ≡ true) × (u ≡ true) × (x ≡ n)
 two_demands true true true x n c d e = (refl, refl, refl, cc)
 two_demands true true false x n c d e = absurd cc
 two_demands true false u x n c d e = absurd cc

@@ -262,11 +262,17 @@ AreCallObjects layouts whole (ty ∷ tys) (n ∷ ns) = IsKnown layouts whole ty 
 abbrev pub in_call : Scene → List ℕ → Scene
 in_call s sizes = record { layouts = s.layouts; whole = s.whole; globals = s.globals; literals = s.literals; functions = s.functions; locals = sizes }
 
+-- each has a word at least
+abbrev pub AllHaveWords : List ℕ → Type 0
+AllHaveWords [] = Unit {0}
+AllHaveWords (n ∷ ns) = (1 ≤ n) × AllHaveWords ns
+
 pub record IsFunction (s : Scene) (f : TFunctionT) : Type 0 where
   pub word : is_word f.name ≡ true
   pub known : IsKnown s.layouts s.whole f.gives
   pub result : judged (result_rule s.layouts s.whole f.gives) ≡ Ok tt
   pub objects : AreCallObjects s.layouts s.whole f.params f.locals
+  pub words : AllHaveWords f.locals
   pub made : IsMadeOnce f
   pub rising : AreObjects (in_call s f.locals) 0 f.made
   pub body : AreStatements (in_call s f.locals) f.body f.gives false false

@@ -26,3 +26,7 @@ pub mod KeptExpressions
 pub mod KeptStatements
 pub mod Joins
 pub mod Counted
+pub mod InRange
+pub mod StartKept
+pub mod IsMidCode
+pub mod ProgramsListed

@@ -1,4 +1,4 @@
-use Rattle.std.proofs.Common.{rules, arith, ◌≡◌, ℕ, ◌+◌, false, Bool, List, [], ◌∷◌, ◌++◌, length, Option, Some, None, map}
+use Rattle.std.proofs.Common.{rules, arith, ◌≡◌, ℕ, ◌+◌, false, Bool, List, [], ◌∷◌, ◌++◌, length, Option, Some, None, map, sym, ap, ◌∙◌}
 use Rattle.std.specs.Prelude.{OnOk}
 use Rattle.c_types.specs.View.{ctype, texpr, texprs}
 use Rattle.c_types.specs.Typed.{TExprT, TKindT, BinaryK, AssignK, StepK, IndexK, MemberK, ArrowK, CastK, CallK, OutK}
@@ -15,6 +15,7 @@ use Rattle.mid_lower.specs.ListedParts.{moved_by, as_flag, converted, stored, st
 use Rattle.mid_lower.specs.ListedExpressions.{low, low_value, low_args, lazy_of, lazy_choice, gives_old, counts_up, step_by, member_of, led, called_with}
 use Rattle.mid_lower.specs.View.{shape_of, tkind}
 use Rattle.mid_lower.proofs.Forms.{on_ok, cast_nodes, out_nodes, arrow_nodes, member_nodes, step_nodes, index_nodes, binary_nodes, lazy_nodes, assign_nodes, compound_nodes, call_nodes, binary_sizes}
+use Rattle.mid_lower.proofs.Viewed.{type_is}
 use Rattle.mid_lower.proofs.expressions.+lower.Goals as goal
 
 pub kind-returns-in_ok-operate-in-None-clause-nodes : goal.kind-returns-in_ok-operate-in-None-clause-nodes
@@ -37,7 +38,10 @@ kind-returns-in_ok-operate-in-None-clause-nodes t c =
     let ev : v ≡ beyond h x m = search rules in
     let a : p ≡ l ++ low_value h x n (n + 1) m = search rules in
     let b : q ≡ p ++ low_value h y u (u + 1) v = search rules in
-    let d : r ≡ q ++ operated h c.in-Binary.op (type_of x) (type_of y) c.args.t n u = search rules in
+    let tx : ctype c.in-Binary.x.value.ty ≡ type_of x = sym (type_is c.in-Binary.x.value) in
+    let ty : ctype c.in-Binary.y.value.ty ≡ type_of y = sym (type_is c.in-Binary.y.value) in
+    let d0 : r ≡ q ++ operated h c.in-Binary.op (ctype c.in-Binary.x.value.ty) (ctype c.in-Binary.y.value.ty) c.args.t n u = search rules in
+    let d : r ≡ q ++ operated h c.in-Binary.op (type_of x) (type_of y) c.args.t n u = d0 ∙ (λ i. q ++ operated h c.in-Binary.op (tx i) (ty i) c.args.t n u) in
     binary_nodes h k c.in-Binary.op x y (ctype c.args.ty.now) c.args.t n m u v l p q r e none eu ev a b d
 
 pub kind-returns-in_ok-operate-in-None-clause-sizes : goal.kind-returns-in_ok-operate-in-None-clause-sizes
@@ -74,9 +78,11 @@ kind-returns-in_ok-choose_lazy-in-Some-clause-nodes t c =
     let e : k ≡ BinaryK c.in-Binary.op x y = search (rules, the_lemmas) in
     let some : lazy_of c.in-Binary.op ≡ Some c.in-Some.and = search rules in
     let a : p ≡ l ++ low_value h x c.args.t n m = search rules in
-    let b : q ≡ p ++ tested_as (decayed (type_of x)) c.args.t = search rules in
+    let b0 : q ≡ p ++ tested_as (decayed (ctype c.in-Binary.x.value.ty)) c.args.t = search rules in
+    let b : q ≡ p ++ tested_as (decayed (type_of x)) c.args.t = b0 ∙ ap (λ z. p ++ tested_as (decayed z) c.args.t) (sym (type_is c.in-Binary.x.value)) in
     let f : i ≡ low_value h y c.args.t u v = search rules in
-    let g : j ≡ i ++ tested_as (decayed (type_of y)) c.args.t = search rules in
+    let g0 : j ≡ i ++ tested_as (decayed (ctype c.in-Binary.y.value.ty)) c.args.t = search rules in
+    let g : j ≡ i ++ tested_as (decayed (type_of y)) c.args.t = g0 ∙ ap (λ z. i ++ tested_as (decayed z) c.args.t) (sym (type_is c.in-Binary.y.value)) in
     let d : w ≡ j ++ as_flag (tests_flag y) c.args.t = search rules in
     let z : r ≡ q ++ (lazy_choice c.in-Some.and c.args.t w ∷ []) = search rules in
     let eu : u ≡ second x n = search rules in
@@ -102,7 +108,10 @@ kind-returns-in_ok-assign-in-Assign-None-default-default-clause-nodes t c =
     let ev : v ≡ m + length (sizes h x) = search rules in
     let a : p ≡ l ++ low h x n (n + 1) m = search rules in
     let b : q ≡ p ++ low_value h y c.args.t (u + 2) v = search rules in
-    let d : r ≡ q ++ converted (type_of x) (is_flag y) c.args.t ++ stored h (type_of x) n c.args.t = search rules in
+    let of = ctype c.in-Assign-None-default-default.x.value.ty in
+    let d0 : r ≡ q ++ converted of (is_flag y) c.args.t ++ stored h of n c.args.t = search rules in
+    let d : r ≡ q ++ converted (type_of x) (is_flag y) c.args.t ++ stored h (type_of x) n c.args.t =
+        d0 ∙ ap (λ z. q ++ converted z (is_flag y) c.args.t ++ stored h z n c.args.t) (sym (type_is c.in-Assign-None-default-default.x.value)) in
     assign_nodes h k x y (ctype c.args.ty.now) c.args.t n m u v l p q r e eu ev a b d
 
 pub kind-returns-in_ok-compound-in-Assign-Some-default-default-clause-nodes : goal.kind-returns-in_ok-compound-in-Assign-Some-default-default-clause-nodes
@@ -125,7 +134,13 @@ kind-returns-in_ok-compound-in-Assign-Some-default-default-clause-nodes t c =
     let ev : v ≡ m + length (sizes h x) = search rules in
     let a : p ≡ l ++ low h x n (n + 1) m = search rules in
     let b : q ≡ p ++ low_value h y u (u + 2) v = search rules in
-    let d : r ≡ q ++ (DoN (o.Load (u + 1) n) ∷ []) ++ operated h op (type_of x) (type_of y) c.args.t (u + 1) u ++ converted (type_of x) false c.args.t ++ (DoN (o.Store n c.args.t) ∷ []) = search rules in
+    let tx : ctype c.in-Assign-Some-default-default.x.value.ty ≡ type_of x = sym (type_is c.in-Assign-Some-default-default.x.value) in
+    let ty : ctype c.in-Assign-Some-default-default.y.value.ty ≡ type_of y = sym (type_is c.in-Assign-Some-default-default.y.value) in
+    let a0 = ctype c.in-Assign-Some-default-default.x.value.ty in
+    let b0 = ctype c.in-Assign-Some-default-default.y.value.ty in
+    let d0 : r ≡ q ++ (DoN (o.Load (u + 1) n) ∷ []) ++ operated h op a0 b0 c.args.t (u + 1) u ++ converted a0 false c.args.t ++ (DoN (o.Store n c.args.t) ∷ []) = search rules in
+    let d : r ≡ q ++ (DoN (o.Load (u + 1) n) ∷ []) ++ operated h op (type_of x) (type_of y) c.args.t (u + 1) u ++ converted (type_of x) false c.args.t ++ (DoN (o.Store n c.args.t) ∷ []) =
+        d0 ∙ (λ i. q ++ (DoN (o.Load (u + 1) n) ∷ []) ++ operated h op (tx i) (ty i) c.args.t (u + 1) u ++ converted (tx i) false c.args.t ++ (DoN (o.Store n c.args.t) ∷ [])) in
     compound_nodes h k op x y (ctype c.args.ty.now) c.args.t n m u v l p q r e eu ev a b d
 
 pub kind-returns-in_ok-step-in-Step-clause-nodes : goal.kind-returns-in_ok-step-in-Step-clause-nodes
@@ -141,7 +156,8 @@ kind-returns-in_ok-step-in-Step-clause-nodes t c =
     let q = map node c.step.new.out.items in
     let e : k ≡ StepK op x = search (rules, the_lemmas) in
     let a : p ≡ l ++ low h x n (n + 2) m = search rules in
-    let b : q ≡ p ++ step_by h (gives_old op) (counts_up op) (type_of x) c.args.t n = search rules in
+    let b0 : q ≡ p ++ step_by h (gives_old op) (counts_up op) (ctype c.in-Step.x.value.ty) c.args.t n = search rules in
+    let b : q ≡ p ++ step_by h (gives_old op) (counts_up op) (type_of x) c.args.t n = b0 ∙ ap (λ z. p ++ step_by h (gives_old op) (counts_up op) z c.args.t n) (sym (type_is c.in-Step.x.value)) in
     step_nodes h k op x (ctype c.args.ty.now) c.args.t n m l p q e a b
 
 pub kind-returns-in_ok-step_by-in-Index-clause-nodes : goal.kind-returns-in_ok-step_by-in-Index-clause-nodes

@@ -1,4 +1,4 @@
-use Rattle.std.proofs.Common.{rules, arith, ◌≡◌, ◌≤◌, ◌<◌, ℕ, ◌+◌, Bool, List, [], ◌∷◌, ◌++◌, length, length-append, append-nil, drop, is_some, option_map, Option, Some, None, map, sym, ap, ◌∙◌, refl, subst}
+use Rattle.std.proofs.Common.{rules, arith, true, false, if◌then◌else◌, ◌≡◌, ◌≤◌, ◌<◌, ℕ, ◌+◌, Bool, List, [], ◌∷◌, ◌++◌, length, length-append, append-nil, drop, is_some, option_map, Option, Some, None, map, sym, ap, ◌∙◌, refl, subst}
 use Rattle.std.specs.Prelude.{OnOk, IfOk}
 use Rattle.c_types.specs.View.{ctype, texpr, tstmt, tstmts, tarm, tarms}
 use Rattle.c_types.specs.Typed.{TExprT, BlockZ, IfZ, WhileZ, DoWhileZ, ForZ, SwitchZ, ReturnZ, BreakZ, NoneZ, SomeZ, MoreZ, MoreB, StmtB}
@@ -17,11 +17,13 @@ use Rattle.mid_lower.specs.Expressions.{second, beyond}
 use Rattle.mid_lower.specs.Statements.{ToEnd, ToTurn, further, labels_before_default}
 use Rattle.mid_lower.specs.ListedParts.{converted, made, tested_as}
 use Rattle.mid_lower.specs.ListedExpressions.{low_value}
-use Rattle.mid_lower.specs.ListedStatements.{depth, tested_first, chosen_by, turn_of, low_dropped, low_match, returned, low_stmt, low_other, low_stmts, low_arms}
+use Rattle.mid_lower.specs.ListedStatements.{depth, low_label, tested_first, chosen_by, turn_of, low_dropped, low_match, returned, low_stmt, low_other, low_stmts, low_arms}
 use Rattle.mid_lower.specs.View.{shape_of, jump_of}
 use Rattle.mid_lower.proofs.Forms.{on_ok}
 use Rattle.mid_lower.proofs.StatementForms.{block_nodes, if_nodes, while_nodes, do_while_nodes, for_nodes, none_nodes, switch_nodes, return_nodes, if_sizes, while_sizes, do_while_sizes, for_sizes, switch_sizes, if_length, while_length, do_while_length, for_length, switch_length, if_ok, arms_many, further_depth}
 use Rattle.mid_lower.proofs.Viewed.{type_is, pushed, again_is, leave_is, return_is, loop_is, stmts_left, arms_left}
+use Rattle.mid_lower.proofs.Arms.{is_stmt, Left, label_step, stmt_step}
+use Rattle.mid_lower.proofs.statements.+execute.Goals.{labelled-in-Case+in_ok-close_label-in-Case, labelled-in-Default+in_ok-close_label-in-Default, labelled-in-Stmt+in_ok-here-in-Stmt}
 use Rattle.mid_lower.proofs.statements.+execute.Goals as goal
 
 pub statement-value-requires-in-If-default-default-None-clause-locals : goal.statement-value-requires-in-If-default-default-None-clause-locals
@@ -1102,4 +1104,50 @@ labelled-statement-requires t c =
     (search rules, (omega (arith, kt, rt), (omega (arith, kl, two, rl), (omega (arith, kn), omega (arith, rj, on)))))
 
 pub labelled-loop-arm-preserved : goal.labelled-loop-arm-preserved
-labelled-loop-arm-preserved t c = ?
+labelled-loop-arm-preserved t c =
+    let h = shape_of c.args.s.now in
+    let ty = ctype c.args.gives.now in
+    let j = jump_of c.args.j in
+    let xs = tarms (map tarm c.args.arms.now) in
+    let arms = tarms (map tarm (drop c.loop-arm.arm-index c.args.arms.now)) in
+    let rest = tarms (map tarm (drop (c.loop-arm.arm-index + 1) c.args.arms.now)) in
+    let left : arms ≡ MoreB (tarm c.arm-item.result) rest = arms_left c.args.arms.now c.loop-arm.arm-index c.arm-item.result c.loop-arm-test.true c.arm-item.is in
+    let i = c.loop-arm.invariant in
+    let was : Left h ty c.args.t j (map node c.args.out.now.items ++ low_arms h ty c.args.t xs c.args.at.next c.args.at.local 0 j) (c.args.structures.now.items ++ arms_sizes h xs) (c.args.at.next + arms_temps xs) (c.args.at.local + length (arms_sizes h xs)) c.args.at.next c.loop-arm.met (map node c.loop-arm.out.items) (map node c.loop-arm.inside.items) c.loop-arm.structures.items c.loop-arm.here.next c.loop-arm.here.local arms =
+        record { nodes = i.nodes; sizes = i.sizes; temps = i.temps; locals = i.local; few = i.few; on = i.on } in
+    let before : Left h ty c.args.t j (map node c.args.out.now.items ++ low_arms h ty c.args.t xs c.args.at.next c.args.at.local 0 j) (c.args.structures.now.items ++ arms_sizes h xs) (c.args.at.next + arms_temps xs) (c.args.at.local + length (arms_sizes h xs)) c.args.at.next c.loop-arm.met (map node c.loop-arm.out.items) (map node c.loop-arm.inside.items) c.loop-arm.structures.items c.loop-arm.here.next c.loop-arm.here.local (MoreB (tarm c.arm-item.result) rest) =
+        subst (λ z. Left h ty c.args.t j (map node c.args.out.now.items ++ low_arms h ty c.args.t xs c.args.at.next c.args.at.local 0 j) (c.args.structures.now.items ++ arms_sizes h xs) (c.args.at.next + arms_temps xs) (c.args.at.local + length (arms_sizes h xs)) c.args.at.next c.loop-arm.met (map node c.loop-arm.out.items) (map node c.loop-arm.inside.items) c.loop-arm.structures.items c.loop-arm.here.next c.loop-arm.here.local z) left was in
+    let after : Left h ty c.args.t j (map node c.args.out.now.items ++ low_arms h ty c.args.t xs c.args.at.next c.args.at.local 0 j) (c.args.structures.now.items ++ arms_sizes h xs) (c.args.at.next + arms_temps xs) (c.args.at.local + length (arms_sizes h xs)) c.args.at.next c.match-arm.met (map node c.match-arm.out.items) (map node c.match-arm.inside.items) c.match-arm.structures.items c.match-arm.here.next c.match-arm.here.local rest =
+        elim c.match-arm.branch [
+          labelled-in-Case+in_ok-close_label-in-Case w ↦
+            let label : is_stmt (tarm c.arm-item.result) ≡ false = search (rules, al.the_lemmas, w.in-Case.is) in
+            let eo : map node c.match-arm.out.items ≡ map node c.loop-arm.out.items ++ (if c.loop-arm.met then low_label c.args.t (map node c.loop-arm.inside.items) else []) = search (rules, w.out-is, w.in_ok-close_label-in-Case.ensures) in
+            let ei : map node c.match-arm.inside.items ≡ [] = search (rules, w.inside-is, w.new-inside-in-Case.ensures.items) in
+            let em : c.match-arm.met ≡ true = search (rules, w.met-is) in
+            let es : c.match-arm.structures.items ≡ c.loop-arm.structures.items = search (rules, w.structures-is) in
+            let en : c.match-arm.here.next ≡ c.loop-arm.here.next = search (rules, w.here-is) in
+            let el : c.match-arm.here.local ≡ c.loop-arm.here.local = search (rules, w.here-is) in
+            label_step (tarm c.arm-item.result) rest label before eo ei em es en el
+        | labelled-in-Default+in_ok-close_label-in-Default w ↦
+            let label : is_stmt (tarm c.arm-item.result) ≡ false = search (rules, al.the_lemmas, w.in-Default.is) in
+            let eo : map node c.match-arm.out.items ≡ map node c.loop-arm.out.items ++ (if c.loop-arm.met then low_label c.args.t (map node c.loop-arm.inside.items) else []) = search (rules, w.out-is, w.in_ok-close_label-in-Default.ensures) in
+            let ei : map node c.match-arm.inside.items ≡ [] = search (rules, w.inside-is, w.new-inside-in-Default.ensures.items) in
+            let em : c.match-arm.met ≡ true = search (rules, w.met-is) in
+            let es : c.match-arm.structures.items ≡ c.loop-arm.structures.items = search (rules, w.structures-is) in
+            let en : c.match-arm.here.next ≡ c.loop-arm.here.next = search (rules, w.here-is) in
+            let el : c.match-arm.here.local ≡ c.loop-arm.here.local = search (rules, w.here-is) in
+            label_step (tarm c.arm-item.result) rest label before eo ei em es en el
+        | labelled-in-Stmt+in_ok-here-in-Stmt w ↦
+            let a = tstmt w.in-Stmt.a in
+            let is : tarm c.arm-item.result ≡ StmtB a = search (rules, al.the_lemmas, w.in-Stmt.is) in
+            let on : Left h ty c.args.t j (map node c.args.out.now.items ++ low_arms h ty c.args.t xs c.args.at.next c.args.at.local 0 j) (c.args.structures.now.items ++ arms_sizes h xs) (c.args.at.next + arms_temps xs) (c.args.at.local + length (arms_sizes h xs)) c.args.at.next c.loop-arm.met (map node c.loop-arm.out.items) (map node c.loop-arm.inside.items) c.loop-arm.structures.items c.loop-arm.here.next c.loop-arm.here.local (MoreB (StmtB a) rest) =
+                subst (λ z. Left h ty c.args.t j (map node c.args.out.now.items ++ low_arms h ty c.args.t xs c.args.at.next c.args.at.local 0 j) (c.args.structures.now.items ++ arms_sizes h xs) (c.args.at.next + arms_temps xs) (c.args.at.local + length (arms_sizes h xs)) c.args.at.next c.loop-arm.met (map node c.loop-arm.out.items) (map node c.loop-arm.inside.items) c.loop-arm.structures.items c.loop-arm.here.next c.loop-arm.here.local (MoreB z rest)) is before in
+            let eo : map node c.match-arm.out.items ≡ map node c.loop-arm.out.items = search (rules, w.out-is) in
+            let ei : map node c.match-arm.inside.items ≡ map node c.loop-arm.inside.items ++ low_stmt h ty a c.loop-arm.here.next c.loop-arm.here.local 0 j = search (rules, w.inside-is, w.in_ok-here-in-Stmt.ensures.nodes) in
+            let em : c.match-arm.met ≡ c.loop-arm.met = search (rules, w.met-is) in
+            let es : c.match-arm.structures.items ≡ c.loop-arm.structures.items ++ stmt_sizes h a = search (rules, w.structures-is, w.in_ok-here-in-Stmt.ensures.sizes) in
+            let en : c.match-arm.here.next ≡ c.loop-arm.here.next + stmt_temps a = search (rules, w.here-is, w.in_ok-here-in-Stmt.ensures.next) in
+            let el : c.match-arm.here.local ≡ c.loop-arm.here.local + length (stmt_sizes h a) = search (rules, w.here-is, w.in_ok-here-in-Stmt.ensures.local) in
+            stmt_step a rest on eo ei em es en el
+        ] in
+    record { nodes = after.nodes; sizes = after.sizes; temps = after.temps; local = after.locals; few = after.few; on = after.on }

@@ -1,5 +1,5 @@
 -- Calls: mid code follows them, where it follows the bodies of functions with one less of the bound.
-use Rattle.std.proofs.Common.{◌≡◌, ℕ, zero, suc, ◌+◌, ◌*◌, ◌<◌, ◌≤◌, Bool, true, false, cond, eqb, leb, List, [], ◌∷◌, ◌++◌, map, length, sum, replicate, get_or, slice_get, Option, Some, None, Ok, Err, refl, sym, ap, ◌∙◌, subst, arith, if◌then◌else◌}
+use Rattle.std.proofs.Common.{◌≡◌, ℕ, zero, suc, ◌+◌, ◌*◌, ◌≤◌, Bool, true, false, eqb, leb, List, [], ◌∷◌, ◌++◌, map, length, sum, replicate, get_or, slice_get, Option, Some, None, refl, sym, ap, ◌∙◌, subst, arith, if◌then◌else◌}
 use Rattle.std.proofs.lemmas.Bool.{false≢true}
 use Rattle.std.specs.Option.{option_map_or}
 use Rattle.c_tree.specs.declared.span.Span.{Span}
@@ -9,10 +9,9 @@ use Rattle.obj_mem.specs.Objects.{end_from}
 use Rattle.obj_mem.specs.declared.cell.Cell.{Cell}
 use Rattle.obj_mem.specs.declared.cell.Cell.TheVariants.{Unwritten}
 use Rattle.obj_mem.specs.Stores.{Store, has_room, entered, returned_to, next_object, with_temporary}
-use Rattle.obj_mem.specs.Worlds.{World, on_store, spend}
-use Rattle.c_meaning.specs.declared.end.End.TheVariants.{Stray, Deep, OutOfBound}
-use Rattle.c_meaning.specs.Kinds.{is_structure}
-use Rattle.c_meaning.specs.Outcomes.{Val, Value, NoValue, Stops, Vals, Values, Short, Done, Goes, Breaks, Continues, Returns, Ended, Body, then_values, in_front}
+use Rattle.obj_mem.specs.Worlds.{World, on_store}
+use Rattle.c_meaning.specs.declared.end.End.TheVariants.{Deep, OutOfBound}
+use Rattle.c_meaning.specs.Outcomes.{Val, Value, NoValue, Vals, Values, Short, Done, Goes, Breaks, Continues, Returns, Ended, Body, then_values, in_front}
 use Rattle.c_meaning.specs.Setting.{words}
 use Rattle.c_meaning.specs.Cells.{end_temporary}
 use Rattle.c_meaning.specs.Expressions.{all_released, call_done}
@@ -28,7 +27,7 @@ use Rattle.mid_lower.specs.Expressions.{is_void}
 use Rattle.mid_lower.proofs.Grows.{Mid, Grows, more, then_grows, done_grows}
 use Rattle.mid_lower.proofs.Under.{Under, under_length, under_from}
 use Rattle.mid_lower.proofs.Fits.{Site, ScalarTypes}
-use Rattle.mid_lower.proofs.Following.{Side, mk, Goal, goal, Stays, Now, Fin, Free, Kept, SimV, events_of, putting, put_at, put_other, spare, fin_now, stopped, kept_wider, kept_through, M, M_grows, L}
+use Rattle.mid_lower.proofs.Following.{Side, mk, Goal, goal, Now, Fin, Kept, SimV, events_of, putting, put_at, put_other, fin_now, stopped, kept_wider, kept_through, M, M_grows, L}
 
 abbrev the_none : Option ℕ
 the_none = None

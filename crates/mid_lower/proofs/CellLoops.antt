@@ -1,5 +1,5 @@
 -- Loops over cells: one turn per cell, in mid code as in the meaning.
-use Rattle.std.proofs.Common.{◌≡◌, ℕ, zero, suc, ◌+◌, ◌*◌, ◌-◌, ◌%◌, ◌^◌, ◌<◌, ◌≤◌, Bool, true, false, eqb, List, [], ◌∷◌, ◌++◌, Option, Some, None, Ok, Err, refl, sym, ap, ◌∙◌, subst, arith, option_map}
+use Rattle.std.proofs.Common.{◌≡◌, ℕ, zero, suc, ◌+◌, ◌*◌, ◌-◌, ◌%◌, ◌^◌, ◌<◌, ◌≤◌, List, Some, None, Ok, refl, sym, ap, ◌∙◌, subst, arith}
 use Rattle.std.proofs.Math.Nat.{add-mod_right}
 use Rattle.std.proofs.lemmas.Nat.{mod-mul-add}
 use Rattle.kit_base.specs.Word.{sub}
@@ -8,25 +8,22 @@ use Rattle.v32_isa.specs.declared.instruction.Two.TheVariants.{ISUB}
 use Rattle.obj_mem.specs.Objects.{ObjectT}
 use Rattle.obj_mem.specs.declared.cell.Cell.{Cell}
 use Rattle.obj_mem.specs.declared.cell.Cell.TheVariants.{Unwritten, Num, Ptr, Null}
-use Rattle.obj_mem.specs.declared.refusal.Refusal.TheVariants.{Strays, Faults}
 use Rattle.obj_mem.specs.Stores.{with_objects}
 use Rattle.obj_mem.specs.Worlds.{World, on_store, spend}
-use Rattle.obj_mem.specs.Queries.{Answer, then_ask, read, write, further}
-use Rattle.c_meaning.specs.declared.end.End.{End}
+use Rattle.obj_mem.specs.Queries.{read, write, further}
 use Rattle.c_meaning.specs.declared.end.End.TheVariants.{Stray, OutOfBound}
 use Rattle.c_meaning.specs.Outcomes.{Went, Through, CutOff, asked, then_went}
-use Rattle.c_meaning.specs.Cells.{source, cell_set, next_turn, cells_set}
-use Rattle.mid_code.specs.Code.{ConstO, TwoO, StepO, LoadO, StoreO, NodesT, Stop, Do, Choose, Loop, Again}
+use Rattle.c_meaning.specs.Cells.{next_turn, cells_set}
+use Rattle.mid_code.specs.Code.{CodeT, ConstO, TwoO, StepO, LoadO, StoreO, NodesT, Stop, Do, Choose, Loop, Again}
 use Rattle.mid_code.specs.Meaning.{Res, Next, Leaves, Repeats, Returns, Over, then_next, turn_done, choose, does}
 use Rattle.mid_code.specs.Meaning.{below as mid_below}
-use Rattle.mid_code.specs.States.{temporaries, to, spent, two_words, word_tested}
-use Rattle.mid_code.specs.States as mid
+use Rattle.mid_code.specs.States.{temporaries, to, spent, word_tested, over_worlds}
 use Rattle.mid_code.specs.Passing.{Prefix}
 use Rattle.mid_lower.specs.Parts as part
 use Rattle.mid_lower.proofs.Grows.{Mid, Grows, all_of, more, then_grows, turn_grows, node_grows}
-use Rattle.mid_lower.proofs.Under.{Under, Alike, same, read_both}
+use Rattle.mid_lower.proofs.Under.{read_both}
 use Rattle.mid_lower.proofs.Fits.{Site}
-use Rattle.mid_lower.proofs.Following.{Side, mk, Goal, Now, Fin, Way, Kept, Rest, events_of, scratch, paid, paid_now, fin_now, stopped, spare, now_work, kept_through, low_free, eqb_more, eqb_less, L, M, M_grows, op, sets}
+use Rattle.mid_lower.proofs.Following.{Side, mk, Goal, Now, Way, Kept, events_of, paid, paid_now, fin_now, stopped, spare, now_work, kept_through, low_free, eqb_more, L, M, M_grows, op, sets}
 use Rattle.mid_lower.proofs.Instructions.{asked_then, two_eq, step_eq, from_eq}
 use Rattle.mid_lower.proofs.Storing.{stores}
 
@@ -41,13 +38,13 @@ sub_one left lt = ap (λ n. n % 2 ^ 32) sums ∙ add-mod_right left (2 ^ 32) ∙
     less = omega arith
 
 -- port operations only come with each bound
-pub below_grows : (S : Site) (n : ℕ) (c : NodesT ℕ) (t : Mid) → Grows t (mid_below (L S) n c t)
-below_grows S zero c t = all_of _
-below_grows S (suc n) c t = node_grows S.code S.frames n (mid_below (L S) n) (below_grows S n) c t
+pub below_grows : (code : CodeT ℕ) (frames : List ℕ) (n : ℕ) (c : NodesT ℕ) (t : Mid) → Grows t (mid_below (over_worlds temporaries code frames) n c t)
+below_grows code frames zero c t = all_of _
+below_grows code frames (suc n) c t = node_grows code frames n (mid_below (over_worlds temporaries code frames) n) (below_grows code frames n) c t
 
 -- the same program at another bound
 abbrev pub site_at : Site → ℕ → Site
-site_at S n = record { s = S.s; code = S.code; frames = S.frames; fits = S.fits; bound = n; prev = S.prev; prev' = mid_below (L S) n; grows = below_grows S n; is_below = refl }
+site_at S n = record { s = S.s; code = S.code; frames = S.frames; fits = S.fits; bound = n; prev = S.prev; prev' = mid_below (L S) n; grows = below_grows S.code S.frames n; is_below = refl }
 
 -- temporaries but those of the loops
 abbrev pub Others : Side → Side → Type 0
@@ -58,7 +55,7 @@ abbrev pub SimL : Goal → ℕ → Side → Went → Res Mid → Type 0
 SimL γ s x (Through w) q = (y : Side) × (q ≡ Next (mk w y)) × Now γ (s + 16) w y × Others x y
 SimL γ s x (CutOff f w) q = Kept γ f w q
 
-next_same : (r : Res Mid) → then_next r (λ t. Next t) ≡ r
+pub next_same : (r : Res Mid) → then_next r (λ t. Next t) ≡ r
 next_same (Next t) = refl
 next_same (Leaves k t) = refl
 next_same (Repeats k t) = refl
@@ -76,7 +73,7 @@ module _ (S : Site) (γ : Goal) (span : Span) (cost : ℕ) (some : 1 ≤ cost) w
     K q = then_next (turn_done q (mid_below (L S) n (Loop turn Stop))) (M (site_at S n) Stop)
 
     K_grows : (q : Res Mid) → Prefix (events_of q) (events_of (K q))
-    K_grows q = more _ _ _ (turn_grows q (mid_below (L S) n (Loop turn Stop)) (below_grows S n (Loop turn Stop))) (then_grows (turn_done q (mid_below (L S) n (Loop turn Stop))) (M (site_at S n) Stop) (M_grows (site_at S n) Stop))
+    K_grows q = more _ _ _ (turn_grows q (mid_below (L S) n (Loop turn Stop)) (below_grows S.code S.frames n (Loop turn Stop))) (then_grows (turn_done q (mid_below (L S) n (Loop turn Stop))) (M (site_at S n) Stop) (M_grows (site_at S n) Stop))
 
     abbrev way_turn : Way γ
     way_turn = record { R = Went; stop = CutOff; T = λ r q. SimL γ s0 x0 r (K q); stops = λ f w m k. kept_through γ f w m K (λ g t. refl) K_grows k }
@@ -105,7 +102,7 @@ module _ (S : Site) (γ : Goal) (span : Span) (cost : ℕ) (some : 1 ≤ cost) w
   copy_tail n left s0 x0 lt o i p j w y h keep ec e1 ef et f =
       let r : Went = next_turn left n w (λ m v. cells_set span cost m left (Some (further (Ptr o i) 1)) (further (Ptr p j) 1) v) in
       sets (site_at S n) (way_turn n part.copy_turn s0 x0).T γ (s0 + 32) w y part.count (Num left) (TwoO ISUB part.count part.count part.one) (Choose part.count copy_steps Stop Stop) (spare γ (s0 + 40) (s0 + 32 + 8) w y (omega arith) h) (low_free γ part.count (omega arith))
-          (ap (λ q. to temporaries part.count q (spent 8 (mk w y))) (two_eq ISUB (Num (suc left)) (Num 1) (y.temps part.count) (y.temps part.one) ec e1 ∙ ap (λ k. Ok (Num k)) (sub_one left lt))) r
+      (ap (λ q. to temporaries part.count q (spent 8 (mk w y))) (two_eq ISUB (Num (suc left)) (Num 1) (y.temps part.count) (y.temps part.one) ec e1 ∙ ap (λ k. Ok (Num k)) (sub_one left lt))) r
       (λ z hz at rest. chosen left refl z hz at (λ k le. rest k (eqb_more k part.count (omega (arith, le))) ∙ keep k le) (rest part.one refl ∙ e1) (rest part.from refl ∙ ef) (rest part.to refl ∙ et))
     where
       chosen : (l : ℕ) → left ≡ l → (z : Side) → Now γ (s0 + 32) w z → z.temps part.count ≡ Num l → Others x0 z → z.temps part.one ≡ Num 1 → z.temps part.from ≡ Ptr o i → z.temps part.to ≡ Ptr p j
@@ -131,7 +128,7 @@ module _ (S : Site) (γ : Goal) (span : Span) (cost : ℕ) (some : 1 ≤ cost) w
       let w1 : World = spend cost w in
       subst (λ r. SimL γ s0 x r (M (site_at S n) (Loop part.copy_turn Stop) (mk w x))) (sym (asked_then CutOff span w1 (read w.store.objects (Ptr o i)) (λ c. write w.store.objects q c) (next q)))
       (op (site_at S n) γ (way_turn n part.copy_turn s0 x) (s0 + 48) span w1 (paid x) part.cell (read w.store.objects (Ptr o i)) (read x.objs (x.temps part.from)) (LoadO part.cell part.from) (Do (StoreO part.to part.cell) tail) (paid_now γ (s0 + 48 + 8) w1 x (spare γ (s0 + 64) (s0 + 48 + 8 + 8) w1 x (omega arith) (counted s0 w x h))) (low_free γ part.cell (omega arith))
-          (from_eq (read w.store.objects (Ptr o i)) (read x.objs (Ptr o i)) (read x.objs (x.temps part.from)) (ap (λ u. read x.objs u) ef) (read_both w.store.objects x.objs (Ptr o i) h.stays.under)) refl (λ c. asked CutOff span w1 (write w.store.objects q c) (next q))
+      (from_eq (read w.store.objects (Ptr o i)) (read x.objs (Ptr o i)) (read x.objs (x.temps part.from)) (ap (λ u. read x.objs u) ef) (read_both w.store.objects x.objs (Ptr o i) h.stays.under)) refl (λ c. asked CutOff span w1 (write w.store.objects q c) (next q))
       (λ c y hy at rest. written q c y hy at (λ k le. rest k (eqb_more k part.cell (omega (arith, le)))) (rest part.count refl ∙ ec) (rest part.one refl ∙ e1) (rest part.from refl ∙ ef) (rest part.to refl ∙ et)))
     where
       tail : NodesT ℕ
@@ -145,8 +142,8 @@ module _ (S : Site) (γ : Goal) (span : Span) (cost : ℕ) (some : 1 ≤ cost) w
       written (Ptr p j) c y hy at keep ec2 e12 ef2 et2 =
           stores (site_at S n) γ (way_turn n part.copy_turn s0 x) span (spend cost w) (s0 + 40) y part.to part.cell (Ptr p j) c tail (spare γ (s0 + 48) (s0 + 40 + 8) (spend cost w) y (omega arith) hy) et2 at (λ u. next_turn left n u (λ m v. cells_set span cost m left (Some (further (Ptr o i) 1)) (further (Ptr p j) 1) v))
           (λ os z hz alike. copy_tail n left s0 x lt o i p j (on_store (with_objects os) (spend cost w)) z hz (λ k le. alike k ∙ keep k le) (alike part.count ∙ ec2) (alike part.one ∙ e12) (alike part.from ∙ ef2) (alike part.to ∙ et2)
-              (λ m l em el u hu euc eu1 euf eut. subst (λ k. SimL γ s0 u (cells_set span cost m k (Some (further (Ptr o i) 1)) (further (Ptr p j) 1) (on_store (with_objects os) (spend cost w))) (M (site_at S m) (Loop part.copy_turn Stop) (mk (on_store (with_objects os) (spend cost w)) u))) (sym el)
-                  (rec m l em el s0 (omega (arith, lt, el)) (further (Ptr o i) 1) (further (Ptr p j) 1) (on_store (with_objects os) (spend cost w)) u hu euc eu1 euf eut)))
+          (λ m l em el u hu euc eu1 euf eut. subst (λ k. SimL γ s0 u (cells_set span cost m k (Some (further (Ptr o i) 1)) (further (Ptr p j) 1) (on_store (with_objects os) (spend cost w))) (M (site_at S m) (Loop part.copy_turn Stop) (mk (on_store (with_objects os) (spend cost w)) u))) (sym el)
+          (rec m l em el s0 (omega (arith, lt, el)) (further (Ptr o i) 1) (further (Ptr p j) 1) (on_store (with_objects os) (spend cost w)) u hu euc eu1 euf eut)))
       written Unwritten c y hy at keep ec2 e12 ef2 et2 = (way_turn n part.copy_turn s0 x).stops (Stray span) (spend cost w) (M (site_at S n) (Do (StoreO part.to part.cell) tail) (mk (spend cost w) y)) (M_grows (site_at S n) (Do (StoreO part.to part.cell) tail) (mk (spend cost w) y))
       written (Num k) c y hy at keep ec2 e12 ef2 et2 = (way_turn n part.copy_turn s0 x).stops (Stray span) (spend cost w) (M (site_at S n) (Do (StoreO part.to part.cell) tail) (mk (spend cost w) y)) (M_grows (site_at S n) (Do (StoreO part.to part.cell) tail) (mk (spend cost w) y))
       written Null c y hy at keep ec2 e12 ef2 et2 = (way_turn n part.copy_turn s0 x).stops (Stray span) (spend cost w) (M (site_at S n) (Do (StoreO part.to part.cell) tail) (mk (spend cost w) y)) (M_grows (site_at S n) (Do (StoreO part.to part.cell) tail) (mk (spend cost w) y))
@@ -172,7 +169,7 @@ module _ (S : Site) (γ : Goal) (span : Span) (cost : ℕ) (some : 1 ≤ cost) w
   zero_step n left rec s0 lt (Ptr p j) w x h ec e1 ez et =
       stores (site_at S n) γ (way_turn n part.zero_turn s0 x) span w1 (s0 + 48) (paid x) part.to part.cell (Ptr p j) (Num 0) tail (paid_now γ (s0 + 48 + 8) w1 x (spare γ (s0 + 64) (s0 + 48 + 8 + 8) w1 x (omega arith) (counted s0 w x h))) et ez next
       (λ os z hz alike. sets (site_at S n) (way_turn n part.zero_turn s0 x).T γ (s0 + 40) (on_store (with_objects os) w1) z part.count (Num left) (TwoO ISUB part.count part.count part.one) (Choose part.count zero_steps Stop Stop) (spare γ (s0 + 48) (s0 + 40 + 8) (on_store (with_objects os) w1) z (omega arith) hz) (low_free γ part.count (omega arith))
-          (ap (λ q. to temporaries part.count q (spent 8 (mk (on_store (with_objects os) w1) z))) (two_eq ISUB (Num (suc left)) (Num 1) (z.temps part.count) (z.temps part.one) (alike part.count ∙ ec) (alike part.one ∙ e1) ∙ ap (λ k. Ok (Num k)) (sub_one left lt))) (next (on_store (with_objects os) w1))
+      (ap (λ q. to temporaries part.count q (spent 8 (mk (on_store (with_objects os) w1) z))) (two_eq ISUB (Num (suc left)) (Num 1) (z.temps part.count) (z.temps part.one) (alike part.count ∙ ec) (alike part.one ∙ e1) ∙ ap (λ k. Ok (Num k)) (sub_one left lt))) (next (on_store (with_objects os) w1))
       (λ y hy at rest. chosen os left refl y hy at (λ k le. rest k (eqb_more k part.count (omega (arith, le))) ∙ alike k) (rest part.one refl ∙ alike part.one ∙ e1) (rest part.cell refl ∙ alike part.cell ∙ ez) (rest part.to refl ∙ alike part.to ∙ et)))
     where
       w1 : World
@@ -199,7 +196,7 @@ module _ (S : Site) (γ : Goal) (span : Span) (cost : ℕ) (some : 1 ≤ cost) w
           let hb2 = paid_now γ s0 v b (spare γ (s0 + 24) (s0 + 8) v b (omega arith) hb) in
           again n part.zero_turn s0 x l v (paid b) (λ m u. cells_set span cost m left None (further (Ptr p j) 1) u) hb2 (λ k le. restb k (eqb_more k part.to (omega (arith, le))) ∙ kz k le)
           (λ m em. subst (λ k. SimL γ s0 (paid b) (cells_set span cost m k None (further (Ptr p j) 1) v) (M (site_at S m) (Loop part.zero_turn Stop) (mk v (paid b)))) (sym el)
-              (rec m l em el s0 (omega (arith, lt, el)) (further (Ptr p j) 1) v (paid b) hb2 (restb part.count refl ∙ at) (restb part.one refl ∙ e1z) (restb part.cell refl ∙ ezz) atb))))
+          (rec m l em el s0 (omega (arith, lt, el)) (further (Ptr p j) 1) v (paid b) hb2 (restb part.count refl ∙ at) (restb part.one refl ∙ e1z) (restb part.cell refl ∙ ezz) atb))))
   zero_step n left rec s0 lt Unwritten w x h ec e1 ez et = M_grows (site_at S n) (Loop part.zero_turn Stop) (mk w x)
   zero_step n left rec s0 lt (Num k) w x h ec e1 ez et = M_grows (site_at S n) (Loop part.zero_turn Stop) (mk w x)
   zero_step n left rec s0 lt Null w x h ec e1 ez et = M_grows (site_at S n) (Loop part.zero_turn Stop) (mk w x)
@@ -230,7 +227,7 @@ module _ (S : Site) (γ : Goal) (span : Span) (cost : ℕ) (some : 1 ≤ cost) w
       sets S σ.T γ s0 w y part.one (Num 1) (ConstO part.one 1) (Loop part.copy_turn c) hy (low_free γ part.one (omega arith)) refl r (λ z hz at2 rest2.
       subst (σ.T r) (looped part.copy_turn c (mk w z))
       (after_loop σ s0 z c go (λ v u hu others. f v u hu (λ j g. others j g ∙ rest2 j (eqb_more j part.one (omega (arith, g))) ∙ rest j (eqb_more j part.count (omega (arith, g))))) (cells_set span cost S.bound (suc left) (Some p) q w) (M (site_at S S.bound) (Loop part.copy_turn Stop) (mk w z))
-          (copy_loop left S.bound s0 (omega (arith, le)) p q w z hz (rest2 part.count refl ∙ at) at2 (rest2 part.from refl ∙ rest part.from refl ∙ ef) (rest2 part.to refl ∙ rest part.to refl ∙ et)))))
+      (copy_loop left S.bound s0 (omega (arith, le)) p q w z hz (rest2 part.count refl ∙ at) at2 (rest2 part.from refl ∙ rest part.from refl ∙ ef) (rest2 part.to refl ∙ rest part.to refl ∙ et)))))
 
   -- so many cells are set to 0
   pub zeroes : (σ : Way γ) (s0 size : ℕ) → size ≤ 2 ^ 32 → (q : Cell) (w : World) (x : Side) (c : NodesT ℕ) → Now γ (s0 + 24) w x → x.temps part.to ≡ q → (go : World → σ.R) → ((v : World) (y : Side) → Now γ (s0 + 16) v y → Others x y → σ.T (go v) (M S c (mk v y)))
@@ -243,4 +240,4 @@ module _ (S : Site) (γ : Goal) (span : Span) (cost : ℕ) (some : 1 ≤ cost) w
       sets S σ.T γ s0 w z part.cell (Num 0) (ConstO part.cell 0) (Loop part.zero_turn c) hz (low_free γ part.cell (omega arith)) refl r (λ u hu at3 rest3.
       subst (σ.T r) (looped part.zero_turn c (mk w u))
       (after_loop σ s0 u c go (λ v e he others. f v e he (λ j g. others j g ∙ rest3 j (eqb_more j part.cell (omega (arith, g))) ∙ rest2 j (eqb_more j part.one (omega (arith, g))) ∙ rest j (eqb_more j part.count (omega (arith, g))))) (cells_set span cost S.bound (suc left) None q w) (M (site_at S S.bound) (Loop part.zero_turn Stop) (mk w u))
-          (zero_loop left S.bound s0 (omega (arith, le)) q w u hu (rest3 part.count refl ∙ rest2 part.count refl ∙ at) (rest3 part.one refl ∙ at2) at3 (rest3 part.to refl ∙ rest2 part.to refl ∙ rest part.to refl ∙ et))))))
+      (zero_loop left S.bound s0 (omega (arith, le)) q w u hu (rest3 part.count refl ∙ rest2 part.count refl ∙ at) (rest3 part.one refl ∙ at2) at3 (rest3 part.to refl ∙ rest2 part.to refl ∙ rest part.to refl ∙ et))))))

@@ -1,44 +1,38 @@
 -- Conditions, choices and assignments: mid code follows them.
-use Rattle.std.proofs.Common.{◌≡◌, ℕ, zero, suc, ◌+◌, ◌*◌, ◌<◌, ◌≤◌, Bool, true, false, not, ◌==◌, ◌||◌, cond, eqb, List, [], ◌∷◌, ◌++◌, length, Option, Some, None, Ok, Err, refl, sym, ap, ◌∙◌, subst, arith, if◌then◌else◌}
-use Rattle.std.proofs.lemmas.Bool.{false≢true}
-use Rattle.kit_base.specs.Word.{bool_word}
+use Rattle.std.proofs.Common.{◌≡◌, ℕ, zero, suc, ◌+◌, ◌<◌, ◌≤◌, Bool, true, false, not, ◌==◌, ◌||◌, eqb, Some, Ok, Err, refl, sym, ap, ◌∙◌, subst, arith, if◌then◌else◌}
 use Rattle.c_tree.specs.declared.span.Span.{Span}
 use Rattle.c_types.specs.Types.{Ty, VoidY, IntY, BoolY, EnumY, StructY, UnionY, PointerY, ArrayY}
-use Rattle.c_types.specs.Typed.{TExprT, Typed}
-use Rattle.c_exprs.specs.Nodes.{is_place}
+use Rattle.c_types.specs.Typed.{TExprT}
 use Rattle.v32_isa.specs.declared.instruction.Two.TheVariants.{INE}
 use Rattle.obj_mem.specs.declared.cell.Cell.{Cell}
 use Rattle.obj_mem.specs.declared.cell.Cell.TheVariants.{Unwritten, Num, Ptr, Null}
 use Rattle.obj_mem.specs.declared.refusal.Refusal.TheVariants.{Strays, Faults}
-use Rattle.obj_mem.specs.Stores.{with_objects, local_object}
+use Rattle.obj_mem.specs.Stores.{with_objects}
 use Rattle.obj_mem.specs.Worlds.{World, on_store, spend}
-use Rattle.obj_mem.specs.Queries.{Answer, then_ask, word_of, truth, write, equal_pointers, first_cell}
+use Rattle.obj_mem.specs.Queries.{Answer, then_ask, word_of, truth, write, equal_pointers}
 use Rattle.c_meaning.specs.declared.end.End.{End}
 use Rattle.c_meaning.specs.declared.end.End.TheVariants.{Stray}
 use Rattle.c_meaning.specs.Kinds.{type_of, span_of, decayed, is_structure, is_pointer}
-use Rattle.c_meaning.specs.Outcomes.{Val, Value, Place, NoValue, Stops, CutOff, Through, asked, then_value, then_went, either_way}
-use Rattle.c_meaning.specs.Operators.{converted, is_true, read_as}
-use Rattle.c_meaning.specs.Cells.{fetched, stored, cells_set, scalar_read}
-use Rattle.c_meaning.specs.Expressions.{value_of, with_value, tested, assigned, evaluated}
-use Rattle.mid_code.specs.Code.{NullO, MoveO, PtrTestO, LoadO, StoreO, NodesT, Do, Choose}
+use Rattle.c_meaning.specs.Outcomes.{Val, Value, Stops, CutOff, Through, asked, then_went, either_way}
+use Rattle.c_meaning.specs.Operators.{is_true}
+use Rattle.c_meaning.specs.Cells.{stored, cells_set}
+use Rattle.c_meaning.specs.Expressions.{tested, assigned, evaluated}
+use Rattle.mid_code.specs.Code.{NullO, PtrTestO, StoreO, NodesT, Do, Choose}
 use Rattle.mid_code.specs.Meaning.{Res, then_next, choose}
-use Rattle.mid_code.specs.States.{temporaries, pointers_tested, word_tested}
-use Rattle.mid_code.specs.Passing.{Prefix}
+use Rattle.mid_code.specs.States.{pointers_tested, word_tested}
 use Rattle.mid_lower.specs.Shape.{Shape, shape_in, words}
 use Rattle.mid_lower.specs.Flags.{is_flag, tests_flag}
 use Rattle.mid_lower.specs.Parts as part
-use Rattle.mid_lower.specs.Expressions.{low, value, test}
-use Rattle.mid_lower.specs.Expressions as low
-use Rattle.mid_lower.specs.Counts.{sizes}
+use Rattle.mid_lower.specs.Expressions.{low, test}
 use Rattle.mid_lower.proofs.Grows.{Mid, Grows}
-use Rattle.mid_lower.proofs.Under.{Under, Alike, same, then_both, equal_both}
+use Rattle.mid_lower.proofs.Under.{then_both, equal_both}
 use Rattle.mid_lower.proofs.Words.{is_word}
 use Rattle.mid_lower.proofs.Flagged.{IsFlag, bool_flag, FlagAnswer, then_flag}
 use Rattle.mid_lower.proofs.Fits.{Site}
-use Rattle.mid_lower.proofs.Following.{events_of, Side, mk, Goal, goal, Now, Kept, SimV, Way, Free, Before, Rest, scratch, paid, paid_now, less_now, spare, now_work, kept_wider, value_now, above_free, low_free, eqb_less, eqb_more, M, M_grows, op, op_of, sets}
-use Rattle.mid_lower.proofs.Instructions.{word, from_eq, tested_eq}
-use Rattle.mid_lower.proofs.Values.{Follow, Uses, uses}
-use Rattle.mid_lower.proofs.Storing.{loads, converts, stores, went_asked}
+use Rattle.mid_lower.proofs.Following.{Side, mk, Goal, Now, Kept, Way, Free, Before, Rest, scratch, paid, spare, now_work, low_free, eqb_more, M, M_grows, op_of, sets}
+use Rattle.mid_lower.proofs.Instructions.{from_eq, tested_eq}
+use Rattle.mid_lower.proofs.Values.{Follow, uses}
+use Rattle.mid_lower.proofs.Storing.{converts, stores, went_asked}
 
 not_zero : (i : ℕ) → not (suc i == 0) ≡ true
 not_zero i = ap not (eqb_more (suc i) 0 (omega arith))
@@ -84,11 +78,11 @@ module _ (S : Site) where
         let q : Answer Cell = then_ask (equal_pointers w.store.objects v Null) (λ b. Ok (truth (not b))) in
         subst (λ r. σ.T r (R (part.tested_as (PointerY of) t c) (mk w x))) (sym (not_null w (equal_pointers w.store.objects v Null)))
         (sets S σ.T γ (s0 + 8) w x part.other Null (NullO part.other) (Do (PtrTestO INE t t part.other) c) (spare γ (s0 + 16) (s0 + 8 + 8) w x (omega arith) h0) (low_free γ part.other (omega arith)) refl
-            (asked σ.stop span w q (λ z. asked σ.stop span w (then_ask (word_of z) (λ i. Ok (not (i == 0)))) (λ b. either_way b w go last))) (λ y hy at rest.
+        (asked σ.stop span w q (λ z. asked σ.stop span w (then_ask (word_of z) (λ i. Ok (not (i == 0)))) (λ b. either_way b w go last))) (λ y hy at rest.
         op_of S γ σ s0 span w y t q (pointers_tested INE y.objs (y.temps t) (y.temps part.other)) (PtrTestO INE t t part.other) c hy free
-            (from_eq q (pointers_tested INE y.objs v Null) (pointers_tested INE y.objs (y.temps t) (y.temps part.other)) (tested_eq INE y.objs v Null (y.temps t) (y.temps part.other) (rest t (eqb_more t part.other (omega (arith, st))) ∙ e) at) (then_both (equal_pointers w.store.objects v Null) (equal_pointers y.objs v Null) _ _ (equal_both w.store.objects y.objs v Null hy.stays.under) (λ z. refl))) refl
-            (λ z. asked σ.stop span w (then_ask (word_of z) (λ i. Ok (not (i == 0)))) (λ b. either_way b w go last))
-            (λ z qz u hu at2 rest2. test_word s0 (flag || true) w u z (λ fl. answered_flag q z (not_flag (equal_pointers w.store.objects v Null)) qz) hu at2 (λ j a b ne. rest2 j ne ∙ rest j (eqb_more j part.other (omega (arith, a))) ∙ below j a b ne) f)))
+        (from_eq q (pointers_tested INE y.objs v Null) (pointers_tested INE y.objs (y.temps t) (y.temps part.other)) (tested_eq INE y.objs v Null (y.temps t) (y.temps part.other) (rest t (eqb_more t part.other (omega (arith, st))) ∙ e) at) (then_both (equal_pointers w.store.objects v Null) (equal_pointers y.objs v Null) _ _ (equal_both w.store.objects y.objs v Null hy.stays.under) (λ z. refl))) refl
+        (λ z. asked σ.stop span w (then_ask (word_of z) (λ i. Ok (not (i == 0)))) (λ b. either_way b w go last))
+        (λ z qz u hu at2 rest2. test_word s0 (flag || true) w u z (λ fl. answered_flag q z (not_flag (equal_pointers w.store.objects v Null)) qz) hu at2 (λ j a b ne. rest2 j ne ∙ rest j (eqb_more j part.other (omega (arith, a))) ∙ below j a b ne) f)))
     test_as s0 flag w x VoidY v k h0 free e below f = test_word s0 (flag || false) w x v (λ fl. k (or_false flag fl)) (spare γ (s0 + 16) s0 w x (omega arith) h0) e below f
     test_as s0 flag w x IntY v k h0 free e below f = test_word s0 (flag || false) w x v (λ fl. k (or_false flag fl)) (spare γ (s0 + 16) s0 w x (omega arith) h0) e below f
     test_as s0 flag w x BoolY v k h0 free e below f = test_word s0 (flag || false) w x v (λ fl. k (or_false flag fl)) (spare γ (s0 + 16) s0 w x (omega arith) h0) e below f
@@ -125,7 +119,7 @@ module _ (S : Site) where
       let ty : Ty = type_of e in
       converts S γ σ span w (s0 + 8) x ty known a v (Do (StoreO p a) c) (spare γ (s0 + 16) (s0 + 8 + 8) w x (omega arith) h0) free ev flag (λ z. then_went Stops (stored S.s S.bound 0 ty (span_of e) vp z w) (λ u. Value z u))
       (λ z y hy at rest.
-          subst (λ b. T (then_went Stops (if b then cells_set (span_of e) (0 + 1) S.bound (words h ty) (Some z) vp w else asked CutOff (span_of e) (spend 0 w) (write w.store.objects vp z) (λ os. Through (on_store (with_objects os) (spend 0 w)))) (λ u. Value z u)) (R (Do (StoreO p a) c) (mk w y))) (sym ns)
-          (subst (λ r. T r (R (Do (StoreO p a) c) (mk w y))) (sym (went_asked Stops (span_of e) (spend 0 w) (write w.store.objects vp z) (λ os. on_store (with_objects os) (spend 0 w)) (λ u. Value z u)))
-          (stores S γ σ (span_of e) (spend 0 w) s0 y p a vp z c (nothing_spent γ (s0 + 8) w y hy) (rest p ne ∙ ep) at (λ u. Value z u)
-              (λ os u hu alike. f z (on_store (with_objects os) (spend 0 w)) u hu (alike a ∙ at) (λ j nj. alike j ∙ rest j nj)))))
+      subst (λ b. T (then_went Stops (if b then cells_set (span_of e) (0 + 1) S.bound (words h ty) (Some z) vp w else asked CutOff (span_of e) (spend 0 w) (write w.store.objects vp z) (λ os. Through (on_store (with_objects os) (spend 0 w)))) (λ u. Value z u)) (R (Do (StoreO p a) c) (mk w y))) (sym ns)
+      (subst (λ r. T r (R (Do (StoreO p a) c) (mk w y))) (sym (went_asked Stops (span_of e) (spend 0 w) (write w.store.objects vp z) (λ os. on_store (with_objects os) (spend 0 w)) (λ u. Value z u)))
+      (stores S γ σ (span_of e) (spend 0 w) s0 y p a vp z c (nothing_spent γ (s0 + 8) w y hy) (rest p ne ∙ ep) at (λ u. Value z u)
+      (λ os u hu alike. f z (on_store (with_objects os) (spend 0 w)) u hu (alike a ∙ at) (λ j nj. alike j ∙ rest j nj)))))

@@ -190,8 +190,16 @@ mutual
   stmt_sizes_few h (WhileZ x a) = omega (arith, values_few h x, stmt_sizes_few h a, length-append (value_sizes h x) (stmt_sizes h a))
   stmt_sizes_few h (DoWhileZ a x) = omega (arith, values_few h x, stmt_sizes_few h a, length-append (stmt_sizes h a) (value_sizes h x))
   stmt_sizes_few h (ForZ ks first test step a) =
-      omega (arith, other_sizes_few h first, maybe_sizes_few h test, maybe_sizes_few h step, stmt_sizes_few h a,
-      length-append (other_sizes h first) (maybe_sizes h test ++ (stmt_sizes h a ++ maybe_sizes h step)), length-append (maybe_sizes h test) (stmt_sizes h a ++ maybe_sizes h step), length-append (stmt_sizes h a) (maybe_sizes h step))
+      omega (
+        arith,
+        other_sizes_few h first,
+        maybe_sizes_few h test,
+        maybe_sizes_few h step,
+        stmt_sizes_few h a,
+        length-append (other_sizes h first) (maybe_sizes h test ++ (stmt_sizes h a ++ maybe_sizes h step)),
+        length-append (maybe_sizes h test) (stmt_sizes h a ++ maybe_sizes h step),
+        length-append (stmt_sizes h a) (maybe_sizes h step),
+      )
   stmt_sizes_few h (SwitchZ x ks arms) = omega (arith, values_few h x, arms_sizes_few h arms, length-append (value_sizes h x) (arms_sizes h arms))
   stmt_sizes_few h (ReturnZ x) = omega (arith, maybe_sizes_few h x)
   stmt_sizes_few h BreakZ = omega arith

@@ -1,8 +1,7 @@
 -- Every form of an expression: mid code follows it.
-use Rattle.std.proofs.Common.{◌≡◌, ℕ, zero, suc, ◌+◌, ◌*◌, ◌<◌, ◌≤◌, Bool, true, false, eqb, List, [], ◌∷◌, ◌++◌, length, slice_get, Option, Some, None, Ok, Err, refl, sym, ap, ◌∙◌, subst, arith}
+use Rattle.std.proofs.Common.{◌≡◌, ℕ, suc, ◌+◌, ◌*◌, ◌<◌, ◌≤◌, true, false, List, [], ◌∷◌, ◌++◌, length, slice_get, Option, Some, None, Ok, refl, sym, ap, ◌∙◌, subst, arith}
 use Rattle.std.specs.Option.{option_map_or}
 use Rattle.c_tree.specs.declared.span.Span.{Span}
-use Rattle.c_tree.specs.declared.operator.UnOp.{UnOp}
 use Rattle.c_tree.specs.declared.operator.UnOp.TheVariants as un
 use Rattle.c_types.specs.Types.{Ty}
 use Rattle.c_types.specs.Typed.{TExprT, Typed, TKindT, NumberK, NullK, LiteralK, GlobalK, LocalK, UnaryK, BinaryK, AssignK, StepK, IndexK, MemberK, ArrowK, CastK, CallK, InK, OutK, WaitK, HaltK, CardK, TExprTs, NoX, MoreX}
@@ -15,24 +14,23 @@ use Rattle.obj_mem.specs.Stores.{local_object}
 use Rattle.obj_mem.specs.Worlds.{World, spend, happened}
 use Rattle.obj_mem.specs.Queries.{first_cell}
 use Rattle.c_meaning.specs.declared.end.End.TheVariants.{Halted, Stray}
-use Rattle.c_meaning.specs.Kinds.{type_of, span_of, is_structure}
-use Rattle.c_meaning.specs.Outcomes.{Val, Value, Place, Vals, Short, asked, then_values, in_front}
+use Rattle.c_meaning.specs.Kinds.{span_of}
+use Rattle.c_meaning.specs.Outcomes.{Val, Place, Vals, Short, asked, then_values, in_front}
 use Rattle.c_meaning.specs.Operators.{converted}
 use Rattle.c_meaning.specs.Expressions as src
 use Rattle.c_meaning.specs.Expressions.{evaluated, evaluated_all}
 use Rattle.mid_code.specs.Code.{LocalO, GlobalO, LiteralO, CardO, ConstO, NullO, NodesT}
 use Rattle.mid_code.specs.Meaning.{Res}
 use Rattle.mid_code.specs.States.{temporaries, to, spent}
-use Rattle.mid_lower.specs.Shape.{Shape, shape_in, params_of, result_of}
+use Rattle.mid_lower.specs.Shape.{Shape, shape_in, result_of}
 use Rattle.mid_lower.specs.Flags.{is_flag}
 use Rattle.mid_lower.specs.Parts as part
 use Rattle.mid_lower.specs.Counts.{sizes_all}
 use Rattle.mid_lower.specs.Expressions as low
 use Rattle.mid_lower.specs.Expressions.{low_args, spots}
 use Rattle.mid_lower.proofs.Grows.{Mid, Grows}
-use Rattle.mid_lower.proofs.Under.{Under}
 use Rattle.mid_lower.proofs.Fits.{Site}
-use Rattle.mid_lower.proofs.Following.{Side, mk, Goal, goal, Now, Way, way_v, SimV, scratch, paid, paid_now, less_now, fin_now, stopped, spare, at_free, above_free, eqb_less, M, M_grows, op}
+use Rattle.mid_lower.proofs.Following.{Side, mk, goal, Now, Way, way_v, SimV, scratch, paid, paid_now, less_now, fin_now, stopped, spare, at_free, above_free, eqb_less, M, M_grows, op}
 use Rattle.mid_lower.proofs.Trees.{Plain, PlainKind, PlainAll}
 use Rattle.mid_lower.proofs.Storing.{converts}
 use Rattle.mid_lower.proofs.Values.{local_front, Follow, uses}
@@ -121,7 +119,7 @@ module _ (S : Site) (bodies : BodiesFollow S) where
         uses S γ σ s0 n (n + 1) m w x (part.converted ty (is_flag e) n c1) h0 (above_free γ n le) (omega (arith, le)) sn (omega arith) e sc.0.1 (λ d v. asked Short (span_of e) v (converted ty d) (λ z. in_front z (evaluated_all S.s S.bound S.prev tys xs v))) (expr_sim e sc.0.0)
         (λ d wa xa flag ha ea below. converts S γ σ (span_of e) wa (s0 + 20) xa ty (is_flag e) n d c1 (spare γ (s0 + 28) (s0 + 20 + 8) wa xa (omega arith) ha) (above_free γ n le) ea flag (λ z. in_front z (evaluated_all S.s S.bound S.prev tys xs wa))
         (λ z xb hb eb rest. subst (λ r. SimV γ (R k) false r (R c1 (mk wa xb))) (sym (front_is z (evaluated_all S.s S.bound S.prev tys xs wa) go))
-            (args_sim xs sc.1 tys t first w0 y0 (s0 + 20) n2 (low.beyond h e m) c k wa xb hb (omega (arith, le)) (omega (arith, sn)) (λ vs v. go (z ∷ vs) v)
-            (λ vs wc xc hc holds below3. f (z ∷ vs) wc xc (spare γ (s0 + 20 + 20 * length vs) (s0 + 20 * suc (length vs)) wc xc (omega arith) hc)
-                (below3 n sn (omega arith) ∙ eb, holds)
-                (λ j a lt. below3 j a (omega (arith, lt)) ∙ rest j (eqb_less j n lt) ∙ below j a (omega (arith, lt)) (eqb_less j n lt))))))
+        (args_sim xs sc.1 tys t first w0 y0 (s0 + 20) n2 (low.beyond h e m) c k wa xb hb (omega (arith, le)) (omega (arith, sn)) (λ vs v. go (z ∷ vs) v)
+        (λ vs wc xc hc holds below3. f (z ∷ vs) wc xc (spare γ (s0 + 20 + 20 * length vs) (s0 + 20 * suc (length vs)) wc xc (omega arith) hc)
+        (below3 n sn (omega arith) ∙ eb, holds)
+        (λ j a lt. below3 j a (omega (arith, lt)) ∙ rest j (eqb_less j n lt) ∙ below j a (omega (arith, lt)) (eqb_less j n lt))))))

@@ -65,7 +65,7 @@ last_is h x y q t n m = whole (seq (test_is h y q t (c.second x n) (c.beyond h x
 
 both_is : {first last : l.Lists} {f g : c.Low} (h : Shape) (op : BinOp) (x y : TExprT) → Same first f → Same last g → (t n m : ℕ)
     → Is (l.binary_by None h op x y first last t n m)
-         (λ d. c.value h x f n (n + 1) m (c.value h y g (c.second x n) (c.second x n + 1) (c.beyond h x m) (operated h op (type_of x) (type_of y) t n (c.second x n) d)))
+    (λ d. c.value h x f n (n + 1) m (c.value h y g (c.second x n) (c.second x n + 1) (c.beyond h x m) (operated h op (type_of x) (type_of y) t n (c.second x n) d)))
 both_is h op x y p q t n m =
     seq (seq (value_is h x p n (n + 1) m) (value_is h y q (c.second x n) (c.second x n + 1) (c.beyond h x m))) (operated_is h op (type_of x) (type_of y) t n (c.second x n))
 

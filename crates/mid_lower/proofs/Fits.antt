@@ -1,5 +1,5 @@
 -- What is known of the code of a program, and what is done with one less of a bound.
-use Rattle.std.proofs.Common.{◌≡◌, ℕ, ◌+◌, Bool, false, List, [], ◌∷◌, ◌++◌, length, sum, get_or, slice_get, Some}
+use Rattle.std.proofs.Common.{◌≡◌, ℕ, ◌+◌, false, List, [], ◌∷◌, ◌++◌, length, sum, get_or, slice_get, Some}
 use Rattle.c_types.specs.Types.{Ty}
 use Rattle.c_types.specs.Programs.{TFunctionT}
 use Rattle.c_meaning.specs.Kinds.{is_structure}

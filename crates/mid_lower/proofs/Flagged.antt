@@ -1,5 +1,5 @@
 -- What is told to be a flag is one: its value stays as it is converted to bool.
-use Rattle.std.proofs.Common.{◌≡◌, ◌≤◌, ℕ, zero, suc, Bool, true, false, not, ◌==◌, ◌||◌, List, Option, Some, None, Result, Ok, Err, refl, sym, ap, ◌∙◌, subst, arith}
+use Rattle.std.proofs.Common.{◌≡◌, ◌≤◌, ℕ, zero, suc, Bool, true, false, not, ◌==◌, List, Option, Some, None, Ok, Err, refl, subst, arith}
 use Rattle.std.proofs.lemmas.Bool.{false≢true, leb-true}
 use Rattle.kit_base.specs.Word.{bool_word, below}
 use Rattle.c_tree.specs.declared.span.Span.{Span}
@@ -12,10 +12,10 @@ use Rattle.c_types.specs.Typed.{TExprT, Typed, TKindT, NumberK, NullK, LiteralK,
 use Rattle.c_exprs.specs.Nodes.{is_place}
 use Rattle.obj_mem.specs.Objects.{ObjectT}
 use Rattle.obj_mem.specs.declared.cell.Cell.{Cell}
-use Rattle.obj_mem.specs.declared.cell.Cell.TheVariants.{Unwritten, Num, Ptr, Null}
+use Rattle.obj_mem.specs.declared.cell.Cell.TheVariants.{Num}
 use Rattle.obj_mem.specs.declared.refusal.Refusal.TheVariants.{Strays, Faults}
 use Rattle.obj_mem.specs.Worlds.{World, spend}
-use Rattle.obj_mem.specs.Queries.{Answer, then_ask, word_of, truth, equal_pointers, offsets}
+use Rattle.obj_mem.specs.Queries.{Answer, then_ask, word_of, equal_pointers, offsets}
 use Rattle.c_meaning.specs.Kinds.{type_of, span_of, decayed, pointed, is_pointer}
 use Rattle.c_meaning.specs.Outcomes.{Val, Value, Place, NoValue, Stops, Went, Through, CutOff, Before, asked, then_value, then_place, then_went, either_way}
 use Rattle.c_meaning.specs.Setting.{Setting, words}
@@ -24,7 +24,6 @@ use Rattle.c_meaning.specs.Cells.{stored}
 use Rattle.c_meaning.specs.Expressions as src
 use Rattle.c_meaning.specs.Expressions.{evaluated, value_of}
 use Rattle.mid_lower.specs.Flags.{is_bool, is_not, is_comparison, is_flag, is_flag_kind}
-use Rattle.mid_lower.proofs.Words.{is_word}
 
 -- a cell that stays as it is converted
 abbrev pub IsFlag : Cell → Type 0

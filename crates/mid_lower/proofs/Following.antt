@@ -1,5 +1,5 @@
 -- What it is for mid code to follow a tree, and the steps of following.
-use Rattle.std.proofs.Common.{◌≡◌, ℕ, suc, ◌+◌, ◌*◌, ◌<◌, ◌≤◌, Bool, true, false, cond, eqb, List, [], ◌∷◌, ◌++◌, length, Option, Ok, Err, refl, sym, ap, ◌∙◌, subst, arith}
+use Rattle.std.proofs.Common.{◌≡◌, ℕ, ◌+◌, ◌*◌, ◌<◌, ◌≤◌, Bool, true, false, cond, eqb, List, [], ◌++◌, length, Option, Ok, Err, refl, sym, ap, ◌∙◌, subst, arith}
 use Rattle.std.proofs.lemmas.Bool.{eqb-true, eq-eqb, false≢true}
 use Rattle.kit_base.specs.declared.event.Event.{Event}
 use Rattle.c_tree.specs.declared.span.Span.{Span}
@@ -15,10 +15,10 @@ use Rattle.c_meaning.specs.Runs.{ending}
 use Rattle.c_meaning.specs.Outcomes.{Val, Value, Place, NoValue, Stops, asked, then_value, then_place}
 use Rattle.mid_code.specs.Code.{OpT, NodesT, Do}
 use Rattle.mid_code.specs.Meaning.{Res, Over, did, does, Lang}
-use Rattle.mid_code.specs.States.{State, temporaries, put, to, spent, over_worlds}
+use Rattle.mid_code.specs.States.{temporaries, put, to, spent, over_worlds}
 use Rattle.mid_code.specs.Passing.{state_of, Prefix}
-use Rattle.mid_lower.proofs.Grows.{Mid, Grows, append_nil, all_of, more, node_grows}
-use Rattle.mid_lower.proofs.Under.{Under, Alike, same}
+use Rattle.mid_lower.proofs.Grows.{Mid, Grows, append_nil, more, node_grows}
+use Rattle.mid_lower.proofs.Under.{Under, Alike}
 use Rattle.mid_lower.proofs.Fits.{Site}
 
 -- what a state of mid code has beside the world of the tree: `extra` are the objects of the locals behind the function's own

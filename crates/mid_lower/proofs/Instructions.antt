@@ -1,39 +1,37 @@
 -- Operators, reading, converting and storing: mid code follows them.
-use Rattle.std.proofs.Common.{◌≡◌, ℕ, suc, ◌+◌, ◌*◌, ◌<◌, ◌≤◌, ◌%◌, ◌^◌, Bool, true, false, not, ◌==◌, cond, eqb, List, Option, Some, None, Result, Ok, Err, refl, sym, ap, ◌∙◌, subst, arith, if◌then◌else◌}
+use Rattle.std.proofs.Common.{◌≡◌, ℕ, ◌+◌, Bool, true, false, not, ◌==◌, eqb, List, Option, Some, None, Ok, Err, refl, sym, ap, ◌∙◌, subst, arith, if◌then◌else◌}
 use Rattle.std.proofs.lemmas.Bool.{eqb-true}
-use Rattle.kit_base.specs.Word.{mul, negated, bool_word}
+use Rattle.kit_base.specs.Word.{mul, negated}
 use Rattle.c_tree.specs.declared.span.Span.{Span}
 use Rattle.c_tree.specs.declared.operator.BinOp.{BinOp}
 use Rattle.c_tree.specs.declared.operator.BinOp.TheVariants as bin
-use Rattle.c_types.specs.Types.{Ty, VoidY, IntY, BoolY, EnumY, StructY, UnionY, PointerY, ArrayY}
-use Rattle.c_meaning.specs.Kinds.{decayed, pointed, is_pointer, is_structure}
-use Rattle.v32_isa.specs.declared.instruction.One.{One}
-use Rattle.v32_isa.specs.declared.instruction.One.TheVariants.{CIB, ISGN}
+use Rattle.c_types.specs.Types.{Ty}
+use Rattle.c_meaning.specs.Kinds.{decayed, pointed, is_pointer}
+use Rattle.v32_isa.specs.declared.instruction.One.TheVariants.{ISGN}
 use Rattle.v32_isa.specs.declared.instruction.Two.{Two}
 use Rattle.v32_isa.specs.declared.instruction.Two.TheVariants.{IEQ, INE, IGT, IGE, ILT, ILE, AND, OR, XOR, SHL, IADD, ISUB, IMUL, IDIV, IMOD}
 use Rattle.obj_mem.specs.Objects.{ObjectT}
 use Rattle.obj_mem.specs.declared.cell.Cell.{Cell}
 use Rattle.obj_mem.specs.declared.cell.Cell.TheVariants.{Unwritten, Num, Ptr, Null}
 use Rattle.obj_mem.specs.declared.refusal.Refusal.TheVariants.{Strays, Faults}
-use Rattle.obj_mem.specs.Stores.{with_objects}
-use Rattle.obj_mem.specs.Worlds.{World, on_store, spend}
-use Rattle.obj_mem.specs.Queries.{Answer, then_ask, answer_if, word_of, word_or_fault, truth, read, write, step, equal_pointers, offsets, apart}
+use Rattle.obj_mem.specs.Worlds.{World}
+use Rattle.obj_mem.specs.Queries.{Answer, then_ask, word_of, truth, step, equal_pointers, offsets, apart}
 use Rattle.c_meaning.specs.declared.end.End.{End}
-use Rattle.c_meaning.specs.declared.end.End.TheVariants.{Fault, Stray}
-use Rattle.c_meaning.specs.Outcomes.{Went, Through, CutOff, asked, then_went}
-use Rattle.c_meaning.specs.Setting.{Setting, words}
-use Rattle.c_meaning.specs.Operators.{is_of, read_as, converted, cell_binary, word_binary, stepped, stepped_back, distance, ordered, pointer_operated, operated_on, operated}
-use Rattle.mid_code.specs.Code.{OpT, ConstO, OneO, TwoO, StepO, ApartO, PtrTestO, LoadO, StoreO, NodesT, Do}
-use Rattle.mid_code.specs.Meaning.{Res, did}
+use Rattle.c_meaning.specs.declared.end.End.TheVariants.{Stray}
+use Rattle.c_meaning.specs.Outcomes.{asked}
+use Rattle.c_meaning.specs.Setting.{words}
+use Rattle.c_meaning.specs.Operators.{cell_binary, word_binary, stepped, stepped_back, distance, ordered, pointer_operated, operated_on, operated}
+use Rattle.mid_code.specs.Code.{ConstO, OneO, TwoO, StepO, ApartO, PtrTestO, NodesT, Do}
+use Rattle.mid_code.specs.Meaning.{Res}
 use Rattle.mid_code.specs.States.{temporaries, to, to_objects, spent, one_word, two_words, pointers_tested}
 use Rattle.mid_code.specs.States as mid
 use Rattle.mid_lower.specs.Shape.{Shape, shape_in}
 use Rattle.mid_lower.specs.Parts as low
 use Rattle.mid_lower.proofs.Grows.{Mid, Grows}
-use Rattle.mid_lower.proofs.Under.{Under, Alike, same, then_both, read_both, WriteBoth, write_both, equal_both, offsets_both}
-use Rattle.mid_lower.proofs.Words.{step_once, step_words, negated_once, in_words, same_words, div_words, mod_words}
+use Rattle.mid_lower.proofs.Under.{Under, Alike, same, then_both, equal_both, offsets_both}
+use Rattle.mid_lower.proofs.Words.{step_words, same_words, div_words, mod_words}
 use Rattle.mid_lower.proofs.Fits.{Site}
-use Rattle.mid_lower.proofs.Following.{Side, mk, Goal, Now, Way, Free, Rest, spare, paid, paid_now, fin_now, stopped, L, M, M_grows, op, sets}
+use Rattle.mid_lower.proofs.Following.{Side, mk, Goal, Now, Way, Free, Rest, spare, M, M_grows, op, sets}
 
 -- one question after another
 pub asked_then : {A B R : Type 0} (stop : End → World → R) (span : Span) (w : World) (q : Answer A) (r : A → Answer B) (go : B → R) → asked stop span w (then_ask q r) go ≡ asked stop span w q (λ a. asked stop span w (r a) go)
@@ -131,8 +129,8 @@ module _ (S : Site) where
         word γ σ span w x (low.with_word bin.Shr t a b c) vb (λ j. then_ask (word_binary bin.Shr i j) (λ z. Ok (Num z))) go (λ j ej.
         sets S σ.T γ (s0 + 8) w x b (Num (negated j)) (OneO ISGN b b) (Do (TwoO SHL t a b) c) (spare γ (s0 + 32) (s0 + 8 + 8) w x (omega arith) h0) k.free_b (ap (λ u. to temporaries b (one_word ISGN u) (spent 8 (mk w x))) (eb ∙ ej)) (asked σ.stop span w (cell_binary bin.Shr (Num i) (Num j)) go) (λ y hy at rest.
         op S γ σ s0 span w y t (cell_binary bin.Shr (Num i) (Num j)) (two_words SHL (y.temps a) (y.temps b)) (TwoO SHL t a b) c hy k.free_t
-            (same (cell_binary bin.Shr (Num i) (Num j)) (two_words SHL (y.temps a) (y.temps b)) (two_eq SHL (Num i) (Num (negated j)) (y.temps a) (y.temps b) (rest a k.a_b ∙ ea ∙ ei) at)) refl go
-            (λ v u hu at3 rest3. f v u hu at3 (λ l nt nb. rest3 l nt ∙ rest l nb)))))
+        (same (cell_binary bin.Shr (Num i) (Num j)) (two_words SHL (y.temps a) (y.temps b)) (two_eq SHL (Num i) (Num (negated j)) (y.temps a) (y.temps b) (rest a k.a_b ∙ ea ∙ ei) at)) refl go
+        (λ v u hu at3 rest3. f v u hu at3 (λ l nt nb. rest3 l nt ∙ rest l nb)))))
 
     -- ---- pointers
 
@@ -170,12 +168,12 @@ module _ (S : Site) where
         let numbers : Answer Cell = then_ask (apart w.store.objects va vb) (λ i. Ok (Num i)) in
         subst (λ r. σ.T r (R (low.distant size t a b c) (mk w x))) (sym (split (apart w.store.objects va vb)))
         (op S γ σ (s0 + 16) span w x t numbers (mid.distance x.objs (x.temps a) (x.temps b)) (ApartO t a b) (Do (ConstO b size) (Do (TwoO IDIV t t b) c)) (spare γ (s0 + 32) (s0 + 16 + 8) w x (omega arith) h0) k.free_t
-            (from_eq numbers (mid.distance x.objs va vb) (mid.distance x.objs (x.temps a) (x.temps b)) (ap (λ u. mid.distance x.objs u (x.temps b)) ea ∙ ap (λ u. mid.distance x.objs va u) eb) (then_both (apart w.store.objects va vb) (apart x.objs va vb) _ _ (apart_both w.store.objects x.objs va vb h0.stays.under) (λ i. refl))) refl (λ z. asked σ.stop span w (cell_binary bin.Div z (Num size)) go)
-            (λ z y hy at rest.
+        (from_eq numbers (mid.distance x.objs va vb) (mid.distance x.objs (x.temps a) (x.temps b)) (ap (λ u. mid.distance x.objs u (x.temps b)) ea ∙ ap (λ u. mid.distance x.objs va u) eb) (then_both (apart w.store.objects va vb) (apart x.objs va vb) _ _ (apart_both w.store.objects x.objs va vb h0.stays.under) (λ i. refl))) refl (λ z. asked σ.stop span w (cell_binary bin.Div z (Num size)) go)
+        (λ z y hy at rest.
         sets S σ.T γ (s0 + 8) w y b (Num size) (ConstO b size) (Do (TwoO IDIV t t b) c) (spare γ (s0 + 16) (s0 + 8 + 8) w y (omega arith) hy) k.free_b refl (asked σ.stop span w (cell_binary bin.Div z (Num size)) go) (λ u hu at2 rest2.
         op S γ σ s0 span w u t (cell_binary bin.Div z (Num size)) (two_words IDIV (u.temps t) (u.temps b)) (TwoO IDIV t t b) c hu k.free_t
-            (same (cell_binary bin.Div z (Num size)) (two_words IDIV (u.temps t) (u.temps b)) (two_eq IDIV z (Num size) (u.temps t) (u.temps b) (rest2 t k.t_b ∙ at) at2 ∙ div_words z (Num size))) refl go
-            (λ v e he at4 rest4. f v e he at4 (λ l nt nb. rest4 l nt ∙ rest2 l nb ∙ rest l nt)))))
+        (same (cell_binary bin.Div z (Num size)) (two_words IDIV (u.temps t) (u.temps b)) (two_eq IDIV z (Num size) (u.temps t) (u.temps b) (rest2 t k.t_b ∙ at) at2 ∙ div_words z (Num size))) refl go
+        (λ v e he at4 rest4. f v e he at4 (λ l nt nb. rest4 l nt ∙ rest2 l nb ∙ rest l nt)))))
       where
         split : (q : Answer ℕ) → asked σ.stop span w (then_ask q (λ i. then_ask (word_binary bin.Div i size) (λ z. Ok (Num z)))) go ≡ asked σ.stop span w (then_ask q (λ i. Ok (Num i))) (λ z. asked σ.stop span w (cell_binary bin.Div z (Num size)) go)
         split (Ok i) = refl

@@ -188,7 +188,7 @@ function_is_mid p known f is w nodes many objects =
     let summed = sum_by-append (λ n. n) f.locals extra in
     let total = objects_sum p.layouts (wholes p.layouts) f.params f.locals is.objects in
     let good = alone (both (made_kept {ls = []} s f.made (objects_there s z h link 0 f.made is.rising)) (both (all_received_kept s h f.params 0 first_param (omega (arith, m, enough)) (omega arith))
-        (block_kept (alone (stmts_kept s z h link f.gives f.body false false is.body w (omega (arith, nodes)) (false ∷ []) (first_of f.params) (length f.locals) 0 (ToEnd 0) (omega arith) (omega (arith, m)) (omega arith) (omega arith)))))) in
+    (block_kept (alone (stmts_kept s z h link f.gives f.body false false is.body w (omega (arith, nodes)) (false ∷ []) (first_of f.params) (length f.locals) 0 (ToEnd 0) (omega arith) (omega (arith, m)) (omega arith) (omega arith)))))) in
     record {
       nodes = good.nodes;
       names = good.names;
@@ -204,9 +204,10 @@ functions_are_mid : (p : ProgramT) → Known p → (fs : List TFunctionT) → Ar
     → AllOf (mid.IsFunction IsTemporary (lowered p)) (map (low_function (shape p)) fs)
 functions_are_mid p known [] is w nodes many objects = tt
 functions_are_mid p known (f ∷ fs) is w nodes many objects =
-    let e = sum_by-cons function_nodes f fs in
-    (function_is_mid p known f is.0 w.0 (omega (arith, e, nodes)) (many 0 f refl) (objects 0 f refl),
-    functions_are_mid p known fs is.1 w.1 (omega (arith, e, nodes)) (λ k. many (suc k)) (λ k. objects (suc k)))
+    let e = sum_by-cons function_nodes f fs in (
+      function_is_mid p known f is.0 w.0 (omega (arith, e, nodes)) (many 0 f refl) (objects 0 f refl),
+      functions_are_mid p known fs is.1 w.1 (omega (arith, e, nodes)) (λ k. many (suc k)) (λ k. objects (suc k)),
+    )
 
 -- ---- main
 

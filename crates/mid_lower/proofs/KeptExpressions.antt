@@ -213,6 +213,7 @@ passes s z h link f t n xs ty typed = go (slice_get z.functions f) refl typed
   where
     gives : (g : TFunctionT) → slice_get z.functions f ≡ Some g → result_of h f ≡ g.gives
     gives g e = ap (λ fs. option_map_or (λ g. g.gives) (slice_get fs f) VoidY) link.functions ∙ ap (λ o. option_map_or (λ g. g.gives) o VoidY) e
+
     go : (o : Option TFunctionT) → slice_get z.functions f ≡ o → Calls o xs ty → parameter_count s.code f ≡ Some (length (passed (result_of h f) t (spots xs n)))
     go None e is = absurd is
     go (Some g) e is =

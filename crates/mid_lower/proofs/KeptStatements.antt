@@ -153,7 +153,7 @@ match_good : (s : Site) (ls : List Bool) (t i d : ℕ) (arms : TArmTs) → ArmsI
 match_good s ls t i d NoB w lt few small = alone (k_const t d lt small)
 match_good s ls t i d (MoreB (CaseB label) rest) w lt few small =
     let held = both (k_const other label (fixed s 5 (omega arith)) w.0) (both (k_two IEQ other t other (fixed s 5 (omega arith)) lt (fixed s 5 (omega arith)))
-        (choose_kept {s = s} {ls = false ∷ ls} other (fixed s 5 (omega arith)) (alone (both (k_const t i lt (omega arith)) (leave_kept {s = s} {ls = false ∷ ls} 0 (omega arith)))) (good_stop s (false ∷ ls)))) in
+    (choose_kept {s = s} {ls = false ∷ ls} other (fixed s 5 (omega arith)) (alone (both (k_const t i lt (omega arith)) (leave_kept {s = s} {ls = false ∷ ls} 0 (omega arith)))) (good_stop s (false ∷ ls)))) in
     held.keep _ (match_good s ls t (suc i) d rest w.1 lt (omega arith) small)
 match_good s ls t i d (MoreB DefaultB rest) w lt few small = match_good s ls t (suc i) d rest w.1 lt (omega arith) small
 match_good s ls t i d (MoreB (StmtB a) rest) w lt few small = match_good s ls t i d rest w.1 lt (omega arith) small

@@ -3,6 +3,7 @@ mod Under
 mod Words
 mod Flagged
 mod Trees
+mod Chosen
 mod Fits
 mod Following
 mod Instructions
@@ -14,19 +15,40 @@ mod OperatorForms
 mod PlaceForms
 mod EveryExpression
 mod CellLoops
-pub mod Wrapped
+mod Filling
+mod Outcomes
+mod Locals
+mod LoopForms
+mod SwitchForms
+mod EveryStatement
+mod EveryBound
+mod RunsKept
+pub mod Operands
+pub mod Simple
+pub mod SoundExpressions
+pub mod SoundInitialisers
+pub mod GlobalsSimple
+pub mod SoundPrograms
+pub mod SoundRuns
 pub mod Onto
 pub mod PartsListed
 pub mod ExpressionsListed
 pub mod InitialisersListed
 pub mod StatementsListed
 pub mod FunctionsListed
+pub mod Counted
+pub mod ProgramsListed
 pub mod Kept
 pub mod KeptExpressions
 pub mod KeptStatements
-pub mod Joins
-pub mod Counted
 pub mod InRange
 pub mod StartKept
 pub mod IsMidCode
-pub mod ProgramsListed
+pub mod Finished
+pub mod LocalWords
+pub mod Wrapped
+pub mod Joins
+pub mod Forms
+pub mod StatementForms
+pub mod Viewed
+pub mod Arms

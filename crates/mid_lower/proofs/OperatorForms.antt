@@ -1,7 +1,6 @@
 -- Numbers, names, and operators on values: mid code follows them.
-use Rattle.std.proofs.Common.{◌≡◌, ℕ, zero, suc, ◌+◌, ◌*◌, ◌<◌, ◌≤◌, Bool, true, false, not, ◌==◌, cond, eqb, List, [], ◌∷◌, ◌++◌, length, Option, Some, None, Ok, Err, refl, sym, ap, ◌∙◌, subst, arith}
+use Rattle.std.proofs.Common.{◌≡◌, ℕ, ◌+◌, ◌<◌, ◌≤◌, Bool, true, false, not, ◌==◌, Ok, Err, refl, sym, ap, ◌∙◌, subst, arith}
 use Rattle.std.proofs.lemmas.Bool.{false≢true}
-use Rattle.kit_base.specs.Word.{bool_word}
 use Rattle.c_tree.specs.declared.span.Span.{Span}
 use Rattle.c_tree.specs.declared.operator.UnOp.{UnOp}
 use Rattle.c_tree.specs.declared.operator.UnOp.TheVariants as un
@@ -18,7 +17,6 @@ use Rattle.obj_mem.specs.declared.cell.Cell.TheVariants.{Unwritten, Num, Ptr, Nu
 use Rattle.obj_mem.specs.declared.refusal.Refusal.TheVariants.{Strays, Faults}
 use Rattle.obj_mem.specs.Worlds.{World, spend}
 use Rattle.obj_mem.specs.Queries.{Answer, then_ask, word_of, truth, equal_pointers}
-use Rattle.c_meaning.specs.declared.end.End.TheVariants.{Stray}
 use Rattle.c_meaning.specs.Kinds.{type_of, span_of, decayed, is_structure}
 use Rattle.c_meaning.specs.Outcomes.{Val, Value, Place, NoValue, Stops, asked, either_way}
 use Rattle.c_meaning.specs.Operators.{is_true, cell_unary, operated}
@@ -30,13 +28,12 @@ use Rattle.mid_code.specs.States.{temporaries, to, spent, one_word, pointers_tes
 use Rattle.mid_lower.specs.Shape.{Shape, shape_in}
 use Rattle.mid_lower.specs.Flags.{tests_flag}
 use Rattle.mid_lower.specs.Parts as part
-use Rattle.mid_lower.specs.Counts.{value_temps}
 use Rattle.mid_lower.specs.Expressions as low
 use Rattle.mid_lower.proofs.Grows.{Mid, Grows, then_grows}
 use Rattle.mid_lower.proofs.Under.{Under, same, then_both, equal_both}
 use Rattle.mid_lower.proofs.Flagged.{IsFlag}
 use Rattle.mid_lower.proofs.Fits.{Site}
-use Rattle.mid_lower.proofs.Following.{Side, mk, Goal, goal, Now, SimV, Way, way_v, scratch, paid, paid_now, less_now, spare, bind_place, kept_through, at_free, above_free, low_free, eqb_less, eqb_more, L, M, M_grows, op, sets}
+use Rattle.mid_lower.proofs.Following.{Side, mk, Goal, goal, Now, SimV, way_v, scratch, paid, paid_now, less_now, spare, bind_place, kept_through, at_free, above_free, low_free, eqb_less, eqb_more, L, M, M_grows, op, sets}
 use Rattle.mid_lower.proofs.Instructions.{Three, operates, word, from_eq, tested_eq}
 use Rattle.mid_lower.proofs.Values.{Follow, uses}
 use Rattle.mid_lower.proofs.Choices.{tests, chooses}
@@ -97,7 +94,7 @@ module _ (S : Site) where
       let γ = goal false t n w y in
       uses S γ (way_v γ (R c) false) 36 t n m (tick w) y (Do (OneO i t t) c) (begin_value t n w y u) (at_free γ) (omega arith) st tn e ns (λ v wa. asked Stops span wa (cell_unary o v) (λ z. Value z wa)) sim
       (λ v wa xa flag ha at below. op S γ (way_v γ (R c) false) 56 span wa xa t (cell_unary o v) (one_word i (xa.temps t)) (OneO i t t) c ha (at_free γ)
-          (same (cell_unary o v) (one_word i (xa.temps t)) (ap (λ z. one_word i z) at ∙ same_op v)) refl (λ z. Value z wa) (λ z y2 hy at2 rest. to_value t n w y c 56 z wa y2 hy at2))
+      (same (cell_unary o v) (one_word i (xa.temps t)) (ap (λ z. one_word i z) at ∙ same_op v)) refl (λ z. Value z wa) (λ z y2 hy at2 rest. to_value t n w y c 56 z wa y2 hy at2))
 
   not_as : (t n : ℕ) (w0 : World) (x0 : Side) (span : Span) (ty : Ty) (c : NodesT ℕ) (w : World) (x : Side) (v : Cell) → scratch ≤ t → Now (goal false t n w0 x0) 64 w x → x.temps t ≡ v → SimV (goal false t n w0 x0) (R c) false (asked Stops span w (is_true w.store.objects ty v) (λ b. either_way b w (λ u. Value (truth false) u) (λ u. Value (truth true) u))) (R (part.negated_as ty t c) (mk w x))
   not_as t n w0 x0 span ty c w x v st h0 e = by ty
@@ -107,7 +104,7 @@ module _ (S : Site) where
           let γ = goal false t n w0 x0 in
           word S γ (way_v γ (R c) false) span w x (Do (OneO BNOT t t) c) v (λ i. Ok (not (i == 0))) (λ b. either_way b w (λ u. Value (truth false) u) (λ u. Value (truth true) u))
           (λ i ei. subst (λ r. SimV γ (R c) false r (R (Do (OneO BNOT t t) c) (mk w x))) (sym (negated_way (i == 0) w))
-              (sets S (SimV γ (R c) false) γ 56 w x t (truth (i == 0)) (OneO BNOT t t) c h0 (at_free γ) (ap (λ z. to temporaries t (one_word BNOT z) (spent 8 (mk w x))) (e ∙ ei)) (Value (truth (i == 0)) w) (λ y hy at rest. to_value t n w0 x0 c 56 (truth (i == 0)) w y hy at)))
+          (sets S (SimV γ (R c) false) γ 56 w x t (truth (i == 0)) (OneO BNOT t t) c h0 (at_free γ) (ap (λ z. to temporaries t (one_word BNOT z) (spent 8 (mk w x))) (e ∙ ei)) (Value (truth (i == 0)) w) (λ y hy at rest. to_value t n w0 x0 c 56 (truth (i == 0)) w y hy at)))
 
       split : (q : Answer Bool) → asked Stops span w (then_ask q (λ b. Ok (not b))) (λ b. either_way b w (λ u. Value (truth false) u) (λ u. Value (truth true) u)) ≡ asked Stops span w (then_ask q (λ b. Ok (truth b))) (λ z. Value z w)
       split (Ok b) = negated_way b w
@@ -121,8 +118,8 @@ module _ (S : Site) where
           subst (λ r. SimV γ (R c) false r (R (part.negated_as (PointerY of) t c) (mk w x))) (sym (split (equal_pointers w.store.objects v Null)))
           (sets S (SimV γ (R c) false) γ 56 w x part.other Null (NullO part.other) (Do (PtrTestO IEQ t t part.other) c) h0 (low_free γ part.other (omega arith)) refl (asked Stops span w q (λ z. Value z w)) (λ y hy at rest.
           op S γ (way_v γ (R c) false) 48 span w y t q (pointers_tested IEQ y.objs (y.temps t) (y.temps part.other)) (PtrTestO IEQ t t part.other) c hy (at_free γ)
-              (from_eq q (pointers_tested IEQ y.objs v Null) (pointers_tested IEQ y.objs (y.temps t) (y.temps part.other)) (tested_eq IEQ y.objs v Null (y.temps t) (y.temps part.other) (rest t (eqb_more t part.other (omega (arith, st))) ∙ e) at) (then_both (equal_pointers w.store.objects v Null) (equal_pointers y.objs v Null) _ _ (equal_both w.store.objects y.objs v Null hy.stays.under) (λ z. refl))) refl
-              (λ z. Value z w) (λ z u hu at2 rest2. to_value t n w0 x0 c 48 z w u hu at2)))
+          (from_eq q (pointers_tested IEQ y.objs v Null) (pointers_tested IEQ y.objs (y.temps t) (y.temps part.other)) (tested_eq IEQ y.objs v Null (y.temps t) (y.temps part.other) (rest t (eqb_more t part.other (omega (arith, st))) ∙ e) at) (then_both (equal_pointers w.store.objects v Null) (equal_pointers y.objs v Null) _ _ (equal_both w.store.objects y.objs v Null hy.stays.under) (λ z. refl))) refl
+          (λ z. Value z w) (λ z u hu at2 rest2. to_value t n w0 x0 c 48 z w u hu at2)))
       by VoidY = by_word
       by IntY = by_word
       by BoolY = by_word
@@ -178,8 +175,8 @@ module _ (S : Site) where
       uses S γ σ 36 n (n + 1) m (tick w) y (low.value h b (low.low h b) n2 (n2 + 1) m2 c1) (begin_value t n w y u) (above_free γ n (omega arith)) (omega arith) (omega (arith, st, tn)) (omega arith) a nsa
       (λ v wa. src.with_value Stops S.s S.bound b (evaluated S.s S.bound S.prev b wa) (λ d wb. asked Stops span wb (operated S.s o (type_of a) (type_of b) wb.store.objects v d) (λ z. Value z wb))) sima
       (λ v wa xa flag ha at below.
-          uses S γ σ 64 n2 (n2 + 1) m2 wa xa c1 ha (above_free γ n2 (omega arith)) (omega arith) (omega (arith, st, tn)) (omega arith) b nsb (λ d wb. asked Stops span wb (operated S.s o (type_of a) (type_of b) wb.store.objects v d) (λ z. Value z wb)) simb
-          (λ d wb xb flag2 hb at2 below2. operates S γ σ span wb 60 xb o (type_of a) (type_of b) t n n2 v d c hb (three false t n n2 w y tn (omega arith)) (below2 n (omega (arith, st, tn)) (omega arith) (eqb_less n n2 (omega arith)) ∙ at) at2 (λ z. Value z wb) (λ z xc hc at3 rest. to_value t n w y c 60 z wb xc hc at3)))
+      uses S γ σ 64 n2 (n2 + 1) m2 wa xa c1 ha (above_free γ n2 (omega arith)) (omega arith) (omega (arith, st, tn)) (omega arith) b nsb (λ d wb. asked Stops span wb (operated S.s o (type_of a) (type_of b) wb.store.objects v d) (λ z. Value z wb)) simb
+      (λ d wb xb flag2 hb at2 below2. operates S γ σ span wb 60 xb o (type_of a) (type_of b) t n n2 v d c hb (three false t n n2 w y tn (omega arith)) (below2 n (omega (arith, st, tn)) (omega arith) (eqb_less n n2 (omega arith)) ∙ at) at2 (λ z. Value z wb) (λ z xc hc at3 rest. to_value t n w y c 60 z wb xc hc at3)))
 
   abbrev k_next : Mid → Res Mid
   k_next t = Next t
@@ -205,7 +202,7 @@ module _ (S : Site) where
       let last : NodesT ℕ = part.as_flag (tests_flag b) t Stop in
       through γ c (src.truth_of S.s S.bound b (evaluated S.s S.bound S.prev b w)) (R (low.test h b (low.low h b) t n2 m2 last) (mk w x))
       (tests S γ (way_v γ k_next false) 12 t n2 m2 w x last h0 (at_free γ) lt st (omega (arith, tn, lt)) b ns (λ u. Value (truth true) u) (λ u. Value (truth false) u) sim
-          (λ i wa xa flag ha at below. subst (λ r. SimV γ k_next false r (R last (mk wa xa))) (sym (truth_way (not (i == 0)) wa)) (as_bool (tests_flag b) t n w0 y0 i wa xa flag ha at)))
+      (λ i wa xa flag ha at below. subst (λ r. SimV γ k_next false r (R last (mk wa xa))) (sym (truth_way (not (i == 0)) wa)) (as_bool (tests_flag b) t n w0 y0 i wa xa flag ha at)))
 
   -- where the first operand decides
   decided : (t n : ℕ) (w0 : World) (y0 : Side) (i : ℕ) (w : World) (x : Side) (c : NodesT ℕ) → Now (goal false t n w0 y0) 8 w x → SimV (goal false t n w0 y0) (R c) false (Value (Num i) w) (then_next (R (Do (ConstO t i) Stop) (mk w x)) (R c))
@@ -220,15 +217,15 @@ module _ (S : Site) where
       let last : NodesT ℕ = low.test h b (low.low h b) t (low.second a n) (low.beyond h a m) (part.as_flag (tests_flag b) t Stop) in
       tests S γ (way_v γ (R c) false) 36 t n m (tick w) y (Choose t last (Do (ConstO t 0) Stop) c) (begin_value t n w y u) (at_free γ) (omega arith) st tn a nsa (λ v. src.truth_of S.s S.bound b (evaluated S.s S.bound S.prev b v)) (λ v. Value (truth false) v) sima
       (λ i wa xa flag ha at below. chooses S (SimV γ (R c) false) wa xa t i last (Do (ConstO t 0) Stop) c (λ v. src.truth_of S.s S.bound b (evaluated S.s S.bound S.prev b v)) (λ v. Value (truth false) v) at
-          (second_sim t n w y b simb nsb (low.second a n) (low.beyond h a m) wa (paid xa) c (omega arith) st tn (spare γ 40 12 wa (paid xa) (omega arith) (paid_now γ 40 wa xa ha)))
-          (decided t n w y 0 wa (paid xa) c (spare γ 40 8 wa (paid xa) (omega arith) (paid_now γ 40 wa xa ha))))
+      (second_sim t n w y b simb nsb (low.second a n) (low.beyond h a m) wa (paid xa) c (omega arith) st tn (spare γ 40 12 wa (paid xa) (omega arith) (paid_now γ 40 wa xa ha)))
+      (decided t n w y 0 wa (paid xa) c (spare γ 40 8 wa (paid xa) (omega arith) (paid_now γ 40 wa xa ha))))
   binary_sim bin.OrElse a b sima simb nsa nsb span t n m c w y st tn u =
       let γ = goal false t n w y in
       let last : NodesT ℕ = low.test h b (low.low h b) t (low.second a n) (low.beyond h a m) (part.as_flag (tests_flag b) t Stop) in
       tests S γ (way_v γ (R c) false) 36 t n m (tick w) y (Choose t (Do (ConstO t 1) Stop) last c) (begin_value t n w y u) (at_free γ) (omega arith) st tn a nsa (λ v. Value (truth true) v) (λ v. src.truth_of S.s S.bound b (evaluated S.s S.bound S.prev b v)) sima
       (λ i wa xa flag ha at below. chooses S (SimV γ (R c) false) wa xa t i (Do (ConstO t 1) Stop) last c (λ v. Value (truth true) v) (λ v. src.truth_of S.s S.bound b (evaluated S.s S.bound S.prev b v)) at
-          (decided t n w y 1 wa (paid xa) c (spare γ 40 8 wa (paid xa) (omega arith) (paid_now γ 40 wa xa ha)))
-          (second_sim t n w y b simb nsb (low.second a n) (low.beyond h a m) wa (paid xa) c (omega arith) st tn (spare γ 40 12 wa (paid xa) (omega arith) (paid_now γ 40 wa xa ha))))
+      (decided t n w y 1 wa (paid xa) c (spare γ 40 8 wa (paid xa) (omega arith) (paid_now γ 40 wa xa ha)))
+      (second_sim t n w y b simb nsb (low.second a n) (low.beyond h a m) wa (paid xa) c (omega arith) st tn (spare γ 40 12 wa (paid xa) (omega arith) (paid_now γ 40 wa xa ha))))
   binary_sim bin.Mul a b sima simb nsa nsb span t n m c w y st tn u = both_sim bin.Mul a b sima simb nsa nsb span t n m c w y st tn u
   binary_sim bin.Div a b sima simb nsa nsb span t n m c w y st tn u = both_sim bin.Div a b sima simb nsa nsb span t n m c w y st tn u
   binary_sim bin.Mod a b sima simb nsa nsb span t n m c w y st tn u = both_sim bin.Mod a b sima simb nsa nsb span t n m c w y st tn u

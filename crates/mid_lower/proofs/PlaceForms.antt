@@ -1,10 +1,9 @@
 -- Assignments, steps, elements, members, casts and ports: mid code follows them.
-use Rattle.std.proofs.Common.{◌≡◌, ℕ, zero, suc, ◌+◌, ◌*◌, ◌<◌, ◌≤◌, Bool, true, false, not, ◌==◌, cond, eqb, List, [], ◌∷◌, ◌++◌, length, Option, Some, None, Ok, Err, refl, sym, ap, ◌∙◌, subst, arith, if◌then◌else◌}
+use Rattle.std.proofs.Common.{◌≡◌, ℕ, ◌+◌, ◌<◌, ◌≤◌, true, false, eqb, List, [], ◌∷◌, length, Option, Some, None, refl, sym, ap, ◌∙◌, subst, arith, if◌then◌else◌}
 use Rattle.std.proofs.lemmas.Bool.{false≢true}
 use Rattle.kit_base.specs.declared.event.Event.TheVariants as event
 use Rattle.c_tree.specs.declared.span.Span.{Span}
 use Rattle.c_tree.specs.declared.operator.BinOp.{BinOp}
-use Rattle.c_tree.specs.declared.operator.BinOp.TheVariants as bin
 use Rattle.c_tree.specs.declared.operator.StepOp.{StepOp}
 use Rattle.c_tree.specs.declared.operator.StepOp.TheVariants as stepping
 use Rattle.c_types.specs.Types.{Ty, IntY}
@@ -15,8 +14,8 @@ use Rattle.obj_mem.specs.declared.cell.Cell.TheVariants.{Unwritten, Num, Ptr, Nu
 use Rattle.obj_mem.specs.Worlds.{World, spend, happened, answered}
 use Rattle.obj_mem.specs.Queries.{word_of, step}
 use Rattle.c_meaning.specs.declared.end.End.{End}
-use Rattle.c_meaning.specs.declared.end.End.TheVariants.{Starved, Stray}
-use Rattle.c_meaning.specs.Kinds.{type_of, span_of, decayed, pointed, is_structure}
+use Rattle.c_meaning.specs.declared.end.End.TheVariants.{Starved}
+use Rattle.c_meaning.specs.Kinds.{type_of, span_of, is_structure}
 use Rattle.c_meaning.specs.Outcomes.{Val, Value, Place, NoValue, Stops, asked, then_place}
 use Rattle.c_meaning.specs.Setting.{words}
 use Rattle.c_meaning.specs.Operators.{converted, read_as, operated, stepped}
@@ -29,13 +28,12 @@ use Rattle.mid_code.specs.States as mid
 use Rattle.mid_lower.specs.Shape.{Shape, shape_in}
 use Rattle.mid_lower.specs.Flags.{is_flag}
 use Rattle.mid_lower.specs.Parts as part
-use Rattle.mid_lower.specs.Counts.{temps, sizes}
+use Rattle.mid_lower.specs.Counts.{sizes}
 use Rattle.mid_lower.specs.Expressions as low
 use Rattle.mid_lower.proofs.Grows.{Mid, Grows}
 use Rattle.mid_lower.proofs.Under.{Under, same}
-use Rattle.mid_lower.proofs.Flagged.{IsFlag}
 use Rattle.mid_lower.proofs.Fits.{Site}
-use Rattle.mid_lower.proofs.Following.{Side, mk, Goal, goal, Now, SimV, Way, way_v, Rest, scratch, set, paid, paid_now, set_now, less_now, fin_now, stopped, spare, now_work, bind_place, at_free, above_free, eqb_less, eqb_more, putting, put_at, M, M_grows, op, sets}
+use Rattle.mid_lower.proofs.Following.{Side, mk, Goal, goal, Now, SimV, Way, way_v, scratch, set, paid, paid_now, set_now, less_now, fin_now, stopped, spare, now_work, bind_place, at_free, above_free, eqb_less, eqb_more, putting, put_at, M, M_grows, op, sets}
 use Rattle.mid_lower.proofs.Instructions.{Three, Sets, operates, steps, step_eq}
 use Rattle.mid_lower.proofs.Storing.{loads, converts, ups, downs}
 use Rattle.mid_lower.proofs.Values.{Follow, uses}
@@ -78,9 +76,9 @@ module _ (S : Site) where
       (bind_place γ (R c) false 36 n (n + 1) (tick w) y (R c0) (begin_value S t n w y u) (above_free γ n (omega arith)) (omega arith) (R_grows c0) (is_place a) span (evaluated S.s S.bound S.prev a (tick w)) (R (low.low h a n (n + 1) m c0) (mk w y)) (sima n (n + 1) m c0 (tick w) y (omega (arith, st, tn)) (omega arith) u)
       (λ p wa. src.with_value Stops S.s S.bound b (evaluated S.s S.bound S.prev b wa) (λ d wb. src.assigned S.s S.bound a span p d wb))
       (λ p wa xa er ha at below.
-          uses S γ σ 88 t n2 m2 wa xa c1 ha (at_free γ) (omega arith) st (omega (arith, tn)) b nsb (λ d wb. src.assigned S.s S.bound a span p d wb) simb
-          (λ d wb xb flag hb at2 below2. assigns S γ (SimV γ (R c) false) (λ f w m q. q) 100 span wb xb a (is_flag b) n t p d c nsa hb (at_free γ) (eqb_more n t tn) (below2 n (omega (arith, st, tn)) (omega arith) (eqb_more n t tn) ∙ at) at2 flag
-              (λ z v xc hc at3 rest. to_value S t n w y c 100 z v xc hc at3))))
+      uses S γ σ 88 t n2 m2 wa xa c1 ha (at_free γ) (omega arith) st (omega (arith, tn)) b nsb (λ d wb. src.assigned S.s S.bound a span p d wb) simb
+      (λ d wb xb flag hb at2 below2. assigns S γ (SimV γ (R c) false) (λ f w m q. q) 100 span wb xb a (is_flag b) n t p d c nsa hb (at_free γ) (eqb_more n t tn) (below2 n (omega (arith, st, tn)) (omega arith) (eqb_more n t tn) ∙ at) at2 flag
+      (λ z v xc hc at3 rest. to_value S t n w y c 100 z v xc hc at3))))
   assign_sim (Some o) a b sima simb nsa nsb span t n m c w y st tn u =
       let γ = goal false t n w y in
       let σ = way_v γ (R c) false in
@@ -94,14 +92,14 @@ module _ (S : Site) where
       bind_place γ (R c) false 36 n (n + 1) (tick w) y (R c0) (begin_value S t n w y u) (above_free γ n (omega arith)) (omega arith) (R_grows c0) (is_place a) span (evaluated S.s S.bound S.prev a (tick w)) (R (low.low h a n (n + 1) m c0) (mk w y)) (sima n (n + 1) m c0 (tick w) y (omega (arith, st, tn)) (omega arith) u)
       (λ p wa. src.with_value Stops S.s S.bound b (evaluated S.s S.bound S.prev b wa) (λ d wb. asked Stops (span_of a) wb (read_as (type_of a) wb.store.objects p) (λ old. asked Stops span wb (operated S.s o (type_of a) (type_of b) wb.store.objects old d) (λ z. src.assigned S.s S.bound a span p z wb))))
       (λ p wa xa er ha at below.
-          uses S γ σ 88 nb (nb + 2) m2 wa xa c1 ha (above_free γ nb (omega arith)) (omega arith) (omega (arith, st, tn)) (omega arith) b nsb (λ d wb. asked Stops (span_of a) wb (read_as (type_of a) wb.store.objects p) (λ old. asked Stops span wb (operated S.s o (type_of a) (type_of b) wb.store.objects old d) (λ z. src.assigned S.s S.bound a span p z wb))) simb
-          (λ d wb xb flag hb at2 below2.
-          let placed : xb.temps n ≡ p = below2 n (omega (arith, st, tn)) (omega arith) (eqb_less n nb (omega arith)) ∙ at in
-          loads S γ σ (span_of a) wb 108 xb (type_of a) (nb + 1) n p c2 hb (above_free γ (nb + 1) (omega arith)) placed (λ old. asked Stops span wb (operated S.s o (type_of a) (type_of b) wb.store.objects old d) (λ z. src.assigned S.s S.bound a span p z wb))
-          (λ old xc hc at3 rest3. operates S γ σ span wb 76 xc o (type_of a) (type_of b) t (nb + 1) nb old d c3 hc three at3 (rest3 nb (eqb_less nb (nb + 1) (omega arith)) ∙ at2) (λ z. src.assigned S.s S.bound a span p z wb)
-          (λ z xd hd at4 rest4. assigns S γ (SimV γ (R c) false) (λ f w m q. q) 60 span wb xd a false n t p z c nsa hd (at_free γ) (eqb_more n t tn)
-              (rest4 n (eqb_more n t tn) (eqb_less n nb (omega arith)) ∙ rest3 n (eqb_less n (nb + 1) (omega arith)) ∙ placed) at4 (λ e. unknown e)
-              (λ v u2 xe he at5 rest5. to_value S t n w y c 60 v u2 xe he at5)))))
+      uses S γ σ 88 nb (nb + 2) m2 wa xa c1 ha (above_free γ nb (omega arith)) (omega arith) (omega (arith, st, tn)) (omega arith) b nsb (λ d wb. asked Stops (span_of a) wb (read_as (type_of a) wb.store.objects p) (λ old. asked Stops span wb (operated S.s o (type_of a) (type_of b) wb.store.objects old d) (λ z. src.assigned S.s S.bound a span p z wb))) simb
+      (λ d wb xb flag hb at2 below2.
+      let placed : xb.temps n ≡ p = below2 n (omega (arith, st, tn)) (omega arith) (eqb_less n nb (omega arith)) ∙ at in
+      loads S γ σ (span_of a) wb 108 xb (type_of a) (nb + 1) n p c2 hb (above_free γ (nb + 1) (omega arith)) placed (λ old. asked Stops span wb (operated S.s o (type_of a) (type_of b) wb.store.objects old d) (λ z. src.assigned S.s S.bound a span p z wb))
+      (λ old xc hc at3 rest3. operates S γ σ span wb 76 xc o (type_of a) (type_of b) t (nb + 1) nb old d c3 hc three at3 (rest3 nb (eqb_less nb (nb + 1) (omega arith)) ∙ at2) (λ z. src.assigned S.s S.bound a span p z wb)
+      (λ z xd hd at4 rest4. assigns S γ (SimV γ (R c) false) (λ f w m q. q) 60 span wb xd a false n t p z c nsa hd (at_free γ) (eqb_more n t tn)
+      (rest4 n (eqb_more n t tn) (eqb_less n nb (omega arith)) ∙ rest3 n (eqb_less n (nb + 1) (omega arith)) ∙ placed) at4 (λ e. unknown e)
+      (λ v u2 xe he at5 rest5. to_value S t n w y c 60 v u2 xe he at5)))))
 
   -- ---- steps
 
@@ -167,8 +165,8 @@ module _ (S : Site) where
       uses S γ σ 12 n (n + 1) m (tick w) y (low.value h b (low.low h b) n2 (n2 + 1) m2 c1) (begin_place S t n w y u) (above_free γ n (omega arith)) (omega arith) (omega (arith, st, tn)) (omega arith) a nsa
       (λ v wa. src.with_value Stops S.s S.bound b (evaluated S.s S.bound S.prev b wa) (λ d wb. asked Stops span wb (stepped (words S.s ty) v d) (λ q. Place q wb))) sima
       (λ v wa xa flag ha at below.
-          uses S γ σ 40 n2 (n2 + 1) m2 wa xa c1 ha (above_free γ n2 (omega arith)) (omega arith) (omega (arith, st, tn)) (omega arith) b nsb (λ d wb. asked Stops span wb (stepped (words S.s ty) v d) (λ q. Place q wb)) simb
-          (λ d wb xb flag2 hb at2 below2. steps S γ σ span wb 36 xb (words S.s ty) t n n2 v d c hb (three true t n n2 w y tn (omega arith)) (below2 n (omega (arith, st, tn)) (omega arith) (eqb_less n n2 (omega arith)) ∙ at) at2 (λ q. Place q wb) (λ q xc hc at3 rest. to_place S t n w y c 36 q wb xc hc at3)))
+      uses S γ σ 40 n2 (n2 + 1) m2 wa xa c1 ha (above_free γ n2 (omega arith)) (omega arith) (omega (arith, st, tn)) (omega arith) b nsb (λ d wb. asked Stops span wb (stepped (words S.s ty) v d) (λ q. Place q wb)) simb
+      (λ d wb xb flag2 hb at2 below2. steps S γ σ span wb 36 xb (words S.s ty) t n n2 v d c hb (three true t n n2 w y tn (omega arith)) (below2 n (omega (arith, st, tn)) (omega arith) (eqb_less n n2 (omega arith)) ∙ at) at2 (λ q. Place q wb) (λ q xc hc at3 rest. to_place S t n w y c 36 q wb xc hc at3)))
 
   -- a pointer so many words behind that in n comes to t
   pub behind_sim : (γ : Goal) (σ : Way γ) (s0 : ℕ) (span : Span) (t n offset : ℕ) (p : Cell) (wa : World) (xa : Side) (c : NodesT ℕ) → Now γ (s0 + 16) wa xa → ((j : ℕ) → scratch + γ.skip ≤ j → j < γ.first → eqb j γ.at ≡ false → eqb j t ≡ false) → eqb n t ≡ false → xa.temps n ≡ p → (go : Cell → σ.R) → Sets S γ σ s0 wa xa t c go
@@ -176,7 +174,7 @@ module _ (S : Site) where
   behind_sim γ σ s0 span t n offset p wa xa c h0 free ne e go f =
       sets S σ.T γ (s0 + 8) wa xa t (Num offset) (ConstO t offset) (Do (StepO t n t) c) (spare γ (s0 + 16) (s0 + 8 + 8) wa xa (omega arith) h0) free refl (asked σ.stop span wa (step p offset) go)
       (λ xb hb at2 rest2. op S γ σ s0 span wa xb t (step p offset) (mid.stepped (xb.temps n) (xb.temps t)) (StepO t n t) c hb free
-          (same (step p offset) (mid.stepped (xb.temps n) (xb.temps t)) (step_eq p (Num offset) (xb.temps n) (xb.temps t) (rest2 n ne ∙ e) at2)) refl go (λ q xc hc at3 rest3. f q xc hc at3 (λ j nj. rest3 j nj ∙ rest2 j nj)))
+      (same (step p offset) (mid.stepped (xb.temps n) (xb.temps t)) (step_eq p (Num offset) (xb.temps n) (xb.temps t) (rest2 n ne ∙ e) at2)) refl go (λ q xc hc at3 rest3. f q xc hc at3 (λ j nj. rest3 j nj ∙ rest2 j nj)))
 
   pub arrow_sim : (a : TExprT) → Follow S a → is_structure (type_of a) ≡ false → (span : Span) (offset t n m : ℕ) (c : NodesT ℕ) (w : World) (y : Side) → scratch ≤ t → t < n → Under w.store.objects y.objs
       → SimV (goal true t n w y) (R c) true (src.arrow S.s S.bound a span offset (evaluated S.s S.bound S.prev a (tick w))) (R (low.value h a (low.low h a) n (n + 1) m (part.moved_by t n offset c)) (mk w y))
@@ -242,6 +240,9 @@ module _ (S : Site) where
       out span wa xa Unwritten ha at = R_grows (Do (OutO port t) c) (mk wa xa)
       out span wa xa (Ptr o i) ha at = R_grows (Do (OutO port t) c) (mk wa xa)
       out span wa xa Null ha at = R_grows (Do (OutO port t) c) (mk wa xa)
-      out span wa xa (Num z) ha at =
-          (refl, paid xa, ap (λ v. did (mid.output port (word_of v) (spent 8 (mk wa xa))) (R c)) at,
-          less_now (goal false t n w y) 56 (happened (event.Out port z) wa) (paid xa) (event_now (goal false t n w y) 56 wa (happened (event.Out port z) wa) xa refl refl refl refl ha))
+      out span wa xa (Num z) ha at = (
+        refl,
+        paid xa,
+        ap (λ v. did (mid.output port (word_of v) (spent 8 (mk wa xa))) (R c)) at,
+        less_now (goal false t n w y) 56 (happened (event.Out port z) wa) (paid xa) (event_now (goal false t n w y) 56 wa (happened (event.Out port z) wa) xa refl refl refl refl ha),
+      )

@@ -1,5 +1,5 @@
 -- Reading, converting, storing, and steps of one: mid code follows them.
-use Rattle.std.proofs.Common.{◌≡◌, ℕ, suc, ◌+◌, ◌*◌, ◌<◌, ◌≤◌, ◌%◌, ◌^◌, Bool, true, false, not, ◌==◌, eqb, List, Option, Some, None, Result, Ok, Err, refl, sym, ap, ◌∙◌, subst, arith}
+use Rattle.std.proofs.Common.{◌≡◌, ℕ, ◌+◌, ◌<◌, ◌^◌, Bool, true, false, eqb, List, Option, Some, None, Ok, Err, refl, sym, ap, ◌∙◌, subst, arith}
 use Rattle.kit_base.specs.Word.{mul, negated}
 use Rattle.c_tree.specs.declared.span.Span.{Span}
 use Rattle.c_tree.specs.declared.operator.BinOp.TheVariants as bin
@@ -10,14 +10,14 @@ use Rattle.v32_isa.specs.declared.instruction.One.TheVariants.{CIB, ISGN}
 use Rattle.v32_isa.specs.declared.instruction.Two.TheVariants.{IADD, ISUB}
 use Rattle.obj_mem.specs.Objects.{ObjectT}
 use Rattle.obj_mem.specs.declared.cell.Cell.{Cell}
-use Rattle.obj_mem.specs.declared.cell.Cell.TheVariants.{Unwritten, Num, Ptr, Null}
+use Rattle.obj_mem.specs.declared.cell.Cell.TheVariants.{Num}
 use Rattle.obj_mem.specs.declared.refusal.Refusal.TheVariants.{Strays, Faults}
 use Rattle.obj_mem.specs.Stores.{with_objects}
 use Rattle.obj_mem.specs.Worlds.{World, on_store}
-use Rattle.obj_mem.specs.Queries.{Answer, then_ask, answer_if, word_of, read, write, step}
+use Rattle.obj_mem.specs.Queries.{Answer, answer_if, read, write, step}
 use Rattle.c_meaning.specs.declared.end.End.{End}
 use Rattle.c_meaning.specs.declared.end.End.TheVariants.{Fault, Stray}
-use Rattle.c_meaning.specs.Outcomes.{Went, Through, CutOff, asked, then_went}
+use Rattle.c_meaning.specs.Outcomes.{Through, CutOff, asked, then_went}
 use Rattle.c_meaning.specs.Setting.{words}
 use Rattle.c_meaning.specs.Operators.{is_of, read_as, converted, cell_binary, operated_on, operated}
 use Rattle.mid_code.specs.Code.{ConstO, OneO, TwoO, StepO, LoadO, StoreO, NodesT, Do}
@@ -30,7 +30,7 @@ use Rattle.mid_lower.proofs.Grows.{Mid, Grows}
 use Rattle.mid_lower.proofs.Under.{Under, same, read_both, WriteBoth, write_both}
 use Rattle.mid_lower.proofs.Words.{step_once, negated_once, in_words, same_words}
 use Rattle.mid_lower.proofs.Fits.{Site}
-use Rattle.mid_lower.proofs.Following.{Side, mk, Goal, Stays, Now, Way, Free, spare, paid, paid_now, fin_now, stopped, M, M_grows, op, sets}
+use Rattle.mid_lower.proofs.Following.{Side, mk, Goal, Now, Way, Free, spare, paid, paid_now, fin_now, stopped, M, M_grows, op, sets}
 use Rattle.mid_lower.proofs.Instructions.{asked_then, two_eq, step_eq, from_eq, Sets}
 
 module _ (S : Site) where
@@ -53,7 +53,7 @@ module _ (S : Site) where
     loads x ty t p vp c h0 free e go f =
         subst (λ r. σ.T r (R (Do (LoadO t p) c) (mk w x))) (sym (asked_then σ.stop span w (read w.store.objects vp) (λ z. answer_if (is_of ty z) z) go))
         (op S γ σ s0 span w x t (read w.store.objects vp) (read x.objs (x.temps p)) (LoadO t p) c h0 free (from_eq (read w.store.objects vp) (read x.objs vp) (read x.objs (x.temps p)) (ap (λ u. read x.objs u) e) (read_both w.store.objects x.objs vp h0.stays.under)) refl
-            (λ z. asked σ.stop span w (answer_if (is_of ty z) z) go) (λ z y hy at rest. sound y (is_of ty z) z go c (f z y hy at rest)))
+        (λ z. asked σ.stop span w (answer_if (is_of ty z) z) go) (λ z y hy at rest. sound y (is_of ty z) z go c (f z y hy at rest)))
 
     -- the cell in a is converted
     pub converts : (x : Side) (ty : Ty) (known : Bool) (a : ℕ) (va : Cell) (c : NodesT ℕ) → Now γ (s0 + 8) w x → Free γ a → x.temps a ≡ va → (known ≡ true → converted BoolY va ≡ Ok va) → (go : Cell → σ.R) → Sets S γ σ s0 w x a c go → σ.T (asked σ.stop span w (converted ty va) go) (R (low.converted ty known a c) (mk w x))

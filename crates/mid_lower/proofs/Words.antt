@@ -1,8 +1,8 @@
 -- Words that are stepped by.
-use Rattle.std.proofs.Common.{◌≡◌, ℕ, zero, suc, ◌+◌, ◌*◌, ◌-◌, ◌%◌, ◌^◌, ◌<◌, Bool, true, false, not, ◌==◌, eqb, cond, List, Option, Some, None, Result, Ok, Err, refl, sym, ap, ◌∙◌, subst, arith, if◌then◌else◌}
+use Rattle.std.proofs.Common.{◌≡◌, ℕ, zero, suc, ◌+◌, ◌*◌, ◌-◌, ◌%◌, ◌^◌, ◌<◌, Bool, true, false, not, ◌==◌, Option, Some, None, Ok, Err, refl, sym, ap, ◌∙◌, arith, if◌then◌else◌}
 use Rattle.std.proofs.Math.Nat.{add-mod-mod}
 use Rattle.std.proofs.lemmas.Nat.{mod-mul-add, mod_below}
-use Rattle.kit_base.specs.Word.{add, mul, negated, quotient, remainder, bool_word}
+use Rattle.kit_base.specs.Word.{mul, negated, quotient, remainder, bool_word}
 use Rattle.c_tree.specs.declared.operator.BinOp.{BinOp}
 use Rattle.c_tree.specs.declared.operator.BinOp.TheVariants as bin
 use Rattle.v32_isa.specs.declared.instruction.Two.{Two}
@@ -11,7 +11,7 @@ use Rattle.v32_isa.specs.Arithmetic.{two_of}
 use Rattle.obj_mem.specs.declared.cell.Cell.{Cell}
 use Rattle.obj_mem.specs.declared.cell.Cell.TheVariants.{Unwritten, Num, Ptr, Null}
 use Rattle.obj_mem.specs.declared.refusal.Refusal.TheVariants.{Faults}
-use Rattle.obj_mem.specs.Queries.{Answer, then_ask, step, word_or_fault}
+use Rattle.obj_mem.specs.Queries.{then_ask, step, word_or_fault}
 use Rattle.c_meaning.specs.Operators.{word_binary, cell_binary}
 use Rattle.mid_code.specs.States.{two_words}
 

@@ -6,6 +6,9 @@ pub mod Expressions
 pub mod Initialisers
 pub mod Statements
 pub mod Lowered
+pub mod Levels
+pub mod SourceLoops
+pub mod LoweredFrom
 pub mod ListedParts
 pub mod ListedExpressions
 pub mod ListedInitialisers

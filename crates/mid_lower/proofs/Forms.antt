@@ -67,10 +67,10 @@ pub lazy_nodes : (h : Shape) (k : TKindT) (op : BinOp) (and : Bool) (x y : TExpr
     → r ≡ l ++ low_kind h k ty t n m
 lazy_nodes h k op and x y ty t n m u v l p q r i j w e some eu ev a b f g d c =
     let inside : w ≡ low_value h y t (second x n) (beyond h x m) ++ tested_as (decayed (type_of y)) t ++ as_flag (tests_flag y) t =
-        d ∙ ap (λ z. z ++ as_flag (tests_flag y) t) (g ∙ ap (λ z. z ++ tested_as (decayed (type_of y)) t) (f ∙ ap (λ z. low_value h y t z v) eu ∙ ap (λ z. low_value h y t (second x n) z) ev)) in
+    d ∙ ap (λ z. z ++ as_flag (tests_flag y) t) (g ∙ ap (λ z. z ++ tested_as (decayed (type_of y)) t) (f ∙ ap (λ z. low_value h y t z v) eu ∙ ap (λ z. low_value h y t (second x n) z) ev)) in
     let c2 : r ≡ q ++ (lazy_choice and t (low_value h y t (second x n) (beyond h x m) ++ tested_as (decayed (type_of y)) t ++ as_flag (tests_flag y) t) ∷ []) = c ∙ ap (λ z. q ++ (lazy_choice and t z ∷ [])) inside in
     let all : r ≡ l ++ binary_by (Some and) h op x y (low h x) (low h y) t n m =
-        joined_thrice l p q r (low_value h x t n m) (tested_as (decayed (type_of x)) t) (lazy_choice and t (low_value h y t (second x n) (beyond h x m) ++ tested_as (decayed (type_of y)) t ++ as_flag (tests_flag y) t) ∷ []) a b c2 in
+    joined_thrice l p q r (low_value h x t n m) (tested_as (decayed (type_of x)) t) (lazy_choice and t (low_value h y t (second x n) (beyond h x m) ++ tested_as (decayed (type_of y)) t ++ as_flag (tests_flag y) t) ∷ []) a b c2 in
     subst (λ z. r ≡ l ++ low_kind h z ty t n m) (sym e) (subst (λ z. r ≡ l ++ binary_by z h op x y (low h x) (low h y) t n m) (sym some) all)
 
 pub assign_nodes : (h : Shape) (k : TKindT) (x y : TExprT) (ty : Ty) (t n m u v : ℕ) (l p q r : Listing) → k ≡ AssignK None x y → u ≡ behind_place x n → v ≡ m + length (sizes h x)
@@ -87,7 +87,7 @@ compound_nodes h k op x y ty t n m u v l p q r e eu ev a b c =
     let w = behind_place x n in
     let b2 : q ≡ p ++ low_value h y w (w + 2) (m + length (sizes h x)) = b ∙ ap (λ z. p ++ low_value h y z (z + 2) v) eu ∙ ap (λ z. p ++ low_value h y w (w + 2) z) ev in
     let c2 : r ≡ q ++ (DoN (o.Load (w + 1) n) ∷ []) ++ operated h op (type_of x) (type_of y) t (w + 1) w ++ converted (type_of x) false t ++ (DoN (o.Store n t) ∷ []) =
-        c ∙ ap (λ z. q ++ (DoN (o.Load (z + 1) n) ∷ []) ++ operated h op (type_of x) (type_of y) t (z + 1) z ++ converted (type_of x) false t ++ (DoN (o.Store n t) ∷ [])) eu in
+    c ∙ ap (λ z. q ++ (DoN (o.Load (z + 1) n) ∷ []) ++ operated h op (type_of x) (type_of y) t (z + 1) z ++ converted (type_of x) false t ++ (DoN (o.Store n t) ∷ [])) eu in
     let all = c2 ∙ ap (λ z. z ++ (DoN (o.Load (w + 1) n) ∷ []) ++ operated h op (type_of x) (type_of y) t (w + 1) w ++ converted (type_of x) false t ++ (DoN (o.Store n t) ∷ [])) (b2 ∙ ap (λ z. z ++ low_value h y w (w + 2) (m + length (sizes h x))) a) in
     subst (λ z. r ≡ l ++ low_kind h z ty t n m) (sym e)
     (all ∙ six l (low h x n (n + 1) m) (low_value h y w (w + 2) (m + length (sizes h x))) (DoN (o.Load (w + 1) n) ∷ []) (operated h op (type_of x) (type_of y) t (w + 1) w) (converted (type_of x) false t) (DoN (o.Store n t) ∷ []))
@@ -96,7 +96,7 @@ pub call_nodes : (h : Shape) (k : TKindT) (f : ℕ) (xs : TExprTs) (ty : Ty) (t 
     → p ≡ l ++ low_args h (params_of h f) xs n m → q ≡ p ++ called_with (result_of h f) f v t args → q ≡ l ++ low_kind h k ty t n m
 call_nodes h k f xs ty t n m v args l p q e ev w a b =
     let b2 : q ≡ p ++ called_with (result_of h f) f (m + length (sizes_all h xs)) t (led (result_of h f) t ++ spots xs n) =
-        b ∙ ap (λ z. p ++ called_with (result_of h f) f z t args) ev ∙ ap (λ z. p ++ called_with (result_of h f) f (m + length (sizes_all h xs)) t z) w in
+    b ∙ ap (λ z. p ++ called_with (result_of h f) f z t args) ev ∙ ap (λ z. p ++ called_with (result_of h f) f (m + length (sizes_all h xs)) t z) w in
     subst (λ z. q ≡ l ++ low_kind h z ty t n m) (sym e)
     (joined_twice l p q (low_args h (params_of h f) xs n m) (called_with (result_of h f) f (m + length (sizes_all h xs)) t (led (result_of h f) t ++ spots xs n)) a b2)
 

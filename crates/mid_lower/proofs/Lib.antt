@@ -52,3 +52,6 @@ pub mod Forms
 pub mod StatementForms
 pub mod Viewed
 pub mod Arms
+pub mod Weights
+pub mod WeighedExpressions
+pub mod WeighedStatements

@@ -58,7 +58,7 @@ few_functions h (f ∷ fs) few locals =
     let n = locals 0 f refl in
     (few_body h (c.first_of f.params) (length f.locals) f.body (omega (arith, e, few)) (omega (arith, e, few, n)), few_functions h fs (omega (arith, e, few)) (λ k. locals (suc k)))
 
-inits_nodes : (inits : List TStmtT) → statements_nodes (tstmts inits) ≡ sum_by statement_nodes inits
+pub inits_nodes : (inits : List TStmtT) → statements_nodes (tstmts inits) ≡ sum_by statement_nodes inits
 inits_nodes [] = refl
 inits_nodes (a ∷ rest) = ap (λ n. statement_nodes a + n) (inits_nodes rest) ∙ sym (sum_by-cons statement_nodes a rest)
 

@@ -58,7 +58,7 @@ do_while_nodes h ty s a x n m b u v j l i p q w y r e eu ev ei ep eq ew ey er =
     let all : y ≡ inside ++ (low_test h x u (u + 1) v ++ (ChooseN u (listed (AgainN 0 ∷ [])) (listed []) ∷ [])) = tested ∙ ap (λ z. z ++ (low_test h x u (u + 1) v ++ (ChooseN u (listed (AgainN 0 ∷ [])) (listed []) ∷ []))) begun in
     let flat : y ≡ inside ++ low_test h x u (u + 1) v ++ (ChooseN u (listed (AgainN 0 ∷ [])) (listed []) ∷ []) = all ∙ sym (append_assoc inside (low_test h x u (u + 1) v) (ChooseN u (listed (AgainN 0 ∷ [])) (listed []) ∷ [])) in
     let there = flat ∙ ap (λ z. inside ++ low_test h x z (z + 1) v ++ (ChooseN z (listed (AgainN 0 ∷ [])) (listed []) ∷ [])) eu
-        ∙ ap (λ z. inside ++ low_test h x (n + stmt_temps a) (n + stmt_temps a + 1) z ++ (ChooseN (n + stmt_temps a) (listed (AgainN 0 ∷ [])) (listed []) ∷ [])) ev in
+    ∙ ap (λ z. inside ++ low_test h x (n + stmt_temps a) (n + stmt_temps a + 1) z ++ (ChooseN (n + stmt_temps a) (listed (AgainN 0 ∷ [])) (listed []) ∷ [])) ev in
     subst (λ z. r ≡ l ++ low_stmt h ty z n m b j) (sym e) (er ∙ ap (λ z. l ++ (LoopN (listed z) ∷ [])) there)
 
 -- the turns of a `for`, of which the first statement is done
@@ -78,7 +78,7 @@ pub for_nodes : (h : Shape) (ty : Ty) (s : TStmtT) (ks : List ℕ) (first : Mayb
 for_nodes h ty s ks first test step a n m b c d u v x y j l p q w i r tests e ec ed et eu ev ex ey ep eq ew ei er =
     let begun : r ≡ q ++ turns h test step a (λ u v. low_stmt h ty a u v 1 (ToEnd 0)) c d = turns_nodes h ty test step a c d u v x y q w i r tests et eu ev ex ey ew ei er in
     let there : r ≡ q ++ turns h test step a (λ u v. low_stmt h ty a u v 1 (ToEnd 0)) (n + other_temps first) (m + length (other_sizes h first)) =
-        begun ∙ (λ k. q ++ turns h test step a (λ u v. low_stmt h ty a u v 1 (ToEnd 0)) (ec k) (ed k)) in
+    begun ∙ (λ k. q ++ turns h test step a (λ u v. low_stmt h ty a u v 1 (ToEnd 0)) (ec k) (ed k)) in
     subst (λ z. r ≡ l ++ low_stmt h ty z n m b j) (sym e)
     (joined_thrice l p q r (made ks) (low_other h ty first n m b j) (turns h test step a (λ u v. low_stmt h ty a u v 1 (ToEnd 0)) (n + other_temps first) (m + length (other_sizes h first))) ep eq there)
 

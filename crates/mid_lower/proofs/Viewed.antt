@@ -1,8 +1,9 @@
 -- What types, nodes and lists in memory stand for.
-use Rattle.std.proofs.Common.{◌≡◌, ℕ, List, [], ◌∷◌, ◌++◌, Option, Some, None, map, ap, sym, ◌∙◌, refl, rules, arith, suc, ◌+◌, ◌<◌, length, drop, drop-cons, get_or}
+use Rattle.std.proofs.Common.{◌≡◌, ◌≤◌, ℕ, zero, List, [], ◌∷◌, ◌++◌, Option, Some, None, map, ap, sym, ◌∙◌, refl, rules, arith, suc, ◌+◌, ◌<◌, length, drop, drop-cons, get_or}
 use Rattle.kit_base.specs.declared.seq.Seq.{Seq}
 use Rattle.c_types.specs.View.{ctype, texpr, tstmt, tstmts, tarm, tarms}
 use Rattle.c_types.specs.Typed.{MoreZ, MoreB}
+use Rattle.c_types.specs.Nodes.{statements_nodes, arms_nodes}
 use Rattle.c_types.specs.declared.typed.TStmt.{TStmt}
 use Rattle.c_types.specs.declared.typed.TArm.{TArm}
 use Rattle.c_types.specs.declared.typed.TExpr.{TExpr, the_lemmas}
@@ -47,3 +48,13 @@ pub arms_left : (xs : List TArm) (i : ℕ) (x : TArm) → i < length xs → x �
 arms_left xs i x b e =
     let next : suc i ≡ i + 1 = omega arith in
     ap (λ l. tarms (map tarm l)) (drop-cons xs i x b) ∙ ap (λ z. MoreB (tarm z) (tarms (map tarm (drop (suc i) xs)))) (sym e) ∙ ap (λ k. MoreB (tarm x) (tarms (map tarm (drop k xs)))) next
+
+pub stmts_drop : (i : ℕ) (xs : List TStmt) → statements_nodes (tstmts (map tstmt (drop i xs))) ≤ statements_nodes (tstmts (map tstmt xs))
+stmts_drop zero xs = omega arith
+stmts_drop (suc i) [] = omega arith
+stmts_drop (suc i) (x ∷ xs) = let e = stmts_drop i xs in omega (arith, e)
+
+pub arms_drop : (i : ℕ) (xs : List TArm) → arms_nodes (tarms (map tarm (drop i xs))) ≤ arms_nodes (tarms (map tarm xs))
+arms_drop zero xs = omega arith
+arms_drop (suc i) [] = omega arith
+arms_drop (suc i) (x ∷ xs) = let e = arms_drop i xs in omega (arith, e)

@@ -55,7 +55,11 @@ fn copy_turn(alloc: Global) -> Result<Vec<Node<u32>>, Memory>
     put(&mut turn, Op::Load(CELL, FROM))?;
     put(&mut turn, Op::Store(TO, CELL))?;
     put(&mut turn, Op::Two(Two::ISUB, COUNT, COUNT, ONE))?;
-    turn.push(Node::Choose(COUNT, Seq::from_vec(further), Seq::from_vec(Vec::new(alloc))))?;
+    turn.push(Node::Choose(
+        COUNT,
+        Seq::from_vec(further),
+        Seq::from_vec(Vec::new(alloc)),
+    ))?;
     Ok(turn)
 }
 
@@ -69,16 +73,16 @@ fn zero_turn(alloc: Global) -> Result<Vec<Node<u32>>, Memory>
     let mut turn = Vec::new(alloc);
     put(&mut turn, Op::Store(TO, CELL))?;
     put(&mut turn, Op::Two(Two::ISUB, COUNT, COUNT, ONE))?;
-    turn.push(Node::Choose(COUNT, Seq::from_vec(further), Seq::from_vec(Vec::new(alloc))))?;
+    turn.push(Node::Choose(
+        COUNT,
+        Seq::from_vec(further),
+        Seq::from_vec(Vec::new(alloc)),
+    ))?;
     Ok(turn)
 }
 
 /// Copies so many cells.
-pub(crate) fn copy_cells(
-    alloc: Global,
-    out: &mut Vec<Node<u32>>,
-    size: u32,
-) -> Result<(), Memory>
+pub(crate) fn copy_cells(alloc: Global, out: &mut Vec<Node<u32>>, size: u32) -> Result<(), Memory>
     ensures { OnOk result (map node out.new.items ≡ map node out.old.items ++ copied size) }
 {
     if size == 0 {
@@ -92,11 +96,7 @@ pub(crate) fn copy_cells(
 }
 
 /// Sets so many cells to 0.
-pub(crate) fn zero_cells(
-    alloc: Global,
-    out: &mut Vec<Node<u32>>,
-    size: u32,
-) -> Result<(), Memory>
+pub(crate) fn zero_cells(alloc: Global, out: &mut Vec<Node<u32>>, size: u32) -> Result<(), Memory>
     ensures { OnOk result (map node out.new.items ≡ map node out.old.items ++ zeroed size) }
 {
     put(out, Op::Const(COUNT, size))?;
@@ -108,12 +108,7 @@ pub(crate) fn zero_cells(
 }
 
 /// A pointer so many words behind that in p comes to t.
-pub(crate) fn move_by(
-    out: &mut Vec<Node<u32>>,
-    t: u32,
-    p: u32,
-    offset: u32,
-) -> Result<(), Memory>
+pub(crate) fn move_by(out: &mut Vec<Node<u32>>, t: u32, p: u32, offset: u32) -> Result<(), Memory>
     ensures { OnOk result (map node out.new.items ≡ map node out.old.items ++ moved_by t p offset) }
 {
     put(out, Op::Const(t, offset))?;

@@ -151,7 +151,14 @@ fn kind(
         TKind::Binary(op, x, y) => match lazy_of(*op) {
             None => {
                 let first = value(s, x, at.next, from(at.next + 1, at.local), out, structures)?;
-                let last = value(s, y, first.next, from(first.next + 1, first.local), out, structures)?;
+                let last = value(
+                    s,
+                    y,
+                    first.next,
+                    from(first.next + 1, first.local),
+                    out,
+                    structures,
+                )?;
                 operate(s, out, *op, &x.ty, &y.ty, t, at.next, first.next)?;
                 Ok(last)
             }
@@ -159,7 +166,14 @@ fn kind(
                 let first = value(s, x, t, at, out, structures)?;
                 test_as(out, &x.ty, t)?;
                 let mut inside = Vec::new(s.alloc);
-                let last = value(s, y, t, from(first.next + 1, first.local), &mut inside, structures)?;
+                let last = value(
+                    s,
+                    y,
+                    t,
+                    from(first.next + 1, first.local),
+                    &mut inside,
+                    structures,
+                )?;
                 test_as(&mut inside, &y.ty, t)?;
                 put_flag(&mut inside, tests_flag(y), t)?;
                 choose_lazy(s.alloc, out, and, t, inside)?;
@@ -174,8 +188,25 @@ fn kind(
         }
         TKind::Assign(Some(op), x, y) => {
             let first = low(s, x, at.next, from(at.next + 1, at.local), out, structures)?;
-            let last = value(s, y, first.next, from(first.next + 2, first.local), out, structures)?;
-            compound(s, out, *op, &x.ty, &y.ty, t, first.next + 1, first.next, at.next)?;
+            let last = value(
+                s,
+                y,
+                first.next,
+                from(first.next + 2, first.local),
+                out,
+                structures,
+            )?;
+            compound(
+                s,
+                out,
+                *op,
+                &x.ty,
+                &y.ty,
+                t,
+                first.next + 1,
+                first.next,
+                at.next,
+            )?;
             Ok(last)
         }
         TKind::Step(op, x) => {
@@ -185,7 +216,14 @@ fn kind(
         }
         TKind::Index(x, y) => {
             let first = value(s, x, at.next, from(at.next + 1, at.local), out, structures)?;
-            let last = value(s, y, first.next, from(first.next + 1, first.local), out, structures)?;
+            let last = value(
+                s,
+                y,
+                first.next,
+                from(first.next + 1, first.local),
+                out,
+                structures,
+            )?;
             step_by(out, s.words(ty), t, at.next, first.next)?;
             Ok(last)
         }

@@ -138,12 +138,7 @@ pub(crate) fn step(
     }
 }
 
-fn load_member(
-    out: &mut Vec<Node<u32>>,
-    place: bool,
-    ty: &CType,
-    t: u32,
-) -> Result<(), Memory>
+fn load_member(out: &mut Vec<Node<u32>>, place: bool, ty: &CType, t: u32) -> Result<(), Memory>
     ensures { OnOk result (map node out.new.items ≡ map node out.old.items ++ member_of place (ctype ty.now) t) }
 {
     if place {

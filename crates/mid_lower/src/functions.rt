@@ -50,11 +50,7 @@ fn receive(
     }
 }
 
-fn receive_all(
-    s: &Reading<'_>,
-    out: &mut Vec<Node<u32>>,
-    tys: &[CType],
-) -> Result<(), Memory>
+fn receive_all(s: &Reading<'_>, out: &mut Vec<Node<u32>>, tys: &[CType]) -> Result<(), Memory>
     requires { length tys.now ≤ 1000000 }
     ensures { OnOk result (map node out.new.items ≡ map node out.old.items ++ all_received (shape_of s.now) (map ctype tys.now) 0 FIRST_PARAM) }
 {
@@ -105,7 +101,16 @@ fn body<'x>(
     let first = FIRST_PARAM + f.params.as_slice().len() as u32;
     let own = from(first, f.locals.as_slice().len() as u32);
     let mut inside = Vec::new(s.alloc);
-    let done = statements(s, &f.result, f.body.as_slice(), own, 0, JumpTo::End(0), &mut inside, structures)?;
+    let done = statements(
+        s,
+        &f.result,
+        f.body.as_slice(),
+        own,
+        0,
+        JumpTo::End(0),
+        &mut inside,
+        structures,
+    )?;
     put_block(&mut out, inside)?;
     Ok((out, done.next))
 }
@@ -142,16 +147,22 @@ pub(crate) fn lower_functions<'x>(
 }
 
 /// What fills the globals.
-pub(crate) fn lower_start<'x>(
-    s: &Reading<'x>,
-    inits: &'x [TStmt],
-) -> Result<Function<u32>, Memory>
+pub(crate) fn lower_start<'x>(s: &Reading<'x>, inits: &'x [TStmt]) -> Result<Function<u32>, Memory>
     requires fits { IsFew (shape_of s.now) FIRST_PARAM 0 (tstmts (map tstmt inits.now)) }
     ensures { IfOk result (λ r. function_of r ≡ low_start (shape_of s.now) (tstmts (map tstmt inits.now))) }
 {
     let mut nodes = Vec::new(s.alloc);
     let mut locals = Vec::new(s.alloc);
-    let done = statements(s, &CType::Void, inits, from(FIRST_PARAM, 0), 0, JumpTo::End(0), &mut nodes, &mut locals)?;
+    let done = statements(
+        s,
+        &CType::Void,
+        inits,
+        from(FIRST_PARAM, 0),
+        0,
+        JumpTo::End(0),
+        &mut nodes,
+        &mut locals,
+    )?;
     Ok(Function {
         temps: done.next,
         params: Seq::from_vec(Vec::new(s.alloc)),

@@ -112,7 +112,13 @@ fn fill_text(
     put(out, Op::Literal(FROM, number))?;
     point(out, p, offset)?;
     copy_cells(s.alloc, out, words)?;
-    zero_part(s.alloc, out, p, offset.wrapping_add(words), size.saturating_sub(words))
+    zero_part(
+        s.alloc,
+        out,
+        p,
+        offset.wrapping_add(words),
+        size.saturating_sub(words),
+    )
 }
 
 /// How many elements are left of so many.
@@ -216,12 +222,7 @@ fn initialise_all<'x>(
     Ok(here)
 }
 
-fn object_to(
-    out: &mut Vec<Node<u32>>,
-    global: bool,
-    number: u32,
-    t: u32,
-) -> Result<(), Memory>
+fn object_to(out: &mut Vec<Node<u32>>, global: bool, number: u32, t: u32) -> Result<(), Memory>
     ensures { OnOk result (map node out.new.items ≡ map node out.old.items ++ object_to global number t) }
 {
     if global {

@@ -42,10 +42,7 @@ pub(crate) fn jump(out: &mut Vec<Node<u32>>, j: JumpTo) -> Result<(), Memory>
 }
 
 /// Adds a block of nodes.
-pub(crate) fn put_block(
-    out: &mut Vec<Node<u32>>,
-    inside: Vec<Node<u32>>,
-) -> Result<(), Memory>
+pub(crate) fn put_block(out: &mut Vec<Node<u32>>, inside: Vec<Node<u32>>) -> Result<(), Memory>
     ensures { OnOk result (map node out.new.items ≡ map node out.old.items ++ BlockN (listed (map node inside.items)) ∷ []) }
 {
     out.push(Node::Block(Seq::from_vec(inside)))?;

@@ -8,7 +8,8 @@ use crate::functions::{lower_functions, lower_start};
 use crate::reading::Reading;
 use c_check::Program;
 use c_facts::laws::{
-    functions_have_few_locals, known_types_have_sizes, programs_are_sound, programs_have_few_nodes, starts_are_given,
+    functions_have_few_locals, known_types_have_sizes, programs_are_sound, programs_have_few_nodes,
+    starts_are_given,
 };
 use c_facts::numbers_are_words;
 use kit_base::{Memory, Name, Seq};

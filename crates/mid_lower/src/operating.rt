@@ -62,13 +62,7 @@ fn compare(out: &mut Vec<Node<u32>>, op: Two, t: u32, a: u32, b: u32) -> Result<
 }
 
 /// An operator on words.
-fn with_word(
-    out: &mut Vec<Node<u32>>,
-    op: BinOp,
-    t: u32,
-    a: u32,
-    b: u32,
-) -> Result<(), Memory>
+fn with_word(out: &mut Vec<Node<u32>>, op: BinOp, t: u32, a: u32, b: u32) -> Result<(), Memory>
     ensures { OnOk result (map node out.new.items ≡ map node out.old.items ++ with_word op t a b) }
 {
     match op {
@@ -115,13 +109,7 @@ pub(crate) fn step_by(
     }
 }
 
-fn step_back(
-    out: &mut Vec<Node<u32>>,
-    size: u32,
-    t: u32,
-    a: u32,
-    b: u32,
-) -> Result<(), Memory>
+fn step_back(out: &mut Vec<Node<u32>>, size: u32, t: u32, a: u32, b: u32) -> Result<(), Memory>
     ensures { OnOk result (map node out.new.items ≡ map node out.old.items ++ stepped_back size t a b) }
 {
     put(out, Op::One(One::ISGN, b, b))?;
@@ -129,13 +117,7 @@ fn step_back(
 }
 
 /// How many elements lie between two pointers.
-fn distance(
-    out: &mut Vec<Node<u32>>,
-    size: u32,
-    t: u32,
-    a: u32,
-    b: u32,
-) -> Result<(), Memory>
+fn distance(out: &mut Vec<Node<u32>>, size: u32, t: u32, a: u32, b: u32) -> Result<(), Memory>
     ensures { OnOk result (map node out.new.items ≡ map node out.old.items ++ distant size t a b) }
 {
     put(out, Op::Apart(t, a, b))?;

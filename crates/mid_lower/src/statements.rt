@@ -14,7 +14,8 @@ use crate::initialisers::variables;
 use crate::jump::JumpTo;
 use crate::kinds::is_flag;
 use crate::looping::{
-    close_label, close_turn, further, give_back, jump, match_arms, put_block, put_choice, test_first,
+    close_label, close_turn, further, give_back, jump, match_arms, put_block, put_choice,
+    test_first,
 };
 use crate::operating::{convert, test_as};
 use crate::reading::Reading;
@@ -72,10 +73,26 @@ fn statement<'x>(
         }
         TStmt::While(x, body) => {
             let mut turn = Vec::new(s.alloc);
-            let tested = value(s, x, at.next, from(at.next + 1, at.local), &mut turn, structures)?;
+            let tested = value(
+                s,
+                x,
+                at.next,
+                from(at.next + 1, at.local),
+                &mut turn,
+                structures,
+            )?;
             test_as(&mut turn, &x.ty, at.next)?;
             let mut inside = Vec::new(s.alloc);
-            let done = statement(s, gives, body, tested, 0, JumpTo::Turn(0), &mut inside, structures)?;
+            let done = statement(
+                s,
+                gives,
+                body,
+                tested,
+                0,
+                JumpTo::Turn(0),
+                &mut inside,
+                structures,
+            )?;
             inside.push(Node::Again(0))?;
             put_choice(&mut turn, at.next, inside, Vec::new(s.alloc))?;
             out.push(Node::Loop(Seq::from_vec(turn)))?;
@@ -83,10 +100,26 @@ fn statement<'x>(
         }
         TStmt::DoWhile(body, x) => {
             let mut inside = Vec::new(s.alloc);
-            let done = statement(s, gives, body, at, 1, JumpTo::End(0), &mut inside, structures)?;
+            let done = statement(
+                s,
+                gives,
+                body,
+                at,
+                1,
+                JumpTo::End(0),
+                &mut inside,
+                structures,
+            )?;
             let mut turn = Vec::new(s.alloc);
             put_block(&mut turn, inside)?;
-            let last = value(s, x, done.next, from(done.next + 1, done.local), &mut turn, structures)?;
+            let last = value(
+                s,
+                x,
+                done.next,
+                from(done.next + 1, done.local),
+                &mut turn,
+                structures,
+            )?;
             test_as(&mut turn, &x.ty, done.next)?;
             let mut again = Vec::new(s.alloc);
             again.push(Node::Again(0))?;
@@ -99,8 +132,27 @@ fn statement<'x>(
             let mut turn = Vec::new(s.alloc);
             let tested = test_first(s, test.as_ref(), at, &mut turn, structures)?;
             let mut inside = Vec::new(s.alloc);
-            let done = statement(s, gives, body, tested, 1, JumpTo::End(0), &mut inside, structures)?;
-            close_turn(s, test.is_some(), at.next, turn, inside, step.as_ref(), done, out, structures)
+            let done = statement(
+                s,
+                gives,
+                body,
+                tested,
+                1,
+                JumpTo::End(0),
+                &mut inside,
+                structures,
+            )?;
+            close_turn(
+                s,
+                test.is_some(),
+                at.next,
+                turn,
+                inside,
+                step.as_ref(),
+                done,
+                out,
+                structures,
+            )
         }
         TStmt::For(made, Some(first), test, step, body) => {
             make(out, made.as_slice())?;
@@ -108,8 +160,27 @@ fn statement<'x>(
             let mut turn = Vec::new(s.alloc);
             let tested = test_first(s, test.as_ref(), begun, &mut turn, structures)?;
             let mut inside = Vec::new(s.alloc);
-            let done = statement(s, gives, body, tested, 1, JumpTo::End(0), &mut inside, structures)?;
-            close_turn(s, test.is_some(), begun.next, turn, inside, step.as_ref(), done, out, structures)
+            let done = statement(
+                s,
+                gives,
+                body,
+                tested,
+                1,
+                JumpTo::End(0),
+                &mut inside,
+                structures,
+            )?;
+            close_turn(
+                s,
+                test.is_some(),
+                begun.next,
+                turn,
+                inside,
+                step.as_ref(),
+                done,
+                out,
+                structures,
+            )
         }
         TStmt::Switch(x, made, arms) => {
             let tested = value(s, x, at.next, from(at.next + 1, at.local), out, structures)?;
@@ -118,7 +189,16 @@ fn statement<'x>(
             put(out, Op::Const(ONE, 1))?;
             make(out, made.as_slice())?;
             let mut inside = Vec::new(s.alloc);
-            let last = labelled(s, gives, at.next, arms.as_slice(), tested, further(j), &mut inside, structures)?;
+            let last = labelled(
+                s,
+                gives,
+                at.next,
+                arms.as_slice(),
+                tested,
+                further(j),
+                &mut inside,
+                structures,
+            )?;
             put_block(out, inside)?;
             Ok(last)
         }

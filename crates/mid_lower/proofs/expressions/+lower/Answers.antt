@@ -111,7 +111,7 @@ kind-returns-in_ok-assign-in-Assign-None-default-default-clause-nodes t c =
     let of = ctype c.in-Assign-None-default-default.x.value.ty in
     let d0 : r ≡ q ++ converted of (is_flag y) c.args.t ++ stored h of n c.args.t = search rules in
     let d : r ≡ q ++ converted (type_of x) (is_flag y) c.args.t ++ stored h (type_of x) n c.args.t =
-        d0 ∙ ap (λ z. q ++ converted z (is_flag y) c.args.t ++ stored h z n c.args.t) (sym (type_is c.in-Assign-None-default-default.x.value)) in
+    d0 ∙ ap (λ z. q ++ converted z (is_flag y) c.args.t ++ stored h z n c.args.t) (sym (type_is c.in-Assign-None-default-default.x.value)) in
     assign_nodes h k x y (ctype c.args.ty.now) c.args.t n m u v l p q r e eu ev a b d
 
 pub kind-returns-in_ok-compound-in-Assign-Some-default-default-clause-nodes : goal.kind-returns-in_ok-compound-in-Assign-Some-default-default-clause-nodes
@@ -140,7 +140,7 @@ kind-returns-in_ok-compound-in-Assign-Some-default-default-clause-nodes t c =
     let b0 = ctype c.in-Assign-Some-default-default.y.value.ty in
     let d0 : r ≡ q ++ (DoN (o.Load (u + 1) n) ∷ []) ++ operated h op a0 b0 c.args.t (u + 1) u ++ converted a0 false c.args.t ++ (DoN (o.Store n c.args.t) ∷ []) = search rules in
     let d : r ≡ q ++ (DoN (o.Load (u + 1) n) ∷ []) ++ operated h op (type_of x) (type_of y) c.args.t (u + 1) u ++ converted (type_of x) false c.args.t ++ (DoN (o.Store n c.args.t) ∷ []) =
-        d0 ∙ (λ i. q ++ (DoN (o.Load (u + 1) n) ∷ []) ++ operated h op (tx i) (ty i) c.args.t (u + 1) u ++ converted (tx i) false c.args.t ++ (DoN (o.Store n c.args.t) ∷ [])) in
+    d0 ∙ (λ i. q ++ (DoN (o.Load (u + 1) n) ∷ []) ++ operated h op (tx i) (ty i) c.args.t (u + 1) u ++ converted (tx i) false c.args.t ++ (DoN (o.Store n c.args.t) ∷ [])) in
     compound_nodes h k op x y (ctype c.args.ty.now) c.args.t n m u v l p q r e eu ev a b d
 
 pub kind-returns-in_ok-step-in-Step-clause-nodes : goal.kind-returns-in_ok-step-in-Step-clause-nodes

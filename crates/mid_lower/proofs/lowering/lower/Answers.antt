@@ -41,10 +41,10 @@ new-requires c =
     let known : Known p = known_of p sound words few locals sized given in
     let made : map function_of c.from_vec.result ≡ map function_of c.in_ok-functions.functions.items = ap (map function_of) c.from_vec.ensures in
     let is = code_is p (map layout c.layouts.result.now) (map function c.functions.result.now) (map function c.functions-2.result.now) c.literals.result.now (map tstmt c.inits.result.now)
-        c.layouts.ensures.layouts c.functions.ensures.functions c.literals.ensures.literals c.inits.ensures.inits c.functions-2.ensures.functions
-        (function_of c.in_ok-start.start) (map function_of c.from_vec.result) c.from_vec-2.result c.from_vec-3.result c.main.result
-        c.in_ok-start.ensures (made ∙ c.in_ok-functions.ensures) (c.from_vec-2.ensures ∙ c.in_ok-globals.ensures ∙ ap (map (λ g. g.1)) c.globals.ensures.globals)
-        (c.from_vec-3.ensures ∙ c.in_ok-literals.ensures ∙ c.literals-2.ensures.literals) c.main.ensures.main in
+    c.layouts.ensures.layouts c.functions.ensures.functions c.literals.ensures.literals c.inits.ensures.inits c.functions-2.ensures.functions
+    (function_of c.in_ok-start.start) (map function_of c.from_vec.result) c.from_vec-2.result c.from_vec-3.result c.main.result
+    c.in_ok-start.ensures (made ∙ c.in_ok-functions.ensures) (c.from_vec-2.ensures ∙ c.in_ok-globals.ensures ∙ ap (map (λ g. g.1)) c.globals.ensures.globals)
+    (c.from_vec-3.ensures ∙ c.in_ok-literals.ensures ∙ c.literals-2.ensures.literals) c.main.ensures.main in
     record { is_mid = subst IsMid (sym is) (lowered_is_mid p known) }
 
 pub returns : goal.returns
@@ -52,8 +52,8 @@ returns c =
     let p = program c.args.checked.now in
     let made : map function_of c.from_vec.result ≡ map function_of c.in_ok-functions.functions.items = ap (map function_of) c.from_vec.ensures in
     let is = code_is p (map layout c.layouts.result.now) (map function c.functions.result.now) (map function c.functions-2.result.now) c.literals.result.now (map tstmt c.inits.result.now)
-        c.layouts.ensures.layouts c.functions.ensures.functions c.literals.ensures.literals c.inits.ensures.inits c.functions-2.ensures.functions
-        (function_of c.in_ok-start.start) (map function_of c.from_vec.result) c.from_vec-2.result c.from_vec-3.result c.main.result
-        c.in_ok-start.ensures (made ∙ c.in_ok-functions.ensures) (c.from_vec-2.ensures ∙ c.in_ok-globals.ensures ∙ ap (map (λ g. g.1)) c.globals.ensures.globals)
-        (c.from_vec-3.ensures ∙ c.in_ok-literals.ensures ∙ c.literals-2.ensures.literals) c.main.ensures.main in
+    c.layouts.ensures.layouts c.functions.ensures.functions c.literals.ensures.literals c.inits.ensures.inits c.functions-2.ensures.functions
+    (function_of c.in_ok-start.start) (map function_of c.from_vec.result) c.from_vec-2.result c.from_vec-3.result c.main.result
+    c.in_ok-start.ensures (made ∙ c.in_ok-functions.ensures) (c.from_vec-2.ensures ∙ c.in_ok-globals.ensures ∙ ap (map (λ g. g.1)) c.globals.ensures.globals)
+    (c.from_vec-3.ensures ∙ c.in_ok-literals.ensures ∙ c.literals-2.ensures.literals) c.main.ensures.main in
     record { lowered = c.new.ensures.mid ∙ is }

@@ -1,4 +1,4 @@
-use Rattle.std.proofs.Common.{rules, arith, true, false, if◌then◌else◌, ◌≡◌, ◌≤◌, ◌<◌, ℕ, ◌+◌, Bool, List, [], ◌∷◌, ◌++◌, length, length-append, append-nil, drop, is_some, option_map, Option, Some, None, map, sym, ap, ◌∙◌, refl, subst}
+use Rattle.std.proofs.Common.{rules, arith, true, false, if◌then◌else◌, ◌≡◌, ◌≤◌, ◌<◌, ℕ, ◌+◌, ◌*◌, Bool, List, [], ◌∷◌, ◌++◌, length, length-append, append-nil, drop, is_some, option_map, Option, Some, None, map, sym, ap, ◌∙◌, refl, subst}
 use Rattle.std.specs.Prelude.{OnOk, IfOk}
 use Rattle.c_types.specs.View.{ctype, texpr, tstmt, tstmts, tarm, tarms}
 use Rattle.c_types.specs.Typed.{TExprT, BlockZ, IfZ, WhileZ, DoWhileZ, ForZ, SwitchZ, ReturnZ, BreakZ, NoneZ, SomeZ, MoreZ, MoreB, StmtB}
@@ -21,7 +21,7 @@ use Rattle.mid_lower.specs.ListedStatements.{depth, low_label, tested_first, cho
 use Rattle.mid_lower.specs.View.{shape_of, jump_of}
 use Rattle.mid_lower.proofs.Forms.{on_ok}
 use Rattle.mid_lower.proofs.StatementForms.{block_nodes, if_nodes, while_nodes, do_while_nodes, for_nodes, none_nodes, switch_nodes, return_nodes, if_sizes, while_sizes, do_while_sizes, for_sizes, switch_sizes, if_length, while_length, do_while_length, for_length, switch_length, if_ok, arms_many, further_depth}
-use Rattle.mid_lower.proofs.Viewed.{type_is, pushed, again_is, leave_is, return_is, loop_is, stmts_left, arms_left}
+use Rattle.mid_lower.proofs.Viewed.{type_is, pushed, again_is, leave_is, return_is, loop_is, stmts_left, arms_left, stmts_drop, arms_drop}
 use Rattle.mid_lower.proofs.Arms.{is_stmt, Left, label_step, stmt_step}
 use Rattle.mid_lower.proofs.statements.+execute.Goals.{labelled-in-Case+in_ok-close_label-in-Case, labelled-in-Default+in_ok-close_label-in-Default, labelled-in-Stmt+in_ok-here-in-Stmt}
 use Rattle.mid_lower.proofs.statements.+execute.Goals as goal
@@ -63,7 +63,9 @@ statement-statement-requires t c =
     let dt : stmt_temps (tstmt c.deref.result.now) ≡ stmt_temps a = ap stmt_temps dr in
     let dl : length (stmt_sizes h (tstmt c.deref.result.now)) ≡ length (stmt_sizes h a) = ap (λ z. length (stmt_sizes h z)) dr in
     let dn : statement_nodes (tstmt c.deref.result.now) ≡ statement_nodes a = ap statement_nodes dr in
-    (search rules, (omega (arith, kt, rt, dt, tn), (omega (arith, kl, rl, dl, tl), (omega (arith, kn, rn, dn), omega (arith, rj, tn)))))
+    let dec : 2 * statement_nodes s ≡ t = c.decreases in
+    let fall : 2 * statement_nodes (tstmt c.deref.result.now) < t = omega (arith, kn, dn, dec) in
+    (fall, (omega (arith, kt, rt, dt, tn), (omega (arith, kl, rl, dl, tl), (omega (arith, kn, rn, dn), omega (arith, rj, tn)))))
 
 pub statement-returns-in_ok-put_choice-in-If-default-default-None-clause-nodes : goal.statement-returns-in_ok-put_choice-in-If-default-default-None-clause-nodes
 statement-returns-in_ok-put_choice-in-If-default-default-None-clause-nodes t c =
@@ -167,7 +169,9 @@ statement-statement-requires-in-If-default-default-Some t c =
     let dt : stmt_temps (tstmt c.deref-in-If-default-default-Some.result.now) ≡ stmt_temps a = ap stmt_temps dr in
     let dl : length (stmt_sizes h (tstmt c.deref-in-If-default-default-Some.result.now)) ≡ length (stmt_sizes h a) = ap (λ z. length (stmt_sizes h z)) dr in
     let dn : statement_nodes (tstmt c.deref-in-If-default-default-Some.result.now) ≡ statement_nodes a = ap statement_nodes dr in
-    (search rules, (omega (arith, kt, rt, dt, tn), (omega (arith, kl, rl, dl, tl), (omega (arith, kn, rn, dn), omega (arith, rj, tn)))))
+    let dec : 2 * statement_nodes s ≡ t = c.decreases in
+    let fall : 2 * statement_nodes (tstmt c.deref-in-If-default-default-Some.result.now) < t = omega (arith, kn, dn, dec) in
+    (fall, (omega (arith, kt, rt, dt, tn), (omega (arith, kl, rl, dl, tl), (omega (arith, kn, rn, dn), omega (arith, rj, tn)))))
 
 pub statement-statement-requires-in-If-default-default-Some-2 : goal.statement-statement-requires-in-If-default-default-Some-2
 statement-statement-requires-in-If-default-default-Some-2 t c =
@@ -192,7 +196,9 @@ statement-statement-requires-in-If-default-default-Some-2 t c =
     let dt : stmt_temps (tstmt c.deref-in-If-default-default-Some-2.result.now) ≡ stmt_temps y = ap stmt_temps dr in
     let dl : length (stmt_sizes h (tstmt c.deref-in-If-default-default-Some-2.result.now)) ≡ length (stmt_sizes h y) = ap (λ z. length (stmt_sizes h z)) dr in
     let dn : statement_nodes (tstmt c.deref-in-If-default-default-Some-2.result.now) ≡ statement_nodes y = ap statement_nodes dr in
-    (search rules, (omega (arith, kt, rt, dt, tn, un), (omega (arith, kl, rl, dl, tl, ul), (omega (arith, kn, rn, dn), omega (arith, rj, tn, un)))))
+    let dec : 2 * statement_nodes s ≡ t = c.decreases in
+    let fall : 2 * statement_nodes (tstmt c.deref-in-If-default-default-Some-2.result.now) < t = omega (arith, kn, dn, dec) in
+    (fall, (omega (arith, kt, rt, dt, tn, un), (omega (arith, kl, rl, dl, tl, ul), (omega (arith, kn, rn, dn), omega (arith, rj, tn, un)))))
 
 pub statement-returns-in_ok-put_choice-in-If-default-default-Some-clause-nodes : goal.statement-returns-in_ok-put_choice-in-If-default-default-Some-clause-nodes
 statement-returns-in_ok-put_choice-in-If-default-default-Some-clause-nodes t c =
@@ -308,7 +314,9 @@ statement-statement-requires-in-While t c =
     let dt : stmt_temps (tstmt c.deref-in-While.result.now) ≡ stmt_temps a = ap stmt_temps dr in
     let dl : length (stmt_sizes h (tstmt c.deref-in-While.result.now)) ≡ length (stmt_sizes h a) = ap (λ z. length (stmt_sizes h z)) dr in
     let dn : statement_nodes (tstmt c.deref-in-While.result.now) ≡ statement_nodes a = ap statement_nodes dr in
-    (search rules, (omega (arith, kt, rt, dt, tn), (omega (arith, kl, rl, dl, tl), (omega (arith, kn, rn, dn), omega arith))))
+    let dec : 2 * statement_nodes s ≡ t = c.decreases in
+    let fall : 2 * statement_nodes (tstmt c.deref-in-While.result.now) < t = omega (arith, kn, dn, dec) in
+    (fall, (omega (arith, kt, rt, dt, tn), (omega (arith, kl, rl, dl, tl), (omega (arith, kn, rn, dn), omega arith))))
 
 pub statement-returns-in_ok-push-in-While-2-clause-nodes : goal.statement-returns-in_ok-push-in-While-2-clause-nodes
 statement-returns-in_ok-push-in-While-2-clause-nodes t c =
@@ -397,7 +405,9 @@ statement-statement-requires-in-DoWhile t c =
     let dt : stmt_temps (tstmt c.deref-in-DoWhile.result.now) ≡ stmt_temps a = ap stmt_temps dr in
     let dl : length (stmt_sizes h (tstmt c.deref-in-DoWhile.result.now)) ≡ length (stmt_sizes h a) = ap (λ z. length (stmt_sizes h z)) dr in
     let dn : statement_nodes (tstmt c.deref-in-DoWhile.result.now) ≡ statement_nodes a = ap statement_nodes dr in
-    (search rules, (omega (arith, kt, rt, dt), (omega (arith, kl, rl, dl), (omega (arith, kn, rn, dn), omega arith))))
+    let dec : 2 * statement_nodes s ≡ t = c.decreases in
+    let fall : 2 * statement_nodes (tstmt c.deref-in-DoWhile.result.now) < t = omega (arith, kn, dn, dec) in
+    (fall, (omega (arith, kt, rt, dt), (omega (arith, kl, rl, dl), (omega (arith, kn, rn, dn), omega arith))))
 
 pub statement-value-requires-in-DoWhile-clause-locals : goal.statement-value-requires-in-DoWhile-clause-locals
 statement-value-requires-in-DoWhile-clause-locals t c =
@@ -533,7 +543,9 @@ statement-statement-requires-in-For-default-None-default-default-default t c =
     let dt : stmt_temps (tstmt c.deref-in-For-default-None-default-default-default.result.now) ≡ stmt_temps a = ap stmt_temps dr in
     let dl : length (stmt_sizes h (tstmt c.deref-in-For-default-None-default-default-default.result.now)) ≡ length (stmt_sizes h a) = ap (λ z. length (stmt_sizes h z)) dr in
     let dn : statement_nodes (tstmt c.deref-in-For-default-None-default-default-default.result.now) ≡ statement_nodes a = ap statement_nodes dr in
-    (search rules, (omega (arith, kt, rt, dt, tn), (omega (arith, kl, rl, dl, tl), (omega (arith, kn, rn, dn), omega arith))))
+    let dec : 2 * statement_nodes s ≡ t = c.decreases in
+    let fall : 2 * statement_nodes (tstmt c.deref-in-For-default-None-default-default-default.result.now) < t = omega (arith, kn, dn, dec) in
+    (fall, (omega (arith, kt, rt, dt, tn), (omega (arith, kl, rl, dl, tl), (omega (arith, kn, rn, dn), omega arith))))
 
 pub statement-close_turn-requires-clause-locals : goal.statement-close_turn-requires-clause-locals
 statement-close_turn-requires-clause-locals t c =
@@ -615,7 +627,9 @@ statement-returns-in_ok-done-in-For-default-None-default-default-default-clause-
     let q = c.test_first.new.structures.items in
     let r = c.statement-in-For-default-None-default-default-default.new.structures.items in
     let w = c.close_turn.new.structures.items in
-    let eq : q ≡ p ++ maybe_sizes h test = search rules in
+    let tr : option_map {U = TExprT} (λ x. texpr x.now) c.as_ref.result ≡ test = search rules in
+    let eq0 : q ≡ p ++ maybe_sizes h (option_map {U = TExprT} (λ x. texpr x.now) c.as_ref.result) = search rules in
+    let eq : q ≡ p ++ maybe_sizes h test = eq0 ∙ ap (λ z. p ++ maybe_sizes h z) tr in
     let er : r ≡ q ++ stmt_sizes h a = search rules in
     let ew : OnOk c.close_turn.result (w ≡ r ++ maybe_sizes h step) = search rules in
     on_ok c.close_turn.result (for_sizes h s c.in-For-default-None-default-default-default.made NoneZ test step a l p q r w e ep eq er) ew
@@ -681,7 +695,9 @@ statement-statement-requires-in-For-default-Some-default-default-default t c =
     let dt : stmt_temps (tstmt c.deref-in-For-default-Some-default-default-default.result.now) ≡ stmt_temps y = ap stmt_temps dr in
     let dl : length (stmt_sizes h (tstmt c.deref-in-For-default-Some-default-default-default.result.now)) ≡ length (stmt_sizes h y) = ap (λ z. length (stmt_sizes h z)) dr in
     let dn : statement_nodes (tstmt c.deref-in-For-default-Some-default-default-default.result.now) ≡ statement_nodes y = ap statement_nodes dr in
-    (search rules, (omega (arith, kt, rt, dt), (omega (arith, kl, rl, dl), (omega (arith, kn, rn, dn), omega (arith, rj)))))
+    let dec : 2 * statement_nodes s ≡ t = c.decreases in
+    let fall : 2 * statement_nodes (tstmt c.deref-in-For-default-Some-default-default-default.result.now) < t = omega (arith, kn, dn, dec) in
+    (fall, (omega (arith, kt, rt, dt), (omega (arith, kl, rl, dl), (omega (arith, kn, rn, dn), omega (arith, rj)))))
 
 pub statement-statement-requires-in-For-default-Some-default-default-default-2 : goal.statement-statement-requires-in-For-default-Some-default-default-default-2
 statement-statement-requires-in-For-default-Some-default-default-default-2 t c =
@@ -708,7 +724,9 @@ statement-statement-requires-in-For-default-Some-default-default-default-2 t c =
     let dt : stmt_temps (tstmt c.deref-in-For-default-Some-default-default-default-2.result.now) ≡ stmt_temps a = ap stmt_temps dr in
     let dl : length (stmt_sizes h (tstmt c.deref-in-For-default-Some-default-default-default-2.result.now)) ≡ length (stmt_sizes h a) = ap (λ z. length (stmt_sizes h z)) dr in
     let dn : statement_nodes (tstmt c.deref-in-For-default-Some-default-default-default-2.result.now) ≡ statement_nodes a = ap statement_nodes dr in
-    (search rules, (omega (arith, kt, rt, dt, bn, tn), (omega (arith, kl, rl, dl, bl, tl), (omega (arith, kn, rn, dn), omega arith))))
+    let dec : 2 * statement_nodes s ≡ t = c.decreases in
+    let fall : 2 * statement_nodes (tstmt c.deref-in-For-default-Some-default-default-default-2.result.now) < t = omega (arith, kn, dn, dec) in
+    (fall, (omega (arith, kt, rt, dt, bn, tn), (omega (arith, kl, rl, dl, bl, tl), (omega (arith, kn, rn, dn), omega arith))))
 
 pub statement-close_turn-requires-in-For-default-Some-default-default-default-clause-locals : goal.statement-close_turn-requires-in-For-default-Some-default-default-default-clause-locals
 statement-close_turn-requires-in-For-default-Some-default-default-default-clause-locals t c =
@@ -795,7 +813,9 @@ statement-returns-in_ok-done-in-For-default-Some-default-default-default-clause-
     let q = c.test_first-in-For-default-Some-default-default-default.new.structures.items in
     let r = c.statement-in-For-default-Some-default-default-default-2.new.structures.items in
     let w = c.close_turn-in-For-default-Some-default-default-default.new.structures.items in
-    let eq : q ≡ p ++ maybe_sizes h test = search rules in
+    let tr : option_map {U = TExprT} (λ x. texpr x.now) c.as_ref-in-For-default-Some-default-default-default.result ≡ test = search rules in
+    let eq0 : q ≡ p ++ maybe_sizes h (option_map {U = TExprT} (λ x. texpr x.now) c.as_ref-in-For-default-Some-default-default-default.result) = search rules in
+    let eq : q ≡ p ++ maybe_sizes h test = eq0 ∙ ap (λ z. p ++ maybe_sizes h z) tr in
     let er : r ≡ q ++ stmt_sizes h a = search rules in
     let ew : OnOk c.close_turn-in-For-default-Some-default-default-default.result (w ≡ r ++ maybe_sizes h step) = search rules in
     on_ok c.close_turn-in-For-default-Some-default-default-default.result (for_sizes h s c.in-For-default-Some-default-default-default.made (SomeZ y) test step a l p q r w e ep eq er) ew
@@ -861,7 +881,9 @@ statement-statements-requires t c =
     let dt : stmts_temps (tstmts (map tstmt c.as_slice-in-Block.result.now)) ≡ stmts_temps xs = ap stmts_temps dr in
     let dl : length (stmts_sizes h (tstmts (map tstmt c.as_slice-in-Block.result.now))) ≡ length (stmts_sizes h xs) = ap (λ z. length (stmts_sizes h z)) dr in
     let dn : statements_nodes (tstmts (map tstmt c.as_slice-in-Block.result.now)) ≡ statements_nodes xs = ap statements_nodes dr in
-    (search rules, (omega (arith, kt, rt, dt), (omega (arith, kl, rl, dl), (omega (arith, kn, rn, dn), rj))))
+    let dec : 2 * statement_nodes s ≡ t = c.decreases in
+    let fall : 2 * statements_nodes (tstmts (map tstmt c.as_slice-in-Block.result.now)) + 1 < t = omega (arith, kn, dn, dec) in
+    (fall, (omega (arith, kt, rt, dt), (omega (arith, kl, rl, dl), (omega (arith, kn, rn, dn), rj))))
 
 pub statement-returns-in_ok-make-in-Block-clause-nodes : goal.statement-returns-in_ok-make-in-Block-clause-nodes
 statement-returns-in_ok-make-in-Block-clause-nodes t c =
@@ -941,9 +963,11 @@ statement-labelled-requires t c =
     let dt : arms_temps (tarms (map tarm c.as_slice-in-Switch-3.result.now)) ≡ arms_temps xs = ap arms_temps dr in
     let dl : length (arms_sizes h (tarms (map tarm c.as_slice-in-Switch-3.result.now))) ≡ length (arms_sizes h xs) = ap (λ z. length (arms_sizes h z)) dr in
     let dn : arms_nodes (tarms (map tarm c.as_slice-in-Switch-3.result.now)) ≡ arms_nodes xs = ap arms_nodes dr in
+    let dec : 2 * statement_nodes s ≡ t = c.decreases in
+    let fall : 2 * arms_nodes (tarms (map tarm c.as_slice-in-Switch-3.result.now)) + 1 < t = omega (arith, kn, dn, dec) in
     let jr : jump_of c.further.result ≡ further (jump_of c.args.j) = search rules in
     let jz : depth (jump_of c.further.result) ≡ depth (jump_of c.args.j) + 1 = ap depth jr ∙ further_depth (jump_of c.args.j) in
-    (search rules, (omega (arith, kt, rt, dt, tn), (omega (arith, kl, rl, dl, tl), (omega (arith, kn, rn, dn), omega (arith, rj, jz, tn)))))
+    (fall, (omega (arith, kt, rt, dt, tn), (omega (arith, kl, rl, dl, tl), (omega (arith, kn, rn, dn), omega (arith, rj, jz, tn)))))
 
 pub statement-returns-in_ok-put_block-in-Switch-2-clause-nodes : goal.statement-returns-in_ok-put_block-in-Switch-2-clause-nodes
 statement-returns-in_ok-put_block-in-Switch-2-clause-nodes t c =
@@ -1083,7 +1107,10 @@ statements-statement-requires t c =
     let rt : c.args.at.next + stmts_temps xs ≤ 1000000 = c.requires.temps in
     let rl : c.args.at.local + length (stmts_sizes h xs) ≤ 1000000 = c.requires.locals in
     let rj : depth (jump_of c.args.j) ≤ c.args.at.next = c.requires.jump in
-    (search rules, (omega (arith, kt, rt), (omega (arith, kl, two, rl), (omega (arith, kn), omega (arith, rj, on)))))
+    let dec : 2 * statements_nodes xs + 1 ≡ t = c.decreases in
+    let most : statement_nodes a + statements_nodes rest ≤ statements_nodes xs = subst (λ z. statements_nodes z ≤ statements_nodes xs) left (stmts_drop c.loop-a.a-index c.args.body.now) in
+    let fall : 2 * statement_nodes a < t = omega (arith, most, dec) in
+    (fall, (omega (arith, kt, rt), (omega (arith, kl, two, rl), (omega (arith, kn), omega (arith, rj, on)))))
 
 pub labelled-statement-requires : goal.labelled-statement-requires
 labelled-statement-requires t c =
@@ -1101,7 +1128,10 @@ labelled-statement-requires t c =
     let rt : c.args.at.next + arms_temps xs ≤ 1000000 = c.requires.temps in
     let rl : c.args.at.local + length (arms_sizes h xs) ≤ 1000000 = c.requires.locals in
     let rj : depth (jump_of c.args.j) ≤ c.args.at.next = c.requires.jump in
-    (search rules, (omega (arith, kt, rt), (omega (arith, kl, two, rl), (omega (arith, kn), omega (arith, rj, on)))))
+    let dec : 2 * arms_nodes xs + 1 ≡ t = c.decreases in
+    let most : statement_nodes a + arms_nodes rest ≤ arms_nodes xs = subst (λ z. arms_nodes z ≤ arms_nodes xs) left (arms_drop c.loop-arm.arm-index c.args.arms.now) in
+    let fall : 2 * statement_nodes a < t = omega (arith, most, dec) in
+    (fall, (omega (arith, kt, rt), (omega (arith, kl, two, rl), (omega (arith, kn), omega (arith, rj, on)))))
 
 pub labelled-loop-arm-preserved : goal.labelled-loop-arm-preserved
 labelled-loop-arm-preserved t c =

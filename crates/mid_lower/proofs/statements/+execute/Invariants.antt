@@ -1,6 +1,6 @@
-use Rattle.std.proofs.Common.{◌≡◌, ◌+◌, ◌≤◌, ◌++◌, map, drop, length}
+use Rattle.std.proofs.Common.{◌≡◌, ◌+◌, ◌*◌, ◌≤◌, ◌++◌, map, drop, length}
 use Rattle.c_types.specs.View.{ctype, tstmt, tstmts, tarm, tarms}
-use Rattle.c_types.specs.Nodes.{statements_nodes, arms_nodes}
+use Rattle.c_types.specs.Nodes.{statement_nodes, statements_nodes, arms_nodes}
 use Rattle.mid_code.specs.Functions.{node}
 use Rattle.mid_lower.specs.Counts.{stmts_temps, stmts_sizes, arms_temps, arms_sizes}
 use Rattle.mid_lower.specs.ListedStatements.{low_stmts, low_arms, arms_open}
@@ -26,3 +26,12 @@ invariant-labelled-loop-arm l = record {
   few : arms_nodes (tarms (map tarm (drop l.arm-index l.arms))) ≤ 1000000;
   on : l.fn.at.next ≤ l.here.next;
 }
+
+abbrev pub decreases-statement : goal.decreases-statement
+decreases-statement l = 2 * statement_nodes (tstmt l.a.now)
+
+abbrev pub decreases-statements : goal.decreases-statements
+decreases-statements l = 2 * statements_nodes (tstmts (map tstmt l.body.now)) + 1
+
+abbrev pub decreases-labelled : goal.decreases-labelled
+decreases-labelled l = 2 * arms_nodes (tarms (map tarm l.arms.now)) + 1

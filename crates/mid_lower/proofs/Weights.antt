@@ -1,0 +1,207 @@
+-- What the lists of lowered code weigh.
+use Rattle.std.proofs.Common.{◌≡◌, ℕ, zero, suc, ◌+◌, ◌*◌, ◌≤◌, ◌==◌, Bool, true, false, List, [], ◌∷◌, ◌++◌, length, Option, Some, None, refl, sym, ap, ◌∙◌, arith, if◌then◌else◌}
+use Rattle.c_tree.specs.declared.operator.BinOp.{BinOp}
+use Rattle.c_tree.specs.declared.operator.BinOp.TheVariants as bin
+use Rattle.c_types.specs.Types.{Ty, VoidY, IntY, BoolY, EnumY, StructY, UnionY, PointerY, ArrayY}
+use Rattle.c_meaning.specs.Kinds.{is_structure, decayed, pointed, is_pointer}
+use Rattle.mid_code.specs.Code.{NodesT, Stop}
+use Rattle.mid_code.specs.Runs.{nodes_weight}
+use Rattle.mid_code.specs.declared.node.Op.{Op}
+use Rattle.mid_code.specs.declared.node.Op.TheVariants as o
+use Rattle.mid_code.specs.Functions.{NodeT, DoN, ChooseN, BlockN, LoopN, LeaveN, AgainN, ReturnN, listed, joined, before, op_before}
+use Rattle.v32_isa.specs.declared.instruction.One.TheVariants.{ISGN}
+use Rattle.v32_isa.specs.declared.instruction.Two.TheVariants.{IMUL}
+use Rattle.mid_lower.specs.Parts.{count, one}
+use Rattle.mid_lower.specs.Shape.{Shape, words}
+use Rattle.mid_lower.specs.ListedParts.{Listing, copy_turn, copied, zeroed, moved_by, structure_read, as_flag, converted, stored, with_word, stepped, stepped_back, distant, with_pointer, operated_on, operated, one_more, one_less, tested_as, negated_as, made}
+
+abbrev pub weigh : Listing → ℕ
+weigh xs = nodes_weight (joined (listed xs))
+
+-- a node weighs the same in front of anything
+op_weighs : (x : Op ℕ) (c : NodesT ℕ) → nodes_weight (op_before x c) ≡ nodes_weight (op_before x Stop) + nodes_weight c
+op_weighs (o.Const t word) c = omega arith
+op_weighs (o.Null t) c = omega arith
+op_weighs (o.Move t a) c = omega arith
+op_weighs (o.One i t a) c = omega arith
+op_weighs (o.Two i t a b) c = omega arith
+op_weighs (o.Global t number) c = omega arith
+op_weighs (o.Local t number) c = omega arith
+op_weighs (o.Literal t number) c = omega arith
+op_weighs (o.Card t) c = omega arith
+op_weighs (o.Step t p x) c = omega arith
+op_weighs (o.Apart t p q) c = omega arith
+op_weighs (o.PtrTest i t p q) c = omega arith
+op_weighs (o.Load t p) c = omega arith
+op_weighs (o.Store p a) c = omega arith
+op_weighs (o.Fresh local) c = omega arith
+op_weighs (o.End local) c = omega arith
+op_weighs (o.Call t f args) c = omega arith
+op_weighs (o.In t port) c = omega arith
+op_weighs (o.Out port a) c = omega arith
+op_weighs o.Wait c = omega arith
+op_weighs o.Halt c = omega arith
+
+node_weighs : (x : NodeT ℕ) (c : NodesT ℕ) → nodes_weight (before x c) ≡ nodes_weight (before x Stop) + nodes_weight c
+node_weighs (DoN x) c = op_weighs x c
+node_weighs (ChooseN p a b) c = omega arith
+node_weighs (BlockN b) c = omega arith
+node_weighs (LoopN b) c = omega arith
+node_weighs (LeaveN k) c = omega arith
+node_weighs (AgainN k) c = omega arith
+node_weighs (ReturnN p) c = omega arith
+
+pub both : (xs ys : Listing) → weigh (xs ++ ys) ≡ weigh xs + weigh ys
+both [] ys = omega arith
+both (x ∷ xs) ys =
+    let e = node_weighs x (joined (listed (xs ++ ys))) in
+    let f = node_weighs x (joined (listed xs)) in
+    let g = both xs ys in
+    omega (arith, e, f, g)
+
+pub three : (xs ys zs : Listing) → weigh (xs ++ ys ++ zs) ≡ weigh xs + weigh ys + weigh zs
+three xs ys zs = let e = both (xs ++ ys) zs in let f = both xs ys in omega (arith, e, f)
+
+pub four : (xs ys zs ws : Listing) → weigh (xs ++ ys ++ zs ++ ws) ≡ weigh xs + weigh ys + weigh zs + weigh ws
+four xs ys zs ws = let e = both (xs ++ ys ++ zs) ws in let f = three xs ys zs in omega (arith, e, f)
+
+-- ---- parts
+
+pub copied_weighs : (size : ℕ) → weigh (copied size) ≤ 80
+copied_weighs size = by (size == 0)
+  where
+    by : (b : Bool) → weigh (if b then [] else DoN (o.Const count size) ∷ DoN (o.Const one 1) ∷ LoopN (listed copy_turn) ∷ []) ≤ 80
+    by true = omega arith
+    by false = omega arith
+
+pub moved_weighs : (t p offset : ℕ) → weigh (moved_by t p offset) ≤ 16
+moved_weighs t p offset = omega arith
+
+pub read_weighs : (size k t : ℕ) → weigh (structure_read size k t) ≤ 104
+read_weighs size k t =
+    let e = three (DoN (o.Fresh k) ∷ DoN (o.Move 3 t) ∷ DoN (o.Local 4 k) ∷ []) (copied size) (DoN (o.Local t k) ∷ []) in
+    let f = copied_weighs size in
+    omega (arith, e, f)
+
+pub flag_weighs : (known : Bool) (t : ℕ) → weigh (as_flag known t) ≤ 8
+flag_weighs true t = omega arith
+flag_weighs false t = omega arith
+
+pub converted_weighs : (ty : Ty) (known : Bool) (t : ℕ) → weigh (converted ty known t) ≤ 8
+converted_weighs VoidY known t = omega arith
+converted_weighs IntY known t = omega arith
+converted_weighs BoolY known t = flag_weighs known t
+converted_weighs (EnumY k) known t = omega arith
+converted_weighs (StructY k) known t = omega arith
+converted_weighs (UnionY k) known t = omega arith
+converted_weighs (PointerY to) known t = omega arith
+converted_weighs (ArrayY of len) known t = omega arith
+
+structure_weighs : (size p a : ℕ) → weigh ((DoN (o.Move 3 a) ∷ DoN (o.Move 4 p) ∷ []) ++ copied size) ≤ 96
+structure_weighs size p a = let e = both (DoN (o.Move 3 a) ∷ DoN (o.Move 4 p) ∷ []) (copied size) in let f = copied_weighs size in omega (arith, e, f)
+
+pub stored_weighs : (h : Shape) (ty : Ty) (p a : ℕ) → weigh (stored h ty p a) ≤ 96
+stored_weighs h VoidY p a = omega arith
+stored_weighs h IntY p a = omega arith
+stored_weighs h BoolY p a = omega arith
+stored_weighs h (EnumY k) p a = omega arith
+stored_weighs h (StructY k) p a = structure_weighs (words h (StructY k)) p a
+stored_weighs h (UnionY k) p a = structure_weighs (words h (UnionY k)) p a
+stored_weighs h (PointerY to) p a = omega arith
+stored_weighs h (ArrayY of len) p a = omega arith
+
+pub word_weighs : (op : BinOp) (t a b : ℕ) → weigh (with_word op t a b) ≤ 32
+word_weighs bin.Mul t a b = omega arith
+word_weighs bin.Div t a b = omega arith
+word_weighs bin.Mod t a b = omega arith
+word_weighs bin.Add t a b = omega arith
+word_weighs bin.Sub t a b = omega arith
+word_weighs bin.Shl t a b = omega arith
+word_weighs bin.Shr t a b = omega arith
+word_weighs bin.Less t a b = omega arith
+word_weighs bin.LessEq t a b = omega arith
+word_weighs bin.More t a b = omega arith
+word_weighs bin.MoreEq t a b = omega arith
+word_weighs bin.Equal t a b = omega arith
+word_weighs bin.NotEqual t a b = omega arith
+word_weighs bin.BitAnd t a b = omega arith
+word_weighs bin.BitXor t a b = omega arith
+word_weighs bin.BitOr t a b = omega arith
+word_weighs bin.AndAlso t a b = omega arith
+word_weighs bin.OrElse t a b = omega arith
+
+pub stepped_weighs : (size t a b : ℕ) → weigh (stepped size t a b) ≤ 24
+stepped_weighs size t a b = by (size == 1)
+  where
+    by : (one : Bool) → weigh (if one then DoN (o.Step t a b) ∷ [] else DoN (o.Const t size) ∷ DoN (o.Two IMUL b b t) ∷ DoN (o.Step t a b) ∷ []) ≤ 24
+    by true = omega arith
+    by false = omega arith
+
+back_weighs : (size t a b : ℕ) → weigh (stepped_back size t a b) ≤ 32
+back_weighs size t a b = let e = both (DoN (o.One ISGN b b) ∷ []) (stepped size t a b) in let f = stepped_weighs size t a b in omega (arith, e, f)
+
+distant_weighs : (size t a b : ℕ) → weigh (distant size t a b) ≤ 32
+distant_weighs size t a b = omega arith
+
+pointer_weighs : (op : BinOp) (size : ℕ) (pointers : Bool) (t a b : ℕ) → weigh (with_pointer op size pointers t a b) ≤ 32
+pointer_weighs bin.Mul size pointers t a b = omega arith
+pointer_weighs bin.Div size pointers t a b = omega arith
+pointer_weighs bin.Mod size pointers t a b = omega arith
+pointer_weighs bin.Add size pointers t a b = let e = stepped_weighs size t a b in omega (arith, e)
+pointer_weighs bin.Sub size true t a b = distant_weighs size t a b
+pointer_weighs bin.Sub size false t a b = back_weighs size t a b
+pointer_weighs bin.Shl size pointers t a b = omega arith
+pointer_weighs bin.Shr size pointers t a b = omega arith
+pointer_weighs bin.Less size pointers t a b = omega arith
+pointer_weighs bin.LessEq size pointers t a b = omega arith
+pointer_weighs bin.More size pointers t a b = omega arith
+pointer_weighs bin.MoreEq size pointers t a b = omega arith
+pointer_weighs bin.Equal size pointers t a b = omega arith
+pointer_weighs bin.NotEqual size pointers t a b = omega arith
+pointer_weighs bin.BitAnd size pointers t a b = omega arith
+pointer_weighs bin.BitXor size pointers t a b = omega arith
+pointer_weighs bin.BitOr size pointers t a b = omega arith
+pointer_weighs bin.AndAlso size pointers t a b = omega arith
+pointer_weighs bin.OrElse size pointers t a b = omega arith
+
+pub operated_weighs : (h : Shape) (op : BinOp) (ta tb : Ty) (t a b : ℕ) → weigh (operated h op ta tb t a b) ≤ 32
+operated_weighs h op ta tb t a b = by (pointed (decayed ta)) (is_pointer (decayed tb))
+  where
+    by : (q : Option Ty) (pointers : Bool) → weigh (operated_on h op q pointers t a b) ≤ 32
+    by None pointers = word_weighs op t a b
+    by (Some to) pointers = pointer_weighs op (words h to) pointers t a b
+
+pub more_weighs : (h : Shape) (q : Option Ty) (t a : ℕ) → weigh (one_more h q t a) ≤ 24
+more_weighs h None t a = omega arith
+more_weighs h (Some to) t a = omega arith
+
+pub less_weighs : (h : Shape) (q : Option Ty) (t a : ℕ) → weigh (one_less h q t a) ≤ 24
+less_weighs h None t a = omega arith
+less_weighs h (Some to) t a = omega arith
+
+pub tested_weighs : (ty : Ty) (t : ℕ) → weigh (tested_as ty t) ≤ 16
+tested_weighs VoidY t = omega arith
+tested_weighs IntY t = omega arith
+tested_weighs BoolY t = omega arith
+tested_weighs (EnumY k) t = omega arith
+tested_weighs (StructY k) t = omega arith
+tested_weighs (UnionY k) t = omega arith
+tested_weighs (PointerY to) t = omega arith
+tested_weighs (ArrayY of len) t = omega arith
+
+pub negated_weighs : (ty : Ty) (t : ℕ) → weigh (negated_as ty t) ≤ 16
+negated_weighs VoidY t = omega arith
+negated_weighs IntY t = omega arith
+negated_weighs BoolY t = omega arith
+negated_weighs (EnumY k) t = omega arith
+negated_weighs (StructY k) t = omega arith
+negated_weighs (UnionY k) t = omega arith
+negated_weighs (PointerY to) t = omega arith
+negated_weighs (ArrayY of len) t = omega arith
+
+pub made_weighs : (ks : List ℕ) → weigh (made ks) ≡ 0
+made_weighs [] = refl
+made_weighs (k ∷ ks) = let e = made_weighs ks in omega (arith, e)
+
+pub zeroed_weighs : (size : ℕ) → weigh (zeroed size) ≤ 72
+zeroed_weighs size = omega arith

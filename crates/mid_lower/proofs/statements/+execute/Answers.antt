@@ -1144,40 +1144,40 @@ labelled-loop-arm-preserved t c =
     let left : arms ≡ MoreB (tarm c.arm-item.result) rest = arms_left c.args.arms.now c.loop-arm.arm-index c.arm-item.result c.loop-arm-test.true c.arm-item.is in
     let i = c.loop-arm.invariant in
     let was : Left h ty c.args.t j (map node c.args.out.now.items ++ low_arms h ty c.args.t xs c.args.at.next c.args.at.local 0 j) (c.args.structures.now.items ++ arms_sizes h xs) (c.args.at.next + arms_temps xs) (c.args.at.local + length (arms_sizes h xs)) c.args.at.next c.loop-arm.met (map node c.loop-arm.out.items) (map node c.loop-arm.inside.items) c.loop-arm.structures.items c.loop-arm.here.next c.loop-arm.here.local arms =
-        record { nodes = i.nodes; sizes = i.sizes; temps = i.temps; locals = i.local; few = i.few; on = i.on } in
+    record { nodes = i.nodes; sizes = i.sizes; temps = i.temps; locals = i.local; few = i.few; on = i.on } in
     let before : Left h ty c.args.t j (map node c.args.out.now.items ++ low_arms h ty c.args.t xs c.args.at.next c.args.at.local 0 j) (c.args.structures.now.items ++ arms_sizes h xs) (c.args.at.next + arms_temps xs) (c.args.at.local + length (arms_sizes h xs)) c.args.at.next c.loop-arm.met (map node c.loop-arm.out.items) (map node c.loop-arm.inside.items) c.loop-arm.structures.items c.loop-arm.here.next c.loop-arm.here.local (MoreB (tarm c.arm-item.result) rest) =
-        subst (λ z. Left h ty c.args.t j (map node c.args.out.now.items ++ low_arms h ty c.args.t xs c.args.at.next c.args.at.local 0 j) (c.args.structures.now.items ++ arms_sizes h xs) (c.args.at.next + arms_temps xs) (c.args.at.local + length (arms_sizes h xs)) c.args.at.next c.loop-arm.met (map node c.loop-arm.out.items) (map node c.loop-arm.inside.items) c.loop-arm.structures.items c.loop-arm.here.next c.loop-arm.here.local z) left was in
+    subst (λ z. Left h ty c.args.t j (map node c.args.out.now.items ++ low_arms h ty c.args.t xs c.args.at.next c.args.at.local 0 j) (c.args.structures.now.items ++ arms_sizes h xs) (c.args.at.next + arms_temps xs) (c.args.at.local + length (arms_sizes h xs)) c.args.at.next c.loop-arm.met (map node c.loop-arm.out.items) (map node c.loop-arm.inside.items) c.loop-arm.structures.items c.loop-arm.here.next c.loop-arm.here.local z) left was in
     let after : Left h ty c.args.t j (map node c.args.out.now.items ++ low_arms h ty c.args.t xs c.args.at.next c.args.at.local 0 j) (c.args.structures.now.items ++ arms_sizes h xs) (c.args.at.next + arms_temps xs) (c.args.at.local + length (arms_sizes h xs)) c.args.at.next c.match-arm.met (map node c.match-arm.out.items) (map node c.match-arm.inside.items) c.match-arm.structures.items c.match-arm.here.next c.match-arm.here.local rest =
-        elim c.match-arm.branch [
-          labelled-in-Case+in_ok-close_label-in-Case w ↦
-            let label : is_stmt (tarm c.arm-item.result) ≡ false = search (rules, al.the_lemmas, w.in-Case.is) in
-            let eo : map node c.match-arm.out.items ≡ map node c.loop-arm.out.items ++ (if c.loop-arm.met then low_label c.args.t (map node c.loop-arm.inside.items) else []) = search (rules, w.out-is, w.in_ok-close_label-in-Case.ensures) in
-            let ei : map node c.match-arm.inside.items ≡ [] = search (rules, w.inside-is, w.new-inside-in-Case.ensures.items) in
-            let em : c.match-arm.met ≡ true = search (rules, w.met-is) in
-            let es : c.match-arm.structures.items ≡ c.loop-arm.structures.items = search (rules, w.structures-is) in
-            let en : c.match-arm.here.next ≡ c.loop-arm.here.next = search (rules, w.here-is) in
-            let el : c.match-arm.here.local ≡ c.loop-arm.here.local = search (rules, w.here-is) in
-            label_step (tarm c.arm-item.result) rest label before eo ei em es en el
-        | labelled-in-Default+in_ok-close_label-in-Default w ↦
-            let label : is_stmt (tarm c.arm-item.result) ≡ false = search (rules, al.the_lemmas, w.in-Default.is) in
-            let eo : map node c.match-arm.out.items ≡ map node c.loop-arm.out.items ++ (if c.loop-arm.met then low_label c.args.t (map node c.loop-arm.inside.items) else []) = search (rules, w.out-is, w.in_ok-close_label-in-Default.ensures) in
-            let ei : map node c.match-arm.inside.items ≡ [] = search (rules, w.inside-is, w.new-inside-in-Default.ensures.items) in
-            let em : c.match-arm.met ≡ true = search (rules, w.met-is) in
-            let es : c.match-arm.structures.items ≡ c.loop-arm.structures.items = search (rules, w.structures-is) in
-            let en : c.match-arm.here.next ≡ c.loop-arm.here.next = search (rules, w.here-is) in
-            let el : c.match-arm.here.local ≡ c.loop-arm.here.local = search (rules, w.here-is) in
-            label_step (tarm c.arm-item.result) rest label before eo ei em es en el
-        | labelled-in-Stmt+in_ok-here-in-Stmt w ↦
-            let a = tstmt w.in-Stmt.a in
-            let is : tarm c.arm-item.result ≡ StmtB a = search (rules, al.the_lemmas, w.in-Stmt.is) in
-            let on : Left h ty c.args.t j (map node c.args.out.now.items ++ low_arms h ty c.args.t xs c.args.at.next c.args.at.local 0 j) (c.args.structures.now.items ++ arms_sizes h xs) (c.args.at.next + arms_temps xs) (c.args.at.local + length (arms_sizes h xs)) c.args.at.next c.loop-arm.met (map node c.loop-arm.out.items) (map node c.loop-arm.inside.items) c.loop-arm.structures.items c.loop-arm.here.next c.loop-arm.here.local (MoreB (StmtB a) rest) =
-                subst (λ z. Left h ty c.args.t j (map node c.args.out.now.items ++ low_arms h ty c.args.t xs c.args.at.next c.args.at.local 0 j) (c.args.structures.now.items ++ arms_sizes h xs) (c.args.at.next + arms_temps xs) (c.args.at.local + length (arms_sizes h xs)) c.args.at.next c.loop-arm.met (map node c.loop-arm.out.items) (map node c.loop-arm.inside.items) c.loop-arm.structures.items c.loop-arm.here.next c.loop-arm.here.local (MoreB z rest)) is before in
-            let eo : map node c.match-arm.out.items ≡ map node c.loop-arm.out.items = search (rules, w.out-is) in
-            let ei : map node c.match-arm.inside.items ≡ map node c.loop-arm.inside.items ++ low_stmt h ty a c.loop-arm.here.next c.loop-arm.here.local 0 j = search (rules, w.inside-is, w.in_ok-here-in-Stmt.ensures.nodes) in
-            let em : c.match-arm.met ≡ c.loop-arm.met = search (rules, w.met-is) in
-            let es : c.match-arm.structures.items ≡ c.loop-arm.structures.items ++ stmt_sizes h a = search (rules, w.structures-is, w.in_ok-here-in-Stmt.ensures.sizes) in
-            let en : c.match-arm.here.next ≡ c.loop-arm.here.next + stmt_temps a = search (rules, w.here-is, w.in_ok-here-in-Stmt.ensures.next) in
-            let el : c.match-arm.here.local ≡ c.loop-arm.here.local + length (stmt_sizes h a) = search (rules, w.here-is, w.in_ok-here-in-Stmt.ensures.local) in
-            stmt_step a rest on eo ei em es en el
-        ] in
+    elim c.match-arm.branch [
+      | labelled-in-Case+in_ok-close_label-in-Case w ↦
+          let label : is_stmt (tarm c.arm-item.result) ≡ false = search (rules, al.the_lemmas, w.in-Case.is) in
+          let eo : map node c.match-arm.out.items ≡ map node c.loop-arm.out.items ++ (if c.loop-arm.met then low_label c.args.t (map node c.loop-arm.inside.items) else []) = search (rules, w.out-is, w.in_ok-close_label-in-Case.ensures) in
+          let ei : map node c.match-arm.inside.items ≡ [] = search (rules, w.inside-is, w.new-inside-in-Case.ensures.items) in
+          let em : c.match-arm.met ≡ true = search (rules, w.met-is) in
+          let es : c.match-arm.structures.items ≡ c.loop-arm.structures.items = search (rules, w.structures-is) in
+          let en : c.match-arm.here.next ≡ c.loop-arm.here.next = search (rules, w.here-is) in
+          let el : c.match-arm.here.local ≡ c.loop-arm.here.local = search (rules, w.here-is) in
+          label_step (tarm c.arm-item.result) rest label before eo ei em es en el
+      | labelled-in-Default+in_ok-close_label-in-Default w ↦
+          let label : is_stmt (tarm c.arm-item.result) ≡ false = search (rules, al.the_lemmas, w.in-Default.is) in
+          let eo : map node c.match-arm.out.items ≡ map node c.loop-arm.out.items ++ (if c.loop-arm.met then low_label c.args.t (map node c.loop-arm.inside.items) else []) = search (rules, w.out-is, w.in_ok-close_label-in-Default.ensures) in
+          let ei : map node c.match-arm.inside.items ≡ [] = search (rules, w.inside-is, w.new-inside-in-Default.ensures.items) in
+          let em : c.match-arm.met ≡ true = search (rules, w.met-is) in
+          let es : c.match-arm.structures.items ≡ c.loop-arm.structures.items = search (rules, w.structures-is) in
+          let en : c.match-arm.here.next ≡ c.loop-arm.here.next = search (rules, w.here-is) in
+          let el : c.match-arm.here.local ≡ c.loop-arm.here.local = search (rules, w.here-is) in
+          label_step (tarm c.arm-item.result) rest label before eo ei em es en el
+      | labelled-in-Stmt+in_ok-here-in-Stmt w ↦
+          let a = tstmt w.in-Stmt.a in
+          let is : tarm c.arm-item.result ≡ StmtB a = search (rules, al.the_lemmas, w.in-Stmt.is) in
+          let on : Left h ty c.args.t j (map node c.args.out.now.items ++ low_arms h ty c.args.t xs c.args.at.next c.args.at.local 0 j) (c.args.structures.now.items ++ arms_sizes h xs) (c.args.at.next + arms_temps xs) (c.args.at.local + length (arms_sizes h xs)) c.args.at.next c.loop-arm.met (map node c.loop-arm.out.items) (map node c.loop-arm.inside.items) c.loop-arm.structures.items c.loop-arm.here.next c.loop-arm.here.local (MoreB (StmtB a) rest) =
+          subst (λ z. Left h ty c.args.t j (map node c.args.out.now.items ++ low_arms h ty c.args.t xs c.args.at.next c.args.at.local 0 j) (c.args.structures.now.items ++ arms_sizes h xs) (c.args.at.next + arms_temps xs) (c.args.at.local + length (arms_sizes h xs)) c.args.at.next c.loop-arm.met (map node c.loop-arm.out.items) (map node c.loop-arm.inside.items) c.loop-arm.structures.items c.loop-arm.here.next c.loop-arm.here.local (MoreB z rest)) is before in
+          let eo : map node c.match-arm.out.items ≡ map node c.loop-arm.out.items = search (rules, w.out-is) in
+          let ei : map node c.match-arm.inside.items ≡ map node c.loop-arm.inside.items ++ low_stmt h ty a c.loop-arm.here.next c.loop-arm.here.local 0 j = search (rules, w.inside-is, w.in_ok-here-in-Stmt.ensures.nodes) in
+          let em : c.match-arm.met ≡ c.loop-arm.met = search (rules, w.met-is) in
+          let es : c.match-arm.structures.items ≡ c.loop-arm.structures.items ++ stmt_sizes h a = search (rules, w.structures-is, w.in_ok-here-in-Stmt.ensures.sizes) in
+          let en : c.match-arm.here.next ≡ c.loop-arm.here.next + stmt_temps a = search (rules, w.here-is, w.in_ok-here-in-Stmt.ensures.next) in
+          let el : c.match-arm.here.local ≡ c.loop-arm.here.local + length (stmt_sizes h a) = search (rules, w.here-is, w.in_ok-here-in-Stmt.ensures.local) in
+          stmt_step a rest on eo ei em es en el
+    ] in
     record { nodes = after.nodes; sizes = after.sizes; temps = after.temps; local = after.locals; few = after.few; on = after.on }

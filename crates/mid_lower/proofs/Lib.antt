@@ -61,6 +61,12 @@ pub mod StartKept
 pub mod IsMidCode
 pub mod Finished
 pub mod LocalWords
+pub mod Wrapped
+pub mod Joins
+pub mod Forms
+pub mod StatementForms
+pub mod Viewed
+pub mod Arms
 pub mod Weights
 pub mod WeighedExpressions
 pub mod WeighedStatements

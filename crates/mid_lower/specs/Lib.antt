@@ -14,3 +14,5 @@ pub mod ListedExpressions
 pub mod ListedInitialisers
 pub mod ListedStatements
 pub mod ListedFunctions
+pub mod View
+pub mod MaybeTypes

@@ -4,6 +4,7 @@ use Rattle.std.specs.Option.{option_map_or}
 use Rattle.c_types.specs.Types.{Ty, VoidY, LayoutT}
 use Rattle.c_types.specs.Sizes.{words_of}
 use Rattle.c_types.specs.Programs.{TFunctionT, ProgramT}
+use Rattle.c_meaning.specs.Setting.{Setting}
 
 -- The layouts by the numbers of structures and unions; the functions and the text literals by theirs.
 pub record Shape : Type 0 where
@@ -13,6 +14,10 @@ pub record Shape : Type 0 where
 
 abbrev pub shape : ProgramT → Shape
 shape p = record { layouts = p.layouts; functions = p.functions; literals = p.literals }
+
+-- that of the meaning's setting
+abbrev pub shape_in : Setting → Shape
+shape_in s = record { layouts = s.layouts; functions = s.functions; literals = s.literals }
 
 -- The words of a type, as a word of the console. A type of a checked program has at most 4,194,304.
 abbrev pub words : Shape → Ty → ℕ

@@ -8,6 +8,7 @@ use Rattle.mid_code.specs.Placed.{PlacedT}
 use Rattle.mid_code.specs.Invariants.{IsPlaced}
 use Rattle.asm_laws.specs.Tables.{addresses}
 use Rattle.asm_laws.specs.Emitted.{program_items, labels_of}
+use Rattle.asm_emit.specs.Words.{AreWords, TextsAreWords}
 use Rattle.asm_emit.specs.EmittedFrom.{CanBeEmitted, IsEmitted}
 use Rattle.asm_laws.proofs.Sizes.{program_few, few_texts, few_functions}
 use Rattle.asm_emit.proofs.Promised.{is_emitted}
@@ -31,11 +32,11 @@ module _ (x : PlacedT) (names : List (List ℕ)) (placed : IsPlaced x) (can : Ca
   pub few_literal_numbers : length x.code.literals < 2 ^ 32 - 1
   few_literal_numbers = let p = few_texts x.code.literals in let r = can.room in omega (arith, p, r)
 
-  pub promised : (items : List AsmItem) → items ≡ program_items (whole_of_parts x.code.functions x.spots x.frames names (wrapped_addresses 0 x.code.globals)) x.code → IsEmitted x names items
-  promised items e =
+  pub promised : AreWords x.frames → TextsAreWords x.code.literals → (items : List AsmItem) → items ≡ program_items (whole_of_parts x.code.functions x.spots x.frames names (wrapped_addresses 0 x.code.globals)) x.code → IsEmitted x names items
+  promised small texts items e =
       let few = placed.code.globals in
       let same = addresses_same x.code.globals 0 (omega (arith, few)) in
-      is_emitted x names items placed can (e ∙ ap (λ globals. program_items (whole_of_parts x.code.functions x.spots x.frames names globals) x.code) same)
+      is_emitted x names items placed can small texts (e ∙ ap (λ globals. program_items (whole_of_parts x.code.functions x.spots x.frames names globals) x.code) same)
 
 pub if_ok : {T E A : Type 0} (items : T → A) (Q : A → Type 0) (y : A) → ((xs : A) → xs ≡ y → Q xs) → (r : Result T E) → IfOk r (λ v. items v ≡ y) → IfOk r (λ v. Q (items v))
 if_ok items Q y f (Ok v) h = f (items v) h

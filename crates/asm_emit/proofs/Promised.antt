@@ -1,6 +1,7 @@
 -- What is promised of the items of placed code.
-use Rattle.std.proofs.Common.{◌≡◌, ℕ, suc, ◌+◌, ◌-◌, ◌^◌, ◌<◌, List, [], ◌∷◌, ◌++◌, length, map, Some, refl, sym, ap, ◌∙◌, subst, arith, append_assoc}
-use Rattle.std.specs.Prelude.{get_or, slice_get}
+use Rattle.std.proofs.Common.{◌≡◌, ℕ, zero, suc, ◌+◌, ◌-◌, ◌^◌, ◌<◌, List, [], ◌∷◌, ◌++◌, length, map, Some, refl, sym, ap, ◌∙◌, subst, arith, append_assoc}
+use Rattle.std.specs.Prelude.{get_or, slice_get, sum}
+use Rattle.std.proofs.lemmas.List.Sums.{sum_by-cons}
 use Rattle.std.proofs.lemmas.Option.{get_or_from_slice_get, slice_get-get_or}
 use Rattle.v32_isa.specs.declared.instruction.Plain.TheVariants.{RET}
 use Rattle.v32_isa.specs.declared.instruction.One.TheVariants.{POP}
@@ -21,11 +22,14 @@ use Rattle.asm_laws.specs.Labelled.{label_of_function}
 use Rattle.asm_laws.specs.Operations.{Whole, literal_items, literals_items}
 use Rattle.asm_laws.specs.Framing.{frame_made}
 use Rattle.asm_laws.specs.Emitted.{labels, functions_labels, mark, code_items, own_items, function_items, functions_items, start_items, program_items}
-use Rattle.asm_laws.specs.Tables.{whole_of}
+use Rattle.asm_laws.specs.Tables.{addresses, whole_of}
+use Rattle.asm_reader.specs.Readable.{AreReadable}
+use Rattle.asm_emit.specs.Words.{AreWords, TextsAreWords}
 use Rattle.asm_emit.specs.EmittedFrom.{CanBeEmitted, AreData, IsCalled, AreItemsOf, AreFunctions, IsEmitted}
 use Rattle.asm_laws.proofs.Sizes.{program_size}
 use Rattle.asm_laws.proofs.Known.{no_fault}
 use Rattle.asm_emit.proofs.Forward.{own_go_on}
+use Rattle.asm_emit.proofs.Readable.{program_readable}
 use Rattle.asm_emit.proofs.Agreeing.{sound, few_labels, words_agree}
 
 -- ---- literals are data
@@ -92,16 +96,29 @@ module _ (x : CodeT Where) (W : Whole) (count : length W.names ≡ length x.func
         are_functions (f + 1) m left gs texts (omega (arith, same)) (later f name left h) ok.1 (omega (arith, few)),
       )
 
+-- ---- numbers are words
+
+size_small : (ns : List ℕ) (k : ℕ) → AreWords ns → get_or ns k 0 < 2 ^ 32
+size_small [] k h = omega arith
+size_small (n ∷ ns) zero h = h.0
+size_small (n ∷ ns) (suc k) h = size_small ns k h.1
+
+address_small : (p : ℕ) (ns : List ℕ) (k : ℕ) → p + sum ns < 2 ^ 32 → get_or (addresses p ns) k 0 < 2 ^ 32
+address_small p [] k lt = omega arith
+address_small p (n ∷ ns) zero lt = let s = sum_by-cons (λ x. x) n ns in omega (arith, lt, s)
+address_small p (n ∷ ns) (suc k) lt = let s = sum_by-cons (λ x. x) n ns in address_small (p + n) ns k (omega (arith, lt, s))
+
 -- ---- the whole program
 
-pub is_emitted : (x : PlacedT) (names : List (List ℕ)) (items : List AsmItem) → IsPlaced x → CanBeEmitted x names → items ≡ program_items (whole_of x names) x.code → IsEmitted x names items
-is_emitted x names items placed can e =
+pub is_emitted : (x : PlacedT) (names : List (List ℕ)) (items : List AsmItem) → IsPlaced x → CanBeEmitted x names → AreWords x.frames → TextsAreWords x.code.literals → items ≡ program_items (whole_of x names) x.code → IsEmitted x names items
+is_emitted x names items placed can small texts e =
     let W = whole_of x names in
     let s = sound x names placed can in
     let less = program_size x.code W s.counts s.start s.each in
     let few = few_labels x names placed can in
     record {
       faultless = ap fault_of e ∙ no_fault x.code W s;
+      readable = subst AreReadable (sym e) (program_readable x.code W can.words (λ k. address_small 0 x.code.globals k (let g = placed.code.globals in omega (arith, g))) (λ k. size_small x.frames k small) s.start s.each texts);
       agrees = λ words labels at. words_agree x names placed can words labels (subst (λ xs. asm.Placed xs words labels) e at);
       functions = (
         start_items W x.code.main x.code.start.body,

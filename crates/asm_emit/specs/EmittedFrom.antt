@@ -1,5 +1,6 @@
 -- What `emit` promises: assembly items of placed code.
-use Rattle.std.specs.Prelude.{ℕ, ◌≡◌, ◌≤◌, ◌+◌, List, [], ◌∷◌, ◌++◌, length, sum_by, slice_get, Some, None}
+use Rattle.std.specs.Prelude.{ℕ, ◌≡◌, ◌≤◌, ◌+◌, List, [], ◌∷◌, ◌++◌, length, sum_by, slice_get, Some, None, true}
+use Rattle.std.specs.List.{list_all}
 use Rattle.either.specs.declared.Either.TheVariants.{Right}
 use Rattle.v32_isa.specs.declared.instruction.Plain.TheVariants.{RET, MOVS, SETS}
 use Rattle.v32_isa.specs.declared.instruction.Go.TheVariants.{JMP, CALL}
@@ -8,6 +9,8 @@ use Rattle.v32_isa.specs.declared.instruction.Src.TheVariants.{Imm}
 use Rattle.v32_isa.specs.declared.instruction.Instr.TheVariants as instr
 use Rattle.asm_items.specs.declared.item.AsmItem.{AsmItem}
 use Rattle.asm_items.specs.declared.item.AsmItem.TheVariants.{Label, Op, Integer, Pointer}
+use Rattle.asm_items.specs.Vocabulary.{is_word}
+use Rattle.asm_reader.specs.Readable.{AreReadable}
 use Rattle.assembler.specs.Placed as asm
 use Rattle.assembler.specs.Faults.{fault_of}
 use Rattle.assembler.specs.Sizes.{total_size}
@@ -26,10 +29,11 @@ literal_words x = sum_by (λ text. length text + 1) x.code.literals
 
 -- ---- what is asked
 
--- Each function has a name, no two have the same, and there is room for the words.
+-- Each function has a name, which is a word, no two have the same, and there is room for the words.
 pub record CanBeEmitted (x : PlacedT) (names : List (List ℕ)) : Type 0 where
   pub named : length names ≡ length x.code.functions
   pub differ : AreDifferent names
+  pub words : list_all is_word names ≡ true
   pub room : weight x.code + literal_words x + 64 ≤ 33554432
 
 -- ---- the items of functions
@@ -87,6 +91,8 @@ AreFunctions names _ _ items = ⊥
 pub record IsEmitted (x : PlacedT) (names : List (List ℕ)) (items : List AsmItem) : Type 0 where
   -- labels are distinct and all there, and the words are not too many
   pub faultless : fault_of items ≡ None
+  -- they can be written as text
+  pub readable : AreReadable items
   -- the words that the items are placed as do what the code means, each global at the sum of the sizes before it
   pub agrees : (words : List ℕ) (labels : List (List ℕ × ℕ)) → asm.Placed items words labels → AgreesWithin 1 (addresses 0 x.code.globals) (placed_runs x) words
   pub functions : (start rest : List AsmItem) × (items ≡ start ++ rest) × AreFunctions names names x.code.functions rest

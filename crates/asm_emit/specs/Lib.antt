@@ -1,3 +1,4 @@
 pub mod EmittedFrom
 pub mod View
 pub mod Listed
+pub mod Words

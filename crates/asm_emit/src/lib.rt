@@ -13,5 +13,6 @@ mod operations;
 mod pieces;
 mod program;
 mod scope;
+mod words;
 
 pub use program::emit;

@@ -14,6 +14,7 @@ use crate::hands::op;
 use crate::names::{function_label, literal_label};
 use crate::nodes::{put_body, put_mark};
 use crate::scope::{Around, Scope, scope_at};
+use crate::words::{sizes_are_words, texts_are_words};
 use asm_items::AsmItem;
 use either::Either;
 use kit_base::{Memory, Name};
@@ -226,7 +227,7 @@ fn items_of(
     Ok(out)
 }
 
-/// The items of placed code whose functions have these names, one each, no two the same. The words fit into a program. Items begin with the
+/// The items of placed code whose functions have these names, one each, which are words, no two the same. The words fit into a program. Items begin with the
 /// start, which fills the globals, calls `f_main` and halts; the functions follow in order, each behind the label `f_` and its name, and then
 /// the literals. The error is want of memory.
 pub fn emit(alloc: Global, x: &Placed, names: &[Name]) -> Result<Vec<AsmItem>, Memory>
@@ -234,6 +235,8 @@ pub fn emit(alloc: Global, x: &Placed, names: &[Name]) -> Result<Vec<AsmItem>, M
     ensures emitted { IfOk result (λ v. IsEmitted (placed x.now) names.now v.items) }
 {
     placed_code_is_sound(x);
+    sizes_are_words(x.frames().sizes.as_slice());
+    texts_are_words(x.code().literals.as_slice());
     items_of(
         alloc,
         x.code(),

@@ -1,10 +1,6 @@
-pub mod Text
-pub mod Steps
-pub mod Source
-pub mod Straight
-pub mod Program
-pub mod Agrees
 pub mod Due
-pub mod Causes
-pub mod Build
 pub mod Checked
+pub mod Starts
+pub mod Build
+pub mod Causes
+pub mod Inner

@@ -1,11 +1,13 @@
 -- What was placed can be emitted, and what comes of it is what the program asks for.
 use Rattle.std.proofs.Common.{◌≡◌, ℕ, zero, suc, ◌+◌, ◌*◌, ◌≤◌, arith, List, [], ◌∷◌, map, length, Some, refl, sym, ap, ◌∙◌, subst}
 use Rattle.std.proofs.lemmas.List.{length-map}
-use Rattle.std.specs.Prelude.{slice_get, sum_by}
+use Rattle.std.specs.Prelude.{slice_get, sum_by, Bool, true, ◌&&◌}
+use Rattle.std.specs.List.{list_all}
 use Rattle.asm_items.specs.declared.item.AsmItem.{AsmItem}
+use Rattle.asm_items.specs.Vocabulary.{is_word}
 use Rattle.c_types.specs.Programs.{TFunctionT, ProgramT}
 use Rattle.c_types.specs.Nodes.{program_nodes}
-use Rattle.c_facts.specs.Sound.{IsSound, AreApart}
+use Rattle.c_facts.specs.Sound.{Scene, AreFunctions, scene, IsSound, AreApart}
 use Rattle.c_meaning.specs.Setting.{Setting, setting}
 use Rattle.mid_code.specs.declared.placed.Where.{Where}
 use Rattle.mid_code.specs.Code.{FunctionT, CodeT}
@@ -23,6 +25,9 @@ use Rattle.reg_choose.specs.Each.{AllSpare}
 
 -- ---- names
 
+both : (a b : Bool) → a ≡ true → b ≡ true → (a && b) ≡ true
+both a b h k = rw (h, k) refl
+
 differs_from : (n : List ℕ) (ns : List (List ℕ)) → ((j : ℕ) → slice_get ns j ≡ Some n → ⊥) → DifferFrom n ns
 differs_from n [] h = tt
 differs_from n (m ∷ ns) h = (λ e. h zero (ap Some (sym e)), differs_from n ns (λ j e. h (suc j) e))
@@ -36,6 +41,10 @@ less_one i j e = omega (arith, e)
 different : (ns : List (List ℕ)) → AreApart ns → AreDifferent ns
 different [] h = tt
 different (n ∷ ns) h = (differs_from n ns (λ j e. no_successor j (h zero (suc j) n refl e)), different ns (λ i j m p q. less_one i j (h (suc i) (suc j) m p q)))
+
+names_are_words : (z : Scene) (fs : List TFunctionT) → AreFunctions z fs → list_all is_word (map (λ f. f.name) fs) ≡ true
+names_are_words z [] h = refl
+names_are_words z (f ∷ fs) h = both (is_word f.name) (list_all is_word (map (λ f. f.name) fs)) h.0.word (names_are_words z fs h.1)
 
 -- ---- functions
 
@@ -65,6 +74,7 @@ module _ (p : ProgramT) (m promoted : CodeT ℕ) (cs : List (List Where)) (x : P
       record {
         named = ap length e ∙ length-map p.functions (λ f. f.name) ∙ as_lowered (setting p []) p.functions m.functions l.functions ∙ as_promoted m.functions promoted.functions o.functions ∙ as_placed promoted.functions x.code.functions c.adds_none;
         differ = subst AreDifferent (sym e) (different (names_of p) sound.function_names);
+        words = ap (list_all is_word) e ∙ names_are_words (scene p) p.functions sound.functions;
         room = omega (arith, words, few, l.weighs, o.weighs, c.weighs);
       }
 

@@ -36,4 +36,4 @@ pub record IsCompiled (p : ProgramT) (c : CompiledT) : Type 0 where
   pub placed : IsPlacedFrom c.mid c.choices c.placed
   pub emitted : IsEmitted c.placed (names_of p) c.items
   -- the words that the items are placed as do what the program means
-  pub does : DoesAsMeant p c.placed c.items
+  pub does : DoesAsMeant p c.mid c.placed c.items

@@ -12,6 +12,7 @@ use c_check::Program;
 use c_facts::laws::{programs_are_sound, programs_have_few_nodes};
 use kit_base::Memory;
 use mid_code::{Choice, Mid, Placed};
+use mid_lower::lower;
 use mid_scalars::promote;
 use pass_laws::passes_meet;
 use reg_choose::choose_all;
@@ -48,4 +49,13 @@ pub fn compile_lowered(alloc: Global, checked: &Program, lowered: Mid) -> Result
         placed,
         items,
     })
+}
+
+/// What is made of a program: it is lowered to mid code, from which local places that need no address are taken; a register or slot is chosen for each
+/// temporary; and the code over these places becomes assembly items. The error is want of memory.
+pub fn compile(alloc: Global, checked: &Program) -> Result<Compiled, Memory>
+    ensures compiled { IfOk result (λ c. IsCompiled (program checked.now) (compiled c)) }
+{
+    let lowered = lower(alloc, checked)?;
+    compile_lowered(alloc, checked, lowered)
 }

@@ -8,4 +8,4 @@
 mod compiling;
 mod naming;
 
-pub use compiling::{Compiled, compile_lowered};
+pub use compiling::{Compiled, compile, compile_lowered};

@@ -30,7 +30,7 @@ module _ (p : ProgramT) (m promoted : CodeT ℕ) (cs : List (List Where)) (x : P
   abbrev source : Meaning
   source = c_runs p x.frames
 
-  lowered_keeps : KeepsRuns source (mid_runs promoted x.frames)
+  pub lowered_keeps : KeepsRuns source (mid_runs promoted x.frames)
   lowered_keeps = keeps_through source (mid_runs m x.frames) (mid_runs promoted x.frames) (l.keeps x.frames) (o.keeps x.frames)
 
   pub keeps : KeepsRuns source (placed_runs x)
@@ -48,6 +48,12 @@ module _ (p : ProgramT) (m promoted : CodeT ℕ) (cs : List (List Where)) (x : P
   agrees words labels stands =
       subst (λ globals. AgreesWithin 64 (addresses 0 globals) source words) same_globals
       (within_through 64 (addresses 0 x.code.globals) source (placed_runs x) words keeps works (e.agrees words labels stands))
+
+  -- the words do what promoted code means
+  pub follows : (words : List ℕ) (labels : List (List ℕ × ℕ)) → asm.Placed items words labels → AgreesWithin 1 (addresses 0 (map (λ g. g.1) p.globals)) (mid_runs promoted x.frames) words
+  follows words labels stands =
+      subst (λ globals. AgreesWithin 1 (addresses 0 globals) (mid_runs promoted x.frames) words) same_globals
+      (within_through 1 (addresses 0 x.code.globals) (mid_runs promoted x.frames) (placed_runs x) words c.keeps c.works (e.agrees words labels stands))
 
   pub small : total_size items ≤ 128 * program_nodes p + literal_words x + 64
   small = omega (arith, e.small, c.weighs, o.weighs, l.weighs)

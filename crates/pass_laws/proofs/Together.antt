@@ -5,6 +5,8 @@ use Rattle.pass_laws.proofs.FrameChain.{frames_fit}
 
 pub meet : PassesMeet
 meet p m promoted cs x names items l o a c e = record {
+  keeps = chain.lowered_keeps p m promoted cs x names items l o c e;
+  follows = chain.follows p m promoted cs x names items l o c e;
   agrees = chain.agrees p m promoted cs x names items l o c e;
   small = chain.small p m promoted cs x names items l o c e;
   frames = frames_fit p m promoted cs x l o a c;

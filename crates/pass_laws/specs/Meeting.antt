@@ -14,6 +14,8 @@ use Rattle.mid_code.specs.Calls.{loops, CallsTo, AddsNone}
 use Rattle.mid_code.specs.Choices.{AreSafe}
 use Rattle.mid_code.specs.Placed.{PlacedT}
 use Rattle.mid_code.specs.Agrees.{AgreesWithin}
+use Rattle.mid_code.specs.Keeps.{KeepsRuns}
+use Rattle.mid_code.specs.Runs.{mid_runs}
 use Rattle.mid_lower.specs.LoweredFrom.{IsLoweredFunction, IsLoweredFrom}
 use Rattle.mid_lower.specs.SourceLoops.{HasNoLoops, TreeCalls}
 use Rattle.mid_scalars.specs.PromotedFrom.{IsPromotedFrom}
@@ -21,9 +23,12 @@ use Rattle.reg_frames.specs.PlacedFrom.{IsPlacedFrom}
 use Rattle.asm_laws.specs.Tables.{addresses}
 use Rattle.asm_emit.specs.EmittedFrom.{IsEmitted, literal_words}
 
--- Items of a program whose frames have these sizes: the words that they are placed as do what it means, each global at the sum of the sizes
--- before it.
-pub record DoesAsMeant (p : ProgramT) (x : PlacedT) (items : List AsmItem) : Type 0 where
+-- Items of a program, by way of promoted code and of code whose frames have these sizes: the words that they are placed as do what it means, each
+-- global at the sum of the sizes before it.
+pub record DoesAsMeant (p : ProgramT) (promoted : CodeT ℕ) (x : PlacedT) (items : List AsmItem) : Type 0 where
+  -- the promoted code has the program's runs, and the words do what it means in at most as many steps as its work, and 64
+  pub keeps : KeepsRuns (c_runs p x.frames) (mid_runs promoted x.frames)
+  pub follows : (words : List ℕ) (labels : List (List ℕ × ℕ)) → asm.Placed items words labels → AgreesWithin 1 (addresses 0 (map (λ g. g.1) p.globals)) (mid_runs promoted x.frames) words
   pub agrees : (words : List ℕ) (labels : List (List ℕ × ℕ)) → asm.Placed items words labels → AgreesWithin 64 (addresses 0 (map (λ g. g.1) p.globals)) (c_runs p x.frames) words
   pub small : total_size items ≤ 128 * program_nodes p + literal_words x + 64
   pub frames : EachFits (setting p []) p.functions x.frames
@@ -31,7 +36,7 @@ pub record DoesAsMeant (p : ProgramT) (x : PlacedT) (items : List AsmItem) : Typ
 abbrev pub PassesMeet : Type 0
 PassesMeet =
     (p : ProgramT) (m promoted : CodeT ℕ) (cs : List (List Where)) (x : PlacedT) (names : List (List ℕ)) (items : List AsmItem)
-    → IsLoweredFrom p m → IsPromotedFrom m promoted → AreSafe promoted cs → IsPlacedFrom promoted cs x → IsEmitted x names items → DoesAsMeant p x items
+    → IsLoweredFrom p m → IsPromotedFrom m promoted → AreSafe promoted cs → IsPlacedFrom promoted cs x → IsEmitted x names items → DoesAsMeant p promoted x items
 
 -- a function in the tree, lowered, promoted and placed
 abbrev pub StraightStays : Type 0

@@ -1,0 +1,248 @@
+-- The items of placed code can be written as text and read again.
+use Rattle.std.proofs.Common.{◌≡◌, ℕ, suc, ◌+◌, ◌*◌, ◌%◌, ◌^◌, ◌<◌, ◌≤◌, Bool, true, false, List, [], ◌∷◌, ◌++◌, map, length, sum, Option, Some, None, refl, sym, ap, subst, arith}
+use Rattle.std.specs.Prelude.{◌==◌, cond, get_or, All}
+use Rattle.std.specs.List.{list_all}
+use Rattle.std.proofs.lemmas.List.Elements.{All-nil, All-cons}
+use Rattle.std.proofs.lemmas.List.Sums.{sum_by-cons}
+use Rattle.kit_base.specs.Word.{add, sub}
+use Rattle.either.specs.declared.Either.TheVariants.{Left, Right}
+use Rattle.v32_isa.specs.declared.instruction.One.{One}
+use Rattle.v32_isa.specs.declared.instruction.Two.{Two}
+use Rattle.v32_isa.specs.declared.instruction.Two.TheVariants.{IADD, ISUB}
+use Rattle.v32_isa.specs.declared.instruction.Src.TheVariants as src
+use Rattle.v32_isa.specs.declared.instruction.Instr.{Instr}
+use Rattle.v32_isa.specs.declared.instruction.Instr.TheVariants as instr
+use Rattle.asm_items.specs.declared.item.AsmItem.{AsmItem}
+use Rattle.asm_items.specs.declared.item.AsmItem.TheVariants as item
+use Rattle.asm_items.specs.Items.{Imm}
+use Rattle.asm_items.specs.Operands.{Operand, operands}
+use Rattle.asm_items.specs.Vocabulary.{is_word}
+use Rattle.asm_reader.specs.Readable.{IsName, IsArgument, IsReadable, AreReadable}
+use Rattle.mid_code.specs.declared.placed.Where.{Where}
+use Rattle.mid_code.specs.declared.placed.Where.TheVariants.{Reg, Slot}
+use Rattle.mid_code.specs.Code.{OpT, ConstO, NullO, MoveO, OneO, TwoO, GlobalO, LocalO, LiteralO, CardO, StepO, ApartO, PtrTestO, LoadO, StoreO, FreshO, EndO, InO, OutO, WaitO, HaltO, NodesT, Stop, Do, Call, Choose, Block, Loop, Leave, Again, Return, FunctionT, CodeT}
+use Rattle.mid_code.specs.Invariants.{AllOf, IsOp, AreNodes}
+use Rattle.asm_laws.specs.Names.{jump_label, literal_label, function_label}
+use Rattle.asm_laws.specs.Operations.{Frame, Whole, register, word_at, fetch, keep, fetches, keeps, keeps_some, is_in, hand, brings, takes, aim, lays, moves, changes, is_direct, in_place, apart, computes, slot_arg, slot_args, pushed_arg, pushed_args, popped_arg, popped_args, args_items, call_items, op_items, giving, start_frame, opening_items, literal_items, literals_items}
+use Rattle.asm_laws.specs.Framing.{room_made, frame_gone}
+use Rattle.asm_laws.specs.Emitted.{labels, enclosing, jump, jump_unless, mark, first_part, second_part, choice, one_way, is_stop, enclosed, returning, code_items, exit_items, function_items, functions_items, closing_items, start_items, program_items}
+use Rattle.asm_emit.specs.Words.{AreWords, TextsAreWords}
+use Rattle.asm_emit.proofs.ReadableLabels.{jump_named, literal_named, function_named}
+
+-- what the operands are, and what the items are, one by one
+abbrev Arguments : List Operand → Type 0
+Arguments [] = Unit {0}
+Arguments (a ∷ as) = IsArgument a × Arguments as
+
+abbrev Fine : AsmItem → Type 0
+Fine (item.Label name) = IsName name
+Fine (item.Op i) = Arguments (operands i)
+Fine (item.Integer w) = w < 2 ^ 32
+Fine (item.Pointer name) = IsName name
+
+abbrev AllFine : List AsmItem → Type 0
+AllFine [] = Unit {0}
+AllFine (x ∷ xs) = Fine x × AllFine xs
+
+arguments_all : (as : List Operand) → Arguments as → All IsArgument as
+arguments_all [] h = All-nil IsArgument
+arguments_all (a ∷ as) h = All-cons IsArgument a as h.0 (arguments_all as h.1)
+
+fine_reads : (x : AsmItem) → Fine x → IsReadable x
+fine_reads (item.Label name) h = h
+fine_reads (item.Op i) h = arguments_all (operands i) h
+fine_reads (item.Integer w) h = h
+fine_reads (item.Pointer name) h = h
+
+all_read : (xs : List AsmItem) → AllFine xs → AreReadable xs
+all_read [] h = All-nil IsReadable
+all_read (x ∷ xs) h = All-cons IsReadable x xs (fine_reads x h.0) (all_read xs h.1)
+
+join : (xs ys : List AsmItem) → AllFine xs → AllFine ys → AllFine (xs ++ ys)
+join [] ys h g = g
+join (x ∷ xs) ys h g = (h.0, join xs ys h.1 g)
+
+either : (b : Bool) (xs ys : List AsmItem) → AllFine xs → AllFine ys → AllFine (cond b xs ys)
+either true xs ys h g = h
+either false xs ys h g = g
+
+-- ---- numbers
+
+in_registers : (q : ℕ) → register q < 16
+in_registers q = omega arith
+
+in_ports : (p : ℕ) → p % 16384 < 16384
+in_ports p = omega arith
+
+in_words : (a b : ℕ) → sub a b < 2 ^ 32
+in_words a b = omega arith
+
+hand_fine : (p : Where) (r : ℕ) → r < 16 → hand p r < 16
+hand_fine (Reg q) r lt = in_registers q
+hand_fine (Slot k) r lt = lt
+
+aim_fine : (t : Where) → aim t < 16
+aim_fine (Reg q) = in_registers q
+aim_fine (Slot k) = omega arith
+
+-- ---- operations
+
+fetch_fine : (F : Frame) (p : Where) (r : ℕ) → r < 16 → Fine (fetches F p r)
+fetch_fine F (Reg q) r lt = (lt, (in_registers q, tt))
+fetch_fine F (Slot k) r lt = (lt, ((omega arith, in_words _ F.size), tt))
+
+keep_fine : (F : Frame) (t : Where) (r : ℕ) → r < 16 → Fine (item.Op (keep F t r))
+keep_fine F (Reg q) r lt = (in_registers q, (lt, tt))
+keep_fine F (Slot k) r lt = ((omega arith, in_words _ F.size), (lt, tt))
+
+some_fine : (F : Frame) (t : Option Where) → AllFine (keeps_some F t)
+some_fine F None = tt
+some_fine F (Some t) = (keep_fine F t 9 (omega arith), tt)
+
+brings_fine : (F : Frame) (p : Where) (r : ℕ) → r < 16 → AllFine (brings F p r)
+brings_fine F (Reg q) r lt = tt
+brings_fine F (Slot k) r lt = (fetch_fine F (Slot k) r lt, tt)
+
+takes_fine : (F : Frame) (p : Where) (r : ℕ) → r < 16 → AllFine (takes F p r)
+takes_fine F p r lt = either (is_in p r) [] (fetches F p r ∷ []) tt (fetch_fine F p r lt, tt)
+
+lays_fine : (F : Frame) (t : Where) → AllFine (lays F t)
+lays_fine F (Reg q) = tt
+lays_fine F (Slot k) = (keep_fine F (Slot k) 9 (omega arith), tt)
+
+moves_fine : (F : Frame) (t a : Where) → AllFine (moves F t a)
+moves_fine F t (Reg q) = either (is_in t (register q)) [] (item.Op (keep F t (register q)) ∷ []) tt (keep_fine F t (register q) (in_registers q), tt)
+moves_fine F t (Slot k) = (fetch_fine F (Slot k) (aim t) (aim_fine t), lays_fine F t)
+
+changes_fine : (F : Frame) (o : One) (t a : Where) → AllFine (changes F o t a)
+changes_fine F o t a = join (takes F a (aim t)) (item.Op (instr.One o (aim t)) ∷ lays F t) (takes_fine F a (aim t) (aim_fine t)) ((aim_fine t, tt), lays_fine F t)
+
+computes_fine : (F : Frame) (o : Two) (t a b : Where) → AllFine (computes F o t a b)
+computes_fine F o t a b =
+    let hb = hand_fine b 10 (omega arith) in
+    let bb = brings_fine F b 10 (omega arith) in
+    either (is_direct o t b) (in_place F o (aim t) a b) (apart F o t a b)
+    (join (takes F a (aim t)) (brings F b 10 ++ item.Op (instr.Two o (aim t) (src.Reg (hand b 10))) ∷ []) (takes_fine F a (aim t) (aim_fine t)) (join (brings F b 10) (item.Op (instr.Two o (aim t) (src.Reg (hand b 10))) ∷ []) bb ((aim_fine t, (hb, tt)), tt)))
+    (fetch_fine F a 9 (omega arith), join (brings F b 10) (item.Op (instr.Two o 9 (src.Reg (hand b 10))) ∷ keeps F t ∷ []) bb ((omega arith, (hb, tt)), (keep_fine F t 9 (omega arith), tt)))
+
+slot_fine : (F G : Frame) (p a : Where) → AllFine (slot_arg F G p a)
+slot_fine F G (Reg q) a = tt
+slot_fine F G (Slot k) a = join (brings F a 9) _ (brings_fine F a 9 (omega arith)) (((omega arith, in_words _ 2), (hand_fine a 9 (omega arith), tt)), tt)
+
+pushed_fine : (F : Frame) (p a : Where) → AllFine (pushed_arg F p a)
+pushed_fine F (Reg q) a = join (brings F a 9) _ (brings_fine F a 9 (omega arith)) ((hand_fine a 9 (omega arith), tt), tt)
+pushed_fine F (Slot k) a = tt
+
+popped_fine : (p : Where) → AllFine (popped_arg p)
+popped_fine (Reg q) = ((in_registers q, tt), tt)
+popped_fine (Slot k) = tt
+
+slots_fine : (F G : Frame) (ps args : List Where) → AllFine (slot_args F G ps args)
+slots_fine F G [] args = tt
+slots_fine F G (p ∷ ps) [] = tt
+slots_fine F G (p ∷ ps) (a ∷ args) = join (slot_arg F G p a) (slot_args F G ps args) (slot_fine F G p a) (slots_fine F G ps args)
+
+pushes_fine : (F : Frame) (ps args : List Where) → AllFine (pushed_args F ps args)
+pushes_fine F [] args = tt
+pushes_fine F (p ∷ ps) [] = tt
+pushes_fine F (p ∷ ps) (a ∷ args) = join (pushed_arg F p a) (pushed_args F ps args) (pushed_fine F p a) (pushes_fine F ps args)
+
+pops_fine : (ps : List Where) → AllFine (popped_args ps)
+pops_fine [] = tt
+pops_fine (p ∷ ps) = join (popped_args ps) (popped_arg p) (pops_fine ps) (popped_fine p)
+
+args_fine : (F G : Frame) (ps args : List Where) → AllFine (args_items F G ps args)
+args_fine F G ps args = join (slot_args F G ps args) (pushed_args F ps args ++ popped_args ps) (slots_fine F G ps args) (join (pushed_args F ps args) (popped_args ps) (pushes_fine F ps args) (pops_fine ps))
+
+giving_fine : (F : Frame) (p : Option Where) → AllFine (giving F p)
+giving_fine F None = tt
+giving_fine F (Some p) = (fetch_fine F p 9 (omega arith), tt)
+
+room_fine : (size : ℕ) → size < 2 ^ 32 → AllFine (room_made size)
+room_fine size lt = either (size == 0) [] (item.Op (instr.Two ISUB 15 (src.Imm (Left size))) ∷ []) tt ((omega arith, (lt, tt)), tt)
+
+-- ---- nodes and functions, where names are words, and addresses and sizes of frames are below 2^32
+
+module _ (x : CodeT Where) (W : Whole) (words : list_all is_word W.names ≡ true) (addresses : (k : ℕ) → get_or W.globals k 0 < 2 ^ 32) where
+  module _ (m : ℕ) (F : Frame) where
+    op_fine : (o : OpT Where) → IsOp x m o → AllFine (op_items W F o)
+    unfolding op_items
+    op_fine (ConstO t n) ok = ((aim_fine t, (ok, tt)), lays_fine F t)
+    op_fine (NullO t) ok = ((aim_fine t, (omega arith, tt)), lays_fine F t)
+    op_fine (MoveO t a) ok = moves_fine F t a
+    op_fine (OneO o t a) ok = changes_fine F o t a
+    op_fine (TwoO o t a b) ok = computes_fine F o t a b
+    op_fine (GlobalO t k) ok = ((aim_fine t, (addresses k, tt)), lays_fine F t)
+    op_fine (LocalO t k) ok = ((aim_fine t, ((omega arith, in_words _ F.size), tt)), lays_fine F t)
+    op_fine (LiteralO t k) ok = ((aim_fine t, (literal_named k, tt)), lays_fine F t)
+    op_fine (CardO t) ok = ((aim_fine t, (omega arith, tt)), lays_fine F t)
+    op_fine (StepO t p n) ok = computes_fine F IADD t p n
+    op_fine (ApartO t p q) ok = computes_fine F ISUB t p q
+    op_fine (PtrTestO o t p q) ok = computes_fine F o t p q
+    op_fine (LoadO t p) ok = join (brings F p 9) _ (brings_fine F p 9 (omega arith)) ((aim_fine t, (hand_fine p 9 (omega arith), tt)), lays_fine F t)
+    op_fine (StoreO p a) ok = join (brings F p 9) _ (brings_fine F p 9 (omega arith)) (join (brings F a 10) _ (brings_fine F a 10 (omega arith)) ((hand_fine p 9 (omega arith), (hand_fine a 10 (omega arith), tt)), tt))
+    op_fine (FreshO k) ok = tt
+    op_fine (EndO k) ok = tt
+    op_fine (InO t port) ok = ((aim_fine t, (in_ports port, tt)), lays_fine F t)
+    op_fine (OutO port a) ok = join (brings F a 9) _ (brings_fine F a 9 (omega arith)) ((in_ports port, (hand_fine a 9 (omega arith), tt)), tt)
+    op_fine WaitO ok = (tt, tt)
+    op_fine HaltO ok = (tt, tt)
+
+    call_fine : (t : Option Where) (g : ℕ) (args : List Where) → AllFine (call_items W F t g args)
+    call_fine t g args = join (args_items F (W.frames g) (W.params g) args) _ (args_fine F (W.frames g) (W.params g) args) ((function_named W.names g words, tt), some_fine F t)
+
+    chosen_fine : (p : Where) (n w : ℕ) (t : Bool) (a b : List AsmItem) → AllFine a → AllFine b → AllFine (cond t (one_way F p n a) (choice F p n w a b))
+    chosen_fine p n w t a b ha hb =
+        let test = (hand_fine p 9 (omega arith), (jump_named n, tt)) in
+        either t (one_way F p n a) (choice F p n w a b)
+        (join (brings F p 9) (jump_unless (hand p 9) n ∷ (a ++ mark n ∷ [])) (brings_fine F p 9 (omega arith)) (test, join a (mark n ∷ []) ha (jump_named n, tt)))
+        (join (first_part F p n w a) (second_part w b)
+        (join (brings F p 9) (jump_unless (hand p 9) n ∷ (a ++ jump w ∷ mark n ∷ [])) (brings_fine F p 9 (omega arith)) (test, join a (jump w ∷ mark n ∷ []) ha ((jump_named w, tt), (jump_named n, tt))))
+        (join b (mark w ∷ []) hb (jump_named w, tt)))
+
+    enclosed_fine : (n : ℕ) (b : List AsmItem) → AllFine b → AllFine (enclosed n b)
+    enclosed_fine n b h = (jump_named n, join b (mark (n + 1) ∷ []) h (jump_named (n + 1), tt))
+
+    module _ (out : ℕ) where
+      code_fine : (c : NodesT Where) (bs : List Bool) (ls : List ℕ) (n : ℕ) → AreNodes x m bs c → AllFine (code_items W F out ls n c)
+      code_fine Stop bs ls n ok = tt
+      code_fine (Do o c) bs ls n ok = join (op_items W F o) _ (op_fine o ok.0) (code_fine c bs ls n ok.1)
+      code_fine (Call t g args c) bs ls n ok = join (call_items W F t g args) _ (call_fine t g args) (code_fine c bs ls n ok.1)
+      code_fine (Choose p a b c) bs ls n ok =
+          join (cond (is_stop b) (one_way F p n (code_items W F out ls (n + 1) a)) (choice F p n (n + 1 + labels a) (code_items W F out ls (n + 1) a) (code_items W F out ls (n + 1 + labels a + 1) b))) _
+          (chosen_fine p n (n + 1 + labels a) (is_stop b) (code_items W F out ls (n + 1) a) (code_items W F out ls (n + 1 + labels a + 1) b) (code_fine a bs ls (n + 1) ok.0) (code_fine b bs ls (n + 1 + labels a + 1) ok.1))
+          (code_fine c bs ls (n + (2 + labels a + labels b)) ok.2)
+      code_fine (Block b c) bs ls n ok = join (enclosed n (code_items W F out (ls ++ n ∷ []) (n + 2) b)) _ (enclosed_fine n _ (code_fine b (false ∷ bs) (ls ++ n ∷ []) (n + 2) ok.0)) (code_fine c bs ls (n + (2 + labels b)) ok.1)
+      code_fine (Loop b c) bs ls n ok = join (enclosed n (code_items W F out (ls ++ n ∷ []) (n + 2) b)) _ (enclosed_fine n _ (code_fine b (true ∷ bs) (ls ++ n ∷ []) (n + 2) ok.0)) (code_fine c bs ls (n + (2 + labels b)) ok.1)
+      code_fine (Leave k c) bs ls n ok = ((jump_named (add (enclosing ls k) 1), tt), code_fine c bs ls n ok.1)
+      code_fine (Again k c) bs ls n ok = ((jump_named (enclosing ls k), tt), code_fine c bs ls n ok.1)
+      code_fine (Return p c) bs ls n ok = join (returning F p out) _ (join (giving F p) (jump out ∷ []) (giving_fine F p) ((jump_named out, tt), tt)) (code_fine c bs ls n ok)
+
+  function_fine : (f n : ℕ) (g : FunctionT Where) → (W.frames f).size < 2 ^ 32 → AreNodes x (length g.locals) [] g.body → AllFine (function_items W f n g.body)
+  function_fine f n g small ok =
+      let items = code_items W (W.frames f) n [] (n + 1) g.body in
+      (function_named W.names f words, ((omega arith, tt), ((omega arith, (omega arith, tt)),
+      join (room_made (W.frames f).size) (items ++ exit_items n) (room_fine (W.frames f).size small)
+      (join items (exit_items n) (code_fine (length g.locals) (W.frames f) n g.body [] [] (n + 1) ok) (jump_named n, ((omega arith, (omega arith, tt)), ((omega arith, tt), (tt, tt))))))))
+
+  functions_fine : (f n : ℕ) (gs : List (FunctionT Where)) → ((k : ℕ) → (W.frames k).size < 2 ^ 32) → AllOf (λ g. AreNodes x (length g.locals) [] g.body) gs → AllFine (functions_items W f n gs)
+  functions_fine f n [] small ok = tt
+  functions_fine f n (g ∷ gs) small ok = join (function_items W f n g.body) _ (function_fine f n g (small f) ok.0) (functions_fine (f + 1) (n + 1 + labels g.body) gs small ok.1)
+
+  integers_fine : (bytes : List ℕ) → AreWords bytes → AllFine (map item.Integer bytes)
+  integers_fine [] h = tt
+  integers_fine (b ∷ bytes) h = (h.0, integers_fine bytes h.1)
+
+  literals_fine : (k : ℕ) (texts : List (List ℕ)) → TextsAreWords texts → AllFine (literals_items k texts)
+  literals_fine k [] h = tt
+  literals_fine k (text ∷ texts) h = join (literal_items k text) _ (literal_named k, join (map item.Integer text) (item.Integer 0 ∷ []) (integers_fine text h.0) (omega arith, tt)) (literals_fine (k + 1) texts h.1)
+
+  -- all items of a program
+  pub program_readable : ((k : ℕ) → (W.frames k).size < 2 ^ 32) → AreNodes x (length x.start.locals) [] x.start.body → AllOf (λ g. AreNodes x (length g.locals) [] g.body) x.functions → TextsAreWords x.literals → AreReadable (program_items W x)
+  program_readable small start each texts =
+      let body = code_items W start_frame 0 [] 1 x.start.body in
+      all_read (program_items W x)
+      (join (start_items W x.main x.start.body) _
+      (join opening_items (body ++ closing_items W x.main) ((omega arith, (omega arith, tt)), tt)
+      (join body (closing_items W x.main) (code_fine (length x.start.locals) start_frame 0 x.start.body [] [] 1 start) (jump_named 0, ((function_named W.names x.main words, tt), (tt, tt)))))
+      (join (functions_items W 0 (1 + labels x.start.body) x.functions) (literals_items 0 x.literals) (functions_fine 0 (1 + labels x.start.body) x.functions small each) (literals_fine 0 x.literals texts)))

@@ -1,7 +1,0 @@
--- Readings one after another: the first that gives none decides.
-use Rattle.std.specs.Prelude.{Option, Some, None}
-
-infixl 10 ◌>>=◌
-abbrev pub ◌>>=◌ : {A B : Type 0} → Option A → (A → Option B) → Option B
-None >>= f = None
-(Some x) >>= f = f x

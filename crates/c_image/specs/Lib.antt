@@ -1,0 +1,4 @@
+pub mod Labels
+pub mod Mapping
+pub mod Lines
+pub mod Imaging

@@ -1,0 +1,62 @@
+// Items to text, and the text to words.
+ghost use Rattle.std.specs.Prelude.{ℕ, List, ◌≡◌, ◌≤◌, None, Ok, IfOk, length};
+ghost use Rattle.asm_items.specs.declared.item.AsmItem.{AsmItem};
+ghost use Rattle.asm_items.specs.Written.{written};
+ghost use Rattle.asm_reader.specs.Readable.{AreReadable};
+ghost use Rattle.asm_reader.specs.Reading.{read};
+ghost use Rattle.assembler.specs.Faults.{fault_of};
+ghost use Rattle.assembler.specs.Placed.{Placed};
+
+use asm_items::{AsmItem, write_asm};
+use asm_reader::{AsmErr, read_asm, written_text_reads_again};
+use assembler::{Placement, assemble};
+use kit_base::Memory;
+use std::alloc::Global;
+
+/// The items that a text spells, which is the written form of some.
+fn read_items(alloc: Global, text: &[u8], items: &[AsmItem]) -> Result<Vec<AsmItem>, Memory>
+    requires { read text.now ≡ Ok items.now }
+    ensures { IfOk result (λ v. v.items ≡ items.now) }
+{
+    match read_asm(alloc, text) {
+        Ok(read) => Ok(read),
+        Err(AsmErr::At { .. }) => unreachable!(),
+        Err(AsmErr::Memory) => Err(Memory),
+    }
+}
+
+/// The words that items without a fault are placed as.
+fn placed(alloc: Global, items: &[AsmItem]) -> Result<Placement, Memory>
+    requires { fault_of items.now ≡ None }
+    ensures placed { IfOk result (λ p. Placed items.now p.words p.labels) }
+    ensures few { IfOk result (λ p. length p.words ≤ 33554432) }
+{
+    match assemble(alloc, items) {
+        Ok(placement) => Ok(placement),
+        Err(AsmErr::At { .. }) => unreachable!(),
+        Err(AsmErr::Memory) => Err(Memory),
+    }
+}
+
+/// A program's assembly text with the words that it assembles to.
+#[derive(Drop)]
+pub struct Assembled {
+    pub text: Vec<u8>,
+    pub placement: Placement,
+}
+
+/// The text of items, and the words that this text, read again, is placed as. The error is want of memory.
+pub fn assembled(alloc: Global, items: &[AsmItem]) -> Result<Assembled, Memory>
+    requires readable { AreReadable items.now }
+    requires faultless { fault_of items.now ≡ None }
+    ensures text { IfOk result (λ a. a.text.items ≡ written items.now) }
+    ensures read { IfOk result (λ a. read a.text.items ≡ Ok items.now) }
+    ensures placed { IfOk result (λ a. Placed items.now a.placement.words a.placement.labels) }
+    ensures few { IfOk result (λ a. length a.placement.words ≤ 33554432) }
+{
+    written_text_reads_again();
+    let text = write_asm(alloc, items)?;
+    let again = read_items(alloc, &text, items)?;
+    let placement = placed(alloc, &again)?;
+    Ok(Assembled { text, placement })
+}

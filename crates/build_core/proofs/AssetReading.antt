@@ -6,9 +6,9 @@ use Rattle.kit_base.specs.Held.{Held}
 use Rattle.asset_pack.specs.declared.error.AssetErr.{AssetErr}
 use Rattle.build_core.specs.declared.error.BuildErr.{BuildErr}
 use Rattle.build_core.specs.declared.error.BuildErr.TheVariants as errors
-use Rattle.build_core.specs.Due.{◌>>=◌, all_of, asset_of, unless_refused, until_refused}
-use Rattle.build_core.specs.Causes.{NamesOneOf, IsOfAsset, IsOfAssets}
-use Rattle.build_core.specs.Build.{GivesBy, Gives}
+use Rattle.build_core.specs.Due.{◌>>=◌, all_of, asset_of}
+use Rattle.build_core.specs.Causes.{IsOfAsset, IsOfAssets}
+use Rattle.build_core.specs.Inner.{GivesBy, Gives}
 
 -- a refusal that is handed on is the one due for what begins with the refused part
 pub handed_on : {X Y X' Y' : Type 0} (view : X → Y) (view' : X' → Y') (e : BuildErr) (d : Result Y BuildErr) (d' : Result Y' BuildErr) → (d ≡ Err e → d' ≡ Err e) → GivesBy view (Err e) d → GivesBy view' (Err e) d'
@@ -23,9 +23,6 @@ contains_at : (names : List (List ℕ)) (i : ℕ) (d : List ℕ) → i < length 
 contains_at [] i d h = absurd (omega arith)
 contains_at (n ∷ ns) zero d h = (0, omega arith, refl)
 contains_at (n ∷ ns) (suc i) d h = let r = contains_at ns i d (omega arith) in (suc r.0, omega (arith, r.1), r.2)
-
-contains_later : (n x : List ℕ) (names : List (List ℕ)) → Contains names x → Contains (n ∷ names) x
-contains_later n x names r = (suc r.0, omega (arith, r.1), r.2)
 
 module _ {X : Type 0} (one : List ℕ → Result X BuildErr) where
   -- the first and the others
@@ -42,10 +39,6 @@ module _ {X : Type 0} (one : List ℕ → Result X BuildErr) where
   pub all_of-nil : all_of one [] ≡ Ok []
   unfolding all_of
   all_of-nil = refl
-
-  until_refused-cons : (name : List ℕ) (names : List (List ℕ)) → until_refused one (name ∷ names) ≡ name ∷ unless_refused (one name) (until_refused one names)
-  unfolding until_refused
-  until_refused-cons name names = refl
 
   same_list : (xs ys : List X) (r : Result (List X) BuildErr) → r ≡ Ok xs → r ≡ Ok ys → xs ≡ ys
   same_list xs ys r e f = let k = sym e ∙ f in cc
@@ -84,16 +77,6 @@ module _ {X : Type 0} (one : List ℕ → Result X BuildErr) where
       let rest = all_refused ns i d first.1 e (omega arith) first.3 g in
       all_of-cons n ns ∙ joined_err (one n) (all_of one ns) first.0 e first.2 rest
 
-  -- it is read where those before it were not refused
-  pub is_reached : (names : List (List ℕ)) (i : ℕ) (d : List ℕ) (xs : List X) → i < length names → all_of one (take i names) ≡ Ok xs → Contains (until_refused one names) (get_or names i d)
-  is_reached [] i d xs lt h = absurd (omega arith)
-  is_reached (n ∷ ns) zero d xs lt h = subst (λ l. Contains l n) (sym (until_refused-cons n ns)) (0, omega arith, refl)
-  is_reached (n ∷ ns) (suc i) d xs lt h =
-      let first = both_gave (one n) (all_of one (take i ns)) xs (sym (all_of-cons n (take i ns)) ∙ h) in
-      let rest = is_reached ns i d first.1 (omega arith) first.3 in
-      let all : until_refused one (n ∷ ns) ≡ n ∷ until_refused one ns = until_refused-cons n ns ∙ ap (λ r. n ∷ unless_refused r (until_refused one ns)) first.2 in
-      subst (λ l. Contains l (get_or ns i d)) (sym all) (contains_later n (get_or ns i d) (until_refused one ns) rest)
-
 -- a refusal of one file is one of those of all
 module _ (names : List (List ℕ)) (file : List ℕ) (at : Contains names file) where
   pub of_them : (e : BuildErr) → IsOfAsset file e → IsOfAssets names e
@@ -104,14 +87,6 @@ module _ (names : List (List ℕ)) (file : List ℕ) (at : Contains names file) 
   of_them (errors.Failed n) h = subst (Contains names) (sym h) at
   of_them (errors.Limit n) h = subst (Contains names) (sym h) at
   of_them errors.Memory h = tt
-
-  pub names_it : (e : BuildErr) → IsOfAsset file e → NamesOneOf names e
-  names_it (errors.Source c f l) h = tt
-  names_it (errors.Bad c n l) h = tt
-  names_it (errors.Missing n) h = subst (Contains names) (sym h) at
-  names_it (errors.Failed n) h = subst (Contains names) (sym h) at
-  names_it (errors.Limit n) h = inl (subst (Contains names) (sym h) at)
-  names_it errors.Memory h = tt
 
 pub of_assets : (names : List (List ℕ)) (i : ℕ) (file : List ℕ) (e : BuildErr) → i < length names → file ≡ get_or names i file → IsOfAsset file e → IsOfAssets names e
 of_assets names i file e lt is h = of_them names file (subst (Contains names) (sym is) (contains_at names i file lt)) e h
@@ -138,10 +113,6 @@ module _ {X : Type 0} (value : List ℕ → Result X AssetErr) (names : List (Li
   told_refused e (Some m) h1 read same given =
       handed_on (λ (x : X). x) (λ (v : Vec X Global). v.items) e (asset_of value m file) _ (λ h. all_refused (asset_of value m) names i file xs e lt read (it m (Err e) h))
       (subst (λ h. IfSome h (λ m'. Gives (Err e) (asset_of value m' file))) same given)
-
-  pub told_reads : (e : BuildErr) (held : Option Held) → WereRead held → IsOfAsset file e → IfSome held (λ m. NamesOneOf (until_refused (asset_of value m) names) e)
-  told_reads e None read of = tt
-  told_reads e (Some m) read of = names_it _ file (subst (Contains (until_refused (asset_of value m) names)) (sym is) (is_reached (asset_of value m) names i file xs lt read)) e of
 
 -- before the first
 pub told_none : {X : Type 0} (value : List ℕ → Result X AssetErr) (held : Option Held) (xs : List X) → xs ≡ [] → IfSome held (λ m. all_of (asset_of value m) [] ≡ Ok xs)

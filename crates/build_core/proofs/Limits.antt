@@ -1,34 +1,34 @@
--- What is packed is within the limits of a cartridge.
-use Rattle.std.proofs.Common.{ℕ, ◌≡◌, ◌≤◌, ◌-◌, ◌^◌, true, List, length, min, refl, arith}
-use Rattle.std.specs.Prelude.{nat_le}
+-- What is packed is within the limits of a cartridge, but for its size.
+use Rattle.std.proofs.Common.{ℕ, ◌≡◌, ◌≤◌, ◌<◌, Bool, true, false, List, length, refl, sym, ◌∙◌, arith}
+use Rattle.std.specs.Prelude.{Some, nat_le, ◌&&◌}
 use Rattle.std.proofs.lemmas.Bool.Decides.{nat_tests}
 use Rattle.asset_pack.specs.Texts.{Image}
 use Rattle.project_text.specs.Grammar.{IsText}
-use Rattle.cart_format.specs.Cartridge.{is_cart, is_title, total}
-use Rattle.build_core.specs.declared.straight.Statement.{Statement}
-use Rattle.build_core.specs.Program.{code_of}
-use Rattle.build_core.specs.Due.{first_revision}
-use Rattle.build_core.proofs.Codes.{length-code_of}
+use Rattle.cart_format.specs.Cartridge.{Cartridge, is_cart, is_title, total}
+use Rattle.cart_format.specs.Table.{is_table}
+use Rattle.cart_format.specs.declared.row.LineTable.{LineTable}
 
 le_true : (a b : ℕ) → a ≤ b → nat_le a b ≡ true
 le_true a b h = grind (arith, nat_tests)
+
+le_false : (a b : ℕ) → nat_le a b ≡ false → b < a
+le_false a b h = grind (arith, nat_tests)
 
 title_fits : (title : List ℕ) → IsText 63 title → is_title title ≡ true
 unfolding is_title
 title_fits title h = rw (le_true 1 (length title) h.some, le_true (length title) 63 h.few, h.printable) refl
 
-pub fits : (title words : List ℕ) (ts : List Image) (ss : List (List ℕ)) → IsText 63 title → 1 ≤ length words → length words ≤ 33554432 → length ts ≤ 256 → length ss ≤ 1024
-    → total (first_revision title words ts ss) ≤ 268435456 → is_cart (first_revision title words ts ss) ≡ true
+abbrev cartridge : (title words : List ℕ) → List Image → List (List ℕ) → LineTable → Cartridge
+cartridge title words ts ss table = record { title = title; program = words; textures = ts; sounds = ss; table = Some table }
+
+size_alone : (title words : List ℕ) (ts : List Image) (ss : List (List ℕ)) (table : LineTable) → IsText 63 title → 1 ≤ length words → length words ≤ 33554432 → length ts ≤ 256 → length ss ≤ 1024 → is_table (length words) table ≡ true
+    → is_cart (cartridge title words ts ss table) ≡ nat_le (total (cartridge title words ts ss table)) 268435456
 unfolding is_cart
-fits title words ts ss t some few textures sounds small =
-    rw (title_fits title t, le_true 1 (length words) some, le_true (length words) 33554432 few, le_true (length ts) 256 textures, le_true (length ss) 1024 sounds, le_true _ 268435456 small) refl
+size_alone title words ts ss table t some few textures sounds fits =
+    rw (title_fits title t, le_true 1 (length words) some, le_true (length words) 33554432 few, le_true (length ts) 256 textures, le_true (length ss) 1024 sounds, fits) refl
 
-pub code_fits : (title : List ℕ) (statements : List Statement) (ts : List Image) (ss : List (List ℕ)) → IsText 63 title → length statements ≤ 1000 → length ts ≤ 256 → length ss ≤ 1024
-    → total (first_revision title (code_of statements) ts ss) ≤ 268435456 → is_cart (first_revision title (code_of statements) ts ss) ≡ true
-code_fits title statements ts ss t few textures sounds small =
-    let count = length-code_of statements in
-    fits title (code_of statements) ts ss t (omega arith) (omega arith) textures sounds small
-
--- a size that is counted up to the greatest number
-pub not_over : (size counted : ℕ) → counted ≡ min size (2 ^ 64 - 1) → counted ≤ 268435456 → size ≤ 268435456
-not_over size counted e h = omega (arith, e)
+-- what is no cartridge is too large
+pub too_large : (title words : List ℕ) (ts : List Image) (ss : List (List ℕ)) (table : LineTable) → IsText 63 title → 1 ≤ length words → length words ≤ 33554432 → length ts ≤ 256 → length ss ≤ 1024 → is_table (length words) table ≡ true
+    → is_cart (cartridge title words ts ss table) ≡ false → 268435456 < total (cartridge title words ts ss table)
+too_large title words ts ss table t some few textures sounds fits none =
+    le_false (total (cartridge title words ts ss table)) 268435456 (sym (size_alone title words ts ss table t some few textures sounds fits) ∙ none)

@@ -1,5 +1,5 @@
--- What was built, and what the answers of a build say.
-use Rattle.std.specs.Prelude.{ℕ, ◌≡◌, true, List, [], Result, Ok, Err}
+-- What was built, and why a build is refused.
+use Rattle.std.specs.Prelude.{ℕ, ◌≡◌, ◌<◌, true, List, Some, Result, Ok, Err, codes}
 use Rattle.std.specs.List.{AllZip}
 use Rattle.kit_base.specs.Held.{Held}
 use Rattle.kit_base.specs.Outside.{due}
@@ -7,16 +7,24 @@ use Rattle.asset_pack.specs.declared.kind.Kind.TheVariants as kinds
 use Rattle.asset_pack.specs.Words.{IsBytes}
 use Rattle.asset_pack.specs.Texts.{Image, IsTexture, IsSound, texture_text, sound_text}
 use Rattle.asset_pack.specs.Reading.{texture_in, words_in}
-use Rattle.cart_format.specs.Cartridge.{Cartridge, IsCartridge, cart_text, is_cart}
+use Rattle.cart_format.specs.Cartridge.{Cartridge, IsCartridge, cart_text, is_cart, total}
+use Rattle.c_tree.specs.View.{unit}
+use Rattle.c_types.specs.Programs.{ProgramT}
+use Rattle.c_check.specs.Whole.{WellTyped}
+use Rattle.c_front.specs.declared.unit.Parsed.{Parsed}
+use Rattle.c_front.specs.Due.{IsUnit}
+use Rattle.c_front.specs.Over.{over}
+use Rattle.mid_code.specs.Whole.{mid}
 use Rattle.project_text.specs.declared.project.Project.{Project}
 use Rattle.project_text.specs.ProjectText.{IsProject}
+use Rattle.reg_frames.specs.Placeable.{places_of}
+use Rattle.c_image.specs.Imaging.{ImageT, IsImageOf}
 use Rattle.build_core.specs.declared.error.BuildErr.{BuildErr}
 use Rattle.build_core.specs.declared.error.BuildErr.TheVariants as errors
 use Rattle.build_core.specs.declared.building.Built.{Built}
-use Rattle.build_core.specs.declared.straight.Statement.{Statement}
-use Rattle.build_core.specs.Straight.{IsStraight, straight_runs}
-use Rattle.build_core.specs.Agrees.{Agrees}
-use Rattle.build_core.specs.Due.{first_revision, map_of}
+use Rattle.build_core.specs.Due.{Assets, assets, assets_of}
+use Rattle.build_core.specs.Checked.{HasProgram, IsRejected}
+use Rattle.build_core.specs.Starts.{starts_of}
 
 -- The file of that name is held and has that value: no test of its kind fails, and where it holds
 -- bytes they are the texture's text.
@@ -33,37 +41,55 @@ pub record IsSoundFile (m : Held) (name : List ℕ) (samples : List ℕ) : Type 
   pub tested : words_in kinds.Sound bytes ≡ Ok samples
   pub spelled : IsBytes bytes → IsSound samples × (bytes ≡ sound_text samples)
 
--- What was built of a project's text, from the files that are held: the cartridge has the title, a
--- program that does what the source means, and the textures and sounds in the project's order. The
--- map tells of this program.
-pub record IsBuilt (m : Held) (project : List ℕ) (b : Built) : Type 0 where
+-- The project's text is of its grammar; its source stands, with the headers laid over the files, for tokens that are a well typed unit; and this is
+-- an image of its program.
+pub record HasImage (m : Held) (project : List ℕ) : Type 0 where
   pub parts : Project
   pub project_is : IsProject project parts
-  pub source : List ℕ
-  pub source_is : due m parts.source ≡ Ok source
-  pub statements : List Statement
-  pub straight : IsStraight source statements
+  pub parsed : Parsed
+  pub is_unit : IsUnit (over m) parts.source parsed
+  pub program : ProgramT
+  pub typed : WellTyped (unit parsed.unit) program
+  pub image : ImageT
+  pub image_is : IsImageOf program parsed.places (starts_of (unit parsed.unit)) image
+
+-- the cartridge of an image, of the second revision
+abbrev pub cartridge_of : (title : List ℕ) → ImageT → Assets → Cartridge
+cartridge_of title i a = record { title = title; program = i.words; textures = a.0; sounds = a.1; table = Some i.table }
+
+-- What was built of a project's text, from the files that are held: a cartridge with the project's title, an image of its program, and the textures
+-- and sounds in the project's order; and the map, the assembly text, the mid code and the choices of this image.
+pub record IsBuilt (m : Held) (project : List ℕ) (b : Built) : Type 0 where
+  pub of : HasImage m project
   pub textures : List Image
-  pub textures_are : AllZip (IsTextureFile m) parts.textures textures
+  pub textures_are : AllZip (IsTextureFile m) of.parts.textures textures
   pub sounds : List (List ℕ)
-  pub sounds_are : AllZip (IsSoundFile m) parts.sounds sounds
-  pub words : List ℕ
-  pub limits : is_cart (first_revision parts.title words textures sounds) ≡ true
-  pub cart : b.cart ≡ cart_text (first_revision parts.title words textures sounds)
-  pub map : b.map ≡ map_of words
-  pub asm : b.asm ≡ []
-  pub agrees : Agrees (straight_runs statements) words
+  pub sounds_are : AllZip (IsSoundFile m) of.parts.sounds sounds
+  pub limits : is_cart (cartridge_of of.parts.title of.image (assets textures sounds)) ≡ true
+  pub cart_is : b.cart ≡ cart_text (cartridge_of of.parts.title of.image (assets textures sounds))
+  pub map_is : b.map ≡ of.image.map
+  pub asm_is : b.asm ≡ of.image.text
+  pub mid_is : mid b.mid ≡ of.image.mid
+  pub choices_is : places_of b.choices ≡ of.image.choices
+
+-- The input of a build is refused: the project's text or its source, as by a check; or, where they are accepted, a texture or a sound.
+pub data HasNoParts (m : Held) (project : List ℕ) (e : BuildErr) : Type 0 where
+  rejected : IsRejected m project e → HasNoParts m project e
+  no_assets : (parts : Project) (p : ProgramT) → IsProject project parts → HasProgram m parts.source p → assets_of m parts ≡ Err e → HasNoParts m project e
+
+-- So is its cartridge, where it has over 268,435,456 bytes.
+pub data IsUnbuilt (m : Held) (project : List ℕ) (e : BuildErr) : Type 0 where
+  no_parts : HasNoParts m project e → IsUnbuilt m project e
+  too_large : (of : HasImage m project) (a : Assets) → assets_of m of.parts ≡ Ok a → 268435456 < total (cartridge_of of.parts.title of.image a)
+      → e ≡ errors.Limit (codes "cartridge") → IsUnbuilt m project e
+
+-- The answer is one that is due, unless a call of the files failed or memory ran out.
+abbrev pub Builds : Held → List ℕ → Result Built BuildErr → Type 0
+Builds m project (Ok b) = IsBuilt m project b
+Builds m project (Err errors.Memory) = Unit {0}
+Builds m project (Err (errors.Failed name)) = Unit {0}
+Builds m project (Err e) = IsUnbuilt m project e
 
 -- the bytes are those of a cartridge, which is read from them again
 abbrev pub IsCartText : List ℕ → Type 0
 IsCartText bytes = (c : Cartridge) × IsCartridge c × (bytes ≡ cart_text c)
-
--- the answer is the one that is due, unless memory ran out or a call of the files failed
-abbrev pub GivesBy : {X Y : Type 0} → (X → Y) → Result X BuildErr → Result Y BuildErr → Type 0
-GivesBy view (Ok x) d = d ≡ Ok (view x)
-GivesBy view (Err errors.Memory) d = Unit {0}
-GivesBy view (Err (errors.Failed name)) d = Unit {0}
-GivesBy view (Err e) d = d ≡ Err e
-
-abbrev pub Gives : {X : Type 0} → Result X BuildErr → Result X BuildErr → Type 0
-Gives = GivesBy (λ x. x)

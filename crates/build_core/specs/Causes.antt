@@ -11,11 +11,13 @@ use Rattle.project_text.specs.declared.error.ProjectErr.TheVariants as project_e
 use Rattle.project_text.specs.declared.project.Project.{Project}
 use Rattle.project_text.specs.ProjectText.{IsProject}
 use Rattle.project_text.specs.Reading.{project_of}
+use Rattle.c_types.specs.Programs.{ProgramT}
+use Rattle.c_front.specs.declared.places.Places.{Places}
+use Rattle.c_image.specs.Imaging.{ImageT, IsImageOf}
 use Rattle.build_core.specs.declared.error.BuildErr.{BuildErr}
 use Rattle.build_core.specs.declared.error.BuildErr.TheVariants as errors
-use Rattle.build_core.specs.declared.straight.Statement.{Statement}
-use Rattle.build_core.specs.Program.{code_of}
-use Rattle.build_core.specs.Due.{first_revision}
+use Rattle.build_core.specs.Due.{assets}
+use Rattle.build_core.specs.Build.{cartridge_of}
 
 -- the files of textures and sounds that the text names
 abbrev pub assets_in : Result Project ProjectErr → List (List ℕ)
@@ -33,21 +35,14 @@ assets_of project = assets_in (project_of project)
 abbrev pub files_of : List ℕ → List (List ℕ)
 files_of project = files_in (project_of project)
 
--- The refusals that can come: 15 in line 1 of the source, 90 to 93 at the first faulty line of the
--- project's text, 70 to 73 of a texture or a sound that it names, and those of the files, of the
--- cartridge's size and of memory.
+-- The refusals that can come: any code at a place of a source; 90 to 93 at the first faulty line of the
+-- project's text; 70 to 73 of a texture or a sound that it names; that a file that it names is missing; and those of
+-- the files, of the cartridge's size and of memory.
 abbrev pub CanCome : List ℕ → BuildErr → Type 0
-CanCome project (errors.Source code file line) = (code ≡ 15) × ((p : Project) × (project_of project ≡ Ok p) × (file ≡ p.source)) × (line ≡ 1)
+CanCome project (errors.Missing name) = Contains (files_of project) name
 CanCome project (errors.Bad code name (Some line)) = (name ≡ codes "project") × (project_of project ≡ Err (project_errors.At code line))
 CanCome project (errors.Bad code name None) = (70 ≤ code) × (code ≤ 73) × Contains (assets_of project) name
 CanCome project e = Unit {0}
-
--- a refusal of the files names one of these, unless it is that of the cartridge's size
-abbrev pub NamesOneOf : List (List ℕ) → BuildErr → Type 0
-NamesOneOf names (errors.Missing name) = Contains names name
-NamesOneOf names (errors.Failed name) = Contains names name
-NamesOneOf names (errors.Limit name) = Contains names name ⊎ (name ≡ codes "cartridge")
-NamesOneOf names e = Unit {0}
 
 -- a cartridge whose textures and sounds are within their own limits has over 268,435,456 bytes
 pub record IsTooLarge (c : Cartridge) : Type 0 where
@@ -55,18 +50,20 @@ pub record IsTooLarge (c : Cartridge) : Type 0 where
   pub samples : AllByRecursion HasSamples c.sounds
   pub large : 268435456 < total c
 
--- The cartridge of a project can be too large: with a straight source's program and some textures
--- and sounds, one for each that the project names.
+-- The cartridge of a project can be too large: with the image of a program and some textures and sounds, one for each that the project names.
 pub record CanBeTooLarge (project : List ℕ) : Type 0 where
   pub parts : Project
   pub project_is : IsProject project parts
-  pub statements : List Statement
-  pub few : length statements ≤ 1000
+  pub program : ProgramT
+  pub places : Places
+  pub starts : List ℕ
+  pub image : ImageT
+  pub image_is : IsImageOf program places starts image
   pub textures : List Image
   pub sounds : List (List ℕ)
   pub each_texture : length textures ≡ length parts.textures
   pub each_sound : length sounds ≡ length parts.sounds
-  pub large : IsTooLarge (first_revision parts.title (code_of statements) textures sounds)
+  pub large : IsTooLarge (cartridge_of parts.title image (assets textures sounds))
 
 -- a refusal of the files comes only where its count rose, that of a size also where it was too large
 abbrev pub Cause : {T : Type 0} → (List ℕ → Type 0) → Result T BuildErr → (faults faults' misses misses' overs overs' : ℕ) → Type 0
@@ -93,17 +90,13 @@ HasCauses project r f f' m m' o o' = HasCausesOr (IsCartridgeTooLarge project) r
 abbrev pub HasReadCauses : {T : Type 0} → Result T BuildErr → (faults faults' misses misses' overs overs' : ℕ) → Type 0
 HasReadCauses r f f' m m' o o' = HasCausesOr (λ name. ⊥) r f f' m m' o o'
 
--- the refusals of reading a file, of a source, of a texture or a sound, of several, and of packing
+-- the refusals of reading a file, of a texture or a sound, of several, and of packing
 abbrev pub IsOfReading : List ℕ → BuildErr → Type 0
 IsOfReading file (errors.Missing name) = name ≡ file
 IsOfReading file (errors.Failed name) = name ≡ file
 IsOfReading file (errors.Limit name) = name ≡ file
 IsOfReading file errors.Memory = Unit {0}
 IsOfReading file e = ⊥
-
-abbrev pub IsOfSource : List ℕ → BuildErr → Type 0
-IsOfSource source (errors.Source code file line) = (code ≡ 15) × (file ≡ source) × (line ≡ 1)
-IsOfSource source e = IsOfReading source e
 
 -- a refusal of what a file says, or of memory
 abbrev pub IsOfContent : BuildErr → Type 0

@@ -4,3 +4,4 @@ pub mod Starts
 pub mod Build
 pub mod Causes
 pub mod Inner
+pub mod Packing

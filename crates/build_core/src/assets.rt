@@ -3,9 +3,9 @@ ghost use Rattle.std.specs.Prelude.{◌≡◌, IfOk, IfErr, IfSome, IsUtf8, leng
 ghost use Rattle.std.specs.List.{AllByRecursion};
 ghost use Rattle.asset_pack.specs.declared.error.AssetErr.{AssetErr};
 ghost use Rattle.asset_pack.specs.Reading.{Gives as GivesAsset};
-ghost use Rattle.build_core.specs.Due.{all_of, asset_due, asset_of, until_refused};
-ghost use Rattle.build_core.specs.Causes.{HasReadCauses, IsOfAssets, IsOfTesting, IsOfAsset, IsOfContent, NamesOneOf};
-ghost use Rattle.build_core.specs.Build.{Gives, GivesBy};
+ghost use Rattle.build_core.specs.Due.{all_of, asset_due, asset_of};
+ghost use Rattle.build_core.specs.Causes.{HasReadCauses, IsOfAssets, IsOfTesting, IsOfAsset, IsOfContent};
+ghost use Rattle.build_core.specs.Inner.{Gives, GivesBy};
 
 use crate::error::BuildErr;
 use crate::reading::read_file;
@@ -94,8 +94,6 @@ pub fn read_assets<F: Files, A: Asset>(
     ensures told { IfSome (F.held files.old) (λ m. GivesBy (λ v. v.items) result (all_of (asset_of A.value m) names.now)) }
     ensures count { IfOk result (λ v. length v.items ≡ length names.now) }
     ensures kinds { IfErr result (IsOfAssets names.now) }
-    // A file that is named in a refusal of the files is one that is read.
-    ensures reads { IfSome (F.held files.old) (λ m. IfErr result (NamesOneOf (until_refused (asset_of A.value m) names.now))) }
     ensures causes { HasReadCauses result (F.faults files.old) (F.faults files.new)
         (F.misses files.old) (F.misses files.new) (F.overs files.old) (F.overs files.new) }
 {

@@ -24,7 +24,7 @@ use kit_base::{Name, Reads};
 use std::alloc::Global;
 
 /// Why a source has no syntax tree, as a build tells it.
-fn unread(error: FrontErr) -> BuildErr
+pub fn unread(error: FrontErr) -> BuildErr
     ensures { result ≡ unread error }
 {
     match error {
@@ -53,7 +53,7 @@ fn broken(alloc: Global, places: &Places, code: Code, span: Span) -> BuildErr
 }
 
 /// The typed program of a unit.
-fn typed(alloc: Global, parsed: &Parsed) -> Result<Program, BuildErr>
+pub fn typed(alloc: Global, parsed: &Parsed) -> Result<Program, BuildErr>
     requires within { IsWithin parsed.now }
     ensures typed { Types parsed.now result }
     ensures only { (p : ProgramT) → WellTyped (unit parsed.now.unit) p → IsProgramOf p result }

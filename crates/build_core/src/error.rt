@@ -10,7 +10,7 @@ use thiserror::Error;
 /// Why a build is refused.
 #[derive(Drop, Error)]
 pub enum BuildErr {
-    /// A source has no program. The code is 15: it is not a straight source. Lines count from 1.
+    /// A source has no program: a code from 10 to 50, with the file and the line of the token that decides. Lines count from 1.
     #[error("error {code} in line {line} of a source")]
     Source {
         code: u32,

@@ -2,13 +2,11 @@
 ghost use Rattle.std.specs.Prelude.{◌≡◌, ◌≤◌, IfOk, IfErr, IfSome, IsUtf8, length};
 ghost use Rattle.project_text.specs.ProjectText.{IsProject};
 ghost use Rattle.project_text.specs.Reading.{project_of};
-ghost use Rattle.build_core.specs.Straight.{straight_of};
-ghost use Rattle.build_core.specs.Due.{project_due, read_of, source_of, statements_due};
-ghost use Rattle.build_core.specs.Causes.{CanCome, IsOfReading, IsOfSource, IsOfContent, HasReadCauses};
-ghost use Rattle.build_core.specs.Build.{Gives, GivesBy};
+ghost use Rattle.build_core.specs.Due.{project_due, read_of};
+ghost use Rattle.build_core.specs.Causes.{CanCome, IsOfReading, IsOfContent, HasReadCauses};
+ghost use Rattle.build_core.specs.Inner.{Gives, GivesBy};
 
 use crate::error::BuildErr;
-use crate::straight::{Statement, straight_of};
 use kit_base::{FileErr, Files, Name};
 use project_text::{Project, ProjectErr, read_project};
 use std::alloc::Global;
@@ -51,43 +49,4 @@ pub fn read_file<F: Files>(alloc: Global, files: &mut F, name: &Name) -> Result<
         Err(FileErr::TooLong) => Err(BuildErr::Limit(named)),
         Err(FileErr::Memory) => Err(BuildErr::Memory),
     }
-}
-
-/// The statements of the source of that name with these bytes.
-fn source_in(alloc: Global, name: &Name, bytes: &[u8]) -> Result<Vec<Statement>, BuildErr>
-    ensures told { GivesBy (λ v. v.items) result (statements_due name.now (straight_of bytes.now)) }
-    ensures few { IfOk result (λ v. length v.items ≤ 1000) }
-    ensures kinds { IfErr result (IsOfSource name.now) }
-    ensures content { IfErr result IsOfContent }
-{
-    match straight_of(alloc, bytes)? {
-        Some(statements) => Ok(statements),
-        None => Err(BuildErr::Source {
-            code: 15,
-            file: name.copy(alloc)?,
-            line: 1,
-        }),
-    }
-}
-
-/// The statements of the source of that name.
-#[tactic(auto, using(crate::proofs::Counting::of_content), unfolding(crate::specs::Due::source_of))]
-pub fn read_source<F: Files>(
-    alloc: Global,
-    files: &mut F,
-    name: &Name,
-) -> Result<Vec<Statement>, BuildErr>
-    requires { IsUtf8 name.now }
-    ensures held { F.held files.new ≡ F.held files.old }
-    ensures told { IfSome (F.held files.old) (λ m. GivesBy (λ v. v.items) result (source_of m name.now)) }
-    ensures few { IfOk result (λ v. length v.items ≤ 1000) }
-    ensures kinds { IfErr result (IsOfSource name.now) }
-    ensures causes { HasReadCauses result (F.faults files.old) (F.faults files.new)
-        (F.misses files.old) (F.misses files.new) (F.overs files.old) (F.overs files.new) }
-{
-    let bytes = match read_file(alloc, files, name) {
-        Ok(bytes) => bytes,
-        Err(refusal) => return Err(refusal),
-    };
-    source_in(alloc, name, bytes.as_slice())
 }

@@ -96,8 +96,8 @@ pub record IsImageOf (p : ProgramT) (places : Places) (starts : List ℕ) (i : I
   pub labels : List (List ℕ × ℕ)
   pub words : Placed items i.words labels
   -- the map and the line table tell of them
-  pub map : i.map ≡ map_of p (frame_sizes i.map) (length i.words) (address_in labels)
-  pub table : i.table ≡ table_of (address_in labels) p.functions (map (place_at places) starts)
+  pub map_is : i.map ≡ map_of p (frame_sizes i.map) (length i.words) (address_in labels)
+  pub table_is : i.table ≡ table_of (address_in labels) p.functions (map (place_at places) starts)
   pub does : DoesAsMeant p i
   pub is_mid : IsMidOf p i
   -- a cartridge may have these words and this table

@@ -1,8 +1,10 @@
--- What the check of a project's text answers, by itself. Only private functions cite this.
+-- What the check and the build of a project's text answer, each by itself. Only private functions cite this.
 use Rattle.std.specs.Prelude.{ℕ, ◌≡◌, List, Result, Ok, Err}
 use Rattle.kit_base.specs.Held.{Held}
 use Rattle.c_types.specs.Programs.{ProgramT}
 use Rattle.build_core.specs.declared.error.BuildErr.{BuildErr}
+use Rattle.build_core.specs.declared.building.Built.{Built}
+use Rattle.build_core.specs.Build.{IsBuilt, IsUnbuilt}
 use Rattle.build_core.specs.Checked.{IsAccepted, IsRejected}
 use Rattle.kit_core.specs.declared.refusal.Refusal.{Refusal}
 use Rattle.kit_core.specs.declared.refusal.Refusal.TheVariants as refusals
@@ -14,3 +16,10 @@ TextChecked project text held (Ok x) = (p : ProgramT) × IsAccepted held text p
 TextChecked project text held (Err refusals.Memory) = Unit {0}
 TextChecked project text held (Err (refusals.Failed name)) = Unit {0}
 TextChecked project text held (Err refusal) = (e : BuildErr) × IsRejected held text e × (unbuilt project e ≡ refusal)
+
+-- the same of a build
+abbrev pub TextBuilt : (project text : List ℕ) → Held → Result Built Refusal → Type 0
+TextBuilt project text held (Ok b) = IsBuilt held text b
+TextBuilt project text held (Err refusals.Memory) = Unit {0}
+TextBuilt project text held (Err (refusals.Failed name)) = Unit {0}
+TextBuilt project text held (Err refusal) = (e : BuildErr) × IsUnbuilt held text e × (unbuilt project e ≡ refusal)

@@ -7,7 +7,7 @@ use Rattle.kit_base.specs.declared.outside.FileErr.{FileErr}
 use Rattle.build_core.specs.declared.error.BuildErr.{BuildErr}
 use Rattle.build_core.specs.declared.error.BuildErr.TheVariants as build_errors
 use Rattle.build_core.specs.declared.building.Built.{Built}
-use Rattle.build_core.specs.Due.{built_of, reads_of}
+use Rattle.build_core.specs.Build.{HasNoParts, IsBuilt, IsUnbuilt}
 use Rattle.build_core.specs.Checked.{IsAccepted, IsRejected}
 use Rattle.c_types.specs.Programs.{ProgramT}
 use Rattle.project_text.specs.MapText.{map_text}
@@ -44,11 +44,27 @@ unbuilt project build_errors.Memory = refusals.Memory
 abbrev pub outputs_of : List ℕ → List ℕ → Built → List Effect
 outputs_of cart map_name built = written_file cart built.cart ++ written_file map_name (map_text built.map)
 
-abbrev pub build_due : (project cart map_name : List ℕ) → Held → Result Work Refusal
-build_due project cart map_name held = do
-  text ← or_refused (unread project) (due held project)
-  built ← or_refused (unbuilt project) (built_of held text)
-  Ok (record { effects = outputs_of cart map_name built; text = []; status = 0 })
+abbrev pub built_work : (cart map_name : List ℕ) → Built → Work
+built_work cart map_name built = record { effects = outputs_of cart map_name built; text = []; status = 0 }
+
+-- what the build of a project's text is due: its outputs, or why there are none
+abbrev pub text_build_due : (project text cart map_name : List ℕ) → Held → Result Work Refusal → Type 0
+text_build_due project text cart map_name held (Ok work) = (b : Built) × IsBuilt held text b × (built_work cart map_name b ≡ work)
+text_build_due project text cart map_name held (Err refusal) = (e : BuildErr) × IsUnbuilt held text e × (unbuilt project e ≡ refusal)
+
+abbrev pub read_build_due : (project cart map_name : List ℕ) → Held → Result (List ℕ) FileErr → Result Work Refusal → Type 0
+read_build_due project cart map_name held (Ok text) d = text_build_due project text cart map_name held d
+read_build_due project cart map_name held (Err e) d = Err (unread project e) ≡ d
+
+-- The project's file is read, then built. More than one image of a program can be due, and of tokens that are no unit more than one refusal, so
+-- this is a relation.
+abbrev pub build_due : (project cart map_name : List ℕ) → Held → Result Work Refusal → Type 0
+build_due project cart map_name held d = read_build_due project cart map_name held (due held project) d
+
+-- the input of a build is refused: its project's file, the project's text, its source, a texture or a sound
+abbrev pub read_build_refused : (project : List ℕ) → Held → Result (List ℕ) FileErr → Refusal → Type 0
+read_build_refused project held (Ok text) refusal = (e : BuildErr) × HasNoParts held text e × (unbuilt project e ≡ refusal)
+read_build_refused project held (Err e) refusal = unread project e ≡ refusal
 
 -- the bytes that are made of a file, created and then appended
 abbrev pub convert_due : Conversion → (source target : List ℕ) → Held → Result Work Refusal
@@ -89,9 +105,9 @@ read_check_due project held (Err e) d = Err (unread project e) ≡ d
 abbrev pub check_due : (project : List ℕ) → Held → Result Work Refusal → Type 0
 check_due project held d = read_check_due project held (due held project) d
 
--- what a command is due: one work or refusal, but for a check
+-- what a command is due: one work or refusal, but for a build and a check
 abbrev pub work_due : Command → Held → Result Work Refusal → Type 0
-work_due (Build project cart map_name) held d = build_due project cart map_name held ≡ d
+work_due (Build project cart map_name) held d = build_due project cart map_name held d
 work_due (Convert conversion source target) held d = convert_due conversion source target held ≡ d
 work_due (Trace cart answers card steps) held d = trace_due cart answers card steps held ≡ d
 work_due (Run words) held d = run_due words held ≡ d
@@ -105,18 +121,19 @@ form_due (Some command) held d = work_due command held d
 abbrev pub command_due : List (List ℕ) → Held → Result Work Refusal → Type 0
 command_due words held d = form_due (command_of words) held d
 
--- the names that a build reads after its project
-abbrev pub reads_in : Held → Result (List ℕ) FileErr → List (List ℕ)
-reads_in held (Ok text) = reads_of held text
-reads_in held (Err e) = []
+-- The words are no command, or its input is refused. The cartridge of a build is no input of it: whether it is too large is known only of what was
+-- built.
+abbrev pub form_refused : Option Command → Held → Refusal → Type 0
+form_refused (Some (Build project cart map_name)) held refusal = read_build_refused project held (due held project) refusal
+form_refused c held refusal = form_due c held (Err refusal)
 
-abbrev pub build_reads : List ℕ → Held → List (List ℕ)
-build_reads project held = project ∷ reads_in held (due held project)
+abbrev pub command_refused : List (List ℕ) → Held → Refusal → Type 0
+command_refused words held refusal = form_refused (command_of words) held refusal
 
--- The names that a command reads. Which files a check reads beside its project and its source is not told.
+-- The names that a command reads. Which files a build and a check read beside those that the project names is not told.
 abbrev pub command_reads : Option Command → Held → List ℕ → Type 0
 command_reads None held name = ⊥
-command_reads (Some (Build project cart map_name)) held name = Contains (build_reads project held) name
+command_reads (Some (Build project cart map_name)) held name = Unit {0}
 command_reads (Some (Convert conversion source target)) held name = Contains (source ∷ []) name
 command_reads (Some (Trace cart answers card steps)) held name = Contains (trace_reads cart answers card) name
 command_reads (Some (Run words)) held name = Contains (run_reads words) name

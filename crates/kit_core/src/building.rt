@@ -1,13 +1,12 @@
 // The command `build`.
 ghost use Rattle.std.specs.Prelude.{◌≡◌, ◌≤◌, IfSome, OnOk, IfErr, length};
 ghost use Rattle.kit_base.specs.Effects.{all_done};
-ghost use Rattle.build_core.specs.Due.{built_of, reads_of};
 ghost use Rattle.build_core.specs.Causes.{CanBeTooLarge};
-ghost use Rattle.kit_core.specs.Carrying.{FailsAt, GivesBy, IsCut, Leaves};
+ghost use Rattle.kit_core.specs.Carrying.{IsCut, LeavesBy};
 ghost use Rattle.kit_core.specs.Causes.{HasCauses, HasCausesOr};
 ghost use Rattle.kit_core.specs.Limits.{IsLarge};
-ghost use Rattle.kit_core.specs.Inputs.{or_refused};
-ghost use Rattle.kit_core.specs.Due.{build_due, build_reads, outputs_of, unbuilt};
+ghost use Rattle.kit_core.specs.Checking.{TextBuilt};
+ghost use Rattle.kit_core.specs.Due.{build_due, outputs_of};
 
 use crate::reading::read_file;
 use crate::refusal::{Refusal, unbuilt};
@@ -27,8 +26,7 @@ fn build_text<F: Files>(
 ) -> Result<Built, Refusal>
     requires { length text.now ≤ 268435456 }
     ensures held { F.held files.new ≡ F.held files.old }
-    ensures told { IfSome (F.held files.old) (λ m. GivesBy (λ b. b) result (or_refused (unbuilt project.now) (built_of m text.now))) }
-    ensures fails { IfSome (F.held files.old) (λ m. IfErr result (FailsAt (reads_of m text.now))) }
+    ensures told { IfSome (F.held files.old) (λ m. TextBuilt project.now text.now m result) }
     ensures causes { HasCausesOr (CanBeTooLarge text.now) result (F.faults files.old) (F.faults files.new) (F.misses files.old) (F.misses files.new) (F.overs files.old) (F.overs files.new) }
 {
     match build(alloc, files, text) {
@@ -66,7 +64,7 @@ pub fn build_command<F: Files>(
     cart: &str,
     map: &str,
 ) -> Result<Shown, Refusal>
-    ensures told { IfSome (F.held files.old) (λ m. Leaves result (build_due project.now cart.now map.now m) (build_reads project.now m) m (F.held files.new)) }
+    ensures told { IfSome (F.held files.old) (λ m. LeavesBy result (build_due project.now cart.now map.now m) (λ name. Unit {0}) m (F.held files.new)) }
     ensures causes { HasCausesOr (IsLarge project.now (F.held files.old)) result (F.faults files.old) (F.faults files.new) (F.misses files.old) (F.misses files.new) (F.overs files.old) (F.overs files.new) }
 {
     let text = read_file(alloc, files, project)?;

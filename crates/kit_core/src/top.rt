@@ -6,7 +6,7 @@ ghost use Rattle.run_core.specs.Ending.{end_text};
 ghost use Rattle.kit_core.specs.Carrying.{LeavesBy, Puts, Shows, shown_status, text_of};
 ghost use Rattle.kit_core.specs.Causes.{HasCausesOr, HasOnlyRisen, IsUnrisen};
 ghost use Rattle.kit_core.specs.Command.{texts};
-ghost use Rattle.kit_core.specs.Due.{Work, accepted, command_due, reads_due};
+ghost use Rattle.kit_core.specs.Due.{Work, accepted, command_due, command_refused, reads_due};
 ghost use Rattle.kit_core.specs.Headline.{BuildStands};
 ghost use Rattle.kit_core.specs.Limits.{IsOver};
 ghost use Rattle.kit_core.specs.Outcome.{IsOutcome, status_due};
@@ -23,7 +23,7 @@ use crate::refusal::{Refusal, line_of, status_of};
 use crate::running::run_command;
 use crate::shown::Shown;
 use crate::tracing::trace_command;
-use build_core::cartridge_does_what_its_source_means;
+use build_core::builds_are_due_or_refused;
 use kit_base::{Files, Sink, SinkErr};
 use run_core::Ending;
 use std::alloc::Global;
@@ -182,7 +182,7 @@ pub fn kit<F: Files, S: Sink>(alloc: Global, words: &[String], files: &mut F, ou
     // At 0 and 3 the outputs of a run are those of the console's run, and the line of its fault was put.
     ensures runs { IfSome (F.held files.old) (λ m. (result ≡ 0) ⊎ (result ≡ 3) → RunStands (texts words.now) m result (F.held files.new) (S.written out.old) (S.written out.new)) }
     // A command whose words or input are refused changes no file, whatever its status.
-    ensures untouched { IfSome (F.held files.old) (λ m. (e : Refusal) → command_due (texts words.now) m (Err e) → F.held files.new ≡ F.held files.old) }
+    ensures untouched { IfSome (F.held files.old) (λ m. (e : Refusal) → command_refused (texts words.now) m e → F.held files.new ≡ F.held files.old) }
     // Where no call failed, the status is one that is due, or 8.
     ensures complete { IfSome (F.held files.old) (λ m. IsUnrisen (F.faults files.old) (F.faults files.new) → IsUnrisen (S.faults out.old) (S.faults out.new)
         → ((d : Result Work Refusal) × command_due (texts words.now) m d × (result ≡ status_due d)) ⊎ (result ≡ 8)) }
@@ -195,6 +195,6 @@ pub fn kit<F: Files, S: Sink>(alloc: Global, words: &[String], files: &mut F, ou
     ensures later { HasOnlyRisen (F.faults files.old) (F.faults files.new) (F.misses files.old) (F.misses files.new) (F.overs files.old) (F.overs files.new) (S.faults out.old) (S.faults out.new) }
     ensures status { IsStatus result }
 {
-    cartridge_does_what_its_source_means();
+    builds_are_due_or_refused();
     status_for(alloc, words, files, out)
 }

@@ -1,0 +1,65 @@
+// The build of a project.
+ghost use Rattle.std.specs.Prelude.{◌≡◌, ◌≤◌, IfOk, IfErr, IfSome, length};
+ghost use Rattle.build_core.specs.Build.{Builds, IsCartText};
+ghost use Rattle.build_core.specs.Causes.{CanCome, HasCauses};
+
+use crate::assets::read_assets;
+use crate::error::BuildErr;
+use crate::packing::packed;
+use crate::reading::project_in;
+use crate::sources::read_source;
+use c_image::image;
+use kit_base::{Files, Seq};
+use mid_code::{Choice, Mid};
+use project_text::Map;
+use std::alloc::Global;
+
+/// The bytes of a cartridge, the map of its program, the program's assembly text, the mid code for which places were chosen, and its choices, that
+/// of the start first.
+#[derive(Drop)]
+pub struct Built {
+    pub cart: Seq<u8>,
+    pub map: Map,
+    pub asm: Seq<u8>,
+    pub mid: Mid,
+    pub choices: Seq<Choice>,
+}
+
+/// Builds the project of that text, which has at most 268,435,456 bytes: its source is read from the files, with those that it includes, and the
+/// headers of the dialect lie over the files; then its textures and its sounds are read, in order; nothing is written. A refusal `Source` has the
+/// codes 10 to 50 with the file and the line, counted from 1, of the token that decides; `Bad` is a fault of the project's text, of a texture or a
+/// sound; `Limit` a file over 268,435,456 bytes, or a `cartridge` over as many.
+pub fn build<F: Files>(alloc: Global, files: &mut F, project: &[u8]) -> Result<Built, BuildErr>
+    requires { length project.now ≤ 268435456 }
+    ensures held { F.held files.new ≡ F.held files.old }
+    // Where it is told what is held, what was built is an image of the source's program, whose words do what it means, with the project's textures
+    // and sounds; and a refusal is one that is due; unless a call of the files failed or memory ran out.
+    ensures told { IfSome (F.held files.old) (λ m. Builds m project.now result) }
+    // The cartridge is one that is read again.
+    ensures cartridge { IfOk result (λ b. IsCartText b.cart) }
+    ensures kinds { IfErr result (CanCome project.now) }
+    ensures causes { HasCauses project.now result (F.faults files.old) (F.faults files.new)
+        (F.misses files.old) (F.misses files.new) (F.overs files.old) (F.overs files.new) }
+{
+    let parts = match project_in(alloc, project) {
+        Ok(parts) => parts,
+        Err(refusal) => return Err(refusal),
+    };
+    let source = match read_source(alloc, files, &parts.source) {
+        Ok(source) => source,
+        Err(refusal) => return Err(refusal),
+    };
+    let textures = match read_assets(alloc, files, parts.textures.as_slice()) {
+        Ok(textures) => textures,
+        Err(refusal) => return Err(refusal),
+    };
+    let sounds = match read_assets(alloc, files, parts.sounds.as_slice()) {
+        Ok(sounds) => sounds,
+        Err(refusal) => return Err(refusal),
+    };
+    let made = match image(alloc, &source.program, &source.places, &source.starts) {
+        Ok(made) => made,
+        Err(_) => return Err(BuildErr::Memory),
+    };
+    packed(alloc, parts.title, made, textures, sounds)
+}

@@ -1,0 +1,81 @@
+// From an image to a cartridge.
+ghost use Rattle.std.specs.Prelude.{◌≡◌, ◌≤◌, true, IfOk, IfErr, length};
+ghost use Rattle.std.specs.List.{AllByRecursion};
+ghost use Rattle.asset_pack.specs.Texts.{HasSides, HasSamples};
+ghost use Rattle.project_text.specs.Grammar.{IsText};
+ghost use Rattle.cart_format.specs.Table.{is_table};
+ghost use Rattle.c_image.specs.Imaging.{image};
+ghost use Rattle.build_core.specs.Due.{assets};
+ghost use Rattle.build_core.specs.Build.{IsCartText, cartridge_of};
+ghost use Rattle.build_core.specs.Causes.{IsOfPacking};
+ghost use Rattle.build_core.specs.Packing.{IsPackedFrom};
+
+use crate::building::Built;
+use crate::error::BuildErr;
+use asset_pack::{Sound, Texture};
+use c_image::Image;
+use cart_format::{Cart, write_cart};
+use kit_base::{Name, Seq};
+use std::alloc::Global;
+
+fn has_sides(texture: &Texture)
+    ensures { HasSides texture.now }
+{
+    let _ = texture.pixels();
+}
+
+fn have_sides(textures: &[Texture])
+    ensures { AllByRecursion HasSides textures.now }
+{
+    for texture in textures {
+        has_sides(texture);
+    }
+}
+
+fn has_samples(sound: &Sound)
+    ensures { HasSamples sound.now }
+{
+    let _ = sound.samples();
+}
+
+fn have_samples(sounds: &[Sound])
+    ensures { AllByRecursion HasSamples sounds.now }
+{
+    for sound in sounds {
+        has_samples(sound);
+    }
+}
+
+/// The cartridge of an image, and what else was built.
+pub fn packed(
+    alloc: Global,
+    title: Name,
+    made: Image,
+    textures: Vec<Texture>,
+    sounds: Vec<Sound>,
+) -> Result<Built, BuildErr>
+    requires title { IsText 63 title }
+    requires some { 1 ≤ length made.words.items }
+    requires few { length made.words.items ≤ 33554432 }
+    requires table { is_table (length made.words.items) (image made).table ≡ true }
+    requires textures { length textures.items ≤ 256 }
+    requires sounds { length sounds.items ≤ 1024 }
+    ensures packed { IfOk result (IsPackedFrom title (image made) (assets textures.items sounds.items)) }
+    ensures cartridge { IfOk result (λ b. IsCartText b.cart) }
+    ensures kinds { IfErr result (IsOfPacking (cartridge_of title (image made) (assets textures.items sounds.items))) }
+{
+    have_sides(&textures);
+    have_samples(&sounds);
+    let Some(cart) = Cart::with_lines(title, made.words, textures, sounds, made.files, made.rows)
+    else {
+        return Err(BuildErr::Limit(Name::new(alloc, "cartridge")?));
+    };
+    let bytes = write_cart(alloc, &cart)?;
+    Ok(Built {
+        cart: Seq::from_vec(bytes),
+        map: made.map,
+        asm: Seq::from_vec(made.text),
+        mid: made.mid,
+        choices: Seq::from_vec(made.choices),
+    })
+}

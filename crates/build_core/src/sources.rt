@@ -1,0 +1,89 @@
+// A project's source, read and typed.
+ghost use Rattle.std.specs.Prelude.{◌≡◌, IfOk, IfErr, IfSome, IsUtf8};
+ghost use Rattle.c_tree.specs.View.{unit};
+ghost use Rattle.c_check.specs.View.{program};
+ghost use Rattle.c_image.specs.Imaging.{AreStarts};
+ghost use Rattle.build_core.specs.Causes.{HasReadCauses};
+ghost use Rattle.build_core.specs.Checked.{IsOfRules, MissesOnly};
+ghost use Rattle.build_core.specs.Inner.{IsRead, ReadsSource, TypesSource};
+ghost use Rattle.build_core.specs.Starts.{starts_of};
+ghost use Rattle.c_front.specs.Causes.{IsWithin};
+
+use crate::checking::{typed, unread};
+use crate::error::BuildErr;
+use c_check::Program;
+use c_facts::laws::functions_are_bodies;
+use c_front::{Parsed, Places, read_unit};
+use c_tree::{Item, Unit};
+use kit_base::{Memory, Name, Reads};
+use std::alloc::Global;
+
+/// A source's typed program, the places of its tokens, and the number of the first token of each function's definition.
+#[derive(Drop)]
+pub struct Source {
+    pub program: Program,
+    pub places: Places,
+    pub starts: Vec<u32>,
+}
+
+/// The number of the first token of each function's definition.
+fn starts_of(alloc: Global, unit: &Unit) -> Result<Vec<u32>, Memory>
+    ensures { IfOk result (λ v. v.items ≡ starts_of (unit unit.now)) }
+{
+    let mut starts = Vec::new(alloc);
+    'each: for item in unit.items.as_slice() {
+        match item {
+            Item::Function {
+                body: Some(_),
+                span,
+                ..
+            } => starts.push(span.first)?,
+            Item::Function { body: None, .. }
+            | Item::Record { .. }
+            | Item::Enum { .. }
+            | Item::Typedef(..)
+            | Item::Vars(..) => {}
+        }
+    }
+    Ok(starts)
+}
+
+/// The typed program of a unit, with the places of its tokens.
+fn source_of(alloc: Global, parsed: Parsed) -> Result<Source, BuildErr>
+    requires within { IsWithin parsed }
+    requires read { IsRead parsed }
+    ensures typed { TypesSource parsed result }
+    ensures starts { IfOk result (λ s. AreStarts (program s.program) s.places s.starts.items) }
+    ensures content { IfErr result IsOfRules }
+{
+    functions_are_bodies();
+    let program = match typed(alloc, &parsed) {
+        Ok(program) => program,
+        Err(refusal) => return Err(refusal),
+    };
+    let starts = match starts_of(alloc, &parsed.unit) {
+        Ok(starts) => starts,
+        Err(_) => return Err(BuildErr::Memory),
+    };
+    Ok(Source {
+        program,
+        places: parsed.places,
+        starts,
+    })
+}
+
+/// The source of that name, read and typed.
+pub fn read_source<F: Reads>(alloc: Global, files: &mut F, name: &Name) -> Result<Source, BuildErr>
+    requires { IsUtf8 name.now }
+    ensures held { F.held files.new ≡ F.held files.old }
+    ensures told { IfSome (F.held files.old) (λ m. ReadsSource m name.now result) }
+    ensures starts { IfOk result (λ s. AreStarts (program s.program) s.places s.starts.items) }
+    ensures kinds { IfErr result (MissesOnly name.now) }
+    ensures causes { HasReadCauses result (F.faults files.old) (F.faults files.new)
+        (F.misses files.old) (F.misses files.new) (F.overs files.old) (F.overs files.new) }
+{
+    match read_unit(alloc, files, name.as_str()) {
+        Ok(parsed) => source_of(alloc, parsed),
+        Err(error) => Err(unread(error)),
+    }
+}

@@ -1,20 +1,17 @@
 -- The items of placed code can be written as text and read again.
-use Rattle.std.proofs.Common.{◌≡◌, ℕ, suc, ◌+◌, ◌*◌, ◌%◌, ◌^◌, ◌<◌, ◌≤◌, Bool, true, false, List, [], ◌∷◌, ◌++◌, map, length, sum, Option, Some, None, refl, sym, ap, subst, arith}
+use Rattle.std.proofs.Common.{◌≡◌, ℕ, ◌+◌, ◌%◌, ◌^◌, ◌<◌, Bool, true, false, List, [], ◌∷◌, ◌++◌, map, length, Option, Some, None, arith}
 use Rattle.std.specs.Prelude.{◌==◌, cond, get_or, All}
 use Rattle.std.specs.List.{list_all}
 use Rattle.std.proofs.lemmas.List.Elements.{All-nil, All-cons}
-use Rattle.std.proofs.lemmas.List.Sums.{sum_by-cons}
 use Rattle.kit_base.specs.Word.{add, sub}
-use Rattle.either.specs.declared.Either.TheVariants.{Left, Right}
+use Rattle.either.specs.declared.Either.TheVariants.{Left}
 use Rattle.v32_isa.specs.declared.instruction.One.{One}
 use Rattle.v32_isa.specs.declared.instruction.Two.{Two}
 use Rattle.v32_isa.specs.declared.instruction.Two.TheVariants.{IADD, ISUB}
 use Rattle.v32_isa.specs.declared.instruction.Src.TheVariants as src
-use Rattle.v32_isa.specs.declared.instruction.Instr.{Instr}
 use Rattle.v32_isa.specs.declared.instruction.Instr.TheVariants as instr
 use Rattle.asm_items.specs.declared.item.AsmItem.{AsmItem}
 use Rattle.asm_items.specs.declared.item.AsmItem.TheVariants as item
-use Rattle.asm_items.specs.Items.{Imm}
 use Rattle.asm_items.specs.Operands.{Operand, operands}
 use Rattle.asm_items.specs.Vocabulary.{is_word}
 use Rattle.asm_reader.specs.Readable.{IsName, IsArgument, IsReadable, AreReadable}
@@ -22,9 +19,8 @@ use Rattle.mid_code.specs.declared.placed.Where.{Where}
 use Rattle.mid_code.specs.declared.placed.Where.TheVariants.{Reg, Slot}
 use Rattle.mid_code.specs.Code.{OpT, ConstO, NullO, MoveO, OneO, TwoO, GlobalO, LocalO, LiteralO, CardO, StepO, ApartO, PtrTestO, LoadO, StoreO, FreshO, EndO, InO, OutO, WaitO, HaltO, NodesT, Stop, Do, Call, Choose, Block, Loop, Leave, Again, Return, FunctionT, CodeT}
 use Rattle.mid_code.specs.Invariants.{AllOf, IsOp, AreNodes}
-use Rattle.asm_laws.specs.Names.{jump_label, literal_label, function_label}
-use Rattle.asm_laws.specs.Operations.{Frame, Whole, register, word_at, fetch, keep, fetches, keeps, keeps_some, is_in, hand, brings, takes, aim, lays, moves, changes, is_direct, in_place, apart, computes, slot_arg, slot_args, pushed_arg, pushed_args, popped_arg, popped_args, args_items, call_items, op_items, giving, start_frame, opening_items, literal_items, literals_items}
-use Rattle.asm_laws.specs.Framing.{room_made, frame_gone}
+use Rattle.asm_laws.specs.Operations.{Frame, Whole, register, keep, fetches, keeps, keeps_some, is_in, hand, brings, takes, aim, lays, moves, changes, is_direct, in_place, apart, computes, slot_arg, slot_args, pushed_arg, pushed_args, popped_arg, popped_args, args_items, call_items, op_items, giving, start_frame, opening_items, literal_items, literals_items}
+use Rattle.asm_laws.specs.Framing.{room_made}
 use Rattle.asm_laws.specs.Emitted.{labels, enclosing, jump, jump_unless, mark, first_part, second_part, choice, one_way, is_stop, enclosed, returning, code_items, exit_items, function_items, functions_items, closing_items, start_items, program_items}
 use Rattle.asm_emit.specs.Words.{AreWords, TextsAreWords}
 use Rattle.asm_emit.proofs.ReadableLabels.{jump_named, literal_named, function_named}
@@ -32,7 +28,7 @@ use Rattle.asm_emit.proofs.ReadableLabels.{jump_named, literal_named, function_n
 -- what the operands are, and what the items are, one by one
 abbrev Arguments : List Operand → Type 0
 Arguments [] = Unit {0}
-Arguments (a ∷ as) = IsArgument a × Arguments as
+Arguments (a ∷ rest) = IsArgument a × Arguments rest
 
 abbrev Fine : AsmItem → Type 0
 Fine (item.Label name) = IsName name
@@ -44,9 +40,9 @@ abbrev AllFine : List AsmItem → Type 0
 AllFine [] = Unit {0}
 AllFine (x ∷ xs) = Fine x × AllFine xs
 
-arguments_all : (as : List Operand) → Arguments as → All IsArgument as
+arguments_all : (os : List Operand) → Arguments os → All IsArgument os
 arguments_all [] h = All-nil IsArgument
-arguments_all (a ∷ as) h = All-cons IsArgument a as h.0 (arguments_all as h.1)
+arguments_all (a ∷ os) h = All-cons IsArgument a os h.0 (arguments_all os h.1)
 
 fine_reads : (x : AsmItem) → Fine x → IsReadable x
 fine_reads (item.Label name) h = h
@@ -193,7 +189,7 @@ module _ (x : CodeT Where) (W : Whole) (words : list_all is_word W.names ≡ tru
 
     chosen_fine : (p : Where) (n w : ℕ) (t : Bool) (a b : List AsmItem) → AllFine a → AllFine b → AllFine (cond t (one_way F p n a) (choice F p n w a b))
     chosen_fine p n w t a b ha hb =
-        let test = (hand_fine p 9 (omega arith), (jump_named n, tt)) in
+        let test : Fine (jump_unless (hand p 9) n) = (hand_fine p 9 (omega arith), (jump_named n, tt)) in
         either t (one_way F p n a) (choice F p n w a b)
         (join (brings F p 9) (jump_unless (hand p 9) n ∷ (a ++ mark n ∷ [])) (brings_fine F p 9 (omega arith)) (test, join a (mark n ∷ []) ha (jump_named n, tt)))
         (join (first_part F p n w a) (second_part w b)
@@ -220,10 +216,17 @@ module _ (x : CodeT Where) (W : Whole) (words : list_all is_word W.names ≡ tru
 
   function_fine : (f n : ℕ) (g : FunctionT Where) → (W.frames f).size < 2 ^ 32 → AreNodes x (length g.locals) [] g.body → AllFine (function_items W f n g.body)
   function_fine f n g small ok =
-      let items = code_items W (W.frames f) n [] (n + 1) g.body in
-      (function_named W.names f words, ((omega arith, tt), ((omega arith, (omega arith, tt)),
-      join (room_made (W.frames f).size) (items ++ exit_items n) (room_fine (W.frames f).size small)
-      (join items (exit_items n) (code_fine (length g.locals) (W.frames f) n g.body [] [] (n + 1) ok) (jump_named n, ((omega arith, (omega arith, tt)), ((omega arith, tt), (tt, tt))))))))
+      let items = code_items W (W.frames f) n [] (n + 1) g.body in (
+        function_named W.names f words,
+        (
+          (omega arith, tt),
+          (
+            (omega arith, (omega arith, tt)),
+            join (room_made (W.frames f).size) (items ++ exit_items n) (room_fine (W.frames f).size small)
+                (join items (exit_items n) (code_fine (length g.locals) (W.frames f) n g.body [] [] (n + 1) ok) (jump_named n, ((omega arith, (omega arith, tt)), ((omega arith, tt), (tt, tt))))),
+          ),
+        ),
+      )
 
   functions_fine : (f n : ℕ) (gs : List (FunctionT Where)) → ((k : ℕ) → (W.frames k).size < 2 ^ 32) → AllOf (λ g. AreNodes x (length g.locals) [] g.body) gs → AllFine (functions_items W f n gs)
   functions_fine f n [] small ok = tt

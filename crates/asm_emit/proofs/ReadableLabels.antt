@@ -1,8 +1,8 @@
 -- The labels of emitted code are words that stand for nothing else.
-use Rattle.std.proofs.Common.{◌≡◌, ℕ, zero, suc, ◌/◌, ◌%◌, ◌^◌, ◌<◌, Bool, true, false, ◌&&◌, List, [], ◌∷◌, codes, ◌++◌, refl, ◌∙◌, ap, subst, sym, arith}
+use Rattle.std.proofs.Common.{◌≡◌, ℕ, zero, suc, ◌/◌, ◌%◌, ◌^◌, Bool, true, false, ◌&&◌, List, [], ◌∷◌, codes, ◌++◌, refl, ◌∙◌, ap, arith}
 use Rattle.std.specs.Prelude.{get_or}
 use Rattle.std.specs.List.{list_all}
-use Rattle.v32_isa.specs.Ports.{port_named}
+use Rattle.v32_isa.specs.Ports.{port_named, port_spelled, port_table}
 use Rattle.asm_items.specs.Vocabulary.{is_letter, is_word_byte, is_word, is_label, is_label_word, is_spelled, vocabulary, registers, word_kind}
 use Rattle.asm_items.specs.Written.{hex_digit, number_text}
 use Rattle.asm_reader.specs.Readable.{IsName}
@@ -30,15 +30,15 @@ number_bytes n = ap (list_all is_word_byte) (number_wraps n) ∙ (word_number (n
 -- ---- a word whose second byte is `_` stands for nothing else
 
 after_f : (rest : List ℕ) → is_label (word_kind (102 ∷ 95 ∷ rest)) ≡ true
-unfolding word_kind vocabulary registers is_spelled port_named
+unfolding word_kind vocabulary registers is_spelled port_named port_spelled port_table
 after_f rest = refl
 
 after_l : (rest : List ℕ) → is_label (word_kind (108 ∷ 95 ∷ rest)) ≡ true
-unfolding word_kind vocabulary registers is_spelled port_named
+unfolding word_kind vocabulary registers is_spelled port_named port_spelled port_table
 after_l rest = refl
 
 after_t : (rest : List ℕ) → is_label (word_kind (116 ∷ 95 ∷ rest)) ≡ true
-unfolding word_kind vocabulary registers is_spelled port_named
+unfolding word_kind vocabulary registers is_spelled port_named port_spelled port_table
 after_t rest = refl
 
 label_word : (name : List ℕ) → is_word name ≡ true → is_label (word_kind name) ≡ true → IsName name

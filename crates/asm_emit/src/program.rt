@@ -235,13 +235,9 @@ pub fn emit(alloc: Global, x: &Placed, names: &[Name]) -> Result<Vec<AsmItem>, M
     ensures emitted { IfOk result (λ v. IsEmitted (placed x.now) names.now v.items) }
 {
     placed_code_is_sound(x);
-    sizes_are_words(x.frames().sizes.as_slice());
-    texts_are_words(x.code().literals.as_slice());
-    items_of(
-        alloc,
-        x.code(),
-        x.spots(),
-        x.frames().sizes.as_slice(),
-        names,
-    )
+    let code = x.code();
+    let sizes = x.frames().sizes.as_slice();
+    sizes_are_words(sizes);
+    texts_are_words(code.literals.as_slice());
+    items_of(alloc, code, x.spots(), sizes, names)
 }

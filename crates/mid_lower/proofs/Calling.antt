@@ -28,6 +28,7 @@ use Rattle.mid_lower.proofs.Grows.{Mid, Grows, more, then_grows, done_grows}
 use Rattle.mid_lower.proofs.Under.{Under, under_length, under_from}
 use Rattle.mid_lower.proofs.Lives.{later_then, later_from}
 use Rattle.mid_lower.proofs.Fits.{Site, ScalarTypes}
+use Rattle.mid_lower.proofs.Giving.{Giving, Given, giving, handed}
 use Rattle.mid_lower.proofs.Following.{Side, mk, Goal, goal, base_of, stays_later, Now, Out, now_work, Kept, SimV, events_of, putting, put_at, put_other, fin_now, stopped, kept_wider, kept_through, M, M_grows, L}
 
 abbrev the_none : Option ℕ
@@ -63,13 +64,13 @@ unmade_all (x ∷ a) b = ap (λ l. the_none ∷ l) (unmade_all a b)
 
 -- ---- what is done with one less of the bound
 
--- a body that comes to an outcome; one of a function without a result gives none
-abbrev pub SimF : (void : Bool) → Goal → Done → Res Mid → Type 0
+-- a body that comes to an outcome; what it returns is what its function gives
+abbrev pub SimF : Giving → Goal → Done → Res Mid → Type 0
 SimF b γ (Goes w) m = (x : Side) × (m ≡ res.Next (mk w x)) × Out γ w x
 SimF b γ (Breaks w) m = Prefix w.events (events_of m)
 SimF b γ (Continues w) m = Prefix w.events (events_of m)
 SimF b γ (Returns None w) m = (x : Side) × (m ≡ res.Returns (mk w x)) × Out γ w x
-SimF b γ (Returns (Some c) w) m = (b ≡ false) × (x : Side) × (m ≡ res.Returns (mk w x)) × Out γ w x × (x.given ≡ c)
+SimF b γ (Returns (Some c) w) m = (x : Side) × (m ≡ res.Returns (mk w x)) × Out γ w x × Given b c x
 SimF b γ (Ended f w) m = Kept γ f w m
 
 -- a body may do with 8, and 16 for each parameter, more
@@ -105,15 +106,15 @@ module _ (S : Site) where
   abbrev h : Shape
   h = shape_in S.s
 
-  -- the side of a call that begins
-  abbrev pub at_entry : ℕ → List Cell → Side → Side
-  at_entry f vs x = record { objs = x.objs; work = x.work + 16; temps = received temporaries (function_at S.code f).params vs; given = Unwritten; extra = unmade (S.fits.more f); floor = 0 }
+  -- the side of a call that begins, to which these cells are handed
+  abbrev pub at_entry : ℕ → (handed : List Cell) → Side → Side
+  at_entry f us x = record { objs = x.objs; work = x.work + 16; temps = received temporaries (function_at S.code f).params us; given = Unwritten; extra = unmade (S.fits.more f); floor = 0 }
 
   -- the functions' bodies follow
   abbrev pub BodiesFollow : Type 0
   BodiesFollow =
-      (f : ℕ) (g : TFunctionT) → slice_get S.s.functions f ≡ Some g → (vs : List Cell) (w : World) (x : Side) → Under w.store.objects x.objs
-      → SimF (is_void g.gives) (body_goal vs (on_store (entered S.s.sizes f) w) (at_entry f vs x)) (S.prev (Body f vs Unwritten) (on_store (entered S.s.sizes f) w)) (S.prev' (function_at S.code f).body (mk (on_store (entered S.s.sizes f) w) (at_entry f vs x)))
+      (f : ℕ) (g : TFunctionT) → slice_get S.s.functions f ≡ Some g → (vs : List Cell) (r : Cell) (w : World) (x : Side) → Under w.store.objects x.objs
+      → SimF (giving g.gives r) (body_goal vs (on_store (entered S.s.sizes f) w) (at_entry f (handed g.gives r vs) x)) (S.prev (Body f vs r) (on_store (entered S.s.sizes f) w)) (S.prev' (function_at S.code f).body (mk (on_store (entered S.s.sizes f) w) (at_entry f (handed g.gives r vs) x)))
 
   room_is : (f : ℕ) (w : World) (x : Side) → has_room (sizes_of S.code S.frames) f (mk w x).world.store ≡ has_room S.s.sizes f w.store
   room_is f w x = ap (λ u. leb (w.store.used + (u + 2) + sum S.code.globals) 4194304) (S.fits.frame f) ∙ ap (λ u. leb (w.store.used + (S.s.sizes.frame f + 2) + u) 4194304) S.fits.globals

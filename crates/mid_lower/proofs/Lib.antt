@@ -7,6 +7,7 @@ mod Trees
 mod Chosen
 mod Fits
 mod Following
+mod Giving
 mod Room
 mod Instructions
 mod Storing

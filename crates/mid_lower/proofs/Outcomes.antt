@@ -12,22 +12,23 @@ use Rattle.mid_lower.specs.Statements.{Jump, ToEnd, ToTurn}
 use Rattle.mid_lower.proofs.Grows.{Mid, Grows, more, then_grows, block_grows, turn_grows}
 use Rattle.mid_lower.proofs.Lives.{Later, later_then}
 use Rattle.mid_lower.proofs.Fits.{Site}
+use Rattle.mid_lower.proofs.Giving.{Giving, Given}
 use Rattle.mid_lower.proofs.Following.{Fit, events_of, Side, mk, Goal, base_of, Stays, restay, stays_then, stays_here, Now, Out, Kept, Way, scratch, paid, paid_now, less_now, kept_wider, kept_through, eqb_more, M, M_grows}
 
 abbrev pub jumped : Jump → Mid → Res Mid
 jumped (ToEnd k) t = Leaves k t
 jumped (ToTurn k) t = Repeats k t
 
--- Mid code does what the tree does: it goes on by k, leaves the b-th part, or jumps by j. A function without a result gives none.
-abbrev pub SimD : (void : Bool) → Goal → ℕ → Jump → (Mid → Res Mid) → Done → Res Mid → Type 0
+-- Mid code does what the tree does: it goes on by k, leaves the b-th part, or jumps by j. What a function returns is what it gives.
+abbrev pub SimD : Giving → Goal → ℕ → Jump → (Mid → Res Mid) → Done → Res Mid → Type 0
 SimD v γ b j k (Goes w) m = (x : Side) × (m ≡ k (mk w x)) × Now γ 0 w x
 SimD v γ b j k (Breaks w) m = (x : Side) × (m ≡ Leaves b (mk w x)) × Now γ 0 w x
 SimD v γ b j k (Continues w) m = (x : Side) × (m ≡ jumped j (mk w x)) × Now γ 0 w x
 SimD v γ b j k (Returns None w) m = (x : Side) × (m ≡ res.Returns (mk w x)) × Out γ w x
-SimD v γ b j k (Returns (Some c) w) m = (v ≡ false) × (x : Side) × (m ≡ res.Returns (mk w x)) × Out γ w x × (x.given ≡ c)
+SimD v γ b j k (Returns (Some c) w) m = (x : Side) × (m ≡ res.Returns (mk w x)) × Out γ w x × Given v c x
 SimD v γ b j k (Ended f w) m = Kept γ f w m
 
-abbrev pub way_d : (void : Bool) → (γ : Goal) → ℕ → Jump → (Mid → Res Mid) → Way γ
+abbrev pub way_d : Giving → (γ : Goal) → ℕ → Jump → (Mid → Res Mid) → Way γ
 way_d v γ b j k = record { R = Done; stop = Ended; T = SimD v γ b j k; stops = λ f w m h. h }
 
 -- among statements the temporaries of initialisers are passed over too
@@ -51,7 +52,7 @@ more_for γ = record γ { less = γ.less + 24; ends = γ.ends + 24 }
 -- ---- after a part
 
 -- the same for any goal at the same point
-module _ (v : Bool) (γ γ' : Goal) (keeps : (i : ℕ) → scratch + γ.skip ≤ i → i < γ.first → eqb i γ.at ≡ false → (scratch + γ'.skip ≤ i) × (i < γ'.first) × (eqb i γ'.at ≡ false) × (γ'.temps i ≡ γ.temps i)) (cost : γ.less + γ'.from ≤ γ'.less + γ.from) (at_ends : γ.less + γ'.from + γ'.ends ≤ γ'.less + γ.from + γ.ends) (stays : (w : World) (x : Side) → Stays γ'.base w x → Stays γ.base w x) (later : (os : List ObjectT) → Later γ'.base.objects os → Later γ.base.objects os) where
+module _ (v : Giving) (γ γ' : Goal) (keeps : (i : ℕ) → scratch + γ.skip ≤ i → i < γ.first → eqb i γ.at ≡ false → (scratch + γ'.skip ≤ i) × (i < γ'.first) × (eqb i γ'.at ≡ false) × (γ'.temps i ≡ γ.temps i)) (cost : γ.less + γ'.from ≤ γ'.less + γ.from) (at_ends : γ.less + γ'.from + γ'.ends ≤ γ'.less + γ.from + γ.ends) (stays : (w : World) (x : Side) → Stays γ'.base w x → Stays γ.base w x) (later : (os : List ObjectT) → Later γ'.base.objects os → Later γ.base.objects os) where
   looser_now : (w : World) (x : Side) → Now γ' 0 w x → Now γ 0 w x
   looser_now w x h = record {
     stays = stays w x h.stays;
@@ -90,13 +91,13 @@ module _ (γ : Goal) (skips : 2 ≤ γ.skip) (s m : ℕ) (w : World) (x : Side) 
   }
 
   -- the part's goal is met, so the whole's is
-  pub wide : (v : Bool) (b : ℕ) (j : Jump) (k : Mid → Res Mid) (d : Done) (q : Res Mid) → SimD v (plain m w x) b j k d q → SimD v γ b j k d q
+  pub wide : (v : Giving) (b : ℕ) (j : Jump) (k : Mid → Res Mid) (d : Done) (q : Res Mid) → SimD v (plain m w x) b j k d q → SimD v γ b j k d q
   wide v b j k d q a = looser v γ (plain m w x) part_keeps (omega (arith, h.cost)) (omega (arith, h.cost)) (λ wa xa. stays_then γ.base w x wa xa h.stays) (λ os. later_then γ.base.objects w.store.objects os h.stays.later) b j k d q a
 
   pub fin_stmt : (wa : World) (xa : Side) → Out (stmt m w x) wa xa → Out (more_for γ) wa xa
   fin_stmt wa xa a = record { under = a.under; later = later_then γ.base.objects w.store.objects wa.store.objects h.stays.later a.later; cost = omega (arith, h.cost, a.cost) }
 
-  pub seqs : (v : Bool) (b : ℕ) (j : Jump) (k ka : Mid → Res Mid) (d : Done) (q : Res Mid) → SimD v (plain m w x) b j ka d q → (go : World → Done) → ((wa : World) (xa : Side) → Now γ s wa xa → SimD v γ b j k (go wa) (ka (mk wa xa))) → SimD v γ b j k (then_done d go) q
+  pub seqs : (v : Giving) (b : ℕ) (j : Jump) (k ka : Mid → Res Mid) (d : Done) (q : Res Mid) → SimD v (plain m w x) b j ka d q → (go : World → Done) → ((wa : World) (xa : Side) → Now γ s wa xa → SimD v γ b j k (go wa) (ka (mk wa xa))) → SimD v γ b j k (then_done d go) q
   seqs v b j k ka (Goes wa) q a go f = subst (λ r. SimD v γ b j k (go wa) r) (sym a.1) (f wa a.0 (stmt_now wa a.0 a.2))
   seqs v b j k ka (Breaks wa) q a go f = wide v b j ka (Breaks wa) q a
   seqs v b j k ka (Continues wa) q a go f = wide v b j ka (Continues wa) q a
@@ -105,12 +106,12 @@ module _ (γ : Goal) (skips : 2 ≤ γ.skip) (s m : ℕ) (w : World) (x : Side) 
   seqs v b j k ka (Ended g wa) q a go f = wide v b j ka (Ended g wa) q a
 
 -- a further turn
-pub turn_wide : (v : Bool) (γ : Goal) → 2 ≤ γ.skip → (m b : ℕ) (j : Jump) (k : Mid → Res Mid) (w : World) (x : Side) → Now γ 24 w x → γ.first ≤ m → (d : Done) (q : Res Mid) → SimD v (turning m w x) b j k d q → SimD v γ b j k d q
+pub turn_wide : (v : Giving) (γ : Goal) → 2 ≤ γ.skip → (m b : ℕ) (j : Jump) (k : Mid → Res Mid) (w : World) (x : Side) → Now γ 24 w x → γ.first ≤ m → (d : Done) (q : Res Mid) → SimD v (turning m w x) b j k d q → SimD v γ b j k d q
 turn_wide v γ skips m b j k w x h le d q a =
     looser v γ (turning m w x) (λ i c e g. (omega (arith, c, skips), omega (arith, e, le), eqb_more i 0 (omega (arith, c)), h.below i c e g)) (omega (arith, h.cost)) (omega (arith, h.cost)) (λ wa xa. stays_then γ.base w x wa xa h.stays) (λ os. later_then γ.base.objects w.store.objects os h.stays.later) b j k d q a
 
 -- a statement among others
-pub stmt_plain : (v : Bool) (m b : ℕ) (j : Jump) (k : Mid → Res Mid) (w : World) (x : Side) (d : Done) (q : Res Mid) → SimD v (stmt m w x) b j k d q → SimD v (plain m w x) b j k d q
+pub stmt_plain : (v : Giving) (m b : ℕ) (j : Jump) (k : Mid → Res Mid) (w : World) (x : Side) (d : Done) (q : Res Mid) → SimD v (stmt m w x) b j k d q → SimD v (plain m w x) b j k d q
 stmt_plain v m b j k w x d q a = looser v (plain m w x) (stmt m w x) (λ i c e g. (c, e, g, refl)) (omega arith) (omega arith) (λ wa xa p. p) (λ os p. p) b j k d q a
 
 pub keep_more : (γ : Goal) (s : ℕ) (w : World) (x : Side) → 24 ≤ s → Now γ s w x → Now (more_for γ) 0 w x
@@ -159,7 +160,7 @@ inner_is (Continues w) go go' again e = e w
 inner_is (Returns c w) go go' again e = refl
 inner_is (Ended f w) go go' again e = refl
 
-module _ (S : Site) (v : Bool) where
+module _ (S : Site) (v : Giving) where
   abbrev R : NodesT ℕ → Mid → Res Mid
   R = M S
 

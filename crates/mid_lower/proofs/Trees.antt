@@ -8,6 +8,7 @@ use Rattle.c_meaning.specs.Kinds.{type_of, is_structure}
 use Rattle.c_meaning.specs.Parts.{part_type}
 use Rattle.c_meaning.specs.Statements.{labels}
 use Rattle.mid_lower.specs.Shape.{Shape, words, literal_words}
+use Rattle.mid_lower.specs.Expressions.{is_void}
 
 -- the value of this is no structure
 abbrev pub IsScalar : TExprT → Type 0
@@ -72,7 +73,7 @@ abbrev pub FillVars : Shape → List TVarT → Type 0
 FillVars h [] = Unit {0}
 FillVars h (v ∷ vs) = Fills h v.init v.ty × FillVars h vs
 
--- ---- statements: of a function with so many locals of its own, which gives a result or none
+-- ---- statements: of a function with so many locals of its own, whose result has this type
 
 -- these are own locals
 abbrev pub Below : ℕ → List ℕ → Type 0
@@ -91,32 +92,36 @@ abbrev pub PlainStep : Option TExprT → Type 0
 PlainStep None = Unit {0}
 PlainStep (Some x) = PlainDropped x
 
+-- a value that is returned, where the result has this type
+abbrev pub PlainReturned : Ty → TExprT → Type 0
+PlainReturned ty x = (is_structure ty ≡ false → PlainValue x × (is_void ty ≡ false)) × (is_structure ty ≡ true → PlainStructure x × (is_structure (type_of x) ≡ true))
+
 abbrev mutual
-  pub PlainStmt : Shape → (own : ℕ) → (void : Bool) → TStmtT → Type 0
-  PlainStmt h own v (BlockZ made body) = Below own made × PlainStmts h own v body
-  PlainStmt h own v EmptyZ = Unit {0}
-  PlainStmt h own v (VarsZ vars) = FillVars h vars
-  PlainStmt h own v (DoZ x) = PlainDropped x
-  PlainStmt h own v (IfZ x a b) = PlainValue x × PlainStmt h own v a × PlainOther h own v b
-  PlainStmt h own v (WhileZ x a) = PlainValue x × PlainStmt h own v a
-  PlainStmt h own v (DoWhileZ a x) = PlainStmt h own v a × PlainValue x
-  PlainStmt h own v (ForZ made first test step a) = Below own made × PlainOther h own v first × PlainMaybe test × PlainStep step × PlainStmt h own v a
-  PlainStmt h own v (SwitchZ x made arms) = PlainValue x × Below own made × PlainArms h own v arms × (2 * labels arms ≤ 2 ^ 32)
-  PlainStmt h own v (ReturnZ None) = Unit {0}
-  PlainStmt h own v (ReturnZ (Some x)) = PlainValue x × (v ≡ false)
-  PlainStmt h own v BreakZ = Unit {0}
-  PlainStmt h own v ContinueZ = Unit {0}
+  pub PlainStmt : Shape → (own : ℕ) → (gives : Ty) → TStmtT → Type 0
+  PlainStmt h own ty (BlockZ made body) = Below own made × PlainStmts h own ty body
+  PlainStmt h own ty EmptyZ = Unit {0}
+  PlainStmt h own ty (VarsZ vars) = FillVars h vars
+  PlainStmt h own ty (DoZ x) = PlainDropped x
+  PlainStmt h own ty (IfZ x a b) = PlainValue x × PlainStmt h own ty a × PlainOther h own ty b
+  PlainStmt h own ty (WhileZ x a) = PlainValue x × PlainStmt h own ty a
+  PlainStmt h own ty (DoWhileZ a x) = PlainStmt h own ty a × PlainValue x
+  PlainStmt h own ty (ForZ made first test step a) = Below own made × PlainOther h own ty first × PlainMaybe test × PlainStep step × PlainStmt h own ty a
+  PlainStmt h own ty (SwitchZ x made arms) = PlainValue x × Below own made × PlainArms h own ty arms × (2 * labels arms ≤ 2 ^ 32)
+  PlainStmt h own ty (ReturnZ None) = Unit {0}
+  PlainStmt h own ty (ReturnZ (Some x)) = PlainReturned ty x
+  PlainStmt h own ty BreakZ = Unit {0}
+  PlainStmt h own ty ContinueZ = Unit {0}
 
-  pub PlainOther : Shape → ℕ → Bool → MaybeZ → Type 0
-  PlainOther h own v NoneZ = Unit {0}
-  PlainOther h own v (SomeZ a) = PlainStmt h own v a
+  pub PlainOther : Shape → ℕ → Ty → MaybeZ → Type 0
+  PlainOther h own ty NoneZ = Unit {0}
+  PlainOther h own ty (SomeZ a) = PlainStmt h own ty a
 
-  pub PlainStmts : Shape → ℕ → Bool → TStmtTs → Type 0
-  PlainStmts h own v NoZ = Unit {0}
-  PlainStmts h own v (MoreZ a rest) = PlainStmt h own v a × PlainStmts h own v rest
+  pub PlainStmts : Shape → ℕ → Ty → TStmtTs → Type 0
+  PlainStmts h own ty NoZ = Unit {0}
+  PlainStmts h own ty (MoreZ a rest) = PlainStmt h own ty a × PlainStmts h own ty rest
 
-  pub PlainArms : Shape → ℕ → Bool → TArmTs → Type 0
-  PlainArms h own v NoB = Unit {0}
-  PlainArms h own v (MoreB (CaseB label) rest) = PlainArms h own v rest
-  PlainArms h own v (MoreB DefaultB rest) = PlainArms h own v rest
-  PlainArms h own v (MoreB (StmtB a) rest) = PlainStmt h own v a × PlainArms h own v rest
+  pub PlainArms : Shape → ℕ → Ty → TArmTs → Type 0
+  PlainArms h own ty NoB = Unit {0}
+  PlainArms h own ty (MoreB (CaseB label) rest) = PlainArms h own ty rest
+  PlainArms h own ty (MoreB DefaultB rest) = PlainArms h own ty rest
+  PlainArms h own ty (MoreB (StmtB a) rest) = PlainStmt h own ty a × PlainArms h own ty rest

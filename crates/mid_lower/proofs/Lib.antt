@@ -13,6 +13,7 @@ mod Instructions
 mod Storing
 mod Values
 mod Choices
+pub mod Arguments
 mod Calling
 mod OperatorForms
 mod PlaceForms

@@ -1,5 +1,5 @@
 -- Every form of a statement: mid code follows it.
-use Rattle.std.proofs.Common.{◌++◌, ◌≡◌, ℕ, ◌+◌, ◌^◌, ◌<◌, ◌≤◌, Bool, true, false, List, length, Option, Some, None, Ok, refl, sym, ap, ◌∙◌, subst, arith, if◌then◌else◌}
+use Rattle.std.proofs.Common.{◌++◌, ◌≡◌, ℕ, ◌+◌, ◌^◌, ◌<◌, ◌≤◌, Bool, true, false, List, [], ◌∷◌, length, Option, Some, None, Ok, refl, sym, ap, ◌∙◌, subst, arith, if◌then◌else◌}
 use Rattle.c_types.specs.Types.{Ty}
 use Rattle.c_types.specs.Sizes.{words_of}
 use Rattle.c_types.specs.Typed.{TExprT, TStmtT, BlockZ, EmptyZ, VarsZ, DoZ, IfZ, WhileZ, DoWhileZ, ForZ, SwitchZ, ReturnZ, BreakZ, ContinueZ, MaybeZ, NoneZ, SomeZ, TStmtTs, NoZ, MoreZ, TArmTs, CaseB, DefaultB, StmtB, NoB, MoreB}
@@ -80,7 +80,7 @@ module _ (S : Site) (before : Earlier S) (r : Cell) (ty : Ty) (own : ℕ) where
   below_in : (γ : Goal) (ks : List ℕ) → γ.base.own ≡ own → Below own ks → Below γ.base.own ks
   below_in γ ks e b = subst (λ o. Below o ks) (sym e) b
 
-  returns_scalar : (γ : Goal) (b : ℕ) (j : Jump) (k : Mid → Res Mid) (e : TExprT) → PlainValue e → is_structure ty ≡ false → is_void ty ≡ false → (n m : ℕ) (c : NodesT ℕ) (w : World) (x : Side) → part.result_at < n → γ.first ≤ n → HomeOf S.s S.code S.frames ty γ.base.function own → Room S γ.base m (value_sizes h e) → Now γ 24 w x → SimD v γ b j k (returned S.s S.bound r e (evaluated S.s S.bound S.prev e w)) (R (low_value h e n (n + 1) m (part.converted ty (is_flag e) n (low.returned h ty n c))) (mk w x))
+  returns_scalar : (γ : Goal) (b : ℕ) (j : Jump) (k : Mid → Res Mid) (e : TExprT) → PlainValue h e → is_structure ty ≡ false → is_void ty ≡ false → (n m : ℕ) (c : NodesT ℕ) (w : World) (x : Side) → part.result_at < n → γ.first ≤ n → HomeOf S.s S.code S.frames ty γ.base.function own → Room S γ.base m (value_sizes h e) → Now γ 24 w x → SimD v γ b j k (returned S.s S.bound r e (evaluated S.s S.bound S.prev e w)) (R (low_value h e n (n + 1) m (part.converted ty (is_flag e) n (low.returned h ty n c))) (mk w x))
   returns_scalar γ b j k e sc scalar some n m c w x sn le home room h0 =
       let σ : Way γ = way_d v γ b j k in
       let c1 : NodesT ℕ = low.returned h ty n c in
@@ -108,13 +108,13 @@ module _ (S : Site) (before : Earlier S) (r : Cell) (ty : Ty) (own : ℕ) where
       let c1 : NodesT ℕ = part.copied size c2 in
       let gives_place : v ≡ GivesAt r = ap (λ q. if q then GivesAt r else if is_void ty then GivesNone else GivesWord) structure in
       subst (λ q. T (if q then then_went Ended (cells_set nowhere 1 S.bound size (Some (Ptr o i)) r wa) (λ u. Returns (Some r) (on_store (λ t. if q then end_temporary (Ptr o i) t else t) u)) else Returns (Some (Ptr o i)) wa) (R (if q then Do (MoveO part.from n) (Do (MoveO part.to part.result_at) c1) else Return (Some n) c) (mk wa xa))) (sym structure)
-      (sets S T γ1 36 wa xa part.from (Ptr o i) (MoveO part.from n) (Do (MoveO part.to part.result_at) c1) (taken_here γ 44 hi o wa xa hx) (low_free γ1 part.from (omega arith)) (ap (λ z. to temporaries part.from (Ok z) (spent 8 (mk wa xa))) at) d (λ y hy ey rest.
+      (sets S T γ1 36 wa xa part.from (Ptr o i) (MoveO part.from n) (Do (MoveO part.to part.result_at) c1) (taken_here γ 44 hi (o ∷ []) wa xa hx) (low_free γ1 part.from (omega arith)) (ap (λ z. to temporaries part.from (Ok z) (spent 8 (mk wa xa))) at) d (λ y hy ey rest.
       sets S T γ1 28 wa y part.to r (MoveO part.to part.result_at) c1 hy (low_free γ1 part.to (omega arith)) (ap (λ z. to temporaries part.to (Ok z) (spent 8 (mk wa y))) (rest part.result_at refl ∙ there)) d (λ z hz ez rest2.
       copies S γ1 nowhere 1 (omega arith) σ1 12 size (omega (arith, few)) (Ptr o i) r wa z c2 hz (rest2 part.from refl ∙ ey) ez after (λ u y2 hu others.
-      let hl = taken_left γ 28 hi o i u y2 (taken_on γ 44 28 hi o wa xa u y2 hx hu) in
+      let hl = taken_left γ 28 hi o i u y2 (taken_on γ 44 28 hi (o ∷ []) wa xa u y2 hx hu) in
       (record (paid (back_to γ.base.floor y2)) { given = none_given }, refl, record { under = hl.stays.fit.under; later = hl.stays.later; cost = omega (arith, hl.cost) }, subst (λ g. Given g r (record (paid (back_to γ.base.floor y2)) { given = none_given })) (sym gives_place) refl)))))
 
-  returns_structure : (γ : Goal) (b : ℕ) (j : Jump) (k : Mid → Res Mid) (e : TExprT) → PlainStructure e → is_structure (type_of e) ≡ true → is_structure ty ≡ true → (n m : ℕ) (c : NodesT ℕ) (w : World) (x : Side) → part.result_at < n → γ.first ≤ n → AtPlace ty r x.temps → HomeOf S.s S.code S.frames ty γ.base.function own → Room S γ.base m (value_sizes h e) → Now γ 24 w x → SimD v γ b j k (returned S.s S.bound r e (evaluated S.s S.bound S.prev e w)) (R (low_value h e n (n + 1) m (part.converted ty (is_flag e) n (low.returned h ty n c))) (mk w x))
+  returns_structure : (γ : Goal) (b : ℕ) (j : Jump) (k : Mid → Res Mid) (e : TExprT) → PlainStructure h e → is_structure (type_of e) ≡ true → is_structure ty ≡ true → (n m : ℕ) (c : NodesT ℕ) (w : World) (x : Side) → part.result_at < n → γ.first ≤ n → AtPlace ty r x.temps → HomeOf S.s S.code S.frames ty γ.base.function own → Room S γ.base m (value_sizes h e) → Now γ 24 w x → SimD v γ b j k (returned S.s S.bound r e (evaluated S.s S.bound S.prev e w)) (R (low_value h e n (n + 1) m (part.converted ty (is_flag e) n (low.returned h ty n c))) (mk w x))
   returns_structure γ b j k e sc given structure n m c w x sn le place home room h0 =
       let σ : Way γ = way_d v γ b j k in
       let c1 : NodesT ℕ = low.returned h ty n c in
@@ -129,7 +129,7 @@ module _ (S : Site) (before : Earlier S) (r : Cell) (ty : Ty) (own : ℕ) where
       (subst (λ q. SimD v γ b j k (returned_as S.s S.bound ty r (Ptr o i) wa) (R q (mk wa xa))) (sym (same_code S ty (is_flag e) n c1 structure))
       (structure_returned γ b j k n hi o i c wa xa structure hx at (below part.result_at (omega arith) (omega (arith, sn)) (eqb_less part.result_at n sn) ∙ place structure)))))
 
-  returns_sim : (γ : Goal) (b : ℕ) (j : Jump) (k : Mid → Res Mid) (e : TExprT) → PlainReturned ty e → (n m : ℕ) (c : NodesT ℕ) (w : World) (x : Side) → part.result_at < n → γ.first ≤ n → AtPlace ty r x.temps → HomeOf S.s S.code S.frames ty γ.base.function own → Room S γ.base m (value_sizes h e) → Now γ 24 w x → SimD v γ b j k (returned S.s S.bound r e (evaluated S.s S.bound S.prev e w)) (R (low_value h e n (n + 1) m (part.converted ty (is_flag e) n (low.returned h ty n c))) (mk w x))
+  returns_sim : (γ : Goal) (b : ℕ) (j : Jump) (k : Mid → Res Mid) (e : TExprT) → PlainReturned h ty e → (n m : ℕ) (c : NodesT ℕ) (w : World) (x : Side) → part.result_at < n → γ.first ≤ n → AtPlace ty r x.temps → HomeOf S.s S.code S.frames ty γ.base.function own → Room S γ.base m (value_sizes h e) → Now γ 24 w x → SimD v γ b j k (returned S.s S.bound r e (evaluated S.s S.bound S.prev e w)) (R (low_value h e n (n + 1) m (part.converted ty (is_flag e) n (low.returned h ty n c))) (mk w x))
   returns_sim γ b j k e sc n m c w x sn le place home room h0 = by (is_structure ty) refl
     where
       by : (q : Bool) → is_structure ty ≡ q → SimD v γ b j k (returned S.s S.bound r e (evaluated S.s S.bound S.prev e w)) (R (low_value h e n (n + 1) m (part.converted ty (is_flag e) n (low.returned h ty n c))) (mk w x))

@@ -37,11 +37,11 @@ use Rattle.mid_lower.proofs.Locals.{HomeOf}
 -- what is known of the bound that is one less
 pub record Earlier (S : Site) : Type 0 where
   pub called : BodiesFollow S
-  pub while_turn : (r : Cell) (ty : Ty) (own : ℕ) (e : TExprT) (a : TStmtT) (n m b : ℕ) (j : Jump) (w : World) (x : Side) → Fit w x → AtPlace ty r x.temps → HomeOf S.s S.code S.frames ty w.store.function own → length w.store.locals ≡ own → PlainValue e → PlainStmt (shape_in S.s) own ty a → part.result_at < n → Room S (base_of w x) m (value_sizes (shape_in S.s) e ++ stmt_sizes (shape_in S.s) a)
+  pub while_turn : (r : Cell) (ty : Ty) (own : ℕ) (e : TExprT) (a : TStmtT) (n m b : ℕ) (j : Jump) (w : World) (x : Side) → Fit w x → AtPlace ty r x.temps → HomeOf S.s S.code S.frames ty w.store.function own → length w.store.locals ≡ own → PlainValue (shape_in S.s) e → PlainStmt (shape_in S.s) own ty a → part.result_at < n → Room S (base_of w x) m (value_sizes (shape_in S.s) e ++ stmt_sizes (shape_in S.s) a)
       → SimD (giving ty r) (turning n w x) b j (λ t. Next t) (S.prev (Turn r (Some e) None a) w) (S.prev' (low_stmt (shape_in S.s) ty (WhileZ e a) n m 0 (ToEnd 0) Stop) (mk w x))
-  pub do_turn : (r : Cell) (ty : Ty) (own : ℕ) (e : TExprT) (a : TStmtT) (n m b : ℕ) (j : Jump) (w : World) (x : Side) → Fit w x → AtPlace ty r x.temps → HomeOf S.s S.code S.frames ty w.store.function own → length w.store.locals ≡ own → PlainValue e → PlainStmt (shape_in S.s) own ty a → part.result_at < n → Room S (base_of w x) m (stmt_sizes (shape_in S.s) a ++ value_sizes (shape_in S.s) e)
+  pub do_turn : (r : Cell) (ty : Ty) (own : ℕ) (e : TExprT) (a : TStmtT) (n m b : ℕ) (j : Jump) (w : World) (x : Side) → Fit w x → AtPlace ty r x.temps → HomeOf S.s S.code S.frames ty w.store.function own → length w.store.locals ≡ own → PlainValue (shape_in S.s) e → PlainStmt (shape_in S.s) own ty a → part.result_at < n → Room S (base_of w x) m (stmt_sizes (shape_in S.s) a ++ value_sizes (shape_in S.s) e)
       → SimD (giving ty r) (turning n w x) b j (λ t. Next t) (S.prev (DoTurn r a e) w) (S.prev' (low_stmt (shape_in S.s) ty (DoWhileZ a e) n m 0 (ToEnd 0) Stop) (mk w x))
-  pub for_turn : (r : Cell) (ty : Ty) (own : ℕ) (test step : Option TExprT) (a : TStmtT) (n m b : ℕ) (j : Jump) (w : World) (x : Side) → Fit w x → AtPlace ty r x.temps → HomeOf S.s S.code S.frames ty w.store.function own → length w.store.locals ≡ own → PlainMaybe test → PlainStep step → PlainStmt (shape_in S.s) own ty a → part.result_at < n → Room S (base_of w x) m (maybe_sizes (shape_in S.s) test ++ (stmt_sizes (shape_in S.s) a ++ maybe_sizes (shape_in S.s) step))
+  pub for_turn : (r : Cell) (ty : Ty) (own : ℕ) (test step : Option TExprT) (a : TStmtT) (n m b : ℕ) (j : Jump) (w : World) (x : Side) → Fit w x → AtPlace ty r x.temps → HomeOf S.s S.code S.frames ty w.store.function own → length w.store.locals ≡ own → PlainMaybe (shape_in S.s) test → PlainStep (shape_in S.s) step → PlainStmt (shape_in S.s) own ty a → part.result_at < n → Room S (base_of w x) m (maybe_sizes (shape_in S.s) test ++ (stmt_sizes (shape_in S.s) a ++ maybe_sizes (shape_in S.s) step))
       → SimD (giving ty r) (turning n w x) b j (λ t. Next t) (S.prev (Turn r test step a) w) (S.prev' (low.turns (shape_in S.s) test step a (λ p q. low_stmt (shape_in S.s) ty a p q 1 (ToEnd 0) Stop) n m Stop) (mk w x))
 
 module _ (S : Site) (before : Earlier S) (r : Cell) (ty : Ty) (own : ℕ) where
@@ -60,7 +60,7 @@ module _ (S : Site) (before : Earlier S) (r : Cell) (ty : Ty) (own : ℕ) where
   abbrev pub Home : World → Type 0
   Home w = HomeOf S.s S.code S.frames ty w.store.function own
 
-  pub sim : (e : TExprT) → PlainValue e → Follow S e
+  pub sim : (e : TExprT) → PlainValue h e → Follow S e
   sim e sc = expr_sim S before.called e sc.0
 
   pub home_after : (γ : Goal) (s0 : ℕ) (w : World) (x : Side) → HomeOf S.s S.code S.frames ty γ.base.function own → Now γ s0 w x → Home w
@@ -92,7 +92,7 @@ module _ (S : Site) (before : Earlier S) (r : Cell) (ty : Ty) (own : ℕ) where
 
   -- ---- `while` and `do`
 
-  module _ (e : TExprT) (a : TStmtT) (sc : PlainValue e) (fa : FollowStmt a) (γ : Goal) (skips : 2 ≤ γ.skip) (n m b : ℕ) (j : Jump) (c : NodesT ℕ) (w : World) (x : Side) (sn : part.result_at < n) (le : γ.first ≤ n) (place : HasPlace ty r γ) (home : HomeOf S.s S.code S.frames ty γ.base.function own) (eo : γ.base.own ≡ own) (h0 : Now γ 24 w x) (again : World → Done) where
+  module _ (e : TExprT) (a : TStmtT) (sc : PlainValue h e) (fa : FollowStmt a) (γ : Goal) (skips : 2 ≤ γ.skip) (n m b : ℕ) (j : Jump) (c : NodesT ℕ) (w : World) (x : Side) (sn : part.result_at < n) (le : γ.first ≤ n) (place : HasPlace ty r γ) (home : HomeOf S.s S.code S.frames ty γ.base.function own) (eo : γ.base.own ≡ own) (h0 : Now γ 24 w x) (again : World → Done) where
     -- a turn of a `while`, of which the first costs the statement's node
     pub while_sim : Room S γ.base m (value_sizes h e ++ stmt_sizes h a) → ((wa : World) (xa : Side) → Now γ 24 wa xa → SimD v γ b j k_next (again wa) (S.prev' (low_stmt h ty (WhileZ e a) n m 0 (ToEnd 0) Stop) (mk wa xa)))
         → SimD v γ b j (R c) (turn S.s S.bound S.prev (Some e) None (does S.s S.bound S.prev r a) again w) (R (low_stmt h ty (WhileZ e a) n m b j c) (mk w x))
@@ -150,7 +150,7 @@ module _ (S : Site) (before : Earlier S) (r : Cell) (ty : Ty) (own : ℕ) where
   step_is (Some e) u again = dropped_end e (value_of S.s S.bound e (evaluated S.s S.bound S.prev e u)) again
 
   -- an expression that is dropped
-  pub dropped_sim : (e : TExprT) → PlainDropped e → (γ : Goal) (σ : Way γ) (s0 n m : ℕ) (w : World) (x : Side) (c : NodesT ℕ) → Now γ s0 w x → γ.first ≤ n → 8 ≤ n → Room S γ.base m (value_sizes h e) → (go : World → σ.R) → ((wa : World) (xa : Side) → Now γ (s0 + 20) wa xa → σ.T (go wa) (R c (mk wa xa))) → σ.T (dropped σ.stop S.s S.bound e (evaluated S.s S.bound S.prev e w) go) (R (low_value h e n (n + 1) m c) (mk w x))
+  pub dropped_sim : (e : TExprT) → PlainDropped h e → (γ : Goal) (σ : Way γ) (s0 n m : ℕ) (w : World) (x : Side) (c : NodesT ℕ) → Now γ s0 w x → γ.first ≤ n → 8 ≤ n → Room S γ.base m (value_sizes h e) → (go : World → σ.R) → ((wa : World) (xa : Side) → Now γ (s0 + 20) wa xa → σ.T (go wa) (R c (mk wa xa))) → σ.T (dropped σ.stop S.s S.bound e (evaluated S.s S.bound S.prev e w) go) (R (low_value h e n (n + 1) m c) (mk w x))
   dropped_sim e sc γ σ s0 n m w x c h0 le sn room go f = by (is_structure (type_of e)) refl
     where
       by : (b : Bool) → is_structure (type_of e) ≡ b → σ.T (dropped σ.stop S.s S.bound e (evaluated S.s S.bound S.prev e w) go) (R (low_value h e n (n + 1) m c) (mk w x))
@@ -159,19 +159,19 @@ module _ (S : Site) (before : Earlier S) (r : Cell) (ty : Ty) (own : ℕ) where
           (value_sim S before.called e (sc.1 structure) structure n (n + 1) m c w x (omega (arith, sn)) (omega arith) h0.stays.fit (room_at S γ.base m (value_sizes h e) w x room h0.stays)) go f
       by false scalar = drops S γ σ s0 n (n + 1) m w x c h0 (above_free γ n le) (omega (arith, le)) (omega (arith, sn)) (omega arith) e scalar room go (expr_sim S before.called e (sc.0 scalar)) (λ wa xa ha. f wa xa (spare γ (s0 + 28) (s0 + 20) wa xa (omega arith) ha))
 
-  steps_sim : (γ : Goal) (step : Option TExprT) → PlainStep step → (n m : ℕ) (w : World) (x : Side) → γ.first ≤ n → 8 ≤ n → Room S γ.base m (maybe_sizes h step) → Now γ 40 w x → SimD v (more_for γ) 0 (ToTurn 0) k_next (step_end step w) (R (low.low_dropped h step n m (Again 0 Stop)) (mk w x))
+  steps_sim : (γ : Goal) (step : Option TExprT) → PlainStep h step → (n m : ℕ) (w : World) (x : Side) → γ.first ≤ n → 8 ≤ n → Room S γ.base m (maybe_sizes h step) → Now γ 40 w x → SimD v (more_for γ) 0 (ToTurn 0) k_next (step_end step w) (R (low.low_dropped h step n m (Again 0 Stop)) (mk w x))
   steps_sim γ None sc n m w x le sn room h0 = (paid x, refl, keep_more γ 32 w (paid x) (omega arith) (paid_now γ 32 w x h0))
   steps_sim γ (Some e) sc n m w x le sn room h0 =
       let σ : Way (more_for γ) = way_d v (more_for γ) 0 (ToTurn 0) k_next in
       dropped_sim e sc (more_for γ) σ 16 n m w x (Again 0 Stop) (more_now γ 16 w x h0) le sn room (λ z. Continues z) (λ wa xa ha. (paid xa, refl, less_now (more_for γ) 28 wa (paid xa) (paid_now (more_for γ) 28 wa xa ha)))
 
-  rest_sim : (γ : Goal) → 2 ≤ γ.skip → (step : Option TExprT) (a : TStmtT) → PlainStep step → FollowStmt a → (n m k l : ℕ) (w : World) (x : Side) → γ.first ≤ n → part.result_at < n → γ.first ≤ k → 8 ≤ k → Room S γ.base m (stmt_sizes h a) → Room S γ.base l (maybe_sizes h step) → HasPlace ty r γ → HomeOf S.s S.code S.frames ty γ.base.function own → γ.base.own ≡ own → Now γ 8 w x
+  rest_sim : (γ : Goal) → 2 ≤ γ.skip → (step : Option TExprT) (a : TStmtT) → PlainStep h step → FollowStmt a → (n m k l : ℕ) (w : World) (x : Side) → γ.first ≤ n → part.result_at < n → γ.first ≤ k → 8 ≤ k → Room S γ.base m (stmt_sizes h a) → Room S γ.base l (maybe_sizes h step) → HasPlace ty r γ → HomeOf S.s S.code S.frames ty γ.base.function own → γ.base.own ≡ own → Now γ 8 w x
       → SimD v (more_for γ) 0 (ToTurn 0) k_next (inner (does S.s S.bound S.prev r a w) (step_end step)) (R (Block (low_stmt h ty a n m 1 (ToEnd 0) Stop) (low.low_dropped h step k l (Again 0 Stop))) (mk w x))
   rest_sim γ skips step a sc fa n m k l w x le sn lk sk rm rl place home eo h0 =
       blocks S v γ skips n w (paid x) (paid_now γ 0 w x h0) le (low.low_dropped h step k l (Again 0 Stop)) (does S.s S.bound S.prev r a w) (R (low_stmt h ty a n m 1 (ToEnd 0) Stop) (mk w (paid x)))
       (fa n m 1 (ToEnd 0) Stop w (paid x) sn h0.stays.fit (place x.temps h0.below) (home_after γ 8 w x home h0) (h0.stays.same_own ∙ eo) (room_at S γ.base m (stmt_sizes h a) w x rm h0.stays)) (step_end step) (λ wa xa ha. steps_sim γ step sc k l wa xa lk sk rl ha)
 
-  pub for_sim : (test step : Option TExprT) (a : TStmtT) → PlainMaybe test → PlainStep step → FollowStmt a → (γ : Goal) → 2 ≤ γ.skip → (n m b : ℕ) (j : Jump) (c : NodesT ℕ) (w : World) (x : Side) → part.result_at < n → γ.first ≤ n → HasPlace ty r γ → HomeOf S.s S.code S.frames ty γ.base.function own → γ.base.own ≡ own → Now γ 24 w x → Room S γ.base m (maybe_sizes h test ++ (stmt_sizes h a ++ maybe_sizes h step)) → (again : World → Done)
+  pub for_sim : (test step : Option TExprT) (a : TStmtT) → PlainMaybe h test → PlainStep h step → FollowStmt a → (γ : Goal) → 2 ≤ γ.skip → (n m b : ℕ) (j : Jump) (c : NodesT ℕ) (w : World) (x : Side) → part.result_at < n → γ.first ≤ n → HasPlace ty r γ → HomeOf S.s S.code S.frames ty γ.base.function own → γ.base.own ≡ own → Now γ 24 w x → Room S γ.base m (maybe_sizes h test ++ (stmt_sizes h a ++ maybe_sizes h step)) → (again : World → Done)
       → ((wa : World) (xa : Side) → Now γ 24 wa xa → SimD v γ b j k_next (again wa) (S.prev' (low.turns h test step a (λ p q. low_stmt h ty a p q 1 (ToEnd 0) Stop) n m Stop) (mk wa xa)))
       → SimD v γ b j (R c) (turn S.s S.bound S.prev test step (does S.s S.bound S.prev r a) again w) (R (low.turns h test step a (λ p q. low_stmt h ty a p q 1 (ToEnd 0) Stop) n m c) (mk w x))
   for_sim None step a sct scs fa γ skips n m b j c w x sn le place home eo h0 room again f =

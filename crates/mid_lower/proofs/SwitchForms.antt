@@ -188,7 +188,7 @@ module _ (S : Site) where
     done_sim γ b j c (Returns (Some z) w) q a = (a.0, ap (λ p. then_next (block_done p) (R c)) a.1, a.2, a.3)
     done_sim γ b j c (Ended f w) q a = kept_through γ f w q (λ p. then_next (block_done p) (R c)) (λ g t. refl) (λ p. more _ _ _ (block_grows p) (then_grows (block_done p) (R c) (R_grows c))) a
 
-    pub switch_sim : (e : TExprT) (ks : List ℕ) (arms : TArmTs) → PlainValue e → Below own ks → 2 * labels arms ≤ 2 ^ 32 → AllFollow arms → FollowStmt S before r ty own (SwitchZ e ks arms)
+    pub switch_sim : (e : TExprT) (ks : List ℕ) (arms : TArmTs) → PlainValue h e → Below own ks → 2 * labels arms ≤ 2 ^ 32 → AllFollow arms → FollowStmt S before r ty own (SwitchZ e ks arms)
     switch_sim e ks arms sc bl fits fs n m b j c w x sn u at8 home eo room =
         let γ = stmt n w x in
         let σ : Way γ = way_d v γ b j (R c) in

@@ -15,6 +15,7 @@ mod Values
 mod Choices
 pub mod Arguments
 mod Calling
+pub mod CallForms
 mod OperatorForms
 mod PlaceForms
 mod EveryExpression

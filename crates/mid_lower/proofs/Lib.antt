@@ -16,6 +16,7 @@ mod Choices
 pub mod Arguments
 mod Calling
 pub mod CallForms
+pub mod ArgumentForms
 mod OperatorForms
 mod PlaceForms
 mod EveryExpression

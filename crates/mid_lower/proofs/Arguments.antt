@@ -1,5 +1,6 @@
 -- Arguments: the temporaries that hold them, and the structures among them, which end behind the call.
 use Rattle.std.proofs.Common.{◌≡◌, ℕ, suc, ◌+◌, ◌<◌, ◌≤◌, Bool, true, false, eqb, List, [], ◌∷◌, ◌++◌, map, length, refl, ap, ◌∙◌, subst, arith, if◌then◌else◌}
+use Rattle.std.proofs.lemmas.List.{append_assoc}
 use Rattle.c_types.specs.Types.{Ty}
 use Rattle.c_types.specs.Typed.{TExprTs, NoX, MoreX}
 use Rattle.obj_mem.specs.Objects.{ObjectT, end_object}
@@ -55,9 +56,19 @@ with_object true _ os = os
 
 -- the objects of the structures that are passed for parameters of these types
 abbrev pub passed : List Ty → List Cell → List ℕ
-passed [] cs = []
-passed (ty ∷ tys) [] = []
+passed tys [] = []
+passed [] (c ∷ cs) = []
 passed (ty ∷ tys) (c ∷ cs) = with_object (is_structure ty) c (passed tys cs)
+
+pub passed_front : (ts : List ℕ) (b : Bool) (c : Cell) (us : List ℕ) → (ts ++ with_object b c []) ++ us ≡ ts ++ with_object b c us
+passed_front ts b c us = append_assoc ts (with_object b c []) us ∙ ap (λ r. ts ++ r) (one b c)
+  where
+    one : (b : Bool) (c : Cell) → with_object b c [] ++ us ≡ with_object b c us
+    one false c = refl
+    one true (Ptr o i) = refl
+    one true Unwritten = refl
+    one true (Num n) = refl
+    one true Null = refl
 
 -- they end
 abbrev pub ended_all : List ℕ → List ObjectT → List ObjectT
@@ -68,7 +79,8 @@ abbrev pub with_ended : List ℕ → Store → Store
 with_ended ts u = with_objects (ended_all ts u.objects) u
 
 pub released_is : (tys : List Ty) (cs : List Cell) (u : Store) → all_released tys cs u ≡ with_ended (passed tys cs) u
-released_is [] cs u = refl
+released_is [] [] u = refl
+released_is [] (c ∷ cs) u = refl
 released_is (ty ∷ tys) [] u = refl
 released_is (ty ∷ tys) (c ∷ cs) u = by (is_structure ty) c (released_is tys cs)
   where

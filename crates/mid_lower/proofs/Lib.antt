@@ -15,6 +15,8 @@ mod Values
 mod Choices
 pub mod Arguments
 mod Calling
+pub mod CallForms
+pub mod ArgumentForms
 mod OperatorForms
 mod PlaceForms
 mod EveryExpression

@@ -100,12 +100,16 @@ taken_fit i size w x h le = record {
       (later_gone w.store.objects (w.store.objects ++ object kind.Local (unwritten size) ∷ []) (local_object x.extra j) (later_join w.store.objects (object kind.Local (unwritten size) ∷ [])) (h.unused j (omega (arith, lt, le))));
 }
 
-taken_now : (γ : Goal) (s i size : ℕ) (w : World) (x : Side) → Now γ s w x → x.floor ≤ i → Now (anew γ (with_value size w) (taken i size w x)) s (with_value size w) (taken i size w x)
+pub taken_now : (γ : Goal) (s i size : ℕ) (w : World) (x : Side) → Now γ s w x → x.floor ≤ i → Now (anew γ (with_value size w) (taken i size w x)) s (with_value size w) (taken i size w x)
 taken_now γ s i size w x h le = record {
   stays = stays_here (with_value size w) (taken i size w x) (taken_fit i size w x h.stays.fit le);
   below = h.below;
   cost = omega (arith, h.cost);
 }
+
+-- a pointer to it
+pub cell_there : (γ : Goal) (q k i size : ℕ) (w : World) (x : Side) (v : World) (y : Side) → k ≡ length w.store.locals + i → i < length x.extra → Now (anew γ (with_value size w) (taken i size w x)) q v y → first_cell (local_object (v.store.locals ++ y.extra) k) ≡ Ok (next_object w.store)
+cell_there γ q k i size w x v y at lt n = ap first_cell (local_behind v.store.locals y.extra k i (at ∙ ap (λ l. l + i) (sym n.stays.same_own)) ∙ n.stays.keep i (omega arith) ∙ set_there x.extra i (Some (length w.store.objects)) lt)
 
 -- the local of an object that a tree has made
 abbrev pub at_object : World → Option ℕ
@@ -169,7 +173,7 @@ module _ (S : Site) where
   abbrev taking : Option ℕ → ℕ → List (Option ℕ) → World → Side → Mid
   taking lo size ls w x = record { world = record { store = record w.store { objects = made (end_local lo x.objs) kind.Local (unwritten size); locals = ls }; events = w.events; work = x.work + 0 }; cells = x.temps; given = x.given }
 
-  taken_is : (i size k : ℕ) (c : NodesT ℕ) (w : World) (x : Side) → Fit w x → k ≡ length w.store.locals + i → words_here (sizes_of S.code S.frames) w.store.function k ≡ size → x.floor ≤ i → R (Do (FreshO k) c) (mk w x) ≡ R c (mk (with_value size w) (taken i size w x))
+  pub taken_is : (i size k : ℕ) (c : NodesT ℕ) (w : World) (x : Side) → Fit w x → k ≡ length w.store.locals + i → words_here (sizes_of S.code S.frames) w.store.function k ≡ size → x.floor ≤ i → R (Do (FreshO k) c) (mk w x) ≡ R c (mk (with_value size w) (taken i size w x))
   taken_is i size k c w x h at e le =
       ap (λ lo. R c (taking lo (words_here (sizes_of S.code S.frames) w.store.function k) (set (w.store.locals ++ x.extra) k (Some (length x.objs))) w x)) (local_behind w.store.locals x.extra k i at)
       ∙ ap (λ z. R c (taking (local_object x.extra i) z (set (w.store.locals ++ x.extra) k (Some (length x.objs))) w x)) e
@@ -188,7 +192,7 @@ module _ (S : Site) where
     value_at = Ptr (length w.store.objects) 0
 
     here : (v : World) (y : Side) (q : ℕ) → Now γ1 q v y → first_cell (local_object (v.store.locals ++ y.extra) k) ≡ Ok value_at
-    here v y q n = ap first_cell (local_behind v.store.locals y.extra k i (at ∙ ap (λ l. l + i) (sym n.stays.same_own)) ∙ n.stays.keep i (omega arith) ∙ set_there x.extra i (Some (length w.store.objects)) lt)
+    here v y q n = cell_there γ q k i size w x v y at lt n
 
     pub structure_copied : (p : Cell) → x.temps t ≡ p → (go : World → σ.R) → ((v : World) (y : Side) → Now γ1 (s + 28) v y → y.temps t ≡ value_at → ((j : ℕ) → 5 ≤ j → eqb j t ≡ false → y.temps j ≡ x.temps j) → σ.T (go v) (R c (mk v y)))
         → σ.T (then_went σ.stop (cells_set span 1 S.bound size (Some p) (next_object w.store) (with_value size w)) go) (R (part.structure_read size k t c) (mk w x))

@@ -7,10 +7,10 @@ use Rattle.std.specs.List.{fold}
 use Rattle.c_types.specs.Types.{Ty, VoidY, IntY, BoolY, EnumY, StructY, UnionY, PointerY, ArrayY}
 use Rattle.c_types.specs.View.{tstmts}
 use Rattle.c_types.specs.Programs.{TFunctionT, ProgramT}
-use Rattle.obj_mem.specs.Objects.{ObjectT, end_from, object_at, global_object, literal_object, card_object, opening_objects}
+use Rattle.obj_mem.specs.Objects.{ObjectT, object_at, global_object, literal_object, card_object, opening_objects}
 use Rattle.obj_mem.specs.declared.cell.Cell.{Cell}
 use Rattle.obj_mem.specs.declared.cell.Cell.TheVariants.{Unwritten, Num}
-use Rattle.obj_mem.specs.Stores.{Store, next_object, with_temporary, returned_to}
+use Rattle.obj_mem.specs.Stores.{next_object, with_temporary}
 use Rattle.obj_mem.specs.Worlds.{World, on_store, spend}
 use Rattle.obj_mem.specs.Runs as run
 use Rattle.c_meaning.specs.declared.end.End.{End}
@@ -38,13 +38,13 @@ use Rattle.mid_lower.proofs.Grows.{Mid, all_of, more, called_grows}
 use Rattle.mid_lower.proofs.Under.{Kin, Under, AllEmpty, under_self, under_at}
 use Rattle.mid_lower.proofs.Trees.{PlainStmts, Below}
 use Rattle.mid_lower.proofs.Fits.{Site, Fits}
-use Rattle.mid_lower.proofs.Giving.{Giving, GivesNone, GivesWord, GivesAt, Given, giving, handed}
+use Rattle.mid_lower.proofs.Giving.{giving}
 use Rattle.mid_lower.proofs.Room.{Room}
 use Rattle.mid_lower.proofs.Following.{base_of, Fit, Side, mk, goal, Goal, SimV, M, L, events_of, spare}
-use Rattle.mid_lower.proofs.Calling.{asks}
-use Rattle.mid_lower.proofs.StructureValues.{back_to}
-use Rattle.mid_lower.proofs.Taken.{TakenAll, none_taken, none_left}
-use Rattle.mid_lower.proofs.Arguments.{Holds}
+use Rattle.mid_lower.proofs.Taken.{TakenAll, none_taken}
+use Rattle.mid_lower.proofs.Arguments.{passed}
+use Rattle.mid_lower.proofs.Calling.{target_of}
+use Rattle.mid_lower.proofs.CallForms.{value_asks}
 use Rattle.mid_lower.proofs.CellLoops.{next_same}
 use Rattle.mid_lower.proofs.OperatorForms.{begin_value}
 use Rattle.mid_lower.proofs.Outcomes.{SimD, plain}
@@ -83,9 +83,9 @@ void_scalar (UnionY number) e = absurd (false≢true e)
 void_scalar (PointerY to) e = refl
 void_scalar (ArrayY of len) e = refl
 
-none_released : (tys : List Ty) (u : Store) → src.all_released tys [] u ≡ u
-none_released [] u = refl
-none_released (ty ∷ tys) u = refl
+none_passed : (tys : List Ty) → passed tys [] ≡ []
+none_passed [] = refl
+none_passed (ty ∷ tys) = refl
 
 -- ---- runs
 
@@ -202,26 +202,18 @@ module _ (p : ProgramT) (frames : List ℕ) (sc : IsPlain p) where
           let e : slice_get p.functions p.main ≡ Some g = sc.main.1 in
           let void : is_void g.gives ≡ true = sc.main.2 in
           let scalar : is_structure g.gives ≡ false = void_scalar g.gives void in
-          let gives_none : giving g.gives Unwritten ≡ GivesNone = ap (λ b. if b then GivesAt Unwritten else if is_void g.gives then GivesNone else GivesWord) scalar ∙ ap (λ b. if b then GivesNone else GivesWord) void in
           let T : Val → Res Mid → Type 0 = SimV γ (M S Stop) false in
           let start : World = spend 1 w in
           let hi : ℕ = length w.store.locals + y.floor in
-          subst (T (src.call s n S.prev p.main [] nowhere start)) (ap (λ k. then_next (with_work k) (M S Stop)) no_more ∙ next_same main_result)
-          (subst (λ o. T (src.call_of s n S.prev p.main o [] nowhere start) (then_next (with_work (y.work + 0)) (M S Stop))) (sym e)
-          (subst (λ b. T (src.enter s n S.prev p.main g [] (if b then next_object w.store else Unwritten) nowhere (on_store (λ u. if b then with_temporary (words s g.gives) u else u) start)) (then_next (with_work (y.work + 0)) (M S Stop))) (sym scalar)
-          (asks S γ T (λ f v q k. k) (omega arith) Stop p.main g nowhere [] Unwritten [] 36 hi [] start y 0 (omega arith) (none_taken γ 36 hi start y (omega arith) (begin_value S 0 1 w y fit)) true
-          (λ w2 x2 v q is taken. subst (λ u. T (NoValue (record w2 { store = u })) q) (sym (none_released g.params (returned_to w.store w2.store))) (refl, back_to y.floor (came_back x2 v), is, none_left γ 0 hi (on_store (returned_to w.store) w2) (came_back x2 v) taken))
-          (λ d w2 x2 q given is taken. absurd (subst (λ k. Given k d x2) gives_none given))
-          before.called n (subst (λ b. Holds [] (if b then the_place ∷ [] else []) y.temps) (sym scalar) tt) e)))
+          let none : TakenAll γ 36 hi (passed g.params []) start y = subst (λ ts. TakenAll γ 36 hi ts start y) (sym (none_passed g.params)) (none_taken γ 36 hi start y (omega arith) (begin_value S 0 1 w y fit)) in
+          subst (T (src.call s n S.prev p.main [] nowhere start)) (ap (λ k. then_next (with_work true k) (M S Stop)) no_more ∙ next_same main_result)
+          (subst (λ o. T (src.call_of s n S.prev p.main o [] nowhere start) (then_next (with_work true (y.work + 0)) (M S Stop))) (sym e)
+          (subst (λ b. T (src.enter s n S.prev p.main g [] (if b then next_object w.store else Unwritten) nowhere (on_store (λ u. if b then with_temporary (words s g.gives) u else u) start)) (then_next (with_work true (y.work + 0)) (M S Stop))) (sym scalar)
+          (subst (λ b. T (src.enter s n S.prev p.main g [] Unwritten nowhere start) (then_next (with_work b (y.work + 0)) (M S Stop))) void
+          (value_asks S 0 1 w y Stop p.main g scalar nowhere [] [] hi 36 start y 0 (omega arith) none before.called tt e n))))
         where
-          the_place : Cell
-          the_place = Unwritten
-
-          came_back : Side → Cell → Side
-          came_back x2 v = record { objs = end_from (length y.objs) x2.objs; work = x2.work; temps = y.temps; given = y.given; extra = y.extra; floor = y.floor }
-
-          with_work : ℕ → Res Mid
-          with_work k = called (L S) n S.prev' None p.main [] (mk w (record y { work = k }))
+          with_work : (void : Bool) → ℕ → Res Mid
+          with_work b k = called (L S) n S.prev' (target_of b 0) p.main [] (mk w (record y { work = k }))
 
           no_more : y.work + 0 ≡ y.work
           no_more = omega arith

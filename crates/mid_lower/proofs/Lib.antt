@@ -29,6 +29,7 @@ mod LoopForms
 mod SwitchForms
 mod EveryStatement
 mod EveryBound
+mod PlainPrograms
 mod RunsKept
 pub mod StructureValues
 pub mod Taken

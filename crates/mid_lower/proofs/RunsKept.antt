@@ -1,9 +1,7 @@
 -- Programs: their code follows them, so it keeps their runs in at most 64 times the work.
 use Rattle.std.specs.Prelude.{◌≢◌}
-use Rattle.std.proofs.Common.{◌≡◌, ℕ, zero, suc, ◌+◌, ◌*◌, ◌≤◌, Bool, true, false, List, [], ◌∷◌, ◌++◌, map, length, get_or, slice_get, Option, Some, None, refl, sym, ap, ◌∙◌, subst, arith, if◌then◌else◌}
-use Rattle.std.specs.Option.{option_map_or}
+use Rattle.std.proofs.Common.{◌≡◌, ℕ, zero, suc, ◌+◌, ◌*◌, ◌≤◌, Bool, true, false, List, [], ◌∷◌, ◌++◌, map, length, slice_get, Option, Some, None, refl, sym, ap, ◌∙◌, subst, arith, if◌then◌else◌}
 use Rattle.std.proofs.lemmas.Bool.{false≢true}
-use Rattle.std.specs.List.{fold}
 use Rattle.c_types.specs.Types.{Ty, VoidY, IntY, BoolY, EnumY, StructY, UnionY, PointerY, ArrayY}
 use Rattle.c_types.specs.View.{tstmts}
 use Rattle.c_types.specs.Programs.{TFunctionT, ProgramT}
@@ -24,20 +22,18 @@ use Rattle.c_meaning.specs.Runs as c
 use Rattle.c_meaning.specs.Runs.{ending}
 use Rattle.mid_code.specs.Code.{Stop, CodeT}
 use Rattle.mid_code.specs.Meaning.{Res, Next, Leaves, Repeats, Returns, Over, then_next, called}
-use Rattle.mid_code.specs.States.{temporaries, no_function, function_at}
+use Rattle.mid_code.specs.States.{temporaries}
 use Rattle.mid_code.specs.Runs as mid
 use Rattle.mid_code.specs.Keeps.{WorksAtMost, KeepsRuns, KeepsRun, SameRun, global_cell}
 use Rattle.mid_code.specs.Passing.{Prefix}
-use Rattle.mid_lower.specs.Shape.{Shape, shape}
-use Rattle.mid_lower.specs.Counts.{stmts_sizes}
+use Rattle.mid_lower.specs.Shape.{shape}
 use Rattle.mid_lower.specs.Parts.{first_param}
 use Rattle.mid_lower.specs.Expressions.{is_void}
 use Rattle.mid_lower.specs.Statements.{ToEnd, low_stmts}
-use Rattle.mid_lower.specs.Lowered.{low_function, lowered, args_from, with_result}
+use Rattle.mid_lower.specs.Lowered.{lowered}
 use Rattle.mid_lower.proofs.Grows.{Mid, all_of, more, called_grows}
 use Rattle.mid_lower.proofs.Under.{Kin, Under, AllEmpty, under_self, under_at}
-use Rattle.mid_lower.proofs.Trees.{PlainStmts, Below}
-use Rattle.mid_lower.proofs.Fits.{Site, Fits}
+use Rattle.mid_lower.proofs.Fits.{Site}
 use Rattle.mid_lower.proofs.Giving.{giving}
 use Rattle.mid_lower.proofs.Room.{Room}
 use Rattle.mid_lower.proofs.Following.{base_of, Fit, Side, mk, goal, Goal, SimV, M, L, events_of}
@@ -50,28 +46,11 @@ use Rattle.mid_lower.proofs.OperatorForms.{begin_value}
 use Rattle.mid_lower.proofs.Outcomes.{SimD, plain}
 use Rattle.mid_lower.proofs.Locals.{HomeOf}
 use Rattle.mid_lower.proofs.EveryStatement.{all_sim}
-use Rattle.mid_lower.proofs.EveryBound.{Lowers, site, earlier}
+use Rattle.mid_lower.proofs.EveryBound.{site, earlier}
+use Rattle.mid_lower.proofs.PlainPrograms.{map_length, IsPlain, fits, lowers}
 use Rattle.mid_lower.proofs.LoopForms.{Earlier}
 
--- ---- the code of a program fits it
-
-function_is : (h : Shape) (fs : List TFunctionT) (f : ℕ) (g : TFunctionT) → slice_get fs f ≡ Some g → get_or (map (low_function h) fs) f no_function ≡ low_function h g
-function_is h [] f g e = ap (λ o. option_map_or (low_function h) o no_function) e
-function_is h (x ∷ fs) zero g e = ap (λ o. option_map_or (low_function h) o no_function) e
-function_is h (x ∷ fs) (suc f) g e = function_is h fs f g e
-
-locals_are : (h : Shape) (fs : List TFunctionT) (f : ℕ) → (get_or (map (low_function h) fs) f no_function).locals ≡ option_map_or (λ g. g.locals) (slice_get fs f) [] ++ option_map_or (λ g. stmts_sizes h g.body) (slice_get fs f) []
-locals_are h [] f = refl
-locals_are h (x ∷ fs) zero = refl
-locals_are h (x ∷ fs) (suc f) = locals_are h fs f
-
-map_length : {A B : Type 0} (f : A → B) (xs : List A) → length (map f xs) ≡ length xs
-map_length f [] = refl
-map_length f (x ∷ xs) = ap suc (map_length f xs)
-
-sums_from : {A : Type 0} (f : A → ℕ) (z : ℕ) (xs : List A) → fold ◌+◌ z (map f xs) ≡ fold (λ n x. n + f x) z xs
-sums_from f z [] = refl
-sums_from f z (x ∷ xs) = sums_from f (z + f x) xs
+-- ---- main takes and gives nothing
 
 void_scalar : (ty : Ty) → is_void ty ≡ true → is_structure ty ≡ false
 void_scalar VoidY e = refl
@@ -112,15 +91,6 @@ main_events (Repeats k s) = refl
 main_events (Returns s) = refl
 main_events (Over f s) = refl
 
--- What is asked of the program: structures are values where they are used as such, functions make their own locals, and main is there and gives no
--- result.
-pub record IsPlain (p : ProgramT) : Type 0 where
-  pub made : (f : ℕ) (g : TFunctionT) → slice_get p.functions f ≡ Some g → Below (length g.locals) g.made
-  pub tidy : (f : ℕ) (g : TFunctionT) → slice_get p.functions f ≡ Some g → PlainStmts (shape p) (length g.locals) g.gives g.body
-  pub inits : PlainStmts (shape p) 0 VoidY (tstmts p.inits)
-  pub quiet : stmts_sizes (shape p) (tstmts p.inits) ≡ []
-  pub main : (g : TFunctionT) × (slice_get p.functions p.main ≡ Some g) × (is_void g.gives ≡ true)
-
 lives_empty : (x : ObjectT) → x.lives ≡ true → x.lives ≡ false → x.cells ≡ []
 lives_empty x e l = absurd (false≢true (sym l ∙ e))
 
@@ -150,36 +120,12 @@ module _ (p : ProgramT) (frames : List ℕ) (sc : IsPlain p) where
   abbrev s : Setting
   s = setting p frames
 
-  params_are : (f : ℕ) (g : TFunctionT) → slice_get p.functions f ≡ Some g → (function_at x f).params ≡ with_result g.gives (args_from first_param g.params)
-  params_are f g e = ap (λ k. k.params) (function_is (shape p) p.functions f g e)
-
-  abbrev fits : Fits s x frames
-  fits = record {
-    frame = λ f. refl;
-    globals = sums_from (λ g. g.1) 0 p.globals;
-    first_literal = map_length (λ g. g.1) p.globals;
-    card = ap (λ n. n + length p.literals) (map_length (λ g. g.1) p.globals);
-    more = λ f. option_map_or (λ g. stmts_sizes (shape p) g.body) (slice_get p.functions f) [];
-    locals = λ f. locals_are (shape p) p.functions f;
-    params = params_are;
-  }
-
-  abbrev lowers : Lowers s x frames
-  lowers = record {
-    fits = fits;
-    body = λ f g e. ap (λ k. k.body) (function_is (shape p) p.functions f g e);
-    own = λ f g e. ap (λ o. option_map_or (λ k. k.locals) o []) e;
-    behind = λ f g e. ap (λ o. option_map_or (λ k. stmts_sizes (shape p) k.body) o []) e;
-    made = sc.made;
-    tidy = sc.tidy;
-  }
-
   module _ (n : ℕ) (answers : List ℕ) (card : Option (List ℕ)) where
     abbrev S : Site
-    S = site s x frames fits n
+    S = site s x frames (fits p frames sc) n
 
     before : Earlier S
-    before = earlier s x frames lowers n
+    before = earlier s x frames (lowers p frames sc) n
 
     abbrev w0 : World
     w0 = c.opening p answers card

@@ -23,8 +23,8 @@ use Rattle.mid_lower.proofs.Operands.{both_second}
 use Rattle.mid_lower.proofs.SoundInitialisers.{vars_plain}
 use Rattle.mid_lower.proofs.FixedGlobals.{vars_quiet, both_quiet}
 use Rattle.mid_lower.proofs.SoundPrograms.{objects_below, stmts_plain}
+use Rattle.mid_lower.proofs.PlainPrograms.{IsPlain}
 use Rattle.mid_lower.proofs.RunsKept as runs
-use Rattle.mid_lower.proofs.RunsKept.{IsPlain}
 
 function_at : (z : Scene) (fs : List TFunctionT) → AreFunctions z fs → (k : ℕ) (g : TFunctionT) → slice_get fs k ≡ Some g → IsFunction z g
 function_at z [] is k g e = absurd cc

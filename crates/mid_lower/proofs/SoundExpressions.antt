@@ -1,6 +1,7 @@
--- Typed expressions of which no structure is a value are plain.
+-- Typed expressions are plain: what is a structure in them is used as one.
 use Rattle.std.proofs.Common.{◌≡◌, ℕ, true, false, List, [], ◌∷◌, length, slice_get, Option, Some, None, refl, sym, ◌∙◌, ap, subst, option_map}
 use Rattle.std.proofs.lemmas.Bool.{false≢true}
+use Rattle.std.specs.Option.{option_map_or}
 use Rattle.c_tree.specs.declared.operator.UnOp.TheVariants as un
 use Rattle.c_types.specs.Types.{Ty, VoidY, IntY, PointerY}
 use Rattle.c_types.specs.Typed.{TExprT, Typed, TKindT, NumberK, NullK, LiteralK, GlobalK, LocalK, UnaryK, BinaryK, AssignK, StepK, IndexK, MemberK, ArrowK, CastK, CallK, InK, OutK, WaitK, HaltK, CardK, TExprTs, NoX, MoreX}
@@ -11,8 +12,8 @@ use Rattle.c_exprs.specs.Nodes.{type_of_typed, is_place, is_place_kind}
 use Rattle.c_exprs.specs.Calls.{listed, all_convert}
 use Rattle.c_facts.specs.Sound.{text_type, Scene, Calls, IsTyped, IsKind, AreValues}
 use Rattle.c_meaning.specs.Kinds.{type_of, is_structure}
+use Rattle.mid_lower.specs.Shape.{Shape}
 use Rattle.mid_lower.proofs.Trees.{IsScalar, Plain, PlainKind, PlainAll, PlainStructure, StructureKind}
-use Rattle.mid_lower.proofs.Fits.{ScalarTypes}
 use Rattle.mid_lower.proofs.Operands.{both_first, both_second, number_scalar, behind_scalar, from_scalar, unary_operand, binary_operands, index_operands, compound_operands, assigned_operands, cast_operand}
 use Rattle.mid_lower.proofs.ResultTypes.{has_structure, from_structure, address_place, assigned_place, never_unary, never_binary, never_compound, never_cast}
 
@@ -39,23 +40,18 @@ never_text : (o : Option (List ℕ)) (ty : Ty) → option_map text_type o ≡ So
 never_text None ty e s = absurd cc
 never_text (Some t) ty e s = let same : text_type t ≡ ty = cc in never ty (text_type t) (sym same) refl s
 
--- arguments become these types
-record Passes (xs : TExprTs) : Type 0 where
-  pub types : List Ty
-  pub convert : all_convert (listed xs) types ≡ true
-  pub count : length (listed xs) ≡ length types
-  pub scalars : ScalarTypes types
+-- a call of this function
+record Passes (o : Option TFunctionT) (xs : TExprTs) (ty : Ty) : Type 0 where
+  pub convert : all_convert (listed xs) (option_map_or (λ g. g.params) o []) ≡ true
+  pub count : length (listed xs) ≡ length (option_map_or (λ g. g.params) o [])
+  pub gives : option_map_or (λ g. g.gives) o VoidY ≡ ty
 
--- the parameters of functions are no structures
-module _ (z : Scene) (sc : (f : ℕ) (g : TFunctionT) → slice_get z.functions f ≡ Some g → ScalarTypes g.params × (is_structure g.gives ≡ false)) where
-  passes : (f : ℕ) (xs : TExprTs) (ty : Ty) (o : Option TFunctionT) → slice_get z.functions f ≡ o → Calls o xs ty → Passes xs
-  passes f xs ty None e is = absurd is
-  passes f xs ty (Some g) e is = record { types = g.params; convert = is.convert; count = is.count; scalars = (sc f g e).0 }
+passes : (o : Option TFunctionT) (xs : TExprTs) (ty : Ty) → Calls o xs ty → Passes o xs ty
+passes None xs ty is = absurd is
+passes (Some g) xs ty is = record { convert = is.convert; count = is.count; gives = is.gives }
 
-  never_given : (f : ℕ) (xs : TExprTs) (ty : Ty) (o : Option TFunctionT) → slice_get z.functions f ≡ o → Calls o xs ty → is_structure ty ≡ true → ⊥
-  never_given f xs ty None e is s = absurd is
-  never_given f xs ty (Some g) e is s = false≢true (sym (sc f g e).1 ∙ ap is_structure is.gives ∙ s)
-
+-- what is read of a program is what the scene has
+module _ (z : Scene) (h : Shape) (same : h.functions ≡ z.functions) where
   -- what is asked where an expression has no structure as its value: it stands at a place, or is no structure
   abbrev pub IsPlaceOr : TExprT → Type 0
   IsPlaceOr x = is_place x ≡ false → is_structure (type_of_typed x) ≡ false
@@ -64,10 +60,10 @@ module _ (z : Scene) (sc : (f : ℕ) (g : TFunctionT) → slice_get z.functions 
   at_place x e f = absurd (false≢true (sym f ∙ e))
 
   mutual
-    pub plain : (x : TExprT) → IsTyped z x → IsPlaceOr x → Plain x
+    pub plain : (x : TExprT) → IsTyped z x → IsPlaceOr x → Plain h x
     plain (Typed kind ty span) is s = plain_kind kind ty is.1 s
 
-    plain_kind : (k : TKindT) (ty : Ty) → IsKind z k ty → (is_place_kind k ≡ false → is_structure ty ≡ false) → PlainKind k ty
+    plain_kind : (k : TKindT) (ty : Ty) → IsKind z k ty → (is_place_kind k ≡ false → is_structure ty ≡ false) → PlainKind h k ty
     plain_kind (NumberK n) ty is s = tt
     plain_kind NullK ty is s = tt
     plain_kind (LiteralK number) ty is s = tt
@@ -102,7 +98,10 @@ module _ (z : Scene) (sc : (f : ℕ) (g : TFunctionT) → slice_get z.functions 
     )
     plain_kind (ArrowK x offset) ty is s = let e = behind_scalar z.layouts (type_of_typed x) offset ty is.2 in (plain x is.0 (λ f. e), scalar_of x e)
     plain_kind (CastK x) ty is s = let e = cast_operand (type_of_typed x) ty ty is.2 in (plain x is.0 (λ f. e), scalar_of x e)
-    plain_kind (CallK f xs) ty is s = let m = passes f xs ty (slice_get z.functions f) refl is.1 in args_plain xs m.types is.0 m.convert m.count m.scalars
+    plain_kind (CallK f xs) ty is s =
+        let m = passes (slice_get z.functions f) xs ty is.1 in
+        subst (λ fs. PlainAll h (option_map_or (λ g. g.params) (slice_get fs f) []) xs × (is_structure (option_map_or (λ g. g.gives) (slice_get fs f) VoidY) ≡ false)) (sym same)
+        (args_plain xs (option_map_or (λ g. g.params) (slice_get z.functions f) []) is.0 m.convert m.count, ap is_structure m.gives ∙ s refl)
     plain_kind (InK port) ty is s = tt
     plain_kind (OutK port x) ty is s = let e = number_scalar (type_of_typed x) is.3 in (plain x is.1 (λ f. e), scalar_of x e)
     plain_kind WaitK ty is s = tt
@@ -110,10 +109,10 @@ module _ (z : Scene) (sc : (f : ℕ) (g : TFunctionT) → slice_get z.functions 
     plain_kind CardK ty is s = tt
 
     -- what has a structure as its value
-    pub structure : (x : TExprT) → IsTyped z x → is_structure (type_of_typed x) ≡ true → PlainStructure x
+    pub structure : (x : TExprT) → IsTyped z x → is_structure (type_of_typed x) ≡ true → PlainStructure h x
     structure (Typed kind ty span) is s = structure_kind kind ty is.1 s
 
-    structure_kind : (k : TKindT) (ty : Ty) → IsKind z k ty → is_structure ty ≡ true → StructureKind k ty
+    structure_kind : (k : TKindT) (ty : Ty) → IsKind z k ty → is_structure ty ≡ true → StructureKind h k ty
     structure_kind (NumberK n) ty is s = absurd (never ty IntY is refl s)
     structure_kind NullK ty is s = absurd (never ty (PointerY VoidY) is refl s)
     structure_kind (LiteralK number) ty is s = absurd (never_text (slice_get z.literals number) ty is s)
@@ -140,7 +139,10 @@ module _ (z : Scene) (sc : (f : ℕ) (g : TFunctionT) → slice_get z.functions 
         (λ e. plain (Typed k tk sk) is.0 (at_place (Typed k tk sk) e), λ e. structure (Typed k tk sk) is.0 (has_structure z.layouts tk offset ty is.1), s)
     structure_kind (ArrowK x offset) ty is s = let e = behind_scalar z.layouts (type_of_typed x) offset ty is.2 in (plain x is.0 (λ f. e), scalar_of x e)
     structure_kind (CastK x) ty is s = absurd (never_cast (type_of_typed x) ty ty is.2 s)
-    structure_kind (CallK f xs) ty is s = absurd (never_given f xs ty (slice_get z.functions f) refl is.1 s)
+    structure_kind (CallK f xs) ty is s =
+        let m = passes (slice_get z.functions f) xs ty is.1 in
+        subst (λ fs. PlainAll h (option_map_or (λ g. g.params) (slice_get fs f) []) xs × (is_structure (option_map_or (λ g. g.gives) (slice_get fs f) VoidY) ≡ true)) (sym same)
+        (args_plain xs (option_map_or (λ g. g.params) (slice_get z.functions f) []) is.0 m.convert m.count, ap is_structure m.gives ∙ s)
     structure_kind (InK port) ty is s = absurd (never ty IntY is.1 refl s)
     structure_kind (OutK port x) ty is s = absurd (never ty VoidY is.4 refl s)
     structure_kind WaitK ty is s = absurd (never ty VoidY is refl s)
@@ -148,12 +150,16 @@ module _ (z : Scene) (sc : (f : ℕ) (g : TFunctionT) → slice_get z.functions 
     structure_kind CardK ty is s = absurd (never ty (PointerY IntY) is refl s)
 
     -- arguments become parameters
-    args_plain : (xs : TExprTs) (tys : List Ty) → AreValues z xs → all_convert (listed xs) tys ≡ true → length (listed xs) ≡ length tys → ScalarTypes tys → PlainAll xs
-    args_plain NoX tys values convert count scalars = tt
-    args_plain (MoreX x xs) [] values convert count scalars = cc
-    args_plain (MoreX x xs) (ty ∷ tys) values convert count scalars =
+    args_plain : (xs : TExprTs) (tys : List Ty) → AreValues z xs → all_convert (listed xs) tys ≡ true → length (listed xs) ≡ length tys → PlainAll h tys xs
+    args_plain NoX tys values convert count = tt
+    args_plain (MoreX x xs) [] values convert count = cc
+    args_plain (MoreX x xs) (ty ∷ tys) values convert count =
         let one : converts (type_of_typed x) ty ≡ true = both_first (converts (type_of_typed x) ty) (all_convert (listed xs) tys) convert in
         let more : all_convert (listed xs) tys ≡ true = both_second (converts (type_of_typed x) ty) (all_convert (listed xs) tys) convert in
-        let rest : length (listed xs) ≡ length tys = cc in
-        let e = from_scalar (type_of_typed x) ty one scalars.0 in
-        ((plain x values.0 (λ f. e), scalar_of x e), args_plain xs tys values.2 more rest scalars.1)
+        let rest : length (listed xs) ≡ length tys = cc in (
+          (
+            λ e. let ex = from_scalar (type_of_typed x) ty one e in (plain x values.0 (λ f. ex), scalar_of x ex),
+            λ e. let ex = from_structure (type_of_typed x) ty one e in (structure x values.0 ex, structure_of x ex),
+          ),
+          args_plain xs tys values.2 more rest,
+        )

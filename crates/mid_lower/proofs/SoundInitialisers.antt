@@ -1,4 +1,4 @@
--- Initialisers that fill what they are for, of which no structure is a value, are plain: what is set to 0 behind the last item has few words.
+-- Initialisers that fill what they are for are plain: what is set to 0 behind the last item has few words.
 use Rattle.std.proofs.Common.{◌≡◌, ℕ, zero, suc, ◌+◌, ◌*◌, ◌-◌, ◌%◌, ◌^◌, ◌<◌, ◌≤◌, ◌==◌, Bool, true, false, List, [], ◌∷◌, length, slice_get, Option, Some, None, refl, sym, ap, ◌∙◌, subst, arith, if◌then◌else◌}
 use Rattle.std.specs.Option.{option_map_or}
 use Rattle.std.specs.Prelude.{option_and_then, not, ◌&&◌, ◌||◌}
@@ -20,7 +20,6 @@ use Rattle.c_meaning.specs.Kinds.{is_structure}
 use Rattle.c_meaning.specs.Parts.{part_type}
 use Rattle.mid_lower.specs.Shape.{Shape, shape}
 use Rattle.mid_lower.proofs.Trees.{RestFits, Fills, FillAll, FillVars}
-use Rattle.mid_lower.proofs.Fits.{ScalarTypes}
 use Rattle.mid_lower.proofs.Operands.{both_first, both_second, from_scalar}
 use Rattle.mid_lower.proofs.ResultTypes.{from_structure}
 use Rattle.mid_lower.proofs.SoundExpressions.{plain, structure, scalar_of, structure_of}
@@ -157,7 +156,7 @@ text_few (t ∷ ts) (suc k) = let e = sum_by-cons (λ t. length t + 1) t ts in l
 
 -- ---- initialisers, of a program whose layouts and texts are sound
 
-module _ (p : ProgramT) (declared : AreDeclaredAs p.layouts (wholes p.layouts) p.layouts) (texts : text_words p.literals ≤ 4000000) (sc : (f : ℕ) (g : TFunctionT) → slice_get p.functions f ≡ Some g → ScalarTypes g.params × (is_structure g.gives ≡ false)) (locals : List ℕ) where
+module _ (p : ProgramT) (declared : AreDeclaredAs p.layouts (wholes p.layouts) p.layouts) (texts : text_words p.literals ≤ 4000000) (locals : List ℕ) where
   abbrev z : Scene
   z = in_call (scene p) locals
 
@@ -185,8 +184,8 @@ module _ (p : ProgramT) (declared : AreDeclaredAs p.layouts (wholes p.layouts) p
     pub fill_plain : (global : Bool) (i : TInitT) (ty : Ty) → IsSized p.layouts (wholes p.layouts) ty → FillsAs z global i (Some ty) → Fills h i ty
     fill_plain global (OneI x) ty sized is =
         let becomes = value_taken global ty x is.1 in (
-          λ e. let ex = from_scalar (type_of_typed x) ty becomes e in (plain z sc x (is.0).typed (λ f. ex), scalar_of x ex),
-          λ e. let ex = from_structure (type_of_typed x) ty becomes e in (structure z sc x (is.0).typed ex, structure_of x ex),
+          λ e. let ex = from_scalar (type_of_typed x) ty becomes e in (plain z h refl x (is.0).typed (λ f. ex), scalar_of x ex),
+          λ e. let ex = from_structure (type_of_typed x) ty becomes e in (structure z h refl x (is.0).typed ex, structure_of x ex),
         )
     fill_plain global (TextI number) ty sized is = let le = text_few p.literals number in omega (arith, le, texts)
     fill_plain global (ListI items) ty sized is = fills_plain global items ty 0 sized (subst (FillEach z global items) (places_first p.layouts ty) is.1)

@@ -38,7 +38,6 @@ pub mod StructureMembers
 pub mod StructureFills
 pub mod Operands
 pub mod ResultTypes
-pub mod NoStructurePassed
 pub mod SoundExpressions
 pub mod SoundInitialisers
 pub mod FixedGlobals

@@ -1,13 +1,17 @@
 -- Statements: the parts of following them.
-use Rattle.std.proofs.Common.{◌≡◌, ℕ, ◌+◌, ◌*◌, ◌<◌, ◌≤◌, Bool, false, eqb, List, Some, None, refl, sym, ap, ◌∙◌, subst, arith}
+use Rattle.std.proofs.Common.{◌≡◌, ℕ, ◌+◌, ◌*◌, ◌<◌, ◌≤◌, true, false, eqb, List, Some, None, refl, sym, ap, ◌∙◌, subst, arith}
+use Rattle.c_types.specs.Types.{Ty}
 use Rattle.obj_mem.specs.Objects.{ObjectT}
+use Rattle.obj_mem.specs.declared.cell.Cell.{Cell}
 use Rattle.obj_mem.specs.Worlds.{World, spend}
 use Rattle.c_meaning.specs.Outcomes.{Done, Goes, Breaks, Continues, Returns, Ended, then_done}
 use Rattle.c_meaning.specs.Statements.{body_done}
+use Rattle.c_meaning.specs.Kinds.{is_structure}
 use Rattle.mid_code.specs.Code.{NodesT, Stop, Again}
 use Rattle.mid_code.specs.Meaning.{Res, Next, Leaves, Repeats, Over, then_next, block_done, turn_done, did}
 use Rattle.mid_code.specs.Meaning as res
 use Rattle.mid_code.specs.Passing.{Prefix}
+use Rattle.mid_lower.specs.Parts.{result_at}
 use Rattle.mid_lower.specs.Statements.{Jump, ToEnd, ToTurn}
 use Rattle.mid_lower.proofs.Grows.{Mid, Grows, more, then_grows, block_grows, turn_grows}
 use Rattle.mid_lower.proofs.Lives.{Later, later_then}
@@ -49,6 +53,20 @@ turning n w x = with_spare (64 * w.work) (x.work + 24) 0 n w x
 abbrev pub more_for : Goal → Goal
 more_for γ = record γ { less = γ.less + 24; ends = γ.ends + 24 }
 
+-- ---- the place of a structure that is returned
+
+-- It stands in its temporary, where a result of this type is a structure.
+abbrev pub AtPlace : Ty → (place : Cell) → (ℕ → Cell) → Type 0
+AtPlace ty r temps = is_structure ty ≡ true → temps result_at ≡ r
+
+-- so it does on every way to a goal
+abbrev pub HasPlace : Ty → (place : Cell) → Goal → Type 0
+HasPlace ty r γ = (temps : ℕ → Cell) → ((j : ℕ) → scratch + γ.skip ≤ j → j < γ.first → eqb j γ.at ≡ false → temps j ≡ γ.temps j) → AtPlace ty r temps
+
+-- no statement sets that temporary
+pub has_place : (ty : Ty) (r : Cell) (n : ℕ) (w : World) (x : Side) → result_at < n → AtPlace ty r x.temps → HasPlace ty r (plain n w x)
+has_place ty r n w x lt at temps keep structure = keep result_at (omega arith) lt refl ∙ at structure
+
 -- ---- after a part
 
 -- the same for any goal at the same point
@@ -68,7 +86,7 @@ module _ (v : Giving) (γ γ' : Goal) (keeps : (i : ℕ) → scratch + γ.skip �
   looser b j k (Breaks w) q a = (a.0, a.1, looser_now w a.0 a.2)
   looser b j k (Continues w) q a = (a.0, a.1, looser_now w a.0 a.2)
   looser b j k (Returns None w) q a = (a.0, a.1, looser_out w a.0 a.2)
-  looser b j k (Returns (Some c) w) q a = (a.0, a.1, a.2, looser_out w a.1 a.3, a.4)
+  looser b j k (Returns (Some c) w) q a = (a.0, a.1, looser_out w a.0 a.2, a.3)
   looser b j k (Ended f w) q a = kept_wider γ γ' at_ends f w q a
 
 -- behind statements whose own temporaries begin at m
@@ -176,7 +194,7 @@ module _ (S : Site) (v : Giving) where
   through γ b (ToEnd k) c (Continues w) q a = (a.0, ap (λ r. then_next r (R c)) a.1, a.2)
   through γ b (ToTurn k) c (Continues w) q a = (a.0, ap (λ r. then_next r (R c)) a.1, a.2)
   through γ b j c (Returns None w) q a = (a.0, ap (λ r. then_next r (R c)) a.1, a.2)
-  through γ b j c (Returns (Some z) w) q a = (a.0, a.1, ap (λ r. then_next r (R c)) a.2, a.3, a.4)
+  through γ b j c (Returns (Some z) w) q a = (a.0, ap (λ r. then_next r (R c)) a.1, a.2, a.3)
   through γ b j c (Ended f w) q a = kept_through γ f w q (λ r. then_next r (R c)) (λ g t. refl) (λ r. then_grows r (R c) (R_grows c)) a
 
   module _ (γ : Goal) (skips : 2 ≤ γ.skip) (m : ℕ) (w : World) (x : Side) (h : Now γ 0 w x) (le : γ.first ≤ m) where
@@ -186,7 +204,7 @@ module _ (S : Site) (v : Giving) where
     turns (Breaks wa) q a = (a.0, a.1, keep_more γ 40 wa a.0 (omega arith) (after_stmt γ skips 0 m w x h le wa a.0 a.2))
     turns (Continues wa) q a = (a.0, a.1, keep_more γ 40 wa a.0 (omega arith) (after_stmt γ skips 0 m w x h le wa a.0 a.2))
     turns (Returns None wa) q a = (a.0, a.1, fin_stmt γ skips 0 m w x h le wa a.0 a.2)
-    turns (Returns (Some c) wa) q a = (a.0, a.1, a.2, fin_stmt γ skips 0 m w x h le wa a.1 a.3, a.4)
+    turns (Returns (Some c) wa) q a = (a.0, a.1, fin_stmt γ skips 0 m w x h le wa a.0 a.2, a.3)
     turns (Ended f wa) q a = kept_wider (more_for γ) (stmt m w x) (omega (arith, h.cost)) f wa q a
 
     -- a turn's body in a block, of which a continue goes to the end
@@ -195,7 +213,7 @@ module _ (S : Site) (v : Giving) where
     blocks c (Continues wa) q a go f = subst (λ r. SimD v (more_for γ) 0 (ToTurn 0) k_next (go wa) (then_next (block_done r) (R c))) (sym a.1) (f wa a.0 (after_stmt γ skips 0 m w x h le wa a.0 a.2))
     blocks c (Breaks wa) q a go f = (a.0, ap (λ r. then_next (block_done r) (R c)) a.1, keep_more γ 40 wa a.0 (omega arith) (after_stmt γ skips 0 m w x h le wa a.0 a.2))
     blocks c (Returns None wa) q a go f = (a.0, ap (λ r. then_next (block_done r) (R c)) a.1, fin_stmt γ skips 0 m w x h le wa a.0 a.2)
-    blocks c (Returns (Some z) wa) q a go f = (a.0, a.1, ap (λ r. then_next (block_done r) (R c)) a.2, fin_stmt γ skips 0 m w x h le wa a.1 a.3, a.4)
+    blocks c (Returns (Some z) wa) q a go f = (a.0, ap (λ r. then_next (block_done r) (R c)) a.1, fin_stmt γ skips 0 m w x h le wa a.0 a.2, a.3)
     blocks c (Ended g wa) q a go f = kept_through (more_for γ) g wa q (λ r. then_next (block_done r) (R c)) (λ i t. refl) (λ r. more _ _ _ (block_grows r) (then_grows (block_done r) (R c) (R_grows c))) (kept_wider (more_for γ) (stmt m w x) (omega (arith, h.cost)) g wa q a)
 
   pub loop_through : (lb c : NodesT ℕ) (r : Res Mid) → Prefix (events_of r) (events_of (then_next (turn_done r (S.prev' lb)) (R c)))
@@ -211,5 +229,5 @@ module _ (S : Site) (v : Giving) where
   loops γ b j lb c (Breaks w) q a again f = (a.0, ap (λ r. then_next (turn_done r (S.prev' lb)) (R c)) a.1, less_now γ 24 w a.0 (give_more γ w a.0 a.2))
   loops γ b j lb c (Continues w) q a again f = subst (λ r. SimD v γ b j (R c) (again w) (then_next (turn_done r (S.prev' lb)) (R c))) (sym a.1) (through γ b j c (again w) (S.prev' lb (mk w a.0)) (f w a.0 (give_more γ w a.0 a.2)))
   loops γ b j lb c (Returns None w) q a again f = (a.0, ap (λ r. then_next (turn_done r (S.prev' lb)) (R c)) a.1, more_fin γ w a.0 a.2)
-  loops γ b j lb c (Returns (Some z) w) q a again f = (a.0, a.1, ap (λ r. then_next (turn_done r (S.prev' lb)) (R c)) a.2, more_fin γ w a.1 a.3, a.4)
+  loops γ b j lb c (Returns (Some z) w) q a again f = (a.0, ap (λ r. then_next (turn_done r (S.prev' lb)) (R c)) a.1, more_fin γ w a.0 a.2, a.3)
   loops γ b j lb c (Ended g w) q a again f = kept_through γ g w q (λ r. then_next (turn_done r (S.prev' lb)) (R c)) (λ h t. refl) (loop_through lb c) (kept_wider γ (more_for γ) (omega arith) g w q a)

@@ -1,7 +1,7 @@
--- Typed expressions are plain: what is a structure in them is used as one.
+-- Typed expressions are plain.
 use Rattle.std.proofs.Common.{◌≡◌, ℕ, true, false, List, [], ◌∷◌, length, slice_get, Option, Some, None, refl, sym, ◌∙◌, ap, subst, option_map}
-use Rattle.std.proofs.lemmas.Bool.{false≢true}
 use Rattle.std.specs.Option.{option_map_or}
+use Rattle.std.proofs.lemmas.Bool.{false≢true}
 use Rattle.c_tree.specs.declared.operator.UnOp.TheVariants as un
 use Rattle.c_types.specs.Types.{Ty, VoidY, IntY, PointerY}
 use Rattle.c_types.specs.Typed.{TExprT, Typed, TKindT, NumberK, NullK, LiteralK, GlobalK, LocalK, UnaryK, BinaryK, AssignK, StepK, IndexK, MemberK, ArrowK, CastK, CallK, InK, OutK, WaitK, HaltK, CardK, TExprTs, NoX, MoreX}
@@ -12,7 +12,7 @@ use Rattle.c_exprs.specs.Nodes.{type_of_typed, is_place, is_place_kind}
 use Rattle.c_exprs.specs.Calls.{listed, all_convert}
 use Rattle.c_facts.specs.Sound.{text_type, Scene, Calls, IsTyped, IsKind, AreValues}
 use Rattle.c_meaning.specs.Kinds.{type_of, is_structure}
-use Rattle.mid_lower.specs.Shape.{Shape}
+use Rattle.mid_lower.specs.Shape.{Shape, params_of, result_of}
 use Rattle.mid_lower.proofs.Trees.{IsScalar, Plain, PlainKind, PlainAll, PlainStructure, StructureKind}
 use Rattle.mid_lower.proofs.Operands.{both_first, both_second, number_scalar, behind_scalar, from_scalar, unary_operand, binary_operands, index_operands, compound_operands, assigned_operands, cast_operand}
 use Rattle.mid_lower.proofs.ResultTypes.{has_structure, from_structure, address_place, assigned_place, never_unary, never_binary, never_compound, never_cast}
@@ -40,18 +40,28 @@ never_text : (o : Option (List ℕ)) (ty : Ty) → option_map text_type o ≡ So
 never_text None ty e s = absurd cc
 never_text (Some t) ty e s = let same : text_type t ≡ ty = cc in never ty (text_type t) (sym same) refl s
 
--- a call of this function
-record Passes (o : Option TFunctionT) (xs : TExprTs) (ty : Ty) : Type 0 where
-  pub convert : all_convert (listed xs) (option_map_or (λ g. g.params) o []) ≡ true
-  pub count : length (listed xs) ≡ length (option_map_or (λ g. g.params) o [])
-  pub gives : option_map_or (λ g. g.gives) o VoidY ≡ ty
+-- what the lowering reads of a program
+abbrev pub shape_of : Scene → Shape
+shape_of z = record { layouts = z.layouts; functions = z.functions; literals = z.literals }
 
-passes : (o : Option TFunctionT) (xs : TExprTs) (ty : Ty) → Calls o xs ty → Passes o xs ty
-passes None xs ty is = absurd is
-passes (Some g) xs ty is = record { convert = is.convert; count = is.count; gives = is.gives }
+module _ (z : Scene) where
+  abbrev h : Shape
+  h = shape_of z
 
--- what is read of a program is what the scene has
-module _ (z : Scene) (h : Shape) (same : h.functions ≡ z.functions) where
+  -- arguments become the parameters, and what is given is of this type
+  record Passes (f : ℕ) (xs : TExprTs) (ty : Ty) : Type 0 where
+    pub convert : all_convert (listed xs) (params_of h f) ≡ true
+    pub count : length (listed xs) ≡ length (params_of h f)
+    pub gives : result_of h f ≡ ty
+
+  passes : (f : ℕ) (xs : TExprTs) (ty : Ty) (o : Option TFunctionT) → slice_get z.functions f ≡ o → Calls o xs ty → Passes f xs ty
+  passes f xs ty None e is = absurd is
+  passes f xs ty (Some g) e is = record {
+    convert = subst (λ o. all_convert (listed xs) (option_map_or (λ k. k.params) o []) ≡ true) (sym e) is.convert;
+    count = subst (λ o. length (listed xs) ≡ length (option_map_or (λ k. k.params) o [])) (sym e) is.count;
+    gives = ap (λ o. option_map_or (λ k. k.gives) o VoidY) e ∙ is.gives;
+  }
+
   -- what is asked where an expression has no structure as its value: it stands at a place, or is no structure
   abbrev pub IsPlaceOr : TExprT → Type 0
   IsPlaceOr x = is_place x ≡ false → is_structure (type_of_typed x) ≡ false
@@ -98,10 +108,7 @@ module _ (z : Scene) (h : Shape) (same : h.functions ≡ z.functions) where
     )
     plain_kind (ArrowK x offset) ty is s = let e = behind_scalar z.layouts (type_of_typed x) offset ty is.2 in (plain x is.0 (λ f. e), scalar_of x e)
     plain_kind (CastK x) ty is s = let e = cast_operand (type_of_typed x) ty ty is.2 in (plain x is.0 (λ f. e), scalar_of x e)
-    plain_kind (CallK f xs) ty is s =
-        let m = passes (slice_get z.functions f) xs ty is.1 in
-        subst (λ fs. PlainAll h (option_map_or (λ g. g.params) (slice_get fs f) []) xs × (is_structure (option_map_or (λ g. g.gives) (slice_get fs f) VoidY) ≡ false)) (sym same)
-        (args_plain xs (option_map_or (λ g. g.params) (slice_get z.functions f) []) is.0 m.convert m.count, ap is_structure m.gives ∙ s refl)
+    plain_kind (CallK f xs) ty is s = let m = passes f xs ty (slice_get z.functions f) refl is.1 in (args_plain xs (params_of h f) is.0 m.convert m.count, ap is_structure m.gives ∙ s refl)
     plain_kind (InK port) ty is s = tt
     plain_kind (OutK port x) ty is s = let e = number_scalar (type_of_typed x) is.3 in (plain x is.1 (λ f. e), scalar_of x e)
     plain_kind WaitK ty is s = tt
@@ -139,10 +146,7 @@ module _ (z : Scene) (h : Shape) (same : h.functions ≡ z.functions) where
         (λ e. plain (Typed k tk sk) is.0 (at_place (Typed k tk sk) e), λ e. structure (Typed k tk sk) is.0 (has_structure z.layouts tk offset ty is.1), s)
     structure_kind (ArrowK x offset) ty is s = let e = behind_scalar z.layouts (type_of_typed x) offset ty is.2 in (plain x is.0 (λ f. e), scalar_of x e)
     structure_kind (CastK x) ty is s = absurd (never_cast (type_of_typed x) ty ty is.2 s)
-    structure_kind (CallK f xs) ty is s =
-        let m = passes (slice_get z.functions f) xs ty is.1 in
-        subst (λ fs. PlainAll h (option_map_or (λ g. g.params) (slice_get fs f) []) xs × (is_structure (option_map_or (λ g. g.gives) (slice_get fs f) VoidY) ≡ true)) (sym same)
-        (args_plain xs (option_map_or (λ g. g.params) (slice_get z.functions f) []) is.0 m.convert m.count, ap is_structure m.gives ∙ s)
+    structure_kind (CallK f xs) ty is s = let m = passes f xs ty (slice_get z.functions f) refl is.1 in (args_plain xs (params_of h f) is.0 m.convert m.count, ap is_structure m.gives ∙ s)
     structure_kind (InK port) ty is s = absurd (never ty IntY is.1 refl s)
     structure_kind (OutK port x) ty is s = absurd (never ty VoidY is.4 refl s)
     structure_kind WaitK ty is s = absurd (never ty VoidY is refl s)
@@ -156,10 +160,7 @@ module _ (z : Scene) (h : Shape) (same : h.functions ≡ z.functions) where
     args_plain (MoreX x xs) (ty ∷ tys) values convert count =
         let one : converts (type_of_typed x) ty ≡ true = both_first (converts (type_of_typed x) ty) (all_convert (listed xs) tys) convert in
         let more : all_convert (listed xs) tys ≡ true = both_second (converts (type_of_typed x) ty) (all_convert (listed xs) tys) convert in
-        let rest : length (listed xs) ≡ length tys = cc in (
-          (
-            λ e. let ex = from_scalar (type_of_typed x) ty one e in (plain x values.0 (λ f. ex), scalar_of x ex),
-            λ e. let ex = from_structure (type_of_typed x) ty one e in (structure x values.0 ex, structure_of x ex),
-          ),
-          args_plain xs tys values.2 more rest,
-        )
+        let rest : length (listed xs) ≡ length tys = cc in
+        let scalar : is_structure ty ≡ false → is_structure (type_of_typed x) ≡ false = from_scalar (type_of_typed x) ty one in
+        let given : is_structure ty ≡ true → is_structure (type_of_typed x) ≡ true = from_structure (type_of_typed x) ty one in
+        ((λ e. (plain x values.0 (λ f. scalar e), scalar_of x (scalar e)), λ e. (structure x values.0 (given e), structure_of x (given e))), args_plain xs tys values.2 more rest)

@@ -8,7 +8,7 @@ use Rattle.std.proofs.lemmas.List.Sums.{sum_by-cons}
 use Rattle.c_types.specs.Types.{Ty, VoidY, IntY, BoolY, EnumY, StructY, UnionY, PointerY, ArrayY, MemberT, LayoutT}
 use Rattle.c_types.specs.Sizes.{words_of}
 use Rattle.c_types.specs.Typed.{TExprT, TInitT, OneI, TextI, ListI, TInitTs, NoI, MoreI, TVarT}
-use Rattle.c_types.specs.Programs.{TFunctionT, ProgramT}
+use Rattle.c_types.specs.Programs.{ProgramT}
 use Rattle.c_rules.specs.Kinds.{is_array, converts}
 use Rattle.c_rules.specs.Kinds as rules
 use Rattle.c_exprs.specs.Faults.{text_words}
@@ -184,8 +184,8 @@ module _ (p : ProgramT) (declared : AreDeclaredAs p.layouts (wholes p.layouts) p
     pub fill_plain : (global : Bool) (i : TInitT) (ty : Ty) → IsSized p.layouts (wholes p.layouts) ty → FillsAs z global i (Some ty) → Fills h i ty
     fill_plain global (OneI x) ty sized is =
         let becomes = value_taken global ty x is.1 in (
-          λ e. let ex = from_scalar (type_of_typed x) ty becomes e in (plain z h refl x (is.0).typed (λ f. ex), scalar_of x ex),
-          λ e. let ex = from_structure (type_of_typed x) ty becomes e in (structure z h refl x (is.0).typed ex, structure_of x ex),
+          λ e. let ex = from_scalar (type_of_typed x) ty becomes e in (plain z x (is.0).typed (λ f. ex), scalar_of x ex),
+          λ e. let ex = from_structure (type_of_typed x) ty becomes e in (structure z x (is.0).typed ex, structure_of x ex),
         )
     fill_plain global (TextI number) ty sized is = let le = text_few p.literals number in omega (arith, le, texts)
     fill_plain global (ListI items) ty sized is = fills_plain global items ty 0 sized (subst (FillEach z global items) (places_first p.layouts ty) is.1)

@@ -1,9 +1,9 @@
--- Sound programs are plain: what is a structure in them is used as one.
+-- Sound programs are plain.
 use Rattle.std.proofs.Common.{◌≡◌, ℕ, ◌+◌, ◌≤◌, Bool, true, false, List, [], ◌∷◌, length, slice_get, Option, Some, None, refl, arith}
 use Rattle.c_types.specs.Types.{Ty, VoidY, IntY, BoolY, EnumY, StructY, UnionY, PointerY, ArrayY}
 use Rattle.c_types.specs.Typed.{TExprT, TStmtT, BlockZ, EmptyZ, VarsZ, DoZ, IfZ, WhileZ, DoWhileZ, ForZ, SwitchZ, ReturnZ, BreakZ, ContinueZ, MaybeZ, NoneZ, SomeZ, TStmtTs, NoZ, MoreZ, CaseB, DefaultB, StmtB, TArmTs, NoB, MoreB}
 use Rattle.c_types.specs.Nodes.{statement_nodes, maybe_statement_nodes, statements_nodes, arms_nodes}
-use Rattle.c_types.specs.Programs.{TFunctionT, ProgramT}
+use Rattle.c_types.specs.Programs.{ProgramT}
 use Rattle.c_rules.specs.Kinds.{converts}
 use Rattle.c_exprs.specs.Nodes.{type_of_typed}
 use Rattle.c_exprs.specs.Faults.{text_words}
@@ -16,7 +16,7 @@ use Rattle.mid_lower.specs.Expressions.{is_void}
 use Rattle.mid_lower.proofs.Trees.{PlainStep, Below, PlainValue, PlainMaybe, PlainStmt, PlainOther, PlainStmts, PlainArms, PlainDropped}
 use Rattle.mid_lower.proofs.Operands.{number_scalar, condition_scalar, from_scalar, never_void}
 use Rattle.mid_lower.proofs.ResultTypes.{from_structure}
-use Rattle.mid_lower.proofs.SoundExpressions.{plain, structure, scalar_of, structure_of, of_scalar, of_structure_type}
+use Rattle.mid_lower.proofs.SoundExpressions.{plain, structure, scalar_of, of_scalar, structure_of, of_structure_type}
 use Rattle.mid_lower.proofs.SoundInitialisers.{vars_plain}
 
 labels_few : (arms : TArmTs) → labels arms ≤ arms_nodes arms
@@ -51,14 +51,14 @@ module _ (p : ProgramT) (declared : AreDeclaredAs p.layouts (wholes p.layouts) p
   objects_below least (k ∷ ks) is = (is.1, objects_below (k + 1) ks is.2)
 
   test_plain : (x : TExprT) → IsTest z x → PlainValue h x
-  test_plain x is = let e = condition_scalar (type_of_typed x) is.1 in (plain z h refl x (is.0).typed (λ f. e), scalar_of x e)
+  test_plain x is = let e = condition_scalar (type_of_typed x) is.1 in (plain z x (is.0).typed (λ f. e), scalar_of x e)
 
   tests_plain : (x : Option TExprT) → MayTest z x → PlainMaybe h x
   tests_plain None is = tt
   tests_plain (Some x) is = test_plain x is
 
   dropped_plain : (x : TExprT) → IsTypedValue z x → PlainDropped h x
-  dropped_plain x is = (λ e. plain z h refl x is.typed (λ f. of_scalar x e), λ e. structure z h refl x is.typed (of_structure_type x e))
+  dropped_plain x is = (λ e. plain z x is.typed (λ f. of_scalar x e), λ e. structure z x is.typed (of_structure_type x e))
 
   step_plain : (x : Option TExprT) → MayValue z x → PlainStep h x
   step_plain None is = tt
@@ -78,12 +78,12 @@ module _ (p : ProgramT) (declared : AreDeclaredAs p.layouts (wholes p.layouts) p
     stmt_plain (SwitchZ x made arms) br co is few =
         let l = labels_few arms in
         let e = number_scalar (type_of_typed x) is.1 in
-        ((plain z h refl x (is.0).typed (λ f. e), scalar_of x e), objects_below 0 made is.2, arms_plain arms co no_labels is.3 (omega (arith, few)), omega (arith, l, few))
+        ((plain z x (is.0).typed (λ f. e), scalar_of x e), objects_below 0 made is.2, arms_plain arms co no_labels is.3 (omega (arith, few)), omega (arith, l, few))
     stmt_plain (ReturnZ None) br co is few = tt
-    stmt_plain (ReturnZ (Some x)) br co is few = (
-      λ s. let e = from_scalar (type_of_typed x) gives is.1 s in ((plain z h refl x (is.0).typed (λ f. e), scalar_of x e), gives_some (type_of_typed x) gives is.1),
-      λ s. let e = from_structure (type_of_typed x) gives is.1 s in (structure z h refl x (is.0).typed e, structure_of x e),
-    )
+    stmt_plain (ReturnZ (Some x)) br co is few =
+        let scalar : is_structure gives ≡ false → is_structure (type_of_typed x) ≡ false = from_scalar (type_of_typed x) gives is.1 in
+        let given : is_structure gives ≡ true → is_structure (type_of_typed x) ≡ true = from_structure (type_of_typed x) gives is.1 in
+        (λ e. ((plain z x (is.0).typed (λ f. scalar e), scalar_of x (scalar e)), gives_some (type_of_typed x) gives is.1), λ e. (structure z x (is.0).typed (given e), structure_of x (given e)))
     stmt_plain BreakZ br co is few = tt
     stmt_plain ContinueZ br co is few = tt
 

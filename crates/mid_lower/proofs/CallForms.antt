@@ -1,10 +1,10 @@
 -- Calls whose value is a word, of functions without a result, and calls whose value is a structure: mid code follows them.
-use Rattle.std.proofs.Common.{◌≡◌, ℕ, suc, ◌+◌, ◌*◌, ◌-◌, ◌<◌, ◌≤◌, Bool, true, false, List, [], ◌∷◌, ◌++◌, length, slice_get, Option, Some, None, Ok, refl, sym, ap, ◌∙◌, subst, arith, if◌then◌else◌}
+use Rattle.std.proofs.Common.{◌≡◌, ℕ, ◌+◌, ◌*◌, ◌-◌, ◌<◌, ◌≤◌, Bool, true, false, List, [], ◌∷◌, ◌++◌, length, slice_get, Option, Some, None, refl, sym, ap, ◌∙◌, subst, arith, if◌then◌else◌}
 use Rattle.std.proofs.lemmas.Bool.{false≢true}
 use Rattle.std.proofs.lemmas.List.{append-nil}
 use Rattle.std.specs.Option.{option_map_or}
 use Rattle.c_tree.specs.declared.span.Span.{Span}
-use Rattle.c_types.specs.Types.{Ty, VoidY}
+use Rattle.c_types.specs.Types.{VoidY}
 use Rattle.c_types.specs.Typed.{TExprTs}
 use Rattle.c_types.specs.Programs.{TFunctionT}
 use Rattle.obj_mem.specs.Objects.{end_object}
@@ -25,7 +25,7 @@ use Rattle.mid_lower.specs.Expressions as low
 use Rattle.mid_lower.specs.Expressions.{is_void, spots}
 use Rattle.mid_lower.proofs.Grows.{Mid, Grows}
 use Rattle.mid_lower.proofs.Fits.{Site}
-use Rattle.mid_lower.proofs.Giving.{GivesNone, GivesWord, GivesAt, Given, giving, handed}
+use Rattle.mid_lower.proofs.Giving.{GivesNone, GivesWord, GivesAt, Given, giving}
 use Rattle.mid_lower.proofs.Room.{Room}
 use Rattle.mid_lower.proofs.Following.{Side, mk, Goal, goal, base_of, Now, SimV, put_at, at_free, spare, sets, M, M_grows, L}
 use Rattle.mid_lower.proofs.StructureValues.{anew, with_value, taken, back_to, taken_is, taken_now, cell_there}

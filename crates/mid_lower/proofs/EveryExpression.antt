@@ -1,40 +1,36 @@
 -- Every form of an expression: mid code follows it.
-use Rattle.std.proofs.Common.{◌≡◌, ℕ, suc, ◌+◌, ◌*◌, ◌<◌, ◌≤◌, Bool, true, false, List, [], ◌∷◌, ◌++◌, length, slice_get, Option, Some, None, Ok, refl, sym, ap, ◌∙◌, subst, arith, if◌then◌else◌}
-use Rattle.std.specs.Option.{option_map_or}
+use Rattle.std.proofs.Common.{◌≡◌, ℕ, ◌+◌, Bool, true, false, List, [], ◌∷◌, ◌++◌, length, Some, None, Ok, refl, sym, ap, subst, arith}
 use Rattle.std.proofs.lemmas.Bool.{false≢true}
 use Rattle.c_tree.specs.declared.span.Span.{Span}
 use Rattle.c_tree.specs.declared.operator.UnOp.TheVariants as un
 use Rattle.c_types.specs.Types.{Ty}
 use Rattle.c_types.specs.Typed.{TExprT, Typed, TKindT, NumberK, NullK, LiteralK, GlobalK, LocalK, UnaryK, BinaryK, AssignK, StepK, IndexK, MemberK, ArrowK, CastK, CallK, InK, OutK, WaitK, HaltK, CardK, TExprTs, NoX, MoreX}
-use Rattle.c_types.specs.Programs.{TFunctionT}
 use Rattle.c_exprs.specs.Nodes.{is_place}
 use Rattle.kit_base.specs.declared.event.Event.TheVariants as event
-use Rattle.obj_mem.specs.declared.cell.Cell.{Cell}
 use Rattle.obj_mem.specs.declared.cell.Cell.TheVariants.{Num, Ptr, Null}
 use Rattle.obj_mem.specs.Stores.{local_object}
 use Rattle.obj_mem.specs.Worlds.{World, spend, happened}
 use Rattle.obj_mem.specs.Queries.{first_cell}
-use Rattle.c_meaning.specs.declared.end.End.{End}
 use Rattle.c_meaning.specs.declared.end.End.TheVariants.{Halted}
-use Rattle.c_meaning.specs.Kinds.{type_of, span_of, is_structure}
-use Rattle.c_meaning.specs.Outcomes.{Val, Place, Stops, then_values}
+use Rattle.c_meaning.specs.Kinds.{type_of, is_structure}
+use Rattle.c_meaning.specs.Outcomes.{Place}
 use Rattle.c_meaning.specs.Expressions as src
 use Rattle.c_meaning.specs.Expressions.{evaluated, evaluated_all}
 use Rattle.mid_code.specs.Code.{LocalO, GlobalO, LiteralO, CardO, ConstO, NullO, NodesT}
 use Rattle.mid_code.specs.Meaning.{Res}
 use Rattle.mid_code.specs.States.{temporaries, to, spent}
-use Rattle.mid_lower.specs.Shape.{Shape, shape_in, words, params_of, result_of}
+use Rattle.mid_lower.specs.Shape.{Shape, shape_in, params_of}
 use Rattle.mid_lower.specs.Parts as part
-use Rattle.mid_lower.specs.Counts.{one_size, sizes, sizes_all, value_sizes}
+use Rattle.mid_lower.specs.Counts.{sizes, value_sizes}
 use Rattle.mid_lower.specs.Expressions as low
 use Rattle.mid_lower.specs.Expressions.{low_args, spots}
-use Rattle.mid_lower.proofs.Grows.{Mid, Grows}
+use Rattle.mid_lower.proofs.Grows.{Mid}
 use Rattle.mid_lower.proofs.Fits.{Site}
 use Rattle.mid_lower.proofs.Structures.{structure_goal, SimS, FollowValue, reads}
-use Rattle.mid_lower.proofs.StructureUses.{begin_structure, assign_structure}
+use Rattle.mid_lower.proofs.StructureUses.{assign_structure}
 use Rattle.mid_lower.proofs.StructureMembers.{FollowStructure, of_structure, member_structure, member_cell}
-use Rattle.mid_lower.proofs.Room.{join_length, Room, room_first, room_second}
-use Rattle.mid_lower.proofs.Following.{base_of, Side, mk, Goal, goal, Kept, way_v, SimV, scratch, paid, paid_now, less_now, fin_now, stopped, at_free, M, op}
+use Rattle.mid_lower.proofs.Room.{join_length}
+use Rattle.mid_lower.proofs.Following.{mk, goal, way_v, SimV, paid, paid_now, less_now, fin_now, stopped, at_free, M, op}
 use Rattle.mid_lower.proofs.Trees.{Plain, PlainKind, PlainAll, PlainStructure}
 use Rattle.mid_lower.proofs.Values.{local_front, Follow}
 use Rattle.mid_lower.proofs.Calling.{BodiesFollow}

@@ -7,7 +7,6 @@ use Rattle.c_types.specs.Sizes.{words_of}
 use Rattle.c_types.specs.Typed.{WhileZ, DoWhileZ}
 use Rattle.c_types.specs.Programs.{TFunctionT}
 use Rattle.obj_mem.specs.declared.cell.Cell.{Cell}
-use Rattle.obj_mem.specs.declared.cell.Cell.TheVariants.{Unwritten}
 use Rattle.obj_mem.specs.Stores.{with_objects, local_object, entered}
 use Rattle.obj_mem.specs.Worlds.{World, on_store, spend}
 use Rattle.obj_mem.specs.Queries.{Answer, write, first_cell}

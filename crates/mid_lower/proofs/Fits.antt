@@ -1,8 +1,6 @@
 -- What is known of the code of a program, and what is done with one less of a bound.
-use Rattle.std.proofs.Common.{◌≡◌, ℕ, ◌+◌, false, List, [], ◌∷◌, ◌++◌, length, sum, get_or, slice_get, Some}
-use Rattle.c_types.specs.Types.{Ty}
+use Rattle.std.proofs.Common.{◌≡◌, ℕ, ◌+◌, List, ◌++◌, length, sum, get_or, slice_get, Some}
 use Rattle.c_types.specs.Programs.{TFunctionT}
-use Rattle.c_meaning.specs.Kinds.{is_structure}
 use Rattle.c_meaning.specs.Outcomes.{Before}
 use Rattle.c_meaning.specs.Setting.{Setting}
 use Rattle.mid_code.specs.Code.{NodesT, CodeT}

@@ -40,7 +40,7 @@ use Rattle.mid_lower.proofs.Trees.{PlainStmts, Below}
 use Rattle.mid_lower.proofs.Fits.{Site, Fits}
 use Rattle.mid_lower.proofs.Giving.{giving}
 use Rattle.mid_lower.proofs.Room.{Room}
-use Rattle.mid_lower.proofs.Following.{base_of, Fit, Side, mk, goal, Goal, SimV, M, L, events_of, spare}
+use Rattle.mid_lower.proofs.Following.{base_of, Fit, Side, mk, goal, Goal, SimV, M, L, events_of}
 use Rattle.mid_lower.proofs.Taken.{TakenAll, none_taken}
 use Rattle.mid_lower.proofs.Arguments.{passed}
 use Rattle.mid_lower.proofs.Calling.{target_of}

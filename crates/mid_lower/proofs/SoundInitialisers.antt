@@ -16,7 +16,6 @@ use Rattle.c_exprs.specs.Nodes.{type_of_typed}
 use Rattle.c_stmts.specs.Slots.{Slots, NoSlots, Elements, Members, member_types, members_of, first_of, slots_of, next_slot, later_slots, is_fixed}
 use Rattle.c_check.specs.Reading.{has_members}
 use Rattle.c_facts.specs.Sound.{Scene, IsKnown, IsSized, takes_value, FillsAs, FillEach, AreFilled, AreSized, IsLaidOut, IsDeclaredAs, AreDeclaredAs, in_call, wholes, scene}
-use Rattle.c_meaning.specs.Kinds.{is_structure}
 use Rattle.c_meaning.specs.Parts.{part_type}
 use Rattle.mid_lower.specs.Shape.{Shape, shape}
 use Rattle.mid_lower.proofs.Trees.{RestFits, Fills, FillAll, FillVars}

@@ -25,7 +25,7 @@ use Rattle.mid_lower.specs.Parts as part
 use Rattle.mid_lower.specs.Statements.{ToEnd, low_stmt, low_stmts}
 use Rattle.mid_lower.specs.Statements as low
 use Rattle.mid_lower.specs.Lowered.{args_from, with_result, all_received, first_of, low_body}
-use Rattle.mid_lower.specs.Lowered as code
+use Rattle.mid_lower.specs.Lowered as lowered
 use Rattle.mid_lower.proofs.Grows.{Mid, Grows, all_of, more, then_grows, block_grows}
 use Rattle.mid_lower.proofs.Lives.{later_then}
 use Rattle.mid_lower.proofs.Trees.{PlainStmts, Below}
@@ -152,7 +152,7 @@ module _ (S : Site) (v : Giving) where
 
   -- a cell is stored
   cell_received : (γ : Goal) (ty : Ty) (z : Cell) (s k a : ℕ) (w : World) (x : Side) (c : NodesT ℕ) → γ.first ≡ 0 → is_structure ty ≡ false → 16 ≤ a → Now γ (s + 16) w x → x.temps a ≡ z → (rest : World → Went) (go : World → Done) → Onward γ s x c rest go
-      → SimF v γ (then_went Ended (asked CutOff nowhere w (first_cell (local_object w.store.locals k)) (λ p. then_went CutOff (stored S.s S.bound 0 ty nowhere p z w) rest)) go) (R (code.received h ty k a c) (mk w x))
+      → SimF v γ (then_went Ended (asked CutOff nowhere w (first_cell (local_object w.store.locals k)) (λ p. then_went CutOff (stored S.s S.bound 0 ty nowhere p z w) rest)) go) (R (lowered.received h ty k a c) (mk w x))
   cell_received γ ty z s k a w x c e scalar sa h0 at rest go f =
       let t : ℕ = part.param_at k in
       let small : t < 16 = param_fixed k in
@@ -169,7 +169,7 @@ module _ (S : Site) (v : Giving) where
 
   -- a structure is copied: where the run ends at that, there is more to spare
   structure_received : (γ : Goal) (ty : Ty) (z : Cell) (s k a : ℕ) (w : World) (x : Side) (c : NodesT ℕ) → 16 ≤ γ.ends → is_structure ty ≡ true → Now γ (s + 16) w x → x.temps a ≡ z → (rest : World → Went) (go : World → Done) → Onward γ s x c rest go
-      → SimF v γ (then_went Ended (asked CutOff nowhere w (first_cell (local_object w.store.locals k)) (λ p. then_went CutOff (stored S.s S.bound 0 ty nowhere p z w) rest)) go) (R (code.received h ty k a c) (mk w x))
+      → SimF v γ (then_went Ended (asked CutOff nowhere w (first_cell (local_object w.store.locals k)) (λ p. then_went CutOff (stored S.s S.bound 0 ty nowhere p z w) rest)) go) (R (lowered.received h ty k a c) (mk w x))
   structure_received γ ty z s k a w x c more_at_ends structure h0 at rest go f =
       let size : ℕ = words h ty in
       let few : size < 2 ^ 32 = in_words (words_of h.layouts ty) in
@@ -187,10 +187,10 @@ module _ (S : Site) (v : Giving) where
       (others part.result_at (omega arith) ∙ rest2 part.result_at refl ∙ rest1 part.result_at refl, λ j le. others j (omega (arith, le)) ∙ rest2 j (eqb_more j part.to (omega (arith, le))) ∙ rest1 j (eqb_more j part.from (omega (arith, le)))))))))
 
   received_sim : (γ : Goal) (ty : Ty) (z : Cell) (s k a : ℕ) (w : World) (x : Side) (c : NodesT ℕ) → γ.first ≡ 0 → 16 ≤ γ.ends → 16 ≤ a → Now γ (s + 16) w x → x.temps a ≡ z → (rest : World → Went) (go : World → Done) → Onward γ s x c rest go
-      → SimF v γ (then_went Ended (asked CutOff nowhere w (first_cell (local_object w.store.locals k)) (λ p. then_went CutOff (stored S.s S.bound 0 ty nowhere p z w) rest)) go) (R (code.received h ty k a c) (mk w x))
+      → SimF v γ (then_went Ended (asked CutOff nowhere w (first_cell (local_object w.store.locals k)) (λ p. then_went CutOff (stored S.s S.bound 0 ty nowhere p z w) rest)) go) (R (lowered.received h ty k a c) (mk w x))
   received_sim γ ty z s k a w x c e more_at_ends sa h0 at rest go f = by (is_structure ty) refl
     where
-      by : (b : Bool) → is_structure ty ≡ b → SimF v γ (then_went Ended (asked CutOff nowhere w (first_cell (local_object w.store.locals k)) (λ p. then_went CutOff (stored S.s S.bound 0 ty nowhere p z w) rest)) go) (R (code.received h ty k a c) (mk w x))
+      by : (b : Bool) → is_structure ty ≡ b → SimF v γ (then_went Ended (asked CutOff nowhere w (first_cell (local_object w.store.locals k)) (λ p. then_went CutOff (stored S.s S.bound 0 ty nowhere p z w) rest)) go) (R (lowered.received h ty k a c) (mk w x))
       by true structure = structure_received γ ty z s k a w x c more_at_ends structure h0 at rest go f
       by false scalar = cell_received γ ty z s k a w x c e scalar sa h0 at rest go f
 

@@ -13,13 +13,9 @@ use Rattle.c_exprs.specs.Calls.{listed, all_convert}
 use Rattle.c_facts.specs.Sound.{text_type, Scene, Calls, IsTyped, IsKind, AreValues}
 use Rattle.c_meaning.specs.Kinds.{type_of, is_structure}
 use Rattle.mid_lower.specs.Shape.{Shape, params_of, result_of}
-use Rattle.mid_lower.proofs.Trees.{IsScalar, Plain, PlainKind, PlainAll, PlainStructure, StructureKind}
+use Rattle.mid_lower.proofs.Trees.{IsScalar, Plain, PlainKind, PlainAll, PlainAs, PlainStructure, StructureKind}
 use Rattle.mid_lower.proofs.Operands.{both_first, both_second, number_scalar, behind_scalar, from_scalar, unary_operand, binary_operands, index_operands, compound_operands, assigned_operands, cast_operand}
 use Rattle.mid_lower.proofs.ResultTypes.{has_structure, from_structure, address_place, assigned_place, never_unary, never_binary, never_compound, never_cast}
-
--- both ask for the type alike
-pub same_type_of : (x : TExprT) → type_of x ≡ type_of_typed x
-same_type_of (Typed kind ty span) = refl
 
 pub scalar_of : (x : TExprT) → is_structure (type_of_typed x) ≡ false → IsScalar x
 scalar_of (Typed kind ty span) e = e
@@ -164,3 +160,10 @@ module _ (z : Scene) where
         let scalar : is_structure ty ≡ false → is_structure (type_of_typed x) ≡ false = from_scalar (type_of_typed x) ty one in
         let given : is_structure ty ≡ true → is_structure (type_of_typed x) ≡ true = from_structure (type_of_typed x) ty one in
         ((λ e. (plain x values.0 (λ f. scalar e), scalar_of x (scalar e)), λ e. (structure x values.0 (given e), structure_of x (given e))), args_plain xs tys values.2 more rest)
+
+  -- a value becomes one of this type
+  pub plain_as : (x : TExprT) (ty : Ty) → IsTyped z x → converts (type_of_typed x) ty ≡ true → PlainAs h ty x
+  plain_as x ty is one =
+      let scalar : is_structure ty ≡ false → is_structure (type_of_typed x) ≡ false = from_scalar (type_of_typed x) ty one in
+      let given : is_structure ty ≡ true → is_structure (type_of_typed x) ≡ true = from_structure (type_of_typed x) ty one in
+      (λ e. (plain x is (λ f. scalar e), scalar_of x (scalar e)), λ e. (structure x is (given e), structure_of x (given e)))

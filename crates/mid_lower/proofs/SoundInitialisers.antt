@@ -19,9 +19,8 @@ use Rattle.c_facts.specs.Sound.{Scene, IsKnown, IsSized, takes_value, FillsAs, F
 use Rattle.c_meaning.specs.Parts.{part_type}
 use Rattle.mid_lower.specs.Shape.{Shape, shape}
 use Rattle.mid_lower.proofs.Trees.{RestFits, Fills, FillAll, FillVars}
-use Rattle.mid_lower.proofs.Operands.{both_first, both_second, from_scalar}
-use Rattle.mid_lower.proofs.ResultTypes.{from_structure}
-use Rattle.mid_lower.proofs.SoundExpressions.{plain, structure, scalar_of, structure_of}
+use Rattle.mid_lower.proofs.Operands.{both_first, both_second}
+use Rattle.mid_lower.proofs.SoundExpressions.{plain_as}
 
 -- ---- the places of a type, from one on
 
@@ -181,11 +180,7 @@ module _ (p : ProgramT) (declared : AreDeclaredAs p.layouts (wholes p.layouts) p
 
   mutual
     pub fill_plain : (global : Bool) (i : TInitT) (ty : Ty) → IsSized p.layouts (wholes p.layouts) ty → FillsAs z global i (Some ty) → Fills h i ty
-    fill_plain global (OneI x) ty sized is =
-        let becomes = value_taken global ty x is.1 in (
-          λ e. let ex = from_scalar (type_of_typed x) ty becomes e in (plain z x (is.0).typed (λ f. ex), scalar_of x ex),
-          λ e. let ex = from_structure (type_of_typed x) ty becomes e in (structure z x (is.0).typed ex, structure_of x ex),
-        )
+    fill_plain global (OneI x) ty sized is = plain_as z x ty (is.0).typed (value_taken global ty x is.1)
     fill_plain global (TextI number) ty sized is = let le = text_few p.literals number in omega (arith, le, texts)
     fill_plain global (ListI items) ty sized is = fills_plain global items ty 0 sized (subst (FillEach z global items) (places_first p.layouts ty) is.1)
 

@@ -9,14 +9,12 @@ use Rattle.c_exprs.specs.Nodes.{type_of_typed}
 use Rattle.c_exprs.specs.Faults.{text_words}
 use Rattle.c_stmts.specs.State.{Labels, no_labels, with_label}
 use Rattle.c_facts.specs.Sound.{IsTypedValue, Scene, AreObjects, IsTest, MayTest, MayValue, IsStatement, MayState, AreStatements, AreArms, AreDeclaredAs, in_call, wholes, scene}
-use Rattle.c_meaning.specs.Kinds.{is_structure}
 use Rattle.c_meaning.specs.Statements.{labels}
 use Rattle.mid_lower.specs.Shape.{Shape, shape}
 use Rattle.mid_lower.specs.Expressions.{is_void}
 use Rattle.mid_lower.proofs.Trees.{PlainStep, Below, PlainValue, PlainMaybe, PlainStmt, PlainOther, PlainStmts, PlainArms, PlainDropped}
-use Rattle.mid_lower.proofs.Operands.{number_scalar, condition_scalar, from_scalar, never_void}
-use Rattle.mid_lower.proofs.ResultTypes.{from_structure}
-use Rattle.mid_lower.proofs.SoundExpressions.{plain, structure, scalar_of, of_scalar, structure_of, of_structure_type}
+use Rattle.mid_lower.proofs.Operands.{number_scalar, condition_scalar, never_void}
+use Rattle.mid_lower.proofs.SoundExpressions.{plain, structure, plain_as, scalar_of, of_scalar, of_structure_type}
 use Rattle.mid_lower.proofs.SoundInitialisers.{vars_plain}
 
 labels_few : (arms : TArmTs) → labels arms ≤ arms_nodes arms
@@ -81,9 +79,8 @@ module _ (p : ProgramT) (declared : AreDeclaredAs p.layouts (wholes p.layouts) p
         ((plain z x (is.0).typed (λ f. e), scalar_of x e), objects_below 0 made is.2, arms_plain arms co no_labels is.3 (omega (arith, few)), omega (arith, l, few))
     stmt_plain (ReturnZ None) br co is few = tt
     stmt_plain (ReturnZ (Some x)) br co is few =
-        let scalar : is_structure gives ≡ false → is_structure (type_of_typed x) ≡ false = from_scalar (type_of_typed x) gives is.1 in
-        let given : is_structure gives ≡ true → is_structure (type_of_typed x) ≡ true = from_structure (type_of_typed x) gives is.1 in
-        (λ e. ((plain z x (is.0).typed (λ f. scalar e), scalar_of x (scalar e)), gives_some (type_of_typed x) gives is.1), λ e. (structure z x (is.0).typed (given e), structure_of x (given e)))
+        let value = plain_as z x gives (is.0).typed is.1 in
+        (λ e. (value.0 e, gives_some (type_of_typed x) gives is.1), value.1)
     stmt_plain BreakZ br co is few = tt
     stmt_plain ContinueZ br co is few = tt
 

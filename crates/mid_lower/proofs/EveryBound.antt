@@ -33,7 +33,7 @@ use Rattle.mid_lower.proofs.Fits.{Site, Fits}
 use Rattle.mid_lower.proofs.Giving.{Giving, giving, handed}
 use Rattle.mid_lower.proofs.Lives.{Gone}
 use Rattle.mid_lower.specs.Counts.{value_sizes, stmt_sizes, maybe_sizes, stmts_sizes}
-use Rattle.mid_lower.proofs.Room.{Room, room_at, get_second}
+use Rattle.mid_lower.proofs.Room.{Room, room_at, get_first, get_second}
 use Rattle.mid_lower.proofs.Following.{base_of, events_of, Side, mk, Goal, stays_here, Now, Way, paid, paid_now, spare, now_work, kept_wider, kept_through, low_free, eqb_less, eqb_more, M, M_grows, op, sets}
 use Rattle.mid_lower.proofs.Words.{in_words}
 use Rattle.mid_lower.proofs.Storing.{stores, went_asked}
@@ -97,18 +97,13 @@ param_fixed k = by (nat_lt k 7) refl
     by true e = let lt : k < 7 = ltb-true k 7 e in omega (arith, lt)
     by false e = omega arith
 
--- and in none for the place of a result
+-- which is not that of the place of a result
 param_elsewhere : (k : ℕ) → eqb part.result_at (part.param_at k) ≡ false
 param_elsewhere k = by (nat_lt k 7)
   where
     by : (b : Bool) → eqb part.result_at (if b then 9 + k else part.to) ≡ false
     by true = eqb_less part.result_at (9 + k) (omega arith)
     by false = refl
-
-get_front : (a b : List ℕ) (k : ℕ) → k < length a → get_or (a ++ b) k 0 ≡ get_or a k 0
-get_front [] b k lt = absurd (omega (arith, lt))
-get_front (x ∷ a) b zero lt = refl
-get_front (x ∷ a) b (suc k) lt = get_front a b k (omega (arith, lt))
 
 unmade_none : (l : List ℕ) (k : ℕ) → local_object (unmade l) k ≡ None
 unmade_none [] k = refl
@@ -230,7 +225,7 @@ module _ (s : Setting) (code : CodeT ℕ) (frames : List ℕ) (lowers : Lowers s
       let cb : NodesT ℕ = low_stmts (shape_in s) g.gives g.body n (length g.locals) 0 (ToEnd 0) Stop in
       let counts : length w1.store.locals ≡ own = unmade_length (s.sizes.locals f) ∙ ap (λ l. length l) (lowers.own f g eg) in
       let home : HomeOf s code frames g.gives (Some f) own = record {
-        words = λ k lt. ap (λ l. get_or l k 0) (lowers.fits.locals f) ∙ get_front (s.sizes.locals f) (lowers.fits.more f) k (omega (arith, lt, ap (λ l. length l) (lowers.own f g eg)));
+        words = λ k lt. ap (λ l. get_or l k 0) (lowers.fits.locals f) ∙ get_first (s.sizes.locals f) (lowers.fits.more f) k (omega (arith, lt, ap (λ l. length l) (lowers.own f g eg)));
         result = ap (λ o. option_map_or (λ k. k.gives) o VoidY) eg;
       } in
       let handed_there : Firsts part.first_param g.params vs x1.temps × AtPlace g.gives r x1.temps = subst (λ ps. Firsts part.first_param g.params vs (received temporaries ps us) × AtPlace g.gives r (received temporaries ps us)) (sym (lowers.fits.params f g eg)) (handed_received g.gives r g.params vs) in

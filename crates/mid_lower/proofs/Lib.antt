@@ -43,8 +43,10 @@ pub mod SoundRuns
 pub mod Temporaries
 pub mod Nesting
 pub mod NestingStatements
-pub mod Loopless
+pub mod Tallies
+pub mod QuietForms
 pub mod LooplessExpressions
+pub mod CallsOfExpressions
 pub mod Onto
 pub mod PartsListed
 pub mod ExpressionsListed

@@ -47,6 +47,10 @@ pub mod Tallies
 pub mod QuietForms
 pub mod LooplessExpressions
 pub mod CallsOfExpressions
+pub mod QuietParts
+pub mod CallsOfStatements
+pub mod LooplessStatements
+pub mod StaysStraight
 pub mod Onto
 pub mod PartsListed
 pub mod ExpressionsListed

@@ -4,22 +4,20 @@ use Rattle.c_types.specs.Types.{Ty}
 use Rattle.c_types.specs.Typed.{TExprT, Typed, NumberK, NullK, LiteralK, GlobalK, LocalK, UnaryK, BinaryK, AssignK, StepK, IndexK, MemberK, ArrowK, CastK, CallK, InK, OutK, WaitK, HaltK, CardK, TExprTs, NoX, MoreX}
 use Rattle.c_exprs.specs.Nodes.{type_of_typed, is_place}
 use Rattle.c_facts.specs.Sound.{Scene, IsTyped, AreValues}
-use Rattle.c_meaning.specs.Kinds.{type_of, is_structure}
+use Rattle.c_meaning.specs.Kinds.{is_structure}
 use Rattle.c_meaning.specs.Frames.{over, over_all}
 use Rattle.mid_lower.specs.Shape.{Shape, params_of, result_of}
 use Rattle.mid_lower.specs.Flags.{is_flag}
 use Rattle.mid_lower.specs.Parts.{Nodes}
 use Rattle.mid_lower.specs.Expressions.{second, beyond, spots, later_types, low, low_args, low_value, low_test}
-use Rattle.mid_lower.specs.SourceLoops.{reads, reads_all, copies}
+use Rattle.mid_lower.specs.SourceLoops.{reads_all, copies}
 use Rattle.mid_lower.proofs.Operands.{number_scalar, behind_scalar, from_scalar, unary_operand, binary_operands, index_operands, compound_operands, assigned_operands, cast_operand}
+use Rattle.mid_lower.proofs.SoundExpressions.{scalar_of}
 use Rattle.mid_lower.proofs.Tallies.{tally, of_loops, one_is, converted_tally}
 use Rattle.mid_lower.proofs.QuietForms.{Quiet, Unread, scalar_unread, value_quiet, test_quiet, unary_quiet, binary_quiet, assign_quiet, step_quiet, index_quiet, member_tally, called_tally, given_tally}
 
-scalar_is : (x : TExprT) → is_structure (type_of_typed x) ≡ false → is_structure (type_of x) ≡ false
-scalar_is (Typed kind ty span) e = e
-
 pub unread_of : (x : TExprT) → is_structure (type_of_typed x) ≡ false → Unread of_loops x
-unread_of x e = scalar_unread of_loops x (scalar_is x e)
+unread_of x e = scalar_unread of_loops x (scalar_of x e)
 
 module _ (z : Scene) (h : Shape) where
   mutual
@@ -38,10 +36,10 @@ module _ (z : Scene) (h : Shape) where
         let s = assigned_operands z.layouts z.whole (type_of_typed x) (is_place x) (type_of_typed y) ty is.1.3 in
         let plain : is_structure ty ≡ false = one_is (is_structure ty) (omega (arith, e)) in
         let place : is_structure (type_of_typed x) ≡ false = ap is_structure s.same ∙ plain in
-        assign_quiet of_loops h None x y (low h x) (low h y) (inr (scalar_is x place)) (unread_of y (from_scalar (type_of_typed y) (type_of_typed x) s.becomes place)) (low_quiet x is.1.0 (omega (arith, e))) (low_quiet y is.1.1 (omega (arith, e))) t n m c
+        assign_quiet of_loops h None x y (low h x) (low h y) (inr (scalar_of x place)) (unread_of y (from_scalar (type_of_typed y) (type_of_typed x) s.becomes place)) (low_quiet x is.1.0 (omega (arith, e))) (low_quiet y is.1.1 (omega (arith, e))) t n m c
     low_quiet (Typed (AssignK (Some op) x y) ty span) is e t n m c =
         let s = compound_operands z.whole op (type_of_typed x) (is_place x) (type_of_typed y) ty is.1.3 in
-        assign_quiet of_loops h (Some op) x y (low h x) (low h y) (inr (scalar_is x s.first)) (unread_of y s.second) (low_quiet x is.1.0 (omega (arith, e))) (low_quiet y is.1.1 (omega (arith, e))) t n m c
+        assign_quiet of_loops h (Some op) x y (low h x) (low h y) (inr (scalar_of x s.first)) (unread_of y s.second) (low_quiet x is.1.0 (omega (arith, e))) (low_quiet y is.1.1 (omega (arith, e))) t n m c
     low_quiet (Typed (StepK op x) ty span) is e t n m c = step_quiet of_loops h op x (low h x) (low_quiet x is.1.0 (omega (arith, e))) t n m c
     low_quiet (Typed (IndexK x y) ty span) is e t n m c =
         let s = index_operands z.whole (type_of_typed x) (type_of_typed y) ty is.1.4 in

@@ -11,7 +11,7 @@ use Rattle.c_types.specs.Typed.{TExprT}
 use Rattle.c_rules.specs.Nodes.{needs_place}
 use Rattle.c_exprs.specs.Nodes.{is_place}
 use Rattle.c_meaning.specs.Kinds.{type_of, is_structure, decayed, pointed}
-use Rattle.mid_code.specs.Code.{ConstO, LoadO, LocalO, Stop, Do, Choose}
+use Rattle.mid_code.specs.Code.{ConstO, LoadO, LocalO, Stop, Do, Choose, Block}
 use Rattle.mid_lower.specs.Shape.{Shape, words}
 use Rattle.mid_lower.specs.Flags.{is_flag, tests_flag}
 use Rattle.mid_lower.specs.Parts.{Nodes, as_flag, stored, operated}
@@ -81,6 +81,9 @@ module _ (k : Counting) where
 
   pub choose_quiet : (t : ℕ) (a b c : Nodes) → tally k a ≡ zero → tally k b ≡ zero → tally k (Choose t a b c) ≡ tally k c
   choose_quiet t a b c e f = omega (arith, e, f)
+
+  pub block_quiet : (b c : Nodes) → tally k b ≡ zero → tally k (Block b c) ≡ tally k c
+  block_quiet b c e = omega (arith, e)
 
   pub binary_quiet : (h : Shape) (op : BinOp) (x y : TExprT) (first last : Low) → Unread x → Unread y → Quiet first → Quiet last → Quiet (binary h op x y first last)
   binary_quiet h bin.AndAlso x y first last u v p q t n m c =

@@ -76,3 +76,4 @@ pub mod Arms
 pub mod Weights
 pub mod WeighedExpressions
 pub mod WeighedStatements
+pub mod LoweredParts

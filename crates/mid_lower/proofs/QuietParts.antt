@@ -1,9 +1,8 @@
 -- Parts of initialisers, statements and functions that have no loop and no call of their own.
-use Rattle.std.proofs.Common.{◌≡◌, ℕ, zero, suc, ◌+◌, ◌-◌, ◌*◌, ◌%◌, ◌^◌, ◌⊎◌, inl, inr, arith, refl, ap, ◌∙◌, Bool, true, false, List, [], ◌∷◌}
+use Rattle.std.proofs.Common.{◌≡◌, ℕ, zero, suc, ◌+◌, ◌-◌, ◌*◌, ◌%◌, ◌^◌, ◌⊎◌, inl, inr, arith, refl, ap, ◌∙◌, Bool, true, false}
 use Rattle.c_types.specs.Types.{Ty, VoidY, IntY, BoolY, EnumY, StructY, UnionY, PointerY, ArrayY}
 use Rattle.c_types.specs.Typed.{TArmTs, CaseB, DefaultB, StmtB, NoB, MoreB}
 use Rattle.c_meaning.specs.Kinds.{is_structure}
-use Rattle.mid_code.specs.Code.{Return}
 use Rattle.mid_lower.specs.Shape.{Shape, words, literal_words}
 use Rattle.mid_lower.specs.Parts.{Nodes, copied, zeroed}
 use Rattle.mid_lower.specs.Initialisers.{part_at, cell_filled, part_filled, part_zeroed, low_text, low_rest, object_to}

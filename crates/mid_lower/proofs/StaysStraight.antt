@@ -1,5 +1,5 @@
 -- A function of a sound program that has no loops has none in mid code, and calls only what its tree calls.
-use Rattle.std.proofs.Common.{ℕ, List, []}
+use Rattle.std.proofs.Common.{[]}
 use Rattle.c_types.specs.Programs.{TFunctionT, ProgramT}
 use Rattle.c_facts.specs.Sound.{IsFunction, IsSound, scene}
 use Rattle.c_meaning.specs.Setting.{setting}

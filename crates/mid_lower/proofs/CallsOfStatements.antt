@@ -88,14 +88,16 @@ module _ (f : ℕ) (h : Shape) where
     stmt_uncalled ty (VarsZ vars) e n m b j c = vars_uncalled vars e n m c
     stmt_uncalled ty (DoZ x) e n m b j c = value_uncalled f h x e n (n + 1) m c
     stmt_uncalled ty (IfZ x a rest) e n m b j c =
+        let u = second x n in
+        let v = beyond h x m in
+        let first = stmt_uncalled ty a (omega (arith, e)) u v b j Stop in
+        let last = other_uncalled ty rest (omega (arith, e)) (u + stmt_temps a) (v + length (stmt_sizes h a)) b j Stop in
         test_uncalled f h x (omega (arith, e)) n (n + 1) m _
-        ∙ choose_quiet (of_calls f) n (low_stmt h ty a (second x n) (beyond h x m) b j Stop) (low_other h ty rest (second x n + stmt_temps a) (beyond h x m + length (stmt_sizes h a)) b j Stop) c
-          (stmt_uncalled ty a (omega (arith, e)) (second x n) (beyond h x m) b j Stop)
-          (other_uncalled ty rest (omega (arith, e)) (second x n + stmt_temps a) (beyond h x m + length (stmt_sizes h a)) b j Stop)
+        ∙ choose_quiet (of_calls f) n (low_stmt h ty a u v b j Stop) (low_other h ty rest (u + stmt_temps a) (v + length (stmt_sizes h a)) b j Stop) c first last
     stmt_uncalled ty (WhileZ x a) e n m b j c =
-        loop_quiet (low_test h x n (n + 1) m (Choose n (low_stmt h ty a (second x n) (beyond h x m) 0 (ToTurn 0) (Again 0 Stop)) Stop Stop)) c
-        (test_uncalled f h x (omega (arith, e)) n (n + 1) m _
-        ∙ choose_quiet (of_calls f) n (low_stmt h ty a (second x n) (beyond h x m) 0 (ToTurn 0) (Again 0 Stop)) Stop Stop (stmt_uncalled ty a (omega (arith, e)) (second x n) (beyond h x m) 0 (ToTurn 0) (Again 0 Stop)) refl)
+        let turn = low_stmt h ty a (second x n) (beyond h x m) 0 (ToTurn 0) (Again 0 Stop) in
+        let quiet = stmt_uncalled ty a (omega (arith, e)) (second x n) (beyond h x m) 0 (ToTurn 0) (Again 0 Stop) in
+        loop_quiet (low_test h x n (n + 1) m (Choose n turn Stop Stop)) c (test_uncalled f h x (omega (arith, e)) n (n + 1) m _ ∙ choose_quiet (of_calls f) n turn Stop Stop quiet refl)
     stmt_uncalled ty (DoWhileZ a x) e n m b j c =
         let u = n + stmt_temps a in
         let v = m + length (stmt_sizes h a) in

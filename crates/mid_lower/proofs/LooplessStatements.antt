@@ -88,9 +88,10 @@ module _ (p : ProgramT) (declared : AreDeclaredAs p.layouts (wholes p.layouts) p
     stmt_loopless ty (IfZ x a rest) br co is e n m b j c =
         let u = second x n in
         let v = beyond h x m in
+        let first = stmt_loopless ty a br co is.1 (omega (arith, e)) u v b j Stop in
+        let last = other_loopless ty rest br co is.2 (omega (arith, e)) (u + stmt_temps a) (v + length (stmt_sizes h a)) b j Stop in
         low_test_quiet z h x ((is.0).0).typed (omega (arith, e)) (unread_of x (condition_scalar (type_of_typed x) (is.0).1)) n (n + 1) m _
-        ∙ choose_quiet of_loops n (low_stmt h ty a u v b j Stop) (low_other h ty rest (u + stmt_temps a) (v + length (stmt_sizes h a)) b j Stop) c
-          (stmt_loopless ty a br co is.1 (omega (arith, e)) u v b j Stop) (other_loopless ty rest br co is.2 (omega (arith, e)) (u + stmt_temps a) (v + length (stmt_sizes h a)) b j Stop)
+        ∙ choose_quiet of_loops n (low_stmt h ty a u v b j Stop) (low_other h ty rest (u + stmt_temps a) (v + length (stmt_sizes h a)) b j Stop) c first last
     stmt_loopless ty (WhileZ x a) br co is e n m b j c = absurd (omega (arith, e))
     stmt_loopless ty (DoWhileZ a x) br co is e n m b j c = absurd (omega (arith, e))
     stmt_loopless ty (ForZ ks first test step a) br co is e n m b j c = absurd (omega (arith, e))

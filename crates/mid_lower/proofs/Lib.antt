@@ -47,8 +47,14 @@ pub mod SoundRuns
 pub mod Temporaries
 pub mod Nesting
 pub mod NestingStatements
-pub mod Loopless
+pub mod Tallies
+pub mod QuietForms
 pub mod LooplessExpressions
+pub mod CallsOfExpressions
+pub mod QuietParts
+pub mod CallsOfStatements
+pub mod LooplessStatements
+pub mod StaysStraight
 pub mod Onto
 pub mod PartsListed
 pub mod ExpressionsListed
@@ -74,3 +80,4 @@ pub mod Arms
 pub mod Weights
 pub mod WeighedExpressions
 pub mod WeighedStatements
+pub mod LoweredParts

@@ -71,6 +71,12 @@ pub mod StartKept
 pub mod IsMidCode
 pub mod Finished
 pub mod LocalWords
+pub mod TogetherPaths
+pub mod TogetherExpressions
+pub mod TogetherInitialisers
+pub mod TogetherWays
+pub mod TogetherPoints
+pub mod Together
 pub mod Wrapped
 pub mod Joins
 pub mod Forms

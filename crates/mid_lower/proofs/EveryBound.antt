@@ -1,15 +1,16 @@
 -- Functions, and every bound: mid code follows the trees.
-use Rattle.std.proofs.Common.{◌≡◌, ℕ, zero, suc, ◌+◌, ◌*◌, ◌<◌, ◌≤◌, Bool, true, false, cond, List, [], ◌∷◌, ◌++◌, length, get_or, slice_get, nat_lt, Some, None, refl, sym, ap, ◌∙◌, subst, arith, if◌then◌else◌}
-use Rattle.std.proofs.lemmas.Bool.{eq-eqb, ltb-true}
+use Rattle.std.proofs.Common.{◌≡◌, ℕ, zero, suc, ◌+◌, ◌*◌, ◌^◌, ◌<◌, ◌≤◌, Bool, true, false, cond, eqb, List, [], ◌∷◌, ◌++◌, length, get_or, slice_get, nat_lt, Some, None, Ok, refl, sym, ap, ◌∙◌, subst, arith, if◌then◌else◌}
+use Rattle.std.proofs.lemmas.Bool.{eq-eqb, ltb-true, false≢true}
 use Rattle.std.specs.Option.{option_map_or}
 use Rattle.c_types.specs.Types.{Ty, VoidY}
+use Rattle.c_types.specs.Sizes.{words_of}
 use Rattle.c_types.specs.Typed.{WhileZ, DoWhileZ}
 use Rattle.c_types.specs.Programs.{TFunctionT}
 use Rattle.obj_mem.specs.declared.cell.Cell.{Cell}
-use Rattle.obj_mem.specs.declared.cell.Cell.TheVariants.{Unwritten}
 use Rattle.obj_mem.specs.Stores.{with_objects, local_object, entered}
 use Rattle.obj_mem.specs.Worlds.{World, on_store, spend}
-use Rattle.obj_mem.specs.Queries.{write, first_cell}
+use Rattle.obj_mem.specs.Queries.{Answer, write, first_cell}
+use Rattle.c_meaning.specs.Kinds.{is_structure}
 use Rattle.c_meaning.specs.Outcomes.{Went, Through, CutOff, Done, Goes, Breaks, Continues, Returns, Ended, Turn, DoTurn, nowhere, asked, then_went}
 use Rattle.c_meaning.specs.Setting.{Setting}
 use Rattle.c_meaning.specs.Cells.{cells_set, stored}
@@ -17,40 +18,42 @@ use Rattle.c_meaning.specs.Statements.{does_all, params_stored, body_of, below}
 use Rattle.mid_code.specs.Code.{MoveO, LocalO, StoreO, NodesT, Stop, Do, Block, CodeT}
 use Rattle.mid_code.specs.Meaning.{Res, Next, then_next, block_done}
 use Rattle.mid_code.specs.Meaning.{below as mid_below}
-use Rattle.mid_code.specs.States.{temporaries, received, function_at, over_worlds}
+use Rattle.mid_code.specs.States.{temporaries, to, spent, received, function_at, over_worlds}
 use Rattle.mid_code.specs.Passing.{Prefix}
 use Rattle.mid_lower.specs.Shape.{Shape, shape_in, words}
 use Rattle.mid_lower.specs.Parts as part
-use Rattle.mid_lower.specs.Expressions.{is_void}
 use Rattle.mid_lower.specs.Statements.{ToEnd, low_stmt, low_stmts}
 use Rattle.mid_lower.specs.Statements as low
-use Rattle.mid_lower.specs.Lowered.{args_from, all_received, first_of, low_body}
+use Rattle.mid_lower.specs.Lowered.{args_from, with_result, all_received, first_of, low_body}
+use Rattle.mid_lower.specs.Lowered as lowered
 use Rattle.mid_lower.proofs.Grows.{Mid, Grows, all_of, more, then_grows, block_grows}
 use Rattle.mid_lower.proofs.Lives.{later_then}
 use Rattle.mid_lower.proofs.Trees.{PlainStmts, Below}
-use Rattle.mid_lower.proofs.Fits.{Site, Fits, ScalarTypes}
+use Rattle.mid_lower.proofs.Fits.{Site, Fits}
+use Rattle.mid_lower.proofs.Giving.{Giving, giving, handed}
 use Rattle.mid_lower.proofs.Lives.{Gone}
 use Rattle.mid_lower.specs.Counts.{value_sizes, stmt_sizes, maybe_sizes, stmts_sizes}
-use Rattle.mid_lower.proofs.Room.{Room, room_at, get_second}
-use Rattle.mid_lower.proofs.Following.{base_of, events_of, Side, mk, Goal, stays_here, Now, Way, paid, paid_now, spare, now_work, kept_wider, kept_through, eqb_more, M, M_grows, op}
+use Rattle.mid_lower.proofs.Room.{Room, room_at, get_first, get_second}
+use Rattle.mid_lower.proofs.Following.{base_of, events_of, Side, mk, Goal, stays_here, Now, Way, paid, paid_now, spare, now_work, kept_wider, kept_through, low_free, eqb_less, eqb_more, M, M_grows, op, sets}
+use Rattle.mid_lower.proofs.Words.{in_words}
 use Rattle.mid_lower.proofs.Storing.{stores, went_asked}
 use Rattle.mid_lower.proofs.Values.{local_front}
 use Rattle.mid_lower.proofs.Calling.{SimF, body_goal, at_entry, unmade, BodiesFollow}
-use Rattle.mid_lower.proofs.CellLoops.{below_grows}
+use Rattle.mid_lower.proofs.CellLoops.{below_grows, copies}
 use Rattle.mid_lower.proofs.FillParts.{went_went}
-use Rattle.mid_lower.proofs.Outcomes.{SimD, plain, turning, turn_wide, turn_now}
+use Rattle.mid_lower.proofs.Outcomes.{AtPlace, has_place, SimD, plain, turning, turn_wide, turn_now}
 use Rattle.mid_lower.proofs.Locals.{HomeOf, mades}
 use Rattle.mid_lower.proofs.LoopForms.{Earlier, while_sim, do_sim, for_sim}
 use Rattle.mid_lower.proofs.EveryStatement.{all_sim, stmt_sim}
 
--- the functions of the code are those of the program, lowered, and have no structures as values
+-- the functions of the code are those of the program, lowered
 pub record Lowers (s : Setting) (code : CodeT ℕ) (frames : List ℕ) : Type 0 where
   pub fits : Fits s code frames
   pub body : (f : ℕ) (g : TFunctionT) → slice_get s.functions f ≡ Some g → (function_at code f).body ≡ low_body (shape_in s) g
   pub own : (f : ℕ) (g : TFunctionT) → slice_get s.functions f ≡ Some g → s.sizes.locals f ≡ g.locals
   pub behind : (f : ℕ) (g : TFunctionT) → slice_get s.functions f ≡ Some g → fits.more f ≡ stmts_sizes (shape_in s) g.body
   pub made : (f : ℕ) (g : TFunctionT) → slice_get s.functions f ≡ Some g → Below (length g.locals) g.made
-  pub tidy : (f : ℕ) (g : TFunctionT) → slice_get s.functions f ≡ Some g → PlainStmts (shape_in s) (length g.locals) (is_void g.gives) g.body
+  pub tidy : (f : ℕ) (g : TFunctionT) → slice_get s.functions f ≡ Some g → PlainStmts (shape_in s) (length g.locals) g.gives g.body
 
 -- ---- parameters
 
@@ -72,6 +75,20 @@ firsts_received a (ty ∷ tys) (v ∷ vs) = (
   firsts_same (a + 1) tys vs (received temporaries (args_from (a + 1) tys) vs) (received temporaries (args_from a (ty ∷ tys)) (v ∷ vs)) (λ j le. ap (λ b. cond b v (received temporaries (args_from (a + 1) tys) vs j)) (eqb_more j a (omega (arith, le)))) (firsts_received (a + 1) tys vs),
 )
 
+-- what is handed to a function stands there as it begins
+handed_received : (ty : Ty) (r : Cell) (tys : List Ty) (vs : List Cell) → Firsts part.first_param tys vs (received temporaries (with_result ty (args_from part.first_param tys)) (handed ty r vs)) × AtPlace ty r (received temporaries (with_result ty (args_from part.first_param tys)) (handed ty r vs))
+handed_received ty r tys vs = by (is_structure ty)
+  where
+    args : List ℕ
+    args = args_from part.first_param tys
+
+    by : (b : Bool) → Firsts part.first_param tys vs (received temporaries (if b then part.result_at ∷ args else args) (if b then r ∷ vs else vs)) × (b ≡ true → received temporaries (if b then part.result_at ∷ args else args) (if b then r ∷ vs else vs) part.result_at ≡ r)
+    by false = (firsts_received part.first_param tys vs, λ e. absurd (false≢true e))
+    by true = (
+      firsts_same part.first_param tys vs (received temporaries args vs) (received temporaries (part.result_at ∷ args) (r ∷ vs)) (λ j le. ap (λ b. cond b r (received temporaries args vs j)) (eqb_more j part.result_at (omega (arith, le)))) (firsts_received part.first_param tys vs),
+      λ e. refl,
+    )
+
 -- the address of a parameter stands in a fixed temporary
 param_fixed : (k : ℕ) → part.param_at k < 16
 param_fixed k = by (nat_lt k 7) refl
@@ -80,10 +97,13 @@ param_fixed k = by (nat_lt k 7) refl
     by true e = let lt : k < 7 = ltb-true k 7 e in omega (arith, lt)
     by false e = omega arith
 
-get_front : (a b : List ℕ) (k : ℕ) → k < length a → get_or (a ++ b) k 0 ≡ get_or a k 0
-get_front [] b k lt = absurd (omega (arith, lt))
-get_front (x ∷ a) b zero lt = refl
-get_front (x ∷ a) b (suc k) lt = get_front a b k (omega (arith, lt))
+-- which is not that of the place of a result
+param_elsewhere : (k : ℕ) → eqb part.result_at (part.param_at k) ≡ false
+param_elsewhere k = by (nat_lt k 7)
+  where
+    by : (b : Bool) → eqb part.result_at (if b then 9 + k else part.to) ≡ false
+    by true = eqb_less part.result_at (9 + k) (omega arith)
+    by false = refl
 
 unmade_none : (l : List ℕ) (k : ℕ) → local_object (unmade l) k ≡ None
 unmade_none [] k = refl
@@ -98,7 +118,7 @@ unmade_length (x ∷ l) = ap suc (unmade_length l)
 abbrev pub site : (s : Setting) (code : CodeT ℕ) (frames : List ℕ) → Fits s code frames → ℕ → Site
 site s code frames fits n = record { s = s; code = code; frames = frames; fits = fits; bound = n; prev = below s n; prev' = mid_below (over_worlds temporaries code frames) n; grows = below_grows code frames n; is_below = refl }
 
-module _ (S : Site) (v : Bool) where
+module _ (S : Site) (v : Giving) where
   abbrev R : NodesT ℕ → Mid → Res Mid
   R = M S
 
@@ -117,27 +137,67 @@ module _ (S : Site) (v : Bool) where
   zero_now : (γ : Goal) (s0 : ℕ) (w : World) (x : Side) → Now γ s0 w x → Now γ s0 (spend 0 w) x
   zero_now γ s0 w x h0 = now_work γ s0 s0 w (spend 0 w) x x.work refl (omega (arith, h0.cost)) h0
 
-  params_sim : (γ : Goal) (tys : List Ty) → ScalarTypes tys → (vs : List Cell) (s0 k a : ℕ) (w : World) (x : Side) (c : NodesT ℕ) → γ.first ≡ 0 → 16 ≤ a → Now γ (s0 + 16 * length vs) w x → Firsts a tys vs x.temps → (go : World → Done) → ((wa : World) (xa : Side) → Now γ s0 wa xa → SimF v γ (go wa) (R c (mk wa xa)))
-      → SimF v γ (then_went Ended (params_stored S.s S.bound k tys vs w) go) (R (all_received h tys k a c) (mk w x))
-  params_sim γ [] sc [] s0 k a w x c e sa h0 fs go f = f w x (spare γ (s0 + 16 * 0) s0 w x (omega arith) h0)
-  params_sim γ [] sc (z ∷ vs) s0 k a w x c e sa h0 fs go f = R_grows c (mk w x)
-  params_sim γ (ty ∷ tys) sc [] s0 k a w x c e sa h0 fs go f = R_grows (all_received h (ty ∷ tys) k a c) (mk w x)
-  params_sim γ (ty ∷ tys) sc (z ∷ vs) s0 k a w x c e sa h0 fs go f =
+  -- what a parameter leaves: the place of a result, and the arguments
+  abbrev Beyond : Side → Side → Type 0
+  Beyond x y = (y.temps part.result_at ≡ x.temps part.result_at) × ((j : ℕ) → 16 ≤ j → y.temps j ≡ x.temps j)
+
+  -- what follows a parameter
+  abbrev Onward : Goal → ℕ → Side → NodesT ℕ → (World → Went) → (World → Done) → Type 0
+  Onward γ s x c rest go = (u : World) (y : Side) → Now γ s u y → Beyond x y → SimF v γ (then_went Ended (rest u) go) (R c (mk u y))
+
+  -- a cell is stored
+  cell_received : (γ : Goal) (ty : Ty) (z : Cell) (s k a : ℕ) (w : World) (x : Side) (c : NodesT ℕ) → γ.first ≡ 0 → is_structure ty ≡ false → 16 ≤ a → Now γ (s + 16) w x → x.temps a ≡ z → (rest : World → Went) (go : World → Done) → Onward γ s x c rest go
+      → SimF v γ (then_went Ended (asked CutOff nowhere w (first_cell (local_object w.store.locals k)) (λ p. then_went CutOff (stored S.s S.bound 0 ty nowhere p z w) rest)) go) (R (lowered.received h ty k a c) (mk w x))
+  cell_received γ ty z s k a w x c e scalar sa h0 at rest go f =
       let t : ℕ = part.param_at k in
       let small : t < 16 = param_fixed k in
-      let c1 : NodesT ℕ = all_received h tys (k + 1) (a + 1) c in
-      let rest : World → Went = params_stored S.s S.bound (k + 1) tys vs in
       let inside : Cell → Went = λ p. then_went CutOff (stored S.s S.bound 0 ty nowhere p z w) rest in
-      subst (λ q. SimF v γ (then_went Ended (asked CutOff nowhere w (first_cell (local_object w.store.locals k)) inside) go) (R (if q then Do (MoveO part.from a) (Do (LocalO part.to k) (part.copied (words h ty) c1)) else Do (LocalO t k) (Do (StoreO t a) c1)) (mk w x))) (sym sc.0)
-      (op S γ (way_w γ go) (s0 + 16 * length vs + 8) nowhere w x t (first_cell (local_object w.store.locals k)) (first_cell (local_object (w.store.locals ++ x.extra) k)) (LocalO t k) (Do (StoreO t a) c1)
-      (spare γ (s0 + 16 * suc (length vs)) (s0 + 16 * length vs + 8 + 8) w x (omega arith) h0) (λ j g l ne. absurd (omega (arith, l, e))) (local_front w.store.locals x.extra k) refl inside
-      (λ p y hy at keep.
-      subst (λ d. SimF v γ d (R (Do (StoreO t a) c1) (mk w y))) (sym (went_went Ended (stored S.s S.bound 0 ty nowhere p z w) rest go))
-      (subst (λ q. SimF v γ (then_went Ended (if q then cells_set nowhere (0 + 1) S.bound (words h ty) (Some z) p w else asked CutOff nowhere (spend 0 w) (write w.store.objects p z) (λ os. Through (on_store (with_objects os) (spend 0 w)))) (λ u. then_went Ended (rest u) go)) (R (Do (StoreO t a) c1) (mk w y))) (sym sc.0)
-      (subst (λ d. SimF v γ d (R (Do (StoreO t a) c1) (mk w y))) (sym (went_asked Ended nowhere (spend 0 w) (write w.store.objects p z) (λ os. on_store (with_objects os) (spend 0 w)) (λ u. then_went Ended (rest u) go)))
-      (stores S γ (way_f γ) nowhere (spend 0 w) (s0 + 16 * length vs) y t a p z c1 (zero_now γ (s0 + 16 * length vs + 8) w y hy) at (keep a (eqb_more a t (omega (arith, sa, small))) ∙ fs.0) (λ u. then_went Ended (rest u) go)
-      (λ os u hu alike. params_sim γ tys sc.1 vs s0 (k + 1) (a + 1) (on_store (with_objects os) (spend 0 w)) u c e (omega (arith, sa)) hu
-      (firsts_same (a + 1) tys vs x.temps u.temps (λ j le. alike j ∙ keep j (eqb_more j t (omega (arith, le, sa, small)))) fs.1) go f))))))
+      subst (λ q. SimF v γ (then_went Ended (asked CutOff nowhere w (first_cell (local_object w.store.locals k)) inside) go) (R (if q then Do (MoveO part.from a) (Do (LocalO part.to k) (part.copied (words h ty) c)) else Do (LocalO t k) (Do (StoreO t a) c)) (mk w x))) (sym scalar)
+      (op S γ (way_w γ go) (s + 8) nowhere w x t (first_cell (local_object w.store.locals k)) (first_cell (local_object (w.store.locals ++ x.extra) k)) (LocalO t k) (Do (StoreO t a) c)
+      (spare γ (s + 16) (s + 8 + 8) w x (omega arith) h0) (λ j g l ne. absurd (omega (arith, l, e))) (local_front w.store.locals x.extra k) refl inside
+      (λ p y hy ey keep.
+      subst (λ d. SimF v γ d (R (Do (StoreO t a) c) (mk w y))) (sym (went_went Ended (stored S.s S.bound 0 ty nowhere p z w) rest go))
+      (subst (λ q. SimF v γ (then_went Ended (if q then cells_set nowhere (0 + 1) S.bound (words h ty) (Some z) p w else asked CutOff nowhere (spend 0 w) (write w.store.objects p z) (λ os. Through (on_store (with_objects os) (spend 0 w)))) (λ u. then_went Ended (rest u) go)) (R (Do (StoreO t a) c) (mk w y))) (sym scalar)
+      (subst (λ d. SimF v γ d (R (Do (StoreO t a) c) (mk w y))) (sym (went_asked Ended nowhere (spend 0 w) (write w.store.objects p z) (λ os. on_store (with_objects os) (spend 0 w)) (λ u. then_went Ended (rest u) go)))
+      (stores S γ (way_f γ) nowhere (spend 0 w) s y t a p z c (zero_now γ (s + 8) w y hy) ey (keep a (eqb_more a t (omega (arith, sa, small))) ∙ at) (λ u. then_went Ended (rest u) go)
+      (λ os u hu alike. f (on_store (with_objects os) (spend 0 w)) u hu (alike part.result_at ∙ keep part.result_at (param_elsewhere k), λ j le. alike j ∙ keep j (eqb_more j t (omega (arith, le, small))))))))))
+
+  -- a structure is copied: where the run ends at that, there is more to spare
+  structure_received : (γ : Goal) (ty : Ty) (z : Cell) (s k a : ℕ) (w : World) (x : Side) (c : NodesT ℕ) → 16 ≤ γ.ends → is_structure ty ≡ true → Now γ (s + 16) w x → x.temps a ≡ z → (rest : World → Went) (go : World → Done) → Onward γ s x c rest go
+      → SimF v γ (then_went Ended (asked CutOff nowhere w (first_cell (local_object w.store.locals k)) (λ p. then_went CutOff (stored S.s S.bound 0 ty nowhere p z w) rest)) go) (R (lowered.received h ty k a c) (mk w x))
+  structure_received γ ty z s k a w x c more_at_ends structure h0 at rest go f =
+      let size : ℕ = words h ty in
+      let few : size < 2 ^ 32 = in_words (words_of h.layouts ty) in
+      let first : Answer Cell = first_cell (local_object w.store.locals k) in
+      let inside : Cell → Went = λ p. then_went CutOff (cells_set nowhere 1 S.bound size (Some z) p w) rest in
+      let γ1 : Goal = record γ { from = γ.from + 16; ends = 0 } in
+      let σ : Way γ1 = record { R = Done; stop = Ended; T = SimF v γ; stops = λ g u m q. kept_wider γ γ1 (omega (arith, more_at_ends)) g u m q } in
+      let c2 : NodesT ℕ = part.copied size c in
+      subst (λ q. SimF v γ (then_went Ended (asked CutOff nowhere w first (λ p. then_went CutOff (if q then cells_set nowhere (0 + 1) S.bound size (Some z) p w else asked CutOff nowhere (spend 0 w) (write w.store.objects p z) (λ os. Through (on_store (with_objects os) (spend 0 w)))) rest)) go) (R (if q then Do (MoveO part.from a) (Do (LocalO part.to k) c2) else Do (LocalO (part.param_at k) k) (Do (StoreO (part.param_at k) a) c)) (mk w x))) (sym structure)
+      (sets S (SimF v γ) γ (s + 8) w x part.from z (MoveO part.from a) (Do (LocalO part.to k) c2) (spare γ (s + 16) (s + 8 + 8) w x (omega arith) h0) (low_free γ part.from (omega arith)) (ap (λ q. to temporaries part.from (Ok q) (spent 8 (mk w x))) at) (then_went Ended (asked CutOff nowhere w first inside) go) (λ y hy ey rest1.
+      op S γ (way_w γ go) s nowhere w y part.to first (first_cell (local_object (w.store.locals ++ y.extra) k)) (LocalO part.to k) c2 hy (low_free γ part.to (omega arith)) (local_front w.store.locals y.extra k) refl inside (λ p u hu eu rest2.
+      subst (λ d. SimF v γ d (R c2 (mk w u))) (sym (went_went Ended (cells_set nowhere 1 S.bound size (Some z) p w) rest go))
+      (copies S γ1 nowhere 1 (omega arith) σ s size (omega (arith, few)) z p w u c (record { stays = hu.stays; below = hu.below; cost = omega (arith, hu.cost) }) (rest2 part.from refl ∙ ey) eu (λ q. then_went Ended (rest q) go) (λ wb xb hb others.
+      f wb xb (record { stays = hb.stays; below = hb.below; cost = omega (arith, hb.cost) })
+      (others part.result_at (omega arith) ∙ rest2 part.result_at refl ∙ rest1 part.result_at refl, λ j le. others j (omega (arith, le)) ∙ rest2 j (eqb_more j part.to (omega (arith, le))) ∙ rest1 j (eqb_more j part.from (omega (arith, le)))))))))
+
+  received_sim : (γ : Goal) (ty : Ty) (z : Cell) (s k a : ℕ) (w : World) (x : Side) (c : NodesT ℕ) → γ.first ≡ 0 → 16 ≤ γ.ends → 16 ≤ a → Now γ (s + 16) w x → x.temps a ≡ z → (rest : World → Went) (go : World → Done) → Onward γ s x c rest go
+      → SimF v γ (then_went Ended (asked CutOff nowhere w (first_cell (local_object w.store.locals k)) (λ p. then_went CutOff (stored S.s S.bound 0 ty nowhere p z w) rest)) go) (R (lowered.received h ty k a c) (mk w x))
+  received_sim γ ty z s k a w x c e more_at_ends sa h0 at rest go f = by (is_structure ty) refl
+    where
+      by : (b : Bool) → is_structure ty ≡ b → SimF v γ (then_went Ended (asked CutOff nowhere w (first_cell (local_object w.store.locals k)) (λ p. then_went CutOff (stored S.s S.bound 0 ty nowhere p z w) rest)) go) (R (lowered.received h ty k a c) (mk w x))
+      by true structure = structure_received γ ty z s k a w x c more_at_ends structure h0 at rest go f
+      by false scalar = cell_received γ ty z s k a w x c e scalar sa h0 at rest go f
+
+  params_sim : (γ : Goal) (tys : List Ty) (vs : List Cell) (s0 k a : ℕ) (w : World) (x : Side) (c : NodesT ℕ) → γ.first ≡ 0 → 16 ≤ γ.ends → 16 ≤ a → Now γ (s0 + 16 * length vs) w x → Firsts a tys vs x.temps → (go : World → Done) → ((wa : World) (xa : Side) → Now γ s0 wa xa → xa.temps part.result_at ≡ x.temps part.result_at → SimF v γ (go wa) (R c (mk wa xa)))
+      → SimF v γ (then_went Ended (params_stored S.s S.bound k tys vs w) go) (R (all_received h tys k a c) (mk w x))
+  params_sim γ [] [] s0 k a w x c e more_at_ends sa h0 fs go f = f w x (spare γ (s0 + 16 * 0) s0 w x (omega arith) h0) refl
+  params_sim γ [] (z ∷ vs) s0 k a w x c e more_at_ends sa h0 fs go f = R_grows c (mk w x)
+  params_sim γ (ty ∷ tys) [] s0 k a w x c e more_at_ends sa h0 fs go f = R_grows (all_received h (ty ∷ tys) k a c) (mk w x)
+  params_sim γ (ty ∷ tys) (z ∷ vs) s0 k a w x c e more_at_ends sa h0 fs go f =
+      received_sim γ ty z (s0 + 16 * length vs) k a w x (all_received h tys (k + 1) (a + 1) c) e more_at_ends sa (spare γ (s0 + 16 * suc (length vs)) (s0 + 16 * length vs + 16) w x (omega arith) h0) fs.0 (params_stored S.s S.bound (k + 1) tys vs) go
+      (λ u y hu beyond. params_sim γ tys vs s0 (k + 1) (a + 1) u y c e more_at_ends (omega (arith, sa)) hu (firsts_same (a + 1) tys vs x.temps y.temps (λ j le. beyond.1 j (omega (arith, le, sa))) fs.1) go
+      (λ wa xa ha kept. f wa xa ha (kept ∙ beyond.0)))
 
   -- the body stands in a block
   blocked : (γ : Goal) (w0 : World) (x0 : Side) (m : ℕ) → Now γ 0 w0 x0 → (d : Done) (q : Res Mid) → SimD v (plain m w0 x0) 0 (ToEnd 0) (λ t. Next t) d q → SimF v γ d (then_next (block_done q) (R Stop))
@@ -145,7 +205,7 @@ module _ (S : Site) (v : Bool) where
   blocked γ w0 x0 m h0 (Breaks w) q a = subst (λ r. Prefix w.events (events_of (then_next (block_done r) (R Stop)))) (sym a.1) (all_of w.events)
   blocked γ w0 x0 m h0 (Continues w) q a = subst (λ r. Prefix w.events (events_of (then_next (block_done r) (R Stop)))) (sym a.1) (all_of w.events)
   blocked γ w0 x0 m h0 (Returns None w) q a = (a.0, ap (λ r. then_next (block_done r) (R Stop)) a.1, record { under = a.2.under; later = later_then γ.base.objects w0.store.objects w.store.objects h0.stays.later a.2.later; cost = omega (arith, h0.cost, a.2.cost) })
-  blocked γ w0 x0 m h0 (Returns (Some c) w) q a = (a.0, a.1, ap (λ r. then_next (block_done r) (R Stop)) a.2, record { under = a.3.under; later = later_then γ.base.objects w0.store.objects w.store.objects h0.stays.later a.3.later; cost = omega (arith, h0.cost, a.3.cost) }, a.4)
+  blocked γ w0 x0 m h0 (Returns (Some c) w) q a = (a.0, ap (λ r. then_next (block_done r) (R Stop)) a.1, record { under = a.2.under; later = later_then γ.base.objects w0.store.objects w.store.objects h0.stays.later a.2.later; cost = omega (arith, h0.cost, a.2.cost) }, a.3)
   blocked γ w0 x0 m h0 (Ended f w) q a = kept_through γ f w q (λ r. then_next (block_done r) (R Stop)) (λ g t. refl) (λ r. more _ _ _ (block_grows r) (then_grows (block_done r) (R Stop) (R_grows Stop))) (kept_wider γ (plain m w0 x0) (omega (arith, h0.cost)) f w q a)
 
 module _ (s : Setting) (code : CodeT ℕ) (frames : List ℕ) (lowers : Lowers s code frames) where
@@ -153,33 +213,32 @@ module _ (s : Setting) (code : CodeT ℕ) (frames : List ℕ) (lowers : Lowers s
   at n = site s code frames lowers.fits n
 
   function_sim : (n : ℕ) → Earlier (at n) → BodiesFollow (at (suc n))
-  function_sim i before f g eg vs w x u =
+  function_sim i before f g eg vs r w x u =
       let S : Site = at i in
+      let us : List Cell = handed g.gives r vs in
       let w1 : World = on_store (entered s.sizes f) w in
-      let x1 : Side = at_entry S f vs x in
+      let x1 : Side = at_entry S f us x in
       let γ : Goal = body_goal vs w1 x1 in
       let own : ℕ = length g.locals in
-      let void : Bool = is_void g.gives in
+      let v : Giving = giving g.gives r in
       let n : ℕ = first_of g.params in
       let cb : NodesT ℕ = low_stmts (shape_in s) g.gives g.body n (length g.locals) 0 (ToEnd 0) Stop in
-      let sc = lowers.fits.scalar f g eg in
       let counts : length w1.store.locals ≡ own = unmade_length (s.sizes.locals f) ∙ ap (λ l. length l) (lowers.own f g eg) in
       let home : HomeOf s code frames g.gives (Some f) own = record {
-        words = λ k lt. ap (λ l. get_or l k 0) (lowers.fits.locals f) ∙ get_front (s.sizes.locals f) (lowers.fits.more f) k (omega (arith, lt, ap (λ l. length l) (lowers.own f g eg)));
+        words = λ k lt. ap (λ l. get_or l k 0) (lowers.fits.locals f) ∙ get_first (s.sizes.locals f) (lowers.fits.more f) k (omega (arith, lt, ap (λ l. length l) (lowers.own f g eg)));
         result = ap (λ o. option_map_or (λ k. k.gives) o VoidY) eg;
-        scalar = sc.1;
       } in
-      subst (λ o. SimF void γ (body_of s i (below s i) o vs Unwritten w1) (M S (function_at code f).body (mk w1 x1))) (sym eg)
-      (subst (λ c. SimF void γ (body_of s i (below s i) (Some g) vs Unwritten w1) (M S c (mk w1 x1))) (sym (lowers.body f g eg))
-      (mades S g.gives γ (8 + 16 * length vs) (SimF void γ) g.made w1 x1 (all_received (shape_in s) g.params 0 part.first_param (Block cb Stop)) (subst (λ o. HomeOf s code frames g.gives (Some f) o) (sym counts) home) (subst (λ o. Below o g.made) (sym counts) (lowers.made f g eg))
+      let handed_there : Firsts part.first_param g.params vs x1.temps × AtPlace g.gives r x1.temps = subst (λ ps. Firsts part.first_param g.params vs (received temporaries ps us) × AtPlace g.gives r (received temporaries ps us)) (sym (lowers.fits.params f g eg)) (handed_received g.gives r g.params vs) in
+      subst (λ o. SimF v γ (body_of s i (below s i) o vs r w1) (M S (function_at code f).body (mk w1 x1))) (sym eg)
+      (subst (λ c. SimF v γ (body_of s i (below s i) (Some g) vs r w1) (M S c (mk w1 x1))) (sym (lowers.body f g eg))
+      (mades S g.gives γ (8 + 16 * length vs) (SimF v γ) g.made w1 x1 (all_received (shape_in s) g.params 0 part.first_param (Block cb Stop)) (subst (λ o. HomeOf s code frames g.gives (Some f) o) (sym counts) home) (subst (λ o. Below o g.made) (sym counts) (lowers.made f g eg))
       (record { stays = stays_here w1 x1 (record { under = u; unused = λ k le. subst (Gone w1.store.objects) (sym (unmade_none (lowers.fits.more f) k)) tt }); below = λ j a lt ne. refl; cost = omega arith })
-      (λ y. then_went Ended (params_stored s i 0 g.params vs y) (does_all s i (below s i) Unwritten g.body))
-      (λ wa xa ha same_temps. params_sim S void γ g.params sc.0 vs 8 0 part.first_param wa xa (Block cb Stop) refl (omega arith) ha
-      (subst (Firsts part.first_param g.params vs) (sym same_temps) (subst (λ ps. Firsts part.first_param g.params vs (received temporaries ps vs)) (sym (lowers.fits.params f g eg)) (firsts_received part.first_param g.params vs))) (does_all s i (below s i) Unwritten g.body)
-      (λ wb xb hb. blocked S void γ wb (paid xb) n (paid_now γ 0 wb xb hb) (does_all s i (below s i) Unwritten g.body wb) (M S cb (mk wb (paid xb)))
-      (all_sim S before Unwritten g.gives void own g.body (lowers.tidy f g eg) n (length g.locals) 0 (ToEnd 0) Stop wb (paid xb) (omega arith) hb.stays.fit (subst (λ fn. HomeOf s code frames g.gives fn own) (sym hb.stays.same_function) home) (hb.stays.same_own ∙ counts) (room_at S γ.base own (stmts_sizes (shape_in s) g.body) wb xb (room_for own counts) hb.stays))))))
+      (λ y. then_went Ended (params_stored s i 0 g.params vs y) (does_all s i (below s i) r g.body))
+      (λ wa xa ha same_temps. params_sim S v γ g.params vs 8 0 part.first_param wa xa (Block cb Stop) refl (omega arith) (omega arith) ha (subst (Firsts part.first_param g.params vs) (sym same_temps) handed_there.0) (does_all s i (below s i) r g.body)
+      (λ wb xb hb kept. blocked S v γ wb (paid xb) n (paid_now γ 0 wb xb hb) (does_all s i (below s i) r g.body wb) (M S cb (mk wb (paid xb)))
+      (all_sim S before r g.gives own g.body (lowers.tidy f g eg) n (length g.locals) 0 (ToEnd 0) Stop wb (paid xb) (omega arith) hb.stays.fit (λ structure. kept ∙ ap (λ temps. temps part.result_at) same_temps ∙ handed_there.1 structure) (subst (λ fn. HomeOf s code frames g.gives fn own) (sym hb.stays.same_function) home) (hb.stays.same_own ∙ counts) (room_at S γ.base own (stmts_sizes (shape_in s) g.body) wb xb (room_for own counts) hb.stays))))))
     where
-      room_for : (own : ℕ) → length (unmade (s.sizes.locals f)) ≡ own → Room (at i) (base_of (on_store (entered s.sizes f) w) (at_entry (at i) f vs x)) own (stmts_sizes (shape_in s) g.body)
+      room_for : (own : ℕ) → length (unmade (s.sizes.locals f)) ≡ own → Room (at i) (base_of (on_store (entered s.sizes f) w) (at_entry (at i) f (handed g.gives r vs) x)) own (stmts_sizes (shape_in s) g.body)
       room_for own e =
           let el = unmade_length (s.sizes.locals f) in
           let em = unmade_length (lowers.fits.more f) in
@@ -200,21 +259,21 @@ module _ (s : Setting) (code : CodeT ℕ) (frames : List ℕ) (lowers : Lowers s
   step : (n : ℕ) → Earlier (at n) → Earlier (at (suc n))
   step i before = record {
     called = function_sim i before;
-    while_turn = λ r ty v own e a n m b j w x u home eo sce sca sn room. while_sim (at i) before r ty v own e a sce (stmt_sim (at i) before r ty v own a sca) (turning n w x) (omega arith) n m b j Stop w x sn (omega arith) home eo (turn_now n w x u) (below s i (Turn r (Some e) None a)) room
-        (λ wa xa ha. turn_wide v (turning n w x) (omega arith) n b j k_next wa xa ha (omega arith) (below s i (Turn r (Some e) None a) wa) (mid_below (over_worlds temporaries code frames) i (low_stmt its_shape ty (WhileZ e a) n m 0 (ToEnd 0) Stop) (mk wa xa)) (before.while_turn r ty v own e a n m b j wa xa ha.stays.fit (subst (λ fn. HomeOf s code frames ty fn own) (sym ha.stays.same_function) home) (ha.stays.same_own ∙ eo) sce sca sn (room_at (at i) (base_of w x) m (value_sizes its_shape e ++ stmt_sizes its_shape a) wa xa room ha.stays)));
-    do_turn = λ r ty v own e a n m b j w x u home eo sce sca sn room. do_sim (at i) before r ty v own e a sce (stmt_sim (at i) before r ty v own a sca) (turning n w x) (omega arith) n m b j Stop w x sn (omega arith) home eo (turn_now n w x u) (below s i (DoTurn r a e)) room
-        (λ wa xa ha. turn_wide v (turning n w x) (omega arith) n b j k_next wa xa ha (omega arith) (below s i (DoTurn r a e) wa) (mid_below (over_worlds temporaries code frames) i (low_stmt its_shape ty (DoWhileZ a e) n m 0 (ToEnd 0) Stop) (mk wa xa)) (before.do_turn r ty v own e a n m b j wa xa ha.stays.fit (subst (λ fn. HomeOf s code frames ty fn own) (sym ha.stays.same_function) home) (ha.stays.same_own ∙ eo) sce sca sn (room_at (at i) (base_of w x) m (stmt_sizes its_shape a ++ value_sizes its_shape e) wa xa room ha.stays)));
-    for_turn = λ r ty v own test each a n m b j w x u home eo sct scs sca sn room. for_sim (at i) before r ty v own test each a sct scs (stmt_sim (at i) before r ty v own a sca) (turning n w x) (omega arith) n m b j Stop w x sn (omega arith) home eo (turn_now n w x u) room (below s i (Turn r test each a))
-        (λ wa xa ha. turn_wide v (turning n w x) (omega arith) n b j k_next wa xa ha (omega arith) (below s i (Turn r test each a) wa) (mid_below (over_worlds temporaries code frames) i (low.turns its_shape test each a (λ k l. low_stmt its_shape ty a k l 1 (ToEnd 0) Stop) n m Stop) (mk wa xa)) (before.for_turn r ty v own test each a n m b j wa xa ha.stays.fit (subst (λ fn. HomeOf s code frames ty fn own) (sym ha.stays.same_function) home) (ha.stays.same_own ∙ eo) sct scs sca sn (room_at (at i) (base_of w x) m (maybe_sizes its_shape test ++ (stmt_sizes its_shape a ++ maybe_sizes its_shape each)) wa xa room ha.stays)));
+    while_turn = λ r ty own e a n m b j w x u place home eo sce sca sn room. while_sim (at i) before r ty own e a sce (stmt_sim (at i) before r ty own a sca) (turning n w x) (omega arith) n m b j Stop w x sn (omega arith) (has_place ty r n w x sn place) home eo (turn_now n w x u) (below s i (Turn r (Some e) None a)) room
+        (λ wa xa ha. turn_wide (giving ty r) (turning n w x) (omega arith) n b j k_next wa xa ha (omega arith) (below s i (Turn r (Some e) None a) wa) (mid_below (over_worlds temporaries code frames) i (low_stmt its_shape ty (WhileZ e a) n m 0 (ToEnd 0) Stop) (mk wa xa)) (before.while_turn r ty own e a n m b j wa xa ha.stays.fit (has_place ty r n w x sn place xa.temps ha.below) (subst (λ fn. HomeOf s code frames ty fn own) (sym ha.stays.same_function) home) (ha.stays.same_own ∙ eo) sce sca sn (room_at (at i) (base_of w x) m (value_sizes its_shape e ++ stmt_sizes its_shape a) wa xa room ha.stays)));
+    do_turn = λ r ty own e a n m b j w x u place home eo sce sca sn room. do_sim (at i) before r ty own e a sce (stmt_sim (at i) before r ty own a sca) (turning n w x) (omega arith) n m b j Stop w x sn (omega arith) (has_place ty r n w x sn place) home eo (turn_now n w x u) (below s i (DoTurn r a e)) room
+        (λ wa xa ha. turn_wide (giving ty r) (turning n w x) (omega arith) n b j k_next wa xa ha (omega arith) (below s i (DoTurn r a e) wa) (mid_below (over_worlds temporaries code frames) i (low_stmt its_shape ty (DoWhileZ a e) n m 0 (ToEnd 0) Stop) (mk wa xa)) (before.do_turn r ty own e a n m b j wa xa ha.stays.fit (has_place ty r n w x sn place xa.temps ha.below) (subst (λ fn. HomeOf s code frames ty fn own) (sym ha.stays.same_function) home) (ha.stays.same_own ∙ eo) sce sca sn (room_at (at i) (base_of w x) m (stmt_sizes its_shape a ++ value_sizes its_shape e) wa xa room ha.stays)));
+    for_turn = λ r ty own test each a n m b j w x u place home eo sct scs sca sn room. for_sim (at i) before r ty own test each a sct scs (stmt_sim (at i) before r ty own a sca) (turning n w x) (omega arith) n m b j Stop w x sn (omega arith) (has_place ty r n w x sn place) home eo (turn_now n w x u) room (below s i (Turn r test each a))
+        (λ wa xa ha. turn_wide (giving ty r) (turning n w x) (omega arith) n b j k_next wa xa ha (omega arith) (below s i (Turn r test each a) wa) (mid_below (over_worlds temporaries code frames) i (low.turns its_shape test each a (λ k l. low_stmt its_shape ty a k l 1 (ToEnd 0) Stop) n m Stop) (mk wa xa)) (before.for_turn r ty own test each a n m b j wa xa ha.stays.fit (has_place ty r n w x sn place xa.temps ha.below) (subst (λ fn. HomeOf s code frames ty fn own) (sym ha.stays.same_function) home) (ha.stays.same_own ∙ eo) sct scs sca sn (room_at (at i) (base_of w x) m (maybe_sizes its_shape test ++ (stmt_sizes its_shape a ++ maybe_sizes its_shape each)) wa xa room ha.stays)));
   }
 
   -- with a bound of 0 all is out of bound
   none : Earlier (at 0)
   none = record {
-    called = λ f g e vs w x u. (at_entry (at 0) f vs x, refl, record { under = u; cost = omega arith });
-    while_turn = λ r ty v own e a n m b j w x u home eo sce sca sn room. (x, refl, record { under = u.under; cost = omega arith });
-    do_turn = λ r ty v own e a n m b j w x u home eo sce sca sn room. (x, refl, record { under = u.under; cost = omega arith });
-    for_turn = λ r ty v own test each a n m b j w x u home eo sct scs sca sn room. (x, refl, record { under = u.under; cost = omega arith });
+    called = λ f g e vs r w x u. (at_entry (at 0) f (handed g.gives r vs) x, refl, record { under = u; cost = omega arith });
+    while_turn = λ r ty own e a n m b j w x u place home eo sce sca sn room. (x, refl, record { under = u.under; cost = omega arith });
+    do_turn = λ r ty own e a n m b j w x u place home eo sce sca sn room. (x, refl, record { under = u.under; cost = omega arith });
+    for_turn = λ r ty own test each a n m b j w x u place home eo sct scs sca sn room. (x, refl, record { under = u.under; cost = omega arith });
   }
 
   -- at every bound mid code follows

@@ -1,58 +1,46 @@
 -- Every form of an expression: mid code follows it.
-use Rattle.std.proofs.Common.{◌≡◌, ℕ, suc, ◌+◌, ◌*◌, ◌<◌, ◌≤◌, Bool, true, false, List, [], ◌∷◌, ◌++◌, length, slice_get, Option, Some, None, Ok, refl, sym, ap, ◌∙◌, subst, arith}
-use Rattle.std.specs.Option.{option_map_or}
+use Rattle.std.proofs.Common.{◌≡◌, ℕ, ◌+◌, Bool, true, false, List, [], ◌∷◌, ◌++◌, length, Some, None, Ok, refl, sym, ap, subst, arith}
 use Rattle.std.proofs.lemmas.Bool.{false≢true}
 use Rattle.c_tree.specs.declared.span.Span.{Span}
 use Rattle.c_tree.specs.declared.operator.UnOp.TheVariants as un
 use Rattle.c_types.specs.Types.{Ty}
 use Rattle.c_types.specs.Typed.{TExprT, Typed, TKindT, NumberK, NullK, LiteralK, GlobalK, LocalK, UnaryK, BinaryK, AssignK, StepK, IndexK, MemberK, ArrowK, CastK, CallK, InK, OutK, WaitK, HaltK, CardK, TExprTs, NoX, MoreX}
-use Rattle.c_types.specs.Programs.{TFunctionT}
 use Rattle.c_exprs.specs.Nodes.{is_place}
 use Rattle.kit_base.specs.declared.event.Event.TheVariants as event
-use Rattle.obj_mem.specs.declared.cell.Cell.{Cell}
 use Rattle.obj_mem.specs.declared.cell.Cell.TheVariants.{Num, Ptr, Null}
 use Rattle.obj_mem.specs.Stores.{local_object}
 use Rattle.obj_mem.specs.Worlds.{World, spend, happened}
 use Rattle.obj_mem.specs.Queries.{first_cell}
-use Rattle.c_meaning.specs.declared.end.End.TheVariants.{Halted, Stray}
-use Rattle.c_meaning.specs.Kinds.{type_of, span_of, is_structure}
-use Rattle.c_meaning.specs.Outcomes.{Val, Place, Vals, Short, asked, then_values, in_front}
-use Rattle.c_meaning.specs.Operators.{converted}
+use Rattle.c_meaning.specs.declared.end.End.TheVariants.{Halted}
+use Rattle.c_meaning.specs.Kinds.{type_of, is_structure}
+use Rattle.c_meaning.specs.Outcomes.{Place}
 use Rattle.c_meaning.specs.Expressions as src
 use Rattle.c_meaning.specs.Expressions.{evaluated, evaluated_all}
 use Rattle.mid_code.specs.Code.{LocalO, GlobalO, LiteralO, CardO, ConstO, NullO, NodesT}
 use Rattle.mid_code.specs.Meaning.{Res}
 use Rattle.mid_code.specs.States.{temporaries, to, spent}
-use Rattle.mid_lower.specs.Shape.{Shape, shape_in, result_of}
-use Rattle.mid_lower.specs.Flags.{is_flag}
+use Rattle.mid_lower.specs.Shape.{Shape, shape_in, params_of}
 use Rattle.mid_lower.specs.Parts as part
-use Rattle.mid_lower.specs.Counts.{one_size, sizes, sizes_all, value_sizes}
+use Rattle.mid_lower.specs.Counts.{sizes, value_sizes}
 use Rattle.mid_lower.specs.Expressions as low
 use Rattle.mid_lower.specs.Expressions.{low_args, spots}
-use Rattle.mid_lower.proofs.Grows.{Mid, Grows}
+use Rattle.mid_lower.proofs.Grows.{Mid}
 use Rattle.mid_lower.proofs.Fits.{Site}
 use Rattle.mid_lower.proofs.Structures.{structure_goal, SimS, FollowValue, reads}
 use Rattle.mid_lower.proofs.StructureUses.{assign_structure}
 use Rattle.mid_lower.proofs.StructureMembers.{FollowStructure, of_structure, member_structure, member_cell}
-use Rattle.mid_lower.proofs.Room.{join_length, Room, room_first, room_second}
-use Rattle.mid_lower.proofs.Following.{base_of, Side, mk, goal, Now, Way, way_v, SimV, scratch, paid, paid_now, less_now, fin_now, stopped, spare, at_free, above_free, eqb_less, M, M_grows, op}
+use Rattle.mid_lower.proofs.Room.{join_length}
+use Rattle.mid_lower.proofs.Following.{mk, goal, way_v, SimV, paid, paid_now, less_now, fin_now, stopped, at_free, M, op}
 use Rattle.mid_lower.proofs.Trees.{Plain, PlainKind, PlainAll, PlainStructure}
-use Rattle.mid_lower.proofs.Storing.{converts}
-use Rattle.mid_lower.proofs.Values.{local_front, Follow, uses}
-use Rattle.mid_lower.proofs.Calling.{Holds, BodiesFollow, called_sim, front_is}
+use Rattle.mid_lower.proofs.Values.{local_front, Follow}
+use Rattle.mid_lower.proofs.Calling.{BodiesFollow}
+use Rattle.mid_lower.proofs.ArgumentForms.{FollowAll, no_arguments, more_arguments, call_value, call_structure}
 use Rattle.mid_lower.proofs.OperatorForms.{leaf_value, leaf_place, begin_value, begin_place, to_place, address_sim, unary_sim, binary_sim}
 use Rattle.mid_lower.proofs.PlaceForms.{assign_sim, step_sim, index_sim, arrow_sim, member_sim, cast_sim, input_sim, output_sim, event_now}
-
-params_are : (o : Option TFunctionT) → src.params_of o ≡ option_map_or (λ g. g.params) o []
-params_are None = refl
-params_are (Some g) = refl
 
 module _ (S : Site) (bodies : BodiesFollow S) where
   abbrev R : NodesT ℕ → Mid → Res Mid
   R = M S
-
-  abbrev R_grows : (c : NodesT ℕ) (t : Mid) → Grows t (R c t)
-  R_grows = M_grows S
 
   abbrev h : Shape
   h = shape_in S.s
@@ -98,10 +86,10 @@ module _ (S : Site) (bodies : BodiesFollow S) where
       by false e = of_structure S (Typed (MemberK (Typed kind ta sa) offset) ty span) e (inner_case (Typed kind ta sa) (g e) e ty span offset structure)
 
   mutual
-    pub expr_sim : (e : TExprT) → Plain e → Follow S e
+    pub expr_sim : (e : TExprT) → Plain h e → Follow S e
     expr_sim (Typed kind ty span) sc = kind_sim kind ty span sc
 
-    kind_sim : (kind : TKindT) (ty : Ty) (span : Span) → PlainKind kind ty → Follow S (Typed kind ty span)
+    kind_sim : (kind : TKindT) (ty : Ty) (span : Span) → PlainKind h kind ty → Follow S (Typed kind ty span)
     kind_sim (NumberK i) ty span sc t n m c w x st tn u room = leaf_value S t n w x (Num i) (ConstO t i) c u refl
     kind_sim NullK ty span sc t n m c w x st tn u room = leaf_value S t n w x Null (NullO t) c u refl
     kind_sim (LiteralK number) ty span sc t n m c w x st tn u room = leaf_place S t n w x (Ptr (S.s.sizes.first_literal + number) 0) (LiteralO t number) c u (ap (λ k. to temporaries t (Ok (Ptr (k + number) 0)) (spent 8 (mk w x))) S.fits.first_literal)
@@ -122,12 +110,7 @@ module _ (S : Site) (bodies : BodiesFollow S) where
     kind_sim (MemberK (Typed k tk sk) offset) ty span sc t n m c w x st tn u room = either_member (Typed k tk sk) ty span offset (λ e. expr_sim (Typed k tk sk) (sc.0 e)) (λ e. structure_sim (Typed k tk sk) (sc.1 e).0 e) (λ e. (sc.1 e).1) t n m c w x st tn u room
     kind_sim (ArrowK a offset) ty span sc t n m c w x st tn u room = arrow_sim S a (expr_sim a sc.0) sc.1 span offset t n m c w x st tn u room
     kind_sim (CastK a) ty span sc t n m c w x st tn u room = cast_sim S ty a (expr_sim a sc.0) sc.1 span t n m c w x st tn u room
-    kind_sim (CallK f xs) ty span sc t n m c w x st tn u room =
-        let γ = goal false t n w x in
-        let last : NodesT ℕ = low.called (result_of h f) f (m + length (sizes_all h xs)) t (spots xs n) c in
-        subst (λ tys. SimV γ (R c) false (then_values (evaluated_all S.s S.bound S.prev (src.params_of (slice_get S.s.functions f)) xs (tick w)) (λ vs v. src.call S.s S.bound S.prev f vs span v)) (R (low_args h tys xs n m last) (mk w x))) (params_are (slice_get S.s.functions f))
-        (args_sim xs sc (src.params_of (slice_get S.s.functions f)) t n w x 36 n m last c (tick w) x (begin_value S t n w x u) (omega arith) (omega (arith, st, tn)) (room_first S γ.base m (sizes_all h xs) (one_size h (result_of h f)) room) (λ vs v. src.call S.s S.bound S.prev f vs span v)
-        (λ vs wa xa ha holds below. called_sim S bodies t n (m + length (sizes_all h xs)) w x c f span (spots xs n) vs wa xa ha holds))
+    kind_sim (CallK f xs) ty span sc t n m c w x st tn u room = call_value S bodies f xs (args_sim xs (params_of h f) sc.0) ty span sc.1 t n m c w x st tn u room
     kind_sim (InK port) ty span sc t n m c w x st tn u room = input_sim S port w.store.answers t n c w x u
     kind_sim (OutK port a) ty span sc t n m c w x st tn u room = output_sim S port a (expr_sim a sc.0) sc.1 t n m c w x st tn u room
     kind_sim WaitK ty span sc t n m c w x st tn u room =
@@ -139,7 +122,7 @@ module _ (S : Site) (bodies : BodiesFollow S) where
     kind_sim CardK ty span sc t n m c w x st tn u room = leaf_value S t n w x (Ptr S.s.sizes.card 0) (CardO t) c u (ap (λ k. to temporaries t (Ok (Ptr k 0)) (spent 8 (mk w x))) S.fits.card)
 
     -- a structure's value that stands at no place
-    structure_sim : (e : TExprT) → PlainStructure e → is_place e ≡ false → FollowStructure S e
+    structure_sim : (e : TExprT) → PlainStructure h e → is_place e ≡ false → FollowStructure S e
     structure_sim (Typed (AssignK None a b) ty span) sc np = assign_case a b (expr_sim a sc.0) (value_sim b sc.2 sc.3) sc.1 ty span
     structure_sim (Typed (MemberK (Typed k tk sk) offset) ty span) sc np = inner_case (Typed k tk sk) (structure_sim (Typed k tk sk) (sc.1 np) np) np ty span offset sc.2
     structure_sim (Typed (GlobalK number) ty span) sc np = absurd (false≢true (sym np))
@@ -159,14 +142,14 @@ module _ (S : Site) (bodies : BodiesFollow S) where
     structure_sim (Typed (AssignK (Some o) a b) ty span) sc np = absurd sc
     structure_sim (Typed (StepK o a) ty span) sc np = absurd sc
     structure_sim (Typed (CastK a) ty span) sc np = absurd sc
-    structure_sim (Typed (CallK f xs) ty span) sc np = absurd sc
+    structure_sim (Typed (CallK f xs) ty span) sc np = call_structure S bodies f xs (args_sim xs (params_of h f) sc.0) ty span sc.1
     structure_sim (Typed (InK port) ty span) sc np = absurd sc
     structure_sim (Typed (OutK port a) ty span) sc np = absurd sc
     structure_sim (Typed WaitK ty span) sc np = absurd sc
     structure_sim (Typed HaltK ty span) sc np = absurd sc
     structure_sim (Typed CardK ty span) sc np = absurd sc
 
-    pub value_sim : (e : TExprT) → PlainStructure e → is_structure (type_of e) ≡ true → FollowValue S e
+    pub value_sim : (e : TExprT) → PlainStructure h e → is_structure (type_of e) ≡ true → FollowValue S e
     value_sim (Typed (AssignK None a b) ty span) sc st = of_structure S (Typed (AssignK None a b) ty span) refl (assign_case a b (expr_sim a sc.0) (value_sim b sc.2 sc.3) sc.1 ty span)
     value_sim (Typed (MemberK (Typed k tk sk) offset) ty span) sc st = either_inner (Typed k tk sk) ty span offset (λ e. expr_sim (Typed k tk sk) (sc.0 e)) (λ e. structure_sim (Typed k tk sk) (sc.1 e) e) st
     value_sim (Typed (GlobalK number) ty span) sc st = reads S (Typed (GlobalK number) ty span) (kind_sim (GlobalK number) ty span tt) refl st
@@ -186,32 +169,15 @@ module _ (S : Site) (bodies : BodiesFollow S) where
     value_sim (Typed (AssignK (Some o) a b) ty span) sc st = absurd sc
     value_sim (Typed (StepK o a) ty span) sc st = absurd sc
     value_sim (Typed (CastK a) ty span) sc st = absurd sc
-    value_sim (Typed (CallK f xs) ty span) sc st = absurd sc
+    value_sim (Typed (CallK f xs) ty span) sc st = of_structure S (Typed (CallK f xs) ty span) refl (call_structure S bodies f xs (args_sim xs (params_of h f) sc.0) ty span sc.1)
     value_sim (Typed (InK port) ty span) sc st = absurd sc
     value_sim (Typed (OutK port a) ty span) sc st = absurd sc
     value_sim (Typed WaitK ty span) sc st = absurd sc
     value_sim (Typed HaltK ty span) sc st = absurd sc
     value_sim (Typed CardK ty span) sc st = absurd sc
 
-    -- arguments, each in its temporary
-    args_sim : (xs : TExprTs) → PlainAll xs → (tys : List Ty) (t first : ℕ) (w0 : World) (y0 : Side) (s0 n m : ℕ) (c k : NodesT ℕ) (w : World) (x : Side) → Now (goal false t first w0 y0) s0 w x → first ≤ n → scratch ≤ n → Room S (base_of w0 y0) m (sizes_all h xs) → (go : List Cell → World → Val)
-        → ((vs : List Cell) (wa : World) (xa : Side) → Now (goal false t first w0 y0) (s0 + 20 * length vs) wa xa → Holds (spots xs n) vs xa.temps → ((j : ℕ) → scratch ≤ j → j < n → xa.temps j ≡ x.temps j) → SimV (goal false t first w0 y0) (R k) false (go vs wa) (R c (mk wa xa)))
-        → SimV (goal false t first w0 y0) (R k) false (then_values (evaluated_all S.s S.bound S.prev tys xs w) go) (R (low_args h tys xs n m c) (mk w x))
-    args_sim NoX sc tys t first w0 y0 s0 n m c k w x h0 le sn room go f = f [] w x (spare (goal false t first w0 y0) s0 (s0 + 20 * 0) w x (omega arith) h0) tt (λ j a b. refl)
-    args_sim (MoreX e xs) sc [] t first w0 y0 s0 n m c k w x h0 le sn room go f =
-        let γ = goal false t first w0 y0 in
-        let σ : Way γ = record { R = Vals; stop = Short; T = λ r q. SimV γ (R k) false (then_values r go) q; stops = λ i v q a. a } in
-        let c1 : NodesT ℕ = low_args h [] xs (low.second e n) (low.beyond h e m) c in
-        uses S γ σ s0 n (n + 1) m w x c1 h0 (above_free γ n le) (omega (arith, le)) sn (omega arith) e sc.0.1 (room_first S γ.base m (value_sizes h e) (sizes_all h xs) room) (λ d v. Short (Stray (span_of e)) v) (expr_sim e sc.0.0) (λ d wa xa flag ha ea below. R_grows c1 (mk wa xa))
-    args_sim (MoreX e xs) sc (ty ∷ tys) t first w0 y0 s0 n m c k w x h0 le sn room go f =
-        let γ = goal false t first w0 y0 in
-        let σ : Way γ = record { R = Vals; stop = Short; T = λ r q. SimV γ (R k) false (then_values r go) q; stops = λ i v q a. a } in
-        let n2 : ℕ = low.second e n in
-        let c1 : NodesT ℕ = low_args h tys xs n2 (low.beyond h e m) c in
-        uses S γ σ s0 n (n + 1) m w x (part.converted ty (is_flag e) n c1) h0 (above_free γ n le) (omega (arith, le)) sn (omega arith) e sc.0.1 (room_first S γ.base m (value_sizes h e) (sizes_all h xs) room) (λ d v. asked Short (span_of e) v (converted ty d) (λ z. in_front z (evaluated_all S.s S.bound S.prev tys xs v))) (expr_sim e sc.0.0)
-        (λ d wa xa flag ha ea below. converts S γ σ (span_of e) wa (s0 + 20) xa ty (is_flag e) n d c1 (spare γ (s0 + 28) (s0 + 20 + 8) wa xa (omega arith) ha) (above_free γ n le) ea flag (λ z. in_front z (evaluated_all S.s S.bound S.prev tys xs wa))
-        (λ z xb hb eb rest. subst (λ r. SimV γ (R k) false r (R c1 (mk wa xb))) (sym (front_is z (evaluated_all S.s S.bound S.prev tys xs wa) go))
-        (args_sim xs sc.1 tys t first w0 y0 (s0 + 20) n2 (low.beyond h e m) c k wa xb hb (omega (arith, le)) (omega (arith, sn)) (room_second S γ.base m (value_sizes h e) (sizes_all h xs) room) (λ vs v. go (z ∷ vs) v)
-        (λ vs wc xc hc holds below3. f (z ∷ vs) wc xc (spare γ (s0 + 20 + 20 * length vs) (s0 + 20 * suc (length vs)) wc xc (omega arith) hc)
-        (below3 n sn (omega arith) ∙ eb, holds)
-        (λ j a lt. below3 j a (omega (arith, lt)) ∙ rest j (eqb_less j n lt) ∙ below j a (omega (arith, lt)) (eqb_less j n lt))))))
+    -- arguments
+    args_sim : (xs : TExprTs) (tys : List Ty) → PlainAll h tys xs → FollowAll S xs tys
+    args_sim NoX tys sc = no_arguments S tys
+    args_sim (MoreX e xs) [] sc = absurd sc
+    args_sim (MoreX e xs) (ty ∷ tys) sc = more_arguments S e xs ty tys (λ is. (expr_sim e ((sc.0).0 is).0, ((sc.0).0 is).1)) (λ is. value_sim e ((sc.0).1 is).0 ((sc.0).1 is).1) (args_sim xs tys sc.1)

@@ -52,7 +52,7 @@ module _ (S : Site) (bodies : BodiesFollow S) (γ : Goal) (skips : 2 ≤ γ.skip
   abbrev h : Shape
   h = shape_in S.s
 
-  one_sim : (e : TExprT) (ty : Ty) → Plain e × IsScalar e × (is_structure ty ≡ false) → (σ : Way γ) (s0 o p offset n m : ℕ) (w : World) (x : Side) (c : NodesT ℕ) → Now γ s0 w x → 7 ≤ p → p < n → γ.first ≤ n → Room S γ.base m (init_sizes h (OneI e)) → x.temps p ≡ Ptr o 0 → (go : World → σ.R) → Goes S bodies γ skips σ s0 n x c go
+  one_sim : (e : TExprT) (ty : Ty) → Plain h e × IsScalar e × (is_structure ty ≡ false) → (σ : Way γ) (s0 o p offset n m : ℕ) (w : World) (x : Side) (c : NodesT ℕ) → Now γ s0 w x → 7 ≤ p → p < n → γ.first ≤ n → Room S γ.base m (init_sizes h (OneI e)) → x.temps p ≡ Ptr o 0 → (go : World → σ.R) → Goes S bodies γ skips σ s0 n x c go
       → σ.T (then_went σ.stop (filled S.s S.bound S.prev (OneI e) ty (part_of o offset) w) go) (R (low.low_init h (OneI e) ty p offset n m c) (mk w x))
   one_sim e ty fs σ s0 o p offset n m w x c hn le lt first room ep go f =
       let σ' = way_went γ σ go in

@@ -1,21 +1,14 @@
 -- What is known of the code of a program, and what is done with one less of a bound.
-use Rattle.std.proofs.Common.{◌≡◌, ℕ, ◌+◌, false, List, [], ◌∷◌, ◌++◌, length, sum, get_or, slice_get, Some}
-use Rattle.c_types.specs.Types.{Ty}
+use Rattle.std.proofs.Common.{◌≡◌, ℕ, ◌+◌, List, ◌++◌, length, sum, get_or, slice_get, Some}
 use Rattle.c_types.specs.Programs.{TFunctionT}
-use Rattle.c_meaning.specs.Kinds.{is_structure}
 use Rattle.c_meaning.specs.Outcomes.{Before}
 use Rattle.c_meaning.specs.Setting.{Setting}
 use Rattle.mid_code.specs.Code.{NodesT, CodeT}
 use Rattle.mid_code.specs.Meaning.{Res, below}
 use Rattle.mid_code.specs.States.{temporaries, function_at, over_worlds}
 use Rattle.mid_lower.specs.Parts.{first_param}
-use Rattle.mid_lower.specs.Lowered.{args_from}
+use Rattle.mid_lower.specs.Lowered.{args_from, with_result}
 use Rattle.mid_lower.proofs.Grows.{Mid, Grows}
-
--- the types of parameters, none a structure
-abbrev pub ScalarTypes : List Ty → Type 0
-ScalarTypes [] = Unit {0}
-ScalarTypes (ty ∷ tys) = (is_structure ty ≡ false) × ScalarTypes tys
 
 -- the code is that of the program
 pub record Fits (s : Setting) (code : CodeT ℕ) (frames : List ℕ) : Type 0 where
@@ -25,8 +18,7 @@ pub record Fits (s : Setting) (code : CodeT ℕ) (frames : List ℕ) : Type 0 wh
   pub card : length code.globals + length code.literals ≡ s.sizes.card
   pub more : (f : ℕ) → List ℕ
   pub locals : (f : ℕ) → (function_at code f).locals ≡ s.sizes.locals f ++ more f
-  pub scalar : (f : ℕ) (g : TFunctionT) → slice_get s.functions f ≡ Some g → ScalarTypes g.params × (is_structure g.gives ≡ false)
-  pub params : (f : ℕ) (g : TFunctionT) → slice_get s.functions f ≡ Some g → (function_at code f).params ≡ args_from first_param g.params
+  pub params : (f : ℕ) (g : TFunctionT) → slice_get s.functions f ≡ Some g → (function_at code f).params ≡ with_result g.gives (args_from first_param g.params)
 
 -- A program, its code, and what is done with one less of a bound: by the tree, and by the code, whose port operations only come.
 pub record Site : Type 1 where

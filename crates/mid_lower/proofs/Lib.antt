@@ -7,12 +7,16 @@ mod Trees
 mod Chosen
 mod Fits
 mod Following
+mod Giving
 mod Room
 mod Instructions
 mod Storing
 mod Values
 mod Choices
+pub mod Arguments
 mod Calling
+pub mod CallForms
+pub mod ArgumentForms
 mod OperatorForms
 mod PlaceForms
 mod EveryExpression
@@ -25,6 +29,7 @@ mod LoopForms
 mod SwitchForms
 mod EveryStatement
 mod EveryBound
+mod PlainPrograms
 mod RunsKept
 pub mod StructureValues
 pub mod Taken
@@ -34,7 +39,6 @@ pub mod StructureMembers
 pub mod StructureFills
 pub mod Operands
 pub mod ResultTypes
-pub mod NoStructurePassed
 pub mod SoundExpressions
 pub mod SoundInitialisers
 pub mod FixedGlobals
@@ -43,8 +47,14 @@ pub mod SoundRuns
 pub mod Temporaries
 pub mod Nesting
 pub mod NestingStatements
-pub mod Loopless
+pub mod Tallies
+pub mod QuietForms
 pub mod LooplessExpressions
+pub mod CallsOfExpressions
+pub mod QuietParts
+pub mod CallsOfStatements
+pub mod LooplessStatements
+pub mod StaysStraight
 pub mod Onto
 pub mod PartsListed
 pub mod ExpressionsListed
@@ -61,6 +71,12 @@ pub mod StartKept
 pub mod IsMidCode
 pub mod Finished
 pub mod LocalWords
+pub mod TogetherPaths
+pub mod TogetherExpressions
+pub mod TogetherInitialisers
+pub mod TogetherWays
+pub mod TogetherPoints
+pub mod Together
 pub mod Wrapped
 pub mod Joins
 pub mod Forms
@@ -70,3 +86,4 @@ pub mod Arms
 pub mod Weights
 pub mod WeighedExpressions
 pub mod WeighedStatements
+pub mod LoweredParts

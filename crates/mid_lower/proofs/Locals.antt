@@ -1,11 +1,10 @@
 -- Locals that are made, and that end: mid code makes them, and ends none.
-use Rattle.std.proofs.Common.{◌≡◌, ℕ, zero, suc, ◌+◌, ◌<◌, Bool, false, List, [], ◌∷◌, ◌++◌, length, set, Option, Some, None, refl, sym, ap, ◌∙◌, subst, arith}
+use Rattle.std.proofs.Common.{◌≡◌, ℕ, zero, suc, ◌+◌, ◌<◌, List, [], ◌∷◌, ◌++◌, length, set, Option, Some, None, refl, sym, ap, ◌∙◌, subst, arith}
 use Rattle.c_types.specs.Types.{Ty}
 use Rattle.obj_mem.specs.Objects.{ObjectT, object, made, unwritten}
 use Rattle.obj_mem.specs.declared.cell.ObjectKind.TheVariants as kind
 use Rattle.obj_mem.specs.Stores.{Store, with_objects, local_object, words_here, end_local, fresh, fresh_all, end_one, end_all}
 use Rattle.obj_mem.specs.Worlds.{World, on_store}
-use Rattle.c_meaning.specs.Kinds.{is_structure}
 use Rattle.c_meaning.specs.Outcomes.{Done, Goes, Breaks, Continues, Returns, Ended}
 use Rattle.c_meaning.specs.Setting.{Setting, result_of}
 use Rattle.c_meaning.specs.Statements.{left}
@@ -18,6 +17,7 @@ use Rattle.mid_lower.proofs.Grows.{Mid}
 use Rattle.mid_lower.proofs.Under.{Under, under_length, under_join, under_end_local, end_both}
 use Rattle.mid_lower.proofs.Lives.{Later, later_same, later_then, later_end_local, later_join}
 use Rattle.mid_lower.proofs.Fits.{Site}
+use Rattle.mid_lower.proofs.Giving.{Giving}
 use Rattle.mid_lower.proofs.Following.{Side, mk, Goal, stays_later, Now, Out, M}
 use Rattle.mid_lower.proofs.Outcomes.{SimD}
 use Rattle.mid_lower.proofs.Trees.{Below}
@@ -62,12 +62,12 @@ closes_now γ s ks w x h = record { stays = stays_later γ.base w x (on_store (w
 closes_fin : (γ : Goal) (ks : List ℕ) (w : World) (x : Side) → Out γ w x → Out γ (on_store (with_objects (closed ks w.store.locals w.store.objects)) w) x
 closes_fin γ ks w x h = record { under = closed_under ks w.store.locals w.store.objects x.objs h.under; later = later_then γ.base.objects w.store.objects (closed ks w.store.locals w.store.objects) h.later (closed_later ks w.store.locals w.store.objects); cost = h.cost }
 
-pub ends : (v : Bool) (γ : Goal) (b : ℕ) (j : Jump) (k : Mid → Res Mid) (ks : List ℕ) (d : Done) (q : Res Mid) → SimD v γ b j k d q → SimD v γ b j k (left ks d) q
+pub ends : (v : Giving) (γ : Goal) (b : ℕ) (j : Jump) (k : Mid → Res Mid) (ks : List ℕ) (d : Done) (q : Res Mid) → SimD v γ b j k d q → SimD v γ b j k (left ks d) q
 ends v γ b j k ks (Goes w) q a = subst (λ st. SimD v γ b j k (Goes (record w { store = st })) q) (sym (closed_is ks w.store)) (a.0, a.1, closes_now γ 0 ks w a.0 a.2)
 ends v γ b j k ks (Breaks w) q a = subst (λ st. SimD v γ b j k (Breaks (record w { store = st })) q) (sym (closed_is ks w.store)) (a.0, a.1, closes_now γ 0 ks w a.0 a.2)
 ends v γ b j k ks (Continues w) q a = subst (λ st. SimD v γ b j k (Continues (record w { store = st })) q) (sym (closed_is ks w.store)) (a.0, a.1, closes_now γ 0 ks w a.0 a.2)
 ends v γ b j k ks (Returns None w) q a = subst (λ st. SimD v γ b j k (Returns None (record w { store = st })) q) (sym (closed_is ks w.store)) (a.0, a.1, closes_fin γ ks w a.0 a.2)
-ends v γ b j k ks (Returns (Some c) w) q a = subst (λ st. SimD v γ b j k (Returns (Some c) (record w { store = st })) q) (sym (closed_is ks w.store)) (a.0, a.1, a.2, closes_fin γ ks w a.1 a.3, a.4)
+ends v γ b j k ks (Returns (Some c) w) q a = subst (λ st. SimD v γ b j k (Returns (Some c) (record w { store = st })) q) (sym (closed_is ks w.store)) (a.0, a.1, closes_fin γ ks w a.0 a.2, a.3)
 ends v γ b j k ks (Ended f w) q a = a
 
 -- ---- what is made
@@ -76,7 +76,6 @@ ends v γ b j k ks (Ended f w) q a = a
 pub record HomeOf (s : Setting) (code : CodeT ℕ) (frames : List ℕ) (ty : Ty) (fn : Option ℕ) (own : ℕ) : Type 0 where
   pub words : (k : ℕ) → k < own → words_here (sizes_of code frames) fn k ≡ words_here s.sizes fn k
   pub result : result_of s fn ≡ ty
-  pub scalar : is_structure ty ≡ false
 
 module _ (S : Site) where
   abbrev R : NodesT ℕ → Mid → Res Mid

@@ -31,7 +31,7 @@ pub join_length : (zs us : List ℕ) → length (zs ++ us) ≡ length zs + lengt
 join_length [] us = omega arith
 join_length (z ∷ zs) us = let e = join_length zs us in omega (arith, e)
 
-get_first : (zs us : List ℕ) (j : ℕ) → j < length zs → get_or (zs ++ us) j 0 ≡ get_or zs j 0
+pub get_first : (zs us : List ℕ) (j : ℕ) → j < length zs → get_or (zs ++ us) j 0 ≡ get_or zs j 0
 get_first [] us j lt = absurd (omega (arith, lt))
 get_first (z ∷ zs) us zero lt = refl
 get_first (z ∷ zs) us (suc j) lt = get_first zs us j (omega (arith, lt))

@@ -1,10 +1,8 @@
 -- Programs: their code follows them, so it keeps their runs in at most 64 times the work.
 use Rattle.std.specs.Prelude.{◌≢◌}
-use Rattle.std.proofs.Common.{◌≡◌, ℕ, zero, suc, ◌+◌, ◌*◌, ◌≤◌, Bool, true, false, List, [], ◌∷◌, ◌++◌, map, length, get_or, slice_get, Option, Some, None, refl, sym, ap, ◌∙◌, subst, arith, if◌then◌else◌}
-use Rattle.std.specs.Option.{option_map_or}
+use Rattle.std.proofs.Common.{◌≡◌, ℕ, zero, suc, ◌+◌, ◌*◌, ◌≤◌, Bool, true, false, List, [], ◌∷◌, ◌++◌, map, length, slice_get, Option, Some, None, refl, sym, ap, ◌∙◌, subst, arith, if◌then◌else◌}
 use Rattle.std.proofs.lemmas.Bool.{false≢true}
-use Rattle.std.specs.List.{fold}
-use Rattle.c_types.specs.Types.{VoidY}
+use Rattle.c_types.specs.Types.{Ty, VoidY, IntY, BoolY, EnumY, StructY, UnionY, PointerY, ArrayY}
 use Rattle.c_types.specs.View.{tstmts}
 use Rattle.c_types.specs.Programs.{TFunctionT, ProgramT}
 use Rattle.obj_mem.specs.Objects.{ObjectT, object_at, global_object, literal_object, card_object, opening_objects}
@@ -24,50 +22,49 @@ use Rattle.c_meaning.specs.Runs as c
 use Rattle.c_meaning.specs.Runs.{ending}
 use Rattle.mid_code.specs.Code.{Stop, CodeT}
 use Rattle.mid_code.specs.Meaning.{Res, Next, Leaves, Repeats, Returns, Over, then_next, called}
-use Rattle.mid_code.specs.States.{temporaries, no_function, function_at}
+use Rattle.mid_code.specs.States.{temporaries}
 use Rattle.mid_code.specs.Runs as mid
 use Rattle.mid_code.specs.Keeps.{WorksAtMost, KeepsRuns, KeepsRun, SameRun, global_cell}
 use Rattle.mid_code.specs.Passing.{Prefix}
-use Rattle.mid_lower.specs.Shape.{Shape, shape}
-use Rattle.mid_lower.specs.Counts.{stmts_sizes}
-use Rattle.mid_lower.specs.Parts.{first_param, result_at}
+use Rattle.mid_lower.specs.Shape.{shape}
+use Rattle.mid_lower.specs.Parts.{first_param}
 use Rattle.mid_lower.specs.Expressions.{is_void}
 use Rattle.mid_lower.specs.Statements.{ToEnd, low_stmts}
-use Rattle.mid_lower.specs.Lowered.{low_function, lowered, args_from}
+use Rattle.mid_lower.specs.Lowered.{lowered}
 use Rattle.mid_lower.proofs.Grows.{Mid, all_of, more, called_grows}
 use Rattle.mid_lower.proofs.Under.{Kin, Under, AllEmpty, under_self, under_at}
-use Rattle.mid_lower.proofs.Trees.{PlainStmts, Below}
-use Rattle.mid_lower.proofs.Fits.{Site, Fits, ScalarTypes}
+use Rattle.mid_lower.proofs.Fits.{Site}
+use Rattle.mid_lower.proofs.Giving.{giving}
 use Rattle.mid_lower.proofs.Room.{Room}
-use Rattle.mid_lower.proofs.Following.{base_of, Fit, Side, mk, goal, Goal, SimV, M, L, events_of, spare}
-use Rattle.mid_lower.proofs.Calling.{asks}
+use Rattle.mid_lower.proofs.Following.{base_of, Fit, Side, mk, goal, Goal, SimV, M, L, events_of}
+use Rattle.mid_lower.proofs.Taken.{TakenAll, none_taken}
+use Rattle.mid_lower.proofs.Arguments.{passed}
+use Rattle.mid_lower.proofs.Calling.{target_of}
+use Rattle.mid_lower.proofs.CallForms.{value_asks}
 use Rattle.mid_lower.proofs.CellLoops.{next_same}
 use Rattle.mid_lower.proofs.OperatorForms.{begin_value}
 use Rattle.mid_lower.proofs.Outcomes.{SimD, plain}
 use Rattle.mid_lower.proofs.Locals.{HomeOf}
 use Rattle.mid_lower.proofs.EveryStatement.{all_sim}
-use Rattle.mid_lower.proofs.EveryBound.{Lowers, site, earlier}
+use Rattle.mid_lower.proofs.EveryBound.{site, earlier}
+use Rattle.mid_lower.proofs.PlainPrograms.{map_length, IsPlain, fits, lowers}
 use Rattle.mid_lower.proofs.LoopForms.{Earlier}
 
--- ---- the code of a program fits it
+-- ---- main takes and gives nothing
 
-function_is : (h : Shape) (fs : List TFunctionT) (f : ℕ) (g : TFunctionT) → slice_get fs f ≡ Some g → get_or (map (low_function h) fs) f no_function ≡ low_function h g
-function_is h [] f g e = ap (λ o. option_map_or (low_function h) o no_function) e
-function_is h (x ∷ fs) zero g e = ap (λ o. option_map_or (low_function h) o no_function) e
-function_is h (x ∷ fs) (suc f) g e = function_is h fs f g e
+void_scalar : (ty : Ty) → is_void ty ≡ true → is_structure ty ≡ false
+void_scalar VoidY e = refl
+void_scalar IntY e = refl
+void_scalar BoolY e = refl
+void_scalar (EnumY number) e = refl
+void_scalar (StructY number) e = absurd (false≢true e)
+void_scalar (UnionY number) e = absurd (false≢true e)
+void_scalar (PointerY to) e = refl
+void_scalar (ArrayY of len) e = refl
 
-locals_are : (h : Shape) (fs : List TFunctionT) (f : ℕ) → (get_or (map (low_function h) fs) f no_function).locals ≡ option_map_or (λ g. g.locals) (slice_get fs f) [] ++ option_map_or (λ g. stmts_sizes h g.body) (slice_get fs f) []
-locals_are h [] f = refl
-locals_are h (x ∷ fs) zero = refl
-locals_are h (x ∷ fs) (suc f) = locals_are h fs f
-
-map_length : {A B : Type 0} (f : A → B) (xs : List A) → length (map f xs) ≡ length xs
-map_length f [] = refl
-map_length f (x ∷ xs) = ap suc (map_length f xs)
-
-sums_from : {A : Type 0} (f : A → ℕ) (z : ℕ) (xs : List A) → fold ◌+◌ z (map f xs) ≡ fold (λ n x. n + f x) z xs
-sums_from f z [] = refl
-sums_from f z (x ∷ xs) = sums_from f (z + f x) xs
+none_passed : (tys : List Ty) → passed tys [] ≡ []
+none_passed [] = refl
+none_passed (ty ∷ tys) = refl
 
 -- ---- runs
 
@@ -93,15 +90,6 @@ main_events (Leaves k s) = refl
 main_events (Repeats k s) = refl
 main_events (Returns s) = refl
 main_events (Over f s) = refl
-
--- What is asked of the program: no structure is a value, functions make their own locals, and main is there and gives no result.
-pub record IsPlain (p : ProgramT) : Type 0 where
-  pub types : (f : ℕ) (g : TFunctionT) → slice_get p.functions f ≡ Some g → ScalarTypes g.params × (is_structure g.gives ≡ false)
-  pub made : (f : ℕ) (g : TFunctionT) → slice_get p.functions f ≡ Some g → Below (length g.locals) g.made
-  pub tidy : (f : ℕ) (g : TFunctionT) → slice_get p.functions f ≡ Some g → PlainStmts (shape p) (length g.locals) (is_void g.gives) g.body
-  pub inits : PlainStmts (shape p) 0 true (tstmts p.inits)
-  pub quiet : stmts_sizes (shape p) (tstmts p.inits) ≡ []
-  pub main : (g : TFunctionT) × (slice_get p.functions p.main ≡ Some g) × (is_void g.gives ≡ true)
 
 lives_empty : (x : ObjectT) → x.lives ≡ true → x.lives ≡ false → x.cells ≡ []
 lives_empty x e l = absurd (false≢true (sym l ∙ e))
@@ -132,37 +120,12 @@ module _ (p : ProgramT) (frames : List ℕ) (sc : IsPlain p) where
   abbrev s : Setting
   s = setting p frames
 
-  params_are : (f : ℕ) (g : TFunctionT) → slice_get p.functions f ≡ Some g → (function_at x f).params ≡ args_from first_param g.params
-  params_are f g e = ap (λ k. k.params) (function_is (shape p) p.functions f g e) ∙ ap (λ b. if b then result_at ∷ args_from first_param g.params else args_from first_param g.params) (sc.types f g e).1
-
-  abbrev fits : Fits s x frames
-  fits = record {
-    frame = λ f. refl;
-    globals = sums_from (λ g. g.1) 0 p.globals;
-    first_literal = map_length (λ g. g.1) p.globals;
-    card = ap (λ n. n + length p.literals) (map_length (λ g. g.1) p.globals);
-    more = λ f. option_map_or (λ g. stmts_sizes (shape p) g.body) (slice_get p.functions f) [];
-    locals = λ f. locals_are (shape p) p.functions f;
-    scalar = sc.types;
-    params = params_are;
-  }
-
-  abbrev lowers : Lowers s x frames
-  lowers = record {
-    fits = fits;
-    body = λ f g e. ap (λ k. k.body) (function_is (shape p) p.functions f g e);
-    own = λ f g e. ap (λ o. option_map_or (λ k. k.locals) o []) e;
-    behind = λ f g e. ap (λ o. option_map_or (λ k. stmts_sizes (shape p) k.body) o []) e;
-    made = sc.made;
-    tidy = sc.tidy;
-  }
-
   module _ (n : ℕ) (answers : List ℕ) (card : Option (List ℕ)) where
     abbrev S : Site
-    S = site s x frames fits n
+    S = site s x frames (fits p frames sc) n
 
     before : Earlier S
-    before = earlier s x frames lowers n
+    before = earlier s x frames (lowers p frames sc) n
 
     abbrev w0 : World
     w0 = c.opening p answers card
@@ -183,14 +146,20 @@ module _ (p : ProgramT) (frames : List ℕ) (sc : IsPlain p) where
       main_sim =
           let g : TFunctionT = sc.main.0 in
           let e : slice_get p.functions p.main ≡ Some g = sc.main.1 in
-          let ty = sc.types p.main g e in
-          subst (SimV γ (M S Stop) false (src.call s n S.prev p.main [] nowhere (spend 1 w))) (ap (λ k. then_next (with_work k) (M S Stop)) no_more ∙ next_same main_result)
-          (subst (λ o. SimV γ (M S Stop) false (src.call_of s n S.prev p.main o [] nowhere (spend 1 w)) (then_next (with_work (y.work + 0)) (M S Stop))) (sym e)
-          (subst (λ b. SimV γ (M S Stop) false (src.enter s n S.prev p.main g [] (if b then next_object w.store else Unwritten) nowhere (on_store (λ u. if b then with_temporary (words s g.gives) u else u) (spend 1 w))) (then_next (with_work (y.work + 0)) (M S Stop))) (sym ty.1)
-          (asks S 0 1 w y Stop p.main g nowhere ty.0 [] [] (spend 1 w) y refl 0 (omega arith) (spare γ 36 (36 + 20 * 0) (spend 1 w) y (omega arith) (begin_value S 0 1 w y fit)) true sc.main.2 before.called n tt e)))
+          let void : is_void g.gives ≡ true = sc.main.2 in
+          let scalar : is_structure g.gives ≡ false = void_scalar g.gives void in
+          let T : Val → Res Mid → Type 0 = SimV γ (M S Stop) false in
+          let start : World = spend 1 w in
+          let hi : ℕ = length w.store.locals + y.floor in
+          let none : TakenAll γ 36 hi (passed g.params []) start y = subst (λ ts. TakenAll γ 36 hi ts start y) (sym (none_passed g.params)) (none_taken γ 36 hi start y (omega arith) (begin_value S 0 1 w y fit)) in
+          subst (T (src.call s n S.prev p.main [] nowhere start)) (ap (λ k. then_next (with_work true k) (M S Stop)) no_more ∙ next_same main_result)
+          (subst (λ o. T (src.call_of s n S.prev p.main o [] nowhere start) (then_next (with_work true (y.work + 0)) (M S Stop))) (sym e)
+          (subst (λ b. T (src.enter s n S.prev p.main g [] (if b then next_object w.store else Unwritten) nowhere (on_store (λ u. if b then with_temporary (words s g.gives) u else u) start)) (then_next (with_work true (y.work + 0)) (M S Stop))) (sym scalar)
+          (subst (λ b. T (src.enter s n S.prev p.main g [] Unwritten nowhere start) (then_next (with_work b (y.work + 0)) (M S Stop))) void
+          (value_asks S 0 1 w y Stop p.main g scalar nowhere [] [] hi 36 start y 0 (omega arith) none before.called tt e n))))
         where
-          with_work : ℕ → Res Mid
-          with_work k = called (L S) n S.prev' None p.main [] (mk w (record y { work = k }))
+          with_work : (void : Bool) → ℕ → Res Mid
+          with_work b k = called (L S) n S.prev' (target_of b 0) p.main [] (mk w (record y { work = k }))
 
           no_more : y.work + 0 ≡ y.work
           no_more = omega arith
@@ -224,14 +193,14 @@ module _ (p : ProgramT) (frames : List ℕ) (sc : IsPlain p) where
     abbrev source_done : Done → c.Final
     source_done d = c.inits_done d (c.main_called p frames n)
 
-    started : (d : Done) (q : Res Mid) → SimD true (plain first_param w0 x0) 0 (ToEnd 0) (M S Stop) d q → Agree (source_done d).end (source_done d).world (mid.start_done q go_on)
+    started : (d : Done) (q : Res Mid) → SimD (giving VoidY Unwritten) (plain first_param w0 x0) 0 (ToEnd 0) (M S Stop) d q → Agree (source_done d).end (source_done d).world (mid.start_done q go_on)
     started (Goes w) q a =
         subst (λ r. Agree (source_done (Goes w)).end (source_done (Goes w)).world (mid.start_done r go_on)) (sym a.1)
         (finished w a.0 a.2.stays.fit (omega (arith, a.2.cost)) (src.call s n S.prev p.main [] nowhere (spend 1 w)) (main_result w a.0 a.2.stays.fit) (main_sim w a.0 a.2.stays.fit))
     started (Breaks w) q a = subst (λ r. Prefix w.events (mid.start_done r go_on).world.events) (sym a.1) (all_of w.events)
     started (Continues w) q a = subst (λ r. Prefix w.events (mid.start_done r go_on).world.events) (sym a.1) (all_of w.events)
     started (Returns None w) q a = subst (λ r. Prefix w.events (mid.start_done r go_on).world.events) (sym a.1) (go_more (mk w a.0))
-    started (Returns (Some v) w) q a = absurd (false≢true (sym a.0))
+    started (Returns (Some v) w) q a = absurd a.3
     started (Ended (Stray span) w) q a = more _ _ _ a (start_more q)
     started (Ended Halted w) q a = subst (λ r. Agree Halted w (mid.start_done r go_on)) (sym a.1) (record { ends = refl; events = refl; under = a.2.under; work = omega (arith, a.2.cost) })
     started (Ended (Fault k) w) q a = subst (λ r. Agree (Fault k) w (mid.start_done r go_on)) (sym a.1) (record { ends = refl; events = refl; under = a.2.under; work = omega (arith, a.2.cost) })
@@ -240,13 +209,13 @@ module _ (p : ProgramT) (frames : List ℕ) (sc : IsPlain p) where
     started (Ended OutOfBound w) q a = subst (λ r. Agree OutOfBound w (mid.start_done r go_on)) (sym a.1) (record { ends = refl; events = refl; under = a.2.under; work = omega (arith, a.2.cost) })
 
     home : HomeOf S.s S.code S.frames VoidY None 0
-    home = record { words = λ k lt. absurd (omega (arith, lt)); result = refl; scalar = refl }
+    home = record { words = λ k lt. absurd (omega (arith, lt)); result = refl }
 
     -- the code of a program runs as the program does, for every bound, answers and card
     follows : Agree (c.final_of p frames n answers card).end (c.final_of p frames n answers card).world (mid.final_of temporaries x frames n answers card)
     follows =
         started (does_all s n S.prev Unwritten (tstmts p.inits) w0) (M S (low_stmts (shape p) VoidY (tstmts p.inits) first_param 0 0 (ToEnd 0) Stop) (mk w0 x0))
-        (all_sim S before Unwritten VoidY true 0 (tstmts p.inits) sc.inits first_param 0 0 (ToEnd 0) Stop w0 x0 (omega arith) (record { under = under_self w0.store.objects (opening_empty (map (λ g. g.1) p.globals) p.literals card); unused = λ i le. tt }) home refl (subst (Room S (base_of w0 x0) 0) (sym sc.quiet) (record { free = omega arith; fits = omega arith; words = λ j lt. absurd (omega (arith, lt)) })))
+        (all_sim S before Unwritten VoidY 0 (tstmts p.inits) sc.inits first_param 0 0 (ToEnd 0) Stop w0 x0 (omega arith) (record { under = under_self w0.store.objects (opening_empty (map (λ g. g.1) p.globals) p.literals card); unused = λ i le. tt }) (λ e. absurd (false≢true e)) home refl (subst (Room S (base_of w0 x0) 0) (sym sc.quiet) (record { free = omega arith; fits = omega arith; words = λ j lt. absurd (omega (arith, lt)) })))
 
 -- ---- the public statement on work
 

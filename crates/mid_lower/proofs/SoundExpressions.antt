@@ -1,5 +1,6 @@
--- Typed expressions of which no structure is a value are plain.
+-- Typed expressions are plain.
 use Rattle.std.proofs.Common.{◌≡◌, ℕ, true, false, List, [], ◌∷◌, length, slice_get, Option, Some, None, refl, sym, ◌∙◌, ap, subst, option_map}
+use Rattle.std.specs.Option.{option_map_or}
 use Rattle.std.proofs.lemmas.Bool.{false≢true}
 use Rattle.c_tree.specs.declared.operator.UnOp.TheVariants as un
 use Rattle.c_types.specs.Types.{Ty, VoidY, IntY, PointerY}
@@ -11,14 +12,10 @@ use Rattle.c_exprs.specs.Nodes.{type_of_typed, is_place, is_place_kind}
 use Rattle.c_exprs.specs.Calls.{listed, all_convert}
 use Rattle.c_facts.specs.Sound.{text_type, Scene, Calls, IsTyped, IsKind, AreValues}
 use Rattle.c_meaning.specs.Kinds.{type_of, is_structure}
-use Rattle.mid_lower.proofs.Trees.{IsScalar, Plain, PlainKind, PlainAll, PlainStructure, StructureKind}
-use Rattle.mid_lower.proofs.Fits.{ScalarTypes}
+use Rattle.mid_lower.specs.Shape.{Shape, params_of, result_of}
+use Rattle.mid_lower.proofs.Trees.{IsScalar, Plain, PlainKind, PlainAll, PlainAs, PlainStructure, StructureKind}
 use Rattle.mid_lower.proofs.Operands.{both_first, both_second, number_scalar, behind_scalar, from_scalar, unary_operand, binary_operands, index_operands, compound_operands, assigned_operands, cast_operand}
 use Rattle.mid_lower.proofs.ResultTypes.{has_structure, from_structure, address_place, assigned_place, never_unary, never_binary, never_compound, never_cast}
-
--- both ask for the type alike
-pub same_type_of : (x : TExprT) → type_of x ≡ type_of_typed x
-same_type_of (Typed kind ty span) = refl
 
 pub scalar_of : (x : TExprT) → is_structure (type_of_typed x) ≡ false → IsScalar x
 scalar_of (Typed kind ty span) e = e
@@ -39,22 +36,27 @@ never_text : (o : Option (List ℕ)) (ty : Ty) → option_map text_type o ≡ So
 never_text None ty e s = absurd cc
 never_text (Some t) ty e s = let same : text_type t ≡ ty = cc in never ty (text_type t) (sym same) refl s
 
--- arguments become these types
-record Passes (xs : TExprTs) : Type 0 where
-  pub types : List Ty
-  pub convert : all_convert (listed xs) types ≡ true
-  pub count : length (listed xs) ≡ length types
-  pub scalars : ScalarTypes types
+-- what the lowering reads of a program
+abbrev pub shape_of : Scene → Shape
+shape_of z = record { layouts = z.layouts; functions = z.functions; literals = z.literals }
 
--- the parameters of functions are no structures
-module _ (z : Scene) (sc : (f : ℕ) (g : TFunctionT) → slice_get z.functions f ≡ Some g → ScalarTypes g.params × (is_structure g.gives ≡ false)) where
-  passes : (f : ℕ) (xs : TExprTs) (ty : Ty) (o : Option TFunctionT) → slice_get z.functions f ≡ o → Calls o xs ty → Passes xs
+module _ (z : Scene) where
+  abbrev h : Shape
+  h = shape_of z
+
+  -- arguments become the parameters, and what is given is of this type
+  record Passes (f : ℕ) (xs : TExprTs) (ty : Ty) : Type 0 where
+    pub convert : all_convert (listed xs) (params_of h f) ≡ true
+    pub count : length (listed xs) ≡ length (params_of h f)
+    pub gives : result_of h f ≡ ty
+
+  passes : (f : ℕ) (xs : TExprTs) (ty : Ty) (o : Option TFunctionT) → slice_get z.functions f ≡ o → Calls o xs ty → Passes f xs ty
   passes f xs ty None e is = absurd is
-  passes f xs ty (Some g) e is = record { types = g.params; convert = is.convert; count = is.count; scalars = (sc f g e).0 }
-
-  never_given : (f : ℕ) (xs : TExprTs) (ty : Ty) (o : Option TFunctionT) → slice_get z.functions f ≡ o → Calls o xs ty → is_structure ty ≡ true → ⊥
-  never_given f xs ty None e is s = absurd is
-  never_given f xs ty (Some g) e is s = false≢true (sym (sc f g e).1 ∙ ap is_structure is.gives ∙ s)
+  passes f xs ty (Some g) e is = record {
+    convert = subst (λ o. all_convert (listed xs) (option_map_or (λ k. k.params) o []) ≡ true) (sym e) is.convert;
+    count = subst (λ o. length (listed xs) ≡ length (option_map_or (λ k. k.params) o [])) (sym e) is.count;
+    gives = ap (λ o. option_map_or (λ k. k.gives) o VoidY) e ∙ is.gives;
+  }
 
   -- what is asked where an expression has no structure as its value: it stands at a place, or is no structure
   abbrev pub IsPlaceOr : TExprT → Type 0
@@ -64,10 +66,10 @@ module _ (z : Scene) (sc : (f : ℕ) (g : TFunctionT) → slice_get z.functions 
   at_place x e f = absurd (false≢true (sym f ∙ e))
 
   mutual
-    pub plain : (x : TExprT) → IsTyped z x → IsPlaceOr x → Plain x
+    pub plain : (x : TExprT) → IsTyped z x → IsPlaceOr x → Plain h x
     plain (Typed kind ty span) is s = plain_kind kind ty is.1 s
 
-    plain_kind : (k : TKindT) (ty : Ty) → IsKind z k ty → (is_place_kind k ≡ false → is_structure ty ≡ false) → PlainKind k ty
+    plain_kind : (k : TKindT) (ty : Ty) → IsKind z k ty → (is_place_kind k ≡ false → is_structure ty ≡ false) → PlainKind h k ty
     plain_kind (NumberK n) ty is s = tt
     plain_kind NullK ty is s = tt
     plain_kind (LiteralK number) ty is s = tt
@@ -102,7 +104,7 @@ module _ (z : Scene) (sc : (f : ℕ) (g : TFunctionT) → slice_get z.functions 
     )
     plain_kind (ArrowK x offset) ty is s = let e = behind_scalar z.layouts (type_of_typed x) offset ty is.2 in (plain x is.0 (λ f. e), scalar_of x e)
     plain_kind (CastK x) ty is s = let e = cast_operand (type_of_typed x) ty ty is.2 in (plain x is.0 (λ f. e), scalar_of x e)
-    plain_kind (CallK f xs) ty is s = let m = passes f xs ty (slice_get z.functions f) refl is.1 in args_plain xs m.types is.0 m.convert m.count m.scalars
+    plain_kind (CallK f xs) ty is s = let m = passes f xs ty (slice_get z.functions f) refl is.1 in (args_plain xs (params_of h f) is.0 m.convert m.count, ap is_structure m.gives ∙ s refl)
     plain_kind (InK port) ty is s = tt
     plain_kind (OutK port x) ty is s = let e = number_scalar (type_of_typed x) is.3 in (plain x is.1 (λ f. e), scalar_of x e)
     plain_kind WaitK ty is s = tt
@@ -110,10 +112,10 @@ module _ (z : Scene) (sc : (f : ℕ) (g : TFunctionT) → slice_get z.functions 
     plain_kind CardK ty is s = tt
 
     -- what has a structure as its value
-    pub structure : (x : TExprT) → IsTyped z x → is_structure (type_of_typed x) ≡ true → PlainStructure x
+    pub structure : (x : TExprT) → IsTyped z x → is_structure (type_of_typed x) ≡ true → PlainStructure h x
     structure (Typed kind ty span) is s = structure_kind kind ty is.1 s
 
-    structure_kind : (k : TKindT) (ty : Ty) → IsKind z k ty → is_structure ty ≡ true → StructureKind k ty
+    structure_kind : (k : TKindT) (ty : Ty) → IsKind z k ty → is_structure ty ≡ true → StructureKind h k ty
     structure_kind (NumberK n) ty is s = absurd (never ty IntY is refl s)
     structure_kind NullK ty is s = absurd (never ty (PointerY VoidY) is refl s)
     structure_kind (LiteralK number) ty is s = absurd (never_text (slice_get z.literals number) ty is s)
@@ -140,7 +142,7 @@ module _ (z : Scene) (sc : (f : ℕ) (g : TFunctionT) → slice_get z.functions 
         (λ e. plain (Typed k tk sk) is.0 (at_place (Typed k tk sk) e), λ e. structure (Typed k tk sk) is.0 (has_structure z.layouts tk offset ty is.1), s)
     structure_kind (ArrowK x offset) ty is s = let e = behind_scalar z.layouts (type_of_typed x) offset ty is.2 in (plain x is.0 (λ f. e), scalar_of x e)
     structure_kind (CastK x) ty is s = absurd (never_cast (type_of_typed x) ty ty is.2 s)
-    structure_kind (CallK f xs) ty is s = absurd (never_given f xs ty (slice_get z.functions f) refl is.1 s)
+    structure_kind (CallK f xs) ty is s = let m = passes f xs ty (slice_get z.functions f) refl is.1 in (args_plain xs (params_of h f) is.0 m.convert m.count, ap is_structure m.gives ∙ s)
     structure_kind (InK port) ty is s = absurd (never ty IntY is.1 refl s)
     structure_kind (OutK port x) ty is s = absurd (never ty VoidY is.4 refl s)
     structure_kind WaitK ty is s = absurd (never ty VoidY is refl s)
@@ -148,12 +150,20 @@ module _ (z : Scene) (sc : (f : ℕ) (g : TFunctionT) → slice_get z.functions 
     structure_kind CardK ty is s = absurd (never ty (PointerY IntY) is refl s)
 
     -- arguments become parameters
-    args_plain : (xs : TExprTs) (tys : List Ty) → AreValues z xs → all_convert (listed xs) tys ≡ true → length (listed xs) ≡ length tys → ScalarTypes tys → PlainAll xs
-    args_plain NoX tys values convert count scalars = tt
-    args_plain (MoreX x xs) [] values convert count scalars = cc
-    args_plain (MoreX x xs) (ty ∷ tys) values convert count scalars =
+    args_plain : (xs : TExprTs) (tys : List Ty) → AreValues z xs → all_convert (listed xs) tys ≡ true → length (listed xs) ≡ length tys → PlainAll h tys xs
+    args_plain NoX tys values convert count = tt
+    args_plain (MoreX x xs) [] values convert count = cc
+    args_plain (MoreX x xs) (ty ∷ tys) values convert count =
         let one : converts (type_of_typed x) ty ≡ true = both_first (converts (type_of_typed x) ty) (all_convert (listed xs) tys) convert in
         let more : all_convert (listed xs) tys ≡ true = both_second (converts (type_of_typed x) ty) (all_convert (listed xs) tys) convert in
         let rest : length (listed xs) ≡ length tys = cc in
-        let e = from_scalar (type_of_typed x) ty one scalars.0 in
-        ((plain x values.0 (λ f. e), scalar_of x e), args_plain xs tys values.2 more rest scalars.1)
+        let scalar : is_structure ty ≡ false → is_structure (type_of_typed x) ≡ false = from_scalar (type_of_typed x) ty one in
+        let given : is_structure ty ≡ true → is_structure (type_of_typed x) ≡ true = from_structure (type_of_typed x) ty one in
+        ((λ e. (plain x values.0 (λ f. scalar e), scalar_of x (scalar e)), λ e. (structure x values.0 (given e), structure_of x (given e))), args_plain xs tys values.2 more rest)
+
+  -- a value becomes one of this type
+  pub plain_as : (x : TExprT) (ty : Ty) → IsTyped z x → converts (type_of_typed x) ty ≡ true → PlainAs h ty x
+  plain_as x ty is one =
+      let scalar : is_structure ty ≡ false → is_structure (type_of_typed x) ≡ false = from_scalar (type_of_typed x) ty one in
+      let given : is_structure ty ≡ true → is_structure (type_of_typed x) ≡ true = from_structure (type_of_typed x) ty one in
+      (λ e. (plain x is (λ f. scalar e), scalar_of x (scalar e)), λ e. (structure x is (given e), structure_of x (given e)))

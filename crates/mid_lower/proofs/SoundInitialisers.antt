@@ -1,4 +1,4 @@
--- Initialisers that fill what they are for, of which no structure is a value, are plain: what is set to 0 behind the last item has few words.
+-- Initialisers that fill what they are for are plain: what is set to 0 behind the last item has few words.
 use Rattle.std.proofs.Common.{◌≡◌, ℕ, zero, suc, ◌+◌, ◌*◌, ◌-◌, ◌%◌, ◌^◌, ◌<◌, ◌≤◌, ◌==◌, Bool, true, false, List, [], ◌∷◌, length, slice_get, Option, Some, None, refl, sym, ap, ◌∙◌, subst, arith, if◌then◌else◌}
 use Rattle.std.specs.Option.{option_map_or}
 use Rattle.std.specs.Prelude.{option_and_then, not, ◌&&◌, ◌||◌}
@@ -8,7 +8,7 @@ use Rattle.std.proofs.lemmas.List.Sums.{sum_by-cons}
 use Rattle.c_types.specs.Types.{Ty, VoidY, IntY, BoolY, EnumY, StructY, UnionY, PointerY, ArrayY, MemberT, LayoutT}
 use Rattle.c_types.specs.Sizes.{words_of}
 use Rattle.c_types.specs.Typed.{TExprT, TInitT, OneI, TextI, ListI, TInitTs, NoI, MoreI, TVarT}
-use Rattle.c_types.specs.Programs.{TFunctionT, ProgramT}
+use Rattle.c_types.specs.Programs.{ProgramT}
 use Rattle.c_rules.specs.Kinds.{is_array, converts}
 use Rattle.c_rules.specs.Kinds as rules
 use Rattle.c_exprs.specs.Faults.{text_words}
@@ -16,14 +16,11 @@ use Rattle.c_exprs.specs.Nodes.{type_of_typed}
 use Rattle.c_stmts.specs.Slots.{Slots, NoSlots, Elements, Members, member_types, members_of, first_of, slots_of, next_slot, later_slots, is_fixed}
 use Rattle.c_check.specs.Reading.{has_members}
 use Rattle.c_facts.specs.Sound.{Scene, IsKnown, IsSized, takes_value, FillsAs, FillEach, AreFilled, AreSized, IsLaidOut, IsDeclaredAs, AreDeclaredAs, in_call, wholes, scene}
-use Rattle.c_meaning.specs.Kinds.{is_structure}
 use Rattle.c_meaning.specs.Parts.{part_type}
 use Rattle.mid_lower.specs.Shape.{Shape, shape}
 use Rattle.mid_lower.proofs.Trees.{RestFits, Fills, FillAll, FillVars}
-use Rattle.mid_lower.proofs.Fits.{ScalarTypes}
-use Rattle.mid_lower.proofs.Operands.{both_first, both_second, from_scalar}
-use Rattle.mid_lower.proofs.ResultTypes.{from_structure}
-use Rattle.mid_lower.proofs.SoundExpressions.{plain, structure, scalar_of, structure_of}
+use Rattle.mid_lower.proofs.Operands.{both_first, both_second}
+use Rattle.mid_lower.proofs.SoundExpressions.{plain_as}
 
 -- ---- the places of a type, from one on
 
@@ -32,7 +29,7 @@ rest_from tys zero = tys
 rest_from [] (suc k) = []
 rest_from (ty ∷ tys) (suc k) = rest_from tys k
 
-abbrev places : List LayoutT → Ty → ℕ → Slots
+abbrev pub places : List LayoutT → Ty → ℕ → Slots
 places ls (ArrayY of len) k = Elements of (len - k)
 places ls (StructY number) k = Members (rest_from (members_of (slice_get ls number)) k)
 places ls (UnionY number) k = Members (rest_from (first_of (members_of (slice_get ls number))) k)
@@ -47,7 +44,7 @@ rest_later (ty ∷ tys) (suc k) = rest_later tys k
 after : (k : ℕ) → suc k ≡ k + 1
 after k = omega arith
 
-places_first : (ls : List LayoutT) (ty : Ty) → slots_of ls ty ≡ places ls ty 0
+pub places_first : (ls : List LayoutT) (ty : Ty) → slots_of ls ty ≡ places ls ty 0
 places_first ls VoidY = refl
 places_first ls IntY = refl
 places_first ls BoolY = refl
@@ -57,7 +54,7 @@ places_first ls (UnionY number) = refl
 places_first ls (PointerY to) = refl
 places_first ls (ArrayY of len) = ap (Elements of) (omega arith)
 
-places_later : (ls : List LayoutT) (ty : Ty) (k : ℕ) → later_slots (places ls ty k) ≡ places ls ty (k + 1)
+pub places_later : (ls : List LayoutT) (ty : Ty) (k : ℕ) → later_slots (places ls ty k) ≡ places ls ty (k + 1)
 places_later ls VoidY k = refl
 places_later ls IntY k = refl
 places_later ls BoolY k = refl
@@ -128,6 +125,25 @@ part_of ls ws is (UnionY number) sized k ty e = by (slice_get ls number) refl e
         nothing (suc k) e = absurd cc
     by (Some l) eo e = first_at ls ws l.members (layout_at ls ws ls is number l eo) k ty e
 
+-- ---- what items fill
+
+pub value_taken : (global : Bool) (ty : Ty) (x : TExprT) → takes_value global ty x ≡ true → converts (type_of_typed x) ty ≡ true
+value_taken global ty x e =
+    both_second (not (is_array ty)) (converts (type_of_typed x) ty) (both_first (not (is_array ty) && converts (type_of_typed x) ty) (not global || (not (rules.is_structure ty) && is_fixed x)) e)
+
+-- the part that an item fills
+pub record Part (z : Scene) (global : Bool) (i : TInitT) (whole : Ty) (k : ℕ) : Type 0 where
+  pub ty : Ty
+  pub same : part_type z.layouts whole k ≡ ty
+  pub sized : IsSized z.layouts z.whole ty
+  pub filled : FillsAs z global i (Some ty)
+
+pub part_filled : (z : Scene) → AreDeclaredAs z.layouts z.whole z.layouts → (global : Bool) (i : TInitT) (ty : Ty) (k : ℕ) → IsSized z.layouts z.whole ty → (o : Option Ty) → next_slot (places z.layouts ty k) ≡ o → FillsAs z global i o → Part z global i ty k
+part_filled z declared global i ty k sized None e is = absurd is
+part_filled z declared global i ty k sized (Some part) e is =
+    let m = part_of z.layouts z.whole declared ty sized k part e in
+    record { ty = part; same = m.0; sized = m.1; filled = is }
+
 -- ---- few words
 
 mod_least : (n m : ℕ) → n ≤ m → m < 2 ^ 32 → n % 2 ^ 32 ≡ n
@@ -157,44 +173,23 @@ text_few (t ∷ ts) (suc k) = let e = sum_by-cons (λ t. length t + 1) t ts in l
 
 -- ---- initialisers, of a program whose layouts and texts are sound
 
-module _ (p : ProgramT) (declared : AreDeclaredAs p.layouts (wholes p.layouts) p.layouts) (texts : text_words p.literals ≤ 4000000) (sc : (f : ℕ) (g : TFunctionT) → slice_get p.functions f ≡ Some g → ScalarTypes g.params × (is_structure g.gives ≡ false)) (locals : List ℕ) where
+module _ (p : ProgramT) (declared : AreDeclaredAs p.layouts (wholes p.layouts) p.layouts) (texts : text_words p.literals ≤ 4000000) (locals : List ℕ) where
   abbrev z : Scene
   z = in_call (scene p) locals
 
   abbrev h : Shape
   h = shape p
 
-  value_taken : (global : Bool) (ty : Ty) (x : TExprT) → takes_value global ty x ≡ true → converts (type_of_typed x) ty ≡ true
-  value_taken global ty x e =
-      both_second (not (is_array ty)) (converts (type_of_typed x) ty) (both_first (not (is_array ty) && converts (type_of_typed x) ty) (not global || (not (rules.is_structure ty) && is_fixed x)) e)
-
-  -- the part that an item fills
-  record Part (global : Bool) (i : TInitT) (whole : Ty) (k : ℕ) : Type 0 where
-    pub ty : Ty
-    pub same : part_type p.layouts whole k ≡ ty
-    pub sized : IsSized p.layouts (wholes p.layouts) ty
-    pub filled : FillsAs z global i (Some ty)
-
-  part_filled : (global : Bool) (i : TInitT) (ty : Ty) (k : ℕ) → IsSized p.layouts (wholes p.layouts) ty → (o : Option Ty) → next_slot (places p.layouts ty k) ≡ o → FillsAs z global i o → Part global i ty k
-  part_filled global i ty k sized None e is = absurd is
-  part_filled global i ty k sized (Some part) e is =
-      let m = part_of p.layouts (wholes p.layouts) declared ty sized k part e in
-      record { ty = part; same = m.0; sized = m.1; filled = is }
-
   mutual
     pub fill_plain : (global : Bool) (i : TInitT) (ty : Ty) → IsSized p.layouts (wholes p.layouts) ty → FillsAs z global i (Some ty) → Fills h i ty
-    fill_plain global (OneI x) ty sized is =
-        let becomes = value_taken global ty x is.1 in (
-          λ e. let ex = from_scalar (type_of_typed x) ty becomes e in (plain z sc x (is.0).typed (λ f. ex), scalar_of x ex),
-          λ e. let ex = from_structure (type_of_typed x) ty becomes e in (structure z sc x (is.0).typed ex, structure_of x ex),
-        )
+    fill_plain global (OneI x) ty sized is = plain_as z x ty (is.0).typed (value_taken global ty x is.1)
     fill_plain global (TextI number) ty sized is = let le = text_few p.literals number in omega (arith, le, texts)
     fill_plain global (ListI items) ty sized is = fills_plain global items ty 0 sized (subst (FillEach z global items) (places_first p.layouts ty) is.1)
 
     fills_plain : (global : Bool) (items : TInitTs) (ty : Ty) (k : ℕ) → IsSized p.layouts (wholes p.layouts) ty → FillEach z global items (places p.layouts ty k) → FillAll h items ty k
     fills_plain global NoI ty k sized is = rest_few p.layouts h refl (wholes p.layouts) ty sized.known k
     fills_plain global (MoreI i rest) ty k sized is =
-        let m = part_filled global i ty k sized (next_slot (places p.layouts ty k)) refl is.0 in
+        let m = part_filled z declared global i ty k sized (next_slot (places p.layouts ty k)) refl is.0 in
         (subst (Fills h i) (sym m.same) (fill_plain global i m.ty m.sized m.filled), fills_plain global rest ty (k + 1) sized (subst (FillEach z global rest) (places_later p.layouts ty k) is.1))
 
   pub vars_plain : (global : Bool) (vs : List TVarT) → AreFilled z global vs → FillVars h vs

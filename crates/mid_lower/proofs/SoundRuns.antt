@@ -1,4 +1,4 @@
--- The lowered code of a sound program keeps its runs, where no function takes or gives a structure or union.
+-- The lowered code of a sound program keeps its runs.
 use Rattle.std.proofs.Common.{◌≡◌, ℕ, zero, suc, ◌≤◌, true, false, List, [], ◌∷◌, length, sum_by, slice_get, Option, Some, None, refl, subst, arith}
 use Rattle.std.proofs.lemmas.List.Sums.{sum_by-cons}
 use Rattle.c_types.specs.Types.{Ty, VoidY, IntY, BoolY, EnumY, StructY, UnionY, PointerY, ArrayY}
@@ -19,13 +19,12 @@ use Rattle.mid_lower.specs.Counts.{vars_sizes, stmts_sizes}
 use Rattle.mid_lower.specs.Expressions.{is_void}
 use Rattle.mid_lower.specs.Lowered.{lowered}
 use Rattle.mid_lower.proofs.Trees.{Below, PlainStmts}
-use Rattle.mid_lower.proofs.NoStructurePassed.{PassesNoStructure}
 use Rattle.mid_lower.proofs.Operands.{both_second}
 use Rattle.mid_lower.proofs.SoundInitialisers.{vars_plain}
 use Rattle.mid_lower.proofs.FixedGlobals.{vars_quiet, both_quiet}
 use Rattle.mid_lower.proofs.SoundPrograms.{objects_below, stmts_plain}
+use Rattle.mid_lower.proofs.PlainPrograms.{IsPlain}
 use Rattle.mid_lower.proofs.RunsKept as runs
-use Rattle.mid_lower.proofs.RunsKept.{IsPlain}
 
 function_at : (z : Scene) (fs : List TFunctionT) → AreFunctions z fs → (k : ℕ) (g : TFunctionT) → slice_get fs k ≡ Some g → IsFunction z g
 function_at z [] is k g e = absurd cc
@@ -54,21 +53,21 @@ main_at : (o : Option TFunctionT) → holds is_plain o ≡ true → (g : TFuncti
 main_at None e = absurd cc
 main_at (Some g) e = (g, refl, void_same g.gives (both_second (same_types g.params []) (rules.is_void g.gives) e))
 
-module _ (p : ProgramT) (sound : IsSound p) (few : program_nodes p ≤ 200000) (simple : PassesNoStructure p) where
-  body_plain : (f : ℕ) (g : TFunctionT) → slice_get p.functions f ≡ Some g → PlainStmts (shape p) (length g.locals) (is_void g.gives) g.body
+module _ (p : ProgramT) (sound : IsSound p) (few : program_nodes p ≤ 200000) where
+  body_plain : (f : ℕ) (g : TFunctionT) → slice_get p.functions f ≡ Some g → PlainStmts (shape p) (length g.locals) g.gives g.body
   body_plain f g e =
       let is = function_at (scene p) p.functions sound.functions f g e in
       let nodes = nodes_at p.functions f g e in
-      stmts_plain p sound.layouts sound.literals simple.types g.locals g.gives (simple.types f g e).1 g.body false false is.body (omega (arith, nodes, few))
+      stmts_plain p sound.layouts sound.literals g.locals g.gives g.body false false is.body (omega (arith, nodes, few))
 
   made_below : (f : ℕ) (g : TFunctionT) → slice_get p.functions f ≡ Some g → Below (length g.locals) g.made
   made_below f g e =
       let is = function_at (scene p) p.functions sound.functions f g e in
-      objects_below p sound.layouts sound.literals simple.types g.locals g.gives (simple.types f g e).1 0 g.made is.rising
+      objects_below p sound.layouts sound.literals g.locals g.gives 0 g.made is.rising
 
-  inits_plain : (xs : List TStmtT) → FillGlobals (scene p) xs → PlainStmts (shape p) 0 true (tstmts xs)
+  inits_plain : (xs : List TStmtT) → FillGlobals (scene p) xs → PlainStmts (shape p) 0 VoidY (tstmts xs)
   inits_plain [] is = tt
-  inits_plain (VarsZ vars ∷ xs) is = (vars_plain p sound.layouts sound.literals simple.types [] true vars is.0, inits_plain xs is.1)
+  inits_plain (VarsZ vars ∷ xs) is = (vars_plain p sound.layouts sound.literals [] true vars is.0, inits_plain xs is.1)
   inits_plain (BlockZ made body ∷ xs) is = absurd is.0
   inits_plain (EmptyZ ∷ xs) is = absurd is.0
   inits_plain (DoZ x ∷ xs) is = absurd is.0
@@ -98,7 +97,6 @@ module _ (p : ProgramT) (sound : IsSound p) (few : program_nodes p ≤ 200000) (
 
   sound_plain : IsPlain p
   sound_plain = record {
-    types = simple.types;
     made = made_below;
     tidy = body_plain;
     inits = inits_plain p.inits sound.inits;

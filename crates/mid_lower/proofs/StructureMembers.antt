@@ -1,5 +1,5 @@
 -- Members of structures that are values and stand at no place.
-use Rattle.std.proofs.Common.{◌≡◌, ℕ, ◌+◌, ◌%◌, ◌^◌, ◌<◌, ◌≤◌, true, false, eqb, length, refl, sym, ap, ◌∙◌, subst, arith, if◌then◌else◌}
+use Rattle.std.proofs.Common.{◌≡◌, ℕ, ◌+◌, ◌%◌, ◌^◌, ◌<◌, ◌≤◌, true, false, eqb, [], ◌∷◌, length, refl, sym, ap, ◌∙◌, subst, arith, if◌then◌else◌}
 use Rattle.c_tree.specs.declared.span.Span.{Span}
 use Rattle.c_types.specs.Types.{Ty}
 use Rattle.c_types.specs.Typed.{TExprT}
@@ -31,9 +31,9 @@ use Rattle.mid_lower.proofs.Room.{Room, room_first, join_length}
 use Rattle.mid_lower.proofs.Storing.{loads}
 use Rattle.mid_lower.proofs.OperatorForms.{begin_value}
 use Rattle.mid_lower.proofs.StructureValues.{anew, back_to}
-use Rattle.mid_lower.proofs.Taken.{Taken, taken_here, taken_on, taken_left}
+use Rattle.mid_lower.proofs.Taken.{Taken, taken_less, taken_here, taken_on, taken_left}
 use Rattle.mid_lower.proofs.Structures.{structure_goal, SimS, FollowValue}
-use Rattle.mid_lower.proofs.StructureUses.{taken_then, begin_structure, less_taken}
+use Rattle.mid_lower.proofs.StructureUses.{taken_then, begin_structure}
 
 module _ (S : Site) where
   abbrev R : NodesT ℕ → Mid → Res Mid
@@ -62,7 +62,7 @@ module _ (S : Site) where
       (by hi hv (omega (arith, l)) (evaluated S.s S.bound S.prev e w) (R (low h e t n m c) (mk w x)) (sim t n m c w x st tn fit (room_first S (base_of w x) m (sizes h e) (read_sizes h (is_place e) (type_of e)) room)))
     where
       by : (hi hv : ℕ) → hi ≤ hv → (r : Val) (q : Res Mid) → SimS (structure_goal t n w x) (R c) hi r q → SimS (structure_goal t n w x) (R c) hv (value_of S.s S.bound e r) q
-      by hi hv le (Value d v) q a = (a.0, a.1, a.2, a.3, a.4, less_taken S (structure_goal t n w x) 0 hi hv a.0 v a.3 le a.5, a.6)
+      by hi hv le (Value d v) q a = (a.0, a.1, a.2, a.3, a.4, taken_less (structure_goal t n w x) 0 0 hi hv (a.0 ∷ []) v a.3 (omega arith) le a.5, a.6)
       by hi hv le (Place p v) q a = absurd a
       by hi hv le (NoValue v) q a = a
       by hi hv le (Stops f v) q a = a
@@ -74,7 +74,7 @@ module _ (S : Site) where
 
     pub moved_into : {A : Type 0} (T : A → Res Mid → Type 0) (r : A) → ((y : Side) → Now γ1 s w y → y.temps t ≡ further (Ptr o j) offset → T r (R c (mk w y))) → T r (R (part.moved_by t n offset c) (mk w x))
     moved_into T r f =
-        sets S T γ1 (s + 8) w x t (Num offset) (ConstO t offset) (Do (StepO t n t) c) (spare γ1 (s + 16) (s + 8 + 8) w x (omega arith) (taken_here γ (s + 16) hi o w x h0)) free refl r (λ y hy ey rest.
+        sets S T γ1 (s + 8) w x t (Num offset) (ConstO t offset) (Do (StepO t n t) c) (spare γ1 (s + 16) (s + 8 + 8) w x (omega arith) (taken_here γ (s + 16) hi (o ∷ []) w x h0)) free refl r (λ y hy ey rest.
         sets S T γ1 s w y t (further (Ptr o j) offset) (StepO t n t) c hy free (ap (λ q. to temporaries t q (spent 8 (mk w y))) (step_eq (Ptr o j) (Num offset) (y.temps n) (y.temps t) (rest n ne ∙ at) ey)) r (λ z hz ez rest2. f z hz ez))
 
   -- a structure within it
@@ -94,7 +94,7 @@ module _ (S : Site) where
           (subst (λ z. SimS g (R c) hi (Value (further z offset) wa) q) (sym a.2)
           (subst (SimS g (R c) hi (Value into wa)) (sym a.4)
           (moved_into g 48 t n hi a.0 a.1 offset wa a.3 c (as_64 g hi a.0 wa a.3 k) (at_free g) (eqb_more n t tn) (a.6 ∙ a.2) (SimS g (R c) hi) (Value into wa)
-          (λ z hz ez. (a.0, (a.1 + offset) % 2 ^ 32, refl, z, refl, less_taken S g 48 hi hi a.0 wa z (omega arith) (taken_on g 64 48 hi a.0 wa a.3 wa z k hz), ez)))))
+          (λ z hz ez. (a.0, (a.1 + offset) % 2 ^ 32, refl, z, refl, taken_less g 48 0 hi hi (a.0 ∷ []) wa z (omega arith) (omega arith) (taken_on g 64 48 hi (a.0 ∷ []) wa a.3 wa z k hz), ez)))))
         where
           as_64 : (g : Goal) (hi o : ℕ) (wa : World) (xa : Side) → Taken g (44 + 20) hi o wa xa → Taken g (48 + 16) hi o wa xa
           as_64 g hi o wa xa k = k
@@ -123,7 +123,7 @@ module _ (S : Site) where
           (subst (SimV g (R c) false r) (sym a.4)
           (moved_into g 40 t n hi a.0 a.1 offset wa a.3 (Do (LoadO t t) c) (as_56 g hi a.0 wa a.3 k) (at_free g) (eqb_more n t tn) (a.6 ∙ a.2) (SimV g (R c) false) r
           (λ z hz ez. loads S g1 σ span wa 32 z ty t t into c (as_40 g1 wa z hz) (at_free g) ez (λ v. Value v (on_store (end_temporary into) wa))
-          (λ v b hb eb rest. (refl, back_to g.base.floor b, refl, less_now g 32 (on_store (end_temporary into) wa) (back_to g.base.floor b) (taken_left g 32 hi a.0 ((a.1 + offset) % 2 ^ 32) wa b (taken_on g 56 32 hi a.0 wa a.3 wa b k hb)), eb))))))
+          (λ v b hb eb rest. (refl, back_to g.base.floor b, refl, less_now g 32 (on_store (end_temporary into) wa) (back_to g.base.floor b) (taken_left g 32 hi a.0 ((a.1 + offset) % 2 ^ 32) wa b (taken_on g 56 32 hi (a.0 ∷ []) wa a.3 wa b k hb)), eb))))))
         where
           as_56 : (g : Goal) (hi o : ℕ) (wa : World) (xa : Side) → Taken g (36 + 20) hi o wa xa → Taken g (40 + 16) hi o wa xa
           as_56 g hi o wa xa k = k

@@ -1,5 +1,5 @@
 -- Structures that are values are used: assigned, and dropped.
-use Rattle.std.proofs.Common.{◌≡◌, ℕ, ◌+◌, ◌<◌, ◌≤◌, ◌^◌, Bool, true, false, ◌++◌, length, Some, None, Ok, refl, sym, ap, ◌∙◌, subst, arith, if◌then◌else◌}
+use Rattle.std.proofs.Common.{◌≡◌, ℕ, ◌+◌, ◌<◌, ◌≤◌, ◌^◌, Bool, true, false, [], ◌∷◌, ◌++◌, length, Some, None, Ok, refl, sym, ap, ◌∙◌, subst, arith, if◌then◌else◌}
 use Rattle.std.proofs.lemmas.Bool.{false≢true}
 use Rattle.c_tree.specs.declared.span.Span.{Span}
 use Rattle.c_types.specs.Types.{Ty, VoidY, IntY, BoolY, EnumY, StructY, UnionY, PointerY, ArrayY}
@@ -38,7 +38,7 @@ use Rattle.mid_lower.proofs.Room.{Room, room_at, room_first, room_second}
 use Rattle.mid_lower.proofs.Values.{Follow}
 use Rattle.mid_lower.proofs.CellLoops.{copies}
 use Rattle.mid_lower.proofs.StructureValues.{anew, back_to}
-use Rattle.mid_lower.proofs.Taken.{Taken, taken_here, taken_on, taken_left}
+use Rattle.mid_lower.proofs.Taken.{Taken, taken_less, taken_here, taken_on, taken_left}
 use Rattle.mid_lower.proofs.Structures.{structure_goal, SimS, FollowValue}
 
 -- what a part has taken, in the whole
@@ -154,14 +154,11 @@ module _ (S : Site) where
         subst (λ d. T (src.assigned S.s S.bound e span place (Ptr o j) w) (R d (mk w x))) (sym (same_code (type_of e) known t (part.stored h (type_of e) p t c) structure))
         (subst (λ q. T (asked Stops span w q (λ z. then_went Stops (stored S.s S.bound 0 (type_of e) (span_of e) place z w) (λ u. Value z u))) (R (part.stored h (type_of e) p t c) (mk w x))) (sym (kept_structure (type_of e) (Ptr o j) structure))
         (subst (λ b. T (then_went Stops (if b then cells_set (span_of e) (0 + 1) S.bound size (Some (Ptr o j)) place w else asked CutOff (span_of e) (spend 0 w) (write w.store.objects place (Ptr o j)) (λ os. Through (on_store (with_objects os) (spend 0 w)))) (λ u. Value (Ptr o j) u)) (R (if b then Do (MoveO part.from t) (Do (MoveO part.to p) (part.copied size c)) else Do (StoreO p t) c) (mk w x))) (sym structure)
-        (sets S T γ1 (s + 24) w x part.from (Ptr o j) (MoveO part.from t) (Do (MoveO part.to p) (part.copied size c)) (spare γ1 (s + 32) (s + 24 + 8) w x (omega arith) (taken_here γ (s + 32) hi o w x h0)) (low_free γ1 part.from (omega arith)) (ap (λ z. to temporaries part.from (Ok z) (spent 8 (mk w x))) at) r (λ y hy ey rest.
+        (sets S T γ1 (s + 24) w x part.from (Ptr o j) (MoveO part.from t) (Do (MoveO part.to p) (part.copied size c)) (spare γ1 (s + 32) (s + 24 + 8) w x (omega arith) (taken_here γ (s + 32) hi (o ∷ []) w x h0)) (low_free γ1 part.from (omega arith)) (ap (λ z. to temporaries part.from (Ok z) (spent 8 (mk w x))) at) r (λ y hy ey rest.
         sets S T γ1 (s + 16) w y part.to place (MoveO part.to p) (part.copied size c) (spare γ1 (s + 24) (s + 16 + 8) w y (omega arith) hy) (low_free γ1 part.to (omega arith)) (ap (λ z. to temporaries part.to (Ok z) (spent 8 (mk w y))) (rest p (eqb_more p part.from (omega (arith, five_p))) ∙ there)) r (λ z hz ez rest2.
         copies S γ1 (span_of e) 1 (omega arith) σ s size (omega (arith, few)) (Ptr o j) place w z c hz (rest2 part.from refl ∙ ey) ez (λ u. Value (Ptr o j) u) (λ v u hu others.
-        f v u (taken_on γ (s + 32) (s + 16) hi o w x v u h0 hu) (others t five ∙ rest2 t (eqb_more t part.to (omega (arith, five))) ∙ rest t (eqb_more t part.from (omega (arith, five))) ∙ at)
+        f v u (taken_on γ (s + 32) (s + 16) hi (o ∷ []) w x v u h0 hu) (others t five ∙ rest2 t (eqb_more t part.to (omega (arith, five))) ∙ rest t (eqb_more t part.from (omega (arith, five))) ∙ at)
         (λ i g. others i g ∙ rest2 i (eqb_more i part.to (omega (arith, g))) ∙ rest i (eqb_more i part.from (omega (arith, g))))))))))
-
-  pub less_taken : (γ : Goal) (s hi hi2 o : ℕ) (w : World) (x : Side) → hi ≤ hi2 → Taken γ s hi o w x → Taken γ 0 hi2 o w x
-  less_taken γ s hi hi2 o w x le h = let m = h.most in record { fit = h.fit; same_function = h.same_function; same_own = h.same_own; later = h.later; over = h.over; most = omega (arith, m, le); long = h.long; keep = h.keep; there = h.there; mine = h.mine; below = h.below; cost = omega (arith, h.cost) }
 
   -- the assignment of a structure, whose value is that structure
   pub assign_structure : (a b : TExprT) → Follow S a → FollowValue S b → is_structure (type_of a) ≡ true → (span : Span) (t n m hi : ℕ) (c : NodesT ℕ) (w : World) (y : Side) → scratch ≤ t → t < n → Fit w y → Room S (base_of w y) m (sizes h a ++ value_sizes h b) → m + length (sizes h a) + length (value_sizes h b) ≤ hi
@@ -183,7 +180,7 @@ module _ (S : Site) where
       (λ d wb. src.assigned S.s S.bound a span p d wb)
       (λ o j wb xb hx at2 below2.
       structure_stored γ 84 t n2 n hb o j a (is_flag b) span p wb xb c (more γ hb o wb xb hx) structure (omega (arith, st)) (omega (arith, st, tn)) at2 (below2 n (omega (arith, st, tn)) (omega arith) (eqb_more n t tn) ∙ at) T (λ f v q k. k)
-      (λ v z hz at3 keep. (o, j, refl, z, refl, less_taken γ 100 hb hi o v z (omega (arith, most)) (same γ hb o v z hz), at3))))
+      (λ v z hz at3 keep. (o, j, refl, z, refl, taken_less γ 100 0 hb hi (o ∷ []) v z (omega arith) (omega (arith, most)) (same γ hb o v z hz), at3))))
     where
       more : (γ : Goal) (hi o : ℕ) (w : World) (x : Side) → Taken γ (96 + 20) hi o w x → Taken γ (84 + 32) hi o w x
       more γ hi o w x h = h

@@ -1,7 +1,6 @@
 -- A structure that is a value stands in a local that was not in use, and the local is no longer in use once the value was used.
-use Rattle.std.proofs.Common.{◌≡◌, nat_lt, ℕ, zero, suc, ◌+◌, ◌<◌, ◌≤◌, ◌^◌, Bool, true, false, eqb, List, [], ◌∷◌, ◌++◌, length, set, Option, Some, None, Ok, refl, sym, ap, ◌∙◌, subst, arith}
-use Rattle.std.proofs.lemmas.Bool.{false≢true, ltb-true}
-use Rattle.std.proofs.lemmas.Bool.Decides.{nat_tests}
+use Rattle.std.proofs.Common.{◌≡◌, ℕ, zero, suc, ◌+◌, ◌<◌, ◌≤◌, ◌^◌, false, eqb, List, [], ◌∷◌, ◌++◌, length, set, Option, Some, None, Ok, refl, sym, ap, ◌∙◌, subst, arith}
+use Rattle.std.proofs.lemmas.Bool.{false≢true}
 use Rattle.c_tree.specs.declared.span.Span.{Span}
 use Rattle.obj_mem.specs.Objects.{ObjectT, object, made, unwritten, end_object}
 use Rattle.obj_mem.specs.declared.cell.Cell.{Cell}
@@ -10,18 +9,17 @@ use Rattle.obj_mem.specs.declared.cell.ObjectKind.TheVariants as kind
 use Rattle.obj_mem.specs.Stores.{local_object, words_here, end_local, with_temporary, next_object}
 use Rattle.obj_mem.specs.Queries.{first_cell}
 use Rattle.obj_mem.specs.Worlds.{World, on_store}
-use Rattle.c_meaning.specs.Cells.{cells_set, end_temporary}
+use Rattle.c_meaning.specs.Cells.{cells_set}
 use Rattle.c_meaning.specs.Outcomes.{then_went}
 use Rattle.mid_code.specs.Code.{FreshO, MoveO, LocalO, NodesT, Do}
 use Rattle.mid_code.specs.Meaning.{Res}
 use Rattle.mid_code.specs.States.{temporaries, sizes_of, to, spent}
 use Rattle.mid_lower.specs.Parts as part
 use Rattle.mid_lower.proofs.Grows.{Mid}
-use Rattle.mid_lower.proofs.Under.{Under, under_end, under_join, under_length}
-use Rattle.mid_lower.proofs.Lives.{Ended, Gone, Later, later_then, later_gone, later_end, later_join, end_ends}
+use Rattle.mid_lower.proofs.Under.{Under, under_join, under_length}
+use Rattle.mid_lower.proofs.Lives.{Ended, Gone, later_gone, later_join}
 use Rattle.mid_lower.proofs.Fits.{Site}
 use Rattle.mid_lower.proofs.Following.{Side, mk, base_of, Goal, Fit, stays_here, Now, Way, Free, spare, kept_wider, low_free, eqb_more, M, sets}
-use Rattle.mid_lower.proofs.Locals.{set_length}
 use Rattle.mid_lower.proofs.CellLoops.{copies}
 
 -- ---- locals behind the function's own
@@ -90,9 +88,6 @@ pub join_one : (xs : List ObjectT) (y : ObjectT) → length (xs ++ y ∷ []) ≡
 join_one [] y = refl
 join_one (x ∷ xs) y = ap suc (join_one xs y)
 
-both_not : (k i : ℕ) → nat_lt k i ≡ false → nat_lt i k ≡ false → k ≡ i
-both_not k i a b = grind (arith, nat_tests)
-
 taken_fit : (i size : ℕ) (w : World) (x : Side) → Fit w x → x.floor ≤ i → Fit (with_value size w) (taken i size w x)
 taken_fit i size w x h le = record {
   under = under_join w.store.objects (end_local (local_object x.extra i) x.objs) (object kind.Local (unwritten size)) refl (under_gone_local (local_object x.extra i) w.store.objects x.objs h.under (h.unused i le));
@@ -100,65 +95,20 @@ taken_fit i size w x h le = record {
       (later_gone w.store.objects (w.store.objects ++ object kind.Local (unwritten size) ∷ []) (local_object x.extra j) (later_join w.store.objects (object kind.Local (unwritten size) ∷ [])) (h.unused j (omega (arith, lt, le))));
 }
 
-taken_now : (γ : Goal) (s i size : ℕ) (w : World) (x : Side) → Now γ s w x → x.floor ≤ i → Now (anew γ (with_value size w) (taken i size w x)) s (with_value size w) (taken i size w x)
+pub taken_now : (γ : Goal) (s i size : ℕ) (w : World) (x : Side) → Now γ s w x → x.floor ≤ i → Now (anew γ (with_value size w) (taken i size w x)) s (with_value size w) (taken i size w x)
 taken_now γ s i size w x h le = record {
   stays = stays_here (with_value size w) (taken i size w x) (taken_fit i size w x h.stays.fit le);
   below = h.below;
   cost = omega (arith, h.cost);
 }
 
--- the local of an object that a tree has made
-abbrev pub at_object : World → Option ℕ
-at_object w = Some (length w.store.objects)
+-- a pointer to it
+pub cell_there : (γ : Goal) (q k i size : ℕ) (w : World) (x : Side) (v : World) (y : Side) → k ≡ length w.store.locals + i → i < length x.extra → Now (anew γ (with_value size w) (taken i size w x)) q v y → first_cell (local_object (v.store.locals ++ y.extra) k) ≡ Ok (next_object w.store)
+cell_there γ q k i size w x v y at lt n = ap first_cell (local_behind v.store.locals y.extra k i (at ∙ ap (λ l. l + i) (sym n.stays.same_own)) ∙ n.stays.keep i (omega arith) ∙ set_there x.extra i (Some (length w.store.objects)) lt)
 
 -- no longer in use
 abbrev pub back_to : ℕ → Side → Side
 back_to floor y = record y { floor = floor }
-
-pub leave : (γ : Goal) (s s' i size j : ℕ) (w : World) (x : Side) (v : World) (y : Side) → Now γ s w x → x.floor ≤ i → i < length x.extra → Now (anew γ (with_value size w) (taken i size w x)) s' v y → Now γ s' (on_store (end_temporary (Ptr (length w.store.objects) j)) v) (back_to x.floor y)
-leave γ s s' i size j w x v y h le lt p =
-    let o : ℕ = length w.store.objects in
-    let w1 : World = with_value size w in
-    let longer : o < length v.store.objects = let l = p.stays.later.longer in let m = join_one w.store.objects (object kind.Local (unwritten size)) in omega (arith, l, m) in
-    let before : Later w.store.objects v.store.objects = later_then w.store.objects w1.store.objects v.store.objects (later_join w.store.objects (object kind.Local (unwritten size) ∷ [])) p.stays.later in
-    let after : Later w.store.objects (end_object v.store.objects o) = later_then w.store.objects v.store.objects (end_object v.store.objects o) before (later_end v.store.objects o) in
-    let fl = h.stays.same_floor in
-    record {
-      stays = record {
-        fit = record {
-          under = under_end v.store.objects y.objs o p.stays.fit.under;
-          unused = λ k g. free k g (ends_at longer) (later_end v.store.objects o) after;
-        };
-        same_function = p.stays.same_function ∙ h.stays.same_function;
-        same_own = p.stays.same_own ∙ h.stays.same_own;
-        later = later_then γ.base.objects w.store.objects (end_object v.store.objects o) h.stays.later after;
-        same_floor = fl;
-        long = p.stays.long ∙ set_length x.extra i (Some o) ∙ h.stays.long;
-        keep = λ k g. p.stays.keep k (omega (arith, g, fl, le)) ∙ set_elsewhere x.extra i k (Some o) (λ e. omega (arith, g, fl, le, e)) ∙ h.stays.keep k g;
-      };
-      below = p.below;
-      cost = p.cost;
-    }
-  where
-    ends_at : length w.store.objects < length v.store.objects → Gone (end_object v.store.objects (length w.store.objects)) (Some (length w.store.objects))
-    ends_at l = (let e = end_long (Some (length w.store.objects)) v.store.objects in omega (arith, l, e), end_ends v.store.objects (length w.store.objects))
-
-    free : (k : ℕ) → x.floor ≤ k → Gone (end_object v.store.objects (length w.store.objects)) (Some (length w.store.objects)) → Later v.store.objects (end_object v.store.objects (length w.store.objects)) → Later w.store.objects (end_object v.store.objects (length w.store.objects)) → Gone (end_object v.store.objects (length w.store.objects)) (local_object y.extra k)
-    free k g at l la = by (nat_lt k i) (nat_lt i k) refl refl
-      where
-        by : (a b : Bool) → nat_lt k i ≡ a → nat_lt i k ≡ b → Gone (end_object v.store.objects (length w.store.objects)) (local_object y.extra k)
-        by true b ea eb =
-            let lk : k < i = ltb-true k i ea in
-            subst (Gone (end_object v.store.objects (length w.store.objects))) (sym (p.stays.keep k (omega (arith, lk)) ∙ set_elsewhere x.extra i k (Some (length w.store.objects)) (λ e. omega (arith, lk, e))))
-            (later_gone w.store.objects (end_object v.store.objects (length w.store.objects)) (local_object x.extra k) la (h.stays.fit.unused k g))
-        by false true ea eb =
-            let lk : i < k = ltb-true i k eb in
-            let fl = p.stays.same_floor in
-            later_gone v.store.objects (end_object v.store.objects (length w.store.objects)) (local_object y.extra k) l (p.stays.fit.unused k (omega (arith, lk, fl)))
-        by false false ea eb =
-            let same : k ≡ i = both_not k i ea eb in
-            subst (λ q. Gone (end_object v.store.objects (length w.store.objects)) (local_object y.extra q)) (sym same)
-            (subst (Gone (end_object v.store.objects (length w.store.objects))) (sym (p.stays.keep i (omega arith) ∙ set_there x.extra i (Some (length w.store.objects)) lt)) at)
 
 -- ---- a structure that is read
 
@@ -169,7 +119,7 @@ module _ (S : Site) where
   abbrev taking : Option ℕ → ℕ → List (Option ℕ) → World → Side → Mid
   taking lo size ls w x = record { world = record { store = record w.store { objects = made (end_local lo x.objs) kind.Local (unwritten size); locals = ls }; events = w.events; work = x.work + 0 }; cells = x.temps; given = x.given }
 
-  taken_is : (i size k : ℕ) (c : NodesT ℕ) (w : World) (x : Side) → Fit w x → k ≡ length w.store.locals + i → words_here (sizes_of S.code S.frames) w.store.function k ≡ size → x.floor ≤ i → R (Do (FreshO k) c) (mk w x) ≡ R c (mk (with_value size w) (taken i size w x))
+  pub taken_is : (i size k : ℕ) (c : NodesT ℕ) (w : World) (x : Side) → Fit w x → k ≡ length w.store.locals + i → words_here (sizes_of S.code S.frames) w.store.function k ≡ size → x.floor ≤ i → R (Do (FreshO k) c) (mk w x) ≡ R c (mk (with_value size w) (taken i size w x))
   taken_is i size k c w x h at e le =
       ap (λ lo. R c (taking lo (words_here (sizes_of S.code S.frames) w.store.function k) (set (w.store.locals ++ x.extra) k (Some (length x.objs))) w x)) (local_behind w.store.locals x.extra k i at)
       ∙ ap (λ z. R c (taking (local_object x.extra i) z (set (w.store.locals ++ x.extra) k (Some (length x.objs))) w x)) e
@@ -188,7 +138,7 @@ module _ (S : Site) where
     value_at = Ptr (length w.store.objects) 0
 
     here : (v : World) (y : Side) (q : ℕ) → Now γ1 q v y → first_cell (local_object (v.store.locals ++ y.extra) k) ≡ Ok value_at
-    here v y q n = ap first_cell (local_behind v.store.locals y.extra k i (at ∙ ap (λ l. l + i) (sym n.stays.same_own)) ∙ n.stays.keep i (omega arith) ∙ set_there x.extra i (Some (length w.store.objects)) lt)
+    here v y q n = cell_there γ q k i size w x v y at lt n
 
     pub structure_copied : (p : Cell) → x.temps t ≡ p → (go : World → σ.R) → ((v : World) (y : Side) → Now γ1 (s + 28) v y → y.temps t ≡ value_at → ((j : ℕ) → 5 ≤ j → eqb j t ≡ false → y.temps j ≡ x.temps j) → σ.T (go v) (R c (mk v y)))
         → σ.T (then_went σ.stop (cells_set span 1 S.bound size (Some p) (next_object w.store) (with_value size w)) go) (R (part.structure_read size k t c) (mk w x))

@@ -24,11 +24,12 @@ use Rattle.mid_lower.specs.Statements.{Jump, ToEnd, ToTurn, further, low_stmt, l
 use Rattle.mid_lower.proofs.Grows.{Mid, Grows, more, then_grows, block_grows}
 use Rattle.mid_lower.proofs.Trees.{PlainValue, Below}
 use Rattle.mid_lower.proofs.Fits.{Site}
+use Rattle.mid_lower.proofs.Giving.{Giving, giving}
 use Rattle.mid_lower.proofs.Room.{Room, room_at, room_first, room_second}
 use Rattle.mid_lower.proofs.Following.{Side, mk, Goal, Now, Way, Free, scratch, paid, paid_now, less_now, spare, now_work, kept_through, low_free, above_free, eqb_less, eqb_more, M, M_grows, sets}
 use Rattle.mid_lower.proofs.Instructions.{two_eq}
 use Rattle.mid_lower.proofs.Values.{uses}
-use Rattle.mid_lower.proofs.Outcomes.{SimD, way_d, plain, stmt, wide, stmt_plain, stmt_now, begin_stmt}
+use Rattle.mid_lower.proofs.Outcomes.{HasPlace, has_place, SimD, way_d, plain, stmt, wide, stmt_plain, stmt_now, begin_stmt}
 use Rattle.mid_lower.proofs.Locals.{HomeOf, ends, mades}
 use Rattle.mid_lower.proofs.LoopForms.{Earlier, FollowStmt, sim, home_after}
 use Rattle.mid_lower.proofs.Chosen.{Passes, chosen, chosen_passes, chosen_fits}
@@ -76,9 +77,12 @@ module _ (S : Site) where
 
   -- ---- the arms
 
-  module _ (before : Earlier S) (r : Cell) (ty : Ty) (v : Bool) (own : ℕ) where
+  module _ (before : Earlier S) (r : Cell) (ty : Ty) (own : ℕ) where
     abbrev h : Shape
     h = shape_in S.s
+
+    abbrev v : Giving
+    v = giving ty r
 
     abbrev k_next : Mid → Res Mid
     k_next t = Next t
@@ -88,7 +92,7 @@ module _ (S : Site) where
     AllFollow NoB = Unit {0}
     AllFollow (MoreB (CaseB label) rest) = AllFollow rest
     AllFollow (MoreB DefaultB rest) = AllFollow rest
-    AllFollow (MoreB (StmtB a) rest) = FollowStmt S before r ty v own a × AllFollow rest
+    AllFollow (MoreB (StmtB a) rest) = FollowStmt S before r ty own a × AllFollow rest
 
     abbrev IsLeaving : Done → Type 0
     IsLeaving (Goes w) = ⊥
@@ -101,7 +105,7 @@ module _ (S : Site) where
     stopping γ b (ToEnd k) ka c (Continues w) q a l = (a.0, ap (λ p. then_next p (R c)) a.1, a.2)
     stopping γ b (ToTurn k) ka c (Continues w) q a l = (a.0, ap (λ p. then_next p (R c)) a.1, a.2)
     stopping γ b j ka c (Returns None w) q a l = (a.0, ap (λ p. then_next p (R c)) a.1, a.2)
-    stopping γ b j ka c (Returns (Some z) w) q a l = (a.0, a.1, ap (λ p. then_next p (R c)) a.2, a.3, a.4)
+    stopping γ b j ka c (Returns (Some z) w) q a l = (a.0, ap (λ p. then_next p (R c)) a.1, a.2, a.3)
     stopping γ b j ka c (Ended f w) q a l = kept_through γ f w q (λ p. then_next p (R c)) (λ g t. refl) (λ p. then_grows p (R c) (R_grows c)) a
 
     -- a statement of a group, and what stands behind it in the group and behind the group
@@ -122,24 +126,24 @@ module _ (S : Site) where
     choose_more t p a b c w x e = ap (λ z. then_next (choose (word_tested z) (mk w (paid x)) (R a) (R b)) (R c)) e
 
     -- from the label that is chosen on, each arm goes on into the next
-    falls_sim : (arms : TArmTs) → AllFollow arms → (γ : Goal) → 2 ≤ γ.skip → (t n m b : ℕ) (j : Jump) (w : World) (x : Side) → 8 ≤ t → t < n → γ.first ≤ n → HomeOf S.s S.code S.frames ty γ.base.function own → γ.base.own ≡ own → Room S γ.base m (arms_sizes h arms) → Now γ (16 * labels arms) w x → x.temps t ≡ Num 0
+    falls_sim : (arms : TArmTs) → AllFollow arms → (γ : Goal) → 2 ≤ γ.skip → (t n m b : ℕ) (j : Jump) (w : World) (x : Side) → 8 ≤ t → t < n → γ.first ≤ n → HasPlace ty r γ → HomeOf S.s S.code S.frames ty γ.base.function own → γ.base.own ≡ own → Room S γ.base m (arms_sizes h arms) → Now γ (16 * labels arms) w x → x.temps t ≡ Num 0
         → SimD v γ b j k_next (does_arms S.s S.bound S.prev r zero arms w) (then_next (R (low_group h ty arms n m b j) (mk w x)) (R (low_arms h ty t arms n m b j)))
-    falls_sim NoB fs γ skips t n m b j w x lt tf le home eo room hn e = (x, refl, less_now γ (16 * 0) w x hn)
-    falls_sim (MoreB (StmtB a) rest) fs γ skips t n m b j w x lt tf le home eo room hn e =
+    falls_sim NoB fs γ skips t n m b j w x lt tf le place home eo room hn e = (x, refl, less_now γ (16 * 0) w x hn)
+    falls_sim (MoreB (StmtB a) rest) fs γ skips t n m b j w x lt tf le place home eo room hn e =
         let n1 : ℕ = n + stmt_temps a in
         let m1 : ℕ = m + length (stmt_sizes h a) in
         let group : NodesT ℕ = low_group h ty rest n1 m1 b j in
         let last : NodesT ℕ = low_arms h ty t rest n1 m1 b j in
         group_seqs γ skips (16 * labels rest) n b j (R group) last w x hn le (does S.s S.bound S.prev r a w) (R (low_stmt h ty a n m b j group) (mk w x))
-        (stmt_plain v n b j (R group) w x (does S.s S.bound S.prev r a w) (R (low_stmt h ty a n m b j group) (mk w x)) (fs.0 n m b j group w x (omega (arith, lt, tf)) hn.stays.fit (home_after S before r ty v own γ (16 * labels rest) w x home hn) (hn.stays.same_own ∙ eo) (room_at S γ.base m (stmt_sizes h a) w x (room_first S γ.base m (stmt_sizes h a) (arms_sizes h rest) room) hn.stays)))
+        (stmt_plain v n b j (R group) w x (does S.s S.bound S.prev r a w) (R (low_stmt h ty a n m b j group) (mk w x)) (fs.0 n m b j group w x (omega (arith, lt, tf)) hn.stays.fit (place x.temps hn.below) (home_after S before r ty own γ (16 * labels rest) w x home hn) (hn.stays.same_own ∙ eo) (room_at S γ.base m (stmt_sizes h a) w x (room_first S γ.base m (stmt_sizes h a) (arms_sizes h rest) room) hn.stays)))
         (does_arms S.s S.bound S.prev r zero rest)
-        (λ wa xa ha keep. falls_sim rest fs.1 γ skips t n1 m1 b j wa xa lt (omega (arith, tf)) (omega (arith, le)) home eo (room_second S γ.base m (stmt_sizes h a) (arms_sizes h rest) room) ha (keep t lt tf ∙ e))
-    falls_sim (MoreB (CaseB label) rest) fs γ skips t n m b j w x lt tf le home eo room hn e =
+        (λ wa xa ha keep. falls_sim rest fs.1 γ skips t n1 m1 b j wa xa lt (omega (arith, tf)) (omega (arith, le)) place home eo (room_second S γ.base m (stmt_sizes h a) (arms_sizes h rest) room) ha (keep t lt tf ∙ e))
+    falls_sim (MoreB (CaseB label) rest) fs γ skips t n m b j w x lt tf le place home eo room hn e =
         subst (SimD v γ b j k_next (does_arms S.s S.bound S.prev r zero rest w)) (sym (choose_zero t (Do (TwoO ISUB t t part.one) Stop) (low_group h ty rest n m b j) (low_arms h ty t rest n m b j) w x e))
-        (falls_sim rest fs γ skips t n m b j w (paid x) lt tf le home eo room (paid_now γ (16 * labels rest) w x (spare γ (16 * suc (labels rest)) (16 * labels rest + 8) w x (omega arith) hn)) e)
-    falls_sim (MoreB DefaultB rest) fs γ skips t n m b j w x lt tf le home eo room hn e =
+        (falls_sim rest fs γ skips t n m b j w (paid x) lt tf le place home eo room (paid_now γ (16 * labels rest) w x (spare γ (16 * suc (labels rest)) (16 * labels rest + 8) w x (omega arith) hn)) e)
+    falls_sim (MoreB DefaultB rest) fs γ skips t n m b j w x lt tf le place home eo room hn e =
         subst (SimD v γ b j k_next (does_arms S.s S.bound S.prev r zero rest w)) (sym (choose_zero t (Do (TwoO ISUB t t part.one) Stop) (low_group h ty rest n m b j) (low_arms h ty t rest n m b j) w x e))
-        (falls_sim rest fs γ skips t n m b j w (paid x) lt tf le home eo room (paid_now γ (16 * labels rest) w x (spare γ (16 * suc (labels rest)) (16 * labels rest + 8) w x (omega arith) hn)) e)
+        (falls_sim rest fs γ skips t n m b j w (paid x) lt tf le place home eo room (paid_now γ (16 * labels rest) w x (spare γ (16 * suc (labels rest)) (16 * labels rest + 8) w x (omega arith) hn)) e)
 
     -- a label is passed over
     passed : (γ : Goal) (s t p : ℕ) (d : Done) (b : ℕ) (j : Jump) (w : World) (x : Side) (group last : NodesT ℕ) → p < 2 ^ 32 → 8 ≤ t → ((i : ℕ) → scratch + γ.skip ≤ i → i < γ.first → eqb i γ.at ≡ false → eqb i t ≡ false) → Now γ (s + 16) w x → x.temps t ≡ Num (suc p) → x.temps part.one ≡ Num 1 → ((y : Side) → Now γ s w y → y.temps t ≡ Num p → y.temps part.one ≡ Num 1 → SimD v γ b j k_next d (R last (mk w y)))
@@ -151,28 +155,28 @@ module _ (S : Site) where
         (λ y hy at rest. f y hy at (rest part.one (eqb_less part.one t (omega (arith, lt))) ∙ e1)))
 
     -- the labels before the one that is chosen are passed over
-    passes_sim : (arms : TArmTs) → AllFollow arms → (p k : ℕ) → Passes arms p k → p ≤ 2 ^ 32 → (γ : Goal) → 2 ≤ γ.skip → (t n m b : ℕ) (j : Jump) (w : World) (x : Side) → 8 ≤ t → t < n → γ.first ≤ t → HomeOf S.s S.code S.frames ty γ.base.function own → γ.base.own ≡ own → Room S γ.base m (arms_sizes h arms) → Now γ (16 * labels arms) w x → x.temps t ≡ Num p → x.temps part.one ≡ Num 1
+    passes_sim : (arms : TArmTs) → AllFollow arms → (p k : ℕ) → Passes arms p k → p ≤ 2 ^ 32 → (γ : Goal) → 2 ≤ γ.skip → (t n m b : ℕ) (j : Jump) (w : World) (x : Side) → 8 ≤ t → t < n → γ.first ≤ t → HasPlace ty r γ → HomeOf S.s S.code S.frames ty γ.base.function own → γ.base.own ≡ own → Room S γ.base m (arms_sizes h arms) → Now γ (16 * labels arms) w x → x.temps t ≡ Num p → x.temps part.one ≡ Num 1
         → SimD v γ b j k_next (does_arms S.s S.bound S.prev r k arms w) (R (low_arms h ty t arms n m b j) (mk w x))
-    passes_sim NoB fs p zero ps fits γ skips t n m b j w x lt tn le home eo room hn e e1 = (x, refl, less_now γ (16 * 0) w x hn)
-    passes_sim NoB fs p (suc k) ps fits γ skips t n m b j w x lt tn le home eo room hn e e1 = (x, refl, less_now γ (16 * 0) w x hn)
-    passes_sim (MoreB (StmtB a) rest) fs p (suc k) ps fits γ skips t n m b j w x lt tn le home eo room hn e e1 = passes_sim rest fs.1 p k ps fits γ skips t (n + stmt_temps a) (m + length (stmt_sizes h a)) b j w x lt (omega (arith, tn)) le home eo (room_second S γ.base m (stmt_sizes h a) (arms_sizes h rest) room) hn e e1
-    passes_sim (MoreB (StmtB a) rest) fs p zero ps fits γ skips t n m b j w x lt tn le home eo room hn e e1 = absurd ps
-    passes_sim (MoreB (CaseB label) rest) fs zero zero ps fits γ skips t n m b j w x lt tn le home eo room hn e e1 =
+    passes_sim NoB fs p zero ps fits γ skips t n m b j w x lt tn le place home eo room hn e e1 = (x, refl, less_now γ (16 * 0) w x hn)
+    passes_sim NoB fs p (suc k) ps fits γ skips t n m b j w x lt tn le place home eo room hn e e1 = (x, refl, less_now γ (16 * 0) w x hn)
+    passes_sim (MoreB (StmtB a) rest) fs p (suc k) ps fits γ skips t n m b j w x lt tn le place home eo room hn e e1 = passes_sim rest fs.1 p k ps fits γ skips t (n + stmt_temps a) (m + length (stmt_sizes h a)) b j w x lt (omega (arith, tn)) le place home eo (room_second S γ.base m (stmt_sizes h a) (arms_sizes h rest) room) hn e e1
+    passes_sim (MoreB (StmtB a) rest) fs p zero ps fits γ skips t n m b j w x lt tn le place home eo room hn e e1 = absurd ps
+    passes_sim (MoreB (CaseB label) rest) fs zero zero ps fits γ skips t n m b j w x lt tn le place home eo room hn e e1 =
         subst (SimD v γ b j k_next (does_arms S.s S.bound S.prev r zero rest w)) (sym (choose_zero t (Do (TwoO ISUB t t part.one) Stop) (low_group h ty rest n m b j) (low_arms h ty t rest n m b j) w x e))
-        (falls_sim rest fs γ skips t n m b j w (paid x) lt tn (omega (arith, le, tn)) home eo room (paid_now γ (16 * labels rest) w x (spare γ (16 * suc (labels rest)) (16 * labels rest + 8) w x (omega arith) hn)) e)
-    passes_sim (MoreB (CaseB label) rest) fs (suc p) (suc k) ps fits γ skips t n m b j w x lt tn le home eo room hn e e1 =
+        (falls_sim rest fs γ skips t n m b j w (paid x) lt tn (omega (arith, le, tn)) place home eo room (paid_now γ (16 * labels rest) w x (spare γ (16 * suc (labels rest)) (16 * labels rest + 8) w x (omega arith) hn)) e)
+    passes_sim (MoreB (CaseB label) rest) fs (suc p) (suc k) ps fits γ skips t n m b j w x lt tn le place home eo room hn e e1 =
         passed γ (16 * labels rest) t p (does_arms S.s S.bound S.prev r k rest w) b j w x (low_group h ty rest n m b j) (low_arms h ty t rest n m b j) (omega (arith, fits)) lt (above_free γ t le) (spare γ (16 * suc (labels rest)) (16 * labels rest + 16) w x (omega arith) hn) e e1
-        (λ y hy ey ey1. passes_sim rest fs p k ps (omega (arith, fits)) γ skips t n m b j w y lt tn le home eo room hy ey ey1)
-    passes_sim (MoreB (CaseB label) rest) fs zero (suc k) ps fits γ skips t n m b j w x lt tn le home eo room hn e e1 = absurd ps
-    passes_sim (MoreB (CaseB label) rest) fs (suc p) zero ps fits γ skips t n m b j w x lt tn le home eo room hn e e1 = absurd ps
-    passes_sim (MoreB DefaultB rest) fs zero zero ps fits γ skips t n m b j w x lt tn le home eo room hn e e1 =
+        (λ y hy ey ey1. passes_sim rest fs p k ps (omega (arith, fits)) γ skips t n m b j w y lt tn le place home eo room hy ey ey1)
+    passes_sim (MoreB (CaseB label) rest) fs zero (suc k) ps fits γ skips t n m b j w x lt tn le place home eo room hn e e1 = absurd ps
+    passes_sim (MoreB (CaseB label) rest) fs (suc p) zero ps fits γ skips t n m b j w x lt tn le place home eo room hn e e1 = absurd ps
+    passes_sim (MoreB DefaultB rest) fs zero zero ps fits γ skips t n m b j w x lt tn le place home eo room hn e e1 =
         subst (SimD v γ b j k_next (does_arms S.s S.bound S.prev r zero rest w)) (sym (choose_zero t (Do (TwoO ISUB t t part.one) Stop) (low_group h ty rest n m b j) (low_arms h ty t rest n m b j) w x e))
-        (falls_sim rest fs γ skips t n m b j w (paid x) lt tn (omega (arith, le, tn)) home eo room (paid_now γ (16 * labels rest) w x (spare γ (16 * suc (labels rest)) (16 * labels rest + 8) w x (omega arith) hn)) e)
-    passes_sim (MoreB DefaultB rest) fs (suc p) (suc k) ps fits γ skips t n m b j w x lt tn le home eo room hn e e1 =
+        (falls_sim rest fs γ skips t n m b j w (paid x) lt tn (omega (arith, le, tn)) place home eo room (paid_now γ (16 * labels rest) w x (spare γ (16 * suc (labels rest)) (16 * labels rest + 8) w x (omega arith) hn)) e)
+    passes_sim (MoreB DefaultB rest) fs (suc p) (suc k) ps fits γ skips t n m b j w x lt tn le place home eo room hn e e1 =
         passed γ (16 * labels rest) t p (does_arms S.s S.bound S.prev r k rest w) b j w x (low_group h ty rest n m b j) (low_arms h ty t rest n m b j) (omega (arith, fits)) lt (above_free γ t le) (spare γ (16 * suc (labels rest)) (16 * labels rest + 16) w x (omega arith) hn) e e1
-        (λ y hy ey ey1. passes_sim rest fs p k ps (omega (arith, fits)) γ skips t n m b j w y lt tn le home eo room hy ey ey1)
-    passes_sim (MoreB DefaultB rest) fs zero (suc k) ps fits γ skips t n m b j w x lt tn le home eo room hn e e1 = absurd ps
-    passes_sim (MoreB DefaultB rest) fs (suc p) zero ps fits γ skips t n m b j w x lt tn le home eo room hn e e1 = absurd ps
+        (λ y hy ey ey1. passes_sim rest fs p k ps (omega (arith, fits)) γ skips t n m b j w y lt tn le place home eo room hy ey ey1)
+    passes_sim (MoreB DefaultB rest) fs zero (suc k) ps fits γ skips t n m b j w x lt tn le place home eo room hn e e1 = absurd ps
+    passes_sim (MoreB DefaultB rest) fs (suc p) zero ps fits γ skips t n m b j w x lt tn le place home eo room hn e e1 = absurd ps
 
     -- the block of the arms, which a `break` leaves
     done_sim : (γ : Goal) (b : ℕ) (j : Jump) (c : NodesT ℕ) (d : Done) (q : Res Mid) → SimD v γ 0 (further j) k_next d q → SimD v γ b j (R c) (switch_done d) (then_next (block_done q) (R c))
@@ -181,15 +185,15 @@ module _ (S : Site) where
     done_sim γ b (ToEnd k) c (Continues w) q a = (a.0, ap (λ p. then_next (block_done p) (R c)) a.1, a.2)
     done_sim γ b (ToTurn k) c (Continues w) q a = (a.0, ap (λ p. then_next (block_done p) (R c)) a.1, a.2)
     done_sim γ b j c (Returns None w) q a = (a.0, ap (λ p. then_next (block_done p) (R c)) a.1, a.2)
-    done_sim γ b j c (Returns (Some z) w) q a = (a.0, a.1, ap (λ p. then_next (block_done p) (R c)) a.2, a.3, a.4)
+    done_sim γ b j c (Returns (Some z) w) q a = (a.0, ap (λ p. then_next (block_done p) (R c)) a.1, a.2, a.3)
     done_sim γ b j c (Ended f w) q a = kept_through γ f w q (λ p. then_next (block_done p) (R c)) (λ g t. refl) (λ p. more _ _ _ (block_grows p) (then_grows (block_done p) (R c) (R_grows c))) a
 
-    pub switch_sim : (e : TExprT) (ks : List ℕ) (arms : TArmTs) → PlainValue e → Below own ks → 2 * labels arms ≤ 2 ^ 32 → AllFollow arms → FollowStmt S before r ty v own (SwitchZ e ks arms)
-    switch_sim e ks arms sc bl fits fs n m b j c w x sn u home eo room =
+    pub switch_sim : (e : TExprT) (ks : List ℕ) (arms : TArmTs) → PlainValue h e → Below own ks → 2 * labels arms ≤ 2 ^ 32 → AllFollow arms → FollowStmt S before r ty own (SwitchZ e ks arms)
+    switch_sim e ks arms sc bl fits fs n m b j c w x sn u at8 home eo room =
         let γ = stmt n w x in
         let σ : Way γ = way_d v γ b j (R c) in
         uses S γ σ 24 n (n + 1) m (spend 1 w) x (Block (low_match n 0 (labels_before_default arms) arms) (Do (ConstO part.one 1) (part.made ks (Block (low_arms h ty n arms (second e n) (beyond h e m) 0 (further j)) c)))) (begin_stmt n w x u) (above_free γ n (omega arith)) (omega arith) (omega (arith, sn)) (omega arith) e sc.1 (room_first S γ.base m (value_sizes h e) (arms_sizes h arms) room)
-        (λ d y. asked Ended (span_of e) y (word_of d) (λ z. went z y)) (sim S before r ty v own e sc) (λ d wa xa flag ha at keep. by d wa xa ha at)
+        (λ d y. asked Ended (span_of e) y (word_of d) (λ z. went z y)) (sim S before r ty own e sc) (λ d wa xa flag ha at keep. by d wa xa ha at)
       where
         go : ℕ → World → Done
         go z y = switch_done (does_arms S.s S.bound S.prev r (arms_before z arms) arms y)
@@ -212,7 +216,7 @@ module _ (S : Site) where
             sets S (SimD v γ b j (R c)) γ (16 + 16 * labels arms) wb y part.one (Num 1) (ConstO part.one 1) (part.made ks c2) (spare γ (24 + 16 * labels arms) (16 + 16 * labels arms + 8) wb y (omega arith) hy) (low_free γ part.one (omega arith)) refl (go z (on_store (fresh_all S.s.sizes ks) wb)) (λ y1 hy1 at1 rest1.
             mades S ty γ (16 + 16 * labels arms) (SimD v γ b j (R c)) ks wb y1 c2 (subst (λ o. HomeOf S.s S.code S.frames ty γ.base.function o) (sym eo) home) (subst (λ o. Below o ks) (sym eo) bl) hy1 (go z) (λ wc y2 hy2 same_temps.
             done_sim γ b j c (does_arms S.s S.bound S.prev r (arms_before z arms) arms wc) (R (low_arms h ty n arms (second e n) (beyond h e m) 0 (further j)) (mk wc (paid y2)))
-            (passes_sim arms fs (chosen z 0 (labels_before_default arms) arms) (arms_before z arms) (chosen_passes z arms) (chosen_fits z arms fits) γ (omega arith) n (second e n) (beyond h e m) 0 (further j) wc (paid y2) sn (omega arith) (omega arith) home eo (room_second S γ.base m (value_sizes h e) (arms_sizes h arms) room)
+            (passes_sim arms fs (chosen z 0 (labels_before_default arms) arms) (arms_before z arms) (chosen_passes z arms) (chosen_fits z arms fits) γ (omega arith) n (second e n) (beyond h e m) 0 (further j) wc (paid y2) (omega (arith, sn)) (omega arith) (omega arith) (has_place ty r n w x sn at8) home eo (room_second S γ.base m (value_sizes h e) (arms_sizes h arms) room)
             (paid_now γ (16 * labels arms) wc y2 (spare γ (16 + 16 * labels arms) (16 * labels arms + 8) wc y2 (omega arith) hy2)) (ap (λ f. f n) same_temps ∙ rest1 n (eqb_more n part.one (omega (arith, sn))) ∙ at) (ap (λ f. f part.one) same_temps ∙ at1))))
 
         by : (d : Cell) (wa : World) (xa : Side) → Now (stmt n w x) (24 + 28) wa xa → xa.temps n ≡ d → SimD v (stmt n w x) b j (R c) (asked Ended (span_of e) wa (word_of d) (λ z. went z wa)) (R c0 (mk wa xa))

@@ -3,6 +3,7 @@ ghost use Rattle.std.specs.Prelude.{◌≡◌, map, IfOk};
 ghost use Rattle.c_check.specs.View.{program};
 ghost use Rattle.mid_code.specs.Whole.{mid};
 ghost use Rattle.mid_lower.specs.Lowered.{lowered};
+ghost use Rattle.mid_lower.specs.LoweredFrom.{IsLoweredFrom};
 
 use crate::functions::{lower_functions, lower_start};
 use crate::reading::Reading;
@@ -37,9 +38,11 @@ fn copy_sizes(alloc: Global, globals: &[(Name, u32)]) -> Result<Vec<u32>, Memory
     Ok(found)
 }
 
-/// The code that a checked program is lowered to. The error is want of memory.
+/// The code that a checked program is lowered to: exactly what the definition tells. It keeps the program's runs in at most 64 times its work, weighs at
+/// most 128 a node of the tree, and has few temporaries, locals and levels. The error is want of memory.
 pub fn lower(alloc: Global, checked: &Program) -> Result<Mid, Memory>
     ensures lowered { IfOk result (λ m. mid m ≡ lowered (program checked.now)) }
+    ensures from { IfOk result (λ m. IsLoweredFrom (program checked.now) (mid m)) }
 {
     programs_are_sound(checked);
     programs_have_few_nodes(checked);

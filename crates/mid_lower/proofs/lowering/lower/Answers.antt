@@ -13,6 +13,8 @@ use Rattle.mid_code.specs.Invariants.{IsMid}
 use Rattle.mid_code.specs.Whole.{mid}
 use Rattle.mid_lower.specs.ListedFunctions.{low_start, low_function}
 use Rattle.mid_lower.proofs.IsMidCode.{Known, lowered_is_mid}
+use Rattle.mid_lower.specs.LoweredFrom.{IsLoweredFrom}
+use Rattle.mid_lower.proofs.LoweredParts.{lowered_from}
 use Rattle.mid_lower.proofs.Finished.{known_of, start_fits, functions_fit, code_is}
 use Rattle.mid_lower.proofs.lowering.lower.Goals as goal
 
@@ -56,4 +58,12 @@ returns c =
     (function_of c.in_ok-start.start) (map function_of c.from_vec.result) c.from_vec-2.result c.from_vec-3.result c.main.result
     c.in_ok-start.ensures (made ∙ c.in_ok-functions.ensures) (c.from_vec-2.ensures ∙ c.in_ok-globals.ensures ∙ ap (map (λ g. g.1)) c.globals.ensures.globals)
     (c.from_vec-3.ensures ∙ c.in_ok-literals.ensures ∙ c.literals-2.ensures.literals) c.main.ensures.main in
-    record { lowered = c.new.ensures.mid ∙ is }
+    let few : program_nodes p ≤ 200000 = search rules in
+    let locals : (k : ℕ) (f : TFunctionT) → slice_get p.functions k ≡ Some f → length f.locals ≤ 200000 = search rules in
+    let sound : IsSound p = search rules in
+    let words : NumbersAreWords p = search rules in
+    let sized : SizedHaveSizes = search rules in
+    let given : StartsAreGiven = search rules in
+    let known : Known p = known_of p sound words few locals sized given in
+    let same = c.new.ensures.mid ∙ is in
+    record { lowered = same; from = subst (IsLoweredFrom p) (sym same) (lowered_from p known) }

@@ -1,0 +1,3 @@
+// A program that never halts goes on.
+//> going
+void main() { while (true); }

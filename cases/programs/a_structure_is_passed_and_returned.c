@@ -1,0 +1,6 @@
+// A structure goes to a function and comes back whole.
+//> out 0x202 0x00000015
+//> halted
+struct Q { int a; int b; };
+Q swap(Q q) { Q r; r.a = q.b; r.b = q.a; return r; }
+void main() { Q x = {1, 2}; x = swap(x); port_out(GPU_ClearColor, x.a * 10 + x.b); }

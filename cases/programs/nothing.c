@@ -1,0 +1,3 @@
+// A program that does nothing halts.
+//> halted
+void main() {  }

@@ -36,9 +36,7 @@ pub fn words_of(alloc: Global, words: &[String]) -> Option<Work<'_>> {
     let bound = decimal_word(bound.as_str().as_bytes())?;
     let mut sizes = Vec::new(alloc);
     for word in rest {
-        sizes
-            .push(decimal_word(word.as_str().as_bytes())?)
-            .ok()?;
+        sizes.push(decimal_word(word.as_str().as_bytes())?).ok()?;
     }
     Some(Work {
         source: source.as_str(),

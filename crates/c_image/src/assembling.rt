@@ -8,7 +8,7 @@ ghost use Rattle.assembler.specs.Faults.{fault_of};
 ghost use Rattle.assembler.specs.Placed.{Placed};
 
 use asm_items::{AsmItem, write_asm};
-use asm_reader::{AsmErr, read_asm, written_text_reads_again};
+use asm_reader::{AsmErr, read_asm};
 use assembler::{Placement, assemble};
 use kit_base::Memory;
 use std::alloc::Global;
@@ -46,7 +46,8 @@ pub struct Assembled {
 }
 
 /// The text of items, and the words that this text, read again, is placed as. The error is want of memory.
-pub fn assembled(alloc: Global, items: &[AsmItem]) -> Result<Assembled, Memory>
+#[tactic(auto, using(asm_reader::proofs::AgainLaws::written_again))]
+pub fn assemble_items(alloc: Global, items: &[AsmItem]) -> Result<Assembled, Memory>
     requires readable { AreReadable items.now }
     requires faultless { fault_of items.now ≡ None }
     ensures text { IfOk result (λ a. a.text.items ≡ written items.now) }
@@ -54,7 +55,6 @@ pub fn assembled(alloc: Global, items: &[AsmItem]) -> Result<Assembled, Memory>
     ensures placed { IfOk result (λ a. Placed items.now a.placement.words a.placement.labels) }
     ensures few { IfOk result (λ a. length a.placement.words ≤ 33554432) }
 {
-    written_text_reads_again();
     let text = write_asm(alloc, items)?;
     let again = read_items(alloc, &text, items)?;
     let placement = placed(alloc, &again)?;

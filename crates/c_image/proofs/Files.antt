@@ -1,7 +1,7 @@
 -- The files of a line table: each place stands in one of them, and their names are texts.
-use Rattle.std.proofs.Common.{◌≡◌, ℕ, suc, ◌+◌, ◌-◌, ◌≤◌, ◌<◌, min, Bool, true, false, cond, ◌||◌, List, [], ◌∷◌, ◌++◌, length, zero, map, refl, sym, ap, ap₂, subst, ◌∙◌, arith, append_assoc, bytes_eq, slice_get, slice_index_or}
+use Rattle.std.proofs.Common.{◌≡◌, ℕ, suc, ◌+◌, ◌-◌, ◌≤◌, ◌<◌, min, Bool, true, false, cond, ◌||◌, List, [], ◌∷◌, ◌++◌, length, zero, map, refl, subst, arith, bytes_eq, slice_get}
 use Rattle.std.specs.Prelude.{Option, Some, None}
-use Rattle.std.specs.List.{AllByRecursion, list_all, list_any}
+use Rattle.std.specs.List.{AllByRecursion, list_all}
 use Rattle.std.specs.Str.{is_utf8}
 use Rattle.std.proofs.lemmas.Bool.{and_parts, and_from}
 use Rattle.std.proofs.lemmas.Slice.Eq.{bytes_eq-Decides}
@@ -10,7 +10,6 @@ use Rattle.c_front.specs.Names.{name_of, token_at}
 use Rattle.c_front.specs.Places.{Place, place_in, place_at}
 use Rattle.c_front.specs.declared.places.Places.{Places}
 use Rattle.c_image.specs.Lines.{has_file, with_file, files_behind, number_of}
-use Rattle.c_image.specs.Imaging.{AreStarts}
 use Rattle.c_image.proofs.Rising.{IsTold}
 
 abbrev Files : Type 0
@@ -124,6 +123,7 @@ module _ (places : Places) (source : is_utf8 places.source ≡ true) (names : li
 
 pub told_behind : (os : List Place) (files : Files) → AllByRecursion (λ o. 1 ≤ o.1) os → AllByRecursion (IsTold (files_behind files os)) os
 told_behind [] files lines = tt
-told_behind (o ∷ os) files lines =
-    (record { file = number_below o.0 (files_behind (with_file files o.0) os) (has_behind o.0 os (with_file files o.0) (has_own o.0 files)); line = lines.0 },
-      told_behind os (with_file files o.0) lines.1)
+told_behind (o ∷ os) files lines = (
+  record { file = number_below o.0 (files_behind (with_file files o.0) os) (has_behind o.0 os (with_file files o.0) (has_own o.0 files)); line = lines.0 },
+  told_behind os (with_file files o.0) lines.1,
+)

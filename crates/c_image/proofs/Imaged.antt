@@ -1,7 +1,7 @@
 -- The image of a program from what was compiled of it and the words of that.
-use Rattle.std.proofs.Common.{◌≡◌, ℕ, ◌+◌, ◌*◌, ◌≤◌, ◌<◌, ◌^◌, true, List, [], ◌∷◌, ◌++◌, length, map, refl, sym, ap, subst, subst₂, ◌∙◌, arith, leb, ◌&&◌, slice_get, sum_by}
+use Rattle.std.proofs.Common.{◌≡◌, ℕ, ◌+◌, ◌≤◌, true, List, [], ◌∷◌, ◌++◌, length, map, refl, sym, ap, subst, subst₂, ◌∙◌, arith, leb, slice_get}
 use Rattle.std.specs.Prelude.{Ok}
-use Rattle.std.specs.List.{AllByRecursion, list_all}
+use Rattle.std.specs.List.{list_all}
 use Rattle.std.specs.Str.{is_utf8}
 use Rattle.std.proofs.lemmas.Bool.{and_from, le-leb}
 use Rattle.std.proofs.lemmas.List.{length-map}
@@ -18,7 +18,6 @@ use Rattle.c_types.specs.Programs.{TFunctionT, ProgramT}
 use Rattle.c_meaning.specs.Setting.{setting}
 use Rattle.c_meaning.specs.Runs.{c_runs}
 use Rattle.c_meaning.specs.Frames.{EachFits}
-use Rattle.cart_format.specs.declared.row.LineRow.{LineRow}
 use Rattle.cart_format.specs.declared.row.LineTable.{LineTable}
 use Rattle.cart_format.specs.Table.{is_table, are_rows}
 use Rattle.mid_code.specs.declared.placed.Where.{Where}
@@ -33,7 +32,7 @@ use Rattle.asm_emit.specs.EmittedFrom.{AreFunctions}
 use Rattle.c_compile.specs.Compiling.{CompiledT, IsCompiled, names_of}
 use Rattle.c_image.specs.Mapping.{map_of}
 use Rattle.c_image.specs.Lines.{files_behind, rows_of, table_of}
-use Rattle.c_image.specs.Imaging.{ImageT, AreStarts, IsImageOf, DoesAsMeant, IsMidOf, frame_sizes, global_addresses}
+use Rattle.c_image.specs.Imaging.{AreStarts, IsImageOf, frame_sizes, global_addresses}
 use Rattle.c_image.proofs.Files.{few_files, all_texts, texts_at, lines_at, told_behind}
 use Rattle.c_image.proofs.Mapped.{sizes_are, addresses_are}
 use Rattle.c_image.proofs.Named.{names_are}
@@ -66,11 +65,11 @@ module _ (p : ProgramT) (places : Places) (starts : List ℕ) (c : CompiledT) (w
       let files = few_files os [] in
       let rows = few_rows (address_in labels) (files_behind [] os) p.functions os in
       table_from (length words) (table_of (address_in labels) p.functions os)
-        (omega (arith, files, few))
-        (omega (arith, rows, few))
-        (all_texts os [] refl (texts_at places begin.source begin.texts begin.lines starts))
-        (rise c.items words labels compiled.emitted.faultless placed (names_of p) (files_behind [] os) p.functions c.placed.code.functions os f.0 f.1 0x20000000 f.2 f.3 (omega arith) (names_are p p.functions sound.functions)
-          (told_behind os [] (lines_at places begin.source begin.texts begin.lines starts)))
+      (omega (arith, files, few))
+      (omega (arith, rows, few))
+      (all_texts os [] refl (texts_at places begin.source begin.texts begin.lines starts))
+      (rise c.items words labels compiled.emitted.faultless placed (names_of p) (files_behind [] os) p.functions c.placed.code.functions os f.0 f.1 0x20000000 f.2 f.3 (omega arith) (names_are p p.functions sound.functions)
+      (told_behind os [] (lines_at places begin.source begin.texts begin.lines starts)))
 
   has_main : (fs : List TFunctionT) (gs : List (FunctionT Where)) → fs ≡ p.functions → holds is_plain (slice_get fs p.main) ≡ true → (start rest : List AsmItem) → c.items ≡ start ++ rest
       → AreFunctions (names_of p) (map (λ f. f.name) fs) gs rest → 1 ≤ length words

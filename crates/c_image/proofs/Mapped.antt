@@ -1,5 +1,5 @@
 -- What a map tells of frames and globals.
-use Rattle.std.proofs.Common.{◌≡◌, ℕ, ◌+◌, ◌%◌, ◌^◌, ◌≤◌, ◌<◌, List, [], ◌∷◌, map, refl, sym, ap, ◌∙◌, sum_by, mod-eq_of_lt, arith}
+use Rattle.std.proofs.Common.{◌≡◌, ℕ, ◌+◌, ◌^◌, ◌<◌, List, [], ◌∷◌, map, refl, ap, ◌∙◌, sum_by, mod-eq_of_lt, arith}
 use Rattle.std.proofs.lemmas.List.Sums.{sum_by-cons}
 use Rattle.kit_base.specs.Word.{add}
 use Rattle.c_types.specs.Programs.{TFunctionT}

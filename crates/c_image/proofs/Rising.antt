@@ -1,6 +1,6 @@
 -- The rows of functions rise and lie in the program.
-use Rattle.std.proofs.Common.{◌≡◌, ℕ, suc, ◌+◌, ◌≤◌, ◌<◌, true, List, [], ◌∷◌, ◌++◌, length, map, refl, sym, ap, subst, ◌∙◌, append_assoc, arith, ltb, leb, ◌&&◌}
-use Rattle.std.specs.Prelude.{None, Some, unwrap_or}
+use Rattle.std.proofs.Common.{◌≡◌, ℕ, ◌+◌, ◌≤◌, ◌<◌, true, List, [], ◌∷◌, ◌++◌, length, map, refl, sym, ap, subst, ◌∙◌, append_assoc, arith, ltb, leb}
+use Rattle.std.specs.Prelude.{None, unwrap_or}
 use Rattle.std.specs.List.{AllByRecursion}
 use Rattle.std.proofs.lemmas.Bool.{and_from, lt-ltb, le-leb}
 use Rattle.asm_items.specs.declared.item.AsmItem.{AsmItem}
@@ -50,8 +50,8 @@ row_is : (files least end : ℕ) (r : LineRow) → least ≤ r.address → r.add
 unfolding is_row
 row_is files least end r above below file line name =
     and_from (leb least r.address) _ (le-leb least r.address above)
-      (and_from (ltb r.address end) _ (lt-ltb r.address end below)
-        (and_from (ltb r.file files) _ (lt-ltb r.file files file) (and_from (leb 1 r.line) (is_name r.name) (le-leb 1 r.line line) name)))
+    (and_from (ltb r.address end) _ (lt-ltb r.address end below)
+    (and_from (ltb r.file files) _ (lt-ltb r.file files file) (and_from (leb 1 r.line) (is_name r.name) (le-leb 1 r.line line) name)))
 
 -- what a row says beside its address
 pub record IsTold (files : List (List ℕ)) (o : Place) : Type 0 where
@@ -90,8 +90,8 @@ module _ (items : List AsmItem) (words : List ℕ) (labels : List (List ℕ × �
         let above : least ≤ address_in labels name = omega (arith, at, from) in
         let row : LineRow = record { address = address_in labels name; file = number_of o.0 files; line = o.1; name = f.name } in
         and_from (is_row (length files) least (0x20000000 + length words) row) (are_rows (length files) (address_in labels name + 1) (0x20000000 + length words) (rows_of (address_in labels) files fs os))
-          (row_is (length files) least (0x20000000 + length words) row above below told.0.file told.0.line named.0)
-          (rise fs gs os (before ++ (Label name ∷ h.0)) h.1 (address_in labels name + 1) next h.4 least_next named.1 told.1)
+        (row_is (length files) least (0x20000000 + length words) row above below told.0.file told.0.line named.0)
+        (rise fs gs os (before ++ (Label name ∷ h.0)) h.1 (address_in labels name + 1) next h.4 least_next named.1 told.1)
 
     -- a program with a function has a word
     pub some_words : (f : TFunctionT) (fs : List TFunctionT) (gs : List (FunctionT Where)) (before rest : List AsmItem) → items ≡ before ++ rest

@@ -1,5 +1,5 @@
 -- What the map and the line table tell by labels in a table.
-use Rattle.std.proofs.Common.{◌≡◌, ℕ, ◌<◌, ◌^◌, List, [], length, map, refl, sym, ap, ap₂, subst, ◌∙◌, arith}
+use Rattle.std.proofs.Common.{◌≡◌, ℕ, ◌<◌, ◌^◌, List, [], length, map, ap, ◌∙◌, arith}
 use Rattle.std.proofs.lemmas.List.{length-map}
 use Rattle.assembler.specs.Labels.{address_in}
 use Rattle.c_front.specs.Places.{Place, place_at}

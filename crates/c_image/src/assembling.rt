@@ -1,6 +1,5 @@
 // Items to text, and the text to words.
-ghost use Rattle.std.specs.Prelude.{ℕ, List, ◌≡◌, ◌≤◌, None, Ok, IfOk, length};
-ghost use Rattle.asm_items.specs.declared.item.AsmItem.{AsmItem};
+ghost use Rattle.std.specs.Prelude.{◌≡◌, ◌≤◌, None, Ok, IfOk, length};
 ghost use Rattle.asm_items.specs.Written.{written};
 ghost use Rattle.asm_reader.specs.Readable.{AreReadable};
 ghost use Rattle.asm_reader.specs.Reading.{read};

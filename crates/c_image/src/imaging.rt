@@ -44,7 +44,7 @@ struct Tables {
     rows: Vec<LineRow>,
 }
 
-/// What is told of a program whose frames have these sizes, of so many words with these labels.
+/// The map and the line table of a program whose frames have these sizes, of so many words with these labels. The error is want of memory.
 fn tables_of(
     alloc: Global,
     checked: &Program,
@@ -83,7 +83,15 @@ fn image_compiled(
     let Placement { words, labels } = placement;
     let words = words.into_vec();
     let sizes = made.placed.frames().sizes.as_slice();
-    let Tables { map, files, rows } = tables_of(alloc, checked, sizes, words.len() as u32, labels.as_slice(), places, starts)?;
+    let Tables { map, files, rows } = tables_of(
+        alloc,
+        checked,
+        sizes,
+        words.len() as u32,
+        labels.as_slice(),
+        places,
+        starts,
+    )?;
     let Compiled { mid, choices, .. } = made;
     Ok(Image {
         words,

@@ -1,4 +1,4 @@
-use Rattle.std.proofs.Common.{rules, ◌≡◌, ◌≤◌, List, ℕ, [], length, map}
+use Rattle.std.proofs.Common.{rules, ◌≡◌, ◌≤◌, [], length, map}
 use Rattle.std.specs.Prelude.{Ok}
 use Rattle.asm_reader.specs.Reading.{read}
 use Rattle.assembler.specs.Labels.{address_in}
@@ -6,7 +6,6 @@ use Rattle.assembler.specs.Placed.{Placed}
 use Rattle.c_check.specs.View.{program}
 use Rattle.c_compile.specs.Compiling.{compiled}
 use Rattle.c_front.specs.Places.{place_at}
-use Rattle.mid_code.specs.Whole.{placed}
 use Rattle.c_image.specs.Lines.{files_behind, rows_of}
 use Rattle.c_image.specs.Mapping.{map_of}
 use Rattle.c_image.proofs.Imaged.{is_image}
@@ -25,5 +24,5 @@ returns c =
     let rows : c.in_ok-map.field-0.rows.items ≡ rows_of (address_in labels) (files_behind [] (map (place_at c.args.places.now) c.args.starts.now)) (program c.args.checked.now).functions (map (place_at c.args.places.now) c.args.starts.now) = search rules in
     record {
       image = is_image (program c.args.checked.now) c.args.places.now c.args.starts.now made words labels c.requires.compiled c.requires.starts c.programs_are_sound.ensures.sound stand
-          c.in_ok-map.field-0.map map_is c.in_ok-text.field-0.text.items _ reads (λ i. record { files = files i; rows = rows i }) few
+          c.in_ok-map.field-0.map map_is c.in_ok-text.field-0.text.items _ reads (λ i. record { files = files i; rows = rows i }) few;
     }

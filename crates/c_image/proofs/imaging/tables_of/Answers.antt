@@ -1,8 +1,6 @@
 use Rattle.std.proofs.Common.{rules, ◌≡◌, [], map}
 use Rattle.c_check.specs.View.{program}
-use Rattle.c_types.specs.View.{function}
 use Rattle.c_front.specs.Places.{place_at}
-use Rattle.c_image.specs.Labels.{added}
 use Rattle.c_image.specs.Lines.{files_behind}
 use Rattle.c_image.proofs.Told.{map_told, rows_told, few_told}
 use Rattle.c_image.proofs.imaging.tables_of.Goals as goal

@@ -5,7 +5,7 @@ pub mod Counting
 pub mod AssetReading
 pub mod Assets
 pub mod Limits
-pub mod Sources
+pub mod Starting
 pub mod Builds
 pub mod Checks
 pub mod Either

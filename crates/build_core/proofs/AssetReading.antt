@@ -46,7 +46,7 @@ module _ {X : Type 0} (one : List ℕ → Result X BuildErr) where
   none_gave : (xs : List X) → all_of one [] ≡ Ok xs → [] ≡ xs
   none_gave xs h = same_list [] xs (all_of one []) all_of-nil h
 
-  joined_ok : (first : Result X BuildErr) (others : Result (List X) BuildErr) (x : X) (ys : List X) → first ≡ Ok x → others ≡ Ok ys → (first >>= λ z. others >>= λ zs. Ok (z ∷ zs)) ≡ Ok (x ∷ ys)
+  pub joined_ok : (first : Result X BuildErr) (others : Result (List X) BuildErr) (x : X) (ys : List X) → first ≡ Ok x → others ≡ Ok ys → (first >>= λ z. others >>= λ zs. Ok (z ∷ zs)) ≡ Ok (x ∷ ys)
   joined_ok first others x ys e f = rw (e, f) refl
 
   joined_err : (first : Result X BuildErr) (others : Result (List X) BuildErr) (x : X) (d : BuildErr) → first ≡ Ok x → others ≡ Err d → (first >>= λ z. others >>= λ zs. Ok (z ∷ zs)) ≡ Err d

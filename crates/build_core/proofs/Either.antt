@@ -66,7 +66,7 @@ not_both_of_source m source p e h (breaks parsed fault u b told) = not_both (sub
 
 -- ---- projects
 
-one_project : (text : List ℕ) (p q : Project) → IsProject text p → IsProject text q → p ≡ q
+pub one_project : (text : List ℕ) (p q : Project) → IsProject text p → IsProject text q → p ≡ q
 one_project text p q h k = same p q (only text p h) (only text q k)
   where
     same : (p q : Project) → project_of text ≡ Ok p → project_of text ≡ Ok q → p ≡ q

@@ -3,9 +3,11 @@ pub mod Projects
 pub mod AssetCodes
 pub mod Counting
 pub mod AssetReading
-pub mod Assets
+pub mod AssetFiles
 pub mod Limits
 pub mod Starting
+pub mod Refusals
 pub mod Builds
 pub mod Checks
 pub mod Either
+pub mod Refused

@@ -8,7 +8,7 @@ use crate::error::BuildErr;
 use crate::packing::packed;
 use crate::reading::project_in;
 use crate::sources::read_source;
-use c_image::image;
+use c_image::image_of;
 use kit_base::{Files, Seq};
 use mid_code::{Choice, Mid};
 use project_text::Map;
@@ -57,7 +57,7 @@ pub fn build<F: Files>(alloc: Global, files: &mut F, project: &[u8]) -> Result<B
         Ok(sounds) => sounds,
         Err(refusal) => return Err(refusal),
     };
-    let made = match image(alloc, &source.program, &source.places, &source.starts) {
+    let made = match image_of(alloc, &source.program, &source.places, &source.starts) {
         Ok(made) => made,
         Err(_) => return Err(BuildErr::Memory),
     };

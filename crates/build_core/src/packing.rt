@@ -24,10 +24,11 @@ fn has_sides(texture: &Texture)
     let _ = texture.pixels();
 }
 
+#[tactic(auto, using(crate::proofs::Limits::sides_more))]
 fn have_sides(textures: &[Texture])
     ensures { AllByRecursion HasSides textures.now }
 {
-    for texture in textures {
+    'each: for texture in textures {
         has_sides(texture);
     }
 }
@@ -38,10 +39,11 @@ fn has_samples(sound: &Sound)
     let _ = sound.samples();
 }
 
+#[tactic(auto, using(crate::proofs::Limits::samples_more))]
 fn have_samples(sounds: &[Sound])
     ensures { AllByRecursion HasSamples sounds.now }
 {
-    for sound in sounds {
+    'each: for sound in sounds {
         has_samples(sound);
     }
 }

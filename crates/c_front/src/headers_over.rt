@@ -1,8 +1,10 @@
 // The headers laid over the files.
-ghost use Rattle.std.specs.Prelude.{ℕ, Option, None, ◌≡◌, ◌≤◌, IfOk, IfSome, IsUtf8, length, option_map};
+ghost use Rattle.std.specs.Prelude.{ℕ, Option, None, ◌≡◌, ◌≤◌, IfOk, IfSome, IsUtf8, length, option_map, true};
+ghost use Rattle.std.specs.List.{list_all};
+ghost use Rattle.std.specs.Str.{is_utf8};
 ghost use Rattle.kit_base.specs.Held.{Held};
 ghost use Rattle.c_prep.specs.Files.{Answers, expansion_of};
-ghost use Rattle.c_prep.specs.Numbers.{Numbered};
+ghost use Rattle.c_prep.specs.Numbers.{HaveLines, Numbered};
 ghost use Rattle.c_prep.specs.Causes.{Caused, HasFailed, IsOver, Lacks};
 ghost use Rattle.c_front.specs.Over.{held_set, over};
 
@@ -80,6 +82,8 @@ fn expand_lent<'a, F: Reads, L: Loan>(
     ensures held { F.held result.files.now ≡ F.held files.old }
     ensures told { IfSome (F.held files.old) (λ m. Answers answer.new names.new.items (expansion_of (over m) source.now)) }
     ensures numbers { Numbered (length names.new.items) answer.new }
+    ensures texts { list_all is_utf8 names.new.items ≡ true }
+    ensures lines { IfOk answer.new (λ v. HaveLines v.items) }
     ensures limits { IfOk answer.new (λ v. length v.items ≤ 200000) }
     ensures faults { Caused (HasFailed answer.new) (F.faults files.old) (F.faults result.files.now) }
     ensures misses { Caused (Lacks answer.new) (F.misses files.old) (F.misses result.files.now) }
@@ -107,6 +111,8 @@ pub fn expand_over<F: Reads>(
     ensures held { F.held files.new ≡ F.held files.old }
     ensures told { IfSome (F.held files.old) (λ m. Answers result names.new.items (expansion_of (over m) source.now)) }
     ensures numbers { Numbered (length names.new.items) result }
+    ensures texts { list_all is_utf8 names.new.items ≡ true }
+    ensures lines { IfOk result (λ v. HaveLines v.items) }
     ensures limits { IfOk result (λ v. length v.items ≤ 200000) }
     ensures faults { Caused (HasFailed result) (F.faults files.old) (F.faults files.new) }
     ensures misses { Caused (Lacks result) (F.misses files.old) (F.misses files.new) }

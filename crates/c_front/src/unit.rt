@@ -1,11 +1,13 @@
 // A source as its syntax tree.
-ghost use Rattle.std.specs.Prelude.{◌≡◌, List, length, Ok, IfErr, IfOk, IfSome, ◌<◌};
+ghost use Rattle.std.specs.Prelude.{◌≡◌, List, length, true, Ok, IfErr, IfOk, IfSome, ◌<◌};
+ghost use Rattle.std.specs.List.{list_all};
+ghost use Rattle.std.specs.Str.{is_utf8};
 ghost use Rattle.c_tree.specs.Depth.{unit_depth};
 ghost use Rattle.c_tree.specs.Tree.{ItemT};
 ghost use Rattle.c_tree.specs.View.{unit};
 ghost use Rattle.c_prep.specs.Causes.{Caused};
 ghost use Rattle.c_prep.specs.Files.{Expansion, expansion_of};
-ghost use Rattle.c_prep.specs.Numbers.{AreBelow};
+ghost use Rattle.c_prep.specs.Numbers.{AreBelow, HaveLines};
 ghost use Rattle.c_parse.specs.Tok.{toks};
 ghost use Rattle.c_parse.specs.Units.{Derives, Unit_};
 ghost use Rattle.c_front.specs.Over.{over};
@@ -72,9 +74,12 @@ pub fn read_unit<F: Reads>(alloc: Global, files: &mut F, source: &str) -> Result
     // and where they are a deeper one, it is code 31.
     ensures deeper { IfSome (F.held files.old) (λ m. (x : Expansion) (ds : List ItemT)
         → expansion_of (over m) source.now ≡ Ok x → Unit_ (toks x.tokens) ds → 200 < unit_depth ds → IsTooDeep result) }
-    // Whatever is told, the unit is derived from the tokens, each of a file that has its name,
+    // Whatever is told, the unit is derived from the tokens, each of a file that has its name, which is a
+    // text, and of a line from 1,
     ensures parsed { IfOk result (λ p. Derives (toks p.places.tokens) (unit p.unit)) }
     ensures numbers { IfOk result (λ p. AreBelow (length p.places.names) p.places.tokens) }
+    ensures texts { IfOk result (λ p. list_all is_utf8 p.places.names ≡ true) }
+    ensures lines { IfOk result (λ p. HaveLines p.places.tokens) }
     ensures source { IfOk result (λ p. p.places.source ≡ source.now) }
     // of at most 200,000 tokens and nodes, and 200 trees on a path.
     ensures limits { IfOk result IsWithin }

@@ -1,6 +1,6 @@
 -- From the parts of a conversion and of a trace to the whole.
 use Rattle.std.proofs.Common.{ℕ, ◌≡◌, List, [], ◌∷◌, refl, ap, subst, ◌∙◌}
-use Rattle.std.specs.Prelude.{Option, Some, None, Result, Ok, IfSome}
+use Rattle.std.specs.Prelude.{Option, Some, None, Result, Ok, IfSome, Contains}
 use Rattle.kit_base.specs.Held.{Held}
 use Rattle.kit_base.specs.Effects.{all_done, written_file}
 use Rattle.kit_core.specs.declared.refusal.Refusal.{Refusal}
@@ -36,7 +36,7 @@ module _ (conversion : Conversion) (source target bytes : List ℕ) where
       → IfSome h0 (λ m. Comes e (convert_due conversion source target m) (source ∷ []) m h2)
   conversion_cut e None h1 h2 made same is_cut = tt
   conversion_cut e (Some m) h1 h2 made same is_cut =
-      cut e work (convert_due conversion source target m) (source ∷ []) m h2 (is_due m made) (subst (λ h. IsCut e (written_file target bytes) h h2) same is_cut)
+      cut e work (λ d. convert_due conversion source target m ≡ d) (Contains (source ∷ [])) m h2 (is_due m made) (subst (λ h. IsCut e (written_file target bytes) h h2) same is_cut)
 
   pub conversion_done : (v : Shown) (h0 h1 h2 : Option Held) → text_of v ≡ [] → shown_status v ≡ 0 → WasMade h0 → h1 ≡ h0 → h2 ≡ all_done (written_file target bytes) h1
       → IfSome h0 (λ m. Leaves (Ok v) (convert_due conversion source target m) (source ∷ []) m h2)

@@ -6,11 +6,14 @@ use Rattle.kit_base.specs.Counts.{Rose}
 use Rattle.kit_base.specs.Effects.{all_done, CutShort}
 use Rattle.kit_base.specs.Outside.{due}
 use Rattle.kit_base.specs.declared.outside.FileErr.{FileErr}
+use Rattle.build_core.specs.declared.building.Built.{Built}
+use Rattle.build_core.specs.declared.error.BuildErr.{BuildErr}
+use Rattle.build_core.specs.Build.{HasNoParts, IsBuilt}
 use Rattle.kit_core.specs.declared.refusal.Refusal.{Refusal}
 use Rattle.kit_core.specs.declared.refusal.Refusal.TheVariants as refusals
 use Rattle.kit_core.specs.Causes.{IsUnrisen}
 use Rattle.kit_core.specs.Command.{Command, Build, Convert, Trace, Run, Check, command_of}
-use Rattle.kit_core.specs.Due.{Work, build_due, convert_due, trace_due, run_due, read_check_due, form_due, command_due}
+use Rattle.kit_core.specs.Due.{Work, convert_due, trace_due, run_due, read_build_due, read_build_refused, read_check_due, form_due, form_refused, command_due, command_refused}
 use Rattle.kit_core.specs.Outcome.{ComesBy, IsShown, EndsAs, Done, Refused, FileFault, OutOfMemory, SinkFault, IsOutcome, status_due}
 
 -- where no work with effects is due, nothing changed
@@ -54,18 +57,27 @@ check_still : (project : List ℕ) (m : Held) (r : Result (List ℕ) FileErr) (w
 check_still project m (Ok text) w h = ap (λ (v : Work). v.effects) (sym h.1)
 check_still project m (Err e) w h = absurd cc
 
-form_still : (c : Option Command) (m : Held) (e : Refusal) → form_due c m (Err e) → (w : Work) → form_due c m (Ok w) → w.effects ≡ []
-form_still None m e h w k = absurd cc
-form_still (Some (Build project cart map_name)) m e h w k = absurd (differ (build_due project cart map_name m) e w h k)
-form_still (Some (Convert conversion source target)) m e h w k = absurd (differ (convert_due conversion source target m) e w h k)
-form_still (Some (Trace cart answers card steps)) m e h w k = absurd (differ (trace_due cart answers card steps m) e w h k)
-form_still (Some (Run words)) m e h w k = absurd (differ (run_due words m) e w h k)
-form_still (Some (Check project)) m e h w k = check_still project m (due m project) w k
+-- where the input of a build is refused, no work is due of it
+abbrev Law : Type 0
+Law = (m : Held) (project : List ℕ) (b : Built) (e : BuildErr) → IsBuilt m project b → HasNoParts m project e → ⊥
 
-pub untouched_told : (words : List (List ℕ)) (status : ℕ) (told after : Option Held) (before put : Option (List ℕ))
-    → IfSome told (λ m. IsOutcome words m status after before put) → IfSome told (λ m. (e : Refusal) → command_due words m (Err e) → after ≡ told)
-untouched_told words status None after before put outcome = tt
-untouched_told words status (Some m) after before put outcome = λ e h. ends_still _ _ m after (form_still (command_of words) m e h) status before put outcome
+no_build : Law → (project cart map_name : List ℕ) (m : Held) (r : Result (List ℕ) FileErr) (e : Refusal) (w : Work)
+    → read_build_refused project m r e → read_build_due project cart map_name m r (Ok w) → ⊥
+no_build law project cart map_name m (Ok text) e w h k = law m text k.0 h.0 k.1 h.1
+no_build law project cart map_name m (Err f) e w h k = absurd cc
+
+form_still : Law → (c : Option Command) (m : Held) (e : Refusal) → form_refused c m e → (w : Work) → form_due c m (Ok w) → w.effects ≡ []
+form_still law None m e h w k = absurd cc
+form_still law (Some (Build project cart map_name)) m e h w k = absurd (no_build law project cart map_name m (due m project) e w h k)
+form_still law (Some (Convert conversion source target)) m e h w k = absurd (differ (convert_due conversion source target m) e w h k)
+form_still law (Some (Trace cart answers card steps)) m e h w k = absurd (differ (trace_due cart answers card steps m) e w h k)
+form_still law (Some (Run words)) m e h w k = absurd (differ (run_due words m) e w h k)
+form_still law (Some (Check project)) m e h w k = check_still project m (due m project) w k
+
+pub untouched_told : Law → (words : List (List ℕ)) (status : ℕ) (told after : Option Held) (before put : Option (List ℕ))
+    → IfSome told (λ m. IsOutcome words m status after before put) → IfSome told (λ m. (e : Refusal) → command_refused words m e → after ≡ told)
+untouched_told law words status None after before put outcome = tt
+untouched_told law words status (Some m) after before put outcome = λ e h. ends_still _ _ m after (form_still law (command_of words) m e h) status before put outcome
 
 -- where no call failed, the status is one that is due, or 8
 ends_due : (Due : Result Work Refusal → Type 0) (Reads : List ℕ → Type 0) (m : Held) (status : ℕ) (after : Option Held) (before put : Option (List ℕ))

@@ -1,6 +1,6 @@
 -- From the parts of a run to the whole, and what its statuses 0 and 3 say.
 use Rattle.std.proofs.Common.{ℕ, ◌≡◌, ◌⊎◌, inl, List, refl, sym, ap, subst, ◌∙◌}
-use Rattle.std.specs.Prelude.{Option, Some, None, Result, Ok, Err, IfSome}
+use Rattle.std.specs.Prelude.{Option, Some, None, Result, Ok, Err, IfSome, Contains}
 use Rattle.kit_base.specs.Held.{Held}
 use Rattle.kit_base.specs.Effects.{all_done}
 use Rattle.run_core.specs.Ending.{end_text}
@@ -39,7 +39,7 @@ module _ (words : RunWords) (game : Game) where
   left_by : (r : Result Shown Refusal) (m : Held) (h2 : Option Held) → WasRead (Some m) → IsWritten (names_in words) game r (Some m) h2
       → Leaves r (run_due words m) (run_reads words) m h2
   left_by (Ok v) m h2 read done = (work, is_due m read, done.outputs, done.text, done.status)
-  left_by (Err e) m h2 read is_cut = cut e work (run_due words m) (run_reads words) m h2 (is_due m read) is_cut
+  left_by (Err e) m h2 read is_cut = cut e work (λ d. run_due words m ≡ d) (Contains (run_reads words)) m h2 (is_due m read) is_cut
 
   pub run_left : (r : Result Shown Refusal) (h0 h1 h2 : Option Held) → WasRead h0 → h1 ≡ h0 → IsWritten (names_in words) game r h1 h2
       → IfSome h0 (λ m. Leaves r (run_due words m) (run_reads words) m h2)

@@ -7,9 +7,8 @@ use Rattle.std.specs.FinMap.{get}
 use Rattle.kit_base.specs.Held.{Held}
 use Rattle.kit_base.specs.Effects.{all_done}
 use Rattle.kit_base.specs.Outside.{due}
+use Rattle.kit_base.specs.declared.outside.FileErr.{FileErr}
 use Rattle.build_core.specs.declared.building.Built.{Built}
-use Rattle.build_core.specs.Due.{built_of}
-use Rattle.build_core.specs.Build.{IsBuilt}
 use Rattle.project_text.specs.MapText.{map_text}
 use Rattle.kit_core.specs.declared.refusal.Refusal.{Refusal}
 use Rattle.kit_core.specs.declared.refusal.Refusal.TheVariants as refusals
@@ -17,11 +16,10 @@ use Rattle.kit_core.specs.Refusal.{status_of}
 use Rattle.kit_core.specs.declared.conversion.Conversion.{Conversion}
 use Rattle.kit_core.specs.declared.conversion.Conversion.TheVariants.{Migrate, Assemble, Disassemble}
 use Rattle.kit_core.specs.Command.{RunWords, Build, Trace, Run, are_distinct, checked_run, run_form, is_word, is_number, card_of, build_form, check_form, convert_form, trace_form, converting_form_of, form_of, form_with, command_of}
-use Rattle.kit_core.specs.Inputs.{◌>>=◌, or_refused, unread}
-use Rattle.kit_core.specs.Due.{Work, unbuilt, outputs_of, build_due, form_due}
+use Rattle.kit_core.specs.Inputs.{◌>>=◌}
+use Rattle.kit_core.specs.Due.{Work, outputs_of, build_due, read_build_due, form_due}
 use Rattle.kit_core.specs.Outcome.{putting, EndsAs, Done, Refused, FileFault, OutOfMemory, SinkFault, IsOutcome}
 use Rattle.kit_core.specs.Headline.{IsBuiltInto, BuildStands}
-use Rattle.kit_core.proofs.Stages.{refused_gave}
 use Rattle.kit_core.proofs.Writes.{get_written, get_unwritten}
 
 -- the created names differ
@@ -165,34 +163,29 @@ map_there : (m : Held) (cart map_name : List ℕ) (b : Built) (after : Option He
 map_there m cart map_name b after e =
     subst (λ h. IsSomeAnd h (λ files. get files map_name ≡ Some (map_text b.map))) (sym e) (get_written _ map_name (map_text b.map))
 
-abbrev Law : Type 0
-Law = (m : Held) (project : List ℕ) (b : Built) → built_of m project ≡ Ok b → IsBuilt m project b
-
-built_into : Law → (project cart map_name : List ℕ) (m : Held) (after : Option Held) (work : Work) → bytes_eq cart map_name ≡ false
-    → build_due project cart map_name m ≡ Ok work → after ≡ all_done work.effects (Some m) → IsBuiltInto project cart map_name m after
-built_into law project cart map_name m after work differ d e =
-    let t = bind_ok (or_refused (unread project) (due m project)) _ work d in
-    let b = bind_ok (or_refused (unbuilt project) (built_of m t.0)) _ work t.2 in
-    let same : outputs_of cart map_name b.0 ≡ work.effects = cc b.2 in
-    let stands : after ≡ all_done (outputs_of cart map_name b.0) (Some m) = e ∙ ap (λ xs. all_done xs (Some m)) (sym same) in
+built_into : (project cart map_name : List ℕ) (m : Held) (after : Option Held) (work : Work) (r : Result (List ℕ) FileErr) → bytes_eq cart map_name ≡ false
+    → due m project ≡ r → read_build_due project cart map_name m r (Ok work) → after ≡ all_done work.effects (Some m) → IsBuiltInto project cart map_name m after
+built_into project cart map_name m after work (Ok text) differ read d e =
+    let stands : after ≡ all_done (outputs_of cart map_name d.0) (Some m) = e ∙ ap (λ (w : Work). all_done w.effects (Some m)) (sym d.2) in
     record {
-      text = t.0;
-      built = b.0;
-      project_is = refused_gave _ _ _ t.1;
-      is_built = law m t.0 b.0 (refused_gave _ _ _ b.1);
+      text = text;
+      built = d.0;
+      project_is = read;
+      is_built = d.1;
       outputs = stands;
-      cart_stands = cart_there m cart map_name b.0 after differ stands;
-      map_stands = map_there m cart map_name b.0 after stands;
+      cart_stands = cart_there m cart map_name d.0 after differ stands;
+      map_stands = map_there m cart map_name d.0 after stands;
     }
+built_into project cart map_name m after work (Err f) differ read d e = absurd cc
 
-pub headline : Law → (words : List (List ℕ)) (m : Held) (status : ℕ) (after : Option Held) (before put : Option (List ℕ))
+headline : (words : List (List ℕ)) (m : Held) (status : ℕ) (after : Option Held) (before put : Option (List ℕ))
     → IsOutcome words m status after before put → status ≡ 0 → BuildStands words m after
-headline law words m status after before put outcome z = λ project cart map_name named.
+headline words m status after before put outcome z = λ project cart map_name named.
     let done = done_at_zero _ _ m status after before put outcome z in
-    let is_due : build_due project cart map_name m ≡ Ok done.0 = subst (λ o. form_due o m (Ok done.0)) named done.1 in
-    built_into law project cart map_name m after done.0 (created_differ words project cart map_name named) is_due done.2
+    let is_due : build_due project cart map_name m (Ok done.0) = subst (λ o. form_due o m (Ok done.0)) named done.1 in
+    built_into project cart map_name m after done.0 (due m project) (created_differ words project cart map_name named) refl is_due done.2
 
-pub headline_told : Law → (words : List (List ℕ)) (status : ℕ) (told after : Option Held) (before put : Option (List ℕ))
+pub headline_told : (words : List (List ℕ)) (status : ℕ) (told after : Option Held) (before put : Option (List ℕ))
     → IfSome told (λ m. IsOutcome words m status after before put) → IfSome told (λ m. status ≡ 0 → BuildStands words m after)
-headline_told law words status None after before put outcome = tt
-headline_told law words status (Some m) after before put outcome = headline law words m status after before put outcome
+headline_told words status None after before put outcome = tt
+headline_told words status (Some m) after before put outcome = headline words m status after before put outcome

@@ -11,7 +11,9 @@ pub mod Writes
 pub mod Headlines
 pub mod Traces
 pub mod Games
+pub mod Projects
 pub mod Checks
+pub mod Builds
 pub mod Ends
 pub mod Given
 pub mod Telling

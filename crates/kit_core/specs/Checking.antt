@@ -10,16 +10,18 @@ use Rattle.kit_core.specs.declared.refusal.Refusal.{Refusal}
 use Rattle.kit_core.specs.declared.refusal.Refusal.TheVariants as refusals
 use Rattle.kit_core.specs.Due.{unbuilt}
 
--- its source has a program, or why it has none, unless memory ran out or a call failed
+-- the refusal is one of these, unless memory ran out or a call failed
+abbrev pub IsOneUnlessStopped : (Refusal → Type 0) → Refusal → Type 0
+IsOneUnlessStopped These refusals.Memory = Unit {0}
+IsOneUnlessStopped These (refusals.Failed name) = Unit {0}
+IsOneUnlessStopped These refusal = These refusal
+
+-- its source has a program, or why it has none
 abbrev pub TextChecked : (project text : List ℕ) → Held → Result (Unit {0}) Refusal → Type 0
 TextChecked project text held (Ok x) = (p : ProgramT) × IsAccepted held text p
-TextChecked project text held (Err refusals.Memory) = Unit {0}
-TextChecked project text held (Err (refusals.Failed name)) = Unit {0}
-TextChecked project text held (Err refusal) = (e : BuildErr) × IsRejected held text e × (unbuilt project e ≡ refusal)
+TextChecked project text held (Err refusal) = IsOneUnlessStopped (λ r. (e : BuildErr) × IsRejected held text e × (unbuilt project e ≡ r)) refusal
 
--- the same of a build
+-- what was built of it, or why nothing was
 abbrev pub TextBuilt : (project text : List ℕ) → Held → Result Built Refusal → Type 0
 TextBuilt project text held (Ok b) = IsBuilt held text b
-TextBuilt project text held (Err refusals.Memory) = Unit {0}
-TextBuilt project text held (Err (refusals.Failed name)) = Unit {0}
-TextBuilt project text held (Err refusal) = (e : BuildErr) × IsUnbuilt held text e × (unbuilt project e ≡ refusal)
+TextBuilt project text held (Err refusal) = IsOneUnlessStopped (λ r. (e : BuildErr) × IsUnbuilt held text e × (unbuilt project e ≡ r)) refusal

@@ -15,7 +15,7 @@ use Rattle.kit_core.specs.declared.refusal.Refusal.{Refusal}
 use Rattle.kit_core.specs.declared.refusal.Refusal.TheVariants as refusals
 use Rattle.kit_core.specs.declared.conversion.Conversion.{Conversion}
 use Rattle.kit_core.specs.Command.{Command, RunWords, Build, Convert, Trace, Run, Check, command_of}
-use Rattle.kit_core.specs.Inputs.{◌>>=◌, or_refused, unread}
+use Rattle.kit_core.specs.Inputs.{◌>>=◌, unread}
 use Rattle.kit_core.specs.Converting.{made_due}
 use Rattle.kit_core.specs.Tracing.{traced_due, trace_reads}
 use Rattle.kit_core.specs.Running.{end_status, game_due, game_end, names_in, run_reads}

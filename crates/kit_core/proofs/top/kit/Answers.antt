@@ -7,7 +7,7 @@ use Rattle.kit_core.proofs.top.kit.Goals as goal
 
 pub returns-clause-agrees : goal.returns-clause-agrees
 returns-clause-agrees g c =
-    headline_told c.cartridge_does_what_its_source_means.ensures (texts c.args.words.now) c.status_for.result (g.F.Reads.held c.args.files.now) (g.F.Reads.held c.status_for.new.files)
+    headline_told (texts c.args.words.now) c.status_for.result (g.F.Reads.held c.args.files.now) (g.F.Reads.held c.status_for.new.files)
     (g.S.Sink.written c.args.out.now) (g.S.Sink.written c.status_for.new.out) c.status_for.ensures.told
 
 pub returns-clause-traces : goal.returns-clause-traces
@@ -22,7 +22,7 @@ returns-clause-runs g c =
 
 pub returns-clause-untouched : goal.returns-clause-untouched
 returns-clause-untouched g c =
-    untouched_told (texts c.args.words.now) c.status_for.result (g.F.Reads.held c.args.files.now) (g.F.Reads.held c.status_for.new.files)
+    untouched_told c.builds_are_due_or_refused.ensures.either (texts c.args.words.now) c.status_for.result (g.F.Reads.held c.args.files.now) (g.F.Reads.held c.status_for.new.files)
     (g.S.Sink.written c.args.out.now) (g.S.Sink.written c.status_for.new.out) c.status_for.ensures.told
 
 pub returns-clause-complete : goal.returns-clause-complete

@@ -1,0 +1,7 @@
+mod Added
+mod Rising
+mod Files
+mod Mapped
+mod Named
+mod Told
+mod Imaged

@@ -1,6 +1,5 @@
 // Items to text, and the text to words.
-ghost use Rattle.std.specs.Prelude.{ℕ, List, ◌≡◌, ◌≤◌, None, Ok, IfOk, length};
-ghost use Rattle.asm_items.specs.declared.item.AsmItem.{AsmItem};
+ghost use Rattle.std.specs.Prelude.{◌≡◌, ◌≤◌, None, Ok, IfOk, length};
 ghost use Rattle.asm_items.specs.Written.{written};
 ghost use Rattle.asm_reader.specs.Readable.{AreReadable};
 ghost use Rattle.asm_reader.specs.Reading.{read};
@@ -8,7 +7,7 @@ ghost use Rattle.assembler.specs.Faults.{fault_of};
 ghost use Rattle.assembler.specs.Placed.{Placed};
 
 use asm_items::{AsmItem, write_asm};
-use asm_reader::{AsmErr, read_asm, written_text_reads_again};
+use asm_reader::{AsmErr, read_asm};
 use assembler::{Placement, assemble};
 use kit_base::Memory;
 use std::alloc::Global;
@@ -46,7 +45,8 @@ pub struct Assembled {
 }
 
 /// The text of items, and the words that this text, read again, is placed as. The error is want of memory.
-pub fn assembled(alloc: Global, items: &[AsmItem]) -> Result<Assembled, Memory>
+#[tactic(auto, using(asm_reader::proofs::AgainLaws::written_again))]
+pub fn assemble_items(alloc: Global, items: &[AsmItem]) -> Result<Assembled, Memory>
     requires readable { AreReadable items.now }
     requires faultless { fault_of items.now ≡ None }
     ensures text { IfOk result (λ a. a.text.items ≡ written items.now) }
@@ -54,7 +54,6 @@ pub fn assembled(alloc: Global, items: &[AsmItem]) -> Result<Assembled, Memory>
     ensures placed { IfOk result (λ a. Placed items.now a.placement.words a.placement.labels) }
     ensures few { IfOk result (λ a. length a.placement.words ≤ 33554432) }
 {
-    written_text_reads_again();
     let text = write_asm(alloc, items)?;
     let again = read_items(alloc, &text, items)?;
     let placement = placed(alloc, &again)?;

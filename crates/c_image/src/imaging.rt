@@ -1,15 +1,21 @@
 // The image of a program.
-ghost use Rattle.std.specs.Prelude.{IfOk};
+ghost use Rattle.std.specs.Prelude.{◌≡◌, ◌<◌, ◌^◌, [], IfOk, length, map};
 ghost use Rattle.c_check.specs.View.{program};
 ghost use Rattle.c_compile.specs.Compiling.{compiled, IsCompiled};
+ghost use Rattle.c_front.specs.Places.{place_at};
+ghost use Rattle.assembler.specs.Labels.{address_in};
 ghost use Rattle.c_image.specs.Imaging.{image, AreStarts, IsImageOf};
+ghost use Rattle.c_image.specs.Lines.{files_behind, rows_of};
+ghost use Rattle.c_image.specs.Mapping.{map_of};
 
-use crate::assembling::assembled;
+use crate::assembling::{Assembled, assemble_items};
 use crate::lines::{files_of, rows_of};
 use crate::mapping::map_of;
 use crate::naming::labels_in;
+use assembler::Placement;
 use c_check::Program;
 use c_compile::{Compiled, compile};
+use c_facts::laws::programs_are_sound;
 use c_front::Places;
 use cart_format::LineRow;
 use kit_base::{Memory, Name};
@@ -30,8 +36,38 @@ pub struct Image {
     pub rows: Vec<LineRow>,
 }
 
+/// The map and the line table of a program.
+#[derive(Drop)]
+struct Tables {
+    map: Map,
+    files: Vec<Name>,
+    rows: Vec<LineRow>,
+}
+
+/// The map and the line table of a program whose frames have these sizes, of so many words with these labels. The error is want of memory.
+fn tables_of(
+    alloc: Global,
+    checked: &Program,
+    sizes: &[u32],
+    count: u32,
+    labels: &[(Name, u32)],
+    places: &Places,
+    starts: &[u32],
+) -> Result<Tables, Memory>
+    requires few { length starts.now < 2 ^ 32 }
+    ensures map { IfOk result (λ t. t.map ≡ map_of (program checked.now) sizes.now count (address_in labels.now)) }
+    ensures files { IfOk result (λ t. t.files.items ≡ files_behind [] (map (place_at places.now) starts.now)) }
+    ensures rows { IfOk result (λ t. t.rows.items ≡ rows_of (address_in labels.now) (files_behind [] (map (place_at places.now) starts.now)) (program checked.now).functions (map (place_at places.now) starts.now)) }
+{
+    let table = labels_in(alloc, labels)?;
+    let map = map_of(alloc, checked, sizes, count, &table)?;
+    let files = files_of(alloc, places, starts)?;
+    let rows = rows_of(alloc, &table, &files, checked.functions(), places, starts)?;
+    Ok(Tables { map, files, rows })
+}
+
 /// The image of what was compiled of a program, whose functions begin at these tokens.
-fn image_of(
+fn image_compiled(
     alloc: Global,
     checked: &Program,
     made: Compiled,
@@ -42,26 +78,34 @@ fn image_of(
     requires starts { AreStarts (program checked.now) places.now starts.now }
     ensures image { IfOk result (λ i. IsImageOf (program checked.now) places.now starts.now (image i)) }
 {
-    let assembled = assembled(alloc, &made.items)?;
-    let labels = labels_in(alloc, assembled.placement.labels.as_slice())?;
+    programs_are_sound(checked);
+    let Assembled { text, placement } = assemble_items(alloc, &made.items)?;
+    let Placement { words, labels } = placement;
+    let words = words.into_vec();
     let sizes = made.placed.frames().sizes.as_slice();
-    let words = assembled.placement.words.into_vec();
-    let map = map_of(alloc, checked, sizes, words.len() as u32, &labels)?;
-    let files = files_of(alloc, places, starts)?;
-    let rows = rows_of(alloc, &labels, &files, checked.functions(), places, starts)?;
+    let Tables { map, files, rows } = tables_of(
+        alloc,
+        checked,
+        sizes,
+        words.len() as u32,
+        labels.as_slice(),
+        places,
+        starts,
+    )?;
+    let Compiled { mid, choices, .. } = made;
     Ok(Image {
         words,
         map,
-        text: assembled.text,
-        mid: made.mid,
-        choices: made.choices,
+        text,
+        mid,
+        choices,
         files,
         rows,
     })
 }
 
 /// The image of a program whose functions begin at these tokens, in their order. The error is want of memory.
-pub fn image(
+pub fn image_of(
     alloc: Global,
     checked: &Program,
     places: &Places,
@@ -71,5 +115,5 @@ pub fn image(
     ensures image { IfOk result (λ i. IsImageOf (program checked.now) places.now starts.now (image i)) }
 {
     let compiled = compile(alloc, checked)?;
-    image_of(alloc, checked, compiled, places, starts)
+    image_compiled(alloc, checked, compiled, places, starts)
 }

@@ -11,4 +11,4 @@ mod lines;
 mod mapping;
 mod naming;
 
-pub use imaging::{Image, image};
+pub use imaging::{Image, image_of};

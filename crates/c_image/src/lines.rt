@@ -1,5 +1,5 @@
 // The line table of a program.
-ghost use Rattle.std.specs.Prelude.{◌≡◌, ◌≤◌, ◌<◌, ◌^◌, [], true, IfOk, length, map};
+ghost use Rattle.std.specs.Prelude.{◌≡◌, ◌<◌, ◌^◌, [], true, IfOk, length, map};
 ghost use Rattle.c_types.specs.View.{function};
 ghost use Rattle.c_front.specs.Places.{place_at};
 ghost use Rattle.assembler.specs.Labels.{address_in, are_words};

@@ -1,5 +1,5 @@
 // The addresses of labels.
-ghost use Rattle.std.specs.Prelude.{◌≡◌, ◌∷◌, true, IfOk};
+ghost use Rattle.std.specs.Prelude.{◌≡◌, [], true, IfOk};
 ghost use Rattle.asm_laws.specs.Labelled.{label_of_function};
 ghost use Rattle.assembler.specs.Labels.{address_in, are_words};
 ghost use Rattle.c_image.specs.Labels.{added};
@@ -10,7 +10,8 @@ use std::alloc::Global;
 
 /// The labels of a program; of two with one name the first stays. The error is want of memory.
 pub fn labels_in<'a>(alloc: Global, labels: &'a [(Name, u32)]) -> Result<Labels<'a>, Memory>
-    ensures labels { IfOk result (λ l. l.now ≡ added [] labels.now) }
+    ensures labels { IfOk result (λ l. l ≡ added [] labels.now) }
+    ensures words { IfOk result (λ l. are_words l ≡ true) }
 {
     let mut table = Labels::new(alloc);
     'each: for label in labels {

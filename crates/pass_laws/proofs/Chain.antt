@@ -1,5 +1,5 @@
 -- The promises of the passes meet: words that are made of a program by all of them do what it means.
-use Rattle.std.proofs.Common.{◌≡◌, ℕ, ◌≤◌, ◌+◌, ◌*◌, List, map, subst, ◌∙◌, arith}
+use Rattle.std.proofs.Common.{◌≡◌, ℕ, ◌≤◌, ◌+◌, ◌*◌, List, length, map, sum_by, subst, ◌∙◌, arith}
 use Rattle.c_types.specs.Programs.{ProgramT}
 use Rattle.c_types.specs.Programs.{TFunctionT}
 use Rattle.c_types.specs.Nodes.{program_nodes}
@@ -55,8 +55,14 @@ module _ (p : ProgramT) (m promoted : CodeT ℕ) (cs : List (List Where)) (x : P
       subst (λ globals. AgreesWithin 1 (addresses 0 globals) (mid_runs promoted x.frames) words) same_globals
       (within_through 1 (addresses 0 x.code.globals) (mid_runs promoted x.frames) (placed_runs x) words c.keeps c.works (e.agrees words labels stands))
 
-  pub small : total_size items ≤ 128 * program_nodes p + literal_words x + 64
-  small = omega (arith, e.small, c.weighs, o.weighs, l.weighs)
+  same_literals : x.code.literals ≡ p.literals
+  same_literals = c.literals ∙ o.literals ∙ l.literals
+
+  placed_small : total_size items ≤ 128 * program_nodes p + literal_words x + 64
+  placed_small = omega (arith, e.small, c.weighs, o.weighs, l.weighs)
+
+  pub small : total_size items ≤ 128 * program_nodes p + sum_by (λ text. length text + 1) p.literals + 64
+  small = subst (λ (texts : List (List ℕ)). total_size items ≤ 128 * program_nodes p + sum_by (λ text. length text + 1) texts + 64) same_literals placed_small
 
 -- A function without loops has none in placed code, and calls there only what its tree calls.
 pub straight : {P Q : Type 0} (s : Setting) (f : TFunctionT) (g : FunctionT ℕ) (h : FunctionT P) (k : FunctionT Q)

@@ -1,5 +1,5 @@
 -- What words do that are made of a program by all passes.
-use Rattle.std.specs.Prelude.{◌≡◌, ℕ, ◌≤◌, ◌+◌, ◌*◌, List, [], map}
+use Rattle.std.specs.Prelude.{◌≡◌, ℕ, ◌≤◌, ◌+◌, ◌*◌, List, [], length, map, sum_by}
 use Rattle.c_types.specs.Programs.{ProgramT, TFunctionT}
 use Rattle.c_types.specs.Nodes.{program_nodes}
 use Rattle.c_meaning.specs.Setting.{Setting, setting}
@@ -21,7 +21,7 @@ use Rattle.mid_lower.specs.SourceLoops.{HasNoLoops, TreeCalls}
 use Rattle.mid_scalars.specs.PromotedFrom.{IsPromotedFrom}
 use Rattle.reg_frames.specs.PlacedFrom.{IsPlacedFrom}
 use Rattle.asm_laws.specs.Tables.{addresses}
-use Rattle.asm_emit.specs.EmittedFrom.{IsEmitted, literal_words}
+use Rattle.asm_emit.specs.EmittedFrom.{IsEmitted}
 
 -- Items of a program, by way of promoted code and of code whose frames have these sizes: the words that they are placed as do what it means, each
 -- global at the sum of the sizes before it.
@@ -30,7 +30,7 @@ pub record DoesAsMeant (p : ProgramT) (promoted : CodeT ℕ) (x : PlacedT) (item
   pub keeps : KeepsRuns (c_runs p x.frames) (mid_runs promoted x.frames)
   pub follows : (words : List ℕ) (labels : List (List ℕ × ℕ)) → asm.Placed items words labels → AgreesWithin 1 (addresses 0 (map (λ g. g.1) p.globals)) (mid_runs promoted x.frames) words
   pub agrees : (words : List ℕ) (labels : List (List ℕ × ℕ)) → asm.Placed items words labels → AgreesWithin 64 (addresses 0 (map (λ g. g.1) p.globals)) (c_runs p x.frames) words
-  pub small : total_size items ≤ 128 * program_nodes p + literal_words x + 64
+  pub small : total_size items ≤ 128 * program_nodes p + sum_by (λ text. length text + 1) p.literals + 64
   pub frames : EachFits (setting p []) p.functions x.frames
 
 abbrev pub PassesMeet : Type 0

@@ -5,7 +5,7 @@ pub mod Counting
 pub mod AssetReading
 pub mod AssetFiles
 pub mod Limits
-pub mod Sources
+pub mod Starting
 pub mod Refusals
 pub mod Builds
 pub mod Checks

@@ -27,11 +27,11 @@ pub struct Source {
 }
 
 /// The number of the first token of each function's definition.
-fn starts_of(alloc: Global, unit: &Unit) -> Result<Vec<u32>, Memory>
-    ensures { IfOk result (λ v. v.items ≡ starts_of (unit unit.now)) }
+fn starts_of(alloc: Global, parsed: &Unit) -> Result<Vec<u32>, Memory>
+    ensures { IfOk result (λ v. v.items ≡ starts_of (unit parsed.now)) }
 {
     let mut starts = Vec::new(alloc);
-    'each: for item in unit.items.as_slice() {
+    'each: for item in parsed.items.as_slice() {
         match item {
             Item::Function {
                 body: Some(_),
@@ -73,6 +73,7 @@ fn source_of(alloc: Global, parsed: Parsed) -> Result<Source, BuildErr>
 }
 
 /// The source of that name, read and typed.
+#[tactic(auto, using(crate::proofs::Starting::is_read))]
 pub fn read_source<F: Reads>(alloc: Global, files: &mut F, name: &Name) -> Result<Source, BuildErr>
     requires { IsUtf8 name.now }
     ensures held { F.held files.new ≡ F.held files.old }

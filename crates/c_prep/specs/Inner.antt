@@ -1,6 +1,8 @@
 -- What the program's private clauses cite: its own types seen as those of the definitions, and the answers of its parts.
-use Rattle.std.specs.Prelude.{◌≡◌, ◌≢◌, ◌<◌, ℕ, List, Option, Some, None, Result, Ok, Err}
+use Rattle.std.specs.Prelude.{◌≡◌, ◌≢◌, ◌<◌, ◌≤◌, ℕ, List, Option, Some, None, Result, Ok, Err, Vec}
+use Rattle.std.specs.List.{AllByRecursion}
 use Rattle.std.specs.Borrow.{Bor}
+use Rattle.std.specs.declared.alloc.Global.{Global}
 use Rattle.c_lex.specs.declared.token.Token.{Token}
 use Rattle.c_prep.specs.declared.directive.Class.{Class}
 use Rattle.c_prep.specs.declared.directive.Directive.{Directive as Parsed}
@@ -14,7 +16,7 @@ use Rattle.c_prep.specs.declared.files.Included.{Included}
 use Rattle.c_prep.specs.Kinds.{kinds_of}
 use Rattle.c_prep.specs.Directives.{Directive, Include, Define, Undef, IfDef, IfNotDef, Else, EndIf, Error, Bad, Directed}
 use Rattle.c_prep.specs.Files.{Inclusion, Stop, refusal}
-use Rattle.c_prep.specs.Numbers.{AreBelow, IsBelow}
+use Rattle.c_prep.specs.Numbers.{IsBelow}
 
 -- an entry of the program's table
 abbrev pub listed : Bor (List ℕ) × Class → List ℕ × Class
@@ -73,7 +75,20 @@ IsOfText (e.At code file line) = code ≢ 21
 IsOfText e.Memory = Unit {0}
 IsOfText _ = ⊥
 
+-- a token of a file below n, and its line
+pub record IsPlaced (n : ℕ) (t : Token) : Type 0 where
+  pub file : t.file < n
+  pub line : 1 ≤ t.line
+
+abbrev pub ArePlaced : ℕ → List Token → Type 0
+ArePlaced n tokens = AllByRecursion (IsPlaced n) tokens
+
+-- tokens that were read, or a refusal, are of files below n
+abbrev pub PlacedIn : ℕ → Result (Vec Token Global) PrepErr → Type 0
+PlacedIn n (Ok v) = ArePlaced n v.items
+PlacedIn n (Err x) = IsBelow n x
+
 -- tokens that were put, or a refusal, are of files below n
-abbrev pub NumberedPut : {X : Type 0} → ℕ → List Token → Result X PrepErr → Type 0
-NumberedPut n tokens (Ok x) = AreBelow n tokens
-NumberedPut n tokens (Err x) = IsBelow n x
+abbrev pub PlacedPut : {X : Type 0} → ℕ → List Token → Result X PrepErr → Type 0
+PlacedPut n tokens (Ok x) = ArePlaced n tokens
+PlacedPut n tokens (Err x) = IsBelow n x

@@ -1,5 +1,5 @@
--- The numbers of files that an answer speaks of are below the count of the names.
-use Rattle.std.specs.Prelude.{ℕ, ◌<◌, List, Result, Ok, Err, Vec}
+-- The numbers of files that an answer speaks of are below the count of the names, and lines count from 1.
+use Rattle.std.specs.Prelude.{ℕ, ◌<◌, ◌≤◌, List, Result, Ok, Err, Vec}
 use Rattle.std.specs.List.{AllByRecursion}
 use Rattle.std.specs.declared.alloc.Global.{Global}
 use Rattle.c_lex.specs.declared.token.Token.{Token}
@@ -8,6 +8,9 @@ use Rattle.c_prep.specs.declared.error.PrepErr.TheVariants as e
 
 abbrev pub AreBelow : ℕ → List Token → Type 0
 AreBelow n tokens = AllByRecursion (λ t. t.file < n) tokens
+
+abbrev pub HaveLines : List Token → Type 0
+HaveLines tokens = AllByRecursion (λ t. 1 ≤ t.line) tokens
 
 abbrev pub IsBelow : ℕ → PrepErr → Type 0
 IsBelow n (e.At code file line) = file < n

@@ -3,9 +3,8 @@ ghost use Rattle.std.specs.Prelude.{◌≡◌, ◌≤◌, ◌<◌, ◌∷◌, �
 ghost use Rattle.std.specs.List.{list_any};
 ghost use Rattle.c_prep.specs.Kinds.{kinds_of};
 ghost use Rattle.c_prep.specs.Lines.{begins_directive, is_hash, lines_of};
-ghost use Rattle.c_prep.specs.Numbers.{AreBelow};
 ghost use Rattle.c_prep.specs.Directives.{class_in, class_of, define_of, directive_in, directive_of, is_keyword, lone, name_in, of_class, text_in};
-ghost use Rattle.c_prep.specs.Inner.{listed, shown, shown_in};
+ghost use Rattle.c_prep.specs.Inner.{ArePlaced, listed, shown, shown_in};
 
 use crate::kinds::word_in;
 use c_lex::{Kind, Punct, Token};
@@ -74,8 +73,8 @@ fn line_len(tokens: &[Token]) -> usize
 pub fn first_line(tokens: &[Token]) -> Option<(&[Token], &[Token])>
     ensures some { IfSome result (λ p. lines_of tokens.now ≡ p.0.now ∷ lines_of p.1.now) }
     ensures less { IfSome result (λ p. length p.1.now < length tokens.now) }
-    ensures line { (n : ℕ) → AreBelow n tokens.now → IfSome result (λ p. AreBelow n p.0.now) }
-    ensures others { (n : ℕ) → AreBelow n tokens.now → IfSome result (λ p. AreBelow n p.1.now) }
+    ensures line { (n : ℕ) → ArePlaced n tokens.now → IfSome result (λ p. ArePlaced n p.0.now) }
+    ensures others { (n : ℕ) → ArePlaced n tokens.now → IfSome result (λ p. ArePlaced n p.1.now) }
     ensures none { IfNone result (lines_of tokens.now ≡ []) }
 {
     let Some((_, others)) = tokens.split_first() else {
@@ -238,7 +237,7 @@ fn begins_directive(token: &Token) -> bool
 #[tactic(auto, using(crate::proofs::Directing::no_directive, crate::proofs::Directing::is_directive, crate::proofs::Directing::is_text_line))]
 pub fn directive_in<'a>(line: &'a [Token]) -> Option<Directed<'a>>
     ensures told { shown_in result ≡ directive_in line.now }
-    ensures numbers { (n : ℕ) → AreBelow n line.now → IfSome result (λ d. d.hash.now.file < n) }
+    ensures numbers { (n : ℕ) → ArePlaced n line.now → IfSome result (λ d. d.hash.now.file < n) }
 {
     let Some((hash, tokens)) = line.split_first() else {
         return None;

@@ -1,7 +1,9 @@
 // A source as the tokens that it stands for.
-ghost use Rattle.std.specs.Prelude.{◌≡◌, ◌≤◌, length, IfOk, IfSome};
+ghost use Rattle.std.specs.Prelude.{◌≡◌, ◌≤◌, length, true, IfOk, IfSome};
+ghost use Rattle.std.specs.List.{list_all};
+ghost use Rattle.std.specs.Str.{is_utf8};
 ghost use Rattle.c_prep.specs.Files.{Answers, expansion_of};
-ghost use Rattle.c_prep.specs.Numbers.{Numbered};
+ghost use Rattle.c_prep.specs.Numbers.{HaveLines, Numbered};
 ghost use Rattle.c_prep.specs.Causes.{Caused, HasFailed, IsOver, Lacks};
 
 use crate::error::PrepErr;
@@ -32,6 +34,9 @@ pub fn expand<F: Reads>(
     ensures told { IfSome (F.held files.old) (λ m. Answers result names.new.items (expansion_of m name.now)) }
     // Each file number in a token or a refusal has its name.
     ensures numbers { Numbered (length names.new.items) result }
+    // Names are texts, and lines count from 1.
+    ensures texts { list_all is_utf8 names.new.items ≡ true }
+    ensures lines { IfOk result (λ v. HaveLines v.items) }
     ensures limits { IfOk result (λ v. length v.items ≤ 200000) }
     // No count falls. `Failed` comes only where the faults rose, `NoSource` and code 21 only where the
     // misses rose, and `TooLong` only where the overs rose.

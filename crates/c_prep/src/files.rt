@@ -1,5 +1,7 @@
 // A file with the files that it includes.
-ghost use Rattle.std.specs.Prelude.{◌≡◌, ◌≢◌, ◌<◌, ◌≤◌, ◌++◌, ◌∷◌, [], ◌&&◌, false, nat_lt, length, Some, Ok, Err, List, ℕ, IfOk, IfErr, IfSome, OnOk, OnErr};
+ghost use Rattle.std.specs.Prelude.{◌≡◌, ◌≢◌, ◌<◌, ◌≤◌, ◌++◌, ◌∷◌, [], ◌&&◌, false, nat_lt, length, Some, Ok, Err, List, ℕ, IfOk, IfErr, IfSome, OnOk, OnErr, true};
+ghost use Rattle.std.specs.List.{list_all};
+ghost use Rattle.std.specs.Str.{is_utf8};
 ghost use Rattle.kit_base.specs.Held.{Held};
 ghost use Rattle.kit_base.specs.Outside.{due};
 ghost use Rattle.c_lex.specs.Found.{reading_of};
@@ -8,9 +10,9 @@ ghost use Rattle.c_prep.specs.Faults.{fault_at};
 ghost use Rattle.c_prep.specs.Conditions.{closed};
 ghost use Rattle.c_prep.specs.Steps.{step_at};
 ghost use Rattle.c_prep.specs.Files.{bytes_of, code_of, file_at, include_at, include_in, lexed, missing_at, refusal, refusing, stopping, tokens_of};
-ghost use Rattle.c_prep.specs.Inner.{GivesAs, GivesOut, IsOfText, NumberedPut, SaysMissing, included, refused};
+ghost use Rattle.c_prep.specs.Inner.{ArePlaced, GivesAs, GivesOut, IsOfText, PlacedIn, PlacedPut, SaysMissing, included, refused};
 ghost use Rattle.c_prep.specs.Causes.{HasCauses};
-ghost use Rattle.c_prep.specs.Numbers.{AreBelow, IsBelow, Numbered};
+ghost use Rattle.c_prep.specs.Numbers.{IsBelow};
 
 use crate::conditions::Conditions;
 use crate::directive::{Directive, directive_in, first_line};
@@ -71,6 +73,7 @@ fn name_file(alloc: Global, names: &mut Vec<Name>, name: &str) -> Result<u32, Me
     requires { length names.old.items < 10000 }
     ensures number { IfOk result (λ n. n ≡ length names.old.items) }
     ensures names { OnOk result (names.new.items ≡ names.old.items ++ name.now ∷ []) }
+    ensures texts { list_all is_utf8 names.old.items ≡ true → list_all is_utf8 names.new.items ≡ true }
 {
     let file = names.len() as u32;
     names.push(Name::new(alloc, name)?)?;
@@ -104,7 +107,7 @@ fn lex_file(alloc: Global, bytes: &[u8], file: u32) -> Result<Vec<Token>, PrepEr
     requires { length bytes.now ≤ 268435456 }
     ensures told { GivesAs (λ v. v.items) result (lexed file (reading_of file bytes.now)) }
     ensures text { IfErr result IsOfText }
-    ensures numbers { (n : ℕ) → file < n → Numbered n result }
+    ensures numbers { (n : ℕ) → file < n → PlacedIn n result }
 {
     match lex(alloc, bytes, file) {
         Ok(tokens) => Ok(tokens),
@@ -130,7 +133,7 @@ fn tokens_of<F: Reads>(
     requires { SaysMissing missing }
     ensures held { F.held files.new ≡ F.held files.old }
     ensures told { (m : Held) → F.held files.old ≡ Some m → GivesAs (λ v. v.items) result (tokens_of m missing name.now file) }
-    ensures numbers { (n : ℕ) → file < n → IsBelow n missing → Numbered n result }
+    ensures numbers { (n : ℕ) → file < n → IsBelow n missing → PlacedIn n result }
     ensures causes { HasCauses result (F.faults files.old) (F.faults files.new) (F.misses files.old) (F.misses files.new) (F.overs files.old) (F.overs files.new) }
 {
     let bytes = match read_file(alloc, files, missing, name, file) {
@@ -144,7 +147,7 @@ fn tokens_of<F: Reads>(
 #[tactic(auto, unfolding(crate::specs::Files::include_in))]
 fn include_in<'a>(line: &'a [Token], conds: &Conditions) -> Option<Included<'a>>
     ensures told { included result ≡ include_in line.now conds.now }
-    ensures numbers { (n : ℕ) → AreBelow n line.now → IfSome result (λ i. i.hash.now.file < n) }
+    ensures numbers { (n : ℕ) → ArePlaced n line.now → IfSome result (λ i. i.hash.now.file < n) }
 {
     if conds.skips() {
         return None;
@@ -195,7 +198,7 @@ fn step_line(
 ) -> Result<(), PrepErr>
     ensures told { (names : List (List ℕ)) → GivesOut (work.new, conds.new) names result (stopping names (refusing (step_at line.now work.old conds.old))) }
     ensures text { IfErr result IsOfText }
-    ensures numbers { (n : ℕ) → AreBelow n line.now → AreBelow n work.old.out.tokens → NumberedPut n work.new.out.tokens result }
+    ensures numbers { (n : ℕ) → ArePlaced n line.now → ArePlaced n work.old.out.tokens → PlacedPut n work.new.out.tokens result }
 {
     refusing(step_at(alloc, line, work, conds))
 }
@@ -221,12 +224,14 @@ pub fn expand_file<F: Reads>(
 ) -> Result<(), PrepErr>
     requires says { SaysMissing missing }
     requires few { length names.old.items < 10000 }
-    requires put { AreBelow (length names.old.items) work.old.out.tokens }
+    requires texts { list_all is_utf8 names.old.items ≡ true }
+    requires put { ArePlaced (length names.old.items) work.old.out.tokens }
     requires lacking { IsBelow (length names.old.items) missing }
     ensures held { F.held files.new ≡ F.held files.old }
     ensures told { (m : Held) → F.held files.old ≡ Some m → GivesOut (record { work = work.new; names = names.new.items }) names.new.items result (file_at m (include_at m room) missing name.now (record { work = work.old; names = names.old.items })) }
+    ensures texts { list_all is_utf8 names.new.items ≡ true }
     ensures more { OnOk result (length names.old.items ≤ length names.new.items) }
-    ensures numbers { NumberedPut (length names.new.items) work.new.out.tokens result }
+    ensures numbers { PlacedPut (length names.new.items) work.new.out.tokens result }
     ensures causes { HasCauses result (F.faults files.old) (F.faults files.new) (F.misses files.old) (F.misses files.new) (F.overs files.old) (F.overs files.new) }
 {
     let Ok(file) = name_file(alloc, names, name) else {

@@ -1,16 +1,18 @@
-use Rattle.std.proofs.Common.{◌≡◌, ◌<◌, ◌≤◌, ◌+◌, ◌-◌, ◌&&◌, ltb, List, ℕ, length, sym, ◌∙◌, ap, subst, false, arith, rules}
+use Rattle.std.proofs.Common.{◌≡◌, ◌<◌, ◌≤◌, ◌+◌, ◌-◌, ◌&&◌, ltb, List, ℕ, length, sym, ◌∙◌, ap, subst, false, true, arith, rules}
 use Rattle.std.specs.Prelude.{Some, None, Err, Result, Vec}
+use Rattle.std.specs.List.{list_all}
+use Rattle.std.specs.Str.{is_utf8}
 use Rattle.std.proofs.lemmas.Result.{err_from_is_err_and}
 use Rattle.std.specs.declared.alloc.Global.{Global}
 use Rattle.c_lex.specs.declared.token.Token.{Token}
 use Rattle.c_prep.specs.declared.error.PrepErr.{PrepErr}
 use Rattle.c_prep.specs.Lines.{lines_of}
 use Rattle.c_prep.specs.Files.{Progress, Stop, Inclusion, include_in, include_at, file_at, refusal}
-use Rattle.c_prep.specs.Inner.{GivesOut, included}
+use Rattle.c_prep.specs.Inner.{ArePlaced, GivesOut, included}
 use Rattle.c_prep.specs.declared.error.Fault.TheVariants.{TooDeep}
 use Rattle.c_prep.specs.Faults.{fault_at}
-use Rattle.c_prep.specs.Numbers.{AreBelow, IsBelow}
-use Rattle.c_prep.proofs.Numbering.{below_more, is_below_more, one_longer}
+use Rattle.c_prep.specs.Numbers.{IsBelow}
+use Rattle.c_prep.proofs.Numbering.{placed_more, is_below_more, one_longer}
 use Rattle.c_prep.proofs.Including.{not_read_at, begun_at, deeper, deep, include_next, include_refused, line_next, line_refused, at_end}
 use Rattle.c_prep.proofs.files.+expand_file.Goals as goal
 
@@ -25,15 +27,17 @@ each-init g t c =
     let new = c.name_file.new.names.items in
     let longer : length new ≡ length old + 1 = one_longer new old c.args.name.now c.in-Ok.ensures.names in
     let number = c.in-Ok.ensures.number in
-    let had : AreBelow (length old) c.args.work.now.out.tokens = search rules in
+    let had : ArePlaced (length old) c.args.work.now.out.tokens = search rules in
     let lacking : IsBelow (length old) c.args.missing = search rules in
+    let texts : list_all is_utf8 old ≡ true = search rules in
     let named : c.in-Ok.file < length new = omega arith in
     let le : length old ≤ length new = omega arith in
     record {
       file = named;
       more = le;
-      put = below_more (length old) (length new) c.args.work.now.out.tokens le had;
-      left = subst (AreBelow (length new)) (sym c.as_slice-rest.ensures.value) (c.in_ok-tokens.ensures.numbers (length new) named (is_below_more (length old) (length new) c.args.missing le lacking));
+      texts = c.name_file.ensures.texts texts;
+      put = placed_more (length old) (length new) c.args.work.now.out.tokens le had;
+      left = subst (ArePlaced (length new)) (sym c.as_slice-rest.ensures.value) (c.in_ok-tokens.ensures.numbers (length new) named (is_below_more (length old) (length new) c.args.missing le lacking));
       held = c.in_ok-tokens.ensures.held;
       faults = c.in_ok-tokens.ensures.causes.failed.later;
       misses = c.in_ok-tokens.ensures.causes.lacked.later;
@@ -81,8 +85,9 @@ each-preserved-in_ok-expand_file-in-Some-include_in g t c =
       held = c.in_ok-expand_file-in-Some-include_in.ensures.held ∙ c.each.invariant.held;
       file = let a = c.each.invariant.file in let b = c.in_ok-expand_file-in-Some-include_in.ensures.more in omega (arith, a, b);
       more = let a = c.each.invariant.more in let b = c.in_ok-expand_file-in-Some-include_in.ensures.more in omega (arith, a, b);
+      texts = c.in_ok-expand_file-in-Some-include_in.ensures.texts;
       put = c.in_ok-expand_file-in-Some-include_in.ensures.numbers;
-      left = below_more (length c.each.names.items) (length c.expand_file.new.names.items) c.in-Some.after.now c.in_ok-expand_file-in-Some-include_in.ensures.more (c.in-Some.ensures.others (length c.each.names.items) c.each.invariant.left);
+      left = placed_more (length c.each.names.items) (length c.expand_file.new.names.items) c.in-Some.after.now c.in_ok-expand_file-in-Some-include_in.ensures.more (c.in-Some.ensures.others (length c.each.names.items) c.each.invariant.left);
       faults = let a = c.each.invariant.faults in let b = causes.failed.later in omega (arith, a, b);
       misses = let a = c.each.invariant.misses in let b = causes.lacked.later in omega (arith, a, b);
       overs = let a = c.each.invariant.overs in let b = causes.over.later in omega (arith, a, b);
@@ -100,6 +105,7 @@ each-preserved g t c =
       held = c.each.invariant.held;
       file = c.each.invariant.file;
       more = c.each.invariant.more;
+      texts = c.each.invariant.texts;
       put = c.in_ok-step_line-in-None.ensures.numbers (length c.each.names.items) (c.in-Some.ensures.line (length c.each.names.items) c.each.invariant.left) c.each.invariant.put;
       left = c.in-Some.ensures.others (length c.each.names.items) c.each.invariant.left;
       faults = c.each.invariant.faults;

@@ -14,7 +14,7 @@ use Rattle.asset_pack.specs.Reading.{texture_in, words_in}
 use Rattle.asset_pack.proofs.Found.{texture_found, sound_found}
 use Rattle.project_text.specs.declared.project.Project.{Project}
 use Rattle.build_core.specs.declared.error.BuildErr.{BuildErr}
-use Rattle.build_core.specs.Due.{◌>>=◌, read_as, read_of, asset_due, asset_of, texture_of, sound_of, all_of, Assets, assets, assets_of}
+use Rattle.build_core.specs.Due.{◌>>=◌, read_as, read_of, asset_due, asset_of, texture_of, sound_of, all_of, assets, assets_of}
 use Rattle.build_core.specs.Build.{IsTextureFile, IsSoundFile}
 use Rattle.build_core.proofs.AssetReading.{both_gave, all_of-cons, all_of-nil}
 

@@ -99,7 +99,7 @@ module _ (text : List ℕ) (p : Project) (is : IsProject text p) where
             typed = h.of_unit.typed;
             image = i;
             image_is = subst (λ starts. IsImageOf (program s.program) h.parsed.places starts i) h.of_unit.starts
-              (subst (λ places. IsImageOf (program s.program) places s.starts.items i) h.of_unit.places made);
+                (subst (λ places. IsImageOf (program s.program) places s.starts.items i) h.of_unit.places made);
           }
 
           module _ (m : Held) (source : IsSourceOf m p.source s) (textures : all_of (texture_of m) p.textures ≡ Ok ts) (sounds : all_of (sound_of m) p.sounds ≡ Ok ss) where

@@ -1,6 +1,6 @@
 -- What is packed is within the limits of a cartridge, but for its size.
-use Rattle.std.proofs.Common.{ℕ, ◌≡◌, ◌≤◌, ◌<◌, ◌+◌, Bool, true, false, List, length, take, get_or, refl, sym, ◌∙◌, arith}
-use Rattle.std.specs.Prelude.{Some, nat_le, ◌&&◌}
+use Rattle.std.proofs.Common.{ℕ, ◌≡◌, ◌≤◌, ◌<◌, ◌+◌, true, false, List, length, take, get_or, refl, sym, ◌∙◌, arith}
+use Rattle.std.specs.Prelude.{Some, nat_le}
 use Rattle.std.specs.List.{AllByRecursion}
 use Rattle.std.proofs.lemmas.Bool.Decides.{nat_tests}
 use Rattle.asset_pack.specs.Texts.{Image, HasSides, HasSamples}

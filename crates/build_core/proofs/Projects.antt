@@ -1,5 +1,5 @@
 -- What a project's text says of its names.
-use Rattle.std.proofs.Common.{ℕ, ◌≤◌, List, [], ◌∷◌, length, subst}
+use Rattle.std.proofs.Common.{ℕ, List, [], ◌∷◌, subst}
 use Rattle.std.specs.Prelude.{IsUtf8}
 use Rattle.std.specs.List.{AllZip, AllByRecursion}
 use Rattle.project_text.specs.declared.project.Project.{Project}
@@ -45,9 +45,3 @@ textures_are_texts bytes p h = texts p.textures (subst (AllByRecursion (IsText 2
 
 pub sounds_are_texts : (bytes : List ℕ) (p : Project) → IsProject bytes p → AllByRecursion IsUtf8 p.sounds
 sounds_are_texts bytes p h = texts p.sounds (subst (AllByRecursion (IsText 255)) h.2.sounds_are (names_in _ h.0 h.1).sounds_are)
-
-pub few_textures : (bytes : List ℕ) (p : Project) → IsProject bytes p → length p.textures ≤ 256
-few_textures bytes p h = h.2.few_textures
-
-pub few_sounds : (bytes : List ℕ) (p : Project) → IsProject bytes p → length p.sounds ≤ 1024
-few_sounds bytes p h = h.2.few_sounds

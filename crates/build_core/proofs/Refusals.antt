@@ -2,7 +2,6 @@
 use Rattle.std.proofs.Common.{ℕ, zero, suc, ◌≡◌, ◌≤◌, inr, List, [], ◌∷◌, ◌++◌, length, refl, sym, subst, arith}
 use Rattle.std.specs.Prelude.{Some, None, Result, Ok, Err, IfErr, Contains}
 use Rattle.asset_pack.specs.Texts.{Image}
-use Rattle.cart_format.specs.Cartridge.{Cartridge}
 use Rattle.project_text.specs.declared.project.Project.{Project}
 use Rattle.project_text.specs.ProjectText.{IsProject}
 use Rattle.project_text.proofs.Whole.{only}
@@ -62,15 +61,6 @@ module _ (text : List ℕ) (p : Project) (is : IsProject text p) where
   sounds_come names named e h = assets_come p.sounds (behind p.textures p.sounds) e (subst (λ l. IsOfAssets l e) named h)
 
 -- ---- a cartridge that is too large
-
-pub packing_comes : (text : List ℕ) (c : Cartridge) (r : Result Built BuildErr) → IfErr r (IsOfPacking c) → IfErr r (CanCome text)
-packing_comes text c (Ok b) h = tt
-packing_comes text c (Err (errors.Source a f l)) h = absurd h
-packing_comes text c (Err (errors.Missing n)) h = absurd h
-packing_comes text c (Err (errors.Failed n)) h = absurd h
-packing_comes text c (Err (errors.Bad a n l)) h = absurd h
-packing_comes text c (Err (errors.Limit n)) h = tt
-packing_comes text c (Err errors.Memory) h = tt
 
 module _ (text : List ℕ) (p : Project) (is : IsProject text p) (program : ProgramT) (places : Places) (starts : List ℕ) (i : ImageT) (made : IsImageOf program places starts i) where
   module _ (ts : List Image) (ss : List (List ℕ)) (each : length ts ≡ length p.textures) (each' : length ss ≡ length p.sounds) where

@@ -1,5 +1,5 @@
 -- What is due as built has no refused input.
-use Rattle.std.proofs.Common.{ℕ, ◌≡◌, List, [], ◌∷◌, refl, sym, subst, ◌∙◌}
+use Rattle.std.proofs.Common.{ℕ, ◌≡◌, List, [], ◌∷◌, refl, subst, ◌∙◌}
 use Rattle.std.specs.Prelude.{Result, Ok, Err}
 use Rattle.std.specs.List.{AllZip}
 use Rattle.kit_base.specs.Held.{Held}
@@ -8,10 +8,9 @@ use Rattle.asset_pack.specs.declared.kind.Kind.TheVariants as kinds
 use Rattle.asset_pack.specs.declared.error.AssetErr.{AssetErr}
 use Rattle.asset_pack.specs.Texts.{Image}
 use Rattle.asset_pack.specs.Reading.{texture_in, words_in}
-use Rattle.project_text.specs.declared.project.Project.{Project}
 use Rattle.build_core.specs.declared.building.Built.{Built}
 use Rattle.build_core.specs.declared.error.BuildErr.{BuildErr}
-use Rattle.build_core.specs.Due.{◌>>=◌, all_of, asset_of, read_of, texture_of, sound_of, Assets, assets, assets_of}
+use Rattle.build_core.specs.Due.{all_of, asset_of, texture_of, sound_of, assets, assets_of}
 use Rattle.build_core.specs.Checked.{IsAccepted}
 use Rattle.build_core.specs.Build.{IsTextureFile, IsSoundFile, HasImage, IsBuilt, HasNoParts, rejected, no_assets}
 use Rattle.build_core.proofs.AssetReading.{all_of-cons, all_of-nil, joined_ok}

@@ -1,8 +1,8 @@
 use Rattle.std.proofs.Common.{◌∙◌, length, ap, subst, arith}
 use Rattle.c_check.specs.View.{program}
 use Rattle.c_image.specs.Imaging.{IsImageOf, image}
-use Rattle.build_core.proofs.Projects.{title_is_text, source_is_text, textures_are_texts, sounds_are_texts, few_textures, few_sounds}
-use Rattle.build_core.proofs.Refusals.{source_comes, textures_come, sounds_come, packing_comes, packing_causes}
+use Rattle.build_core.proofs.Projects.{title_is_text, source_is_text, textures_are_texts, sounds_are_texts}
+use Rattle.build_core.proofs.Refusals.{source_comes, textures_come, sounds_come, packing_causes}
 use Rattle.build_core.proofs.Builds.{project_told, source_told, textures_told, sounds_told, packed_told}
 use Rattle.build_core.proofs.building.build.Goals as goal
 

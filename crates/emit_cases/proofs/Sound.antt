@@ -88,7 +88,7 @@ sample_is_placed = record {
 }
 
 pub sample_can_be_emitted : CanBeEmitted sample sample_names
-sample_can_be_emitted = record { named = refl; differ = ((λ e. cc, tt), (tt, tt)); room = omega arith }
+sample_can_be_emitted = record { named = refl; differ = ((λ e. cc, tt), (tt, tt)); words = refl; room = omega arith }
 
 pub can_be : (x : PlacedT) (names : List (List ℕ)) → x ≡ sample → names ≡ sample_names → CanBeEmitted x names
 can_be x names e f = subst (λ y. CanBeEmitted y names) (sym e) (subst (CanBeEmitted sample) (sym f) sample_can_be_emitted)

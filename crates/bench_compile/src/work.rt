@@ -46,11 +46,17 @@ fn chain(alloc: Global, count: u32) -> Result<Vec<u8>, Memory> {
     let mut text = Vec::from_slice(alloc, b"int f0(int x) { return x; }\n")?;
     let mut before = 0;
     for k in 1..count {
-        let line = format!(in alloc; "int f{}(int x) {{ return f{}(x) ^ (x + {}); }}\n", k, before, k)?;
+        let line = format!(in alloc;
+            "int f{}(int x) {{ return f{}(x) ^ (x + {}); }}\n",
+            k, before, k
+        )?;
         text.extend_from_slice(line.as_bytes())?;
         before = k;
     }
-    let last = format!(in alloc; "void main() {{ port_out(GPU_ClearColor, f{}(1)); }}\n", before)?;
+    let last = format!(in alloc;
+        "void main() {{ port_out(GPU_ClearColor, f{}(1)); }}\n",
+        before
+    )?;
     text.extend_from_slice(last.as_bytes())?;
     Ok(text)
 }

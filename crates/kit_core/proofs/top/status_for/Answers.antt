@@ -1,7 +1,11 @@
 use Rattle.std.proofs.lemmas.Option.{IfSome_then}
-use Rattle.kit_core.proofs.Outcomes.{outcome_refused}
+use Rattle.kit_core.proofs.Outcomes.{outcome_done, outcome_refused}
 use Rattle.kit_core.proofs.Own.{limit_reason}
 use Rattle.kit_core.proofs.top.status_for.Goals as goal
+
+pub returns-in-Ok-clause-told : goal.returns-in-Ok-clause-told
+returns-in-Ok-clause-told g c =
+    IfSome_then _ c.in-Ok.ensures.told (λ m leaves. outcome_done _ _ m _ _ _ _ c.in-Ok.shown leaves c.finish.ensures.shows)
 
 pub returns-in-Err-clause-told : goal.returns-in-Err-clause-told
 returns-in-Err-clause-told g c =

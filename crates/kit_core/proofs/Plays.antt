@@ -1,6 +1,6 @@
 -- From the parts of a play to the whole, and what its statuses 0 and 3 say.
-use Rattle.std.proofs.Common.{ℕ, ◌≡◌, ◌⊎◌, List, true, ◌++◌, refl, sym, ap, subst, ◌∙◌}
-use Rattle.std.specs.Prelude.{Option, Some, None, Result, Ok, Err, IfSome, IfErr}
+use Rattle.std.proofs.Common.{ℕ, ◌≡◌, ◌⊎◌, List, true, refl, sym, ap, subst, ◌∙◌}
+use Rattle.std.specs.Prelude.{Option, Some, None, Result, Ok, Err, IfSome}
 use Rattle.kit_base.specs.Held.{Held}
 use Rattle.kit_base.specs.Effects.{all_done, written_file}
 use Rattle.kit_base.specs.Outside.{due}

@@ -33,11 +33,7 @@ fn built_cart(alloc: Global, built: &Built) -> Result<Cart, OutOfMemory>
 }
 
 /// What is run: the cartridge that was built, with these settings.
-fn built_game(
-    alloc: Global,
-    built: &Built,
-    settings: LoadedSettings,
-) -> Result<Loaded, OutOfMemory>
+fn built_game(alloc: Global, built: &Built, settings: LoadedSettings) -> Result<Loaded, OutOfMemory>
     requires room { ForSome settings.card (λ v. length v.items ≡ 0x40000) }
     requires few { settings.count ≤ 3600 }
     ensures game { IfOk result (IsGameOf built.now settings) }

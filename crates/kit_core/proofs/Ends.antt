@@ -12,8 +12,9 @@ use Rattle.build_core.specs.Build.{HasNoParts, IsBuilt}
 use Rattle.kit_core.specs.declared.refusal.Refusal.{Refusal}
 use Rattle.kit_core.specs.declared.refusal.Refusal.TheVariants as refusals
 use Rattle.kit_core.specs.Causes.{IsUnrisen}
-use Rattle.kit_core.specs.Command.{Command, Build, Convert, Trace, Run, Check, command_of}
-use Rattle.kit_core.specs.Due.{Work, convert_due, trace_due, run_due, read_build_due, read_build_refused, read_check_due, form_due, form_refused, command_due, command_refused}
+use Rattle.kit_core.specs.Running.{settings_due}
+use Rattle.kit_core.specs.Command.{RunWords, Command, Build, Convert, Trace, Run, Play, Check, command_of}
+use Rattle.kit_core.specs.Due.{Work, convert_due, trace_due, run_due, read_build_due, read_build_refused, read_check_due, read_play_due, form_due, form_refused, command_due, command_refused}
 use Rattle.kit_core.specs.Outcome.{ComesBy, IsShown, EndsAs, Done, Refused, FileFault, OutOfMemory, SinkFault, IsOutcome, status_due}
 
 -- where no work with effects is due, nothing changed
@@ -48,7 +49,7 @@ module _ (Due : Result Work Refusal → Type 0) (Reads : List ℕ → Type 0) (m
   ends_still status before put (OutOfMemory s h) = shown_still h.whole h.shown
   ends_still status before put (SinkFault s h) = shown_still h.whole h.shown
 
-differ : (r : Result Work Refusal) (e : Refusal) (w : Work) → r ≡ Err e → r ≡ Ok w → ⊥
+differ : {A : Type 0} (r : Result A Refusal) (e : Refusal) (w : A) → r ≡ Err e → r ≡ Ok w → ⊥
 differ (Ok v) e w h k = absurd cc
 differ (Err d) e w h k = absurd cc
 
@@ -66,12 +67,20 @@ no_build : Law → (project cart map_name : List ℕ) (m : Held) (r : Result (Li
 no_build law project cart map_name m (Ok text) e w h k = law m text k.0 h.0 k.1 h.1
 no_build law project cart map_name m (Err f) e w h k = absurd cc
 
+-- nor of a play whose input is refused
+no_play : Law → (project map_name : List ℕ) (words : RunWords) (m : Held) (r : Result (List ℕ) FileErr) (e : Refusal) (w : Work)
+    → read_build_refused project m r e ⊎ (settings_due words m ≡ Err e) → read_play_due project map_name words m r (Ok w) → ⊥
+no_play law project map_name words m (Ok text) e w (inl h) k = law m text k.built h.0 k.is_built h.1
+no_play law project map_name words m (Ok text) e w (inr h) k = differ (settings_due words m) e k.settings h k.settings_are
+no_play law project map_name words m (Err f) e w h k = absurd cc
+
 form_still : Law → (c : Option Command) (m : Held) (e : Refusal) → form_refused c m e → (w : Work) → form_due c m (Ok w) → w.effects ≡ []
 form_still law None m e h w k = absurd cc
 form_still law (Some (Build project cart map_name)) m e h w k = absurd (no_build law project cart map_name m (due m project) e w h k)
 form_still law (Some (Convert conversion source target)) m e h w k = absurd (differ (convert_due conversion source target m) e w h k)
 form_still law (Some (Trace cart answers card steps)) m e h w k = absurd (differ (trace_due cart answers card steps m) e w h k)
 form_still law (Some (Run words)) m e h w k = absurd (differ (run_due words m) e w h k)
+form_still law (Some (Play project map_name words)) m e h w k = absurd (no_play law project map_name words m (due m project) e w h k)
 form_still law (Some (Check project)) m e h w k = check_still project m (due m project) w k
 
 pub untouched_told : Law → (words : List (List ℕ)) (status : ℕ) (told after : Option Held) (before put : Option (List ℕ))

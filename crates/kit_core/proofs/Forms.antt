@@ -12,7 +12,7 @@ use Rattle.clap.specs.declared.error.kind.ErrorKind.TheVariants as kind
 use Rattle.kit_core.specs.declared.conversion.Conversion.{Conversion}
 use Rattle.kit_core.specs.declared.conversion.Conversion.TheVariants.{Migrate, Assemble, Disassemble}
 use Rattle.kit_core.specs.Command.{convert_form, is_word, command_of, form_of, form_with, converting_form_of}
-use Rattle.kit_core.specs.CommandLine.{build_ids, check_ids, convert_ids, trace_ids, run_ids, command_in, convert_in, command_line, converting_in, form, form_in}
+use Rattle.kit_core.specs.CommandLine.{build_ids, check_ids, convert_ids, play_ids, trace_ids, run_ids, command_in, convert_in, command_line, converting_in, form, form_in}
 use Rattle.kit_core.proofs.Plain.{form_faults, form_faults_are, form_rows_are, is_flat, plain_faults, plain_walk}
 use Rattle.kit_core.proofs.FirstWord.{app, names, named_fault, named_rows}
 
@@ -86,6 +86,22 @@ run_answer (a ∷ b ∷ c ∷ d ∷ []) e = refused run (a ∷ b ∷ c ∷ d ∷
 run_answer (a ∷ b ∷ c ∷ d ∷ f ∷ []) e = refused run (a ∷ b ∷ c ∷ d ∷ f ∷ []) e kind.MissingRequiredArgument refl refl
 run_answer (a ∷ b ∷ c ∷ d ∷ f ∷ g ∷ []) e = taken run (a ∷ b ∷ c ∷ d ∷ f ∷ g ∷ []) e refl refl
 run_answer (a ∷ b ∷ c ∷ d ∷ f ∷ g ∷ h ∷ rest) e = refused run (a ∷ b ∷ c ∷ d ∷ f ∷ g ∷ h ∷ rest) e kind.UnknownArgument refl refl
+
+play : IsForm (codes "play") play_ids
+play = record { named = refl; found = refl; flat = refl }
+
+pub play_answer : (words : List Text) → list_all is_word words ≡ true → Answer (codes "play" ∷ words)
+unfolding clap_on_literals plain_walk plain_faults form_of form_in
+play_answer [] e = refused play [] e kind.MissingRequiredArgument refl refl
+play_answer (a ∷ []) e = refused play (a ∷ []) e kind.MissingRequiredArgument refl refl
+play_answer (a ∷ b ∷ []) e = refused play (a ∷ b ∷ []) e kind.MissingRequiredArgument refl refl
+play_answer (a ∷ b ∷ c ∷ []) e = refused play (a ∷ b ∷ c ∷ []) e kind.MissingRequiredArgument refl refl
+play_answer (a ∷ b ∷ c ∷ d ∷ []) e = refused play (a ∷ b ∷ c ∷ d ∷ []) e kind.MissingRequiredArgument refl refl
+play_answer (a ∷ b ∷ c ∷ d ∷ f ∷ []) e = refused play (a ∷ b ∷ c ∷ d ∷ f ∷ []) e kind.MissingRequiredArgument refl refl
+play_answer (a ∷ b ∷ c ∷ d ∷ f ∷ g ∷ []) e = refused play (a ∷ b ∷ c ∷ d ∷ f ∷ g ∷ []) e kind.MissingRequiredArgument refl refl
+play_answer (a ∷ b ∷ c ∷ d ∷ f ∷ g ∷ h ∷ []) e = refused play (a ∷ b ∷ c ∷ d ∷ f ∷ g ∷ h ∷ []) e kind.MissingRequiredArgument refl refl
+play_answer (a ∷ b ∷ c ∷ d ∷ f ∷ g ∷ h ∷ i ∷ []) e = taken play (a ∷ b ∷ c ∷ d ∷ f ∷ g ∷ h ∷ i ∷ []) e refl refl
+play_answer (a ∷ b ∷ c ∷ d ∷ f ∷ g ∷ h ∷ i ∷ j ∷ rest) e = refused play (a ∷ b ∷ c ∷ d ∷ f ∷ g ∷ h ∷ i ∷ j ∷ rest) e kind.UnknownArgument refl refl
 
 check : IsForm (codes "check") check_ids
 check = record { named = refl; found = refl; flat = refl }

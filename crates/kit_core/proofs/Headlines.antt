@@ -15,7 +15,7 @@ use Rattle.kit_core.specs.declared.refusal.Refusal.TheVariants as refusals
 use Rattle.kit_core.specs.Refusal.{status_of}
 use Rattle.kit_core.specs.declared.conversion.Conversion.{Conversion}
 use Rattle.kit_core.specs.declared.conversion.Conversion.TheVariants.{Migrate, Assemble, Disassemble}
-use Rattle.kit_core.specs.Command.{RunWords, Build, Trace, Run, are_distinct, checked_run, run_form, is_word, is_number, card_of, build_form, check_form, convert_form, trace_form, converting_form_of, form_of, form_with, command_of}
+use Rattle.kit_core.specs.Command.{RunWords, Build, Trace, Run, Play, are_apart, are_distinct, checked_play, checked_run, play_form, run_form, is_word, is_number, card_of, build_form, check_form, convert_form, trace_form, converting_form_of, form_of, form_with, command_of}
 use Rattle.kit_core.specs.Inputs.{◌>>=◌}
 use Rattle.kit_core.specs.Due.{Work, outputs_of, build_due, read_build_due, form_due}
 use Rattle.kit_core.specs.Outcome.{putting, EndsAs, Done, Refused, FileFault, OutOfMemory, SinkFault, IsOutcome}
@@ -81,26 +81,45 @@ by_run (cart ∷ pads ∷ frames ∷ samples ∷ count ∷ card ∷ []) p c n h 
     by_checked (record { cart = cart; pads = pads; frames = frames; samples = samples; count = count; card = card_of card }) p c n h
 by_run (a ∷ b ∷ d ∷ e ∷ f ∷ g ∷ i ∷ rest) p c n h = absurd cc
 
+-- nor is a play
+by_checked_play : (project map_name : List ℕ) (words : RunWords) (p c n : List ℕ) → checked_play project map_name words ≡ Some (Build p c n) → ⊥
+by_checked_play project map_name words p c n h =
+    let named : Some (Play project map_name words) ≡ Some (Build p c n) = chosen (is_number words.count && (are_distinct words && are_apart map_name words)) _ _ h in absurd cc
+
+by_play : (arguments : List (List ℕ)) (p c n : List ℕ) → play_form arguments ≡ Some (Build p c n) → ⊥
+by_play [] p c n h = absurd cc
+by_play (a ∷ []) p c n h = absurd cc
+by_play (a ∷ b ∷ []) p c n h = absurd cc
+by_play (a ∷ b ∷ d ∷ []) p c n h = absurd cc
+by_play (a ∷ b ∷ d ∷ e ∷ []) p c n h = absurd cc
+by_play (a ∷ b ∷ d ∷ e ∷ f ∷ []) p c n h = absurd cc
+by_play (a ∷ b ∷ d ∷ e ∷ f ∷ g ∷ []) p c n h = absurd cc
+by_play (a ∷ b ∷ d ∷ e ∷ f ∷ g ∷ i ∷ []) p c n h = absurd cc
+by_play (project ∷ cart ∷ map_name ∷ pads ∷ frames ∷ samples ∷ count ∷ card ∷ []) p c n h =
+    by_checked_play project map_name (record { cart = cart; pads = pads; frames = frames; samples = samples; count = count; card = card_of card }) p c n h
+by_play (a ∷ b ∷ d ∷ e ∷ f ∷ g ∷ i ∷ j ∷ k ∷ rest) p c n h = absurd cc
+
 -- nor is a check
 by_check : (arguments : List (List ℕ)) (p c n : List ℕ) → check_form arguments ≡ Some (Build p c n) → ⊥
 by_check [] p c n h = absurd cc
 by_check (project ∷ []) p c n h = absurd cc
 by_check (a ∷ b ∷ rest) p c n h = absurd cc
 
-by_form : (is_build is_trace is_run is_check : Bool) (name : List ℕ) (arguments : List (List ℕ)) (p c n : List ℕ)
-    → (if is_build then build_form arguments else (if is_trace then trace_form arguments else (if is_run then run_form arguments else (if is_check then check_form arguments else converting_form_of name arguments)))) ≡ Some (Build p c n)
+by_form : (is_build is_trace is_run is_play is_check : Bool) (name : List ℕ) (arguments : List (List ℕ)) (p c n : List ℕ)
+    → (if is_build then build_form arguments else (if is_trace then trace_form arguments else (if is_run then run_form arguments else (if is_play then play_form arguments else (if is_check then check_form arguments else converting_form_of name arguments))))) ≡ Some (Build p c n)
     → bytes_eq c n ≡ false
-by_form true is_trace is_run is_check name arguments p c n h = by_arguments arguments p c n h
-by_form false true is_run is_check name arguments p c n h = absurd (by_trace arguments p c n h)
-by_form false false true is_check name arguments p c n h = absurd (by_run arguments p c n h)
-by_form false false false true name arguments p c n h = absurd (by_check arguments p c n h)
-by_form false false false false name arguments p c n h = absurd (by_converting name arguments p c n h)
+by_form true is_trace is_run is_play is_check name arguments p c n h = by_arguments arguments p c n h
+by_form false true is_run is_play is_check name arguments p c n h = absurd (by_trace arguments p c n h)
+by_form false false true is_play is_check name arguments p c n h = absurd (by_run arguments p c n h)
+by_form false false false true is_check name arguments p c n h = absurd (by_play arguments p c n h)
+by_form false false false false true name arguments p c n h = absurd (by_check arguments p c n h)
+by_form false false false false false name arguments p c n h = absurd (by_converting name arguments p c n h)
 
 created_differ : (words : List (List ℕ)) (p c n : List ℕ) → command_of words ≡ Some (Build p c n) → bytes_eq c n ≡ false
 unfolding form_of form_with
 created_differ [] p c n h = cc
 created_differ (name ∷ arguments) p c n h =
-    by_form (bytes_eq name (codes "build")) (bytes_eq name (codes "trace")) (bytes_eq name (codes "run")) (bytes_eq name (codes "check")) name arguments p c n (chosen (list_all is_word arguments) _ _ h)
+    by_form (bytes_eq name (codes "build")) (bytes_eq name (codes "trace")) (bytes_eq name (codes "run")) (bytes_eq name (codes "play")) (bytes_eq name (codes "check")) name arguments p c n (chosen (list_all is_word arguments) _ _ h)
 
 -- the parts of a work that is due
 pub bind_ok : {A B : Type 0} (r : Result A Refusal) (f : A → Result B Refusal) (y : B) → (r >>= f) ≡ Ok y → (x : A) × (r ≡ Ok x) × (f x ≡ Ok y)

@@ -14,6 +14,8 @@ pub mod Games
 pub mod Projects
 pub mod Checks
 pub mod Builds
+pub mod PlayedFiles
+pub mod Plays
 pub mod Ends
 pub mod Given
 pub mod Telling

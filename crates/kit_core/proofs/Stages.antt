@@ -25,7 +25,7 @@ cut refusals.LongCartridge work Due Reads m after d h = absurd h
 contains_later : (x n : List ℕ) (xs : List (List ℕ)) → Contains xs n → Contains (x ∷ xs) n
 contains_later x n xs (k, within, is) = (suc k, omega arith, is)
 
-fails_later : (x : List ℕ) (xs : List (List ℕ)) (e : Refusal) → FailsAt xs e → FailsAt (x ∷ xs) e
+pub fails_later : (x : List ℕ) (xs : List (List ℕ)) (e : Refusal) → FailsAt xs e → FailsAt (x ∷ xs) e
 fails_later x xs (refusals.Failed n) h = contains_later x n xs h
 fails_later x xs refusals.Memory h = tt
 fails_later x xs refusals.Usage h = tt
@@ -36,7 +36,7 @@ fails_later x xs (refusals.Limit n) h = tt
 fails_later x xs (refusals.OutOfRange n) h = tt
 fails_later x xs refusals.LongCartridge h = tt
 
-fails_first : (x : List ℕ) (xs : List (List ℕ)) (e : Refusal) → FailsAt (x ∷ []) e → FailsAt (x ∷ xs) e
+pub fails_first : (x : List ℕ) (xs : List (List ℕ)) (e : Refusal) → FailsAt (x ∷ []) e → FailsAt (x ∷ xs) e
 fails_first x xs (refusals.Failed n) (zero, within, is) = (0, omega arith, is)
 fails_first x xs (refusals.Failed n) (suc k, within, is) = absurd (omega (arith, within))
 fails_first x xs refusals.Memory h = tt

@@ -12,7 +12,7 @@ get_same : (m : Held) (name bytes : List ℕ) → get (insert m name bytes) name
 get_same m name bytes =
     get-insert nat_list_cmp_total m name bytes name ∙ ap (λ b. cond b (Some bytes) (get m name)) ((eq_by_cmp_equiv nat_list_cmp_total).refl name)
 
-get_other : (m : Held) (name bytes other : List ℕ) → bytes_eq other name ≡ false → get (insert m name bytes) other ≡ get m other
+pub get_other : (m : Held) (name bytes other : List ℕ) → bytes_eq other name ≡ false → get (insert m name bytes) other ≡ get m other
 get_other m name bytes other different =
     get-insert nat_list_cmp_total m name bytes other ∙ ap (λ b. cond b (Some bytes) (get m other)) (is_eq-slice_cmp other name ∙ different)
 

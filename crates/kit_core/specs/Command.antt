@@ -25,6 +25,8 @@ pub data Command : Type 0 where
   Trace : (cart answers : List ℕ) → (card : Option (List ℕ)) → (steps : List ℕ) → Command
   -- `run cart pads frames samples count card`
   Run : RunWords → Command
+  -- `play project cart map pads frames samples count card`: a project is built and its cartridge run; the cartridge is that of the run's words
+  Play : (project map_name : List ℕ) → RunWords → Command
   -- `check project`
   Check : (project : List ℕ) → Command
 
@@ -75,6 +77,22 @@ run_form (cart ∷ pads ∷ frames ∷ samples ∷ count ∷ card ∷ []) =
     checked_run (record { cart = cart; pads = pads; frames = frames; samples = samples; count = count; card = card_of card })
 run_form arguments = None
 
+-- the file is none that a run creates
+abbrev pub is_apart : List ℕ → RunWords → Bool
+is_apart name words = not (bytes_eq name words.frames) && (not (bytes_eq name words.samples) && differ_from name words.card)
+
+abbrev pub are_apart : List ℕ → RunWords → Bool
+are_apart map_name words = not (bytes_eq words.cart map_name) && (is_apart words.cart words && is_apart map_name words)
+
+abbrev pub checked_play : (project map_name : List ℕ) → RunWords → Option Command
+checked_play project map_name words =
+    if is_number words.count && (are_distinct words && are_apart map_name words) then Some (Play project map_name words) else None
+
+abbrev pub play_form : List (List ℕ) → Option Command
+play_form (project ∷ cart ∷ map_name ∷ pads ∷ frames ∷ samples ∷ count ∷ card ∷ []) =
+    checked_play project map_name (record { cart = cart; pads = pads; frames = frames; samples = samples; count = count; card = card_of card })
+play_form arguments = None
+
 abbrev pub check_form : List (List ℕ) → Option Command
 check_form (project ∷ []) = Some (Check project)
 check_form arguments = None
@@ -91,8 +109,9 @@ form_of name arguments =
     if bytes_eq name (codes "build") then build_form arguments
     else (if bytes_eq name (codes "trace") then trace_form arguments
     else (if bytes_eq name (codes "run") then run_form arguments
+    else (if bytes_eq name (codes "play") then play_form arguments
     else (if bytes_eq name (codes "check") then check_form arguments
-    else converting_form_of name arguments)))
+    else converting_form_of name arguments))))
 
 unfoldable pub form_with : (name : List ℕ) → (arguments : List (List ℕ)) → Option Command
 form_with name arguments = if list_all is_word arguments then form_of name arguments else None

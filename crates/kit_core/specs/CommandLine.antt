@@ -6,7 +6,7 @@ use Rattle.clap.specs.Walk.{Row, Rule, Text, first_of}
 use Rattle.clap.specs.Simple.{App, Shape, new_rule, new_shape, with_subcommand}
 use Rattle.kit_core.specs.declared.conversion.Conversion.{Conversion}
 use Rattle.kit_core.specs.declared.conversion.Conversion.TheVariants.{Migrate, Assemble, Disassemble}
-use Rattle.kit_core.specs.Command.{Command, build_form, check_form, convert_form, run_form, trace_form}
+use Rattle.kit_core.specs.Command.{Command, build_form, check_form, convert_form, play_form, run_form, trace_form}
 
 -- a required argument that takes one plain text
 abbrev pub required : Text → Rule
@@ -34,6 +34,10 @@ trace_ids = codes "cart" ∷ codes "answers" ∷ codes "card" ∷ codes "steps" 
 abbrev pub run_ids : List Text
 run_ids = codes "cart" ∷ codes "pads" ∷ codes "frames" ∷ codes "samples" ∷ codes "count" ∷ codes "card" ∷ []
 
+abbrev pub play_ids : List Text
+play_ids =
+    codes "project" ∷ codes "cart" ∷ codes "map" ∷ codes "pads" ∷ codes "frames" ∷ codes "samples" ∷ codes "count" ∷ codes "card" ∷ []
+
 abbrev pub check_ids : List Text
 check_ids = codes "project" ∷ []
 
@@ -56,7 +60,7 @@ with_converting app =
     with_form (codes "dis") convert_ids (with_form (codes "asm") convert_ids (with_form (codes "migrate") convert_ids app))
 
 abbrev pub command_line : App
-command_line = with_converting (with_form (codes "check") check_ids (with_form (codes "run") run_ids (with_form (codes "trace") trace_ids (with_form (codes "build") build_ids no_forms))))
+command_line = with_converting (with_form (codes "check") check_ids (with_form (codes "play") play_ids (with_form (codes "run") run_ids (with_form (codes "trace") trace_ids (with_form (codes "build") build_ids no_forms)))))
 
 -- the words that were given for these arguments
 abbrev pub given : List Text → List Row → Option (List Text)
@@ -75,6 +79,9 @@ trace_in rows = option_and_then trace_form (given trace_ids rows)
 abbrev pub run_in : List Row → Option Command
 run_in rows = option_and_then run_form (given run_ids rows)
 
+abbrev pub play_in : List Row → Option Command
+play_in rows = option_and_then play_form (given play_ids rows)
+
 abbrev pub check_in : List Row → Option Command
 check_in rows = option_and_then check_form (given check_ids rows)
 
@@ -89,8 +96,9 @@ form_in name rows =
     if bytes_eq name (codes "build") then build_in rows
     else (if bytes_eq name (codes "trace") then trace_in rows
     else (if bytes_eq name (codes "run") then run_in rows
+    else (if bytes_eq name (codes "play") then play_in rows
     else (if bytes_eq name (codes "check") then check_in rows
-    else converting_in name rows)))
+    else converting_in name rows))))
 
 -- the command of the subcommand that was met, with its matches
 abbrev pub command_in : Option (Text × List Row) → Option Command

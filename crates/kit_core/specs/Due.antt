@@ -1,9 +1,11 @@
 -- What a command is due, for its words and for the files that are held: the one order of refusals.
-use Rattle.std.specs.Prelude.{ℕ, ◌≡◌, List, [], ◌∷◌, ◌++◌, Option, Some, None, Result, Ok, Err, Contains, codes}
+use Rattle.std.specs.Prelude.{ℕ, ◌≡◌, List, [], ◌∷◌, ◌++◌, ◌⊎◌, Option, Some, None, Result, Ok, Err, Contains, codes}
 use Rattle.kit_base.specs.Held.{Held}
 use Rattle.kit_base.specs.Effects.{Effect, written_file}
 use Rattle.kit_base.specs.Outside.{due}
 use Rattle.kit_base.specs.declared.outside.FileErr.{FileErr}
+use Rattle.cart_format.specs.Cartridge.{Cartridge}
+use Rattle.cart_format.specs.Reading.{cart_of}
 use Rattle.build_core.specs.declared.error.BuildErr.{BuildErr}
 use Rattle.build_core.specs.declared.error.BuildErr.TheVariants as build_errors
 use Rattle.build_core.specs.declared.building.Built.{Built}
@@ -14,11 +16,11 @@ use Rattle.project_text.specs.MapText.{map_text}
 use Rattle.kit_core.specs.declared.refusal.Refusal.{Refusal}
 use Rattle.kit_core.specs.declared.refusal.Refusal.TheVariants as refusals
 use Rattle.kit_core.specs.declared.conversion.Conversion.{Conversion}
-use Rattle.kit_core.specs.Command.{Command, RunWords, Build, Convert, Trace, Run, Check, command_of}
+use Rattle.kit_core.specs.Command.{Command, RunWords, Build, Convert, Trace, Run, Play, Check, command_of}
 use Rattle.kit_core.specs.Inputs.{◌>>=◌, unread}
 use Rattle.kit_core.specs.Converting.{made_due}
 use Rattle.kit_core.specs.Tracing.{traced_due, trace_reads}
-use Rattle.kit_core.specs.Running.{end_status, game_due, game_end, names_in, run_reads}
+use Rattle.kit_core.specs.Running.{Game, Settings, end_status, game_due, game_end, game_with, names_in, run_reads, settings_due}
 use Rattle.run_core.specs.Ending.{end_text}
 use Rattle.run_core.specs.Outputs.{run_outputs}
 
@@ -88,6 +90,45 @@ run_due words held = do
     status = end_status (game_end game);
   })
 
+-- the outputs of what was built, then those of its run
+abbrev pub play_effects : (map_name : List ℕ) → RunWords → Built → Game → List Effect
+play_effects map_name words built game = outputs_of words.cart map_name built ++ run_outputs (names_in words) game.setup game.count
+
+abbrev pub play_work : (map_name : List ℕ) → RunWords → Built → Game → Work
+play_work map_name words built game =
+    record { effects = play_effects map_name words built game; text = end_text game.lines (game_end game); status = end_status (game_end game) }
+
+-- what was built of the project's text, the cartridge that its bytes are, and what is run beside it
+pub record IsPlay (text map_name : List ℕ) (words : RunWords) (held : Held) (work : Work) : Type 0 where
+  pub built : Built
+  pub is_built : IsBuilt held text built
+  pub cart : Cartridge
+  pub cart_is : cart_of built.cart ≡ Ok cart
+  pub settings : Settings
+  pub settings_are : settings_due words held ≡ Ok settings
+  pub work_is : play_work map_name words built (game_with cart settings) ≡ work
+
+-- Nothing is built of the project; or the pads file, the card or the number of frames is refused after a build.
+pub data IsUnplayed (project text : List ℕ) (words : RunWords) (held : Held) (refusal : Refusal) : Type 0 where
+  not_built : (e : BuildErr) → IsUnbuilt held text e → unbuilt project e ≡ refusal → IsUnplayed project text words held refusal
+  not_set : (b : Built) → IsBuilt held text b → settings_due words held ≡ Err refusal → IsUnplayed project text words held refusal
+
+abbrev pub text_play_due : (project text map_name : List ℕ) → RunWords → Held → Result Work Refusal → Type 0
+text_play_due project text map_name words held (Ok work) = IsPlay text map_name words held work
+text_play_due project text map_name words held (Err refusal) = IsUnplayed project text words held refusal
+
+abbrev pub read_play_due : (project map_name : List ℕ) → RunWords → Held → Result (List ℕ) FileErr → Result Work Refusal → Type 0
+read_play_due project map_name words held (Ok text) d = text_play_due project text map_name words held d
+read_play_due project map_name words held (Err e) d = Err (unread project e) ≡ d
+
+-- The project is built, then what is run beside its cartridge is read.
+abbrev pub play_due : (project map_name : List ℕ) → RunWords → Held → Result Work Refusal → Type 0
+play_due project map_name words held d = read_play_due project map_name words held (due held project) d
+
+-- the input of a play is refused: that of its build, the pads file, the card or the number of frames
+abbrev pub play_refused : (project : List ℕ) → RunWords → Held → Refusal → Type 0
+play_refused project words held refusal = read_build_refused project held (due held project) refusal ⊎ (settings_due words held ≡ Err refusal)
+
 -- nothing is created, and `ok` is put
 abbrev pub accepted : Work
 accepted = record { effects = []; text = codes "ok" ++ 10 ∷ []; status = 0 }
@@ -105,12 +146,13 @@ read_check_due project held (Err e) d = Err (unread project e) ≡ d
 abbrev pub check_due : (project : List ℕ) → Held → Result Work Refusal → Type 0
 check_due project held d = read_check_due project held (due held project) d
 
--- what a command is due: one work or refusal, but for a build and a check
+-- what a command is due: one work or refusal, but for a build, a play and a check
 abbrev pub work_due : Command → Held → Result Work Refusal → Type 0
 work_due (Build project cart map_name) held d = build_due project cart map_name held d
 work_due (Convert conversion source target) held d = convert_due conversion source target held ≡ d
 work_due (Trace cart answers card steps) held d = trace_due cart answers card steps held ≡ d
 work_due (Run words) held d = run_due words held ≡ d
+work_due (Play project map_name words) held d = play_due project map_name words held d
 work_due (Check project) held d = check_due project held d
 
 abbrev pub form_due : Option Command → Held → Result Work Refusal → Type 0
@@ -121,22 +163,24 @@ form_due (Some command) held d = work_due command held d
 abbrev pub command_due : List (List ℕ) → Held → Result Work Refusal → Type 0
 command_due words held d = form_due (command_of words) held d
 
--- The words are no command, or its input is refused. The cartridge of a build is no input of it: whether it is too large is known only of what was
--- built.
+-- The words are no command, or its input is refused. The cartridge of a build or a play is no input of it: whether it is too large is known only of
+-- what was built.
 abbrev pub form_refused : Option Command → Held → Refusal → Type 0
 form_refused (Some (Build project cart map_name)) held refusal = read_build_refused project held (due held project) refusal
+form_refused (Some (Play project map_name words)) held refusal = play_refused project words held refusal
 form_refused c held refusal = form_due c held (Err refusal)
 
 abbrev pub command_refused : List (List ℕ) → Held → Refusal → Type 0
 command_refused words held refusal = form_refused (command_of words) held refusal
 
--- The names that a command reads. Which files a build and a check read beside those that the project names is not told.
+-- The names that a command reads. Which files a build, a play and a check read beside those that the project names is not told.
 abbrev pub command_reads : Option Command → Held → List ℕ → Type 0
 command_reads None held name = ⊥
 command_reads (Some (Build project cart map_name)) held name = Unit {0}
 command_reads (Some (Convert conversion source target)) held name = Contains (source ∷ []) name
 command_reads (Some (Trace cart answers card steps)) held name = Contains (trace_reads cart answers card) name
 command_reads (Some (Run words)) held name = Contains (run_reads words) name
+command_reads (Some (Play project map_name words)) held name = Unit {0}
 command_reads (Some (Check project)) held name = Unit {0}
 
 -- the names that the command of these words reads

@@ -1,5 +1,5 @@
--- What a status 0 says of a build.
-use Rattle.std.specs.Prelude.{ℕ, ◌≡◌, List, Option, Some, Ok, IsSomeAnd}
+-- What a status 0 says of a build, and a status 0 or 3 of a play.
+use Rattle.std.specs.Prelude.{ℕ, ◌≡◌, List, ◌++◌, Option, Some, option_map, Ok, IsSomeAnd}
 use Rattle.std.specs.FinMap.{get}
 use Rattle.kit_base.specs.Held.{Held}
 use Rattle.kit_base.specs.Effects.{all_done}
@@ -7,8 +7,12 @@ use Rattle.kit_base.specs.Outside.{due}
 use Rattle.build_core.specs.declared.building.Built.{Built}
 use Rattle.build_core.specs.Build.{IsBuilt}
 use Rattle.project_text.specs.MapText.{map_text}
-use Rattle.kit_core.specs.Command.{Build, command_of}
-use Rattle.kit_core.specs.Due.{outputs_of}
+use Rattle.kit_core.specs.Command.{RunWords, Build, Play, command_of}
+use Rattle.kit_core.specs.Due.{outputs_of, play_effects}
+use Rattle.kit_core.specs.Running.{Settings, end_status, game_end, game_with, settings_due}
+use Rattle.run_core.specs.Ending.{end_text}
+use Rattle.cart_format.specs.Cartridge.{Cartridge}
+use Rattle.cart_format.specs.Reading.{cart_of}
 
 -- The project was held. Its outputs stand, with every other file as before: the file `cart` has the
 -- bytes of the cartridge, whose program does what the project's source means, and the file
@@ -26,3 +30,26 @@ pub record IsBuiltInto (project cart map_name : List ℕ) (held : Held) (after :
 abbrev pub BuildStands : List (List ℕ) → Held → Option Held → Type 0
 BuildStands words held after =
     (project cart map_name : List ℕ) → command_of words ≡ Some (Build project cart map_name) → IsBuiltInto project cart map_name held after
+
+-- The project was held. The files have its cartridge and its map, and the drawing, the sound and the card of the console's run on the cartridge that
+-- those bytes are, with that script and that card; every other file is as before. The status is 3 exactly where the run ended by a fault or at an
+-- undecodable word, and the line of that was put.
+pub record IsPlayedInto (project map_name : List ℕ) (words : RunWords) (held : Held) (status : ℕ) (after : Option Held) (before put : Option (List ℕ)) : Type 0 where
+  pub text : List ℕ
+  pub built : Built
+  pub project_is : due held project ≡ Ok text
+  pub is_built : IsBuilt held text built
+  pub cart : Cartridge
+  pub cart_is : cart_of built.cart ≡ Ok cart
+  pub settings : Settings
+  pub settings_are : settings_due words held ≡ Ok settings
+  pub outputs : after ≡ all_done (play_effects map_name words built (game_with cart settings)) (Some held)
+  pub cart_stands : IsSomeAnd after (λ files. get files words.cart ≡ Some built.cart)
+  pub map_stands : IsSomeAnd after (λ files. get files map_name ≡ Some (map_text built.map))
+  pub status_is : status ≡ end_status (game_end (game_with cart settings))
+  pub told : put ≡ option_map (λ bytes. bytes ++ end_text (game_with cart settings).lines (game_end (game_with cart settings))) before
+
+-- where the words are a play, it was carried out
+abbrev pub PlayStands : List (List ℕ) → Held → ℕ → Option Held → (before put : Option (List ℕ)) → Type 0
+PlayStands words held status after before put =
+    (project map_name : List ℕ) (run : RunWords) → command_of words ≡ Some (Play project map_name run) → IsPlayedInto project map_name run held status after before put

@@ -6,7 +6,7 @@ use Rattle.build_core.specs.Causes.{CanBeTooLarge}
 use Rattle.cart_format.specs.Cartridge.{Cartridge, total}
 use Rattle.kit_core.specs.declared.conversion.Conversion.{Conversion}
 use Rattle.kit_core.specs.declared.conversion.Conversion.TheVariants.{Migrate}
-use Rattle.kit_core.specs.Command.{RunWords, Build, Convert, Trace, Run, command_of}
+use Rattle.kit_core.specs.Command.{RunWords, Build, Convert, Trace, Run, Play, command_of}
 use Rattle.kit_core.specs.Inputs.{cart_due}
 use Rattle.kit_core.specs.Migration.{in_second}
 use Rattle.kit_core.specs.Tracing.{number_of}
@@ -60,5 +60,13 @@ pub record RunsOutOfRange (words : List (List ℕ)) : Type 0 where
   pub named : command_of words ≡ Some (Run run)
   pub over : is_count (number_of run.count) ≡ false
 
+-- the words are a play of such a project, or of a number of frames out of its range
+pub record PlaysOver (words : List (List ℕ)) (held : Option Held) : Type 0 where
+  pub project : List ℕ
+  pub map_name : List ℕ
+  pub run : RunWords
+  pub named : command_of words ≡ Some (Play project map_name run)
+  pub over : IsLarge project held ⊎ (is_count (number_of run.count) ≡ false)
+
 abbrev pub IsOver : List (List ℕ) → Option Held → Type 0
-IsOver words held = MigratesLong words held ⊎ (BuildsLarge words held ⊎ (TracesTooFar words ⊎ RunsOutOfRange words))
+IsOver words held = MigratesLong words held ⊎ (BuildsLarge words held ⊎ (TracesTooFar words ⊎ (RunsOutOfRange words ⊎ PlaysOver words held)))

@@ -3,7 +3,7 @@ use Rattle.std.specs.Option.{option_map}
 use Rattle.kit_core.specs.declared.command.Command.TheVariants as parsed
 use Rattle.kit_core.specs.declared.command.Command as declared
 use Rattle.kit_core.specs.declared.command.RunWords as run
-use Rattle.kit_core.specs.Command.{Command, RunWords, Build, Convert, Trace, Run, Check}
+use Rattle.kit_core.specs.Command.{Command, RunWords, Build, Convert, Trace, Run, Play, Check}
 
 abbrev pub run_words_from : run.RunWords → RunWords
 run_words_from words = record {
@@ -20,4 +20,5 @@ command_from (parsed.Build project cart map) = Build project.now cart.now map.no
 command_from (parsed.Convert conversion source target) = Convert conversion source.now target.now
 command_from (parsed.Trace cart answers card steps) = Trace cart.now answers.now (option_map (λ word. word.now) card) steps.now
 command_from (parsed.Run words) = Run (run_words_from words)
+command_from (parsed.Play project map_name words) = Play project.now map_name.now (run_words_from words)
 command_from (parsed.Check project) = Check project.now

@@ -2,6 +2,7 @@
 use Rattle.std.specs.Prelude.{ℕ, ◌≡◌, ◌&&◌, Bool, List, ◌∷◌, ◌++◌, nat_le, Option, Some, option_map, Result, Ok, Err, if◌then◌else◌}
 use Rattle.kit_base.specs.Held.{Held}
 use Rattle.kit_base.specs.Effects.{all_done}
+use Rattle.cart_format.specs.Cartridge.{Cartridge}
 use Rattle.run_files.specs.PadsReading.{pads_of}
 use Rattle.run_files.specs.Script.{Script}
 use Rattle.v32_console.specs.declared.frame_end.FrameEnd.{FrameEnd}
@@ -38,13 +39,27 @@ pub record Game : Type 0 where
   pub count : ℕ
   pub lines : Lines
 
-abbrev pub game_due : RunWords → Held → Result Game Refusal
-game_due words held = do
-  cart ← cart_due words.cart held
+-- what is run beside the cartridge: the script of the gamepads, the words of the card where there is one, and for how many frames
+pub record Settings : Type 0 where
+  pub script : Script
+  pub card : Option (List ℕ)
+  pub count : ℕ
+
+abbrev pub settings_due : RunWords → Held → Result Settings Refusal
+settings_due words held = do
   script ← pads_due words.pads held
   card ← card_due words.card held
   count ← count_due words.count
-  Ok (record { setup = setup_of cart script card; count = count; lines = lines_of cart })
+  Ok (record { script = script; card = card; count = count })
+
+abbrev pub game_with : Cartridge → Settings → Game
+game_with cart s = record { setup = setup_of cart s.script s.card; count = s.count; lines = lines_of cart }
+
+abbrev pub game_due : RunWords → Held → Result Game Refusal
+game_due words held = do
+  cart ← cart_due words.cart held
+  settings ← settings_due words held
+  Ok (game_with cart settings)
 
 -- the files that it writes
 abbrev pub names_in : RunWords → Names
@@ -62,8 +77,11 @@ abbrev pub game_end : Game → FrameEnd
 game_end game = run_end game.setup game.count
 
 -- the names that it reads, in order
+abbrev pub settings_reads : RunWords → List (List ℕ)
+settings_reads words = words.pads ∷ card_names words.card
+
 abbrev pub run_reads : RunWords → List (List ℕ)
-run_reads words = words.cart ∷ words.pads ∷ card_names words.card
+run_reads words = words.cart ∷ settings_reads words
 
 -- All files were as they should. The frames, samples and card's files have the drawing, the sound and the card of the console's
 -- run on that cartridge, script and card, every other file is as before, and the line of a fault was put.

@@ -1,5 +1,5 @@
 // The command `build`.
-ghost use Rattle.std.specs.Prelude.{◌≡◌, ◌≤◌, IfSome, OnOk, IfErr, length};
+ghost use Rattle.std.specs.Prelude.{◌≡◌, ◌≤◌, IfSome, IfOk, OnOk, IfErr, length};
 ghost use Rattle.kit_base.specs.Effects.{all_done};
 ghost use Rattle.build_core.specs.Causes.{CanBeTooLarge};
 ghost use Rattle.kit_core.specs.Carrying.{IsCut, LeavesBy};
@@ -7,18 +7,19 @@ ghost use Rattle.kit_core.specs.Causes.{HasCauses, HasCausesOr};
 ghost use Rattle.kit_core.specs.Limits.{IsLarge};
 ghost use Rattle.kit_core.specs.Checking.{TextBuilt};
 ghost use Rattle.kit_core.specs.Due.{build_due, outputs_of};
+ghost use Rattle.kit_core.specs.Gaming.{AreOutputs};
 
 use crate::reading::read_file;
 use crate::refusal::{Refusal, unbuilt};
 use crate::shown::Shown;
-use crate::writing::write_output;
+use crate::writing::write_named;
 use build_core::{Built, build};
-use kit_base::{Files, Name};
+use kit_base::{Files, Memory as OutOfMemory, Name};
 use project_text::write_map;
 use std::alloc::Global;
 
 /// Builds the project of that text. A refusal has the project's own name.
-fn build_text<F: Files>(
+pub fn build_text<F: Files>(
     alloc: Global,
     files: &mut F,
     project: &str,
@@ -38,7 +39,56 @@ fn build_text<F: Files>(
     }
 }
 
+/// The names of the files that a build writes, made before so that a fault can be told, and the bytes of its map.
+#[derive(Drop)]
+pub struct Outputs {
+    pub cart_name: Name,
+    pub map_name: Name,
+    pub map_bytes: Vec<u8>,
+}
+
+/// What the writing of a build takes.
+pub fn made_outputs(
+    alloc: Global,
+    cart: &str,
+    map: &str,
+    built: &Built,
+) -> Result<Outputs, OutOfMemory>
+    ensures { IfOk result (AreOutputs cart.now map.now built.now) }
+{
+    let cart_name = Name::new(alloc, cart)?;
+    let map_name = Name::new(alloc, map)?;
+    let map_bytes = write_map(alloc, &built.map)?;
+    Ok(Outputs {
+        cart_name,
+        map_name,
+        map_bytes,
+    })
+}
+
 /// Writes the cartridge, then the map.
+pub fn write_made<F: Files>(
+    files: &mut F,
+    cart: &str,
+    map: &str,
+    built: &Built,
+    outputs: Outputs,
+) -> Result<(), Refusal>
+    requires { AreOutputs cart.now map.now built.now outputs }
+    ensures ok { OnOk result (F.held files.new ≡ all_done (outputs_of cart.now map.now built.now) (F.held files.old)) }
+    ensures err { IfErr result (λ e. IsCut e (outputs_of cart.now map.now built.now) (F.held files.old) (F.held files.new)) }
+    ensures causes { HasCauses result (F.faults files.old) (F.faults files.new) (F.misses files.old) (F.misses files.new) (F.overs files.old) (F.overs files.new) }
+{
+    let Outputs {
+        cart_name,
+        map_name,
+        map_bytes,
+    } = outputs;
+    write_named(files, cart_name, cart, built.cart.as_slice())?;
+    write_named(files, map_name, map, &map_bytes)
+}
+
+/// Makes what the writing takes, then writes.
 fn write_outputs<F: Files>(
     alloc: Global,
     files: &mut F,
@@ -50,9 +100,8 @@ fn write_outputs<F: Files>(
     ensures err { IfErr result (λ e. IsCut e (outputs_of cart.now map.now built.now) (F.held files.old) (F.held files.new)) }
     ensures causes { HasCauses result (F.faults files.old) (F.faults files.new) (F.misses files.old) (F.misses files.new) (F.overs files.old) (F.overs files.new) }
 {
-    let map_bytes = write_map(alloc, &built.map)?;
-    write_output(alloc, files, cart, built.cart.as_slice())?;
-    write_output(alloc, files, map, &map_bytes)
+    let outputs = made_outputs(alloc, cart, map, built)?;
+    write_made(files, cart, map, built, outputs)
 }
 
 /// `build project cart map`. There is no text to put after it.

@@ -4,8 +4,8 @@ ghost use Rattle.std.specs.List.{list_all};
 ghost use Rattle.clap.specs.Words.{found_of, rows_of, subcommand_rows_of};
 ghost use Rattle.clap.specs.Walk.{first_of};
 ghost use Rattle.clap.specs.declared.error.kind.ErrorKind.TheVariants.{OutOfMemory};
-ghost use Rattle.kit_core.specs.Command.{command_of, are_distinct, card_of, checked_run, differ_from, is_number, is_word, texts};
-ghost use Rattle.kit_core.specs.CommandLine.{build_in, check_in, command_in, convert_in, converting_in, form_in, run_in, trace_in};
+ghost use Rattle.kit_core.specs.Command.{command_of, are_distinct, are_apart, card_of, checked_play, checked_run, differ_from, is_apart, is_number, is_word, texts};
+ghost use Rattle.kit_core.specs.CommandLine.{build_in, check_in, command_in, convert_in, converting_in, form_in, play_in, run_in, trace_in};
 ghost use Rattle.kit_core.specs.Parsed.{command_from, run_words_from};
 
 use crate::command_line::command_line;
@@ -46,6 +46,11 @@ pub enum Command<'a> {
         steps: &'a str,
     },
     Run(RunWords<'a>),
+    Play {
+        project: &'a str,
+        map: &'a str,
+        words: RunWords<'a>,
+    },
     Check {
         project: &'a str,
     },
@@ -182,6 +187,60 @@ fn run_in<'a>(given: &ArgMatches<'a>) -> Option<Command<'a>>
     })
 }
 
+/// Whether the file is none that a run creates.
+fn is_apart(name: &str, words: &RunWords<'_>) -> bool
+    ensures { result ≡ is_apart name.now (run_words_from words.now) }
+{
+    name != words.frames && name != words.samples && differs_from(name, words.card)
+}
+
+/// Whether the cartridge and the map are different files, and none that the run creates.
+fn are_apart(map: &str, words: &RunWords<'_>) -> bool
+    ensures { result ≡ are_apart map.now (run_words_from words.now) }
+{
+    words.cart != map && is_apart(words.cart, words) && is_apart(map, words)
+}
+
+fn checked_play<'a>(project: &'a str, map: &'a str, words: RunWords<'a>) -> Option<Command<'a>>
+    ensures { option_map command_from result ≡ checked_play project.now map.now (run_words_from words.entry) }
+{
+    if is_number(words.count) && are_distinct(&words) && are_apart(map, &words) {
+        Some(Command::Play {
+            project,
+            map,
+            words,
+        })
+    } else {
+        None
+    }
+}
+
+fn play_in<'a>(given: &ArgMatches<'a>) -> Option<Command<'a>>
+    ensures { option_map command_from result ≡ play_in (rows_of (found_of given.now)) }
+{
+    let project = word_of(given, "project")?;
+    let cart = word_of(given, "cart")?;
+    let map = word_of(given, "map")?;
+    let pads = word_of(given, "pads")?;
+    let frames = word_of(given, "frames")?;
+    let samples = word_of(given, "samples")?;
+    let count = word_of(given, "count")?;
+    let card = word_of(given, "card")?;
+    let card = card_of(card);
+    checked_play(
+        project,
+        map,
+        RunWords {
+            cart,
+            pads,
+            frames,
+            samples,
+            count,
+            card,
+        },
+    )
+}
+
 fn check_in<'a>(given: &ArgMatches<'a>) -> Option<Command<'a>>
     ensures { option_map command_from result ≡ check_in (rows_of (found_of given.now)) }
 {
@@ -214,6 +273,8 @@ fn form_in<'a>(name: &str, given: &ArgMatches<'a>) -> Option<Command<'a>>
         trace_in(given)
     } else if name == "run" {
         run_in(given)
+    } else if name == "play" {
+        play_in(given)
     } else if name == "check" {
         check_in(given)
     } else {

@@ -77,6 +77,14 @@ pub fn command_line<'a>(alloc: Global) -> Result<Command<'a>, AllocError>
         "run",
         &["cart", "pads", "frames", "samples", "count", "card"],
     )?;
+    let command = with_form(
+        alloc,
+        command,
+        "play",
+        &[
+            "project", "cart", "map", "pads", "frames", "samples", "count", "card",
+        ],
+    )?;
     let command = with_form(alloc, command, "check", &["project"])?;
     with_converting(alloc, command)
 }

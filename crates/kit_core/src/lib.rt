@@ -2,7 +2,7 @@
 //! and the line that is put.
 //!
 //! It promises that status, files and text are those of the command, that each refusal by the
-//! outside has its cause, and that a build that ends well stands and does what its source means. It
+//! outside has its cause, and that a build or a play that ends well stands and does what its source means. It
 //! stands on `build_core` for the build, on `clap` for the words and on `kit_base` for the outside.
 #![tactic(auto)]
 
@@ -13,6 +13,7 @@ mod command_line;
 mod conversion;
 mod converting;
 mod number;
+mod playing;
 mod reading;
 mod refusal;
 mod running;

@@ -13,8 +13,8 @@ ghost use Rattle.kit_core.specs.Causes.{HasCause, HasCauses, HasCausesOr, IsOwn}
 ghost use Rattle.kit_core.specs.Due.{run_due};
 ghost use Rattle.kit_core.specs.Inputs.{or_refused};
 ghost use Rattle.kit_core.specs.Parsed.{run_words_from};
-ghost use Rattle.kit_core.specs.Gaming.{AreNames, IsWritten, game_of};
-ghost use Rattle.kit_core.specs.Running.{Game, count_due, game_due, is_count, names_in, no_pads, pads_due, run_reads};
+ghost use Rattle.kit_core.specs.Gaming.{AreNames, IsOpened, IsWritten, game_of, settings_of};
+ghost use Rattle.kit_core.specs.Running.{Game, count_due, game_due, is_count, names_in, no_pads, pads_due, run_reads, settings_due, settings_reads};
 ghost use Rattle.kit_core.specs.Tracing.{number_of};
 
 use crate::command::RunWords;
@@ -36,6 +36,14 @@ const FRAME_LIMIT: u32 = 3_600;
 #[derive(Drop)]
 pub struct Loaded {
     pub cart: Cart,
+    pub pads: Pads,
+    pub card: Option<Vec<u32>>,
+    pub count: u32,
+}
+
+/// What is run beside a cartridge.
+#[derive(Drop)]
+pub struct LoadedSettings {
     pub pads: Pads,
     pub card: Option<Vec<u32>>,
     pub count: u32,
@@ -86,8 +94,28 @@ fn read_pads_file<F: Files>(alloc: Global, files: &mut F, name: &str) -> Result<
     pads_of_text(alloc, name, &text)
 }
 
+/// What those words run beside a cartridge.
+#[tactic(auto, using(crate::proofs::Stages::fails_first, crate::proofs::Stages::fails_later))]
+pub fn read_settings<F: Files>(
+    alloc: Global,
+    files: &mut F,
+    words: &RunWords<'_>,
+) -> Result<LoadedSettings, Refusal>
+    ensures held { F.held files.new ≡ F.held files.old }
+    ensures told { IfSome (F.held files.old) (λ m. GivesBy settings_of result (settings_due (run_words_from words.now) m)) }
+    ensures fails { IfErr result (FailsAt (settings_reads (run_words_from words.now))) }
+    ensures causes { HasCausesOr (is_count (number_of words.now.count.now) ≡ false) result (F.faults files.old) (F.faults files.new) (F.misses files.old) (F.misses files.new) (F.overs files.old) (F.overs files.new) }
+    ensures room { IfOk result (λ s. ForSome s.card (λ v. length v.items ≡ 0x40000)) }
+    ensures few { IfOk result (λ s. s.count ≤ 3600) }
+{
+    let pads = read_pads_file(alloc, files, words.pads)?;
+    let card = read_card_file(alloc, files, words.card)?;
+    let count = count_of(alloc, words.count)?;
+    Ok(LoadedSettings { pads, card, count })
+}
+
 /// What those words run.
-#[tactic(auto, using(crate::proofs::Stages::second_fails, crate::proofs::Stages::third_fails))]
+#[tactic(auto, using(crate::proofs::Stages::fails_first, crate::proofs::Stages::fails_later))]
 fn read_game<F: Files>(
     alloc: Global,
     files: &mut F,
@@ -101,9 +129,7 @@ fn read_game<F: Files>(
     ensures few { IfOk result (λ g. g.count ≤ 3600) }
 {
     let cart = read_cart_file(alloc, files, words.cart)?;
-    let pads = read_pads_file(alloc, files, words.pads)?;
-    let card = read_card_file(alloc, files, words.card)?;
-    let count = count_of(alloc, words.count)?;
+    let LoadedSettings { pads, card, count } = read_settings(alloc, files, words)?;
     Ok(Loaded {
         cart,
         pads,
@@ -168,7 +194,7 @@ fn unwritten(own: OwnNames, e: Unwritten) -> Refusal
 }
 
 /// Does the run and writes its outputs.
-fn write_outputs<F: Files>(
+pub fn write_outputs<F: Files>(
     files: &mut F,
     run: Run,
     ending: Ending,
@@ -190,6 +216,32 @@ fn write_outputs<F: Files>(
     }
 }
 
+/// A run that can begin: want of memory comes before it.
+#[derive(Drop)]
+pub struct Opened {
+    pub run: Run,
+    pub ending: Ending,
+    pub own: OwnNames,
+}
+
+/// Opens the console.
+pub fn open_game(alloc: Global, game: Loaded, words: &RunWords<'_>) -> Result<Opened, OutOfMemory>
+    requires room { ForSome game.card (λ v. length v.items ≡ 0x40000) }
+    requires few { game.count ≤ 3600 }
+    ensures { IfOk result (IsOpened (names_in (run_words_from words.now)) (game_of game)) }
+{
+    let Loaded {
+        cart,
+        pads,
+        card,
+        count,
+    } = game;
+    let own = own_names(alloc, words)?;
+    let ending = Ending::of(alloc, &cart)?;
+    let run = Run::open(alloc, cart, pads, card, count)?;
+    Ok(Opened { run, ending, own })
+}
+
 /// Opens the console and does the run.
 fn write_game<F: Files>(
     alloc: Global,
@@ -202,16 +254,8 @@ fn write_game<F: Files>(
     ensures written { IsWritten (names_in (run_words_from words.now)) (game_of game) result (F.held files.old) (F.held files.new) }
     ensures causes { HasCauses result (F.faults files.old) (F.faults files.new) (F.misses files.old) (F.misses files.new) (F.overs files.old) (F.overs files.new) }
 {
-    let Loaded {
-        cart,
-        pads,
-        card,
-        count,
-    } = game;
-    let own = own_names(alloc, words)?;
-    let ending = Ending::of(alloc, &cart)?;
-    let run = Run::open(alloc, cart, pads, card, count)?;
-    write_outputs(files, run, ending, own, words)
+    let opened = open_game(alloc, game, words)?;
+    write_outputs(files, opened.run, opened.ending, opened.own, words)
 }
 
 /// `run cart pads frames samples count card`. The line of a fault is put later.

@@ -7,7 +7,7 @@ ghost use Rattle.kit_core.specs.Carrying.{LeavesBy, Puts, Shows, shown_status, t
 ghost use Rattle.kit_core.specs.Causes.{HasCausesOr, HasOnlyRisen, IsUnrisen};
 ghost use Rattle.kit_core.specs.Command.{texts};
 ghost use Rattle.kit_core.specs.Due.{Work, accepted, command_due, command_refused, reads_due};
-ghost use Rattle.kit_core.specs.Headline.{BuildStands};
+ghost use Rattle.kit_core.specs.Headline.{BuildStands, PlayStands};
 ghost use Rattle.kit_core.specs.Limits.{IsOver};
 ghost use Rattle.kit_core.specs.Outcome.{IsOutcome, status_due};
 ghost use Rattle.kit_core.specs.declared.refusal.Refusal.{Refusal};
@@ -19,6 +19,7 @@ use crate::building::build_command;
 use crate::checking::check_command;
 use crate::command::{Command, command_of};
 use crate::converting::convert_command;
+use crate::playing::play_command;
 use crate::refusal::{Refusal, line_of, status_of};
 use crate::running::run_command;
 use crate::shown::Shown;
@@ -145,6 +146,13 @@ fn carry_out<F: Files>(alloc: Global, words: &[String], files: &mut F) -> Result
             },
         ) => trace_command(alloc, files, cart, answers, card, steps),
         Some(Command::Run(words)) => run_command(alloc, files, &words),
+        Some(
+            Command::Play {
+                project,
+                map,
+                words,
+            },
+        ) => play_command(alloc, files, project, map, &words),
         Some(Command::Check { project }) => check_command(alloc, files, project),
     }
 }
@@ -181,6 +189,8 @@ pub fn kit<F: Files, S: Sink>(alloc: Global, words: &[String], files: &mut F, ou
     ensures traces { IfSome (F.held files.old) (λ m. result ≡ 0 → TraceStands (texts words.now) m (F.held files.new) (S.written out.old) (S.written out.new)) }
     // At 0 and 3 the outputs of a run are those of the console's run, and the line of its fault was put.
     ensures runs { IfSome (F.held files.old) (λ m. (result ≡ 0) ⊎ (result ≡ 3) → RunStands (texts words.now) m result (F.held files.new) (S.written out.old) (S.written out.new)) }
+    // At 0 and 3 the outputs of a play are what was built and the outputs of its run.
+    ensures plays { IfSome (F.held files.old) (λ m. (result ≡ 0) ⊎ (result ≡ 3) → PlayStands (texts words.now) m result (F.held files.new) (S.written out.old) (S.written out.new)) }
     // A command whose words or input are refused changes no file, whatever its status.
     ensures untouched { IfSome (F.held files.old) (λ m. (e : Refusal) → command_refused (texts words.now) m e → F.held files.new ≡ F.held files.old) }
     // Where no call failed, the status is one that is due, or 8.

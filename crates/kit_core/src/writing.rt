@@ -22,6 +22,24 @@ fn write_file<F: Files>(files: &mut F, name: &str, bytes: &[u8]) -> Result<(), F
     files.append(name, bytes)
 }
 
+/// Writes one output, whose name was made before.
+pub fn write_named<F: Files>(
+    files: &mut F,
+    own: Name,
+    name: &str,
+    bytes: &[u8],
+) -> Result<(), Refusal>
+    requires { own ≡ name.now }
+    ensures ok { OnOk result (F.held files.new ≡ all_done (written_file name.now bytes.now) (F.held files.old)) }
+    ensures err { IfErr result (λ e. IsCut e (written_file name.now bytes.now) (F.held files.old) (F.held files.new)) }
+    ensures causes { HasCauses result (F.faults files.old) (F.faults files.new) (F.misses files.old) (F.misses files.new) (F.overs files.old) (F.overs files.new) }
+{
+    match write_file(files, name, bytes) {
+        Ok(()) => Ok(()),
+        Err(error) => Err(unread(own, error)),
+    }
+}
+
 /// Writes one output. The name of the refusal is made first, so that a fault can be told.
 pub fn write_output<F: Files>(
     alloc: Global,
@@ -34,8 +52,5 @@ pub fn write_output<F: Files>(
     ensures causes { HasCauses result (F.faults files.old) (F.faults files.new) (F.misses files.old) (F.misses files.new) (F.overs files.old) (F.overs files.new) }
 {
     let own = Name::new(alloc, name)?;
-    match write_file(files, name, bytes) {
-        Ok(()) => Ok(()),
-        Err(error) => Err(unread(own, error)),
-    }
+    write_named(files, own, name, bytes)
 }

@@ -1,0 +1,1 @@
+void main() { int* c = card_memory(); *c = 7; }

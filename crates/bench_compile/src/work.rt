@@ -61,7 +61,7 @@ fn chain(alloc: Global, count: u32) -> Result<Vec<u8>, Memory> {
     Ok(text)
 }
 
-fn pass(alloc: Global, program: &Program, pass: Pass) -> Result<(), Memory> {
+fn carry_out(alloc: Global, program: &Program, pass: Pass) -> Result<(), Memory> {
     match pass {
         Pass::None => {}
         Pass::Lower => drop(lower(alloc, program)?),
@@ -83,7 +83,7 @@ pub fn done(alloc: Global, work: Work) -> Option<u32> {
     let parsed = read_unit(alloc, &mut files, "main.c").ok()?;
     let program = check(alloc, &parsed.unit).ok()?;
     for _ in 0..work.times {
-        pass(alloc, &program, work.pass).ok()?;
+        carry_out(alloc, &program, work.pass).ok()?;
     }
     Some(program.functions().len() as u32)
 }

@@ -112,6 +112,10 @@ fn each_failing_call_of_the_files_leaves_fronts(rt: HostRuntime) -> Result<(), F
             "run cart pads a b 2 card",
             "cart pads card a a b b a b card card",
         ),
+        (
+            "play p a b pads e f 2 card",
+            "p s pads card a a b b e e f f e f card card",
+        ),
     ];
     for (words, calls) in rows {
         let clean = run(&rt, alloc, words, Vec::new(alloc), Vec::new(alloc))?;
@@ -127,7 +131,7 @@ fn each_failing_call_of_the_files_leaves_fronts(rt: HostRuntime) -> Result<(), F
                 wanted.as_bytes(),
                 "{words}, call {call}"
             );
-            for output in ["a", "b", "card"] {
+            for output in ["a", "b", "e", "f", "card"] {
                 assert!(rt;
                     is_front(&ran.files, &clean.files, output),
                     "{words}, call {call}"

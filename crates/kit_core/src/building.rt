@@ -1,6 +1,7 @@
 // The command `build`.
 ghost use Rattle.std.specs.Prelude.{◌≡◌, ◌≤◌, IfSome, IfOk, OnOk, IfErr, length};
 ghost use Rattle.kit_base.specs.Effects.{all_done};
+ghost use Rattle.build_core.specs.Build.{IsCartText};
 ghost use Rattle.build_core.specs.Causes.{CanBeTooLarge};
 ghost use Rattle.kit_core.specs.Carrying.{IsCut, LeavesBy};
 ghost use Rattle.kit_core.specs.Causes.{HasCauses, HasCausesOr};
@@ -28,6 +29,7 @@ pub fn build_text<F: Files>(
     requires { length text.now ≤ 268435456 }
     ensures held { F.held files.new ≡ F.held files.old }
     ensures told { IfSome (F.held files.old) (λ m. TextBuilt project.now text.now m result) }
+    ensures cartridge { IfOk result (λ b. IsCartText b.cart) }
     ensures causes { HasCausesOr (CanBeTooLarge text.now) result (F.faults files.old) (F.faults files.new) (F.misses files.old) (F.misses files.new) (F.overs files.old) (F.overs files.new) }
 {
     match build(alloc, files, text) {

@@ -1,6 +1,7 @@
 // The command `play`.
 ghost use Rattle.std.specs.Prelude.{◌≡◌, ◌≤◌, ◌⊎◌, false, Ok, IfOk, IfSome, length};
 ghost use Rattle.std.specs.Option.{ForSome};
+ghost use Rattle.build_core.specs.Build.{IsCartText};
 ghost use Rattle.cart_format.specs.Reading.{cart_of};
 ghost use Rattle.kit_core.specs.Carrying.{LeavesBy};
 ghost use Rattle.kit_core.specs.Causes.{HasCauses, HasCausesOr};
@@ -18,22 +19,26 @@ use crate::refusal::Refusal;
 use crate::running::{Loaded, LoadedSettings, Opened, open_game, read_settings, write_outputs};
 use crate::shown::Shown;
 use build_core::Built;
-use cart_format::{Cart, read_cart};
+use cart_format::{Cart, CartErr, read_cart};
 use kit_base::{Files, Memory as OutOfMemory};
 use std::alloc::Global;
 
 /// The cartridge that was built. It is one that is read again, so only memory can be wanting.
 fn built_cart(alloc: Global, built: &Built) -> Result<Cart, OutOfMemory>
+    requires { IsCartText built.now.cart }
     ensures { IfOk result (λ c. cart_of built.now.cart ≡ Ok c) }
 {
     match read_cart(alloc, built.cart.as_slice()) {
         Ok(cart) => Ok(cart),
-        Err(_) => Err(OutOfMemory),
+        Err(CartErr::Memory) => Err(OutOfMemory),
+        Err(CartErr::At { .. }) => unreachable!(),
+        Err(CartErr::BadSection(_)) => unreachable!(),
     }
 }
 
 /// What is run: the cartridge that was built, with these settings.
 fn built_game(alloc: Global, built: &Built, settings: LoadedSettings) -> Result<Loaded, OutOfMemory>
+    requires cartridge { IsCartText built.now.cart }
     requires room { ForSome settings.card (λ v. length v.items ≡ 0x40000) }
     requires few { settings.count ≤ 3600 }
     ensures game { IfOk result (IsGameOf built.now settings) }

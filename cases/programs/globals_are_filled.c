@@ -5,7 +5,6 @@
 //> out 0x202 0x00000000
 //> out 0x202 0x00000001
 //> out 0x202 0x00000078
-//> out 0x202 0x00000001
 //> halted
-int a = 5; int b; int[4] c = { 1, 2, 3 }; bool d = true; int* e = "x"; int* f;
-void main() { port_out(GPU_ClearColor, a); port_out(GPU_ClearColor, b); port_out(GPU_ClearColor, c[2]); port_out(GPU_ClearColor, c[3]); port_out(GPU_ClearColor, d); port_out(GPU_ClearColor, *e); port_out(GPU_ClearColor, f == NULL); }
+int a = 5; int b; int[4] c = { 1, 2, 3 }; bool d = true; int* e = "x";
+void main() { port_out(GPU_ClearColor, a); port_out(GPU_ClearColor, b); port_out(GPU_ClearColor, c[2]); port_out(GPU_ClearColor, c[3]); port_out(GPU_ClearColor, d); port_out(GPU_ClearColor, *e); }

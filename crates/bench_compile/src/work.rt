@@ -71,7 +71,7 @@ fn carry_out(alloc: Global, program: &Program, pass: Pass) -> Result<(), Memory>
 }
 
 /// Does the work; how many functions the program has, none where it is none or memory ran out.
-pub fn done(alloc: Global, work: Work) -> Option<u32> {
+pub fn done(alloc: Global, work: Work) -> Option<usize> {
     let text = chain(alloc, work.count).ok()?;
     let mut held = Vec::new(alloc);
     held.push((Name::new(alloc, "main.c").ok()?, Seq::from_vec(text)))
@@ -85,5 +85,5 @@ pub fn done(alloc: Global, work: Work) -> Option<u32> {
     for _ in 0..work.times {
         carry_out(alloc, &program, work.pass).ok()?;
     }
-    Some(program.functions().len() as u32)
+    Some(program.functions().len())
 }

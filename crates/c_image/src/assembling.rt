@@ -1,4 +1,4 @@
-// Items to text, and the text to words.
+// Items to text and to words.
 ghost use Rattle.std.specs.Prelude.{◌≡◌, ◌≤◌, None, Ok, IfOk, length};
 ghost use Rattle.asm_items.specs.Written.{written};
 ghost use Rattle.asm_reader.specs.Readable.{AreReadable};
@@ -7,22 +7,10 @@ ghost use Rattle.assembler.specs.Faults.{fault_of};
 ghost use Rattle.assembler.specs.Placed.{Placed};
 
 use asm_items::{AsmItem, write_asm};
-use asm_reader::{AsmErr, read_asm};
+use asm_reader::AsmErr;
 use assembler::{Placement, assemble};
 use kit_base::Memory;
 use std::alloc::Global;
-
-/// The items that a text spells, which is the written form of some.
-fn read_items(alloc: Global, text: &[u8], items: &[AsmItem]) -> Result<Vec<AsmItem>, Memory>
-    requires { read text.now ≡ Ok items.now }
-    ensures { IfOk result (λ v. v.items ≡ items.now) }
-{
-    match read_asm(alloc, text) {
-        Ok(read) => Ok(read),
-        Err(AsmErr::At { .. }) => unreachable!(),
-        Err(AsmErr::Memory) => Err(Memory),
-    }
-}
 
 /// The words that items without a fault are placed as.
 fn placed(alloc: Global, items: &[AsmItem]) -> Result<Placement, Memory>
@@ -44,7 +32,7 @@ pub struct Assembled {
     pub placement: Placement,
 }
 
-/// The text of items, and the words that this text, read again, is placed as. The error is want of memory.
+/// The text of items, which reads as them again, and the words that they are placed as. The error is want of memory.
 #[tactic(auto, using(asm_reader::proofs::AgainLaws::written_again))]
 pub fn assemble_items(alloc: Global, items: &[AsmItem]) -> Result<Assembled, Memory>
     requires readable { AreReadable items.now }
@@ -55,7 +43,6 @@ pub fn assemble_items(alloc: Global, items: &[AsmItem]) -> Result<Assembled, Mem
     ensures few { IfOk result (λ a. length a.placement.words ≤ 33554432) }
 {
     let text = write_asm(alloc, items)?;
-    let again = read_items(alloc, &text, items)?;
-    let placement = placed(alloc, &again)?;
+    let placement = placed(alloc, items)?;
     Ok(Assembled { text, placement })
 }

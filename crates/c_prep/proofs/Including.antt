@@ -109,7 +109,7 @@ module _ (include : Including) (file : ℕ) (lines : List (List Token)) (line : 
   by_option : (o : Option Inclusion) → include_in line cs ≡ o → on_lines (line_by o include line p cs) ≡ total
   by_option o here = sym (step ∙ ap (λ (o : Option Inclusion). on_lines (line_by o include line p cs)) here) ∙ so_far
 
-  by_include : (i : Inclusion) → include_in line cs ≡ Some i → after_include (include i p) ≡ total
+  pub by_include : (i : Inclusion) → include_in line cs ≡ Some i → after_include (include i p) ≡ total
   by_include i here = by_option (Some i) here
 
   by_line : include_in line cs ≡ None → after_step stepped ≡ total

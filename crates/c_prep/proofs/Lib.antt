@@ -7,5 +7,6 @@ pub mod Numbering
 pub mod Standing
 pub mod Room
 pub mod Including
+pub mod Reaching
 pub mod Whole
 pub mod Parting

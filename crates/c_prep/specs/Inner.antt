@@ -15,7 +15,7 @@ use Rattle.c_prep.specs.declared.error.StepErr.TheVariants as steps
 use Rattle.c_prep.specs.declared.files.Included.{Included}
 use Rattle.c_prep.specs.Kinds.{kinds_of}
 use Rattle.c_prep.specs.Directives.{Directive, Include, Define, Undef, IfDef, IfNotDef, Else, EndIf, Error, Bad, Directed}
-use Rattle.c_prep.specs.Files.{Inclusion, Stop, refusal}
+use Rattle.c_prep.specs.Files.{Inclusion, Progress, Stop, refusal}
 use Rattle.c_prep.specs.Numbers.{IsBelow}
 
 -- an entry of the program's table
@@ -92,3 +92,12 @@ PlacedIn n (Err x) = IsBelow n x
 abbrev pub PlacedPut : {X : Type 0} → ℕ → List Token → Result X PrepErr → Type 0
 PlacedPut n tokens (Ok x) = ArePlaced n tokens
 PlacedPut n tokens (Err x) = IsBelow n x
+
+-- a failure, if it is one, is of this file
+abbrev pub IsFailedAt : ℕ → PrepErr → Type 0
+IsFailedAt file (e.Failed at) = at ≡ file
+IsFailedAt file _ = Unit {0}
+
+-- the names of the files so far
+abbrev pub so_far : Progress → List (List ℕ)
+so_far p = p.names

@@ -10,4 +10,5 @@ pub mod Steps
 pub mod Files
 pub mod Causes
 pub mod Numbers
+pub mod Reached
 pub mod Inner

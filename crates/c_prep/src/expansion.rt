@@ -4,6 +4,7 @@ ghost use Rattle.std.specs.List.{list_all};
 ghost use Rattle.std.specs.Str.{is_utf8};
 ghost use Rattle.c_prep.specs.Files.{Answers, expansion_of};
 ghost use Rattle.c_prep.specs.Numbers.{HaveLines, Numbered};
+ghost use Rattle.c_prep.specs.Reached.{Reaches, names_of};
 ghost use Rattle.c_prep.specs.Causes.{Caused, HasFailed, IsOver, Lacks};
 
 use crate::error::PrepErr;
@@ -32,6 +33,9 @@ pub fn expand<F: Reads>(
     // Where it is told what is held, the tokens, or the first fault, are those that are due, with the
     // files' names, unless the files failed or memory ran out.
     ensures told { IfSome (F.held files.old) (λ m. Answers result names.new.items (expansion_of m name.now)) }
+    // Where the files failed, it was at the last of the files that were read; these are the first of those that are due, as far as
+    // the reading got, also where memory ran out.
+    ensures reached { IfSome (F.held files.old) (λ m. Reaches names_of result names.new.items (expansion_of m name.now)) }
     // Each file number in a token or a refusal has its name.
     ensures numbers { Numbered (length names.new.items) result }
     // Names are texts, and lines count from 1.

@@ -10,9 +10,10 @@ ghost use Rattle.c_prep.specs.Faults.{fault_at};
 ghost use Rattle.c_prep.specs.Conditions.{closed};
 ghost use Rattle.c_prep.specs.Steps.{step_at};
 ghost use Rattle.c_prep.specs.Files.{bytes_of, code_of, file_at, include_at, include_in, lexed, missing_at, refusal, refusing, stopping, tokens_of};
-ghost use Rattle.c_prep.specs.Inner.{ArePlaced, GivesAs, GivesOut, IsOfText, PlacedIn, PlacedPut, SaysMissing, included, refused};
+ghost use Rattle.c_prep.specs.Inner.{ArePlaced, GivesAs, GivesOut, IsFailedAt, IsOfText, PlacedIn, PlacedPut, SaysMissing, included, refused, so_far};
 ghost use Rattle.c_prep.specs.Causes.{HasCauses};
 ghost use Rattle.c_prep.specs.Numbers.{IsBelow};
+ghost use Rattle.c_prep.specs.Reached.{Reaches};
 
 use crate::conditions::Conditions;
 use crate::directive::{Directive, directive_in, first_line};
@@ -73,6 +74,7 @@ fn name_file(alloc: Global, names: &mut Vec<Name>, name: &str) -> Result<u32, Me
     requires { length names.old.items < 10000 }
     ensures number { IfOk result (λ n. n ≡ length names.old.items) }
     ensures names { OnOk result (names.new.items ≡ names.old.items ++ name.now ∷ []) }
+    ensures kept { OnErr result (names.new.items ≡ names.old.items) }
     ensures texts { list_all is_utf8 names.old.items ≡ true → list_all is_utf8 names.new.items ≡ true }
 {
     let file = names.len() as u32;
@@ -92,6 +94,7 @@ fn read_file<F: Reads>(
     ensures told { (m : Held) → F.held files.old ≡ Some m → GivesAs (λ v. v.items) result (bytes_of missing file (due m name.now)) }
     ensures limit { IfOk result (λ v. length v.items ≤ 268435456) }
     ensures numbers { (n : ℕ) → file < n → IsBelow n missing → IfErr result (IsBelow n) }
+    ensures failed { IfErr result (IsFailedAt file) }
     ensures causes { HasCauses result (F.faults files.old) (F.faults files.new) (F.misses files.old) (F.misses files.new) (F.overs files.old) (F.overs files.new) }
 {
     match files.read(alloc, name) {
@@ -134,6 +137,7 @@ fn tokens_of<F: Reads>(
     ensures held { F.held files.new ≡ F.held files.old }
     ensures told { (m : Held) → F.held files.old ≡ Some m → GivesAs (λ v. v.items) result (tokens_of m missing name.now file) }
     ensures numbers { (n : ℕ) → file < n → IsBelow n missing → PlacedIn n result }
+    ensures failed { IfErr result (IsFailedAt file) }
     ensures causes { HasCauses result (F.faults files.old) (F.faults files.new) (F.misses files.old) (F.misses files.new) (F.overs files.old) (F.overs files.new) }
 {
     let bytes = match read_file(alloc, files, missing, name, file) {
@@ -229,6 +233,7 @@ pub fn expand_file<F: Reads>(
     requires lacking { IsBelow (length names.old.items) missing }
     ensures held { F.held files.new ≡ F.held files.old }
     ensures told { (m : Held) → F.held files.old ≡ Some m → GivesOut (record { work = work.new; names = names.new.items }) names.new.items result (file_at m (include_at m room) missing name.now (record { work = work.old; names = names.old.items })) }
+    ensures reached { (m : Held) → F.held files.old ≡ Some m → Reaches so_far result names.new.items (file_at m (include_at m room) missing name.now (record { work = work.old; names = names.old.items })) }
     ensures texts { list_all is_utf8 names.new.items ≡ true }
     ensures more { OnOk result (length names.old.items ≤ length names.new.items) }
     ensures numbers { PlacedPut (length names.new.items) work.new.out.tokens result }

@@ -1,5 +1,6 @@
 use Rattle.std.proofs.Common.{◌≡◌, List, length, true, sym, ap, ◌∙◌, subst, rules}
-use Rattle.std.specs.Prelude.{Result, Ok}
+use Rattle.std.specs.Prelude.{Result, Ok, Vec}
+use Rattle.std.specs.declared.alloc.Global.{Global}
 use Rattle.std.specs.List.{list_all}
 use Rattle.std.specs.Str.{is_utf8}
 use Rattle.c_lex.specs.declared.token.Token.{Token}
@@ -7,6 +8,7 @@ use Rattle.c_prep.specs.Files.{Expansion, Stop}
 use Rattle.c_prep.specs.Numbers.{AreBelow, HaveLines}
 use Rattle.c_prep.proofs.Numbering.{no_names, placed_below, placed_lines}
 use Rattle.c_prep.proofs.Whole.{where_told, begins, done, stopped}
+use Rattle.c_prep.proofs.Reaching.{source_reached}
 use Rattle.c_prep.proofs.expansion.expand.Goals as goal
 
 pub returns-in-Ok-clause-told : goal.returns-in-Ok-clause-told
@@ -29,3 +31,7 @@ returns-in-Ok-clause-numbers g c = subst (AreBelow (length c.expand_file.new.nam
 
 pub returns-in-Ok-clause-lines : goal.returns-in-Ok-clause-lines
 returns-in-Ok-clause-lines g c = subst HaveLines (sym c.into_tokens.ensures.tokens) (placed_lines (length c.expand_file.new.names.items) _ c.in-Ok.ensures.numbers)
+
+pub returns-in-Err-clause-reached : goal.returns-in-Err-clause-reached
+returns-in-Err-clause-reached g c = where_told (g.F.Reads.held c.args.files.now) _ (λ m e.
+    source_reached m c.args.name.now _ (begins c.new.result c.new-2.result c.args.names.now.items c.new.ensures c.new-2.ensures c.requires.empty) (Vec Token Global) c.in-Err.x c.expand_file.new.names.items (c.in-Err.ensures.reached m e))

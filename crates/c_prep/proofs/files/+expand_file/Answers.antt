@@ -1,4 +1,4 @@
-use Rattle.std.proofs.Common.{◌≡◌, ◌<◌, ◌≤◌, ◌+◌, ◌-◌, ◌&&◌, ltb, List, ℕ, length, sym, ◌∙◌, ap, subst, false, true, arith, rules}
+use Rattle.std.proofs.Common.{◌≡◌, ◌<◌, ◌≤◌, ◌+◌, ◌-◌, ◌&&◌, ltb, List, ℕ, suc, length, sym, ◌∙◌, ap, subst, false, true, arith, rules}
 use Rattle.std.specs.Prelude.{Some, None, Err, Result, Vec}
 use Rattle.std.specs.List.{list_all}
 use Rattle.std.specs.Str.{is_utf8}
@@ -8,12 +8,14 @@ use Rattle.c_lex.specs.declared.token.Token.{Token}
 use Rattle.c_prep.specs.declared.error.PrepErr.{PrepErr}
 use Rattle.c_prep.specs.Lines.{lines_of}
 use Rattle.c_prep.specs.Files.{Progress, Stop, Inclusion, include_in, include_at, file_at, refusal}
-use Rattle.c_prep.specs.Inner.{ArePlaced, GivesOut, included}
+use Rattle.c_prep.specs.Inner.{ArePlaced, GivesOut, included, so_far}
 use Rattle.c_prep.specs.declared.error.Fault.TheVariants.{TooDeep}
 use Rattle.c_prep.specs.Faults.{fault_at}
 use Rattle.c_prep.specs.Numbers.{IsBelow}
 use Rattle.c_prep.proofs.Numbering.{placed_more, is_below_more, one_longer}
 use Rattle.c_prep.proofs.Including.{not_read_at, begun_at, deeper, deep, include_next, include_refused, line_next, line_refused, at_end}
+use Rattle.c_prep.specs.Reached.{Reaches}
+use Rattle.c_prep.proofs.Reaching.{includes_grow, now_first, inner_first, inner_reached, text_reached, close_reached, unnumbered, unread}
 use Rattle.c_prep.proofs.files.+expand_file.Goals as goal
 
 pub returns-in_err-tokens-clause-told : goal.returns-in_err-tokens-clause-told
@@ -134,3 +136,43 @@ expand_file-requires g t c =
     let n = length c.each.names.items in
     let lacking : IsBelow n c.missing_at-lacking.result = c.missing_at-lacking.ensures.numbers n (c.in-Some-include_in.ensures.numbers n (c.in-Some.ensures.line n c.each.invariant.left)) in
     search rules
+
+-- how far the reading got
+
+pub returns-in_default-clause-reached : goal.returns-in_default-clause-reached
+returns-in_default-clause-reached g t c = λ m e.
+    unnumbered m c.args.room c.args.missing c.args.name.now (record { work = c.args.work.now; names = c.args.names.now.items }) c.name_file.new.names.items c.in_default.ensures.kept
+
+pub returns-in_err-tokens-clause-reached : goal.returns-in_err-tokens-clause-reached
+returns-in_err-tokens-clause-reached g t c = λ m e.
+    let p = err_from_is_err_and c.from_residual.result c.from_residual.ensures.1 in
+    let longer : length c.name_file.new.names.items ≡ length c.args.names.now.items + 1 = one_longer c.name_file.new.names.items c.args.names.now.items c.args.name.now c.in-Ok.ensures.names in
+    let number = c.in-Ok.ensures.number in
+    let numbered : suc c.in-Ok.file ≡ length c.name_file.new.names.items = omega arith in
+    rw (p.1, p.2) (unread m c.args.room c.args.missing c.args.name.now (record { work = c.args.work.now; names = c.args.names.now.items }) c.in-Ok.file c.name_file.new.names.items numbered c.in-Ok.ensures.names c.in_err-tokens.field-0.0 c.in_err-tokens.ensures.failed)
+
+pub returns-in_err-expand_file-in-Some-include_in-clause-reached : goal.returns-in_err-expand_file-in-Some-include_in-clause-reached
+returns-in_err-expand_file-in-Some-include_in-clause-reached g t c = λ m e.
+    let p = err_from_is_err_and c.from_residual-in_err-expand_file-in-Some-include_in.result c.from_residual-in_err-expand_file-in-Some-include_in.ensures.1 in
+    let i : Inclusion = record { hash = c.in-Some-include_in.found.hash.now; name = c.in-Some-include_in.found.name.now } in
+    let here : include_in c.in-Some.line.now c.each.conds ≡ Some i = sym c.include_in.ensures.told ∙ ap included c.in-Some-include_in.is in
+    let now : Progress = record { work = c.each.work; names = c.each.names.items } in
+    let few : length c.each.names.items < 10000 = subst (λ (ns : List (List ℕ)). length ns < 10000) c.deref.ensures.value c.in_ok-may_include-in-Some-include_in.ensures.few in
+    let same : include_at m c.args.room i now ≡ file_at m (include_at m (c.args.room - 1)) c.missing_at-lacking.result i.name now = deeper m c.args.room i now c.in_ok-may_include-in-Some-include_in.ensures.some few ∙ ap (λ (x : PrepErr). file_at m (include_at m (c.args.room - 1)) x i.name now) (sym c.missing_at-lacking.ensures.told) in
+    let told : g.F.Reads.held c.each.files ≡ Some m = c.each.invariant.held ∙ e in
+    let one = subst (λ (r : Result Progress Stop). Reaches {T = Unit {0}} so_far (Err c.in_err-expand_file-in-Some-include_in.field-0.0) c.expand_file.new.names.items r) (sym same) (c.in_err-expand_file-in-Some-include_in.ensures.reached m told) in
+    let first = inner_first (include_at m c.args.room) (includes_grow m c.args.room) c.in-Ok.file (lines_of c.each.rest.now) c.in-Some.line.now (lines_of c.in-Some.after.now) now c.each.conds _ c.in-Some.ensures.some (c.each.invariant.reads m e) i here in
+    rw (p.1, p.2) (inner_reached (include_at m c.args.room i now) _ c.in_err-expand_file-in-Some-include_in.field-0.0 c.expand_file.new.names.items first one)
+
+pub returns-in_err-step_line-in-None-clause-reached : goal.returns-in_err-step_line-in-None-clause-reached
+returns-in_err-step_line-in-None-clause-reached g t c = λ m e.
+    let p = err_from_is_err_and c.from_residual-in_err-step_line-in-None.result c.from_residual-in_err-step_line-in-None.ensures.1 in
+    let now : Progress = record { work = c.each.work; names = c.each.names.items } in
+    let first = now_first (include_at m c.args.room) (includes_grow m c.args.room) c.in-Ok.file (lines_of c.each.rest.now) now c.each.conds _ (c.each.invariant.reads m e) in
+    rw (p.1, p.2) (text_reached c.in_err-step_line-in-None.field-0.0 c.each.names.items _ c.in_err-step_line-in-None.ensures.text first)
+
+pub returns-clause-reached : goal.returns-clause-reached
+returns-clause-reached g t c = λ m e.
+    let now : Progress = record { work = c.each.work; names = c.each.names.items } in
+    let first = now_first (include_at m c.args.room) (includes_grow m c.args.room) c.in-Ok.file (lines_of c.each.rest.now) now c.each.conds _ (c.each.invariant.reads m e) in
+    close_reached c.close.result c.each.names.items _ c.close.ensures.text first

@@ -11,3 +11,4 @@ pub mod Builds
 pub mod Checks
 pub mod Either
 pub mod Refused
+pub mod Failing

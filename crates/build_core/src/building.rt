@@ -2,6 +2,7 @@
 ghost use Rattle.std.specs.Prelude.{◌≡◌, ◌≤◌, IfOk, IfErr, IfSome, length};
 ghost use Rattle.build_core.specs.Build.{Builds, IsCartText};
 ghost use Rattle.build_core.specs.Causes.{CanCome, HasCauses};
+ghost use Rattle.build_core.specs.Reached.{FailsAt, IsReadToBuild};
 
 use crate::assets::read_assets;
 use crate::error::BuildErr;
@@ -35,6 +36,8 @@ pub fn build<F: Files>(alloc: Global, files: &mut F, project: &[u8]) -> Result<B
     // Where it is told what is held, what was built is an image of the source's program, whose words do what it means, with the project's textures
     // and sounds; and a refusal is one that is due; unless a call of the files failed or memory ran out.
     ensures told { IfSome (F.held files.old) (λ m. Builds m project.now result) }
+    // Where a call failed, it was at a file that is read to build the project.
+    ensures reached { IfSome (F.held files.old) (λ m. FailsAt (IsReadToBuild m project.now) result) }
     // The cartridge is one that is read again.
     ensures cartridge { IfOk result (λ b. IsCartText b.cart) }
     ensures kinds { IfErr result (CanCome project.now) }

@@ -7,11 +7,13 @@ ghost use Rattle.c_parse.specs.Tok.{toks};
 ghost use Rattle.c_parse.specs.Units.{Derives};
 ghost use Rattle.c_front.specs.Causes.{IsWithin};
 ghost use Rattle.c_front.specs.Over.{over};
+ghost use Rattle.c_front.specs.Reached.{IsReadFor};
 ghost use Rattle.c_exprs.specs.Faults.{at};
 ghost use Rattle.c_check.specs.Whole.{WellTyped};
 ghost use Rattle.c_types.specs.Programs.{ProgramT};
 ghost use Rattle.build_core.specs.Causes.{HasReadCauses};
 ghost use Rattle.build_core.specs.Checked.{Accepts, CanBeRefused, Checks, ChecksSource, IsOfRules, IsProgramOf, MissesOnly, Tells, Types, broken, unread};
+ghost use Rattle.build_core.specs.Reached.{FailsAt, IsReadToCheck};
 
 use crate::error::BuildErr;
 use crate::reading::project_in;
@@ -73,6 +75,7 @@ fn check_source<F: Reads>(alloc: Global, files: &mut F, source: &Name) -> Result
     ensures told { IfSome (F.held files.old) (λ m. ChecksSource m source.now result) }
     ensures accepts { IfSome (F.held files.old) (λ m. (x : Expansion) (ds : List ItemT) (p : ProgramT)
         → expansion_of (over m) source.now ≡ Ok x → Derives (toks x.tokens) ds → WellTyped ds p → IsProgramOf p result) }
+    ensures reached { IfSome (F.held files.old) (λ m. FailsAt (IsReadFor (over m) source.now) result) }
     ensures kinds { IfErr result (MissesOnly source.now) }
     ensures causes { HasReadCauses result (F.faults files.old) (F.faults files.new)
         (F.misses files.old) (F.misses files.new) (F.overs files.old) (F.overs files.new) }
@@ -100,6 +103,8 @@ pub fn check_sources<F: Reads>(
     ensures told { IfSome (F.held files.old) (λ m. Checks m project.now result) }
     // and where there is one, it is that one.
     ensures accepts { IfSome (F.held files.old) (λ m. Accepts m project.now result) }
+    // Where a call failed, it was at a file that is read to check the project.
+    ensures reached { IfSome (F.held files.old) (λ m. FailsAt (IsReadToCheck m project.now) result) }
     ensures kinds { IfErr result (CanBeRefused project.now) }
     ensures causes { HasReadCauses result (F.faults files.old) (F.faults files.new)
         (F.misses files.old) (F.misses files.new) (F.overs files.old) (F.overs files.new) }

@@ -6,8 +6,11 @@ ghost use Rattle.c_image.specs.Imaging.{AreStarts};
 ghost use Rattle.build_core.specs.Causes.{HasReadCauses};
 ghost use Rattle.build_core.specs.Checked.{IsOfRules, MissesOnly};
 ghost use Rattle.build_core.specs.Inner.{IsRead, ReadsSource, TypesSource};
+ghost use Rattle.build_core.specs.Reached.{FailsAt};
 ghost use Rattle.build_core.specs.Starts.{starts_of};
 ghost use Rattle.c_front.specs.Causes.{IsWithin};
+ghost use Rattle.c_front.specs.Over.{over};
+ghost use Rattle.c_front.specs.Reached.{IsReadFor};
 
 use crate::checking::{typed, unread};
 use crate::error::BuildErr;
@@ -78,6 +81,7 @@ pub fn read_source<F: Reads>(alloc: Global, files: &mut F, name: &Name) -> Resul
     requires { IsUtf8 name.now }
     ensures held { F.held files.new ≡ F.held files.old }
     ensures told { IfSome (F.held files.old) (λ m. ReadsSource m name.now result) }
+    ensures reached { IfSome (F.held files.old) (λ m. FailsAt (IsReadFor (over m) name.now) result) }
     ensures starts { IfOk result (λ s. AreStarts (program s.program) s.places s.starts.items) }
     ensures kinds { IfErr result (MissesOnly name.now) }
     ensures causes { HasReadCauses result (F.faults files.old) (F.faults files.new)

@@ -1,3 +1,4 @@
 pub mod Laying
 pub mod Faulting
 pub mod Answering
+pub mod Failing

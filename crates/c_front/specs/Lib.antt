@@ -5,3 +5,4 @@ pub mod Due
 pub mod Answer
 pub mod Causes
 pub mod Inner
+pub mod Reached

@@ -5,6 +5,7 @@ ghost use Rattle.std.specs.Str.{is_utf8};
 ghost use Rattle.kit_base.specs.Held.{Held};
 ghost use Rattle.c_prep.specs.Files.{Answers, expansion_of};
 ghost use Rattle.c_prep.specs.Numbers.{HaveLines, Numbered};
+ghost use Rattle.c_prep.specs.Reached.{Reaches, names_of};
 ghost use Rattle.c_prep.specs.Causes.{Caused, HasFailed, IsOver, Lacks};
 ghost use Rattle.c_front.specs.Over.{held_set, over};
 
@@ -81,6 +82,7 @@ fn expand_lent<'a, F: Reads, L: Loan>(
     ensures same { result.files.ghost_name ≡ files.entry.ghost_name }
     ensures held { F.held result.files.now ≡ F.held files.old }
     ensures told { IfSome (F.held files.old) (λ m. Answers answer.new names.new.items (expansion_of (over m) source.now)) }
+    ensures reached { IfSome (F.held files.old) (λ m. Reaches names_of answer.new names.new.items (expansion_of (over m) source.now)) }
     ensures numbers { Numbered (length names.new.items) answer.new }
     ensures texts { list_all is_utf8 names.new.items ≡ true }
     ensures lines { IfOk answer.new (λ v. HaveLines v.items) }
@@ -110,6 +112,7 @@ pub fn expand_over<F: Reads>(
     requires empty { length names.old.items ≡ 0 }
     ensures held { F.held files.new ≡ F.held files.old }
     ensures told { IfSome (F.held files.old) (λ m. Answers result names.new.items (expansion_of (over m) source.now)) }
+    ensures reached { IfSome (F.held files.old) (λ m. Reaches names_of result names.new.items (expansion_of (over m) source.now)) }
     ensures numbers { Numbered (length names.new.items) result }
     ensures texts { list_all is_utf8 names.new.items ≡ true }
     ensures lines { IfOk result (λ v. HaveLines v.items) }

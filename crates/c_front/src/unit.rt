@@ -15,6 +15,7 @@ ghost use Rattle.c_front.specs.Due.{Answers, told_as};
 ghost use Rattle.c_front.specs.Answer.{IsTooDeep, IsUnitOf};
 ghost use Rattle.c_front.specs.Causes.{HasFailed, IsOver, IsWithin, Lacks, MissesOnly};
 ghost use Rattle.c_front.specs.Inner.{Tells};
+ghost use Rattle.c_front.specs.Reached.{FailsAtOne};
 
 use crate::error::FrontErr;
 use crate::headers_over::expand_over;
@@ -74,6 +75,8 @@ pub fn read_unit<F: Reads>(alloc: Global, files: &mut F, source: &str) -> Result
     // and where they are a deeper one, it is code 31.
     ensures deeper { IfSome (F.held files.old) (λ m. (x : Expansion) (ds : List ItemT)
         → expansion_of (over m) source.now ≡ Ok x → Unit_ (toks x.tokens) ds → 200 < unit_depth ds → IsTooDeep result) }
+    // Where a call failed, it was at the source or at a file that it includes.
+    ensures reached { IfSome (F.held files.old) (λ m. FailsAtOne (over m) source.now result) }
     // Whatever is told, the unit is derived from the tokens, each of a file that has its name, which is a
     // text, and of a line from 1,
     ensures parsed { IfOk result (λ p. Derives (toks p.places.tokens) (unit p.unit)) }

@@ -1,5 +1,6 @@
 use Rattle.std.proofs.Common.{rules}
 use Rattle.c_front.proofs.Answering.{derived_told, deeper_told, unit_told, refusal_told}
+use Rattle.c_front.proofs.Failing.{reading_fails, tokens_fail}
 use Rattle.c_front.proofs.unit.read_unit.Goals as goal
 
 pub returns-in-Ok-expand_over-clause-told : goal.returns-in-Ok-expand_over-clause-told
@@ -19,3 +20,10 @@ returns-in-Ok-expand_over-clause-deeper g c = deeper_told (g.F.Reads.held c.args
 pub returns-in-Err-clause-told : goal.returns-in-Err-clause-told
 returns-in-Err-clause-told g c = refusal_told (g.F.Reads.held c.args.files.now) c.args.source.now c.in-Ok.named c.expand_over.new.names.items c.in-Err.fault c.told_as.result
     c.in-Ok.ensures (search rules) c.in-Err.ensures.told
+
+pub returns-in-Ok-expand_over-clause-reached : goal.returns-in-Ok-expand_over-clause-reached
+returns-in-Ok-expand_over-clause-reached g c = tokens_fail (g.F.Reads.held c.args.files.now) c.args.source.now c.parse_at.result c.parse_at.ensures.kinds
+
+pub returns-in-Err-clause-reached : goal.returns-in-Err-clause-reached
+returns-in-Err-clause-reached g c = reading_fails (g.F.Reads.held c.args.files.now) c.args.source.now c.in-Ok.named c.expand_over.new.names.items c.in-Err.fault c.told_as.result
+    c.in-Ok.ensures (search rules) c.in-Err.ensures.reached

@@ -7,3 +7,4 @@ pub mod PadsReading
 pub mod PadsViews
 pub mod PadsFile
 pub mod PadsAnswer
+pub mod AnswersFile

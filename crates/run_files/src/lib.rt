@@ -15,6 +15,7 @@ mod screens;
 pub use answers::{AnswerErr, read_answers};
 pub use card::{CardErr, read_card};
 pub use laws::{
+    answers_are_what_the_lines_write, answers_say_what_the_grammar_gives,
     events_say_what_the_grammar_gives, headers_say_what_the_grammar_gives,
     pads_are_what_the_lines_tell,
 };

@@ -120,7 +120,7 @@ frames_together sounds past (suc n) h =
     (λ c k. channel_twice before c ((n + 1) * 735) 735 (loops_within sounds past h) k) (channels_after sounds past) (positions_within sounds past h))
 
 -- sums of both sides
-kept_sound : (sounds : List SoundState) (c : Channel) (j : ℕ) → (channel_after sounds j c).sound ≡ c.sound
+pub kept_sound : (sounds : List SoundState) (c : Channel) (j : ℕ) → (channel_after sounds j c).sound ≡ c.sound
 kept_sound sounds c j = rw (as_in sounds j c) (same_sound c (is_playing c.state) (position_in (assigned sounds c.sound) c j))
 
 left_twice : (sounds : List SoundState) (j k : ℕ) (c : Channel) → All HasLoop sounds → HasPosition sounds c →

@@ -8,3 +8,6 @@ pub mod Within
 pub mod Frames
 pub mod Selected
 pub mod Others
+pub mod Later
+pub mod Sounding
+pub mod Silence

@@ -1,10 +1,9 @@
 -- What other devices are told or asked is nothing to sound.
 use Rattle.std.proofs.Common.{◌≡◌, ℕ, zero, suc, arith, refl, sym, ap, subst, ◌∙◌, Bool, true, false, List, [], ◌∷◌, length}
-use Rattle.std.specs.Prelude.{map, ◌==◌, ◌&&◌, nat_lt, nat_le, if◌then◌else◌}
+use Rattle.std.specs.Prelude.{◌==◌, ◌&&◌, nat_lt, nat_le, if◌then◌else◌}
 use Rattle.port_history.specs.Past.{Happening, Began, Asked, Told, Mixed, last_accepted, is_sound_port, sound_past}
 use Rattle.spu_mix.specs.Sounds.{SoundState, sound_told}
 use Rattle.spu_mix.specs.Channels.{changed_at, channels_told, channel_told, is_for_all}
-use Rattle.spu_mix.specs.Mixing.{channel_after}
 use Rattle.spu_mix.specs.Settings.{selected_sound, selected_channel, sounds_after, channels_after, last_sample}
 use Rattle.spu_mix.specs.Stands.{SoundUnit, SoundStands}
 use Rattle.spu_mix.specs.declared.channel.Channel.{Channel}

@@ -15,13 +15,13 @@ use Rattle.spu_mix.specs.declared.channel.ChannelState.TheVariants.{Stopped, Pau
 use Rattle.spu_mix.proofs.Positions.{position_small}
 
 -- one element changed keeps what holds of all, where the change keeps it
-all_changed : {X : Type 0} (P : X → Type 0) (f : X → X) → ((x : X) → P x → P (f x)) → (i : ℕ) (xs : List X) → All P xs → All P (changed_at i f xs)
+pub all_changed : {X : Type 0} (P : X → Type 0) (f : X → X) → ((x : X) → P x → P (f x)) → (i : ℕ) (xs : List X) → All P xs → All P (changed_at i f xs)
 unfolding changed_at
 all_changed P f keeps i [] h = All-nil P
 all_changed P f keeps zero (x ∷ xs) h = All-cons P (f x) xs (keeps x (All-head P x xs h)) (All-tail P x xs h)
 all_changed P f keeps (suc i) (x ∷ xs) h = All-cons P x (changed_at i f xs) (All-head P x xs h) (all_changed P f keeps i xs (All-tail P x xs h))
 
-all_mapped : {X : Type 0} (P : X → Type 0) (f : X → X) → ((x : X) → P x → P (f x)) → (xs : List X) → All P xs → All P (map f xs)
+pub all_mapped : {X : Type 0} (P : X → Type 0) (f : X → X) → ((x : X) → P x → P (f x)) → (xs : List X) → All P xs → All P (map f xs)
 all_mapped P f keeps xs h = All-map P f xs (All-weaker P (λ x. P (f x)) keeps xs h)
 
 -- a choice keeps what both of its parts keep

@@ -6,3 +6,4 @@ pub mod Mixing
 pub mod Settings
 pub mod Answers
 pub mod Stands
+pub mod Later

@@ -8,6 +8,7 @@ ghost use Rattle.spu_mix.specs.Channels.{HasPosition};
 ghost use Rattle.spu_mix.specs.Mixing.{channel_position, channel_after, sample_of};
 ghost use Rattle.spu_mix.specs.Settings.{selected_sound, selected_channel, sounds_after, channels_after, frames_mixed, sample_at};
 ghost use Rattle.spu_mix.specs.Stands.{SoundUnit, SoundStands};
+ghost use Rattle.spu_mix.specs.Later.{SoundInClosedForm, PlayingHasSound, SamplesGoOn};
 ghost use Rattle.spu_mix.specs.declared.channel.Channel.{Channel as AChannel};
 
 /// The position after no sample is the position, and one sample more is one step.
@@ -46,6 +47,14 @@ pub fn frames_add_up()
         channels_after sounds (Mixed ∷ frames_mixed n past) ≡ map (channel_after (sounds_after sounds past) ((n + 1) * 735)) (channels_after sounds past) }
     ensures samples { (sounds : List (List ℕ)) (past : List Happening) (n k : ℕ) → All (λ s. 0 < length s) sounds →
         sample_at sounds (frames_mixed n past) k ≡ sample_of (sounds_after sounds past) (channels_after sounds past) (n * 735 + k) }
+{}
+
+/// While no word concerns a channel or the loop of its sound, the channel and the sample that it adds are told by its position before, its sound, and the
+/// number of samples since. A channel that plays has a sound. While sound is told nothing, the samples of frames are the sums over the channels before.
+pub fn sound_has_a_closed_form()
+    ensures later { SoundInClosedForm }
+    ensures sounding { PlayingHasSound }
+    ensures samples { SamplesGoOn }
 {}
 
 /// The sound that is selected is there, where there are sounds, and so is the channel.

@@ -20,6 +20,6 @@ mod spu;
 pub use laws::{
     frames_add_up, loops_and_positions_lie_in_sounds, others_are_nothing_to_sound,
     positions_go_step_by_step, samples_follow_each_other, sides_are_signed_and_clamped,
-    what_is_selected_exists,
+    sound_has_a_closed_form, what_is_selected_exists,
 };
 pub use spu::Spu;

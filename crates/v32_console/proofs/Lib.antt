@@ -6,3 +6,5 @@ pub mod Frames
 pub mod Lists
 pub mod Showing
 pub mod Opening
+pub mod Histories
+pub mod Alike

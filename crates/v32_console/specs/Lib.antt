@@ -5,3 +5,5 @@ pub mod Frames
 pub mod Machine
 pub mod Stands
 pub mod Bus
+pub mod History
+pub mod Alike

@@ -13,4 +13,4 @@ mod running;
 
 pub use console::Console;
 pub use frame_end::FrameEnd;
-pub use laws::operations_are_the_machines;
+pub use laws::{cartridges_run_alike, histories_are_of_the_run, operations_are_the_machines};

@@ -1,14 +1,18 @@
 // Calls of functions with a body, and of those that every unit has.
-ghost use Rattle.std.specs.Prelude.{◌≡◌, ◌∷◌, [], Ok, map, option_map, IfSome, IfNone};
+ghost use Rattle.std.specs.Prelude.{◌≡◌, ◌∷◌, [], Ok, Err, map, option_map, IfSome, IfNone};
 ghost use Rattle.c_tree.specs.View.{expr, exprs};
-ghost use Rattle.c_types.specs.Types.{PointerY, IntY};
+ghost use Rattle.c_types.specs.Types.{IntY, PointerY, VoidY};
+ghost use Rattle.c_types.specs.Typed.{OutK};
 ghost use Rattle.c_types.specs.View.{ctype, texpr, texprs};
 ghost use Rattle.c_exprs.specs.Faults.{placed};
-ghost use Rattle.c_exprs.specs.Calls.{IntrinsicC, takes_port, names_port, all_convert, with_body, function_call, first_port, read_port, written_port, port_in_call, port_out_call, plain_call, intrinsic_call, call_node};
+ghost use Rattle.c_rules.specs.declared.code.Code.TheVariants.{WrongType, BadCall};
+ghost use Rattle.c_rules.specs.Kinds.{is_number};
+ghost use Rattle.c_exprs.specs.Nodes.{type_of_typed};
+ghost use Rattle.c_exprs.specs.Calls.{IntrinsicC, ensured, takes_port, names_port, all_convert, with_body, function_call, first_port, read_port, written_port, port_in_call, port_out_call, plain_call, intrinsic_call, call_node};
 ghost use Rattle.c_exprs.specs.View.{called, ctx, tkind};
 ghost use Rattle.c_exprs.specs.Gives.{Gives};
 
-use crate::error::{CheckErr, demanded};
+use crate::error::{CheckErr, keeping};
 use crate::intrinsics::{Intrinsic, intrinsic_of};
 use crate::names::{Decl, Globals, Scope, find_local};
 use crate::ports::named_port;
@@ -125,14 +129,13 @@ fn read_port(args: &[Expr], span: Span) -> Result<(TKind, CType), CheckErr>
     Ok((TKind::In(port.number), CType::Int))
 }
 
-fn write_port(
-    alloc: Global,
-    args: &[Expr],
-    x: TExpr,
-    span: Span,
-) -> Result<(TKind, CType), CheckErr>
-    ensures { Gives called result (placed span (written_port (texpr x) (first_port (exprs (map expr args.now))))) }
+/// The number of the port that the word `x` goes to.
+fn written_port(args: &[Expr], x: &TExpr, span: Span) -> Result<u32, CheckErr>
+    ensures { Gives (λ n. (OutK n (texpr x.now), VoidY)) result (placed span (ensured WrongType (is_number (type_of_typed (texpr x.now))) (written_port (texpr x.now) (first_port (exprs (map expr args.now)))))) }
 {
+    if !is_number(&x.ty) {
+        return Err(refused(span, Code::WrongType));
+    }
     let Some((first, _)) = next(args) else {
         return Err(refused(span, Code::BadCall));
     };
@@ -142,7 +145,20 @@ fn write_port(
     if !port.writable {
         return Err(refused(span, Code::BadPort));
     }
-    Ok((TKind::Out(port.number, Box::new(alloc, x)?), CType::Void))
+    Ok(port.number)
+}
+
+fn write_port(
+    alloc: Global,
+    args: &[Expr],
+    x: TExpr,
+    span: Span,
+) -> Result<(TKind, CType), CheckErr>
+    ensures { Gives called result (placed span (ensured WrongType (is_number (type_of_typed (texpr x))) (written_port (texpr x) (first_port (exprs (map expr args.now)))))) }
+{
+    let number = written_port(args, &x, span);
+    let (x, number) = keeping(x, number)?;
+    Ok((TKind::Out(number, Box::new(alloc, x)?), CType::Void))
 }
 
 fn port_in_call(args: &[Expr], xs: &[TExpr], span: Span) -> Result<(TKind, CType), CheckErr>
@@ -152,6 +168,16 @@ fn port_in_call(args: &[Expr], xs: &[TExpr], span: Span) -> Result<(TKind, CType
         Some(_) => Err(refused(span, Code::BadCall)),
         None => read_port(args, span),
     }
+}
+
+/// More words than one are refused.
+fn more_words(first: &TExpr, span: Span) -> Result<(TKind, CType), CheckErr>
+    ensures { Gives called result (placed span (ensured WrongType (is_number (type_of_typed (texpr first.now))) (Err BadCall))) }
+{
+    if !is_number(&first.ty) {
+        return Err(refused(span, Code::WrongType));
+    }
+    Err(refused(span, Code::BadCall))
 }
 
 #[tactic(auto, using(crate::proofs::Arguments::out_more))]
@@ -167,18 +193,8 @@ fn port_out_call(
         return Err(refused(span, Code::BadCall));
     };
     match next(&xs) {
-        Some((first, _)) => {
-            if !is_number(&first.ty) {
-                return Err(refused(span, Code::WrongType));
-            }
-            Err(refused(span, Code::BadCall))
-        }
-        None => {
-            if !is_number(&last.ty) {
-                return Err(refused(span, Code::WrongType));
-            }
-            write_port(alloc, args, last, span)
-        }
+        Some((first, _)) => more_words(first, span),
+        None => write_port(alloc, args, last, span),
     }
 }
 

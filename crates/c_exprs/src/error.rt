@@ -1,5 +1,5 @@
 // Why a unit has no typed program.
-ghost use Rattle.std.specs.Prelude.{◌≡◌, Ok, Err};
+ghost use Rattle.std.specs.Prelude.{◌≡◌, Ok, Err, IfOk, IfErr};
 ghost use Rattle.c_exprs.specs.declared.error.CheckErr.TheVariants as errors;
 ghost use Rattle.c_exprs.specs.Faults.{known, demanded, placed};
 ghost use Rattle.c_exprs.specs.Gives.{Gives, taken};
@@ -84,5 +84,17 @@ pub fn demanded(span: Span, code: Code, holds: bool) -> Result<(), CheckErr>
         Ok(())
     } else {
         Err(CheckErr::At { code, span })
+    }
+}
+
+/// A value and what an answer gives, or the answer's refusal. A function that is refused while it owns a tree ends it in this one place, which
+/// spares a proof of that at each of its exits.
+pub fn keeping<T: Drop, A, E>(kept: T, answer: Result<A, E>) -> Result<(T, A), E>
+    ensures ok { IfOk result (λ r. (r.0 ≡ kept) × (answer ≡ Ok r.1)) }
+    ensures err { IfErr result (λ e. answer ≡ Err e) }
+{
+    match answer {
+        Ok(given) => Ok((kept, given)),
+        Err(error) => Err(error),
     }
 }

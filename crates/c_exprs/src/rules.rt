@@ -143,10 +143,10 @@ pub(crate) fn cast_at(
 }
 
 #[tactic(auto, unfolding(crate::specs::Faults::at_node))]
-pub(crate) fn size_at(globals: &Globals, span: Span, ty: &CType) -> Result<u32, CheckErr>
-    ensures { Gives (λ x. x) result (at_node span (size_rule (map layout globals.now.layouts.items) globals.now.whole.items (ctype ty.now))) }
+pub(crate) fn size_at(globals: &Globals, span: Span, ty: CType) -> Result<u32, CheckErr>
+    ensures { Gives (λ x. x) result (at_node span (size_rule (map layout globals.now.layouts.items) globals.now.whole.items (ctype ty))) }
 {
-    placed(span, type_size(&globals.layouts, &globals.whole, ty))
+    placed(span, type_size(&globals.layouts, &globals.whole, &ty))
 }
 
 #[tactic(auto, using(crate::proofs::Placing::given_at))]
@@ -154,11 +154,11 @@ pub(crate) fn array_at(
     alloc: Global,
     globals: &Globals,
     span: Span,
-    of: &CType,
+    of: CType,
     count: u32,
 ) -> Result<CType, CheckErr>
-    ensures { Gives ctype result (at_node span (array_rule (map layout globals.now.layouts.items) globals.now.whole.items (ctype of.now) count)) }
+    ensures { Gives ctype result (at_node span (array_rule (map layout globals.now.layouts.items) globals.now.whole.items (ctype of) count)) }
 {
-    let answer = array_type(alloc, &globals.layouts, &globals.whole, of, count);
+    let answer = array_type(alloc, &globals.layouts, &globals.whole, &of, count);
     at_node(span, answer)
 }

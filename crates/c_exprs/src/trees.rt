@@ -1,7 +1,8 @@
 // The trees of names and members, and types by name.
 ghost use Rattle.std.specs.Prelude.{◌≡◌, map, option_map, slice_get, IfOk};
 ghost use Rattle.c_types.specs.Types.{ArrayY, IntY};
-ghost use Rattle.c_types.specs.View.{ctype, layout, texpr};
+ghost use Rattle.c_types.specs.Typed.{Typed, MemberK, ArrowK};
+ghost use Rattle.c_types.specs.View.{ctype, layout, named, texpr};
 ghost use Rattle.c_rules.specs.Kinds.{decayed, pointed};
 ghost use Rattle.c_exprs.specs.declared.error.CheckErr.TheVariants as errors;
 ghost use Rattle.c_exprs.specs.Faults.{placed};
@@ -9,13 +10,13 @@ ghost use Rattle.c_exprs.specs.Nodes.{name_tree, named_type, layout_of, layout_b
 ghost use Rattle.c_exprs.specs.View.{ctx};
 ghost use Rattle.c_exprs.specs.Gives.{Gives};
 
-use crate::error::CheckErr;
+use crate::error::{CheckErr, keeping};
 use crate::intrinsics::is_intrinsic;
 use crate::names::{Decl, Globals, Scope, find_local};
 use crate::nodes::is_place;
 use c_rules::{Code, copy_type, is_array};
 use c_tree::Span;
-use c_types::{CType, Layout, TExpr, TKind};
+use c_types::{CType, Layout, Member, TExpr, TKind};
 use kit_base::Name;
 use std::alloc::Global;
 
@@ -120,6 +121,37 @@ fn layout_behind<'a>(layouts: &'a [Layout], ty: &CType) -> Option<&'a Layout>
     }
 }
 
+/// The member of that name.
+fn member_in<'a>(found: Option<&'a Layout>, name: &Name, span: Span) -> Result<&'a Member, CheckErr>
+    ensures { Gives (λ m. named name.now m.now) result (placed span (member_in name.now (option_map (λ l. layout l.now) found.entry))) }
+{
+    let Some(one) = found else {
+        return Err(refused(span, Code::WrongType));
+    };
+    match one.member(name.bytes()) {
+        Some(member) => Ok(member),
+        None => Err(refused(span, Code::UnknownName)),
+    }
+}
+
+/// The offset and the type of `x.name`, whose tree is made of them.
+fn member_of(
+    alloc: Global,
+    layouts: &[Layout],
+    x: &TExpr,
+    name: &Name,
+    span: Span,
+) -> Result<(u32, CType), CheckErr>
+    ensures { Gives (λ r. Typed (MemberK (texpr x.now) r.0) (ctype r.1) span) result (placed span (member_at span (texpr x.now) (member_in name.now (layout_of (map layout layouts.now) (type_of_typed (texpr x.now)))))) }
+{
+    let member = member_in(layout_of(layouts, &x.ty), name, span)?;
+    if !is_place(x) && is_array(&member.ty) {
+        return Err(refused(span, Code::NotAPlace));
+    }
+    let ty = copy_type(alloc, &member.ty)?;
+    Ok((member.offset, ty))
+}
+
 /// The tree of `x.name`.
 pub(crate) fn member_tree(
     alloc: Global,
@@ -130,18 +162,25 @@ pub(crate) fn member_tree(
 ) -> Result<TExpr, CheckErr>
     ensures { Gives texpr result (placed span (member_at span (texpr x) (member_in name.now (layout_of (map layout layouts.now) (type_of_typed (texpr x)))))) }
 {
-    let Some(layout) = layout_of(layouts, &x.ty) else {
-        return Err(refused(span, Code::WrongType));
-    };
-    let Some(member) = layout.member(name.bytes()) else {
-        return Err(refused(span, Code::UnknownName));
-    };
-    if !is_place(&x) && is_array(&member.ty) {
-        return Err(refused(span, Code::NotAPlace));
-    }
+    let found = member_of(alloc, layouts, &x, name, span);
+    let (x, (offset, ty)) = keeping(x, found)?;
+    let (ty, x) = keeping(ty, Box::new(alloc, x))?;
+    Ok(node(TKind::Member(x, offset), ty, span))
+}
+
+/// The offset and the type of `x->name`, whose tree is made of them.
+fn arrow_of(
+    alloc: Global,
+    layouts: &[Layout],
+    x: &TExpr,
+    name: &Name,
+    span: Span,
+) -> Result<(u32, CType), CheckErr>
+    ensures { Gives (λ r. Typed (ArrowK (texpr x.now) r.0) (ctype r.1) span) result (placed span (arrow_at span (texpr x.now) (member_in name.now (layout_behind (map layout layouts.now) (pointed (decayed (type_of_typed (texpr x.now)))))))) }
+{
+    let member = member_in(layout_behind(layouts, &x.ty), name, span)?;
     let ty = copy_type(alloc, &member.ty)?;
-    let kind = TKind::Member(Box::new(alloc, x)?, member.offset);
-    Ok(node(kind, ty, span))
+    Ok((member.offset, ty))
 }
 
 /// The tree of `x->name`.
@@ -154,13 +193,8 @@ pub(crate) fn arrow_tree(
 ) -> Result<TExpr, CheckErr>
     ensures { Gives texpr result (placed span (arrow_at span (texpr x) (member_in name.now (layout_behind (map layout layouts.now) (pointed (decayed (type_of_typed (texpr x)))))))) }
 {
-    let Some(layout) = layout_behind(layouts, &x.ty) else {
-        return Err(refused(span, Code::WrongType));
-    };
-    let Some(member) = layout.member(name.bytes()) else {
-        return Err(refused(span, Code::UnknownName));
-    };
-    let ty = copy_type(alloc, &member.ty)?;
-    let kind = TKind::Arrow(Box::new(alloc, x)?, member.offset);
-    Ok(node(kind, ty, span))
+    let found = arrow_of(alloc, layouts, &x, name, span);
+    let (x, (offset, ty)) = keeping(x, found)?;
+    let (ty, x) = keeping(ty, Box::new(alloc, x))?;
+    Ok(node(TKind::Arrow(x, offset), ty, span))
 }

@@ -7,10 +7,11 @@ ghost use Rattle.c_types.specs.Typed.{TExprT};
 ghost use Rattle.c_types.specs.View.{ctype, texpr, texprs};
 ghost use Rattle.c_rules.specs.Nodes.{needs_place};
 ghost use Rattle.c_rules.specs.declared.code.Code.{Code};
+ghost use Rattle.c_rules.specs.declared.code.Code.TheVariants.{NotConstant};
 ghost use Rattle.c_exprs.specs.declared.error.CheckErr.TheVariants.{At};
 ghost use Rattle.c_exprs.specs.Env.{Text};
-ghost use Rattle.c_exprs.specs.Faults.{at};
-ghost use Rattle.c_exprs.specs.Nodes.{span_of};
+ghost use Rattle.c_exprs.specs.Faults.{at, known};
+ghost use Rattle.c_exprs.specs.Nodes.{span_of, constant};
 ghost use Rattle.c_exprs.specs.Typing.{as_value, text_tree, typed, all_valued, type_of};
 ghost use Rattle.c_exprs.specs.Types.{Types, Values, Names};
 ghost use Rattle.c_exprs.specs.Breaks.{Breaks, NoValue, NoName};
@@ -18,7 +19,7 @@ ghost use Rattle.c_exprs.specs.View.{ctx};
 ghost use Rattle.c_exprs.specs.Gives.{Gives, read};
 
 use crate::calls::{call_node, names_port};
-use crate::error::{CheckErr, known};
+use crate::error::{CheckErr, keeping, known};
 use crate::making::{
     assign_tree, binary_tree, cast_tree, compound_tree, index_tree, step_tree, unary_tree,
 };
@@ -39,6 +40,13 @@ fn text_tree(alloc: Global, texts: &mut Texts, text: &Name, span: Span) -> Resul
     let number = texts.add(alloc, text, span)?;
     let ty = array_of(alloc, &CType::Int, text.bytes().len() as u32 + 1)?;
     Ok(node(TKind::Literal(number), ty, span))
+}
+
+/// How many elements an array has whose count is of this tree.
+fn count_at(span: Span, x: TExpr) -> Result<u32, CheckErr>
+    ensures { Gives (λ k. k) result (known span NotConstant (constant (texpr x))) }
+{
+    known(span, Code::NotConstant, constant(&x))
 }
 
 /// Whether an operator's operand is kept as a place, and its value not asked for.
@@ -81,17 +89,20 @@ fn typed(
         }
         Expr::Binary(op, a, b, span) => {
             let x = valued(alloc, globals, scopes, texts, a)?;
-            let y = valued(alloc, globals, scopes, texts, b)?;
+            let y = valued(alloc, globals, scopes, texts, b);
+            let (x, y) = keeping(x, y)?;
             Ok(binary_tree(alloc, globals, *op, x, y, *span)?)
         }
         Expr::Assign(None, a, b, span) => {
             let x = typed(alloc, globals, scopes, texts, a)?;
-            let y = valued(alloc, globals, scopes, texts, b)?;
+            let y = valued(alloc, globals, scopes, texts, b);
+            let (x, y) = keeping(x, y)?;
             Ok(assign_tree(alloc, globals, x, y, *span)?)
         }
         Expr::Assign(Some(op), a, b, span) => {
             let x = typed(alloc, globals, scopes, texts, a)?;
-            let y = valued(alloc, globals, scopes, texts, b)?;
+            let y = valued(alloc, globals, scopes, texts, b);
+            let (x, y) = keeping(x, y)?;
             Ok(compound_tree(alloc, globals, *op, x, y, *span)?)
         }
         Expr::Step(op, a, span) => {
@@ -100,7 +111,8 @@ fn typed(
         }
         Expr::Index(a, b, span) => {
             let x = valued(alloc, globals, scopes, texts, a)?;
-            let y = valued(alloc, globals, scopes, texts, b)?;
+            let y = valued(alloc, globals, scopes, texts, b);
+            let (x, y) = keeping(x, y)?;
             Ok(index_tree(alloc, globals, x, y, *span)?)
         }
         Expr::Member(a, name, span) => {
@@ -119,12 +131,13 @@ fn typed(
         }
         Expr::Cast(to, a, span) => {
             let to = type_of(alloc, globals, scopes, texts, *span, to)?;
-            let x = valued(alloc, globals, scopes, texts, a)?;
-            Ok(cast_tree(alloc, &to, x, *span)?)
+            let x = valued(alloc, globals, scopes, texts, a);
+            let (to, x) = keeping(to, x)?;
+            Ok(cast_tree(alloc, to, x, *span)?)
         }
         Expr::SizeOf(of, span) => {
             let ty = type_of(alloc, globals, scopes, texts, *span, of)?;
-            let n = size_at(globals, *span, &ty)?;
+            let n = size_at(globals, *span, ty)?;
             Ok(node(TKind::Number(n), CType::Int, *span))
         }
     }
@@ -143,7 +156,8 @@ fn valued(
     ensures { Gives (λ r. (texpr r, texts.new)) result (as_value (ctx globals.now scopes.now) (span_of (expr e.now)) (typed (ctx globals.now scopes.now) texts.old (expr e.now))) }
 {
     let x = typed(alloc, globals, scopes, texts, e)?;
-    value_at(globals, span_of(e), &x.ty)?;
+    let checked = value_at(globals, span_of(e), &x.ty);
+    let (x, _) = keeping(x, checked)?;
     Ok(x)
 }
 
@@ -196,9 +210,9 @@ fn type_of(
         }
         TypeTree::Array(of, n) => {
             let x = valued(alloc, globals, scopes, texts, n)?;
-            let count = known(span_of(n), Code::NotConstant, constant(&x))?;
+            let count = count_at(span_of(n), x)?;
             let of = type_of(alloc, globals, scopes, texts, span, of)?;
-            Ok(array_at(alloc, globals, span_of(n), &of, count)?)
+            Ok(array_at(alloc, globals, span_of(n), of, count)?)
         }
     }
 }

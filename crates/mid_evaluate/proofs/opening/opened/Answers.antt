@@ -1,0 +1,10 @@
+use Rattle.std.proofs.Common.{◌≡◌, option_map}
+use Rattle.obj_mem.specs.View.{objects}
+use Rattle.mid_evaluate.proofs.Ends.{all_opened}
+use Rattle.mid_evaluate.proofs.opening.opened.Goals as goal
+
+pub returns : goal.returns
+returns c =
+    all_opened c.args.globals.now c.args.literals.now (option_map (λ w. w.now) c.args.card)
+    (objects c.new-os.result) (objects c.make_globals.new.os) (objects c.make_literals.new.os) (objects c.make_card.new.os)
+    c.new-os.ensures c.in_ok-make_globals.ensures c.in_ok-make_literals.ensures c.in_ok-make_card.ensures

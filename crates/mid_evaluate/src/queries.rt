@@ -1,0 +1,152 @@
+// What is asked of cells and objects.
+ghost use Rattle.std.specs.Prelude.{◌≡◌, Ok, Err, IfErr, OnOk, OnErr};
+ghost use Rattle.obj_mem.specs.View.{objects};
+ghost use Rattle.obj_mem.specs.Queries.{word_of, refused, accessed, read, write, step, equal_by_object, equal_pointers, offsets, apart, answer_if};
+
+use crate::arithmetic::wrap_sub;
+use kit_base::wrap_add;
+use obj_mem::{Access, Cell, Objects, Refusal};
+
+const CARD_WORDS: u32 = 262_144;
+
+#[inline(always)]
+pub(crate) fn word_of(c: Cell) -> Result<u32, Refusal>
+    ensures { result ≡ word_of c }
+{
+    match c {
+        Cell::Num(x) => Ok(x),
+        Cell::Unwritten | Cell::Ptr { .. } | Cell::Null => Err(Refusal::Strays),
+    }
+}
+
+/// Why an access is refused, where `fault` is that of a literal or a card.
+#[inline(always)]
+fn refused(fault: u32, offset: u32, access: Access) -> Refusal
+    ensures { result ≡ refused fault offset access }
+{
+    match access {
+        Access::Outside | Access::Dead => Refusal::Strays,
+        Access::ReadOnly => Refusal::Faults(fault),
+        Access::NoCard => {
+            if offset < CARD_WORDS {
+                Refusal::Faults(fault)
+            } else {
+                Refusal::Strays
+            }
+        }
+    }
+}
+
+/// The cell at a pointer.
+#[inline(always)]
+pub(crate) fn read(os: &Objects, p: Cell) -> Result<Cell, Refusal>
+    ensures { result ≡ read (objects os.now) p }
+{
+    match p {
+        Cell::Ptr { object, offset } => match os.read(object, offset) {
+            Ok(c) => Ok(c),
+            Err(access) => Err(refused(0, offset, access)),
+        },
+        Cell::Unwritten | Cell::Num(_) | Cell::Null => Err(Refusal::Strays),
+    }
+}
+
+/// Writes the cell at a pointer.
+#[inline(always)]
+pub(crate) fn write(os: &mut Objects, p: Cell, c: Cell) -> Result<(), Refusal>
+    ensures ok { OnOk result (write (objects os.old) p c ≡ Ok (objects os.new)) }
+    ensures err { IfErr result (λ why. write (objects os.old) p c ≡ Err why) }
+    ensures kept { OnErr result (objects os.new ≡ objects os.old) }
+{
+    match p {
+        Cell::Ptr { object, offset } => match os.write(object, offset, c) {
+            Ok(()) => Ok(()),
+            Err(access) => Err(refused(1, offset, access)),
+        },
+        Cell::Unwritten | Cell::Num(_) | Cell::Null => Err(Refusal::Strays),
+    }
+}
+
+/// A pointer so many words on.
+#[inline(always)]
+pub(crate) fn step(p: Cell, n: u32) -> Result<Cell, Refusal>
+    ensures { result ≡ step p n }
+{
+    match p {
+        Cell::Ptr { object, offset } => Ok(Cell::Ptr {
+            object,
+            offset: wrap_add(offset, n),
+        }),
+        Cell::Unwritten | Cell::Num(_) | Cell::Null => Err(Refusal::Strays),
+    }
+}
+
+fn if_so(holds: bool, answer: bool) -> Result<bool, Refusal>
+    ensures { result ≡ answer_if holds answer }
+{
+    if holds {
+        Ok(answer)
+    } else {
+        Err(Refusal::Strays)
+    }
+}
+
+/// Whether pointers, or NULL, are equal.
+pub(crate) fn equal_pointers(os: &Objects, p: Cell, q: Cell) -> Result<bool, Refusal>
+    ensures { result ≡ equal_pointers (objects os.now) p q }
+{
+    match p {
+        Cell::Ptr { object, offset } => match q {
+            Cell::Ptr {
+                object: other,
+                offset: at,
+            } => {
+                if object == other {
+                    return Ok(offset == at);
+                }
+                if_so(
+                    os.is_inside(object, offset) && os.is_inside(other, at),
+                    false,
+                )
+            }
+            Cell::Null => if_so(os.is_inside(object, offset), false),
+            Cell::Unwritten | Cell::Num(_) => Err(Refusal::Strays),
+        },
+        Cell::Null => match q {
+            Cell::Ptr { object, offset } => if_so(os.is_inside(object, offset), false),
+            Cell::Null => Ok(true),
+            Cell::Unwritten | Cell::Num(_) => Err(Refusal::Strays),
+        },
+        Cell::Unwritten | Cell::Num(_) => Err(Refusal::Strays),
+    }
+}
+
+/// The offsets of two pointers into one object.
+pub(crate) fn offsets(os: &Objects, p: Cell, q: Cell) -> Result<(u32, u32), Refusal>
+    ensures { result ≡ offsets (objects os.now) p q }
+{
+    match (p, q) {
+        (
+            Cell::Ptr { object, offset },
+            Cell::Ptr {
+                object: other,
+                offset: at,
+            },
+        ) => {
+            if object == other && os.is_within(object, offset) && os.is_within(other, at) {
+                Ok((offset, at))
+            } else {
+                Err(Refusal::Strays)
+            }
+        }
+        _ => Err(Refusal::Strays),
+    }
+}
+
+/// How many words the first stands behind the second.
+pub(crate) fn apart(os: &Objects, p: Cell, q: Cell) -> Result<u32, Refusal>
+    ensures { result ≡ apart (objects os.now) p q }
+{
+    let (i, j) = offsets(os, p, q)?;
+    Ok(wrap_sub(i, j))
+}

@@ -17,12 +17,12 @@ use Rattle.c_meaning.specs.Expressions as src
 use Rattle.c_meaning.specs.Expressions.{value_of, evaluated, evaluated_all}
 use Rattle.mid_code.specs.Code.{NodesT}
 use Rattle.mid_code.specs.Meaning.{Res}
-use Rattle.mid_lower.specs.Shape.{Shape, shape_in, words, params_of, result_of}
-use Rattle.mid_lower.specs.Flags.{is_flag}
-use Rattle.mid_lower.specs.Parts as part
-use Rattle.mid_lower.specs.Counts.{one_size, value_sizes, sizes_all}
-use Rattle.mid_lower.specs.Expressions as low
-use Rattle.mid_lower.specs.Expressions.{value, second, beyond, spots, low_args}
+use Rattle.lower_trees.specs.Shape.{Shape, shape_in, words, params_of, result_of}
+use Rattle.lower_trees.specs.Flags.{is_flag}
+use Rattle.lower_trees.specs.Parts as part
+use Rattle.lower_trees.specs.Counts.{one_size, value_sizes, sizes_all}
+use Rattle.lower_trees.specs.Expressions as low
+use Rattle.lower_trees.specs.Expressions.{value, second, beyond, spots, low_args}
 use Rattle.mid_lower.proofs.Grows.{Mid, Grows}
 use Rattle.mid_lower.proofs.Fits.{Site}
 use Rattle.mid_lower.proofs.Room.{Room, join_length, room_first, room_second}

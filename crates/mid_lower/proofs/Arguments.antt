@@ -12,7 +12,7 @@ use Rattle.c_meaning.specs.Kinds.{is_structure}
 use Rattle.c_meaning.specs.Outcomes.{Val, Vals, Values, Short, then_values, in_front}
 use Rattle.c_meaning.specs.Cells.{end_temporary}
 use Rattle.c_meaning.specs.Expressions.{all_released}
-use Rattle.mid_lower.specs.Expressions.{second, spots}
+use Rattle.lower_trees.specs.Expressions.{second, spots}
 use Rattle.mid_lower.proofs.Following.{Side, Goal, eqb_more}
 use Rattle.mid_lower.proofs.Taken.{TakenAll, taken_ended}
 

@@ -20,9 +20,9 @@ use Rattle.mid_code.specs.Code.{FreshO, LocalO, NodesT, Do, Call}
 use Rattle.mid_code.specs.Meaning as res
 use Rattle.mid_code.specs.Meaning.{Res, did, then_next, ask, call_weight}
 use Rattle.mid_code.specs.States.{temporaries, sizes_of, function_at, to, spent}
-use Rattle.mid_lower.specs.Shape.{Shape, shape_in, params_of, result_of}
-use Rattle.mid_lower.specs.Expressions as low
-use Rattle.mid_lower.specs.Expressions.{is_void, spots}
+use Rattle.lower_trees.specs.Shape.{Shape, shape_in, params_of, result_of}
+use Rattle.lower_trees.specs.Expressions as low
+use Rattle.lower_trees.specs.Expressions.{is_void, spots}
 use Rattle.mid_lower.proofs.Grows.{Mid, Grows}
 use Rattle.mid_lower.proofs.Fits.{Site}
 use Rattle.mid_lower.proofs.Giving.{GivesNone, GivesWord, GivesAt, Given, giving}

@@ -4,10 +4,10 @@ use Rattle.c_types.specs.Types.{Ty}
 use Rattle.c_types.specs.Typed.{TExprT, Typed, NumberK, NullK, LiteralK, GlobalK, LocalK, UnaryK, BinaryK, AssignK, StepK, IndexK, MemberK, ArrowK, CastK, CallK, InK, OutK, WaitK, HaltK, CardK, TExprTs, NoX, MoreX}
 use Rattle.c_exprs.specs.Nodes.{is_place}
 use Rattle.c_meaning.specs.Frames.{over, over_all}
-use Rattle.mid_lower.specs.Shape.{Shape, params_of, result_of}
-use Rattle.mid_lower.specs.Flags.{is_flag}
-use Rattle.mid_lower.specs.Parts.{Nodes}
-use Rattle.mid_lower.specs.Expressions.{second, beyond, spots, later_types, low, low_args, low_value, low_test}
+use Rattle.lower_trees.specs.Shape.{Shape, params_of, result_of}
+use Rattle.lower_trees.specs.Flags.{is_flag}
+use Rattle.lower_trees.specs.Parts.{Nodes}
+use Rattle.lower_trees.specs.Expressions.{second, beyond, spots, later_types, low, low_args, low_value, low_test}
 use Rattle.mid_lower.specs.SourceLoops.{is_call_of}
 use Rattle.mid_lower.proofs.Tallies.{tally, of_calls, converted_tally}
 use Rattle.mid_lower.proofs.QuietForms.{Quiet, value_quiet, test_quiet, unary_quiet, binary_quiet, assign_quiet, step_quiet, index_quiet, member_tally, called_tally, given_tally}

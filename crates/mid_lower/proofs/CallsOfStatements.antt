@@ -7,14 +7,14 @@ use Rattle.c_meaning.specs.Parts.{part_type}
 use Rattle.c_meaning.specs.Frames.{over_maybe, over_init, over_inits, over_vars, over_statement, over_other, over_statements, over_arms}
 use Rattle.mid_code.specs.Code.{ConstO, Stop, Do, Choose, Block, Loop, Again}
 use Rattle.mid_code.specs.Calls.{CallsTo}
-use Rattle.mid_lower.specs.Shape.{Shape, words}
-use Rattle.mid_lower.specs.Flags.{is_flag}
-use Rattle.mid_lower.specs.Parts.{Nodes, one, item, made, first_param}
-use Rattle.mid_lower.specs.Counts.{init_temps, init_sizes, behind_address, maybe_temps, maybe_sizes, stmt_temps, stmt_sizes, other_temps, other_sizes}
-use Rattle.mid_lower.specs.Expressions.{second, beyond, low_test}
-use Rattle.mid_lower.specs.Initialisers.{low_init, low_inits, address_of, low_vars}
-use Rattle.mid_lower.specs.Statements.{Jump, ToEnd, ToTurn, further, low_chosen, low_dropped, turns, labels_before_default, low_match, low_stmt, low_other, low_stmts, low_arms, low_group}
-use Rattle.mid_lower.specs.Lowered.{all_received, first_of, low_body, low_function}
+use Rattle.lower_trees.specs.Shape.{Shape, words}
+use Rattle.lower_trees.specs.Flags.{is_flag}
+use Rattle.lower_trees.specs.Parts.{Nodes, one, item, made, first_param}
+use Rattle.lower_trees.specs.Counts.{init_temps, init_sizes, behind_address, maybe_temps, maybe_sizes, stmt_temps, stmt_sizes, other_temps, other_sizes}
+use Rattle.lower_trees.specs.Expressions.{second, beyond, low_test}
+use Rattle.lower_trees.specs.Initialisers.{low_init, low_inits, address_of, low_vars}
+use Rattle.lower_trees.specs.Statements.{Jump, ToEnd, ToTurn, further, low_chosen, low_dropped, turns, labels_before_default, low_match, low_stmt, low_other, low_stmts, low_arms, low_group}
+use Rattle.lower_trees.specs.Lowered.{all_received, first_of, low_body, low_function}
 use Rattle.mid_lower.specs.SourceLoops.{is_call_of, TreeCalls}
 use Rattle.mid_lower.proofs.Tallies.{tally, of_calls, calls_counted, converted_tally, made_tally}
 use Rattle.mid_lower.proofs.QuietForms.{choose_quiet, block_quiet}

@@ -19,7 +19,7 @@ use Rattle.mid_code.specs.Meaning.{Res, Next, Leaves, Repeats, Returns, Over, th
 use Rattle.mid_code.specs.Meaning.{below as mid_below}
 use Rattle.mid_code.specs.States.{temporaries, to, spent, word_tested, over_worlds}
 use Rattle.mid_code.specs.Passing.{Prefix}
-use Rattle.mid_lower.specs.Parts as part
+use Rattle.lower_trees.specs.Parts as part
 use Rattle.mid_lower.proofs.Grows.{Mid, Grows, all_of, more, then_grows, turn_grows, node_grows}
 use Rattle.mid_lower.proofs.Under.{read_both}
 use Rattle.mid_lower.proofs.Fits.{Site}

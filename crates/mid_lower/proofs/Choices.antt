@@ -20,16 +20,16 @@ use Rattle.c_meaning.specs.Expressions.{tested, assigned, evaluated}
 use Rattle.mid_code.specs.Code.{NullO, PtrTestO, StoreO, NodesT, Do, Choose}
 use Rattle.mid_code.specs.Meaning.{Res, then_next, choose}
 use Rattle.mid_code.specs.States.{pointers_tested, word_tested}
-use Rattle.mid_lower.specs.Shape.{Shape, shape_in, words}
-use Rattle.mid_lower.specs.Flags.{is_flag, tests_flag}
-use Rattle.mid_lower.specs.Parts as part
-use Rattle.mid_lower.specs.Expressions.{low, test}
+use Rattle.lower_trees.specs.Shape.{Shape, shape_in, words}
+use Rattle.lower_trees.specs.Flags.{is_flag, tests_flag}
+use Rattle.lower_trees.specs.Parts as part
+use Rattle.lower_trees.specs.Expressions.{low, test}
 use Rattle.mid_lower.proofs.Grows.{Mid, Grows}
 use Rattle.mid_lower.proofs.Under.{then_both, equal_both}
 use Rattle.mid_lower.proofs.Words.{is_word}
 use Rattle.mid_lower.proofs.Flagged.{IsFlag, bool_flag, FlagAnswer, then_flag}
 use Rattle.mid_lower.proofs.Fits.{Site}
-use Rattle.mid_lower.specs.Counts.{value_sizes}
+use Rattle.lower_trees.specs.Counts.{value_sizes}
 use Rattle.mid_lower.proofs.Room.{Room}
 use Rattle.mid_lower.proofs.Following.{Side, mk, Goal, Now, Kept, Way, Free, Before, Rest, scratch, paid, spare, now_work, low_free, eqb_more, M, M_grows, op_of, sets}
 use Rattle.mid_lower.proofs.Instructions.{from_eq, tested_eq}

@@ -2,7 +2,7 @@
 use Rattle.std.proofs.Common.{◌≡◌, ◌≤◌, ℕ, zero, suc, ◌+◌, ◌*◌, ◌^◌, Bool, true, false, ◌==◌, Option, Some, None, option_map, refl, sym, ap, ◌∙◌, subst, arith, if◌then◌else◌}
 use Rattle.c_types.specs.Typed.{TStmtT, CaseB, DefaultB, StmtB, TArmTs, NoB, MoreB}
 use Rattle.c_meaning.specs.Statements.{arms_before_case, arms_before_default, case_or_default, arms_before, labels}
-use Rattle.mid_lower.specs.Statements.{labels_before_default}
+use Rattle.lower_trees.specs.Statements.{labels_before_default}
 
 -- These first arms are passed over, and so are so many labels; then comes a label, or none.
 abbrev pub Passes : TArmTs → (labels arms : ℕ) → Type 0

@@ -20,19 +20,19 @@ use Rattle.mid_code.specs.Meaning.{Res, Next, then_next, block_done}
 use Rattle.mid_code.specs.Meaning.{below as mid_below}
 use Rattle.mid_code.specs.States.{temporaries, to, spent, received, function_at, over_worlds}
 use Rattle.mid_code.specs.Passing.{Prefix}
-use Rattle.mid_lower.specs.Shape.{Shape, shape_in, words}
-use Rattle.mid_lower.specs.Parts as part
-use Rattle.mid_lower.specs.Statements.{ToEnd, low_stmt, low_stmts}
-use Rattle.mid_lower.specs.Statements as low
-use Rattle.mid_lower.specs.Lowered.{args_from, with_result, all_received, first_of, low_body}
-use Rattle.mid_lower.specs.Lowered as lowered
+use Rattle.lower_trees.specs.Shape.{Shape, shape_in, words}
+use Rattle.lower_trees.specs.Parts as part
+use Rattle.lower_trees.specs.Statements.{ToEnd, low_stmt, low_stmts}
+use Rattle.lower_trees.specs.Statements as low
+use Rattle.lower_trees.specs.Lowered.{args_from, with_result, all_received, first_of, low_body}
+use Rattle.lower_trees.specs.Lowered as lowered
 use Rattle.mid_lower.proofs.Grows.{Mid, Grows, all_of, more, then_grows, block_grows}
 use Rattle.mid_lower.proofs.Lives.{later_then}
 use Rattle.mid_lower.proofs.Trees.{PlainStmts, Below}
 use Rattle.mid_lower.proofs.Fits.{Site, Fits}
 use Rattle.mid_lower.proofs.Giving.{Giving, giving, handed}
 use Rattle.mid_lower.proofs.Lives.{Gone}
-use Rattle.mid_lower.specs.Counts.{value_sizes, stmt_sizes, maybe_sizes, stmts_sizes}
+use Rattle.lower_trees.specs.Counts.{value_sizes, stmt_sizes, maybe_sizes, stmts_sizes}
 use Rattle.mid_lower.proofs.Room.{Room, room_at, get_first, get_second}
 use Rattle.mid_lower.proofs.Following.{base_of, events_of, Side, mk, Goal, stays_here, Now, Way, paid, paid_now, spare, now_work, kept_wider, kept_through, low_free, eqb_less, eqb_more, M, M_grows, op, sets}
 use Rattle.mid_lower.proofs.Words.{in_words}

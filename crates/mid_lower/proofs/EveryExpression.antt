@@ -19,11 +19,11 @@ use Rattle.c_meaning.specs.Expressions.{evaluated, evaluated_all}
 use Rattle.mid_code.specs.Code.{LocalO, GlobalO, LiteralO, CardO, ConstO, NullO, NodesT}
 use Rattle.mid_code.specs.Meaning.{Res}
 use Rattle.mid_code.specs.States.{temporaries, to, spent}
-use Rattle.mid_lower.specs.Shape.{Shape, shape_in, params_of}
-use Rattle.mid_lower.specs.Parts as part
-use Rattle.mid_lower.specs.Counts.{sizes, value_sizes}
-use Rattle.mid_lower.specs.Expressions as low
-use Rattle.mid_lower.specs.Expressions.{low_args, spots}
+use Rattle.lower_trees.specs.Shape.{Shape, shape_in, params_of}
+use Rattle.lower_trees.specs.Parts as part
+use Rattle.lower_trees.specs.Counts.{sizes, value_sizes}
+use Rattle.lower_trees.specs.Expressions as low
+use Rattle.lower_trees.specs.Expressions.{low_args, spots}
 use Rattle.mid_lower.proofs.Grows.{Mid}
 use Rattle.mid_lower.proofs.Fits.{Site}
 use Rattle.mid_lower.proofs.Structures.{structure_goal, SimS, FollowValue, reads}

@@ -17,13 +17,13 @@ use Rattle.c_meaning.specs.Statements.{does, does_all, does_maybe, turn, returne
 use Rattle.mid_code.specs.Code.{MoveO, NodesT, Stop, Do, Choose, Return}
 use Rattle.mid_code.specs.Meaning.{Res, Next}
 use Rattle.mid_code.specs.States.{temporaries, to, spent}
-use Rattle.mid_lower.specs.Shape.{Shape, shape_in, words}
-use Rattle.mid_lower.specs.Flags.{is_flag}
-use Rattle.mid_lower.specs.Parts as part
-use Rattle.mid_lower.specs.Counts.{stmt_temps, stmt_sizes, other_temps, other_sizes, value_sizes, maybe_sizes, stmts_sizes}
-use Rattle.mid_lower.specs.Expressions.{is_void, second, beyond, low_value}
-use Rattle.mid_lower.specs.Statements as low
-use Rattle.mid_lower.specs.Statements.{Jump, ToEnd, ToTurn, low_stmt, low_stmts, low_other}
+use Rattle.lower_trees.specs.Shape.{Shape, shape_in, words}
+use Rattle.lower_trees.specs.Flags.{is_flag}
+use Rattle.lower_trees.specs.Parts as part
+use Rattle.lower_trees.specs.Counts.{stmt_temps, stmt_sizes, other_temps, other_sizes, value_sizes, maybe_sizes, stmts_sizes}
+use Rattle.lower_trees.specs.Expressions.{is_void, second, beyond, low_value}
+use Rattle.lower_trees.specs.Statements as low
+use Rattle.lower_trees.specs.Statements.{Jump, ToEnd, ToTurn, low_stmt, low_stmts, low_other}
 use Rattle.mid_lower.proofs.Grows.{Mid}
 use Rattle.mid_lower.proofs.Lives.{later_same}
 use Rattle.mid_lower.proofs.Trees.{PlainValue, PlainStructure, PlainReturned, PlainStmt, PlainStmts, PlainOther, PlainArms, Below}

@@ -14,12 +14,12 @@ use Rattle.v32_isa.specs.declared.instruction.One.TheVariants.{ISGN, NOT}
 use Rattle.mid_code.specs.declared.node.Op.TheVariants as o
 use Rattle.mid_code.specs.Code.{Stop}
 use Rattle.mid_code.specs.Functions.{DoN, listed, joined}
-use Rattle.mid_lower.specs.Shape.{Shape, words, params_of, result_of}
-use Rattle.mid_lower.specs.Flags.{is_flag, tests_flag}
-use Rattle.mid_lower.specs.Counts.{sizes, sizes_all}
-use Rattle.mid_lower.specs.Parts.{as_flag, operated}
-use Rattle.mid_lower.specs.Expressions as c
-use Rattle.mid_lower.specs.ListedExpressions as l
+use Rattle.lower_trees.specs.Shape.{Shape, words, params_of, result_of}
+use Rattle.lower_trees.specs.Flags.{is_flag, tests_flag}
+use Rattle.lower_trees.specs.Counts.{sizes, sizes_all}
+use Rattle.lower_trees.specs.Parts.{as_flag, operated}
+use Rattle.lower_trees.specs.Expressions as c
+use Rattle.lower_trees.specs.ListedExpressions as l
 use Rattle.mid_lower.proofs.Onto.{Is, seq, pick, plain, chosen, whole}
 use Rattle.mid_lower.proofs.PartsListed.{moved_by_is, structure_read_is, as_flag_is, converted_is, stored_is, operated_is, stepped_is, one_more_is, one_less_is, tested_as_is, negated_as_is}
 

@@ -15,9 +15,9 @@ use Rattle.c_meaning.specs.Initialisers.{rest_filled}
 use Rattle.mid_code.specs.Code.{MoveO, ConstO, StepO, StoreO, NodesT, Do}
 use Rattle.mid_code.specs.Meaning.{Res}
 use Rattle.mid_code.specs.States.{temporaries, to, spent}
-use Rattle.mid_lower.specs.Shape.{Shape, shape_in, words}
-use Rattle.mid_lower.specs.Parts as part
-use Rattle.mid_lower.specs.Initialisers as low
+use Rattle.lower_trees.specs.Shape.{Shape, shape_in, words}
+use Rattle.lower_trees.specs.Parts as part
+use Rattle.lower_trees.specs.Initialisers as low
 use Rattle.mid_lower.proofs.Grows.{Mid, Grows}
 use Rattle.mid_lower.proofs.Words.{in_words}
 use Rattle.mid_lower.proofs.Trees.{RestFits}

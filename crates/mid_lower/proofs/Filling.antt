@@ -20,11 +20,11 @@ use Rattle.c_meaning.specs.Initialisers.{filled, all_filled, object_of, variable
 use Rattle.mid_code.specs.Code.{MoveO, GlobalO, LocalO, LiteralO, NodesT, Do}
 use Rattle.mid_code.specs.Meaning.{Res}
 use Rattle.mid_code.specs.States.{temporaries, to, spent}
-use Rattle.mid_lower.specs.Shape.{Shape, shape_in, words, literal_words}
-use Rattle.mid_lower.specs.Flags.{is_flag}
-use Rattle.mid_lower.specs.Parts as part
-use Rattle.mid_lower.specs.Counts.{init_temps, init_sizes, behind_address, inits_sizes, vars_sizes}
-use Rattle.mid_lower.specs.Initialisers as low
+use Rattle.lower_trees.specs.Shape.{Shape, shape_in, words, literal_words}
+use Rattle.lower_trees.specs.Flags.{is_flag}
+use Rattle.lower_trees.specs.Parts as part
+use Rattle.lower_trees.specs.Counts.{init_temps, init_sizes, behind_address, inits_sizes, vars_sizes}
+use Rattle.lower_trees.specs.Initialisers as low
 use Rattle.mid_lower.proofs.Grows.{Mid, Grows}
 use Rattle.mid_lower.proofs.Under.{Alike}
 use Rattle.mid_lower.proofs.Words.{in_words}

@@ -11,10 +11,10 @@ use Rattle.c_facts.specs.Known.{SizedHaveSizes}
 use Rattle.c_facts.specs.Start.{StartsAreGiven}
 use Rattle.mid_code.specs.Invariants.{AllOf}
 use Rattle.mid_code.specs.Code.{FunctionT, CodeT}
-use Rattle.mid_lower.specs.Shape.{Shape, shape}
-use Rattle.mid_lower.specs.Parts.{first_param}
-use Rattle.mid_lower.specs.Lowered.{lowered}
-use Rattle.mid_lower.specs.ListedFunctions.{low_start, low_function, IsFew, AreFew}
+use Rattle.lower_trees.specs.Shape.{Shape, shape}
+use Rattle.lower_trees.specs.Parts.{first_param}
+use Rattle.lower_trees.specs.Lowered.{lowered}
+use Rattle.lower_trees.specs.ListedFunctions.{low_start, low_function, IsFew, AreFew}
 use Rattle.mid_lower.proofs.ProgramsListed.{few_start, few_all, lowered_by}
 use Rattle.mid_lower.proofs.IsMidCode.{Known}
 

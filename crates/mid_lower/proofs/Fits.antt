@@ -6,8 +6,8 @@ use Rattle.c_meaning.specs.Setting.{Setting}
 use Rattle.mid_code.specs.Code.{NodesT, CodeT}
 use Rattle.mid_code.specs.Meaning.{Res, below}
 use Rattle.mid_code.specs.States.{temporaries, function_at, over_worlds}
-use Rattle.mid_lower.specs.Parts.{first_param}
-use Rattle.mid_lower.specs.Lowered.{args_from, with_result}
+use Rattle.lower_trees.specs.Parts.{first_param}
+use Rattle.lower_trees.specs.Lowered.{args_from, with_result}
 use Rattle.mid_lower.proofs.Grows.{Mid, Grows}
 
 -- the code is that of the program

@@ -14,8 +14,8 @@ use Rattle.c_exprs.specs.Nodes.{type_of_typed, constant, constant_kind, is_place
 use Rattle.c_stmts.specs.Slots.{Slots, slots_of, next_slot, later_slots, is_null_or_text, is_fixed}
 use Rattle.c_facts.specs.Sound.{Scene, takes_value, FillsAs, FillEach, AreFilled}
 use Rattle.c_meaning.specs.Kinds.{type_of, is_structure}
-use Rattle.mid_lower.specs.Shape.{Shape, words}
-use Rattle.mid_lower.specs.Counts.{one_size, read_sizes, sizes, sizes_of, value_sizes, init_sizes, inits_sizes, vars_sizes}
+use Rattle.lower_trees.specs.Shape.{Shape, words}
+use Rattle.lower_trees.specs.Counts.{one_size, read_sizes, sizes, sizes_of, value_sizes, init_sizes, inits_sizes, vars_sizes}
 use Rattle.mid_lower.proofs.Trees.{IsScalar}
 use Rattle.mid_lower.proofs.Operands.{both_first, both_second, Either, First, Second, either, from_scalar}
 use Rattle.mid_lower.proofs.SoundExpressions.{scalar_of}

@@ -23,7 +23,7 @@ use Rattle.c_meaning.specs.Operators.{converted, is_true, cell_binary, pointer_o
 use Rattle.c_meaning.specs.Cells.{stored}
 use Rattle.c_meaning.specs.Expressions as src
 use Rattle.c_meaning.specs.Expressions.{evaluated, value_of}
-use Rattle.mid_lower.specs.Flags.{is_bool, is_not, is_comparison, is_flag, is_flag_kind}
+use Rattle.lower_trees.specs.Flags.{is_bool, is_not, is_comparison, is_flag, is_flag_kind}
 
 -- a cell that stays as it is converted
 abbrev pub IsFlag : Cell → Type 0

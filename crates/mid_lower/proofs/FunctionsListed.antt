@@ -5,12 +5,12 @@ use Rattle.c_types.specs.Programs.{TFunctionT}
 use Rattle.c_meaning.specs.Kinds.{is_structure}
 use Rattle.mid_code.specs.declared.node.Op.TheVariants as o
 use Rattle.mid_code.specs.Functions.{DoN, listed, joined}
-use Rattle.mid_lower.specs.Shape.{Shape, words}
-use Rattle.mid_lower.specs.Parts.{from, to, param_at, first_param}
-use Rattle.mid_lower.specs.Statements.{ToEnd}
-use Rattle.mid_lower.specs.Lowered as c
-use Rattle.mid_lower.specs.ListedFunctions as l
-use Rattle.mid_lower.specs.ListedStatements.{low_stmts}
+use Rattle.lower_trees.specs.Shape.{Shape, words}
+use Rattle.lower_trees.specs.Parts.{from, to, param_at, first_param}
+use Rattle.lower_trees.specs.Statements.{ToEnd}
+use Rattle.lower_trees.specs.Lowered as c
+use Rattle.lower_trees.specs.ListedFunctions as l
+use Rattle.lower_trees.specs.ListedStatements.{low_stmts}
 use Rattle.mid_lower.proofs.Onto.{Is, seq, pick, plain, whole, blocked}
 use Rattle.mid_lower.proofs.PartsListed.{copied_is, made_is}
 use Rattle.mid_lower.proofs.StatementsListed.{stmts_is}

@@ -20,8 +20,8 @@ use Rattle.c_stmts.specs.Slots.{Slots, next_slot, later_slots, slots_of}
 use Rattle.c_stmts.specs.State.{Labels, no_labels, with_label}
 use Rattle.c_facts.specs.Sound.{Scene, IsKnown, IsSized, IsValue, IsTyped, IsKind, AreValues, IsTypedValue, FillsAs, FillEach, AreFilled, MayTest, MayValue, Returns, IsStatement, MayState, AreStatements, AreArms, IsArm}
 use Rattle.mid_code.specs.Invariants.{AllOf}
-use Rattle.mid_lower.specs.Shape.{Shape, words, result_of}
-use Rattle.mid_lower.specs.Counts.{one_size, read_sizes, with_read, unary_sizes, sizes, sizes_of, sizes_all, value_sizes, init_sizes, inits_sizes, vars_sizes, maybe_sizes, stmt_sizes, other_sizes, stmts_sizes, arm_sizes, arms_sizes}
+use Rattle.lower_trees.specs.Shape.{Shape, words, result_of}
+use Rattle.lower_trees.specs.Counts.{one_size, read_sizes, with_read, unary_sizes, sizes, sizes_of, sizes_all, value_sizes, init_sizes, inits_sizes, vars_sizes, maybe_sizes, stmt_sizes, other_sizes, stmts_sizes, arm_sizes, arms_sizes}
 
 pub record InRange (n : ℕ) : Type 0 where
   pub least : 1 ≤ n

@@ -6,12 +6,12 @@ use Rattle.c_meaning.specs.Kinds.{is_structure}
 use Rattle.c_meaning.specs.Parts.{part_type}
 use Rattle.mid_code.specs.declared.node.Op.TheVariants as o
 use Rattle.mid_code.specs.Functions.{DoN}
-use Rattle.mid_lower.specs.Shape.{Shape, words, literal_words}
-use Rattle.mid_lower.specs.Flags.{is_flag}
-use Rattle.mid_lower.specs.Parts.{from, to, item}
-use Rattle.mid_lower.specs.Counts.{init_temps, init_sizes, behind_address}
-use Rattle.mid_lower.specs.Initialisers as c
-use Rattle.mid_lower.specs.ListedInitialisers as l
+use Rattle.lower_trees.specs.Shape.{Shape, words, literal_words}
+use Rattle.lower_trees.specs.Flags.{is_flag}
+use Rattle.lower_trees.specs.Parts.{from, to, item}
+use Rattle.lower_trees.specs.Counts.{init_temps, init_sizes, behind_address}
+use Rattle.lower_trees.specs.Initialisers as c
+use Rattle.lower_trees.specs.ListedInitialisers as l
 use Rattle.mid_lower.proofs.Onto.{Is, onto, seq, pick, plain, leaving, not_zero}
 use Rattle.mid_lower.proofs.PartsListed.{copied_is, zeroed_is, moved_by_is, converted_is}
 use Rattle.mid_lower.proofs.ExpressionsListed.{low_value_is}

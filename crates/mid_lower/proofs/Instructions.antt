@@ -25,8 +25,8 @@ use Rattle.mid_code.specs.Code.{ConstO, OneO, TwoO, StepO, ApartO, PtrTestO, Nod
 use Rattle.mid_code.specs.Meaning.{Res}
 use Rattle.mid_code.specs.States.{temporaries, to, to_objects, spent, one_word, two_words, pointers_tested}
 use Rattle.mid_code.specs.States as mid
-use Rattle.mid_lower.specs.Shape.{Shape, shape_in}
-use Rattle.mid_lower.specs.Parts as low
+use Rattle.lower_trees.specs.Shape.{Shape, shape_in}
+use Rattle.lower_trees.specs.Parts as low
 use Rattle.mid_lower.proofs.Grows.{Mid, Grows}
 use Rattle.mid_lower.proofs.Under.{Under, Alike, same, then_both, equal_both, offsets_both}
 use Rattle.mid_lower.proofs.Words.{step_words, same_words, div_words, mod_words}

@@ -27,11 +27,11 @@ use Rattle.c_facts.specs.Words.{NumbersAreWords, FunctionsInWords, FillInWords, 
 use Rattle.mid_code.specs.Code.{NodesT, Stop, Block, FunctionT, CodeT}
 use Rattle.mid_code.specs.Invariants as mid
 use Rattle.mid_code.specs.Invariants.{IsMid, IsTemporary, AllOf, DifferFrom, AreDifferent, CallsNone, parameter_count}
-use Rattle.mid_lower.specs.Shape.{Shape, shape, words, literal_words, result_of}
-use Rattle.mid_lower.specs.Parts.{from, to, result_at, param_at, first_param, made}
-use Rattle.mid_lower.specs.Counts.{stmt_temps, stmts_temps, vars_temps, one_size, stmt_sizes, stmts_sizes, vars_sizes}
-use Rattle.mid_lower.specs.Statements.{ToEnd, low_stmts}
-use Rattle.mid_lower.specs.Lowered.{args_from, with_result, received, all_received, first_of, low_body, low_function, low_start, lowered}
+use Rattle.lower_trees.specs.Shape.{Shape, shape, words, literal_words, result_of}
+use Rattle.lower_trees.specs.Parts.{from, to, result_at, param_at, first_param, made}
+use Rattle.lower_trees.specs.Counts.{stmt_temps, stmts_temps, vars_temps, one_size, stmt_sizes, stmts_sizes, vars_sizes}
+use Rattle.lower_trees.specs.Statements.{ToEnd, low_stmts}
+use Rattle.lower_trees.specs.Lowered.{args_from, with_result, received, all_received, first_of, low_body, low_function, low_start, lowered}
 use Rattle.mid_lower.proofs.Kept.{Site, Good, Keeps, good_stop, both, alone, none, either_kept, block_kept, fixed, k_move, k_local, k_store, words_small, copied_kept, made_kept}
 use Rattle.mid_lower.proofs.KeptExpressions.{Linked, args_length}
 use Rattle.mid_lower.proofs.KeptStatements.{objects_there, vars_kept, stmts_kept}

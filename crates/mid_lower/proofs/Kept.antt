@@ -11,8 +11,8 @@ use Rattle.v32_isa.specs.declared.instruction.Two.{Two}
 use Rattle.v32_isa.specs.declared.instruction.Two.TheVariants.{IEQ, INE, IGT, IGE, ILT, ILE, AND, OR, XOR, SHL, IADD, ISUB, IMUL, IDIV, IMOD}
 use Rattle.mid_code.specs.Code.{OpT, ConstO, NullO, MoveO, OneO, TwoO, GlobalO, LocalO, LiteralO, CardO, StepO, ApartO, PtrTestO, LoadO, StoreO, FreshO, InO, OutO, WaitO, HaltO, NodesT, Stop, Do, Call, Choose, Block, Loop, Leave, Again, Return, CodeT, uses, target, maybe}
 use Rattle.mid_code.specs.Invariants.{IsOne, IsTest, IsOp, IsCall, IsLoop, AreNodes, AllOf, Names}
-use Rattle.mid_lower.specs.Shape.{Shape, words}
-use Rattle.mid_lower.specs.Parts.{Nodes, count, one, cell, from, to, other, copy_turn, zero_turn, copied, zeroed, moved_by, structure_read, as_flag, converted, stored, with_word, stepped, stepped_back, distant, with_pointer, operated_on, operated, one_more, one_less, tested_as, negated_as, made}
+use Rattle.lower_trees.specs.Shape.{Shape, words}
+use Rattle.lower_trees.specs.Parts.{Nodes, count, one, cell, from, to, other, copy_turn, zero_turn, copied, zeroed, moved_by, structure_read, as_flag, converted, stored, with_word, stepped, stepped_back, distant, with_pointer, operated_on, operated, one_more, one_less, tested_as, negated_as, made}
 
 -- a function of a program: its locals and its temporaries, which are sixteen at least
 pub record Site : Type 0 where

@@ -14,13 +14,13 @@ use Rattle.c_facts.specs.Words.{FillsInWords, AllFillInWords, VariablesInWords, 
 use Rattle.v32_isa.specs.declared.instruction.Two.TheVariants.{IEQ, ISUB}
 use Rattle.mid_code.specs.Code.{NodesT, Stop, GlobalO, LocalO, LiteralO, Again, Choose, Block}
 use Rattle.mid_code.specs.Invariants.{IsLoop, AllOf}
-use Rattle.mid_lower.specs.Shape.{Shape, words, literal_words}
-use Rattle.mid_lower.specs.Flags.{is_flag}
-use Rattle.mid_lower.specs.Parts.{Nodes, one, from, to, other, item, object, result_at}
-use Rattle.mid_lower.specs.Counts.{value_temps, init_temps, inits_temps, behind_address, vars_temps, maybe_temps, stmt_temps, other_temps, stmts_temps, arms_temps, value_sizes, init_sizes, inits_sizes, vars_sizes, maybe_sizes, stmt_sizes, other_sizes, stmts_sizes, arms_sizes}
-use Rattle.mid_lower.specs.Expressions.{second, beyond, low_value, low_test}
-use Rattle.mid_lower.specs.Initialisers.{part_at, cell_filled, part_filled, part_zeroed, low_text, low_rest, low_init, low_inits, address_of, object_to, low_vars}
-use Rattle.mid_lower.specs.Statements.{Jump, ToEnd, ToTurn, further, jump, low_chosen, low_dropped, turns, labels_before_default, low_match, low_label, returned, low_stmt, low_other, low_stmts, low_arms, low_group}
+use Rattle.lower_trees.specs.Shape.{Shape, words, literal_words}
+use Rattle.lower_trees.specs.Flags.{is_flag}
+use Rattle.lower_trees.specs.Parts.{Nodes, one, from, to, other, item, object, result_at}
+use Rattle.lower_trees.specs.Counts.{value_temps, init_temps, inits_temps, behind_address, vars_temps, maybe_temps, stmt_temps, other_temps, stmts_temps, arms_temps, value_sizes, init_sizes, inits_sizes, vars_sizes, maybe_sizes, stmt_sizes, other_sizes, stmts_sizes, arms_sizes}
+use Rattle.lower_trees.specs.Expressions.{second, beyond, low_value, low_test}
+use Rattle.lower_trees.specs.Initialisers.{part_at, cell_filled, part_filled, part_zeroed, low_text, low_rest, low_init, low_inits, address_of, object_to, low_vars}
+use Rattle.lower_trees.specs.Statements.{Jump, ToEnd, ToTurn, further, jump, low_chosen, low_dropped, turns, labels_before_default, low_match, low_label, returned, low_stmt, low_other, low_stmts, low_arms, low_group}
 use Rattle.mid_lower.proofs.Kept.{Site, Good, Keeps, good_stop, both, alone, none, either_kept, op_kept, choose_kept, block_kept, loop_kept, leave_kept, again_kept, return_kept, fixed, k_const, k_two, k_move, k_local, k_store, words_small, moved_by_kept, copied_kept, zeroed_kept, converted_kept, made_kept}
 use Rattle.mid_lower.proofs.KeptExpressions.{Linked, there, same_option, low_value_kept, low_test_kept}
 

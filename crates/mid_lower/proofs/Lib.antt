@@ -77,12 +77,6 @@ pub mod TogetherInitialisers
 pub mod TogetherWays
 pub mod TogetherPoints
 pub mod Together
-pub mod Wrapped
-pub mod Joins
-pub mod Forms
-pub mod StatementForms
-pub mod Viewed
-pub mod Arms
 pub mod Weights
 pub mod WeighedExpressions
 pub mod WeighedStatements

@@ -13,9 +13,9 @@ use Rattle.c_meaning.specs.Frames.{over, over_kind, over_all, over_maybe, over_i
 use Rattle.c_stmts.specs.Slots.{Slots, next_slot, later_slots, slots_of}
 use Rattle.c_stmts.specs.State.{Labels, no_labels, with_label}
 use Rattle.c_facts.specs.Sound.{Scene, IsTyped, IsKind, Calls, AreValues, FillsAs, FillEach, AreFilled, MayTest, MayValue, IsStatement, MayState, AreStatements, AreArms, IsArm, IsFunction, in_call, scene}
-use Rattle.mid_lower.specs.Shape.{Shape, shape, words, result_of}
-use Rattle.mid_lower.specs.Lowered.{low_function}
-use Rattle.mid_lower.specs.Counts.{one_size, read_sizes, with_read, unary_sizes, sizes, sizes_of, sizes_all, value_sizes, init_sizes, inits_sizes, vars_sizes, maybe_sizes, stmt_sizes, other_sizes, stmts_sizes, arm_sizes, arms_sizes}
+use Rattle.lower_trees.specs.Shape.{Shape, shape, words, result_of}
+use Rattle.lower_trees.specs.Lowered.{low_function}
+use Rattle.lower_trees.specs.Counts.{one_size, read_sizes, with_read, unary_sizes, sizes, sizes_of, sizes_all, value_sizes, init_sizes, inits_sizes, vars_sizes, maybe_sizes, stmt_sizes, other_sizes, stmts_sizes, arm_sizes, arms_sizes}
 
 -- the words of a structure or union that an expression is
 abbrev own : Shape → TKindT → Ty → ℕ

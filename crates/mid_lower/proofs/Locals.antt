@@ -11,8 +11,8 @@ use Rattle.c_meaning.specs.Statements.{left}
 use Rattle.mid_code.specs.Code.{FreshO, NodesT, Do, CodeT}
 use Rattle.mid_code.specs.Meaning.{Res}
 use Rattle.mid_code.specs.States.{sizes_of}
-use Rattle.mid_lower.specs.Statements.{Jump}
-use Rattle.mid_lower.specs.Parts as part
+use Rattle.lower_trees.specs.Statements.{Jump}
+use Rattle.lower_trees.specs.Parts as part
 use Rattle.mid_lower.proofs.Grows.{Mid}
 use Rattle.mid_lower.proofs.Under.{Under, under_length, under_join, under_end_local, end_both}
 use Rattle.mid_lower.proofs.Lives.{Later, later_same, later_then, later_end_local, later_join}

@@ -14,12 +14,12 @@ use Rattle.c_meaning.specs.Expressions.{value_of, evaluated, tested, dropped, dr
 use Rattle.c_meaning.specs.Statements.{does, turn, do_turn, step_done, body_done}
 use Rattle.mid_code.specs.Code.{NodesT, Stop, Choose, Block, Loop, Again}
 use Rattle.mid_code.specs.Meaning.{Res, Next, then_next}
-use Rattle.mid_lower.specs.Shape.{Shape, shape_in}
-use Rattle.mid_lower.specs.Parts as part
-use Rattle.mid_lower.specs.Counts.{maybe_temps, stmt_temps, stmt_sizes, value_sizes, maybe_sizes}
-use Rattle.mid_lower.specs.Expressions.{low_value, low_test, second, beyond}
-use Rattle.mid_lower.specs.Statements as low
-use Rattle.mid_lower.specs.Statements.{Jump, ToEnd, ToTurn, low_stmt}
+use Rattle.lower_trees.specs.Shape.{Shape, shape_in}
+use Rattle.lower_trees.specs.Parts as part
+use Rattle.lower_trees.specs.Counts.{maybe_temps, stmt_temps, stmt_sizes, value_sizes, maybe_sizes}
+use Rattle.lower_trees.specs.Expressions.{low_value, low_test, second, beyond}
+use Rattle.lower_trees.specs.Statements as low
+use Rattle.lower_trees.specs.Statements.{Jump, ToEnd, ToTurn, low_stmt}
 use Rattle.mid_lower.proofs.Grows.{Mid}
 use Rattle.mid_lower.proofs.Trees.{PlainStep, PlainDropped, PlainValue, PlainMaybe, PlainStmt}
 use Rattle.mid_lower.proofs.Fits.{Site}

@@ -6,10 +6,10 @@ use Rattle.c_exprs.specs.Nodes.{type_of_typed, is_place}
 use Rattle.c_facts.specs.Sound.{Scene, IsTyped, AreValues}
 use Rattle.c_meaning.specs.Kinds.{is_structure}
 use Rattle.c_meaning.specs.Frames.{over, over_all}
-use Rattle.mid_lower.specs.Shape.{Shape, params_of, result_of}
-use Rattle.mid_lower.specs.Flags.{is_flag}
-use Rattle.mid_lower.specs.Parts.{Nodes}
-use Rattle.mid_lower.specs.Expressions.{second, beyond, spots, later_types, low, low_args, low_value, low_test}
+use Rattle.lower_trees.specs.Shape.{Shape, params_of, result_of}
+use Rattle.lower_trees.specs.Flags.{is_flag}
+use Rattle.lower_trees.specs.Parts.{Nodes}
+use Rattle.lower_trees.specs.Expressions.{second, beyond, spots, later_types, low, low_args, low_value, low_test}
 use Rattle.mid_lower.specs.SourceLoops.{reads_all, copies}
 use Rattle.mid_lower.proofs.Operands.{number_scalar, behind_scalar, from_scalar, unary_operand, binary_operands, index_operands, compound_operands, assigned_operands, cast_operand}
 use Rattle.mid_lower.proofs.SoundExpressions.{scalar_of}

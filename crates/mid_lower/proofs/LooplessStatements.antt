@@ -12,14 +12,14 @@ use Rattle.c_meaning.specs.Parts.{part_type}
 use Rattle.c_meaning.specs.Setting.{Setting, setting}
 use Rattle.mid_code.specs.Code.{ConstO, Stop, Do, Block}
 use Rattle.mid_code.specs.Calls.{loops}
-use Rattle.mid_lower.specs.Shape.{Shape, shape, words}
-use Rattle.mid_lower.specs.Flags.{is_flag}
-use Rattle.mid_lower.specs.Parts.{Nodes, one, item, made, first_param}
-use Rattle.mid_lower.specs.Counts.{init_temps, init_sizes, behind_address, stmt_temps, stmt_sizes}
-use Rattle.mid_lower.specs.Expressions.{second, beyond}
-use Rattle.mid_lower.specs.Initialisers.{low_init, low_inits, address_of, low_vars}
-use Rattle.mid_lower.specs.Statements.{Jump, ToEnd, further, labels_before_default, low_match, low_stmt, low_other, low_stmts, low_arms, low_group}
-use Rattle.mid_lower.specs.Lowered.{all_received, first_of, low_body, low_function}
+use Rattle.lower_trees.specs.Shape.{Shape, shape, words}
+use Rattle.lower_trees.specs.Flags.{is_flag}
+use Rattle.lower_trees.specs.Parts.{Nodes, one, item, made, first_param}
+use Rattle.lower_trees.specs.Counts.{init_temps, init_sizes, behind_address, stmt_temps, stmt_sizes}
+use Rattle.lower_trees.specs.Expressions.{second, beyond}
+use Rattle.lower_trees.specs.Initialisers.{low_init, low_inits, address_of, low_vars}
+use Rattle.lower_trees.specs.Statements.{Jump, ToEnd, further, labels_before_default, low_match, low_stmt, low_other, low_stmts, low_arms, low_group}
+use Rattle.lower_trees.specs.Lowered.{all_received, first_of, low_body, low_function}
 use Rattle.mid_lower.specs.SourceLoops.{params_copied, rest_turns, init_turns, items_turns, variables_turns, turns, turns_maybe, turns_all, turns_arms, HasNoLoops}
 use Rattle.mid_lower.proofs.Operands.{number_scalar, condition_scalar, to_scalar, from_scalar}
 use Rattle.mid_lower.proofs.SoundExpressions.{of_scalar}

@@ -12,10 +12,10 @@ use Rattle.c_exprs.specs.Nodes.{is_place}
 use Rattle.c_meaning.specs.Kinds.{type_of, is_structure, decayed, pointed, is_pointer}
 use Rattle.mid_code.specs.Code.{Stop, Do, LoadO}
 use Rattle.mid_code.specs.Calls.{nesting}
-use Rattle.mid_lower.specs.Shape.{Shape, words, params_of, result_of}
-use Rattle.mid_lower.specs.Flags.{is_flag, tests_flag}
-use Rattle.mid_lower.specs.Parts.{Nodes, copy_turn, zero_turn, copied, zeroed, as_flag, converted, stored, with_word, stepped, with_pointer, operated_on, operated, one_more, one_less, tested_as, negated_as}
-use Rattle.mid_lower.specs.Expressions.{Low, read, value_of, value, test, unary, second, beyond, binary, behind_place, assign, step_made, stepped_to, step_taken, index, member_of, called, spots, converted_to, later_types, low, low_args, low_value, low_test}
+use Rattle.lower_trees.specs.Shape.{Shape, words, params_of, result_of}
+use Rattle.lower_trees.specs.Flags.{is_flag, tests_flag}
+use Rattle.lower_trees.specs.Parts.{Nodes, copy_turn, zero_turn, copied, zeroed, as_flag, converted, stored, with_word, stepped, with_pointer, operated_on, operated, one_more, one_less, tested_as, negated_as}
+use Rattle.lower_trees.specs.Expressions.{Low, read, value_of, value, test, unary, second, beyond, binary, behind_place, assign, step_made, stepped_to, step_taken, index, member_of, called, spots, converted_to, later_types, low, low_args, low_value, low_test}
 use Rattle.mid_lower.specs.Levels.{expression_levels, all_levels}
 
 pub max_within : (a b k : ℕ) → a ≤ k → b ≤ k → max a b ≤ k

@@ -8,14 +8,14 @@ use Rattle.c_meaning.specs.Kinds.{is_structure}
 use Rattle.c_meaning.specs.Parts.{part_type}
 use Rattle.mid_code.specs.Code.{Stop, Choose, Block, Again, Return}
 use Rattle.mid_code.specs.Calls.{nesting}
-use Rattle.mid_lower.specs.Shape.{Shape, shape, words, literal_words}
-use Rattle.mid_lower.specs.Flags.{is_flag}
-use Rattle.mid_lower.specs.Parts.{Nodes, copied, zeroed, item, made}
-use Rattle.mid_lower.specs.Counts.{init_temps, init_sizes, behind_address, maybe_temps, maybe_sizes, stmt_temps, stmt_sizes, other_temps, other_sizes}
-use Rattle.mid_lower.specs.Expressions.{second, beyond}
-use Rattle.mid_lower.specs.Initialisers.{part_at, cell_filled, part_filled, part_zeroed, low_text, low_rest, low_init, low_inits, address_of, object_to, low_vars}
-use Rattle.mid_lower.specs.Statements.{Jump, ToEnd, ToTurn, further, jump, low_chosen, low_dropped, turns, labels_before_default, low_match, returned, low_stmt, low_other, low_stmts, low_arms, low_group}
-use Rattle.mid_lower.specs.Lowered.{received, all_received, first_of, low_function, low_start}
+use Rattle.lower_trees.specs.Shape.{Shape, shape, words, literal_words}
+use Rattle.lower_trees.specs.Flags.{is_flag}
+use Rattle.lower_trees.specs.Parts.{Nodes, copied, zeroed, item, made}
+use Rattle.lower_trees.specs.Counts.{init_temps, init_sizes, behind_address, maybe_temps, maybe_sizes, stmt_temps, stmt_sizes, other_temps, other_sizes}
+use Rattle.lower_trees.specs.Expressions.{second, beyond}
+use Rattle.lower_trees.specs.Initialisers.{part_at, cell_filled, part_filled, part_zeroed, low_text, low_rest, low_init, low_inits, address_of, object_to, low_vars}
+use Rattle.lower_trees.specs.Statements.{Jump, ToEnd, ToTurn, further, jump, low_chosen, low_dropped, turns, labels_before_default, low_match, returned, low_stmt, low_other, low_stmts, low_arms, low_group}
+use Rattle.lower_trees.specs.Lowered.{received, all_received, first_of, low_function, low_start}
 use Rattle.mid_lower.specs.Levels.{expression_levels, maybe_levels, init_levels, inits_levels, variables_levels, statement_levels, other_levels, statements_levels, arms_levels}
 use Rattle.mid_lower.proofs.Nesting.{copied_nests, zeroed_nests, converted_nests, either_nests, low_value_nests, low_test_nests}
 

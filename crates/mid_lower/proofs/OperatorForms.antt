@@ -25,11 +25,11 @@ use Rattle.c_meaning.specs.Expressions.{evaluated}
 use Rattle.mid_code.specs.Code.{OpT, ConstO, NullO, OneO, PtrTestO, NodesT, Stop, Do, Choose}
 use Rattle.mid_code.specs.Meaning.{Res, Next, then_next}
 use Rattle.mid_code.specs.States.{temporaries, to, spent, one_word, pointers_tested}
-use Rattle.mid_lower.specs.Shape.{Shape, shape_in}
-use Rattle.mid_lower.specs.Flags.{tests_flag}
-use Rattle.mid_lower.specs.Parts as part
-use Rattle.mid_lower.specs.Expressions as low
-use Rattle.mid_lower.specs.Counts.{sizes, unary_sizes, value_sizes}
+use Rattle.lower_trees.specs.Shape.{Shape, shape_in}
+use Rattle.lower_trees.specs.Flags.{tests_flag}
+use Rattle.lower_trees.specs.Parts as part
+use Rattle.lower_trees.specs.Expressions as low
+use Rattle.lower_trees.specs.Counts.{sizes, unary_sizes, value_sizes}
 use Rattle.mid_lower.proofs.Grows.{Mid, Grows, then_grows}
 use Rattle.mid_lower.proofs.Under.{same, then_both, equal_both}
 use Rattle.mid_lower.proofs.Flagged.{IsFlag}

@@ -11,8 +11,8 @@ use Rattle.mid_code.specs.Code.{NodesT, Stop, Again}
 use Rattle.mid_code.specs.Meaning.{Res, Next, Leaves, Repeats, Over, then_next, block_done, turn_done, did}
 use Rattle.mid_code.specs.Meaning as res
 use Rattle.mid_code.specs.Passing.{Prefix}
-use Rattle.mid_lower.specs.Parts.{result_at}
-use Rattle.mid_lower.specs.Statements.{Jump, ToEnd, ToTurn}
+use Rattle.lower_trees.specs.Parts.{result_at}
+use Rattle.lower_trees.specs.Statements.{Jump, ToEnd, ToTurn}
 use Rattle.mid_lower.proofs.Grows.{Mid, Grows, more, then_grows, block_grows, turn_grows}
 use Rattle.mid_lower.proofs.Lives.{Later, later_then}
 use Rattle.mid_lower.proofs.Fits.{Site}

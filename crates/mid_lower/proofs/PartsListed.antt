@@ -9,10 +9,10 @@ use Rattle.v32_isa.specs.declared.instruction.Two.TheVariants.{IMUL}
 use Rattle.mid_code.specs.declared.node.Op.TheVariants as o
 use Rattle.mid_code.specs.Code.{FreshO, Do}
 use Rattle.mid_code.specs.Functions.{DoN}
-use Rattle.mid_lower.specs.Shape.{Shape, words}
-use Rattle.mid_lower.specs.Parts as c
-use Rattle.mid_lower.specs.Parts.{from, to}
-use Rattle.mid_lower.specs.ListedParts as l
+use Rattle.lower_trees.specs.Shape.{Shape, words}
+use Rattle.lower_trees.specs.Parts as c
+use Rattle.lower_trees.specs.Parts.{from, to}
+use Rattle.lower_trees.specs.ListedParts as l
 use Rattle.mid_lower.proofs.Onto.{Is, seq, pick, leaving, not_zero, plain}
 
 pub copied_is : (size : ℕ) → Is (l.copied size) (c.copied size)

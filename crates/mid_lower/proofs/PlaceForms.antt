@@ -25,11 +25,11 @@ use Rattle.mid_code.specs.Code.{ConstO, MoveO, StepO, LoadO, StoreO, OutO, Nodes
 use Rattle.mid_code.specs.Meaning.{Res, did}
 use Rattle.mid_code.specs.States.{temporaries, to, spent}
 use Rattle.mid_code.specs.States as mid
-use Rattle.mid_lower.specs.Shape.{Shape, shape_in}
-use Rattle.mid_lower.specs.Flags.{is_flag}
-use Rattle.mid_lower.specs.Parts as part
-use Rattle.mid_lower.specs.Counts.{sizes, value_sizes}
-use Rattle.mid_lower.specs.Expressions as low
+use Rattle.lower_trees.specs.Shape.{Shape, shape_in}
+use Rattle.lower_trees.specs.Flags.{is_flag}
+use Rattle.lower_trees.specs.Parts as part
+use Rattle.lower_trees.specs.Counts.{sizes, value_sizes}
+use Rattle.lower_trees.specs.Expressions as low
 use Rattle.mid_lower.proofs.Grows.{Mid, Grows}
 use Rattle.mid_lower.proofs.Under.{Under, same}
 use Rattle.mid_lower.proofs.Lives.{Later, later_same}

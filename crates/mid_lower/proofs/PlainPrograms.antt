@@ -8,11 +8,11 @@ use Rattle.c_types.specs.Programs.{TFunctionT, ProgramT}
 use Rattle.c_meaning.specs.Setting.{Setting, setting}
 use Rattle.mid_code.specs.Code.{CodeT}
 use Rattle.mid_code.specs.States.{no_function, function_at}
-use Rattle.mid_lower.specs.Shape.{Shape, shape}
-use Rattle.mid_lower.specs.Counts.{stmts_sizes}
-use Rattle.mid_lower.specs.Parts.{first_param}
-use Rattle.mid_lower.specs.Expressions.{is_void}
-use Rattle.mid_lower.specs.Lowered.{low_function, lowered, args_from, with_result}
+use Rattle.lower_trees.specs.Shape.{Shape, shape}
+use Rattle.lower_trees.specs.Counts.{stmts_sizes}
+use Rattle.lower_trees.specs.Parts.{first_param}
+use Rattle.lower_trees.specs.Expressions.{is_void}
+use Rattle.lower_trees.specs.Lowered.{low_function, lowered, args_from, with_result}
 use Rattle.mid_lower.proofs.Trees.{PlainStmts, Below}
 use Rattle.mid_lower.proofs.Fits.{Fits}
 use Rattle.mid_lower.proofs.EveryBound.{Lowers}

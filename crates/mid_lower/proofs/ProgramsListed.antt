@@ -7,13 +7,13 @@ use Rattle.c_types.specs.Programs.{TFunctionT, ProgramT}
 use Rattle.c_types.specs.Nodes.{statement_nodes, statements_nodes, function_nodes, program_nodes}
 use Rattle.c_types.specs.View.{tstmts}
 use Rattle.mid_code.specs.Code.{FunctionT, CodeT}
-use Rattle.mid_lower.specs.Shape.{Shape, shape}
-use Rattle.mid_lower.specs.Parts.{first_param}
-use Rattle.mid_lower.specs.Counts.{stmts_temps, stmts_sizes}
-use Rattle.mid_lower.specs.Statements.{ToEnd}
-use Rattle.mid_lower.specs.Lowered as c
-use Rattle.mid_lower.specs.ListedFunctions as l
-use Rattle.mid_lower.specs.ListedFunctions.{IsFew, AreFew}
+use Rattle.lower_trees.specs.Shape.{Shape, shape}
+use Rattle.lower_trees.specs.Parts.{first_param}
+use Rattle.lower_trees.specs.Counts.{stmts_temps, stmts_sizes}
+use Rattle.lower_trees.specs.Statements.{ToEnd}
+use Rattle.lower_trees.specs.Lowered as c
+use Rattle.lower_trees.specs.ListedFunctions as l
+use Rattle.lower_trees.specs.ListedFunctions.{IsFew, AreFew}
 use Rattle.mid_lower.proofs.Onto.{whole}
 use Rattle.mid_lower.proofs.StatementsListed.{stmts_is}
 use Rattle.mid_lower.proofs.FunctionsListed.{body_is}

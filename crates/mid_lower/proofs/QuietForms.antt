@@ -12,10 +12,10 @@ use Rattle.c_rules.specs.Nodes.{needs_place}
 use Rattle.c_exprs.specs.Nodes.{is_place}
 use Rattle.c_meaning.specs.Kinds.{type_of, is_structure, decayed, pointed}
 use Rattle.mid_code.specs.Code.{ConstO, LoadO, LocalO, Stop, Do, Choose, Block}
-use Rattle.mid_lower.specs.Shape.{Shape, words}
-use Rattle.mid_lower.specs.Flags.{is_flag, tests_flag}
-use Rattle.mid_lower.specs.Parts.{Nodes, as_flag, stored, operated}
-use Rattle.mid_lower.specs.Expressions.{Low, read, value_of, value, test, unary, second, beyond, binary, behind_place, assign, step_made, stepped_to, step_taken, index, member_of, called, converted_to}
+use Rattle.lower_trees.specs.Shape.{Shape, words}
+use Rattle.lower_trees.specs.Flags.{is_flag, tests_flag}
+use Rattle.lower_trees.specs.Parts.{Nodes, as_flag, stored, operated}
+use Rattle.lower_trees.specs.Expressions.{Low, read, value_of, value, test, unary, second, beyond, binary, behind_place, assign, step_made, stepped_to, step_taken, index, member_of, called, converted_to}
 use Rattle.mid_lower.specs.SourceLoops.{reads}
 use Rattle.mid_lower.proofs.Tallies.{Counting, tally, one_is, Spared, either_tally, copied_tally, flag_tally, converted_tally, stepped_tally, operated_tally, more_tally, less_tally, tested_tally, negated_tally, stored_tally}
 

@@ -3,11 +3,11 @@ use Rattle.std.proofs.Common.{◌≡◌, ℕ, zero, suc, ◌+◌, ◌-◌, ◌*�
 use Rattle.c_types.specs.Types.{Ty, VoidY, IntY, BoolY, EnumY, StructY, UnionY, PointerY, ArrayY}
 use Rattle.c_types.specs.Typed.{TArmTs, CaseB, DefaultB, StmtB, NoB, MoreB}
 use Rattle.c_meaning.specs.Kinds.{is_structure}
-use Rattle.mid_lower.specs.Shape.{Shape, words, literal_words}
-use Rattle.mid_lower.specs.Parts.{Nodes, copied, zeroed}
-use Rattle.mid_lower.specs.Initialisers.{part_at, cell_filled, part_filled, part_zeroed, low_text, low_rest, object_to}
-use Rattle.mid_lower.specs.Statements.{Jump, ToEnd, ToTurn, jump, low_match, low_label, returned}
-use Rattle.mid_lower.specs.Lowered.{received}
+use Rattle.lower_trees.specs.Shape.{Shape, words, literal_words}
+use Rattle.lower_trees.specs.Parts.{Nodes, copied, zeroed}
+use Rattle.lower_trees.specs.Initialisers.{part_at, cell_filled, part_filled, part_zeroed, low_text, low_rest, object_to}
+use Rattle.lower_trees.specs.Statements.{Jump, ToEnd, ToTurn, jump, low_match, low_label, returned}
+use Rattle.lower_trees.specs.Lowered.{received}
 use Rattle.mid_lower.proofs.Tallies.{Counting, tally, Spared, either_tally, copied_tally, zeroed_tally}
 
 module _ (k : Counting) where

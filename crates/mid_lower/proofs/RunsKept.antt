@@ -26,11 +26,11 @@ use Rattle.mid_code.specs.States.{temporaries}
 use Rattle.mid_code.specs.Runs as mid
 use Rattle.mid_code.specs.Keeps.{WorksAtMost, KeepsRuns, KeepsRun, SameRun, global_cell}
 use Rattle.mid_code.specs.Passing.{Prefix}
-use Rattle.mid_lower.specs.Shape.{shape}
-use Rattle.mid_lower.specs.Parts.{first_param}
-use Rattle.mid_lower.specs.Expressions.{is_void}
-use Rattle.mid_lower.specs.Statements.{ToEnd, low_stmts}
-use Rattle.mid_lower.specs.Lowered.{lowered}
+use Rattle.lower_trees.specs.Shape.{shape}
+use Rattle.lower_trees.specs.Parts.{first_param}
+use Rattle.lower_trees.specs.Expressions.{is_void}
+use Rattle.lower_trees.specs.Statements.{ToEnd, low_stmts}
+use Rattle.lower_trees.specs.Lowered.{lowered}
 use Rattle.mid_lower.proofs.Grows.{Mid, all_of, more, called_grows}
 use Rattle.mid_lower.proofs.Under.{Kin, Under, AllEmpty, under_self, under_at}
 use Rattle.mid_lower.proofs.Fits.{Site}

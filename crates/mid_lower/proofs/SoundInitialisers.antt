@@ -17,7 +17,7 @@ use Rattle.c_stmts.specs.Slots.{Slots, NoSlots, Elements, Members, member_types,
 use Rattle.c_check.specs.Reading.{has_members}
 use Rattle.c_facts.specs.Sound.{Scene, IsKnown, IsSized, takes_value, FillsAs, FillEach, AreFilled, AreSized, IsLaidOut, IsDeclaredAs, AreDeclaredAs, in_call, wholes, scene}
 use Rattle.c_meaning.specs.Parts.{part_type}
-use Rattle.mid_lower.specs.Shape.{Shape, shape}
+use Rattle.lower_trees.specs.Shape.{Shape, shape}
 use Rattle.mid_lower.proofs.Trees.{RestFits, Fills, FillAll, FillVars}
 use Rattle.mid_lower.proofs.Operands.{both_first, both_second}
 use Rattle.mid_lower.proofs.SoundExpressions.{plain_as}

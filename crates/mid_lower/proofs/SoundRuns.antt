@@ -14,10 +14,10 @@ use Rattle.c_facts.specs.Sound.{Scene, FillGlobals, IsFunction, AreFunctions, sc
 use Rattle.c_meaning.specs.Runs as c
 use Rattle.mid_code.specs.Runs as mid
 use Rattle.mid_code.specs.Keeps.{WorksAtMost, KeepsRuns}
-use Rattle.mid_lower.specs.Shape.{shape}
-use Rattle.mid_lower.specs.Counts.{vars_sizes, stmts_sizes}
-use Rattle.mid_lower.specs.Expressions.{is_void}
-use Rattle.mid_lower.specs.Lowered.{lowered}
+use Rattle.lower_trees.specs.Shape.{shape}
+use Rattle.lower_trees.specs.Counts.{vars_sizes, stmts_sizes}
+use Rattle.lower_trees.specs.Expressions.{is_void}
+use Rattle.lower_trees.specs.Lowered.{lowered}
 use Rattle.mid_lower.proofs.Trees.{Below, PlainStmts}
 use Rattle.mid_lower.proofs.Operands.{both_second}
 use Rattle.mid_lower.proofs.SoundInitialisers.{vars_plain}

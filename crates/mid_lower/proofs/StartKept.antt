@@ -16,12 +16,12 @@ use Rattle.c_facts.specs.Sound.{Scene, IsTyped, IsKind, IsTypedValue, FillsAs, F
 use Rattle.c_facts.specs.Start.{is_reckoned, is_reckoned_kind, is_given, fills_with_given, all_fill_with_given}
 use Rattle.mid_code.specs.Code.{NodesT, Stop, Do, Choose}
 use Rattle.mid_code.specs.Invariants.{CallsNone}
-use Rattle.mid_lower.specs.Shape.{Shape, words, literal_words}
-use Rattle.mid_lower.specs.Flags.{is_flag, tests_flag}
-use Rattle.mid_lower.specs.Parts.{Nodes, item, copied, zeroed, moved_by, as_flag, converted, with_word, stepped, with_pointer, operated_on, operated, tested_as, negated_as}
-use Rattle.mid_lower.specs.Counts.{read_sizes, unary_sizes, sizes, value_sizes, init_temps, init_sizes, inits_sizes, vars_sizes, behind_address}
-use Rattle.mid_lower.specs.Expressions.{value_of, value, test, unary, binary, second, beyond, low, low_kind, low_value}
-use Rattle.mid_lower.specs.Initialisers.{part_at, cell_filled, part_filled, part_zeroed, low_text, low_rest, low_init, low_inits, address_of, object_to, low_vars}
+use Rattle.lower_trees.specs.Shape.{Shape, words, literal_words}
+use Rattle.lower_trees.specs.Flags.{is_flag, tests_flag}
+use Rattle.lower_trees.specs.Parts.{Nodes, item, copied, zeroed, moved_by, as_flag, converted, with_word, stepped, with_pointer, operated_on, operated, tested_as, negated_as}
+use Rattle.lower_trees.specs.Counts.{read_sizes, unary_sizes, sizes, value_sizes, init_temps, init_sizes, inits_sizes, vars_sizes, behind_address}
+use Rattle.lower_trees.specs.Expressions.{value_of, value, test, unary, binary, second, beyond, low, low_kind, low_value}
+use Rattle.lower_trees.specs.Initialisers.{part_at, cell_filled, part_filled, part_zeroed, low_text, low_rest, low_init, low_inits, address_of, object_to, low_vars}
 
 -- ---- a part that calls nothing
 

@@ -7,15 +7,15 @@ use Rattle.v32_isa.specs.declared.instruction.Two.TheVariants.{IEQ}
 use Rattle.mid_code.specs.declared.node.Op.TheVariants as o
 use Rattle.mid_code.specs.Code.{ConstO, TwoO, Stop, Do, Again, Leave, Block, Choose}
 use Rattle.mid_code.specs.Functions.{DoN, AgainN, BlockN, ChooseN, ReturnN, listed, joined}
-use Rattle.mid_lower.specs.Shape.{Shape, words}
-use Rattle.mid_lower.specs.Flags.{is_flag}
-use Rattle.mid_lower.specs.Parts.{Nodes, one, from, to, other, result_at}
-use Rattle.mid_lower.specs.Counts.{maybe_temps, stmt_temps, other_temps, maybe_sizes, stmt_sizes, other_sizes}
-use Rattle.mid_lower.specs.Expressions.{second, beyond}
-use Rattle.mid_lower.specs.Statements as c
-use Rattle.mid_lower.specs.ListedParts.{Listing}
-use Rattle.mid_lower.specs.ListedExpressions as e
-use Rattle.mid_lower.specs.ListedStatements as l
+use Rattle.lower_trees.specs.Shape.{Shape, words}
+use Rattle.lower_trees.specs.Flags.{is_flag}
+use Rattle.lower_trees.specs.Parts.{Nodes, one, from, to, other, result_at}
+use Rattle.lower_trees.specs.Counts.{maybe_temps, stmt_temps, other_temps, maybe_sizes, stmt_sizes, other_sizes}
+use Rattle.lower_trees.specs.Expressions.{second, beyond}
+use Rattle.lower_trees.specs.Statements as c
+use Rattle.lower_trees.specs.ListedParts.{Listing}
+use Rattle.lower_trees.specs.ListedExpressions as e
+use Rattle.lower_trees.specs.ListedStatements as l
 use Rattle.mid_lower.proofs.Onto.{Is, onto, joined_listed, onto_append, seq, pick, plain, whole, chosen, blocked, looped}
 use Rattle.mid_lower.proofs.PartsListed.{copied_is, converted_is, made_is}
 use Rattle.mid_lower.proofs.ExpressionsListed.{low_value_is, low_test_is}

@@ -3,8 +3,8 @@ use Rattle.std.proofs.Common.{[]}
 use Rattle.c_types.specs.Programs.{TFunctionT, ProgramT}
 use Rattle.c_facts.specs.Sound.{IsFunction, IsSound, scene}
 use Rattle.c_meaning.specs.Setting.{setting}
-use Rattle.mid_lower.specs.Shape.{shape}
-use Rattle.mid_lower.specs.Lowered.{low_function}
+use Rattle.lower_trees.specs.Shape.{shape}
+use Rattle.lower_trees.specs.Lowered.{low_function}
 use Rattle.mid_lower.specs.SourceLoops.{HasNoLoops}
 use Rattle.mid_lower.specs.LoweredFrom.{StaysStraight}
 use Rattle.mid_lower.proofs.CallsOfStatements.{calls_stand}

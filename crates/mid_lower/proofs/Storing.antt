@@ -24,8 +24,8 @@ use Rattle.mid_code.specs.Code.{ConstO, OneO, TwoO, StepO, LoadO, StoreO, NodesT
 use Rattle.mid_code.specs.Meaning.{Res, did}
 use Rattle.mid_code.specs.States.{temporaries, to, to_objects, spent, one_word, two_words}
 use Rattle.mid_code.specs.States as mid
-use Rattle.mid_lower.specs.Shape.{Shape, shape_in}
-use Rattle.mid_lower.specs.Parts as low
+use Rattle.lower_trees.specs.Shape.{Shape, shape_in}
+use Rattle.lower_trees.specs.Parts as low
 use Rattle.mid_lower.proofs.Grows.{Mid, Grows}
 use Rattle.mid_lower.proofs.Under.{Under, same, read_both, WriteBoth, write_both}
 use Rattle.mid_lower.proofs.Lives.{Later, later_write}

@@ -18,11 +18,11 @@ use Rattle.mid_code.specs.Code.{ConstO, StepO, LoadO, NodesT, Do}
 use Rattle.mid_code.specs.Meaning.{Res}
 use Rattle.mid_code.specs.Passing.{Prefix}
 use Rattle.mid_code.specs.States.{temporaries, to, spent}
-use Rattle.mid_lower.specs.Shape.{Shape, shape_in}
-use Rattle.mid_lower.specs.Parts as part
-use Rattle.mid_lower.specs.Expressions.{low, value}
-use Rattle.mid_lower.specs.Expressions as low
-use Rattle.mid_lower.specs.Counts.{sizes, read_sizes, value_sizes}
+use Rattle.lower_trees.specs.Shape.{Shape, shape_in}
+use Rattle.lower_trees.specs.Parts as part
+use Rattle.lower_trees.specs.Expressions.{low, value}
+use Rattle.lower_trees.specs.Expressions as low
+use Rattle.lower_trees.specs.Counts.{sizes, read_sizes, value_sizes}
 use Rattle.mid_lower.proofs.Grows.{Mid, Grows}
 use Rattle.mid_lower.proofs.Fits.{Site}
 use Rattle.mid_lower.proofs.Following.{events_of, less_now, SimV, Side, mk, Goal, goal, Fit, Now, Way, Free, scratch, base_of, spare, at_free, above_free, eqb_more, kept_wider, M, M_grows, sets}

@@ -23,12 +23,12 @@ use Rattle.mid_code.specs.Code.{MoveO, StoreO, NodesT, Do}
 use Rattle.mid_code.specs.States.{temporaries, to, spent}
 use Rattle.mid_code.specs.Meaning.{Res}
 use Rattle.mid_code.specs.Passing.{Prefix}
-use Rattle.mid_lower.specs.Shape.{Shape, shape_in, words}
-use Rattle.mid_lower.specs.Flags.{is_flag}
-use Rattle.mid_lower.specs.Parts as part
-use Rattle.mid_lower.specs.Expressions.{low, value}
-use Rattle.mid_lower.specs.Expressions as low
-use Rattle.mid_lower.specs.Counts.{sizes, value_sizes}
+use Rattle.lower_trees.specs.Shape.{Shape, shape_in, words}
+use Rattle.lower_trees.specs.Flags.{is_flag}
+use Rattle.lower_trees.specs.Parts as part
+use Rattle.lower_trees.specs.Expressions.{low, value}
+use Rattle.lower_trees.specs.Expressions as low
+use Rattle.lower_trees.specs.Counts.{sizes, value_sizes}
 use Rattle.mid_lower.proofs.Grows.{Mid, Grows}
 use Rattle.mid_lower.proofs.Words.{in_words}
 use Rattle.mid_lower.proofs.Lives.{later_then}

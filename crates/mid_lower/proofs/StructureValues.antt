@@ -14,7 +14,7 @@ use Rattle.c_meaning.specs.Outcomes.{then_went}
 use Rattle.mid_code.specs.Code.{FreshO, MoveO, LocalO, NodesT, Do}
 use Rattle.mid_code.specs.Meaning.{Res}
 use Rattle.mid_code.specs.States.{temporaries, sizes_of, to, spent}
-use Rattle.mid_lower.specs.Parts as part
+use Rattle.lower_trees.specs.Parts as part
 use Rattle.mid_lower.proofs.Grows.{Mid}
 use Rattle.mid_lower.proofs.Under.{Under, under_join, under_length}
 use Rattle.mid_lower.proofs.Lives.{Ended, Gone, later_gone, later_join}

@@ -17,11 +17,11 @@ use Rattle.c_meaning.specs.Expressions.{value_of, evaluated}
 use Rattle.mid_code.specs.Code.{NodesT}
 use Rattle.mid_code.specs.Meaning.{Res}
 use Rattle.mid_code.specs.States.{sizes_of}
-use Rattle.mid_lower.specs.Shape.{Shape, shape_in, words}
-use Rattle.mid_lower.specs.Parts as part
-use Rattle.mid_lower.specs.Expressions.{low, value}
-use Rattle.mid_lower.specs.Expressions as low
-use Rattle.mid_lower.specs.Counts.{sizes, read_sizes, value_sizes}
+use Rattle.lower_trees.specs.Shape.{Shape, shape_in, words}
+use Rattle.lower_trees.specs.Parts as part
+use Rattle.lower_trees.specs.Expressions.{low, value}
+use Rattle.lower_trees.specs.Expressions as low
+use Rattle.lower_trees.specs.Counts.{sizes, read_sizes, value_sizes}
 use Rattle.mid_lower.proofs.Grows.{Mid}
 use Rattle.mid_lower.proofs.Words.{in_words}
 use Rattle.mid_lower.proofs.Fits.{Site}

@@ -15,12 +15,12 @@ use Rattle.c_meaning.specs.Statements.{does, does_arms, arms_before, labels, lef
 use Rattle.mid_code.specs.Code.{ConstO, TwoO, NodesT, Stop, Do, Choose, Block, Leave}
 use Rattle.mid_code.specs.Meaning.{Res, Next, then_next, block_done, choose}
 use Rattle.mid_code.specs.States.{temporaries, to, spent, word_tested}
-use Rattle.mid_lower.specs.Shape.{Shape, shape_in}
-use Rattle.mid_lower.specs.Parts as part
-use Rattle.mid_lower.specs.Counts.{stmt_temps, stmt_sizes, value_sizes, arms_sizes}
-use Rattle.mid_lower.specs.Expressions.{second, beyond}
-use Rattle.mid_lower.specs.Statements as low
-use Rattle.mid_lower.specs.Statements.{Jump, ToEnd, ToTurn, further, low_stmt, low_arms, low_group, low_match, labels_before_default}
+use Rattle.lower_trees.specs.Shape.{Shape, shape_in}
+use Rattle.lower_trees.specs.Parts as part
+use Rattle.lower_trees.specs.Counts.{stmt_temps, stmt_sizes, value_sizes, arms_sizes}
+use Rattle.lower_trees.specs.Expressions.{second, beyond}
+use Rattle.lower_trees.specs.Statements as low
+use Rattle.lower_trees.specs.Statements.{Jump, ToEnd, ToTurn, further, low_stmt, low_arms, low_group, low_match, labels_before_default}
 use Rattle.mid_lower.proofs.Grows.{Mid, Grows, more, then_grows, block_grows}
 use Rattle.mid_lower.proofs.Trees.{PlainValue, Below}
 use Rattle.mid_lower.proofs.Fits.{Site}

@@ -7,8 +7,8 @@ use Rattle.c_types.specs.Types.{Ty, VoidY, IntY, BoolY, EnumY, StructY, UnionY, 
 use Rattle.c_meaning.specs.Kinds.{is_structure, decayed, pointed, is_pointer}
 use Rattle.mid_code.specs.Code.{Stop, Do, Call, Choose, Block, Loop, Leave, Again, Return}
 use Rattle.mid_code.specs.Calls.{loops, CallsTo}
-use Rattle.mid_lower.specs.Shape.{Shape, words}
-use Rattle.mid_lower.specs.Parts.{Nodes, copied, zeroed, as_flag, converted, stored, with_word, stepped, with_pointer, operated_on, operated, one_more, one_less, tested_as, negated_as, made}
+use Rattle.lower_trees.specs.Shape.{Shape, words}
+use Rattle.lower_trees.specs.Parts.{Nodes, copied, zeroed, as_flag, converted, stored, with_word, stepped, with_pointer, operated_on, operated, one_more, one_less, tested_as, negated_as, made}
 
 -- how much a call of each function counts, and how much a loop
 pub record Counting : Type 0 where

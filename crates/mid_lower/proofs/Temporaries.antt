@@ -8,9 +8,9 @@ use Rattle.c_types.specs.Programs.{TFunctionT, ProgramT}
 use Rattle.c_types.specs.View.{tstmts}
 use Rattle.c_exprs.specs.Nodes.{is_place, is_place_kind}
 use Rattle.c_meaning.specs.Frames.{over, over_all, over_maybe, over_init, over_inits, over_vars, over_statement, over_other, over_statements, over_arm, over_arms, expressions}
-use Rattle.mid_lower.specs.Shape.{Shape}
-use Rattle.mid_lower.specs.Counts.{with_place, unary_temps, temps, temps_all, value_temps, init_temps, inits_temps, behind_address, vars_temps, maybe_temps, stmt_temps, other_temps, stmts_temps, arm_temps, arms_temps}
-use Rattle.mid_lower.specs.Lowered.{low_function, low_start}
+use Rattle.lower_trees.specs.Shape.{Shape}
+use Rattle.lower_trees.specs.Counts.{with_place, unary_temps, temps, temps_all, value_temps, init_temps, inits_temps, behind_address, vars_temps, maybe_temps, stmt_temps, other_temps, stmts_temps, arm_temps, arms_temps}
+use Rattle.lower_trees.specs.Lowered.{low_function, low_start}
 
 abbrev each : TKindT → Ty → ℕ
 each kind ty = 1

@@ -10,11 +10,11 @@ use Rattle.mid_code.specs.Paths.{Blocked, Point, at, beginning}
 use Rattle.mid_code.specs.Open.{AreOpen}
 use Rattle.mid_code.specs.Invariants.{DifferFrom, AreDifferent}
 use Rattle.mid_code.specs.Together.{WordsAtOnce}
-use Rattle.mid_lower.specs.Shape.{Shape, words}
-use Rattle.mid_lower.specs.Parts.{Nodes, first_param}
-use Rattle.mid_lower.specs.Counts.{stmts_sizes}
-use Rattle.mid_lower.specs.Statements.{ToEnd}
-use Rattle.mid_lower.specs.Lowered.{received, all_received, first_of, low_body, low_function}
+use Rattle.lower_trees.specs.Shape.{Shape, words}
+use Rattle.lower_trees.specs.Parts.{Nodes, first_param}
+use Rattle.lower_trees.specs.Counts.{stmts_sizes}
+use Rattle.lower_trees.specs.Statements.{ToEnd}
+use Rattle.lower_trees.specs.Lowered.{received, all_received, first_of, low_body, low_function}
 use Rattle.mid_lower.proofs.TogetherPaths.{Frames, Leads, here, doing, into_block, open_at, Reaching, led, all_made}
 use Rattle.mid_lower.proofs.TogetherExpressions.{copied_leads, either_leads}
 use Rattle.mid_lower.proofs.TogetherPoints.{stmts_reaches}

@@ -11,11 +11,11 @@ use Rattle.c_types.specs.Typed.{TExprT, Typed, NumberK, NullK, LiteralK, GlobalK
 use Rattle.c_exprs.specs.Nodes.{is_place}
 use Rattle.c_meaning.specs.Kinds.{type_of, is_structure, decayed, pointed, is_pointer}
 use Rattle.mid_code.specs.Paths.{Point, at}
-use Rattle.mid_lower.specs.Shape.{Shape, words, params_of, result_of}
-use Rattle.mid_lower.specs.Flags.{is_flag}
-use Rattle.mid_lower.specs.Parts.{Nodes, copied, zeroed, structure_read, as_flag, converted, stored, with_word, stepped, with_pointer, operated_on, operated, one_more, one_less, tested_as, negated_as}
-use Rattle.mid_lower.specs.Counts.{sizes, sizes_all}
-use Rattle.mid_lower.specs.Expressions.{Low, read, value_of, value, test, unary, second, beyond, binary, behind_place, assign, step_made, stepped_to, step_taken, index, member_of, called, spots, converted_to, later_types, low, low_args, low_value, low_test}
+use Rattle.lower_trees.specs.Shape.{Shape, words, params_of, result_of}
+use Rattle.lower_trees.specs.Flags.{is_flag}
+use Rattle.lower_trees.specs.Parts.{Nodes, copied, zeroed, structure_read, as_flag, converted, stored, with_word, stepped, with_pointer, operated_on, operated, one_more, one_less, tested_as, negated_as}
+use Rattle.lower_trees.specs.Counts.{sizes, sizes_all}
+use Rattle.lower_trees.specs.Expressions.{Low, read, value_of, value, test, unary, second, beyond, binary, behind_place, assign, step_made, stepped_to, step_taken, index, member_of, called, spots, converted_to, later_types, low, low_args, low_value, low_test}
 use Rattle.mid_lower.proofs.TogetherPaths.{Frames, Leads, doing, calling, first_way, second_way, into_loop, way_ends, loop_ends}
 
 -- ---- parts

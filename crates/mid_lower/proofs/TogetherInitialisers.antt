@@ -5,11 +5,11 @@ use Rattle.c_types.specs.Typed.{TInitT, OneI, TextI, ListI, TInitTs, NoI, MoreI,
 use Rattle.c_meaning.specs.Kinds.{is_structure}
 use Rattle.c_meaning.specs.Parts.{part_type}
 use Rattle.mid_code.specs.Paths.{Point, at}
-use Rattle.mid_lower.specs.Shape.{Shape, words, literal_words}
-use Rattle.mid_lower.specs.Flags.{is_flag}
-use Rattle.mid_lower.specs.Parts.{Nodes, item}
-use Rattle.mid_lower.specs.Counts.{init_temps, init_sizes, behind_address}
-use Rattle.mid_lower.specs.Initialisers.{part_at, cell_filled, part_filled, part_zeroed, low_text, low_rest, low_init, low_inits, address_of, object_to, low_vars}
+use Rattle.lower_trees.specs.Shape.{Shape, words, literal_words}
+use Rattle.lower_trees.specs.Flags.{is_flag}
+use Rattle.lower_trees.specs.Parts.{Nodes, item}
+use Rattle.lower_trees.specs.Counts.{init_temps, init_sizes, behind_address}
+use Rattle.lower_trees.specs.Initialisers.{part_at, cell_filled, part_filled, part_zeroed, low_text, low_rest, low_init, low_inits, address_of, object_to, low_vars}
 use Rattle.mid_lower.proofs.TogetherPaths.{Frames, Leads, doing}
 use Rattle.mid_lower.proofs.TogetherExpressions.{copied_leads, zeroed_leads, either_leads, converted_leads, low_value_passes}
 

@@ -4,7 +4,7 @@ use Rattle.c_meaning.specs.Frames.{is_among}
 use Rattle.mid_code.specs.Code.{OpT, FreshO, EndO, Stop, Do, Call, Choose, Block, Loop, Leave, Again}
 use Rattle.mid_code.specs.Paths.{Frame, Branched, Blocked, Looped, Point, at, beginning, leaving, repeating, next_points, SomePoint, Path}
 use Rattle.mid_code.specs.Open.{IsFresh, IsNoEnd, IsAny, IsOpen}
-use Rattle.mid_lower.specs.Parts.{Nodes, made}
+use Rattle.lower_trees.specs.Parts.{Nodes, made}
 
 abbrev pub Frames : Type 0
 Frames = List (Frame ℕ)

@@ -5,11 +5,11 @@ use Rattle.c_types.specs.Typed.{TStmtT, BlockZ, EmptyZ, VarsZ, DoZ, IfZ, WhileZ,
 use Rattle.c_meaning.specs.Frames.{Onward, Reaches, ReachesOther, ReachesAll, ReachesArms, ReachesFrom}
 use Rattle.mid_code.specs.Code.{Stop, Again}
 use Rattle.mid_code.specs.Paths.{Branched, Blocked, Point, at}
-use Rattle.mid_lower.specs.Shape.{Shape}
-use Rattle.mid_lower.specs.Parts.{Nodes}
-use Rattle.mid_lower.specs.Counts.{maybe_temps, maybe_sizes, stmt_temps, stmt_sizes, other_temps, other_sizes}
-use Rattle.mid_lower.specs.Expressions.{second, beyond}
-use Rattle.mid_lower.specs.Statements.{Jump, ToEnd, ToTurn, further, low_stmt, low_other, low_stmts, low_arms, low_group}
+use Rattle.lower_trees.specs.Shape.{Shape}
+use Rattle.lower_trees.specs.Parts.{Nodes}
+use Rattle.lower_trees.specs.Counts.{maybe_temps, maybe_sizes, stmt_temps, stmt_sizes, other_temps, other_sizes}
+use Rattle.lower_trees.specs.Expressions.{second, beyond}
+use Rattle.lower_trees.specs.Statements.{Jump, ToEnd, ToTurn, further, low_stmt, low_other, low_stmts, low_arms, low_group}
 use Rattle.mid_lower.proofs.TogetherPaths.{Frames, here, doing, first_way, second_way, into_block, into_loop, way_ends, Reaching, none_made, led, all_made}
 use Rattle.mid_lower.proofs.TogetherExpressions.{low_value_passes, low_test_passes}
 use Rattle.mid_lower.proofs.TogetherWays.{into_turn, for_frames, switch_leads, stmt_way, other_way}

@@ -5,11 +5,11 @@ use Rattle.c_types.specs.Typed.{TExprT, TStmtT, BlockZ, EmptyZ, VarsZ, DoZ, IfZ,
 use Rattle.c_meaning.specs.Frames.{Way, Onward, ByBreak, ByContinue, IsOnward, IsBreak, IsContinue, HasTest, Leaves, LeavesOther, LeavesAll, LeavesArms, LeavesFrom}
 use Rattle.mid_code.specs.Code.{ConstO, Stop, Do, Choose, Block, Leave, Again}
 use Rattle.mid_code.specs.Paths.{Branched, Blocked, Looped, Point, at, leaving, repeating}
-use Rattle.mid_lower.specs.Shape.{Shape}
-use Rattle.mid_lower.specs.Parts.{Nodes, one, made}
-use Rattle.mid_lower.specs.Counts.{maybe_temps, maybe_sizes, stmt_temps, stmt_sizes, other_temps, other_sizes}
-use Rattle.mid_lower.specs.Expressions.{second, beyond, low_test}
-use Rattle.mid_lower.specs.Statements.{Jump, ToEnd, ToTurn, further, jump, low_chosen, low_dropped, turns, labels_before_default, low_match, low_stmt, low_other, low_stmts, low_arms, low_group}
+use Rattle.lower_trees.specs.Shape.{Shape}
+use Rattle.lower_trees.specs.Parts.{Nodes, one, made}
+use Rattle.lower_trees.specs.Counts.{maybe_temps, maybe_sizes, stmt_temps, stmt_sizes, other_temps, other_sizes}
+use Rattle.lower_trees.specs.Expressions.{second, beyond, low_test}
+use Rattle.lower_trees.specs.Statements.{Jump, ToEnd, ToTurn, further, jump, low_chosen, low_dropped, turns, labels_before_default, low_match, low_stmt, low_other, low_stmts, low_arms, low_group}
 use Rattle.mid_lower.proofs.TogetherPaths.{Frames, Leads, OneLeads, doing, first_way, second_way, into_block, into_loop, way_ends, block_ends, loop_ends, leave_leads, again_leads, made_leads}
 use Rattle.mid_lower.proofs.TogetherExpressions.{low_value_passes, low_test_passes}
 use Rattle.mid_lower.proofs.TogetherInitialisers.{vars_leads}

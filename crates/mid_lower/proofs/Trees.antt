@@ -7,8 +7,8 @@ use Rattle.c_exprs.specs.Nodes.{is_place}
 use Rattle.c_meaning.specs.Kinds.{type_of, is_structure}
 use Rattle.c_meaning.specs.Parts.{part_type}
 use Rattle.c_meaning.specs.Statements.{labels}
-use Rattle.mid_lower.specs.Shape.{Shape, words, literal_words, params_of, result_of}
-use Rattle.mid_lower.specs.Expressions.{is_void}
+use Rattle.lower_trees.specs.Shape.{Shape, words, literal_words, params_of, result_of}
+use Rattle.lower_trees.specs.Expressions.{is_void}
 
 -- the value of this is no structure
 abbrev pub IsScalar : TExprT → Type 0

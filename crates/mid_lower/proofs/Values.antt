@@ -19,11 +19,11 @@ use Rattle.c_meaning.specs.Cells.{fetched, end_temporary}
 use Rattle.c_meaning.specs.Expressions.{value_of, with_value, dropped, dropped_value, evaluated}
 use Rattle.mid_code.specs.Code.{LoadO, NodesT, Do}
 use Rattle.mid_code.specs.Meaning.{Res}
-use Rattle.mid_lower.specs.Shape.{Shape, shape_in}
-use Rattle.mid_lower.specs.Flags.{is_flag}
-use Rattle.mid_lower.specs.Expressions.{low, value, test}
-use Rattle.mid_lower.specs.Expressions as low
-use Rattle.mid_lower.specs.Counts.{sizes, read_sizes, value_sizes}
+use Rattle.lower_trees.specs.Shape.{Shape, shape_in}
+use Rattle.lower_trees.specs.Flags.{is_flag}
+use Rattle.lower_trees.specs.Expressions.{low, value, test}
+use Rattle.lower_trees.specs.Expressions as low
+use Rattle.lower_trees.specs.Counts.{sizes, read_sizes, value_sizes}
 use Rattle.mid_lower.proofs.Grows.{Mid, Grows}
 use Rattle.mid_lower.proofs.Under.{Alike, same}
 use Rattle.mid_lower.proofs.Flagged.{IsFlag, flag_value, no_flag}

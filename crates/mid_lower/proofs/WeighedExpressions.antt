@@ -10,12 +10,12 @@ use Rattle.c_meaning.specs.Kinds.{type_of, is_structure, decayed, pointed}
 use Rattle.v32_isa.specs.declared.instruction.One.TheVariants.{ISGN, NOT}
 use Rattle.mid_code.specs.declared.node.Op.TheVariants as o
 use Rattle.mid_code.specs.Functions.{DoN}
-use Rattle.mid_lower.specs.Shape.{Shape, words, params_of, result_of}
-use Rattle.mid_lower.specs.Flags.{is_flag, tests_flag}
-use Rattle.mid_lower.specs.Counts.{sizes, sizes_all}
-use Rattle.mid_lower.specs.Expressions.{second, beyond, behind_place, spots, later_types, is_void}
-use Rattle.mid_lower.specs.ListedParts.{Listing, moved_by, structure_read, as_flag, converted, stored, stepped, operated, one_more, one_less, tested_as, negated_as}
-use Rattle.mid_lower.specs.ListedExpressions.{Lists, read_place, value_of, value, test, second_test, lazy_of, lazy_choice, binary_by, gives_old, counts_up, step_made, stepped_to, step_by, member_of, led, called_with, called, converted_to, low, low_kind, low_args, low_value, low_test}
+use Rattle.lower_trees.specs.Shape.{Shape, words, params_of, result_of}
+use Rattle.lower_trees.specs.Flags.{is_flag, tests_flag}
+use Rattle.lower_trees.specs.Counts.{sizes, sizes_all}
+use Rattle.lower_trees.specs.Expressions.{second, beyond, behind_place, spots, later_types, is_void}
+use Rattle.lower_trees.specs.ListedParts.{Listing, moved_by, structure_read, as_flag, converted, stored, stepped, operated, one_more, one_less, tested_as, negated_as}
+use Rattle.lower_trees.specs.ListedExpressions.{Lists, read_place, value_of, value, test, second_test, lazy_of, lazy_choice, binary_by, gives_old, counts_up, step_made, stepped_to, step_by, member_of, led, called_with, called, converted_to, low, low_kind, low_args, low_value, low_test}
 use Rattle.mid_lower.proofs.Weights.{weigh, both, three, four, moved_weighs, read_weighs, flag_weighs, converted_weighs, stored_weighs, stepped_weighs, operated_weighs, more_weighs, less_weighs, tested_weighs, negated_weighs}
 
 -- reading a place weighs so much at most

@@ -13,19 +13,19 @@ use Rattle.mid_code.specs.Code.{FunctionT}
 use Rattle.mid_code.specs.Runs.{nodes_weight, function_weight, weight}
 use Rattle.mid_code.specs.declared.node.Op.TheVariants as o
 use Rattle.mid_code.specs.Functions.{DoN, ChooseN, BlockN, LoopN, LeaveN, AgainN, ReturnN, listed}
-use Rattle.mid_lower.specs.Shape.{Shape, shape, words, literal_words}
-use Rattle.mid_lower.specs.Flags.{is_flag}
-use Rattle.mid_lower.specs.Parts.{one, from, to, item, other, result_at, param_at, first_param}
-use Rattle.mid_lower.specs.Counts.{init_temps, init_sizes, behind_address, maybe_temps, stmt_temps, other_temps, maybe_sizes, stmt_sizes, other_sizes}
-use Rattle.mid_lower.specs.Expressions.{second, beyond}
-use Rattle.mid_lower.specs.Initialisers.{address_of}
-use Rattle.mid_lower.specs.Statements.{Jump, ToEnd, ToTurn, further, labels_before_default}
-use Rattle.mid_lower.specs.Lowered.{first_of, lowered}
-use Rattle.mid_lower.specs.ListedParts.{Listing, copied, zeroed, moved_by, converted, tested_as, made}
-use Rattle.mid_lower.specs.ListedExpressions.{low_value, low_test}
-use Rattle.mid_lower.specs.ListedInitialisers.{part_at, cell_filled, part_filled, part_zeroed, low_text, low_rest, low_init, low_inits, object_to, low_vars}
-use Rattle.mid_lower.specs.ListedStatements.{jump, tested_first, chosen_by, low_chosen, low_dropped, turn_of, turns, low_match, low_label, returned, low_stmt, low_other, low_stmts, low_arms, low_group}
-use Rattle.mid_lower.specs.ListedFunctions.{received, all_received, low_body, low_function, low_start}
+use Rattle.lower_trees.specs.Shape.{Shape, shape, words, literal_words}
+use Rattle.lower_trees.specs.Flags.{is_flag}
+use Rattle.lower_trees.specs.Parts.{one, from, to, item, other, result_at, param_at, first_param}
+use Rattle.lower_trees.specs.Counts.{init_temps, init_sizes, behind_address, maybe_temps, stmt_temps, other_temps, maybe_sizes, stmt_sizes, other_sizes}
+use Rattle.lower_trees.specs.Expressions.{second, beyond}
+use Rattle.lower_trees.specs.Initialisers.{address_of}
+use Rattle.lower_trees.specs.Statements.{Jump, ToEnd, ToTurn, further, labels_before_default}
+use Rattle.lower_trees.specs.Lowered.{first_of, lowered}
+use Rattle.lower_trees.specs.ListedParts.{Listing, copied, zeroed, moved_by, converted, tested_as, made}
+use Rattle.lower_trees.specs.ListedExpressions.{low_value, low_test}
+use Rattle.lower_trees.specs.ListedInitialisers.{part_at, cell_filled, part_filled, part_zeroed, low_text, low_rest, low_init, low_inits, object_to, low_vars}
+use Rattle.lower_trees.specs.ListedStatements.{jump, tested_first, chosen_by, low_chosen, low_dropped, turn_of, turns, low_match, low_label, returned, low_stmt, low_other, low_stmts, low_arms, low_group}
+use Rattle.lower_trees.specs.ListedFunctions.{received, all_received, low_body, low_function, low_start}
 use Rattle.mid_lower.proofs.Weights.{weigh, both, three, four, copied_weighs, converted_weighs, made_weighs, zeroed_weighs}
 use Rattle.mid_lower.proofs.WeighedExpressions.{value_weighs, test_weighs}
 use Rattle.mid_lower.proofs.ProgramsListed.{inits_nodes, lowered_by}

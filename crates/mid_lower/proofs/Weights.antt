@@ -11,9 +11,9 @@ use Rattle.mid_code.specs.declared.node.Op.TheVariants as o
 use Rattle.mid_code.specs.Functions.{NodeT, DoN, ChooseN, BlockN, LoopN, LeaveN, AgainN, ReturnN, listed, joined, before, op_before}
 use Rattle.v32_isa.specs.declared.instruction.One.TheVariants.{ISGN}
 use Rattle.v32_isa.specs.declared.instruction.Two.TheVariants.{IMUL}
-use Rattle.mid_lower.specs.Parts.{count, one}
-use Rattle.mid_lower.specs.Shape.{Shape, words}
-use Rattle.mid_lower.specs.ListedParts.{Listing, copy_turn, copied, zeroed, moved_by, structure_read, as_flag, converted, stored, with_word, stepped, stepped_back, distant, with_pointer, operated_on, operated, one_more, one_less, tested_as, negated_as, made}
+use Rattle.lower_trees.specs.Parts.{count, one}
+use Rattle.lower_trees.specs.Shape.{Shape, words}
+use Rattle.lower_trees.specs.ListedParts.{Listing, copy_turn, copied, zeroed, moved_by, structure_read, as_flag, converted, stored, with_word, stepped, stepped_back, distant, with_pointer, operated_on, operated, one_more, one_less, tested_as, negated_as, made}
 
 abbrev pub weigh : Listing → ℕ
 weigh xs = nodes_weight (joined (listed xs))

@@ -1,21 +1,9 @@
 //! Typed programs lowered to mid code.
 //!
-//! The definitions tell which code a program becomes, form by form, and what the lowering promises of it: the code keeps the runs of the program.
-//! `lower` gives exactly that code. It stands on c_check for programs, on c_meaning for what they do, and on mid_code for code.
+//! `lower` gives exactly the code that the definitions of lower_trees tell of a program's start and functions. The definitions here tell what the lowering
+//! promises of it: the code keeps the runs of the program. It stands on lower_trees for the code, on c_check for programs, and on c_meaning for what they do.
 #![tactic(auto)]
 
-mod at;
-mod cells;
-mod expressions;
-mod finishing;
-mod functions;
-mod initialisers;
-mod jump;
-mod kinds;
-mod looping;
 mod lowering;
-mod operating;
-mod reading;
-mod statements;
 
 pub use lowering::lower;

@@ -2,11 +2,9 @@
 ghost use Rattle.std.specs.Prelude.{◌≡◌, map, IfOk};
 ghost use Rattle.c_check.specs.View.{program};
 ghost use Rattle.mid_code.specs.Whole.{mid};
-ghost use Rattle.mid_lower.specs.Lowered.{lowered};
+ghost use Rattle.lower_trees.specs.Lowered.{lowered};
 ghost use Rattle.mid_lower.specs.LoweredFrom.{IsLoweredFrom};
 
-use crate::functions::{lower_functions, lower_start};
-use crate::reading::Reading;
 use c_check::Program;
 use c_facts::laws::{
     functions_have_few_locals, known_types_have_sizes, programs_are_sound, programs_have_few_nodes,
@@ -14,6 +12,7 @@ use c_facts::laws::{
 };
 use c_facts::numbers_are_words;
 use kit_base::{Memory, Name, Seq};
+use lower_trees::{Reading, lower_functions, lower_start};
 use mid_code::{Code, Mid};
 use std::alloc::Global;
 

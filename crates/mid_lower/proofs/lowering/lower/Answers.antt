@@ -11,7 +11,7 @@ use Rattle.mid_code.specs.Code.{FunctionT}
 use Rattle.mid_code.specs.Functions.{function as function_of}
 use Rattle.mid_code.specs.Invariants.{IsMid}
 use Rattle.mid_code.specs.Whole.{mid}
-use Rattle.mid_lower.specs.ListedFunctions.{low_start, low_function}
+use Rattle.lower_trees.specs.ListedFunctions.{low_start, low_function}
 use Rattle.mid_lower.proofs.IsMidCode.{Known, lowered_is_mid}
 use Rattle.mid_lower.specs.LoweredFrom.{IsLoweredFrom}
 use Rattle.mid_lower.proofs.LoweredParts.{lowered_from}

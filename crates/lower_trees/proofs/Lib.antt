@@ -1,0 +1,6 @@
+pub mod Wrapped
+pub mod Joins
+pub mod Forms
+pub mod StatementForms
+pub mod Viewed
+pub mod Arms

@@ -1,0 +1,37 @@
+use Rattle.std.proofs.Common.{◌≡◌, ◌+◌, ◌*◌, ◌≤◌, ◌++◌, map, drop, length}
+use Rattle.c_types.specs.View.{ctype, tstmt, tstmts, tarm, tarms}
+use Rattle.c_types.specs.Nodes.{statement_nodes, statements_nodes, arms_nodes}
+use Rattle.mid_code.specs.Functions.{node}
+use Rattle.lower_trees.specs.Counts.{stmts_temps, stmts_sizes, arms_temps, arms_sizes}
+use Rattle.lower_trees.specs.ListedStatements.{low_stmts, low_arms, arms_open}
+use Rattle.lower_trees.specs.View.{shape_of, jump_of}
+use Rattle.lower_trees.proofs.statements.+execute.Given as goal
+
+abbrev pub invariant-statements-loop-a : goal.invariant-statements-loop-a
+invariant-statements-loop-a l = record {
+  nodes : map node l.out.items ++ low_stmts (shape_of l.s) (ctype l.gives) (tstmts (map tstmt (drop l.a-index l.body))) l.here.next l.here.local l.b (jump_of l.j) ≡ map node l.initial.out.items ++ low_stmts (shape_of l.s) (ctype l.gives) (tstmts (map tstmt l.body)) l.fn.at.next l.fn.at.local l.b (jump_of l.j);
+  sizes : l.structures.items ++ stmts_sizes (shape_of l.s) (tstmts (map tstmt (drop l.a-index l.body))) ≡ l.initial.structures.items ++ stmts_sizes (shape_of l.s) (tstmts (map tstmt l.body));
+  temps : l.here.next + stmts_temps (tstmts (map tstmt (drop l.a-index l.body))) ≡ l.fn.at.next + stmts_temps (tstmts (map tstmt l.body));
+  local : l.here.local + length (stmts_sizes (shape_of l.s) (tstmts (map tstmt (drop l.a-index l.body)))) ≡ l.fn.at.local + length (stmts_sizes (shape_of l.s) (tstmts (map tstmt l.body)));
+  few : statements_nodes (tstmts (map tstmt (drop l.a-index l.body))) ≤ 1000000;
+  on : l.fn.at.next ≤ l.here.next;
+}
+
+abbrev pub invariant-labelled-loop-arm : goal.invariant-labelled-loop-arm
+invariant-labelled-loop-arm l = record {
+  nodes : map node l.out.items ++ arms_open l.met (map node l.inside.items) (shape_of l.s) (ctype l.gives) l.t (tarms (map tarm (drop l.arm-index l.arms))) l.here.next l.here.local 0 (jump_of l.j) ≡ map node l.initial.out.items ++ low_arms (shape_of l.s) (ctype l.gives) l.t (tarms (map tarm l.arms)) l.fn.at.next l.fn.at.local 0 (jump_of l.j);
+  sizes : l.structures.items ++ arms_sizes (shape_of l.s) (tarms (map tarm (drop l.arm-index l.arms))) ≡ l.initial.structures.items ++ arms_sizes (shape_of l.s) (tarms (map tarm l.arms));
+  temps : l.here.next + arms_temps (tarms (map tarm (drop l.arm-index l.arms))) ≡ l.fn.at.next + arms_temps (tarms (map tarm l.arms));
+  local : l.here.local + length (arms_sizes (shape_of l.s) (tarms (map tarm (drop l.arm-index l.arms)))) ≡ l.fn.at.local + length (arms_sizes (shape_of l.s) (tarms (map tarm l.arms)));
+  few : arms_nodes (tarms (map tarm (drop l.arm-index l.arms))) ≤ 1000000;
+  on : l.fn.at.next ≤ l.here.next;
+}
+
+abbrev pub decreases-statement : goal.decreases-statement
+decreases-statement l = 2 * statement_nodes (tstmt l.a.now)
+
+abbrev pub decreases-statements : goal.decreases-statements
+decreases-statements l = 2 * statements_nodes (tstmts (map tstmt l.body.now)) + 1
+
+abbrev pub decreases-labelled : goal.decreases-labelled
+decreases-labelled l = 2 * arms_nodes (tarms (map tarm l.arms.now)) + 1

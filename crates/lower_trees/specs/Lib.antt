@@ -1,0 +1,15 @@
+pub mod Shape
+pub mod Flags
+pub mod Parts
+pub mod Counts
+pub mod Expressions
+pub mod Initialisers
+pub mod Statements
+pub mod Lowered
+pub mod ListedParts
+pub mod ListedExpressions
+pub mod ListedInitialisers
+pub mod ListedStatements
+pub mod ListedFunctions
+pub mod View
+pub mod MaybeTypes

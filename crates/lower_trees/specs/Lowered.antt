@@ -1,0 +1,67 @@
+-- Typed programs lowered to mid code.
+use Rattle.std.specs.Prelude.{ℕ, ◌+◌, not, ◌||◌, List, [], ◌∷◌, ◌++◌, length, map, if◌then◌else◌}
+use Rattle.c_types.specs.Types.{Ty, VoidY}
+use Rattle.c_types.specs.View.{tstmts}
+use Rattle.c_types.specs.Programs.{TFunctionT, ProgramT}
+use Rattle.c_meaning.specs.Kinds.{is_structure}
+use Rattle.mid_code.specs.Code.{MoveO, LocalO, StoreO, Stop, Do, Block, FunctionT, CodeT}
+use Rattle.lower_trees.specs.Shape.{Shape, shape, words}
+use Rattle.lower_trees.specs.Parts.{Nodes, from, to, result_at, param_at, first_param, copied, made}
+use Rattle.lower_trees.specs.Counts.{stmts_temps, stmts_sizes}
+use Rattle.lower_trees.specs.Expressions.{is_void}
+use Rattle.lower_trees.specs.Statements.{ToEnd, low_stmts}
+
+-- the temporaries that receive arguments, one for each parameter
+abbrev pub args_from : (first : ℕ) → List Ty → List ℕ
+args_from a [] = []
+args_from a (ty ∷ tys) = a ∷ args_from (a + 1) tys
+
+-- a place for the result comes before them, where it is a structure
+abbrev pub with_result : Ty → List ℕ → List ℕ
+with_result ty ps = if is_structure ty then result_at ∷ ps else ps
+
+-- the parameter of that number, whose type this is, takes what came to the temporary
+abbrev pub received : Shape → Ty → (number a : ℕ) → Nodes → Nodes
+received h ty k a c =
+    if is_structure ty then Do (MoveO from a) (Do (LocalO to k) (copied (words h ty) c))
+    else Do (LocalO (param_at k) k) (Do (StoreO (param_at k) a) c)
+
+abbrev pub all_received : Shape → List Ty → (number a : ℕ) → Nodes → Nodes
+all_received h [] k a c = c
+all_received h (ty ∷ tys) k a c = received h ty k a (all_received h tys (k + 1) (a + 1) c)
+
+-- the first temporary of a body
+abbrev pub first_of : List Ty → ℕ
+first_of tys = first_param + length tys
+
+-- The body stands in a block, which a `break` outside of loops leaves.
+abbrev pub low_body : Shape → TFunctionT → Nodes
+low_body h f = made f.made (all_received h f.params 0 first_param (Block (low_stmts h f.gives f.body (first_of f.params) (length f.locals) 0 (ToEnd 0) Stop) Stop))
+
+abbrev pub low_function : Shape → TFunctionT → FunctionT ℕ
+low_function h f = record {
+  temps = first_of f.params + stmts_temps f.body;
+  params = with_result f.gives (args_from first_param f.params);
+  locals = f.locals ++ stmts_sizes h f.body;
+  gives = not (is_void f.gives || is_structure f.gives);
+  body = low_body h f;
+}
+
+-- what fills the globals
+abbrev pub low_start : ProgramT → FunctionT ℕ
+low_start p = record {
+  temps = first_param + stmts_temps (tstmts p.inits);
+  params = [];
+  locals = stmts_sizes (shape p) (tstmts p.inits);
+  gives = not (is_void VoidY);
+  body = low_stmts (shape p) VoidY (tstmts p.inits) first_param 0 0 (ToEnd 0) Stop;
+}
+
+abbrev pub lowered : ProgramT → CodeT ℕ
+lowered p = record {
+  start = low_start p;
+  functions = map (low_function (shape p)) p.functions;
+  globals = map (λ g. g.1) p.globals;
+  literals = p.literals;
+  main = p.main;
+}

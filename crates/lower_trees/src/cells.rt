@@ -1,0 +1,162 @@
+// Nodes that are added, and loops over cells.
+ghost use Rattle.std.specs.Prelude.{◌≡◌, ◌++◌, ◌∷◌, [], map, IfOk, OnOk};
+ghost use Rattle.mid_code.specs.Functions.{DoN, node};
+ghost use Rattle.lower_trees.specs.Parts.{count, one, cell, from, to};
+ghost use Rattle.lower_trees.specs.ListedParts.{copy_turn, zero_turn, copied, zeroed, moved_by, structure_read, stored, made};
+ghost use Rattle.c_types.specs.View.{ctype};
+ghost use Rattle.lower_trees.specs.View.{shape_of};
+
+use crate::kinds::is_structure;
+use crate::reading::Reading;
+use c_types::CType;
+use kit_base::{Memory, Seq};
+use mid_code::{Node, Op};
+use std::alloc::Global;
+use v32_isa::Two;
+
+/// The turns left of a loop over cells.
+pub(crate) const COUNT: u32 = 0;
+/// A 1 while cells are gone over, and in a switch.
+pub(crate) const ONE: u32 = 1;
+/// The cell of a turn.
+pub(crate) const CELL: u32 = 2;
+/// The place that is read.
+pub(crate) const FROM: u32 = 3;
+/// The place that is written.
+pub(crate) const TO: u32 = 4;
+/// What a condition or the value of a switch is compared with.
+pub(crate) const OTHER: u32 = 5;
+/// The value that fills a part.
+pub(crate) const ITEM: u32 = 6;
+/// The object that is filled.
+pub(crate) const OBJECT: u32 = 7;
+/// The place of a structure that is returned.
+pub(crate) const RESULT_AT: u32 = 8;
+/// The first argument.
+pub(crate) const FIRST_PARAM: u32 = 16;
+
+/// Adds an operation.
+pub(crate) fn put(out: &mut Vec<Node<u32>>, o: Op<u32>) -> Result<(), Memory>
+    ensures { OnOk result (map node out.new.items ≡ map node out.old.items ++ DoN o ∷ []) }
+{
+    out.push(Node::Do(o))?;
+    Ok(())
+}
+
+/// One turn per cell that is copied.
+fn copy_turn(alloc: Global) -> Result<Vec<Node<u32>>, Memory>
+    ensures { IfOk result (λ r. map node r.items ≡ copy_turn) }
+{
+    let mut further = Vec::new(alloc);
+    put(&mut further, Op::Step(FROM, FROM, ONE))?;
+    put(&mut further, Op::Step(TO, TO, ONE))?;
+    further.push(Node::Again(0))?;
+    let mut turn = Vec::new(alloc);
+    put(&mut turn, Op::Load(CELL, FROM))?;
+    put(&mut turn, Op::Store(TO, CELL))?;
+    put(&mut turn, Op::Two(Two::ISUB, COUNT, COUNT, ONE))?;
+    turn.push(Node::Choose(
+        COUNT,
+        Seq::from_vec(further),
+        Seq::from_vec(Vec::new(alloc)),
+    ))?;
+    Ok(turn)
+}
+
+/// One turn per cell that is set to 0.
+fn zero_turn(alloc: Global) -> Result<Vec<Node<u32>>, Memory>
+    ensures { IfOk result (λ r. map node r.items ≡ zero_turn) }
+{
+    let mut further = Vec::new(alloc);
+    put(&mut further, Op::Step(TO, TO, ONE))?;
+    further.push(Node::Again(0))?;
+    let mut turn = Vec::new(alloc);
+    put(&mut turn, Op::Store(TO, CELL))?;
+    put(&mut turn, Op::Two(Two::ISUB, COUNT, COUNT, ONE))?;
+    turn.push(Node::Choose(
+        COUNT,
+        Seq::from_vec(further),
+        Seq::from_vec(Vec::new(alloc)),
+    ))?;
+    Ok(turn)
+}
+
+/// Copies so many cells.
+pub(crate) fn copy_cells(alloc: Global, out: &mut Vec<Node<u32>>, size: u32) -> Result<(), Memory>
+    ensures { OnOk result (map node out.new.items ≡ map node out.old.items ++ copied size) }
+{
+    if size == 0 {
+        return Ok(());
+    }
+    put(out, Op::Const(COUNT, size))?;
+    put(out, Op::Const(ONE, 1))?;
+    let turn = copy_turn(alloc)?;
+    out.push(Node::Loop(Seq::from_vec(turn)))?;
+    Ok(())
+}
+
+/// Sets so many cells to 0.
+pub(crate) fn zero_cells(alloc: Global, out: &mut Vec<Node<u32>>, size: u32) -> Result<(), Memory>
+    ensures { OnOk result (map node out.new.items ≡ map node out.old.items ++ zeroed size) }
+{
+    put(out, Op::Const(COUNT, size))?;
+    put(out, Op::Const(ONE, 1))?;
+    put(out, Op::Const(CELL, 0))?;
+    let turn = zero_turn(alloc)?;
+    out.push(Node::Loop(Seq::from_vec(turn)))?;
+    Ok(())
+}
+
+/// A pointer so many words behind that in p comes to t.
+pub(crate) fn move_by(out: &mut Vec<Node<u32>>, t: u32, p: u32, offset: u32) -> Result<(), Memory>
+    ensures { OnOk result (map node out.new.items ≡ map node out.old.items ++ moved_by t p offset) }
+{
+    put(out, Op::Const(t, offset))?;
+    put(out, Op::Step(t, p, t))
+}
+
+/// Copies the structure at the place in t to a local, a pointer to which comes to t.
+pub(crate) fn read_structure(
+    alloc: Global,
+    out: &mut Vec<Node<u32>>,
+    size: u32,
+    local: u32,
+    t: u32,
+) -> Result<(), Memory>
+    ensures { OnOk result (map node out.new.items ≡ map node out.old.items ++ structure_read size local t) }
+{
+    put(out, Op::Fresh(local))?;
+    put(out, Op::Move(FROM, t))?;
+    put(out, Op::Local(TO, local))?;
+    copy_cells(alloc, out, size)?;
+    put(out, Op::Local(t, local))
+}
+
+/// Stores the value in a at the place in p.
+pub(crate) fn store(
+    s: &Reading<'_>,
+    out: &mut Vec<Node<u32>>,
+    ty: &CType,
+    p: u32,
+    a: u32,
+) -> Result<(), Memory>
+    ensures { OnOk result (map node out.new.items ≡ map node out.old.items ++ stored (shape_of s.now) (ctype ty.now) p a) }
+{
+    if is_structure(ty) {
+        put(out, Op::Move(FROM, a))?;
+        put(out, Op::Move(TO, p))?;
+        copy_cells(s.alloc, out, s.words(ty))
+    } else {
+        put(out, Op::Store(p, a))
+    }
+}
+
+/// Makes locals anew.
+pub(crate) fn make(out: &mut Vec<Node<u32>>, locals: &[u32]) -> Result<(), Memory>
+    ensures { OnOk result (map node out.new.items ≡ map node out.old.items ++ made locals.now) }
+{
+    'locals: for k in locals {
+        put(out, Op::Fresh(*k))?;
+    }
+    Ok(())
+}

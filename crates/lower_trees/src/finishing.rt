@@ -1,0 +1,276 @@
+// What comes behind the operands of an expression.
+ghost use Rattle.std.specs.Prelude.{◌≡◌, ◌≤◌, ◌+◌, ◌++◌, ◌∷◌, [], length, map, false, if◌then◌else◌, IfOk, OnOk};
+ghost use Rattle.c_types.specs.View.{ctype};
+ghost use Rattle.mid_code.specs.Functions.{DoN, node};
+ghost use Rattle.lower_trees.specs.Shape.{words};
+ghost use Rattle.lower_trees.specs.Counts.{one_size};
+ghost use Rattle.lower_trees.specs.Expressions.{is_void, later_types};
+ghost use Rattle.lower_trees.specs.ListedParts.{converted, stored, operated, moved_by, structure_read};
+ghost use Rattle.lower_trees.specs.ListedExpressions.{lazy_choice, step_by, stepped_to, member_of, led, called_with, converted_to};
+ghost use Rattle.lower_trees.specs.MaybeTypes.{or_void, or_none};
+ghost use Rattle.lower_trees.specs.View.{shape_of};
+
+use crate::at::At;
+use crate::cells::{move_by, put, read_structure, store};
+use crate::kinds::{is_structure, is_void};
+use crate::operating::{convert, operate, step_one};
+use crate::reading::Reading;
+use c_tree::BinOp;
+use c_types::CType;
+use kit_base::{Memory, Seq};
+use mid_code::{Node, Op};
+use std::alloc::Global;
+
+/// The structure at the place in t, whose type this is, is copied to a local of its own.
+pub(crate) fn take_structure(
+    s: &Reading<'_>,
+    out: &mut Vec<Node<u32>>,
+    structures: &mut Vec<u32>,
+    ty: &CType,
+    t: u32,
+    at: At,
+) -> Result<At, Memory>
+    requires locals { at.local + 1 ≤ 1000000 }
+    ensures nodes { OnOk result (map node out.new.items ≡ map node out.old.items ++ structure_read (words (shape_of s.now) (ctype ty.now)) at.local t) }
+    ensures sizes { OnOk result (structures.new.items ≡ structures.old.items ++ words (shape_of s.now) (ctype ty.now) ∷ []) }
+    ensures next { IfOk result (λ r. r.next ≡ at.next) }
+    ensures local { IfOk result (λ r. r.local ≡ at.local + 1) }
+{
+    let size = s.words(ty);
+    structures.push(size)?;
+    read_structure(s.alloc, out, size, at.local, t)?;
+    Ok(At {
+        next: at.next,
+        local: at.local + 1,
+    })
+}
+
+/// Chooses by the first operand of `&&` or `||` whether the second one is run.
+pub(crate) fn choose_lazy(
+    alloc: Global,
+    out: &mut Vec<Node<u32>>,
+    and: bool,
+    t: u32,
+    last: Vec<Node<u32>>,
+) -> Result<(), Memory>
+    ensures { OnOk result (map node out.new.items ≡ map node out.old.items ++ lazy_choice and t (map node last.items) ∷ []) }
+{
+    let mut known = Vec::new(alloc);
+    if and {
+        put(&mut known, Op::Const(t, 0))?;
+        out.push(Node::Choose(t, Seq::from_vec(last), Seq::from_vec(known)))?;
+    } else {
+        put(&mut known, Op::Const(t, 1))?;
+        out.push(Node::Choose(t, Seq::from_vec(known), Seq::from_vec(last)))?;
+    }
+    Ok(())
+}
+
+/// The value in t is stored at the place in p, whose type this is.
+pub(crate) fn assign(
+    s: &Reading<'_>,
+    out: &mut Vec<Node<u32>>,
+    ty: &CType,
+    known: bool,
+    p: u32,
+    t: u32,
+) -> Result<(), Memory>
+    ensures { OnOk result (map node out.new.items ≡ map node out.old.items ++ converted (ctype ty.now) known t ++ stored (shape_of s.now) (ctype ty.now) p t) }
+{
+    convert(out, ty, known, t)?;
+    store(s, out, ty, p, t)
+}
+
+/// The cell at the place in p and the value in b are operated on, and the place takes what they come to; a takes the old cell.
+pub(crate) fn compound(
+    s: &Reading<'_>,
+    out: &mut Vec<Node<u32>>,
+    op: BinOp,
+    ty: &CType,
+    other: &CType,
+    t: u32,
+    a: u32,
+    b: u32,
+    p: u32,
+) -> Result<(), Memory>
+    ensures { OnOk result (map node out.new.items ≡ map node out.old.items ++ DoN (Op.Load a p) ∷ [] ++ operated (shape_of s.now) op (ctype ty.now) (ctype other.now) t a b ++ converted (ctype ty.now) false t ++ DoN (Op.Store p t) ∷ []) }
+{
+    put(out, Op::Load(a, p))?;
+    operate(s, out, op, ty, other, t, a, b)?;
+    convert(out, ty, false, t)?;
+    put(out, Op::Store(p, t))
+}
+
+fn step_to(
+    s: &Reading<'_>,
+    out: &mut Vec<Node<u32>>,
+    up: bool,
+    ty: &CType,
+    new: u32,
+    old: u32,
+    p: u32,
+) -> Result<(), Memory>
+    ensures { OnOk result (map node out.new.items ≡ map node out.old.items ++ stepped_to (shape_of s.now) up (ctype ty.now) new old p) }
+{
+    put(out, Op::Load(old, p))?;
+    step_one(s, out, up, ty, new, old)?;
+    convert(out, ty, false, new)?;
+    put(out, Op::Store(p, new))
+}
+
+/// The cell at the place in p goes one up or down; t takes the new cell, or the old one, and the temporary behind p the other.
+pub(crate) fn step(
+    s: &Reading<'_>,
+    out: &mut Vec<Node<u32>>,
+    old: bool,
+    up: bool,
+    ty: &CType,
+    t: u32,
+    p: u32,
+) -> Result<(), Memory>
+    requires { p + 1 ≤ 1000000 }
+    ensures { OnOk result (map node out.new.items ≡ map node out.old.items ++ step_by (shape_of s.now) old up (ctype ty.now) t p) }
+{
+    if old {
+        step_to(s, out, up, ty, p + 1, t, p)
+    } else {
+        step_to(s, out, up, ty, t, p + 1, p)
+    }
+}
+
+fn load_member(out: &mut Vec<Node<u32>>, place: bool, ty: &CType, t: u32) -> Result<(), Memory>
+    ensures { OnOk result (map node out.new.items ≡ map node out.old.items ++ member_of place (ctype ty.now) t) }
+{
+    if place {
+        return Ok(());
+    }
+    if is_structure(ty) {
+        Ok(())
+    } else {
+        put(out, Op::Load(t, t))
+    }
+}
+
+/// The member so many words behind the structure in p comes to t; a scalar of a structure that is no place is read.
+pub(crate) fn member(
+    out: &mut Vec<Node<u32>>,
+    place: bool,
+    ty: &CType,
+    t: u32,
+    p: u32,
+    offset: u32,
+) -> Result<(), Memory>
+    ensures { OnOk result (map node out.new.items ≡ map node out.old.items ++ moved_by t p offset ++ member_of place (ctype ty.now) t) }
+{
+    move_by(out, t, p, offset)?;
+    load_member(out, place, ty, t)
+}
+
+/// The temporaries of a call's arguments, of which the place of a structure that is returned is the first.
+pub(crate) fn lead(alloc: Global, ty: Option<&CType>, t: u32) -> Result<Vec<u32>, Memory>
+    ensures { IfOk result (λ r. r.items ≡ led (or_void ty.entry) t) }
+{
+    let mut spots = Vec::new(alloc);
+    if let Some(ty) = ty {
+        if is_structure(ty) {
+            spots.push(t)?;
+        }
+    }
+    Ok(spots)
+}
+
+fn target_of(ty: &CType, t: u32) -> Option<u32>
+    ensures { result ≡ (if is_void (ctype ty.now) then None else Some t) }
+{
+    if is_void(ty) { None } else { Some(t) }
+}
+
+/// Calls a function whose result has this type.
+fn call_giving(
+    s: &Reading<'_>,
+    out: &mut Vec<Node<u32>>,
+    structures: &mut Vec<u32>,
+    ty: &CType,
+    f: u32,
+    t: u32,
+    args: Vec<u32>,
+    at: At,
+) -> Result<At, Memory>
+    requires locals { at.local + length (one_size (shape_of s.now) (ctype ty.now)) ≤ 1000000 }
+    ensures nodes { OnOk result (map node out.new.items ≡ map node out.old.items ++ called_with (ctype ty.now) f at.local t args.items) }
+    ensures sizes { OnOk result (structures.new.items ≡ structures.old.items ++ one_size (shape_of s.now) (ctype ty.now)) }
+    ensures next { IfOk result (λ r. r.next ≡ at.next) }
+    ensures local { IfOk result (λ r. r.local ≡ at.local + length (one_size (shape_of s.now) (ctype ty.now))) }
+{
+    let args = Seq::from_vec(args);
+    if is_structure(ty) {
+        structures.push(s.words(ty))?;
+        put(out, Op::Fresh(at.local))?;
+        put(out, Op::Local(t, at.local))?;
+        put(out, Op::Call(None, f, args))?;
+        Ok(At {
+            next: at.next,
+            local: at.local + 1,
+        })
+    } else {
+        put(out, Op::Call(target_of(ty, t), f, args))?;
+        Ok(at)
+    }
+}
+
+/// Calls a function whose result has this type, or which is not there.
+pub(crate) fn call(
+    s: &Reading<'_>,
+    out: &mut Vec<Node<u32>>,
+    structures: &mut Vec<u32>,
+    ty: Option<&CType>,
+    f: u32,
+    t: u32,
+    args: Vec<u32>,
+    at: At,
+) -> Result<At, Memory>
+    requires locals { at.local + length (one_size (shape_of s.now) (or_void ty)) ≤ 1000000 }
+    ensures nodes { OnOk result (map node out.new.items ≡ map node out.old.items ++ called_with (or_void ty.entry) f at.local t args.items) }
+    ensures sizes { OnOk result (structures.new.items ≡ structures.old.items ++ one_size (shape_of s.now) (or_void ty.entry)) }
+    ensures next { IfOk result (λ r. r.next ≡ at.next) }
+    ensures local { IfOk result (λ r. r.local ≡ at.local + length (one_size (shape_of s.now) (or_void ty.entry))) }
+{
+    match ty {
+        None => {
+            put(out, Op::Call(None, f, Seq::from_vec(args)))?;
+            Ok(at)
+        }
+        Some(ty) => call_giving(s, out, structures, ty, f, t, args, at),
+    }
+}
+
+/// The first of these types, where there is one, is what the value in t is converted to.
+pub(crate) fn convert_first(
+    out: &mut Vec<Node<u32>>,
+    types: Option<&[CType]>,
+    known: bool,
+    t: u32,
+) -> Result<(), Memory>
+    ensures { OnOk result (map node out.new.items ≡ map node out.old.items ++ converted_to (or_none types.entry) known t) }
+{
+    match types {
+        None => Ok(()),
+        Some(types) => match types.split_first() {
+            None => Ok(()),
+            Some((ty, _)) => convert(out, ty, known, t),
+        },
+    }
+}
+
+/// The types behind the first.
+pub(crate) fn later<'a>(types: Option<&'a [CType]>) -> Option<&'a [CType]>
+    ensures { or_none result ≡ later_types (or_none types.entry) }
+{
+    match types {
+        None => None,
+        Some(types) => match types.split_first() {
+            None => None,
+            Some((_, rest)) => Some(rest),
+        },
+    }
+}

@@ -1,0 +1,240 @@
+// Parts of loops, switches and returns.
+ghost use Rattle.std.specs.Prelude.{◌≡◌, ◌≤◌, ◌+◌, ◌++◌, ◌∷◌, [], length, map, option_map, if◌then◌else◌, IfOk, OnOk};
+ghost use Rattle.c_types.specs.View.{ctype, texpr, tarm, tarms};
+ghost use Rattle.mid_code.specs.Functions.{DoN, BlockN, LoopN, ChooseN, LeaveN, listed, node};
+ghost use Rattle.lower_trees.specs.Counts.{maybe_temps, maybe_sizes};
+ghost use Rattle.lower_trees.specs.Statements.{further, labels_before_default};
+ghost use Rattle.lower_trees.specs.ListedStatements.{depth, jump, tested_first, chosen_by, turn_of, low_dropped, low_match, low_label, returned};
+ghost use Rattle.lower_trees.specs.View.{shape_of, jump_of};
+
+use crate::at::{At, from};
+use crate::cells::{FROM, ONE, OTHER, RESULT_AT, TO, copy_cells, put};
+use crate::expressions::value;
+use crate::jump::JumpTo;
+use crate::kinds::is_structure;
+use crate::operating::test_as;
+use crate::reading::Reading;
+use c_types::{CType, TArm, TExpr};
+use kit_base::{Memory, Seq};
+use mid_code::{Node, Op};
+use std::alloc::Global;
+use v32_isa::Two;
+
+/// The same, with one enclosing part more.
+pub(crate) fn further(j: JumpTo) -> JumpTo
+    requires { depth (jump_of j) ≤ 1000000 }
+    ensures { jump_of result ≡ further (jump_of j) }
+{
+    match j {
+        JumpTo::End(k) => JumpTo::End(k + 1),
+        JumpTo::Turn(k) => JumpTo::Turn(k + 1),
+    }
+}
+
+pub(crate) fn jump(out: &mut Vec<Node<u32>>, j: JumpTo) -> Result<(), Memory>
+    ensures { OnOk result (map node out.new.items ≡ map node out.old.items ++ jump (jump_of j)) }
+{
+    match j {
+        JumpTo::End(k) => out.push(Node::Leave(k))?,
+        JumpTo::Turn(k) => out.push(Node::Again(k))?,
+    }
+    Ok(())
+}
+
+/// Adds a block of nodes.
+pub(crate) fn put_block(out: &mut Vec<Node<u32>>, inside: Vec<Node<u32>>) -> Result<(), Memory>
+    ensures { OnOk result (map node out.new.items ≡ map node out.old.items ++ BlockN (listed (map node inside.items)) ∷ []) }
+{
+    out.push(Node::Block(Seq::from_vec(inside)))?;
+    Ok(())
+}
+
+/// Adds a choice by the word in t.
+pub(crate) fn put_choice(
+    out: &mut Vec<Node<u32>>,
+    t: u32,
+    first: Vec<Node<u32>>,
+    second: Vec<Node<u32>>,
+) -> Result<(), Memory>
+    ensures { OnOk result (map node out.new.items ≡ map node out.old.items ++ ChooseN t (listed (map node first.items)) (listed (map node second.items)) ∷ []) }
+{
+    out.push(Node::Choose(t, Seq::from_vec(first), Seq::from_vec(second)))?;
+    Ok(())
+}
+
+/// The condition of a turn, where there is one, comes to the first free temporary.
+pub(crate) fn test_first(
+    s: &Reading<'_>,
+    test: Option<&TExpr>,
+    at: At,
+    out: &mut Vec<Node<u32>>,
+    structures: &mut Vec<u32>,
+) -> Result<At, Memory>
+    requires temps { at.next + maybe_temps (option_map (λ x. texpr x.now) test) ≤ 1000000 }
+    requires locals { at.local + length (maybe_sizes (shape_of s.now) (option_map (λ x. texpr x.now) test)) ≤ 1000000 }
+    ensures nodes { OnOk result (map node out.new.items ≡ map node out.old.items ++ tested_first (shape_of s.now) (option_map (λ x. texpr x.now) test.entry) at.next at.local) }
+    ensures sizes { OnOk result (structures.new.items ≡ structures.old.items ++ maybe_sizes (shape_of s.now) (option_map (λ x. texpr x.now) test.entry)) }
+    ensures next { IfOk result (λ r. r.next ≡ at.next + maybe_temps (option_map (λ x. texpr x.now) test.entry)) }
+    ensures local { IfOk result (λ r. r.local ≡ at.local + length (maybe_sizes (shape_of s.now) (option_map (λ x. texpr x.now) test.entry))) }
+{
+    match test {
+        None => Ok(at),
+        Some(x) => {
+            let done = value(s, x, at.next, from(at.next + 1, at.local), out, structures)?;
+            test_as(out, &x.ty, at.next)?;
+            Ok(done)
+        }
+    }
+}
+
+/// The value of a step, where there is one, comes to the first free temporary and is dropped.
+fn drop_value(
+    s: &Reading<'_>,
+    step: Option<&TExpr>,
+    at: At,
+    out: &mut Vec<Node<u32>>,
+    structures: &mut Vec<u32>,
+) -> Result<At, Memory>
+    requires temps { at.next + maybe_temps (option_map (λ x. texpr x.now) step) ≤ 1000000 }
+    requires locals { at.local + length (maybe_sizes (shape_of s.now) (option_map (λ x. texpr x.now) step)) ≤ 1000000 }
+    ensures nodes { OnOk result (map node out.new.items ≡ map node out.old.items ++ low_dropped (shape_of s.now) (option_map (λ x. texpr x.now) step.entry) at.next at.local) }
+    ensures sizes { OnOk result (structures.new.items ≡ structures.old.items ++ maybe_sizes (shape_of s.now) (option_map (λ x. texpr x.now) step.entry)) }
+    ensures next { IfOk result (λ r. r.next ≡ at.next + maybe_temps (option_map (λ x. texpr x.now) step.entry)) }
+    ensures local { IfOk result (λ r. r.local ≡ at.local + length (maybe_sizes (shape_of s.now) (option_map (λ x. texpr x.now) step.entry))) }
+{
+    match step {
+        None => Ok(at),
+        Some(x) => value(s, x, at.next, from(at.next + 1, at.local), out, structures),
+    }
+}
+
+/// Closes a turn of a `for`, of which the condition stands in `turn` and the body in `inside`.
+pub(crate) fn close_turn(
+    s: &Reading<'_>,
+    tests: bool,
+    n: u32,
+    turn: Vec<Node<u32>>,
+    inside: Vec<Node<u32>>,
+    step: Option<&TExpr>,
+    at: At,
+    out: &mut Vec<Node<u32>>,
+    structures: &mut Vec<u32>,
+) -> Result<At, Memory>
+    requires temps { at.next + maybe_temps (option_map (λ x. texpr x.now) step) ≤ 1000000 }
+    requires locals { at.local + length (maybe_sizes (shape_of s.now) (option_map (λ x. texpr x.now) step)) ≤ 1000000 }
+    ensures nodes { OnOk result (map node out.new.items ≡ map node out.old.items ++ LoopN (listed (map node turn.items ++ chosen_by tests n (turn_of (map node inside.items) (low_dropped (shape_of s.now) (option_map (λ x. texpr x.now) step.entry) at.next at.local)))) ∷ []) }
+    ensures sizes { OnOk result (structures.new.items ≡ structures.old.items ++ maybe_sizes (shape_of s.now) (option_map (λ x. texpr x.now) step.entry)) }
+    ensures next { IfOk result (λ r. r.next ≡ at.next + maybe_temps (option_map (λ x. texpr x.now) step.entry)) }
+    ensures local { IfOk result (λ r. r.local ≡ at.local + length (maybe_sizes (shape_of s.now) (option_map (λ x. texpr x.now) step.entry))) }
+{
+    let mut turn = turn;
+    if tests {
+        let mut rest = Vec::new(s.alloc);
+        put_block(&mut rest, inside)?;
+        let last = drop_value(s, step, at, &mut rest, structures)?;
+        rest.push(Node::Again(0))?;
+        put_choice(&mut turn, n, rest, Vec::new(s.alloc))?;
+        out.push(Node::Loop(Seq::from_vec(turn)))?;
+        Ok(last)
+    } else {
+        put_block(&mut turn, inside)?;
+        let last = drop_value(s, step, at, &mut turn, structures)?;
+        turn.push(Node::Again(0))?;
+        out.push(Node::Loop(Seq::from_vec(turn)))?;
+        Ok(last)
+    }
+}
+
+/// The labels before `default`, else all.
+fn labels_before_default(arms: &[TArm]) -> u32
+    requires { length arms.now ≤ 1000000 }
+    ensures { result ≡ labels_before_default (tarms (map tarm arms.now)) }
+{
+    let mut count = 0;
+    'arms: for arm in arms {
+        match arm {
+            TArm::Case(_) => count += 1,
+            TArm::Default => return count,
+            TArm::Stmt(_) => {}
+        }
+    }
+    count
+}
+
+/// The word in t is equal to a label, which comes behind i others.
+fn match_label(
+    alloc: Global,
+    out: &mut Vec<Node<u32>>,
+    t: u32,
+    i: u32,
+    label: u32,
+) -> Result<(), Memory>
+    ensures { OnOk result (map node out.new.items ≡ map node out.old.items ++ (DoN (Op.Const OTHER label) ∷ DoN (Op.Two Two.IEQ OTHER t OTHER) ∷ ChooseN OTHER (listed (DoN (Op.Const t i) ∷ LeaveN 0 ∷ [])) (listed []) ∷ [])) }
+{
+    let mut found = Vec::new(alloc);
+    put(&mut found, Op::Const(t, i))?;
+    found.push(Node::Leave(0))?;
+    put(out, Op::Const(OTHER, label))?;
+    put(out, Op::Two(Two::IEQ, OTHER, t, OTHER))?;
+    put_choice(out, OTHER, found, Vec::new(alloc))
+}
+
+/// The word in t is held against the labels of the arms; t takes how many labels come before the one that is chosen.
+pub(crate) fn match_arms(alloc: Global, t: u32, arms: &[TArm]) -> Result<Vec<Node<u32>>, Memory>
+    requires { length arms.now ≤ 1000000 }
+    ensures { IfOk result (λ r. map node r.items ≡ low_match t 0 (labels_before_default (tarms (map tarm arms.now))) (tarms (map tarm arms.now))) }
+{
+    let before = labels_before_default(arms);
+    let mut out = Vec::new(alloc);
+    let mut i = 0;
+    'arms: for arm in arms {
+        match arm {
+            TArm::Case(label) => {
+                match_label(alloc, &mut out, t, i, *label)?;
+                i += 1;
+            }
+            TArm::Default => i += 1,
+            TArm::Stmt(_) => {}
+        }
+    }
+    put(&mut out, Op::Const(t, before))?;
+    Ok(out)
+}
+
+/// What stands behind a label, where one was met, is passed over while labels come before the one that is chosen.
+pub(crate) fn close_label(
+    alloc: Global,
+    out: &mut Vec<Node<u32>>,
+    met: bool,
+    t: u32,
+    inside: Vec<Node<u32>>,
+) -> Result<(), Memory>
+    ensures { OnOk result (map node out.new.items ≡ map node out.old.items ++ (if met then low_label t (map node inside.items) else [])) }
+{
+    if met {
+        let mut passed = Vec::new(alloc);
+        put(&mut passed, Op::Two(Two::ISUB, t, t, ONE))?;
+        put_choice(out, t, passed, inside)?;
+    }
+    Ok(())
+}
+
+/// Returns the value in t.
+pub(crate) fn give_back(
+    s: &Reading<'_>,
+    out: &mut Vec<Node<u32>>,
+    ty: &CType,
+    t: u32,
+) -> Result<(), Memory>
+    ensures { OnOk result (map node out.new.items ≡ map node out.old.items ++ returned (shape_of s.now) (ctype ty.now) t) }
+{
+    if is_structure(ty) {
+        put(out, Op::Move(FROM, t))?;
+        put(out, Op::Move(TO, RESULT_AT))?;
+        copy_cells(s.alloc, out, s.words(ty))?;
+        out.push(Node::Return(None))?;
+    } else {
+        out.push(Node::Return(Some(t)))?;
+    }
+    Ok(())
+}

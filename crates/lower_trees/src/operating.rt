@@ -1,0 +1,281 @@
+// Operators, conversions and conditions.
+ghost use Rattle.std.specs.Prelude.{◌≡◌, ◌++◌, map, option_map, OnOk};
+ghost use Rattle.std.specs.Borrow.{Bor};
+ghost use Rattle.c_types.specs.View.{ctype};
+ghost use Rattle.c_meaning.specs.Kinds.{decayed, pointed};
+ghost use Rattle.mid_code.specs.Functions.{node};
+ghost use Rattle.lower_trees.specs.ListedParts.{two, compared, as_flag, converted, with_word, stepped, stepped_back, distant, with_pointer, operated, one_more, one_less, tested_as, negated_as};
+ghost use Rattle.lower_trees.specs.ListedExpressions.{step_made};
+ghost use Rattle.lower_trees.specs.View.{shape_of};
+
+use crate::cells::{OTHER, put};
+use crate::kinds::{is_pointer, target};
+use crate::reading::Reading;
+use c_tree::BinOp;
+use c_types::CType;
+use kit_base::Memory;
+use mid_code::{Node, Op};
+use v32_isa::{One, Two};
+
+/// Makes a word 0 or 1, where it is not known to be.
+pub(crate) fn put_flag(out: &mut Vec<Node<u32>>, known: bool, t: u32) -> Result<(), Memory>
+    ensures { OnOk result (map node out.new.items ≡ map node out.old.items ++ as_flag known t) }
+{
+    if known {
+        Ok(())
+    } else {
+        put(out, Op::One(One::CIB, t, t))
+    }
+}
+
+/// Converts the value in t to a type.
+pub(crate) fn convert(
+    out: &mut Vec<Node<u32>>,
+    ty: &CType,
+    known: bool,
+    t: u32,
+) -> Result<(), Memory>
+    ensures { OnOk result (map node out.new.items ≡ map node out.old.items ++ converted (ctype ty.now) known t) }
+{
+    match ty {
+        CType::Bool => put_flag(out, known, t),
+        CType::Void
+        | CType::Int
+        | CType::Enum(_)
+        | CType::Struct(_)
+        | CType::Union(_)
+        | CType::Pointer(_)
+        | CType::Array(_, _) => Ok(()),
+    }
+}
+
+fn put_two(out: &mut Vec<Node<u32>>, op: Two, t: u32, a: u32, b: u32) -> Result<(), Memory>
+    ensures { OnOk result (map node out.new.items ≡ map node out.old.items ++ two op t a b) }
+{
+    put(out, Op::Two(op, t, a, b))
+}
+
+fn compare(out: &mut Vec<Node<u32>>, op: Two, t: u32, a: u32, b: u32) -> Result<(), Memory>
+    ensures { OnOk result (map node out.new.items ≡ map node out.old.items ++ compared op t a b) }
+{
+    put(out, Op::PtrTest(op, t, a, b))
+}
+
+/// An operator on words.
+fn with_word(out: &mut Vec<Node<u32>>, op: BinOp, t: u32, a: u32, b: u32) -> Result<(), Memory>
+    ensures { OnOk result (map node out.new.items ≡ map node out.old.items ++ with_word op t a b) }
+{
+    match op {
+        BinOp::Mul => put_two(out, Two::IMUL, t, a, b),
+        BinOp::Div => put_two(out, Two::IDIV, t, a, b),
+        BinOp::Mod => put_two(out, Two::IMOD, t, a, b),
+        BinOp::Add => put_two(out, Two::IADD, t, a, b),
+        BinOp::Sub => put_two(out, Two::ISUB, t, a, b),
+        BinOp::Shl => put_two(out, Two::SHL, t, a, b),
+        BinOp::Shr => {
+            put(out, Op::One(One::ISGN, b, b))?;
+            put(out, Op::Two(Two::SHL, t, a, b))
+        }
+        BinOp::Less => put_two(out, Two::ILT, t, a, b),
+        BinOp::LessEq => put_two(out, Two::ILE, t, a, b),
+        BinOp::More => put_two(out, Two::IGT, t, a, b),
+        BinOp::MoreEq => put_two(out, Two::IGE, t, a, b),
+        BinOp::Equal => put_two(out, Two::IEQ, t, a, b),
+        BinOp::NotEqual => put_two(out, Two::INE, t, a, b),
+        BinOp::BitAnd => put_two(out, Two::AND, t, a, b),
+        BinOp::BitXor => put_two(out, Two::XOR, t, a, b),
+        BinOp::BitOr => put_two(out, Two::OR, t, a, b),
+        BinOp::AndAlso => Ok(()),
+        BinOp::OrElse => Ok(()),
+    }
+}
+
+/// A pointer stepped by so many elements.
+pub(crate) fn step_by(
+    out: &mut Vec<Node<u32>>,
+    size: u32,
+    t: u32,
+    a: u32,
+    b: u32,
+) -> Result<(), Memory>
+    ensures { OnOk result (map node out.new.items ≡ map node out.old.items ++ stepped size t a b) }
+{
+    if size == 1 {
+        put(out, Op::Step(t, a, b))
+    } else {
+        put(out, Op::Const(t, size))?;
+        put(out, Op::Two(Two::IMUL, b, b, t))?;
+        put(out, Op::Step(t, a, b))
+    }
+}
+
+fn step_back(out: &mut Vec<Node<u32>>, size: u32, t: u32, a: u32, b: u32) -> Result<(), Memory>
+    ensures { OnOk result (map node out.new.items ≡ map node out.old.items ++ stepped_back size t a b) }
+{
+    put(out, Op::One(One::ISGN, b, b))?;
+    step_by(out, size, t, a, b)
+}
+
+/// How many elements lie between two pointers.
+fn distance(out: &mut Vec<Node<u32>>, size: u32, t: u32, a: u32, b: u32) -> Result<(), Memory>
+    ensures { OnOk result (map node out.new.items ≡ map node out.old.items ++ distant size t a b) }
+{
+    put(out, Op::Apart(t, a, b))?;
+    put(out, Op::Const(b, size))?;
+    put(out, Op::Two(Two::IDIV, t, t, b))
+}
+
+fn subtract(
+    out: &mut Vec<Node<u32>>,
+    size: u32,
+    pointers: bool,
+    t: u32,
+    a: u32,
+    b: u32,
+) -> Result<(), Memory>
+    ensures { OnOk result (map node out.new.items ≡ map node out.old.items ++ with_pointer BinOp.Sub size pointers t a b) }
+{
+    if pointers {
+        distance(out, size, t, a, b)
+    } else {
+        step_back(out, size, t, a, b)
+    }
+}
+
+/// An operator whose first operand is a pointer.
+fn with_pointer(
+    out: &mut Vec<Node<u32>>,
+    op: BinOp,
+    size: u32,
+    pointers: bool,
+    t: u32,
+    a: u32,
+    b: u32,
+) -> Result<(), Memory>
+    ensures { OnOk result (map node out.new.items ≡ map node out.old.items ++ with_pointer op size pointers t a b) }
+{
+    match op {
+        BinOp::Add => step_by(out, size, t, a, b),
+        BinOp::Sub => subtract(out, size, pointers, t, a, b),
+        BinOp::Equal => compare(out, Two::IEQ, t, a, b),
+        BinOp::NotEqual => compare(out, Two::INE, t, a, b),
+        BinOp::Less => compare(out, Two::ILT, t, a, b),
+        BinOp::LessEq => compare(out, Two::ILE, t, a, b),
+        BinOp::More => compare(out, Two::IGT, t, a, b),
+        BinOp::MoreEq => compare(out, Two::IGE, t, a, b),
+        BinOp::Mul => Ok(()),
+        BinOp::Div => Ok(()),
+        BinOp::Mod => Ok(()),
+        BinOp::Shl => Ok(()),
+        BinOp::Shr => Ok(()),
+        BinOp::BitAnd => Ok(()),
+        BinOp::BitXor => Ok(()),
+        BinOp::BitOr => Ok(()),
+        BinOp::AndAlso => Ok(()),
+        BinOp::OrElse => Ok(()),
+    }
+}
+
+/// An operator by the types of its operands; t takes what they come to.
+pub(crate) fn operate(
+    s: &Reading<'_>,
+    out: &mut Vec<Node<u32>>,
+    op: BinOp,
+    first: &CType,
+    second: &CType,
+    t: u32,
+    a: u32,
+    b: u32,
+) -> Result<(), Memory>
+    ensures { OnOk result (map node out.new.items ≡ map node out.old.items ++ operated (shape_of s.now) op (ctype first.now) (ctype second.now) t a b) }
+{
+    match target(first) {
+        None => with_word(out, op, t, a, b),
+        Some(to) => with_pointer(out, op, s.words(to), is_pointer(second), t, a, b),
+    }
+}
+
+fn count_up(
+    s: &Reading<'_>,
+    out: &mut Vec<Node<u32>>,
+    to: Option<&CType>,
+    t: u32,
+    a: u32,
+) -> Result<(), Memory>
+    ensures { OnOk result (map node out.new.items ≡ map node out.old.items ++ one_more (shape_of s.now) (option_map (λ x. ctype x.now) to.entry) t a) }
+{
+    match to {
+        None => {
+            put(out, Op::Const(t, 1))?;
+            put(out, Op::Two(Two::IADD, t, a, t))
+        }
+        Some(to) => {
+            put(out, Op::Const(t, s.words(to)))?;
+            put(out, Op::Step(t, a, t))
+        }
+    }
+}
+
+fn count_down(
+    s: &Reading<'_>,
+    out: &mut Vec<Node<u32>>,
+    to: Option<&CType>,
+    t: u32,
+    a: u32,
+) -> Result<(), Memory>
+    ensures { OnOk result (map node out.new.items ≡ map node out.old.items ++ one_less (shape_of s.now) (option_map (λ x. ctype x.now) to.entry) t a) }
+{
+    match to {
+        None => {
+            put(out, Op::Const(t, 1))?;
+            put(out, Op::Two(Two::ISUB, t, a, t))
+        }
+        Some(to) => {
+            put(out, Op::Const(t, s.words(to)))?;
+            put(out, Op::One(One::ISGN, t, t))?;
+            put(out, Op::Step(t, a, t))
+        }
+    }
+}
+
+/// One more, or one less, than the cell in `old` comes to `new`.
+pub(crate) fn step_one(
+    s: &Reading<'_>,
+    out: &mut Vec<Node<u32>>,
+    up: bool,
+    ty: &CType,
+    new: u32,
+    old: u32,
+) -> Result<(), Memory>
+    ensures { OnOk result (map node out.new.items ≡ map node out.old.items ++ step_made (shape_of s.now) up (ctype ty.now) new old) }
+{
+    if up {
+        count_up(s, out, target(ty), new, old)
+    } else {
+        count_down(s, out, target(ty), new, old)
+    }
+}
+
+/// Makes a word of the condition in t.
+pub(crate) fn test_as(out: &mut Vec<Node<u32>>, ty: &CType, t: u32) -> Result<(), Memory>
+    ensures { OnOk result (map node out.new.items ≡ map node out.old.items ++ tested_as (decayed (ctype ty.now)) t) }
+{
+    if is_pointer(ty) {
+        put(out, Op::Null(OTHER))?;
+        put(out, Op::PtrTest(Two::INE, t, t, OTHER))
+    } else {
+        Ok(())
+    }
+}
+
+/// Turns the condition in t around.
+pub(crate) fn negate_as(out: &mut Vec<Node<u32>>, ty: &CType, t: u32) -> Result<(), Memory>
+    ensures { OnOk result (map node out.new.items ≡ map node out.old.items ++ negated_as (decayed (ctype ty.now)) t) }
+{
+    if is_pointer(ty) {
+        put(out, Op::Null(OTHER))?;
+        put(out, Op::PtrTest(Two::IEQ, t, t, OTHER))
+    } else {
+        put(out, Op::One(One::BNOT, t, t))
+    }
+}

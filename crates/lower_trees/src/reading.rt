@@ -1,0 +1,121 @@
+// What the lowering reads of a program, beside the tree that it goes over.
+ghost use Rattle.std.specs.Prelude.{◌≡◌, ◌≤◌, ◌+◌, ◌%◌, ◌^◌, length, map, sum_by, option_map};
+ghost use Rattle.c_types.specs.View.{ctype, layout, function};
+ghost use Rattle.c_types.specs.Sizes.{words_of, layout_size};
+ghost use Rattle.c_meaning.specs.Parts.{part_type, member_type};
+ghost use Rattle.lower_trees.specs.MaybeTypes.{or_void, or_none};
+
+use c_types::{CType, Layout, TFunction};
+use kit_base::Name;
+use std::alloc::Global;
+
+/// The structures and unions, the functions and the text literals by their numbers. The texts have at most 4,000,000 words.
+#[derive(Drop)]
+pub struct Reading<'a> {
+    pub alloc: Global,
+    pub layouts: &'a [Layout],
+    pub functions: &'a [TFunction],
+    pub literals: &'a [Name],
+    ghost texts: { sum_by (λ t. length t + 1) literals.now ≤ 4000000 },
+}
+
+/// The words of a structure or union.
+fn layout_words(layouts: &[Layout], number: u32) -> u32
+    ensures { result ≡ layout_size (map layout layouts.now) number }
+{
+    match layouts.get(number as usize) {
+        Some(l) => l.size(),
+        None => 0,
+    }
+}
+
+/// The words of a type, which wrap.
+#[tactic(auto, using(crate::proofs::Wrapped::wrapped_words))]
+fn words_in(layouts: &[Layout], ty: &CType) -> u32
+    ensures { result ≡ words_of (map layout layouts.now) (ctype ty.now) % 2 ^ 32 }
+{
+    match ty {
+        CType::Void => 0,
+        CType::Int | CType::Bool | CType::Enum(_) | CType::Pointer(_) => 1,
+        CType::Struct(number) => layout_words(layouts, *number),
+        CType::Union(number) => layout_words(layouts, *number),
+        CType::Array(of, length) => words_in(layouts, of).wrapping_mul(*length),
+    }
+}
+
+fn member_type(layouts: &[Layout], number: u32, k: usize) -> Option<&CType>
+    ensures { or_void result ≡ member_type (map layout layouts.now) number k }
+{
+    match layouts.get(number as usize) {
+        None => None,
+        Some(l) => l.member_type(k),
+    }
+}
+
+impl<'a> Reading<'a> {
+    ghost use Rattle.lower_trees.specs.Shape.{words, literal_words, params_of, result_of};
+    ghost use Rattle.lower_trees.specs.View.{shape_of};
+
+    pub(crate) fn words(&self, ty: &CType) -> u32
+        ensures { result ≡ words (shape_of self.now) (ctype ty.now) }
+    {
+        words_in(self.layouts, ty)
+    }
+
+    /// The words of a type, or of none.
+    pub(crate) fn words_or(&self, ty: Option<&CType>) -> u32
+        ensures { result ≡ words (shape_of self.now) (or_void ty.entry) }
+    {
+        match ty {
+            None => 0,
+            Some(ty) => self.words(ty),
+        }
+    }
+
+    /// The type of a part of an array, a structure or a union; none where there is no such part.
+    pub(crate) fn part(&self, ty: Option<&'a CType>, k: usize) -> Option<&'a CType>
+        ensures { or_void result ≡ part_type (shape_of self.now).layouts (or_void ty.entry) k }
+    {
+        match ty {
+            Some(CType::Array(of, _)) => Some(of),
+            Some(CType::Struct(number)) => member_type(self.layouts, *number, k),
+            Some(CType::Union(number)) => member_type(self.layouts, *number, k),
+            Some(CType::Void) => None,
+            Some(CType::Int) => None,
+            Some(CType::Bool) => None,
+            Some(CType::Enum(_)) => None,
+            Some(CType::Pointer(_)) => None,
+            None => None,
+        }
+    }
+
+    /// The words of a text literal, with its 0.
+    pub(crate) fn literal_words(&self, number: u32) -> u32
+        ensures { result ≡ literal_words (shape_of self.now) number }
+    {
+        match self.literals.get(number as usize) {
+            None => 0,
+            Some(text) => text.bytes().len() as u32 + 1,
+        }
+    }
+
+    /// The types of the parameters of a function; none where there is no such function.
+    pub(crate) fn params(&self, f: u32) -> Option<&'a [CType]>
+        ensures { or_none result ≡ params_of (shape_of self.now) f }
+    {
+        match self.functions.get(f as usize) {
+            None => None,
+            Some(g) => Some(g.params.as_slice()),
+        }
+    }
+
+    /// The type of what a function gives; none where there is no such function.
+    pub(crate) fn result(&self, f: u32) -> Option<&'a CType>
+        ensures { or_void result ≡ result_of (shape_of self.now) f }
+    {
+        match self.functions.get(f as usize) {
+            None => None,
+            Some(g) => Some(&g.result),
+        }
+    }
+}

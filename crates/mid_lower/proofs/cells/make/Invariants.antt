@@ -1,7 +1,0 @@
-use Rattle.std.proofs.Common.{◌≡◌, ◌++◌, map, drop}
-use Rattle.mid_code.specs.Functions.{node}
-use Rattle.mid_lower.specs.ListedParts.{made}
-use Rattle.mid_lower.proofs.cells.make.Given as goal
-
-abbrev pub invariant-locals : goal.invariant-locals
-invariant-locals l = map node l.out.items ++ made (drop l.k-index l.locals) ≡ map node l.initial.out.items ++ made l.locals

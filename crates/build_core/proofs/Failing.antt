@@ -28,13 +28,13 @@ rules_fail At (Err (errors.Bad code name line)) h = tt
 rules_fail At (Err (errors.Limit name)) h = tt
 rules_fail At (Err errors.Memory) h = tt
 
-content_fails : {T : Type 0} (At : List ℕ → Type 0) (e : BuildErr) → IsOfContent e → FailsAt {T = T} At (Err e)
-content_fails At (errors.Source code file line) h = tt
-content_fails At (errors.Missing name) h = tt
-content_fails At (errors.Failed name) h = absurd h
-content_fails At (errors.Bad code name line) h = tt
-content_fails At (errors.Limit name) h = tt
-content_fails At errors.Memory h = tt
+content_fails : (T : Type 0) (At : List ℕ → Type 0) (e : BuildErr) → IsOfContent e → FailsAt {T = T} At (Err e)
+content_fails T At (errors.Source code file line) h = tt
+content_fails T At (errors.Missing name) h = tt
+content_fails T At (errors.Failed name) h = absurd h
+content_fails T At (errors.Bad code name line) h = tt
+content_fails T At (errors.Limit name) h = tt
+content_fails T At errors.Memory h = tt
 
 packing_fails : {T : Type 0} (c : Cartridge) (At : List ℕ → Type 0) (r : Result T BuildErr) → IfErr r (IsOfPacking c) → FailsAt At r
 packing_fails c At (Ok x) h = tt
@@ -45,28 +45,28 @@ packing_fails c At (Err (errors.Bad code name line)) h = tt
 packing_fails c At (Err (errors.Limit name)) h = tt
 packing_fails c At (Err errors.Memory) h = tt
 
-wider : {T U : Type 0} (At Wider : List ℕ → Type 0) → ((name : List ℕ) → At name → Wider name) → (e : BuildErr) → FailsAt {T = T} At (Err e) → FailsAt {T = U} Wider (Err e)
-wider At Wider more (errors.Source code file line) h = tt
-wider At Wider more (errors.Missing name) h = tt
-wider At Wider more (errors.Failed name) h = more name h
-wider At Wider more (errors.Bad code name line) h = tt
-wider At Wider more (errors.Limit name) h = tt
-wider At Wider more errors.Memory h = tt
+wider : (T U : Type 0) (At Wider : List ℕ → Type 0) → ((name : List ℕ) → At name → Wider name) → (e : BuildErr) → FailsAt {T = T} At (Err e) → FailsAt {T = U} Wider (Err e)
+wider T U At Wider more (errors.Source code file line) h = tt
+wider T U At Wider more (errors.Missing name) h = tt
+wider T U At Wider more (errors.Failed name) h = more name h
+wider T U At Wider more (errors.Bad code name line) h = tt
+wider T U At Wider more (errors.Limit name) h = tt
+wider T U At Wider more errors.Memory h = tt
 
-assets_fail : {T : Type 0} (names : List (List ℕ)) (At : List ℕ → Type 0) → ((name : List ℕ) → Contains names name → At name) → (e : BuildErr) → IsOfAssets names e → FailsAt {T = T} At (Err e)
-assets_fail names At more (errors.Source code file line) h = tt
-assets_fail names At more (errors.Missing name) h = tt
-assets_fail names At more (errors.Failed name) h = more name h
-assets_fail names At more (errors.Bad code name line) h = tt
-assets_fail names At more (errors.Limit name) h = tt
-assets_fail names At more errors.Memory h = tt
+assets_fail : (T : Type 0) (names : List (List ℕ)) (At : List ℕ → Type 0) → ((name : List ℕ) → Contains names name → At name) → (e : BuildErr) → IsOfAssets names e → FailsAt {T = T} At (Err e)
+assets_fail T names At more (errors.Source code file line) h = tt
+assets_fail T names At more (errors.Missing name) h = tt
+assets_fail T names At more (errors.Failed name) h = more name h
+assets_fail T names At more (errors.Bad code name line) h = tt
+assets_fail T names At more (errors.Limit name) h = tt
+assets_fail T names At more errors.Memory h = tt
 
-unread_fails : {T : Type 0} (m : Held) (source : List ℕ) (x : FrontErr) → FailsAtOne m source (Err x) → FailsAt {T = T} (IsReadFor m source) (Err (unread x))
-unread_fails m source (front.Source code file line) h = tt
-unread_fails m source (front.Missing name) h = tt
-unread_fails m source (front.Failed name) h = h
-unread_fails m source (front.Limit name) h = tt
-unread_fails m source front.Memory h = tt
+unread_fails : (T : Type 0) (m : Held) (source : List ℕ) (x : FrontErr) → FailsAtOne m source (Err x) → FailsAt {T = T} (IsReadFor m source) (Err (unread x))
+unread_fails T m source (front.Source code file line) h = tt
+unread_fails T m source (front.Missing name) h = tt
+unread_fails T m source (front.Failed name) h = h
+unread_fails T m source (front.Limit name) h = tt
+unread_fails T m source front.Memory h = tt
 
 -- ---- a source, where it is told what is held
 
@@ -74,19 +74,19 @@ pub typed_fails : {T : Type 0} (o : Option Held) (source : List ℕ) (r : Result
 typed_fails None source r h = tt
 typed_fails (Some m) source r h = rules_fail (IsReadFor (over m) source) r h
 
-pub reading_fails : {T : Type 0} (o : Option Held) (named source : List ℕ) → named ≡ source → (x : FrontErr) (e : BuildErr) → e ≡ unread x
+pub reading_fails : (T : Type 0) (o : Option Held) (named source : List ℕ) → named ≡ source → (x : FrontErr) (e : BuildErr) → e ≡ unread x
     → IfSome o (λ m. FailsAtOne (over m) named (Err x)) → IfSome o (λ m. FailsAt {T = T} (IsReadFor (over m) source) (Err e))
-reading_fails None named source is x e told h = tt
-reading_fails {T = T} (Some m) named source is x e told h =
+reading_fails T None named source is x e told h = tt
+reading_fails T (Some m) named source is x e told h =
     subst (λ (k : BuildErr). FailsAt {T = T} (IsReadFor (over m) source) (Err k)) (sym told)
-    (unread_fails {T = T} (over m) source x (subst (λ (s : List ℕ). FailsAtOne (over m) s (Err x)) is h))
+    (unread_fails T (over m) source x (subst (λ (s : List ℕ). FailsAtOne (over m) s (Err x)) is h))
 
 -- ---- a project
 
 module _ (project : List ℕ) where
-  pub project_fails : {T : Type 0} (At : Held → List ℕ → Type 0) (o : Option Held) (e : BuildErr) → IsOfContent e → IfSome o (λ m. FailsAt {T = T} (At m) (Err e))
-  project_fails At None e h = tt
-  project_fails {T = T} At (Some m) e h = content_fails {T = T} (At m) e h
+  pub project_fails : (T : Type 0) (At : Held → List ℕ → Type 0) (o : Option Held) (e : BuildErr) → IsOfContent e → IfSome o (λ m. FailsAt {T = T} (At m) (Err e))
+  project_fails T At None e h = tt
+  project_fails T At (Some m) e h = content_fails T (At m) e h
 
   module _ (p : Project) (is : IsProject project p) where
     to_check : (m : Held) (name : List ℕ) → IsReadFor (over m) p.source name → IsReadToCheck m project name
@@ -95,29 +95,29 @@ module _ (project : List ℕ) where
     pub check_fails : {T : Type 0} (o : Option Held) (r : Result T BuildErr) → IfSome o (λ m. FailsAt (IsReadFor (over m) p.source) r) → IfSome o (λ m. FailsAt (IsReadToCheck m project) r)
     check_fails None r h = tt
     check_fails (Some m) (Ok x) h = tt
-    check_fails {T = T} (Some m) (Err e) h = wider {T = T} {U = T} (IsReadFor (over m) p.source) (IsReadToCheck m project) (to_check m) e h
+    check_fails {T = T} (Some m) (Err e) h = wider T T (IsReadFor (over m) p.source) (IsReadToCheck m project) (to_check m) e h
 
-    pub source_fails : {T U : Type 0} (o : Option Held) (e : BuildErr) → IfSome o (λ m. FailsAt {T = T} (IsReadFor (over m) p.source) (Err e)) → IfSome o (λ m. FailsAt {T = U} (IsReadToBuild m project) (Err e))
-    source_fails None e h = tt
-    source_fails {T = T} {U = U} (Some m) e h = wider {T = T} {U = U} (IsReadFor (over m) p.source) (IsReadToBuild m project) (λ name k. inl (to_check m name k)) e h
+    pub source_fails : (T U : Type 0) (o : Option Held) (e : BuildErr) → IfSome o (λ m. FailsAt {T = T} (IsReadFor (over m) p.source) (Err e)) → IfSome o (λ m. FailsAt {T = U} (IsReadToBuild m project) (Err e))
+    source_fails T U None e h = tt
+    source_fails T U (Some m) e h = wider T U (IsReadFor (over m) p.source) (IsReadToBuild m project) (λ name k. inl (to_check m name k)) e h
 
     all_assets : (name : List ℕ) → Contains (p.textures ++ p.sounds) name → Contains (assets_of project) name
     all_assets name h = rw (only project p is) h
 
-    pub textures_fail : {T : Type 0} (o : Option Held) (names : List (List ℕ)) → names ≡ p.textures → (e : BuildErr) → IsOfAssets names e → IfSome o (λ m. FailsAt {T = T} (IsReadToBuild m project) (Err e))
-    textures_fail None names named e h = tt
-    textures_fail {T = T} (Some m) names named e h =
-        assets_fail {T = T} p.textures (IsReadToBuild m project) (λ name k. inr (all_assets name (Contains-append_left p.textures p.sounds name k))) e (subst (λ l. IsOfAssets l e) named h)
+    pub textures_fail : (T : Type 0) (o : Option Held) (names : List (List ℕ)) → names ≡ p.textures → (e : BuildErr) → IsOfAssets names e → IfSome o (λ m. FailsAt {T = T} (IsReadToBuild m project) (Err e))
+    textures_fail T None names named e h = tt
+    textures_fail T (Some m) names named e h =
+        assets_fail T p.textures (IsReadToBuild m project) (λ name k. inr (all_assets name (Contains-append_left p.textures p.sounds name k))) e (subst (λ l. IsOfAssets l e) named h)
 
-    pub sounds_fail : {T : Type 0} (o : Option Held) (names : List (List ℕ)) → names ≡ p.sounds → (e : BuildErr) → IsOfAssets names e → IfSome o (λ m. FailsAt {T = T} (IsReadToBuild m project) (Err e))
-    sounds_fail None names named e h = tt
-    sounds_fail {T = T} (Some m) names named e h =
-        assets_fail {T = T} p.sounds (IsReadToBuild m project) (λ name k. inr (all_assets name (Contains-append_right p.textures p.sounds name k))) e (subst (λ l. IsOfAssets l e) named h)
+    pub sounds_fail : (T : Type 0) (o : Option Held) (names : List (List ℕ)) → names ≡ p.sounds → (e : BuildErr) → IsOfAssets names e → IfSome o (λ m. FailsAt {T = T} (IsReadToBuild m project) (Err e))
+    sounds_fail T None names named e h = tt
+    sounds_fail T (Some m) names named e h =
+        assets_fail T p.sounds (IsReadToBuild m project) (λ name k. inr (all_assets name (Contains-append_right p.textures p.sounds name k))) e (subst (λ l. IsOfAssets l e) named h)
 
   pub packed_fails : {T : Type 0} (o : Option Held) (c : Cartridge) (r : Result T BuildErr) → IfErr r (IsOfPacking c) → IfSome o (λ m. FailsAt (IsReadToBuild m project) r)
   packed_fails None c r h = tt
   packed_fails (Some m) c r h = packing_fails c (IsReadToBuild m project) r h
 
-pub none_fails : {T : Type 0} (o : Option Held) (At : Held → List ℕ → Type 0) → IfSome o (λ m. FailsAt {T = T} (At m) (Err errors.Memory))
-none_fails None At = tt
-none_fails (Some m) At = tt
+pub none_fails : (T : Type 0) (o : Option Held) (At : Held → List ℕ → Type 0) → IfSome o (λ m. FailsAt {T = T} (At m) (Err errors.Memory))
+none_fails T None At = tt
+none_fails T (Some m) At = tt

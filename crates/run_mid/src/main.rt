@@ -10,7 +10,7 @@ mod put;
 mod running;
 
 use crate::put::put;
-use crate::running::{ran, wanted};
+use crate::running::{ran, wanted_by};
 use std::{env, fs, io};
 
 fn main(rt: HostRuntime) -> io::Result<()> {
@@ -18,7 +18,7 @@ fn main(rt: HostRuntime) -> io::Result<()> {
     for word in env::args(&rt)?.skip(1) {
         words.push(word)?;
     }
-    let Some(wanted) = wanted(rt.alloc(), &words) else {
+    let Some(wanted) = wanted_by(rt.alloc(), &words) else {
         return println!(rt;
             "usage: run_mid SOURCE ANSWERS none|zeros BOUND lowered|promoted SIZE .."
         );

@@ -23,7 +23,7 @@ pub struct Came {
 }
 
 /// What the words ask for; none where they are no such words, or memory ran out.
-pub fn wanted(alloc: Global, words: &[String]) -> Option<Wanted<'_>> {
+pub fn wanted_by(alloc: Global, words: &[String]) -> Option<Wanted<'_>> {
     let [source, answers, card, bound, pass, rest @ ..] = words else {
         return None;
     };

@@ -6,6 +6,8 @@ use Rattle.build_core.proofs.Refusals.{source_comes, textures_come, sounds_come,
 use Rattle.build_core.proofs.Builds.{project_told, source_told, textures_told, sounds_told, packed_told}
 use Rattle.build_core.specs.Build.{cartridge_of}
 use Rattle.build_core.specs.Due.{assets}
+use Rattle.build_core.specs.declared.sources.Source.{Source}
+use Rattle.build_core.specs.declared.building.Built.{Built}
 use Rattle.build_core.specs.Reached.{IsReadToBuild}
 use Rattle.build_core.proofs.Failing.{none_fails, packed_fails, project_fails, source_fails, sounds_fail, textures_fail}
 use Rattle.build_core.proofs.building.build.Goals as goal
@@ -74,16 +76,16 @@ returns-clause-causes g c =
 -- at which file a read failed
 
 pub returns-in-Err-clause-reached : goal.returns-in-Err-clause-reached
-returns-in-Err-clause-reached g c = project_fails c.args.project.now (λ m. IsReadToBuild m c.args.project.now) (g.F.Reads.held c.args.files.now) c.in-Err.refusal c.in-Err.ensures.content
+returns-in-Err-clause-reached g c = project_fails c.args.project.now Built (λ m. IsReadToBuild m c.args.project.now) (g.F.Reads.held c.args.files.now) c.in-Err.refusal c.in-Err.ensures.content
 
 pub returns-in-Err-read_source-clause-reached : goal.returns-in-Err-read_source-clause-reached
-returns-in-Err-read_source-clause-reached g c = source_fails c.args.project.now c.in-Ok.parts c.in-Ok.ensures.found (g.F.Reads.held c.args.files.now) c.in-Err-read_source.refusal c.in-Err-read_source.ensures.reached
+returns-in-Err-read_source-clause-reached g c = source_fails c.args.project.now c.in-Ok.parts c.in-Ok.ensures.found Source Built (g.F.Reads.held c.args.files.now) c.in-Err-read_source.refusal c.in-Err-read_source.ensures.reached
 
 pub returns-in-Err-read_assets-clause-reached : goal.returns-in-Err-read_assets-clause-reached
-returns-in-Err-read_assets-clause-reached g c = textures_fail c.args.project.now c.in-Ok.parts c.in-Ok.ensures.found (g.F.Reads.held c.args.files.now) c.as_slice.result.now c.as_slice.ensures c.in-Err-read_assets.refusal c.in-Err-read_assets.ensures.kinds
+returns-in-Err-read_assets-clause-reached g c = textures_fail c.args.project.now c.in-Ok.parts c.in-Ok.ensures.found Built (g.F.Reads.held c.args.files.now) c.as_slice.result.now c.as_slice.ensures c.in-Err-read_assets.refusal c.in-Err-read_assets.ensures.kinds
 
 pub returns-in-Err-read_assets-2-clause-reached : goal.returns-in-Err-read_assets-2-clause-reached
-returns-in-Err-read_assets-2-clause-reached g c = sounds_fail c.args.project.now c.in-Ok.parts c.in-Ok.ensures.found (g.F.Reads.held c.args.files.now) c.as_slice-2.result.now c.as_slice-2.ensures c.in-Err-read_assets-2.refusal c.in-Err-read_assets-2.ensures.kinds
+returns-in-Err-read_assets-2-clause-reached g c = sounds_fail c.args.project.now c.in-Ok.parts c.in-Ok.ensures.found Built (g.F.Reads.held c.args.files.now) c.as_slice-2.result.now c.as_slice-2.ensures c.in-Err-read_assets-2.refusal c.in-Err-read_assets-2.ensures.kinds
 
 pub returns-clause-reached : goal.returns-clause-reached
 returns-clause-reached g c = packed_fails c.args.project.now (g.F.Reads.held c.args.files.now) _ c.packed.result c.packed.ensures.kinds

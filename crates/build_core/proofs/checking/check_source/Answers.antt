@@ -1,4 +1,5 @@
 use Rattle.build_core.proofs.Checks.{source_typed, source_unread}
+use Rattle.c_check.specs.declared.program.Program.{Program}
 use Rattle.build_core.proofs.Failing.{typed_fails, reading_fails}
 use Rattle.build_core.proofs.checking.check_source.Goals as goal
 
@@ -12,4 +13,4 @@ pub returns-in-Ok-clause-reached : goal.returns-in-Ok-clause-reached
 returns-in-Ok-clause-reached g c = typed_fails (g.F.Reads.held c.args.files.now) c.args.source.now c.typed.result c.typed.ensures.content
 
 pub returns-in-Err-clause-reached : goal.returns-in-Err-clause-reached
-returns-in-Err-clause-reached g c = reading_fails (g.F.Reads.held c.args.files.now) c.as_str.result.now c.args.source.now c.as_str.ensures c.in-Err.error c.unread.result c.unread.ensures c.in-Err.ensures.reached
+returns-in-Err-clause-reached g c = reading_fails Program (g.F.Reads.held c.args.files.now) c.as_str.result.now c.args.source.now c.as_str.ensures c.in-Err.error c.unread.result c.unread.ensures c.in-Err.ensures.reached

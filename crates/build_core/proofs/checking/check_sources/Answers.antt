@@ -1,5 +1,6 @@
 use Rattle.build_core.proofs.Checks.{project_checks, project_accepts, refused_accepts}
 use Rattle.build_core.proofs.Projects.{source_is_text}
+use Rattle.c_check.specs.declared.program.Program.{Program}
 use Rattle.build_core.specs.Reached.{IsReadToCheck}
 use Rattle.build_core.proofs.Failing.{check_fails, project_fails}
 use Rattle.build_core.proofs.checking.check_sources.Goals as goal
@@ -20,4 +21,4 @@ pub returns-in-Ok-clause-reached : goal.returns-in-Ok-clause-reached
 returns-in-Ok-clause-reached g c = check_fails c.args.project.now c.in-Ok.parts c.in-Ok.ensures.found (g.F.Reads.held c.args.files.now) c.check_source.result c.check_source.ensures.reached
 
 pub returns-in-Err-clause-reached : goal.returns-in-Err-clause-reached
-returns-in-Err-clause-reached g c = project_fails c.args.project.now (λ m. IsReadToCheck m c.args.project.now) (g.F.Reads.held c.args.files.now) c.in-Err.refusal c.in-Err.ensures.content
+returns-in-Err-clause-reached g c = project_fails c.args.project.now Program (λ m. IsReadToCheck m c.args.project.now) (g.F.Reads.held c.args.files.now) c.in-Err.refusal c.in-Err.ensures.content

@@ -1,5 +1,6 @@
 use Rattle.build_core.proofs.Checks.{source_unread}
 use Rattle.build_core.proofs.Starting.{source_reads}
+use Rattle.build_core.specs.declared.sources.Source.{Source}
 use Rattle.build_core.proofs.Failing.{typed_fails, reading_fails}
 use Rattle.build_core.proofs.sources.read_source.Goals as goal
 
@@ -13,4 +14,4 @@ pub returns-in-Ok-clause-reached : goal.returns-in-Ok-clause-reached
 returns-in-Ok-clause-reached g c = typed_fails (g.F.Reads.held c.args.files.now) c.args.name.now c.source_of.result c.source_of.ensures.content
 
 pub returns-in-Err-clause-reached : goal.returns-in-Err-clause-reached
-returns-in-Err-clause-reached g c = reading_fails (g.F.Reads.held c.args.files.now) c.as_str.result.now c.args.name.now c.as_str.ensures c.in-Err.error c.unread.result c.unread.ensures c.in-Err.ensures.reached
+returns-in-Err-clause-reached g c = reading_fails Source (g.F.Reads.held c.args.files.now) c.as_str.result.now c.args.name.now c.as_str.ensures c.in-Err.error c.unread.result c.unread.ensures c.in-Err.ensures.reached

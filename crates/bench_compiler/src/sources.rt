@@ -1,6 +1,9 @@
 // A source of functions, and the files that it includes.
 ghost use Rattle.std.specs.Prelude.{◌≡◌, length};
 
+use c_lex::Token;
+use c_parse::parse;
+use c_prep::expand;
 use kit_base::{FilesInMemory, Name, Seq};
 use line_text::decimal_word;
 use std::alloc::Global;
@@ -10,6 +13,13 @@ use std::alloc::Global;
 pub enum Work {
     Expand,
     Parse,
+}
+
+/// How many files were read, or how many items there are.
+#[derive(Clone, Copy, Drop)]
+pub enum Told {
+    Files(usize),
+    Items(usize),
 }
 
 /// What is done, how many functions the source has, and how many files it includes; none where the arguments are none.
@@ -52,7 +62,7 @@ fn hold(alloc: Global, held: &mut Vec<(Name, Seq<u8>)>, name: &str, text: &str) 
 }
 
 /// The files of that source: each that it includes includes the one header; none for want of memory.
-pub fn files(alloc: Global, functions: u32, includes: u32) -> Option<FilesInMemory> {
+fn files(alloc: Global, functions: u32, includes: u32) -> Option<FilesInMemory> {
     let mut held = Vec::new(alloc);
     hold(
         alloc,
@@ -71,4 +81,25 @@ pub fn files(alloc: Global, functions: u32, includes: u32) -> Option<FilesInMemo
         return None;
     }
     Some(FilesInMemory::new(alloc, held, Vec::new(alloc)))
+}
+
+/// How many items the tokens are; none where they are none, or memory ran out.
+fn items(alloc: Global, tokens: &[Token]) -> Option<usize> {
+    if tokens.len() > 200000 {
+        return None;
+    }
+    let unit = parse(alloc, tokens).ok()?;
+    Some(unit.items.as_slice().len())
+}
+
+/// How many tokens come out, and what else is told; none where there is no unit, or memory ran out.
+pub fn done(alloc: Global, (work, functions, includes): (Work, u32, u32)) -> Option<(usize, Told)> {
+    let mut files = files(alloc, functions, includes)?;
+    let mut names = Vec::new(alloc);
+    let tokens = expand(alloc, &mut files, "source", &mut names).ok()?;
+    let told = match work {
+        Work::Expand => Told::Files(names.len()),
+        Work::Parse => Told::Items(items(alloc, &tokens)?),
+    };
+    Some((tokens.len(), told))
 }

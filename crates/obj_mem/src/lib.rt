@@ -20,6 +20,3 @@ pub use frames::Frames;
 pub use laws::living_tells_all;
 pub use objects::Objects;
 pub use refusal::Refusal;
-
-#[cfg(test)]
-mod tests;

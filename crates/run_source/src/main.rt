@@ -21,27 +21,25 @@ use obj_mem::Frames;
 use std::alloc::Global;
 use std::{env, fs, io};
 
-/// All that a run needs.
+/// What a run needs beside the program.
 #[derive(Drop)]
 struct Needs {
-    program: Program,
     answers: Vec<u32>,
     frames: Frames,
     card: Vec<u32>,
 }
 
-/// What the run needs; none where the source has no program, the answers are none, or memory ran out.
-fn needs_of(alloc: Global, work: &Work<'_>, source: Vec<u8>, answers: &[u8]) -> Option<Needs> {
+/// What the run needs beside the program; none where the answers are none, or memory ran out.
+fn needs_of(alloc: Global, work: &Work<'_>, answers: &[u8]) -> Option<Needs> {
     Some(Needs {
         answers: answers_of(alloc, answers)?,
-        program: program_of(alloc, source)?,
         frames: frames_of(alloc, work)?,
         card: card_of(alloc, work)?,
     })
 }
 
-fn run(rt: &HostRuntime, work: &Work<'_>, needs: &Needs) -> io::Result<()> {
-    let (program, frames, answers) = (&needs.program, &needs.frames, needs.answers.as_slice());
+fn run(rt: &HostRuntime, work: &Work<'_>, needs: &Needs, program: &Program) -> io::Result<()> {
+    let (frames, answers) = (&needs.frames, needs.answers.as_slice());
     let card: Option<&[u32]> = if work.card { Some(&needs.card) } else { None };
     match work.how {
         How::Meaning => put_meaning(rt, program, frames, answers, card, work.bound),
@@ -62,8 +60,11 @@ fn main(rt: HostRuntime) -> io::Result<()> {
     };
     let source = fs::read(&rt, work.source)?;
     let answers = fs::read(&rt, work.answers)?;
-    match needs_of(rt.alloc(), &work, source, &answers) {
-        Some(needs) => run(&rt, &work, &needs),
+    let Some(needs) = needs_of(rt.alloc(), &work, &answers) else {
+        return println!(rt; "no program");
+    };
+    match program_of(rt.alloc(), source) {
+        Some(program) => run(&rt, &work, &needs, &program),
         None => println!(rt; "no program"),
     }
 }

@@ -295,12 +295,7 @@ fn if_statement<'a>(
     Ok((if_(alloc, head, other, span(scope, tokens, rest))?, rest))
 }
 
-fn if_(
-    alloc: Global,
-    head: (Expr, Stmt),
-    other: Option<Stmt>,
-    span: Span,
-) -> Result<Stmt, ReadErr>
+fn if_(alloc: Global, head: (Expr, Stmt), other: Option<Stmt>, span: Span) -> Result<Stmt, ReadErr>
     ensures made { Gives stmt result (Ok (IfS (expr head.0) (stmt head.1) (maybe (option_map stmt other)) span)) }
 {
     let (e, then) = head;

@@ -13,12 +13,14 @@ use Rattle.c_tree.specs.View.{expr, init, inits, var, stmt, stmts, arm, arms}
 use Rattle.c_parse.specs.Tok.{Tok}
 use Rattle.c_parse.specs.Scope.{Context}
 use Rattle.c_parse.specs.Reader.{◌>>=◌, no_room, at_open_brace, semicolon}
-use Rattle.c_parse.specs.Leads.{begins_expr, begins_type, begins_stmt, arm_at, is_some_arm}
+use Rattle.c_parse.specs.Leads.{begins_expr, begins_type, begins_stmt, stmt_at, arm_at, is_some_arm}
 use Rattle.c_parse.specs.Reading.{type_read}
 use Rattle.c_parse.specs.ReadingLists.{separated}
 use Rattle.c_parse.specs.ReadingDeclarations.{init_by, init_at, field, vars_at, member_at, param_at}
 use Rattle.c_parse.specs.ReadingDeclarations as r
-use Rattle.c_parse.specs.ReadingStatements.{first_by, first_at, bodies, stmt_with, arm_with, stmt_read, arm_read}
+use Rattle.c_parse.specs.ReadingStatements.{first_by, first_at, bodies, arm_with, stmt_read, arm_read}
+use Rattle.c_parse.specs.ReadingParts.{stmt_parts}
+use Rattle.c_parse.proofs.Parts.{parts_are}
 
 pub init_step : (c : Context) (n : ℕ) (ts : List Tok) → 0 < n → init_at c n ts ≡ init_by c (n - 1) (λ us. init_at c (n - 1) us) ts (at_open_brace ts)
 unfolding init_at
@@ -61,10 +63,10 @@ unfolding first_at
 first_step c zero ts h = absurd (omega arith)
 first_step c (suc n) ts h = let e : suc n - 1 ≡ n = omega arith in rw e refl
 
-pub stmt_step : (c : Context) (n : ℕ) (ts : List Tok) → 0 < n → stmt_read c n ts ≡ stmt_with c (n - 1) (bodies c (n - 1)) ts
+pub stmt_step : (c : Context) (n : ℕ) (ts : List Tok) → 0 < n → stmt_read c n ts ≡ stmt_parts c (n - 1) (bodies c (n - 1)) ts (stmt_at c ts)
 unfolding bodies
 stmt_step c zero ts h = absurd (omega arith)
-stmt_step c (suc n) ts h = let e : suc n - 1 ≡ n = omega arith in rw e refl
+stmt_step c (suc n) ts h = let e : suc n - 1 ≡ n = omega arith in rw e (parts_are c n (bodies c n) ts (stmt_at c ts))
 
 pub stmt_none : (c : Context) (ts : List Tok) → stmt_read c 0 ts ≡ no_room (begins_stmt c ts) ts
 unfolding bodies

@@ -17,6 +17,7 @@ pub mod TypeAgain
 pub mod NodeCount
 pub mod SoundUnits
 pub mod Turns
+pub mod Parts
 pub mod CodeSteps
 pub mod Locality
 pub mod Shrinking

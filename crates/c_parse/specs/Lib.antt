@@ -12,6 +12,7 @@ pub mod Reading
 pub mod ReadingLists
 pub mod ReadingDeclarations
 pub mod ReadingStatements
+pub mod ReadingParts
 pub mod ReadingUnits
 pub mod View
 pub mod Places

@@ -5,7 +5,7 @@ ghost use Rattle.c_parse.specs.Tok.{bytes_of, class_in, class_of, listed, seen, 
 use c_lex::{Kind, Punct, Token};
 use kit_base::Name;
 
-#[derive(Clone, Copy, Debug, PartialEq, Eq)]
+#[derive(Clone, Copy)]
 pub enum Key {
     Int,
     Bool,
@@ -32,7 +32,7 @@ pub enum Key {
 }
 
 /// A keyword, a word that the language refuses, with its number, another word, or what else a token is.
-#[derive(Clone, Copy, Debug, PartialEq, Eq)]
+#[derive(Clone, Copy)]
 pub enum Class {
     Key(Key),
     Refused(u32),

@@ -6,7 +6,7 @@ use kit_base::Memory;
 use std::alloc::{AllocError, AllocFailed};
 
 /// What is wrong with the tokens, and how many of them are left, with the one that is named.
-#[derive(Clone, Copy, Debug, PartialEq, Eq)]
+#[derive(Clone, Copy)]
 pub enum Fault {
     /// No unit goes on so.
     Syntax(usize),
@@ -14,7 +14,7 @@ pub enum Fault {
     TooDeep(usize),
 }
 
-#[derive(Debug, Drop)]
+#[derive(Drop)]
 pub enum ReadErr {
     Memory,
     Fault(Fault),

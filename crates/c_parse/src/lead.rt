@@ -3,7 +3,7 @@
 use c_tree::{StepOp, UnOp};
 
 /// What a unary expression begins with.
-#[derive(Clone, Copy, Debug, PartialEq, Eq)]
+#[derive(Clone, Copy)]
 pub enum Start {
     Operator(UnOp),
     Step(StepOp),
@@ -13,7 +13,7 @@ pub enum Start {
 }
 
 /// What a primary expression begins with.
-#[derive(Clone, Copy, Debug, PartialEq, Eq)]
+#[derive(Clone, Copy)]
 pub enum Lead {
     Name,
     Value(u32),
@@ -24,7 +24,7 @@ pub enum Lead {
 }
 
 /// What goes on with an expression.
-#[derive(Clone, Copy, Debug, PartialEq, Eq)]
+#[derive(Clone, Copy)]
 pub enum Suffix {
     Index,
     Member,
@@ -34,7 +34,7 @@ pub enum Suffix {
 }
 
 /// What a type begins with.
-#[derive(Clone, Copy, Debug, PartialEq, Eq)]
+#[derive(Clone, Copy)]
 pub enum TypeLead {
     Int,
     Bool,
@@ -44,7 +44,7 @@ pub enum TypeLead {
 }
 
 /// What goes on with a type.
-#[derive(Clone, Copy, Debug, PartialEq, Eq)]
+#[derive(Clone, Copy)]
 pub enum TypeMark {
     Star,
     Bracket,
@@ -52,7 +52,7 @@ pub enum TypeMark {
 }
 
 /// What a statement begins with.
-#[derive(Clone, Copy, Debug, PartialEq, Eq)]
+#[derive(Clone, Copy)]
 pub enum StmtLead {
     Block,
     Empty,
@@ -69,7 +69,7 @@ pub enum StmtLead {
 }
 
 /// What an arm of a `switch` begins with.
-#[derive(Clone, Copy, Debug, PartialEq, Eq)]
+#[derive(Clone, Copy)]
 pub enum ArmLead {
     Case,
     Default,
@@ -77,7 +77,7 @@ pub enum ArmLead {
 }
 
 /// What an item begins with.
-#[derive(Clone, Copy, Debug, PartialEq, Eq)]
+#[derive(Clone, Copy)]
 pub enum ItemLead {
     Record(bool),
     Enum,

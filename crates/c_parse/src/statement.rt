@@ -1,11 +1,14 @@
 // From tokens to statements.
 ghost use Rattle.std.specs.Prelude.{◌≡◌, ◌<◌, ◌-◌, ◌*◌, Ok, map, option_map, true};
+ghost use Rattle.c_parse.specs.declared.lead.ArmLead.TheVariants as arm_leads;
 ghost use Rattle.c_parse.specs.declared.lead.StmtLead.TheVariants as leads;
+ghost use Rattle.c_parse.specs.Reader as reader;
 ghost use Rattle.c_parse.specs.ReadingLists.{braced};
+ghost use Rattle.c_parse.specs.ReadingParts as parts;
 ghost use Rattle.c_parse.specs.ReadingStatements as reading;
 ghost use Rattle.c_parse.specs.Tok.{toks};
 ghost use Rattle.c_parse.specs.View.{Gives, context};
-ghost use Rattle.c_tree.specs.Tree.{ForS};
+ghost use Rattle.c_tree.specs.Tree.{ForS, IfS};
 ghost use Rattle.c_parse.specs.ReadingStatements.{maybe};
 ghost use Rattle.c_tree.specs.View.{arm, expr, stmt};
 
@@ -121,6 +124,22 @@ fn block<'a>(
     Ok((Stmt::Block(body, span(scope, tokens, rest)), rest))
 }
 
+/// An expression in parentheses and the statement under it.
+#[cycle(statements)]
+fn guarded<'a>(
+    alloc: Global,
+    scope: &Scope,
+    room: u32,
+    tokens: &'a [Token],
+) -> Result<((Expr, Stmt), &'a [Token]), ReadErr>
+    ensures gives { Gives (λ x. ((expr x.0.0, stmt x.0.1), toks x.1.now)) result (parts.guarded (context scope.now) room (reading.bodies (context scope.now) room) (toks tokens.now)) }
+{
+    let (e, rest) = test(alloc, scope, room, tokens)?;
+    let body = statement(alloc, scope, room, rest);
+    let (e, (body, rest)) = keeping(e, body)?;
+    Ok(((e, body), rest))
+}
+
 #[cycle(statements)]
 fn while_statement<'a>(
     alloc: Global,
@@ -128,12 +147,24 @@ fn while_statement<'a>(
     room: u32,
     tokens: &'a [Token],
 ) -> Result<(Stmt, &'a [Token]), ReadErr>
-    ensures gives { Gives (λ x. (stmt x.0, toks x.1.now)) result (reading.stmt_by (context scope.now) room (reading.bodies (context scope.now) room) (toks tokens.now) leads.While) }
+    ensures gives { Gives (λ x. (stmt x.0, toks x.1.now)) result (parts.while_parts (context scope.now) room (reading.bodies (context scope.now) room) (toks tokens.now)) }
 {
-    let (e, rest) = test(alloc, scope, room, behind(tokens))?;
-    let body = statement(alloc, scope, room, rest);
-    let (e, (body, rest)) = keeping(e, body)?;
+    let ((e, body), rest) = guarded(alloc, scope, room, behind(tokens))?;
     Ok((while_(alloc, e, body, span(scope, tokens, rest))?, rest))
+}
+
+/// What stands behind the statement of a `do`.
+fn do_end<'a>(
+    alloc: Global,
+    scope: &Scope,
+    room: u32,
+    tokens: &'a [Token],
+) -> Result<(Expr, &'a [Token]), ReadErr>
+    ensures gives { Gives (λ x. (expr x.0, toks x.1.now)) result (parts.do_end (context scope.now) room (toks tokens.now)) }
+{
+    let rest = while_word(tokens)?;
+    let (e, rest) = test(alloc, scope, room, rest)?;
+    keeping(e, semicolon(rest))
 }
 
 #[cycle(statements)]
@@ -143,13 +174,37 @@ fn do_statement<'a>(
     room: u32,
     tokens: &'a [Token],
 ) -> Result<(Stmt, &'a [Token]), ReadErr>
-    ensures gives { Gives (λ x. (stmt x.0, toks x.1.now)) result (reading.stmt_by (context scope.now) room (reading.bodies (context scope.now) room) (toks tokens.now) leads.Do) }
+    ensures gives { Gives (λ x. (stmt x.0, toks x.1.now)) result (parts.do_parts (context scope.now) room (reading.bodies (context scope.now) room) (toks tokens.now)) }
 {
     let (body, rest) = statement(alloc, scope, room, behind(tokens))?;
-    let (body, rest) = keeping(body, while_word(rest))?;
-    let (body, (e, rest)) = keeping(body, test(alloc, scope, room, rest))?;
-    let ((body, e), rest) = keeping((body, e), semicolon(rest))?;
+    let (body, (e, rest)) = keeping(body, do_end(alloc, scope, room, rest))?;
     Ok((do_while(alloc, body, e, span(scope, tokens, rest))?, rest))
+}
+
+/// What a `switch` is over, and its opening brace.
+fn switch_head<'a>(
+    alloc: Global,
+    scope: &Scope,
+    room: u32,
+    tokens: &'a [Token],
+) -> Result<(Expr, &'a [Token]), ReadErr>
+    ensures gives { Gives (λ x. (expr x.0, toks x.1.now)) result (parts.ended reader.open_brace (reading.test_at (context scope.now) room) (toks tokens.now)) }
+{
+    let (e, rest) = test(alloc, scope, room, tokens)?;
+    keeping(e, open_brace(rest))
+}
+
+#[cycle(statements)]
+fn switch_body<'a>(
+    alloc: Global,
+    scope: &Scope,
+    room: u32,
+    tokens: &'a [Token],
+) -> Result<(Seq<Arm>, &'a [Token]), ReadErr>
+    ensures gives { Gives (λ x. (map arm x.0, toks x.1.now)) result (parts.ended reader.close_brace (braced (reading.bodies (context scope.now) room).arm) (toks tokens.now)) }
+{
+    let (arms, rest) = arms(alloc, scope, room, tokens)?;
+    keeping(arms, close_brace(rest))
 }
 
 #[cycle(statements)]
@@ -159,12 +214,10 @@ fn switch_statement<'a>(
     room: u32,
     tokens: &'a [Token],
 ) -> Result<(Stmt, &'a [Token]), ReadErr>
-    ensures gives { Gives (λ x. (stmt x.0, toks x.1.now)) result (reading.stmt_by (context scope.now) room (reading.bodies (context scope.now) room) (toks tokens.now) leads.Switch) }
+    ensures gives { Gives (λ x. (stmt x.0, toks x.1.now)) result (parts.switch_parts (context scope.now) room (reading.bodies (context scope.now) room) (toks tokens.now)) }
 {
-    let (e, rest) = test(alloc, scope, room, behind(tokens))?;
-    let (e, rest) = keeping(e, open_brace(rest))?;
-    let (e, (arms, rest)) = keeping(e, arms(alloc, scope, room, rest))?;
-    let ((e, arms), rest) = keeping((e, arms), close_brace(rest))?;
+    let (e, rest) = switch_head(alloc, scope, room, behind(tokens))?;
+    let (e, (arms, rest)) = keeping(e, switch_body(alloc, scope, room, rest))?;
     Ok((Stmt::Switch(e, arms, span(scope, tokens, rest)), rest))
 }
 
@@ -177,7 +230,7 @@ fn simple<'a>(
     tokens: &'a [Token],
 ) -> Result<(Stmt, &'a [Token]), ReadErr>
     requires simple { reading.is_simple lead ≡ true }
-    ensures gives { Gives (λ x. (stmt x.0, toks x.1.now)) result (reading.stmt_by (context scope.now) room (reading.bodies (context scope.now) room) (toks tokens.now) lead) }
+    ensures gives { Gives (λ x. (stmt x.0, toks x.1.now)) result (parts.stmt_parts (context scope.now) room (reading.bodies (context scope.now) room) (toks tokens.now) lead) }
 {
     match lead {
         StmtLead::Empty => {
@@ -210,6 +263,23 @@ fn simple<'a>(
     }
 }
 
+/// What stands behind `else`, where that comes next.
+#[cycle(statements)]
+fn otherwise<'a>(
+    alloc: Global,
+    scope: &Scope,
+    room: u32,
+    tokens: &'a [Token],
+) -> Result<(Option<Stmt>, &'a [Token]), ReadErr>
+    ensures gives { Gives (λ x. (maybe (option_map stmt x.0), toks x.1.now)) result (parts.else_at (reading.bodies (context scope.now) room) (toks tokens.now)) }
+{
+    if !at_else_word(tokens) {
+        return Ok((None, tokens));
+    }
+    let (other, rest) = statement(alloc, scope, room, behind(tokens))?;
+    Ok((Some(other), rest))
+}
+
 #[cycle(statements)]
 fn if_statement<'a>(
     alloc: Global,
@@ -217,18 +287,68 @@ fn if_statement<'a>(
     room: u32,
     tokens: &'a [Token],
 ) -> Result<(Stmt, &'a [Token]), ReadErr>
-    ensures gives { Gives (λ x. (stmt x.0, toks x.1.now)) result (reading.if_with (context scope.now) room (reading.bodies (context scope.now) room) (toks tokens.now)) }
+    ensures gives { Gives (λ x. (stmt x.0, toks x.1.now)) result (parts.if_parts (context scope.now) room (reading.bodies (context scope.now) room) (toks tokens.now)) }
 {
-    let (e, rest) = test(alloc, scope, room, behind(tokens))?;
-    let (e, (then, rest)) = keeping(e, statement(alloc, scope, room, rest))?;
-    let (e, then) = keeping(e, boxed(alloc, then))?;
-    if !at_else_word(rest) {
-        return Ok((if_only(e, then, span(scope, tokens, rest)), rest));
+    let (head, rest) = guarded(alloc, scope, room, behind(tokens))?;
+    let other = otherwise(alloc, scope, room, rest);
+    let (head, (other, rest)) = keeping(head, other)?;
+    Ok((if_(alloc, head, other, span(scope, tokens, rest))?, rest))
+}
+
+fn if_(alloc: Global, head: (Expr, Stmt), other: Option<Stmt>, span: Span) -> Result<Stmt, ReadErr>
+    ensures made { Gives stmt result (Ok (IfS (expr head.0) (stmt head.1) (maybe (option_map stmt other)) span)) }
+{
+    let (e, then) = head;
+    let ((e, other), then) = keeping((e, other), boxed(alloc, then))?;
+    match other {
+        None => Ok(if_only(e, then, span)),
+        Some(other) => {
+            let ((e, then), other) = keeping((e, then), boxed(alloc, other))?;
+            Ok(if_else(e, then, other, span))
+        }
     }
-    let other = statement(alloc, scope, room, behind(rest));
-    let ((e, then), (other, rest)) = keeping((e, then), other)?;
-    let ((e, then), other) = keeping((e, then), boxed(alloc, other))?;
-    Ok((if_else(e, then, other, span(scope, tokens, rest)), rest))
+}
+
+/// What a `for` begins with, up to its first semicolon.
+fn for_first<'a>(
+    alloc: Global,
+    scope: &Scope,
+    room: u32,
+    tokens: &'a [Token],
+) -> Result<(Option<Stmt>, &'a [Token]), ReadErr>
+    ensures gives { Gives (λ x. (maybe (option_map stmt x.0), toks x.1.now)) result (parts.for_first (context scope.now) room (toks tokens.now)) }
+{
+    let rest = open_paren(tokens)?;
+    let (from, rest) = first(alloc, scope, room, rest)?;
+    keeping(from, semicolon(rest))
+}
+
+/// What stands from there up to the closing parenthesis.
+fn for_steps<'a>(
+    alloc: Global,
+    scope: &Scope,
+    room: u32,
+    tokens: &'a [Token],
+) -> Result<((Option<Expr>, Option<Expr>), &'a [Token]), ReadErr>
+    ensures gives { Gives (λ x. ((option_map expr x.0.0, option_map expr x.0.1), toks x.1.now)) result (parts.for_steps (context scope.now) room (toks tokens.now)) }
+{
+    let (check, rest) = maybe(alloc, scope, room, tokens)?;
+    let (check, rest) = keeping(check, semicolon(rest))?;
+    let (check, (step, rest)) = keeping(check, maybe(alloc, scope, room, rest))?;
+    keeping((check, step), close_paren(rest))
+}
+
+fn for_head<'a>(
+    alloc: Global,
+    scope: &Scope,
+    room: u32,
+    tokens: &'a [Token],
+) -> Result<((Option<Stmt>, Option<Expr>, Option<Expr>), &'a [Token]), ReadErr>
+    ensures gives { Gives (λ x. ((maybe (option_map stmt x.0.0), option_map expr x.0.1, option_map expr x.0.2), toks x.1.now)) result (parts.for_head (context scope.now) room (toks tokens.now)) }
+{
+    let (from, rest) = for_first(alloc, scope, room, tokens)?;
+    let (from, ((check, step), rest)) = keeping(from, for_steps(alloc, scope, room, rest))?;
+    Ok(((from, check, step), rest))
 }
 
 #[cycle(statements)]
@@ -238,35 +358,29 @@ fn for_statement<'a>(
     room: u32,
     tokens: &'a [Token],
 ) -> Result<(Stmt, &'a [Token]), ReadErr>
-    ensures gives { Gives (λ x. (stmt x.0, toks x.1.now)) result (reading.for_with (context scope.now) room (reading.bodies (context scope.now) room) (toks tokens.now)) }
+    ensures gives { Gives (λ x. (stmt x.0, toks x.1.now)) result (parts.for_parts (context scope.now) room (reading.bodies (context scope.now) room) (toks tokens.now)) }
 {
-    let rest = open_paren(behind(tokens))?;
-    let (from, rest) = first(alloc, scope, room, rest)?;
-    let (from, rest) = keeping(from, semicolon(rest))?;
-    let (from, (check, rest)) = keeping(from, maybe(alloc, scope, room, rest))?;
-    let ((from, check), rest) = keeping((from, check), semicolon(rest))?;
-    let ((from, check), (step, rest)) = keeping((from, check), maybe(alloc, scope, room, rest))?;
-    let ((from, check, step), rest) = keeping((from, check, step), close_paren(rest))?;
+    let (head, rest) = for_head(alloc, scope, room, behind(tokens))?;
     let body = statement(alloc, scope, room, rest);
-    let ((from, check, step), (body, rest)) = keeping((from, check, step), body)?;
-    let span = span(scope, tokens, rest);
-    Ok((for_(alloc, from, check, step, body, span)?, rest))
+    let (head, (body, rest)) = keeping(head, body)?;
+    Ok((for_(alloc, head, body, span(scope, tokens, rest))?, rest))
 }
 
 fn for_(
     alloc: Global,
-    from: Option<Stmt>,
-    check: Option<Expr>,
-    step: Option<Expr>,
+    head: (Option<Stmt>, Option<Expr>, Option<Expr>),
     body: Stmt,
     span: Span,
 ) -> Result<Stmt, ReadErr>
-    ensures made { Gives stmt result (Ok (ForS (maybe (option_map stmt from)) (option_map expr check) (option_map expr step) (stmt body) span)) }
+    ensures made { Gives stmt result (Ok (ForS (maybe (option_map stmt head.0)) (option_map expr head.1) (option_map expr head.2) (stmt body) span)) }
 {
-    let body = boxed(alloc, body)?;
+    let ((from, check, step), body) = keeping(head, boxed(alloc, body))?;
     match from {
         None => Ok(for_bare(check, step, body, span)),
-        Some(from) => Ok(for_from(boxed(alloc, from)?, check, step, body, span)),
+        Some(from) => {
+            let ((check, step, body), from) = keeping((check, step, body), boxed(alloc, from))?;
+            Ok(for_from(from, check, step, body, span))
+        }
     }
 }
 
@@ -291,6 +405,32 @@ pub(crate) fn statements<'a>(
 }
 
 #[tactic(auto, using(crate::proofs::CodeSteps::statement_steps))]
+fn case_arm<'a>(
+    alloc: Global,
+    scope: &Scope,
+    room: u32,
+    tokens: &'a [Token],
+) -> Result<(Arm, &'a [Token]), ReadErr>
+    ensures gives { Gives (λ x. (arm x.0, toks x.1.now)) result (reading.arm_by (context scope.now) room (reading.bodies (context scope.now) room) (toks tokens.now) arm_leads.Case) }
+{
+    let (e, _depth, rest) = level(alloc, scope, room, 10, behind(tokens))?;
+    let (e, rest) = keeping(e, colon(rest))?;
+    Ok((Arm::Case(e, span(scope, tokens, rest)), rest))
+}
+
+#[tactic(auto, using(crate::proofs::CodeSteps::statement_steps))]
+fn default_arm<'a>(
+    scope: &Scope,
+    room: u32,
+    tokens: &'a [Token],
+) -> Result<(Arm, &'a [Token]), ReadErr>
+    ensures gives { Gives (λ x. (arm x.0, toks x.1.now)) result (reading.arm_by (context scope.now) room (reading.bodies (context scope.now) room) (toks tokens.now) arm_leads.Default) }
+{
+    let rest = colon(behind(tokens))?;
+    Ok((Arm::Default(span(scope, tokens, rest)), rest))
+}
+
+#[tactic(auto, using(crate::proofs::CodeSteps::statement_steps))]
 #[cycle(statements)]
 fn arm<'a>(
     alloc: Global,
@@ -305,15 +445,8 @@ fn arm<'a>(
         return Err(no_room(is_some_arm(lead) || begins_stmt(scope, tokens), tokens));
     }
     match lead {
-        ArmLead::Case => {
-            let (e, _depth, rest) = level(alloc, scope, room - 1, 10, behind(tokens))?;
-            let rest = colon(rest)?;
-            Ok((Arm::Case(e, span(scope, tokens, rest)), rest))
-        }
-        ArmLead::Default => {
-            let rest = colon(behind(tokens))?;
-            Ok((Arm::Default(span(scope, tokens, rest)), rest))
-        }
+        ArmLead::Case => case_arm(alloc, scope, room - 1, tokens),
+        ArmLead::Default => default_arm(scope, room - 1, tokens),
         ArmLead::Stmt => {
             let (body, rest) = statement(alloc, scope, room - 1, tokens)?;
             Ok((Arm::Stmt(body), rest))

@@ -1,8 +1,11 @@
 // From tokens to the items of a unit.
-ghost use Rattle.std.specs.Prelude.{◌≡◌, ◌≤◌, ◌<◌, IfOk, Ok, length, map};
+ghost use Rattle.std.specs.Prelude.{◌≡◌, ◌≤◌, ◌<◌, IfErr, IfOk, Ok, length, map};
+ghost use Rattle.c_parse.specs.Reader.{at_semicolon};
 ghost use Rattle.c_parse.specs.ReadingUnits as reading;
+ghost use Rattle.c_parse.specs.Scope.{declare};
 ghost use Rattle.c_parse.specs.Tok.{toks};
 ghost use Rattle.c_parse.specs.Units.{behind_item};
+ghost use Rattle.c_parse.specs.declared.fault.ReadErr.TheVariants as errors;
 ghost use Rattle.c_parse.specs.View.{Gives, context};
 ghost use Rattle.c_tree.specs.View.{item, type, unit, var};
 ghost use Rattle.c_tree.specs.Depth.{type_depth};
@@ -25,6 +28,15 @@ use c_tree::{Item, TypeTree, Unit, Var};
 use kit_base::{Name, Seq};
 use std::alloc::Global;
 
+/// The name is a type from here on.
+fn declare(alloc: Global, scope: &mut Scope, name: &Name) -> Result<(), ReadErr>
+    ensures declared { IfOk result (λ x. context scope.new ≡ declare name.now (context scope.old)) }
+    ensures memory { IfErr result (λ e. e ≡ errors.Memory) }
+{
+    scope.types.push(name.copy(alloc)?)?;
+    Ok(())
+}
+
 /// A structure or a union. Its name is a type from here on.
 fn structure<'a>(
     alloc: Global,
@@ -37,7 +49,7 @@ fn structure<'a>(
     ensures declared { IfOk result (λ x. context scope.new ≡ behind_item (item x.0) (context scope.old)) }
 {
     let (name, rest) = new(alloc, behind(tokens))?;
-    scope.types.push(name.copy(alloc)?)?;
+    declare(alloc, scope, &name)?;
     if at_semicolon(rest) {
         let rest = behind(rest);
         let span = span(scope, tokens, rest);
@@ -82,7 +94,8 @@ fn enumeration<'a>(
     let (values, rest) = keeping(values, end_list(rest))?;
     let (values, rest) = keeping(values, semicolon(rest))?;
     let span = span(scope, tokens, rest);
-    scope.types.push(name.copy(alloc)?)?;
+    let declared = declare(alloc, scope, &name);
+    let ((name, values), _) = keeping((name, values), declared)?;
     Ok((Item::Enum { name, values, span }, rest))
 }
 
@@ -99,9 +112,8 @@ fn type_name<'a>(
     let (ty, (name, rest)) = keeping(ty, new(alloc, rest))?;
     let ((ty, name), rest) = keeping((ty, name), semicolon(rest))?;
     let span = span(scope, tokens, rest);
-    let copy = name.copy(alloc);
-    let ((ty, name), copy) = keeping((ty, name), copy)?;
-    let ((ty, name), _) = keeping((ty, name), scope.types.push(copy))?;
+    let declared = declare(alloc, scope, &name);
+    let ((ty, name), _) = keeping((ty, name), declared)?;
     Ok((Item::Typedef(ty, name, span), rest))
 }
 
@@ -120,9 +132,27 @@ fn function<'a>(
 {
     let ((ty, name), rest) = keeping((ty, name), open_paren(tokens))?;
     let ((ty, name), (params, rest)) = keeping((ty, name), parameters(alloc, scope, room, rest))?;
-    let ((ty, name, params), rest) = keeping((ty, name, params), close_paren(rest))?;
-    if at_semicolon(rest) {
-        let rest = behind(rest);
+    let (head, rest) = keeping((ty, name, params), close_paren(rest))?;
+    let (ty, name, params) = head;
+    with_body(alloc, scope, room, from, ty, name, params, rest)
+}
+
+/// A function that begins at `from`, from behind its parameters.
+fn with_body<'a>(
+    alloc: Global,
+    scope: &Scope,
+    room: u32,
+    from: &[Token],
+    ty: TypeTree,
+    name: Name,
+    params: Seq<Var>,
+    tokens: &'a [Token],
+) -> Result<(Item, &'a [Token]), ReadErr>
+    ensures gives { Gives (λ x. (item x.0, toks x.1.now)) result (reading.body_by (context scope.now) room (toks from.now) (type ty) name (map var params) (toks tokens.now) (at_semicolon (toks tokens.now))) }
+    ensures declared { IfOk result (λ x. context scope.now ≡ behind_item (item x.0) (context scope.now)) }
+{
+    if at_semicolon(tokens) {
+        let rest = behind(tokens);
         let span = span(scope, from, rest);
         return Ok((
             Item::Function {
@@ -135,7 +165,7 @@ fn function<'a>(
             rest,
         ));
     }
-    let (head, rest) = keeping((ty, name, params), open_brace(rest))?;
+    let (head, rest) = keeping((ty, name, params), open_brace(tokens))?;
     let (head, (body, rest)) = keeping(head, statements(alloc, scope, room, rest))?;
     let ((head, body), rest) = keeping((head, body), close_brace(rest))?;
     let (result, name, params) = head;

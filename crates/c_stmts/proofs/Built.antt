@@ -9,23 +9,19 @@ use Rattle.c_tree.specs.Tree.{IfS, ForS}
 use Rattle.c_tree.specs.View.{expr, stmt}
 use Rattle.c_types.specs.declared.typed.TExpr.{TExpr}
 use Rattle.c_types.specs.declared.typed.TStmt.{TStmt, If, For, the_lemmas}
-use Rattle.c_types.specs.Typed.{IfZ, ForZ, NoneZ, SomeZ}
+use Rattle.c_types.specs.Typed.{IfZ, ForZ}
 use Rattle.c_types.specs.View.{texpr, tstmt}
-use Rattle.c_stmts.specs.View.{maybe_s}
+use Rattle.c_stmts.specs.View.{maybe_s, maybe_box}
 
-pub view-If-None : (e : TExpr) (b : Box TStmt) → tstmt (If e b None) ≡ IfZ (texpr e) (tstmt b.value) NoneZ
-view-If-None e b = search (rules, the_lemmas)
+pub view-If : (e : TExpr) (a : Box TStmt) (b : Option (Box TStmt)) → tstmt (If e a b) ≡ IfZ (texpr e) (tstmt a.value) (maybe_box b)
+view-If e a None = search (rules, the_lemmas)
+view-If e a (Some b) = search (rules, the_lemmas)
 
-pub view-If-Some : (e : TExpr) (b c : Box TStmt) → tstmt (If e b (Some c)) ≡ IfZ (texpr e) (tstmt b.value) (SomeZ (tstmt c.value))
-view-If-Some e b c = search (rules, the_lemmas)
+pub view-For : (made : List ℕ) (f : Option (Box TStmt)) (x y : Option TExpr) (a : Box TStmt) → tstmt (For made f x y a) ≡ ForZ made (maybe_box f) (option_map texpr x) (option_map texpr y) (tstmt a.value)
+view-For made None x y a = search (rules, the_lemmas)
+view-For made (Some f) x y a = search (rules, the_lemmas)
 
-pub view-For-None : (made : List ℕ) (x y : Option TExpr) (a : Box TStmt) → tstmt (For made None x y a) ≡ ForZ made NoneZ (option_map texpr x) (option_map texpr y) (tstmt a.value)
-view-For-None made x y a = search (rules, the_lemmas)
-
-pub view-For-Some : (made : List ℕ) (f : Box TStmt) (x y : Option TExpr) (a : Box TStmt) → tstmt (For made (Some f) x y a) ≡ ForZ made (SomeZ (tstmt f.value)) (option_map texpr x) (option_map texpr y) (tstmt a.value)
-view-For-Some made f x y a = search (rules, the_lemmas)
-
-pub ruleset built = (view-If-None, view-If-Some, view-For-None, view-For-Some)
+pub ruleset built = (view-If, view-For)
 
 -- ---- the trees that are read
 

@@ -5,6 +5,7 @@ pub mod VarFronts
 pub mod StmtFronts
 pub mod Declared
 pub mod Built
+pub mod Forms
 pub mod Values
 pub mod InitExact
 pub mod StatementExact

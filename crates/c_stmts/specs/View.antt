@@ -42,3 +42,7 @@ maybe_s (Some s) = SomeS (stmt s.value)
 abbrev pub maybe_z : Option TStmt → MaybeZ
 maybe_z None = NoneZ
 maybe_z (Some s) = SomeZ (tstmt s)
+
+abbrev pub maybe_box : Option (Box TStmt) → MaybeZ
+maybe_box None = NoneZ
+maybe_box (Some s) = SomeZ (tstmt s.value)

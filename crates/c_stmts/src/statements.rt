@@ -1,38 +1,77 @@
 // The typing of statements.
-ghost use Rattle.std.specs.Prelude.{◌≡◌, ℕ, [], List, false, map, option_map, IfOk, OnErr, Err};
+ghost use Rattle.std.specs.Prelude.{◌≡◌, ℕ, [], List, Some, false, map, IfOk, OnErr, Err};
 ghost use Rattle.c_tree.specs.declared.span.Span.{Span};
-ghost use Rattle.c_tree.specs.View.{stmt, stmts, arm, arms};
+ghost use Rattle.c_tree.specs.View.{expr, var, stmt, stmts, arm, arms};
+ghost use Rattle.c_tree.specs.Tree.{DoS, ReturnS, VarsS};
 ghost use Rattle.c_types.specs.Typed.{TStmtTs};
-ghost use Rattle.c_types.specs.View.{texpr, tarm, tarms, tstmt, tstmts};
+ghost use Rattle.c_types.specs.View.{tarm, tarms, tstmt, tstmts};
 ghost use Rattle.c_rules.specs.declared.code.Code.{Code};
 ghost use Rattle.c_exprs.specs.declared.error.CheckErr.TheVariants.{At};
 ghost use Rattle.c_exprs.specs.Faults.{at};
 ghost use Rattle.c_exprs.specs.Gives.{Gives};
-ghost use Rattle.c_stmts.specs.State.{St, is_test, no_labels, with_label};
-ghost use Rattle.c_stmts.specs.View.{st, fn_of, reached, labels};
+ghost use Rattle.c_stmts.specs.State.{St, no_labels, with_label};
+ghost use Rattle.c_stmts.specs.View.{st, fn_of, reached, labels, maybe_s, maybe_z};
 ghost use Rattle.c_stmts.specs.StatementTyping as typing;
 ghost use Rattle.c_stmts.specs.StatementTypes.{Statements};
 ghost use Rattle.c_stmts.specs.StatementBreaks.{NotStatements};
 
-use crate::building::{do_while, for_, if_else, while_};
+use crate::building::{
+    block_made, do_while_made, for_made, if_made, label_at, switch_made, while_made,
+};
 use crate::labels::{Labels, add_case, add_default, no_labels};
 use crate::state::{State, kept_state};
 use crate::variables::{all_declared, maybe_value, value_in};
-use c_exprs::{CheckErr, Globals, constant, demanded, known, span_of};
-use c_rules::{Code, converts, is_condition, is_number};
-use c_tree::{Arm, Stmt};
-use c_types::{CType, TArm, TExpr, TStmt};
+use c_exprs::{CheckErr, Globals, demanded, keeping, span_of};
+use c_rules::{Code, converts};
+use c_tree::{Arm, Expr, Span, Stmt, Var};
+use c_types::{CType, TArm, TStmt};
 use kit_base::Seq;
 use std::alloc::Global;
 
-/// Whether a condition that may be missing can be tested; a missing one holds.
-fn is_test(test: &Option<TExpr>) -> bool
-    ensures { result ≡ is_test (option_map texpr test.now) }
+/// A declaration of variables.
+fn vars_of(
+    alloc: Global,
+    globals: &Globals,
+    state: &mut State,
+    gives: &CType,
+    vars: &[Var],
+    span: Span,
+) -> Result<TStmt, CheckErr>
+    ensures { Gives (λ r. (tstmt r, st state.new)) result (typing.statement (fn_of globals.now gives.now) (st state.old) false false (VarsS (map var vars.now) span)) }
 {
-    match test {
-        Some(x) => is_condition(&x.ty),
-        None => true,
-    }
+    let vars = all_declared(alloc, globals, state, gives, vars)?;
+    Ok(TStmt::Vars(Seq::from_vec(vars)))
+}
+
+/// An expression that is a statement.
+fn do_of(
+    alloc: Global,
+    globals: &Globals,
+    state: &mut State,
+    gives: &CType,
+    e: &Expr,
+) -> Result<TStmt, CheckErr>
+    ensures { Gives (λ r. (tstmt r, st state.new)) result (typing.statement (fn_of globals.now gives.now) (st state.old) false false (DoS (expr e.now))) }
+{
+    let x = value_in(alloc, globals, state, gives, e)?;
+    Ok(TStmt::Do(x))
+}
+
+/// A `return` with a value.
+fn return_of(
+    alloc: Global,
+    globals: &Globals,
+    state: &mut State,
+    gives: &CType,
+    e: &Expr,
+    span: Span,
+) -> Result<TStmt, CheckErr>
+    ensures { Gives (λ r. (tstmt r, st state.new)) result (typing.statement (fn_of globals.now gives.now) (st state.old) false false (ReturnS (Some (expr e.now)) span)) }
+{
+    let x = value_in(alloc, globals, state, gives, e)?;
+    let holds = demanded(span, Code::WrongType, converts(&x.ty, gives));
+    let (x, _) = keeping(x, holds)?;
+    Ok(TStmt::Return(Some(x)))
 }
 
 /// The typed tree of a statement where `break` and `continue` may stand or may not.
@@ -53,81 +92,51 @@ fn stmt_of(
             state.open(alloc)?;
             let body = body.as_slice();
             let body = stmts_of(alloc, globals, state, body, gives, breaks, continues)?;
-            let made = state.close(alloc)?;
-            Ok(TStmt::Block(Seq::from_vec(made), Seq::from_vec(body)))
+            Ok(block_made(alloc, state, body)?)
         }
         Stmt::Empty(_) => Ok(TStmt::Empty),
-        Stmt::Vars(vars, _) => {
-            let vars = all_declared(alloc, globals, state, gives, vars.as_slice())?;
-            Ok(TStmt::Vars(Seq::from_vec(vars)))
-        }
-        Stmt::Do(e) => {
-            let x = value_in(alloc, globals, state, gives, e)?;
-            Ok(TStmt::Do(x))
-        }
+        Stmt::Vars(vars, span) => { vars_of(alloc, globals, state, gives, vars.as_slice(), *span) }
+        Stmt::Do(e) => do_of(alloc, globals, state, gives, e),
         Stmt::If(e, a, b, span) => {
             let x = value_in(alloc, globals, state, gives, e)?;
-            let y = stmt_of(alloc, globals, state, a, gives, breaks, continues)?;
-            match b {
-                Some(b) => {
-                    let z = stmt_of(alloc, globals, state, b, gives, breaks, continues)?;
-                    demanded(*span, Code::WrongType, is_condition(&x.ty))?;
-                    Ok(if_else(alloc, x, y, Some(z))?)
-                }
-                None => {
-                    demanded(*span, Code::WrongType, is_condition(&x.ty))?;
-                    Ok(if_else(alloc, x, y, None)?)
-                }
-            }
+            let y = stmt_of(alloc, globals, state, a, gives, breaks, continues);
+            let (x, y) = keeping(x, y)?;
+            let z = maybe_of(alloc, globals, state, b, gives, breaks, continues);
+            let ((x, y), z) = keeping((x, y), z)?;
+            Ok(if_made(alloc, *span, x, y, z)?)
         }
         Stmt::While(e, a, span) => {
             let x = value_in(alloc, globals, state, gives, e)?;
-            let y = stmt_of(alloc, globals, state, a, gives, true, true)?;
-            demanded(*span, Code::WrongType, is_condition(&x.ty))?;
-            Ok(while_(alloc, x, y)?)
+            let y = stmt_of(alloc, globals, state, a, gives, true, true);
+            let (x, y) = keeping(x, y)?;
+            Ok(while_made(alloc, *span, x, y)?)
         }
         Stmt::DoWhile(a, e, span) => {
             let y = stmt_of(alloc, globals, state, a, gives, true, true)?;
-            let x = value_in(alloc, globals, state, gives, e)?;
-            demanded(*span, Code::WrongType, is_condition(&x.ty))?;
-            Ok(do_while(alloc, y, x)?)
+            let x = value_in(alloc, globals, state, gives, e);
+            let (y, x) = keeping(y, x)?;
+            Ok(do_while_made(alloc, *span, y, x)?)
         }
         Stmt::For(first, test, step, a, span) => {
             state.open(alloc)?;
-            match first {
-                Some(first) => {
-                    let x = stmt_of(alloc, globals, state, first, gives, breaks, continues)?;
-                    let y = maybe_value(alloc, globals, state, gives, test)?;
-                    let z = maybe_value(alloc, globals, state, gives, step)?;
-                    let w = stmt_of(alloc, globals, state, a, gives, true, true)?;
-                    demanded(*span, Code::WrongType, is_test(&y))?;
-                    let made = state.close(alloc)?;
-                    Ok(for_(alloc, made, Some(x), y, z, w)?)
-                }
-                None => {
-                    let y = maybe_value(alloc, globals, state, gives, test)?;
-                    let z = maybe_value(alloc, globals, state, gives, step)?;
-                    let w = stmt_of(alloc, globals, state, a, gives, true, true)?;
-                    demanded(*span, Code::WrongType, is_test(&y))?;
-                    let made = state.close(alloc)?;
-                    Ok(for_(alloc, made, None, y, z, w)?)
-                }
-            }
+            let x = maybe_of(alloc, globals, state, first, gives, breaks, continues)?;
+            let y = maybe_value(alloc, globals, state, gives, test);
+            let (x, y) = keeping(x, y)?;
+            let z = maybe_value(alloc, globals, state, gives, step);
+            let ((x, y), z) = keeping((x, y), z)?;
+            let w = stmt_of(alloc, globals, state, a, gives, true, true);
+            let ((x, y, z), w) = keeping((x, y, z), w)?;
+            Ok(for_made(alloc, state, *span, x, y, z, w)?)
         }
         Stmt::Switch(e, all, span) => {
             let x = value_in(alloc, globals, state, gives, e)?;
-            state.open(alloc)?;
+            let (x, _) = keeping(x, state.open(alloc))?;
             let all = all.as_slice();
-            let xs = arms_of(alloc, globals, state, all, gives, true, continues)?;
-            demanded(*span, Code::WrongType, is_number(&x.ty))?;
-            let made = state.close(alloc)?;
-            Ok(TStmt::Switch(x, Seq::from_vec(made), Seq::from_vec(xs)))
+            let xs = arms_of(alloc, globals, state, all, gives, true, continues);
+            let (x, xs) = keeping(x, xs)?;
+            Ok(switch_made(alloc, state, *span, x, xs)?)
         }
-        Stmt::Return(Some(e), span) => {
-            let x = value_in(alloc, globals, state, gives, e)?;
-            demanded(*span, Code::WrongType, converts(&x.ty, gives))?;
-            Ok(TStmt::Return(Some(x)))
-        }
+        Stmt::Return(Some(e), span) => return_of(alloc, globals, state, gives, e, *span),
         Stmt::Return(None, _) => Ok(TStmt::Return(None)),
         Stmt::Break(span) => {
             demanded(*span, Code::BreakOutside, breaks)?;
@@ -137,6 +146,28 @@ fn stmt_of(
             demanded(*span, Code::BreakOutside, continues)?;
             Ok(TStmt::Continue)
         }
+    }
+}
+
+/// A statement that may be missing.
+#[cycle(statements)]
+fn maybe_of(
+    alloc: Global,
+    globals: &Globals,
+    state: &mut State,
+    s: &Option<Box<Stmt>>,
+    gives: &CType,
+    breaks: bool,
+    continues: bool,
+) -> Result<Option<TStmt>, CheckErr>
+    ensures { Gives (λ r. (maybe_z r, st state.new)) result (typing.maybe_statement (fn_of globals.now gives.now) (st state.old) breaks continues (maybe_s s.now)) }
+{
+    match s {
+        Some(s) => {
+            let x = stmt_of(alloc, globals, state, s, gives, breaks, continues)?;
+            Ok(Some(x))
+        }
+        None => Ok(None),
     }
 }
 
@@ -178,7 +209,7 @@ fn arm_of(
     match a {
         Arm::Case(e, span) => {
             let x = value_in(alloc, globals, state, gives, e)?;
-            let k = known(span_of(e), Code::NotConstant, constant(&x))?;
+            let k = label_at(span_of(e), x)?;
             add_case(seen, *span, k)?;
             Ok(TArm::Case(k))
         }

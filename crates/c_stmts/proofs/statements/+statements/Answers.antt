@@ -1,13 +1,17 @@
-use Rattle.std.proofs.Common.{arith, ◌≡◌, ◌+◌, ◌++◌, ◌∷◌, [], map, drop, ◌∙◌, sym, refl, add-one}
+use Rattle.std.proofs.Common.{arith, rules, true, Ok, option_map, ◌≡◌, ◌+◌, ◌++◌, ◌∷◌, [], map, drop, ◌∙◌, sym, refl, add-one}
 use Rattle.std.proofs.lemmas.List.{map_push}
 use Rattle.std.proofs.Math.Seq.{drop-cons}
 use Rattle.std.proofs.Math.ListN.{get_or}
 use Rattle.std.proofs.lemmas.List.{drop_all}
 use Rattle.c_tree.specs.declared.statement.Arm.{Arm}
 use Rattle.c_tree.specs.declared.statement.Stmt.{Stmt}
-use Rattle.c_tree.specs.View.{stmt, stmts, arm, arms}
-use Rattle.c_types.specs.View.{tarm, tstmt}
-use Rattle.c_stmts.specs.View.{st, fn_of, labels}
+use Rattle.c_tree.specs.View.{expr, stmt, stmts, arm, arms}
+use Rattle.c_types.specs.View.{texpr, tarm, tstmt}
+use Rattle.c_stmts.specs.State.{opened}
+use Rattle.c_stmts.specs.View.{st, fn_of, labels, maybe_s, maybe_z}
+use Rattle.c_stmts.specs.StatementTyping as typing
+use Rattle.c_stmts.proofs.Built.{view-if, view-for}
+use Rattle.c_stmts.proofs.Forms.{if_so, for_so}
 use Rattle.c_stmts.proofs.StmtFronts.{before-push, before-end, before_arms-none, before_arms-push, before_arms-end}
 use Rattle.c_stmts.proofs.statements.+statements.Goals as goal
 
@@ -49,3 +53,20 @@ arms_of-returns t c =
     let none = drop_all c.loop-a.a-index c.args.all.now c.loop-a-test.false in
     let rest = rw none at c.loop-a.invariant in
     sym rest ∙ before_arms-end (map tarm c.loop-a.found.items) (st c.loop-a.state)
+
+pub stmt_of-returns-in_ok-if_made-in-If : goal.stmt_of-returns-in_ok-if_made-in-If
+stmt_of-returns-in_ok-if_made-in-If t c =
+    let f = fn_of c.args.globals.now c.args.gives.now in
+    let x : typing.value_in f (st c.args.state.now) (expr c.in-If.e) ≡ Ok (texpr c.in_ok-x-in-If-3.x, st c.value_in.new.state) = search rules in
+    let y : typing.statement f (st c.value_in.new.state) c.args.breaks c.args.continues (stmt c.in-If.a.value) ≡ Ok (tstmt c.in_ok-x-in-If-3.y, st c.stmt_of-y.new.state) = search rules in
+    let z : typing.maybe_statement f (st c.stmt_of-y.new.state) c.args.breaks c.args.continues (maybe_s c.in-If.b) ≡ Ok (maybe_z c.in_ok-x-in-If-3.z, st c.maybe_of-z.new.state) = search rules in
+    rw (c.in-If.is, view-if c.in-If.e c.in-If.a c.in-If.b c.in-If.span) (if_so f (st c.args.state.now) (st c.value_in.new.state) (st c.stmt_of-y.new.state) (st c.maybe_of-z.new.state) c.args.breaks c.args.continues (expr c.in-If.e) (stmt c.in-If.a.value) (maybe_s c.in-If.b) c.in-If.span (texpr c.in_ok-x-in-If-3.x) (tstmt c.in_ok-x-in-If-3.y) (maybe_z c.in_ok-x-in-If-3.z) (tstmt c.in_ok-if_made-in-If.field-0) x y z c.in_ok-if_made-in-If.ensures.rule c.in_ok-if_made-in-If.ensures.tree)
+
+pub stmt_of-returns-in_ok-for_made-in-For : goal.stmt_of-returns-in_ok-for_made-in-For
+stmt_of-returns-in_ok-for_made-in-For t c =
+    let f = fn_of c.args.globals.now c.args.gives.now in
+    let x : typing.maybe_statement f (opened (st c.args.state.now)) c.args.breaks c.args.continues (maybe_s c.in-For.first) ≡ Ok (maybe_z c.in_ok-x-in-For-4.x, st c.maybe_of.new.state) = search rules in
+    let y : typing.maybe_value f (st c.maybe_of.new.state) (option_map expr c.in-For.test) ≡ Ok (option_map texpr c.in_ok-x-in-For-4.y, st c.maybe_value-y.new.state) = search rules in
+    let z : typing.maybe_value f (st c.maybe_value-y.new.state) (option_map expr c.in-For.step) ≡ Ok (option_map texpr c.in_ok-x-in-For-4.z, st c.maybe_value-z.new.state) = search rules in
+    let w : typing.statement f (st c.maybe_value-z.new.state) true true (stmt c.in-For.a.value) ≡ Ok (tstmt c.in_ok-x-in-For-4.w, st c.stmt_of-w.new.state) = search rules in
+    rw (c.in-For.is, view-for c.in-For.first c.in-For.test c.in-For.step c.in-For.a c.in-For.span) (for_so f (st c.args.state.now) (st c.maybe_of.new.state) (st c.maybe_value-y.new.state) (st c.maybe_value-z.new.state) (st c.stmt_of-w.new.state) (st c.for_made.new.state) c.args.breaks c.args.continues (maybe_s c.in-For.first) (option_map expr c.in-For.test) (option_map expr c.in-For.step) (stmt c.in-For.a.value) c.in-For.span (maybe_z c.in_ok-x-in-For-4.x) (option_map texpr c.in_ok-x-in-For-4.y) (option_map texpr c.in_ok-x-in-For-4.z) (tstmt c.in_ok-x-in-For-4.w) (tstmt c.in_ok-for_made-in-For.field-0) x y z w c.in_ok-for_made-in-For.ensures.rule c.in_ok-for_made-in-For.ensures.tree c.in_ok-for_made-in-For.ensures.left)

@@ -22,44 +22,28 @@ use Rattle.lower_trees.proofs.Joins.{joined_twice, joined_thrice}
 
 -- ---- nodes
 
-pub block_nodes : (h : Shape) (ty : Ty) (s : TStmtT) (ks : List ℕ) (body : TStmtTs) (n m b : ℕ) (j : Jump) (l p q : Listing) → s ≡ BlockZ ks body → p ≡ l ++ made ks → q ≡ p ++ low_stmts h ty body n m b j → q ≡ l ++ low_stmt h ty s n m b j
-block_nodes h ty s ks body n m b j l p q e a c = subst (λ z. q ≡ l ++ low_stmt h ty z n m b j) (sym e) (joined_twice l p q (made ks) (low_stmts h ty body n m b j) a c)
-
--- the condition, and what is chosen by it
-tested_nodes : (h : Shape) (x : TExprT) (n m : ℕ) (l p q r c : Listing) → p ≡ l ++ low_value h x n (n + 1) m → q ≡ p ++ tested_as (decayed (type_of x)) n → r ≡ q ++ c → r ≡ l ++ (low_test h x n (n + 1) m ++ c)
-tested_nodes h x n m l p q r c a b d = joined_thrice l p q r (low_value h x n (n + 1) m) (tested_as (decayed (type_of x)) n) c a b d
-
-pub if_nodes : (h : Shape) (ty : Ty) (s : TStmtT) (x : TExprT) (a : TStmtT) (rest : MaybeZ) (n m b : ℕ) (j : Jump) (l p q r first other : Listing) → s ≡ IfZ x a rest
-    → p ≡ l ++ low_value h x n (n + 1) m → q ≡ p ++ tested_as (decayed (type_of x)) n
-    → first ≡ low_stmt h ty a (second x n) (beyond h x m) b j → other ≡ low_other h ty rest (second x n + stmt_temps a) (beyond h x m + length (stmt_sizes h a)) b j
-    → r ≡ q ++ (ChooseN n (listed first) (listed other) ∷ []) → r ≡ l ++ low_stmt h ty s n m b j
-if_nodes h ty s x a rest n m b j l p q r first other e ea eb ef eo er =
+pub if_nodes : (h : Shape) (ty : Ty) (x : TExprT) (a : TStmtT) (rest : MaybeZ) (n m b u v u2 v2 : ℕ) (j : Jump) (l q r first other : Listing)
+    → q ≡ l ++ low_test h x n (n + 1) m → u ≡ second x n → v ≡ beyond h x m → first ≡ low_stmt h ty a u v b j
+    → u2 ≡ u + stmt_temps a → v2 ≡ v + length (stmt_sizes h a) → other ≡ low_other h ty rest u2 v2 b j
+    → r ≡ q ++ (ChooseN n (listed first) (listed other) ∷ []) → r ≡ l ++ low_stmt h ty (IfZ x a rest) n m b j
+if_nodes h ty x a rest n m b u v u2 v2 j l q r first other eq eu ev ef eu2 ev2 eo er =
+    let one : first ≡ low_stmt h ty a (second x n) (beyond h x m) b j = ef ∙ (λ k. low_stmt h ty a (eu k) (ev k) b j) in
+    let on : u2 ≡ second x n + stmt_temps a = eu2 ∙ ap (λ z. z + stmt_temps a) eu in
+    let ol : v2 ≡ beyond h x m + length (stmt_sizes h a) = ev2 ∙ ap (λ z. z + length (stmt_sizes h a)) ev in
+    let two : other ≡ low_other h ty rest (second x n + stmt_temps a) (beyond h x m + length (stmt_sizes h a)) b j = eo ∙ (λ k. low_other h ty rest (on k) (ol k) b j) in
     let chosen = (ChooseN n (listed (low_stmt h ty a (second x n) (beyond h x m) b j)) (listed (low_other h ty rest (second x n + stmt_temps a) (beyond h x m + length (stmt_sizes h a)) b j)) ∷ []) in
-    let there : r ≡ q ++ chosen = er ∙ (λ k. q ++ (ChooseN n (listed (ef k)) (listed (eo k)) ∷ [])) in
-    subst (λ z. r ≡ l ++ low_stmt h ty z n m b j) (sym e) (tested_nodes h x n m l p q r chosen ea eb there)
+    joined_twice l q r (low_test h x n (n + 1) m) chosen eq (er ∙ (λ k. q ++ (ChooseN n (listed (one k)) (listed (two k)) ∷ [])))
 
-pub while_nodes : (h : Shape) (ty : Ty) (s : TStmtT) (x : TExprT) (a : TStmtT) (n m b : ℕ) (j : Jump) (l p q w r first turn : Listing) → s ≡ WhileZ x a
-    → p ≡ low_value h x n (n + 1) m → q ≡ p ++ tested_as (decayed (type_of x)) n → first ≡ low_stmt h ty a (second x n) (beyond h x m) 0 (ToTurn 0) → turn ≡ first ++ (AgainN 0 ∷ [])
-    → w ≡ q ++ (ChooseN n (listed turn) (listed []) ∷ []) → r ≡ l ++ (LoopN (listed w) ∷ []) → r ≡ l ++ low_stmt h ty s n m b j
-while_nodes h ty s x a n m b j l p q w r first turn e ea eb ef et ew er =
-    let turn_is : turn ≡ low_stmt h ty a (second x n) (beyond h x m) 0 (ToTurn 0) ++ (AgainN 0 ∷ []) = et ∙ ap (λ z. z ++ (AgainN 0 ∷ [])) ef in
-    let chosen = (ChooseN n (listed (low_stmt h ty a (second x n) (beyond h x m) 0 (ToTurn 0) ++ (AgainN 0 ∷ []))) (listed []) ∷ []) in
-    let there : w ≡ q ++ chosen = ew ∙ ap (λ z. q ++ (ChooseN n (listed z) (listed []) ∷ [])) turn_is in
-    let whole : w ≡ low_test h x n (n + 1) m ++ chosen = tested_nodes h x n m [] p q w chosen ea eb there in
-    subst (λ z. r ≡ l ++ low_stmt h ty z n m b j) (sym e) (er ∙ ap (λ z. l ++ (LoopN (listed z) ∷ [])) whole)
+pub while_nodes : (h : Shape) (ty : Ty) (x : TExprT) (a : TStmtT) (n m u v : ℕ) (l w r first : Listing) → w ≡ low_test h x n (n + 1) m → u ≡ second x n → v ≡ beyond h x m → first ≡ low_stmt h ty a u v 0 (ToTurn 0)
+    → r ≡ l ++ (LoopN (listed (w ++ (ChooseN n (listed (first ++ (AgainN 0 ∷ []))) (listed []) ∷ []))) ∷ []) → r ≡ l ++ low_stmt h ty (WhileZ x a) n m 0 (ToEnd 0)
+while_nodes h ty x a n m u v l w r first ew eu ev ef er =
+    let one : first ≡ low_stmt h ty a (second x n) (beyond h x m) 0 (ToTurn 0) = ef ∙ (λ k. low_stmt h ty a (eu k) (ev k) 0 (ToTurn 0)) in
+    er ∙ (λ k. l ++ (LoopN (listed (ew k ++ (ChooseN n (listed (one k ++ (AgainN 0 ∷ []))) (listed []) ∷ []))) ∷ []))
 
-pub do_while_nodes : (h : Shape) (ty : Ty) (s : TStmtT) (a : TStmtT) (x : TExprT) (n m b u v : ℕ) (j : Jump) (l i p q w y r : Listing) → s ≡ DoWhileZ a x → u ≡ n + stmt_temps a → v ≡ m + length (stmt_sizes h a)
-    → i ≡ low_stmt h ty a n m 1 (ToEnd 0) → p ≡ BlockN (listed i) ∷ [] → q ≡ p ++ low_value h x u (u + 1) v → w ≡ q ++ tested_as (decayed (type_of x)) u
-    → y ≡ w ++ (ChooseN u (listed (AgainN 0 ∷ [])) (listed []) ∷ []) → r ≡ l ++ (LoopN (listed y) ∷ []) → r ≡ l ++ low_stmt h ty s n m b j
-do_while_nodes h ty s a x n m b u v j l i p q w y r e eu ev ei ep eq ew ey er =
-    let inside = (BlockN (listed (low_stmt h ty a n m 1 (ToEnd 0))) ∷ []) in
-    let begun : p ≡ inside = ep ∙ ap (λ z. BlockN (listed z) ∷ []) ei in
-    let tested = tested_nodes h x u v p q w y (ChooseN u (listed (AgainN 0 ∷ [])) (listed []) ∷ []) eq ew ey in
-    let all : y ≡ inside ++ (low_test h x u (u + 1) v ++ (ChooseN u (listed (AgainN 0 ∷ [])) (listed []) ∷ [])) = tested ∙ ap (λ z. z ++ (low_test h x u (u + 1) v ++ (ChooseN u (listed (AgainN 0 ∷ [])) (listed []) ∷ []))) begun in
-    let flat : y ≡ inside ++ low_test h x u (u + 1) v ++ (ChooseN u (listed (AgainN 0 ∷ [])) (listed []) ∷ []) = all ∙ sym (append_assoc inside (low_test h x u (u + 1) v) (ChooseN u (listed (AgainN 0 ∷ [])) (listed []) ∷ [])) in
-    let there = flat ∙ ap (λ z. inside ++ low_test h x z (z + 1) v ++ (ChooseN z (listed (AgainN 0 ∷ [])) (listed []) ∷ [])) eu
-    ∙ ap (λ z. inside ++ low_test h x (n + stmt_temps a) (n + stmt_temps a + 1) z ++ (ChooseN (n + stmt_temps a) (listed (AgainN 0 ∷ [])) (listed []) ∷ [])) ev in
-    subst (λ z. r ≡ l ++ low_stmt h ty z n m b j) (sym e) (er ∙ ap (λ z. l ++ (LoopN (listed z) ∷ [])) there)
+pub do_while_nodes : (h : Shape) (ty : Ty) (a : TStmtT) (x : TExprT) (n m u v : ℕ) (l i r : Listing) → u ≡ n + stmt_temps a → v ≡ m + length (stmt_sizes h a) → i ≡ low_stmt h ty a n m 1 (ToEnd 0)
+    → r ≡ l ++ (LoopN (listed ((BlockN (listed i) ∷ []) ++ low_test h x u (u + 1) v ++ (ChooseN u (listed (AgainN 0 ∷ [])) (listed []) ∷ []))) ∷ []) → r ≡ l ++ low_stmt h ty (DoWhileZ a x) n m 0 (ToEnd 0)
+do_while_nodes h ty a x n m u v l i r eu ev ei er =
+    er ∙ (λ k. l ++ (LoopN (listed ((BlockN (listed (ei k)) ∷ []) ++ low_test h x (eu k) (eu k + 1) (ev k) ++ (ChooseN (eu k) (listed (AgainN 0 ∷ [])) (listed []) ∷ []))) ∷ []))
 
 -- the turns of a `for`, of which the first statement is done
 turns_nodes : (h : Shape) (ty : Ty) (test step : Option TExprT) (a : TStmtT) (n m u v x y : ℕ) (p w i r : Listing) (tests : Bool) → tests ≡ is_some test → u ≡ n + maybe_temps test → v ≡ m + length (maybe_sizes h test)
@@ -71,31 +55,25 @@ turns_nodes h ty test step a n m u v x y p w i r tests et eu ev ex ey ew ei er =
     let of : y ≡ m + length (maybe_sizes h test) + length (stmt_sizes h a) = ey ∙ ap (λ z. z + length (stmt_sizes h a)) ev in
     er ∙ (λ k. p ++ (LoopN (listed (ew k ++ chosen_by (et k) n (turn_of (body k) (low_dropped h step (at k) (of k))))) ∷ []))
 
-pub for_nodes : (h : Shape) (ty : Ty) (s : TStmtT) (ks : List ℕ) (first : MaybeZ) (test step : Option TExprT) (a : TStmtT) (n m b c d u v x y : ℕ) (j : Jump) (l p q w i r : Listing) (tests : Bool) → s ≡ ForZ ks first test step a
+pub for_nodes : (h : Shape) (ty : Ty) (ks : List ℕ) (first : MaybeZ) (test step : Option TExprT) (a : TStmtT) (n m b c d u v x y : ℕ) (j : Jump) (l p q w i r : Listing) (tests : Bool)
     → c ≡ n + other_temps first → d ≡ m + length (other_sizes h first) → tests ≡ is_some test → u ≡ c + maybe_temps test → v ≡ d + length (maybe_sizes h test) → x ≡ u + stmt_temps a → y ≡ v + length (stmt_sizes h a)
     → p ≡ l ++ made ks → q ≡ p ++ low_other h ty first n m b j → w ≡ tested_first h test c d → i ≡ low_stmt h ty a u v 1 (ToEnd 0) → r ≡ q ++ (LoopN (listed (w ++ chosen_by tests c (turn_of i (low_dropped h step x y)))) ∷ [])
-    → r ≡ l ++ low_stmt h ty s n m b j
-for_nodes h ty s ks first test step a n m b c d u v x y j l p q w i r tests e ec ed et eu ev ex ey ep eq ew ei er =
+    → r ≡ l ++ low_stmt h ty (ForZ ks first test step a) n m b j
+for_nodes h ty ks first test step a n m b c d u v x y j l p q w i r tests ec ed et eu ev ex ey ep eq ew ei er =
     let begun : r ≡ q ++ turns h test step a (λ u v. low_stmt h ty a u v 1 (ToEnd 0)) c d = turns_nodes h ty test step a c d u v x y q w i r tests et eu ev ex ey ew ei er in
     let there : r ≡ q ++ turns h test step a (λ u v. low_stmt h ty a u v 1 (ToEnd 0)) (n + other_temps first) (m + length (other_sizes h first)) =
     begun ∙ (λ k. q ++ turns h test step a (λ u v. low_stmt h ty a u v 1 (ToEnd 0)) (ec k) (ed k)) in
-    subst (λ z. r ≡ l ++ low_stmt h ty z n m b j) (sym e)
-    (joined_thrice l p q r (made ks) (low_other h ty first n m b j) (turns h test step a (λ u v. low_stmt h ty a u v 1 (ToEnd 0)) (n + other_temps first) (m + length (other_sizes h first))) ep eq there)
+    joined_thrice l p q r (made ks) (low_other h ty first n m b j) (turns h test step a (λ u v. low_stmt h ty a u v 1 (ToEnd 0)) (n + other_temps first) (m + length (other_sizes h first))) ep eq there
 
--- no first statement
-pub none_nodes : (h : Shape) (ty : Ty) (n m b : ℕ) (j : Jump) (p : Listing) → p ≡ p ++ low_other h ty NoneZ n m b j
-none_nodes h ty n m b j p = sym (append-nil p)
-
-pub switch_nodes : (h : Shape) (ty : Ty) (s : TStmtT) (x : TExprT) (ks : List ℕ) (arms : TArmTs) (n m b : ℕ) (j : Jump) (l p q q2 q3 w i r : Listing) → s ≡ SwitchZ x ks arms
-    → p ≡ l ++ low_value h x n (n + 1) m → w ≡ low_match n 0 (labels_before_default arms) arms → q ≡ p ++ (BlockN (listed w) ∷ []) → q2 ≡ q ++ (DoN (o.Const one 1) ∷ []) → q3 ≡ q2 ++ made ks
-    → i ≡ low_arms h ty n arms (second x n) (beyond h x m) 0 (further j) → r ≡ q3 ++ (BlockN (listed i) ∷ []) → r ≡ l ++ low_stmt h ty s n m b j
-switch_nodes h ty s x ks arms n m b j l p q q2 q3 w i r e ep ew eq eq2 eq3 ei er =
+pub switch_nodes : (h : Shape) (ty : Ty) (x : TExprT) (ks : List ℕ) (arms : TArmTs) (n m u v : ℕ) (j : Jump) (l p q q2 i r : Listing)
+    → p ≡ l ++ low_value h x n (n + 1) m → q ≡ p ++ (BlockN (listed (low_match n 0 (labels_before_default arms) arms)) ∷ DoN (o.Const one 1) ∷ []) → q2 ≡ q ++ made ks
+    → u ≡ second x n → v ≡ beyond h x m → i ≡ low_arms h ty n arms u v 0 (further j) → r ≡ q2 ++ (BlockN (listed i) ∷ []) → r ≡ l ++ low_stmt h ty (SwitchZ x ks arms) n m 0 j
+switch_nodes h ty x ks arms n m u v j l p q q2 i r ep eq eq2 eu ev ei er =
     let tests = (BlockN (listed (low_match n 0 (labels_before_default arms) arms)) ∷ DoN (o.Const one 1) ∷ []) in
-    let two : q2 ≡ p ++ tests = eq2 ∙ ap (λ z. z ++ (DoN (o.Const one 1) ∷ [])) (eq ∙ ap (λ z. p ++ (BlockN (listed z) ∷ [])) ew) ∙ append_assoc p (BlockN (listed (low_match n 0 (labels_before_default arms) arms)) ∷ []) (DoN (o.Const one 1) ∷ []) in
-    let three : q3 ≡ l ++ (low_value h x n (n + 1) m ++ tests ++ made ks) = joined_thrice l p q2 q3 (low_value h x n (n + 1) m) tests (made ks) ep two eq3 in
+    let begun : q2 ≡ l ++ (low_value h x n (n + 1) m ++ tests ++ made ks) = joined_thrice l p q q2 (low_value h x n (n + 1) m) tests (made ks) ep eq eq2 in
+    let inside : i ≡ low_arms h ty n arms (second x n) (beyond h x m) 0 (further j) = ei ∙ (λ k. low_arms h ty n arms (eu k) (ev k) 0 (further j)) in
     let last = (BlockN (listed (low_arms h ty n arms (second x n) (beyond h x m) 0 (further j))) ∷ []) in
-    subst (λ z. r ≡ l ++ low_stmt h ty z n m b j) (sym e)
-    (joined_twice l q3 r (low_value h x n (n + 1) m ++ tests ++ made ks) last three (er ∙ ap (λ z. q3 ++ (BlockN (listed z) ∷ [])) ei))
+    joined_twice l q2 r (low_value h x n (n + 1) m ++ tests ++ made ks) last begun (er ∙ ap (λ z. q2 ++ (BlockN (listed z) ∷ [])) inside)
 
 pub return_nodes : (h : Shape) (ty : Ty) (s : TStmtT) (x : TExprT) (n m b : ℕ) (j : Jump) (l p q r : Listing) → s ≡ ReturnZ (Some x) → p ≡ l ++ low_value h x n (n + 1) m → q ≡ p ++ converted ty (is_flag x) n → r ≡ q ++ returned h ty n
     → r ≡ l ++ low_stmt h ty s n m b j

@@ -13,3 +13,4 @@ pub mod ListedStatements
 pub mod ListedFunctions
 pub mod View
 pub mod MaybeTypes
+pub mod MaybeStatements

@@ -1,8 +1,11 @@
 // Parts of loops, switches and returns.
-ghost use Rattle.std.specs.Prelude.{◌≡◌, ◌≤◌, ◌+◌, ◌++◌, ◌∷◌, [], length, map, option_map, if◌then◌else◌, IfOk, OnOk};
+ghost use Rattle.std.specs.Prelude.{◌≡◌, ◌≤◌, ◌+◌, ◌++◌, ◌∷◌, [], length, map, option_map, None, if◌then◌else◌, IfOk, OnOk};
 ghost use Rattle.c_types.specs.View.{ctype, texpr, tarm, tarms};
-ghost use Rattle.mid_code.specs.Functions.{DoN, BlockN, LoopN, ChooseN, LeaveN, listed, node};
-ghost use Rattle.lower_trees.specs.Counts.{maybe_temps, maybe_sizes};
+ghost use Rattle.mid_code.specs.Functions.{DoN, BlockN, LoopN, ChooseN, LeaveN, AgainN, ReturnN, listed, node};
+ghost use Rattle.lower_trees.specs.Counts.{maybe_temps, maybe_sizes, value_temps, value_sizes};
+ghost use Rattle.lower_trees.specs.Expressions.{second, beyond};
+ghost use Rattle.lower_trees.specs.ListedExpressions.{low_test};
+ghost use Rattle.lower_trees.specs.Parts.{one};
 ghost use Rattle.lower_trees.specs.Statements.{further, labels_before_default};
 ghost use Rattle.lower_trees.specs.ListedStatements.{depth, jump, tested_first, chosen_by, turn_of, low_dropped, low_match, low_label, returned};
 ghost use Rattle.lower_trees.specs.View.{shape_of, jump_of};
@@ -14,6 +17,7 @@ use crate::jump::JumpTo;
 use crate::kinds::is_structure;
 use crate::operating::test_as;
 use crate::reading::Reading;
+use c_exprs::keeping;
 use c_types::{CType, TArm, TExpr};
 use kit_base::{Memory, Seq};
 use mid_code::{Node, Op};
@@ -31,6 +35,15 @@ pub(crate) fn further(j: JumpTo) -> JumpTo
     }
 }
 
+/// Leaves the k-th enclosing part.
+pub(crate) fn leave(out: &mut Vec<Node<u32>>, k: u32, at: At) -> Result<At, Memory>
+    ensures nodes { OnOk result (map node out.new.items ≡ map node out.old.items ++ LeaveN k ∷ []) }
+    ensures at { IfOk result (λ r. r ≡ at) }
+{
+    out.push(Node::Leave(k))?;
+    Ok(at)
+}
+
 pub(crate) fn jump(out: &mut Vec<Node<u32>>, j: JumpTo) -> Result<(), Memory>
     ensures { OnOk result (map node out.new.items ≡ map node out.old.items ++ jump (jump_of j)) }
 {
@@ -39,6 +52,15 @@ pub(crate) fn jump(out: &mut Vec<Node<u32>>, j: JumpTo) -> Result<(), Memory>
         JumpTo::Turn(k) => out.push(Node::Again(k))?,
     }
     Ok(())
+}
+
+/// Returns nothing.
+pub(crate) fn return_nothing(out: &mut Vec<Node<u32>>, at: At) -> Result<At, Memory>
+    ensures nodes { OnOk result (map node out.new.items ≡ map node out.old.items ++ ReturnN None ∷ []) }
+    ensures at { IfOk result (λ r. r ≡ at) }
+{
+    out.push(Node::Return(None))?;
+    Ok(at)
 }
 
 /// Adds a block of nodes.
@@ -62,8 +84,28 @@ pub(crate) fn put_choice(
     Ok(())
 }
 
+/// A condition comes to the first free temporary.
+pub(crate) fn condition(
+    s: &Reading<'_>,
+    x: &TExpr,
+    at: At,
+    out: &mut Vec<Node<u32>>,
+    structures: &mut Vec<u32>,
+) -> Result<At, Memory>
+    requires temps { at.next + (value_temps (texpr x.now) + 1) ≤ 1000000 }
+    requires locals { at.local + length (value_sizes (shape_of s.now) (texpr x.now)) ≤ 1000000 }
+    ensures nodes { OnOk result (map node out.new.items ≡ map node out.old.items ++ low_test (shape_of s.now) (texpr x.now) at.next (at.next + 1) at.local) }
+    ensures sizes { OnOk result (structures.new.items ≡ structures.old.items ++ value_sizes (shape_of s.now) (texpr x.now)) }
+    ensures next { IfOk result (λ r. r.next ≡ second (texpr x.now) at.next) }
+    ensures local { IfOk result (λ r. r.local ≡ beyond (shape_of s.now) (texpr x.now) at.local) }
+{
+    let done = value(s, x, at.next, from(at.next + 1, at.local), out, structures)?;
+    test_as(out, &x.ty, at.next)?;
+    Ok(done)
+}
+
 /// The condition of a turn, where there is one, comes to the first free temporary.
-pub(crate) fn test_first(
+fn test_first(
     s: &Reading<'_>,
     test: Option<&TExpr>,
     at: At,
@@ -79,12 +121,27 @@ pub(crate) fn test_first(
 {
     match test {
         None => Ok(at),
-        Some(x) => {
-            let done = value(s, x, at.next, from(at.next + 1, at.local), out, structures)?;
-            test_as(out, &x.ty, at.next)?;
-            Ok(done)
-        }
+        Some(x) => condition(s, x, at, out, structures),
     }
+}
+
+/// A turn that begins with its condition, where there is one.
+pub(crate) fn begin_turn(
+    s: &Reading<'_>,
+    test: Option<&TExpr>,
+    at: At,
+    structures: &mut Vec<u32>,
+) -> Result<(Vec<Node<u32>>, At), Memory>
+    requires temps { at.next + maybe_temps (option_map (λ x. texpr x.now) test) ≤ 1000000 }
+    requires locals { at.local + length (maybe_sizes (shape_of s.now) (option_map (λ x. texpr x.now) test)) ≤ 1000000 }
+    ensures nodes { IfOk result (λ r. map node r.0.items ≡ tested_first (shape_of s.now) (option_map (λ x. texpr x.now) test.entry) at.next at.local) }
+    ensures sizes { OnOk result (structures.new.items ≡ structures.old.items ++ maybe_sizes (shape_of s.now) (option_map (λ x. texpr x.now) test.entry)) }
+    ensures next { IfOk result (λ r. r.1.next ≡ at.next + maybe_temps (option_map (λ x. texpr x.now) test.entry)) }
+    ensures local { IfOk result (λ r. r.1.local ≡ at.local + length (maybe_sizes (shape_of s.now) (option_map (λ x. texpr x.now) test.entry))) }
+{
+    let mut turn = Vec::new(s.alloc);
+    let tested = test_first(s, test, at, &mut turn, structures)?;
+    Ok((turn, tested))
 }
 
 /// The value of a step, where there is one, comes to the first free temporary and is dropped.
@@ -106,6 +163,66 @@ fn drop_value(
         None => Ok(at),
         Some(x) => value(s, x, at.next, from(at.next + 1, at.local), out, structures),
     }
+}
+
+/// A turn that goes on with the next one.
+fn with_next(turn: Vec<Node<u32>>) -> Result<Vec<Node<u32>>, Memory>
+    ensures { IfOk result (λ r. map node r.items ≡ map node turn.items ++ AgainN 0 ∷ []) }
+{
+    let mut turn = turn;
+    turn.push(Node::Again(0))?;
+    Ok(turn)
+}
+
+/// Adds a loop.
+fn put_loop(out: &mut Vec<Node<u32>>, turn: Vec<Node<u32>>) -> Result<(), Memory>
+    ensures { OnOk result (map node out.new.items ≡ map node out.old.items ++ LoopN (listed (map node turn.items)) ∷ []) }
+{
+    out.push(Node::Loop(Seq::from_vec(turn)))?;
+    Ok(())
+}
+
+/// Adds a loop whose turns go on while the word in t holds; the condition stands in `turn` and the body in `inside`.
+pub(crate) fn close_while(
+    alloc: Global,
+    t: u32,
+    turn: Vec<Node<u32>>,
+    inside: Vec<Node<u32>>,
+    out: &mut Vec<Node<u32>>,
+) -> Result<(), Memory>
+    ensures { OnOk result (map node out.new.items ≡ map node out.old.items ++ LoopN (listed (map node turn.items ++ ChooseN t (listed (map node inside.items ++ AgainN 0 ∷ [])) (listed []) ∷ [])) ∷ []) }
+{
+    let (turn, inside) = keeping(turn, with_next(inside))?;
+    let mut turn = turn;
+    put_choice(&mut turn, t, inside, Vec::new(alloc))?;
+    put_loop(out, turn)
+}
+
+/// Adds a loop whose turns are the nodes in `inside` and then the condition.
+pub(crate) fn close_do_while(
+    s: &Reading<'_>,
+    x: &TExpr,
+    inside: Vec<Node<u32>>,
+    at: At,
+    out: &mut Vec<Node<u32>>,
+    structures: &mut Vec<u32>,
+) -> Result<At, Memory>
+    requires temps { at.next + (value_temps (texpr x.now) + 1) ≤ 1000000 }
+    requires locals { at.local + length (value_sizes (shape_of s.now) (texpr x.now)) ≤ 1000000 }
+    ensures nodes { OnOk result (map node out.new.items ≡ map node out.old.items ++ LoopN (listed ((BlockN (listed (map node inside.items)) ∷ []) ++ low_test (shape_of s.now) (texpr x.now) at.next (at.next + 1) at.local ++ (ChooseN at.next (listed (AgainN 0 ∷ [])) (listed []) ∷ []))) ∷ []) }
+    ensures sizes { OnOk result (structures.new.items ≡ structures.old.items ++ value_sizes (shape_of s.now) (texpr x.now)) }
+    ensures next { IfOk result (λ r. r.next ≡ second (texpr x.now) at.next) }
+    ensures local { IfOk result (λ r. r.local ≡ beyond (shape_of s.now) (texpr x.now) at.local) }
+{
+    let mut turn = Vec::new(s.alloc);
+    put_block(&mut turn, inside)?;
+    let last = condition(s, x, at, &mut turn, structures)?;
+    let again = with_next(Vec::new(s.alloc));
+    let (turn, again) = keeping(turn, again)?;
+    let mut turn = turn;
+    put_choice(&mut turn, at.next, again, Vec::new(s.alloc))?;
+    put_loop(out, turn)?;
+    Ok(last)
 }
 
 /// Closes a turn of a `for`, of which the condition stands in `turn` and the body in `inside`.
@@ -180,7 +297,7 @@ fn match_label(
 }
 
 /// The word in t is held against the labels of the arms; t takes how many labels come before the one that is chosen.
-pub(crate) fn match_arms(alloc: Global, t: u32, arms: &[TArm]) -> Result<Vec<Node<u32>>, Memory>
+fn match_arms(alloc: Global, t: u32, arms: &[TArm]) -> Result<Vec<Node<u32>>, Memory>
     requires { length arms.now ≤ 1000000 }
     ensures { IfOk result (λ r. map node r.items ≡ low_match t 0 (labels_before_default (tarms (map tarm arms.now))) (tarms (map tarm arms.now))) }
 {
@@ -199,6 +316,21 @@ pub(crate) fn match_arms(alloc: Global, t: u32, arms: &[TArm]) -> Result<Vec<Nod
     }
     put(&mut out, Op::Const(t, before))?;
     Ok(out)
+}
+
+/// Adds the tests of a switch, whose value stands in t, and the 1 that its arms count down by.
+pub(crate) fn put_tests(
+    alloc: Global,
+    t: u32,
+    arms: &[TArm],
+    out: &mut Vec<Node<u32>>,
+) -> Result<(), Memory>
+    requires { length arms.now ≤ 1000000 }
+    ensures { OnOk result (map node out.new.items ≡ map node out.old.items ++ (BlockN (listed (low_match t 0 (labels_before_default (tarms (map tarm arms.now))) (tarms (map tarm arms.now)))) ∷ DoN (Op.Const one 1) ∷ [])) }
+{
+    let tests = match_arms(alloc, t, arms)?;
+    put_block(out, tests)?;
+    put(out, Op::Const(ONE, 1))
 }
 
 /// What stands behind a label, where one was met, is passed over while labels come before the one that is chosen.

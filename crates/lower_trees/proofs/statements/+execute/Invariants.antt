@@ -1,9 +1,10 @@
 use Rattle.std.proofs.Common.{◌≡◌, ◌+◌, ◌*◌, ◌≤◌, ◌++◌, map, drop, length}
 use Rattle.c_types.specs.View.{ctype, tstmt, tstmts, tarm, tarms}
-use Rattle.c_types.specs.Nodes.{statement_nodes, statements_nodes, arms_nodes}
+use Rattle.c_types.specs.Nodes.{statement_nodes, maybe_statement_nodes, statements_nodes, arms_nodes}
 use Rattle.mid_code.specs.Functions.{node}
 use Rattle.lower_trees.specs.Counts.{stmts_temps, stmts_sizes, arms_temps, arms_sizes}
 use Rattle.lower_trees.specs.ListedStatements.{low_stmts, low_arms, arms_open}
+use Rattle.lower_trees.specs.MaybeStatements.{other_of}
 use Rattle.lower_trees.specs.View.{shape_of, jump_of}
 use Rattle.lower_trees.proofs.statements.+execute.Given as goal
 
@@ -28,10 +29,34 @@ invariant-labelled-loop-arm l = record {
 }
 
 abbrev pub decreases-statement : goal.decreases-statement
-decreases-statement l = 2 * statement_nodes (tstmt l.a.now)
+decreases-statement l = 4 * statement_nodes (tstmt l.a.now)
+
+abbrev pub decreases-nested : goal.decreases-nested
+decreases-nested l = 4 * statement_nodes (tstmt l.a.now) + 1
+
+abbrev pub decreases-other : goal.decreases-other
+decreases-other l = 4 * maybe_statement_nodes (other_of l.a) + 1
+
+abbrev pub decreases-block : goal.decreases-block
+decreases-block l = 4 * statements_nodes (tstmts (map tstmt l.body.now)) + 2
+
+abbrev pub decreases-choice : goal.decreases-choice
+decreases-choice l = 4 * (statement_nodes (tstmt l.first.now) + maybe_statement_nodes (other_of l.second)) + 2
+
+abbrev pub decreases-while_loop : goal.decreases-while_loop
+decreases-while_loop l = 4 * statement_nodes (tstmt l.body.now) + 2
+
+abbrev pub decreases-do_while_loop : goal.decreases-do_while_loop
+decreases-do_while_loop l = 4 * statement_nodes (tstmt l.body.now) + 2
+
+abbrev pub decreases-for_loop : goal.decreases-for_loop
+decreases-for_loop l = 4 * (maybe_statement_nodes (other_of l.first) + statement_nodes (tstmt l.body.now)) + 2
+
+abbrev pub decreases-switch : goal.decreases-switch
+decreases-switch l = 4 * arms_nodes (tarms (map tarm l.arms.now)) + 2
 
 abbrev pub decreases-statements : goal.decreases-statements
-decreases-statements l = 2 * statements_nodes (tstmts (map tstmt l.body.now)) + 1
+decreases-statements l = 4 * statements_nodes (tstmts (map tstmt l.body.now)) + 1
 
 abbrev pub decreases-labelled : goal.decreases-labelled
-decreases-labelled l = 2 * arms_nodes (tarms (map tarm l.arms.now)) + 1
+decreases-labelled l = 4 * arms_nodes (tarms (map tarm l.arms.now)) + 1

@@ -1,25 +1,18 @@
-use Rattle.std.proofs.Common.{rules, arith, true, false, if◌then◌else◌, ◌≡◌, ◌≤◌, ◌<◌, ℕ, ◌+◌, ◌*◌, Bool, List, [], ◌∷◌, ◌++◌, length, length-append, append-nil, drop, is_some, option_map, Option, Some, None, map, sym, ap, ◌∙◌, refl, subst}
-use Rattle.std.specs.Prelude.{OnOk, IfOk}
+use Rattle.std.proofs.Common.{rules, arith, true, false, if◌then◌else◌, ◌≡◌, ◌≤◌, ◌<◌, ℕ, ◌+◌, ◌*◌, List, [], ◌++◌, length, length-append, drop, option_map, Some, map, sym, ap, ◌∙◌, refl, subst}
 use Rattle.c_types.specs.View.{ctype, texpr, tstmt, tstmts, tarm, tarms}
 use Rattle.c_types.specs.Typed.{TExprT, BlockZ, IfZ, WhileZ, DoWhileZ, ForZ, SwitchZ, ReturnZ, NoneZ, SomeZ, MoreZ, MoreB, StmtB}
 use Rattle.c_types.specs.Nodes.{typed_nodes, maybe_typed_nodes, statement_nodes, maybe_statement_nodes, statements_nodes, arms_nodes}
 use Rattle.c_types.specs.declared.typed.TStmt.{the_lemmas}
 use Rattle.c_types.specs.declared.typed.TArm as al
-use Rattle.mid_code.specs.declared.node.Op.TheVariants as o
-use Rattle.mid_code.specs.Functions.{NodeT, DoN, ChooseN, BlockN, LoopN, AgainN, listed, node}
+use Rattle.mid_code.specs.Functions.{NodeT, node}
 use Rattle.lower_trees.specs.Flags.{is_flag}
-use Rattle.lower_trees.specs.Parts.{one}
 use Rattle.lower_trees.specs.Counts.{value_temps, maybe_temps, stmt_temps, other_temps, stmts_temps, arms_temps, value_sizes, maybe_sizes, stmt_sizes, other_sizes, stmts_sizes, arms_sizes}
-use Rattle.lower_trees.specs.Expressions.{second, beyond}
-use Rattle.lower_trees.specs.Statements.{ToEnd, ToTurn, further, labels_before_default}
-use Rattle.lower_trees.specs.ListedParts.{converted, made}
-use Rattle.lower_trees.specs.ListedExpressions.{low_value, low_test}
-use Rattle.lower_trees.specs.ListedStatements.{depth, low_label, tested_first, chosen_by, turn_of, low_dropped, low_match, returned, low_stmt, low_other, low_stmts, low_arms}
+use Rattle.lower_trees.specs.ListedParts.{converted}
+use Rattle.lower_trees.specs.ListedExpressions.{low_value}
+use Rattle.lower_trees.specs.ListedStatements.{depth, low_label, returned, low_stmt, low_arms}
 use Rattle.lower_trees.specs.MaybeStatements.{other_of}
 use Rattle.lower_trees.specs.View.{shape_of, jump_of}
-use Rattle.lower_trees.proofs.Joins.{joined_twice}
-use Rattle.lower_trees.proofs.Forms.{on_ok}
-use Rattle.lower_trees.proofs.StatementForms.{if_nodes, while_nodes, do_while_nodes, for_nodes, switch_nodes, return_nodes, if_sizes, while_sizes, do_while_sizes, for_sizes, switch_sizes, if_length, while_length, do_while_length, for_length, switch_length, if_ok, arms_many, further_depth}
+use Rattle.lower_trees.proofs.StatementForms.{return_nodes, if_length, do_while_length, for_length, switch_length, arms_many}
 use Rattle.lower_trees.proofs.Viewed.{stmts_left, arms_left, stmts_drop, arms_drop}
 use Rattle.lower_trees.proofs.Arms.{is_stmt, Left, label_step, stmt_step}
 use Rattle.lower_trees.proofs.statements.+execute.Goals.{labelled-in-Case+in_ok-close_label-in-Case, labelled-in-Default+in_ok-close_label-in-Default, labelled-in-Stmt+in_ok-here-in-Stmt}

@@ -6,13 +6,13 @@ use Rattle.kit_base.specs.Effects.{all_done, written_file}
 use Rattle.kit_core.specs.declared.refusal.Refusal.{Refusal}
 use Rattle.kit_core.specs.Inputs.{◌>>=◌}
 use Rattle.kit_core.specs.Tracing.{traced_due, trace_reads}
-use Rattle.kit_core.specs.declared.conversion.Conversion.{Conversion}
+use Rattle.kit_words.specs.declared.conversion.Conversion.{Conversion}
 use Rattle.kit_core.specs.Converting.{made_due}
 use Rattle.kit_core.specs.Due.{Work, convert_due, trace_due}
 use Rattle.kit_core.specs.declared.shown.Shown.TheVariants as shown
 use Rattle.trace_core.specs.declared.run.Trace.{Trace}
 use Rattle.trace_core.specs.Putting.{trace_text}
-use Rattle.kit_core.specs.declared.conversion.Conversion.TheVariants.{Migrate}
+use Rattle.kit_words.specs.declared.conversion.Conversion.TheVariants.{Migrate}
 use Rattle.kit_core.specs.Causes.{HasCausesOr}
 use Rattle.kit_core.specs.Limits.{ConvertsLong, IsLong}
 use Rattle.kit_core.proofs.Own.{wider_causes}

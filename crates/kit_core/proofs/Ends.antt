@@ -13,7 +13,7 @@ use Rattle.kit_core.specs.declared.refusal.Refusal.{Refusal}
 use Rattle.kit_core.specs.declared.refusal.Refusal.TheVariants as refusals
 use Rattle.kit_core.specs.Causes.{IsUnrisen}
 use Rattle.kit_core.specs.Running.{settings_due}
-use Rattle.kit_core.specs.Command.{RunWords, Command, Build, Convert, Trace, Run, Play, Check, command_of}
+use Rattle.kit_words.specs.Command.{RunWords, Command, Build, Convert, Trace, Run, Play, Check, command_of}
 use Rattle.kit_core.specs.Due.{Work, convert_due, trace_due, run_due, read_build_due, read_build_refused, read_check_due, read_play_due, form_due, form_refused, command_due, command_refused}
 use Rattle.kit_core.specs.Outcome.{ComesBy, IsShown, EndsAs, Done, Refused, FileFault, OutOfMemory, SinkFault, IsOutcome, status_due}
 

@@ -8,7 +8,7 @@ use Rattle.run_core.specs.Outputs.{Names, run_outputs}
 use Rattle.kit_core.specs.declared.refusal.Refusal.{Refusal}
 use Rattle.kit_core.specs.declared.refusal.Refusal.TheVariants as refusals
 use Rattle.kit_core.specs.declared.shown.Shown.{Shown}
-use Rattle.kit_core.specs.Command.{RunWords}
+use Rattle.kit_words.specs.Command.{RunWords}
 use Rattle.kit_core.specs.Inputs.{◌>>=◌}
 use Rattle.kit_core.specs.Due.{Work, run_due, form_due}
 use Rattle.kit_core.specs.Running.{Game, IsRun, RunStands, end_status, game_due, game_end, names_in, run_reads}

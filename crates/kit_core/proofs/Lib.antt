@@ -1,10 +1,8 @@
-pub mod AllWords
 pub mod Cutting
 pub mod Showing
 pub mod Stages
 pub mod Seconds
 pub mod Own
-pub mod Numbers
 pub mod Conversions
 pub mod Outcomes
 pub mod Writes
@@ -17,9 +15,3 @@ pub mod Builds
 pub mod PlayedFiles
 pub mod Plays
 pub mod Ends
-pub mod Given
-pub mod Telling
-pub mod Plain
-pub mod FirstWord
-pub mod Forms
-pub mod Parse

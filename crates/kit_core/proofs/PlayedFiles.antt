@@ -15,9 +15,9 @@ use Rattle.v32_isa.specs.State.{State}
 use Rattle.v32_console.specs.Setup.{Setup}
 use Rattle.v32_console.specs.Moments.{Moment}
 use Rattle.run_core.specs.Outputs.{card_outputs, card_words, frame_outputs, run_outputs}
-use Rattle.kit_core.specs.declared.conversion.Conversion.{Conversion}
-use Rattle.kit_core.specs.declared.conversion.Conversion.TheVariants.{Migrate, Assemble, Disassemble}
-use Rattle.kit_core.specs.Command.{Command, RunWords, Build, Trace, Run, Play, are_apart, are_distinct, build_form, card_of, check_form, checked_play, command_of, convert_form, converting_form_of, differ_from, form_of, form_with, is_apart, is_number, is_word, play_form, run_form, trace_form}
+use Rattle.kit_words.specs.declared.conversion.Conversion.{Conversion}
+use Rattle.kit_words.specs.declared.conversion.Conversion.TheVariants.{Migrate, Assemble, Disassemble}
+use Rattle.kit_words.specs.Command.{Command, RunWords, Build, Trace, Run, Play, are_apart, are_distinct, build_form, card_of, check_form, checked_play, command_of, convert_form, converting_form_of, differ_from, form_of, form_with, is_apart, is_number, is_word, play_form, run_form, trace_form}
 use Rattle.kit_core.specs.Due.{outputs_of, play_effects}
 use Rattle.kit_core.specs.Running.{Game, names_in}
 use Rattle.kit_core.proofs.Writes.{get_other, get_written, get_unwritten}

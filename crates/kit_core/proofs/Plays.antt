@@ -16,7 +16,7 @@ use Rattle.kit_core.specs.declared.refusal.Refusal.TheVariants as refusals
 use Rattle.kit_core.specs.declared.running.Loaded.{Loaded}
 use Rattle.kit_core.specs.declared.running.LoadedSettings.{LoadedSettings}
 use Rattle.kit_core.specs.declared.shown.Shown.{Shown}
-use Rattle.kit_core.specs.Command.{RunWords, are_apart}
+use Rattle.kit_words.specs.Command.{RunWords, are_apart}
 use Rattle.kit_core.specs.Due.{IsUnplayed, not_built, not_set, Work, form_due, outputs_of, play_due, play_effects, play_work, read_play_due, unbuilt}
 use Rattle.kit_core.specs.Running.{Game, game_with, names_in, settings_due}
 use Rattle.kit_core.specs.Gaming.{IsCarried, IsGameOf, IsWritten, game_of, settings_of}

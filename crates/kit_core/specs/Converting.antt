@@ -15,8 +15,8 @@ use Rattle.assembler.specs.Faults.{Fault, fault_of}
 use Rattle.assembler.specs.Labels.{address_in}
 use Rattle.assembler.specs.Placed.{labels_of}
 use Rattle.cart_format.specs.Cartridge.{cart_text}
-use Rattle.kit_core.specs.declared.conversion.Conversion.{Conversion}
-use Rattle.kit_core.specs.declared.conversion.Conversion.TheVariants.{Migrate, Assemble, Disassemble}
+use Rattle.kit_words.specs.declared.conversion.Conversion.{Conversion}
+use Rattle.kit_words.specs.declared.conversion.Conversion.TheVariants.{Migrate, Assemble, Disassemble}
 use Rattle.kit_core.specs.declared.refusal.Refusal.{Refusal}
 use Rattle.kit_core.specs.declared.refusal.Refusal.TheVariants as refusals
 use Rattle.kit_core.specs.Inputs.{◌>>=◌, or_refused, bytes_due, cart_due}

@@ -15,8 +15,8 @@ use Rattle.c_types.specs.Programs.{ProgramT}
 use Rattle.project_text.specs.MapText.{map_text}
 use Rattle.kit_core.specs.declared.refusal.Refusal.{Refusal}
 use Rattle.kit_core.specs.declared.refusal.Refusal.TheVariants as refusals
-use Rattle.kit_core.specs.declared.conversion.Conversion.{Conversion}
-use Rattle.kit_core.specs.Command.{Command, RunWords, Build, Convert, Trace, Run, Play, Check, command_of}
+use Rattle.kit_words.specs.declared.conversion.Conversion.{Conversion}
+use Rattle.kit_words.specs.Command.{Command, RunWords, Build, Convert, Trace, Run, Play, Check, command_of}
 use Rattle.kit_core.specs.Inputs.{◌>>=◌, unread}
 use Rattle.kit_core.specs.Converting.{made_due}
 use Rattle.kit_core.specs.Tracing.{traced_due, trace_reads}

@@ -7,7 +7,7 @@ use Rattle.kit_base.specs.Outside.{due}
 use Rattle.build_core.specs.declared.building.Built.{Built}
 use Rattle.build_core.specs.Build.{IsBuilt}
 use Rattle.project_text.specs.MapText.{map_text}
-use Rattle.kit_core.specs.Command.{RunWords, Build, Play, command_of}
+use Rattle.kit_words.specs.Command.{RunWords, Build, Play, command_of}
 use Rattle.kit_core.specs.Due.{outputs_of, play_effects}
 use Rattle.kit_core.specs.Running.{Settings, end_status, game_end, game_with, settings_due}
 use Rattle.run_core.specs.Ending.{end_text}

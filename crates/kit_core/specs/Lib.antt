@@ -1,7 +1,4 @@
 pub mod Refusal
-pub mod Command
-pub mod CommandLine
-pub mod Parsed
 pub mod Inputs
 pub mod Migration
 pub mod Converting

@@ -4,12 +4,12 @@ use Rattle.kit_base.specs.Held.{Held}
 use Rattle.kit_base.specs.Outside.{due}
 use Rattle.build_core.specs.Causes.{CanBeTooLarge}
 use Rattle.cart_format.specs.Cartridge.{Cartridge, total}
-use Rattle.kit_core.specs.declared.conversion.Conversion.{Conversion}
-use Rattle.kit_core.specs.declared.conversion.Conversion.TheVariants.{Migrate}
-use Rattle.kit_core.specs.Command.{RunWords, Build, Convert, Trace, Run, Play, command_of}
+use Rattle.kit_words.specs.declared.conversion.Conversion.{Conversion}
+use Rattle.kit_words.specs.declared.conversion.Conversion.TheVariants.{Migrate}
+use Rattle.kit_words.specs.Command.{RunWords, Build, Convert, Trace, Run, Play, command_of}
 use Rattle.kit_core.specs.Inputs.{cart_due}
 use Rattle.kit_core.specs.Migration.{in_second}
-use Rattle.kit_core.specs.Tracing.{number_of}
+use Rattle.kit_words.specs.Number.{number_of}
 use Rattle.kit_core.specs.Running.{is_count}
 
 -- the file's cartridge would be too long in its second revision

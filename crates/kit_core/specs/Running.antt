@@ -12,9 +12,10 @@ use Rattle.run_core.specs.Ending.{Lines, end_text, lines_of}
 use Rattle.run_core.specs.Outputs.{Names, run_end, run_outputs}
 use Rattle.kit_core.specs.declared.refusal.Refusal.{Refusal}
 use Rattle.kit_core.specs.declared.refusal.Refusal.TheVariants as refusals
-use Rattle.kit_core.specs.Command.{RunWords, Run, command_of}
+use Rattle.kit_words.specs.Command.{RunWords, Run, command_of}
 use Rattle.kit_core.specs.Inputs.{◌>>=◌, or_refused, bytes_due, cart_due, card_due}
-use Rattle.kit_core.specs.Tracing.{card_names, number_of}
+use Rattle.kit_core.specs.Tracing.{card_names}
+use Rattle.kit_words.specs.Number.{number_of}
 
 -- the refusal of a pads file, by its code and its first faulty line
 abbrev pub no_pads : List ℕ → ℕ × ℕ → Refusal

@@ -6,12 +6,9 @@ use Rattle.cart_format.specs.Cartridge.{Cartridge}
 use Rattle.trace_core.specs.Texts.{run_text}
 use Rattle.kit_core.specs.declared.refusal.Refusal.{Refusal}
 use Rattle.kit_core.specs.declared.refusal.Refusal.TheVariants as refusals
-use Rattle.kit_core.specs.Command.{Trace, command_of}
+use Rattle.kit_words.specs.Command.{Trace, command_of}
+use Rattle.kit_words.specs.Number.{number_of}
 use Rattle.kit_core.specs.Inputs.{◌>>=◌, cart_due, answers_due, card_due}
-
--- the number that decimal digits write
-abbrev pub number_of : List ℕ → ℕ
-number_of digits = fold (λ number digit. number * 10 + (digit - 48)) 0 digits
 
 -- a run has at most 10,000,000 steps
 abbrev pub steps_due : List ℕ → Result ℕ Refusal

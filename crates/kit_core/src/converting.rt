@@ -13,7 +13,7 @@ ghost use Rattle.kit_core.specs.Inputs.{or_refused};
 ghost use Rattle.kit_core.specs.Limits.{ConvertsLong, IsLong};
 ghost use Rattle.kit_core.specs.Migration.{in_second, second_due};
 
-use crate::conversion::Conversion;
+use kit_words::Conversion;
 use crate::reading::{read_cart_file, read_file};
 use crate::refusal::Refusal;
 use crate::shown::Shown;

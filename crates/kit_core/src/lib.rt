@@ -8,11 +8,7 @@
 
 mod building;
 mod checking;
-mod command;
-mod command_line;
-mod conversion;
 mod converting;
-mod number;
 mod playing;
 mod reading;
 mod refusal;

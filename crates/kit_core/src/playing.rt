@@ -8,12 +8,12 @@ ghost use Rattle.kit_core.specs.Causes.{HasCauses, HasCausesOr};
 ghost use Rattle.kit_core.specs.Due.{play_due, play_work};
 ghost use Rattle.kit_core.specs.Gaming.{AreOutputs, IsCarried, IsGameOf, IsOpened, game_of};
 ghost use Rattle.kit_core.specs.Limits.{IsLarge};
-ghost use Rattle.kit_core.specs.Parsed.{run_words_from};
+ghost use Rattle.kit_words.specs.Parsed.{run_words_from};
 ghost use Rattle.kit_core.specs.Running.{Game, is_count, names_in};
-ghost use Rattle.kit_core.specs.Tracing.{number_of};
+ghost use Rattle.kit_words.specs.Number.{number_of};
 
 use crate::building::{Outputs, build_text, made_outputs, write_made};
-use crate::command::RunWords;
+use kit_words::RunWords;
 use crate::reading::read_file;
 use crate::refusal::Refusal;
 use crate::running::{Loaded, LoadedSettings, Opened, open_game, read_settings, write_outputs};

@@ -12,13 +12,13 @@ ghost use Rattle.kit_core.specs.Carrying.{FailsAt, GivesBy, IsCut, Leaves};
 ghost use Rattle.kit_core.specs.Causes.{HasCause, HasCauses, HasCausesOr, IsOwn};
 ghost use Rattle.kit_core.specs.Due.{run_due};
 ghost use Rattle.kit_core.specs.Inputs.{or_refused};
-ghost use Rattle.kit_core.specs.Parsed.{run_words_from};
+ghost use Rattle.kit_words.specs.Parsed.{run_words_from};
 ghost use Rattle.kit_core.specs.Gaming.{AreNames, IsOpened, IsWritten, game_of, settings_of};
 ghost use Rattle.kit_core.specs.Running.{Game, count_due, game_due, is_count, names_in, no_pads, pads_due, run_reads, settings_due, settings_reads};
-ghost use Rattle.kit_core.specs.Tracing.{number_of};
+ghost use Rattle.kit_words.specs.Number.{number_of};
 
-use crate::command::RunWords;
-use crate::number::number_of;
+use kit_words::RunWords;
+use kit_words::number_of;
 use crate::reading::{read_card_file, read_cart_file, read_file};
 use crate::refusal::Refusal;
 use crate::shown::Shown;

@@ -5,7 +5,7 @@ ghost use Rattle.trace_core.specs.Putting.{trace_text};
 ghost use Rattle.run_core.specs.Ending.{end_text};
 ghost use Rattle.kit_core.specs.Carrying.{LeavesBy, Puts, Shows, shown_status, text_of};
 ghost use Rattle.kit_core.specs.Causes.{HasCausesOr, HasOnlyRisen, IsUnrisen};
-ghost use Rattle.kit_core.specs.Command.{texts};
+ghost use Rattle.kit_words.specs.Command.{texts};
 ghost use Rattle.kit_core.specs.Due.{Work, accepted, command_due, command_refused, reads_due};
 ghost use Rattle.kit_core.specs.Headline.{BuildStands, PlayStands};
 ghost use Rattle.kit_core.specs.Limits.{IsOver};
@@ -17,7 +17,7 @@ ghost use Rattle.kit_core.specs.Tracing.{TraceStands};
 
 use crate::building::build_command;
 use crate::checking::check_command;
-use crate::command::{Command, command_of};
+use kit_words::{Command, command_of};
 use crate::converting::convert_command;
 use crate::playing::play_command;
 use crate::refusal::{Refusal, line_of, status_of};

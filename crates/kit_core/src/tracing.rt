@@ -5,9 +5,10 @@ ghost use Rattle.trace_core.specs.Putting.{trace_text};
 ghost use Rattle.kit_core.specs.Carrying.{FailsAt, GivesBy, Leaves};
 ghost use Rattle.kit_core.specs.Causes.{HasCausesOr, IsOwn};
 ghost use Rattle.kit_core.specs.Due.{trace_due};
-ghost use Rattle.kit_core.specs.Tracing.{number_of, steps_due, trace_reads, traced_due};
+ghost use Rattle.kit_core.specs.Tracing.{steps_due, trace_reads, traced_due};
+ghost use Rattle.kit_words.specs.Number.{number_of};
 
-use crate::number::number_of;
+use kit_words::number_of;
 use crate::reading::{read_answers_file, read_card_file, read_cart_file};
 use crate::refusal::Refusal;
 use crate::shown::Shown;

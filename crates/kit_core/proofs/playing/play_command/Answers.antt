@@ -2,7 +2,7 @@ use Rattle.std.proofs.Common.{rules, ◌≡◌, ◌∙◌, sym, subst}
 use Rattle.std.specs.Prelude.{Err, IfSome}
 use Rattle.build_core.specs.Build.{IsBuilt}
 use Rattle.kit_core.specs.declared.refusal.Refusal.TheVariants as refusals
-use Rattle.kit_core.specs.Parsed.{run_words_from}
+use Rattle.kit_words.specs.Parsed.{run_words_from}
 use Rattle.kit_core.specs.Carrying.{GivesBy}
 use Rattle.kit_core.specs.Checking.{TextBuilt}
 use Rattle.kit_core.specs.Due.{read_play_due}

@@ -1,4 +1,4 @@
-use Rattle.kit_core.specs.Parsed.{run_words_from}
+use Rattle.kit_words.specs.Parsed.{run_words_from}
 use Rattle.kit_core.proofs.Plays.{play_built_cut, play_written}
 use Rattle.kit_core.proofs.playing.write_opened.Goals as goal
 

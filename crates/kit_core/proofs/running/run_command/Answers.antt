@@ -1,4 +1,4 @@
-use Rattle.kit_core.specs.Parsed.{run_words_from}
+use Rattle.kit_words.specs.Parsed.{run_words_from}
 use Rattle.kit_core.specs.Gaming.{game_of}
 use Rattle.kit_core.proofs.Games.{run_left}
 use Rattle.kit_core.proofs.running.run_command.Goals as goal

@@ -1,4 +1,4 @@
-use Rattle.kit_core.specs.Parsed.{run_words_from}
+use Rattle.kit_words.specs.Parsed.{run_words_from}
 use Rattle.kit_core.specs.Running.{names_in}
 use Rattle.kit_core.proofs.running.write_outputs.Goals as goal
 

@@ -1,4 +1,4 @@
-use Rattle.kit_core.specs.Command.{texts}
+use Rattle.kit_words.specs.Command.{texts}
 use Rattle.kit_core.proofs.Headlines.{headline_told}
 use Rattle.kit_core.proofs.Traces.{trace_told}
 use Rattle.kit_core.proofs.Games.{run_told}

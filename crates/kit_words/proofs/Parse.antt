@@ -15,11 +15,11 @@ use Rattle.clap.proofs.OnLiterals.{clap_on_literals}
 use Rattle.clap.proofs.WalkLemmas.{both}
 use Rattle.clap.specs.declared.error.kind.ErrorKind.{ErrorKind}
 use Rattle.clap.specs.declared.error.kind.ErrorKind.TheVariants as kind
-use Rattle.kit_core.specs.declared.conversion.Conversion.TheVariants.{Migrate, Assemble, Disassemble}
-use Rattle.kit_core.specs.Command.{is_word, command_of, form_of, form_with, converting_form_of}
-use Rattle.kit_core.specs.CommandLine.{command_in, command_line}
-use Rattle.kit_core.proofs.FirstWord.{names, unmet_fault}
-use Rattle.kit_core.proofs.Forms.{Answer, Taken, Refused, build_answer, trace_answer, run_answer, play_answer, check_answer, convert_answer, migrates, assembles, disassembles, form_of_words}
+use Rattle.kit_words.specs.declared.conversion.Conversion.TheVariants.{Migrate, Assemble, Disassemble}
+use Rattle.kit_words.specs.Command.{is_word, command_of, form_of, form_with, converting_form_of}
+use Rattle.kit_words.specs.CommandLine.{command_in, command_line}
+use Rattle.kit_words.proofs.FirstWord.{names, unmet_fault}
+use Rattle.kit_words.proofs.Forms.{Answer, Taken, Refused, build_answer, trace_answer, run_answer, play_answer, check_answer, convert_answer, migrates, assembles, disassembles, form_of_words}
 
 pub is_plain_app : is_simple_and_free command_line ≡ true
 is_plain_app = refl

@@ -1,8 +1,8 @@
 use Rattle.std.proofs.Common.{◌≡◌, take, false}
 use Rattle.clap.specs.Simple.{app_of}
 use Rattle.clap.specs.declared.builder.command.Command.TheViews.{out-Command}
-use Rattle.kit_core.specs.CommandLine.{form_alone, ids_of}
-use Rattle.kit_core.proofs.command_line.form.Given as goal
+use Rattle.kit_words.specs.CommandLine.{form_alone, ids_of}
+use Rattle.kit_words.proofs.command_line.form.Given as goal
 
 abbrev pub invariant-loop-id : goal.invariant-loop-id
 invariant-loop-id l = record {

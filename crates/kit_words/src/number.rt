@@ -1,6 +1,6 @@
 // Number words.
 ghost use Rattle.std.specs.Prelude.{◌≡◌, ◌≤◌, ◌+◌, ◌*◌, ◌-◌, min};
-ghost use Rattle.kit_core.specs.Tracing.{number_of};
+ghost use Rattle.kit_words.specs.Number.{number_of};
 
 /// One more than the greatest number that a command takes.
 const TOO_LARGE: u32 = 10_000_001;

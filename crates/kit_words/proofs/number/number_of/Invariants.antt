@@ -1,8 +1,8 @@
 use Rattle.std.proofs.Common.{◌≡◌, ◌≤◌, length, min}
 use Rattle.std.specs.Prelude.{fold}
-use Rattle.kit_core.specs.Tracing.{number_of}
-use Rattle.kit_core.proofs.Numbers.{with_digit}
-use Rattle.kit_core.proofs.number.number_of.Given as goal
+use Rattle.kit_words.specs.Number.{number_of}
+use Rattle.kit_words.proofs.Numbers.{with_digit}
+use Rattle.kit_words.proofs.number.number_of.Given as goal
 
 abbrev pub decreases-digits : goal.decreases-digits
 decreases-digits l = length l.rest

@@ -1,7 +1,7 @@
 use Rattle.std.proofs.Common.{◌∙◌, ap, codes}
 use Rattle.std.proofs.lemmas.Result.{IfOk-weaker}
-use Rattle.kit_core.specs.CommandLine.{convert_ids, with_form}
-use Rattle.kit_core.proofs.command_line.with_converting.Goals as goal
+use Rattle.kit_words.specs.CommandLine.{convert_ids, with_form}
+use Rattle.kit_words.proofs.command_line.with_converting.Goals as goal
 
 pub returns : goal.returns
 returns c = IfOk-weaker c.with_form-3.result _ _

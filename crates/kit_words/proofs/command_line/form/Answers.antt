@@ -1,7 +1,7 @@
 use Rattle.std.proofs.Common.{◌∙◌, ◌||◌, rules, ap₂}
 use Rattle.clap.specs.Simple.{with_rule}
-use Rattle.kit_core.proofs.Telling.{form_more}
-use Rattle.kit_core.proofs.command_line.form.Goals as goal
+use Rattle.kit_words.proofs.Telling.{form_more}
+use Rattle.kit_words.proofs.command_line.form.Goals as goal
 
 pub loop-id-preserved : goal.loop-id-preserved
 loop-id-preserved c = record {

@@ -4,11 +4,11 @@ use Rattle.std.proofs.lemmas.Result.{IfOk-weaker}
 use Rattle.clap.specs.Simple.{app_of}
 use Rattle.clap.specs.Faults.{is_simple_and_free}
 use Rattle.clap.specs.Simple.{is_simple}
-use Rattle.kit_core.specs.Command.{texts}
-use Rattle.kit_core.specs.Parsed.{command_from}
-use Rattle.kit_core.proofs.AllWords.{all_words}
-use Rattle.kit_core.proofs.Parse.{command_found, command_refused, is_plain_app, is_simple_line, no_command}
-use Rattle.kit_core.proofs.command.command_of.Goals as goal
+use Rattle.kit_words.specs.Command.{texts}
+use Rattle.kit_words.specs.Parsed.{command_from}
+use Rattle.kit_words.proofs.AllWords.{all_words}
+use Rattle.kit_words.proofs.Parse.{command_found, command_refused, is_plain_app, is_simple_line, no_command}
+use Rattle.kit_words.proofs.command.command_of.Goals as goal
 
 pub returns-then-not-are_words : goal.returns-then-not-are_words
 returns-then-not-are_words c =

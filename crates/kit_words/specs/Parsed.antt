@@ -1,9 +1,9 @@
 -- A command as the program holds it, with references into its words, and the command that it is.
 use Rattle.std.specs.Option.{option_map}
-use Rattle.kit_core.specs.declared.command.Command.TheVariants as parsed
-use Rattle.kit_core.specs.declared.command.Command as declared
-use Rattle.kit_core.specs.declared.command.RunWords as run
-use Rattle.kit_core.specs.Command.{Command, RunWords, Build, Convert, Trace, Run, Play, Check}
+use Rattle.kit_words.specs.declared.command.Command.TheVariants as parsed
+use Rattle.kit_words.specs.declared.command.Command as declared
+use Rattle.kit_words.specs.declared.command.RunWords as run
+use Rattle.kit_words.specs.Command.{Command, RunWords, Build, Convert, Trace, Run, Play, Check}
 
 abbrev pub run_words_from : run.RunWords → RunWords
 run_words_from words = record {

@@ -4,9 +4,9 @@ ghost use Rattle.std.specs.List.{list_all};
 ghost use Rattle.clap.specs.Words.{found_of, rows_of, subcommand_rows_of};
 ghost use Rattle.clap.specs.Walk.{first_of};
 ghost use Rattle.clap.specs.declared.error.kind.ErrorKind.TheVariants.{OutOfMemory};
-ghost use Rattle.kit_core.specs.Command.{command_of, are_distinct, are_apart, card_of, checked_play, checked_run, differ_from, is_apart, is_number, is_word, texts};
-ghost use Rattle.kit_core.specs.CommandLine.{build_in, check_in, command_in, convert_in, converting_in, form_in, play_in, run_in, trace_in};
-ghost use Rattle.kit_core.specs.Parsed.{command_from, run_words_from};
+ghost use Rattle.kit_words.specs.Command.{command_of, are_distinct, are_apart, card_of, checked_play, checked_run, differ_from, is_apart, is_number, is_word, texts};
+ghost use Rattle.kit_words.specs.CommandLine.{build_in, check_in, command_in, convert_in, converting_in, form_in, play_in, run_in, trace_in};
+ghost use Rattle.kit_words.specs.Parsed.{command_from, run_words_from};
 
 use crate::command_line::command_line;
 use crate::conversion::Conversion;

@@ -9,12 +9,12 @@ use Rattle.clap.specs.Simple.{built_leaf, inherited, Shape, label_of, subcommand
 use Rattle.clap.proofs.OnLiterals.{clap_on_literals}
 use Rattle.clap.specs.declared.error.kind.ErrorKind.{ErrorKind}
 use Rattle.clap.specs.declared.error.kind.ErrorKind.TheVariants as kind
-use Rattle.kit_core.specs.declared.conversion.Conversion.{Conversion}
-use Rattle.kit_core.specs.declared.conversion.Conversion.TheVariants.{Migrate, Assemble, Disassemble}
-use Rattle.kit_core.specs.Command.{convert_form, is_word, command_of, form_of, form_with, converting_form_of}
-use Rattle.kit_core.specs.CommandLine.{build_ids, check_ids, convert_ids, play_ids, trace_ids, run_ids, command_in, convert_in, command_line, converting_in, form, form_in}
-use Rattle.kit_core.proofs.Plain.{form_faults, form_faults_are, form_rows_are, is_flat, plain_faults, plain_walk}
-use Rattle.kit_core.proofs.FirstWord.{app, names, named_fault, named_rows}
+use Rattle.kit_words.specs.declared.conversion.Conversion.{Conversion}
+use Rattle.kit_words.specs.declared.conversion.Conversion.TheVariants.{Migrate, Assemble, Disassemble}
+use Rattle.kit_words.specs.Command.{convert_form, is_word, command_of, form_of, form_with, converting_form_of}
+use Rattle.kit_words.specs.CommandLine.{build_ids, check_ids, convert_ids, play_ids, trace_ids, run_ids, command_in, convert_in, command_line, converting_in, form, form_in}
+use Rattle.kit_words.proofs.Plain.{form_faults, form_faults_are, form_rows_are, is_flat, plain_faults, plain_walk}
+use Rattle.kit_words.proofs.FirstWord.{app, names, named_fault, named_rows}
 
 -- the answer to the words: what is found is the command, or there is a fault and no command
 pub data Answer (words : List Text) : Type 0 where

@@ -2,7 +2,7 @@
 ghost use Rattle.std.specs.Prelude.{◌≡◌, IfOk, false};
 ghost use Rattle.clap.specs.Words.{app_of, rule_of};
 ghost use Rattle.clap.specs.declared.builder.command.Command.TheViews.{out-Command};
-ghost use Rattle.kit_core.specs.CommandLine.{command_line, form_alone, ids_of, no_forms, required, with_converting, with_form};
+ghost use Rattle.kit_words.specs.CommandLine.{command_line, form_alone, ids_of, no_forms, required, with_converting, with_form};
 
 use clap::{Arg, Command};
 use std::alloc::{AllocError, Global};

@@ -1,0 +1,4 @@
+pub mod Command
+pub mod CommandLine
+pub mod Number
+pub mod Parsed

@@ -1,0 +1,13 @@
+//! The words of the command line, and the command that they name.
+//!
+//! It promises that a command is found exactly where the words are one of the listed forms. It stands on `clap` for the words.
+#![tactic(auto)]
+
+mod command;
+mod command_line;
+mod conversion;
+mod number;
+
+pub use command::{Command, RunWords, command_of};
+pub use conversion::Conversion;
+pub use number::number_of;

@@ -1,0 +1,5 @@
+pub mod Quotes
+pub mod Spelling
+pub mod Again
+pub mod Lines
+pub mod Whole

@@ -1,16 +1,16 @@
 -- What a line spells is what is read.
-use Rattle.std.proofs.Common.{◌≡◌, ◌≢◌, ℕ, zero, suc, ◌<◌, ◌≤◌, ◌+◌, ◌-◌, ◌==◌, Bool, true, false, cond, ◌&&◌, ◌||◌, not, eqb, List, [], ◌∷◌, ◌++◌, length, take, drop, refl, sym, ap, subst, ◌∙◌, ◌⊎◌, arith, inl, inr, lt-ltb, ltb-true, append_assoc}
+use Rattle.std.proofs.Common.{◌≡◌, ℕ, ◌<◌, ◌+◌, ◌-◌, ◌==◌, Bool, true, false, cond, ◌&&◌, eqb, List, [], ◌∷◌, ◌++◌, length, drop, refl, sym, ap, subst, ◌∙◌, arith, inl, inr, lt-ltb, append_assoc}
 use Rattle.std.specs.Prelude.{Option, Some, None, nat_lt}
-use Rattle.std.specs.Char.{is_ascii_digit, is_ascii_hexdigit, is_ascii_alphabetic}
+use Rattle.std.specs.Char.{is_ascii_digit, is_ascii_hexdigit}
 use Rattle.std.specs.List.{list_all, take_while}
-use Rattle.std.proofs.lemmas.Bool.{eqb-true, eqb-false}
+use Rattle.std.proofs.lemmas.Bool.{eqb-true}
 use Rattle.std.proofs.lemmas.Bool.Decides.{nat_tests}
 use Rattle.std.proofs.lemmas.List.Sums.{take_while-cons}
 use Rattle.asm_items.specs.Vocabulary.{is_letter, is_word, is_word_byte, word_kind}
 use Rattle.asm_reader.specs.declared.quoted.Within.TheVariants.{Plain}
 use Rattle.asm_reader.specs.declared.token.Token.{Token}
 use Rattle.asm_reader.specs.declared.token.Token.TheVariants as t
-use Rattle.asm_reader.specs.Numbers.{limited, value_in, hexadecimal_digits, decimal_token, number_by, number_token}
+use Rattle.asm_reader.specs.Numbers.{limited, hexadecimal_digits, number_token}
 use Rattle.asm_reader.specs.Quoted.{quoted_at}
 use Rattle.asm_reader.specs.Tokens.{begins, is_blank, kind_token, run_token, mark_token, text_token, token_at, tokens_from, tokens_of}
 use Rattle.asm_reader.proofs.TokenLaws.{both_true, runs, blanks, comments, token_first}

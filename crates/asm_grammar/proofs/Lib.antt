@@ -3,3 +3,4 @@ pub mod Spelling
 pub mod Again
 pub mod Lines
 pub mod Whole
+pub mod Classes

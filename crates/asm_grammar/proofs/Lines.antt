@@ -1,6 +1,6 @@
 -- The items of a line are those that its tokens are.
-use Rattle.std.proofs.Common.{◌≡◌, ℕ, suc, ◌<◌, ◌+◌, Bool, true, false, cond, ◌&&◌, List, [], ◌∷◌, ◌++◌, length, map, refl, sym, ap, subst, ◌∙◌, ◌⊎◌, arith, inl, inr, lt-ltb, ltb}
-use Rattle.std.specs.Prelude.{◌↔◌, Option, Some, None, is_some, Result, Ok, Err}
+use Rattle.std.proofs.Common.{◌≡◌, ℕ, suc, ◌<◌, Bool, true, false, cond, ◌&&◌, List, [], ◌∷◌, ◌++◌, length, map, refl, sym, ap, subst, ◌∙◌, arith, inl, inr, lt-ltb, ltb}
+use Rattle.std.specs.Prelude.{Option, Some, None, is_some, Result, Ok, Err}
 use Rattle.std.specs.List.{list_all, AllZip}
 use Rattle.std.proofs.lemmas.List.Folds.{list_all-append}
 use Rattle.v32_isa.specs.declared.instruction.Instr.{Instr}
@@ -19,12 +19,12 @@ use Rattle.asm_reader.specs.declared.value.Value.TheVariants.{Number, Label}
 use Rattle.asm_reader.specs.declared.value.Written.{Written}
 use Rattle.asm_reader.specs.declared.value.Written.TheVariants as w
 use Rattle.asm_reader.specs.Faults.{◌>>=◌}
-use Rattle.asm_reader.specs.Forms.{fits, fits_some, formed, instruction, judged, word_of}
-use Rattle.asm_reader.specs.Grammar.{IsForm, IsOperand, IsTaken, IsParted, joined, value_token}
-use Rattle.asm_reader.specs.Lines.{is_number, word_or_zero, integer_of, integers as integers_of, is_name, pointer_of, pointers as pointers_of, text_items, data_items, instruction_of, statement_items, is_colon, has_label, label_items, begins_float, label_part, statement_part, both, parts_items, line_items}
-use Rattle.asm_reader.specs.Operands.{is_comma, plain, opened_by, operand, operands_in, operands_of}
+use Rattle.asm_reader.specs.Forms.{fits_some, formed, instruction, judged, word_of}
+use Rattle.asm_reader.specs.Grammar.{IsForm, IsOperand, IsTaken, joined, value_token}
+use Rattle.asm_reader.specs.Lines.{is_number, word_or_zero, integer_of, integers as integers_of, is_name, pointer_of, pointers as pointers_of, text_items, data_items, instruction_of, statement_items, is_colon, has_label, label_items, begins_float, both, parts_items, line_items}
+use Rattle.asm_reader.specs.Operands.{is_comma, plain, operand, operands_in, operands_of}
 use Rattle.asm_reader.specs.Parted.{parted, with_first}
-use Rattle.asm_reader.proofs.FormLaws.{Bound, bind_ok, ok_is, forms_both_ways}
+use Rattle.asm_reader.proofs.FormLaws.{bind_ok, ok_is, forms_both_ways}
 use Rattle.asm_reader.proofs.OperandLaws.{operands_both_ways}
 use Rattle.asm_reader.proofs.PartLaws.{operands_apart_both_ways}
 use Rattle.asm_reader.proofs.TokenLaws.{both_true}

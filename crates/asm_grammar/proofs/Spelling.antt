@@ -1,22 +1,22 @@
 -- The tokens of a line are those that it spells.
-use Rattle.std.proofs.Common.{◌≡◌, ◌≢◌, ℕ, zero, suc, ◌<◌, ◌≤◌, ◌+◌, ◌-◌, ◌==◌, Bool, true, false, cond, ◌&&◌, ◌||◌, not, eqb, List, [], ◌∷◌, ◌++◌, length, take, drop, refl, sym, ap, subst, ◌∙◌, arith, inl, inr, lt-ltb, ltb-true, append_assoc}
+use Rattle.std.proofs.Common.{◌≡◌, ℕ, zero, suc, ◌<◌, ◌≤◌, ◌+◌, ◌-◌, Bool, true, false, cond, ◌&&◌, eqb, List, [], ◌∷◌, ◌++◌, length, take, drop, refl, sym, ap, subst, ◌∙◌, arith, inl, inr, ltb-true, append_assoc}
 use Rattle.std.specs.Prelude.{Option, Some, None, nat_lt}
-use Rattle.std.specs.Char.{is_ascii_digit, is_ascii_hexdigit, is_ascii_alphabetic}
+use Rattle.std.specs.Char.{is_ascii_digit, is_ascii_hexdigit}
 use Rattle.std.specs.List.{list_all, take_while}
 use Rattle.std.proofs.lemmas.Bool.{eqb-true, eqb-false}
 use Rattle.std.proofs.lemmas.Bool.Decides.{nat_tests}
 use Rattle.std.proofs.lemmas.List.Sums.{take_while-cons}
-use Rattle.asm_items.specs.Vocabulary.{is_letter, is_word, is_word_byte, word_kind}
+use Rattle.asm_items.specs.Vocabulary.{is_letter, is_word_byte}
 use Rattle.asm_reader.specs.declared.quoted.Within.TheVariants.{Plain}
 use Rattle.asm_reader.specs.declared.token.Token.{Token}
 use Rattle.asm_reader.specs.declared.token.Token.TheVariants as t
-use Rattle.asm_reader.specs.Numbers.{limited, value_in, hexadecimal_digits, decimal_token, number_by, number_token}
+use Rattle.asm_reader.specs.Numbers.{limited, value_in, hexadecimal_digits, number_by, number_token}
 use Rattle.asm_reader.specs.Quoted.{quoted_at}
-use Rattle.asm_reader.specs.Tokens.{begins, is_blank, kind_token, run_token, mark_token, text_token, token_at, tokens_from, tokens_of}
+use Rattle.asm_reader.specs.Tokens.{begins, is_blank, run_token, mark_token, text_token, token_at, tokens_from, tokens_of}
 use Rattle.asm_reader.proofs.Lexing.{passed}
-use Rattle.asm_reader.proofs.TokenLaws.{both_true, token_first}
-use Rattle.c_lex.specs.Grammar.{IsDecimal, IsHexadecimal}
-use Rattle.asm_grammar.specs.Spelled.{IsNumber, IsParted, mark_of, IsSpelled, word, number, negative, quoted, mark, minus, IsLineText, ends, comment, blank, token}
+use Rattle.asm_reader.proofs.TokenLaws.{both_true}
+use Rattle.c_lex.specs.Grammar.{IsHexadecimal}
+use Rattle.asm_grammar.specs.Spelled.{IsNumber, IsSpelled, word, number, negative, quoted, mark, minus, IsLineText, ends, comment, blank, token}
 use Rattle.asm_grammar.proofs.Quotes.{quoted_is}
 
 -- what is read is a token

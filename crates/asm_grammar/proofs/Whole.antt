@@ -1,12 +1,12 @@
 -- Lines and texts, both ways.
-use Rattle.std.proofs.Common.{◌≡◌, ℕ, ◌+◌, List, [], ◌∷◌, ◌++◌, refl, sym, ap, subst, ◌∙◌}
+use Rattle.std.proofs.Common.{◌≡◌, ℕ, ◌+◌, List, [], ◌∷◌, ◌++◌, refl, sym, ap, ◌∙◌}
 use Rattle.std.specs.Prelude.{◌↔◌, Result, Ok, Err}
-use Rattle.std.specs.List.{list_all, AllZip, flat_map}
+use Rattle.std.specs.List.{AllZip, flat_map}
 use Rattle.asm_items.specs.declared.item.AsmItem.{AsmItem}
 use Rattle.asm_reader.specs.declared.fault.LineFault.{LineFault}
 use Rattle.asm_reader.specs.Lines.{line_items}
 use Rattle.asm_reader.specs.Parted.{parted}
-use Rattle.asm_reader.specs.Reading.{is_newline, Text, before_items, at_line, read_from, read}
+use Rattle.asm_reader.specs.Reading.{is_newline, Text, at_line, read_from, read}
 use Rattle.asm_reader.specs.Tokens.{tokens_of}
 use Rattle.asm_reader.proofs.PartLaws.{lines_both_ways}
 use Rattle.asm_grammar.specs.Texts.{SpellsItems, IsText}

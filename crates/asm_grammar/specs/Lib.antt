@@ -1,3 +1,4 @@
 pub mod Spelled
 pub mod Statements
 pub mod Texts
+pub mod Classes

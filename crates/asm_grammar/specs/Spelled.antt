@@ -1,5 +1,5 @@
 -- How a line spells its tokens: the assembly page, "Lines". A text between quotes is spelled as in C (the language page).
-use Rattle.std.specs.Prelude.{◌≡◌, ◌⊎◌, ℕ, List, [], ◌∷◌, ◌++◌, Bool, true, false, ◌==◌, if◌then◌else◌, Option, Some, None}
+use Rattle.std.specs.Prelude.{◌≡◌, ◌⊎◌, ℕ, List, [], ◌∷◌, ◌++◌, true, false, ◌==◌, if◌then◌else◌, Option, Some, None}
 use Rattle.std.specs.Char.{is_ascii_digit}
 use Rattle.asm_items.specs.Vocabulary.{is_word, is_word_byte, word_kind}
 use Rattle.asm_reader.specs.declared.token.Token.{Token}

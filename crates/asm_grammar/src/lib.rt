@@ -6,4 +6,7 @@
 
 mod laws;
 
-pub use laws::{lines_are_what_they_spell, texts_between_quotes_are_what_they_spell, texts_are_what_they_spell};
+pub use laws::{
+    lines_are_what_they_spell, operations_are_refused_by_class, texts_are_what_they_spell,
+    texts_between_quotes_are_what_they_spell,
+};

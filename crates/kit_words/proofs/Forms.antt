@@ -12,7 +12,7 @@ use Rattle.clap.specs.declared.error.kind.ErrorKind.TheVariants as kind
 use Rattle.kit_words.specs.declared.conversion.Conversion.{Conversion}
 use Rattle.kit_words.specs.declared.conversion.Conversion.TheVariants.{Migrate, Assemble, Disassemble}
 use Rattle.kit_words.specs.Command.{convert_form, is_word, command_of, form_of, form_with, converting_form_of}
-use Rattle.kit_words.specs.CommandLine.{build_ids, check_ids, convert_ids, play_ids, trace_ids, run_ids, command_in, convert_in, command_line, converting_in, form, form_in}
+use Rattle.kit_words.specs.CommandLine.{build_ids, check_ids, convert_ids, gen_ids, play_ids, trace_ids, run_ids, command_in, convert_in, command_line, converting_in, form, form_in}
 use Rattle.kit_words.proofs.Plain.{form_faults, form_faults_are, form_rows_are, is_flat, plain_faults, plain_walk}
 use Rattle.kit_words.proofs.FirstWord.{app, names, named_fault, named_rows}
 
@@ -111,6 +111,18 @@ unfolding clap_on_literals plain_walk plain_faults form_of form_in
 check_answer [] e = refused check [] e kind.MissingRequiredArgument refl refl
 check_answer (a ∷ []) e = taken check (a ∷ []) e refl refl
 check_answer (a ∷ b ∷ rest) e = refused check (a ∷ b ∷ rest) e kind.UnknownArgument refl refl
+
+generates : IsForm (codes "gen") gen_ids
+generates = record { named = refl; found = refl; flat = refl }
+
+pub gen_answer : (words : List Text) → list_all is_word words ≡ true → Answer (codes "gen" ∷ words)
+unfolding clap_on_literals plain_walk plain_faults form_of form_in
+gen_answer [] e = refused generates [] e kind.MissingRequiredArgument refl refl
+gen_answer (a ∷ []) e = refused generates (a ∷ []) e kind.MissingRequiredArgument refl refl
+gen_answer (a ∷ b ∷ []) e = refused generates (a ∷ b ∷ []) e kind.MissingRequiredArgument refl refl
+gen_answer (a ∷ b ∷ c ∷ []) e = refused generates (a ∷ b ∷ c ∷ []) e kind.MissingRequiredArgument refl refl
+gen_answer (a ∷ b ∷ c ∷ d ∷ []) e = taken generates (a ∷ b ∷ c ∷ d ∷ []) e refl refl
+gen_answer (a ∷ b ∷ c ∷ d ∷ f ∷ rest) e = refused generates (a ∷ b ∷ c ∷ d ∷ f ∷ rest) e kind.UnknownArgument refl refl
 
 -- this name's form makes one file of another
 pub record Converts (name : Text) (conversion : Conversion) : Type 0 where

@@ -1,4 +1,5 @@
 pub mod AllWords
+pub mod Created
 pub mod FirstWord
 pub mod Forms
 pub mod Given

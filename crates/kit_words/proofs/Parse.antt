@@ -19,7 +19,7 @@ use Rattle.kit_words.specs.declared.conversion.Conversion.TheVariants.{Migrate, 
 use Rattle.kit_words.specs.Command.{is_word, command_of, form_of, form_with, converting_form_of}
 use Rattle.kit_words.specs.CommandLine.{command_in, command_line}
 use Rattle.kit_words.proofs.FirstWord.{names, unmet_fault}
-use Rattle.kit_words.proofs.Forms.{Answer, Taken, Refused, build_answer, trace_answer, run_answer, play_answer, check_answer, convert_answer, migrates, assembles, disassembles, form_of_words}
+use Rattle.kit_words.proofs.Forms.{Answer, Taken, Refused, build_answer, trace_answer, run_answer, play_answer, check_answer, gen_answer, convert_answer, migrates, assembles, disassembles, form_of_words}
 
 pub is_plain_app : is_simple_and_free command_line ≡ true
 is_plain_app = refl
@@ -48,32 +48,33 @@ otherwise b x y z is then_is = ap (λ t. if t then x else y) is ∙ then_is
 not_either : (b : Bool) → b ≡ false → (b || false) ≡ false
 not_either b e = ap (λ t. t || false) e
 
-none_met : (name : Text) → bytes_eq (codes "build") name ≡ false → bytes_eq (codes "trace") name ≡ false → bytes_eq (codes "run") name ≡ false → bytes_eq (codes "play") name ≡ false → bytes_eq (codes "check") name ≡ false
+none_met : (name : Text) → bytes_eq (codes "build") name ≡ false → bytes_eq (codes "trace") name ≡ false → bytes_eq (codes "run") name ≡ false → bytes_eq (codes "play") name ≡ false → bytes_eq (codes "check") name ≡ false → bytes_eq (codes "gen") name ≡ false
     → bytes_eq (codes "migrate") name ≡ false → bytes_eq (codes "asm") name ≡ false → bytes_eq (codes "dis") name ≡ false → subcommand_met names idle name ≡ None
-none_met name build trace run play check migrate asm dis =
+none_met name build trace run play check gen migrate asm dis =
     let none : find (answers_to name) names ≡ None = otherwise _ _ _ _ (not_either _ build) (otherwise _ _ _ _ (not_either _ trace) (otherwise _ _ _ _ (not_either _ run)
-    (otherwise _ _ _ _ (not_either _ play) (otherwise _ _ _ _ (not_either _ check) (otherwise _ _ _ _ (not_either _ migrate) (otherwise _ _ _ _ (not_either _ asm) (otherwise _ _ _ _ (not_either _ dis) refl))))))) in
+    (otherwise _ _ _ _ (not_either _ play) (otherwise _ _ _ _ (not_either _ check) (otherwise _ _ _ _ (not_either _ gen) (otherwise _ _ _ _ (not_either _ migrate) (otherwise _ _ _ _ (not_either _ asm) (otherwise _ _ _ _ (not_either _ dis) refl)))))))) in
     ap (option_map (λ s. s.0)) none
 
-none_of : (name : Text) (words : List Text) → bytes_eq name (codes "build") ≡ false → bytes_eq name (codes "trace") ≡ false → bytes_eq name (codes "run") ≡ false → bytes_eq name (codes "play") ≡ false → bytes_eq name (codes "check") ≡ false
+none_of : (name : Text) (words : List Text) → bytes_eq name (codes "build") ≡ false → bytes_eq name (codes "trace") ≡ false → bytes_eq name (codes "run") ≡ false → bytes_eq name (codes "play") ≡ false → bytes_eq name (codes "check") ≡ false → bytes_eq name (codes "gen") ≡ false
     → bytes_eq name (codes "migrate") ≡ false → bytes_eq name (codes "asm") ≡ false → bytes_eq name (codes "dis") ≡ false → form_of name words ≡ None
 unfolding form_of converting_form_of
-none_of name words build trace run play check migrate asm dis =
-    otherwise _ _ _ _ build (otherwise _ _ _ _ trace (otherwise _ _ _ _ run (otherwise _ _ _ _ play (otherwise _ _ _ _ check (otherwise _ _ _ _ migrate (otherwise _ _ _ _ asm (otherwise _ _ _ _ dis refl)))))))
+none_of name words build trace run play check gen migrate asm dis =
+    otherwise _ _ _ _ build (otherwise _ _ _ _ trace (otherwise _ _ _ _ run (otherwise _ _ _ _ play (otherwise _ _ _ _ check (otherwise _ _ _ _ gen (otherwise _ _ _ _ migrate (otherwise _ _ _ _ asm (otherwise _ _ _ _ dis refl))))))))
 
 answer_by : (name : Text) (words : List Text) → is_word name ≡ true → list_all is_word words ≡ true → Compared name (codes "build") → Compared name (codes "trace")
-    → Compared name (codes "run") → Compared name (codes "play") → Compared name (codes "check") → Compared name (codes "migrate") → Compared name (codes "asm") → Compared name (codes "dis") → Answer (name ∷ words)
-answer_by name words w e (Same is) _ _ _ _ _ _ _ = subst (λ n. Answer (n ∷ words)) is (build_answer words e)
-answer_by name words w e (Other _ _) (Same is) _ _ _ _ _ _ = subst (λ n. Answer (n ∷ words)) is (trace_answer words e)
-answer_by name words w e (Other _ _) (Other _ _) (Same is) _ _ _ _ _ = subst (λ n. Answer (n ∷ words)) is (run_answer words e)
-answer_by name words w e (Other _ _) (Other _ _) (Other _ _) (Same is) _ _ _ _ = subst (λ n. Answer (n ∷ words)) is (play_answer words e)
-answer_by name words w e (Other _ _) (Other _ _) (Other _ _) (Other _ _) (Same is) _ _ _ = subst (λ n. Answer (n ∷ words)) is (check_answer words e)
-answer_by name words w e (Other _ _) (Other _ _) (Other _ _) (Other _ _) (Other _ _) (Same is) _ _ = subst (λ n. Answer (n ∷ words)) is (convert_answer (codes "migrate") Migrate migrates words e)
-answer_by name words w e (Other _ _) (Other _ _) (Other _ _) (Other _ _) (Other _ _) (Other _ _) (Same is) _ = subst (λ n. Answer (n ∷ words)) is (convert_answer (codes "asm") Assemble assembles words e)
-answer_by name words w e (Other _ _) (Other _ _) (Other _ _) (Other _ _) (Other _ _) (Other _ _) (Other _ _) (Same is) = subst (λ n. Answer (n ∷ words)) is (convert_answer (codes "dis") Disassemble disassembles words e)
-answer_by name words w e (Other build build') (Other trace trace') (Other run run') (Other play play') (Other check check') (Other migrate migrate') (Other asm asm') (Other dis dis') =
-    Refused kind.UnknownArgument (kind.InvalidSubcommand ∷ []) (unmet_fault name words w (none_met name build trace run play check migrate asm dis))
-    (form_of_words name words e ∙ none_of name words build' trace' run' play' check' migrate' asm' dis')
+    → Compared name (codes "run") → Compared name (codes "play") → Compared name (codes "check") → Compared name (codes "gen") → Compared name (codes "migrate") → Compared name (codes "asm") → Compared name (codes "dis") → Answer (name ∷ words)
+answer_by name words w e (Same is) _ _ _ _ _ _ _ _ = subst (λ n. Answer (n ∷ words)) is (build_answer words e)
+answer_by name words w e (Other _ _) (Same is) _ _ _ _ _ _ _ = subst (λ n. Answer (n ∷ words)) is (trace_answer words e)
+answer_by name words w e (Other _ _) (Other _ _) (Same is) _ _ _ _ _ _ = subst (λ n. Answer (n ∷ words)) is (run_answer words e)
+answer_by name words w e (Other _ _) (Other _ _) (Other _ _) (Same is) _ _ _ _ _ = subst (λ n. Answer (n ∷ words)) is (play_answer words e)
+answer_by name words w e (Other _ _) (Other _ _) (Other _ _) (Other _ _) (Same is) _ _ _ _ = subst (λ n. Answer (n ∷ words)) is (check_answer words e)
+answer_by name words w e (Other _ _) (Other _ _) (Other _ _) (Other _ _) (Other _ _) (Same is) _ _ _ = subst (λ n. Answer (n ∷ words)) is (gen_answer words e)
+answer_by name words w e (Other _ _) (Other _ _) (Other _ _) (Other _ _) (Other _ _) (Other _ _) (Same is) _ _ = subst (λ n. Answer (n ∷ words)) is (convert_answer (codes "migrate") Migrate migrates words e)
+answer_by name words w e (Other _ _) (Other _ _) (Other _ _) (Other _ _) (Other _ _) (Other _ _) (Other _ _) (Same is) _ = subst (λ n. Answer (n ∷ words)) is (convert_answer (codes "asm") Assemble assembles words e)
+answer_by name words w e (Other _ _) (Other _ _) (Other _ _) (Other _ _) (Other _ _) (Other _ _) (Other _ _) (Other _ _) (Same is) = subst (λ n. Answer (n ∷ words)) is (convert_answer (codes "dis") Disassemble disassembles words e)
+answer_by name words w e (Other build build') (Other trace trace') (Other run run') (Other play play') (Other check check') (Other gen gen') (Other migrate migrate') (Other asm asm') (Other dis dis') =
+    Refused kind.UnknownArgument (kind.InvalidSubcommand ∷ []) (unmet_fault name words w (none_met name build trace run play check gen migrate asm dis))
+    (form_of_words name words e ∙ none_of name words build' trace' run' play' check' gen' migrate' asm' dis')
 
 no_words_fault : fault_of command_line [] ≡ kind.MissingSubcommand ∷ []
 unfolding clap_on_literals
@@ -83,7 +84,7 @@ pub answer : (words : List Text) → list_all is_word words ≡ true → Answer 
 answer [] e = Refused kind.MissingSubcommand [] no_words_fault refl
 answer (name ∷ words) e =
     let parts = both (is_word name) _ e in
-    answer_by name words parts.0 parts.1 (compared (codes "build") name) (compared (codes "trace") name) (compared (codes "run") name) (compared (codes "play") name) (compared (codes "check") name)
+    answer_by name words parts.0 parts.1 (compared (codes "build") name) (compared (codes "trace") name) (compared (codes "run") name) (compared (codes "play") name) (compared (codes "check") name) (compared (codes "gen") name)
     (compared (codes "migrate") name) (compared (codes "asm") name) (compared (codes "dis") name)
 
 -- ---- words that `clap` is not asked

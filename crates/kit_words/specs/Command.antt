@@ -29,6 +29,8 @@ pub data Command : Type 0 where
   Play : (project map_name : List ℕ) → RunWords → Command
   -- `check project`
   Check : (project : List ℕ) → Command
+  -- `gen number project cart map`: a project and a source are made up from the number, written, built and run
+  Gen : (number project cart map_name : List ℕ) → Command
 
 abbrev pub texts : List (String Global) → List (List ℕ)
 texts words = map string_bytes words
@@ -97,6 +99,24 @@ abbrev pub check_form : List (List ℕ) → Option Command
 check_form (project ∷ []) = Some (Check project)
 check_form arguments = None
 
+-- the file of the source that `gen` makes up
+abbrev pub source_name : List ℕ
+source_name = codes "gen.c"
+
+-- the project, its source, the cartridge and the map are four files
+abbrev pub are_four : (project cart map_name : List ℕ) → Bool
+are_four project cart map_name =
+    not (bytes_eq project source_name) && (not (bytes_eq project cart) && (not (bytes_eq project map_name)
+    && (not (bytes_eq source_name cart) && (not (bytes_eq source_name map_name) && not (bytes_eq cart map_name)))))
+
+abbrev pub checked_gen : (number project cart map_name : List ℕ) → Option Command
+checked_gen number project cart map_name =
+    if is_number number && are_four project cart map_name then Some (Gen number project cart map_name) else None
+
+abbrev pub gen_form : List (List ℕ) → Option Command
+gen_form (number ∷ project ∷ cart ∷ map_name ∷ []) = checked_gen number project cart map_name
+gen_form arguments = None
+
 -- the form of that name
 unfoldable pub converting_form_of : List ℕ → List (List ℕ) → Option Command
 converting_form_of name arguments =
@@ -111,7 +131,8 @@ form_of name arguments =
     else (if bytes_eq name (codes "run") then run_form arguments
     else (if bytes_eq name (codes "play") then play_form arguments
     else (if bytes_eq name (codes "check") then check_form arguments
-    else converting_form_of name arguments))))
+    else (if bytes_eq name (codes "gen") then gen_form arguments
+    else converting_form_of name arguments)))))
 
 unfoldable pub form_with : (name : List ℕ) → (arguments : List (List ℕ)) → Option Command
 form_with name arguments = if list_all is_word arguments then form_of name arguments else None

@@ -6,7 +6,7 @@ use Rattle.clap.specs.Walk.{Row, Rule, Text, first_of}
 use Rattle.clap.specs.Simple.{App, Shape, new_rule, new_shape, with_subcommand}
 use Rattle.kit_words.specs.declared.conversion.Conversion.{Conversion}
 use Rattle.kit_words.specs.declared.conversion.Conversion.TheVariants.{Migrate, Assemble, Disassemble}
-use Rattle.kit_words.specs.Command.{Command, build_form, check_form, convert_form, play_form, run_form, trace_form}
+use Rattle.kit_words.specs.Command.{Command, build_form, check_form, convert_form, gen_form, play_form, run_form, trace_form}
 
 -- a required argument that takes one plain text
 abbrev pub required : Text → Rule
@@ -41,6 +41,9 @@ play_ids =
 abbrev pub check_ids : List Text
 check_ids = codes "project" ∷ []
 
+abbrev pub gen_ids : List Text
+gen_ids = codes "number" ∷ codes "project" ∷ codes "cart" ∷ codes "map" ∷ []
+
 abbrev pub no_forms : App
 no_forms = record {
   top = record (new_shape (codes "kit")) {
@@ -60,7 +63,7 @@ with_converting app =
     with_form (codes "dis") convert_ids (with_form (codes "asm") convert_ids (with_form (codes "migrate") convert_ids app))
 
 abbrev pub command_line : App
-command_line = with_converting (with_form (codes "check") check_ids (with_form (codes "play") play_ids (with_form (codes "run") run_ids (with_form (codes "trace") trace_ids (with_form (codes "build") build_ids no_forms)))))
+command_line = with_converting (with_form (codes "gen") gen_ids (with_form (codes "check") check_ids (with_form (codes "play") play_ids (with_form (codes "run") run_ids (with_form (codes "trace") trace_ids (with_form (codes "build") build_ids no_forms))))))
 
 -- the words that were given for these arguments
 abbrev pub given : List Text → List Row → Option (List Text)
@@ -85,6 +88,9 @@ play_in rows = option_and_then play_form (given play_ids rows)
 abbrev pub check_in : List Row → Option Command
 check_in rows = option_and_then check_form (given check_ids rows)
 
+abbrev pub gen_in : List Row → Option Command
+gen_in rows = option_and_then gen_form (given gen_ids rows)
+
 unfoldable pub converting_in : Text → List Row → Option Command
 converting_in name rows =
     if bytes_eq name (codes "migrate") then convert_in Migrate rows
@@ -98,7 +104,8 @@ form_in name rows =
     else (if bytes_eq name (codes "run") then run_in rows
     else (if bytes_eq name (codes "play") then play_in rows
     else (if bytes_eq name (codes "check") then check_in rows
-    else converting_in name rows))))
+    else (if bytes_eq name (codes "gen") then gen_in rows
+    else converting_in name rows)))))
 
 -- the command of the subcommand that was met, with its matches
 abbrev pub command_in : Option (Text × List Row) → Option Command

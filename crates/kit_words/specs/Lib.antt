@@ -1,4 +1,5 @@
 pub mod Command
 pub mod CommandLine
+pub mod Created
 pub mod Number
 pub mod Parsed

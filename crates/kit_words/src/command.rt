@@ -4,8 +4,8 @@ ghost use Rattle.std.specs.List.{list_all};
 ghost use Rattle.clap.specs.Words.{found_of, rows_of, subcommand_rows_of};
 ghost use Rattle.clap.specs.Walk.{first_of};
 ghost use Rattle.clap.specs.declared.error.kind.ErrorKind.TheVariants.{OutOfMemory};
-ghost use Rattle.kit_words.specs.Command.{command_of, are_distinct, are_apart, card_of, checked_play, checked_run, differ_from, is_apart, is_number, is_word, texts};
-ghost use Rattle.kit_words.specs.CommandLine.{build_in, check_in, command_in, convert_in, converting_in, form_in, play_in, run_in, trace_in};
+ghost use Rattle.kit_words.specs.Command.{command_of, are_distinct, are_apart, are_four, card_of, checked_play, checked_run, differ_from, is_apart, is_number, is_word, texts};
+ghost use Rattle.kit_words.specs.CommandLine.{build_in, check_in, command_in, convert_in, converting_in, form_in, gen_in, play_in, run_in, trace_in};
 ghost use Rattle.kit_words.specs.Parsed.{command_from, run_words_from};
 
 use crate::command_line::command_line;
@@ -54,7 +54,16 @@ pub enum Command<'a> {
     Check {
         project: &'a str,
     },
+    Gen {
+        number: &'a str,
+        project: &'a str,
+        cart: &'a str,
+        map: &'a str,
+    },
 }
+
+/// The file of the source that `gen` makes up.
+const SOURCE_NAME: &str = "gen.c";
 
 /// Whether an argument may be a name or a number.
 fn is_word(word: &str) -> bool
@@ -248,6 +257,37 @@ fn check_in<'a>(given: &ArgMatches<'a>) -> Option<Command<'a>>
     Some(Command::Check { project })
 }
 
+/// Whether the project, its source, the cartridge and the map are four files.
+fn are_four(project: &str, cart: &str, map: &str) -> bool
+    ensures { result ≡ are_four project.now cart.now map.now }
+{
+    project != SOURCE_NAME
+        && project != cart
+        && project != map
+        && SOURCE_NAME != cart
+        && SOURCE_NAME != map
+        && cart != map
+}
+
+fn gen_in<'a>(given: &ArgMatches<'a>) -> Option<Command<'a>>
+    ensures { option_map command_from result ≡ gen_in (rows_of (found_of given.now)) }
+{
+    let number = word_of(given, "number")?;
+    let project = word_of(given, "project")?;
+    let cart = word_of(given, "cart")?;
+    let map = word_of(given, "map")?;
+    if is_number(number) && are_four(project, cart, map) {
+        Some(Command::Gen {
+            number,
+            project,
+            cart,
+            map,
+        })
+    } else {
+        None
+    }
+}
+
 #[tactic(auto, unfolding(crate::specs::CommandLine::converting_in))]
 fn converting_in<'a>(name: &str, given: &ArgMatches<'a>) -> Option<Command<'a>>
     ensures { option_map command_from result ≡ converting_in name.now (rows_of (found_of given.now)) }
@@ -277,6 +317,8 @@ fn form_in<'a>(name: &str, given: &ArgMatches<'a>) -> Option<Command<'a>>
         play_in(given)
     } else if name == "check" {
         check_in(given)
+    } else if name == "gen" {
+        gen_in(given)
     } else {
         converting_in(name, given)
     }

@@ -86,5 +86,6 @@ pub fn command_line<'a>(alloc: Global) -> Result<Command<'a>, AllocError>
         ],
     )?;
     let command = with_form(alloc, command, "check", &["project"])?;
+    let command = with_form(alloc, command, "gen", &["number", "project", "cart", "map"])?;
     with_converting(alloc, command)
 }

@@ -6,8 +6,10 @@
 mod command;
 mod command_line;
 mod conversion;
+mod laws;
 mod number;
 
 pub use command::{Command, RunWords, command_of};
 pub use conversion::Conversion;
+pub use laws::created_files_differ;
 pub use number::number_of;

@@ -1,187 +1,170 @@
--- The files that a command creates are pairwise different.
-use Rattle.std.proofs.Common.{ℕ, ◌≡◌, Bool, true, false, not, ◌&&◌, List, [], ◌∷◌, Option, Some, None, refl, sym, ap, subst, codes, true≢false}
-use Rattle.std.specs.Prelude.{if◌then◌else◌}
+-- The files that a command creates are pairwise different, and are those that the table of forms lists.
+use Rattle.std.proofs.Common.{ℕ, ◌≡◌, Bool, true, false, not, ◌&&◌, List, [], ◌∷◌, Option, Some, None, refl, sym, ap, subst, ◌∙◌, true≢false}
+use Rattle.std.specs.Prelude.{if◌then◌else◌, option_and_then, option_map}
 use Rattle.std.specs.List.{list_all}
 use Rattle.std.specs.Str.{bytes_eq}
 use Rattle.clap.proofs.WalkLemmas.{both}
-use Rattle.kit_words.specs.declared.conversion.Conversion.{Conversion}
-use Rattle.kit_words.specs.declared.conversion.Conversion.TheVariants.{Migrate, Assemble, Disassemble}
-use Rattle.kit_words.specs.Command.{Command, RunWords, Build, Trace, Run, Play, Gen, are_apart, are_distinct, are_four, build_form, card_of, check_form, checked_gen, checked_play, checked_run, command_of, convert_form, converting_form_of, differ_from, form_of, form_with, gen_form, is_apart, is_number, is_word, play_form, run_form, source_name, trace_form}
-use Rattle.kit_words.specs.Created.{are_different, created_names, run_names}
+use Rattle.kit_words.specs.Forms.{Form, Builds, Checks, Converts, Runs, Plays, Traces, Generates, are_as_many, are_different, created_by, differs_from, form_named, is_word, number_in, read_in, source_name, with_card, words_of}
+use Rattle.kit_words.specs.Command.{Command, RunWords, Build, Run, Play, Gen, command_of, command_with, form_of, form_with, is_number_if_there, made, tested}
+use Rattle.kit_words.specs.Created.{created_names, number_word, read_names, run_names}
 
--- what the tests of a command say
-AreTested : Option Command → Type 0
-AreTested (Some (Build project cart map_name)) = bytes_eq cart map_name ≡ false
-AreTested (Some (Run words)) = are_distinct words ≡ true
-AreTested (Some (Play project map_name words)) = (are_distinct words ≡ true) × (are_apart map_name words ≡ true)
-AreTested (Some (Gen number project cart map_name)) = are_four project cart map_name ≡ true
-AreTested command = Unit {0}
+-- the table lists the files of the command, and its number
+record Lists (form : Form) (givens : List (List ℕ)) (command : Command) : Type 0 where
+  created : created_by form givens ≡ created_names command
+  read : read_in (words_of form) givens ≡ read_names command
+  number : number_in (words_of form) givens ≡ number_word command
 
-chosen : (b : Bool) (x y : Option Command) → AreTested x → AreTested y → AreTested (if b then x else y)
-chosen true x y h k = h
-chosen false x y h k = k
+IfMade : Form → List (List ℕ) → Option Command → Type 0
+IfMade form givens None = Unit {0}
+IfMade form givens (Some command) = Lists form givens command
 
--- a test that holds
-tested : (b : Bool) (x : Option Command) → (b ≡ true → AreTested x) → AreTested (if b then x else None)
-unfolding AreTested
-tested true x h = h refl
-tested false x h = tt
+if_made : (form : Form) (givens : List (List ℕ)) → IfMade form givens (made form givens)
+unfolding IfMade
+if_made Builds (project ∷ cart ∷ map_name ∷ []) = record { created = refl; read = refl; number = refl }
+if_made Checks (project ∷ []) = record { created = refl; read = refl; number = refl }
+if_made (Converts conversion) (source ∷ target ∷ []) = record { created = refl; read = refl; number = refl }
+if_made Runs (cart ∷ pads ∷ frames ∷ samples ∷ count ∷ card ∷ []) = record { created = refl; read = refl; number = refl }
+if_made Plays (project ∷ cart ∷ map_name ∷ pads ∷ frames ∷ samples ∷ count ∷ card ∷ []) = record { created = refl; read = refl; number = refl }
+if_made Traces (cart ∷ answers ∷ card ∷ steps ∷ []) = record { created = refl; read = refl; number = refl }
+if_made Generates (number ∷ project ∷ cart ∷ map_name ∷ []) = record { created = refl; read = refl; number = refl }
+if_made form givens = tt
 
-build_tested : (arguments : List (List ℕ)) → AreTested (build_form arguments)
-unfolding AreTested
-build_tested [] = tt
-build_tested (a ∷ []) = tt
-build_tested (a ∷ b ∷ []) = tt
-build_tested (project ∷ cart ∷ map_name ∷ []) = go (bytes_eq cart map_name) refl
-  where
-    go : (same : Bool) → bytes_eq cart map_name ≡ same → AreTested (if same then None else Some (Build project cart map_name))
-    go true e = tt
-    go false e = e
-build_tested (a ∷ b ∷ d ∷ e ∷ rest) = tt
+lists : (form : Form) (givens : List (List ℕ)) (command : Command) → made form givens ≡ Some command → Lists form givens command
+unfolding IfMade
+lists form givens command is = subst (IfMade form givens) is (if_made form givens)
 
-convert_tested : (conversion : Conversion) (arguments : List (List ℕ)) → AreTested (convert_form conversion arguments)
-unfolding AreTested
-convert_tested conversion [] = tt
-convert_tested conversion (a ∷ []) = tt
-convert_tested conversion (source ∷ target ∷ []) = tt
-convert_tested conversion (a ∷ b ∷ d ∷ rest) = tt
+-- a test that was passed
+passed : (b : Bool) (o : Option Command) (command : Command) → (if b then o else None) ≡ Some command → (b ≡ true) × (o ≡ Some command)
+passed true o command is = (refl, is)
+passed false o command is = cc
 
-trace_tested : (arguments : List (List ℕ)) → AreTested (trace_form arguments)
-unfolding AreTested
-trace_tested [] = tt
-trace_tested (a ∷ []) = tt
-trace_tested (a ∷ b ∷ []) = tt
-trace_tested (a ∷ b ∷ d ∷ []) = tt
-trace_tested (cart ∷ answers ∷ card ∷ steps ∷ []) = chosen (is_number steps) (Some (Trace cart answers (card_of card) steps)) None tt tt
-trace_tested (a ∷ b ∷ d ∷ e ∷ f ∷ rest) = tt
+-- what is known of a command that a form's words name
+record IsMade (form : Form) (givens : List (List ℕ)) (command : Command) : Type 0 where
+  different : are_different (created_names command) ≡ true
+  number : is_number_if_there (number_word command) ≡ true
+  listed : Lists form givens command
 
-run_tested : (arguments : List (List ℕ)) → AreTested (run_form arguments)
-unfolding AreTested
-run_tested [] = tt
-run_tested (a ∷ []) = tt
-run_tested (a ∷ b ∷ []) = tt
-run_tested (a ∷ b ∷ d ∷ []) = tt
-run_tested (a ∷ b ∷ d ∷ e ∷ []) = tt
-run_tested (a ∷ b ∷ d ∷ e ∷ f ∷ []) = tt
-run_tested (cart ∷ pads ∷ frames ∷ samples ∷ count ∷ card ∷ []) =
-    let words : RunWords = record { cart = cart; pads = pads; frames = frames; samples = samples; count = count; card = card_of card } in
-    tested (is_number count && are_distinct words) (Some (Run words)) (λ h. (both (is_number count) _ h).1)
-run_tested (a ∷ b ∷ d ∷ e ∷ f ∷ g ∷ i ∷ rest) = tt
+made_with : (form : Form) (givens : List (List ℕ)) (command : Command) → command_with form givens ≡ Some command → IsMade form givens command
+unfolding tested
+made_with form givens command is =
+    let fits = passed (are_as_many (words_of form) givens) _ command is in
+    let tests = passed (is_number_if_there (number_in (words_of form) givens) && are_different (created_by form givens)) _ command fits.1 in
+    let each = both (is_number_if_there (number_in (words_of form) givens)) _ tests.0 in
+    let here = lists form givens command tests.1 in
+    record {
+      different = subst (λ names. are_different names ≡ true) here.created each.1;
+      number = subst (λ word. is_number_if_there word ≡ true) here.number each.0;
+      listed = here;
+    }
 
-check_tested : (arguments : List (List ℕ)) → AreTested (check_form arguments)
-unfolding AreTested
-check_tested [] = tt
-check_tested (project ∷ []) = tt
-check_tested (a ∷ b ∷ rest) = tt
+-- the form that the words name
+record IsNamed (name : List ℕ) (givens : List (List ℕ)) (command : Command) : Type 0 where
+  form : Form
+  named : form_named name ≡ Some form
+  is_made : IsMade form givens command
 
-play_tested : (arguments : List (List ℕ)) → AreTested (play_form arguments)
-unfolding AreTested
-play_tested [] = tt
-play_tested (a ∷ []) = tt
-play_tested (a ∷ b ∷ []) = tt
-play_tested (a ∷ b ∷ d ∷ []) = tt
-play_tested (a ∷ b ∷ d ∷ e ∷ []) = tt
-play_tested (a ∷ b ∷ d ∷ e ∷ f ∷ []) = tt
-play_tested (a ∷ b ∷ d ∷ e ∷ f ∷ g ∷ []) = tt
-play_tested (a ∷ b ∷ d ∷ e ∷ f ∷ g ∷ i ∷ []) = tt
-play_tested (project ∷ cart ∷ map_name ∷ pads ∷ frames ∷ samples ∷ count ∷ card ∷ []) =
-    let words : RunWords = record { cart = cart; pads = pads; frames = frames; samples = samples; count = count; card = card_of card } in
-    tested (is_number count && (are_distinct words && are_apart map_name words)) (Some (Play project map_name words))
-    (λ h. both (are_distinct words) _ ((both (is_number count) _ h).1))
-play_tested (a ∷ b ∷ d ∷ e ∷ f ∷ g ∷ i ∷ j ∷ k ∷ rest) = tt
+named_in : (name : List ℕ) (givens : List (List ℕ)) (command : Command) (o : Option Form) → form_named name ≡ o
+    → option_and_then (λ form. command_with form givens) o ≡ Some command → IsNamed name givens command
+named_in name givens command None named is = cc
+named_in name givens command (Some form) named is = record { form = form; named = named; is_made = made_with form givens command is }
 
-gen_tested : (arguments : List (List ℕ)) → AreTested (gen_form arguments)
-unfolding AreTested
-gen_tested [] = tt
-gen_tested (a ∷ []) = tt
-gen_tested (a ∷ b ∷ []) = tt
-gen_tested (a ∷ b ∷ d ∷ []) = tt
-gen_tested (number ∷ project ∷ cart ∷ map_name ∷ []) =
-    tested (is_number number && are_four project cart map_name) (Some (Gen number project cart map_name)) (λ h. (both (is_number number) _ h).1)
-gen_tested (a ∷ b ∷ d ∷ e ∷ f ∷ rest) = tt
+named_with : (name : List ℕ) (givens : List (List ℕ)) (command : Command) → command_of (name ∷ givens) ≡ Some command → IsNamed name givens command
+unfolding form_with
+named_with name givens command is =
+    named_in name givens command (form_named name) refl (passed (list_all is_word givens) (form_of name givens) command is).1
 
-form_tested : (name : List ℕ) (arguments : List (List ℕ)) → AreTested (form_of name arguments)
-unfolding AreTested form_of converting_form_of
-form_tested name arguments =
-    chosen (bytes_eq name (codes "build")) _ _ (build_tested arguments) (chosen (bytes_eq name (codes "trace")) _ _ (trace_tested arguments)
-    (chosen (bytes_eq name (codes "run")) _ _ (run_tested arguments) (chosen (bytes_eq name (codes "play")) _ _ (play_tested arguments)
-    (chosen (bytes_eq name (codes "check")) _ _ (check_tested arguments) (chosen (bytes_eq name (codes "gen")) _ _ (gen_tested arguments)
-    (chosen (bytes_eq name (codes "migrate")) _ _ (convert_tested Migrate arguments) (chosen (bytes_eq name (codes "asm")) _ _ (convert_tested Assemble arguments)
-    (chosen (bytes_eq name (codes "dis")) _ None (convert_tested Disassemble arguments) tt))))))))
+-- ---- the laws
 
-words_tested : (words : List (List ℕ)) → AreTested (command_of words)
-unfolding AreTested form_with
-words_tested [] = tt
-words_tested (name ∷ arguments) = chosen (list_all is_word arguments) (form_of name arguments) None (form_tested name arguments) tt
+pub created_differ : (words : List (List ℕ)) (command : Command) → command_of words ≡ Some command → are_different (created_names command) ≡ true
+created_differ [] command is = cc
+created_differ (name ∷ givens) command is = (named_with name givens command is).is_made.different
 
-command_tested : (words : List (List ℕ)) (command : Command) → command_of words ≡ Some command → AreTested (Some command)
-command_tested words command named = subst AreTested named (words_tested words)
+pub numbers_are : (words : List (List ℕ)) (command : Command) → command_of words ≡ Some command → is_number_if_there (number_word command) ≡ true
+numbers_are [] command is = cc
+numbers_are (name ∷ givens) command is = (named_with name givens command is).is_made.number
+
+pub created_listed : (name : List ℕ) (givens : List (List ℕ)) (command : Command) → command_of (name ∷ givens) ≡ Some command
+    → option_map (λ form. created_by form givens) (form_named name) ≡ Some (created_names command)
+created_listed name givens command is =
+    let h = named_with name givens command is in
+    ap (option_map (λ form. created_by form givens)) h.named ∙ ap Some h.is_made.listed.created
+
+pub read_listed : (name : List ℕ) (givens : List (List ℕ)) (command : Command) → command_of (name ∷ givens) ≡ Some command
+    → option_map (λ form. read_in (words_of form) givens) (form_named name) ≡ Some (read_names command)
+read_listed name givens command is =
+    let h = named_with name givens command is in
+    ap (option_map (λ form. read_in (words_of form) givens)) h.named ∙ ap Some h.is_made.listed.read
+
+-- ---- the same of the single commands, name by name
+
+not_true : (b : Bool) → not b ≡ true → b ≡ false
+not_true true e = absurd (true≢false (sym e))
+not_true false e = refl
+
+-- a name and the names behind it
+split : (name : List ℕ) (names : List (List ℕ)) → are_different (name ∷ names) ≡ true → (differs_from name names ≡ true) × (are_different names ≡ true)
+unfolding are_different
+split name names e = both (differs_from name names) _ e
+
+pub differs_first : (name other : List ℕ) (names : List (List ℕ)) → differs_from name (other ∷ names) ≡ true → bytes_eq name other ≡ false
+differs_first name other names e = not_true _ ((both (not (bytes_eq name other)) _ e).0)
+
+pub differs_later : (name other : List ℕ) (names : List (List ℕ)) → differs_from name (other ∷ names) ≡ true → differs_from name names ≡ true
+differs_later name other names e = (both (not (bytes_eq name other)) _ e).1
 
 pub build_differ : (words : List (List ℕ)) (project cart map_name : List ℕ) → command_of words ≡ Some (Build project cart map_name) → bytes_eq cart map_name ≡ false
-unfolding AreTested
-build_differ words project cart map_name named = command_tested words _ named
+build_differ words project cart map_name is =
+    differs_first cart map_name [] ((split cart (map_name ∷ []) (created_differ words _ is)).0)
 
-pub run_differ : (words : List (List ℕ)) (run : RunWords) → command_of words ≡ Some (Run run) → are_distinct run ≡ true
-unfolding AreTested
-run_differ words run named = command_tested words _ named
+-- the file is another one than the card's
+abbrev pub differ_from : List ℕ → Option (List ℕ) → Bool
+differ_from name None = true
+differ_from name (Some card) = not (bytes_eq name card)
 
-pub play_run_differ : (words : List (List ℕ)) (project map_name : List ℕ) (run : RunWords) → command_of words ≡ Some (Play project map_name run) → are_distinct run ≡ true
-unfolding AreTested
-play_run_differ words project map_name run named = (command_tested words _ named).0
+-- the file is none that a run creates
+abbrev pub is_apart : List ℕ → RunWords → Bool
+is_apart name words = not (bytes_eq name words.frames) && (not (bytes_eq name words.samples) && differ_from name words.card)
+
+-- the cartridge and the map of a play are different files, and none that its run creates
+abbrev pub are_apart : List ℕ → RunWords → Bool
+are_apart map_name words = not (bytes_eq words.cart map_name) && (is_apart words.cart words && is_apart map_name words)
+
+card_apart : (name : List ℕ) (card : Option (List ℕ)) → differs_from name (with_card card []) ≡ true → differ_from name card ≡ true
+card_apart name None e = refl
+card_apart name (Some card) e = (both (not (bytes_eq name card)) _ e).0
+
+from_run : (name : List ℕ) (words : RunWords) → differs_from name (run_names words) ≡ true → is_apart name words ≡ true
+from_run name words e =
+    let a = both (not (bytes_eq name words.frames)) _ e in
+    let b = both (not (bytes_eq name words.samples)) _ a.1 in
+    λ i. a.0 i && (b.0 i && card_apart name words.card b.1 i)
 
 pub play_differ : (words : List (List ℕ)) (project map_name : List ℕ) (run : RunWords) → command_of words ≡ Some (Play project map_name run) → are_apart map_name run ≡ true
-unfolding AreTested
-play_differ words project map_name run named = (command_tested words _ named).1
+play_differ words project map_name run is =
+    let a = split run.cart (map_name ∷ run_names run) (created_differ words _ is) in
+    let cart = both (not (bytes_eq run.cart map_name)) _ a.0 in
+    let b = split map_name (run_names run) a.1 in
+    λ i. cart.0 i && (from_run run.cart run cart.1 i && from_run map_name run b.0 i)
 
-pub gen_differ : (words : List (List ℕ)) (number project cart map_name : List ℕ) → command_of words ≡ Some (Gen number project cart map_name) → are_four project cart map_name ≡ true
-unfolding AreTested
-gen_differ words number project cart map_name named = command_tested words _ named
+-- the files of `gen`
+pub record AreFour (project cart map_name : List ℕ) : Type 0 where
+  pub source_project : bytes_eq source_name project ≡ false
+  pub source_cart : bytes_eq source_name cart ≡ false
+  pub source_map : bytes_eq source_name map_name ≡ false
+  pub project_cart : bytes_eq project cart ≡ false
+  pub project_map : bytes_eq project map_name ≡ false
+  pub cart_map : bytes_eq cart map_name ≡ false
 
--- ---- the tests say that the names are different
-
-not_false : (b : Bool) → b ≡ false → not b ≡ true
-not_false b e = ap not e
-
-run_names_differ : (frames samples : List ℕ) (card : Option (List ℕ)) → (not (bytes_eq frames samples) && (differ_from frames card && differ_from samples card)) ≡ true
-    → are_different (run_names (record { cart = []; pads = []; frames = frames; samples = samples; count = []; card = card })) ≡ true
-run_names_differ frames samples None h = let a = (both (not (bytes_eq frames samples)) _ h).0 in λ i. (a i && true) && true
-run_names_differ frames samples (Some card) h =
-    let parts = both (not (bytes_eq frames samples)) _ h in
-    let cards = both (not (bytes_eq frames card)) _ parts.1 in
-    λ i. (parts.0 i && (cards.0 i && true)) && ((cards.1 i && true) && true)
-
-apart_from : (name frames samples : List ℕ) (card : Option (List ℕ)) → (not (bytes_eq name frames) && (not (bytes_eq name samples) && differ_from name card)) ≡ true
-    → list_all (λ other. not (bytes_eq name other)) (run_names (record { cart = []; pads = []; frames = frames; samples = samples; count = []; card = card })) ≡ true
-apart_from name frames samples None h =
-    let parts = both (not (bytes_eq name frames)) _ h in
-    let more = both (not (bytes_eq name samples)) _ parts.1 in
-    λ i. parts.0 i && (more.0 i && true)
-apart_from name frames samples (Some card) h =
-    let parts = both (not (bytes_eq name frames)) _ h in
-    let more = both (not (bytes_eq name samples)) _ parts.1 in
-    λ i. parts.0 i && (more.0 i && (more.1 i && true))
-
-are_created : (command : Command) → AreTested (Some command) → are_different (created_names command) ≡ true
-unfolding AreTested
-are_created (Build project cart map_name) h = λ i. (not (h i) && true) && true
-are_created (Rattle.kit_words.specs.Command.Convert conversion source target) h = refl
-are_created (Trace cart answers card steps) h = refl
-are_created (Run words) h = run_names_differ words.frames words.samples words.card h
-are_created (Play project map_name words) h =
-    let apart = both (not (bytes_eq words.cart map_name)) _ h.1 in
-    let each = both (is_apart words.cart words) _ apart.1 in
-    let cart_apart = apart_from words.cart words.frames words.samples words.card each.0 in
-    let map_apart = apart_from map_name words.frames words.samples words.card each.1 in
-    let run_apart = run_names_differ words.frames words.samples words.card h.0 in
-    λ i. (apart.0 i && cart_apart i) && (map_apart i && run_apart i)
-are_created (Rattle.kit_words.specs.Command.Check project) h = refl
-are_created (Gen number project cart map_name) h =
-    let a = both (not (bytes_eq project source_name)) _ h in
-    let b = both (not (bytes_eq project cart)) _ a.1 in
-    let c = both (not (bytes_eq project map_name)) _ b.1 in
-    let d = both (not (bytes_eq source_name cart)) _ c.1 in
-    let e = both (not (bytes_eq source_name map_name)) _ d.1 in
-    λ i. (a.0 i && (b.0 i && (c.0 i && true))) && ((d.0 i && (e.0 i && true)) && ((e.1 i && true) && true))
-
-pub all_differ : (words : List (List ℕ)) (command : Command) → command_of words ≡ Some command → are_different (created_names command) ≡ true
-all_differ words command named = are_created command (command_tested words command named)
+pub gen_differ : (words : List (List ℕ)) (number project cart map_name : List ℕ) → command_of words ≡ Some (Gen number project cart map_name) → AreFour project cart map_name
+gen_differ words number project cart map_name is =
+    let a = split source_name (project ∷ cart ∷ map_name ∷ []) (created_differ words _ is) in
+    let b = split project (cart ∷ map_name ∷ []) a.1 in
+    let c = split cart (map_name ∷ []) b.1 in
+    record {
+      source_project = differs_first source_name project (cart ∷ map_name ∷ []) a.0;
+      source_cart = differs_first source_name cart (map_name ∷ []) (differs_later source_name project (cart ∷ map_name ∷ []) a.0);
+      source_map = differs_first source_name map_name [] (differs_later source_name cart (map_name ∷ []) (differs_later source_name project (cart ∷ map_name ∷ []) a.0));
+      project_cart = differs_first project cart (map_name ∷ []) b.0;
+      project_map = differs_first project map_name [] (differs_later project cart (map_name ∷ []) b.0);
+      cart_map = differs_first cart map_name [] c.0;
+    }

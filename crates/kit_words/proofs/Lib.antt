@@ -1,5 +1,6 @@
 pub mod AllWords
 pub mod Created
+pub mod Different
 pub mod FirstWord
 pub mod Forms
 pub mod Given

@@ -5,7 +5,7 @@ use Rattle.std.specs.List.{list_all}
 use Rattle.std.specs.Str.{bytes_eq}
 use Rattle.clap.proofs.WalkLemmas.{both}
 use Rattle.kit_words.specs.Forms.{Form, Builds, Checks, Converts, Runs, Plays, Traces, Generates, are_as_many, are_different, created_by, differs_from, form_named, is_word, number_in, read_in, source_name, with_card, words_of}
-use Rattle.kit_words.specs.Command.{Command, RunWords, Build, Run, Play, Gen, command_of, command_with, form_of, form_with, is_number_if_there, made, tested}
+use Rattle.kit_words.specs.Command.{Command, RunWords, Build, Play, Gen, command_of, command_with, form_of, form_with, is_number_if_there, made, tested}
 use Rattle.kit_words.specs.Created.{created_names, number_word, read_names, run_names}
 
 -- the table lists the files of the command, and its number

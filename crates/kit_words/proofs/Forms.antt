@@ -9,7 +9,6 @@ use Rattle.clap.specs.Simple.{built_leaf, inherited, Shape, label_of, subcommand
 use Rattle.clap.proofs.OnLiterals.{clap_on_literals}
 use Rattle.clap.specs.declared.error.kind.ErrorKind.{ErrorKind}
 use Rattle.clap.specs.declared.error.kind.ErrorKind.TheVariants as kind
-use Rattle.kit_words.specs.declared.conversion.Conversion.{Conversion}
 use Rattle.kit_words.specs.declared.conversion.Conversion.TheVariants.{Migrate, Assemble, Disassemble}
 use Rattle.kit_words.specs.Forms.{Form, Builds, Checks, Converts, Runs, Plays, Traces, Generates, are_as_many, form_named, forms, is_word, name_of, words_of}
 use Rattle.kit_words.specs.Command.{command_of, command_with, form_of, form_with, made, tested}

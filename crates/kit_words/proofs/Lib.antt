@@ -6,5 +6,6 @@ pub mod Forms
 pub mod Given
 pub mod Parse
 pub mod Plain
+pub mod Listed
 pub mod Numbers
 pub mod Telling

@@ -1,10 +1,10 @@
 -- What the parse of the words comes to is the command that they name.
-use Rattle.std.proofs.Common.{◌≡◌, inl, inr, ◌||◌, ◌∙◌, ◌&&◌, Bool, true, false, not, List, [], ◌∷◌, map, Option, None, refl, sym, ap, subst, codes, true≢false}
+use Rattle.std.proofs.Common.{◌≡◌, inl, inr, ◌||◌, ◌∙◌, ◌&&◌, Bool, true, false, not, List, [], ◌∷◌, map, Option, None, refl, sym, ap, subst, true≢false}
 use Rattle.std.specs.Prelude.{if◌then◌else◌, find, option_map, option_and_then}
 use Rattle.std.specs.List.{list_all}
 use Rattle.std.specs.Str.{bytes_eq}
 use Rattle.std.proofs.lemmas.Slice.Eq.{bytes_eq-Decides}
-use Rattle.clap.specs.Walk.{Row, Text, answers_to, idle, subcommand_met}
+use Rattle.clap.specs.Walk.{Row, Text, answers_to}
 use Rattle.clap.specs.Kinds.{HasKind, IsAmong, Kinds}
 use Rattle.clap.specs.Values.{kind_of}
 use Rattle.clap.specs.declared.error.Error.{Error}
@@ -18,7 +18,7 @@ use Rattle.clap.specs.declared.error.kind.ErrorKind.TheVariants as kind
 use Rattle.kit_words.specs.Forms.{Form, form_named, forms, is_word, name_of}
 use Rattle.kit_words.specs.Command.{command_of, command_with, form_of, form_with}
 use Rattle.kit_words.specs.CommandLine.{command_in, command_line}
-use Rattle.kit_words.proofs.FirstWord.{names, unmet_fault}
+use Rattle.kit_words.proofs.FirstWord.{unmet_fault}
 use Rattle.kit_words.proofs.Forms.{Answer, Taken, Refused, Each, IsGood, all_good, form_answer, form_of_words}
 
 pub is_plain_app : is_simple_and_free command_line ≡ true

@@ -1,5 +1,5 @@
 -- The command line as `clap` is told of it, and the command that its matches give. Only private functions cite these.
-use Rattle.std.specs.Prelude.{true, List, [], ◌∷◌, map, fold, Option, Some, None, option_map, option_and_then, codes}
+use Rattle.std.specs.Prelude.{true, List, [], ◌∷◌, map, fold, Option, Some, option_map, option_and_then, codes}
 use Rattle.std.specs.Borrow.{Bor}
 use Rattle.clap.specs.Walk.{Row, Rule, Text, first_of}
 use Rattle.clap.specs.Simple.{App, Shape, new_rule, new_shape, with_subcommand}

@@ -174,7 +174,10 @@ fn created_differ(command: &Command<'_>) -> bool
         Command::Play { map, words, .. } => play_differs(map, &words),
         Command::Check { .. } => are_different(&[]),
         Command::Gen {
-            project, cart, map, ..
+            project,
+            cart,
+            map,
+            ..
         } => gen_differs(project, cart, map),
     }
 }

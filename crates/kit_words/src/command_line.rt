@@ -87,10 +87,5 @@ pub fn command_line<'a>(alloc: Global) -> Result<Command<'a>, AllocError>
         "trace",
         &["cart", "answers", "card", "steps"],
     )?;
-    with_form(
-        alloc,
-        command,
-        "gen",
-        &["number", "project", "cart", "map"],
-    )
+    with_form(alloc, command, "gen", &["number", "project", "cart", "map"])
 }

@@ -1,7 +1,7 @@
 // Laws of the definitions.
-ghost use Rattle.std.specs.Prelude.{ℕ, ◌≡◌, ◌∷◌, true, List, Some, option_map};
-ghost use Rattle.kit_words.specs.Forms.{are_different, created_by, form_named, read_in, words_of};
-ghost use Rattle.kit_words.specs.Command.{Command, command_of, is_number_if_there};
+ghost use Rattle.std.specs.Prelude.{ℕ, ◌≡◌, ◌∷◌, true, List, Some, is_some, option_map};
+ghost use Rattle.kit_words.specs.Forms.{Form, are_as_many, are_different, created_by, form_named, name_of, read_in, words_of};
+ghost use Rattle.kit_words.specs.Command.{Command, command_of, is_number_if_there, made};
 ghost use Rattle.kit_words.specs.Created.{created_names, number_word, read_names};
 
 /// The files that a command creates are pairwise different, and its number word is one.
@@ -14,4 +14,10 @@ pub fn commands_are_tested()
 pub fn commands_are_listed()
     ensures created { (name : List ℕ) (givens : List (List ℕ)) (command : Command) → command_of (name ∷ givens) ≡ Some command → option_map (λ form. created_by form givens) (form_named name) ≡ Some (created_names command) }
     ensures read { (name : List ℕ) (givens : List (List ℕ)) (command : Command) → command_of (name ∷ givens) ≡ Some command → option_map (λ form. read_in (words_of form) givens) (form_named name) ≡ Some (read_names command) }
+{}
+
+/// Each form of the table is found by its name, and as many words as it lists make a command.
+pub fn forms_have_commands()
+    ensures named { (form : Form) → form_named (name_of form) ≡ Some form }
+    ensures made { (form : Form) (givens : List (List ℕ)) → is_some (made form givens) ≡ are_as_many (words_of form) givens }
 {}

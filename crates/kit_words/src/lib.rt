@@ -11,5 +11,5 @@ mod number;
 
 pub use command::{Command, RunWords, command_of};
 pub use conversion::Conversion;
-pub use laws::{commands_are_listed, commands_are_tested};
+pub use laws::{commands_are_listed, commands_are_tested, forms_have_commands};
 pub use number::number_of;

@@ -9,16 +9,16 @@ use Rattle.kit_words.specs.Command.{Command, RunWords, Build, Play, Gen, command
 use Rattle.kit_words.specs.Created.{created_names, number_word, read_names, run_names}
 
 -- the table lists the files of the command, and its number
-record Lists (form : Form) (givens : List (List ℕ)) (command : Command) : Type 0 where
-  created : created_by form givens ≡ created_names command
-  read : read_in (words_of form) givens ≡ read_names command
-  number : number_in (words_of form) givens ≡ number_word command
+record Lists (form : Form) (arguments : List (List ℕ)) (command : Command) : Type 0 where
+  created : created_by form arguments ≡ created_names command
+  read : read_in (words_of form) arguments ≡ read_names command
+  number : number_in (words_of form) arguments ≡ number_word command
 
 IfMade : Form → List (List ℕ) → Option Command → Type 0
-IfMade form givens None = Unit {0}
-IfMade form givens (Some command) = Lists form givens command
+IfMade form arguments None = Unit {0}
+IfMade form arguments (Some command) = Lists form arguments command
 
-if_made : (form : Form) (givens : List (List ℕ)) → IfMade form givens (made form givens)
+if_made : (form : Form) (arguments : List (List ℕ)) → IfMade form arguments (made form arguments)
 unfolding IfMade
 if_made Builds (project ∷ cart ∷ map_name ∷ []) = record { created = refl; read = refl; number = refl }
 if_made Checks (project ∷ []) = record { created = refl; read = refl; number = refl }
@@ -27,11 +27,11 @@ if_made Runs (cart ∷ pads ∷ frames ∷ samples ∷ count ∷ card ∷ []) = 
 if_made Plays (project ∷ cart ∷ map_name ∷ pads ∷ frames ∷ samples ∷ count ∷ card ∷ []) = record { created = refl; read = refl; number = refl }
 if_made Traces (cart ∷ answers ∷ card ∷ steps ∷ []) = record { created = refl; read = refl; number = refl }
 if_made Generates (number ∷ project ∷ cart ∷ map_name ∷ []) = record { created = refl; read = refl; number = refl }
-if_made form givens = tt
+if_made form arguments = tt
 
-lists : (form : Form) (givens : List (List ℕ)) (command : Command) → made form givens ≡ Some command → Lists form givens command
+lists : (form : Form) (arguments : List (List ℕ)) (command : Command) → made form arguments ≡ Some command → Lists form arguments command
 unfolding IfMade
-lists form givens command is = subst (IfMade form givens) is (if_made form givens)
+lists form arguments command is = subst (IfMade form arguments) is (if_made form arguments)
 
 -- a test that was passed
 passed : (b : Bool) (o : Option Command) (command : Command) → (if b then o else None) ≡ Some command → (b ≡ true) × (o ≡ Some command)
@@ -39,18 +39,18 @@ passed true o command is = (refl, is)
 passed false o command is = cc
 
 -- what is known of a command that a form's words name
-record IsMade (form : Form) (givens : List (List ℕ)) (command : Command) : Type 0 where
+record IsMade (form : Form) (arguments : List (List ℕ)) (command : Command) : Type 0 where
   different : are_different (created_names command) ≡ true
   number : is_number_if_there (number_word command) ≡ true
-  listed : Lists form givens command
+  listed : Lists form arguments command
 
-made_with : (form : Form) (givens : List (List ℕ)) (command : Command) → command_with form givens ≡ Some command → IsMade form givens command
+made_with : (form : Form) (arguments : List (List ℕ)) (command : Command) → command_with form arguments ≡ Some command → IsMade form arguments command
 unfolding tested
-made_with form givens command is =
-    let fits = passed (are_as_many (words_of form) givens) _ command is in
-    let tests = passed (is_number_if_there (number_in (words_of form) givens) && are_different (created_by form givens)) _ command fits.1 in
-    let each = both (is_number_if_there (number_in (words_of form) givens)) _ tests.0 in
-    let here = lists form givens command tests.1 in
+made_with form arguments command is =
+    let fits = passed (are_as_many (words_of form) arguments) _ command is in
+    let tests = passed (is_number_if_there (number_in (words_of form) arguments) && are_different (created_by form arguments)) _ command fits.1 in
+    let each = both (is_number_if_there (number_in (words_of form) arguments)) _ tests.0 in
+    let here = lists form arguments command tests.1 in
     record {
       different = subst (λ names. are_different names ≡ true) here.created each.1;
       number = subst (λ word. is_number_if_there word ≡ true) here.number each.0;
@@ -58,42 +58,42 @@ made_with form givens command is =
     }
 
 -- the form that the words name
-record IsNamed (name : List ℕ) (givens : List (List ℕ)) (command : Command) : Type 0 where
+record IsNamed (name : List ℕ) (arguments : List (List ℕ)) (command : Command) : Type 0 where
   form : Form
   named : form_named name ≡ Some form
-  is_made : IsMade form givens command
+  is_made : IsMade form arguments command
 
-named_in : (name : List ℕ) (givens : List (List ℕ)) (command : Command) (o : Option Form) → form_named name ≡ o
-    → option_and_then (λ form. command_with form givens) o ≡ Some command → IsNamed name givens command
-named_in name givens command None named is = cc
-named_in name givens command (Some form) named is = record { form = form; named = named; is_made = made_with form givens command is }
+named_in : (name : List ℕ) (arguments : List (List ℕ)) (command : Command) (o : Option Form) → form_named name ≡ o
+    → option_and_then (λ form. command_with form arguments) o ≡ Some command → IsNamed name arguments command
+named_in name arguments command None named is = cc
+named_in name arguments command (Some form) named is = record { form = form; named = named; is_made = made_with form arguments command is }
 
-named_with : (name : List ℕ) (givens : List (List ℕ)) (command : Command) → command_of (name ∷ givens) ≡ Some command → IsNamed name givens command
+named_with : (name : List ℕ) (arguments : List (List ℕ)) (command : Command) → command_of (name ∷ arguments) ≡ Some command → IsNamed name arguments command
 unfolding form_with
-named_with name givens command is =
-    named_in name givens command (form_named name) refl (passed (list_all is_word givens) (form_of name givens) command is).1
+named_with name arguments command is =
+    named_in name arguments command (form_named name) refl (passed (list_all is_word arguments) (form_of name arguments) command is).1
 
 -- ---- the laws
 
 pub created_differ : (words : List (List ℕ)) (command : Command) → command_of words ≡ Some command → are_different (created_names command) ≡ true
 created_differ [] command is = cc
-created_differ (name ∷ givens) command is = (named_with name givens command is).is_made.different
+created_differ (name ∷ arguments) command is = (named_with name arguments command is).is_made.different
 
 pub numbers_are : (words : List (List ℕ)) (command : Command) → command_of words ≡ Some command → is_number_if_there (number_word command) ≡ true
 numbers_are [] command is = cc
-numbers_are (name ∷ givens) command is = (named_with name givens command is).is_made.number
+numbers_are (name ∷ arguments) command is = (named_with name arguments command is).is_made.number
 
-pub created_listed : (name : List ℕ) (givens : List (List ℕ)) (command : Command) → command_of (name ∷ givens) ≡ Some command
-    → option_map (λ form. created_by form givens) (form_named name) ≡ Some (created_names command)
-created_listed name givens command is =
-    let h = named_with name givens command is in
-    ap (option_map (λ form. created_by form givens)) h.named ∙ ap Some h.is_made.listed.created
+pub created_listed : (name : List ℕ) (arguments : List (List ℕ)) (command : Command) → command_of (name ∷ arguments) ≡ Some command
+    → option_map (λ form. created_by form arguments) (form_named name) ≡ Some (created_names command)
+created_listed name arguments command is =
+    let h = named_with name arguments command is in
+    ap (option_map (λ form. created_by form arguments)) h.named ∙ ap Some h.is_made.listed.created
 
-pub read_listed : (name : List ℕ) (givens : List (List ℕ)) (command : Command) → command_of (name ∷ givens) ≡ Some command
-    → option_map (λ form. read_in (words_of form) givens) (form_named name) ≡ Some (read_names command)
-read_listed name givens command is =
-    let h = named_with name givens command is in
-    ap (option_map (λ form. read_in (words_of form) givens)) h.named ∙ ap Some h.is_made.listed.read
+pub read_listed : (name : List ℕ) (arguments : List (List ℕ)) (command : Command) → command_of (name ∷ arguments) ≡ Some command
+    → option_map (λ form. read_in (words_of form) arguments) (form_named name) ≡ Some (read_names command)
+read_listed name arguments command is =
+    let h = named_with name arguments command is in
+    ap (option_map (λ form. read_in (words_of form) arguments)) h.named ∙ ap Some h.is_made.listed.read
 
 -- ---- the same of the single commands, name by name
 

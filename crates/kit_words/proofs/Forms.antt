@@ -10,7 +10,7 @@ use Rattle.clap.proofs.OnLiterals.{clap_on_literals}
 use Rattle.clap.specs.declared.error.kind.ErrorKind.{ErrorKind}
 use Rattle.clap.specs.declared.error.kind.ErrorKind.TheVariants as kind
 use Rattle.kit_words.specs.declared.conversion.Conversion.TheVariants.{Migrate, Assemble, Disassemble}
-use Rattle.kit_words.specs.Forms.{Form, Builds, Checks, Converts, Runs, Plays, Traces, Generates, are_as_many, form_named, forms, is_word, name_of, words_of}
+use Rattle.kit_words.specs.Forms.{Form, Builds, Checks, Converts, Runs, Plays, Traces, Generates, are_as_many, created_by, form_named, forms, is_word, name_of, number_in, words_of}
 use Rattle.kit_words.specs.Command.{command_of, command_with, form_of, form_with, made, tested}
 use Rattle.kit_words.specs.CommandLine.{command_in, command_line, form_in, form_shape, given, given_to, ids_of}
 use Rattle.kit_words.proofs.Plain.{form_faults, form_faults_are, form_rows_are, is_flat, plain_faults, plain_walk}
@@ -60,7 +60,7 @@ module _ (form : Form) (of : IsKnown form) (words : List Text) (plain : list_all
       (ap command_in (named_rows (name_of form) (sub form) words of.named of.found) ∙ ap (form_in (name_of form)) (form_rows_are (sub form) words of.flat plain)
       ∙ listed_in (rows_for form words) ∙ ap (option_and_then (command_with form)) same ∙ sym made_of)
   form_answer (Other k some differ) = Refused k [] (faults ∙ ap (λ ks. or_else ks []) some)
-      (made_of ∙ ap (λ b. if b then tested (Rattle.kit_words.specs.Forms.number_in (words_of form) words) (Rattle.kit_words.specs.Forms.created_by form words) (made form words) else None) differ)
+      (made_of ∙ ap (λ b. if b then tested (number_in (words_of form) words) (created_by form words) (made form words) else None) differ)
 
 -- what is shown of each form
 pub record IsGood (form : Form) : Type 0 where

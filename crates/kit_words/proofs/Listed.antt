@@ -17,7 +17,7 @@ named_form Plays = refl
 named_form Traces = refl
 named_form Generates = refl
 
-pub made_as_many : (form : Form) (givens : List (List ℕ)) → is_some (made form givens) ≡ are_as_many (words_of form) givens
+pub made_as_many : (form : Form) (arguments : List (List ℕ)) → is_some (made form arguments) ≡ are_as_many (words_of form) arguments
 made_as_many Builds (project ∷ cart ∷ map_name ∷ []) = refl
 made_as_many Checks (project ∷ []) = refl
 made_as_many (Converts conversion) (source ∷ target ∷ []) = refl
@@ -25,4 +25,4 @@ made_as_many Runs (cart ∷ pads ∷ frames ∷ samples ∷ count ∷ card ∷ [
 made_as_many Plays (project ∷ cart ∷ map_name ∷ pads ∷ frames ∷ samples ∷ count ∷ card ∷ []) = refl
 made_as_many Traces (cart ∷ answers ∷ card ∷ steps ∷ []) = refl
 made_as_many Generates (number ∷ project ∷ cart ∷ map_name ∷ []) = refl
-made_as_many form givens = refl
+made_as_many form arguments = refl

@@ -45,27 +45,27 @@ made Plays (project ∷ cart ∷ map_name ∷ pads ∷ frames ∷ samples ∷ co
     Some (Play project map_name (record { cart = cart; pads = pads; frames = frames; samples = samples; count = count; card = card_of card }))
 made Traces (cart ∷ answers ∷ card ∷ steps ∷ []) = Some (Trace cart answers (card_of card) steps)
 made Generates (number ∷ project ∷ cart ∷ map_name ∷ []) = Some (Gen number project cart map_name)
-made form givens = None
+made form arguments = None
 
 abbrev pub is_number_if_there : Option (List ℕ) → Bool
 is_number_if_there None = true
-is_number_if_there (Some given) = is_number given
+is_number_if_there (Some argument) = is_number argument
 
 -- the number is one, and the created names are pairwise different
 unfoldable pub tested : (number : Option (List ℕ)) → (created : List (List ℕ)) → Option Command → Option Command
 tested number created command = if is_number_if_there number && are_different created then command else None
 
 abbrev pub command_with : Form → List (List ℕ) → Option Command
-command_with form givens =
-    if are_as_many (words_of form) givens then tested (number_in (words_of form) givens) (created_by form givens) (made form givens) else None
+command_with form arguments =
+    if are_as_many (words_of form) arguments then tested (number_in (words_of form) arguments) (created_by form arguments) (made form arguments) else None
 
-abbrev pub form_of : (name : List ℕ) → (givens : List (List ℕ)) → Option Command
-form_of name givens = option_and_then (λ form. command_with form givens) (form_named name)
+abbrev pub form_of : (name : List ℕ) → (arguments : List (List ℕ)) → Option Command
+form_of name arguments = option_and_then (λ form. command_with form arguments) (form_named name)
 
-unfoldable pub form_with : (name : List ℕ) → (givens : List (List ℕ)) → Option Command
-form_with name givens = if list_all is_word givens then form_of name givens else None
+unfoldable pub form_with : (name : List ℕ) → (arguments : List (List ℕ)) → Option Command
+form_with name arguments = if list_all is_word arguments then form_of name arguments else None
 
 -- the command of the words after the program's own name; any others are a usage error
 abbrev pub command_of : List (List ℕ) → Option Command
 command_of [] = None
-command_of (name ∷ givens) = form_with name givens
+command_of (name ∷ arguments) = form_with name arguments

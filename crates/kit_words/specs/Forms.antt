@@ -99,24 +99,24 @@ is_word (first ∷ rest) = not (first == 45)
 -- there are exactly as many words as the form lists
 abbrev pub are_as_many : List Word → List (List ℕ) → Bool
 are_as_many [] [] = true
-are_as_many (word ∷ words) (given ∷ rest) = are_as_many words rest
-are_as_many words givens = false
+are_as_many (word ∷ words) (argument ∷ rest) = are_as_many words rest
+are_as_many words arguments = false
 
 -- decimal digits, as many as one likes
 abbrev pub is_digit : ℕ → Bool
 is_digit byte = nat_le 48 byte && nat_le byte 57
 
 abbrev pub is_number : List ℕ → Bool
-is_number given = list_all is_digit given
+is_number argument = list_all is_digit argument
 
 -- the word that has to be a number, where there is one
-abbrev pub or_number : Role → List ℕ → Option (List ℕ) → Option (List ℕ)
-or_number (Number least greatest) given later = Some given
-or_number role given later = later
+abbrev pub with_number : Role → List ℕ → Option (List ℕ) → Option (List ℕ)
+with_number (Number least greatest) argument later = Some argument
+with_number role argument later = later
 
 abbrev pub number_in : List Word → List (List ℕ) → Option (List ℕ)
-number_in (word ∷ words) (given ∷ rest) = or_number word.role given (number_in words rest)
-number_in words givens = None
+number_in (word ∷ words) (argument ∷ rest) = with_number word.role argument (number_in words rest)
+number_in words arguments = None
 
 abbrev pub in_range : Role → ℕ → Bool
 in_range (Number least greatest) number = nat_le least number && nat_le number greatest
@@ -124,34 +124,34 @@ in_range role number = true
 
 -- a card's file, where there is one, before other names
 abbrev pub card_of : List ℕ → Option (List ℕ)
-card_of given = if bytes_eq given (codes "none") then None else Some given
+card_of argument = if bytes_eq argument (codes "none") then None else Some argument
 
 abbrev pub with_card : Option (List ℕ) → List (List ℕ) → List (List ℕ)
 with_card None names = names
 with_card (Some card) names = card ∷ names
 
 -- the names of files that are created
-abbrev pub or_created : Role → List ℕ → List (List ℕ) → List (List ℕ)
-or_created Creates given later = given ∷ later
-or_created (Card true) given later = with_card (card_of given) later
-or_created role given later = later
+abbrev pub with_created : Role → List ℕ → List (List ℕ) → List (List ℕ)
+with_created Creates argument later = argument ∷ later
+with_created (Card true) argument later = with_card (card_of argument) later
+with_created role argument later = later
 
 abbrev pub created_in : List Word → List (List ℕ) → List (List ℕ)
-created_in (word ∷ words) (given ∷ rest) = or_created word.role given (created_in words rest)
-created_in words givens = []
+created_in (word ∷ words) (argument ∷ rest) = with_created word.role argument (created_in words rest)
+created_in words arguments = []
 
 abbrev pub created_by : Form → List (List ℕ) → List (List ℕ)
-created_by form givens = own_names form ++ created_in (words_of form) givens
+created_by form arguments = own_names form ++ created_in (words_of form) arguments
 
 -- the names of files that are read, as far as the words alone tell
-abbrev pub or_read : Role → List ℕ → List (List ℕ) → List (List ℕ)
-or_read Reads given later = given ∷ later
-or_read (Card is_created) given later = with_card (card_of given) later
-or_read role given later = later
+abbrev pub with_read : Role → List ℕ → List (List ℕ) → List (List ℕ)
+with_read Reads argument later = argument ∷ later
+with_read (Card is_created) argument later = with_card (card_of argument) later
+with_read role argument later = later
 
 abbrev pub read_in : List Word → List (List ℕ) → List (List ℕ)
-read_in (word ∷ words) (given ∷ rest) = or_read word.role given (read_in words rest)
-read_in words givens = []
+read_in (word ∷ words) (argument ∷ rest) = with_read word.role argument (read_in words rest)
+read_in words arguments = []
 
 -- no two of the names are spelled alike
 abbrev pub differs_from : List ℕ → List (List ℕ) → Bool

@@ -66,7 +66,7 @@ pub enum Command<'a> {
 }
 
 /// The file of the source that `gen` makes up.
-const SOURCE_NAME: &str = "gen.c";
+pub const SOURCE_NAME: &str = "gen.c";
 
 /// Whether an argument may be a name or a number.
 fn is_word(word: &str) -> bool

@@ -1,6 +1,6 @@
--- The words of each form: as many as it has arguments make its command, and others are a fault.
-use Rattle.std.proofs.Common.{◌≡◌, ◌∙◌, true, List, [], ◌∷◌, Some, None, refl, sym, ap, codes}
-use Rattle.std.specs.Prelude.{if◌then◌else◌, find}
+-- The words of each form: as many as it lists make its command, and others are a fault.
+use Rattle.std.proofs.Common.{◌≡◌, ◌∙◌, true, false, List, [], ◌∷◌, Some, None, refl, sym, ap}
+use Rattle.std.specs.Prelude.{if◌then◌else◌, find, option_and_then}
 use Rattle.std.specs.List.{list_all}
 use Rattle.clap.specs.Walk.{finished, Row, Text, answers_to, idle, nothing_held, subcommand_met}
 use Rattle.clap.specs.Kinds.{Kinds, or_else}
@@ -9,10 +9,10 @@ use Rattle.clap.specs.Simple.{built_leaf, inherited, Shape, label_of, subcommand
 use Rattle.clap.proofs.OnLiterals.{clap_on_literals}
 use Rattle.clap.specs.declared.error.kind.ErrorKind.{ErrorKind}
 use Rattle.clap.specs.declared.error.kind.ErrorKind.TheVariants as kind
-use Rattle.kit_words.specs.declared.conversion.Conversion.{Conversion}
 use Rattle.kit_words.specs.declared.conversion.Conversion.TheVariants.{Migrate, Assemble, Disassemble}
-use Rattle.kit_words.specs.Command.{convert_form, is_word, command_of, form_of, form_with, converting_form_of}
-use Rattle.kit_words.specs.CommandLine.{build_ids, check_ids, convert_ids, play_ids, trace_ids, run_ids, command_in, convert_in, command_line, converting_in, form, form_in}
+use Rattle.kit_words.specs.Forms.{Form, Builds, Checks, Converts, Runs, Plays, Traces, Generates, are_as_many, created_by, form_named, forms, is_word, name_of, number_in, words_of}
+use Rattle.kit_words.specs.Command.{command_of, command_with, form_of, form_with, made, tested}
+use Rattle.kit_words.specs.CommandLine.{command_in, command_line, form_in, form_shape, given, given_to, ids_of}
 use Rattle.kit_words.proofs.Plain.{form_faults, form_faults_are, form_rows_are, is_flat, plain_faults, plain_walk}
 use Rattle.kit_words.proofs.FirstWord.{app, names, named_fault, named_rows}
 
@@ -22,129 +22,169 @@ pub data Answer (words : List Text) : Type 0 where
   Refused : (kind : ErrorKind) (kinds : Kinds) → fault_of command_line words ≡ kind ∷ kinds → command_of words ≡ None → Answer words
 
 -- a form as it is built
-abbrev pub sub : Text → List Text → Shape
-sub name ids = built_leaf (inherited command_line.top (form name ids))
+abbrev pub sub : Form → Shape
+sub form = built_leaf (inherited command_line.top (form_shape (name_of form) (ids_of form)))
 
-abbrev rows_for : Shape → List Text → List Row
-rows_for s words = finished s.rules (plain_walk s.rules nothing_held 1 words)
+abbrev rows_for : Form → List Text → List Row
+rows_for form words = finished (sub form).rules (plain_walk (sub form).rules nothing_held 1 words)
 
 pub form_of_words : (name : Text) (words : List Text) → list_all is_word words ≡ true → command_of (name ∷ words) ≡ form_of name words
 unfolding form_with
 form_of_words name words e = ap (λ b. if b then form_of name words else None) e
 
--- the form of that name has these arguments
-pub record IsForm (name : Text) (ids : List Text) : Type 0 where
-  pub named : subcommand_met names idle name ≡ Some name
-  pub found : find (λ x. answers_to name (label_of x)) app.subs ≡ Some (sub name ids)
-  pub flat : list_all is_flat (sub name ids).rules ≡ true
+-- the parser and the table know the form by its name
+pub record IsKnown (form : Form) : Type 0 where
+  pub named : subcommand_met names idle (name_of form) ≡ Some (name_of form)
+  pub found : find (λ x. answers_to (name_of form) (label_of x)) app.subs ≡ Some (sub form)
+  pub flat : list_all is_flat (sub form).rules ≡ true
+  pub listed : form_named (name_of form) ≡ Some form
 
-module _ {name : Text} {ids : List Text} (of : IsForm name ids) (words : List Text) (plain : list_all is_word words ≡ true) where
-  faults : fault_of command_line (name ∷ words) ≡ or_else (form_faults (sub name ids) words) []
-  faults = named_fault name (sub name ids) words of.named of.found ∙ ap (λ ks. or_else ks []) (form_faults_are (sub name ids) words of.flat plain)
+-- the words are those of the arguments, or they are a fault and not as many
+pub data Fits (form : Form) (words : List Text) : Type 0 where
+  Exact : form_faults (sub form) words ≡ [] → given (ids_of form) (rows_for form words) ≡ Some words → Fits form words
+  Other : (k : ErrorKind) → form_faults (sub form) words ≡ k ∷ [] → are_as_many (words_of form) words ≡ false → Fits form words
 
-  taken : form_faults (sub name ids) words ≡ [] → form_in name (rows_for (sub name ids) words) ≡ form_of name words → Answer (name ∷ words)
-  taken none same = Taken (faults ∙ ap (λ ks. or_else ks []) none)
-      (ap command_in (named_rows name (sub name ids) words of.named of.found) ∙ ap (form_in name) (form_rows_are (sub name ids) words of.flat plain)
-      ∙ same ∙ sym (form_of_words name words plain))
+module _ (form : Form) (of : IsKnown form) (words : List Text) (plain : list_all is_word words ≡ true) where
+  faults : fault_of command_line (name_of form ∷ words) ≡ or_else (form_faults (sub form) words) []
+  faults = named_fault (name_of form) (sub form) words of.named of.found ∙ ap (λ ks. or_else ks []) (form_faults_are (sub form) words of.flat plain)
 
-  refused : (k : ErrorKind) → form_faults (sub name ids) words ≡ k ∷ [] → form_of name words ≡ None → Answer (name ∷ words)
-  refused k some none = Refused k [] (faults ∙ ap (λ ks. or_else ks []) some) (form_of_words name words plain ∙ none)
+  made_of : command_of (name_of form ∷ words) ≡ command_with form words
+  made_of = form_of_words (name_of form) words plain ∙ ap (option_and_then (λ f. command_with f words)) of.listed
 
-build : IsForm (codes "build") build_ids
-build = record { named = refl; found = refl; flat = refl }
+  listed_in : (rows : List Row) → form_in (name_of form) rows ≡ given_to form rows
+  unfolding form_in
+  listed_in rows = ap (option_and_then (λ f. given_to f rows)) of.listed
 
-pub build_answer : (words : List Text) → list_all is_word words ≡ true → Answer (codes "build" ∷ words)
-unfolding clap_on_literals plain_walk plain_faults form_of form_in
-build_answer [] e = refused build [] e kind.MissingRequiredArgument refl refl
-build_answer (a ∷ []) e = refused build (a ∷ []) e kind.MissingRequiredArgument refl refl
-build_answer (a ∷ b ∷ []) e = refused build (a ∷ b ∷ []) e kind.MissingRequiredArgument refl refl
-build_answer (a ∷ b ∷ c ∷ []) e = taken build (a ∷ b ∷ c ∷ []) e refl refl
-build_answer (a ∷ b ∷ c ∷ d ∷ rest) e = refused build (a ∷ b ∷ c ∷ d ∷ rest) e kind.UnknownArgument refl refl
+  pub form_answer : Fits form words → Answer (name_of form ∷ words)
+  form_answer (Exact none same) = Taken (faults ∙ ap (λ ks. or_else ks []) none)
+      (ap command_in (named_rows (name_of form) (sub form) words of.named of.found) ∙ ap (form_in (name_of form)) (form_rows_are (sub form) words of.flat plain)
+      ∙ listed_in (rows_for form words) ∙ ap (option_and_then (command_with form)) same ∙ sym made_of)
+  form_answer (Other k some differ) = Refused k [] (faults ∙ ap (λ ks. or_else ks []) some)
+      (made_of ∙ ap (λ b. if b then tested (number_in (words_of form) words) (created_by form words) (made form words) else None) differ)
 
-trace : IsForm (codes "trace") trace_ids
-trace = record { named = refl; found = refl; flat = refl }
+-- what is shown of each form
+pub record IsGood (form : Form) : Type 0 where
+  pub known : IsKnown form
+  pub fits : (words : List Text) → Fits form words
 
-pub trace_answer : (words : List Text) → list_all is_word words ≡ true → Answer (codes "trace" ∷ words)
-unfolding clap_on_literals plain_walk plain_faults form_of form_in
-trace_answer [] e = refused trace [] e kind.MissingRequiredArgument refl refl
-trace_answer (a ∷ []) e = refused trace (a ∷ []) e kind.MissingRequiredArgument refl refl
-trace_answer (a ∷ b ∷ []) e = refused trace (a ∷ b ∷ []) e kind.MissingRequiredArgument refl refl
-trace_answer (a ∷ b ∷ c ∷ []) e = refused trace (a ∷ b ∷ c ∷ []) e kind.MissingRequiredArgument refl refl
-trace_answer (a ∷ b ∷ c ∷ d ∷ []) e = taken trace (a ∷ b ∷ c ∷ d ∷ []) e refl refl
-trace_answer (a ∷ b ∷ c ∷ d ∷ f ∷ rest) e = refused trace (a ∷ b ∷ c ∷ d ∷ f ∷ rest) e kind.UnknownArgument refl refl
-
-run : IsForm (codes "run") run_ids
-run = record { named = refl; found = refl; flat = refl }
-
-pub run_answer : (words : List Text) → list_all is_word words ≡ true → Answer (codes "run" ∷ words)
-unfolding clap_on_literals plain_walk plain_faults form_of form_in
-run_answer [] e = refused run [] e kind.MissingRequiredArgument refl refl
-run_answer (a ∷ []) e = refused run (a ∷ []) e kind.MissingRequiredArgument refl refl
-run_answer (a ∷ b ∷ []) e = refused run (a ∷ b ∷ []) e kind.MissingRequiredArgument refl refl
-run_answer (a ∷ b ∷ c ∷ []) e = refused run (a ∷ b ∷ c ∷ []) e kind.MissingRequiredArgument refl refl
-run_answer (a ∷ b ∷ c ∷ d ∷ []) e = refused run (a ∷ b ∷ c ∷ d ∷ []) e kind.MissingRequiredArgument refl refl
-run_answer (a ∷ b ∷ c ∷ d ∷ f ∷ []) e = refused run (a ∷ b ∷ c ∷ d ∷ f ∷ []) e kind.MissingRequiredArgument refl refl
-run_answer (a ∷ b ∷ c ∷ d ∷ f ∷ g ∷ []) e = taken run (a ∷ b ∷ c ∷ d ∷ f ∷ g ∷ []) e refl refl
-run_answer (a ∷ b ∷ c ∷ d ∷ f ∷ g ∷ h ∷ rest) e = refused run (a ∷ b ∷ c ∷ d ∷ f ∷ g ∷ h ∷ rest) e kind.UnknownArgument refl refl
-
-play : IsForm (codes "play") play_ids
-play = record { named = refl; found = refl; flat = refl }
-
-pub play_answer : (words : List Text) → list_all is_word words ≡ true → Answer (codes "play" ∷ words)
-unfolding clap_on_literals plain_walk plain_faults form_of form_in
-play_answer [] e = refused play [] e kind.MissingRequiredArgument refl refl
-play_answer (a ∷ []) e = refused play (a ∷ []) e kind.MissingRequiredArgument refl refl
-play_answer (a ∷ b ∷ []) e = refused play (a ∷ b ∷ []) e kind.MissingRequiredArgument refl refl
-play_answer (a ∷ b ∷ c ∷ []) e = refused play (a ∷ b ∷ c ∷ []) e kind.MissingRequiredArgument refl refl
-play_answer (a ∷ b ∷ c ∷ d ∷ []) e = refused play (a ∷ b ∷ c ∷ d ∷ []) e kind.MissingRequiredArgument refl refl
-play_answer (a ∷ b ∷ c ∷ d ∷ f ∷ []) e = refused play (a ∷ b ∷ c ∷ d ∷ f ∷ []) e kind.MissingRequiredArgument refl refl
-play_answer (a ∷ b ∷ c ∷ d ∷ f ∷ g ∷ []) e = refused play (a ∷ b ∷ c ∷ d ∷ f ∷ g ∷ []) e kind.MissingRequiredArgument refl refl
-play_answer (a ∷ b ∷ c ∷ d ∷ f ∷ g ∷ h ∷ []) e = refused play (a ∷ b ∷ c ∷ d ∷ f ∷ g ∷ h ∷ []) e kind.MissingRequiredArgument refl refl
-play_answer (a ∷ b ∷ c ∷ d ∷ f ∷ g ∷ h ∷ i ∷ []) e = taken play (a ∷ b ∷ c ∷ d ∷ f ∷ g ∷ h ∷ i ∷ []) e refl refl
-play_answer (a ∷ b ∷ c ∷ d ∷ f ∷ g ∷ h ∷ i ∷ j ∷ rest) e = refused play (a ∷ b ∷ c ∷ d ∷ f ∷ g ∷ h ∷ i ∷ j ∷ rest) e kind.UnknownArgument refl refl
-
-check : IsForm (codes "check") check_ids
-check = record { named = refl; found = refl; flat = refl }
-
-pub check_answer : (words : List Text) → list_all is_word words ≡ true → Answer (codes "check" ∷ words)
-unfolding clap_on_literals plain_walk plain_faults form_of form_in
-check_answer [] e = refused check [] e kind.MissingRequiredArgument refl refl
-check_answer (a ∷ []) e = taken check (a ∷ []) e refl refl
-check_answer (a ∷ b ∷ rest) e = refused check (a ∷ b ∷ rest) e kind.UnknownArgument refl refl
-
--- this name's form makes one file of another
-pub record Converts (name : Text) (conversion : Conversion) : Type 0 where
-  pub is_form : IsForm name convert_ids
-  pub in_rows : (rows : List Row) → form_in name rows ≡ convert_in conversion rows
-  pub of_words : (words : List Text) → form_of name words ≡ convert_form conversion words
-
-pub convert_answer : (name : Text) (conversion : Conversion) → Converts name conversion → (words : List Text) → list_all is_word words ≡ true → Answer (name ∷ words)
+build_fits : (words : List Text) → Fits Builds words
 unfolding clap_on_literals plain_walk plain_faults
-convert_answer name conversion of [] e = refused of.is_form [] e kind.MissingRequiredArgument refl (of.of_words [])
-convert_answer name conversion of (a ∷ []) e = refused of.is_form (a ∷ []) e kind.MissingRequiredArgument refl (of.of_words (a ∷ []))
-convert_answer name conversion of (a ∷ b ∷ []) e = taken of.is_form (a ∷ b ∷ []) e refl (of.in_rows _ ∙ sym (of.of_words (a ∷ b ∷ [])))
-convert_answer name conversion of (a ∷ b ∷ c ∷ rest) e = refused of.is_form (a ∷ b ∷ c ∷ rest) e kind.UnknownArgument refl (of.of_words (a ∷ b ∷ c ∷ rest))
+build_fits [] = Other kind.MissingRequiredArgument refl refl
+build_fits (a ∷ []) = Other kind.MissingRequiredArgument refl refl
+build_fits (a ∷ b ∷ []) = Other kind.MissingRequiredArgument refl refl
+build_fits (a ∷ b ∷ c ∷ []) = Exact refl refl
+build_fits (a ∷ b ∷ c ∷ d ∷ rest) = Other kind.UnknownArgument refl refl
 
-pub migrates : Converts (codes "migrate") Migrate
-unfolding form_of form_in converting_form_of converting_in
-migrates = record {
-  is_form = record { named = refl; found = refl; flat = refl };
-  in_rows = λ rows. refl;
-  of_words = λ words. refl;
-}
+pub build_good : IsGood Builds
+unfolding form_named
+build_good = record { known = record { named = refl; found = refl; flat = refl; listed = refl }; fits = build_fits }
 
-pub assembles : Converts (codes "asm") Assemble
-unfolding form_of form_in converting_form_of converting_in
-assembles = record {
-  is_form = record { named = refl; found = refl; flat = refl };
-  in_rows = λ rows. refl;
-  of_words = λ words. refl;
-}
+check_fits : (words : List Text) → Fits Checks words
+unfolding clap_on_literals plain_walk plain_faults
+check_fits [] = Other kind.MissingRequiredArgument refl refl
+check_fits (a ∷ []) = Exact refl refl
+check_fits (a ∷ b ∷ rest) = Other kind.UnknownArgument refl refl
 
-pub disassembles : Converts (codes "dis") Disassemble
-unfolding form_of form_in converting_form_of converting_in
-disassembles = record {
-  is_form = record { named = refl; found = refl; flat = refl };
-  in_rows = λ rows. refl;
-  of_words = λ words. refl;
-}
+pub check_good : IsGood Checks
+unfolding form_named
+check_good = record { known = record { named = refl; found = refl; flat = refl; listed = refl }; fits = check_fits }
+
+run_fits : (words : List Text) → Fits Runs words
+unfolding clap_on_literals plain_walk plain_faults
+run_fits [] = Other kind.MissingRequiredArgument refl refl
+run_fits (a ∷ []) = Other kind.MissingRequiredArgument refl refl
+run_fits (a ∷ b ∷ []) = Other kind.MissingRequiredArgument refl refl
+run_fits (a ∷ b ∷ c ∷ []) = Other kind.MissingRequiredArgument refl refl
+run_fits (a ∷ b ∷ c ∷ d ∷ []) = Other kind.MissingRequiredArgument refl refl
+run_fits (a ∷ b ∷ c ∷ d ∷ f ∷ []) = Other kind.MissingRequiredArgument refl refl
+run_fits (a ∷ b ∷ c ∷ d ∷ f ∷ g ∷ []) = Exact refl refl
+run_fits (a ∷ b ∷ c ∷ d ∷ f ∷ g ∷ h ∷ rest) = Other kind.UnknownArgument refl refl
+
+pub run_good : IsGood Runs
+unfolding form_named
+run_good = record { known = record { named = refl; found = refl; flat = refl; listed = refl }; fits = run_fits }
+
+play_fits : (words : List Text) → Fits Plays words
+unfolding clap_on_literals plain_walk plain_faults
+play_fits [] = Other kind.MissingRequiredArgument refl refl
+play_fits (a ∷ []) = Other kind.MissingRequiredArgument refl refl
+play_fits (a ∷ b ∷ []) = Other kind.MissingRequiredArgument refl refl
+play_fits (a ∷ b ∷ c ∷ []) = Other kind.MissingRequiredArgument refl refl
+play_fits (a ∷ b ∷ c ∷ d ∷ []) = Other kind.MissingRequiredArgument refl refl
+play_fits (a ∷ b ∷ c ∷ d ∷ f ∷ []) = Other kind.MissingRequiredArgument refl refl
+play_fits (a ∷ b ∷ c ∷ d ∷ f ∷ g ∷ []) = Other kind.MissingRequiredArgument refl refl
+play_fits (a ∷ b ∷ c ∷ d ∷ f ∷ g ∷ h ∷ []) = Other kind.MissingRequiredArgument refl refl
+play_fits (a ∷ b ∷ c ∷ d ∷ f ∷ g ∷ h ∷ i ∷ []) = Exact refl refl
+play_fits (a ∷ b ∷ c ∷ d ∷ f ∷ g ∷ h ∷ i ∷ j ∷ rest) = Other kind.UnknownArgument refl refl
+
+pub play_good : IsGood Plays
+unfolding form_named
+play_good = record { known = record { named = refl; found = refl; flat = refl; listed = refl }; fits = play_fits }
+
+trace_fits : (words : List Text) → Fits Traces words
+unfolding clap_on_literals plain_walk plain_faults
+trace_fits [] = Other kind.MissingRequiredArgument refl refl
+trace_fits (a ∷ []) = Other kind.MissingRequiredArgument refl refl
+trace_fits (a ∷ b ∷ []) = Other kind.MissingRequiredArgument refl refl
+trace_fits (a ∷ b ∷ c ∷ []) = Other kind.MissingRequiredArgument refl refl
+trace_fits (a ∷ b ∷ c ∷ d ∷ []) = Exact refl refl
+trace_fits (a ∷ b ∷ c ∷ d ∷ f ∷ rest) = Other kind.UnknownArgument refl refl
+
+pub trace_good : IsGood Traces
+unfolding form_named
+trace_good = record { known = record { named = refl; found = refl; flat = refl; listed = refl }; fits = trace_fits }
+
+gen_fits : (words : List Text) → Fits Generates words
+unfolding clap_on_literals plain_walk plain_faults
+gen_fits [] = Other kind.MissingRequiredArgument refl refl
+gen_fits (a ∷ []) = Other kind.MissingRequiredArgument refl refl
+gen_fits (a ∷ b ∷ []) = Other kind.MissingRequiredArgument refl refl
+gen_fits (a ∷ b ∷ c ∷ []) = Other kind.MissingRequiredArgument refl refl
+gen_fits (a ∷ b ∷ c ∷ d ∷ []) = Exact refl refl
+gen_fits (a ∷ b ∷ c ∷ d ∷ f ∷ rest) = Other kind.UnknownArgument refl refl
+
+pub gen_good : IsGood Generates
+unfolding form_named
+gen_good = record { known = record { named = refl; found = refl; flat = refl; listed = refl }; fits = gen_fits }
+
+migrate_fits : (words : List Text) → Fits (Converts Migrate) words
+unfolding clap_on_literals plain_walk plain_faults
+migrate_fits [] = Other kind.MissingRequiredArgument refl refl
+migrate_fits (a ∷ []) = Other kind.MissingRequiredArgument refl refl
+migrate_fits (a ∷ b ∷ []) = Exact refl refl
+migrate_fits (a ∷ b ∷ c ∷ rest) = Other kind.UnknownArgument refl refl
+
+pub migrate_good : IsGood (Converts Migrate)
+unfolding form_named
+migrate_good = record { known = record { named = refl; found = refl; flat = refl; listed = refl }; fits = migrate_fits }
+
+assemble_fits : (words : List Text) → Fits (Converts Assemble) words
+unfolding clap_on_literals plain_walk plain_faults
+assemble_fits [] = Other kind.MissingRequiredArgument refl refl
+assemble_fits (a ∷ []) = Other kind.MissingRequiredArgument refl refl
+assemble_fits (a ∷ b ∷ []) = Exact refl refl
+assemble_fits (a ∷ b ∷ c ∷ rest) = Other kind.UnknownArgument refl refl
+
+pub assemble_good : IsGood (Converts Assemble)
+unfolding form_named
+assemble_good = record { known = record { named = refl; found = refl; flat = refl; listed = refl }; fits = assemble_fits }
+
+disassemble_fits : (words : List Text) → Fits (Converts Disassemble) words
+unfolding clap_on_literals plain_walk plain_faults
+disassemble_fits [] = Other kind.MissingRequiredArgument refl refl
+disassemble_fits (a ∷ []) = Other kind.MissingRequiredArgument refl refl
+disassemble_fits (a ∷ b ∷ []) = Exact refl refl
+disassemble_fits (a ∷ b ∷ c ∷ rest) = Other kind.UnknownArgument refl refl
+
+pub disassemble_good : IsGood (Converts Disassemble)
+unfolding form_named
+disassemble_good = record { known = record { named = refl; found = refl; flat = refl; listed = refl }; fits = disassemble_fits }
+
+-- of every form in a list
+abbrev pub Each : (Form → Type 0) → List Form → Type 0
+Each P [] = Unit {0}
+Each P (form ∷ later) = P form × Each P later
+
+pub all_good : Each IsGood forms
+all_good =
+    (build_good, (check_good, (migrate_good, (assemble_good, (disassemble_good, (run_good, (play_good, (trace_good, (gen_good, tt)))))))))

@@ -1,8 +1,11 @@
 pub mod AllWords
+pub mod Created
+pub mod Different
 pub mod FirstWord
 pub mod Forms
 pub mod Given
 pub mod Parse
 pub mod Plain
+pub mod Listed
 pub mod Numbers
 pub mod Telling

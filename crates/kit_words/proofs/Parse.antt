@@ -1,10 +1,10 @@
 -- What the parse of the words comes to is the command that they name.
-use Rattle.std.proofs.Common.{◌≡◌, inl, inr, ◌||◌, ◌∙◌, ◌&&◌, Bool, true, false, not, List, [], ◌∷◌, Option, None, refl, sym, ap, subst, codes, true≢false}
-use Rattle.std.specs.Prelude.{if◌then◌else◌, find, option_map}
+use Rattle.std.proofs.Common.{◌≡◌, inl, inr, ◌||◌, ◌∙◌, ◌&&◌, Bool, true, false, not, List, [], ◌∷◌, map, Option, None, refl, sym, ap, subst, true≢false}
+use Rattle.std.specs.Prelude.{if◌then◌else◌, find, option_map, option_and_then}
 use Rattle.std.specs.List.{list_all}
 use Rattle.std.specs.Str.{bytes_eq}
 use Rattle.std.proofs.lemmas.Slice.Eq.{bytes_eq-Decides}
-use Rattle.clap.specs.Walk.{Row, Text, answers_to, idle, subcommand_met}
+use Rattle.clap.specs.Walk.{Row, Text, answers_to}
 use Rattle.clap.specs.Kinds.{HasKind, IsAmong, Kinds}
 use Rattle.clap.specs.Values.{kind_of}
 use Rattle.clap.specs.declared.error.Error.{Error}
@@ -15,11 +15,11 @@ use Rattle.clap.proofs.OnLiterals.{clap_on_literals}
 use Rattle.clap.proofs.WalkLemmas.{both}
 use Rattle.clap.specs.declared.error.kind.ErrorKind.{ErrorKind}
 use Rattle.clap.specs.declared.error.kind.ErrorKind.TheVariants as kind
-use Rattle.kit_words.specs.declared.conversion.Conversion.TheVariants.{Migrate, Assemble, Disassemble}
-use Rattle.kit_words.specs.Command.{is_word, command_of, form_of, form_with, converting_form_of}
+use Rattle.kit_words.specs.Forms.{Form, form_named, forms, is_word, name_of}
+use Rattle.kit_words.specs.Command.{command_of, command_with, form_of, form_with}
 use Rattle.kit_words.specs.CommandLine.{command_in, command_line}
-use Rattle.kit_words.proofs.FirstWord.{names, unmet_fault}
-use Rattle.kit_words.proofs.Forms.{Answer, Taken, Refused, build_answer, trace_answer, run_answer, play_answer, check_answer, convert_answer, migrates, assembles, disassembles, form_of_words}
+use Rattle.kit_words.proofs.FirstWord.{unmet_fault}
+use Rattle.kit_words.proofs.Forms.{Answer, Taken, Refused, Each, IsGood, all_good, form_answer, form_of_words}
 
 pub is_plain_app : is_simple_and_free command_line ≡ true
 is_plain_app = refl
@@ -48,32 +48,29 @@ otherwise b x y z is then_is = ap (λ t. if t then x else y) is ∙ then_is
 not_either : (b : Bool) → b ≡ false → (b || false) ≡ false
 not_either b e = ap (λ t. t || false) e
 
-none_met : (name : Text) → bytes_eq (codes "build") name ≡ false → bytes_eq (codes "trace") name ≡ false → bytes_eq (codes "run") name ≡ false → bytes_eq (codes "play") name ≡ false → bytes_eq (codes "check") name ≡ false
-    → bytes_eq (codes "migrate") name ≡ false → bytes_eq (codes "asm") name ≡ false → bytes_eq (codes "dis") name ≡ false → subcommand_met names idle name ≡ None
-none_met name build trace run play check migrate asm dis =
-    let none : find (answers_to name) names ≡ None = otherwise _ _ _ _ (not_either _ build) (otherwise _ _ _ _ (not_either _ trace) (otherwise _ _ _ _ (not_either _ run)
-    (otherwise _ _ _ _ (not_either _ play) (otherwise _ _ _ _ (not_either _ check) (otherwise _ _ _ _ (not_either _ migrate) (otherwise _ _ _ _ (not_either _ asm) (otherwise _ _ _ _ (not_either _ dis) refl))))))) in
-    ap (option_map (λ s. s.0)) none
+abbrev row : Form → Text × List Text
+row form = (name_of form, [])
 
-none_of : (name : Text) (words : List Text) → bytes_eq name (codes "build") ≡ false → bytes_eq name (codes "trace") ≡ false → bytes_eq name (codes "run") ≡ false → bytes_eq name (codes "play") ≡ false → bytes_eq name (codes "check") ≡ false
-    → bytes_eq name (codes "migrate") ≡ false → bytes_eq name (codes "asm") ≡ false → bytes_eq name (codes "dis") ≡ false → form_of name words ≡ None
-unfolding form_of converting_form_of
-none_of name words build trace run play check migrate asm dis =
-    otherwise _ _ _ _ build (otherwise _ _ _ _ trace (otherwise _ _ _ _ run (otherwise _ _ _ _ play (otherwise _ _ _ _ check (otherwise _ _ _ _ migrate (otherwise _ _ _ _ asm (otherwise _ _ _ _ dis refl)))))))
+-- a form of that name, or none has it
+data Found (name : Text) (among : List Form) : Type 0 where
+  Here : (form : Form) → name_of form ≡ name → IsGood form → Found name among
+  Nowhere : find (λ form. bytes_eq name (name_of form)) among ≡ None → find (answers_to name) (map row among) ≡ None → Found name among
 
-answer_by : (name : Text) (words : List Text) → is_word name ≡ true → list_all is_word words ≡ true → Compared name (codes "build") → Compared name (codes "trace")
-    → Compared name (codes "run") → Compared name (codes "play") → Compared name (codes "check") → Compared name (codes "migrate") → Compared name (codes "asm") → Compared name (codes "dis") → Answer (name ∷ words)
-answer_by name words w e (Same is) _ _ _ _ _ _ _ = subst (λ n. Answer (n ∷ words)) is (build_answer words e)
-answer_by name words w e (Other _ _) (Same is) _ _ _ _ _ _ = subst (λ n. Answer (n ∷ words)) is (trace_answer words e)
-answer_by name words w e (Other _ _) (Other _ _) (Same is) _ _ _ _ _ = subst (λ n. Answer (n ∷ words)) is (run_answer words e)
-answer_by name words w e (Other _ _) (Other _ _) (Other _ _) (Same is) _ _ _ _ = subst (λ n. Answer (n ∷ words)) is (play_answer words e)
-answer_by name words w e (Other _ _) (Other _ _) (Other _ _) (Other _ _) (Same is) _ _ _ = subst (λ n. Answer (n ∷ words)) is (check_answer words e)
-answer_by name words w e (Other _ _) (Other _ _) (Other _ _) (Other _ _) (Other _ _) (Same is) _ _ = subst (λ n. Answer (n ∷ words)) is (convert_answer (codes "migrate") Migrate migrates words e)
-answer_by name words w e (Other _ _) (Other _ _) (Other _ _) (Other _ _) (Other _ _) (Other _ _) (Same is) _ = subst (λ n. Answer (n ∷ words)) is (convert_answer (codes "asm") Assemble assembles words e)
-answer_by name words w e (Other _ _) (Other _ _) (Other _ _) (Other _ _) (Other _ _) (Other _ _) (Other _ _) (Same is) = subst (λ n. Answer (n ∷ words)) is (convert_answer (codes "dis") Disassemble disassembles words e)
-answer_by name words w e (Other build build') (Other trace trace') (Other run run') (Other play play') (Other check check') (Other migrate migrate') (Other asm asm') (Other dis dis') =
-    Refused kind.UnknownArgument (kind.InvalidSubcommand ∷ []) (unmet_fault name words w (none_met name build trace run play check migrate asm dis))
-    (form_of_words name words e ∙ none_of name words build' trace' run' play' check' migrate' asm' dis')
+found_among : (name : Text) (among : List Form) → Each IsGood among → Found name among
+found_among name [] good = Nowhere refl refl
+found_among name (form ∷ later) good = go (compared (name_of form) name) (found_among name later good.1)
+  where
+    go : Compared name (name_of form) → Found name later → Found name (form ∷ later)
+    go (Same is) rest = Here form is good.0
+    go (Other x y) (Here other is of) = Here other is of
+    go (Other x y) (Nowhere none unmet) = Nowhere (otherwise _ _ _ _ y none) (otherwise _ _ _ _ (not_either _ x) unmet)
+
+answer_by : (name : Text) (words : List Text) → is_word name ≡ true → list_all is_word words ≡ true → Found name forms → Answer (name ∷ words)
+unfolding form_named
+answer_by name words w e (Here form is of) = subst (λ n. Answer (n ∷ words)) is (form_answer form of.known words e (of.fits words))
+answer_by name words w e (Nowhere none unmet) =
+    Refused kind.UnknownArgument (kind.InvalidSubcommand ∷ []) (unmet_fault name words w (ap (option_map (λ s. s.0)) unmet))
+    (form_of_words name words e ∙ ap (option_and_then (λ form. command_with form words)) none)
 
 no_words_fault : fault_of command_line [] ≡ kind.MissingSubcommand ∷ []
 unfolding clap_on_literals
@@ -83,8 +80,7 @@ pub answer : (words : List Text) → list_all is_word words ≡ true → Answer 
 answer [] e = Refused kind.MissingSubcommand [] no_words_fault refl
 answer (name ∷ words) e =
     let parts = both (is_word name) _ e in
-    answer_by name words parts.0 parts.1 (compared (codes "build") name) (compared (codes "trace") name) (compared (codes "run") name) (compared (codes "play") name) (compared (codes "check") name)
-    (compared (codes "migrate") name) (compared (codes "asm") name) (compared (codes "dis") name)
+    answer_by name words parts.0 parts.1 (found_among name forms all_good)
 
 -- ---- words that `clap` is not asked
 
@@ -93,7 +89,7 @@ not_false true e = refl
 not_false false e = absurd (true≢false e)
 
 unnamed : (name : Text) (words : List Text) → is_word name ≡ false → form_of name words ≡ None
-unfolding form_of converting_form_of
+unfolding form_named
 unnamed [] words e = refl
 unnamed (x ∷ xs) words e = subst (λ y. form_of (y ∷ xs) words ≡ None) (sym ((Decides-eqb x 45).0 (not_false _ e))) refl
 

@@ -10,7 +10,7 @@ use Rattle.clap.specs.Kinds.{Kinds, or_else}
 use Rattle.clap.specs.Faults.{bundle_fault, flag_word_fault, other_fault, check_fault, defaults_fault, level_fault, settle_fault, step_fault, turn_fault, walk_fault}
 use Rattle.clap.specs.Simple.{Shape}
 use Rattle.clap.proofs.WalkLemmas.{both}
-use Rattle.kit_words.specs.Command.{is_word}
+use Rattle.kit_words.specs.Forms.{is_word}
 
 abbrev pub Pair : Type 0
 Pair = Held × Step

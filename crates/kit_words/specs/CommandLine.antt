@@ -1,45 +1,26 @@
 -- The command line as `clap` is told of it, and the command that its matches give. Only private functions cite these.
-use Rattle.std.specs.Prelude.{true, List, [], ◌∷◌, map, Option, Some, None, option_map, option_and_then, if◌then◌else◌, codes}
-use Rattle.std.specs.Str.{bytes_eq}
+use Rattle.std.specs.Prelude.{true, List, [], ◌∷◌, map, fold, Option, Some, option_map, option_and_then, codes}
 use Rattle.std.specs.Borrow.{Bor}
 use Rattle.clap.specs.Walk.{Row, Rule, Text, first_of}
 use Rattle.clap.specs.Simple.{App, Shape, new_rule, new_shape, with_subcommand}
-use Rattle.kit_words.specs.declared.conversion.Conversion.{Conversion}
 use Rattle.kit_words.specs.declared.conversion.Conversion.TheVariants.{Migrate, Assemble, Disassemble}
-use Rattle.kit_words.specs.Command.{Command, build_form, check_form, convert_form, play_form, run_form, trace_form}
+use Rattle.kit_words.specs.Forms.{Form, Converts, form_named, forms, name_of, words_of}
+use Rattle.kit_words.specs.Command.{Command, command_with, tested}
+use Rattle.kit_words.specs.Created.{created_names, number_word}
 
 -- a required argument that takes one plain text
 abbrev pub required : Text → Rule
 required id = record (new_rule id) { required = true }
 
 -- a form with these arguments, in their order
-abbrev pub form : Text → List Text → Shape
-form name ids = record (new_shape name) { rules = map required ids }
+abbrev pub form_shape : Text → List Text → Shape
+form_shape name ids = record (new_shape name) { rules = map required ids }
 
 abbrev pub form_alone : Text → List Text → App
-form_alone name ids = record { top = form name ids; subs = [] }
+form_alone name ids = record { top = form_shape name ids; subs = [] }
 
-abbrev pub ids_of : List (Bor Text) → List Text
-ids_of ids = map (λ id. id.now) ids
-
-abbrev pub build_ids : List Text
-build_ids = codes "project" ∷ codes "cart" ∷ codes "map" ∷ []
-
-abbrev pub convert_ids : List Text
-convert_ids = codes "source" ∷ codes "target" ∷ []
-
-abbrev pub trace_ids : List Text
-trace_ids = codes "cart" ∷ codes "answers" ∷ codes "card" ∷ codes "steps" ∷ []
-
-abbrev pub run_ids : List Text
-run_ids = codes "cart" ∷ codes "pads" ∷ codes "frames" ∷ codes "samples" ∷ codes "count" ∷ codes "card" ∷ []
-
-abbrev pub play_ids : List Text
-play_ids =
-    codes "project" ∷ codes "cart" ∷ codes "map" ∷ codes "pads" ∷ codes "frames" ∷ codes "samples" ∷ codes "count" ∷ codes "card" ∷ []
-
-abbrev pub check_ids : List Text
-check_ids = codes "project" ∷ []
+abbrev pub texts_of : List (Bor Text) → List Text
+texts_of ids = map (λ id. id.now) ids
 
 abbrev pub no_forms : App
 no_forms = record {
@@ -53,53 +34,37 @@ no_forms = record {
 }
 
 abbrev pub with_form : Text → List Text → App → App
-with_form name ids app = with_subcommand app (form name ids)
+with_form name ids app = with_subcommand app (form_shape name ids)
+
+-- the arguments of a form, by name
+abbrev pub ids_of : Form → List Text
+ids_of form = map (λ word. word.id) (words_of form)
+
+abbrev pub with_listed : App → Form → App
+with_listed app form = with_form (name_of form) (ids_of form) app
 
 abbrev pub with_converting : App → App
-with_converting app =
-    with_form (codes "dis") convert_ids (with_form (codes "asm") convert_ids (with_form (codes "migrate") convert_ids app))
+with_converting app = fold with_listed app (Converts Migrate ∷ Converts Assemble ∷ Converts Disassemble ∷ [])
 
+-- each form of the table
 abbrev pub command_line : App
-command_line = with_converting (with_form (codes "check") check_ids (with_form (codes "play") play_ids (with_form (codes "run") run_ids (with_form (codes "trace") trace_ids (with_form (codes "build") build_ids no_forms)))))
+command_line = fold with_listed no_forms forms
 
 -- the words that were given for these arguments
 abbrev pub given : List Text → List Row → Option (List Text)
 given [] rows = Some []
 given (id ∷ ids) rows = option_and_then (λ word. option_map (λ words. word ∷ words) (given ids rows)) (first_of id rows)
 
-abbrev pub build_in : List Row → Option Command
-build_in rows = option_and_then build_form (given build_ids rows)
-
-abbrev pub convert_in : Conversion → List Row → Option Command
-convert_in conversion rows = option_and_then (convert_form conversion) (given convert_ids rows)
-
-abbrev pub trace_in : List Row → Option Command
-trace_in rows = option_and_then trace_form (given trace_ids rows)
-
-abbrev pub run_in : List Row → Option Command
-run_in rows = option_and_then run_form (given run_ids rows)
-
-abbrev pub play_in : List Row → Option Command
-play_in rows = option_and_then play_form (given play_ids rows)
-
-abbrev pub check_in : List Row → Option Command
-check_in rows = option_and_then check_form (given check_ids rows)
-
-unfoldable pub converting_in : Text → List Row → Option Command
-converting_in name rows =
-    if bytes_eq name (codes "migrate") then convert_in Migrate rows
-    else (if bytes_eq name (codes "asm") then convert_in Assemble rows
-    else (if bytes_eq name (codes "dis") then convert_in Disassemble rows else None))
+abbrev pub given_to : Form → List Row → Option Command
+given_to form rows = option_and_then (command_with form) (given (ids_of form) rows)
 
 unfoldable pub form_in : Text → List Row → Option Command
-form_in name rows =
-    if bytes_eq name (codes "build") then build_in rows
-    else (if bytes_eq name (codes "trace") then trace_in rows
-    else (if bytes_eq name (codes "run") then run_in rows
-    else (if bytes_eq name (codes "play") then play_in rows
-    else (if bytes_eq name (codes "check") then check_in rows
-    else converting_in name rows))))
+form_in name rows = option_and_then (λ form. given_to form rows) (form_named name)
 
 -- the command of the subcommand that was met, with its matches
 abbrev pub command_in : Option (Text × List Row) → Option Command
 command_in met = option_and_then (λ p. form_in p.0 p.1) met
+
+-- the command, where its number is one and its created names are pairwise different
+abbrev pub checked : Command → Option Command
+checked command = tested (number_word command) (created_names command) (Some command)

@@ -3,7 +3,7 @@ use Rattle.std.specs.Option.{option_map}
 use Rattle.kit_words.specs.declared.command.Command.TheVariants as parsed
 use Rattle.kit_words.specs.declared.command.Command as declared
 use Rattle.kit_words.specs.declared.command.RunWords as run
-use Rattle.kit_words.specs.Command.{Command, RunWords, Build, Convert, Trace, Run, Play, Check}
+use Rattle.kit_words.specs.Command.{Command, RunWords, Build, Convert, Trace, Run, Play, Check, Gen}
 
 abbrev pub run_words_from : run.RunWords → RunWords
 run_words_from words = record {
@@ -22,3 +22,4 @@ command_from (parsed.Trace cart answers card steps) = Trace cart.now answers.now
 command_from (parsed.Run words) = Run (run_words_from words)
 command_from (parsed.Play project map_name words) = Play project.now map_name.now (run_words_from words)
 command_from (parsed.Check project) = Check project.now
+command_from (parsed.Gen number project cart map) = Gen number.now project.now cart.now map.now

@@ -1,11 +1,14 @@
 // The command that the words name.
-ghost use Rattle.std.specs.Prelude.{◌≡◌, IfOk, None, option_map, string_bytes};
+ghost use Rattle.std.specs.Prelude.{◌≡◌, [], ◌∷◌, IfOk, None, not, option_map, string_bytes};
 ghost use Rattle.std.specs.List.{list_all};
+ghost use Rattle.std.specs.Str.{bytes_eq};
 ghost use Rattle.clap.specs.Words.{found_of, rows_of, subcommand_rows_of};
 ghost use Rattle.clap.specs.Walk.{first_of};
 ghost use Rattle.clap.specs.declared.error.kind.ErrorKind.TheVariants.{OutOfMemory};
-ghost use Rattle.kit_words.specs.Command.{command_of, are_distinct, are_apart, card_of, checked_play, checked_run, differ_from, is_apart, is_number, is_word, texts};
-ghost use Rattle.kit_words.specs.CommandLine.{build_in, check_in, command_in, convert_in, converting_in, form_in, play_in, run_in, trace_in};
+ghost use Rattle.kit_words.specs.Forms.{Builds, Checks, Converts, Generates, Plays, Runs, Traces, are_different, card_of, is_number, is_word, source_name};
+ghost use Rattle.kit_words.specs.Command.{command_of, is_number_if_there, texts};
+ghost use Rattle.kit_words.specs.CommandLine.{checked, command_in, form_in, given_to, texts_of};
+ghost use Rattle.kit_words.specs.Created.{created_names, number_word, run_names};
 ghost use Rattle.kit_words.specs.Parsed.{command_from, run_words_from};
 
 use crate::command_line::command_line;
@@ -54,7 +57,16 @@ pub enum Command<'a> {
     Check {
         project: &'a str,
     },
+    Gen {
+        number: &'a str,
+        project: &'a str,
+        cart: &'a str,
+        map: &'a str,
+    },
 }
+
+/// The file of the source that `gen` makes up.
+pub const SOURCE_NAME: &str = "gen.c";
 
 /// Whether an argument may be a name or a number.
 fn is_word(word: &str) -> bool
@@ -80,30 +92,6 @@ fn word_of<'a>(given: &ArgMatches<'a>, id: &str) -> Option<&'a str>
     given.get_str(id)
 }
 
-fn build_in<'a>(given: &ArgMatches<'a>) -> Option<Command<'a>>
-    ensures { option_map command_from result ≡ build_in (rows_of (found_of given.now)) }
-{
-    let project = word_of(given, "project")?;
-    let cart = word_of(given, "cart")?;
-    let map = word_of(given, "map")?;
-    if cart == map {
-        return None;
-    }
-    Some(Command::Build { project, cart, map })
-}
-
-fn convert_in<'a>(conversion: Conversion, given: &ArgMatches<'a>) -> Option<Command<'a>>
-    ensures { option_map command_from result ≡ convert_in conversion (rows_of (found_of given.now)) }
-{
-    let source = word_of(given, "source")?;
-    let target = word_of(given, "target")?;
-    Some(Command::Convert {
-        conversion,
-        source,
-        target,
-    })
-}
-
 /// Whether all of the word is decimal digits.
 fn is_number(word: &str) -> bool
     ensures { result ≡ is_number word.now }
@@ -111,6 +99,120 @@ fn is_number(word: &str) -> bool
     word.as_bytes()
         .iter()
         .all(|byte| b'0' <= *byte && *byte <= b'9')
+}
+
+/// Whether the word of the command that has to be a number is one.
+fn has_number(command: &Command<'_>) -> bool
+    ensures { result ≡ is_number_if_there (number_word (command_from command.now)) }
+{
+    match *command {
+        Command::Build { .. } => true,
+        Command::Convert { .. } => true,
+        Command::Trace { steps, .. } => is_number(steps),
+        Command::Run(words) => is_number(words.count),
+        Command::Play { words, .. } => is_number(words.count),
+        Command::Check { .. } => true,
+        Command::Gen { number, .. } => is_number(number),
+    }
+}
+
+/// Whether the name is none of the others.
+fn differs_from(name: &str, others: &[&str]) -> bool
+    ensures { result ≡ list_all (λ other. not (bytes_eq name.now other.now)) others.now }
+{
+    others.iter().all(|other| name != *other)
+}
+
+/// Whether no two of the names are spelled alike.
+#[tactic(auto, using(crate::proofs::Different::one_more))]
+fn are_different(names: &[&str]) -> bool
+    ensures { result ≡ are_different (texts_of names.now) }
+{
+    match names.split_first() {
+        None => true,
+        Some((first, after)) => differs_from(first, after) && are_different(after),
+    }
+}
+
+/// Whether the files that a run creates are different ones.
+fn run_differs(words: &RunWords<'_>) -> bool
+    ensures { result ≡ are_different (run_names (run_words_from words.now)) }
+{
+    match words.card {
+        None => are_different(&[words.frames, words.samples]),
+        Some(card) => are_different(&[words.frames, words.samples, card]),
+    }
+}
+
+/// Whether the cartridge, the map and the files that the run creates are different ones.
+fn play_differs(map: &str, words: &RunWords<'_>) -> bool
+    ensures { result ≡ are_different (words.now.cart.now ∷ map.now ∷ run_names (run_words_from words.now)) }
+{
+    match words.card {
+        None => are_different(&[words.cart, map, words.frames, words.samples]),
+        Some(card) => are_different(&[words.cart, map, words.frames, words.samples, card]),
+    }
+}
+
+/// Whether the source, the project, the cartridge and the map are different files.
+#[tactic(auto, unfolding(crate::specs::Forms::are_different))]
+fn gen_differs(project: &str, cart: &str, map: &str) -> bool
+    ensures { result ≡ are_different (source_name ∷ project.now ∷ cart.now ∷ map.now ∷ []) }
+{
+    differs_from(SOURCE_NAME, &[project, cart, map]) && are_different(&[project, cart, map])
+}
+
+/// Whether the files that the command creates are different ones.
+fn created_differ(command: &Command<'_>) -> bool
+    ensures { result ≡ are_different (created_names (command_from command.now)) }
+{
+    match *command {
+        Command::Build { cart, map, .. } => are_different(&[cart, map]),
+        Command::Convert { target, .. } => are_different(&[target]),
+        Command::Trace { .. } => are_different(&[]),
+        Command::Run(words) => run_differs(&words),
+        Command::Play { map, words, .. } => play_differs(map, &words),
+        Command::Check { .. } => are_different(&[]),
+        Command::Gen {
+            project,
+            cart,
+            map,
+            ..
+        } => gen_differs(project, cart, map),
+    }
+}
+
+/// The command, where its number is one and the files that it creates are different ones.
+#[tactic(auto, unfolding(crate::specs::Command::tested))]
+fn checked<'a>(command: Command<'a>) -> Option<Command<'a>>
+    ensures { option_map command_from result ≡ checked (command_from command.entry) }
+{
+    if has_number(&command) && created_differ(&command) {
+        Some(command)
+    } else {
+        None
+    }
+}
+
+fn build_in<'a>(given: &ArgMatches<'a>) -> Option<Command<'a>>
+    ensures { option_map command_from result ≡ given_to Builds (rows_of (found_of given.now)) }
+{
+    let project = word_of(given, "project")?;
+    let cart = word_of(given, "cart")?;
+    let map = word_of(given, "map")?;
+    checked(Command::Build { project, cart, map })
+}
+
+fn convert_in<'a>(conversion: Conversion, given: &ArgMatches<'a>) -> Option<Command<'a>>
+    ensures { option_map command_from result ≡ given_to (Converts conversion) (rows_of (found_of given.now)) }
+{
+    let source = word_of(given, "source")?;
+    let target = word_of(given, "target")?;
+    checked(Command::Convert {
+        conversion,
+        source,
+        target,
+    })
 }
 
 /// The card file of that word.
@@ -121,17 +223,14 @@ fn card_of(word: &str) -> Option<&str>
 }
 
 fn trace_in<'a>(given: &ArgMatches<'a>) -> Option<Command<'a>>
-    ensures { option_map command_from result ≡ trace_in (rows_of (found_of given.now)) }
+    ensures { option_map command_from result ≡ given_to Traces (rows_of (found_of given.now)) }
 {
     let cart = word_of(given, "cart")?;
     let answers = word_of(given, "answers")?;
     let card = word_of(given, "card")?;
     let steps = word_of(given, "steps")?;
-    if !is_number(steps) {
-        return None;
-    }
     let card = card_of(card);
-    Some(Command::Trace {
+    checked(Command::Trace {
         cart,
         answers,
         card,
@@ -139,37 +238,8 @@ fn trace_in<'a>(given: &ArgMatches<'a>) -> Option<Command<'a>>
     })
 }
 
-/// Whether the card's file is another one.
-fn differs_from(name: &str, card: Option<&str>) -> bool
-    ensures { result ≡ differ_from name.now (option_map (λ word. word.now) card.entry) }
-{
-    match card {
-        None => true,
-        Some(card) => name != card,
-    }
-}
-
-/// Whether the files that a run creates are different ones.
-fn are_distinct(words: &RunWords<'_>) -> bool
-    ensures { result ≡ are_distinct (run_words_from words.now) }
-{
-    words.frames != words.samples
-        && differs_from(words.frames, words.card)
-        && differs_from(words.samples, words.card)
-}
-
-fn checked_run<'a>(words: RunWords<'a>) -> Option<Command<'a>>
-    ensures { option_map command_from result ≡ checked_run (run_words_from words.entry) }
-{
-    if is_number(words.count) && are_distinct(&words) {
-        Some(Command::Run(words))
-    } else {
-        None
-    }
-}
-
 fn run_in<'a>(given: &ArgMatches<'a>) -> Option<Command<'a>>
-    ensures { option_map command_from result ≡ run_in (rows_of (found_of given.now)) }
+    ensures { option_map command_from result ≡ given_to Runs (rows_of (found_of given.now)) }
 {
     let cart = word_of(given, "cart")?;
     let pads = word_of(given, "pads")?;
@@ -177,46 +247,19 @@ fn run_in<'a>(given: &ArgMatches<'a>) -> Option<Command<'a>>
     let samples = word_of(given, "samples")?;
     let count = word_of(given, "count")?;
     let card = word_of(given, "card")?;
-    checked_run(RunWords {
+    let card = card_of(card);
+    checked(Command::Run(RunWords {
         cart,
         pads,
         frames,
         samples,
         count,
-        card: card_of(card),
-    })
-}
-
-/// Whether the file is none that a run creates.
-fn is_apart(name: &str, words: &RunWords<'_>) -> bool
-    ensures { result ≡ is_apart name.now (run_words_from words.now) }
-{
-    name != words.frames && name != words.samples && differs_from(name, words.card)
-}
-
-/// Whether the cartridge and the map are different files, and none that the run creates.
-fn are_apart(map: &str, words: &RunWords<'_>) -> bool
-    ensures { result ≡ are_apart map.now (run_words_from words.now) }
-{
-    words.cart != map && is_apart(words.cart, words) && is_apart(map, words)
-}
-
-fn checked_play<'a>(project: &'a str, map: &'a str, words: RunWords<'a>) -> Option<Command<'a>>
-    ensures { option_map command_from result ≡ checked_play project.now map.now (run_words_from words.entry) }
-{
-    if is_number(words.count) && are_distinct(&words) && are_apart(map, &words) {
-        Some(Command::Play {
-            project,
-            map,
-            words,
-        })
-    } else {
-        None
-    }
+        card,
+    }))
 }
 
 fn play_in<'a>(given: &ArgMatches<'a>) -> Option<Command<'a>>
-    ensures { option_map command_from result ≡ play_in (rows_of (found_of given.now)) }
+    ensures { option_map command_from result ≡ given_to Plays (rows_of (found_of given.now)) }
 {
     let project = word_of(given, "project")?;
     let cart = word_of(given, "cart")?;
@@ -227,10 +270,10 @@ fn play_in<'a>(given: &ArgMatches<'a>) -> Option<Command<'a>>
     let count = word_of(given, "count")?;
     let card = word_of(given, "card")?;
     let card = card_of(card);
-    checked_play(
+    checked(Command::Play {
         project,
         map,
-        RunWords {
+        words: RunWords {
             cart,
             pads,
             frames,
@@ -238,47 +281,55 @@ fn play_in<'a>(given: &ArgMatches<'a>) -> Option<Command<'a>>
             count,
             card,
         },
-    )
+    })
 }
 
 fn check_in<'a>(given: &ArgMatches<'a>) -> Option<Command<'a>>
-    ensures { option_map command_from result ≡ check_in (rows_of (found_of given.now)) }
+    ensures { option_map command_from result ≡ given_to Checks (rows_of (found_of given.now)) }
 {
     let project = word_of(given, "project")?;
-    Some(Command::Check { project })
+    checked(Command::Check { project })
 }
 
-#[tactic(auto, unfolding(crate::specs::CommandLine::converting_in))]
-fn converting_in<'a>(name: &str, given: &ArgMatches<'a>) -> Option<Command<'a>>
-    ensures { option_map command_from result ≡ converting_in name.now (rows_of (found_of given.now)) }
+fn gen_in<'a>(given: &ArgMatches<'a>) -> Option<Command<'a>>
+    ensures { option_map command_from result ≡ given_to Generates (rows_of (found_of given.now)) }
 {
-    if name == "migrate" {
-        convert_in(Conversion::Migrate, given)
-    } else if name == "asm" {
-        convert_in(Conversion::Assemble, given)
-    } else if name == "dis" {
-        convert_in(Conversion::Disassemble, given)
-    } else {
-        None
-    }
+    let number = word_of(given, "number")?;
+    let project = word_of(given, "project")?;
+    let cart = word_of(given, "cart")?;
+    let map = word_of(given, "map")?;
+    checked(Command::Gen {
+        number,
+        project,
+        cart,
+        map,
+    })
 }
 
-#[tactic(auto, unfolding(crate::specs::CommandLine::form_in))]
+#[tactic(auto, unfolding(crate::specs::CommandLine::form_in, crate::specs::Forms::form_named))]
 fn form_in<'a>(name: &str, given: &ArgMatches<'a>) -> Option<Command<'a>>
     ensures { option_map command_from result ≡ form_in name.now (rows_of (found_of given.now)) }
 {
     if name == "build" {
         build_in(given)
-    } else if name == "trace" {
-        trace_in(given)
+    } else if name == "check" {
+        check_in(given)
+    } else if name == "migrate" {
+        convert_in(Conversion::Migrate, given)
+    } else if name == "asm" {
+        convert_in(Conversion::Assemble, given)
+    } else if name == "dis" {
+        convert_in(Conversion::Disassemble, given)
     } else if name == "run" {
         run_in(given)
     } else if name == "play" {
         play_in(given)
-    } else if name == "check" {
-        check_in(given)
+    } else if name == "trace" {
+        trace_in(given)
+    } else if name == "gen" {
+        gen_in(given)
     } else {
-        converting_in(name, given)
+        None
     }
 }
 

@@ -2,7 +2,7 @@
 ghost use Rattle.std.specs.Prelude.{◌≡◌, IfOk, false};
 ghost use Rattle.clap.specs.Words.{app_of, rule_of};
 ghost use Rattle.clap.specs.declared.builder.command.Command.TheViews.{out-Command};
-ghost use Rattle.kit_words.specs.CommandLine.{command_line, form_alone, ids_of, no_forms, required, with_converting, with_form};
+ghost use Rattle.kit_words.specs.CommandLine.{command_line, form_alone, no_forms, required, texts_of, with_converting, with_form};
 
 use clap::{Arg, Command};
 use std::alloc::{AllocError, Global};
@@ -17,7 +17,7 @@ fn required<'a>(alloc: Global, id: &'a str) -> Arg<'a>
 
 /// A form of the command line, with its arguments in order.
 fn form<'a>(alloc: Global, name: &'a str, arguments: &[&'a str]) -> Result<Command<'a>, AllocError>
-    ensures shape { IfOk result (λ c. app_of c ≡ form_alone name.entry.now (ids_of arguments.entry.now)) }
+    ensures shape { IfOk result (λ c. app_of c ≡ form_alone name.entry.now (texts_of arguments.entry.now)) }
     ensures local { IfOk result (λ c. (out-Command c).has_globals ≡ false) }
 {
     let mut command = Command::new(alloc, name);
@@ -45,7 +45,7 @@ fn with_form<'a>(
     name: &'a str,
     arguments: &[&'a str],
 ) -> Result<Command<'a>, AllocError>
-    ensures { IfOk result (λ c. app_of c ≡ with_form name.entry.now (ids_of arguments.entry.now) (app_of command.entry)) }
+    ensures { IfOk result (λ c. app_of c ≡ with_form name.entry.now (texts_of arguments.entry.now) (app_of command.entry)) }
 {
     command.subcommand(form(alloc, name, arguments)?)
 }
@@ -65,12 +65,8 @@ pub fn command_line<'a>(alloc: Global) -> Result<Command<'a>, AllocError>
 {
     let command = no_forms(alloc);
     let command = with_form(alloc, command, "build", &["project", "cart", "map"])?;
-    let command = with_form(
-        alloc,
-        command,
-        "trace",
-        &["cart", "answers", "card", "steps"],
-    )?;
+    let command = with_form(alloc, command, "check", &["project"])?;
+    let command = with_converting(alloc, command)?;
     let command = with_form(
         alloc,
         command,
@@ -85,6 +81,11 @@ pub fn command_line<'a>(alloc: Global) -> Result<Command<'a>, AllocError>
             "project", "cart", "map", "pads", "frames", "samples", "count", "card",
         ],
     )?;
-    let command = with_form(alloc, command, "check", &["project"])?;
-    with_converting(alloc, command)
+    let command = with_form(
+        alloc,
+        command,
+        "trace",
+        &["cart", "answers", "card", "steps"],
+    )?;
+    with_form(alloc, command, "gen", &["number", "project", "cart", "map"])
 }

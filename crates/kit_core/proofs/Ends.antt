@@ -9,13 +9,16 @@ use Rattle.kit_base.specs.declared.outside.FileErr.{FileErr}
 use Rattle.build_core.specs.declared.building.Built.{Built}
 use Rattle.build_core.specs.declared.error.BuildErr.{BuildErr}
 use Rattle.build_core.specs.Build.{HasNoParts, IsBuilt}
-use Rattle.kit_core.specs.declared.refusal.Refusal.{Refusal}
-use Rattle.kit_core.specs.declared.refusal.Refusal.TheVariants as refusals
-use Rattle.kit_core.specs.Causes.{IsUnrisen}
-use Rattle.kit_core.specs.Running.{settings_due}
+use Rattle.kit_tools.specs.declared.refusal.Refusal.{Refusal}
+use Rattle.kit_tools.specs.declared.refusal.Refusal.TheVariants as refusals
+use Rattle.kit_tools.specs.Causes.{IsUnrisen}
+use Rattle.kit_tools.specs.Running.{settings_due, run_due}
 use Rattle.kit_words.specs.Command.{RunWords, Command, Build, Convert, Trace, Run, Play, Check, command_of}
-use Rattle.kit_core.specs.Due.{Work, convert_due, trace_due, run_due, read_build_due, read_build_refused, read_check_due, read_play_due, form_due, form_refused, command_due, command_refused}
-use Rattle.kit_core.specs.Outcome.{ComesBy, IsShown, EndsAs, Done, Refused, FileFault, OutOfMemory, SinkFault, IsOutcome, status_due}
+use Rattle.kit_tools.specs.Work.{Work, ComesBy}
+use Rattle.kit_tools.specs.Converting.{convert_due}
+use Rattle.kit_tools.specs.Tracing.{trace_due}
+use Rattle.kit_core.specs.Due.{read_build_due, read_build_refused, read_check_due, read_play_due, form_due, form_refused, command_due, command_refused}
+use Rattle.kit_core.specs.Outcome.{IsShown, EndsAs, Done, Refused, FileFault, OutOfMemory, SinkFault, IsOutcome, status_due}
 
 -- where no work with effects is due, nothing changed
 module _ (Due : Result Work Refusal → Type 0) (Reads : List ℕ → Type 0) (m : Held) (after : Option Held) (none : (w : Work) → Due (Ok w) → w.effects ≡ []) where

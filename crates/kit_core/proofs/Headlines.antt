@@ -10,14 +10,15 @@ use Rattle.kit_base.specs.Outside.{due}
 use Rattle.kit_base.specs.declared.outside.FileErr.{FileErr}
 use Rattle.build_core.specs.declared.building.Built.{Built}
 use Rattle.project_text.specs.MapText.{map_text}
-use Rattle.kit_core.specs.declared.refusal.Refusal.{Refusal}
-use Rattle.kit_core.specs.declared.refusal.Refusal.TheVariants as refusals
-use Rattle.kit_core.specs.Refusal.{status_of}
+use Rattle.kit_tools.specs.declared.refusal.Refusal.{Refusal}
+use Rattle.kit_tools.specs.declared.refusal.Refusal.TheVariants as refusals
+use Rattle.kit_tools.specs.Refusal.{status_of}
 use Rattle.kit_words.specs.declared.conversion.Conversion.{Conversion}
 use Rattle.kit_words.specs.declared.conversion.Conversion.TheVariants.{Migrate, Assemble, Disassemble}
 use Rattle.kit_words.specs.Command.{RunWords, Build, Trace, Run, Play, are_apart, are_distinct, checked_play, checked_run, play_form, run_form, is_word, is_number, card_of, build_form, check_form, convert_form, trace_form, converting_form_of, form_of, form_with, command_of}
-use Rattle.kit_core.specs.Inputs.{◌>>=◌}
-use Rattle.kit_core.specs.Due.{Work, outputs_of, build_due, read_build_due, form_due}
+use Rattle.kit_tools.specs.Inputs.{◌>>=◌}
+use Rattle.kit_tools.specs.Work.{Work}
+use Rattle.kit_core.specs.Due.{outputs_of, build_due, read_build_due, form_due}
 use Rattle.kit_core.specs.Outcome.{putting, EndsAs, Done, Refused, FileFault, OutOfMemory, SinkFault, IsOutcome}
 use Rattle.kit_core.specs.Headline.{IsBuiltInto, BuildStands}
 use Rattle.kit_core.proofs.Writes.{get_written, get_unwritten}

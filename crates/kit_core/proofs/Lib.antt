@@ -1,14 +1,10 @@
-pub mod Cutting
 pub mod Showing
-pub mod Stages
-pub mod Seconds
-pub mod Own
-pub mod Conversions
+pub mod Reasons
 pub mod Outcomes
 pub mod Writes
 pub mod Headlines
 pub mod Traces
-pub mod Games
+pub mod Runs
 pub mod Projects
 pub mod Checks
 pub mod Builds

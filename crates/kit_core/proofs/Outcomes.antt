@@ -3,13 +3,14 @@ use Rattle.std.proofs.Common.{ℕ, ◌≡◌, ◌⊎◌, inl, inr, List, ◌++�
 use Rattle.std.proofs.Math.Seq.{take-length}
 use Rattle.std.specs.Prelude.{Option, Result, Ok, length}
 use Rattle.kit_base.specs.Held.{Held}
-use Rattle.kit_core.specs.declared.refusal.Refusal.{Refusal}
-use Rattle.kit_core.specs.declared.refusal.Refusal.TheVariants as refusals
-use Rattle.kit_core.specs.Refusal.{status_of, line_of}
-use Rattle.kit_core.specs.Due.{Work}
-use Rattle.kit_core.specs.Outcome.{putting, ComesBy, EndsAs, Done, Refused, FileFault, OutOfMemory, SinkFault, IsCutOff}
-use Rattle.kit_core.specs.Carrying.{LeavesBy, Shows, shown_status, text_of}
-use Rattle.kit_core.specs.declared.shown.Shown.{Shown}
+use Rattle.kit_tools.specs.declared.refusal.Refusal.{Refusal}
+use Rattle.kit_tools.specs.declared.refusal.Refusal.TheVariants as refusals
+use Rattle.kit_tools.specs.Refusal.{status_of, line_of}
+use Rattle.kit_tools.specs.Work.{Work, ComesBy}
+use Rattle.kit_core.specs.Outcome.{putting, EndsAs, Done, Refused, FileFault, OutOfMemory, SinkFault, IsCutOff}
+use Rattle.kit_tools.specs.Carrying.{LeavesBy, shown_status, text_of}
+use Rattle.kit_core.specs.Putting.{Shows}
+use Rattle.kit_tools.specs.declared.shown.Shown.{Shown}
 
 module _ (Due : Result Work Refusal → Type 0) (Reads : List ℕ → Type 0) (m : Held) (status : ℕ) (after : Option Held) (before put : Option (List ℕ)) where
   -- memory ran out, or the sink failed

@@ -11,20 +11,22 @@ use Rattle.build_core.specs.Build.{IsBuilt, IsUnbuilt}
 use Rattle.build_core.specs.declared.error.BuildErr.{BuildErr}
 use Rattle.project_text.specs.MapText.{map_text}
 use Rattle.run_core.specs.Outputs.{run_outputs}
-use Rattle.kit_core.specs.declared.refusal.Refusal.{Refusal}
-use Rattle.kit_core.specs.declared.refusal.Refusal.TheVariants as refusals
-use Rattle.kit_core.specs.declared.running.Loaded.{Loaded}
-use Rattle.kit_core.specs.declared.running.LoadedSettings.{LoadedSettings}
-use Rattle.kit_core.specs.declared.shown.Shown.{Shown}
+use Rattle.kit_tools.specs.declared.refusal.Refusal.{Refusal}
+use Rattle.kit_tools.specs.declared.refusal.Refusal.TheVariants as refusals
+use Rattle.kit_tools.specs.declared.running.Loaded.{Loaded}
+use Rattle.kit_tools.specs.declared.running.LoadedSettings.{LoadedSettings}
+use Rattle.kit_tools.specs.declared.shown.Shown.{Shown}
 use Rattle.kit_words.specs.Command.{RunWords, are_apart}
-use Rattle.kit_core.specs.Due.{IsUnplayed, not_built, not_set, Work, form_due, outputs_of, play_due, play_effects, play_work, read_play_due, unbuilt}
-use Rattle.kit_core.specs.Running.{Game, game_with, names_in, settings_due}
-use Rattle.kit_core.specs.Gaming.{IsCarried, IsGameOf, IsWritten, game_of, settings_of}
-use Rattle.kit_core.specs.Carrying.{GivesBy, IsCut}
+use Rattle.kit_core.specs.Due.{IsUnplayed, not_built, not_set, form_due, outputs_of, play_due, play_effects, play_work, read_play_due, unbuilt}
+use Rattle.kit_tools.specs.Work.{Work}
+use Rattle.kit_tools.specs.Running.{Game, game_with, names_in, settings_due}
+use Rattle.kit_core.specs.Playing.{IsCarried, IsGameOf}
+use Rattle.kit_tools.specs.Gaming.{IsWritten, game_of, settings_of}
+use Rattle.kit_tools.specs.Carrying.{GivesBy, IsCut}
 use Rattle.kit_core.specs.Checking.{IsOneUnlessStopped, TextBuilt}
 use Rattle.kit_core.specs.Headline.{IsPlayedInto, PlayStands}
 use Rattle.kit_core.specs.Outcome.{putting, IsOutcome}
-use Rattle.kit_core.proofs.Cutting.{in_first, in_second, not_begun}
+use Rattle.kit_tools.proofs.Cutting.{in_first, in_second, not_begun}
 use Rattle.kit_core.proofs.Headlines.{done_at_three}
 use Rattle.kit_core.proofs.PlayedFiles.{are_apart_in, cart_there, map_there}
 use Rattle.kit_core.proofs.Projects.{Left, WasRead, left_cut, left_done}

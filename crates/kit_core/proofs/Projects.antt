@@ -5,15 +5,14 @@ use Rattle.kit_base.specs.Held.{Held}
 use Rattle.kit_base.specs.Effects.{all_done}
 use Rattle.kit_base.specs.Outside.{due}
 use Rattle.kit_base.specs.declared.outside.FileErr.{FileErr}
-use Rattle.kit_core.specs.declared.refusal.Refusal.{Refusal}
-use Rattle.kit_core.specs.declared.refusal.Refusal.TheVariants as refusals
-use Rattle.kit_core.specs.declared.shown.Shown.{Shown}
-use Rattle.kit_core.specs.Inputs.{or_refused, unread}
-use Rattle.kit_core.specs.Due.{Work}
-use Rattle.kit_core.specs.Carrying.{IsCut, LeavesBy, shown_status, text_of}
+use Rattle.kit_tools.specs.declared.refusal.Refusal.{Refusal}
+use Rattle.kit_tools.specs.declared.refusal.Refusal.TheVariants as refusals
+use Rattle.kit_tools.specs.declared.shown.Shown.{Shown}
+use Rattle.kit_tools.specs.Inputs.{or_refused, unread}
+use Rattle.kit_tools.specs.Work.{Work, ComesBy}
+use Rattle.kit_tools.specs.Carrying.{IsCut, LeavesBy, shown_status, text_of}
 use Rattle.kit_core.specs.Checking.{IsOneUnlessStopped}
-use Rattle.kit_core.specs.Outcome.{ComesBy}
-use Rattle.kit_core.proofs.Stages.{cut, refused_gave}
+use Rattle.kit_tools.proofs.Stages.{cut, refused_gave}
 
 -- any file
 abbrev pub Any : List ℕ → Type 0

@@ -13,23 +13,16 @@ use Rattle.build_core.specs.Build.{HasNoParts, IsBuilt, IsUnbuilt}
 use Rattle.build_core.specs.Checked.{IsAccepted, IsRejected}
 use Rattle.c_types.specs.Programs.{ProgramT}
 use Rattle.project_text.specs.MapText.{map_text}
-use Rattle.kit_core.specs.declared.refusal.Refusal.{Refusal}
-use Rattle.kit_core.specs.declared.refusal.Refusal.TheVariants as refusals
+use Rattle.kit_tools.specs.declared.refusal.Refusal.{Refusal}
+use Rattle.kit_tools.specs.declared.refusal.Refusal.TheVariants as refusals
 use Rattle.kit_words.specs.declared.conversion.Conversion.{Conversion}
 use Rattle.kit_words.specs.Command.{Command, RunWords, Build, Convert, Trace, Run, Play, Check, command_of}
-use Rattle.kit_core.specs.Inputs.{◌>>=◌, unread}
-use Rattle.kit_core.specs.Converting.{made_due}
-use Rattle.kit_core.specs.Tracing.{traced_due, trace_reads}
-use Rattle.kit_core.specs.Running.{Game, Settings, end_status, game_due, game_end, game_with, names_in, run_reads, settings_due}
+use Rattle.kit_tools.specs.Inputs.{◌>>=◌, unread}
+use Rattle.kit_tools.specs.Converting.{made_due}
+use Rattle.kit_tools.specs.Tracing.{traced_due, trace_reads}
+use Rattle.kit_tools.specs.Running.{Game, Settings, end_status, game_due, game_end, game_with, names_in, run_reads, settings_due}
 use Rattle.run_core.specs.Ending.{end_text}
 use Rattle.run_core.specs.Outputs.{run_outputs}
-
--- What a command does once nothing refused it: what it creates and appends, in order, the text
--- that is put after that, and the status that is answered then.
-pub record Work : Type 0 where
-  pub effects : List Effect
-  pub text : List ℕ
-  pub status : ℕ
 
 -- The refusal of a build. A fault in a line is one of the project's text, which goes by the name
 -- that the words give it.
@@ -67,28 +60,6 @@ build_due project cart map_name held d = read_build_due project cart map_name he
 abbrev pub read_build_refused : (project : List ℕ) → Held → Result (List ℕ) FileErr → Refusal → Type 0
 read_build_refused project held (Ok text) refusal = (e : BuildErr) × HasNoParts held text e × (unbuilt project e ≡ refusal)
 read_build_refused project held (Err e) refusal = unread project e ≡ refusal
-
--- the bytes that are made of a file, created and then appended
-abbrev pub convert_due : Conversion → (source target : List ℕ) → Held → Result Work Refusal
-convert_due conversion source target held = do
-  bytes ← made_due conversion source held
-  Ok (record { effects = written_file target bytes; text = []; status = 0 })
-
--- nothing is created; the text is that of the run
-abbrev pub trace_due : (cart answers : List ℕ) (card : Option (List ℕ)) (steps : List ℕ) → Held → Result Work Refusal
-trace_due cart answers card steps held = do
-  text ← traced_due cart answers card steps held
-  Ok (record { effects = []; text = text; status = 0 })
-
--- the console's run, written frame by frame; the text is the line of a fault
-abbrev pub run_due : RunWords → Held → Result Work Refusal
-run_due words held = do
-  game ← game_due words held
-  Ok (record {
-    effects = run_outputs (names_in words) game.setup game.count;
-    text = end_text game.lines (game_end game);
-    status = end_status (game_end game);
-  })
 
 -- the outputs of what was built, then those of its run
 abbrev pub play_effects : (map_name : List ℕ) → RunWords → Built → Game → List Effect
@@ -128,10 +99,6 @@ play_due project map_name words held d = read_play_due project map_name words he
 -- the input of a play is refused: that of its build, the pads file, the card or the number of frames
 abbrev pub play_refused : (project : List ℕ) → RunWords → Held → Refusal → Type 0
 play_refused project words held refusal = read_build_refused project held (due held project) refusal ⊎ (settings_due words held ≡ Err refusal)
-
--- nothing is created, and `ok` is put
-abbrev pub accepted : Work
-accepted = record { effects = []; text = codes "ok" ++ 10 ∷ []; status = 0 }
 
 -- what the check of a project's text is due: `ok` where its source has a program, else why it has none
 abbrev pub text_check_due : (project text : List ℕ) → Held → Result Work Refusal → Type 0

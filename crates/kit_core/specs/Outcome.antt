@@ -2,34 +2,15 @@
 use Rattle.std.specs.Prelude.{ℕ, ◌≡◌, ◌⊎◌, List, ◌++◌, take, Option, Some, option_map, Result, Ok, Err, Contains}
 use Rattle.kit_base.specs.Held.{Held}
 use Rattle.kit_base.specs.Effects.{all_done, CutShort}
-use Rattle.kit_core.specs.declared.refusal.Refusal.{Refusal}
-use Rattle.kit_core.specs.declared.refusal.Refusal.TheVariants as refusals
-use Rattle.kit_core.specs.Refusal.{status_of, line_of}
-use Rattle.kit_core.specs.Due.{Work, command_due, reads_due}
+use Rattle.kit_tools.specs.declared.refusal.Refusal.{Refusal}
+use Rattle.kit_tools.specs.declared.refusal.Refusal.TheVariants as refusals
+use Rattle.kit_tools.specs.Refusal.{status_of, line_of}
+use Rattle.kit_tools.specs.Work.{Work}
+use Rattle.kit_core.specs.Due.{command_due, reads_due}
 
 -- what was put, with that piece behind it, where it is told
 abbrev pub putting : List ℕ → Option (List ℕ) → Option (List ℕ)
 putting piece before = option_map (λ bytes. bytes ++ piece) before
-
--- The outputs that were due were cut short at a refused call on the file of that name: those before
--- it are done in full, that one in part, and none after it was begun.
-abbrev pub StopsWriting : List ℕ → (Result Work Refusal → Type 0) → Held → Option Held → Type 0
-StopsWriting name Due held after = (work : Work) × Due (Ok work) × CutShort name work.effects (Some held) after
-
--- a read of one of these names failed, and nothing was changed
-abbrev pub StopsReading : List ℕ → (List ℕ → Type 0) → Held → Option Held → Type 0
-StopsReading name Reads held after = Reads name × (after ≡ Some held)
-
--- The refusal came, and this is held after it: one that is due, or a failing call of the files,
--- or want of memory at any place.
-abbrev pub ComesBy : Refusal → (Result Work Refusal → Type 0) → (List ℕ → Type 0) → Held → Option Held → Type 0
-ComesBy (refusals.Failed name) Due Reads held after = StopsReading name Reads held after ⊎ StopsWriting name Due held after
-ComesBy refusals.Memory Due Reads held after = (after ≡ Some held) ⊎ ((name : List ℕ) × StopsWriting name Due held after)
-ComesBy refusal Due Reads held after = Due (Err refusal) × (after ≡ Some held)
-
--- the same where one thing is due, and these names are read
-abbrev pub Comes : Refusal → Result Work Refusal → List (List ℕ) → Held → Option Held → Type 0
-Comes refusal due reads held after = ComesBy refusal (λ d. due ≡ d) (Contains reads) held after
 
 -- Status 0, or 3 of a run that ended by a fault: all effects are done, and the text is put whole.
 pub record IsDone (Due : Result Work Refusal → Type 0) (held : Held) (status : ℕ) (after : Option Held) (before put : Option (List ℕ)) : Type 0 where

@@ -3,19 +3,17 @@ ghost use Rattle.std.specs.Prelude.{◌≡◌, ◌≤◌, IfSome, IfOk, OnOk, If
 ghost use Rattle.kit_base.specs.Effects.{all_done};
 ghost use Rattle.build_core.specs.Build.{IsCartText};
 ghost use Rattle.build_core.specs.Causes.{CanBeTooLarge};
-ghost use Rattle.kit_core.specs.Carrying.{IsCut, LeavesBy};
-ghost use Rattle.kit_core.specs.Causes.{HasCauses, HasCausesOr};
+ghost use Rattle.kit_tools.specs.Carrying.{IsCut, LeavesBy};
+ghost use Rattle.kit_tools.specs.Causes.{HasCauses, HasCausesOr};
 ghost use Rattle.kit_core.specs.Limits.{IsLarge};
 ghost use Rattle.kit_core.specs.Checking.{TextBuilt};
 ghost use Rattle.kit_core.specs.Due.{build_due, outputs_of};
-ghost use Rattle.kit_core.specs.Gaming.{AreOutputs};
+ghost use Rattle.kit_core.specs.Playing.{AreOutputs};
 
-use crate::reading::read_file;
-use crate::refusal::{Refusal, unbuilt};
-use crate::shown::Shown;
-use crate::writing::write_named;
+use crate::build_refusal::unbuilt;
 use build_core::{Built, build};
 use kit_base::{Files, Memory as OutOfMemory, Name};
+use kit_tools::{Refusal, Shown, read_file, write_named};
 use project_text::write_map;
 use std::alloc::Global;
 
@@ -107,7 +105,7 @@ fn write_outputs<F: Files>(
 }
 
 /// `build project cart map`. There is no text to put after it.
-#[tactic(auto, using(crate::proofs::Own::wider_causes))]
+#[tactic(auto, using(kit_tools::proofs::Own::wider_causes))]
 pub fn build_command<F: Files>(
     alloc: Global,
     files: &mut F,

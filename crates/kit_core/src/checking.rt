@@ -1,15 +1,14 @@
 // The command `check`.
 ghost use Rattle.std.specs.Prelude.{ℕ, List, ◌≡◌, ◌≤◌, IfSome, length};
-ghost use Rattle.kit_core.specs.Carrying.{LeavesBy};
-ghost use Rattle.kit_core.specs.Causes.{HasCauses};
+ghost use Rattle.kit_tools.specs.Carrying.{LeavesBy};
+ghost use Rattle.kit_tools.specs.Causes.{HasCauses};
 ghost use Rattle.kit_core.specs.Checking.{TextChecked};
 ghost use Rattle.kit_core.specs.Due.{check_due};
 
-use crate::reading::read_file;
-use crate::refusal::{Refusal, unbuilt};
-use crate::shown::Shown;
+use crate::build_refusal::unbuilt;
 use build_core::check_sources;
 use kit_base::{Files, Name};
+use kit_tools::{Refusal, Shown, read_file};
 use std::alloc::Global;
 
 /// Checks the project of that text. A refusal has the project's own name.

@@ -3,24 +3,25 @@ ghost use Rattle.std.specs.Prelude.{◌≡◌, ◌≤◌, ◌⊎◌, false, Ok, 
 ghost use Rattle.std.specs.Option.{ForSome};
 ghost use Rattle.build_core.specs.Build.{IsCartText};
 ghost use Rattle.cart_format.specs.Reading.{cart_of};
-ghost use Rattle.kit_core.specs.Carrying.{LeavesBy};
-ghost use Rattle.kit_core.specs.Causes.{HasCauses, HasCausesOr};
+ghost use Rattle.kit_tools.specs.Carrying.{LeavesBy};
+ghost use Rattle.kit_tools.specs.Causes.{HasCauses, HasCausesOr};
 ghost use Rattle.kit_core.specs.Due.{play_due, play_work};
-ghost use Rattle.kit_core.specs.Gaming.{AreOutputs, IsCarried, IsGameOf, IsOpened, game_of};
+ghost use Rattle.kit_core.specs.Playing.{AreOutputs, IsCarried, IsGameOf};
+ghost use Rattle.kit_tools.specs.Gaming.{IsOpened, game_of};
 ghost use Rattle.kit_core.specs.Limits.{IsLarge};
 ghost use Rattle.kit_words.specs.Parsed.{run_words_from};
-ghost use Rattle.kit_core.specs.Running.{Game, is_count, names_in};
+ghost use Rattle.kit_tools.specs.Running.{Game, is_count, names_in};
 ghost use Rattle.kit_words.specs.Number.{number_of};
 
 use crate::building::{Outputs, build_text, made_outputs, write_made};
-use kit_words::RunWords;
-use crate::reading::read_file;
-use crate::refusal::Refusal;
-use crate::running::{Loaded, LoadedSettings, Opened, open_game, read_settings, write_outputs};
-use crate::shown::Shown;
 use build_core::Built;
 use cart_format::{Cart, CartErr, read_cart};
 use kit_base::{Files, Memory as OutOfMemory};
+use kit_tools::{
+    Loaded, LoadedSettings, Opened, Refusal, Shown, open_game, read_file, read_settings,
+    write_outputs,
+};
+use kit_words::RunWords;
 use std::alloc::Global;
 
 /// The cartridge that was built. It is one that is read again, so only memory can be wanting.
@@ -95,7 +96,7 @@ fn write_play<F: Files>(
 }
 
 /// `play project cart map pads frames samples count card`. The line of a fault is put later.
-#[tactic(auto, using(crate::proofs::Own::wider_causes))]
+#[tactic(auto, using(kit_tools::proofs::Own::wider_causes))]
 pub fn play_command<F: Files>(
     alloc: Global,
     files: &mut F,

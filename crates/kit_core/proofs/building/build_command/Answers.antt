@@ -1,7 +1,7 @@
 use Rattle.std.proofs.Common.{rules, ◌≡◌, refl, sym, subst}
 use Rattle.std.specs.Prelude.{Err, IfSome}
 use Rattle.build_core.specs.Build.{IsBuilt}
-use Rattle.kit_core.specs.declared.shown.Shown.TheVariants as shown
+use Rattle.kit_tools.specs.declared.shown.Shown.TheVariants as shown
 use Rattle.kit_core.specs.Due.{built_work, read_build_due}
 use Rattle.kit_core.specs.Checking.{TextBuilt}
 use Rattle.kit_core.proofs.Builds.{built_due}

@@ -1,7 +1,8 @@
 use Rattle.std.proofs.Common.{rules, ◌≡◌, refl, sym, subst}
 use Rattle.std.specs.Prelude.{Ok, Err, IfSome}
-use Rattle.kit_core.specs.declared.shown.Shown.TheVariants as shown
-use Rattle.kit_core.specs.Due.{accepted, read_check_due}
+use Rattle.kit_tools.specs.declared.shown.Shown.TheVariants as shown
+use Rattle.kit_tools.specs.Work.{accepted}
+use Rattle.kit_core.specs.Due.{read_check_due}
 use Rattle.kit_core.specs.Checking.{TextChecked}
 use Rattle.kit_core.proofs.Checks.{accepted_due}
 use Rattle.kit_core.proofs.Projects.{Left, left_refused, left_done}

@@ -1,14 +1,14 @@
 use Rattle.std.proofs.Common.{rules, ◌≡◌, ◌∙◌, sym, subst}
 use Rattle.std.specs.Prelude.{Err, IfSome}
 use Rattle.build_core.specs.Build.{IsBuilt}
-use Rattle.kit_core.specs.declared.refusal.Refusal.TheVariants as refusals
+use Rattle.kit_tools.specs.declared.refusal.Refusal.TheVariants as refusals
 use Rattle.kit_words.specs.Parsed.{run_words_from}
-use Rattle.kit_core.specs.Carrying.{GivesBy}
+use Rattle.kit_tools.specs.Carrying.{GivesBy}
 use Rattle.kit_core.specs.Checking.{TextBuilt}
 use Rattle.kit_core.specs.Due.{read_play_due}
-use Rattle.kit_core.specs.Gaming.{settings_of}
-use Rattle.kit_core.specs.Running.{settings_due}
-use Rattle.kit_core.proofs.Own.{later_causes}
+use Rattle.kit_tools.specs.Gaming.{settings_of}
+use Rattle.kit_tools.specs.Running.{settings_due}
+use Rattle.kit_tools.proofs.Own.{later_causes}
 use Rattle.kit_core.proofs.Projects.{Left, left_refused}
 use Rattle.kit_core.proofs.Plays.{memory_told, play_left, unbuilt_told, unset_told}
 use Rattle.kit_core.proofs.playing.play_command.Goals as goal

@@ -1,6 +1,6 @@
 use Rattle.std.proofs.lemmas.Option.{IfSome_then}
 use Rattle.kit_core.proofs.Outcomes.{outcome_done, outcome_refused}
-use Rattle.kit_core.proofs.Own.{limit_reason}
+use Rattle.kit_core.proofs.Reasons.{limit_reason}
 use Rattle.kit_core.proofs.top.status_for.Goals as goal
 
 pub returns-in-Ok-clause-told : goal.returns-in-Ok-clause-told

@@ -4,7 +4,7 @@ ghost use Rattle.kit_base.specs.Effects.{all_done};
 ghost use Rattle.build_core.specs.Build.{IsCartText};
 ghost use Rattle.build_core.specs.Causes.{CanBeTooLarge};
 ghost use Rattle.kit_tools.specs.Carrying.{IsCut, LeavesBy};
-ghost use Rattle.kit_tools.specs.Causes.{HasCauses, HasCausesOr};
+ghost use Rattle.kit_tools.specs.Causes.{HasCauses, HasCausesOr, counts};
 ghost use Rattle.kit_core.specs.Limits.{IsLarge};
 ghost use Rattle.kit_core.specs.Checking.{TextBuilt};
 ghost use Rattle.kit_core.specs.Due.{build_due, outputs_of};
@@ -28,7 +28,7 @@ pub fn build_text<F: Files>(
     ensures held { F.held files.new ≡ F.held files.old }
     ensures told { IfSome (F.held files.old) (λ m. TextBuilt project.now text.now m result) }
     ensures cartridge { IfOk result (λ b. IsCartText b.cart) }
-    ensures causes { HasCausesOr (CanBeTooLarge text.now) result (F.faults files.old) (F.faults files.new) (F.misses files.old) (F.misses files.new) (F.overs files.old) (F.overs files.new) }
+    ensures causes { HasCausesOr (CanBeTooLarge text.now) result (counts F.faults F.misses F.overs files.old) (counts F.faults F.misses F.overs files.new) }
 {
     match build(alloc, files, text) {
         Ok(built) => Ok(built),
@@ -77,7 +77,7 @@ pub fn write_made<F: Files>(
     requires { AreOutputs cart.now map.now built.now outputs }
     ensures ok { OnOk result (F.held files.new ≡ all_done (outputs_of cart.now map.now built.now) (F.held files.old)) }
     ensures err { IfErr result (λ e. IsCut e (outputs_of cart.now map.now built.now) (F.held files.old) (F.held files.new)) }
-    ensures causes { HasCauses result (F.faults files.old) (F.faults files.new) (F.misses files.old) (F.misses files.new) (F.overs files.old) (F.overs files.new) }
+    ensures causes { HasCauses result (counts F.faults F.misses F.overs files.old) (counts F.faults F.misses F.overs files.new) }
 {
     let Outputs {
         cart_name,
@@ -98,7 +98,7 @@ fn write_outputs<F: Files>(
 ) -> Result<(), Refusal>
     ensures ok { OnOk result (F.held files.new ≡ all_done (outputs_of cart.now map.now built.now) (F.held files.old)) }
     ensures err { IfErr result (λ e. IsCut e (outputs_of cart.now map.now built.now) (F.held files.old) (F.held files.new)) }
-    ensures causes { HasCauses result (F.faults files.old) (F.faults files.new) (F.misses files.old) (F.misses files.new) (F.overs files.old) (F.overs files.new) }
+    ensures causes { HasCauses result (counts F.faults F.misses F.overs files.old) (counts F.faults F.misses F.overs files.new) }
 {
     let outputs = made_outputs(alloc, cart, map, built)?;
     write_made(files, cart, map, built, outputs)
@@ -114,7 +114,7 @@ pub fn build_command<F: Files>(
     map: &str,
 ) -> Result<Shown, Refusal>
     ensures told { IfSome (F.held files.old) (λ m. LeavesBy result (build_due project.now cart.now map.now m) (λ name. Unit {0}) m (F.held files.new)) }
-    ensures causes { HasCausesOr (IsLarge project.now (F.held files.old)) result (F.faults files.old) (F.faults files.new) (F.misses files.old) (F.misses files.new) (F.overs files.old) (F.overs files.new) }
+    ensures causes { HasCausesOr (IsLarge project.now (F.held files.old)) result (counts F.faults F.misses F.overs files.old) (counts F.faults F.misses F.overs files.new) }
 {
     let text = read_file(alloc, files, project)?;
     let built = build_text(alloc, files, project, &text)?;

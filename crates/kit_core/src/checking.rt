@@ -1,7 +1,7 @@
 // The command `check`.
 ghost use Rattle.std.specs.Prelude.{ℕ, List, ◌≡◌, ◌≤◌, IfSome, length};
 ghost use Rattle.kit_tools.specs.Carrying.{LeavesBy};
-ghost use Rattle.kit_tools.specs.Causes.{HasCauses};
+ghost use Rattle.kit_tools.specs.Causes.{HasCauses, counts};
 ghost use Rattle.kit_core.specs.Checking.{TextChecked};
 ghost use Rattle.kit_core.specs.Due.{check_due};
 
@@ -21,7 +21,7 @@ fn check_text<F: Files>(
     requires { length text.now ≤ 268435456 }
     ensures held { F.held files.new ≡ F.held files.old }
     ensures told { IfSome (F.held files.old) (λ m. TextChecked project.now text.now m result) }
-    ensures causes { HasCauses result (F.faults files.old) (F.faults files.new) (F.misses files.old) (F.misses files.new) (F.overs files.old) (F.overs files.new) }
+    ensures causes { HasCauses result (counts F.faults F.misses F.overs files.old) (counts F.faults F.misses F.overs files.new) }
 {
     match check_sources(alloc, files, text) {
         Ok(_) => Ok(()),
@@ -39,7 +39,7 @@ pub fn check_command<F: Files>(
     project: &str,
 ) -> Result<Shown, Refusal>
     ensures told { IfSome (F.held files.old) (λ m. LeavesBy result (check_due project.now m) (λ name. Unit {0}) m (F.held files.new)) }
-    ensures causes { HasCauses result (F.faults files.old) (F.faults files.new) (F.misses files.old) (F.misses files.new) (F.overs files.old) (F.overs files.new) }
+    ensures causes { HasCauses result (counts F.faults F.misses F.overs files.old) (counts F.faults F.misses F.overs files.new) }
 {
     let text = read_file(alloc, files, project)?;
     check_text(alloc, files, project, &text)?;

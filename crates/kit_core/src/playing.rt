@@ -4,7 +4,7 @@ ghost use Rattle.std.specs.Option.{ForSome};
 ghost use Rattle.build_core.specs.Build.{IsCartText};
 ghost use Rattle.cart_format.specs.Reading.{cart_of};
 ghost use Rattle.kit_tools.specs.Carrying.{LeavesBy};
-ghost use Rattle.kit_tools.specs.Causes.{HasCauses, HasCausesOr};
+ghost use Rattle.kit_tools.specs.Causes.{HasCauses, HasCausesOr, counts};
 ghost use Rattle.kit_core.specs.Due.{play_due, play_work};
 ghost use Rattle.kit_core.specs.Playing.{AreOutputs, IsCarried, IsGameOf};
 ghost use Rattle.kit_tools.specs.Gaming.{IsOpened, game_of};
@@ -68,7 +68,7 @@ fn write_opened<F: Files>(
     requires { AreOutputs words.now.cart.now map.now built.now outputs }
     ensures written { (game : Game) → IsOpened (names_in (run_words_from words.now)) game opened
         → IsCarried (play_work map.now (run_words_from words.now) built.now game) result (F.held files.old) (F.held files.new) }
-    ensures causes { HasCauses result (F.faults files.old) (F.faults files.new) (F.misses files.old) (F.misses files.new) (F.overs files.old) (F.overs files.new) }
+    ensures causes { HasCauses result (counts F.faults F.misses F.overs files.old) (counts F.faults F.misses F.overs files.new) }
 {
     match write_made(files, words.cart, map, built, outputs) {
         Ok(()) => write_outputs(files, opened.run, opened.ending, opened.own, words),
@@ -88,7 +88,7 @@ fn write_play<F: Files>(
     requires room { ForSome game.card (λ v. length v.items ≡ 0x40000) }
     requires few { game.count ≤ 3600 }
     ensures written { IsCarried (play_work map.now (run_words_from words.now) built.now (game_of game)) result (F.held files.old) (F.held files.new) }
-    ensures causes { HasCauses result (F.faults files.old) (F.faults files.new) (F.misses files.old) (F.misses files.new) (F.overs files.old) (F.overs files.new) }
+    ensures causes { HasCauses result (counts F.faults F.misses F.overs files.old) (counts F.faults F.misses F.overs files.new) }
 {
     let outputs = made_outputs(alloc, words.cart, map, built)?;
     let opened = open_game(alloc, game, words)?;
@@ -105,7 +105,7 @@ pub fn play_command<F: Files>(
     words: &RunWords<'_>,
 ) -> Result<Shown, Refusal>
     ensures told { IfSome (F.held files.old) (λ m. LeavesBy result (play_due project.now map.now (run_words_from words.now) m) (λ name. Unit {0}) m (F.held files.new)) }
-    ensures causes { HasCausesOr (IsLarge project.now (F.held files.old) ⊎ (is_count (number_of words.now.count.now) ≡ false)) result (F.faults files.old) (F.faults files.new) (F.misses files.old) (F.misses files.new) (F.overs files.old) (F.overs files.new) }
+    ensures causes { HasCausesOr (IsLarge project.now (F.held files.old) ⊎ (is_count (number_of words.now.count.now) ≡ false)) result (counts F.faults F.misses F.overs files.old) (counts F.faults F.misses F.overs files.new) }
 {
     let text = read_file(alloc, files, project)?;
     let built = build_text(alloc, files, project, &text)?;

@@ -5,7 +5,7 @@ ghost use Rattle.trace_core.specs.Putting.{trace_text};
 ghost use Rattle.run_core.specs.Ending.{end_text};
 ghost use Rattle.kit_tools.specs.Carrying.{LeavesBy, shown_status, text_of};
 ghost use Rattle.kit_core.specs.Putting.{Puts, Shows};
-ghost use Rattle.kit_tools.specs.Causes.{HasCausesOr, HasOnlyRisen, IsUnrisen};
+ghost use Rattle.kit_tools.specs.Causes.{HasCausesOr, HasOnlyRisen, IsUnrisen, counts};
 ghost use Rattle.kit_words.specs.Command.{texts};
 ghost use Rattle.kit_tools.specs.Work.{Work, accepted};
 ghost use Rattle.kit_core.specs.Due.{command_due, command_refused, reads_due};
@@ -121,7 +121,7 @@ fn finish<S: Sink>(out: &mut S, shown: Shown) -> u8
 /// Carries out the command of these words, up to its text.
 fn carry_out<F: Files>(alloc: Global, words: &[String], files: &mut F) -> Result<Shown, Refusal>
     ensures told { IfSome (F.held files.old) (λ m. LeavesBy result (command_due (texts words.now) m) (reads_due (texts words.now) m) m (F.held files.new)) }
-    ensures causes { HasCausesOr (IsOver (texts words.now) (F.held files.old)) result (F.faults files.old) (F.faults files.new) (F.misses files.old) (F.misses files.new) (F.overs files.old) (F.overs files.new) }
+    ensures causes { HasCausesOr (IsOver (texts words.now) (F.held files.old)) result (counts F.faults F.misses F.overs files.old) (counts F.faults F.misses F.overs files.new) }
 {
     match command_of(alloc, words)? {
         None => Err(Refusal::Usage),
@@ -162,7 +162,7 @@ fn status_for<F: Files, S: Sink>(alloc: Global, words: &[String], files: &mut F,
     ensures failed { result ≡ 5 → Rose (F.faults files.old) (F.faults files.new) }
     ensures limit { result ≡ 7 → Rose (F.overs files.old) (F.overs files.new) ⊎ IsOver (texts words.now) (F.held files.old) }
     ensures unput { result ≡ 9 → Rose (S.faults out.old) (S.faults out.new) }
-    ensures later { HasOnlyRisen (F.faults files.old) (F.faults files.new) (F.misses files.old) (F.misses files.new) (F.overs files.old) (F.overs files.new) (S.faults out.old) (S.faults out.new) }
+    ensures later { HasOnlyRisen (counts F.faults F.misses F.overs files.old) (counts F.faults F.misses F.overs files.new) (S.faults out.old) (S.faults out.new) }
     ensures status { IsStatus result }
 {
     match carry_out(alloc, words, files) {
@@ -200,7 +200,7 @@ pub fn kit<F: Files, S: Sink>(alloc: Global, words: &[String], files: &mut F, ou
     ensures failed { result ≡ 5 → Rose (F.faults files.old) (F.faults files.new) }
     ensures limit { result ≡ 7 → Rose (F.overs files.old) (F.overs files.new) ⊎ IsOver (texts words.now) (F.held files.old) }
     ensures unput { result ≡ 9 → Rose (S.faults out.old) (S.faults out.new) }
-    ensures later { HasOnlyRisen (F.faults files.old) (F.faults files.new) (F.misses files.old) (F.misses files.new) (F.overs files.old) (F.overs files.new) (S.faults out.old) (S.faults out.new) }
+    ensures later { HasOnlyRisen (counts F.faults F.misses F.overs files.old) (counts F.faults F.misses F.overs files.new) (S.faults out.old) (S.faults out.new) }
     ensures status { IsStatus result }
 {
     builds_are_due_or_refused();

@@ -13,7 +13,7 @@ use Rattle.kit_tools.specs.declared.shown.Shown.TheVariants as shown
 use Rattle.trace_core.specs.declared.run.Trace.{Trace}
 use Rattle.trace_core.specs.Putting.{trace_text}
 use Rattle.kit_words.specs.declared.conversion.Conversion.TheVariants.{Migrate}
-use Rattle.kit_tools.specs.Causes.{HasCausesOr}
+use Rattle.kit_tools.specs.Causes.{Counts, HasCausesOr}
 use Rattle.kit_tools.specs.Migration.{IsLong}
 use Rattle.kit_tools.proofs.Own.{wider_causes}
 use Rattle.kit_tools.specs.Carrying.{IsCut, Leaves, shown_status, text_of}
@@ -43,13 +43,13 @@ module _ (conversion : Conversion) (source target bytes : List ℕ) where
   conversion_done v (Some m) h1 h2 empty nought made same done = (work, is_due m made, done ∙ ap (all_done (written_file target bytes)) same, empty, nought)
 
 -- the causes of each conversion
-pub migrated_causes : {T : Type 0} (source : List ℕ) (held : Option Held) (r : Result T Refusal) (faults faults' misses misses' overs overs' : ℕ)
-    → HasCausesOr (IsLong source held) r faults faults' misses misses' overs overs' → HasCausesOr (ConvertsLong Migrate source held) r faults faults' misses misses' overs overs'
-migrated_causes source held r f f' m m' o o' h = wider_causes _ _ r f f' m m' o o' (λ long. record { is_migration = refl; long = long }) h
+pub migrated_causes : {T : Type 0} (source : List ℕ) (held : Option Held) (r : Result T Refusal) (before after : Counts)
+    → HasCausesOr (IsLong source held) r before after → HasCausesOr (ConvertsLong Migrate source held) r before after
+migrated_causes source held r b a h = wider_causes _ _ r b a (λ long. record { is_migration = refl; long = long }) h
 
-pub other_causes : {T : Type 0} (conversion : Conversion) (source : List ℕ) (held : Option Held) (r : Result T Refusal) (faults faults' misses misses' overs overs' : ℕ)
-    → HasCausesOr ⊥ r faults faults' misses misses' overs overs' → HasCausesOr (ConvertsLong conversion source held) r faults faults' misses misses' overs overs'
-other_causes conversion source held r f f' m m' o o' h = wider_causes _ _ r f f' m m' o o' (λ none. absurd none) h
+pub other_causes : {T : Type 0} (conversion : Conversion) (source : List ℕ) (held : Option Held) (r : Result T Refusal) (before after : Counts)
+    → HasCausesOr ⊥ r before after → HasCausesOr (ConvertsLong conversion source held) r before after
+other_causes conversion source held r b a h = wider_causes _ _ r b a (λ none. absurd none) h
 
 -- nothing is created by a trace
 pub trace_opened : (cart answers : List ℕ) (card : Option (List ℕ)) (steps : List ℕ) (trace : Trace) (h0 h1 : Option Held)

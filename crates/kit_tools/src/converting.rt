@@ -6,7 +6,7 @@ ghost use Rattle.asm_reader.specs.Reading.{read};
 ghost use Rattle.assembler.specs.Faults.{fault_of};
 ghost use Rattle.cart_format.specs.Cartridge.{is_cart, total};
 ghost use Rattle.kit_tools.specs.Carrying.{FailsAt, GivesBy, Leaves};
-ghost use Rattle.kit_tools.specs.Causes.{HasCauses, HasCausesOr, IsOwn};
+ghost use Rattle.kit_tools.specs.Causes.{HasCauses, HasCausesOr, IsOwn, counts};
 ghost use Rattle.kit_tools.specs.Converting.{assembled_due, disassembled_due, made_due, migrated_due, no_items, no_words, placed_unless, convert_due, ConvertsLong};
 ghost use Rattle.kit_tools.specs.Inputs.{or_refused};
 ghost use Rattle.kit_tools.specs.Migration.{IsLong, in_second, second_due};
@@ -52,7 +52,7 @@ fn migrated<F: Files>(alloc: Global, files: &mut F, cart: &str) -> Result<Vec<u8
     ensures held { F.held files.new ≡ F.held files.old }
     ensures told { IfSome (F.held files.old) (λ m. GivesBy (λ v. v.items) result (migrated_due cart.now m)) }
     ensures fails { IfErr result (FailsAt (cart.now ∷ [])) }
-    ensures causes { HasCausesOr (IsLong cart.now (F.held files.old)) result (F.faults files.old) (F.faults files.new) (F.misses files.old) (F.misses files.new) (F.overs files.old) (F.overs files.new) }
+    ensures causes { HasCausesOr (IsLong cart.now (F.held files.old)) result (counts F.faults F.misses F.overs files.old) (counts F.faults F.misses F.overs files.new) }
 {
     let read = read_cart_file(alloc, files, cart)?;
     let second = in_second(alloc, read)?;
@@ -105,7 +105,7 @@ fn assembled<F: Files>(alloc: Global, files: &mut F, text: &str) -> Result<Vec<u
     ensures held { F.held files.new ≡ F.held files.old }
     ensures told { IfSome (F.held files.old) (λ m. GivesBy (λ v. v.items) result (assembled_due text.now m)) }
     ensures fails { IfErr result (FailsAt (text.now ∷ [])) }
-    ensures causes { HasCauses result (F.faults files.old) (F.faults files.new) (F.misses files.old) (F.misses files.new) (F.overs files.old) (F.overs files.new) }
+    ensures causes { HasCauses result (counts F.faults F.misses F.overs files.old) (counts F.faults F.misses F.overs files.new) }
 {
     let bytes = read_file(alloc, files, text)?;
     let items = items_of_text(alloc, text, &bytes)?;
@@ -139,7 +139,7 @@ fn disassembled<F: Files>(alloc: Global, files: &mut F, words: &str) -> Result<V
     ensures held { F.held files.new ≡ F.held files.old }
     ensures told { IfSome (F.held files.old) (λ m. GivesBy (λ v. v.items) result (disassembled_due words.now m)) }
     ensures fails { IfErr result (FailsAt (words.now ∷ [])) }
-    ensures causes { HasCauses result (F.faults files.old) (F.faults files.new) (F.misses files.old) (F.misses files.new) (F.overs files.old) (F.overs files.new) }
+    ensures causes { HasCauses result (counts F.faults F.misses F.overs files.old) (counts F.faults F.misses F.overs files.new) }
 {
     let bytes = read_file(alloc, files, words)?;
     let list = words_of_file(alloc, words, &bytes)?;
@@ -159,7 +159,7 @@ fn made<F: Files>(
     ensures held { F.held files.new ≡ F.held files.old }
     ensures told { IfSome (F.held files.old) (λ m. GivesBy (λ v. v.items) result (made_due conversion source.now m)) }
     ensures fails { IfErr result (FailsAt (source.now ∷ [])) }
-    ensures causes { HasCausesOr (ConvertsLong conversion source.now (F.held files.old)) result (F.faults files.old) (F.faults files.new) (F.misses files.old) (F.misses files.new) (F.overs files.old) (F.overs files.new) }
+    ensures causes { HasCausesOr (ConvertsLong conversion source.now (F.held files.old)) result (counts F.faults F.misses F.overs files.old) (counts F.faults F.misses F.overs files.new) }
 {
     match conversion {
         Conversion::Migrate => migrated(alloc, files, source),
@@ -178,7 +178,7 @@ pub fn convert_command<F: Files>(
     target: &str,
 ) -> Result<Shown, Refusal>
     ensures told { IfSome (F.held files.old) (λ m. Leaves result (convert_due conversion source.now target.now m) (source.now ∷ []) m (F.held files.new)) }
-    ensures causes { HasCausesOr (ConvertsLong conversion source.now (F.held files.old)) result (F.faults files.old) (F.faults files.new) (F.misses files.old) (F.misses files.new) (F.overs files.old) (F.overs files.new) }
+    ensures causes { HasCausesOr (ConvertsLong conversion source.now (F.held files.old)) result (counts F.faults F.misses F.overs files.old) (counts F.faults F.misses F.overs files.new) }
 {
     let bytes = made(alloc, files, conversion, source)?;
     write_output(alloc, files, target, &bytes)?;

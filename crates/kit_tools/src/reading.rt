@@ -10,7 +10,7 @@ ghost use Rattle.cart_format.specs.Cartridge.{is_cart};
 ghost use Rattle.cart_format.specs.Reading.{cart_of};
 ghost use Rattle.kit_base.specs.Outside.{due};
 ghost use Rattle.kit_tools.specs.Carrying.{GivesBy, FailsAt};
-ghost use Rattle.kit_tools.specs.Causes.{HasCauses, IsOwn};
+ghost use Rattle.kit_tools.specs.Causes.{HasCauses, IsOwn, counts};
 ghost use Rattle.kit_tools.specs.Inputs.{answers_due, card_due, card_in, cart_due, no_answers, no_cart, or_refused, unread};
 
 use crate::refusal::{Refusal, no_cart, unread};
@@ -25,7 +25,7 @@ pub fn read_file<F: Files>(alloc: Global, files: &mut F, name: &str) -> Result<V
     ensures told { IfSome (F.held files.old) (λ m. GivesBy (λ v. v.items) result (or_refused (unread name.now) (due m name.now))) }
     ensures limit { IfOk result (λ v. length v.items ≤ 268435456) }
     ensures fails { IfErr result (FailsAt (name.now ∷ [])) }
-    ensures causes { HasCauses result (F.faults files.old) (F.faults files.new) (F.misses files.old) (F.misses files.new) (F.overs files.old) (F.overs files.new) }
+    ensures causes { HasCauses result (counts F.faults F.misses F.overs files.old) (counts F.faults F.misses F.overs files.new) }
 {
     match files.read(alloc, name) {
         Ok(bytes) => Ok(bytes),
@@ -58,7 +58,7 @@ pub fn read_cart_file<F: Files>(alloc: Global, files: &mut F, name: &str) -> Res
     ensures held { F.held files.new ≡ F.held files.old }
     ensures told { IfSome (F.held files.old) (λ m. GivesBy (λ c. c) result (cart_due name.now m)) }
     ensures fails { IfErr result (FailsAt (name.now ∷ [])) }
-    ensures causes { HasCauses result (F.faults files.old) (F.faults files.new) (F.misses files.old) (F.misses files.new) (F.overs files.old) (F.overs files.new) }
+    ensures causes { HasCauses result (counts F.faults F.misses F.overs files.old) (counts F.faults F.misses F.overs files.new) }
     ensures limits { IfOk result (λ c. is_cart c ≡ true) }
 {
     let text = read_file(alloc, files, name)?;
@@ -95,7 +95,7 @@ pub fn read_answers_file<F: Files>(
     ensures held { F.held files.new ≡ F.held files.old }
     ensures told { IfSome (F.held files.old) (λ m. GivesBy (λ v. v.items) result (answers_due name.now m)) }
     ensures fails { IfErr result (FailsAt (name.now ∷ [])) }
-    ensures causes { HasCauses result (F.faults files.old) (F.faults files.new) (F.misses files.old) (F.misses files.new) (F.overs files.old) (F.overs files.new) }
+    ensures causes { HasCauses result (counts F.faults F.misses F.overs files.old) (counts F.faults F.misses F.overs files.new) }
 {
     let text = read_file(alloc, files, name)?;
     answers_of_text(alloc, name, &text)
@@ -128,7 +128,7 @@ fn read_named_card<F: Files>(alloc: Global, files: &mut F, name: &str) -> Result
     ensures held { F.held files.new ≡ F.held files.old }
     ensures told { IfSome (F.held files.old) (λ m. GivesBy (λ v. Some v.items) result (card_due (Some name.now) m)) }
     ensures fails { IfErr result (FailsAt (name.now ∷ [])) }
-    ensures causes { HasCauses result (F.faults files.old) (F.faults files.new) (F.misses files.old) (F.misses files.new) (F.overs files.old) (F.overs files.new) }
+    ensures causes { HasCauses result (counts F.faults F.misses F.overs files.old) (counts F.faults F.misses F.overs files.new) }
     ensures room { IfOk result (λ v. length v.items ≡ 0x40000) }
 {
     let bytes = read_file(alloc, files, name)?;
@@ -144,7 +144,7 @@ pub fn read_card_file<F: Files>(
     ensures held { F.held files.new ≡ F.held files.old }
     ensures told { IfSome (F.held files.old) (λ m. GivesBy words_of result (card_due (option_map (λ word. word.now) name.entry) m)) }
     ensures fails { IfErr result (FailsAt (card_names (option_map (λ word. word.now) name.entry))) }
-    ensures causes { HasCauses result (F.faults files.old) (F.faults files.new) (F.misses files.old) (F.misses files.new) (F.overs files.old) (F.overs files.new) }
+    ensures causes { HasCauses result (counts F.faults F.misses F.overs files.old) (counts F.faults F.misses F.overs files.new) }
     ensures room { IfOk result (λ card. ForSome card (λ v. length v.items ≡ 0x40000)) }
 {
     match name {

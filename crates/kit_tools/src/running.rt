@@ -9,7 +9,7 @@ ghost use Rattle.run_core.specs.Outputs.{Names};
 ghost use Rattle.run_core.specs.Stands.{RunStands};
 ghost use Rattle.run_core.specs.Writing.{HasRisen, IsCut as IsCutAt, IsNamed};
 ghost use Rattle.kit_tools.specs.Carrying.{FailsAt, GivesBy, IsCut, Leaves};
-ghost use Rattle.kit_tools.specs.Causes.{HasCause, HasCauses, HasCausesOr, IsOwn};
+ghost use Rattle.kit_tools.specs.Causes.{HasCause, HasCauses, HasCausesOr, IsOwn, Counts, counts};
 ghost use Rattle.kit_tools.specs.Running.{run_due, Game, count_due, game_due, is_count, names_in, no_pads, pads_due, run_reads, settings_due, settings_reads};
 ghost use Rattle.kit_tools.specs.Inputs.{or_refused};
 ghost use Rattle.kit_words.specs.Parsed.{run_words_from};
@@ -87,7 +87,7 @@ fn read_pads_file<F: Files>(alloc: Global, files: &mut F, name: &str) -> Result<
     ensures held { F.held files.new ≡ F.held files.old }
     ensures told { IfSome (F.held files.old) (λ m. GivesBy (λ p. p) result (pads_due name.now m)) }
     ensures fails { IfErr result (FailsAt (name.now ∷ [])) }
-    ensures causes { HasCauses result (F.faults files.old) (F.faults files.new) (F.misses files.old) (F.misses files.new) (F.overs files.old) (F.overs files.new) }
+    ensures causes { HasCauses result (counts F.faults F.misses F.overs files.old) (counts F.faults F.misses F.overs files.new) }
 {
     let text = read_file(alloc, files, name)?;
     pads_of_text(alloc, name, &text)
@@ -103,7 +103,7 @@ pub fn read_settings<F: Files>(
     ensures held { F.held files.new ≡ F.held files.old }
     ensures told { IfSome (F.held files.old) (λ m. GivesBy settings_of result (settings_due (run_words_from words.now) m)) }
     ensures fails { IfErr result (FailsAt (settings_reads (run_words_from words.now))) }
-    ensures causes { HasCausesOr (is_count (number_of words.now.count.now) ≡ false) result (F.faults files.old) (F.faults files.new) (F.misses files.old) (F.misses files.new) (F.overs files.old) (F.overs files.new) }
+    ensures causes { HasCausesOr (is_count (number_of words.now.count.now) ≡ false) result (counts F.faults F.misses F.overs files.old) (counts F.faults F.misses F.overs files.new) }
     ensures room { IfOk result (λ s. ForSome s.card (λ v. length v.items ≡ 0x40000)) }
     ensures few { IfOk result (λ s. s.count ≤ 3600) }
 {
@@ -123,7 +123,7 @@ fn read_game<F: Files>(
     ensures held { F.held files.new ≡ F.held files.old }
     ensures told { IfSome (F.held files.old) (λ m. GivesBy game_of result (game_due (run_words_from words.now) m)) }
     ensures fails { IfErr result (FailsAt (run_reads (run_words_from words.now))) }
-    ensures causes { HasCausesOr (is_count (number_of words.now.count.now) ≡ false) result (F.faults files.old) (F.faults files.new) (F.misses files.old) (F.misses files.new) (F.overs files.old) (F.overs files.new) }
+    ensures causes { HasCausesOr (is_count (number_of words.now.count.now) ≡ false) result (counts F.faults F.misses F.overs files.old) (counts F.faults F.misses F.overs files.new) }
     ensures room { IfOk result (λ g. ForSome g.card (λ v. length v.items ≡ 0x40000)) }
     ensures few { IfOk result (λ g. g.count ≤ 3600) }
 {
@@ -183,7 +183,7 @@ fn name_of(own: OwnNames, output: Output) -> Name
 fn unwritten(own: OwnNames, e: Unwritten) -> Refusal
     ensures cut { (names : Names) (effects : List Effect) (before after : Option Held) → AreNames own names → IsOfWriting e.error
         → IsCutAt names e.output effects before after → IsCut result effects before after }
-    ensures cause { (faults later misses misses_later overs overs_later : ℕ) → IsOfWriting e.error → HasRisen e.error faults later → HasCause ⊥ result faults later misses misses_later overs overs_later }
+    ensures cause { (before after : Counts) → IsOfWriting e.error → HasRisen e.error before.faults after.faults → HasCause ⊥ result before after }
 {
     let name = name_of(own, e.output);
     match e.error {
@@ -202,7 +202,7 @@ pub fn write_outputs<F: Files>(
 ) -> Result<Shown, Refusal>
     ensures written { (game : Game) → AreNames own (names_in (run_words_from words.now)) → RunStands game.setup game.count run → ending ≡ game.lines
         → IsWritten (names_in (run_words_from words.now)) game result (F.held files.old) (F.held files.new) }
-    ensures causes { HasCauses result (F.faults files.old) (F.faults files.new) (F.misses files.old) (F.misses files.new) (F.overs files.old) (F.overs files.new) }
+    ensures causes { HasCauses result (counts F.faults F.misses F.overs files.old) (counts F.faults F.misses F.overs files.new) }
 {
     let names = RunNames {
         frames: words.frames,
@@ -251,7 +251,7 @@ fn write_game<F: Files>(
     requires room { ForSome game.card (λ v. length v.items ≡ 0x40000) }
     requires few { game.count ≤ 3600 }
     ensures written { IsWritten (names_in (run_words_from words.now)) (game_of game) result (F.held files.old) (F.held files.new) }
-    ensures causes { HasCauses result (F.faults files.old) (F.faults files.new) (F.misses files.old) (F.misses files.new) (F.overs files.old) (F.overs files.new) }
+    ensures causes { HasCauses result (counts F.faults F.misses F.overs files.old) (counts F.faults F.misses F.overs files.new) }
 {
     let opened = open_game(alloc, game, words)?;
     write_outputs(files, opened.run, opened.ending, opened.own, words)
@@ -265,7 +265,7 @@ pub fn run_command<F: Files>(
     words: &RunWords<'_>,
 ) -> Result<Shown, Refusal>
     ensures told { IfSome (F.held files.old) (λ m. Leaves result (run_due (run_words_from words.now) m) (run_reads (run_words_from words.now)) m (F.held files.new)) }
-    ensures causes { HasCausesOr (is_count (number_of words.now.count.now) ≡ false) result (F.faults files.old) (F.faults files.new) (F.misses files.old) (F.misses files.new) (F.overs files.old) (F.overs files.new) }
+    ensures causes { HasCausesOr (is_count (number_of words.now.count.now) ≡ false) result (counts F.faults F.misses F.overs files.old) (counts F.faults F.misses F.overs files.new) }
 {
     let game = read_game(alloc, files, words)?;
     write_game(alloc, files, game, words)

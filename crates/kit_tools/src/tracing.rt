@@ -3,7 +3,7 @@ ghost use Rattle.std.specs.Prelude.{◌≡◌, ◌≤◌, ◌<◌, ◌+◌, ◌*
 ghost use Rattle.std.specs.Option.{option_map};
 ghost use Rattle.trace_core.specs.Putting.{trace_text};
 ghost use Rattle.kit_tools.specs.Carrying.{FailsAt, GivesBy, Leaves};
-ghost use Rattle.kit_tools.specs.Causes.{HasCausesOr, IsOwn};
+ghost use Rattle.kit_tools.specs.Causes.{HasCausesOr, IsOwn, counts};
 ghost use Rattle.kit_tools.specs.Tracing.{trace_due, steps_due, trace_reads, traced_due};
 ghost use Rattle.kit_words.specs.Number.{number_of};
 
@@ -44,7 +44,7 @@ fn open_trace<F: Files>(
     ensures held { F.held files.new ≡ F.held files.old }
     ensures told { IfSome (F.held files.old) (λ m. GivesBy trace_text result (traced_due cart.now answers.now (option_map (λ word. word.now) card.entry) steps.now m)) }
     ensures fails { IfErr result (FailsAt (trace_reads cart.now answers.now (option_map (λ word. word.now) card.entry))) }
-    ensures causes { HasCausesOr (10000000 < number_of steps.now) result (F.faults files.old) (F.faults files.new) (F.misses files.old) (F.misses files.new) (F.overs files.old) (F.overs files.new) }
+    ensures causes { HasCausesOr (10000000 < number_of steps.now) result (counts F.faults F.misses F.overs files.old) (counts F.faults F.misses F.overs files.new) }
 {
     let read = read_cart_file(alloc, files, cart)?;
     let answers = read_answers_file(alloc, files, answers)?;
@@ -69,7 +69,7 @@ pub fn trace_command<F: Files>(
 ) -> Result<Shown, Refusal>
     ensures told { IfSome (F.held files.old) (λ m. Leaves result (trace_due cart.now answers.now (option_map (λ word. word.now) card.entry) steps.now m)
         (trace_reads cart.now answers.now (option_map (λ word. word.now) card.entry)) m (F.held files.new)) }
-    ensures causes { HasCausesOr (10000000 < number_of steps.now) result (F.faults files.old) (F.faults files.new) (F.misses files.old) (F.misses files.new) (F.overs files.old) (F.overs files.new) }
+    ensures causes { HasCausesOr (10000000 < number_of steps.now) result (counts F.faults F.misses F.overs files.old) (counts F.faults F.misses F.overs files.new) }
 {
     let trace = open_trace(alloc, files, cart, answers, card, steps)?;
     Ok(Shown::Run(trace))

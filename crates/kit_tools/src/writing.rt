@@ -3,7 +3,7 @@ ghost use Rattle.std.specs.Prelude.{◌≡◌, ◌≤◌, OnOk, OnErr, IfErr};
 ghost use Rattle.kit_base.specs.Effects.{all_done, written_file, CutShort};
 ghost use Rattle.kit_base.specs.Outside.{HasCause, IsOfWriting};
 ghost use Rattle.kit_tools.specs.Carrying.{IsCut};
-ghost use Rattle.kit_tools.specs.Causes.{HasCauses};
+ghost use Rattle.kit_tools.specs.Causes.{HasCauses, counts};
 
 use crate::refusal::{Refusal, unread};
 use kit_base::{FileErr, Files, Name};
@@ -32,7 +32,7 @@ pub fn write_named<F: Files>(
     requires { own ≡ name.now }
     ensures ok { OnOk result (F.held files.new ≡ all_done (written_file name.now bytes.now) (F.held files.old)) }
     ensures err { IfErr result (λ e. IsCut e (written_file name.now bytes.now) (F.held files.old) (F.held files.new)) }
-    ensures causes { HasCauses result (F.faults files.old) (F.faults files.new) (F.misses files.old) (F.misses files.new) (F.overs files.old) (F.overs files.new) }
+    ensures causes { HasCauses result (counts F.faults F.misses F.overs files.old) (counts F.faults F.misses F.overs files.new) }
 {
     match write_file(files, name, bytes) {
         Ok(()) => Ok(()),
@@ -49,7 +49,7 @@ pub fn write_output<F: Files>(
 ) -> Result<(), Refusal>
     ensures ok { OnOk result (F.held files.new ≡ all_done (written_file name.now bytes.now) (F.held files.old)) }
     ensures err { IfErr result (λ e. IsCut e (written_file name.now bytes.now) (F.held files.old) (F.held files.new)) }
-    ensures causes { HasCauses result (F.faults files.old) (F.faults files.new) (F.misses files.old) (F.misses files.new) (F.overs files.old) (F.overs files.new) }
+    ensures causes { HasCauses result (counts F.faults F.misses F.overs files.old) (counts F.faults F.misses F.overs files.new) }
 {
     let own = Name::new(alloc, name)?;
     write_named(files, own, name, bytes)

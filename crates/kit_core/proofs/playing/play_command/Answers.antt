@@ -52,6 +52,6 @@ returns-clause-told g c =
 
 pub returns-clause-causes : goal.returns-clause-causes
 returns-clause-causes g c =
-    later_causes _ _ _ _ c.write_play.result _ _ _ _ _ _ _ _ _ (λ none. none) c.in_ok-text.ensures.causes
-    (later_causes _ _ _ _ c.write_play.result _ _ _ _ _ _ _ _ _ (λ none. none) c.in_ok-built.ensures.causes
-    (later_causes _ _ _ _ c.write_play.result _ _ _ _ _ _ _ _ _ (λ none. absurd none) c.in_ok-settings.ensures.causes c.write_play.ensures.causes))
+    later_causes _ _ _ _ c.write_play.result _ _ _ (λ none. none) c.in_ok-text.ensures.causes
+    (later_causes _ _ _ _ c.write_play.result _ _ _ (λ none. none) c.in_ok-built.ensures.causes
+    (later_causes _ _ _ _ c.write_play.result _ _ _ (λ none. absurd none) c.in_ok-settings.ensures.causes c.write_play.ensures.causes))

@@ -13,4 +13,4 @@ returns-in-Err-clause-told g c =
 
 pub returns-in-Err-clause-limit : goal.returns-in-Err-clause-limit
 returns-in-Err-clause-limit g c = λ seven.
-    limit_reason _ c.in-Err.refusal _ _ _ _ _ _ _ _ _ _ c.in-Err.ensures.causes c.report.ensures.shows seven
+    limit_reason _ c.in-Err.refusal _ _ _ _ _ _ c.in-Err.ensures.causes c.report.ensures.shows seven

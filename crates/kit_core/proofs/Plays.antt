@@ -11,6 +11,7 @@ use Rattle.build_core.specs.Build.{IsBuilt, IsUnbuilt}
 use Rattle.build_core.specs.declared.error.BuildErr.{BuildErr}
 use Rattle.project_text.specs.MapText.{map_text}
 use Rattle.run_core.specs.Outputs.{run_outputs}
+use Rattle.kit_tools.specs.declared.refusal.DueRefusal.{DueRefusal}
 use Rattle.kit_tools.specs.declared.refusal.Refusal.{Refusal}
 use Rattle.kit_tools.specs.declared.refusal.Refusal.TheVariants as refusals
 use Rattle.kit_tools.specs.declared.running.Loaded.{Loaded}
@@ -33,29 +34,17 @@ use Rattle.kit_core.proofs.Projects.{Left, WasRead, left_cut, left_done}
 
 -- ---- why there is no run
 
-one_weaker : (P Q : Refusal → Type 0) → ((r : Refusal) → P r → Q r) → (e : Refusal) → IsOneUnlessStopped P e → IsOneUnlessStopped Q e
+one_weaker : (P Q : DueRefusal → Type 0) → ((r : DueRefusal) → P r → Q r) → (e : Refusal) → IsOneUnlessStopped P e → IsOneUnlessStopped Q e
+one_weaker P Q f (refusals.Due r) h = f r h
 one_weaker P Q f (refusals.Failed n) h = tt
 one_weaker P Q f refusals.Memory h = tt
-one_weaker P Q f refusals.Usage h = f _ h
-one_weaker P Q f (refusals.Source c n l) h = f _ h
-one_weaker P Q f (refusals.Missing n) h = f _ h
-one_weaker P Q f (refusals.Bad c n l) h = f _ h
-one_weaker P Q f (refusals.Limit n) h = f _ h
-one_weaker P Q f (refusals.OutOfRange n) h = f _ h
-one_weaker P Q f refusals.LongCartridge h = f _ h
 
 -- a part that was read so
-one_given : {X Y : Type 0} (view : X → Y) (d : Result Y Refusal) (P : Refusal → Type 0) → ((r : Refusal) → d ≡ Err r → P r) → (e : Refusal)
+one_given : {X Y : Type 0} (view : X → Y) (d : Result Y Refusal) (P : DueRefusal → Type 0) → ((r : DueRefusal) → d ≡ Err (refusals.Due r) → P r) → (e : Refusal)
     → GivesBy view (Err e) d → IsOneUnlessStopped P e
+one_given view d P f (refusals.Due r) h = f r h
 one_given view d P f (refusals.Failed n) h = tt
 one_given view d P f refusals.Memory h = tt
-one_given view d P f refusals.Usage h = f _ h
-one_given view d P f (refusals.Source c n l) h = f _ h
-one_given view d P f (refusals.Missing n) h = f _ h
-one_given view d P f (refusals.Bad c n l) h = f _ h
-one_given view d P f (refusals.Limit n) h = f _ h
-one_given view d P f (refusals.OutOfRange n) h = f _ h
-one_given view d P f refusals.LongCartridge h = f _ h
 
 module _ (project text map_name : List ℕ) (words : RunWords) where
   abbrev pub MayRefuse : Refusal → Option Held → Type 0
@@ -63,7 +52,7 @@ module _ (project text map_name : List ℕ) (words : RunWords) where
 
   pub unbuilt_told : (e : Refusal) (held : Option Held) → IfSome held (λ m. TextBuilt project text m (Err e)) → MayRefuse e held
   unbuilt_told e None h = tt
-  unbuilt_told e (Some m) h = one_weaker (λ r. (e' : BuildErr) × IsUnbuilt m text e' × (unbuilt project e' ≡ r)) (λ r. IsUnplayed project text words m r) (λ r x. not_built x.0 x.1 x.2) e h
+  unbuilt_told e (Some m) h = one_weaker (λ r. (e' : BuildErr) × IsUnbuilt m text e' × (unbuilt project e' ≡ refusals.Due r)) (λ r. IsUnplayed project text words m r) (λ r x. not_built x.0 x.1 x.2) e h
 
   pub unset_told : (e : Refusal) (b : Built) (h1 h2 : Option Held) → h2 ≡ h1 → IfSome h1 (λ m. IsBuilt m text b)
       → IfSome h2 (λ m. GivesBy settings_of (Err e) (settings_due words m)) → MayRefuse e h1

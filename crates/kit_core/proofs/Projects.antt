@@ -5,6 +5,7 @@ use Rattle.kit_base.specs.Held.{Held}
 use Rattle.kit_base.specs.Effects.{all_done}
 use Rattle.kit_base.specs.Outside.{due}
 use Rattle.kit_base.specs.declared.outside.FileErr.{FileErr}
+use Rattle.kit_tools.specs.declared.refusal.DueRefusal.{DueRefusal}
 use Rattle.kit_tools.specs.declared.refusal.Refusal.{Refusal}
 use Rattle.kit_tools.specs.declared.refusal.Refusal.TheVariants as refusals
 use Rattle.kit_tools.specs.declared.shown.Shown.{Shown}
@@ -19,20 +20,14 @@ abbrev pub Any : List ℕ → Type 0
 Any name = Unit {0}
 
 -- one of the refusals that are due came, and nothing was changed
-refused : (Due : Result Work Refusal → Type 0) (e : Refusal) (m : Held) (after : Option Held) → IsOneUnlessStopped (λ r. Due (Err r)) e → after ≡ Some m → ComesBy e Due Any m after
+refused : (Due : Result Work DueRefusal → Type 0) (e : Refusal) (m : Held) (after : Option Held) → IsOneUnlessStopped (λ r. Due (Err r)) e → after ≡ Some m → ComesBy e Due Any m after
+refused Due (refusals.Due r) m after h same = (h, same)
 refused Due (refusals.Failed n) m after h same = inl (tt, same)
 refused Due refusals.Memory m after h same = inl same
-refused Due refusals.Usage m after h same = (h, same)
-refused Due (refusals.Source c f l) m after h same = (h, same)
-refused Due (refusals.Missing n) m after h same = (h, same)
-refused Due (refusals.Bad c n l) m after h same = (h, same)
-refused Due (refusals.Limit n) m after h same = (h, same)
-refused Due (refusals.OutOfRange n) m after h same = (h, same)
-refused Due refusals.LongCartridge m after h same = (h, same)
 
 -- what is due by what the read of the project's file gives
-module _ (project : List ℕ) (Due : Held → Result (List ℕ) FileErr → Result Work Refusal → Type 0) where
-  abbrev pub DueOf : Held → Result Work Refusal → Type 0
+module _ (project : List ℕ) (Due : Held → Result (List ℕ) FileErr → Result Work DueRefusal → Type 0) where
+  abbrev pub DueOf : Held → Result Work DueRefusal → Type 0
   DueOf m d = Due m (due m project) d
 
   abbrev pub Left : Option Held → Option Held → Result Shown Refusal → Type 0
@@ -43,7 +38,7 @@ module _ (project : List ℕ) (Due : Held → Result (List ℕ) FileErr → Resu
     abbrev pub WasRead : Option Held → Type 0
     WasRead held = IfSome held (λ m. or_refused (unread project) (due m project) ≡ Ok text)
 
-    due_of_text : (m : Held) (d : Result Work Refusal) → WasRead (Some m) → Due m (Ok text) d → DueOf m d
+    due_of_text : (m : Held) (d : Result Work DueRefusal) → WasRead (Some m) → Due m (Ok text) d → DueOf m d
     due_of_text m d read h = subst (λ r. Due m r d) (sym (refused_gave _ _ _ read)) h
 
     refused_of_text : (m : Held) (e : Refusal) → WasRead (Some m) → IsOneUnlessStopped (λ r. Due m (Ok text) (Err r)) e → IsOneUnlessStopped (λ r. DueOf m (Err r)) e

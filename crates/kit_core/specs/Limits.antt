@@ -3,14 +3,11 @@ use Rattle.std.specs.Prelude.{ℕ, ◌≡◌, ◌<◌, ◌⊎◌, false, List, O
 use Rattle.kit_base.specs.Held.{Held}
 use Rattle.kit_base.specs.Outside.{due}
 use Rattle.build_core.specs.Causes.{CanBeTooLarge}
-use Rattle.cart_format.specs.Cartridge.{Cartridge, total}
 use Rattle.kit_words.specs.declared.conversion.Conversion.{Conversion}
-use Rattle.kit_words.specs.declared.conversion.Conversion.TheVariants.{Migrate}
 use Rattle.kit_words.specs.Command.{RunWords, Build, Convert, Trace, Run, Play, command_of}
-use Rattle.kit_tools.specs.Inputs.{cart_due}
-use Rattle.kit_tools.specs.Migration.{in_second}
 use Rattle.kit_words.specs.Number.{number_of}
 use Rattle.kit_tools.specs.Running.{is_count}
+use Rattle.kit_tools.specs.Converting.{ConvertsLong}
 
 -- the words are such a migration
 pub record MigratesLong (words : List (List ℕ)) (held : Option Held) : Type 0 where

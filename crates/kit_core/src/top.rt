@@ -12,7 +12,7 @@ ghost use Rattle.kit_core.specs.Due.{command_due, command_refused, reads_due};
 ghost use Rattle.kit_core.specs.Headline.{BuildStands, PlayStands};
 ghost use Rattle.kit_core.specs.Limits.{IsOver};
 ghost use Rattle.kit_core.specs.Outcome.{IsOutcome, status_due};
-ghost use Rattle.kit_tools.specs.declared.refusal.Refusal.{Refusal};
+ghost use Rattle.kit_tools.specs.declared.refusal.DueRefusal.{DueRefusal};
 ghost use Rattle.kit_tools.specs.Refusal.{IsStatus, line_of, status_of};
 ghost use Rattle.kit_tools.specs.Running.{RunStands, end_status};
 ghost use Rattle.kit_tools.specs.Tracing.{TraceStands};
@@ -22,7 +22,7 @@ use crate::checking::check_command;
 use crate::playing::play_command;
 use build_core::builds_are_due_or_refused;
 use kit_base::{Files, Sink, SinkErr};
-use kit_tools::{Refusal, Shown, convert_command, line_of, run_command, status_of, trace_command};
+use kit_tools::{DueRefusal, Refusal, Shown, convert_command, line_of, run_command, status_of, trace_command};
 use kit_words::{Command, command_of};
 use run_core::Ending;
 use std::alloc::Global;
@@ -124,7 +124,7 @@ fn carry_out<F: Files>(alloc: Global, words: &[String], files: &mut F) -> Result
     ensures causes { HasCausesOr (IsOver (texts words.now) (F.held files.old)) result (counts F.faults F.misses F.overs files.old) (counts F.faults F.misses F.overs files.new) }
 {
     match command_of(alloc, words)? {
-        None => Err(Refusal::Usage),
+        None => Err(Refusal::Due(DueRefusal::Usage)),
         Some(Command::Build { project, cart, map }) => {
             build_command(alloc, files, project, cart, map)
         }
@@ -190,10 +190,10 @@ pub fn kit<F: Files, S: Sink>(alloc: Global, words: &[String], files: &mut F, ou
     // At 0 and 3 the outputs of a play are what was built and the outputs of its run.
     ensures plays { IfSome (F.held files.old) (λ m. (result ≡ 0) ⊎ (result ≡ 3) → PlayStands (texts words.now) m result (F.held files.new) (S.written out.old) (S.written out.new)) }
     // A command whose words or input are refused changes no file, whatever its status.
-    ensures untouched { IfSome (F.held files.old) (λ m. (e : Refusal) → command_refused (texts words.now) m e → F.held files.new ≡ F.held files.old) }
+    ensures untouched { IfSome (F.held files.old) (λ m. (e : DueRefusal) → command_refused (texts words.now) m e → F.held files.new ≡ F.held files.old) }
     // Where no call failed, the status is one that is due, or 8.
     ensures complete { IfSome (F.held files.old) (λ m. IsUnrisen (F.faults files.old) (F.faults files.new) → IsUnrisen (S.faults out.old) (S.faults out.new)
-        → ((d : Result Work Refusal) × command_due (texts words.now) m d × (result ≡ status_due d)) ⊎ (result ≡ 8)) }
+        → ((d : Result Work DueRefusal) × command_due (texts words.now) m d × (result ≡ status_due d)) ⊎ (result ≡ 8)) }
     // Refusals by the outside come only where a count rose, one of a limit also where the command
     // itself is over it.
     ensures missing { result ≡ 4 → Rose (F.misses files.old) (F.misses files.new) }

@@ -8,7 +8,7 @@ use Rattle.kit_tools.specs.Inputs.{◌>>=◌}
 use Rattle.kit_tools.specs.Tracing.{traced_due, trace_reads, trace_due}
 use Rattle.kit_words.specs.declared.conversion.Conversion.{Conversion}
 use Rattle.kit_tools.specs.Converting.{made_due, convert_due, ConvertsLong}
-use Rattle.kit_tools.specs.Work.{Work, Comes}
+use Rattle.kit_tools.specs.Work.{Work, Comes, as_due}
 use Rattle.kit_tools.specs.declared.shown.Shown.TheVariants as shown
 use Rattle.trace_core.specs.declared.run.Trace.{Trace}
 use Rattle.trace_core.specs.Putting.{trace_text}
@@ -35,7 +35,7 @@ module _ (conversion : Conversion) (source target bytes : List ℕ) where
       → IfSome h0 (λ m. Comes e (convert_due conversion source target m) (source ∷ []) m h2)
   conversion_cut e None h1 h2 made same is_cut = tt
   conversion_cut e (Some m) h1 h2 made same is_cut =
-      cut e work (λ d. convert_due conversion source target m ≡ d) (Contains (source ∷ [])) m h2 (is_due m made) (subst (λ h. IsCut e (written_file target bytes) h h2) same is_cut)
+      cut e work (λ d. convert_due conversion source target m ≡ as_due d) (Contains (source ∷ [])) m h2 (is_due m made) (subst (λ h. IsCut e (written_file target bytes) h h2) same is_cut)
 
   pub conversion_done : (v : Shown) (h0 h1 h2 : Option Held) → text_of v ≡ [] → shown_status v ≡ 0 → WasMade h0 → h1 ≡ h0 → h2 ≡ all_done (written_file target bytes) h1
       → IfSome h0 (λ m. Leaves (Ok v) (convert_due conversion source target m) (source ∷ []) m h2)

@@ -10,26 +10,14 @@ use Rattle.kit_tools.specs.declared.refusal.Refusal.TheVariants as refusals
 use Rattle.kit_tools.specs.Carrying.{IsCut}
 
 pub in_first : (e : Refusal) (es fs : List Effect) (before after : Option Held) → IsCut e es before after → IsCut e (es ++ fs) before after
+in_first (refusals.Due r) es fs before after h = absurd h
 in_first (refusals.Failed name) es fs before after h = cut_first name es fs before after h
 in_first refusals.Memory es fs before after h = (h.0, cut_first h.0 es fs before after h.1)
-in_first refusals.Usage es fs before after h = absurd h
-in_first (refusals.Source c f l) es fs before after h = absurd h
-in_first (refusals.Missing n) es fs before after h = absurd h
-in_first (refusals.Bad c n l) es fs before after h = absurd h
-in_first (refusals.Limit n) es fs before after h = absurd h
-in_first (refusals.OutOfRange n) es fs before after h = absurd h
-in_first refusals.LongCartridge es fs before after h = absurd h
 
 pub in_second : (e : Refusal) (es fs : List Effect) (before middle after : Option Held) → middle ≡ all_done es before → IsCut e fs middle after → IsCut e (es ++ fs) before after
+in_second (refusals.Due r) es fs before middle after m h = absurd h
 in_second (refusals.Failed name) es fs before middle after m h = cut_second name es fs before after (rw (← m) h)
 in_second refusals.Memory es fs before middle after m h = (h.0, cut_second h.0 es fs before after (rw (← m) h.1))
-in_second refusals.Usage es fs before middle after m h = absurd h
-in_second (refusals.Source c f l) es fs before middle after m h = absurd h
-in_second (refusals.Missing n) es fs before middle after m h = absurd h
-in_second (refusals.Bad c n l) es fs before middle after m h = absurd h
-in_second (refusals.Limit n) es fs before middle after m h = absurd h
-in_second (refusals.OutOfRange n) es fs before middle after m h = absurd h
-in_second refusals.LongCartridge es fs before middle after m h = absurd h
 
 -- memory may run out before a file is begun
 pub not_begun : (name bytes : List ℕ) (held : Option Held) → IsCut refusals.Memory (written_file name bytes) held held

@@ -8,6 +8,7 @@ use Rattle.cart_format.specs.declared.row.LineTable.{LineTable}
 use Rattle.cart_format.specs.Cartridge.{Cartridge, is_title, is_tail, is_cart, revision, total}
 use Rattle.cart_format.specs.Table.{is_table, are_rows}
 use Rattle.cart_format.proofs.Carts.{limits}
+use Rattle.kit_tools.specs.declared.refusal.DueRefusal.TheVariants as dues
 use Rattle.kit_tools.specs.declared.refusal.Refusal.TheVariants as refusals
 use Rattle.kit_tools.specs.Migration.{table_or_empty, in_second, second_due}
 
@@ -59,7 +60,7 @@ over_by c false e h broken = absurd (no_both (second_fits c h (no_more _ e)) bro
 pub second_over : (c : Cartridge) → is_cart c ≡ true → is_cart (in_second c) ≡ false → 268435456 < total (in_second c)
 second_over c h broken = over_by c (nat_lt 268435456 (total (in_second c))) refl h broken
 
-pub second_long : (c : Cartridge) → 268435456 < total (in_second c) → second_due c ≡ Err refusals.LongCartridge
+pub second_long : (c : Cartridge) → 268435456 < total (in_second c) → second_due c ≡ Err (refusals.Due dues.LongCartridge)
 second_long c over = rw (is_more (total (in_second c)) over) refl
 
 empty_table : (table : Option LineTable) (n : ℕ) → n ≡ revision table → n ≢ 2 → table_or_empty table ≡ record { files = []; rows = [] }

@@ -2,50 +2,38 @@
 use Rattle.std.proofs.Common.{ℕ, zero, suc, ◌≡◌, inr, List, [], ◌∷◌, arith}
 use Rattle.std.specs.Prelude.{Option, Some, Result, Ok, Err, Contains}
 use Rattle.kit_base.specs.Held.{Held}
+use Rattle.kit_tools.specs.declared.refusal.DueRefusal.{DueRefusal}
 use Rattle.kit_tools.specs.declared.refusal.Refusal.{Refusal}
 use Rattle.kit_tools.specs.declared.refusal.Refusal.TheVariants as refusals
 use Rattle.kit_tools.specs.Inputs.{or_refused}
 use Rattle.kit_tools.specs.Work.{Work, ComesBy}
-use Rattle.kit_tools.specs.Carrying.{FailsAt, IsCut}
+use Rattle.kit_tools.specs.Carrying.{FailsAt, FailsIn, IsCut}
 
 -- a writing part was cut short
-pub cut : (e : Refusal) (work : Work) (Due : Result Work Refusal → Type 0) (Reads : List ℕ → Type 0) (m : Held) (after : Option Held)
+pub cut : (e : Refusal) (work : Work) (Due : Result Work DueRefusal → Type 0) (Reads : List ℕ → Type 0) (m : Held) (after : Option Held)
     → Due (Ok work) → IsCut e work.effects (Some m) after → ComesBy e Due Reads m after
+cut (refusals.Due r) work Due Reads m after d h = absurd h
 cut (refusals.Failed n) work Due Reads m after d h = inr (work, d, h)
 cut refusals.Memory work Due Reads m after d h = inr (h.0, (work, d, h.1))
-cut refusals.Usage work Due Reads m after d h = absurd h
-cut (refusals.Source c f l) work Due Reads m after d h = absurd h
-cut (refusals.Missing n) work Due Reads m after d h = absurd h
-cut (refusals.Bad c n l) work Due Reads m after d h = absurd h
-cut (refusals.Limit n) work Due Reads m after d h = absurd h
-cut (refusals.OutOfRange n) work Due Reads m after d h = absurd h
-cut refusals.LongCartridge work Due Reads m after d h = absurd h
+
+-- a call that failed was of one of more files
+pub fails_wider : (A B : List ℕ → Type 0) (e : Refusal) → ((name : List ℕ) → A name → B name) → FailsIn A e → FailsIn B e
+fails_wider A B (refusals.Due r) f h = tt
+fails_wider A B (refusals.Failed n) f h = f n h
+fails_wider A B refusals.Memory f h = tt
 
 contains_later : (x n : List ℕ) (xs : List (List ℕ)) → Contains xs n → Contains (x ∷ xs) n
 contains_later x n xs (k, within, is) = (suc k, omega arith, is)
 
+contains_first : (x n : List ℕ) (xs : List (List ℕ)) → Contains (x ∷ []) n → Contains (x ∷ xs) n
+contains_first x n xs (zero, within, is) = (0, omega arith, is)
+contains_first x n xs (suc k, within, is) = absurd (omega (arith, within))
+
 pub fails_later : (x : List ℕ) (xs : List (List ℕ)) (e : Refusal) → FailsAt xs e → FailsAt (x ∷ xs) e
-fails_later x xs (refusals.Failed n) h = contains_later x n xs h
-fails_later x xs refusals.Memory h = tt
-fails_later x xs refusals.Usage h = tt
-fails_later x xs (refusals.Source c f l) h = tt
-fails_later x xs (refusals.Missing n) h = tt
-fails_later x xs (refusals.Bad c n l) h = tt
-fails_later x xs (refusals.Limit n) h = tt
-fails_later x xs (refusals.OutOfRange n) h = tt
-fails_later x xs refusals.LongCartridge h = tt
+fails_later x xs e h = fails_wider _ _ e (λ n c. contains_later x n xs c) h
 
 pub fails_first : (x : List ℕ) (xs : List (List ℕ)) (e : Refusal) → FailsAt (x ∷ []) e → FailsAt (x ∷ xs) e
-fails_first x xs (refusals.Failed n) (zero, within, is) = (0, omega arith, is)
-fails_first x xs (refusals.Failed n) (suc k, within, is) = absurd (omega (arith, within))
-fails_first x xs refusals.Memory h = tt
-fails_first x xs refusals.Usage h = tt
-fails_first x xs (refusals.Source c f l) h = tt
-fails_first x xs (refusals.Missing n) h = tt
-fails_first x xs (refusals.Bad c n l) h = tt
-fails_first x xs (refusals.Limit n) h = tt
-fails_first x xs (refusals.OutOfRange n) h = tt
-fails_first x xs refusals.LongCartridge h = tt
+fails_first x xs e h = fails_wider _ _ e (λ n c. contains_first x n xs c) h
 
 -- among the names of a trace
 pub second_fails : (x y : List ℕ) (names : List (List ℕ)) (e : Refusal) → FailsAt (y ∷ []) e → FailsAt (x ∷ y ∷ names) e

@@ -19,6 +19,7 @@ use Rattle.kit_words.specs.declared.conversion.Conversion.{Conversion}
 use Rattle.kit_words.specs.declared.conversion.Conversion.TheVariants.{Migrate, Assemble, Disassemble}
 use Rattle.kit_tools.specs.declared.refusal.Refusal.{Refusal}
 use Rattle.kit_tools.specs.declared.refusal.Refusal.TheVariants as refusals
+use Rattle.kit_tools.specs.declared.refusal.DueRefusal.TheVariants as dues
 use Rattle.kit_tools.specs.Inputs.{◌>>=◌, or_refused, bytes_due, cart_due}
 use Rattle.kit_tools.specs.Migration.{second_due, IsLong}
 use Rattle.kit_base.specs.Effects.{written_file}
@@ -33,12 +34,12 @@ migrated_due cart held = do
 
 -- the refusal of a text that is no assembly, by its code and its first faulty line
 abbrev pub no_items : List ℕ → ℕ × ℕ → Refusal
-no_items text (code, line) = refusals.Bad code text (Some line)
+no_items text (code, line) = refusals.Due (dues.Bad code text (Some line))
 
 -- the words of the items, or the first faulty item
 abbrev pub placed_unless : List ℕ → List AsmItem → Option Fault → Result (List ℕ) Refusal
 placed_unless text items None = Ok (words_of_items (address_in (labels_of items)) items)
-placed_unless text items (Some (code, item)) = Err (refusals.Bad code text (Some item))
+placed_unless text items (Some (code, item)) = Err (refusals.Due (dues.Bad code text (Some item)))
 
 -- the words file of what the text's items are placed as
 abbrev pub assembled_due : List ℕ → Held → Result (List ℕ) Refusal
@@ -50,7 +51,7 @@ assembled_due text held = do
 
 -- the refusal of a file that is no words file
 abbrev pub no_words : List ℕ → AssetErr → Refusal
-no_words name (asset_errors.At code) = refusals.Bad code name None
+no_words name (asset_errors.At code) = refusals.Due (dues.Bad code name None)
 no_words name asset_errors.Memory = refusals.Memory
 
 -- the text of the items that the words are taken apart into

@@ -13,7 +13,7 @@ use Rattle.kit_tools.specs.declared.running.Opened.{Opened}
 use Rattle.kit_tools.specs.declared.running.OwnNames.{OwnNames}
 use Rattle.kit_tools.specs.declared.refusal.Refusal.{Refusal}
 use Rattle.kit_tools.specs.declared.shown.Shown.{Shown}
-use Rattle.kit_tools.specs.Running.{Game, Settings, end_status, game_end, game_with}
+use Rattle.kit_tools.specs.Running.{Game, Settings, end_status, game_end}
 use Rattle.kit_tools.specs.Carrying.{IsCut, shown_status, text_of}
 
 -- what was read, as what is run

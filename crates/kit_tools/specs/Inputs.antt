@@ -14,6 +14,7 @@ use Rattle.line_text.specs.Reading.{read_from}
 use Rattle.run_files.specs.Answers.{answer_step}
 use Rattle.kit_tools.specs.declared.refusal.Refusal.{Refusal}
 use Rattle.kit_tools.specs.declared.refusal.Refusal.TheVariants as refusals
+use Rattle.kit_tools.specs.declared.refusal.DueRefusal.TheVariants as dues
 
 infixl 10 ◌>>=◌
 abbrev pub ◌>>=◌ : {A B : Type 0} → Result A Refusal → (A → Result B Refusal) → Result B Refusal
@@ -26,15 +27,15 @@ or_refused f (Err e) = Err (f e)
 
 -- the refusal of a read of that file
 abbrev pub unread : List ℕ → FileErr → Refusal
-unread name file_errors.Missing = refusals.Missing name
+unread name file_errors.Missing = refusals.Due (dues.Missing name)
 unread name file_errors.Failed = refusals.Failed name
-unread name file_errors.TooLong = refusals.Limit name
+unread name file_errors.TooLong = refusals.Due (dues.Limit name)
 unread name file_errors.Memory = refusals.Memory
 
 -- the refusal of a file that is no cartridge
 abbrev pub no_cart : List ℕ → CartErr → Refusal
-no_cart name (cart_errors.At code) = refusals.Bad code name None
-no_cart name (cart_errors.BadSection index) = refusals.Bad 83 name None
+no_cart name (cart_errors.At code) = refusals.Due (dues.Bad code name None)
+no_cart name (cart_errors.BadSection index) = refusals.Due (dues.Bad 83 name None)
 no_cart name cart_errors.Memory = refusals.Memory
 
 -- the bytes of the file
@@ -49,7 +50,7 @@ cart_due name held = do
 
 -- the refusal of a list of answers, by its code and its first faulty line
 abbrev pub no_answers : List ℕ → ℕ × ℕ → Refusal
-no_answers name (code, line) = refusals.Bad code name (Some line)
+no_answers name (code, line) = refusals.Due (dues.Bad code name (Some line))
 
 -- the answers of the file, one word per line
 abbrev pub answers_due : List ℕ → Held → Result (List ℕ) Refusal
@@ -59,7 +60,7 @@ answers_due name held = do
 
 -- a card is 262,144 words, and nothing else
 abbrev pub card_in : List ℕ → List ℕ → Result (List ℕ) Refusal
-card_in name bytes = if length bytes == 1048576 then Ok (words_of bytes) else Err (refusals.Bad 110 name None)
+card_in name bytes = if length bytes == 1048576 then Ok (words_of bytes) else Err (refusals.Due (dues.Bad 110 name None))
 
 -- the words of the card file, where there is one
 abbrev pub card_due : Option (List ℕ) → Held → Result (Option (List ℕ)) Refusal

@@ -4,6 +4,7 @@ use Rattle.cart_format.specs.declared.row.LineTable.{LineTable}
 use Rattle.cart_format.specs.Cartridge.{Cartridge, total}
 use Rattle.kit_tools.specs.declared.refusal.Refusal.{Refusal}
 use Rattle.kit_tools.specs.declared.refusal.Refusal.TheVariants as refusals
+use Rattle.kit_tools.specs.declared.refusal.DueRefusal.TheVariants as dues
 use Rattle.kit_base.specs.Held.{Held}
 use Rattle.kit_tools.specs.Inputs.{cart_due}
 
@@ -23,7 +24,7 @@ in_second cart = record {
 
 -- its file is not over the longest one
 abbrev pub second_due : Cartridge → Result Cartridge Refusal
-second_due cart = if nat_lt 268435456 (total (in_second cart)) then Err refusals.LongCartridge else Ok (in_second cart)
+second_due cart = if nat_lt 268435456 (total (in_second cart)) then Err (refusals.Due dues.LongCartridge) else Ok (in_second cart)
 
 -- the file's cartridge would be too long in its second revision
 pub record IsLong (cart : List ℕ) (held : Option Held) : Type 0 where

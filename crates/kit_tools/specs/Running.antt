@@ -12,6 +12,7 @@ use Rattle.run_core.specs.Ending.{Lines, end_text, lines_of}
 use Rattle.run_core.specs.Outputs.{Names, run_end, run_outputs}
 use Rattle.kit_tools.specs.declared.refusal.Refusal.{Refusal}
 use Rattle.kit_tools.specs.declared.refusal.Refusal.TheVariants as refusals
+use Rattle.kit_tools.specs.declared.refusal.DueRefusal.TheVariants as dues
 use Rattle.kit_words.specs.Command.{RunWords, Run, command_of}
 use Rattle.kit_tools.specs.Inputs.{◌>>=◌, or_refused, bytes_due, cart_due, card_due}
 use Rattle.kit_tools.specs.Tracing.{card_names}
@@ -20,7 +21,7 @@ use Rattle.kit_tools.specs.Work.{Work}
 
 -- the refusal of a pads file, by its code and its first faulty line
 abbrev pub no_pads : List ℕ → ℕ × ℕ → Refusal
-no_pads name (code, line) = refusals.Bad code name (Some line)
+no_pads name (code, line) = refusals.Due (dues.Bad code name (Some line))
 
 -- the script of the pads file
 abbrev pub pads_due : List ℕ → Held → Result Script Refusal
@@ -33,7 +34,7 @@ abbrev pub is_count : ℕ → Bool
 is_count count = nat_le 1 count && nat_le count 3600
 
 abbrev pub count_due : List ℕ → Result ℕ Refusal
-count_due word = if is_count (number_of word) then Ok (number_of word) else Err (refusals.OutOfRange word)
+count_due word = if is_count (number_of word) then Ok (number_of word) else Err (refusals.Due (dues.OutOfRange word))
 
 -- what is run: a console's setup, for how many frames, and what tells the place of a fault
 pub record Game : Type 0 where

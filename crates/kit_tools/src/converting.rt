@@ -13,7 +13,7 @@ ghost use Rattle.kit_tools.specs.Migration.{IsLong, in_second, second_due};
 
 use kit_words::Conversion;
 use crate::reading::{read_cart_file, read_file};
-use crate::refusal::Refusal;
+use crate::refusal::{DueRefusal, Refusal};
 use crate::shown::Shown;
 use crate::writing::write_output;
 use asm_items::{AsmItem, disassemble, write_asm};
@@ -42,7 +42,7 @@ fn in_second(alloc: Global, cart: Cart) -> Result<Cart, Refusal>
     let (files, rows) = (Vec::new(alloc), Vec::new(alloc));
     match Cart::with_lines(title, program, textures, sounds, files, rows) {
         Some(second) => Ok(second),
-        None => Err(Refusal::LongCartridge),
+        None => Err(Refusal::Due(DueRefusal::LongCartridge)),
     }
 }
 
@@ -69,11 +69,11 @@ fn items_of_text(alloc: Global, name: &str, text: &[u8]) -> Result<Vec<AsmItem>,
         Ok(items) => Ok(items),
         Err(AsmErr::At { code, at }) => {
             let name = Name::new(alloc, name)?;
-            Err(Refusal::Bad {
+            Err(Refusal::Due(DueRefusal::Bad {
                 code,
                 name,
                 line: Some(at),
-            })
+            }))
         }
         Err(AsmErr::Memory) => Err(Refusal::Memory),
     }
@@ -89,11 +89,11 @@ fn placed(alloc: Global, name: &str, items: &[AsmItem]) -> Result<Placement, Ref
         Ok(placement) => Ok(placement),
         Err(AsmErr::At { code, at }) => {
             let name = Name::new(alloc, name)?;
-            Err(Refusal::Bad {
+            Err(Refusal::Due(DueRefusal::Bad {
                 code,
                 name,
                 line: Some(at),
-            })
+            }))
         }
         Err(AsmErr::Memory) => Err(Refusal::Memory),
     }
@@ -123,11 +123,11 @@ fn words_of_file(alloc: Global, name: &str, bytes: &[u8]) -> Result<Vec<u32>, Re
         Ok(words) => Ok(words),
         Err(AssetErr::At { code }) => {
             let name = Name::new(alloc, name)?;
-            Err(Refusal::Bad {
+            Err(Refusal::Due(DueRefusal::Bad {
                 code,
                 name,
                 line: None,
-            })
+            }))
         }
         Err(AssetErr::Memory) => Err(Refusal::Memory),
     }

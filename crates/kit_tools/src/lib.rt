@@ -15,7 +15,7 @@ mod writing;
 
 pub use converting::convert_command;
 pub use reading::read_file;
-pub use refusal::{Refusal, line_of, status_of};
+pub use refusal::{DueRefusal, Refusal, line_of, status_of};
 pub use running::{
     Loaded, LoadedSettings, Opened, OwnNames, open_game, read_settings, run_command, write_outputs,
 };

@@ -1,18 +1,19 @@
 // Why a command is refused, with the status and the line of each refusal.
 ghost use Rattle.std.specs.Prelude.{◌≡◌, IfOk};
-ghost use Rattle.kit_tools.specs.Refusal.{line_of, status_of};
+ghost use Rattle.kit_tools.specs.Refusal.{due_line, due_status, line_of, status_of};
 ghost use Rattle.kit_tools.specs.Inputs.{no_cart, unread};
-ghost use Rattle.kit_tools.specs.declared.refusal.Refusal.TheVariants.{Source, Bad, Memory};
+ghost use Rattle.kit_tools.specs.declared.refusal.DueRefusal.TheVariants.{Source, Bad};
+ghost use Rattle.kit_tools.specs.declared.refusal.Refusal.TheVariants.{Memory};
 
 use cart_format::CartErr;
 use kit_base::{FileErr, Name, join_pieces};
 use std::alloc::{AllocError, Global};
 
-/// A refusal: the words are no form (1), the sources give no program (2), a file is missing (4), a
-/// call of the files failed (5), a file is not of its grammar (6), a file that is read is too long,
-/// a number word is out of its range, or a cartridge would be too long (7), or memory ran out (8).
+/// A refusal that the words or the files are due: the words are no form (1), the sources give no program (2), a file is missing (4), a file is
+/// not of its grammar (6), a file that is read is too long, a number word is out of its range, or a cartridge would be too long (7). Lines count
+/// from 1.
 #[derive(Drop)]
-pub enum Refusal {
+pub enum DueRefusal {
     Usage,
     Source {
         code: u32,
@@ -20,7 +21,6 @@ pub enum Refusal {
         line: u32,
     },
     Missing(Name),
-    Failed(Name),
     Bad {
         code: u32,
         name: Name,
@@ -29,6 +29,13 @@ pub enum Refusal {
     Limit(Name),
     OutOfRange(Name),
     LongCartridge,
+}
+
+/// Why a command is refused: one that is due, a call of the files that failed, at the file of that name (5), or want of memory (8).
+#[derive(Drop)]
+pub enum Refusal {
+    Due(DueRefusal),
+    Failed(Name),
     Memory,
 }
 
@@ -45,9 +52,9 @@ pub fn unread(name: Name, error: FileErr) -> Refusal
     ensures { result ≡ unread name error }
 {
     match error {
-        FileErr::Missing => Refusal::Missing(name),
+        FileErr::Missing => Refusal::Due(DueRefusal::Missing(name)),
         FileErr::Failed => Refusal::Failed(name),
-        FileErr::TooLong => Refusal::Limit(name),
+        FileErr::TooLong => Refusal::Due(DueRefusal::Limit(name)),
         FileErr::Memory => Refusal::Memory,
     }
 }
@@ -61,7 +68,20 @@ pub fn no_cart(name: Name, error: CartErr) -> Refusal
         CartErr::BadSection(_) => (83, None),
         CartErr::Memory => return Refusal::Memory,
     };
-    Refusal::Bad { code, name, line }
+    Refusal::Due(DueRefusal::Bad { code, name, line })
+}
+
+/// The exit status of a refusal that is due.
+fn due_status(refusal: &DueRefusal) -> u8
+    ensures { result ≡ due_status refusal.now }
+{
+    match refusal {
+        DueRefusal::Usage => 1,
+        DueRefusal::Source { .. } => 2,
+        DueRefusal::Missing(_) => 4,
+        DueRefusal::Bad { .. } => 6,
+        DueRefusal::Limit(_) | DueRefusal::OutOfRange(_) | DueRefusal::LongCartridge => 7,
+    }
 }
 
 /// The exit status.
@@ -69,18 +89,14 @@ pub fn status_of(refusal: &Refusal) -> u8
     ensures { result ≡ status_of refusal.now }
 {
     match refusal {
-        Refusal::Usage => 1,
-        Refusal::Source { .. } => 2,
-        Refusal::Missing(_) => 4,
+        Refusal::Due(refusal) => due_status(refusal),
         Refusal::Failed(_) => 5,
-        Refusal::Bad { .. } => 6,
-        Refusal::Limit(_) | Refusal::OutOfRange(_) | Refusal::LongCartridge => 7,
         Refusal::Memory => 8,
     }
 }
 
 fn source_line(alloc: Global, code: u32, file: &Name, line: u32) -> Result<Vec<u8>, AllocError>
-    ensures { IfOk result (λ v. v.items ≡ line_of (Source code file.now line)) }
+    ensures { IfOk result (λ v. v.items ≡ due_line (Source code file.now line)) }
 {
     let code = code.to_string(alloc)?;
     let line = line.to_string(alloc)?;
@@ -99,7 +115,7 @@ fn source_line(alloc: Global, code: u32, file: &Name, line: u32) -> Result<Vec<u
 }
 
 fn bad_line(alloc: Global, code: u32, name: &Name, line: Option<u64>) -> Result<Vec<u8>, AllocError>
-    ensures { IfOk result (λ v. v.items ≡ line_of (Bad code name.now line)) }
+    ensures { IfOk result (λ v. v.items ≡ due_line (Bad code name.now line)) }
 {
     let code = code.to_string(alloc)?;
     let (code, name) = (code.as_bytes(), name.bytes());
@@ -116,19 +132,28 @@ fn bad_line(alloc: Global, code: u32, name: &Name, line: Option<u64>) -> Result<
     }
 }
 
+/// The line of a refusal that is due.
+fn due_line(alloc: Global, refusal: &DueRefusal) -> Result<Vec<u8>, AllocError>
+    ensures { IfOk result (λ v. v.items ≡ due_line refusal.now) }
+{
+    match refusal {
+        DueRefusal::Usage => join_pieces(alloc, &[b"usage error", b"\n"]),
+        DueRefusal::Source { code, file, line } => source_line(alloc, *code, file, *line),
+        DueRefusal::Missing(name) => join_pieces(alloc, &[b"missing ", name.bytes(), b"\n"]),
+        DueRefusal::Bad { code, name, line } => bad_line(alloc, *code, name, *line),
+        DueRefusal::Limit(name) => join_pieces(alloc, &[b"limit ", name.bytes(), b"\n"]),
+        DueRefusal::OutOfRange(word) => join_pieces(alloc, &[b"limit ", word.bytes(), b"\n"]),
+        DueRefusal::LongCartridge => join_pieces(alloc, &[b"limit cartridge", b"\n"]),
+    }
+}
+
 /// The line that is put, with its LF.
 pub fn line_of(alloc: Global, refusal: &Refusal) -> Result<Vec<u8>, AllocError>
     ensures { IfOk result (λ v. v.items ≡ line_of refusal.now) }
 {
     match refusal {
-        Refusal::Usage => join_pieces(alloc, &[b"usage error", b"\n"]),
-        Refusal::Source { code, file, line } => source_line(alloc, *code, file, *line),
-        Refusal::Missing(name) => join_pieces(alloc, &[b"missing ", name.bytes(), b"\n"]),
+        Refusal::Due(refusal) => due_line(alloc, refusal),
         Refusal::Failed(name) => join_pieces(alloc, &[b"file fault ", name.bytes(), b"\n"]),
-        Refusal::Bad { code, name, line } => bad_line(alloc, *code, name, *line),
-        Refusal::Limit(name) => join_pieces(alloc, &[b"limit ", name.bytes(), b"\n"]),
-        Refusal::OutOfRange(word) => join_pieces(alloc, &[b"limit ", word.bytes(), b"\n"]),
-        Refusal::LongCartridge => join_pieces(alloc, &[b"limit cartridge", b"\n"]),
         Refusal::Memory => join_pieces(alloc, &[b"out of memory", b"\n"]),
     }
 }

@@ -19,7 +19,7 @@ ghost use Rattle.kit_words.specs.Number.{number_of};
 use kit_words::RunWords;
 use kit_words::number_of;
 use crate::reading::{read_card_file, read_cart_file, read_file};
-use crate::refusal::Refusal;
+use crate::refusal::{DueRefusal, Refusal};
 use crate::shown::Shown;
 use cart_format::Cart;
 use kit_base::{FileErr, Files, Memory as OutOfMemory, Name};
@@ -56,7 +56,7 @@ fn count_of(alloc: Global, word: &str) -> Result<u32, Refusal>
 {
     let count = number_of(word.as_bytes());
     if count < 1 || count > FRAME_LIMIT {
-        return Err(Refusal::OutOfRange(Name::new(alloc, word)?));
+        return Err(Refusal::Due(DueRefusal::OutOfRange(Name::new(alloc, word)?)));
     }
     Ok(count)
 }
@@ -71,11 +71,11 @@ fn pads_of_text(alloc: Global, name: &str, text: &[u8]) -> Result<Pads, Refusal>
         Ok(pads) => Ok(pads),
         Err(PadsErr::At { code, line }) => {
             let own = Name::new(alloc, name)?;
-            Err(Refusal::Bad {
+            Err(Refusal::Due(DueRefusal::Bad {
                 code,
                 name: own,
                 line: Some(u64::from(line)),
-            })
+            }))
         }
         Err(PadsErr::Memory) => Err(Refusal::Memory),
     }

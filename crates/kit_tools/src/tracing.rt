@@ -9,7 +9,7 @@ ghost use Rattle.kit_words.specs.Number.{number_of};
 
 use kit_words::number_of;
 use crate::reading::{read_answers_file, read_card_file, read_cart_file};
-use crate::refusal::Refusal;
+use crate::refusal::{DueRefusal, Refusal};
 use crate::shown::Shown;
 use cpu_core::Cpu;
 use kit_base::{Files, Name};
@@ -26,7 +26,7 @@ fn steps_of(alloc: Global, word: &str) -> Result<u32, Refusal>
 {
     let steps = number_of(word.as_bytes());
     if steps > STEP_LIMIT {
-        return Err(Refusal::OutOfRange(Name::new(alloc, word)?));
+        return Err(Refusal::Due(DueRefusal::OutOfRange(Name::new(alloc, word)?)));
     }
     Ok(steps)
 }

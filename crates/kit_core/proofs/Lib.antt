@@ -6,6 +6,7 @@ pub mod Headlines
 pub mod Traces
 pub mod Runs
 pub mod Projects
+pub mod Reached
 pub mod Checks
 pub mod Builds
 pub mod PlayedFiles

@@ -11,6 +11,7 @@ use Rattle.build_core.specs.declared.error.BuildErr.TheVariants as build_errors
 use Rattle.build_core.specs.declared.building.Built.{Built}
 use Rattle.build_core.specs.Build.{HasNoParts, IsBuilt, IsUnbuilt}
 use Rattle.build_core.specs.Checked.{IsAccepted, IsRejected}
+use Rattle.build_core.specs.Reached.{IsReadToBuild, IsReadToCheck}
 use Rattle.c_types.specs.Programs.{ProgramT}
 use Rattle.project_text.specs.MapText.{map_text}
 use Rattle.kit_tools.specs.declared.refusal.DueRefusal.{DueRefusal}
@@ -22,7 +23,7 @@ use Rattle.kit_tools.specs.Inputs.{unread}
 use Rattle.kit_tools.specs.Work.{Work, accepted, as_due}
 use Rattle.kit_tools.specs.Converting.{convert_due}
 use Rattle.kit_tools.specs.Tracing.{trace_due, trace_reads}
-use Rattle.kit_tools.specs.Running.{Game, Settings, end_status, game_end, game_with, names_in, run_due, run_reads, settings_due}
+use Rattle.kit_tools.specs.Running.{Game, Settings, end_status, game_end, game_with, names_in, run_due, run_reads, settings_due, settings_reads}
 use Rattle.run_core.specs.Ending.{end_text}
 use Rattle.run_core.specs.Outputs.{run_outputs}
 
@@ -142,16 +143,34 @@ form_refused c held refusal = form_due c held (Err refusal)
 abbrev pub command_refused : List (List ℕ) → Held → DueRefusal → Type 0
 command_refused words held refusal = form_refused (command_of words) held refusal
 
--- The names that a command reads. Which files a build, a play and a check read beside those that the project names is not told.
-abbrev pub command_reads : Option Command → Held → List ℕ → Type 0
+-- The files that a command on a project reads: the project's own, and those that its text asks for.
+abbrev pub project_reads : (AreRead : (text name : List ℕ) → Type 0) → (project : List ℕ) → Result (List ℕ) FileErr → (name : List ℕ) → Type 0
+project_reads AreRead project (Ok text) name = (name ≡ project) ⊎ AreRead text name
+project_reads AreRead project (Err e) name = name ≡ project
+
+-- a play reads the pads file and the card as well
+abbrev pub IsReadToPlay : RunWords → Held → (text name : List ℕ) → Type 0
+IsReadToPlay words held text name = IsReadToBuild held text name ⊎ Contains (settings_reads words) name
+
+abbrev pub build_reads : (project : List ℕ) → Held → (name : List ℕ) → Type 0
+build_reads project held name = project_reads (IsReadToBuild held) project (due held project) name
+
+abbrev pub play_reads : (project : List ℕ) → RunWords → Held → (name : List ℕ) → Type 0
+play_reads project words held name = project_reads (IsReadToPlay words held) project (due held project) name
+
+abbrev pub check_reads : (project : List ℕ) → Held → (name : List ℕ) → Type 0
+check_reads project held name = project_reads (IsReadToCheck held) project (due held project) name
+
+-- the files that a command reads
+abbrev pub command_reads : Option Command → Held → (name : List ℕ) → Type 0
 command_reads None held name = ⊥
-command_reads (Some (Build project cart map_name)) held name = Unit {0}
+command_reads (Some (Build project cart map_name)) held name = build_reads project held name
 command_reads (Some (Convert conversion source target)) held name = Contains (source ∷ []) name
 command_reads (Some (Trace cart answers card steps)) held name = Contains (trace_reads cart answers card) name
 command_reads (Some (Run words)) held name = Contains (run_reads words) name
-command_reads (Some (Play project map_name words)) held name = Unit {0}
-command_reads (Some (Check project)) held name = Unit {0}
+command_reads (Some (Play project map_name words)) held name = play_reads project words held name
+command_reads (Some (Check project)) held name = check_reads project held name
 
--- the names that the command of these words reads
-abbrev pub reads_due : List (List ℕ) → Held → List ℕ → Type 0
+-- the files that the command of these words reads
+abbrev pub reads_due : List (List ℕ) → Held → (name : List ℕ) → Type 0
 reads_due words held name = command_reads (command_of words) held name

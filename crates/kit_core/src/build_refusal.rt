@@ -11,7 +11,11 @@ pub fn unbuilt(project: Name, error: BuildErr) -> Refusal
     ensures { result ≡ unbuilt project error }
 {
     match error {
-        BuildErr::Source { code, file, line } => Refusal::Due(DueRefusal::Source { code, file, line }),
+        BuildErr::Source { code, file, line } => Refusal::Due(DueRefusal::Source {
+            code,
+            file,
+            line,
+        }),
         BuildErr::Missing(name) => Refusal::Due(DueRefusal::Missing(name)),
         BuildErr::Failed(name) => Refusal::Failed(name),
         BuildErr::Bad {

@@ -3,11 +3,12 @@ ghost use Rattle.std.specs.Prelude.{◌≡◌, ◌≤◌, IfSome, IfOk, OnOk, If
 ghost use Rattle.kit_base.specs.Effects.{all_done};
 ghost use Rattle.build_core.specs.Build.{IsCartText};
 ghost use Rattle.build_core.specs.Causes.{CanBeTooLarge};
-ghost use Rattle.kit_tools.specs.Carrying.{IsCut, LeavesBy};
+ghost use Rattle.build_core.specs.Reached.{IsReadToBuild};
+ghost use Rattle.kit_tools.specs.Carrying.{FailsIn, IsCut, LeavesBy};
 ghost use Rattle.kit_tools.specs.Causes.{HasCauses, HasCausesOr, counts};
 ghost use Rattle.kit_core.specs.Limits.{IsLarge};
 ghost use Rattle.kit_core.specs.Checking.{TextBuilt};
-ghost use Rattle.kit_core.specs.Due.{build_due, outputs_of};
+ghost use Rattle.kit_core.specs.Due.{build_due, build_reads, outputs_of};
 ghost use Rattle.kit_core.specs.Playing.{AreOutputs};
 
 use crate::build_refusal::unbuilt;
@@ -27,6 +28,8 @@ pub fn build_text<F: Files>(
     requires { length text.now ≤ 268435456 }
     ensures held { F.held files.new ≡ F.held files.old }
     ensures told { IfSome (F.held files.old) (λ m. TextBuilt project.now text.now m result) }
+    // A call that failed was at a file that is read to build the project.
+    ensures reached { IfSome (F.held files.old) (λ m. IfErr result (FailsIn (IsReadToBuild m text.now))) }
     ensures cartridge { IfOk result (λ b. IsCartText b.cart) }
     ensures causes { HasCausesOr (CanBeTooLarge text.now) result (counts F.faults F.misses F.overs files.old) (counts F.faults F.misses F.overs files.new) }
 {
@@ -113,7 +116,7 @@ pub fn build_command<F: Files>(
     cart: &str,
     map: &str,
 ) -> Result<Shown, Refusal>
-    ensures told { IfSome (F.held files.old) (λ m. LeavesBy result (build_due project.now cart.now map.now m) (λ name. Unit {0}) m (F.held files.new)) }
+    ensures told { IfSome (F.held files.old) (λ m. LeavesBy result (build_due project.now cart.now map.now m) (build_reads project.now m) m (F.held files.new)) }
     ensures causes { HasCausesOr (IsLarge project.now (F.held files.old)) result (counts F.faults F.misses F.overs files.old) (counts F.faults F.misses F.overs files.new) }
 {
     let text = read_file(alloc, files, project)?;

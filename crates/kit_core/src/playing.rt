@@ -5,7 +5,7 @@ ghost use Rattle.build_core.specs.Build.{IsCartText};
 ghost use Rattle.cart_format.specs.Reading.{cart_of};
 ghost use Rattle.kit_tools.specs.Carrying.{LeavesBy};
 ghost use Rattle.kit_tools.specs.Causes.{HasCauses, HasCausesOr, counts};
-ghost use Rattle.kit_core.specs.Due.{play_due, play_work};
+ghost use Rattle.kit_core.specs.Due.{play_due, play_reads, play_work};
 ghost use Rattle.kit_core.specs.Playing.{AreOutputs, IsCarried, IsGameOf};
 ghost use Rattle.kit_tools.specs.Gaming.{IsOpened, game_of};
 ghost use Rattle.kit_core.specs.Limits.{IsLarge};
@@ -104,7 +104,7 @@ pub fn play_command<F: Files>(
     map: &str,
     words: &RunWords<'_>,
 ) -> Result<Shown, Refusal>
-    ensures told { IfSome (F.held files.old) (λ m. LeavesBy result (play_due project.now map.now (run_words_from words.now) m) (λ name. Unit {0}) m (F.held files.new)) }
+    ensures told { IfSome (F.held files.old) (λ m. LeavesBy result (play_due project.now map.now (run_words_from words.now) m) (play_reads project.now (run_words_from words.now) m) m (F.held files.new)) }
     ensures causes { HasCausesOr (IsLarge project.now (F.held files.old) ⊎ (is_count (number_of words.now.count.now) ≡ false)) result (counts F.faults F.misses F.overs files.old) (counts F.faults F.misses F.overs files.new) }
 {
     let text = read_file(alloc, files, project)?;

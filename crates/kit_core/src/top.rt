@@ -22,7 +22,9 @@ use crate::checking::check_command;
 use crate::playing::play_command;
 use build_core::builds_are_due_or_refused;
 use kit_base::{Files, Sink, SinkErr};
-use kit_tools::{DueRefusal, Refusal, Shown, convert_command, line_of, run_command, status_of, trace_command};
+use kit_tools::{
+    DueRefusal, Refusal, Shown, convert_command, line_of, run_command, status_of, trace_command,
+};
 use kit_words::{Command, command_of};
 use run_core::Ending;
 use std::alloc::Global;

@@ -11,7 +11,6 @@ ghost use Rattle.kit_tools.specs.Converting.{assembled_due, disassembled_due, ma
 ghost use Rattle.kit_tools.specs.Inputs.{or_refused};
 ghost use Rattle.kit_tools.specs.Migration.{IsLong, in_second, second_due};
 
-use kit_words::Conversion;
 use crate::reading::{read_cart_file, read_file};
 use crate::refusal::{DueRefusal, Refusal};
 use crate::shown::Shown;
@@ -22,6 +21,7 @@ use assembler::{Placement, assemble};
 use asset_pack::{AssetErr, read_words, write_words};
 use cart_format::{Cart, CartParts, write_cart};
 use kit_base::{Files, Name};
+use kit_words::Conversion;
 use std::alloc::Global;
 
 /// The cartridge in its second revision: as it is, or with an empty line table.

@@ -16,13 +16,12 @@ ghost use Rattle.kit_words.specs.Parsed.{run_words_from};
 ghost use Rattle.kit_tools.specs.Gaming.{AreNames, IsOpened, IsWritten, game_of, settings_of};
 ghost use Rattle.kit_words.specs.Number.{number_of};
 
-use kit_words::RunWords;
-use kit_words::number_of;
 use crate::reading::{read_card_file, read_cart_file, read_file};
 use crate::refusal::{DueRefusal, Refusal};
 use crate::shown::Shown;
 use cart_format::Cart;
 use kit_base::{FileErr, Files, Memory as OutOfMemory, Name};
+use kit_words::{RunWords, number_of};
 use run_core::{Ending, Output, Run, RunNames, Unwritten};
 use run_files::{Pads, PadsErr, read_pads};
 use std::alloc::Global;

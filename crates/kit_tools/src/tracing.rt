@@ -7,12 +7,12 @@ ghost use Rattle.kit_tools.specs.Causes.{HasCausesOr, IsOwn, counts};
 ghost use Rattle.kit_tools.specs.Tracing.{trace_due, steps_due, trace_reads, traced_due};
 ghost use Rattle.kit_words.specs.Number.{number_of};
 
-use kit_words::number_of;
 use crate::reading::{read_answers_file, read_card_file, read_cart_file};
 use crate::refusal::{DueRefusal, Refusal};
 use crate::shown::Shown;
 use cpu_core::Cpu;
 use kit_base::{Files, Name};
+use kit_words::number_of;
 use std::alloc::Global;
 use trace_core::Trace;
 

@@ -9,16 +9,20 @@ use Rattle.kit_base.specs.declared.outside.FileErr.{FileErr}
 use Rattle.build_core.specs.declared.building.Built.{Built}
 use Rattle.build_core.specs.declared.error.BuildErr.{BuildErr}
 use Rattle.build_core.specs.Build.{HasNoParts, IsBuilt}
-use Rattle.kit_core.specs.declared.refusal.Refusal.{Refusal}
-use Rattle.kit_core.specs.declared.refusal.Refusal.TheVariants as refusals
-use Rattle.kit_core.specs.Causes.{IsUnrisen}
-use Rattle.kit_core.specs.Running.{settings_due}
+use Rattle.kit_tools.specs.declared.refusal.DueRefusal.{DueRefusal}
+use Rattle.kit_tools.specs.declared.refusal.Refusal.{Refusal}
+use Rattle.kit_tools.specs.declared.refusal.Refusal.TheVariants as refusals
+use Rattle.kit_tools.specs.Causes.{IsUnrisen}
+use Rattle.kit_tools.specs.Running.{settings_due, run_due}
 use Rattle.kit_words.specs.Command.{RunWords, Command, Build, Convert, Trace, Run, Play, Check, command_of}
-use Rattle.kit_core.specs.Due.{Work, convert_due, trace_due, run_due, read_build_due, read_build_refused, read_check_due, read_play_due, form_due, form_refused, command_due, command_refused}
-use Rattle.kit_core.specs.Outcome.{ComesBy, IsShown, EndsAs, Done, Refused, FileFault, OutOfMemory, SinkFault, IsOutcome, status_due}
+use Rattle.kit_tools.specs.Work.{Work, ComesBy}
+use Rattle.kit_tools.specs.Converting.{convert_due}
+use Rattle.kit_tools.specs.Tracing.{trace_due}
+use Rattle.kit_core.specs.Due.{read_build_due, read_build_refused, read_check_due, read_play_due, form_due, form_refused, command_due, command_refused}
+use Rattle.kit_core.specs.Outcome.{IsShown, EndsAs, Done, Refused, FileFault, OutOfMemory, SinkFault, IsOutcome, status_due}
 
 -- where no work with effects is due, nothing changed
-module _ (Due : Result Work Refusal → Type 0) (Reads : List ℕ → Type 0) (m : Held) (after : Option Held) (none : (w : Work) → Due (Ok w) → w.effects ≡ []) where
+module _ (Due : Result Work DueRefusal → Type 0) (Reads : List ℕ → Type 0) (m : Held) (after : Option Held) (none : (w : Work) → Due (Ok w) → w.effects ≡ []) where
   done_still : (w : Work) → Due (Ok w) → after ≡ all_done w.effects (Some m) → after ≡ Some m
   done_still w d e = e ∙ ap (λ es. all_done es (Some m)) (none w d)
 
@@ -26,17 +30,11 @@ module _ (Due : Result Work Refusal → Type 0) (Reads : List ℕ → Type 0) (m
   not_cut name w d h = subst (λ es. CutShort name es (Some m) after) (none w d) h
 
   comes_still : (e : Refusal) → ComesBy e Due Reads m after → after ≡ Some m
+  comes_still (refusals.Due r) h = h.1
   comes_still (refusals.Failed n) (inl h) = h.1
   comes_still (refusals.Failed n) (inr (w, d, h)) = absurd (not_cut n w d h)
   comes_still refusals.Memory (inl h) = h
   comes_still refusals.Memory (inr (n, (w, d, h))) = absurd (not_cut n w d h)
-  comes_still refusals.Usage h = h.1
-  comes_still (refusals.Source c f l) h = h.1
-  comes_still (refusals.Missing n) h = h.1
-  comes_still (refusals.Bad c n l) h = h.1
-  comes_still (refusals.Limit n) h = h.1
-  comes_still (refusals.OutOfRange n) h = h.1
-  comes_still refusals.LongCartridge h = h.1
 
   shown_still : (text : List ℕ) → IsShown text Due Reads m after → after ≡ Some m
   shown_still text (inl (w, d, files, t)) = done_still w d files
@@ -62,35 +60,35 @@ check_still project m (Err e) w h = absurd cc
 abbrev Law : Type 0
 Law = (m : Held) (project : List ℕ) (b : Built) (e : BuildErr) → IsBuilt m project b → HasNoParts m project e → ⊥
 
-no_build : Law → (project cart map_name : List ℕ) (m : Held) (r : Result (List ℕ) FileErr) (e : Refusal) (w : Work)
+no_build : Law → (project cart map_name : List ℕ) (m : Held) (r : Result (List ℕ) FileErr) (e : DueRefusal) (w : Work)
     → read_build_refused project m r e → read_build_due project cart map_name m r (Ok w) → ⊥
 no_build law project cart map_name m (Ok text) e w h k = law m text k.0 h.0 k.1 h.1
 no_build law project cart map_name m (Err f) e w h k = absurd cc
 
 -- nor of a play whose input is refused
-no_play : Law → (project map_name : List ℕ) (words : RunWords) (m : Held) (r : Result (List ℕ) FileErr) (e : Refusal) (w : Work)
-    → read_build_refused project m r e ⊎ (settings_due words m ≡ Err e) → read_play_due project map_name words m r (Ok w) → ⊥
+no_play : Law → (project map_name : List ℕ) (words : RunWords) (m : Held) (r : Result (List ℕ) FileErr) (e : DueRefusal) (w : Work)
+    → read_build_refused project m r e ⊎ (settings_due words m ≡ Err (refusals.Due e)) → read_play_due project map_name words m r (Ok w) → ⊥
 no_play law project map_name words m (Ok text) e w (inl h) k = law m text k.built h.0 k.is_built h.1
-no_play law project map_name words m (Ok text) e w (inr h) k = differ (settings_due words m) e k.settings h k.settings_are
+no_play law project map_name words m (Ok text) e w (inr h) k = differ (settings_due words m) (refusals.Due e) k.settings h k.settings_are
 no_play law project map_name words m (Err f) e w h k = absurd cc
 
-form_still : Law → (c : Option Command) (m : Held) (e : Refusal) → form_refused c m e → (w : Work) → form_due c m (Ok w) → w.effects ≡ []
+form_still : Law → (c : Option Command) (m : Held) (e : DueRefusal) → form_refused c m e → (w : Work) → form_due c m (Ok w) → w.effects ≡ []
 form_still law None m e h w k = absurd cc
 form_still law (Some (Build project cart map_name)) m e h w k = absurd (no_build law project cart map_name m (due m project) e w h k)
-form_still law (Some (Convert conversion source target)) m e h w k = absurd (differ (convert_due conversion source target m) e w h k)
-form_still law (Some (Trace cart answers card steps)) m e h w k = absurd (differ (trace_due cart answers card steps m) e w h k)
-form_still law (Some (Run words)) m e h w k = absurd (differ (run_due words m) e w h k)
+form_still law (Some (Convert conversion source target)) m e h w k = absurd (differ (convert_due conversion source target m) (refusals.Due e) w h k)
+form_still law (Some (Trace cart answers card steps)) m e h w k = absurd (differ (trace_due cart answers card steps m) (refusals.Due e) w h k)
+form_still law (Some (Run words)) m e h w k = absurd (differ (run_due words m) (refusals.Due e) w h k)
 form_still law (Some (Play project map_name words)) m e h w k = absurd (no_play law project map_name words m (due m project) e w h k)
 form_still law (Some (Check project)) m e h w k = check_still project m (due m project) w k
 
 pub untouched_told : Law → (words : List (List ℕ)) (status : ℕ) (told after : Option Held) (before put : Option (List ℕ))
-    → IfSome told (λ m. IsOutcome words m status after before put) → IfSome told (λ m. (e : Refusal) → command_refused words m e → after ≡ told)
+    → IfSome told (λ m. IsOutcome words m status after before put) → IfSome told (λ m. (e : DueRefusal) → command_refused words m e → after ≡ told)
 untouched_told law words status None after before put outcome = tt
 untouched_told law words status (Some m) after before put outcome = λ e h. ends_still _ _ m after (form_still law (command_of words) m e h) status before put outcome
 
 -- where no call failed, the status is one that is due, or 8
-ends_due : (Due : Result Work Refusal → Type 0) (Reads : List ℕ → Type 0) (m : Held) (status : ℕ) (after : Option Held) (before put : Option (List ℕ))
-    → EndsAs Due Reads m status after before put → (status ≡ 5 → ⊥) → (status ≡ 9 → ⊥) → ((d : Result Work Refusal) × Due d × (status ≡ status_due d)) ⊎ (status ≡ 8)
+ends_due : (Due : Result Work DueRefusal → Type 0) (Reads : List ℕ → Type 0) (m : Held) (status : ℕ) (after : Option Held) (before put : Option (List ℕ))
+    → EndsAs Due Reads m status after before put → (status ≡ 5 → ⊥) → (status ≡ 9 → ⊥) → ((d : Result Work DueRefusal) × Due d × (status ≡ status_due d)) ⊎ (status ≡ 8)
 ends_due Due Reads m status after before put (Done h) five nine = inl (Ok h.work, h.is_due, h.status_is)
 ends_due Due Reads m status after before put (Refused h) five nine = inl (Err h.refusal, h.is_due, h.status_is)
 ends_due Due Reads m status after before put (FileFault h) five nine = absurd (five h.status_is)
@@ -99,7 +97,7 @@ ends_due Due Reads m status after before put (SinkFault s h) five nine = absurd 
 
 pub complete_told : (words : List (List ℕ)) (status : ℕ) (told after : Option Held) (before put : Option (List ℕ)) (f f' s s' : ℕ)
     → (status ≡ 5 → Rose f f') → (status ≡ 9 → Rose s s') → IfSome told (λ m. IsOutcome words m status after before put)
-    → IfSome told (λ m. IsUnrisen f f' → IsUnrisen s s' → ((d : Result Work Refusal) × command_due words m d × (status ≡ status_due d)) ⊎ (status ≡ 8))
+    → IfSome told (λ m. IsUnrisen f f' → IsUnrisen s s' → ((d : Result Work DueRefusal) × command_due words m d × (status ≡ status_due d)) ⊎ (status ≡ 8))
 complete_told words status None after before put f f' s s' five nine outcome = tt
 complete_told words status (Some m) after before put f f' s s' five nine outcome =
     λ no_fault no_unput. ends_due _ _ m status after before put outcome (λ e. no_fault (five e)) (λ e. no_unput (nine e))

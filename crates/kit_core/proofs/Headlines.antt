@@ -10,14 +10,16 @@ use Rattle.kit_base.specs.Outside.{due}
 use Rattle.kit_base.specs.declared.outside.FileErr.{FileErr}
 use Rattle.build_core.specs.declared.building.Built.{Built}
 use Rattle.project_text.specs.MapText.{map_text}
-use Rattle.kit_core.specs.declared.refusal.Refusal.{Refusal}
-use Rattle.kit_core.specs.declared.refusal.Refusal.TheVariants as refusals
-use Rattle.kit_core.specs.Refusal.{status_of}
+use Rattle.kit_tools.specs.declared.refusal.Refusal.{Refusal}
+use Rattle.kit_tools.specs.declared.refusal.DueRefusal.{DueRefusal}
+use Rattle.kit_tools.specs.declared.refusal.DueRefusal.TheVariants as dues
+use Rattle.kit_tools.specs.Refusal.{due_status}
 use Rattle.kit_words.specs.declared.conversion.Conversion.{Conversion}
 use Rattle.kit_words.specs.declared.conversion.Conversion.TheVariants.{Migrate, Assemble, Disassemble}
 use Rattle.kit_words.specs.Command.{RunWords, Build, Trace, Run, Play, are_apart, are_distinct, checked_play, checked_run, play_form, run_form, is_word, is_number, card_of, build_form, check_form, convert_form, trace_form, converting_form_of, form_of, form_with, command_of}
-use Rattle.kit_core.specs.Inputs.{◌>>=◌}
-use Rattle.kit_core.specs.Due.{Work, outputs_of, build_due, read_build_due, form_due}
+use Rattle.kit_tools.specs.Inputs.{◌>>=◌}
+use Rattle.kit_tools.specs.Work.{Work}
+use Rattle.kit_core.specs.Due.{outputs_of, build_due, read_build_due, form_due}
 use Rattle.kit_core.specs.Outcome.{putting, EndsAs, Done, Refused, FileFault, OutOfMemory, SinkFault, IsOutcome}
 use Rattle.kit_core.specs.Headline.{IsBuiltInto, BuildStands}
 use Rattle.kit_core.proofs.Writes.{get_written, get_unwritten}
@@ -126,31 +128,26 @@ pub bind_ok : {A B : Type 0} (r : Result A Refusal) (f : A → Result B Refusal)
 bind_ok (Ok x) f y e = (x, refl, e)
 bind_ok (Err d) f y e = cc
 
--- a status 0 is that of a work done
-not_zero : (e : Refusal) → status_of e ≡ 0 → ⊥
-not_zero refusals.Usage h = omega arith
-not_zero (refusals.Source c f l) h = omega arith
-not_zero (refusals.Missing n) h = omega arith
-not_zero (refusals.Failed n) h = omega arith
-not_zero (refusals.Bad c n l) h = omega arith
-not_zero (refusals.Limit n) h = omega arith
-not_zero (refusals.OutOfRange n) h = omega arith
-not_zero refusals.LongCartridge h = omega arith
-not_zero refusals.Memory h = omega arith
+-- a status 0 or 3 is that of a work done
+not_zero : (e : DueRefusal) → due_status e ≡ 0 → ⊥
+not_zero dues.Usage h = omega arith
+not_zero (dues.Source c f l) h = omega arith
+not_zero (dues.Missing n) h = omega arith
+not_zero (dues.Bad c n l) h = omega arith
+not_zero (dues.Limit n) h = omega arith
+not_zero (dues.OutOfRange n) h = omega arith
+not_zero dues.LongCartridge h = omega arith
 
--- and a status 0 or 3 too
-not_three : (e : Refusal) → status_of e ≡ 3 → ⊥
-not_three refusals.Usage h = omega arith
-not_three (refusals.Source c f l) h = omega arith
-not_three (refusals.Missing n) h = omega arith
-not_three (refusals.Failed n) h = omega arith
-not_three (refusals.Bad c n l) h = omega arith
-not_three (refusals.Limit n) h = omega arith
-not_three (refusals.OutOfRange n) h = omega arith
-not_three refusals.LongCartridge h = omega arith
-not_three refusals.Memory h = omega arith
+not_three : (e : DueRefusal) → due_status e ≡ 3 → ⊥
+not_three dues.Usage h = omega arith
+not_three (dues.Source c f l) h = omega arith
+not_three (dues.Missing n) h = omega arith
+not_three (dues.Bad c n l) h = omega arith
+not_three (dues.Limit n) h = omega arith
+not_three (dues.OutOfRange n) h = omega arith
+not_three dues.LongCartridge h = omega arith
 
-pub done_at_three : (Due : Result Work Refusal → Type 0) (Reads : List ℕ → Type 0) (m : Held) (status : ℕ) (after : Option Held) (before put : Option (List ℕ))
+pub done_at_three : (Due : Result Work DueRefusal → Type 0) (Reads : List ℕ → Type 0) (m : Held) (status : ℕ) (after : Option Held) (before put : Option (List ℕ))
     → EndsAs Due Reads m status after before put → (status ≡ 0) ⊎ (status ≡ 3)
     → (work : Work) × Due (Ok work) × (after ≡ all_done work.effects (Some m)) × (put ≡ putting work.text before) × (status ≡ work.status)
 done_at_three Due Reads m status after before put (Done h) z = (h.work, h.is_due, h.files, h.text, h.status_is)
@@ -163,7 +160,7 @@ done_at_three Due Reads m status after before put (OutOfMemory s h) (inr z) = ab
 done_at_three Due Reads m status after before put (SinkFault s h) (inl z) = absurd (omega arith)
 done_at_three Due Reads m status after before put (SinkFault s h) (inr z) = absurd (omega arith)
 
-pub done_at_zero : (Due : Result Work Refusal → Type 0) (Reads : List ℕ → Type 0) (m : Held) (status : ℕ) (after : Option Held) (before put : Option (List ℕ))
+pub done_at_zero : (Due : Result Work DueRefusal → Type 0) (Reads : List ℕ → Type 0) (m : Held) (status : ℕ) (after : Option Held) (before put : Option (List ℕ))
     → EndsAs Due Reads m status after before put → status ≡ 0 → (work : Work) × Due (Ok work) × (after ≡ all_done work.effects (Some m)) × (put ≡ putting work.text before)
 done_at_zero Due Reads m status after before put (Done h) z = (h.work, h.is_due, h.files, h.text)
 done_at_zero Due Reads m status after before put (Refused h) z = absurd (not_zero h.refusal (sym h.status_is ∙ z))

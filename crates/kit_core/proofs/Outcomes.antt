@@ -3,15 +3,17 @@ use Rattle.std.proofs.Common.{ℕ, ◌≡◌, ◌⊎◌, inl, inr, List, ◌++�
 use Rattle.std.proofs.Math.Seq.{take-length}
 use Rattle.std.specs.Prelude.{Option, Result, Ok, length}
 use Rattle.kit_base.specs.Held.{Held}
-use Rattle.kit_core.specs.declared.refusal.Refusal.{Refusal}
-use Rattle.kit_core.specs.declared.refusal.Refusal.TheVariants as refusals
-use Rattle.kit_core.specs.Refusal.{status_of, line_of}
-use Rattle.kit_core.specs.Due.{Work}
-use Rattle.kit_core.specs.Outcome.{putting, ComesBy, EndsAs, Done, Refused, FileFault, OutOfMemory, SinkFault, IsCutOff}
-use Rattle.kit_core.specs.Carrying.{LeavesBy, Shows, shown_status, text_of}
-use Rattle.kit_core.specs.declared.shown.Shown.{Shown}
+use Rattle.kit_tools.specs.declared.refusal.DueRefusal.{DueRefusal}
+use Rattle.kit_tools.specs.declared.refusal.Refusal.{Refusal}
+use Rattle.kit_tools.specs.declared.refusal.Refusal.TheVariants as refusals
+use Rattle.kit_tools.specs.Refusal.{status_of, line_of}
+use Rattle.kit_tools.specs.Work.{Work, ComesBy}
+use Rattle.kit_core.specs.Outcome.{putting, EndsAs, Done, Refused, FileFault, OutOfMemory, SinkFault, IsCutOff}
+use Rattle.kit_tools.specs.Carrying.{LeavesBy, shown_status, text_of}
+use Rattle.kit_core.specs.Putting.{Shows}
+use Rattle.kit_tools.specs.declared.shown.Shown.{Shown}
 
-module _ (Due : Result Work Refusal → Type 0) (Reads : List ℕ → Type 0) (m : Held) (status : ℕ) (after : Option Held) (before put : Option (List ℕ)) where
+module _ (Due : Result Work DueRefusal → Type 0) (Reads : List ℕ → Type 0) (m : Held) (status : ℕ) (after : Option Held) (before put : Option (List ℕ)) where
   -- memory ran out, or the sink failed
   cut_off : (status ≡ 8) ⊎ (status ≡ 9) → IsCutOff Due Reads m after before put → EndsAs Due Reads m status after before put
   cut_off (inl s) h = OutOfMemory s h
@@ -27,16 +29,10 @@ module _ (Due : Result Work Refusal → Type 0) (Reads : List ℕ → Type 0) (m
   memory_line list = ap (λ xs. putting xs before) (sym (append-nil (take (length list) list) ∙ take-length list))
 
   shown_whole : (e : Refusal) → ComesBy e Due Reads m after → status ≡ status_of e → put ≡ putting (line_of e) before → EndsAs Due Reads m status after before put
+  shown_whole (refusals.Due r) comes s p = Refused (record { refusal = r; is_due = comes.0; status_is = s; files = comes.1; text = p })
   shown_whole (refusals.Failed name) comes s p = FileFault (record { name = name; files = comes; status_is = s; text = p })
   shown_whole refusals.Memory comes s p =
       OutOfMemory s (record { whole = line_of refusals.Memory; shown = inr (refusals.Memory, comes, refl); count = length (line_of refusals.Memory); line_count = 0; text = p ∙ memory_line (line_of refusals.Memory) })
-  shown_whole refusals.Usage comes s p = Refused (record { refusal = _; is_due = comes.0; status_is = s; files = comes.1; text = p })
-  shown_whole (refusals.Source c f l) comes s p = Refused (record { refusal = _; is_due = comes.0; status_is = s; files = comes.1; text = p })
-  shown_whole (refusals.Missing n) comes s p = Refused (record { refusal = _; is_due = comes.0; status_is = s; files = comes.1; text = p })
-  shown_whole (refusals.Bad c n l) comes s p = Refused (record { refusal = _; is_due = comes.0; status_is = s; files = comes.1; text = p })
-  shown_whole (refusals.Limit n) comes s p = Refused (record { refusal = _; is_due = comes.0; status_is = s; files = comes.1; text = p })
-  shown_whole (refusals.OutOfRange n) comes s p = Refused (record { refusal = _; is_due = comes.0; status_is = s; files = comes.1; text = p })
-  shown_whole refusals.LongCartridge comes s p = Refused (record { refusal = _; is_due = comes.0; status_is = s; files = comes.1; text = p })
 
   pub outcome_refused : (e : Refusal) → ComesBy e Due Reads m after → Shows (status_of e) (line_of e) status before put → EndsAs Due Reads m status after before put
   outcome_refused e comes (inl (s, p)) = shown_whole e comes s p

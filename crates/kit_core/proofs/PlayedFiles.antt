@@ -4,7 +4,7 @@ use Rattle.std.specs.Prelude.{Option, Some, None, IsSomeAnd, if◌then◌else◌
 use Rattle.std.specs.List.{flat_map, list_all}
 use Rattle.std.specs.Str.{bytes_eq}
 use Rattle.std.specs.FinMap.{get}
-use Rattle.clap.proofs.WalkLemmas.{both}
+use Rattle.std.proofs.lemmas.Bool.{and_parts}
 use Rattle.kit_base.specs.Held.{Held, emptied, appended, bytes_of}
 use Rattle.kit_base.specs.Effects.{Effect, Creates, Appends, all_done}
 use Rattle.kit_base.proofs.Cuts.{all_done-append}
@@ -19,7 +19,7 @@ use Rattle.kit_words.specs.declared.conversion.Conversion.{Conversion}
 use Rattle.kit_words.specs.declared.conversion.Conversion.TheVariants.{Migrate, Assemble, Disassemble}
 use Rattle.kit_words.specs.Command.{Command, RunWords, Build, Trace, Run, Play, are_apart, are_distinct, build_form, card_of, check_form, checked_play, command_of, convert_form, converting_form_of, differ_from, form_of, form_with, is_apart, is_number, is_word, play_form, run_form, trace_form}
 use Rattle.kit_core.specs.Due.{outputs_of, play_effects}
-use Rattle.kit_core.specs.Running.{Game, names_in}
+use Rattle.kit_tools.specs.Running.{Game, names_in}
 use Rattle.kit_core.proofs.Writes.{get_other, get_written, get_unwritten}
 
 -- ---- the words of a play
@@ -85,7 +85,7 @@ checked_apart : (project map_name : List ℕ) (words : RunWords) → IsApart (ch
 unfolding IsApart
 checked_apart project map_name words =
     tested (is_number words.count) (are_distinct words && are_apart map_name words) (Some (Play project map_name words))
-    (λ h. (both (are_distinct words) _ ((both (is_number words.count) _ h).1)).1)
+    (λ h. (and_parts (are_distinct words) _ ((and_parts (is_number words.count) _ h).1)).1)
 
 play_apart : (arguments : List (List ℕ)) → IsApart (play_form arguments)
 unfolding IsApart
@@ -142,13 +142,13 @@ spares_both x (Appends n piece ∷ es) fs h k = (h.0, spares_both x es fs h.1 k)
 
 module _ (x : List ℕ) (words : RunWords) (apart : is_apart x words ≡ true) where
   frames_differ : bytes_eq x words.frames ≡ false
-  frames_differ = not_true _ ((both (not (bytes_eq x words.frames)) _ apart).0)
+  frames_differ = not_true _ ((and_parts (not (bytes_eq x words.frames)) _ apart).0)
 
   samples_differ : bytes_eq x words.samples ≡ false
-  samples_differ = not_true _ ((both (not (bytes_eq x words.samples)) _ ((both (not (bytes_eq x words.frames)) _ apart).1)).0)
+  samples_differ = not_true _ ((and_parts (not (bytes_eq x words.samples)) _ ((and_parts (not (bytes_eq x words.frames)) _ apart).1)).0)
 
   card_differs : differ_from x words.card ≡ true
-  card_differs = (both (not (bytes_eq x words.samples)) _ ((both (not (bytes_eq x words.frames)) _ apart).1)).1
+  card_differs = (and_parts (not (bytes_eq x words.samples)) _ ((and_parts (not (bytes_eq x words.frames)) _ apart).1)).1
 
   spares_frames : (u : Setup) (moments : List Moment) → Spares x (flat_map (frame_outputs (names_in words) u) moments)
   spares_frames u [] = tt
@@ -172,7 +172,7 @@ module _ (x : List ℕ) (words : RunWords) (apart : is_apart x words ≡ true) w
 module _ (m : Held) (map_name : List ℕ) (words : RunWords) (b : Built) (game : Game) (after : Option Held) (apart : are_apart map_name words ≡ true)
     (is : after ≡ all_done (play_effects map_name words b game) (Some m)) where
   others : is_apart words.cart words && is_apart map_name words ≡ true
-  others = (both (not (bytes_eq words.cart map_name)) _ apart).1
+  others = (and_parts (not (bytes_eq words.cart map_name)) _ apart).1
 
   written : after ≡ all_done (run_outputs (names_in words) game.setup game.count) (all_done (outputs_of words.cart map_name b) (Some m))
   written = is ∙ all_done-append (outputs_of words.cart map_name b) (run_outputs (names_in words) game.setup game.count) (Some m)
@@ -180,11 +180,11 @@ module _ (m : Held) (map_name : List ℕ) (words : RunWords) (b : Built) (game :
   pub cart_there : IsSomeAnd after (λ files. get files words.cart ≡ Some b.cart)
   cart_there = subst (λ h. IsSomeAnd h (λ files. get files words.cart ≡ Some b.cart)) (sym written)
       (spared words.cart (run_outputs (names_in words) game.setup game.count) _ (Some b.cart)
-      (spares_run words.cart words ((both (is_apart words.cart words) _ others).0) game.setup game.count)
-      (get_unwritten _ map_name (map_text b.map) words.cart (not_true _ ((both (not (bytes_eq words.cart map_name)) _ apart).0)) ∙ get_written m words.cart b.cart))
+      (spares_run words.cart words ((and_parts (is_apart words.cart words) _ others).0) game.setup game.count)
+      (get_unwritten _ map_name (map_text b.map) words.cart (not_true _ ((and_parts (not (bytes_eq words.cart map_name)) _ apart).0)) ∙ get_written m words.cart b.cart))
 
   pub map_there : IsSomeAnd after (λ files. get files map_name ≡ Some (map_text b.map))
   map_there = subst (λ h. IsSomeAnd h (λ files. get files map_name ≡ Some (map_text b.map))) (sym written)
       (spared map_name (run_outputs (names_in words) game.setup game.count) _ (Some (map_text b.map))
-      (spares_run map_name words ((both (is_apart words.cart words) _ others).1) game.setup game.count)
+      (spares_run map_name words ((and_parts (is_apart words.cart words) _ others).1) game.setup game.count)
       (get_written _ map_name (map_text b.map)))

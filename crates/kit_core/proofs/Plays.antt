@@ -1,5 +1,5 @@
 -- From the parts of a play to the whole, and what its statuses 0 and 3 say.
-use Rattle.std.proofs.Common.{ℕ, ◌≡◌, ◌⊎◌, List, true, refl, sym, ap, subst, ◌∙◌}
+use Rattle.std.proofs.Common.{ℕ, ◌≡◌, ◌⊎◌, List, true, refl, sym, ap, subst, ◌∙◌, inl, inr}
 use Rattle.std.specs.Prelude.{Option, Some, None, Result, Ok, Err, IfSome}
 use Rattle.kit_base.specs.Held.{Held}
 use Rattle.kit_base.specs.Effects.{all_done, written_file}
@@ -11,49 +11,42 @@ use Rattle.build_core.specs.Build.{IsBuilt, IsUnbuilt}
 use Rattle.build_core.specs.declared.error.BuildErr.{BuildErr}
 use Rattle.project_text.specs.MapText.{map_text}
 use Rattle.run_core.specs.Outputs.{run_outputs}
-use Rattle.kit_core.specs.declared.refusal.Refusal.{Refusal}
-use Rattle.kit_core.specs.declared.refusal.Refusal.TheVariants as refusals
-use Rattle.kit_core.specs.declared.running.Loaded.{Loaded}
-use Rattle.kit_core.specs.declared.running.LoadedSettings.{LoadedSettings}
-use Rattle.kit_core.specs.declared.shown.Shown.{Shown}
+use Rattle.kit_tools.specs.declared.refusal.DueRefusal.{DueRefusal}
+use Rattle.kit_tools.specs.declared.refusal.Refusal.{Refusal}
+use Rattle.kit_tools.specs.declared.refusal.Refusal.TheVariants as refusals
+use Rattle.kit_tools.specs.declared.running.Loaded.{Loaded}
+use Rattle.kit_tools.specs.declared.running.LoadedSettings.{LoadedSettings}
+use Rattle.kit_tools.specs.declared.shown.Shown.{Shown}
 use Rattle.kit_words.specs.Command.{RunWords, are_apart}
-use Rattle.kit_core.specs.Due.{IsUnplayed, not_built, not_set, Work, form_due, outputs_of, play_due, play_effects, play_work, read_play_due, unbuilt}
-use Rattle.kit_core.specs.Running.{Game, game_with, names_in, settings_due}
-use Rattle.kit_core.specs.Gaming.{IsCarried, IsGameOf, IsWritten, game_of, settings_of}
-use Rattle.kit_core.specs.Carrying.{GivesBy, IsCut}
+use Rattle.kit_core.specs.Due.{IsUnplayed, not_built, not_set, form_due, outputs_of, play_due, play_effects, play_work, read_play_due, unbuilt, IsReadToPlay}
+use Rattle.kit_tools.specs.Work.{Work}
+use Rattle.kit_tools.specs.Running.{Game, game_with, names_in, settings_due, settings_reads}
+use Rattle.kit_core.specs.Playing.{IsCarried, IsGameOf}
+use Rattle.kit_tools.specs.Gaming.{IsWritten, game_of, settings_of}
+use Rattle.kit_tools.specs.Carrying.{GivesBy, IsCut, FailsAt, FailsIn}
 use Rattle.kit_core.specs.Checking.{IsOneUnlessStopped, TextBuilt}
 use Rattle.kit_core.specs.Headline.{IsPlayedInto, PlayStands}
 use Rattle.kit_core.specs.Outcome.{putting, IsOutcome}
-use Rattle.kit_core.proofs.Cutting.{in_first, in_second, not_begun}
+use Rattle.kit_tools.proofs.Cutting.{in_first, in_second, not_begun}
 use Rattle.kit_core.proofs.Headlines.{done_at_three}
 use Rattle.kit_core.proofs.PlayedFiles.{are_apart_in, cart_there, map_there}
 use Rattle.kit_core.proofs.Projects.{Left, WasRead, left_cut, left_done}
+use Rattle.build_core.specs.Reached.{IsReadToBuild}
+use Rattle.kit_tools.proofs.Stages.{fails_wider}
 
 -- ---- why there is no run
 
-one_weaker : (P Q : Refusal → Type 0) → ((r : Refusal) → P r → Q r) → (e : Refusal) → IsOneUnlessStopped P e → IsOneUnlessStopped Q e
+one_weaker : (P Q : DueRefusal → Type 0) → ((r : DueRefusal) → P r → Q r) → (e : Refusal) → IsOneUnlessStopped P e → IsOneUnlessStopped Q e
+one_weaker P Q f (refusals.Due r) h = f r h
 one_weaker P Q f (refusals.Failed n) h = tt
 one_weaker P Q f refusals.Memory h = tt
-one_weaker P Q f refusals.Usage h = f _ h
-one_weaker P Q f (refusals.Source c n l) h = f _ h
-one_weaker P Q f (refusals.Missing n) h = f _ h
-one_weaker P Q f (refusals.Bad c n l) h = f _ h
-one_weaker P Q f (refusals.Limit n) h = f _ h
-one_weaker P Q f (refusals.OutOfRange n) h = f _ h
-one_weaker P Q f refusals.LongCartridge h = f _ h
 
 -- a part that was read so
-one_given : {X Y : Type 0} (view : X → Y) (d : Result Y Refusal) (P : Refusal → Type 0) → ((r : Refusal) → d ≡ Err r → P r) → (e : Refusal)
+one_given : {X Y : Type 0} (view : X → Y) (d : Result Y Refusal) (P : DueRefusal → Type 0) → ((r : DueRefusal) → d ≡ Err (refusals.Due r) → P r) → (e : Refusal)
     → GivesBy view (Err e) d → IsOneUnlessStopped P e
+one_given view d P f (refusals.Due r) h = f r h
 one_given view d P f (refusals.Failed n) h = tt
 one_given view d P f refusals.Memory h = tt
-one_given view d P f refusals.Usage h = f _ h
-one_given view d P f (refusals.Source c n l) h = f _ h
-one_given view d P f (refusals.Missing n) h = f _ h
-one_given view d P f (refusals.Bad c n l) h = f _ h
-one_given view d P f (refusals.Limit n) h = f _ h
-one_given view d P f (refusals.OutOfRange n) h = f _ h
-one_given view d P f refusals.LongCartridge h = f _ h
 
 module _ (project text map_name : List ℕ) (words : RunWords) where
   abbrev pub MayRefuse : Refusal → Option Held → Type 0
@@ -61,7 +54,7 @@ module _ (project text map_name : List ℕ) (words : RunWords) where
 
   pub unbuilt_told : (e : Refusal) (held : Option Held) → IfSome held (λ m. TextBuilt project text m (Err e)) → MayRefuse e held
   unbuilt_told e None h = tt
-  unbuilt_told e (Some m) h = one_weaker (λ r. (e' : BuildErr) × IsUnbuilt m text e' × (unbuilt project e' ≡ r)) (λ r. IsUnplayed project text words m r) (λ r x. not_built x.0 x.1 x.2) e h
+  unbuilt_told e (Some m) h = one_weaker (λ r. (e' : BuildErr) × IsUnbuilt m text e' × (unbuilt project e' ≡ refusals.Due r)) (λ r. IsUnplayed project text words m r) (λ r x. not_built x.0 x.1 x.2) e h
 
   pub unset_told : (e : Refusal) (b : Built) (h1 h2 : Option Held) → h2 ≡ h1 → IfSome h1 (λ m. IsBuilt m text b)
       → IfSome h2 (λ m. GivesBy settings_of (Err e) (settings_due words m)) → MayRefuse e h1
@@ -69,9 +62,21 @@ module _ (project text map_name : List ℕ) (words : RunWords) where
   unset_told e b (Some m) h2 same built h =
       one_given settings_of (settings_due words m) (λ r. IsUnplayed project text words m r) (λ r x. not_set b built x) e (subst (λ o. IfSome o (λ k. GivesBy settings_of (Err e) (settings_due words k))) same h)
 
-  pub memory_told : (held : Option Held) → MayRefuse refusals.Memory held
-  memory_told None = tt
-  memory_told (Some m) = tt
+  -- a call that failed was at a file of the build, or at one of the run
+  abbrev pub MayFail : Refusal → Option Held → Type 0
+  MayFail e held = IfSome held (λ m. FailsIn (IsReadToPlay words m text) e)
+
+  pub unbuilt_reached : (e : Refusal) (held : Option Held) → IfSome held (λ m. FailsIn (IsReadToBuild m text) e) → MayFail e held
+  unbuilt_reached e None h = tt
+  unbuilt_reached e (Some m) h = fails_wider _ _ e (λ n r. inl r) h
+
+  pub unset_reached : (e : Refusal) (held : Option Held) → FailsAt (settings_reads words) e → MayFail e held
+  unset_reached e None h = tt
+  unset_reached e (Some m) h = fails_wider _ _ e (λ n r. inr r) h
+
+  pub memory_told : (held : Option Held) → MayRefuse refusals.Memory held × MayFail refusals.Memory held
+  memory_told None = (tt, tt)
+  memory_told (Some m) = (tt, tt)
 
   -- ---- the play
 
@@ -94,12 +99,12 @@ module _ (project text map_name : List ℕ) (words : RunWords) where
       work_is = ap (play_work map_name words b) (sym of.game_is);
     }
 
-    pub play_left : (r : Result Shown Refusal) (h0 h1 h2 h3 h4 : Option Held) → WasRead project (read_play_due project map_name words) text h0 → h1 ≡ h0 → IfSome h1 (λ m. IsBuilt m text b) → h2 ≡ h1 → Told h2 s → h3 ≡ h2
-        → IsCarried work r h3 h4 → Left project (read_play_due project map_name words) h0 h4 r
+    pub play_left : (r : Result Shown Refusal) (h0 h1 h2 h3 h4 : Option Held) → WasRead project (read_play_due project map_name words) (IsReadToPlay words) text h0 → h1 ≡ h0 → IfSome h1 (λ m. IsBuilt m text b) → h2 ≡ h1 → Told h2 s → h3 ≡ h2
+        → IsCarried work r h3 h4 → Left project (read_play_due project map_name words) (IsReadToPlay words) h0 h4 r
     play_left (Ok v) h0 h1 h2 h3 h4 read e1 built e2 told e3 carried =
-        left_done project (read_play_due project map_name words) text work v h0 h1 h3 h4 carried.text carried.status read e1 (is_due h1 h2 e2 built told) (e3 ∙ e2) carried.outputs
+        left_done project (read_play_due project map_name words) (IsReadToPlay words) text work v h0 h1 h3 h4 carried.text carried.status read e1 (is_due h1 h2 e2 built told) (e3 ∙ e2) carried.outputs
     play_left (Err e) h0 h1 h2 h3 h4 read e1 built e2 told e3 carried =
-        left_cut project (read_play_due project map_name words) text work e h0 h1 h3 h4 read e1 (is_due h1 h2 e2 built told) (e3 ∙ e2) carried
+        left_cut project (read_play_due project map_name words) (IsReadToPlay words) text work e h0 h1 h3 h4 read e1 (is_due h1 h2 e2 built told) (e3 ∙ e2) carried
 
 -- ---- the outputs
 

@@ -2,10 +2,10 @@
 use Rattle.std.proofs.Common.{ℕ, ◌≡◌, inl, inr, List, [], ◌++◌, take, refl, sym, ap, ◌∙◌, append_assoc, append-nil}
 use Rattle.std.proofs.Math.Seq.{take-length}
 use Rattle.std.specs.Prelude.{Option, Some, None, length}
-use Rattle.kit_core.specs.declared.refusal.Refusal.TheVariants as refusals
-use Rattle.kit_core.specs.Refusal.{line_of}
+use Rattle.kit_tools.specs.declared.refusal.Refusal.TheVariants as refusals
+use Rattle.kit_tools.specs.Refusal.{line_of}
 use Rattle.kit_core.specs.Outcome.{putting}
-use Rattle.kit_core.specs.Carrying.{Puts, Shows}
+use Rattle.kit_core.specs.Putting.{Puts, Shows}
 
 pub putting_nothing : (w : Option (List ℕ)) → w ≡ putting [] w
 putting_nothing None = refl

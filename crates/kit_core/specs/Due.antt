@@ -1,5 +1,5 @@
 -- What a command is due, for its words and for the files that are held: the one order of refusals.
-use Rattle.std.specs.Prelude.{ℕ, ◌≡◌, List, [], ◌∷◌, ◌++◌, ◌⊎◌, Option, Some, None, Result, Ok, Err, Contains, codes}
+use Rattle.std.specs.Prelude.{ℕ, ◌≡◌, List, [], ◌∷◌, ◌++◌, ◌⊎◌, Option, Some, None, Result, Ok, Err, Contains}
 use Rattle.kit_base.specs.Held.{Held}
 use Rattle.kit_base.specs.Effects.{Effect, written_file}
 use Rattle.kit_base.specs.Outside.{due}
@@ -11,35 +11,31 @@ use Rattle.build_core.specs.declared.error.BuildErr.TheVariants as build_errors
 use Rattle.build_core.specs.declared.building.Built.{Built}
 use Rattle.build_core.specs.Build.{HasNoParts, IsBuilt, IsUnbuilt}
 use Rattle.build_core.specs.Checked.{IsAccepted, IsRejected}
+use Rattle.build_core.specs.Reached.{IsReadToBuild, IsReadToCheck}
 use Rattle.c_types.specs.Programs.{ProgramT}
 use Rattle.project_text.specs.MapText.{map_text}
-use Rattle.kit_core.specs.declared.refusal.Refusal.{Refusal}
-use Rattle.kit_core.specs.declared.refusal.Refusal.TheVariants as refusals
-use Rattle.kit_words.specs.declared.conversion.Conversion.{Conversion}
+use Rattle.kit_tools.specs.declared.refusal.DueRefusal.{DueRefusal}
+use Rattle.kit_tools.specs.declared.refusal.DueRefusal.TheVariants as dues
+use Rattle.kit_tools.specs.declared.refusal.Refusal.{Refusal}
+use Rattle.kit_tools.specs.declared.refusal.Refusal.TheVariants as refusals
 use Rattle.kit_words.specs.Command.{Command, RunWords, Build, Convert, Trace, Run, Play, Check, command_of}
-use Rattle.kit_core.specs.Inputs.{◌>>=◌, unread}
-use Rattle.kit_core.specs.Converting.{made_due}
-use Rattle.kit_core.specs.Tracing.{traced_due, trace_reads}
-use Rattle.kit_core.specs.Running.{Game, Settings, end_status, game_due, game_end, game_with, names_in, run_reads, settings_due}
+use Rattle.kit_tools.specs.Inputs.{unread}
+use Rattle.kit_tools.specs.Work.{Work, accepted, as_due}
+use Rattle.kit_tools.specs.Converting.{convert_due}
+use Rattle.kit_tools.specs.Tracing.{trace_due, trace_reads}
+use Rattle.kit_tools.specs.Running.{Game, Settings, end_status, game_end, game_with, names_in, run_due, run_reads, settings_due, settings_reads}
 use Rattle.run_core.specs.Ending.{end_text}
 use Rattle.run_core.specs.Outputs.{run_outputs}
-
--- What a command does once nothing refused it: what it creates and appends, in order, the text
--- that is put after that, and the status that is answered then.
-pub record Work : Type 0 where
-  pub effects : List Effect
-  pub text : List ℕ
-  pub status : ℕ
 
 -- The refusal of a build. A fault in a line is one of the project's text, which goes by the name
 -- that the words give it.
 abbrev pub unbuilt : List ℕ → BuildErr → Refusal
-unbuilt project (build_errors.Source code file line) = refusals.Source code file line
-unbuilt project (build_errors.Missing name) = refusals.Missing name
+unbuilt project (build_errors.Source code file line) = refusals.Due (dues.Source code file line)
+unbuilt project (build_errors.Missing name) = refusals.Due (dues.Missing name)
 unbuilt project (build_errors.Failed name) = refusals.Failed name
-unbuilt project (build_errors.Bad code name (Some line)) = refusals.Bad code project (Some line)
-unbuilt project (build_errors.Bad code name None) = refusals.Bad code name None
-unbuilt project (build_errors.Limit name) = refusals.Limit name
+unbuilt project (build_errors.Bad code name (Some line)) = refusals.Due (dues.Bad code project (Some line))
+unbuilt project (build_errors.Bad code name None) = refusals.Due (dues.Bad code name None)
+unbuilt project (build_errors.Limit name) = refusals.Due (dues.Limit name)
 unbuilt project build_errors.Memory = refusals.Memory
 
 -- the cartridge and then the map, each created and then appended
@@ -50,45 +46,23 @@ abbrev pub built_work : (cart map_name : List ℕ) → Built → Work
 built_work cart map_name built = record { effects = outputs_of cart map_name built; text = []; status = 0 }
 
 -- what the build of a project's text is due: its outputs, or why there are none
-abbrev pub text_build_due : (project text cart map_name : List ℕ) → Held → Result Work Refusal → Type 0
+abbrev pub text_build_due : (project text cart map_name : List ℕ) → Held → Result Work DueRefusal → Type 0
 text_build_due project text cart map_name held (Ok work) = (b : Built) × IsBuilt held text b × (built_work cart map_name b ≡ work)
-text_build_due project text cart map_name held (Err refusal) = (e : BuildErr) × IsUnbuilt held text e × (unbuilt project e ≡ refusal)
+text_build_due project text cart map_name held (Err refusal) = (e : BuildErr) × IsUnbuilt held text e × (unbuilt project e ≡ refusals.Due refusal)
 
-abbrev pub read_build_due : (project cart map_name : List ℕ) → Held → Result (List ℕ) FileErr → Result Work Refusal → Type 0
+abbrev pub read_build_due : (project cart map_name : List ℕ) → Held → Result (List ℕ) FileErr → Result Work DueRefusal → Type 0
 read_build_due project cart map_name held (Ok text) d = text_build_due project text cart map_name held d
-read_build_due project cart map_name held (Err e) d = Err (unread project e) ≡ d
+read_build_due project cart map_name held (Err e) d = Err (unread project e) ≡ as_due d
 
 -- The project's file is read, then built. More than one image of a program can be due, and of tokens that are no unit more than one refusal, so
 -- this is a relation.
-abbrev pub build_due : (project cart map_name : List ℕ) → Held → Result Work Refusal → Type 0
+abbrev pub build_due : (project cart map_name : List ℕ) → Held → Result Work DueRefusal → Type 0
 build_due project cart map_name held d = read_build_due project cart map_name held (due held project) d
 
 -- the input of a build is refused: its project's file, the project's text, its source, a texture or a sound
-abbrev pub read_build_refused : (project : List ℕ) → Held → Result (List ℕ) FileErr → Refusal → Type 0
-read_build_refused project held (Ok text) refusal = (e : BuildErr) × HasNoParts held text e × (unbuilt project e ≡ refusal)
-read_build_refused project held (Err e) refusal = unread project e ≡ refusal
-
--- the bytes that are made of a file, created and then appended
-abbrev pub convert_due : Conversion → (source target : List ℕ) → Held → Result Work Refusal
-convert_due conversion source target held = do
-  bytes ← made_due conversion source held
-  Ok (record { effects = written_file target bytes; text = []; status = 0 })
-
--- nothing is created; the text is that of the run
-abbrev pub trace_due : (cart answers : List ℕ) (card : Option (List ℕ)) (steps : List ℕ) → Held → Result Work Refusal
-trace_due cart answers card steps held = do
-  text ← traced_due cart answers card steps held
-  Ok (record { effects = []; text = text; status = 0 })
-
--- the console's run, written frame by frame; the text is the line of a fault
-abbrev pub run_due : RunWords → Held → Result Work Refusal
-run_due words held = do
-  game ← game_due words held
-  Ok (record {
-    effects = run_outputs (names_in words) game.setup game.count;
-    text = end_text game.lines (game_end game);
-    status = end_status (game_end game);
-  })
+abbrev pub read_build_refused : (project : List ℕ) → Held → Result (List ℕ) FileErr → DueRefusal → Type 0
+read_build_refused project held (Ok text) refusal = (e : BuildErr) × HasNoParts held text e × (unbuilt project e ≡ refusals.Due refusal)
+read_build_refused project held (Err e) refusal = unread project e ≡ refusals.Due refusal
 
 -- the outputs of what was built, then those of its run
 abbrev pub play_effects : (map_name : List ℕ) → RunWords → Built → Game → List Effect
@@ -109,80 +83,94 @@ pub record IsPlay (text map_name : List ℕ) (words : RunWords) (held : Held) (w
   pub work_is : play_work map_name words built (game_with cart settings) ≡ work
 
 -- Nothing is built of the project; or the pads file, the card or the number of frames is refused after a build.
-pub data IsUnplayed (project text : List ℕ) (words : RunWords) (held : Held) (refusal : Refusal) : Type 0 where
-  not_built : (e : BuildErr) → IsUnbuilt held text e → unbuilt project e ≡ refusal → IsUnplayed project text words held refusal
-  not_set : (b : Built) → IsBuilt held text b → settings_due words held ≡ Err refusal → IsUnplayed project text words held refusal
+pub data IsUnplayed (project text : List ℕ) (words : RunWords) (held : Held) (refusal : DueRefusal) : Type 0 where
+  not_built : (e : BuildErr) → IsUnbuilt held text e → unbuilt project e ≡ refusals.Due refusal → IsUnplayed project text words held refusal
+  not_set : (b : Built) → IsBuilt held text b → settings_due words held ≡ Err (refusals.Due refusal) → IsUnplayed project text words held refusal
 
-abbrev pub text_play_due : (project text map_name : List ℕ) → RunWords → Held → Result Work Refusal → Type 0
+abbrev pub text_play_due : (project text map_name : List ℕ) → RunWords → Held → Result Work DueRefusal → Type 0
 text_play_due project text map_name words held (Ok work) = IsPlay text map_name words held work
 text_play_due project text map_name words held (Err refusal) = IsUnplayed project text words held refusal
 
-abbrev pub read_play_due : (project map_name : List ℕ) → RunWords → Held → Result (List ℕ) FileErr → Result Work Refusal → Type 0
+abbrev pub read_play_due : (project map_name : List ℕ) → RunWords → Held → Result (List ℕ) FileErr → Result Work DueRefusal → Type 0
 read_play_due project map_name words held (Ok text) d = text_play_due project text map_name words held d
-read_play_due project map_name words held (Err e) d = Err (unread project e) ≡ d
+read_play_due project map_name words held (Err e) d = Err (unread project e) ≡ as_due d
 
 -- The project is built, then what is run beside its cartridge is read.
-abbrev pub play_due : (project map_name : List ℕ) → RunWords → Held → Result Work Refusal → Type 0
+abbrev pub play_due : (project map_name : List ℕ) → RunWords → Held → Result Work DueRefusal → Type 0
 play_due project map_name words held d = read_play_due project map_name words held (due held project) d
 
 -- the input of a play is refused: that of its build, the pads file, the card or the number of frames
-abbrev pub play_refused : (project : List ℕ) → RunWords → Held → Refusal → Type 0
-play_refused project words held refusal = read_build_refused project held (due held project) refusal ⊎ (settings_due words held ≡ Err refusal)
-
--- nothing is created, and `ok` is put
-abbrev pub accepted : Work
-accepted = record { effects = []; text = codes "ok" ++ 10 ∷ []; status = 0 }
+abbrev pub play_refused : (project : List ℕ) → RunWords → Held → DueRefusal → Type 0
+play_refused project words held refusal = read_build_refused project held (due held project) refusal ⊎ (settings_due words held ≡ Err (refusals.Due refusal))
 
 -- what the check of a project's text is due: `ok` where its source has a program, else why it has none
-abbrev pub text_check_due : (project text : List ℕ) → Held → Result Work Refusal → Type 0
+abbrev pub text_check_due : (project text : List ℕ) → Held → Result Work DueRefusal → Type 0
 text_check_due project text held (Ok work) = ((p : ProgramT) × IsAccepted held text p) × (accepted ≡ work)
-text_check_due project text held (Err refusal) = (e : BuildErr) × IsRejected held text e × (unbuilt project e ≡ refusal)
+text_check_due project text held (Err refusal) = (e : BuildErr) × IsRejected held text e × (unbuilt project e ≡ refusals.Due refusal)
 
-abbrev pub read_check_due : (project : List ℕ) → Held → Result (List ℕ) FileErr → Result Work Refusal → Type 0
+abbrev pub read_check_due : (project : List ℕ) → Held → Result (List ℕ) FileErr → Result Work DueRefusal → Type 0
 read_check_due project held (Ok text) d = text_check_due project text held d
-read_check_due project held (Err e) d = Err (unread project e) ≡ d
+read_check_due project held (Err e) d = Err (unread project e) ≡ as_due d
 
 -- The project's file is read, then checked. Of tokens that are no unit more than one refusal can be due, so this is a relation.
-abbrev pub check_due : (project : List ℕ) → Held → Result Work Refusal → Type 0
+abbrev pub check_due : (project : List ℕ) → Held → Result Work DueRefusal → Type 0
 check_due project held d = read_check_due project held (due held project) d
 
 -- what a command is due: one work or refusal, but for a build, a play and a check
-abbrev pub work_due : Command → Held → Result Work Refusal → Type 0
+abbrev pub work_due : Command → Held → Result Work DueRefusal → Type 0
 work_due (Build project cart map_name) held d = build_due project cart map_name held d
-work_due (Convert conversion source target) held d = convert_due conversion source target held ≡ d
-work_due (Trace cart answers card steps) held d = trace_due cart answers card steps held ≡ d
-work_due (Run words) held d = run_due words held ≡ d
+work_due (Convert conversion source target) held d = convert_due conversion source target held ≡ as_due d
+work_due (Trace cart answers card steps) held d = trace_due cart answers card steps held ≡ as_due d
+work_due (Run words) held d = run_due words held ≡ as_due d
 work_due (Play project map_name words) held d = play_due project map_name words held d
 work_due (Check project) held d = check_due project held d
 
-abbrev pub form_due : Option Command → Held → Result Work Refusal → Type 0
-form_due None held d = Err refusals.Usage ≡ d
+abbrev pub form_due : Option Command → Held → Result Work DueRefusal → Type 0
+form_due None held d = Err dues.Usage ≡ d
 form_due (Some command) held d = work_due command held d
 
 -- the work of the command of these words, or its first refusal
-abbrev pub command_due : List (List ℕ) → Held → Result Work Refusal → Type 0
+abbrev pub command_due : List (List ℕ) → Held → Result Work DueRefusal → Type 0
 command_due words held d = form_due (command_of words) held d
 
 -- The words are no command, or its input is refused. The cartridge of a build or a play is no input of it: whether it is too large is known only of
 -- what was built.
-abbrev pub form_refused : Option Command → Held → Refusal → Type 0
+abbrev pub form_refused : Option Command → Held → DueRefusal → Type 0
 form_refused (Some (Build project cart map_name)) held refusal = read_build_refused project held (due held project) refusal
 form_refused (Some (Play project map_name words)) held refusal = play_refused project words held refusal
 form_refused c held refusal = form_due c held (Err refusal)
 
-abbrev pub command_refused : List (List ℕ) → Held → Refusal → Type 0
+abbrev pub command_refused : List (List ℕ) → Held → DueRefusal → Type 0
 command_refused words held refusal = form_refused (command_of words) held refusal
 
--- The names that a command reads. Which files a build, a play and a check read beside those that the project names is not told.
-abbrev pub command_reads : Option Command → Held → List ℕ → Type 0
+-- The files that a command on a project reads: the project's own, and those that its text asks for.
+abbrev pub project_reads : (AreRead : (text name : List ℕ) → Type 0) → (project : List ℕ) → Result (List ℕ) FileErr → (name : List ℕ) → Type 0
+project_reads AreRead project (Ok text) name = (name ≡ project) ⊎ AreRead text name
+project_reads AreRead project (Err e) name = name ≡ project
+
+-- a play reads the pads file and the card as well
+abbrev pub IsReadToPlay : RunWords → Held → (text name : List ℕ) → Type 0
+IsReadToPlay words held text name = IsReadToBuild held text name ⊎ Contains (settings_reads words) name
+
+abbrev pub build_reads : (project : List ℕ) → Held → (name : List ℕ) → Type 0
+build_reads project held name = project_reads (IsReadToBuild held) project (due held project) name
+
+abbrev pub play_reads : (project : List ℕ) → RunWords → Held → (name : List ℕ) → Type 0
+play_reads project words held name = project_reads (IsReadToPlay words held) project (due held project) name
+
+abbrev pub check_reads : (project : List ℕ) → Held → (name : List ℕ) → Type 0
+check_reads project held name = project_reads (IsReadToCheck held) project (due held project) name
+
+-- the files that a command reads
+abbrev pub command_reads : Option Command → Held → (name : List ℕ) → Type 0
 command_reads None held name = ⊥
-command_reads (Some (Build project cart map_name)) held name = Unit {0}
+command_reads (Some (Build project cart map_name)) held name = build_reads project held name
 command_reads (Some (Convert conversion source target)) held name = Contains (source ∷ []) name
 command_reads (Some (Trace cart answers card steps)) held name = Contains (trace_reads cart answers card) name
 command_reads (Some (Run words)) held name = Contains (run_reads words) name
-command_reads (Some (Play project map_name words)) held name = Unit {0}
-command_reads (Some (Check project)) held name = Unit {0}
+command_reads (Some (Play project map_name words)) held name = play_reads project words held name
+command_reads (Some (Check project)) held name = check_reads project held name
 
--- the names that the command of these words reads
-abbrev pub reads_due : List (List ℕ) → Held → List ℕ → Type 0
+-- the files that the command of these words reads
+abbrev pub reads_due : List (List ℕ) → Held → (name : List ℕ) → Type 0
 reads_due words held name = command_reads (command_of words) held name

@@ -9,7 +9,7 @@ use Rattle.build_core.specs.Build.{IsBuilt}
 use Rattle.project_text.specs.MapText.{map_text}
 use Rattle.kit_words.specs.Command.{RunWords, Build, Play, command_of}
 use Rattle.kit_core.specs.Due.{outputs_of, play_effects}
-use Rattle.kit_core.specs.Running.{Settings, end_status, game_end, game_with, settings_due}
+use Rattle.kit_tools.specs.Running.{Settings, end_status, game_end, game_with, settings_due}
 use Rattle.run_core.specs.Ending.{end_text}
 use Rattle.cart_format.specs.Cartridge.{Cartridge}
 use Rattle.cart_format.specs.Reading.{cart_of}

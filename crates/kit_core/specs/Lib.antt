@@ -1,14 +1,7 @@
-pub mod Refusal
-pub mod Inputs
-pub mod Migration
-pub mod Converting
-pub mod Tracing
-pub mod Running
 pub mod Due
-pub mod Causes
 pub mod Limits
 pub mod Outcome
-pub mod Carrying
+pub mod Putting
 pub mod Checking
-pub mod Gaming
+pub mod Playing
 pub mod Headline

@@ -3,25 +3,11 @@ use Rattle.std.specs.Prelude.{ℕ, ◌≡◌, ◌<◌, ◌⊎◌, false, List, O
 use Rattle.kit_base.specs.Held.{Held}
 use Rattle.kit_base.specs.Outside.{due}
 use Rattle.build_core.specs.Causes.{CanBeTooLarge}
-use Rattle.cart_format.specs.Cartridge.{Cartridge, total}
 use Rattle.kit_words.specs.declared.conversion.Conversion.{Conversion}
-use Rattle.kit_words.specs.declared.conversion.Conversion.TheVariants.{Migrate}
 use Rattle.kit_words.specs.Command.{RunWords, Build, Convert, Trace, Run, Play, command_of}
-use Rattle.kit_core.specs.Inputs.{cart_due}
-use Rattle.kit_core.specs.Migration.{in_second}
 use Rattle.kit_words.specs.Number.{number_of}
-use Rattle.kit_core.specs.Running.{is_count}
-
--- the file's cartridge would be too long in its second revision
-pub record IsLong (cart : List ℕ) (held : Option Held) : Type 0 where
-  pub value : Cartridge
-  pub read : IfSome held (λ m. cart_due cart m ≡ Ok value)
-  pub over : 268435456 < total (in_second value)
-
--- a migration of such a file
-pub record ConvertsLong (conversion : Conversion) (source : List ℕ) (held : Option Held) : Type 0 where
-  pub is_migration : conversion ≡ Migrate
-  pub long : IsLong source held
+use Rattle.kit_tools.specs.Running.{is_count}
+use Rattle.kit_tools.specs.Converting.{ConvertsLong}
 
 -- the words are such a migration
 pub record MigratesLong (words : List (List ℕ)) (held : Option Held) : Type 0 where

@@ -1,38 +1,20 @@
 -- What a command answered, left in the files and put, in the five ways that it can end.
-use Rattle.std.specs.Prelude.{ℕ, ◌≡◌, ◌⊎◌, List, ◌++◌, take, Option, Some, option_map, Result, Ok, Err, Contains}
+use Rattle.std.specs.Prelude.{ℕ, ◌≡◌, ◌⊎◌, List, ◌++◌, take, Option, Some, option_map, Result, Ok, Err}
 use Rattle.kit_base.specs.Held.{Held}
-use Rattle.kit_base.specs.Effects.{all_done, CutShort}
-use Rattle.kit_core.specs.declared.refusal.Refusal.{Refusal}
-use Rattle.kit_core.specs.declared.refusal.Refusal.TheVariants as refusals
-use Rattle.kit_core.specs.Refusal.{status_of, line_of}
-use Rattle.kit_core.specs.Due.{Work, command_due, reads_due}
+use Rattle.kit_base.specs.Effects.{all_done}
+use Rattle.kit_tools.specs.declared.refusal.DueRefusal.{DueRefusal}
+use Rattle.kit_tools.specs.declared.refusal.Refusal.{Refusal}
+use Rattle.kit_tools.specs.declared.refusal.Refusal.TheVariants as refusals
+use Rattle.kit_tools.specs.Refusal.{due_line, due_status, line_of}
+use Rattle.kit_tools.specs.Work.{Work, ComesBy}
+use Rattle.kit_core.specs.Due.{command_due, reads_due}
 
 -- what was put, with that piece behind it, where it is told
 abbrev pub putting : List ℕ → Option (List ℕ) → Option (List ℕ)
 putting piece before = option_map (λ bytes. bytes ++ piece) before
 
--- The outputs that were due were cut short at a refused call on the file of that name: those before
--- it are done in full, that one in part, and none after it was begun.
-abbrev pub StopsWriting : List ℕ → (Result Work Refusal → Type 0) → Held → Option Held → Type 0
-StopsWriting name Due held after = (work : Work) × Due (Ok work) × CutShort name work.effects (Some held) after
-
--- a read of one of these names failed, and nothing was changed
-abbrev pub StopsReading : List ℕ → (List ℕ → Type 0) → Held → Option Held → Type 0
-StopsReading name Reads held after = Reads name × (after ≡ Some held)
-
--- The refusal came, and this is held after it: one that is due, or a failing call of the files,
--- or want of memory at any place.
-abbrev pub ComesBy : Refusal → (Result Work Refusal → Type 0) → (List ℕ → Type 0) → Held → Option Held → Type 0
-ComesBy (refusals.Failed name) Due Reads held after = StopsReading name Reads held after ⊎ StopsWriting name Due held after
-ComesBy refusals.Memory Due Reads held after = (after ≡ Some held) ⊎ ((name : List ℕ) × StopsWriting name Due held after)
-ComesBy refusal Due Reads held after = Due (Err refusal) × (after ≡ Some held)
-
--- the same where one thing is due, and these names are read
-abbrev pub Comes : Refusal → Result Work Refusal → List (List ℕ) → Held → Option Held → Type 0
-Comes refusal due reads held after = ComesBy refusal (λ d. due ≡ d) (Contains reads) held after
-
 -- Status 0, or 3 of a run that ended by a fault: all effects are done, and the text is put whole.
-pub record IsDone (Due : Result Work Refusal → Type 0) (held : Held) (status : ℕ) (after : Option Held) (before put : Option (List ℕ)) : Type 0 where
+pub record IsDone (Due : Result Work DueRefusal → Type 0) (held : Held) (status : ℕ) (after : Option Held) (before put : Option (List ℕ)) : Type 0 where
   pub work : Work
   pub is_due : Due (Ok work)
   pub status_is : status ≡ work.status
@@ -41,15 +23,15 @@ pub record IsDone (Due : Result Work Refusal → Type 0) (held : Held) (status :
 
 -- Status 1, 2, 4, 6 or 7: the refusal is the one that is due, nothing was created or changed, and
 -- its line is put.
-pub record IsRefused (Due : Result Work Refusal → Type 0) (held : Held) (status : ℕ) (after : Option Held) (before put : Option (List ℕ)) : Type 0 where
-  pub refusal : Refusal
+pub record IsRefused (Due : Result Work DueRefusal → Type 0) (held : Held) (status : ℕ) (after : Option Held) (before put : Option (List ℕ)) : Type 0 where
+  pub refusal : DueRefusal
   pub is_due : Due (Err refusal)
-  pub status_is : status ≡ status_of refusal
+  pub status_is : status ≡ due_status refusal
   pub files : after ≡ Some held
-  pub text : put ≡ putting (line_of refusal) before
+  pub text : put ≡ putting (due_line refusal) before
 
 -- Status 5: a call on the file of that name failed, a read or an output, and its line is put.
-pub record HasFileFault (Due : Result Work Refusal → Type 0) (Reads : List ℕ → Type 0) (held : Held) (status : ℕ) (after : Option Held) (before put : Option (List ℕ)) : Type 0 where
+pub record HasFileFault (Due : Result Work DueRefusal → Type 0) (Reads : List ℕ → Type 0) (held : Held) (status : ℕ) (after : Option Held) (before put : Option (List ℕ)) : Type 0 where
   pub name : List ℕ
   pub files : ComesBy (refusals.Failed name) Due Reads held after
   pub status_is : status ≡ 5
@@ -57,21 +39,21 @@ pub record HasFileFault (Due : Result Work Refusal → Type 0) (Reads : List ℕ
 
 -- what is put where these files are left: the text of the work that was done, or the line of the
 -- refusal that came
-abbrev pub IsShown : List ℕ → (Result Work Refusal → Type 0) → (List ℕ → Type 0) → Held → Option Held → Type 0
+abbrev pub IsShown : List ℕ → (Result Work DueRefusal → Type 0) → (List ℕ → Type 0) → Held → Option Held → Type 0
 IsShown text Due Reads held after =
     ((work : Work) × Due (Ok work) × (after ≡ all_done work.effects (Some held)) × (text ≡ work.text))
     ⊎ ((refusal : Refusal) × ComesBy refusal Due Reads held after × (text ≡ line_of refusal))
 
 -- Status 8, where memory ran out, and 9, where the sink failed: a front of the text or of the
 -- refusal's line was put, and then a front of the line of 8.
-pub record IsCutOff (Due : Result Work Refusal → Type 0) (Reads : List ℕ → Type 0) (held : Held) (after : Option Held) (before put : Option (List ℕ)) : Type 0 where
+pub record IsCutOff (Due : Result Work DueRefusal → Type 0) (Reads : List ℕ → Type 0) (held : Held) (after : Option Held) (before put : Option (List ℕ)) : Type 0 where
   pub whole : List ℕ
   pub shown : IsShown whole Due Reads held after
   pub count : ℕ
   pub line_count : ℕ
   pub text : put ≡ putting (take count whole ++ take line_count (line_of refusals.Memory)) before
 
-pub data EndsAs (Due : Result Work Refusal → Type 0) (Reads : List ℕ → Type 0) (held : Held) (status : ℕ) (after : Option Held) (before put : Option (List ℕ)) : Type 0 where
+pub data EndsAs (Due : Result Work DueRefusal → Type 0) (Reads : List ℕ → Type 0) (held : Held) (status : ℕ) (after : Option Held) (before put : Option (List ℕ)) : Type 0 where
   Done : IsDone Due held status after before put → EndsAs Due Reads held status after before put
   Refused : IsRefused Due held status after before put → EndsAs Due Reads held status after before put
   FileFault : HasFileFault Due Reads held status after before put → EndsAs Due Reads held status after before put
@@ -84,6 +66,6 @@ abbrev pub IsOutcome : List (List ℕ) → Held → ℕ → Option Held → Opti
 IsOutcome words held status after before put = EndsAs (command_due words held) (reads_due words held) held status after before put
 
 -- the status that is due, where no call fails and memory is there
-abbrev pub status_due : Result Work Refusal → ℕ
+abbrev pub status_due : Result Work DueRefusal → ℕ
 status_due (Ok work) = work.status
-status_due (Err refusal) = status_of refusal
+status_due (Err refusal) = due_status refusal

@@ -3,19 +3,18 @@ ghost use Rattle.std.specs.Prelude.{◌≡◌, ◌≤◌, IfSome, IfOk, OnOk, If
 ghost use Rattle.kit_base.specs.Effects.{all_done};
 ghost use Rattle.build_core.specs.Build.{IsCartText};
 ghost use Rattle.build_core.specs.Causes.{CanBeTooLarge};
-ghost use Rattle.kit_core.specs.Carrying.{IsCut, LeavesBy};
-ghost use Rattle.kit_core.specs.Causes.{HasCauses, HasCausesOr};
+ghost use Rattle.build_core.specs.Reached.{IsReadToBuild};
+ghost use Rattle.kit_tools.specs.Carrying.{FailsIn, IsCut, LeavesBy};
+ghost use Rattle.kit_tools.specs.Causes.{HasCauses, HasCausesOr, counts};
 ghost use Rattle.kit_core.specs.Limits.{IsLarge};
 ghost use Rattle.kit_core.specs.Checking.{TextBuilt};
-ghost use Rattle.kit_core.specs.Due.{build_due, outputs_of};
-ghost use Rattle.kit_core.specs.Gaming.{AreOutputs};
+ghost use Rattle.kit_core.specs.Due.{build_due, build_reads, outputs_of};
+ghost use Rattle.kit_core.specs.Playing.{AreOutputs};
 
-use crate::reading::read_file;
-use crate::refusal::{Refusal, unbuilt};
-use crate::shown::Shown;
-use crate::writing::write_named;
+use crate::build_refusal::unbuilt;
 use build_core::{Built, build};
 use kit_base::{Files, Memory as OutOfMemory, Name};
+use kit_tools::{Refusal, Shown, read_file, write_named};
 use project_text::write_map;
 use std::alloc::Global;
 
@@ -29,8 +28,10 @@ pub fn build_text<F: Files>(
     requires { length text.now ≤ 268435456 }
     ensures held { F.held files.new ≡ F.held files.old }
     ensures told { IfSome (F.held files.old) (λ m. TextBuilt project.now text.now m result) }
+    // A call that failed was at a file that is read to build the project.
+    ensures reached { IfSome (F.held files.old) (λ m. IfErr result (FailsIn (IsReadToBuild m text.now))) }
     ensures cartridge { IfOk result (λ b. IsCartText b.cart) }
-    ensures causes { HasCausesOr (CanBeTooLarge text.now) result (F.faults files.old) (F.faults files.new) (F.misses files.old) (F.misses files.new) (F.overs files.old) (F.overs files.new) }
+    ensures causes { HasCausesOr (CanBeTooLarge text.now) result (counts F.faults F.misses F.overs files.old) (counts F.faults F.misses F.overs files.new) }
 {
     match build(alloc, files, text) {
         Ok(built) => Ok(built),
@@ -79,7 +80,7 @@ pub fn write_made<F: Files>(
     requires { AreOutputs cart.now map.now built.now outputs }
     ensures ok { OnOk result (F.held files.new ≡ all_done (outputs_of cart.now map.now built.now) (F.held files.old)) }
     ensures err { IfErr result (λ e. IsCut e (outputs_of cart.now map.now built.now) (F.held files.old) (F.held files.new)) }
-    ensures causes { HasCauses result (F.faults files.old) (F.faults files.new) (F.misses files.old) (F.misses files.new) (F.overs files.old) (F.overs files.new) }
+    ensures causes { HasCauses result (counts F.faults F.misses F.overs files.old) (counts F.faults F.misses F.overs files.new) }
 {
     let Outputs {
         cart_name,
@@ -100,14 +101,14 @@ fn write_outputs<F: Files>(
 ) -> Result<(), Refusal>
     ensures ok { OnOk result (F.held files.new ≡ all_done (outputs_of cart.now map.now built.now) (F.held files.old)) }
     ensures err { IfErr result (λ e. IsCut e (outputs_of cart.now map.now built.now) (F.held files.old) (F.held files.new)) }
-    ensures causes { HasCauses result (F.faults files.old) (F.faults files.new) (F.misses files.old) (F.misses files.new) (F.overs files.old) (F.overs files.new) }
+    ensures causes { HasCauses result (counts F.faults F.misses F.overs files.old) (counts F.faults F.misses F.overs files.new) }
 {
     let outputs = made_outputs(alloc, cart, map, built)?;
     write_made(files, cart, map, built, outputs)
 }
 
 /// `build project cart map`. There is no text to put after it.
-#[tactic(auto, using(crate::proofs::Own::wider_causes))]
+#[tactic(auto, using(kit_tools::proofs::Own::wider_causes))]
 pub fn build_command<F: Files>(
     alloc: Global,
     files: &mut F,
@@ -115,8 +116,8 @@ pub fn build_command<F: Files>(
     cart: &str,
     map: &str,
 ) -> Result<Shown, Refusal>
-    ensures told { IfSome (F.held files.old) (λ m. LeavesBy result (build_due project.now cart.now map.now m) (λ name. Unit {0}) m (F.held files.new)) }
-    ensures causes { HasCausesOr (IsLarge project.now (F.held files.old)) result (F.faults files.old) (F.faults files.new) (F.misses files.old) (F.misses files.new) (F.overs files.old) (F.overs files.new) }
+    ensures told { IfSome (F.held files.old) (λ m. LeavesBy result (build_due project.now cart.now map.now m) (build_reads project.now m) m (F.held files.new)) }
+    ensures causes { HasCausesOr (IsLarge project.now (F.held files.old)) result (counts F.faults F.misses F.overs files.old) (counts F.faults F.misses F.overs files.new) }
 {
     let text = read_file(alloc, files, project)?;
     let built = build_text(alloc, files, project, &text)?;

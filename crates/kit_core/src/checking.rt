@@ -1,15 +1,15 @@
 // The command `check`.
-ghost use Rattle.std.specs.Prelude.{ℕ, List, ◌≡◌, ◌≤◌, IfSome, length};
-ghost use Rattle.kit_core.specs.Carrying.{LeavesBy};
-ghost use Rattle.kit_core.specs.Causes.{HasCauses};
+ghost use Rattle.std.specs.Prelude.{ℕ, List, ◌≡◌, ◌≤◌, IfErr, IfSome, length};
+ghost use Rattle.build_core.specs.Reached.{IsReadToCheck};
+ghost use Rattle.kit_tools.specs.Carrying.{FailsIn, LeavesBy};
+ghost use Rattle.kit_tools.specs.Causes.{HasCauses, counts};
 ghost use Rattle.kit_core.specs.Checking.{TextChecked};
-ghost use Rattle.kit_core.specs.Due.{check_due};
+ghost use Rattle.kit_core.specs.Due.{check_due, check_reads};
 
-use crate::reading::read_file;
-use crate::refusal::{Refusal, unbuilt};
-use crate::shown::Shown;
+use crate::build_refusal::unbuilt;
 use build_core::check_sources;
 use kit_base::{Files, Name};
+use kit_tools::{Refusal, Shown, read_file};
 use std::alloc::Global;
 
 /// Checks the project of that text. A refusal has the project's own name.
@@ -22,7 +22,9 @@ fn check_text<F: Files>(
     requires { length text.now ≤ 268435456 }
     ensures held { F.held files.new ≡ F.held files.old }
     ensures told { IfSome (F.held files.old) (λ m. TextChecked project.now text.now m result) }
-    ensures causes { HasCauses result (F.faults files.old) (F.faults files.new) (F.misses files.old) (F.misses files.new) (F.overs files.old) (F.overs files.new) }
+    // A call that failed was at a file that is read to check the project.
+    ensures reached { IfSome (F.held files.old) (λ m. IfErr result (FailsIn (IsReadToCheck m text.now))) }
+    ensures causes { HasCauses result (counts F.faults F.misses F.overs files.old) (counts F.faults F.misses F.overs files.new) }
 {
     match check_sources(alloc, files, text) {
         Ok(_) => Ok(()),
@@ -39,8 +41,8 @@ pub fn check_command<F: Files>(
     files: &mut F,
     project: &str,
 ) -> Result<Shown, Refusal>
-    ensures told { IfSome (F.held files.old) (λ m. LeavesBy result (check_due project.now m) (λ name. Unit {0}) m (F.held files.new)) }
-    ensures causes { HasCauses result (F.faults files.old) (F.faults files.new) (F.misses files.old) (F.misses files.new) (F.overs files.old) (F.overs files.new) }
+    ensures told { IfSome (F.held files.old) (λ m. LeavesBy result (check_due project.now m) (check_reads project.now m) m (F.held files.new)) }
+    ensures causes { HasCauses result (counts F.faults F.misses F.overs files.old) (counts F.faults F.misses F.overs files.new) }
 {
     let text = read_file(alloc, files, project)?;
     check_text(alloc, files, project, &text)?;

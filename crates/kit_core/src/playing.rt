@@ -3,24 +3,25 @@ ghost use Rattle.std.specs.Prelude.{◌≡◌, ◌≤◌, ◌⊎◌, false, Ok, 
 ghost use Rattle.std.specs.Option.{ForSome};
 ghost use Rattle.build_core.specs.Build.{IsCartText};
 ghost use Rattle.cart_format.specs.Reading.{cart_of};
-ghost use Rattle.kit_core.specs.Carrying.{LeavesBy};
-ghost use Rattle.kit_core.specs.Causes.{HasCauses, HasCausesOr};
-ghost use Rattle.kit_core.specs.Due.{play_due, play_work};
-ghost use Rattle.kit_core.specs.Gaming.{AreOutputs, IsCarried, IsGameOf, IsOpened, game_of};
+ghost use Rattle.kit_tools.specs.Carrying.{LeavesBy};
+ghost use Rattle.kit_tools.specs.Causes.{HasCauses, HasCausesOr, counts};
+ghost use Rattle.kit_core.specs.Due.{play_due, play_reads, play_work};
+ghost use Rattle.kit_core.specs.Playing.{AreOutputs, IsCarried, IsGameOf};
+ghost use Rattle.kit_tools.specs.Gaming.{IsOpened, game_of};
 ghost use Rattle.kit_core.specs.Limits.{IsLarge};
 ghost use Rattle.kit_words.specs.Parsed.{run_words_from};
-ghost use Rattle.kit_core.specs.Running.{Game, is_count, names_in};
+ghost use Rattle.kit_tools.specs.Running.{Game, is_count, names_in};
 ghost use Rattle.kit_words.specs.Number.{number_of};
 
 use crate::building::{Outputs, build_text, made_outputs, write_made};
-use kit_words::RunWords;
-use crate::reading::read_file;
-use crate::refusal::Refusal;
-use crate::running::{Loaded, LoadedSettings, Opened, open_game, read_settings, write_outputs};
-use crate::shown::Shown;
 use build_core::Built;
 use cart_format::{Cart, CartErr, read_cart};
 use kit_base::{Files, Memory as OutOfMemory};
+use kit_tools::{
+    Loaded, LoadedSettings, Opened, Refusal, Shown, open_game, read_file, read_settings,
+    write_outputs,
+};
+use kit_words::RunWords;
 use std::alloc::Global;
 
 /// The cartridge that was built. It is one that is read again, so only memory can be wanting.
@@ -67,7 +68,7 @@ fn write_opened<F: Files>(
     requires { AreOutputs words.now.cart.now map.now built.now outputs }
     ensures written { (game : Game) → IsOpened (names_in (run_words_from words.now)) game opened
         → IsCarried (play_work map.now (run_words_from words.now) built.now game) result (F.held files.old) (F.held files.new) }
-    ensures causes { HasCauses result (F.faults files.old) (F.faults files.new) (F.misses files.old) (F.misses files.new) (F.overs files.old) (F.overs files.new) }
+    ensures causes { HasCauses result (counts F.faults F.misses F.overs files.old) (counts F.faults F.misses F.overs files.new) }
 {
     match write_made(files, words.cart, map, built, outputs) {
         Ok(()) => write_outputs(files, opened.run, opened.ending, opened.own, words),
@@ -87,7 +88,7 @@ fn write_play<F: Files>(
     requires room { ForSome game.card (λ v. length v.items ≡ 0x40000) }
     requires few { game.count ≤ 3600 }
     ensures written { IsCarried (play_work map.now (run_words_from words.now) built.now (game_of game)) result (F.held files.old) (F.held files.new) }
-    ensures causes { HasCauses result (F.faults files.old) (F.faults files.new) (F.misses files.old) (F.misses files.new) (F.overs files.old) (F.overs files.new) }
+    ensures causes { HasCauses result (counts F.faults F.misses F.overs files.old) (counts F.faults F.misses F.overs files.new) }
 {
     let outputs = made_outputs(alloc, words.cart, map, built)?;
     let opened = open_game(alloc, game, words)?;
@@ -95,7 +96,7 @@ fn write_play<F: Files>(
 }
 
 /// `play project cart map pads frames samples count card`. The line of a fault is put later.
-#[tactic(auto, using(crate::proofs::Own::wider_causes))]
+#[tactic(auto, using(kit_tools::proofs::Own::wider_causes))]
 pub fn play_command<F: Files>(
     alloc: Global,
     files: &mut F,
@@ -103,8 +104,8 @@ pub fn play_command<F: Files>(
     map: &str,
     words: &RunWords<'_>,
 ) -> Result<Shown, Refusal>
-    ensures told { IfSome (F.held files.old) (λ m. LeavesBy result (play_due project.now map.now (run_words_from words.now) m) (λ name. Unit {0}) m (F.held files.new)) }
-    ensures causes { HasCausesOr (IsLarge project.now (F.held files.old) ⊎ (is_count (number_of words.now.count.now) ≡ false)) result (F.faults files.old) (F.faults files.new) (F.misses files.old) (F.misses files.new) (F.overs files.old) (F.overs files.new) }
+    ensures told { IfSome (F.held files.old) (λ m. LeavesBy result (play_due project.now map.now (run_words_from words.now) m) (play_reads project.now (run_words_from words.now) m) m (F.held files.new)) }
+    ensures causes { HasCausesOr (IsLarge project.now (F.held files.old) ⊎ (is_count (number_of words.now.count.now) ≡ false)) result (counts F.faults F.misses F.overs files.old) (counts F.faults F.misses F.overs files.new) }
 {
     let text = read_file(alloc, files, project)?;
     let built = build_text(alloc, files, project, &text)?;

@@ -3,29 +3,29 @@ ghost use Rattle.std.specs.Prelude.{◌≡◌, ◌≢◌, ◌≤◌, ◌⊎◌, 
 ghost use Rattle.kit_base.specs.Counts.{Rose};
 ghost use Rattle.trace_core.specs.Putting.{trace_text};
 ghost use Rattle.run_core.specs.Ending.{end_text};
-ghost use Rattle.kit_core.specs.Carrying.{LeavesBy, Puts, Shows, shown_status, text_of};
-ghost use Rattle.kit_core.specs.Causes.{HasCausesOr, HasOnlyRisen, IsUnrisen};
+ghost use Rattle.kit_tools.specs.Carrying.{LeavesBy, shown_status, text_of};
+ghost use Rattle.kit_core.specs.Putting.{Puts, Shows};
+ghost use Rattle.kit_tools.specs.Causes.{HasCausesOr, HasOnlyRisen, IsUnrisen, counts};
 ghost use Rattle.kit_words.specs.Command.{texts};
-ghost use Rattle.kit_core.specs.Due.{Work, accepted, command_due, command_refused, reads_due};
+ghost use Rattle.kit_tools.specs.Work.{Work, accepted};
+ghost use Rattle.kit_core.specs.Due.{command_due, command_refused, reads_due};
 ghost use Rattle.kit_core.specs.Headline.{BuildStands, PlayStands};
 ghost use Rattle.kit_core.specs.Limits.{IsOver};
 ghost use Rattle.kit_core.specs.Outcome.{IsOutcome, status_due};
-ghost use Rattle.kit_core.specs.declared.refusal.Refusal.{Refusal};
-ghost use Rattle.kit_core.specs.Refusal.{IsStatus, line_of, status_of};
-ghost use Rattle.kit_core.specs.Running.{RunStands, end_status};
-ghost use Rattle.kit_core.specs.Tracing.{TraceStands};
+ghost use Rattle.kit_tools.specs.declared.refusal.DueRefusal.{DueRefusal};
+ghost use Rattle.kit_tools.specs.Refusal.{IsStatus, line_of, status_of};
+ghost use Rattle.kit_tools.specs.Running.{RunStands, end_status};
+ghost use Rattle.kit_tools.specs.Tracing.{TraceStands};
 
 use crate::building::build_command;
 use crate::checking::check_command;
-use kit_words::{Command, command_of};
-use crate::converting::convert_command;
 use crate::playing::play_command;
-use crate::refusal::{Refusal, line_of, status_of};
-use crate::running::run_command;
-use crate::shown::Shown;
-use crate::tracing::trace_command;
 use build_core::builds_are_due_or_refused;
 use kit_base::{Files, Sink, SinkErr};
+use kit_tools::{
+    DueRefusal, Refusal, Shown, convert_command, line_of, run_command, status_of, trace_command,
+};
+use kit_words::{Command, command_of};
 use run_core::Ending;
 use std::alloc::Global;
 use trace_core::Trace;
@@ -123,10 +123,10 @@ fn finish<S: Sink>(out: &mut S, shown: Shown) -> u8
 /// Carries out the command of these words, up to its text.
 fn carry_out<F: Files>(alloc: Global, words: &[String], files: &mut F) -> Result<Shown, Refusal>
     ensures told { IfSome (F.held files.old) (λ m. LeavesBy result (command_due (texts words.now) m) (reads_due (texts words.now) m) m (F.held files.new)) }
-    ensures causes { HasCausesOr (IsOver (texts words.now) (F.held files.old)) result (F.faults files.old) (F.faults files.new) (F.misses files.old) (F.misses files.new) (F.overs files.old) (F.overs files.new) }
+    ensures causes { HasCausesOr (IsOver (texts words.now) (F.held files.old)) result (counts F.faults F.misses F.overs files.old) (counts F.faults F.misses F.overs files.new) }
 {
     match command_of(alloc, words)? {
-        None => Err(Refusal::Usage),
+        None => Err(Refusal::Due(DueRefusal::Usage)),
         Some(Command::Build { project, cart, map }) => {
             build_command(alloc, files, project, cart, map)
         }
@@ -164,7 +164,7 @@ fn status_for<F: Files, S: Sink>(alloc: Global, words: &[String], files: &mut F,
     ensures failed { result ≡ 5 → Rose (F.faults files.old) (F.faults files.new) }
     ensures limit { result ≡ 7 → Rose (F.overs files.old) (F.overs files.new) ⊎ IsOver (texts words.now) (F.held files.old) }
     ensures unput { result ≡ 9 → Rose (S.faults out.old) (S.faults out.new) }
-    ensures later { HasOnlyRisen (F.faults files.old) (F.faults files.new) (F.misses files.old) (F.misses files.new) (F.overs files.old) (F.overs files.new) (S.faults out.old) (S.faults out.new) }
+    ensures later { HasOnlyRisen (counts F.faults F.misses F.overs files.old) (counts F.faults F.misses F.overs files.new) (S.faults out.old) (S.faults out.new) }
     ensures status { IsStatus result }
 {
     match carry_out(alloc, words, files) {
@@ -192,17 +192,17 @@ pub fn kit<F: Files, S: Sink>(alloc: Global, words: &[String], files: &mut F, ou
     // At 0 and 3 the outputs of a play are what was built and the outputs of its run.
     ensures plays { IfSome (F.held files.old) (λ m. (result ≡ 0) ⊎ (result ≡ 3) → PlayStands (texts words.now) m result (F.held files.new) (S.written out.old) (S.written out.new)) }
     // A command whose words or input are refused changes no file, whatever its status.
-    ensures untouched { IfSome (F.held files.old) (λ m. (e : Refusal) → command_refused (texts words.now) m e → F.held files.new ≡ F.held files.old) }
+    ensures untouched { IfSome (F.held files.old) (λ m. (e : DueRefusal) → command_refused (texts words.now) m e → F.held files.new ≡ F.held files.old) }
     // Where no call failed, the status is one that is due, or 8.
     ensures complete { IfSome (F.held files.old) (λ m. IsUnrisen (F.faults files.old) (F.faults files.new) → IsUnrisen (S.faults out.old) (S.faults out.new)
-        → ((d : Result Work Refusal) × command_due (texts words.now) m d × (result ≡ status_due d)) ⊎ (result ≡ 8)) }
+        → ((d : Result Work DueRefusal) × command_due (texts words.now) m d × (result ≡ status_due d)) ⊎ (result ≡ 8)) }
     // Refusals by the outside come only where a count rose, one of a limit also where the command
     // itself is over it.
     ensures missing { result ≡ 4 → Rose (F.misses files.old) (F.misses files.new) }
     ensures failed { result ≡ 5 → Rose (F.faults files.old) (F.faults files.new) }
     ensures limit { result ≡ 7 → Rose (F.overs files.old) (F.overs files.new) ⊎ IsOver (texts words.now) (F.held files.old) }
     ensures unput { result ≡ 9 → Rose (S.faults out.old) (S.faults out.new) }
-    ensures later { HasOnlyRisen (F.faults files.old) (F.faults files.new) (F.misses files.old) (F.misses files.new) (F.overs files.old) (F.overs files.new) (S.faults out.old) (S.faults out.new) }
+    ensures later { HasOnlyRisen (counts F.faults F.misses F.overs files.old) (counts F.faults F.misses F.overs files.new) (S.faults out.old) (S.faults out.new) }
     ensures status { IsStatus result }
 {
     builds_are_due_or_refused();

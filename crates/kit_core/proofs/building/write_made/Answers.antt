@@ -2,8 +2,8 @@ use Rattle.std.proofs.Common.{rules}
 use Rattle.std.specs.Prelude.{IfErr}
 use Rattle.kit_base.specs.Effects.{written_file}
 use Rattle.project_text.specs.MapText.{map_text}
-use Rattle.kit_core.specs.Carrying.{IsCut}
-use Rattle.kit_core.proofs.Cutting.{in_first_if, in_second_if}
+use Rattle.kit_tools.specs.Carrying.{IsCut}
+use Rattle.kit_tools.proofs.Cutting.{in_first_if, in_second_if}
 use Rattle.kit_core.proofs.building.write_made.Goals as goal
 
 pub returns-in_err-write_named-clause-err : goal.returns-in_err-write_named-clause-err

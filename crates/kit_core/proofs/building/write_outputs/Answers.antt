@@ -2,8 +2,8 @@ use Rattle.std.proofs.Common.{rules, ◌≡◌}
 use Rattle.std.specs.Prelude.{IfErr}
 use Rattle.kit_base.specs.Effects.{written_file}
 use Rattle.project_text.specs.MapText.{map_text}
-use Rattle.kit_core.specs.declared.refusal.Refusal.TheVariants as refusals
-use Rattle.kit_core.proofs.Cutting.{not_begun_if}
+use Rattle.kit_tools.specs.declared.refusal.Refusal.TheVariants as refusals
+use Rattle.kit_tools.proofs.Cutting.{not_begun_if}
 use Rattle.kit_core.proofs.building.write_outputs.Goals as goal
 
 pub returns-in_err-outputs-clause-err : goal.returns-in_err-outputs-clause-err

@@ -1,26 +1,36 @@
 use Rattle.std.proofs.Common.{rules, ◌≡◌, ◌∙◌, sym, subst}
 use Rattle.std.specs.Prelude.{Err, IfSome}
 use Rattle.build_core.specs.Build.{IsBuilt}
-use Rattle.kit_core.specs.declared.refusal.Refusal.TheVariants as refusals
+use Rattle.build_core.specs.Reached.{IsReadToBuild}
+use Rattle.kit_tools.specs.declared.refusal.Refusal.TheVariants as refusals
 use Rattle.kit_words.specs.Parsed.{run_words_from}
-use Rattle.kit_core.specs.Carrying.{GivesBy}
+use Rattle.kit_tools.specs.Carrying.{FailsIn, GivesBy}
 use Rattle.kit_core.specs.Checking.{TextBuilt}
-use Rattle.kit_core.specs.Due.{read_play_due}
-use Rattle.kit_core.specs.Gaming.{settings_of}
-use Rattle.kit_core.specs.Running.{settings_due}
-use Rattle.kit_core.proofs.Own.{later_causes}
-use Rattle.kit_core.proofs.Projects.{Left, left_refused}
-use Rattle.kit_core.proofs.Plays.{memory_told, play_left, unbuilt_told, unset_told}
+use Rattle.kit_core.specs.Due.{IsReadToPlay, read_play_due}
+use Rattle.kit_tools.specs.Gaming.{settings_of}
+use Rattle.kit_tools.specs.Running.{settings_due}
+use Rattle.kit_tools.proofs.Own.{later_causes}
+use Rattle.kit_core.proofs.Projects.{Left, left_refused, left_unread}
+use Rattle.kit_core.proofs.Plays.{memory_told, play_left, unbuilt_reached, unbuilt_told, unset_reached, unset_told}
 use Rattle.kit_core.proofs.playing.play_command.Goals as goal
+
+pub returns-in_err-text-clause-told : goal.returns-in_err-text-clause-told
+returns-in_err-text-clause-told g c =
+    let is : c.from_residual.result ≡ Err c.in_err-text.field-0.0 = search rules in
+    subst (Left c.args.project.now (read_play_due c.args.project.now c.args.map.now (run_words_from c.args.words.now)) (IsReadToPlay (run_words_from c.args.words.now)) (g.F.Reads.held c.args.files.now) (g.F.Reads.held c.read_file.new.files)) (sym is)
+    (left_unread c.args.project.now (read_play_due c.args.project.now c.args.map.now (run_words_from c.args.words.now)) (IsReadToPlay (run_words_from c.args.words.now)) (λ v. v.items) (λ m f r h. h) c.in_err-text.field-0.0
+    (g.F.Reads.held c.args.files.now) (g.F.Reads.held c.read_file.new.files) c.in_err-text.ensures.told c.in_err-text.ensures.fails c.in_err-text.ensures.held)
 
 pub returns-in_err-built-clause-told : goal.returns-in_err-built-clause-told
 returns-in_err-built-clause-told g c =
     let is : c.from_residual-in_err-built.result ≡ Err c.in_err-built.field-0.0 = search rules in
     let given : IfSome (g.F.Reads.held c.read_file.new.files) (λ m. TextBuilt c.args.project.now c.in_ok-text.text.items m (Err c.in_err-built.field-0.0)) = search rules in
-    subst (Left c.args.project.now (read_play_due c.args.project.now c.args.map.now (run_words_from c.args.words.now)) (g.F.Reads.held c.args.files.now) (g.F.Reads.held c.build_text.new.files)) (sym is)
-    (left_refused c.args.project.now (read_play_due c.args.project.now c.args.map.now (run_words_from c.args.words.now)) c.in_ok-text.text.items c.in_err-built.field-0.0 (g.F.Reads.held c.args.files.now) (g.F.Reads.held c.read_file.new.files) (g.F.Reads.held c.build_text.new.files)
+    let reached : IfSome (g.F.Reads.held c.read_file.new.files) (λ m. FailsIn (IsReadToBuild m c.in_ok-text.text.items) c.in_err-built.field-0.0) = search rules in
+    subst (Left c.args.project.now (read_play_due c.args.project.now c.args.map.now (run_words_from c.args.words.now)) (IsReadToPlay (run_words_from c.args.words.now)) (g.F.Reads.held c.args.files.now) (g.F.Reads.held c.build_text.new.files)) (sym is)
+    (left_refused c.args.project.now (read_play_due c.args.project.now c.args.map.now (run_words_from c.args.words.now)) (IsReadToPlay (run_words_from c.args.words.now)) c.in_ok-text.text.items c.in_err-built.field-0.0 (g.F.Reads.held c.args.files.now) (g.F.Reads.held c.read_file.new.files) (g.F.Reads.held c.build_text.new.files)
     c.in_ok-text.ensures.told c.in_ok-text.ensures.held
-    (unbuilt_told c.args.project.now c.in_ok-text.text.items c.args.map.now (run_words_from c.args.words.now) c.in_err-built.field-0.0 (g.F.Reads.held c.read_file.new.files) given) c.in_err-built.ensures.held)
+    (unbuilt_told c.args.project.now c.in_ok-text.text.items c.args.map.now (run_words_from c.args.words.now) c.in_err-built.field-0.0 (g.F.Reads.held c.read_file.new.files) given)
+    (unbuilt_reached c.args.project.now c.in_ok-text.text.items c.args.map.now (run_words_from c.args.words.now) c.in_err-built.field-0.0 (g.F.Reads.held c.read_file.new.files) reached) c.in_err-built.ensures.held)
 
 pub returns-in_err-settings-clause-told : goal.returns-in_err-settings-clause-told
 returns-in_err-settings-clause-told g c =
@@ -28,19 +38,20 @@ returns-in_err-settings-clause-told g c =
     let same : c.deref.result.now ≡ c.in_ok-text.text.items = search rules in
     let built = subst (λ t. IfSome (g.F.Reads.held c.read_file.new.files) (λ m. IsBuilt m t c.in_ok-built.built)) same c.in_ok-built.ensures.told in
     let given : IfSome (g.F.Reads.held c.build_text.new.files) (λ m. GivesBy settings_of (Err c.in_err-settings.field-0.0) (settings_due (run_words_from c.args.words.now) m)) = search rules in
-    subst (Left c.args.project.now (read_play_due c.args.project.now c.args.map.now (run_words_from c.args.words.now)) (g.F.Reads.held c.args.files.now) (g.F.Reads.held c.read_settings.new.files)) (sym is)
-    (left_refused c.args.project.now (read_play_due c.args.project.now c.args.map.now (run_words_from c.args.words.now)) c.in_ok-text.text.items c.in_err-settings.field-0.0 (g.F.Reads.held c.args.files.now) (g.F.Reads.held c.read_file.new.files) (g.F.Reads.held c.read_settings.new.files)
+    subst (Left c.args.project.now (read_play_due c.args.project.now c.args.map.now (run_words_from c.args.words.now)) (IsReadToPlay (run_words_from c.args.words.now)) (g.F.Reads.held c.args.files.now) (g.F.Reads.held c.read_settings.new.files)) (sym is)
+    (left_refused c.args.project.now (read_play_due c.args.project.now c.args.map.now (run_words_from c.args.words.now)) (IsReadToPlay (run_words_from c.args.words.now)) c.in_ok-text.text.items c.in_err-settings.field-0.0 (g.F.Reads.held c.args.files.now) (g.F.Reads.held c.read_file.new.files) (g.F.Reads.held c.read_settings.new.files)
     c.in_ok-text.ensures.told c.in_ok-text.ensures.held
     (unset_told c.args.project.now c.in_ok-text.text.items c.args.map.now (run_words_from c.args.words.now) c.in_err-settings.field-0.0 c.in_ok-built.built (g.F.Reads.held c.read_file.new.files) (g.F.Reads.held c.build_text.new.files)
-    c.in_ok-built.ensures.held built given) (c.in_err-settings.ensures.held ∙ c.in_ok-built.ensures.held))
+    c.in_ok-built.ensures.held built given)
+    (unset_reached c.args.project.now c.in_ok-text.text.items c.args.map.now (run_words_from c.args.words.now) c.in_err-settings.field-0.0 (g.F.Reads.held c.read_file.new.files) c.in_err-settings.ensures.fails) (c.in_err-settings.ensures.held ∙ c.in_ok-built.ensures.held))
 
 pub returns-in_err-game-clause-told : goal.returns-in_err-game-clause-told
 returns-in_err-game-clause-told g c =
     let is : c.from_residual-in_err-game.result ≡ Err refusals.Memory = search rules in
-    subst (Left c.args.project.now (read_play_due c.args.project.now c.args.map.now (run_words_from c.args.words.now)) (g.F.Reads.held c.args.files.now) (g.F.Reads.held c.read_settings.new.files)) (sym is)
-    (left_refused c.args.project.now (read_play_due c.args.project.now c.args.map.now (run_words_from c.args.words.now)) c.in_ok-text.text.items refusals.Memory (g.F.Reads.held c.args.files.now) (g.F.Reads.held c.read_file.new.files) (g.F.Reads.held c.read_settings.new.files)
+    subst (Left c.args.project.now (read_play_due c.args.project.now c.args.map.now (run_words_from c.args.words.now)) (IsReadToPlay (run_words_from c.args.words.now)) (g.F.Reads.held c.args.files.now) (g.F.Reads.held c.read_settings.new.files)) (sym is)
+    (left_refused c.args.project.now (read_play_due c.args.project.now c.args.map.now (run_words_from c.args.words.now)) (IsReadToPlay (run_words_from c.args.words.now)) c.in_ok-text.text.items refusals.Memory (g.F.Reads.held c.args.files.now) (g.F.Reads.held c.read_file.new.files) (g.F.Reads.held c.read_settings.new.files)
     c.in_ok-text.ensures.told c.in_ok-text.ensures.held
-    (memory_told c.args.project.now c.in_ok-text.text.items c.args.map.now (run_words_from c.args.words.now) (g.F.Reads.held c.read_file.new.files)) (c.in_ok-settings.ensures.held ∙ c.in_ok-built.ensures.held))
+    ((memory_told c.args.project.now c.in_ok-text.text.items c.args.map.now (run_words_from c.args.words.now) (g.F.Reads.held c.read_file.new.files)).0) (memory_told c.args.project.now c.in_ok-text.text.items c.args.map.now (run_words_from c.args.words.now) (g.F.Reads.held c.read_file.new.files)).1 (c.in_ok-settings.ensures.held ∙ c.in_ok-built.ensures.held))
 
 pub returns-clause-told : goal.returns-clause-told
 returns-clause-told g c =
@@ -52,6 +63,6 @@ returns-clause-told g c =
 
 pub returns-clause-causes : goal.returns-clause-causes
 returns-clause-causes g c =
-    later_causes _ _ _ _ c.write_play.result _ _ _ _ _ _ _ _ _ (λ none. none) c.in_ok-text.ensures.causes
-    (later_causes _ _ _ _ c.write_play.result _ _ _ _ _ _ _ _ _ (λ none. none) c.in_ok-built.ensures.causes
-    (later_causes _ _ _ _ c.write_play.result _ _ _ _ _ _ _ _ _ (λ none. absurd none) c.in_ok-settings.ensures.causes c.write_play.ensures.causes))
+    later_causes _ _ _ _ c.write_play.result _ _ _ (λ none. none) c.in_ok-text.ensures.causes
+    (later_causes _ _ _ _ c.write_play.result _ _ _ (λ none. none) c.in_ok-built.ensures.causes
+    (later_causes _ _ _ _ c.write_play.result _ _ _ (λ none. absurd none) c.in_ok-settings.ensures.causes c.write_play.ensures.causes))

@@ -1,8 +1,8 @@
 use Rattle.std.proofs.Common.{rules, ◌≡◌}
 use Rattle.std.specs.Prelude.{Err}
-use Rattle.kit_core.specs.declared.refusal.Refusal.TheVariants as refusals
+use Rattle.kit_tools.specs.declared.refusal.Refusal.TheVariants as refusals
 use Rattle.kit_words.specs.Parsed.{run_words_from}
-use Rattle.kit_core.specs.Gaming.{game_of}
+use Rattle.kit_tools.specs.Gaming.{game_of}
 use Rattle.kit_core.proofs.Plays.{play_not_begun}
 use Rattle.kit_core.proofs.playing.write_play.Goals as goal
 

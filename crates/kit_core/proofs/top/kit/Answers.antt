@@ -1,7 +1,7 @@
 use Rattle.kit_words.specs.Command.{texts}
 use Rattle.kit_core.proofs.Headlines.{headline_told}
 use Rattle.kit_core.proofs.Traces.{trace_told}
-use Rattle.kit_core.proofs.Games.{run_told}
+use Rattle.kit_core.proofs.Runs.{run_told}
 use Rattle.kit_core.proofs.Plays.{play_told}
 use Rattle.kit_core.proofs.Ends.{complete_told, untouched_told}
 use Rattle.kit_core.proofs.top.kit.Goals as goal

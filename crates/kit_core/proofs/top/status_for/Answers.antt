@@ -1,6 +1,6 @@
 use Rattle.std.proofs.lemmas.Option.{IfSome_then}
 use Rattle.kit_core.proofs.Outcomes.{outcome_done, outcome_refused}
-use Rattle.kit_core.proofs.Own.{limit_reason}
+use Rattle.kit_core.proofs.Reasons.{limit_reason}
 use Rattle.kit_core.proofs.top.status_for.Goals as goal
 
 pub returns-in-Ok-clause-told : goal.returns-in-Ok-clause-told
@@ -13,4 +13,4 @@ returns-in-Err-clause-told g c =
 
 pub returns-in-Err-clause-limit : goal.returns-in-Err-clause-limit
 returns-in-Err-clause-limit g c = λ seven.
-    limit_reason _ c.in-Err.refusal _ _ _ _ _ _ _ _ _ _ c.in-Err.ensures.causes c.report.ensures.shows seven
+    limit_reason _ c.in-Err.refusal _ _ _ _ _ _ c.in-Err.ensures.causes c.report.ensures.shows seven

@@ -1,0 +1,6 @@
+pub mod Stages
+pub mod Cutting
+pub mod Seconds
+pub mod Own
+pub mod Conversions
+pub mod Games

@@ -1,0 +1,10 @@
+pub mod Refusal
+pub mod Causes
+pub mod Inputs
+pub mod Work
+pub mod Migration
+pub mod Converting
+pub mod Tracing
+pub mod Running
+pub mod Carrying
+pub mod Gaming

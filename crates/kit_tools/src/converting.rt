@@ -1,0 +1,186 @@
+// The commands that make one file of another: `migrate`, `asm` and `dis`.
+ghost use Rattle.std.specs.Prelude.{◌≡◌, ◌<◌, ◌≤◌, true, IfSome, IfErr, IfOk, [], ◌∷◌, length};
+ghost use Rattle.asset_pack.specs.declared.kind.Kind.TheVariants as kinds;
+ghost use Rattle.asset_pack.specs.Reading.{words_in};
+ghost use Rattle.asm_reader.specs.Reading.{read};
+ghost use Rattle.assembler.specs.Faults.{fault_of};
+ghost use Rattle.cart_format.specs.Cartridge.{is_cart, total};
+ghost use Rattle.kit_tools.specs.Carrying.{FailsAt, GivesBy, Leaves};
+ghost use Rattle.kit_tools.specs.Causes.{HasCauses, HasCausesOr, IsOwn, counts};
+ghost use Rattle.kit_tools.specs.Converting.{assembled_due, disassembled_due, made_due, migrated_due, no_items, no_words, placed_unless, convert_due, ConvertsLong};
+ghost use Rattle.kit_tools.specs.Inputs.{or_refused};
+ghost use Rattle.kit_tools.specs.Migration.{IsLong, in_second, second_due};
+
+use crate::reading::{read_cart_file, read_file};
+use crate::refusal::{DueRefusal, Refusal};
+use crate::shown::Shown;
+use crate::writing::write_output;
+use asm_items::{AsmItem, disassemble, write_asm};
+use asm_reader::{AsmErr, read_asm};
+use assembler::{Placement, assemble};
+use asset_pack::{AssetErr, read_words, write_words};
+use cart_format::{Cart, CartParts, write_cart};
+use kit_base::{Files, Name};
+use kit_words::Conversion;
+use std::alloc::Global;
+
+/// The cartridge in its second revision: as it is, or with an empty line table.
+fn in_second(alloc: Global, cart: Cart) -> Result<Cart, Refusal>
+    requires { is_cart cart ≡ true }
+    ensures given { GivesBy (λ c. c) result (second_due cart) }
+    ensures own { IfErr result (IsOwn (268435456 < total (in_second cart))) }
+{
+    if cart.revision() == 2 {
+        return Ok(cart);
+    }
+    let CartParts {
+        title,
+        program,
+        textures,
+        sounds,
+    } = cart.into_parts();
+    let (files, rows) = (Vec::new(alloc), Vec::new(alloc));
+    match Cart::with_lines(title, program, textures, sounds, files, rows) {
+        Some(second) => Ok(second),
+        None => Err(Refusal::Due(DueRefusal::LongCartridge)),
+    }
+}
+
+/// The bytes of the cartridge of that file, in its second revision.
+#[tactic(auto, using(crate::proofs::Own::own_fails, crate::proofs::Own::own_cause, crate::proofs::Own::wider_causes))]
+fn migrated<F: Files>(alloc: Global, files: &mut F, cart: &str) -> Result<Vec<u8>, Refusal>
+    ensures held { F.held files.new ≡ F.held files.old }
+    ensures told { IfSome (F.held files.old) (λ m. GivesBy (λ v. v.items) result (migrated_due cart.now m)) }
+    ensures fails { IfErr result (FailsAt (cart.now ∷ [])) }
+    ensures causes { HasCausesOr (IsLong cart.now (F.held files.old)) result (counts F.faults F.misses F.overs files.old) (counts F.faults F.misses F.overs files.new) }
+{
+    let read = read_cart_file(alloc, files, cart)?;
+    let second = in_second(alloc, read)?;
+    let bytes = write_cart(alloc, &second)?;
+    Ok(bytes)
+}
+
+/// The items of that text.
+fn items_of_text(alloc: Global, name: &str, text: &[u8]) -> Result<Vec<AsmItem>, Refusal>
+    ensures given { GivesBy (λ v. v.items) result (or_refused (no_items name.now) (read text.now)) }
+    ensures own { IfErr result (IsOwn ⊥) }
+{
+    match read_asm(alloc, text) {
+        Ok(items) => Ok(items),
+        Err(AsmErr::At { code, at }) => {
+            let name = Name::new(alloc, name)?;
+            Err(Refusal::Due(DueRefusal::Bad {
+                code,
+                name,
+                line: Some(at),
+            }))
+        }
+        Err(AsmErr::Memory) => Err(Refusal::Memory),
+    }
+}
+
+/// The words of the items, of a text of that name.
+fn placed(alloc: Global, name: &str, items: &[AsmItem]) -> Result<Placement, Refusal>
+    ensures given { GivesBy (λ p. p.words) result (placed_unless name.now items.now (fault_of items.now)) }
+    ensures own { IfErr result (IsOwn ⊥) }
+    ensures few { IfOk result (λ p. length p.words ≤ 33554432) }
+{
+    match assemble(alloc, items) {
+        Ok(placement) => Ok(placement),
+        Err(AsmErr::At { code, at }) => {
+            let name = Name::new(alloc, name)?;
+            Err(Refusal::Due(DueRefusal::Bad {
+                code,
+                name,
+                line: Some(at),
+            }))
+        }
+        Err(AsmErr::Memory) => Err(Refusal::Memory),
+    }
+}
+
+/// The words file of the assembly text of that file.
+#[tactic(auto, using(crate::proofs::Own::own_fails, crate::proofs::Own::own_cause))]
+fn assembled<F: Files>(alloc: Global, files: &mut F, text: &str) -> Result<Vec<u8>, Refusal>
+    ensures held { F.held files.new ≡ F.held files.old }
+    ensures told { IfSome (F.held files.old) (λ m. GivesBy (λ v. v.items) result (assembled_due text.now m)) }
+    ensures fails { IfErr result (FailsAt (text.now ∷ [])) }
+    ensures causes { HasCauses result (counts F.faults F.misses F.overs files.old) (counts F.faults F.misses F.overs files.new) }
+{
+    let bytes = read_file(alloc, files, text)?;
+    let items = items_of_text(alloc, text, &bytes)?;
+    let placement = placed(alloc, text, &items)?;
+    let words = write_words(alloc, placement.words.as_slice())?;
+    Ok(words)
+}
+
+/// The words of that words file.
+fn words_of_file(alloc: Global, name: &str, bytes: &[u8]) -> Result<Vec<u32>, Refusal>
+    ensures given { GivesBy (λ v. v.items) result (or_refused (no_words name.now) (words_in kinds.Words bytes.now)) }
+    ensures own { IfErr result (IsOwn ⊥) }
+{
+    match read_words(alloc, bytes) {
+        Ok(words) => Ok(words),
+        Err(AssetErr::At { code }) => {
+            let name = Name::new(alloc, name)?;
+            Err(Refusal::Due(DueRefusal::Bad {
+                code,
+                name,
+                line: None,
+            }))
+        }
+        Err(AssetErr::Memory) => Err(Refusal::Memory),
+    }
+}
+
+/// The assembly text of the words file of that name.
+#[tactic(auto, using(crate::proofs::Own::own_fails, crate::proofs::Own::own_cause))]
+fn disassembled<F: Files>(alloc: Global, files: &mut F, words: &str) -> Result<Vec<u8>, Refusal>
+    ensures held { F.held files.new ≡ F.held files.old }
+    ensures told { IfSome (F.held files.old) (λ m. GivesBy (λ v. v.items) result (disassembled_due words.now m)) }
+    ensures fails { IfErr result (FailsAt (words.now ∷ [])) }
+    ensures causes { HasCauses result (counts F.faults F.misses F.overs files.old) (counts F.faults F.misses F.overs files.new) }
+{
+    let bytes = read_file(alloc, files, words)?;
+    let list = words_of_file(alloc, words, &bytes)?;
+    let items = disassemble(alloc, &list)?;
+    let text = write_asm(alloc, &items)?;
+    Ok(text)
+}
+
+/// What is made of that file.
+#[tactic(auto, using(crate::proofs::Conversions::migrated_causes, crate::proofs::Conversions::other_causes))]
+fn made<F: Files>(
+    alloc: Global,
+    files: &mut F,
+    conversion: Conversion,
+    source: &str,
+) -> Result<Vec<u8>, Refusal>
+    ensures held { F.held files.new ≡ F.held files.old }
+    ensures told { IfSome (F.held files.old) (λ m. GivesBy (λ v. v.items) result (made_due conversion source.now m)) }
+    ensures fails { IfErr result (FailsAt (source.now ∷ [])) }
+    ensures causes { HasCausesOr (ConvertsLong conversion source.now (F.held files.old)) result (counts F.faults F.misses F.overs files.old) (counts F.faults F.misses F.overs files.new) }
+{
+    match conversion {
+        Conversion::Migrate => migrated(alloc, files, source),
+        Conversion::Assemble => assembled(alloc, files, source),
+        Conversion::Disassemble => disassembled(alloc, files, source),
+    }
+}
+
+/// `migrate cart migrated`, `asm text words`, `dis words text`. There is no text to put after it.
+#[tactic(auto, using(crate::proofs::Own::wider_causes))]
+pub fn convert_command<F: Files>(
+    alloc: Global,
+    files: &mut F,
+    conversion: Conversion,
+    source: &str,
+    target: &str,
+) -> Result<Shown, Refusal>
+    ensures told { IfSome (F.held files.old) (λ m. Leaves result (convert_due conversion source.now target.now m) (source.now ∷ []) m (F.held files.new)) }
+    ensures causes { HasCausesOr (ConvertsLong conversion source.now (F.held files.old)) result (counts F.faults F.misses F.overs files.old) (counts F.faults F.misses F.overs files.new) }
+{
+    let bytes = made(alloc, files, conversion, source)?;
+    write_output(alloc, files, target, &bytes)?;
+    Ok(Shown::Nothing)
+}

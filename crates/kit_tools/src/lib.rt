@@ -1,0 +1,24 @@
+//! The commands that need no compiler: `migrate`, `asm`, `dis`, `trace` and `run`; the refusals of all commands with their statuses and
+//! lines; and reading and writing the files that the words name.
+//!
+//! It promises that each command leaves what is due, and that each refusal by the files has its cause. It stands on the formats
+//! of the files, on assembly text and on the console's run, and on `kit_base` for the files.
+#![tactic(auto)]
+
+mod converting;
+mod reading;
+mod refusal;
+mod running;
+mod shown;
+mod tracing;
+mod writing;
+
+pub use converting::convert_command;
+pub use reading::read_file;
+pub use refusal::{DueRefusal, Refusal, line_of, status_of};
+pub use running::{
+    Loaded, LoadedSettings, Opened, OwnNames, open_game, read_settings, run_command, write_outputs,
+};
+pub use shown::Shown;
+pub use tracing::trace_command;
+pub use writing::write_named;

@@ -1,0 +1,159 @@
+// Why a command is refused, with the status and the line of each refusal.
+ghost use Rattle.std.specs.Prelude.{◌≡◌, IfOk};
+ghost use Rattle.kit_tools.specs.Refusal.{due_line, due_status, line_of, status_of};
+ghost use Rattle.kit_tools.specs.Inputs.{no_cart, unread};
+ghost use Rattle.kit_tools.specs.declared.refusal.DueRefusal.TheVariants.{Source, Bad};
+ghost use Rattle.kit_tools.specs.declared.refusal.Refusal.TheVariants.{Memory};
+
+use cart_format::CartErr;
+use kit_base::{FileErr, Name, join_pieces};
+use std::alloc::{AllocError, Global};
+
+/// A refusal that the words or the files are due: the words are no form (1), the sources give no program (2), a file is missing (4), a file is
+/// not of its grammar (6), a file that is read is too long, a number word is out of its range, or a cartridge would be too long (7). Lines count
+/// from 1.
+#[derive(Drop)]
+pub enum DueRefusal {
+    Usage,
+    Source {
+        code: u32,
+        file: Name,
+        line: u32,
+    },
+    Missing(Name),
+    Bad {
+        code: u32,
+        name: Name,
+        line: Option<u64>,
+    },
+    Limit(Name),
+    OutOfRange(Name),
+    LongCartridge,
+}
+
+/// Why a command is refused: one that is due, a call of the files that failed, at the file of that name (5), or want of memory (8).
+#[derive(Drop)]
+pub enum Refusal {
+    Due(DueRefusal),
+    Failed(Name),
+    Memory,
+}
+
+impl From<kit_base::Memory> for Refusal {
+    ghost from_gives = { λ _ e. e ≡ Memory };
+
+    fn from(_: kit_base::Memory) -> Self {
+        Refusal::Memory
+    }
+}
+
+/// The refusal of a read of that file.
+pub fn unread(name: Name, error: FileErr) -> Refusal
+    ensures { result ≡ unread name error }
+{
+    match error {
+        FileErr::Missing => Refusal::Due(DueRefusal::Missing(name)),
+        FileErr::Failed => Refusal::Failed(name),
+        FileErr::TooLong => Refusal::Due(DueRefusal::Limit(name)),
+        FileErr::Memory => Refusal::Memory,
+    }
+}
+
+/// The refusal of a file that is no cartridge.
+pub fn no_cart(name: Name, error: CartErr) -> Refusal
+    ensures { result ≡ no_cart name error }
+{
+    let (code, line) = match error {
+        CartErr::At { code } => (code, None),
+        CartErr::BadSection(_) => (83, None),
+        CartErr::Memory => return Refusal::Memory,
+    };
+    Refusal::Due(DueRefusal::Bad { code, name, line })
+}
+
+/// The exit status of a refusal that is due.
+fn due_status(refusal: &DueRefusal) -> u8
+    ensures { result ≡ due_status refusal.now }
+{
+    match refusal {
+        DueRefusal::Usage => 1,
+        DueRefusal::Source { .. } => 2,
+        DueRefusal::Missing(_) => 4,
+        DueRefusal::Bad { .. } => 6,
+        DueRefusal::Limit(_) | DueRefusal::OutOfRange(_) | DueRefusal::LongCartridge => 7,
+    }
+}
+
+/// The exit status.
+pub fn status_of(refusal: &Refusal) -> u8
+    ensures { result ≡ status_of refusal.now }
+{
+    match refusal {
+        Refusal::Due(refusal) => due_status(refusal),
+        Refusal::Failed(_) => 5,
+        Refusal::Memory => 8,
+    }
+}
+
+fn source_line(alloc: Global, code: u32, file: &Name, line: u32) -> Result<Vec<u8>, AllocError>
+    ensures { IfOk result (λ v. v.items ≡ due_line (Source code file.now line)) }
+{
+    let code = code.to_string(alloc)?;
+    let line = line.to_string(alloc)?;
+    join_pieces(
+        alloc,
+        &[
+            b"error ",
+            code.as_bytes(),
+            b" at ",
+            file.bytes(),
+            b":",
+            line.as_bytes(),
+            b"\n",
+        ],
+    )
+}
+
+fn bad_line(alloc: Global, code: u32, name: &Name, line: Option<u64>) -> Result<Vec<u8>, AllocError>
+    ensures { IfOk result (λ v. v.items ≡ due_line (Bad code name.now line)) }
+{
+    let code = code.to_string(alloc)?;
+    let (code, name) = (code.as_bytes(), name.bytes());
+    match line {
+        None => join_pieces(alloc, &[b"bad data ", code, b" in ", name, b"\n"]),
+        Some(line) => {
+            let line = line.to_string(alloc)?;
+            let line = line.as_bytes();
+            join_pieces(
+                alloc,
+                &[b"bad data ", code, b" in ", name, b" at ", line, b"\n"],
+            )
+        }
+    }
+}
+
+/// The line of a refusal that is due.
+fn due_line(alloc: Global, refusal: &DueRefusal) -> Result<Vec<u8>, AllocError>
+    ensures { IfOk result (λ v. v.items ≡ due_line refusal.now) }
+{
+    match refusal {
+        DueRefusal::Usage => join_pieces(alloc, &[b"usage error", b"\n"]),
+        DueRefusal::Source { code, file, line } => source_line(alloc, *code, file, *line),
+        DueRefusal::Missing(name) => join_pieces(alloc, &[b"missing ", name.bytes(), b"\n"]),
+        DueRefusal::Bad { code, name, line } => bad_line(alloc, *code, name, *line),
+        DueRefusal::Limit(name) => join_pieces(alloc, &[b"limit ", name.bytes(), b"\n"]),
+        DueRefusal::OutOfRange(word) => join_pieces(alloc, &[b"limit ", word.bytes(), b"\n"]),
+        DueRefusal::LongCartridge => join_pieces(alloc, &[b"limit cartridge", b"\n"]),
+    }
+}
+
+/// The line that is put, with its LF.
+pub fn line_of(alloc: Global, refusal: &Refusal) -> Result<Vec<u8>, AllocError>
+    ensures { IfOk result (λ v. v.items ≡ line_of refusal.now) }
+{
+    match refusal {
+        Refusal::Due(refusal) => due_line(alloc, refusal),
+        Refusal::Failed(name) => join_pieces(alloc, &[b"file fault ", name.bytes(), b"\n"]),
+        Refusal::Memory => join_pieces(alloc, &[b"out of memory", b"\n"]),
+    }
+}

@@ -1,5 +1,5 @@
 -- From the parts of a build to the whole.
-use Rattle.std.proofs.Common.{ℕ, ◌≡◌, List, refl, subst}
+use Rattle.std.proofs.Common.{ℕ, ◌≡◌, List, length, refl, subst, ap, ◌∙◌}
 use Rattle.std.specs.Prelude.{Option, Some, None, Result, Ok, Err, IfOk, IfErr, IfSome, Vec}
 use Rattle.std.specs.declared.alloc.Global.{Global}
 use Rattle.kit_base.specs.Held.{Held}
@@ -8,6 +8,7 @@ use Rattle.project_text.specs.declared.project.Project.{Project}
 use Rattle.project_text.specs.ProjectText.{IsProject}
 use Rattle.project_text.specs.Reading.{project_of}
 use Rattle.c_check.specs.View.{program}
+use Rattle.c_front.specs.declared.places.Places.{Places}
 use Rattle.c_image.specs.Imaging.{ImageT, IsImageOf}
 use Rattle.build_core.specs.declared.building.Built.{Built}
 use Rattle.build_core.specs.declared.error.BuildErr.{BuildErr}
@@ -103,7 +104,7 @@ module _ (text : List ℕ) (p : Project) (is : IsProject text p) where
           }
 
           module _ (m : Held) (source : IsSourceOf m p.source s) (textures : all_of (texture_of m) p.textures ≡ Ok ts) (sounds : all_of (sound_of m) p.sounds ≡ Ok ss) where
-            is_built : (b : Built) → IsPackedFrom p.title i (assets ts ss) b → IsBuilt m text b
+            is_built : (b : Built) → IsPackedFrom p.title i (assets ts ss) (length s.places.tokens) b → IsBuilt m text b
             unfolding has_image
             is_built b h = record {
               of = has_image m source;
@@ -111,15 +112,16 @@ module _ (text : List ℕ) (p : Project) (is : IsProject text p) where
               textures_are = textures_are_files m p.textures ts textures;
               sounds = ss;
               sounds_are = sounds_are_files m p.sounds ss sounds;
-              limits = h.limits;
+              cartridge = h.cartridge;
               cart_is = h.cart_is;
               map_is = h.map_is;
               asm_is = h.asm_is;
               mid_is = h.mid_is;
               choices_is = h.choices_is;
+              tokens_are = h.tokens_are ∙ ap (λ (places : Places). length places.tokens) source.of_unit.places;
             }
 
-            builds : (r : Result Built BuildErr) → IfOk r (IsPackedFrom p.title i (assets ts ss)) → IfErr r (IsOfPacking (cartridge_of p.title i (assets ts ss))) → Builds m text r
+            builds : (r : Result Built BuildErr) → IfOk r (IsPackedFrom p.title i (assets ts ss) (length s.places.tokens)) → IfErr r (IsOfPacking (cartridge_of p.title i (assets ts ss))) → Builds m text r
             unfolding has_image
             builds (Ok b) h k = is_built b h
             builds (Err (errors.Source c f l)) h k = absurd k
@@ -130,7 +132,7 @@ module _ (text : List ℕ) (p : Project) (is : IsProject text p) where
             builds (Err errors.Memory) h k = tt
 
           pub packed_told : (r : Result Built BuildErr) (names heard : List (List ℕ)) (h0 h1 h2 : Option Held) → names ≡ p.textures → heard ≡ p.sounds → SourceIs h0 → h1 ≡ h0 → TexturesAre names h1 → h2 ≡ h0 → SoundsAre heard h2
-              → IfOk r (IsPackedFrom p.title i (assets ts ss)) → IfErr r (IsOfPacking (cartridge_of p.title i (assets ts ss))) → IfSome h0 (λ m. Builds m text r)
+              → IfOk r (IsPackedFrom p.title i (assets ts ss) (length s.places.tokens)) → IfErr r (IsOfPacking (cartridge_of p.title i (assets ts ss))) → IfSome h0 (λ m. Builds m text r)
           packed_told r names heard None h1 h2 named named' source same textures same' sounds h k = tt
           packed_told r names heard (Some m) h1 h2 named named' source same textures same' sounds h k =
               builds m source (textures_of m names h1 named same textures) (sounds_of m heard h2 named' same' sounds) r h k

@@ -12,3 +12,4 @@ pub mod Checks
 pub mod Either
 pub mod Refused
 pub mod Failing
+pub mod ReadBack

@@ -1,5 +1,5 @@
 -- What was built, and why a build is refused.
-use Rattle.std.specs.Prelude.{ℕ, ◌≡◌, ◌<◌, true, List, Some, Result, Ok, Err, codes}
+use Rattle.std.specs.Prelude.{ℕ, ◌≡◌, ◌<◌, List, length, Some, Result, Ok, Err, codes}
 use Rattle.std.specs.List.{AllZip}
 use Rattle.kit_base.specs.Held.{Held}
 use Rattle.kit_base.specs.Outside.{due}
@@ -7,7 +7,7 @@ use Rattle.asset_pack.specs.declared.kind.Kind.TheVariants as kinds
 use Rattle.asset_pack.specs.Words.{IsBytes}
 use Rattle.asset_pack.specs.Texts.{Image, IsTexture, IsSound, texture_text, sound_text}
 use Rattle.asset_pack.specs.Reading.{texture_in, words_in}
-use Rattle.cart_format.specs.Cartridge.{Cartridge, IsCartridge, cart_text, is_cart, total}
+use Rattle.cart_format.specs.Cartridge.{Cartridge, IsCartridge, cart_text, total}
 use Rattle.c_tree.specs.View.{unit}
 use Rattle.c_types.specs.Programs.{ProgramT}
 use Rattle.c_check.specs.Whole.{WellTyped}
@@ -58,19 +58,21 @@ abbrev pub cartridge_of : (title : List ℕ) → ImageT → Assets → Cartridge
 cartridge_of title i a = record { title = title; program = i.words; textures = a.0; sounds = a.1; table = Some i.table }
 
 -- What was built of a project's text, from the files that are held: a cartridge with the project's title, an image of its program, and the textures
--- and sounds in the project's order; and the map, the assembly text, the mid code and the choices of this image.
+-- and sounds in the project's order; the map, the assembly text, the mid code and the choices of this image; and how many tokens its source stands
+-- for, with all that it includes.
 pub record IsBuilt (m : Held) (project : List ℕ) (b : Built) : Type 0 where
   pub of : HasImage m project
   pub textures : List Image
   pub textures_are : AllZip (IsTextureFile m) of.parts.textures textures
   pub sounds : List (List ℕ)
   pub sounds_are : AllZip (IsSoundFile m) of.parts.sounds sounds
-  pub limits : is_cart (cartridge_of of.parts.title of.image (assets textures sounds)) ≡ true
+  pub cartridge : IsCartridge (cartridge_of of.parts.title of.image (assets textures sounds))
   pub cart_is : b.cart ≡ cart_text (cartridge_of of.parts.title of.image (assets textures sounds))
   pub map_is : b.map ≡ of.image.map
   pub asm_is : b.asm ≡ of.image.text
   pub mid_is : mid b.mid ≡ of.image.mid
   pub choices_is : places_of b.choices ≡ of.image.choices
+  pub tokens_are : b.tokens ≡ length of.parsed.places.tokens
 
 -- The input of a build is refused: the project's text or its source, as by a check; or, where they are accepted, a texture or a sound.
 pub data HasNoParts (m : Held) (project : List ℕ) (e : BuildErr) : Type 0 where

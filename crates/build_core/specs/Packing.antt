@@ -1,6 +1,6 @@
 -- What is packed of an image. Only private clauses cite this.
-use Rattle.std.specs.Prelude.{ℕ, ◌≡◌, true, List}
-use Rattle.cart_format.specs.Cartridge.{cart_text, is_cart}
+use Rattle.std.specs.Prelude.{ℕ, ◌≡◌, List}
+use Rattle.cart_format.specs.Cartridge.{IsCartridge, cart_text}
 use Rattle.mid_code.specs.Whole.{mid}
 use Rattle.reg_frames.specs.Placeable.{places_of}
 use Rattle.c_image.specs.Imaging.{ImageT}
@@ -8,10 +8,11 @@ use Rattle.build_core.specs.declared.building.Built.{Built}
 use Rattle.build_core.specs.Due.{Assets}
 use Rattle.build_core.specs.Build.{cartridge_of}
 
-pub record IsPackedFrom (title : List ℕ) (i : ImageT) (a : Assets) (b : Built) : Type 0 where
-  pub limits : is_cart (cartridge_of title i a) ≡ true
+pub record IsPackedFrom (title : List ℕ) (i : ImageT) (a : Assets) (tokens : ℕ) (b : Built) : Type 0 where
+  pub cartridge : IsCartridge (cartridge_of title i a)
   pub cart_is : b.cart ≡ cart_text (cartridge_of title i a)
   pub map_is : b.map ≡ i.map
   pub asm_is : b.asm ≡ i.text
   pub mid_is : mid b.mid ≡ i.mid
   pub choices_is : places_of b.choices ≡ i.choices
+  pub tokens_are : b.tokens ≡ tokens

@@ -8,15 +8,15 @@ use crate::assets::read_assets;
 use crate::error::BuildErr;
 use crate::packing::packed;
 use crate::reading::project_in;
-use crate::sources::read_source;
+use crate::sources::{read_source, token_count};
 use c_image::image_of;
 use kit_base::{Files, Seq};
 use mid_code::{Choice, Mid};
 use project_text::Map;
 use std::alloc::Global;
 
-/// The bytes of a cartridge, the map of its program, the program's assembly text, the mid code for which places were chosen, and its choices, that
-/// of the start first.
+/// The bytes of a cartridge, the map of its program, the program's assembly text, the mid code for which places were chosen, its choices, that of
+/// the start first, and the number of tokens that its source stands for, with all that it includes, at most 200,000.
 #[derive(Drop)]
 pub struct Built {
     pub cart: Seq<u8>,
@@ -24,6 +24,7 @@ pub struct Built {
     pub asm: Seq<u8>,
     pub mid: Mid,
     pub choices: Seq<Choice>,
+    pub tokens: u32,
 }
 
 /// Builds the project of that text, which has at most 268,435,456 bytes: its source is read from the files, with those that it includes, and the
@@ -64,5 +65,6 @@ pub fn build<F: Files>(alloc: Global, files: &mut F, project: &[u8]) -> Result<B
         Ok(made) => made,
         Err(_) => return Err(BuildErr::Memory),
     };
-    packed(alloc, parts.title, made, textures, sounds)
+    let tokens = token_count(&source.places);
+    packed(alloc, parts.title, made, textures, sounds, tokens)
 }

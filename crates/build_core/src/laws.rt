@@ -1,10 +1,12 @@
 // Laws over the definitions alone, each the contract of a function that does nothing.
-ghost use Rattle.std.specs.Prelude.{ℕ, ◌≡◌, List};
+ghost use Rattle.std.specs.Prelude.{ℕ, ◌≡◌, List, Ok};
 ghost use Rattle.kit_base.specs.Held.{Held};
 ghost use Rattle.c_types.specs.Programs.{ProgramT};
 ghost use Rattle.build_core.specs.declared.building.Built.{Built};
 ghost use Rattle.build_core.specs.declared.error.BuildErr.{BuildErr};
-ghost use Rattle.build_core.specs.Build.{HasNoParts, IsBuilt};
+ghost use Rattle.cart_format.specs.Reading.{cart_of};
+ghost use Rattle.build_core.specs.Due.{assets};
+ghost use Rattle.build_core.specs.Build.{HasNoParts, IsBuilt, cartridge_of};
 ghost use Rattle.build_core.specs.Checked.{IsAccepted, IsRejected};
 
 /// A project whose files are these is accepted or rejected by a check, never both, and accepted with one program at most.
@@ -19,4 +21,11 @@ pub fn projects_are_accepted_or_rejected()
 pub fn builds_are_due_or_refused()
     ensures either { (m : Held) (project : List ℕ) (b : Built) (e : BuildErr)
         → IsBuilt m project b → HasNoParts m project e → ⊥ }
+{}
+
+/// From the bytes of a built cartridge the very cartridge is read again that the project's parts make: its title, the image's words and line table,
+/// and its textures and sounds.
+pub fn built_cartridges_are_read_back()
+    ensures read { (m : Held) (project : List ℕ) (b : Built) (built : IsBuilt m project b)
+        → cart_of b.cart ≡ Ok (cartridge_of built.of.parts.title built.of.image (assets built.textures built.sounds)) }
 {}

@@ -19,4 +19,6 @@ mod sources;
 pub use building::{Built, build};
 pub use checking::check_sources;
 pub use error::BuildErr;
-pub use laws::{builds_are_due_or_refused, projects_are_accepted_or_rejected};
+pub use laws::{
+    builds_are_due_or_refused, built_cartridges_are_read_back, projects_are_accepted_or_rejected,
+};

@@ -48,13 +48,14 @@ fn have_samples(sounds: &[Sound])
     }
 }
 
-/// The cartridge of an image, and what else was built.
+/// The cartridge of an image, and what else was built, with that number of tokens.
 pub fn packed(
     alloc: Global,
     title: Name,
     made: Image,
     textures: Vec<Texture>,
     sounds: Vec<Sound>,
+    tokens: u32,
 ) -> Result<Built, BuildErr>
     requires title { IsText 63 title }
     requires some { 1 ≤ length made.words.items }
@@ -62,7 +63,7 @@ pub fn packed(
     requires table { is_table (length made.words.items) (image made).table ≡ true }
     requires textures { length textures.items ≤ 256 }
     requires sounds { length sounds.items ≤ 1024 }
-    ensures packed { IfOk result (IsPackedFrom title (image made) (assets textures.items sounds.items)) }
+    ensures packed { IfOk result (IsPackedFrom title (image made) (assets textures.items sounds.items) tokens) }
     ensures cartridge { IfOk result (λ b. IsCartText b.cart) }
     ensures kinds { IfErr result (IsOfPacking (cartridge_of title (image made) (assets textures.items sounds.items))) }
 {
@@ -79,5 +80,6 @@ pub fn packed(
         asm: Seq::from_vec(made.text),
         mid: made.mid,
         choices: Seq::from_vec(made.choices),
+        tokens,
     })
 }

@@ -1,5 +1,5 @@
 // A project's source, read and typed.
-ghost use Rattle.std.specs.Prelude.{◌≡◌, IfOk, IfErr, IfSome, IsUtf8};
+ghost use Rattle.std.specs.Prelude.{◌≡◌, ◌≤◌, IfOk, IfErr, IfSome, IsUtf8, length};
 ghost use Rattle.c_tree.specs.View.{unit};
 ghost use Rattle.c_check.specs.View.{program};
 ghost use Rattle.c_image.specs.Imaging.{AreStarts};
@@ -29,6 +29,14 @@ pub struct Source {
     pub starts: Vec<u32>,
 }
 
+/// How many tokens there are.
+pub fn token_count(places: &Places) -> u32
+    requires few { length places.now.tokens ≤ 200000 }
+    ensures { result ≡ length places.now.tokens }
+{
+    places.tokens.as_slice().len() as u32
+}
+
 /// The number of the first token of each function's definition.
 fn starts_of(alloc: Global, parsed: &Unit) -> Result<Vec<u32>, Memory>
     ensures { IfOk result (λ v. v.items ≡ starts_of (unit parsed.now)) }
@@ -56,6 +64,7 @@ fn source_of(alloc: Global, parsed: Parsed) -> Result<Source, BuildErr>
     requires within { IsWithin parsed }
     requires read { IsRead parsed }
     ensures typed { TypesSource parsed result }
+    ensures few { IfOk result (λ s. length s.places.tokens ≤ 200000) }
     ensures starts { IfOk result (λ s. AreStarts (program s.program) s.places s.starts.items) }
     ensures content { IfErr result IsOfRules }
 {
@@ -82,6 +91,7 @@ pub fn read_source<F: Reads>(alloc: Global, files: &mut F, name: &Name) -> Resul
     ensures held { F.held files.new ≡ F.held files.old }
     ensures told { IfSome (F.held files.old) (λ m. ReadsSource m name.now result) }
     ensures reached { IfSome (F.held files.old) (λ m. FailsAt (IsReadFor (over m) name.now) result) }
+    ensures few { IfOk result (λ s. length s.places.tokens ≤ 200000) }
     ensures starts { IfOk result (λ s. AreStarts (program s.program) s.places s.starts.items) }
     ensures kinds { IfErr result (MissesOnly name.now) }
     ensures causes { HasReadCauses result (F.faults files.old) (F.faults files.new)

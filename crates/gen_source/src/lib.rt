@@ -1,8 +1,10 @@
-//! The program that is made up from a number: the text of its project and of its source.
+//! The program that is made up from a number: the text of its project and of its source, and the line that tells of it.
 //!
-//! It promises both texts exactly. It stands on kit_base.
+//! It promises the three texts exactly. It stands on kit_base, and on trace_core for a word's digits.
 #![tactic(auto)]
 
+mod summary;
 mod text;
 
+pub use summary::summary_text;
 pub use text::{project_text, source_text};

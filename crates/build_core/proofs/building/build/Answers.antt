@@ -1,15 +1,16 @@
 use Rattle.std.proofs.Common.{◌∙◌, length, ap, subst, arith}
+use Rattle.std.specs.Prelude.{IfOk}
 use Rattle.c_check.specs.View.{program}
 use Rattle.c_image.specs.Imaging.{IsImageOf, image}
 use Rattle.build_core.proofs.Projects.{title_is_text, source_is_text, textures_are_texts, sounds_are_texts}
 use Rattle.build_core.proofs.Refusals.{source_comes, textures_come, sounds_come, packing_causes}
 use Rattle.build_core.proofs.Builds.{project_told, source_told, textures_told, sounds_told, packed_told}
-use Rattle.build_core.specs.Build.{cartridge_of}
 use Rattle.build_core.specs.Due.{assets}
+use Rattle.build_core.specs.Packing.{IsPackedFrom}
 use Rattle.build_core.specs.declared.sources.Source.{Source}
 use Rattle.build_core.specs.declared.building.Built.{Built}
 use Rattle.build_core.specs.Reached.{IsReadToBuild}
-use Rattle.build_core.proofs.Failing.{none_fails, packed_fails, project_fails, source_fails, sounds_fail, textures_fail}
+use Rattle.build_core.proofs.Failing.{packed_fails, project_fails, source_fails, sounds_fail, textures_fail}
 use Rattle.build_core.proofs.building.build.Goals as goal
 
 pub returns-in-Err-clause-told : goal.returns-in-Err-clause-told
@@ -61,7 +62,8 @@ returns-clause-told g c =
     packed_told c.args.project.now c.in-Ok.parts c.in-Ok.ensures.found source c.in-Ok-read_assets.textures.items c.in-Ok-read_assets-2.sounds.items (image c.in-Ok-image_of.made) made c.packed.result
     c.as_slice.result.now c.as_slice-2.result.now (g.F.Reads.held c.args.files.now) (g.F.Reads.held c.read_source.new.files) (g.F.Reads.held c.read_assets.new.files)
     c.as_slice.ensures c.as_slice-2.ensures c.in-Ok-read_source.ensures.told c.in-Ok-read_source.ensures.held c.in-Ok-read_assets.ensures.told (c.in-Ok-read_assets.ensures.held ∙ c.in-Ok-read_source.ensures.held) c.in-Ok-read_assets-2.ensures.told
-    c.packed.ensures.packed c.packed.ensures.kinds
+    (subst (λ tokens. IfOk c.packed.result (IsPackedFrom c.in-Ok.parts.title (image c.in-Ok-image_of.made) (assets c.in-Ok-read_assets.textures.items c.in-Ok-read_assets-2.sounds.items) tokens)) c.token_count-tokens.ensures c.packed.ensures.packed)
+    c.packed.ensures.kinds
 
 pub returns-clause-causes : goal.returns-clause-causes
 returns-clause-causes g c =

@@ -1,0 +1,4 @@
+pub mod Playing
+pub mod MoreAnswers
+pub mod Arriving
+pub mod Sources

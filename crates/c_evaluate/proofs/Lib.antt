@@ -8,6 +8,7 @@ pub mod Linked
 pub mod Ending
 pub mod Moving
 pub mod Stepping
+pub mod Pairs
 pub mod Reaching
 pub mod Running
 pub mod Opened

@@ -1,60 +1,222 @@
 -- Several steps at once are steps one after another.
-use Rattle.std.proofs.Common.{◌≡◌, ℕ, Bool, true, false, List, [], ◌∷◌, refl}
-use Rattle.std.specs.Prelude.{Option, Some, None, Result, Ok, Err}
+use Rattle.std.proofs.Common.{◌≡◌, ℕ, zero, suc, Bool, true, false, List, [], ◌∷◌, ◌++◌, length, slice_get, refl, sym, ap, subst}
+use Rattle.std.specs.Prelude.{not, Option, Some, None, Result, Ok, Err}
 use Rattle.c_tree.specs.declared.span.Span.{Span}
+use Rattle.c_tree.specs.declared.operator.UnOp.{UnOp}
+use Rattle.c_tree.specs.declared.operator.UnOp.TheVariants as un
+use Rattle.c_tree.specs.declared.operator.StepOp.{StepOp}
 use Rattle.c_tree.specs.declared.operator.BinOp.{BinOp}
 use Rattle.c_tree.specs.declared.operator.BinOp.TheVariants as bin
-use Rattle.c_types.specs.Types.{Ty}
-use Rattle.c_types.specs.Typed.{TExprT, Typed, NumberK, NullK, LiteralK, GlobalK, LocalK, UnaryK, BinaryK, AssignK, StepK, IndexK, MemberK, ArrowK, CastK, CallK, InK, OutK, WaitK, HaltK, CardK}
+use Rattle.c_types.specs.Types.{Ty, VoidY, IntY, BoolY, EnumY, StructY, UnionY, PointerY, ArrayY}
+use Rattle.c_types.specs.Typed.{TExprT, Typed, NumberK, NullK, LiteralK, GlobalK, LocalK, UnaryK, BinaryK, AssignK, StepK, IndexK, MemberK, ArrowK, CastK, CallK, InK, OutK, WaitK, HaltK, CardK, TExprTs, NoX, MoreX, TStmtT, BlockZ, EmptyZ, VarsZ, DoZ, IfZ, WhileZ, DoWhileZ, ForZ, SwitchZ, ReturnZ, BreakZ, ContinueZ}
 use Rattle.obj_mem.specs.declared.cell.Cell.{Cell}
-use Rattle.obj_mem.specs.declared.cell.Cell.TheVariants.{Unwritten}
+use Rattle.obj_mem.specs.declared.cell.Cell.TheVariants.{Unwritten, Ptr}
 use Rattle.obj_mem.specs.Stores.{Store, local_object}
-use Rattle.obj_mem.specs.Queries.{truth}
+use Rattle.obj_mem.specs.Queries.{Answer, truth, first_cell, step as pointer_step}
+use Rattle.c_meaning.specs.Kinds.{type_of, span_of, decayed}
+use Rattle.c_meaning.specs.Operators.{is_true, converted, cell_unary, stepped, operated}
 use Rattle.c_meaning.specs.declared.end.End.{End}
-use Rattle.c_meaning.specs.Setting.{Setting}
+use Rattle.c_meaning.specs.Setting.{Setting, words}
+use Rattle.c_meaning.specs.Cells.{released}
+use Rattle.c_meaning.specs.Expressions.{params_of}
 use Rattle.c_evaluate.specs.declared.frame.Came.{Came}
-use Rattle.c_evaluate.specs.declared.frame.Came.TheVariants.{Value}
-use Rattle.c_evaluate.specs.Storing.{taken, tested_in, placed_in}
+use Rattle.c_evaluate.specs.declared.frame.Came.TheVariants.{Value, Place, Nothing}
+use Rattle.c_evaluate.specs.declared.frame.How.TheVariants.{On}
+use Rattle.c_evaluate.specs.Storing.{With, at_span, then_ok, taken, tested_in, placed_in, operated_in, stepped_in, second_assigned_in}
 use Rattle.c_evaluate.specs.Machine.{FocusT, EvalF, FillF, DoF, CameF, MadeF, LeftF, FullF, FrameT, FirstW, SecondW, ArgumentW, BackW, ValueW, StepW, BodyW, BeginW, RestW, ArmsW, EndW, SwitchW, OneW, ItemsW, VarsW, FilledW, MainW, Config, Going}
-use Rattle.c_evaluate.specs.Steps.{on, came, either_of, eval, first_step, second_of, second_of_node, binary_of, give, step}
+use Rattle.c_evaluate.specs.Steps.{on, came, value, left, args_of, argument_in, argument_step, value_here, place_here, either_of, eval, first_step, second_step, unary_first, member_first, binary_second, combined, second_of, second_of_node, binary_of, exec, value_step, give, step}
 use Rattle.c_evaluate.specs.Turning.{Works}
-use Rattle.c_evaluate.specs.Swift.{at_once, local_at_once, handed, second_on, binary_on, first_on, first_of_on, operand_on, eval_on, give_on, step_on}
+use Rattle.c_evaluate.specs.Swift.{asks_on, assigns_on, steps_on, does_on, exec_on, took, args_on, argument_on, with_some, answered, seen, value_at_once, place_at_once, unary_at_once, is_strict, strict_at_once, binary_at_once, index_at_once, member_at_once, arrow_at_once, cast_at_once, comes, depth_at_once, at_once, local_at_once, handed, second_on, binary_on, first_on, first_of_on, operand_on, eval_on, give_on, step_on}
 
 -- so many steps lead from one configuration to the other
 pub data Reaches (s : Setting) : Config → Config → Type 0 where
   here : (c : Config) → Reaches s c c
   further : (f : FocusT) (k : List FrameT) (u : Store) (d : Config) → Works f → Reaches s (step s f k u) d → Reaches s (Going f k u) d
 
-module _ (s : Setting) where
-  -- what an operand comes to at once is handed to its frame
-  local_reaches : (n : ℕ) (number : ℕ) (ty : Ty) (span : Span) (f : FrameT) (k : List FrameT) (u : Store) (go : Came → Config) → ((v : Came) → Reaches s (give s f v k u) (go v)) → (o : Option ℕ) → local_object u.locals number ≡ o →
-      Reaches s (Going (EvalF n (Typed (LocalK number) ty span)) (f ∷ k) u) (handed (local_at_once o) (Going (EvalF n (Typed (LocalK number) ty span)) (f ∷ k) u) go)
-  unfolding step eval
-  local_reaches n number ty span f k u go h None e = here _
-  local_reaches n number ty span f k u go h (Some object) e = further _ _ _ _ tt (rw e (further _ _ _ _ tt (h _)))
+-- ---- what was there
 
+came_in : Option Came → Came
+came_in None = Nothing
+came_in (Some v) = v
+
+came_same : (w v : Came) → Some w ≡ Some v → w ≡ v
+unfolding came_in
+came_same w v e = ap came_in e
+
+some_of : {A B P : Type 0} (o : Option A) (go : A → Option B) (z : B) → with_some o go ≡ Some z → ((x : A) → o ≡ Some x → go x ≡ Some z → P) → P
+some_of None go z e h = absurd cc
+some_of (Some x) go z e h = h x refl e
+
+strict_of : {P : Type 0} (b : Bool) (o : Option Came) (v : Came) → strict_at_once b o ≡ Some v → (b ≡ true → o ≡ Some v → P) → P
+strict_of true o v e h = h refl e
+strict_of false o v e h = absurd cc
+
+answered_ok : {A : Type 0} (r : Answer A) (x : A) → answered r ≡ Some x → r ≡ Ok x
+answered_ok (Ok y) x e = cc
+answered_ok (Err why) x e = absurd cc
+
+scalar_seen : (span : Span) (r : Answer Cell) (c : Cell) (u : Store) → answered r ≡ Some c → then_ok {B = Cell × Store} (at_span span r) (λ z. Ok (z, u)) ≡ Ok (c, u)
+scalar_seen span (Ok z) c u e = cc
+scalar_seen span (Err why) c u e = absurd cc
+
+-- what is seen is what is taken, and the store stays
+seen_taken : (s : Setting) (n : ℕ) (x : TExprT) (v : Came) (u : Store) (c : Cell) → seen (type_of x) v u ≡ Some c → taken s n x v u ≡ Ok (c, u)
+unfolding seen
+seen_taken s n (Typed kind ty span) (Value z) u c e = cc
+seen_taken s n (Typed kind VoidY span) (Place p) u c e = absurd cc
+seen_taken s n (Typed kind IntY span) (Place p) u c e = scalar_seen span _ c u e
+seen_taken s n (Typed kind BoolY span) (Place p) u c e = scalar_seen span _ c u e
+seen_taken s n (Typed kind (EnumY number) span) (Place p) u c e = scalar_seen span _ c u e
+seen_taken s n (Typed kind (StructY number) span) (Place p) u c e = absurd cc
+seen_taken s n (Typed kind (UnionY number) span) (Place p) u c e = absurd cc
+seen_taken s n (Typed kind (PointerY to) span) (Place p) u c e = scalar_seen span _ c u e
+seen_taken s n (Typed kind (ArrayY of len) span) (Place p) u c e = cc
+seen_taken s n (Typed kind ty span) Nothing u c e = absurd cc
+
+module _ (s : Setting) where
+  -- ---- what comes at once is reached
+
+  came_handed : (w v : Came) → Some w ≡ Some v → (f : FrameT) (k : List FrameT) (u : Store) (to : Config) → Reaches s (give s f v k u) to → Reaches s (Going (CameF w) (f ∷ k) u) to
+  unfolding step
+  came_handed w v e f k u to r = further _ _ _ _ tt (subst (λ x. Reaches s (give s f x k u) to) (sym (came_same w v e)) r)
+
+  value_given : (span : Span) (c : Answer Cell) (v : Came) → value_at_once c ≡ Some v → (f : FrameT) (k : List FrameT) (u : Store) (to : Config) → Reaches s (give s f v k u) to → Reaches s (value_here (at_span span c) (f ∷ k) u) to
+  value_given span (Ok z) v e f k u to r = came_handed (Value z) v e f k u to r
+  value_given span (Err why) v e f k u to r = absurd cc
+
+  place_given : (span : Span) (c : Answer Cell) (v : Came) → place_at_once c ≡ Some v → (f : FrameT) (k : List FrameT) (u : Store) (to : Config) → Reaches s (give s f v k u) to → Reaches s (place_here (at_span span c) (f ∷ k) u) to
+  place_given span (Ok z) v e f k u to r = came_handed (Place z) v e f k u to r
+  place_given span (Err why) v e f k u to r = absurd cc
+
+  on_seen : (t : With Cell) (c : Cell) (u : Store) → t ≡ Ok (c, u) → (go : Cell × Store → Config) (to : Config) → Reaches s (go (c, u)) to → Reaches s (on t go) to
+  on_seen t c u e go to r = subst (λ x. Reaches s (on x go) to) (sym e) r
+
+  not_seen : (n : ℕ) (x : TExprT) (w : Came) (u : Store) (c : Cell) (b : Bool) → taken s n x w u ≡ Ok (c, u) → is_true u.objects (decayed (type_of x)) c ≡ Ok b → (k : List FrameT) (to : Config) → Reaches s (came (Value (truth (not b))) k u) to →
+      Reaches s (on (tested_in s n x w u) (λ t. came (Value (truth (not t.0))) k t.1)) to
+  not_seen n x w u c b e g k to r = subst (λ y. Reaches s (on {A = Bool × Store} (then_ok y (λ t. then_ok (at_span (span_of x) (is_true t.1.objects (decayed (type_of x)) t.0)) (λ b. Ok (b, t.1)))) (λ t. came (Value (truth (not t.0))) k t.1)) to) (sym e)
+      (subst (λ y. Reaches s (on {A = Bool × Store} (then_ok (at_span (span_of x) y) (λ b. Ok (b, u))) (λ t. came (Value (truth (not t.0))) k t.1)) to) (sym g) r)
+
+  unary_given : (n : ℕ) (op : UnOp) (x : TExprT) (span : Span) (w v : Came) (u : Store) → unary_at_once op (type_of x) w u ≡ Some v → (f : FrameT) (k : List FrameT) (to : Config) → Reaches s (give s f v k u) to → Reaches s (unary_first s n op x span w (f ∷ k) u) to
+  unfolding unary_at_once
+  unary_given n un.Deref x span w v u e f k to r = some_of _ _ v e (λ c g h. on_seen _ c u (seen_taken s n x w u c g) (λ t. came (Place t.0) (f ∷ k) t.1) to (came_handed (Place c) v h f k u to r))
+  unary_given n un.Address x span (Value c) v u e f k to r = absurd cc
+  unary_given n un.Address x span (Place p) v u e f k to r = came_handed (Value p) v e f k u to r
+  unary_given n un.Address x span Nothing v u e f k to r = absurd cc
+  unary_given n un.Not x span w v u e f k to r = some_of _ _ v e (λ c g h. some_of _ _ v h (λ b a z. not_seen n x w u c b (seen_taken s n x w u c g) (answered_ok _ b a) (f ∷ k) to (came_handed (Value (truth (not b))) v z f k u to r)))
+  unary_given n un.Minus x span w v u e f k to r = some_of _ _ v e (λ c g h. on_seen _ c u (seen_taken s n x w u c g) (λ t. value_here (at_span span (cell_unary un.Minus t.0)) (f ∷ k) t.1) to (value_given span _ v h f k u to r))
+  unary_given n un.Plus x span w v u e f k to r = some_of _ _ v e (λ c g h. on_seen _ c u (seen_taken s n x w u c g) (λ t. value_here (at_span span (cell_unary un.Plus t.0)) (f ∷ k) t.1) to (value_given span _ v h f k u to r))
+  unary_given n un.Flip x span w v u e f k to r = some_of _ _ v e (λ c g h. on_seen _ c u (seen_taken s n x w u c g) (λ t. value_here (at_span span (cell_unary un.Flip t.0)) (f ∷ k) t.1) to (value_given span _ v h f k u to r))
+
+  strict_first : (n : ℕ) (op : BinOp) (e x y : TExprT) (v : Came) (k : List FrameT) (u : Store) → is_strict op ≡ true → binary_of s n op e x y v k u ≡ on (taken s n x v u) (λ t. second_of_node n e y t.0 k t.1)
+  strict_first n bin.AndAlso e x y v k u is = absurd cc
+  strict_first n bin.OrElse e x y v k u is = absurd cc
+  strict_first n bin.Mul e x y v k u is = refl
+  strict_first n bin.Div e x y v k u is = refl
+  strict_first n bin.Mod e x y v k u is = refl
+  strict_first n bin.Add e x y v k u is = refl
+  strict_first n bin.Sub e x y v k u is = refl
+  strict_first n bin.Shl e x y v k u is = refl
+  strict_first n bin.Shr e x y v k u is = refl
+  strict_first n bin.Less e x y v k u is = refl
+  strict_first n bin.LessEq e x y v k u is = refl
+  strict_first n bin.More e x y v k u is = refl
+  strict_first n bin.MoreEq e x y v k u is = refl
+  strict_first n bin.Equal e x y v k u is = refl
+  strict_first n bin.NotEqual e x y v k u is = refl
+  strict_first n bin.BitAnd e x y v k u is = refl
+  strict_first n bin.BitXor e x y v k u is = refl
+  strict_first n bin.BitOr e x y v k u is = refl
+
+  strict_second : (n : ℕ) (op : BinOp) (x y : TExprT) (span : Span) (c : Cell) (v : Came) (k : List FrameT) (u : Store) → is_strict op ≡ true → binary_second s n op x y span c v k u ≡ combined s n op x y span c v k u
+  strict_second n bin.AndAlso x y span c v k u is = absurd cc
+  strict_second n bin.OrElse x y span c v k u is = absurd cc
+  strict_second n bin.Mul x y span c v k u is = refl
+  strict_second n bin.Div x y span c v k u is = refl
+  strict_second n bin.Mod x y span c v k u is = refl
+  strict_second n bin.Add x y span c v k u is = refl
+  strict_second n bin.Sub x y span c v k u is = refl
+  strict_second n bin.Shl x y span c v k u is = refl
+  strict_second n bin.Shr x y span c v k u is = refl
+  strict_second n bin.Less x y span c v k u is = refl
+  strict_second n bin.LessEq x y span c v k u is = refl
+  strict_second n bin.More x y span c v k u is = refl
+  strict_second n bin.MoreEq x y span c v k u is = refl
+  strict_second n bin.Equal x y span c v k u is = refl
+  strict_second n bin.NotEqual x y span c v k u is = refl
+  strict_second n bin.BitAnd x y span c v k u is = refl
+  strict_second n bin.BitXor x y span c v k u is = refl
+  strict_second n bin.BitOr x y span c v k u is = refl
+
+  combined_given : (n : ℕ) (op : BinOp) (x y : TExprT) (span : Span) (c d : Cell) (w v : Came) (u : Store) → seen (type_of y) w u ≡ Some d → value_at_once (operated s op (type_of x) (type_of y) u.objects c d) ≡ Some v → (f : FrameT) (k : List FrameT) (to : Config) → Reaches s (give s f v k u) to → Reaches s (combined s n op x y span c w (f ∷ k) u) to
+  combined_given n op x y span c d w v u g h f k to r = on_seen _ d u (seen_taken s n y w u d g) (λ t. value_here (operated_in s op x y span c t.0 t.1) (f ∷ k) t.1) to (value_given span _ v h f k u to r)
+
+  member_given : (ty : Ty) (x : TExprT) (span : Span) (offset : ℕ) (w v : Came) (u : Store) → member_at_once offset w ≡ Some v → (f : FrameT) (k : List FrameT) (to : Config) → Reaches s (give s f v k u) to → Reaches s (member_first ty x span offset w (f ∷ k) u) to
+  unfolding member_at_once
+  member_given ty x span offset (Value c) v u e f k to r = absurd cc
+  member_given ty x span offset (Place p) v u e f k to r = place_given span _ v e f k u to r
+  member_given ty x span offset Nothing v u e f k to r = absurd cc
+
+  local_given : (o : Option ℕ) (span : Span) (v : Came) → local_at_once o ≡ Some v → (f : FrameT) (k : List FrameT) (u : Store) (to : Config) → Reaches s (give s f v k u) to → Reaches s (place_here (at_span span (first_cell o)) (f ∷ k) u) to
+  local_given None span v e f k u to r = absurd cc
+  local_given (Some object) span v e f k u to r = came_handed (Place (Ptr object 0)) v e f k u to r
+
+  comes_reaches : (d : ℕ) (x : TExprT) (u : Store) (v : Came) → comes s d x u ≡ Some v → (n : ℕ) (f : FrameT) (k : List FrameT) (to : Config) → Reaches s (give s f v k u) to → Reaches s (Going (EvalF n x) (f ∷ k) u) to
+  unfolding step eval comes give first_step second_step binary_at_once index_at_once arrow_at_once cast_at_once
+  comes_reaches d (Typed (NumberK x) ty span) u v e n f k to r = further _ _ _ _ tt (came_handed _ v e f k u to r)
+  comes_reaches d (Typed NullK ty span) u v e n f k to r = further _ _ _ _ tt (came_handed _ v e f k u to r)
+  comes_reaches d (Typed (LiteralK number) ty span) u v e n f k to r = further _ _ _ _ tt (came_handed _ v e f k u to r)
+  comes_reaches d (Typed (GlobalK number) ty span) u v e n f k to r = further _ _ _ _ tt (came_handed _ v e f k u to r)
+  comes_reaches d (Typed (LocalK number) ty span) u v e n f k to r = further _ _ _ _ tt (local_given (local_object u.locals number) span v e f k u to r)
+  comes_reaches (suc d) (Typed (UnaryK op a) ty span) u v e n f k to r =
+      some_of _ _ v e (λ w g h. further _ _ _ _ tt (comes_reaches d a u w g n (FirstW n (Typed (UnaryK op a) ty span)) (f ∷ k) to (unary_given n op a span w v u h f k to r)))
+  comes_reaches (suc d) (Typed (BinaryK op a b) ty span) u v e n f k to r =
+      strict_of (is_strict op) _ v e (λ strict e'. some_of _ _ v e' (λ w g h. some_of _ _ v h (λ z g' h'. some_of _ _ v h' (λ c p q. some_of _ _ v q (λ c' p' q'.
+      further _ _ _ _ tt (comes_reaches d a u w g n (FirstW n (Typed (BinaryK op a b) ty span)) (f ∷ k) to
+      (subst (λ y. Reaches s y to) (sym (strict_first n op (Typed (BinaryK op a b) ty span) a b w (f ∷ k) u strict))
+      (on_seen _ c u (seen_taken s n a w u c p) (λ t. second_of_node n (Typed (BinaryK op a b) ty span) b t.0 (f ∷ k) t.1) to
+      (comes_reaches d b u z g' n (SecondW n (Typed (BinaryK op a b) ty span) c) (f ∷ k) to
+      (subst (λ y. Reaches s y to) (sym (strict_second n op a b span c z (f ∷ k) u strict)) (combined_given n op a b span c c' z v u p' q' f k to r)))))))))))
+  comes_reaches (suc d) (Typed (IndexK a b) ty span) u v e n f k to r =
+      some_of _ _ v e (λ w g h. some_of _ _ v h (λ z g' h'. some_of _ _ v h' (λ c p q. some_of _ _ v q (λ c' p' q'.
+      further _ _ _ _ tt (comes_reaches d a u w g n (FirstW n (Typed (IndexK a b) ty span)) (f ∷ k) to
+      (on_seen _ c u (seen_taken s n a w u c p) (λ t. second_of_node n (Typed (IndexK a b) ty span) b t.0 (f ∷ k) t.1) to
+      (comes_reaches d b u z g' n (SecondW n (Typed (IndexK a b) ty span) c) (f ∷ k) to
+      (on_seen _ c' u (seen_taken s n b z u c' p') (λ t. place_here (at_span span (stepped (words s ty) c t.0)) (f ∷ k) t.1) to (place_given span _ v q' f k u to r)))))))))
+  comes_reaches (suc d) (Typed (MemberK a offset) ty span) u v e n f k to r =
+      some_of _ _ v e (λ w g h. further _ _ _ _ tt (comes_reaches d a u w g n (FirstW n (Typed (MemberK a offset) ty span)) (f ∷ k) to (member_given ty a span offset w v u h f k to r)))
+  comes_reaches (suc d) (Typed (ArrowK a offset) ty span) u v e n f k to r =
+      some_of _ _ v e (λ w g h. some_of _ _ v h (λ c p q. further _ _ _ _ tt (comes_reaches d a u w g n (FirstW n (Typed (ArrowK a offset) ty span)) (f ∷ k) to
+      (on_seen _ c u (seen_taken s n a w u c p) (λ t. place_here (at_span span (pointer_step t.0 offset)) (f ∷ k) t.1) to (place_given span _ v q f k u to r)))))
+  comes_reaches (suc d) (Typed (CastK a) ty span) u v e n f k to r =
+      some_of _ _ v e (λ w g h. some_of _ _ v h (λ c p q. further _ _ _ _ tt (comes_reaches d a u w g n (FirstW n (Typed (CastK a) ty span)) (f ∷ k) to
+      (on_seen _ c u (seen_taken s n a w u c p) (λ t. value_here (at_span span (converted ty t.0)) (f ∷ k) t.1) to (value_given span _ v q f k u to r)))))
+  comes_reaches zero (Typed (UnaryK op a) ty span) u v e n f k to r = absurd cc
+  comes_reaches zero (Typed (BinaryK op a b) ty span) u v e n f k to r = absurd cc
+  comes_reaches zero (Typed (IndexK a b) ty span) u v e n f k to r = absurd cc
+  comes_reaches zero (Typed (MemberK a offset) ty span) u v e n f k to r = absurd cc
+  comes_reaches zero (Typed (ArrowK a offset) ty span) u v e n f k to r = absurd cc
+  comes_reaches zero (Typed (CastK a) ty span) u v e n f k to r = absurd cc
+  comes_reaches d (Typed (AssignK op a b) ty span) u v e n f k to r = absurd cc
+  comes_reaches d (Typed (StepK op a) ty span) u v e n f k to r = absurd cc
+  comes_reaches d (Typed (CallK g xs) ty span) u v e n f k to r = absurd cc
+  comes_reaches d (Typed (InK port) ty span) u v e n f k to r = absurd cc
+  comes_reaches d (Typed (OutK port a) ty span) u v e n f k to r = absurd cc
+  comes_reaches d (Typed WaitK ty span) u v e n f k to r = absurd cc
+  comes_reaches d (Typed HaltK ty span) u v e n f k to r = absurd cc
+  comes_reaches d (Typed CardK ty span) u v e n f k to r = absurd cc
+
+  at_once_reaches : (x : TExprT) (u : Store) (v : Came) → at_once s x u ≡ Some v → (n : ℕ) (f : FrameT) (k : List FrameT) (to : Config) → Reaches s (give s f v k u) to → Reaches s (Going (EvalF n x) (f ∷ k) u) to
+  unfolding at_once
+  at_once_reaches x u v e n f k to r = comes_reaches depth_at_once x u v e n f k to r
+
+  -- what an operand comes to at once is handed to its frame
   handed_reaches : (n : ℕ) (x : TExprT) (f : FrameT) (k : List FrameT) (u : Store) (go : Came → Config) → ((v : Came) → Reaches s (give s f v k u) (go v)) →
       Reaches s (Going (EvalF n x) (f ∷ k) u) (handed (at_once s x u) (Going (EvalF n x) (f ∷ k) u) go)
-  unfolding step eval at_once
-  handed_reaches n (Typed (NumberK x) ty span) f k u go h = further _ _ _ _ tt (further _ _ _ _ tt (h _))
-  handed_reaches n (Typed NullK ty span) f k u go h = further _ _ _ _ tt (further _ _ _ _ tt (h _))
-  handed_reaches n (Typed (LiteralK number) ty span) f k u go h = further _ _ _ _ tt (further _ _ _ _ tt (h _))
-  handed_reaches n (Typed (GlobalK number) ty span) f k u go h = further _ _ _ _ tt (further _ _ _ _ tt (h _))
-  handed_reaches n (Typed (LocalK number) ty span) f k u go h = local_reaches n number ty span f k u go h _ refl
-  handed_reaches n (Typed (UnaryK op a) ty span) f k u go h = here _
-  handed_reaches n (Typed (BinaryK op a b) ty span) f k u go h = here _
-  handed_reaches n (Typed (AssignK op a b) ty span) f k u go h = here _
-  handed_reaches n (Typed (StepK op a) ty span) f k u go h = here _
-  handed_reaches n (Typed (IndexK a b) ty span) f k u go h = here _
-  handed_reaches n (Typed (MemberK a offset) ty span) f k u go h = here _
-  handed_reaches n (Typed (ArrowK a offset) ty span) f k u go h = here _
-  handed_reaches n (Typed (CastK a) ty span) f k u go h = here _
-  handed_reaches n (Typed (CallK g xs) ty span) f k u go h = here _
-  handed_reaches n (Typed (InK port) ty span) f k u go h = here _
-  handed_reaches n (Typed (OutK port a) ty span) f k u go h = here _
-  handed_reaches n (Typed WaitK ty span) f k u go h = here _
-  handed_reaches n (Typed HaltK ty span) f k u go h = here _
-  handed_reaches n (Typed CardK ty span) f k u go h = here _
+  handed_reaches n x f k u go h = by (at_once s x u) refl
+    where
+      by : (o : Option Came) → at_once s x u ≡ o → Reaches s (Going (EvalF n x) (f ∷ k) u) (handed o (Going (EvalF n x) (f ∷ k) u) go)
+      by None e = here _
+      by (Some v) e = at_once_reaches x u v e n f k (go v) (h v)
 
   second_reaches : (n : ℕ) (e y : TExprT) (c : Cell) (k : List FrameT) (u : Store) → Reaches s (Going (EvalF n y) (SecondW n e c ∷ k) u) (second_on s n e y c k u)
   unfolding give
@@ -118,6 +280,27 @@ module _ (s : Setting) where
   operand_reaches : (n : ℕ) (e x : TExprT) (k : List FrameT) (u : Store) → Reaches s (Going (EvalF n x) (FirstW n e ∷ k) u) (operand_on s n e x k u)
   operand_reaches n e x k u = handed_reaches n x (FirstW n e) k u (λ v. first_of_on s n e v k u) (λ v. first_reaches n e v k u)
 
+  -- arguments that come at once are taken one after another
+  took_reaches : (n g : ℕ) (span : Span) (x : TExprT) (xs : TExprTs) (v : Came) (vs : List Cell) (k : List FrameT) (u : Store) → ((vs : List Cell) (u : Store) → Reaches s (args_of s n g span vs xs k u) (args_on s n g span vs xs k u)) →
+      (t : With Cell) → Reaches s (on t (λ t. on (argument_in (slice_get (params_of (slice_get s.functions g)) (length vs)) x t.0) (λ z. args_of s n g span (vs ++ z ∷ []) xs k t.1)))
+      (on {A = List Cell × Store} (then_ok t (λ t. then_ok (argument_in (slice_get (params_of (slice_get s.functions g)) (length vs)) x t.0) (λ z. Ok (vs ++ z ∷ [], t.1)))) (λ t. args_on s n g span t.0 xs k t.1))
+  took_reaches n g span x xs v vs k u h (Err end) = here _
+  took_reaches n g span x xs v vs k u h (Ok t) = by (argument_in (slice_get (params_of (slice_get s.functions g)) (length vs)) x t.0)
+    where
+      by : (r : Result Cell End) → Reaches s (on r (λ z. args_of s n g span (vs ++ z ∷ []) xs k t.1)) (on {A = List Cell × Store} (then_ok r (λ z. Ok (vs ++ z ∷ [], t.1))) (λ t. args_on s n g span t.0 xs k t.1))
+      by (Ok z) = h _ _
+      by (Err end) = here _
+
+  args_reaches : (n g : ℕ) (span : Span) (xs : TExprTs) (k : List FrameT) (vs : List Cell) (u : Store) → Reaches s (args_of s n g span vs xs k u) (args_on s n g span vs xs k u)
+  unfolding give
+  args_reaches n g span NoX k vs u = here _
+  args_reaches n g span (MoreX x xs) k vs u =
+      handed_reaches n x (ArgumentW n g span vs (MoreX x xs)) k u (λ v. on (took s n g x v vs u) (λ t. args_on s n g span t.0 xs k t.1)) (λ v. took_reaches n g span x xs v vs k u (args_reaches n g span xs k) (taken s n x v u))
+
+  argument_reaches : (n g : ℕ) (span : Span) (vs : List Cell) (xs : TExprTs) (v : Came) (k : List FrameT) (u : Store) → Reaches s (argument_step s n g span vs xs v k u) (argument_on s n g span vs xs v k u)
+  argument_reaches n g span vs NoX v k u = here _
+  argument_reaches n g span vs (MoreX x xs) v k u = took_reaches n g span x xs v vs k u (args_reaches n g span xs k) (taken s n x v u)
+
   eval_reaches : (n : ℕ) (e : TExprT) (k : List FrameT) (u : Store) → Reaches s (step s (EvalF n e) k u) (step_on s (EvalF n e) k u)
   unfolding step step_on eval eval_on
   eval_reaches n (Typed (UnaryK op a) ty span) k u = operand_reaches n (Typed (UnaryK op a) ty span) a k u
@@ -134,17 +317,94 @@ module _ (s : Setting) where
   eval_reaches n (Typed (LiteralK number) ty span) k u = here _
   eval_reaches n (Typed (GlobalK number) ty span) k u = here _
   eval_reaches n (Typed (LocalK number) ty span) k u = here _
-  eval_reaches n (Typed (CallK g xs) ty span) k u = here _
+  eval_reaches n (Typed (CallK g xs) ty span) k u = args_reaches n g span xs k [] u
   eval_reaches n (Typed (InK port) ty span) k u = here _
   eval_reaches n (Typed WaitK ty span) k u = here _
   eval_reaches n (Typed HaltK ty span) k u = here _
   eval_reaches n (Typed CardK ty span) k u = here _
 
+  asks_reaches : (n : ℕ) (r : Cell) (a : TStmtT) (x : TExprT) (k : List FrameT) (u : Store) → Reaches s (Going (EvalF n x) (ValueW n r a ∷ k) u) (asks_on s n r a x k u)
+  unfolding give
+  asks_reaches n r a x k u = handed_reaches n x (ValueW n r a) k u (λ v. value_step s n r a v k u) (λ v. here _)
+
+  -- the value is dropped behind the statement
+  dropped_reaches : (n : ℕ) (r : Cell) (e : TExprT) (k : List FrameT) (t : With Cell) →
+      Reaches s (value t (ValueW n r (DoZ e) ∷ k)) (on t (λ z. left On k (released (type_of e) z.0 z.1)))
+  unfolding step give value_step
+  dropped_reaches n r e k (Ok z) = further _ _ _ _ tt (here _)
+  dropped_reaches n r e k (Err end) = here _
+
+  assigns_reaches : (n : ℕ) (r : Cell) (op : Option BinOp) (x y : TExprT) (ty : Ty) (span : Span) (k : List FrameT) (u : Store) →
+      Reaches s (Going (EvalF n (Typed (AssignK op x y) ty span)) (ValueW n r (DoZ (Typed (AssignK op x y) ty span)) ∷ k) u) (assigns_on s n r (DoZ (Typed (AssignK op x y) ty span)) (Typed (AssignK op x y) ty span) op x y k u)
+  unfolding step eval give first_step second_step
+  assigns_reaches n r op x y ty span k u = by (at_once s x u) refl (at_once s y u) refl
+    where
+      valued : (p : Cell) (t : With Cell) → Reaches s (on t (λ t. value (second_assigned_in s n op x y span p t.0 t.1) (ValueW n r (DoZ (Typed (AssignK op x y) ty span)) ∷ k))) (on t (λ t. on (second_assigned_in s n op x y span p t.0 t.1) (λ z. left On k (released ty z.0 z.1))))
+      valued p t = on_reaches t (λ t. value (second_assigned_in s n op x y span p t.0 t.1) (ValueW n r (DoZ (Typed (AssignK op x y) ty span)) ∷ k)) (λ t. on (second_assigned_in s n op x y span p t.0 t.1) (λ z. left On k (released ty z.0 z.1))) (λ t. dropped_reaches n r (Typed (AssignK op x y) ty span) k (second_assigned_in s n op x y span p t.0 t.1))
+
+      placed : (w : Came) → at_once s y u ≡ Some w → (q : Result Cell End) → Reaches s (on q (λ p. Going (EvalF n y) (SecondW n (Typed (AssignK op x y) ty span) p ∷ (ValueW n r (DoZ (Typed (AssignK op x y) ty span)) ∷ k)) u)) (on q (λ p. on (taken s n y w u) (λ t. on (second_assigned_in s n op x y span p t.0 t.1) (λ z. left On k (released ty z.0 z.1)))))
+      placed w g q = on_reaches q (λ p. Going (EvalF n y) (SecondW n (Typed (AssignK op x y) ty span) p ∷ (ValueW n r (DoZ (Typed (AssignK op x y) ty span)) ∷ k)) u) (λ p. on (taken s n y w u) (λ t. on (second_assigned_in s n op x y span p t.0 t.1) (λ z. left On k (released ty z.0 z.1)))) (λ p. at_once_reaches y u w g n (SecondW n (Typed (AssignK op x y) ty span) p) (ValueW n r (DoZ (Typed (AssignK op x y) ty span)) ∷ k) _ (valued p (taken s n y w u)))
+
+      by : (o : Option Came) → at_once s x u ≡ o → (q : Option Came) → at_once s y u ≡ q → Reaches s (Going (EvalF n (Typed (AssignK op x y) ty span)) (ValueW n r (DoZ (Typed (AssignK op x y) ty span)) ∷ k) u) (handed o (Going (EvalF n (Typed (AssignK op x y) ty span)) (ValueW n r (DoZ (Typed (AssignK op x y) ty span)) ∷ k) u) (λ v. handed q (Going (EvalF n (Typed (AssignK op x y) ty span)) (ValueW n r (DoZ (Typed (AssignK op x y) ty span)) ∷ k) u) (λ w. on (placed_in span v) (λ p. on (taken s n y w u) (λ t. on (second_assigned_in s n op x y span p t.0 t.1) (λ z. left On k (released ty z.0 z.1)))))))
+      by None f q g = here _
+      by (Some v) f None g = here _
+      by (Some v) f (Some w) g = further _ _ _ _ tt (at_once_reaches x u v f n (FirstW n (Typed (AssignK op x y) ty span)) (ValueW n r (DoZ (Typed (AssignK op x y) ty span)) ∷ k) _ (placed w g (placed_in span v)))
+
+  steps_reaches : (n : ℕ) (r : Cell) (op : StepOp) (x : TExprT) (ty : Ty) (span : Span) (k : List FrameT) (u : Store) →
+      Reaches s (Going (EvalF n (Typed (StepK op x) ty span)) (ValueW n r (DoZ (Typed (StepK op x) ty span)) ∷ k) u) (steps_on s n r (DoZ (Typed (StepK op x) ty span)) (Typed (StepK op x) ty span) op x k u)
+  unfolding step eval give first_step
+  steps_reaches n r op x ty span k u = by (at_once s x u) refl
+    where
+      placed : (q : Result Cell End) → Reaches s (on q (λ p. value (stepped_in s n op x span p u) (ValueW n r (DoZ (Typed (StepK op x) ty span)) ∷ k))) (on q (λ p. on (stepped_in s n op x span p u) (λ z. left On k (released ty z.0 z.1))))
+      placed q = on_reaches q (λ p. value (stepped_in s n op x span p u) (ValueW n r (DoZ (Typed (StepK op x) ty span)) ∷ k)) (λ p. on (stepped_in s n op x span p u) (λ z. left On k (released ty z.0 z.1))) (λ p. dropped_reaches n r (Typed (StepK op x) ty span) k (stepped_in s n op x span p u))
+
+      by : (o : Option Came) → at_once s x u ≡ o → Reaches s (Going (EvalF n (Typed (StepK op x) ty span)) (ValueW n r (DoZ (Typed (StepK op x) ty span)) ∷ k) u) (handed o (Going (EvalF n (Typed (StepK op x) ty span)) (ValueW n r (DoZ (Typed (StepK op x) ty span)) ∷ k) u) (λ v. on (placed_in span v) (λ p. on (stepped_in s n op x span p u) (λ z. left On k (released ty z.0 z.1)))))
+      by None f = here _
+      by (Some v) f = further _ _ _ _ tt (at_once_reaches x u v f n (FirstW n (Typed (StepK op x) ty span)) (ValueW n r (DoZ (Typed (StepK op x) ty span)) ∷ k) _ (placed (placed_in span v)))
+
+  does_reaches : (n : ℕ) (r : Cell) (e : TExprT) (k : List FrameT) (u : Store) → Reaches s (Going (EvalF n e) (ValueW n r (DoZ e) ∷ k) u) (does_on s n r (DoZ e) e k u)
+  unfolding does_on
+  does_reaches n r (Typed (AssignK op x y) ty span) k u = assigns_reaches n r op x y ty span k u
+  does_reaches n r (Typed (StepK op x) ty span) k u = steps_reaches n r op x ty span k u
+  does_reaches n r (Typed (NumberK x) ty span) k u = here _
+  does_reaches n r (Typed NullK ty span) k u = here _
+  does_reaches n r (Typed (LiteralK number) ty span) k u = here _
+  does_reaches n r (Typed (GlobalK number) ty span) k u = here _
+  does_reaches n r (Typed (LocalK number) ty span) k u = here _
+  does_reaches n r (Typed (UnaryK op a) ty span) k u = here _
+  does_reaches n r (Typed (BinaryK op a b) ty span) k u = here _
+  does_reaches n r (Typed (IndexK a b) ty span) k u = here _
+  does_reaches n r (Typed (MemberK a offset) ty span) k u = here _
+  does_reaches n r (Typed (ArrowK a offset) ty span) k u = here _
+  does_reaches n r (Typed (CastK a) ty span) k u = here _
+  does_reaches n r (Typed (CallK g xs) ty span) k u = here _
+  does_reaches n r (Typed (InK port) ty span) k u = here _
+  does_reaches n r (Typed (OutK port a) ty span) k u = here _
+  does_reaches n r (Typed WaitK ty span) k u = here _
+  does_reaches n r (Typed HaltK ty span) k u = here _
+  does_reaches n r (Typed CardK ty span) k u = here _
+
+  exec_reaches : (n : ℕ) (r : Cell) (a : TStmtT) (k : List FrameT) (u : Store) → Reaches s (step s (DoF n r a) k u) (step_on s (DoF n r a) k u)
+  unfolding step step_on exec exec_on
+  exec_reaches n r (BlockZ made body) k u = here _
+  exec_reaches n r EmptyZ k u = here _
+  exec_reaches n r (VarsZ vars) k u = here _
+  exec_reaches n r (DoZ e) k u = does_reaches n r e k u
+  exec_reaches n r (IfZ x a b) k u = asks_reaches n r (IfZ x a b) x k u
+  exec_reaches n r (WhileZ x a) k u = asks_reaches n r (WhileZ x a) x k u
+  exec_reaches n r (DoWhileZ a x) k u = here _
+  exec_reaches n r (ForZ made first test next a) k u = here _
+  exec_reaches n r (SwitchZ x made arms) k u = asks_reaches n r (SwitchZ x made arms) x k u
+  exec_reaches n r (ReturnZ None) k u = here _
+  exec_reaches n r (ReturnZ (Some x)) k u = asks_reaches n r (ReturnZ (Some x)) x k u
+  exec_reaches n r BreakZ k u = here _
+  exec_reaches n r ContinueZ k u = here _
+
   came_reaches : (v : Came) (f : FrameT) (k : List FrameT) (u : Store) → Reaches s (step s (CameF v) (f ∷ k) u) (step_on s (CameF v) (f ∷ k) u)
-  unfolding step step_on give_on
+  unfolding step step_on give_on give
   came_reaches v (FirstW n e) k u = first_reaches n e v k u
   came_reaches v (SecondW n e c) k u = here _
-  came_reaches v (ArgumentW n f span vs xs) k u = here _
+  came_reaches v (ArgumentW n f span vs xs) k u = argument_reaches n f span vs xs v k u
   came_reaches v (BackW f vs r span c) k u = here _
   came_reaches v (ValueW n r a) k u = here _
   came_reaches v (StepW n r a) k u = here _
@@ -165,7 +425,7 @@ module _ (s : Setting) where
   unfolding step_on
   step_reaches (EvalF n e) k u = eval_reaches n e k u
   step_reaches (FillF n i ty p) k u = here _
-  step_reaches (DoF n r a) k u = here _
+  step_reaches (DoF n r a) k u = exec_reaches n r a k u
   step_reaches (CameF v) [] u = here _
   step_reaches (CameF v) (f ∷ k) u = came_reaches v f k u
   step_reaches (MadeF e v) k u = here _

@@ -9,12 +9,14 @@ ghost use Rattle.c_evaluate.specs.FocusView.{at, stack_of};
 ghost use Rattle.c_evaluate.specs.SettingView.{setting_of};
 ghost use Rattle.c_evaluate.specs.StoreView.{store_of, caller};
 ghost use Rattle.c_evaluate.specs.Storing.{params_in};
-ghost use Rattle.c_evaluate.specs.Steps.{body_of, in_room, enter, call, args_of, argument_in, argument_step, back_step};
+ghost use Rattle.c_evaluate.specs.Steps.{body_of, in_room, enter, call, argument_in, back_step};
+ghost use Rattle.c_evaluate.specs.Swift.{args_on, argument_on, took};
 
 use crate::cells::{located, stored};
 use crate::exec::rest;
 use crate::filling::nowhere;
 use crate::frame::{Caller, Came, Focus, Frame, How};
+use crate::leaf::at_once;
 use crate::operators::converted;
 use crate::setting::Setting;
 use crate::stack::{next, push};
@@ -154,7 +156,35 @@ pub(crate) fn call<'a>(
     enter(s, n, f, g, values, r, span, stack, store)
 }
 
-/// On to the next argument, or into the function.
+/// What came of an argument, converted to the type of its parameter.
+fn argument<'a>(s: &Setting<'a>, f: u32, k: usize, x: &TExpr, c: Cell) -> Result<Cell, Stop>
+    ensures { Gives (λ z. z) result (argument_in (slice_get (params_of (slice_get (setting_of s.now).functions f)) k) (texpr x.now) c) }
+{
+    match s.parameter(f, k) {
+        None => Err(Stop::Ends(End::Stray(x.span))),
+        Some(ty) => located(x.span, converted(ty, c)),
+    }
+}
+
+/// One more argument is there.
+fn took<'a>(
+    s: &Setting<'a>,
+    n: u32,
+    f: u32,
+    x: &TExpr,
+    v: Came,
+    values: &mut Vec<Cell>,
+    store: &mut Store<'a>,
+) -> Result<(), Stop>
+    ensures { Gives (λ _. (values.new.items, store_of store.new)) result (took (setting_of s.now) n f (texpr x.now) v values.old.items (store_of store.old)) }
+{
+    let c = taken(s, n, x, v, store)?;
+    let z = argument(s, f, values.len(), x, c)?;
+    values.push(z)?;
+    Ok(())
+}
+
+/// On to the next argument that does not come at once, or into the function.
 pub(crate) fn arguments<'a>(
     s: &Setting<'a>,
     n: u32,
@@ -165,25 +195,19 @@ pub(crate) fn arguments<'a>(
     stack: &mut Vec<Frame<'a>>,
     store: &mut Store<'a>,
 ) -> Result<Focus<'a>, Stop>
-    ensures { Leads (λ x. at x (stack_of stack.new.items) (store_of store.new)) result (args_of (setting_of s.now) n f span values.items (texprs (map texpr xs.now)) (stack_of stack.old.items) (store_of store.old)) }
+    ensures { Leads (λ x. at x (stack_of stack.new.items) (store_of store.new)) result (args_on (setting_of s.now) n f span values.items (texprs (map texpr xs.now)) (stack_of stack.old.items) (store_of store.old)) }
 {
-    match next(xs) {
-        None => call(s, n, f, values, span, stack, store),
-        Some((x, _)) => {
-            push(stack, Frame::Argument(n, f, span, values, xs))?;
-            Ok(Focus::Eval(n, x))
-        }
+    let mut given = values;
+    let mut left = xs;
+    'arguments: while let Some((x, later)) = next(left) {
+        let Some(v) = at_once(s, x, store) else {
+            push(stack, Frame::Argument(n, f, span, given, left))?;
+            return Ok(Focus::Eval(n, x));
+        };
+        took(s, n, f, x, v, &mut given, store)?;
+        left = later;
     }
-}
-
-/// What came of an argument, converted to the type of its parameter.
-fn argument<'a>(s: &Setting<'a>, f: u32, k: usize, x: &TExpr, c: Cell) -> Result<Cell, Stop>
-    ensures { Gives (λ z. z) result (argument_in (slice_get (params_of (slice_get (setting_of s.now).functions f)) k) (texpr x.now) c) }
-{
-    match s.parameter(f, k) {
-        None => Err(Stop::Ends(End::Stray(x.span))),
-        Some(ty) => located(x.span, converted(ty, c)),
-    }
+    call(s, n, f, given, span, stack, store)
 }
 
 /// An argument came.
@@ -198,14 +222,12 @@ pub(crate) fn argument_came<'a>(
     stack: &mut Vec<Frame<'a>>,
     store: &mut Store<'a>,
 ) -> Result<Focus<'a>, Stop>
-    ensures { Leads (λ x. at x (stack_of stack.new.items) (store_of store.new)) result (argument_step (setting_of s.now) n f span values.items (texprs (map texpr xs.now)) v (stack_of stack.old.items) (store_of store.old)) }
+    ensures { Leads (λ x. at x (stack_of stack.new.items) (store_of store.new)) result (argument_on (setting_of s.now) n f span values.items (texprs (map texpr xs.now)) v (stack_of stack.old.items) (store_of store.old)) }
 {
     match next(xs) {
         None => Ok(Focus::Came(v)),
         Some((x, later)) => {
-            let c = taken(s, n, x, v, store)?;
-            let z = argument(s, f, values.len(), x, c)?;
-            values.push(z)?;
+            took(s, n, f, x, v, &mut values, store)?;
             arguments(s, n, f, span, values, later, stack, store)
         }
     }

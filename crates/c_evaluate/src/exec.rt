@@ -6,16 +6,22 @@ ghost use Rattle.c_evaluate.specs.Results.{Leads};
 ghost use Rattle.c_evaluate.specs.FocusView.{at, stmt_frame, stack_of};
 ghost use Rattle.c_evaluate.specs.SettingView.{setting_of};
 ghost use Rattle.c_evaluate.specs.StoreView.{store_of};
-ghost use Rattle.c_evaluate.specs.Steps.{rest_of, arms_of, turn_of, asks, exec};
+ghost use Rattle.c_evaluate.specs.Steps.{rest_of, arms_of, turn_of, asks};
+ghost use Rattle.c_evaluate.specs.Swift.{asks_on, assigns_on, does_on, exec_on, steps_on};
 ghost use Rattle.c_evaluate.specs.Machine.{DoF, Going};
 
+use crate::assigning::{second_assigned, stepped_place};
 use crate::filling::vars;
 use crate::frame::{Focus, Frame, How, Stage};
+use crate::leaf::at_once;
 use crate::setting::Setting;
 use crate::stack::{next, push};
+use crate::statements::value_came;
 use crate::stop::Stop;
-use crate::store::{Store, fresh_all};
-use c_types::{TArm, TExpr, TStmt};
+use crate::store::{Store, fresh_all, released};
+use crate::using::{placed, taken};
+use c_tree::{BinOp, StepOp};
+use c_types::{TArm, TExpr, TKind, TStmt};
 use obj_mem::Cell;
 
 /// On to the next statement of a list.
@@ -102,6 +108,100 @@ pub(crate) fn ask<'a>(
     Ok(Focus::Eval(n, x))
 }
 
+/// Asks for the value that a statement needs first, and goes on with it where it comes at once.
+fn asked<'a>(
+    s: &Setting<'a>,
+    n: u32,
+    r: Cell,
+    a: &'a TStmt,
+    x: &'a TExpr,
+    stack: &mut Vec<Frame<'a>>,
+    store: &mut Store<'a>,
+) -> Result<Focus<'a>, Stop>
+    ensures { Leads (λ f. at f (stack_of stack.new.items) (store_of store.new)) result (asks_on (setting_of s.now) n r (tstmt a.now) (texpr x.now) (stack_of stack.old.items) (store_of store.old)) }
+{
+    match at_once(s, x, store) {
+        Some(v) => value_came(s, n, r, a, v, stack, store),
+        None => ask(n, r, a, x, stack),
+    }
+}
+
+/// An assignment whose place and value may come at once is done, and its value dropped.
+fn assigns<'a>(
+    s: &Setting<'a>,
+    n: u32,
+    r: Cell,
+    a: &'a TStmt,
+    e: &'a TExpr,
+    op: Option<BinOp>,
+    x: &TExpr,
+    y: &TExpr,
+    stack: &mut Vec<Frame<'a>>,
+    store: &mut Store<'a>,
+) -> Result<Focus<'a>, Stop>
+    ensures { Leads (λ f. at f (stack_of stack.new.items) (store_of store.new)) result (assigns_on (setting_of s.now) n r (tstmt a.now) (texpr e.now) op (texpr x.now) (texpr y.now) (stack_of stack.old.items) (store_of store.old)) }
+{
+    let Some(v) = at_once(s, x, store) else {
+        return ask(n, r, a, e, stack);
+    };
+    let Some(w) = at_once(s, y, store) else {
+        return ask(n, r, a, e, stack);
+    };
+    let p = placed(e.span, v)?;
+    let d = taken(s, n, y, w, store)?;
+    let z = second_assigned(s, n, op, x, y, e.span, p, d, store)?;
+    released(store, &e.ty, z);
+    Ok(Focus::Left(How::On))
+}
+
+/// A place that may come at once is stepped, and the value dropped.
+fn steps<'a>(
+    s: &Setting<'a>,
+    n: u32,
+    r: Cell,
+    a: &'a TStmt,
+    e: &'a TExpr,
+    op: StepOp,
+    x: &TExpr,
+    stack: &mut Vec<Frame<'a>>,
+    store: &mut Store<'a>,
+) -> Result<Focus<'a>, Stop>
+    ensures { Leads (λ f. at f (stack_of stack.new.items) (store_of store.new)) result (steps_on (setting_of s.now) n r (tstmt a.now) (texpr e.now) op (texpr x.now) (stack_of stack.old.items) (store_of store.old)) }
+{
+    let Some(v) = at_once(s, x, store) else {
+        return ask(n, r, a, e, stack);
+    };
+    let p = placed(e.span, v)?;
+    let z = stepped_place(s, n, op, x, e.span, p, store)?;
+    released(store, &e.ty, z);
+    Ok(Focus::Left(How::On))
+}
+
+/// An expression whose value is dropped.
+#[tactic(auto, unfolding(crate::specs::Swift::does_on))]
+fn does<'a>(
+    s: &Setting<'a>,
+    n: u32,
+    r: Cell,
+    a: &'a TStmt,
+    e: &'a TExpr,
+    stack: &mut Vec<Frame<'a>>,
+    store: &mut Store<'a>,
+) -> Result<Focus<'a>, Stop>
+    ensures { Leads (λ f. at f (stack_of stack.new.items) (store_of store.new)) result (does_on (setting_of s.now) n r (tstmt a.now) (texpr e.now) (stack_of stack.old.items) (store_of store.old)) }
+{
+    match &e.kind {
+        TKind::Assign(op, x, y) => assigns(s, n, r, a, e, *op, x, y, stack, store),
+        TKind::Step(op, x) => steps(s, n, r, a, e, *op, x, stack, store),
+        TKind::Number(_) | TKind::Null | TKind::Literal(_) | TKind::Global(_) | TKind::Local(_) =>
+            ask(n, r, a, e, stack),
+        TKind::Unary(_, _) | TKind::Binary(_, _, _) | TKind::Index(_, _) => ask(n, r, a, e, stack),
+        TKind::Member(_, _) | TKind::Arrow(_, _) | TKind::Cast(_) => ask(n, r, a, e, stack),
+        TKind::Call(_, _) | TKind::In(_) | TKind::Out(_, _) => ask(n, r, a, e, stack),
+        TKind::Wait | TKind::Halt | TKind::Card => ask(n, r, a, e, stack),
+    }
+}
+
 /// Does a part of a statement first.
 #[inline(always)]
 pub(crate) fn part<'a>(
@@ -120,7 +220,7 @@ pub(crate) fn part<'a>(
 
 /// Begins a statement.
 #[inline(always)]
-#[tactic(auto, unfolding(crate::specs::Steps::exec))]
+#[tactic(auto, unfolding(crate::specs::Swift::exec_on, crate::specs::Steps::exec))]
 pub(crate) fn exec<'a>(
     s: &Setting<'a>,
     n: u32,
@@ -129,7 +229,7 @@ pub(crate) fn exec<'a>(
     stack: &mut Vec<Frame<'a>>,
     store: &mut Store<'a>,
 ) -> Result<Focus<'a>, Stop>
-    ensures { Leads (λ x. at x (stack_of stack.new.items) (store_of store.new)) result (exec (setting_of s.now) n r (tstmt a.now) (stack_of stack.old.items) (store_of store.old)) }
+    ensures { Leads (λ x. at x (stack_of stack.new.items) (store_of store.new)) result (exec_on (setting_of s.now) n r (tstmt a.now) (stack_of stack.old.items) (store_of store.old)) }
 {
     match a {
         TStmt::Block(made, body) => {
@@ -142,10 +242,10 @@ pub(crate) fn exec<'a>(
             push(stack, Frame::Filled)?;
             vars(n, vs.as_slice(), stack, store)
         }
-        TStmt::Do(x) => ask(n, r, a, x, stack),
-        TStmt::If(x, _, None) => ask(n, r, a, x, stack),
-        TStmt::If(x, _, Some(_)) => ask(n, r, a, x, stack),
-        TStmt::While(x, _) => ask(n, r, a, x, stack),
+        TStmt::Do(x) => does(s, n, r, a, x, stack, store),
+        TStmt::If(x, _, None) => asked(s, n, r, a, x, stack, store),
+        TStmt::If(x, _, Some(_)) => asked(s, n, r, a, x, stack, store),
+        TStmt::While(x, _) => asked(s, n, r, a, x, stack, store),
         TStmt::DoWhile(body, _) => part(Stage::Body, n, r, a, body, stack),
         TStmt::For(made, first, test, _, body) => {
             fresh_all(s, store, made.as_slice())?;
@@ -155,9 +255,9 @@ pub(crate) fn exec<'a>(
                 Some(b) => part(Stage::Begin, n, r, a, b, stack),
             }
         }
-        TStmt::Switch(x, _, _) => ask(n, r, a, x, stack),
+        TStmt::Switch(x, _, _) => asked(s, n, r, a, x, stack, store),
         TStmt::Return(None) => Ok(Focus::Left(How::Return(None))),
-        TStmt::Return(Some(x)) => ask(n, r, a, x, stack),
+        TStmt::Return(Some(x)) => asked(s, n, r, a, x, stack, store),
         TStmt::Break => Ok(Focus::Left(How::Break)),
         TStmt::Continue => Ok(Focus::Left(How::Continue)),
     }

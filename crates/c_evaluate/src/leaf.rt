@@ -1,16 +1,26 @@
 // Operands that come at once.
-ghost use Rattle.std.specs.Prelude.{◌≡◌};
-ghost use Rattle.c_types.specs.View.{texpr};
+ghost use Rattle.std.specs.Prelude.{◌≡◌, Some, not};
+ghost use Rattle.c_types.specs.View.{ctype, texpr};
+ghost use Rattle.obj_mem.specs.Queries.{truth};
+ghost use Rattle.c_meaning.specs.Kinds.{decayed};
+ghost use Rattle.c_meaning.specs.Operators.{is_true};
 ghost use Rattle.c_meaning.specs.Setting.{global_at};
 ghost use Rattle.c_evaluate.specs.SettingView.{setting_of};
 ghost use Rattle.c_evaluate.specs.StoreView.{store_of};
-ghost use Rattle.c_evaluate.specs.Swift.{at_once, local_at_once};
+ghost use Rattle.c_evaluate.specs.declared.frame.Came.TheVariants.{Value};
+ghost use Rattle.c_evaluate.specs.Swift.{answered, arrow_at_once, at_once, binary_at_once, cast_at_once, comes, depth_at_once, index_at_once, is_strict, local_at_once, member_at_once, place_at_once, place_of, seen, seen_at, unary_at_once, value_at_once, with_some};
 
 use crate::frame::Came;
+use crate::operators::{cell_unary, converted, is_true, operated, read_as, stepped, truth};
+use crate::queries::step;
 use crate::setting::Setting;
 use crate::store::{Store, local_object};
-use c_types::{TExpr, TKind};
-use obj_mem::Cell;
+use c_tree::{BinOp, UnOp};
+use c_types::{CType, TExpr, TKind};
+use obj_mem::{Cell, Refusal};
+
+/// How deep operators may nest in what comes at once.
+const DEPTH: u32 = 6;
 
 #[inline(always)]
 pub(crate) fn global_at(number: u32) -> Cell
@@ -32,11 +42,249 @@ fn local_at_once(at: Option<u64>) -> Option<Came>
     }
 }
 
-/// What comes of a number, NULL, a text, a global or a local that was made; none of others, which take steps.
 #[inline(always)]
-#[tactic(auto, unfolding(crate::specs::Swift::at_once))]
-pub(crate) fn at_once<'a>(s: &Setting<'a>, x: &TExpr, store: &Store<'a>) -> Option<Came>
-    ensures { result ≡ at_once (setting_of s.now) (texpr x.now) (store_of store.now) }
+fn answered(answer: Result<Cell, Refusal>) -> Option<Cell>
+    ensures { result ≡ answered answer }
+{
+    match answer {
+        Ok(c) => Some(c),
+        Err(_) => None,
+    }
+}
+
+#[inline(always)]
+fn value_at_once(answer: Result<Cell, Refusal>) -> Option<Came>
+    ensures { result ≡ value_at_once answer }
+{
+    match answer {
+        Ok(c) => Some(Came::Value(c)),
+        Err(_) => None,
+    }
+}
+
+#[inline(always)]
+fn place_at_once(answer: Result<Cell, Refusal>) -> Option<Came>
+    ensures { result ≡ place_at_once answer }
+{
+    match answer {
+        Ok(p) => Some(Came::Place(p)),
+        Err(_) => None,
+    }
+}
+
+/// The value at a place. A structure takes an object of its own, so it does not come at once.
+#[inline(always)]
+fn seen_at<'a>(ty: &CType, p: Cell, store: &Store<'a>) -> Option<Cell>
+    ensures { result ≡ seen_at (ctype ty.now) p (store_of store.now) }
+{
+    match ty {
+        CType::Int | CType::Bool | CType::Enum(_) | CType::Pointer(_) => answered(read_as(
+            ty,
+            &store.objects,
+            p,
+        )),
+        CType::Array(_, _) => Some(p),
+        CType::Void | CType::Struct(_) | CType::Union(_) => None,
+    }
+}
+
+/// The value of what came.
+#[inline(always)]
+#[tactic(auto, unfolding(crate::specs::Swift::seen))]
+fn seen<'a>(ty: &CType, v: Came, store: &Store<'a>) -> Option<Cell>
+    ensures { result ≡ seen (ctype ty.now) v (store_of store.now) }
+{
+    match v {
+        Came::Value(c) => Some(c),
+        Came::Place(p) => seen_at(ty, p, store),
+        Came::Nothing => None,
+    }
+}
+
+#[inline(always)]
+fn place_of(v: Came) -> Option<Cell>
+    ensures { result ≡ place_of v }
+{
+    match v {
+        Came::Place(p) => Some(p),
+        Came::Value(_) | Came::Nothing => None,
+    }
+}
+
+fn negated<'a>(ty: &CType, c: Cell, store: &Store<'a>) -> Option<Came>
+    ensures { result ≡ with_some (answered (is_true (store_of store.now).objects (decayed (ctype ty.now)) c)) (λ b. Some (Value (truth (not b)))) }
+{
+    match is_true(&store.objects, ty, c) {
+        Ok(b) => Some(Came::Value(truth(!b))),
+        Err(_) => None,
+    }
+}
+
+#[tactic(auto, unfolding(crate::specs::Swift::unary_at_once))]
+fn unary_at_once<'a>(op: UnOp, ty: &CType, v: Came, store: &Store<'a>) -> Option<Came>
+    ensures { result ≡ unary_at_once op (ctype ty.now) v (store_of store.now) }
+{
+    match op {
+        UnOp::Deref => match seen(ty, v, store) {
+            None => None,
+            Some(c) => Some(Came::Place(c)),
+        },
+        UnOp::Address => match place_of(v) {
+            None => None,
+            Some(p) => Some(Came::Value(p)),
+        },
+        UnOp::Not => match seen(ty, v, store) {
+            None => None,
+            Some(c) => negated(ty, c, store),
+        },
+        UnOp::Minus | UnOp::Plus | UnOp::Flip => match seen(ty, v, store) {
+            None => None,
+            Some(c) => value_at_once(cell_unary(op, c)),
+        },
+    }
+}
+
+/// Whether an operator always has both of its operands.
+#[inline(always)]
+fn is_strict(op: BinOp) -> bool
+    ensures { result ≡ is_strict op }
+{
+    match op {
+        BinOp::AndAlso | BinOp::OrElse => false,
+        BinOp::Mul
+        | BinOp::Div
+        | BinOp::Mod
+        | BinOp::Add
+        | BinOp::Sub
+        | BinOp::Shl
+        | BinOp::Shr
+        | BinOp::Less
+        | BinOp::LessEq => true,
+        BinOp::More
+        | BinOp::MoreEq
+        | BinOp::Equal
+        | BinOp::NotEqual
+        | BinOp::BitAnd
+        | BinOp::BitXor
+        | BinOp::BitOr => true,
+    }
+}
+
+#[inline(always)]
+#[tactic(auto, unfolding(crate::specs::Swift::binary_at_once))]
+fn binary_at_once<'a>(
+    s: &Setting<'a>,
+    op: BinOp,
+    ta: &CType,
+    tb: &CType,
+    v: Came,
+    w: Came,
+    store: &Store<'a>,
+) -> Option<Came>
+    ensures { result ≡ binary_at_once (setting_of s.now) op (ctype ta.now) (ctype tb.now) v w (store_of store.now) }
+{
+    match seen(ta, v, store) {
+        None => None,
+        Some(c) => match seen(tb, w, store) {
+            None => None,
+            Some(d) => value_at_once(operated(s, op, ta, tb, &store.objects, c, d)),
+        },
+    }
+}
+
+#[inline(always)]
+#[tactic(auto, unfolding(crate::specs::Swift::index_at_once))]
+fn index_at_once<'a>(
+    s: &Setting<'a>,
+    ty: &CType,
+    ta: &CType,
+    tb: &CType,
+    v: Came,
+    w: Came,
+    store: &Store<'a>,
+) -> Option<Came>
+    ensures { result ≡ index_at_once (setting_of s.now) (ctype ty.now) (ctype ta.now) (ctype tb.now) v w (store_of store.now) }
+{
+    match seen(ta, v, store) {
+        None => None,
+        Some(c) => match seen(tb, w, store) {
+            None => None,
+            Some(d) => place_at_once(stepped(s.words(ty), c, d)),
+        },
+    }
+}
+
+/// The same, where the second operand may have come.
+#[inline(always)]
+fn binary_with<'a>(
+    s: &Setting<'a>,
+    op: BinOp,
+    ta: &CType,
+    tb: &CType,
+    v: Came,
+    w: Option<Came>,
+    store: &Store<'a>,
+) -> Option<Came>
+    ensures { result ≡ with_some w (λ z. binary_at_once (setting_of s.now) op (ctype ta.now) (ctype tb.now) v z (store_of store.now)) }
+{
+    match w {
+        None => None,
+        Some(z) => binary_at_once(s, op, ta, tb, v, z, store),
+    }
+}
+
+#[inline(always)]
+fn index_with<'a>(
+    s: &Setting<'a>,
+    ty: &CType,
+    ta: &CType,
+    tb: &CType,
+    v: Came,
+    w: Option<Came>,
+    store: &Store<'a>,
+) -> Option<Came>
+    ensures { result ≡ with_some w (λ z. index_at_once (setting_of s.now) (ctype ty.now) (ctype ta.now) (ctype tb.now) v z (store_of store.now)) }
+{
+    match w {
+        None => None,
+        Some(z) => index_at_once(s, ty, ta, tb, v, z, store),
+    }
+}
+
+#[tactic(auto, unfolding(crate::specs::Swift::member_at_once))]
+fn member_at_once(offset: u32, v: Came) -> Option<Came>
+    ensures { result ≡ member_at_once offset v }
+{
+    match place_of(v) {
+        None => None,
+        Some(p) => place_at_once(step(p, offset)),
+    }
+}
+
+#[tactic(auto, unfolding(crate::specs::Swift::arrow_at_once))]
+fn arrow_at_once<'a>(ty: &CType, offset: u32, v: Came, store: &Store<'a>) -> Option<Came>
+    ensures { result ≡ arrow_at_once (ctype ty.now) offset v (store_of store.now) }
+{
+    match seen(ty, v, store) {
+        None => None,
+        Some(c) => place_at_once(step(c, offset)),
+    }
+}
+
+#[tactic(auto, unfolding(crate::specs::Swift::cast_at_once))]
+fn cast_at_once<'a>(to: &CType, ty: &CType, v: Came, store: &Store<'a>) -> Option<Came>
+    ensures { result ≡ cast_at_once (ctype to.now) (ctype ty.now) v (store_of store.now) }
+{
+    match seen(ty, v, store) {
+        None => None,
+        Some(c) => value_at_once(converted(to, c)),
+    }
+}
+
+/// What comes of an expression whose operators nest to a depth at most; none of others, which take steps.
+#[tactic(auto, unfolding(crate::specs::Swift::comes))]
+fn comes<'a>(s: &Setting<'a>, depth: u32, x: &TExpr, store: &Store<'a>) -> Option<Came>
+    ensures { result ≡ comes (setting_of s.now) depth (texpr x.now) (store_of store.now) }
 {
     match &x.kind {
         TKind::Number(n) => Some(Came::Value(Cell::Num(*n))),
@@ -44,10 +292,89 @@ pub(crate) fn at_once<'a>(s: &Setting<'a>, x: &TExpr, store: &Store<'a>) -> Opti
         TKind::Literal(number) => Some(Came::Place(s.literal_at(*number))),
         TKind::Global(number) => Some(Came::Place(global_at(*number))),
         TKind::Local(number) => local_at_once(local_object(&store.locals, *number as usize)),
-        TKind::Unary(_, _) | TKind::Binary(_, _, _) | TKind::Assign(_, _, _) | TKind::Step(_, _) =>
-            None,
-        TKind::Index(_, _) | TKind::Member(_, _) | TKind::Arrow(_, _) | TKind::Cast(_) => None,
+        TKind::Unary(op, a) => {
+            if depth == 0 {
+                return None;
+            }
+            match comes(s, depth - 1, a, store) {
+                None => None,
+                Some(v) => unary_at_once(*op, &a.ty, v, store),
+            }
+        }
+        TKind::Binary(op, a, b) => {
+            if depth == 0 {
+                return None;
+            }
+            if !is_strict(*op) {
+                return None;
+            }
+            match comes(s, depth - 1, a, store) {
+                None => None,
+                Some(v) => binary_with(
+                    s,
+                    *op,
+                    &a.ty,
+                    &b.ty,
+                    v,
+                    comes(s, depth - 1, b, store),
+                    store,
+                ),
+            }
+        }
+        TKind::Index(a, b) => {
+            if depth == 0 {
+                return None;
+            }
+            match comes(s, depth - 1, a, store) {
+                None => None,
+                Some(v) => index_with(
+                    s,
+                    &x.ty,
+                    &a.ty,
+                    &b.ty,
+                    v,
+                    comes(s, depth - 1, b, store),
+                    store,
+                ),
+            }
+        }
+        TKind::Member(a, offset) => {
+            if depth == 0 {
+                return None;
+            }
+            match comes(s, depth - 1, a, store) {
+                None => None,
+                Some(v) => member_at_once(*offset, v),
+            }
+        }
+        TKind::Arrow(a, offset) => {
+            if depth == 0 {
+                return None;
+            }
+            match comes(s, depth - 1, a, store) {
+                None => None,
+                Some(v) => arrow_at_once(&a.ty, *offset, v, store),
+            }
+        }
+        TKind::Cast(a) => {
+            if depth == 0 {
+                return None;
+            }
+            match comes(s, depth - 1, a, store) {
+                None => None,
+                Some(v) => cast_at_once(&x.ty, &a.ty, v, store),
+            }
+        }
+        TKind::Assign(_, _, _) | TKind::Step(_, _) => None,
         TKind::Call(_, _) | TKind::In(_) | TKind::Out(_, _) => None,
         TKind::Wait | TKind::Halt | TKind::Card => None,
     }
+}
+
+/// What comes of an operand without a step; none of others, which take steps.
+#[tactic(auto, unfolding(crate::specs::Swift::at_once))]
+pub(crate) fn at_once<'a>(s: &Setting<'a>, x: &TExpr, store: &Store<'a>) -> Option<Came>
+    ensures { result ≡ at_once (setting_of s.now) (texpr x.now) (store_of store.now) }
+{
+    comes(s, DEPTH, x, store)
 }

@@ -1,0 +1,33 @@
+-- What comes at once of an operator with two operands.
+use Rattle.std.proofs.Common.{rules, ◌≡◌, ℕ, suc, ◌-◌, true, sym, ap, subst, ◌∙◌}
+use Rattle.std.specs.Prelude.{Option, Some}
+use Rattle.c_tree.specs.declared.span.Span.{Span}
+use Rattle.c_tree.specs.declared.operator.BinOp.{BinOp}
+use Rattle.c_types.specs.Types.{Ty}
+use Rattle.c_types.specs.Typed.{TExprT, Typed, BinaryK, IndexK}
+use Rattle.c_types.specs.declared.typed.TExpr.{TExpr, the_lemmas}
+use Rattle.c_types.specs.View.{ctype, texpr}
+use Rattle.obj_mem.specs.Stores.{Store}
+use Rattle.c_meaning.specs.Kinds.{type_of}
+use Rattle.c_meaning.specs.Setting.{Setting}
+use Rattle.c_evaluate.specs.declared.frame.Came.{Came}
+use Rattle.c_evaluate.specs.Swift.{with_some, is_strict, strict_at_once, binary_at_once, index_at_once, comes}
+
+pub type_is : (x : TExpr) → type_of (texpr x) ≡ ctype x.ty
+type_is x = search (rules, the_lemmas)
+
+module _ (s : Setting) (x y : TExprT) (ty : Ty) (span : Span) (u : Store) (v : Came) (o r : Option Came) where
+  index_below : (m : ℕ) → comes s m x u ≡ Some v → o ≡ comes s m y u → r ≡ with_some o (λ w. index_at_once s ty (type_of x) (type_of y) v w u) → r ≡ comes s (suc m) (Typed (IndexK x y) ty span) u
+  unfolding comes
+  index_below m f g h = h ∙ ap (λ q. with_some q (λ w. index_at_once s ty (type_of x) (type_of y) v w u)) g ∙ sym (ap (λ q. with_some q (λ v. with_some (comes s m y u) (λ w. index_at_once s ty (type_of x) (type_of y) v w u))) f)
+
+  pub index_comes : (n : ℕ) → n ≡ suc (n - 1) → comes s (n - 1) x u ≡ Some v → o ≡ comes s (n - 1) y u → r ≡ with_some o (λ w. index_at_once s ty (type_of x) (type_of y) v w u) → r ≡ comes s n (Typed (IndexK x y) ty span) u
+  index_comes n e f g h = subst (λ k. r ≡ comes s k (Typed (IndexK x y) ty span) u) (sym e) (index_below (n - 1) f g h)
+
+  binary_below : (op : BinOp) (m : ℕ) → is_strict op ≡ true → comes s m x u ≡ Some v → o ≡ comes s m y u → r ≡ with_some o (λ w. binary_at_once s op (type_of x) (type_of y) v w u) → r ≡ comes s (suc m) (Typed (BinaryK op x y) ty span) u
+  unfolding comes
+  binary_below op m e f g h = h ∙ ap (λ q. with_some q (λ w. binary_at_once s op (type_of x) (type_of y) v w u)) g ∙ sym (ap (λ b. strict_at_once b (with_some (comes s m x u) (λ v. with_some (comes s m y u) (λ w. binary_at_once s op (type_of x) (type_of y) v w u)))) e
+      ∙ ap (λ q. with_some q (λ v. with_some (comes s m y u) (λ w. binary_at_once s op (type_of x) (type_of y) v w u))) f)
+
+  pub binary_comes : (op : BinOp) (n : ℕ) → n ≡ suc (n - 1) → is_strict op ≡ true → comes s (n - 1) x u ≡ Some v → o ≡ comes s (n - 1) y u → r ≡ with_some o (λ w. binary_at_once s op (type_of x) (type_of y) v w u) → r ≡ comes s n (Typed (BinaryK op x y) ty span) u
+  binary_comes op n e i f g h = subst (λ k. r ≡ comes s k (Typed (BinaryK op x y) ty span) u) (sym e) (binary_below op (n - 1) i f g h)

@@ -1,0 +1,13 @@
+use Rattle.std.proofs.Common.{◌≡◌, length, map}
+use Rattle.c_types.specs.View.{texpr, texprs}
+use Rattle.c_evaluate.specs.FocusView.{stack_of}
+use Rattle.c_evaluate.specs.SettingView.{setting_of}
+use Rattle.c_evaluate.specs.StoreView.{store_of}
+use Rattle.c_evaluate.specs.Swift.{args_on}
+use Rattle.c_evaluate.proofs.calls.arguments.Given as goal
+
+abbrev pub decreases-arguments : goal.decreases-arguments
+decreases-arguments l = length l.left
+
+abbrev pub invariant-arguments : goal.invariant-arguments
+invariant-arguments l = args_on (setting_of l.s) l.n l.f l.span l.given.items (texprs (map texpr l.left)) (stack_of l.stack.items) (store_of l.store) ≡ args_on (setting_of l.s) l.n l.f l.span l.fn.values.items (texprs (map texpr l.xs)) (stack_of l.fn.stack.items) (store_of l.fn.store)

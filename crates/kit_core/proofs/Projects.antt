@@ -40,11 +40,11 @@ module _ (project : List ℕ) (Due : Held → Result (List ℕ) FileErr → Resu
 
   -- the project was not read
   abbrev pub Refuses : Type 0
-  Refuses = (m : Held) (f : FileErr) (r : DueRefusal) → Err (unread project f) ≡ Err (refusals.Due r) → Due m (Err f) (Err r)
+  Refuses = (m : Held) (f : FileErr) (r : DueRefusal) → unread project f ≡ refusals.Due r → Due m (Err f) (Err r)
 
   unread_due : Refuses → (m : Held) (d : Result (List ℕ) FileErr) (r : DueRefusal) → or_refused (unread project) d ≡ Err (refusals.Due r) → Due m d (Err r)
   unread_due refuses m (Ok text) r h = absurd cc
-  unread_due refuses m (Err f) r h = refuses m f r h
+  unread_due refuses m (Err f) r h = refuses m f r (cc h)
 
   own_read : (m : Held) (d : Result (List ℕ) FileErr) (name : List ℕ) → name ≡ project → project_reads (AreRead m) project d name
   own_read m (Ok text) name is = inl is

@@ -1,5 +1,6 @@
-use Rattle.std.proofs.Common.{rules, ◌≡◌, ◌∙◌, sym, subst}
-use Rattle.std.specs.Prelude.{Err, IfSome}
+use Rattle.std.proofs.Common.{rules, ◌≡◌, ◌∙◌, sym, subst, ap, ℕ}
+use Rattle.std.specs.declared.alloc.Global.{Global}
+use Rattle.std.specs.Prelude.{Err, IfSome, Vec}
 use Rattle.build_core.specs.Build.{IsBuilt}
 use Rattle.build_core.specs.Reached.{IsReadToBuild}
 use Rattle.kit_tools.specs.declared.refusal.Refusal.TheVariants as refusals
@@ -18,7 +19,7 @@ pub returns-in_err-text-clause-told : goal.returns-in_err-text-clause-told
 returns-in_err-text-clause-told g c =
     let is : c.from_residual.result ≡ Err c.in_err-text.field-0.0 = search rules in
     subst (Left c.args.project.now (read_play_due c.args.project.now c.args.map.now (run_words_from c.args.words.now)) (IsReadToPlay (run_words_from c.args.words.now)) (g.F.Reads.held c.args.files.now) (g.F.Reads.held c.read_file.new.files)) (sym is)
-    (left_unread c.args.project.now (read_play_due c.args.project.now c.args.map.now (run_words_from c.args.words.now)) (IsReadToPlay (run_words_from c.args.words.now)) (λ v. v.items) (λ m f r h. h) c.in_err-text.field-0.0
+    (left_unread c.args.project.now (read_play_due c.args.project.now c.args.map.now (run_words_from c.args.words.now)) (IsReadToPlay (run_words_from c.args.words.now)) (λ (v : Vec ℕ Global). v.items) (λ m f r h. ap Err h) c.in_err-text.field-0.0
     (g.F.Reads.held c.args.files.now) (g.F.Reads.held c.read_file.new.files) c.in_err-text.ensures.told c.in_err-text.ensures.fails c.in_err-text.ensures.held)
 
 pub returns-in_err-built-clause-told : goal.returns-in_err-built-clause-told

@@ -1,5 +1,5 @@
 -- What a configuration stands for does not look at what was done before.
-use Rattle.std.proofs.Common.{◌≡◌, ℕ, Bool, List, [], ◌∷◌, ◌++◌, length, slice_get, Option, Some, None, refl, ap, ◌∙◌}
+use Rattle.std.proofs.Common.{◌≡◌, ℕ, List, [], ◌∷◌, slice_get, Some, None, refl, ap, ◌∙◌}
 use Rattle.kit_base.specs.declared.event.Event.{Event}
 use Rattle.c_tree.specs.declared.span.Span.{Span}
 use Rattle.c_tree.specs.declared.operator.BinOp.{BinOp}
@@ -10,21 +10,18 @@ use Rattle.obj_mem.specs.declared.cell.Cell.{Cell}
 use Rattle.obj_mem.specs.Stores.{fresh_all}
 use Rattle.obj_mem.specs.Worlds.{World, on_store, spend, with_past}
 use Rattle.obj_mem.proofs.Past.{spend_past, happened_past}
-use Rattle.c_meaning.specs.declared.end.End.{End}
 use Rattle.c_meaning.specs.Outcomes as out
 use Rattle.c_meaning.specs.Outcomes.{Val, Stops, Vals, Values, Short, Went, Through, CutOff, Done, Goes, Breaks, Continues, Returns, Ended, Turn, DoTurn, nowhere, then_went, then_values, then_done}
 use Rattle.c_meaning.specs.Setting.{Setting}
 use Rattle.c_meaning.specs.Operators.{converted}
-use Rattle.c_meaning.specs.Expressions.{call, params_of, next_argument, evaluated, evaluated_all}
-use Rattle.c_meaning.specs.Initialisers.{all_filled, variables_filled}
-use Rattle.c_meaning.specs.Statements.{left, arms_before, labels, switch_done, does_all, does_arms, below}
-use Rattle.c_meaning.specs.Runs.{Final, main_done}
-use Rattle.c_meaning.proofs.Past.{val_past, vals_past, went_past, done_past, final_past, val as val_kind, went as went_kind, done as done_kind, asked_past, then_went_past, then_values_past, in_front_past, then_done_past, with_value_past, tested_past, dropped_past, truth_past, unary_past, second_operated_past, binary_past, second_assigned_past, assign_past, step_past, second_indexed_past, index_past, member_past, arrow_past, call_past, argument_past, output_past, evaluated_past, evaluated_all_past, one_past, filled_past, all_filled_past, variables_past, left_past, body_past, step_done_past, turn_past, switch_past, switched_past, returned_past, does_past, does_maybe_past, does_all_past, does_arms_past, below_past}
+use Rattle.c_meaning.specs.Expressions.{call, params_of}
+use Rattle.c_meaning.specs.Statements.{left, arms_before, labels, switch_done, does_arms, below}
+use Rattle.c_meaning.specs.Runs.{main_done}
+use Rattle.c_meaning.proofs.Past.{val_past, vals_past, went_past, done_past, final_past, val as val_kind, went as went_kind, done as done_kind, asked_past, then_went_past, then_values_past, then_done_past, with_value_past, tested_past, dropped_past, truth_past, unary_past, second_operated_past, binary_past, second_assigned_past, assign_past, step_past, second_indexed_past, index_past, member_past, arrow_past, call_past, argument_past, output_past, evaluated_past, evaluated_all_past, one_past, filled_past, all_filled_past, variables_past, left_past, body_past, step_done_past, turn_past, switch_past, switched_past, returned_past, does_past, does_maybe_past, does_all_past, does_arms_past, below_past}
 use Rattle.c_evaluate.specs.declared.frame.Came.{Came}
 use Rattle.c_evaluate.specs.declared.frame.Came.TheVariants.{Value, Place, Nothing}
-use Rattle.c_evaluate.specs.declared.frame.How.{How}
 use Rattle.c_evaluate.specs.declared.frame.How.TheVariants.{On, Break, Continue, Return}
-use Rattle.c_evaluate.specs.Machine.{FocusT, EvalF, FillF, DoF, CameF, MadeF, LeftF, FullF, CallerT, FrameT, FirstW, SecondW, ArgumentW, BackW, ValueW, StepW, BodyW, BeginW, RestW, ArmsW, EndW, SwitchW, OneW, ItemsW, VarsW, FilledW, MainW, Res, V, D, W, val, done, went, first_came, second_came, behind, types_left, argument_came, call_left, value_came, step_came, body_came, begin_came, inits_came, apply, resume, val_at, done_at, result_of}
+use Rattle.c_evaluate.specs.Machine.{FocusT, EvalF, FillF, DoF, CameF, MadeF, LeftF, FullF, CallerT, FrameT, FirstW, SecondW, ArgumentW, BackW, ValueW, StepW, BodyW, BeginW, RestW, ArmsW, EndW, SwitchW, OneW, ItemsW, VarsW, FilledW, MainW, Res, V, D, W, val, done, went, first_came, second_came, behind, types_left, argument_came, call_left, value_came, step_came, body_came, begin_came, inits_came, apply, resume, val_at, result_of}
 
 module _ (d : ℕ) (es : List Event) where
   abbrev p : World → World

@@ -1,6 +1,6 @@
 -- Arms that are counted.
-use Rattle.std.proofs.Common.{◌≡◌, ℕ, zero, suc, ◌+◌, refl, sym, ap, ◌∙◌, arith}
-use Rattle.std.specs.Prelude.{Option, Some, None, option_map}
+use Rattle.std.proofs.Common.{ℕ, ◌+◌}
+use Rattle.std.specs.Prelude.{Option, Some, None}
 
 abbrev pub onward : ℕ → Option ℕ → Option ℕ
 onward n None = None

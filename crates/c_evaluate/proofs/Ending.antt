@@ -1,5 +1,5 @@
 -- Where a run is over, no frame changes how it ended.
-use Rattle.std.proofs.Common.{◌≡◌, ℕ, Bool, List, [], ◌∷◌, slice_get, Option, Some, None, refl, ap, ◌∙◌}
+use Rattle.std.proofs.Common.{◌≡◌, ℕ, List, [], ◌∷◌, slice_get, Some, None, refl, ap, ◌∙◌}
 use Rattle.c_tree.specs.declared.span.Span.{Span}
 use Rattle.c_tree.specs.declared.operator.UnOp.{UnOp}
 use Rattle.c_tree.specs.declared.operator.UnOp.TheVariants as un
@@ -10,11 +10,11 @@ use Rattle.c_types.specs.Typed.{TExprT, Typed, TKindT, NumberK, NullK, LiteralK,
 use Rattle.obj_mem.specs.declared.cell.Cell.{Cell}
 use Rattle.obj_mem.specs.Worlds.{World}
 use Rattle.c_meaning.specs.declared.end.End.{End}
-use Rattle.c_meaning.specs.Outcomes.{Val, Stops, Vals, Went, CutOff, Done, Ended, then_values}
+use Rattle.c_meaning.specs.Outcomes.{Val, Stops, Vals, CutOff, Ended, then_values}
 use Rattle.c_meaning.specs.Setting.{Setting}
 use Rattle.c_meaning.specs.Expressions.{unary, binary, params_of, next_argument, evaluated_all, call}
 use Rattle.c_meaning.specs.Statements.{below}
-use Rattle.c_meaning.specs.Runs.{Final, final, main_done}
+use Rattle.c_meaning.specs.Runs.{final, main_done}
 use Rattle.c_evaluate.specs.Machine.{FrameT, FirstW, SecondW, ArgumentW, BackW, ValueW, StepW, BodyW, BeginW, RestW, ArmsW, EndW, SwitchW, OneW, ItemsW, VarsW, FilledW, MainW, Res, V, D, W, val, done, went, first_came, second_came, behind, types_left, argument_came, call_left, value_came, step_came, body_came, begin_came, apply, resume}
 
 module _ (s : Setting) (e : End) (w : World) where

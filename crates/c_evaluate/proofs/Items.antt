@@ -1,8 +1,8 @@
 -- The items of a list from a number on.
-use Rattle.std.proofs.Common.{◌≡◌, ℕ, zero, suc, ◌+◌, ◌≤◌, ◌<◌, List, [], ◌∷◌, map, length, drop, slice_get, refl, sym, ap, ◌∙◌, arith, subst}
+use Rattle.std.proofs.Common.{◌≡◌, ℕ, zero, suc, ◌+◌, ◌<◌, List, [], ◌∷◌, map, length, drop, slice_get, refl, sym, ap, ◌∙◌, arith}
 use Rattle.std.specs.Prelude.{Option, Some, None}
 use Rattle.std.proofs.lemmas.Option.{slice_get_within}
-use Rattle.c_types.specs.Typed.{TInitTs, NoI, MoreI}
+use Rattle.c_types.specs.Typed.{NoI, MoreI}
 use Rattle.c_types.specs.declared.typed.TInit.{TInit}
 use Rattle.c_types.specs.View.{tinit, tinits}
 use Rattle.c_evaluate.specs.FocusView.{items_from}

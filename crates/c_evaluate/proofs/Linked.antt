@@ -1,22 +1,19 @@
 -- The definitions on stores are those of the meaning, with the work that they do.
-use Rattle.std.proofs.Common.{◌≡◌, ℕ, zero, suc, ◌+◌, ◌-◌, ◌*◌, ◌≤◌, arith, Bool, true, false, List, [], ◌∷◌, ◌++◌, Option, Some, None, option_map, Result, Ok, Err, refl, sym, ap, ◌∙◌}
+use Rattle.std.proofs.Common.{◌≡◌, ℕ, zero, suc, ◌+◌, ◌-◌, ◌*◌, ◌≤◌, arith, Bool, true, false, List, [], ◌∷◌, Option, Some, None, option_map, Ok, Err, refl, ap, ◌∙◌}
 use Rattle.std.specs.Prelude.{if◌then◌else◌}
 use Rattle.c_tree.specs.declared.span.Span.{Span}
 use Rattle.c_types.specs.Types.{Ty, VoidY, IntY, BoolY, EnumY, StructY, UnionY, PointerY, ArrayY}
 use Rattle.obj_mem.specs.declared.cell.Cell.{Cell}
 use Rattle.obj_mem.specs.declared.refusal.Refusal.TheVariants.{Strays, Faults}
-use Rattle.obj_mem.specs.Objects.{ObjectT}
 use Rattle.obj_mem.specs.Stores.{Store, local_object, with_objects, with_temporary, next_object}
-use Rattle.obj_mem.specs.Worlds.{World, on_store, spend}
+use Rattle.obj_mem.specs.Worlds.{World}
 use Rattle.obj_mem.specs.Queries.{Answer, write, further, first_cell}
-use Rattle.c_meaning.specs.declared.end.End.{End}
-use Rattle.c_meaning.specs.declared.end.End.TheVariants.{Fault, Stray, OutOfBound}
 use Rattle.c_meaning.specs.Outcomes as out
 use Rattle.c_meaning.specs.Outcomes.{Val, Stops, Went, Through, CutOff, nowhere, asked, then_went}
 use Rattle.c_meaning.specs.Kinds.{is_structure}
 use Rattle.c_meaning.specs.Setting.{Setting, words, literal_at, literal_words}
 use Rattle.c_meaning.specs.Operators.{read_as}
-use Rattle.c_meaning.specs.Cells.{cell_set, next_turn, cells_set, structure_read, scalar_read, fetched, stored, released}
+use Rattle.c_meaning.specs.Cells.{cell_set, next_turn, cells_set, structure_read, scalar_read, fetched, stored}
 use Rattle.c_meaning.specs.Initialisers.{text_filled, rest_filled}
 use Rattle.c_meaning.specs.Statements.{params_stored}
 use Rattle.c_evaluate.specs.Storing.{Kept, With, at_span, then_ok, next_in, cells_in, structure_in, scalar_in, fetched_in, stored_in, text_in, rest_in, params_in}

@@ -1,8 +1,7 @@
 -- On from a part of a step: where it is over, and where it goes on.
-use Rattle.std.proofs.Common.{◌≡◌, ℕ, zero, suc, ◌+◌, ◌*◌, ◌≤◌, ◌<◌, arith, Bool, true, false, List, [], ◌∷◌, ◌++◌, Result, Ok, Err, refl, sym, ap, ap₂, ◌∙◌}
+use Rattle.std.proofs.Common.{◌≡◌, ℕ, ◌+◌, ◌*◌, ◌≤◌, ◌<◌, arith, Bool, true, false, List, [], ◌∷◌, Result, Ok, Err, ap, ◌∙◌}
 use Rattle.c_tree.specs.declared.span.Span.{Span}
 use Rattle.c_types.specs.Typed.{TExprT}
-use Rattle.kit_base.specs.declared.event.Event.{Event}
 use Rattle.obj_mem.specs.declared.cell.Cell.{Cell}
 use Rattle.obj_mem.specs.declared.refusal.Refusal.TheVariants.{Strays, Faults}
 use Rattle.obj_mem.specs.Stores.{Store}
@@ -10,8 +9,7 @@ use Rattle.obj_mem.specs.Worlds.{World, with_past, bare}
 use Rattle.obj_mem.specs.Queries.{Answer}
 use Rattle.c_meaning.specs.declared.end.End.{End}
 use Rattle.c_meaning.specs.declared.end.End.TheVariants.{Fault, Stray}
-use Rattle.c_meaning.specs.Outcomes as out
-use Rattle.c_meaning.specs.Outcomes.{Val, Stops, Vals, Went, CutOff, Done, Ended, asked, then_value, then_place, then_went, either_way}
+use Rattle.c_meaning.specs.Outcomes.{Val, Stops, Went, CutOff, Done, Ended, asked, then_value, then_place, then_went, either_way}
 use Rattle.c_meaning.specs.Kinds.{type_of, span_of, decayed}
 use Rattle.c_meaning.specs.Setting.{Setting}
 use Rattle.c_meaning.specs.Operators.{is_true}
@@ -21,11 +19,11 @@ use Rattle.c_meaning.specs.Runs.{Final, final}
 use Rattle.c_meaning.proofs.Past.{final_past}
 use Rattle.c_evaluate.specs.declared.frame.Came.{Came}
 use Rattle.c_evaluate.specs.declared.frame.Came.TheVariants.{Value, Place, Nothing}
-use Rattle.c_evaluate.specs.Evaluation.{Left, left_of}
+use Rattle.c_evaluate.specs.Evaluation.{left_of}
 use Rattle.c_evaluate.specs.Storing.{Kept, With, at_span, then_ok, fetched_in, taken, tested_in, dropped_in, placed_in}
-use Rattle.c_evaluate.specs.Machine.{FocusT, EvalF, FillF, DoF, CameF, MadeF, LeftF, FullF, FrameT, FirstW, SecondW, ArgumentW, BackW, ValueW, StepW, BodyW, BeginW, RestW, ArmsW, EndW, SwitchW, OneW, ItemsW, VarsW, FilledW, MainW, Config, Going, Over, Res, V, D, W, resume, val_at, result_of, whole, run_left, work_left}
+use Rattle.c_evaluate.specs.Machine.{FocusT, EvalF, FillF, DoF, CameF, MadeF, LeftF, FullF, FrameT, FirstW, SecondW, ArgumentW, BackW, ValueW, StepW, BodyW, BeginW, RestW, ArmsW, EndW, SwitchW, OneW, ItemsW, VarsW, FilledW, MainW, Config, Going, Over, V, D, W, resume, val_at, result_of, whole, run_left, work_left}
 use Rattle.c_evaluate.specs.Steps.{on, either_of}
-use Rattle.c_evaluate.proofs.Before.{res_past, resume_past, result_past}
+use Rattle.c_evaluate.proofs.Before.{resume_past, result_past}
 use Rattle.c_evaluate.proofs.Ending.{val_ends, done_ends, went_ends}
 use Rattle.c_evaluate.proofs.Linked.{spent, Keeps, Holds, fetched_held}
 

@@ -1,24 +1,24 @@
 -- The machine before its first step has the whole run before it.
-use Rattle.std.proofs.Common.{◌≡◌, ℕ, ◌+◌, ◌≤◌, ◌<◌, arith, min, List, [], ◌∷◌, ◌++◌, map, length, refl, sym, ap, ◌∙◌, append_assoc, inl, inr}
+use Rattle.std.proofs.Common.{◌≡◌, ℕ, ◌+◌, ◌≤◌, arith, min, List, [], ◌∷◌, ◌++◌, map, refl, sym, ap, ◌∙◌, append_assoc, inl, inr}
 use Rattle.std.specs.Prelude.{Option}
 use Rattle.std.proofs.lemmas.Bool.{cases_lt}
 use Rattle.std.proofs.Math.Nat.{min-eq_left, min-eq_right}
-use Rattle.c_types.specs.Typed.{TStmtT, TStmtTs, NoZ, MoreZ}
+use Rattle.c_types.specs.Typed.{TStmtTs, NoZ, MoreZ}
 use Rattle.c_types.specs.View.{tstmts}
 use Rattle.c_types.specs.Programs.{ProgramT}
 use Rattle.obj_mem.specs.declared.cell.Cell.TheVariants.{Unwritten}
 use Rattle.obj_mem.specs.Objects.{ObjectT, global_object, literal_object, card_object, opening_objects}
 use Rattle.obj_mem.specs.Runs.{opening_store}
 use Rattle.obj_mem.specs.Stores.{Store}
-use Rattle.obj_mem.specs.Worlds.{World, spend, bare}
+use Rattle.obj_mem.specs.Worlds.{spend, bare}
 use Rattle.c_meaning.specs.declared.end.End.{End}
 use Rattle.c_meaning.specs.Outcomes.{Done, Goes, Breaks, Continues, Returns, Ended, nowhere}
 use Rattle.c_meaning.specs.Setting.{setting}
 use Rattle.c_meaning.specs.Expressions.{call}
 use Rattle.c_meaning.specs.Statements.{does_all, below}
-use Rattle.c_meaning.specs.Runs.{main_done, main_called, inits_done, final_of}
+use Rattle.c_meaning.specs.Runs.{main_done, main_called, inits_done}
 use Rattle.c_evaluate.specs.Evaluation.{left_of, run_of}
-use Rattle.c_evaluate.specs.Machine.{FrameT, MainW, Config, Going, Over, LeftF, D, inits_came, resume, whole, run_left}
+use Rattle.c_evaluate.specs.Machine.{FrameT, MainW, Config, Over, D, inits_came, resume, whole, run_left}
 use Rattle.c_evaluate.specs.Steps.{rest_of}
 
 -- ---- the words of globals, cut at a limit

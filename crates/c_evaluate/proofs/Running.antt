@@ -1,21 +1,20 @@
 -- What the loop over steps keeps.
-use Rattle.std.proofs.Common.{◌≡◌, ℕ, ◌+◌, ◌*◌, ◌≤◌, ◌<◌, arith, List, [], ◌∷◌, ◌++◌, refl, sym, ap, ◌∙◌}
+use Rattle.std.proofs.Common.{◌≡◌, ℕ, ◌+◌, ◌*◌, ◌≤◌, ◌<◌, arith, List, [], ◌∷◌, refl, ap, ◌∙◌}
 use Rattle.kit_base.specs.declared.event.Event.{Event}
 use Rattle.obj_mem.specs.Stores.{Store}
 use Rattle.obj_mem.specs.Worlds.{bare}
 use Rattle.c_meaning.specs.declared.end.End.{End}
 use Rattle.c_meaning.specs.Setting.{Setting}
-use Rattle.c_meaning.specs.Runs.{Final}
 use Rattle.c_meaning.proofs.Past.{final_past}
 use Rattle.c_evaluate.specs.declared.frame.Came.{Came}
 use Rattle.c_evaluate.specs.declared.answer.Advanced.TheVariants.{Made, Ended}
 use Rattle.c_evaluate.specs.declared.frame.Came.TheVariants.{Value, Place, Nothing}
-use Rattle.c_evaluate.specs.Evaluation.{Gives, left_of}
-use Rattle.c_evaluate.specs.Machine.{FocusT, CameF, MadeF, FrameT, Config, Going, Over, V, resume, val_at, whole, run_left, work_left}
-use Rattle.c_evaluate.specs.Turning.{Works, GoesOn, stepped}
+use Rattle.c_evaluate.specs.Evaluation.{Gives}
+use Rattle.c_evaluate.specs.Machine.{CameF, MadeF, FrameT, Config, Going, Over, V, val_at, whole, run_left, work_left}
+use Rattle.c_evaluate.specs.Turning.{GoesOn, stepped}
 use Rattle.c_evaluate.specs.Steps.{step}
 use Rattle.c_evaluate.proofs.Before.{resume_past}
-use Rattle.c_evaluate.proofs.Moving.{Later, busy, load, size}
+use Rattle.c_evaluate.proofs.Moving.{busy, load, size}
 use Rattle.c_evaluate.specs.Swift.{step_on, stepped_on}
 use Rattle.c_evaluate.proofs.Stepping.{step_later}
 use Rattle.c_evaluate.proofs.Reaching.{Reaches, here, further, step_reaches}

@@ -1,6 +1,5 @@
 -- The frames of a vector, the last one first.
-use Rattle.std.proofs.Common.{◌≡◌, ℕ, ◌<◌, List, [], ◌∷◌, ◌++◌, map, reverse, refl, ap, ◌∙◌}
-use Rattle.std.specs.Prelude.{Option, Some, None, MatchOption}
+use Rattle.std.proofs.Common.{◌≡◌, List, [], ◌∷◌, ◌++◌, map, reverse, refl, ap, ◌∙◌}
 use Rattle.std.proofs.lemmas.List.{map-append, reverse-append}
 use Rattle.c_evaluate.specs.declared.frame.Frame.{Frame}
 use Rattle.c_evaluate.specs.FocusView.{frame, stack_of}

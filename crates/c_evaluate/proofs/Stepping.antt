@@ -1,8 +1,7 @@
 -- Each step keeps what is left of the run, and comes nearer to its end.
-use Rattle.std.proofs.Common.{◌≡◌, ℕ, zero, suc, ◌+◌, ◌*◌, ◌≤◌, ◌<◌, arith, Bool, true, false, List, [], ◌∷◌, ◌++◌, length, drop, slice_get, Result, Ok, Err, refl, sym, ap, ap₂, subst, ◌∙◌, append_assoc}
+use Rattle.std.proofs.Common.{◌≡◌, ℕ, zero, suc, ◌+◌, ◌*◌, ◌≤◌, ◌<◌, arith, Bool, true, false, List, [], ◌∷◌, ◌++◌, length, drop, slice_get, Ok, Err, refl, sym, ap, ◌∙◌, append_assoc}
 use Rattle.std.proofs.lemmas.List.{append-nil}
 use Rattle.std.specs.Prelude.{Option, Some, None, if◌then◌else◌}
-use Rattle.kit_base.specs.declared.event.Event.{Event}
 use Rattle.kit_base.specs.declared.event.Event.TheVariants as event
 use Rattle.c_tree.specs.declared.span.Span.{Span}
 use Rattle.c_tree.specs.declared.operator.UnOp.{UnOp}
@@ -11,13 +10,13 @@ use Rattle.c_tree.specs.declared.operator.BinOp.{BinOp}
 use Rattle.c_tree.specs.declared.operator.BinOp.TheVariants.{AndAlso, OrElse}
 use Rattle.c_tree.specs.declared.operator.StepOp.{StepOp}
 use Rattle.c_types.specs.Types.{Ty, IntY}
-use Rattle.c_types.specs.Typed.{TExprT, Typed, TKindT, NumberK, NullK, LiteralK, GlobalK, LocalK, UnaryK, BinaryK, AssignK, StepK, IndexK, MemberK, ArrowK, CastK, CallK, InK, OutK, WaitK, HaltK, CardK, TExprTs, NoX, MoreX, TInitT, OneI, TextI, ListI, TInitTs, NoI, MoreI, TVarT, TStmtT, BlockZ, EmptyZ, VarsZ, DoZ, IfZ, WhileZ, DoWhileZ, ForZ, SwitchZ, ReturnZ, BreakZ, ContinueZ, MaybeZ, NoneZ, SomeZ, TStmtTs, NoZ, MoreZ, TArmT, TArmTs, NoB, MoreB, CaseB, DefaultB, StmtB}
+use Rattle.c_types.specs.Typed.{TExprT, Typed, TKindT, NumberK, NullK, LiteralK, GlobalK, LocalK, UnaryK, BinaryK, AssignK, StepK, IndexK, MemberK, ArrowK, CastK, CallK, InK, OutK, WaitK, HaltK, CardK, TExprTs, NoX, MoreX, TInitT, OneI, TextI, ListI, TInitTs, NoI, MoreI, TVarT, TStmtT, BlockZ, EmptyZ, VarsZ, DoZ, IfZ, WhileZ, DoWhileZ, ForZ, SwitchZ, ReturnZ, BreakZ, ContinueZ, MaybeZ, NoneZ, SomeZ, TStmtTs, NoZ, MoreZ, TArmTs, NoB, MoreB, CaseB, DefaultB, StmtB}
 use Rattle.c_types.specs.Programs.{TFunctionT}
 use Rattle.obj_mem.specs.declared.cell.Cell.{Cell}
 use Rattle.obj_mem.specs.declared.cell.Cell.TheVariants.{Unwritten, Num, Null}
 use Rattle.obj_mem.specs.declared.refusal.Refusal.TheVariants.{Strays, Faults}
 use Rattle.obj_mem.specs.Stores.{Store, local_object, with_answers, fresh_all, end_all, has_room, entered}
-use Rattle.obj_mem.specs.Worlds.{World, on_store, spend, happened, bare}
+use Rattle.obj_mem.specs.Worlds.{World, on_store, spend}
 use Rattle.obj_mem.specs.Queries.{Answer, word_of, truth, step as pointer_step, further, first_cell}
 use Rattle.c_meaning.specs.declared.end.End.{End}
 use Rattle.c_meaning.specs.declared.end.End.TheVariants.{Halted, Starved, Stray, Deep, OutOfBound}
@@ -26,25 +25,25 @@ use Rattle.c_meaning.specs.Outcomes.{Val, Stops, Vals, Values, Short, Went, Thro
 use Rattle.c_meaning.specs.Kinds.{type_of, span_of, is_structure}
 use Rattle.c_meaning.specs.Setting.{Setting, words, result_of}
 use Rattle.c_meaning.specs.Operators.{read_as, converted, cell_unary, stepped, operated}
-use Rattle.c_meaning.specs.Cells.{end_temporary, released, cells_set, stored, member_of_value}
+use Rattle.c_meaning.specs.Cells.{released, cells_set, stored, member_of_value}
 use Rattle.c_meaning.specs.Expressions as expr
 use Rattle.c_meaning.specs.Expressions.{with_value, step_operator, gives_old, old_or_new, assigned, second_assigned, step_taken, result_place, with_result, params_of, next_argument, call_done, evaluated, evaluated_all}
 use Rattle.c_meaning.specs.Initialisers.{object_of, one_filled, filled, all_filled, variables_filled}
 use Rattle.c_meaning.specs.Statements as stmt
 use Rattle.c_meaning.specs.Statements.{arms_before, labels, does_all, does_arms, returned_as, below}
-use Rattle.c_meaning.specs.Runs.{Final, final, main_done}
+use Rattle.c_meaning.specs.Runs.{Final}
 use Rattle.c_evaluate.specs.declared.frame.Came.{Came}
 use Rattle.c_evaluate.specs.declared.frame.Came.TheVariants.{Value, Place, Nothing}
 use Rattle.c_evaluate.specs.declared.frame.How.{How}
 use Rattle.c_evaluate.specs.declared.frame.How.TheVariants.{On, Break, Continue, Return}
-use Rattle.c_evaluate.specs.Storing.{Kept, With, at_span, then_ok, cells_in, taken, tested_in, dropped_in, placed_in, stored_in, assigned_in, changed_in, stepped_in, second_assigned_in, member_in, one_in, params_in, returned_in, either}
+use Rattle.c_evaluate.specs.Storing.{Kept, With, at_span, then_ok, cells_in, taken, assigned_in, stepped_in, second_assigned_in, member_in, one_in, either}
 use Rattle.c_evaluate.specs.Machine as m
 use Rattle.c_evaluate.specs.Machine.{FocusT, EvalF, FillF, DoF, CameF, MadeF, LeftF, FullF, CallerT, FrameT, FirstW, SecondW, ArgumentW, BackW, ValueW, StepW, BodyW, BeginW, RestW, ArmsW, EndW, SwitchW, OneW, ItemsW, VarsW, FilledW, MainW, Config, Going, Over, Res, V, D, W, stopped, behind, types_left, argument_came, caller_of, call_left, apply, resume, val_at, done_at, whole}
 use Rattle.c_evaluate.specs.Steps as st
 use Rattle.c_evaluate.specs.Steps.{on, came, value, value_here, place_here, full, rest_of, arms_of, vars_of, items_of, in_room, body_of, enter, call_of, call, args_of, input, eval, unary_first, second_of_node, either_of, binary_of, member_first, first_step, combined, binary_second, second_step, argument_in, argument_step, turn_of, again, do_again, step_of, begin_of, exec, other_of, value_looped, value_step, step_step, after_body, after_on, body_step, begin_step, switched, back_step, main_step, fill, give, leave, fill_up, step}
 use Rattle.c_evaluate.specs.Turning.{Works}
 use Rattle.c_evaluate.proofs.Linked.{spent, Keeps, Holds, then_kept, then_held, asked_kept, asked_held, cells_kept, stored_kept, text_kept, rest_kept, params_kept}
-use Rattle.c_evaluate.proofs.Moving.{busy, weight, load, size, Later, to, over, Way, val_way, done_way, went_way, over_later, asked_later, kept_later, held_later, taken_later, on_then, tested_later, dropped_later, placed_later}
+use Rattle.c_evaluate.proofs.Moving.{busy, load, size, Later, to, over, Way, val_way, done_way, went_way, over_later, asked_later, kept_later, taken_later, on_then, tested_later, dropped_later, placed_later}
 
 -- ---- assignments
 

@@ -1,5 +1,5 @@
 -- A turn of a loop over cells.
-use Rattle.std.proofs.Common.{◌≡◌, ℕ, zero, suc, ◌+◌, ◌-◌, ◌<◌, Option, option_map, Result, Ok, Err, refl, sym, ap, ◌∙◌, arith, subst, ap₂}
+use Rattle.std.proofs.Common.{◌≡◌, ℕ, zero, suc, ◌-◌, ◌<◌, Option, option_map, Result, Ok, Err, sym, ap, ◌∙◌, arith, subst, ap₂}
 use Rattle.c_tree.specs.declared.span.Span.{Span}
 use Rattle.obj_mem.specs.declared.cell.Cell.{Cell}
 use Rattle.obj_mem.specs.Stores.{Store, with_objects}

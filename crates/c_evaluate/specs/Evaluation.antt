@@ -1,7 +1,6 @@
 -- What is left of a run, and what the evaluator answers.
-use Rattle.std.specs.Prelude.{ℕ, ◌≡◌, Bool, false, true, List, [], ◌∷◌, Option, Result, Ok, Err}
+use Rattle.std.specs.Prelude.{ℕ, ◌≡◌, Bool, List, [], ◌∷◌, Option}
 use Rattle.kit_base.specs.declared.event.Event.{Event}
-use Rattle.kit_base.specs.declared.name.Memory.{Memory}
 use Rattle.c_types.specs.Programs.{ProgramT}
 use Rattle.c_meaning.specs.declared.end.End.{End}
 use Rattle.c_meaning.specs.Runs.{Final, final_of}

@@ -2,7 +2,7 @@
 use Rattle.std.specs.Prelude.{ℕ, List, drop, map, reverse}
 use Rattle.c_types.specs.Typed.{TInitTs, TStmtT}
 use Rattle.c_types.specs.declared.typed.TInit.{TInit}
-use Rattle.c_types.specs.View.{ctype, texpr, texprs, tinit, tinits, tvar, tstmt, tstmts, tarm, tarms}
+use Rattle.c_types.specs.View.{texpr, texprs, tinit, tinits, tvar, tstmt, tstmts, tarm, tarms}
 use Rattle.obj_mem.specs.declared.cell.Cell.{Cell}
 use Rattle.obj_mem.specs.Stores.{Store}
 use Rattle.c_evaluate.specs.declared.frame.Focus.{Focus}

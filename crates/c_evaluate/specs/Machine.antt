@@ -1,5 +1,5 @@
 -- The machine: what it looks at, what it has still to do, and what of the meaning is left there.
-use Rattle.std.specs.Prelude.{ℕ, zero, suc, ◌≡◌, Bool, List, [], ◌∷◌, ◌++◌, length, drop, slice_get, Option, Some, None}
+use Rattle.std.specs.Prelude.{ℕ, List, [], ◌∷◌, ◌++◌, length, drop, slice_get, Option, Some, None}
 use Rattle.kit_base.specs.declared.event.Event.{Event}
 use Rattle.c_tree.specs.declared.span.Span.{Span}
 use Rattle.c_tree.specs.declared.operator.BinOp.TheVariants.{AndAlso, OrElse}
@@ -19,7 +19,7 @@ use Rattle.c_meaning.specs.Cells.{end_temporary}
 use Rattle.c_meaning.specs.Expressions.{with_value, tested, dropped, truth_of, unary, binary, second_operated, assign, second_assigned, step_taken, index, second_indexed, member_at, arrow, output, call, params_of, next_argument, all_released, evaluated, evaluated_all}
 use Rattle.c_meaning.specs.Initialisers.{one_filled, filled, all_filled, variables_filled}
 use Rattle.c_meaning.specs.Statements.{left, body_done, step_done, turn, arms_before, labels, switch_done, switched, returned, does, does_maybe, does_all, does_arms, below}
-use Rattle.c_meaning.specs.Runs.{Final, final, main_done}
+use Rattle.c_meaning.specs.Runs.{Final, main_done}
 use Rattle.c_evaluate.specs.Evaluation.{Left, left_of}
 use Rattle.c_evaluate.specs.declared.frame.Came.{Came}
 use Rattle.c_evaluate.specs.declared.frame.Came.TheVariants.{Value, Place, Nothing}

@@ -1,6 +1,5 @@
 -- The steps of the machine.
 use Rattle.std.specs.Prelude.{ℕ, zero, suc, ◌+◌, Bool, true, false, not, List, [], ◌∷◌, ◌++◌, length, slice_get, Option, Some, None, Result, Ok, Err}
-use Rattle.kit_base.specs.declared.event.Event.{Event}
 use Rattle.kit_base.specs.declared.event.Event.TheVariants as event
 use Rattle.c_tree.specs.declared.span.Span.{Span}
 use Rattle.c_tree.specs.declared.operator.UnOp.{UnOp}
@@ -29,7 +28,7 @@ use Rattle.c_evaluate.specs.declared.frame.Came.{Came}
 use Rattle.c_evaluate.specs.declared.frame.Came.TheVariants.{Value, Place, Nothing}
 use Rattle.c_evaluate.specs.declared.frame.How.{How}
 use Rattle.c_evaluate.specs.declared.frame.How.TheVariants.{On, Break, Continue, Return}
-use Rattle.c_evaluate.specs.Storing.{Kept, With, at_span, then_ok, taken, tested_in, dropped_in, placed_in, operated_in, assigned_in, stepped_in, second_assigned_in, member_in, one_in, text_in, rest_in, params_in, returned_in}
+use Rattle.c_evaluate.specs.Storing.{Kept, With, at_span, taken, tested_in, dropped_in, placed_in, operated_in, stepped_in, second_assigned_in, member_in, one_in, text_in, rest_in, params_in, returned_in}
 use Rattle.c_evaluate.specs.Machine.{FocusT, EvalF, FillF, DoF, CameF, MadeF, LeftF, FullF, CallerT, FrameT, FirstW, SecondW, ArgumentW, BackW, ValueW, StepW, BodyW, BeginW, RestW, ArmsW, EndW, SwitchW, OneW, ItemsW, VarsW, FilledW, MainW, Config, Going, Over, caller_of, back_in}
 
 -- ---- on from a result; where there is none the run is over

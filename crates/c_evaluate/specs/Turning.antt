@@ -1,5 +1,4 @@
 -- A step of the machine, where it goes on.
-use Rattle.std.specs.Prelude.{ℕ}
 use Rattle.c_meaning.specs.Setting.{Setting}
 use Rattle.c_evaluate.specs.Machine.{FocusT, MadeF, Config, Going, Over}
 use Rattle.c_evaluate.specs.Steps.{step}

@@ -1,7 +1,7 @@
 use Rattle.std.proofs.Common.{rules, ◌≡◌, ℕ, ◌*◌, ◌%◌, ap, sym, ◌∙◌, map, List, Box, Global}
 use Rattle.c_types.specs.declared.ctype.CType.{CType, the_lemmas}
 use Rattle.c_types.specs.declared.ctype.CType.TheVariants.{Array}
-use Rattle.c_types.specs.Types.{Ty, ArrayY, LayoutT}
+use Rattle.c_types.specs.Types.{ArrayY, LayoutT}
 use Rattle.c_types.specs.View.{layout, ctype}
 use Rattle.c_types.specs.Sizes.{words_of}
 use Rattle.c_evaluate.proofs.Wrapping.{wrapped_words}

@@ -1,4 +1,4 @@
-use Rattle.std.proofs.Common.{◌≡◌, ℕ, List, [], ◌∷◌, map, option_map, sym, ap, ◌∙◌}
+use Rattle.std.proofs.Common.{ℕ, List, ◌∷◌, option_map, sym, ap, ◌∙◌}
 use Rattle.c_types.specs.Typed.{TStmtT}
 use Rattle.c_types.specs.View.{tstmts}
 use Rattle.c_check.specs.View.{program}

@@ -1,4 +1,4 @@
-use Rattle.std.proofs.Common.{◌≡◌, option_map, ap, ◌∙◌}
+use Rattle.std.proofs.Common.{option_map, ap, ◌∙◌}
 use Rattle.c_check.specs.View.{program}
 use Rattle.c_evaluate.specs.Evaluation.{run_of}
 use Rattle.c_evaluate.proofs.runner.Runner.new.Goals as goal

@@ -6,5 +6,5 @@
 mod summary;
 mod text;
 
-pub use summary::summary_text;
+pub use summary::{summary_end, summary_front};
 pub use text::{project_text, source_text};

@@ -1,5 +1,5 @@
 // The texts of a program made up from a number.
-ghost use Rattle.std.specs.Prelude.{◌≡◌, IfOk};
+ghost use Rattle.std.specs.Prelude.{◌≡◌, ◌≤◌, IfOk, length};
 ghost use Rattle.gen_source.specs.Source.{project_text, function_head, function_call, function_end, function_line, function_lines, main_line, source_text};
 
 use kit_base::{Memory, join_pieces};
@@ -8,7 +8,8 @@ use std::alloc::{AllocError, Global};
 /// The text of the project: its title is `gen`, its one source `gen.c`.
 #[tactic(auto, unfolding(crate::specs::Source::project_text))]
 pub fn project_text() -> &'static [u8]
-    ensures { result.now ≡ project_text }
+    ensures text { result.now ≡ project_text }
+    ensures size { length result.now ≤ 64 }
 {
     b"title gen\nsource gen.c\n"
 }

@@ -116,6 +116,7 @@ fn each_failing_call_of_the_files_leaves_fronts(rt: HostRuntime) -> Result<(), F
             "play p a b pads e f 2 card",
             "p s pads card a a b b e e f f e f card card",
         ),
+        ("gen 4 e a b", "e e gen.c gen.c gen.c a a b b"),
     ];
     for (words, calls) in rows {
         let clean = run(&rt, alloc, words, Vec::new(alloc), Vec::new(alloc))?;
@@ -131,7 +132,7 @@ fn each_failing_call_of_the_files_leaves_fronts(rt: HostRuntime) -> Result<(), F
                 wanted.as_bytes(),
                 "{words}, call {call}"
             );
-            for output in ["a", "b", "e", "f", "card"] {
+            for output in ["a", "b", "e", "f", "card", "gen.c"] {
                 assert!(rt;
                     is_front(&ran.files, &clean.files, output),
                     "{words}, call {call}"
@@ -157,6 +158,12 @@ fn each_refused_put_leaves_a_front(rt: HostRuntime) -> Result<(), Fail> {
             0u8,
         ),
         ("check p", "ok\n", 1, 0),
+        (
+            "gen 1 e a b",
+            "functions 1 tokens 29 out 0x00000008\n",
+            2,
+            0,
+        ),
         (
             "run faulty pads a b 2 none",
             "undecodable at 0x20000002 in first at a.c:7\n",

@@ -14,12 +14,14 @@ use Rattle.kit_tools.specs.declared.refusal.Refusal.{Refusal}
 use Rattle.kit_tools.specs.declared.refusal.Refusal.TheVariants as refusals
 use Rattle.kit_tools.specs.Causes.{IsUnrisen}
 use Rattle.kit_tools.specs.Running.{settings_due, run_due}
-use Rattle.kit_words.specs.Command.{RunWords, Command, Build, Convert, Trace, Run, Play, Check, command_of}
+use Rattle.kit_words.specs.Command.{RunWords, Command, Build, Convert, Trace, Run, Play, Check, Gen, command_of}
 use Rattle.kit_tools.specs.Work.{Work, ComesBy}
 use Rattle.kit_tools.specs.Converting.{convert_due}
 use Rattle.kit_tools.specs.Tracing.{trace_due}
-use Rattle.kit_core.specs.Due.{read_build_due, read_build_refused, read_check_due, read_play_due, form_due, form_refused, command_due, command_refused}
-use Rattle.kit_core.specs.Outcome.{IsShown, EndsAs, Done, Refused, FileFault, OutOfMemory, SinkFault, IsOutcome, status_due}
+use Rattle.kit_core.specs.Due.{read_build_due, number_gen_due, read_build_refused, read_check_due, read_play_due, form_due, form_refused, command_due, command_refused}
+use Rattle.kit_core.specs.Outcome.{IsShown, EndsAs, Done, Refused, FileFault, OutOfMemory, SinkFault, FrontFault, FrontCutOff, HasDueStatus, IsOutcome, status_due}
+use Rattle.kit_core.specs.Generating.{front_of, functions_due}
+use Rattle.kit_core.proofs.Behind.{plain_ends, refused_plain}
 
 -- where no work with effects is due, nothing changed
 module _ (Due : Result Work DueRefusal → Type 0) (Reads : List ℕ → Type 0) (m : Held) (after : Option Held) (none : (w : Work) → Due (Ok w) → w.effects ≡ []) where
@@ -72,6 +74,11 @@ no_play law project map_name words m (Ok text) e w (inl h) k = law m text k.buil
 no_play law project map_name words m (Ok text) e w (inr h) k = differ (settings_due words m) (refusals.Due e) k.settings h k.settings_are
 no_play law project map_name words m (Err f) e w h k = absurd cc
 
+-- nor of a number out of its range
+no_gen : (d : Result ℕ DueRefusal) (project cart map_name : List ℕ) (m : Held) (e : DueRefusal) (w : Work) → d ≡ Err e → number_gen_due d project cart map_name m (Ok w) → ⊥
+no_gen (Ok n) project cart map_name m e w h k = absurd cc
+no_gen (Err r) project cart map_name m e w h k = absurd cc
+
 form_still : Law → (c : Option Command) (m : Held) (e : DueRefusal) → form_refused c m e → (w : Work) → form_due c m (Ok w) → w.effects ≡ []
 form_still law None m e h w k = absurd cc
 form_still law (Some (Build project cart map_name)) m e h w k = absurd (no_build law project cart map_name m (due m project) e w h k)
@@ -80,11 +87,14 @@ form_still law (Some (Trace cart answers card steps)) m e h w k = absurd (differ
 form_still law (Some (Run words)) m e h w k = absurd (differ (run_due words m) (refusals.Due e) w h k)
 form_still law (Some (Play project map_name words)) m e h w k = absurd (no_play law project map_name words m (due m project) e w h k)
 form_still law (Some (Check project)) m e h w k = check_still project m (due m project) w k
+form_still law (Some (Gen number project cart map_name)) m e h w k = absurd (no_gen (functions_due number) project cart map_name m e w h k)
 
 pub untouched_told : Law → (words : List (List ℕ)) (status : ℕ) (told after : Option Held) (before put : Option (List ℕ))
     → IfSome told (λ m. IsOutcome words m status after before put) → IfSome told (λ m. (e : DueRefusal) → command_refused words m e → after ≡ told)
 untouched_told law words status None after before put outcome = tt
-untouched_told law words status (Some m) after before put outcome = λ e h. ends_still _ _ m after (form_still law (command_of words) m e h) status before put outcome
+untouched_told law words status (Some m) after before put outcome = λ e h.
+    ends_still _ _ m after (form_still law (command_of words) m e h) status before put
+    (plain_ends (command_of words) m status after before put (refused_plain (command_of words) m e h) outcome)
 
 -- where no call failed, the status is one that is due, or 8
 ends_due : (Due : Result Work DueRefusal → Type 0) (Reads : List ℕ → Type 0) (m : Held) (status : ℕ) (after : Option Held) (before put : Option (List ℕ))
@@ -95,9 +105,21 @@ ends_due Due Reads m status after before put (FileFault h) five nine = absurd (f
 ends_due Due Reads m status after before put (OutOfMemory s h) five nine = inr s
 ends_due Due Reads m status after before put (SinkFault s h) five nine = absurd (nine s)
 
+module _ (words : List (List ℕ)) (m : Held) (status : ℕ) (after : Option Held) (before put : Option (List ℕ)) (five : status ≡ 5 → ⊥) (nine : status ≡ 9 → ⊥) where
+  due_behind : (made : Held) → all_done (front_of (command_of words)) (Some m) ≡ Some made
+      → ((d : Result Work DueRefusal) × command_due words made d × (status ≡ status_due d)) ⊎ (status ≡ 8) → HasDueStatus words m status ⊎ (status ≡ 8)
+  due_behind made is (inl h) = inl (record { made = made; made_is = is; answer = h.0; is_due = h.1; status_is = h.2 })
+  due_behind made is (inr eight) = inr eight
+
+  outcome_due : IsOutcome words m status after before put → HasDueStatus words m status ⊎ (status ≡ 8)
+  outcome_due (inl h) = due_behind h.made h.made_is (ends_due _ _ h.made status after before put h.ends five nine)
+  outcome_due (inr (FrontFault name cut s p)) = absurd (five s)
+  outcome_due (inr (FrontCutOff e comes (inl s) count line_count p)) = inr s
+  outcome_due (inr (FrontCutOff e comes (inr s) count line_count p)) = absurd (nine s)
+
 pub complete_told : (words : List (List ℕ)) (status : ℕ) (told after : Option Held) (before put : Option (List ℕ)) (f f' s s' : ℕ)
     → (status ≡ 5 → Rose f f') → (status ≡ 9 → Rose s s') → IfSome told (λ m. IsOutcome words m status after before put)
-    → IfSome told (λ m. IsUnrisen f f' → IsUnrisen s s' → ((d : Result Work DueRefusal) × command_due words m d × (status ≡ status_due d)) ⊎ (status ≡ 8))
+    → IfSome told (λ m. IsUnrisen f f' → IsUnrisen s s' → HasDueStatus words m status ⊎ (status ≡ 8))
 complete_told words status None after before put f f' s s' five nine outcome = tt
 complete_told words status (Some m) after before put f f' s s' five nine outcome =
-    λ no_fault no_unput. ends_due _ _ m status after before put outcome (λ e. no_fault (five e)) (λ e. no_unput (nine e))
+    λ no_fault no_unput. outcome_due words m status after before put (λ e. no_fault (five e)) (λ e. no_unput (nine e)) outcome

@@ -1,6 +1,7 @@
 pub mod Showing
 pub mod Reasons
 pub mod Outcomes
+pub mod Behind
 pub mod Writes
 pub mod Headlines
 pub mod Traces
@@ -12,3 +13,4 @@ pub mod Builds
 pub mod PlayedFiles
 pub mod Plays
 pub mod Ends
+pub mod Generates

@@ -17,7 +17,8 @@ use Rattle.kit_tools.specs.declared.refusal.Refusal.TheVariants as refusals
 use Rattle.kit_tools.specs.declared.running.Loaded.{Loaded}
 use Rattle.kit_tools.specs.declared.running.LoadedSettings.{LoadedSettings}
 use Rattle.kit_tools.specs.declared.shown.Shown.{Shown}
-use Rattle.kit_words.specs.Command.{RunWords, are_apart}
+use Rattle.kit_words.specs.Command.{RunWords, command_of}
+use Rattle.kit_words.proofs.Created.{are_apart, play_differ}
 use Rattle.kit_core.specs.Due.{IsUnplayed, not_built, not_set, form_due, outputs_of, play_due, play_effects, play_work, read_play_due, unbuilt, IsReadToPlay}
 use Rattle.kit_tools.specs.Work.{Work}
 use Rattle.kit_tools.specs.Running.{Game, game_with, names_in, settings_due, settings_reads}
@@ -28,8 +29,10 @@ use Rattle.kit_core.specs.Checking.{IsOneUnlessStopped, TextBuilt}
 use Rattle.kit_core.specs.Headline.{IsPlayedInto, PlayStands}
 use Rattle.kit_core.specs.Outcome.{putting, IsOutcome}
 use Rattle.kit_tools.proofs.Cutting.{in_first, in_second, not_begun}
+use Rattle.kit_core.specs.Generating.{front_of}
+use Rattle.kit_core.proofs.Behind.{plain_ends}
 use Rattle.kit_core.proofs.Headlines.{done_at_three}
-use Rattle.kit_core.proofs.PlayedFiles.{are_apart_in, cart_there, map_there}
+use Rattle.kit_core.proofs.PlayedFiles.{cart_there, map_there}
 use Rattle.kit_core.proofs.Projects.{Left, WasRead, left_cut, left_done}
 use Rattle.build_core.specs.Reached.{IsReadToBuild}
 use Rattle.kit_tools.proofs.Stages.{fails_wider}
@@ -159,9 +162,9 @@ played_into project map_name words m status after before put w (Err f) apart rea
 play_stands : (words : List (List ℕ)) (m : Held) (status : ℕ) (after : Option Held) (before put : Option (List ℕ))
     → IsOutcome words m status after before put → (status ≡ 0) ⊎ (status ≡ 3) → PlayStands words m status after before put
 play_stands words m status after before put outcome z = λ project map_name run named.
-    let done = done_at_three _ _ m status after before put outcome z in
+    let done = done_at_three _ _ m status after before put (plain_ends (command_of words) m status after before put (ap front_of named) outcome) z in
     let is_due : play_due project map_name run m (Ok done.0) = subst (λ o. form_due o m (Ok done.0)) named done.1 in
-    played_into project map_name run m status after before put done.0 (due m project) (are_apart_in words project map_name run named) refl is_due done.2 done.3 done.4
+    played_into project map_name run m status after before put done.0 (due m project) (play_differ words project map_name run named) refl is_due done.2 done.3 done.4
 
 pub play_told : (words : List (List ℕ)) (status : ℕ) (told after : Option Held) (before put : Option (List ℕ))
     → IfSome told (λ m. IsOutcome words m status after before put) → IfSome told (λ m. (status ≡ 0) ⊎ (status ≡ 3) → PlayStands words m status after before put)

@@ -17,7 +17,7 @@ use Rattle.kit_core.specs.Checking.{IsOneUnlessStopped}
 use Rattle.kit_core.specs.Due.{project_reads}
 
 -- one of the refusals that are due came, or a call failed at a file that is read, and nothing was changed
-refused : (Due : Result Work DueRefusal → Type 0) (Reads : List ℕ → Type 0) (e : Refusal) (m : Held) (after : Option Held)
+pub refused : (Due : Result Work DueRefusal → Type 0) (Reads : List ℕ → Type 0) (e : Refusal) (m : Held) (after : Option Held)
     → IsOneUnlessStopped (λ r. Due (Err r)) e → FailsIn Reads e → after ≡ Some m → ComesBy e Due Reads m after
 refused Due Reads (refusals.Due r) m after h reads same = (h, same)
 refused Due Reads (refusals.Failed n) m after h reads same = inl (reads, same)

@@ -8,8 +8,10 @@ use Rattle.run_core.specs.Outputs.{run_outputs}
 use Rattle.kit_tools.specs.Work.{Work}
 use Rattle.kit_core.specs.Due.{form_due}
 use Rattle.kit_tools.specs.Running.{IsRun, RunStands, end_status, game_due, game_end, names_in, run_due}
-use Rattle.kit_words.specs.Command.{RunWords}
+use Rattle.kit_words.specs.Command.{RunWords, command_of}
 use Rattle.kit_core.specs.Outcome.{putting, IsOutcome}
+use Rattle.kit_core.specs.Generating.{front_of}
+use Rattle.kit_core.proofs.Behind.{plain_ends}
 use Rattle.kit_core.proofs.Headlines.{bind_ok, done_at_three}
 
 run_into : (words : RunWords) (m : Held) (status : ℕ) (after : Option Held) (before put : Option (List ℕ)) (work : Work)
@@ -30,7 +32,7 @@ run_into words m status after before put work d e p s =
 run_stands : (words : List (List ℕ)) (m : Held) (status : ℕ) (after : Option Held) (before put : Option (List ℕ))
     → IsOutcome words m status after before put → (status ≡ 0) ⊎ (status ≡ 3) → RunStands words m status after before put
 run_stands words m status after before put outcome z = λ run named.
-    let done = done_at_three _ _ m status after before put outcome z in
+    let done = done_at_three _ _ m status after before put (plain_ends (command_of words) m status after before put (ap front_of named) outcome) z in
     let is_due : run_due run m ≡ Ok done.0 = subst (λ o. form_due o m (Ok done.0)) named done.1 in
     run_into run m status after before put done.0 is_due done.2 done.3 done.4
 

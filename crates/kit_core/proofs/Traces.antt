@@ -13,6 +13,9 @@ use Rattle.kit_words.specs.Number.{number_of}
 use Rattle.kit_tools.specs.Work.{Work}
 use Rattle.kit_core.specs.Due.{form_due}
 use Rattle.kit_core.specs.Outcome.{putting, IsOutcome}
+use Rattle.kit_words.specs.Command.{command_of}
+use Rattle.kit_core.specs.Generating.{front_of}
+use Rattle.kit_core.proofs.Behind.{plain_ends}
 use Rattle.kit_core.proofs.Headlines.{bind_ok, done_at_zero}
 
 within_by : (n : ℕ) (over : Bool) (word : List ℕ) (count : ℕ) → nat_lt 10000000 n ≡ over → (if over then Err (refusals.Due (dues.OutOfRange word)) else Ok n) ≡ Ok count → (n ≤ 10000000) × (count ≡ n)
@@ -49,7 +52,7 @@ traced_into cart answers card steps m after before put work d e p =
 trace_stands : (words : List (List ℕ)) (m : Held) (status : ℕ) (after : Option Held) (before put : Option (List ℕ))
     → IsOutcome words m status after before put → status ≡ 0 → TraceStands words m after before put
 trace_stands words m status after before put outcome z = λ cart answers card steps named.
-    let done = done_at_zero _ _ m status after before put outcome z in
+    let done = done_at_zero _ _ m status after before put (plain_ends (command_of words) m status after before put (ap front_of named) outcome) z in
     let is_due : trace_due cart answers card steps m ≡ Ok done.0 = subst (λ o. form_due o m (Ok done.0)) named done.1 in
     traced_into cart answers card steps m after before put done.0 is_due done.2 done.3
 

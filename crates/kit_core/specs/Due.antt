@@ -18,7 +18,7 @@ use Rattle.kit_tools.specs.declared.refusal.DueRefusal.{DueRefusal}
 use Rattle.kit_tools.specs.declared.refusal.DueRefusal.TheVariants as dues
 use Rattle.kit_tools.specs.declared.refusal.Refusal.{Refusal}
 use Rattle.kit_tools.specs.declared.refusal.Refusal.TheVariants as refusals
-use Rattle.kit_words.specs.Command.{Command, RunWords, Build, Convert, Trace, Run, Play, Check, command_of}
+use Rattle.kit_words.specs.Command.{Command, RunWords, Build, Convert, Trace, Run, Play, Check, Gen, command_of}
 use Rattle.kit_tools.specs.Inputs.{unread}
 use Rattle.kit_tools.specs.Work.{Work, accepted, as_due}
 use Rattle.kit_tools.specs.Converting.{convert_due}
@@ -26,6 +26,10 @@ use Rattle.kit_tools.specs.Tracing.{trace_due, trace_reads}
 use Rattle.kit_tools.specs.Running.{Game, Settings, end_status, game_end, game_with, names_in, run_due, run_reads, settings_due, settings_reads}
 use Rattle.run_core.specs.Ending.{end_text}
 use Rattle.run_core.specs.Outputs.{run_outputs}
+use Rattle.plain_run.specs.Plain.{color_after, plain_setup}
+use Rattle.gen_source.specs.Source.{project_text}
+use Rattle.gen_source.specs.Summary.{summary_text}
+use Rattle.kit_core.specs.Generating.{functions_due, most_frames}
 
 -- The refusal of a build. A fault in a line is one of the project's text, which goes by the name
 -- that the words give it.
@@ -116,7 +120,33 @@ read_check_due project held (Err e) d = Err (unread project e) ≡ as_due d
 abbrev pub check_due : (project : List ℕ) → Held → Result Work DueRefusal → Type 0
 check_due project held d = read_check_due project held (due held project) d
 
--- what a command is due: one work or refusal, but for a build, a play and a check
+-- The outputs of what was built of the source that was made up, and the line that tells of it: the clear colour is that at the end of a run of
+-- its cartridge of at most 60 frames.
+abbrev pub gen_work : (functions : ℕ) → (cart map_name : List ℕ) → Built → Cartridge → Work
+gen_work functions cart map_name built cartridge =
+    record { effects = outputs_of cart map_name built; text = summary_text functions built.tokens (color_after (plain_setup cartridge) most_frames); status = 0 }
+
+-- what was built, from the files that are held with the project and the source among them, and the cartridge that its bytes are
+pub record IsGenerated (functions : ℕ) (cart map_name : List ℕ) (held : Held) (work : Work) : Type 0 where
+  pub built : Built
+  pub is_built : IsBuilt held project_text built
+  pub cartridge : Cartridge
+  pub cartridge_is : cart_of built.cart ≡ Ok cartridge
+  pub work_is : gen_work functions cart map_name built cartridge ≡ work
+
+abbrev pub functions_gen_due : (functions : ℕ) → (project cart map_name : List ℕ) → Held → Result Work DueRefusal → Type 0
+functions_gen_due functions project cart map_name held (Ok work) = IsGenerated functions cart map_name held work
+functions_gen_due functions project cart map_name held (Err refusal) = (e : BuildErr) × IsUnbuilt held project_text e × (unbuilt project e ≡ refusals.Due refusal)
+
+abbrev pub number_gen_due : Result ℕ DueRefusal → (project cart map_name : List ℕ) → Held → Result Work DueRefusal → Type 0
+number_gen_due (Ok functions) project cart map_name held d = functions_gen_due functions project cart map_name held d
+number_gen_due (Err refusal) project cart map_name held d = Err refusal ≡ d
+
+-- The number is told, then the project that is made up is built among the files that are held, then its cartridge is run.
+abbrev pub gen_due : (number project cart map_name : List ℕ) → Held → Result Work DueRefusal → Type 0
+gen_due number project cart map_name held d = number_gen_due (functions_due number) project cart map_name held d
+
+-- What a command is due among the files that are held, its front done: one work or refusal, but for a build, a play, a check and `gen`.
 abbrev pub work_due : Command → Held → Result Work DueRefusal → Type 0
 work_due (Build project cart map_name) held d = build_due project cart map_name held d
 work_due (Convert conversion source target) held d = convert_due conversion source target held ≡ as_due d
@@ -124,6 +154,7 @@ work_due (Trace cart answers card steps) held d = trace_due cart answers card st
 work_due (Run words) held d = run_due words held ≡ as_due d
 work_due (Play project map_name words) held d = play_due project map_name words held d
 work_due (Check project) held d = check_due project held d
+work_due (Gen number project cart map_name) held d = gen_due number project cart map_name held d
 
 abbrev pub form_due : Option Command → Held → Result Work DueRefusal → Type 0
 form_due None held d = Err dues.Usage ≡ d
@@ -134,10 +165,11 @@ abbrev pub command_due : List (List ℕ) → Held → Result Work DueRefusal →
 command_due words held d = form_due (command_of words) held d
 
 -- The words are no command, or its input is refused. The cartridge of a build or a play is no input of it: whether it is too large is known only of
--- what was built.
+-- what was built. The input of `gen` is its number.
 abbrev pub form_refused : Option Command → Held → DueRefusal → Type 0
 form_refused (Some (Build project cart map_name)) held refusal = read_build_refused project held (due held project) refusal
 form_refused (Some (Play project map_name words)) held refusal = play_refused project words held refusal
+form_refused (Some (Gen number project cart map_name)) held refusal = functions_due number ≡ Err refusal
 form_refused c held refusal = form_due c held (Err refusal)
 
 abbrev pub command_refused : List (List ℕ) → Held → DueRefusal → Type 0
@@ -170,6 +202,7 @@ command_reads (Some (Trace cart answers card steps)) held name = Contains (trace
 command_reads (Some (Run words)) held name = Contains (run_reads words) name
 command_reads (Some (Play project map_name words)) held name = play_reads project words held name
 command_reads (Some (Check project)) held name = check_reads project held name
+command_reads (Some (Gen number project cart map_name)) held name = IsReadToBuild held project_text name
 
 -- the files that the command of these words reads
 abbrev pub reads_due : List (List ℕ) → Held → (name : List ℕ) → Type 0

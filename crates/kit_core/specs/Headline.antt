@@ -1,4 +1,4 @@
--- What a status 0 says of a build, and a status 0 or 3 of a play.
+-- What a status 0 says of a build and of `gen`, and a status 0 or 3 of a play.
 use Rattle.std.specs.Prelude.{ℕ, ◌≡◌, List, ◌++◌, Option, Some, option_map, Ok, IsSomeAnd}
 use Rattle.std.specs.FinMap.{get}
 use Rattle.kit_base.specs.Held.{Held}
@@ -7,8 +7,13 @@ use Rattle.kit_base.specs.Outside.{due}
 use Rattle.build_core.specs.declared.building.Built.{Built}
 use Rattle.build_core.specs.Build.{IsBuilt}
 use Rattle.project_text.specs.MapText.{map_text}
-use Rattle.kit_words.specs.Command.{RunWords, Build, Play, command_of}
+use Rattle.kit_words.specs.Command.{RunWords, Build, Play, Gen, command_of}
+use Rattle.kit_words.specs.Forms.{source_name}
+use Rattle.gen_source.specs.Source.{project_text, source_text}
+use Rattle.gen_source.specs.Summary.{summary_text}
+use Rattle.plain_run.specs.Plain.{color_after, plain_setup}
 use Rattle.kit_core.specs.Due.{outputs_of, play_effects}
+use Rattle.kit_core.specs.Generating.{functions_due, most_frames, sources_of}
 use Rattle.kit_tools.specs.Running.{Settings, end_status, game_end, game_with, settings_due}
 use Rattle.run_core.specs.Ending.{end_text}
 use Rattle.cart_format.specs.Cartridge.{Cartridge}
@@ -53,3 +58,27 @@ pub record IsPlayedInto (project map_name : List ℕ) (words : RunWords) (held :
 abbrev pub PlayStands : List (List ℕ) → Held → ℕ → Option Held → (before put : Option (List ℕ)) → Type 0
 PlayStands words held status after before put =
     (project map_name : List ℕ) (run : RunWords) → command_of words ≡ Some (Play project map_name run) → IsPlayedInto project map_name run held status after before put
+
+-- The number is in its range. The project's file has the project's text, and `gen.c` the source of so many functions; the files `cart` and `map_name` have
+-- the cartridge and the map of what was built of these; every other file is as before. The line has how many functions and tokens there are, and
+-- the clear colour at the end of a run of that cartridge of at most 60 frames.
+pub record IsGeneratedInto (number project cart map_name : List ℕ) (held : Held) (after : Option Held) (before put : Option (List ℕ)) : Type 0 where
+  pub functions : ℕ
+  pub functions_are : functions_due number ≡ Ok functions
+  pub made : Held
+  pub made_is : all_done (sources_of project functions) (Some held) ≡ Some made
+  pub built : Built
+  pub is_built : IsBuilt made project_text built
+  pub cartridge : Cartridge
+  pub cartridge_is : cart_of built.cart ≡ Ok cartridge
+  pub outputs : after ≡ all_done (sources_of project functions ++ outputs_of cart map_name built) (Some held)
+  pub project_stands : IsSomeAnd after (λ files. get files project ≡ Some project_text)
+  pub source_stands : IsSomeAnd after (λ files. get files source_name ≡ Some (source_text functions))
+  pub cart_stands : IsSomeAnd after (λ files. get files cart ≡ Some built.cart)
+  pub map_stands : IsSomeAnd after (λ files. get files map_name ≡ Some (map_text built.map))
+  pub told : put ≡ option_map (λ bytes. bytes ++ summary_text functions built.tokens (color_after (plain_setup cartridge) most_frames)) before
+
+-- where the words are a `gen`, it was carried out
+abbrev pub GenStands : List (List ℕ) → Held → Option Held → (before put : Option (List ℕ)) → Type 0
+GenStands words held after before put =
+    (number project cart map_name : List ℕ) → command_of words ≡ Some (Gen number project cart map_name) → IsGeneratedInto number project cart map_name held after before put

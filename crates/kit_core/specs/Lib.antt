@@ -1,7 +1,9 @@
+pub mod Generating
 pub mod Due
 pub mod Limits
 pub mod Outcome
 pub mod Putting
 pub mod Checking
 pub mod Playing
+pub mod Fronts
 pub mod Headline

@@ -1,13 +1,15 @@
 -- What a command answered, left in the files and put, in the five ways that it can end.
 use Rattle.std.specs.Prelude.{ℕ, ◌≡◌, ◌⊎◌, List, ◌++◌, take, Option, Some, option_map, Result, Ok, Err}
 use Rattle.kit_base.specs.Held.{Held}
-use Rattle.kit_base.specs.Effects.{all_done}
+use Rattle.kit_base.specs.Effects.{Effect, all_done, CutShort}
 use Rattle.kit_tools.specs.declared.refusal.DueRefusal.{DueRefusal}
 use Rattle.kit_tools.specs.declared.refusal.Refusal.{Refusal}
 use Rattle.kit_tools.specs.declared.refusal.Refusal.TheVariants as refusals
 use Rattle.kit_tools.specs.Refusal.{due_line, due_status, line_of}
+use Rattle.kit_words.specs.Command.{Command, command_of}
 use Rattle.kit_tools.specs.Work.{Work, ComesBy}
-use Rattle.kit_core.specs.Due.{command_due, reads_due}
+use Rattle.kit_core.specs.Due.{command_due, command_reads, form_due}
+use Rattle.kit_core.specs.Generating.{front_of}
 
 -- what was put, with that piece behind it, where it is told
 abbrev pub putting : List ℕ → Option (List ℕ) → Option (List ℕ)
@@ -60,12 +62,42 @@ pub data EndsAs (Due : Result Work DueRefusal → Type 0) (Reads : List ℕ → 
   OutOfMemory : status ≡ 8 → IsCutOff Due Reads held after before put → EndsAs Due Reads held status after before put
   SinkFault : status ≡ 9 → IsCutOff Due Reads held after before put → EndsAs Due Reads held status after before put
 
+-- A refusal that comes before a command's front or inside it: a call on one of the front's files failed, or memory ran out.
+abbrev pub ComesInFront : Refusal → List Effect → Held → Option Held → Type 0
+ComesInFront (refusals.Due refusal) front held after = ⊥
+ComesInFront (refusals.Failed name) front held after = CutShort name front (Some held) after
+ComesInFront refusals.Memory front held after = (after ≡ Some held) ⊎ ((name : List ℕ) × CutShort name front (Some held) after)
+
+-- Then its line is put at status 5, or a front of that line at 8 or 9, and then a front of the line of 8.
+pub data StopsInFront (front : List Effect) (held : Held) (status : ℕ) (after : Option Held) (before put : Option (List ℕ)) : Type 0 where
+  FrontFault : (name : List ℕ) → CutShort name front (Some held) after → status ≡ 5 → put ≡ putting (line_of (refusals.Failed name)) before → StopsInFront front held status after before put
+  FrontCutOff : (refusal : Refusal) → ComesInFront refusal front held after → (status ≡ 8) ⊎ (status ≡ 9) → (count line_count : ℕ)
+      → put ≡ putting (take count (line_of refusal) ++ take line_count (line_of refusals.Memory)) before → StopsInFront front held status after before put
+
+-- The front is done, and the command ended among the files that are held then.
+pub record EndsBehind (front : List Effect) (Due : Held → Result Work DueRefusal → Type 0) (Reads : Held → List ℕ → Type 0) (held : Held) (status : ℕ) (after : Option Held) (before put : Option (List ℕ)) : Type 0 where
+  pub made : Held
+  pub made_is : all_done front (Some held) ≡ Some made
+  pub ends : EndsAs (Due made) (Reads made) made status after before put
+
+abbrev pub FormEnds : Option Command → Held → ℕ → Option Held → Option (List ℕ) → Option (List ℕ) → Type 0
+FormEnds command held status after before put =
+    EndsBehind (front_of command) (form_due command) (command_reads command) held status after before put ⊎ StopsInFront (front_of command) held status after before put
+
 -- the command of these words, among the files held, ended with that status, left these files and
 -- put what is put now behind what was put before
 abbrev pub IsOutcome : List (List ℕ) → Held → ℕ → Option Held → Option (List ℕ) → Option (List ℕ) → Type 0
-IsOutcome words held status after before put = EndsAs (command_due words held) (reads_due words held) held status after before put
+IsOutcome words held status after before put = FormEnds (command_of words) held status after before put
 
 -- the status that is due, where no call fails and memory is there
 abbrev pub status_due : Result Work DueRefusal → ℕ
 status_due (Ok work) = work.status
 status_due (Err refusal) = due_status refusal
+
+-- the status is one that is due among the files with the command's front done
+pub record HasDueStatus (words : List (List ℕ)) (held : Held) (status : ℕ) : Type 0 where
+  pub made : Held
+  pub made_is : all_done (front_of (command_of words)) (Some held) ≡ Some made
+  pub answer : Result Work DueRefusal
+  pub is_due : command_due words made answer
+  pub status_is : status ≡ status_due answer

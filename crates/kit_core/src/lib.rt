@@ -9,6 +9,7 @@
 mod build_refusal;
 mod building;
 mod checking;
+mod generating;
 mod playing;
 mod top;
 

@@ -25,7 +25,7 @@ use kit_words::RunWords;
 use std::alloc::Global;
 
 /// The cartridge that was built. It is one that is read again, so only memory can be wanting.
-fn built_cart(alloc: Global, built: &Built) -> Result<Cart, OutOfMemory>
+pub fn built_cart(alloc: Global, built: &Built) -> Result<Cart, OutOfMemory>
     requires { IsCartText built.now.cart }
     ensures { IfOk result (λ c. cart_of built.now.cart ≡ Ok c) }
 {

@@ -1,17 +1,20 @@
 // The top call.
-ghost use Rattle.std.specs.Prelude.{◌≡◌, ◌≢◌, ◌≤◌, ◌⊎◌, ℕ, List, IfSome, Result, Err};
+ghost use Rattle.std.specs.Prelude.{◌≡◌, ◌≢◌, ◌≤◌, ◌⊎◌, ◌++◌, ℕ, List, IfSome, Err};
 ghost use Rattle.kit_base.specs.Counts.{Rose};
-ghost use Rattle.trace_core.specs.Putting.{trace_text};
+ghost use Rattle.kit_base.specs.Outside.{HasSinkCause};
+ghost use Rattle.trace_core.specs.Putting.{PutsText, trace_text};
 ghost use Rattle.run_core.specs.Ending.{end_text};
-ghost use Rattle.kit_tools.specs.Carrying.{LeavesBy, shown_status, text_of};
+ghost use Rattle.kit_tools.specs.Carrying.{shown_status, text_of};
 ghost use Rattle.kit_core.specs.Putting.{Puts, Shows};
 ghost use Rattle.kit_tools.specs.Causes.{HasCausesOr, HasOnlyRisen, IsUnrisen, counts};
-ghost use Rattle.kit_words.specs.Command.{texts};
-ghost use Rattle.kit_tools.specs.Work.{Work, accepted};
-ghost use Rattle.kit_core.specs.Due.{command_due, command_refused, reads_due};
-ghost use Rattle.kit_core.specs.Headline.{BuildStands, PlayStands};
+ghost use Rattle.kit_words.specs.Command.{command_of, texts};
+ghost use Rattle.gen_source.specs.Summary.{summary_end};
+ghost use Rattle.kit_tools.specs.Work.{accepted};
+ghost use Rattle.kit_core.specs.Due.{command_refused};
+ghost use Rattle.kit_core.specs.Fronts.{Carries};
+ghost use Rattle.kit_core.specs.Headline.{BuildStands, GenStands, PlayStands};
 ghost use Rattle.kit_core.specs.Limits.{IsOver};
-ghost use Rattle.kit_core.specs.Outcome.{IsOutcome, status_due};
+ghost use Rattle.kit_core.specs.Outcome.{HasDueStatus, IsOutcome};
 ghost use Rattle.kit_tools.specs.declared.refusal.DueRefusal.{DueRefusal};
 ghost use Rattle.kit_tools.specs.Refusal.{IsStatus, line_of, status_of};
 ghost use Rattle.kit_tools.specs.Running.{RunStands, end_status};
@@ -19,8 +22,10 @@ ghost use Rattle.kit_tools.specs.Tracing.{TraceStands};
 
 use crate::building::build_command;
 use crate::checking::check_command;
+use crate::generating::gen_command;
 use crate::playing::play_command;
 use build_core::builds_are_due_or_refused;
+use gen_source::summary_end;
 use kit_base::{Files, Sink, SinkErr};
 use kit_tools::{
     DueRefusal, Refusal, Shown, convert_command, line_of, run_command, status_of, trace_command,
@@ -106,6 +111,36 @@ fn put_end<S: Sink>(out: &mut S, ending: &Ending, end: FrameEnd) -> u8
     }
 }
 
+fn put_piece<S: Sink>(out: &mut S, piece: &[u8]) -> Result<(), SinkErr>
+    ensures puts { PutsText piece.now result (S.written out.old) (S.written out.new) }
+    ensures faults { HasSinkCause (S.faults out.old) (S.faults out.new) result }
+{
+    out.put(piece)
+}
+
+/// Puts one piece, then another.
+fn put_both<S: Sink>(out: &mut S, first: &[u8], second: &[u8]) -> Result<(), SinkErr>
+    ensures puts { PutsText (first.now ++ second.now) result (S.written out.old) (S.written out.new) }
+    ensures faults { HasSinkCause (S.faults out.old) (S.faults out.new) result }
+{
+    put_piece(out, first)?;
+    put_piece(out, second)
+}
+
+/// Puts a line that ends with the eight digits of a word.
+fn put_word<S: Sink>(out: &mut S, front: &[u8], word: u32) -> u8
+    ensures shows { Shows 0 (front.now ++ summary_end word) result (S.written out.old) (S.written out.new) }
+    ensures unput { result ≡ 9 → Rose (S.faults out.old) (S.faults out.new) }
+    ensures later { S.faults out.old ≤ S.faults out.new }
+{
+    let end = summary_end(word);
+    match put_both(out, front, &end) {
+        Ok(()) => 0,
+        Err(SinkErr::Failed) => 9,
+        Err(SinkErr::Memory) => put_last(out, OUT_OF_MEMORY, 8),
+    }
+}
+
 /// Puts the text of a command whose outputs are done.
 fn finish<S: Sink>(out: &mut S, shown: Shown) -> u8
     ensures shows { Shows (shown_status shown) (text_of shown) result (S.written out.old) (S.written out.new) }
@@ -117,12 +152,13 @@ fn finish<S: Sink>(out: &mut S, shown: Shown) -> u8
         Shown::Accepted => put_accepted(out),
         Shown::Run(trace) => put_trace(out, trace),
         Shown::Ended(ending, end) => put_end(out, &ending, end),
+        Shown::Word(front, word) => put_word(out, &front, word),
     }
 }
 
 /// Carries out the command of these words, up to its text.
 fn carry_out<F: Files>(alloc: Global, words: &[String], files: &mut F) -> Result<Shown, Refusal>
-    ensures told { IfSome (F.held files.old) (λ m. LeavesBy result (command_due (texts words.now) m) (reads_due (texts words.now) m) m (F.held files.new)) }
+    ensures told { IfSome (F.held files.old) (λ m. Carries result (command_of (texts words.now)) m (F.held files.new)) }
     ensures causes { HasCausesOr (IsOver (texts words.now) (F.held files.old)) result (counts F.faults F.misses F.overs files.old) (counts F.faults F.misses F.overs files.new) }
 {
     match command_of(alloc, words)? {
@@ -154,6 +190,14 @@ fn carry_out<F: Files>(alloc: Global, words: &[String], files: &mut F) -> Result
             },
         ) => play_command(alloc, files, project, map, &words),
         Some(Command::Check { project }) => check_command(alloc, files, project),
+        Some(
+            Command::Gen {
+                number,
+                project,
+                cart,
+                map,
+            },
+        ) => gen_command(alloc, files, number, project, cart, map),
     }
 }
 
@@ -177,7 +221,7 @@ fn status_for<F: Files, S: Sink>(alloc: Global, words: &[String], files: &mut F,
 /// status: 0 all was done, 1 the words are no listed form, 2 the sources give no program, 3 a run of
 /// a console ended by a fault or at an undecodable word, 4 a file is missing, 5 a call of the files
 /// failed, 6 a file is not of its grammar, 7 a file, or a cartridge that is to be written, is over
-/// 268,435,456 bytes, or a number of steps or frames is out of its range, 8 memory ran out, 9 the
+/// 268,435,456 bytes, or a number of steps, frames or functions is out of its range, 8 memory ran out, 9 the
 /// sink failed. On 1 to 8 a line is put that says so.
 pub fn kit<F: Files, S: Sink>(alloc: Global, words: &[String], files: &mut F, out: &mut S) -> u8
     // Where it is told what is held, the status, what is held after and what was put are those of
@@ -191,11 +235,13 @@ pub fn kit<F: Files, S: Sink>(alloc: Global, words: &[String], files: &mut F, ou
     ensures runs { IfSome (F.held files.old) (λ m. (result ≡ 0) ⊎ (result ≡ 3) → RunStands (texts words.now) m result (F.held files.new) (S.written out.old) (S.written out.new)) }
     // At 0 and 3 the outputs of a play are what was built and the outputs of its run.
     ensures plays { IfSome (F.held files.old) (λ m. (result ≡ 0) ⊎ (result ≡ 3) → PlayStands (texts words.now) m result (F.held files.new) (S.written out.old) (S.written out.new)) }
+    // At 0 the files of a `gen` are the project and the source that are made up and what was built of them, and its line was put.
+    ensures generates { IfSome (F.held files.old) (λ m. result ≡ 0 → GenStands (texts words.now) m (F.held files.new) (S.written out.old) (S.written out.new)) }
     // A command whose words or input are refused changes no file, whatever its status.
     ensures untouched { IfSome (F.held files.old) (λ m. (e : DueRefusal) → command_refused (texts words.now) m e → F.held files.new ≡ F.held files.old) }
     // Where no call failed, the status is one that is due, or 8.
     ensures complete { IfSome (F.held files.old) (λ m. IsUnrisen (F.faults files.old) (F.faults files.new) → IsUnrisen (S.faults out.old) (S.faults out.new)
-        → ((d : Result Work DueRefusal) × command_due (texts words.now) m d × (result ≡ status_due d)) ⊎ (result ≡ 8)) }
+        → HasDueStatus (texts words.now) m result ⊎ (result ≡ 8)) }
     // Refusals by the outside come only where a count rose, one of a limit also where the command
     // itself is over it.
     ensures missing { result ≡ 4 → Rose (F.misses files.old) (F.misses files.new) }

@@ -1,7 +1,8 @@
 -- What the parts of a command answer and leave, each by itself.
-use Rattle.std.specs.Prelude.{ℕ, ◌≡◌, List, [], Option, Some, Result, Ok, Err, Contains}
+use Rattle.std.specs.Prelude.{ℕ, ◌≡◌, List, [], ◌∷◌, ◌++◌, Option, Some, Result, Ok, Err, Contains}
 use Rattle.kit_base.specs.Held.{Held}
 use Rattle.kit_base.specs.Effects.{Effect, all_done, CutShort}
+use Rattle.trace_core.specs.Digits.{word_digits}
 use Rattle.trace_core.specs.Putting.{trace_text}
 use Rattle.run_core.specs.Ending.{end_text}
 use Rattle.kit_tools.specs.Running.{end_status}
@@ -40,6 +41,7 @@ text_of shown.Nothing = []
 text_of shown.Accepted = accepted.text
 text_of (shown.Run trace) = trace_text trace
 text_of (shown.Ended ending end) = end_text ending end
+text_of (shown.Word front word) = front.items ++ (word_digits word ++ 10 ∷ [])
 
 -- and the status that is answered then
 abbrev pub shown_status : Shown → ℕ
@@ -47,6 +49,7 @@ shown_status shown.Nothing = 0
 shown_status shown.Accepted = 0
 shown_status (shown.Run trace) = 0
 shown_status (shown.Ended ending end) = end_status end
+shown_status (shown.Word front word) = 0
 
 -- a whole command: its work was done but for its text, which is handed on, or its refusal came
 abbrev pub LeavesBy : Result Shown Refusal → (Result Work DueRefusal → Type 0) → (List ℕ → Type 0) → Held → Option Held → Type 0

@@ -1,0 +1,42 @@
+use Rattle.std.proofs.Common.{rules, ◌≡◌, refl}
+use Rattle.std.specs.Prelude.{Some, None}
+use Rattle.std.specs.Option.{option_map}
+use Rattle.kit_words.specs.Command.{Build, Check, Convert, Play, Run, Trace, command_of, texts}
+use Rattle.kit_words.specs.Parsed.{run_words_from}
+use Rattle.kit_core.proofs.Behind.{no_form, plainly}
+use Rattle.kit_core.proofs.top.carry_out.Goals as goal
+
+pub returns-in-None-clause-told : goal.returns-in-None-clause-told
+returns-in-None-clause-told g c =
+    let is : command_of (texts c.args.words.now) ≡ None = search rules in
+    no_form (command_of (texts c.args.words.now)) is (g.F.Reads.held c.args.files.now)
+
+pub returns-in-Some-Build-clause-told : goal.returns-in-Some-Build-clause-told
+returns-in-Some-Build-clause-told g c =
+    let is : command_of (texts c.args.words.now) ≡ Some (Build c.in-Some-Build.project.now c.in-Some-Build.cart.now c.in-Some-Build.map.now) = search rules in
+    plainly _ _ is c.build_command.result (g.F.Reads.held c.args.files.now) (g.F.Reads.held c.build_command.new.files) refl c.build_command.ensures.told
+
+pub returns-in-Some-Convert-clause-told : goal.returns-in-Some-Convert-clause-told
+returns-in-Some-Convert-clause-told g c =
+    let is : command_of (texts c.args.words.now) ≡ Some (Convert c.in-Some-Convert.conversion c.in-Some-Convert.source.now c.in-Some-Convert.target.now) = search rules in
+    plainly _ _ is c.convert_command.result (g.F.Reads.held c.args.files.now) (g.F.Reads.held c.convert_command.new.files) refl c.convert_command.ensures.told
+
+pub returns-in-Some-Trace-clause-told : goal.returns-in-Some-Trace-clause-told
+returns-in-Some-Trace-clause-told g c =
+    let is : command_of (texts c.args.words.now) ≡ Some (Trace c.in-Some-Trace.cart.now c.in-Some-Trace.answers.now (option_map (λ word. word.now) c.in-Some-Trace.card) c.in-Some-Trace.steps.now) = search rules in
+    plainly _ _ is c.trace_command.result (g.F.Reads.held c.args.files.now) (g.F.Reads.held c.trace_command.new.files) refl c.trace_command.ensures.told
+
+pub returns-in-Some-Run-clause-told : goal.returns-in-Some-Run-clause-told
+returns-in-Some-Run-clause-told g c =
+    let is : command_of (texts c.args.words.now) ≡ Some (Run (run_words_from c.in-Some-Run.words)) = search rules in
+    plainly _ _ is c.run_command.result (g.F.Reads.held c.args.files.now) (g.F.Reads.held c.run_command.new.files) refl c.run_command.ensures.told
+
+pub returns-in-Some-Play-clause-told : goal.returns-in-Some-Play-clause-told
+returns-in-Some-Play-clause-told g c =
+    let is : command_of (texts c.args.words.now) ≡ Some (Play c.in-Some-Play.project.now c.in-Some-Play.map.now (run_words_from c.in-Some-Play.words)) = search rules in
+    plainly _ _ is c.play_command.result (g.F.Reads.held c.args.files.now) (g.F.Reads.held c.play_command.new.files) refl c.play_command.ensures.told
+
+pub returns-in-Some-Check-clause-told : goal.returns-in-Some-Check-clause-told
+returns-in-Some-Check-clause-told g c =
+    let is : command_of (texts c.args.words.now) ≡ Some (Check c.in-Some-Check.project.now) = search rules in
+    plainly _ _ is c.check_command.result (g.F.Reads.held c.args.files.now) (g.F.Reads.held c.check_command.new.files) refl c.check_command.ensures.told

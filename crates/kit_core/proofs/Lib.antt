@@ -14,3 +14,4 @@ pub mod PlayedFiles
 pub mod Plays
 pub mod Ends
 pub mod Generates
+pub mod Holdings

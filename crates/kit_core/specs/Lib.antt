@@ -7,3 +7,4 @@ pub mod Checking
 pub mod Playing
 pub mod Fronts
 pub mod Headline
+pub mod Holding

@@ -13,6 +13,7 @@ ghost use Rattle.kit_tools.specs.Work.{accepted};
 ghost use Rattle.kit_core.specs.Due.{command_refused};
 ghost use Rattle.kit_core.specs.Fronts.{Carries};
 ghost use Rattle.kit_core.specs.Headline.{BuildStands, GenStands, PlayStands};
+ghost use Rattle.kit_core.specs.Holding.{FilesHold, RunFrontsStand};
 ghost use Rattle.kit_core.specs.Limits.{IsOver};
 ghost use Rattle.kit_core.specs.Outcome.{HasDueStatus, IsOutcome};
 ghost use Rattle.kit_tools.specs.declared.refusal.DueRefusal.{DueRefusal};
@@ -235,6 +236,10 @@ pub fn kit<F: Files, S: Sink>(alloc: Global, words: &[String], files: &mut F, ou
     ensures runs { IfSome (F.held files.old) (λ m. (result ≡ 0) ⊎ (result ≡ 3) → RunStands (texts words.now) m result (F.held files.new) (S.written out.old) (S.written out.new)) }
     // At 0 and 3 the outputs of a play are what was built and the outputs of its run.
     ensures plays { IfSome (F.held files.old) (λ m. (result ≡ 0) ⊎ (result ≡ 3) → PlayStands (texts words.now) m result (F.held files.new) (S.written out.old) (S.written out.new)) }
+    // At 0 and 3 the files of a run, and of a play, hold the bytes of its frames, of its sound and of its card.
+    ensures holds { IfSome (F.held files.old) (λ m. (result ≡ 0) ⊎ (result ≡ 3) → FilesHold (texts words.now) m (F.held files.new)) }
+    // At any status each file of a run is as before or holds a front of its bytes.
+    ensures fronts { IfSome (F.held files.old) (λ m. RunFrontsStand (texts words.now) m (F.held files.new)) }
     // At 0 the files of a `gen` are the project and the source that are made up and what was built of them, and its line was put.
     ensures generates { IfSome (F.held files.old) (λ m. result ≡ 0 → GenStands (texts words.now) m (F.held files.new) (S.written out.old) (S.written out.new)) }
     // A command whose words or input are refused changes no file, whatever its status.

@@ -3,6 +3,7 @@ use Rattle.kit_core.proofs.Headlines.{headline_told}
 use Rattle.kit_core.proofs.Traces.{trace_told}
 use Rattle.kit_core.proofs.Runs.{run_told}
 use Rattle.kit_core.proofs.Plays.{play_told}
+use Rattle.kit_core.proofs.Holdings.{fronts_told, hold_told}
 use Rattle.kit_core.proofs.Generates.{gen_told}
 use Rattle.kit_core.proofs.Ends.{complete_told, untouched_told}
 use Rattle.kit_core.proofs.top.kit.Goals as goal
@@ -25,6 +26,20 @@ returns-clause-runs g c =
 pub returns-clause-plays : goal.returns-clause-plays
 returns-clause-plays g c =
     play_told (texts c.args.words.now) c.status_for.result (g.F.Reads.held c.args.files.now) (g.F.Reads.held c.status_for.new.files)
+    (g.S.Sink.written c.args.out.now) (g.S.Sink.written c.status_for.new.out) c.status_for.ensures.told
+
+pub returns-clause-holds : goal.returns-clause-holds
+returns-clause-holds g c =
+    hold_told (texts c.args.words.now) c.status_for.result (g.F.Reads.held c.args.files.now) (g.F.Reads.held c.status_for.new.files)
+    (g.S.Sink.written c.args.out.now) (g.S.Sink.written c.status_for.new.out)
+    (run_told (texts c.args.words.now) c.status_for.result (g.F.Reads.held c.args.files.now) (g.F.Reads.held c.status_for.new.files)
+    (g.S.Sink.written c.args.out.now) (g.S.Sink.written c.status_for.new.out) c.status_for.ensures.told)
+    (play_told (texts c.args.words.now) c.status_for.result (g.F.Reads.held c.args.files.now) (g.F.Reads.held c.status_for.new.files)
+    (g.S.Sink.written c.args.out.now) (g.S.Sink.written c.status_for.new.out) c.status_for.ensures.told)
+
+pub returns-clause-fronts : goal.returns-clause-fronts
+returns-clause-fronts g c =
+    fronts_told (texts c.args.words.now) c.status_for.result (g.F.Reads.held c.args.files.now) (g.F.Reads.held c.status_for.new.files)
     (g.S.Sink.written c.args.out.now) (g.S.Sink.written c.status_for.new.out) c.status_for.ensures.told
 
 pub returns-clause-generates : goal.returns-clause-generates

@@ -1,5 +1,5 @@
 -- From the parts of a play to the whole, and what its statuses 0 and 3 say.
-use Rattle.std.proofs.Common.{ℕ, ◌≡◌, ◌⊎◌, List, true, refl, sym, ap, subst, ◌∙◌, inl, inr}
+use Rattle.std.proofs.Common.{ℕ, ◌≡◌, ◌⊎◌, List, true, refl, sym, ap, subst, ◌∙◌}
 use Rattle.std.specs.Prelude.{Option, Some, None, Result, Ok, Err, IfSome}
 use Rattle.kit_base.specs.Held.{Held}
 use Rattle.kit_base.specs.Effects.{all_done, written_file}
@@ -19,12 +19,12 @@ use Rattle.kit_tools.specs.declared.running.LoadedSettings.{LoadedSettings}
 use Rattle.kit_tools.specs.declared.shown.Shown.{Shown}
 use Rattle.kit_words.specs.Command.{RunWords, command_of}
 use Rattle.kit_words.proofs.Created.{are_apart, play_differ}
-use Rattle.kit_core.specs.Due.{IsUnplayed, not_built, not_set, form_due, outputs_of, play_due, play_effects, play_work, read_play_due, unbuilt, IsReadToPlay}
+use Rattle.kit_core.specs.Due.{IsUnplayed, not_built, not_set, form_due, outputs_of, play_due, play_effects, play_work, read_play_due, unbuilt, IsReadToPlay, reads_build, reads_set}
 use Rattle.kit_tools.specs.Work.{Work}
-use Rattle.kit_tools.specs.Running.{Game, game_with, names_in, settings_due, settings_reads}
+use Rattle.kit_tools.specs.Running.{Game, game_with, names_in, settings_due, IsReadToSet}
 use Rattle.kit_core.specs.Playing.{IsCarried, IsGameOf}
 use Rattle.kit_tools.specs.Gaming.{IsWritten, game_of, settings_of}
-use Rattle.kit_tools.specs.Carrying.{GivesBy, IsCut, FailsAt, FailsIn}
+use Rattle.kit_tools.specs.Carrying.{GivesBy, IsCut, FailsIn}
 use Rattle.kit_core.specs.Checking.{IsOneUnlessStopped, TextBuilt}
 use Rattle.kit_core.specs.Headline.{IsPlayedInto, PlayStands}
 use Rattle.kit_core.specs.Outcome.{putting, IsOutcome}
@@ -71,11 +71,12 @@ module _ (project text map_name : List ℕ) (words : RunWords) where
 
   pub unbuilt_reached : (e : Refusal) (held : Option Held) → IfSome held (λ m. FailsIn (IsReadToBuild m text) e) → MayFail e held
   unbuilt_reached e None h = tt
-  unbuilt_reached e (Some m) h = fails_wider _ _ e (λ n r. inl r) h
+  unbuilt_reached e (Some m) h = fails_wider _ _ e (λ n r. reads_build r) h
 
-  pub unset_reached : (e : Refusal) (held : Option Held) → FailsAt (settings_reads words) e → MayFail e held
-  unset_reached e None h = tt
-  unset_reached e (Some m) h = fails_wider _ _ e (λ n r. inr r) h
+  pub unset_reached : (e : Refusal) (b : Built) (h1 h2 : Option Held) → h2 ≡ h1 → IfSome h1 (λ m. IsBuilt m text b) → IfSome h2 (λ m. FailsIn (IsReadToSet words m) e) → MayFail e h1
+  unset_reached e b None h2 same built h = tt
+  unset_reached e b (Some m) h2 same built h =
+      fails_wider _ _ e (λ n r. reads_set b built r) (subst (λ o. IfSome o (λ k. FailsIn (IsReadToSet words k) e)) same h)
 
   pub memory_told : (held : Option Held) → MayRefuse refusals.Memory held × MayFail refusals.Memory held
   memory_told None = (tt, tt)

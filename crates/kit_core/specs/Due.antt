@@ -22,8 +22,8 @@ use Rattle.kit_words.specs.Command.{Command, RunWords, Build, Convert, Trace, Ru
 use Rattle.kit_tools.specs.Inputs.{unread}
 use Rattle.kit_tools.specs.Work.{Work, accepted, as_due}
 use Rattle.kit_tools.specs.Converting.{convert_due}
-use Rattle.kit_tools.specs.Tracing.{trace_due, trace_reads}
-use Rattle.kit_tools.specs.Running.{Game, Settings, end_status, game_end, game_with, names_in, run_due, run_reads, settings_due, settings_reads}
+use Rattle.kit_tools.specs.Tracing.{IsReadToTrace, trace_due}
+use Rattle.kit_tools.specs.Running.{Game, Settings, end_status, game_end, game_with, names_in, run_due, settings_due, IsReadToRun, IsReadToSet}
 use Rattle.run_core.specs.Ending.{end_text}
 use Rattle.run_core.specs.Outputs.{run_outputs}
 use Rattle.plain_run.specs.Plain.{color_after, plain_setup}
@@ -180,9 +180,10 @@ abbrev pub project_reads : (AreRead : (text name : List ℕ) → Type 0) → (pr
 project_reads AreRead project (Ok text) name = (name ≡ project) ⊎ AreRead text name
 project_reads AreRead project (Err e) name = name ≡ project
 
--- a play reads the pads file and the card as well
-abbrev pub IsReadToPlay : RunWords → Held → (text name : List ℕ) → Type 0
-IsReadToPlay words held text name = IsReadToBuild held text name ⊎ Contains (settings_reads words) name
+-- a play reads what is run beside its cartridge once it is built
+pub data IsReadToPlay (words : RunWords) (held : Held) (text name : List ℕ) : Type 0 where
+  reads_build : IsReadToBuild held text name → IsReadToPlay words held text name
+  reads_set : (b : Built) → IsBuilt held text b → IsReadToSet words held name → IsReadToPlay words held text name
 
 abbrev pub build_reads : (project : List ℕ) → Held → (name : List ℕ) → Type 0
 build_reads project held name = project_reads (IsReadToBuild held) project (due held project) name
@@ -198,8 +199,8 @@ abbrev pub command_reads : Option Command → Held → (name : List ℕ) → Typ
 command_reads None held name = ⊥
 command_reads (Some (Build project cart map_name)) held name = build_reads project held name
 command_reads (Some (Convert conversion source target)) held name = Contains (source ∷ []) name
-command_reads (Some (Trace cart answers card steps)) held name = Contains (trace_reads cart answers card) name
-command_reads (Some (Run words)) held name = Contains (run_reads words) name
+command_reads (Some (Trace cart answers card steps)) held name = IsReadToTrace cart answers card held name
+command_reads (Some (Run words)) held name = IsReadToRun words held name
 command_reads (Some (Play project map_name words)) held name = play_reads project words held name
 command_reads (Some (Check project)) held name = check_reads project held name
 command_reads (Some (Gen number project cart map_name)) held name = IsReadToBuild held project_text name

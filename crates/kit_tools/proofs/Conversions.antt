@@ -5,7 +5,7 @@ use Rattle.kit_base.specs.Held.{Held}
 use Rattle.kit_base.specs.Effects.{all_done, written_file}
 use Rattle.kit_tools.specs.declared.refusal.Refusal.{Refusal}
 use Rattle.kit_tools.specs.Inputs.{◌>>=◌}
-use Rattle.kit_tools.specs.Tracing.{traced_due, trace_reads, trace_due}
+use Rattle.kit_tools.specs.Tracing.{IsReadToTrace, traced_due, trace_due}
 use Rattle.kit_words.specs.declared.conversion.Conversion.{Conversion}
 use Rattle.kit_tools.specs.Converting.{made_due, convert_due, ConvertsLong}
 use Rattle.kit_tools.specs.Work.{Work, Comes, as_due}
@@ -32,13 +32,13 @@ module _ (conversion : Conversion) (source target bytes : List ℕ) where
   is_due m made = ap (λ d. d >>= λ b. Ok (record { effects = written_file target b; text = []; status = 0 })) made
 
   pub conversion_cut : (e : Refusal) (h0 h1 h2 : Option Held) → WasMade h0 → h1 ≡ h0 → IsCut e (written_file target bytes) h1 h2
-      → IfSome h0 (λ m. Comes e (convert_due conversion source target m) (source ∷ []) m h2)
+      → IfSome h0 (λ m. Comes e (convert_due conversion source target m) (Contains (source ∷ [])) m h2)
   conversion_cut e None h1 h2 made same is_cut = tt
   conversion_cut e (Some m) h1 h2 made same is_cut =
       cut e work (λ d. convert_due conversion source target m ≡ as_due d) (Contains (source ∷ [])) m h2 (is_due m made) (subst (λ h. IsCut e (written_file target bytes) h h2) same is_cut)
 
   pub conversion_done : (v : Shown) (h0 h1 h2 : Option Held) → text_of v ≡ [] → shown_status v ≡ 0 → WasMade h0 → h1 ≡ h0 → h2 ≡ all_done (written_file target bytes) h1
-      → IfSome h0 (λ m. Leaves (Ok v) (convert_due conversion source target m) (source ∷ []) m h2)
+      → IfSome h0 (λ m. Leaves (Ok v) (convert_due conversion source target m) (Contains (source ∷ [])) m h2)
   conversion_done v None h1 h2 empty nought made same done = tt
   conversion_done v (Some m) h1 h2 empty nought made same done = (work, is_due m made, done ∙ ap (all_done (written_file target bytes)) same, empty, nought)
 
@@ -54,7 +54,7 @@ other_causes conversion source held r b a h = wider_causes _ _ r b a (λ none. a
 -- nothing is created by a trace
 pub trace_opened : (cart answers : List ℕ) (card : Option (List ℕ)) (steps : List ℕ) (trace : Trace) (h0 h1 : Option Held)
     → IfSome h0 (λ m. traced_due cart answers card steps m ≡ Ok (trace_text trace)) → h1 ≡ h0
-    → IfSome h0 (λ m. Leaves (Ok (shown.Run trace)) (trace_due cart answers card steps m) (trace_reads cart answers card) m h1)
+    → IfSome h0 (λ m. Leaves (Ok (shown.Run trace)) (trace_due cart answers card steps m) (IsReadToTrace cart answers card m) m h1)
 trace_opened cart answers card steps trace None h1 told same = tt
 trace_opened cart answers card steps trace (Some m) h1 told same =
     (record { effects = []; text = trace_text trace; status = 0 }, ap (λ d. d >>= λ t. Ok (record { effects = []; text = t; status = 0 })) told, same, refl, refl)

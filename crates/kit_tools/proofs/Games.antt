@@ -1,6 +1,6 @@
 -- From the parts of a run to the whole.
 use Rattle.std.proofs.Common.{◌≡◌, inl, refl, sym, ap, subst}
-use Rattle.std.specs.Prelude.{Option, Some, None, Result, Ok, Err, IfSome, Contains}
+use Rattle.std.specs.Prelude.{Option, Some, None, Result, Ok, Err, IfSome}
 use Rattle.kit_base.specs.Held.{Held}
 use Rattle.run_core.specs.Ending.{end_text}
 use Rattle.run_core.specs.Outputs.{Names, run_outputs}
@@ -10,7 +10,7 @@ use Rattle.kit_tools.specs.declared.shown.Shown.{Shown}
 use Rattle.kit_words.specs.Command.{RunWords}
 use Rattle.kit_tools.specs.Inputs.{◌>>=◌}
 use Rattle.kit_tools.specs.Work.{Work, as_due}
-use Rattle.kit_tools.specs.Running.{run_due, Game, end_status, game_due, game_end, names_in, run_reads}
+use Rattle.kit_tools.specs.Running.{run_due, Game, end_status, game_due, game_end, names_in, IsReadToRun}
 use Rattle.kit_tools.specs.Gaming.{IsWritten}
 use Rattle.kit_tools.specs.Carrying.{Leaves}
 use Rattle.kit_tools.proofs.Stages.{cut}
@@ -34,12 +34,12 @@ module _ (words : RunWords) (game : Game) where
   })) read
 
   left_by : (r : Result Shown Refusal) (m : Held) (h2 : Option Held) → WasRead (Some m) → IsWritten (names_in words) game r (Some m) h2
-      → Leaves r (run_due words m) (run_reads words) m h2
+      → Leaves r (run_due words m) (IsReadToRun words m) m h2
   left_by (Ok v) m h2 read done = (work, is_due m read, done.outputs, done.text, done.status)
-  left_by (Err e) m h2 read is_cut = cut e work (λ d. run_due words m ≡ as_due d) (Contains (run_reads words)) m h2 (is_due m read) is_cut
+  left_by (Err e) m h2 read is_cut = cut e work (λ d. run_due words m ≡ as_due d) (IsReadToRun words m) m h2 (is_due m read) is_cut
 
   pub run_left : (r : Result Shown Refusal) (h0 h1 h2 : Option Held) → WasRead h0 → h1 ≡ h0 → IsWritten (names_in words) game r h1 h2
-      → IfSome h0 (λ m. Leaves r (run_due words m) (run_reads words) m h2)
+      → IfSome h0 (λ m. Leaves r (run_due words m) (IsReadToRun words m) m h2)
   run_left r None h1 h2 read same written = tt
   run_left r (Some m) h1 h2 read same written = left_by r m h2 read (subst (λ h. IsWritten (names_in words) game r h h2) same written)
 

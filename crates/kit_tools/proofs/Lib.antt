@@ -1,4 +1,5 @@
 pub mod Stages
+pub mod Orders
 pub mod Cutting
 pub mod Seconds
 pub mod Own

@@ -1,13 +1,14 @@
 -- From the parts of a command to the whole.
-use Rattle.std.proofs.Common.{ℕ, zero, suc, ◌≡◌, inr, List, [], ◌∷◌, arith}
-use Rattle.std.specs.Prelude.{Option, Some, Result, Ok, Err, Contains}
+use Rattle.std.proofs.Common.{ℕ, zero, suc, ◌≡◌, inl, inr, List, [], ◌∷◌, sym, ap, subst, arith}
+use Rattle.std.specs.Prelude.{Option, Some, None, Result, Ok, Err, IfSome, Contains}
 use Rattle.kit_base.specs.Held.{Held}
 use Rattle.kit_tools.specs.declared.refusal.DueRefusal.{DueRefusal}
 use Rattle.kit_tools.specs.declared.refusal.Refusal.{Refusal}
 use Rattle.kit_tools.specs.declared.refusal.Refusal.TheVariants as refusals
-use Rattle.kit_tools.specs.Inputs.{or_refused}
-use Rattle.kit_tools.specs.Work.{Work, ComesBy}
-use Rattle.kit_tools.specs.Carrying.{FailsAt, FailsIn, IsCut}
+use Rattle.kit_tools.specs.declared.shown.Shown.{Shown}
+use Rattle.kit_tools.specs.Inputs.{◌>>=◌, or_refused}
+use Rattle.kit_tools.specs.Work.{Work, as_due, ComesBy}
+use Rattle.kit_tools.specs.Carrying.{FailsAt, FailsIn, GivesBy, IsCut, Leaves}
 
 -- a writing part was cut short
 pub cut : (e : Refusal) (work : Work) (Due : Result Work DueRefusal → Type 0) (Reads : List ℕ → Type 0) (m : Held) (after : Option Held)
@@ -22,26 +23,27 @@ fails_wider A B (refusals.Due r) f h = tt
 fails_wider A B (refusals.Failed n) f h = f n h
 fails_wider A B refusals.Memory f h = tt
 
-contains_later : (x n : List ℕ) (xs : List (List ℕ)) → Contains xs n → Contains (x ∷ xs) n
-contains_later x n xs (k, within, is) = (suc k, omega arith, is)
+the_only : (x n : List ℕ) → Contains (x ∷ []) n → n ≡ x
+the_only x n (zero, within, is) = sym is
+the_only x n (suc k, within, is) = absurd (omega (arith, within))
 
-contains_first : (x n : List ℕ) (xs : List (List ℕ)) → Contains (x ∷ []) n → Contains (x ∷ xs) n
-contains_first x n xs (zero, within, is) = (0, omega arith, is)
-contains_first x n xs (suc k, within, is) = absurd (omega (arith, within))
-
-pub fails_later : (x : List ℕ) (xs : List (List ℕ)) (e : Refusal) → FailsAt xs e → FailsAt (x ∷ xs) e
-fails_later x xs e h = fails_wider _ _ e (λ n c. contains_later x n xs c) h
-
-pub fails_first : (x : List ℕ) (xs : List (List ℕ)) (e : Refusal) → FailsAt (x ∷ []) e → FailsAt (x ∷ xs) e
-fails_first x xs e h = fails_wider _ _ e (λ n c. contains_first x n xs c) h
-
--- among the names of a trace
-pub second_fails : (x y : List ℕ) (names : List (List ℕ)) (e : Refusal) → FailsAt (y ∷ []) e → FailsAt (x ∷ y ∷ names) e
-second_fails x y names e h = fails_later x (y ∷ names) e (fails_first y names e h)
-
-pub third_fails : (x y : List ℕ) (names : List (List ℕ)) (e : Refusal) → FailsAt names e → FailsAt (x ∷ y ∷ names) e
-third_fails x y names e h = fails_later x (y ∷ names) e (fails_later y names e h)
+-- of the one file that was read
+pub fails_only : (x : List ℕ) (B : List ℕ → Type 0) (e : Refusal) → ((name : List ℕ) → name ≡ x → B name) → FailsAt (x ∷ []) e → FailsIn B e
+fails_only x B e f h = fails_wider _ _ e (λ n c. f n (the_only x n c)) h
 
 pub refused_gave : {A E : Type 0} (f : E → Refusal) (r : Result A E) (x : A) → or_refused f r ≡ Ok x → r ≡ Ok x
 refused_gave f (Ok y) x e = cc
 refused_gave f (Err d) x e = cc
+
+-- a reading part stopped a command, and nothing was changed
+module _ {X A : Type 0} (view : X → A) (due : Held → Result A Refusal) (f : A → Result Work Refusal) (Reads : Held → List ℕ → Type 0) where
+  stopped : (e : Refusal) (m : Held) (after : Option Held) → GivesBy {X = X} view (Err e) (due m) → FailsIn (Reads m) e → after ≡ Some m
+      → ComesBy e (λ d. (due m >>= f) ≡ as_due d) (Reads m) m after
+  stopped (refusals.Due r) m after gave fails same = (ap (λ d. d >>= f) gave, same)
+  stopped (refusals.Failed n) m after gave fails same = inl (fails, same)
+  stopped refusals.Memory m after gave fails same = inl same
+
+  pub stopped_if : (r : Result Shown Refusal) (e : Refusal) (held after : Option Held) → r ≡ Err e → IfSome held (λ m. GivesBy {X = X} view (Err e) (due m))
+      → IfSome held (λ m. FailsIn (Reads m) e) → after ≡ held → IfSome held (λ m. Leaves r (due m >>= f) (Reads m) m after)
+  stopped_if r e None after is gave fails same = tt
+  stopped_if r e (Some m) after is gave fails same = subst (λ x. Leaves x (due m >>= f) (Reads m) m after) (sym is) (stopped e m after gave fails same)

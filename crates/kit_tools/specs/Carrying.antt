@@ -57,6 +57,6 @@ LeavesBy (Ok shown) Due Reads held after =
     (work : Work) × Due (Ok work) × (after ≡ all_done work.effects (Some held)) × (text_of shown ≡ work.text) × (shown_status shown ≡ work.status)
 LeavesBy (Err refusal) Due Reads held after = ComesBy refusal Due Reads held after
 
--- the same where one thing is due, and these names are read
-abbrev pub Leaves : Result Shown Refusal → Result Work Refusal → List (List ℕ) → Held → Option Held → Type 0
-Leaves result due reads held after = LeavesBy result (λ d. due ≡ as_due d) (Contains reads) held after
+-- the same where one thing is due
+abbrev pub Leaves : Result Shown Refusal → Result Work Refusal → (List ℕ → Type 0) → Held → Option Held → Type 0
+Leaves result due Reads held after = LeavesBy result (λ d. due ≡ as_due d) Reads held after

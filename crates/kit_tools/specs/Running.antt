@@ -1,5 +1,5 @@
 -- The command `run`: what it writes, what it puts, and what its statuses 0 and 3 say.
-use Rattle.std.specs.Prelude.{ℕ, ◌≡◌, ◌&&◌, Bool, List, ◌∷◌, ◌++◌, nat_le, Option, Some, option_map, Result, Ok, Err, if◌then◌else◌}
+use Rattle.std.specs.Prelude.{ℕ, ◌≡◌, ◌&&◌, Bool, List, ◌++◌, nat_le, Option, Some, option_map, Result, Ok, Err, if◌then◌else◌, Contains}
 use Rattle.kit_base.specs.Held.{Held}
 use Rattle.kit_base.specs.Effects.{all_done}
 use Rattle.cart_format.specs.Cartridge.{Cartridge}
@@ -14,8 +14,8 @@ use Rattle.kit_tools.specs.declared.refusal.Refusal.{Refusal}
 use Rattle.kit_tools.specs.declared.refusal.Refusal.TheVariants as refusals
 use Rattle.kit_tools.specs.declared.refusal.DueRefusal.TheVariants as dues
 use Rattle.kit_words.specs.Command.{RunWords, Run, command_of}
-use Rattle.kit_tools.specs.Inputs.{◌>>=◌, or_refused, bytes_due, cart_due, card_due}
 use Rattle.kit_tools.specs.Tracing.{card_names}
+use Rattle.kit_tools.specs.Inputs.{◌>>=◌, or_refused, bytes_due, cart_due, card_due}
 use Rattle.kit_words.specs.Number.{number_of}
 use Rattle.kit_tools.specs.Work.{Work}
 
@@ -79,12 +79,15 @@ end_status (Undecodable address) = 3
 abbrev pub game_end : Game → FrameEnd
 game_end game = run_end game.setup game.count
 
--- the names that it reads, in order
-abbrev pub settings_reads : RunWords → List (List ℕ)
-settings_reads words = words.pads ∷ card_names words.card
+-- A file that is read beside the cartridge: the pads file, or the card once the pads file is of its grammar.
+pub data IsReadToSet (words : RunWords) (held : Held) (name : List ℕ) : Type 0 where
+  reads_pads : name ≡ words.pads → IsReadToSet words held name
+  reads_card : (script : Script) → pads_due words.pads held ≡ Ok script → Contains (card_names words.card) name → IsReadToSet words held name
 
-abbrev pub run_reads : RunWords → List (List ℕ)
-run_reads words = words.cart ∷ settings_reads words
+-- A file that a run reads: the cartridge, or one beside it once the cartridge is of its grammar.
+pub data IsReadToRun (words : RunWords) (held : Held) (name : List ℕ) : Type 0 where
+  reads_cart : name ≡ words.cart → IsReadToRun words held name
+  reads_beside : (value : Cartridge) → cart_due words.cart held ≡ Ok value → IsReadToSet words held name → IsReadToRun words held name
 
 -- the console's run, written frame by frame; the text is the line of a fault
 abbrev pub run_due : RunWords → Held → Result Work Refusal

@@ -1,5 +1,5 @@
 -- The command `trace`: the text of a run of so many steps, and what a status 0 says of it.
-use Rattle.std.specs.Prelude.{ℕ, ◌≡◌, ◌≤◌, List, [], ◌∷◌, ◌++◌, nat_lt, Option, Some, None, option_map, Result, Ok, Err, if◌then◌else◌}
+use Rattle.std.specs.Prelude.{ℕ, ◌≡◌, ◌≤◌, List, [], ◌∷◌, ◌++◌, nat_lt, Option, Some, None, option_map, Result, Ok, Err, if◌then◌else◌, Contains}
 use Rattle.kit_base.specs.Held.{Held}
 use Rattle.v32_isa.specs.Runs.{machine_runs}
 use Rattle.cart_format.specs.Cartridge.{Cartridge}
@@ -29,9 +29,12 @@ abbrev pub card_names : Option (List ℕ) → List (List ℕ)
 card_names None = []
 card_names (Some name) = name ∷ []
 
--- the names that it reads, in order
-abbrev pub trace_reads : (cart answers : List ℕ) (card : Option (List ℕ)) → List (List ℕ)
-trace_reads cart answers card = cart ∷ answers ∷ card_names card
+-- A file that a trace reads: those before it in the order were read and are of their grammar.
+pub data IsReadToTrace (cart answers : List ℕ) (card : Option (List ℕ)) (held : Held) (name : List ℕ) : Type 0 where
+  reads_cart : name ≡ cart → IsReadToTrace cart answers card held name
+  reads_answers : (value : Cartridge) → cart_due cart held ≡ Ok value → name ≡ answers → IsReadToTrace cart answers card held name
+  reads_card : (value : Cartridge) (list : List ℕ) → cart_due cart held ≡ Ok value → answers_due answers held ≡ Ok list → Contains (card_names card) name
+      → IsReadToTrace cart answers card held name
 
 -- nothing is created; the text is that of the run
 abbrev pub trace_due : (cart answers : List ℕ) (card : Option (List ℕ)) (steps : List ℕ) → Held → Result Work Refusal

@@ -1,5 +1,5 @@
 -- What a command does once nothing refused it, and what is left where a refusal came.
-use Rattle.std.specs.Prelude.{ℕ, ◌≡◌, ◌⊎◌, List, [], ◌∷◌, ◌++◌, Option, Some, Result, Ok, Err, Contains, codes}
+use Rattle.std.specs.Prelude.{ℕ, ◌≡◌, ◌⊎◌, List, [], ◌∷◌, ◌++◌, Option, Some, Result, Ok, Err, codes}
 use Rattle.kit_base.specs.Held.{Held}
 use Rattle.kit_base.specs.Effects.{Effect, CutShort}
 use Rattle.kit_tools.specs.declared.refusal.DueRefusal.{DueRefusal}
@@ -38,6 +38,6 @@ ComesBy (refusals.Due refusal) Due Reads held after = Due (Err refusal) × (afte
 ComesBy (refusals.Failed name) Due Reads held after = StopsReading name Reads held after ⊎ StopsWriting name Due held after
 ComesBy refusals.Memory Due Reads held after = (after ≡ Some held) ⊎ ((name : List ℕ) × StopsWriting name Due held after)
 
--- the same where one thing is due, and these names are read
-abbrev pub Comes : Refusal → Result Work Refusal → List (List ℕ) → Held → Option Held → Type 0
-Comes refusal due reads held after = ComesBy refusal (λ d. due ≡ as_due d) (Contains reads) held after
+-- the same where one thing is due
+abbrev pub Comes : Refusal → Result Work Refusal → (List ℕ → Type 0) → Held → Option Held → Type 0
+Comes refusal due Reads held after = ComesBy refusal (λ d. due ≡ as_due d) Reads held after

@@ -1,5 +1,5 @@
 // The commands that make one file of another: `migrate`, `asm` and `dis`.
-ghost use Rattle.std.specs.Prelude.{◌≡◌, ◌<◌, ◌≤◌, true, IfSome, IfErr, IfOk, [], ◌∷◌, length};
+ghost use Rattle.std.specs.Prelude.{◌≡◌, ◌<◌, ◌≤◌, true, IfSome, IfErr, IfOk, [], ◌∷◌, length, Contains};
 ghost use Rattle.asset_pack.specs.declared.kind.Kind.TheVariants as kinds;
 ghost use Rattle.asset_pack.specs.Reading.{words_in};
 ghost use Rattle.asm_reader.specs.Reading.{read};
@@ -177,7 +177,7 @@ pub fn convert_command<F: Files>(
     source: &str,
     target: &str,
 ) -> Result<Shown, Refusal>
-    ensures told { IfSome (F.held files.old) (λ m. Leaves result (convert_due conversion source.now target.now m) (source.now ∷ []) m (F.held files.new)) }
+    ensures told { IfSome (F.held files.old) (λ m. Leaves result (convert_due conversion source.now target.now m) (Contains (source.now ∷ [])) m (F.held files.new)) }
     ensures causes { HasCausesOr (ConvertsLong conversion source.now (F.held files.old)) result (counts F.faults F.misses F.overs files.old) (counts F.faults F.misses F.overs files.new) }
 {
     let bytes = made(alloc, files, conversion, source)?;

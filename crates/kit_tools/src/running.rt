@@ -8,9 +8,9 @@ ghost use Rattle.run_files.specs.PadsReading.{pads_of};
 ghost use Rattle.run_core.specs.Outputs.{Names};
 ghost use Rattle.run_core.specs.Stands.{RunStands};
 ghost use Rattle.run_core.specs.Writing.{HasRisen, IsCut as IsCutAt, IsNamed};
-ghost use Rattle.kit_tools.specs.Carrying.{FailsAt, GivesBy, IsCut, Leaves};
+ghost use Rattle.kit_tools.specs.Carrying.{FailsAt, FailsIn, GivesBy, IsCut, Leaves};
 ghost use Rattle.kit_tools.specs.Causes.{HasCause, HasCauses, HasCausesOr, IsOwn, Counts, counts};
-ghost use Rattle.kit_tools.specs.Running.{run_due, Game, count_due, game_due, is_count, names_in, no_pads, pads_due, run_reads, settings_due, settings_reads};
+ghost use Rattle.kit_tools.specs.Running.{run_due, Game, count_due, game_due, is_count, names_in, no_pads, pads_due, settings_due, IsReadToSet, IsReadToRun};
 ghost use Rattle.kit_tools.specs.Inputs.{or_refused};
 ghost use Rattle.kit_words.specs.Parsed.{run_words_from};
 ghost use Rattle.kit_tools.specs.Gaming.{AreNames, IsOpened, IsWritten, game_of, settings_of};
@@ -93,7 +93,6 @@ fn read_pads_file<F: Files>(alloc: Global, files: &mut F, name: &str) -> Result<
 }
 
 /// What those words run beside a cartridge.
-#[tactic(auto, using(crate::proofs::Stages::fails_first, crate::proofs::Stages::fails_later))]
 pub fn read_settings<F: Files>(
     alloc: Global,
     files: &mut F,
@@ -101,7 +100,7 @@ pub fn read_settings<F: Files>(
 ) -> Result<LoadedSettings, Refusal>
     ensures held { F.held files.new ≡ F.held files.old }
     ensures told { IfSome (F.held files.old) (λ m. GivesBy settings_of result (settings_due (run_words_from words.now) m)) }
-    ensures fails { IfErr result (FailsAt (settings_reads (run_words_from words.now))) }
+    ensures fails { IfSome (F.held files.old) (λ m. IfErr result (FailsIn (IsReadToSet (run_words_from words.now) m))) }
     ensures causes { HasCausesOr (is_count (number_of words.now.count.now) ≡ false) result (counts F.faults F.misses F.overs files.old) (counts F.faults F.misses F.overs files.new) }
     ensures room { IfOk result (λ s. ForSome s.card (λ v. length v.items ≡ 0x40000)) }
     ensures few { IfOk result (λ s. s.count ≤ 3600) }
@@ -113,7 +112,6 @@ pub fn read_settings<F: Files>(
 }
 
 /// What those words run.
-#[tactic(auto, using(crate::proofs::Stages::fails_first, crate::proofs::Stages::fails_later))]
 fn read_game<F: Files>(
     alloc: Global,
     files: &mut F,
@@ -121,7 +119,7 @@ fn read_game<F: Files>(
 ) -> Result<Loaded, Refusal>
     ensures held { F.held files.new ≡ F.held files.old }
     ensures told { IfSome (F.held files.old) (λ m. GivesBy game_of result (game_due (run_words_from words.now) m)) }
-    ensures fails { IfErr result (FailsAt (run_reads (run_words_from words.now))) }
+    ensures fails { IfSome (F.held files.old) (λ m. IfErr result (FailsIn (IsReadToRun (run_words_from words.now) m))) }
     ensures causes { HasCausesOr (is_count (number_of words.now.count.now) ≡ false) result (counts F.faults F.misses F.overs files.old) (counts F.faults F.misses F.overs files.new) }
     ensures room { IfOk result (λ g. ForSome g.card (λ v. length v.items ≡ 0x40000)) }
     ensures few { IfOk result (λ g. g.count ≤ 3600) }
@@ -263,7 +261,7 @@ pub fn run_command<F: Files>(
     files: &mut F,
     words: &RunWords<'_>,
 ) -> Result<Shown, Refusal>
-    ensures told { IfSome (F.held files.old) (λ m. Leaves result (run_due (run_words_from words.now) m) (run_reads (run_words_from words.now)) m (F.held files.new)) }
+    ensures told { IfSome (F.held files.old) (λ m. Leaves result (run_due (run_words_from words.now) m) (IsReadToRun (run_words_from words.now) m) m (F.held files.new)) }
     ensures causes { HasCausesOr (is_count (number_of words.now.count.now) ≡ false) result (counts F.faults F.misses F.overs files.old) (counts F.faults F.misses F.overs files.new) }
 {
     let game = read_game(alloc, files, words)?;

@@ -2,9 +2,9 @@
 ghost use Rattle.std.specs.Prelude.{◌≡◌, ◌≤◌, ◌<◌, ◌+◌, ◌*◌, ◌-◌, min, IfSome, IfErr};
 ghost use Rattle.std.specs.Option.{option_map};
 ghost use Rattle.trace_core.specs.Putting.{trace_text};
-ghost use Rattle.kit_tools.specs.Carrying.{FailsAt, GivesBy, Leaves};
+ghost use Rattle.kit_tools.specs.Carrying.{FailsIn, GivesBy, Leaves};
 ghost use Rattle.kit_tools.specs.Causes.{HasCausesOr, IsOwn, counts};
-ghost use Rattle.kit_tools.specs.Tracing.{trace_due, steps_due, trace_reads, traced_due};
+ghost use Rattle.kit_tools.specs.Tracing.{trace_due, steps_due, traced_due, IsReadToTrace};
 ghost use Rattle.kit_words.specs.Number.{number_of};
 
 use crate::reading::{read_answers_file, read_card_file, read_cart_file};
@@ -32,7 +32,6 @@ fn steps_of(alloc: Global, word: &str) -> Result<u32, Refusal>
 }
 
 /// The run of the cartridge of that file, before its first step.
-#[tactic(auto, using(crate::proofs::Stages::second_fails, crate::proofs::Stages::third_fails))]
 fn open_trace<F: Files>(
     alloc: Global,
     files: &mut F,
@@ -43,7 +42,7 @@ fn open_trace<F: Files>(
 ) -> Result<Trace, Refusal>
     ensures held { F.held files.new ≡ F.held files.old }
     ensures told { IfSome (F.held files.old) (λ m. GivesBy trace_text result (traced_due cart.now answers.now (option_map (λ word. word.now) card.entry) steps.now m)) }
-    ensures fails { IfErr result (FailsAt (trace_reads cart.now answers.now (option_map (λ word. word.now) card.entry))) }
+    ensures fails { IfSome (F.held files.old) (λ m. IfErr result (FailsIn (IsReadToTrace cart.now answers.now (option_map (λ word. word.now) card.entry) m))) }
     ensures causes { HasCausesOr (10000000 < number_of steps.now) result (counts F.faults F.misses F.overs files.old) (counts F.faults F.misses F.overs files.new) }
 {
     let read = read_cart_file(alloc, files, cart)?;
@@ -68,7 +67,7 @@ pub fn trace_command<F: Files>(
     steps: &str,
 ) -> Result<Shown, Refusal>
     ensures told { IfSome (F.held files.old) (λ m. Leaves result (trace_due cart.now answers.now (option_map (λ word. word.now) card.entry) steps.now m)
-        (trace_reads cart.now answers.now (option_map (λ word. word.now) card.entry)) m (F.held files.new)) }
+        (IsReadToTrace cart.now answers.now (option_map (λ word. word.now) card.entry) m) m (F.held files.new)) }
     ensures causes { HasCausesOr (10000000 < number_of steps.now) result (counts F.faults F.misses F.overs files.old) (counts F.faults F.misses F.overs files.new) }
 {
     let trace = open_trace(alloc, files, cart, answers, card, steps)?;

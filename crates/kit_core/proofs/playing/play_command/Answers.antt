@@ -9,7 +9,7 @@ use Rattle.kit_tools.specs.Carrying.{FailsIn, GivesBy}
 use Rattle.kit_core.specs.Checking.{TextBuilt}
 use Rattle.kit_core.specs.Due.{IsReadToPlay, read_play_due}
 use Rattle.kit_tools.specs.Gaming.{settings_of}
-use Rattle.kit_tools.specs.Running.{settings_due}
+use Rattle.kit_tools.specs.Running.{IsReadToSet, settings_due}
 use Rattle.kit_tools.proofs.Own.{later_causes}
 use Rattle.kit_core.proofs.Projects.{Left, left_refused, left_unread}
 use Rattle.kit_core.proofs.Plays.{memory_told, play_left, unbuilt_reached, unbuilt_told, unset_reached, unset_told}
@@ -39,12 +39,14 @@ returns-in_err-settings-clause-told g c =
     let same : c.deref.result.now ≡ c.in_ok-text.text.items = search rules in
     let built = subst (λ t. IfSome (g.F.Reads.held c.read_file.new.files) (λ m. IsBuilt m t c.in_ok-built.built)) same c.in_ok-built.ensures.told in
     let given : IfSome (g.F.Reads.held c.build_text.new.files) (λ m. GivesBy settings_of (Err c.in_err-settings.field-0.0) (settings_due (run_words_from c.args.words.now) m)) = search rules in
+    let fails : IfSome (g.F.Reads.held c.build_text.new.files) (λ m. FailsIn (IsReadToSet (run_words_from c.args.words.now) m) c.in_err-settings.field-0.0) = search rules in
     subst (Left c.args.project.now (read_play_due c.args.project.now c.args.map.now (run_words_from c.args.words.now)) (IsReadToPlay (run_words_from c.args.words.now)) (g.F.Reads.held c.args.files.now) (g.F.Reads.held c.read_settings.new.files)) (sym is)
     (left_refused c.args.project.now (read_play_due c.args.project.now c.args.map.now (run_words_from c.args.words.now)) (IsReadToPlay (run_words_from c.args.words.now)) c.in_ok-text.text.items c.in_err-settings.field-0.0 (g.F.Reads.held c.args.files.now) (g.F.Reads.held c.read_file.new.files) (g.F.Reads.held c.read_settings.new.files)
     c.in_ok-text.ensures.told c.in_ok-text.ensures.held
     (unset_told c.args.project.now c.in_ok-text.text.items c.args.map.now (run_words_from c.args.words.now) c.in_err-settings.field-0.0 c.in_ok-built.built (g.F.Reads.held c.read_file.new.files) (g.F.Reads.held c.build_text.new.files)
     c.in_ok-built.ensures.held built given)
-    (unset_reached c.args.project.now c.in_ok-text.text.items c.args.map.now (run_words_from c.args.words.now) c.in_err-settings.field-0.0 (g.F.Reads.held c.read_file.new.files) c.in_err-settings.ensures.fails) (c.in_err-settings.ensures.held ∙ c.in_ok-built.ensures.held))
+    (unset_reached c.args.project.now c.in_ok-text.text.items c.args.map.now (run_words_from c.args.words.now) c.in_err-settings.field-0.0 c.in_ok-built.built (g.F.Reads.held c.read_file.new.files) (g.F.Reads.held c.build_text.new.files)
+    c.in_ok-built.ensures.held built fails) (c.in_err-settings.ensures.held ∙ c.in_ok-built.ensures.held))
 
 pub returns-in_err-game-clause-told : goal.returns-in_err-game-clause-told
 returns-in_err-game-clause-told g c =

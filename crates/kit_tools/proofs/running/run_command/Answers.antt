@@ -1,7 +1,22 @@
+use Rattle.std.proofs.Common.{rules, ◌≡◌}
+use Rattle.std.specs.Prelude.{Ok, Err}
+use Rattle.run_core.specs.Ending.{end_text}
+use Rattle.run_core.specs.Outputs.{run_outputs}
 use Rattle.kit_words.specs.Parsed.{run_words_from}
 use Rattle.kit_tools.specs.Gaming.{game_of}
+use Rattle.kit_tools.specs.Running.{Game, end_status, game_due, game_end, names_in, IsReadToRun}
 use Rattle.kit_tools.proofs.Games.{run_left}
+use Rattle.kit_tools.proofs.Stages.{stopped_if}
 use Rattle.kit_tools.proofs.running.run_command.Goals as goal
+
+pub returns-in_err-game-clause-told : goal.returns-in_err-game-clause-told
+returns-in_err-game-clause-told g c =
+    let words = run_words_from c.args.words.now in
+    let is : c.from_residual.result ≡ Err c.in_err-game.field-0.0 = search rules in
+    stopped_if game_of (λ m. game_due words m)
+    (λ (game : Game). Ok (record { effects = run_outputs (names_in words) game.setup game.count; text = end_text game.lines (game_end game); status = end_status (game_end game) }))
+    (λ m. IsReadToRun words m) c.from_residual.result c.in_err-game.field-0.0 (g.F.Reads.held c.args.files.now) (g.F.Reads.held c.read_game.new.files)
+    is c.in_err-game.ensures.told c.in_err-game.ensures.fails c.in_err-game.ensures.held
 
 pub returns-clause-told : goal.returns-clause-told
 returns-clause-told g c =

@@ -15,3 +15,4 @@ pub mod Plays
 pub mod Ends
 pub mod Generates
 pub mod Holdings
+pub mod Meanings

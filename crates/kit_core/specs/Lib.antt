@@ -8,3 +8,4 @@ pub mod Playing
 pub mod Fronts
 pub mod Headline
 pub mod Holding
+pub mod Meaning

@@ -14,6 +14,7 @@ ghost use Rattle.kit_core.specs.Due.{command_refused};
 ghost use Rattle.kit_core.specs.Fronts.{Carries};
 ghost use Rattle.kit_core.specs.Headline.{BuildStands, GenStands, PlayStands};
 ghost use Rattle.kit_core.specs.Holding.{FilesHold, RunFrontsStand};
+ghost use Rattle.kit_core.specs.Meaning.{PlayIsMeant};
 ghost use Rattle.kit_core.specs.Limits.{IsOver};
 ghost use Rattle.kit_core.specs.Outcome.{HasDueStatus, IsOutcome};
 ghost use Rattle.kit_tools.specs.declared.refusal.DueRefusal.{DueRefusal};
@@ -32,6 +33,7 @@ use kit_tools::{
     DueRefusal, Refusal, Shown, convert_command, line_of, run_command, status_of, trace_command,
 };
 use kit_words::{Command, command_of};
+use play_laws::played_runs_are_the_sources;
 use run_core::Ending;
 use std::alloc::Global;
 use trace_core::Trace;
@@ -238,6 +240,8 @@ pub fn kit<F: Files, S: Sink>(alloc: Global, words: &[String], files: &mut F, ou
     ensures plays { IfSome (F.held files.old) (λ m. (result ≡ 0) ⊎ (result ≡ 3) → PlayStands (texts words.now) m result (F.held files.new) (S.written out.old) (S.written out.new)) }
     // At 0 and 3 the files of a run, and of a play, hold the bytes of its frames, of its sound and of its card.
     ensures holds { IfSome (F.held files.old) (λ m. (result ≡ 0) ⊎ (result ≡ 3) → FilesHold (texts words.now) m (F.held files.new)) }
+    // At 0 and 3 what the console of a play does is what its project's source means, under the answers of its devices.
+    ensures means { IfSome (F.held files.old) (λ m. (result ≡ 0) ⊎ (result ≡ 3) → PlayIsMeant (texts words.now) m) }
     // At any status each file of a run is as before or holds a front of its bytes.
     ensures fronts { IfSome (F.held files.old) (λ m. RunFrontsStand (texts words.now) m (F.held files.new)) }
     // At 0 the files of a `gen` are the project and the source that are made up and what was built of them, and its line was put.
@@ -257,5 +261,6 @@ pub fn kit<F: Files, S: Sink>(alloc: Global, words: &[String], files: &mut F, ou
     ensures status { IsStatus result }
 {
     builds_are_due_or_refused();
+    played_runs_are_the_sources();
     status_for(alloc, words, files, out)
 }

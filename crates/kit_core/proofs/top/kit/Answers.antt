@@ -5,6 +5,7 @@ use Rattle.kit_core.proofs.Runs.{run_told}
 use Rattle.kit_core.proofs.Plays.{play_told}
 use Rattle.kit_core.proofs.Holdings.{fronts_told, hold_told}
 use Rattle.kit_core.proofs.Generates.{gen_told}
+use Rattle.kit_core.proofs.Meanings.{meant_told}
 use Rattle.kit_core.proofs.Ends.{complete_told, untouched_told}
 use Rattle.kit_core.proofs.top.kit.Goals as goal
 
@@ -34,6 +35,13 @@ returns-clause-holds g c =
     (g.S.Sink.written c.args.out.now) (g.S.Sink.written c.status_for.new.out)
     (run_told (texts c.args.words.now) c.status_for.result (g.F.Reads.held c.args.files.now) (g.F.Reads.held c.status_for.new.files)
     (g.S.Sink.written c.args.out.now) (g.S.Sink.written c.status_for.new.out) c.status_for.ensures.told)
+    (play_told (texts c.args.words.now) c.status_for.result (g.F.Reads.held c.args.files.now) (g.F.Reads.held c.status_for.new.files)
+    (g.S.Sink.written c.args.out.now) (g.S.Sink.written c.status_for.new.out) c.status_for.ensures.told)
+
+pub returns-clause-means : goal.returns-clause-means
+returns-clause-means g c =
+    meant_told c.played_runs_are_the_sources.ensures.played c.played_runs_are_the_sources.ensures.whole (texts c.args.words.now) c.status_for.result (g.F.Reads.held c.args.files.now) (g.F.Reads.held c.status_for.new.files)
+    (g.S.Sink.written c.args.out.now) (g.S.Sink.written c.status_for.new.out)
     (play_told (texts c.args.words.now) c.status_for.result (g.F.Reads.held c.args.files.now) (g.F.Reads.held c.status_for.new.files)
     (g.S.Sink.written c.args.out.now) (g.S.Sink.written c.status_for.new.out) c.status_for.ensures.told)
 

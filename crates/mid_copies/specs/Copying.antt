@@ -3,6 +3,7 @@
 use Rattle.std.specs.Prelude.{ℕ, ◌≡◌, Bool, true, not, eqb, cond, ◌&&◌, ◌||◌, List, [], ◌∷◌, map, get_or, false, Option, Some, None}
 use Rattle.std.specs.List.{list_all}
 use Rattle.mid_code.specs.Code.{OpT, ConstO, NullO, MoveO, OneO, TwoO, GlobalO, LocalO, LiteralO, CardO, StepO, ApartO, PtrTestO, LoadO, StoreO, FreshO, EndO, InO, OutO, WaitO, HaltO, NodesT, Stop, Do, Call, Choose, Block, Loop, Leave, Again, Return, FunctionT, CodeT, uses, target, maybe}
+use Rattle.mid_code.specs.Live.{is_among}
 
 -- ---- what is known at a point
 
@@ -27,6 +28,11 @@ behind (e ∷ es) t = cond (eqb e.0 t || eqb e.1 t) (behind es t) (e ∷ behind 
 abbrev pub behind_maybe : Copies → Option ℕ → Copies
 behind_maybe es None = es
 behind_maybe es (Some t) = behind es t
+
+-- what is still known where these are used: a copy serves once
+abbrev pub used_up : List ℕ → Copies → Copies
+used_up qs [] = []
+used_up qs (e ∷ es) = cond (is_among qs e.0) (used_up qs es) (e ∷ used_up qs es)
 
 -- ---- code
 
@@ -68,14 +74,14 @@ op_then g es o c = Do (with_uses (origin es) o) c
 
 -- what is known behind it
 abbrev pub known_behind : Gone → Copies → OpT ℕ → Copies
-known_behind g es (MoveO t a) = cond (g t) ((t, origin es a) ∷ behind es t) (behind es t)
-known_behind g es o = behind_maybe es (target o)
+known_behind g es (MoveO t a) = cond (g t) ((t, origin es a) ∷ behind (used_up (a ∷ []) es) t) (behind (used_up (a ∷ []) es) t)
+known_behind g es o = behind_maybe (used_up (uses o) es) (target o)
 
 -- Nodes without copies. A node that chooses, a block and a loop begin and end with nothing known.
 abbrev pub spared : Gone → Copies → NodesT ℕ → NodesT ℕ
 spared g es Stop = Stop
 spared g es (Do o c) = op_then g es o (spared g (known_behind g es o) c)
-spared g es (Call t f args c) = Call t f (map (origin es) args) (spared g (behind_maybe es t) c)
+spared g es (Call t f args c) = Call t f (map (origin es) args) (spared g (behind_maybe (used_up args es) t) c)
 spared g es (Choose p a b c) = Choose (origin es p) (spared g [] a) (spared g [] b) (spared g [] c)
 spared g es (Block b c) = Block (spared g [] b) (spared g [] c)
 spared g es (Loop b c) = Loop (spared g [] b) (spared g [] c)
@@ -102,7 +108,7 @@ op_serves g es o = list_all (serves g es) (uses o) && takes g (target o)
 abbrev pub all_serve : Gone → Copies → NodesT ℕ → Bool
 all_serve g es Stop = true
 all_serve g es (Do o c) = op_serves g es o && all_serve g (known_behind g es o) c
-all_serve g es (Call t f args c) = list_all (serves g es) args && (takes g t && all_serve g (behind_maybe es t) c)
+all_serve g es (Call t f args c) = list_all (serves g es) args && (takes g t && all_serve g (behind_maybe (used_up args es) t) c)
 all_serve g es (Choose p a b c) = serves g es p && (all_serve g [] a && (all_serve g [] b && all_serve g [] c))
 all_serve g es (Block b c) = all_serve g [] b && all_serve g [] c
 all_serve g es (Loop b c) = all_serve g [] b && all_serve g [] c

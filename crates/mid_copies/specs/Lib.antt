@@ -1,2 +1,3 @@
 pub mod Copying
 pub mod SparedFrom
+pub mod Listed

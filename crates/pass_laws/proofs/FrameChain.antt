@@ -1,5 +1,5 @@
 -- The promises of the passes meet: the frame that is made of a function fits it.
-use Rattle.std.proofs.Common.{◌≡◌, ℕ, ◌+◌, zero, suc, ◌≤◌, ◌<◌, Bool, true, false, cond, List, [], ◌∷◌, ◌++◌, map, length, length-append, get_or, slice_get, Option, Some, None, refl, sym, ap, ap₂, ◌∙◌, subst, arith, inl, inr}
+use Rattle.std.proofs.Common.{◌≡◌, ℕ, ◌+◌, zero, suc, ◌≤◌, ◌<◌, Bool, true, false, cond, List, [], ◌∷◌, ◌++◌, map, sum, length, length-append, get_or, slice_get, Option, Some, None, refl, sym, ap, ap₂, ◌∙◌, subst, arith, inl, inr}
 use Rattle.std.proofs.lemmas.Bool.{cases_lt}
 use Rattle.std.proofs.lemmas.List.{get_or_past}
 use Rattle.c_types.specs.Programs.{TFunctionT}
@@ -15,6 +15,8 @@ use Rattle.mid_code.specs.Safe.{IsSafe}
 use Rattle.mid_code.specs.Together.{WordsAtOnce}
 use Rattle.mid_lower.specs.LoweredFrom.{IsLoweredFunction, EachLowered, IsLoweredFrom}
 use Rattle.mid_scalars.specs.PromotedFrom.{Renumbered, IsPromotedFunction, EachPromoted, IsPromotedFrom}
+use Rattle.mid_copies.specs.SparedFrom.{IsSparedFunction, EachSpared, IsSparedFrom}
+use Rattle.reg_frames.proofs.AtOnce.{different_words}
 use Rattle.reg_frames.specs.PlacedFrom.{IsFrameOf, AreFrames, IsPlacedFrom}
 use Rattle.mid_code.specs.Live.{is_among}
 use Rattle.mid_code.specs.Choices.{with_slot, slots_from, slot_count, EachSafe, AreSafe}
@@ -103,28 +105,35 @@ module _ (g h : FunctionT ℕ) (b : IsPromotedFunction g h) where
 
 -- ---- the frame
 
-pub fits : (s : Setting) (f : TFunctionT) (g h : FunctionT ℕ) (at : List Where) (size : ℕ)
-    → IsLoweredFunction s f g → IsPromotedFunction g h → IsSafe h at → IsFrameOf h at size → FitsFrame s f size
-fits s f g h at size a b safe c = record {
-  at_most = omega (arith, c.at_most, slots_few at, safe.count, b.frame_words, a.local_words, a.temporaries);
-  at_least = λ sizes l. c.at_least sizes (large_stay g h b sizes (subst AllTwo (sym l.words) (large_two f l.objects l.large)) (a.together sizes l));
+-- code without copies keeps the temporaries and the locals
+pub fits : (s : Setting) (f : TFunctionT) (g h k : FunctionT ℕ) (at : List Where) (size : ℕ)
+    → IsLoweredFunction s f g → IsPromotedFunction g h → IsSparedFunction h k → IsSafe k at → IsFrameOf k at size → FitsFrame s f size
+fits s f g h k at size a b r safe c = record {
+  at_most = let locals = ap sum r.locals in omega (arith, c.at_most, slots_few at, safe.count, r.temporaries, locals, b.frame_words, a.local_words, a.temporaries);
+  at_least = λ sizes l.
+      let w = large_stay g h b sizes (subst AllTwo (sym l.words) (large_two f l.objects l.large)) (a.together sizes l) in
+      let words = ap sum w.words in
+      let locals = ap sum r.locals in
+      omega (arith, different_words w.locals h.locals w.different, words, locals, c.holds_all);
 }
 
-pub all_fit : (s : Setting) (fs : List TFunctionT) (gs hs : List (FunctionT ℕ)) (cs : List (List Where)) (sizes : List ℕ)
-    → EachLowered s fs gs → EachPromoted gs hs → EachSafe hs cs → AreFrames hs cs sizes → EachFits s fs sizes
-all_fit s [] [] [] [] [] a b c d = tt
-all_fit s [] [] [] [] (size ∷ sizes) a b c d = absurd d
-all_fit s [] [] [] (at ∷ cs) sizes a b c d = absurd c
-all_fit s [] [] (h ∷ hs) cs sizes a b c d = absurd b
-all_fit s [] (g ∷ gs) hs cs sizes a b c d = absurd a
-all_fit s (f ∷ fs) [] hs cs sizes a b c d = absurd a
-all_fit s (f ∷ fs) (g ∷ gs) [] cs sizes a b c d = absurd b
-all_fit s (f ∷ fs) (g ∷ gs) (h ∷ hs) [] sizes a b c d = absurd c
-all_fit s (f ∷ fs) (g ∷ gs) (h ∷ hs) (at ∷ cs) [] a b c d = absurd d
-all_fit s (f ∷ fs) (g ∷ gs) (h ∷ hs) (at ∷ cs) (size ∷ sizes) a b c d = (fits s f g h at size a.0 b.0 c.0 d.0, all_fit s fs gs hs cs sizes a.1 b.1 c.1 d.1)
+pub all_fit : (s : Setting) (fs : List TFunctionT) (gs hs ks : List (FunctionT ℕ)) (cs : List (List Where)) (sizes : List ℕ)
+    → EachLowered s fs gs → EachPromoted gs hs → EachSpared hs ks → EachSafe ks cs → AreFrames ks cs sizes → EachFits s fs sizes
+all_fit s [] [] [] [] [] [] a b r c d = tt
+all_fit s [] [] [] [] [] (size ∷ sizes) a b r c d = absurd d
+all_fit s [] [] [] [] (at ∷ cs) sizes a b r c d = absurd c
+all_fit s [] [] [] (k ∷ ks) cs sizes a b r c d = absurd r
+all_fit s [] [] (h ∷ hs) ks cs sizes a b r c d = absurd b
+all_fit s [] (g ∷ gs) hs ks cs sizes a b r c d = absurd a
+all_fit s (f ∷ fs) [] hs ks cs sizes a b r c d = absurd a
+all_fit s (f ∷ fs) (g ∷ gs) [] ks cs sizes a b r c d = absurd b
+all_fit s (f ∷ fs) (g ∷ gs) (h ∷ hs) [] cs sizes a b r c d = absurd r
+all_fit s (f ∷ fs) (g ∷ gs) (h ∷ hs) (k ∷ ks) [] sizes a b r c d = absurd c
+all_fit s (f ∷ fs) (g ∷ gs) (h ∷ hs) (k ∷ ks) (at ∷ cs) [] a b r c d = absurd d
+all_fit s (f ∷ fs) (g ∷ gs) (h ∷ hs) (k ∷ ks) (at ∷ cs) (size ∷ sizes) a b r c d = (fits s f g h k at size a.0 b.0 r.0 c.0 d.0, all_fit s fs gs hs ks cs sizes a.1 b.1 r.1 c.1 d.1)
 
 -- each frame of a placed program fits its function
-pub frames_fit : (p : ProgramT) (m promoted : CodeT ℕ) (cs : List (List Where)) (x : PlacedT)
-    → IsLoweredFrom p m → IsPromotedFrom m promoted → AreSafe promoted cs → IsPlacedFrom promoted cs x → EachFits (setting p []) p.functions x.frames
-frames_fit p m promoted [] x l o a c = absurd a
-frames_fit p m promoted (start ∷ cs) x l o a c = all_fit (setting p []) p.functions m.functions promoted.functions cs x.frames l.functions o.functions a.1 c.frames
+pub frames_fit : (p : ProgramT) (m promoted spared : CodeT ℕ) (cs : List (List Where)) (x : PlacedT)
+    → IsLoweredFrom p m → IsPromotedFrom m promoted → IsSparedFrom promoted spared → AreSafe spared cs → IsPlacedFrom spared cs x → EachFits (setting p []) p.functions x.frames
+frames_fit p m promoted spared [] x l o r a c = absurd a
+frames_fit p m promoted spared (start ∷ cs) x l o r a c = all_fit (setting p []) p.functions m.functions promoted.functions spared.functions cs x.frames l.functions o.functions r.functions a.1 c.frames

@@ -19,6 +19,7 @@ use Rattle.mid_code.specs.Runs.{mid_runs}
 use Rattle.mid_lower.specs.LoweredFrom.{IsLoweredFunction, IsLoweredFrom}
 use Rattle.mid_lower.specs.SourceLoops.{HasNoLoops, TreeCalls}
 use Rattle.mid_scalars.specs.PromotedFrom.{IsPromotedFrom}
+use Rattle.mid_copies.specs.SparedFrom.{IsSparedFrom}
 use Rattle.reg_frames.specs.PlacedFrom.{IsPlacedFrom}
 use Rattle.asm_laws.specs.Tables.{addresses}
 use Rattle.asm_emit.specs.EmittedFrom.{IsEmitted}
@@ -35,11 +36,12 @@ pub record DoesAsMeant (p : ProgramT) (promoted : CodeT ℕ) (x : PlacedT) (item
 
 abbrev pub PassesMeet : Type 0
 PassesMeet =
-    (p : ProgramT) (m promoted : CodeT ℕ) (cs : List (List Where)) (x : PlacedT) (names : List (List ℕ)) (items : List AsmItem)
-    → IsLoweredFrom p m → IsPromotedFrom m promoted → AreSafe promoted cs → IsPlacedFrom promoted cs x → IsEmitted x names items → DoesAsMeant p promoted x items
+    (p : ProgramT) (m promoted spared : CodeT ℕ) (cs : List (List Where)) (x : PlacedT) (names : List (List ℕ)) (items : List AsmItem)
+    → IsLoweredFrom p m → IsPromotedFrom m promoted → IsSparedFrom promoted spared → AreSafe spared cs → IsPlacedFrom spared cs x → IsEmitted x names items
+    → DoesAsMeant p promoted x items
 
--- a function in the tree, lowered, promoted and placed
+-- a function in the tree, lowered, promoted, without copies, and placed
 abbrev pub StraightStays : Type 0
 StraightStays =
-    (s : Setting) (f : TFunctionT) (g h : FunctionT ℕ) (k : FunctionT Where)
-    → IsLoweredFunction s f g → AddsNone g.body h.body → AddsNone h.body k.body → HasNoLoops s f → (loops k.body ≡ 0) × ((n : ℕ) → CallsTo n k.body → TreeCalls n f)
+    (s : Setting) (f : TFunctionT) (g h i : FunctionT ℕ) (k : FunctionT Where)
+    → IsLoweredFunction s f g → AddsNone g.body h.body → AddsNone h.body i.body → AddsNone i.body k.body → HasNoLoops s f → (loops k.body ≡ 0) × ((n : ℕ) → CallsTo n k.body → TreeCalls n f)

@@ -11,7 +11,7 @@ use Rattle.reg_frames.specs.Placing.{placing, placed_function, frame_sizes, plac
 use Rattle.reg_frames.specs.Placeable.{first_of, later, IsPlaceable, ArePlaceable}
 use Rattle.reg_frames.specs.PlacedFrom.{AreFrames, IsPlacedFrom}
 use Rattle.reg_frames.proofs.Slots.{named_count}
-use Rattle.reg_frames.proofs.Frames.{weight_same, adds_none, none_added, numbers_few, size_at_most}
+use Rattle.reg_frames.proofs.Frames.{weight_same, adds_none, none_added, numbers_few, size_at_most, size_at_least}
 use Rattle.reg_frames.proofs.AtOnce.{frame_holds}
 use Rattle.reg_frames.proofs.Invariants.{placed_is, function_placed}
 use Rattle.reg_frames.proofs.Placed.{placed_keeps, placed_works}
@@ -60,7 +60,7 @@ frames_are x start [] all (f ∷ fs) i s = absurd s
 frames_are x start (ws ∷ wss) all (f ∷ fs) i s =
     let g = function_placed x start all ws f s.0 i.0 in
     let le = size_at_most ws f g.params_named g.params_differ in
-    (record { at_most = omega (arith, le); at_least = frame_holds ws f }, frames_are x start wss all fs i.1 s.1)
+    (record { at_most = omega (arith, le); holds_all = size_at_least ws f; at_least = frame_holds ws f }, frames_are x start wss all fs i.1 s.1)
 
 pub is_placed : (x : CodeT ℕ) (wss : List (List Where)) → IsMid x → AreSafe x wss → IsPlaced (placed (first_of wss) (later wss) x)
 is_placed x [] m s = absurd s

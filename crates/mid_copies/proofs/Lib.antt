@@ -1,0 +1,13 @@
+pub mod KnownCells
+pub mod OnePass
+pub mod EachOp
+pub mod AlikeCode
+pub mod LikeCode
+pub mod WholeProgram
+pub mod WithUses
+pub mod MidStill
+pub mod NoMore
+pub mod NoneMarked
+pub mod Spares
+pub mod Joined
+pub mod Programs

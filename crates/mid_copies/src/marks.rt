@@ -1,0 +1,106 @@
+// Which copies are not made: those of temporaries that are used once, where the copy is known.
+use crate::counts::singles;
+use crate::known::{is_copy, know_node};
+use kit_base::Memory;
+use mid_code::{Function, Node, Op};
+use std::alloc::Global;
+
+/// A temporary that is used while its copy is known takes no cell.
+fn mark(gone: &mut [bool], copies: &[(u32, u32)], q: u32)
+{
+    let i = q as usize;
+    if i < gone.len() && is_copy(copies, q) {
+        gone[i] = true;
+    }
+}
+
+fn mark_all(gone: &mut [bool], copies: &[(u32, u32)], qs: &[u32])
+{
+    for q in qs {
+        mark(gone, copies, *q);
+    }
+}
+
+fn mark_op(gone: &mut [bool], copies: &[(u32, u32)], o: &Op<u32>)
+{
+    match o {
+        Op::Const(_, _) => {}
+        Op::Null(_) => {}
+        Op::Move(_, a) => mark(gone, copies, *a),
+        Op::One(_, _, a) => mark(gone, copies, *a),
+        Op::Two(_, _, a, b) => mark_all(gone, copies, &[*a, *b]),
+        Op::Global(_, _) => {}
+        Op::Local(_, _) => {}
+        Op::Literal(_, _) => {}
+        Op::Card(_) => {}
+        Op::Step(_, p, n) => mark_all(gone, copies, &[*p, *n]),
+        Op::Apart(_, p, q) => mark_all(gone, copies, &[*p, *q]),
+        Op::PtrTest(_, _, p, q) => mark_all(gone, copies, &[*p, *q]),
+        Op::Load(_, p) => mark(gone, copies, *p),
+        Op::Store(p, a) => mark_all(gone, copies, &[*p, *a]),
+        Op::Fresh(_) => {}
+        Op::End(_) => {}
+        Op::Call(_, _, arguments) => mark_all(gone, copies, arguments.as_slice()),
+        Op::In(_, _) => {}
+        Op::Out(_, a) => mark(gone, copies, *a),
+        Op::Wait => {}
+        Op::Halt => {}
+    }
+}
+
+#[cycle(mark)]
+fn mark_node(
+    alloc: Global,
+    single: &[bool],
+    gone: &mut [bool],
+    copies: &[(u32, u32)],
+    n: &Node<u32>,
+) -> Result<(), Memory>
+{
+    match n {
+        Node::Do(o) => {
+            mark_op(gone, copies, o);
+            Ok(())
+        }
+        Node::Choose(p, a, b) => {
+            mark(gone, copies, *p);
+            mark_nodes(alloc, single, gone, a.as_slice())?;
+            mark_nodes(alloc, single, gone, b.as_slice())
+        }
+        Node::Block(b) => mark_nodes(alloc, single, gone, b.as_slice()),
+        Node::Loop(b) => mark_nodes(alloc, single, gone, b.as_slice()),
+        Node::Leave(_) => Ok(()),
+        Node::Again(_) => Ok(()),
+        Node::Return(p) => {
+            if let Some(p) = p {
+                mark(gone, copies, *p);
+            }
+            Ok(())
+        }
+    }
+}
+
+#[cycle(mark)]
+fn mark_nodes(
+    alloc: Global,
+    single: &[bool],
+    gone: &mut [bool],
+    ns: &[Node<u32>],
+) -> Result<(), Memory>
+{
+    let mut copies = Vec::new(alloc);
+    for n in ns {
+        mark_node(alloc, single, gone, copies.as_slice(), n)?;
+        copies = know_node(alloc, single, copies.as_slice(), n)?;
+    }
+    Ok(())
+}
+
+/// Which temporaries take no cell: those that are the target of one move alone, and are used once, while the other temporary keeps its cell.
+pub(crate) fn marks_of(alloc: Global, f: &Function<u32>) -> Result<Vec<bool>, Memory>
+{
+    let single = singles(alloc, f)?;
+    let mut gone = Vec::from_elem(alloc, false, f.temps as usize)?;
+    mark_nodes(alloc, single.as_slice(), gone.as_mut_slice(), f.body.as_slice())?;
+    Ok(gone)
+}

@@ -6,7 +6,7 @@ use Rattle.mid_code.specs.declared.node.Op.{Op}
 use Rattle.mid_code.specs.declared.node.Op.TheVariants as op
 use Rattle.mid_code.specs.Code.{maybe}
 use Rattle.mid_code.specs.Functions.{NodeT, DoN, ChooseN, BlockN, LoopN, LeaveN, AgainN, ReturnN, ListT, NoN, MoreN, listed}
-use Rattle.mid_copies.specs.Copying.{Copies, Gone, origin, behind, behind_maybe, used_up, serves, takes, with_use}
+use Rattle.mid_copies.specs.Copying.{Copies, Gone, origin, behind_maybe, used_up, serves, takes, with_use}
 
 -- ---- operations
 

@@ -10,44 +10,38 @@ struct Count {
     used: u32,
 }
 
-fn make(counts: &mut [Count], t: u32)
-{
+fn make(counts: &mut [Count], t: u32) {
     let i = t as usize;
     if i < counts.len() {
         counts[i].made = counts[i].made.saturating_add(1);
     }
 }
 
-fn make_maybe(counts: &mut [Count], t: Option<u32>)
-{
+fn make_maybe(counts: &mut [Count], t: Option<u32>) {
     if let Some(t) = t {
         make(counts, t);
     }
 }
 
-fn use_one(counts: &mut [Count], q: u32)
-{
+fn use_one(counts: &mut [Count], q: u32) {
     let i = q as usize;
     if i < counts.len() {
         counts[i].used = counts[i].used.saturating_add(1);
     }
 }
 
-fn use_all(counts: &mut [Count], qs: &[u32])
-{
+fn use_all(counts: &mut [Count], qs: &[u32]) {
     for q in qs {
         use_one(counts, *q);
     }
 }
 
-fn count_named(counts: &mut [Count], qs: &[u32], t: Option<u32>)
-{
+fn count_named(counts: &mut [Count], qs: &[u32], t: Option<u32>) {
     use_all(counts, qs);
     make_maybe(counts, t);
 }
 
-fn count_op(counts: &mut [Count], o: &Op<u32>)
-{
+fn count_op(counts: &mut [Count], o: &Op<u32>) {
     match o {
         Op::Const(t, _) => count_named(counts, &[], Some(*t)),
         Op::Null(t) => count_named(counts, &[], Some(*t)),
@@ -74,8 +68,7 @@ fn count_op(counts: &mut [Count], o: &Op<u32>)
 }
 
 #[cycle(counting)]
-fn count_node(counts: &mut [Count], n: &Node<u32>)
-{
+fn count_node(counts: &mut [Count], n: &Node<u32>) {
     match n {
         Node::Do(o) => count_op(counts, o),
         Node::Choose(p, a, b) => {
@@ -96,16 +89,14 @@ fn count_node(counts: &mut [Count], n: &Node<u32>)
 }
 
 #[cycle(counting)]
-fn count_nodes(counts: &mut [Count], ns: &[Node<u32>])
-{
+fn count_nodes(counts: &mut [Count], ns: &[Node<u32>]) {
     for n in ns {
         count_node(counts, n);
     }
 }
 
 /// Of each temporary whether it is a target once and used once, and is no parameter.
-pub(crate) fn singles(alloc: Global, f: &Function<u32>) -> Result<Vec<bool>, Memory>
-{
+pub(crate) fn singles(alloc: Global, f: &Function<u32>) -> Result<Vec<bool>, Memory> {
     let mut counts = Vec::from_elem(alloc, Count { made: 0, used: 0 }, f.temps as usize)?;
     count_nodes(counts.as_mut_slice(), f.body.as_slice());
     for p in f.params.as_slice() {

@@ -50,7 +50,7 @@ fn right_marks(alloc: Global, f: &Function<u32>) -> Result<Vec<bool>, Memory>
     Ok(no_marks(alloc, f))
 }
 
-pub(crate) fn copy_words(alloc: Global, words: &[u32]) -> Result<Vec<u32>, Memory>
+fn copy_words(alloc: Global, words: &[u32]) -> Result<Vec<u32>, Memory>
     ensures { IfOk result (λ r. r.items ≡ words.now) }
 {
     Ok(words.to_vec(alloc)?)
@@ -87,7 +87,10 @@ fn next(fs: &[Function<u32>]) -> Option<(&Function<u32>, &[Function<u32>])>
     fs.split_first()
 }
 
-pub(crate) fn spare_functions(alloc: Global, fs: &[Function<u32>]) -> Result<Vec<Function<u32>>, Memory>
+pub(crate) fn spare_functions(
+    alloc: Global,
+    fs: &[Function<u32>],
+) -> Result<Vec<Function<u32>>, Memory>
     ensures { IfOk result (λ r. AreSparedBy (map function fs.now) (map function r.items)) }
 {
     let mut found = Vec::new(alloc);

@@ -100,7 +100,13 @@ fn with_copy(alloc: Global, copy: (u32, u32), copies: &[(u32, u32)]) -> Result<C
     Ok(found)
 }
 
-fn know_move(alloc: Global, gone: &[bool], copies: &[(u32, u32)], t: u32, a: u32) -> Result<Copies, Memory>
+fn know_move(
+    alloc: Global,
+    gone: &[bool],
+    copies: &[(u32, u32)],
+    t: u32,
+    a: u32,
+) -> Result<Copies, Memory>
     ensures { IfOk result (λ v. v.items ≡ op_known (marked gone.now) copies.now (Op.Move t a)) }
 {
     let left = know(alloc, copies, &[a], Some(t))?;
@@ -111,7 +117,12 @@ fn know_move(alloc: Global, gone: &[bool], copies: &[(u32, u32)], t: u32, a: u32
     }
 }
 
-fn know_op(alloc: Global, gone: &[bool], copies: &[(u32, u32)], o: &Op<u32>) -> Result<Copies, Memory>
+fn know_op(
+    alloc: Global,
+    gone: &[bool],
+    copies: &[(u32, u32)],
+    o: &Op<u32>,
+) -> Result<Copies, Memory>
     ensures { IfOk result (λ v. v.items ≡ op_known (marked gone.now) copies.now o.now) }
 {
     match o {
@@ -140,7 +151,12 @@ fn know_op(alloc: Global, gone: &[bool], copies: &[(u32, u32)], o: &Op<u32>) -> 
 }
 
 /// What is known behind a node.
-pub(crate) fn know_node(alloc: Global, gone: &[bool], copies: &[(u32, u32)], n: &Node<u32>) -> Result<Copies, Memory>
+pub(crate) fn know_node(
+    alloc: Global,
+    gone: &[bool],
+    copies: &[(u32, u32)],
+    n: &Node<u32>,
+) -> Result<Copies, Memory>
     ensures { IfOk result (λ v. v.items ≡ node_known (marked gone.now) copies.now (node n.now)) }
 {
     match n {

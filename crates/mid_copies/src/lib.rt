@@ -4,12 +4,12 @@
 //! It promises that the code does what it did, in no more work, with the same temporaries, parameters and locals. It stands on mid_code.
 #![tactic(auto)]
 
-mod known;
-mod rewrite;
-mod right;
 mod counts;
 mod functions;
+mod known;
 mod marks;
+mod rewrite;
+mod right;
 mod sparing;
 
 pub use sparing::spare_copies;

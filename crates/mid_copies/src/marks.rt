@@ -6,23 +6,20 @@ use mid_code::{Function, Node, Op};
 use std::alloc::Global;
 
 /// A temporary that is used while its copy is known takes no cell.
-fn mark(gone: &mut [bool], copies: &[(u32, u32)], q: u32)
-{
+fn mark(gone: &mut [bool], copies: &[(u32, u32)], q: u32) {
     let i = q as usize;
     if i < gone.len() && is_copy(copies, q) {
         gone[i] = true;
     }
 }
 
-fn mark_all(gone: &mut [bool], copies: &[(u32, u32)], qs: &[u32])
-{
+fn mark_all(gone: &mut [bool], copies: &[(u32, u32)], qs: &[u32]) {
     for q in qs {
         mark(gone, copies, *q);
     }
 }
 
-fn mark_op(gone: &mut [bool], copies: &[(u32, u32)], o: &Op<u32>)
-{
+fn mark_op(gone: &mut [bool], copies: &[(u32, u32)], o: &Op<u32>) {
     match o {
         Op::Const(_, _) => {}
         Op::Null(_) => {}
@@ -55,8 +52,7 @@ fn mark_node(
     gone: &mut [bool],
     copies: &[(u32, u32)],
     n: &Node<u32>,
-) -> Result<(), Memory>
-{
+) -> Result<(), Memory> {
     match n {
         Node::Do(o) => {
             mark_op(gone, copies, o);
@@ -86,8 +82,7 @@ fn mark_nodes(
     single: &[bool],
     gone: &mut [bool],
     ns: &[Node<u32>],
-) -> Result<(), Memory>
-{
+) -> Result<(), Memory> {
     let mut copies = Vec::new(alloc);
     for n in ns {
         mark_node(alloc, single, gone, copies.as_slice(), n)?;
@@ -97,10 +92,14 @@ fn mark_nodes(
 }
 
 /// Which temporaries take no cell: those that are the target of one move alone, and are used once, while the other temporary keeps its cell.
-pub(crate) fn marks_of(alloc: Global, f: &Function<u32>) -> Result<Vec<bool>, Memory>
-{
+pub(crate) fn marks_of(alloc: Global, f: &Function<u32>) -> Result<Vec<bool>, Memory> {
     let single = singles(alloc, f)?;
     let mut gone = Vec::from_elem(alloc, false, f.temps as usize)?;
-    mark_nodes(alloc, single.as_slice(), gone.as_mut_slice(), f.body.as_slice())?;
+    mark_nodes(
+        alloc,
+        single.as_slice(),
+        gone.as_mut_slice(),
+        f.body.as_slice(),
+    )?;
     Ok(gone)
 }

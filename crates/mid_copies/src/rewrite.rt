@@ -44,7 +44,12 @@ fn spare_move(gone: &[bool], copies: &[(u32, u32)], t: u32, a: u32) -> Option<Op
 }
 
 /// The operation that stands for one, where one does.
-fn spare_op(alloc: Global, gone: &[bool], copies: &[(u32, u32)], o: &Op<u32>) -> Result<Option<Op<u32>>, Memory>
+fn spare_op(
+    alloc: Global,
+    gone: &[bool],
+    copies: &[(u32, u32)],
+    o: &Op<u32>,
+) -> Result<Option<Op<u32>>, Memory>
     ensures { IfOk result (λ r. r ≡ op_spared (marked gone.now) copies.now o.now) }
 {
     Ok(match o {
@@ -59,7 +64,12 @@ fn spare_op(alloc: Global, gone: &[bool], copies: &[(u32, u32)], o: &Op<u32>) ->
         Op::Card(t) => Some(Op::Card(*t)),
         Op::Step(t, p, n) => Some(Op::Step(*t, origin(copies, *p), origin(copies, *n))),
         Op::Apart(t, p, q) => Some(Op::Apart(*t, origin(copies, *p), origin(copies, *q))),
-        Op::PtrTest(o, t, p, q) => Some(Op::PtrTest(*o, *t, origin(copies, *p), origin(copies, *q))),
+        Op::PtrTest(o, t, p, q) => Some(Op::PtrTest(
+            *o,
+            *t,
+            origin(copies, *p),
+            origin(copies, *q),
+        )),
         Op::Load(t, p) => Some(Op::Load(*t, origin(copies, *p))),
         Op::Store(p, a) => Some(Op::Store(origin(copies, *p), origin(copies, *a))),
         Op::Fresh(k) => Some(Op::Fresh(*k)),
@@ -105,7 +115,11 @@ fn spare_node(
         Node::Choose(p, a, b) => {
             let first = spare_nodes(alloc, gone, a.as_slice())?;
             let second = spare_nodes(alloc, gone, b.as_slice())?;
-            out.push(Node::Choose(origin(copies, *p), Seq::from_vec(first), Seq::from_vec(second)))?;
+            out.push(Node::Choose(
+                origin(copies, *p),
+                Seq::from_vec(first),
+                Seq::from_vec(second),
+            ))?;
         }
         Node::Block(b) => {
             let inside = spare_nodes(alloc, gone, b.as_slice())?;
@@ -124,7 +138,11 @@ fn spare_node(
 
 /// The nodes that stand for these.
 #[cycle(spare)]
-pub(crate) fn spare_nodes(alloc: Global, gone: &[bool], ns: &[Node<u32>]) -> Result<Vec<Node<u32>>, Memory>
+pub(crate) fn spare_nodes(
+    alloc: Global,
+    gone: &[bool],
+    ns: &[Node<u32>],
+) -> Result<Vec<Node<u32>>, Memory>
     ensures { IfOk result (λ r. map node r.items ≡ list_spared (marked gone.now) [] (listed (map node ns.now))) }
 {
     let mut found = Vec::new(alloc);

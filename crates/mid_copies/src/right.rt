@@ -77,7 +77,12 @@ fn maybe_serves(gone: &[bool], copies: &[(u32, u32)], p: Option<u32>) -> bool
 }
 
 #[cycle(right)]
-fn is_node_right(alloc: Global, gone: &[bool], copies: &[(u32, u32)], n: &Node<u32>) -> Result<bool, Memory>
+fn is_node_right(
+    alloc: Global,
+    gone: &[bool],
+    copies: &[(u32, u32)],
+    n: &Node<u32>,
+) -> Result<bool, Memory>
     ensures { IfOk result (λ b. b ≡ node_right (marked gone.now) copies.now (node n.now)) }
 {
     match n {
@@ -101,7 +106,11 @@ fn is_node_right(alloc: Global, gone: &[bool], copies: &[(u32, u32)], n: &Node<u
 
 /// Whether it is right at each node of these, which begin with nothing known.
 #[cycle(right)]
-pub(crate) fn are_nodes_right(alloc: Global, gone: &[bool], ns: &[Node<u32>]) -> Result<bool, Memory>
+pub(crate) fn are_nodes_right(
+    alloc: Global,
+    gone: &[bool],
+    ns: &[Node<u32>],
+) -> Result<bool, Memory>
     ensures { IfOk result (λ b. b ≡ list_right (marked gone.now) [] (listed (map node ns.now))) }
 {
     let mut copies = Vec::new(alloc);

@@ -1,42 +1,29 @@
 // Programs without the copies that are not made.
-ghost use Rattle.std.specs.Prelude.{◌≡◌, IfOk};
+ghost use Rattle.std.specs.Prelude.{IfOk};
 ghost use Rattle.mid_code.specs.Whole.{mid};
 ghost use Rattle.mid_copies.specs.SparedFrom.{IsSparedFrom};
 
-use crate::functions::{copy_words, spare_function, spare_functions};
-use kit_base::{Memory, Name, Seq};
+use crate::functions::{spare_function, spare_functions};
+use kit_base::{Memory, Seq};
 use mid_code::laws::mid_code_is_sound;
 use mid_code::{Code, Mid};
 use std::alloc::Global;
 
-/// The texts again.
-fn copy_literals(alloc: Global, literals: &[Name]) -> Result<Vec<Name>, Memory>
-    ensures { IfOk result (λ v. v.items ≡ literals.now) }
-{
-    let mut found = Vec::new(alloc);
-    for literal in literals {
-        found.push(literal.copy(alloc)?)?;
-    }
-    Ok(found)
-}
-
 /// The code in which no temporary takes the cell of another one that serves in its place: where it is the target of that move alone, is used once, by a
 /// node behind it in the same list, and between the two stands no node that chooses, repeats or leaves and none that gives the other one a cell. The error is want of
-/// memory.
-pub fn spare_copies(alloc: Global, m: &Mid) -> Result<Mid, Memory>
-    ensures spared { IfOk result (λ r. IsSparedFrom (mid m.now) (mid r)) }
+/// memory, and then the code given is dropped.
+pub fn spare_copies(alloc: Global, m: Mid) -> Result<Mid, Memory>
+    ensures spared { IfOk result (λ r. IsSparedFrom (mid m) (mid r)) }
 {
-    mid_code_is_sound(m);
-    let of = m.code();
+    mid_code_is_sound(&m);
+    let of = m.into_code();
     let start = spare_function(alloc, &of.start)?;
     let functions = spare_functions(alloc, of.functions.as_slice())?;
-    let globals = copy_words(alloc, of.globals.as_slice())?;
-    let literals = copy_literals(alloc, of.literals.as_slice())?;
     Ok(Mid::new(Code {
         start,
         functions: Seq::from_vec(functions),
-        globals: Seq::from_vec(globals),
-        literals: Seq::from_vec(literals),
+        globals: of.globals,
+        literals: of.literals,
         main: of.main,
     }))
 }

@@ -26,31 +26,37 @@ use Rattle.reg_frames.specs.PlacedFrom.{IsPlacedFrom}
 use Rattle.asm_emit.specs.EmittedFrom.{IsEmitted, literal_words}
 use Rattle.asm_laws.specs.Tables.{addresses}
 
-module _ (p : ProgramT) (m promoted spared : CodeT ℕ) (cs : List (List Where)) (x : PlacedT) (names : List (List ℕ)) (items : List AsmItem)
-    (l : IsLoweredFrom p m) (o : IsPromotedFrom m promoted) (r : IsSparedFrom promoted spared) (c : IsPlacedFrom spared cs x) (e : IsEmitted x names items) where
+module _ (p : ProgramT) (m first spared promoted : CodeT ℕ) (cs : List (List Where)) (x : PlacedT) (names : List (List ℕ)) (items : List AsmItem)
+    (l : IsLoweredFrom p m) (o : IsPromotedFrom m first) (r : IsSparedFrom first spared) (q : IsPromotedFrom spared promoted) (c : IsPlacedFrom promoted cs x) (e : IsEmitted x names items) where
   abbrev source : Meaning
   source = c_runs p x.frames
 
-  pub lowered_keeps : KeepsRuns source (mid_runs promoted x.frames)
-  lowered_keeps = keeps_through source (mid_runs m x.frames) (mid_runs promoted x.frames) (l.keeps x.frames) (o.keeps x.frames)
+  first_keeps : KeepsRuns source (mid_runs first x.frames)
+  first_keeps = keeps_through source (mid_runs m x.frames) (mid_runs first x.frames) (l.keeps x.frames) (o.keeps x.frames)
 
-  -- from promoted code on
-  pub placed_keeps : KeepsRuns (mid_runs promoted x.frames) (placed_runs x)
-  placed_keeps = keeps_through (mid_runs promoted x.frames) (mid_runs spared x.frames) (placed_runs x) (r.keeps x.frames) c.keeps
+  first_works : WorksAtMost 64 source (mid_runs first x.frames)
+  first_works = works_through 64 source (mid_runs m x.frames) (mid_runs first x.frames) (l.keeps x.frames) (l.works x.frames) (o.works x.frames)
 
-  pub placed_works : WorksAtMost 1 (mid_runs promoted x.frames) (placed_runs x)
-  placed_works = works_through 1 (mid_runs promoted x.frames) (mid_runs spared x.frames) (placed_runs x) (r.keeps x.frames) (r.works x.frames) c.works
+  spared_keeps : KeepsRuns source (mid_runs spared x.frames)
+  spared_keeps = keeps_through source (mid_runs first x.frames) (mid_runs spared x.frames) first_keeps (r.keeps x.frames)
+
+  spared_works : WorksAtMost 64 source (mid_runs spared x.frames)
+  spared_works = works_through 64 source (mid_runs first x.frames) (mid_runs spared x.frames) first_keeps first_works (r.works x.frames)
+
+  pub promoted_keeps : KeepsRuns source (mid_runs promoted x.frames)
+  promoted_keeps = keeps_through source (mid_runs spared x.frames) (mid_runs promoted x.frames) spared_keeps (q.keeps x.frames)
+
+  promoted_works : WorksAtMost 64 source (mid_runs promoted x.frames)
+  promoted_works = works_through 64 source (mid_runs spared x.frames) (mid_runs promoted x.frames) spared_keeps spared_works (q.works x.frames)
 
   pub keeps : KeepsRuns source (placed_runs x)
-  keeps = keeps_through source (mid_runs promoted x.frames) (placed_runs x) lowered_keeps placed_keeps
+  keeps = keeps_through source (mid_runs promoted x.frames) (placed_runs x) promoted_keeps c.keeps
 
   pub works : WorksAtMost 64 source (placed_runs x)
-  works =
-      works_through 64 source (mid_runs promoted x.frames) (placed_runs x) lowered_keeps
-      (works_through 64 source (mid_runs m x.frames) (mid_runs promoted x.frames) (l.keeps x.frames) (l.works x.frames) (o.works x.frames)) placed_works
+  works = works_through 64 source (mid_runs promoted x.frames) (placed_runs x) promoted_keeps promoted_works c.works
 
   same_globals : x.code.globals ≡ map (λ g. g.1) p.globals
-  same_globals = c.globals ∙ r.globals ∙ o.globals ∙ l.globals
+  same_globals = c.globals ∙ q.globals ∙ r.globals ∙ o.globals ∙ l.globals
 
   pub agrees : (words : List ℕ) (labels : List (List ℕ × ℕ)) → asm.Placed items words labels → AgreesWithin 64 (addresses 0 (map (λ g. g.1) p.globals)) source words
   agrees words labels stands =
@@ -61,19 +67,20 @@ module _ (p : ProgramT) (m promoted spared : CodeT ℕ) (cs : List (List Where))
   pub follows : (words : List ℕ) (labels : List (List ℕ × ℕ)) → asm.Placed items words labels → AgreesWithin 1 (addresses 0 (map (λ g. g.1) p.globals)) (mid_runs promoted x.frames) words
   follows words labels stands =
       subst (λ globals. AgreesWithin 1 (addresses 0 globals) (mid_runs promoted x.frames) words) same_globals
-      (within_through 1 (addresses 0 x.code.globals) (mid_runs promoted x.frames) (placed_runs x) words placed_keeps placed_works (e.agrees words labels stands))
+      (within_through 1 (addresses 0 x.code.globals) (mid_runs promoted x.frames) (placed_runs x) words c.keeps c.works (e.agrees words labels stands))
 
   same_literals : x.code.literals ≡ p.literals
-  same_literals = c.literals ∙ r.literals ∙ o.literals ∙ l.literals
+  same_literals = c.literals ∙ q.literals ∙ r.literals ∙ o.literals ∙ l.literals
 
   placed_small : total_size items ≤ 128 * program_nodes p + literal_words x + 64
-  placed_small = omega (arith, e.small, c.weighs, r.weighs, o.weighs, l.weighs)
+  placed_small = omega (arith, e.small, c.weighs, q.weighs, r.weighs, o.weighs, l.weighs)
 
   pub small : total_size items ≤ 128 * program_nodes p + sum_by (λ text. length text + 1) p.literals + 64
   small = subst (λ (texts : List (List ℕ)). total_size items ≤ 128 * program_nodes p + sum_by (λ text. length text + 1) texts + 64) same_literals placed_small
 
 -- A function without loops has none in placed code, and calls there only what its tree calls.
-pub straight : {P Q R : Type 0} (s : Setting) (f : TFunctionT) (g : FunctionT ℕ) (h : FunctionT P) (i : FunctionT Q) (k : FunctionT R)
-    → IsLoweredFunction s f g → AddsNone g.body h.body → AddsNone h.body i.body → AddsNone i.body k.body → HasNoLoops s f → (loops k.body ≡ 0) × ((n : ℕ) → CallsTo n k.body → TreeCalls n f)
-straight s f g h i k a b c d none =
-    (omega (arith, d.loop_count, c.loop_count, b.loop_count, (a.straight none).loop_count), λ n calls. (a.straight none).calls n (b.calls n (c.calls n (d.calls n calls))))
+pub straight : {P Q R S : Type 0} (s : Setting) (f : TFunctionT) (g : FunctionT ℕ) (h : FunctionT P) (i : FunctionT Q) (j : FunctionT R) (k : FunctionT S)
+    → IsLoweredFunction s f g → AddsNone g.body h.body → AddsNone h.body i.body → AddsNone i.body j.body → AddsNone j.body k.body → HasNoLoops s f
+    → (loops k.body ≡ 0) × ((n : ℕ) → CallsTo n k.body → TreeCalls n f)
+straight s f g h i j k a b c d e none =
+    (omega (arith, e.loop_count, d.loop_count, c.loop_count, b.loop_count, (a.straight none).loop_count), λ n calls. (a.straight none).calls n (b.calls n (c.calls n (d.calls n (e.calls n calls)))))

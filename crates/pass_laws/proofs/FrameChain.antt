@@ -12,7 +12,6 @@ use Rattle.mid_code.specs.Code.{FunctionT, CodeT}
 use Rattle.mid_code.specs.Placed.{PlacedT}
 use Rattle.mid_code.specs.Invariants.{DifferFrom, AreDifferent}
 use Rattle.mid_code.specs.Safe.{IsSafe}
-use Rattle.mid_code.specs.Together.{WordsAtOnce}
 use Rattle.mid_lower.specs.LoweredFrom.{IsLoweredFunction, EachLowered, IsLoweredFrom}
 use Rattle.mid_scalars.specs.PromotedFrom.{Renumbered, IsPromotedFunction, EachPromoted, IsPromotedFrom}
 use Rattle.mid_copies.specs.SparedFrom.{IsSparedFunction, EachSpared, IsSparedFrom}
@@ -47,6 +46,12 @@ slot_few ns (Slot number) = cond_few (is_among ns number) ns number
 slots_few_from : (ns : List ℕ) (at : List Where) → length (slots_from ns at) ≤ length ns + length at
 slots_few_from ns [] = omega arith
 slots_few_from ns (w ∷ ws) = omega (arith, slot_few ns w, slots_few_from (with_slot ns w) ws)
+
+-- the words of different locals
+record AreWords (f : FunctionT ℕ) (sizes : List ℕ) : Type 0 where
+  locals : List ℕ
+  different : AreDifferent locals
+  words : sizes ≡ map (λ k. get_or f.locals k 0) locals
 
 slots_few : (at : List Where) → slot_count at ≤ length at
 slots_few at = omega (arith, slots_few_from [] at)
@@ -93,47 +98,55 @@ module _ (g h : FunctionT ℕ) (b : IsPromotedFunction g h) where
   different (k ∷ ks) [] d r = absurd r
   different (k ∷ ks) (j ∷ js) d r = (differs k j ks js r.0 d.0 r.1, different ks js d.1 r.1)
 
-  large_stay : (sizes : List ℕ) → AllTwo sizes → WordsAtOnce g sizes → WordsAtOnce h sizes
+  large_stay : (sizes : List ℕ) → AllTwo sizes → AreWords g sizes → AreWords h sizes
   large_stay sizes t w =
       let r = numbers w.locals (subst AllTwo w.words t) in
       record {
         locals = r.0;
         different = different w.locals r.0 w.different r.1;
-        together = b.together w.locals r.0 r.1 w.together;
         words = w.words ∙ same_words w.locals r.0 r.1;
       }
 
 -- ---- the frame
 
--- code without copies keeps the temporaries and the locals
-pub fits : (s : Setting) (f : TFunctionT) (g h k : FunctionT ℕ) (at : List Where) (size : ℕ)
-    → IsLoweredFunction s f g → IsPromotedFunction g h → IsSparedFunction h k → IsSafe k at → IsFrameOf k at size → FitsFrame s f size
-fits s f g h k at size a b r safe c = record {
-  at_most = let locals = ap sum r.locals in omega (arith, c.at_most, slots_few at, safe.count, r.temporaries, locals, b.frame_words, a.local_words, a.temporaries);
+-- code without copies keeps the locals
+same_stay : (g h : FunctionT ℕ) → IsSparedFunction g h → (sizes : List ℕ) → AreWords g sizes → AreWords h sizes
+same_stay g h r sizes w = record { locals = w.locals; different = w.different; words = w.words ∙ ap (λ locals. map (λ k. get_or locals k 0) w.locals) (sym r.locals) }
+
+-- a frame with words for each local holds these
+holds : (h : FunctionT ℕ) (size : ℕ) (sizes : List ℕ) → sum h.locals ≤ size → AreWords h sizes → sum sizes ≤ size
+holds h size sizes all w = let words = ap sum w.words in omega (arith, different_words w.locals h.locals w.different, words, all)
+
+-- a function, promoted, without copies, and promoted again
+pub fits : (s : Setting) (f : TFunctionT) (g h i j : FunctionT ℕ) (at : List Where) (size : ℕ)
+    → IsLoweredFunction s f g → IsPromotedFunction g h → IsSparedFunction h i → IsPromotedFunction i j → IsSafe j at → IsFrameOf j at size → FitsFrame s f size
+fits s f g h i j at size a b r q safe c = record {
+  at_most = let locals = ap sum r.locals in omega (arith, c.at_most, slots_few at, safe.count, q.frame_words, r.temporaries, locals, b.frame_words, a.local_words, a.temporaries);
   at_least = λ sizes l.
-      let w = large_stay g h b sizes (subst AllTwo (sym l.words) (large_two f l.objects l.large)) (a.together sizes l) in
-      let words = ap sum w.words in
-      let locals = ap sum r.locals in
-      omega (arith, different_words w.locals h.locals w.different, words, locals, c.holds_all);
+      let two = subst AllTwo (sym l.words) (large_two f l.objects l.large) in
+      let w = a.together sizes l in
+      holds j size sizes c.holds_all (large_stay i j q sizes two (same_stay h i r sizes (large_stay g h b sizes two (record { locals = w.locals; different = w.different; words = w.words }))));
 }
 
-pub all_fit : (s : Setting) (fs : List TFunctionT) (gs hs ks : List (FunctionT ℕ)) (cs : List (List Where)) (sizes : List ℕ)
-    → EachLowered s fs gs → EachPromoted gs hs → EachSpared hs ks → EachSafe ks cs → AreFrames ks cs sizes → EachFits s fs sizes
-all_fit s [] [] [] [] [] [] a b r c d = tt
-all_fit s [] [] [] [] [] (size ∷ sizes) a b r c d = absurd d
-all_fit s [] [] [] [] (at ∷ cs) sizes a b r c d = absurd c
-all_fit s [] [] [] (k ∷ ks) cs sizes a b r c d = absurd r
-all_fit s [] [] (h ∷ hs) ks cs sizes a b r c d = absurd b
-all_fit s [] (g ∷ gs) hs ks cs sizes a b r c d = absurd a
-all_fit s (f ∷ fs) [] hs ks cs sizes a b r c d = absurd a
-all_fit s (f ∷ fs) (g ∷ gs) [] ks cs sizes a b r c d = absurd b
-all_fit s (f ∷ fs) (g ∷ gs) (h ∷ hs) [] cs sizes a b r c d = absurd r
-all_fit s (f ∷ fs) (g ∷ gs) (h ∷ hs) (k ∷ ks) [] sizes a b r c d = absurd c
-all_fit s (f ∷ fs) (g ∷ gs) (h ∷ hs) (k ∷ ks) (at ∷ cs) [] a b r c d = absurd d
-all_fit s (f ∷ fs) (g ∷ gs) (h ∷ hs) (k ∷ ks) (at ∷ cs) (size ∷ sizes) a b r c d = (fits s f g h k at size a.0 b.0 r.0 c.0 d.0, all_fit s fs gs hs ks cs sizes a.1 b.1 r.1 c.1 d.1)
+pub all_fit : (s : Setting) (fs : List TFunctionT) (gs hs is js : List (FunctionT ℕ)) (cs : List (List Where)) (sizes : List ℕ)
+    → EachLowered s fs gs → EachPromoted gs hs → EachSpared hs is → EachPromoted is js → EachSafe js cs → AreFrames js cs sizes → EachFits s fs sizes
+all_fit s [] [] [] [] [] [] [] a b r q c d = tt
+all_fit s [] [] [] [] [] [] (size ∷ sizes) a b r q c d = absurd d
+all_fit s [] [] [] [] [] (at ∷ cs) sizes a b r q c d = absurd c
+all_fit s [] [] [] [] (j ∷ js) cs sizes a b r q c d = absurd q
+all_fit s [] [] [] (i ∷ is) js cs sizes a b r q c d = absurd r
+all_fit s [] [] (h ∷ hs) is js cs sizes a b r q c d = absurd b
+all_fit s [] (g ∷ gs) hs is js cs sizes a b r q c d = absurd a
+all_fit s (f ∷ fs) [] hs is js cs sizes a b r q c d = absurd a
+all_fit s (f ∷ fs) (g ∷ gs) [] is js cs sizes a b r q c d = absurd b
+all_fit s (f ∷ fs) (g ∷ gs) (h ∷ hs) [] js cs sizes a b r q c d = absurd r
+all_fit s (f ∷ fs) (g ∷ gs) (h ∷ hs) (i ∷ is) [] cs sizes a b r q c d = absurd q
+all_fit s (f ∷ fs) (g ∷ gs) (h ∷ hs) (i ∷ is) (j ∷ js) [] sizes a b r q c d = absurd c
+all_fit s (f ∷ fs) (g ∷ gs) (h ∷ hs) (i ∷ is) (j ∷ js) (at ∷ cs) [] a b r q c d = absurd d
+all_fit s (f ∷ fs) (g ∷ gs) (h ∷ hs) (i ∷ is) (j ∷ js) (at ∷ cs) (size ∷ sizes) a b r q c d = (fits s f g h i j at size a.0 b.0 r.0 q.0 c.0 d.0, all_fit s fs gs hs is js cs sizes a.1 b.1 r.1 q.1 c.1 d.1)
 
 -- each frame of a placed program fits its function
-pub frames_fit : (p : ProgramT) (m promoted spared : CodeT ℕ) (cs : List (List Where)) (x : PlacedT)
-    → IsLoweredFrom p m → IsPromotedFrom m promoted → IsSparedFrom promoted spared → AreSafe spared cs → IsPlacedFrom spared cs x → EachFits (setting p []) p.functions x.frames
-frames_fit p m promoted spared [] x l o r a c = absurd a
-frames_fit p m promoted spared (start ∷ cs) x l o r a c = all_fit (setting p []) p.functions m.functions promoted.functions spared.functions cs x.frames l.functions o.functions r.functions a.1 c.frames
+pub frames_fit : (p : ProgramT) (m first spared promoted : CodeT ℕ) (cs : List (List Where)) (x : PlacedT)
+    → IsLoweredFrom p m → IsPromotedFrom m first → IsSparedFrom first spared → IsPromotedFrom spared promoted → AreSafe promoted cs → IsPlacedFrom promoted cs x → EachFits (setting p []) p.functions x.frames
+frames_fit p m first spared promoted [] x l o r q a c = absurd a
+frames_fit p m first spared promoted (start ∷ cs) x l o r q a c = all_fit (setting p []) p.functions m.functions first.functions spared.functions promoted.functions cs x.frames l.functions o.functions r.functions q.functions a.1 c.frames

@@ -36,12 +36,12 @@ pub record DoesAsMeant (p : ProgramT) (promoted : CodeT ℕ) (x : PlacedT) (item
 
 abbrev pub PassesMeet : Type 0
 PassesMeet =
-    (p : ProgramT) (m promoted spared : CodeT ℕ) (cs : List (List Where)) (x : PlacedT) (names : List (List ℕ)) (items : List AsmItem)
-    → IsLoweredFrom p m → IsPromotedFrom m promoted → IsSparedFrom promoted spared → AreSafe spared cs → IsPlacedFrom spared cs x → IsEmitted x names items
-    → DoesAsMeant p promoted x items
+    (p : ProgramT) (m first spared promoted : CodeT ℕ) (cs : List (List Where)) (x : PlacedT) (names : List (List ℕ)) (items : List AsmItem)
+    → IsLoweredFrom p m → IsPromotedFrom m first → IsSparedFrom first spared → IsPromotedFrom spared promoted → AreSafe promoted cs → IsPlacedFrom promoted cs x
+    → IsEmitted x names items → DoesAsMeant p promoted x items
 
--- a function in the tree, lowered, promoted, without copies, and placed
+-- a function in the tree, lowered, promoted, without copies, promoted again, and placed
 abbrev pub StraightStays : Type 0
 StraightStays =
-    (s : Setting) (f : TFunctionT) (g h i : FunctionT ℕ) (k : FunctionT Where)
-    → IsLoweredFunction s f g → AddsNone g.body h.body → AddsNone h.body i.body → AddsNone i.body k.body → HasNoLoops s f → (loops k.body ≡ 0) × ((n : ℕ) → CallsTo n k.body → TreeCalls n f)
+    (s : Setting) (f : TFunctionT) (g h i j : FunctionT ℕ) (k : FunctionT Where)
+    → IsLoweredFunction s f g → AddsNone g.body h.body → AddsNone h.body i.body → AddsNone i.body j.body → AddsNone j.body k.body → HasNoLoops s f → (loops k.body ≡ 0) × ((n : ℕ) → CallsTo n k.body → TreeCalls n f)

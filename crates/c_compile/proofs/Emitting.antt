@@ -17,6 +17,7 @@ use Rattle.mid_code.specs.Placed.{PlacedT}
 use Rattle.mid_code.specs.Choices.{AreSafe}
 use Rattle.mid_lower.specs.LoweredFrom.{EachLowered, IsLoweredFrom}
 use Rattle.mid_scalars.specs.PromotedFrom.{EachPromoted, IsPromotedFrom}
+use Rattle.mid_copies.specs.SparedFrom.{EachSpared, IsSparedFrom}
 use Rattle.reg_frames.specs.PlacedFrom.{IsPlacedFrom}
 use Rattle.asm_emit.specs.EmittedFrom.{CanBeEmitted, IsEmitted, literal_words}
 use Rattle.pass_laws.specs.Meeting.{PassesMeet, DoesAsMeant}
@@ -60,30 +61,36 @@ as_promoted [] (g ∷ gs) h = absurd h
 as_promoted (f ∷ fs) [] h = absurd h
 as_promoted (f ∷ fs) (g ∷ gs) h = ap suc (as_promoted fs gs h.1)
 
+as_spared : (fs gs : List (FunctionT ℕ)) → EachSpared fs gs → length fs ≡ length gs
+as_spared [] [] h = refl
+as_spared [] (g ∷ gs) h = absurd h
+as_spared (f ∷ fs) [] h = absurd h
+as_spared (f ∷ fs) (g ∷ gs) h = ap suc (as_spared fs gs h.1)
+
 as_placed : (fs : List (FunctionT ℕ)) (gs : List (FunctionT Where)) → NoneAdd fs gs → length fs ≡ length gs
 as_placed [] [] h = refl
 as_placed [] (g ∷ gs) h = absurd h
 as_placed (f ∷ fs) [] h = absurd h
 as_placed (f ∷ fs) (g ∷ gs) h = ap suc (as_placed fs gs h.1)
 
-module _ (p : ProgramT) (m promoted : CodeT ℕ) (cs : List (List Where)) (x : PlacedT) (l : IsLoweredFrom p m) (o : IsPromotedFrom m promoted) (c : IsPlacedFrom promoted cs x) where
+module _ (p : ProgramT) (m first spared promoted : CodeT ℕ) (cs : List (List Where)) (x : PlacedT) (l : IsLoweredFrom p m) (o : IsPromotedFrom m first) (r : IsSparedFrom first spared) (q : IsPromotedFrom spared promoted) (c : IsPlacedFrom promoted cs x) where
   pub can_be_emitted : (names : List (List ℕ)) → names ≡ names_of p → IsSound p → program_nodes p ≤ 200000 → CanBeEmitted x names
   can_be_emitted names e sound few =
-      let literals : x.code.literals ≡ p.literals = c.literals ∙ o.literals ∙ l.literals in
+      let literals : x.code.literals ≡ p.literals = c.literals ∙ q.literals ∙ r.literals ∙ o.literals ∙ l.literals in
       let words : literal_words x ≤ 4000000 = subst (λ (ts : List (List ℕ)). sum_by (λ t. length t + 1) ts ≤ 4000000) (sym literals) sound.literals in
       record {
-        named = ap length e ∙ length-map p.functions (λ f. f.name) ∙ as_lowered (setting p []) p.functions m.functions l.functions ∙ as_promoted m.functions promoted.functions o.functions ∙ as_placed promoted.functions x.code.functions c.adds_none;
+        named = ap length e ∙ length-map p.functions (λ f. f.name) ∙ as_lowered (setting p []) p.functions m.functions l.functions ∙ as_promoted m.functions first.functions o.functions ∙ as_spared first.functions spared.functions r.functions ∙ as_promoted spared.functions promoted.functions q.functions ∙ as_placed promoted.functions x.code.functions c.adds_none;
         differ = subst AreDifferent (sym e) (different (names_of p) sound.function_names);
         words = ap (list_all is_word) e ∙ names_are_words (scene p) p.functions sound.functions;
-        room = omega (arith, words, few, l.weighs, o.weighs, c.weighs);
+        room = omega (arith, words, few, l.weighs, o.weighs, r.weighs, q.weighs, c.weighs);
       }
 
   pub is_compiled : (items : List AsmItem) → AreSafe promoted cs → AllSpare promoted cs → IsEmitted x (names_of p) items → PassesMeet → IsCompiled p (record { mid = promoted; choices = cs; placed = x; items = items })
   is_compiled items safe spares emitted meet = record {
-    promoted = o.promoted;
+    promoted = q.promoted;
     safe = safe;
     spares = spares;
     placed = c;
     emitted = emitted;
-    does = meet p m promoted cs x (names_of p) items l o safe c emitted;
+    does = meet p m first spared promoted cs x (names_of p) items l o r q safe c emitted;
   }

@@ -12,6 +12,7 @@ use c_check::Program;
 use c_facts::laws::{programs_are_sound, programs_have_few_nodes};
 use kit_base::Memory;
 use mid_code::{Choice, Mid, Placed};
+use mid_copies::spare_copies;
 use mid_lower::lower;
 use mid_scalars::promote;
 use pass_laws::passes_meet;
@@ -38,7 +39,9 @@ pub fn compile_lowered(alloc: Global, checked: &Program, lowered: Mid) -> Result
     programs_are_sound(checked);
     programs_have_few_nodes(checked);
     passes_meet();
-    let mid = promote(alloc, lowered)?;
+    let first = promote(alloc, lowered)?;
+    let spared = spare_copies(alloc, first)?;
+    let mid = promote(alloc, spared)?;
     let choices = choose_all(alloc, &mid)?;
     let placed = place(alloc, &mid, &choices)?;
     let names = names_of(alloc, checked.functions())?;
@@ -51,8 +54,8 @@ pub fn compile_lowered(alloc: Global, checked: &Program, lowered: Mid) -> Result
     })
 }
 
-/// What is made of a program: it is lowered to mid code, from which local places that need no address are taken; a register or slot is chosen for each
-/// temporary; and the code over these places becomes assembly items. The error is want of memory.
+/// What is made of a program: it is lowered to mid code, from which local places that need no address are taken, and copies that need not be made, and then places whose
+/// address was only copied; a register or slot is chosen for each temporary; and the code over these places becomes assembly items. The error is want of memory.
 pub fn compile(alloc: Global, checked: &Program) -> Result<Compiled, Memory>
     ensures compiled { IfOk result (λ c. IsCompiled (program checked.now) (compiled c)) }
 {

@@ -1,6 +1,5 @@
--- What types, nodes and lists in memory stand for.
-use Rattle.std.proofs.Common.{◌≡◌, ◌≤◌, ℕ, zero, List, [], ◌∷◌, ◌++◌, Option, Some, None, map, ap, sym, ◌∙◌, refl, rules, arith, suc, ◌+◌, ◌<◌, length, drop, drop-cons, get_or}
-use Rattle.kit_base.specs.declared.seq.Seq.{Seq}
+-- What types and lists in memory stand for.
+use Rattle.std.proofs.Common.{◌≡◌, ◌≤◌, ℕ, zero, List, [], ◌∷◌, map, ap, sym, ◌∙◌, rules, arith, suc, ◌+◌, ◌<◌, length, drop, drop-cons, get_or}
 use Rattle.c_types.specs.View.{ctype, texpr, tstmt, tstmts, tarm, tarms}
 use Rattle.c_types.specs.Typed.{MoreZ, MoreB}
 use Rattle.c_types.specs.Nodes.{statements_nodes, arms_nodes}
@@ -8,34 +7,9 @@ use Rattle.c_types.specs.declared.typed.TStmt.{TStmt}
 use Rattle.c_types.specs.declared.typed.TArm.{TArm}
 use Rattle.c_types.specs.declared.typed.TExpr.{TExpr, the_lemmas}
 use Rattle.c_meaning.specs.Kinds.{type_of}
-use Rattle.mid_code.specs.declared.node.Node.{Node}
-use Rattle.mid_code.specs.declared.node.Node as nl
-use Rattle.mid_code.specs.declared.node.Node.TheVariants as n
-use Rattle.mid_code.specs.Functions.{NodeT, LoopN, LeaveN, AgainN, ReturnN, listed, node}
 
 pub type_is : (x : TExpr) → type_of (texpr x) ≡ ctype x.ty
 type_is x = search (rules, the_lemmas)
-
--- ---- nodes that are added
-
-mapped : (xs : List (Node ℕ)) (x : Node ℕ) → map node (xs ++ x ∷ []) ≡ map node xs ++ node x ∷ []
-mapped [] x = refl
-mapped (y ∷ xs) x = ap (λ l. node y ∷ l) (mapped xs x)
-
-pub pushed : (xs ys : List (Node ℕ)) (x : Node ℕ) (y : NodeT ℕ) → ys ≡ xs ++ x ∷ [] → node x ≡ y → map node ys ≡ map node xs ++ (y ∷ [])
-pushed xs ys x y e f = ap (map node) e ∙ mapped xs x ∙ ap (λ z. map node xs ++ (z ∷ [])) f
-
-pub again_is : (k : ℕ) → node {P = ℕ} (n.Again k) ≡ AgainN k
-again_is k = search (rules, nl.the_lemmas)
-
-pub leave_is : (k : ℕ) → node {P = ℕ} (n.Leave k) ≡ LeaveN k
-leave_is k = search (rules, nl.the_lemmas)
-
-pub return_is : node {P = ℕ} (n.Return None) ≡ ReturnN None
-return_is = search (rules, nl.the_lemmas)
-
-pub loop_is : (b : List (Node ℕ)) → node (n.Loop b) ≡ LoopN (listed (map node b))
-loop_is b = search (rules, nl.the_lemmas)
 
 -- ---- what is left of a list
 

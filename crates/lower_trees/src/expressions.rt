@@ -1,22 +1,28 @@
 // Expressions, lowered.
-ghost use Rattle.std.specs.Prelude.{◌≡◌, ◌≤◌, ◌+◌, ◌++◌, length, map, IfOk, OnOk};
+ghost use Rattle.std.specs.Prelude.{◌≡◌, ◌≤◌, ◌+◌, ◌++◌, ◌∷◌, [], length, map, false, IfOk, OnOk};
 ghost use Rattle.c_types.specs.View.{ctype, texpr, texprs};
-ghost use Rattle.mid_code.specs.Functions.{node};
-ghost use Rattle.lower_trees.specs.Shape.{params_of};
-ghost use Rattle.lower_trees.specs.Counts.{temps, temps_of, temps_all, value_temps, sizes, sizes_of, sizes_all, value_sizes};
+ghost use Rattle.c_exprs.specs.Nodes.{is_place};
+ghost use Rattle.c_meaning.specs.Kinds.{type_of, decayed};
+ghost use Rattle.mid_code.specs.Functions.{DoN, node};
+ghost use Rattle.lower_trees.specs.Shape.{words, params_of, result_of};
+ghost use Rattle.lower_trees.specs.Flags.{is_flag, tests_flag};
+ghost use Rattle.lower_trees.specs.Counts.{temps, temps_of, temps_all, value_temps, sizes, sizes_of, sizes_all, value_sizes, one_size};
 ghost use Rattle.lower_trees.specs.Expressions.{spots};
-ghost use Rattle.lower_trees.specs.ListedExpressions.{low, low_kind, low_value, low_args};
+ghost use Rattle.lower_trees.specs.ListedParts.{moved_by, structure_read, as_flag, converted, stored, stepped, operated, negated_as};
+ghost use Rattle.lower_trees.specs.ListedExpressions.{low, low_kind, low_value, low_test, low_args, lazy_choice, step_taken, member_of, called};
 ghost use Rattle.lower_trees.specs.View.{shape_of, tkind};
 
 use crate::at::{At, from};
-use crate::cells::{move_by, put};
 use crate::finishing::{
     assign, call, choose_lazy, compound, convert_first, later, lead, member, step, take_structure,
 };
 use crate::kinds::{counts_up, gives_old, is_flag, is_place, lazy_of, tests_flag};
-use crate::operating::{convert, negate_as, operate, put_flag, step_by, test_as};
+use crate::last::{
+    convert_last, move_last, negate_last, operate_last, put_last, step_last, test_last,
+};
 use crate::reading::Reading;
-use c_tree::UnOp;
+use c_exprs::keeping;
+use c_tree::{BinOp, StepOp, UnOp};
 use c_types::{CType, TExpr, TKind};
 use kit_base::Memory;
 use mid_code::{Node, Op};
@@ -65,27 +71,57 @@ pub(crate) fn value(
         return kind(s, &x.kind, &x.ty, t, at, out, structures);
     }
     match &x.ty {
-        CType::Array(_, _) => {
-            let own = from(at.next + 1, at.local);
-            kind(s, &x.kind, &x.ty, t, own, out, structures)
-        }
-        CType::Struct(_) => {
-            let own = from(at.next + 1, at.local);
-            let done = kind(s, &x.kind, &x.ty, t, own, out, structures)?;
-            take_structure(s, out, structures, &x.ty, t, done)
-        }
-        CType::Union(_) => {
-            let own = from(at.next + 1, at.local);
-            let done = kind(s, &x.kind, &x.ty, t, own, out, structures)?;
-            take_structure(s, out, structures, &x.ty, t, done)
-        }
+        CType::Array(_, _) => low(s, x, t, from(at.next + 1, at.local), out, structures),
+        CType::Struct(_) => structure(s, x, t, at, out, structures),
+        CType::Union(_) => structure(s, x, t, at, out, structures),
         CType::Void | CType::Int | CType::Bool | CType::Enum(_) | CType::Pointer(_) => {
-            let own = from(at.next + 1, at.local);
-            let done = kind(s, &x.kind, &x.ty, at.next, own, out, structures)?;
-            put(out, Op::Load(t, at.next))?;
-            Ok(done)
+            cell(s, x, t, at, out, structures)
         }
     }
+}
+
+/// A copy of the structure to whose place an expression comes.
+#[cycle(lower)]
+#[tactic(auto, using(crate::proofs::Joins::length_both))]
+fn structure(
+    s: &Reading<'_>,
+    x: &TExpr,
+    t: u32,
+    at: At,
+    out: &mut Vec<Node<u32>>,
+    structures: &mut Vec<u32>,
+) -> Result<At, Memory>
+    requires temps { at.next + (temps (texpr x.now) + 1) ≤ 1000000 }
+    requires locals { at.local + length (sizes (shape_of s.now) (texpr x.now) ++ words (shape_of s.now) (type_of (texpr x.now)) ∷ []) ≤ 1000000 }
+    ensures nodes { OnOk result (map node out.new.items ≡ map node out.old.items ++ (low (shape_of s.now) (texpr x.now) t (at.next + 1) at.local ++ structure_read (words (shape_of s.now) (type_of (texpr x.now))) (at.local + length (sizes (shape_of s.now) (texpr x.now))) t)) }
+    ensures sizes { OnOk result (structures.new.items ≡ structures.old.items ++ sizes (shape_of s.now) (texpr x.now) ++ words (shape_of s.now) (type_of (texpr x.now)) ∷ []) }
+    ensures next { IfOk result (λ r. r.next ≡ at.next + (temps (texpr x.now) + 1)) }
+    ensures local { IfOk result (λ r. r.local ≡ at.local + length (sizes (shape_of s.now) (texpr x.now) ++ words (shape_of s.now) (type_of (texpr x.now)) ∷ [])) }
+{
+    let done = low(s, x, t, from(at.next + 1, at.local), out, structures)?;
+    take_structure(s, out, structures, &x.ty, t, done)
+}
+
+/// The cell to whose place an expression comes.
+#[cycle(lower)]
+#[tactic(auto, using(crate::proofs::Joins::length_both))]
+fn cell(
+    s: &Reading<'_>,
+    x: &TExpr,
+    t: u32,
+    at: At,
+    out: &mut Vec<Node<u32>>,
+    structures: &mut Vec<u32>,
+) -> Result<At, Memory>
+    requires temps { at.next + (temps (texpr x.now) + 1) ≤ 1000000 }
+    requires locals { at.local + length (sizes (shape_of s.now) (texpr x.now)) ≤ 1000000 }
+    ensures nodes { OnOk result (map node out.new.items ≡ map node out.old.items ++ (low (shape_of s.now) (texpr x.now) at.next (at.next + 1) at.local ++ (DoN (Op.Load t at.next) ∷ []))) }
+    ensures sizes { OnOk result (structures.new.items ≡ structures.old.items ++ sizes (shape_of s.now) (texpr x.now)) }
+    ensures next { IfOk result (λ r. r.next ≡ at.next + (temps (texpr x.now) + 1)) }
+    ensures local { IfOk result (λ r. r.local ≡ at.local + length (sizes (shape_of s.now) (texpr x.now))) }
+{
+    let done = low(s, x, at.next, from(at.next + 1, at.local), out, structures)?;
+    put_last(out, Op::Load(t, at.next), done)
 }
 
 /// What an expression of this kind and type comes to comes to t.
@@ -108,167 +144,376 @@ fn kind(
     ensures local { IfOk result (λ r. r.local ≡ at.local + length (sizes_of (shape_of s.now) (tkind of.now))) }
 {
     match of {
-        TKind::Number(n) => {
-            put(out, Op::Const(t, *n))?;
-            Ok(at)
-        }
-        TKind::Null => {
-            put(out, Op::Null(t))?;
-            Ok(at)
-        }
-        TKind::Literal(number) => {
-            put(out, Op::Literal(t, *number))?;
-            Ok(at)
-        }
-        TKind::Global(number) => {
-            put(out, Op::Global(t, *number))?;
-            Ok(at)
-        }
-        TKind::Local(number) => {
-            put(out, Op::Local(t, *number))?;
-            Ok(at)
-        }
+        TKind::Number(n) => put_last(out, Op::Const(t, *n), at),
+        TKind::Null => put_last(out, Op::Null(t), at),
+        TKind::Literal(number) => put_last(out, Op::Literal(t, *number), at),
+        TKind::Global(number) => put_last(out, Op::Global(t, *number), at),
+        TKind::Local(number) => put_last(out, Op::Local(t, *number), at),
         TKind::Unary(op, x) => match op {
             UnOp::Deref => value(s, x, t, at, out, structures),
             UnOp::Address => low(s, x, t, at, out, structures),
             UnOp::Plus => value(s, x, t, at, out, structures),
-            UnOp::Not => {
-                let done = value(s, x, t, at, out, structures)?;
-                negate_as(out, &x.ty, t)?;
-                Ok(done)
-            }
-            UnOp::Minus => {
-                let done = value(s, x, t, at, out, structures)?;
-                put(out, Op::One(One::ISGN, t, t))?;
-                Ok(done)
-            }
-            UnOp::Flip => {
-                let done = value(s, x, t, at, out, structures)?;
-                put(out, Op::One(One::NOT, t, t))?;
-                Ok(done)
-            }
+            UnOp::Not => negation(s, x, t, at, out, structures),
+            UnOp::Minus => value_then(s, x, Op::One(One::ISGN, t, t), t, at, out, structures),
+            UnOp::Flip => value_then(s, x, Op::One(One::NOT, t, t), t, at, out, structures),
         },
         TKind::Binary(op, x, y) => match lazy_of(*op) {
             None => {
                 let first = value(s, x, at.next, from(at.next + 1, at.local), out, structures)?;
-                let last = value(
-                    s,
-                    y,
-                    first.next,
-                    from(first.next + 1, first.local),
-                    out,
-                    structures,
-                )?;
-                operate(s, out, *op, &x.ty, &y.ty, t, at.next, first.next)?;
-                Ok(last)
+                operation(s, y, *op, &x.ty, t, at.next, first, out, structures)
             }
             Some(and) => {
-                let first = value(s, x, t, at, out, structures)?;
-                test_as(out, &x.ty, t)?;
-                let mut inside = Vec::new(s.alloc);
-                let last = value(
-                    s,
-                    y,
-                    t,
-                    from(first.next + 1, first.local),
-                    &mut inside,
-                    structures,
-                )?;
-                test_as(&mut inside, &y.ty, t)?;
-                put_flag(&mut inside, tests_flag(y), t)?;
-                choose_lazy(s.alloc, out, and, t, inside)?;
-                Ok(from(last.next + 1, last.local))
+                let first = test(s, x, t, at, out, structures)?;
+                choice(s, y, and, t, first, out, structures)
             }
         },
         TKind::Assign(None, x, y) => {
-            let first = low(s, x, at.next, from(at.next + 1, at.local), out, structures)?;
-            let last = value(s, y, t, from(first.next + 2, first.local), out, structures)?;
-            assign(s, out, &x.ty, is_flag(y), at.next, t)?;
-            Ok(last)
+            let place = low(s, x, at.next, from(at.next + 1, at.local), out, structures)?;
+            assignment(s, y, &x.ty, t, at.next, place, out, structures)
         }
         TKind::Assign(Some(op), x, y) => {
-            let first = low(s, x, at.next, from(at.next + 1, at.local), out, structures)?;
-            let last = value(
-                s,
-                y,
-                first.next,
-                from(first.next + 2, first.local),
-                out,
-                structures,
-            )?;
-            compound(
-                s,
-                out,
-                *op,
-                &x.ty,
-                &y.ty,
-                t,
-                first.next + 1,
-                first.next,
-                at.next,
-            )?;
-            Ok(last)
+            let place = low(s, x, at.next, from(at.next + 1, at.local), out, structures)?;
+            compound_assignment(s, y, *op, &x.ty, t, at.next, place, out, structures)
         }
-        TKind::Step(op, x) => {
-            let done = low(s, x, at.next, from(at.next + 2, at.local), out, structures)?;
-            step(s, out, gives_old(*op), counts_up(*op), &x.ty, t, at.next)?;
-            Ok(done)
-        }
+        TKind::Step(op, x) => step_of(s, *op, x, t, at, out, structures),
         TKind::Index(x, y) => {
             let first = value(s, x, at.next, from(at.next + 1, at.local), out, structures)?;
-            let last = value(
-                s,
-                y,
-                first.next,
-                from(first.next + 1, first.local),
-                out,
-                structures,
-            )?;
-            step_by(out, s.words(ty), t, at.next, first.next)?;
-            Ok(last)
+            element(s, y, s.words(ty), t, at.next, first, out, structures)
         }
-        TKind::Member(x, offset) => {
-            let done = low(s, x, at.next, from(at.next + 1, at.local), out, structures)?;
-            member(out, is_place(x), ty, t, at.next, *offset)?;
-            Ok(done)
-        }
-        TKind::Arrow(x, offset) => {
-            let done = value(s, x, at.next, from(at.next + 1, at.local), out, structures)?;
-            move_by(out, t, at.next, *offset)?;
-            Ok(done)
-        }
-        TKind::Cast(x) => {
-            let done = value(s, x, t, at, out, structures)?;
-            convert(out, ty, is_flag(x), t)?;
-            Ok(done)
-        }
-        TKind::Call(f, xs) => {
-            let mut places = lead(s.alloc, s.result(*f), t)?;
-            let done = args(s, *f, xs.as_slice(), at, &mut places, out, structures)?;
-            call(s, out, structures, s.result(*f), *f, t, places, done)
-        }
-        TKind::In(port) => {
-            put(out, Op::In(t, *port))?;
-            Ok(at)
-        }
-        TKind::Out(port, x) => {
-            let done = value(s, x, t, at, out, structures)?;
-            put(out, Op::Out(*port, t))?;
-            Ok(done)
-        }
-        TKind::Wait => {
-            put(out, Op::Wait)?;
-            Ok(at)
-        }
-        TKind::Halt => {
-            put(out, Op::Halt)?;
-            Ok(at)
-        }
-        TKind::Card => {
-            put(out, Op::Card(t))?;
-            Ok(at)
-        }
+        TKind::Member(x, offset) => member_at(s, x, *offset, ty, t, at, out, structures),
+        TKind::Arrow(x, offset) => arrow(s, x, *offset, t, at, out, structures),
+        TKind::Cast(x) => cast(s, x, ty, t, at, out, structures),
+        TKind::Call(f, xs) => call_of(s, *f, xs.as_slice(), t, at, out, structures),
+        TKind::In(port) => put_last(out, Op::In(t, *port), at),
+        TKind::Out(port, x) => value_then(s, x, Op::Out(*port, t), t, at, out, structures),
+        TKind::Wait => put_last(out, Op::Wait, at),
+        TKind::Halt => put_last(out, Op::Halt, at),
+        TKind::Card => put_last(out, Op::Card(t), at),
     }
+}
+
+/// The value of an expression comes to t, and then comes this operation.
+#[cycle(lower)]
+#[tactic(auto, using(crate::proofs::Joins::length_both))]
+fn value_then(
+    s: &Reading<'_>,
+    x: &TExpr,
+    o: Op<u32>,
+    t: u32,
+    at: At,
+    out: &mut Vec<Node<u32>>,
+    structures: &mut Vec<u32>,
+) -> Result<At, Memory>
+    requires temps { at.next + value_temps (texpr x.now) ≤ 1000000 }
+    requires locals { at.local + length (value_sizes (shape_of s.now) (texpr x.now)) ≤ 1000000 }
+    ensures nodes { OnOk result (map node out.new.items ≡ map node out.old.items ++ (low_value (shape_of s.now) (texpr x.now) t at.next at.local ++ (DoN o ∷ []))) }
+    ensures sizes { OnOk result (structures.new.items ≡ structures.old.items ++ value_sizes (shape_of s.now) (texpr x.now)) }
+    ensures next { IfOk result (λ r. r.next ≡ at.next + value_temps (texpr x.now)) }
+    ensures local { IfOk result (λ r. r.local ≡ at.local + length (value_sizes (shape_of s.now) (texpr x.now))) }
+{
+    let done = value(s, x, t, at, out, structures)?;
+    put_last(out, o, done)
+}
+
+/// A condition that is turned around.
+#[cycle(lower)]
+#[tactic(auto, using(crate::proofs::Joins::length_both))]
+fn negation(
+    s: &Reading<'_>,
+    x: &TExpr,
+    t: u32,
+    at: At,
+    out: &mut Vec<Node<u32>>,
+    structures: &mut Vec<u32>,
+) -> Result<At, Memory>
+    requires temps { at.next + value_temps (texpr x.now) ≤ 1000000 }
+    requires locals { at.local + length (value_sizes (shape_of s.now) (texpr x.now)) ≤ 1000000 }
+    ensures nodes { OnOk result (map node out.new.items ≡ map node out.old.items ++ (low_value (shape_of s.now) (texpr x.now) t at.next at.local ++ negated_as (decayed (type_of (texpr x.now))) t)) }
+    ensures sizes { OnOk result (structures.new.items ≡ structures.old.items ++ value_sizes (shape_of s.now) (texpr x.now)) }
+    ensures next { IfOk result (λ r. r.next ≡ at.next + value_temps (texpr x.now)) }
+    ensures local { IfOk result (λ r. r.local ≡ at.local + length (value_sizes (shape_of s.now) (texpr x.now))) }
+{
+    let done = value(s, x, t, at, out, structures)?;
+    negate_last(out, &x.ty, t, done)
+}
+
+/// A condition as a word.
+#[cycle(lower)]
+#[tactic(auto, using(crate::proofs::Joins::length_both))]
+fn test(
+    s: &Reading<'_>,
+    x: &TExpr,
+    t: u32,
+    at: At,
+    out: &mut Vec<Node<u32>>,
+    structures: &mut Vec<u32>,
+) -> Result<At, Memory>
+    requires temps { at.next + value_temps (texpr x.now) ≤ 1000000 }
+    requires locals { at.local + length (value_sizes (shape_of s.now) (texpr x.now)) ≤ 1000000 }
+    ensures nodes { OnOk result (map node out.new.items ≡ map node out.old.items ++ (low_test (shape_of s.now) (texpr x.now) t at.next at.local)) }
+    ensures sizes { OnOk result (structures.new.items ≡ structures.old.items ++ value_sizes (shape_of s.now) (texpr x.now)) }
+    ensures next { IfOk result (λ r. r.next ≡ at.next + value_temps (texpr x.now)) }
+    ensures local { IfOk result (λ r. r.local ≡ at.local + length (value_sizes (shape_of s.now) (texpr x.now))) }
+{
+    let done = value(s, x, t, at, out, structures)?;
+    test_last(out, &x.ty, t, done)
+}
+
+/// The second operand, and then the operator; the first, whose type this is, stands in a.
+#[cycle(lower)]
+#[tactic(auto, using(crate::proofs::Joins::length_both))]
+fn operation(
+    s: &Reading<'_>,
+    y: &TExpr,
+    op: BinOp,
+    ty: &CType,
+    t: u32,
+    a: u32,
+    at: At,
+    out: &mut Vec<Node<u32>>,
+    structures: &mut Vec<u32>,
+) -> Result<At, Memory>
+    requires temps { at.next + (value_temps (texpr y.now) + 1) ≤ 1000000 }
+    requires locals { at.local + length (value_sizes (shape_of s.now) (texpr y.now)) ≤ 1000000 }
+    ensures nodes { OnOk result (map node out.new.items ≡ map node out.old.items ++ low_value (shape_of s.now) (texpr y.now) at.next (at.next + 1) at.local ++ operated (shape_of s.now) op (ctype ty.now) (type_of (texpr y.now)) t a at.next) }
+    ensures sizes { OnOk result (structures.new.items ≡ structures.old.items ++ value_sizes (shape_of s.now) (texpr y.now)) }
+    ensures next { IfOk result (λ r. r.next ≡ at.next + (value_temps (texpr y.now) + 1)) }
+    ensures local { IfOk result (λ r. r.local ≡ at.local + length (value_sizes (shape_of s.now) (texpr y.now))) }
+{
+    let last = value(s, y, at.next, from(at.next + 1, at.local), out, structures)?;
+    operate_last(s, out, op, ty, &y.ty, t, a, at.next, last)
+}
+
+/// The second operand of `&&` or `||`, which is run where the word in t asks for it.
+#[cycle(lower)]
+#[tactic(auto, using(crate::proofs::Joins::length_both))]
+fn choice(
+    s: &Reading<'_>,
+    y: &TExpr,
+    and: bool,
+    t: u32,
+    at: At,
+    out: &mut Vec<Node<u32>>,
+    structures: &mut Vec<u32>,
+) -> Result<At, Memory>
+    requires temps { at.next + (value_temps (texpr y.now) + 2) ≤ 1000000 }
+    requires locals { at.local + length (value_sizes (shape_of s.now) (texpr y.now)) ≤ 1000000 }
+    ensures nodes { OnOk result (map node out.new.items ≡ map node out.old.items ++ (lazy_choice and t (low_test (shape_of s.now) (texpr y.now) t (at.next + 1) at.local ++ as_flag (tests_flag (texpr y.now)) t) ∷ [])) }
+    ensures sizes { OnOk result (structures.new.items ≡ structures.old.items ++ value_sizes (shape_of s.now) (texpr y.now)) }
+    ensures next { IfOk result (λ r. r.next ≡ at.next + (value_temps (texpr y.now) + 2)) }
+    ensures local { IfOk result (λ r. r.local ≡ at.local + length (value_sizes (shape_of s.now) (texpr y.now))) }
+{
+    let mut inside = Vec::new(s.alloc);
+    let last = test(
+        s,
+        y,
+        t,
+        from(at.next + 1, at.local),
+        &mut inside,
+        structures,
+    );
+    let (inside, last) = keeping(inside, last)?;
+    choose_lazy(s.alloc, out, and, tests_flag(y), t, inside, last)
+}
+
+/// The value that the place in p, whose type this is, takes.
+#[cycle(lower)]
+#[tactic(auto, using(crate::proofs::Joins::length_both))]
+fn assignment(
+    s: &Reading<'_>,
+    y: &TExpr,
+    ty: &CType,
+    t: u32,
+    p: u32,
+    at: At,
+    out: &mut Vec<Node<u32>>,
+    structures: &mut Vec<u32>,
+) -> Result<At, Memory>
+    requires temps { at.next + (value_temps (texpr y.now) + 2) ≤ 1000000 }
+    requires locals { at.local + length (value_sizes (shape_of s.now) (texpr y.now)) ≤ 1000000 }
+    ensures nodes { OnOk result (map node out.new.items ≡ map node out.old.items ++ low_value (shape_of s.now) (texpr y.now) t (at.next + 2) at.local ++ converted (ctype ty.now) (is_flag (texpr y.now)) t ++ stored (shape_of s.now) (ctype ty.now) p t) }
+    ensures sizes { OnOk result (structures.new.items ≡ structures.old.items ++ value_sizes (shape_of s.now) (texpr y.now)) }
+    ensures next { IfOk result (λ r. r.next ≡ at.next + (value_temps (texpr y.now) + 2)) }
+    ensures local { IfOk result (λ r. r.local ≡ at.local + length (value_sizes (shape_of s.now) (texpr y.now))) }
+{
+    let last = value(s, y, t, from(at.next + 2, at.local), out, structures)?;
+    assign(s, out, ty, is_flag(y), p, t, last)
+}
+
+/// The second operand of a compound assignment to the place in p, whose type this is.
+#[cycle(lower)]
+#[tactic(auto, using(crate::proofs::Joins::length_both))]
+fn compound_assignment(
+    s: &Reading<'_>,
+    y: &TExpr,
+    op: BinOp,
+    ty: &CType,
+    t: u32,
+    p: u32,
+    at: At,
+    out: &mut Vec<Node<u32>>,
+    structures: &mut Vec<u32>,
+) -> Result<At, Memory>
+    requires temps { at.next + (value_temps (texpr y.now) + 2) ≤ 1000000 }
+    requires locals { at.local + length (value_sizes (shape_of s.now) (texpr y.now)) ≤ 1000000 }
+    ensures nodes { OnOk result (map node out.new.items ≡ map node out.old.items ++ low_value (shape_of s.now) (texpr y.now) at.next (at.next + 2) at.local ++ (DoN (Op.Load (at.next + 1) p) ∷ []) ++ operated (shape_of s.now) op (ctype ty.now) (type_of (texpr y.now)) t (at.next + 1) at.next ++ converted (ctype ty.now) false t ++ (DoN (Op.Store p t) ∷ [])) }
+    ensures sizes { OnOk result (structures.new.items ≡ structures.old.items ++ value_sizes (shape_of s.now) (texpr y.now)) }
+    ensures next { IfOk result (λ r. r.next ≡ at.next + (value_temps (texpr y.now) + 2)) }
+    ensures local { IfOk result (λ r. r.local ≡ at.local + length (value_sizes (shape_of s.now) (texpr y.now))) }
+{
+    let last = value(s, y, at.next, from(at.next + 2, at.local), out, structures)?;
+    compound(s, out, op, ty, &y.ty, t, at.next + 1, at.next, p, last)
+}
+
+/// A step of the cell to whose place an expression comes.
+#[cycle(lower)]
+#[tactic(auto, using(crate::proofs::Joins::length_both))]
+fn step_of(
+    s: &Reading<'_>,
+    op: StepOp,
+    x: &TExpr,
+    t: u32,
+    at: At,
+    out: &mut Vec<Node<u32>>,
+    structures: &mut Vec<u32>,
+) -> Result<At, Memory>
+    requires temps { at.next + (temps (texpr x.now) + 2) ≤ 1000000 }
+    requires locals { at.local + length (sizes (shape_of s.now) (texpr x.now)) ≤ 1000000 }
+    ensures nodes { OnOk result (map node out.new.items ≡ map node out.old.items ++ (step_taken (shape_of s.now) op (texpr x.now) (low (shape_of s.now) (texpr x.now)) t at.next at.local)) }
+    ensures sizes { OnOk result (structures.new.items ≡ structures.old.items ++ sizes (shape_of s.now) (texpr x.now)) }
+    ensures next { IfOk result (λ r. r.next ≡ at.next + (temps (texpr x.now) + 2)) }
+    ensures local { IfOk result (λ r. r.local ≡ at.local + length (sizes (shape_of s.now) (texpr x.now))) }
+{
+    let done = low(s, x, at.next, from(at.next + 2, at.local), out, structures)?;
+    step(
+        s,
+        out,
+        gives_old(op),
+        counts_up(op),
+        &x.ty,
+        t,
+        at.next,
+        done,
+    )
+}
+
+/// The number of an element of this size, and then its place; a pointer to the first element stands in a.
+#[cycle(lower)]
+#[tactic(auto, using(crate::proofs::Joins::length_both))]
+fn element(
+    s: &Reading<'_>,
+    y: &TExpr,
+    size: u32,
+    t: u32,
+    a: u32,
+    at: At,
+    out: &mut Vec<Node<u32>>,
+    structures: &mut Vec<u32>,
+) -> Result<At, Memory>
+    requires temps { at.next + (value_temps (texpr y.now) + 1) ≤ 1000000 }
+    requires locals { at.local + length (value_sizes (shape_of s.now) (texpr y.now)) ≤ 1000000 }
+    ensures nodes { OnOk result (map node out.new.items ≡ map node out.old.items ++ low_value (shape_of s.now) (texpr y.now) at.next (at.next + 1) at.local ++ stepped size t a at.next) }
+    ensures sizes { OnOk result (structures.new.items ≡ structures.old.items ++ value_sizes (shape_of s.now) (texpr y.now)) }
+    ensures next { IfOk result (λ r. r.next ≡ at.next + (value_temps (texpr y.now) + 1)) }
+    ensures local { IfOk result (λ r. r.local ≡ at.local + length (value_sizes (shape_of s.now) (texpr y.now))) }
+{
+    let last = value(s, y, at.next, from(at.next + 1, at.local), out, structures)?;
+    step_last(out, size, t, a, at.next, last)
+}
+
+/// The member of this type so many words behind a structure.
+#[cycle(lower)]
+#[tactic(auto, using(crate::proofs::Joins::length_both))]
+fn member_at(
+    s: &Reading<'_>,
+    x: &TExpr,
+    offset: u32,
+    ty: &CType,
+    t: u32,
+    at: At,
+    out: &mut Vec<Node<u32>>,
+    structures: &mut Vec<u32>,
+) -> Result<At, Memory>
+    requires temps { at.next + (temps (texpr x.now) + 1) ≤ 1000000 }
+    requires locals { at.local + length (sizes (shape_of s.now) (texpr x.now)) ≤ 1000000 }
+    ensures nodes { OnOk result (map node out.new.items ≡ map node out.old.items ++ (low (shape_of s.now) (texpr x.now) at.next (at.next + 1) at.local ++ moved_by t at.next offset ++ member_of (is_place (texpr x.now)) (ctype ty.now) t)) }
+    ensures sizes { OnOk result (structures.new.items ≡ structures.old.items ++ sizes (shape_of s.now) (texpr x.now)) }
+    ensures next { IfOk result (λ r. r.next ≡ at.next + (temps (texpr x.now) + 1)) }
+    ensures local { IfOk result (λ r. r.local ≡ at.local + length (sizes (shape_of s.now) (texpr x.now))) }
+{
+    let done = low(s, x, at.next, from(at.next + 1, at.local), out, structures)?;
+    member(out, is_place(x), ty, t, at.next, offset, done)
+}
+
+/// The member so many words behind where a pointer leads.
+#[cycle(lower)]
+#[tactic(auto, using(crate::proofs::Joins::length_both))]
+fn arrow(
+    s: &Reading<'_>,
+    x: &TExpr,
+    offset: u32,
+    t: u32,
+    at: At,
+    out: &mut Vec<Node<u32>>,
+    structures: &mut Vec<u32>,
+) -> Result<At, Memory>
+    requires temps { at.next + (value_temps (texpr x.now) + 1) ≤ 1000000 }
+    requires locals { at.local + length (value_sizes (shape_of s.now) (texpr x.now)) ≤ 1000000 }
+    ensures nodes { OnOk result (map node out.new.items ≡ map node out.old.items ++ (low_value (shape_of s.now) (texpr x.now) at.next (at.next + 1) at.local ++ moved_by t at.next offset)) }
+    ensures sizes { OnOk result (structures.new.items ≡ structures.old.items ++ value_sizes (shape_of s.now) (texpr x.now)) }
+    ensures next { IfOk result (λ r. r.next ≡ at.next + (value_temps (texpr x.now) + 1)) }
+    ensures local { IfOk result (λ r. r.local ≡ at.local + length (value_sizes (shape_of s.now) (texpr x.now))) }
+{
+    let done = value(s, x, at.next, from(at.next + 1, at.local), out, structures)?;
+    move_last(out, t, at.next, offset, done)
+}
+
+/// A value that is converted to this type.
+#[cycle(lower)]
+#[tactic(auto, using(crate::proofs::Joins::length_both))]
+fn cast(
+    s: &Reading<'_>,
+    x: &TExpr,
+    ty: &CType,
+    t: u32,
+    at: At,
+    out: &mut Vec<Node<u32>>,
+    structures: &mut Vec<u32>,
+) -> Result<At, Memory>
+    requires temps { at.next + value_temps (texpr x.now) ≤ 1000000 }
+    requires locals { at.local + length (value_sizes (shape_of s.now) (texpr x.now)) ≤ 1000000 }
+    ensures nodes { OnOk result (map node out.new.items ≡ map node out.old.items ++ (low_value (shape_of s.now) (texpr x.now) t at.next at.local ++ converted (ctype ty.now) (is_flag (texpr x.now)) t)) }
+    ensures sizes { OnOk result (structures.new.items ≡ structures.old.items ++ value_sizes (shape_of s.now) (texpr x.now)) }
+    ensures next { IfOk result (λ r. r.next ≡ at.next + value_temps (texpr x.now)) }
+    ensures local { IfOk result (λ r. r.local ≡ at.local + length (value_sizes (shape_of s.now) (texpr x.now))) }
+{
+    let done = value(s, x, t, at, out, structures)?;
+    convert_last(out, ty, is_flag(x), t, done)
+}
+
+/// A call of the function f.
+#[cycle(lower)]
+#[tactic(auto, using(crate::proofs::Joins::length_both))]
+fn call_of(
+    s: &Reading<'_>,
+    f: u32,
+    xs: &[TExpr],
+    t: u32,
+    at: At,
+    out: &mut Vec<Node<u32>>,
+    structures: &mut Vec<u32>,
+) -> Result<At, Memory>
+    requires temps { at.next + temps_all (texprs (map texpr xs.now)) ≤ 1000000 }
+    requires locals { at.local + length (sizes_all (shape_of s.now) (texprs (map texpr xs.now)) ++ one_size (shape_of s.now) (result_of (shape_of s.now) f)) ≤ 1000000 }
+    ensures nodes { OnOk result (map node out.new.items ≡ map node out.old.items ++ (low_args (shape_of s.now) (params_of (shape_of s.now) f) (texprs (map texpr xs.now)) at.next at.local ++ called (result_of (shape_of s.now) f) f (at.local + length (sizes_all (shape_of s.now) (texprs (map texpr xs.now)))) t (spots (texprs (map texpr xs.now)) at.next))) }
+    ensures sizes { OnOk result (structures.new.items ≡ structures.old.items ++ sizes_all (shape_of s.now) (texprs (map texpr xs.now)) ++ one_size (shape_of s.now) (result_of (shape_of s.now) f)) }
+    ensures next { IfOk result (λ r. r.next ≡ at.next + temps_all (texprs (map texpr xs.now))) }
+    ensures local { IfOk result (λ r. r.local ≡ at.local + length (sizes_all (shape_of s.now) (texprs (map texpr xs.now)) ++ one_size (shape_of s.now) (result_of (shape_of s.now) f))) }
+{
+    let mut places = lead(s.alloc, s.result(f), t)?;
+    let done = args(s, f, xs, at, &mut places, out, structures);
+    let (places, done) = keeping(places, done)?;
+    call(s, out, structures, s.result(f), f, t, places, done)
 }
 
 /// Arguments come each to a temporary of its own, converted to the types of the function's parameters.

@@ -5,7 +5,7 @@ ghost use Rattle.mid_code.specs.Functions.{DoN, node};
 ghost use Rattle.lower_trees.specs.Shape.{words};
 ghost use Rattle.lower_trees.specs.Counts.{one_size};
 ghost use Rattle.lower_trees.specs.Expressions.{is_void, later_types};
-ghost use Rattle.lower_trees.specs.ListedParts.{converted, stored, operated, moved_by, structure_read};
+ghost use Rattle.lower_trees.specs.ListedParts.{as_flag, converted, stored, operated, moved_by, structure_read};
 ghost use Rattle.lower_trees.specs.ListedExpressions.{lazy_choice, step_by, stepped_to, member_of, led, called_with, converted_to};
 ghost use Rattle.lower_trees.specs.MaybeTypes.{or_void, or_none};
 ghost use Rattle.lower_trees.specs.View.{shape_of};
@@ -13,7 +13,7 @@ ghost use Rattle.lower_trees.specs.View.{shape_of};
 use crate::at::At;
 use crate::cells::{move_by, put, read_structure, store};
 use crate::kinds::{is_structure, is_void};
-use crate::operating::{convert, operate, step_one};
+use crate::operating::{convert, operate, put_flag, step_one};
 use crate::reading::Reading;
 use c_tree::BinOp;
 use c_types::CType;
@@ -46,7 +46,7 @@ pub(crate) fn take_structure(
 }
 
 /// Chooses by the first operand of `&&` or `||` whether the second one is run.
-pub(crate) fn choose_lazy(
+fn put_lazy(
     alloc: Global,
     out: &mut Vec<Node<u32>>,
     and: bool,
@@ -66,6 +66,30 @@ pub(crate) fn choose_lazy(
     Ok(())
 }
 
+/// Chooses by the first operand of `&&` or `||` whether the second one is run, whose word is made 0 or 1 where it is not known to be.
+pub(crate) fn choose_lazy(
+    alloc: Global,
+    out: &mut Vec<Node<u32>>,
+    and: bool,
+    flag: bool,
+    t: u32,
+    last: Vec<Node<u32>>,
+    at: At,
+) -> Result<At, Memory>
+    requires next { at.next + 1 ≤ 1000000 }
+    ensures nodes { OnOk result (map node out.new.items ≡ map node out.old.items ++ lazy_choice and t (map node last.items ++ as_flag flag t) ∷ []) }
+    ensures next { IfOk result (λ r. r.next ≡ at.next + 1) }
+    ensures local { IfOk result (λ r. r.local ≡ at.local) }
+{
+    let mut last = last;
+    put_flag(&mut last, flag, t)?;
+    put_lazy(alloc, out, and, t, last)?;
+    Ok(At {
+        next: at.next + 1,
+        local: at.local,
+    })
+}
+
 /// The value in t is stored at the place in p, whose type this is.
 pub(crate) fn assign(
     s: &Reading<'_>,
@@ -74,11 +98,14 @@ pub(crate) fn assign(
     known: bool,
     p: u32,
     t: u32,
-) -> Result<(), Memory>
-    ensures { OnOk result (map node out.new.items ≡ map node out.old.items ++ converted (ctype ty.now) known t ++ stored (shape_of s.now) (ctype ty.now) p t) }
+    at: At,
+) -> Result<At, Memory>
+    ensures nodes { OnOk result (map node out.new.items ≡ map node out.old.items ++ converted (ctype ty.now) known t ++ stored (shape_of s.now) (ctype ty.now) p t) }
+    ensures at { IfOk result (λ r. r ≡ at) }
 {
     convert(out, ty, known, t)?;
-    store(s, out, ty, p, t)
+    store(s, out, ty, p, t)?;
+    Ok(at)
 }
 
 /// The cell at the place in p and the value in b are operated on, and the place takes what they come to; a takes the old cell.
@@ -92,13 +119,16 @@ pub(crate) fn compound(
     a: u32,
     b: u32,
     p: u32,
-) -> Result<(), Memory>
-    ensures { OnOk result (map node out.new.items ≡ map node out.old.items ++ DoN (Op.Load a p) ∷ [] ++ operated (shape_of s.now) op (ctype ty.now) (ctype other.now) t a b ++ converted (ctype ty.now) false t ++ DoN (Op.Store p t) ∷ []) }
+    at: At,
+) -> Result<At, Memory>
+    ensures nodes { OnOk result (map node out.new.items ≡ map node out.old.items ++ DoN (Op.Load a p) ∷ [] ++ operated (shape_of s.now) op (ctype ty.now) (ctype other.now) t a b ++ converted (ctype ty.now) false t ++ DoN (Op.Store p t) ∷ []) }
+    ensures at { IfOk result (λ r. r ≡ at) }
 {
     put(out, Op::Load(a, p))?;
     operate(s, out, op, ty, other, t, a, b)?;
     convert(out, ty, false, t)?;
-    put(out, Op::Store(p, t))
+    put(out, Op::Store(p, t))?;
+    Ok(at)
 }
 
 fn step_to(
@@ -127,15 +157,18 @@ pub(crate) fn step(
     ty: &CType,
     t: u32,
     p: u32,
-) -> Result<(), Memory>
-    requires { p + 1 ≤ 1000000 }
-    ensures { OnOk result (map node out.new.items ≡ map node out.old.items ++ step_by (shape_of s.now) old up (ctype ty.now) t p) }
+    at: At,
+) -> Result<At, Memory>
+    requires next { p + 1 ≤ 1000000 }
+    ensures nodes { OnOk result (map node out.new.items ≡ map node out.old.items ++ step_by (shape_of s.now) old up (ctype ty.now) t p) }
+    ensures at { IfOk result (λ r. r ≡ at) }
 {
     if old {
-        step_to(s, out, up, ty, p + 1, t, p)
+        step_to(s, out, up, ty, p + 1, t, p)?;
     } else {
-        step_to(s, out, up, ty, t, p + 1, p)
+        step_to(s, out, up, ty, t, p + 1, p)?;
     }
+    Ok(at)
 }
 
 fn load_member(out: &mut Vec<Node<u32>>, place: bool, ty: &CType, t: u32) -> Result<(), Memory>
@@ -159,11 +192,14 @@ pub(crate) fn member(
     t: u32,
     p: u32,
     offset: u32,
-) -> Result<(), Memory>
-    ensures { OnOk result (map node out.new.items ≡ map node out.old.items ++ moved_by t p offset ++ member_of place (ctype ty.now) t) }
+    at: At,
+) -> Result<At, Memory>
+    ensures nodes { OnOk result (map node out.new.items ≡ map node out.old.items ++ moved_by t p offset ++ member_of place (ctype ty.now) t) }
+    ensures at { IfOk result (λ r. r ≡ at) }
 {
     move_by(out, t, p, offset)?;
-    load_member(out, place, ty, t)
+    load_member(out, place, ty, t)?;
+    Ok(at)
 }
 
 /// The temporaries of a call's arguments, of which the place of a structure that is returned is the first.

@@ -12,6 +12,7 @@ mod functions;
 mod initialisers;
 mod jump;
 mod kinds;
+mod last;
 mod looping;
 mod operating;
 mod reading;

@@ -1,0 +1,113 @@
+// The last code of an expression, behind which `at` is still free.
+ghost use Rattle.std.specs.Prelude.{◌≡◌, ◌++◌, ◌∷◌, [], map, IfOk, OnOk};
+ghost use Rattle.c_types.specs.View.{ctype};
+ghost use Rattle.c_meaning.specs.Kinds.{decayed};
+ghost use Rattle.mid_code.specs.Functions.{DoN, node};
+ghost use Rattle.lower_trees.specs.ListedParts.{converted, operated, stepped, moved_by, tested_as, negated_as};
+ghost use Rattle.lower_trees.specs.View.{shape_of};
+
+use crate::at::At;
+use crate::cells::{move_by, put};
+use crate::operating::{convert, negate_as, operate, step_by, test_as};
+use crate::reading::Reading;
+use c_tree::BinOp;
+use c_types::CType;
+use kit_base::Memory;
+use mid_code::{Node, Op};
+
+/// Adds an operation.
+pub(crate) fn put_last(out: &mut Vec<Node<u32>>, o: Op<u32>, at: At) -> Result<At, Memory>
+    ensures nodes { OnOk result (map node out.new.items ≡ map node out.old.items ++ DoN o ∷ []) }
+    ensures at { IfOk result (λ r. r ≡ at) }
+{
+    put(out, o)?;
+    Ok(at)
+}
+
+/// Makes a word of the condition in t.
+pub(crate) fn test_last(out: &mut Vec<Node<u32>>, ty: &CType, t: u32, at: At) -> Result<At, Memory>
+    ensures nodes { OnOk result (map node out.new.items ≡ map node out.old.items ++ tested_as (decayed (ctype ty.now)) t) }
+    ensures at { IfOk result (λ r. r ≡ at) }
+{
+    test_as(out, ty, t)?;
+    Ok(at)
+}
+
+/// Turns the condition in t around.
+pub(crate) fn negate_last(
+    out: &mut Vec<Node<u32>>,
+    ty: &CType,
+    t: u32,
+    at: At,
+) -> Result<At, Memory>
+    ensures nodes { OnOk result (map node out.new.items ≡ map node out.old.items ++ negated_as (decayed (ctype ty.now)) t) }
+    ensures at { IfOk result (λ r. r ≡ at) }
+{
+    negate_as(out, ty, t)?;
+    Ok(at)
+}
+
+/// Converts the value in t to a type.
+pub(crate) fn convert_last(
+    out: &mut Vec<Node<u32>>,
+    ty: &CType,
+    known: bool,
+    t: u32,
+    at: At,
+) -> Result<At, Memory>
+    ensures nodes { OnOk result (map node out.new.items ≡ map node out.old.items ++ converted (ctype ty.now) known t) }
+    ensures at { IfOk result (λ r. r ≡ at) }
+{
+    convert(out, ty, known, t)?;
+    Ok(at)
+}
+
+/// A pointer so many words behind that in p comes to t.
+pub(crate) fn move_last(
+    out: &mut Vec<Node<u32>>,
+    t: u32,
+    p: u32,
+    offset: u32,
+    at: At,
+) -> Result<At, Memory>
+    ensures nodes { OnOk result (map node out.new.items ≡ map node out.old.items ++ moved_by t p offset) }
+    ensures at { IfOk result (λ r. r ≡ at) }
+{
+    move_by(out, t, p, offset)?;
+    Ok(at)
+}
+
+/// A pointer stepped by so many elements of a size comes to t.
+pub(crate) fn step_last(
+    out: &mut Vec<Node<u32>>,
+    size: u32,
+    t: u32,
+    a: u32,
+    b: u32,
+    at: At,
+) -> Result<At, Memory>
+    ensures nodes { OnOk result (map node out.new.items ≡ map node out.old.items ++ stepped size t a b) }
+    ensures at { IfOk result (λ r. r ≡ at) }
+{
+    step_by(out, size, t, a, b)?;
+    Ok(at)
+}
+
+/// An operator by the types of its operands; t takes what they come to.
+pub(crate) fn operate_last(
+    s: &Reading<'_>,
+    out: &mut Vec<Node<u32>>,
+    op: BinOp,
+    first: &CType,
+    second: &CType,
+    t: u32,
+    a: u32,
+    b: u32,
+    at: At,
+) -> Result<At, Memory>
+    ensures nodes { OnOk result (map node out.new.items ≡ map node out.old.items ++ operated (shape_of s.now) op (ctype first.now) (ctype second.now) t a b) }
+    ensures at { IfOk result (λ r. r ≡ at) }
+{
+    operate(s, out, op, first, second, t, a, b)?;
+    Ok(at)
+}

@@ -1,3 +1,4 @@
+pub mod Known
 pub mod Loops
 pub mod Steps
 pub mod Outcomes

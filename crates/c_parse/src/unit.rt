@@ -23,6 +23,7 @@ use crate::tokens::{
     at_assign, at_comma, at_open_paren, at_semicolon, behind, close_brace, close_paren, end_list,
     name, new, no_room, open_brace, open_paren, semicolon,
 };
+use crate::types::Types;
 use c_lex::Token;
 use c_tree::{Item, TypeTree, Unit, Var};
 use kit_base::{Name, Seq};
@@ -33,7 +34,7 @@ fn declare(alloc: Global, scope: &mut Scope, name: &Name) -> Result<(), ReadErr>
     ensures declared { IfOk result (λ x. context scope.new ≡ declare name.now (context scope.old)) }
     ensures memory { IfErr result (λ e. e ≡ errors.Memory) }
 {
-    scope.types.push(name.copy(alloc)?)?;
+    scope.types.add(alloc, name)?;
     Ok(())
 }
 
@@ -238,7 +239,7 @@ pub(crate) fn read_unit(alloc: Global, room: u32, tokens: &[Token]) -> Result<Un
 {
     let mut scope = Scope {
         total: tokens.len() as u32,
-        types: Vec::new(alloc),
+        types: Types::new(alloc),
     };
     let mut found = Vec::new(alloc);
     let mut rest = tokens;

@@ -16,13 +16,13 @@ use Rattle.c_parse.specs.Lists as lists
 use Rattle.c_parse.specs.Lists.{Separated, ListEnd}
 use Rattle.c_parse.specs.ReadingLists.{separated, more_turn, listed}
 use Rattle.c_parse.specs.Reader.{end_list, at_open_brace, at_close_brace, semicolon, at_assign, at_void_word}
-use Rattle.c_parse.proofs.Begins.{TokR, token_frame}
+use Rattle.c_parse.proofs.OneToken.{TokR, token_frame}
 use Rattle.c_tree.specs.Tree.{InitT, OneI, ListI, VarT}
 use Rattle.c_tree.specs.View.{inits}
 use Rattle.c_parse.specs.Declarations as d
 use Rattle.c_parse.specs.Declarations.{Init, Inits, Field, Var, Vars, Member, Members, Param, Params, Value}
 use Rattle.c_parse.specs.ReadingDeclarations.{init_by, init_at, bare_var, field, var_by, var, vars_at, member_at, members_by, members_turn, members_at, param_at, params_by, at_void, params_at}
-use Rattle.c_parse.proofs.Told.{open_brace_is, assign_is, void_word_is}
+use Rattle.c_parse.proofs.Single.{open_brace_is, assign_is, void_word_is}
 use Rattle.c_parse.proofs.Shrinking.{turns_of_fields, turns_of_vars, turns_of_params, turns_of_inits, turns_of_members}
 use Rattle.c_parse.proofs.Begins.{NameR, name_word, name_good, ExprR, LevelR, UnaryR, TyR, expr_word, type_word, unary_level, zero_unary, level_expr, unary_deep, type_room, readers_good, plain_level}
 use Rattle.c_parse.proofs.BeginsLists.{mapped_good, mapped_tokens, separated_good, listed_good, OneR, SomeR, RestR, rest_repeat, rest_join, some_word, semicolon_good, semicolon_word, list_end_word, end_list_good}

@@ -5,14 +5,16 @@ use Rattle.c_parse.specs.declared.class.Key.TheVariants as key
 use Rattle.c_parse.specs.declared.fault.Fault.{Fault}
 use Rattle.c_parse.specs.Tok.{Tok, keyword, mark}
 use Rattle.c_parse.specs.Reader.{◌>>=◌, Got, Reader, loop, behind, at_comma}
+use Rattle.c_parse.proofs.Single as single
 use Rattle.c_parse.proofs.Told as told
-use Rattle.c_parse.proofs.Told.{StartIs, start_is, LeadIs, lead_is, SuffixIs, suffix_is, TypeIs, type_is, TypeMarkIs, type_mark_is, no_bracket, open_paren_is, close_paren_is, open_bracket_is, close_bracket_is, comma_is, star_is}
+use Rattle.c_parse.proofs.Told.{StartIs, start_is, LeadIs, lead_is, SuffixIs, suffix_is, TypeIs, type_is, TypeMarkIs, type_mark_is}
+use Rattle.c_parse.proofs.Single.{no_bracket, open_paren_is, close_paren_is, open_bracket_is, close_bracket_is, comma_is, star_is}
 use Rattle.c_parse.proofs.Completion.{Rule, Good, GoodTokens, GoodTurn, Word, Seq, Implies, widen_fault, widen_frame, widen, good_behind, fault_behind, frame_seq, bind_good, Repeats, repeats_word, TurnTakes, loop_good}
 use Rattle.c_parse.specs.Lists as lists
 use Rattle.c_parse.specs.Lists.{Separated, ListEnd}
 use Rattle.c_parse.specs.ReadingLists.{pushed, comma_by, comma_turn, separated, more_turn, listed, brace_by, brace_turn, braced}
 use Rattle.c_parse.specs.Reader.{at_more, end_list, is_open_brace, open_brace, is_close_brace, at_close_brace, close_brace, is_semicolon, semicolon, is_colon, colon, is_while_word, while_word}
-use Rattle.c_parse.proofs.Begins.{TokR, token_frame, token_word, must_good}
+use Rattle.c_parse.proofs.OneToken.{TokR, token_frame, token_word, must_good}
 
 -- ---- what repeats
 
@@ -89,23 +91,23 @@ module _ {A X : Type 0} (Q : ℕ → X → List Tok → A → List Tok → Type 
 
 pub open_brace_good : (ts : List Tok) → GoodTokens (TokR (mark m.OpenBrace)) ts (open_brace ts)
 open_brace_good [] = must_good (mark m.OpenBrace) (λ after. (refl, refl)) [] false (λ e. absurd cc)
-open_brace_good (o ∷ ts) = must_good (mark m.OpenBrace) (λ after. (refl, refl)) (o ∷ ts) (is_open_brace o) (λ e. ap (λ (z : Tok). z ∷ ts) (told.open_brace_is o e))
+open_brace_good (o ∷ ts) = must_good (mark m.OpenBrace) (λ after. (refl, refl)) (o ∷ ts) (is_open_brace o) (λ e. ap (λ (z : Tok). z ∷ ts) (single.open_brace_is o e))
 
 pub close_brace_good : (ts : List Tok) → GoodTokens (TokR (mark m.CloseBrace)) ts (close_brace ts)
 close_brace_good [] = must_good (mark m.CloseBrace) (λ after. (refl, refl)) [] false (λ e. absurd cc)
-close_brace_good (o ∷ ts) = must_good (mark m.CloseBrace) (λ after. (refl, refl)) (o ∷ ts) (is_close_brace o) (λ e. ap (λ (z : Tok). z ∷ ts) (told.close_brace_is o e))
+close_brace_good (o ∷ ts) = must_good (mark m.CloseBrace) (λ after. (refl, refl)) (o ∷ ts) (is_close_brace o) (λ e. ap (λ (z : Tok). z ∷ ts) (single.close_brace_is o e))
 
 pub semicolon_good : (ts : List Tok) → GoodTokens (TokR (mark m.Semicolon)) ts (semicolon ts)
 semicolon_good [] = must_good (mark m.Semicolon) (λ after. (refl, refl)) [] false (λ e. absurd cc)
-semicolon_good (o ∷ ts) = must_good (mark m.Semicolon) (λ after. (refl, refl)) (o ∷ ts) (is_semicolon o) (λ e. ap (λ (z : Tok). z ∷ ts) (told.semicolon_is o e))
+semicolon_good (o ∷ ts) = must_good (mark m.Semicolon) (λ after. (refl, refl)) (o ∷ ts) (is_semicolon o) (λ e. ap (λ (z : Tok). z ∷ ts) (single.semicolon_is o e))
 
 pub colon_good : (ts : List Tok) → GoodTokens (TokR (mark m.Colon)) ts (colon ts)
 colon_good [] = must_good (mark m.Colon) (λ after. (refl, refl)) [] false (λ e. absurd cc)
-colon_good (o ∷ ts) = must_good (mark m.Colon) (λ after. (refl, refl)) (o ∷ ts) (is_colon o) (λ e. ap (λ (z : Tok). z ∷ ts) (told.colon_is o e))
+colon_good (o ∷ ts) = must_good (mark m.Colon) (λ after. (refl, refl)) (o ∷ ts) (is_colon o) (λ e. ap (λ (z : Tok). z ∷ ts) (single.colon_is o e))
 
 pub while_word_good : (ts : List Tok) → GoodTokens (TokR (keyword key.While)) ts (while_word ts)
 while_word_good [] = must_good (keyword key.While) (λ after. (refl, refl)) [] false (λ e. absurd cc)
-while_word_good (o ∷ ts) = must_good (keyword key.While) (λ after. (refl, refl)) (o ∷ ts) (is_while_word o) (λ e. ap (λ (z : Tok). z ∷ ts) (told.while_word_is o e))
+while_word_good (o ∷ ts) = must_good (keyword key.While) (λ after. (refl, refl)) (o ∷ ts) (is_while_word o) (λ e. ap (λ (z : Tok). z ∷ ts) (single.while_word_is o e))
 
 pub open_brace_word : Word (TokR (mark m.OpenBrace))
 open_brace_word = token_word (mark m.OpenBrace) (λ after. (refl, refl))

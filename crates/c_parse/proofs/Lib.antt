@@ -1,3 +1,4 @@
+pub mod Known
 pub mod Loops
 pub mod Steps
 pub mod Outcomes
@@ -27,8 +28,10 @@ pub mod Less
 pub mod ListTurns
 pub mod VarLoops
 pub mod Skipped
+pub mod Single
 pub mod Told
 pub mod Completion
+pub mod OneToken
 pub mod Begins
 pub mod BeginsLists
 pub mod BeginsDeclarations

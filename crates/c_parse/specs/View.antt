@@ -16,4 +16,4 @@ Gives seen (Ok x) read = read ≡ Ok (seen x)
 Gives seen (Err e) read = Fails e read
 
 abbrev pub context : Scope → Context
-context s = record { total = s.total; types = s.types.items }
+context s = record { total = s.total; types = s.types }

@@ -1,7 +1,8 @@
 //! From the tokens of a C unit to its syntax tree.
 //!
 //! It promises the tree exactly where the grammar derives one that is shallow enough, and else the first
-//! token with which no such unit goes on. It stands on kit_base, c_lex and c_tree.
+//! token with which no such unit goes on. It stands on kit_base, c_lex and c_tree, and on
+//! indexmap for the names that are types.
 #![tactic(auto)]
 
 mod class;
@@ -17,6 +18,7 @@ mod parser;
 mod scope;
 mod statement;
 mod tokens;
+mod types;
 mod unit;
 
 pub use error::ParseErr;

@@ -4,15 +4,15 @@ ghost use Rattle.c_parse.specs.Scope.{is_type, span};
 ghost use Rattle.c_parse.specs.Tok.{bytes_of, toks};
 ghost use Rattle.c_parse.specs.View.{context};
 
+use crate::types::Types;
 use c_lex::{Kind, Token};
 use c_tree::Span;
-use kit_base::Name;
 
 /// How many tokens the unit has, and the names that are types so far.
 #[derive(Drop)]
 pub(crate) struct Scope {
     pub(crate) total: u32,
-    pub(crate) types: Vec<Name>,
+    pub(crate) types: Types,
 }
 
 /// The bytes of a word or a text.
@@ -29,7 +29,7 @@ pub(crate) fn bytes_of(token: &Token) -> &[u8]
 pub(crate) fn is_type(scope: &Scope, word: &[u8]) -> bool
     ensures { result ≡ is_type (context scope.now) word.now }
 {
-    scope.types.iter().any(|t| t.bytes() == word)
+    scope.types.has(word)
 }
 
 fn place(total: u32, left: usize) -> u32

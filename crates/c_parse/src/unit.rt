@@ -23,6 +23,7 @@ use crate::tokens::{
     at_assign, at_comma, at_open_paren, at_semicolon, behind, close_brace, close_paren, end_list,
     name, new, no_room, open_brace, open_paren, semicolon,
 };
+use crate::types::Types;
 use c_lex::Token;
 use c_tree::{Item, TypeTree, Unit, Var};
 use kit_base::{Name, Seq};
@@ -33,7 +34,7 @@ fn declare(alloc: Global, scope: &mut Scope, name: &Name) -> Result<(), ReadErr>
     ensures declared { IfOk result (λ x. context scope.new ≡ declare name.now (context scope.old)) }
     ensures memory { IfErr result (λ e. e ≡ errors.Memory) }
 {
-    scope.types.push(name.copy(alloc)?)?;
+    scope.types.add(alloc, name)?;
     Ok(())
 }
 
@@ -182,6 +183,29 @@ fn with_body<'a>(
     ))
 }
 
+/// The variables of an item that begins at `from`, from behind the first name; `fits` is whether there is room for their type.
+fn globals<'a>(
+    alloc: Global,
+    scope: &Scope,
+    room: u32,
+    from: &'a [Token],
+    fits: bool,
+    tokens: &[Token],
+) -> Result<(Item, &'a [Token]), ReadErr>
+    ensures gives { Gives (λ x. (item x.0, toks x.1.now)) result (reading.vars_by (context scope.now) room (toks from.now) (toks tokens.now) fits) }
+    ensures declared { IfOk result (λ x. context scope.now ≡ behind_item (item x.0) (context scope.now)) }
+{
+    if !fits {
+        return Err(no_room(
+            at_semicolon(tokens) || (at_assign(tokens) || at_comma(tokens)),
+            tokens,
+        ));
+    }
+    let (vars, rest) = variables(alloc, scope, room, from)?;
+    let (vars, rest) = keeping(vars, semicolon(rest))?;
+    Ok((Item::Vars(vars, span(scope, from, rest)), rest))
+}
+
 /// A function or variables, from their type on.
 fn typed<'a>(
     alloc: Global,
@@ -197,15 +221,7 @@ fn typed<'a>(
     if at_open_paren(rest) {
         return function(alloc, scope, room, tokens, ty, name, rest);
     }
-    if room <= depth {
-        return Err(no_room(
-            at_semicolon(rest) || (at_assign(rest) || at_comma(rest)),
-            rest,
-        ));
-    }
-    let (vars, rest) = variables(alloc, scope, room, tokens)?;
-    let (vars, rest) = keeping(vars, semicolon(rest))?;
-    Ok((Item::Vars(vars, span(scope, tokens, rest)), rest))
+    globals(alloc, scope, room, tokens, depth < room, rest)
 }
 
 fn read_item<'a>(
@@ -238,7 +254,7 @@ pub(crate) fn read_unit(alloc: Global, room: u32, tokens: &[Token]) -> Result<Un
 {
     let mut scope = Scope {
         total: tokens.len() as u32,
-        types: Vec::new(alloc),
+        types: Types::new(alloc),
     };
     let mut found = Vec::new(alloc);
     let mut rest = tokens;

@@ -9,8 +9,7 @@ pub(crate) struct Names {
     pub(crate) second: Option<u32>,
 }
 
-fn made(t: u32) -> Names
-{
+fn made(t: u32) -> Names {
     Names {
         target: Some(t),
         first: None,
@@ -18,8 +17,7 @@ fn made(t: u32) -> Names
     }
 }
 
-fn made_of(t: u32, a: u32) -> Names
-{
+fn made_of(t: u32, a: u32) -> Names {
     Names {
         target: Some(t),
         first: Some(a),
@@ -27,8 +25,7 @@ fn made_of(t: u32, a: u32) -> Names
     }
 }
 
-fn made_of_two(t: u32, a: u32, b: u32) -> Names
-{
+fn made_of_two(t: u32, a: u32, b: u32) -> Names {
     Names {
         target: Some(t),
         first: Some(a),
@@ -36,8 +33,7 @@ fn made_of_two(t: u32, a: u32, b: u32) -> Names
     }
 }
 
-fn used(first: Option<u32>, second: Option<u32>) -> Names
-{
+fn used(first: Option<u32>, second: Option<u32>) -> Names {
     Names {
         target: None,
         first,
@@ -45,8 +41,7 @@ fn used(first: Option<u32>, second: Option<u32>) -> Names
     }
 }
 
-pub(crate) fn names_of(o: &Op<u32>) -> Names
-{
+pub(crate) fn names_of(o: &Op<u32>) -> Names {
     match o {
         Op::Const(t, _) => made(*t),
         Op::Null(t) => made(*t),
@@ -77,8 +72,7 @@ pub(crate) fn names_of(o: &Op<u32>) -> Names
 }
 
 /// Whether the operation is an instruction on its target, which holds the first operand before.
-pub(crate) fn works_in_place(o: &Op<u32>) -> bool
-{
+pub(crate) fn works_in_place(o: &Op<u32>) -> bool {
     match o {
         Op::Const(_, _) => false,
         Op::Null(_) => false,

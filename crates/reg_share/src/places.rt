@@ -3,45 +3,27 @@ use crate::operands::names_of;
 use mid_code::{Op, Where};
 
 /// The place of a temporary, where it has one.
-pub(crate) fn place(at: &[Where], t: u32) -> Option<Where>
-{
+pub(crate) fn place(at: &[Where], t: u32) -> Option<Where> {
     let i = t as usize;
     if i < at.len() { Some(at[i]) } else { None }
 }
 
-pub(crate) fn is_same(a: Where, b: Where) -> bool
-{
-    match a {
-        Where::Reg(k) => match b {
-            Where::Reg(other) => k == other,
-            Where::Slot(_) => false,
-        },
-        Where::Slot(k) => match b {
-            Where::Reg(_) => false,
-            Where::Slot(other) => k == other,
-        },
-    }
-}
-
-fn stands(at: &[Where], t: u32, r: Where) -> bool
-{
+fn stands(at: &[Where], t: u32, r: Where) -> bool {
     match place(at, t) {
-        Some(w) => is_same(w, r),
+        Some(w) => w == r,
         None => false,
     }
 }
 
 /// Whether the temporary, where there is one, stands at the place.
-pub(crate) fn maybe_stands(at: &[Where], t: Option<u32>, r: Where) -> bool
-{
+pub(crate) fn maybe_stands(at: &[Where], t: Option<u32>, r: Where) -> bool {
     match t {
         Some(t) => stands(at, t, r),
         None => false,
     }
 }
 
-fn one_stands(at: &[Where], ts: &[u32], r: Where) -> bool
-{
+fn one_stands(at: &[Where], ts: &[u32], r: Where) -> bool {
     for t in ts {
         if stands(at, *t, r) {
             return true;
@@ -50,8 +32,7 @@ fn one_stands(at: &[Where], ts: &[u32], r: Where) -> bool
     false
 }
 
-fn argument_stands(at: &[Where], o: &Op<u32>, r: Where) -> bool
-{
+fn argument_stands(at: &[Where], o: &Op<u32>, r: Where) -> bool {
     if let Op::Call(_, _, arguments) = o {
         one_stands(at, arguments.as_slice(), r)
     } else {
@@ -60,8 +41,7 @@ fn argument_stands(at: &[Where], o: &Op<u32>, r: Where) -> bool
 }
 
 /// Whether the operation names a temporary that stands at the place.
-pub(crate) fn mentions(at: &[Where], o: &Op<u32>, r: Where) -> bool
-{
+pub(crate) fn mentions(at: &[Where], o: &Op<u32>, r: Where) -> bool {
     let of = names_of(o);
     maybe_stands(at, of.target, r)
         || maybe_stands(at, of.first, r)

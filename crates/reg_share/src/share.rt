@@ -25,8 +25,7 @@ fn copy(alloc: Global, at: &[Where]) -> Result<Choice, Memory>
 }
 
 /// The choice in which first operands stand at the places of targets. Nothing rests on it: it is tested.
-fn merged(alloc: Global, f: &Function<u32>, given: &[Where]) -> Result<Choice, Memory>
-{
+fn merged(alloc: Global, f: &Function<u32>, given: &[Where]) -> Result<Choice, Memory> {
     let single = singles(alloc, f)?;
     let mut at = given.to_vec(alloc)?;
     merge_nodes(single.as_slice(), at.as_mut_slice(), f.body.as_slice());
@@ -110,9 +109,11 @@ fn share_each(
     Ok(found)
 }
 
-/// The choices for a program, that of the start first, in which an operand shares the place of a target: where a temporary is the target of one node
-/// alone, is used once, as the first operand of an operation that works on its target, and is no parameter, and no node between the two names another
-/// temporary at that place. Of each function the given choice stays where that would not be safe. The error is want of memory, and then the choices given are dropped.
+/// The choices for a program, that of the start first, in which operands share the places of targets. A temporary goes to the place of an operation's target
+/// where that operation is the only one that uses it, as its first operand, and works on its target; where one operation alone makes it, in the same list
+/// and at most 64 nodes before; and where nothing that either of them uses beside stands in the way at that place, nor is named in between. Both places are
+/// registers, or both are slots. Of each function the given choice stays where the other one would not be safe. The error is want of memory, and then the
+/// choices given are dropped.
 pub fn share_all(alloc: Global, m: &Mid, choices: Vec<Choice>) -> Result<Vec<Choice>, Memory>
     requires safe { AreSafe (mid m.now) (places_in choices.items) }
     requires spares { AllSpare (mid m.now) (places_in choices.items) }
@@ -121,5 +122,10 @@ pub fn share_all(alloc: Global, m: &Mid, choices: Vec<Choice>) -> Result<Vec<Cho
 {
     mid_code_is_sound(m);
     let of = m.code();
-    share_each(alloc, &of.start, of.functions.as_slice(), choices.as_slice())
+    share_each(
+        alloc,
+        &of.start,
+        of.functions.as_slice(),
+        choices.as_slice(),
+    )
 }

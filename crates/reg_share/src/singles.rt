@@ -11,52 +11,45 @@ struct Count {
     used: u32,
 }
 
-fn make(counts: &mut [Count], t: u32)
-{
+fn make(counts: &mut [Count], t: u32) {
     let i = t as usize;
     if i < counts.len() {
         counts[i].made = counts[i].made.saturating_add(1);
     }
 }
 
-fn make_all(counts: &mut [Count], ts: &[u32])
-{
+fn make_all(counts: &mut [Count], ts: &[u32]) {
     for t in ts {
         make(counts, *t);
     }
 }
 
-fn make_maybe(counts: &mut [Count], t: Option<u32>)
-{
+fn make_maybe(counts: &mut [Count], t: Option<u32>) {
     if let Some(t) = t {
         make(counts, t);
     }
 }
 
-fn take(counts: &mut [Count], t: u32)
-{
+fn take(counts: &mut [Count], t: u32) {
     let i = t as usize;
     if i < counts.len() {
         counts[i].used = counts[i].used.saturating_add(1);
     }
 }
 
-fn take_all(counts: &mut [Count], ts: &[u32])
-{
+fn take_all(counts: &mut [Count], ts: &[u32]) {
     for t in ts {
         take(counts, *t);
     }
 }
 
-fn take_maybe(counts: &mut [Count], t: Option<u32>)
-{
+fn take_maybe(counts: &mut [Count], t: Option<u32>) {
     if let Some(t) = t {
         take(counts, t);
     }
 }
 
-fn count_op(counts: &mut [Count], o: &Op<u32>)
-{
+fn count_op(counts: &mut [Count], o: &Op<u32>) {
     let of = names_of(o);
     make_maybe(counts, of.target);
     take_maybe(counts, of.first);
@@ -67,8 +60,7 @@ fn count_op(counts: &mut [Count], o: &Op<u32>)
 }
 
 #[cycle(counting)]
-fn count_node(counts: &mut [Count], n: &Node<u32>)
-{
+fn count_node(counts: &mut [Count], n: &Node<u32>) {
     match n {
         Node::Do(o) => count_op(counts, o),
         Node::Choose(p, a, b) => {
@@ -85,16 +77,14 @@ fn count_node(counts: &mut [Count], n: &Node<u32>)
 }
 
 #[cycle(counting)]
-fn count_nodes(counts: &mut [Count], ns: &[Node<u32>])
-{
+fn count_nodes(counts: &mut [Count], ns: &[Node<u32>]) {
     for n in ns {
         count_node(counts, n);
     }
 }
 
 /// Of each temporary whether it is single: a target once and used once, and no parameter.
-pub(crate) fn singles(alloc: Global, f: &Function<u32>) -> Result<Vec<bool>, Memory>
-{
+pub(crate) fn singles(alloc: Global, f: &Function<u32>) -> Result<Vec<bool>, Memory> {
     let mut counts = Vec::from_elem(alloc, Count { made: 0, used: 0 }, f.temps as usize)?;
     make_all(counts.as_mut_slice(), f.params.as_slice());
     count_nodes(counts.as_mut_slice(), f.body.as_slice());

@@ -4,8 +4,7 @@ use crate::places::{maybe_stands, mentions};
 use mid_code::{Node, Op, Where};
 
 /// The operation that the node is, where it is one.
-pub(crate) fn op_at(ns: &[Node<u32>], i: usize) -> Option<&Op<u32>>
-{
+pub(crate) fn op_at(ns: &[Node<u32>], i: usize) -> Option<&Op<u32>> {
     match ns.get(i)? {
         Node::Do(o) => Some(o),
         Node::Choose(_, _, _) => None,
@@ -17,8 +16,7 @@ pub(crate) fn op_at(ns: &[Node<u32>], i: usize) -> Option<&Op<u32>>
     }
 }
 
-fn makes(o: &Op<u32>, a: u32) -> bool
-{
+fn makes(o: &Op<u32>, a: u32) -> bool {
     match names_of(o).target {
         Some(t) => t == a,
         None => false,
@@ -26,15 +24,13 @@ fn makes(o: &Op<u32>, a: u32) -> bool
 }
 
 /// Whether the operation can make its target at the place: where it works on its target, its second operand must not stand there.
-fn can_make_at(at: &[Where], o: &Op<u32>, r: Where) -> bool
-{
+fn can_make_at(at: &[Where], o: &Op<u32>, r: Where) -> bool {
     !(works_in_place(o) && maybe_stands(at, names_of(o).second, r))
 }
 
 /// Whether a may stand at the place r from where it is made to the node i: it is made in the same list, at most 64 nodes before, only operations
 /// stand between, and none of them names what stands at r.
-pub(crate) fn may_stand(at: &[Where], ns: &[Node<u32>], i: usize, a: u32, r: Where) -> bool
-{
+pub(crate) fn may_stand(at: &[Where], ns: &[Node<u32>], i: usize, a: u32, r: Where) -> bool {
     let mut j = i;
     let mut left = 64;
     while j > 0 && left > 0 {

@@ -1,4 +1,4 @@
-use Rattle.std.proofs.Common.{◌≡◌, ◌≤◌, length}
+use Rattle.std.proofs.Common.{◌≤◌, length}
 use Rattle.reg_share.proofs.merge.+merge.Given as goal
 
 abbrev pub invariant-merge_nodes-loop-i : goal.invariant-merge_nodes-loop-i

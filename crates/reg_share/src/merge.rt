@@ -1,0 +1,90 @@
+// First operands moved to the places of targets, from the last node of each list to the first.
+use crate::operands::{names_of, works_in_place};
+use crate::places::{maybe_stands, place};
+use crate::upwards::{may_stand, op_at};
+use mid_code::{Node, Op, Where};
+
+fn is_single(single: &[bool], t: u32) -> bool {
+    let i = t as usize;
+    if i < single.len() { single[i] } else { false }
+}
+
+/// Whether both are registers or both slots, and not the same one.
+fn can_go(from: Where, to: Where) -> bool {
+    match (from, to) {
+        (Where::Reg(k), Where::Reg(n)) => k != n,
+        (Where::Slot(k), Where::Slot(n)) => k != n,
+        (Where::Reg(_), Where::Slot(_)) => false,
+        (Where::Slot(_), Where::Reg(_)) => false,
+    }
+}
+
+fn put(at: &mut [Where], t: u32, r: Where) {
+    let i = t as usize;
+    if i < at.len() {
+        at[i] = r;
+    }
+}
+
+/// The place of the target, where the first operand may stand there too.
+fn place_for(at: &[Where], ns: &[Node<u32>], i: usize, o: &Op<u32>, a: u32) -> Option<Where> {
+    let of = names_of(o);
+    let to = place(at, of.target?)?;
+    let from = place(at, a)?;
+    if can_go(from, to) && !maybe_stands(at, of.second, to) && may_stand(at, ns, i, a, to) {
+        Some(to)
+    } else {
+        None
+    }
+}
+
+/// The place that the first operand of the operation takes, and which temporary that is.
+fn move_of(
+    single: &[bool],
+    at: &[Where],
+    ns: &[Node<u32>],
+    i: usize,
+    o: &Op<u32>,
+) -> Option<(u32, Where)> {
+    let a = names_of(o).first?;
+    if works_in_place(o) && is_single(single, a) {
+        Some((a, place_for(at, ns, i, o, a)?))
+    } else {
+        None
+    }
+}
+
+fn merge_at(single: &[bool], at: &mut [Where], ns: &[Node<u32>], i: usize) {
+    if let Some(o) = op_at(ns, i) {
+        if let Some((a, to)) = move_of(single, at, ns, i, o) {
+            put(at, a, to);
+        }
+    }
+}
+
+#[cycle(merge)]
+fn merge_inside(single: &[bool], at: &mut [Where], n: &Node<u32>) {
+    match n {
+        Node::Do(_) => {}
+        Node::Choose(_, a, b) => {
+            merge_nodes(single, at, a.as_slice());
+            merge_nodes(single, at, b.as_slice());
+        }
+        Node::Block(b) => merge_nodes(single, at, b.as_slice()),
+        Node::Loop(b) => merge_nodes(single, at, b.as_slice()),
+        Node::Leave(_) => {}
+        Node::Again(_) => {}
+        Node::Return(_) => {}
+    }
+}
+
+/// Moves first operands to the places of targets, in the nodes and in those inside them.
+#[cycle(merge)]
+pub(crate) fn merge_nodes(single: &[bool], at: &mut [Where], ns: &[Node<u32>]) {
+    let mut i = ns.len();
+    while i > 0 {
+        i -= 1;
+        merge_at(single, at, ns, i);
+        merge_inside(single, at, &ns[i]);
+    }
+}

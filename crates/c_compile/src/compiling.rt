@@ -18,6 +18,7 @@ use mid_scalars::promote;
 use pass_laws::passes_meet;
 use reg_choose::choose_all;
 use reg_frames::place;
+use reg_share::share_all;
 use std::alloc::Global;
 
 /// What is made of a program: mid code without locals that need no address, the choice of a register or slot for each temporary, that of the start
@@ -42,7 +43,8 @@ pub fn compile_lowered(alloc: Global, checked: &Program, lowered: Mid) -> Result
     let first = promote(alloc, lowered)?;
     let spared = spare_copies(alloc, first)?;
     let mid = promote(alloc, spared)?;
-    let choices = choose_all(alloc, &mid)?;
+    let chosen = choose_all(alloc, &mid)?;
+    let choices = share_all(alloc, &mid, chosen)?;
     let placed = place(alloc, &mid, &choices)?;
     let names = names_of(alloc, checked.functions())?;
     let items = emit(alloc, &placed, &names)?;
@@ -55,7 +57,8 @@ pub fn compile_lowered(alloc: Global, checked: &Program, lowered: Mid) -> Result
 }
 
 /// What is made of a program: it is lowered to mid code, from which local places that need no address are taken, and copies that need not be made, and then places whose
-/// address was only copied; a register or slot is chosen for each temporary; and the code over these places becomes assembly items. The error is want of memory.
+/// address was only copied; a register or slot is chosen for each temporary, which operands share with
+/// targets; and the code over these places becomes assembly items. The error is want of memory.
 pub fn compile(alloc: Global, checked: &Program) -> Result<Compiled, Memory>
     ensures compiled { IfOk result (λ c. IsCompiled (program checked.now) (compiled c)) }
 {

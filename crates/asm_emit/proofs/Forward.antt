@@ -18,7 +18,7 @@ use Rattle.mid_code.specs.Invariants.{IsOne, IsOp, IsLoop, AreNodes}
 use Rattle.mid_code.specs.Calls.{loops, CallsTo}
 use Rattle.asm_laws.specs.Names.{jump_label, function_label}
 use Rattle.asm_laws.specs.Labelled.{HasLabel}
-use Rattle.asm_laws.specs.Operations.{Frame, Whole, register, keep, fetches, keeps, keeps_some, is_in, hand, brings, takes, aim, lays, moves, changes, is_direct, in_place, apart, computes, slot_arg, slot_args, pushed_arg, pushed_args, popped_arg, popped_args, args_items, call_items, op_items, giving}
+use Rattle.asm_laws.specs.Operations.{Frame, Whole, register, keep, fetches, keeps, keeps_some, is_in, hand, brings, takes, aim, lays, moves, changes, is_direct, in_place, apart, turned, is_turned, turned_or_apart, computes, slot_arg, slot_args, pushed_arg, pushed_args, popped_arg, popped_args, args_items, call_items, op_items, giving}
 use Rattle.asm_laws.specs.Framing.{room_made}
 use Rattle.asm_laws.specs.Emitted.{labels, enclosing, jump, jump_unless, mark, first_part, second_part, choice, one_way, is_stop, enclosed, returning, code_items, call_item, own_items, exit_items}
 use Rattle.asm_emit.specs.EmittedFrom.{IsCalled, GoesOn, AllGoOn}
@@ -87,11 +87,19 @@ module _ (names : List (List ℕ)) (body : NodesT Where) where
   changes_ahead : (F : Frame) (o : One) (t a : Where) (later : List AsmItem) → IsOne o → Ahead (changes F o t a) later
   changes_ahead F o t a later ok = ahead_append (takes F a (aim t)) (item.Op (instr.One o (aim t)) ∷ lays F t) later (takes_ahead F a (aim t) _) (one_ahead o (aim t) _ ok, lays_ahead F t later)
 
+  in_place_ahead : (F : Frame) (o : Two) (m : ℕ) (a b : Where) (later : List AsmItem) → Ahead (in_place F o m a b) later
+  in_place_ahead F o m a b later = ahead_append (takes F a m) (brings F b 10 ++ item.Op (instr.Two o m (src.Reg (hand b 10))) ∷ []) later (takes_ahead F a m _) (brought_ahead F b 10 _ later (tt, tt))
+
+  apart_ahead : (F : Frame) (o : Two) (t a b : Where) (later : List AsmItem) → Ahead (apart F o t a b) later
+  apart_ahead F o t a b later = (fetch_ahead F a 9 _, brought_ahead F b 10 _ later (tt, (keep_ahead F t _, tt)))
+
+  turned_ahead : (F : Frame) (o : Two) (u : Option Two) (t a b : Where) (later : List AsmItem) → Ahead (turned_or_apart F o u t a b) later
+  turned_ahead F o None t a b later = apart_ahead F o t a b later
+  turned_ahead F o (Some u) t a b later = one_of_both (is_turned t a b) (in_place F u (aim t) b a) (apart F o t a b) later (in_place_ahead F u (aim t) b a later) (apart_ahead F o t a b later)
+
   computes_ahead : (F : Frame) (o : Two) (t a b : Where) (later : List AsmItem) → Ahead (computes F o t a b) later
   computes_ahead F o t a b later =
-      one_of_both (is_direct o t b) (in_place F o (aim t) a b) (apart F o t a b) later
-      (ahead_append (takes F a (aim t)) (brings F b 10 ++ item.Op (instr.Two o (aim t) (src.Reg (hand b 10))) ∷ []) later (takes_ahead F a (aim t) _) (brought_ahead F b 10 _ later (tt, tt)))
-      (fetch_ahead F a 9 _, brought_ahead F b 10 _ later (tt, (keep_ahead F t _, tt)))
+      one_of_both (is_direct o t b) (in_place F o (aim t) a b) (turned_or_apart F o (turned o) t a b) later (in_place_ahead F o (aim t) a b later) (turned_ahead F o (turned o) t a b later)
 
   slot_ahead : (F G : Frame) (p a : Where) (later : List AsmItem) → Ahead (slot_arg F G p a) later
   slot_ahead F G (Reg q) a later = tt

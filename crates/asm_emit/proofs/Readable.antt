@@ -19,7 +19,7 @@ use Rattle.mid_code.specs.declared.placed.Where.{Where}
 use Rattle.mid_code.specs.declared.placed.Where.TheVariants.{Reg, Slot}
 use Rattle.mid_code.specs.Code.{OpT, ConstO, NullO, MoveO, OneO, TwoO, GlobalO, LocalO, LiteralO, CardO, StepO, ApartO, PtrTestO, LoadO, StoreO, FreshO, EndO, InO, OutO, WaitO, HaltO, NodesT, Stop, Do, Call, Choose, Block, Loop, Leave, Again, Return, FunctionT, CodeT}
 use Rattle.mid_code.specs.Invariants.{AllOf, IsOp, AreNodes}
-use Rattle.asm_laws.specs.Operations.{Frame, Whole, register, keep, fetches, keeps, keeps_some, is_in, hand, brings, takes, aim, lays, moves, changes, is_direct, in_place, apart, computes, slot_arg, slot_args, pushed_arg, pushed_args, popped_arg, popped_args, args_items, call_items, op_items, giving, start_frame, opening_items, literal_items, literals_items}
+use Rattle.asm_laws.specs.Operations.{Frame, Whole, register, keep, fetches, keeps, keeps_some, is_in, hand, brings, takes, aim, lays, moves, changes, is_direct, in_place, apart, turned, is_turned, turned_or_apart, computes, slot_arg, slot_args, pushed_arg, pushed_args, popped_arg, popped_args, args_items, call_items, op_items, giving, start_frame, opening_items, literal_items, literals_items}
 use Rattle.asm_laws.specs.Framing.{room_made}
 use Rattle.asm_laws.specs.Emitted.{labels, enclosing, jump, jump_unless, mark, first_part, second_part, choice, one_way, is_stop, enclosed, returning, code_items, exit_items, function_items, functions_items, closing_items, start_items, program_items}
 use Rattle.asm_emit.specs.Words.{AreWords, TextsAreWords}
@@ -113,13 +113,23 @@ moves_fine F t (Slot k) = (fetch_fine F (Slot k) (aim t) (aim_fine t), lays_fine
 changes_fine : (F : Frame) (o : One) (t a : Where) → AllFine (changes F o t a)
 changes_fine F o t a = join (takes F a (aim t)) (item.Op (instr.One o (aim t)) ∷ lays F t) (takes_fine F a (aim t) (aim_fine t)) ((aim_fine t, tt), lays_fine F t)
 
+in_place_fine : (F : Frame) (o : Two) (t a b : Where) → AllFine (in_place F o (aim t) a b)
+in_place_fine F o t a b =
+    join (takes F a (aim t)) (brings F b 10 ++ item.Op (instr.Two o (aim t) (src.Reg (hand b 10))) ∷ []) (takes_fine F a (aim t) (aim_fine t))
+    (join (brings F b 10) (item.Op (instr.Two o (aim t) (src.Reg (hand b 10))) ∷ []) (brings_fine F b 10 (omega arith)) ((aim_fine t, (hand_fine b 10 (omega arith), tt)), tt))
+
+apart_fine : (F : Frame) (o : Two) (t a b : Where) → AllFine (apart F o t a b)
+apart_fine F o t a b = (
+  fetch_fine F a 9 (omega arith),
+  join (brings F b 10) (item.Op (instr.Two o 9 (src.Reg (hand b 10))) ∷ keeps F t ∷ []) (brings_fine F b 10 (omega arith)) ((omega arith, (hand_fine b 10 (omega arith), tt)), (keep_fine F t 9 (omega arith), tt)),
+)
+
+turned_fine : (F : Frame) (o : Two) (u : Option Two) (t a b : Where) → AllFine (turned_or_apart F o u t a b)
+turned_fine F o None t a b = apart_fine F o t a b
+turned_fine F o (Some u) t a b = either (is_turned t a b) (in_place F u (aim t) b a) (apart F o t a b) (in_place_fine F u t b a) (apart_fine F o t a b)
+
 computes_fine : (F : Frame) (o : Two) (t a b : Where) → AllFine (computes F o t a b)
-computes_fine F o t a b =
-    let hb = hand_fine b 10 (omega arith) in
-    let bb = brings_fine F b 10 (omega arith) in
-    either (is_direct o t b) (in_place F o (aim t) a b) (apart F o t a b)
-    (join (takes F a (aim t)) (brings F b 10 ++ item.Op (instr.Two o (aim t) (src.Reg (hand b 10))) ∷ []) (takes_fine F a (aim t) (aim_fine t)) (join (brings F b 10) (item.Op (instr.Two o (aim t) (src.Reg (hand b 10))) ∷ []) bb ((aim_fine t, (hb, tt)), tt)))
-    (fetch_fine F a 9 (omega arith), join (brings F b 10) (item.Op (instr.Two o 9 (src.Reg (hand b 10))) ∷ keeps F t ∷ []) bb ((omega arith, (hb, tt)), (keep_fine F t 9 (omega arith), tt)))
+computes_fine F o t a b = either (is_direct o t b) (in_place F o (aim t) a b) (turned_or_apart F o (turned o) t a b) (in_place_fine F o t a b) (turned_fine F o (turned o) t a b)
 
 slot_fine : (F G : Frame) (p a : Where) → AllFine (slot_arg F G p a)
 slot_fine F G (Reg q) a = tt

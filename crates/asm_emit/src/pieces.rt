@@ -1,6 +1,6 @@
 // Pieces of which the operations are made.
 ghost use Rattle.std.specs.Prelude.{◌≡◌, ◌++◌, ◌∷◌, [], OnOk};
-ghost use Rattle.asm_laws.specs.Operations.{port, sets, moves, changes, is_division, is_direct, in_place, apart, computes};
+ghost use Rattle.asm_laws.specs.Operations.{port, sets, moves, changes, is_division, is_direct, in_place, apart, turned, is_turned, turned_or_apart, computes};
 ghost use Rattle.asm_emit.specs.View.{frame};
 
 use crate::hands::{
@@ -112,6 +112,65 @@ fn apart(
     keeps(out, s, t)
 }
 
+/// The operator that makes the same of its two words the other way round, where there is one.
+fn turned(o: Two) -> Option<Two>
+    ensures { result ≡ turned o }
+{
+    match o {
+        Two::IEQ => Some(Two::IEQ),
+        Two::INE => Some(Two::INE),
+        Two::IGT => Some(Two::ILT),
+        Two::IGE => Some(Two::ILE),
+        Two::ILT => Some(Two::IGT),
+        Two::ILE => Some(Two::IGE),
+        Two::AND => Some(Two::AND),
+        Two::OR => Some(Two::OR),
+        Two::XOR => Some(Two::XOR),
+        Two::SHL => None,
+        Two::IADD => Some(Two::IADD),
+        Two::ISUB => None,
+        Two::IMUL => Some(Two::IMUL),
+        Two::IDIV => None,
+        Two::IMOD => None,
+        Two::IMIN => None,
+        Two::IMAX => None,
+    }
+}
+
+/// Whether the second word stands in the register of the target, and the first one does not.
+fn is_turned(t: Where, a: Where, b: Where) -> bool
+    ensures { result ≡ is_turned t a b }
+{
+    match t {
+        Where::Reg(q) => is_in(b, register(q)) && !is_in(a, register(q)),
+        Where::Slot(_) => false,
+    }
+}
+
+/// A word computed where the target does not hold the first word: in its register with the words the other way round, or apart.
+fn turned_or_apart(
+    out: &mut Vec<AsmItem>,
+    s: &Scope<'_>,
+    o: Two,
+    u: Option<Two>,
+    t: Where,
+    a: Where,
+    b: Where,
+) -> Result<(), Memory>
+    ensures { OnOk result (out.new.items ≡ out.old.items ++ turned_or_apart (frame s.now) o u t a b) }
+{
+    match u {
+        Some(u) => {
+            if is_turned(t, a, b) {
+                in_place(out, s, u, aim(t), b, a)
+            } else {
+                apart(out, s, o, t, a, b)
+            }
+        }
+        None => apart(out, s, o, t, a, b),
+    }
+}
+
 /// A place takes the word computed of those of two places.
 pub(crate) fn computes(
     out: &mut Vec<AsmItem>,
@@ -126,6 +185,6 @@ pub(crate) fn computes(
     if is_direct(o, t, b) {
         in_place(out, s, o, aim(t), a, b)
     } else {
-        apart(out, s, o, t, a, b)
+        turned_or_apart(out, s, o, turned(o), t, a, b)
     }
 }

@@ -26,7 +26,7 @@ use Rattle.mid_code.specs.Invariants.{IsOp, IsLoop, parameter_count, AreNodes, A
 use Rattle.mid_code.specs.Runs.{weight}
 use Rattle.asm_laws.specs.Labelled.{HasLabel}
 use Rattle.asm_laws.specs.Names.{jump_label, literal_label, function_label}
-use Rattle.asm_laws.specs.Operations.{Frame, Whole, register, keep, fetches, keeps, keeps_some, is_in, hand, brings, takes, aim, lays, moves, changes, is_direct, in_place, apart, computes, slot_arg, slot_args, pushed_arg, pushed_args, popped_arg, popped_args, args_items, call_items, op_items, giving, start_frame, opening_items, literal_items, literals_items}
+use Rattle.asm_laws.specs.Operations.{Frame, Whole, register, keep, fetches, keeps, keeps_some, is_in, hand, brings, takes, aim, lays, moves, changes, is_direct, in_place, apart, turned, is_turned, turned_or_apart, computes, slot_arg, slot_args, pushed_arg, pushed_args, popped_arg, popped_args, args_items, call_items, op_items, giving, start_frame, opening_items, literal_items, literals_items}
 use Rattle.asm_laws.specs.Framing.{room_made}
 use Rattle.asm_laws.specs.Emitted.{labels, functions_labels, enclosing, jump, jump_unless, mark, first_part, second_part, choice, one_way, is_stop, enclosed, returning, code_items, entry_items, exit_items, function_items, functions_items, closing_items, start_items, program_items}
 use Rattle.asm_laws.proofs.Programs.{mapped_from}
@@ -145,10 +145,18 @@ module _ (x : CodeT Where) (W : Whole) (Q : List ℕ → Type 0) (of_function : 
   changes_uses : (F : Frame) (o : OneOf) (t a : Where) → Uses Q (changes F o t a)
   changes_uses F o t a = uses_append Q (takes F a (aim t)) (item.Op (instr.One o (aim t)) ∷ lays F t) (takes_uses F a (aim t)) (tt, lays_uses F t)
 
+  in_place_uses : (F : Frame) (o : TwoOf) (m : ℕ) (a b : Where) → Uses Q (in_place F o m a b)
+  in_place_uses F o m a b = uses_append Q (takes F a m) _ (takes_uses F a m) (brought_uses F b 10 _ (tt, tt))
+
+  apart_uses : (F : Frame) (o : TwoOf) (t a b : Where) → Uses Q (apart F o t a b)
+  apart_uses F o t a b = (fetch_uses F a 9, brought_uses F b 10 _ (tt, (keep_uses F t, tt)))
+
+  turned_uses : (F : Frame) (o : TwoOf) (u : Option TwoOf) (t a b : Where) → Uses Q (turned_or_apart F o u t a b)
+  turned_uses F o None t a b = apart_uses F o t a b
+  turned_uses F o (Some u) t a b = one_of_both (is_turned t a b) (in_place F u (aim t) b a) (apart F o t a b) (in_place_uses F u (aim t) b a) (apart_uses F o t a b)
+
   computes_uses : (F : Frame) (o : TwoOf) (t a b : Where) → Uses Q (computes F o t a b)
-  computes_uses F o t a b =
-      one_of_both (is_direct o t b) (in_place F o (aim t) a b) (apart F o t a b)
-      (uses_append Q (takes F a (aim t)) _ (takes_uses F a (aim t)) (brought_uses F b 10 _ (tt, tt))) (fetch_uses F a 9, brought_uses F b 10 _ (tt, (keep_uses F t, tt)))
+  computes_uses F o t a b = one_of_both (is_direct o t b) (in_place F o (aim t) a b) (turned_or_apart F o (turned o) t a b) (in_place_uses F o (aim t) a b) (turned_uses F o (turned o) t a b)
 
   slot_uses : (F G : Frame) (p a : Where) → Uses Q (slot_arg F G p a)
   slot_uses F G (Reg q) a = tt

@@ -13,7 +13,7 @@ use Rattle.mid_code.specs.declared.placed.Where.{Where}
 use Rattle.mid_code.specs.declared.placed.Where.TheVariants.{Reg, Slot}
 use Rattle.mid_code.specs.Code.{OpT, ConstO, NullO, MoveO, OneO, TwoO, GlobalO, LocalO, LiteralO, CardO, StepO, ApartO, PtrTestO, LoadO, StoreO, FreshO, EndO, InO, OutO, WaitO, HaltO, NodesT, Stop, Do, Call, Choose, Block, Loop, Leave, Again, Return, FunctionT, CodeT}
 use Rattle.asm_laws.specs.Names.{function_label, literal_label}
-use Rattle.asm_laws.specs.Operations.{Frame, Whole, register, keep, fetches, keeps_some, is_in, hand, brings, takes, aim, lays, moves, changes, is_direct, in_place, apart, computes, slot_arg, slot_args, pushed_arg, pushed_args, popped_arg, popped_args, args_items, call_items, op_items, giving, start_frame, opening_items, literal_items, literals_items}
+use Rattle.asm_laws.specs.Operations.{Frame, Whole, register, keep, fetches, keeps_some, is_in, hand, brings, takes, aim, lays, moves, changes, is_direct, in_place, apart, turned, is_turned, turned_or_apart, computes, slot_arg, slot_args, pushed_arg, pushed_args, popped_arg, popped_args, args_items, call_items, op_items, giving, start_frame, opening_items, literal_items, literals_items}
 use Rattle.asm_laws.specs.Framing.{frame_made}
 use Rattle.asm_laws.specs.Emitted.{labels, functions_labels, enclosing, jump, jump_unless, mark, choice, one_way, is_stop, enclosed, returning, code_items, entry_items, exit_items, function_items, functions_items, closing_items, start_items, program_items, labels_of}
 use Rattle.asm_laws.proofs.LabelKinds.{Differ, Kind, Jump, Fun, Text, name_of, Valid, kind_same, Range, Box, Within, Aside, jumps, jumps_within, jumps_below, jumps_above}
@@ -135,10 +135,18 @@ module _ (W : Whole) (differ : Differ W.names) where
   changes_bare : (F : Frame) (o : OneOf) (t a : Where) → Bare (changes F o t a)
   changes_bare F o t a = names_append (λ m. ⊥) (takes F a (aim t)) (item.Op (instr.One o (aim t)) ∷ lays F t) (takes_bare F a (aim t)) (lays_bare F t)
 
+  in_place_bare : (F : Frame) (o : TwoOf) (n : ℕ) (a b : Where) → Bare (in_place F o n a b)
+  in_place_bare F o n a b = names_append (λ m. ⊥) (takes F a n) _ (takes_bare F a n) (brought_bare F b 10 _ tt)
+
+  apart_bare : (F : Frame) (o : TwoOf) (t a b : Where) → Bare (apart F o t a b)
+  apart_bare F o t a b = brought_bare F b 10 _ tt
+
+  turned_bare : (F : Frame) (o : TwoOf) (u : Option TwoOf) (t a b : Where) → Bare (turned_or_apart F o u t a b)
+  turned_bare F o None t a b = apart_bare F o t a b
+  turned_bare F o (Some u) t a b = one_of_both (is_turned t a b) (in_place F u (aim t) b a) (apart F o t a b) (in_place_bare F u (aim t) b a) (apart_bare F o t a b)
+
   computes_bare : (F : Frame) (o : TwoOf) (t a b : Where) → Bare (computes F o t a b)
-  computes_bare F o t a b =
-      one_of_both (is_direct o t b) (in_place F o (aim t) a b) (apart F o t a b)
-      (names_append (λ m. ⊥) (takes F a (aim t)) _ (takes_bare F a (aim t)) (brought_bare F b 10 _ tt)) (brought_bare F b 10 _ tt)
+  computes_bare F o t a b = one_of_both (is_direct o t b) (in_place F o (aim t) a b) (turned_or_apart F o (turned o) t a b) (in_place_bare F o (aim t) a b) (turned_bare F o (turned o) t a b)
 
   slot_bare : (F G : Frame) (p a : Where) → Bare (slot_arg F G p a)
   slot_bare F G (Reg q) a = tt

@@ -1,9 +1,11 @@
 -- Each operation but a call is followed by the machine, in at most eight steps.
-use Rattle.std.proofs.Common.{◌≡◌, ℕ, suc, ◌+◌, ◌<◌, ◌≤◌, inl, inr, Bool, true, false, cond, List, [], ◌∷◌, ◌++◌, Option, Some, None, refl, sym, ap, ◌∙◌, subst, arith}
+use Rattle.std.proofs.Common.{◌≡◌, ℕ, suc, ◌+◌, ◌%◌, ◌^◌, ◌==◌, ◌<◌, ◌≤◌, inl, inr, Bool, true, false, cond, List, [], ◌∷◌, ◌++◌, Option, Some, None, refl, sym, ap, ◌∙◌, subst, arith}
 use Rattle.std.specs.Prelude.{get_or, not, ◌&&◌}
 use Rattle.std.proofs.lemmas.Bool.{eqb-true}
 use Rattle.either.specs.declared.Either.TheVariants.{Left, Right}
-use Rattle.kit_base.specs.Word.{add}
+use Rattle.std.proofs.lemmas.Nat.{and_comm, or_comm, xor_comm}
+use Rattle.std.proofs.Math.Nat.{mul_comm}
+use Rattle.kit_base.specs.Word.{add, mul, bool_word}
 use Rattle.kit_base.specs.declared.event.Event.TheVariants as event
 use Rattle.v32_isa.specs.declared.instruction.Plain.TheVariants.{HLT, WAIT}
 use Rattle.v32_isa.specs.declared.instruction.One.{One as OneOf}
@@ -33,7 +35,7 @@ use Rattle.mid_code.specs.declared.placed.Where.TheVariants.{Reg, Slot}
 use Rattle.mid_code.specs.Code.{OpT, ConstO, NullO, MoveO, OneO, TwoO, GlobalO, LocalO, LiteralO, CardO, StepO, ApartO, PtrTestO, LoadO, StoreO, FreshO, EndO, InO, OutO, WaitO, HaltO}
 use Rattle.mid_code.specs.States.{op_weight}
 use Rattle.asm_laws.specs.Names.{literal_label}
-use Rattle.asm_laws.specs.Operations.{Frame, Whole, register, local_word, fetch, keep, fetches, keeps, is_in, hand, brings, takes, aim, lays, sets, moves, changes, is_division, is_direct, in_place, apart, computes, op_items}
+use Rattle.asm_laws.specs.Operations.{Frame, Whole, register, local_word, fetch, keep, fetches, keeps, is_in, hand, brings, takes, aim, lays, sets, moves, changes, is_division, is_direct, in_place, apart, turned, is_turned, turned_or_apart, computes, op_items}
 use Rattle.asm_laws.specs.Operations as emitted
 use Rattle.asm_laws.specs.Placing.{Line}
 use Rattle.asm_laws.specs.Standing.{Stand}
@@ -110,6 +112,59 @@ lays_none (Slot k) = ⊥
 direct : (o : TwoOf) (t b : Where) → is_direct o t b ≡ true → (is_division o ≡ false) × (is_in b (aim t) ≡ false) × (lays_none t)
 direct o (Reg q) b e = let n = neither (is_division o) (is_in b (register q)) e in (n.0, n.1, tt)
 direct o (Slot k) b e = absurd cc
+
+-- ---- operators with their words the other way round
+
+-- such an operator makes the same of them, and does not fault
+abbrev TurnsTo : TwoOf → Option TwoOf → Type 0
+TurnsTo o None = Unit {0}
+TurnsTo o (Some u) = (is_division u ≡ false) × ((x y : ℕ) → two_of u y x ≡ two_of o x y)
+
+sum_turned : (x y : ℕ) → add y x ≡ add x y
+sum_turned x y = ap (λ z. z % 2 ^ 32) (omega arith)
+
+product_turned : (x y : ℕ) → mul y x ≡ mul x y
+product_turned x y = ap (λ z. z % 2 ^ 32) (mul_comm y x)
+
+equal_turned : (x y : ℕ) → (y == x) ≡ (x == y)
+equal_turned x y = elim (same_or_not y x) [
+  | inl p ↦ elim (same_or_not x y) [
+    | inl q ↦ p.1 ∙ sym q.1
+    | inr q ↦ absurd (q.0 (sym p.0))
+  ]
+  | inr p ↦ elim (same_or_not x y) [
+    | inl q ↦ absurd (p.0 (sym q.0))
+    | inr q ↦ p.1 ∙ sym q.1
+  ]
+]
+
+turns : (o : TwoOf) → TurnsTo o (turned o)
+turns IEQ = (refl, λ x y. ap (λ b. Some (bool_word b)) (equal_turned x y))
+turns INE = (refl, λ x y. ap (λ b. Some (bool_word (not b))) (equal_turned x y))
+turns IGT = (refl, λ x y. refl)
+turns IGE = (refl, λ x y. refl)
+turns ILT = (refl, λ x y. refl)
+turns ILE = (refl, λ x y. refl)
+turns AND = (refl, λ x y. ap Some (and_comm y x))
+turns OR = (refl, λ x y. ap Some (or_comm y x))
+turns XOR = (refl, λ x y. ap Some (xor_comm y x))
+turns SHL = tt
+turns IADD = (refl, λ x y. ap Some (sum_turned x y))
+turns ISUB = tt
+turns IMUL = (refl, λ x y. ap Some (product_turned x y))
+turns IDIV = tt
+turns IMOD = tt
+turns IMIN = tt
+turns IMAX = tt
+
+both_off : (d x y : Bool) → d ≡ false → x && not y ≡ true → not d && not y ≡ true
+both_off true x y n e = absurd cc
+both_off false true y n e = e
+both_off false false y n e = absurd cc
+
+turned_direct : (u : TwoOf) (t q r : Where) → is_division u ≡ false → is_turned t q r ≡ true → is_direct u t q ≡ true
+turned_direct u (Slot k) q r n e = absurd cc
+turned_direct u (Reg k) q r n e = both_off (is_division u) (is_in r (register k)) (is_in q (register k)) n e
 
 module _ (C : Console) (address : List ℕ → ℕ) (W : Whole) (F : Frame) (a : Addr) (room : Room F a) where
   abbrev Here : ℕ → List AsmItem → ℕ → Type 0
@@ -239,12 +294,24 @@ module _ (C : Console) (address : List ℕ → ℕ) (W : Whole) (F : Frame) (a :
       later C 1 3 4 s u1 xs p a (computed F t (two_of o v w) xs a) (fetches_so C F address a s xs pc q 9 n room gq (omega arith) h e k.1) (omega arith)
       (later C i.steps 2 3 u1 u xs p a (computed F t (two_of o v w) xs a) i.by (let z = i.few in omega (arith, z)) (computed_at u xs l.0 p (two_of o v w) t gt i.held eff l.2))
 
+  -- with its words the other way round, where they stand so
+  turned_at : (s : State) (xs : List ℕ) (pc p : ℕ) (o : TwoOf) (u : Option TwoOf) (t q r : Where) → TurnsTo o u → Good F t → Good F q → Good F r → Held C a s → s.counter ≡ pc → Here pc (turned_or_apart F o u t q r) p →
+      Follows C 4 s xs p a (computed F t (two_of o (word_of F q a) (word_of F r a)) xs a)
+  turned_at s xs pc p o None t q r same gt gq gr h e k = apart_at s xs pc p o t q r gt gq gr h e k
+  turned_at s xs pc p o (Some u) t q r same gt gq gr h e k = go (is_turned t q r) refl k
+    where
+      go : (b : Bool) → is_turned t q r ≡ b → Here pc (cond b (in_place F u (aim t) r q) (apart F o t q r)) p → Follows C 4 s xs p a (computed F t (two_of o (word_of F q a) (word_of F r a)) xs a)
+      go true is k =
+          subst (λ z. Follows C 4 s xs p a (computed F t z xs a)) (same.1 (word_of F q a) (word_of F r a))
+          (in_place_at s xs pc p u t r q (turned_direct u t q r same.0 is) gt gr gq h e k)
+      go false is k = apart_at s xs pc p o t q r gt gq gr h e k
+
   computes_at : (s : State) (xs : List ℕ) (pc p : ℕ) (o : TwoOf) (t q r : Where) → Good F t → Good F q → Good F r → Held C a s → s.counter ≡ pc → Here pc (computes F o t q r) p → Follows C 4 s xs p a (computed F t (two_of o (word_of F q a) (word_of F r a)) xs a)
   computes_at s xs pc p o t q r gt gq gr h e k = go (is_direct o t r) refl k
     where
-      go : (b : Bool) → is_direct o t r ≡ b → Here pc (cond b (in_place F o (aim t) q r) (apart F o t q r)) p → Follows C 4 s xs p a (computed F t (two_of o (word_of F q a) (word_of F r a)) xs a)
+      go : (b : Bool) → is_direct o t r ≡ b → Here pc (cond b (in_place F o (aim t) q r) (turned_or_apart F o (turned o) t q r)) p → Follows C 4 s xs p a (computed F t (two_of o (word_of F q a) (word_of F r a)) xs a)
       go true is k = in_place_at s xs pc p o t q r is gt gq gr h e k
-      go false is k = apart_at s xs pc p o t q r gt gq gr h e k
+      go false is k = turned_at s xs pc p o (turned o) t q r (turns o) gt gq gr h e k
 
   load_effect : (s : State) (m r q v next : ℕ) → register_of s r ≡ q → word_at s q ≡ Some v → act (instr.Mov (RegAtReg m r)) next s ≡ EndsIn stepped.Went (took C next m v s)
   unfolding act

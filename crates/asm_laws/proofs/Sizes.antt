@@ -25,7 +25,7 @@ use Rattle.mid_code.specs.Runs.{nodes_weight, function_weight, weight}
 use Rattle.asm_laws.specs.Names.{literal_label, function_label}
 use Rattle.kit_base.specs.Word.{add, sub}
 use Rattle.asm_laws.specs.Operations as operations
-use Rattle.asm_laws.specs.Operations.{Frame, Whole, register, slot_word, local_word, fetches, keeps, keeps_some, is_in, hand, brings, takes, aim, lays, moves, changes, is_direct, in_place, apart, computes, slot_arg, slot_args, pushed_arg, pushed_args, popped_arg, popped_args, args_items, call_items, op_items, giving, start_frame, opening_items, literal_items, literals_items}
+use Rattle.asm_laws.specs.Operations.{Frame, Whole, register, slot_word, local_word, fetches, keeps, keeps_some, is_in, hand, brings, takes, aim, lays, moves, changes, is_direct, in_place, apart, turned, is_turned, turned_or_apart, computes, slot_arg, slot_args, pushed_arg, pushed_args, popped_arg, popped_args, args_items, call_items, op_items, giving, start_frame, opening_items, literal_items, literals_items}
 use Rattle.asm_laws.specs.Framing.{room_made}
 use Rattle.asm_laws.specs.Emitted.{labels, enclosing, jump, jump_unless, mark, choice, one_way, is_stop, enclosed, returning, code_items, entry_items, exit_items, function_items, functions_items, functions_labels, call_item, closing_items, start_items, program_items, labels_of}
 use Rattle.asm_laws.proofs.Walked.{total_append, total_one, total_none, total_more}
@@ -111,24 +111,28 @@ moves_size F t (Slot k) = laid_size F t (fetches F (Slot k) (aim t)) 2 (fetch_si
 changes_size : (F : Frame) (o : OneOf) (t a : Where) → size (changes F o t a) ≤ 5
 changes_size F o t a = omega (arith, total_append (takes F a (aim t)) (item.Op (instr.One o (aim t)) ∷ lays F t), takes_size F a (aim t), laid_size F t (item.Op (instr.One o (aim t))) 1 (omega arith))
 
+in_place_size : (F : Frame) (o : TwoOf) (m : ℕ) (p q : Where) → size (in_place F o m p q) ≤ 5
+in_place_size F o m p q =
+    let x = item.Op (instr.Two o m (src.Reg (hand q 10))) in
+    let b = brought_size F q 10 1 (x ∷ []) (one_item x 1 (omega arith)) in
+    omega (arith, total_append (takes F p m) (brings F q 10 ++ x ∷ []), takes_size F p m, b)
+
+apart_size : (F : Frame) (o : TwoOf) (t p q : Where) → size (apart F o t p q) ≤ 7
+apart_size F o t p q =
+    let x = item.Op (instr.Two o 9 (src.Reg (hand q 10))) in
+    let b = brought_size F q 10 3 (x ∷ keeps F t ∷ []) (two_items x (keeps F t) 1 2 (omega arith) (keep_size F t)) in
+    omega (arith, total_more (fetches F p 9) (brings F q 10 ++ x ∷ keeps F t ∷ []), fetch_size F p 9, b)
+
+either_size : (b : Bool) (xs ys : List AsmItem) → size xs ≤ 5 → size ys ≤ 7 → size (cond b xs ys) ≤ 7
+either_size true xs ys h g = omega (arith, h)
+either_size false xs ys h g = g
+
+turned_size : (F : Frame) (o : TwoOf) (u : Option TwoOf) (t p q : Where) → size (turned_or_apart F o u t p q) ≤ 7
+turned_size F o None t p q = apart_size F o t p q
+turned_size F o (Some u) t p q = either_size (is_turned t p q) (in_place F u (aim t) q p) (apart F o t p q) (in_place_size F u (aim t) q p) (apart_size F o t p q)
+
 computes_size : (F : Frame) (o : TwoOf) (t p q : Where) → size (computes F o t p q) ≤ 7
-computes_size F o t p q = go (is_direct o t q)
-  where
-    in_place_size : size (in_place F o (aim t) p q) ≤ 5
-    in_place_size =
-        let x = item.Op (instr.Two o (aim t) (src.Reg (hand q 10))) in
-        let b = brought_size F q 10 1 (x ∷ []) (one_item x 1 (omega arith)) in
-        omega (arith, total_append (takes F p (aim t)) (brings F q 10 ++ x ∷ []), takes_size F p (aim t), b)
-
-    apart_size : size (apart F o t p q) ≤ 7
-    apart_size =
-        let x = item.Op (instr.Two o 9 (src.Reg (hand q 10))) in
-        let b = brought_size F q 10 3 (x ∷ keeps F t ∷ []) (two_items x (keeps F t) 1 2 (omega arith) (keep_size F t)) in
-        omega (arith, total_more (fetches F p 9) (brings F q 10 ++ x ∷ keeps F t ∷ []), fetch_size F p 9, b)
-
-    go : (b : Bool) → size (cond b (in_place F o (aim t) p q) (apart F o t p q)) ≤ 7
-    go true = let r = in_place_size in omega (arith, r)
-    go false = apart_size
+computes_size F o t p q = either_size (is_direct o t q) (in_place F o (aim t) p q) (turned_or_apart F o (turned o) t p q) (in_place_size F o (aim t) p q) (turned_size F o (turned o) t p q)
 
 pub op_size : (W : Whole) (F : Frame) (o : OpT Where) → size (op_items W F o) ≤ op_weight o
 unfolding op_items

@@ -7,7 +7,7 @@ use Rattle.v32_isa.specs.declared.instruction.Go.TheVariants.{CALL}
 use Rattle.v32_isa.specs.declared.instruction.One.{One as OneOf}
 use Rattle.v32_isa.specs.declared.instruction.One.TheVariants.{PUSH, POP}
 use Rattle.v32_isa.specs.declared.instruction.Two.{Two as TwoOf}
-use Rattle.v32_isa.specs.declared.instruction.Two.TheVariants.{IADD, ISUB, IDIV, IMOD}
+use Rattle.v32_isa.specs.declared.instruction.Two.TheVariants.{IEQ, INE, IGT, IGE, ILT, ILE, AND, OR, XOR, IADD, ISUB, IMUL, IDIV, IMOD}
 use Rattle.v32_isa.specs.declared.instruction.Src.TheVariants as src
 use Rattle.v32_isa.specs.declared.instruction.Mov.TheVariants.{RegImm, RegReg, RegAtReg, RegAtOff, AtRegReg, AtOffReg}
 use Rattle.v32_isa.specs.declared.instruction.Instr.{Instr}
@@ -132,9 +132,33 @@ in_place F o m a b = takes F a m ++ (brings F b 10 ++ item.Op (instr.Two o m (sr
 abbrev pub apart : Frame → TwoOf → Where → Where → Where → List AsmItem
 apart F o t a b = fetches F a 9 ∷ (brings F b 10 ++ item.Op (instr.Two o 9 (src.Reg (hand b 10))) ∷ keeps F t ∷ [])
 
+-- the operator that makes the same of its two words the other way round, where there is one
+abbrev pub turned : TwoOf → Option TwoOf
+turned IEQ = Some IEQ
+turned INE = Some INE
+turned IGT = Some ILT
+turned IGE = Some ILE
+turned ILT = Some IGT
+turned ILE = Some IGE
+turned AND = Some AND
+turned OR = Some OR
+turned XOR = Some XOR
+turned IADD = Some IADD
+turned IMUL = Some IMUL
+turned _ = None
+
+-- Where the second word stands in the register of the target, and the first one does not, such an operator works there with its words the other way round.
+abbrev pub is_turned : Where → Where → Where → Bool
+is_turned (Slot k) a b = false
+is_turned (Reg q) a b = is_in b (register q) && not (is_in a (register q))
+
+abbrev pub turned_or_apart : Frame → TwoOf → Option TwoOf → Where → Where → Where → List AsmItem
+turned_or_apart F o None t a b = apart F o t a b
+turned_or_apart F o (Some u) t a b = cond (is_turned t a b) (in_place F u (aim t) b a) (apart F o t a b)
+
 -- a word computed of two words is put at a place
 abbrev pub computes : Frame → TwoOf → Where → Where → Where → List AsmItem
-computes F o t a b = cond (is_direct o t b) (in_place F o (aim t) a b) (apart F o t a b)
+computes F o t a b = cond (is_direct o t b) (in_place F o (aim t) a b) (turned_or_apart F o (turned o) t a b)
 
 -- ---- calls
 

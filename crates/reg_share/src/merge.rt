@@ -1,5 +1,5 @@
-// First operands moved to the places of targets, from the last node of each list to the first.
-use crate::operands::{names_of, works_in_place};
+// Operands moved to the places of targets, from the last node of each list to the first.
+use crate::operands::{can_turn, names_of, works_in_place};
 use crate::places::{maybe_stands, place};
 use crate::upwards::{may_stand, op_at};
 use mid_code::{Node, Op, Where};
@@ -26,19 +26,44 @@ fn put(at: &mut [Where], t: u32, r: Where) {
     }
 }
 
-/// The place of the target, where the first operand may stand there too.
-fn place_for(at: &[Where], ns: &[Node<u32>], i: usize, o: &Op<u32>, a: u32) -> Option<Where> {
-    let of = names_of(o);
-    let to = place(at, of.target?)?;
-    let from = place(at, a)?;
-    if can_go(from, to) && !maybe_stands(at, of.second, to) && may_stand(at, ns, i, a, to) {
+/// The place of the target, where the operand, whose other one is given, may stand there too.
+fn place_for(
+    at: &[Where],
+    ns: &[Node<u32>],
+    i: usize,
+    target: Option<u32>,
+    operand: u32,
+    other: Option<u32>,
+) -> Option<Where> {
+    let to = place(at, target?)?;
+    let from = place(at, operand)?;
+    if can_go(from, to) && !maybe_stands(at, other, to) && may_stand(at, ns, i, operand, to) {
         Some(to)
     } else {
         None
     }
 }
 
-/// The place that the first operand of the operation takes, and which temporary that is.
+/// An operand that is single, and the place of the target, which it takes.
+fn operand_to_move(
+    single: &[bool],
+    at: &[Where],
+    ns: &[Node<u32>],
+    i: usize,
+    target: Option<u32>,
+    operand: Option<u32>,
+    other: Option<u32>,
+) -> Option<(u32, Where)> {
+    let a = operand?;
+    if is_single(single, a) {
+        Some((a, place_for(at, ns, i, target, a, other)?))
+    } else {
+        None
+    }
+}
+
+/// The operand of an operation that takes the target's place: the first one, or the second one where the operation works as well on its operands the
+/// other way round.
 fn move_of(
     single: &[bool],
     at: &[Where],
@@ -46,11 +71,19 @@ fn move_of(
     i: usize,
     o: &Op<u32>,
 ) -> Option<(u32, Where)> {
-    let a = names_of(o).first?;
-    if works_in_place(o) && is_single(single, a) {
-        Some((a, place_for(at, ns, i, o, a)?))
-    } else {
-        None
+    let of = names_of(o);
+    if !works_in_place(o) {
+        return None;
+    }
+    match operand_to_move(single, at, ns, i, of.target, of.first, of.second) {
+        Some(found) => Some(found),
+        None => {
+            if can_turn(o) {
+                operand_to_move(single, at, ns, i, of.target, of.second, of.first)
+            } else {
+                None
+            }
+        }
     }
 }
 

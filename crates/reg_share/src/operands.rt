@@ -1,5 +1,6 @@
 // What an operation names.
 use mid_code::Op;
+use v32_isa::Two;
 
 /// The temporaries that an operation names, but the arguments of a call: its target, and what it uses, in its order.
 #[derive(Clone, Copy)]
@@ -86,6 +87,56 @@ pub(crate) fn works_in_place(o: &Op<u32>) -> bool {
         Op::Step(_, _, _) => true,
         Op::Apart(_, _, _) => true,
         Op::PtrTest(_, _, _, _) => true,
+        Op::Load(_, _) => false,
+        Op::Store(_, _) => false,
+        Op::Fresh(_) => false,
+        Op::End(_) => false,
+        Op::Call(_, _, _) => false,
+        Op::In(_, _) => false,
+        Op::Out(_, _) => false,
+        Op::Wait => false,
+        Op::Halt => false,
+    }
+}
+
+/// Whether the operator has one that makes the same of its words the other way round.
+fn turns(o: Two) -> bool {
+    match o {
+        Two::IEQ => true,
+        Two::INE => true,
+        Two::IGT => true,
+        Two::IGE => true,
+        Two::ILT => true,
+        Two::ILE => true,
+        Two::AND => true,
+        Two::OR => true,
+        Two::XOR => true,
+        Two::SHL => false,
+        Two::IADD => true,
+        Two::ISUB => false,
+        Two::IMUL => true,
+        Two::IDIV => false,
+        Two::IMOD => false,
+        Two::IMIN => false,
+        Two::IMAX => false,
+    }
+}
+
+/// Whether the emitter can work on the target where that holds the second operand before: with the operands the other way round.
+pub(crate) fn can_turn(o: &Op<u32>) -> bool {
+    match o {
+        Op::Const(_, _) => false,
+        Op::Null(_) => false,
+        Op::Move(_, _) => false,
+        Op::One(_, _, _) => false,
+        Op::Two(o, _, _, _) => turns(*o),
+        Op::Global(_, _) => false,
+        Op::Local(_, _) => false,
+        Op::Literal(_, _) => false,
+        Op::Card(_) => false,
+        Op::Step(_, _, _) => true,
+        Op::Apart(_, _, _) => false,
+        Op::PtrTest(o, _, _, _) => turns(*o),
         Op::Load(_, _) => false,
         Op::Store(_, _) => false,
         Op::Fresh(_) => false,

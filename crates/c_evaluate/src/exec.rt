@@ -6,14 +6,13 @@ ghost use Rattle.c_evaluate.specs.Results.{Leads};
 ghost use Rattle.c_evaluate.specs.FocusView.{at, stmt_frame, stack_of};
 ghost use Rattle.c_evaluate.specs.SettingView.{setting_of};
 ghost use Rattle.c_evaluate.specs.StoreView.{store_of};
-ghost use Rattle.c_evaluate.specs.Steps.{rest_of, arms_of, turn_of, asks, on};
+ghost use Rattle.c_evaluate.specs.Steps.{rest_of, arms_of, turn_of, asks};
 ghost use Rattle.c_evaluate.specs.Swift.{asks_on, assigns_on, does_on, exec_on, steps_on};
-ghost use Rattle.c_evaluate.specs.Machine.{DoF, EvalF, Going, SecondW, ValueW};
-ghost use Rattle.c_evaluate.specs.Storing.{placed_in};
+ghost use Rattle.c_evaluate.specs.Machine.{DoF, Going};
 
 use crate::assigning::{second_assigned, stepped_place};
 use crate::filling::vars;
-use crate::frame::{Came, Focus, Frame, How, Stage};
+use crate::frame::{Focus, Frame, How, Stage};
 use crate::leaf::at_once;
 use crate::setting::Setting;
 use crate::stack::{next, push};
@@ -127,24 +126,6 @@ fn asked<'a>(
     }
 }
 
-/// An assignment whose place came at once: on to its value.
-fn assigned_behind<'a>(
-    n: u32,
-    r: Cell,
-    a: &'a TStmt,
-    e: &'a TExpr,
-    v: Came,
-    y: &'a TExpr,
-    stack: &mut Vec<Frame<'a>>,
-) -> Result<Focus<'a>, Stop>
-    ensures { (u : stores.Store) → Leads (λ f. at f (stack_of stack.new.items) u) result (on (placed_in e.now.span v) (λ p. Going (EvalF n (texpr y.now)) (SecondW n (texpr e.now) p ∷ (ValueW n r (tstmt a.now) ∷ stack_of stack.old.items)) u)) }
-{
-    let p = placed(e.span, v)?;
-    push(stack, Frame::InStmt(Stage::Value, n, r, a))?;
-    push(stack, Frame::Second(n, e, p))?;
-    Ok(Focus::Eval(n, y))
-}
-
 /// An assignment whose place and value may come at once is done, and its value dropped.
 fn assigns<'a>(
     s: &Setting<'a>,
@@ -154,7 +135,7 @@ fn assigns<'a>(
     e: &'a TExpr,
     op: Option<BinOp>,
     x: &TExpr,
-    y: &'a TExpr,
+    y: &TExpr,
     stack: &mut Vec<Frame<'a>>,
     store: &mut Store<'a>,
 ) -> Result<Focus<'a>, Stop>
@@ -164,7 +145,7 @@ fn assigns<'a>(
         return ask(n, r, a, e, stack);
     };
     let Some(w) = at_once(s, y, store) else {
-        return assigned_behind(n, r, a, e, v, y, stack);
+        return ask(n, r, a, e, stack);
     };
     let p = placed(e.span, v)?;
     let d = taken(s, n, y, w, store)?;

@@ -22,7 +22,6 @@ mod opening;
 mod operands;
 mod operators;
 mod queries;
-mod quick;
 mod runner;
 mod setting;
 mod stack;

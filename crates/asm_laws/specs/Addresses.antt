@@ -169,12 +169,14 @@ pub record Arrives (C : Console) (limit : ℕ) (s : State) (xs : List ℕ) (pc :
   pub held : Held C a to
   pub few : steps ≤ limit
 
--- in so many steps the run has ended
+-- in so many steps the run has ended, with memory as a machine has it that holds the words
 pub record HasEnded (C : Console) (limit : ℕ) (s : State) (xs : List ℕ) (how : run.End) (a : Addr) : Type 0 where
   pub steps : ℕ
   pub to : State
   pub by : (n : ℕ) → run (steps + n) s xs ≡ record { events = []; end = how; state = to }
-  pub held : Held C a to
+  pub shown : State
+  pub held : Held C a shown
+  pub memory : (q : ℕ) → to.memory q ≡ shown.memory q
   pub few : steps ≤ limit
 
 abbrev pub Follows : Console → ℕ → State → List ℕ → ℕ → Addr → Does → Type 0

@@ -29,6 +29,7 @@ pub mod PlacedAgrees
 pub mod Walked
 pub mod Enclosing
 pub mod LabelKinds
+pub mod InOne
 pub mod Marks
 pub mod Twice
 pub mod Sizes

@@ -4,6 +4,7 @@ pub mod Stepping
 pub mod Hands
 pub mod LinksStep
 pub mod OperationsStep
+pub mod InOneStep
 pub mod Lists
 pub mod First
 pub mod Change

@@ -1,6 +1,6 @@
 -- How the machine holds the states of placed code, and where its parts stand.
 use Rattle.std.specs.Prelude.{◌≡◌, ℕ, ◌+◌, ◌<◌, ◌≤◌, List, [], length, get_or, Option, Some}
-use Rattle.v32_isa.specs.State.{register_of}
+use Rattle.v32_isa.specs.State.{register_of, word_at}
 use Rattle.v32_isa.specs.State as machine
 use Rattle.mid_code.specs.declared.placed.Where.{Where}
 use Rattle.mid_code.specs.Code.{maybe}
@@ -45,12 +45,12 @@ pub record Given (S : Setting) (κ : Ctx) (s : State Where) (m : machine.State) 
   pub held : Held S.console words m
   pub given : Stands (length s.world.store.objects) place s.given (register_of m 9)
 
--- Where the run has ended, memory is as a machine has it that holds the state.
+-- Where the run has ended, memory is as a machine reads it that holds the state.
 pub record EndedIn (S : Setting) (s : State Where) (m : machine.State) : Type 0 where
   pub context : Ctx
   pub shown : machine.State
   pub mach : Mach S context s shown
-  pub memory : (q : ℕ) → m.memory q ≡ shown.memory q
+  pub memory : (q : ℕ) → word_at m q ≡ word_at shown q
 
 abbrev pub lang : Setting → Lang Where
 lang S = over_worlds registers_and_slots S.code S.frames

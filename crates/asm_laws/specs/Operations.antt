@@ -1,5 +1,5 @@
 -- The instructions of each operation of placed code.
-use Rattle.std.specs.Prelude.{ℕ, ◌+◌, ◌%◌, ◌==◌, ◌&&◌, not, cond, Bool, true, false, List, [], ◌∷◌, ◌++◌, map, Option, Some, None, get_or, option_map}
+use Rattle.std.specs.Prelude.{ℕ, ◌+◌, ◌%◌, ◌==◌, ◌&&◌, not, cond, Bool, false, List, [], ◌∷◌, ◌++◌, map, Option, Some, None, get_or, option_map}
 use Rattle.either.specs.declared.Either.TheVariants.{Left, Right}
 use Rattle.kit_base.specs.Word.{sub}
 use Rattle.v32_isa.specs.declared.instruction.Plain.TheVariants.{HLT, WAIT}

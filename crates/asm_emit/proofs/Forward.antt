@@ -18,11 +18,12 @@ use Rattle.mid_code.specs.Invariants.{IsOne, IsOp, IsLoop, AreNodes}
 use Rattle.mid_code.specs.Calls.{loops, CallsTo}
 use Rattle.asm_laws.specs.Names.{jump_label, function_label}
 use Rattle.asm_laws.specs.Labelled.{HasLabel}
-use Rattle.asm_laws.specs.Operations.{Frame, Whole, register, keep, fetches, keeps, keeps_some, is_in, hand, brings, takes, aim, lays, moves, changes, is_direct, in_place, apart, turned, is_turned, turned_or_apart, computes, slot_arg, slot_args, pushed_arg, pushed_args, popped_arg, popped_args, args_items, call_items, op_items, giving}
+use Rattle.asm_laws.specs.Operations.{Frame, Whole, register, keep, fetches, keeps, keeps_some, is_in, hand, brings, takes, aim, lays, moves, changes, is_direct, in_place, apart, turned, is_turned, turned_or_apart, computes, slot_arg, slot_args, pushed_arg, pushed_args, popped_arg, popped_args, args_items, call_items, op_items, in_one, one_or_more, more_of, giving}
 use Rattle.asm_laws.specs.Framing.{room_made}
-use Rattle.asm_laws.specs.Emitted.{labels, enclosing, jump, jump_unless, mark, first_part, second_part, choice, one_way, is_stop, enclosed, returning, code_items, call_item, own_items, exit_items}
+use Rattle.asm_laws.specs.Emitted.{labels, enclosing, jump, jump_unless, mark, first_part, second_part, choice, one_way, is_stop, enclosed, returning, items_past, code_items, call_item, own_items, exit_items}
 use Rattle.asm_emit.specs.EmittedFrom.{IsCalled, GoesOn, AllGoOn}
 use Rattle.asm_laws.proofs.Enclosing.{innermost, further}
+use Rattle.asm_laws.proofs.InOne.{one_or_more_is}
 use Rattle.asm_laws.proofs.Known.{marked_left, marked_right, function_there}
 
 module _ (names : List (List ℕ)) (body : NodesT Where) where
@@ -99,7 +100,7 @@ module _ (names : List (List ℕ)) (body : NodesT Where) where
 
   computes_ahead : (F : Frame) (o : Two) (t a b : Where) (later : List AsmItem) → Ahead (computes F o t a b) later
   computes_ahead F o t a b later =
-      one_of_both (is_direct o t b) (in_place F o (aim t) a b) (turned_or_apart F o (turned o) t a b) later (in_place_ahead F o (aim t) a b later) (turned_ahead F o (turned o) t a b later)
+      one_of_both (is_direct t b) (in_place F o (aim t) a b) (turned_or_apart F o (turned o) t a b) later (in_place_ahead F o (aim t) a b later) (turned_ahead F o (turned o) t a b later)
 
   slot_ahead : (F G : Frame) (p a : Where) (later : List AsmItem) → Ahead (slot_arg F G p a) later
   slot_ahead F G (Reg q) a later = tt
@@ -155,6 +156,10 @@ module _ (names : List (List ℕ)) (body : NodesT Where) where
     op_ahead (OutO port a) later ok = brought_ahead F a 9 _ later (tt, tt)
     op_ahead WaitO later ok = (tt, tt)
     op_ahead HaltO later ok = (tt, tt)
+
+    one_or_more_ahead : (o : OpT Where) (c : NodesT Where) (later : List AsmItem) → IsOp x m o → Ahead (one_or_more W F o (in_one W o c)) later
+    one_or_more_ahead o c later ok =
+        one_or_more_is W F (λ xs. Ahead xs later) (λ v. Unit {0}) o c (λ t n e. (tt, tt)) (λ t k e. (tt, tt)) (op_ahead o later ok) (λ r q v lr lq h. (tt, tt)) (λ r q v lr lq h. (tt, tt))
 
     call_ahead : (t : Option Where) (g : ℕ) (args : List Where) (later : List AsmItem) → g < length x.functions → CallsTo g body → Ahead (call_items W F t g args) later
     call_ahead t g args later lt calls =
@@ -214,48 +219,54 @@ module _ (names : List (List ℕ)) (body : NodesT Where) where
     deeper ls n bs b same = let h = length-append ls (n ∷ []) in omega (arith, h, same)
 
     module _ (out : ℕ) where
-      pub code_ahead : (c : NodesT Where) (bs : List Bool) (ls : List ℕ) (n : ℕ) (later : List AsmItem) → AreNodes x m bs c → length ls ≡ length bs → NoLoop bs → loops c ≡ 0 → n + labels c < 2 ^ 32 - 1 →
-          ((g : ℕ) → CallsTo g c → CallsTo g body) → Ends ls later → HasLabel later (jump_label out) → Ahead (code_items W F out ls n c) later
-      code_ahead Stop bs ls n later ok same nl none few calls ends over = tt
-      code_ahead (Do o c) bs ls n later ok same nl none few calls ends over =
-          ahead_append (op_items W F o) (code_items W F out ls n c) later (op_ahead o _ ok.0) (code_ahead c bs ls n later ok.1 same nl none few calls ends over)
-      code_ahead (Call t g args c) bs ls n later ok same nl none few calls ends over =
-          ahead_append (call_items W F t g args) (code_items W F out ls n c) later (call_ahead t g args _ (function_there x g (length args) ok.0) (calls g (inl refl)))
-          (code_ahead c bs ls n later ok.1 same nl none few (λ h k. calls h (inr k)) ends over)
-      code_ahead (Choose p a b c) bs ls n later ok same nl none few calls ends over =
+      past_ahead : (c : NodesT Where) (done : ℕ) (bs : List Bool) (ls : List ℕ) (n : ℕ) (later : List AsmItem) → AreNodes x m bs c → length ls ≡ length bs → NoLoop bs → loops c ≡ 0 → n + labels c < 2 ^ 32 - 1 →
+          ((g : ℕ) → CallsTo g c → CallsTo g body) → Ends ls later → HasLabel later (jump_label out) → Ahead (items_past W F out ls n c done) later
+      past_ahead Stop done bs ls n later ok same nl none few calls ends over = tt
+      past_ahead (Do o c) zero bs ls n later ok same nl none few calls ends over =
+          let more = more_of (in_one W o c) in
+          ahead_append (one_or_more W F o (in_one W o c)) (items_past W F out ls n c more) later (one_or_more_ahead o c _ ok.0) (past_ahead c more bs ls n later ok.1 same nl none few calls ends over)
+      past_ahead (Do o c) (suc done) bs ls n later ok same nl none few calls ends over = past_ahead c done bs ls n later ok.1 same nl none few calls ends over
+      past_ahead (Call t g args c) done bs ls n later ok same nl none few calls ends over =
+          ahead_append (call_items W F t g args) (items_past W F out ls n c 0) later (call_ahead t g args _ (function_there x g (length args) ok.0) (calls g (inl refl)))
+          (past_ahead c 0 bs ls n later ok.1 same nl none few (λ h k. calls h (inr k)) ends over)
+      past_ahead (Choose p a b c) done bs ls n later ok same nl none few calls ends over =
           let w = n + 1 + labels a in
-          let one = code_items W F out ls (n + 1) a in
-          let two = code_items W F out ls (w + 1) b in
-          let rest = code_items W F out ls (n + (2 + labels a + labels b)) c in
+          let one = items_past W F out ls (n + 1) a 0 in
+          let two = items_past W F out ls (w + 1) b 0 in
+          let rest = items_past W F out ls (n + (2 + labels a + labels b)) c 0 in
           let after = rest ++ later in
           let ends1 = ends_later ls rest later ends in
           let over1 = marked_right rest later (jump_label out) over in
           ahead_append (cond (is_stop b) (one_way F p n one) (choice F p n w one two)) rest later
           (chosen_ahead p n w (is_stop b) one two after
-          (λ is. code_ahead a bs ls (n + 1) ((mark n ∷ []) ++ after) ok.0 same nl (omega (arith, none)) (omega (arith, few)) (λ h k. calls h (inl k)) (ends_later ls (mark n ∷ []) after ends1) (marked_right (mark n ∷ []) after (jump_label out) over1))
-          (code_ahead a bs ls (n + 1) ((jump w ∷ mark n ∷ []) ++ (second_part w two ++ after)) ok.0 same nl (omega (arith, none)) (omega (arith, few)) (λ h k. calls h (inl k))
+          (λ is. past_ahead a 0 bs ls (n + 1) ((mark n ∷ []) ++ after) ok.0 same nl (omega (arith, none)) (omega (arith, few)) (λ h k. calls h (inl k)) (ends_later ls (mark n ∷ []) after ends1) (marked_right (mark n ∷ []) after (jump_label out) over1))
+          (past_ahead a 0 bs ls (n + 1) ((jump w ∷ mark n ∷ []) ++ (second_part w two ++ after)) ok.0 same nl (omega (arith, none)) (omega (arith, few)) (λ h k. calls h (inl k))
           (ends_later ls (jump w ∷ mark n ∷ []) (second_part w two ++ after) (ends_later ls (second_part w two) after ends1))
           (marked_right (jump w ∷ mark n ∷ []) (second_part w two ++ after) (jump_label out) (marked_right (second_part w two) after (jump_label out) over1)))
-          (code_ahead b bs ls (w + 1) ((mark w ∷ []) ++ after) ok.1 same nl (omega (arith, none)) (omega (arith, few)) (λ h k. calls h (inr (inl k))) (ends_later ls (mark w ∷ []) after ends1) (marked_right (mark w ∷ []) after (jump_label out) over1)))
-          (code_ahead c bs ls (n + (2 + labels a + labels b)) later ok.2 same nl (omega (arith, none)) (omega (arith, few)) (λ h k. calls h (inr (inr k))) ends over)
-      code_ahead (Block b c) bs ls n later ok same nl none few calls ends over =
-          let one = code_items W F out (ls ++ n ∷ []) (n + 2) b in
-          let rest = code_items W F out ls (n + (2 + labels b)) c in
+          (past_ahead b 0 bs ls (w + 1) ((mark w ∷ []) ++ after) ok.1 same nl (omega (arith, none)) (omega (arith, few)) (λ h k. calls h (inr (inl k))) (ends_later ls (mark w ∷ []) after ends1) (marked_right (mark w ∷ []) after (jump_label out) over1)))
+          (past_ahead c 0 bs ls (n + (2 + labels a + labels b)) later ok.2 same nl (omega (arith, none)) (omega (arith, few)) (λ h k. calls h (inr (inr k))) ends over)
+      past_ahead (Block b c) done bs ls n later ok same nl none few calls ends over =
+          let one = items_past W F out (ls ++ n ∷ []) (n + 2) b 0 in
+          let rest = items_past W F out ls (n + (2 + labels b)) c 0 in
           let after = rest ++ later in
           let ends1 = ends_later ls (mark (n + 1) ∷ []) after (ends_later ls rest later ends) in
-          let inside = code_ahead b (false ∷ bs) (ls ++ n ∷ []) (n + 2) ((mark (n + 1) ∷ []) ++ after) ok.0 (deeper ls n bs false same) (no_loop bs nl) (omega (arith, none)) (omega (arith, few)) (λ h k. calls h (inl k))
+          let inside = past_ahead b 0 (false ∷ bs) (ls ++ n ∷ []) (n + 2) ((mark (n + 1) ∷ []) ++ after) ok.0 (deeper ls n bs false same) (no_loop bs nl) (omega (arith, none)) (omega (arith, few)) (λ h k. calls h (inl k))
           (ends_inside ls n ((mark (n + 1) ∷ []) ++ after) (omega (arith, few)) ends1 (inl refl)) (marked_right (mark (n + 1) ∷ []) after (jump_label out) (marked_right rest later (jump_label out) over)) in
           ahead_append (enclosed n one) rest later (tt, ahead_append one (mark (n + 1) ∷ []) after inside (tt, tt))
-          (code_ahead c bs ls (n + (2 + labels b)) later ok.1 same nl (omega (arith, none)) (omega (arith, few)) (λ h k. calls h (inr k)) ends over)
-      code_ahead (Loop b c) bs ls n later ok same nl none few calls ends over = absurd (omega (arith, none))
-      code_ahead (Leave k c) bs ls n later ok same nl none few calls ends over =
+          (past_ahead c 0 bs ls (n + (2 + labels b)) later ok.1 same nl (omega (arith, none)) (omega (arith, few)) (λ h k. calls h (inr k)) ends over)
+      past_ahead (Loop b c) done bs ls n later ok same nl none few calls ends over = absurd (omega (arith, none))
+      past_ahead (Leave k c) done bs ls n later ok same nl none few calls ends over =
           let l = ok.0 in
-          (marked_right (code_items W F out ls n c) later (jump_label (add (enclosing ls k) 1)) (ends k (omega (arith, l, same))), code_ahead c bs ls n later ok.1 same nl none few calls ends over)
-      code_ahead (Again k c) bs ls n later ok same nl none few calls ends over = absurd (nl k ok.0)
-      code_ahead (Return p c) bs ls n later ok same nl none few calls ends over =
-          let rest = code_items W F out ls n c in
+          (marked_right (items_past W F out ls n c 0) later (jump_label (add (enclosing ls k) 1)) (ends k (omega (arith, l, same))), past_ahead c 0 bs ls n later ok.1 same nl none few calls ends over)
+      past_ahead (Again k c) done bs ls n later ok same nl none few calls ends over = absurd (nl k ok.0)
+      past_ahead (Return p c) done bs ls n later ok same nl none few calls ends over =
+          let rest = items_past W F out ls n c 0 in
           ahead_append (returning F p out) rest later (ahead_append (giving F p) (jump out ∷ []) (rest ++ later) (giving_ahead p _) (marked_right rest later (jump_label out) over, tt))
-          (code_ahead c bs ls n later ok same nl none few calls ends over)
+          (past_ahead c 0 bs ls n later ok same nl none few calls ends over)
+
+      pub code_ahead : (c : NodesT Where) (bs : List Bool) (ls : List ℕ) (n : ℕ) (later : List AsmItem) → AreNodes x m bs c → length ls ≡ length bs → NoLoop bs → loops c ≡ 0 → n + labels c < 2 ^ 32 - 1 →
+          ((g : ℕ) → CallsTo g c → CallsTo g body) → Ends ls later → HasLabel later (jump_label out) → Ahead (code_items W F out ls n c) later
+      code_ahead c bs ls n later ok same nl none few calls ends over = past_ahead c 0 bs ls n later ok same nl none few calls ends over
 
   -- the items of a function without a loop
   pub own_go_on : (x : CodeT Where) (W : Whole) → ((g : ℕ) → g < length x.functions → CallsTo g body → IsCalled names body (function_label W.names g)) → (m f n : ℕ) → AreNodes x m [] body → loops body ≡ 0 → n + 1 + labels body < 2 ^ 32 - 1 → AllGoOn names body (own_items W f n body)

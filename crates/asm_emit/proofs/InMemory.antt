@@ -1,15 +1,19 @@
 -- The items of nodes in memory are those of the plain nodes.
-use Rattle.std.proofs.Common.{◌≡◌, ℕ, ◌+◌, List, [], ◌∷◌, ◌++◌, refl, ap, ◌∙◌, arith, false, cond, Option}
+use Rattle.std.proofs.Common.{◌≡◌, ℕ, zero, suc, ◌+◌, ◌-◌, List, [], ◌∷◌, ◌++◌, refl, sym, ap, ◌∙◌, arith, false, cond, Option, Some, None}
+use Rattle.std.specs.Prelude.{◌==◌}
+use Rattle.std.proofs.lemmas.Bool.Decides.{nat_tests}
 use Rattle.kit_base.specs.Word.{add}
+use Rattle.v32_isa.specs.declared.instruction.Instr.{Instr}
 use Rattle.asm_items.specs.declared.item.AsmItem.{AsmItem}
+use Rattle.asm_items.specs.Items.{Imm}
 use Rattle.mid_code.specs.declared.placed.Where.{Where}
 use Rattle.mid_code.specs.declared.node.Op.{Op}
 use Rattle.mid_code.specs.declared.node.Op.TheVariants as op
 use Rattle.mid_code.specs.Code.{OpT, ConstO, NullO, MoveO, OneO, TwoO, GlobalO, LocalO, LiteralO, CardO, StepO, ApartO, PtrTestO, LoadO, StoreO, FreshO, EndO, InO, OutO, WaitO, HaltO, NodesT, Do, Call}
 use Rattle.mid_code.specs.Functions.{op_before, NodeT, DoN, ChooseN, BlockN, LoopN, LeaveN, AgainN, ReturnN, ListT, NoN, MoreN, before, joined}
-use Rattle.asm_laws.specs.Operations.{Frame, Whole}
-use Rattle.asm_laws.specs.Emitted.{labels, enclosing, jump, one_way, is_stop, choice, enclosed, returning, code_items}
-use Rattle.asm_emit.specs.Listed.{node_labels, list_labels, is_none, do_items, node_items, list_items}
+use Rattle.asm_laws.specs.Operations.{Frame, Whole, op_items, in_one, one_or_more, more_of, call_items}
+use Rattle.asm_laws.specs.Emitted.{labels, enclosing, jump, one_way, is_stop, choice, enclosed, returning, items_past, code_items}
+use Rattle.asm_emit.specs.Listed.{node_labels, list_labels, is_none, do_items, ahead_items, ahead_more, front_items, front_more, onward, node_items, list_past, list_items}
 
 -- an operation before nodes is a node of its own, or a call
 op_parts : (Q : NodesT Where → NodesT Where → Type 0) → ((o : OpT Where) (c : NodesT Where) → Q c (Do o c)) → ((t : Option Where) (f : ℕ) (args : List Where) (c : NodesT Where) → Q c (Call t f args c)) → (o : Op Where) (c : NodesT Where) → Q c (op_before o c)
@@ -65,59 +69,85 @@ mutual
   list_counts NoN = refl
   list_counts (MoreN x rest) = let e = node_counts x (joined rest) in let f = list_counts rest in omega (arith, e, f)
 
+not_zero : (k : ℕ) → (suc k == 0) ≡ false
+not_zero k = grind (arith, nat_tests)
+
 module _ (W : Whole) (F : Frame) (out : ℕ) where
-  op_are : (o : Op Where) (ls : List ℕ) (n : ℕ) (c : NodesT Where) → code_items W F out ls n (op_before o c) ≡ do_items W F o ++ code_items W F out ls n c
-  op_are (op.Const t word) ls n c = refl
-  op_are (op.Null t) ls n c = refl
-  op_are (op.Move t a) ls n c = refl
-  op_are (op.One o t a) ls n c = refl
-  op_are (op.Two o t a b) ls n c = refl
-  op_are (op.Global t k) ls n c = refl
-  op_are (op.Local t k) ls n c = refl
-  op_are (op.Literal t k) ls n c = refl
-  op_are (op.Card t) ls n c = refl
-  op_are (op.Step t p s) ls n c = refl
-  op_are (op.Apart t p q) ls n c = refl
-  op_are (op.PtrTest o t p q) ls n c = refl
-  op_are (op.Load t p) ls n c = refl
-  op_are (op.Store p a) ls n c = refl
-  op_are (op.Fresh k) ls n c = refl
-  op_are (op.End k) ls n c = refl
-  op_are (op.Call t f args) ls n c = refl
-  op_are (op.In t p) ls n c = refl
-  op_are (op.Out p a) ls n c = refl
-  op_are op.Wait ls n c = refl
-  op_are op.Halt ls n c = refl
+  abbrev items : List ℕ → ℕ → NodesT Where → (done : ℕ) → List AsmItem
+  items = items_past W F out
 
-  abbrev items : List ℕ → ℕ → NodesT Where → List AsmItem
-  items = code_items W F out
+  nothing : (ls : List ℕ) (n : ℕ) (c : NodesT Where) → items ls n c 0 ≡ items ls (n + 0) c 0
+  nothing ls n c = let z : n ≡ n + 0 = omega arith in ap (λ k. items ls k c 0) z
 
-  nothing : (ls : List ℕ) (n : ℕ) (c : NodesT Where) → items ls n c ≡ items ls (n + 0) c
-  nothing ls n c = let z : n ≡ n + 0 = omega arith in ap (λ k. items ls k c) z
+  -- what comes of nodes whose first is a node with these items and so many labels
+  abbrev On : NodesT Where → ℕ → List AsmItem → List ℕ → ℕ → ℕ → NodesT Where → List AsmItem
+  On first k own ls n m c = front_items W first k ++ onward (front_more W first k) own (items ls n c) (items ls (n + m) c 0)
+
+  done_are : (o : OpT Where) (r : Option (ℕ × Instr Imm)) (ls : List ℕ) (n : ℕ) (c : NodesT Where) → one_or_more W F o r ++ items ls n c (more_of r) ≡ ahead_items r ++ onward (ahead_more r) (op_items W F o) (items ls n c) (items ls (n + 0) c 0)
+  done_are o None ls n c = ap (λ xs. op_items W F o ++ xs) (nothing ls n c)
+  done_are o (Some (more, i)) ls n c = refl
+
+  plain_are : (o : OpT Where) (ls : List ℕ) (n : ℕ) (c : NodesT Where) (k : ℕ) → items ls n (Do o c) k ≡ On (Do o c) k (op_items W F o) ls n 0 c
+  plain_are o ls n c zero = done_are o (in_one W o c) ls n c
+  plain_are o ls n c (suc k) =
+      let e : k ≡ suc k - 1 = omega arith in
+      let b = not_zero k in
+      let r = in_one W o c in
+      ap (items ls n c) e ∙ (λ i. cond (sym b i) (ahead_items r) [] ++ onward (cond (sym b i) (ahead_more r) (Some (suc k - 1))) (op_items W F o) (items ls n c) (items ls (n + 0) c 0))
+
+  op_are : (o : Op Where) (ls : List ℕ) (n : ℕ) (c : NodesT Where) (k : ℕ) → items ls n (op_before o c) k ≡ On (op_before o c) k (do_items W F o) ls n 0 c
+  op_are (op.Const t word) ls n c k = plain_are (ConstO t word) ls n c k
+  op_are (op.Null t) ls n c k = plain_are (NullO t) ls n c k
+  op_are (op.Move t a) ls n c k = plain_are (MoveO t a) ls n c k
+  op_are (op.One o t a) ls n c k = plain_are (OneO o t a) ls n c k
+  op_are (op.Two o t a b) ls n c k = plain_are (TwoO o t a b) ls n c k
+  op_are (op.Global t j) ls n c k = plain_are (GlobalO t j) ls n c k
+  op_are (op.Local t j) ls n c k = plain_are (LocalO t j) ls n c k
+  op_are (op.Literal t j) ls n c k = plain_are (LiteralO t j) ls n c k
+  op_are (op.Card t) ls n c k = plain_are (CardO t) ls n c k
+  op_are (op.Step t p s) ls n c k = plain_are (StepO t p s) ls n c k
+  op_are (op.Apart t p q) ls n c k = plain_are (ApartO t p q) ls n c k
+  op_are (op.PtrTest o t p q) ls n c k = plain_are (PtrTestO o t p q) ls n c k
+  op_are (op.Load t p) ls n c k = plain_are (LoadO t p) ls n c k
+  op_are (op.Store p a) ls n c k = plain_are (StoreO p a) ls n c k
+  op_are (op.Fresh j) ls n c k = plain_are (FreshO j) ls n c k
+  op_are (op.End j) ls n c k = plain_are (EndO j) ls n c k
+  op_are (op.Call t f args) ls n c k = ap (λ xs. call_items W F t f args ++ xs) (nothing ls n c)
+  op_are (op.In t p) ls n c k = plain_are (InO t p) ls n c k
+  op_are (op.Out p a) ls n c k = plain_are (OutO p a) ls n c k
+  op_are op.Wait ls n c k = plain_are WaitO ls n c k
+  op_are op.Halt ls n c k = plain_are HaltO ls n c k
 
   mutual
-    node_are : (x : NodeT Where) (ls : List ℕ) (n : ℕ) (c : NodesT Where) → items ls n (before x c) ≡ node_items W F out ls n x ++ items ls (n + node_labels x) c
-    node_are (DoN o) ls n c = op_are o ls n c ∙ ap (λ xs. do_items W F o ++ xs) (nothing ls n c)
-    node_are (ChooseN p a b) ls n c =
+    node_are : (x : NodeT Where) (ls : List ℕ) (n : ℕ) (c : NodesT Where) (k : ℕ) → items ls n (before x c) k ≡ On (before x c) k (node_items W F out ls n x) ls n (node_labels x) c
+    node_are (DoN o) ls n c k = op_are o ls n c k
+    node_are (ChooseN p a b) ls n c k =
         let la = list_counts a in
         let lb = list_counts b in
-        let one = list_are a ls (n + 1) in
-        let two = list_are b ls (n + 1 + list_labels a + 1) in
+        let one = past_are a ls (n + 1) 0 in
+        let two = past_are b ls (n + 1 + list_labels a + 1) 0 in
         let st = stops_alike b in
-        (λ i. cond (st i) (one_way F p n (items ls (n + 1) (joined a))) (choice F p n (n + 1 + la i) (items ls (n + 1) (joined a)) (items ls (n + 1 + la i + 1) (joined b))) ++ items ls (n + (2 + la i + lb i)) c)
-        ∙ (λ i. cond (is_none b) (one_way F p n (one i)) (choice F p n (n + 1 + list_labels a) (one i) (two i)) ++ items ls (n + (2 + list_labels a + list_labels b)) c)
-    node_are (BlockN b) ls n c =
+        (λ i. cond (st i) (one_way F p n (items ls (n + 1) (joined a) 0)) (choice F p n (n + 1 + la i) (items ls (n + 1) (joined a) 0) (items ls (n + 1 + la i + 1) (joined b) 0)) ++ items ls (n + (2 + la i + lb i)) c 0)
+        ∙ (λ i. cond (is_none b) (one_way F p n (one i)) (choice F p n (n + 1 + list_labels a) (one i) (two i)) ++ items ls (n + (2 + list_labels a + list_labels b)) c 0)
+    node_are (BlockN b) ls n c k =
         let lb = list_counts b in
-        let one = list_are b (ls ++ n ∷ []) (n + 2) in
-        λ i. enclosed n (one i) ++ items ls (n + (2 + lb i)) c
-    node_are (LoopN b) ls n c =
+        let one = past_are b (ls ++ n ∷ []) (n + 2) 0 in
+        λ i. enclosed n (one i) ++ items ls (n + (2 + lb i)) c 0
+    node_are (LoopN b) ls n c k =
         let lb = list_counts b in
-        let one = list_are b (ls ++ n ∷ []) (n + 2) in
-        λ i. enclosed n (one i) ++ items ls (n + (2 + lb i)) c
-    node_are (LeaveN k) ls n c = ap (λ xs. jump (add (enclosing ls k) 1) ∷ xs) (nothing ls n c)
-    node_are (AgainN k) ls n c = ap (λ xs. jump (enclosing ls k) ∷ xs) (nothing ls n c)
-    node_are (ReturnN p) ls n c = ap (λ xs. returning F p out ++ xs) (nothing ls n c)
+        let one = past_are b (ls ++ n ∷ []) (n + 2) 0 in
+        λ i. enclosed n (one i) ++ items ls (n + (2 + lb i)) c 0
+    node_are (LeaveN j) ls n c k = ap (λ xs. jump (add (enclosing ls j) 1) ∷ xs) (nothing ls n c)
+    node_are (AgainN j) ls n c k = ap (λ xs. jump (enclosing ls j) ∷ xs) (nothing ls n c)
+    node_are (ReturnN p) ls n c k = ap (λ xs. returning F p out ++ xs) (nothing ls n c)
 
-    pub list_are : (xs : ListT Where) (ls : List ℕ) (n : ℕ) → items ls n (joined xs) ≡ list_items W F out ls n xs
-    list_are NoN ls n = refl
-    list_are (MoreN x rest) ls n = node_are x ls n (joined rest) ∙ ap (λ xs. node_items W F out ls n x ++ xs) (list_are rest ls (n + node_labels x))
+    past_are : (xs : ListT Where) (ls : List ℕ) (n k : ℕ) → items ls n (joined xs) k ≡ list_past W F out ls n xs k
+    past_are NoN ls n k = refl
+    past_are (MoreN x rest) ls n k =
+        let first = before x (joined rest) in
+        let on : (j : ℕ) → items ls n (joined rest) j ≡ list_past W F out ls n rest j = past_are rest ls n in
+        let anew = past_are rest ls (n + node_labels x) 0 in
+        node_are x ls n (joined rest) k ∙ (λ i. front_items W first k ++ onward (front_more W first k) (node_items W F out ls n x) (λ j. on j i) (anew i))
+
+  pub list_are : (xs : ListT Where) (ls : List ℕ) (n : ℕ) → code_items W F out ls n (joined xs) ≡ list_items W F out ls n xs
+  list_are xs ls n = past_are xs ls n 0

@@ -1,5 +1,6 @@
 pub mod Calling
 pub mod InMemory
+pub mod Fronts
 pub mod Forward
 pub mod Agreeing
 pub mod ReadableLabels

@@ -1,5 +1,5 @@
 -- The items of placed code can be written as text and read again.
-use Rattle.std.proofs.Common.{◌≡◌, ℕ, ◌+◌, ◌%◌, ◌^◌, ◌<◌, Bool, true, false, List, [], ◌∷◌, ◌++◌, map, length, Option, Some, None, arith}
+use Rattle.std.proofs.Common.{◌≡◌, ℕ, zero, suc, ◌+◌, ◌%◌, ◌^◌, ◌<◌, Bool, true, false, List, [], ◌∷◌, ◌++◌, map, length, Option, Some, None, subst, arith}
 use Rattle.std.specs.Prelude.{◌==◌, cond, get_or, All}
 use Rattle.std.specs.List.{list_all}
 use Rattle.std.proofs.lemmas.List.Elements.{All-nil, All-cons}
@@ -19,9 +19,10 @@ use Rattle.mid_code.specs.declared.placed.Where.{Where}
 use Rattle.mid_code.specs.declared.placed.Where.TheVariants.{Reg, Slot}
 use Rattle.mid_code.specs.Code.{OpT, ConstO, NullO, MoveO, OneO, TwoO, GlobalO, LocalO, LiteralO, CardO, StepO, ApartO, PtrTestO, LoadO, StoreO, FreshO, EndO, InO, OutO, WaitO, HaltO, NodesT, Stop, Do, Call, Choose, Block, Loop, Leave, Again, Return, FunctionT, CodeT}
 use Rattle.mid_code.specs.Invariants.{AllOf, IsOp, AreNodes}
-use Rattle.asm_laws.specs.Operations.{Frame, Whole, register, keep, fetches, keeps, keeps_some, is_in, hand, brings, takes, aim, lays, moves, changes, is_direct, in_place, apart, turned, is_turned, turned_or_apart, computes, slot_arg, slot_args, pushed_arg, pushed_args, popped_arg, popped_args, args_items, call_items, op_items, giving, start_frame, opening_items, literal_items, literals_items}
+use Rattle.asm_laws.specs.Operations.{Frame, Whole, register, keep, fetches, keeps, keeps_some, is_in, hand, brings, takes, aim, lays, moves, changes, is_direct, in_place, apart, turned, is_turned, turned_or_apart, computes, slot_arg, slot_args, pushed_arg, pushed_args, popped_arg, popped_args, args_items, call_items, op_items, in_one, one_or_more, more_of, giving, start_frame, opening_items, literal_items, literals_items}
 use Rattle.asm_laws.specs.Framing.{room_made}
-use Rattle.asm_laws.specs.Emitted.{labels, enclosing, jump, jump_unless, mark, first_part, second_part, choice, one_way, is_stop, enclosed, returning, code_items, exit_items, function_items, functions_items, closing_items, start_items, program_items}
+use Rattle.asm_laws.specs.Emitted.{labels, enclosing, jump, jump_unless, mark, first_part, second_part, choice, one_way, is_stop, enclosed, returning, items_past, code_items, exit_items, function_items, functions_items, closing_items, start_items, program_items}
+use Rattle.asm_laws.proofs.InOne.{one_or_more_is}
 use Rattle.asm_emit.specs.Words.{AreWords, TextsAreWords}
 use Rattle.asm_emit.proofs.ReadableLabels.{jump_named, literal_named, function_named}
 
@@ -129,7 +130,7 @@ turned_fine F o None t a b = apart_fine F o t a b
 turned_fine F o (Some u) t a b = either (is_turned t a b) (in_place F u (aim t) b a) (apart F o t a b) (in_place_fine F u t b a) (apart_fine F o t a b)
 
 computes_fine : (F : Frame) (o : Two) (t a b : Where) → AllFine (computes F o t a b)
-computes_fine F o t a b = either (is_direct o t b) (in_place F o (aim t) a b) (turned_or_apart F o (turned o) t a b) (in_place_fine F o t a b) (turned_fine F o (turned o) t a b)
+computes_fine F o t a b = either (is_direct t b) (in_place F o (aim t) a b) (turned_or_apart F o (turned o) t a b) (in_place_fine F o t a b) (turned_fine F o (turned o) t a b)
 
 slot_fine : (F G : Frame) (p a : Where) → AllFine (slot_arg F G p a)
 slot_fine F G (Reg q) a = tt
@@ -194,6 +195,11 @@ module _ (x : CodeT Where) (W : Whole) (words : list_all is_word W.names ≡ tru
     op_fine WaitO ok = (tt, tt)
     op_fine HaltO ok = (tt, tt)
 
+    one_or_more_fine : (o : OpT Where) (c : NodesT Where) → IsOp x m o → AllFine (one_or_more W F o (in_one W o c))
+    one_or_more_fine o c ok =
+        one_or_more_is W F AllFine (λ v. v < 2 ^ 32) o c (λ t n e. (subst (IsOp x m) e ok, in_words 0 n)) (λ t k e. (addresses k, in_words 0 (get_or W.globals k 0))) (op_fine o ok)
+        (λ r q v lr lq h. ((lr, ((lq, h), tt)), tt)) (λ r q v lr lq h. ((lr, ((lq, h), tt)), tt))
+
     call_fine : (t : Option Where) (g : ℕ) (args : List Where) → AllFine (call_items W F t g args)
     call_fine t g args = join (args_items F (W.frames g) (W.params g) args) _ (args_fine F (W.frames g) (W.params g) args) ((function_named W.names g words, tt), some_fine F t)
 
@@ -210,19 +216,23 @@ module _ (x : CodeT Where) (W : Whole) (words : list_all is_word W.names ≡ tru
     enclosed_fine n b h = (jump_named n, join b (mark (n + 1) ∷ []) h (jump_named (n + 1), tt))
 
     module _ (out : ℕ) where
+      past_fine : (c : NodesT Where) (done : ℕ) (bs : List Bool) (ls : List ℕ) (n : ℕ) → AreNodes x m bs c → AllFine (items_past W F out ls n c done)
+      past_fine Stop done bs ls n ok = tt
+      past_fine (Do o c) zero bs ls n ok = join (one_or_more W F o (in_one W o c)) _ (one_or_more_fine o c ok.0) (past_fine c (more_of (in_one W o c)) bs ls n ok.1)
+      past_fine (Do o c) (suc done) bs ls n ok = past_fine c done bs ls n ok.1
+      past_fine (Call t g args c) done bs ls n ok = join (call_items W F t g args) _ (call_fine t g args) (past_fine c 0 bs ls n ok.1)
+      past_fine (Choose p a b c) done bs ls n ok =
+          join (cond (is_stop b) (one_way F p n (items_past W F out ls (n + 1) a 0)) (choice F p n (n + 1 + labels a) (items_past W F out ls (n + 1) a 0) (items_past W F out ls (n + 1 + labels a + 1) b 0))) _
+          (chosen_fine p n (n + 1 + labels a) (is_stop b) (items_past W F out ls (n + 1) a 0) (items_past W F out ls (n + 1 + labels a + 1) b 0) (past_fine a 0 bs ls (n + 1) ok.0) (past_fine b 0 bs ls (n + 1 + labels a + 1) ok.1))
+          (past_fine c 0 bs ls (n + (2 + labels a + labels b)) ok.2)
+      past_fine (Block b c) done bs ls n ok = join (enclosed n (items_past W F out (ls ++ n ∷ []) (n + 2) b 0)) _ (enclosed_fine n _ (past_fine b 0 (false ∷ bs) (ls ++ n ∷ []) (n + 2) ok.0)) (past_fine c 0 bs ls (n + (2 + labels b)) ok.1)
+      past_fine (Loop b c) done bs ls n ok = join (enclosed n (items_past W F out (ls ++ n ∷ []) (n + 2) b 0)) _ (enclosed_fine n _ (past_fine b 0 (true ∷ bs) (ls ++ n ∷ []) (n + 2) ok.0)) (past_fine c 0 bs ls (n + (2 + labels b)) ok.1)
+      past_fine (Leave k c) done bs ls n ok = ((jump_named (add (enclosing ls k) 1), tt), past_fine c 0 bs ls n ok.1)
+      past_fine (Again k c) done bs ls n ok = ((jump_named (enclosing ls k), tt), past_fine c 0 bs ls n ok.1)
+      past_fine (Return p c) done bs ls n ok = join (returning F p out) _ (join (giving F p) (jump out ∷ []) (giving_fine F p) ((jump_named out, tt), tt)) (past_fine c 0 bs ls n ok)
+
       code_fine : (c : NodesT Where) (bs : List Bool) (ls : List ℕ) (n : ℕ) → AreNodes x m bs c → AllFine (code_items W F out ls n c)
-      code_fine Stop bs ls n ok = tt
-      code_fine (Do o c) bs ls n ok = join (op_items W F o) _ (op_fine o ok.0) (code_fine c bs ls n ok.1)
-      code_fine (Call t g args c) bs ls n ok = join (call_items W F t g args) _ (call_fine t g args) (code_fine c bs ls n ok.1)
-      code_fine (Choose p a b c) bs ls n ok =
-          join (cond (is_stop b) (one_way F p n (code_items W F out ls (n + 1) a)) (choice F p n (n + 1 + labels a) (code_items W F out ls (n + 1) a) (code_items W F out ls (n + 1 + labels a + 1) b))) _
-          (chosen_fine p n (n + 1 + labels a) (is_stop b) (code_items W F out ls (n + 1) a) (code_items W F out ls (n + 1 + labels a + 1) b) (code_fine a bs ls (n + 1) ok.0) (code_fine b bs ls (n + 1 + labels a + 1) ok.1))
-          (code_fine c bs ls (n + (2 + labels a + labels b)) ok.2)
-      code_fine (Block b c) bs ls n ok = join (enclosed n (code_items W F out (ls ++ n ∷ []) (n + 2) b)) _ (enclosed_fine n _ (code_fine b (false ∷ bs) (ls ++ n ∷ []) (n + 2) ok.0)) (code_fine c bs ls (n + (2 + labels b)) ok.1)
-      code_fine (Loop b c) bs ls n ok = join (enclosed n (code_items W F out (ls ++ n ∷ []) (n + 2) b)) _ (enclosed_fine n _ (code_fine b (true ∷ bs) (ls ++ n ∷ []) (n + 2) ok.0)) (code_fine c bs ls (n + (2 + labels b)) ok.1)
-      code_fine (Leave k c) bs ls n ok = ((jump_named (add (enclosing ls k) 1), tt), code_fine c bs ls n ok.1)
-      code_fine (Again k c) bs ls n ok = ((jump_named (enclosing ls k), tt), code_fine c bs ls n ok.1)
-      code_fine (Return p c) bs ls n ok = join (returning F p out) _ (join (giving F p) (jump out ∷ []) (giving_fine F p) ((jump_named out, tt), tt)) (code_fine c bs ls n ok)
+      code_fine c bs ls n ok = past_fine c 0 bs ls n ok
 
   function_fine : (f n : ℕ) (g : FunctionT Where) → (W.frames f).size < 2 ^ 32 → AreNodes x (length g.locals) [] g.body → AllFine (function_items W f n g.body)
   function_fine f n g small ok =

@@ -1,12 +1,16 @@
 -- The items of nodes as they stand in memory.
-use Rattle.std.specs.Prelude.{ℕ, ◌+◌, Bool, true, false, cond, List, [], ◌∷◌, ◌++◌}
+use Rattle.std.specs.Prelude.{ℕ, ◌+◌, ◌-◌, ◌==◌, Bool, true, false, cond, List, [], ◌∷◌, ◌++◌, Option, Some, None}
 use Rattle.kit_base.specs.Word.{add}
+use Rattle.v32_isa.specs.declared.instruction.Instr.{Instr}
 use Rattle.asm_items.specs.declared.item.AsmItem.{AsmItem}
+use Rattle.asm_items.specs.declared.item.AsmItem.TheVariants as item
+use Rattle.asm_items.specs.Items.{Imm}
 use Rattle.mid_code.specs.declared.placed.Where.{Where}
 use Rattle.mid_code.specs.declared.node.Op.{Op}
+use Rattle.mid_code.specs.declared.node.Op.TheVariants as op
 use Rattle.mid_code.specs.Code.{NodesT, Do, Call, Stop}
-use Rattle.mid_code.specs.Functions.{op_before, NodeT, DoN, ChooseN, BlockN, LoopN, LeaveN, AgainN, ReturnN, ListT, NoN, MoreN}
-use Rattle.asm_laws.specs.Operations.{Frame, Whole, op_items, call_items}
+use Rattle.mid_code.specs.Functions.{op_before, NodeT, DoN, ChooseN, BlockN, LoopN, LeaveN, AgainN, ReturnN, ListT, NoN, MoreN, before, joined}
+use Rattle.asm_laws.specs.Operations.{Frame, Whole, op_items, word_put, with_word, in_one, call_items}
 use Rattle.asm_laws.specs.Emitted.{enclosing, jump, one_way, choice, enclosed, returning}
 
 -- how many labels nodes take
@@ -37,18 +41,65 @@ first_items W F _ = []
 abbrev pub do_items : Whole → Frame → Op Where → List AsmItem
 do_items W F o = first_items W F (op_before o Stop)
 
+-- the word that an operation that stands first puts into a register
+abbrev pub front_put : Whole → NodesT Where → Option (ℕ × ℕ)
+front_put W (Do o c) = word_put W o
+front_put W _ = None
+
+-- what is done in one go where a word was put into a register before
+abbrev pub front_summed : (put : Option (ℕ × ℕ)) → NodesT Where → Option (ℕ × Instr Imm)
+front_summed put (Do o c) = with_word put o c
+front_summed put _ = None
+
+abbrev pub ahead_items : Option (ℕ × Instr Imm) → List AsmItem
+ahead_items None = []
+ahead_items (Some (more, i)) = item.Op i ∷ []
+
+abbrev pub ahead_more : Option (ℕ × Instr Imm) → Option ℕ
+ahead_more None = None
+ahead_more (Some (more, i)) = Some more
+
+abbrev pub is_call : Op Where → Bool
+is_call (op.Call t f args) = true
+is_call _ = false
+
+-- the items of an operation that stands first and is done in one go with others, where it is not done already
+abbrev pub front_items : Whole → NodesT Where → (done : ℕ) → List AsmItem
+front_items W (Do o c) k = cond (k == 0) (ahead_items (in_one W o c)) []
+front_items W _ k = []
+
+-- how many behind it are done then; none is said where its own items are due
+abbrev pub front_more : Whole → NodesT Where → (done : ℕ) → Option ℕ
+front_more W (Do o c) k = cond (k == 0) (ahead_more (in_one W o c)) (Some (k - 1))
+front_more W _ k = None
+
+-- the labels of a node whose own items are due
+abbrev pub labels_due : Option ℕ → ℕ → ℕ
+labels_due None n = n
+labels_due (Some k) n = 0
+
+-- a node's own items and those behind it anew, or those behind it where so many are done
+abbrev pub onward : Option ℕ → (own : List AsmItem) → (past : ℕ → List AsmItem) → (anew : List AsmItem) → List AsmItem
+onward None own past anew = own ++ anew
+onward (Some k) own past anew = past k
+
 module _ (W : Whole) (F : Frame) (out : ℕ) where
   abbrev mutual
     pub node_items : List ℕ → ℕ → NodeT Where → List AsmItem
     node_items ls n (DoN o) = do_items W F o
     node_items ls n (ChooseN p a b) =
-        cond (is_none b) (one_way F p n (list_items ls (n + 1) a)) (choice F p n (n + 1 + list_labels a) (list_items ls (n + 1) a) (list_items ls (n + 1 + list_labels a + 1) b))
-    node_items ls n (BlockN b) = enclosed n (list_items (ls ++ n ∷ []) (n + 2) b)
-    node_items ls n (LoopN b) = enclosed n (list_items (ls ++ n ∷ []) (n + 2) b)
+        cond (is_none b) (one_way F p n (list_past ls (n + 1) a 0)) (choice F p n (n + 1 + list_labels a) (list_past ls (n + 1) a 0) (list_past ls (n + 1 + list_labels a + 1) b 0))
+    node_items ls n (BlockN b) = enclosed n (list_past (ls ++ n ∷ []) (n + 2) b 0)
+    node_items ls n (LoopN b) = enclosed n (list_past (ls ++ n ∷ []) (n + 2) b 0)
     node_items ls n (LeaveN k) = jump (add (enclosing ls k) 1) ∷ []
     node_items ls n (AgainN k) = jump (enclosing ls k) ∷ []
     node_items ls n (ReturnN p) = returning F p out
 
-    pub list_items : List ℕ → ℕ → ListT Where → List AsmItem
-    list_items ls n NoN = []
-    list_items ls n (MoreN x rest) = node_items ls n x ++ list_items ls (n + node_labels x) rest
+    -- so many operations in front are done already
+    pub list_past : List ℕ → ℕ → ListT Where → (done : ℕ) → List AsmItem
+    list_past ls n NoN k = []
+    list_past ls n (MoreN x rest) k =
+        front_items W (before x (joined rest)) k ++ onward (front_more W (before x (joined rest)) k) (node_items ls n x) (list_past ls n rest) (list_past ls (n + node_labels x) rest 0)
+
+  abbrev pub list_items : List ℕ → ℕ → ListT Where → List AsmItem
+  list_items ls n xs = list_past ls n xs 0

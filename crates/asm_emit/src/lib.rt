@@ -5,6 +5,7 @@
 //! loops only goes on. It stands on the laws of `asm_laws`.
 #![tactic(auto)]
 
+mod ahead;
 mod calls;
 mod hands;
 mod names;

@@ -7,6 +7,7 @@ ghost use Rattle.asm_laws.specs.Emitted.{labels, enclosing, jump, jump_unless, m
 ghost use Rattle.asm_emit.specs.Listed.{node_labels, list_labels, node_items, list_items};
 ghost use Rattle.asm_emit.specs.View.{frame, whole};
 
+use crate::ahead::{behind, put_ahead};
 use crate::hands::{brings, fetches, hand, op};
 use crate::names::jump_label;
 use crate::operations::put_op;
@@ -234,7 +235,7 @@ fn put_node(
     }
 }
 
-/// Adds the items of nodes, one after another.
+/// Adds the items of nodes, one after another, some operations in one instruction.
 #[cycle(items)]
 fn put_nodes(
     alloc: Global,
@@ -252,8 +253,17 @@ fn put_nodes(
     ensures next { IfOk result (λ m. m ≡ n + list_labels (listed (map node xs.now))) }
 {
     let mut next = n;
+    let mut done: u32 = 0;
+    let mut rest = xs;
     for x in xs {
-        next = put_node(alloc, out, w, s, end, ls, next, x)?;
+        rest = behind(rest);
+        match put_ahead(out, w, x, rest, done)? {
+            Some(more) => done = more,
+            None => {
+                next = put_node(alloc, out, w, s, end, ls, next, x)?;
+                done = 0;
+            }
+        }
     }
     Ok(next)
 }

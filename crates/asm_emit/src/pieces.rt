@@ -1,6 +1,6 @@
 // Pieces of which the operations are made.
 ghost use Rattle.std.specs.Prelude.{◌≡◌, ◌++◌, ◌∷◌, [], OnOk};
-ghost use Rattle.asm_laws.specs.Operations.{port, sets, moves, changes, is_division, is_direct, in_place, apart, turned, is_turned, turned_or_apart, computes};
+ghost use Rattle.asm_laws.specs.Operations.{port, sets, moves, changes, is_direct, in_place, apart, turned, is_turned, turned_or_apart, computes};
 ghost use Rattle.asm_emit.specs.View.{frame};
 
 use crate::hands::{
@@ -61,22 +61,12 @@ pub(crate) fn changes(
     lays(out, s, t)
 }
 
-fn is_division(o: Two) -> bool
-    ensures { result ≡ is_division o }
-{
-    match o {
-        Two::IDIV => true,
-        Two::IMOD => true,
-        _ => false,
-    }
-}
-
-/// Whether an operator can work in the register of its target: it does not fault, and its second word does not stand there.
-fn is_direct(o: Two, t: Where, b: Where) -> bool
-    ensures { result ≡ is_direct o t b }
+/// Whether an operator can work in the register of its target: its second word does not stand there.
+fn is_direct(t: Where, b: Where) -> bool
+    ensures { result ≡ is_direct t b }
 {
     match t {
-        Where::Reg(q) => !is_division(o) && !is_in(b, register(q)),
+        Where::Reg(q) => !is_in(b, register(q)),
         Where::Slot(_) => false,
     }
 }
@@ -182,7 +172,7 @@ pub(crate) fn computes(
 ) -> Result<(), Memory>
     ensures { OnOk result (out.new.items ≡ out.old.items ++ computes (frame s.now) o t a b) }
 {
-    if is_direct(o, t, b) {
+    if is_direct(t, b) {
         in_place(out, s, o, aim(t), a, b)
     } else {
         turned_or_apart(out, s, o, turned(o), t, a, b)

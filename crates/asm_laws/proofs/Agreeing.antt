@@ -94,7 +94,7 @@ module _ (S : Setting) (fits : Fits S) where
       let w = cell_wide S fits κ t.world.store place o i h.ranges l il in
       let r : en.mach.words.memory (place o + i) ≡ x = subst (λ c. Stands (length os) place c (en.mach.words.memory (place o + i))) e (h.objects.at o i l il) in
       let q = readable_in S.console (object_at os o).kind (object_at os o).cells (place o + i) i fits.short (h.ranges.cards o l) il (h.ranges.inside o i l w) in
-      ap (λ z. word_at m (z + i)) (sym p) ∙ readable_word S.console en.mach.words m (place o + i) en.mach.held q ∙ ap Some r
+      ap (λ z. word_at m (z + i)) (sym p) ∙ en.memory (place o + i) ∙ readable_word S.console en.mach.words en.shown (place o + i) en.mach.held q ∙ ap Some r
 
   keeps : (t : State Where) (f : Ending) (r : runs.Run) (m : machine.State) → r.state ≡ m → EndedIn S t m → KeepsWords S.whole.globals (run_of S.code (final f t.world)) r
   keeps t f r m e en = record {
@@ -228,7 +228,7 @@ module _ (S : Setting) (card : Option (List ℕ)) (boot rest : ℕ) (l : Linked 
           p.steps + 1,
           record {
             events = ap (λ z. z.events) r ∙ append-nil p.made ∙ sym p.events;
-            ends = (ap (λ z. z.end) r, keeps S l.fits t Halted (run (p.steps + 1) m0 answers) m1 (ap (λ z. z.state) r) (record { context = κ1; mach = h }));
+            ends = (ap (λ z. z.end) r, keeps S l.fits t Halted (run (p.steps + 1) m0 answers) m1 (ap (λ z. z.state) r) (record { context = κ1; shown = m1; mach = h; memory = λ q. refl }));
           },
           λ q. let c = p.cost in omega (arith, c),
         )

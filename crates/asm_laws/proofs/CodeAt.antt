@@ -9,9 +9,9 @@ use Rattle.mid_code.specs.declared.placed.Where.{Where}
 use Rattle.mid_code.specs.Code.{NodesT, Stop, Do, Call, Choose, Block, Loop, Leave, Again, Return, CodeT}
 use Rattle.mid_code.specs.Invariants.{AreNodes}
 use Rattle.asm_laws.specs.Names.{jump_label}
-use Rattle.asm_laws.specs.Operations.{Frame, hand, brings, giving, op_items, call_items}
-use Rattle.asm_laws.specs.Emitted.{labels, enclosing, jump, jump_unless, mark, choice, first_part, second_part, one_way, is_stop, enclosed, returning, code_items}
-use Rattle.asm_laws.specs.Placing.{Line, Bounds, end_of, begin_of, Jumps, At}
+use Rattle.asm_laws.specs.Operations.{Frame, hand, brings, giving, in_one, one_or_more, more_of, call_items}
+use Rattle.asm_laws.specs.Emitted.{labels, enclosing, jump, jump_unless, mark, choice, first_part, second_part, one_way, is_stop, enclosed, returning, items_past, code_items}
+use Rattle.asm_laws.specs.Placing.{Line, Bounds, end_of, begin_of, Jumps, Past, At}
 use Rattle.asm_laws.specs.Standing.{Stand}
 use Rattle.asm_laws.specs.Holds.{Setting}
 use Rattle.asm_laws.specs.Program.{items_at}
@@ -42,6 +42,9 @@ module _ (S : Setting) (f out : ℕ) (leave : S.address (jump_label out) ≡ S.l
 
   abbrev items : List ℕ → ℕ → NodesT Where → List AsmItem
   items = code_items S.whole (S.whole.frames f) out
+
+  abbrev past : List ℕ → ℕ → NodesT Where → (done : ℕ) → List AsmItem
+  past = items_past S.whole (S.whole.frames f) out
 
   abbrev CodeAt : List Bounds → ℕ → NodesT Where → ℕ → Type 0
   CodeAt = At (items_at S) f
@@ -146,47 +149,49 @@ module _ (S : Setting) (f out : ℕ) (leave : S.address (jump_label out) ≡ S.l
   deeper ls n bs b same = let h = length-append ls (n ∷ []) in omega (arith, h, same)
 
   module _ (x : CodeT Where) (m : ℕ) where
-    pub code_at : (c : NodesT Where) (bs : List Bool) (ls : List ℕ) (es : List Bounds) (n pc e : ℕ) → AreNodes x m bs c → length ls ≡ length bs → Few (n + labels c) → Enclose ls es → Here pc (items ls n c) e → CodeAt es pc c e
-    code_at Stop bs ls es n pc e ok same few en h = h
-    code_at (Do o c) bs ls es n pc e ok same few en h =
-        let s = parts (op_items S.whole F o) (items ls n c) pc e h in
-        (s.0, s.1, code_at c bs ls es n s.0 e ok.1 same few en s.2)
-    code_at (Call t g args c) bs ls es n pc e ok same few en h =
+    pub code_at : (c : NodesT Where) (done : ℕ) (bs : List Bool) (ls : List ℕ) (es : List Bounds) (n pc e : ℕ) → AreNodes x m bs c → length ls ≡ length bs → Few (n + labels c) → Enclose ls es → Here pc (past ls n c done) e → Past (items_at S) f es pc c done e
+    code_at Stop done bs ls es n pc e ok same few en h = h
+    code_at (Do o c) zero bs ls es n pc e ok same few en h =
+        let one = in_one S.whole o c in
+        let s = parts (one_or_more S.whole F o one) (past ls n c (more_of one)) pc e h in
+        (more_of one, s.0, (s.1, refl), code_at c (more_of one) bs ls es n s.0 e ok.1 same few en s.2)
+    code_at (Do o c) (suc j) bs ls es n pc e ok same few en h = code_at c j bs ls es n pc e ok.1 same few en h
+    code_at (Call t g args c) done bs ls es n pc e ok same few en h =
         let s = parts (call_items S.whole F t g args) (items ls n c) pc e h in
-        (s.0, s.1, code_at c bs ls es n s.0 e ok.1 same few en s.2)
-    code_at (Choose w a b c) bs ls es n pc e ok same few en h =
+        (s.0, s.1, code_at c zero bs ls es n s.0 e ok.1 same few en s.2)
+    code_at (Choose w a b c) done bs ls es n pc e ok same few en h =
         let one = items ls (n + 1) a in
         let two = items ls (n + 1 + labels a + 1) b in
         let rest = items ls (n + (2 + labels a + labels b)) c in
         chosen w a b c es n (n + 1 + labels a) pc e one two rest (is_stop b) refl
-        (λ p q k. code_at a bs ls es (n + 1) p q ok.0 same (omega (arith, few)) en k) (λ p q k. code_at b bs ls es (n + 1 + labels a + 1) p q ok.1 same (omega (arith, few)) en k) (λ q k. code_at c bs ls es (n + (2 + labels a + labels b)) q e ok.2 same (omega (arith, few)) en k)
+        (λ p q k. code_at a zero bs ls es (n + 1) p q ok.0 same (omega (arith, few)) en k) (λ p q k. code_at b zero bs ls es (n + 1 + labels a + 1) p q ok.1 same (omega (arith, few)) en k) (λ q k. code_at c zero bs ls es (n + (2 + labels a + labels b)) q e ok.2 same (omega (arith, few)) en k)
         (parts (cond (is_stop b) (one_way F w n one) (choice F w n (n + 1 + labels a) one two)) rest pc e h)
-    code_at (Block b c) bs ls es n pc e ok same few en h =
+    code_at (Block b c) done bs ls es n pc e ok same few en h =
         let one = items (ls ++ n ∷ []) (n + 2) b in
         let s = parts (enclosed n one) (items ls (n + (2 + labels b)) c) pc e h in
         let around = record { begins = label n; ends = label (n + 1) } ∷ es in
-        let r = enclosed_at b one es n pc s.0 (λ p q k. code_at b (false ∷ bs) (ls ++ n ∷ []) around (n + 2) p q ok.0 (deeper ls n bs false same) (omega (arith, few)) (enter ls es n (omega (arith, few)) en) k) s.1 in
-        (r.0, r.1, from es s.0 r.0 e c r.2 (code_at c bs ls es (n + (2 + labels b)) s.0 e ok.1 same (omega (arith, few)) en s.2))
-    code_at (Loop b c) bs ls es n pc e ok same few en h =
+        let r = enclosed_at b one es n pc s.0 (λ p q k. code_at b zero (false ∷ bs) (ls ++ n ∷ []) around (n + 2) p q ok.0 (deeper ls n bs false same) (omega (arith, few)) (enter ls es n (omega (arith, few)) en) k) s.1 in
+        (r.0, r.1, from es s.0 r.0 e c r.2 (code_at c zero bs ls es (n + (2 + labels b)) s.0 e ok.1 same (omega (arith, few)) en s.2))
+    code_at (Loop b c) done bs ls es n pc e ok same few en h =
         let one = items (ls ++ n ∷ []) (n + 2) b in
         let s = parts (enclosed n one) (items ls (n + (2 + labels b)) c) pc e h in
         let around = record { begins = label n; ends = label (n + 1) } ∷ es in
-        let r = enclosed_at b one es n pc s.0 (λ p q k. code_at b (true ∷ bs) (ls ++ n ∷ []) around (n + 2) p q ok.0 (deeper ls n bs true same) (omega (arith, few)) (enter ls es n (omega (arith, few)) en) k) s.1 in
-        (r.0, r.1, from es s.0 r.0 e c r.2 (code_at c bs ls es (n + (2 + labels b)) s.0 e ok.1 same (omega (arith, few)) en s.2))
-    code_at (Leave k c) bs ls es n pc e ok same few en h =
+        let r = enclosed_at b one es n pc s.0 (λ p q k. code_at b zero (true ∷ bs) (ls ++ n ∷ []) around (n + 2) p q ok.0 (deeper ls n bs true same) (omega (arith, few)) (enter ls es n (omega (arith, few)) en) k) s.1 in
+        (r.0, r.1, from es s.0 r.0 e c r.2 (code_at c zero bs ls es (n + (2 + labels b)) s.0 e ok.1 same (omega (arith, few)) en s.2))
+    code_at (Leave k c) done bs ls es n pc e ok same few en h =
         let l = ok.0 in
         let lt : k < length ls = omega (arith, l, same) in
         let w : add (enclosing ls k) 1 ≡ enclosing ls k + 1 = omega (arith, en.few k lt) in
-        (jumps_to pc h.0 _ (end_of es k) h.1 (ap label w ∙ sym (en.ends k lt)), (h.0, code_at c bs ls es n h.0 e ok.1 same few en h.2))
-    code_at (Again k c) bs ls es n pc e ok same few en h =
+        (jumps_to pc h.0 _ (end_of es k) h.1 (ap label w ∙ sym (en.ends k lt)), (h.0, code_at c zero bs ls es n h.0 e ok.1 same few en h.2))
+    code_at (Again k c) done bs ls es n pc e ok same few en h =
         let l = loop_there bs k ok.0 in
         let lt : k < length ls = omega (arith, l, same) in
-        (jumps_to pc h.0 _ (begin_of es k) h.1 (sym (en.begins k lt)), (h.0, code_at c bs ls es n h.0 e ok.1 same few en h.2))
-    code_at (Return w c) bs ls es n pc e ok same few en h =
+        (jumps_to pc h.0 _ (begin_of es k) h.1 (sym (en.begins k lt)), (h.0, code_at c zero bs ls es n h.0 e ok.1 same few en h.2))
+    code_at (Return w c) done bs ls es n pc e ok same few en h =
         let s = parts (returning F w out) (items ls n c) pc e h in
         let t = parts (giving F w) (jump out ∷ []) pc s.0 s.1 in
-        ((t.0, t.1, jumps_to t.0 t.2.0 (label out) (S.leaves f) t.2.1 leave), (s.0, code_at c bs ls es n s.0 e ok same few en s.2))
+        ((t.0, t.1, jumps_to t.0 t.2.0 (label out) (S.leaves f) t.2.1 leave), (s.0, code_at c zero bs ls es n s.0 e ok same few en s.2))
 
     -- the body of a function stands where its items do
     pub body_at : (c : NodesT Where) (n pc e : ℕ) → AreNodes x m [] c → Few (n + labels c) → Here pc (items [] n c) e → CodeAt [] pc c e
-    body_at c n pc e ok few h = code_at c [] [] [] n pc e ok refl few (record { few = λ k lt. absurd (omega arith); ends = λ k lt. absurd (omega arith); begins = λ k lt. absurd (omega arith) }) h
+    body_at c n pc e ok few h = code_at c zero [] [] [] n pc e ok refl few (record { few = λ k lt. absurd (omega arith); ends = λ k lt. absurd (omega arith); begins = λ k lt. absurd (omega arith) }) h

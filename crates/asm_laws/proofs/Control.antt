@@ -8,8 +8,8 @@ use Rattle.obj_mem.specs.Runs.{Ending, Halted, Fault, Starved, Stray, Deep, OutO
 use Rattle.mid_code.specs.declared.placed.Where.{Where}
 use Rattle.mid_code.specs.Code.{NodesT, Stop, Do, Call, Choose, Block, Loop, Leave, Again, Return}
 use Rattle.mid_code.specs.Meaning.{Did, On, Ends, Res, Next, Leaves, Repeats, Returns, Over, Lang, node_weight, call_weight, then_next, did, block_done, turn_done, choose, call_done, called, does, below, runs}
-use Rattle.asm_laws.specs.Placing.{Shapes, Bounds, end_of, begin_of, Jumps, Passes, At}
-use Rattle.asm_laws.specs.Following.{Holder, Begin, begin, spare, Came, Stopped, Going, Final, Sim, DidSim, Enters, CallSim, TestSim, Parts}
+use Rattle.asm_laws.specs.Placing.{Shapes, Bounds, end_of, begin_of, Jumps, Passes, Past, At}
+use Rattle.asm_laws.specs.Following.{Holder, Begin, begin, spare, Came, Stopped, Going, Final, Sim, DidSim, Enters, CallSim, TestSim, did_then, front_acts, Parts}
 
 module _ (L : Lang Where) (X : Holder L) where
   came_came : (m : State) (b : Begin) (t u : L.S) (pc q i j k x : ℕ) (R Q : State → Type 0) → (f : Came X m b t pc i 0 R) → (g : Came X f.to (begin X t) u q j x Q) → k ≤ i + j → Came X m b u q k x Q
@@ -85,6 +85,10 @@ module _ (L : Lang Where) (X : Holder L) where
   earlier_final m b d t n Deep ea ee le f = earlier_going m b d t 0 ea ee le f
   earlier_final m b d t n OutOfBound ea ee le f = earlier_going m b d t n ea ee le f
 
+  pub earlier_did : (κ : X.K) (m : State) (b d : Begin) (p : ℕ) (r : Did L.S) → d.answers ≡ b.answers → d.events ≡ b.events → b.work ≤ d.work → DidSim X κ m d p r → DidSim X κ m b p r
+  earlier_did κ m b d p (On t) ea ee le f = earlier_came m b d t p 0 0 (X.M κ t) ea ee le f
+  earlier_did κ m b d p (Ends g t) ea ee le f = λ n. earlier_final m b d t n g ea ee le (f n)
+
   earlier : (κ : X.K) (m : State) (b d : Begin) (e n : ℕ) (ls : List Bounds) (r : Res L.S) → d.answers ≡ b.answers → d.events ≡ b.events → b.work ≤ d.work → Sim X κ m d e n ls r → Sim X κ m b e n ls r
   earlier κ m b d e n ls (Next t) ea ee le f = earlier_came m b d t e 0 0 (X.M κ t) ea ee le f
   earlier κ m b d e n ls (Leaves k t) ea ee le f = earlier_came m b d t (end_of ls k) 0 0 (X.M κ t) ea ee le f
@@ -102,9 +106,10 @@ module _ (L : Lang Where) (X : Holder L) where
   then_sim κ m b p e n ls (Returns t) go a f = a
   then_sim κ m b p e n ls (Over g t) go a f = a
 
-  did_sim : (κ : X.K) (m : State) (b : Begin) (p e n : ℕ) (ls : List Bounds) (d : Did L.S) (go : L.S → Res L.S) → DidSim X κ m b p d → ((t : L.S) (m1 : State) → m1.counter ≡ p → X.M κ t m1 → Sim X κ m1 (begin X t) e n ls (go t)) → Sim X κ m b e n ls (did d go)
-  did_sim κ m b p e n ls (On t) go a f = after κ m b t p 0 n n e ls (X.M κ t) (go t) (omega arith) a (f t a.to a.at a.held)
-  did_sim κ m b p e n ls (Ends g t) go a f = a n
+  -- the rest of what is done already, and what comes behind it
+  done_sim : (κ : X.K) (m : State) (b : Begin) (p e n : ℕ) (ls : List Bounds) (d : Did L.S) (more : L.S → Did L.S) (go : L.S → Res L.S) → DidSim X κ m b p (did_then d more) → ((t : L.S) → DidSim X κ m b p (more t) → Sim X κ m b e n ls (go t)) → Sim X κ m b e n ls (did d go)
+  done_sim κ m b p e n ls (On t) more go a f = f t a
+  done_sim κ m b p e n ls (Ends g t) more go a f = a n
 
   block_sim : (κ : X.K) (m : State) (b : Begin) (e n pc : ℕ) (ls : List Bounds) (r : Res L.S) → Sim X κ m b e n (record { begins = pc; ends = e } ∷ ls) r → Sim X κ m b e n ls (block_done r)
   block_sim κ m b e n pc ls (Next t) a = a
@@ -220,37 +225,70 @@ module _ (L : Lang Where) (X : Holder L) where
     ticked : (κ : X.K) (w : ℕ) (s : L.S) (m : State) (e n : ℕ) (ls : List Bounds) (r : Res L.S) → Sim X κ m (begin X (L.tick w s)) e n ls r → Sim X κ m (begin X s) e n ls r
     ticked κ w s m e n ls r a = earlier κ m (begin X s) (begin X (L.tick w s)) e n ls r (parts.tick_answers w s) (parts.tick_events w s) (omega (arith, parts.tick_work w s)) a
 
-    nodes : (n k : ℕ) (prev : NodesT Where → L.S → Res L.S) → n ≤ suc k → Before k prev → (κ : X.K) (pc e : ℕ) (ls : List Bounds) (c : NodesT Where) (s : L.S) (m : State) → At H (X.fn κ) ls pc c e → m.counter ≡ pc → X.M κ s m → Sim X κ m (begin X s) e n ls (does L n prev c s)
-    nodes n k prev le bef κ pc e ls Stop s m at eq h = here κ m s e (eq ∙ at) h
-    nodes n k prev le bef κ pc e ls (Do o c) s m at eq h =
-        did_sim κ m (begin X s) at.0 e n ls (L.act o s) (does L n prev c) (parts.op κ pc at.0 o s m at.1 eq h) (λ t m1 e1 h1. nodes n k prev le bef κ at.0 e ls c t m1 at.2 e1 h1)
-    nodes n k prev le bef κ pc e ls (Call t f args c) s m at eq h =
-        then_sim κ m (begin X s) at.0 e n ls (called L n prev t f args (L.tick (call_weight args) s)) (does L n prev c)
-        (called_sim κ at.0 n k (call_weight args) ls t f args s m prev le bef h (parts.call κ pc at.0 t f args s m at.1 eq h)) (λ t1 m1 e1 h1. nodes n k prev le bef κ at.0 e ls c t1 m1 at.2 e1 h1)
-    nodes n k prev le bef κ pc e ls (Choose p x y c) s m at eq h =
-        then_sim κ m (begin X s) at.3 e n ls (choose (L.test p s) (L.tick node_weight s) (does L n prev x) (does L n prev y)) (does L n prev c)
-        (choose_sim κ m (begin X s) at.0 at.2 at.1 at.3 n ls (L.tick node_weight s) (L.test p s) (does L n prev x) (does L n prev y) (going_here κ m s node_weight) at.6 (parts.test κ pc at.2 at.0 p s m at.4 eq h)
-        (λ m1 e1 h1. nodes n k prev le bef κ at.0 at.1 ls x (L.tick node_weight s) m1 at.5 e1 h1) (λ m1 e1 h1. nodes n k prev le bef κ at.2 at.3 ls y (L.tick node_weight s) m1 at.7 e1 h1))
-        (λ t m1 e1 h1. nodes n k prev le bef κ at.3 e ls c t m1 at.8 e1 h1)
-    nodes n k prev le bef κ pc e ls (Block b c) s m at eq h =
-        then_sim κ m (begin X s) at.0 e n ls (block_done (does L n prev b (L.tick node_weight s))) (does L n prev c)
-        (block_sim κ m (begin X s) at.0 n pc ls (does L n prev b (L.tick node_weight s)) (ticked κ node_weight s m at.0 n (record { begins = pc; ends = at.0 } ∷ ls) (does L n prev b (L.tick node_weight s))
-        (nodes n k prev le bef κ pc at.0 (record { begins = pc; ends = at.0 } ∷ ls) b (L.tick node_weight s) m at.1 eq (parts.ticks κ node_weight s m h))))
-        (λ t m1 e1 h1. nodes n k prev le bef κ at.0 e ls c t m1 at.2 e1 h1)
-    nodes n k prev le bef κ pc e ls (Loop b c) s m at eq h =
-        then_sim κ m (begin X s) at.0 e n ls (turn_done (does L n prev b (L.tick node_weight s)) (prev (Loop b Stop))) (does L n prev c)
-        (turn_sim κ m (begin X s) at.0 n k pc ls (does L n prev b (L.tick node_weight s)) (prev (Loop b Stop)) le (ticked κ node_weight s m at.0 n (record { begins = pc; ends = at.0 } ∷ ls) (does L n prev b (L.tick node_weight s))
-        (nodes n k prev le bef κ pc at.0 (record { begins = pc; ends = at.0 } ∷ ls) b (L.tick node_weight s) m at.1 eq (parts.ticks κ node_weight s m h)))
+    -- nodes of which nothing has been done
+    fresh : (κ : X.K) (c : NodesT Where) (s : L.S) (m : State) (pc : ℕ) → m.counter ≡ pc → X.M κ s m → DidSim X κ m (begin X s) pc (front_acts L c zero s)
+    fresh κ Stop s m pc eq h = here κ m s pc eq h
+    fresh κ (Do o c) s m pc eq h = here κ m s pc eq h
+    fresh κ (Call t f args c) s m pc eq h = here κ m s pc eq h
+    fresh κ (Choose p x y c) s m pc eq h = here κ m s pc eq h
+    fresh κ (Block b c) s m pc eq h = here κ m s pc eq h
+    fresh κ (Loop b c) s m pc eq h = here κ m s pc eq h
+    fresh κ (Leave j c) s m pc eq h = here κ m s pc eq h
+    fresh κ (Again j c) s m pc eq h = here κ m s pc eq h
+    fresh κ (Return w c) s m pc eq h = here κ m s pc eq h
+
+    -- The first operations of nodes are done, as many as are counted, and the machine stands behind them.
+    nodes : (n k : ℕ) (prev : NodesT Where → L.S → Res L.S) → n ≤ suc k → Before k prev → (κ : X.K) (pc e : ℕ) (ls : List Bounds) (c : NodesT Where) (done : ℕ) (b : Begin) (s : L.S) (m : State) → Past H (X.fn κ) ls pc c done e → DidSim X κ m b pc (front_acts L c done s) → Sim X κ m b e n ls (does L n prev c s)
+    nodes n k prev le bef κ pc e ls Stop j b s m at d = subst (λ q. Came X m b s q 0 0 (X.M κ s)) at d
+    nodes n k prev le bef κ pc e ls (Do o c) zero b s m at d =
+        after κ m b s pc 0 n n e ls (X.M κ s) (did (L.act o s) (does L n prev c)) (omega arith) d
+        (done_sim κ d.to (begin X s) at.1 e n ls (L.act o s) (front_acts L c at.0) (does L n prev c) (parts.op κ pc at.1 at.0 o c s d.to at.2 d.at d.held) (λ t a. nodes n k prev le bef κ at.1 e ls c at.0 (begin X s) t d.to at.3 a))
+    nodes n k prev le bef κ pc e ls (Do o c) (suc j) b s m at d =
+        done_sim κ m b pc e n ls (L.act o s) (front_acts L c j) (does L n prev c) d (λ t a. nodes n k prev le bef κ pc e ls c j b t m at a)
+    nodes n k prev le bef κ pc e ls (Call t f args c) j b0 s m0 at d =
+        let m = d.to in
+        after κ m0 b0 s pc 0 n n e ls (X.M κ s) (does L n prev (Call t f args c) s) (omega arith) d
+        (then_sim κ m (begin X s) at.0 e n ls (called L n prev t f args (L.tick (call_weight args) s)) (does L n prev c)
+        (called_sim κ at.0 n k (call_weight args) ls t f args s m prev le bef d.held (parts.call κ pc at.0 t f args s m at.1 d.at d.held)) (λ t1 m1 e1 h1. nodes n k prev le bef κ at.0 e ls c zero (begin X t1) t1 m1 at.2 (fresh κ c t1 m1 at.0 e1 h1)))
+    nodes n k prev le bef κ pc e ls (Choose p x y c) j b0 s m0 at d =
+        let m = d.to in
+        after κ m0 b0 s pc 0 n n e ls (X.M κ s) (does L n prev (Choose p x y c) s) (omega arith) d
+        (then_sim κ m (begin X s) at.3 e n ls (choose (L.test p s) (L.tick node_weight s) (does L n prev x) (does L n prev y)) (does L n prev c)
+        (choose_sim κ m (begin X s) at.0 at.2 at.1 at.3 n ls (L.tick node_weight s) (L.test p s) (does L n prev x) (does L n prev y) (going_here κ m s node_weight) at.6 (parts.test κ pc at.2 at.0 p s m at.4 d.at d.held)
+        (λ m1 e1 h1. nodes n k prev le bef κ at.0 at.1 ls x zero (begin X (L.tick node_weight s)) (L.tick node_weight s) m1 at.5 (fresh κ x (L.tick node_weight s) m1 at.0 e1 h1))
+        (λ m1 e1 h1. nodes n k prev le bef κ at.2 at.3 ls y zero (begin X (L.tick node_weight s)) (L.tick node_weight s) m1 at.7 (fresh κ y (L.tick node_weight s) m1 at.2 e1 h1)))
+        (λ t m1 e1 h1. nodes n k prev le bef κ at.3 e ls c zero (begin X t) t m1 at.8 (fresh κ c t m1 at.3 e1 h1)))
+    nodes n k prev le bef κ pc e ls (Block b c) j b0 s m0 at d =
+        let m = d.to in
+        let u = L.tick node_weight s in
+        let around = record { begins = pc; ends = at.0 } ∷ ls in
+        after κ m0 b0 s pc 0 n n e ls (X.M κ s) (does L n prev (Block b c) s) (omega arith) d
+        (then_sim κ m (begin X s) at.0 e n ls (block_done (does L n prev b u)) (does L n prev c)
+        (block_sim κ m (begin X s) at.0 n pc ls (does L n prev b u) (ticked κ node_weight s m at.0 n around (does L n prev b u)
+        (nodes n k prev le bef κ pc at.0 around b zero (begin X u) u m at.1 (fresh κ b u m pc d.at (parts.ticks κ node_weight s m d.held)))))
+        (λ t m1 e1 h1. nodes n k prev le bef κ at.0 e ls c zero (begin X t) t m1 at.2 (fresh κ c t m1 at.0 e1 h1)))
+    nodes n k prev le bef κ pc e ls (Loop b c) j b0 s m0 at d =
+        let m = d.to in
+        let u = L.tick node_weight s in
+        let around = record { begins = pc; ends = at.0 } ∷ ls in
+        after κ m0 b0 s pc 0 n n e ls (X.M κ s) (does L n prev (Loop b c) s) (omega arith) d
+        (then_sim κ m (begin X s) at.0 e n ls (turn_done (does L n prev b u) (prev (Loop b Stop))) (does L n prev c)
+        (turn_sim κ m (begin X s) at.0 n k pc ls (does L n prev b u) (prev (Loop b Stop)) le (ticked κ node_weight s m at.0 n around (does L n prev b u)
+        (nodes n k prev le bef κ pc at.0 around b zero (begin X u) u m at.1 (fresh κ b u m pc d.at (parts.ticks κ node_weight s m d.held))))
         (λ t m1 e1 h1. bef κ pc at.0 ls (Loop b Stop) t m1 (at.0, at.1, refl) e1 h1))
-        (λ t m1 e1 h1. nodes n k prev le bef κ at.0 e ls c t m1 at.2 e1 h1)
-    nodes n k prev le bef κ pc e ls (Leave j c) s m at eq h =
-        let f = jump_node κ pc (end_of ls j) s m at.0 eq h in record { steps = f.steps; made = f.made; to = f.to; by = f.by; at = f.at; held = f.held; events = f.events; cost = f.cost; many = omega arith }
-    nodes n k prev le bef κ pc e ls (Again j c) s m at eq h = jump_node κ pc (begin_of ls j) s m at.0 eq h
-    nodes n k prev le bef κ pc e ls (Return w c) s m at eq h = parts.give κ pc w s m at.0 eq h
+        (λ t m1 e1 h1. nodes n k prev le bef κ at.0 e ls c zero (begin X t) t m1 at.2 (fresh κ c t m1 at.0 e1 h1)))
+    nodes n k prev le bef κ pc e ls (Leave i c) j b s m at d =
+        let f = jump_node κ pc (end_of ls i) s d.to at.0 d.at d.held in
+        came_came m b s (L.tick node_weight s) pc (end_of ls i) 0 1 0 0 (X.M κ s) (X.M κ (L.tick node_weight s)) d f (omega arith)
+    nodes n k prev le bef κ pc e ls (Again i c) j b s m at d =
+        let f = jump_node κ pc (begin_of ls i) s d.to at.0 d.at d.held in
+        came_came m b s (L.tick node_weight s) pc (begin_of ls i) 0 1 1 0 (X.M κ s) (X.M κ (L.tick node_weight s)) d f (omega arith)
+    nodes n k prev le bef κ pc e ls (Return w c) j b s m at d =
+        after κ m b s pc 0 n n e ls (X.M κ s) (does L n prev (Return w c) s) (omega arith) d (parts.give κ pc w s d.to at.0 d.at d.held)
 
     -- for every bound the machine follows the code
     pub follows : (n : ℕ) (κ : X.K) (pc e : ℕ) (ls : List Bounds) (c : NodesT Where) (s : L.S) (m : State) → At H (X.fn κ) ls pc c e → m.counter ≡ pc → X.M κ s m → Sim X κ m (begin X s) e n ls (runs L n c s)
     follows zero κ pc e ls c s m at eq h =
-        nodes zero 0 (below L zero) (omega arith) (λ κ1 pc1 e1 ls1 d t m1 a1 q1 h1. record { steps = 0; made = []; to = m1; left = X.answers t; by = reaches_here m1 (X.answers t); events = sym (append-nil (X.events t)); cost = omega arith; many = omega arith }) κ pc e ls c s m at eq h
+        nodes zero 0 (below L zero) (omega arith) (λ κ1 pc1 e1 ls1 d t m1 a1 q1 h1. record { steps = 0; made = []; to = m1; left = X.answers t; by = reaches_here m1 (X.answers t); events = sym (append-nil (X.events t)); cost = omega arith; many = omega arith }) κ pc e ls c zero (begin X s) s m at (fresh κ c s m pc eq h)
     follows (suc n) κ pc e ls c s m at eq h =
-        nodes (suc n) n (below L (suc n)) (omega arith) (λ κ1 pc1 e1 ls1 d t m1 a1 q1 h1. follows n κ1 pc1 e1 ls1 d t m1 a1 q1 h1) κ pc e ls c s m at eq h
+        nodes (suc n) n (below L (suc n)) (omega arith) (λ κ1 pc1 e1 ls1 d t m1 a1 q1 h1. follows n κ1 pc1 e1 ls1 d t m1 a1 q1 h1) κ pc e ls c zero (begin X s) s m at (fresh κ c s m pc eq h)

@@ -26,11 +26,12 @@ use Rattle.mid_code.specs.Invariants.{IsOp, IsLoop, parameter_count, AreNodes, A
 use Rattle.mid_code.specs.Runs.{weight}
 use Rattle.asm_laws.specs.Labelled.{HasLabel}
 use Rattle.asm_laws.specs.Names.{jump_label, literal_label, function_label}
-use Rattle.asm_laws.specs.Operations.{Frame, Whole, register, keep, fetches, keeps, keeps_some, is_in, hand, brings, takes, aim, lays, moves, changes, is_direct, in_place, apart, turned, is_turned, turned_or_apart, computes, slot_arg, slot_args, pushed_arg, pushed_args, popped_arg, popped_args, args_items, call_items, op_items, giving, start_frame, opening_items, literal_items, literals_items}
+use Rattle.asm_laws.specs.Operations.{Frame, Whole, register, keep, fetches, keeps, keeps_some, is_in, hand, brings, takes, aim, lays, moves, changes, is_direct, in_place, apart, turned, is_turned, turned_or_apart, computes, slot_arg, slot_args, pushed_arg, pushed_args, popped_arg, popped_args, args_items, call_items, op_items, in_one, one_or_more, more_of, giving, start_frame, opening_items, literal_items, literals_items}
 use Rattle.asm_laws.specs.Framing.{room_made}
-use Rattle.asm_laws.specs.Emitted.{labels, functions_labels, enclosing, jump, jump_unless, mark, first_part, second_part, choice, one_way, is_stop, enclosed, returning, code_items, entry_items, exit_items, function_items, functions_items, closing_items, start_items, program_items}
+use Rattle.asm_laws.specs.Emitted.{labels, functions_labels, enclosing, jump, jump_unless, mark, first_part, second_part, choice, one_way, is_stop, enclosed, returning, items_past, code_items, entry_items, exit_items, function_items, functions_items, closing_items, start_items, program_items}
 use Rattle.asm_laws.proofs.Programs.{mapped_from}
 use Rattle.asm_laws.proofs.Walked.{total_more}
+use Rattle.asm_laws.proofs.InOne.{one_or_more_is}
 use Rattle.asm_laws.proofs.Enclosing.{innermost, further}
 use Rattle.asm_laws.proofs.LabelKinds.{Differ}
 use Rattle.asm_laws.proofs.Sizes.{text_words, Counts, program_size, program_few, few_texts}
@@ -156,7 +157,7 @@ module _ (x : CodeT Where) (W : Whole) (Q : List ℕ → Type 0) (of_function : 
   turned_uses F o (Some u) t a b = one_of_both (is_turned t a b) (in_place F u (aim t) b a) (apart F o t a b) (in_place_uses F u (aim t) b a) (apart_uses F o t a b)
 
   computes_uses : (F : Frame) (o : TwoOf) (t a b : Where) → Uses Q (computes F o t a b)
-  computes_uses F o t a b = one_of_both (is_direct o t b) (in_place F o (aim t) a b) (turned_or_apart F o (turned o) t a b) (in_place_uses F o (aim t) a b) (turned_uses F o (turned o) t a b)
+  computes_uses F o t a b = one_of_both (is_direct t b) (in_place F o (aim t) a b) (turned_or_apart F o (turned o) t a b) (in_place_uses F o (aim t) a b) (turned_uses F o (turned o) t a b)
 
   slot_uses : (F G : Frame) (p a : Where) → Uses Q (slot_arg F G p a)
   slot_uses F G (Reg q) a = tt
@@ -209,6 +210,9 @@ module _ (x : CodeT Where) (W : Whole) (Q : List ℕ → Type 0) (of_function : 
   op_uses m F (OutO p a) ok = brought_uses F a 9 _ (tt, tt)
   op_uses m F WaitO ok = (tt, tt)
   op_uses m F HaltO ok = (tt, tt)
+
+  one_uses : (m : ℕ) (F : Frame) (o : OpT Where) (c : NodesT Where) → IsOp x m o → Uses Q (one_or_more W F o (in_one W o c))
+  one_uses m F o c ok = one_or_more_is W F (Uses Q) (λ v. Unit {0}) o c (λ t n e. (tt, tt)) (λ t k e. (tt, tt)) (op_uses m F o ok) (λ r q v lr lq h. (tt, tt)) (λ r q v lr lq h. (tt, tt))
 
   call_uses : (F : Frame) (t : Option Where) (g : ℕ) (args : List Where) → g < length x.functions → Uses Q (call_items W F t g args)
   call_uses F t g args ok = uses_append Q (args_items F (W.frames g) (W.params g) args) _ (args_uses F (W.frames g) (W.params g) args) (of_function g ok, some_uses F t)
@@ -269,44 +273,48 @@ module _ (x : CodeT Where) (W : Whole) (Q : List ℕ → Type 0) (of_function : 
         let q1 : Q (jump_label (n + 1)) = k (jump_label (n + 1)) (inr (marked_right a (mark (n + 1) ∷ []) (jump_label (n + 1)) (inl refl))) in
         (tt, uses_append Q a (mark (n + 1) ∷ []) (ua (enter ls n few qn q1 j) (λ x h. k x (inr (marked_left a (mark (n + 1) ∷ []) x h)))) (tt, tt))
 
-    pub code_uses : (m : ℕ) (c : NodesT Where) (bs : List Bool) (ls : List ℕ) (n : ℕ) → length ls ≡ length bs → AreNodes x m bs c → n + labels c < 2 ^ 32 - 1 → Jumpable ls → Knows (code_items W F out ls n c) → Uses Q (code_items W F out ls n c)
-    code_uses m Stop bs ls n same ok few j k = tt
-    code_uses m (Do o c) bs ls n same ok few j k =
-        let a = op_items W F o in
-        let b = code_items W F out ls n c in
-        uses_append Q a b (op_uses m F o ok.0) (code_uses m c bs ls n same ok.1 few j (λ w h. k w (marked_right a b w h)))
-    code_uses m (Call t g args c) bs ls n same ok few j k =
+    past_uses : (m : ℕ) (c : NodesT Where) (done : ℕ) (bs : List Bool) (ls : List ℕ) (n : ℕ) → length ls ≡ length bs → AreNodes x m bs c → n + labels c < 2 ^ 32 - 1 → Jumpable ls → Knows (items_past W F out ls n c done) → Uses Q (items_past W F out ls n c done)
+    past_uses m Stop done bs ls n same ok few j k = tt
+    past_uses m (Do o c) zero bs ls n same ok few j k =
+        let a = one_or_more W F o (in_one W o c) in
+        let b = items_past W F out ls n c (more_of (in_one W o c)) in
+        uses_append Q a b (one_uses m F o c ok.0) (past_uses m c (more_of (in_one W o c)) bs ls n same ok.1 few j (λ w h. k w (marked_right a b w h)))
+    past_uses m (Do o c) (suc done) bs ls n same ok few j k = past_uses m c done bs ls n same ok.1 few j k
+    past_uses m (Call t g args c) done bs ls n same ok few j k =
         let a = call_items W F t g args in
-        let b = code_items W F out ls n c in
-        uses_append Q a b (call_uses F t g args (function_there x g (length args) ok.0)) (code_uses m c bs ls n same ok.1 few j (λ w h. k w (marked_right a b w h)))
-    code_uses m (Choose p a b c) bs ls n same ok few j k =
-        let one = code_items W F out ls (n + 1) a in
-        let two = code_items W F out ls (n + 1 + labels a + 1) b in
+        let b = items_past W F out ls n c 0 in
+        uses_append Q a b (call_uses F t g args (function_there x g (length args) ok.0)) (past_uses m c 0 bs ls n same ok.1 few j (λ w h. k w (marked_right a b w h)))
+    past_uses m (Choose p a b c) done bs ls n same ok few j k =
+        let one = items_past W F out ls (n + 1) a 0 in
+        let two = items_past W F out ls (n + 1 + labels a + 1) b 0 in
         let xs = cond (is_stop b) (one_way F p n one) (choice F p n (n + 1 + labels a) one two) in
-        let ys = code_items W F out ls (n + (2 + labels a + labels b)) c in
+        let ys = items_past W F out ls (n + (2 + labels a + labels b)) c 0 in
         uses_append Q xs ys
-        (chosen_uses p n (n + 1 + labels a) (is_stop b) one two (λ w h. k w (marked_left xs ys w h)) (λ h. code_uses m a bs ls (n + 1) same ok.0 (omega (arith, few)) j h) (λ h. code_uses m b bs ls (n + 1 + labels a + 1) same ok.1 (omega (arith, few)) j h))
-        (code_uses m c bs ls (n + (2 + labels a + labels b)) same ok.2 (omega (arith, few)) j (λ w h. k w (marked_right xs ys w h)))
-    code_uses m (Block b c) bs ls n same ok few j k =
-        let one = code_items W F out (ls ++ n ∷ []) (n + 2) b in
+        (chosen_uses p n (n + 1 + labels a) (is_stop b) one two (λ w h. k w (marked_left xs ys w h)) (λ h. past_uses m a 0 bs ls (n + 1) same ok.0 (omega (arith, few)) j h) (λ h. past_uses m b 0 bs ls (n + 1 + labels a + 1) same ok.1 (omega (arith, few)) j h))
+        (past_uses m c 0 bs ls (n + (2 + labels a + labels b)) same ok.2 (omega (arith, few)) j (λ w h. k w (marked_right xs ys w h)))
+    past_uses m (Block b c) done bs ls n same ok few j k =
+        let one = items_past W F out (ls ++ n ∷ []) (n + 2) b 0 in
         let xs = enclosed n one in
-        let ys = code_items W F out ls (n + (2 + labels b)) c in
+        let ys = items_past W F out ls (n + (2 + labels b)) c 0 in
         uses_append Q xs ys
-        (enclosed_uses n one ls (omega (arith, few)) j (λ w h. k w (marked_left xs ys w h)) (λ i h. code_uses m b (false ∷ bs) (ls ++ n ∷ []) (n + 2) (deeper ls n bs false same) ok.0 (omega (arith, few)) i h))
-        (code_uses m c bs ls (n + (2 + labels b)) same ok.1 (omega (arith, few)) j (λ w h. k w (marked_right xs ys w h)))
-    code_uses m (Loop b c) bs ls n same ok few j k =
-        let one = code_items W F out (ls ++ n ∷ []) (n + 2) b in
+        (enclosed_uses n one ls (omega (arith, few)) j (λ w h. k w (marked_left xs ys w h)) (λ i h. past_uses m b 0 (false ∷ bs) (ls ++ n ∷ []) (n + 2) (deeper ls n bs false same) ok.0 (omega (arith, few)) i h))
+        (past_uses m c 0 bs ls (n + (2 + labels b)) same ok.1 (omega (arith, few)) j (λ w h. k w (marked_right xs ys w h)))
+    past_uses m (Loop b c) done bs ls n same ok few j k =
+        let one = items_past W F out (ls ++ n ∷ []) (n + 2) b 0 in
         let xs = enclosed n one in
-        let ys = code_items W F out ls (n + (2 + labels b)) c in
+        let ys = items_past W F out ls (n + (2 + labels b)) c 0 in
         uses_append Q xs ys
-        (enclosed_uses n one ls (omega (arith, few)) j (λ w h. k w (marked_left xs ys w h)) (λ i h. code_uses m b (true ∷ bs) (ls ++ n ∷ []) (n + 2) (deeper ls n bs true same) ok.0 (omega (arith, few)) i h))
-        (code_uses m c bs ls (n + (2 + labels b)) same ok.1 (omega (arith, few)) j (λ w h. k w (marked_right xs ys w h)))
-    code_uses m (Leave i c) bs ls n same ok few j k = ((j i (let l = ok.0 in omega (arith, l, same))).1, code_uses m c bs ls n same ok.1 few j k)
-    code_uses m (Again i c) bs ls n same ok few j k = ((j i (let l = loop_there bs i ok.0 in omega (arith, l, same))).0, code_uses m c bs ls n same ok.1 few j k)
-    code_uses m (Return p c) bs ls n same ok few j k =
+        (enclosed_uses n one ls (omega (arith, few)) j (λ w h. k w (marked_left xs ys w h)) (λ i h. past_uses m b 0 (true ∷ bs) (ls ++ n ∷ []) (n + 2) (deeper ls n bs true same) ok.0 (omega (arith, few)) i h))
+        (past_uses m c 0 bs ls (n + (2 + labels b)) same ok.1 (omega (arith, few)) j (λ w h. k w (marked_right xs ys w h)))
+    past_uses m (Leave i c) done bs ls n same ok few j k = ((j i (let l = ok.0 in omega (arith, l, same))).1, past_uses m c 0 bs ls n same ok.1 few j k)
+    past_uses m (Again i c) done bs ls n same ok few j k = ((j i (let l = loop_there bs i ok.0 in omega (arith, l, same))).0, past_uses m c 0 bs ls n same ok.1 few j k)
+    past_uses m (Return p c) done bs ls n same ok few j k =
         let a = returning F p out in
-        let b = code_items W F out ls n c in
-        uses_append Q a b (uses_append Q (giving F p) (jump out ∷ []) (giving_uses F p) (ends, tt)) (code_uses m c bs ls n same ok few j (λ w h. k w (marked_right a b w h)))
+        let b = items_past W F out ls n c 0 in
+        uses_append Q a b (uses_append Q (giving F p) (jump out ∷ []) (giving_uses F p) (ends, tt)) (past_uses m c 0 bs ls n same ok few j (λ w h. k w (marked_right a b w h)))
+
+    pub code_uses : (m : ℕ) (c : NodesT Where) (bs : List Bool) (ls : List ℕ) (n : ℕ) → length ls ≡ length bs → AreNodes x m bs c → n + labels c < 2 ^ 32 - 1 → Jumpable ls → Knows (code_items W F out ls n c) → Uses Q (code_items W F out ls n c)
+    code_uses m c bs ls n same ok few j k = past_uses m c 0 bs ls n same ok few j k
 
   -- ---- the whole program
 

@@ -4,6 +4,7 @@ pub mod Stepping
 pub mod Hands
 pub mod LinksStep
 pub mod OperationsStep
+pub mod InOneStep
 pub mod Lists
 pub mod First
 pub mod Change
@@ -29,6 +30,7 @@ pub mod PlacedAgrees
 pub mod Walked
 pub mod Enclosing
 pub mod LabelKinds
+pub mod InOne
 pub mod Marks
 pub mod Twice
 pub mod Sizes

@@ -1,5 +1,5 @@
 -- The labels of emitted items differ.
-use Rattle.std.proofs.Common.{◌≡◌, ◌≢◌, ℕ, ◌+◌, ◌^◌, ◌<◌, ◌≤◌, Bool, true, false, cond, List, [], ◌∷◌, ◌++◌, length, map, Option, Some, None, refl, sym, ◌∙◌, subst, arith, append_assoc}
+use Rattle.std.proofs.Common.{◌≡◌, ◌≢◌, ℕ, zero, suc, ◌+◌, ◌^◌, ◌<◌, ◌≤◌, Bool, true, false, cond, List, [], ◌∷◌, ◌++◌, length, map, Option, Some, None, refl, sym, ◌∙◌, subst, arith, append_assoc}
 use Rattle.std.specs.Prelude.{◌==◌}
 use Rattle.either.specs.declared.Either.TheVariants.{Left}
 use Rattle.v32_isa.specs.declared.instruction.One.{One as OneOf}
@@ -13,9 +13,10 @@ use Rattle.mid_code.specs.declared.placed.Where.{Where}
 use Rattle.mid_code.specs.declared.placed.Where.TheVariants.{Reg, Slot}
 use Rattle.mid_code.specs.Code.{OpT, ConstO, NullO, MoveO, OneO, TwoO, GlobalO, LocalO, LiteralO, CardO, StepO, ApartO, PtrTestO, LoadO, StoreO, FreshO, EndO, InO, OutO, WaitO, HaltO, NodesT, Stop, Do, Call, Choose, Block, Loop, Leave, Again, Return, FunctionT, CodeT}
 use Rattle.asm_laws.specs.Names.{function_label, literal_label}
-use Rattle.asm_laws.specs.Operations.{Frame, Whole, register, keep, fetches, keeps_some, is_in, hand, brings, takes, aim, lays, moves, changes, is_direct, in_place, apart, turned, is_turned, turned_or_apart, computes, slot_arg, slot_args, pushed_arg, pushed_args, popped_arg, popped_args, args_items, call_items, op_items, giving, start_frame, opening_items, literal_items, literals_items}
+use Rattle.asm_laws.specs.Operations.{Frame, Whole, register, keep, fetches, keeps_some, is_in, hand, brings, takes, aim, lays, moves, changes, is_direct, in_place, apart, turned, is_turned, turned_or_apart, computes, slot_arg, slot_args, pushed_arg, pushed_args, popped_arg, popped_args, args_items, call_items, op_items, in_one, one_or_more, more_of, giving, start_frame, opening_items, literal_items, literals_items}
 use Rattle.asm_laws.specs.Framing.{frame_made}
-use Rattle.asm_laws.specs.Emitted.{labels, functions_labels, enclosing, jump, jump_unless, mark, choice, one_way, is_stop, enclosed, returning, code_items, entry_items, exit_items, function_items, functions_items, closing_items, start_items, program_items, labels_of}
+use Rattle.asm_laws.specs.Emitted.{labels, functions_labels, enclosing, jump, jump_unless, mark, choice, one_way, is_stop, enclosed, returning, items_past, code_items, entry_items, exit_items, function_items, functions_items, closing_items, start_items, program_items, labels_of}
+use Rattle.asm_laws.proofs.InOne.{one_or_more_is}
 use Rattle.asm_laws.proofs.LabelKinds.{Differ, Kind, Jump, Fun, Text, name_of, Valid, kind_same, Range, Box, Within, Aside, jumps, jumps_within, jumps_below, jumps_above}
 
 -- ---- labels of items
@@ -146,7 +147,7 @@ module _ (W : Whole) (differ : Differ W.names) where
   turned_bare F o (Some u) t a b = one_of_both (is_turned t a b) (in_place F u (aim t) b a) (apart F o t a b) (in_place_bare F u (aim t) b a) (apart_bare F o t a b)
 
   computes_bare : (F : Frame) (o : TwoOf) (t a b : Where) → Bare (computes F o t a b)
-  computes_bare F o t a b = one_of_both (is_direct o t b) (in_place F o (aim t) a b) (turned_or_apart F o (turned o) t a b) (in_place_bare F o (aim t) a b) (turned_bare F o (turned o) t a b)
+  computes_bare F o t a b = one_of_both (is_direct t b) (in_place F o (aim t) a b) (turned_or_apart F o (turned o) t a b) (in_place_bare F o (aim t) a b) (turned_bare F o (turned o) t a b)
 
   slot_bare : (F G : Frame) (p a : Where) → Bare (slot_arg F G p a)
   slot_bare F G (Reg q) a = tt
@@ -200,6 +201,9 @@ module _ (W : Whole) (differ : Differ W.names) where
   op_bare F WaitO = tt
   op_bare F HaltO = tt
 
+  one_bare : (F : Frame) (o : OpT Where) (c : NodesT Where) → Bare (one_or_more W F o (in_one W o c))
+  one_bare F o c = one_or_more_is W F (λ xs. Bare xs) (λ v. Unit {0}) o c (λ t n e. (tt, tt)) (λ t k e. (tt, tt)) (op_bare F o) (λ r q v lr lq h. tt) (λ r q v lr lq h. tt)
+
   call_bare : (F : Frame) (t : Option Where) (g : ℕ) (args : List Where) → Bare (call_items W F t g args)
   call_bare F t g args = names_append (λ m. ⊥) (args_items F (W.frames g) (W.params g) args) _ (args_bare F (W.frames g) (W.params g) args) (some_bare F t)
 
@@ -235,30 +239,36 @@ module _ (W : Whole) (differ : Differ W.names) where
       rising n (n + 1) e (mark n ∷ []) (a ++ mark (n + 1) ∷ []) (omega arith) (omega arith) (mark_one n (omega arith)) (falling (n + 1) (n + 2) e a (mark (n + 1) ∷ []) (omega arith) x ma last)
 
   module _ (F : Frame) (out : ℕ) where
-    pub code_marks : (c : NodesT Where) (ls : List ℕ) (n e : ℕ) → n + labels c ≡ e → e ≤ 2 ^ 32 → Marks (jumps n e) (code_items W F out ls n c)
-    code_marks Stop ls n e is few = marks_bare (jumps n e) [] tt
-    code_marks (Do o c) ls n e is few = bare_then (jumps n e) (op_items W F o) (code_items W F out ls n c) (op_bare F o) (code_marks c ls n e is few)
-    code_marks (Call t g args c) ls n e is few = bare_then (jumps n e) (call_items W F t g args) (code_items W F out ls n c) (call_bare F t g args) (code_marks c ls n e is few)
-    code_marks (Choose p a b c) ls n e is few =
+    past_marks : (c : NodesT Where) (done : ℕ) (ls : List ℕ) (n e : ℕ) → n + labels c ≡ e → e ≤ 2 ^ 32 → Marks (jumps n e) (items_past W F out ls n c done)
+    past_marks Stop done ls n e is few = marks_bare (jumps n e) [] tt
+    past_marks (Do o c) zero ls n e is few =
+        let more = more_of (in_one W o c) in
+        bare_then (jumps n e) (one_or_more W F o (in_one W o c)) (items_past W F out ls n c more) (one_bare F o c) (past_marks c more ls n e is few)
+    past_marks (Do o c) (suc done) ls n e is few = past_marks c done ls n e is few
+    past_marks (Call t g args c) done ls n e is few = bare_then (jumps n e) (call_items W F t g args) (items_past W F out ls n c 0) (call_bare F t g args) (past_marks c 0 ls n e is few)
+    past_marks (Choose p a b c) done ls n e is few =
         let m = n + 1 + labels a in
         let k = n + (2 + labels a + labels b) in
-        rising n k e (cond (is_stop b) (one_way F p n (code_items W F out ls (n + 1) a)) (choice F p n m (code_items W F out ls (n + 1) a) (code_items W F out ls (m + 1) b))) (code_items W F out ls k c) (omega arith) (omega (arith, is))
-        (chosen_marks F p n m k (is_stop b) (code_items W F out ls (n + 1) a) (code_items W F out ls (m + 1) b) (omega arith) (omega arith) (omega (arith, is, few))
-        (code_marks a ls (n + 1) m (omega arith) (omega (arith, is, few))) (code_marks b ls (m + 1) k (omega arith) (omega (arith, is, few))))
-        (code_marks c ls k e (omega (arith, is)) few)
-    code_marks (Block b c) ls n e is few =
+        rising n k e (cond (is_stop b) (one_way F p n (items_past W F out ls (n + 1) a 0)) (choice F p n m (items_past W F out ls (n + 1) a 0) (items_past W F out ls (m + 1) b 0))) (items_past W F out ls k c 0) (omega arith) (omega (arith, is))
+        (chosen_marks F p n m k (is_stop b) (items_past W F out ls (n + 1) a 0) (items_past W F out ls (m + 1) b 0) (omega arith) (omega arith) (omega (arith, is, few))
+        (past_marks a 0 ls (n + 1) m (omega arith) (omega (arith, is, few))) (past_marks b 0 ls (m + 1) k (omega arith) (omega (arith, is, few))))
+        (past_marks c 0 ls k e (omega (arith, is)) few)
+    past_marks (Block b c) done ls n e is few =
         let k = n + (2 + labels b) in
-        rising n k e (enclosed n (code_items W F out (ls ++ n ∷ []) (n + 2) b)) (code_items W F out ls k c) (omega arith) (omega (arith, is))
-        (enclosed_marks n k (code_items W F out (ls ++ n ∷ []) (n + 2) b) (omega arith) (omega (arith, is, few)) (code_marks b (ls ++ n ∷ []) (n + 2) k (omega arith) (omega (arith, is, few))))
-        (code_marks c ls k e (omega (arith, is)) few)
-    code_marks (Loop b c) ls n e is few =
+        rising n k e (enclosed n (items_past W F out (ls ++ n ∷ []) (n + 2) b 0)) (items_past W F out ls k c 0) (omega arith) (omega (arith, is))
+        (enclosed_marks n k (items_past W F out (ls ++ n ∷ []) (n + 2) b 0) (omega arith) (omega (arith, is, few)) (past_marks b 0 (ls ++ n ∷ []) (n + 2) k (omega arith) (omega (arith, is, few))))
+        (past_marks c 0 ls k e (omega (arith, is)) few)
+    past_marks (Loop b c) done ls n e is few =
         let k = n + (2 + labels b) in
-        rising n k e (enclosed n (code_items W F out (ls ++ n ∷ []) (n + 2) b)) (code_items W F out ls k c) (omega arith) (omega (arith, is))
-        (enclosed_marks n k (code_items W F out (ls ++ n ∷ []) (n + 2) b) (omega arith) (omega (arith, is, few)) (code_marks b (ls ++ n ∷ []) (n + 2) k (omega arith) (omega (arith, is, few))))
-        (code_marks c ls k e (omega (arith, is)) few)
-    code_marks (Leave k c) ls n e is few = bare_then (jumps n e) (jump _ ∷ []) (code_items W F out ls n c) tt (code_marks c ls n e is few)
-    code_marks (Again k c) ls n e is few = bare_then (jumps n e) (jump (enclosing ls k) ∷ []) (code_items W F out ls n c) tt (code_marks c ls n e is few)
-    code_marks (Return p c) ls n e is few = bare_then (jumps n e) (returning F p out) (code_items W F out ls n c) (names_append (λ m. ⊥) (giving F p) (jump out ∷ []) (giving_bare F p) tt) (code_marks c ls n e is few)
+        rising n k e (enclosed n (items_past W F out (ls ++ n ∷ []) (n + 2) b 0)) (items_past W F out ls k c 0) (omega arith) (omega (arith, is))
+        (enclosed_marks n k (items_past W F out (ls ++ n ∷ []) (n + 2) b 0) (omega arith) (omega (arith, is, few)) (past_marks b 0 (ls ++ n ∷ []) (n + 2) k (omega arith) (omega (arith, is, few))))
+        (past_marks c 0 ls k e (omega (arith, is)) few)
+    past_marks (Leave k c) done ls n e is few = bare_then (jumps n e) (jump _ ∷ []) (items_past W F out ls n c 0) tt (past_marks c 0 ls n e is few)
+    past_marks (Again k c) done ls n e is few = bare_then (jumps n e) (jump (enclosing ls k) ∷ []) (items_past W F out ls n c 0) tt (past_marks c 0 ls n e is few)
+    past_marks (Return p c) done ls n e is few = bare_then (jumps n e) (returning F p out) (items_past W F out ls n c 0) (names_append (λ m. ⊥) (giving F p) (jump out ∷ []) (giving_bare F p) tt) (past_marks c 0 ls n e is few)
+
+    pub code_marks : (c : NodesT Where) (ls : List ℕ) (n e : ℕ) → n + labels c ≡ e → e ≤ 2 ^ 32 → Marks (jumps n e) (code_items W F out ls n c)
+    code_marks c ls n e is few = past_marks c 0 ls n e is few
 
   -- ---- the whole program
 

@@ -35,12 +35,12 @@ use Rattle.mid_code.specs.declared.placed.Where.TheVariants.{Reg, Slot}
 use Rattle.mid_code.specs.Code.{OpT, ConstO, NullO, MoveO, OneO, TwoO, GlobalO, LocalO, LiteralO, CardO, StepO, ApartO, PtrTestO, LoadO, StoreO, FreshO, EndO, InO, OutO, WaitO, HaltO}
 use Rattle.mid_code.specs.States.{op_weight}
 use Rattle.asm_laws.specs.Names.{literal_label}
-use Rattle.asm_laws.specs.Operations.{Frame, Whole, register, local_word, fetch, keep, fetches, keeps, is_in, hand, brings, takes, aim, lays, sets, moves, changes, is_division, is_direct, in_place, apart, turned, is_turned, turned_or_apart, computes, op_items}
+use Rattle.asm_laws.specs.Operations.{Frame, Whole, register, local_word, fetch, keep, fetches, keeps, is_in, hand, brings, takes, aim, lays, sets, moves, changes, is_direct, in_place, apart, turned, is_turned, turned_or_apart, computes, op_items}
 use Rattle.asm_laws.specs.Operations as emitted
 use Rattle.asm_laws.specs.Placing.{Line}
 use Rattle.asm_laws.specs.Standing.{Stand}
 use Rattle.asm_laws.specs.Addresses.{Addr, Console, readable, writable, word_of, local_address, put, Room, Good, Does, Goes, Ends, computed, loaded, saved, asked, does, IsPlainOne, GoodOp, Held, Arrives, HasEnded, Follows}
-use Rattle.asm_laws.proofs.Stepping.{same_or_not, written_same, written_other, readable_word, unreadable_word, writes_at, line_effect, reg_same, took, scratch, kept, moved, stores, reg_number, fetch_effect, fetches_so}
+use Rattle.asm_laws.proofs.Stepping.{same_or_not, written_same, written_other, same_word, readable_word, unreadable_word, writes_at, line_effect, reg_same, took, scratch, kept, moved, stores, reg_number, fetch_effect, fetches_so}
 use Rattle.asm_laws.proofs.Hands.{like_self, with_reg, like_with, hand_fits, aim_fits, aim_low, hand_other, held_alike, brings_at, takes_at, word_other, kept_at, lays_from, lays_at}
 use Rattle.asm_laws.proofs.Split.{split}
 
@@ -58,15 +58,21 @@ later C j n limit s t xs pc a (Ends how) r le f = record {
   steps = j + f.steps;
   to = f.to;
   by = λ k. (let e : j + f.steps + k ≡ j + (f.steps + k) = omega arith in ap (λ m. run m s xs) e) ∙ r (f.steps + k) ∙ ap (before []) (f.by k);
+  shown = f.shown;
   held = f.held;
+  memory = f.memory;
   few = omega (arith, f.few);
 }
 
 one_then : (n : ℕ) (s : State) (xs : List ℕ) (r : Run) → run (suc n) s xs ≡ r → run (1 + n) s xs ≡ r
 one_then n s xs r e = (let k : 1 + n ≡ suc n = omega arith in ap (λ m. run m s xs) k) ∙ e
 
-faults : (C : Console) (a : Addr) (s : State) (xs : List ℕ) (k : ℕ) → Held C a s → effect_of s ≡ EndsIn (stepped.Fault k) s → HasEnded C 1 s xs (machine.Fault k) a
-faults C a s xs k h e = record { steps = 1; to = s; by = λ n. one_then n s xs (ended (machine.Fault k) s) (run-fault n s s k xs e); held = h; few = omega arith }
+-- a fault, where other registers than those of a machine that holds the words may have changed
+pub faults_like : (C : Console) (a b : Addr) (s t : State) (xs : List ℕ) (limit k : ℕ) → 1 ≤ limit → Held C b s → Held C a t → ((q : ℕ) → b.memory q ≡ a.memory q) → effect_of s ≡ EndsIn (stepped.Fault k) s → HasEnded C limit s xs (machine.Fault k) a
+faults_like C a b s t xs limit k le h g m e = record { steps = 1; to = s; by = λ n. one_then n s xs (ended (machine.Fault k) s) (run-fault n s s k xs e); shown = t; held = g; memory = same_word C b a s t h g m; few = le }
+
+faults : (C : Console) (a : Addr) (s : State) (xs : List ℕ) (limit k : ℕ) → 1 ≤ limit → Held C a s → effect_of s ≡ EndsIn (stepped.Fault k) s → HasEnded C limit s xs (machine.Fault k) a
+faults C a s xs limit k le h e = faults_like C a a s s xs limit k le h h (λ q. refl) e
 
 -- operators that work on one word have an answer
 one_some : (o : OneOf) (v : ℕ) → IsPlainOne o → (w : ℕ) × (one_of o v ≡ Some w)
@@ -79,48 +85,27 @@ one_some BNOT v ok = (_, refl)
 one_some ISGN v ok = (_, refl)
 one_some IABS v ok = (_, refl)
 
--- and so have those on two that are no divisions
-two_some : (o : TwoOf) (v w : ℕ) → is_division o ≡ false → (x : ℕ) × (two_of o v w ≡ Some x)
-two_some IEQ v w off = (_, refl)
-two_some INE v w off = (_, refl)
-two_some IGT v w off = (_, refl)
-two_some IGE v w off = (_, refl)
-two_some ILT v w off = (_, refl)
-two_some ILE v w off = (_, refl)
-two_some AND v w off = (_, refl)
-two_some OR v w off = (_, refl)
-two_some XOR v w off = (_, refl)
-two_some SHL v w off = (_, refl)
-two_some IADD v w off = (_, refl)
-two_some ISUB v w off = (_, refl)
-two_some IMUL v w off = (_, refl)
-two_some IDIV v w off = absurd cc
-two_some IMOD v w off = absurd cc
-two_some IMIN v w off = (_, refl)
-two_some IMAX v w off = (_, refl)
-
-neither : (x y : Bool) → not x && not y ≡ true → (x ≡ false) × (y ≡ false)
-neither true y e = absurd cc
-neither false true e = absurd cc
-neither false false e = (refl, refl)
+off : (x : Bool) → not x ≡ true → x ≡ false
+off true e = absurd cc
+off false e = refl
 
 abbrev lays_none : Where → Type 0
 lays_none (Reg q) = Unit {0}
 lays_none (Slot k) = ⊥
 
--- a direct operator does not fault, and its second word is not where its target is
-direct : (o : TwoOf) (t b : Where) → is_direct o t b ≡ true → (is_division o ≡ false) × (is_in b (aim t) ≡ false) × (lays_none t)
-direct o (Reg q) b e = let n = neither (is_division o) (is_in b (register q)) e in (n.0, n.1, tt)
-direct o (Slot k) b e = absurd cc
+-- a direct operator's second word is not where its target is
+direct : (t b : Where) → is_direct t b ≡ true → (is_in b (aim t) ≡ false) × (lays_none t)
+direct (Reg q) b e = (off (is_in b (register q)) e, tt)
+direct (Slot k) b e = absurd cc
 
 -- ---- operators with their words the other way round
 
--- such an operator makes the same of them, and does not fault
+-- such an operator makes the same of them
 abbrev TurnsTo : TwoOf → Option TwoOf → Type 0
 TurnsTo o None = Unit {0}
-TurnsTo o (Some u) = (is_division u ≡ false) × ((x y : ℕ) → two_of u y x ≡ two_of o x y)
+TurnsTo o (Some u) = (x y : ℕ) → two_of u y x ≡ two_of o x y
 
-sum_turned : (x y : ℕ) → add y x ≡ add x y
+pub sum_turned : (x y : ℕ) → add y x ≡ add x y
 sum_turned x y = ap (λ z. z % 2 ^ 32) (omega arith)
 
 product_turned : (x y : ℕ) → mul y x ≡ mul x y
@@ -139,32 +124,31 @@ equal_turned x y = elim (same_or_not y x) [
 ]
 
 turns : (o : TwoOf) → TurnsTo o (turned o)
-turns IEQ = (refl, λ x y. ap (λ b. Some (bool_word b)) (equal_turned x y))
-turns INE = (refl, λ x y. ap (λ b. Some (bool_word (not b))) (equal_turned x y))
-turns IGT = (refl, λ x y. refl)
-turns IGE = (refl, λ x y. refl)
-turns ILT = (refl, λ x y. refl)
-turns ILE = (refl, λ x y. refl)
-turns AND = (refl, λ x y. ap Some (and_comm y x))
-turns OR = (refl, λ x y. ap Some (or_comm y x))
-turns XOR = (refl, λ x y. ap Some (xor_comm y x))
+turns IEQ = λ x y. ap (λ b. Some (bool_word b)) (equal_turned x y)
+turns INE = λ x y. ap (λ b. Some (bool_word (not b))) (equal_turned x y)
+turns IGT = λ x y. refl
+turns IGE = λ x y. refl
+turns ILT = λ x y. refl
+turns ILE = λ x y. refl
+turns AND = λ x y. ap Some (and_comm y x)
+turns OR = λ x y. ap Some (or_comm y x)
+turns XOR = λ x y. ap Some (xor_comm y x)
 turns SHL = tt
-turns IADD = (refl, λ x y. ap Some (sum_turned x y))
+turns IADD = λ x y. ap Some (sum_turned x y)
 turns ISUB = tt
-turns IMUL = (refl, λ x y. ap Some (product_turned x y))
+turns IMUL = λ x y. ap Some (product_turned x y)
 turns IDIV = tt
 turns IMOD = tt
 turns IMIN = tt
 turns IMAX = tt
 
-both_off : (d x y : Bool) → d ≡ false → x && not y ≡ true → not d && not y ≡ true
-both_off true x y n e = absurd cc
-both_off false true y n e = e
-both_off false false y n e = absurd cc
+second_on : (x y : Bool) → x && y ≡ true → y ≡ true
+second_on true y e = e
+second_on false y e = absurd cc
 
-turned_direct : (u : TwoOf) (t q r : Where) → is_division u ≡ false → is_turned t q r ≡ true → is_direct u t q ≡ true
-turned_direct u (Slot k) q r n e = absurd cc
-turned_direct u (Reg k) q r n e = both_off (is_division u) (is_in r (register k)) (is_in q (register k)) n e
+turned_direct : (t q r : Where) → is_turned t q r ≡ true → is_direct t q ≡ true
+turned_direct (Slot k) q r e = absurd cc
+turned_direct (Reg k) q r e = second_on (is_in r (register k)) (not (is_in q (register k))) e
 
 module _ (C : Console) (address : List ℕ → ℕ) (W : Whole) (F : Frame) (a : Addr) (room : Room F a) where
   abbrev Here : ℕ → List AsmItem → ℕ → Type 0
@@ -185,7 +169,7 @@ module _ (C : Console) (address : List ℕ → ℕ) (W : Whole) (F : Frame) (a :
 
   -- a word that may not be there, made in register 9
   computed_at : (s : State) (xs : List ℕ) (next p : ℕ) (v : Option ℕ) (t : Where) → Good F t → Held C a s → effect_of s ≡ taking 9 v next s → Here next (keeps F t ∷ []) p → Follows C 2 s xs p a (computed F t v xs a)
-  computed_at s xs next p None t good h e k = let f = faults C a s xs 6 h e in record { steps = f.steps; to = f.to; by = f.by; held = f.held; few = omega (arith, f.few) }
+  computed_at s xs next p None t good h e k = faults C a s xs 2 6 (omega arith) h e
   computed_at s xs next p (Some v) t good h e k =
       later C 1 1 2 s (took C next 9 v s) xs p a (Goes [] xs (put F t v a)) (reaches_went s (took C next 9 v s) xs e) (omega arith)
       (kept_at C F address a (took C next 9 v s) xs next p 9 v t (omega arith) room good (scratch C a s next 9 v (omega arith) (omega arith) h) refl (nine s next v h) k)
@@ -242,7 +226,7 @@ module _ (C : Console) (address : List ℕ → ℕ) (W : Whole) (F : Frame) (a :
       (later C r.steps 2 3 s u xs p a (Goes [] xs (put F t x.0 a)) r.by (let f = r.few in omega (arith, f)) (lays_at C F address a (with_reg m v a) u xs l.0 p x.0 t room gt (like_with m v a) r.held eff l.2))
 
   -- an operator in the register of its target
-  in_place_at : (s : State) (xs : List ℕ) (pc p : ℕ) (o : TwoOf) (t q r : Where) → is_direct o t r ≡ true → Good F t → Good F q → Good F r → Held C a s → s.counter ≡ pc → Here pc (in_place F o (aim t) q r) p →
+  in_place_at : (s : State) (xs : List ℕ) (pc p : ℕ) (o : TwoOf) (t q r : Where) → is_direct t r ≡ true → Good F t → Good F q → Good F r → Held C a s → s.counter ≡ pc → Here pc (in_place F o (aim t) q r) p →
       Follows C 4 s xs p a (computed F t (two_of o (word_of F q a) (word_of F r a)) xs a)
   unfolding act
   in_place_at s xs pc p o t q r ok gt gq gr h e k =
@@ -251,28 +235,29 @@ module _ (C : Console) (address : List ℕ → ℕ) (W : Whole) (F : Frame) (a :
       let v = word_of F q a in
       let w = word_of F r a in
       let b = with_reg m v a in
-      let off = direct o t r ok in
+      let off = direct t r ok in
       let d = parts (takes F q m) (brings F r 10 ++ item.Op (instr.Two o m (src.Reg (hand r 10))) ∷ []) pc p k in
       let f = takes_at C F address a s xs pc d.0 q m room gq (omega (arith, lt)) h e d.1 in
       let g = parts (brings F r 10) (item.Op (instr.Two o m (src.Reg (hand r 10))) ∷ []) d.0 p d.2 in
-      let same : word_of F r b ≡ w = word_other C F address a r m v gr off.1 in
+      let same : word_of F r b ≡ w = word_other C F address a r m v gr off.0 in
       let i = brings_at C F address b f.to xs d.0 g.0 r 10 (record { low = room.low; high = room.high }) gr (omega arith) (omega arith) f.held f.at g.1 in
       let u = i.to in
-      let x = two_some o v w off.0 in
       let l = g.2 in
       let first : register_of u m ≡ v = i.others m (λ z. omega (arith, lt, z)) ∙ f.is in
       let second : register_of u (hand r 10) ≡ w = i.is ∙ same in
       let eff0 : effect_of u ≡ taking m (two_of o (register_of u m) (register_of u (hand r 10))) l.0 u = line_effect C b u g.0 (instr.Two o m (src.Reg (hand r 10))) l.0 i.held i.at l.1 (aim_fits t, hand_fits r 10 (omega arith), omega arith) in
-      let eff : effect_of u ≡ EndsIn stepped.Went (took C l.0 m x.0 u) = eff0 ∙ ap (λ z. taking m (two_of o z (register_of u (hand r 10))) l.0 u) first ∙ ap (λ z. taking m (two_of o v z) l.0 u) second ∙ ap (λ z. taking m z l.0 u) x.1 in
-      let none : Here l.0 (lays F t) p = no_lays t off.2 l.2 in
-      let last = lays_at C F address a b u xs l.0 p x.0 t room gt (like_with m v a) i.held eff none in
-      subst (λ z. Follows C 4 s xs p a (computed F t z xs a)) (sym x.1)
-      (later C f.steps 3 4 s f.to xs p a (Goes [] xs (put F t x.0 a)) f.by (let n = f.few in omega (arith, n))
-      (later C i.steps 2 3 f.to u xs p a (Goes [] xs (put F t x.0 a)) i.by (let n = i.few in omega (arith, n)) last))
+      let eff : effect_of u ≡ taking m (two_of o v w) l.0 u = eff0 ∙ ap (λ z. taking m (two_of o z (register_of u (hand r 10))) l.0 u) first ∙ ap (λ z. taking m (two_of o v z) l.0 u) second in
+      later C f.steps 3 4 s f.to xs p a (computed F t (two_of o v w) xs a) f.by (let n = f.few in omega (arith, n))
+      (later C i.steps 2 3 f.to u xs p a (computed F t (two_of o v w) xs a) i.by (let n = i.few in omega (arith, n)) (last (two_of o v w) u l.0 i.held eff (no_lays t off.1 l.2)))
     where
       no_lays : {e f : ℕ} (t : Where) → lays_none t → e ≡ f → Here e (lays F t) f
       no_lays (Reg q) n h = h
       no_lays (Slot j) n h = absurd n
+
+      -- a division may fault, with the first word in its target's register
+      last : (z : Option ℕ) (u : State) (next : ℕ) → Held C (with_reg (aim t) (word_of F q a) a) u → effect_of u ≡ taking (aim t) z next u → Here next (lays F t) p → Follows C 2 u xs p a (computed F t z xs a)
+      last None u next hu eff k = faults_like C a (with_reg (aim t) (word_of F q a) a) u s xs 2 6 (omega arith) hu h (λ q. refl) eff
+      last (Some x) u next hu eff k = lays_at C F address a (with_reg (aim t) (word_of F q a) a) u xs next p x t room gt (like_with (aim t) (word_of F q a) a) hu eff k
 
   -- an operator in register 9
   apart_at : (s : State) (xs : List ℕ) (pc p : ℕ) (o : TwoOf) (t q r : Where) → Good F t → Good F q → Good F r → Held C a s → s.counter ≡ pc → Here pc (apart F o t q r) p →
@@ -302,14 +287,14 @@ module _ (C : Console) (address : List ℕ → ℕ) (W : Whole) (F : Frame) (a :
     where
       go : (b : Bool) → is_turned t q r ≡ b → Here pc (cond b (in_place F u (aim t) r q) (apart F o t q r)) p → Follows C 4 s xs p a (computed F t (two_of o (word_of F q a) (word_of F r a)) xs a)
       go true is k =
-          subst (λ z. Follows C 4 s xs p a (computed F t z xs a)) (same.1 (word_of F q a) (word_of F r a))
-          (in_place_at s xs pc p u t r q (turned_direct u t q r same.0 is) gt gr gq h e k)
+          subst (λ z. Follows C 4 s xs p a (computed F t z xs a)) (same (word_of F q a) (word_of F r a))
+          (in_place_at s xs pc p u t r q (turned_direct t q r is) gt gr gq h e k)
       go false is k = apart_at s xs pc p o t q r gt gq gr h e k
 
   computes_at : (s : State) (xs : List ℕ) (pc p : ℕ) (o : TwoOf) (t q r : Where) → Good F t → Good F q → Good F r → Held C a s → s.counter ≡ pc → Here pc (computes F o t q r) p → Follows C 4 s xs p a (computed F t (two_of o (word_of F q a) (word_of F r a)) xs a)
-  computes_at s xs pc p o t q r gt gq gr h e k = go (is_direct o t r) refl k
+  computes_at s xs pc p o t q r gt gq gr h e k = go (is_direct t r) refl k
     where
-      go : (b : Bool) → is_direct o t r ≡ b → Here pc (cond b (in_place F o (aim t) q r) (turned_or_apart F o (turned o) t q r)) p → Follows C 4 s xs p a (computed F t (two_of o (word_of F q a) (word_of F r a)) xs a)
+      go : (b : Bool) → is_direct t r ≡ b → Here pc (cond b (in_place F o (aim t) q r) (turned_or_apart F o (turned o) t q r)) p → Follows C 4 s xs p a (computed F t (two_of o (word_of F q a) (word_of F r a)) xs a)
       go true is k = in_place_at s xs pc p o t q r is gt gq gr h e k
       go false is k = turned_at s xs pc p o (turned o) t q r (turns o) gt gq gr h e k
 
@@ -338,7 +323,7 @@ module _ (C : Console) (address : List ℕ → ℕ) (W : Whole) (F : Frame) (a :
           last : (b : Bool) → readable C (word_of F q a) ≡ b → (u : State) → Held C a u → register_of u (hand q 9) ≡ word_of F q a → (next : ℕ) → effect_of u ≡ act (instr.Mov (RegAtReg (aim t) (hand q 9))) next u → Here next (lays F t) p → Follows C 2 u xs p a (loaded b F t (a.memory (word_of F q a)) xs a)
           last true ok u hu is next eff l = laid u xs next p (a.memory (word_of F q a)) t gt hu (eff ∙ load_effect u (aim t) (hand q 9) (word_of F q a) (a.memory (word_of F q a)) next is (readable_word C a u (word_of F q a) hu ok)) l
           last false not_so u hu is next eff l =
-              let f = faults C a u xs 0 hu (eff ∙ load_fails u (aim t) (hand q 9) (word_of F q a) next is (unreadable_word C a u (word_of F q a) hu not_so)) in record { steps = f.steps; to = f.to; by = f.by; held = f.held; few = let n = f.few in omega (arith, n) }
+              faults C a u xs 2 0 (omega arith) hu (eff ∙ load_fails u (aim t) (hand q 9) (word_of F q a) next is (unreadable_word C a u (word_of F q a) hu not_so))
 
   store_effect : (s : State) (r m q v next : ℕ) → register_of s r ≡ q → register_of s m ≡ v → is_writable_at s q ≡ true → act (instr.Mov (AtRegReg r m)) next s ≡ EndsIn stepped.Went (going_to next (stored s q v))
   unfolding act
@@ -368,7 +353,7 @@ module _ (C : Console) (address : List ℕ → ℕ) (W : Whole) (F : Frame) (a :
           let w = word_of F r a in
           let e = eff ∙ store_effect u (hand q 9) (hand r 10) v w next isq isr (writes_at C a u v hu ∙ ok) in
           record { steps = 1; to = going_to next (stored u v w); by = reaches_went u (going_to next (stored u v w)) xs e; at = z; held = stores C a u next v w ok hu; few = omega arith }
-      last false not_so u hu isq isr next eff z = faults C a u xs 1 hu (eff ∙ store_fails u (hand q 9) (hand r 10) (word_of F q a) next isq (writes_at C a u (word_of F q a) hu ∙ not_so))
+      last false not_so u hu isq isr next eff z = faults C a u xs 1 1 (omega arith) hu (eff ∙ store_fails u (hand q 9) (hand r 10) (word_of F q a) next isq (writes_at C a u (word_of F q a) hu ∙ not_so))
 
   asked_effect : (s : State) (m port next : ℕ) → is_readable port ≡ true → act (instr.In m port) next s ≡ Asks m port next s
   unfolding act
@@ -391,7 +376,7 @@ module _ (C : Console) (address : List ℕ → ℕ) (W : Whole) (F : Frame) (a :
       Follows C 2 s xs p a (asked F t port xs a)
   in_at s [] pc p t port gt lt ok h e k =
       let eff = line_effect C a s pc (instr.In (aim t) port) k.0 h e (in_line (aim t) pc k.0 port lt k.1) (aim_fits t, omega arith, lt) ∙ asked_effect s (aim t) port k.0 ok in
-      record { steps = 1; to = s; by = λ n. one_then n s [] (ended machine.Starved s) (run-starved n s s (aim t) port k.0 eff); held = h; few = omega arith }
+      record { steps = 1; to = s; by = λ n. one_then n s [] (ended machine.Starved s) (run-starved n s s (aim t) port k.0 eff); shown = s; held = h; memory = λ q. refl; few = omega arith }
   in_at s (x ∷ xs) pc p t port gt lt ok h e k =
       let m = aim t in
       let low = aim_low F t gt in
@@ -441,7 +426,7 @@ module _ (C : Console) (address : List ℕ → ℕ) (W : Whole) (F : Frame) (a :
 
   few_more : (n m : ℕ) (s : State) (xs : List ℕ) (pc : ℕ) (d : Does) → n ≤ m → Follows C n s xs pc a d → Follows C m s xs pc a d
   few_more n m s xs pc (Goes es ys b) le f = record { steps = f.steps; to = f.to; by = f.by; at = f.at; held = f.held; few = omega (arith, f.few) }
-  few_more n m s xs pc (Ends how) le f = record { steps = f.steps; to = f.to; by = f.by; held = f.held; few = omega (arith, f.few) }
+  few_more n m s xs pc (Ends how) le f = record { steps = f.steps; to = f.to; by = f.by; shown = f.shown; held = f.held; memory = f.memory; few = omega (arith, f.few) }
 
   nothing_at : (s : State) (xs : List ℕ) (pc p : ℕ) → Held C a s → s.counter ≡ pc → pc ≡ p → Arrives C 0 s xs p [] xs a
   nothing_at s xs pc p h e k = record { steps = 0; to = s; by = reaches_here s xs; at = e ∙ k; held = h; few = omega arith }
@@ -475,4 +460,4 @@ module _ (C : Console) (address : List ℕ → ℕ) (W : Whole) (F : Frame) (a :
       record { steps = 1; to = going_to k.0 s; by = reaches_waited s (going_to k.0 s) xs eff; at = k.2; held = moved C a s k.0 h; few = omega arith }
   op_follows HaltO s xs pc p good h e k =
       let eff = line_effect C a s pc (instr.Plain HLT) k.0 h e k.1 (omega arith, omega arith, omega arith) ∙ halt_effect s k.0 in
-      record { steps = 1; to = s; by = λ n. one_then n s xs (ended machine.Halted s) (run-halted n s s xs eff); held = h; few = omega arith }
+      record { steps = 1; to = s; by = λ n. one_then n s xs (ended machine.Halted s) (run-halted n s s xs eff); shown = s; held = h; memory = λ q. refl; few = omega arith }

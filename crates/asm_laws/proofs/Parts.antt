@@ -1,9 +1,13 @@
 -- The parts of placed code but calls are followed.
-use Rattle.std.proofs.Common.{◌≡◌, ℕ, zero, suc, ◌+◌, inl, inr, List, [], length, Option, Some, None, refl, sym, ap, ◌∙◌, subst, arith, append-nil}
-use Rattle.std.specs.Prelude.{if◌then◌else◌, ◌==◌}
+use Rattle.std.proofs.Common.{◌≡◌, ℕ, zero, suc, ◌+◌, ◌<◌, inl, inr, Bool, true, false, cond, List, [], length, Option, Some, None, refl, sym, ap, ◌∙◌, subst, arith, append-nil}
+use Rattle.std.specs.Prelude.{if◌then◌else◌, ◌==◌, get_or}
+use Rattle.either.specs.declared.Either.TheVariants.{Left}
+use Rattle.kit_base.specs.Word.{add}
 use Rattle.v32_isa.specs.declared.instruction.Go.TheVariants.{JMP}
 use Rattle.v32_isa.specs.declared.instruction.Branch.TheVariants.{JF}
 use Rattle.v32_isa.specs.declared.instruction.Src.TheVariants as src
+use Rattle.v32_isa.specs.declared.instruction.Mov.TheVariants.{RegAtOff}
+use Rattle.v32_isa.specs.declared.instruction.Instr.{Instr}
 use Rattle.v32_isa.specs.declared.instruction.Instr.TheVariants as instr
 use Rattle.v32_isa.specs.declared.stepped.Stepped.TheVariants as stepped
 use Rattle.v32_isa.specs.State.{register_of, going_to}
@@ -16,21 +20,26 @@ use Rattle.v32_isa.proofs.Steps.{Reaches, reaches_here, reaches_on, reaches_went
 use Rattle.obj_mem.specs.declared.cell.Cell.{Cell}
 use Rattle.obj_mem.specs.declared.cell.Cell.TheVariants.{Unwritten, Num, Ptr, Null}
 use Rattle.obj_mem.specs.Runs.{Ending, Halted, Fault, Starved, Stray, Deep, OutOfBound}
+use Rattle.asm_items.specs.Items.{Imm}
 use Rattle.mid_code.specs.declared.placed.Where.{Where}
-use Rattle.mid_code.specs.Code.{OpT, ConstO, NullO, MoveO, OneO, TwoO, GlobalO, LocalO, LiteralO, CardO, StepO, ApartO, PtrTestO, LoadO, StoreO, FreshO, EndO, InO, OutO, WaitO, HaltO}
+use Rattle.mid_code.specs.declared.placed.Where.TheVariants.{Reg}
+use Rattle.mid_code.specs.Code.{NodesT, Stop, Do, Call, Choose, Block, Loop, Leave, Again, Return, OpT, ConstO, NullO, MoveO, OneO, TwoO, GlobalO, LocalO, LiteralO, CardO, StepO, ApartO, PtrTestO, LoadO, StoreO, FreshO, EndO, InO, OutO, WaitO, HaltO}
 use Rattle.mid_code.specs.Meaning.{Did, On, Ends, node_weight}
 use Rattle.mid_code.specs.States.{State, spent, op_weight, word_tested, registers_and_slots, acted}
-use Rattle.asm_laws.specs.Operations.{Frame, hand}
+use Rattle.asm_laws.specs.Operations.{Frame, register, hand, word_put, summed, loads_there, with_sum, with_word, in_one, one_or_more, more_of}
 use Rattle.asm_laws.specs.Placing.{Jumps}
-use Rattle.asm_laws.specs.Following.{begin, spare, Came, Stopped, DidSim, TestSim}
+use Rattle.asm_laws.specs.Following.{Begin, begin, spare, Came, Stopped, DidSim, TestSim, did_then, front_acts}
+use Rattle.asm_laws.specs.Standing.{Stand}
 use Rattle.asm_laws.specs.Tests.{Tests}
 use Rattle.asm_laws.specs.Addresses.{Addr, Does, Console, word_of, GoodOp, Held, Follows, does}
 use Rattle.asm_laws.specs.Addresses as words
 use Rattle.asm_laws.proofs.Stepping.{same_or_not, line_effect, took, scratch, moved, reg_same, fetches_so}
-use Rattle.asm_laws.proofs.Hands.{hand_fits, brings_at}
+use Rattle.asm_laws.proofs.Control.{earlier_did}
+use Rattle.asm_laws.proofs.Hands.{with_reg, hand_fits, brings_at}
 use Rattle.asm_laws.proofs.OperationsStep.{op_follows}
+use Rattle.asm_laws.proofs.InOneStep.{Sums, sums, lea_follows, load_follows}
 use Rattle.asm_laws.specs.Holds.{Setting, sizes, Named, Fits, Ctx, Stands}
-use Rattle.asm_laws.specs.Acting.{Holds, DoesAs, Fitting}
+use Rattle.asm_laws.specs.Acting.{Holds, DoesAs, Fitting, FrontFits}
 use Rattle.asm_laws.specs.Calling.{Mach, Given, lang, holder, GivingAt, shapes}
 use Rattle.asm_laws.proofs.First.{good, room, word_stands}
 use Rattle.asm_laws.proofs.Ops.{acts}
@@ -87,7 +96,7 @@ module _ (S : Setting) (fits : Fits S) where
     made = [];
     to = f1.to;
     by = λ n. f1.by n ∙ ap (λ x. record { events = []; end = x; state = f1.to }) e;
-    held = record { context = κ; mach = record { place = h.place; words = a; at = h.at; held = f1.held } };
+    held = record { context = κ; shown = f1.shown; mach = record { place = h.place; words = a; at = h.at; held = f1.held }; memory = f1.memory };
     events = ev ∙ sym (append-nil s.world.events);
     cost = omega (arith, f1.few, wk);
   }
@@ -118,11 +127,105 @@ module _ (S : Setting) (fits : Fits S) where
   join κ s m a w p (Ends OutOfBound t) (words.Goes es ys b) g f = absurd g
   join κ s m a w p (Ends OutOfBound t) (words.Ends how) g f = absurd g.same
 
-  pub op_sim : (κ : Ctx) (pc p : ℕ) (o : OpT Where) (s : State Where) (m : machine.State) → (shapes S).op κ.fn pc o p → m.counter ≡ pc → Mach S κ s m → DidSim (holder S) κ m (begin (holder S) s) p ((lang S).act o s)
-  op_sim κ pc p o s m st e h =
+  -- an operation whose words come first, and then those of the operations behind it, where the machine has not gone on yet
+  passes : (κ : Ctx) (s : State Where) (m : machine.State) (a b : Addr) (w p : ℕ) (d : Did (State Where)) (go : State Where → Did (State Where)) → DoesAs S κ (spent w s) a d (words.Goes [] s.world.store.answers b) →
+      ((t : State Where) → Holds S κ t b → DidSim (holder S) κ m (begin (holder S) t) p (go t)) → DidSim (holder S) κ m (begin (holder S) s) p (did_then d go)
+  passes κ s m a b w p (On t) go g f = earlier_did (lang S) (holder S) κ m (begin (holder S) s) (begin (holder S) t) p (go t) (sym g.answers) (g.events ∙ append-nil s.world.events) (let n = g.work in omega (arith, n)) (f t g.holds)
+  passes κ s m a b w p (Ends Stray t) go g f = λ n. record { steps = 0; made = []; to = m; left = s.world.store.answers; by = reaches_here m s.world.store.answers; events = g.0 ∙ sym (append-nil s.world.events); cost = omega (arith, g.1); many = omega arith }
+  passes κ s m a b w p (Ends Halted t) go g f = absurd g
+  passes κ s m a b w p (Ends (Fault k) t) go g f = absurd g
+  passes κ s m a b w p (Ends Starved t) go g f = absurd g
+  passes κ s m a b w p (Ends Deep t) go g f = absurd g
+  passes κ s m a b w p (Ends OutOfBound t) go g f = absurd g
+
+  -- the last one
+  last_sim : (κ : Ctx) (p : ℕ) (o : OpT Where) (s : State Where) (m : machine.State) (a : Addr) (h : Holds S κ s a) → Fitting S κ.fn o → Follows C (op_weight o) m s.world.store.answers p a (does C S.address S.whole (Of κ) o s.world.store.answers a) → DidSim (holder S) κ m (begin (holder S) s) p ((lang S).act o s)
+  last_sim κ p o s m a h fit f =
       let s1 = spent (op_weight o) s in
-      join κ s m h.words (op_weight o) p (acted registers_and_slots (sizes S) o s1) (does C S.address S.whole (Of κ) o s.world.store.answers h.words) (acts S fits κ s1 h.place h.words h.at o st.0)
-      (op_follows C S.address S.whole (Of κ) h.words (room S fits κ s.world.store s.cells h.place h.words h.at) o m s.world.store.answers pc p (good_op κ o st.0) h.held e st.1)
+      join κ s m a (op_weight o) p (acted registers_and_slots (sizes S) o s1) (does C S.address S.whole (Of κ) o s.world.store.answers a) (acts S fits κ s1 h.place a h.at o fit) f
+
+  none_more : (c : NodesT Where) (t : State Where) → front_acts (lang S) c zero t ≡ On t
+  none_more Stop t = refl
+  none_more (Do o c) t = refl
+  none_more (Call r g args c) t = refl
+  none_more (Choose w x y c) t = refl
+  none_more (Block b c) t = refl
+  none_more (Loop b c) t = refl
+  none_more (Leave j c) t = refl
+  none_more (Again j c) t = refl
+  none_more (Return w c) t = refl
+
+  alone : (κ : Ctx) (m : machine.State) (b : Begin) (p : ℕ) (c : NodesT Where) (d : Did (State Where)) → DidSim (holder S) κ m b p d → DidSim (holder S) κ m b p (did_then d (front_acts (lang S) c zero))
+  alone κ m b p c (On t) a = subst (λ r. DidSim (holder S) κ m b p r) (sym (none_more c t)) a
+  alone κ m b p c (Ends f t) a = a
+
+  module _ (κ : Ctx) (pc p : ℕ) (s : State Where) (m : machine.State) (e : m.counter ≡ pc) (h : Mach S κ s m) where
+    abbrev a : Addr
+    a = h.words
+
+    abbrev xs : List ℕ
+    xs = s.world.store.answers
+
+    -- where these items stand, so many operations are done
+    abbrev Done : OpT Where → NodesT Where → Option (ℕ × Instr Imm) → Type 0
+    Done o c x = FrontFits S κ.fn c (more_of x) → Stand C.words S.address pc (one_or_more S.whole (Of κ) o x) p → DidSim (holder S) κ m (begin (holder S) s) p (did_then ((lang S).act o s) (front_acts (lang S) c (more_of x)))
+
+    one_done : (o : OpT Where) (c : NodesT Where) → Fitting S κ.fn o → Done o c None
+    one_done o c fit ff st =
+        alone κ m (begin (holder S) s) p c ((lang S).act o s)
+        (last_sim κ p o s m a (record { place = h.place; at = h.at }) fit (op_follows C S.address S.whole (Of κ) a (room S fits κ s.world.store s.cells h.place a h.at) o m xs pc p (good_op κ o fit) h.held e st))
+
+    -- the first operation puts a word into a register
+    abbrev Puts : OpT Where → (k w : ℕ) → Type 0
+    Puts o k w = (ys : List ℕ) → does C S.address S.whole (Of κ) o ys a ≡ words.Goes [] ys (with_reg k w a)
+
+    put_done : (o : OpT Where) (k w : ℕ) (go : State Where → Did (State Where)) → Fitting S κ.fn o → Puts o k w → ((t : State Where) → Holds S κ t (with_reg k w a) → DidSim (holder S) κ m (begin (holder S) t) p (go t)) →
+        DidSim (holder S) κ m (begin (holder S) s) p (did_then ((lang S).act o s) go)
+    put_done o k w go fit puts f =
+        let s1 = spent (op_weight o) s in
+        passes κ s m a (with_reg k w a) (op_weight o) p (acted registers_and_slots (sizes S) o s1) go (subst (λ d. DoesAs S κ s1 a (acted registers_and_slots (sizes S) o s1) d) (puts xs) (acts S fits κ s1 h.place a h.at o fit)) f
+
+    two_done : (o u : OpT Where) (c : NodesT Where) (k w q v : ℕ) → k < 9 → Fitting S κ.fn o → Puts o k w → (Fitting S κ.fn u → Sums C S.address S.whole (Of κ) a k w u q v) → Done o (Do u c) (Some (1, instr.Lea (register k) q (Some (Left v))))
+    two_done o u c k w q v lt fit puts is ff st =
+        put_done o k w (front_acts (lang S) (Do u c) 1) fit puts (λ t ht. alone κ m (begin (holder S) t) p c ((lang S).act u t)
+        (last_sim κ p u t m (with_reg k w a) ht ff.0 (lea_follows C S.address S.whole (Of κ) a k w u q v m t.world.store.answers pc p lt (is ff.0) h.held e st)))
+
+    three_done : (o u : OpT Where) (c : NodesT Where) (k w q v : ℕ) → k < 9 → Fitting S κ.fn o → Puts o k w → (Fitting S κ.fn u → Sums C S.address S.whole (Of κ) a k w u q v) → loads_there (register k) c ≡ true → Done o (Do u c) (Some (2, instr.Mov (RegAtOff (register k) q (Left v))))
+    three_done o u (Do (LoadO (Reg t) (Reg x)) c) k w q v lt fit puts is there ff st =
+        let r = is ff.0 in
+        put_done o k w (front_acts (lang S) (Do u (Do (LoadO (Reg t) (Reg x)) c)) 2) fit puts (λ s1 h1.
+        let s2 = spent (op_weight u) s1 in
+        passes κ s1 m (with_reg k w a) (with_reg k (add (a.regs q) v) (with_reg k w a)) (op_weight u) p (acted registers_and_slots (sizes S) u s2) (front_acts (lang S) (Do (LoadO (Reg t) (Reg x)) c) 1)
+        (subst (λ d. DoesAs S κ s2 (with_reg k w a) (acted registers_and_slots (sizes S) u s2) d) (r.so s1.world.store.answers) (acts S fits κ s2 h1.place (with_reg k w a) h1.at u ff.0))
+        (λ s3 h3. alone κ m (begin (holder S) s3) p c ((lang S).act (LoadO (Reg t) (Reg x)) s3)
+        (last_sim κ p (LoadO (Reg t) (Reg x)) s3 m (with_reg k (add (a.regs q) v) (with_reg k w a)) h3 ff.1.0 (load_follows C S.address S.whole (Of κ) a k w t x q v m s3.world.store.answers pc p lt r.low ff.1.0.0 ff.1.0.1 there h.held e st))))
+    three_done o u _ k w q v lt fit puts is there ff st = absurd cc
+
+    sum_done : (o u : OpT Where) (c : NodesT Where) (k w : ℕ) → k < 9 → Fitting S κ.fn o → Puts o k w → Done o (Do u c) (with_sum (register k) (summed (register k) w u) c)
+    sum_done o u c k w lt fit puts = go (summed (register k) w u) refl
+      where
+        load_or_not : (q v : ℕ) (is : Fitting S κ.fn u → Sums C S.address S.whole (Of κ) a k w u q v) (b : Bool) → loads_there (register k) c ≡ b → Done o (Do u c) (Some (cond b (2, instr.Mov (RegAtOff (register k) q (Left v))) (1, instr.Lea (register k) q (Some (Left v)))))
+        load_or_not q v is true there = three_done o u c k w q v lt fit puts is there
+        load_or_not q v is false there = two_done o u c k w q v lt fit puts is
+
+        go : (x : Option (ℕ × ℕ)) → summed (register k) w u ≡ x → Done o (Do u c) (with_sum (register k) x c)
+        go None is = one_done o (Do u c) fit
+        go (Some (q, v)) is = load_or_not q v (λ ff. sums C S.address S.whole (Of κ) a k w u q v lt (good_op κ u ff) is) (loads_there (register k) c) refl
+
+    word_done : (o u : OpT Where) (c : NodesT Where) → Fitting S κ.fn o → Done o (Do u c) (with_word (word_put S.whole o) u c)
+    unfolding does
+    word_done (ConstO (Reg k) n) u c fit = sum_done (ConstO (Reg k) n) u c k n fit fit (λ ys. refl)
+    word_done (GlobalO (Reg k) j) u c fit = sum_done (GlobalO (Reg k) j) u c k (get_or S.whole.globals j 0) fit.0 fit (λ ys. refl)
+    word_done o u c fit = one_done o (Do u c) fit
+
+    done : (o : OpT Where) (c : NodesT Where) → Fitting S κ.fn o → Done o c (in_one S.whole o c)
+    unfolding in_one
+    done o (Do u c) fit = word_done o u c fit
+    done o c fit = one_done o c fit
+
+  pub op_sim : (κ : Ctx) (pc p more : ℕ) (o : OpT Where) (c : NodesT Where) (s : State Where) (m : machine.State) → (shapes S).op κ.fn pc o c more p → m.counter ≡ pc → Mach S κ s m → DidSim (holder S) κ m (begin (holder S) s) p (did_then ((lang S).act o s) (front_acts (lang S) c more))
+  op_sim κ pc p more o c s m st e h =
+      subst (λ n. DidSim (holder S) κ m (begin (holder S) s) p (did_then ((lang S).act o s) (front_acts (lang S) c n))) (sym st.3) (done κ pc p s m e h o c st.0 (subst (λ n. FrontFits S κ.fn c n) st.3 st.1) st.2)
 
   -- ---- jumps, tests, results
 

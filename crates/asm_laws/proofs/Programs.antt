@@ -1,5 +1,5 @@
 -- A program that stands among the words is linked.
-use Rattle.std.proofs.Common.{◌≡◌, ℕ, Bool, true, false, List, [], ◌∷◌, ◌++◌, length, Option, Some, None, refl, sym, ap, ◌∙◌, subst}
+use Rattle.std.proofs.Common.{◌≡◌, ℕ, zero, suc, Bool, true, false, List, [], ◌∷◌, ◌++◌, length, Option, Some, None, refl, sym, ap, ◌∙◌, subst}
 use Rattle.std.specs.Prelude.{is_some, slice_get, option_map}
 use Rattle.v32_isa.specs.declared.instruction.One.{One}
 use Rattle.v32_isa.specs.declared.instruction.One.TheVariants.{CIB, NOT, BNOT, ISGN, IABS}
@@ -16,12 +16,12 @@ use Rattle.v32_isa.specs.declared.instruction.Mov.TheVariants.{RegReg}
 use Rattle.v32_isa.specs.declared.instruction.Instr.TheVariants as instr
 use Rattle.asm_items.specs.declared.item.AsmItem.TheVariants as item
 use Rattle.asm_laws.specs.Names.{function_label}
-use Rattle.asm_laws.specs.Placing.{Line, Bounds, At}
+use Rattle.asm_laws.specs.Placing.{Line, Bounds, Past}
 use Rattle.asm_laws.specs.Operations.{args_items}
 use Rattle.asm_laws.specs.Addresses.{IsPlainOne}
 use Rattle.asm_laws.specs.Standing.{Stand}
 use Rattle.asm_laws.specs.Holds.{Setting, Named}
-use Rattle.asm_laws.specs.Acting.{Fitting}
+use Rattle.asm_laws.specs.Acting.{Fitting, FrontFits}
 use Rattle.asm_laws.specs.Calling.{Callable, shapes}
 use Rattle.asm_laws.specs.Linked.{Linked, Plan, setting}
 use Rattle.asm_laws.specs.Program.{items_at, ProgramAt, Sound, Program}
@@ -66,41 +66,55 @@ module _ (S : Setting) (boot rest : ℕ) (card : Option (List ℕ)) (ok : IsCard
   abbrev Calls : ℕ → Type 0
   Calls f = (g : ℕ) (fn : FunctionT Where) → slice_get S.code.functions g ≡ Some fn → (S.depth f ≡ (S.whole.frames f).size) × Callable S g × (S.whole.params g ≡ fn.params)
 
-  at_of : (f : ℕ) → Sound S f → Calls f → (ls : List Bounds) (bs : List Bool) (c : NodesT Where) (pc e : ℕ) → AreNodes S.code (length (S.locals f)) bs c → Names (Named S f) c → At (items_at S) f ls pc c e → At (shapes S) f ls pc c e
-  at_of f so cs ls bs Stop pc e n m at = at
-  at_of f so cs ls bs (Do o c) pc e n m at = (at.0, (fitting f so o c n.0 m.0, at.1), at_of f so cs ls bs c at.0 e n.1 m.1 at.2)
-  at_of f so cs ls bs (Call t g args c) pc e n m at =
+  front_fits : (f : ℕ) → Sound S f → (bs : List Bool) (c : NodesT Where) (k : ℕ) → AreNodes S.code (length (S.locals f)) bs c → Names (Named S f) c → FrontFits S f c k
+  front_fits f so bs (Do o c) zero n m = tt
+  front_fits f so bs (Do o c) (suc k) n m = (fitting f so o c n.0 m.0, front_fits f so bs c k n.1 m.1)
+  front_fits f so bs Stop k n m = tt
+  front_fits f so bs (Call t g args c) k n m = tt
+  front_fits f so bs (Choose w x y c) k n m = tt
+  front_fits f so bs (Block b c) k n m = tt
+  front_fits f so bs (Loop b c) k n m = tt
+  front_fits f so bs (Leave j c) k n m = tt
+  front_fits f so bs (Again j c) k n m = tt
+  front_fits f so bs (Return w c) k n m = tt
+
+  at_of : (f : ℕ) → Sound S f → Calls f → (ls : List Bounds) (bs : List Bool) (c : NodesT Where) (done pc e : ℕ) → AreNodes S.code (length (S.locals f)) bs c → Names (Named S f) c → Past (items_at S) f ls pc c done e → Past (shapes S) f ls pc c done e
+  at_of f so cs ls bs Stop done pc e n m at = at
+  at_of f so cs ls bs (Do o c) zero pc e n m at = (at.0, at.1, (fitting f so o c n.0 m.0, front_fits f so bs c at.0 n.1 m.1, at.2.0, at.2.1), at_of f so cs ls bs c at.0 at.1 e n.1 m.1 at.3)
+  at_of f so cs ls bs (Do o c) (suc k) pc e n m at = at_of f so cs ls bs c k pc e n.1 m.1 at
+  at_of f so cs ls bs (Call t g args c) done pc e n m at =
       let i = mapped_from (λ h. length h.params) (slice_get S.code.functions g) (length args) n.0 in
       let s = cs g i.0 i.1 in
-      (at.0, record { depth = s.0; callable = s.1; target = m.0.1; args_named = m.0.0; count = sym i.2 ∙ ap length (sym s.2); stands = at.1 }, at_of f so cs ls bs c at.0 e n.1 m.1 at.2)
-  at_of f so cs ls bs (Choose w x y c) pc e n m at =
-      (at.0, at.1, at.2, at.3, (m.0.0.0, at.4), at_of f so cs ls bs x at.0 at.1 n.0 m.1 at.5, at.6, at_of f so cs ls bs y at.2 at.3 n.1 m.2 at.7, at_of f so cs ls bs c at.3 e n.2 m.3 at.8)
-  at_of f so cs ls bs (Block b c) pc e n m at = (at.0, at_of f so cs (record { begins = pc; ends = at.0 } ∷ ls) (false ∷ bs) b pc at.0 n.0 m.0 at.1, at_of f so cs ls bs c at.0 e n.1 m.1 at.2)
-  at_of f so cs ls bs (Loop b c) pc e n m at = (at.0, at_of f so cs (record { begins = pc; ends = at.0 } ∷ ls) (true ∷ bs) b pc at.0 n.0 m.0 at.1, at_of f so cs ls bs c at.0 e n.1 m.1 at.2)
-  at_of f so cs ls bs (Leave k c) pc e n m at = (at.0, (at.1.0, at_of f so cs ls bs c at.1.0 e n.1 m at.1.1))
-  at_of f so cs ls bs (Again k c) pc e n m at = (at.0, (at.1.0, at_of f so cs ls bs c at.1.0 e n.1 m at.1.1))
-  at_of f so cs ls bs (Return w c) pc e n m at = (record { named = m.0.0; then = at.0.0; stands = at.0.1; jumps = at.0.2 }, (at.1.0, at_of f so cs ls bs c at.1.0 e n m.1 at.1.1))
+      (at.0, record { depth = s.0; callable = s.1; target = m.0.1; args_named = m.0.0; count = sym i.2 ∙ ap length (sym s.2); stands = at.1 }, at_of f so cs ls bs c zero at.0 e n.1 m.1 at.2)
+  at_of f so cs ls bs (Choose w x y c) done pc e n m at =
+      (at.0, at.1, at.2, at.3, (m.0.0.0, at.4), at_of f so cs ls bs x zero at.0 at.1 n.0 m.1 at.5, at.6, at_of f so cs ls bs y zero at.2 at.3 n.1 m.2 at.7, at_of f so cs ls bs c zero at.3 e n.2 m.3 at.8)
+  at_of f so cs ls bs (Block b c) done pc e n m at = (at.0, at_of f so cs (record { begins = pc; ends = at.0 } ∷ ls) (false ∷ bs) b zero pc at.0 n.0 m.0 at.1, at_of f so cs ls bs c zero at.0 e n.1 m.1 at.2)
+  at_of f so cs ls bs (Loop b c) done pc e n m at = (at.0, at_of f so cs (record { begins = pc; ends = at.0 } ∷ ls) (true ∷ bs) b zero pc at.0 n.0 m.0 at.1, at_of f so cs ls bs c zero at.0 e n.1 m.1 at.2)
+  at_of f so cs ls bs (Leave k c) done pc e n m at = (at.0, (at.1.0, at_of f so cs ls bs c zero at.1.0 e n.1 m at.1.1))
+  at_of f so cs ls bs (Again k c) done pc e n m at = (at.0, (at.1.0, at_of f so cs ls bs c zero at.1.0 e n.1 m at.1.1))
+  at_of f so cs ls bs (Return w c) done pc e n m at = (record { named = m.0.0; then = at.0.0; stands = at.0.1; jumps = at.0.2 }, (at.1.0, at_of f so cs ls bs c zero at.1.0 e n m.1 at.1.1))
 
   -- the start calls none
-  at_quiet : (f : ℕ) → Sound S f → (ls : List Bounds) (bs : List Bool) (c : NodesT Where) (pc e : ℕ) → AreNodes S.code (length (S.locals f)) bs c → Names (Named S f) c → CallsNone c → At (items_at S) f ls pc c e → At (shapes S) f ls pc c e
-  at_quiet f so ls bs Stop pc e n m q at = at
-  at_quiet f so ls bs (Do o c) pc e n m q at = (at.0, (fitting f so o c n.0 m.0, at.1), at_quiet f so ls bs c at.0 e n.1 m.1 q at.2)
-  at_quiet f so ls bs (Call t g args c) pc e n m q at = absurd q
-  at_quiet f so ls bs (Choose w x y c) pc e n m q at =
-      (at.0, at.1, at.2, at.3, (m.0.0.0, at.4), at_quiet f so ls bs x at.0 at.1 n.0 m.1 q.0 at.5, at.6, at_quiet f so ls bs y at.2 at.3 n.1 m.2 q.1 at.7, at_quiet f so ls bs c at.3 e n.2 m.3 q.2 at.8)
-  at_quiet f so ls bs (Block b c) pc e n m q at = (at.0, at_quiet f so (record { begins = pc; ends = at.0 } ∷ ls) (false ∷ bs) b pc at.0 n.0 m.0 q.0 at.1, at_quiet f so ls bs c at.0 e n.1 m.1 q.1 at.2)
-  at_quiet f so ls bs (Loop b c) pc e n m q at = (at.0, at_quiet f so (record { begins = pc; ends = at.0 } ∷ ls) (true ∷ bs) b pc at.0 n.0 m.0 q.0 at.1, at_quiet f so ls bs c at.0 e n.1 m.1 q.1 at.2)
-  at_quiet f so ls bs (Leave k c) pc e n m q at = (at.0, (at.1.0, at_quiet f so ls bs c at.1.0 e n.1 m q at.1.1))
-  at_quiet f so ls bs (Again k c) pc e n m q at = (at.0, (at.1.0, at_quiet f so ls bs c at.1.0 e n.1 m q at.1.1))
-  at_quiet f so ls bs (Return w c) pc e n m q at = (record { named = m.0.0; then = at.0.0; stands = at.0.1; jumps = at.0.2 }, (at.1.0, at_quiet f so ls bs c at.1.0 e n m.1 q at.1.1))
+  at_quiet : (f : ℕ) → Sound S f → (ls : List Bounds) (bs : List Bool) (c : NodesT Where) (done pc e : ℕ) → AreNodes S.code (length (S.locals f)) bs c → Names (Named S f) c → CallsNone c → Past (items_at S) f ls pc c done e → Past (shapes S) f ls pc c done e
+  at_quiet f so ls bs Stop done pc e n m q at = at
+  at_quiet f so ls bs (Do o c) zero pc e n m q at = (at.0, at.1, (fitting f so o c n.0 m.0, front_fits f so bs c at.0 n.1 m.1, at.2.0, at.2.1), at_quiet f so ls bs c at.0 at.1 e n.1 m.1 q at.3)
+  at_quiet f so ls bs (Do o c) (suc k) pc e n m q at = at_quiet f so ls bs c k pc e n.1 m.1 q at
+  at_quiet f so ls bs (Call t g args c) done pc e n m q at = absurd q
+  at_quiet f so ls bs (Choose w x y c) done pc e n m q at =
+      (at.0, at.1, at.2, at.3, (m.0.0.0, at.4), at_quiet f so ls bs x zero at.0 at.1 n.0 m.1 q.0 at.5, at.6, at_quiet f so ls bs y zero at.2 at.3 n.1 m.2 q.1 at.7, at_quiet f so ls bs c zero at.3 e n.2 m.3 q.2 at.8)
+  at_quiet f so ls bs (Block b c) done pc e n m q at = (at.0, at_quiet f so (record { begins = pc; ends = at.0 } ∷ ls) (false ∷ bs) b zero pc at.0 n.0 m.0 q.0 at.1, at_quiet f so ls bs c zero at.0 e n.1 m.1 q.1 at.2)
+  at_quiet f so ls bs (Loop b c) done pc e n m q at = (at.0, at_quiet f so (record { begins = pc; ends = at.0 } ∷ ls) (true ∷ bs) b zero pc at.0 n.0 m.0 q.0 at.1, at_quiet f so ls bs c zero at.0 e n.1 m.1 q.1 at.2)
+  at_quiet f so ls bs (Leave k c) done pc e n m q at = (at.0, (at.1.0, at_quiet f so ls bs c zero at.1.0 e n.1 m q at.1.1))
+  at_quiet f so ls bs (Again k c) done pc e n m q at = (at.0, (at.1.0, at_quiet f so ls bs c zero at.1.0 e n.1 m q at.1.1))
+  at_quiet f so ls bs (Return w c) done pc e n m q at = (record { named = m.0.0; then = at.0.0; stands = at.0.1; jumps = at.0.2 }, (at.1.0, at_quiet f so ls bs c zero at.1.0 e n m.1 q at.1.1))
 
   pub linked : ProgramAt S boot → Linked S card boot rest
   linked at = record {
     fits = P.fits;
-    functions = λ g c. let b = at.functions g c in record { begins = b.begins; label = b.label; entry = b.entry; body = at_of g (P.sound g c) (P.calls g c) [] [] _ (S.enters g) (S.leaves g) (P.nodes g c) (P.names g c) b.body; ends = b.ends; exit = b.exit };
+    functions = λ g c. let b = at.functions g c in record { begins = b.begins; label = b.label; entry = b.entry; body = at_of g (P.sound g c) (P.calls g c) [] [] _ zero (S.enters g) (S.leaves g) (P.nodes g c) (P.names g c) b.body; ends = b.ends; exit = b.exit };
     has_card = P.laid.has_card;
     opening = subst (λ z. Line S.console.words 0x20000000 (instr.Mov (RegReg 14 15)) z) at.opening.2 at.opening.1;
-    start = at_quiet boot P.start_sound [] [] S.code.start.body (S.enters boot) (S.leaves boot) P.start_nodes P.start_names P.start_quiet at.start;
+    start = at_quiet boot P.start_sound [] [] S.code.start.body zero (S.enters boot) (S.leaves boot) P.start_nodes P.start_names P.start_quiet at.start;
     rest_as = P.rest_as;
     boot_as = P.laid.called_as;
     boot_depth = P.laid.depth;

@@ -1,5 +1,5 @@
 -- Items have at most as many words as their code weighs.
-use Rattle.std.proofs.Common.{◌≡◌, ℕ, ◌+◌, ◌*◌, ◌≤◌, List, [], ◌∷◌, ◌++◌, length, map, Option, Some, None, arith}
+use Rattle.std.proofs.Common.{◌≡◌, ℕ, zero, suc, ◌+◌, ◌*◌, ◌≤◌, List, [], ◌∷◌, ◌++◌, length, map, Option, Some, None, ap, arith}
 use Rattle.std.specs.Prelude.{◌==◌, cond, Bool, true, false, get_or, sum_by}
 use Rattle.std.proofs.lemmas.List.Sums.{sum_by-cons}
 use Rattle.either.specs.declared.Either.TheVariants.{Left, Right}
@@ -8,7 +8,7 @@ use Rattle.v32_isa.specs.declared.instruction.One.{One as OneOf}
 use Rattle.v32_isa.specs.declared.instruction.One.TheVariants.{PUSH, POP}
 use Rattle.v32_isa.specs.declared.instruction.Two.{Two as TwoOf}
 use Rattle.v32_isa.specs.declared.instruction.Two.TheVariants.{IADD, ISUB}
-use Rattle.v32_isa.specs.declared.instruction.Mov.TheVariants.{RegImm, RegReg, RegAtReg, AtRegReg, AtOffReg}
+use Rattle.v32_isa.specs.declared.instruction.Mov.TheVariants.{RegImm, RegReg, RegAtReg, RegAtOff, AtRegReg, AtOffReg}
 use Rattle.v32_isa.specs.declared.instruction.Src.TheVariants as src
 use Rattle.v32_isa.specs.declared.instruction.Instr.TheVariants as instr
 use Rattle.asm_items.specs.declared.item.AsmItem.{AsmItem}
@@ -25,9 +25,10 @@ use Rattle.mid_code.specs.Runs.{nodes_weight, function_weight, weight}
 use Rattle.asm_laws.specs.Names.{literal_label, function_label}
 use Rattle.kit_base.specs.Word.{add, sub}
 use Rattle.asm_laws.specs.Operations as operations
-use Rattle.asm_laws.specs.Operations.{Frame, Whole, register, slot_word, local_word, fetches, keeps, keeps_some, is_in, hand, brings, takes, aim, lays, moves, changes, is_direct, in_place, apart, turned, is_turned, turned_or_apart, computes, slot_arg, slot_args, pushed_arg, pushed_args, popped_arg, popped_args, args_items, call_items, op_items, giving, start_frame, opening_items, literal_items, literals_items}
+use Rattle.asm_laws.specs.Operations.{Frame, Whole, register, slot_word, local_word, fetches, keeps, keeps_some, is_in, hand, brings, takes, aim, lays, moves, changes, is_direct, in_place, apart, turned, is_turned, turned_or_apart, computes, slot_arg, slot_args, pushed_arg, pushed_args, popped_arg, popped_args, args_items, call_items, op_items, in_one, one_or_more, more_of, giving, start_frame, opening_items, literal_items, literals_items}
 use Rattle.asm_laws.specs.Framing.{room_made}
-use Rattle.asm_laws.specs.Emitted.{labels, enclosing, jump, jump_unless, mark, choice, one_way, is_stop, enclosed, returning, code_items, entry_items, exit_items, function_items, functions_items, functions_labels, call_item, closing_items, start_items, program_items, labels_of}
+use Rattle.asm_laws.specs.Emitted.{labels, enclosing, jump, jump_unless, mark, choice, one_way, is_stop, enclosed, returning, items_past, code_items, entry_items, exit_items, function_items, functions_items, functions_labels, call_item, closing_items, start_items, program_items, labels_of}
+use Rattle.asm_laws.proofs.InOne.{one_or_more_is}
 use Rattle.asm_laws.proofs.Walked.{total_append, total_one, total_none, total_more}
 
 abbrev size : List AsmItem → ℕ
@@ -132,7 +133,7 @@ turned_size F o None t p q = apart_size F o t p q
 turned_size F o (Some u) t p q = either_size (is_turned t p q) (in_place F u (aim t) q p) (apart F o t p q) (in_place_size F u (aim t) q p) (apart_size F o t p q)
 
 computes_size : (F : Frame) (o : TwoOf) (t p q : Where) → size (computes F o t p q) ≤ 7
-computes_size F o t p q = either_size (is_direct o t q) (in_place F o (aim t) p q) (turned_or_apart F o (turned o) t p q) (in_place_size F o (aim t) p q) (turned_size F o (turned o) t p q)
+computes_size F o t p q = either_size (is_direct t q) (in_place F o (aim t) p q) (turned_or_apart F o (turned o) t p q) (in_place_size F o (aim t) p q) (turned_size F o (turned o) t p q)
 
 pub op_size : (W : Whole) (F : Frame) (o : OpT Where) → size (op_items W F o) ≤ op_weight o
 unfolding op_items
@@ -159,6 +160,12 @@ op_size W F (InO t p) = let r = laid_size F t (item.Op (instr.In (aim t) (operat
 op_size W F (OutO p a) = let x = item.Op (instr.Out (operations.port p) (src.Reg (hand a 9))) in let r = brought_size F a 9 1 (x ∷ []) (one_item x 1 (omega arith)) in omega (arith, r)
 op_size W F WaitO = let r = one_item (item.Op (instr.Plain WAIT)) 1 (omega arith) in omega (arith, r)
 op_size W F HaltO = let r = one_item (item.Op (instr.Plain HLT)) 1 (omega arith) in omega (arith, r)
+
+one_size : (W : Whole) (F : Frame) (o : OpT Where) (c : NodesT Where) → size (one_or_more W F o (in_one W o c)) ≤ op_weight o
+one_size W F o c =
+    one_or_more_is W F (λ xs. size xs ≤ op_weight o) (λ v. op_weight o ≡ 8) o c (λ t n e. (ap op_weight e, ap op_weight e)) (λ t k e. (ap op_weight e, ap op_weight e)) (op_size W F o)
+    (λ r q v lr lq h. let z = one_item (item.Op (instr.Lea r q (Some (Left v)))) 2 (omega arith) in omega (arith, z, h))
+    (λ r q v lr lq h. let z = one_item (item.Op (instr.Mov (RegAtOff r q (Left v)))) 2 (omega arith) in omega (arith, z, h))
 
 pub call_size : (W : Whole) (F : Frame) (t : Option Where) (g : ℕ) (args : List Where) → length args ≡ length (W.params g) → size (call_items W F t g args) ≤ call_weight args
 call_size W F t g args ok =
@@ -221,26 +228,33 @@ abbrev pub Counts : CodeT Where → Whole → Type 0
 Counts x W = (g n : ℕ) → parameter_count x g ≡ Some n → n ≡ length (W.params g)
 
 module _ (x : CodeT Where) (W : Whole) (counts : Counts x W) (m : ℕ) (F : Frame) (out : ℕ) where
+  past_size : (c : NodesT Where) (done : ℕ) (bs : List Bool) (ls : List ℕ) (n : ℕ) → AreNodes x m bs c → size (items_past W F out ls n c done) ≤ nodes_weight c
+  past_size Stop done bs ls n ok = omega (arith, total_none)
+  past_size (Do o c) zero bs ls n ok =
+      let more = more_of (in_one W o c) in
+      let t = total_append (one_or_more W F o (in_one W o c)) (items_past W F out ls n c more) in
+      omega (arith, t, one_size W F o c, past_size c more bs ls n ok.1)
+  past_size (Do o c) (suc done) bs ls n ok = let r = past_size c done bs ls n ok.1 in omega (arith, r)
+  past_size (Call t g args c) done bs ls n ok = let s = total_append (call_items W F t g args) (items_past W F out ls n c 0) in omega (arith, s, call_size W F t g args (counts g (length args) ok.0), past_size c 0 bs ls n ok.1)
+  past_size (Choose p a b c) done bs ls n ok =
+      let xs = cond (is_stop b) (one_way F p n (items_past W F out ls (n + 1) a 0)) (choice F p n (n + 1 + labels a) (items_past W F out ls (n + 1) a 0) (items_past W F out ls (n + 1 + labels a + 1) b 0)) in
+      let s = total_append xs (items_past W F out ls (n + (2 + labels a + labels b)) c 0) in
+      let h = chosen_size F p n (n + 1 + labels a) (nodes_weight a) (nodes_weight b) (is_stop b) _ _ (past_size a 0 bs ls (n + 1) ok.0) (past_size b 0 bs ls (n + 1 + labels a + 1) ok.1) in
+      omega (arith, s, h, past_size c 0 bs ls (n + (2 + labels a + labels b)) ok.2)
+  past_size (Block b c) done bs ls n ok =
+      let s = total_append (enclosed n (items_past W F out (ls ++ n ∷ []) (n + 2) b 0)) (items_past W F out ls (n + (2 + labels b)) c 0) in
+      let h = enclosed_size n (nodes_weight b) _ (past_size b 0 (false ∷ bs) (ls ++ n ∷ []) (n + 2) ok.0) in
+      omega (arith, s, h, past_size c 0 bs ls (n + (2 + labels b)) ok.1)
+  past_size (Loop b c) done bs ls n ok =
+      let s = total_append (enclosed n (items_past W F out (ls ++ n ∷ []) (n + 2) b 0)) (items_past W F out ls (n + (2 + labels b)) c 0) in
+      let h = enclosed_size n (nodes_weight b) _ (past_size b 0 (true ∷ bs) (ls ++ n ∷ []) (n + 2) ok.0) in
+      omega (arith, s, h, past_size c 0 bs ls (n + (2 + labels b)) ok.1)
+  past_size (Leave k c) done bs ls n ok = let j = jump_size (add (enclosing ls k) 1) in let s = total_more (jump (add (enclosing ls k) 1)) (items_past W F out ls n c 0) in omega (arith, s, j, past_size c 0 bs ls n ok.1)
+  past_size (Again k c) done bs ls n ok = let j = jump_size (enclosing ls k) in let s = total_more (jump (enclosing ls k)) (items_past W F out ls n c 0) in omega (arith, s, j, past_size c 0 bs ls n ok.1)
+  past_size (Return p c) done bs ls n ok = let s = total_append (returning F p out) (items_past W F out ls n c 0) in omega (arith, s, returning_size F p out, past_size c 0 bs ls n ok)
+
   pub code_size : (c : NodesT Where) (bs : List Bool) (ls : List ℕ) (n : ℕ) → AreNodes x m bs c → size (code_items W F out ls n c) ≤ nodes_weight c
-  code_size Stop bs ls n ok = omega (arith, total_none)
-  code_size (Do o c) bs ls n ok = let t = total_append (op_items W F o) (code_items W F out ls n c) in omega (arith, t, op_size W F o, code_size c bs ls n ok.1)
-  code_size (Call t g args c) bs ls n ok = let s = total_append (call_items W F t g args) (code_items W F out ls n c) in omega (arith, s, call_size W F t g args (counts g (length args) ok.0), code_size c bs ls n ok.1)
-  code_size (Choose p a b c) bs ls n ok =
-      let xs = cond (is_stop b) (one_way F p n (code_items W F out ls (n + 1) a)) (choice F p n (n + 1 + labels a) (code_items W F out ls (n + 1) a) (code_items W F out ls (n + 1 + labels a + 1) b)) in
-      let s = total_append xs (code_items W F out ls (n + (2 + labels a + labels b)) c) in
-      let h = chosen_size F p n (n + 1 + labels a) (nodes_weight a) (nodes_weight b) (is_stop b) _ _ (code_size a bs ls (n + 1) ok.0) (code_size b bs ls (n + 1 + labels a + 1) ok.1) in
-      omega (arith, s, h, code_size c bs ls (n + (2 + labels a + labels b)) ok.2)
-  code_size (Block b c) bs ls n ok =
-      let s = total_append (enclosed n (code_items W F out (ls ++ n ∷ []) (n + 2) b)) (code_items W F out ls (n + (2 + labels b)) c) in
-      let h = enclosed_size n (nodes_weight b) _ (code_size b (false ∷ bs) (ls ++ n ∷ []) (n + 2) ok.0) in
-      omega (arith, s, h, code_size c bs ls (n + (2 + labels b)) ok.1)
-  code_size (Loop b c) bs ls n ok =
-      let s = total_append (enclosed n (code_items W F out (ls ++ n ∷ []) (n + 2) b)) (code_items W F out ls (n + (2 + labels b)) c) in
-      let h = enclosed_size n (nodes_weight b) _ (code_size b (true ∷ bs) (ls ++ n ∷ []) (n + 2) ok.0) in
-      omega (arith, s, h, code_size c bs ls (n + (2 + labels b)) ok.1)
-  code_size (Leave k c) bs ls n ok = let j = jump_size (add (enclosing ls k) 1) in let s = total_more (jump (add (enclosing ls k) 1)) (code_items W F out ls n c) in omega (arith, s, j, code_size c bs ls n ok.1)
-  code_size (Again k c) bs ls n ok = let j = jump_size (enclosing ls k) in let s = total_more (jump (enclosing ls k)) (code_items W F out ls n c) in omega (arith, s, j, code_size c bs ls n ok.1)
-  code_size (Return p c) bs ls n ok = let s = total_append (returning F p out) (code_items W F out ls n c) in omega (arith, s, returning_size F p out, code_size c bs ls n ok)
+  code_size c bs ls n ok = past_size c 0 bs ls n ok
 
 -- ---- the whole program
 

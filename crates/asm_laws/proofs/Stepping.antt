@@ -57,6 +57,14 @@ module _ (C : Console) where
   unfolding word_at
   unreadable_word a s q h r = rw (reads_at a s q h ∙ r) refl
 
+  -- machines that hold the same memory read the same words
+  pub same_word : (a b : Addr) (s t : State) → Held C a s → Held C b t → ((q : ℕ) → a.memory q ≡ b.memory q) → (q : ℕ) → word_at s q ≡ word_at t q
+  same_word a b s t h g e q = go (readable C q) refl
+    where
+      go : (r : Bool) → readable C q ≡ r → word_at s q ≡ word_at t q
+      go true is = readable_word a s q h is ∙ ap Some (e q) ∙ sym (readable_word b t q g is)
+      go false is = unreadable_word a s q h is ∙ sym (unreadable_word b t q g is)
+
   pub ram_readable : (q : ℕ) → q < 0x400000 → readable C q ≡ true
   unfolding readable
   ram_readable q lt = grind (arith, nat_tests)

@@ -1,11 +1,11 @@
 -- What operations do to objects, beside what they do to words.
-use Rattle.std.specs.Prelude.{◌≡◌, ℕ, ◌<◌, true, List, ◌++◌, length}
+use Rattle.std.specs.Prelude.{◌≡◌, ℕ, suc, ◌<◌, true, List, ◌++◌, length}
 use Rattle.kit_base.specs.declared.event.Event.{Event}
 use Rattle.v32_isa.specs.Ports.{is_readable, is_writable}
 use Rattle.v32_isa.specs.Runs as machine
 use Rattle.obj_mem.specs.Runs.{Ending, Halted, Fault, Starved, Stray, Deep, OutOfBound}
 use Rattle.mid_code.specs.declared.placed.Where.{Where}
-use Rattle.mid_code.specs.Code.{OpT, ConstO, NullO, MoveO, OneO, TwoO, GlobalO, LocalO, LiteralO, CardO, StepO, ApartO, PtrTestO, LoadO, StoreO, FreshO, EndO, InO, OutO, WaitO, HaltO}
+use Rattle.mid_code.specs.Code.{NodesT, Do, OpT, ConstO, NullO, MoveO, OneO, TwoO, GlobalO, LocalO, LiteralO, CardO, StepO, ApartO, PtrTestO, LoadO, StoreO, FreshO, EndO, InO, OutO, WaitO, HaltO}
 use Rattle.mid_code.specs.Meaning.{Did, On, Ends}
 use Rattle.mid_code.specs.States.{State}
 use Rattle.mid_code.specs.Invariants.{IsTest}
@@ -68,3 +68,8 @@ Fitting S f (InO t port) = Named S f t × (port < 16384) × (is_readable port �
 Fitting S f (OutO port p) = Named S f p × (port < 16384) × (is_writable port ≡ true)
 Fitting S f WaitO = Unit {0}
 Fitting S f HaltO = Unit {0}
+
+-- so many operations that come first
+abbrev pub FrontFits : Setting → ℕ → NodesT Where → ℕ → Type 0
+FrontFits S f (Do o c) (suc k) = Fitting S f o × FrontFits S f c k
+FrontFits S f _ k = Unit {0}

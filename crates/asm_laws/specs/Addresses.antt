@@ -7,7 +7,7 @@ use Rattle.v32_isa.specs.declared.instruction.One.{One as OneOf}
 use Rattle.v32_isa.specs.declared.instruction.One.TheVariants.{PUSH, POP, CMPS, CIB, NOT, BNOT, ISGN, IABS}
 use Rattle.v32_isa.specs.Arithmetic.{one_of, two_of}
 use Rattle.v32_isa.specs.Ports.{is_readable, is_writable}
-use Rattle.v32_isa.specs.State.{State, register_of, written, is_in_ram}
+use Rattle.v32_isa.specs.State.{State, register_of, written, is_in_ram, word_at}
 use Rattle.v32_isa.specs.Runs.{Run, run}
 use Rattle.v32_isa.specs.Runs as run
 use Rattle.v32_isa.specs.Runs.End.{Halted, Fault, Starved}
@@ -169,12 +169,14 @@ pub record Arrives (C : Console) (limit : ℕ) (s : State) (xs : List ℕ) (pc :
   pub held : Held C a to
   pub few : steps ≤ limit
 
--- in so many steps the run has ended
+-- in so many steps the run has ended, with memory as a machine reads it that holds the words
 pub record HasEnded (C : Console) (limit : ℕ) (s : State) (xs : List ℕ) (how : run.End) (a : Addr) : Type 0 where
   pub steps : ℕ
   pub to : State
   pub by : (n : ℕ) → run (steps + n) s xs ≡ record { events = []; end = how; state = to }
-  pub held : Held C a to
+  pub shown : State
+  pub held : Held C a shown
+  pub memory : (q : ℕ) → word_at to q ≡ word_at shown q
   pub few : steps ≤ limit
 
 abbrev pub Follows : Console → ℕ → State → List ℕ → ℕ → Addr → Does → Type 0

@@ -1,6 +1,6 @@
 -- How the machine holds the states of placed code, and where its parts stand.
 use Rattle.std.specs.Prelude.{◌≡◌, ℕ, ◌+◌, ◌<◌, ◌≤◌, List, [], length, get_or, Option, Some}
-use Rattle.v32_isa.specs.State.{register_of}
+use Rattle.v32_isa.specs.State.{register_of, word_at}
 use Rattle.v32_isa.specs.State as machine
 use Rattle.mid_code.specs.declared.placed.Where.{Where}
 use Rattle.mid_code.specs.Code.{maybe}
@@ -10,13 +10,13 @@ use Rattle.mid_code.specs.Invariants.{AllOf, AreDifferent, in_registers}
 use Rattle.asm_laws.specs.Placing.{Shapes, Jumps, At}
 use Rattle.asm_laws.specs.Following.{Holder}
 use Rattle.asm_laws.specs.Names.{function_label}
-use Rattle.asm_laws.specs.Operations.{op_items, call_items, giving}
+use Rattle.asm_laws.specs.Operations.{in_one, one_or_more, more_of, call_items, giving}
 use Rattle.asm_laws.specs.Standing.{Stand}
 use Rattle.asm_laws.specs.Tests.{Tests}
 use Rattle.asm_laws.specs.Addresses.{Addr, Held}
 use Rattle.asm_laws.specs.Framing.{frame_made, frame_gone}
 use Rattle.asm_laws.specs.Holds.{Setting, slot_offset, Named, Ctx, Stands, HoldsAt}
-use Rattle.asm_laws.specs.Acting.{Fitting}
+use Rattle.asm_laws.specs.Acting.{Fitting, FrontFits}
 
 -- a function that can be called
 pub record Callable (S : Setting) (f : ℕ) : Type 0 where
@@ -45,9 +45,12 @@ pub record Given (S : Setting) (κ : Ctx) (s : State Where) (m : machine.State) 
   pub held : Held S.console words m
   pub given : Stands (length s.world.store.objects) place s.given (register_of m 9)
 
+-- Where the run has ended, memory is as a machine reads it that holds the state.
 pub record EndedIn (S : Setting) (s : State Where) (m : machine.State) : Type 0 where
   pub context : Ctx
-  pub mach : Mach S context s m
+  pub shown : machine.State
+  pub mach : Mach S context s shown
+  pub memory : (q : ℕ) → word_at m q ≡ word_at shown q
 
 abbrev pub lang : Setting → Lang Where
 lang S = over_worlds registers_and_slots S.code S.frames
@@ -85,7 +88,7 @@ pub record GivingAt (S : Setting) (f pc : ℕ) (w : Option Where) : Type 0 where
 abbrev pub shapes : Setting → Shapes
 shapes S = record {
   words = S.console.words;
-  op = λ f pc o p. Fitting S f o × Stand S.console.words S.address pc (op_items S.whole (S.whole.frames f) o) p;
+  op = λ f pc o c more p. Fitting S f o × FrontFits S f c more × Stand S.console.words S.address pc (one_or_more S.whole (S.whole.frames f) o (in_one S.whole o c)) p × (more ≡ more_of (in_one S.whole o c));
   call = CallAt S;
   test = λ f pc w other next. Named S f w × Tests S.console.words S.address (S.whole.frames f) pc w other next;
   giving = GivingAt S;

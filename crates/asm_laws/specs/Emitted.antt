@@ -1,5 +1,5 @@
 -- The items of placed code: its instructions one after another, with labels where jumps go.
-use Rattle.std.specs.Prelude.{ℕ, suc, Bool, true, false, cond, ◌+◌, ◌-◌, List, [], ◌∷◌, ◌++◌, length, Option, get_or}
+use Rattle.std.specs.Prelude.{ℕ, zero, suc, Bool, true, false, cond, ◌+◌, ◌-◌, List, [], ◌∷◌, ◌++◌, length, Option, get_or}
 use Rattle.either.specs.declared.Either.TheVariants.{Right}
 use Rattle.v32_isa.specs.declared.instruction.Plain.TheVariants.{HLT}
 use Rattle.v32_isa.specs.declared.instruction.Go.TheVariants.{JMP, CALL}
@@ -12,7 +12,7 @@ use Rattle.asm_items.specs.declared.item.AsmItem.TheVariants as items
 use Rattle.mid_code.specs.declared.placed.Where.{Where}
 use Rattle.mid_code.specs.Code.{NodesT, Stop, Do, Call, Choose, Block, Loop, Leave, Again, Return, FunctionT, CodeT}
 use Rattle.asm_laws.specs.Names.{jump_label, function_label}
-use Rattle.asm_laws.specs.Operations.{Frame, Whole, hand, brings, giving, op_items, call_items, start_frame, opening_items, literals_items}
+use Rattle.asm_laws.specs.Operations.{Frame, Whole, hand, brings, giving, in_one, one_or_more, more_of, call_items, start_frame, opening_items, literals_items}
 use Rattle.asm_laws.specs.Framing.{frame_made, frame_gone}
 
 -- how many labels nodes take
@@ -68,19 +68,23 @@ abbrev pub returning : Frame → Option Where → ℕ → List AsmItem
 returning F p out = giving F p ++ jump out ∷ []
 
 module _ (W : Whole) (F : Frame) (out : ℕ) where
-  -- the items of nodes whose labels begin at n, inside blocks and loops with these labels
+  -- the items of nodes whose labels begin at n, inside blocks and loops with these labels; so many operations in front are done already
+  abbrev pub items_past : List ℕ → ℕ → NodesT Where → (done : ℕ) → List AsmItem
+  items_past ls n Stop k = []
+  items_past ls n (Do o c) zero = one_or_more W F o (in_one W o c) ++ items_past ls n c (more_of (in_one W o c))
+  items_past ls n (Do o c) (suc k) = items_past ls n c k
+  items_past ls n (Call t g args c) k = call_items W F t g args ++ items_past ls n c 0
+  items_past ls n (Choose p a b c) k =
+      cond (is_stop b) (one_way F p n (items_past ls (n + 1) a 0)) (choice F p n (n + 1 + labels a) (items_past ls (n + 1) a 0) (items_past ls (n + 1 + labels a + 1) b 0))
+      ++ items_past ls (n + (2 + labels a + labels b)) c 0
+  items_past ls n (Block b c) k = enclosed n (items_past (ls ++ n ∷ []) (n + 2) b 0) ++ items_past ls (n + (2 + labels b)) c 0
+  items_past ls n (Loop b c) k = enclosed n (items_past (ls ++ n ∷ []) (n + 2) b 0) ++ items_past ls (n + (2 + labels b)) c 0
+  items_past ls n (Leave j c) k = jump (add (enclosing ls j) 1) ∷ items_past ls n c 0
+  items_past ls n (Again j c) k = jump (enclosing ls j) ∷ items_past ls n c 0
+  items_past ls n (Return p c) k = returning F p out ++ items_past ls n c 0
+
   abbrev pub code_items : List ℕ → ℕ → NodesT Where → List AsmItem
-  code_items ls n Stop = []
-  code_items ls n (Do o c) = op_items W F o ++ code_items ls n c
-  code_items ls n (Call t g args c) = call_items W F t g args ++ code_items ls n c
-  code_items ls n (Choose p a b c) =
-      cond (is_stop b) (one_way F p n (code_items ls (n + 1) a)) (choice F p n (n + 1 + labels a) (code_items ls (n + 1) a) (code_items ls (n + 1 + labels a + 1) b))
-      ++ code_items ls (n + (2 + labels a + labels b)) c
-  code_items ls n (Block b c) = enclosed n (code_items (ls ++ n ∷ []) (n + 2) b) ++ code_items ls (n + (2 + labels b)) c
-  code_items ls n (Loop b c) = enclosed n (code_items (ls ++ n ∷ []) (n + 2) b) ++ code_items ls (n + (2 + labels b)) c
-  code_items ls n (Leave k c) = jump (add (enclosing ls k) 1) ∷ code_items ls n c
-  code_items ls n (Again k c) = jump (enclosing ls k) ∷ code_items ls n c
-  code_items ls n (Return p c) = returning F p out ++ code_items ls n c
+  code_items ls n c = items_past ls n c 0
 
 -- a function begins with its label and makes its frame; at its end it takes the frame away and goes back
 abbrev pub entry_items : Whole → ℕ → Frame → List AsmItem

@@ -7,7 +7,7 @@ use Rattle.v32_isa.specs.Runs as machine
 use Rattle.v32_isa.proofs.Steps.{Reaches}
 use Rattle.obj_mem.specs.Runs.{Ending, Halted, Fault, Starved, Stray, Deep, OutOfBound}
 use Rattle.mid_code.specs.declared.placed.Where.{Where}
-use Rattle.mid_code.specs.Code.{OpT}
+use Rattle.mid_code.specs.Code.{OpT, NodesT, Stop, Do, Call, Choose, Block, Loop, Leave, Again, Return}
 use Rattle.mid_code.specs.Meaning.{Did, On, Ends, Res, Next, Leaves, Repeats, Returns, Over, Lang, node_weight, call_weight}
 use Rattle.asm_laws.specs.Placing.{Shapes, Bounds, end_of, begin_of, Jumps, At}
 
@@ -105,6 +105,24 @@ TestSim X κ py px m b s None = Unit {0}
 TestSim X κ py px m b s (Some zero) = Came X m (spare 1 b) s py 0 0 (X.M κ s)
 TestSim X κ py px m b s (Some (suc v)) = Came X m (spare 1 b) s px 0 0 (X.M κ s)
 
+-- what is done where a first part goes on
+abbrev pub did_then : {S : Type 0} → Did S → (S → Did S) → Did S
+did_then (On t) go = go t
+did_then (Ends f t) go = Ends f t
+
+-- what the first operations of nodes do, as many of these as are there
+abbrev pub front_acts : (L : Lang Where) → NodesT Where → ℕ → L.S → Did L.S
+front_acts L Stop k s = On s
+front_acts L (Do o c) zero s = On s
+front_acts L (Do o c) (suc k) s = did_then (L.act o s) (front_acts L c k)
+front_acts L (Call t g args c) k s = On s
+front_acts L (Choose w x y c) k s = On s
+front_acts L (Block b c) k s = On s
+front_acts L (Loop b c) k s = On s
+front_acts L (Leave j c) k s = On s
+front_acts L (Again j c) k s = On s
+front_acts L (Return w c) k s = On s
+
 -- what the parts keep
 pub record Parts (L : Lang Where) (X : Holder L) (H : Shapes) : Type 0 where
   pub tick_answers : (n : ℕ) (s : L.S) → X.answers (L.tick n s) ≡ X.answers s
@@ -116,7 +134,7 @@ pub record Parts (L : Lang Where) (X : Holder L) (H : Shapes) : Type 0 where
   pub none_answers : (s : L.S) → X.answers (L.none s) ≡ X.answers s
   pub none_events : (s : L.S) → X.events (L.none s) ≡ X.events s
   pub none_work : (s : L.S) → X.work (L.none s) ≡ X.work s
-  pub op : (κ : X.K) (pc p : ℕ) (o : OpT Where) (s : L.S) (m : State) → H.op (X.fn κ) pc o p → m.counter ≡ pc → X.M κ s m → DidSim X κ m (begin X s) p (L.act o s)
+  pub op : (κ : X.K) (pc p more : ℕ) (o : OpT Where) (c : NodesT Where) (s : L.S) (m : State) → H.op (X.fn κ) pc o c more p → m.counter ≡ pc → X.M κ s m → DidSim X κ m (begin X s) p (did_then (L.act o s) (front_acts L c more))
   pub test : (κ : X.K) (pc py px : ℕ) (w : Where) (s : L.S) (m : State) → H.test (X.fn κ) pc w py px → m.counter ≡ pc → X.M κ s m → TestSim X κ py px m (begin X s) (L.tick node_weight s) (L.test w s)
   pub give : (κ : X.K) (pc : ℕ) (w : Option Where) (s : L.S) (m : State) → H.giving (X.fn κ) pc w → m.counter ≡ pc → X.M κ s m →
       Came X m (begin X s) (L.give w (L.tick node_weight s)) (X.way_out (X.fn κ)) 0 0 (X.G κ (L.give w (L.tick node_weight s)))

@@ -1,5 +1,5 @@
 -- The instructions of each operation of placed code.
-use Rattle.std.specs.Prelude.{ℕ, ◌+◌, ◌%◌, ◌==◌, ◌&&◌, not, cond, Bool, true, false, List, [], ◌∷◌, ◌++◌, map, Option, Some, None, get_or}
+use Rattle.std.specs.Prelude.{ℕ, ◌+◌, ◌%◌, ◌==◌, ◌&&◌, not, cond, Bool, false, List, [], ◌∷◌, ◌++◌, map, Option, Some, None, get_or, option_map}
 use Rattle.either.specs.declared.Either.TheVariants.{Left, Right}
 use Rattle.kit_base.specs.Word.{sub}
 use Rattle.v32_isa.specs.declared.instruction.Plain.TheVariants.{HLT, WAIT}
@@ -7,7 +7,7 @@ use Rattle.v32_isa.specs.declared.instruction.Go.TheVariants.{CALL}
 use Rattle.v32_isa.specs.declared.instruction.One.{One as OneOf}
 use Rattle.v32_isa.specs.declared.instruction.One.TheVariants.{PUSH, POP}
 use Rattle.v32_isa.specs.declared.instruction.Two.{Two as TwoOf}
-use Rattle.v32_isa.specs.declared.instruction.Two.TheVariants.{IEQ, INE, IGT, IGE, ILT, ILE, AND, OR, XOR, IADD, ISUB, IMUL, IDIV, IMOD}
+use Rattle.v32_isa.specs.declared.instruction.Two.TheVariants.{IEQ, INE, IGT, IGE, ILT, ILE, AND, OR, XOR, IADD, ISUB, IMUL}
 use Rattle.v32_isa.specs.declared.instruction.Src.TheVariants as src
 use Rattle.v32_isa.specs.declared.instruction.Mov.TheVariants.{RegImm, RegReg, RegAtReg, RegAtOff, AtRegReg, AtOffReg}
 use Rattle.v32_isa.specs.declared.instruction.Instr.{Instr}
@@ -17,7 +17,7 @@ use Rattle.asm_items.specs.declared.item.AsmItem.TheVariants as item
 use Rattle.asm_items.specs.Items.{Imm}
 use Rattle.mid_code.specs.declared.placed.Where.{Where}
 use Rattle.mid_code.specs.declared.placed.Where.TheVariants.{Reg, Slot}
-use Rattle.mid_code.specs.Code.{OpT, ConstO, NullO, MoveO, OneO, TwoO, GlobalO, LocalO, LiteralO, CardO, StepO, ApartO, PtrTestO, LoadO, StoreO, FreshO, EndO, InO, OutO, WaitO, HaltO}
+use Rattle.mid_code.specs.Code.{NodesT, Do, OpT, ConstO, NullO, MoveO, OneO, TwoO, GlobalO, LocalO, LiteralO, CardO, StepO, ApartO, PtrTestO, LoadO, StoreO, FreshO, EndO, InO, OutO, WaitO, HaltO}
 use Rattle.asm_laws.specs.Names.{literal_label, function_label}
 
 -- the frame of a function: its size, and the offsets of its slots and of its locals' first words. Offset 0 is the
@@ -115,16 +115,10 @@ moves F t (Slot k) = fetches F (Slot k) (aim t) ∷ lays F t
 abbrev pub changes : Frame → OneOf → Where → Where → List AsmItem
 changes F o t a = takes F a (aim t) ++ item.Op (instr.One o (aim t)) ∷ lays F t
 
--- the operators that can fault
-abbrev pub is_division : TwoOf → Bool
-is_division IDIV = true
-is_division IMOD = true
-is_division _ = false
-
--- An operator works in the register of its target, where it does not fault, and the second word does not stand there.
-abbrev pub is_direct : TwoOf → Where → Where → Bool
-is_direct o (Slot k) b = false
-is_direct o (Reg q) b = not (is_division o) && not (is_in b (register q))
+-- An operator works in the register of its target, where the second word does not stand there.
+abbrev pub is_direct : Where → Where → Bool
+is_direct (Slot k) b = false
+is_direct (Reg q) b = not (is_in b (register q))
 
 abbrev pub in_place : Frame → TwoOf → (target : ℕ) → Where → Where → List AsmItem
 in_place F o m a b = takes F a m ++ (brings F b 10 ++ item.Op (instr.Two o m (src.Reg (hand b 10))) ∷ [])
@@ -158,7 +152,7 @@ turned_or_apart F o (Some u) t a b = cond (is_turned t a b) (in_place F u (aim t
 
 -- a word computed of two words is put at a place
 abbrev pub computes : Frame → TwoOf → Where → Where → Where → List AsmItem
-computes F o t a b = cond (is_direct o t b) (in_place F o (aim t) a b) (turned_or_apart F o (turned o) t a b)
+computes F o t a b = cond (is_direct t b) (in_place F o (aim t) a b) (turned_or_apart F o (turned o) t a b)
 
 -- ---- calls
 
@@ -221,6 +215,64 @@ op_items W F (InO t p) = item.Op (instr.In (aim t) (port p)) ∷ lays F t
 op_items W F (OutO p a) = brings F a 9 ++ item.Op (instr.Out (port p) (src.Reg (hand a 9))) ∷ []
 op_items W F WaitO = item.Op (instr.Plain WAIT) ∷ []
 op_items W F HaltO = item.Op (instr.Plain HLT) ∷ []
+
+-- ---- operations done in one go
+
+-- the register into which an operation puts a word that is known, and the word
+abbrev pub word_put : Whole → OpT Where → Option (ℕ × ℕ)
+word_put W (ConstO (Reg r) n) = Some (register r, n)
+word_put W (GlobalO (Reg r) k) = Some (register r, get_or W.globals k 0)
+word_put W _ = None
+
+-- the register of the other word, where a target and just one of two words stand in register r
+abbrev pub other_word : ℕ → (target first second : Where) → Option ℕ
+other_word r (Reg t) (Reg a) (Reg b) = cond (register t == r) (cond (register a == r) (cond (register b == r) None (Some (register b))) (cond (register b == r) (Some (register a)) None)) None
+other_word r _ _ _ = None
+
+-- the register of the first word, where a target and the second word stand in register r, and the first one does not
+abbrev pub first_word : ℕ → (target first second : Where) → Option ℕ
+first_word r (Reg t) (Reg a) (Reg b) = cond (register t == r) (cond (register b == r) (cond (register a == r) None (Some (register a))) None) None
+first_word r _ _ _ = None
+
+abbrev pub sum_of : TwoOf → ℕ → ℕ → (target first second : Where) → Option (ℕ × ℕ)
+sum_of IADD r w t a b = option_map (λ q. (q, w)) (other_word r t a b)
+sum_of ISUB r w t a b = option_map (λ q. (q, sub 0 w)) (first_word r t a b)
+sum_of _ r w t a b = None
+
+-- A register and a word: their sum is what an operation makes in register r, which holds w before.
+abbrev pub summed : ℕ → ℕ → OpT Where → Option (ℕ × ℕ)
+summed r w (TwoO o t a b) = sum_of o r w t a b
+summed r w (StepO t p n) = sum_of IADD r w t p n
+summed r w _ = None
+
+-- whether a load comes first that takes its address from register r and puts the word there
+abbrev pub loads_there : ℕ → NodesT Where → Bool
+loads_there r (Do (LoadO (Reg t) (Reg p)) c) = (register t == r) && (register p == r)
+loads_there r _ = false
+
+-- The operations behind a first one that one instruction does together with it, how many they are, and the instruction. A known word is put into a
+-- register, and then another register's is added to it there: a `LEA` does both. Where that is the address of a load into the same register, one
+-- `MOV` does all three.
+abbrev pub with_sum : ℕ → Option (ℕ × ℕ) → NodesT Where → Option (ℕ × Instr Imm)
+with_sum r None c = None
+with_sum r (Some (q, v)) c = Some (cond (loads_there r c) (2, instr.Mov (RegAtOff r q (Left v))) (1, instr.Lea r q (Some (Left v))))
+
+abbrev pub with_word : Option (ℕ × ℕ) → OpT Where → NodesT Where → Option (ℕ × Instr Imm)
+with_word None p c = None
+with_word (Some (r, w)) p c = with_sum r (summed r w p) c
+
+unfoldable pub in_one : Whole → OpT Where → NodesT Where → Option (ℕ × Instr Imm)
+in_one W o (Do p c) = with_word (word_put W o) p c
+in_one W o _ = None
+
+-- the items of an operation, and of those that are done together with it; how many these are
+abbrev pub one_or_more : Whole → Frame → OpT Where → Option (ℕ × Instr Imm) → List AsmItem
+one_or_more W F o None = op_items W F o
+one_or_more W F o (Some (more, i)) = item.Op i ∷ []
+
+abbrev pub more_of : Option (ℕ × Instr Imm) → ℕ
+more_of None = 0
+more_of (Some (more, i)) = more
 
 -- a result is given back in register 9
 abbrev pub giving : Frame → Option Where → List AsmItem

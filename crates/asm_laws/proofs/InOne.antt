@@ -1,0 +1,82 @@
+-- Operations that are done in one go: a `LEA` or a `MOV` of a register and a word.
+use Rattle.std.proofs.Common.{◌≡◌, ℕ, ◌<◌, Bool, true, false, cond, List, [], ◌∷◌, Option, Some, None, refl, arith}
+use Rattle.std.specs.Prelude.{◌==◌, get_or, option_map}
+use Rattle.kit_base.specs.Word.{sub}
+use Rattle.either.specs.declared.Either.TheVariants.{Left}
+use Rattle.v32_isa.specs.declared.instruction.Two.TheVariants.{IADD, ISUB}
+use Rattle.v32_isa.specs.declared.instruction.Mov.TheVariants.{RegAtOff}
+use Rattle.v32_isa.specs.declared.instruction.Instr.TheVariants as instr
+use Rattle.asm_items.specs.declared.item.AsmItem.{AsmItem}
+use Rattle.asm_items.specs.declared.item.AsmItem.TheVariants as item
+use Rattle.mid_code.specs.declared.placed.Where.{Where}
+use Rattle.mid_code.specs.declared.placed.Where.TheVariants.{Reg, Slot}
+use Rattle.mid_code.specs.Code.{OpT, ConstO, TwoO, GlobalO, StepO, NodesT, Do}
+use Rattle.asm_laws.specs.Operations.{Frame, Whole, register, op_items, word_put, other_word, first_word, summed, loads_there, with_sum, with_word, in_one, one_or_more}
+
+module _ (V : ℕ → Type 0) where
+  -- a register, and a word of which V holds
+  abbrev Fits : Option (ℕ × ℕ) → Type 0
+  Fits None = Unit {0}
+  Fits (Some (q, v)) = (q < 16) × V v
+
+  -- the same of a word that is put, and of what is added where it is taken away
+  abbrev Puts : Option (ℕ × ℕ) → Type 0
+  Puts None = Unit {0}
+  Puts (Some (r, w)) = (r < 16) × V w × V (sub 0 w)
+
+  put_is : (W : Whole) (o : OpT Where) → ((t : Where) (n : ℕ) → o ≡ ConstO t n → V n × V (sub 0 n)) → ((t : Where) (k : ℕ) → o ≡ GlobalO t k → V (get_or W.globals k 0) × V (sub 0 (get_or W.globals k 0))) → Puts (word_put W o)
+  put_is W (ConstO (Reg r) n) f g = let v = f (Reg r) n refl in (omega arith, v.0, v.1)
+  put_is W (GlobalO (Reg r) k) f g = let v = g (Reg r) k refl in (omega arith, v.0, v.1)
+  put_is W _ f g = tt
+
+  other_fits : (r w : ℕ) (t a b : Where) → V w → Fits (option_map (λ q. (q, w)) (other_word r t a b))
+  other_fits r w (Reg t) (Reg a) (Reg b) h = go (register t == r) (register a == r) (register b == r)
+    where
+      go : (x y z : Bool) → Fits (option_map (λ q. (q, w)) (cond x (cond y (cond z None (Some (register b))) (cond z (Some (register a)) None)) None))
+      go false y z = tt
+      go true true true = tt
+      go true true false = (omega arith, h)
+      go true false true = (omega arith, h)
+      go true false false = tt
+  other_fits r w _ _ _ h = tt
+
+  first_fits : (r w : ℕ) (t a b : Where) → V w → Fits (option_map (λ q. (q, w)) (first_word r t a b))
+  first_fits r w (Reg t) (Reg a) (Reg b) h = go (register t == r) (register b == r) (register a == r)
+    where
+      go : (x y z : Bool) → Fits (option_map (λ q. (q, w)) (cond x (cond y (cond z None (Some (register a))) None) None))
+      go false y z = tt
+      go true false z = tt
+      go true true true = tt
+      go true true false = (omega arith, h)
+  first_fits r w _ _ _ h = tt
+
+  summed_fits : (r w : ℕ) (p : OpT Where) → V w → V (sub 0 w) → Fits (summed r w p)
+  summed_fits r w (TwoO IADD t a b) h g = other_fits r w t a b h
+  summed_fits r w (TwoO ISUB t a b) h g = first_fits r (sub 0 w) t a b g
+  summed_fits r w (StepO t p n) h g = other_fits r w t p n h
+  summed_fits r w _ h g = tt
+
+module _ (W : Whole) (F : Frame) (P : List AsmItem → Type 0) (V : ℕ → Type 0) where
+  abbrev Lea : Type 0
+  Lea = (r q v : ℕ) → r < 16 → q < 16 → V v → P (item.Op (instr.Lea r q (Some (Left v))) ∷ [])
+
+  abbrev Mov : Type 0
+  Mov = (r q v : ℕ) → r < 16 → q < 16 → V v → P (item.Op (instr.Mov (RegAtOff r q (Left v))) ∷ [])
+
+  sum_is : (o : OpT Where) (r : ℕ) (s : Option (ℕ × ℕ)) (c : NodesT Where) → r < 16 → Fits V s → P (op_items W F o) → Lea → Mov → P (one_or_more W F o (with_sum r s c))
+  sum_is o r None c lt fit h lea mov = h
+  sum_is o r (Some (q, v)) c lt fit h lea mov = go (loads_there r c)
+    where
+      go : (b : Bool) → P (one_or_more W F o (Some (cond b (2, instr.Mov (RegAtOff r q (Left v))) (1, instr.Lea r q (Some (Left v))))))
+      go true = mov r q v lt fit.0 fit.1
+      go false = lea r q v lt fit.0 fit.1
+
+  word_is : (o : OpT Where) (s : Option (ℕ × ℕ)) (p : OpT Where) (c : NodesT Where) → Puts V s → P (op_items W F o) → Lea → Mov → P (one_or_more W F o (with_word s p c))
+  word_is o None p c fit h lea mov = h
+  word_is o (Some (r, w)) p c fit h lea mov = sum_is o r (summed r w p) c fit.0 (summed_fits V r w p fit.1 fit.2) h lea mov
+
+  -- what holds of the items of an operation, and of each such instruction, holds of what is done
+  pub one_or_more_is : (o : OpT Where) (c : NodesT Where) → ((t : Where) (n : ℕ) → o ≡ ConstO t n → V n × V (sub 0 n)) → ((t : Where) (k : ℕ) → o ≡ GlobalO t k → V (get_or W.globals k 0) × V (sub 0 (get_or W.globals k 0))) → P (op_items W F o) → Lea → Mov → P (one_or_more W F o (in_one W o c))
+  unfolding in_one
+  one_or_more_is o (Do p c) f g h lea mov = word_is o (word_put W o) p c (put_is V W o f g) h lea mov
+  one_or_more_is o _ f g h lea mov = h

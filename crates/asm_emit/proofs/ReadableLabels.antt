@@ -4,7 +4,8 @@ use Rattle.std.specs.Prelude.{get_or}
 use Rattle.std.specs.List.{list_all}
 use Rattle.v32_isa.specs.Ports.{port_named, port_spelled, port_table}
 use Rattle.asm_items.specs.Vocabulary.{is_letter, is_word_byte, is_word, is_label, is_label_word, is_spelled, vocabulary, registers, word_kind}
-use Rattle.asm_items.specs.Written.{hex_digit, number_text}
+use Rattle.kit_base.specs.Digits.{hex_digit, word_digits}
+use Rattle.asm_items.specs.Written.{number_text}
 use Rattle.asm_reader.specs.Readable.{IsName}
 use Rattle.asm_reader.proofs.DigitLaws.{both, word_number}
 use Rattle.asm_laws.specs.Names.{jump_label, literal_label, function_label}
@@ -12,7 +13,7 @@ use Rattle.asm_laws.specs.Names.{jump_label, literal_label, function_label}
 -- ---- numbers are written in word bytes
 
 number_wraps : (n : ℕ) → number_text n ≡ number_text (n % 2 ^ 32)
-unfolding number_text
+unfolding number_text word_digits
 number_wraps n =
     let d7 : n / 0x10000000 % 16 ≡ n % 2 ^ 32 / 0x10000000 % 16 = omega arith in
     let d6 : n / 0x1000000 % 16 ≡ n % 2 ^ 32 / 0x1000000 % 16 = omega arith in

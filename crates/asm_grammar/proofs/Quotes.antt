@@ -6,7 +6,7 @@ use Rattle.asm_reader.specs.declared.quoted.Within.{Within}
 use Rattle.asm_reader.specs.declared.quoted.Within.TheVariants as w
 use Rattle.asm_reader.specs.declared.quoted.Turn.{Turn}
 use Rattle.asm_reader.specs.declared.quoted.Turn.TheVariants as t
-use Rattle.asm_reader.specs.Numbers.{digit_value}
+use Rattle.kit_base.specs.Digits.{digit_value}
 use Rattle.asm_reader.specs.Quoted.{escape_turn, front, by_turn, turn_of, quoted_at}
 use Rattle.c_lex.specs.declared.quoted.Within.{Within as CWithin}
 use Rattle.c_lex.specs.declared.quoted.Within.TheVariants as cw

@@ -10,7 +10,8 @@ use Rattle.asm_items.specs.Vocabulary.{is_letter, is_word_byte}
 use Rattle.asm_reader.specs.declared.quoted.Within.TheVariants.{Plain}
 use Rattle.asm_reader.specs.declared.token.Token.{Token}
 use Rattle.asm_reader.specs.declared.token.Token.TheVariants as t
-use Rattle.asm_reader.specs.Numbers.{limited, value_in, hexadecimal_digits, number_by, number_token}
+use Rattle.kit_base.specs.Digits.{value_in}
+use Rattle.asm_reader.specs.Numbers.{limited, hexadecimal_digits, number_by, number_token}
 use Rattle.asm_reader.specs.Quoted.{quoted_at}
 use Rattle.asm_reader.specs.Tokens.{begins, is_blank, run_token, mark_token, text_token, token_at, tokens_from, tokens_of}
 use Rattle.asm_reader.proofs.Lexing.{passed}

@@ -1,6 +1,7 @@
 -- The one written form of a list of items: a line per item, each ended by LF.
-use Rattle.std.specs.Prelude.{ℕ, ◌+◌, ◌/◌, ◌%◌, List, [], ◌∷◌, ◌++◌, codes, nat_lt, if◌then◌else◌}
+use Rattle.std.specs.Prelude.{ℕ, ◌/◌, ◌%◌, List, [], ◌∷◌, ◌++◌, codes, nat_lt, if◌then◌else◌}
 use Rattle.std.specs.List.{flat_map}
+use Rattle.kit_base.specs.Digits.{hex_digit, word_digits}
 use Rattle.either.specs.declared.Either.TheVariants.{Left, Right}
 use Rattle.v32_isa.specs.declared.instruction.Instr.{Instr}
 use Rattle.asm_items.specs.declared.item.AsmItem.{AsmItem}
@@ -9,15 +10,9 @@ use Rattle.asm_items.specs.Items.{Imm}
 use Rattle.asm_items.specs.Mnemonics.{mnemonic, register_name}
 use Rattle.asm_items.specs.Operands.{Operand, Register, Immediate, AtRegister, AtImmediate, AtOffset, AtPort, operands}
 
--- '0' to '9', 'A' to 'F'
-abbrev pub hex_digit : ℕ → ℕ
-hex_digit d = if nat_lt d 10 then 48 + d else 55 + d
-
 -- `0x` and eight upper-case digits
 unfoldable pub number_text : ℕ → List ℕ
-number_text n = codes "0x" ++
-    hex_digit (n / 0x1000_0000 % 16) ∷ hex_digit (n / 0x100_0000 % 16) ∷ hex_digit (n / 0x10_0000 % 16) ∷ hex_digit (n / 0x1_0000 % 16)
-    ∷ hex_digit (n / 0x1000 % 16) ∷ hex_digit (n / 0x100 % 16) ∷ hex_digit (n / 0x10 % 16) ∷ hex_digit (n % 16) ∷ []
+number_text n = codes "0x" ++ word_digits n
 
 -- `0x` and three upper-case digits, or four from 0x1000 on
 unfoldable pub port_text : ℕ → List ℕ

@@ -1,51 +1,30 @@
 // The text of items.
-ghost use Rattle.std.specs.Prelude.{◌≡◌, ◌++◌, ◌∷◌, ◌<◌, [], codes, IfOk, OnOk};
+ghost use Rattle.std.specs.Prelude.{◌≡◌, ◌++◌, ◌∷◌, [], codes, IfOk, OnOk};
 ghost use Rattle.asm_items.specs.Mnemonics.{register_name};
 ghost use Rattle.asm_items.specs.Operands.{Register, AtRegister, AtOffset, AtPort, mov_operands, operands, src_operand};
-ghost use Rattle.asm_items.specs.Written.{hex_digit, imm_text, item_line, number_text, operand_list, operand_text, operation_text, port_text, written};
+ghost use Rattle.asm_items.specs.Written.{imm_text, item_line, number_text, operand_list, operand_text, operation_text, port_text, written};
 
 use crate::item::{AsmItem, Imm};
 use crate::mnemonic::{branch_name, go_name, one_name, plain_name, register_name, two_name};
 use either::Either;
-use kit_base::Memory;
+use kit_base::{Memory, hex_digit, word_digits};
 use std::alloc::{AllocError, Global};
 use v32_isa::{Instr, Mov, Port, Reg, Src};
-
-fn hex_digit(d: u32) -> u8
-    requires { d < 16 }
-    ensures { result ≡ hex_digit d }
-{
-    if d < 10 {
-        b'0' + d as u8
-    } else {
-        b'A' + (d - 10) as u8
-    }
-}
-
-/// `0x` and eight upper-case digits.
-#[tactic(auto, unfolding(crate::specs::Written::number_text))]
-fn number_text(n: u32) -> [u8; 10]
-    ensures { result ≡ number_text n }
-{
-    [
-        b'0',
-        b'x',
-        hex_digit(n / 0x1000_0000 % 16),
-        hex_digit(n / 0x100_0000 % 16),
-        hex_digit(n / 0x10_0000 % 16),
-        hex_digit(n / 0x1_0000 % 16),
-        hex_digit(n / 0x1000 % 16),
-        hex_digit(n / 0x100 % 16),
-        hex_digit(n / 0x10 % 16),
-        hex_digit(n % 16),
-    ]
-}
 
 /// Adds a piece of text.
 fn put(out: &mut Vec<u8>, piece: &str) -> Result<(), AllocError>
     ensures { OnOk result (out.new.items ≡ out.old.items ++ piece.now) }
 {
     out.extend_from_slice(piece.as_bytes())
+}
+
+/// Adds `0x` and eight upper-case digits.
+#[tactic(auto, unfolding(crate::specs::Written::number_text))]
+fn put_number(out: &mut Vec<u8>, n: u32) -> Result<(), AllocError>
+    ensures { OnOk result (out.new.items ≡ out.old.items ++ number_text n) }
+{
+    put(out, "0x")?;
+    out.extend_from_slice(&word_digits(n))
 }
 
 /// Adds a port: `0x` and three upper-case digits, or four from 0x1000 on.
@@ -70,7 +49,7 @@ fn put_imm(out: &mut Vec<u8>, imm: &Imm) -> Result<(), AllocError>
     ensures { OnOk result (out.new.items ≡ out.old.items ++ imm_text imm.now) }
 {
     match imm {
-        Either::Left(n) => out.extend_from_slice(&number_text(*n)),
+        Either::Left(n) => put_number(out, *n),
         Either::Right(name) => out.extend_from_slice(name.bytes()),
     }
 }
@@ -250,7 +229,7 @@ fn put_item(out: &mut Vec<u8>, item: &AsmItem) -> Result<(), AllocError>
         }
         AsmItem::Integer(w) => {
             put(out, "integer ")?;
-            out.extend_from_slice(&number_text(*w))?;
+            put_number(out, *w)?;
             put(out, "\n")
         }
         AsmItem::Pointer(name) => {

@@ -2,7 +2,8 @@
 use Rattle.std.proofs.Common.{◌≡◌, ℕ, ◌/◌, ◌%◌, ◌^◌, ◌<◌, ◌≤◌, List, [], length, refl, sym, ap, ◌∙◌, arith}
 use Rattle.std.specs.Prelude.{get_or}
 use Rattle.std.proofs.lemmas.Bool.Decides.{nat_tests}
-use Rattle.asm_items.specs.Written.{hex_digit, number_text}
+use Rattle.kit_base.specs.Digits.{hex_digit, word_digits}
+use Rattle.asm_items.specs.Written.{number_text}
 use Rattle.asm_laws.specs.Names.{jump_label, literal_label, function_label}
 
 -- the names of functions differ
@@ -18,7 +19,7 @@ digit_same : (n m : ℕ) → hex_digit (n % 16) ≡ hex_digit (m % 16) → n % 1
 digit_same n m h = hex_same (n % 16) (m % 16) (omega arith) (omega arith) h
 
 number_same : (n m : ℕ) → n < 2 ^ 32 → m < 2 ^ 32 → number_text n ≡ number_text m → n ≡ m
-unfolding number_text
+unfolding number_text word_digits
 number_same n m a b h =
     let d7 = digit_same (n / 0x10000000) (m / 0x10000000) cc in
     let d6 = digit_same (n / 0x1000000) (m / 0x1000000) cc in

@@ -4,10 +4,11 @@ use Rattle.std.specs.Prelude.{Some}
 use Rattle.std.specs.Char.{is_ascii_hexdigit}
 use Rattle.std.specs.List.{list_all}
 use Rattle.asm_items.specs.Vocabulary.{is_word_byte}
-use Rattle.asm_items.specs.Written.{hex_digit, number_text, port_text}
+use Rattle.kit_base.specs.Digits.{digit_value, hex_digit, word_digits}
+use Rattle.asm_items.specs.Written.{number_text, port_text}
 use Rattle.asm_reader.specs.declared.token.Token.{Token}
 use Rattle.asm_reader.specs.declared.token.Token.TheVariants as t
-use Rattle.asm_reader.specs.Numbers.{digit_value, limited, hexadecimal_digits, number_by, number_token}
+use Rattle.asm_reader.specs.Numbers.{limited, hexadecimal_digits, number_by, number_token}
 use Rattle.asm_reader.specs.Tokens.{run_token}
 
 -- letters, digits and `_` that are one token
@@ -138,7 +139,7 @@ eight_digits : (n : ℕ) → AreDigits (eight n)
 eight_digits n = (digit_of (n / 0x1000_0000), (digit_of (n / 0x100_0000), (digit_of (n / 0x10_0000), (digit_of (n / 0x1_0000), four_digits n))))
 
 pub word_number : (n : ℕ) → n < 2 ^ 32 → IsRun (number_text n) (t.Number false (Some n))
-unfolding number_text
+unfolding number_text word_digits
 word_number n below = number_run (eight n) n (omega arith) (eight_digits n) (eight_are n below) below
 
 port_by : (n : ℕ) (small : Bool) → ltb n 0x1000 ≡ small → n < 16384 → IsRun (cond small (spelled (three n)) (spelled (four n))) (t.Number false (Some n))

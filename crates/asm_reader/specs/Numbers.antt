@@ -1,17 +1,10 @@
 -- Numbers as they are spelled (the assembly guide, section on numbers).
-use Rattle.std.specs.Prelude.{ℕ, ◌+◌, ◌*◌, ◌-◌, ◌^◌, List, [], ◌∷◌, length, fold, Bool, ◌&&◌, ◌==◌, nat_lt, if◌then◌else◌, Option, Some, None}
+use Rattle.std.specs.Prelude.{ℕ, ◌^◌, List, [], ◌∷◌, length, Bool, ◌&&◌, ◌==◌, nat_lt, if◌then◌else◌, Option, Some, None}
 use Rattle.std.specs.Char.{is_ascii_digit, is_ascii_hexdigit}
 use Rattle.std.specs.List.{list_all}
+use Rattle.kit_base.specs.Digits.{value_in}
 use Rattle.asm_reader.specs.declared.token.Token.{Token}
 use Rattle.asm_reader.specs.declared.token.Token.TheVariants as t
-
--- '0' to '9', 'A' to 'F' and 'a' to 'f'
-abbrev pub digit_value : ℕ → ℕ
-digit_value b = if nat_lt b 58 then b - 48 else (if nat_lt b 97 then b - 55 else b - 87)
-
--- the number that digits write in a base
-abbrev pub value_in : ℕ → List ℕ → ℕ
-value_in base digits = fold (λ value digit. value * base + digit_value digit) 0 digits
 
 -- a magnitude below 2 ^ 32; no place takes a greater one
 unfoldable pub limited : ℕ → Option ℕ

@@ -1,7 +1,7 @@
 -- Texts with escapes, byte by byte: where one is within its text, and what a byte does there.
 use Rattle.std.specs.Prelude.{ℕ, ◌+◌, ◌*◌, List, [], ◌∷◌, ◌==◌, ◌&&◌, nat_lt, if◌then◌else◌, Option, Some, None}
 use Rattle.std.specs.Char.{is_ascii_hexdigit}
-use Rattle.asm_reader.specs.Numbers.{digit_value}
+use Rattle.kit_base.specs.Digits.{digit_value}
 use Rattle.asm_reader.specs.declared.quoted.Within.{Within}
 use Rattle.asm_reader.specs.declared.quoted.Within.TheVariants as w
 use Rattle.asm_reader.specs.declared.quoted.Turn.{Turn}

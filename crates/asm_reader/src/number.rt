@@ -1,36 +1,14 @@
 // Numbers.
-ghost use Rattle.std.specs.Prelude.{◌≡◌, ◌≤◌, ◌^◌, min, option_map};
+ghost use Rattle.std.specs.Prelude.{◌≡◌, option_map};
 ghost use Rattle.std.specs.Char.{is_ascii_digit, is_ascii_hexdigit};
 ghost use Rattle.std.specs.List.{list_all};
-ghost use Rattle.asm_reader.specs.Numbers.{digit_value, hexadecimal_digits, limited, number_token, value_in};
+ghost use Rattle.kit_base.specs.Digits.{value_in};
+ghost use Rattle.asm_reader.specs.Numbers.{hexadecimal_digits, limited, number_token};
 
 use crate::token::Token;
+use kit_base::value_in;
 
 const LIMIT: u64 = 4_294_967_296;
-
-/// The value of a digit of either base.
-pub fn digit_value(b: u8) -> u8
-    ensures { result ≡ digit_value b }
-{
-    if b < b':' {
-        b.saturating_sub(b'0')
-    } else if b < b'a' {
-        b.saturating_sub(55)
-    } else {
-        b - 87
-    }
-}
-
-/// The value of the digits, or 2^32 where it is greater.
-fn value_in(base: u8, digits: &[u8]) -> u64
-    ensures { result ≡ min (value_in base digits.now) (2 ^ 32) }
-{
-    let mut value: u64 = 0;
-    for digit in digits {
-        value = (value * u64::from(base) + u64::from(digit_value(*digit))).min(LIMIT);
-    }
-    value
-}
 
 /// The number that the digits write, below 2^32.
 #[tactic(auto, unfolding(crate::specs::Numbers::limited))]

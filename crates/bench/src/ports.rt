@@ -1,21 +1,7 @@
 // The ports of graphics and of sound, told words by number.
-ghost use Rattle.std.specs.Prelude.{◌≡◌};
-ghost use Rattle.v32_isa.specs.Ports.{is_writable};
-
 use gpu_state::Gpu;
 use spu_mix::Spu;
-use v32_isa::{Port, port_by_number};
-
-/// Whether the port takes a word.
-#[tactic(auto, unfolding(v32_isa::specs::Ports::is_writable))]
-fn takes_words(port: Port) -> bool
-    ensures writable { result ≡ is_writable port }
-{
-    match port_by_number(port.number()) {
-        Some(row) => row.writable,
-        None => false,
-    }
-}
+use v32_isa::{Port, listens};
 
 /// Tells a port of graphics a word; nothing where the number is none of these.
 pub fn tell_graphics(gpu: &mut Gpu, number: u32, word: u32) {
@@ -23,7 +9,7 @@ pub fn tell_graphics(gpu: &mut Gpu, number: u32, word: u32) {
         return;
     }
     let port = Port::at(number);
-    if takes_words(port) {
+    if listens(port) {
         gpu.out(port, word);
     }
 }
@@ -34,7 +20,7 @@ pub fn tell_sound(spu: &mut Spu, number: u32, word: u32) {
         return;
     }
     let port = Port::at(number);
-    if takes_words(port) {
+    if listens(port) {
         spu.out(port, word);
     }
 }

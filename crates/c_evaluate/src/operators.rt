@@ -8,12 +8,12 @@ ghost use Rattle.c_meaning.specs.Kinds.{decayed};
 ghost use Rattle.c_meaning.specs.Operators.{is_of, read_as, converted, is_true, word_unary, unless_zero, word_binary, cell_unary, cell_binary, stepped, stepped_back, distance, ordered, pointer_operated, operated};
 ghost use Rattle.c_evaluate.specs.SettingView.{setting_of};
 
-use crate::queries::{apart, equal_pointers, offsets, read, step, word_of, wrap_sub};
+use crate::queries::{apart, equal_pointers, offsets, read, step, word_of};
 use crate::setting::Setting;
 use crate::types::{is_pointer, target};
 use c_tree::{BinOp, UnOp};
 use c_types::CType;
-use kit_base::{div_word, mod_word, shift_word, signed, wrap_add};
+use kit_base::{div_word, mod_word, shift_word, signed, wrap_add, wrap_sub};
 use obj_mem::{Cell, Objects, Refusal};
 
 #[inline(always)]

@@ -1,10 +1,9 @@
 // What is asked of cells and objects.
 ghost use Rattle.std.specs.Prelude.{◌≡◌, Ok, Err, IfErr, OnOk, OnErr};
-ghost use Rattle.kit_base.specs.Word.{sub};
 ghost use Rattle.obj_mem.specs.View.{objects};
 ghost use Rattle.obj_mem.specs.Queries.{word_of, refused, accessed, read, write, step, further, equal_by_object, equal_pointers, offsets, apart, answer_if};
 
-use kit_base::wrap_add;
+use kit_base::{wrap_add, wrap_sub};
 use obj_mem::{Access, Cell, Objects, Refusal};
 
 const CARD_WORDS: u32 = 262_144;
@@ -161,11 +160,4 @@ pub(crate) fn apart(os: &Objects, p: Cell, q: Cell) -> Result<u32, Refusal>
 {
     let (i, j) = offsets(os, p, q)?;
     Ok(wrap_sub(i, j))
-}
-
-#[inline(always)]
-pub(crate) fn wrap_sub(a: u32, b: u32) -> u32
-    ensures { result ≡ sub a b }
-{
-    a.wrapping_sub(b)
 }

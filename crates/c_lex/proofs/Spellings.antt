@@ -11,7 +11,8 @@ use Rattle.c_lex.specs.declared.token.Kind.{Kind}
 use Rattle.c_lex.specs.declared.token.Kind.TheVariants as k
 use Rattle.c_lex.specs.declared.quoted.Within.TheVariants as w
 use Rattle.c_lex.specs.Bytes.{begins, is_letter, is_quote}
-use Rattle.c_lex.specs.Numbers.{value_of, begins_hex, number_len, number_value}
+use Rattle.kit_base.specs.Digits.{value_in}
+use Rattle.c_lex.specs.Numbers.{begins_hex, number_len, number_value}
 use Rattle.c_lex.specs.Marks.{marks, mark_of}
 use Rattle.c_lex.specs.Quoted.{quoted_at}
 use Rattle.c_lex.specs.Spelling.{spelling_of, word_of, number_of, quoted_of, content_kind, char_of, whole_content}
@@ -77,7 +78,7 @@ hex_spelled : (text digits : List ℕ) → text ≡ 48 ∷ 120 ∷ digits → be
 unfolding number_len number_value
 hex_spelled text digits is some whole =
     let len : number_len (48 ∷ 120 ∷ digits) ≡ 2 + length (take_while is_ascii_hexdigit digits) = rw some refl in
-    let value : number_value (48 ∷ 120 ∷ digits) ≡ value_of 16 digits = rw some refl in
+    let value : number_value (48 ∷ 120 ∷ digits) ≡ value_in 16 digits = rw some refl in
     let all : 2 + length (take_while is_ascii_hexdigit digits) ≡ length (48 ∷ 120 ∷ digits) = sym len ∙ ap number_len (sym is) ∙ whole ∙ ap length is in
     record { digits = digits; spelled = is; some = some; all = all_taken is_ascii_hexdigit digits (omega arith); value = ap number_value is ∙ value }
 
@@ -86,7 +87,7 @@ unfolding number_len number_value
 number_spelled text digit whole true e = let h = hex_is text e in inr (hex_spelled text h.digits h.spelled h.some whole)
 number_spelled text digit whole false e =
     let len : number_len text ≡ length (take_while is_ascii_digit text) = rw e refl in
-    let value : number_value text ≡ value_of 10 text = rw e refl in
+    let value : number_value text ≡ value_in 10 text = rw e refl in
     inl (record { some = digit; all = all_taken is_ascii_digit text (sym len ∙ whole); value = value })
 
 record Counted (text : List ℕ) (n : ℕ) : Type 0 where
@@ -100,7 +101,7 @@ decimal_counted text n d =
     let e = digits_no_hex text d.all in
     record { digit = d.some; len = rw e (taken_all is_ascii_digit text d.all); value = rw e (sym d.value) }
 
-hex_counted : (digits : List ℕ) → begins is_ascii_hexdigit digits ≡ true → list_all is_ascii_hexdigit digits ≡ true → Counted (48 ∷ 120 ∷ digits) (value_of 16 digits)
+hex_counted : (digits : List ℕ) → begins is_ascii_hexdigit digits ≡ true → list_all is_ascii_hexdigit digits ≡ true → Counted (48 ∷ 120 ∷ digits) (value_in 16 digits)
 unfolding number_len number_value
 hex_counted digits some all =
     record { digit = refl; len = rw some (let e = taken_all is_ascii_hexdigit digits all in omega arith); value = rw some refl }

@@ -5,7 +5,7 @@ use Rattle.std.specs.List.{list_all}
 use Rattle.c_lex.specs.declared.token.Kind.{Kind}
 use Rattle.c_lex.specs.declared.token.Kind.TheVariants as k
 use Rattle.c_lex.specs.Bytes.{begins, is_letter, is_word_byte, is_blank}
-use Rattle.c_lex.specs.Numbers.{digit_value, value_of}
+use Rattle.kit_base.specs.Digits.{digit_value, value_in}
 use Rattle.c_lex.specs.Marks.{mark_of}
 use Rattle.c_lex.specs.Quoted.{escaped}
 
@@ -17,7 +17,7 @@ pub record IsWord (text : List ℕ) : Type 0 where
 pub record IsDecimal (text : List ℕ) (n : ℕ) : Type 0 where
   pub some : begins is_ascii_digit text ≡ true
   pub all : list_all is_ascii_digit text ≡ true
-  pub value : n ≡ value_of 10 text
+  pub value : n ≡ value_in 10 text
 
 -- `0x` and digits
 pub record IsHexadecimal (text : List ℕ) (n : ℕ) : Type 0 where
@@ -25,7 +25,7 @@ pub record IsHexadecimal (text : List ℕ) (n : ℕ) : Type 0 where
   pub spelled : text ≡ 48 ∷ 120 ∷ digits
   pub some : begins is_ascii_hexdigit digits ≡ true
   pub all : list_all is_ascii_hexdigit digits ≡ true
-  pub value : n ≡ value_of 16 digits
+  pub value : n ≡ value_in 16 digits
 
 -- one byte between quotes of that kind: itself, an escape, or `\x` and two hexadecimal digits
 pub data IsPiece (quote : ℕ) (text : List ℕ) (b : ℕ) : Type 0 where

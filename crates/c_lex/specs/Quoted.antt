@@ -1,7 +1,7 @@
 -- Texts and characters, byte by byte: where one is behind the first quote, and what a byte does there.
 use Rattle.std.specs.Prelude.{ℕ, ◌+◌, ◌*◌, List, [], ◌∷◌, ◌==◌, ◌&&◌, nat_lt, if◌then◌else◌, Option, Some, None}
 use Rattle.std.specs.Char.{is_ascii_hexdigit}
-use Rattle.c_lex.specs.Numbers.{digit_value}
+use Rattle.kit_base.specs.Digits.{digit_value}
 use Rattle.c_lex.specs.declared.quoted.Within.{Within}
 use Rattle.c_lex.specs.declared.quoted.Within.TheVariants as w
 use Rattle.c_lex.specs.declared.quoted.Turn.{Turn}

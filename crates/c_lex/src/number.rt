@@ -1,10 +1,12 @@
 // Numbers.
 
-ghost use Rattle.std.specs.Prelude.{◌≡◌, ◌≤◌, ◌<◌, ◌^◌, length, take, take_while, min, not, nat_lt, option_map};
+ghost use Rattle.std.specs.Prelude.{◌≡◌, ◌≤◌, ◌^◌, length, take, take_while, min, not, nat_lt, option_map};
 ghost use Rattle.std.specs.Char.{is_ascii_digit, is_ascii_hexdigit};
-ghost use Rattle.c_lex.specs.Numbers.{begins_hex, number_len, value_of, number_value, digit_value};
+ghost use Rattle.c_lex.specs.Numbers.{begins_hex, number_len, number_value};
 ghost use Rattle.c_lex.specs.Found.{number_found};
 ghost use Rattle.c_lex.specs.declared.token.Kind.TheVariants as k;
+
+use kit_base::value_in;
 
 pub fn begins_hex(bytes: &[u8]) -> bool
     ensures { result ≡ begins_hex bytes.now }
@@ -40,32 +42,7 @@ pub fn number_len(bytes: &[u8]) -> usize
     }
 }
 
-pub fn digit_value(b: u8) -> u8
-    ensures { result ≡ digit_value b }
-{
-    if b < b':' {
-        b.saturating_sub(b'0')
-    } else if b < b'a' {
-        b.saturating_sub(55)
-    } else {
-        b - 87
-    }
-}
-
 const LIMIT: u64 = 4_294_967_296;
-
-/// The value of the digits, or 2^32 where it is greater.
-fn value_of(base: u8, digits: &[u8]) -> u64
-    requires low { 0 < base }
-    requires high { base < 256 }
-    ensures { result ≡ min (value_of base digits.now) (2 ^ 32) }
-{
-    let mut value: u64 = 0;
-    for b in digits {
-        value = (value * u64::from(base) + u64::from(digit_value(*b))).min(LIMIT);
-    }
-    value
-}
 
 /// The value of a number, or 2^32 where it is greater.
 #[tactic(auto, unfolding(crate::specs::Numbers::number_value))]
@@ -73,9 +50,9 @@ fn number_value(text: &[u8]) -> u64
     ensures { result ≡ min (number_value text.now) (2 ^ 32) }
 {
     if begins_hex(text) {
-        value_of(16, &text[2..])
+        value_in(16, &text[2..])
     } else {
-        value_of(10, text)
+        value_in(10, text)
     }
 }
 

@@ -3,8 +3,7 @@ ghost use Rattle.std.specs.Prelude.{◌≡◌, IfOk, option_map};
 ghost use Rattle.c_lex.specs.declared.quoted.Within.TheVariants.{Plain};
 ghost use Rattle.c_lex.specs.Quoted.{escaped, escape_turn, turn_of, quoted_at};
 
-use crate::number::digit_value;
-use kit_base::{Memory, Seq};
+use kit_base::{Memory, Seq, digit_value};
 use std::alloc::Global;
 
 /// Where one is behind the first quote.

@@ -1,36 +1,12 @@
 // The arithmetic of constants.
 ghost use Rattle.std.specs.Prelude.{◌≡◌};
-ghost use Rattle.kit_base.specs.Word.{sub, mul, below, bool_word, negated};
+ghost use Rattle.kit_base.specs.Word.{mul};
 ghost use Rattle.c_rules.specs.Constants.{constant_unary, constant_binary};
 
 use c_tree::{BinOp, UnOp};
-use kit_base::{div_word, mod_word, shift_word, wrap_add};
-
-#[tactic(auto, using(kit_base::proofs::Words::word_facts), unfolding(kit_base::specs::Word::below))]
-fn is_below(a: u32, b: u32) -> bool
-    ensures below { result ≡ below a b }
-{
-    a.cast_signed() < b.cast_signed()
-}
-
-fn wrap_sub(a: u32, b: u32) -> u32
-    ensures difference { result ≡ sub a b }
-{
-    a.wrapping_sub(b)
-}
-
-fn negate(a: u32) -> u32
-    ensures negative { result ≡ negated a }
-{
-    wrap_sub(0, a)
-}
-
-/// 1 for yes, 0 for no.
-fn word_of_bool(b: bool) -> u32
-    ensures word { result ≡ bool_word b }
-{
-    if b { 1 } else { 0 }
-}
+use kit_base::{
+    div_word, is_below, mod_word, negate, shift_word, word_of_bool, wrap_add, wrap_sub,
+};
 
 /// The constant that an operator before a constant makes; none for `*` and `&`.
 pub fn constant_unary(op: UnOp, a: u32) -> Option<u32>

@@ -6,7 +6,6 @@
 #![tactic(auto)]
 
 mod answer_bus;
-mod arithmetic;
 mod bus;
 mod copying;
 mod cpu;

@@ -6,9 +6,9 @@ ghost use Rattle.v32_isa.specs.Machine.Effect.{Ends};
 ghost use Rattle.v32_isa.specs.State.{register_of};
 ghost use Rattle.cpu_core.specs.Machine.{state_of};
 
-use crate::arithmetic::{magnitude_of, negate, two_word, word_of_bool};
 use crate::cpu::Cpu;
-use v32_isa::{Branch, Go, One, Plain, Reg, Src, Stepped, Two};
+use kit_base::{negate, word_of_bool};
+use v32_isa::{Branch, Go, One, Plain, Reg, Src, Stepped, Two, magnitude_of, two_word};
 
 impl Cpu {
     #[inline(always)]

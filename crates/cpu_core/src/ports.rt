@@ -1,34 +1,10 @@
 // IN and OUT.
-ghost use Rattle.std.specs.Prelude.{◌≡◌};
 ghost use Rattle.v32_isa.specs.Machine.{Acts, act};
-ghost use Rattle.v32_isa.specs.Ports.{is_readable, is_writable};
 ghost use Rattle.cpu_core.specs.Machine.{state_of};
 
 use crate::bus::Bus;
 use crate::cpu::Cpu;
-use v32_isa::{Instr, Port, Reg, Src, Stepped, port_by_number};
-
-/// Whether the port answers.
-#[tactic(auto, unfolding(v32_isa::specs::Ports::is_readable))]
-fn answers(port: Port) -> bool
-    ensures { result ≡ is_readable port }
-{
-    match port_by_number(port.number()) {
-        Some(row) => row.readable,
-        None => false,
-    }
-}
-
-/// Whether the port takes a word.
-#[tactic(auto, unfolding(v32_isa::specs::Ports::is_writable))]
-fn listens(port: Port) -> bool
-    ensures { result ≡ is_writable port }
-{
-    match port_by_number(port.number()) {
-        Some(row) => row.writable,
-        None => false,
-    }
-}
+use v32_isa::{Instr, Port, Reg, Src, Stepped, answers, listens};
 
 impl Cpu {
     #[tactic(auto, unfolding(v32_isa::specs::Machine::act))]

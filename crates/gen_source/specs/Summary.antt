@@ -1,7 +1,7 @@
 -- The line that tells of a program that is made up from a number. Hold it against the kit's page on commands.
 use Rattle.std.specs.Prelude.{ℕ, List, [], ◌∷◌, ◌++◌, codes}
 use Rattle.std.specs.Fmt.{decimal}
-use Rattle.trace_core.specs.Digits.{word_digits}
+use Rattle.kit_base.specs.Digits.{word_digits}
 use Rattle.gen_source.specs.Source.{joined}
 
 -- `functions N tokens T out 0x`

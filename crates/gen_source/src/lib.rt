@@ -1,6 +1,6 @@
 //! The program that is made up from a number: the text of its project and of its source, and the line that tells of it.
 //!
-//! It promises the three texts exactly. It stands on kit_base, and on trace_core for a word's digits.
+//! It promises the three texts exactly. It stands on kit_base.
 #![tactic(auto)]
 
 mod summary;

@@ -2,9 +2,8 @@
 ghost use Rattle.std.specs.Prelude.{◌≡◌, IfOk};
 ghost use Rattle.gen_source.specs.Summary.{summary_end, summary_front};
 
-use kit_base::{Memory, join_pieces};
+use kit_base::{Memory, join_pieces, word_digits};
 use std::alloc::Global;
-use trace_core::word_digits;
 
 /// The front of the line that tells of a program made up from a number, up to its last word: that number of functions, and how many tokens its
 /// source stands for. The error is want of memory.
@@ -27,7 +26,7 @@ pub fn summary_front(alloc: Global, functions: u32, tokens: u32) -> Result<Vec<u
 }
 
 /// Its end: the clear colour at the end of the program's run, in eight digits of upper-case hexadecimal, and LF.
-#[tactic(auto, unfolding(trace_core::specs::Digits::word_digits))]
+#[tactic(auto, unfolding(kit_base::specs::Digits::word_digits))]
 pub fn summary_end(color: u32) -> [u8; 9]
     ensures { result ≡ summary_end color }
 {

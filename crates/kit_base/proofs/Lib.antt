@@ -2,3 +2,4 @@ pub mod Holdings
 pub mod Cuts
 pub mod Entries
 pub mod Words
+pub mod Distinct

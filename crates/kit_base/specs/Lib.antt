@@ -1,5 +1,6 @@
 pub mod formers
 pub mod Word
+pub mod Digits
 pub mod Held
 pub mod Counts
 pub mod Outside

@@ -37,12 +37,27 @@ fn content_of<'a>(files: &'a [(Name, Seq<u8>)], name: &str) -> Option<&'a [u8]>
     }
 }
 
-fn longer(alloc: Global, bytes: &[u8], piece: &[u8]) -> Result<Vec<u8>, AllocError>
-    ensures { IfOk result (λ v. v.items ≡ bytes.now ++ piece.now) }
+/// Adds a piece to the bytes of a file.
+fn lengthen(file: &mut (Name, Seq<u8>), piece: &[u8]) -> Result<(), AllocError>
+    ensures ok { OnOk result (file.new ≡ (file.old.0, file.old.1 ++ piece.now)) }
+    ensures err { OnErr result (file.new ≡ file.old) }
 {
-    let mut out = Vec::from_slice(alloc, bytes)?;
-    out.extend_from_slice(piece)?;
-    Ok(out)
+    file.1.extend_from_slice(piece)
+}
+
+/// The files with a piece added to the file of that name, where there is one.
+fn add_to_file(files: &mut Vec<(Name, Seq<u8>)>, name: &str, piece: &[u8]) -> Result<(), Memory>
+    ensures ok { OnOk result (IsTrue (contains_key (from_entries_of files.old.items) name.now) → from_entries_of files.new.items ≡ appended name.now piece.now (from_entries_of files.old.items)) }
+    ensures err { OnErr result (files.new.items ≡ files.old.items) }
+    ensures distinct { IsTrue (are_distinct files.old.items) → IsTrue (are_distinct files.new.items) }
+{
+    match place_of(files, name) {
+        Some(at) => {
+            lengthen(&mut files[at], piece)?;
+            Ok(())
+        }
+        None => Ok(()),
+    }
 }
 
 /// The files with the file of that name anew.
@@ -54,6 +69,7 @@ fn put_file(
 ) -> Result<(), Memory>
     ensures ok { OnOk result (from_entries_of files.new.items ≡ insert (from_entries_of files.old.items) name.now bytes.items) }
     ensures err { OnErr result (files.new.items ≡ files.old.items) }
+    ensures distinct { IsTrue (are_distinct files.old.items) → IsTrue (are_distinct files.new.items) }
 {
     let own = Name::new(alloc, name)?;
     match place_of(files, name) {
@@ -86,6 +102,7 @@ pub struct FilesInMemory {
     faults: u64,
     misses: u64,
     overs: u64,
+    ghost distinct: { IsTrue (are_distinct files.items) },
 }
 
 impl Model for FilesInMemory {
@@ -140,7 +157,8 @@ impl FilesInMemory {
 
     /// The files, each name with its bytes.
     pub fn held(&self) -> &[(Name, Seq<u8>)]
-        ensures { result.now ≡ self.now.files }
+        ensures files { result.now ≡ self.now.files }
+        ensures distinct { IsTrue (are_distinct result.now) }
     {
         self.files.as_slice()
     }
@@ -245,11 +263,7 @@ impl Files for FilesInMemory {
         if self.begins_failing() {
             return Err(FileErr::Failed);
         }
-        let old = content_of(&self.files, name).unwrap_or(&[]);
-        let Ok(bytes) = longer(self.alloc, old, piece) else {
-            return Err(FileErr::Memory);
-        };
-        match put_file(self.alloc, &mut self.files, name, bytes) {
+        match add_to_file(&mut self.files, name, piece) {
             Ok(()) => Ok(()),
             Err(_) => Err(FileErr::Memory),
         }

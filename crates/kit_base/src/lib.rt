@@ -5,6 +5,7 @@
 //! a refusal of the outside comes only where one of its counts rose. It stands on std alone.
 #![tactic(auto)]
 
+mod digits;
 mod event;
 mod files_in_memory;
 mod joined;
@@ -14,6 +15,7 @@ mod seq;
 mod sink_in_memory;
 mod word;
 
+pub use digits::{digit_value, hex_digit, value_in, word_digits};
 pub use event::Event;
 pub use files_in_memory::FilesInMemory;
 pub use joined::join_pieces;
@@ -21,4 +23,6 @@ pub use name::{Memory, Name};
 pub use outside::{FileErr, Files, Reads, Sink, SinkErr};
 pub use seq::Seq;
 pub use sink_in_memory::SinkInMemory;
-pub use word::{div_word, mod_word, shift_word, signed, wrap_add};
+pub use word::{
+    div_word, is_below, mod_word, negate, shift_word, signed, word_of_bool, wrap_add, wrap_sub,
+};

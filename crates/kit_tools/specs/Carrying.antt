@@ -2,7 +2,7 @@
 use Rattle.std.specs.Prelude.{ℕ, ◌≡◌, List, [], ◌∷◌, ◌++◌, Option, Some, Result, Ok, Err, Contains}
 use Rattle.kit_base.specs.Held.{Held}
 use Rattle.kit_base.specs.Effects.{Effect, all_done, CutShort}
-use Rattle.trace_core.specs.Digits.{word_digits}
+use Rattle.kit_base.specs.Digits.{word_digits}
 use Rattle.trace_core.specs.Putting.{trace_text}
 use Rattle.run_core.specs.Ending.{end_text}
 use Rattle.kit_tools.specs.Running.{end_status}

@@ -1,6 +1,7 @@
 -- Numbers and printable texts.
-use Rattle.std.specs.Prelude.{ℕ, ◌+◌, ◌*◌, ◌-◌, ◌^◌, List, [], ◌∷◌, length, fold, Bool, false, ◌||◌, ◌&&◌, ◌==◌, not, nat_lt, nat_le, if◌then◌else◌, Option, Some, None}
+use Rattle.std.specs.Prelude.{ℕ, ◌^◌, List, [], ◌∷◌, length, Bool, false, ◌||◌, ◌&&◌, ◌==◌, not, nat_lt, nat_le, if◌then◌else◌, Option, Some, None}
 use Rattle.std.specs.List.{list_all}
+use Rattle.kit_base.specs.Digits.{value_in}
 
 -- whether a byte is between two, both included
 abbrev pub is_between : ℕ → ℕ → ℕ → Bool
@@ -12,17 +13,6 @@ is_digit b = is_between 48 57 b
 
 abbrev pub is_hexadecimal_digit : ℕ → Bool
 is_hexadecimal_digit b = is_between 48 57 b || is_between 65 70 b || is_between 97 102 b
-
-abbrev pub digit_value : ℕ → ℕ
-digit_value b =
-    if is_between 48 57 b then b - 48
-    else (if is_between 65 70 b then b - 65 + 10
-    else (if is_between 97 102 b then b - 97 + 10
-    else 0))
-
--- the number that digits write in a base
-abbrev pub value_in : ℕ → List ℕ → ℕ
-value_in base digits = fold (λ value digit. value * base + digit_value digit) 0 digits
 
 -- a needless zero stands first
 abbrev pub begins_zero : List ℕ → Bool

@@ -3,7 +3,7 @@
 //!
 //! It promises that each call is its definition: the lines of a text end with LF or CR LF and the last
 //! may lack its end; what is read is what the lines give in order, up to the first that is refused, with
-//! its number from 1. It stands on std alone.
+//! its number from 1. It stands on `kit_base` for the number that digits write.
 #![tactic(auto)]
 
 mod field;

@@ -1,33 +1,11 @@
 // Numbers in texts.
-ghost use Rattle.std.specs.Prelude.{◌≡◌, ◌≤◌, ◌<◌, ◌^◌, length, min};
+ghost use Rattle.std.specs.Prelude.{◌≡◌, length};
 ghost use Rattle.std.specs.List.{list_all};
-ghost use Rattle.line_text.specs.Numbers.{is_digit, is_hexadecimal_digit, digit_value, value_in, begins_zero, decimal_word, hexadecimal_word, is_printable, all_printable};
+ghost use Rattle.line_text.specs.Numbers.{is_digit, is_hexadecimal_digit, begins_zero, decimal_word, hexadecimal_word, is_printable, all_printable};
+
+use kit_base::value_in;
 
 const LIMIT: u64 = 4_294_967_296;
-
-fn digit_value(digit: u8) -> u64
-    ensures value { result ≡ digit_value digit }
-    ensures range { result ≤ 15 }
-{
-    match digit {
-        b'0'..=b'9' => u64::from(digit - b'0'),
-        b'A'..=b'F' => u64::from(digit - b'A') + 10,
-        b'a'..=b'f' => u64::from(digit - b'a') + 10,
-        _ => 0,
-    }
-}
-
-/// The value of the digits, or 2^32 where it is greater.
-fn value_in(base: u64, digits: &[u8]) -> u64
-    requires { base ≤ 16 }
-    ensures { result ≡ min (value_in base digits.now) (2 ^ 32) }
-{
-    let mut value: u64 = 0;
-    for digit in digits {
-        value = (value * base + digit_value(*digit)).min(LIMIT);
-    }
-    value
-}
 
 fn begins_zero(digits: &[u8]) -> bool
     ensures { result ≡ begins_zero digits.now }

@@ -5,7 +5,6 @@
 #![tactic(auto)]
 
 mod answer;
-mod arithmetic;
 mod calls;
 mod flow;
 mod kept;

@@ -14,15 +14,14 @@ ghost use Rattle.mid_evaluate.specs.Once.{performed, weight_of};
 ghost use Rattle.mid_evaluate.specs.View.{sizes, state_of};
 
 use crate::answer::Ending;
-use crate::arithmetic;
 use crate::queries::{apart, equal_pointers, offsets, read, step, word_of, write};
 use crate::setting::Setting;
 use crate::state::{State, cell, end_one, fresh, happen, local_object, put_in};
 use crate::stop::Stop;
-use kit_base::Event;
+use kit_base::{Event, word_of_bool};
 use mid_code::Op;
 use obj_mem::{Cell, Objects, Refusal};
-use v32_isa::{One, Two};
+use v32_isa::{One, Two, one_word, two_word};
 
 // ---- answers
 
@@ -44,7 +43,7 @@ fn one(o: One, a: Cell) -> Result<Cell, Refusal>
     ensures { result ≡ one_word o a }
 {
     let x = word_of(a)?;
-    match arithmetic::one_word(o, x) {
+    match one_word(o, x) {
         None => Err(Refusal::Strays),
         Some(word) => Ok(Cell::Num(word)),
     }
@@ -64,13 +63,13 @@ fn two(o: Two, a: Cell, b: Cell) -> Result<Cell, Refusal>
 {
     let x = word_of(a)?;
     let y = word_of(b)?;
-    word_or_fault(arithmetic::two_word(o, x, y))
+    word_or_fault(two_word(o, x, y))
 }
 
 fn truth(b: bool) -> Cell
     ensures { result ≡ truth b }
 {
-    Cell::Num(arithmetic::word_of_bool(b))
+    Cell::Num(word_of_bool(b))
 }
 
 /// Whether two pointers are equal, as a word.
@@ -93,7 +92,7 @@ fn ordered(o: Two, os: &Objects, p: Cell, q: Cell) -> Result<Cell, Refusal>
     ensures { result ≡ then_ask (offsets (objects os.now) p q) (λ at. word_or_fault (two_of o at.0 at.1)) }
 {
     let (i, j) = offsets(os, p, q)?;
-    word_or_fault(arithmetic::two_word(o, i, j))
+    word_or_fault(two_word(o, i, j))
 }
 
 /// A comparison of pointers.

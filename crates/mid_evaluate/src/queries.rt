@@ -3,8 +3,7 @@ ghost use Rattle.std.specs.Prelude.{◌≡◌, Ok, Err, IfErr, OnOk, OnErr};
 ghost use Rattle.obj_mem.specs.View.{objects};
 ghost use Rattle.obj_mem.specs.Queries.{word_of, refused, accessed, read, write, step, equal_by_object, equal_pointers, offsets, apart, answer_if};
 
-use crate::arithmetic::wrap_sub;
-use kit_base::wrap_add;
+use kit_base::{wrap_add, wrap_sub};
 use obj_mem::{Access, Cell, Objects, Refusal};
 
 const CARD_WORDS: u32 = 262_144;

@@ -1,25 +1,17 @@
 -- The text of a map: the program's words, a line per function in order, a line per global. Hold it
 -- against the kit's page on map files.
-use Rattle.std.specs.Prelude.{ℕ, ◌+◌, ◌/◌, ◌%◌, List, [], ◌∷◌, ◌++◌, codes, nat_lt, if◌then◌else◌}
+use Rattle.std.specs.Prelude.{ℕ, List, [], ◌∷◌, ◌++◌, codes}
 use Rattle.std.specs.List.{flat_map}
 use Rattle.std.specs.Fmt.{decimal}
+use Rattle.kit_base.specs.Digits.{word_digits}
 use Rattle.project_text.specs.declared.map.Map.{Map}
 
 abbrev pub joined : List (List ℕ) → List ℕ
 joined pieces = flat_map (λ p. p) pieces
 
-abbrev pub hex_digit : ℕ → ℕ
-hex_digit d = if nat_lt d 10 then 48 + d else 55 + d
-
--- eight upper-case hexadecimal digits
-unfoldable pub hex8 : ℕ → List ℕ
-hex8 n =
-    hex_digit (n / 0x1000_0000 % 16) ∷ hex_digit (n / 0x100_0000 % 16) ∷ hex_digit (n / 0x10_0000 % 16) ∷ hex_digit (n / 0x1_0000 % 16)
-    ∷ hex_digit (n / 0x1000 % 16) ∷ hex_digit (n / 0x100 % 16) ∷ hex_digit (n / 0x10 % 16) ∷ hex_digit (n % 16) ∷ []
-
 -- a word, a name, an address and a size in words
 unfoldable pub row_text : List ℕ → List ℕ × ℕ × ℕ → List ℕ
-row_text word row = joined (word ∷ row.0 ∷ codes " 0x" ∷ hex8 row.1 ∷ codes " " ∷ decimal row.2 ∷ codes "\n" ∷ [])
+row_text word row = joined (word ∷ row.0 ∷ codes " 0x" ∷ word_digits row.1 ∷ codes " " ∷ decimal row.2 ∷ codes "\n" ∷ [])
 
 unfoldable pub map_text : Map → List ℕ
 map_text m = joined (codes "code " ∷ decimal m.code ∷ codes "\n" ∷ [])

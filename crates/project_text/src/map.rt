@@ -1,8 +1,8 @@
 // Maps.
-ghost use Rattle.std.specs.Prelude.{◌≡◌, ◌<◌, ◌++◌, flat_map, IfOk, OnOk};
-ghost use Rattle.project_text.specs.MapText.{hex_digit, hex8, row_text, map_text};
+ghost use Rattle.std.specs.Prelude.{◌≡◌, ◌++◌, flat_map, IfOk, OnOk};
+ghost use Rattle.project_text.specs.MapText.{row_text, map_text};
 
-use kit_base::{Memory, Name, Seq, join_pieces};
+use kit_base::{Memory, Name, Seq, join_pieces, word_digits};
 use std::alloc::{AllocError, Global};
 
 /// The words of the program, and the names, addresses and sizes in words of its globals and of its
@@ -14,40 +14,12 @@ pub struct Map {
     pub frames: Seq<(Name, u32, u32)>,
 }
 
-fn hex_digit(d: u32) -> u8
-    requires { d < 16 }
-    ensures { result ≡ hex_digit d }
-{
-    if d < 10 {
-        b'0' + d as u8
-    } else {
-        b'A' + (d - 10) as u8
-    }
-}
-
-/// Eight upper-case hexadecimal digits.
-#[tactic(auto, unfolding(crate::specs::MapText::hex8))]
-fn hex8(n: u32) -> [u8; 8]
-    ensures { result ≡ hex8 n }
-{
-    [
-        hex_digit(n / 0x1000_0000 % 16),
-        hex_digit(n / 0x100_0000 % 16),
-        hex_digit(n / 0x10_0000 % 16),
-        hex_digit(n / 0x1_0000 % 16),
-        hex_digit(n / 0x1000 % 16),
-        hex_digit(n / 0x100 % 16),
-        hex_digit(n / 0x10 % 16),
-        hex_digit(n % 16),
-    ]
-}
-
 /// The line of a row.
 #[tactic(auto, unfolding(crate::specs::MapText::row_text))]
 fn row_text(alloc: Global, word: &[u8], row: &(Name, u32, u32)) -> Result<Vec<u8>, AllocError>
     ensures { IfOk result (λ v. v.items ≡ row_text word.now row.now) }
 {
-    let address = hex8(row.1);
+    let address = word_digits(row.1);
     let size = format!(in alloc; "{}", row.2)?;
     join_pieces(
         alloc,

@@ -4,7 +4,7 @@ use Rattle.std.specs.Fmt.{decimal}
 use Rattle.cart_format.specs.declared.row.LineRow.{LineRow}
 use Rattle.cart_format.specs.Cartridge.{Cartridge}
 use Rattle.cart_format.specs.Parts.{files_of, rows_of}
-use Rattle.trace_core.specs.Digits.{word_digits}
+use Rattle.kit_base.specs.Digits.{word_digits}
 use Rattle.v32_console.specs.declared.frame_end.FrameEnd.{FrameEnd}
 use Rattle.v32_console.specs.declared.frame_end.FrameEnd.TheVariants.{Full, Waited, Halted, Fault, Undecodable}
 

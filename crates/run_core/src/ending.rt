@@ -23,14 +23,14 @@ ghost use Rattle.std.specs.Prelude.{◌≡◌, ◌++◌, ◌∷◌, [], codes, g
 ghost use Rattle.std.specs.Option.{option_map};
 ghost use Rattle.std.specs.Fmt.{decimal};
 ghost use Rattle.kit_base.specs.Outside.{HasSinkCause};
-ghost use Rattle.trace_core.specs.Digits.{word_digits};
+ghost use Rattle.kit_base.specs.Digits.{word_digits};
 ghost use Rattle.trace_core.specs.Putting.{PutsText};
 ghost use Rattle.run_core.specs.Ending.{end_text, fault_text, found_text, is_in_program, last_row, lines_of, place_text, row_text, undecodable_text};
 
 use cart_format::Cart;
-use kit_base::{Memory, Sink, SinkErr};
+use kit_base::{Memory, Sink, SinkErr, word_digits};
 use std::alloc::Global;
-use trace_core::{Line, word_digits};
+use trace_core::Line;
 use v32_console::FrameEnd;
 
 /// The same names once more. The error is want of memory.

@@ -5,7 +5,8 @@ use Rattle.std.specs.List.{list_all, AllByRecursion, AllZip, starts_with}
 use Rattle.std.specs.Cmp.Lexicographic.{same_text}
 use Rattle.std.proofs.lemmas.List.{take-append-drop}
 use Rattle.line_text.specs.Lines.{lines_of}
-use Rattle.line_text.specs.Numbers.{is_digit, is_hexadecimal_digit, value_in, begins_zero, below_limit, decimal_word, hexadecimal_word}
+use Rattle.kit_base.specs.Digits.{value_in}
+use Rattle.line_text.specs.Numbers.{is_digit, is_hexadecimal_digit, begins_zero, below_limit, decimal_word, hexadecimal_word}
 use Rattle.line_text.specs.Reading.{Reading, read_from, after}
 use Rattle.run_files.specs.Answers.{answer_of, answer_step, with_answer}
 use Rattle.run_files.specs.AnswersFile.{IsDecimal, IsHexadecimal, IsAnswerLine, IsAnswersFile, IsFirstFaulty}

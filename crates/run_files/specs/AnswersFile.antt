@@ -2,7 +2,8 @@
 use Rattle.std.specs.Prelude.{◌≡◌, ℕ, ◌+◌, ◌≤◌, ◌<◌, ◌^◌, List, [], ◌∷◌, ◌++◌, length, codes, true, ◌⊎◌}
 use Rattle.std.specs.List.{list_all, AllByRecursion, AllZip}
 use Rattle.line_text.specs.Lines.{lines_of}
-use Rattle.line_text.specs.Numbers.{is_digit, is_hexadecimal_digit, value_in}
+use Rattle.kit_base.specs.Digits.{value_in}
+use Rattle.line_text.specs.Numbers.{is_digit, is_hexadecimal_digit}
 
 -- one digit, or more that do not begin with 0; the number that they write is below 2 ^ 32
 pub record IsDecimal (line : List ℕ) (word : ℕ) : Type 0 where

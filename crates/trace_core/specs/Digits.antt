@@ -1,13 +1,6 @@
--- Numbers in upper-case hexadecimal.
-use Rattle.std.specs.Prelude.{ℕ, zero, suc, ◌+◌, ◌/◌, ◌%◌, ◌^◌, ◌==◌, List, [], ◌∷◌, map, nat_lt, if◌then◌else◌}
-
--- '0' to '9', 'A' to 'F'
-abbrev pub digit_of : ℕ → ℕ
-digit_of d = if nat_lt d 10 then 48 + d else 55 + d
-
--- the eight digits of a word, the highest first
-unfoldable pub word_digits : ℕ → List ℕ
-word_digits word = map (λ place. digit_of (word / 16 ^ place % 16)) (7 ∷ 6 ∷ 5 ∷ 4 ∷ 3 ∷ 2 ∷ 1 ∷ 0 ∷ [])
+-- Numbers in upper-case hexadecimal, without the zeros at the front.
+use Rattle.std.specs.Prelude.{ℕ, zero, suc, ◌==◌, List, [], ◌∷◌, if◌then◌else◌}
+use Rattle.kit_base.specs.Digits.{word_digits}
 
 -- without the zeros at the front, so many of them at most
 abbrev pub without_zeros : ℕ → List ℕ → List ℕ

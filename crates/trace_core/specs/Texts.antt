@@ -6,7 +6,8 @@ use Rattle.kit_base.specs.declared.event.Event.{Event}
 use Rattle.kit_base.specs.declared.event.Event.TheVariants as event
 use Rattle.v32_isa.specs.Runs.{End, Run}
 use Rattle.v32_isa.specs.Runs.End.{Going, Halted, Starved, Fault, Undecodable}
-use Rattle.trace_core.specs.Digits.{port_digits, word_digits}
+use Rattle.kit_base.specs.Digits.{word_digits}
+use Rattle.trace_core.specs.Digits.{port_digits}
 
 -- a port operation with its port and its word; each line ends with LF
 abbrev pub port_line : List ℕ → ℕ → ℕ → List ℕ

@@ -11,6 +11,5 @@ mod line;
 mod run;
 mod text;
 
-pub use digits::word_digits;
 pub use line::Line;
 pub use run::Trace;

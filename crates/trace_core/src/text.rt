@@ -1,13 +1,13 @@
 // The lines of a run.
 ghost use Rattle.std.specs.Prelude.{◌≡◌, ◌≤◌, ◌++◌, [], ◌∷◌, codes, length};
-ghost use Rattle.trace_core.specs.Digits.{word_digits};
+ghost use Rattle.kit_base.specs.Digits.{word_digits};
 ghost use Rattle.trace_core.specs.Texts.{event_line, port_line, end_line};
 ghost use Rattle.trace_core.specs.Steps.{last_line};
 ghost use Rattle.v32_isa.specs.Runs.End.{Fault};
 
-use crate::digits::{without_zeros, word_digits};
+use crate::digits::without_zeros;
 use crate::line::Line;
-use kit_base::Event;
+use kit_base::{Event, word_digits};
 use v32_isa::Stepped;
 
 /// The line of a port operation of that kind.

@@ -1,6 +1,5 @@
 // The devices behind the ports.
 ghost use Rattle.std.specs.Prelude.{◌≡◌, ◌<◌, ◌+◌, ◌∷◌, ℕ, List, Some};
-ghost use Rattle.v32_isa.specs.Ports.{is_readable, is_writable};
 ghost use Rattle.port_history.specs.Past.{Happening, Began, Mixed, is_graphics_port, is_sound_port};
 ghost use Rattle.v32_console.specs.Setup.{Setup};
 ghost use Rattle.v32_console.specs.Stands.{BoardStands};
@@ -10,7 +9,7 @@ use cpu_core::Bus;
 use gpu_state::Gpu;
 use port_bus::Devices;
 use spu_mix::Spu;
-use v32_isa::{Port, port_by_number};
+use v32_isa::{Port, answers, listens};
 
 /// Graphics, sound and the small devices, and the instructions done in this frame.
 #[derive(Drop)]
@@ -19,28 +18,6 @@ pub struct Board {
     pub spu: Spu,
     pub devices: Devices,
     pub cycles: u32,
-}
-
-/// Whether the port answers.
-#[tactic(auto, unfolding(v32_isa::specs::Ports::is_readable))]
-fn answers(port: Port) -> bool
-    ensures { result ≡ is_readable port }
-{
-    match port_by_number(port.number()) {
-        Some(row) => row.readable,
-        None => false,
-    }
-}
-
-/// Whether the port takes a word.
-#[tactic(auto, unfolding(v32_isa::specs::Ports::is_writable))]
-fn takes_words(port: Port) -> bool
-    ensures { result ≡ is_writable port }
-{
-    match port_by_number(port.number()) {
-        Some(row) => row.writable,
-        None => false,
-    }
 }
 
 fn is_graphics(port: Port) -> bool
@@ -101,7 +78,7 @@ impl Board {
     fn tell(&mut self, port: Port, word: u32)
         ensures telling { Telling self.old port word self.new }
     {
-        if !takes_words(port) {
+        if !listens(port) {
             return;
         }
         if is_graphics(port) {

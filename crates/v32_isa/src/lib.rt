@@ -5,6 +5,7 @@
 //! what a run on a list of port answers gives. It stands on `kit_base`.
 #![tactic(auto)]
 
+mod arithmetic;
 mod decoding;
 mod encoding;
 mod fields;
@@ -15,11 +16,12 @@ mod port_table;
 mod register;
 mod stepped;
 
+pub use arithmetic::{magnitude_of, one_word, two_word};
 pub use decoding::decode;
 pub use encoding::{Encoded, encode};
 pub use instruction::{Branch, Go, Instr, Mov, One, Plain, Src, Two};
 pub use laws::{decoding_is_inverse, longer_runs_extend, no_spelling_begins_another};
 pub use port::Port;
-pub use port_table::{PortRow, port_by_name, port_by_number};
-pub use register::Reg;
+pub use port_table::{PortRow, answers, listens, port_by_name, port_by_number};
+pub use register::{BP, CR, DR, Reg, SP, SR};
 pub use stepped::Stepped;

@@ -2,7 +2,9 @@
 ghost use Rattle.std.specs.Prelude.{◌≡◌, ◌<◌, ◌==◌, IfSome, find, map};
 ghost use Rattle.std.specs.Option.{option_map};
 ghost use Rattle.std.specs.Str.{bytes_eq};
-ghost use Rattle.v32_isa.specs.Ports.{entry_of, first_spelling, listed, port_named, port_numbered, port_spelled};
+ghost use Rattle.v32_isa.specs.Ports.{entry_of, first_spelling, is_readable, is_writable, listed, port_named, port_numbered, port_spelled};
+
+use crate::port::Port;
 
 /// A port: its name, its number, whether IN may name it (`readable`) and whether OUT may
 /// (`writable`).
@@ -146,4 +148,26 @@ pub fn port_by_number(number: u32) -> Option<PortRow>
 {
     let entry = entry_by_number(&PORTS, number)?;
     Some(row_of(entry))
+}
+
+/// Whether the port answers: the table lists it as one that IN may name.
+#[tactic(auto, unfolding(crate::specs::Ports::is_readable))]
+pub fn answers(port: Port) -> bool
+    ensures { result ≡ is_readable port }
+{
+    match port_by_number(port.number()) {
+        Some(row) => row.readable,
+        None => false,
+    }
+}
+
+/// Whether the port takes a word: the table lists it as one that OUT may name.
+#[tactic(auto, unfolding(crate::specs::Ports::is_writable))]
+pub fn listens(port: Port) -> bool
+    ensures { result ≡ is_writable port }
+{
+    match port_by_number(port.number()) {
+        Some(row) => row.writable,
+        None => false,
+    }
 }

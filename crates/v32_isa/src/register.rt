@@ -3,6 +3,21 @@ ghost use Rattle.std.specs.Prelude.{◌≡◌, ◌<◌, SomeIff};
 
 use std::marker::Model;
 
+/// The number of the register that counts in MOVS, SETS and CMPS.
+pub const CR: u32 = 11;
+
+/// The number of the source register of MOVS, SETS and CMPS.
+pub const SR: u32 = 12;
+
+/// The number of the destination register of MOVS, SETS and CMPS.
+pub const DR: u32 = 13;
+
+/// The number of the base pointer's register.
+pub const BP: u32 = 14;
+
+/// The number of the stack pointer's register.
+pub const SP: u32 = 15;
+
 /// A register, 0 to 15. Registers 11 to 15 are also named CR, SR, DR, BP and SP.
 #[derive(Clone, Copy, PartialEq, Eq, PartialOrd, Ord, Debug)]
 pub struct Reg {

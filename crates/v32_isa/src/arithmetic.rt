@@ -1,33 +1,12 @@
 // What instructions compute.
 ghost use Rattle.std.specs.Prelude.{◌≡◌, Some};
-ghost use Rattle.kit_base.specs.Word.{sub, below, bool_word, smaller, larger, negated, magnitude};
-ghost use Rattle.v32_isa.specs.Arithmetic.{two_of};
+ghost use Rattle.kit_base.specs.Word.{smaller, larger, magnitude};
+ghost use Rattle.v32_isa.specs.Arithmetic.{one_of, two_of};
 
-use kit_base::{div_word, mod_word, shift_word, wrap_add};
-use v32_isa::Two;
-
-#[inline(always)]
-#[tactic(auto, using(kit_base::proofs::Words::word_facts), unfolding(kit_base::specs::Word::below))]
-pub fn is_below(a: u32, b: u32) -> bool
-    ensures { result ≡ below a b }
-{
-    a.cast_signed() < b.cast_signed()
-}
-
-#[inline(always)]
-pub fn wrap_sub(a: u32, b: u32) -> u32
-    ensures { result ≡ sub a b }
-{
-    a.wrapping_sub(b)
-}
-
-/// 1 for yes, 0 for no.
-#[inline(always)]
-pub fn word_of_bool(b: bool) -> u32
-    ensures { result ≡ bool_word b }
-{
-    if b { 1 } else { 0 }
-}
+use crate::instruction::{One, Two};
+use kit_base::{
+    div_word, is_below, mod_word, negate, shift_word, word_of_bool, wrap_add, wrap_sub,
+};
 
 #[inline(always)]
 fn min_word(a: u32, b: u32) -> u32
@@ -43,13 +22,7 @@ fn max_word(a: u32, b: u32) -> u32
     if is_below(a, b) { b } else { a }
 }
 
-#[inline(always)]
-pub fn negate(a: u32) -> u32
-    ensures { result ≡ negated a }
-{
-    wrap_sub(0, a)
-}
-
+/// The signed magnitude; that of 0x80000000 is itself.
 #[inline(always)]
 pub fn magnitude_of(a: u32) -> u32
     ensures { result ≡ magnitude a }
@@ -82,4 +55,21 @@ pub fn two_word(op: Two, x: u32, y: u32) -> Option<u32>
         Two::IMAX => max_word(x, y),
     };
     Some(word)
+}
+
+/// The word that an instruction on one register computes; none for those that work on memory.
+#[inline(always)]
+pub fn one_word(op: One, x: u32) -> Option<u32>
+    ensures { result ≡ one_of op x }
+{
+    match op {
+        One::PUSH => None,
+        One::POP => None,
+        One::CMPS => None,
+        One::CIB => Some(word_of_bool(x != 0)),
+        One::NOT => Some(u32::MAX - x),
+        One::BNOT => Some(word_of_bool(x == 0)),
+        One::ISGN => Some(negate(x)),
+        One::IABS => Some(magnitude_of(x)),
+    }
 }

@@ -1,5 +1,5 @@
 // Operands moved to the places of targets, from the last node of each list to the first.
-use crate::operands::{can_turn, names_of, works_in_place};
+use crate::operands::{can_turn, names_of, takes_place};
 use crate::places::{maybe_stands, place};
 use crate::upwards::{may_stand, op_at};
 use mid_code::{Node, Op, Where};
@@ -62,7 +62,7 @@ fn operand_to_move(
     }
 }
 
-/// The operand of an operation that takes the target's place: the first one, or the second one where the operation works as well on its operands the
+/// The operand of an operation that takes the target's place: the first one, also of a load, or the second one where the operation works as well on its operands the
 /// other way round.
 fn move_of(
     single: &[bool],
@@ -72,7 +72,7 @@ fn move_of(
     o: &Op<u32>,
 ) -> Option<(u32, Where)> {
     let of = names_of(o);
-    if !works_in_place(o) {
+    if !takes_place(o) {
         return None;
     }
     match operand_to_move(single, at, ns, i, of.target, of.first, of.second) {

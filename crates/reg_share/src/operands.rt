@@ -99,6 +99,15 @@ pub(crate) fn works_in_place(o: &Op<u32>) -> bool {
     }
 }
 
+/// Whether the operation may make its target where its first operand stood: it works in place, or is a load through that operand.
+pub(crate) fn takes_place(o: &Op<u32>) -> bool {
+    if let Op::Load(_, _) = o {
+        true
+    } else {
+        works_in_place(o)
+    }
+}
+
 /// Whether the operator has one that makes the same of its words the other way round.
 fn turns(o: Two) -> bool {
     match o {

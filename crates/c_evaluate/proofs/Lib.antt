@@ -9,6 +9,7 @@ pub mod Ending
 pub mod Moving
 pub mod Stepping
 pub mod Pairs
+pub mod Passing
 pub mod Reaching
 pub mod Running
 pub mod Opened

@@ -1,5 +1,6 @@
 -- Several steps at once are steps one after another.
-use Rattle.std.proofs.Common.{◌≡◌, ℕ, zero, suc, Bool, true, false, List, [], ◌∷◌, ◌++◌, length, slice_get, refl, sym, ap, subst}
+use Rattle.std.proofs.Common.{◌≡◌, ℕ, zero, suc, ◌+◌, ltb, Bool, true, false, if◌then◌else◌, List, [], ◌∷◌, ◌++◌, length, slice_get, replicate, refl, sym, ap, subst, ◌∙◌}
+use Rattle.std.specs.Option.{option_map_or}
 use Rattle.std.specs.Prelude.{not, Option, Some, None, Result, Ok, Err}
 use Rattle.c_tree.specs.declared.span.Span.{Span}
 use Rattle.c_tree.specs.declared.operator.UnOp.{UnOp}
@@ -8,25 +9,29 @@ use Rattle.c_tree.specs.declared.operator.StepOp.{StepOp}
 use Rattle.c_tree.specs.declared.operator.BinOp.{BinOp}
 use Rattle.c_tree.specs.declared.operator.BinOp.TheVariants as bin
 use Rattle.c_types.specs.Types.{Ty, VoidY, IntY, BoolY, EnumY, StructY, UnionY, PointerY, ArrayY}
-use Rattle.c_types.specs.Typed.{TExprT, Typed, NumberK, NullK, LiteralK, GlobalK, LocalK, UnaryK, BinaryK, AssignK, StepK, IndexK, MemberK, ArrowK, CastK, CallK, InK, OutK, WaitK, HaltK, CardK, TExprTs, NoX, MoreX, TStmtT, BlockZ, EmptyZ, VarsZ, DoZ, IfZ, WhileZ, DoWhileZ, ForZ, SwitchZ, ReturnZ, BreakZ, ContinueZ}
+use Rattle.c_types.specs.Typed.{TExprT, Typed, NumberK, NullK, LiteralK, GlobalK, LocalK, UnaryK, BinaryK, AssignK, StepK, IndexK, MemberK, ArrowK, CastK, CallK, InK, OutK, WaitK, HaltK, CardK, TExprTs, NoX, MoreX, TStmtTs, NoZ, MoreZ, TStmtT, BlockZ, EmptyZ, VarsZ, DoZ, IfZ, WhileZ, DoWhileZ, ForZ, SwitchZ, ReturnZ, BreakZ, ContinueZ}
+use Rattle.c_types.specs.Programs.{TFunctionT}
 use Rattle.obj_mem.specs.declared.cell.Cell.{Cell}
-use Rattle.obj_mem.specs.declared.cell.Cell.TheVariants.{Unwritten, Ptr}
-use Rattle.obj_mem.specs.Stores.{Store, local_object}
-use Rattle.obj_mem.specs.Queries.{Answer, truth, first_cell, step as pointer_step}
+use Rattle.obj_mem.specs.declared.cell.Cell.TheVariants.{Unwritten, Num, Ptr, Null}
+use Rattle.obj_mem.specs.Stores.{Store, local_object, has_room, fresh_all, entered, next_object, with_temporary}
+use Rattle.obj_mem.specs.Objects.{ObjectT, cell_read}
+use Rattle.obj_mem.specs.Queries.{Answer, then_ask, answer_if, accessed, truth, first_cell, step as pointer_step}
 use Rattle.c_meaning.specs.Kinds.{type_of, span_of, decayed}
-use Rattle.c_meaning.specs.Operators.{is_true, converted, cell_unary, stepped, operated}
+use Rattle.c_meaning.specs.Operators.{is_of, word_unary, word_binary, is_true, converted, cell_unary, stepped, operated}
 use Rattle.c_meaning.specs.declared.end.End.{End}
-use Rattle.c_meaning.specs.Setting.{Setting, words}
+use Rattle.c_meaning.specs.Outcomes.{nowhere}
+use Rattle.c_meaning.specs.Setting.{Setting, words, words as type_words, result_of}
 use Rattle.c_meaning.specs.Cells.{released}
-use Rattle.c_meaning.specs.Expressions.{params_of}
+use Rattle.c_meaning.specs.Expressions.{params_of, all_released}
 use Rattle.c_evaluate.specs.declared.frame.Came.{Came}
 use Rattle.c_evaluate.specs.declared.frame.Came.TheVariants.{Value, Place, Nothing}
-use Rattle.c_evaluate.specs.declared.frame.How.TheVariants.{On}
-use Rattle.c_evaluate.specs.Storing.{With, at_span, then_ok, taken, tested_in, placed_in, operated_in, stepped_in, second_assigned_in}
-use Rattle.c_evaluate.specs.Machine.{FocusT, EvalF, FillF, DoF, CameF, MadeF, LeftF, FullF, FrameT, FirstW, SecondW, ArgumentW, BackW, ValueW, StepW, BodyW, BeginW, RestW, ArmsW, EndW, SwitchW, OneW, ItemsW, VarsW, FilledW, MainW, Config, Going}
-use Rattle.c_evaluate.specs.Steps.{on, came, value, left, args_of, argument_in, argument_step, value_here, place_here, either_of, eval, first_step, second_step, unary_first, member_first, binary_second, combined, second_of, second_of_node, binary_of, exec, value_step, give, step}
+use Rattle.c_evaluate.specs.declared.frame.How.TheVariants.{On, Return}
+use Rattle.c_evaluate.specs.Storing.{With, at_span, then_ok, cells_in, params_in, returned_in, taken, tested_in, placed_in, operated_in, stepped_in, second_assigned_in}
+use Rattle.c_evaluate.specs.Machine.{FocusT, EvalF, FillF, DoF, CameF, MadeF, LeftF, FullF, FrameT, FirstW, SecondW, ArgumentW, BackW, ValueW, StepW, BodyW, BeginW, RestW, ArmsW, EndW, SwitchW, OneW, ItemsW, VarsW, FilledW, MainW, Config, Going, caller_of, back_in}
+use Rattle.c_evaluate.specs.Steps.{on, came, value, left, args_of, argument_in, argument_step, value_here, place_here, either_of, eval, first_step, second_step, unary_first, member_first, binary_second, combined, second_of, second_of_node, binary_of, exec, value_step, give, leave, step, rest_of, in_room, body_of, enter, call_of, call, return_of}
 use Rattle.c_evaluate.specs.Turning.{Works}
-use Rattle.c_evaluate.specs.Swift.{asks_on, assigns_on, steps_on, does_on, exec_on, took, args_on, argument_on, with_some, answered, seen, value_at_once, place_at_once, unary_at_once, is_strict, strict_at_once, binary_at_once, index_at_once, member_at_once, arrow_at_once, cast_at_once, comes, depth_at_once, at_once, local_at_once, handed, second_on, binary_on, first_on, first_of_on, operand_on, eval_on, give_on, step_on}
+use Rattle.c_evaluate.specs.Swift.{unary_worth, binary_worth, when, is_word, word_held, word_at, worth, are_words, returned_by, quick_of, quick, passed, word_or, call_on, asks_on, assigns_on, steps_on, does_on, exec_on, took, args_on, argument_on, with_some, answered, seen, value_at_once, place_at_once, unary_at_once, is_strict, strict_at_once, binary_at_once, index_at_once, member_at_once, arrow_at_once, cast_at_once, comes, depth_at_once, at_once, local_at_once, handed, second_on, binary_on, first_on, first_of_on, operand_on, eval_on, give_on, step_on}
+use Rattle.c_evaluate.proofs.Passing.{laid, counted, others, held, no_structure, all_params, all_made, param_held, passed_back, words_released}
 
 -- so many steps lead from one configuration to the other
 pub data Reaches (s : Setting) : Config → Config → Type 0 where
@@ -280,6 +285,195 @@ module _ (s : Setting) where
   operand_reaches : (n : ℕ) (e x : TExprT) (k : List FrameT) (u : Store) → Reaches s (Going (EvalF n x) (FirstW n e ∷ k) u) (operand_on s n e x k u)
   operand_reaches n e x k u = handed_reaches n x (FirstW n e) k u (λ v. first_of_on s n e v k u) (λ v. first_reaches n e v k u)
 
+  -- ---- a call of a function of words is answered as by its steps
+
+  word_of_held : (o : Option Cell) (a : ℕ) → word_held o ≡ Some a → o ≡ Some (Num a)
+  word_of_held None a e = absurd cc
+  word_of_held (Some Unwritten) a e = absurd cc
+  word_of_held (Some (Num x)) a e = cc
+  word_of_held (Some (Ptr o i)) a e = absurd cc
+  word_of_held (Some Null) a e = absurd cc
+
+  when_of : {A P : Type 0} (b : Bool) (o : Option A) (x : A) → when b o ≡ Some x → (b ≡ true → o ≡ Some x → P) → P
+  when_of true o x e h = h refl e
+  when_of false o x e h = absurd cc
+
+  -- a place that holds a word, seen at a type of words
+  word_seen : (ty : Ty) (o a : ℕ) (t : Store) → is_word ty ≡ true → cell_read t.objects o 0 ≡ Ok (Num a) → seen ty (Place (Ptr o 0)) t ≡ Some (Num a)
+  unfolding seen
+  word_seen VoidY o a t w e = absurd cc
+  word_seen IntY o a t w e = ap (λ r. answered (then_ask (accessed 0 0 r) (λ c. answer_if (is_of IntY c) c))) e
+  word_seen BoolY o a t w e = ap (λ r. answered (then_ask (accessed 0 0 r) (λ c. answer_if (is_of BoolY c) c))) e
+  word_seen (EnumY number) o a t w e = ap (λ r. answered (then_ask (accessed 0 0 r) (λ c. answer_if (is_of (EnumY number) c) c))) e
+  word_seen (StructY number) o a t w e = absurd cc
+  word_seen (UnionY number) o a t w e = absurd cc
+  word_seen (PointerY to) o a t w e = absurd cc
+  word_seen (ArrayY of len) o a t w e = absurd cc
+
+  came_word : (a b : ℕ) → Some a ≡ Some b → a ≡ b
+  came_word a b e = cc
+
+  word_made : (r : Answer ℕ) (z : ℕ) → answered r ≡ Some z → value_at_once (then_ask r (λ z. Ok (Num z))) ≡ Some (Value (Num z))
+  word_made (Ok y) z e = cc
+  word_made (Err why) z e = absurd cc
+
+  unary_word : (op : UnOp) (a : ℕ) (x : TExprT) (w : Came) (z : ℕ) (t : Store) → seen (type_of x) w t ≡ Some (Num a) → answered (word_unary op a) ≡ Some z → unary_at_once op (type_of x) w t ≡ Some (Value (Num z))
+  unfolding unary_at_once
+  unary_word un.Deref a x w z t g e = absurd cc
+  unary_word un.Address a x w z t g e = absurd cc
+  unary_word un.Not a x w z t g e = absurd cc
+  unary_word un.Minus a x w z t g e = ap (λ o. with_some o (λ c. value_at_once (cell_unary un.Minus c))) g ∙ word_made (word_unary un.Minus a) z e
+  unary_word un.Plus a x w z t g e = ap (λ o. with_some o (λ c. value_at_once (cell_unary un.Plus c))) g ∙ word_made (word_unary un.Plus a) z e
+  unary_word un.Flip a x w z t g e = ap (λ o. with_some o (λ c. value_at_once (cell_unary un.Flip c))) g ∙ word_made (word_unary un.Flip a) z e
+
+  binary_word : (op : BinOp) (ta tb : Ty) (os : List ObjectT) (a b z : ℕ) → is_word ta ≡ true → answered (word_binary op a b) ≡ Some z → value_at_once (operated s op ta tb os (Num a) (Num b)) ≡ Some (Value (Num z))
+  binary_word op VoidY tb os a b z w e = absurd cc
+  binary_word op IntY tb os a b z w e = word_made (word_binary op a b) z e
+  binary_word op BoolY tb os a b z w e = word_made (word_binary op a b) z e
+  binary_word op (EnumY number) tb os a b z w e = word_made (word_binary op a b) z e
+  binary_word op (StructY number) tb os a b z w e = absurd cc
+  binary_word op (UnionY number) tb os a b z w e = absurd cc
+  binary_word op (PointerY to) tb os a b z w e = absurd cc
+  binary_word op (ArrayY of len) tb os a b z w e = absurd cc
+
+  word_converted : (ty : Ty) (a : ℕ) → converted ty (Num a) ≡ Ok (Num (word_at ty a))
+  word_converted VoidY a = refl
+  word_converted IntY a = refl
+  word_converted BoolY a = refl
+  word_converted (EnumY number) a = refl
+  word_converted (StructY number) a = refl
+  word_converted (UnionY number) a = refl
+  word_converted (PointerY to) a = refl
+  word_converted (ArrayY of len) a = refl
+
+  unfoldable Holds : List Cell → Store → Type 0
+  Holds vs t = (j a : ℕ) → slice_get vs j ≡ Some (Num a) → (o : ℕ) × ((local_object t.locals j ≡ Some o) × (cell_read t.objects o 0 ≡ Ok (Num a)))
+
+  worth_reaches : (d : ℕ) (vs : List Cell) (x : TExprT) (a : ℕ) (t : Store) → Holds vs t → worth d vs x ≡ Some a → (n : ℕ) (f : FrameT) (k : List FrameT) (to : Config) → ((v : Came) → seen (type_of x) v t ≡ Some (Num a) → Reaches s (give s f v k t) to) → Reaches s (Going (EvalF n x) (f ∷ k) t) to
+  unfolding step eval worth unary_worth binary_worth give first_step second_step seen Holds
+  worth_reaches d vs (Typed (NumberK x) ty span) a t h e n f k to r = further _ _ _ _ tt (further _ _ _ _ tt (r (Value (Num x)) (ap (λ y. Some (Num y)) (came_word x a e))))
+  worth_reaches d vs (Typed (LocalK number) ty span) a t h e n f k to r = when_of (is_word ty) _ a e (λ w e1.
+      let p = h number a (word_of_held (slice_get vs number) a e1) in
+      further _ _ _ _ tt (subst (λ o. Reaches s (place_here (at_span span (first_cell o)) (f ∷ k) t) to) (sym p.1.0) (further _ _ _ _ tt (r (Place (Ptr p.0 0)) (word_seen ty p.0 a t w p.1.1)))))
+  worth_reaches (suc d) vs (Typed (UnaryK op x) ty span) a t h e n f k to r = some_of _ _ a e (λ b g e1.
+      further _ _ _ _ tt (worth_reaches d vs x b t h g n (FirstW n (Typed (UnaryK op x) ty span)) (f ∷ k) to (λ w p.
+      unary_given n op x span w (Value (Num a)) t (unary_word op b x w a t p e1) f k to (r (Value (Num a)) refl))))
+  worth_reaches (suc d) vs (Typed (BinaryK op x y) ty span) a t h e n f k to r = when_of (is_strict op) _ a e (λ strict e1. when_of (is_word (type_of x)) _ a e1 (λ word e2. some_of _ _ a e2 (λ b g e3. some_of _ _ a e3 (λ c g' e4.
+      further _ _ _ _ tt (worth_reaches d vs x b t h g n (FirstW n (Typed (BinaryK op x y) ty span)) (f ∷ k) to (λ w p.
+      subst (λ q. Reaches s q to) (sym (strict_first n op (Typed (BinaryK op x y) ty span) x y w (f ∷ k) t strict))
+      (on_seen _ (Num b) t (seen_taken s n x w t (Num b) p) (λ u. second_of_node n (Typed (BinaryK op x y) ty span) y u.0 (f ∷ k) u.1) to
+      (worth_reaches d vs y c t h g' n (SecondW n (Typed (BinaryK op x y) ty span) (Num b)) (f ∷ k) to (λ z q.
+      subst (λ q. Reaches s q to) (sym (strict_second n op x y span (Num b) z (f ∷ k) t strict))
+      (combined_given n op x y span (Num b) (Num c) z (Value (Num a)) t q (binary_word op (type_of x) (type_of y) t.objects b c a word e4) f k to (r (Value (Num a)) refl)))))))))))
+  worth_reaches (suc d) vs (Typed (CastK x) ty span) a t h e n f k to r = some_of _ _ a e (λ b g e1.
+      further _ _ _ _ tt (worth_reaches d vs x b t h g n (FirstW n (Typed (CastK x) ty span)) (f ∷ k) to (λ w p.
+      on_seen _ (Num b) t (seen_taken s n x w t (Num b) p) (λ u. value_here (at_span span (converted ty u.0)) (f ∷ k) u.1) to
+      (value_given span _ (Value (Num a)) (ap value_at_once (word_converted ty b) ∙ ap (λ z. Some (Value (Num z))) (came_word _ a e1)) f k t to (r (Value (Num a)) refl)))))
+  worth_reaches zero vs (Typed (UnaryK op x) ty span) a t h e n f k to r = absurd cc
+  worth_reaches zero vs (Typed (BinaryK op x y) ty span) a t h e n f k to r = absurd cc
+  worth_reaches zero vs (Typed (CastK x) ty span) a t h e n f k to r = absurd cc
+  worth_reaches d vs (Typed NullK ty span) a t h e n f k to r = absurd cc
+  worth_reaches d vs (Typed (LiteralK number) ty span) a t h e n f k to r = absurd cc
+  worth_reaches d vs (Typed (GlobalK number) ty span) a t h e n f k to r = absurd cc
+  worth_reaches d vs (Typed (AssignK op x y) ty span) a t h e n f k to r = absurd cc
+  worth_reaches d vs (Typed (StepK op x) ty span) a t h e n f k to r = absurd cc
+  worth_reaches d vs (Typed (IndexK x y) ty span) a t h e n f k to r = absurd cc
+  worth_reaches d vs (Typed (MemberK x offset) ty span) a t h e n f k to r = absurd cc
+  worth_reaches d vs (Typed (ArrowK x offset) ty span) a t h e n f k to r = absurd cc
+  worth_reaches d vs (Typed (CallK g xs) ty span) a t h e n f k to r = absurd cc
+  worth_reaches d vs (Typed (InK port) ty span) a t h e n f k to r = absurd cc
+  worth_reaches d vs (Typed (OutK port x) ty span) a t h e n f k to r = absurd cc
+  worth_reaches d vs (Typed WaitK ty span) a t h e n f k to r = absurd cc
+  worth_reaches d vs (Typed HaltK ty span) a t h e n f k to r = absurd cc
+  worth_reaches d vs (Typed CardK ty span) a t h e n f k to r = absurd cc
+
+  returned_is : {P : Type 0} (body : TStmtTs) (x : TExprT) → returned_by body ≡ Some x → ((rest : TStmtTs) → body ≡ MoreZ (ReturnZ (Some x)) rest → P) → P
+  returned_is NoZ x e h = absurd cc
+  returned_is (MoreZ (ReturnZ (Some y)) rest) x e h = h rest (ap (λ o. MoreZ (ReturnZ o) rest) e)
+  returned_is (MoreZ (ReturnZ None) rest) x e h = absurd cc
+  returned_is (MoreZ (BlockZ made body) rest) x e h = absurd cc
+  returned_is (MoreZ EmptyZ rest) x e h = absurd cc
+  returned_is (MoreZ (VarsZ vars) rest) x e h = absurd cc
+  returned_is (MoreZ (DoZ y) rest) x e h = absurd cc
+  returned_is (MoreZ (IfZ y a b) rest) x e h = absurd cc
+  returned_is (MoreZ (WhileZ y a) rest) x e h = absurd cc
+  returned_is (MoreZ (DoWhileZ a y) rest) x e h = absurd cc
+  returned_is (MoreZ (ForZ made first test next a) rest) x e h = absurd cc
+  returned_is (MoreZ (SwitchZ y made arms) rest) x e h = absurd cc
+  returned_is (MoreZ BreakZ rest) x e h = absurd cc
+  returned_is (MoreZ ContinueZ rest) x e h = absurd cc
+
+  -- from the body of the function on, whose parameters hold the arguments
+  module _ (m f : ℕ) (g : TFunctionT) (vs : List Cell) (span : Span) (k : List FrameT) (u : Store) (is : slice_get s.functions f ≡ Some g) (gives : is_word g.gives ≡ true) (words : are_words 0 g.params g.made (s.sizes.locals f) vs ≡ true) where
+    unfoldable inside : Store
+    inside = held u.answers (Some f) (u.used + (s.sizes.frame f + 2)) (u.objects ++ laid vs) (counted (length u.objects) vs ++ replicate (length (others vs (s.sizes.locals f))) None)
+
+    unfoldable waits : TStmtTs → List FrameT
+    waits rest = RestW m Unwritten rest ∷ (BackW f vs Unwritten span (caller_of u) ∷ k)
+
+    back_behind : (rest : TStmtTs) (a z : ℕ) → Some (word_at g.gives a) ≡ Some z → Reaches s (left (Return (Some (Num (word_at g.gives a)))) (waits rest) inside) (came (Value (Num z)) k (passed vs u))
+    unfolding step leave waits inside
+    back_behind rest a z e =
+        let st : all_released (params_of (slice_get s.functions f)) vs (back_in (caller_of u) inside) ≡ passed vs u = ap (λ o. all_released (params_of o) vs (back_in (caller_of u) inside)) is ∙ words_released 0 g.params g.made (s.sizes.locals f) vs (back_in (caller_of u) inside) words ∙ passed_back vs u in
+        further _ _ _ _ tt (further _ _ _ _ tt (subst (λ q. Reaches s (came (Value (Num (word_at g.gives a))) k (all_released (params_of (slice_get s.functions f)) vs (back_in (caller_of u) inside))) q) (λ i. came (Value (Num (came_word (word_at g.gives a) z e i))) k (st i)) (here _)))
+
+    returned_word : (rest : TStmtTs) (x : TExprT) (a z : ℕ) → Some (word_at g.gives a) ≡ Some z → Reaches s (on (at_span (span_of x) (converted (result_of s (Some f)) (Num a))) (λ c. return_of (returned_in s m (result_of s (Some f)) Unwritten c inside) (waits rest))) (came (Value (Num z)) k (passed vs u))
+    returned_word rest x a z e =
+        let to : Config = came (Value (Num z)) k (passed vs u) in
+        let r : result_of s (Some f) ≡ g.gives = ap (λ o. option_map_or (λ g. g.gives) o VoidY) is in
+        subst (λ ty. Reaches s (on (at_span (span_of x) (converted ty (Num a))) (λ c. return_of (returned_in s m ty Unwritten c inside) (waits rest))) to) (sym r)
+        (subst (λ q. Reaches s (on (at_span (span_of x) q) (λ c. return_of (returned_in s m g.gives Unwritten c inside) (waits rest))) to) (sym (word_converted g.gives a))
+        (subst (λ b. Reaches s (return_of (if b then then_ok (cells_in nowhere m (type_words s g.gives) (Some (Num (word_at g.gives a))) Unwritten inside) (λ v. Ok (Unwritten, released g.gives (Num (word_at g.gives a)) v)) else Ok (Num (word_at g.gives a), inside)) (waits rest)) to) (sym (no_structure g.gives gives))
+        (back_behind rest a z e)))
+
+    holds : Holds vs inside
+    unfolding Holds inside
+    holds j b e = param_held vs j (Num b) u.objects (replicate (length (others vs (s.sizes.locals f))) None) e
+
+    at_result : (x : TExprT) (rest : TStmtTs) (a z : ℕ) → Some (word_at g.gives a) ≡ Some z → Reaches s (on (at_span (span_of x) (converted (result_of s inside.function) (Num a))) (λ c. return_of (returned_in s m (result_of s inside.function) Unwritten c inside) (waits rest))) (came (Value (Num z)) k (passed vs u))
+    unfolding inside
+    at_result x rest a z e = returned_word rest x a z e
+
+    body_reaches : (rest : TStmtTs) (x : TExprT) (a z : ℕ) → worth 6 vs x ≡ Some a → Some (word_at g.gives a) ≡ Some z → Reaches s (Going (DoF m Unwritten (ReturnZ (Some x))) (waits rest) inside) (came (Value (Num z)) k (passed vs u))
+    unfolding step exec give value_step
+    body_reaches rest x a z w e =
+        let to : Config = came (Value (Num z)) k (passed vs u) in
+        further _ _ _ _ tt (worth_reaches 6 vs x a inside holds w m (ValueW m Unwritten (ReturnZ (Some x))) (waits rest) to (λ v p.
+        on_seen _ (Num a) inside (seen_taken s m x v inside (Num a) p) (λ t. on (at_span (span_of x) (converted (result_of s t.1.function) t.0)) (λ c. return_of (returned_in s m (result_of s t.1.function) Unwritten c t.1) (waits rest))) to (at_result x rest a z e)))
+
+    entered_is : params_in s m 0 g.params vs (fresh_all s.sizes g.made (entered s.sizes f u)) ≡ Ok inside
+    unfolding inside
+    entered_is =
+        ap (params_in s m 0 g.params vs) (all_made u.answers (Some f) (u.used + (s.sizes.frame f + 2)) s.sizes f 0 g.params g.made (s.sizes.locals f) vs [] u.objects [] refl refl refl words refl)
+        ∙ all_params u.answers (Some f) (u.used + (s.sizes.frame f + 2)) s m 0 g.params g.made (s.sizes.locals f) vs u.objects [] (replicate (length (others vs (s.sizes.locals f))) None) words refl
+
+    entered_reaches : (x : TExprT) (a z : ℕ) → returned_by g.body ≡ Some x → worth 6 vs x ≡ Some a → Some (word_at g.gives a) ≡ Some z → Reaches s (body_of s m f g vs Unwritten span k u) (came (Value (Num z)) k (passed vs u))
+    unfolding waits
+    entered_reaches x a z at w e =
+        let to : Config = came (Value (Num z)) k (passed vs u) in
+        returned_is g.body x at (λ rest b.
+        subst (λ q. Reaches s (on q (λ t. rest_of m Unwritten g.body (BackW f vs Unwritten span (caller_of u) ∷ k) t)) to) (sym entered_is)
+        (subst (λ q. Reaches s (rest_of m Unwritten q (BackW f vs Unwritten span (caller_of u) ∷ k) inside) to) (sym b)
+        (body_reaches rest x a z w e)))
+
+  quick_reaches : (n f : ℕ) (vs : List Cell) (span : Span) (k : List FrameT) (u : Store) (z : ℕ) → quick s n f vs u ≡ Some z → Reaches s (call s n f vs span k u) (came (Value (Num z)) k (passed vs u))
+  unfolding quick quick_of
+  quick_reaches zero f vs span k u z e = absurd cc
+  quick_reaches (suc m) f vs span k u z e = when_of (ltb 0 (suc m)) _ z e (λ some e1. when_of (has_room s.sizes f u) _ z e1 (λ room e2. some_of (slice_get s.functions f) _ z e2 (λ g is e3.
+      some_of (returned_by g.body) _ z e3 (λ x at e4. when_of (is_word g.gives) _ z e4 (λ gives e5. when_of (are_words 0 g.params g.made (s.sizes.locals f) vs) _ z e5 (λ words e6. some_of (worth 6 vs x) _ z e6 (λ a w e7.
+      let to : Config = came (Value (Num z)) k (passed vs u) in
+      subst (λ o. Reaches s (call_of s (suc m) f o vs span k u) to) (sym is)
+      (subst (λ b. Reaches s (enter s (suc m) f g vs (if b then next_object u else Unwritten) span k (if b then with_temporary (type_words s g.gives) u else u)) to) (sym (no_structure g.gives gives))
+      (subst (λ b. Reaches s (in_room b span (body_of s m f g vs Unwritten span k u)) to) (sym room)
+      (entered_reaches m f g vs span k u is gives words x a z at w e7))))))))))
+
+  call_reaches : (n f : ℕ) (vs : List Cell) (span : Span) (k : List FrameT) (u : Store) → Reaches s (call s n f vs span k u) (call_on s n f vs span k u)
+  call_reaches n f vs span k u = by (quick s n f vs u) refl
+    where
+      by : (o : Option ℕ) → quick s n f vs u ≡ o → Reaches s (call s n f vs span k u) (word_or o (call s n f vs span k u) (λ z. came (Value (Num z)) k (passed vs u)))
+      by None e = here _
+      by (Some z) e = quick_reaches n f vs span k u z e
+
   -- arguments that come at once are taken one after another
   took_reaches : (n g : ℕ) (span : Span) (x : TExprT) (xs : TExprTs) (v : Came) (vs : List Cell) (k : List FrameT) (u : Store) → ((vs : List Cell) (u : Store) → Reaches s (args_of s n g span vs xs k u) (args_on s n g span vs xs k u)) →
       (t : With Cell) → Reaches s (on t (λ t. on (argument_in (slice_get (params_of (slice_get s.functions g)) (length vs)) x t.0) (λ z. args_of s n g span (vs ++ z ∷ []) xs k t.1)))
@@ -293,7 +487,7 @@ module _ (s : Setting) where
 
   args_reaches : (n g : ℕ) (span : Span) (xs : TExprTs) (k : List FrameT) (vs : List Cell) (u : Store) → Reaches s (args_of s n g span vs xs k u) (args_on s n g span vs xs k u)
   unfolding give
-  args_reaches n g span NoX k vs u = here _
+  args_reaches n g span NoX k vs u = call_reaches n g vs span k u
   args_reaches n g span (MoreX x xs) k vs u =
       handed_reaches n x (ArgumentW n g span vs (MoreX x xs)) k u (λ v. on (took s n g x v vs u) (λ t. args_on s n g span t.0 xs k t.1)) (λ v. took_reaches n g span x xs v vs k u (args_reaches n g span xs k) (taken s n x v u))
 
@@ -345,9 +539,9 @@ module _ (s : Setting) where
       placed : (w : Came) → at_once s y u ≡ Some w → (q : Result Cell End) → Reaches s (on q (λ p. Going (EvalF n y) (SecondW n (Typed (AssignK op x y) ty span) p ∷ (ValueW n r (DoZ (Typed (AssignK op x y) ty span)) ∷ k)) u)) (on q (λ p. on (taken s n y w u) (λ t. on (second_assigned_in s n op x y span p t.0 t.1) (λ z. left On k (released ty z.0 z.1)))))
       placed w g q = on_reaches q (λ p. Going (EvalF n y) (SecondW n (Typed (AssignK op x y) ty span) p ∷ (ValueW n r (DoZ (Typed (AssignK op x y) ty span)) ∷ k)) u) (λ p. on (taken s n y w u) (λ t. on (second_assigned_in s n op x y span p t.0 t.1) (λ z. left On k (released ty z.0 z.1)))) (λ p. at_once_reaches y u w g n (SecondW n (Typed (AssignK op x y) ty span) p) (ValueW n r (DoZ (Typed (AssignK op x y) ty span)) ∷ k) _ (valued p (taken s n y w u)))
 
-      by : (o : Option Came) → at_once s x u ≡ o → (q : Option Came) → at_once s y u ≡ q → Reaches s (Going (EvalF n (Typed (AssignK op x y) ty span)) (ValueW n r (DoZ (Typed (AssignK op x y) ty span)) ∷ k) u) (handed o (Going (EvalF n (Typed (AssignK op x y) ty span)) (ValueW n r (DoZ (Typed (AssignK op x y) ty span)) ∷ k) u) (λ v. handed q (Going (EvalF n (Typed (AssignK op x y) ty span)) (ValueW n r (DoZ (Typed (AssignK op x y) ty span)) ∷ k) u) (λ w. on (placed_in span v) (λ p. on (taken s n y w u) (λ t. on (second_assigned_in s n op x y span p t.0 t.1) (λ z. left On k (released ty z.0 z.1)))))))
+      by : (o : Option Came) → at_once s x u ≡ o → (q : Option Came) → at_once s y u ≡ q → Reaches s (Going (EvalF n (Typed (AssignK op x y) ty span)) (ValueW n r (DoZ (Typed (AssignK op x y) ty span)) ∷ k) u) (handed o (Going (EvalF n (Typed (AssignK op x y) ty span)) (ValueW n r (DoZ (Typed (AssignK op x y) ty span)) ∷ k) u) (λ v. handed q (on (placed_in span v) (λ p. Going (EvalF n y) (SecondW n (Typed (AssignK op x y) ty span) p ∷ (ValueW n r (DoZ (Typed (AssignK op x y) ty span)) ∷ k)) u)) (λ w. on (placed_in span v) (λ p. on (taken s n y w u) (λ t. on (second_assigned_in s n op x y span p t.0 t.1) (λ z. left On k (released ty z.0 z.1)))))))
       by None f q g = here _
-      by (Some v) f None g = here _
+      by (Some v) f None g = further _ _ _ _ tt (at_once_reaches x u v f n (FirstW n (Typed (AssignK op x y) ty span)) (ValueW n r (DoZ (Typed (AssignK op x y) ty span)) ∷ k) _ (here _))
       by (Some v) f (Some w) g = further _ _ _ _ tt (at_once_reaches x u v f n (FirstW n (Typed (AssignK op x y) ty span)) (ValueW n r (DoZ (Typed (AssignK op x y) ty span)) ∷ k) _ (placed w g (placed_in span v)))
 
   steps_reaches : (n : ℕ) (r : Cell) (op : StepOp) (x : TExprT) (ty : Ty) (span : Span) (k : List FrameT) (u : Store) →

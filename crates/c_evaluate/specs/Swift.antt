@@ -1,6 +1,6 @@
 -- Several steps at once: an operand comes without waiting in a frame where it is a number, NULL, a text, a global, a local that was made, or made of
 -- such by operators, accesses and casts to a small depth, and nothing refuses.
-use Rattle.std.specs.Prelude.{ℕ, zero, suc, Bool, true, false, not, List, [], ◌∷◌, ◌++◌, length, slice_get, Option, Some, None, Result, Ok, Err}
+use Rattle.std.specs.Prelude.{ℕ, zero, suc, ◌+◌, Bool, true, false, not, ◌&&◌, ◌==◌, eqb, ltb, List, [], ◌∷◌, ◌++◌, length, slice_get, Option, Some, None, Result, Ok, Err}
 use Rattle.c_tree.specs.declared.span.Span.{Span}
 use Rattle.c_tree.specs.declared.operator.UnOp.{UnOp}
 use Rattle.c_tree.specs.declared.operator.UnOp.TheVariants as un
@@ -8,14 +8,18 @@ use Rattle.c_tree.specs.declared.operator.StepOp.{StepOp}
 use Rattle.c_tree.specs.declared.operator.BinOp.{BinOp}
 use Rattle.c_tree.specs.declared.operator.BinOp.TheVariants.{AndAlso, OrElse}
 use Rattle.c_types.specs.Types.{Ty, VoidY, IntY, BoolY, EnumY, StructY, UnionY, PointerY, ArrayY}
-use Rattle.c_types.specs.Typed.{TExprT, Typed, TKindT, NumberK, NullK, LiteralK, GlobalK, LocalK, UnaryK, BinaryK, AssignK, StepK, IndexK, MemberK, ArrowK, CastK, CallK, OutK, TExprTs, NoX, MoreX, TStmtT, DoZ, IfZ, WhileZ, SwitchZ, ReturnZ}
+use Rattle.c_types.specs.Typed.{TExprT, Typed, TKindT, NumberK, NullK, LiteralK, GlobalK, LocalK, UnaryK, BinaryK, AssignK, StepK, IndexK, MemberK, ArrowK, CastK, CallK, OutK, TExprTs, NoX, MoreX, TStmtT, DoZ, IfZ, WhileZ, SwitchZ, ReturnZ, TStmtTs, NoZ, MoreZ}
+use Rattle.c_types.specs.Programs.{TFunctionT}
 use Rattle.obj_mem.specs.declared.cell.Cell.{Cell}
 use Rattle.obj_mem.specs.declared.cell.Cell.TheVariants.{Unwritten, Num, Null, Ptr}
-use Rattle.obj_mem.specs.Stores.{Store, local_object}
+use Rattle.obj_mem.specs.declared.cell.ObjectKind.TheVariants.{Local}
+use Rattle.obj_mem.specs.Objects.{made, end_object}
+use Rattle.obj_mem.specs.Stores.{Store, local_object, with_objects, has_room}
+use Rattle.kit_base.specs.Word.{bool_word}
 use Rattle.obj_mem.specs.Queries.{Answer, truth, step as pointer_step}
 use Rattle.c_meaning.specs.declared.end.End.{End}
 use Rattle.c_meaning.specs.Kinds.{type_of, span_of, decayed}
-use Rattle.c_meaning.specs.Operators.{read_as, converted, is_true, cell_unary, stepped, operated}
+use Rattle.c_meaning.specs.Operators.{read_as, converted, is_true, word_unary, word_binary, cell_unary, stepped, operated}
 use Rattle.c_meaning.specs.Setting.{Setting, words, global_at, literal_at}
 use Rattle.c_meaning.specs.Cells.{released}
 use Rattle.c_meaning.specs.Expressions.{params_of}
@@ -134,6 +138,90 @@ abbrev pub handed : Option Came → (waits : Config) → (go : Came → Config) 
 handed None waits go = waits
 handed (Some v) waits go = go v
 
+-- ---- calls of functions of words that return an expression of their parameters
+
+-- whether the values of a type are words
+abbrev pub is_word : Ty → Bool
+is_word VoidY = false
+is_word IntY = true
+is_word BoolY = true
+is_word (EnumY number) = true
+is_word (StructY number) = false
+is_word (UnionY number) = false
+is_word (PointerY to) = false
+is_word (ArrayY of len) = false
+
+abbrev pub when : {A : Type 0} → Bool → Option A → Option A
+when true o = o
+when false o = None
+
+abbrev pub word_held : Option Cell → Option ℕ
+word_held None = None
+word_held (Some Unwritten) = None
+word_held (Some (Num x)) = Some x
+word_held (Some (Ptr o i)) = None
+word_held (Some Null) = None
+
+-- a word as it is stored at a type of words
+abbrev pub word_at : Ty → ℕ → ℕ
+word_at BoolY x = bool_word (not (x == 0))
+word_at ty x = x
+
+-- one deeper, as above
+abbrev pub lower : ℕ → (ℕ → Option ℕ) → Option ℕ
+lower zero go = None
+lower (suc d) go = go d
+
+unfoldable pub unary_worth : UnOp → ℕ → Option ℕ
+unary_worth op a = answered (word_unary op a)
+
+unfoldable pub binary_worth : BinOp → (a b : ℕ) → Option ℕ
+binary_worth op a b = answered (word_binary op a b)
+
+-- the value of an expression of words, where the parameters have these arguments; no object is looked at
+unfoldable pub worth : (depth : ℕ) → (args : List Cell) → TExprT → Option ℕ
+worth n vs (Typed (NumberK x) ty span) = Some x
+worth n vs (Typed (LocalK number) ty span) = when (is_word ty) (word_held (slice_get vs number))
+worth n vs (Typed (UnaryK op x) ty span) = lower n (λ d. with_some (worth d vs x) (λ a. unary_worth op a))
+worth n vs (Typed (BinaryK op x y) ty span) = lower n (λ d. when (is_strict op) (when (is_word (type_of x)) (with_some (worth d vs x) (λ a. with_some (worth d vs y) (λ b. binary_worth op a b)))))
+worth n vs (Typed (CastK x) ty span) = lower n (λ d. with_some (worth d vs x) (λ a. Some (word_at ty a)))
+worth n vs (Typed kind ty span) = None
+
+-- The parameters are words, as many as the arguments. Each is an object of one word, numbered from a number on, and no other is made.
+abbrev pub are_words : (first : ℕ) → (params : List Ty) → (made sizes : List ℕ) → (args : List Cell) → Bool
+are_words k [] [] sizes [] = true
+are_words k (ty ∷ tys) (j ∷ js) (w ∷ ws) (c ∷ cs) = is_word ty && (eqb k j && (eqb w 1 && are_words (k + 1) tys js ws cs))
+are_words k tys js ws cs = false
+
+-- what a function returns first of all
+abbrev pub returned_of : TStmtT → Option TExprT
+returned_of (ReturnZ (Some x)) = Some x
+returned_of a = None
+
+abbrev pub returned_by : TStmtTs → Option TExprT
+returned_by NoZ = None
+returned_by (MoreZ a rest) = returned_of a
+
+unfoldable pub quick_of : (sizes : List ℕ) → TFunctionT → (args : List Cell) → Option ℕ
+quick_of sizes g vs =
+    with_some (returned_by g.body) (λ x. when (is_word g.gives) (when (are_words 0 g.params g.made sizes vs) (with_some (worth 6 vs x) (λ a. Some (word_at g.gives a)))))
+
+-- the value of a call, where there is bound and room for it
+unfoldable pub quick : Setting → (bound function : ℕ) → (args : List Cell) → Store → Option ℕ
+quick s n f vs u = when (ltb 0 n) (when (has_room s.sizes f u) (with_some (slice_get s.functions f) (λ g. quick_of (s.sizes.locals f) g vs)))
+
+-- an object for each argument is made and ends
+abbrev pub passed : (args : List Cell) → Store → Store
+passed [] u = u
+passed (c ∷ cs) u = passed cs (with_objects (end_object (made u.objects Local []) (length u.objects)) u)
+
+abbrev pub word_or : Option ℕ → Config → (ℕ → Config) → Config
+word_or None c go = c
+word_or (Some z) c go = go z
+
+abbrev pub call_on : Setting → (bound function : ℕ) → (args : List Cell) → Span → List FrameT → Store → Config
+call_on s n f vs span k u = word_or (quick s n f vs u) (call s n f vs span k u) (λ z. came (Value (Num z)) k (passed vs u))
+
 -- ---- arguments
 
 -- one more argument is there
@@ -142,7 +230,7 @@ took s n f x v vs u = then_ok (taken s n x v u) (λ t. then_ok (argument_in (sli
 
 -- those that come at once are taken one after another
 abbrev pub args_on : Setting → (bound function : ℕ) → Span → (args : List Cell) → TExprTs → List FrameT → Store → Config
-args_on s n f span vs NoX k u = call s n f vs span k u
+args_on s n f span vs NoX k u = call_on s n f vs span k u
 args_on s n f span vs (MoreX x xs) k u =
     handed (at_once s x u) (Going (EvalF n x) (ArgumentW n f span vs (MoreX x xs) ∷ k) u) (λ v. on (took s n f x v vs u) (λ t. args_on s n f span t.0 xs k t.1))
 
@@ -198,12 +286,19 @@ eval_of_on s n (Typed kind ty span) k u = eval_on s n kind ty span k u
 abbrev pub asks_on : Setting → (bound : ℕ) → (result : Cell) → TStmtT → TExprT → List FrameT → Store → Config
 asks_on s n r a x k u = handed (at_once s x u) (Going (EvalF n x) (ValueW n r a ∷ k) u) (λ v. value_step s n r a v k u)
 
--- an assignment whose place and value may come at once, and its value is dropped
+-- an assignment whose place and value came at once is done, and its value dropped
+abbrev pub assigned_on : Setting → (bound : ℕ) → (node : TExprT) → Option BinOp → (x y : TExprT) → (place value : Came) → List FrameT → Store → Config
+assigned_on s n e op x y v w k u =
+    on (placed_in (span_of e) v) (λ p. on (taken s n y w u) (λ t. on (second_assigned_in s n op x y (span_of e) p t.0 t.1) (λ z. left On k (released (type_of e) z.0 z.1))))
+
+-- one whose place came at once
+abbrev pub assigns_at : Setting → (bound : ℕ) → (result : Cell) → TStmtT → (node : TExprT) → Option BinOp → (x y : TExprT) → (place : Came) → List FrameT → Store → Config
+assigns_at s n r a e op x y v k u =
+    handed (at_once s y u) (on (placed_in (span_of e) v) (λ p. Going (EvalF n y) (SecondW n e p ∷ (ValueW n r a ∷ k)) u)) (λ w. assigned_on s n e op x y v w k u)
+
+-- an assignment whose place and value may come at once
 abbrev pub assigns_on : Setting → (bound : ℕ) → (result : Cell) → TStmtT → (node : TExprT) → Option BinOp → (x y : TExprT) → List FrameT → Store → Config
-assigns_on s n r a e op x y k u =
-    handed (at_once s x u) (Going (EvalF n e) (ValueW n r a ∷ k) u) (λ v.
-    handed (at_once s y u) (Going (EvalF n e) (ValueW n r a ∷ k) u) (λ w.
-    on (placed_in (span_of e) v) (λ p. on (taken s n y w u) (λ t. on (second_assigned_in s n op x y (span_of e) p t.0 t.1) (λ z. left On k (released (type_of e) z.0 z.1))))))
+assigns_on s n r a e op x y k u = handed (at_once s x u) (Going (EvalF n e) (ValueW n r a ∷ k) u) (λ v. assigns_at s n r a e op x y v k u)
 
 abbrev pub steps_on : Setting → (bound : ℕ) → (result : Cell) → TStmtT → (node : TExprT) → StepOp → (x : TExprT) → List FrameT → Store → Config
 steps_on s n r a e op x k u =

@@ -10,7 +10,7 @@ ghost use Rattle.c_evaluate.specs.SettingView.{setting_of};
 ghost use Rattle.c_evaluate.specs.StoreView.{store_of, caller};
 ghost use Rattle.c_evaluate.specs.Storing.{params_in};
 ghost use Rattle.c_evaluate.specs.Steps.{body_of, in_room, enter, call, argument_in, back_step};
-ghost use Rattle.c_evaluate.specs.Swift.{args_on, argument_on, took};
+ghost use Rattle.c_evaluate.specs.Swift.{args_on, argument_on, call_on, took};
 
 use crate::cells::{located, stored};
 use crate::exec::rest;
@@ -18,11 +18,13 @@ use crate::filling::nowhere;
 use crate::frame::{Caller, Came, Focus, Frame, How};
 use crate::leaf::at_once;
 use crate::operators::converted;
+use crate::quick::quick;
 use crate::setting::Setting;
 use crate::stack::{next, push};
 use crate::stop::Stop;
 use crate::store::{
-    Store, back, end_temporary, enter as enter_function, fresh_all, local_cell, released, temporary,
+    Store, back, end_temporary, enter as enter_function, fresh_all, local_cell, passed, released,
+    temporary,
 };
 use crate::types::is_structure;
 use crate::using::taken;
@@ -156,7 +158,29 @@ pub(crate) fn call<'a>(
     enter(s, n, f, g, values, r, span, stack, store)
 }
 
+/// Calls a function, which may come at once.
+fn called<'a>(
+    s: &Setting<'a>,
+    n: u32,
+    f: u32,
+    values: Vec<Cell>,
+    span: Span,
+    stack: &mut Vec<Frame<'a>>,
+    store: &mut Store<'a>,
+) -> Result<Focus<'a>, Stop>
+    ensures { Leads (λ x. at x (stack_of stack.new.items) (store_of store.new)) result (call_on (setting_of s.now) n f values.items span (stack_of stack.old.items) (store_of store.old)) }
+{
+    match quick(s, n, f, &values, store) {
+        None => call(s, n, f, values, span, stack, store),
+        Some(z) => {
+            passed(s, store, &values)?;
+            Ok(Focus::Came(Came::Value(Cell::Num(z))))
+        }
+    }
+}
+
 /// What came of an argument, converted to the type of its parameter.
+#[inline(always)]
 fn argument<'a>(s: &Setting<'a>, f: u32, k: usize, x: &TExpr, c: Cell) -> Result<Cell, Stop>
     ensures { Gives (λ z. z) result (argument_in (slice_get (params_of (slice_get (setting_of s.now).functions f)) k) (texpr x.now) c) }
 {
@@ -167,6 +191,7 @@ fn argument<'a>(s: &Setting<'a>, f: u32, k: usize, x: &TExpr, c: Cell) -> Result
 }
 
 /// One more argument is there.
+#[inline(always)]
 fn took<'a>(
     s: &Setting<'a>,
     n: u32,
@@ -207,7 +232,7 @@ pub(crate) fn arguments<'a>(
         took(s, n, f, x, v, &mut given, store)?;
         left = later;
     }
-    call(s, n, f, given, span, stack, store)
+    called(s, n, f, given, span, stack, store)
 }
 
 /// An argument came.

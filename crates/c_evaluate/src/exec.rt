@@ -6,13 +6,15 @@ ghost use Rattle.c_evaluate.specs.Results.{Leads};
 ghost use Rattle.c_evaluate.specs.FocusView.{at, stmt_frame, stack_of};
 ghost use Rattle.c_evaluate.specs.SettingView.{setting_of};
 ghost use Rattle.c_evaluate.specs.StoreView.{store_of};
-ghost use Rattle.c_evaluate.specs.Steps.{rest_of, arms_of, turn_of, asks};
-ghost use Rattle.c_evaluate.specs.Swift.{asks_on, assigns_on, does_on, exec_on, steps_on};
-ghost use Rattle.c_evaluate.specs.Machine.{DoF, Going};
+ghost use Rattle.c_evaluate.specs.Steps.{rest_of, arms_of, turn_of, asks, on};
+ghost use Rattle.c_evaluate.specs.Swift.{asks_on, assigned_on, assigns_at, assigns_on, does_on, exec_on, steps_on};
+ghost use Rattle.c_evaluate.specs.Machine.{DoF, EvalF, Going, SecondW, ValueW};
+ghost use Rattle.c_evaluate.specs.Storing.{placed_in};
+ghost use Rattle.c_meaning.specs.Kinds.{span_of};
 
 use crate::assigning::{second_assigned, stepped_place};
 use crate::filling::vars;
-use crate::frame::{Focus, Frame, How, Stage};
+use crate::frame::{Came, Focus, Frame, How, Stage};
 use crate::leaf::at_once;
 use crate::setting::Setting;
 use crate::stack::{next, push};
@@ -126,7 +128,72 @@ fn asked<'a>(
     }
 }
 
-/// An assignment whose place and value may come at once is done, and its value dropped.
+/// An assignment whose place came at once: on to its value.
+fn assigned_behind<'a>(
+    n: u32,
+    r: Cell,
+    a: &'a TStmt,
+    e: &'a TExpr,
+    v: Came,
+    y: &'a TExpr,
+    stack: &mut Vec<Frame<'a>>,
+    store: &Store<'a>,
+) -> Result<Focus<'a>, Stop>
+    ensures { Leads (λ f. at f (stack_of stack.new.items) (store_of store.now)) result (on (placed_in (span_of (texpr e.now)) v) (λ p. Going (EvalF n (texpr y.now)) (SecondW n (texpr e.now) p ∷ (ValueW n r (tstmt a.now) ∷ stack_of stack.old.items)) (store_of store.now))) }
+{
+    let p = placed(e.span, v)?;
+    push(stack, Frame::InStmt(Stage::Value, n, r, a))?;
+    push(stack, Frame::Second(n, e, p))?;
+    Ok(Focus::Eval(n, y))
+}
+
+/// An assignment whose place and value came at once is done, and its value dropped.
+#[inline(always)]
+fn assigned_at_once<'a>(
+    s: &Setting<'a>,
+    n: u32,
+    e: &TExpr,
+    op: Option<BinOp>,
+    x: &TExpr,
+    y: &TExpr,
+    v: Came,
+    w: Came,
+    stack: &Vec<Frame<'a>>,
+    store: &mut Store<'a>,
+) -> Result<Focus<'a>, Stop>
+    ensures { Leads (λ f. at f (stack_of stack.now.items) (store_of store.new)) result (assigned_on (setting_of s.now) n (texpr e.now) op (texpr x.now) (texpr y.now) v w (stack_of stack.now.items) (store_of store.old)) }
+{
+    let p = placed(e.span, v)?;
+    let d = taken(s, n, y, w, store)?;
+    let z = second_assigned(s, n, op, x, y, e.span, p, d, store)?;
+    released(store, &e.ty, z);
+    Ok(Focus::Left(How::On))
+}
+
+/// An assignment whose place came at once: its value may come so too.
+#[inline(always)]
+fn assigned_at<'a>(
+    s: &Setting<'a>,
+    n: u32,
+    r: Cell,
+    a: &'a TStmt,
+    e: &'a TExpr,
+    op: Option<BinOp>,
+    x: &TExpr,
+    y: &'a TExpr,
+    v: Came,
+    stack: &mut Vec<Frame<'a>>,
+    store: &mut Store<'a>,
+) -> Result<Focus<'a>, Stop>
+    ensures { Leads (λ f. at f (stack_of stack.new.items) (store_of store.new)) result (assigns_at (setting_of s.now) n r (tstmt a.now) (texpr e.now) op (texpr x.now) (texpr y.now) v (stack_of stack.old.items) (store_of store.old)) }
+{
+    match at_once(s, y, store) {
+        None => assigned_behind(n, r, a, e, v, y, stack, store),
+        Some(w) => assigned_at_once(s, n, e, op, x, y, v, w, stack, store),
+    }
+}
+
+/// An assignment whose place and value may come at once.
 fn assigns<'a>(
     s: &Setting<'a>,
     n: u32,
@@ -135,23 +202,16 @@ fn assigns<'a>(
     e: &'a TExpr,
     op: Option<BinOp>,
     x: &TExpr,
-    y: &TExpr,
+    y: &'a TExpr,
     stack: &mut Vec<Frame<'a>>,
     store: &mut Store<'a>,
 ) -> Result<Focus<'a>, Stop>
     ensures { Leads (λ f. at f (stack_of stack.new.items) (store_of store.new)) result (assigns_on (setting_of s.now) n r (tstmt a.now) (texpr e.now) op (texpr x.now) (texpr y.now) (stack_of stack.old.items) (store_of store.old)) }
 {
-    let Some(v) = at_once(s, x, store) else {
-        return ask(n, r, a, e, stack);
-    };
-    let Some(w) = at_once(s, y, store) else {
-        return ask(n, r, a, e, stack);
-    };
-    let p = placed(e.span, v)?;
-    let d = taken(s, n, y, w, store)?;
-    let z = second_assigned(s, n, op, x, y, e.span, p, d, store)?;
-    released(store, &e.ty, z);
-    Ok(Focus::Left(How::On))
+    match at_once(s, x, store) {
+        None => ask(n, r, a, e, stack),
+        Some(v) => assigned_at(s, n, r, a, e, op, x, y, v, stack, store),
+    }
 }
 
 /// A place that may come at once is stepped, and the value dropped.

@@ -146,7 +146,7 @@ fn unary_at_once<'a>(op: UnOp, ty: &CType, v: Came, store: &Store<'a>) -> Option
 
 /// Whether an operator always has both of its operands.
 #[inline(always)]
-fn is_strict(op: BinOp) -> bool
+pub(crate) fn is_strict(op: BinOp) -> bool
     ensures { result ≡ is_strict op }
 {
     match op {

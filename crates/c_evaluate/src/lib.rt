@@ -22,6 +22,7 @@ mod opening;
 mod operands;
 mod operators;
 mod queries;
+mod quick;
 mod runner;
 mod setting;
 mod stack;

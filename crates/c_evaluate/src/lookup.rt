@@ -110,6 +110,16 @@ impl<'a> Setting<'a> {
         }
     }
 
+    /// The words of the locals of a function.
+    pub(crate) fn locals(&self, f: u32) -> &'a [u32]
+        ensures { result.now ≡ (setting_of self.now).sizes.locals f }
+    {
+        match self.function(f) {
+            None => &[],
+            Some(g) => g.locals.as_slice(),
+        }
+    }
+
     /// How many locals a function has.
     pub(crate) fn local_count(&self, f: u32) -> usize
         ensures { result ≡ length ((setting_of self.now).sizes.locals f) }

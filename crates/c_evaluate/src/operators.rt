@@ -47,7 +47,7 @@ pub(crate) fn read_as(ty: &CType, os: &Objects, p: Cell) -> Result<Cell, Refusal
 }
 
 #[inline(always)]
-fn bool_word(b: bool) -> u32
+pub(crate) fn bool_word(b: bool) -> u32
     ensures { result ≡ bool_word b }
 {
     if b { 1 } else { 0 }
@@ -89,7 +89,7 @@ pub(crate) fn is_true(os: &Objects, ty: &CType, c: Cell) -> Result<bool, Refusal
 }
 
 #[inline(always)]
-fn word_unary(op: UnOp, x: u32) -> Result<u32, Refusal>
+pub(crate) fn word_unary(op: UnOp, x: u32) -> Result<u32, Refusal>
     ensures { result ≡ word_unary op x }
 {
     match op {
@@ -145,7 +145,7 @@ fn wrap_mul(x: u32, y: u32) -> u32
 }
 
 #[inline(always)]
-fn word_binary(op: BinOp, x: u32, y: u32) -> Result<u32, Refusal>
+pub(crate) fn word_binary(op: BinOp, x: u32, y: u32) -> Result<u32, Refusal>
     ensures { result ≡ word_binary op x y }
 {
     match op {

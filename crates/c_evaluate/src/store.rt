@@ -1,19 +1,21 @@
 // What a run has made so far.
-ghost use Rattle.std.specs.Prelude.{◌≡◌, IfOk, OnOk, ◌<◌, ◌+◌, ◌^◌, slice_get, set, Some, replicate};
+ghost use Rattle.std.specs.Prelude.{◌≡◌, IfOk, OnOk, ◌<◌, ◌+◌, ◌^◌, slice_get, set, Some, replicate, [], length};
 ghost use Rattle.std.specs.Option.{option_flatten};
 ghost use Rattle.c_types.specs.View.{ctype};
 ghost use Rattle.obj_mem.specs.declared.cell.ObjectKind.TheVariants.{Local};
-ghost use Rattle.obj_mem.specs.Objects.{made, unwritten};
-ghost use Rattle.obj_mem.specs.Stores.{local_object, end_local, fresh, fresh_all, end_all, with_temporary, next_object, entered};
+ghost use Rattle.obj_mem.specs.Objects.{made, unwritten, end_object};
+ghost use Rattle.obj_mem.specs.Stores.{local_object, end_local, fresh, fresh_all, end_all, with_temporary, next_object, entered, with_objects};
 ghost use Rattle.obj_mem.specs.Queries.{first_cell};
 ghost use Rattle.obj_mem.specs.View.{objects};
 ghost use Rattle.c_meaning.specs.Cells.{end_temporary, released};
 ghost use Rattle.c_evaluate.specs.Machine.{caller_of, back_in};
 ghost use Rattle.c_evaluate.specs.SettingView.{setting_of};
 ghost use Rattle.c_evaluate.specs.StoreView.{store_of, caller};
+ghost use Rattle.c_evaluate.specs.Swift.{passed};
 
 use crate::frame::Caller;
 use crate::setting::Setting;
+use crate::stack::next;
 use crate::types::is_structure;
 use c_types::CType;
 use kit_base::Memory;
@@ -146,6 +148,32 @@ pub(crate) fn released<'a>(store: &mut Store<'a>, ty: &CType, c: Cell)
     if is_structure(ty) {
         end_temporary(store, c);
     }
+}
+
+/// An object is made, and ends.
+fn passed_one<'a>(s: &Setting<'a>, store: &mut Store<'a>) -> Result<(), Memory>
+    ensures { OnOk result (store_of store.new ≡ with_objects (end_object (made (store_of store.old).objects Local []) (length (store_of store.old).objects)) (store_of store.old)) }
+{
+    let object = store.objects.count();
+    store.objects.make(ObjectKind::Local, Vec::new(s.alloc))?;
+    store.objects.end(object);
+    Ok(())
+}
+
+/// So it is for each argument of a call that comes at once.
+pub(crate) fn passed<'a>(
+    s: &Setting<'a>,
+    store: &mut Store<'a>,
+    args: &[Cell],
+) -> Result<(), Memory>
+    ensures { OnOk result (store_of store.new ≡ passed args.now (store_of store.old)) }
+{
+    let mut left = args;
+    'each: while let Some((_, later)) = next(left) {
+        passed_one(s, store)?;
+        left = later;
+    }
+    Ok(())
 }
 
 /// Into a function whose locals are not made yet. What is kept of the caller is answered.

@@ -9,7 +9,7 @@ use Rattle.v32_isa.specs.declared.instruction.Instr.TheVariants as instr
 use Rattle.asm_items.specs.declared.item.AsmItem.{AsmItem}
 use Rattle.asm_items.specs.declared.item.AsmItem.TheVariants as item
 use Rattle.mid_code.specs.declared.placed.Where.{Where}
-use Rattle.mid_code.specs.declared.placed.Where.TheVariants.{Reg, Slot}
+use Rattle.mid_code.specs.declared.placed.Where.TheVariants.{Reg}
 use Rattle.mid_code.specs.Code.{OpT, ConstO, TwoO, GlobalO, StepO, NodesT, Do}
 use Rattle.asm_laws.specs.Operations.{Frame, Whole, register, op_items, word_put, other_word, first_word, summed, loads_there, with_sum, with_word, in_one, one_or_more}
 

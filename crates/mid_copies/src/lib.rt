@@ -10,6 +10,7 @@ mod known;
 mod marks;
 mod rewrite;
 mod right;
+mod sinking;
 mod sparing;
 
 pub use sparing::spare_copies;

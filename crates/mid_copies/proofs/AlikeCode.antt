@@ -15,7 +15,7 @@ use Rattle.mid_copies.proofs.KnownCells.{both, served, all_served}
 use Rattle.mid_copies.proofs.OnePass.{worlds_spend, worlds_store, Agree, spent_agrees, used_agrees, put_agrees, ops_of, AsksLess, sparing}
 use Rattle.mid_copies.proofs.EachOp.{did_less, each}
 
-test_same : (c d : Cell) → c ≡ d → TestAlike (word_tested c) (word_tested d)
+pub test_same : (c d : Cell) → c ≡ d → TestAlike (word_tested c) (word_tested d)
 test_same c d e = subst (λ b. TestAlike (word_tested c) (word_tested b)) e (go (word_tested c))
   where
     go : (o : Option ℕ) → TestAlike o o

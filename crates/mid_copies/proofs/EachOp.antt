@@ -20,7 +20,7 @@ use Rattle.mid_copies.specs.Copying.{Copies, origin, behind, behind_maybe, used_
 use Rattle.mid_copies.proofs.KnownCells.{both, served}
 use Rattle.mid_copies.proofs.OnePass.{SameWorlds, worlds_spend, worlds_spend_first, worlds_store, worlds_happened, Agree, world_agrees, spent_agrees, used_agrees, put_agrees, copy_agrees, ops_of, AsksLess, sparing}
 
-then_on : (d : Did (State ℕ)) → then_act d (λ s. On s) ≡ d
+pub then_on : (d : Did (State ℕ)) → then_act d (λ s. On s) ≡ d
 then_on (On s) = refl
 then_on (Ends f s) = refl
 

@@ -11,3 +11,10 @@ pub mod NoneMarked
 pub mod Spares
 pub mod Joined
 pub mod Programs
+pub mod SinkPass
+pub mod SinkOps
+pub mod SinkKeeps
+pub mod SinkLike
+pub mod SinkProgram
+pub mod SinkMid
+pub mod Tidy

@@ -19,7 +19,7 @@ use Rattle.mid_copies.proofs.OnePass.{SameWorlds, sparing}
 use Rattle.mid_copies.proofs.AlikeCode.{keeps}
 use Rattle.mid_copies.proofs.LikeCode.{like}
 
-worlds_ended : (globals card : ℕ) (v w : World) → SameWorlds v w → KeptWorlds globals card v w
+pub worlds_ended : (globals card : ℕ) (v w : World) → SameWorlds v w → KeptWorlds globals card v w
 worlds_ended globals card v w a = record {
   so_far = record { events = a.events; work = a.work };
   there = λ o lt h. subst (λ u. o < length u.objects) (sym a.store) h;
@@ -114,7 +114,7 @@ serve_at (f ∷ fs) [] a h = absurd a
 serve_at (f ∷ fs) (g ∷ gs) a zero = right_serves a.0.gone f a.0.right
 serve_at (f ∷ fs) (g ∷ gs) a (suc h) = serve_at fs gs a.1 h
 
-nodes_at : (x : CodeT ℕ) (fs : List (FunctionT ℕ)) → AllOf (IsFunction IsTemporary x) fs → (h : ℕ) → (m : ℕ) × AreNodes x m [] (get_or fs h no_function).body
+pub nodes_at : (x : CodeT ℕ) (fs : List (FunctionT ℕ)) → AllOf (IsFunction IsTemporary x) fs → (h : ℕ) → (m : ℕ) × AreNodes x m [] (get_or fs h no_function).body
 nodes_at x [] a h = (0, tt)
 nodes_at x (f ∷ fs) a zero = (length f.locals, a.0.nodes)
 nodes_at x (f ∷ fs) a (suc h) = nodes_at x fs a.1 h

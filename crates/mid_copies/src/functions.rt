@@ -2,7 +2,8 @@
 ghost use Rattle.std.specs.Prelude.{◌≡◌, ◌&&◌, ◌∷◌, [], true, not, IfOk, IfSome, IfNone, map};
 ghost use Rattle.std.specs.List.{list_all};
 ghost use Rattle.mid_code.specs.Functions.{function};
-ghost use Rattle.mid_copies.specs.Copying.{marked, is_right, spared_function, IsSparedBy, AreSparedBy};
+ghost use Rattle.mid_copies.specs.Copying.{marked, is_right, spared_function};
+ghost use Rattle.mid_copies.specs.Sinking.{sunk_function, IsTidiedBy, AreTidiedBy};
 
 use crate::known::is_gone;
 use crate::marks::marks_of;
@@ -57,7 +58,7 @@ fn copy_words(alloc: Global, words: &[u32]) -> Result<Vec<u32>, Memory>
 }
 
 fn without(alloc: Global, gone: &[bool], f: &Function<u32>) -> Result<Function<u32>, Memory>
-    ensures { IfOk result (λ r. function r ≡ spared_function (marked gone.now) (function f.now)) }
+    ensures { IfOk result (λ r. function r ≡ sunk_function (spared_function (marked gone.now) (function f.now))) }
 {
     let body = spare_nodes(alloc, gone, f.body.as_slice())?;
     let params = copy_words(alloc, f.params.as_slice())?;
@@ -71,9 +72,9 @@ fn without(alloc: Global, gone: &[bool], f: &Function<u32>) -> Result<Function<u
     })
 }
 
-/// A function without the copies that need not be made.
+/// A function without the copies that need not be made, and with known words where they are used.
 pub(crate) fn spare_function(alloc: Global, f: &Function<u32>) -> Result<Function<u32>, Memory>
-    ensures { IfOk result (λ r. IsSparedBy (function f.now) (function r)) }
+    ensures { IfOk result (λ r. IsTidiedBy (function f.now) (function r)) }
 {
     let marks = right_marks(alloc, f)?;
     without(alloc, marks.as_slice(), f)
@@ -91,7 +92,7 @@ pub(crate) fn spare_functions(
     alloc: Global,
     fs: &[Function<u32>],
 ) -> Result<Vec<Function<u32>>, Memory>
-    ensures { IfOk result (λ r. AreSparedBy (map function fs.now) (map function r.items)) }
+    ensures { IfOk result (λ r. AreTidiedBy (map function fs.now) (map function r.items)) }
 {
     let mut found = Vec::new(alloc);
     let mut rest = fs;

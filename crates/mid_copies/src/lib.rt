@@ -1,5 +1,5 @@
 //! Copies of temporaries that need not be made: where a temporary takes nothing but the cell of another one, and is used only while that one keeps its cell,
-//! the other one serves in its place.
+//! the other one serves in its place. Known words stand where they are used.
 //!
 //! It promises that the code does what it did, in no more work, with the same temporaries, parameters and locals. It stands on mid_code.
 #![tactic(auto)]
@@ -10,6 +10,7 @@ mod known;
 mod marks;
 mod rewrite;
 mod right;
+mod sinking;
 mod sparing;
 
 pub use sparing::spare_copies;

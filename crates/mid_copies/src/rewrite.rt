@@ -1,10 +1,11 @@
 // Code without the copies that are not made.
-ghost use Rattle.std.specs.Prelude.{◌≡◌, ◌++◌, [], IfOk, OnOk, map};
+ghost use Rattle.std.specs.Prelude.{◌≡◌, ◌++◌, [], None, IfOk, OnOk, map};
 ghost use Rattle.mid_code.specs.Functions.{node, listed};
 ghost use Rattle.mid_copies.specs.Copying.{marked, origin, with_use};
-ghost use Rattle.mid_copies.specs.Listed.{op_spared, some_node, node_spared, list_spared};
+ghost use Rattle.mid_copies.specs.Listed.{op_spared, some_node, list_sunk, node_spared, list_spared};
 
 use crate::known::{is_gone, know_node, origin};
+use crate::sinking::sink;
 use kit_base::{Memory, Seq};
 use mid_code::{Node, Op};
 use std::alloc::Global;
@@ -136,14 +137,14 @@ fn spare_node(
     Ok(())
 }
 
-/// The nodes that stand for these.
+/// The nodes that stand for these, with known words where they are used.
 #[cycle(spare)]
 pub(crate) fn spare_nodes(
     alloc: Global,
     gone: &[bool],
     ns: &[Node<u32>],
 ) -> Result<Vec<Node<u32>>, Memory>
-    ensures { IfOk result (λ r. map node r.items ≡ list_spared (marked gone.now) [] (listed (map node ns.now))) }
+    ensures { IfOk result (λ r. map node r.items ≡ list_sunk None (list_spared (marked gone.now) [] (listed (map node ns.now)))) }
 {
     let mut found = Vec::new(alloc);
     let mut copies = Vec::new(alloc);
@@ -151,5 +152,5 @@ pub(crate) fn spare_nodes(
         spare_node(alloc, gone, copies.as_slice(), &mut found, n)?;
         copies = know_node(alloc, gone, copies.as_slice(), n)?;
     }
-    Ok(found)
+    sink(alloc, found)
 }

@@ -10,8 +10,8 @@ use mid_code::{Code, Mid};
 use std::alloc::Global;
 
 /// The code in which no temporary takes the cell of another one that serves in its place: where it is the target of that move alone, is used once, by a
-/// node behind it in the same list, and between the two stands no node that chooses, repeats or leaves and none that gives the other one a cell. The error is want of
-/// memory, and then the code given is dropped.
+/// node behind it in the same list, and between the two stands no node that chooses, repeats or leaves and none that gives the other one a cell. An operation that puts a
+/// constant or the address of a global into a temporary stands behind those that do not touch it. The error is want of memory, and then the code given is dropped.
 pub fn spare_copies(alloc: Global, m: Mid) -> Result<Mid, Memory>
     ensures spared { IfOk result (λ r. IsSparedFrom (mid m) (mid r)) }
 {

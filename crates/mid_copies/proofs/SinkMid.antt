@@ -1,0 +1,232 @@
+-- Code with known words where they are used is mid code, weighs the same, and has no loop and no call more.
+use Rattle.std.proofs.Common.{◌≡◌, ℕ, zero, suc, ◌+◌, ◌≤◌, ◌<◌, inl, inr, Bool, true, false, cond, List, [], ◌∷◌, length, sum, sum_by, option_map, slice_get, Some, None, refl, sym, ap, ◌∙◌, subst, arith}
+use Rattle.std.proofs.lemmas.List.Sums.{sum_by-cons}
+use Rattle.mid_code.specs.Code.{OpT, ConstO, NullO, MoveO, OneO, TwoO, GlobalO, LocalO, LiteralO, CardO, StepO, ApartO, PtrTestO, LoadO, StoreO, FreshO, EndO, InO, OutO, WaitO, HaltO, NodesT, Stop, Do, Call, Choose, Block, Loop, Leave, Again, Return, FunctionT, CodeT, maybe, uses, target}
+use Rattle.mid_code.specs.Invariants.{IsOp, parameter_count, AreNodes, AllOf, Names, CallsNone, IsFunction, IsStart, IsTemporary, IsMid}
+use Rattle.mid_code.specs.Passing.{doing}
+use Rattle.mid_code.specs.States.{op_weight}
+use Rattle.mid_code.specs.Runs.{nodes_weight, function_weight, weight}
+use Rattle.mid_code.specs.Calls.{loops, CallsTo, AddsNone, NoneAdd}
+use Rattle.mid_copies.specs.Sinking.{is_free, Held, held_ops, is_apart, ops_at, held_behind, sunk, sunk_function, AreSunk, IsSunkCode}
+
+-- ---- operations
+
+-- what holds of what is held and of an operation holds of what is done there and of what is held behind
+module _ (Q : OpT ℕ → Type 0) where
+  at_free : (o : OpT ℕ) (b : Bool) → Q o → AllOf Q (cond b [] (o ∷ [])) × AllOf Q (held_ops (cond b (Some o) None))
+  at_free o true q = (tt, (q, tt))
+  at_free o false q = ((q, tt), tt)
+
+  at_held : (p o : OpT ℕ) (b : Bool) → Q p → Q o → AllOf Q (cond b (o ∷ []) (p ∷ o ∷ [])) × AllOf Q (held_ops (cond b (Some p) None))
+  at_held p o true k q = ((q, tt), (k, tt))
+  at_held p o false k q = ((k, (q, tt)), tt)
+
+  at_op : (h : Held) (o : OpT ℕ) → AllOf Q (held_ops h) → Q o → AllOf Q (ops_at h o) × AllOf Q (held_ops (held_behind h o))
+  at_op None o k q = at_free o (is_free o) q
+  at_op (Some p) o k q = at_held p o (is_apart (Some p) o) k.0 q
+
+-- ---- names
+
+module _ (N : ℕ → Type 0) where
+  abbrev Named : OpT ℕ → Type 0
+  Named o = AllOf N (uses o) × AllOf N (maybe (target o))
+
+  doing_named : (ps : List (OpT ℕ)) (c : NodesT ℕ) → AllOf Named ps → Names N c → Names N (doing ps c)
+  doing_named [] c a n = n
+  doing_named (p ∷ ps) c a n = (a.0, doing_named ps c a.1 n)
+
+  names_ok : (h : Held) (c : NodesT ℕ) → AllOf Named (held_ops h) → Names N c → Names N (sunk h c)
+  names_ok h Stop k n = doing_named (held_ops h) Stop k tt
+  names_ok h (Do o c) k n = let a = at_op Named h o k n.0 in doing_named (ops_at h o) (sunk (held_behind h o) c) a.0 (names_ok (held_behind h o) c a.1 n.1)
+  names_ok h (Call t f args c) k n = doing_named (held_ops h) (Call t f args (sunk None c)) k (n.0, names_ok None c tt n.1)
+  names_ok h (Choose p a b c) k n = doing_named (held_ops h) (Choose p (sunk None a) (sunk None b) (sunk None c)) k (n.0, names_ok None a tt n.1, names_ok None b tt n.2, names_ok None c tt n.3)
+  names_ok h (Block b c) k n = doing_named (held_ops h) (Block (sunk None b) (sunk None c)) k (names_ok None b tt n.0, names_ok None c tt n.1)
+  names_ok h (Loop b c) k n = doing_named (held_ops h) (Loop (sunk None b) (sunk None c)) k (names_ok None b tt n.0, names_ok None c tt n.1)
+  names_ok h (Leave j c) k n = doing_named (held_ops h) (Leave j (sunk None c)) k (names_ok None c tt n)
+  names_ok h (Again j c) k n = doing_named (held_ops h) (Again j (sunk None c)) k (names_ok None c tt n)
+  names_ok h (Return p c) k n = doing_named (held_ops h) (Return p (sunk None c)) k (n.0, names_ok None c tt n.1)
+
+-- ---- calls and loops
+
+doing_none : (ps : List (OpT ℕ)) (c : NodesT ℕ) → CallsNone c → CallsNone (doing ps c)
+doing_none [] c n = n
+doing_none (p ∷ ps) c n = doing_none ps c n
+
+calls_none : (h : Held) (c : NodesT ℕ) → CallsNone c → CallsNone (sunk h c)
+calls_none h Stop n = doing_none (held_ops h) Stop tt
+calls_none h (Do o c) n = doing_none (ops_at h o) (sunk (held_behind h o) c) (calls_none (held_behind h o) c n)
+calls_none h (Call t f args c) n = absurd n
+calls_none h (Choose p a b c) n = doing_none (held_ops h) (Choose p (sunk None a) (sunk None b) (sunk None c)) (calls_none None a n.0, calls_none None b n.1, calls_none None c n.2)
+calls_none h (Block b c) n = doing_none (held_ops h) (Block (sunk None b) (sunk None c)) (calls_none None b n.0, calls_none None c n.1)
+calls_none h (Loop b c) n = doing_none (held_ops h) (Loop (sunk None b) (sunk None c)) (calls_none None b n.0, calls_none None c n.1)
+calls_none h (Leave k c) n = doing_none (held_ops h) (Leave k (sunk None c)) (calls_none None c n)
+calls_none h (Again k c) n = doing_none (held_ops h) (Again k (sunk None c)) (calls_none None c n)
+calls_none h (Return p c) n = doing_none (held_ops h) (Return p (sunk None c)) (calls_none None c n)
+
+doing_loops : (ps : List (OpT ℕ)) (c : NodesT ℕ) → loops (doing ps c) ≡ loops c
+doing_loops [] c = refl
+doing_loops (p ∷ ps) c = doing_loops ps c
+
+loops_same : (h : Held) (c : NodesT ℕ) → loops (sunk h c) ≡ loops c
+loops_same h Stop = doing_loops (held_ops h) Stop
+loops_same h (Do o c) = doing_loops (ops_at h o) (sunk (held_behind h o) c) ∙ loops_same (held_behind h o) c
+loops_same h (Call t f args c) = doing_loops (held_ops h) (Call t f args (sunk None c)) ∙ loops_same None c
+loops_same h (Choose p a b c) = let i = doing_loops (held_ops h) (Choose p (sunk None a) (sunk None b) (sunk None c)) in let e = loops_same None a in let f = loops_same None b in let g = loops_same None c in omega (arith, i, e, f, g)
+loops_same h (Block b c) = let i = doing_loops (held_ops h) (Block (sunk None b) (sunk None c)) in let e = loops_same None b in let f = loops_same None c in omega (arith, i, e, f)
+loops_same h (Loop b c) = let i = doing_loops (held_ops h) (Loop (sunk None b) (sunk None c)) in let e = loops_same None b in let f = loops_same None c in omega (arith, i, e, f)
+loops_same h (Leave k c) = doing_loops (held_ops h) (Leave k (sunk None c)) ∙ loops_same None c
+loops_same h (Again k c) = doing_loops (held_ops h) (Again k (sunk None c)) ∙ loops_same None c
+loops_same h (Return p c) = doing_loops (held_ops h) (Return p (sunk None c)) ∙ loops_same None c
+
+doing_calls : (g : ℕ) (ps : List (OpT ℕ)) (c : NodesT ℕ) → CallsTo g (doing ps c) → CallsTo g c
+doing_calls g [] c r = r
+doing_calls g (p ∷ ps) c r = doing_calls g ps c r
+
+calls_before : (g : ℕ) (h : Held) (c : NodesT ℕ) → CallsTo g (sunk h c) → CallsTo g c
+calls_before g h Stop r = doing_calls g (held_ops h) Stop r
+calls_before g h (Do o c) r = calls_before g (held_behind h o) c (doing_calls g (ops_at h o) (sunk (held_behind h o) c) r)
+calls_before g h (Call t f args c) r = elim (doing_calls g (held_ops h) (Call t f args (sunk None c)) r) [ inl e ↦ inl e | inr q ↦ inr (calls_before g None c q) ]
+calls_before g h (Choose p a b c) r =
+    elim (doing_calls g (held_ops h) (Choose p (sunk None a) (sunk None b) (sunk None c)) r) [
+      | inl q ↦ inl (calls_before g None a q)
+      | inr u ↦ elim u [ inl q ↦ inr (inl (calls_before g None b q)) | inr q ↦ inr (inr (calls_before g None c q)) ]
+    ]
+calls_before g h (Block b c) r = elim (doing_calls g (held_ops h) (Block (sunk None b) (sunk None c)) r) [ inl q ↦ inl (calls_before g None b q) | inr q ↦ inr (calls_before g None c q) ]
+calls_before g h (Loop b c) r = elim (doing_calls g (held_ops h) (Loop (sunk None b) (sunk None c)) r) [ inl q ↦ inl (calls_before g None b q) | inr q ↦ inr (calls_before g None c q) ]
+calls_before g h (Leave k c) r = calls_before g None c (doing_calls g (held_ops h) (Leave k (sunk None c)) r)
+calls_before g h (Again k c) r = calls_before g None c (doing_calls g (held_ops h) (Again k (sunk None c)) r)
+calls_before g h (Return p c) r = calls_before g None c (doing_calls g (held_ops h) (Return p (sunk None c)) r)
+
+adds_none : (f : FunctionT ℕ) → AddsNone f.body (sunk_function f).body
+adds_none f = record { loop_count = let e = loops_same None f.body in omega (arith, e); calls = λ g. calls_before g None f.body }
+
+-- ---- weight
+
+abbrev ops_weight : List (OpT ℕ) → ℕ
+ops_weight [] = 0
+ops_weight (p ∷ ps) = op_weight p + ops_weight ps
+
+doing_weight : (ps : List (OpT ℕ)) (c : NodesT ℕ) → nodes_weight (doing ps c) ≡ ops_weight ps + nodes_weight c
+doing_weight [] c = omega arith
+doing_weight (p ∷ ps) c = let h = doing_weight ps c in omega (arith, h)
+
+weight_free : (o : OpT ℕ) (b : Bool) → ops_weight (cond b [] (o ∷ [])) + ops_weight (held_ops (cond b (Some o) None)) ≡ op_weight o
+weight_free o true = omega arith
+weight_free o false = omega arith
+
+weight_held : (p o : OpT ℕ) (b : Bool) → ops_weight (cond b (o ∷ []) (p ∷ o ∷ [])) + ops_weight (held_ops (cond b (Some p) None)) ≡ op_weight p + op_weight o
+weight_held p o true = omega arith
+weight_held p o false = omega arith
+
+weight_at : (h : Held) (o : OpT ℕ) → ops_weight (ops_at h o) + ops_weight (held_ops (held_behind h o)) ≡ ops_weight (held_ops h) + op_weight o
+weight_at None o = let e = weight_free o (is_free o) in omega (arith, e)
+weight_at (Some p) o = let e = weight_held p o (is_apart (Some p) o) in omega (arith, e)
+
+same_weight : (h : Held) (c : NodesT ℕ) → nodes_weight (sunk h c) ≡ ops_weight (held_ops h) + nodes_weight c
+same_weight h Stop = doing_weight (held_ops h) Stop
+same_weight h (Do o c) = let i = doing_weight (ops_at h o) (sunk (held_behind h o) c) in let a = weight_at h o in let e = same_weight (held_behind h o) c in omega (arith, i, a, e)
+same_weight h (Call t f args c) = let i = doing_weight (held_ops h) (Call t f args (sunk None c)) in let e = same_weight None c in omega (arith, i, e)
+same_weight h (Choose p a b c) = let i = doing_weight (held_ops h) (Choose p (sunk None a) (sunk None b) (sunk None c)) in let d = same_weight None a in let e = same_weight None b in let f = same_weight None c in omega (arith, i, d, e, f)
+same_weight h (Block b c) = let i = doing_weight (held_ops h) (Block (sunk None b) (sunk None c)) in let e = same_weight None b in let f = same_weight None c in omega (arith, i, e, f)
+same_weight h (Loop b c) = let i = doing_weight (held_ops h) (Loop (sunk None b) (sunk None c)) in let e = same_weight None b in let f = same_weight None c in omega (arith, i, e, f)
+same_weight h (Leave k c) = let i = doing_weight (held_ops h) (Leave k (sunk None c)) in let e = same_weight None c in omega (arith, i, e)
+same_weight h (Again k c) = let i = doing_weight (held_ops h) (Again k (sunk None c)) in let e = same_weight None c in omega (arith, i, e)
+same_weight h (Return p c) = let i = doing_weight (held_ops h) (Return p (sunk None c)) in let e = same_weight None c in omega (arith, i, e)
+
+function_same : (f g : FunctionT ℕ) → g ≡ sunk_function f → function_weight g ≡ function_weight f
+function_same f g is = let e = ap function_weight is in let l = same_weight None f.body in omega (arith, e, l)
+
+functions_same : (fs gs : List (FunctionT ℕ)) → AreSunk fs gs → sum_by function_weight gs ≡ sum_by function_weight fs
+functions_same [] [] a = refl
+functions_same [] (g ∷ gs) a = absurd a
+functions_same (f ∷ fs) [] a = absurd a
+functions_same (f ∷ fs) (g ∷ gs) a = let h = function_same f g a.0 in let r = functions_same fs gs a.1 in let c = sum_by-cons function_weight f fs in let d = sum_by-cons function_weight g gs in omega (arith, h, r, c, d)
+
+pub sunk_weighs : (x y : CodeT ℕ) → IsSunkCode x y → weight y ≤ weight x
+sunk_weighs x y s = let a = function_same x.start y.start s.start in let b = functions_same x.functions y.functions s.functions in omega (arith, a, b)
+
+-- ---- programs
+
+pub start_adds_none : (f g : FunctionT ℕ) → g ≡ sunk_function f → AddsNone f.body g.body
+start_adds_none f g is = subst (λ k. AddsNone f.body k.body) (sym is) (adds_none f)
+
+pub none_add : (fs gs : List (FunctionT ℕ)) → AreSunk fs gs → NoneAdd fs gs
+none_add [] [] a = tt
+none_add [] (g ∷ gs) a = absurd a
+none_add (f ∷ fs) [] a = absurd a
+none_add (f ∷ fs) (g ∷ gs) a = (start_adds_none f g a.0, none_add fs gs a.1)
+
+module _ (x y : CodeT ℕ) (globals : y.globals ≡ x.globals) (literals : y.literals ≡ x.literals) (counts : (f : ℕ) → parameter_count y f ≡ parameter_count x f) where
+  op_ok : (m : ℕ) (o : OpT ℕ) → IsOp x m o → IsOp y m o
+  op_ok m (ConstO q n) h = h
+  op_ok m (NullO q) h = h
+  op_ok m (MoveO q a) h = h
+  op_ok m (OneO o q a) h = h
+  op_ok m (TwoO o q a b) h = h
+  op_ok m (GlobalO q n) h = subst (λ gs. n < length gs) (sym globals) h
+  op_ok m (LocalO q n) h = h
+  op_ok m (LiteralO q n) h = subst (λ ls. n < length ls) (sym literals) h
+  op_ok m (CardO q) h = h
+  op_ok m (StepO q a b) h = h
+  op_ok m (ApartO q a b) h = h
+  op_ok m (PtrTestO o q a b) h = h
+  op_ok m (LoadO q p) h = h
+  op_ok m (StoreO p a) h = h
+  op_ok m (FreshO n) h = h
+  op_ok m (EndO n) h = h
+  op_ok m (InO q port) h = h
+  op_ok m (OutO port a) h = h
+  op_ok m WaitO h = h
+  op_ok m HaltO h = h
+
+  doing_ok : (m : ℕ) (bs : List Bool) (ps : List (OpT ℕ)) (c : NodesT ℕ) → AllOf (IsOp y m) ps → AreNodes y m bs c → AreNodes y m bs (doing ps c)
+  doing_ok m bs [] c a n = n
+  doing_ok m bs (p ∷ ps) c a n = (a.0, doing_ok m bs ps c a.1 n)
+
+  nodes_ok : (m : ℕ) (bs : List Bool) (h : Held) (c : NodesT ℕ) → AllOf (IsOp y m) (held_ops h) → AreNodes x m bs c → AreNodes y m bs (sunk h c)
+  nodes_ok m bs h Stop k n = doing_ok m bs (held_ops h) Stop k tt
+  nodes_ok m bs h (Do o c) k n = let a = at_op (IsOp y m) h o k (op_ok m o n.0) in doing_ok m bs (ops_at h o) (sunk (held_behind h o) c) a.0 (nodes_ok m bs (held_behind h o) c a.1 n.1)
+  nodes_ok m bs h (Call t f args c) k n = doing_ok m bs (held_ops h) (Call t f args (sunk None c)) k (counts f ∙ n.0, nodes_ok m bs None c tt n.1)
+  nodes_ok m bs h (Choose p a b c) k n = doing_ok m bs (held_ops h) (Choose p (sunk None a) (sunk None b) (sunk None c)) k (nodes_ok m bs None a tt n.0, nodes_ok m bs None b tt n.1, nodes_ok m bs None c tt n.2)
+  nodes_ok m bs h (Block b c) k n = doing_ok m bs (held_ops h) (Block (sunk None b) (sunk None c)) k (nodes_ok m (false ∷ bs) None b tt n.0, nodes_ok m bs None c tt n.1)
+  nodes_ok m bs h (Loop b c) k n = doing_ok m bs (held_ops h) (Loop (sunk None b) (sunk None c)) k (nodes_ok m (true ∷ bs) None b tt n.0, nodes_ok m bs None c tt n.1)
+  nodes_ok m bs h (Leave j c) k n = doing_ok m bs (held_ops h) (Leave j (sunk None c)) k (n.0, nodes_ok m bs None c tt n.1)
+  nodes_ok m bs h (Again j c) k n = doing_ok m bs (held_ops h) (Again j (sunk None c)) k (n.0, nodes_ok m bs None c tt n.1)
+  nodes_ok m bs h (Return p c) k n = doing_ok m bs (held_ops h) (Return p (sunk None c)) k (nodes_ok m bs None c tt n)
+
+  function_ok : (f : FunctionT ℕ) → IsFunction IsTemporary x f → IsFunction IsTemporary y (sunk_function f)
+  function_ok f ok = record {
+    nodes = nodes_ok (length f.locals) [] None f.body tt ok.nodes;
+    names = names_ok (λ t. t < f.temps) None f.body tt ok.names;
+    params_named = ok.params_named;
+    params_differ = ok.params_differ;
+    count = ok.count;
+    sizes = ok.sizes;
+    words = ok.words;
+  }
+
+  start_ok : (f : FunctionT ℕ) → IsStart IsTemporary x f → IsStart IsTemporary y (sunk_function f)
+  start_ok f ok = record { function = function_ok f ok.function; params = ok.params; locals = ok.locals; gives = ok.gives; calls = calls_none None f.body ok.calls }
+
+  functions_ok : (fs gs : List (FunctionT ℕ)) → AreSunk fs gs → AllOf (IsFunction IsTemporary x) fs → AllOf (IsFunction IsTemporary y) gs
+  functions_ok [] [] a ok = tt
+  functions_ok [] (g ∷ gs) a ok = absurd a
+  functions_ok (f ∷ fs) [] a ok = absurd a
+  functions_ok (f ∷ fs) (g ∷ gs) a ok = (subst (IsFunction IsTemporary y) (sym a.0) (function_ok f ok.0), functions_ok fs gs a.1 ok.1)
+
+counts_same : (fs gs : List (FunctionT ℕ)) → AreSunk fs gs → (h : ℕ) → option_map (λ f. length f.params) (slice_get gs h) ≡ option_map (λ f. length f.params) (slice_get fs h)
+counts_same [] [] a h = refl
+counts_same [] (g ∷ gs) a h = absurd a
+counts_same (f ∷ fs) [] a h = absurd a
+counts_same (f ∷ fs) (g ∷ gs) a zero = ap (λ k. Some (length k.params)) a.0
+counts_same (f ∷ fs) (g ∷ gs) a (suc h) = counts_same fs gs a.1 h
+
+pub sunk_mid : (x y : CodeT ℕ) → IsMid x → IsSunkCode x y → IsMid y
+sunk_mid x y mid s =
+    let counts : (h : ℕ) → parameter_count y h ≡ parameter_count x h = counts_same x.functions y.functions s.functions in
+    record {
+      start = subst (IsStart IsTemporary y) (sym s.start) (start_ok x y s.globals s.literals counts x.start mid.start);
+      functions = functions_ok x y s.globals s.literals counts x.functions y.functions s.functions mid.functions;
+      globals = subst (λ gs. sum gs ≤ 3145728) (sym s.globals) mid.globals;
+      main = ap (parameter_count y) s.main ∙ counts x.main ∙ mid.main;
+    }

@@ -25,12 +25,13 @@ use Rattle.c_meaning.specs.Cells.{released}
 use Rattle.c_meaning.specs.Expressions.{params_of, all_released}
 use Rattle.c_evaluate.specs.declared.frame.Came.{Came}
 use Rattle.c_evaluate.specs.declared.frame.Came.TheVariants.{Value, Place, Nothing}
-use Rattle.c_evaluate.specs.declared.frame.How.TheVariants.{On, Return}
+use Rattle.c_evaluate.specs.declared.frame.How.{How}
+use Rattle.c_evaluate.specs.declared.frame.How.TheVariants.{On, Break, Continue, Return}
 use Rattle.c_evaluate.specs.Storing.{With, at_span, then_ok, cells_in, params_in, returned_in, taken, tested_in, placed_in, operated_in, stepped_in, second_assigned_in}
 use Rattle.c_evaluate.specs.Machine.{FocusT, EvalF, FillF, DoF, CameF, MadeF, LeftF, FullF, FrameT, FirstW, SecondW, ArgumentW, BackW, ValueW, StepW, BodyW, BeginW, RestW, ArmsW, EndW, SwitchW, OneW, ItemsW, VarsW, FilledW, MainW, Config, Going, caller_of, back_in}
-use Rattle.c_evaluate.specs.Steps.{on, came, value, left, args_of, argument_in, argument_step, value_here, place_here, either_of, eval, first_step, second_step, unary_first, member_first, binary_second, combined, second_of, second_of_node, binary_of, exec, value_step, give, leave, step, rest_of, in_room, body_of, enter, call_of, call, return_of}
+use Rattle.c_evaluate.specs.Steps.{on, came, value, left, args_of, argument_in, argument_step, value_here, place_here, either_of, eval, first_step, second_step, unary_first, member_first, binary_second, combined, second_of, second_of_node, binary_of, exec, value_step, again, after_body, body_step, give, leave, step, rest_of, in_room, body_of, enter, call_of, call, return_of}
 use Rattle.c_evaluate.specs.Turning.{Works}
-use Rattle.c_evaluate.specs.Swift.{unary_worth, binary_worth, when, is_word, word_held, word_at, worth, are_words, returned_by, quick_of, quick, passed, word_or, call_on, asks_on, assigns_on, steps_on, does_on, exec_on, took, args_on, argument_on, with_some, answered, seen, value_at_once, place_at_once, unary_at_once, is_strict, strict_at_once, binary_at_once, index_at_once, member_at_once, arrow_at_once, cast_at_once, comes, depth_at_once, at_once, local_at_once, handed, second_on, binary_on, first_on, first_of_on, operand_on, eval_on, give_on, step_on}
+use Rattle.c_evaluate.specs.Swift.{unary_worth, binary_worth, when, is_word, word_held, word_at, worth, are_words, returned_by, quick_of, quick, passed, word_or, call_on, asks_on, assigns_on, steps_on, does_on, exec_on, took, args_on, argument_on, with_some, answered, seen, value_at_once, place_at_once, unary_at_once, is_strict, strict_at_once, binary_at_once, index_at_once, member_at_once, arrow_at_once, cast_at_once, comes, depth_at_once, at_once, local_at_once, handed, second_on, binary_on, first_on, first_of_on, operand_on, eval_on, give_on, again_on, body_on, leave_on, step_on}
 use Rattle.c_evaluate.proofs.Passing.{laid, counted, others, held, no_structure, all_params, all_made, param_held, passed_back, words_released}
 
 -- so many steps lead from one configuration to the other
@@ -614,6 +615,51 @@ module _ (s : Setting) where
   came_reaches v FilledW k u = here _
   came_reaches v (MainW n main) k u = here _
 
+  again_reaches : (n : ℕ) (r : Cell) (x : TExprT) (a : TStmtT) (k : List FrameT) (u : Store) → Reaches s (again n r (WhileZ x a) (Some x) a k u) (again_on s n r (WhileZ x a) x k u)
+  again_reaches zero r x a k u = here _
+  again_reaches (suc m) r x a k u = asks_reaches m r (WhileZ x a) x k u
+
+  while_reaches : (n : ℕ) (r : Cell) (x : TExprT) (a : TStmtT) (h : How) (k : List FrameT) (u : Store) → Reaches s (after_body h k u (again n r (WhileZ x a) (Some x) a k u)) (after_body h k u (again_on s n r (WhileZ x a) x k u))
+  while_reaches n r x a On k u = again_reaches n r x a k u
+  while_reaches n r x a Break k u = here _
+  while_reaches n r x a Continue k u = again_reaches n r x a k u
+  while_reaches n r x a (Return z) k u = here _
+
+  loop_reaches : (n : ℕ) (r : Cell) (a : TStmtT) (h : How) (k : List FrameT) (u : Store) → Reaches s (body_step n r a h k u) (body_on s n r a h k u)
+  unfolding body_step body_on
+  loop_reaches n r (BlockZ made body) h k u = here _
+  loop_reaches n r EmptyZ h k u = here _
+  loop_reaches n r (VarsZ vars) h k u = here _
+  loop_reaches n r (DoZ e) h k u = here _
+  loop_reaches n r (IfZ x a b) h k u = here _
+  loop_reaches n r (WhileZ x a) h k u = while_reaches n r x a h k u
+  loop_reaches n r (DoWhileZ a x) h k u = here _
+  loop_reaches n r (ForZ made first test next a) h k u = here _
+  loop_reaches n r (SwitchZ x made arms) h k u = here _
+  loop_reaches n r (ReturnZ x) h k u = here _
+  loop_reaches n r BreakZ h k u = here _
+  loop_reaches n r ContinueZ h k u = here _
+
+  left_reaches : (h : How) (f : FrameT) (k : List FrameT) (u : Store) → Reaches s (step s (LeftF h) (f ∷ k) u) (step_on s (LeftF h) (f ∷ k) u)
+  unfolding step step_on leave_on leave
+  left_reaches h (FirstW n e) k u = here _
+  left_reaches h (SecondW n e c) k u = here _
+  left_reaches h (ArgumentW n f span vs xs) k u = here _
+  left_reaches h (BackW f vs r span c) k u = here _
+  left_reaches h (ValueW n r a) k u = here _
+  left_reaches h (StepW n r a) k u = here _
+  left_reaches h (BodyW n r a) k u = loop_reaches n r a h k u
+  left_reaches h (BeginW n r a) k u = here _
+  left_reaches h (RestW n r rest) k u = here _
+  left_reaches h (ArmsW n r rest) k u = here _
+  left_reaches h (EndW made) k u = here _
+  left_reaches h SwitchW k u = here _
+  left_reaches h (OneW n ty x p) k u = here _
+  left_reaches h (ItemsW n rest ty j p) k u = here _
+  left_reaches h (VarsW n vars) k u = here _
+  left_reaches h FilledW k u = here _
+  left_reaches h (MainW n main) k u = here _
+
   -- what follows a step at once is reached from it
   pub step_reaches : (f : FocusT) (k : List FrameT) (u : Store) → Reaches s (step s f k u) (step_on s f k u)
   unfolding step_on
@@ -623,5 +669,6 @@ module _ (s : Setting) where
   step_reaches (CameF v) [] u = here _
   step_reaches (CameF v) (f ∷ k) u = came_reaches v f k u
   step_reaches (MadeF e v) k u = here _
-  step_reaches (LeftF h) k u = here _
+  step_reaches (LeftF h) [] u = here _
+  step_reaches (LeftF h) (f ∷ k) u = left_reaches h f k u
   step_reaches FullF k u = here _

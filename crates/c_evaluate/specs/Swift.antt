@@ -18,6 +18,7 @@ use Rattle.obj_mem.specs.Stores.{Store, local_object, with_objects, has_room}
 use Rattle.kit_base.specs.Word.{bool_word}
 use Rattle.obj_mem.specs.Queries.{Answer, truth, step as pointer_step}
 use Rattle.c_meaning.specs.declared.end.End.{End}
+use Rattle.c_meaning.specs.declared.end.End.TheVariants.{OutOfBound}
 use Rattle.c_meaning.specs.Kinds.{type_of, span_of, decayed}
 use Rattle.c_meaning.specs.Operators.{read_as, converted, is_true, word_unary, word_binary, cell_unary, stepped, operated}
 use Rattle.c_meaning.specs.Setting.{Setting, words, global_at, literal_at}
@@ -25,10 +26,11 @@ use Rattle.c_meaning.specs.Cells.{released}
 use Rattle.c_meaning.specs.Expressions.{params_of}
 use Rattle.c_evaluate.specs.declared.frame.Came.{Came}
 use Rattle.c_evaluate.specs.declared.frame.Came.TheVariants.{Value, Place, Nothing}
+use Rattle.c_evaluate.specs.declared.frame.How.{How}
 use Rattle.c_evaluate.specs.declared.frame.How.TheVariants.{On}
 use Rattle.c_evaluate.specs.Storing.{then_ok, taken, tested_in, placed_in, stepped_in, second_assigned_in}
-use Rattle.c_evaluate.specs.Machine.{FocusT, EvalF, DoF, CameF, FrameT, FirstW, SecondW, ArgumentW, ValueW, Config, Going, Over}
-use Rattle.c_evaluate.specs.Steps.{on, came, left, either_of, call, argument_in, eval, first_step, second_of, exec, value_step, give, step}
+use Rattle.c_evaluate.specs.Machine.{FocusT, EvalF, DoF, CameF, LeftF, FrameT, FirstW, SecondW, ArgumentW, ValueW, BodyW, Config, Going, Over}
+use Rattle.c_evaluate.specs.Steps.{on, came, left, either_of, call, argument_in, eval, first_step, second_of, exec, value_step, after_body, body_step, give, leave, step}
 
 -- ---- what comes at once
 
@@ -291,14 +293,11 @@ abbrev pub assigned_on : Setting → (bound : ℕ) → (node : TExprT) → Optio
 assigned_on s n e op x y v w k u =
     on (placed_in (span_of e) v) (λ p. on (taken s n y w u) (λ t. on (second_assigned_in s n op x y (span_of e) p t.0 t.1) (λ z. left On k (released (type_of e) z.0 z.1))))
 
--- one whose place came at once
-abbrev pub assigns_at : Setting → (bound : ℕ) → (result : Cell) → TStmtT → (node : TExprT) → Option BinOp → (x y : TExprT) → (place : Came) → List FrameT → Store → Config
-assigns_at s n r a e op x y v k u =
-    handed (at_once s y u) (on (placed_in (span_of e) v) (λ p. Going (EvalF n y) (SecondW n e p ∷ (ValueW n r a ∷ k)) u)) (λ w. assigned_on s n e op x y v w k u)
-
 -- an assignment whose place and value may come at once
 abbrev pub assigns_on : Setting → (bound : ℕ) → (result : Cell) → TStmtT → (node : TExprT) → Option BinOp → (x y : TExprT) → List FrameT → Store → Config
-assigns_on s n r a e op x y k u = handed (at_once s x u) (Going (EvalF n e) (ValueW n r a ∷ k) u) (λ v. assigns_at s n r a e op x y v k u)
+assigns_on s n r a e op x y k u =
+    handed (at_once s x u) (Going (EvalF n e) (ValueW n r a ∷ k) u) (λ v.
+    handed (at_once s y u) (on (placed_in (span_of e) v) (λ p. Going (EvalF n y) (SecondW n e p ∷ (ValueW n r a ∷ k)) u)) (λ w. assigned_on s n e op x y v w k u))
 
 abbrev pub steps_on : Setting → (bound : ℕ) → (result : Cell) → TStmtT → (node : TExprT) → StepOp → (x : TExprT) → List FrameT → Store → Config
 steps_on s n r a e op x k u =
@@ -325,10 +324,25 @@ give_on s (FirstW n e) v k u = first_of_on s n e v k u
 give_on s (ArgumentW n f span vs xs) v k u = argument_on s n f span vs xs v k u
 give_on s f v k u = give s f v k u
 
+-- a further turn of a `while`
+abbrev pub again_on : Setting → (bound : ℕ) → (result : Cell) → (loop : TStmtT) → TExprT → List FrameT → Store → Config
+again_on s zero r a x k u = Over OutOfBound
+again_on s (suc m) r a x k u = asks_on s m r a x k u
+
+-- the body of a loop was left
+unfoldable pub body_on : Setting → (bound : ℕ) → (result : Cell) → TStmtT → How → List FrameT → Store → Config
+body_on s n r (WhileZ x a) h k u = after_body h k u (again_on s n r (WhileZ x a) x k u)
+body_on s n r a h k u = body_step n r a h k u
+
+unfoldable pub leave_on : Setting → FrameT → How → List FrameT → Store → Config
+leave_on s (BodyW n r a) h k u = body_on s n r a h k u
+leave_on s f h k u = leave s f h k u
+
 unfoldable pub step_on : Setting → FocusT → List FrameT → Store → Config
 step_on s (EvalF n e) k u = eval_of_on s n e k u
 step_on s (DoF n r a) k u = exec_on s n r a k u
 step_on s (CameF v) (f ∷ k) u = give_on s f v k u
+step_on s (LeftF h) (f ∷ k) u = leave_on s f h k u
 step_on s f k u = step s f k u
 
 abbrev pub stepped_on : Setting → Config → Config

@@ -10,7 +10,7 @@ pub struct Ran {
 }
 
 /// What a run does next: a port operation, or its end.
-#[derive(Clone, Copy, Debug, PartialEq, Eq)]
+#[derive(Clone, Copy)]
 pub enum Advanced {
     Made(Event),
     Ended(End),

@@ -10,8 +10,8 @@ ghost use Rattle.c_evaluate.specs.StoreView.{store_of};
 ghost use Rattle.c_types.specs.View.{texpr, tstmt};
 ghost use Rattle.c_evaluate.specs.SettingView.{or_void};
 ghost use Rattle.c_evaluate.specs.Machine.{OneW};
-ghost use Rattle.c_evaluate.specs.Steps.{give, leave, fill_up, switched, main_step};
-ghost use Rattle.c_evaluate.specs.Swift.{give_on};
+ghost use Rattle.c_evaluate.specs.Steps.{give, fill_up, switched, main_step};
+ghost use Rattle.c_evaluate.specs.Swift.{give_on, leave_on};
 
 use crate::calls::{argument_came, back_from, call};
 use crate::exec::{arms, rest};
@@ -112,7 +112,7 @@ pub(crate) fn give<'a>(
 
 /// A part of a statement was left.
 #[inline(always)]
-#[tactic(auto, unfolding(crate::specs::Steps::leave))]
+#[tactic(auto, unfolding(crate::specs::Swift::leave_on, crate::specs::Steps::leave))]
 fn leave_statement<'a>(
     s: &Setting<'a>,
     stage: Stage,
@@ -121,12 +121,12 @@ fn leave_statement<'a>(
     a: &'a TStmt,
     h: How,
     stack: &mut Vec<Frame<'a>>,
-    store: &Store<'a>,
+    store: &mut Store<'a>,
 ) -> Result<Focus<'a>, Stop>
-    ensures { Leads (λ x. at x (stack_of stack.new.items) (store_of store.now)) result (leave (setting_of s.now) (stmt_frame stage n r (tstmt a.now)) h (stack_of stack.old.items) (store_of store.now)) }
+    ensures { Leads (λ x. at x (stack_of stack.new.items) (store_of store.new)) result (leave_on (setting_of s.now) (stmt_frame stage n r (tstmt a.now)) h (stack_of stack.old.items) (store_of store.old)) }
 {
     match stage {
-        Stage::Body => body_left(n, r, a, h, stack, store),
+        Stage::Body => body_left(s, n, r, a, h, stack, store),
         Stage::Begin => begin_left(n, r, a, h, stack, store),
         Stage::Value => strays(),
         Stage::Step => strays(),
@@ -165,7 +165,7 @@ fn main_called<'a>(
 
 /// A statement was left.
 #[inline(always)]
-#[tactic(auto, unfolding(crate::specs::Steps::leave))]
+#[tactic(auto, unfolding(crate::specs::Swift::leave_on, crate::specs::Steps::leave))]
 pub(crate) fn leave<'a>(
     s: &Setting<'a>,
     f: Frame<'a>,
@@ -173,7 +173,7 @@ pub(crate) fn leave<'a>(
     stack: &mut Vec<Frame<'a>>,
     store: &mut Store<'a>,
 ) -> Result<Focus<'a>, Stop>
-    ensures { Leads (λ x. at x (stack_of stack.new.items) (store_of store.new)) result (leave (setting_of s.now) (frame f.entry) h (stack_of stack.old.items) (store_of store.old)) }
+    ensures { Leads (λ x. at x (stack_of stack.new.items) (store_of store.new)) result (leave_on (setting_of s.now) (frame f.entry) h (stack_of stack.old.items) (store_of store.old)) }
 {
     match f {
         Frame::Back(f, values, r, span, c) => back_from(

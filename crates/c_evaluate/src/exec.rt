@@ -7,7 +7,7 @@ ghost use Rattle.c_evaluate.specs.FocusView.{at, stmt_frame, stack_of};
 ghost use Rattle.c_evaluate.specs.SettingView.{setting_of};
 ghost use Rattle.c_evaluate.specs.StoreView.{store_of};
 ghost use Rattle.c_evaluate.specs.Steps.{rest_of, arms_of, turn_of, asks, on};
-ghost use Rattle.c_evaluate.specs.Swift.{asks_on, assigned_on, assigns_at, assigns_on, does_on, exec_on, steps_on};
+ghost use Rattle.c_evaluate.specs.Swift.{asks_on, assigned_on, assigns_on, does_on, exec_on, steps_on};
 ghost use Rattle.c_evaluate.specs.Machine.{DoF, EvalF, Going, SecondW, ValueW};
 ghost use Rattle.c_evaluate.specs.Storing.{placed_in};
 ghost use Rattle.c_meaning.specs.Kinds.{span_of};
@@ -111,7 +111,7 @@ pub(crate) fn ask<'a>(
 }
 
 /// Asks for the value that a statement needs first, and goes on with it where it comes at once.
-fn asked<'a>(
+pub(crate) fn asked<'a>(
     s: &Setting<'a>,
     n: u32,
     r: Cell,
@@ -170,29 +170,6 @@ fn assigned_at_once<'a>(
     Ok(Focus::Left(How::On))
 }
 
-/// An assignment whose place came at once: its value may come so too.
-#[inline(always)]
-fn assigned_at<'a>(
-    s: &Setting<'a>,
-    n: u32,
-    r: Cell,
-    a: &'a TStmt,
-    e: &'a TExpr,
-    op: Option<BinOp>,
-    x: &TExpr,
-    y: &'a TExpr,
-    v: Came,
-    stack: &mut Vec<Frame<'a>>,
-    store: &mut Store<'a>,
-) -> Result<Focus<'a>, Stop>
-    ensures { Leads (λ f. at f (stack_of stack.new.items) (store_of store.new)) result (assigns_at (setting_of s.now) n r (tstmt a.now) (texpr e.now) op (texpr x.now) (texpr y.now) v (stack_of stack.old.items) (store_of store.old)) }
-{
-    match at_once(s, y, store) {
-        None => assigned_behind(n, r, a, e, v, y, stack, store),
-        Some(w) => assigned_at_once(s, n, e, op, x, y, v, w, stack, store),
-    }
-}
-
 /// An assignment whose place and value may come at once.
 fn assigns<'a>(
     s: &Setting<'a>,
@@ -210,7 +187,10 @@ fn assigns<'a>(
 {
     match at_once(s, x, store) {
         None => ask(n, r, a, e, stack),
-        Some(v) => assigned_at(s, n, r, a, e, op, x, y, v, stack, store),
+        Some(v) => match at_once(s, y, store) {
+            None => assigned_behind(n, r, a, e, v, y, stack, store),
+            Some(w) => assigned_at_once(s, n, e, op, x, y, v, w, stack, store),
+        },
     }
 }
 

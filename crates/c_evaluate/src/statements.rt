@@ -8,10 +8,11 @@ ghost use Rattle.c_evaluate.specs.FocusView.{at, stack_of};
 ghost use Rattle.c_evaluate.specs.SettingView.{setting_of};
 ghost use Rattle.c_evaluate.specs.StoreView.{store_of};
 ghost use Rattle.c_evaluate.specs.Storing.{returned_in};
-ghost use Rattle.c_evaluate.specs.Steps.{after_body, after_on, again, do_again, turn_of, step_dropped, step_of, value_looped, value_switched, value_returned, value_step, step_step, body_step, begin_step};
+ghost use Rattle.c_evaluate.specs.Steps.{after_body, after_on, again, do_again, turn_of, step_dropped, step_of, value_looped, value_switched, value_returned, value_step, step_step, begin_step};
+ghost use Rattle.c_evaluate.specs.Swift.{again_on, body_on};
 
 use crate::cells::{cells, located};
-use crate::exec::{arms, ask, part, turn};
+use crate::exec::{arms, ask, asked, part, turn};
 use crate::filling::nowhere;
 use crate::frame::{Came, Focus, Frame, How, Stage};
 use crate::operators::converted;
@@ -389,23 +390,43 @@ fn for_begun<'a>(
     }
 }
 
+/// A further turn of a `while`, whose condition may come at once.
+#[inline(always)]
+fn while_again<'a>(
+    s: &Setting<'a>,
+    n: u32,
+    r: Cell,
+    a: &'a TStmt,
+    x: &'a TExpr,
+    stack: &mut Vec<Frame<'a>>,
+    store: &mut Store<'a>,
+) -> Result<Focus<'a>, Stop>
+    ensures { Leads (λ f. at f (stack_of stack.new.items) (store_of store.new)) result (again_on (setting_of s.now) n r (tstmt a.now) (texpr x.now) (stack_of stack.old.items) (store_of store.old)) }
+{
+    if n == 0 {
+        return Err(Stop::Ends(End::OutOfBound));
+    }
+    asked(s, n - 1, r, a, x, stack, store)
+}
+
 /// The body of a loop was left.
 #[inline(always)]
-#[tactic(auto, unfolding(crate::specs::Steps::body_step))]
+#[tactic(auto, unfolding(crate::specs::Swift::body_on, crate::specs::Steps::body_step))]
 pub(crate) fn body_left<'a>(
+    s: &Setting<'a>,
     n: u32,
     r: Cell,
     a: &'a TStmt,
     h: How,
     stack: &mut Vec<Frame<'a>>,
-    store: &Store<'a>,
+    store: &mut Store<'a>,
 ) -> Result<Focus<'a>, Stop>
-    ensures { Leads (λ f. at f (stack_of stack.new.items) (store_of store.now)) result (body_step n r (tstmt a.now) h (stack_of stack.old.items) (store_of store.now)) }
+    ensures { Leads (λ f. at f (stack_of stack.new.items) (store_of store.new)) result (body_on (setting_of s.now) n r (tstmt a.now) h (stack_of stack.old.items) (store_of store.old)) }
 {
     match a {
-        TStmt::While(x, body) => match h {
-            How::On => again(n, r, a, Some(x), body, stack),
-            How::Continue => again(n, r, a, Some(x), body, stack),
+        TStmt::While(x, _) => match h {
+            How::On => while_again(s, n, r, a, x, stack, store),
+            How::Continue => while_again(s, n, r, a, x, stack, store),
             How::Break => Ok(Focus::Left(How::On)),
             How::Return(c) => Ok(Focus::Left(How::Return(c))),
         },

@@ -1,4 +1,4 @@
--- How lists of parts are read one by one, as the functions of this crate say it.
+-- How lists of parts are read one by one, as the functions of this crate say it. Only private clauses cite this.
 use Rattle.std.specs.Prelude.{ℕ, ◌+◌, ◌^◌, ◌-◌, Bool, length, min, map, List, [], ◌∷◌, ◌++◌, Ok}
 use Rattle.c_tree.specs.declared.span.Span.{Span}
 use Rattle.c_tree.specs.Tree.{VarT}

@@ -1,39 +1,29 @@
 -- What comes before the rest of a list of arguments that is typed from left to right.
-use Rattle.std.proofs.Common.{rules, ◌≡◌, false, List, [], ◌∷◌, ◌++◌, Ok, Err, refl, ap}
+use Rattle.std.proofs.Common.{rules, ◌≡◌, false, List, [], ◌∷◌, ◌++◌, Ok, Err, refl}
 use Rattle.c_tree.specs.Tree.{ExprT, ExprTs, MoreE}
 use Rattle.c_types.specs.Typed.{TExprT, TExprTs, NoX, MoreX}
 use Rattle.c_types.specs.declared.typed.TExpr.{TExpr, the_lemmas}
 use Rattle.c_types.specs.View.{ctype, texpr, texprs}
+use Rattle.c_types.specs.Lists.{texprs_then}
+use Rattle.c_types.proofs.Lists.{texprs_end, texprs_push}
 use Rattle.c_exprs.specs.Env.{Text, Ctx}
 use Rattle.c_exprs.specs.Faults.{◌>>=◌}
 use Rattle.c_exprs.specs.Nodes.{span_of, type_of_typed}
 use Rattle.c_exprs.specs.Typing.{Typer, as_value, typed, all_valued}
 
-abbrev pub front : List TExprT → TExprTs → TExprTs
-front [] ys = ys
-front (x ∷ xs) ys = MoreX x (front xs ys)
-
 -- the trees so far, before those that are still to be typed
 abbrev pub before : List TExprT → Typer TExprTs → Typer TExprTs
-before xs r = r >>= λ y. Ok (front xs y.0, y.1)
+before xs r = r >>= λ y. Ok (texprs_then xs y.0, y.1)
 
 pub before-none : (r : Typer TExprTs) → before [] r ≡ r
 before-none (Ok y) = refl
 before-none (Err e) = refl
 
-front-end : (xs : List TExprT) → front xs NoX ≡ texprs xs
-front-end [] = refl
-front-end (x ∷ xs) = ap (λ (ys : TExprTs). MoreX x ys) (front-end xs)
-
 pub before-end : (xs : List TExprT) (ts : List Text) → before xs (Ok (NoX, ts)) ≡ Ok (texprs xs, ts)
-before-end xs ts = rw (front-end xs) refl
-
-front-push : (xs : List TExprT) (x : TExprT) (ys : TExprTs) → front (xs ++ x ∷ []) ys ≡ front xs (MoreX x ys)
-front-push [] x ys = refl
-front-push (z ∷ xs) x ys = ap (λ (ys : TExprTs). MoreX z ys) (front-push xs x ys)
+before-end xs ts = rw (texprs_end xs) refl
 
 push : (xs : List TExprT) (x : TExprT) (r : Typer TExprTs) → before (xs ++ x ∷ []) r ≡ before xs (r >>= λ ys. Ok (MoreX x ys.0, ys.1))
-push xs x (Ok y) = rw (front-push xs x y.0) refl
+push xs x (Ok y) = rw (texprs_push xs x y.0) refl
 push xs x (Err e) = refl
 
 -- one more is typed

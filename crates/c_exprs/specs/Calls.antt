@@ -3,7 +3,8 @@ use Rattle.std.specs.Prelude.{ℕ, ◌==◌, Bool, true, false, ◌&&◌, List, 
 use Rattle.v32_isa.specs.Ports.{PortEntry, port_named}
 use Rattle.c_tree.specs.Tree.{ExprT, NameE, NumberE, TextE, NullE, ParenE, UnaryE, BinaryE, AssignE, StepE, IndexE, MemberE, ArrowE, CallE, CastE, SizeOfE, ExprTs, NoE, MoreE}
 use Rattle.c_types.specs.Types.{Ty, VoidY, IntY, PointerY}
-use Rattle.c_types.specs.Typed.{TExprT, TKindT, CallK, InK, OutK, WaitK, HaltK, CardK, TExprTs, NoX, MoreX}
+use Rattle.c_types.specs.Typed.{TExprT, TKindT, CallK, InK, OutK, WaitK, HaltK, CardK, TExprTs}
+use Rattle.c_types.specs.Lists.{listed}
 use Rattle.c_rules.specs.declared.code.Code.{Code}
 use Rattle.c_rules.specs.declared.code.Code.TheVariants.{UnknownName, Twice, WrongType, BadCall, BadPort}
 use Rattle.c_rules.specs.Kinds.{is_number, converts}
@@ -52,10 +53,6 @@ names_port c f = takes_port (callee c f)
 
 abbrev pub ensured : {A : Type 0} → Code → Bool → Result A Code → Result A Code
 ensured k test r = if test then r else Err k
-
-abbrev pub listed : TExprTs → List TExprT
-listed NoX = []
-listed (MoreX x xs) = x ∷ listed xs
 
 -- each argument is one that its parameter takes, as far as there are both
 abbrev pub all_convert : List TExprT → List Ty → Bool

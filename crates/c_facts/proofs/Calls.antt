@@ -18,7 +18,8 @@ use Rattle.c_exprs.specs.declared.intrinsics.Intrinsic.{Intrinsic}
 use Rattle.c_exprs.specs.declared.intrinsics.Intrinsic.TheVariants.{PortIn, PortOut, WaitFrame, Halt, CardMemory}
 use Rattle.c_exprs.specs.Intrinsics.{intrinsic}
 use Rattle.c_exprs.specs.Nodes.{type_of_typed}
-use Rattle.c_exprs.specs.Calls.{callee, local_or_callee, intrinsic_callee, ensured, listed, all_convert, with_body, function_call, lone_name, port_by, first_port, read_port, written_port, plain_call, intrinsic_call, call_of, call_node}
+use Rattle.c_exprs.specs.Calls.{callee, local_or_callee, intrinsic_callee, ensured, all_convert, with_body, function_call, lone_name, port_by, first_port, read_port, written_port, plain_call, intrinsic_call, call_of, call_node}
+use Rattle.c_types.specs.Lists.{listed}
 use Rattle.c_types.specs.Programs.{TFunctionT}
 use Rattle.c_facts.specs.Sound.{Scene, IsKnown, IsTyped, IsKind, IsValue, AreValues, IsCall}
 use Rattle.c_facts.specs.Sound.{Calls as CallsAs}

@@ -14,7 +14,8 @@ use Rattle.c_exprs.specs.declared.intrinsics.Intrinsic.TheVariants.{PortIn, Port
 use Rattle.c_exprs.specs.Intrinsics.{intrinsic}
 use Rattle.c_exprs.specs.Faults.{placed}
 use Rattle.c_exprs.specs.Nodes.{type_of_typed, kind_of_typed, span_of, intrinsic_tree, declared_tree, local_or_declared, name_tree, layout_of, member_in, member_at, member_tree, arrow_at, arrow_tree}
-use Rattle.c_exprs.specs.Calls.{Callee, FunctionC, IntrinsicC, callee, with_body, function_call, first_port, read_port, written_port, port_in_call, port_out_call, plain_call, listed, intrinsic_call, call_of, call_node}
+use Rattle.c_exprs.specs.Calls.{Callee, FunctionC, IntrinsicC, callee, with_body, function_call, first_port, read_port, written_port, port_in_call, port_out_call, plain_call, intrinsic_call, call_of, call_node}
+use Rattle.c_types.specs.Lists.{listed}
 use Rattle.c_exprs.specs.Types as e
 use Rattle.c_exprs.specs.Types.{Types, Values, Used, AllValues}
 use Rattle.c_stmts.specs.Slots.{Slots, text_fills, value_fills, fills, filled, literal_of}

@@ -12,7 +12,8 @@ use Rattle.c_rules.specs.Nodes.{needs_place, unary_rule, binary_rule, assign_rul
 use Rattle.c_exprs.specs.Env.{Text}
 use Rattle.c_exprs.specs.Faults.{text_words, text_limit}
 use Rattle.c_exprs.specs.Nodes.{type_of_typed, is_place, value_rule, layout_of, layout_behind}
-use Rattle.c_exprs.specs.Calls.{listed, all_convert}
+use Rattle.c_exprs.specs.Calls.{all_convert}
+use Rattle.c_types.specs.Lists.{listed}
 use Rattle.c_stmts.specs.Slots.{Slots, NoSlots, slots_of, next_slot, later_slots, is_fixed}
 use Rattle.c_stmts.specs.State.{locals_limit, is_condition_of, Labels, no_labels, is_case, with_label}
 use Rattle.c_check.specs.Words.{is_word}

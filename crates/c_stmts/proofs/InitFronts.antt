@@ -1,11 +1,13 @@
 -- What comes before the rest of a brace list that is filled from left to right.
-use Rattle.std.proofs.Common.{◌≡◌, ℕ, ◌+◌, Bool, List, [], ◌∷◌, ◌++◌, Ok, Err, refl, ap, length, map, add-one, length-append}
+use Rattle.std.proofs.Common.{◌≡◌, ℕ, ◌+◌, Bool, List, [], ◌∷◌, ◌++◌, Ok, Err, refl, length, map, add-one, length-append}
 use Rattle.c_tree.specs.declared.variable.Init.{Init}
 use Rattle.c_tree.specs.Tree.{InitT, InitTs, MoreI}
 use Rattle.c_tree.specs.View.{init, inits}
 use Rattle.c_types.specs.Typed.{TInitT, TInitTs, NoI}
 use Rattle.c_types.specs.Typed as typed
 use Rattle.c_types.specs.View.{tinits}
+use Rattle.c_types.specs.Lists.{tinits_then}
+use Rattle.c_types.proofs.Lists.{tinits_end, tinits_push}
 use Rattle.c_exprs.specs.Env.{Text, Ctx}
 use Rattle.c_exprs.specs.Faults.{FaultT, ◌>>=◌}
 use Rattle.c_exprs.specs.Typing.{Typer}
@@ -14,31 +16,19 @@ use Rattle.c_stmts.specs.Places.{slots_behind}
 use Rattle.c_stmts.specs.InitTyping.{filled_by, all_filled_by}
 use Rattle.c_stmts.proofs.Places.{behind-more, behind-none}
 
-abbrev pub front : List TInitT → TInitTs → TInitTs
-front [] ys = ys
-front (x ∷ xs) ys = typed.MoreI x (front xs ys)
-
 -- the trees so far, before those that are still to be typed
 abbrev pub before : List TInitT → Typer TInitTs → Typer TInitTs
-before xs r = r >>= λ y. Ok (front xs y.0, y.1)
+before xs r = r >>= λ y. Ok (tinits_then xs y.0, y.1)
 
 pub before-none : (r : Typer TInitTs) → before [] r ≡ r
 before-none (Ok y) = refl
 before-none (Err e) = refl
 
-front-end : (xs : List TInitT) → front xs NoI ≡ tinits xs
-front-end [] = refl
-front-end (x ∷ xs) = ap (λ (ys : TInitTs). typed.MoreI x ys) (front-end xs)
-
 pub before-end : (xs : List TInitT) (ts : List Text) → before xs (Ok (NoI, ts)) ≡ Ok (tinits xs, ts)
-before-end xs ts = rw (front-end xs) refl
-
-front-push : (xs : List TInitT) (x : TInitT) (ys : TInitTs) → front (xs ++ x ∷ []) ys ≡ front xs (typed.MoreI x ys)
-front-push [] x ys = refl
-front-push (z ∷ xs) x ys = ap (λ (ys : TInitTs). typed.MoreI z ys) (front-push xs x ys)
+before-end xs ts = rw (tinits_end xs) refl
 
 push : (xs : List TInitT) (x : TInitT) (r : Typer TInitTs) → before (xs ++ x ∷ []) r ≡ before xs (r >>= λ ys. Ok (typed.MoreI x ys.0, ys.1))
-push xs x (Ok y) = rw (front-push xs x y.0) refl
+push xs x (Ok y) = rw (tinits_push xs x y.0) refl
 push xs x (Err e) = refl
 
 -- one more is typed

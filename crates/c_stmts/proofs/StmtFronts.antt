@@ -1,33 +1,23 @@
 -- What comes before the rest of a list of statements, or of the arms of a switch.
-use Rattle.std.proofs.Common.{◌≡◌, Bool, List, [], ◌∷◌, ◌++◌, Ok, Err, refl, ap}
+use Rattle.std.proofs.Common.{◌≡◌, Bool, List, [], ◌∷◌, ◌++◌, Ok, Err, refl}
 use Rattle.c_tree.specs.Tree.{StmtT, StmtTs, MoreS, ArmT, ArmTs, MoreA}
 use Rattle.c_types.specs.Typed.{TStmtT, TStmtTs, NoZ, MoreZ, TArmT, TArmTs, NoB, MoreB}
 use Rattle.c_types.specs.View.{tstmts, tarms}
+use Rattle.c_types.specs.Lists.{tstmts_then, tarms_then}
+use Rattle.c_types.proofs.Lists.{tstmts_end, tstmts_push, tarms_end, tarms_push}
 use Rattle.c_exprs.specs.Faults.{◌>>=◌}
 use Rattle.c_stmts.specs.State.{Fn, St, Labels, with_label}
 use Rattle.c_stmts.specs.StatementTyping.{Does, statement, statements, arm, arms}
 
-abbrev pub front : List TStmtT → TStmtTs → TStmtTs
-front [] ys = ys
-front (x ∷ xs) ys = MoreZ x (front xs ys)
-
 -- the trees so far, before those that are still to be typed
 abbrev pub before : List TStmtT → Does TStmtTs → Does TStmtTs
-before xs r = r >>= λ y. Ok (front xs y.0, y.1)
-
-front-end : (xs : List TStmtT) → front xs NoZ ≡ tstmts xs
-front-end [] = refl
-front-end (x ∷ xs) = ap (λ (ys : TStmtTs). MoreZ x ys) (front-end xs)
+before xs r = r >>= λ y. Ok (tstmts_then xs y.0, y.1)
 
 pub before-end : (xs : List TStmtT) (sp : St) → before xs (Ok (NoZ, sp)) ≡ Ok (tstmts xs, sp)
-before-end xs sp = rw (front-end xs) refl
-
-front-push : (xs : List TStmtT) (x : TStmtT) (ys : TStmtTs) → front (xs ++ x ∷ []) ys ≡ front xs (MoreZ x ys)
-front-push [] x ys = refl
-front-push (z ∷ xs) x ys = ap (λ (ys : TStmtTs). MoreZ z ys) (front-push xs x ys)
+before-end xs sp = rw (tstmts_end xs) refl
 
 push : (xs : List TStmtT) (x : TStmtT) (r : Does TStmtTs) → before (xs ++ x ∷ []) r ≡ before xs (r >>= λ ys. Ok (MoreZ x ys.0, ys.1))
-push xs x (Ok y) = rw (front-push xs x y.0) refl
+push xs x (Ok y) = rw (tstmts_push xs x y.0) refl
 push xs x (Err e) = refl
 
 -- one more is typed
@@ -36,30 +26,18 @@ before-push f xs sp sq breaks continues a rest x good = rw good (push xs x (stat
 
 -- ---- arms
 
-abbrev pub front_arms : List TArmT → TArmTs → TArmTs
-front_arms [] ys = ys
-front_arms (x ∷ xs) ys = MoreB x (front_arms xs ys)
-
 abbrev pub before_arms : List TArmT → Does TArmTs → Does TArmTs
-before_arms xs r = r >>= λ y. Ok (front_arms xs y.0, y.1)
-
-front_arms-end : (xs : List TArmT) → front_arms xs NoB ≡ tarms xs
-front_arms-end [] = refl
-front_arms-end (x ∷ xs) = ap (λ (ys : TArmTs). MoreB x ys) (front_arms-end xs)
+before_arms xs r = r >>= λ y. Ok (tarms_then xs y.0, y.1)
 
 pub before_arms-none : (r : Does TArmTs) → before_arms [] r ≡ r
 before_arms-none (Ok y) = refl
 before_arms-none (Err e) = refl
 
 pub before_arms-end : (xs : List TArmT) (sp : St) → before_arms xs (Ok (NoB, sp)) ≡ Ok (tarms xs, sp)
-before_arms-end xs sp = rw (front_arms-end xs) refl
-
-front_arms-push : (xs : List TArmT) (x : TArmT) (ys : TArmTs) → front_arms (xs ++ x ∷ []) ys ≡ front_arms xs (MoreB x ys)
-front_arms-push [] x ys = refl
-front_arms-push (z ∷ xs) x ys = ap (λ (ys : TArmTs). MoreB z ys) (front_arms-push xs x ys)
+before_arms-end xs sp = rw (tarms_end xs) refl
 
 push_arms : (xs : List TArmT) (x : TArmT) (r : Does TArmTs) → before_arms (xs ++ x ∷ []) r ≡ before_arms xs (r >>= λ ys. Ok (MoreB x ys.0, ys.1))
-push_arms xs x (Ok y) = rw (front_arms-push xs x y.0) refl
+push_arms xs x (Ok y) = rw (tarms_push xs x y.0) refl
 push_arms xs x (Err e) = refl
 
 pub before_arms-push : (f : Fn) (xs : List TArmT) (sp sq : St) (breaks continues : Bool) (seen : Labels) (a : ArmT) (rest : ArmTs) (x : TArmT) → arm f sp breaks continues seen a ≡ Ok (x, sq) → before_arms (xs ++ x ∷ []) (arms f sq breaks continues (with_label seen x) rest) ≡ before_arms xs (arms f sp breaks continues seen (MoreA a rest))

@@ -1,4 +1,4 @@
--- The places of a brace list that are left behind so many items.
+-- The places of a brace list that are left behind so many items. Only private clauses cite this.
 use Rattle.std.specs.Prelude.{ℕ, ◌-◌, drop}
 use Rattle.c_stmts.specs.Slots.{Slots, NoSlots, Elements, Members}
 

@@ -3,4 +3,5 @@ pub mod Typed
 pub mod Programs
 pub mod Nodes
 pub mod View
+pub mod Lists
 pub mod Sizes

@@ -8,7 +8,7 @@ use Rattle.std.proofs.lemmas.List.Sums.{sum-map, sum_by-cons, sum_by-append}
 use Rattle.c_types.specs.Types.{Ty, VoidY, IntY, BoolY, EnumY, StructY, UnionY, PointerY, ArrayY, LayoutT}
 use Rattle.c_types.specs.Typed.{TStmtT, BlockZ, EmptyZ, VarsZ, DoZ, IfZ, WhileZ, DoWhileZ, ForZ, SwitchZ, ReturnZ, BreakZ, ContinueZ}
 use Rattle.c_types.specs.Programs.{TFunctionT, ProgramT}
-use Rattle.c_types.specs.Nodes.{statement_nodes, statements_nodes, function_nodes, program_nodes}
+use Rattle.c_types.specs.Nodes.{function_nodes, program_nodes}
 use Rattle.c_types.specs.Sizes.{words_of}
 use Rattle.c_types.specs.View.{tstmts}
 use Rattle.c_rules.specs.declared.code.Code.TheVariants.{InfiniteType, TooLarge}
@@ -32,6 +32,7 @@ use Rattle.lower_trees.specs.Parts.{from, to, result_at, param_at, first_param, 
 use Rattle.lower_trees.specs.Counts.{stmt_temps, stmts_temps, vars_temps, one_size, stmt_sizes, stmts_sizes, vars_sizes}
 use Rattle.lower_trees.specs.Statements.{ToEnd, low_stmts}
 use Rattle.lower_trees.specs.Lowered.{args_from, with_result, received, all_received, first_of, low_body, low_function, low_start, lowered}
+use Rattle.mid_lower.proofs.ProgramsListed.{inits_nodes}
 use Rattle.mid_lower.proofs.Kept.{Site, Good, Keeps, good_stop, both, alone, none, either_kept, block_kept, fixed, k_move, k_local, k_store, words_small, copied_kept, made_kept}
 use Rattle.mid_lower.proofs.KeptExpressions.{Linked, args_length}
 use Rattle.mid_lower.proofs.KeptStatements.{objects_there, vars_kept, stmts_kept}
@@ -288,10 +289,6 @@ start_none p (SwitchZ x ks arms ∷ rest) is e = absurd is.0
 start_none p (ReturnZ x ∷ rest) is e = absurd is.0
 start_none p (BreakZ ∷ rest) is e = absurd is.0
 start_none p (ContinueZ ∷ rest) is e = absurd is.0
-
-inits_nodes : (inits : List TStmtT) → statements_nodes (tstmts inits) ≡ sum_by statement_nodes inits
-inits_nodes [] = refl
-inits_nodes (a ∷ rest) = ap (λ n. statement_nodes a + n) (inits_nodes rest) ∙ sym (sum_by-cons statement_nodes a rest)
 
 start_is : (p : ProgramT) → Known p → mid.IsStart IsTemporary (lowered p) (low_start p)
 start_is p known =

@@ -11,7 +11,7 @@ use Rattle.c_types.specs.Types.{Ty, VoidY, IntY, BoolY, EnumY, StructY, UnionY, 
 use Rattle.c_types.specs.Typed.{TExprT, Typed, TKindT, NumberK, NullK, LiteralK, GlobalK, LocalK, UnaryK, BinaryK, AssignK, StepK, IndexK, MemberK, ArrowK, CastK, CallK, InK, OutK, WaitK, HaltK, CardK, TExprTs, NoX, MoreX}
 use Rattle.c_types.specs.Programs.{TFunctionT}
 use Rattle.c_exprs.specs.Nodes.{is_place}
-use Rattle.c_exprs.specs.Calls.{listed}
+use Rattle.c_types.specs.Lists.{listed}
 use Rattle.c_meaning.specs.Kinds.{type_of, is_structure, decayed, pointed}
 use Rattle.c_facts.specs.Sound.{Scene, IsTyped, IsKind, AreValues, Calls, text_type}
 use Rattle.c_facts.specs.Words.{InWords, KindInWords, AllInWords}

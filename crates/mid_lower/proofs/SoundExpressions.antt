@@ -9,7 +9,8 @@ use Rattle.c_types.specs.Programs.{TFunctionT}
 use Rattle.c_rules.specs.Kinds.{converts}
 use Rattle.c_rules.specs.Nodes.{step_operator}
 use Rattle.c_exprs.specs.Nodes.{type_of_typed, is_place, is_place_kind}
-use Rattle.c_exprs.specs.Calls.{listed, all_convert}
+use Rattle.c_exprs.specs.Calls.{all_convert}
+use Rattle.c_types.specs.Lists.{listed}
 use Rattle.c_facts.specs.Sound.{text_type, Scene, Calls, IsTyped, IsKind, AreValues}
 use Rattle.c_meaning.specs.Kinds.{type_of, is_structure}
 use Rattle.lower_trees.specs.Shape.{Shape, params_of, result_of}

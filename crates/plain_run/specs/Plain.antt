@@ -2,7 +2,6 @@
 use Rattle.std.specs.Prelude.{ℕ, List, [], None, codes}
 use Rattle.cart_format.specs.Cartridge.{Cartridge}
 use Rattle.run_files.specs.Script.{Script}
-use Rattle.port_history.specs.Past.{graphics_past}
 use Rattle.gpu_state.specs.Settings.{clear_color}
 use Rattle.v32_console.specs.Setup.{Setup, setup_of}
 use Rattle.run_core.specs.Outputs.{last_moment}
@@ -21,4 +20,4 @@ plain_setup cart = setup_of cart plain_pads None
 
 -- the clear colour after a run of at most so many frames, as it was written last
 abbrev pub color_after : Setup → ℕ → ℕ
-color_after u count = clear_color (graphics_past (last_moment u count).past)
+color_after u count = clear_color (last_moment u count).past

@@ -3,3 +3,4 @@ pub mod Keeping
 pub mod Standing
 pub mod Unconnected
 pub mod Ruling
+pub mod Others

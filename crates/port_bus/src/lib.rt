@@ -11,4 +11,6 @@ mod events;
 mod laws;
 
 pub use devices::Devices;
-pub use laws::{controls_follow_the_rule, pads_that_are_not_connected_stay_up};
+pub use laws::{
+    controls_follow_the_rule, other_events_leave_devices, pads_that_are_not_connected_stay_up,
+};

@@ -36,30 +36,10 @@ is_graphics_port port = nat_le 0x200 port && nat_le port 0x2FF
 abbrev pub is_sound_port : ℕ → Bool
 is_sound_port port = nat_le 0x300 port && nat_le port 0x3FF
 
--- The part of a history that concerns a device, so that what another is told or asked is nothing to it.
-
--- graphics: frames begin, and its ports are given words
-abbrev pub graphics_past : List Happening → List Happening
-graphics_past [] = []
-graphics_past (Began ∷ past) = Began ∷ graphics_past past
-graphics_past (Asked asked ∷ past) = graphics_past past
-graphics_past (Told told word ∷ past) = if is_graphics_port told then Told told word ∷ graphics_past past else graphics_past past
-graphics_past (Mixed ∷ past) = graphics_past past
-
--- sound: its ports are given words, and frames are mixed
+-- The part of a history that concerns sound: its ports are given words, and frames are mixed.
 abbrev pub sound_past : List Happening → List Happening
 sound_past [] = []
 sound_past (Began ∷ past) = sound_past past
 sound_past (Asked asked ∷ past) = sound_past past
 sound_past (Told told word ∷ past) = if is_sound_port told then Told told word ∷ sound_past past else sound_past past
 sound_past (Mixed ∷ past) = Mixed ∷ sound_past past
-
--- the small devices: frames begin, and their ports are asked and given words
-abbrev pub small_past : List Happening → List Happening
-small_past [] = []
-small_past (Began ∷ past) = Began ∷ small_past past
-small_past (Asked asked ∷ past) =
-    if is_graphics_port asked then small_past past else (if is_sound_port asked then small_past past else Asked asked ∷ small_past past)
-small_past (Told told word ∷ past) =
-    if is_graphics_port told then small_past past else (if is_sound_port told then small_past past else Told told word ∷ small_past past)
-small_past (Mixed ∷ past) = small_past past

@@ -78,7 +78,7 @@ unfolding after_step
 step_used stepped.Went done s past = went_used done s past ∙ same_used past
 step_used stepped.Waited done s past = same_used past
 step_used stepped.Halted done s past = same_used past
-step_used stepped.Starved done s past = same_used past
+step_used stepped.Starved done s past = went_used done s past ∙ same_used past
 step_used (stepped.Fault number) done s past = same_used past
 step_used (stepped.Undecodable address) done s past = same_used past
 

@@ -41,7 +41,7 @@ unfolding after_effect after_step
 acts_step u past b c (Ends how' t') how t asks begins h (e, f, g) =
     record { later = past; moment_is = rw (e, f) refl; stands = subst (BoardStands u past) (sym g) h }
 acts_step u past b c (Asks a p next s) how t readable begins h (answer, (given, after)) =
-    let is = given.1 readable begins u past h in
+    let is = given.2 readable begins u past h in
     let went = answered_with a next _ s answer how t is.0 after in
     record { later = Asked p ∷ past; moment_is = rw (went.0, went.1) refl; stands = is.1 }
 acts_step u past b c (Tells p word next s) how t writable begins h (given, e, f) =
@@ -141,10 +141,6 @@ ends_waited done t past = refl
 pub ends_halted : (done : ℕ) (t : State) (past : List Happening) → after_step stepped.Halted done t past ≡ left_by Halted t past
 unfolding after_step
 ends_halted done t past = refl
-
-pub ends_starved : (done : ℕ) (t : State) (past : List Happening) → after_step stepped.Starved done t past ≡ left_by Halted t past
-unfolding after_step
-ends_starved done t past = refl
 
 pub ends_fault : (number done : ℕ) (t : State) (past : List Happening) → after_step (stepped.Fault number) done t past ≡ left_by (Fault number t.counter) t past
 unfolding after_step

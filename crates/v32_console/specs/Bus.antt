@@ -1,5 +1,5 @@
 -- What the devices do when the processor asks a port or tells it a word.
-use Rattle.std.specs.Prelude.{ℕ, ◌≡◌, ◌<◌, true, List, ◌∷◌, Option, Some}
+use Rattle.std.specs.Prelude.{ℕ, ◌≡◌, ◌<◌, true, List, ◌∷◌, Option, Some, is_some}
 use Rattle.v32_isa.specs.Ports.{is_readable, is_writable}
 use Rattle.port_history.specs.Past.{Happening, Asked, Told}
 use Rattle.v32_console.specs.declared.board.Board.{Board}
@@ -12,9 +12,9 @@ pub record KeepsCounts (b c : Board) : Type 0 where
   pub cycles : c.cycles ≡ b.cycles
   pub frames : c.devices.frames ≡ b.devices.frames
 
--- in a frame, a readable port gives the answer of each past that the devices stand for
+-- There is always an answer. In a frame, a readable port gives that of each past that the devices stand for.
 abbrev pub Answering : Board → ℕ → Option ℕ → Board → Type 0
-Answering b port answer c = KeepsCounts b c × (is_readable port ≡ true → 0 < b.devices.frames → (u : Setup) (past : List Happening) → BoardStands u past b
+Answering b port answer c = KeepsCounts b c × (is_some answer ≡ true) × (is_readable port ≡ true → 0 < b.devices.frames → (u : Setup) (past : List Happening) → BoardStands u past b
     → (answer ≡ Some (answer_at u past b.cycles port)) × BoardStands u (Asked port ∷ past) c)
 
 abbrev pub Telling : Board → ℕ → ℕ → Board → Type 0

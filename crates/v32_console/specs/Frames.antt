@@ -1,7 +1,6 @@
 -- The frames of a console: where each ends, its screen and its samples.
 use Rattle.std.specs.Prelude.{ℕ, zero, suc, List, [], ◌∷◌, map, if◌then◌else◌}
 use Rattle.std.specs.List.{flat_map, range_with_len}
-use Rattle.port_history.specs.Past.{graphics_past, sound_past}
 use Rattle.gpu_state.specs.Commands.{done}
 use Rattle.gpu_state.specs.Colours.{colour}
 use Rattle.spu_mix.specs.Settings.{last_sample}
@@ -34,8 +33,8 @@ frames_of (suc count) u m = frame_of u m ∷ frames_from (frame_of u m).phase (f
 
 -- the 230,400 pixels of the screen by rows, 360 rows of 640
 unfoldable pub screen_of : Setup → Moment → List ℕ
-screen_of u m = flat_map (λ y. map (λ x. colour x y (done u.textures (graphics_past m.past))) (range_with_len 0 640)) (range_with_len 0 360)
+screen_of u m = flat_map (λ y. map (λ x. colour x y (done u.textures m.past)) (range_with_len 0 640)) (range_with_len 0 360)
 
 -- the 735 samples that were mixed last
 unfoldable pub samples_of : Setup → Moment → List ℕ
-samples_of u m = map (last_sample u.sounds (sound_past m.past)) (range_with_len 0 735)
+samples_of u m = map (last_sample u.sounds m.past) (range_with_len 0 735)

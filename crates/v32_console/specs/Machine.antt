@@ -28,12 +28,8 @@ abbrev pub one : List Event → List ℕ → Operations
 one events answers = record { instructions = 1; events = events; answers = answers }
 
 abbrev pub waits : Stepped → List Event
-waits stepped.Went = []
 waits stepped.Waited = event.Wait ∷ []
-waits stepped.Halted = []
-waits stepped.Starved = []
-waits (stepped.Fault number) = []
-waits (stepped.Undecodable address) = []
+waits _ = []
 
 -- those of an instruction, after so many of the frame's
 abbrev pub operation : Setup → Moment → ℕ → Effect → Operations

@@ -1,6 +1,6 @@
 -- The console from one instruction or frame edge to the next (the system specification, sections on the processor's frames and
 -- on the start of the console).
-use Rattle.std.specs.Prelude.{ℕ, zero, suc, ◌+◌, ◌==◌, List, [], ◌∷◌, if◌then◌else◌, Bool, true, false}
+use Rattle.std.specs.Prelude.{ℕ, zero, suc, ◌+◌, ◌==◌, List, [], ◌∷◌, if◌then◌else◌, Bool, true, false, Option, Some, None}
 use Rattle.v32_isa.specs.declared.stepped.Stepped.{Stepped}
 use Rattle.v32_isa.specs.declared.stepped.Stepped.TheVariants as stepped
 use Rattle.v32_isa.specs.State.{State, with_register, going_to}
@@ -35,15 +35,21 @@ left_by end s past = moment s (Mixed ∷ past) (Left end)
 unfoldable pub went_on : ℕ → State → List Happening → Moment
 went_on done s past = if done == 250000 then left_by Full s past else moment s past (Running done)
 
--- after the frame's instruction of that number. A wait leaves the frame, and so does the end of the run; the address of a
--- fault is the program counter, which stays there. (No port is without an answer, so no instruction starves.)
+-- How an instruction leaves its frame: by a wait, and where the run ends. The address of a fault is the program counter, which stays there.
+abbrev pub leaves : Stepped → State → Option FrameEnd
+leaves stepped.Waited s = Some Waited
+leaves stepped.Halted s = Some Halted
+leaves (stepped.Fault number) s = Some (Fault number s.counter)
+leaves (stepped.Undecodable address) s = Some (Undecodable address)
+leaves _ s = None
+
+abbrev pub left_or_on : Option FrameEnd → ℕ → State → List Happening → Moment
+left_or_on (Some end) done s past = left_by end s past
+left_or_on None done s past = went_on done s past
+
+-- after the frame's instruction of that number
 unfoldable pub after_step : Stepped → ℕ → State → List Happening → Moment
-after_step stepped.Went done s past = went_on done s past
-after_step stepped.Waited done s past = left_by Waited s past
-after_step stepped.Halted done s past = left_by Halted s past
-after_step stepped.Starved done s past = left_by Halted s past
-after_step (stepped.Fault number) done s past = left_by (Fault number s.counter) s past
-after_step (stepped.Undecodable address) done s past = left_by (Undecodable address) s past
+after_step how done s past = left_or_on (leaves how s) done s past
 
 -- what an instruction does, after so many of the frame's
 unfoldable pub after_effect : Setup → ℕ → Effect → List Happening → Moment

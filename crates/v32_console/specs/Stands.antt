@@ -1,7 +1,7 @@
 -- When a console stands for a moment: what links its calls to one another.
 use Rattle.std.specs.Prelude.{ℕ, ◌≡◌, ◌≤◌, ◌<◌, ◌+◌, true, List}
 use Rattle.cpu_core.specs.Machine.{Machine, state_of}
-use Rattle.port_history.specs.Past.{Happening, graphics_past, sound_past, small_past}
+use Rattle.port_history.specs.Past.{Happening}
 use Rattle.gpu_state.specs.Stand.{GraphicsStand}
 use Rattle.spu_mix.specs.Stands.{SoundStands}
 use Rattle.port_bus.specs.Stand.{DevicesStand}
@@ -11,11 +11,11 @@ use Rattle.v32_console.specs.Setup.{Setup, facts_of}
 use Rattle.v32_console.specs.Moments.{Moment, Phase, Opened, Running, Left, goes_on, console_at}
 use Rattle.v32_console.specs.Frames.{frame_of}
 
--- the devices stand for a past: each for its part of it
+-- the devices stand for a past
 pub record BoardStands (u : Setup) (past : List Happening) (b : Board) : Type 0 where
-  pub graphics : GraphicsStand u.textures (graphics_past past) b.gpu
-  pub sound : SoundStands u.sounds (sound_past past) b.spu
-  pub small : DevicesStand u.pads (facts_of u) (small_past past) b.devices
+  pub graphics : GraphicsStand u.textures past b.gpu
+  pub sound : SoundStands u.sounds past b.spu
+  pub small : DevicesStand u.pads (facts_of u) past b.devices
 
 -- what a console holds
 pub record Parts : Type 0 where

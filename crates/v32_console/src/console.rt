@@ -22,7 +22,6 @@ ghost use Rattle.std.specs.Prelude.{◌≡◌, ◌<◌, ◌≤◌, ◌+◌, ℕ,
 ghost use Rattle.std.specs.Option.{option_map, ForSome};
 ghost use Rattle.cpu_core.specs.Machine.{HasCard};
 ghost use Rattle.cpu_core.specs.Space.{words_of};
-ghost use Rattle.port_history.specs.Past.{graphics_past};
 ghost use Rattle.gpu_state.specs.Settings.{clear_color as the_clear_color};
 ghost use Rattle.v32_console.specs.Setup.{Setup, setup_of};
 ghost use Rattle.v32_console.specs.Moments.{Moment, Left, console_at};
@@ -123,7 +122,7 @@ impl Console {
 
     /// The clear colour, as it was written last.
     pub fn clear_color(&self) -> u32
-        ensures color { (u : Setup) (m : Moment) → ConsoleStands u m self.now → result ≡ the_clear_color (graphics_past m.past) }
+        ensures color { (u : Setup) (m : Moment) → ConsoleStands u m self.now → result ≡ the_clear_color m.past }
     {
         self.board.gpu.clear_color()
     }

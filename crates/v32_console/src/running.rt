@@ -24,7 +24,8 @@ pub fn run_frame(cpu: &mut Cpu, board: &mut Board) -> FrameEnd
             Stepped::Went => board.cycles = done + 1,
             Stepped::Waited => return FrameEnd::Waited,
             Stepped::Halted => return FrameEnd::Halted,
-            Stepped::Starved => return FrameEnd::Halted,
+            // Each port answers.
+            Stepped::Starved => unreachable!(),
             Stepped::Fault(number) => {
                 let address = cpu.address();
                 return FrameEnd::Fault { number, address };

@@ -2,7 +2,7 @@ use Rattle.std.proofs.Common.{◌<◌, ◌+◌, refl, sym, ◌∙◌, subst, ari
 use Rattle.cpu_core.specs.Machine.{state_of}
 use Rattle.v32_isa.specs.declared.stepped.Stepped.TheVariants as stepped
 use Rattle.v32_console.specs.declared.frame_end.FrameEnd.TheVariants.{Waited, Halted, Fault, Undecodable}
-use Rattle.v32_console.proofs.Steps.{came_first, came_next, came_end, came_full, step_kept, ends_waited, ends_halted, ends_starved, ends_fault, ends_undecodable}
+use Rattle.v32_console.proofs.Steps.{came_first, came_next, came_end, came_full, step_kept, ends_waited, ends_halted, ends_fault, ends_undecodable}
 use Rattle.v32_console.proofs.running.run_frame.Goals as goal
 
 pub loop-done-init : goal.loop-done-init
@@ -25,11 +25,6 @@ pub returns-in-Halted-clause-ran : goal.returns-in-Halted-clause-ran
 returns-in-Halted-clause-ran c u past h =
     came_end u 250000 _ c.loop-done.done _ _ _ _ stepped.Halted Halted c.loop-done-test.true c.loop-done-test.true c.loop-done.invariant.0
     (subst (λ n. 0 < n) (sym c.loop-done.invariant.1) c.requires.begun) (c.loop-done.invariant.2 u past h) (rw c.in-Halted.is at c.step.ensures.step) (ends_halted _ _)
-
-pub returns-in-Starved-clause-ran : goal.returns-in-Starved-clause-ran
-returns-in-Starved-clause-ran c u past h =
-    came_end u 250000 _ c.loop-done.done _ _ _ _ stepped.Starved Halted c.loop-done-test.true c.loop-done-test.true c.loop-done.invariant.0
-    (subst (λ n. 0 < n) (sym c.loop-done.invariant.1) c.requires.begun) (c.loop-done.invariant.2 u past h) (rw c.in-Starved.is at c.step.ensures.step) (ends_starved _ _)
 
 pub returns-in-Fault-clause-ran : goal.returns-in-Fault-clause-ran
 returns-in-Fault-clause-ran c u past h =

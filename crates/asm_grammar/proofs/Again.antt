@@ -7,11 +7,11 @@ use Rattle.std.proofs.lemmas.Bool.{eqb-true}
 use Rattle.std.proofs.lemmas.Bool.Decides.{nat_tests}
 use Rattle.std.proofs.lemmas.List.Sums.{take_while-cons}
 use Rattle.asm_items.specs.Vocabulary.{is_letter, is_word, is_word_byte, word_kind}
-use Rattle.asm_reader.specs.declared.quoted.Within.TheVariants.{Plain}
+use Rattle.quoted_text.specs.declared.quoted.Within.TheVariants.{Plain}
 use Rattle.asm_reader.specs.declared.token.Token.{Token}
 use Rattle.asm_reader.specs.declared.token.Token.TheVariants as t
 use Rattle.asm_reader.specs.Numbers.{limited, hexadecimal_digits, number_token}
-use Rattle.asm_reader.specs.Quoted.{quoted_at}
+use Rattle.quoted_text.specs.Quoted.{quoted_at}
 use Rattle.asm_reader.specs.Tokens.{begins, is_blank, kind_token, run_token, mark_token, text_token, token_at, tokens_from, tokens_of}
 use Rattle.asm_reader.proofs.TokenLaws.{both_true, runs, blanks, comments, token_first}
 use Rattle.c_lex.specs.Grammar.{IsDecimal, IsHexadecimal, IsContent}
@@ -139,7 +139,7 @@ quoted_front : (inner content rest : List ℕ) → IsContent 34 inner content �
 unfolding token_at
 quoted_front inner content rest spelled =
     let read = quoted_read (inner ++ 34 ∷ rest) content rest (record { inner = inner; whole = refl; spelled = spelled }) in
-    let one : token_at (34 ∷ (inner ++ 34 ∷ rest)) ≡ text_token (inner ++ 34 ∷ rest) (quoted_at Plain (inner ++ 34 ∷ rest)) = refl in
+    let one : token_at (34 ∷ (inner ++ 34 ∷ rest)) ≡ text_token (inner ++ 34 ∷ rest) (quoted_at 34 Plain (inner ++ 34 ∷ rest)) = refl in
     let a = long inner (34 ∷ rest) in
     let b = long inner (34 ∷ []) in
     let k : length (inner ++ 34 ∷ rest) - length rest ≡ length (inner ++ 34 ∷ []) = omega (arith, a, b) in

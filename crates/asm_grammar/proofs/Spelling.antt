@@ -7,12 +7,12 @@ use Rattle.std.proofs.lemmas.Bool.{eqb-true, eqb-false}
 use Rattle.std.proofs.lemmas.Bool.Decides.{nat_tests}
 use Rattle.std.proofs.lemmas.List.Sums.{take_while-cons}
 use Rattle.asm_items.specs.Vocabulary.{is_letter, is_word_byte}
-use Rattle.asm_reader.specs.declared.quoted.Within.TheVariants.{Plain}
+use Rattle.quoted_text.specs.declared.quoted.Within.TheVariants.{Plain}
 use Rattle.asm_reader.specs.declared.token.Token.{Token}
 use Rattle.asm_reader.specs.declared.token.Token.TheVariants as t
 use Rattle.kit_base.specs.Digits.{value_in}
 use Rattle.asm_reader.specs.Numbers.{limited, hexadecimal_digits, number_by, number_token}
-use Rattle.asm_reader.specs.Quoted.{quoted_at}
+use Rattle.quoted_text.specs.Quoted.{quoted_at}
 use Rattle.asm_reader.specs.Tokens.{begins, is_blank, run_token, mark_token, text_token, token_at, tokens_from, tokens_of}
 use Rattle.asm_reader.proofs.Lexing.{passed}
 use Rattle.asm_reader.proofs.TokenLaws.{both_true}
@@ -162,7 +162,7 @@ front_of a rest bs e n is = (ap (λ (k : ℕ). take k bs) k ∙ ap (take (length
     k : n ≡ length a
     k = let l = long a rest in let m : length bs ≡ length (a ++ rest) = ap length e in omega (arith, is, l, m)
 
-quote_front : (b : ℕ) (bs : List ℕ) (o : Option (List ℕ × List ℕ)) → b ≡ 34 → quoted_at Plain bs ≡ o → is_token (text_token bs o).0 ≡ true → Front b bs (text_token bs o)
+quote_front : (b : ℕ) (bs : List ℕ) (o : Option (List ℕ × List ℕ)) → b ≡ 34 → quoted_at 34 Plain bs ≡ o → is_token (text_token bs o).0 ≡ true → Front b bs (text_token bs o)
 quote_front b bs None is e ok = absurd cc
 quote_front b bs (Some (content, after)) is e ok =
     let q = quoted_is bs content after e in
@@ -175,8 +175,8 @@ unfolding token_at
 front_spelled b bs ok = by_word (is_word_byte b) refl ok
   where
     by_quote : (x : Bool) → eqb b 34 ≡ x → (b ≡ 45 → begins is_ascii_digit bs ≡ false)
-        → is_token (cond x (text_token bs (quoted_at Plain bs)) (mark_token b, 0)).0 ≡ true → Front b bs (cond x (text_token bs (quoted_at Plain bs)) (mark_token b, 0))
-    by_quote true e alone h = quote_front b bs (quoted_at Plain bs) (eqb-true b 34 e) refl h
+        → is_token (cond x (text_token bs (quoted_at 34 Plain bs)) (mark_token b, 0)).0 ≡ true → Front b bs (cond x (text_token bs (quoted_at 34 Plain bs)) (mark_token b, 0))
+    by_quote true e alone h = quote_front b bs (quoted_at 34 Plain bs) (eqb-true b 34 e) refl h
     by_quote false e alone h = record { spelled = mark_spelled b bs alone h }
 
     no_digit : (x : Bool) → eqb b 45 ≡ x → (x && begins is_ascii_digit bs) ≡ false → b ≡ 45 → begins is_ascii_digit bs ≡ false
@@ -184,8 +184,8 @@ front_spelled b bs ok = by_word (is_word_byte b) refl ok
     no_digit false e h is = absurd (eqb-false b 45 e is)
 
     by_minus : (x : Bool) → (eqb b 45 && begins is_ascii_digit bs) ≡ x
-        → is_token (cond x (number_token true (take_while is_word_byte bs), length (take_while is_word_byte bs)) (cond (eqb b 34) (text_token bs (quoted_at Plain bs)) (mark_token b, 0))).0 ≡ true
-        → Front b bs (cond x (number_token true (take_while is_word_byte bs), length (take_while is_word_byte bs)) (cond (eqb b 34) (text_token bs (quoted_at Plain bs)) (mark_token b, 0)))
+        → is_token (cond x (number_token true (take_while is_word_byte bs), length (take_while is_word_byte bs)) (cond (eqb b 34) (text_token bs (quoted_at 34 Plain bs)) (mark_token b, 0))).0 ≡ true
+        → Front b bs (cond x (number_token true (take_while is_word_byte bs), length (take_while is_word_byte bs)) (cond (eqb b 34) (text_token bs (quoted_at 34 Plain bs)) (mark_token b, 0)))
     by_minus true e h =
         let is = both_true (eqb b 45) (begins is_ascii_digit bs) e in
         let r = run_of is_word_byte bs in
@@ -201,8 +201,8 @@ front_spelled b bs ok = by_word (is_word_byte b) refl ok
     by_minus false e h = by_quote (eqb b 34) refl (no_digit (eqb b 45) refl e) h
 
     by_word : (x : Bool) → is_word_byte b ≡ x
-        → is_token (cond x (run_token (take_while is_word_byte (b ∷ bs)), length (take_while is_word_byte bs)) (cond (eqb b 45 && begins is_ascii_digit bs) (number_token true (take_while is_word_byte bs), length (take_while is_word_byte bs)) (cond (eqb b 34) (text_token bs (quoted_at Plain bs)) (mark_token b, 0)))).0 ≡ true
-        → Front b bs (cond x (run_token (take_while is_word_byte (b ∷ bs)), length (take_while is_word_byte bs)) (cond (eqb b 45 && begins is_ascii_digit bs) (number_token true (take_while is_word_byte bs), length (take_while is_word_byte bs)) (cond (eqb b 34) (text_token bs (quoted_at Plain bs)) (mark_token b, 0))))
+        → is_token (cond x (run_token (take_while is_word_byte (b ∷ bs)), length (take_while is_word_byte bs)) (cond (eqb b 45 && begins is_ascii_digit bs) (number_token true (take_while is_word_byte bs), length (take_while is_word_byte bs)) (cond (eqb b 34) (text_token bs (quoted_at 34 Plain bs)) (mark_token b, 0)))).0 ≡ true
+        → Front b bs (cond x (run_token (take_while is_word_byte (b ∷ bs)), length (take_while is_word_byte bs)) (cond (eqb b 45 && begins is_ascii_digit bs) (number_token true (take_while is_word_byte bs), length (take_while is_word_byte bs)) (cond (eqb b 34) (text_token bs (quoted_at 34 Plain bs)) (mark_token b, 0))))
     by_word true e h =
         let r = run_of is_word_byte bs in
         let one : take_while is_word_byte (b ∷ bs) ≡ b ∷ take_while is_word_byte bs = take_while-cons is_word_byte b bs ∙ rw e refl in

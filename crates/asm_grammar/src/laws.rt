@@ -3,11 +3,11 @@ ghost use Rattle.std.specs.Prelude.{◌≡◌, ◌↔◌, ℕ, List, Some, Ok, E
 ghost use Rattle.asm_items.specs.declared.item.AsmItem.{AsmItem};
 ghost use Rattle.asm_items.specs.declared.vocabulary.Operation.{Operation};
 ghost use Rattle.asm_reader.specs.declared.fault.LineFault.TheVariants.{NoSuchForm, NumberTooLarge};
-ghost use Rattle.asm_reader.specs.declared.quoted.Within.TheVariants.{Plain};
+ghost use Rattle.quoted_text.specs.declared.quoted.Within.TheVariants.{Plain};
 ghost use Rattle.asm_reader.specs.declared.value.Written.{Written};
 ghost use Rattle.asm_reader.specs.Forms.{instruction};
 ghost use Rattle.asm_reader.specs.Lines.{line_items};
-ghost use Rattle.asm_reader.specs.Quoted.{quoted_at};
+ghost use Rattle.quoted_text.specs.Quoted.{quoted_at};
 ghost use Rattle.asm_reader.specs.Reading.{read};
 ghost use Rattle.asm_reader.specs.Tokens.{tokens_of};
 ghost use Rattle.asm_grammar.specs.Classes.{IsNoForm, IsOutOfRange};
@@ -15,7 +15,7 @@ ghost use Rattle.asm_grammar.specs.Texts.{IsQuotedBy, IsText, SpellsItems};
 
 /// What is read behind a quote, up to the next one, is what is spelled there.
 pub fn texts_between_quotes_are_what_they_spell()
-    ensures both_ways { (bytes content after : List ℕ) → (quoted_at Plain bytes ≡ Some (content, after)) ↔ IsQuotedBy bytes content after }
+    ensures both_ways { (bytes content after : List ℕ) → (quoted_at 34 Plain bytes ≡ Some (content, after)) ↔ IsQuotedBy bytes content after }
 {}
 
 /// A mnemonic with operands is refused for a number's range exactly where no instruction takes them and one would with other numbers; and for its form

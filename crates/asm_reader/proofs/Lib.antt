@@ -3,7 +3,6 @@ pub mod Lexing
 mod Listing
 mod Lines
 mod Putting
-mod Quoting
 pub mod FormLaws
 pub mod OperandLaws
 pub mod WordLaws

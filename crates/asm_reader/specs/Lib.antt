@@ -1,7 +1,6 @@
 pub mod Faults
 pub mod Parted
 pub mod Numbers
-pub mod Quoted
 pub mod Tokens
 pub mod Operands
 pub mod Forms

@@ -7,9 +7,9 @@ use Rattle.asm_items.specs.declared.vocabulary.WordKind.TheVariants as w
 use Rattle.asm_items.specs.Vocabulary.{is_word_byte, word_kind}
 use Rattle.asm_reader.specs.declared.token.Token.{Token}
 use Rattle.asm_reader.specs.declared.token.Token.TheVariants as t
-use Rattle.asm_reader.specs.declared.quoted.Within.TheVariants.{Plain}
+use Rattle.quoted_text.specs.declared.quoted.Within.TheVariants.{Plain}
 use Rattle.asm_reader.specs.Numbers.{number_token}
-use Rattle.asm_reader.specs.Quoted.{quoted_at}
+use Rattle.quoted_text.specs.Quoted.{quoted_at}
 
 -- a byte, where there is one, passes
 abbrev pub begins : (ℕ → Bool) → List ℕ → Bool
@@ -51,7 +51,7 @@ token_at [] = (t.Stray, 0)
 token_at (b ∷ bs) =
     if is_word_byte b then (run_token (take_while is_word_byte (b ∷ bs)), length (take_while is_word_byte bs))
     else (if (b == 45) && begins is_ascii_digit bs then (number_token true (take_while is_word_byte bs), length (take_while is_word_byte bs))
-    else (if b == 34 then text_token bs (quoted_at Plain bs)
+    else (if b == 34 then text_token bs (quoted_at 34 Plain bs)
     else (mark_token b, 0)))
 
 abbrev pub is_blank : ℕ → Bool

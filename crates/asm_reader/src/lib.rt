@@ -12,7 +12,6 @@ mod laws;
 mod line;
 mod number;
 mod operand;
-mod quoted;
 mod reading;
 mod token;
 mod value;

@@ -3,14 +3,14 @@ ghost use Rattle.std.specs.Prelude.{◌≡◌, ◌<◌, ◌≤◌, ◌∷◌, �
 ghost use Rattle.std.specs.Char.{is_ascii_digit};
 ghost use Rattle.std.specs.List.{take_while};
 ghost use Rattle.asm_items.specs.Vocabulary.{is_word_byte};
-ghost use Rattle.asm_reader.specs.declared.quoted.Within.TheVariants.{Plain};
-ghost use Rattle.asm_reader.specs.Quoted.{quoted_at};
+ghost use Rattle.quoted_text.specs.declared.quoted.Within.TheVariants.{Plain};
+ghost use Rattle.quoted_text.specs.Quoted.{quoted_at};
 ghost use Rattle.asm_reader.specs.Tokens.{begins, is_blank, kind_token, mark_token, run_token, text_token, token_at, tokens_of};
 
 use crate::number::number_token;
-use crate::quoted::quoted_at;
 use asm_items::{DataWord, Operation, WordKind, is_word_byte, word_kind};
 use kit_base::{Memory, Name, Seq};
+use quoted_text::quoted_at;
 use std::alloc::Global;
 use v32_isa::{Port, Reg};
 
@@ -99,9 +99,9 @@ fn mark_token(b: u8) -> Token
 
 /// The text behind its first quote, and how many bytes it takes.
 fn text_token(alloc: Global, after: &[u8]) -> Result<(Token, usize), Memory>
-    ensures { IfOk result (λ x. x ≡ text_token after.now (quoted_at Plain after.now)) }
+    ensures { IfOk result (λ x. x ≡ text_token after.now (quoted_at 34 Plain after.now)) }
 {
-    match quoted_at(alloc, after)? {
+    match quoted_at(alloc, b'"', after)? {
         Some((text, rest)) => Ok((Token::Text(text), after.len().saturating_sub(rest.len()))),
         None => Ok((Token::Stray, after.len())),
     }

@@ -5,11 +5,11 @@ use Rattle.std.specs.Char.{is_ascii_hexdigit}
 use Rattle.std.proofs.lemmas.Bool.{eqb-true, eqb-false, eq-eqb, ne_eqb}
 use Rattle.std.proofs.lemmas.Bool.Decides.{nat_tests}
 use Rattle.kit_base.specs.Digits.{digit_value}
-use Rattle.c_lex.specs.declared.quoted.Within.{Within}
-use Rattle.c_lex.specs.declared.quoted.Within.TheVariants as w
-use Rattle.c_lex.specs.declared.quoted.Turn.{Turn}
-use Rattle.c_lex.specs.declared.quoted.Turn.TheVariants as t
-use Rattle.c_lex.specs.Quoted.{escaped, escape_turn, front, by_turn, turn_of, quoted_at}
+use Rattle.quoted_text.specs.declared.quoted.Within.{Within}
+use Rattle.quoted_text.specs.declared.quoted.Within.TheVariants as w
+use Rattle.quoted_text.specs.declared.quoted.Turn.{Turn}
+use Rattle.quoted_text.specs.declared.quoted.Turn.TheVariants as t
+use Rattle.quoted_text.specs.Quoted.{escaped, escape_turn, front, by_turn, turn_of, quoted_at}
 use Rattle.c_lex.specs.Grammar.{IsPiece, itself, escape, code, IsContent, nothing, piece}
 use Rattle.c_lex.proofs.Texts.{some_is, front_is}
 

@@ -1,4 +1,3 @@
-pub mod Quoting
 pub mod Closing
 pub mod Runs
 pub mod NumberRuns

@@ -12,7 +12,7 @@ use Rattle.c_lex.specs.declared.token.Kind.{Kind}
 use Rattle.c_lex.specs.declared.token.Kind.TheVariants as k
 use Rattle.c_lex.specs.Bytes.{is_word_byte}
 use Rattle.c_lex.specs.Marks.{marks, mark_of}
-use Rattle.c_lex.specs.Quoted.{escaped}
+use Rattle.quoted_text.specs.Quoted.{escaped}
 use Rattle.c_lex.specs.Grammar.{IsDecimal, IsHexadecimal, IsPiece, itself, escape, code, IsContent, nothing, piece, IsQuoted, IsSpelling}
 use Rattle.c_lex.proofs.Rows.{all_rows, of_rows}
 use Rattle.c_lex.proofs.Stands.{both}

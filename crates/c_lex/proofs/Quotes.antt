@@ -5,9 +5,9 @@ use Rattle.std.specs.Char.{is_ascii_digit}
 use Rattle.std.proofs.lemmas.Bool.{eqb-true}
 use Rattle.std.proofs.lemmas.List.{nil_from_length, length-append}
 use Rattle.c_lex.specs.declared.token.Kind.{Kind}
-use Rattle.c_lex.specs.declared.quoted.Within.TheVariants as w
+use Rattle.quoted_text.specs.declared.quoted.Within.TheVariants as w
 use Rattle.c_lex.specs.Bytes.{begins, is_letter, is_quote}
-use Rattle.c_lex.specs.Quoted.{Content, quoted_at}
+use Rattle.quoted_text.specs.Quoted.{Content, quoted_at}
 use Rattle.c_lex.specs.Spelling.{IsToken, spelling_of, content_kind, whole_content, quoted_of, ends_so}
 use Rattle.c_lex.specs.Found.{content_found, quoted_found}
 use Rattle.c_lex.proofs.Runs.{begins_append}

@@ -9,12 +9,12 @@ use Rattle.std.proofs.lemmas.List.{nil_from_length, length-append}
 use Rattle.c_lex.specs.declared.token.Punct.{Punct}
 use Rattle.c_lex.specs.declared.token.Kind.{Kind}
 use Rattle.c_lex.specs.declared.token.Kind.TheVariants as k
-use Rattle.c_lex.specs.declared.quoted.Within.TheVariants as w
+use Rattle.quoted_text.specs.declared.quoted.Within.TheVariants as w
 use Rattle.c_lex.specs.Bytes.{begins, is_letter, is_quote}
 use Rattle.kit_base.specs.Digits.{value_in}
 use Rattle.c_lex.specs.Numbers.{begins_hex, number_len, number_value}
 use Rattle.c_lex.specs.Marks.{marks, mark_of}
-use Rattle.c_lex.specs.Quoted.{quoted_at}
+use Rattle.quoted_text.specs.Quoted.{quoted_at}
 use Rattle.c_lex.specs.Spelling.{spelling_of, word_of, number_of, quoted_of, content_kind, char_of, whole_content}
 use Rattle.c_lex.specs.Grammar.{IsDecimal, IsHexadecimal, IsQuoted, IsSpelling}
 use Rattle.c_lex.proofs.Stands.{some_is, both}

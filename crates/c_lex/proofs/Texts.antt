@@ -1,11 +1,11 @@
 -- No text begins another.
 use Rattle.std.proofs.Common.{◌≡◌, ℕ, List, [], ◌∷◌, ◌++◌, refl, ap, ◌∙◌}
 use Rattle.std.specs.Prelude.{Some, None, IsSome}
-use Rattle.c_lex.specs.declared.quoted.Within.{Within}
-use Rattle.c_lex.specs.declared.quoted.Within.TheVariants as w
-use Rattle.c_lex.specs.declared.quoted.Turn.{Turn}
-use Rattle.c_lex.specs.declared.quoted.Turn.TheVariants as t
-use Rattle.c_lex.specs.Quoted.{Content, front, by_turn, turn_of, quoted_at}
+use Rattle.quoted_text.specs.declared.quoted.Within.{Within}
+use Rattle.quoted_text.specs.declared.quoted.Within.TheVariants as w
+use Rattle.quoted_text.specs.declared.quoted.Turn.{Turn}
+use Rattle.quoted_text.specs.declared.quoted.Turn.TheVariants as t
+use Rattle.quoted_text.specs.Quoted.{Content, front, by_turn, turn_of, quoted_at}
 
 -- the same, with more behind it
 abbrev pub more_behind : List ℕ → Content → Content

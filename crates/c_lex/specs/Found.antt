@@ -4,13 +4,13 @@ use Rattle.std.specs.Char.{is_ascii_digit}
 use Rattle.c_lex.specs.declared.token.Kind.{Kind}
 use Rattle.c_lex.specs.declared.token.Kind.TheVariants as k
 use Rattle.c_lex.specs.declared.token.Punct.{Punct}
-use Rattle.c_lex.specs.declared.quoted.Within.TheVariants as w
+use Rattle.quoted_text.specs.declared.quoted.Within.TheVariants as w
 use Rattle.c_lex.specs.declared.place.Place.{Place}
 use Rattle.c_lex.specs.Bytes.{begins, is_letter, is_word_byte, is_quote, is_point}
 use Rattle.c_lex.specs.Gaps.{gap_len}
 use Rattle.c_lex.specs.Numbers.{number_len, number_value}
 use Rattle.c_lex.specs.Marks.{mark_at}
-use Rattle.c_lex.specs.Quoted.{Content, quoted_at}
+use Rattle.quoted_text.specs.Quoted.{Content, quoted_at}
 use Rattle.c_lex.specs.Spelling.{content_kind, is_mark_before, reason_of}
 use Rattle.c_lex.specs.Reading.{Reading, found, stuck, with_front, past_gap, past_token, token_of, opening}
 

@@ -7,7 +7,7 @@ use Rattle.c_lex.specs.declared.token.Kind.TheVariants as k
 use Rattle.c_lex.specs.Bytes.{begins, is_letter, is_word_byte, is_blank}
 use Rattle.kit_base.specs.Digits.{digit_value, value_in}
 use Rattle.c_lex.specs.Marks.{mark_of}
-use Rattle.c_lex.specs.Quoted.{escaped}
+use Rattle.quoted_text.specs.Quoted.{escaped}
 
 -- a letter or `_`, then letters, digits and `_`
 pub record IsWord (text : List ℕ) : Type 0 where

@@ -6,11 +6,11 @@ use Rattle.c_lex.specs.declared.token.Kind.{Kind}
 use Rattle.c_lex.specs.declared.token.Kind.TheVariants as k
 use Rattle.c_lex.specs.declared.token.Punct.{Punct}
 use Rattle.c_lex.specs.declared.token.Punct.TheVariants as m
-use Rattle.c_lex.specs.declared.quoted.Within.TheVariants as w
+use Rattle.quoted_text.specs.declared.quoted.Within.TheVariants as w
 use Rattle.c_lex.specs.Bytes.{begins, is_letter, is_word_byte, is_quote, is_point, is_slash, opens_comment}
 use Rattle.c_lex.specs.Numbers.{number_len, number_value}
 use Rattle.c_lex.specs.Marks.{mark_of}
-use Rattle.c_lex.specs.Quoted.{Content, quoted_at}
+use Rattle.quoted_text.specs.Quoted.{Content, quoted_at}
 
 -- letters, digits and `_`
 unfoldable pub word_of : List ℕ → Option Kind

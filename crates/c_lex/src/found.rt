@@ -9,10 +9,10 @@ ghost use Rattle.c_lex.specs.Found.{mark_kept, quoted_found, token_at, word_foun
 
 use crate::mark::{mark_at, mark_of};
 use crate::number::{is_too_great, number_found};
-use crate::quoted::quoted_at;
 use crate::token::{Kind, Punct};
 use crate::word::{is_letter, word_len};
 use kit_base::{Memory, Name};
+use quoted_text::quoted_at;
 use std::alloc::Global;
 
 fn begins_letter(bytes: &[u8]) -> bool

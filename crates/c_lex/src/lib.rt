@@ -1,7 +1,7 @@
 //! The tokens of a C text.
 //!
 //! A text is a list of gaps and tokens, each token the longest spelling at its place; `lex` gives the
-//! tokens with their places, or why the first place without a token has none. It stands on kit_base.
+//! tokens with their places, or why the first place without a token has none. It stands on kit_base and quoted_text.
 #![tactic(auto)]
 
 mod error;
@@ -12,7 +12,6 @@ mod lexing;
 mod mark;
 mod number;
 mod place;
-mod quoted;
 mod token;
 mod word;
 

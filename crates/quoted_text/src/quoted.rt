@@ -1,7 +1,7 @@
 // Texts and characters.
 ghost use Rattle.std.specs.Prelude.{◌≡◌, IfOk, option_map};
-ghost use Rattle.c_lex.specs.declared.quoted.Within.TheVariants.{Plain};
-ghost use Rattle.c_lex.specs.Quoted.{escaped, escape_turn, turn_of, quoted_at};
+ghost use Rattle.quoted_text.specs.declared.quoted.Within.TheVariants.{Plain};
+ghost use Rattle.quoted_text.specs.Quoted.{escaped, escape_turn, turn_of, quoted_at};
 
 use kit_base::{Memory, Seq, digit_value};
 use std::alloc::Global;

@@ -2,11 +2,11 @@
 use Rattle.std.proofs.Common.{◌≡◌, ℕ, List, [], ◌∷◌, ◌++◌, length, refl, sym, ap, ◌∙◌, append_assoc, append-nil}
 use Rattle.std.proofs.lemmas.List.{nil_from_length}
 use Rattle.std.specs.Prelude.{Some, None}
-use Rattle.c_lex.specs.declared.quoted.Within.{Within}
-use Rattle.c_lex.specs.declared.quoted.Within.TheVariants as w
-use Rattle.c_lex.specs.declared.quoted.Turn.{Turn}
-use Rattle.c_lex.specs.declared.quoted.Turn.TheVariants as t
-use Rattle.c_lex.specs.Quoted.{Content, front, by_turn, turn_of, quoted_at}
+use Rattle.quoted_text.specs.declared.quoted.Within.{Within}
+use Rattle.quoted_text.specs.declared.quoted.Within.TheVariants as w
+use Rattle.quoted_text.specs.declared.quoted.Turn.{Turn}
+use Rattle.quoted_text.specs.declared.quoted.Turn.TheVariants as t
+use Rattle.quoted_text.specs.Quoted.{Content, front, by_turn, turn_of, quoted_at}
 
 abbrev pub with_front : List ℕ → Content → Content
 with_front out None = None

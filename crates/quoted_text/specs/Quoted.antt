@@ -2,10 +2,10 @@
 use Rattle.std.specs.Prelude.{ℕ, ◌+◌, ◌*◌, List, [], ◌∷◌, ◌==◌, ◌&&◌, nat_lt, if◌then◌else◌, Option, Some, None}
 use Rattle.std.specs.Char.{is_ascii_hexdigit}
 use Rattle.kit_base.specs.Digits.{digit_value}
-use Rattle.c_lex.specs.declared.quoted.Within.{Within}
-use Rattle.c_lex.specs.declared.quoted.Within.TheVariants as w
-use Rattle.c_lex.specs.declared.quoted.Turn.{Turn}
-use Rattle.c_lex.specs.declared.quoted.Turn.TheVariants as t
+use Rattle.quoted_text.specs.declared.quoted.Within.{Within}
+use Rattle.quoted_text.specs.declared.quoted.Within.TheVariants as w
+use Rattle.quoted_text.specs.declared.quoted.Turn.{Turn}
+use Rattle.quoted_text.specs.declared.quoted.Turn.TheVariants as t
 
 -- what stands behind a backslash: n, t, r, 0, a backslash or either quote
 unfoldable pub escaped : ℕ → Option ℕ

@@ -1,8 +1,8 @@
 use Rattle.std.proofs.Common.{◌≡◌, length}
-use Rattle.c_lex.specs.declared.quoted.Within.TheVariants.{Plain}
-use Rattle.c_lex.specs.Quoted.{quoted_at}
-use Rattle.c_lex.proofs.Quoting.{with_front}
-use Rattle.c_lex.proofs.quoted.quoted_at.Given as goal
+use Rattle.quoted_text.specs.declared.quoted.Within.TheVariants.{Plain}
+use Rattle.quoted_text.specs.Quoted.{quoted_at}
+use Rattle.quoted_text.proofs.Quoting.{with_front}
+use Rattle.quoted_text.proofs.quoted.quoted_at.Given as goal
 
 abbrev pub invariant-each : goal.invariant-each
 invariant-each l = with_front l.out.items (quoted_at l.quote l.within l.rest) ≡ quoted_at l.quote Plain l.bytes

@@ -1,9 +1,0 @@
-use Rattle.std.proofs.Common.{sym, ◌∙◌}
-use Rattle.asm_reader.proofs.Quoting.{ends, fails}
-use Rattle.asm_reader.proofs.quoted.quoted_at.Goals as goal
-
-pub returns-in-Ends : goal.returns-in-Ends
-returns-in-Ends c = rw c.from_vec.ensures (ends c.each.out.items c.each.within c.each.rest.now c.in-Some.b.now c.in-Some.after.now _ c.in-Some.ensures.cases.0 (sym c.in-Ends.is ∙ c.turn_of.ensures) c.each.invariant)
-
-pub returns-in-Fails : goal.returns-in-Fails
-returns-in-Fails c = fails c.each.out.items c.each.within c.each.rest.now c.in-Some.b.now c.in-Some.after.now _ c.in-Some.ensures.cases.0 (sym c.in-Fails.is ∙ c.turn_of.ensures) c.each.invariant

@@ -1,5 +1,5 @@
 -- Texts between quotes are read as those of C are, so their grammar is the same.
-use Rattle.std.proofs.Common.{◌≡◌, ℕ, List, ◌∷◌, ◌++◌, refl, ap, ◌∙◌}
+use Rattle.std.proofs.Common.{◌≡◌, ℕ, List, refl, ap, ◌∙◌}
 use Rattle.std.specs.Prelude.{◌↔◌, Some}
 use Rattle.quoted_text.specs.declared.quoted.Within.TheVariants.{Plain}
 use Rattle.quoted_text.specs.Quoted.{quoted_at}

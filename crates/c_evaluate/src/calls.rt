@@ -23,8 +23,8 @@ use crate::setting::Setting;
 use crate::stack::{next, push};
 use crate::stop::Stop;
 use crate::store::{
-    Store, back, end_temporary, enter as enter_function, fresh_all, local_cell, passed, released,
-    temporary,
+    Store, back, end_temporary, enter as enter_function, fresh_all, keep_arguments, local_cell,
+    passed, released, temporary,
 };
 use crate::types::is_structure;
 use crate::using::taken;
@@ -174,6 +174,7 @@ fn called<'a>(
         None => call(s, n, f, values, span, stack, store),
         Some(z) => {
             passed(s, store, &values)?;
+            keep_arguments(store, values);
             Ok(Focus::Came(Came::Value(Cell::Num(z))))
         }
     }

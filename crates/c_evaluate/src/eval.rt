@@ -17,7 +17,7 @@ use crate::operands::first;
 use crate::setting::Setting;
 use crate::stack::{next, push};
 use crate::stop::Stop;
-use crate::store::{Store, local_cell};
+use crate::store::{Store, local_cell, no_arguments};
 use c_meaning::End;
 use c_types::{TExpr, TKind};
 use kit_base::Event;
@@ -86,16 +86,10 @@ pub(crate) fn eval<'a>(
         TKind::Member(x, _) => operand(s, n, e, x, stack, store),
         TKind::Arrow(x, _) => operand(s, n, e, x, stack, store),
         TKind::Cast(x) => operand(s, n, e, x, stack, store),
-        TKind::Call(f, xs) => arguments(
-            s,
-            n,
-            *f,
-            e.span,
-            Vec::new(s.alloc),
-            xs.as_slice(),
-            stack,
-            store,
-        ),
+        TKind::Call(f, xs) => {
+            let values = no_arguments(s, store);
+            arguments(s, n, *f, e.span, values, xs.as_slice(), stack, store)
+        }
         TKind::In(port) => input(*port, store),
         TKind::Out(_, x) => operand(s, n, e, x, stack, store),
         TKind::Wait => Ok(Focus::Made(Event::Wait, Came::Nothing)),

@@ -128,6 +128,7 @@ fn opening<'a>(
         function: None,
         locals: Vec::new(alloc),
         used: 0,
+        spare: Vec::new(alloc),
     })
 }
 

@@ -22,7 +22,8 @@ use kit_base::Memory;
 use obj_mem::{Cell, ObjectKind, Objects, Refusal};
 use std::alloc::Global;
 
-/// The objects, the answers left, the function that is called, the objects of its locals, and the words of the frames in use.
+/// The objects, the answers left, the function that is called, the objects of its locals, and the words of the frames in use; and a vector that
+/// the next call can put its arguments into.
 #[derive(Drop)]
 pub(crate) struct Store<'a> {
     pub(crate) objects: Objects,
@@ -30,6 +31,7 @@ pub(crate) struct Store<'a> {
     pub(crate) function: Option<u32>,
     pub(crate) locals: Vec<Option<u64>>,
     pub(crate) used: u32,
+    pub(crate) spare: Vec<Cell>,
 }
 
 /// The object of a local, where it was made.
@@ -174,6 +176,25 @@ pub(crate) fn passed<'a>(
         left = later;
     }
     Ok(())
+}
+
+/// A vector without arguments, which is the one that was kept.
+#[inline(always)]
+pub(crate) fn no_arguments<'a>(s: &Setting<'a>, store: &mut Store<'a>) -> Vec<Cell>
+    ensures none { result.items ≡ [] }
+    ensures same { store_of store.new ≡ store_of store.old }
+{
+    let mut values = std::mem::replace(&mut store.spare, Vec::new(s.alloc));
+    values.clear();
+    values
+}
+
+/// Keeps the vector of a call that is done.
+#[inline(always)]
+pub(crate) fn keep_arguments<'a>(store: &mut Store<'a>, values: Vec<Cell>)
+    ensures same { store_of store.new ≡ store_of store.old }
+{
+    store.spare = values;
 }
 
 /// Into a function whose locals are not made yet. What is kept of the caller is answered.

@@ -3,8 +3,10 @@ use Rattle.std.proofs.Common.{◌≡◌, ℕ, zero, suc, ◌+◌, ◌-◌, ◌^�
 use Rattle.std.specs.Prelude.{◌==◌, cond}
 use Rattle.kit_base.specs.Word.{add}
 use Rattle.either.specs.declared.Either.TheVariants.{Left}
+use Rattle.v32_isa.specs.declared.instruction.Plain.TheVariants.{RET}
 use Rattle.v32_isa.specs.declared.instruction.One.{One}
-use Rattle.v32_isa.specs.declared.instruction.One.TheVariants.{CIB, NOT, BNOT, ISGN, IABS}
+use Rattle.v32_isa.specs.declared.instruction.One.TheVariants.{PUSH, POP, CIB, NOT, BNOT, ISGN, IABS}
+use Rattle.v32_isa.specs.declared.instruction.Mov.TheVariants.{RegReg}
 use Rattle.v32_isa.specs.declared.instruction.Two.{Two}
 use Rattle.v32_isa.specs.declared.instruction.Two.TheVariants.{IADD, ISUB}
 use Rattle.v32_isa.specs.declared.instruction.Src.TheVariants as src
@@ -19,7 +21,7 @@ use Rattle.mid_code.specs.Calls.{loops, CallsTo}
 use Rattle.asm_laws.specs.Names.{jump_label, function_label}
 use Rattle.asm_laws.specs.Labelled.{HasLabel}
 use Rattle.asm_laws.specs.Operations.{Frame, Whole, register, keep, fetches, keeps, keeps_some, is_in, hand, brings, takes, aim, lays, moves, changes, is_direct, in_place, apart, turned, is_turned, turned_or_apart, computes, slot_arg, slot_args, pushed_arg, pushed_args, popped_arg, popped_args, args_items, call_items, op_items, in_one, one_or_more, more_of, giving}
-use Rattle.asm_laws.specs.Framing.{room_made}
+use Rattle.asm_laws.specs.Framing.{frame_made, frame_gone}
 use Rattle.asm_laws.specs.Emitted.{labels, enclosing, jump, jump_unless, mark, first_part, second_part, choice, one_way, is_stop, enclosed, returning, items_past, code_items, call_item, own_items, exit_items}
 use Rattle.asm_emit.specs.EmittedFrom.{IsCalled, GoesOn, AllGoOn}
 use Rattle.asm_laws.proofs.Enclosing.{innermost, further}
@@ -268,11 +270,21 @@ module _ (names : List (List ℕ)) (body : NodesT Where) where
           ((g : ℕ) → CallsTo g c → CallsTo g body) → Ends ls later → HasLabel later (jump_label out) → Ahead (code_items W F out ls n c) later
       code_ahead c bs ls n later ok same nl none few calls ends over = past_ahead c 0 bs ls n later ok same nl none few calls ends over
 
+  made_ahead : (size : ℕ) (later : List AsmItem) → Ahead (frame_made size) later
+  made_ahead size later = one_of_both (size == 0) [] (item.Op (instr.One PUSH 14) ∷ item.Op (instr.Mov (RegReg 14 15)) ∷ item.Op (instr.Two ISUB 15 (src.Imm (Left size))) ∷ []) later tt (tt, (tt, (tt, tt)))
+
+  gone_on : (size : ℕ) → AllGoOn names body (frame_gone size)
+  gone_on size = go (size == 0)
+    where
+      go : (b : Bool) → AllGoOn names body (cond b (item.Op (instr.Plain RET) ∷ []) (item.Op (instr.Mov (RegReg 15 14)) ∷ item.Op (instr.One POP 14) ∷ item.Op (instr.Plain RET) ∷ []))
+      go true = (tt, tt)
+      go false = (tt, (tt, (tt, tt)))
+
   -- the items of a function without a loop
   pub own_go_on : (x : CodeT Where) (W : Whole) → ((g : ℕ) → g < length x.functions → CallsTo g body → IsCalled names body (function_label W.names g)) → (m f n : ℕ) → AreNodes x m [] body → loops body ≡ 0 → n + 1 + labels body < 2 ^ 32 - 1 → AllGoOn names body (own_items W f n body)
   own_go_on x W named m f n ok none few =
       let F = W.frames f in
       let items = code_items W F n [] (n + 1) body in
-      let ahead = code_ahead x W named m F n body [] [] (n + 1) (exit_items n) ok refl (λ k h. absurd h) none few (λ g h. h) (λ k lt. absurd (omega (arith, lt))) (inl refl) in
-      let rest = ahead_all items (exit_items n) ahead (tt, (tt, (tt, (tt, tt)))) in
-      (tt, (tt, ahead_all (room_made F.size) (items ++ exit_items n) (one_of_both (F.size == 0) [] (item.Op (instr.Two ISUB 15 (src.Imm (Left F.size))) ∷ []) (items ++ exit_items n) tt (tt, tt)) rest))
+      let ahead = code_ahead x W named m F n body [] [] (n + 1) (exit_items n F) ok refl (λ k h. absurd h) none few (λ g h. h) (λ k lt. absurd (omega (arith, lt))) (inl refl) in
+      let rest = ahead_all items (exit_items n F) ahead (tt, gone_on F.size) in
+      ahead_all (frame_made F.size) (items ++ exit_items n F) (made_ahead F.size (items ++ exit_items n F)) rest

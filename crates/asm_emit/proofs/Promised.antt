@@ -1,6 +1,6 @@
 -- What is promised of the items of placed code.
 use Rattle.std.proofs.Common.{◌≡◌, ℕ, zero, suc, ◌+◌, ◌-◌, ◌^◌, ◌<◌, List, [], ◌∷◌, ◌++◌, length, map, Some, refl, sym, ap, ◌∙◌, subst, arith, append_assoc}
-use Rattle.std.specs.Prelude.{get_or, slice_get, sum}
+use Rattle.std.specs.Prelude.{◌==◌, cond, Bool, true, false, get_or, slice_get, sum}
 use Rattle.std.proofs.lemmas.List.Sums.{sum_by-cons}
 use Rattle.std.proofs.lemmas.Option.{get_or_from_slice_get, slice_get-get_or}
 use Rattle.v32_isa.specs.declared.instruction.Plain.TheVariants.{RET}
@@ -20,12 +20,12 @@ use Rattle.mid_code.specs.Calls.{CallsTo}
 use Rattle.asm_laws.specs.Names.{function_label}
 use Rattle.asm_laws.specs.Labelled.{label_of_function}
 use Rattle.asm_laws.specs.Operations.{Whole, literal_items, literals_items}
-use Rattle.asm_laws.specs.Framing.{frame_made}
-use Rattle.asm_laws.specs.Emitted.{labels, functions_labels, mark, code_items, own_items, function_items, functions_items, start_items, program_items}
+use Rattle.asm_laws.specs.Framing.{frame_made, frame_gone}
+use Rattle.asm_laws.specs.Emitted.{labels, functions_labels, mark, code_items, exit_items, own_items, function_items, functions_items, start_items, program_items}
 use Rattle.asm_laws.specs.Tables.{addresses, whole_of}
 use Rattle.asm_reader.specs.Readable.{AreReadable}
 use Rattle.asm_emit.specs.Words.{AreWords, TextsAreWords}
-use Rattle.asm_emit.specs.EmittedFrom.{CanBeEmitted, AreData, IsCalled, AreItemsOf, AreFunctions, IsEmitted}
+use Rattle.asm_emit.specs.EmittedFrom.{CanBeEmitted, HasInstruction, AreData, IsCalled, AreItemsOf, AreFunctions, IsEmitted}
 use Rattle.asm_laws.proofs.Sizes.{program_size}
 use Rattle.asm_laws.proofs.Known.{no_fault}
 use Rattle.asm_emit.proofs.Forward.{own_go_on}
@@ -52,19 +52,36 @@ literals_data k (text ∷ texts) =
 
 -- ---- functions
 
+some_later : (xs ys : List AsmItem) → HasInstruction ys → HasInstruction (xs ++ ys)
+some_later [] ys h = h
+some_later (item.Label l ∷ xs) ys h = some_later xs ys h
+some_later (item.Op i ∷ xs) ys h = tt
+some_later (item.Integer w ∷ xs) ys h = some_later xs ys h
+some_later (item.Pointer l ∷ xs) ys h = some_later xs ys h
+
+-- what takes a frame away ends with the return
+gone_ends : (size : ℕ) → (before : List AsmItem) × (frame_gone size ≡ before ++ item.Op (instr.Plain RET) ∷ [])
+gone_ends size = go (size == 0)
+  where
+    go : (b : Bool) → (before : List AsmItem) × (cond b (item.Op (instr.Plain RET) ∷ []) (item.Op (instr.Mov (RegReg 15 14)) ∷ item.Op (instr.One POP 14) ∷ item.Op (instr.Plain RET) ∷ []) ≡ before ++ item.Op (instr.Plain RET) ∷ [])
+    go true = ([], refl)
+    go false = (item.Op (instr.Mov (RegReg 15 14)) ∷ item.Op (instr.One POP 14) ∷ [], refl)
+
 module _ (x : CodeT Where) (W : Whole) (count : length W.names ≡ length x.functions) where
   called : (body : NodesT Where) (g : ℕ) → g < length x.functions → CallsTo g body → IsCalled W.names body (function_label W.names g)
   called body g lt calls = (g, get_or W.names g [], slice_get-get_or W.names g [] (omega (arith, lt, count)), refl, calls)
 
   are_items : (f n : ℕ) (g : FunctionT Where) → AreNodes x (length g.locals) [] g.body → n + 1 + labels g.body < 2 ^ 32 - 1 → AreItemsOf W.names g (own_items W f n g.body)
   are_items f n g ok few =
-      let items = code_items W (W.frames f) n [] (n + 1) g.body in
-      let away = mark n ∷ item.Op (instr.Mov (RegReg 15 14)) ∷ item.Op (instr.One POP 14) ∷ [] in
+      let F = W.frames f in
+      let items = code_items W F n [] (n + 1) g.body in
+      let gone = gone_ends F.size in
+      let away = mark n ∷ gone.0 in
       record {
-        some = tt;
+        some = some_later (frame_made F.size) (items ++ exit_items n F) (some_later items (exit_items n F) (subst HasInstruction (sym gone.1) (some_later gone.0 (item.Op (instr.Plain RET) ∷ []) tt)));
         ends = (
-          frame_made (W.frames f).size ++ (items ++ away),
-          ap (λ z. frame_made (W.frames f).size ++ z) (sym (append_assoc items away (item.Op (instr.Plain RET) ∷ []))) ∙ sym (append_assoc (frame_made (W.frames f).size) (items ++ away) (item.Op (instr.Plain RET) ∷ [])),
+          frame_made F.size ++ (items ++ away),
+          ap (λ z. frame_made F.size ++ (items ++ mark n ∷ z)) gone.1 ∙ ap (λ z. frame_made F.size ++ z) (sym (append_assoc items away (item.Op (instr.Plain RET) ∷ []))) ∙ sym (append_assoc (frame_made F.size) (items ++ away) (item.Op (instr.Plain RET) ∷ [])),
         );
         straight = λ none. own_go_on W.names g.body x W (called g.body) (length g.locals) f n ok none few;
       }

@@ -5,7 +5,10 @@ use Rattle.std.specs.List.{list_all}
 use Rattle.std.proofs.lemmas.List.Elements.{All-nil, All-cons}
 use Rattle.kit_base.specs.Word.{add, sub}
 use Rattle.either.specs.declared.Either.TheVariants.{Left}
+use Rattle.v32_isa.specs.declared.instruction.Plain.TheVariants.{RET}
 use Rattle.v32_isa.specs.declared.instruction.One.{One}
+use Rattle.v32_isa.specs.declared.instruction.One.TheVariants.{PUSH, POP}
+use Rattle.v32_isa.specs.declared.instruction.Mov.TheVariants.{RegReg}
 use Rattle.v32_isa.specs.declared.instruction.Two.{Two}
 use Rattle.v32_isa.specs.declared.instruction.Two.TheVariants.{IADD, ISUB}
 use Rattle.v32_isa.specs.declared.instruction.Src.TheVariants as src
@@ -20,7 +23,7 @@ use Rattle.mid_code.specs.declared.placed.Where.TheVariants.{Reg, Slot}
 use Rattle.mid_code.specs.Code.{OpT, ConstO, NullO, MoveO, OneO, TwoO, GlobalO, LocalO, LiteralO, CardO, StepO, ApartO, PtrTestO, LoadO, StoreO, FreshO, EndO, InO, OutO, WaitO, HaltO, NodesT, Stop, Do, Call, Choose, Block, Loop, Leave, Again, Return, FunctionT, CodeT}
 use Rattle.mid_code.specs.Invariants.{AllOf, IsOp, AreNodes}
 use Rattle.asm_laws.specs.Operations.{Frame, Whole, register, keep, fetches, keeps, keeps_some, is_in, hand, brings, takes, aim, lays, moves, changes, is_direct, in_place, apart, turned, is_turned, turned_or_apart, computes, slot_arg, slot_args, pushed_arg, pushed_args, popped_arg, popped_args, args_items, call_items, op_items, in_one, one_or_more, more_of, giving, start_frame, opening_items, literal_items, literals_items}
-use Rattle.asm_laws.specs.Framing.{room_made}
+use Rattle.asm_laws.specs.Framing.{frame_made, frame_gone}
 use Rattle.asm_laws.specs.Emitted.{labels, enclosing, jump, jump_unless, mark, first_part, second_part, choice, one_way, is_stop, enclosed, returning, items_past, code_items, exit_items, function_items, functions_items, closing_items, start_items, program_items}
 use Rattle.asm_laws.proofs.InOne.{one_or_more_is}
 use Rattle.asm_emit.specs.Words.{AreWords, TextsAreWords}
@@ -165,8 +168,15 @@ giving_fine : (F : Frame) (p : Option Where) → AllFine (giving F p)
 giving_fine F None = tt
 giving_fine F (Some p) = (fetch_fine F p 9 (omega arith), tt)
 
-room_fine : (size : ℕ) → size < 2 ^ 32 → AllFine (room_made size)
-room_fine size lt = either (size == 0) [] (item.Op (instr.Two ISUB 15 (src.Imm (Left size))) ∷ []) tt ((omega arith, (lt, tt)), tt)
+made_fine : (size : ℕ) → size < 2 ^ 32 → AllFine (frame_made size)
+made_fine size lt =
+    either (size == 0) [] (item.Op (instr.One PUSH 14) ∷ item.Op (instr.Mov (RegReg 14 15)) ∷ item.Op (instr.Two ISUB 15 (src.Imm (Left size))) ∷ []) tt
+    ((omega arith, tt), ((omega arith, (omega arith, tt)), ((omega arith, (lt, tt)), tt)))
+
+gone_fine : (size : ℕ) → AllFine (frame_gone size)
+gone_fine size =
+    either (size == 0) (item.Op (instr.Plain RET) ∷ []) (item.Op (instr.Mov (RegReg 15 14)) ∷ item.Op (instr.One POP 14) ∷ item.Op (instr.Plain RET) ∷ []) (tt, tt)
+    ((omega arith, (omega arith, tt)), ((omega arith, tt), (tt, tt)))
 
 -- ---- nodes and functions, where names are words, and addresses and sizes of frames are below 2^32
 
@@ -236,16 +246,10 @@ module _ (x : CodeT Where) (W : Whole) (words : list_all is_word W.names ≡ tru
 
   function_fine : (f n : ℕ) (g : FunctionT Where) → (W.frames f).size < 2 ^ 32 → AreNodes x (length g.locals) [] g.body → AllFine (function_items W f n g.body)
   function_fine f n g small ok =
-      let items = code_items W (W.frames f) n [] (n + 1) g.body in (
+      let F = W.frames f in
+      let items = code_items W F n [] (n + 1) g.body in (
         function_named W.names f words,
-        (
-          (omega arith, tt),
-          (
-            (omega arith, (omega arith, tt)),
-            join (room_made (W.frames f).size) (items ++ exit_items n) (room_fine (W.frames f).size small)
-                (join items (exit_items n) (code_fine (length g.locals) (W.frames f) n g.body [] [] (n + 1) ok) (jump_named n, ((omega arith, (omega arith, tt)), ((omega arith, tt), (tt, tt))))),
-          ),
-        ),
+        join (frame_made F.size) (items ++ exit_items n F) (made_fine F.size small) (join items (exit_items n F) (code_fine (length g.locals) F n g.body [] [] (n + 1) ok) (jump_named n, gone_fine F.size)),
       )
 
   functions_fine : (f n : ℕ) (gs : List (FunctionT Where)) → ((k : ℕ) → (W.frames k).size < 2 ^ 32) → AllOf (λ g. AreNodes x (length g.locals) [] g.body) gs → AllFine (functions_items W f n gs)

@@ -5,7 +5,7 @@ ghost use Rattle.mid_code.specs.Functions.{nodes, function};
 ghost use Rattle.mid_code.specs.View.{code, spots};
 ghost use Rattle.mid_code.specs.Whole.{placed};
 ghost use Rattle.asm_laws.specs.Operations.{literal_items, literals_items};
-ghost use Rattle.asm_laws.specs.Framing.{room_made};
+ghost use Rattle.asm_laws.specs.Framing.{frame_made, frame_gone};
 ghost use Rattle.asm_laws.specs.Emitted.{labels, labels_of, functions_labels, entry_items, exit_items, function_items, functions_items, start_items, closing_items, program_items};
 ghost use Rattle.asm_emit.specs.EmittedFrom.{CanBeEmitted, IsEmitted};
 ghost use Rattle.asm_emit.specs.View.{frame, whole, whole_of_parts, wrapped_addresses};
@@ -23,17 +23,32 @@ use mid_code::{Code, Function, Node, Placed, Spots, Where};
 use std::alloc::Global;
 use v32_isa::{Go, Instr, Mov, One, Plain, Reg, Src, Two};
 
-/// Adds what makes room for the words of a frame, where it has any.
-fn put_room(out: &mut Vec<AsmItem>, size: u32) -> Result<(), Memory>
-    ensures { OnOk result (out.new.items ≡ out.old.items ++ room_made size) }
+/// Adds what makes a frame of so many words, where it has any.
+fn put_frame_made(out: &mut Vec<AsmItem>, size: u32) -> Result<(), Memory>
+    ensures { OnOk result (out.new.items ≡ out.old.items ++ frame_made size) }
 {
     if size == 0 {
         Ok(())
     } else {
+        op(out, Instr::One(One::PUSH, Reg::at(14)))?;
+        op(out, Instr::Mov(Mov::RegReg(Reg::at(14), Reg::at(15))))?;
         op(
             out,
             Instr::Two(Two::ISUB, Reg::at(15), Src::Imm(Either::Left(size))),
         )
+    }
+}
+
+/// Adds what takes away a frame of so many words, where it has any, and goes back.
+fn put_frame_gone(out: &mut Vec<AsmItem>, size: u32) -> Result<(), Memory>
+    ensures { OnOk result (out.new.items ≡ out.old.items ++ frame_gone size) }
+{
+    if size == 0 {
+        op(out, Instr::Plain(Plain::RET))
+    } else {
+        op(out, Instr::Mov(Mov::RegReg(Reg::at(15), Reg::at(14))))?;
+        op(out, Instr::One(One::POP, Reg::at(14)))?;
+        op(out, Instr::Plain(Plain::RET))
     }
 }
 
@@ -49,19 +64,15 @@ fn put_entry(
 {
     let label = function_label(alloc, w.names, f)?;
     out.push(AsmItem::Label(label))?;
-    op(out, Instr::One(One::PUSH, Reg::at(14)))?;
-    op(out, Instr::Mov(Mov::RegReg(Reg::at(14), Reg::at(15))))?;
-    put_room(out, s.size)
+    put_frame_made(out, s.size)
 }
 
 /// Adds the end of a function, which has a label.
-fn put_exit(alloc: Global, out: &mut Vec<AsmItem>, n: u32) -> Result<(), Memory>
-    ensures { OnOk result (out.new.items ≡ out.old.items ++ exit_items n) }
+fn put_exit(alloc: Global, out: &mut Vec<AsmItem>, n: u32, s: &Scope<'_>) -> Result<(), Memory>
+    ensures { OnOk result (out.new.items ≡ out.old.items ++ exit_items n (frame s.now)) }
 {
     put_mark(alloc, out, n)?;
-    op(out, Instr::Mov(Mov::RegReg(Reg::at(15), Reg::at(14))))?;
-    op(out, Instr::One(One::POP, Reg::at(14)))?;
-    op(out, Instr::Plain(Plain::RET))
+    put_frame_gone(out, s.size)
 }
 
 /// Adds a function whose labels begin at n; the number of the next label.
@@ -80,7 +91,7 @@ fn put_function(
     let s = scope_at(w, f);
     put_entry(alloc, out, w, f, &s)?;
     let next = put_body(alloc, out, w, &s, n, n + 1, body)?;
-    put_exit(alloc, out, n)?;
+    put_exit(alloc, out, n, &s)?;
     Ok(next)
 }
 

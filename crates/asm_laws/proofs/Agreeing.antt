@@ -203,6 +203,8 @@ module _ (S : Setting) (card : Option (List ℕ)) (boot rest : ℕ) (l : Linked 
             called_as = h.at.stack.called_as ∙ sym l.rest_as;
             locals_are = none0 ∙ sym none1;
             base_is = h.at.stack.base_is;
+            framed = λ le. absurd (omega (arith, le, l.rest_size));
+            pointer_high = h.at.stack.pointer_high;
             top_is = let q = h.at.stack.top_is in omega (arith, q, l.boot_depth, l.rest_depth);
             low = let q = h.at.stack.low in omega (arith, q, l.rest_size);
             high = h.at.stack.high;

@@ -1,7 +1,7 @@
 -- Calls of placed code are followed.
 use Rattle.std.proofs.Common.{◌≡◌, ◌≢◌, ℕ, zero, suc, ◌+◌, ◌-◌, ◌*◌, ◌<◌, ◌≤◌, Bool, true, false, List, [], ◌∷◌, length, Option, Some, None, refl, sym, ap, ◌∙◌, subst, arith, append-nil}
-use Rattle.std.specs.Prelude.{map, leb}
-use Rattle.std.proofs.lemmas.Bool.{leb-true}
+use Rattle.std.specs.Prelude.{map, leb, cond, ◌==◌}
+use Rattle.std.proofs.lemmas.Bool.{leb-true, eqb-true}
 use Rattle.v32_isa.specs.declared.instruction.Plain.TheVariants.{RET}
 use Rattle.v32_isa.specs.declared.instruction.Go.TheVariants.{CALL}
 use Rattle.v32_isa.specs.declared.instruction.One.TheVariants.{POP}
@@ -29,15 +29,15 @@ use Rattle.asm_laws.specs.Following.{begin, spare, Came, Enters, CallSim}
 use Rattle.asm_laws.specs.Standing.{Stand}
 use Rattle.asm_laws.specs.Addresses.{Addr, Console, store, put, Good, Held, Arrives}
 use Rattle.asm_laws.specs.Framing.{frame_gone}
-use Rattle.asm_laws.specs.Links.{all_passed, all_pushed, all_popped, new_slot, called, gone_back}
+use Rattle.asm_laws.specs.Links.{all_passed, all_pushed, all_popped, new_slot, called, way_back, gone_back}
 use Rattle.asm_laws.proofs.Stepping.{line_effect, reg_other, moved, keeps_so, written_same, written_other}
-use Rattle.asm_laws.proofs.LinksStep.{Roomy, calls, part, top_held, base_held, copy_act, popbase_act, ret_act, passed_same}
+use Rattle.asm_laws.proofs.LinksStep.{link_bare, link_framed, framed_link, link_range, Roomy, calls, part, top_held, base_held, copy_act, popbase_act, ret_act, passed_same}
 use Rattle.asm_laws.proofs.LinksStep as emitted_calls
 use Rattle.asm_laws.specs.Holds.{Setting, sizes, Named, Fits, Ctx, slot_place, Stands, Temps, HoldsAt}
 use Rattle.asm_laws.specs.Calling.{Callable, Mach, Given, lang, holder, CallAt, shapes, FunctionAt}
 use Rattle.asm_laws.proofs.Lists.{length_end_from}
 use Rattle.asm_laws.proofs.First.{stands_more, room, set_target}
-use Rattle.asm_laws.proofs.Frames.{top_of, inner, room_of, low_write, enter_holds, link_stays, back_holds}
+use Rattle.asm_laws.proofs.Frames.{top_of, below, pointer_in, inner, room_of, low_write, enter_holds, link_stays, back_holds}
 use Rattle.asm_laws.proofs.Args.{pushed_under, pushed_top, pushed_base, popped_memory, popped_base, popped_tops, all_passed_holds, slots_passed, all_pushed_holds, regs_popped}
 
 -- steps that change something are some
@@ -45,41 +45,61 @@ reaches_same : (s t : machine.State) (xs : List ℕ) → Reaches 0 s xs [] t xs 
 unfolding run
 reaches_same s t xs r = ap (λ x. x.state) (r 0)
 
-some_steps : (steps : ℕ) (s t : machine.State) (xs : List ℕ) → Reaches steps s xs [] t xs → register_of s 14 ≢ register_of t 14 → 1 ≤ steps
-some_steps zero s t xs r n = absurd (n (ap (λ x. register_of x 14) (reaches_same s t xs r)))
+some_steps : (steps : ℕ) (s t : machine.State) (xs : List ℕ) → Reaches steps s xs [] t xs → register_of s 15 ≢ register_of t 15 → 1 ≤ steps
+some_steps zero s t xs r n = absurd (n (ap (λ x. register_of x 15) (reaches_same s t xs r)))
 some_steps (suc k) s t xs r n = omega arith
 
--- from a function's end to the address that its call left, with register 9 as it was
-record Returned (C : Console) (a : Addr) (s : machine.State) (xs : List ℕ) : Type 0 where
+-- From a function's end to the address that its call left, with register 9 as it was. Where its frame has words, BP is popped before.
+record Returned (C : Console) (bare : Bool) (a : Addr) (s : machine.State) (xs : List ℕ) : Type 0 where
   to : machine.State
-  by : Reaches 3 s xs [] to xs
-  at : to.counter ≡ a.memory (a.base + 1)
-  held : Held C (gone_back a) to
+  steps : ℕ
+  few : steps ≤ 3
+  by : Reaches steps s xs [] to xs
+  at : to.counter ≡ a.memory (cond bare a.top (a.base + 1))
+  held : Held C (record a { base = cond bare a.base (a.memory a.base); top = cond bare a.top (a.base + 1) + 1 }) to
   nine : register_of to 9 ≡ register_of s 9
 
-returns : (C : Console) (address : List ℕ → ℕ) (F : Frame) (a : Addr) (s : machine.State) (xs : List ℕ) (pc e : ℕ) → a.base + 1 < 0x400000 → Held C a s → s.counter ≡ pc → Stand C.words address pc frame_gone e → Returned C a s xs
-returns C address F a s xs pc e hi h c k =
-    let a1 = record a { top = a.base } in
-    let a2 = record a { top = a.base + 1; base = a.memory a.base } in
-    let u1 = going_to k.0 (with_register 15 a.base s) in
-    let h1 : Held C a1 u1 = moved C a1 (with_register 15 a.base s) k.0 (top_held C a s a.base h) in
-    let e1 = line_effect C a s pc (instr.Mov (RegReg 15 14)) k.0 h c k.1 (omega arith, omega arith, omega arith) ∙ copy_act C address F F s 15 14 k.0 ∙ ap (λ x. EndsIn stepped.Went (going_to k.0 (with_register 15 x s))) h.base in
-    let u2 = going_to k.2.0 (with_register 14 (a.memory a.base) (with_register 15 (a.base + 1) u1)) in
-    let h2 : Held C a2 u2 = moved C a2 (with_register 14 (a.memory a.base) (with_register 15 (a.base + 1) u1)) k.2.0 (base_held C (record a1 { top = a.base + 1 }) (with_register 15 (a.base + 1) u1) (a.memory a.base) (top_held C a1 u1 (a.base + 1) h1)) in
-    let e2 = line_effect C a1 u1 k.0 (instr.One POP 14) k.2.0 h1 refl k.2.1 (omega arith, omega arith, omega arith) ∙ popbase_act C address F F a1 u1 k.2.0 (omega (arith, hi)) h1 in
-    let d : a.base + 1 + 1 ≡ a.base + 2 = omega arith in
-    let u3 = going_to (a.memory (a.base + 1)) (with_register 15 (a.base + 2) u2) in
-    let e3 = line_effect C a2 u2 k.2.0 (instr.Plain RET) k.2.2.0 h2 refl k.2.2.1 (omega arith, omega arith, omega arith) ∙ ret_act C address F F a2 u2 k.2.2.0 (omega (arith, hi)) h2 ∙ ap (λ x. EndsIn stepped.Went (going_to (a.memory (a.base + 1)) (with_register 15 x u2))) d in
-    record {
-      to = u3;
-      by = reaches_on 1 2 s u1 u3 xs xs xs [] [] (reaches_went s u1 xs e1) (reaches_on 1 1 u1 u2 u3 xs xs xs [] [] (reaches_went u1 u2 xs e2) (reaches_went u2 u3 xs e3));
-      at = refl;
-      held = moved C (gone_back a) (with_register 15 (a.base + 2) u2) (a.memory (a.base + 1)) (top_held C a2 u2 (a.base + 2) h2);
-      nine = reg_other C u2 15 (a.base + 2) 9 (omega arith) ∙ reg_other C (with_register 15 (a.base + 1) u1) 14 (a.memory a.base) 9 (omega arith) ∙ reg_other C u1 15 (a.base + 1) 9 (omega arith) ∙ reg_other C s 15 a.base 9 (omega arith);
-    }
+returns : (C : Console) (address : List ℕ → ℕ) (F : Frame) (a : Addr) (s : machine.State) (xs : List ℕ) (size pc e : ℕ) → way_back size a < 0x400000 → Held C a s → s.counter ≡ pc → Stand C.words address pc (frame_gone size) e → Returned C (size == 0) a s xs
+returns C address F a s xs size pc e hi h c k = go (size == 0) hi k
+  where
+    go : (b : Bool) → cond b a.top (a.base + 1) < 0x400000 → Stand C.words address pc (cond b (item.Op (instr.Plain RET) ∷ []) (item.Op (instr.Mov (RegReg 15 14)) ∷ item.Op (instr.One POP 14) ∷ item.Op (instr.Plain RET) ∷ [])) e → Returned C b a s xs
+    go true hi k =
+        let u = going_to (a.memory a.top) (with_register 15 (a.top + 1) s) in
+        let e1 = line_effect C a s pc (instr.Plain RET) k.0 h c k.1 (omega arith, omega arith, omega arith) ∙ ret_act C address F F a s k.0 hi h in
+        record {
+          to = u;
+          steps = 1;
+          few = omega arith;
+          by = reaches_went s u xs e1;
+          at = refl;
+          held = moved C (record a { top = a.top + 1 }) (with_register 15 (a.top + 1) s) (a.memory a.top) (top_held C a s (a.top + 1) h);
+          nine = reg_other C s 15 (a.top + 1) 9 (omega arith);
+        }
+    go false hi k =
+        let a1 = record a { top = a.base } in
+        let a2 = record a { top = a.base + 1; base = a.memory a.base } in
+        let u1 = going_to k.0 (with_register 15 a.base s) in
+        let h1 : Held C a1 u1 = moved C a1 (with_register 15 a.base s) k.0 (top_held C a s a.base h) in
+        let e1 = line_effect C a s pc (instr.Mov (RegReg 15 14)) k.0 h c k.1 (omega arith, omega arith, omega arith) ∙ copy_act C address F F s 15 14 k.0 ∙ ap (λ x. EndsIn stepped.Went (going_to k.0 (with_register 15 x s))) h.base in
+        let u2 = going_to k.2.0 (with_register 14 (a.memory a.base) (with_register 15 (a.base + 1) u1)) in
+        let h2 : Held C a2 u2 = moved C a2 (with_register 14 (a.memory a.base) (with_register 15 (a.base + 1) u1)) k.2.0 (base_held C (record a1 { top = a.base + 1 }) (with_register 15 (a.base + 1) u1) (a.memory a.base) (top_held C a1 u1 (a.base + 1) h1)) in
+        let e2 = line_effect C a1 u1 k.0 (instr.One POP 14) k.2.0 h1 refl k.2.1 (omega arith, omega arith, omega arith) ∙ popbase_act C address F F a1 u1 k.2.0 (omega (arith, hi)) h1 in
+        let u3 = going_to (a.memory (a.base + 1)) (with_register 15 (a.base + 1 + 1) u2) in
+        let e3 = line_effect C a2 u2 k.2.0 (instr.Plain RET) k.2.2.0 h2 refl k.2.2.1 (omega arith, omega arith, omega arith) ∙ ret_act C address F F a2 u2 k.2.2.0 (omega (arith, hi)) h2 in
+        record {
+          to = u3;
+          steps = 3;
+          few = omega arith;
+          by = reaches_on 1 2 s u1 u3 xs xs xs [] [] (reaches_went s u1 xs e1) (reaches_on 1 1 u1 u2 u3 xs xs xs [] [] (reaches_went u1 u2 xs e2) (reaches_went u2 u3 xs e3));
+          at = refl;
+          held = moved C (record a2 { top = a.base + 1 + 1 }) (with_register 15 (a.base + 1 + 1) u2) (a.memory (a.base + 1)) (top_held C a2 u2 (a.base + 1 + 1) h2);
+          nine = reg_other C u2 15 (a.base + 1 + 1) 9 (omega arith) ∙ reg_other C (with_register 15 (a.base + 1) u1) 14 (a.memory a.base) 9 (omega arith) ∙ reg_other C u1 15 (a.base + 1) 9 (omega arith) ∙ reg_other C s 15 a.base 9 (omega arith);
+        }
 
-entered_memory : (P : Addr) (m : ℕ → ℕ) (t b next : ℕ) → P.top ≡ t → P.memory ≡ m → P.base ≡ b → written (written P.memory (P.top - 1) next) (P.top - 1 - 1) P.base ≡ written (written m (t - 1) next) (t - 2) b
-entered_memory P m t b next et em eb =
+entered_memory : (bare : Bool) (P : Addr) (m : ℕ → ℕ) (t b next : ℕ) → P.top ≡ t → P.memory ≡ m → P.base ≡ b →
+    cond bare (written P.memory (P.top - 1) next) (written (written P.memory (P.top - 1) next) (P.top - 1 - 1) P.base) ≡ cond bare (written m (t - 1) next) (written (written m (t - 1) next) (t - 2) b)
+entered_memory true P m t b next et em eb = ap (λ x. written x (P.top - 1) next) em ∙ ap (λ x. written m (x - 1) next) et
+entered_memory false P m t b next et em eb =
     let d : P.top - 1 - 1 ≡ t - 2 = omega (arith, et) in
     ap (λ x. written (written x (P.top - 1) next) (P.top - 1 - 1) P.base) em ∙ ap (λ x. written (written m (x - 1) next) (P.top - 1 - 1) P.base) et ∙ ap (λ x. written (written m (t - 1) next) x P.base) d ∙ ap (λ x. written (written m (t - 1) next) (t - 2) x) eb
 
@@ -149,8 +169,15 @@ module _ (S : Setting) (fits : Fits S) where
     abbrev aT : Addr
     aT = record a2 { top = T }
 
+    -- whether the frame of the call has no words
+    abbrev bare : Bool
+    bare = G.size == 0
+
+    abbrev linked : Bool → Addr
+    linked b = record aT { memory = cond b (store (T - 1) next aT).memory (store (T - 2) a.base (store (T - 1) next aT)).memory }
+
     abbrev a3 : Addr
-    a3 = store (T - 2) a.base (store (T - 1) next aT)
+    a3 = linked bare
 
     h1 : HoldsAt S κ st s.cells h.place a1
     h1 = all_passed_holds S fits κ st s.cells h.place g at.callable at.depth big ps args a at.callable.params_named h.at
@@ -168,7 +195,29 @@ module _ (S : Setting) (fits : Fits S) where
     hT = all_pushed_holds S fits κ st s.cells h.place g at.callable at.depth big ps args a1 (omega (arith, top_1)) room_1 h1T
 
     h3 : HoldsAt S κ st s.cells h.place a3
-    h3 = low_write S fits κ st s.cells h.place (store (T - 1) next aT) (T - 2) a.base (omega (arith, big)) (omega (arith, big)) at.depth (low_write S fits κ st s.cells h.place aT (T - 1) next (omega (arith, big)) (omega (arith, big)) at.depth hT)
+    h3 = go bare
+      where
+        h2 : HoldsAt S κ st s.cells h.place (store (T - 1) next aT)
+        h2 = low_write S fits κ st s.cells h.place aT (T - 1) next (omega (arith, big)) (omega (arith, big)) at.depth hT
+
+        go : (b : Bool) → HoldsAt S κ st s.cells h.place (linked b)
+        go true = h2
+        go false = low_write S fits κ st s.cells h.place (store (T - 1) next aT) (T - 2) a.base (omega (arith, big)) (omega (arith, big)) at.depth h2
+
+    -- the link
+    link_next : a3.memory (T - 1) ≡ next
+    link_next = go bare
+      where
+        go : (b : Bool) → (linked b).memory (T - 1) ≡ next
+        go true = written_same a2.memory (T - 1) next (T - 1) refl
+        go false = written_other (store (T - 1) next aT).memory (T - 2) a.base (T - 1) (omega (arith, big)) ∙ written_same a2.memory (T - 1) next (T - 1) refl
+
+    link_under : (q : ℕ) → q < T - 2 → a3.memory q ≡ a2.memory q
+    link_under q lt = go bare
+      where
+        go : (b : Bool) → (linked b).memory q ≡ a2.memory q
+        go true = written_other a2.memory (T - 1) next q (omega (arith, lt))
+        go false = written_other (store (T - 1) next aT).memory (T - 2) a.base q (omega (arith, lt)) ∙ written_other a2.memory (T - 1) next q (omega (arith, lt))
 
     top_2 : a2.top + in_registers ps ≡ T
     top_2 = pushed_top F ps args a1 at.count (omega (arith, room_1)) ∙ top_1
@@ -183,7 +232,7 @@ module _ (S : Setting) (fits : Fits S) where
     b = called F G ps args next a
 
     memory_is : b.memory ≡ a3.memory
-    memory_is = entered_memory P a2.memory T a.base next P_top (popped_memory ps a2) P_base
+    memory_is = entered_memory bare P a2.memory T a.base next P_top (popped_memory ps a2) P_base
 
     abbrev κ2 : Ctx
     κ2 = inner S κ g st.objects h.place a3.memory
@@ -193,9 +242,10 @@ module _ (S : Setting) (fits : Fits S) where
         let u = fits.slot_in g k has in
         let o = at.callable.own_in k has in
         let q = slot_place S κ2 k in
-        let e1 : q ≡ new_slot G k a = omega (arith, top_a) in
+        let w = framed_link G.size (omega (arith, u)) in
+        let e1 : q ≡ new_slot G k a = omega (arith, top_a, w) in
         let wq : b.memory q ≡ a1.memory (new_slot G k a) =
-        ap (λ f. f q) memory_is ∙ written_other (store (T - 1) next aT).memory (T - 2) a.base q (omega (arith, u, big)) ∙ written_other a2.memory (T - 1) next q (omega (arith, u, big)) ∙ pushed_under F ps args a1 q (omega (arith, u, big, o, top_1)) ∙ ap a1.memory e1 in
+        ap (λ f. f q) memory_is ∙ link_under q (omega (arith, u, w, big)) ∙ pushed_under F ps args a1 q (omega (arith, u, w, big, o, top_1)) ∙ ap a1.memory e1 in
         subst (λ z. Stands N h.place (received registers_and_slots ps (map s.cells args) (Slot k)) z) (sym wq) (slots_passed S fits κ st s.cells h.place g at.callable at.depth big ps args a at.callable.params_named at.callable.params_differ at.args_named h.at k has)
 
     temps : Temps S κ2 N h.place (received registers_and_slots ps (map s.cells args)) b.regs b.memory
@@ -204,9 +254,20 @@ module _ (S : Setting) (fits : Fits S) where
       in_slots = slot_at;
     }
 
+    -- BP, and the top of the stack, in the call
+    pointer_b : b.base ≡ pointer_in S κ g
+    pointer_b = go bare refl
+      where
+        go : (x : Bool) → (G.size == 0) ≡ x → cond x P.base (P.top - 2) ≡ cond x κ.pointer (below S κ g)
+        go true e = P_base ∙ h.at.stack.base_is
+        go false e = let w = link_framed G.size e in omega (arith, P_top, w)
+
+    top_b : b.top + G.size ≡ below S κ g
+    top_b = let w = link_range G.size in omega (arith, P_top, big, w)
+
     inside : HoldsAt S κ2 (entered (sizes S) g st) (received registers_and_slots (function_at S.code g).params (map s.cells args)) h.place b
     inside = subst (λ qs. HoldsAt S κ2 (entered (sizes S) g st) (received registers_and_slots qs (map s.cells args)) h.place b) at.callable.params
-        (enter_holds S fits κ st s.cells h.place a3 b g ps (map s.cells args) at.callable h3 at.depth fit memory_is (omega (arith, P_top)) (omega (arith, P_top, big)) temps)
+        (enter_holds S fits κ st s.cells h.place a3 b g ps (map s.cells args) at.callable h3 at.depth fit memory_is pointer_b top_b temps)
 
     roomy : Roomy C S.address F G a
     roomy = record { room = room S fits κ st s.cells h.place a h.at; below = omega (arith, big, top_a); above = omega (arith, low_t, top_a) }
@@ -222,8 +283,9 @@ module _ (S : Setting) (fits : Fits S) where
     goes : FunctionAt S g → Came (holder S) m (spare 8 (begin (holder S) s)) (begun registers_and_slots (sizes S) (function_at S.code g).params g args (spent w s)) (S.enters g) 1 0 (Mach S κ2 (begun registers_and_slots (sizes S) (function_at S.code g).params g args (spent w s)))
     goes fn =
         let r = comes fn in
-        let base_m : register_of m 14 ≡ κ.base = h.held.base ∙ h.at.stack.base_is in
-        let base_t : register_of r.to 14 ≡ T - 2 = r.held.base ∙ ap (λ z. z - 2) P_top in
+        let top_m : register_of m 15 ≡ T = h.held.top ∙ top_a in
+        let top_t : register_of r.to 15 ≡ b.top = r.held.top in
+        let w = link_range G.size in
         record {
           steps = r.steps;
           made = [];
@@ -233,7 +295,7 @@ module _ (S : Setting) (fits : Fits S) where
           held = record { place = h.place; words = b; at = inside; held = r.held };
           events = sym (append-nil s.world.events);
           cost = let f = r.few in omega (arith, f, paid);
-          many = some_steps r.steps m r.to xs r.by (λ e. omega (arith, e, base_m, base_t, big));
+          many = some_steps r.steps m r.to xs r.by (λ e. omega (arith, e, top_m, top_t, top_b, big, w));
         }
 
     -- ---- the way back
@@ -241,55 +303,68 @@ module _ (S : Setting) (fits : Fits S) where
     back_at : FunctionAt S g → (s1 : State Where) (m1 : machine.State) → Given S κ2 s1 m1 → m1.counter ≡ S.leaves g → Came (holder S) m1 (begin (holder S) s1) (back registers_and_slots t (spent w s) s1) p 0 8 (Mach S κ (back registers_and_slots t (spent w s) s1))
     back_at fn s1 m1 gv e1 = go t at.target split.2.2
       where
-        base_v : gv.words.base ≡ T - 2
-        base_v = gv.at.stack.base_is
+        top_v : gv.words.top + G.size ≡ below S κ g
+        top_v = let e = gv.at.stack.top_is in let d = at.callable.depth in omega (arith, e, d)
 
-        high_v : gv.words.base + 1 < 0x400000
-        high_v = omega (arith, base_v, low_t, big)
+        -- where the way back stands
+        back_v : way_back G.size gv.words ≡ T - 1
+        back_v = go bare refl gv.at.stack.base_is
+          where
+            go : (x : Bool) → (G.size == 0) ≡ x → gv.words.base ≡ cond x κ.pointer (below S κ g) → cond x gv.words.top (gv.words.base + 1) ≡ T - 1
+            go true e v = let z = eqb-true G.size 0 e in let w = link_bare G.size e in omega (arith, top_v, z, w)
+            go false e v = let w = link_framed G.size e in omega (arith, v, w, big)
 
-        link_1 : gv.words.memory gv.words.base ≡ κ.base
-        link_1 = ap gv.words.memory base_v ∙ link_stays S fits κ st s1.world.store s.cells s1.cells h.place a3.memory gv.place a3 gv.words g (T - 2) h3 gv.at (omega (arith, big)) (omega arith) (omega (arith, big))
-            ∙ written_same (store (T - 1) next aT).memory (T - 2) a.base (T - 2) refl ∙ h.at.stack.base_is
+        link_same : (q : ℕ) → below S κ g ≤ q → q < T → gv.words.memory q ≡ a3.memory q
+        link_same q le lt = let w = link_range G.size in link_stays S fits κ st s1.world.store s.cells s1.cells h.place a3.memory gv.place a3 gv.words g q h3 gv.at (omega (arith, le, big, w)) le lt
 
-        link_2 : gv.words.memory (gv.words.base + 1) ≡ next
-        link_2 =
-            let e : gv.words.base + 1 ≡ T - 1 = omega (arith, base_v, big) in
-            ap gv.words.memory e ∙ link_stays S fits κ st s1.world.store s.cells s1.cells h.place a3.memory gv.place a3 gv.words g (T - 1) h3 gv.at (omega (arith, big)) (omega (arith, big)) (omega (arith, big))
-            ∙ written_other (store (T - 1) next aT).memory (T - 2) a.base (T - 1) (omega (arith, big)) ∙ written_same a2.memory (T - 1) next (T - 1) refl
+        -- BP as it was before the call
+        link_1 : cond bare gv.words.base (gv.words.memory gv.words.base) ≡ κ.pointer
+        link_1 = go bare refl gv.at.stack.base_is (link_same (T - 2))
+          where
+            go : (x : Bool) → (G.size == 0) ≡ x → gv.words.base ≡ cond x κ.pointer (below S κ g) → (below S κ g ≤ T - 2 → T - 2 < T → gv.words.memory (T - 2) ≡ (linked x).memory (T - 2)) → cond x gv.words.base (gv.words.memory gv.words.base) ≡ κ.pointer
+            go true e v same = v
+            go false e v same =
+                let w = link_framed G.size e in
+                let d : gv.words.base ≡ T - 2 = omega (arith, v, w) in
+                ap gv.words.memory d ∙ same (omega (arith, w)) (omega (arith, big)) ∙ written_same (store (T - 1) next aT).memory (T - 2) a.base (T - 2) refl ∙ h.at.stack.base_is
 
-        home : Returned C gv.words m1 s1.world.store.answers
-        home = returns C S.address F gv.words m1 s1.world.store.answers (S.leaves g) fn.ends high_v gv.held e1 fn.exit
+        -- and the way back
+        link_2 : gv.words.memory (way_back G.size gv.words) ≡ next
+        link_2 = let w = link_range G.size in ap gv.words.memory back_v ∙ link_same (T - 1) (omega (arith, w)) (omega (arith, big)) ∙ link_next
 
-        holds : HoldsAt S κ (returned_to st s1.world.store) (after_call registers_and_slots s.cells) gv.place (gone_back gv.words)
-        holds = back_holds S fits κ st s1.world.store s.cells s1.cells h.place gv.place a3 gv.words (gone_back gv.words) g h3 at.depth gv.at refl link_1 (let q = h.at.stack.top_is in omega (arith, base_v, q, big, top_a))
+        home : Returned C bare gv.words m1 s1.world.store.answers
+        home = returns C S.address F gv.words m1 s1.world.store.answers G.size (S.leaves g) fn.ends (omega (arith, back_v, low_t, big)) gv.held e1 fn.exit
+
+        holds : HoldsAt S κ (returned_to st s1.world.store) (after_call registers_and_slots s.cells) gv.place (gone_back G.size gv.words)
+        holds = back_holds S fits κ st s1.world.store s.cells s1.cells h.place gv.place a3 gv.words (gone_back G.size gv.words) g h3 at.depth gv.at refl link_1 (let q = h.at.stack.top_is in omega (arith, back_v, q, big, top_a))
 
         given : Stands (length (returned_to st s1.world.store).objects) gv.place s1.given (register_of m1 9)
         given = stands_more (length s1.world.store.objects) (length (returned_to st s1.world.store).objects) gv.place gv.place s1.given (register_of m1 9) (let l = length_end_from (length st.objects) s1.world.store.objects in omega (arith, l)) (λ o q. refl) gv.given
 
         go : (t : Option Where) → AllOf (Named S κ.fn) (maybe t) → Stand C.words S.address next (keeps_some F t) p → Came (holder S) m1 (begin (holder S) s1) (back registers_and_slots t (spent w s) s1) p 0 8 (Mach S κ (back registers_and_slots t (spent w s) s1))
         go None named k = record {
-          steps = 3;
+          steps = home.steps;
           made = [];
           to = home.to;
           by = home.by;
           at = home.at ∙ link_2 ∙ k;
-          held = record { place = gv.place; words = gone_back gv.words; at = holds; held = home.held };
+          held = record { place = gv.place; words = gone_back G.size gv.words; at = holds; held = home.held };
           events = sym (append-nil s1.world.events);
-          cost = omega arith;
+          cost = omega (arith, home.few);
           many = omega arith;
         }
         go (Some q) named k =
             let ys = s1.world.store.answers in
-            let r = keeps_so C F S.address (gone_back gv.words) home.to ys next q 9 (register_of m1 9) k.0 (omega arith) (room S fits κ (returned_to st s1.world.store) (after_call registers_and_slots s.cells) gv.place (gone_back gv.words) holds) (good_at κ.fn q named.0) home.held (home.at ∙ link_2) home.nine k.1 in
+            let r = keeps_so C F S.address (gone_back G.size gv.words) home.to ys next q 9 (register_of m1 9) k.0 (omega arith) (room S fits κ (returned_to st s1.world.store) (after_call registers_and_slots s.cells) gv.place (gone_back G.size gv.words) holds) (good_at κ.fn q named.0) home.held (home.at ∙ link_2) home.nine k.1 in
             record {
-              steps = 3 + r.steps;
+              steps = home.steps + r.steps;
               made = [];
               to = r.to;
-              by = reaches_on 3 r.steps m1 home.to r.to ys ys ys [] [] home.by r.by;
+              by = reaches_on home.steps r.steps m1 home.to r.to ys ys ys [] [] home.by r.by;
               at = r.at ∙ k.2;
-              held = record { place = gv.place; words = put F q (register_of m1 9) (gone_back gv.words); at = set_target S fits κ (returned_to st s1.world.store) (after_call registers_and_slots s.cells) gv.place (gone_back gv.words) q s1.given (register_of m1 9) named.0 holds given; held = r.held };
+              held = record { place = gv.place; words = put F q (register_of m1 9) (gone_back G.size gv.words); at = set_target S fits κ (returned_to st s1.world.store) (after_call registers_and_slots s.cells) gv.place (gone_back G.size gv.words) q s1.given (register_of m1 9) named.0 holds given; held = r.held };
               events = sym (append-nil s1.world.events);
-              cost = let f = r.few in omega (arith, f);
+              cost = let f = r.few in omega (arith, f, home.few);
               many = omega arith;
             }
 

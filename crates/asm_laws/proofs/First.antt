@@ -43,14 +43,18 @@ module _ (S : Setting) (fits : Fits S) where
   good κ (Slot k) n = fits.slot_in κ.fn k n
 
   pub room : (κ : Ctx) (s : Store) (cells : Where → Cell) (place : ℕ → ℕ) (a : Addr) → HoldsAt S κ s cells place a → Room (Of κ) a
-  room κ s cells place a h = record { low = omega (arith, h.stack.low, h.stack.base_is); high = omega (arith, h.stack.high, h.stack.base_is) }
+  room κ s cells place a h = record { low = go (below_or_not 0 (Of κ).size); high = omega (arith, h.stack.pointer_high, h.stack.base_is) }
+    where
+      go : (0 < (Of κ).size) ⊎ ((Of κ).size ≤ 0) → (Of κ).size ≤ a.base
+      go (inl lt) = let p = h.stack.framed (omega (arith, lt)) in omega (arith, h.stack.low, h.stack.base_is, p)
+      go (inr le) = omega (arith, le)
 
-  pub slot_is : (κ : Ctx) (s : Store) (cells : Where → Cell) (place : ℕ → ℕ) (a : Addr) (k : ℕ) → HoldsAt S κ s cells place a → slot_address (Of κ) k a ≡ slot_place S κ k
-  slot_is κ s cells place a k h = ap (λ b. b - ((Of κ).size - slot_offset S κ.fn k)) h.stack.base_is
+  pub slot_is : (κ : Ctx) (s : Store) (cells : Where → Cell) (place : ℕ → ℕ) (a : Addr) (k : ℕ) → S.has_slot κ.fn k → HoldsAt S κ s cells place a → slot_address (Of κ) k a ≡ slot_place S κ k
+  slot_is κ s cells place a k has h = let i = fits.slot_in κ.fn k has in ap (λ b. b - ((Of κ).size - slot_offset S κ.fn k)) (h.stack.base_is ∙ h.stack.framed (omega (arith, i)))
 
   pub word_stands : (κ : Ctx) (s : Store) (cells : Where → Cell) (place : ℕ → ℕ) (a : Addr) (t : Where) → Named S κ.fn t → HoldsAt S κ s cells place a → Stands (length s.objects) place (cells t) (word_of (Of κ) t a)
   word_stands κ s cells place a (Reg r) n h = h.temps.in_regs r n
-  word_stands κ s cells place a (Slot k) n h = subst (λ q. Stands (length s.objects) place (cells (Slot k)) (a.memory q)) (sym (slot_is κ s cells place a k h)) (h.temps.in_slots k n)
+  word_stands κ s cells place a (Slot k) n h = subst (λ q. Stands (length s.objects) place (cells (Slot k)) (a.memory q)) (sym (slot_is κ s cells place a k n h)) (h.temps.in_slots k n)
 
   -- a word of an object is a word of a cell
   pub cell_wide : (κ : Ctx) (s : Store) (place : ℕ → ℕ) (o i : ℕ) → Ranges S κ s.objects place s.locals → Lives s.objects o → i < length (object_at s.objects o).cells → i < wide s.objects o
@@ -93,7 +97,7 @@ module _ (S : Setting) (fits : Fits S) where
       go : (q : ℕ) → q < 9 → ((q ≡ r) × ((q == r) ≡ true)) ⊎ ((q ≢ r) × ((q == r) ≡ false)) → Stands (length s.objects) place (states.put registers_and_slots cells (Reg r) c (Reg q)) (written a.regs r v q)
       go q lt (inl x) = subst (λ b. Stands (length s.objects) place (cond b c (cells (Reg q))) (written a.regs r v q)) (sym x.1) (subst (λ y. Stands (length s.objects) place c y) (sym (written_same a.regs r v q x.0)) rep)
       go q lt (inr x) = subst (λ b. Stands (length s.objects) place (cond b c (cells (Reg q))) (written a.regs r v q)) (sym x.1) (subst (λ y. Stands (length s.objects) place (cells (Reg q)) y) (sym (written_other a.regs r v q x.0)) (h.temps.in_regs q lt))
-  set_target κ s cells place a (Slot k) c v n h rep = subst (λ p. HoldsAt S κ s (states.put registers_and_slots cells (Slot k) c) place (store p v a)) (sym (slot_is κ s cells place a k h)) (record {
+  set_target κ s cells place a (Slot k) c v n h rep = subst (λ p. HoldsAt S κ s (states.put registers_and_slots cells (Slot k) c) place (store p v a)) (sym (slot_is κ s cells place a k n h)) (record {
     temps = record {
       in_regs = h.temps.in_regs;
       in_slots = λ q has. go q has (same_or_not q k);

@@ -26,13 +26,13 @@ module _ (words : List ℕ) (address : List ℕ → ℕ) (W : Whole) where
     pub entry : Here begins (frame_made (W.frames f).size) enters
     pub inner : Here enters (code_items W (W.frames f) out [] (out + 1) body) leaves
     pub leave : address (jump_label out) ≡ leaves
-    pub exit : Here leaves frame_gone ends
+    pub exit : Here leaves (frame_gone (W.frames f).size) ends
 
   -- the parts of a function: what makes its frame, its body, what takes its frame away
-  pub function_parts : (f n : ℕ) (body : NodesT Where) (pc e : ℕ) → Here pc (function_items W f n body) e → (enters : ℕ) × (leaves : ℕ) × Here pc (entry_items W f (W.frames f)) enters × Here enters (code_items W (W.frames f) n [] (n + 1) body) leaves × Here leaves (exit_items n) e
+  pub function_parts : (f n : ℕ) (body : NodesT Where) (pc e : ℕ) → Here pc (function_items W f n body) e → (enters : ℕ) × (leaves : ℕ) × Here pc (entry_items W f (W.frames f)) enters × Here enters (code_items W (W.frames f) n [] (n + 1) body) leaves × Here leaves (exit_items n (W.frames f)) e
   function_parts f n body pc e h =
-      let a = split words address (entry_items W f (W.frames f)) (code_items W (W.frames f) n [] (n + 1) body ++ exit_items n) pc e h in
-      let b = split words address (code_items W (W.frames f) n [] (n + 1) body) (exit_items n) a.0 e a.2 in
+      let a = split words address (entry_items W f (W.frames f)) (code_items W (W.frames f) n [] (n + 1) body ++ exit_items n (W.frames f)) pc e h in
+      let b = split words address (code_items W (W.frames f) n [] (n + 1) body) (exit_items n (W.frames f)) a.0 e a.2 in
       (a.0, b.0, a.1, b.1, b.2)
 
   function_found : (f n : ℕ) (body : NodesT Where) (pc e : ℕ) → n + 1 + labels body < 2 ^ 32 - 1 → (h : Here pc (function_items W f n body) e) → FoundAt f body (function_parts f n body pc e h).0 (function_parts f n body pc e h).1
@@ -49,7 +49,7 @@ module _ (words : List ℕ) (address : List ℕ → ℕ) (W : Whole) where
         entry = subst (λ q. Here q (frame_made (W.frames f).size) p.0) en.1.1 en.2;
         inner = p.3;
         leave = ex.1.0;
-        exit = subst (λ q. Here q frame_gone e) ex.1.1 ex.2;
+        exit = subst (λ q. Here q (frame_gone (W.frames f).size) e) ex.1.1 ex.2;
       }
 
   abbrev apart : (f n : ℕ) (g : FunctionT Where) (gs : List (FunctionT Where)) (pc e : ℕ) → Here pc (functions_items W f n (g ∷ gs)) e → (q : ℕ) × Here pc (function_items W f n g.body) q × Here q (functions_items W (f + 1) (n + 1 + labels g.body) gs) e

@@ -45,7 +45,7 @@ module _ (S : Setting) (fits : Fits S) where
       | inr x ↦ subst (λ y. CardAs S.console y.kind y.cells) (sym (new_obj o x)) tt
     ];
     apart = λ o p i j l m lt lt' e. go o p i j l m lt lt' e (old_or_new o l) (old_or_new p m);
-    outer = λ o i b l lt. let b' : o < N = omega (arith, b, en, r.first_in) in let e = old_place o b' in subst (λ z. (z + i < (sizes S).globals) ⊎ (κ.base + 2 ≤ z + i)) (sym e) (r.outer o i b (old_lives o b' l) (subst (λ n. i < n) (old_wide o b') lt));
+    outer = λ o i b l lt. let b' : o < N = omega (arith, b, en, r.first_in) in let e = old_place o b' in subst (λ z. (z + i < (sizes S).globals) ⊎ (κ.base ≤ z + i)) (sym e) (r.outer o i b (old_lives o b' l) (subst (λ n. i < n) (old_wide o b') lt));
     mine = λ o b l. elim (old_or_new o l) [
       | inl x ↦ let m = r.mine o b x.1 in let n : m.0 ≢ k = λ e. free o x.1 (ap (local_object locals) (sym e) ∙ m.2) in (m.0, omega (arith, m.1, length-set locals k (Some N)), local_other locals k m.0 N n ∙ m.2)
       | inr x ↦ (k, omega (arith, lk, length-set locals k (Some N)), local_same locals k k N refl lk ∙ ap Some (sym x))
@@ -171,6 +171,8 @@ module _ (S : Setting) (fits : Fits S) where
       called_as = h.stack.called_as;
       locals_are = length-set s.locals k (Some (length s.objects)) ∙ h.stack.locals_are;
       base_is = h.stack.base_is;
+      framed = h.stack.framed;
+      pointer_high = h.stack.pointer_high;
       top_is = h.stack.top_is;
       low = h.stack.low;
       high = h.stack.high;

@@ -7,7 +7,10 @@ use Rattle.std.proofs.lemmas.Bool.{le-ltb}
 use Rattle.std.specs.Option.{option_map_or}
 use Rattle.kit_base.specs.Word.{add}
 use Rattle.either.specs.declared.Either.TheVariants.{Left}
+use Rattle.v32_isa.specs.declared.instruction.Plain.TheVariants.{RET}
 use Rattle.v32_isa.specs.declared.instruction.One.{One as OneOf}
+use Rattle.v32_isa.specs.declared.instruction.One.TheVariants.{PUSH, POP}
+use Rattle.v32_isa.specs.declared.instruction.Mov.TheVariants.{RegReg}
 use Rattle.v32_isa.specs.declared.instruction.Two.{Two as TwoOf}
 use Rattle.v32_isa.specs.declared.instruction.Two.TheVariants.{IADD, ISUB}
 use Rattle.v32_isa.specs.declared.instruction.Src.TheVariants as src
@@ -27,7 +30,7 @@ use Rattle.mid_code.specs.Runs.{weight}
 use Rattle.asm_laws.specs.Labelled.{HasLabel}
 use Rattle.asm_laws.specs.Names.{jump_label, literal_label, function_label}
 use Rattle.asm_laws.specs.Operations.{Frame, Whole, register, keep, fetches, keeps, keeps_some, is_in, hand, brings, takes, aim, lays, moves, changes, is_direct, in_place, apart, turned, is_turned, turned_or_apart, computes, slot_arg, slot_args, pushed_arg, pushed_args, popped_arg, popped_args, args_items, call_items, op_items, in_one, one_or_more, more_of, giving, start_frame, opening_items, literal_items, literals_items}
-use Rattle.asm_laws.specs.Framing.{room_made}
+use Rattle.asm_laws.specs.Framing.{frame_made, frame_gone}
 use Rattle.asm_laws.specs.Emitted.{labels, functions_labels, enclosing, jump, jump_unless, mark, first_part, second_part, choice, one_way, is_stop, enclosed, returning, items_past, code_items, entry_items, exit_items, function_items, functions_items, closing_items, start_items, program_items}
 use Rattle.asm_laws.proofs.Programs.{mapped_from}
 use Rattle.asm_laws.proofs.Walked.{total_more}
@@ -318,8 +321,11 @@ module _ (x : CodeT Where) (W : Whole) (Q : List ℕ → Type 0) (of_function : 
 
   -- ---- the whole program
 
-  room_uses : (n : ℕ) → Uses Q (room_made n)
-  room_uses n = one_of_both (n == 0) [] (item.Op (instr.Two ISUB 15 (src.Imm (Left n))) ∷ []) tt (tt, tt)
+  made_uses : (n : ℕ) → Uses Q (frame_made n)
+  made_uses n = one_of_both (n == 0) [] (item.Op (instr.One PUSH 14) ∷ item.Op (instr.Mov (RegReg 14 15)) ∷ item.Op (instr.Two ISUB 15 (src.Imm (Left n))) ∷ []) tt (tt, (tt, (tt, tt)))
+
+  gone_uses : (n : ℕ) → Uses Q (frame_gone n)
+  gone_uses n = one_of_both (n == 0) (item.Op (instr.Plain RET) ∷ []) (item.Op (instr.Mov (RegReg 15 14)) ∷ item.Op (instr.One POP 14) ∷ item.Op (instr.Plain RET) ∷ []) (tt, tt) (tt, (tt, (tt, tt)))
 
   outermost : Jumpable []
   outermost k lt = absurd (omega arith)
@@ -331,9 +337,9 @@ module _ (x : CodeT Where) (W : Whole) (Q : List ℕ → Type 0) (of_function : 
   function_uses f n g ok few k =
       let F = W.frames f in
       let b = code_items W F n [] (n + 1) g.body in
-      let more : Knows (b ++ exit_items n) = λ m h. k m (marked_right (entry_items W f F) (b ++ exit_items n) m h) in
-      let end : Q (jump_label n) = more (jump_label n) (marked_right b (exit_items n) (jump_label n) (inl refl)) in
-      uses_append Q (entry_items W f F) (b ++ exit_items n) (tt, (tt, (tt, room_uses F.size))) (uses_append Q b (exit_items n) (code_uses F n end (length g.locals) g.body [] [] (n + 1) refl ok few outermost (λ m h. more m (marked_left b (exit_items n) m h))) (tt, (tt, (tt, (tt, tt)))))
+      let more : Knows (b ++ exit_items n F) = λ m h. k m (marked_right (entry_items W f F) (b ++ exit_items n F) m h) in
+      let end : Q (jump_label n) = more (jump_label n) (marked_right b (exit_items n F) (jump_label n) (inl refl)) in
+      uses_append Q (entry_items W f F) (b ++ exit_items n F) (tt, made_uses F.size) (uses_append Q b (exit_items n F) (code_uses F n end (length g.locals) g.body [] [] (n + 1) refl ok few outermost (λ m h. more m (marked_left b (exit_items n F) m h))) (tt, gone_uses F.size))
 
   functions_uses : (f n : ℕ) (gs : List (FunctionT Where)) → AllOf Fine gs → n + functions_labels gs < 2 ^ 32 - 1 → Knows (functions_items W f n gs) → Uses Q (functions_items W f n gs)
   functions_uses f n [] ok few k = tt

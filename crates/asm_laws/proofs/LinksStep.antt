@@ -29,10 +29,34 @@ use Rattle.asm_laws.specs.Operations.{Frame, slot_word, hand, brings, slot_arg, 
 use Rattle.asm_laws.specs.Placing.{Line}
 use Rattle.asm_laws.specs.Standing.{Stand}
 use Rattle.asm_laws.specs.Addresses.{Addr, Console, word_of, store, Room, Good, Held, Arrives}
-use Rattle.asm_laws.specs.Framing.{room_made, frame_made, frame_gone}
-use Rattle.asm_laws.specs.Links.{new_slot, passed, all_passed, push, pushed, all_pushed, popped, all_popped, entered, slot_steps, called, gone_back}
+use Rattle.asm_laws.specs.Framing.{frame_made, link_words}
+use Rattle.asm_laws.specs.Links.{new_slot, passed, all_passed, push, pushed, all_pushed, popped, all_popped, entered, slot_steps, called}
 use Rattle.asm_laws.proofs.Stepping.{readable_word, ram_readable, ram_writable, writes_at, line_effect, reg_same, reg_other, moved, kept, stores, reg_number}
 use Rattle.asm_laws.proofs.Hands.{held_alike, hand_fits, brings_at}
+
+-- how many words a link has
+pub link_bare : (size : ℕ) → (size == 0) ≡ true → link_words size ≡ 1
+unfolding link_words
+link_bare size is = ap (λ b. cond b 1 2) is
+
+pub link_framed : (size : ℕ) → (size == 0) ≡ false → link_words size ≡ 2
+unfolding link_words
+link_framed size is = ap (λ b. cond b 1 2) is
+
+pub framed_link : (size : ℕ) → 1 ≤ size → link_words size ≡ 2
+framed_link size le = go (size == 0) refl
+  where
+    go : (b : Bool) → (size == 0) ≡ b → link_words size ≡ 2
+    go true e = let z = eqb-true size 0 e in absurd (omega (arith, z, le))
+    go false e = link_framed size e
+
+pub link_range : (size : ℕ) → (1 ≤ link_words size) × (link_words size ≤ 2)
+unfolding link_words
+link_range size = go (size == 0)
+  where
+    go : (b : Bool) → (1 ≤ cond b 1 2) × (cond b 1 2 ≤ 2)
+    go true = (omega arith, omega arith)
+    go false = (omega arith, omega arith)
 
 module _ (C : Console) where
   -- the top of the stack, and the end of the frame, are other addresses
@@ -240,36 +264,41 @@ module _ (C : Console) where
     unfolding act
     less_act a s n next lo hi h = let d : sub (register_of s 15) n ≡ a.top - n = omega (arith, h.top, lo, hi) in rw d refl
 
-    -- room is made for the words of a frame, where it has any
-    rooms : (a : Addr) (s : State) (xs : List ℕ) (pc body size : ℕ) → size ≤ a.top → a.top ≤ 0x400000 → Held C a s → s.counter ≡ pc → Here pc (room_made size) body → Arrives C 1 s xs body [] xs (record a { top = a.top - size })
-    rooms a s xs pc body size lo hi h e k = go (size == 0) refl k
-      where
-        go : (b : Bool) → (size == 0) ≡ b → Here pc (cond b [] (item.Op (instr.Two ISUB 15 (src.Imm (Left size))) ∷ [])) body → Arrives C 1 s xs body [] xs (record a { top = a.top - size })
-        go true is k =
-            let z : size ≡ 0 = eqb-true size 0 is in
-            let d : a.top ≡ a.top - size = omega (arith, z) in
-            record { steps = 0; to = s; by = reaches_here s xs; at = e ∙ k; held = held_alike C a (record a { top = a.top - size }) s (λ r lt. refl) (λ q. refl) refl d h; few = omega arith }
-        go false is k =
-            let u = going_to k.0 (with_register 15 (a.top - size) s) in
-            subst (λ q. Arrives C 1 s xs q [] xs (record a { top = a.top - size })) k.2
-            (one a (record a { top = a.top - size }) s u xs pc (instr.Two ISUB 15 (src.Imm size)) k.0 h e k.1 (omega arith, omega arith, omega arith) (less_act a s size k.0 lo hi h) (moved C (record a { top = a.top - size }) (with_register 15 (a.top - size) s) k.0 (top_held a s (a.top - size) h)))
+    abbrev entered_as : Bool → ℕ → Addr → Addr
+    entered_as bare next a = record a { memory = cond bare (push next a).memory (push a.base (push next a)).memory; base = cond bare a.base (a.top - 2); top = a.top - link_words G.size - G.size }
 
-    -- from the call to the function's body
+    -- from the call to the function's body: where its frame has words, BP is pushed, and room is made for them
     pub enters : (a : Addr) (s : State) (xs : List ℕ) (pc next begins body : ℕ) → G.size + 2 ≤ a.top → a.top ≤ 0x400000 → Held C a s → s.counter ≡ pc → Line C.words pc (instr.Go CALL (src.Imm begins)) next → Here begins (frame_made G.size) body → Arrives C 4 s xs body [] xs (entered G next a)
-    enters a s xs pc next begins body lo hi h e l k =
-        let a1 = push next a in
-        let a2 = push a.base a1 in
-        let a3 = record a2 { base = a.top - 2 } in
-        let same : a1.top - 1 ≡ a.top - 2 = omega arith in
-        let f1 : Arrives C 1 s xs begins [] xs a1 = one a a1 s (going_to begins (with_register 15 (a.top - 1) (stored s (a.top - 1) next))) xs pc (instr.Go CALL (src.Imm begins)) next h e l (omega arith, omega arith, omega arith) (call_act a s begins next (omega (arith, lo)) hi h) (push_held a s next begins (omega (arith, lo)) hi h) in
-        chain 1 3 s xs begins body a1 (entered G next a) f1 (λ t1 e1 h1.
-        chain 1 2 t1 xs k.0 body a2 (entered G next a) (pushes a1 t1 xs begins 14 a.base k.0 (omega arith) (omega (arith, lo)) (omega (arith, hi)) h1.base h1 e1 k.1) (λ t2 e2 h2.
-        let v : register_of t2 15 ≡ a.top - 2 = h2.top ∙ same in
-        let u2 = going_to k.2.0 (with_register 14 (a.top - 2) t2) in
-        let f3 : Arrives C 1 t2 xs k.2.0 [] xs a3 = one a2 a3 t2 u2 xs k.0 (instr.Mov (RegReg 14 15)) k.2.0 h2 e2 k.2.1 (omega arith, omega arith, omega arith) (copy_act t2 14 15 k.2.0 ∙ ap (λ x. EndsIn stepped.Went (going_to k.2.0 (with_register 14 x t2))) v) (moved C a3 (with_register 14 (a.top - 2) t2) k.2.0 (base_held a2 t2 (a.top - 2) h2)) in
-        chain 1 1 t2 xs k.2.0 body a3 (entered G next a) f3 (λ t3 e3 h3.
-        let d : a3.top - G.size ≡ a.top - 2 - G.size = omega arith in
-        subst (λ z. Arrives C 1 t3 xs body [] xs (record a3 { top = z })) d (rooms a3 t3 xs k.2.0 body G.size (omega (arith, lo)) (omega (arith, hi)) h3 e3 k.2.2))))
+    enters a s xs pc next begins body lo hi h e l k = go (G.size == 0) refl k
+      where
+        a1 : Addr
+        a1 = push next a
+
+        f1 : Arrives C 1 s xs begins [] xs a1
+        f1 = one a a1 s (going_to begins (with_register 15 (a.top - 1) (stored s (a.top - 1) next))) xs pc (instr.Go CALL (src.Imm begins)) next h e l (omega arith, omega arith, omega arith) (call_act a s begins next (omega (arith, lo)) hi h) (push_held a s next begins (omega (arith, lo)) hi h)
+
+        go : (b : Bool) → (G.size == 0) ≡ b → Here begins (cond b [] (item.Op (instr.One PUSH 14) ∷ item.Op (instr.Mov (RegReg 14 15)) ∷ item.Op (instr.Two ISUB 15 (src.Imm (Left G.size))) ∷ [])) body → Arrives C 4 s xs body [] xs (entered_as b next a)
+        go true is k =
+            let z : G.size ≡ 0 = eqb-true G.size 0 is in
+            let w = link_bare G.size is in
+            let d : a1.top ≡ a.top - link_words G.size - G.size = omega (arith, z, w) in
+            record { steps = f1.steps; to = f1.to; by = f1.by; at = f1.at ∙ k; held = held_alike C a1 (entered_as true next a) f1.to (λ r lt. refl) (λ q. refl) refl d f1.held; few = omega (arith, f1.few) }
+        go false is k =
+            let w = link_framed G.size is in
+            let a2 = push a.base a1 in
+            let a3 = record a2 { base = a.top - 2 } in
+            let same : a1.top - 1 ≡ a.top - 2 = omega arith in
+            chain 1 3 s xs begins body a1 (entered_as false next a) f1 (λ t1 e1 h1.
+            chain 1 2 t1 xs k.0 body a2 (entered_as false next a) (pushes a1 t1 xs begins 14 a.base k.0 (omega arith) (omega (arith, lo)) (omega (arith, hi)) h1.base h1 e1 k.1) (λ t2 e2 h2.
+            let v : register_of t2 15 ≡ a.top - 2 = h2.top ∙ same in
+            let u2 = going_to k.2.0 (with_register 14 (a.top - 2) t2) in
+            let f3 : Arrives C 1 t2 xs k.2.0 [] xs a3 = one a2 a3 t2 u2 xs k.0 (instr.Mov (RegReg 14 15)) k.2.0 h2 e2 k.2.1 (omega arith, omega arith, omega arith) (copy_act t2 14 15 k.2.0 ∙ ap (λ x. EndsIn stepped.Went (going_to k.2.0 (with_register 14 x t2))) v) (moved C a3 (with_register 14 (a.top - 2) t2) k.2.0 (base_held a2 t2 (a.top - 2) h2)) in
+            chain 1 1 t2 xs k.2.0 body a3 (entered_as false next a) f3 (λ t3 e3 h3.
+            let d : a3.top - G.size ≡ a.top - link_words G.size - G.size = omega (arith, w) in
+            let u4 = going_to k.2.2.0 (with_register 15 (a3.top - G.size) t3) in
+            subst (λ q. Arrives C 1 t3 xs q [] xs (entered_as false next a)) k.2.2.2
+            (one a3 (entered_as false next a) t3 u4 xs k.2.0 (instr.Two ISUB 15 (src.Imm G.size)) k.2.2.0 h3 e3 k.2.2.1 (omega arith, omega arith, omega arith) (less_act a3 t3 G.size k.2.2.0 (omega (arith, lo)) (omega (arith, hi)) h3)
+            (held_alike C (record a3 { top = a3.top - G.size }) (entered_as false next a) u4 (λ r lt. refl) (λ q. refl) refl d (moved C (record a3 { top = a3.top - G.size }) (with_register 15 (a3.top - G.size) t3) k.2.2.0 (top_held a3 t3 (a3.top - G.size) h3)))))))
 
     -- ---- the way back
 
@@ -286,21 +315,6 @@ module _ (C : Console) where
         let w = readable_word C a s a.top h (ram_readable C a.top hi) in
         let u : add a.top 1 ≡ a.top + 1 = omega (arith, hi) in
         rw (h.top, w, u) refl
-
-    -- from a function's end to the address that its call left
-    pub leaves : (a : Addr) (s : State) (xs : List ℕ) (pc e : ℕ) → a.base + 1 < 0x400000 → Held C a s → s.counter ≡ pc → Here pc frame_gone e → Arrives C 3 s xs (a.memory (a.base + 1)) [] xs (gone_back a)
-    leaves a s xs pc e hi h c k =
-        let a1 = record a { top = a.base } in
-        let a2 = record a { top = a.base + 1; base = a.memory a.base } in
-        let u1 = going_to k.0 (with_register 15 a.base s) in
-        let f1 : Arrives C 1 s xs k.0 [] xs a1 = one a a1 s u1 xs pc (instr.Mov (RegReg 15 14)) k.0 h c k.1 (omega arith, omega arith, omega arith) (copy_act s 15 14 k.0 ∙ ap (λ x. EndsIn stepped.Went (going_to k.0 (with_register 15 x s))) h.base) (moved C a1 (with_register 15 a.base s) k.0 (top_held a s a.base h)) in
-        chain 1 2 s xs k.0 (a.memory (a.base + 1)) a1 (gone_back a) f1 (λ t1 e1 h1.
-        let u2 = going_to k.2.0 (with_register 14 (a.memory a.base) (with_register 15 (a.base + 1) t1)) in
-        let f2 : Arrives C 1 t1 xs k.2.0 [] xs a2 = one a1 a2 t1 u2 xs k.0 (instr.One POP 14) k.2.0 h1 e1 k.2.1 (omega arith, omega arith, omega arith) (popbase_act a1 t1 k.2.0 (omega (arith, hi)) h1) (moved C a2 (with_register 14 (a.memory a.base) (with_register 15 (a.base + 1) t1)) k.2.0 (base_held (record a1 { top = a.base + 1 }) (with_register 15 (a.base + 1) t1) (a.memory a.base) (top_held a1 t1 (a.base + 1) h1))) in
-        chain 1 1 t1 xs k.2.0 (a.memory (a.base + 1)) a2 (gone_back a) f2 (λ t2 e2 h2.
-        let d : a.base + 1 + 1 ≡ a.base + 2 = omega arith in
-        let u3 = going_to (a.memory (a.base + 1)) (with_register 15 (a.base + 2) t2) in
-        one a2 (gone_back a) t2 u3 xs k.2.0 (instr.Plain RET) k.2.2.0 h2 e2 k.2.2.1 (omega arith, omega arith, omega arith) (ret_act a2 t2 k.2.2.0 (omega (arith, hi)) h2 ∙ ap (λ x. EndsIn stepped.Went (going_to (a.memory (a.base + 1)) (with_register 15 x t2))) d) (moved C (gone_back a) (with_register 15 (a.base + 2) t2) (a.memory (a.base + 1)) (top_held a2 t2 (a.base + 2) h2))))
 
     -- ---- the whole call
 

@@ -157,7 +157,7 @@ module _ (S : Setting) (boot : ℕ) (card : Option (List ℕ)) (ok : IsCard card
       go (Some (w ∷ ws)) n h = (h, ap suc (length-map ws Num) ∙ n)
   cards o (none e) l = absurd (not_none o e l)
 
-  outer : (o i : ℕ) → i < wide os o → W o → Lives os o → (S.fixed o + i < (sizes S).globals) ⊎ (0x400000 + 2 ≤ S.fixed o + i)
+  outer : (o i : ℕ) → i < wide os o → W o → Lives os o → (S.fixed o + i < (sizes S).globals) ⊎ (0x400000 ≤ S.fixed o + i)
   outer o i lt (global b e) l = inl (global_in o i b e lt)
   outer o i lt (literal k b q e) l = let r = literal_ends o k b q e in inr (omega (arith, r.0))
   outer o i lt (the_card q e) l = let f = card_fixed o q in inr (omega (arith, f))
@@ -263,6 +263,8 @@ module _ (S : Setting) (boot : ℕ) (card : Option (List ℕ)) (ok : IsCard card
       called_as = sym laid.called_as;
       locals_are = sym (ap length laid.locals);
       base_is = refl;
+      framed = λ le. refl;
+      pointer_high = omega arith;
       top_is = let d = laid.depth in omega (arith, d);
       low = let u = laid.few_globals in let z = laid.size in omega (arith, u, z);
       high = omega arith;

@@ -32,7 +32,7 @@ use Rattle.asm_laws.specs.Names.{literal_label}
 use Rattle.asm_laws.specs.Addresses.{Addr, Does, Console, readable, writable, word_of, local_address, store, put, computed, loaded, saved, asked, does, IsPlainOne}
 use Rattle.asm_laws.specs.Addresses as words
 use Rattle.asm_laws.proofs.Stepping.{same_or_not}
-use Rattle.asm_laws.specs.Holds.{Setting, sizes, Named, Fits, Ctx, Lives, wide, Stands, InRegion, CardAs, HoldsAt}
+use Rattle.asm_laws.specs.Holds.{Setting, local_offset, sizes, Named, Fits, Ctx, Lives, wide, Stands, InRegion, CardAs, HoldsAt}
 use Rattle.asm_laws.specs.Acting.{DoesAs, Fitting}
 use Rattle.asm_laws.proofs.First.{word_stands, set_target, cell_wide}
 use Rattle.asm_laws.proofs.Change.{store_holds, close_holds}
@@ -99,12 +99,13 @@ module _ (S : Setting) (fits : Fits S) (κ : Ctx) (s : State Where) (place : ℕ
       let small = fits.fixed_small o lt in
       (omega (arith, f.0, h.ranges.first_in), e ∙ sym p ∙ add_zero (place o) (omega (arith, p, small)), omega arith)
 
-  local_at : (t : Where) (j : ℕ) (q : Option ℕ) → Named S κ.fn t → j < length (S.locals κ.fn) → local_object s.world.store.locals j ≡ q → As (to k t (first_cell q) s) (words.Goes [] xs (put F t (local_address F j a) a))
-  local_at t j None n lt e = (refl, refl)
-  local_at t j (Some o) n lt e =
+  local_at : (t : Where) (j : ℕ) (q : Option ℕ) → Named S κ.fn t → j < length (S.locals κ.fn) → local_offset S κ.fn j < (S.whole.frames κ.fn).size → local_object s.world.store.locals j ≡ q → As (to k t (first_cell q) s) (words.Goes [] xs (put F t (local_address F j a) a))
+  local_at t j None n lt some e = (refl, refl)
+  local_at t j (Some o) n lt some e =
       let l = h.ranges.local j o (omega (arith, lt, h.stack.locals_are)) e in
       let f = fits.local_in κ.fn j lt in
-      let p : local_address F j a ≡ place o = omega (arith, l.2, f, h.stack.base_is, h.stack.low) in
+      let b : a.base ≡ κ.base = h.stack.base_is ∙ h.stack.framed (omega (arith, some)) in
+      let p : local_address F j a ≡ place o = omega (arith, l.2, f, b, h.stack.low) in
       keeps t (Ptr o 0) (local_address F j a) n (l.1, p ∙ add_zero (place o) (omega (arith, l.2, h.stack.high)), omega arith)
 
   step_at : (t : Where) (c d : Cell) (v w : ℕ) → Named S κ.fn t → Stands (length os) place c v → Stands (length os) place d w → As (to k t (stepped c d) s) (words.Goes [] xs (put F t (add v w) a))
@@ -350,7 +351,7 @@ module _ (S : Setting) (fits : Fits S) (κ : Ctx) (s : State Where) (place : ℕ
   acts (OneO o t p) g = one_at o t (s.cells p) (word_of F p a) g.1 (stands p g.2)
   acts (TwoO o t p q) g = two_at o t (s.cells p) (s.cells q) (word_of F p a) (word_of F q a) g.0 (stands p g.1) (stands q g.2)
   acts (GlobalO t j) g = let f = fits.globals_at j g.1 in keeps t (Ptr j 0) (get_or S.whole.globals j 0) g.0 (fixed_at j (get_or S.whole.globals j 0) f.0 f.1)
-  acts (LocalO t j) g = local_at t j (local_object s.world.store.locals j) g.0 g.1 refl
+  acts (LocalO t j) g = local_at t j (local_object s.world.store.locals j) g.0 g.1 g.2 refl
   acts (LiteralO t j) g = let f = fits.literals_at j g.1 in keeps t (Ptr (length S.code.globals + j) 0) (S.address (literal_label j)) g.0 (fixed_at (length S.code.globals + j) (S.address (literal_label j)) f.0 f.1)
   acts (CardO t) g = let f = fits.card_at in keeps t (Ptr (length S.code.globals + length S.code.literals) 0) 0x30000000 g (fixed_at (length S.code.globals + length S.code.literals) 0x30000000 f.0 (sym f.1))
   acts (StepO t p q) g = step_at t (s.cells p) (s.cells q) (word_of F p a) (word_of F q a) g.0 (stands p g.1) (stands q g.2)

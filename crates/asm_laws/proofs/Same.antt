@@ -84,7 +84,7 @@ module _ (x : CodeT Where) (W : Whole) (fr : ℕ → Frame) (same : (g : ℕ) �
   code_same m F out c bs ls n ok = past_same m F out c 0 bs ls n ok
 
   abbrev own_of : (f n : ℕ) → Frame → List AsmItem → List AsmItem
-  own_of f n F body = item.Label (function_label W.names f) ∷ (frame_made F.size ++ (body ++ exit_items n))
+  own_of f n F body = item.Label (function_label W.names f) ∷ (frame_made F.size ++ (body ++ exit_items n F))
 
   function_same : (f n : ℕ) (g : FunctionT Where) → f < length x.functions → AreNodes x (length g.locals) [] g.body → function_items (framed W fr) f n g.body ≡ function_items W f n g.body
   function_same f n g lt ok =

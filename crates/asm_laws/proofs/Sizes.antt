@@ -26,7 +26,7 @@ use Rattle.asm_laws.specs.Names.{literal_label, function_label}
 use Rattle.kit_base.specs.Word.{add, sub}
 use Rattle.asm_laws.specs.Operations as operations
 use Rattle.asm_laws.specs.Operations.{Frame, Whole, register, slot_word, local_word, fetches, keeps, keeps_some, is_in, hand, brings, takes, aim, lays, moves, changes, is_direct, in_place, apart, turned, is_turned, turned_or_apart, computes, slot_arg, slot_args, pushed_arg, pushed_args, popped_arg, popped_args, args_items, call_items, op_items, in_one, one_or_more, more_of, giving, start_frame, opening_items, literal_items, literals_items}
-use Rattle.asm_laws.specs.Framing.{room_made}
+use Rattle.asm_laws.specs.Framing.{frame_made, frame_gone}
 use Rattle.asm_laws.specs.Emitted.{labels, enclosing, jump, jump_unless, mark, choice, one_way, is_stop, enclosed, returning, items_past, code_items, entry_items, exit_items, function_items, functions_items, functions_labels, call_item, closing_items, start_items, program_items, labels_of}
 use Rattle.asm_laws.proofs.InOne.{one_or_more_is}
 use Rattle.asm_laws.proofs.Walked.{total_append, total_one, total_none, total_more}
@@ -50,9 +50,6 @@ two_items x y n m a b = omega (arith, total_more x (y ∷ []), total_one y, a, b
 
 three_items : (x y z : AsmItem) (n m k : ℕ) → item_size x ≤ n → item_size y ≤ m → item_size z ≤ k → size (x ∷ y ∷ z ∷ []) ≤ n + m + k
 three_items x y z n m k a b c = let r = two_items y z m k b c in omega (arith, total_more x (y ∷ z ∷ []), r, a)
-
-four_items : (x y z w : AsmItem) (n m k j : ℕ) → item_size x ≤ n → item_size y ≤ m → item_size z ≤ k → item_size w ≤ j → size (x ∷ y ∷ z ∷ w ∷ []) ≤ n + m + k + j
-four_items x y z w n m k j a b c d = let r = three_items y z w m k j b c d in omega (arith, total_more x (y ∷ z ∷ w ∷ []), r, a)
 
 some_size : (F : Frame) (t : Option Where) → size (keeps_some F t) ≤ 2
 some_size F None = omega (arith, total_none)
@@ -258,12 +255,19 @@ module _ (x : CodeT Where) (W : Whole) (counts : Counts x W) (m : ℕ) (F : Fram
 
 -- ---- the whole program
 
-room_size : (n : ℕ) → size (room_made n) ≤ 2
-room_size n = go (n == 0)
+made_size : (n : ℕ) → size (frame_made n) ≤ 4
+made_size n = go (n == 0)
   where
-    go : (b : Bool) → size (cond b [] (item.Op (instr.Two ISUB 15 (src.Imm (Left n))) ∷ [])) ≤ 2
+    go : (b : Bool) → size (cond b [] (item.Op (instr.One PUSH 14) ∷ item.Op (instr.Mov (RegReg 14 15)) ∷ item.Op (instr.Two ISUB 15 (src.Imm (Left n))) ∷ [])) ≤ 4
     go true = omega (arith, total_none)
-    go false = one_item (item.Op (instr.Two ISUB 15 (src.Imm (Left n)))) 2 (omega arith)
+    go false = three_items (item.Op (instr.One PUSH 14)) (item.Op (instr.Mov (RegReg 14 15))) (item.Op (instr.Two ISUB 15 (src.Imm (Left n)))) 1 1 2 (omega arith) (omega arith) (omega arith)
+
+gone_size : (n : ℕ) → size (frame_gone n) ≤ 3
+gone_size n = go (n == 0)
+  where
+    go : (b : Bool) → size (cond b (item.Op (instr.Plain RET) ∷ []) (item.Op (instr.Mov (RegReg 15 14)) ∷ item.Op (instr.One POP 14) ∷ item.Op (instr.Plain RET) ∷ [])) ≤ 3
+    go true = one_item (item.Op (instr.Plain RET)) 3 (omega arith)
+    go false = three_items (item.Op (instr.Mov (RegReg 15 14))) (item.Op (instr.One POP 14)) (item.Op (instr.Plain RET)) 1 1 1 (omega arith) (omega arith) (omega arith)
 
 module _ (x : CodeT Where) (W : Whole) (counts : Counts x W) where
   abbrev Sound : FunctionT Where → Type 0
@@ -272,17 +276,13 @@ module _ (x : CodeT Where) (W : Whole) (counts : Counts x W) where
   function_size : (f n : ℕ) (g : FunctionT Where) → Sound g → size (function_items W f n g.body) ≤ function_weight g
   function_size f n g ok =
       let F = W.frames f in
-      let x0 = total_append (entry_items W f F) (code_items W F n [] (n + 1) g.body ++ exit_items n) in
-      let y = total_append (code_items W F n [] (n + 1) g.body) (exit_items n) in
-      let l = item.Label (function_label W.names f) in
-      let p = item.Op (instr.One PUSH 14) in
-      let v = item.Op (instr.Mov (RegReg 14 15)) in
-      let e1 = total_more l (p ∷ v ∷ room_made F.size) in
-      let e2 = total_more p (v ∷ room_made F.size) in
-      let e3 = total_more v (room_made F.size) in
-      let e4 = room_size F.size in
-      let z = four_items (mark n) (item.Op (instr.Mov (RegReg 15 14))) (item.Op (instr.One POP 14)) (item.Op (instr.Plain RET)) 0 1 1 1 (omega arith) (omega arith) (omega arith) (omega arith) in
-      omega (arith, x0, y, e1, e2, e3, e4, z, code_size x W counts (length g.locals) F n g.body [] [] (n + 1) ok)
+      let x0 = total_append (entry_items W f F) (code_items W F n [] (n + 1) g.body ++ exit_items n F) in
+      let y = total_append (code_items W F n [] (n + 1) g.body) (exit_items n F) in
+      let e1 = total_more (item.Label (function_label W.names f)) (frame_made F.size) in
+      let e2 = total_more (mark n) (frame_gone F.size) in
+      let made = made_size F.size in
+      let gone = gone_size F.size in
+      omega (arith, x0, y, e1, e2, made, gone, code_size x W counts (length g.locals) F n g.body [] [] (n + 1) ok)
 
   functions_size : (f n : ℕ) (gs : List (FunctionT Where)) → AllOf Sound gs → size (functions_items W f n gs) ≤ sum_by function_weight gs
   functions_size f n [] ok = omega (arith, total_none)

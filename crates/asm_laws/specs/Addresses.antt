@@ -18,7 +18,7 @@ use Rattle.asm_laws.specs.Names.{literal_label}
 use Rattle.asm_laws.specs.Operations.{Frame, Whole}
 use Rattle.v32_isa.proofs.Steps.{Reaches}
 
--- the registers that temporaries stand in, the word at each address, the end of the frame, the top of the stack
+-- the registers that temporaries stand in, the word at each address, BP, which is the end of the frame where there is one, the top of the stack
 pub record Addr : Type 0 where
   pub regs : ℕ → ℕ
   pub memory : ℕ → ℕ

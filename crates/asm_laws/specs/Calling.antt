@@ -101,4 +101,4 @@ pub record FunctionAt (S : Setting) (f : ℕ) : Type 0 where
   pub entry : Stand S.console.words S.address begins (frame_made (S.whole.frames f).size) (S.enters f)
   pub body : At (shapes S) f [] (S.enters f) (function_at S.code f).body (S.leaves f)
   pub ends : ℕ
-  pub exit : Stand S.console.words S.address (S.leaves f) frame_gone ends
+  pub exit : Stand S.console.words S.address (S.leaves f) (frame_gone (S.whole.frames f).size) ends

@@ -90,12 +90,12 @@ module _ (W : Whole) (F : Frame) (out : ℕ) where
 abbrev pub entry_items : Whole → ℕ → Frame → List AsmItem
 entry_items W f F = items.Label (function_label W.names f) ∷ frame_made F.size
 
-abbrev pub exit_items : ℕ → List AsmItem
-exit_items n = mark n ∷ frame_gone
+abbrev pub exit_items : ℕ → Frame → List AsmItem
+exit_items n F = mark n ∷ frame_gone F.size
 
 -- the items of a function behind its label
 abbrev pub own_items : Whole → ℕ → ℕ → NodesT Where → List AsmItem
-own_items W f n body = frame_made (W.frames f).size ++ (code_items W (W.frames f) n [] (n + 1) body ++ exit_items n)
+own_items W f n body = frame_made (W.frames f).size ++ (code_items W (W.frames f) n [] (n + 1) body ++ exit_items n (W.frames f))
 
 abbrev pub function_items : Whole → ℕ → ℕ → NodesT Where → List AsmItem
 function_items W f n body = items.Label (function_label W.names f) ∷ own_items W f n body

@@ -75,10 +75,11 @@ pub record Fits (S : Setting) : Type 0 where
   -- the program ends below the card
   pub short : length S.console.words < 0x10000000
 
--- What a call keeps of its callers: its number, the end of its frame, how many objects were there and what they were and where, and words that
+-- What a call keeps of its callers: its number, BP, the end of its frame, how many objects were there and what they were and where, and words that
 -- stay.
 pub record Ctx : Type 0 where
   pub fn : ℕ
+  pub pointer : ℕ
   pub base : ℕ
   pub first : ℕ
   pub keep : ℕ → Bool
@@ -128,7 +129,7 @@ pub record Ranges (S : Setting) (κ : Ctx) (os : List ObjectT) (place : ℕ → 
   pub ends : (o : ℕ) → Lives os o → place o + wide os o ≤ 0x40000000
   pub cards : (o : ℕ) → Lives os o → CardAs S.console (object_at os o).kind (object_at os o).cells
   pub apart : (o p i j : ℕ) → Lives os o → Lives os p → i < wide os o → j < wide os p → place o + i ≡ place p + j → o ≡ p
-  pub outer : (o i : ℕ) → o < κ.first → Lives os o → i < wide os o → (place o + i < (sizes S).globals) ⊎ (κ.base + 2 ≤ place o + i)
+  pub outer : (o i : ℕ) → o < κ.first → Lives os o → i < wide os o → (place o + i < (sizes S).globals) ⊎ (κ.base ≤ place o + i)
   pub mine : (o : ℕ) → κ.first ≤ o → Lives os o → (k : ℕ) × (k < length locals) × (local_object locals k ≡ Some o)
   pub local : (k o : ℕ) → k < length locals → local_object locals k ≡ Some o → (κ.first ≤ o) × (o < length os) × (place o + ((S.whole.frames κ.fn).size - local_offset S κ.fn k) ≡ κ.base)
   pub local_wide : (k o : ℕ) → k < length locals → local_object locals k ≡ Some o → Lives os o → wide os o ≡ local_words S κ.fn k
@@ -149,15 +150,18 @@ pub record Kept (S : Setting) (κ : Ctx) (memory : ℕ → ℕ) : Type 0 where
   pub same : (a : ℕ) → κ.keep a ≡ true → memory a ≡ κ.old a
   pub above : (a : ℕ) → κ.keep a ≡ true → κ.base ≤ a
 
--- the frame
+-- The frame. Where it has words, BP is its end; else it is that of a caller.
 pub record Stack (S : Setting) (κ : Ctx) (function : Option ℕ) (locals used base top : ℕ) : Type 0 where
   pub called_as : function ≡ S.called_as κ.fn
   pub locals_are : locals ≡ length (S.locals κ.fn)
-  pub base_is : base ≡ κ.base
+  pub base_is : base ≡ κ.pointer
+  pub framed : 1 ≤ (S.whole.frames κ.fn).size → κ.pointer ≡ κ.base
+  pub pointer_high : κ.pointer ≤ 0x400000
   pub top_is : top + S.depth κ.fn ≡ κ.base
   pub low : (sizes S).globals + (S.whole.frames κ.fn).size ≤ κ.base
   pub high : κ.base ≤ 0x400000
-  pub used_is : κ.base + used ≡ 0x400000 + S.depth κ.fn
+  -- no more words are in use than the printed frames, and two for each call, have
+  pub used_is : 0x400000 + S.depth κ.fn ≤ κ.base + used
 
 pub record HoldsAt (S : Setting) (κ : Ctx) (s : Store) (cells : Where → Cell) (place : ℕ → ℕ) (a : Addr) : Type 0 where
   pub temps : Temps S κ (length s.objects) place cells a.regs a.memory

@@ -18,6 +18,7 @@ use Rattle.asm_laws.specs.Calling.{Callable, CallAt, FunctionAt, shapes}
 abbrev pub first_context : (S : Setting) → ℕ → Option (List ℕ) → Ctx
 first_context S boot card = record {
   fn = boot;
+  pointer = 0x400000;
   base = 0x400000;
   first = length (opening_objects S.code.globals S.code.literals card);
   keep = λ a. false;

@@ -1,9 +1,10 @@
 -- What a call does to the words: its arguments, its link, the new frame, and the way back.
-use Rattle.std.specs.Prelude.{ℕ, ◌+◌, ◌-◌, List, [], ◌∷◌, get_or}
+use Rattle.std.specs.Prelude.{ℕ, ◌+◌, ◌-◌, ◌==◌, cond, List, [], ◌∷◌, get_or}
 use Rattle.v32_isa.specs.State.{written}
 use Rattle.mid_code.specs.declared.placed.Where.{Where}
 use Rattle.mid_code.specs.declared.placed.Where.TheVariants.{Reg, Slot}
 use Rattle.asm_laws.specs.Operations.{Frame}
+use Rattle.asm_laws.specs.Framing.{link_words}
 use Rattle.asm_laws.specs.Addresses.{Addr, word_of, store}
 
 -- a slot of the frame that the call will have stands below the two words of its link
@@ -39,13 +40,21 @@ abbrev pub all_popped : List Where → Addr → Addr
 all_popped [] a = a
 all_popped (p ∷ ps) a = popped p (all_popped ps a)
 
--- the address after the call and the old end of the frame are pushed, and the new frame is made
+-- the address after the call is pushed; where the new frame has words, BP is pushed, and the frame is made
 abbrev pub entered : Frame → ℕ → Addr → Addr
-entered G next a = record (push a.base (push next a)) { base = a.top - 2; top = a.top - 2 - G.size }
+entered G next a = record a {
+  memory = cond (G.size == 0) (push next a).memory (push a.base (push next a)).memory;
+  base = cond (G.size == 0) a.base (a.top - 2);
+  top = a.top - link_words G.size - G.size;
+}
 
--- the frame is taken away: the old end of the frame is back, and the way back stood above it
-abbrev pub gone_back : Addr → Addr
-gone_back a = record a { base = a.memory a.base; top = a.base + 2 }
+-- where the address after the call stands at a function's end, once the frame is taken away
+abbrev pub way_back : ℕ → Addr → ℕ
+way_back size a = cond (size == 0) a.top (a.base + 1)
+
+-- the frame is taken away, where it has words: BP is what it was before; and that address is popped
+abbrev pub gone_back : ℕ → Addr → Addr
+gone_back size a = record a { base = cond (size == 0) a.base (a.memory a.base); top = way_back size a + 1 }
 
 -- the instructions that each argument takes
 abbrev pub slot_steps : List Where → ℕ

@@ -38,7 +38,7 @@ pub record BodyAt (S : Setting) (f : ℕ) : Type 0 where
   pub entry : Stand S.console.words S.address begins (frame_made (S.whole.frames f).size) (S.enters f)
   pub body : At (items_at S) f [] (S.enters f) (function_at S.code f).body (S.leaves f)
   pub ends : ℕ
-  pub exit : Stand S.console.words S.address (S.leaves f) frame_gone ends
+  pub exit : Stand S.console.words S.address (S.leaves f) (frame_gone (S.whole.frames f).size) ends
 
 pub record ProgramAt (S : Setting) (boot : ℕ) : Type 0 where
   pub opening : Stand S.console.words S.address 0x20000000 opening_items (S.enters boot)

@@ -8,7 +8,7 @@ use Rattle.c_lex.specs.declared.token.Token.{Token}
 use Rattle.c_prep.specs.declared.error.PrepErr.{PrepErr}
 use Rattle.c_prep.specs.declared.error.PrepErr.TheVariants as prep
 use Rattle.c_prep.specs.Files.{expansion_of}
-use Rattle.c_prep.specs.Reached.{AreFirst, Reaches, names_of, read_by}
+use Rattle.c_prep.specs.Reached.{AreFirst, Reaches, names_of}
 use Rattle.c_front.specs.declared.error.FrontErr.{FrontErr}
 use Rattle.c_front.specs.declared.error.FrontErr.TheVariants as errors
 use Rattle.c_front.specs.declared.unit.Parsed.{Parsed}
@@ -17,7 +17,7 @@ use Rattle.c_front.specs.Due.{told_as}
 use Rattle.c_front.specs.Inner.{Tells}
 use Rattle.c_front.specs.Names.{name_of}
 use Rattle.c_front.specs.Over.{over}
-use Rattle.c_front.specs.Reached.{FailsAtOne, IsReadFor}
+use Rattle.c_front.specs.Reached.{FailsAtOne}
 
 last_contained : (names all : List (List ℕ)) (file : ℕ) (source : List ℕ) → suc file ≡ length names → AreFirst names all → Contains all (name_of source names file)
 last_contained names all file source last first =

@@ -2,3 +2,4 @@ pub mod Laying
 pub mod Faulting
 pub mod Answering
 pub mod Failing
+pub mod Listing

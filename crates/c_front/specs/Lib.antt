@@ -3,6 +3,7 @@ pub mod Names
 pub mod Places
 pub mod Due
 pub mod Answer
+pub mod Codes
 pub mod Causes
 pub mod Inner
 pub mod Reached

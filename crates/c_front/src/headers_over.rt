@@ -1,11 +1,12 @@
 // The headers laid over the files.
-ghost use Rattle.std.specs.Prelude.{ℕ, Option, None, ◌≡◌, ◌≤◌, IfOk, IfSome, IsUtf8, length, option_map, true};
+ghost use Rattle.std.specs.Prelude.{ℕ, Option, None, ◌≡◌, ◌≤◌, IfOk, IfErr, IfSome, IsUtf8, length, option_map, true};
 ghost use Rattle.std.specs.List.{list_all};
 ghost use Rattle.std.specs.Str.{is_utf8};
 ghost use Rattle.kit_base.specs.Held.{Held};
 ghost use Rattle.c_prep.specs.Files.{Answers, expansion_of};
 ghost use Rattle.c_prep.specs.Numbers.{HaveLines, Numbered};
 ghost use Rattle.c_prep.specs.Reached.{Reaches, names_of};
+ghost use Rattle.c_prep.specs.Codes.{HasReadingCode};
 ghost use Rattle.c_prep.specs.Causes.{Caused, HasFailed, IsOver, Lacks};
 ghost use Rattle.c_front.specs.Over.{held_set, over};
 
@@ -87,6 +88,7 @@ fn expand_lent<'a, F: Reads, L: Loan>(
     ensures texts { list_all is_utf8 names.new.items ≡ true }
     ensures lines { IfOk answer.new (λ v. HaveLines v.items) }
     ensures limits { IfOk answer.new (λ v. length v.items ≤ 200000) }
+    ensures codes { IfErr answer.new HasReadingCode }
     ensures faults { Caused (HasFailed answer.new) (F.faults files.old) (F.faults result.files.now) }
     ensures misses { Caused (Lacks answer.new) (F.misses files.old) (F.misses result.files.now) }
     ensures overs { Caused (IsOver answer.new) (F.overs files.old) (F.overs result.files.now) }
@@ -117,6 +119,7 @@ pub fn expand_over<F: Reads>(
     ensures texts { list_all is_utf8 names.new.items ≡ true }
     ensures lines { IfOk result (λ v. HaveLines v.items) }
     ensures limits { IfOk result (λ v. length v.items ≤ 200000) }
+    ensures codes { IfErr result HasReadingCode }
     ensures faults { Caused (HasFailed result) (F.faults files.old) (F.faults files.new) }
     ensures misses { Caused (Lacks result) (F.misses files.old) (F.misses files.new) }
     ensures overs { Caused (IsOver result) (F.overs files.old) (F.overs files.new) }

@@ -1,6 +1,7 @@
 // From tokens that stand somewhere to their unit.
 ghost use Rattle.std.specs.Prelude.{◌≤◌, length, IfOk, IfErr};
 ghost use Rattle.c_front.specs.Causes.{IsOfTokens, IsWithin};
+ghost use Rattle.c_front.specs.Codes.{HasFrontCode};
 ghost use Rattle.c_front.specs.Due.{refusal_at};
 ghost use Rattle.c_front.specs.Inner.{Parses, Tells};
 
@@ -27,6 +28,7 @@ pub fn parse_at(alloc: Global, places: Places) -> Result<Parsed, FrontErr>
     ensures parsed { Parses places result }
     ensures limits { IfOk result IsWithin }
     ensures kinds { IfErr result IsOfTokens }
+    ensures codes { IfErr result HasFrontCode }
 {
     units_have_few_nodes();
     match parse(alloc, places.tokens.as_slice()) {

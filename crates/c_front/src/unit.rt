@@ -13,6 +13,7 @@ ghost use Rattle.c_parse.specs.Units.{Derives, Unit_};
 ghost use Rattle.c_front.specs.Over.{over};
 ghost use Rattle.c_front.specs.Due.{Answers, told_as};
 ghost use Rattle.c_front.specs.Answer.{IsTooDeep, IsUnitOf};
+ghost use Rattle.c_front.specs.Codes.{HasFrontCode};
 ghost use Rattle.c_front.specs.Causes.{HasFailed, IsOver, IsWithin, Lacks, MissesOnly};
 ghost use Rattle.c_front.specs.Inner.{Tells};
 ghost use Rattle.c_front.specs.Reached.{FailsAtOne};
@@ -86,6 +87,8 @@ pub fn read_unit<F: Reads>(alloc: Global, files: &mut F, source: &str) -> Result
     ensures source { IfOk result (λ p. p.places.source ≡ source.now) }
     // of at most 200,000 tokens and nodes, and 200 trees on a path.
     ensures limits { IfOk result IsWithin }
+    // A refusal of what a source says has a code that is listed.
+    ensures codes { IfErr result HasFrontCode }
     // What is missing is the source; no count falls, and `Failed` comes only where the faults rose, `Missing`
     // and code 21 only where the misses rose, and `Limit` only where the overs rose.
     ensures missing { IfErr result (MissesOnly source.now) }

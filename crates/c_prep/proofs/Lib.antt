@@ -3,6 +3,7 @@ pub mod Directing
 pub mod Lookups
 pub mod Unwinding
 pub mod LexCodes
+pub mod Listing
 pub mod Numbering
 pub mod Standing
 pub mod Room

@@ -4,7 +4,6 @@ use Rattle.std.specs.Prelude.{Option, Some, None, Result, Ok, Err, IfErr, nat_lt
 use Rattle.std.proofs.lemmas.List.{append-nil}
 use Rattle.kit_base.specs.Held.{Held}
 use Rattle.c_lex.specs.declared.token.Token.{Token}
-use Rattle.c_prep.specs.declared.error.FaultAt.{FaultAt}
 use Rattle.c_prep.specs.declared.error.PrepErr.{PrepErr}
 use Rattle.c_prep.specs.declared.error.PrepErr.TheVariants as e
 use Rattle.c_prep.specs.declared.conditions.Condition.{Condition}
@@ -13,7 +12,7 @@ use Rattle.c_prep.specs.Faults.{◌>>=◌}
 use Rattle.c_prep.specs.Conditions.{closed}
 use Rattle.c_prep.specs.Lines.{lines_of}
 use Rattle.c_prep.specs.Steps.{step_at}
-use Rattle.c_prep.specs.Files.{Progress, Stop, Expansion, InFile, Including, Inclusion, stopping, refusing, line_by, include_in, lines_at, tokens_of, ended, with_name, file_at, missing_at, too_deep, include_at, opening, expansion_of}
+use Rattle.c_prep.specs.Files.{Progress, Stop, InFile, Including, Inclusion, stopping, refusing, line_by, include_in, lines_at, tokens_of, ended, with_name, file_at, missing_at, too_deep, include_at, opening, expansion_of}
 use Rattle.c_prep.specs.Inner.{IsOfText, IsFailedAt, so_far}
 use Rattle.c_prep.specs.Reached.{AreFirst, Reaches, names_of, read_by}
 use Rattle.c_prep.proofs.Including.{by_include}

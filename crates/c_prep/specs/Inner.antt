@@ -65,7 +65,7 @@ included (Some i) = Some (record { hash = i.hash.now; name = i.name.now })
 
 -- a refusal that says that a file is not held
 abbrev pub SaysMissing : PrepErr → Type 0
-SaysMissing (e.At code file line) = Unit {0}
+SaysMissing (e.At code file line) = code ≡ 21
 SaysMissing e.NoSource = Unit {0}
 SaysMissing _ = ⊥
 

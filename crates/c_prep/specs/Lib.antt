@@ -8,6 +8,7 @@ pub mod Directives
 pub mod Conditions
 pub mod Steps
 pub mod Files
+pub mod Codes
 pub mod Causes
 pub mod Numbers
 pub mod Reached

@@ -1,10 +1,11 @@
 // A source as the tokens that it stands for.
-ghost use Rattle.std.specs.Prelude.{◌≡◌, ◌≤◌, length, true, IfOk, IfSome};
+ghost use Rattle.std.specs.Prelude.{◌≡◌, ◌≤◌, length, true, IfOk, IfErr, IfSome};
 ghost use Rattle.std.specs.List.{list_all};
 ghost use Rattle.std.specs.Str.{is_utf8};
 ghost use Rattle.c_prep.specs.Files.{Answers, expansion_of};
 ghost use Rattle.c_prep.specs.Numbers.{HaveLines, Numbered};
 ghost use Rattle.c_prep.specs.Reached.{Reaches, names_of};
+ghost use Rattle.c_prep.specs.Codes.{HasReadingCode};
 ghost use Rattle.c_prep.specs.Causes.{Caused, HasFailed, IsOver, Lacks};
 
 use crate::error::PrepErr;
@@ -42,6 +43,8 @@ pub fn expand<F: Reads>(
     ensures texts { list_all is_utf8 names.new.items ≡ true }
     ensures lines { IfOk result (λ v. HaveLines v.items) }
     ensures limits { IfOk result (λ v. length v.items ≤ 200000) }
+    // A refusal at a place has a code that is listed.
+    ensures codes { IfErr result HasReadingCode }
     // No count falls. `Failed` comes only where the faults rose, `NoSource` and code 21 only where the
     // misses rose, and `TooLong` only where the overs rose.
     ensures faults { Caused (HasFailed result) (F.faults files.old) (F.faults files.new) }

@@ -12,6 +12,7 @@ ghost use Rattle.c_prep.specs.Steps.{step_at};
 ghost use Rattle.c_prep.specs.Files.{bytes_of, code_of, file_at, include_at, include_in, lexed, missing_at, refusal, refusing, stopping, tokens_of};
 ghost use Rattle.c_prep.specs.Inner.{ArePlaced, GivesAs, GivesOut, IsFailedAt, IsOfText, PlacedIn, PlacedPut, SaysMissing, included, refused, so_far};
 ghost use Rattle.c_prep.specs.Causes.{HasCauses};
+ghost use Rattle.c_prep.specs.Codes.{HasReadingCode};
 ghost use Rattle.c_prep.specs.Numbers.{IsBelow};
 ghost use Rattle.c_prep.specs.Reached.{Reaches};
 
@@ -49,6 +50,7 @@ fn code_of(fault: Fault) -> u32
 fn refusal(x: FaultAt) -> PrepErr
     ensures told { result ≡ refusal x }
     ensures text { IsOfText result }
+    ensures codes { HasReadingCode result }
 {
     PrepErr::At {
         code: code_of(x.fault),
@@ -61,6 +63,7 @@ fn refusal(x: FaultAt) -> PrepErr
 fn refusing(result_of: Result<(), StepErr>) -> Result<(), PrepErr>
     ensures told { result ≡ refused result_of }
     ensures text { IfErr result IsOfText }
+    ensures codes { IfErr result HasReadingCode }
 {
     match result_of {
         Ok(()) => Ok(()),
@@ -82,6 +85,7 @@ fn name_file(alloc: Global, names: &mut Vec<Name>, name: &str) -> Result<u32, Me
     Ok(file)
 }
 
+#[tactic(auto, using(crate::proofs::Listing::missing_code))]
 fn read_file<F: Reads>(
     alloc: Global,
     files: &mut F,
@@ -95,6 +99,7 @@ fn read_file<F: Reads>(
     ensures limit { IfOk result (λ v. length v.items ≤ 268435456) }
     ensures numbers { (n : ℕ) → file < n → IsBelow n missing → IfErr result (IsBelow n) }
     ensures failed { IfErr result (IsFailedAt file) }
+    ensures codes { IfErr result HasReadingCode }
     ensures causes { HasCauses result (F.faults files.old) (F.faults files.new) (F.misses files.old) (F.misses files.new) (F.overs files.old) (F.overs files.new) }
 {
     match files.read(alloc, name) {
@@ -110,6 +115,7 @@ fn lex_file(alloc: Global, bytes: &[u8], file: u32) -> Result<Vec<Token>, PrepEr
     requires { length bytes.now ≤ 268435456 }
     ensures told { GivesAs (λ v. v.items) result (lexed file (reading_of file bytes.now)) }
     ensures text { IfErr result IsOfText }
+    ensures codes { IfErr result HasReadingCode }
     ensures numbers { (n : ℕ) → file < n → PlacedIn n result }
 {
     match lex(alloc, bytes, file) {
@@ -138,6 +144,7 @@ fn tokens_of<F: Reads>(
     ensures told { (m : Held) → F.held files.old ≡ Some m → GivesAs (λ v. v.items) result (tokens_of m missing name.now file) }
     ensures numbers { (n : ℕ) → file < n → IsBelow n missing → PlacedIn n result }
     ensures failed { IfErr result (IsFailedAt file) }
+    ensures codes { IfErr result HasReadingCode }
     ensures causes { HasCauses result (F.faults files.old) (F.faults files.new) (F.misses files.old) (F.misses files.new) (F.overs files.old) (F.overs files.new) }
 {
     let bytes = match read_file(alloc, files, missing, name, file) {
@@ -173,6 +180,7 @@ fn may_include(room: u32, names: &[Name], hash: &Token) -> Result<(), PrepErr>
     ensures some { OnOk result (0 < room) }
     ensures few { OnOk result (length names.now < 10000) }
     ensures deep { IfErr result (λ x. x ≡ refusal (fault_at TooDeep hash.now)) }
+    ensures codes { IfErr result HasReadingCode }
     ensures when { OnErr result ((nat_lt 0 room && nat_lt (length names.now) 10000) ≡ false) }
 {
     if room > 0 && names.len() < FILES {
@@ -184,6 +192,7 @@ fn may_include(room: u32, names: &[Name], hash: &Token) -> Result<(), PrepErr>
 
 fn missing_at(hash: &Token) -> PrepErr
     ensures told { result ≡ missing_at hash.now }
+    ensures says { SaysMissing result }
     ensures numbers { (n : ℕ) → hash.now.file < n → IsBelow n result }
 {
     PrepErr::At {
@@ -202,6 +211,7 @@ fn step_line(
 ) -> Result<(), PrepErr>
     ensures told { (names : List (List ℕ)) → GivesOut (work.new, conds.new) names result (stopping names (refusing (step_at line.now work.old conds.old))) }
     ensures text { IfErr result IsOfText }
+    ensures codes { IfErr result HasReadingCode }
     ensures numbers { (n : ℕ) → ArePlaced n line.now → ArePlaced n work.old.out.tokens → PlacedPut n work.new.out.tokens result }
 {
     refusing(step_at(alloc, line, work, conds))
@@ -210,6 +220,7 @@ fn step_line(
 fn close(conds: &Conditions, file: u32) -> Result<(), PrepErr>
     ensures told { (names : List (List ℕ)) → GivesOut tt names result (stopping names (refusing (closed file conds.now))) }
     ensures text { IfErr result IsOfText }
+    ensures codes { IfErr result HasReadingCode }
     ensures numbers { (n : ℕ) → file < n → IfErr result (IsBelow n) }
 {
     refusing(conds.closed(file))
@@ -237,6 +248,7 @@ pub fn expand_file<F: Reads>(
     ensures texts { list_all is_utf8 names.new.items ≡ true }
     ensures more { OnOk result (length names.old.items ≤ length names.new.items) }
     ensures numbers { PlacedPut (length names.new.items) work.new.out.tokens result }
+    ensures codes { IfErr result HasReadingCode }
     ensures causes { HasCauses result (F.faults files.old) (F.faults files.new) (F.misses files.old) (F.misses files.new) (F.overs files.old) (F.overs files.new) }
 {
     let Ok(file) = name_file(alloc, names, name) else {

@@ -1,5 +1,6 @@
 use Rattle.std.proofs.Common.{rules}
 use Rattle.c_front.proofs.Answering.{derived_told, deeper_told, unit_told, refusal_told}
+use Rattle.c_front.proofs.Listing.{read_code}
 use Rattle.c_front.proofs.Failing.{reading_fails, tokens_fail}
 use Rattle.c_front.proofs.unit.read_unit.Goals as goal
 
@@ -27,3 +28,6 @@ returns-in-Ok-expand_over-clause-reached g c = tokens_fail (g.F.Reads.held c.arg
 pub returns-in-Err-clause-reached : goal.returns-in-Err-clause-reached
 returns-in-Err-clause-reached g c = reading_fails (g.F.Reads.held c.args.files.now) c.args.source.now c.in-Ok.named c.expand_over.new.names.items c.in-Err.fault c.told_as.result
     c.in-Ok.ensures (search rules) c.in-Err.ensures.reached
+
+pub returns-in-Err-clause-codes : goal.returns-in-Err-clause-codes
+returns-in-Err-clause-codes g c = read_code c.in-Ok.named c.expand_over.new.names.items c.in-Err.fault c.told_as.result c.in-Err.ensures.codes (search rules)

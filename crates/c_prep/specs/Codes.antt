@@ -1,0 +1,16 @@
+-- The codes of refusals. (The kit's page on refusals, the codes of status 2.)
+use Rattle.std.specs.Prelude.{◌≡◌, ℕ, Bool, true, ◌&&◌, ◌||◌, nat_le}
+use Rattle.c_prep.specs.declared.error.PrepErr.{PrepErr}
+use Rattle.c_prep.specs.declared.error.PrepErr.TheVariants as e
+
+abbrev pub between : (first last code : ℕ) → Bool
+between first last code = nat_le first code && nat_le code last
+
+-- 10 to 14 where a file is no list of tokens, 20 to 26 of directives and macros
+unfoldable pub is_reading_code : ℕ → Bool
+is_reading_code code = between 10 14 code || between 20 26 code
+
+-- a refusal at a place has such a code
+abbrev pub HasReadingCode : PrepErr → Type 0
+HasReadingCode (e.At code file line) = is_reading_code code ≡ true
+HasReadingCode x = Unit {0}

@@ -1,5 +1,5 @@
 -- Names in tables.
-use Rattle.std.proofs.Common.{◌≡◌, ℕ, ◌<◌, Bool, true, false, cond, Option, Some, None, List, [], ◌∷◌, map, refl, sym, ap, ◌∙◌, arith}
+use Rattle.std.proofs.Common.{◌≡◌, ℕ, ◌<◌, Bool, true, false, cond, Option, Some, None, List, [], ◌∷◌, ◌++◌, map, refl, sym, ap, ◌∙◌, arith}
 use Rattle.std.specs.Prelude.{◌↔◌, IsTrue, find, nat_lt, IsUtf8, codes}
 use Rattle.std.specs.Char.{to_ascii_lowercase}
 use Rattle.std.specs.List.{list_all}
@@ -77,3 +77,12 @@ named_text name e is = named_at (bytes_eq name x_axis) (bytes_eq name y_axis) na
 pub ports_are_texts : (name : List ℕ) (o : Option PortEntry) → (IsUtf8 name → ⊥) → port_named name ≡ o → None ≡ option_map (λ (e : PortEntry). e.number) o
 ports_are_texts name None none is = refl
 ports_are_texts name (Some e) none is = absurd (none (IsUtf8-from_ascii name (ascii name (named_text name e is))))
+
+-- a table in two parts: what the first says, else what the second says
+pub said_first : {T : Type 0} (word : List ℕ) (es fs : List (List ℕ × T)) (x : T) → Some x ≡ named word es → Some x ≡ named word (es ++ fs)
+said_first word [] fs x is = absurd cc
+said_first word (e ∷ es) fs x is = grind (arith, said_first word es fs x)
+
+pub said_second : {T : Type 0} (word : List ℕ) (es fs : List (List ℕ × T)) → None ≡ named word es → named word fs ≡ named word (es ++ fs)
+said_second word [] fs is = refl
+said_second word (e ∷ es) fs is = grind (arith, said_second word es fs)

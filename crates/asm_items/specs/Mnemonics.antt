@@ -12,6 +12,8 @@ use Rattle.v32_isa.specs.declared.instruction.One.{One}
 use Rattle.v32_isa.specs.declared.instruction.One.TheVariants.{PUSH, POP, CMPS, CIB, NOT, BNOT, ISGN, IABS}
 use Rattle.v32_isa.specs.declared.instruction.Instr.{Instr}
 use Rattle.v32_isa.specs.declared.instruction.Instr.TheVariants as instr
+use Rattle.asm_items.specs.declared.vocabulary.Operation.{Operation}
+use Rattle.asm_items.specs.declared.vocabulary.Operation.TheVariants as o
 
 abbrev pub plain_name : Plain → List ℕ
 plain_name HLT = codes "HLT"
@@ -57,16 +59,27 @@ one_name BNOT = codes "BNOT"
 one_name ISGN = codes "ISGN"
 one_name IABS = codes "IABS"
 
+abbrev pub operation_name : Operation → List ℕ
+operation_name (o.Plain p) = plain_name p
+operation_name (o.Go g) = go_name g
+operation_name (o.Branch b) = branch_name b
+operation_name (o.Two t) = two_name t
+operation_name (o.One one) = one_name one
+operation_name o.Mov = codes "MOV"
+operation_name o.Lea = codes "LEA"
+operation_name o.In = codes "IN"
+operation_name o.Out = codes "OUT"
+
 abbrev pub mnemonic : {I : Type 0} → Instr I → List ℕ
 mnemonic (instr.Plain p) = plain_name p
 mnemonic (instr.Go g s) = go_name g
 mnemonic (instr.Branch b a s) = branch_name b
 mnemonic (instr.Two t a s) = two_name t
 mnemonic (instr.One o a) = one_name o
-mnemonic (instr.Mov m) = codes "MOV"
-mnemonic (instr.Lea a b i) = codes "LEA"
-mnemonic (instr.In a p) = codes "IN"
-mnemonic (instr.Out p s) = codes "OUT"
+mnemonic (instr.Mov m) = operation_name o.Mov
+mnemonic (instr.Lea a b i) = operation_name o.Lea
+mnemonic (instr.In a p) = operation_name o.In
+mnemonic (instr.Out p s) = operation_name o.Out
 
 -- registers 11 to 15 have names of their own
 abbrev pub register_name : ℕ → List ℕ

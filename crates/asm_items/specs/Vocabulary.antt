@@ -1,5 +1,5 @@
 -- The words of assembly text (the assembly guide, sections on labels, on the instructions, on the registers and on data).
-use Rattle.std.specs.Prelude.{ℕ, List, [], ◌∷◌, ◌==◌, ◌||◌, ◌&&◌, Bool, true, false, Option, Some, None, map, codes, if◌then◌else◌}
+use Rattle.std.specs.Prelude.{ℕ, List, [], ◌∷◌, ◌++◌, ◌==◌, ◌||◌, ◌&&◌, Bool, true, false, Option, Some, None, map, codes, if◌then◌else◌}
 use Rattle.std.specs.Char.{is_ascii_alphabetic, is_ascii_digit, to_ascii_lowercase}
 use Rattle.std.specs.List.{list_all}
 use Rattle.std.specs.Str.{bytes_eq}
@@ -10,10 +10,12 @@ use Rattle.v32_isa.specs.declared.instruction.Branch.TheVariants.{JT, JF}
 use Rattle.v32_isa.specs.declared.instruction.Two.TheVariants.{IEQ, INE, IGT, IGE, ILT, ILE, AND, OR, XOR, SHL, IADD, ISUB, IMUL, IDIV, IMOD, IMIN, IMAX}
 use Rattle.v32_isa.specs.declared.instruction.One.TheVariants.{PUSH, POP, CMPS, CIB, NOT, BNOT, ISGN, IABS}
 use Rattle.v32_isa.specs.Ports.{PortEntry, port_named}
+use Rattle.asm_items.specs.declared.vocabulary.Operation.{Operation}
 use Rattle.asm_items.specs.declared.vocabulary.Operation.TheVariants as o
 use Rattle.asm_items.specs.declared.vocabulary.DataWord.TheVariants as d
 use Rattle.asm_items.specs.declared.vocabulary.WordKind.{WordKind}
 use Rattle.asm_items.specs.declared.vocabulary.WordKind.TheVariants as w
+use Rattle.asm_items.specs.Mnemonics.{operation_name}
 
 -- a word is a letter or `_`, then letters, digits and `_`
 abbrev pub is_letter : ℕ → Bool
@@ -26,47 +28,51 @@ abbrev pub is_word : List ℕ → Bool
 is_word [] = false
 is_word (b ∷ bs) = is_letter b && list_all is_word_byte bs
 
--- the mnemonics and the data words; those of float instructions stand for none
-unfoldable pub vocabulary : List (List ℕ × WordKind)
-vocabulary =
-    (codes "IEQ", w.Operation (o.Two IEQ)) ∷
-    (codes "INE", w.Operation (o.Two INE)) ∷
-    (codes "IGT", w.Operation (o.Two IGT)) ∷
-    (codes "IGE", w.Operation (o.Two IGE)) ∷
-    (codes "ILT", w.Operation (o.Two ILT)) ∷
-    (codes "ILE", w.Operation (o.Two ILE)) ∷
-    (codes "AND", w.Operation (o.Two AND)) ∷
-    (codes "OR", w.Operation (o.Two OR)) ∷
-    (codes "XOR", w.Operation (o.Two XOR)) ∷
-    (codes "SHL", w.Operation (o.Two SHL)) ∷
-    (codes "IADD", w.Operation (o.Two IADD)) ∷
-    (codes "ISUB", w.Operation (o.Two ISUB)) ∷
-    (codes "IMUL", w.Operation (o.Two IMUL)) ∷
-    (codes "IDIV", w.Operation (o.Two IDIV)) ∷
-    (codes "IMOD", w.Operation (o.Two IMOD)) ∷
-    (codes "IMIN", w.Operation (o.Two IMIN)) ∷
-    (codes "IMAX", w.Operation (o.Two IMAX)) ∷
-    (codes "MOV", w.Operation o.Mov) ∷
-    (codes "LEA", w.Operation o.Lea) ∷
-    (codes "IN", w.Operation o.In) ∷
-    (codes "OUT", w.Operation o.Out) ∷
-    (codes "HLT", w.Operation (o.Plain HLT)) ∷
-    (codes "WAIT", w.Operation (o.Plain WAIT)) ∷
-    (codes "RET", w.Operation (o.Plain RET)) ∷
-    (codes "MOVS", w.Operation (o.Plain MOVS)) ∷
-    (codes "SETS", w.Operation (o.Plain SETS)) ∷
-    (codes "JMP", w.Operation (o.Go JMP)) ∷
-    (codes "CALL", w.Operation (o.Go CALL)) ∷
-    (codes "JT", w.Operation (o.Branch JT)) ∷
-    (codes "JF", w.Operation (o.Branch JF)) ∷
-    (codes "PUSH", w.Operation (o.One PUSH)) ∷
-    (codes "POP", w.Operation (o.One POP)) ∷
-    (codes "CMPS", w.Operation (o.One CMPS)) ∷
-    (codes "CIB", w.Operation (o.One CIB)) ∷
-    (codes "NOT", w.Operation (o.One NOT)) ∷
-    (codes "BNOT", w.Operation (o.One BNOT)) ∷
-    (codes "ISGN", w.Operation (o.One ISGN)) ∷
-    (codes "IABS", w.Operation (o.One IABS)) ∷
+abbrev pub operations : List Operation
+operations =
+    o.Two IEQ ∷
+    o.Two INE ∷
+    o.Two IGT ∷
+    o.Two IGE ∷
+    o.Two ILT ∷
+    o.Two ILE ∷
+    o.Two AND ∷
+    o.Two OR ∷
+    o.Two XOR ∷
+    o.Two SHL ∷
+    o.Two IADD ∷
+    o.Two ISUB ∷
+    o.Two IMUL ∷
+    o.Two IDIV ∷
+    o.Two IMOD ∷
+    o.Two IMIN ∷
+    o.Two IMAX ∷
+    o.Mov ∷
+    o.Lea ∷
+    o.In ∷
+    o.Out ∷
+    o.Plain HLT ∷
+    o.Plain WAIT ∷
+    o.Plain RET ∷
+    o.Plain MOVS ∷
+    o.Plain SETS ∷
+    o.Go JMP ∷
+    o.Go CALL ∷
+    o.Branch JT ∷
+    o.Branch JF ∷
+    o.One PUSH ∷
+    o.One POP ∷
+    o.One CMPS ∷
+    o.One CIB ∷
+    o.One NOT ∷
+    o.One BNOT ∷
+    o.One ISGN ∷
+    o.One IABS ∷
+    []
+
+-- the data words, and the mnemonics of float instructions, which stand for none
+abbrev pub others : List (List ℕ × WordKind)
+others =
     (codes "integer", w.Data d.Integers) ∷
     (codes "string", w.Data d.Text) ∷
     (codes "pointer", w.Data d.Pointers) ∷
@@ -97,6 +103,13 @@ vocabulary =
     (codes "LOG", w.Float) ∷
     (codes "POW", w.Float) ∷
     []
+
+-- an operation under its mnemonic
+abbrev pub entry : Operation → List ℕ × WordKind
+entry k = (operation_name k, w.Operation k)
+
+unfoldable pub vocabulary : List (List ℕ × WordKind)
+vocabulary = map entry operations ++ others
 
 -- registers 11 to 15 have a second name
 unfoldable pub registers : List (List ℕ × ℕ)

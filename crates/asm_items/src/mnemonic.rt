@@ -1,7 +1,8 @@
 // The mnemonics, and the names of registers.
 ghost use Rattle.std.specs.Prelude.{◌≡◌};
-ghost use Rattle.asm_items.specs.Mnemonics.{plain_name, go_name, branch_name, two_name, one_name, register_name};
+ghost use Rattle.asm_items.specs.Mnemonics.{plain_name, go_name, branch_name, two_name, one_name, operation_name, register_name};
 
+use crate::vocabulary::Operation;
 use v32_isa::{Branch, Go, One, Plain, Reg, Two};
 
 pub fn plain_name(p: Plain) -> &'static str
@@ -70,6 +71,23 @@ pub fn one_name(o: One) -> &'static str
         One::BNOT => "BNOT",
         One::ISGN => "ISGN",
         One::IABS => "IABS",
+    }
+}
+
+/// The mnemonic of an operation.
+pub fn operation_name(o: Operation) -> &'static str
+    ensures { result.now ≡ operation_name o }
+{
+    match o {
+        Operation::Plain(p) => plain_name(p),
+        Operation::Go(g) => go_name(g),
+        Operation::Branch(b) => branch_name(b),
+        Operation::Two(t) => two_name(t),
+        Operation::One(o) => one_name(o),
+        Operation::Mov => "MOV",
+        Operation::Lea => "LEA",
+        Operation::In => "IN",
+        Operation::Out => "OUT",
     }
 }
 

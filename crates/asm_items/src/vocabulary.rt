@@ -2,8 +2,9 @@
 ghost use Rattle.std.specs.Prelude.{◌≡◌, ◌<◌, IfSome, map, option_map};
 ghost use Rattle.std.specs.List.{list_all};
 ghost use Rattle.v32_isa.specs.Ports.{port_named};
-ghost use Rattle.asm_items.specs.Vocabulary.{is_label, is_label_word, is_letter, is_spelled, is_word, is_word_byte, listed, named, registers, vocabulary, word_kind};
+ghost use Rattle.asm_items.specs.Vocabulary.{entry, is_label, is_label_word, is_letter, is_spelled, is_word, is_word_byte, listed, named, registers, vocabulary, word_kind};
 
+use crate::mnemonic::operation_name;
 use v32_isa::{Branch, Go, One, Plain, Port, Reg, Two, port_by_name};
 
 /// What a mnemonic stands for: an instruction, less its operands.
@@ -40,45 +41,49 @@ pub enum WordKind {
     Label,
 }
 
-const VOCABULARY: [(&str, WordKind); 67] = [
-    ("IEQ", WordKind::Operation(Operation::Two(Two::IEQ))),
-    ("INE", WordKind::Operation(Operation::Two(Two::INE))),
-    ("IGT", WordKind::Operation(Operation::Two(Two::IGT))),
-    ("IGE", WordKind::Operation(Operation::Two(Two::IGE))),
-    ("ILT", WordKind::Operation(Operation::Two(Two::ILT))),
-    ("ILE", WordKind::Operation(Operation::Two(Two::ILE))),
-    ("AND", WordKind::Operation(Operation::Two(Two::AND))),
-    ("OR", WordKind::Operation(Operation::Two(Two::OR))),
-    ("XOR", WordKind::Operation(Operation::Two(Two::XOR))),
-    ("SHL", WordKind::Operation(Operation::Two(Two::SHL))),
-    ("IADD", WordKind::Operation(Operation::Two(Two::IADD))),
-    ("ISUB", WordKind::Operation(Operation::Two(Two::ISUB))),
-    ("IMUL", WordKind::Operation(Operation::Two(Two::IMUL))),
-    ("IDIV", WordKind::Operation(Operation::Two(Two::IDIV))),
-    ("IMOD", WordKind::Operation(Operation::Two(Two::IMOD))),
-    ("IMIN", WordKind::Operation(Operation::Two(Two::IMIN))),
-    ("IMAX", WordKind::Operation(Operation::Two(Two::IMAX))),
-    ("MOV", WordKind::Operation(Operation::Mov)),
-    ("LEA", WordKind::Operation(Operation::Lea)),
-    ("IN", WordKind::Operation(Operation::In)),
-    ("OUT", WordKind::Operation(Operation::Out)),
-    ("HLT", WordKind::Operation(Operation::Plain(Plain::HLT))),
-    ("WAIT", WordKind::Operation(Operation::Plain(Plain::WAIT))),
-    ("RET", WordKind::Operation(Operation::Plain(Plain::RET))),
-    ("MOVS", WordKind::Operation(Operation::Plain(Plain::MOVS))),
-    ("SETS", WordKind::Operation(Operation::Plain(Plain::SETS))),
-    ("JMP", WordKind::Operation(Operation::Go(Go::JMP))),
-    ("CALL", WordKind::Operation(Operation::Go(Go::CALL))),
-    ("JT", WordKind::Operation(Operation::Branch(Branch::JT))),
-    ("JF", WordKind::Operation(Operation::Branch(Branch::JF))),
-    ("PUSH", WordKind::Operation(Operation::One(One::PUSH))),
-    ("POP", WordKind::Operation(Operation::One(One::POP))),
-    ("CMPS", WordKind::Operation(Operation::One(One::CMPS))),
-    ("CIB", WordKind::Operation(Operation::One(One::CIB))),
-    ("NOT", WordKind::Operation(Operation::One(One::NOT))),
-    ("BNOT", WordKind::Operation(Operation::One(One::BNOT))),
-    ("ISGN", WordKind::Operation(Operation::One(One::ISGN))),
-    ("IABS", WordKind::Operation(Operation::One(One::IABS))),
+const OPERATIONS: [Operation; 38] = [
+    Operation::Two(Two::IEQ),
+    Operation::Two(Two::INE),
+    Operation::Two(Two::IGT),
+    Operation::Two(Two::IGE),
+    Operation::Two(Two::ILT),
+    Operation::Two(Two::ILE),
+    Operation::Two(Two::AND),
+    Operation::Two(Two::OR),
+    Operation::Two(Two::XOR),
+    Operation::Two(Two::SHL),
+    Operation::Two(Two::IADD),
+    Operation::Two(Two::ISUB),
+    Operation::Two(Two::IMUL),
+    Operation::Two(Two::IDIV),
+    Operation::Two(Two::IMOD),
+    Operation::Two(Two::IMIN),
+    Operation::Two(Two::IMAX),
+    Operation::Mov,
+    Operation::Lea,
+    Operation::In,
+    Operation::Out,
+    Operation::Plain(Plain::HLT),
+    Operation::Plain(Plain::WAIT),
+    Operation::Plain(Plain::RET),
+    Operation::Plain(Plain::MOVS),
+    Operation::Plain(Plain::SETS),
+    Operation::Go(Go::JMP),
+    Operation::Go(Go::CALL),
+    Operation::Branch(Branch::JT),
+    Operation::Branch(Branch::JF),
+    Operation::One(One::PUSH),
+    Operation::One(One::POP),
+    Operation::One(One::CMPS),
+    Operation::One(One::CIB),
+    Operation::One(One::NOT),
+    Operation::One(One::BNOT),
+    Operation::One(One::ISGN),
+    Operation::One(One::IABS),
+];
+
+/// The data words, and the mnemonics of float instructions.
+const OTHERS: [(&str, WordKind); 29] = [
     ("integer", WordKind::Data(DataWord::Integers)),
     ("string", WordKind::Data(DataWord::Text)),
     ("pointer", WordKind::Data(DataWord::Pointers)),
@@ -193,11 +198,26 @@ fn number_named(entries: &[(&'static str, u32)], word: &[u8]) -> Option<u32>
     None
 }
 
+/// The word among the mnemonics of operations.
+fn operation_named(operations: &[Operation], word: &[u8]) -> Option<WordKind>
+    ensures { result ≡ named word.now (map entry operations.now) }
+{
+    for operation in operations {
+        if is_spelled(word, operation_name(*operation)) {
+            return Some(WordKind::Operation(*operation));
+        }
+    }
+    None
+}
+
 /// The word among the mnemonics and the data words.
 fn vocabulary_kind(word: &[u8]) -> Option<WordKind>
     ensures { result ≡ named word.now vocabulary }
 {
-    kind_named(&VOCABULARY, word)
+    match operation_named(&OPERATIONS, word) {
+        Some(kind) => Some(kind),
+        None => kind_named(&OTHERS, word),
+    }
 }
 
 fn register_number(word: &[u8]) -> Option<u32>

@@ -5,7 +5,10 @@ ghost use Rattle.asm_items.specs.Operands.{Register, AtRegister, AtOffset, AtPor
 ghost use Rattle.asm_items.specs.Written.{imm_text, item_line, number_text, operand_list, operand_text, operation_text, port_text, written};
 
 use crate::item::{AsmItem, Imm};
-use crate::mnemonic::{branch_name, go_name, one_name, plain_name, register_name, two_name};
+use crate::mnemonic::{
+    branch_name, go_name, one_name, operation_name, plain_name, register_name, two_name,
+};
+use crate::vocabulary::Operation;
 use either::Either;
 use kit_base::{Memory, hex_digit, word_digits};
 use std::alloc::{AllocError, Global};
@@ -187,26 +190,27 @@ fn put_operation(out: &mut Vec<u8>, i: &Instr<Imm>) -> Result<(), AllocError>
             put_first(out, *a)
         }
         Instr::Mov(m) => {
-            put(out, "MOV")?;
+            put(out, operation_name(Operation::Mov))?;
             put_mov(out, m)
         }
         Instr::Lea(a, b, None) => {
-            put(out, "LEA")?;
+            put(out, operation_name(Operation::Lea))?;
             put_front(out, *a)?;
             put_at_register(out, *b)
         }
         Instr::Lea(a, b, Some(i)) => {
-            put(out, "LEA")?;
+            put(out, operation_name(Operation::Lea))?;
             put_front(out, *a)?;
             put_at_offset(out, *b, i)
         }
         Instr::In(a, p) => {
-            put(out, "IN")?;
+            put(out, operation_name(Operation::In))?;
             put_front(out, *a)?;
             put_port(out, *p)
         }
         Instr::Out(p, s) => {
-            put(out, "OUT ")?;
+            put(out, operation_name(Operation::Out))?;
+            put(out, " ")?;
             put_port(out, *p)?;
             put(out, ", ")?;
             put_src(out, s)

@@ -5,3 +5,4 @@ pub mod Fronts
 pub mod Wholes
 pub mod Found
 pub mod Laid
+pub mod Refused

@@ -1,5 +1,5 @@
 -- Words in a file: four bytes each, the lowest first.
-use Rattle.std.specs.Prelude.{ℕ, ◌<◌, ◌^◌, List, [], ◌∷◌, take, drop, get_or}
+use Rattle.std.specs.Prelude.{◌≡◌, ℕ, ◌<◌, ◌^◌, List, [], ◌∷◌, ◌++◌, take, drop, get_or}
 use Rattle.std.specs.List.{flat_map, AllByRecursion}
 use Rattle.std.specs.Int.{w32, to_le_bytes, from_le_bytes}
 
@@ -28,3 +28,7 @@ words_of (a ∷ []) = []
 words_of (a ∷ b ∷ []) = []
 words_of (a ∷ b ∷ c ∷ []) = []
 words_of (a ∷ b ∷ c ∷ d ∷ rest) = from_le_bytes w32 (a ∷ b ∷ c ∷ d ∷ []) ∷ words_of rest
+
+-- what a buffer holds after a refusal: what it held, then a front of the text that was to be added
+abbrev pub AddsFront : (old text new : List ℕ) → Type 0
+AddsFront old text new = (n : ℕ) × (new ≡ old ++ take n text)

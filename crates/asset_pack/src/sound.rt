@@ -1,5 +1,6 @@
 // Sounds.
-ghost use Rattle.std.specs.Prelude.{◌≡◌, ◌≤◌, ◌++◌, length, IfOk, OnOk, IfSome, IfNone, List, ℕ, Ok};
+ghost use Rattle.std.specs.Prelude.{◌≡◌, ◌≤◌, ◌++◌, length, IfOk, OnOk, OnErr, IfSome, IfNone, List, ℕ, Ok};
+ghost use Rattle.asset_pack.specs.Words.{AddsFront};
 ghost use Rattle.asset_pack.specs.Texts.{HasSamples, IsSound, sound_text};
 ghost use Rattle.asset_pack.specs.Reading.{Gives, words_at, words_in};
 
@@ -96,6 +97,7 @@ pub fn read_sound(alloc: Global, bytes: &[u8]) -> Result<Sound, AssetErr>
 #[tactic(auto, unfolding(crate::specs::Texts::sound_text))]
 pub fn put_sound(out: &mut Vec<u8>, s: &Sound) -> Result<(), Memory>
     ensures text { OnOk result (out.new.items ≡ out.old.items ++ sound_text s.now) }
+    ensures refused { OnErr result (AddsFront out.old.items (sound_text s.now) out.new.items) }
     ensures fits { IsSound s.now }
 {
     put_file(out, b"V32-VSND", &[s.samples().len() as u32], s.samples())

@@ -1,5 +1,6 @@
 // Textures.
-ghost use Rattle.std.specs.Prelude.{◌≡◌, ◌≤◌, ◌+◌, ◌*◌, ◌++◌, length, IfOk, OnOk, IfSome, IfNone, List, ℕ, Ok};
+ghost use Rattle.std.specs.Prelude.{◌≡◌, ◌≤◌, ◌+◌, ◌*◌, ◌++◌, length, IfOk, OnOk, OnErr, IfSome, IfNone, List, ℕ, Ok};
+ghost use Rattle.asset_pack.specs.Words.{AddsFront};
 ghost use Rattle.asset_pack.specs.Texts.{Image, HasSides, IsTexture, texture_text};
 ghost use Rattle.asset_pack.specs.Reading.{Gives, texture_at, texture_in};
 
@@ -123,6 +124,7 @@ pub fn read_texture(alloc: Global, bytes: &[u8]) -> Result<Texture, AssetErr>
 #[tactic(auto, unfolding(crate::specs::Texts::texture_text))]
 pub fn put_texture(out: &mut Vec<u8>, t: &Texture) -> Result<(), Memory>
     ensures text { OnOk result (out.new.items ≡ out.old.items ++ texture_text t.now) }
+    ensures refused { OnErr result (AddsFront out.old.items (texture_text t.now) out.new.items) }
     ensures fits { IsTexture t.now }
 {
     put_file(out, b"V32-VTEX", &[t.width(), t.height()], t.pixels())

@@ -1,6 +1,6 @@
 // Words as bytes, and words files.
-ghost use Rattle.std.specs.Prelude.{◌≡◌, ◌≤◌, ◌+◌, ◌*◌, ◌++◌, length, IfOk, OnOk, List, ℕ, Ok};
-ghost use Rattle.asset_pack.specs.Words.{word_text, words_text, word_at, words_of, AreWords};
+ghost use Rattle.std.specs.Prelude.{◌≡◌, ◌≤◌, ◌+◌, ◌*◌, ◌++◌, length, IfOk, OnOk, OnErr, List, ℕ, Ok};
+ghost use Rattle.asset_pack.specs.Words.{word_text, words_text, word_at, words_of, AreWords, AddsFront};
 ghost use Rattle.asset_pack.specs.Texts.{words_file_text, IsProgram};
 ghost use Rattle.asset_pack.specs.Tests.{head};
 ghost use Rattle.asset_pack.specs.Reading.{Gives, words_at, words_in, body};
@@ -51,7 +51,8 @@ pub(crate) fn words_at(
 
 /// Adds a word.
 pub fn put_word(out: &mut Vec<u8>, word: u32) -> Result<(), Memory>
-    ensures { OnOk result (out.new.items ≡ out.old.items ++ word_text word) }
+    ensures text { OnOk result (out.new.items ≡ out.old.items ++ word_text word) }
+    ensures refused { OnErr result (out.new.items ≡ out.old.items) }
 {
     let mut bytes = [0; 4];
     LittleEndian::write_u32(&mut bytes, word);
@@ -62,6 +63,7 @@ pub fn put_word(out: &mut Vec<u8>, word: u32) -> Result<(), Memory>
 /// Adds words.
 pub fn put_words(out: &mut Vec<u8>, words: &[u32]) -> Result<(), Memory>
     ensures text { OnOk result (out.new.items ≡ out.old.items ++ words_text words.now) }
+    ensures refused { OnErr result (AddsFront out.old.items (words_text words.now) out.new.items) }
     ensures fits { AreWords words.now }
 {
     'each: for word in words {
@@ -71,7 +73,7 @@ pub fn put_words(out: &mut Vec<u8>, words: &[u32]) -> Result<(), Memory>
 }
 
 /// Adds a file of words: a signature, its sizes, the words.
-#[tactic(auto, using(crate::proofs::Laid::laid))]
+#[tactic(auto, using(crate::proofs::Laid::laid, crate::proofs::Refused::none_put))]
 pub(crate) fn put_file(
     out: &mut Vec<u8>,
     signature: &[u8],
@@ -79,6 +81,7 @@ pub(crate) fn put_file(
     words: &[u32],
 ) -> Result<(), Memory>
     ensures text { OnOk result (out.new.items ≡ out.old.items ++ (signature.now ++ (words_text sizes.now ++ words_text words.now))) }
+    ensures refused { OnErr result (AddsFront out.old.items (signature.now ++ (words_text sizes.now ++ words_text words.now)) out.new.items) }
     ensures fits { AreWords words.now }
 {
     out.extend_from_slice(signature)?;
@@ -92,6 +95,7 @@ pub(crate) fn put_file(
 pub fn put_words_file(out: &mut Vec<u8>, words: &[u32]) -> Result<(), Memory>
     requires { length words.now ≤ 33554432 }
     ensures text { OnOk result (out.new.items ≡ out.old.items ++ words_file_text words.now) }
+    ensures refused { OnErr result (AddsFront out.old.items (words_file_text words.now) out.new.items) }
     ensures fits { IsProgram words.now }
 {
     put_file(out, b"V32-VBIN", &[words.len() as u32], words)

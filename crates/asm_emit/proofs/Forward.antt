@@ -161,7 +161,7 @@ module _ (names : List (List ℕ)) (body : NodesT Where) where
 
     one_or_more_ahead : (o : OpT Where) (c : NodesT Where) (later : List AsmItem) → IsOp x m o → Ahead (one_or_more W F o (in_one W o c)) later
     one_or_more_ahead o c later ok =
-        one_or_more_is W F (λ xs. Ahead xs later) (λ v. Unit {0}) o c (λ t n e. (tt, tt)) (λ t k e. (tt, tt)) (op_ahead o later ok) (λ r q v lr lq h. (tt, tt)) (λ r q v lr lq h. (tt, tt))
+        one_or_more_is W F (λ xs. Ahead xs later) (λ v. Unit {0}) o c (λ t n e. (tt, tt)) (λ t k e. (tt, tt)) (op_ahead o later ok) (λ r q v lr lq h. (tt, tt)) (λ r q v lr lq h. (tt, tt)) (λ u r q v lr lq h. (tt, (tt, tt)))
 
     call_ahead : (t : Option Where) (g : ℕ) (args : List Where) (later : List AsmItem) → g < length x.functions → CallsTo g body → Ahead (call_items W F t g args) later
     call_ahead t g args later lt calls =

@@ -83,9 +83,9 @@ module _ (W : Whole) (F : Frame) (out : ℕ) where
   abbrev On : NodesT Where → ℕ → List AsmItem → List ℕ → ℕ → ℕ → NodesT Where → List AsmItem
   On first k own ls n m c = front_items W first k ++ onward (front_more W first k) own (items ls n c) (items ls (n + m) c 0)
 
-  done_are : (o : OpT Where) (r : Option (ℕ × Instr Imm)) (ls : List ℕ) (n : ℕ) (c : NodesT Where) → one_or_more W F o r ++ items ls n c (more_of r) ≡ ahead_items r ++ onward (ahead_more r) (op_items W F o) (items ls n c) (items ls (n + 0) c 0)
+  done_are : (o : OpT Where) (r : Option (ℕ × Option (Instr Imm) × Instr Imm)) (ls : List ℕ) (n : ℕ) (c : NodesT Where) → one_or_more W F o r ++ items ls n c (more_of r) ≡ ahead_items r ++ onward (ahead_more r) (op_items W F o) (items ls n c) (items ls (n + 0) c 0)
   done_are o None ls n c = ap (λ xs. op_items W F o ++ xs) (nothing ls n c)
-  done_are o (Some (more, i)) ls n c = refl
+  done_are o (Some (more, first, i)) ls n c = refl
 
   plain_are : (o : OpT Where) (ls : List ℕ) (n : ℕ) (c : NodesT Where) (k : ℕ) → items ls n (Do o c) k ≡ On (Do o c) k (op_items W F o) ls n 0 c
   plain_are o ls n c zero = done_are o (in_one W o c) ls n c

@@ -208,7 +208,7 @@ module _ (x : CodeT Where) (W : Whole) (words : list_all is_word W.names ≡ tru
     one_or_more_fine : (o : OpT Where) (c : NodesT Where) → IsOp x m o → AllFine (one_or_more W F o (in_one W o c))
     one_or_more_fine o c ok =
         one_or_more_is W F AllFine (λ v. v < 2 ^ 32) o c (λ t n e. (subst (IsOp x m) e ok, in_words 0 n)) (λ t k e. (addresses k, in_words 0 (get_or W.globals k 0))) (op_fine o ok)
-        (λ r q v lr lq h. ((lr, ((lq, h), tt)), tt)) (λ r q v lr lq h. ((lr, ((lq, h), tt)), tt))
+        (λ r q v lr lq h. ((lr, ((lq, h), tt)), tt)) (λ r q v lr lq h. ((lr, ((lq, h), tt)), tt)) (λ u r q v lr lq h. ((lr, (lq, tt)), ((lr, (h, tt)), tt)))
 
     call_fine : (t : Option Where) (g : ℕ) (args : List Where) → AllFine (call_items W F t g args)
     call_fine t g args = join (args_items F (W.frames g) (W.params g) args) _ (args_fine F (W.frames g) (W.params g) args) ((function_named W.names g words, tt), some_fine F t)

@@ -10,7 +10,7 @@ use Rattle.mid_code.specs.declared.node.Op.{Op}
 use Rattle.mid_code.specs.declared.node.Op.TheVariants as op
 use Rattle.mid_code.specs.Code.{NodesT, Do, Call, Stop}
 use Rattle.mid_code.specs.Functions.{op_before, NodeT, DoN, ChooseN, BlockN, LoopN, LeaveN, AgainN, ReturnN, ListT, NoN, MoreN, before, joined}
-use Rattle.asm_laws.specs.Operations.{Frame, Whole, op_items, word_put, with_word, in_one, call_items}
+use Rattle.asm_laws.specs.Operations.{Frame, Whole, op_items, word_put, with_word, in_one, before_it, call_items}
 use Rattle.asm_laws.specs.Emitted.{enclosing, jump, one_way, choice, enclosed, returning}
 
 -- how many labels nodes take
@@ -47,17 +47,17 @@ front_put W (Do o c) = word_put W o
 front_put W _ = None
 
 -- what is done in one go where a word was put into a register before
-abbrev pub front_summed : (put : Option (ℕ × ℕ)) → NodesT Where → Option (ℕ × Instr Imm)
+abbrev pub front_summed : (put : Option (ℕ × ℕ)) → NodesT Where → Option (ℕ × Option (Instr Imm) × Instr Imm)
 front_summed put (Do o c) = with_word put o c
 front_summed put _ = None
 
-abbrev pub ahead_items : Option (ℕ × Instr Imm) → List AsmItem
+abbrev pub ahead_items : Option (ℕ × Option (Instr Imm) × Instr Imm) → List AsmItem
 ahead_items None = []
-ahead_items (Some (more, i)) = item.Op i ∷ []
+ahead_items (Some (more, first, i)) = before_it first ++ item.Op i ∷ []
 
-abbrev pub ahead_more : Option (ℕ × Instr Imm) → Option ℕ
+abbrev pub ahead_more : Option (ℕ × Option (Instr Imm) × Instr Imm) → Option ℕ
 ahead_more None = None
-ahead_more (Some (more, i)) = Some more
+ahead_more (Some (more, first, i)) = Some more
 
 abbrev pub is_call : Op Where → Bool
 is_call (op.Call t f args) = true

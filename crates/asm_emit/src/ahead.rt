@@ -1,18 +1,22 @@
-// Operations that one instruction does together.
+// Operations that are done together.
 ghost use Rattle.std.specs.Prelude.{◌≡◌, ◌++◌, OnOk, IfOk, Some, map, drop};
 ghost use Rattle.mid_code.specs.Code.{Stop};
 ghost use Rattle.mid_code.specs.Functions.{op_before, node, before, nodes};
-ghost use Rattle.asm_laws.specs.Operations.{other_word, first_word, sum_of, loads_there, with_sum};
+ghost use Rattle.asm_laws.specs.Operations.{turned, other_word, first_word, sum_of, loads_there, unturned, copied, with_sum, before_it};
 ghost use Rattle.asm_emit.specs.Listed.{front_put, front_summed, ahead_items, ahead_more, is_call, front_items, front_more, labels_due, node_labels};
 ghost use Rattle.asm_emit.specs.View.{whole};
 
 use crate::hands::{is_in, op, register};
+use crate::pieces::turned;
 use crate::scope::{Around, at_or};
 use asm_items::{AsmItem, Imm};
 use either::Either;
 use kit_base::Memory;
 use mid_code::{Node, Op, Where};
-use v32_isa::{Instr, Mov, Reg, Two};
+use v32_isa::{Instr, Mov, Reg, Src, Two};
+
+/// How many operations behind a first one are done together with it, an instruction that comes first, and the one that does them.
+type Together = (u32, Option<Instr<Imm>>, Instr<Imm>);
 
 /// The nodes behind the first one.
 pub(crate) fn behind(xs: &[Node<Where>]) -> &[Node<Where>]
@@ -86,25 +90,63 @@ fn loads_there(r: Reg, rest: &[Node<Where>]) -> bool
     }
 }
 
-/// The instruction that makes a sum in register r, and loads the word there where that comes next; how many operations these are.
-fn with_sum(r: Reg, sum: Option<(Reg, u32)>, rest: &[Node<Where>]) -> Option<(u32, Instr<Imm>)>
-    ensures { result ≡ with_sum r sum (nodes rest.now) }
+/// The register whose word an operator that can't be turned round works on in register r, where its second word stands.
+fn unturned(r: Reg, o: Two, t: Where, a: Where, b: Where) -> Option<Reg>
+    ensures { result ≡ unturned (turned o) (first_word r t a b) }
 {
-    let (q, word) = sum?;
-    if loads_there(r, rest) {
-        Some((2, Instr::Mov(Mov::RegAtOff(r, q, Either::Left(word)))))
-    } else {
-        Some((1, Instr::Lea(r, q, Some(Either::Left(word)))))
+    match turned(o) {
+        None => first_word(r, t, a, b),
+        Some(_) => None,
+    }
+}
+
+/// The copy of that word to register r, and the operator on it and a known word; both are one operation.
+fn with_copy(r: Reg, word: u32, o: Two, q: Option<Reg>) -> Option<Together>
+    ensures { result ≡ copied r word o q }
+{
+    match q {
+        None => None,
+        Some(q) => Some((
+            1,
+            Some(Instr::Mov(Mov::RegReg(r, q))),
+            Instr::Two(o, r, Src::Imm(Either::Left(word))),
+        )),
+    }
+}
+
+/// The instruction that makes a sum in register r, and loads the word there where that comes next; how many operations these are. Where there is no sum, what
+/// else is done.
+fn with_sum(
+    r: Reg,
+    sum: Option<(Reg, u32)>,
+    other: Option<Together>,
+    rest: &[Node<Where>],
+) -> Option<Together>
+    ensures { result ≡ with_sum r sum other (nodes rest.now) }
+{
+    match sum {
+        None => other,
+        Some((q, word)) => {
+            if loads_there(r, rest) {
+                Some((2, None, Instr::Mov(Mov::RegAtOff(r, q, Either::Left(word)))))
+            } else {
+                Some((1, None, Instr::Lea(r, q, Some(Either::Left(word)))))
+            }
+        }
     }
 }
 
 /// The same for an operation, where a known word was put into register r.
-fn with_op(r: Reg, word: u32, o: &Op<Where>, rest: &[Node<Where>]) -> Option<(u32, Instr<Imm>)>
+fn with_op(r: Reg, word: u32, o: &Op<Where>, rest: &[Node<Where>]) -> Option<Together>
     ensures { result ≡ front_summed (Some (r, word)) (op_before o.now (nodes rest.now)) }
 {
     match o {
-        Op::Two(o, t, a, b) => with_sum(r, sum_of(*o, r, word, *t, *a, *b), rest),
-        Op::Step(t, p, n) => with_sum(r, sum_of(Two::IADD, r, word, *t, *p, *n), rest),
+        Op::Two(o, t, a, b) => {
+            let sum = sum_of(*o, r, word, *t, *a, *b);
+            let other = with_copy(r, word, *o, unturned(r, *o, *t, *a, *b));
+            with_sum(r, sum, other, rest)
+        }
+        Op::Step(t, p, n) => with_sum(r, sum_of(Two::IADD, r, word, *t, *p, *n), None, rest),
         _ => None,
     }
 }
@@ -120,9 +162,9 @@ fn word_put(w: &Around<'_>, o: &Op<Where>) -> Option<(Reg, u32)>
     }
 }
 
-/// The instruction that does an operation together with some of those behind it, and how many these are.
+/// What does an operation together with some of those behind it, where there is something.
 #[tactic(auto, using(crate::proofs::Fronts::none_summed))]
-fn in_one(w: &Around<'_>, o: &Op<Where>, rest: &[Node<Where>]) -> Option<(u32, Instr<Imm>)>
+fn in_one(w: &Around<'_>, o: &Op<Where>, rest: &[Node<Where>]) -> Option<Together>
     ensures { result ≡ front_summed (front_put (whole w.now) (op_before o.now Stop)) (nodes rest.now) }
 {
     let (r, word) = word_put(w, o)?;
@@ -142,7 +184,17 @@ fn is_call(o: &Op<Where>) -> bool
     }
 }
 
-/// Adds the instruction that does an operation together with others, where there is one; how many of those behind it are done then.
+/// Adds an instruction, where there is one.
+fn put_before(out: &mut Vec<AsmItem>, first: Option<Instr<Imm>>) -> Result<(), Memory>
+    ensures { OnOk result (out.new.items ≡ out.old.items ++ before_it first) }
+{
+    match first {
+        None => Ok(()),
+        Some(i) => op(out, i),
+    }
+}
+
+/// Adds what does an operation together with others, where there is something; how many of those behind it are done then.
 fn put_in_one(
     out: &mut Vec<AsmItem>,
     w: &Around<'_>,
@@ -153,7 +205,8 @@ fn put_in_one(
     ensures more { IfOk result (λ k. k ≡ ahead_more (front_summed (front_put (whole w.now) (op_before o.now Stop)) (nodes rest.now))) }
 {
     match in_one(w, o, rest) {
-        Some((more, i)) => {
+        Some((more, first, i)) => {
+            put_before(out, first)?;
             op(out, i)?;
             Ok(Some(more))
         }

@@ -103,7 +103,7 @@ fn apart(
 }
 
 /// The operator that makes the same of its two words the other way round, where there is one.
-fn turned(o: Two) -> Option<Two>
+pub(crate) fn turned(o: Two) -> Option<Two>
     ensures { result ≡ turned o }
 {
     match o {

@@ -1,15 +1,18 @@
--- Operations that are done in one go are followed by the machine, in one step.
+-- Operations that are done in one go are followed by the machine, in one step, or in two.
 use Rattle.std.proofs.Common.{◌≡◌, ◌≢◌, ℕ, ◌<◌, ◌==◌, inl, inr, Bool, true, false, cond, List, [], ◌∷◌, Option, Some, None, refl, sym, ap, ◌∙◌, subst, arith}
 use Rattle.std.specs.Prelude.{◌&&◌, option_map}
 use Rattle.std.proofs.lemmas.Bool.{eqb-true, eqb-false}
 use Rattle.either.specs.declared.Either.TheVariants.{Left}
 use Rattle.kit_base.specs.Word.{add, sub}
+use Rattle.v32_isa.specs.declared.instruction.Two.{Two as TwoOf}
 use Rattle.v32_isa.specs.declared.instruction.Two.TheVariants.{IADD, ISUB}
-use Rattle.v32_isa.specs.declared.instruction.Mov.TheVariants.{RegAtOff}
+use Rattle.v32_isa.specs.declared.instruction.Src.TheVariants as src
+use Rattle.v32_isa.specs.declared.instruction.Mov.TheVariants.{RegReg, RegAtOff}
+use Rattle.v32_isa.specs.Arithmetic.{two_of}
 use Rattle.v32_isa.specs.declared.instruction.Instr.TheVariants as instr
 use Rattle.v32_isa.specs.declared.stepped.Stepped.TheVariants as stepped
 use Rattle.v32_isa.specs.State.{State, register_of, written, word_at}
-use Rattle.v32_isa.specs.Machine.{act, effect_of}
+use Rattle.v32_isa.specs.Machine.{act, effect_of, taking}
 use Rattle.v32_isa.specs.Machine.Effect.{Ends as EndsIn}
 use Rattle.v32_isa.proofs.Steps.{reaches_went}
 use Rattle.asm_items.specs.declared.item.AsmItem.{AsmItem}
@@ -20,10 +23,10 @@ use Rattle.mid_code.specs.Code.{OpT, TwoO, StepO, LoadO}
 use Rattle.mid_code.specs.States.{op_weight}
 use Rattle.asm_laws.specs.Operations.{Frame, Whole, register, other_word, first_word, summed}
 use Rattle.asm_laws.specs.Standing.{Stand}
-use Rattle.asm_laws.specs.Addresses.{Addr, Console, readable, word_of, put, Good, GoodOp, Goes, loaded, does, Held, Follows}
+use Rattle.asm_laws.specs.Addresses.{Addr, Console, readable, word_of, put, Good, GoodOp, Goes, computed, loaded, does, Held, Follows}
 use Rattle.asm_laws.proofs.Stepping.{same_or_not, written_same, written_other, readable_word, unreadable_word, line_effect, took, kept, reg_number}
 use Rattle.asm_laws.proofs.Hands.{with_reg, held_alike}
-use Rattle.asm_laws.proofs.OperationsStep.{faults_like, sum_turned}
+use Rattle.asm_laws.proofs.OperationsStep.{later, faults_like, sum_turned}
 
 both : (x y : Bool) → x && y ≡ true → (x ≡ true) × (y ≡ true)
 both true true e = (refl, refl)
@@ -199,3 +202,64 @@ module _ (C : Console) (address : List ℕ → ℕ) (W : Whole) (F : Frame) (a :
           let u = add (a.regs q) v in
           let t1 = took C l.0 k u s in
           faults_like C (Sum k w q v) a s t1 xs 8 0 (omega arith) h (again k u w a t1 (kept C a s l.0 k u (omega (arith, lk)) h)) (λ z. refl) (eff ∙ load_fails s k q v u l.0 lq h refl (unreadable_word C a s u h not_so))
+
+  -- ---- an operator on another register's word and the one put before
+
+  -- the other register, and what the operation does
+  record Copies (k w : ℕ) (o : TwoOf) (t x y : Where) (q : ℕ) : Type 0 where
+    low : q < 9
+    so : (xs : List ℕ) → does C address W F (TwoO o t x y) xs (Put k w) ≡ computed F (Reg k) (two_of o (a.regs q) w) xs (Put k w)
+
+  copies : (k w : ℕ) (o : TwoOf) (t x y : Where) (q : ℕ) → k < 9 → Good F t → Good F x → Good F y → first_word (register k) t x y ≡ Some q → Copies k w o t x y q
+  unfolding does
+  copies k w o (Slot t) x y q lt gt gx gy e = absurd cc
+  copies k w o (Reg t) (Slot x) y q lt gt gx gy e = absurd cc
+  copies k w o (Reg t) (Reg x) (Slot y) q lt gt gx gy e = absurd cc
+  copies k w o (Reg t) (Reg x) (Reg y) q lt gt gx gy e = go (register t == register k) refl (register y == register k) refl (register x == register k) refl e
+    where
+      go : (bt : Bool) → (register t == register k) ≡ bt → (by : Bool) → (register y == register k) ≡ by → (bx : Bool) → (register x == register k) ≡ bx → cond bt (cond by (cond bx None (Some (register x))) None) None ≡ Some q → Copies k w o (Reg t) (Reg x) (Reg y) q
+      go false et by ey bx ex e = absurd cc
+      go true et false ey bx ex e = absurd cc
+      go true et true ey true ex e = absurd cc
+      go true et true ey false ex e =
+          let p : register x ≡ q = cc in
+          let n : x ≡ q = sym (reg_number C F address x gx) ∙ p in
+          let v : written a.regs k w x ≡ a.regs q = written_other a.regs k w x (other_register x k ex) ∙ ap a.regs n in
+          let z : written a.regs k w y ≡ w = written_same a.regs k w y (same_register y k gy lt ey) in
+          record {
+            low = omega (arith, gx, n);
+            so = λ xs. ap (λ i. computed F (Reg i) (two_of o (written a.regs k w x) (written a.regs k w y)) xs (Put k w)) (same_register t k gt lt et) ∙ ap (λ i. computed F (Reg k) (two_of o i (written a.regs k w y)) xs (Put k w)) v ∙ ap (λ i. computed F (Reg k) (two_of o (a.regs q) i) xs (Put k w)) z;
+          }
+
+  copy_effect : (s : State) (k q next : ℕ) → k < 9 → q < 9 → Held C a s → act (instr.Mov (RegReg (register k) q)) next s ≡ EndsIn stepped.Went (took C next k (a.regs q) s)
+  unfolding act
+  copy_effect s k q next lk lq h = ap (λ z. EndsIn stepped.Went (took C next z (register_of s q) s)) (reg_number C F address k lk) ∙ ap (λ z. EndsIn stepped.Went (took C next k z s)) (h.regs q lq)
+
+  number_effect : (o : TwoOf) (s : State) (k v w next : ℕ) → k < 9 → register_of s k ≡ v → act (instr.Two o (register k) (src.Imm w)) next s ≡ taking k (two_of o v w) next s
+  unfolding act
+  number_effect o s k v w next lk is = ap (λ z. taking z (two_of o (register_of s z) w) next s) (reg_number C F address k lk) ∙ ap (λ z. taking k (two_of o z w) next s) is
+
+  pub copy_follows : (k w : ℕ) (o : TwoOf) (t x y : Where) (q : ℕ) (s : State) (xs : List ℕ) (pc p : ℕ) → k < 9 → Good F t → Good F x → Good F y → first_word (register k) t x y ≡ Some q → Held C a s → s.counter ≡ pc →
+      Here pc (item.Op (instr.Mov (RegReg (register k) q)) ∷ item.Op (instr.Two o (register k) (src.Imm (Left w))) ∷ []) p → Follows C 8 s xs p (Put k w) (does C address W F (TwoO o t x y) xs (Put k w))
+  copy_follows k w o t x y q s xs pc p lk gt gx gy is h e l =
+      let c = copies k w o t x y q lk gt gx gy is in
+      let low = c.low in
+      let v = a.regs q in
+      let u = took C l.0 k v s in
+      let eff = line_effect C a s pc (instr.Mov (RegReg (register k) q)) l.0 h e l.1 (omega arith, omega (arith, low), omega arith) ∙ copy_effect s k q l.0 lk low h in
+      let hu : Held C (with_reg k v a) u = kept C a s l.0 k v (omega (arith, lk)) h in
+      let there : register_of u k ≡ v = hu.regs k lk ∙ written_same a.regs k v k refl in
+      let eff2 : effect_of u ≡ taking k (two_of o v w) l.2.0 u = line_effect C (with_reg k v a) u l.0 (instr.Two o (register k) (src.Imm w)) l.2.0 hu refl l.2.1 (omega arith, omega arith, omega arith) ∙ number_effect o u k v w l.2.0 lk there in
+      subst (λ d. Follows C 8 s xs p (Put k w) d) (sym (c.so xs))
+      (later C 1 7 8 s u xs p (Put k w) (computed F (Reg k) (two_of o v w) xs (Put k w)) (reaches_went s u xs eff) (omega arith) (last (two_of o v w) u v l.2.0 hu (kept C a s l.0 k w (omega (arith, lk)) h) eff2 l.2.2))
+    where
+      last : {t1 : State} (z : Option ℕ) (u : State) (v next : ℕ) → Held C (with_reg k v a) u → Held C (Put k w) t1 → effect_of u ≡ taking k z next u → next ≡ p → Follows C 7 u xs p (Put k w) (computed F (Reg k) z xs (Put k w))
+      last {t1} None u v next hu ht eff n = faults_like C (Put k w) (with_reg k v a) u t1 xs 7 6 (omega arith) hu ht (λ j. refl) eff
+      last (Some z) u v next hu ht eff n = record {
+        steps = 1;
+        to = took C next k z u;
+        by = reaches_went u (took C next k z u) xs eff;
+        at = n;
+        held = held_alike C (with_reg k z (with_reg k v a)) (with_reg k z (Put k w)) (took C next k z u) (λ j b. sym (twice a.regs k z v j) ∙ twice a.regs k z w j) (λ j. refl) refl refl (kept C (with_reg k v a) u next k z (omega (arith, lk)) hu);
+        few = omega arith;
+      }

@@ -215,7 +215,7 @@ module _ (x : CodeT Where) (W : Whole) (Q : List ℕ → Type 0) (of_function : 
   op_uses m F HaltO ok = (tt, tt)
 
   one_uses : (m : ℕ) (F : Frame) (o : OpT Where) (c : NodesT Where) → IsOp x m o → Uses Q (one_or_more W F o (in_one W o c))
-  one_uses m F o c ok = one_or_more_is W F (Uses Q) (λ v. Unit {0}) o c (λ t n e. (tt, tt)) (λ t k e. (tt, tt)) (op_uses m F o ok) (λ r q v lr lq h. (tt, tt)) (λ r q v lr lq h. (tt, tt))
+  one_uses m F o c ok = one_or_more_is W F (Uses Q) (λ v. Unit {0}) o c (λ t n e. (tt, tt)) (λ t k e. (tt, tt)) (op_uses m F o ok) (λ r q v lr lq h. (tt, tt)) (λ r q v lr lq h. (tt, tt)) (λ u r q v lr lq h. (tt, (tt, tt)))
 
   call_uses : (F : Frame) (t : Option Where) (g : ℕ) (args : List Where) → g < length x.functions → Uses Q (call_items W F t g args)
   call_uses F t g args ok = uses_append Q (args_items F (W.frames g) (W.params g) args) _ (args_uses F (W.frames g) (W.params g) args) (of_function g ok, some_uses F t)

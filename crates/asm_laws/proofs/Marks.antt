@@ -205,7 +205,7 @@ module _ (W : Whole) (differ : Differ W.names) where
   op_bare F HaltO = tt
 
   one_bare : (F : Frame) (o : OpT Where) (c : NodesT Where) → Bare (one_or_more W F o (in_one W o c))
-  one_bare F o c = one_or_more_is W F (λ xs. Bare xs) (λ v. Unit {0}) o c (λ t n e. (tt, tt)) (λ t k e. (tt, tt)) (op_bare F o) (λ r q v lr lq h. tt) (λ r q v lr lq h. tt)
+  one_bare F o c = one_or_more_is W F (λ xs. Bare xs) (λ v. Unit {0}) o c (λ t n e. (tt, tt)) (λ t k e. (tt, tt)) (op_bare F o) (λ r q v lr lq h. tt) (λ r q v lr lq h. tt) (λ u r q v lr lq h. tt)
 
   call_bare : (F : Frame) (t : Option Where) (g : ℕ) (args : List Where) → Bare (call_items W F t g args)
   call_bare F t g args = names_append (λ m. ⊥) (args_items F (W.frames g) (W.params g) args) _ (args_bare F (W.frames g) (W.params g) args) (some_bare F t)

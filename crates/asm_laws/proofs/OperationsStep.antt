@@ -45,7 +45,7 @@ use Rattle.asm_laws.proofs.Hands.{like_self, with_reg, like_with, hand_fits, aim
 use Rattle.asm_laws.proofs.Split.{split}
 
 -- steps before those that follow
-later : (C : Console) (j n limit : ℕ) (s t : State) (xs : List ℕ) (pc : ℕ) (a : Addr) (d : Does) → Reaches j s xs [] t xs → j + n ≤ limit → Follows C n t xs pc a d → Follows C limit s xs pc a d
+pub later : (C : Console) (j n limit : ℕ) (s t : State) (xs : List ℕ) (pc : ℕ) (a : Addr) (d : Does) → Reaches j s xs [] t xs → j + n ≤ limit → Follows C n t xs pc a d → Follows C limit s xs pc a d
 later C j n limit s t xs pc a (Goes es ys b) r le f = record {
   steps = j + f.steps;
   to = f.to;

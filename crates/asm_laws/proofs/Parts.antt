@@ -8,6 +8,7 @@ use Rattle.v32_isa.specs.declared.instruction.Branch.TheVariants.{JF}
 use Rattle.v32_isa.specs.declared.instruction.Src.TheVariants as src
 use Rattle.v32_isa.specs.declared.instruction.Mov.TheVariants.{RegAtOff}
 use Rattle.v32_isa.specs.declared.instruction.Instr.{Instr}
+use Rattle.v32_isa.specs.declared.instruction.Two.{Two as TwoOf}
 use Rattle.v32_isa.specs.declared.instruction.Instr.TheVariants as instr
 use Rattle.v32_isa.specs.declared.stepped.Stepped.TheVariants as stepped
 use Rattle.v32_isa.specs.State.{register_of, going_to}
@@ -26,7 +27,7 @@ use Rattle.mid_code.specs.declared.placed.Where.TheVariants.{Reg}
 use Rattle.mid_code.specs.Code.{NodesT, Stop, Do, Call, Choose, Block, Loop, Leave, Again, Return, OpT, ConstO, NullO, MoveO, OneO, TwoO, GlobalO, LocalO, LiteralO, CardO, StepO, ApartO, PtrTestO, LoadO, StoreO, FreshO, EndO, InO, OutO, WaitO, HaltO}
 use Rattle.mid_code.specs.Meaning.{Did, On, Ends, node_weight}
 use Rattle.mid_code.specs.States.{State, spent, op_weight, word_tested, registers_and_slots, acted}
-use Rattle.asm_laws.specs.Operations.{Frame, register, hand, word_put, summed, loads_there, with_sum, with_word, in_one, one_or_more, more_of}
+use Rattle.asm_laws.specs.Operations.{Frame, register, hand, turned, word_put, first_word, summed, loads_there, unturned, copied, with_copy, with_sum, with_word, in_one, one_or_more, more_of}
 use Rattle.asm_laws.specs.Placing.{Jumps}
 use Rattle.asm_laws.specs.Following.{Begin, begin, spare, Came, Stopped, DidSim, TestSim, did_then, front_acts}
 use Rattle.asm_laws.specs.Standing.{Stand}
@@ -37,7 +38,7 @@ use Rattle.asm_laws.proofs.Stepping.{same_or_not, line_effect, took, scratch, mo
 use Rattle.asm_laws.proofs.Control.{earlier_did}
 use Rattle.asm_laws.proofs.Hands.{with_reg, hand_fits, brings_at}
 use Rattle.asm_laws.proofs.OperationsStep.{op_follows}
-use Rattle.asm_laws.proofs.InOneStep.{Sums, sums, lea_follows, load_follows}
+use Rattle.asm_laws.proofs.InOneStep.{Sums, sums, lea_follows, load_follows, copy_follows}
 use Rattle.asm_laws.specs.Holds.{Setting, sizes, Named, Fits, Ctx, Stands}
 use Rattle.asm_laws.specs.Acting.{Holds, DoesAs, Fitting, FrontFits}
 use Rattle.asm_laws.specs.Calling.{Mach, Given, lang, holder, GivingAt, shapes}
@@ -167,7 +168,7 @@ module _ (S : Setting) (fits : Fits S) where
     xs = s.world.store.answers
 
     -- where these items stand, so many operations are done
-    abbrev Done : OpT Where → NodesT Where → Option (ℕ × Instr Imm) → Type 0
+    abbrev Done : OpT Where → NodesT Where → Option (ℕ × Option (Instr Imm) × Instr Imm) → Type 0
     Done o c x = FrontFits S κ.fn c (more_of x) → Stand C.words S.address pc (one_or_more S.whole (Of κ) o x) p → DidSim (holder S) κ m (begin (holder S) s) p (did_then ((lang S).act o s) (front_acts (lang S) c (more_of x)))
 
     one_done : (o : OpT Where) (c : NodesT Where) → Fitting S κ.fn o → Done o c None
@@ -185,12 +186,12 @@ module _ (S : Setting) (fits : Fits S) where
         let s1 = spent (op_weight o) s in
         passes κ s m a (with_reg k w a) (op_weight o) p (acted registers_and_slots (sizes S) o s1) go (subst (λ d. DoesAs S κ s1 a (acted registers_and_slots (sizes S) o s1) d) (puts xs) (acts S fits κ s1 h.place a h.at o fit)) f
 
-    two_done : (o u : OpT Where) (c : NodesT Where) (k w q v : ℕ) → k < 9 → Fitting S κ.fn o → Puts o k w → (Fitting S κ.fn u → Sums C S.address S.whole (Of κ) a k w u q v) → Done o (Do u c) (Some (1, instr.Lea (register k) q (Some (Left v))))
+    two_done : (o u : OpT Where) (c : NodesT Where) (k w q v : ℕ) → k < 9 → Fitting S κ.fn o → Puts o k w → (Fitting S κ.fn u → Sums C S.address S.whole (Of κ) a k w u q v) → Done o (Do u c) (Some (1, None, instr.Lea (register k) q (Some (Left v))))
     two_done o u c k w q v lt fit puts is ff st =
         put_done o k w (front_acts (lang S) (Do u c) 1) fit puts (λ t ht. alone κ m (begin (holder S) t) p c ((lang S).act u t)
         (last_sim κ p u t m (with_reg k w a) ht ff.0 (lea_follows C S.address S.whole (Of κ) a k w u q v m t.world.store.answers pc p lt (is ff.0) h.held e st)))
 
-    three_done : (o u : OpT Where) (c : NodesT Where) (k w q v : ℕ) → k < 9 → Fitting S κ.fn o → Puts o k w → (Fitting S κ.fn u → Sums C S.address S.whole (Of κ) a k w u q v) → loads_there (register k) c ≡ true → Done o (Do u c) (Some (2, instr.Mov (RegAtOff (register k) q (Left v))))
+    three_done : (o u : OpT Where) (c : NodesT Where) (k w q v : ℕ) → k < 9 → Fitting S κ.fn o → Puts o k w → (Fitting S κ.fn u → Sums C S.address S.whole (Of κ) a k w u q v) → loads_there (register k) c ≡ true → Done o (Do u c) (Some (2, None, instr.Mov (RegAtOff (register k) q (Left v))))
     three_done o u (Do (LoadO (Reg t) (Reg x)) c) k w q v lt fit puts is there ff st =
         let r = is ff.0 in
         put_done o k w (front_acts (lang S) (Do u (Do (LoadO (Reg t) (Reg x)) c)) 2) fit puts (λ s1 h1.
@@ -201,15 +202,28 @@ module _ (S : Setting) (fits : Fits S) where
         (last_sim κ p (LoadO (Reg t) (Reg x)) s3 m (with_reg k (add (a.regs q) v) (with_reg k w a)) h3 ff.1.0 (load_follows C S.address S.whole (Of κ) a k w t x q v m s3.world.store.answers pc p lt r.low ff.1.0.0 ff.1.0.1 there h.held e st))))
     three_done o u _ k w q v lt fit puts is there ff st = absurd cc
 
-    sum_done : (o u : OpT Where) (c : NodesT Where) (k w : ℕ) → k < 9 → Fitting S κ.fn o → Puts o k w → Done o (Do u c) (with_sum (register k) (summed (register k) w u) c)
+    copy_done : (o u : OpT Where) (c : NodesT Where) (k w : ℕ) → k < 9 → Fitting S κ.fn o → Puts o k w → Done o (Do u c) (with_copy (register k) w u)
+    copy_done o (TwoO i t x y) c k w lt fit puts = go (turned i) (first_word (register k) t x y) refl
+      where
+        go : (j : Option TwoOf) (q : Option ℕ) → first_word (register k) t x y ≡ q → Done o (Do (TwoO i t x y) c) (copied (register k) w i (unturned j q))
+        go (Some j) q is ff st = one_done o (Do (TwoO i t x y) c) fit ff st
+        go None None is ff st = one_done o (Do (TwoO i t x y) c) fit ff st
+        go None (Some q) is ff st =
+            let g = good_op κ (TwoO i t x y) ff.0 in
+            put_done o k w (front_acts (lang S) (Do (TwoO i t x y) c) 1) fit puts
+            (λ s1 h1. alone κ m (begin (holder S) s1) p c ((lang S).act (TwoO i t x y) s1)
+            (last_sim κ p (TwoO i t x y) s1 m (with_reg k w a) h1 ff.0 (copy_follows C S.address S.whole (Of κ) a k w i t x y q m s1.world.store.answers pc p lt g.0 g.1 g.2 is h.held e st)))
+    copy_done o u c k w lt fit puts = one_done o (Do u c) fit
+
+    sum_done : (o u : OpT Where) (c : NodesT Where) (k w : ℕ) → k < 9 → Fitting S κ.fn o → Puts o k w → Done o (Do u c) (with_sum (register k) (summed (register k) w u) (with_copy (register k) w u) c)
     sum_done o u c k w lt fit puts = go (summed (register k) w u) refl
       where
-        load_or_not : (q v : ℕ) (is : Fitting S κ.fn u → Sums C S.address S.whole (Of κ) a k w u q v) (b : Bool) → loads_there (register k) c ≡ b → Done o (Do u c) (Some (cond b (2, instr.Mov (RegAtOff (register k) q (Left v))) (1, instr.Lea (register k) q (Some (Left v)))))
+        load_or_not : (q v : ℕ) (is : Fitting S κ.fn u → Sums C S.address S.whole (Of κ) a k w u q v) (b : Bool) → loads_there (register k) c ≡ b → Done o (Do u c) (Some (cond b (2, None, instr.Mov (RegAtOff (register k) q (Left v))) (1, None, instr.Lea (register k) q (Some (Left v)))))
         load_or_not q v is true there = three_done o u c k w q v lt fit puts is there
         load_or_not q v is false there = two_done o u c k w q v lt fit puts is
 
-        go : (x : Option (ℕ × ℕ)) → summed (register k) w u ≡ x → Done o (Do u c) (with_sum (register k) x c)
-        go None is = one_done o (Do u c) fit
+        go : (x : Option (ℕ × ℕ)) → summed (register k) w u ≡ x → Done o (Do u c) (with_sum (register k) x (with_copy (register k) w u) c)
+        go None is = copy_done o u c k w lt fit puts
         go (Some (q, v)) is = load_or_not q v (λ ff. sums C S.address S.whole (Of κ) a k w u q v lt (good_op κ u ff) is) (loads_there (register k) c) refl
 
     word_done : (o u : OpT Where) (c : NodesT Where) → Fitting S κ.fn o → Done o (Do u c) (with_word (word_put S.whole o) u c)

@@ -52,9 +52,9 @@ unfolding in_one
 in_one_same W fr o (Do p c) = ap (λ s. with_word s p c) (put_same W fr o)
 in_one_same W fr o _ = refl
 
-one_same : (W : Whole) (fr : ℕ → Frame) (F : Frame) (o : OpT Where) (r : Option (ℕ × Instr Imm)) → one_or_more (framed W fr) F o r ≡ one_or_more W F o r
+one_same : (W : Whole) (fr : ℕ → Frame) (F : Frame) (o : OpT Where) (r : Option (ℕ × Option (Instr Imm) × Instr Imm)) → one_or_more (framed W fr) F o r ≡ one_or_more W F o r
 one_same W fr F o None = op_same W fr F o
-one_same W fr F o (Some (more, i)) = refl
+one_same W fr F o (Some (more, first, i)) = refl
 
 module _ (x : CodeT Where) (W : Whole) (fr : ℕ → Frame) (same : (g : ℕ) → g < length x.functions → fr g ≡ W.frames g) where
   call_same : (F : Frame) (t : Option Where) (g : ℕ) (args : List Where) → g < length x.functions → call_items (framed W fr) F t g args ≡ call_items W F t g args

@@ -163,6 +163,7 @@ one_size W F o c =
     one_or_more_is W F (λ xs. size xs ≤ op_weight o) (λ v. op_weight o ≡ 8) o c (λ t n e. (ap op_weight e, ap op_weight e)) (λ t k e. (ap op_weight e, ap op_weight e)) (op_size W F o)
     (λ r q v lr lq h. let z = one_item (item.Op (instr.Lea r q (Some (Left v)))) 2 (omega arith) in omega (arith, z, h))
     (λ r q v lr lq h. let z = one_item (item.Op (instr.Mov (RegAtOff r q (Left v)))) 2 (omega arith) in omega (arith, z, h))
+    (λ u r q v lr lq h. let z = two_items (item.Op (instr.Mov (RegReg r q))) (item.Op (instr.Two u r (src.Imm (Left v)))) 1 2 (omega arith) (omega arith) in omega (arith, z, h))
 
 pub call_size : (W : Whole) (F : Frame) (t : Option Where) (g : ℕ) (args : List Where) → length args ≡ length (W.params g) → size (call_items W F t g args) ≤ call_weight args
 call_size W F t g args ok =

@@ -250,29 +250,47 @@ abbrev pub loads_there : ℕ → NodesT Where → Bool
 loads_there r (Do (LoadO (Reg t) (Reg p)) c) = (register t == r) && (register p == r)
 loads_there r _ = false
 
--- The operations behind a first one that one instruction does together with it, how many they are, and the instruction. A known word is put into a
--- register, and then another register's is added to it there: a `LEA` does both. Where that is the address of a load into the same register, one
--- `MOV` does all three.
-abbrev pub with_sum : ℕ → Option (ℕ × ℕ) → NodesT Where → Option (ℕ × Instr Imm)
-with_sum r None c = None
-with_sum r (Some (q, v)) c = Some (cond (loads_there r c) (2, instr.Mov (RegAtOff r q (Left v))) (1, instr.Lea r q (Some (Left v))))
+-- An operator that can't be turned round works on its first word, which another register has, and on a second one that was put into register r, where
+-- it puts what it makes: that register's word is copied there, and the known one stands in the instruction.
+abbrev pub unturned : Option TwoOf → Option ℕ → Option ℕ
+unturned None q = q
+unturned (Some u) q = None
 
-abbrev pub with_word : Option (ℕ × ℕ) → OpT Where → NodesT Where → Option (ℕ × Instr Imm)
+abbrev pub copied : ℕ → ℕ → TwoOf → Option ℕ → Option (ℕ × Option (Instr Imm) × Instr Imm)
+copied r w o None = None
+copied r w o (Some q) = Some (1, Some (instr.Mov (RegReg r q)), instr.Two o r (src.Imm (Left w)))
+
+abbrev pub with_copy : ℕ → ℕ → OpT Where → Option (ℕ × Option (Instr Imm) × Instr Imm)
+with_copy r w (TwoO o t a b) = copied r w o (unturned (turned o) (first_word r t a b))
+with_copy r w _ = None
+
+-- The operations behind a first one that are done together with it, how many they are, and the instruction that does all, with one before it where
+-- there is one. A known word is put into a register, and then another register's is added to it there: a `LEA` does both. Where that is the address of a
+-- load into the same register, one `MOV` does all three.
+abbrev pub with_sum : ℕ → Option (ℕ × ℕ) → (other : Option (ℕ × Option (Instr Imm) × Instr Imm)) → NodesT Where → Option (ℕ × Option (Instr Imm) × Instr Imm)
+with_sum r None other c = other
+with_sum r (Some (q, v)) other c = Some (cond (loads_there r c) (2, None, instr.Mov (RegAtOff r q (Left v))) (1, None, instr.Lea r q (Some (Left v))))
+
+abbrev pub with_word : Option (ℕ × ℕ) → OpT Where → NodesT Where → Option (ℕ × Option (Instr Imm) × Instr Imm)
 with_word None p c = None
-with_word (Some (r, w)) p c = with_sum r (summed r w p) c
+with_word (Some (r, w)) p c = with_sum r (summed r w p) (with_copy r w p) c
 
-unfoldable pub in_one : Whole → OpT Where → NodesT Where → Option (ℕ × Instr Imm)
+unfoldable pub in_one : Whole → OpT Where → NodesT Where → Option (ℕ × Option (Instr Imm) × Instr Imm)
 in_one W o (Do p c) = with_word (word_put W o) p c
 in_one W o _ = None
 
 -- the items of an operation, and of those that are done together with it; how many these are
-abbrev pub one_or_more : Whole → Frame → OpT Where → Option (ℕ × Instr Imm) → List AsmItem
-one_or_more W F o None = op_items W F o
-one_or_more W F o (Some (more, i)) = item.Op i ∷ []
+abbrev pub before_it : Option (Instr Imm) → List AsmItem
+before_it None = []
+before_it (Some i) = item.Op i ∷ []
 
-abbrev pub more_of : Option (ℕ × Instr Imm) → ℕ
+abbrev pub one_or_more : Whole → Frame → OpT Where → Option (ℕ × Option (Instr Imm) × Instr Imm) → List AsmItem
+one_or_more W F o None = op_items W F o
+one_or_more W F o (Some (more, first, i)) = before_it first ++ item.Op i ∷ []
+
+abbrev pub more_of : Option (ℕ × Option (Instr Imm) × Instr Imm) → ℕ
 more_of None = 0
-more_of (Some (more, i)) = more
+more_of (Some (more, first, i)) = more
 
 -- a result is given back in register 9
 abbrev pub giving : Frame → Option Where → List AsmItem

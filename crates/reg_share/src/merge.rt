@@ -62,8 +62,35 @@ fn operand_to_move(
     }
 }
 
+fn is_in_register(at: &[Where], a: u32) -> bool {
+    match place(at, a) {
+        Some(Where::Reg(_)) => true,
+        Some(Where::Slot(_)) => false,
+        None => false,
+    }
+}
+
+/// Whether the node before i puts a number into b.
+fn is_number(ns: &[Node<u32>], i: usize, b: u32) -> bool {
+    if i == 0 {
+        return false;
+    }
+    match op_at(ns, i - 1) {
+        Some(Op::Const(t, _)) => *t == b,
+        _ => false,
+    }
+}
+
+/// Whether the emitter works with the second operand as a number, where that is put into the target's register right before, and the first one stands in another.
+fn takes_number(at: &[Where], ns: &[Node<u32>], i: usize, o: &Op<u32>) -> bool {
+    match o {
+        Op::Two(_, _, a, b) => is_in_register(at, *a) && is_number(ns, i, *b),
+        _ => false,
+    }
+}
+
 /// The operand of an operation that takes the target's place: the first one, also of a load, or the second one where the operation works as well on its operands the
-/// other way round.
+/// other way round, or with that one as a number.
 fn move_of(
     single: &[bool],
     at: &[Where],
@@ -78,7 +105,7 @@ fn move_of(
     match operand_to_move(single, at, ns, i, of.target, of.first, of.second) {
         Some(found) => Some(found),
         None => {
-            if can_turn(o) {
+            if can_turn(o) || takes_number(at, ns, i, o) {
                 operand_to_move(single, at, ns, i, of.target, of.second, of.first)
             } else {
                 None

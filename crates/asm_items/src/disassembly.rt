@@ -1,54 +1,28 @@
 // Words taken apart into items.
 ghost use Rattle.std.specs.Prelude.{◌≡◌, drop, slice_get, IfOk};
 ghost use Rattle.v32_isa.specs.Decoding.{decoded};
-ghost use Rattle.asm_items.specs.Items.{instr_with, literal, mov_with, src_with};
 ghost use Rattle.asm_items.specs.Disassembled.{after_first, disassembled, first_item, has_immediate};
 
+use crate::immediates::{Immediates, instr_with};
 use crate::item::{AsmItem, Imm};
 use either::Either;
 use kit_base::Memory;
 use std::alloc::Global;
-use v32_isa::{Instr, Mov, Src, decode, encode};
+use v32_isa::{Instr, decode, encode};
 
-fn literal_src(s: Src<u32>) -> Src<Imm>
-    ensures { result ≡ src_with literal s }
-{
-    match s {
-        Src::Imm(i) => Src::Imm(Either::Left(i)),
-        Src::Reg(b) => Src::Reg(b),
-    }
-}
+/// The words of a text for the words of an instruction.
+struct Literals;
 
-fn literal_mov(m: Mov<u32>) -> Mov<Imm>
-    ensures { result ≡ mov_with literal m }
-{
-    match m {
-        Mov::RegImm(a, i) => Mov::RegImm(a, Either::Left(i)),
-        Mov::RegReg(a, b) => Mov::RegReg(a, b),
-        Mov::RegAt(a, i) => Mov::RegAt(a, Either::Left(i)),
-        Mov::RegAtReg(a, b) => Mov::RegAtReg(a, b),
-        Mov::RegAtOff(a, b, i) => Mov::RegAtOff(a, b, Either::Left(i)),
-        Mov::AtReg(i, b) => Mov::AtReg(Either::Left(i), b),
-        Mov::AtRegReg(a, b) => Mov::AtRegReg(a, b),
-        Mov::AtOffReg(a, i, b) => Mov::AtOffReg(a, Either::Left(i), b),
-    }
-}
+impl Immediates<u32, Imm> for Literals {
+    ghost use Rattle.std.specs.Prelude.{⊤};
+    ghost use Rattle.asm_items.specs.Items.{literal};
 
-/// The instruction with its immediates as words of a text.
-fn literal_instr(i: &Instr<u32>) -> Instr<Imm>
-    ensures { result ≡ instr_with literal i.now }
-{
-    match i {
-        Instr::Plain(p) => Instr::Plain(*p),
-        Instr::Go(g, s) => Instr::Go(*g, literal_src(*s)),
-        Instr::Branch(b, a, s) => Instr::Branch(*b, *a, literal_src(*s)),
-        Instr::Two(t, a, s) => Instr::Two(*t, *a, literal_src(*s)),
-        Instr::One(o, a) => Instr::One(*o, *a),
-        Instr::Mov(m) => Instr::Mov(literal_mov(*m)),
-        Instr::Lea(a, b, None) => Instr::Lea(*a, *b, None),
-        Instr::Lea(a, b, Some(i)) => Instr::Lea(*a, *b, Some(Either::Left(*i))),
-        Instr::In(a, p) => Instr::In(*a, *p),
-        Instr::Out(p, s) => Instr::Out(*p, literal_src(*s)),
+    ghost can_place = { λ s. ⊤ };
+
+    ghost placed = { λ s. literal };
+
+    fn placed(&self, imm: &u32) -> Imm {
+        Either::Left(*imm)
     }
 }
 
@@ -95,7 +69,7 @@ fn first_item(word: u32, found: &Option<Instr<u32>>) -> AsmItem
     ensures { result ≡ first_item word found.now }
 {
     match found {
-        Some(i) => AsmItem::Op(literal_instr(i)),
+        Some(i) => AsmItem::Op(instr_with(&Literals, i)),
         None => AsmItem::Integer(word),
     }
 }

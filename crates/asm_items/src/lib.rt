@@ -6,6 +6,7 @@
 #![tactic(auto)]
 
 mod disassembly;
+mod immediates;
 mod item;
 mod laws;
 mod mnemonic;
@@ -13,6 +14,7 @@ mod vocabulary;
 mod writing;
 
 pub use disassembly::disassemble;
+pub use immediates::{Immediates, instr_with};
 pub use item::{AsmItem, Imm};
 pub use laws::words_are_given_again;
 pub use vocabulary::{DataWord, Operation, WordKind, is_label_word, is_word_byte, word_kind};

@@ -6,8 +6,8 @@ ghost use Rattle.pix_lanes.specs.Pixels.{alpha, blue, drawn, green, nearest_quot
 
 use crate::blend::Blend;
 use crate::lanes::{
-    differences, halves, high_bytes, lesser, low_bytes, low_parts, products, raised, raised_words,
-    same, same_word, sums, upper_halves, word_sums, words,
+    differences, halves, high_bytes, lesser, low_bytes, low_parts, products, raised, same, sums,
+    words,
 };
 use std::simd::prelude::*;
 
@@ -58,8 +58,8 @@ fn alphas(rest: u16x16) -> u16x16
     ensures second { (j : ℕ) → j < 8 → slice_index result (2 * j + 1) ≡ slice_index rest (2 * j + 1) }
     ensures bytes { AreBytes result }
 {
-    let alone = upper_halves(words(rest));
-    halves(word_sums(alone, raised_words(alone)))
+    let alone = word_lanes::upper_halves(words(rest));
+    halves(word_lanes::sums(alone, word_lanes::raised(alone)))
 }
 
 /// The parts of drawn colours, over those of the screen.
@@ -101,7 +101,7 @@ fn joined(first: u16x16, second: u16x16) -> u32x8
         ≡ opaque (slice_index first (2 * j)) (slice_index second (2 * j)) (slice_index first (2 * j + 1)) }
 {
     let colours = low_parts(words(sums(first, raised(second))));
-    word_sums(colours, same_word(0xFF00_0000))
+    word_lanes::sums(colours, word_lanes::same(0xFF00_0000))
 }
 
 /// Eight pixels of the screen after texture points were drawn on them.
@@ -109,7 +109,7 @@ fn joined(first: u16x16, second: u16x16) -> u32x8
 pub fn eight_pixels(mode: Blend, multiply: u32, texture: u32x8, screen: u32x8) -> u32x8
     ensures drawn { (j : ℕ) → j < 8 → slice_index result j ≡ drawn mode multiply (slice_index texture j) (slice_index screen j) }
 {
-    let multiply = same_word(multiply);
+    let multiply = word_lanes::same(multiply);
     let colours = multiplied(red_and_blue(texture), red_and_blue(multiply));
     let rest = multiplied(green_and_alpha(texture), green_and_alpha(multiply));
     let alpha = alphas(rest);

@@ -1,4 +1,4 @@
-// What is done to each lane of a vector: sixteen lanes of 16 bits, or eight of 32.
+// What is done to each lane of a vector: sixteen lanes of 16 bits, and the words that they come from.
 ghost use Rattle.std.specs.Prelude.{◌≡◌, ℕ, ◌≤◌, ◌<◌, ◌+◌, ◌-◌, ◌*◌, ◌/◌, ◌%◌, ◌^◌, min, slice_index};
 
 use std::simd::prelude::*;
@@ -66,43 +66,12 @@ pub fn differences(a: u16x16, b: u16x16) -> u16x16
     a - b
 }
 
-/// The upper half of each word.
-#[inline(always)]
-pub fn upper_halves(w: u32x8) -> u32x8
-    ensures each { (j : ℕ) → j < 8 → slice_index result j ≡ slice_index w j / 65536 }
-{
-    w >> u32x8::splat(16)
-}
-
-/// Each word times 65,536.
-#[inline(always)]
-pub fn raised_words(w: u32x8) -> u32x8
-    ensures each { (j : ℕ) → j < 8 → slice_index result j ≡ slice_index w j * 65536 % 2 ^ 32 }
-{
-    w << u32x8::splat(16)
-}
-
 /// Each word without its highest byte.
 #[inline(always)]
 pub fn low_parts(w: u32x8) -> u32x8
     ensures each { (j : ℕ) → j < 8 → slice_index result j ≡ slice_index w j % 2 ^ 24 }
 {
     w & u32x8::splat(0xFF_FFFF)
-}
-
-#[inline(always)]
-pub fn word_sums(a: u32x8, b: u32x8) -> u32x8
-    ensures each { (j : ℕ) → j < 8 → slice_index result j ≡ (slice_index a j + slice_index b j) % 2 ^ 32 }
-{
-    a + b
-}
-
-/// One word in every lane.
-#[inline(always)]
-pub fn same_word(n: u32) -> u32x8
-    ensures each { (j : ℕ) → j < 8 → slice_index result j ≡ n }
-{
-    u32x8::splat(n)
 }
 
 #[inline(always)]

@@ -2,14 +2,13 @@
 //!
 //! It promises that what it keeps, what its ports answer and the 735 samples of each frame are those
 //! of the definitions after what happened at the ports so far. Nothing after `open` takes memory. It
-//! stands on `kit_base`, `v32_isa`, `port_history` and `asset_pack`.
+//! stands on `kit_base`, `v32_isa`, `port_history`, `asset_pack` and `word_lanes`.
 #![tactic(auto)]
 
 mod answers;
 mod channel;
 mod commands;
 mod eights;
-mod lanes;
 mod laws;
 mod looped_sound;
 mod mixing;

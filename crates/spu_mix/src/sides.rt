@@ -3,7 +3,7 @@ ghost use Rattle.std.specs.Prelude.{◌≡◌, ℕ, ◌≤◌, ◌<◌, ◌+◌,
 ghost use Rattle.spu_mix.specs.Sides.{raised_left, raised_right, mixed_word, clamped};
 
 use crate::eights::{left_sides, mixed_words, right_sides};
-use crate::lanes::{added, load, store};
+use word_lanes::{load, store};
 
 /// Adds eight samples to the sums of both sides, from a place of all three on.
 #[inline(always)]
@@ -17,9 +17,9 @@ fn add_eight(left: &mut [u32], right: &mut [u32], samples: &[u32], at: usize)
     ensures outside_right { (k : ℕ) → (k < at) ⊎ (at + 8 ≤ k) → slice_index right.new k ≡ slice_index right.old k }
 {
     let words = load(samples, at);
-    let sums = added(load(left, at), left_sides(words));
+    let sums = word_lanes::sums(load(left, at), left_sides(words));
     store(left, at, sums);
-    let sums = added(load(right, at), right_sides(words));
+    let sums = word_lanes::sums(load(right, at), right_sides(words));
     store(right, at, sums);
 }
 

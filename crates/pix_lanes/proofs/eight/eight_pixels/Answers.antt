@@ -30,6 +30,6 @@ returns c = record {
         c.green_and_alpha-2.ensures.parts.firsts j h,
         c.green_and_alpha-2.ensures.parts.seconds j h,
         c.green_and_alpha-3.ensures.parts.firsts j h,
-        c.same_word-multiply.ensures.each j h,
+        c.same-multiply.ensures.each j h,
       ) refl;
 }

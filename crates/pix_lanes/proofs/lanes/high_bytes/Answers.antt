@@ -1,5 +1,5 @@
 use Rattle.std.proofs.Common.{◌/◌, ◌^◌}
-use Rattle.pix_lanes.proofs.LaneSteps.{splat_at}
+use Rattle.word_lanes.proofs.LaneSteps.{splat_at}
 use Rattle.pix_lanes.proofs.lanes.high_bytes.Goals as goal
 
 pub returns : goal.returns

@@ -1,5 +1,8 @@
-use Rattle.pix_lanes.proofs.LaneSteps.{lesser_at}
+use Rattle.std.proofs.Common.{w16}
+use Rattle.std.specs.Prelude.{nat_lt}
+use Rattle.std.proofs.lemmas.Simd.{tops_compared}
+use Rattle.word_lanes.proofs.LaneSteps.{lesser_at}
 use Rattle.pix_lanes.proofs.lanes.lesser.Goals as goal
 
 pub returns : goal.returns
-returns c = record { each = λ k h. lesser_at 16 c.args.a c.args.b k c.fits-a.0 c.fits-b.0 h }
+returns c = record { each = λ k h. lesser_at 16 c.args.a c.args.b _ k (tops_compared w16 nat_lt c.args.a c.args.b) c.fits-a.0 c.fits-b.0 h }

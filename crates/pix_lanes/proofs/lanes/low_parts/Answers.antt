@@ -1,4 +1,4 @@
-use Rattle.pix_lanes.proofs.LaneSteps.{masked_at}
+use Rattle.word_lanes.proofs.LaneSteps.{masked_at}
 use Rattle.pix_lanes.proofs.lanes.low_parts.Goals as goal
 
 pub returns : goal.returns

@@ -1,6 +1,6 @@
 use Rattle.std.proofs.Common.{inl, inr, arith}
 use Rattle.std.proofs.lemmas.Simd.{get_or-put_chunk_at, get_or-put_chunk_below, get_or-put_chunk_above}
-use Rattle.pix_lanes.proofs.rows.store.Goals as goal
+use Rattle.word_lanes.proofs.slices.store.Goals as goal
 
 pub returns-clause-each : goal.returns-clause-each
 returns-clause-each c j h = get_or-put_chunk_at c.args.at c.args.words.now c.args.eight j 0 (omega arith) (omega arith)

@@ -1,5 +1,0 @@
-use Rattle.std.proofs.lemmas.Simd.{get_or-replicate}
-use Rattle.pix_lanes.proofs.lanes.same_word.Goals as goal
-
-pub returns : goal.returns
-returns c = record { each = λ k h. get_or-replicate 8 k c.args.n 0 h }

@@ -1,69 +1,31 @@
 // The words of items, where the labels' addresses are known.
 ghost use Rattle.std.specs.Prelude.{◌≡◌, ◌++◌, true, IfOk, OnOk};
 ghost use Rattle.v32_isa.specs.Table.{spelling};
-ghost use Rattle.asm_items.specs.Items.{instr_with, mov_with, src_with};
-ghost use Rattle.asm_items.specs.Words.{imm_word, item_words, words_of_items};
+ghost use Rattle.asm_items.specs.Words.{item_words, words_of_items};
 ghost use Rattle.assembler.specs.Labels.{address_in, are_words};
 
 use crate::labels::Labels;
-use asm_items::{AsmItem, Imm};
+use asm_items::{AsmItem, Imm, Immediates, instr_with};
 use either::Either;
 use kit_base::Memory;
 use std::alloc::Global;
-use v32_isa::{Instr, Mov, Src, encode};
+use v32_isa::{Instr, encode};
 
-fn imm_word(labels: &Labels<'_>, imm: &Imm) -> u32
-    requires { are_words labels.now ≡ true }
-    ensures { result ≡ imm_word (address_in labels.now) imm.now }
-{
-    match imm {
-        Either::Left(word) => *word,
-        Either::Right(name) => labels.word_of(name.bytes()),
-    }
-}
+/// The words of immediates: an immediate's own, or the address of its label.
+impl<'a> Immediates<Imm, u32> for Labels<'a> {
+    ghost use Rattle.std.specs.Prelude.{◌≡◌, true};
+    ghost use Rattle.asm_items.specs.Words.{imm_word};
+    ghost use Rattle.assembler.specs.Labels.{address_in, are_words};
 
-fn resolved_src(labels: &Labels<'_>, s: &Src<Imm>) -> Src<u32>
-    requires { are_words labels.now ≡ true }
-    ensures { result ≡ src_with (imm_word (address_in labels.now)) s.now }
-{
-    match s {
-        Src::Imm(i) => Src::Imm(imm_word(labels, i)),
-        Src::Reg(b) => Src::Reg(*b),
-    }
-}
+    ghost can_place = { λ labels. are_words labels ≡ true };
 
-fn resolved_mov(labels: &Labels<'_>, m: &Mov<Imm>) -> Mov<u32>
-    requires { are_words labels.now ≡ true }
-    ensures { result ≡ mov_with (imm_word (address_in labels.now)) m.now }
-{
-    match m {
-        Mov::RegImm(a, i) => Mov::RegImm(*a, imm_word(labels, i)),
-        Mov::RegReg(a, b) => Mov::RegReg(*a, *b),
-        Mov::RegAt(a, i) => Mov::RegAt(*a, imm_word(labels, i)),
-        Mov::RegAtReg(a, b) => Mov::RegAtReg(*a, *b),
-        Mov::RegAtOff(a, b, i) => Mov::RegAtOff(*a, *b, imm_word(labels, i)),
-        Mov::AtReg(i, b) => Mov::AtReg(imm_word(labels, i), *b),
-        Mov::AtRegReg(a, b) => Mov::AtRegReg(*a, *b),
-        Mov::AtOffReg(a, i, b) => Mov::AtOffReg(*a, imm_word(labels, i), *b),
-    }
-}
+    ghost placed = { λ labels. imm_word (address_in labels) };
 
-/// The instruction with the words of its immediates.
-fn resolved(labels: &Labels<'_>, i: &Instr<Imm>) -> Instr<u32>
-    requires { are_words labels.now ≡ true }
-    ensures { result ≡ instr_with (imm_word (address_in labels.now)) i.now }
-{
-    match i {
-        Instr::Plain(p) => Instr::Plain(*p),
-        Instr::Go(g, s) => Instr::Go(*g, resolved_src(labels, s)),
-        Instr::Branch(b, a, s) => Instr::Branch(*b, *a, resolved_src(labels, s)),
-        Instr::Two(t, a, s) => Instr::Two(*t, *a, resolved_src(labels, s)),
-        Instr::One(o, a) => Instr::One(*o, *a),
-        Instr::Mov(m) => Instr::Mov(resolved_mov(labels, m)),
-        Instr::Lea(a, b, None) => Instr::Lea(*a, *b, None),
-        Instr::Lea(a, b, Some(i)) => Instr::Lea(*a, *b, Some(imm_word(labels, i))),
-        Instr::In(a, p) => Instr::In(*a, *p),
-        Instr::Out(p, s) => Instr::Out(*p, resolved_src(labels, s)),
+    fn placed(&self, imm: &Imm) -> u32 {
+        match imm {
+            Either::Left(word) => *word,
+            Either::Right(name) => self.word_of(name.bytes()),
+        }
     }
 }
 
@@ -86,7 +48,7 @@ fn put_item(words: &mut Vec<u32>, labels: &Labels<'_>, item: &AsmItem) -> Result
 {
     match item {
         AsmItem::Label(_) => Ok(()),
-        AsmItem::Op(i) => put_instr(words, &resolved(labels, i)),
+        AsmItem::Op(i) => put_instr(words, &instr_with(labels, i)),
         AsmItem::Integer(word) => {
             words.push(*word)?;
             Ok(())

@@ -126,10 +126,3 @@ pub arms_within : (i : ℕ) (xs : List Arm) → arms_nodes (arms_of (map arm_of 
 arms_within zero xs = omega arith
 arms_within (suc i) [] = omega arith
 arms_within (suc i) (x ∷ xs) = let e = arms_within i xs in omega (arith, e)
-
--- ---- what was answered, beside what is kept
-
-pub statement_given : {X : Type 0} (seen : X → TStmtT) (f : Fn) (sp sq : St) (breaks continues : Bool) (a : StmtT) (r : Result X CheckErr) (x : X) → Gives (λ y. (seen y, sq)) r (statement f sp breaks continues a) → r ≡ Ok x → objects sq ≤ objects sp + stmt_nodes a
-statement_given {X = X} seen f sp sq breaks continues a r x g is =
-    let P : Result X CheckErr → Type 0 = λ z. Gives (λ y. (seen y, sq)) z (statement f sp breaks continues a) in
-    statement_counts f sp sq breaks continues a (seen x) (subst P is g)

@@ -39,6 +39,7 @@ pub(crate) fn type_at(
 ) -> Result<CType, CheckErr>
     ensures gives { Gives (λ r. (ctype r, un reading.new)) result (type_at (un reading.old) span (type ty.now)) }
     ensures objects { (un reading.new).globals ≡ (un reading.old).globals }
+    ensures sizes { (un reading.new).sizes ≡ (un reading.old).sizes }
 {
     type_of_tree(
         alloc,

@@ -1,20 +1,18 @@
 -- How many objects statements make: at most one for each of their nodes.
-use Rattle.std.proofs.Common.{arith, zero, suc, drop, map, ◌≡◌, ◌≤◌, ◌+◌, ℕ, Bool, true, false, List, [], ◌∷◌, ◌++◌, length, length-append, Option, Some, None, Result, Ok, refl, ap, ◌∙◌, subst, if◌then◌else◌}
+use Rattle.std.proofs.Common.{arith, zero, suc, drop, map, ◌≡◌, ◌≤◌, ◌+◌, ℕ, Bool, true, false, List, [], ◌∷◌, length, length-append, Option, Ok, refl, ap, ◌∙◌, subst, if◌then◌else◌}
 use Rattle.c_tree.specs.declared.span.Span.{Span}
 use Rattle.c_tree.specs.Tree.{ExprT, TypeT, InitT, VarT, StmtT, MaybeS, StmtTs, MoreS, ArmT, ArmTs, MoreA}
-use Rattle.c_tree.specs.Count.{expr_nodes, maybe_expr_nodes, maybe_init_nodes, vars_nodes, var_nodes, stmt_nodes, maybe_nodes, stmts_nodes, arm_nodes, arms_nodes}
+use Rattle.c_tree.specs.Count.{vars_nodes, stmt_nodes, maybe_nodes, stmts_nodes, arm_nodes, arms_nodes}
 use Rattle.c_tree.specs.View.{stmt, stmts, arm as arm_of, arms as arms_of}
 use Rattle.c_tree.specs.declared.statement.Stmt.{Stmt}
 use Rattle.c_tree.specs.declared.statement.Arm.{Arm}
 use Rattle.c_types.specs.Types.{Ty}
 use Rattle.c_types.specs.Typed.{TExprT, TInitT, TVarT, TStmtT, MaybeZ, TStmtTs, TArmT, TArmTs}
-use Rattle.c_exprs.specs.declared.error.CheckErr.{CheckErr}
-use Rattle.c_exprs.specs.Gives.{Gives}
 use Rattle.c_stmts.specs.State.{Fn, St, is_new, declare, entered, Labels}
-use Rattle.c_stmts.specs.StatementTyping.{statement, maybe_statement, statements, arm, arms, declared, all_declared}
+use Rattle.c_stmts.specs.StatementTyping.{statement, maybe_statement, statements, arm, declared}
 use Rattle.c_stmts.specs.StatementTypes as good
-use Rattle.c_stmts.specs.StatementTypes.{ValueIn, TypeIn, FillsIn, MaybeFills, Declares, AllDeclare, MaybeValue, Statement, MaybeStatement, Statements, ArmOf, ArmsOf}
-use Rattle.c_stmts.proofs.StatementExact.{DeclaresOut, declared_outcome, StatementOut, statement_outcome, MaybeStatementOut, maybe_statement_outcome, StatementsOut, statements_outcome, ArmOfOut, arm_outcome}
+use Rattle.c_stmts.specs.StatementTypes.{ValueIn, TypeIn, MaybeFills, Declares, AllDeclare, MaybeValue, Statement, MaybeStatement, Statements, ArmOf, ArmsOf}
+use Rattle.c_stmts.proofs.StatementExact.{DeclaresOut, declared_outcome, StatementOut, statement_outcome, MaybeStatementOut, maybe_statement_outcome, ArmOfOut, arm_outcome}
 
 -- the objects of a call so far
 abbrev pub objects : St → ℕ

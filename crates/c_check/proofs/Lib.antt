@@ -3,3 +3,4 @@ pub mod WholeExact
 pub mod Answered
 pub mod Held
 pub mod Spent
+pub mod Counted

@@ -1,5 +1,6 @@
 // Functions.
-ghost use Rattle.std.specs.Prelude.{◌≡◌, ◌∷◌, [], ◌==◌, map, option_map, OnOk, IfOk, IfSome, IfNone};
+ghost use Rattle.std.specs.Prelude.{◌≡◌, ◌+◌, ◌≤◌, ◌<◌, ◌^◌, length, ◌∷◌, [], ◌==◌, map, option_map, OnOk, IfOk, IfSome, IfNone};
+ghost use Rattle.c_tree.specs.Count.{vars_nodes, maybe_stmts_nodes};
 ghost use Rattle.c_tree.specs.View.{stmt, stmts, type, var};
 ghost use Rattle.c_types.specs.View.{ctype, layout, tstmt, tstmts};
 ghost use Rattle.c_rules.specs.Rules.{judged};
@@ -40,6 +41,7 @@ fn parameter_words(layouts: &[Layout], whole: &[bool], ty: &CType) -> Result<u32
 
 #[tactic(auto, unfolding(crate::specs::ItemTyping::parameter, crate::specs::Reading::parameter_size, crate::specs::Reading::with_parameter))]
 fn read_parameter(alloc: Global, reading: &mut Reading, v: &Var) -> Result<CType, CheckErr>
+    requires room { length (un reading.old).sizes < 2 ^ 32 }
     ensures { Gives (λ r. (ctype r, un reading.new)) result (parameter (un reading.old) (var v.now)) }
 {
     let ty = type_at(alloc, reading, v.span, &v.ty)?;
@@ -63,6 +65,7 @@ fn read_parameters(
     reading: &mut Reading,
     all: &[Var],
 ) -> Result<Vec<CType>, CheckErr>
+    requires room { length (un reading.old).sizes + vars_nodes (map var all.now) ≤ 2 ^ 32 }
     ensures { Gives (λ r. (map ctype r.items, un reading.new)) result (parameters (un reading.old) (map var all.now)) }
 {
     let mut found = Vec::new(alloc);
@@ -244,6 +247,7 @@ pub(crate) fn read_function(
     params: &Seq<Var>,
     body: &Option<Seq<Stmt>>,
 ) -> Result<(), CheckErr>
+    requires few { vars_nodes (map var params.now) + maybe_stmts_nodes (option_map (λ b. stmts (map stmt b)) body.now) ≤ 200000 }
     ensures { Gives (λ r. (r, un reading.new)) result (item (un reading.old) (FunctionD (type gives.now) name.now (map var params.now) (option_map (λ b. stmts (map stmt b)) body.now) span)) }
 {
     let gives = type_at(alloc, reading, span, gives)?;

@@ -1,5 +1,6 @@
 // The parts of items.
-ghost use Rattle.std.specs.Prelude.{◌≡◌, map, option_map};
+ghost use Rattle.std.specs.Prelude.{◌≡◌, ◌+◌, ◌≤◌, ◌^◌, length, map, option_map};
+ghost use Rattle.c_tree.specs.Count.{stmts_nodes, maybe_stmts_nodes};
 ghost use Rattle.c_tree.specs.View.{expr, init, stmt, stmts, type};
 ghost use Rattle.c_types.specs.View.{ctype, texpr, tinit, tstmt, tstmts};
 ghost use Rattle.c_exprs.specs.Gives.{Gives};
@@ -38,6 +39,7 @@ pub(crate) fn type_at(
 ) -> Result<CType, CheckErr>
     ensures gives { Gives (λ r. (ctype r, un reading.new)) result (type_at (un reading.old) span (type ty.now)) }
     ensures objects { (un reading.new).globals ≡ (un reading.old).globals }
+    ensures sizes { (un reading.new).sizes ≡ (un reading.old).sizes }
 {
     type_of_tree(
         alloc,
@@ -99,6 +101,7 @@ fn body_at(
     gives: &CType,
     body: &[Stmt],
 ) -> Result<Vec<TStmt>, CheckErr>
+    requires room { length (un reading.old).sizes + stmts_nodes (stmts (map stmt body.now)) ≤ 2 ^ 32 }
     ensures { Gives (λ r. (tstmts (map tstmt r.items), un reading.new)) result (body_at (un reading.old) (ctype gives.now) (stmts (map stmt body.now))) }
 {
     type_statements(alloc, &reading.globals, &mut reading.state, body, gives)
@@ -112,6 +115,7 @@ pub(crate) fn maybe_body(
     gives: &CType,
     body: &Option<Seq<Stmt>>,
 ) -> Result<Option<Vec<TStmt>>, CheckErr>
+    requires room { length (un reading.old).sizes + maybe_stmts_nodes (option_map (λ b. stmts (map stmt b)) body.now) ≤ 2 ^ 32 }
     ensures { Gives (λ r. (option_map (λ b. tstmts (map tstmt b.items)) r, un reading.new)) result (maybe_body (un reading.old) (ctype gives.now) (option_map (λ b. stmts (map stmt b)) body.now)) }
 {
     match body {

@@ -10,3 +10,4 @@ pub mod Values
 pub mod InitExact
 pub mod StatementExact
 pub mod Answered
+pub mod Counted

@@ -1,5 +1,5 @@
 // The sizes of the objects of a function's call.
-ghost use Rattle.std.specs.Prelude.{◌≡◌, ◌≤◌, ◌++◌, ◌∷◌, [], length, OnOk, IfOk};
+ghost use Rattle.std.specs.Prelude.{◌≡◌, ◌<◌, ◌^◌, ◌++◌, ◌∷◌, [], length, OnOk};
 
 use kit_base::Memory;
 use std::alloc::Global;
@@ -9,7 +9,6 @@ use std::marker::Model;
 #[derive(Drop)]
 pub(crate) struct Sizes {
     items: Vec<u32>,
-    ghost few: { length items.items ≤ 4294967296 },
 }
 
 impl Model for Sizes {
@@ -29,23 +28,19 @@ impl Sizes {
         }
     }
 
-    /// The number of the next object. The error is that there are 2^32.
-    pub(crate) fn next(&self) -> Result<u32, Memory>
-        ensures next { IfOk result (λ number. number ≡ length self.now) }
+    /// The number of the next object, where there are fewer than 2^32.
+    pub(crate) fn next(&self) -> u32
+        requires room { length self.now < 2 ^ 32 }
+        ensures next { result ≡ length self.now }
     {
-        match u32::try_from(self.items.len()) {
-            Ok(number) => Ok(number),
-            Err(_) => Err(Memory),
-        }
+        self.items.len() as u32
     }
 
-    /// Adds the next object. The error is want of memory, or that there are 2^32 objects.
+    /// Adds the next object, where there are fewer than 2^32. The error is want of memory.
     pub(crate) fn add(&mut self, size: u32) -> Result<(), Memory>
+        requires room { length self.old < 2 ^ 32 }
         ensures added { OnOk result (self.new ≡ self.old ++ size ∷ []) }
     {
-        if self.items.len() > 0xFFFF_FFFF {
-            return Err(Memory);
-        }
         self.items.push(size)?;
         Ok(())
     }

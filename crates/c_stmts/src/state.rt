@@ -1,5 +1,5 @@
 // What the statements of a function change.
-ghost use Rattle.std.specs.Prelude.{◌≡◌, ◌+◌, ◌≤◌, ◌++◌, ◌∷◌, [], true, length, OnOk, IfOk, OnErr};
+ghost use Rattle.std.specs.Prelude.{◌≡◌, ◌+◌, ◌≤◌, ◌<◌, ◌^◌, ◌++◌, ◌∷◌, [], true, length, OnOk, IfOk, OnErr};
 ghost use Rattle.c_types.specs.View.{ctype};
 ghost use Rattle.c_stmts.specs.State.{opened, left, made, is_new, declare, sized};
 ghost use Rattle.c_stmts.specs.View.{st};
@@ -49,7 +49,7 @@ impl State {
         is_new(name, &self.scopes)
     }
 
-    /// Declares a parameter as the next object, in the innermost scope, under a name that this does not have, with its size in words. The error is want of memory, and then the state is of no further use.
+    /// Declares a parameter as the next object, where there are fewer than 2^32, in the innermost scope, under a name that this does not have, with its size in words. The error is want of memory, and then the state is of no further use.
     pub fn add_object(
         &mut self,
         alloc: Global,
@@ -58,16 +58,18 @@ impl State {
         ty: CType,
     ) -> Result<(), Memory>
         requires new { is_new name.now (st self.old) ≡ true }
+        requires room { length (st self.old).sizes < 2 ^ 32 }
         ensures added { OnOk result (st self.new ≡ record { scopes = declare name.now (record { number = length (st self.old).sizes; ty = ctype ty }) (st self.old).scopes; sizes = (st self.old).sizes ++ size ∷ []; used = (st self.old).used; texts = (st self.old).texts }) }
     {
-        let number = self.sizes.next()?;
+        let number = self.sizes.next();
         declare(alloc, &mut self.scopes, name, number, ty)?;
         self.sizes.add(size)
     }
 
     /// Keeps the size in words of the next object, which is a variable. The error is want of memory.
     pub(crate) fn add_variable(&mut self, size: u32) -> Result<(), Memory>
-        requires room { (st self.old).used + size ≤ 1000000 }
+        requires words { (st self.old).used + size ≤ 1000000 }
+        requires room { length (st self.old).sizes < 2 ^ 32 }
         ensures sized { OnOk result (st self.new ≡ sized size (st self.old)) }
     {
         self.sizes.add(size)?;

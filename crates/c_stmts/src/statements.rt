@@ -1,6 +1,7 @@
 // The typing of statements.
-ghost use Rattle.std.specs.Prelude.{◌≡◌, ℕ, [], List, Some, false, map, IfOk, OnErr, Err};
+ghost use Rattle.std.specs.Prelude.{◌≡◌, ◌+◌, ◌≤◌, ◌^◌, ℕ, length, [], List, Some, false, map, IfOk, OnErr, Err};
 ghost use Rattle.c_tree.specs.declared.span.Span.{Span};
+ghost use Rattle.c_tree.specs.Count.{vars_nodes, stmt_nodes, maybe_nodes, stmts_nodes, arm_nodes, arms_nodes};
 ghost use Rattle.c_tree.specs.View.{expr, var, stmt, stmts, arm, arms};
 ghost use Rattle.c_tree.specs.Tree.{DoS, ReturnS, VarsS};
 ghost use Rattle.c_types.specs.Typed.{TStmtTs};
@@ -37,6 +38,7 @@ fn vars_of(
     vars: &[Var],
     span: Span,
 ) -> Result<TStmt, CheckErr>
+    requires room { length (st state.old).sizes + vars_nodes (map var vars.now) ≤ 2 ^ 32 }
     ensures { Gives (λ r. (tstmt r, st state.new)) result (typing.statement (fn_of globals.now gives.now) (st state.old) false false (VarsS (map var vars.now) span)) }
 {
     let vars = all_declared(alloc, globals, state, gives, vars)?;
@@ -85,6 +87,7 @@ fn stmt_of(
     breaks: bool,
     continues: bool,
 ) -> Result<TStmt, CheckErr>
+    requires room { length (st state.old).sizes + stmt_nodes (stmt s.now) ≤ 2 ^ 32 }
     ensures { Gives (λ r. (tstmt r, st state.new)) result (typing.statement (fn_of globals.now gives.now) (st state.old) breaks continues (stmt s.now)) }
 {
     match s {
@@ -160,6 +163,7 @@ fn maybe_of(
     breaks: bool,
     continues: bool,
 ) -> Result<Option<TStmt>, CheckErr>
+    requires room { length (st state.old).sizes + maybe_nodes (maybe_s s.now) ≤ 2 ^ 32 }
     ensures { Gives (λ r. (maybe_z r, st state.new)) result (typing.maybe_statement (fn_of globals.now gives.now) (st state.old) breaks continues (maybe_s s.now)) }
 {
     match s {
@@ -181,6 +185,7 @@ fn stmts_of(
     breaks: bool,
     continues: bool,
 ) -> Result<Vec<TStmt>, CheckErr>
+    requires room { length (st state.old).sizes + stmts_nodes (stmts (map stmt all.now)) ≤ 2 ^ 32 }
     ensures { Gives (λ r. (tstmts (map tstmt r.items), st state.new)) result (typing.statements (fn_of globals.now gives.now) (st state.old) breaks continues (stmts (map stmt all.now))) }
 {
     let mut found = Vec::new(alloc);
@@ -203,6 +208,7 @@ fn arm_of(
     continues: bool,
     seen: &mut Labels,
 ) -> Result<TArm, CheckErr>
+    requires room { length (st state.old).sizes + arm_nodes (arm a.now) ≤ 2 ^ 32 }
     ensures gives { Gives (λ r. (tarm r, st state.new)) result (typing.arm (fn_of globals.now gives.now) (st state.old) breaks continues (labels seen.old) (arm a.now)) }
     ensures labels { IfOk result (λ r. labels seen.new ≡ with_label (labels seen.old) (tarm r)) }
 {
@@ -234,6 +240,7 @@ fn arms_of(
     breaks: bool,
     continues: bool,
 ) -> Result<Vec<TArm>, CheckErr>
+    requires room { length (st state.old).sizes + arms_nodes (arms (map arm all.now)) ≤ 2 ^ 32 }
     ensures { Gives (λ r. (tarms (map tarm r.items), st state.new)) result (typing.arms (fn_of globals.now gives.now) (st state.old) breaks continues no_labels (arms (map arm all.now))) }
 {
     let mut seen = no_labels(alloc);
@@ -248,7 +255,7 @@ fn arms_of(
 }
 
 /// The typed trees of the statements of a function's body, whose result is of the type `gives`. Scopes, objects and texts are
-/// added to those of the state; after a refusal it has none.
+/// added to those of the state; after a refusal it has none. The objects of the state and the nodes of the body are at most 2^32 together.
 pub fn type_statements(
     alloc: Global,
     globals: &Globals,
@@ -256,6 +263,7 @@ pub fn type_statements(
     body: &[Stmt],
     gives: &CType,
 ) -> Result<Vec<TStmt>, CheckErr>
+    requires room { length (st state.old).sizes + stmts_nodes (stmts (map stmt body.now)) ≤ 2 ^ 32 }
     ensures gives { Gives (λ r. (tstmts (map tstmt r.items), st state.new)) result (typing.statements (fn_of globals.now gives.now) (st state.old) false false (stmts (map stmt body.now))) }
     // What is answered is typed so by the rules.
     ensures types { IfOk result (λ r. Statements (fn_of globals.now gives.now) (st state.old) false false (stmts (map stmt body.now)) (tstmts (map tstmt r.items)) (st state.new)) }

@@ -1,5 +1,6 @@
 // The typing of the variables of a function.
-ghost use Rattle.std.specs.Prelude.{◌≡◌, ◌++◌, false, length, map, option_map, OnOk, IfOk};
+ghost use Rattle.std.specs.Prelude.{◌≡◌, ◌+◌, ◌≤◌, ◌<◌, ◌^◌, ◌++◌, false, length, map, option_map, OnOk, IfOk};
+ghost use Rattle.c_tree.specs.Count.{vars_nodes};
 ghost use Rattle.c_tree.specs.View.{expr, init, type, var};
 ghost use Rattle.c_types.specs.View.{ctype, texpr, tinit, tvar};
 ghost use Rattle.c_exprs.specs.Gives.{Gives};
@@ -27,7 +28,8 @@ pub(crate) fn value_in(
     gives: &CType,
     e: &Expr,
 ) -> Result<TExpr, CheckErr>
-    ensures { Gives (λ r. (texpr r, st state.new)) result (value_in (fn_of globals.now gives.now) (st state.old) (expr e.now)) }
+    ensures gives { Gives (λ r. (texpr r, st state.new)) result (value_in (fn_of globals.now gives.now) (st state.old) (expr e.now)) }
+    ensures sizes { (st state.new).sizes ≡ (st state.old).sizes }
 {
     let x = type_value(alloc, globals, &state.scopes, &mut state.texts, e)?;
     Ok(x)
@@ -42,7 +44,8 @@ pub(crate) fn maybe_value(
     gives: &CType,
     e: &Option<Expr>,
 ) -> Result<Option<TExpr>, CheckErr>
-    ensures { Gives (λ r. (option_map texpr r, st state.new)) result (maybe_value (fn_of globals.now gives.now) (st state.old) (option_map expr e.now)) }
+    ensures gives { Gives (λ r. (option_map texpr r, st state.new)) result (maybe_value (fn_of globals.now gives.now) (st state.old) (option_map expr e.now)) }
+    ensures sizes { (st state.new).sizes ≡ (st state.old).sizes }
 {
     match e {
         Some(e) => {
@@ -80,6 +83,7 @@ fn fill_in(
     initialiser: &Init,
 ) -> Result<TInit, CheckErr>
     ensures gives { Gives (λ r. (tinit r, st state.new)) result (fill_in (fn_of globals.now gives.now) (st state.old) (ctype target.now) (init initialiser.now)) }
+    ensures sizes { (st state.new).sizes ≡ (st state.old).sizes }
     ensures used { (st state.new).used ≡ (st state.old).used }
 {
     let target = Some(target);
@@ -106,6 +110,7 @@ fn maybe_filled(
     initialiser: &Option<Init>,
 ) -> Result<Option<TInit>, CheckErr>
     ensures gives { Gives (λ r. (option_map tinit r, st state.new)) result (maybe_filled (fn_of globals.now gives.now) (st state.old) (ctype target.now) (option_map init initialiser.now)) }
+    ensures sizes { (st state.new).sizes ≡ (st state.old).sizes }
     ensures used { (st state.new).used ≡ (st state.old).used }
 {
     match initialiser {
@@ -117,14 +122,17 @@ fn maybe_filled(
     }
 }
 
-/// Makes a name that is new the next object from here on, and gives that object's number. The error is want of memory.
+/// Makes a name that is new the next object from here on, and gives that object's number, where there are fewer than 2^32. The error is
+/// want of memory.
 #[tactic(auto, unfolding(crate::specs::State::entered))]
 fn enter(alloc: Global, state: &mut State, name: &[u8], ty: &CType) -> Result<u32, Memory>
+    requires room { length (st state.old).sizes < 2 ^ 32 }
     ensures number { IfOk result (λ number. number ≡ length (st state.old).sizes) }
     ensures entered { OnOk result (st state.new ≡ entered name.now (ctype ty.now) (st state.old)) }
+    ensures sizes { (st state.new).sizes ≡ (st state.old).sizes }
     ensures used { (st state.new).used ≡ (st state.old).used }
 {
-    let number = state.sizes.next()?;
+    let number = state.sizes.next();
     if !is_new(name, &state.scopes) {
         return Ok(number);
     }
@@ -157,6 +165,7 @@ fn declared(
     gives: &CType,
     v: &Var,
 ) -> Result<Option<TVar>, CheckErr>
+    requires room { length (st state.old).sizes < 2 ^ 32 }
     ensures { Gives (λ r. (lone (option_map tvar r), st state.new)) result (declared (fn_of globals.now gives.now) (st state.old) (var v.now)) }
 {
     let used = state.used;
@@ -194,6 +203,7 @@ pub(crate) fn all_declared(
     gives: &CType,
     vs: &[Var],
 ) -> Result<Vec<TVar>, CheckErr>
+    requires room { length (st state.old).sizes + vars_nodes (map var vs.now) ≤ 2 ^ 32 }
     ensures { Gives (λ r. (map tvar r.items, st state.new)) result (all_declared (fn_of globals.now gives.now) (st state.old) (map var vs.now)) }
 {
     let mut found = Vec::new(alloc);

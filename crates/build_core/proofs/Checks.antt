@@ -14,6 +14,7 @@ use Rattle.c_front.specs.declared.unit.Parsed.{Parsed}
 use Rattle.c_front.specs.Answer.{IsUnitOf}
 use Rattle.c_front.specs.Causes.{HasFailed, IsOver, Lacks}
 use Rattle.c_front.specs.Causes.{MissesOnly as FrontMisses}
+use Rattle.c_front.specs.Codes.{HasFrontCode}
 use Rattle.c_front.specs.Due.{Answers, IsUnit}
 use Rattle.c_front.specs.Over.{over}
 use Rattle.c_exprs.specs.Faults.{FaultT}
@@ -36,7 +37,7 @@ use Rattle.build_core.specs.Due.{project_due}
 use Rattle.build_core.specs.Causes.{CanCome, Cause, HasReadCauses, IsOfContent}
 use Rattle.build_core.specs.Inner as build
 use Rattle.build_core.specs.Checked.{unread, broken, no_unit, breaks, no_project, no_program, Checks, IsProgramOf, Accepts, CanBeRefused, ChecksSource, Tells, Breaks, Types, IsOfRules, MissesOnly}
-use Rattle.build_core.proofs.Counting.{of_content}
+use Rattle.build_core.proofs.Listing.{front_cause, rule_cause}
 
 -- ---- a unit
 
@@ -117,14 +118,14 @@ source_not_derived (Some m) source e d = λ x ds p ex de w. no_other ds p e (d x
 -- ---- which refusals come, and why
 
 module _ (T : Type 0) where
-  rules_content : (r : Result T BuildErr) → IfErr r IsOfRules → IfErr r IsOfContent
-  rules_content (Ok x) h = tt
-  rules_content (Err (errors.Source c f l)) h = tt
-  rules_content (Err (errors.Missing n)) h = absurd h
-  rules_content (Err (errors.Failed n)) h = absurd h
-  rules_content (Err (errors.Bad c n l)) h = absurd h
-  rules_content (Err (errors.Limit n)) h = absurd h
-  rules_content (Err errors.Memory) h = tt
+  rules_cause : (r : Result T BuildErr) (f f' m m' o o' : ℕ) → IfErr r IsOfRules → Cause (λ n. ⊥) r f f' m m' o o'
+  rules_cause (Ok x) f f' m m' o o' h = tt
+  rules_cause (Err (errors.Source c n l)) f f' m m' o o' h = rule_cause c m m' h
+  rules_cause (Err (errors.Missing n)) f f' m m' o o' h = absurd h
+  rules_cause (Err (errors.Failed n)) f f' m m' o o' h = absurd h
+  rules_cause (Err (errors.Bad c n l)) f f' m m' o o' h = absurd h
+  rules_cause (Err (errors.Limit n)) f f' m m' o o' h = absurd h
+  rules_cause (Err errors.Memory) f f' m m' o o' h = tt
 
   pub rules_miss : (source : List ℕ) (r : Result T BuildErr) → IfErr r IsOfRules → IfErr r (MissesOnly source)
   rules_miss source (Ok x) h = tt
@@ -142,20 +143,20 @@ module _ (T : Type 0) where
   unread_misses source (front.Limit n) h = tt
   unread_misses source front.Memory h = tt
 
-  unread_cause : (e : FrontErr) (f f' m m' o o' : ℕ) → Caused (HasFailed (Err e)) f f' → Caused (Lacks (Err e)) m m' → Caused (IsOver (Err e)) o o' → Cause {T = T} (λ n. ⊥) (Err (unread e)) f f' m m' o o'
-  unread_cause (front.Source c n l) f f' m m' o o' cf cm co = tt
-  unread_cause (front.Missing n) f f' m m' o o' cf cm co = cm.rose tt
-  unread_cause (front.Failed n) f f' m m' o o' cf cm co = cf.rose tt
-  unread_cause (front.Limit n) f f' m m' o o' cf cm co = inl (co.rose tt)
-  unread_cause front.Memory f f' m m' o o' cf cm co = tt
+  unread_cause : (e : FrontErr) (f f' m m' o o' : ℕ) → HasFrontCode e → Caused (HasFailed (Err e)) f f' → Caused (Lacks (Err e)) m m' → Caused (IsOver (Err e)) o o' → Cause {T = T} (λ n. ⊥) (Err (unread e)) f f' m m' o o'
+  unread_cause (front.Source c n l) f f' m m' o o' k cf cm co = front_cause c m m' k cm.rose
+  unread_cause (front.Missing n) f f' m m' o o' k cf cm co = cm.rose tt
+  unread_cause (front.Failed n) f f' m m' o o' k cf cm co = cf.rose tt
+  unread_cause (front.Limit n) f f' m m' o o' k cf cm co = inl (co.rose tt)
+  unread_cause front.Memory f f' m m' o o' k cf cm co = tt
 
-  pub unread_causes : (e : FrontErr) (f f' m m' o o' : ℕ) → Caused (HasFailed (Err e)) f f' → Caused (Lacks (Err e)) m m' → Caused (IsOver (Err e)) o o' → HasReadCauses {T = T} (Err (unread e)) f f' m m' o o'
-  unread_causes e f f' m m' o o' cf cm co =
-      record { faults_later = cf.later; misses_later = cm.later; overs_later = co.later; cause = unread_cause e f f' m m' o o' cf cm co }
+  pub unread_causes : (e : FrontErr) (f f' m m' o o' : ℕ) → HasFrontCode e → Caused (HasFailed (Err e)) f f' → Caused (Lacks (Err e)) m m' → Caused (IsOver (Err e)) o o' → HasReadCauses {T = T} (Err (unread e)) f f' m m' o o'
+  unread_causes e f f' m m' o o' k cf cm co =
+      record { faults_later = cf.later; misses_later = cm.later; overs_later = co.later; cause = unread_cause e f f' m m' o o' k cf cm co }
 
   pub typed_causes : (parsed : Parsed) (r : Result T BuildErr) (f f' m m' o o' : ℕ) → Caused (HasFailed (Ok parsed)) f f' → Caused (Lacks (Ok parsed)) m m' → Caused (IsOver (Ok parsed)) o o' → IfErr r IsOfRules → HasReadCauses r f f' m m' o o'
   typed_causes parsed r f f' m m' o o' cf cm co h =
-      of_content parsed r f f' m m' o o' (record { faults_later = cf.later; misses_later = cm.later; overs_later = co.later; cause = tt }) (rules_content r h)
+      record { faults_later = cf.later; misses_later = cm.later; overs_later = co.later; cause = rules_cause r f f' m m' o o' h }
 
 -- ---- a project
 
@@ -214,7 +215,7 @@ module _ (text : List ℕ) where
   bad_so code name (Err project_errors.Memory) h = cc
 
   pub refused_kinds : (e : BuildErr) → build.Gives {X = Project} (Err e) (project_due (project_of text)) → CanCome text e → IsOfContent e → CanBeRefused text e
-  refused_kinds (errors.Source c f l) h can content = tt
+  refused_kinds (errors.Source c f l) h can content = absurd content
   refused_kinds (errors.Missing n) h can content = absurd content
   refused_kinds (errors.Failed n) h can content = tt
   refused_kinds (errors.Bad c n (Some l)) h can content = can

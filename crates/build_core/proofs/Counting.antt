@@ -12,7 +12,7 @@ rose_earlier a b c h r = omega arith
 -- no call of the files came after the one that went well
 content_cause : {T : Type 0} (TooLarge : List ℕ → Type 0) (r : Result T BuildErr) (f f' m m' o o' : ℕ) → IfErr r IsOfContent → Cause TooLarge r f f' m m' o o'
 content_cause TooLarge (Ok x) f f' m m' o o' h = tt
-content_cause TooLarge (Err (errors.Source c n l)) f f' m m' o o' h = tt
+content_cause TooLarge (Err (errors.Source c n l)) f f' m m' o o' h = absurd h
 content_cause TooLarge (Err (errors.Bad c n l)) f f' m m' o o' h = tt
 content_cause TooLarge (Err (errors.Missing n)) f f' m m' o o' h = absurd h
 content_cause TooLarge (Err (errors.Failed n)) f f' m m' o o' h = absurd h
@@ -25,7 +25,7 @@ of_content x r f f' m m' o o' h content =
 
 cause_earlier : (A T : Type 0) (Large TooLarge : List ℕ → Type 0) (e : BuildErr) (f0 f f' m0 m m' o0 o o' : ℕ) → f0 ≤ f → m0 ≤ m → o0 ≤ o → ((n : List ℕ) → Large n → TooLarge n)
     → Cause {T = A} Large (Err e) f f' m m' o o' → Cause {T = T} TooLarge (Err e) f0 f' m0 m' o0 o'
-cause_earlier A T Large TooLarge (errors.Source c n l) f0 f f' m0 m m' o0 o o' lf lm lo more h = tt
+cause_earlier A T Large TooLarge (errors.Source c n l) f0 f f' m0 m m' o0 o o' lf lm lo more h = record { listed = h.listed; lacked = λ is. rose_earlier m0 m m' lm (h.lacked is) }
 cause_earlier A T Large TooLarge (errors.Bad c n l) f0 f f' m0 m m' o0 o o' lf lm lo more h = tt
 cause_earlier A T Large TooLarge (errors.Missing n) f0 f f' m0 m m' o0 o o' lf lm lo more h = rose_earlier m0 m m' lm h
 cause_earlier A T Large TooLarge (errors.Failed n) f0 f f' m0 m m' o0 o o' lf lm lo more h = rose_earlier f0 f f' lf h

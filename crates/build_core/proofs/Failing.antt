@@ -29,7 +29,7 @@ rules_fail At (Err (errors.Limit name)) h = tt
 rules_fail At (Err errors.Memory) h = tt
 
 content_fails : (T : Type 0) (At : List ℕ → Type 0) (e : BuildErr) → IsOfContent e → FailsAt {T = T} At (Err e)
-content_fails T At (errors.Source code file line) h = tt
+content_fails T At (errors.Source code file line) h = absurd h
 content_fails T At (errors.Missing name) h = tt
 content_fails T At (errors.Failed name) h = absurd h
 content_fails T At (errors.Bad code name line) h = tt

@@ -1,6 +1,7 @@
 pub mod Printable
 pub mod Projects
 pub mod AssetCodes
+pub mod Listing
 pub mod Counting
 pub mod AssetReading
 pub mod AssetFiles

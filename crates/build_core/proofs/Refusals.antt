@@ -82,7 +82,7 @@ module _ (text : List ℕ) (p : Project) (is : IsProject text p) (program : Prog
 
     packing_cause : (r : Result Built BuildErr) (f f' m m' o o' : ℕ) → IfErr r (IsOfPacking (cartridge_of p.title i (assets ts ss))) → Cause (IsCartridgeTooLarge text) r f f' m m' o o'
     packing_cause (Ok b) f f' m m' o o' h = tt
-    packing_cause (Err (errors.Source a n l)) f f' m m' o o' h = tt
+    packing_cause (Err (errors.Source a n l)) f f' m m' o o' h = absurd h
     packing_cause (Err (errors.Missing n)) f f' m m' o o' h = absurd h
     packing_cause (Err (errors.Failed n)) f f' m m' o o' h = absurd h
     packing_cause (Err (errors.Bad a n l)) f f' m m' o o' h = tt

@@ -1,5 +1,5 @@
 -- Which refusals of a build can come, and why.
-use Rattle.std.specs.Prelude.{ℕ, ◌≡◌, ◌≤◌, ◌<◌, ◌⊎◌, List, [], ◌∷◌, ◌++◌, length, Some, None, Result, Ok, Err, Contains, codes}
+use Rattle.std.specs.Prelude.{ℕ, ◌≡◌, ◌≤◌, ◌<◌, ◌⊎◌, true, List, [], ◌∷◌, ◌++◌, length, Some, None, Result, Ok, Err, Contains, codes}
 use Rattle.std.specs.List.{AllByRecursion}
 use Rattle.kit_base.specs.Counts.{Rose}
 use Rattle.asset_pack.specs.declared.error.AssetErr.{AssetErr}
@@ -16,6 +16,7 @@ use Rattle.c_front.specs.declared.places.Places.{Places}
 use Rattle.c_image.specs.Imaging.{ImageT, IsImageOf}
 use Rattle.build_core.specs.declared.error.BuildErr.{BuildErr}
 use Rattle.build_core.specs.declared.error.BuildErr.TheVariants as errors
+use Rattle.build_core.specs.Codes.{is_source_code}
 use Rattle.build_core.specs.Due.{assets}
 use Rattle.build_core.specs.Build.{cartridge_of}
 
@@ -35,7 +36,7 @@ assets_of project = assets_in (project_of project)
 abbrev pub files_of : List ℕ → List (List ℕ)
 files_of project = files_in (project_of project)
 
--- The refusals that can come: any code at a place of a source; 90 to 93 at the first faulty line of the
+-- The refusals that can come: a listed code (`HasSourceCause`) at a place of a source; 90 to 93 at the first faulty line of the
 -- project's text; 70 to 73 of a texture or a sound that it names; that a file that it names is missing; and those of
 -- the files, of the cartridge's size and of memory.
 abbrev pub CanCome : List ℕ → BuildErr → Type 0
@@ -65,8 +66,14 @@ pub record CanBeTooLarge (project : List ℕ) : Type 0 where
   pub each_sound : length sounds ≡ length parts.sounds
   pub large : IsTooLarge (cartridge_of parts.title image (assets textures sounds))
 
+-- The code of a source's refusal is a listed one, and it is 21, that an included file is not there, only where the misses rose.
+pub record HasSourceCause (code misses misses' : ℕ) : Type 0 where
+  pub listed : is_source_code code ≡ true
+  pub lacked : code ≡ 21 → Rose misses misses'
+
 -- a refusal of the files comes only where its count rose, that of a size also where it was too large
 abbrev pub Cause : {T : Type 0} → (List ℕ → Type 0) → Result T BuildErr → (faults faults' misses misses' overs overs' : ℕ) → Type 0
+Cause TooLarge (Err (errors.Source code file line)) f f' m m' o o' = HasSourceCause code m m'
 Cause TooLarge (Err (errors.Missing n)) f f' m m' o o' = Rose m m'
 Cause TooLarge (Err (errors.Failed n)) f f' m m' o o' = Rose f f'
 Cause TooLarge (Err (errors.Limit n)) f f' m m' o o' = Rose o o' ⊎ TooLarge n
@@ -98,8 +105,9 @@ IsOfReading file (errors.Limit name) = name ≡ file
 IsOfReading file errors.Memory = Unit {0}
 IsOfReading file e = ⊥
 
--- a refusal of what a file says, or of memory
+-- a refusal of what a file beside the sources says, or of memory
 abbrev pub IsOfContent : BuildErr → Type 0
+IsOfContent (errors.Source code file line) = ⊥
 IsOfContent (errors.Missing name) = ⊥
 IsOfContent (errors.Failed name) = ⊥
 IsOfContent (errors.Limit name) = ⊥

@@ -1,5 +1,5 @@
 -- What the check of a project's source answers.
-use Rattle.std.specs.Prelude.{ℕ, ◌≡◌, List, Some, None, Result, Ok, Err, codes}
+use Rattle.std.specs.Prelude.{ℕ, ◌≡◌, true, List, Some, None, Result, Ok, Err, codes}
 use Rattle.kit_base.specs.Held.{Held}
 use Rattle.c_tree.specs.Tree.{ItemT}
 use Rattle.c_tree.specs.View.{unit}
@@ -26,6 +26,7 @@ use Rattle.project_text.specs.ProjectText.{IsProject}
 use Rattle.project_text.specs.Reading.{project_of}
 use Rattle.build_core.specs.declared.error.BuildErr.{BuildErr}
 use Rattle.build_core.specs.declared.error.BuildErr.TheVariants as errors
+use Rattle.build_core.specs.Codes.{is_rule_code}
 use Rattle.build_core.specs.Due.{project_due}
 
 -- why a source has no syntax tree, as a build tells it
@@ -81,7 +82,7 @@ abbrev pub Accepts : Held → List ℕ → Result Program BuildErr → Type 0
 Accepts m project r = (parts : Project) (x : Expansion) (ds : List ItemT) (p : ProgramT)
     → IsProject project parts → expansion_of (over m) parts.source ≡ Ok x → Derives (toks x.tokens) ds → WellTyped ds p → IsProgramOf p r
 
--- The refusals that can come: any code at a place of a source; 90 to 93 at the first faulty line of the project's text; that the
+-- The refusals that can come: a listed code (`HasSourceCause`) at a place of a source; 90 to 93 at the first faulty line of the project's text; that the
 -- source is missing; and those of the files and of memory.
 abbrev pub CanBeRefused : List ℕ → BuildErr → Type 0
 CanBeRefused project (errors.Bad code name (Some line)) = (name ≡ codes "project") × (project_of project ≡ Err (project_errors.At code line))
@@ -121,6 +122,6 @@ MissesOnly source e = Unit {0}
 
 -- a refusal of the rules, or of memory
 abbrev pub IsOfRules : BuildErr → Type 0
-IsOfRules (errors.Source code file line) = Unit {0}
+IsOfRules (errors.Source code file line) = is_rule_code code ≡ true
 IsOfRules errors.Memory = Unit {0}
 IsOfRules e = ⊥

@@ -1,4 +1,5 @@
 pub mod Due
+pub mod Codes
 pub mod Checked
 pub mod Starts
 pub mod Build

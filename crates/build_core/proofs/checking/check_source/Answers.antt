@@ -1,4 +1,8 @@
-use Rattle.build_core.proofs.Checks.{source_typed, source_unread}
+use Rattle.std.proofs.Common.{sym, subst}
+use Rattle.std.specs.Prelude.{Err}
+use Rattle.build_core.specs.declared.error.BuildErr.{BuildErr}
+use Rattle.build_core.specs.Causes.{HasReadCauses}
+use Rattle.build_core.proofs.Checks.{source_typed, source_unread, typed_causes, unread_causes}
 use Rattle.c_check.specs.declared.program.Program.{Program}
 use Rattle.build_core.proofs.Failing.{typed_fails, reading_fails}
 use Rattle.build_core.proofs.checking.check_source.Goals as goal
@@ -14,3 +18,11 @@ returns-in-Ok-clause-reached g c = typed_fails (g.F.Reads.held c.args.files.now)
 
 pub returns-in-Err-clause-reached : goal.returns-in-Err-clause-reached
 returns-in-Err-clause-reached g c = reading_fails Program (g.F.Reads.held c.args.files.now) c.as_str.result.now c.args.source.now c.as_str.ensures c.in-Err.error c.unread.result c.unread.ensures c.in-Err.ensures.reached
+
+pub returns-in-Ok-clause-causes : goal.returns-in-Ok-clause-causes
+returns-in-Ok-clause-causes g c = typed_causes Program c.in-Ok.parsed c.typed.result _ _ _ _ _ _ c.in-Ok.ensures.faults c.in-Ok.ensures.misses c.in-Ok.ensures.overs c.typed.ensures.content
+
+pub returns-in-Err-clause-causes : goal.returns-in-Err-clause-causes
+returns-in-Err-clause-causes g c =
+    subst (λ (e : BuildErr). HasReadCauses {T = Program} (Err e) (g.F.Reads.faults c.args.files.now) (g.F.Reads.faults c.read_unit.new.files) (g.F.Reads.misses c.args.files.now) (g.F.Reads.misses c.read_unit.new.files) (g.F.Reads.overs c.args.files.now) (g.F.Reads.overs c.read_unit.new.files)) (sym c.unread.ensures)
+    (unread_causes Program c.in-Err.error _ _ _ _ _ _ c.in-Err.ensures.codes c.in-Err.ensures.faults c.in-Err.ensures.misses c.in-Err.ensures.overs)

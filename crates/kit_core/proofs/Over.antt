@@ -3,7 +3,7 @@ use Rattle.std.proofs.Common.{ℕ, ◌≡◌, ◌⊎◌, ◌<◌, inl, inr, List
 use Rattle.std.specs.Prelude.{Option, Some, None, Result}
 use Rattle.kit_base.specs.Held.{Held}
 use Rattle.kit_words.specs.declared.conversion.Conversion.{Conversion}
-use Rattle.kit_words.specs.Command.{Command, RunWords, Build, Check, Convert, Trace, Run, Play, Gen, command_of}
+use Rattle.kit_words.specs.Command.{Command, RunWords, Build, Convert, Trace, Run, Play, Gen, command_of}
 use Rattle.kit_words.specs.Number.{number_of}
 use Rattle.kit_tools.specs.declared.refusal.Refusal.{Refusal}
 use Rattle.kit_tools.specs.declared.shown.Shown.{Shown}

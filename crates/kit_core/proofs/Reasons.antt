@@ -4,7 +4,7 @@ use Rattle.std.specs.Prelude.{Option, None, Ok, Err, Result}
 use Rattle.kit_base.specs.Counts.{Rose}
 use Rattle.kit_base.specs.Held.{Held}
 use Rattle.kit_words.specs.Command.{command_of}
-use Rattle.kit_tools.specs.Refusal.{due_line, due_status, line_of, status_of}
+use Rattle.kit_tools.specs.Refusal.{line_of, status_of}
 use Rattle.kit_tools.specs.Carrying.{shown_status, text_of}
 use Rattle.kit_tools.specs.declared.refusal.DueRefusal.{DueRefusal}
 use Rattle.kit_tools.specs.declared.refusal.DueRefusal.TheVariants as dues

@@ -1,5 +1,6 @@
 pub mod Showing
 pub mod Reasons
+pub mod Over
 pub mod Outcomes
 pub mod Behind
 pub mod Writes
@@ -8,6 +9,7 @@ pub mod Traces
 pub mod Runs
 pub mod Projects
 pub mod Reached
+pub mod Unbuilt
 pub mod Checks
 pub mod Builds
 pub mod PlayedFiles

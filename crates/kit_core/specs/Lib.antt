@@ -1,7 +1,9 @@
 pub mod Generating
 pub mod Due
 pub mod Limits
+pub mod Causes
 pub mod Outcome
+pub mod Lines
 pub mod Putting
 pub mod Checking
 pub mod Playing

@@ -1,21 +1,23 @@
 // The top call.
-ghost use Rattle.std.specs.Prelude.{◌≡◌, ◌≢◌, ◌≤◌, ◌⊎◌, ◌++◌, ℕ, List, IfSome, Err};
+ghost use Rattle.std.specs.Prelude.{◌≡◌, ◌≢◌, ◌≤◌, ◌⊎◌, ◌++◌, ℕ, List, IfSome, None, Err};
 ghost use Rattle.kit_base.specs.Counts.{Rose};
 ghost use Rattle.kit_base.specs.Outside.{HasSinkCause};
 ghost use Rattle.trace_core.specs.Putting.{PutsText, trace_text};
 ghost use Rattle.run_core.specs.Ending.{end_text};
 ghost use Rattle.kit_tools.specs.Carrying.{shown_status, text_of};
 ghost use Rattle.kit_core.specs.Putting.{Puts, Shows};
-ghost use Rattle.kit_tools.specs.Causes.{HasCausesOr, HasOnlyRisen, IsUnrisen, counts};
+ghost use Rattle.kit_tools.specs.Causes.{HasOnlyRisen, IsUnrisen, counts};
 ghost use Rattle.kit_words.specs.Command.{command_of, texts};
 ghost use Rattle.gen_source.specs.Summary.{summary_end};
 ghost use Rattle.kit_tools.specs.Work.{accepted};
+ghost use Rattle.kit_core.specs.Causes.{HasReasons, IsUsage};
 ghost use Rattle.kit_core.specs.Due.{command_refused};
 ghost use Rattle.kit_core.specs.Fronts.{Carries};
 ghost use Rattle.kit_core.specs.Headline.{BuildStands, GenStands, PlayStands};
 ghost use Rattle.kit_core.specs.Holding.{FilesHold, RunFrontsStand};
 ghost use Rattle.kit_core.specs.Meaning.{PlayIsMeant};
 ghost use Rattle.kit_core.specs.Limits.{IsOver};
+ghost use Rattle.kit_core.specs.Lines.{IsPut, PutsSource};
 ghost use Rattle.kit_core.specs.Outcome.{HasDueStatus, IsOutcome};
 ghost use Rattle.kit_tools.specs.declared.refusal.DueRefusal.{DueRefusal};
 ghost use Rattle.kit_tools.specs.Refusal.{IsStatus, line_of, status_of};
@@ -162,7 +164,8 @@ fn finish<S: Sink>(out: &mut S, shown: Shown) -> u8
 /// Carries out the command of these words, up to its text.
 fn carry_out<F: Files>(alloc: Global, words: &[String], files: &mut F) -> Result<Shown, Refusal>
     ensures told { IfSome (F.held files.old) (λ m. Carries result (command_of (texts words.now)) m (F.held files.new)) }
-    ensures causes { HasCausesOr (IsOver (texts words.now) (F.held files.old)) result (counts F.faults F.misses F.overs files.old) (counts F.faults F.misses F.overs files.new) }
+    ensures usage { command_of (texts words.now) ≡ None → IsUsage result }
+    ensures causes { HasReasons (texts words.now) (F.held files.old) result (counts F.faults F.misses F.overs files.old) (counts F.faults F.misses F.overs files.new) }
 {
     match command_of(alloc, words)? {
         None => Err(Refusal::Due(DueRefusal::Usage)),
@@ -207,6 +210,10 @@ fn carry_out<F: Files>(alloc: Global, words: &[String], files: &mut F) -> Result
 /// The status of the command of these words, after its text or its line was put.
 fn status_for<F: Files, S: Sink>(alloc: Global, words: &[String], files: &mut F, out: &mut S) -> u8
     ensures told { IfSome (F.held files.old) (λ m. IsOutcome (texts words.now) m result (F.held files.new) (S.written out.old) (S.written out.new)) }
+    ensures usage { result ≡ 1 → command_of (texts words.now) ≡ None }
+    ensures no_form { command_of (texts words.now) ≡ None → (result ≡ 1) ⊎ ((result ≡ 8) ⊎ (result ≡ 9)) }
+    ensures sources { result ≡ 2 → PutsSource (counts F.faults F.misses F.overs files.old) (counts F.faults F.misses F.overs files.new) (S.written out.old) (S.written out.new) }
+    ensures line { IsPut result (S.written out.old) (S.written out.new) }
     ensures missing { result ≡ 4 → Rose (F.misses files.old) (F.misses files.new) }
     ensures failed { result ≡ 5 → Rose (F.faults files.old) (F.faults files.new) }
     ensures limit { result ≡ 7 → Rose (F.overs files.old) (F.overs files.new) ⊎ IsOver (texts words.now) (F.held files.old) }
@@ -251,6 +258,14 @@ pub fn kit<F: Files, S: Sink>(alloc: Global, words: &[String], files: &mut F, ou
     // Where no call failed, the status is one that is due, or 8.
     ensures complete { IfSome (F.held files.old) (λ m. IsUnrisen (F.faults files.old) (F.faults files.new) → IsUnrisen (S.faults out.old) (S.faults out.new)
         → HasDueStatus (texts words.now) m result ⊎ (result ≡ 8)) }
+    // Whatever is told, at 1 to 7 but 3 the line of a refusal that has that status was put, at 8 that line or a front of another text and of that
+    // line, at 9 a front;
+    ensures line { IsPut result (S.written out.old) (S.written out.new) }
+    // the status is 1 only where the words are no command, and where they are none it is 1, or 8 or 9;
+    ensures usage { result ≡ 1 → command_of (texts words.now) ≡ None }
+    ensures no_form { command_of (texts words.now) ≡ None → (result ≡ 1) ⊎ ((result ≡ 8) ⊎ (result ≡ 9)) }
+    // and at 2 the code is one of the listed codes of a source, and is 21 only where a name was missing.
+    ensures sources { result ≡ 2 → PutsSource (counts F.faults F.misses F.overs files.old) (counts F.faults F.misses F.overs files.new) (S.written out.old) (S.written out.new) }
     // Refusals by the outside come only where a count rose, one of a limit also where the command
     // itself is over it.
     ensures missing { result ≡ 4 → Rose (F.misses files.old) (F.misses files.new) }

@@ -15,8 +15,8 @@ own_fails O names (refusals.Failed n) own = absurd own
 own_fails O names refusals.Memory own = tt
 
 own_due_cause : (O P : Type 0) (r : DueRefusal) (before after : Counts) → (O → P) → IsOwnDue O r → HasDueCause P r before after
-own_due_cause O P dues.Usage b a over own = tt
-own_due_cause O P (dues.Source c l k) b a over own = tt
+own_due_cause O P dues.Usage b a over own = absurd own
+own_due_cause O P (dues.Source c l k) b a over own = absurd own
 own_due_cause O P (dues.Missing n) b a over own = absurd own
 own_due_cause O P (dues.Bad c n l) b a over own = tt
 own_due_cause O P (dues.Limit n) b a over own = absurd own
@@ -33,8 +33,8 @@ rose_later : (a b c : ℕ) → a ≤ b → Rose b c → Rose a c
 rose_later a b c le rose = omega (arith, le, rose)
 
 later_due_cause : (O P : Type 0) (r : DueRefusal) (x y z : Counts) → (O → P) → x.misses ≤ y.misses → x.overs ≤ y.overs → HasDueCause O r y z → HasDueCause P r x z
-later_due_cause O P dues.Usage x y z over m o h = tt
-later_due_cause O P (dues.Source c l k) x y z over m o h = tt
+later_due_cause O P dues.Usage x y z over m o h = absurd h
+later_due_cause O P (dues.Source c l k) x y z over m o h = record { listed = h.listed; lacked = λ is. rose_later x.misses y.misses z.misses m (h.lacked is) }
 later_due_cause O P (dues.Missing n) x y z over m o h = rose_later x.misses y.misses z.misses m h
 later_due_cause O P (dues.Bad c n l) x y z over m o h = tt
 later_due_cause O P (dues.Limit n) x y z over m o (inl h) = inl (rose_later x.overs y.overs z.overs o h)

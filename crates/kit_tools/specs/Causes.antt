@@ -1,6 +1,7 @@
 -- Why a command is refused: the counts of the files, and what the command itself finds over a limit.
-use Rattle.std.specs.Prelude.{ℕ, ◌⊎◌, ◌≤◌, Result, Err}
+use Rattle.std.specs.Prelude.{ℕ, ◌≡◌, ◌⊎◌, ◌≤◌, true, Result, Err}
 use Rattle.kit_base.specs.Counts.{Rose}
+use Rattle.kit_tools.specs.Codes.{is_source_code}
 use Rattle.kit_tools.specs.declared.refusal.DueRefusal.{DueRefusal}
 use Rattle.kit_tools.specs.declared.refusal.DueRefusal.TheVariants as dues
 use Rattle.kit_tools.specs.declared.refusal.Refusal.{Refusal}
@@ -16,9 +17,17 @@ pub record Counts : Type 0 where
 abbrev pub counts : {S : Type 0} → (faults misses overs : S → ℕ) → S → Counts
 counts faults misses overs files = record { faults = faults files; misses = misses files; overs = overs files }
 
+-- The code of a source's refusal is a listed one, and it is 21, that an included file is not there, only where the misses rose.
+pub record HasSourceCause (code : ℕ) (before after : Counts) : Type 0 where
+  pub listed : is_source_code code ≡ true
+  pub lacked : code ≡ 21 → Rose before.misses after.misses
+
 -- A refusal by the files comes only where its count rose, one of a number word or of a cartridge's
--- size only where it is over its limit. A build's refusal of a limit is of either kind.
+-- size only where it is over its limit. A build's refusal of a limit is of either kind. The words of a
+-- command are not at fault.
 abbrev pub HasDueCause : (over : Type 0) → DueRefusal → (before after : Counts) → Type 0
+HasDueCause over dues.Usage before after = ⊥
+HasDueCause over (dues.Source code file line) before after = HasSourceCause code before after
 HasDueCause over (dues.Missing name) before after = Rose before.misses after.misses
 HasDueCause over (dues.Limit name) before after = Rose before.overs after.overs ⊎ over
 HasDueCause over (dues.OutOfRange word) before after = over
@@ -34,8 +43,10 @@ abbrev pub HasRisen : {T : Type 0} → (over : Type 0) → Result T Refusal → 
 HasRisen over (Err refusal) before after = HasCause over refusal before after
 HasRisen over result before after = Unit {0}
 
--- a refusal that no call of the files gave
+-- a refusal that no call of the files gave, nor the reading of a source
 abbrev pub IsOwnDue : (over : Type 0) → DueRefusal → Type 0
+IsOwnDue over dues.Usage = ⊥
+IsOwnDue over (dues.Source code file line) = ⊥
 IsOwnDue over (dues.Missing name) = ⊥
 IsOwnDue over (dues.Limit name) = ⊥
 IsOwnDue over (dues.OutOfRange word) = over

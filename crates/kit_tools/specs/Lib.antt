@@ -1,4 +1,5 @@
 pub mod Refusal
+pub mod Codes
 pub mod Causes
 pub mod Inputs
 pub mod Work

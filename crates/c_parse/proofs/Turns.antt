@@ -6,14 +6,16 @@ use Rattle.c_tree.specs.declared.operator.BinOp.{BinOp}
 use Rattle.c_tree.specs.Tree.{ExprT, BinaryE, IndexE, MemberE, ArrowE, StepE, TypeT, PointerY}
 use Rattle.c_tree.specs.View.{exprs}
 use Rattle.c_tree.specs.Depth.{expr_depth, exprs_depth, type_depth}
+use Rattle.c_parse.specs.declared.fault.Fault.TheVariants.{TooDeep}
 use Rattle.c_parse.specs.declared.fault.ReadErr.{ReadErr}
+use Rattle.c_parse.specs.declared.fault.ReadErr.TheVariants as errors
 use Rattle.c_parse.specs.declared.lead.TypeMark.TheVariants as type_mark
 use Rattle.c_parse.specs.declared.lead.Suffix.{Suffix}
 use Rattle.c_parse.specs.declared.lead.Suffix.TheVariants as suffix
 use Rattle.c_parse.specs.Tok.{Tok}
 use Rattle.c_parse.specs.Scope.{Context, span}
 use Rattle.c_parse.specs.View.{Fails}
-use Rattle.c_parse.specs.Reader.{Got, deep, behind, close_paren, at_close_paren, close_bracket, name}
+use Rattle.c_parse.specs.Reader.{Got, behind, close_paren, at_close_paren, close_bracket, name}
 use Rattle.c_parse.specs.Leads.{suffix_at, type_mark_at}
 use Rattle.c_parse.specs.Reading.{Readers, operator_at, operator_turn, suffix_by, is_some_suffix, suffix_turn, readers, run_with, type_mark_turn, exprs_with, arguments_with}
 use Rattle.c_parse.proofs.FrontsRead as f
@@ -26,6 +28,9 @@ pub behind_up : (ts : List Tok) → length (behind ts) ≤ length ts
 behind_up [] = omega arith
 behind_up (o ∷ ts) = omega arith
 
+abbrev pub too_deep : List Tok → ReadErr
+too_deep ts = errors.Fault (TooDeep (length ts))
+
 pub at_next : (k : ℕ) (ts : List Tok) (o : Option BinOp) → operator_at (k + 1) ts ≡ o → operator_at (suc k) ts ≡ o
 at_next k ts o e = let f : k + 1 ≡ suc k = omega arith in rw f at e
 
@@ -33,8 +38,8 @@ module _ (c : Context) (r : Readers) (room k : ℕ) (from : List Tok) (a : ExprT
   pub operator_end : operator_at (suc k) ts ≡ None → operator_turn c r room k from a ts ≡ Ok None
   operator_end e = rw e refl
 
-  pub operator_deep : (op : BinOp) → operator_at (suc k) ts ≡ Some op → room ≤ expr_depth a → operator_turn c r room k from a ts ≡ deep ts
-  operator_deep op e le = rw (e, le-ltb _ _ le) refl
+  pub operator_deep : (op : BinOp) (e : ReadErr) → operator_at (suc k) ts ≡ Some op → room ≤ expr_depth a → e ≡ too_deep ts → Fails e (operator_turn c r room k from a ts)
+  operator_deep op e is le fault = rw (fault, is, le-ltb _ _ le) refl
 
   pub operator_fail : (op : BinOp) (e : ReadErr) → operator_at (suc k) ts ≡ Some op → expr_depth a < room → Fails e (r.level k (behind ts)) → Fails e (operator_turn c r room k from a ts)
   operator_fail op e is less bad = rw (is, lt-ltb _ _ less) (fails_on e (r.level k (behind ts)) _ bad)
@@ -47,8 +52,8 @@ module _ (c : Context) (r : Readers) (room : ℕ) (from : List Tok) (a : ExprT) 
   pub suffix_end : is_some_suffix (suffix_at ts) ≡ false → suffix_turn c r room from a ts ≡ Ok None
   suffix_end e = rw e refl
 
-  pub suffix_deep : is_some_suffix (suffix_at ts) ≡ true → room ≤ expr_depth a → suffix_turn c r room from a ts ≡ deep ts
-  suffix_deep e le = rw (e, le-ltb _ _ le) refl
+  pub suffix_deep : (e : ReadErr) → is_some_suffix (suffix_at ts) ≡ true → room ≤ expr_depth a → e ≡ too_deep ts → Fails e (suffix_turn c r room from a ts)
+  suffix_deep e is le fault = rw (fault, is, le-ltb _ _ le) refl
 
   pub suffix_fail : (e : ReadErr) → is_some_suffix (suffix_at ts) ≡ true → expr_depth a < room → Fails e (suffix_by c r from a ts (suffix_at ts)) → Fails e (suffix_turn c r room from a ts)
   suffix_fail e is less bad = rw (is, lt-ltb _ _ less) (fails_on e (suffix_by c r from a ts (suffix_at ts)) _ bad)
@@ -60,8 +65,8 @@ module _ (r : Readers) (room : ℕ) (a : TypeT) (ts : List Tok) where
   pub marks_end : type_mark_at ts ≡ type_mark.Nothing → type_mark_turn r room a ts ≡ Ok None
   marks_end e = rw e refl
 
-  pub star_deep : type_mark_at ts ≡ type_mark.Star → room ≤ type_depth a → type_mark_turn r room a ts ≡ deep ts
-  star_deep e le = rw (e, le-ltb _ _ le) refl
+  pub star_deep : (e : ReadErr) → type_mark_at ts ≡ type_mark.Star → room ≤ type_depth a → e ≡ too_deep ts → Fails e (type_mark_turn r room a ts)
+  star_deep e is le fault = rw (fault, is, le-ltb _ _ le) refl
 
   pub star_ok : type_mark_at ts ≡ type_mark.Star → type_depth a < room → type_mark_turn r room a ts ≡ Ok (Some (PointerY a, behind ts))
   star_ok e less = rw (e, lt-ltb _ _ less) refl

@@ -1,6 +1,7 @@
 -- Reading expressions and types, with room for so many trees on a path.
 use Rattle.std.specs.Prelude.{ℕ, zero, suc, Bool, true, false, List, [], ◌∷◌, ◌++◌, Option, Some, None, Result, Ok, ◌==◌, if◌then◌else◌}
 use Rattle.c_tree.specs.declared.operator.BinOp.{BinOp}
+use Rattle.c_tree.specs.declared.span.Span.{Span}
 use Rattle.c_tree.specs.Tree.{ExprT, NameE, NumberE, TextE, NullE, ParenE, UnaryE, BinaryE, AssignE, StepE, IndexE, MemberE, ArrowE, CallE, CastE, SizeOfE, TypeT, IntY, BoolY, VoidY, NamedY, PointerY, ArrayY}
 use Rattle.c_tree.specs.View.{exprs}
 use Rattle.c_tree.specs.Depth.{expr_depth, type_depth}
@@ -113,17 +114,16 @@ primary_by c r ts lead.Other = bad ts
 abbrev pub primary_with : Context → Readers → Reader ExprT
 primary_with c r ts = primary_by c r ts (lead_at c ts)
 
--- a member of the expression a, which begins at the tokens at
-abbrev pub member_suffix : Context → List Tok → ExprT → Reader ExprT
-member_suffix c at a ts = do
-  n ← name c (behind ts)
-  Ok (MemberE a n.0 (span c at n.1), n.1)
+-- the member that stands behind an arrow or a dot
+abbrev pub selection : Bool → ExprT → List ℕ → Span → ExprT
+selection false a n sp = MemberE a n sp
+selection true a n sp = ArrowE a n sp
 
--- a member behind a pointer
-abbrev pub arrow_suffix : Context → List Tok → ExprT → Reader ExprT
-arrow_suffix c at a ts = do
+-- the expression a, which begins at the tokens at, with an arrow or a dot and a member's name behind it
+abbrev pub selected : Context → Bool → List Tok → ExprT → Reader ExprT
+selected c is_arrow at a ts = do
   n ← name c (behind ts)
-  Ok (ArrowE a n.0 (span c at n.1), n.1)
+  Ok (selection is_arrow a n.0 (span c at n.1), n.1)
 
 -- a suffix behind the expression a, which begins at the tokens at
 abbrev pub suffix_by : Context → Readers → List Tok → ExprT → List Tok → Suffix → Result (Got ExprT) Fault
@@ -131,8 +131,8 @@ suffix_by c r at a ts suffix.Index = do
   i ← r.whole (behind ts)
   rest ← close_bracket i.1
   Ok (IndexE a i.0 (span c at rest), rest)
-suffix_by c r at a ts suffix.Member = member_suffix c at a ts
-suffix_by c r at a ts suffix.Arrow = arrow_suffix c at a ts
+suffix_by c r at a ts suffix.Member = selected c false at a ts
+suffix_by c r at a ts suffix.Arrow = selected c true at a ts
 suffix_by c r at a ts (suffix.Step op) = Ok (StepE op a (span c at (behind ts)), behind ts)
 suffix_by c r at a ts suffix.Nothing = bad ts
 

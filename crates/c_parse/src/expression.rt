@@ -6,7 +6,7 @@ ghost use Rattle.c_parse.specs.declared.lead.Suffix.TheVariants as suffixes;
 ghost use Rattle.c_parse.specs.Reader.{at_open_paren, behind, loop};
 ghost use Rattle.c_parse.specs.Tok.{toks};
 ghost use Rattle.c_parse.specs.View.{Gives, context};
-ghost use Rattle.c_parse.specs.Reading.{arrow_suffix, assign_by, member_suffix, named_by, primary_by, suffix_by, unary_by, arguments_with, base, expr_at, level_at, operator_turn, postfix_with, primary_with, readers, run_at, type_read};
+ghost use Rattle.c_parse.specs.Reading.{assign_by, named_by, primary_by, selected, selection, suffix_by, unary_by, arguments_with, base, expr_at, level_at, operator_turn, postfix_with, primary_with, readers, run_at, type_read};
 ghost use Rattle.c_parse.specs.Leads as leads;
 ghost use Rattle.c_tree.specs.View.{expr, exprs, type};
 ghost use Rattle.c_tree.specs.Depth.{expr_depth, exprs_depth, type_depth};
@@ -21,14 +21,14 @@ use crate::leading::{
 use crate::scope::{Scope, span};
 use crate::tokens::{
     at_close_paren, at_comma, at_open_bracket, at_open_paren, at_star, bad, behind, close_bracket,
-    close_paren, deep, name, no_room, open_paren, word,
+    close_paren, name, no_room, open_paren, raised, word,
 };
 use c_lex::Token;
 use c_tree::building::{
     array, arrow, assign, binary, cast, index, member, paren, pointer, step, unary,
 };
-use c_tree::{BinOp, Expr, TypeTree};
-use kit_base::Seq;
+use c_tree::{BinOp, Expr, Span, TypeTree};
+use kit_base::{Memory, Name, Seq};
 use std::alloc::Global;
 
 #[tactic(auto, using(crate::proofs::Steps::reader_steps))]
@@ -72,9 +72,7 @@ fn assigned<'a>(
     ensures depth { IfOk result (λ x. x.1 ≡ expr_depth (expr x.0)) }
     ensures fits { IfOk result (λ x. x.1 ≤ room) }
 {
-    if room <= depth {
-        return Err(deep(tokens));
-    }
+    let (left, _) = keeping(left, raised(room, depth, tokens))?;
     let found = expression(alloc, scope, room - 1, behind(tokens));
     let (left, (right, right_depth, rest)) = keeping(left, found)?;
     let tree = assign(alloc, op, left, right, span(scope, from, rest))?;
@@ -137,11 +135,10 @@ fn operators<'a>(
     let mut depth = depth;
     let mut rest = tokens;
     'operators: while let Some(op) = operator_at(k + 1, rest) {
-        if room <= depth {
-            return Err(deep(rest));
-        }
-        let (right, right_depth, after) = level(alloc, scope, room - 1, k, behind(rest))?;
-        left = binary(alloc, op, left, right, span(scope, from, after))?;
+        let (fitting, _) = keeping(left, raised(room, depth, rest))?;
+        let found = level(alloc, scope, room - 1, k, behind(rest));
+        let (kept, (right, right_depth, after)) = keeping(fitting, found)?;
+        left = binary(alloc, op, kept, right, span(scope, from, after))?;
         depth = depth.max(right_depth) + 1;
         rest = after;
     }
@@ -235,10 +232,8 @@ fn postfix<'a>(
 {
     let (mut left, mut depth, mut rest) = primary(alloc, scope, room, tokens)?;
     'suffixes: while is_some_suffix(suffix_at(rest)) {
-        if room <= depth {
-            return Err(deep(rest));
-        }
-        let (tree, tree_depth, after) = suffixed(alloc, scope, room, left, depth, tokens, rest)?;
+        let (fitting, _) = keeping(left, raised(room, depth, rest))?;
+        let (tree, tree_depth, after) = suffixed(alloc, scope, room, fitting, depth, tokens, rest)?;
         left = tree;
         depth = tree_depth;
         rest = after;
@@ -266,8 +261,8 @@ fn suffixed<'a>(
 {
     match suffix_at(tokens) {
         Suffix::Index => indexed(alloc, scope, room, left, depth, from, tokens),
-        Suffix::Member => with_member(alloc, scope, left, depth, from, tokens),
-        Suffix::Arrow => with_arrow(alloc, scope, left, depth, from, tokens),
+        Suffix::Member => selected(alloc, scope, false, left, depth, from, tokens),
+        Suffix::Arrow => selected(alloc, scope, true, left, depth, from, tokens),
         Suffix::Step(op) => {
             let rest = behind(tokens);
             let tree = step(alloc, op, left, span(scope, from, rest))?;
@@ -301,29 +296,27 @@ fn indexed<'a>(
     Ok((tree, depth.max(index_depth) + 1, rest))
 }
 
-fn with_member<'a>(
+/// The member of that name behind an arrow or a dot.
+fn selection(
     alloc: Global,
-    scope: &Scope,
+    is_arrow: bool,
     left: Expr,
-    depth: u32,
-    from: &[Token],
-    tokens: &'a [Token],
-) -> Result<(Expr, u32, &'a [Token]), ReadErr>
-    requires depth { depth ≡ expr_depth (expr left) }
-    requires some { depth < 2 ^ 32 - 1 }
-    ensures gives { Gives (λ x. (expr x.0, toks x.2.now)) result (member_suffix (context scope.now) (toks from.now) (expr left) (toks tokens.now)) }
-    ensures depth { IfOk result (λ x. x.1 ≡ expr_depth (expr x.0)) }
-    ensures fits { IfOk result (λ x. x.1 ≡ depth + 1) }
+    name: Name,
+    span: Span,
+) -> Result<Expr, Memory>
+    ensures made { IfOk result (λ r. expr r ≡ selection is_arrow (expr left) name span) }
 {
-    let found = name(alloc, scope, behind(tokens));
-    let (left, (n, rest)) = keeping(left, found)?;
-    let tree = member(alloc, left, n, span(scope, from, rest))?;
-    Ok((tree, depth + 1, rest))
+    if is_arrow {
+        return arrow(alloc, left, name, span);
+    }
+    member(alloc, left, name, span)
 }
 
-fn with_arrow<'a>(
+/// The expression `left`, which begins at `from`, with the arrow or the dot and the member's name behind it.
+fn selected<'a>(
     alloc: Global,
     scope: &Scope,
+    is_arrow: bool,
     left: Expr,
     depth: u32,
     from: &[Token],
@@ -331,13 +324,13 @@ fn with_arrow<'a>(
 ) -> Result<(Expr, u32, &'a [Token]), ReadErr>
     requires depth { depth ≡ expr_depth (expr left) }
     requires some { depth < 2 ^ 32 - 1 }
-    ensures gives { Gives (λ x. (expr x.0, toks x.2.now)) result (arrow_suffix (context scope.now) (toks from.now) (expr left) (toks tokens.now)) }
+    ensures gives { Gives (λ x. (expr x.0, toks x.2.now)) result (selected (context scope.now) is_arrow (toks from.now) (expr left) (toks tokens.now)) }
     ensures depth { IfOk result (λ x. x.1 ≡ expr_depth (expr x.0)) }
     ensures fits { IfOk result (λ x. x.1 ≡ depth + 1) }
 {
     let found = name(alloc, scope, behind(tokens));
     let (left, (n, rest)) = keeping(left, found)?;
-    let tree = arrow(alloc, left, n, span(scope, from, rest))?;
+    let tree = selection(alloc, is_arrow, left, n, span(scope, from, rest))?;
     Ok((tree, depth + 1, rest))
 }
 
@@ -486,10 +479,8 @@ pub(crate) fn type_tree<'a>(
     'marks: loop {
         match type_mark_at(rest) {
             TypeMark::Star => {
-                if room <= depth {
-                    return Err(deep(rest));
-                }
-                ty = pointer(alloc, ty)?;
+                let (fitting, _) = keeping(ty, raised(room, depth, rest))?;
+                ty = pointer(alloc, fitting)?;
                 depth += 1;
                 rest = behind(rest);
             }
@@ -520,9 +511,7 @@ fn run<'a>(
     ensures depth { IfOk result (λ x. x.1 ≡ type_depth (type x.0)) }
     ensures fits { IfOk result (λ x. x.1 ≤ room) }
 {
-    if room <= depth {
-        return Err(deep(tokens));
-    }
+    let (ty, _) = keeping(ty, raised(room, depth, tokens))?;
     let found = level(alloc, scope, room - 1, 10, behind(tokens));
     let (ty, (size, size_depth, rest)) = keeping(ty, found)?;
     let ((ty, size), rest) = keeping((ty, size), close_bracket(rest))?;

@@ -1,5 +1,5 @@
 // Single tokens at the front.
-ghost use Rattle.std.specs.Prelude.{◌≡◌, Ok, length};
+ghost use Rattle.std.specs.Prelude.{◌≡◌, ◌≤◌, ◌<◌, IfOk, IfErr, Ok, length};
 ghost use Rattle.c_parse.specs.Tok.{toks};
 ghost use Rattle.c_parse.specs.declared.fault.Fault.TheVariants.{Syntax, TooDeep};
 ghost use Rattle.c_parse.specs.declared.fault.ReadErr.TheVariants as errors;
@@ -32,6 +32,17 @@ pub(crate) fn no_room(begins: bool, tokens: &[Token]) -> ReadErr
     ensures { result ≡ errors.Fault (reader.room_fault begins (toks tokens.now)) }
 {
     if begins { deep(tokens) } else { bad(tokens) }
+}
+
+/// A tree has room above a part of that depth, or no unit that is shallow enough goes on with the first of these tokens.
+pub(crate) fn raised(room: u32, depth: u32, tokens: &[Token]) -> Result<(), ReadErr>
+    ensures fits { IfOk result (λ _. depth < room) }
+    ensures deep { IfErr result (λ e. (room ≤ depth) × (e ≡ errors.Fault (TooDeep (length (toks tokens.now))))) }
+{
+    if room <= depth {
+        return Err(deep(tokens));
+    }
+    Ok(())
 }
 
 pub(crate) fn behind(tokens: &[Token]) -> &[Token]

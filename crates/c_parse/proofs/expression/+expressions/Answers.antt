@@ -79,43 +79,53 @@ level-levels-preserved t c =
       fits = c.in_ok-tree.ensures.fits;
     }
 
-pub operators-returns-then-room-depth-clause-gives : goal.operators-returns-then-room-depth-clause-gives
-operators-returns-then-room-depth-clause-gives t c =
+pub operators-returns-in_err-fitting-clause-gives : goal.operators-returns-in_err-fitting-clause-gives
+operators-returns-in_err-fitting-clause-gives t c =
     let found : operator_at (c.args.k + 1) (toks c.operators.rest.now) ≡ Some c.in-Some.op = grind arith in
-    let full : c.args.room ≤ expr_depth (expr c.operators.left) = omega (arith, c.operators.invariant.depth) in
-    let turned = operator_deep (context c.args.scope.now) (readers (context c.args.scope.now) (c.args.room - 1)) c.args.room c.args.k (toks c.args.from.now) (expr c.operators.left) (toks c.operators.rest.now) c.in-Some.op (at_next c.args.k (toks c.operators.rest.now) _ found) full in
-    rw c.deep.ensures (goes_err _ _ _ _ c.operators.invariant.goes _ turned)
-
-pub operators-returns-in_err-right-clause-gives : goal.operators-returns-in_err-right-clause-gives
-operators-returns-in_err-right-clause-gives t c =
-    let found : operator_at (c.args.k + 1) (toks c.operators.rest.now) ≡ Some c.in-Some.op = grind arith in
-    let less : expr_depth (expr c.operators.left) < c.args.room = omega (arith, c.operators.invariant.depth) in
-    let failed = rw c.behind.ensures at c.in_err-right.ensures.gives in
-    let turned = operator_fail (context c.args.scope.now) (readers (context c.args.scope.now) (c.args.room - 1)) c.args.room c.args.k (toks c.args.from.now) (expr c.operators.left) (toks c.operators.rest.now) c.in-Some.op c.in_err-right.field-0.0 (at_next c.args.k (toks c.operators.rest.now) _ found) less failed in
+    let deep = rw c.in_err-fitting.ensures.err at c.raised.ensures.deep in
+    let full : c.args.room ≤ expr_depth (expr c.operators.left) = omega (arith, c.operators.invariant.depth, deep.0) in
+    let turned = operator_deep (context c.args.scope.now) (readers (context c.args.scope.now) (c.args.room - 1)) c.args.room c.args.k (toks c.args.from.now) (expr c.operators.left) (toks c.operators.rest.now) c.in-Some.op c.in_err-fitting.field-0.0 (at_next c.args.k (toks c.operators.rest.now) _ found) full deep.1 in
     let p = err_from_is_err_and c.from_residual.result c.from_residual.ensures.1 in
-    rw (p.1, p.2) (goes_fail _ _ _ _ c.operators.invariant.goes c.in_err-right.field-0.0 turned)
+    rw (p.1, p.2) (goes_fail _ _ _ _ c.operators.invariant.goes c.in_err-fitting.field-0.0 turned)
+
+pub operators-returns-in_err-kept-clause-gives : goal.operators-returns-in_err-kept-clause-gives
+operators-returns-in_err-kept-clause-gives t c =
+    let found : operator_at (c.args.k + 1) (toks c.operators.rest.now) ≡ Some c.in-Some.op = grind arith in
+    let fits = rw c.in_ok-fitting.ensures.ok.1 at c.raised.ensures.fits in
+    let less : expr_depth (expr c.operators.left) < c.args.room = omega (arith, c.operators.invariant.depth, fits) in
+    let bad = rw c.in_err-kept.ensures.err at c.level-found.ensures.gives in
+    let failed = rw c.behind.ensures at bad in
+    let turned = operator_fail (context c.args.scope.now) (readers (context c.args.scope.now) (c.args.room - 1)) c.args.room c.args.k (toks c.args.from.now) (expr c.operators.left) (toks c.operators.rest.now) c.in-Some.op c.in_err-kept.field-0.0 (at_next c.args.k (toks c.operators.rest.now) _ found) less failed in
+    let p = err_from_is_err_and c.from_residual-in_err-kept.result c.from_residual-in_err-kept.ensures.1 in
+    rw (p.1, p.2) (goes_fail _ _ _ _ c.operators.invariant.goes c.in_err-kept.field-0.0 turned)
 
 pub operators-operators-smaller : goal.operators-operators-smaller
 operators-operators-smaller t c =
-    let good = rw c.behind.ensures at c.in_ok-right.ensures.gives in
+    let read = rw c.in_ok-kept.ensures.ok.1 at c.level-found.ensures.gives in
+    let good = rw c.behind.ensures at read in
     omega (arith, level_shorter (level_derived _ _ _ _ _ good).derived, behind_up (toks c.operators.rest.now))
 
 pub operators-operators-preserved : goal.operators-operators-preserved
 operators-operators-preserved t c =
     let found : operator_at (c.args.k + 1) (toks c.operators.rest.now) ≡ Some c.in-Some.op = grind arith in
-    let less : expr_depth (expr c.operators.left) < c.args.room = omega (arith, c.operators.invariant.depth) in
-    let good = rw c.behind.ensures at c.in_ok-right.ensures.gives in
+    let fits = rw c.in_ok-fitting.ensures.ok.1 at c.raised.ensures.fits in
+    let less : expr_depth (expr c.operators.left) < c.args.room = omega (arith, c.operators.invariant.depth, fits) in
+    let read = rw c.in_ok-kept.ensures.ok.1 at c.level-found.ensures.gives in
+    let good = rw c.behind.ensures at read in
+    let right_depth = rw c.in_ok-kept.ensures.ok.1 at c.level-found.ensures.depth in
+    let right_fits = rw c.in_ok-kept.ensures.ok.1 at c.level-found.ensures.fits in
     let shorter = level_shorter (level_derived _ _ _ _ _ good).derived in
-    let fewer : length (toks c.in_ok-right.after.now) < length (toks c.operators.rest.now) = omega (arith, shorter, behind_up (toks c.operators.rest.now)) in
+    let fewer : length (toks c.in_ok-kept.after.now) < length (toks c.operators.rest.now) = omega (arith, shorter, behind_up (toks c.operators.rest.now)) in
     let turned = operator_ok (context c.args.scope.now) (readers (context c.args.scope.now) (c.args.room - 1)) c.args.room c.args.k (toks c.args.from.now) (expr c.operators.left) (toks c.operators.rest.now) c.in-Some.op _ _ (at_next c.args.k (toks c.operators.rest.now) _ found) less good in
     let next = goes_turn _ _ _ _ c.operators.invariant.goes _ _ turned fewer in
-    let tree = c.in_ok-left.ensures.made in
+    let same : c.in_ok-kept.kept ≡ c.operators.left = c.in_ok-kept.ensures.ok.0 ∙ c.in_ok-fitting.ensures.ok.0 in
+    let tree = rw same at c.in_ok-left.ensures.made in
     let placed = c.span.ensures in
     let deep = c.max-depth.ensures in
     record {
       goes = rw (tree, placed) next;
-      depth = rw tree (omega (arith, deep, c.operators.invariant.depth, c.in_ok-right.ensures.depth));
-      fits = omega (arith, deep, c.operators.invariant.fits, c.in_ok-right.ensures.fits, c.if-room-depth.false);
+      depth = rw tree (omega (arith, deep, c.operators.invariant.depth, right_depth));
+      fits = omega (arith, deep, c.operators.invariant.fits, right_fits, fits);
     }
 
 pub operators-returns-clause-gives : goal.operators-returns-clause-gives
@@ -123,29 +133,38 @@ operators-returns-clause-gives t c =
     let none : operator_at (c.args.k + 1) (toks c.operators.rest.now) ≡ None = grind arith in
     goes_end _ _ _ _ c.operators.invariant.goes (operator_end (context c.args.scope.now) (readers (context c.args.scope.now) (c.args.room - 1)) c.args.room c.args.k (toks c.args.from.now) (expr c.operators.left) (toks c.operators.rest.now) (at_next c.args.k (toks c.operators.rest.now) _ none))
 
-pub postfix-returns-then-room-depth-clause-gives : goal.postfix-returns-then-room-depth-clause-gives
-postfix-returns-then-room-depth-clause-gives t c =
+pub postfix-returns-in_err-fitting-clause-gives : goal.postfix-returns-in_err-fitting-clause-gives
+postfix-returns-in_err-fitting-clause-gives t c =
     let some : is_some_suffix (suffix_at (toks c.suffixes.rest.now)) ≡ true = grind arith in
-    let full : c.args.room ≤ expr_depth (expr c.suffixes.left) = omega (arith, c.suffixes.invariant.depth) in
-    rw c.deep.ensures (goes_err _ _ _ _ c.suffixes.invariant.goes _ (suffix_deep (context c.args.scope.now) (readers (context c.args.scope.now) (c.args.room - 1)) c.args.room (toks c.args.tokens.now) (expr c.suffixes.left) (toks c.suffixes.rest.now) some full))
+    let deep = rw c.in_err-fitting.ensures.err at c.raised.ensures.deep in
+    let full : c.args.room ≤ expr_depth (expr c.suffixes.left) = omega (arith, c.suffixes.invariant.depth, deep.0) in
+    let turned = suffix_deep (context c.args.scope.now) (readers (context c.args.scope.now) (c.args.room - 1)) c.args.room (toks c.args.tokens.now) (expr c.suffixes.left) (toks c.suffixes.rest.now) c.in_err-fitting.field-0.0 some full deep.1 in
+    let p = err_from_is_err_and c.from_residual-in_err-fitting.result c.from_residual-in_err-fitting.ensures.1 in
+    rw (p.1, p.2) (goes_fail _ _ _ _ c.suffixes.invariant.goes c.in_err-fitting.field-0.0 turned)
 
 pub postfix-returns-in_err-tree-clause-gives : goal.postfix-returns-in_err-tree-clause-gives
 postfix-returns-in_err-tree-clause-gives t c =
     let some : is_some_suffix (suffix_at (toks c.suffixes.rest.now)) ≡ true = grind arith in
-    let less : expr_depth (expr c.suffixes.left) < c.args.room = omega (arith, c.suffixes.invariant.depth) in
-    let turned = suffix_fail (context c.args.scope.now) (readers (context c.args.scope.now) (c.args.room - 1)) c.args.room (toks c.args.tokens.now) (expr c.suffixes.left) (toks c.suffixes.rest.now) c.in_err-tree.field-0.0 some less c.in_err-tree.ensures.gives in
+    let fits = rw c.in_ok-fitting.ensures.ok.1 at c.raised.ensures.fits in
+    let less : expr_depth (expr c.suffixes.left) < c.args.room = omega (arith, c.suffixes.invariant.depth, fits) in
+    let bad = rw c.in_ok-fitting.ensures.ok.0 at c.in_err-tree.ensures.gives in
+    let turned = suffix_fail (context c.args.scope.now) (readers (context c.args.scope.now) (c.args.room - 1)) c.args.room (toks c.args.tokens.now) (expr c.suffixes.left) (toks c.suffixes.rest.now) c.in_err-tree.field-0.0 some less bad in
     let p = err_from_is_err_and c.from_residual-in_err-tree.result c.from_residual-in_err-tree.ensures.1 in
     rw (p.1, p.2) (goes_fail _ _ _ _ c.suffixes.invariant.goes c.in_err-tree.field-0.0 turned)
 
 pub postfix-suffixes-smaller : goal.postfix-suffixes-smaller
-postfix-suffixes-smaller t c = omega (arith, suffix_shorter (context c.args.scope.now) (c.args.room - 1) (toks c.args.tokens.now) (expr c.suffixes.left) (toks c.suffixes.rest.now) _ (suffix_at (toks c.suffixes.rest.now)) refl c.in_ok-tree.ensures.gives)
+postfix-suffixes-smaller t c =
+    let good = rw c.in_ok-fitting.ensures.ok.0 at c.in_ok-tree.ensures.gives in
+    omega (arith, suffix_shorter (context c.args.scope.now) (c.args.room - 1) (toks c.args.tokens.now) (expr c.suffixes.left) (toks c.suffixes.rest.now) _ (suffix_at (toks c.suffixes.rest.now)) refl good)
 
 pub postfix-suffixes-preserved : goal.postfix-suffixes-preserved
 postfix-suffixes-preserved t c =
     let some : is_some_suffix (suffix_at (toks c.suffixes.rest.now)) ≡ true = grind arith in
-    let less : expr_depth (expr c.suffixes.left) < c.args.room = omega (arith, c.suffixes.invariant.depth) in
-    let fewer = suffix_shorter (context c.args.scope.now) (c.args.room - 1) (toks c.args.tokens.now) (expr c.suffixes.left) (toks c.suffixes.rest.now) _ (suffix_at (toks c.suffixes.rest.now)) refl c.in_ok-tree.ensures.gives in
-    let turned = suffix_ok (context c.args.scope.now) (readers (context c.args.scope.now) (c.args.room - 1)) c.args.room (toks c.args.tokens.now) (expr c.suffixes.left) (toks c.suffixes.rest.now) _ some less c.in_ok-tree.ensures.gives in
+    let fits = rw c.in_ok-fitting.ensures.ok.1 at c.raised.ensures.fits in
+    let less : expr_depth (expr c.suffixes.left) < c.args.room = omega (arith, c.suffixes.invariant.depth, fits) in
+    let good = rw c.in_ok-fitting.ensures.ok.0 at c.in_ok-tree.ensures.gives in
+    let fewer = suffix_shorter (context c.args.scope.now) (c.args.room - 1) (toks c.args.tokens.now) (expr c.suffixes.left) (toks c.suffixes.rest.now) _ (suffix_at (toks c.suffixes.rest.now)) refl good in
+    let turned = suffix_ok (context c.args.scope.now) (readers (context c.args.scope.now) (c.args.room - 1)) c.args.room (toks c.args.tokens.now) (expr c.suffixes.left) (toks c.suffixes.rest.now) _ some less good in
     record {
       goes = goes_turn _ _ _ _ c.suffixes.invariant.goes _ _ turned fewer;
       depth = c.in_ok-tree.ensures.depth;
@@ -157,23 +176,27 @@ postfix-returns-clause-gives t c =
     let none : is_some_suffix (suffix_at (toks c.suffixes.rest.now)) ≡ false = grind arith in
     goes_end _ _ _ _ c.suffixes.invariant.goes (suffix_end (context c.args.scope.now) (readers (context c.args.scope.now) (c.args.room - 1)) c.args.room (toks c.args.tokens.now) (expr c.suffixes.left) (toks c.suffixes.rest.now) none)
 
-pub type_tree-returns-then-room-depth-clause-gives : goal.type_tree-returns-then-room-depth-clause-gives
-type_tree-returns-then-room-depth-clause-gives t c =
+pub type_tree-returns-in_err-fitting-in-Star-clause-gives : goal.type_tree-returns-in_err-fitting-in-Star-clause-gives
+type_tree-returns-in_err-fitting-in-Star-clause-gives t c =
     let some : type_mark_at (toks c.marks.rest.now) ≡ type_mark.Star = sym c.in-Star.ensures in
-    let full : c.args.room ≤ type_depth (type c.marks.ty) = omega (arith, c.marks.invariant.depth) in
-    rw c.deep.ensures (goes_err _ _ _ _ c.marks.invariant.goes _ (star_deep (readers (context c.args.scope.now) (c.args.room - 1)) c.args.room (type c.marks.ty) (toks c.marks.rest.now) some full))
+    let deep = rw c.in_err-fitting-in-Star.ensures.err at c.raised.ensures.deep in
+    let full : c.args.room ≤ type_depth (type c.marks.ty) = omega (arith, c.marks.invariant.depth, deep.0) in
+    let turned = star_deep (readers (context c.args.scope.now) (c.args.room - 1)) c.args.room (type c.marks.ty) (toks c.marks.rest.now) c.in_err-fitting-in-Star.field-0.0 some full deep.1 in
+    let p = err_from_is_err_and c.from_residual-in_err-fitting-in-Star.result c.from_residual-in_err-fitting-in-Star.ensures.1 in
+    rw (p.1, p.2) (goes_fail _ _ _ _ c.marks.invariant.goes c.in_err-fitting-in-Star.field-0.0 turned)
 
 pub type_tree-marks-preserved-in-Star : goal.type_tree-marks-preserved-in-Star
 type_tree-marks-preserved-in-Star t c =
     let some : type_mark_at (toks c.marks.rest.now) ≡ type_mark.Star = sym c.in-Star.ensures in
-    let less : type_depth (type c.marks.ty) < c.args.room = omega (arith, c.marks.invariant.depth) in
+    let fits = rw c.in_ok-fitting-in-Star.ensures.ok.1 at c.raised.ensures.fits in
+    let less : type_depth (type c.marks.ty) < c.args.room = omega (arith, c.marks.invariant.depth, fits) in
     let fewer : length (behind (toks c.marks.rest.now)) < length (toks c.marks.rest.now) = omega (arith, ap length (star-is (toks c.marks.rest.now) some)) in
     let next = goes_turn _ _ _ _ c.marks.invariant.goes _ _ (star_ok (readers (context c.args.scope.now) (c.args.room - 1)) c.args.room (type c.marks.ty) (toks c.marks.rest.now) some less) fewer in
-    let tree = c.in_ok-ty-in-Star.ensures.made in
+    let tree = rw c.in_ok-fitting-in-Star.ensures.ok.0 at c.in_ok-ty-in-Star.ensures.made in
     record {
       goes = rw (tree, c.behind-rest.ensures) next;
       depth = rw tree (omega (arith, c.marks.invariant.depth));
-      fits = omega (arith, c.if-room-depth.false);
+      fits = omega (arith, fits);
     }
 
 pub type_tree-returns-in_err-array-in-Bracket-clause-gives : goal.type_tree-returns-in_err-array-in-Bracket-clause-gives

@@ -1,17 +1,19 @@
 -- The equations of the readers above expressions, with the room as the code has it, and the views of what they build.
 use Rattle.std.proofs.Common.{◌≡◌, ℕ, zero, suc, ◌-◌, ◌<◌, true, false, List, Option, option_map, Ok, map, refl, arith, rules}
 use Rattle.std.specs.Prelude.{◌||◌}
+use Rattle.std.specs.Global.{Box}
 use Rattle.kit_base.specs.declared.seq.Seq.{Seq}
 use Rattle.c_tree.specs.declared.span.Span.{Span}
 use Rattle.c_tree.specs.declared.expression.Expr.{Expr}
 use Rattle.c_tree.specs.declared.variable.Init.{Init, One, List as ListOf, the_lemmas as init_lemmas}
 use Rattle.c_tree.specs.declared.variable.Var.{Var}
-use Rattle.c_tree.specs.declared.statement.Stmt.{Stmt, Block, Empty, Vars, Do, Switch, Return, Break, Continue, the_lemmas as stmt_lemmas}
+use Rattle.c_tree.specs.declared.statement.Stmt.{Stmt, Block, Empty, Vars, Do, Switch, While, Return, Break, Continue, the_lemmas as stmt_lemmas}
 use Rattle.c_tree.specs.declared.statement.Arm.{Arm, Case, Default, Stmt as InArm, the_lemmas as arm_lemmas}
 use Rattle.c_tree.specs.Tree as t
 use Rattle.c_tree.specs.View.{expr, init, inits, var, stmt, stmts, arm, arms}
 use Rattle.c_parse.specs.Tok.{Tok}
 use Rattle.c_parse.specs.Scope.{Context}
+use Rattle.c_parse.specs.View.{boxed_stmt}
 use Rattle.c_parse.specs.Reader.{◌>>=◌, no_room, at_open_brace, semicolon}
 use Rattle.c_parse.specs.Leads.{begins_expr, begins_type, begins_stmt, stmt_at, arm_at, is_some_arm}
 use Rattle.c_parse.specs.Reading.{type_read}
@@ -102,6 +104,9 @@ view-Do e = search (rules, stmt_lemmas)
 pub view-Empty : (sp : Span) → stmt (Empty sp) ≡ t.EmptyS sp
 view-Empty sp = search (rules, stmt_lemmas)
 
+pub view-While : (e : Expr) (b : Box Stmt) (sp : Span) → stmt (While e b sp) ≡ t.WhileS (expr e) (boxed_stmt b) sp
+view-While e b sp = search (rules, stmt_lemmas)
+
 pub view-Return : (e : Option Expr) (sp : Span) → stmt (Return e sp) ≡ t.ReturnS (option_map expr e) sp
 view-Return e sp = search (rules, stmt_lemmas)
 
@@ -122,7 +127,7 @@ view-Stmt s = search (rules, arm_lemmas)
 
 pub ruleset declaration_steps = (init_step, init_none, vars_step, vars_none, member_step, member_none, param_step, param_none, view-One, view-List)
 
-pub ruleset statement_steps = (first_step, stmt_step, stmt_none, arm_step, arm_none, view-Block, view-Switch, view-Vars, view-Do, view-Empty, view-Return, view-Break, view-Continue, view-Case, view-Default, view-Stmt)
+pub ruleset statement_steps = (first_step, stmt_step, stmt_none, arm_step, arm_none, view-Block, view-Switch, view-Vars, view-Do, view-Empty, view-While, view-Return, view-Break, view-Continue, view-Case, view-Default, view-Stmt)
 
 pub first_none_type : (c : Context) (ts : List Tok) → begins_type c ts ≡ true → first_at c 0 ts ≡ no_room true ts
 unfolding first_at

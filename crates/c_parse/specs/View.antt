@@ -1,5 +1,9 @@
 -- What a function returned, against what a reading gives.
 use Rattle.std.specs.Prelude.{◌≡◌, Result, Ok, Err}
+use Rattle.std.specs.Global.{Box}
+use Rattle.c_tree.specs.declared.statement.Stmt.{Stmt}
+use Rattle.c_tree.specs.Tree.{StmtT}
+use Rattle.c_tree.specs.View.{stmt}
 use Rattle.c_parse.specs.declared.fault.Fault.{Fault}
 use Rattle.c_parse.specs.declared.fault.ReadErr.{ReadErr}
 use Rattle.c_parse.specs.declared.fault.ReadErr.TheVariants as errors
@@ -17,3 +21,7 @@ Gives seen (Err e) read = Fails e read
 
 abbrev pub context : Scope → Context
 context s = record { total = s.total; types = s.types }
+
+-- the statement in a box
+abbrev pub boxed_stmt : Box Stmt → StmtT
+boxed_stmt b = stmt b.value

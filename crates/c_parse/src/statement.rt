@@ -7,7 +7,7 @@ ghost use Rattle.c_parse.specs.ReadingLists.{braced};
 ghost use Rattle.c_parse.specs.ReadingParts as parts;
 ghost use Rattle.c_parse.specs.ReadingStatements as reading;
 ghost use Rattle.c_parse.specs.Tok.{toks};
-ghost use Rattle.c_parse.specs.View.{Gives, context};
+ghost use Rattle.c_parse.specs.View.{Gives, boxed_stmt, context};
 ghost use Rattle.c_tree.specs.Tree.{ForS, IfS};
 ghost use Rattle.c_parse.specs.ReadingStatements.{maybe};
 ghost use Rattle.c_tree.specs.View.{arm, expr, stmt};
@@ -24,7 +24,7 @@ use crate::tokens::{
     open_brace, open_paren, semicolon, while_word,
 };
 use c_lex::Token;
-use c_tree::building::{boxed, do_while, for_bare, for_from, if_else, if_only, while_};
+use c_tree::building::{boxed, do_while, for_bare, for_from, if_else, if_only};
 use c_tree::{Arm, Expr, Span, Stmt};
 use kit_base::Seq;
 use std::alloc::Global;
@@ -52,22 +52,23 @@ fn first<'a>(
     scope: &Scope,
     room: u32,
     tokens: &'a [Token],
-) -> Result<(Option<Stmt>, &'a [Token]), ReadErr>
-    ensures gives { Gives (λ x. (maybe (option_map stmt x.0), toks x.1.now)) result (reading.first_at (context scope.now) room (toks tokens.now)) }
+) -> Result<(Option<Box<Stmt>>, &'a [Token]), ReadErr>
+    ensures gives { Gives (λ x. (maybe (option_map boxed_stmt x.0), toks x.1.now)) result (reading.first_at (context scope.now) room (toks tokens.now)) }
 {
     if begins_type(scope, tokens) {
         if room == 0 {
             return Err(deep(tokens));
         }
         let (vars, rest) = variables(alloc, scope, room - 1, tokens)?;
-        return Ok((Some(Stmt::Vars(vars, span(scope, tokens, rest))), rest));
+        let from = Stmt::Vars(vars, span(scope, tokens, rest));
+        return Ok((Some(boxed(alloc, from)?), rest));
     }
     if begins_expr(scope, tokens) {
         if room == 0 {
             return Err(deep(tokens));
         }
         let (e, _depth, rest) = expression(alloc, scope, room - 1, tokens)?;
-        return Ok((Some(Stmt::Do(e)), rest));
+        return Ok((Some(boxed(alloc, Stmt::Do(e))?), rest));
     }
     Ok((None, tokens))
 }
@@ -124,6 +125,20 @@ fn block<'a>(
     Ok((Stmt::Block(body, span(scope, tokens, rest)), rest))
 }
 
+/// A statement in a box, as others take it.
+#[cycle(statements)]
+fn inner<'a>(
+    alloc: Global,
+    scope: &Scope,
+    room: u32,
+    tokens: &'a [Token],
+) -> Result<(Box<Stmt>, &'a [Token]), ReadErr>
+    ensures gives { Gives (λ x. (boxed_stmt x.0, toks x.1.now)) result ((reading.bodies (context scope.now) room).stmt (toks tokens.now)) }
+{
+    let (body, rest) = statement(alloc, scope, room, tokens)?;
+    Ok((boxed(alloc, body)?, rest))
+}
+
 /// An expression in parentheses and the statement under it.
 #[cycle(statements)]
 fn guarded<'a>(
@@ -131,15 +146,15 @@ fn guarded<'a>(
     scope: &Scope,
     room: u32,
     tokens: &'a [Token],
-) -> Result<((Expr, Stmt), &'a [Token]), ReadErr>
-    ensures gives { Gives (λ x. ((expr x.0.0, stmt x.0.1), toks x.1.now)) result (parts.guarded (context scope.now) room (reading.bodies (context scope.now) room) (toks tokens.now)) }
+) -> Result<((Expr, Box<Stmt>), &'a [Token]), ReadErr>
+    ensures gives { Gives (λ x. ((expr x.0.0, boxed_stmt x.0.1), toks x.1.now)) result (parts.guarded (context scope.now) room (reading.bodies (context scope.now) room) (toks tokens.now)) }
 {
     let (e, rest) = test(alloc, scope, room, tokens)?;
-    let body = statement(alloc, scope, room, rest);
-    let (e, (body, rest)) = keeping(e, body)?;
+    let (e, (body, rest)) = keeping(e, inner(alloc, scope, room, rest))?;
     Ok(((e, body), rest))
 }
 
+#[tactic(auto, using(crate::proofs::CodeSteps::statement_steps))]
 #[cycle(statements)]
 fn while_statement<'a>(
     alloc: Global,
@@ -150,7 +165,7 @@ fn while_statement<'a>(
     ensures gives { Gives (λ x. (stmt x.0, toks x.1.now)) result (parts.while_parts (context scope.now) room (reading.bodies (context scope.now) room) (toks tokens.now)) }
 {
     let ((e, body), rest) = guarded(alloc, scope, room, behind(tokens))?;
-    Ok((while_(alloc, e, body, span(scope, tokens, rest))?, rest))
+    Ok((Stmt::While(e, body, span(scope, tokens, rest)), rest))
 }
 
 /// What stands behind the statement of a `do`.
@@ -221,6 +236,48 @@ fn switch_statement<'a>(
     Ok((Stmt::Switch(e, arms, span(scope, tokens, rest)), rest))
 }
 
+#[tactic(auto, using(crate::proofs::CodeSteps::statement_steps))]
+fn vars_statement<'a>(
+    alloc: Global,
+    scope: &Scope,
+    room: u32,
+    tokens: &'a [Token],
+) -> Result<(Stmt, &'a [Token]), ReadErr>
+    ensures gives { Gives (λ x. (stmt x.0, toks x.1.now)) result (reading.stmt_by (context scope.now) room (reading.bodies (context scope.now) room) (toks tokens.now) leads.Vars) }
+{
+    let (vars, rest) = variables(alloc, scope, room, tokens)?;
+    let (vars, rest) = keeping(vars, semicolon(rest))?;
+    Ok((Stmt::Vars(vars, span(scope, tokens, rest)), rest))
+}
+
+#[tactic(auto, using(crate::proofs::CodeSteps::statement_steps))]
+fn return_statement<'a>(
+    alloc: Global,
+    scope: &Scope,
+    room: u32,
+    tokens: &'a [Token],
+) -> Result<(Stmt, &'a [Token]), ReadErr>
+    ensures gives { Gives (λ x. (stmt x.0, toks x.1.now)) result (reading.stmt_by (context scope.now) room (reading.bodies (context scope.now) room) (toks tokens.now) leads.Return) }
+{
+    let (e, rest) = maybe(alloc, scope, room, behind(tokens))?;
+    let (e, rest) = keeping(e, semicolon(rest))?;
+    Ok((Stmt::Return(e, span(scope, tokens, rest)), rest))
+}
+
+#[tactic(auto, using(crate::proofs::CodeSteps::statement_steps))]
+fn expression_statement<'a>(
+    alloc: Global,
+    scope: &Scope,
+    room: u32,
+    tokens: &'a [Token],
+) -> Result<(Stmt, &'a [Token]), ReadErr>
+    ensures gives { Gives (λ x. (stmt x.0, toks x.1.now)) result (reading.stmt_by (context scope.now) room (reading.bodies (context scope.now) room) (toks tokens.now) leads.Expr) }
+{
+    let (e, _depth, rest) = expression(alloc, scope, room, tokens)?;
+    let (e, rest) = keeping(e, semicolon(rest))?;
+    Ok((Stmt::Do(e), rest))
+}
+
 /// A statement that has no statement inside it.
 fn simple<'a>(
     alloc: Global,
@@ -237,16 +294,8 @@ fn simple<'a>(
             let rest = behind(tokens);
             Ok((Stmt::Empty(span(scope, tokens, rest)), rest))
         }
-        StmtLead::Vars => {
-            let (vars, rest) = variables(alloc, scope, room, tokens)?;
-            let (vars, rest) = keeping(vars, semicolon(rest))?;
-            Ok((Stmt::Vars(vars, span(scope, tokens, rest)), rest))
-        }
-        StmtLead::Return => {
-            let (e, rest) = maybe(alloc, scope, room, behind(tokens))?;
-            let (e, rest) = keeping(e, semicolon(rest))?;
-            Ok((Stmt::Return(e, span(scope, tokens, rest)), rest))
-        }
+        StmtLead::Vars => vars_statement(alloc, scope, room, tokens),
+        StmtLead::Return => return_statement(alloc, scope, room, tokens),
         StmtLead::Break => {
             let rest = semicolon(behind(tokens))?;
             Ok((Stmt::Break(span(scope, tokens, rest)), rest))
@@ -255,11 +304,7 @@ fn simple<'a>(
             let rest = semicolon(behind(tokens))?;
             Ok((Stmt::Continue(span(scope, tokens, rest)), rest))
         }
-        _ => {
-            let (e, _depth, rest) = expression(alloc, scope, room, tokens)?;
-            let (e, rest) = keeping(e, semicolon(rest))?;
-            Ok((Stmt::Do(e), rest))
-        }
+        _ => expression_statement(alloc, scope, room, tokens),
     }
 }
 
@@ -270,13 +315,13 @@ fn otherwise<'a>(
     scope: &Scope,
     room: u32,
     tokens: &'a [Token],
-) -> Result<(Option<Stmt>, &'a [Token]), ReadErr>
-    ensures gives { Gives (λ x. (maybe (option_map stmt x.0), toks x.1.now)) result (parts.else_at (reading.bodies (context scope.now) room) (toks tokens.now)) }
+) -> Result<(Option<Box<Stmt>>, &'a [Token]), ReadErr>
+    ensures gives { Gives (λ x. (maybe (option_map boxed_stmt x.0), toks x.1.now)) result (parts.else_at (reading.bodies (context scope.now) room) (toks tokens.now)) }
 {
     if !at_else_word(tokens) {
         return Ok((None, tokens));
     }
-    let (other, rest) = statement(alloc, scope, room, behind(tokens))?;
+    let (other, rest) = inner(alloc, scope, room, behind(tokens))?;
     Ok((Some(other), rest))
 }
 
@@ -292,20 +337,16 @@ fn if_statement<'a>(
     let (head, rest) = guarded(alloc, scope, room, behind(tokens))?;
     let other = otherwise(alloc, scope, room, rest);
     let (head, (other, rest)) = keeping(head, other)?;
-    Ok((if_(alloc, head, other, span(scope, tokens, rest))?, rest))
+    Ok((if_(head, other, span(scope, tokens, rest)), rest))
 }
 
-fn if_(alloc: Global, head: (Expr, Stmt), other: Option<Stmt>, span: Span) -> Result<Stmt, ReadErr>
-    ensures made { Gives stmt result (Ok (IfS (expr head.0) (stmt head.1) (maybe (option_map stmt other)) span)) }
+fn if_(head: (Expr, Box<Stmt>), other: Option<Box<Stmt>>, span: Span) -> Stmt
+    ensures made { stmt result ≡ IfS (expr head.0) (boxed_stmt head.1) (maybe (option_map boxed_stmt other)) span }
 {
     let (e, then) = head;
-    let ((e, other), then) = keeping((e, other), boxed(alloc, then))?;
     match other {
-        None => Ok(if_only(e, then, span)),
-        Some(other) => {
-            let ((e, then), other) = keeping((e, then), boxed(alloc, other))?;
-            Ok(if_else(e, then, other, span))
-        }
+        None => if_only(e, then, span),
+        Some(other) => if_else(e, then, other, span),
     }
 }
 
@@ -315,8 +356,8 @@ fn for_first<'a>(
     scope: &Scope,
     room: u32,
     tokens: &'a [Token],
-) -> Result<(Option<Stmt>, &'a [Token]), ReadErr>
-    ensures gives { Gives (λ x. (maybe (option_map stmt x.0), toks x.1.now)) result (parts.for_first (context scope.now) room (toks tokens.now)) }
+) -> Result<(Option<Box<Stmt>>, &'a [Token]), ReadErr>
+    ensures gives { Gives (λ x. (maybe (option_map boxed_stmt x.0), toks x.1.now)) result (parts.for_first (context scope.now) room (toks tokens.now)) }
 {
     let rest = open_paren(tokens)?;
     let (from, rest) = first(alloc, scope, room, rest)?;
@@ -343,8 +384,8 @@ fn for_head<'a>(
     scope: &Scope,
     room: u32,
     tokens: &'a [Token],
-) -> Result<((Option<Stmt>, Option<Expr>, Option<Expr>), &'a [Token]), ReadErr>
-    ensures gives { Gives (λ x. ((maybe (option_map stmt x.0.0), option_map expr x.0.1, option_map expr x.0.2), toks x.1.now)) result (parts.for_head (context scope.now) room (toks tokens.now)) }
+) -> Result<((Option<Box<Stmt>>, Option<Expr>, Option<Expr>), &'a [Token]), ReadErr>
+    ensures gives { Gives (λ x. ((maybe (option_map boxed_stmt x.0.0), option_map expr x.0.1, option_map expr x.0.2), toks x.1.now)) result (parts.for_head (context scope.now) room (toks tokens.now)) }
 {
     let (from, rest) = for_first(alloc, scope, room, tokens)?;
     let (from, ((check, step), rest)) = keeping(from, for_steps(alloc, scope, room, rest))?;
@@ -361,26 +402,17 @@ fn for_statement<'a>(
     ensures gives { Gives (λ x. (stmt x.0, toks x.1.now)) result (parts.for_parts (context scope.now) room (reading.bodies (context scope.now) room) (toks tokens.now)) }
 {
     let (head, rest) = for_head(alloc, scope, room, behind(tokens))?;
-    let body = statement(alloc, scope, room, rest);
-    let (head, (body, rest)) = keeping(head, body)?;
-    Ok((for_(alloc, head, body, span(scope, tokens, rest))?, rest))
+    let (head, (body, rest)) = keeping(head, inner(alloc, scope, room, rest))?;
+    Ok((for_(head, body, span(scope, tokens, rest)), rest))
 }
 
-fn for_(
-    alloc: Global,
-    head: (Option<Stmt>, Option<Expr>, Option<Expr>),
-    body: Stmt,
-    span: Span,
-) -> Result<Stmt, ReadErr>
-    ensures made { Gives stmt result (Ok (ForS (maybe (option_map stmt head.0)) (option_map expr head.1) (option_map expr head.2) (stmt body) span)) }
+fn for_(head: (Option<Box<Stmt>>, Option<Expr>, Option<Expr>), body: Box<Stmt>, span: Span) -> Stmt
+    ensures made { stmt result ≡ ForS (maybe (option_map boxed_stmt head.0)) (option_map expr head.1) (option_map expr head.2) (boxed_stmt body) span }
 {
-    let ((from, check, step), body) = keeping(head, boxed(alloc, body))?;
+    let (from, check, step) = head;
     match from {
-        None => Ok(for_bare(check, step, body, span)),
-        Some(from) => {
-            let ((check, step, body), from) = keeping((check, step, body), boxed(alloc, from))?;
-            Ok(for_from(from, check, step, body, span))
-        }
+        None => for_bare(check, step, body, span),
+        Some(from) => for_from(from, check, step, body, span),
     }
 }
 

@@ -13,17 +13,20 @@ decreases-statement l = 4 * l.room
 abbrev pub decreases-block : goal.decreases-block
 decreases-block l = 4 * l.room + 2
 
+abbrev pub decreases-inner : goal.decreases-inner
+decreases-inner l = 4 * l.room + 1
+
 abbrev pub decreases-guarded : goal.decreases-guarded
-decreases-guarded l = 4 * l.room + 1
+decreases-guarded l = 4 * l.room + 2
 
 abbrev pub decreases-otherwise : goal.decreases-otherwise
-decreases-otherwise l = 4 * l.room + 1
+decreases-otherwise l = 4 * l.room + 2
 
 abbrev pub decreases-switch_body : goal.decreases-switch_body
 decreases-switch_body l = 4 * l.room + 2
 
 abbrev pub decreases-while_statement : goal.decreases-while_statement
-decreases-while_statement l = 4 * l.room + 2
+decreases-while_statement l = 4 * l.room + 3
 
 abbrev pub decreases-do_statement : goal.decreases-do_statement
 decreases-do_statement l = 4 * l.room + 1
@@ -32,10 +35,10 @@ abbrev pub decreases-switch_statement : goal.decreases-switch_statement
 decreases-switch_statement l = 4 * l.room + 3
 
 abbrev pub decreases-if_statement : goal.decreases-if_statement
-decreases-if_statement l = 4 * l.room + 2
+decreases-if_statement l = 4 * l.room + 3
 
 abbrev pub decreases-for_statement : goal.decreases-for_statement
-decreases-for_statement l = 4 * l.room + 1
+decreases-for_statement l = 4 * l.room + 2
 
 abbrev pub decreases-statements : goal.decreases-statements
 decreases-statements l = 4 * l.room + 1

@@ -20,7 +20,12 @@ pub mod SoundUnits
 pub mod Turns
 pub mod Parts
 pub mod CodeSteps
+pub mod Single
 pub mod Locality
+pub mod LocalExpressions
+pub mod LocalDeclarations
+pub mod LocalStatements
+pub mod LocalUnits
 pub mod Shrinking
 pub mod NoUnit
 pub mod Placed
@@ -28,7 +33,6 @@ pub mod Less
 pub mod ListTurns
 pub mod VarLoops
 pub mod Skipped
-pub mod Single
 pub mod Told
 pub mod Completion
 pub mod OneToken

@@ -31,7 +31,10 @@ use Rattle.c_parse.specs.ReadingUnits.{record_by, enum_at, typedef_at, body_by, 
 use Rattle.c_parse.specs.ReadingLists.{pushed, comma_by, comma_turn, separated, more_turn, listed, brace_by, brace_turn, braced}
 use Rattle.c_parse.specs.Reading.{expr_at, level_at, type_read, Readers, run_more, run_with, type_mark_by, type_mark_turn, base_by, base, type_with, exprs_by, exprs_turn, exprs_with, arguments_by, named_by, primary_by, primary_with, suffix_by, is_some_suffix, suffix_turn_by, suffix_turn, postfix_with, unary_by, unary_with, of_level, operator_by, operator_turn, level_with, assigner_behind, assign_by, whole_with, readers}
 use Rattle.c_parse.specs.Reader.{◌>>=◌, Got, Reader, bad, deep, above, Turn, goes_on, repeat, loop, behind, bytes_at, must, is_behind, is_comma, at_comma, at_more, at_open_paren, at_close_paren, at_open_bracket, at_close_bracket, at_close_brace, at_open_brace, at_semicolon, at_assign, at_colon, at_while_word, at_else_word, no_room, is_name, name, is_new, new, at_star, close_brace, end_list}
-use Rattle.c_parse.proofs.Locality.{TurnsTake, ListsTake, Known}
+use Rattle.c_parse.proofs.Locality.{Takes}
+use Rattle.c_parse.proofs.LocalExpressions.{TurnsTake}
+use Rattle.c_parse.proofs.LocalDeclarations.{ListsTake}
+use Rattle.c_parse.proofs.LocalUnits.{Known}
 
 -- what is read leaves fewer than n tokens
 pub data Fewer {A : Type 0} (n : ℕ) : Result (Got A) Fault → Type 0 where
@@ -54,10 +57,6 @@ Shrinks f = (ts : List Tok) → Fewer (length ts) (f ts)
 
 abbrev pub Taking : {A : Type 0} → Turn A → Type 0
 Taking {A} t = (a : A) (ts : List Tok) → Turned (length ts) (t a ts)
-
--- each turn takes a token at least
-abbrev pub Takes : {A : Type 0} → Turn A → Type 0
-Takes {A} t = (a : A) (ts : List Tok) (x : Got A) → t a ts ≡ Ok (Some x) → length x.1 < length ts
 
 pub left_fewer : {A : Type 0} {n : ℕ} {r : Result (Got A) Fault} → Fewer n r → (x : Got A) → r ≡ Ok x → length x.1 < n
 left_fewer {A = A} (leaves {x = y} p) x e =

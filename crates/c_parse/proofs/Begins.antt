@@ -799,6 +799,3 @@ module _ (types : List (List ℕ)) (fresh : List ℕ) (is_fresh : is_type (recor
       suffixes_take = turns_of_suffixes (context_of t) (suc n);
       operators_take = turns_of_operators (context_of t) (suc n);
     }
-
-pub checked : ℕ → ℕ
-checked n = n

@@ -335,6 +335,3 @@ module _ (types : List (List ℕ)) (fresh : List ℕ) (is_fresh : is_type (recor
 
   pub params_word : Word ParamsQ
   params_word = record { tokens = []; takes = λ after p t. ([], d.no_params); plain = λ after p. p }
-
-pub checked : ℕ → ℕ
-checked n = n

@@ -142,6 +142,3 @@ end_good_by (o ∷ ts) true e = rw (comma_is o e) (comma_end ts (close_brace ts)
 
 pub end_list_good : (ts : List Tok) → GoodTokens ListEnd ts (end_list ts)
 end_list_good ts = end_good_by ts (at_comma ts) refl
-
-pub checked : ℕ → ℕ
-checked n = n

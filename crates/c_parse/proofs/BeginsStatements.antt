@@ -496,6 +496,3 @@ module _ (types : List (List ℕ)) (fresh : List ℕ) (is_fresh : is_type (recor
 
   pub body_good : (t room : ℕ) (ts : List Tok) → Good StmtsR ts (braced (stmt_read (ctx t) room) ts)
   body_good t room ts = braced_good StmtR StmtsR stmts_repeat (stmt_read (ctx t) room) (bodies_good t room).stmt (bodies_good t room).stmts_take ts
-
-pub checked : ℕ → ℕ
-checked n = n

@@ -689,6 +689,3 @@ pub deep_begun : (room : ℕ) (ts : List Tok) (n : ℕ) → unit_at room ts ≡ 
 deep_begun room ts n e =
     let h = unit_fault room ts (TooDeep n) e in let c = h.cut in let b = h.begun in let x = c.items (length (c.pre ++ (b.first ∷ b.behind_other))) in
     (c.pre, b.first, b.behind_one, b.behind_other, x.0, c.is ∙ ap (λ (z : List Tok). c.pre ++ z) b.one, sym (ap length b.one) ∙ c.size, subst (λ (z : List Tok). Items (record { total = length (c.pre ++ (b.first ∷ b.behind_other)); types = [] }) (c.pre ++ z) x.0) b.other x.1)
-
-pub checked : ℕ → ℕ
-checked n = n

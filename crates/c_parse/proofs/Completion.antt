@@ -237,6 +237,3 @@ above_turn_good P depth room ts r g d = by (nat_lt depth room)
     by : (b : Bool) → GoodTurn P ts (cond b r (deep ts))
     by true = g
     by false = d
-
-pub checked : ℕ → ℕ
-checked n = n

@@ -644,6 +644,3 @@ module _ (more more' : List Tok) (total total' : ℕ) (shift : total + length mo
     items = λ types. items_take (record { total = total; types = types });
     again = again;
   }
-
-pub checked : ℕ → ℕ
-checked n = n

@@ -6,8 +6,6 @@ use Rattle.c_parse.specs.declared.fault.Fault.{Fault}
 use Rattle.c_parse.specs.Tok.{Tok, keyword, mark}
 use Rattle.c_parse.specs.Reader.{◌>>=◌, Got, Reader, loop, behind, at_comma}
 use Rattle.c_parse.proofs.Single as single
-use Rattle.c_parse.proofs.Told as told
-use Rattle.c_parse.proofs.Told.{StartIs, start_is, LeadIs, lead_is, SuffixIs, suffix_is, TypeIs, type_is, TypeMarkIs, type_mark_is}
 use Rattle.c_parse.proofs.Single.{no_bracket, open_paren_is, close_paren_is, open_bracket_is, close_bracket_is, comma_is, star_is}
 use Rattle.c_parse.proofs.Completion.{Rule, Good, GoodTokens, GoodTurn, Word, Seq, Implies, widen_fault, widen_frame, widen, good_behind, fault_behind, frame_seq, bind_good, Repeats, repeats_word, TurnTakes, loop_good}
 use Rattle.c_parse.specs.Lists as lists

@@ -13,7 +13,6 @@ use Rattle.c_parse.specs.Leads.{begins_type, begins_expr}
 use Rattle.c_parse.specs.Reading.{level_at, expr_at}
 use Rattle.c_parse.proofs.Told as told
 use Rattle.c_parse.proofs.Told.{StartIs, start_is, LeadIs, lead_is, SuffixIs, suffix_is, TypeIs, type_is, TypeMarkIs, type_mark_is}
-use Rattle.c_parse.proofs.Single.{no_bracket, open_paren_is, close_paren_is, open_bracket_is, close_bracket_is, comma_is, star_is}
 use Rattle.c_parse.proofs.Completion.{Rule, Plain, Fits, Deep, GoodFault, Good, Word, Seq, Implies, widen_fault, widen, good_behind, fault_front, bind_good, bind_good_tokens, seq_word, first_wrong, first_deep, Repeats, repeats_word, TurnTakes}
 use Rattle.c_parse.specs.ReadingLists.{brace_turn, braced}
 use Rattle.c_parse.specs.Reader.{open_brace, close_brace, semicolon, colon, while_word}
@@ -21,7 +20,6 @@ use Rattle.c_parse.proofs.OneToken.{TokR, token_frame, open_paren_good, close_pa
 use Rattle.c_tree.specs.Tree.{VarT}
 use Rattle.c_parse.specs.Declarations.{Vars}
 use Rattle.c_parse.specs.ReadingDeclarations.{vars_at}
-use Rattle.c_parse.proofs.Single.{open_brace_is, close_brace_is, assign_is, void_word_is}
 use Rattle.c_parse.proofs.Shrinking.{turns_of_stmts, turns_of_arms}
 use Rattle.c_parse.proofs.Begins.{ExprR, LevelR, UnaryR, level_word, expr_word, unary_level, zero_unary, level_expr, unary_deep, type_deep}
 use Rattle.c_parse.proofs.BeginsLists.{mapped_good, mapped_tokens, braced_good, open_brace_good, close_brace_good, semicolon_good, colon_good, while_word_good, open_brace_word, close_brace_word, semicolon_word, colon_word, while_tok_word}

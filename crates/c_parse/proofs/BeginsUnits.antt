@@ -16,7 +16,7 @@ use Rattle.c_parse.specs.Reader.{◌>>=◌, Got, Reader, room_fault, goes_on, re
 use Rattle.c_parse.specs.Reading.{level_at, type_read}
 use Rattle.c_parse.proofs.Told as told
 use Rattle.c_parse.proofs.Told.{StartIs, start_is, LeadIs, lead_is, SuffixIs, suffix_is, TypeIs, type_is, TypeMarkIs, type_mark_is}
-use Rattle.c_parse.proofs.Single.{no_bracket, open_paren_is, close_paren_is, open_bracket_is, close_bracket_is, comma_is, star_is}
+use Rattle.c_parse.proofs.Single.{comma_is}
 use Rattle.c_parse.proofs.Completion.{Rule, Fits, Frame, Cut, Begun, Deep, GoodFault, Good, Word, Seq, Implies, widen_fault, widen_frame, widen, fits_part, good_behind, fault_behind, fault_front, bind_good, bind_good_tokens, seq_word, widen_word, first_wrong, first_deep}
 use Rattle.c_parse.specs.Lists as lists
 use Rattle.c_parse.specs.Lists.{Separated, ListEnd}
@@ -27,7 +27,7 @@ use Rattle.c_tree.specs.Tree.{VarT}
 use Rattle.c_parse.specs.Declarations as d
 use Rattle.c_parse.specs.Declarations.{Init, Inits, Field, Var, Vars, Member, Members, Param, Params, Value}
 use Rattle.c_parse.specs.ReadingDeclarations.{value_by, value, vars_at, members_at, params_at}
-use Rattle.c_parse.proofs.Single.{open_brace_is, close_brace_is, assign_is, void_word_is}
+use Rattle.c_parse.proofs.Single.{assign_is}
 use Rattle.c_parse.proofs.Shrinking.{turns_of_values}
 use Rattle.c_parse.proofs.Begins.{NameR, name_word, name_good, LevelR, TyR, level_word, type_word}
 use Rattle.c_parse.proofs.BeginsLists.{mapped_tokens, listed_good, OneR, SomeR, RestR, rest_repeat, rest_join, some_word, open_brace_good, close_brace_good, semicolon_good, close_brace_word, semicolon_word, list_end_word, end_list_good}
@@ -36,7 +36,6 @@ use Rattle.c_tree.specs.View.{stmts}
 use Rattle.c_parse.specs.Statements.{Stmts}
 use Rattle.c_parse.specs.ReadingStatements.{stmt_read}
 use Rattle.c_parse.proofs.Told.{StmtIs, stmt_is, ArmIs, arm_is}
-use Rattle.c_parse.proofs.Single.{no_else, else_word_is}
 use Rattle.c_parse.proofs.BeginsDeclarations.{type_read_good, level_read_good, VarsQ, vars_good}
 use Rattle.c_tree.specs.Tree.{ItemT, RecordD, EnumD, TypedefD, VarsD, FunctionD}
 use Rattle.c_parse.specs.declared.lead.ItemLead.{ItemLead}

@@ -1,38 +1,10 @@
 -- A token that must come next: reading it goes on, and what is at fault there can be completed.
-use Rattle.std.proofs.Common.{◌≡◌, ℕ, zero, suc, Bool, true, false, cond, eqb, List, [], ◌∷◌, ◌++◌, length, Option, Some, None, Result, Ok, Err, refl, sym, ap, subst, ◌∙◌, arith, ◌⊎◌, inl, inr}
-use Rattle.std.specs.Prelude.{nat_lt, ◌||◌}
-use Rattle.std.proofs.lemmas.Bool.{eqb-true}
-use Rattle.c_tree.specs.declared.operator.UnOp.{UnOp}
-use Rattle.c_tree.specs.declared.operator.StepOp.{StepOp}
-use Rattle.c_tree.specs.declared.operator.BinOp.{BinOp}
-use Rattle.c_tree.specs.Tree.{ExprT, ParenE, UnaryE, BinaryE, AssignE, StepE, IndexE, MemberE, ArrowE, CallE, CastE, SizeOfE, TypeT, IntY, BoolY, VoidY, NamedY, PointerY, ArrayY}
-use Rattle.c_tree.specs.View.{exprs}
-use Rattle.c_tree.specs.Depth.{expr_depth, type_depth}
+use Rattle.std.proofs.Common.{◌≡◌, Bool, true, false, List, [], ◌∷◌, refl, ap, inl, inr}
 use Rattle.c_lex.specs.declared.token.Punct.TheVariants as m
-use Rattle.c_parse.specs.declared.class.Key.TheVariants as key
-use Rattle.c_parse.specs.declared.fault.Fault.{Fault}
-use Rattle.c_parse.specs.declared.fault.Fault.TheVariants.{TooDeep}
-use Rattle.c_parse.specs.declared.lead.Start.{Start}
-use Rattle.c_parse.specs.declared.lead.Start.TheVariants as start
-use Rattle.c_parse.specs.declared.lead.Lead.{Lead}
-use Rattle.c_parse.specs.declared.lead.Lead.TheVariants as lead
-use Rattle.c_parse.specs.declared.lead.Suffix.{Suffix}
-use Rattle.c_parse.specs.declared.lead.Suffix.TheVariants as suffix
-use Rattle.c_parse.specs.declared.lead.TypeLead.{TypeLead}
-use Rattle.c_parse.specs.declared.lead.TypeMark.{TypeMark}
-use Rattle.c_parse.specs.Tok.{Tok, keyword, refused, word, number, character, text, mark}
-use Rattle.c_parse.specs.Scope.{Context, is_type, span}
-use Rattle.c_parse.specs.Marks.{prefix, step_before, step_behind, binary, assigner}
-use Rattle.c_parse.specs.Grammar as g
-use Rattle.c_parse.specs.Grammar.{NoBracket, Base, Ty, Run, Expr, Level, Tail, Unary, Suffixes, Primary, Exprs}
-use Rattle.c_parse.specs.Reader.{◌>>=◌, Got, bad, deep, room_fault, goes_on, repeat, loop, behind, must, is_behind, at_open_bracket, is_open_paren, at_open_paren, open_paren, is_close_paren, at_close_paren, close_paren, is_close_bracket, close_bracket, at_comma, at_star, name}
-use Rattle.c_parse.specs.Leads.{type_at, begins_type, type_mark_at, start_at, is_some_type, is_some_start, is_some_lead, begins_expr, lead_at, suffix_at}
-use Rattle.c_parse.specs.Reading.{Readers, run_more, run_with, type_mark_by, type_mark_turn, base_by, type_with, exprs_by, exprs_turn, exprs_with, arguments_by, arguments_with, named_by, primary_by, primary_with, suffix_by, is_some_suffix, suffix_turn_by, suffix_turn, postfix_with, unary_by, unary_with, of_level, operator_at, operator_by, operator_turn, level_with, is_unary, assigner_at, assigner_behind, assign_by, whole_with, readers}
-use Rattle.c_parse.proofs.Told as told
-use Rattle.c_parse.proofs.Told.{StartIs, start_is, LeadIs, lead_is, SuffixIs, suffix_is, TypeIs, type_is, TypeMarkIs, type_mark_is}
-use Rattle.c_parse.proofs.Single.{no_bracket, open_paren_is, close_paren_is, open_bracket_is, close_bracket_is, comma_is, star_is}
-use Rattle.c_parse.proofs.Shrinking.{turns_of_types, turns_of_exprs, turns_of_suffixes, turns_of_operators}
-use Rattle.c_parse.proofs.Completion.{Rule, Plain, Fits, Frame, Deep, GoodFault, Good, GoodTokens, GoodTurn, Word, Seq, Implies, widen_fault, widen_frame, widen, good_behind, fault_behind, frame_seq, fault_front, bind_good, bind_good_tokens, seq_word, first_wrong, first_deep, Repeats, repeats_word, TurnTakes, repeat_good, loop_good, above_good, above_turn_good}
+use Rattle.c_parse.specs.Tok.{Tok, mark}
+use Rattle.c_parse.specs.Reader.{behind, must, is_behind, at_open_bracket, is_open_paren, open_paren, is_close_paren, close_paren, is_close_bracket, close_bracket}
+use Rattle.c_parse.proofs.Single.{open_paren_is, close_paren_is, close_bracket_is}
+use Rattle.c_parse.proofs.Completion.{Rule, Plain, Fits, Frame, GoodTokens, Word, first_wrong}
 
 abbrev pub TokR : Tok → Rule
 TokR o ts rest = ts ≡ o ∷ rest

@@ -1,33 +1,11 @@
 -- What the tests of a single token tell of it.
-use Rattle.std.proofs.Common.{◌≡◌, ℕ, Bool, true, false, cond, List, [], ◌∷◌, Some, refl}
-use Rattle.c_tree.specs.declared.operator.UnOp.{UnOp}
-use Rattle.c_tree.specs.declared.operator.StepOp.{StepOp}
+use Rattle.std.proofs.Common.{◌≡◌, true, false, List, [], ◌∷◌, refl}
 use Rattle.c_lex.specs.declared.token.Punct.TheVariants as m
 use Rattle.c_parse.specs.declared.class.Key.TheVariants as key
-use Rattle.c_parse.specs.declared.lead.Start.{Start}
-use Rattle.c_parse.specs.declared.lead.Start.TheVariants as start
-use Rattle.c_parse.specs.declared.lead.Lead.{Lead}
-use Rattle.c_parse.specs.declared.lead.Lead.TheVariants as lead
-use Rattle.c_parse.specs.declared.lead.Suffix.{Suffix}
-use Rattle.c_parse.specs.declared.lead.Suffix.TheVariants as suffix
-use Rattle.c_parse.specs.declared.lead.TypeLead.{TypeLead}
-use Rattle.c_parse.specs.declared.lead.TypeLead.TheVariants as type_
-use Rattle.c_parse.specs.declared.lead.TypeMark.{TypeMark}
-use Rattle.c_parse.specs.declared.lead.TypeMark.TheVariants as type_mark
-use Rattle.c_parse.specs.declared.lead.StmtLead.{StmtLead}
-use Rattle.c_parse.specs.declared.lead.StmtLead.TheVariants as stmt
-use Rattle.c_parse.specs.declared.lead.ArmLead.{ArmLead}
-use Rattle.c_parse.specs.declared.lead.ArmLead.TheVariants as arm
-use Rattle.c_parse.specs.declared.lead.ItemLead.{ItemLead}
-use Rattle.c_parse.specs.declared.lead.ItemLead.TheVariants as item
 use Rattle.c_parse.specs.Tok.{Tok, keyword, refused, word, number, character, text, mark}
-use Rattle.c_parse.specs.Scope.{Context, is_type}
-use Rattle.c_parse.specs.Marks.{prefix, step_before, step_behind, value}
 use Rattle.c_parse.specs.Grammar.{NoBracket}
 use Rattle.c_parse.specs.Statements.{NoElse}
-use Rattle.c_parse.specs.Units.{record_word}
-use Rattle.c_parse.specs.Reader.{is_open_paren, is_close_paren, is_open_bracket, is_close_bracket, is_open_brace, is_close_brace, is_semicolon, is_comma, is_colon, is_assign, is_star, is_else_word, is_while_word, is_void_word, at_open_bracket, at_else_word, at_star}
-use Rattle.c_parse.specs.Leads.{type_at, begins_type, type_mark_at, start_at, lead_at, suffix_at, stmt_at, arm_at, item_at}
+use Rattle.c_parse.specs.Reader.{is_open_paren, is_close_paren, is_open_bracket, is_close_bracket, is_open_brace, is_close_brace, is_semicolon, is_comma, is_colon, is_assign, is_star, is_else_word, is_while_word, is_void_word, at_open_bracket, at_else_word}
 
 pub open_paren_is : (o : Tok) → is_open_paren o ≡ true → o ≡ mark m.OpenParen
 open_paren_is (keyword k) e = absurd cc

@@ -23,10 +23,8 @@ use Rattle.c_parse.specs.declared.lead.ItemLead.TheVariants as item
 use Rattle.c_parse.specs.Tok.{Tok, keyword, refused, word, number, character, text, mark}
 use Rattle.c_parse.specs.Scope.{Context, is_type}
 use Rattle.c_parse.specs.Marks.{prefix, step_before, step_behind, value}
-use Rattle.c_parse.specs.Grammar.{NoBracket}
-use Rattle.c_parse.specs.Statements.{NoElse}
 use Rattle.c_parse.specs.Units.{record_word}
-use Rattle.c_parse.specs.Reader.{is_open_paren, is_close_paren, is_open_bracket, is_close_bracket, is_open_brace, is_close_brace, is_semicolon, is_comma, is_colon, is_assign, is_star, is_else_word, is_while_word, is_void_word, at_open_bracket, at_else_word, at_star}
+use Rattle.c_parse.specs.Reader.{at_star}
 use Rattle.c_parse.specs.Leads.{type_at, begins_type, type_mark_at, start_at, lead_at, suffix_at, stmt_at, arm_at, item_at}
 
 pub data StartIs (c : Context) : List Tok → Start → Type 0 where

@@ -1,6 +1,6 @@
 -- Reading statements in parts: what stands before the statements inside one, and what stands behind them, each on its own.
 use Rattle.std.specs.Prelude.{ℕ, Bool, true, false, List, Option, Result, Ok}
-use Rattle.c_tree.specs.Tree.{ExprT, StmtT, IfS, WhileS, DoWhileS, ForS, SwitchS, MaybeS, NoneS, SomeS, ArmT}
+use Rattle.c_tree.specs.Tree.{ExprT, StmtT, IfS, WhileS, DoWhileS, ForS, SwitchS, MaybeS, NoneS, SomeS}
 use Rattle.c_tree.specs.View.{arms}
 use Rattle.c_parse.specs.declared.fault.Fault.{Fault}
 use Rattle.c_parse.specs.declared.lead.StmtLead.{StmtLead}

@@ -10,7 +10,7 @@ use Rattle.c_parse.specs.Reading.{operator_at, is_some_suffix, readers}
 use Rattle.c_tree.specs.View.{expr, type}
 use Rattle.c_tree.specs.Depth.{expr_depth, type_depth}
 use Rattle.c_parse.proofs.FrontsRead.{star-is, bracket-is}
-use Rattle.c_parse.proofs.Loops.{goes_end, goes_err, goes_fail, goes_turn, fails_on}
+use Rattle.c_parse.proofs.Loops.{goes_end, goes_fail, goes_turn, fails_on}
 use Rattle.c_parse.proofs.Steps.{first_fails, levels_fail, level_next, run_step}
 use Rattle.c_parse.proofs.Sizes.{expr_shorter, level_shorter, run_shorter}
 use Rattle.c_parse.proofs.Soundness.{expr_derived, level_derived, run_derived}

@@ -1,4 +1,4 @@
-use Rattle.std.proofs.Common.{◌≡◌, ◌∙◌, List, ℕ, ap, sym}
+use Rattle.std.proofs.Common.{◌∙◌, List, ℕ, ap, sym}
 use Rattle.c_parse.proofs.Known.{Key, in_table, in_names, added}
 use Rattle.c_parse.proofs.types.Types.add.Goals as goal
 

@@ -1,4 +1,4 @@
-use Rattle.std.proofs.Common.{◌≡◌, ◌∙◌, List, ℕ, ap}
+use Rattle.std.proofs.Common.{◌∙◌, List, ℕ, ap}
 use Rattle.c_parse.proofs.Known.{in_names}
 use Rattle.c_parse.proofs.types.Types.has.Goals as goal
 

@@ -19,7 +19,7 @@ void define_regions()
     select_region(block_region);
     define_region(0, 0, 31, 31, 0, 0);
     select_region(coin_region);
-    define_region(32, 0, 47, 15, 0, 0);
+    define_region(32, 0, 47, 15, 32, 0);
 }
 
 // the way of a frame along one axis, by the counts of its two controls

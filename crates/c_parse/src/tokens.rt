@@ -63,103 +63,79 @@ fn must(found: bool, tokens: &[Token]) -> Result<&[Token], ReadErr>
     Ok(behind(tokens))
 }
 
+pub(crate) fn at(mark: Punct, tokens: &[Token]) -> bool
+    ensures { result ≡ reader.at_mark mark (toks tokens.now) }
+{
+    match next(tokens) {
+        Some((Class::Mark(found), _, _)) => found == mark,
+        _ => false,
+    }
+}
+
 pub(crate) fn at_open_paren(tokens: &[Token]) -> bool
     ensures { result ≡ reader.at_open_paren (toks tokens.now) }
 {
-    match next(tokens) {
-        Some((Class::Mark(Punct::OpenParen), _, _)) => true,
-        _ => false,
-    }
+    at(Punct::OpenParen, tokens)
 }
 
 pub(crate) fn at_close_paren(tokens: &[Token]) -> bool
     ensures { result ≡ reader.at_close_paren (toks tokens.now) }
 {
-    match next(tokens) {
-        Some((Class::Mark(Punct::CloseParen), _, _)) => true,
-        _ => false,
-    }
+    at(Punct::CloseParen, tokens)
 }
 
 pub(crate) fn at_open_bracket(tokens: &[Token]) -> bool
     ensures { result ≡ reader.at_open_bracket (toks tokens.now) }
 {
-    match next(tokens) {
-        Some((Class::Mark(Punct::OpenBracket), _, _)) => true,
-        _ => false,
-    }
+    at(Punct::OpenBracket, tokens)
 }
 
 fn at_close_bracket(tokens: &[Token]) -> bool
     ensures { result ≡ reader.at_close_bracket (toks tokens.now) }
 {
-    match next(tokens) {
-        Some((Class::Mark(Punct::CloseBracket), _, _)) => true,
-        _ => false,
-    }
+    at(Punct::CloseBracket, tokens)
 }
 
 pub(crate) fn at_open_brace(tokens: &[Token]) -> bool
     ensures { result ≡ reader.at_open_brace (toks tokens.now) }
 {
-    match next(tokens) {
-        Some((Class::Mark(Punct::OpenBrace), _, _)) => true,
-        _ => false,
-    }
+    at(Punct::OpenBrace, tokens)
 }
 
 pub(crate) fn at_close_brace(tokens: &[Token]) -> bool
     ensures { result ≡ reader.at_close_brace (toks tokens.now) }
 {
-    match next(tokens) {
-        Some((Class::Mark(Punct::CloseBrace), _, _)) => true,
-        _ => false,
-    }
+    at(Punct::CloseBrace, tokens)
 }
 
 pub(crate) fn at_semicolon(tokens: &[Token]) -> bool
     ensures { result ≡ reader.at_semicolon (toks tokens.now) }
 {
-    match next(tokens) {
-        Some((Class::Mark(Punct::Semicolon), _, _)) => true,
-        _ => false,
-    }
+    at(Punct::Semicolon, tokens)
 }
 
 pub(crate) fn at_comma(tokens: &[Token]) -> bool
     ensures { result ≡ reader.at_comma (toks tokens.now) }
 {
-    match next(tokens) {
-        Some((Class::Mark(Punct::Comma), _, _)) => true,
-        _ => false,
-    }
+    at(Punct::Comma, tokens)
 }
 
 fn at_colon(tokens: &[Token]) -> bool
     ensures { result ≡ reader.at_colon (toks tokens.now) }
 {
-    match next(tokens) {
-        Some((Class::Mark(Punct::Colon), _, _)) => true,
-        _ => false,
-    }
+    at(Punct::Colon, tokens)
 }
 
 pub(crate) fn at_assign(tokens: &[Token]) -> bool
     ensures { result ≡ reader.at_assign (toks tokens.now) }
 {
-    match next(tokens) {
-        Some((Class::Mark(Punct::Assign), _, _)) => true,
-        _ => false,
-    }
+    at(Punct::Assign, tokens)
 }
 
 pub(crate) fn at_star(tokens: &[Token]) -> bool
     ensures { result ≡ reader.at_star (toks tokens.now) }
 {
-    match next(tokens) {
-        Some((Class::Mark(Punct::Star), _, _)) => true,
-        _ => false,
-    }
+    at(Punct::Star, tokens)
 }
 
 pub(crate) fn at_else_word(tokens: &[Token]) -> bool

@@ -63,6 +63,7 @@ fn must(found: bool, tokens: &[Token]) -> Result<&[Token], ReadErr>
     Ok(behind(tokens))
 }
 
+/// Whether that mark comes next.
 pub(crate) fn at(mark: Punct, tokens: &[Token]) -> bool
     ensures { result ≡ reader.at_mark mark (toks tokens.now) }
 {
@@ -70,72 +71,6 @@ pub(crate) fn at(mark: Punct, tokens: &[Token]) -> bool
         Some((Class::Mark(found), _, _)) => found == mark,
         _ => false,
     }
-}
-
-pub(crate) fn at_open_paren(tokens: &[Token]) -> bool
-    ensures { result ≡ reader.at_open_paren (toks tokens.now) }
-{
-    at(Punct::OpenParen, tokens)
-}
-
-pub(crate) fn at_close_paren(tokens: &[Token]) -> bool
-    ensures { result ≡ reader.at_close_paren (toks tokens.now) }
-{
-    at(Punct::CloseParen, tokens)
-}
-
-pub(crate) fn at_open_bracket(tokens: &[Token]) -> bool
-    ensures { result ≡ reader.at_open_bracket (toks tokens.now) }
-{
-    at(Punct::OpenBracket, tokens)
-}
-
-fn at_close_bracket(tokens: &[Token]) -> bool
-    ensures { result ≡ reader.at_close_bracket (toks tokens.now) }
-{
-    at(Punct::CloseBracket, tokens)
-}
-
-pub(crate) fn at_open_brace(tokens: &[Token]) -> bool
-    ensures { result ≡ reader.at_open_brace (toks tokens.now) }
-{
-    at(Punct::OpenBrace, tokens)
-}
-
-pub(crate) fn at_close_brace(tokens: &[Token]) -> bool
-    ensures { result ≡ reader.at_close_brace (toks tokens.now) }
-{
-    at(Punct::CloseBrace, tokens)
-}
-
-pub(crate) fn at_semicolon(tokens: &[Token]) -> bool
-    ensures { result ≡ reader.at_semicolon (toks tokens.now) }
-{
-    at(Punct::Semicolon, tokens)
-}
-
-pub(crate) fn at_comma(tokens: &[Token]) -> bool
-    ensures { result ≡ reader.at_comma (toks tokens.now) }
-{
-    at(Punct::Comma, tokens)
-}
-
-fn at_colon(tokens: &[Token]) -> bool
-    ensures { result ≡ reader.at_colon (toks tokens.now) }
-{
-    at(Punct::Colon, tokens)
-}
-
-pub(crate) fn at_assign(tokens: &[Token]) -> bool
-    ensures { result ≡ reader.at_assign (toks tokens.now) }
-{
-    at(Punct::Assign, tokens)
-}
-
-pub(crate) fn at_star(tokens: &[Token]) -> bool
-    ensures { result ≡ reader.at_star (toks tokens.now) }
-{
-    at(Punct::Star, tokens)
 }
 
 pub(crate) fn at_else_word(tokens: &[Token]) -> bool
@@ -168,43 +103,43 @@ pub(crate) fn at_void_word(tokens: &[Token]) -> bool
 pub(crate) fn open_paren(tokens: &[Token]) -> Result<&[Token], ReadErr>
     ensures { Gives (λ x. toks x.now) result (reader.open_paren (toks tokens.now)) }
 {
-    must(at_open_paren(tokens), tokens)
+    must(at(Punct::OpenParen, tokens), tokens)
 }
 
 pub(crate) fn close_paren(tokens: &[Token]) -> Result<&[Token], ReadErr>
     ensures { Gives (λ x. toks x.now) result (reader.close_paren (toks tokens.now)) }
 {
-    must(at_close_paren(tokens), tokens)
+    must(at(Punct::CloseParen, tokens), tokens)
 }
 
 pub(crate) fn close_bracket(tokens: &[Token]) -> Result<&[Token], ReadErr>
     ensures { Gives (λ x. toks x.now) result (reader.close_bracket (toks tokens.now)) }
 {
-    must(at_close_bracket(tokens), tokens)
+    must(at(Punct::CloseBracket, tokens), tokens)
 }
 
 pub(crate) fn open_brace(tokens: &[Token]) -> Result<&[Token], ReadErr>
     ensures { Gives (λ x. toks x.now) result (reader.open_brace (toks tokens.now)) }
 {
-    must(at_open_brace(tokens), tokens)
+    must(at(Punct::OpenBrace, tokens), tokens)
 }
 
 pub(crate) fn close_brace(tokens: &[Token]) -> Result<&[Token], ReadErr>
     ensures { Gives (λ x. toks x.now) result (reader.close_brace (toks tokens.now)) }
 {
-    must(at_close_brace(tokens), tokens)
+    must(at(Punct::CloseBrace, tokens), tokens)
 }
 
 pub(crate) fn semicolon(tokens: &[Token]) -> Result<&[Token], ReadErr>
     ensures { Gives (λ x. toks x.now) result (reader.semicolon (toks tokens.now)) }
 {
-    must(at_semicolon(tokens), tokens)
+    must(at(Punct::Semicolon, tokens), tokens)
 }
 
 pub(crate) fn colon(tokens: &[Token]) -> Result<&[Token], ReadErr>
     ensures { Gives (λ x. toks x.now) result (reader.colon (toks tokens.now)) }
 {
-    must(at_colon(tokens), tokens)
+    must(at(Punct::Colon, tokens), tokens)
 }
 
 pub(crate) fn while_word(tokens: &[Token]) -> Result<&[Token], ReadErr>
@@ -275,13 +210,13 @@ pub(crate) fn new(alloc: Global, tokens: &[Token]) -> Result<(Name, &[Token]), R
 pub(crate) fn at_more(tokens: &[Token]) -> bool
     ensures { result ≡ reader.at_more (toks tokens.now) }
 {
-    at_comma(tokens) && !at_close_brace(behind(tokens))
+    at(Punct::Comma, tokens) && !at(Punct::CloseBrace, behind(tokens))
 }
 
 pub(crate) fn end_list(tokens: &[Token]) -> Result<&[Token], ReadErr>
     ensures { Gives (λ x. toks x.now) result (reader.end_list (toks tokens.now)) }
 {
-    if at_comma(tokens) {
+    if at(Punct::Comma, tokens) {
         return close_brace(behind(tokens));
     }
     close_brace(tokens)

@@ -1,5 +1,8 @@
 -- Reading from left to right: the parts of which the readers are made.
 use Rattle.std.specs.Prelude.{ℕ, zero, suc, Bool, true, false, List, [], ◌∷◌, length, Option, Some, None, Result, Ok, Err, nat_lt, if◌then◌else◌}
+use denote.Enum.Bare.{sameb}
+use Rattle.c_lex.specs.contracts.token.Punct.{the_type}
+use Rattle.c_lex.specs.declared.token.Punct.{Punct}
 use Rattle.c_lex.specs.declared.token.Punct.TheVariants as m
 use Rattle.c_parse.specs.declared.fault.Fault.{Fault}
 use Rattle.c_parse.specs.declared.fault.Fault.TheVariants.{Syntax, TooDeep}
@@ -72,123 +75,110 @@ abbrev pub must : Option (List Tok) → List Tok → Result (List Tok) Fault
 must (Some rest) ts = Ok rest
 must None ts = bad ts
 
+-- the token is that mark
+abbrev pub is_mark : Punct → Tok → Bool
+is_mark p (mark q) = sameb the_type q p
+is_mark p _ = false
+
+abbrev pub at_mark : Punct → List Tok → Bool
+at_mark p [] = false
+at_mark p (o ∷ ts) = is_mark p o
+
 abbrev pub is_open_paren : Tok → Bool
-is_open_paren (mark m.OpenParen) = true
-is_open_paren _ = false
+is_open_paren o = is_mark m.OpenParen o
 
 abbrev pub at_open_paren : List Tok → Bool
-at_open_paren [] = false
-at_open_paren (o ∷ ts) = is_open_paren o
+at_open_paren ts = at_mark m.OpenParen ts
 
 abbrev pub open_paren : List Tok → Result (List Tok) Fault
 open_paren ts = must (is_behind ts (at_open_paren ts)) ts
 
 abbrev pub is_close_paren : Tok → Bool
-is_close_paren (mark m.CloseParen) = true
-is_close_paren _ = false
+is_close_paren o = is_mark m.CloseParen o
 
 abbrev pub at_close_paren : List Tok → Bool
-at_close_paren [] = false
-at_close_paren (o ∷ ts) = is_close_paren o
+at_close_paren ts = at_mark m.CloseParen ts
 
 abbrev pub close_paren : List Tok → Result (List Tok) Fault
 close_paren ts = must (is_behind ts (at_close_paren ts)) ts
 
 abbrev pub is_open_bracket : Tok → Bool
-is_open_bracket (mark m.OpenBracket) = true
-is_open_bracket _ = false
+is_open_bracket o = is_mark m.OpenBracket o
 
 abbrev pub at_open_bracket : List Tok → Bool
-at_open_bracket [] = false
-at_open_bracket (o ∷ ts) = is_open_bracket o
+at_open_bracket ts = at_mark m.OpenBracket ts
 
 abbrev pub open_bracket : List Tok → Result (List Tok) Fault
 open_bracket ts = must (is_behind ts (at_open_bracket ts)) ts
 
 abbrev pub is_close_bracket : Tok → Bool
-is_close_bracket (mark m.CloseBracket) = true
-is_close_bracket _ = false
+is_close_bracket o = is_mark m.CloseBracket o
 
 abbrev pub at_close_bracket : List Tok → Bool
-at_close_bracket [] = false
-at_close_bracket (o ∷ ts) = is_close_bracket o
+at_close_bracket ts = at_mark m.CloseBracket ts
 
 abbrev pub close_bracket : List Tok → Result (List Tok) Fault
 close_bracket ts = must (is_behind ts (at_close_bracket ts)) ts
 
 abbrev pub is_open_brace : Tok → Bool
-is_open_brace (mark m.OpenBrace) = true
-is_open_brace _ = false
+is_open_brace o = is_mark m.OpenBrace o
 
 abbrev pub at_open_brace : List Tok → Bool
-at_open_brace [] = false
-at_open_brace (o ∷ ts) = is_open_brace o
+at_open_brace ts = at_mark m.OpenBrace ts
 
 abbrev pub open_brace : List Tok → Result (List Tok) Fault
 open_brace ts = must (is_behind ts (at_open_brace ts)) ts
 
 abbrev pub is_close_brace : Tok → Bool
-is_close_brace (mark m.CloseBrace) = true
-is_close_brace _ = false
+is_close_brace o = is_mark m.CloseBrace o
 
 abbrev pub at_close_brace : List Tok → Bool
-at_close_brace [] = false
-at_close_brace (o ∷ ts) = is_close_brace o
+at_close_brace ts = at_mark m.CloseBrace ts
 
 abbrev pub close_brace : List Tok → Result (List Tok) Fault
 close_brace ts = must (is_behind ts (at_close_brace ts)) ts
 
 abbrev pub is_semicolon : Tok → Bool
-is_semicolon (mark m.Semicolon) = true
-is_semicolon _ = false
+is_semicolon o = is_mark m.Semicolon o
 
 abbrev pub at_semicolon : List Tok → Bool
-at_semicolon [] = false
-at_semicolon (o ∷ ts) = is_semicolon o
+at_semicolon ts = at_mark m.Semicolon ts
 
 abbrev pub semicolon : List Tok → Result (List Tok) Fault
 semicolon ts = must (is_behind ts (at_semicolon ts)) ts
 
 abbrev pub is_comma : Tok → Bool
-is_comma (mark m.Comma) = true
-is_comma _ = false
+is_comma o = is_mark m.Comma o
 
 abbrev pub at_comma : List Tok → Bool
-at_comma [] = false
-at_comma (o ∷ ts) = is_comma o
+at_comma ts = at_mark m.Comma ts
 
 abbrev pub comma : List Tok → Result (List Tok) Fault
 comma ts = must (is_behind ts (at_comma ts)) ts
 
 abbrev pub is_colon : Tok → Bool
-is_colon (mark m.Colon) = true
-is_colon _ = false
+is_colon o = is_mark m.Colon o
 
 abbrev pub at_colon : List Tok → Bool
-at_colon [] = false
-at_colon (o ∷ ts) = is_colon o
+at_colon ts = at_mark m.Colon ts
 
 abbrev pub colon : List Tok → Result (List Tok) Fault
 colon ts = must (is_behind ts (at_colon ts)) ts
 
 abbrev pub is_assign : Tok → Bool
-is_assign (mark m.Assign) = true
-is_assign _ = false
+is_assign o = is_mark m.Assign o
 
 abbrev pub at_assign : List Tok → Bool
-at_assign [] = false
-at_assign (o ∷ ts) = is_assign o
+at_assign ts = at_mark m.Assign ts
 
 abbrev pub assign : List Tok → Result (List Tok) Fault
 assign ts = must (is_behind ts (at_assign ts)) ts
 
 abbrev pub is_star : Tok → Bool
-is_star (mark m.Star) = true
-is_star _ = false
+is_star o = is_mark m.Star o
 
 abbrev pub at_star : List Tok → Bool
-at_star [] = false
-at_star (o ∷ ts) = is_star o
+at_star ts = at_mark m.Star ts
 
 abbrev pub star : List Tok → Result (List Tok) Fault
 star ts = must (is_behind ts (at_star ts)) ts

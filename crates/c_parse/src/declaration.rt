@@ -11,11 +11,8 @@ use crate::fault::ReadErr;
 use crate::keeping::keeping;
 use crate::leading::{begins_expr, begins_type};
 use crate::scope::{Scope, span};
-use crate::tokens::{
-    at_assign, at_close_brace, at_close_paren, at_comma, at_more, at_open_brace, at_void_word,
-    behind, end_list, name, no_room, semicolon,
-};
-use c_lex::Token;
+use crate::tokens::{at, at_more, at_void_word, behind, end_list, name, no_room, semicolon};
+use c_lex::{Punct, Token};
 use c_tree::{Expr, Init, TypeTree, Var};
 use kit_base::{Name, Seq};
 use std::alloc::Global;
@@ -31,9 +28,12 @@ fn initial<'a>(
     ensures gives { Gives (λ x. (init x.0, toks x.1.now)) result (reading.init_at (context scope.now) room (toks tokens.now)) }
 {
     if room == 0 {
-        return Err(no_room(at_open_brace(tokens) || begins_expr(scope, tokens), tokens));
+        return Err(no_room(
+            at(Punct::OpenBrace, tokens) || begins_expr(scope, tokens),
+            tokens,
+        ));
     }
-    if !at_open_brace(tokens) {
+    if !at(Punct::OpenBrace, tokens) {
         let (e, _depth, rest) = expression(alloc, scope, room - 1, tokens)?;
         return Ok((Init::One(e), rest));
     }
@@ -84,7 +84,7 @@ fn variable<'a>(
     ensures gives { Gives (λ x. (var x.0, toks x.1.now)) result (reading.var (context scope.now) room (type ty) (toks tokens.now)) }
 {
     let (ty, (name, rest)) = keeping(ty, name(alloc, scope, tokens))?;
-    if !at_assign(rest) {
+    if !at(Punct::Assign, rest) {
         let span = span(scope, tokens, rest);
         return Ok((
             Var {
@@ -127,7 +127,7 @@ pub(crate) fn variables<'a>(
     let mut found = Vec::new(alloc);
     let (first, mut rest) = variable(alloc, scope, room - 1, ty, rest)?;
     found.push(first)?;
-    'variables: while at_comma(rest) {
+    'variables: while at(Punct::Comma, rest) {
         let (ty, _depth, _behind_type) = type_tree(alloc, scope, room - 1, tokens)?;
         let (next, after) = variable(alloc, scope, room - 1, ty, behind(rest))?;
         found.push(next)?;
@@ -154,7 +154,7 @@ fn member<'a>(
     let (first, mut rest) = field(alloc, scope, ty, rest)?;
     let mut found = before;
     found.push(first)?;
-    'fields: while at_comma(rest) {
+    'fields: while at(Punct::Comma, rest) {
         let (ty, _depth, _behind_type) = type_tree(alloc, scope, room - 1, tokens)?;
         let (next, after) = field(alloc, scope, ty, behind(rest))?;
         found.push(next)?;
@@ -173,7 +173,7 @@ pub(crate) fn members<'a>(
     ensures gives { Gives (λ x. (map var x.0, toks x.1.now)) result (reading.members_at (context scope.now) room (toks tokens.now)) }
 {
     let (mut found, mut rest) = member(alloc, scope, room, Vec::new(alloc), tokens)?;
-    'members: while !at_close_brace(rest) {
+    'members: while !at(Punct::CloseBrace, rest) {
         let (more, after) = member(alloc, scope, room, found, rest)?;
         found = more;
         rest = after;
@@ -200,7 +200,7 @@ fn parameter<'a>(
 fn at_void(tokens: &[Token]) -> bool
     ensures { result ≡ reading.at_void (toks tokens.now) }
 {
-    at_void_word(tokens) && at_close_paren(behind(tokens))
+    at_void_word(tokens) && at(Punct::CloseParen, behind(tokens))
 }
 
 pub(crate) fn parameters<'a>(
@@ -212,7 +212,7 @@ pub(crate) fn parameters<'a>(
     ensures gives { Gives (λ x. (map var x.0, toks x.1.now)) result (reading.params_at (context scope.now) room (toks tokens.now)) }
 {
     let mut found = Vec::new(alloc);
-    if at_close_paren(tokens) {
+    if at(Punct::CloseParen, tokens) {
         return Ok((Seq::from_vec(found), tokens));
     }
     if at_void(tokens) {
@@ -220,7 +220,7 @@ pub(crate) fn parameters<'a>(
     }
     let (first, mut rest) = parameter(alloc, scope, room, tokens)?;
     found.push(first)?;
-    'parameters: while at_comma(rest) {
+    'parameters: while at(Punct::Comma, rest) {
         let (next, after) = parameter(alloc, scope, room, behind(rest))?;
         found.push(next)?;
         rest = after;
@@ -237,7 +237,7 @@ fn value<'a>(
     ensures gives { Gives (λ x. ((x.0.0, option_map expr x.0.1), toks x.1.now)) result (reading.value (context scope.now) room (toks tokens.now)) }
 {
     let (name, rest) = name(alloc, scope, tokens)?;
-    if !at_assign(rest) {
+    if !at(Punct::Assign, rest) {
         return Ok(((name, None), rest));
     }
     let (e, _depth, rest) = level(alloc, scope, room, 10, behind(rest))?;

@@ -20,10 +20,9 @@ use crate::leading::{
 };
 use crate::scope::{Scope, span};
 use crate::tokens::{
-    at_close_paren, at_comma, at_open_bracket, at_open_paren, at_star, bad, behind, close_bracket,
-    close_paren, name, no_room, open_paren, raised, word,
+    at, bad, behind, close_bracket, close_paren, name, no_room, open_paren, raised, word,
 };
-use c_lex::Token;
+use c_lex::{Punct, Token};
 use c_tree::building::{
     array, arrow, assign, binary, cast, index, member, paren, pointer, step, unary,
 };
@@ -377,7 +376,7 @@ fn named<'a>(
 {
     let rest = behind(tokens);
     let n = word(alloc, tokens)?;
-    if !at_open_paren(rest) {
+    if !at(Punct::OpenParen, rest) {
         return Ok((Expr::Name(n, span(scope, tokens, rest)), 1, rest));
     }
     let found = arguments(alloc, scope, room - 1, behind(rest));
@@ -421,12 +420,12 @@ fn arguments<'a>(
     ensures fits { IfOk result (λ x. x.1 ≤ room) }
 {
     let mut found = Vec::new(alloc);
-    if at_close_paren(tokens) {
+    if at(Punct::CloseParen, tokens) {
         return Ok((Seq::from_vec(found), 0, behind(tokens)));
     }
     let (first, mut depth, mut rest) = expression(alloc, scope, room, tokens)?;
     found.push(first)?;
-    'arguments: while at_comma(rest) {
+    'arguments: while at(Punct::Comma, rest) {
         let (next, next_depth, after) = expression(alloc, scope, room, behind(rest))?;
         found.push(next)?;
         depth = depth.max(next_depth);
@@ -450,7 +449,7 @@ fn base<'a>(
         TypeLead::Bool => Ok((TypeTree::Bool, rest)),
         TypeLead::Named => Ok((TypeTree::Named(word(alloc, tokens)?), rest)),
         TypeLead::Void => {
-            if !at_star(rest) {
+            if !at(Punct::Star, rest) {
                 return Err(bad(rest));
             }
             Ok((TypeTree::Void, rest))
@@ -515,7 +514,7 @@ fn run<'a>(
     let found = level(alloc, scope, room - 1, 10, behind(tokens));
     let (ty, (size, size_depth, rest)) = keeping(ty, found)?;
     let ((ty, size), rest) = keeping((ty, size), close_bracket(rest))?;
-    if !at_open_bracket(rest) {
+    if !at(Punct::OpenBracket, rest) {
         return Ok((array(alloc, ty, size)?, depth.max(size_depth) + 1, rest));
     }
     let found = run(alloc, scope, room - 1, ty, depth, rest);

@@ -10,7 +10,7 @@ ghost use Rattle.c_tree.specs.View.{expr};
 use crate::class::{Class, Key, next};
 use crate::lead::{ArmLead, ItemLead, Lead, Start, StmtLead, Suffix, TypeLead, TypeMark};
 use crate::scope::{Scope, bytes_of, is_type};
-use crate::tokens::at_star;
+use crate::tokens::at;
 use c_lex::{Punct, Token};
 use c_tree::{BinOp, Expr, StepOp, UnOp};
 
@@ -258,7 +258,7 @@ pub(crate) fn item_at(tokens: &[Token]) -> ItemLead
         Some((Class::Key(Key::Enum), _, _)) => ItemLead::Enum,
         Some((Class::Key(Key::Typedef), _, _)) => ItemLead::Typedef,
         Some((Class::Key(Key::Void), _, rest)) => {
-            if at_star(rest) {
+            if at(Punct::Star, rest) {
                 ItemLead::Other
             } else {
                 ItemLead::Void

@@ -20,10 +20,10 @@ use crate::lead::{ArmLead, StmtLead};
 use crate::leading::{arm_at, begins_expr, begins_stmt, begins_type, is_some_arm, stmt_at};
 use crate::scope::{Scope, span};
 use crate::tokens::{
-    at_close_brace, at_else_word, behind, close_brace, close_paren, colon, deep, no_room,
-    open_brace, open_paren, semicolon, while_word,
+    at, at_else_word, behind, close_brace, close_paren, colon, deep, no_room, open_brace,
+    open_paren, semicolon, while_word,
 };
-use c_lex::Token;
+use c_lex::{Punct, Token};
 use c_tree::building::{boxed, do_while, for_bare, for_from, if_else, if_only};
 use c_tree::{Arm, Expr, Span, Stmt};
 use kit_base::Seq;
@@ -428,7 +428,7 @@ pub(crate) fn statements<'a>(
 {
     let mut found = Vec::new(alloc);
     let mut rest = tokens;
-    'statements: while !at_close_brace(rest) {
+    'statements: while !at(Punct::CloseBrace, rest) {
         let (next, after) = statement(alloc, scope, room, rest)?;
         found.push(next)?;
         rest = after;
@@ -498,7 +498,7 @@ fn arms<'a>(
 {
     let mut found = Vec::new(alloc);
     let mut rest = tokens;
-    'arms: while !at_close_brace(rest) {
+    'arms: while !at(Punct::CloseBrace, rest) {
         let (next, after) = arm(alloc, scope, room, rest)?;
         found.push(next)?;
         rest = after;

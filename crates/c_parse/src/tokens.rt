@@ -63,101 +63,12 @@ fn must(found: bool, tokens: &[Token]) -> Result<&[Token], ReadErr>
     Ok(behind(tokens))
 }
 
-pub(crate) fn at_open_paren(tokens: &[Token]) -> bool
-    ensures { result ≡ reader.at_open_paren (toks tokens.now) }
+/// Whether that mark comes next.
+pub(crate) fn at(mark: Punct, tokens: &[Token]) -> bool
+    ensures { result ≡ reader.at_mark mark (toks tokens.now) }
 {
     match next(tokens) {
-        Some((Class::Mark(Punct::OpenParen), _, _)) => true,
-        _ => false,
-    }
-}
-
-pub(crate) fn at_close_paren(tokens: &[Token]) -> bool
-    ensures { result ≡ reader.at_close_paren (toks tokens.now) }
-{
-    match next(tokens) {
-        Some((Class::Mark(Punct::CloseParen), _, _)) => true,
-        _ => false,
-    }
-}
-
-pub(crate) fn at_open_bracket(tokens: &[Token]) -> bool
-    ensures { result ≡ reader.at_open_bracket (toks tokens.now) }
-{
-    match next(tokens) {
-        Some((Class::Mark(Punct::OpenBracket), _, _)) => true,
-        _ => false,
-    }
-}
-
-fn at_close_bracket(tokens: &[Token]) -> bool
-    ensures { result ≡ reader.at_close_bracket (toks tokens.now) }
-{
-    match next(tokens) {
-        Some((Class::Mark(Punct::CloseBracket), _, _)) => true,
-        _ => false,
-    }
-}
-
-pub(crate) fn at_open_brace(tokens: &[Token]) -> bool
-    ensures { result ≡ reader.at_open_brace (toks tokens.now) }
-{
-    match next(tokens) {
-        Some((Class::Mark(Punct::OpenBrace), _, _)) => true,
-        _ => false,
-    }
-}
-
-pub(crate) fn at_close_brace(tokens: &[Token]) -> bool
-    ensures { result ≡ reader.at_close_brace (toks tokens.now) }
-{
-    match next(tokens) {
-        Some((Class::Mark(Punct::CloseBrace), _, _)) => true,
-        _ => false,
-    }
-}
-
-pub(crate) fn at_semicolon(tokens: &[Token]) -> bool
-    ensures { result ≡ reader.at_semicolon (toks tokens.now) }
-{
-    match next(tokens) {
-        Some((Class::Mark(Punct::Semicolon), _, _)) => true,
-        _ => false,
-    }
-}
-
-pub(crate) fn at_comma(tokens: &[Token]) -> bool
-    ensures { result ≡ reader.at_comma (toks tokens.now) }
-{
-    match next(tokens) {
-        Some((Class::Mark(Punct::Comma), _, _)) => true,
-        _ => false,
-    }
-}
-
-fn at_colon(tokens: &[Token]) -> bool
-    ensures { result ≡ reader.at_colon (toks tokens.now) }
-{
-    match next(tokens) {
-        Some((Class::Mark(Punct::Colon), _, _)) => true,
-        _ => false,
-    }
-}
-
-pub(crate) fn at_assign(tokens: &[Token]) -> bool
-    ensures { result ≡ reader.at_assign (toks tokens.now) }
-{
-    match next(tokens) {
-        Some((Class::Mark(Punct::Assign), _, _)) => true,
-        _ => false,
-    }
-}
-
-pub(crate) fn at_star(tokens: &[Token]) -> bool
-    ensures { result ≡ reader.at_star (toks tokens.now) }
-{
-    match next(tokens) {
-        Some((Class::Mark(Punct::Star), _, _)) => true,
+        Some((Class::Mark(found), _, _)) => found == mark,
         _ => false,
     }
 }
@@ -192,43 +103,43 @@ pub(crate) fn at_void_word(tokens: &[Token]) -> bool
 pub(crate) fn open_paren(tokens: &[Token]) -> Result<&[Token], ReadErr>
     ensures { Gives (λ x. toks x.now) result (reader.open_paren (toks tokens.now)) }
 {
-    must(at_open_paren(tokens), tokens)
+    must(at(Punct::OpenParen, tokens), tokens)
 }
 
 pub(crate) fn close_paren(tokens: &[Token]) -> Result<&[Token], ReadErr>
     ensures { Gives (λ x. toks x.now) result (reader.close_paren (toks tokens.now)) }
 {
-    must(at_close_paren(tokens), tokens)
+    must(at(Punct::CloseParen, tokens), tokens)
 }
 
 pub(crate) fn close_bracket(tokens: &[Token]) -> Result<&[Token], ReadErr>
     ensures { Gives (λ x. toks x.now) result (reader.close_bracket (toks tokens.now)) }
 {
-    must(at_close_bracket(tokens), tokens)
+    must(at(Punct::CloseBracket, tokens), tokens)
 }
 
 pub(crate) fn open_brace(tokens: &[Token]) -> Result<&[Token], ReadErr>
     ensures { Gives (λ x. toks x.now) result (reader.open_brace (toks tokens.now)) }
 {
-    must(at_open_brace(tokens), tokens)
+    must(at(Punct::OpenBrace, tokens), tokens)
 }
 
 pub(crate) fn close_brace(tokens: &[Token]) -> Result<&[Token], ReadErr>
     ensures { Gives (λ x. toks x.now) result (reader.close_brace (toks tokens.now)) }
 {
-    must(at_close_brace(tokens), tokens)
+    must(at(Punct::CloseBrace, tokens), tokens)
 }
 
 pub(crate) fn semicolon(tokens: &[Token]) -> Result<&[Token], ReadErr>
     ensures { Gives (λ x. toks x.now) result (reader.semicolon (toks tokens.now)) }
 {
-    must(at_semicolon(tokens), tokens)
+    must(at(Punct::Semicolon, tokens), tokens)
 }
 
 pub(crate) fn colon(tokens: &[Token]) -> Result<&[Token], ReadErr>
     ensures { Gives (λ x. toks x.now) result (reader.colon (toks tokens.now)) }
 {
-    must(at_colon(tokens), tokens)
+    must(at(Punct::Colon, tokens), tokens)
 }
 
 pub(crate) fn while_word(tokens: &[Token]) -> Result<&[Token], ReadErr>
@@ -299,13 +210,13 @@ pub(crate) fn new(alloc: Global, tokens: &[Token]) -> Result<(Name, &[Token]), R
 pub(crate) fn at_more(tokens: &[Token]) -> bool
     ensures { result ≡ reader.at_more (toks tokens.now) }
 {
-    at_comma(tokens) && !at_close_brace(behind(tokens))
+    at(Punct::Comma, tokens) && !at(Punct::CloseBrace, behind(tokens))
 }
 
 pub(crate) fn end_list(tokens: &[Token]) -> Result<&[Token], ReadErr>
     ensures { Gives (λ x. toks x.now) result (reader.end_list (toks tokens.now)) }
 {
-    if at_comma(tokens) {
+    if at(Punct::Comma, tokens) {
         return close_brace(behind(tokens));
     }
     close_brace(tokens)

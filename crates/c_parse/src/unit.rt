@@ -20,11 +20,11 @@ use crate::leading::item_at;
 use crate::scope::{Scope, span};
 use crate::statement::statements;
 use crate::tokens::{
-    at_assign, at_comma, at_open_paren, at_semicolon, behind, close_brace, close_paren, end_list,
-    name, new, no_room, open_brace, open_paren, semicolon,
+    at, behind, close_brace, close_paren, end_list, name, new, no_room, open_brace, open_paren,
+    semicolon,
 };
 use crate::types::Types;
-use c_lex::Token;
+use c_lex::{Punct, Token};
 use c_tree::{Item, TypeTree, Unit, Var};
 use kit_base::{Name, Seq};
 use std::alloc::Global;
@@ -51,7 +51,7 @@ fn structure<'a>(
 {
     let (name, rest) = new(alloc, behind(tokens))?;
     declare(alloc, scope, &name)?;
-    if at_semicolon(rest) {
+    if at(Punct::Semicolon, rest) {
         let rest = behind(rest);
         let span = span(scope, tokens, rest);
         return Ok((
@@ -152,7 +152,7 @@ fn with_body<'a>(
     ensures gives { Gives (λ x. (item x.0, toks x.1.now)) result (reading.body_by (context scope.now) room (toks from.now) (type ty) name (map var params) (toks tokens.now) (at_semicolon (toks tokens.now))) }
     ensures declared { IfOk result (λ x. context scope.now ≡ behind_item (item x.0) (context scope.now)) }
 {
-    if at_semicolon(tokens) {
+    if at(Punct::Semicolon, tokens) {
         let rest = behind(tokens);
         let span = span(scope, from, rest);
         return Ok((
@@ -197,7 +197,7 @@ fn globals<'a>(
 {
     if !fits {
         return Err(no_room(
-            at_semicolon(tokens) || (at_assign(tokens) || at_comma(tokens)),
+            at(Punct::Semicolon, tokens) || (at(Punct::Assign, tokens) || at(Punct::Comma, tokens)),
             tokens,
         ));
     }
@@ -218,7 +218,7 @@ fn typed<'a>(
 {
     let (ty, depth, rest) = type_tree(alloc, scope, room, tokens)?;
     let (ty, (name, rest)) = keeping(ty, name(alloc, scope, rest))?;
-    if at_open_paren(rest) {
+    if at(Punct::OpenParen, rest) {
         return function(alloc, scope, room, tokens, ty, name, rest);
     }
     globals(alloc, scope, room, tokens, depth < room, rest)

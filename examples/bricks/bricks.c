@@ -1,4 +1,5 @@
-// A ball, a paddle and a wall of bricks. Texture 0 has a brick, the paddle, the ball and the digits, one beside the other. The best score is kept in the card's first word.
+// A ball, a paddle and a wall of bricks. Texture 0 has a brick, the paddle and the ball, one beside the other, texture 1 the font. The best score is kept
+// in the card's first word.
 #include "video.h"
 #include "audio.h"
 #include "input.h"
@@ -6,9 +7,10 @@
 #include "misc.h"
 #include "math.h"
 #include "memcard.h"
+#include "examples/text/text.c"
 #include "examples/bricks/wall.c"
 
-enum Region { brick_region, paddle_region, ball_region, digit_region };
+enum Region { brick_region, paddle_region, ball_region };
 enum State { waiting, playing, lost, won };
 
 struct Ball { int x, y; int dx, dy; };
@@ -16,6 +18,7 @@ struct Ball { int x, y; int dx, dy; };
 #define paddle_width 80
 #define paddle_y 330
 #define ball_size 8
+#define gray 0xFF909090
 
 Ball ball;
 int paddle = 280;
@@ -31,12 +34,7 @@ void define_regions()
     define_region(40, 0, 119, 7, 40, 0);
     select_region(ball_region);
     define_region(120, 0, 127, 7, 120, 0);
-    for (int digit = 0; digit < 10; digit++)
-    {
-        select_region(digit_region + digit);
-        int x = 128 + 8 * digit;
-        define_region(x, 0, x + 7, 7, x, 0);
-    }
+    define_font(1);
 }
 
 void read_best()
@@ -102,6 +100,7 @@ void bounce_off_bricks()
     if (along) ball.dy = -ball.dy;
     if (!across && !along) return;
     score += 10;
+    keep_best();
     play_sound(1);
 }
 
@@ -117,18 +116,6 @@ void move_ball()
     lives--;
     if (lives == 0) state = lost;
     else serve();
-}
-
-void draw_number(int number, int x, int y)
-{
-    // from the last digit to the first
-    do
-    {
-        select_region(digit_region + number % 10);
-        draw_region_at(x, y);
-        x -= 10;
-        number /= 10;
-    } while (number > 0);
 }
 
 int[wall_rows] row_colors = { 0xFF0000FF, 0xFF0080FF, 0xFF00FFFF, 0xFF00FF00, 0xFFFF8000, 0xFFFF00FF };
@@ -148,6 +135,7 @@ void draw_wall()
 void draw_all()
 {
     clear_screen(color_black);
+    select_texture(0);
     draw_wall();
     select_region(paddle_region);
     draw_region_at(paddle, paddle_y);
@@ -156,9 +144,13 @@ void draw_all()
         select_region(ball_region);
         draw_region_at(ball.x, ball.y);
     }
-    draw_number(score, 80, 10);
-    draw_number(lives, 320, 10);
-    draw_number(best, 600, 10);
+    draw_text("SCORE", 20, 10, gray);
+    draw_number(score, 56, 10, color_white);
+    draw_text_centred("LIVES", 10, gray);
+    draw_number(lives, 341, 10, color_white);
+    draw_text_right("BEST", 560, 10, gray);
+    draw_number_right(best, 620, 10, color_white);
+    if (state == waiting) draw_text_centred("press start", 220, color_white);
 }
 
 void main()
@@ -176,7 +168,6 @@ void main()
                 break;
             case lost:
             case won:
-                keep_best();
                 state = waiting;
                 break;
             default:

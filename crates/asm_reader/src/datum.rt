@@ -87,7 +87,7 @@ fn pointer_of(alloc: Global, written: &Written) -> Result<AsmItem, Memory>
     ensures { IfOk result (λ i. i ≡ pointer_of written.now) }
 {
     match written {
-        Written::Value(Value::Label(name)) => Ok(AsmItem::Pointer(name.copy(alloc)?)),
+        Written::Value(Value::Label(name)) => Ok(AsmItem::Pointer(name.copy()?)),
         _ => Ok(AsmItem::Pointer(Name::new(alloc, "")?)),
     }
 }

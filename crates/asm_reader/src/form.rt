@@ -8,7 +8,6 @@ use crate::fault::{LineErr, LineFault};
 use crate::value::{Value, Written};
 use asm_items::{Imm, Operation};
 use either::Either;
-use std::alloc::Global;
 use v32_isa::{Instr, Mov, Port, Reg, Src};
 
 /// The word of a number from -2,147,483,648 to 4,294,967,295.
@@ -28,7 +27,7 @@ pub fn word_of(negative: bool, magnitude: Option<u32>) -> Option<u32>
 }
 
 #[tactic(auto, unfolding(crate::specs::Forms::immediate))]
-fn immediate(alloc: Global, value: &Value) -> Result<Imm, LineErr>
+fn immediate(value: &Value) -> Result<Imm, LineErr>
     ensures { Gives result (immediate value.now) }
 {
     match value {
@@ -36,7 +35,7 @@ fn immediate(alloc: Global, value: &Value) -> Result<Imm, LineErr>
             Some(n) => Ok(Either::Left(n)),
             None => Err(LineErr::Fault(LineFault::NumberTooLarge)),
         },
-        Value::Label(name) => Ok(Either::Right(name.copy(alloc)?)),
+        Value::Label(name) => Ok(Either::Right(name.copy()?)),
     }
 }
 
@@ -76,60 +75,60 @@ fn register(written: &Written) -> Result<Reg, LineErr>
 }
 
 #[tactic(auto, unfolding(crate::specs::Forms::source))]
-fn source(alloc: Global, written: &Written) -> Result<Src<Imm>, LineErr>
+fn source(written: &Written) -> Result<Src<Imm>, LineErr>
     ensures { Gives result (source written.now) }
 {
     match written {
         Written::Register(b) => Ok(Src::Reg(*b)),
-        Written::Value(v) => Ok(Src::Imm(immediate(alloc, v)?)),
+        Written::Value(v) => Ok(Src::Imm(immediate(v)?)),
         _ => Err(LineErr::Fault(LineFault::NoSuchForm)),
     }
 }
 
 #[tactic(auto, unfolding(crate::specs::Forms::move_to))]
-fn move_to(alloc: Global, a: Reg, second: &Written) -> Result<Instr<Imm>, LineErr>
+fn move_to(a: Reg, second: &Written) -> Result<Instr<Imm>, LineErr>
     ensures { Gives result (move_to a second.now) }
 {
     Ok(Instr::Mov(match second {
-        Written::Value(v) => Mov::RegImm(a, immediate(alloc, v)?),
+        Written::Value(v) => Mov::RegImm(a, immediate(v)?),
         Written::Register(b) => Mov::RegReg(a, *b),
-        Written::AtValue(v) => Mov::RegAt(a, immediate(alloc, v)?),
+        Written::AtValue(v) => Mov::RegAt(a, immediate(v)?),
         Written::AtRegister(b) => Mov::RegAtReg(a, *b),
-        Written::AtOffset(b, v) => Mov::RegAtOff(a, *b, immediate(alloc, v)?),
+        Written::AtOffset(b, v) => Mov::RegAtOff(a, *b, immediate(v)?),
         Written::Port(_) => return Err(LineErr::Fault(LineFault::NoSuchForm)),
     }))
 }
 
 #[tactic(auto, unfolding(crate::specs::Forms::move_from))]
-fn move_from(alloc: Global, b: Reg, first: &Written) -> Result<Instr<Imm>, LineErr>
+fn move_from(b: Reg, first: &Written) -> Result<Instr<Imm>, LineErr>
     ensures { Gives result (move_from b first.now) }
 {
     Ok(Instr::Mov(match first {
-        Written::AtValue(v) => Mov::AtReg(immediate(alloc, v)?, b),
+        Written::AtValue(v) => Mov::AtReg(immediate(v)?, b),
         Written::AtRegister(a) => Mov::AtRegReg(*a, b),
-        Written::AtOffset(a, v) => Mov::AtOffReg(*a, immediate(alloc, v)?, b),
+        Written::AtOffset(a, v) => Mov::AtOffReg(*a, immediate(v)?, b),
         _ => return Err(LineErr::Fault(LineFault::NoSuchForm)),
     }))
 }
 
 #[tactic(auto, unfolding(crate::specs::Forms::moved))]
-fn move_of(alloc: Global, first: &Written, second: &Written) -> Result<Instr<Imm>, LineErr>
+fn move_of(first: &Written, second: &Written) -> Result<Instr<Imm>, LineErr>
     ensures { Gives result (moved first.now second.now) }
 {
     if let Written::Register(a) = first {
-        return move_to(alloc, *a, second);
+        return move_to(*a, second);
     }
     let b = register(second)?;
-    move_from(alloc, b, first)
+    move_from(b, first)
 }
 
 #[tactic(auto, unfolding(crate::specs::Forms::load_address))]
-fn load_address(alloc: Global, a: Reg, second: &Written) -> Result<Instr<Imm>, LineErr>
+fn load_address(a: Reg, second: &Written) -> Result<Instr<Imm>, LineErr>
     ensures { Gives result (load_address a second.now) }
 {
     match second {
         Written::AtRegister(b) => Ok(Instr::Lea(a, *b, None)),
-        Written::AtOffset(b, v) => Ok(Instr::Lea(a, *b, Some(immediate(alloc, v)?))),
+        Written::AtOffset(b, v) => Ok(Instr::Lea(a, *b, Some(immediate(v)?))),
         _ => Err(LineErr::Fault(LineFault::NoSuchForm)),
     }
 }
@@ -155,14 +154,14 @@ fn is_source(written: &Written) -> bool
 }
 
 #[tactic(auto, unfolding(crate::specs::Forms::output))]
-fn output(alloc: Global, first: &Written, second: &Written) -> Result<Instr<Imm>, LineErr>
+fn output(first: &Written, second: &Written) -> Result<Instr<Imm>, LineErr>
     ensures { Gives result (output first.now second.now) }
 {
     if !(is_port(first) && is_source(second)) {
         return Err(LineErr::Fault(LineFault::NoSuchForm));
     }
     let p = port(first)?;
-    let s = source(alloc, second)?;
+    let s = source(second)?;
     Ok(Instr::Out(p, s))
 }
 
@@ -177,61 +176,56 @@ fn with_none(operation: Operation) -> Result<Instr<Imm>, LineErr>
 }
 
 #[tactic(auto, unfolding(crate::specs::Forms::with_one))]
-fn with_one(alloc: Global, operation: Operation, x: &Written) -> Result<Instr<Imm>, LineErr>
+fn with_one(operation: Operation, x: &Written) -> Result<Instr<Imm>, LineErr>
     ensures { Gives result (with_one operation x.now) }
 {
     match operation {
-        Operation::Go(g) => Ok(Instr::Go(g, source(alloc, x)?)),
+        Operation::Go(g) => Ok(Instr::Go(g, source(x)?)),
         Operation::One(one) => Ok(Instr::One(one, register(x)?)),
         _ => Err(LineErr::Fault(LineFault::NoSuchForm)),
     }
 }
 
 #[tactic(auto, unfolding(crate::specs::Forms::with_two))]
-fn with_two(
-    alloc: Global,
-    operation: Operation,
-    x: &Written,
-    y: &Written,
-) -> Result<Instr<Imm>, LineErr>
+fn with_two(operation: Operation, x: &Written, y: &Written) -> Result<Instr<Imm>, LineErr>
     ensures { Gives result (with_two operation x.now y.now) }
 {
     match operation {
         Operation::Branch(b) => {
             let a = register(x)?;
-            Ok(Instr::Branch(b, a, source(alloc, y)?))
+            Ok(Instr::Branch(b, a, source(y)?))
         }
         Operation::Two(two) => {
             let a = register(x)?;
-            Ok(Instr::Two(two, a, source(alloc, y)?))
+            Ok(Instr::Two(two, a, source(y)?))
         }
-        Operation::Mov => move_of(alloc, x, y),
+        Operation::Mov => move_of(x, y),
         Operation::Lea => {
             let a = register(x)?;
-            load_address(alloc, a, y)
+            load_address(a, y)
         }
         Operation::In => {
             let a = register(x)?;
             Ok(Instr::In(a, port(y)?))
         }
-        Operation::Out => output(alloc, x, y),
+        Operation::Out => output(x, y),
         _ => Err(LineErr::Fault(LineFault::NoSuchForm)),
     }
 }
 
 /// The instruction with these operands, whatever range the others' numbers have.
 #[tactic(auto, unfolding(crate::specs::Forms::formed))]
-fn formed(alloc: Global, operation: Operation, operands: &[Written]) -> Result<Instr<Imm>, LineErr>
+fn formed(operation: Operation, operands: &[Written]) -> Result<Instr<Imm>, LineErr>
     ensures { Gives result (formed operation operands.now) }
 {
     let Some((x, rest)) = operands.split_first() else {
         return with_none(operation);
     };
     let Some((y, rest)) = rest.split_first() else {
-        return with_one(alloc, operation, x);
+        return with_one(operation, x);
     };
     if rest.is_empty() {
-        with_two(alloc, operation, x, y)
+        with_two(operation, x, y)
     } else {
         Err(LineErr::Fault(LineFault::NoSuchForm))
     }
@@ -265,14 +259,10 @@ pub fn all_fit(operands: &[Written]) -> bool
 
 /// The instruction with these operands, or the fault of the line.
 #[tactic(auto, unfolding(crate::specs::Forms::instruction))]
-pub fn instruction(
-    alloc: Global,
-    operation: Operation,
-    operands: &[Written],
-) -> Result<Instr<Imm>, LineErr>
+pub fn instruction(operation: Operation, operands: &[Written]) -> Result<Instr<Imm>, LineErr>
     ensures { Gives result (instruction operation operands.now) }
 {
-    match formed(alloc, operation, operands) {
+    match formed(operation, operands) {
         Ok(i) => Ok(i),
         Err(LineErr::Fault(LineFault::NoSuchForm)) => {
             if all_fit(operands) {

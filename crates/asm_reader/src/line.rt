@@ -68,7 +68,7 @@ fn statement_part(labelled: bool, tokens: &[Token]) -> &[Token]
 
 /// Adds the label that stands first.
 #[tactic(auto, unfolding(crate::specs::Lines::label_items))]
-fn put_label(alloc: Global, items: &mut Vec<AsmItem>, tokens: &[Token]) -> Result<(), LineErr>
+fn put_label(items: &mut Vec<AsmItem>, tokens: &[Token]) -> Result<(), LineErr>
     ensures { Puts items.old.items items.new.items result (label_items tokens.now) }
 {
     let Some((first, _)) = tokens.split_first() else {
@@ -76,23 +76,18 @@ fn put_label(alloc: Global, items: &mut Vec<AsmItem>, tokens: &[Token]) -> Resul
     };
     match first {
         Token::Label(name) => {
-            items.push(AsmItem::Label(name.copy(alloc)?))?;
+            items.push(AsmItem::Label(name.copy()?))?;
             Ok(())
         }
         _ => Err(LineErr::Fault(LineFault::BadLine)),
     }
 }
 
-fn put_label_part(
-    alloc: Global,
-    items: &mut Vec<AsmItem>,
-    labelled: bool,
-    tokens: &[Token],
-) -> Result<(), LineErr>
+fn put_label_part(items: &mut Vec<AsmItem>, labelled: bool, tokens: &[Token]) -> Result<(), LineErr>
     ensures { Puts items.old.items items.new.items result (label_part labelled tokens.now) }
 {
     if labelled {
-        put_label(alloc, items, tokens)
+        put_label(items, tokens)
     } else {
         Ok(())
     }
@@ -106,7 +101,7 @@ fn operation_of(
     ensures { Gives result (instruction_of operation tokens.now) }
 {
     let operands = operands_of(alloc, tokens)?;
-    instruction(alloc, operation, &operands)
+    instruction(operation, &operands)
 }
 
 /// Adds the items of an operation or of data.
@@ -142,7 +137,7 @@ fn put_parts(
     if begins_float(statement) {
         return Err(LineErr::Fault(LineFault::FloatInstruction));
     }
-    put_label_part(alloc, items, labelled, tokens)?;
+    put_label_part(items, labelled, tokens)?;
     put_statement(alloc, items, statement)
 }
 

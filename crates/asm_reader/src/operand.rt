@@ -41,7 +41,7 @@ fn is_close(token: &Token) -> bool
 
 /// An operand of one token.
 #[tactic(auto, unfolding(crate::specs::Operands::plain))]
-fn plain(alloc: Global, token: &Token) -> Result<Written, LineErr>
+fn plain(token: &Token) -> Result<Written, LineErr>
     ensures { Gives result (plain token.now) }
 {
     match token {
@@ -50,14 +50,14 @@ fn plain(alloc: Global, token: &Token) -> Result<Written, LineErr>
         Token::Number(negative, magnitude) => {
             Ok(Written::Value(Value::Number(*negative, *magnitude)))
         }
-        Token::Label(name) => Ok(Written::Value(Value::Label(name.copy(alloc)?))),
+        Token::Label(name) => Ok(Written::Value(Value::Label(name.copy()?))),
         _ => Err(LineErr::Fault(LineFault::BadLine)),
     }
 }
 
 /// One token between brackets.
 #[tactic(auto, unfolding(crate::specs::Operands::inside_one))]
-fn inside_one(alloc: Global, token: &Token) -> Result<Written, LineErr>
+fn inside_one(token: &Token) -> Result<Written, LineErr>
     ensures { Gives result (inside_one token.now) }
 {
     match token {
@@ -65,7 +65,7 @@ fn inside_one(alloc: Global, token: &Token) -> Result<Written, LineErr>
         Token::Number(negative, magnitude) => {
             Ok(Written::AtValue(Value::Number(*negative, *magnitude)))
         }
-        Token::Label(name) => Ok(Written::AtValue(Value::Label(name.copy(alloc)?))),
+        Token::Label(name) => Ok(Written::AtValue(Value::Label(name.copy()?))),
         _ => Err(LineErr::Fault(LineFault::BadLine)),
     }
 }
@@ -90,14 +90,14 @@ fn joined_to(b: Reg, offset: &Token) -> Result<Written, LineErr>
     }
 }
 
-fn added_to(alloc: Global, b: Reg, offset: &Token) -> Result<Written, LineErr>
+fn added_to(b: Reg, offset: &Token) -> Result<Written, LineErr>
     ensures { Gives result (added_to b offset.now) }
 {
     match offset {
         Token::Number(negative, magnitude) => {
             Ok(Written::AtOffset(b, Value::Number(*negative, *magnitude)))
         }
-        Token::Label(name) => Ok(Written::AtOffset(b, Value::Label(name.copy(alloc)?))),
+        Token::Label(name) => Ok(Written::AtOffset(b, Value::Label(name.copy()?))),
         _ => Err(LineErr::Fault(LineFault::BadLine)),
     }
 }
@@ -113,11 +113,11 @@ fn taken_from(b: Reg, offset: &Token) -> Result<Written, LineErr>
     }
 }
 
-fn signed_to(alloc: Global, b: Reg, sign: &Token, offset: &Token) -> Result<Written, LineErr>
+fn signed_to(b: Reg, sign: &Token, offset: &Token) -> Result<Written, LineErr>
     ensures { Gives result (signed_to b sign.now offset.now) }
 {
     match sign {
-        Token::Plus => added_to(alloc, b, offset),
+        Token::Plus => added_to(b, offset),
         Token::Minus => taken_from(b, offset),
         _ => Err(LineErr::Fault(LineFault::BadLine)),
     }
@@ -125,33 +125,23 @@ fn signed_to(alloc: Global, b: Reg, sign: &Token, offset: &Token) -> Result<Writ
 
 /// A register, a sign, and a number or a label.
 #[tactic(auto, unfolding(crate::specs::Operands::inside_three))]
-fn inside_three(
-    alloc: Global,
-    register: &Token,
-    sign: &Token,
-    offset: &Token,
-) -> Result<Written, LineErr>
+fn inside_three(register: &Token, sign: &Token, offset: &Token) -> Result<Written, LineErr>
     ensures { Gives result (inside_three register.now sign.now offset.now) }
 {
     match register {
-        Token::Register(b) => signed_to(alloc, *b, sign, offset),
+        Token::Register(b) => signed_to(*b, sign, offset),
         _ => Err(LineErr::Fault(LineFault::BadLine)),
     }
 }
 
 /// Behind two tokens in brackets, the rest.
 #[tactic(auto, unfolding(crate::specs::Operands::bracketed))]
-fn after_two(
-    alloc: Global,
-    first: &Token,
-    second: &Token,
-    rest: &[Token],
-) -> Result<Written, LineErr>
+fn after_two(first: &Token, second: &Token, rest: &[Token]) -> Result<Written, LineErr>
     ensures { Gives result (bracketed (first.now ∷ second.now ∷ rest.now)) }
 {
     let Some((third, rest)) = rest.split_first() else {
         return if is_close(second) {
-            inside_one(alloc, first)
+            inside_one(first)
         } else {
             Err(LineErr::Fault(LineFault::BadLine))
         };
@@ -164,7 +154,7 @@ fn after_two(
         };
     };
     if rest.is_empty() && is_close(fourth) {
-        inside_three(alloc, first, second, third)
+        inside_three(first, second, third)
     } else {
         Err(LineErr::Fault(LineFault::BadLine))
     }
@@ -172,7 +162,7 @@ fn after_two(
 
 /// What stands behind an open bracket, up to the closing one at the end.
 #[tactic(auto, unfolding(crate::specs::Operands::bracketed))]
-fn bracketed(alloc: Global, tokens: &[Token]) -> Result<Written, LineErr>
+fn bracketed(tokens: &[Token]) -> Result<Written, LineErr>
     ensures { Gives result (bracketed tokens.now) }
 {
     let Some((first, rest)) = tokens.split_first() else {
@@ -181,7 +171,7 @@ fn bracketed(alloc: Global, tokens: &[Token]) -> Result<Written, LineErr>
     let Some((second, rest)) = rest.split_first() else {
         return Err(LineErr::Fault(LineFault::BadLine));
     };
-    after_two(alloc, first, second, rest)
+    after_two(first, second, rest)
 }
 
 /// The operand that the tokens spell.
@@ -193,12 +183,12 @@ fn operand(alloc: Global, tokens: &[Token]) -> Result<Written, LineErr>
         return Err(LineErr::Fault(LineFault::BadLine));
     };
     if rest.is_empty() {
-        return plain(alloc, first);
+        return plain(first);
     }
     if !is_open(first) {
         return Err(LineErr::Fault(LineFault::BadLine));
     }
-    bracketed(alloc, rest)
+    bracketed(rest)
 }
 
 /// How many tokens stand before the first comma.

@@ -17,17 +17,12 @@ pub struct Placement {
 }
 
 /// Adds the label that an item is, with its address.
-fn put_label(
-    alloc: Global,
-    labels: &mut Vec<(Name, u32)>,
-    item: &AsmItem,
-    address: u32,
-) -> Result<(), Memory>
+fn put_label(labels: &mut Vec<(Name, u32)>, item: &AsmItem, address: u32) -> Result<(), Memory>
     ensures { OnOk result (labels.new.items ≡ labels.old.items ++ label_at address item.now) }
 {
     match item {
         AsmItem::Label(name) => {
-            labels.push((name.copy(alloc)?, address))?;
+            labels.push((name.copy()?, address))?;
             Ok(())
         }
         AsmItem::Op(_) | AsmItem::Integer(_) | AsmItem::Pointer(_) => Ok(()),
@@ -44,7 +39,7 @@ pub fn labels_of(alloc: Global, items: &[AsmItem]) -> Result<Vec<(Name, u32)>, M
     let mut address: u32 = 0x2000_0000;
     let mut rest = items;
     'each: while let Some((item, after)) = rest.split_first() {
-        put_label(alloc, &mut labels, item, address)?;
+        put_label(&mut labels, item, address)?;
         address += item_size(item) as u32;
         rest = after;
     }

@@ -12,7 +12,7 @@ pub(crate) fn names_of(alloc: Global, functions: &[TFunction]) -> Result<Vec<Nam
 {
     let mut names = Vec::new(alloc);
     for f in functions {
-        names.push(f.name.copy(alloc)?)?;
+        names.push(f.name.copy()?)?;
     }
     Ok(names)
 }

@@ -12,11 +12,11 @@ use c_parse::{ParseErr, parse, units_have_few_nodes};
 use std::alloc::Global;
 
 /// A code at the place of a token.
-fn refusal_at(alloc: Global, places: &Places, code: u32, token: u32) -> FrontErr
+fn refusal_at(places: &Places, code: u32, token: u32) -> FrontErr
     ensures { Tells result (refusal_at places.now code token) }
 {
     let (name, line) = places.place_at(token);
-    match name.copy(alloc) {
+    match name.copy() {
         Ok(file) => FrontErr::Source { code, file, line },
         Err(_) => FrontErr::Memory,
     }
@@ -33,11 +33,9 @@ pub fn parse_at(alloc: Global, places: Places) -> Result<Parsed, FrontErr>
     units_have_few_nodes();
     match parse(alloc, places.tokens.as_slice()) {
         Ok(unit) => Ok(Parsed { unit, places }),
-        Err(ParseErr::Syntax { token }) => Err(refusal_at(alloc, &places, 30, token)),
-        Err(ParseErr::TooDeep { token }) => Err(refusal_at(alloc, &places, 31, token)),
-        Err(ParseErr::Unsupported { token, what: _ }) => {
-            Err(refusal_at(alloc, &places, 32, token))
-        }
+        Err(ParseErr::Syntax { token }) => Err(refusal_at(&places, 30, token)),
+        Err(ParseErr::TooDeep { token }) => Err(refusal_at(&places, 31, token)),
+        Err(ParseErr::Unsupported { token, what: _ }) => { Err(refusal_at(&places, 32, token)) }
         Err(ParseErr::Memory) => Err(FrontErr::Memory),
     }
 }

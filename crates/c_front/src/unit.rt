@@ -36,7 +36,7 @@ pub struct Parsed {
 }
 
 /// What the first fault of the reading is told as.
-fn told_as(alloc: Global, source: &Name, names: &[Name], fault: PrepErr) -> FrontErr
+fn told_as(source: &Name, names: &[Name], fault: PrepErr) -> FrontErr
     ensures { Tells result (told_as source.now names.now fault) }
 {
     let named = match fault {
@@ -45,7 +45,7 @@ fn told_as(alloc: Global, source: &Name, names: &[Name], fault: PrepErr) -> Fron
         }
         PrepErr::NoSource | PrepErr::Memory => source,
     };
-    let Ok(name) = named.copy(alloc) else {
+    let Ok(name) = named.copy() else {
         return FrontErr::Memory;
     };
     match fault {
@@ -110,6 +110,6 @@ pub fn read_unit<F: Reads>(alloc: Global, files: &mut F, source: &str) -> Result
                 tokens: Seq::from_vec(tokens),
             },
         ),
-        Err(fault) => Err(told_as(alloc, &named, names.as_slice(), fault)),
+        Err(fault) => Err(told_as(&named, names.as_slice(), fault)),
     }
 }

@@ -45,7 +45,7 @@ pub fn files_of(alloc: Global, places: &Places, starts: &[u32]) -> Result<Vec<Na
     'each: for start in starts {
         let (name, _) = places.place_at(*start);
         if !has_file(name.bytes(), &files) {
-            files.push(name.copy(alloc)?)?;
+            files.push(name.copy()?)?;
         }
     }
     Ok(files)
@@ -78,7 +78,7 @@ pub fn rows_of(
             address,
             file,
             line,
-            name: f.name.copy(alloc)?,
+            name: f.name.copy()?,
         })?;
         left = after;
         starts_left = starts_after;

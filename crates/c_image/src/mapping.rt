@@ -31,7 +31,7 @@ fn frames_at(
             return Ok(rows);
         };
         let address = address_of_function(alloc, labels, &f.name)?;
-        rows.push((f.name.copy(alloc)?, address, *size))?;
+        rows.push((f.name.copy()?, address, *size))?;
         left = after;
         sizes_left = sizes_after;
     }
@@ -45,7 +45,7 @@ fn globals_from(alloc: Global, globals: &[(Name, u32)]) -> Result<Vec<(Name, u32
     let mut rows = Vec::new(alloc);
     let mut address: u32 = 0;
     'each: for global in globals {
-        rows.push((global.0.copy(alloc)?, address, global.1))?;
+        rows.push((global.0.copy()?, address, global.1))?;
         address = address.wrapping_add(global.1);
     }
     Ok(rows)

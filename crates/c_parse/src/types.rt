@@ -46,7 +46,7 @@ impl Types {
         ensures added { OnOk result (self.new ≡ self.old ++ name.now ∷ []) }
     {
         let key = Vec::from_slice(alloc, name.bytes())?;
-        self.names.push(name.copy(alloc)?)?;
+        self.names.push(name.copy()?)?;
         match self.table.insert(key) {
             Ok(_) => Ok(()),
             Err(_) => {

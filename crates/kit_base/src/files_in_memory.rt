@@ -92,7 +92,8 @@ pub(crate) fn is_failing(failing: &[u32], call: u64) -> bool
 }
 
 /// Files held in memory. Calls of any kind are numbered from 0, and those whose number is in the
-/// list given at first raise the count of faults and answer `Failed`.
+/// list given at first raise the count of faults and answer `Failed`. An append that fails so leaves
+/// the first half of its piece.
 #[derive(Drop)]
 pub struct FilesInMemory {
     alloc: Global,
@@ -261,7 +262,11 @@ impl Files for FilesInMemory {
         ensures call { CountsCall self.old self.new (has_failed result) }
     {
         if self.begins_failing() {
-            return Err(FileErr::Failed);
+            let half = &piece[..piece.len() / 2];
+            return match add_to_file(&mut self.files, name, half) {
+                Ok(()) => Err(FileErr::Failed),
+                Err(_) => Err(FileErr::Failed),
+            };
         }
         match add_to_file(&mut self.files, name, piece) {
             Ok(()) => Ok(()),

@@ -3,6 +3,7 @@ ghost use Rattle.std.specs.Prelude.{◌≡◌, ◌↔◌, List, ℕ, IfOk, IsTru
 
 use std::alloc::{AllocError, AllocFailed, Global};
 use std::marker::Model;
+use std::rc::Rc;
 
 /// Memory ran out.
 #[derive(Clone, Copy, Debug, PartialEq, Eq, thiserror::Error)]
@@ -21,16 +22,16 @@ impl<T: Drop> From<AllocFailed<T>> for Memory {
     }
 }
 
-/// A text or a name, any bytes, that contracts see as the list of its bytes.
+/// A text or a name, any bytes, that contracts see as the list of its bytes. Its copies share them.
 #[derive(Drop)]
 pub struct Name {
-    bytes: Vec<u8>,
+    bytes: Rc<Vec<u8>>,
 }
 
 impl Model for Name {
     ghost Value = { List ℕ };
 
-    ghost view = { λ n. n.bytes.items };
+    ghost view = { λ n. n.bytes.value.items };
 }
 
 impl Name {
@@ -46,7 +47,9 @@ impl Name {
         ensures { IfOk result (λ n. n ≡ bytes.now) }
     {
         let bytes = Vec::from_slice(alloc, bytes)?;
-        Ok(Name { bytes })
+        Ok(Name {
+            bytes: Rc::new(alloc, bytes)?,
+        })
     }
 
     pub fn bytes(&self) -> &[u8]
@@ -72,10 +75,12 @@ impl Name {
         }
     }
 
-    /// The same name once more. The error is want of memory.
-    pub fn copy(&self, alloc: Global) -> Result<Name, Memory>
+    /// The same name once more, in constant time: its bytes are shared. The error is want of memory.
+    pub fn copy(&self) -> Result<Name, Memory>
         ensures { IfOk result (λ n. n ≡ self.now) }
     {
-        Name::from_bytes(alloc, &self.bytes)
+        Ok(Name {
+            bytes: Rc::clone(&self.bytes)?,
+        })
     }
 }

@@ -25,7 +25,7 @@ fn a_file_is_written_and_read_back_but_by_the_call_that_fails(rt: HostRuntime) -
         assert_eq!(rt; name.bytes(), b"a".as_slice());
     }
     let text = join_pieces(alloc, &[b"one ", b"two"])?;
-    let own = Name::from_bytes(alloc, &[0xFF])?.copy(alloc)?;
+    let own = Name::from_bytes(alloc, &[0xFF])?.copy()?;
     assert!(rt; !own.is_text());
     assert_eq!(rt; Seq::from_vec(text).as_slice(), b"one two".as_slice());
     Ok(())

@@ -21,7 +21,7 @@ fn copy_names(alloc: Global, names: &[Name]) -> Result<Vec<Name>, Memory>
 {
     let mut found = Vec::new(alloc);
     for name in names {
-        found.push(name.copy(alloc)?)?;
+        found.push(name.copy()?)?;
     }
     Ok(found)
 }

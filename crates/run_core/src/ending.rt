@@ -39,15 +39,15 @@ fn copy_names(alloc: Global, names: &[Name]) -> Result<Vec<Name>, Memory>
 {
     let mut copies = Vec::new(alloc);
     'names: for name in names {
-        copies.push(name.copy(alloc)?)?;
+        copies.push(name.copy()?)?;
     }
     Ok(copies)
 }
 
-fn copy_row(alloc: Global, row: &LineRow) -> Result<LineRow, Memory>
+fn copy_row(row: &LineRow) -> Result<LineRow, Memory>
     ensures { IfOk result (λ r. r ≡ row.now) }
 {
-    let name = row.name.copy(alloc)?;
+    let name = row.name.copy()?;
     Ok(LineRow {
         address: row.address,
         file: row.file,
@@ -62,7 +62,7 @@ fn copy_rows(alloc: Global, rows: &[LineRow]) -> Result<Vec<LineRow>, Memory>
 {
     let mut copies = Vec::new(alloc);
     'rows: for row in rows {
-        copies.push(copy_row(alloc, row)?)?;
+        copies.push(copy_row(row)?)?;
     }
     Ok(copies)
 }

@@ -53,7 +53,7 @@ fn read_parameter(alloc: Global, reading: &mut Reading, v: &Var) -> Result<CType
     }
     let size = parameter_words(&reading.globals.layouts, &reading.globals.whole, &ty);
     let words = placed(v.span, size)?;
-    let kept = copy_type(alloc, &ty)?;
+    let kept = copy_type(&ty)?;
     reading
         .state
         .add_object(alloc, v.name.bytes(), words, kept)?;
@@ -81,7 +81,7 @@ fn copy_types(alloc: Global, types: &[CType]) -> Result<Vec<CType>, Memory>
 {
     let mut found = Vec::new(alloc);
     for ty in types {
-        found.push(copy_type(alloc, ty)?)?;
+        found.push(copy_type(ty)?)?;
     }
     Ok(found)
 }
@@ -206,7 +206,7 @@ fn declare_function(
     ensures named { OnOk result (un reading.new ≡ named name.now (DeclaredFunction (map ctype params.now) (ctype gives.now)) (un reading.old)) }
 {
     let params = Seq::from_vec(copy_types(alloc, params)?);
-    let gives = copy_type(alloc, gives)?;
+    let gives = copy_type(gives)?;
     declare(alloc, reading, name.bytes(), Decl::Function(params, gives))
 }
 
@@ -225,7 +225,7 @@ fn keep_function(
     let locals = end(alloc, &mut reading.state);
     if let Some(body) = body {
         reading.functions.push(TFunction {
-            name: name.copy(alloc)?,
+            name: name.copy()?,
             params: Seq::from_vec(params),
             locals: Seq::from_vec(locals),
             made: Seq::from_vec(made),

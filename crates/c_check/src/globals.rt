@@ -72,12 +72,12 @@ fn read_global(
     let object = reading.objects.next();
     let fresh = is_free(&reading.globals, v.name.bytes());
     let ty = type_at(alloc, reading, v.span, &v.ty)?;
-    let named = copy_type(alloc, &ty)?;
+    let named = copy_type(&ty)?;
     declare(alloc, reading, v.name.bytes(), Decl::Object(object, named))?;
     let init = maybe_fill_at(alloc, reading, &ty, &v.init)?;
     let size = global_size(reading, fresh, &ty);
     let words = placed(v.span, size)?;
-    reading.objects.add(v.name.copy(alloc)?, words)?;
+    reading.objects.add(v.name.copy()?, words)?;
     keep(filled, object, ty, init)?;
     Ok(())
 }

@@ -1,15 +1,11 @@
--- Sizes that wrap, and the room beside the globals.
+-- Pointers that wrap, and the room beside the globals.
 use Rattle.obj_mem.specs.declared.cell.Cell.{Cell}
 use Rattle.obj_mem.specs.declared.cell.Cell.TheVariants.{Unwritten, Num, Ptr, Null}
 use Rattle.obj_mem.specs.Queries.{further}
 use Rattle.std.proofs.Common.{◌≡◌, ℕ, ◌+◌, ◌*◌, ◌/◌, ◌%◌, ◌^◌, add_assoc, ◌≤◌, leb, min, sym, ap, ◌∙◌, refl, arith, inl, inr}
 use Rattle.std.proofs.lemmas.Bool.{cases_lt}
 use Rattle.std.proofs.lemmas.Bool.Decides.{leb_tells}
-use Rattle.std.proofs.lemmas.Nat.{mul-mod_first}
 use Rattle.std.proofs.Math.Nat.{min-eq_left, min-eq_right, add-mul-mod_self_right, mod-add-div'}
-
-pub wrapped_words : (a b : ℕ) → (a % 2 ^ 32 * b) % 2 ^ 32 ≡ (a * b) % 2 ^ 32
-wrapped_words a b = mul-mod_first a b (2 ^ 32)
 
 same_test : (a b c : ℕ) → (a ≤ c → b ≤ c) → (b ≤ c → a ≤ c) → leb a c ≡ leb b c
 same_test a b c f g = elim (leb_tells a c) [

@@ -1,7 +1,6 @@
 // What is read of a program and of the sizes of its frames.
-ghost use Rattle.std.specs.Prelude.{◌≡◌, map, slice_get, option_map, ◌+◌, ◌%◌, ◌^◌, leb, length};
+ghost use Rattle.std.specs.Prelude.{◌≡◌, map, slice_get, option_map, ◌+◌, leb, length};
 ghost use Rattle.c_types.specs.View.{layout, function, ctype};
-ghost use Rattle.c_types.specs.Sizes.{layout_size, words_of};
 ghost use Rattle.obj_mem.specs.Stores.{ram_words, words_here};
 ghost use Rattle.c_meaning.specs.Setting.{words, literal_at, literal_words, card_at, result_of};
 ghost use Rattle.c_meaning.specs.Expressions.{params_of};
@@ -9,32 +8,8 @@ ghost use Rattle.c_meaning.specs.Parts.{part_type, member_type};
 ghost use Rattle.c_evaluate.specs.SettingView.{setting_of, or_void};
 
 use crate::setting::Setting;
-use c_types::{CType, Layout, TFunction};
+use c_types::{CType, Layout, TFunction, wrapped_size};
 use obj_mem::Cell;
-
-/// The words of a structure or union.
-fn layout_words(layouts: &[Layout], number: u32) -> u32
-    ensures { result ≡ layout_size (map layout layouts.now) number }
-{
-    match layouts.get(number as usize) {
-        Some(l) => l.size(),
-        None => 0,
-    }
-}
-
-/// The words of a type, which wrap.
-#[tactic(auto, using(crate::proofs::Wrapping::wrapped_words))]
-fn words_in(layouts: &[Layout], ty: &CType) -> u32
-    ensures { result ≡ words_of (map layout layouts.now) (ctype ty.now) % 2 ^ 32 }
-{
-    match ty {
-        CType::Void => 0,
-        CType::Int | CType::Bool | CType::Enum(_) | CType::Pointer(_) => 1,
-        CType::Struct(number) => layout_words(layouts, *number),
-        CType::Union(number) => layout_words(layouts, *number),
-        CType::Array(of, length) => words_in(layouts, of).wrapping_mul(*length),
-    }
-}
 
 fn member_type(layouts: &[Layout], number: u32, k: usize) -> Option<&CType>
     ensures { or_void result ≡ member_type (map layout layouts.now) number k }
@@ -50,7 +25,7 @@ impl<'a> Setting<'a> {
     pub(crate) fn words(&self, ty: &CType) -> u32
         ensures { result ≡ words (setting_of self.now) (ctype ty.now) }
     {
-        words_in(self.checked.layouts(), ty)
+        wrapped_size(self.checked.layouts(), ty)
     }
 
     /// The type of a part of an array, a structure or a union; none where there is no such part.

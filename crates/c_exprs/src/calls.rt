@@ -76,7 +76,6 @@ fn all_convert(args: &[TExpr], params: &[CType]) -> bool
 }
 
 fn with_body(
-    alloc: Global,
     gives: &CType,
     number: Option<u32>,
     xs: Vec<TExpr>,
@@ -86,7 +85,7 @@ fn with_body(
 {
     match number {
         Some(number) => {
-            let ty = copy_type(alloc, gives)?;
+            let ty = copy_type(gives)?;
             Ok((TKind::Call(number, Seq::from_vec(xs)), ty))
         }
         None => Err(refused(span, Code::BadCall)),
@@ -96,7 +95,6 @@ fn with_body(
 /// A call of a function with these parameters, whose number is none where it has no body.
 #[tactic(auto, using(crate::proofs::Arguments::arguments), unfolding(crate::specs::Calls::function_call))]
 fn function_call(
-    alloc: Global,
     params: &[CType],
     gives: &CType,
     number: Option<u32>,
@@ -111,7 +109,7 @@ fn function_call(
     if xs.len() != params.len() {
         return Err(refused(span, Code::BadCall));
     }
-    with_body(alloc, gives, number, xs, span)
+    with_body(gives, number, xs, span)
 }
 
 fn read_port(args: &[Expr], span: Span) -> Result<(TKind, CType), CheckErr>
@@ -252,7 +250,7 @@ pub(crate) fn call_node(
         Some(Decl::Object(_, _)) => Err(refused(span, Code::WrongType)),
         Some(Decl::Function(params, gives)) => {
             let number = globals.body(name.bytes());
-            function_call(alloc, params.as_slice(), gives, number, xs, span)
+            function_call(params.as_slice(), gives, number, xs, span)
         }
         None => match intrinsic_of(name.bytes()) {
             Some(intrinsic) => intrinsic_call(alloc, intrinsic, args, xs, span),

@@ -62,7 +62,7 @@ pub(crate) fn assign_tree(
     ensures rule { Gives (λ r. ctype r.ty) result (at_node span (assign_rule (map layout globals.now.layouts.items) globals.now.whole.items (type_of_typed (texpr x)) (is_place (texpr x)) (type_of_typed (texpr y)))) }
     ensures tree { IfOk result (λ r. texpr r ≡ Typed (AssignK None (texpr x) (texpr y)) (ctype r.ty) span) }
 {
-    let ty = assign_at(alloc, globals, span, &x.ty, is_place(&x), &y.ty);
+    let ty = assign_at(globals, span, &x.ty, is_place(&x), &y.ty);
     let ((x, y), ty) = keeping((x, y), ty)?;
     let (ty, (x, y)) = keeping(ty, boxed(alloc, x, y))?;
     Ok(node(TKind::Assign(None, x, y), ty, span))
@@ -111,7 +111,7 @@ pub(crate) fn index_tree(
     ensures rule { Gives (λ r. ctype r.ty) result (at_node span (index_rule globals.now.whole.items (type_of_typed (texpr x)) (type_of_typed (texpr y)))) }
     ensures tree { IfOk result (λ r. texpr r ≡ Typed (IndexK (texpr x) (texpr y)) (ctype r.ty) span) }
 {
-    let ty = index_at(alloc, globals, span, &x.ty, &y.ty);
+    let ty = index_at(globals, span, &x.ty, &y.ty);
     let ((x, y), ty) = keeping((x, y), ty)?;
     let (ty, (x, y)) = keeping(ty, boxed(alloc, x, y))?;
     Ok(node(TKind::Index(x, y), ty, span))
@@ -121,7 +121,7 @@ pub(crate) fn cast_tree(alloc: Global, to: CType, x: TExpr, span: Span) -> Resul
     ensures rule { Gives (λ r. ctype r.ty) result (at_node span (cast_rule (type_of_typed (texpr x)) (ctype to))) }
     ensures tree { IfOk result (λ r. texpr r ≡ Typed (CastK (texpr x)) (ctype r.ty) span) }
 {
-    let ty = cast_at(alloc, span, &x.ty, &to);
+    let ty = cast_at(span, &x.ty, &to);
     let (x, ty) = keeping(x, ty)?;
     let (ty, x) = keeping(ty, Box::new(alloc, x))?;
     Ok(node(TKind::Cast(x), ty, span))

@@ -72,7 +72,6 @@ pub(crate) fn binary_at(
 
 #[tactic(auto, using(crate::proofs::Placing::given_at))]
 pub(crate) fn assign_at(
-    alloc: Global,
     globals: &Globals,
     span: Span,
     to: &CType,
@@ -81,7 +80,7 @@ pub(crate) fn assign_at(
 ) -> Result<CType, CheckErr>
     ensures { Gives ctype result (at_node span (assign_rule (map layout globals.now.layouts.items) globals.now.whole.items (ctype to.now) place (ctype from.now))) }
 {
-    let answer = assign_type(alloc, &globals.layouts, &globals.whole, to, place, from);
+    let answer = assign_type(&globals.layouts, &globals.whole, to, place, from);
     at_node(span, answer)
 }
 
@@ -119,7 +118,6 @@ pub(crate) fn step_at(
 
 #[tactic(auto, using(crate::proofs::Placing::given_at))]
 pub(crate) fn index_at(
-    alloc: Global,
     globals: &Globals,
     span: Span,
     a: &CType,
@@ -127,19 +125,14 @@ pub(crate) fn index_at(
 ) -> Result<CType, CheckErr>
     ensures { Gives ctype result (at_node span (index_rule globals.now.whole.items (ctype a.now) (ctype b.now))) }
 {
-    at_node(span, index_type(alloc, &globals.whole, a, b))
+    at_node(span, index_type(&globals.whole, a, b))
 }
 
 #[tactic(auto, using(crate::proofs::Placing::given_at))]
-pub(crate) fn cast_at(
-    alloc: Global,
-    span: Span,
-    from: &CType,
-    to: &CType,
-) -> Result<CType, CheckErr>
+pub(crate) fn cast_at(span: Span, from: &CType, to: &CType) -> Result<CType, CheckErr>
     ensures { Gives ctype result (at_node span (cast_rule (ctype from.now) (ctype to.now))) }
 {
-    at_node(span, cast_type(alloc, from, to))
+    at_node(span, cast_type(from, to))
 }
 
 #[tactic(auto, unfolding(crate::specs::Faults::at_node))]

@@ -41,7 +41,7 @@ impl Texts {
     /// Adds a text of a node of this span, and gives its number. A text has a word for each byte and a last word 0; the error is
     /// TooLarge where all have over 4,000,000 words with it.
     #[tactic(auto, using(crate::proofs::Maps::length_words), unfolding(crate::specs::Faults::with_text))]
-    pub fn add(&mut self, alloc: Global, text: &Name, span: Span) -> Result<u32, CheckErr>
+    pub fn add(&mut self, text: &Name, span: Span) -> Result<u32, CheckErr>
         ensures added { Gives (λ k. (k, self.new)) result (with_text span self.old text.now) }
         ensures short { OnOk result (length text.now < 4000000) }
     {
@@ -53,7 +53,7 @@ impl Texts {
             });
         }
         let number = self.items.len() as u32;
-        self.items.push(text.copy(alloc)?)?;
+        self.items.push(text.copy()?)?;
         self.words += long as u32 + 1;
         Ok(number)
     }

@@ -35,7 +35,6 @@ pub(crate) fn node(kind: TKind, ty: CType, span: Span) -> TExpr
 
 #[tactic(auto, unfolding(crate::specs::Nodes::name_tree))]
 pub(crate) fn name_tree(
-    alloc: Global,
     globals: &Globals,
     scopes: &[Scope],
     name: &Name,
@@ -44,14 +43,14 @@ pub(crate) fn name_tree(
     ensures { Gives texpr result (placed span (name_tree (ctx globals.now scopes.now) name.now span)) }
 {
     if let Some(local) = find_local(name.bytes(), scopes) {
-        let ty = copy_type(alloc, &local.ty)?;
+        let ty = copy_type(&local.ty)?;
         return Ok(node(TKind::Local(local.number), ty, span));
     }
     match globals.find(name.bytes()) {
         Some(Decl::Alias(_)) => Err(refused(span, Code::Twice)),
         Some(Decl::Constant(n)) => Ok(node(TKind::Number(*n), CType::Int, span)),
         Some(Decl::Object(number, ty)) => {
-            let ty = copy_type(alloc, ty)?;
+            let ty = copy_type(ty)?;
             Ok(node(TKind::Global(*number), ty, span))
         }
         Some(Decl::Function(_, _)) => Err(refused(span, Code::WrongType)),
@@ -67,7 +66,6 @@ pub(crate) fn name_tree(
 
 #[tactic(auto, unfolding(crate::specs::Nodes::named_type))]
 pub(crate) fn named_type(
-    alloc: Global,
     globals: &Globals,
     scopes: &[Scope],
     name: &Name,
@@ -76,7 +74,7 @@ pub(crate) fn named_type(
     ensures { Gives ctype result (placed span (named_type (ctx globals.now scopes.now) name.now)) }
 {
     match globals.find(name.bytes()) {
-        Some(Decl::Alias(ty)) => Ok(copy_type(alloc, ty)?),
+        Some(Decl::Alias(ty)) => Ok(copy_type(ty)?),
         Some(Decl::Constant(_)) => Err(refused(span, Code::Twice)),
         Some(Decl::Object(_, _)) => Err(refused(span, Code::Twice)),
         Some(Decl::Function(_, _)) => Err(refused(span, Code::Twice)),
@@ -136,7 +134,6 @@ fn member_in<'a>(found: Option<&'a Layout>, name: &Name, span: Span) -> Result<&
 
 /// The offset and the type of `x.name`, whose tree is made of them.
 fn member_of(
-    alloc: Global,
     layouts: &[Layout],
     x: &TExpr,
     name: &Name,
@@ -148,7 +145,7 @@ fn member_of(
     if !is_place(x) && is_array(&member.ty) {
         return Err(refused(span, Code::NotAPlace));
     }
-    let ty = copy_type(alloc, &member.ty)?;
+    let ty = copy_type(&member.ty)?;
     Ok((member.offset, ty))
 }
 
@@ -162,7 +159,7 @@ pub(crate) fn member_tree(
 ) -> Result<TExpr, CheckErr>
     ensures { Gives texpr result (placed span (member_at span (texpr x) (member_in name.now (layout_of (map layout layouts.now) (type_of_typed (texpr x)))))) }
 {
-    let found = member_of(alloc, layouts, &x, name, span);
+    let found = member_of(layouts, &x, name, span);
     let (x, (offset, ty)) = keeping(x, found)?;
     let (ty, x) = keeping(ty, Box::new(alloc, x))?;
     Ok(node(TKind::Member(x, offset), ty, span))
@@ -170,7 +167,6 @@ pub(crate) fn member_tree(
 
 /// The offset and the type of `x->name`, whose tree is made of them.
 fn arrow_of(
-    alloc: Global,
     layouts: &[Layout],
     x: &TExpr,
     name: &Name,
@@ -179,7 +175,7 @@ fn arrow_of(
     ensures { Gives (λ r. Typed (ArrowK (texpr x.now) r.0) (ctype r.1) span) result (placed span (arrow_at span (texpr x.now) (member_in name.now (layout_behind (map layout layouts.now) (pointed (decayed (type_of_typed (texpr x.now)))))))) }
 {
     let member = member_in(layout_behind(layouts, &x.ty), name, span)?;
-    let ty = copy_type(alloc, &member.ty)?;
+    let ty = copy_type(&member.ty)?;
     Ok((member.offset, ty))
 }
 
@@ -193,7 +189,7 @@ pub(crate) fn arrow_tree(
 ) -> Result<TExpr, CheckErr>
     ensures { Gives texpr result (placed span (arrow_at span (texpr x) (member_in name.now (layout_behind (map layout layouts.now) (pointed (decayed (type_of_typed (texpr x)))))))) }
 {
-    let found = arrow_of(alloc, layouts, &x, name, span);
+    let found = arrow_of(layouts, &x, name, span);
     let (x, (offset, ty)) = keeping(x, found)?;
     let (ty, x) = keeping(ty, Box::new(alloc, x))?;
     Ok(node(TKind::Arrow(x, offset), ty, span))

@@ -33,11 +33,12 @@ use c_tree::{Expr, Span, TypeTree, UnOp};
 use c_types::{CType, TExpr, TKind};
 use kit_base::Name;
 use std::alloc::Global;
+use std::rc::Rc;
 
 fn text_tree(alloc: Global, texts: &mut Texts, text: &Name, span: Span) -> Result<TExpr, CheckErr>
     ensures { Gives (λ r. (texpr r, texts.new)) result (text_tree span texts.old text.now) }
 {
-    let number = texts.add(alloc, text, span)?;
+    let number = texts.add(text, span)?;
     let ty = array_of(alloc, &CType::Int, text.bytes().len() as u32 + 1)?;
     Ok(node(TKind::Literal(number), ty, span))
 }
@@ -71,7 +72,7 @@ fn typed(
     ensures { Gives (λ r. (texpr r, texts.new)) result (typed (ctx globals.now scopes.now) texts.old (expr e.now)) }
 {
     match e {
-        Expr::Name(name, span) => Ok(name_tree(alloc, globals, scopes, name, *span)?),
+        Expr::Name(name, span) => Ok(name_tree(globals, scopes, name, *span)?),
         Expr::Number(n, span) => Ok(node(TKind::Number(*n), CType::Int, *span)),
         Expr::Text(text, span) => text_tree(alloc, texts, text, *span),
         Expr::Null(span) => {
@@ -203,10 +204,10 @@ fn type_of(
         TypeTree::Int => Ok(CType::Int),
         TypeTree::Bool => Ok(CType::Bool),
         TypeTree::Void => Ok(CType::Void),
-        TypeTree::Named(name) => Ok(named_type(alloc, globals, scopes, name, span)?),
+        TypeTree::Named(name) => Ok(named_type(globals, scopes, name, span)?),
         TypeTree::Pointer(to) => {
             let to = type_of(alloc, globals, scopes, texts, span, to)?;
-            Ok(CType::Pointer(Box::new(alloc, to)?))
+            Ok(CType::Pointer(Rc::new(alloc, to)?))
         }
         TypeTree::Array(of, n) => {
             let x = valued(alloc, globals, scopes, texts, n)?;

@@ -1,9 +1,10 @@
 -- The last expansion that was begun is put first.
-use Rattle.std.proofs.Common.{◌≡◌, ℕ, zero, suc, ◌<◌, ◌≤◌, ◌+◌, ◌-◌, List, [], ◌∷◌, ◌++◌, length, Bool, true, false, cond, ltb, ◌||◌, refl, sym, ap, ◌∙◌, append_assoc, arith}
-use Rattle.std.specs.Prelude.{Result, Ok, Err, Some, None, bytes_eq}
+use Rattle.std.proofs.Common.{◌≡◌, ℕ, zero, suc, ◌<◌, ◌≤◌, ◌+◌, ◌-◌, List, [], ◌∷◌, ◌++◌, length, map, Bor, Bool, true, false, cond, ltb, ◌||◌, refl, sym, ap, ◌∙◌, append_assoc, arith}
+use Rattle.std.specs.Prelude.{Option, Result, Ok, Err, Some, None, bytes_eq}
 use Rattle.std.specs.List.{list_any}
 use Rattle.std.proofs.lemmas.Bool.{ltb-true}
 use Rattle.std.proofs.lemmas.List.{map_push, length-append, nil_from_length}
+use Rattle.indexmap.specs.IndexSet.{insert_key}
 use Rattle.c_lex.specs.declared.token.Kind.{Kind}
 use Rattle.c_lex.specs.declared.token.Token.{Token}
 use Rattle.c_prep.specs.declared.error.StepErr.{StepErr}
@@ -12,7 +13,8 @@ use Rattle.c_prep.specs.declared.error.FaultAt.{FaultAt}
 use Rattle.c_prep.specs.declared.error.Fault.TheVariants.{TooManyTokens}
 use Rattle.c_prep.specs.declared.replace.Frame.{Frame}
 use Rattle.c_prep.specs.Faults.{◌>>=◌, Gives, fault_at}
-use Rattle.c_prep.specs.Macros.{Table, Put, Macro, each, stands, macro_of, counted, emitted, replaced_at, replaced_in}
+use Rattle.c_prep.specs.Kinds.{word_in}
+use Rattle.c_prep.specs.Macros.{Table, Put, Macro, macro_at, body_of, visible, each, stands, macro_of, counted, emitted, replaced_at, replaced_in}
 use Rattle.c_prep.specs.Frames.{names, macro_in, at_place, unwound, unwound_after, Goes}
 
 abbrev Step : Type 0
@@ -30,9 +32,38 @@ bind_same : (r : Result Put FaultAt) (f g : Step) → ((o : Put) → f o ≡ g o
 bind_same (Ok o) f g h = h o
 bind_same (Err e) f g h = refl
 
-pub any_name : (fs : List Frame) (name : List ℕ) → list_any (bytes_eq name) (names fs) ≡ list_any (λ f. bytes_eq name f.name.now) fs
-any_name [] name = refl
-any_name (f ∷ fs) name = ap (λ b. bytes_eq name f.name.now || b) (any_name fs name)
+pub any_key : (ks : List (Bor (List ℕ))) (name : List ℕ) → list_any (λ k. bytes_eq name k.now) ks ≡ list_any (bytes_eq name) (map (λ k. k.now) ks)
+any_key [] name = refl
+any_key (k ∷ ks) name = ap (λ b. bytes_eq name k.now || b) (any_key ks name)
+
+abbrev same_name : Bor (List ℕ) → Bor (List ℕ) → Bool
+same_name x y = bytes_eq x.now y.now
+
+pub entered : (ks new : List (Bor (List ℕ))) (k : Bor (List ℕ)) → list_any (bytes_eq k.now) (map (λ k. k.now) ks) ≡ false → new ≡ insert_key same_name ks k → map (λ k. k.now) new ≡ map (λ k. k.now) ks ++ k.now ∷ []
+entered ks new k absent made =
+    let none : list_any (same_name k) ks ≡ false = any_key ks k.now ∙ absent in
+    ap (map (λ k. k.now)) (made ∙ ap (λ b. cond b ks (ks ++ k ∷ [])) none) ∙ map_push (λ k. k.now) ks k
+
+abbrev name_of : Option Macro → List ℕ
+name_of None = []
+name_of (Some m) = m.name
+
+new_by : (inside : List (List ℕ)) (name : List ℕ) (body : List Kind) (m : Macro) (b : Bool) → list_any (bytes_eq name) inside ≡ b → cond b None (Some (record { name = name; body = body })) ≡ Some m → list_any (bytes_eq m.name) inside ≡ false
+new_by inside name body m true h e = absurd cc
+new_by inside name body m false h e = ap (λ n. list_any (bytes_eq n) inside) (sym (ap name_of e)) ∙ h
+
+new_visible : (inside : List (List ℕ)) (name : List ℕ) (m : Macro) (body : Option (List Kind)) → visible body inside name ≡ Some m → list_any (bytes_eq m.name) inside ≡ false
+new_visible inside name m None e = absurd cc
+new_visible inside name m (Some body) e = new_by inside name body m (list_any (bytes_eq name) inside) refl e
+
+new_at : (table : Table) (inside : List (List ℕ)) (m : Macro) (word : Option (List ℕ)) → macro_at word table inside ≡ Some m → list_any (bytes_eq m.name) inside ≡ false
+new_at table inside m None e = absurd cc
+new_at table inside m (Some name) e = new_visible inside name m (body_of table name) e
+
+-- the macro that a token names has a name that is not there yet
+pub new_name : (table : Table) (inside : List (List ℕ)) (kind : Kind) (m : Macro) → macro_of table inside kind ≡ Some m → list_any (bytes_eq m.name) inside ≡ false
+unfolding macro_of
+new_name table inside kind m e = new_at table inside m (word_in kind) e
 
 length-names : (fs : List Frame) → length (names fs) ≡ length fs
 length-names [] = refl

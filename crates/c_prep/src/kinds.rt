@@ -50,14 +50,14 @@ pub fn same_kinds(kinds: &[Kind], tokens: &[Token]) -> bool
 }
 
 /// The same kind once more.
-pub fn copied_kind(alloc: Global, kind: &Kind) -> Result<Kind, Memory>
+pub fn copied_kind(kind: &Kind) -> Result<Kind, Memory>
     ensures { IfOk result (λ k. k ≡ kind.now) }
 {
     match kind {
-        Kind::Word(name) => Ok(Kind::Word(name.copy(alloc)?)),
+        Kind::Word(name) => Ok(Kind::Word(name.copy()?)),
         Kind::Number(n) => Ok(Kind::Number(*n)),
         Kind::Char(c) => Ok(Kind::Char(*c)),
-        Kind::Text(text) => Ok(Kind::Text(text.copy(alloc)?)),
+        Kind::Text(text) => Ok(Kind::Text(text.copy()?)),
         Kind::Punct(p) => Ok(Kind::Punct(*p)),
     }
 }
@@ -68,7 +68,7 @@ pub fn copied_kinds(alloc: Global, tokens: &[Token]) -> Result<Vec<Kind>, Memory
 {
     let mut kinds = Vec::new(alloc);
     'each: for token in tokens {
-        kinds.push(copied_kind(alloc, &token.kind)?)?;
+        kinds.push(copied_kind(&token.kind)?)?;
     }
     Ok(kinds)
 }

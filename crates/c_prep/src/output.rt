@@ -42,14 +42,14 @@ impl Output {
     }
 
     /// Puts a token of that kind at that place.
-    pub fn emit(&mut self, alloc: Global, at: &Token, kind: &Kind) -> Result<(), StepErr>
+    pub fn emit(&mut self, at: &Token, kind: &Kind) -> Result<(), StepErr>
         ensures { Gives self.new result (emitted at.now kind.now self.old) }
     {
         if self.tokens.len() >= TOKENS {
             return Err(StepErr::At(fault_at(Fault::TooManyTokens, at)));
         }
         self.tokens.push(Token {
-            kind: copied_kind(alloc, kind)?,
+            kind: copied_kind(kind)?,
             file: at.file,
             line: at.line,
             start: at.start,

@@ -1,3 +1,4 @@
 pub mod LowestCode
 pub mod SameTypes
 pub mod Compounds
+pub mod Walks

@@ -7,9 +7,11 @@ ghost use Rattle.c_rules.specs.Kinds.{decayed};
 use c_types::CType;
 use kit_base::Memory;
 use std::alloc::Global;
+use std::rc::Rc;
 
-/// The same type once more. The error is want of memory.
-pub fn copy_type(alloc: Global, ty: &CType) -> Result<CType, Memory>
+/// The same type once more, which shares what is below it and takes no memory. The error is a type that is shared too often to be
+/// counted, which is told as want of memory.
+pub fn copy_type(ty: &CType) -> Result<CType, Memory>
     ensures same { IfOk result (λ r. ctype r ≡ ctype ty.now) }
 {
     match ty {
@@ -19,8 +21,8 @@ pub fn copy_type(alloc: Global, ty: &CType) -> Result<CType, Memory>
         CType::Enum(number) => Ok(CType::Enum(*number)),
         CType::Struct(number) => Ok(CType::Struct(*number)),
         CType::Union(number) => Ok(CType::Union(*number)),
-        CType::Pointer(to) => Ok(CType::Pointer(Box::new(alloc, copy_type(alloc, to)?)?)),
-        CType::Array(of, len) => Ok(CType::Array(Box::new(alloc, copy_type(alloc, of)?)?, *len)),
+        CType::Pointer(to) => Ok(CType::Pointer(to.clone()?)),
+        CType::Array(of, len) => Ok(CType::Array(of.clone()?, *len)),
     }
 }
 
@@ -28,28 +30,28 @@ pub fn copy_type(alloc: Global, ty: &CType) -> Result<CType, Memory>
 pub fn pointer_to(alloc: Global, ty: &CType) -> Result<CType, Memory>
     ensures pointer { IfOk result (λ r. ctype r ≡ PointerY (ctype ty.now)) }
 {
-    Ok(CType::Pointer(Box::new(alloc, copy_type(alloc, ty)?)?))
+    Ok(CType::Pointer(Rc::new(alloc, copy_type(ty)?)?))
 }
 
 /// The type of an array of so many of these, without regard to any rule. The error is want of memory.
 pub fn array_of(alloc: Global, of: &CType, len: u32) -> Result<CType, Memory>
     ensures array { IfOk result (λ r. ctype r ≡ ArrayY (ctype of.now) len) }
 {
-    Ok(CType::Array(Box::new(alloc, copy_type(alloc, of)?)?, len))
+    Ok(CType::Array(Rc::new(alloc, copy_type(of)?)?, len))
 }
 
-/// The type of a value: an array's is a pointer to its first element. The error is want of memory.
-pub fn decayed(alloc: Global, ty: &CType) -> Result<CType, Memory>
+/// The type of a value: an array's is a pointer to its first element. The error is that of `copy_type`.
+pub fn decayed(ty: &CType) -> Result<CType, Memory>
     ensures value { IfOk result (λ r. ctype r ≡ decayed (ctype ty.now)) }
 {
     match ty {
-        CType::Array(of, _) => pointer_to(alloc, of),
+        CType::Array(of, _) => Ok(CType::Pointer(of.clone()?)),
         CType::Void
         | CType::Int
         | CType::Bool
         | CType::Enum(_)
         | CType::Struct(_)
         | CType::Union(_)
-        | CType::Pointer(_) => copy_type(alloc, ty),
+        | CType::Pointer(_) => copy_type(ty),
     }
 }

@@ -179,21 +179,34 @@ fn is_same(number: u32, other: Option<u32>) -> bool
 pub fn same_type(a: &CType, b: &CType) -> bool
     ensures same { result ≡ same_type (ctype a.now) (ctype b.now) }
 {
-    match a {
-        CType::Void => matches!(b, CType::Void),
-        CType::Int => matches!(b, CType::Int),
-        CType::Bool => matches!(b, CType::Bool),
-        CType::Enum(number) => is_same(*number, enum_number(b)),
-        CType::Struct(number) => is_same(*number, struct_number(b)),
-        CType::Union(number) => is_same(*number, union_number(b)),
-        CType::Pointer(to) => match pointed(b) {
-            Some(other) => same_type(to, other),
-            None => false,
-        },
-        CType::Array(of, len) => match elements(b) {
-            Some((other, count)) => same_type(of, other) && *len == count,
-            None => false,
-        },
+    let mut left = a;
+    let mut right = b;
+    loop {
+        match left {
+            CType::Void => return matches!(right, CType::Void),
+            CType::Int => return matches!(right, CType::Int),
+            CType::Bool => return matches!(right, CType::Bool),
+            CType::Enum(number) => return is_same(*number, enum_number(right)),
+            CType::Struct(number) => return is_same(*number, struct_number(right)),
+            CType::Union(number) => return is_same(*number, union_number(right)),
+            CType::Pointer(to) => {
+                let Some(other) = pointed(right) else {
+                    return false;
+                };
+                left = to;
+                right = other;
+            }
+            CType::Array(of, len) => {
+                let Some((other, count)) = elements(right) else {
+                    return false;
+                };
+                if *len != count {
+                    return false;
+                }
+                left = of;
+                right = other;
+            }
+        }
     }
 }
 

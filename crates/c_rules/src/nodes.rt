@@ -44,7 +44,7 @@ pub fn unary_type(alloc: Global, op: UnOp, ty: &CType, place: bool) -> Result<CT
             Ok(CType::Bool)
         }
         UnOp::Deref => match target(ty) {
-            Some(to) => Ok(copy_type(alloc, to)?),
+            Some(to) => Ok(copy_type(to)?),
             None => Err(RuleErr::Broken(Code::WrongType)),
         },
         UnOp::Address => address_type(alloc, ty, place),
@@ -211,7 +211,7 @@ pub fn binary_type(
 
 /// The type of `a[b]`, a place.
 #[tactic(auto, unfolding(crate::specs::Nodes::index_rule))]
-pub fn index_type(alloc: Global, whole: &[bool], a: &CType, b: &CType) -> Result<CType, RuleErr>
+pub fn index_type(whole: &[bool], a: &CType, b: &CType) -> Result<CType, RuleErr>
     ensures judged { Gives ctype result (judged (index_rule whole.now (ctype a.now) (ctype b.now))) }
 {
     if !is_number(b) {
@@ -220,7 +220,7 @@ pub fn index_type(alloc: Global, whole: &[bool], a: &CType, b: &CType) -> Result
     match target(a) {
         Some(to) => {
             demand(Code::InfiniteType, is_whole(whole, to))?;
-            Ok(copy_type(alloc, to)?)
+            Ok(copy_type(to)?)
         }
         None => Err(RuleErr::Broken(Code::WrongType)),
     }
@@ -239,7 +239,6 @@ pub fn check_store(layouts: &[Layout], whole: &[bool], from: &CType, to: &CType)
 /// The type of an assignment: that of what is assigned, which is a place or is none.
 #[tactic(auto, unfolding(crate::specs::Nodes::assign_rule))]
 pub fn assign_type(
-    alloc: Global,
     layouts: &[Layout],
     whole: &[bool],
     to: &CType,
@@ -252,7 +251,7 @@ pub fn assign_type(
     demand(Code::NotAPlace, place)?;
     demand(Code::InfiniteType, is_whole(whole, to))?;
     demand(Code::TooLarge, fits(layouts, 4_096, to))?;
-    Ok(copy_type(alloc, to)?)
+    Ok(copy_type(to)?)
 }
 
 /// Whether what an operator gives can be kept where its first operand was.
@@ -281,7 +280,7 @@ pub fn compound_type(
     demand(Code::WrongType, is_kept(to, &value))?;
     demand(Code::NotAPlace, place)?;
     demand(Code::InfiniteType, count_is_known(whole, op, to))?;
-    Ok(copy_type(alloc, to)?)
+    Ok(copy_type(to)?)
 }
 
 fn step_operator(op: StepOp) -> BinOp
@@ -308,11 +307,11 @@ pub fn step_type(
 
 /// The type of a cast.
 #[tactic(auto, unfolding(crate::specs::Nodes::cast_rule))]
-pub fn cast_type(alloc: Global, from: &CType, to: &CType) -> Result<CType, RuleErr>
+pub fn cast_type(from: &CType, to: &CType) -> Result<CType, RuleErr>
     ensures judged { Gives ctype result (judged (cast_rule (ctype from.now) (ctype to.now))) }
 {
     demand(Code::WrongType, can_cast(from, to))?;
-    Ok(copy_type(alloc, to)?)
+    Ok(copy_type(to)?)
 }
 
 /// The words of a type whose size is asked for, as by `sizeof`, which is an int.

@@ -1,5 +1,5 @@
 // Which types have a known size, and how large they are.
-ghost use Rattle.std.specs.Prelude.{◌≡◌, ◌^◌, map, min, slice_get};
+ghost use Rattle.std.specs.Prelude.{◌≡◌, ◌≤◌, ◌^◌, ◌*◌, map, min, slice_get};
 ghost use Rattle.c_types.specs.Sizes.{layout_size, words_of};
 ghost use Rattle.c_types.specs.View.{ctype, layout};
 ghost use Rattle.c_rules.specs.Sizes.{is_declared, is_whole, fits};
@@ -20,12 +20,15 @@ fn is_declared(whole: &[bool], number: u32) -> bool
 pub fn is_whole(whole: &[bool], ty: &CType) -> bool
     ensures whole { result ≡ is_whole whole.now (ctype ty.now) }
 {
-    match ty {
-        CType::Void => false,
-        CType::Struct(number) => is_declared(whole, *number),
-        CType::Union(number) => is_declared(whole, *number),
-        CType::Array(of, _) => is_whole(whole, of),
-        CType::Int | CType::Bool | CType::Enum(_) | CType::Pointer(_) => true,
+    let mut at = ty;
+    loop {
+        match at {
+            CType::Void => return false,
+            CType::Struct(number) => return is_declared(whole, *number),
+            CType::Union(number) => return is_declared(whole, *number),
+            CType::Array(of, _) => at = of,
+            CType::Int | CType::Bool | CType::Enum(_) | CType::Pointer(_) => return true,
+        }
     }
 }
 
@@ -38,16 +41,31 @@ fn layout_words(layouts: &[Layout], number: u32) -> u32
     }
 }
 
+/// So many times a number, or 2^32 where that is more.
+fn at_most(words: u32, times: u64) -> u64
+    requires small { times ≤ 2 ^ 32 }
+    ensures product { result ≡ min (words * times) (2 ^ 32) }
+{
+    (u64::from(words) * times).min(0x1_0000_0000)
+}
+
 /// The words of a type, or 2^32 where there are more.
 pub(crate) fn words_within(layouts: &[Layout], ty: &CType) -> u64
     ensures words { result ≡ min (words_of (map layout layouts.now) (ctype ty.now)) (2 ^ 32) }
 {
-    match ty {
-        CType::Void => 0,
-        CType::Int | CType::Bool | CType::Enum(_) | CType::Pointer(_) => 1,
-        CType::Struct(number) => layout_words(layouts, *number) as u64,
-        CType::Union(number) => layout_words(layouts, *number) as u64,
-        CType::Array(of, len) => (words_within(layouts, of) * *len as u64).min(0x1_0000_0000),
+    let mut at = ty;
+    let mut times = 1u64;
+    loop {
+        match at {
+            CType::Void => return 0,
+            CType::Int | CType::Bool | CType::Enum(_) | CType::Pointer(_) => return times,
+            CType::Struct(number) => return at_most(layout_words(layouts, *number), times),
+            CType::Union(number) => return at_most(layout_words(layouts, *number), times),
+            CType::Array(of, len) => {
+                times = at_most(*len, times);
+                at = of;
+            }
+        }
     }
 }
 

@@ -136,7 +136,7 @@ fn enter(alloc: Global, state: &mut State, name: &[u8], ty: &CType) -> Result<u3
     if !is_new(name, &state.scopes) {
         return Ok(number);
     }
-    let kept = copy_type(alloc, ty)?;
+    let kept = copy_type(ty)?;
     declare(alloc, &mut state.scopes, name, number, kept)?;
     Ok(number)
 }

@@ -1,5 +1,5 @@
 // How many words a type has, and where members stand.
-ghost use Rattle.std.specs.Prelude.{◌≡◌, ◌<◌, ◌^◌, ◌-◌, min, length, map, option_map, is_some, slice_get, false, OnOk, OnErr};
+ghost use Rattle.std.specs.Prelude.{◌≡◌, ◌<◌, ◌^◌, ◌-◌, ◌%◌, min, length, map, option_map, is_some, slice_get, false, OnOk, OnErr};
 ghost use Rattle.c_types.specs.View.{ctype, layout, named};
 ghost use Rattle.c_types.specs.Sizes.{no_layout, next_offset, size_with, with_member, capped, layout_size, words_of, IsNumbered, member_named, offset_of};
 
@@ -113,12 +113,34 @@ impl Layout {
     }
 }
 
-/// The size of the layout of that number.
+/// The size of the layout of that number; 0 where there is none.
 fn layout_size(layouts: &[Layout], number: u32) -> u32
-    requires there { number < length layouts.now }
     ensures size { result ≡ layout_size (map layout layouts.now) number }
 {
-    layouts[number as usize].size
+    match layouts.get(number as usize) {
+        Some(found) => found.size(),
+        None => 0,
+    }
+}
+
+/// The words of a type, which wrap at 2^32.
+pub fn wrapped_size(layouts: &[Layout], ty: &CType) -> u32
+    ensures size { result ≡ words_of (map layout layouts.now) (ctype ty.now) % 2 ^ 32 }
+{
+    let mut at = ty;
+    let mut times = 1u32;
+    loop {
+        match at {
+            CType::Void => return 0,
+            CType::Int | CType::Bool | CType::Enum(_) | CType::Pointer(_) => return times,
+            CType::Struct(number) => return layout_size(layouts, *number).wrapping_mul(times),
+            CType::Union(number) => return layout_size(layouts, *number).wrapping_mul(times),
+            CType::Array(of, length) => {
+                times = length.wrapping_mul(times);
+                at = of;
+            }
+        }
+    }
 }
 
 /// The number of words of a type: one of a scalar, the layout's of a structure or union, the product of an array.
@@ -127,14 +149,7 @@ pub fn size_of(layouts: &[Layout], ty: &CType) -> u32
     requires fits { words_of (map layout layouts.now) (ctype ty.now) < 2 ^ 32 }
     ensures size { result ≡ words_of (map layout layouts.now) (ctype ty.now) }
 {
-    match ty {
-        CType::Void => 0,
-        CType::Int | CType::Bool | CType::Enum(_) | CType::Pointer(_) => 1,
-        CType::Struct(number) => layout_size(layouts, *number),
-        CType::Union(number) => layout_size(layouts, *number),
-        CType::Array(_, 0) => 0,
-        CType::Array(of, length) => size_of(layouts, of) * *length,
-    }
+    wrapped_size(layouts, ty)
 }
 
 /// Where the member of that name begins; none where no member has it.

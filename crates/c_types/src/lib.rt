@@ -12,5 +12,5 @@ mod typed;
 
 pub use ctype::CType;
 pub use function::TFunction;
-pub use layout::{Layout, Member, member_offset, size_of};
+pub use layout::{Layout, Member, member_offset, size_of, wrapped_size};
 pub use typed::{TArm, TExpr, TInit, TKind, TStmt, TVar};

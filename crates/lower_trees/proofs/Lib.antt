@@ -1,4 +1,3 @@
-pub mod Wrapped
 pub mod Joins
 pub mod Forms
 pub mod StatementForms

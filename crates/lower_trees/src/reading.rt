@@ -1,11 +1,10 @@
 // What the lowering reads of a program, beside the tree that it goes over.
-ghost use Rattle.std.specs.Prelude.{◌≡◌, ◌≤◌, ◌+◌, ◌%◌, ◌^◌, length, map, sum_by, option_map};
+ghost use Rattle.std.specs.Prelude.{◌≡◌, ◌≤◌, ◌+◌, length, map, sum_by, option_map};
 ghost use Rattle.c_types.specs.View.{ctype, layout, function};
-ghost use Rattle.c_types.specs.Sizes.{words_of, layout_size};
 ghost use Rattle.c_meaning.specs.Parts.{part_type, member_type};
 ghost use Rattle.lower_trees.specs.MaybeTypes.{or_void, or_none};
 
-use c_types::{CType, Layout, TFunction};
+use c_types::{CType, Layout, TFunction, wrapped_size};
 use kit_base::Name;
 use std::alloc::Global;
 
@@ -17,30 +16,6 @@ pub struct Reading<'a> {
     pub functions: &'a [TFunction],
     pub literals: &'a [Name],
     ghost texts: { sum_by (λ t. length t + 1) literals.now ≤ 4000000 },
-}
-
-/// The words of a structure or union.
-fn layout_words(layouts: &[Layout], number: u32) -> u32
-    ensures { result ≡ layout_size (map layout layouts.now) number }
-{
-    match layouts.get(number as usize) {
-        Some(l) => l.size(),
-        None => 0,
-    }
-}
-
-/// The words of a type, which wrap.
-#[tactic(auto, using(crate::proofs::Wrapped::wrapped_words))]
-fn words_in(layouts: &[Layout], ty: &CType) -> u32
-    ensures { result ≡ words_of (map layout layouts.now) (ctype ty.now) % 2 ^ 32 }
-{
-    match ty {
-        CType::Void => 0,
-        CType::Int | CType::Bool | CType::Enum(_) | CType::Pointer(_) => 1,
-        CType::Struct(number) => layout_words(layouts, *number),
-        CType::Union(number) => layout_words(layouts, *number),
-        CType::Array(of, length) => words_in(layouts, of).wrapping_mul(*length),
-    }
 }
 
 fn member_type(layouts: &[Layout], number: u32, k: usize) -> Option<&CType>
@@ -59,7 +34,7 @@ impl<'a> Reading<'a> {
     pub(crate) fn words(&self, ty: &CType) -> u32
         ensures { result ≡ words (shape_of self.now) (ctype ty.now) }
     {
-        words_in(self.layouts, ty)
+        wrapped_size(self.layouts, ty)
     }
 
     /// The words of a type, or of none.

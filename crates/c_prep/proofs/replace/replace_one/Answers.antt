@@ -1,5 +1,6 @@
 use Rattle.std.proofs.Common.{◌≡◌, List, [], ◌∷◌, ◌++◌, sym, ◌∙◌, ap, refl, arith}
 use Rattle.std.proofs.lemmas.Result.{err_from_is_err_and}
+use Rattle.std.proofs.lemmas.List.{map_push}
 use Rattle.c_prep.specs.declared.replace.Frame.{Frame}
 use Rattle.c_prep.specs.Macros.{replaced_at}
 use Rattle.c_prep.specs.Frames.{unwound, unwound_after, at_place, names}
@@ -15,7 +16,7 @@ returns-in_err-place c =
 pub each-init : goal.each-init
 each-init c =
     let first : replaced_at c.args.macros.now c.args.token.now c.args.out.now ≡ unwound_after c.args.macros.now c.args.token.now c.new-frames.result.items (at_place c.args.macros.now c.args.token.now (names c.new-frames.result.items) c.args.token.now.kind c.args.out.now) = rw c.new-frames.ensures.items (no_frames c.args.macros.now c.args.token.now (replaced_at c.args.macros.now c.args.token.now c.args.out.now)) in
-    record { goes = first ∙ c.in_ok-place.ensures.goes; counts = c.in_ok-place.ensures.counts }
+    record { goes = first ∙ c.in_ok-place.ensures.goes; counts = c.in_ok-place.ensures.counts; inside = c.in_ok-place.ensures.inside }
 
 pub each-preserved-in-Continue-branch-3 : goal.each-preserved-in-Continue-branch-3
 each-preserved-in-Continue-branch-3 c =
@@ -25,6 +26,7 @@ each-preserved-in-Continue-branch-3 c =
     record {
       goes = c.each.invariant.goes ∙ ap (λ (fs : List Frame). unwound c.args.macros.now c.args.token.now [] fs c.each.out) popped ∙ step ∙ ap (λ (fs : List Frame). unwound_after c.args.macros.now c.args.token.now fs (at_place c.args.macros.now c.args.token.now (names fs) c.in-Some-split_first.next.now c.each.out)) (sym c.in_ok-push.ensures.items) ∙ c.in_ok-place-2.ensures.goes;
       counts = c.in_ok-place-2.ensures.counts;
+      inside = c.in_ok-place-2.ensures.inside;
     }
 
 pub returns-in_err-place-2 : goal.returns-in_err-place-2
@@ -43,6 +45,7 @@ each-preserved c =
     record {
       goes = c.each.invariant.goes ∙ ap (λ (fs : List Frame). unwound c.args.macros.now c.args.token.now [] fs c.each.out) popped ∙ top_done c.args.macros.now c.args.token.now c.pop.new.self.items c.in-Some.frame c.each.out c.in_default-split_first.ensures.cases;
       counts = omega arith;
+      inside = c.leave.ensures (names c.pop.new.self.items) c.in-Some.frame.name.now (c.each.invariant.inside ∙ ap names popped ∙ map_push (λ f. f.name.now) c.pop.new.self.items c.in-Some.frame);
     }
 
 pub returns : goal.returns

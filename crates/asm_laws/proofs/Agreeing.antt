@@ -14,7 +14,8 @@ use Rattle.v32_isa.specs.Machine.{act}
 use Rattle.v32_isa.specs.Machine.Effect.{Ends as EndsIn}
 use Rattle.v32_isa.specs.Runs.{run, ended, opening_memory, opening_registers}
 use Rattle.v32_isa.specs.Runs as runs
-use Rattle.v32_isa.proofs.Steps.{before, Reaches, reaches_here, reaches_on, reaches_went, run-halted}
+use Rattle.v32_isa.specs.Calls.{Nested}
+use Rattle.v32_isa.proofs.Steps.{before, Reaches, reaches_here, reaches_on, reaches_went, run-halted, nested_none, nested_stopped}
 use Rattle.obj_mem.specs.declared.cell.Cell.{Cell}
 use Rattle.obj_mem.specs.declared.cell.Cell.TheVariants.{Unwritten, Num}
 use Rattle.obj_mem.specs.Objects.{ObjectT, object_at, cell_at}
@@ -28,9 +29,9 @@ use Rattle.mid_code.specs.Keeps.{global_cell}
 use Rattle.mid_code.specs.Agrees.{KeepsWords, Matches}
 use Rattle.asm_laws.specs.Following.{Begin, begin, Came, Stopped, Going, Sim, CallSim}
 use Rattle.asm_laws.specs.Following as follow
-use Rattle.asm_laws.proofs.Control.{entered_sim}
+use Rattle.asm_laws.proofs.Control.{still, entered_sim}
 use Rattle.asm_laws.specs.Addresses.{Addr, Held}
-use Rattle.asm_laws.proofs.Stepping.{line_effect, moved, readable_word}
+use Rattle.asm_laws.proofs.Stepping.{line_effect, line_turn, moved, readable_word}
 use Rattle.asm_laws.proofs.LinksStep.{base_held, copy_act}
 use Rattle.asm_laws.specs.Holds.{Setting, Fits, Ctx, Lives, Stands}
 use Rattle.asm_laws.specs.Calling.{Mach, Given, EndedIn, lang, holder, shapes}
@@ -118,17 +119,17 @@ module _ (S : Setting) (fits : Fits S) where
 
   module _ (m0 : machine.State) (answers : List ℕ) (n : ℕ) where
     abbrev Shown : Final → Type 0
-    Shown e = (steps : ℕ) × Matches S.whole.globals n steps (run_of S.code e) (run steps m0 answers) × (e.end ≢ Stray → steps ≤ 1 * e.world.work + 64)
+    Shown e = (steps : ℕ) × Matches S.whole.globals n steps (run_of S.code e) (run steps m0 answers) × (e.end ≢ Stray → steps ≤ 1 * e.world.work + 64) × Nested steps [] m0 answers
 
     ran_stopped : (b : Begin) (m1 : machine.State) (t : State Where) (how : runs.End) (p : Pre m0 answers b m1) (s : Stopped (holder S) m1 b t how) → run (p.steps + s.steps) m0 answers ≡ record { events = p.made ++ s.made; end = how; state = s.to }
     ran_stopped b m1 t how p s =
         let e : s.steps ≡ s.steps + 0 = omega arith in
-        p.by s.steps ∙ ap (λ k. before p.made (run k m1 b.answers)) e ∙ ap (before p.made) (s.by 0)
+        p.by.runs s.steps ∙ ap (λ k. before p.made (run k m1 b.answers)) e ∙ ap (before p.made) (s.by 0)
 
     ran_going : (b : Begin) (m1 : machine.State) (t : State Where) (k : ℕ) (p : Pre m0 answers b m1) (s : Going (holder S) m1 b t k) → run (p.steps + s.steps) m0 answers ≡ record { events = p.made ++ (s.made ++ []); end = runs.Going; state = s.to }
     ran_going b m1 t k p s =
         let e : s.steps ≡ s.steps + 0 = omega arith in
-        p.by s.steps ∙ ap (λ j. before p.made (run j m1 b.answers)) e ∙ ap (before p.made) (s.by 0) ∙ ap (λ r. before p.made (before s.made r)) (run_none s.to s.left)
+        p.by.runs s.steps ∙ ap (λ j. before p.made (run j m1 b.answers)) e ∙ ap (before p.made) (s.by 0) ∙ ap (λ r. before p.made (before s.made r)) (run_none s.to s.left)
 
     stopped_events : (b : Begin) (m1 : machine.State) (t : State Where) (how : runs.End) (p : Pre m0 answers b m1) (s : Stopped (holder S) m1 b t how) → (run (p.steps + s.steps) m0 answers).events ≡ t.world.events
     stopped_events b m1 t how p s = ap (λ r. r.events) (ran_stopped b m1 t how p s) ∙ ap (λ es. es ++ s.made) (sym p.events) ∙ sym s.events
@@ -139,16 +140,16 @@ module _ (S : Setting) (fits : Fits S) where
     shown_final : (b : Begin) (m1 : machine.State) (f : Ending) (t : State Where) → Pre m0 answers b m1 → follow.Final (holder S) n m1 b f t → Shown (final f t.world)
     shown_final b m1 Halted t p s =
         let r = ran_stopped b m1 t runs.Halted p s in
-        (p.steps + s.steps, record { events = stopped_events b m1 t runs.Halted p s; ends = (ap (λ z. z.end) r, keeps t Halted (run (p.steps + s.steps) m0 answers) s.to (ap (λ z. z.state) r) s.held) }, λ q. let c = p.cost in let d = s.cost in omega (arith, c, d))
+        (p.steps + s.steps, record { events = stopped_events b m1 t runs.Halted p s; ends = (ap (λ z. z.end) r, keeps t Halted (run (p.steps + s.steps) m0 answers) s.to (ap (λ z. z.state) r) s.held) }, λ q. let c = p.cost in let d = s.cost in omega (arith, c, d), p.by.nests [] s.steps (s.nested []))
     shown_final b m1 (Fault k) t p s =
         let r = ran_stopped b m1 t (runs.Fault k) p s in
-        (p.steps + s.steps, record { events = stopped_events b m1 t (runs.Fault k) p s; ends = (ap (λ z. z.end) r, keeps t (Fault k) (run (p.steps + s.steps) m0 answers) s.to (ap (λ z. z.state) r) s.held) }, λ q. let c = p.cost in let d = s.cost in omega (arith, c, d))
+        (p.steps + s.steps, record { events = stopped_events b m1 t (runs.Fault k) p s; ends = (ap (λ z. z.end) r, keeps t (Fault k) (run (p.steps + s.steps) m0 answers) s.to (ap (λ z. z.state) r) s.held) }, λ q. let c = p.cost in let d = s.cost in omega (arith, c, d), p.by.nests [] s.steps (s.nested []))
     shown_final b m1 Starved t p s =
         let r = ran_stopped b m1 t runs.Starved p s in
-        (p.steps + s.steps, record { events = stopped_events b m1 t runs.Starved p s; ends = (ap (λ z. z.end) r, keeps t Starved (run (p.steps + s.steps) m0 answers) s.to (ap (λ z. z.state) r) s.held) }, λ q. let c = p.cost in let d = s.cost in omega (arith, c, d))
-    shown_final b m1 Stray t p s = (p.steps + s.steps, record { events = going_events b m1 t 0 p s; ends = ap (λ z. z.end) (ran_going b m1 t 0 p s) }, λ q. let c = p.cost in let d = s.cost in omega (arith, c, d))
-    shown_final b m1 Deep t p s = (p.steps + s.steps, record { events = going_events b m1 t 0 p s; ends = ap (λ z. z.end) (ran_going b m1 t 0 p s) }, λ q. let c = p.cost in let d = s.cost in omega (arith, c, d))
-    shown_final b m1 OutOfBound t p s = (p.steps + s.steps, record { events = going_events b m1 t n p s; ends = (ap (λ z. z.end) (ran_going b m1 t n p s), let l = s.many in omega (arith, l)) }, λ q. let c = p.cost in let d = s.cost in omega (arith, c, d))
+        (p.steps + s.steps, record { events = stopped_events b m1 t runs.Starved p s; ends = (ap (λ z. z.end) r, keeps t Starved (run (p.steps + s.steps) m0 answers) s.to (ap (λ z. z.state) r) s.held) }, λ q. let c = p.cost in let d = s.cost in omega (arith, c, d), p.by.nests [] s.steps (s.nested []))
+    shown_final b m1 Stray t p s = (p.steps + s.steps, record { events = going_events b m1 t 0 p s; ends = ap (λ z. z.end) (ran_going b m1 t 0 p s) }, λ q. let c = p.cost in let d = s.cost in omega (arith, c, d), p.by.nests [] s.steps (s.nested []))
+    shown_final b m1 Deep t p s = (p.steps + s.steps, record { events = going_events b m1 t 0 p s; ends = ap (λ z. z.end) (ran_going b m1 t 0 p s) }, λ q. let c = p.cost in let d = s.cost in omega (arith, c, d), p.by.nests [] s.steps (s.nested []))
+    shown_final b m1 OutOfBound t p s = (p.steps + s.steps, record { events = going_events b m1 t n p s; ends = (ap (λ z. z.end) (ran_going b m1 t n p s), let l = s.many in omega (arith, l)) }, λ q. let c = p.cost in let d = s.cost in omega (arith, c, d), p.by.nests [] s.steps (s.nested []))
 
     -- steps before, and more of them
     further : (b : Begin) (m1 : machine.State) (t : State Where) (pc least : ℕ) (R : machine.State → Type 0) → Pre m0 answers b m1 → (f : Came (holder S) m1 b t pc least 0 R) → Pre m0 answers (begin (holder S) t) f.to
@@ -161,7 +162,7 @@ module _ (S : Setting) (fits : Fits S) where
     }
 
     strays : (b : Begin) (m1 : machine.State) (t : State Where) (pc least : ℕ) (R : machine.State → Type 0) → Pre m0 answers b m1 → Came (holder S) m1 b t pc least 0 R → Shown (final Stray t.world)
-    strays b m1 t pc least R p f = shown_final b m1 Stray t p (record { steps = f.steps; made = f.made; to = f.to; left = t.world.store.answers; by = f.by; events = f.events; cost = let d = f.cost in omega (arith, d); many = omega arith })
+    strays b m1 t pc least R p f = shown_final b m1 Stray t p (still (lang S) (holder S) [] m1 b t pc least R f)
 
 module _ (S : Setting) (card : Option (List ℕ)) (boot rest : ℕ) (l : Linked S card boot rest) where
   abbrev κ0 : Ctx
@@ -226,13 +227,14 @@ module _ (S : Setting) (card : Option (List ℕ)) (boot rest : ℕ) (l : Linked 
     halts t m1 p h e =
         let xs = t.world.store.answers in
         let eff = line_effect S.console h.words m1 l.after (instr.Plain HLT) l.last h.held e l.halt (omega arith, omega arith, omega arith) ∙ halt_effect m1 l.last in
-        let r : run (p.steps + 1) m0 answers ≡ record { events = p.made ++ []; end = runs.Halted; state = m1 } = p.by 1 ∙ ap (before p.made) (run-halted 0 m1 m1 xs eff) in (
+        let r : run (p.steps + 1) m0 answers ≡ record { events = p.made ++ []; end = runs.Halted; state = m1 } = p.by.runs 1 ∙ ap (before p.made) (run-halted 0 m1 m1 xs eff) in (
           p.steps + 1,
           record {
             events = ap (λ z. z.events) r ∙ append-nil p.made ∙ sym p.events;
             ends = (ap (λ z. z.end) r, keeps S l.fits t Halted (run (p.steps + 1) m0 answers) m1 (ap (λ z. z.state) r) (record { context = κ1; shown = m1; mach = h; memory = λ q. refl }));
           },
           λ q. let c = p.cost in omega (arith, c),
+          p.by.nests [] 1 (nested_stopped 0 [] m1 m1 xs stepped.Halted eff refl),
         )
 
     main_ends : (b : Begin) (m1 : machine.State) (r : Res (State Where)) → Pre S l.fits m0 answers b m1 → Sim (holder S) κ1 m1 b l.after n [] r → Settled r → Here (main_done r)
@@ -244,7 +246,7 @@ module _ (S : Setting) (card : Option (List ℕ)) (boot rest : ℕ) (l : Linked 
 
   module _ (m0 : machine.State) (answers : List ℕ) where
     main_row : (n : ℕ) (t : State Where) (m1 : machine.State) → Pre S l.fits m0 answers (begin (holder S) t) m1 → m1.counter ≡ S.leaves boot → Mach S κ1 t m1 → Shown S l.fits m0 answers n (main_called registers_and_slots S.code S.frames n t)
-    main_row zero t m1 p e h = shown_final S l.fits m0 answers zero (begin (holder S) t) m1 OutOfBound t p (record { steps = 0; made = []; to = m1; left = t.world.store.answers; by = reaches_here m1 t.world.store.answers; events = sym (append-nil t.world.events); cost = omega arith; many = omega arith })
+    main_row zero t m1 p e h = shown_final S l.fits m0 answers zero (begin (holder S) t) m1 OutOfBound t p (record { steps = 0; made = []; to = m1; left = t.world.store.answers; by = (reaches_here m1 t.world.store.answers).runs; nested = λ ls. nested_none ls m1 t.world.store.answers; events = sym (append-nil t.world.events); cost = omega arith; many = omega arith })
     main_row (suc j) t m1 p e h =
         let L = lang S in
         let c = subst (λ u. CallSim (holder S) (shapes S) κ1 l.after None S.code.main u m1 (begin (holder S) t) (L.enter S.code.main [] u)) (spent_zero t) (call_sim S l.fits l.functions κ1 (S.leaves boot) l.after None S.code.main [] t m1 0 (omega arith) l.calls_main e h) in
@@ -307,6 +309,7 @@ module _ (S : Setting) (card : Option (List ℕ)) (boot rest : ℕ) (l : Linked 
   first_step : (answers : List ℕ) → Reaches 1 (runs.opening S.console.words card) answers [] m1 answers
   first_step answers = reaches_went (runs.opening S.console.words card) m1 answers
       (line_effect S.console raw (runs.opening S.console.words card) 0x20000000 (instr.Mov (RegReg 14 15)) (S.enters boot) held_first refl l.opening (omega arith, omega arith, omega arith) ∙ copy_act S.console S.address (S.whole.frames boot) (S.whole.frames boot) (runs.opening S.console.words card) 14 15 (S.enters boot))
+      (line_turn S.console raw (runs.opening S.console.words card) 0x20000000 (instr.Mov (RegReg 14 15)) (S.enters boot) held_first refl l.opening (omega arith, omega arith, omega arith))
 
   -- the words do what the code means, in at most as many steps as its work and 64
   pub row : (n : ℕ) (answers : List ℕ) → Shown S l.fits (runs.opening S.console.words card) answers n (final_of registers_and_slots S.code S.frames n answers card)

@@ -13,7 +13,8 @@ use Rattle.v32_isa.specs.State.{register_of, with_register, going_to, written}
 use Rattle.v32_isa.specs.State as machine
 use Rattle.v32_isa.specs.Machine.Effect.{Ends as EndsIn}
 use Rattle.v32_isa.specs.Runs.{run}
-use Rattle.v32_isa.proofs.Steps.{Reaches, reaches_here, reaches_on, reaches_went}
+use Rattle.v32_isa.specs.Calls.{Link}
+use Rattle.v32_isa.proofs.Steps.{Moves, reaches_here, reaches_in, reaches_on, reaches_went, moves_on, nested_none}
 use Rattle.asm_items.specs.declared.item.AsmItem.TheVariants as item
 use Rattle.either.specs.declared.Either.TheVariants.{Right}
 use Rattle.obj_mem.specs.Stores.{Store, entered, returned_to}
@@ -25,13 +26,13 @@ use Rattle.mid_code.specs.Invariants.{AllOf, in_registers}
 use Rattle.asm_laws.specs.Names.{function_label}
 use Rattle.asm_laws.specs.Operations.{Frame, args_items, keeps_some}
 use Rattle.asm_laws.specs.Placing.{Line}
-use Rattle.asm_laws.specs.Following.{begin, spare, Came, Enters, CallSim}
+use Rattle.asm_laws.specs.Following.{begin, spare, CameBy, Enters, CallSim}
 use Rattle.asm_laws.specs.Standing.{Stand}
-use Rattle.asm_laws.specs.Addresses.{Addr, Console, store, put, Good, Held, Arrives}
+use Rattle.asm_laws.specs.Addresses.{Addr, Console, store, put, Good, Held, ArrivesBy}
 use Rattle.asm_laws.specs.Framing.{frame_gone}
 use Rattle.asm_laws.specs.Links.{all_passed, all_pushed, all_popped, new_slot, called, way_back, gone_back}
-use Rattle.asm_laws.proofs.Stepping.{line_effect, reg_other, moved, keeps_so, written_same, written_other}
-use Rattle.asm_laws.proofs.LinksStep.{link_bare, link_framed, framed_link, link_range, Roomy, calls, part, top_held, base_held, copy_act, popbase_act, ret_act, passed_same}
+use Rattle.asm_laws.proofs.Stepping.{line_effect, line_turn, reg_other, moved, keeps_so, written_same, written_other}
+use Rattle.asm_laws.proofs.LinksStep.{link_bare, link_framed, framed_link, link_range, Roomy, calls, part, top_held, base_held, copy_act, popbase_act, ret_act, returns_by, link_at, passed_same}
 use Rattle.asm_laws.proofs.LinksStep as emitted_calls
 use Rattle.asm_laws.specs.Holds.{Setting, sizes, Named, Fits, Ctx, slot_place, Stands, Temps, HoldsAt}
 use Rattle.asm_laws.specs.Calling.{Callable, Mach, Given, lang, holder, CallAt, shapes, FunctionAt}
@@ -41,41 +42,40 @@ use Rattle.asm_laws.proofs.Frames.{top_of, below, pointer_in, inner, room_of, lo
 use Rattle.asm_laws.proofs.Args.{pushed_under, pushed_top, pushed_base, popped_memory, popped_base, popped_tops, all_passed_holds, slots_passed, all_pushed_holds, regs_popped}
 
 -- steps that change something are some
-reaches_same : (s t : machine.State) (xs : List ℕ) → Reaches 0 s xs [] t xs → s ≡ t
+reaches_same : (is js : List Link) (s t : machine.State) (xs : List ℕ) → Moves is js 0 s xs [] t xs → s ≡ t
 unfolding run
-reaches_same s t xs r = ap (λ x. x.state) (r 0)
+reaches_same is js s t xs r = ap (λ x. x.state) (r.runs 0)
 
-some_steps : (steps : ℕ) (s t : machine.State) (xs : List ℕ) → Reaches steps s xs [] t xs → register_of s 15 ≢ register_of t 15 → 1 ≤ steps
-some_steps zero s t xs r n = absurd (n (ap (λ x. register_of x 15) (reaches_same s t xs r)))
-some_steps (suc k) s t xs r n = omega arith
+some_steps : (is js : List Link) (steps : ℕ) (s t : machine.State) (xs : List ℕ) → Moves is js steps s xs [] t xs → register_of s 15 ≢ register_of t 15 → 1 ≤ steps
+some_steps is js zero s t xs r n = absurd (n (ap (λ x. register_of x 15) (reaches_same is js s t xs r)))
+some_steps is js (suc k) s t xs r n = omega arith
 
 -- From a function's end to the address that its call left, with register 9 as it was. Where its frame has words, BP is popped before.
-record Returned (C : Console) (bare : Bool) (a : Addr) (s : machine.State) (xs : List ℕ) : Type 0 where
+record Returned (C : Console) (l : Link) (bare : Bool) (a : Addr) (s : machine.State) (xs : List ℕ) : Type 0 where
   to : machine.State
   steps : ℕ
   few : steps ≤ 3
-  by : Reaches steps s xs [] to xs
+  by : Moves (l ∷ []) [] steps s xs [] to xs
   at : to.counter ≡ a.memory (cond bare a.top (a.base + 1))
   held : Held C (record a { base = cond bare a.base (a.memory a.base); top = cond bare a.top (a.base + 1) + 1 }) to
   nine : register_of to 9 ≡ register_of s 9
 
-returns : (C : Console) (address : List ℕ → ℕ) (F : Frame) (a : Addr) (s : machine.State) (xs : List ℕ) (size pc e : ℕ) → way_back size a < 0x400000 → Held C a s → s.counter ≡ pc → Stand C.words address pc (frame_gone size) e → Returned C (size == 0) a s xs
-returns C address F a s xs size pc e hi h c k = go (size == 0) hi k
+returns : (C : Console) (l : Link) (address : List ℕ → ℕ) (F : Frame) (a : Addr) (s : machine.State) (xs : List ℕ) (size pc e : ℕ) → way_back size a < 0x400000 → way_back size a ≡ l.top → a.memory (way_back size a) ≡ l.back → Held C a s → s.counter ≡ pc → Stand C.words address pc (frame_gone size) e → Returned C l (size == 0) a s xs
+returns C l address F a s xs size pc e hi top back h c k = go (size == 0) hi top back k
   where
-    go : (b : Bool) → cond b a.top (a.base + 1) < 0x400000 → Stand C.words address pc (cond b (item.Op (instr.Plain RET) ∷ []) (item.Op (instr.Mov (RegReg 15 14)) ∷ item.Op (instr.One POP 14) ∷ item.Op (instr.Plain RET) ∷ [])) e → Returned C b a s xs
-    go true hi k =
+    go : (b : Bool) → cond b a.top (a.base + 1) < 0x400000 → cond b a.top (a.base + 1) ≡ l.top → a.memory (cond b a.top (a.base + 1)) ≡ l.back → Stand C.words address pc (cond b (item.Op (instr.Plain RET) ∷ []) (item.Op (instr.Mov (RegReg 15 14)) ∷ item.Op (instr.One POP 14) ∷ item.Op (instr.Plain RET) ∷ [])) e → Returned C l b a s xs
+    go true hi top back k =
         let u = going_to (a.memory a.top) (with_register 15 (a.top + 1) s) in
-        let e1 = line_effect C a s pc (instr.Plain RET) k.0 h c k.1 (omega arith, omega arith, omega arith) ∙ ret_act C address F F a s k.0 hi h in
         record {
           to = u;
           steps = 1;
           few = omega arith;
-          by = reaches_went s u xs e1;
+          by = returns_by C a s u xs pc k.0 l h c k.1 (ret_act C address F F a s k.0 hi h) hi top back;
           at = refl;
           held = moved C (record a { top = a.top + 1 }) (with_register 15 (a.top + 1) s) (a.memory a.top) (top_held C a s (a.top + 1) h);
           nine = reg_other C s 15 (a.top + 1) 9 (omega arith);
         }
-    go false hi k =
+    go false hi top back k =
         let a1 = record a { top = a.base } in
         let a2 = record a { top = a.base + 1; base = a.memory a.base } in
         let u1 = going_to k.0 (with_register 15 a.base s) in
@@ -85,12 +85,12 @@ returns C address F a s xs size pc e hi h c k = go (size == 0) hi k
         let h2 : Held C a2 u2 = moved C a2 (with_register 14 (a.memory a.base) (with_register 15 (a.base + 1) u1)) k.2.0 (base_held C (record a1 { top = a.base + 1 }) (with_register 15 (a.base + 1) u1) (a.memory a.base) (top_held C a1 u1 (a.base + 1) h1)) in
         let e2 = line_effect C a1 u1 k.0 (instr.One POP 14) k.2.0 h1 refl k.2.1 (omega arith, omega arith, omega arith) ∙ popbase_act C address F F a1 u1 k.2.0 (omega (arith, hi)) h1 in
         let u3 = going_to (a.memory (a.base + 1)) (with_register 15 (a.base + 1 + 1) u2) in
-        let e3 = line_effect C a2 u2 k.2.0 (instr.Plain RET) k.2.2.0 h2 refl k.2.2.1 (omega arith, omega arith, omega arith) ∙ ret_act C address F F a2 u2 k.2.2.0 (omega (arith, hi)) h2 in
         record {
           to = u3;
           steps = 3;
           few = omega arith;
-          by = reaches_on 1 2 s u1 u3 xs xs xs [] [] (reaches_went s u1 xs e1) (reaches_on 1 1 u1 u2 u3 xs xs xs [] [] (reaches_went u1 u2 xs e2) (reaches_went u2 u3 xs e3));
+          by = moves_on (l ∷ []) (l ∷ []) [] 2 1 s u2 u3 xs xs xs [] [] (reaches_in l 2 s u2 xs xs [] (reaches_on 1 1 s u1 u2 xs xs xs [] [] (reaches_went s u1 xs e1 (line_turn C a s pc (instr.Mov (RegReg 15 14)) k.0 h c k.1 (omega arith, omega arith, omega arith))) (reaches_went u1 u2 xs e2 (line_turn C a1 u1 k.0 (instr.One POP 14) k.2.0 h1 refl k.2.1 (omega arith, omega arith, omega arith)))))
+              (returns_by C a2 u2 u3 xs k.2.0 k.2.2.0 l h2 refl k.2.2.1 (ret_act C address F F a2 u2 k.2.2.0 (omega (arith, hi)) h2) (omega (arith, hi)) top back);
           at = refl;
           held = moved C (record a2 { top = a.base + 1 + 1 }) (with_register 15 (a.base + 1 + 1) u2) (a.memory (a.base + 1)) (top_held C a2 u2 (a.base + 1 + 1) h2);
           nine = reg_other C u2 15 (a.base + 1 + 1) 9 (omega arith) ∙ reg_other C (with_register 15 (a.base + 1) u1) 14 (a.memory a.base) 9 (omega arith) ∙ reg_other C u1 15 (a.base + 1) 9 (omega arith) ∙ reg_other C s 15 a.base 9 (omega arith);
@@ -275,12 +275,16 @@ module _ (S : Setting) (fits : Fits S) where
     registers_fit : in_registers ps ≤ a.top
     registers_fit = let r = at.callable.registers_in in omega (arith, r, big, top_a)
 
+    -- the link
+    abbrev link : Link
+    link = link_at C S.address F G P next
+
     -- the machine is at the body
-    comes : (fn : FunctionAt S g) → Arrives C (3 * length args + 4) m xs (S.enters g) [] xs b
+    comes : (fn : FunctionAt S g) → ArrivesBy [] (link ∷ []) C (3 * length args + 4) m xs (S.enters g) [] xs b
     comes fn = calls C S.address F G a m xs pc split.0 next fn.begins (S.enters g) ps args roomy at.count registers_fit (all_good g F G ps (good_at g) at.callable.params_named) (all_good κ.fn F G args (good_at κ.fn) at.args_named) h.held epc split.1
         (subst (λ z. Line C.words split.0 (instr.Go CALL (src.Imm z)) next) fn.label split.2.1) fn.entry
 
-    goes : FunctionAt S g → Came (holder S) m (spare 8 (begin (holder S) s)) (begun registers_and_slots (sizes S) (function_at S.code g).params g args (spent w s)) (S.enters g) 1 0 (Mach S κ2 (begun registers_and_slots (sizes S) (function_at S.code g).params g args (spent w s)))
+    goes : FunctionAt S g → CameBy [] (link ∷ []) (holder S) m (spare 8 (begin (holder S) s)) (begun registers_and_slots (sizes S) (function_at S.code g).params g args (spent w s)) (S.enters g) 1 0 (Mach S κ2 (begun registers_and_slots (sizes S) (function_at S.code g).params g args (spent w s)))
     goes fn =
         let r = comes fn in
         let top_m : register_of m 15 ≡ T = h.held.top ∙ top_a in
@@ -295,12 +299,12 @@ module _ (S : Setting) (fits : Fits S) where
           held = record { place = h.place; words = b; at = inside; held = r.held };
           events = sym (append-nil s.world.events);
           cost = let f = r.few in omega (arith, f, paid);
-          many = some_steps r.steps m r.to xs r.by (λ e. omega (arith, e, top_m, top_t, top_b, big, w));
+          many = some_steps [] (link ∷ []) r.steps m r.to xs r.by (λ e. omega (arith, e, top_m, top_t, top_b, big, w));
         }
 
     -- ---- the way back
 
-    back_at : FunctionAt S g → (s1 : State Where) (m1 : machine.State) → Given S κ2 s1 m1 → m1.counter ≡ S.leaves g → Came (holder S) m1 (begin (holder S) s1) (back registers_and_slots t (spent w s) s1) p 0 8 (Mach S κ (back registers_and_slots t (spent w s) s1))
+    back_at : FunctionAt S g → (s1 : State Where) (m1 : machine.State) → Given S κ2 s1 m1 → m1.counter ≡ S.leaves g → CameBy (link ∷ []) [] (holder S) m1 (begin (holder S) s1) (back registers_and_slots t (spent w s) s1) p 0 8 (Mach S κ (back registers_and_slots t (spent w s) s1))
     back_at fn s1 m1 gv e1 = go t at.target split.2.2
       where
         top_v : gv.words.top + G.size ≡ below S κ g
@@ -332,8 +336,8 @@ module _ (S : Setting) (fits : Fits S) where
         link_2 : gv.words.memory (way_back G.size gv.words) ≡ next
         link_2 = let w = link_range G.size in ap gv.words.memory back_v ∙ link_same (T - 1) (omega (arith, w)) (omega (arith, big)) ∙ link_next
 
-        home : Returned C bare gv.words m1 s1.world.store.answers
-        home = returns C S.address F gv.words m1 s1.world.store.answers G.size (S.leaves g) fn.ends (omega (arith, back_v, low_t, big)) gv.held e1 fn.exit
+        home : Returned C link bare gv.words m1 s1.world.store.answers
+        home = returns C link S.address F gv.words m1 s1.world.store.answers G.size (S.leaves g) fn.ends (omega (arith, back_v, low_t, big)) (omega (arith, back_v, P_top)) link_2 gv.held e1 fn.exit
 
         holds : HoldsAt S κ (returned_to st s1.world.store) (after_call registers_and_slots s.cells) gv.place (gone_back G.size gv.words)
         holds = back_holds S fits κ st s1.world.store s.cells s1.cells h.place gv.place a3 gv.words (gone_back G.size gv.words) g h3 at.depth gv.at refl link_1 (let q = h.at.stack.top_is in omega (arith, back_v, q, big, top_a))
@@ -341,7 +345,7 @@ module _ (S : Setting) (fits : Fits S) where
         given : Stands (length (returned_to st s1.world.store).objects) gv.place s1.given (register_of m1 9)
         given = stands_more (length s1.world.store.objects) (length (returned_to st s1.world.store).objects) gv.place gv.place s1.given (register_of m1 9) (let l = length_end_from (length st.objects) s1.world.store.objects in omega (arith, l)) (λ o q. refl) gv.given
 
-        go : (t : Option Where) → AllOf (Named S κ.fn) (maybe t) → Stand C.words S.address next (keeps_some F t) p → Came (holder S) m1 (begin (holder S) s1) (back registers_and_slots t (spent w s) s1) p 0 8 (Mach S κ (back registers_and_slots t (spent w s) s1))
+        go : (t : Option Where) → AllOf (Named S κ.fn) (maybe t) → Stand C.words S.address next (keeps_some F t) p → CameBy (link ∷ []) [] (holder S) m1 (begin (holder S) s1) (back registers_and_slots t (spent w s) s1) p 0 8 (Mach S κ (back registers_and_slots t (spent w s) s1))
         go None named k = record {
           steps = home.steps;
           made = [];
@@ -360,7 +364,7 @@ module _ (S : Setting) (fits : Fits S) where
               steps = home.steps + r.steps;
               made = [];
               to = r.to;
-              by = reaches_on home.steps r.steps m1 home.to r.to ys ys ys [] [] home.by r.by;
+              by = moves_on (link ∷ []) [] [] home.steps r.steps m1 home.to r.to ys ys ys [] [] home.by r.by;
               at = r.at ∙ k.2;
               held = record { place = gv.place; words = put F q (register_of m1 9) (gone_back G.size gv.words); at = set_target S fits κ (returned_to st s1.world.store) (after_call registers_and_slots s.cells) gv.place (gone_back G.size gv.words) q s1.given (register_of m1 9) named.0 holds given; held = r.held };
               events = sym (append-nil s1.world.events);
@@ -369,7 +373,7 @@ module _ (S : Setting) (fits : Fits S) where
             }
 
     pub enters : FunctionAt S g → Enters (holder S) (shapes S) κ p t g (spent w s) (begun registers_and_slots (sizes S) (function_at S.code g).params g args (spent w s)) m (begin (holder S) s)
-    enters fn = record { inner = κ2; placed = fn.body; goes = goes fn; back = back_at fn }
+    enters fn = record { inner = κ2; link = link; placed = fn.body; goes = goes fn; back = back_at fn }
 
   pub call_sim : (functions : (g : ℕ) → Callable S g → FunctionAt S g) (κ : Ctx) (pc p : ℕ) (t : Option Where) (g : ℕ) (args : List Where) (s : State Where) (m : machine.State) (w : ℕ) → 3 * length args ≤ 4 + w → CallAt S κ.fn pc t g args p → m.counter ≡ pc → Mach S κ s m →
       CallSim (holder S) (shapes S) κ p t g (spent w s) m (begin (holder S) s) ((lang S).enter g args (spent w s))
@@ -378,4 +382,4 @@ module _ (S : Setting) (fits : Fits S) where
       go : (x : Bool) → leb (s.world.store.used + ((sizes S).frame g + 2) + (sizes S).globals) 4194304 ≡ x →
           CallSim (holder S) (shapes S) κ p t g (spent w s) m (begin (holder S) s) (if_room x (spent w s) (begun registers_and_slots (sizes S) (function_at S.code g).params g args (spent w s)))
       go true e = enters functions κ pc p t g args s m at epc h (leb-true (s.world.store.used + ((sizes S).frame g + 2) + (sizes S).globals) 4194304 e) w paid (functions g at.callable)
-      go false e = λ n. record { steps = 0; made = []; to = m; left = s.world.store.answers; by = reaches_here m s.world.store.answers; events = sym (append-nil s.world.events); cost = omega arith; many = omega arith }
+      go false e = λ n. record { steps = 0; made = []; to = m; left = s.world.store.answers; by = (reaches_here m s.world.store.answers).runs; nested = λ ls. nested_none ls m s.world.store.answers; events = sym (append-nil s.world.events); cost = omega arith; many = omega arith }

@@ -3,21 +3,22 @@ use Rattle.std.proofs.Common.{◌≡◌, ℕ, zero, suc, ◌+◌, ◌≤◌, inl
 use Rattle.v32_isa.specs.State.{State, going_to}
 use Rattle.v32_isa.specs.Runs.{Run, run}
 use Rattle.v32_isa.specs.Runs as machine
-use Rattle.v32_isa.proofs.Steps.{before, Reaches, reaches_here, reaches_on}
+use Rattle.v32_isa.specs.Calls.{Link, Nested}
+use Rattle.v32_isa.proofs.Steps.{before, Reaches, reaches_here, reaches_in, moves_on, reaches_on, nested_none}
 use Rattle.obj_mem.specs.Runs.{Ending, Halted, Fault, Starved, Stray, Deep, OutOfBound}
 use Rattle.mid_code.specs.declared.placed.Where.{Where}
 use Rattle.mid_code.specs.Code.{NodesT, Stop, Do, Call, Choose, Block, Loop, Leave, Again, Return}
 use Rattle.mid_code.specs.Meaning.{Did, On, Ends, Res, Next, Leaves, Repeats, Returns, Over, Lang, node_weight, call_weight, then_next, did, block_done, turn_done, choose, call_done, called, does, below, runs}
 use Rattle.asm_laws.specs.Placing.{Shapes, Bounds, end_of, begin_of, Jumps, Passes, Past, At}
-use Rattle.asm_laws.specs.Following.{Holder, Begin, begin, spare, Came, Stopped, Going, Final, Sim, DidSim, Enters, CallSim, TestSim, did_then, front_acts, Parts}
+use Rattle.asm_laws.specs.Following.{Holder, Begin, begin, spare, CameBy, Came, Stopped, Going, Final, Sim, DidSim, Enters, CallSim, TestSim, did_then, front_acts, Parts}
 
 module _ (L : Lang Where) (X : Holder L) where
-  came_came : (m : State) (b : Begin) (t u : L.S) (pc q i j k x : ℕ) (R Q : State → Type 0) → (f : Came X m b t pc i 0 R) → (g : Came X f.to (begin X t) u q j x Q) → k ≤ i + j → Came X m b u q k x Q
-  came_came m b t u pc q i j k x R Q f g le = record {
+  came_by : (is js ks : List Link) (m : State) (b : Begin) (t u : L.S) (pc q i j k x : ℕ) (R Q : State → Type 0) → (f : CameBy is js X m b t pc i 0 R) → (g : CameBy js ks X f.to (begin X t) u q j x Q) → k ≤ i + j → CameBy is ks X m b u q k x Q
+  came_by is js ks m b t u pc q i j k x R Q f g le = record {
     steps = f.steps + g.steps;
     made = f.made ++ g.made;
     to = g.to;
-    by = reaches_on f.steps g.steps m f.to g.to b.answers (X.answers t) (X.answers u) f.made g.made f.by g.by;
+    by = moves_on is js ks f.steps g.steps m f.to g.to b.answers (X.answers t) (X.answers u) f.made g.made f.by g.by;
     at = g.at;
     held = g.held;
     events = g.events ∙ ap (λ es. es ++ g.made) f.events ∙ append_assoc b.events f.made g.made;
@@ -25,39 +26,58 @@ module _ (L : Lang Where) (X : Holder L) where
     many = omega (arith, f.many, g.many, le);
   }
 
-  came_stopped : (m : State) (b : Begin) (t u : L.S) (pc i : ℕ) (R : State → Type 0) (how : machine.End) → (f : Came X m b t pc i 0 R) → Stopped X f.to (begin X t) u how → Stopped X m b u how
-  came_stopped m b t u pc i R how f g = record {
+  came_came : (m : State) (b : Begin) (t u : L.S) (pc q i j k x : ℕ) (R Q : State → Type 0) → (f : Came X m b t pc i 0 R) → (g : Came X f.to (begin X t) u q j x Q) → k ≤ i + j → Came X m b u q k x Q
+  came_came m b t u pc q i j k x R Q f g le = came_by [] [] [] m b t u pc q i j k x R Q f g le
+
+  -- what is done inside a call
+  came_in : (l : Link) (m : State) (b : Begin) (t : L.S) (pc i x : ℕ) (R : State → Type 0) → Came X m b t pc i x R → CameBy (l ∷ []) (l ∷ []) X m b t pc i x R
+  came_in l m b t pc i x R f = record { steps = f.steps; made = f.made; to = f.to; by = reaches_in l f.steps m f.to b.answers (X.answers t) f.made f.by; at = f.at; held = f.held; events = f.events; cost = f.cost; many = f.many }
+
+  came_stopped : (js : List Link) (m : State) (b : Begin) (t u : L.S) (pc i : ℕ) (R : State → Type 0) (how : machine.End) → (f : CameBy [] js X m b t pc i 0 R) → Stopped X f.to (begin X t) u how → Stopped X m b u how
+  came_stopped js m b t u pc i R how f g = record {
     steps = f.steps + g.steps;
     made = f.made ++ g.made;
     to = g.to;
-    by = λ k. (let e : f.steps + g.steps + k ≡ f.steps + (g.steps + k) = omega arith in ap (λ j. run j m b.answers) e) ∙ f.by (g.steps + k) ∙ ap (before f.made) (g.by k);
+    by = λ k. (let e : f.steps + g.steps + k ≡ f.steps + (g.steps + k) = omega arith in ap (λ j. run j m b.answers) e) ∙ f.by.runs (g.steps + k) ∙ ap (before f.made) (g.by k);
+    nested = λ ls. f.by.nests ls g.steps (g.nested (js ++ ls));
     held = g.held;
     events = g.events ∙ ap (λ es. es ++ g.made) f.events ∙ append_assoc b.events f.made g.made;
     cost = omega (arith, f.cost, g.cost);
   }
 
-  came_going : (m : State) (b : Begin) (t u : L.S) (pc i j k : ℕ) (R : State → Type 0) → (f : Came X m b t pc i 0 R) → Going X f.to (begin X t) u j → k ≤ i + j → Going X m b u k
-  came_going m b t u pc i j k R f g le = record {
+  came_going : (js : List Link) (m : State) (b : Begin) (t u : L.S) (pc i j k : ℕ) (R : State → Type 0) → (f : CameBy [] js X m b t pc i 0 R) → Going X f.to (begin X t) u j → k ≤ i + j → Going X m b u k
+  came_going js m b t u pc i j k R f g le = record {
     steps = f.steps + g.steps;
     made = f.made ++ g.made;
     to = g.to;
     left = g.left;
-    by = reaches_on f.steps g.steps m f.to g.to b.answers (X.answers t) g.left f.made g.made f.by g.by;
+    by = λ n. (let e : f.steps + g.steps + n ≡ f.steps + (g.steps + n) = omega arith in ap (λ j. run j m b.answers) e) ∙ f.by.runs (g.steps + n) ∙ ap (before f.made) (g.by n) ∙ ap (λ events. record (run n g.to g.left) { events = events }) (sym (append_assoc f.made g.made (run n g.to g.left).events));
+    nested = λ ls. f.by.nests ls g.steps (g.nested (js ++ ls));
     events = g.events ∙ ap (λ es. es ++ g.made) f.events ∙ append_assoc b.events f.made g.made;
     cost = omega (arith, f.cost, g.cost);
     many = omega (arith, f.many, g.many, le);
   }
 
-  came_final : (m : State) (b : Begin) (t u : L.S) (pc i n k : ℕ) (R : State → Type 0) (g : Ending) → n ≤ i + k → (f : Came X m b t pc i 0 R) → Final X k f.to (begin X t) g u → Final X n m b g u
-  came_final m b t u pc i n k R Halted le f a = came_stopped m b t u pc i R machine.Halted f a
-  came_final m b t u pc i n k R (Fault x) le f a = came_stopped m b t u pc i R (machine.Fault x) f a
-  came_final m b t u pc i n k R Starved le f a = came_stopped m b t u pc i R machine.Starved f a
-  came_final m b t u pc i n k R Stray le f a = came_going m b t u pc i 0 0 R f a (omega arith)
-  came_final m b t u pc i n k R Deep le f a = came_going m b t u pc i 0 0 R f a (omega arith)
-  came_final m b t u pc i n k R OutOfBound le f a = came_going m b t u pc i k n R f a le
+  came_final : (js : List Link) (m : State) (b : Begin) (t u : L.S) (pc i n k : ℕ) (R : State → Type 0) (g : Ending) → n ≤ i + k → (f : CameBy [] js X m b t pc i 0 R) → Final X k f.to (begin X t) g u → Final X n m b g u
+  came_final js m b t u pc i n k R Halted le f a = came_stopped js m b t u pc i R machine.Halted f a
+  came_final js m b t u pc i n k R (Fault x) le f a = came_stopped js m b t u pc i R (machine.Fault x) f a
+  came_final js m b t u pc i n k R Starved le f a = came_stopped js m b t u pc i R machine.Starved f a
+  came_final js m b t u pc i n k R Stray le f a = came_going js m b t u pc i 0 0 R f a (omega arith)
+  came_final js m b t u pc i n k R Deep le f a = came_going js m b t u pc i 0 0 R f a (omega arith)
+  came_final js m b t u pc i n k R OutOfBound le f a = came_going js m b t u pc i k n R f a le
 
-  still : (m : State) (b : Begin) (t : L.S) (pc i : ℕ) (R : State → Type 0) → Came X m b t pc i 0 R → Going X m b t 0
-  still m b t pc i R f = record { steps = f.steps; made = f.made; to = f.to; left = X.answers t; by = f.by; events = f.events; cost = omega (arith, f.cost); many = omega arith }
+  pub still : (js : List Link) (m : State) (b : Begin) (t : L.S) (pc i : ℕ) (R : State → Type 0) → CameBy [] js X m b t pc i 0 R → Going X m b t 0
+  still js m b t pc i R f = record {
+    steps = f.steps;
+    made = f.made;
+    to = f.to;
+    left = X.answers t;
+    by = f.by.runs;
+    nested = λ ls. subst (λ n. Nested n ls m b.answers) (let e : f.steps + 0 ≡ f.steps = omega arith in e) (f.by.nests ls 0 (nested_none (js ++ ls) f.to (X.answers t)));
+    events = f.events;
+    cost = omega (arith, f.cost);
+    many = omega arith;
+  }
 
   -- what follows, where i steps pay for the difference of the bounds
   after : (κ : X.K) (m : State) (b : Begin) (t : L.S) (pc i n k e : ℕ) (ls : List Bounds) (R : State → Type 0) (r : Res L.S) → n ≤ i + k → (f : Came X m b t pc i 0 R) → Sim X κ f.to (begin X t) e k ls r → Sim X κ m b e n ls r
@@ -65,17 +85,17 @@ module _ (L : Lang Where) (X : Holder L) where
   after κ m b t pc i n k e ls R (Leaves j u) le f g = came_came m b t u pc (end_of ls j) i 0 0 0 R (X.M κ u) f g (omega arith)
   after κ m b t pc i n k e ls R (Repeats j u) le f g = came_came m b t u pc (begin_of ls j) i 1 1 0 R (X.M κ u) f g (omega arith)
   after κ m b t pc i n k e ls R (Returns u) le f g = came_came m b t u pc (X.way_out (X.fn κ)) i 0 0 0 R (X.G κ u) f g (omega arith)
-  after κ m b t pc i n k e ls R (Over h u) le f g = came_final m b t u pc i n k R h le f g
+  after κ m b t pc i n k e ls R (Over h u) le f g = came_final [] m b t u pc i n k R h le f g
 
   -- the same from an earlier beginning
   earlier_came : (m : State) (b d : Begin) (t : L.S) (pc i x : ℕ) (R : State → Type 0) → d.answers ≡ b.answers → d.events ≡ b.events → b.work ≤ d.work → Came X m d t pc i x R → Came X m b t pc i x R
   earlier_came m b d t pc i x R ea ee le f = record { steps = f.steps; made = f.made; to = f.to; by = subst (λ xs. Reaches f.steps m xs f.made f.to (X.answers t)) ea f.by; at = f.at; held = f.held; events = f.events ∙ ap (λ es. es ++ f.made) ee; cost = omega (arith, f.cost, le); many = f.many }
 
   earlier_stopped : (m : State) (b d : Begin) (t : L.S) (how : machine.End) → d.answers ≡ b.answers → d.events ≡ b.events → b.work ≤ d.work → Stopped X m d t how → Stopped X m b t how
-  earlier_stopped m b d t how ea ee le f = record { steps = f.steps; made = f.made; to = f.to; by = subst (λ xs. (n : ℕ) → run (f.steps + n) m xs ≡ record { events = f.made; end = how; state = f.to }) ea f.by; held = f.held; events = f.events ∙ ap (λ es. es ++ f.made) ee; cost = omega (arith, f.cost, le) }
+  earlier_stopped m b d t how ea ee le f = record { steps = f.steps; made = f.made; to = f.to; by = subst (λ xs. (n : ℕ) → run (f.steps + n) m xs ≡ record { events = f.made; end = how; state = f.to }) ea f.by; nested = λ ls. subst (λ xs. Nested f.steps ls m xs) ea (f.nested ls); held = f.held; events = f.events ∙ ap (λ es. es ++ f.made) ee; cost = omega (arith, f.cost, le) }
 
   earlier_going : (m : State) (b d : Begin) (t : L.S) (n : ℕ) → d.answers ≡ b.answers → d.events ≡ b.events → b.work ≤ d.work → Going X m d t n → Going X m b t n
-  earlier_going m b d t n ea ee le f = record { steps = f.steps; made = f.made; to = f.to; left = f.left; by = subst (λ xs. Reaches f.steps m xs f.made f.to f.left) ea f.by; events = f.events ∙ ap (λ es. es ++ f.made) ee; cost = omega (arith, f.cost, le); many = f.many }
+  earlier_going m b d t n ea ee le f = record { steps = f.steps; made = f.made; to = f.to; left = f.left; by = subst (λ xs. (n : ℕ) → run (f.steps + n) m xs ≡ before f.made (run n f.to f.left)) ea f.by; nested = λ ls. subst (λ xs. Nested f.steps ls m xs) ea (f.nested ls); events = f.events ∙ ap (λ es. es ++ f.made) ee; cost = omega (arith, f.cost, le); many = f.many }
 
   earlier_final : (m : State) (b d : Begin) (t : L.S) (n : ℕ) (g : Ending) → d.answers ≡ b.answers → d.events ≡ b.events → b.work ≤ d.work → Final X n m d g t → Final X n m b g t
   earlier_final m b d t n Halted ea ee le f = earlier_stopped m b d t machine.Halted ea ee le f
@@ -115,7 +135,7 @@ module _ (L : Lang Where) (X : Holder L) where
   block_sim κ m b e n pc ls (Next t) a = a
   block_sim κ m b e n pc ls (Leaves zero t) a = a
   block_sim κ m b e n pc ls (Leaves (suc k) t) a = a
-  block_sim κ m b e n pc ls (Repeats zero t) a = still m b t pc 1 (X.M κ t) a
+  block_sim κ m b e n pc ls (Repeats zero t) a = still [] m b t pc 1 (X.M κ t) a
   block_sim κ m b e n pc ls (Repeats (suc k) t) a = a
   block_sim κ m b e n pc ls (Returns t) a = a
   block_sim κ m b e n pc ls (Over g t) a = a
@@ -185,31 +205,36 @@ module _ (L : Lang Where) (X : Holder L) where
     Before k prev = (κ : X.K) (pc e : ℕ) (ls : List Bounds) (c : NodesT Where) (s : L.S) (m : State) → At H (X.fn κ) ls pc c e → m.counter ≡ pc → X.M κ s m → Sim X κ m (begin X s) e k ls (prev c s)
 
     going_here : (κ : X.K) (m : State) (s : L.S) (k : ℕ) → Going X m (begin X s) (L.tick k s) 0
-    going_here κ m s k = record { steps = 0; made = []; to = m; left = X.answers s; by = reaches_here m (X.answers s); events = parts.tick_events k s ∙ sym (append-nil (X.events s)); cost = omega (arith, parts.tick_work k s); many = omega arith }
+    going_here κ m s k = record { steps = 0; made = []; to = m; left = X.answers s; by = (reaches_here m (X.answers s)).runs; nested = λ ls. nested_none ls m (X.answers s); events = parts.tick_events k s ∙ sym (append-nil (X.events s)); cost = omega (arith, parts.tick_work k s); many = omega arith }
 
     -- a body that has ended, and the way back
     call_end : (κ : X.K) (p n k : ℕ) (ls : List Bounds) (t : Option Where) (f : ℕ) (u s0 : L.S) (m : State) (b : Begin) (r : Res L.S) → (en : Enters X H κ p t f u s0 m b) → n ≤ suc k →
         ((m1 : State) → m1.counter ≡ X.entry f → X.M en.inner s0 m1 → Sim X en.inner m1 (begin X s0) (X.way_out (X.fn en.inner)) k [] r) → Sim X κ m b p n ls (call_done L.none (L.back t u) r)
-    call_end κ p n k ls t f u s0 m b r en le go = finish r (after en.inner m (spare 8 b) s0 (X.entry f) 1 n k (X.way_out (X.fn en.inner)) [] (X.M en.inner s0) r (omega (arith, le)) en.goes (go en.goes.to en.goes.at en.goes.held))
+    unfolding came_by came_in
+    call_end κ p n k ls t f u s0 m b r en le go = finish r (go en.goes.to en.goes.at en.goes.held)
       where
-        home : (s1 : L.S) → (a : Came X m (spare 8 b) s1 (X.way_out (X.fn en.inner)) 0 0 (X.G en.inner s1)) → Came X m b (L.back t u s1) p 0 0 (X.M κ (L.back t u s1))
+        -- from the call on
+        from : (s1 : L.S) (q i : ℕ) (R : State → Type 0) → (a : Came X en.goes.to (begin X s0) s1 q i 0 R) → CameBy [] (en.link ∷ []) X m (spare 8 b) s1 q 0 0 R
+        from s1 q i R a = came_by [] (en.link ∷ []) (en.link ∷ []) m (spare 8 b) s0 s1 (X.entry f) q 1 i 0 0 (X.M en.inner s0) R en.goes (came_in en.link en.goes.to (begin X s0) s1 q i 0 R a) (omega arith)
+
+        home : (s1 : L.S) → (a : Came X en.goes.to (begin X s0) s1 (X.way_out (X.fn en.inner)) 0 0 (X.G en.inner s1)) → Came X m b (L.back t u s1) p 0 0 (X.M κ (L.back t u s1))
         home s1 a =
             let g = en.back s1 a.to a.held a.at in
-            let c = came_came m (spare 8 b) s1 (L.back t u s1) (X.way_out (X.fn en.inner)) p 0 0 0 8 (X.G en.inner s1) (X.M κ (L.back t u s1)) a g (omega arith) in
+            let c = came_by [] (en.link ∷ []) [] m (spare 8 b) s1 (L.back t u s1) (X.way_out (X.fn en.inner)) p 0 0 0 8 (X.G en.inner s1) (X.M κ (L.back t u s1)) (from s1 (X.way_out (X.fn en.inner)) 0 (X.G en.inner s1) a) g (omega arith) in
             record { steps = c.steps; made = c.made; to = c.to; by = c.by; at = c.at; held = c.held; events = c.events; cost = omega (arith, c.cost); many = omega arith }
 
-        unset : (s1 : L.S) → Came X m (spare 8 b) s1 (X.way_out (X.fn en.inner)) 0 0 (X.M en.inner s1) → Came X m (spare 8 b) (L.none s1) (X.way_out (X.fn en.inner)) 0 0 (X.G en.inner (L.none s1))
-        unset s1 a = record { steps = a.steps; made = a.made; to = a.to; by = subst (λ xs. Reaches a.steps m b.answers a.made a.to xs) (sym (parts.none_answers s1)) a.by; at = a.at; held = parts.none en.inner s1 a.to a.held; events = parts.none_events s1 ∙ a.events; cost = omega (arith, a.cost, parts.none_work s1); many = omega arith }
+        unset : (s1 : L.S) → Came X en.goes.to (begin X s0) s1 (X.way_out (X.fn en.inner)) 0 0 (X.M en.inner s1) → Came X en.goes.to (begin X s0) (L.none s1) (X.way_out (X.fn en.inner)) 0 0 (X.G en.inner (L.none s1))
+        unset s1 a = record { steps = a.steps; made = a.made; to = a.to; by = subst (λ xs. Reaches a.steps en.goes.to (X.answers s0) a.made a.to xs) (sym (parts.none_answers s1)) a.by; at = a.at; held = parts.none en.inner s1 a.to a.held; events = parts.none_events s1 ∙ a.events; cost = omega (arith, a.cost, parts.none_work s1); many = omega arith }
 
-        strays : (s1 : L.S) (q i : ℕ) → Came X m (spare 8 b) s1 q i 0 (X.M en.inner s1) → Going X m b s1 0
-        strays s1 q i a = earlier_going m b (spare 8 b) s1 0 refl refl (omega arith) (still m (spare 8 b) s1 q i (X.M en.inner s1) a)
+        strays : (s1 : L.S) (q i : ℕ) → Came X en.goes.to (begin X s0) s1 q i 0 (X.M en.inner s1) → Going X m b s1 0
+        strays s1 q i a = earlier_going m b (spare 8 b) s1 0 refl refl (omega arith) (still (en.link ∷ []) m (spare 8 b) s1 q 0 (X.M en.inner s1) (from s1 q i (X.M en.inner s1) a))
 
-        finish : (r : Res L.S) → Sim X en.inner m (spare 8 b) (X.way_out (X.fn en.inner)) n [] r → Sim X κ m b p n ls (call_done L.none (L.back t u) r)
+        finish : (r : Res L.S) → Sim X en.inner en.goes.to (begin X s0) (X.way_out (X.fn en.inner)) k [] r → Sim X κ m b p n ls (call_done L.none (L.back t u) r)
         finish (Next s1) a = home (L.none s1) (unset s1 a)
         finish (Leaves j s1) a = strays s1 (end_of [] j) 0 a
         finish (Repeats j s1) a = strays s1 (begin_of [] j) 1 a
         finish (Returns s1) a = home s1 a
-        finish (Over g s1) a = earlier_final m b (spare 8 b) s1 n g refl refl (omega arith) a
+        finish (Over g s1) a = earlier_final m b (spare 8 b) s1 n g refl refl (omega arith) (came_final (en.link ∷ []) m (spare 8 b) s0 s1 (X.entry f) 1 n k (X.M en.inner s0) g (omega (arith, le)) en.goes a)
 
     pub entered_sim : (κ : X.K) (p n k : ℕ) (ls : List Bounds) (t : Option Where) (f : ℕ) (u : L.S) (m : State) (b : Begin) (d : Did L.S) (prev : NodesT Where → L.S → Res L.S) → n ≤ suc k → Before k prev → CallSim X H κ p t f u m b d →
         Sim X κ m b p n ls (did d (λ v. call_done L.none (L.back t u) (prev (L.body f) v)))
@@ -289,6 +314,6 @@ module _ (L : Lang Where) (X : Holder L) where
     -- for every bound the machine follows the code
     pub follows : (n : ℕ) (κ : X.K) (pc e : ℕ) (ls : List Bounds) (c : NodesT Where) (s : L.S) (m : State) → At H (X.fn κ) ls pc c e → m.counter ≡ pc → X.M κ s m → Sim X κ m (begin X s) e n ls (runs L n c s)
     follows zero κ pc e ls c s m at eq h =
-        nodes zero 0 (below L zero) (omega arith) (λ κ1 pc1 e1 ls1 d t m1 a1 q1 h1. record { steps = 0; made = []; to = m1; left = X.answers t; by = reaches_here m1 (X.answers t); events = sym (append-nil (X.events t)); cost = omega arith; many = omega arith }) κ pc e ls c zero (begin X s) s m at (fresh κ c s m pc eq h)
+        nodes zero 0 (below L zero) (omega arith) (λ κ1 pc1 e1 ls1 d t m1 a1 q1 h1. record { steps = 0; made = []; to = m1; left = X.answers t; by = (reaches_here m1 (X.answers t)).runs; nested = λ ns. nested_none ns m1 (X.answers t); events = sym (append-nil (X.events t)); cost = omega arith; many = omega arith }) κ pc e ls c zero (begin X s) s m at (fresh κ c s m pc eq h)
     follows (suc n) κ pc e ls c s m at eq h =
         nodes (suc n) n (below L (suc n)) (omega arith) (λ κ1 pc1 e1 ls1 d t m1 a1 q1 h1. follows n κ1 pc1 e1 ls1 d t m1 a1 q1 h1) κ pc e ls c zero (begin X s) s m at (fresh κ c s m pc eq h)

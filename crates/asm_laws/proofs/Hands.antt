@@ -5,6 +5,8 @@ use Rattle.v32_isa.specs.declared.stepped.Stepped.TheVariants as stepped
 use Rattle.v32_isa.specs.State.{State, register_of, written}
 use Rattle.v32_isa.specs.Machine.{effect_of}
 use Rattle.v32_isa.specs.Machine.Effect.{Ends as EndsIn}
+use Rattle.v32_isa.specs.Calls.{turn}
+use Rattle.v32_isa.specs.Calls.Turn.{Other}
 use Rattle.v32_isa.proofs.Steps.{Reaches, reaches_here, reaches_on, reaches_went}
 use Rattle.asm_items.specs.declared.item.AsmItem.{AsmItem}
 use Rattle.asm_items.specs.declared.item.AsmItem.TheVariants as item
@@ -166,9 +168,9 @@ module _ (C : Console) where
         kept_at a u xs next p 9 v (Slot j) (omega arith) room good
         (held_alike (with_reg 9 v b) a u (λ r lt. let ne : r ≢ 9 = λ z. omega (arith, lt, z) in written_other b.regs 9 v r ne ∙ like.regs r lt ne) like.memory like.base like.top h) e is k
 
-    pub lays_at : (a b : Addr) (s : State) (xs : List ℕ) (next p v : ℕ) (t : Where) → Room F a → Good F t → Like (aim t) b a → Held C b s → effect_of s ≡ EndsIn stepped.Went (took C next (aim t) v s) → Here next (lays F t) p → Arrives C 2 s xs p [] xs (put F t v a)
-    lays_at a b s xs next p v t room good like h e k =
+    pub lays_at : (a b : Addr) (s : State) (xs : List ℕ) (next p v : ℕ) (t : Where) → Room F a → Good F t → Like (aim t) b a → Held C b s → effect_of s ≡ EndsIn stepped.Went (took C next (aim t) v s) → turn s ≡ Other → Here next (lays F t) p → Arrives C 2 s xs p [] xs (put F t v a)
+    lays_at a b s xs next p v t room good like h e o k =
         let m = aim_low F t good in
         let u = took C next (aim t) v s in
         let r = lays_from a b u xs next p v t room good like (kept C b s next (aim t) v (omega (arith, m)) h) (reg_same C s (aim t) v (let n = h.sixteen in omega (arith, n, m))) refl k in
-        record { steps = 1 + r.steps; to = r.to; by = reaches_on 1 r.steps s u r.to xs xs xs [] [] (reaches_went s u xs e) r.by; at = r.at; held = r.held; few = let f = r.few in omega (arith, f) }
+        record { steps = 1 + r.steps; to = r.to; by = reaches_on 1 r.steps s u r.to xs xs xs [] [] (reaches_went s u xs e o) r.by; at = r.at; held = r.held; few = let f = r.few in omega (arith, f) }

@@ -14,6 +14,8 @@ use Rattle.v32_isa.specs.declared.stepped.Stepped.TheVariants as stepped
 use Rattle.v32_isa.specs.State.{State, register_of, written, word_at}
 use Rattle.v32_isa.specs.Machine.{act, effect_of, taking}
 use Rattle.v32_isa.specs.Machine.Effect.{Ends as EndsIn}
+use Rattle.v32_isa.specs.Calls.{turn}
+use Rattle.v32_isa.specs.Calls.Turn.{Other}
 use Rattle.v32_isa.proofs.Steps.{reaches_went}
 use Rattle.asm_items.specs.declared.item.AsmItem.{AsmItem}
 use Rattle.asm_items.specs.declared.item.AsmItem.TheVariants as item
@@ -24,7 +26,7 @@ use Rattle.mid_code.specs.States.{op_weight}
 use Rattle.asm_laws.specs.Operations.{Frame, Whole, register, other_word, first_word, summed}
 use Rattle.asm_laws.specs.Standing.{Stand}
 use Rattle.asm_laws.specs.Addresses.{Addr, Console, readable, word_of, put, Good, GoodOp, Goes, computed, loaded, does, Held, Follows}
-use Rattle.asm_laws.proofs.Stepping.{same_or_not, written_same, written_other, readable_word, unreadable_word, line_effect, took, kept, reg_number}
+use Rattle.asm_laws.proofs.Stepping.{same_or_not, written_same, written_other, readable_word, unreadable_word, line_effect, line_turn, took, kept, reg_number}
 use Rattle.asm_laws.proofs.Hands.{with_reg, held_alike}
 use Rattle.asm_laws.proofs.OperationsStep.{later, faults_like, sum_turned}
 
@@ -158,7 +160,7 @@ module _ (C : Console) (address : List ℕ → ℕ) (W : Whole) (F : Frame) (a :
       subst (λ d. Follows C (op_weight o) s xs p (Put k w) d) (sym (is.so xs)) (record {
         steps = 1;
         to = took C l.0 k x s;
-        by = reaches_went s (took C l.0 k x s) xs eff;
+        by = reaches_went s (took C l.0 k x s) xs eff (line_turn C a s pc (instr.Lea (register k) q (Some v)) l.0 h e l.1 (omega arith, omega (arith, low), omega arith));
         at = l.2;
         held = again k x w a (took C l.0 k x s) (kept C a s l.0 k x (omega (arith, lt)) h);
         few = omega (arith, heavy);
@@ -193,7 +195,7 @@ module _ (C : Console) (address : List ℕ → ℕ) (W : Whole) (F : Frame) (a :
           record {
             steps = 1;
             to = took C l.0 k y s;
-            by = reaches_went s (took C l.0 k y s) xs (eff ∙ load_goes s k q v u y l.0 lk lq h refl (readable_word C a s u h ok));
+            by = reaches_went s (took C l.0 k y s) xs (eff ∙ load_goes s k q v u y l.0 lk lq h refl (readable_word C a s u h ok)) (line_turn C a s pc (instr.Mov (RegAtOff (register k) q v)) l.0 h e l.1 (omega arith, omega (arith, lq), omega arith));
             at = l.2;
             held = again k y u (Put k w) (took C l.0 k y s) (again k y w a (took C l.0 k y s) (kept C a s l.0 k y (omega (arith, lk)) h));
             few = omega arith;
@@ -251,14 +253,14 @@ module _ (C : Console) (address : List ℕ → ℕ) (W : Whole) (F : Frame) (a :
       let there : register_of u k ≡ v = hu.regs k lk ∙ written_same a.regs k v k refl in
       let eff2 : effect_of u ≡ taking k (two_of o v w) l.2.0 u = line_effect C (with_reg k v a) u l.0 (instr.Two o (register k) (src.Imm w)) l.2.0 hu refl l.2.1 (omega arith, omega arith, omega arith) ∙ number_effect o u k v w l.2.0 lk there in
       subst (λ d. Follows C 8 s xs p (Put k w) d) (sym (c.so xs))
-      (later C 1 7 8 s u xs p (Put k w) (computed F (Reg k) (two_of o v w) xs (Put k w)) (reaches_went s u xs eff) (omega arith) (last (two_of o v w) u v l.2.0 hu (kept C a s l.0 k w (omega (arith, lk)) h) eff2 l.2.2))
+      (later C 1 7 8 s u xs p (Put k w) (computed F (Reg k) (two_of o v w) xs (Put k w)) (reaches_went s u xs eff (line_turn C a s pc (instr.Mov (RegReg (register k) q)) l.0 h e l.1 (omega arith, omega (arith, low), omega arith))) (omega arith) (last (two_of o v w) u v l.2.0 hu (kept C a s l.0 k w (omega (arith, lk)) h) eff2 (line_turn C (with_reg k v a) u l.0 (instr.Two o (register k) (src.Imm w)) l.2.0 hu refl l.2.1 (omega arith, omega arith, omega arith)) l.2.2))
     where
-      last : {t1 : State} (z : Option ℕ) (u : State) (v next : ℕ) → Held C (with_reg k v a) u → Held C (Put k w) t1 → effect_of u ≡ taking k z next u → next ≡ p → Follows C 7 u xs p (Put k w) (computed F (Reg k) z xs (Put k w))
-      last {t1} None u v next hu ht eff n = faults_like C (Put k w) (with_reg k v a) u t1 xs 7 6 (omega arith) hu ht (λ j. refl) eff
-      last (Some z) u v next hu ht eff n = record {
+      last : {t1 : State} (z : Option ℕ) (u : State) (v next : ℕ) → Held C (with_reg k v a) u → Held C (Put k w) t1 → effect_of u ≡ taking k z next u → turn u ≡ Other → next ≡ p → Follows C 7 u xs p (Put k w) (computed F (Reg k) z xs (Put k w))
+      last {t1} None u v next hu ht eff o n = faults_like C (Put k w) (with_reg k v a) u t1 xs 7 6 (omega arith) hu ht (λ j. refl) eff
+      last (Some z) u v next hu ht eff o n = record {
         steps = 1;
         to = took C next k z u;
-        by = reaches_went u (took C next k z u) xs eff;
+        by = reaches_went u (took C next k z u) xs eff o;
         at = n;
         held = held_alike C (with_reg k z (with_reg k v a)) (with_reg k z (Put k w)) (took C next k z u) (λ j b. sym (twice a.regs k z v j) ∙ twice a.regs k z w j) (λ j. refl) refl refl (kept C (with_reg k v a) u next k z (omega (arith, lk)) hu);
         few = omega arith;

@@ -38,3 +38,6 @@ pub mod Known
 pub mod CodeAt
 pub mod Same
 pub mod Found
+pub mod Landing
+pub mod Bounded
+pub mod Deciding

@@ -1,7 +1,7 @@
 -- The machine's steps of a call up to the body of the function, and of the way back.
 use Rattle.std.proofs.lemmas.Bool.{eqb-true}
 use Rattle.std.specs.Prelude.{◌==◌}
-use Rattle.std.proofs.Common.{◌≡◌, ℕ, ◌+◌, ◌-◌, ◌*◌, ◌<◌, ◌≤◌, true, List, [], ◌∷◌, ◌++◌, length, refl, ap, ◌∙◌, subst, arith, Bool, false, cond}
+use Rattle.std.proofs.Common.{◌≡◌, ℕ, ◌+◌, ◌-◌, ◌*◌, ◌<◌, ◌≤◌, true, List, [], ◌∷◌, ◌++◌, length, Some, refl, ap, ◌∙◌, subst, arith, Bool, false, cond}
 use Rattle.std.specs.Prelude.{get_or}
 use Rattle.std.proofs.lemmas.List.{length-set}
 use Rattle.kit_base.specs.Word.{add, sub}
@@ -15,10 +15,12 @@ use Rattle.v32_isa.specs.declared.instruction.Instr.{Instr}
 use Rattle.v32_isa.specs.declared.instruction.Instr.TheVariants as instr
 use Rattle.v32_isa.specs.declared.stepped.Stepped.TheVariants as stepped
 use Rattle.v32_isa.specs.Table.{Fits}
-use Rattle.v32_isa.specs.State.{State, register_of, with_register, going_to, stored, is_writable_at}
+use Rattle.v32_isa.specs.State.{State, register_of, with_register, going_to, stored, is_writable_at, word_at}
 use Rattle.v32_isa.specs.Machine.{act}
 use Rattle.v32_isa.specs.Machine.Effect.{Ends as EndsIn}
-use Rattle.v32_isa.proofs.Steps.{reaches_here, reaches_on, reaches_went}
+use Rattle.v32_isa.specs.Calls.{turn_of, Link}
+use Rattle.v32_isa.specs.Calls.Turn.{Other}
+use Rattle.v32_isa.proofs.Steps.{Moves, reaches_here, reaches_in, moves_on, reaches_on, reaches_went, moves_entered, moves_returned}
 use Rattle.either.specs.declared.Either.TheVariants.{Left}
 use Rattle.asm_items.specs.declared.item.AsmItem.{AsmItem}
 use Rattle.asm_items.specs.declared.item.AsmItem.TheVariants as item
@@ -28,10 +30,10 @@ use Rattle.mid_code.specs.Invariants.{in_registers}
 use Rattle.asm_laws.specs.Operations.{Frame, slot_word, hand, brings, slot_arg, slot_args, pushed_arg, pushed_args, popped_arg, popped_args, args_items}
 use Rattle.asm_laws.specs.Placing.{Line}
 use Rattle.asm_laws.specs.Standing.{Stand}
-use Rattle.asm_laws.specs.Addresses.{Addr, Console, word_of, store, Room, Good, Held, Arrives}
+use Rattle.asm_laws.specs.Addresses.{Addr, Console, word_of, store, Room, Good, Held, ArrivesBy, Arrives}
 use Rattle.asm_laws.specs.Framing.{frame_made, link_words}
 use Rattle.asm_laws.specs.Links.{new_slot, passed, all_passed, push, pushed, all_pushed, popped, all_popped, entered, slot_steps, called}
-use Rattle.asm_laws.proofs.Stepping.{readable_word, ram_readable, ram_writable, writes_at, line_effect, reg_same, reg_other, moved, kept, stores, reg_number}
+use Rattle.asm_laws.proofs.Stepping.{readable_word, ram_readable, ram_writable, writes_at, line_effect, line_turn, reg_same, reg_other, moved, kept, stores, reg_number}
 use Rattle.asm_laws.proofs.Hands.{held_alike, hand_fits, brings_at}
 
 -- how many words a link has
@@ -86,13 +88,26 @@ module _ (C : Console) where
     memory = h.memory;
   }
 
-  chain : (i j : ℕ) (s : State) (xs : List ℕ) (p q : ℕ) (a b : Addr) → Arrives C i s xs p [] xs a → ((t : State) → t.counter ≡ p → Held C a t → Arrives C j t xs q [] xs b) → Arrives C (i + j) s xs q [] xs b
-  chain i j s xs p q a b f g =
+  chain_by : (is js ks : List Link) (i j : ℕ) (s : State) (xs : List ℕ) (p q : ℕ) (a b : Addr) → ArrivesBy is js C i s xs p [] xs a → ((t : State) → t.counter ≡ p → Held C a t → ArrivesBy js ks C j t xs q [] xs b) → ArrivesBy is ks C (i + j) s xs q [] xs b
+  chain_by is js ks i j s xs p q a b f g =
       let r = g f.to f.at f.held in
-      record { steps = f.steps + r.steps; to = r.to; by = reaches_on f.steps r.steps s f.to r.to xs xs xs [] [] f.by r.by; at = r.at; held = r.held; few = omega (arith, f.few, r.few) }
+      record { steps = f.steps + r.steps; to = r.to; by = moves_on is js ks f.steps r.steps s f.to r.to xs xs xs [] [] f.by r.by; at = r.at; held = r.held; few = omega (arith, f.few, r.few) }
 
-  pub one : (a b : Addr) (s t : State) (xs : List ℕ) (pc : ℕ) (i : Instr ℕ) (next : ℕ) → Held C a s → s.counter ≡ pc → Line C.words pc i next → Fits i → act i next s ≡ EndsIn stepped.Went t → Held C b t → Arrives C 1 s xs t.counter [] xs b
-  one a b s t xs pc i next h e l fits is held = record { steps = 1; to = t; by = reaches_went s t xs (line_effect C a s pc i next h e l fits ∙ is); at = refl; held = held; few = omega arith }
+  chain : (i j : ℕ) (s : State) (xs : List ℕ) (p q : ℕ) (a b : Addr) → Arrives C i s xs p [] xs a → ((t : State) → t.counter ≡ p → Held C a t → Arrives C j t xs q [] xs b) → Arrives C (i + j) s xs q [] xs b
+  chain i j s xs p q a b f g = chain_by [] [] [] i j s xs p q a b f g
+
+  -- inside a call
+  arrives_in : (l : Link) (i : ℕ) (s : State) (xs : List ℕ) (p : ℕ) (a : Addr) → Arrives C i s xs p [] xs a → ArrivesBy (l ∷ []) (l ∷ []) C i s xs p [] xs a
+  arrives_in l i s xs p a f = record { steps = f.steps; to = f.to; by = reaches_in l f.steps s f.to xs xs [] f.by; at = f.at; held = f.held; few = f.few }
+
+  pub one : (a b : Addr) (s t : State) (xs : List ℕ) (pc : ℕ) (i : Instr ℕ) (next : ℕ) → Held C a s → s.counter ≡ pc → Line C.words pc i next → Fits i → act i next s ≡ EndsIn stepped.Went t → turn_of i next s ≡ Other → Held C b t → Arrives C 1 s xs t.counter [] xs b
+  one a b s t xs pc i next h e l fits is other held = record { steps = 1; to = t; by = reaches_went s t xs (line_effect C a s pc i next h e l fits ∙ is) (line_turn C a s pc i next h e l fits ∙ other); at = refl; held = held; few = omega arith }
+
+  -- a RET that comes back to a link
+  pub returns_by : (a : Addr) (s t : State) (xs : List ℕ) (pc next : ℕ) (l : Link) → Held C a s → s.counter ≡ pc → Line C.words pc (instr.Plain RET) next → act (instr.Plain RET) next s ≡ EndsIn stepped.Went t → a.top < 0x400000 → a.top ≡ l.top → a.memory a.top ≡ l.back → Moves (l ∷ []) [] 1 s xs [] t xs
+  returns_by a s t xs pc next l h e k is hi top back =
+      moves_returned s t xs l (line_effect C a s pc (instr.Plain RET) next h e k (omega arith, omega arith, omega arith) ∙ is) (line_turn C a s pc (instr.Plain RET) next h e k (omega arith, omega arith, omega arith))
+      (h.top ∙ top) (subst (λ q. word_at s q ≡ Some l.back) top (readable_word C a s a.top h (ram_readable C a.top hi) ∙ ap Some back))
 
   nothing : (s : State) (xs : List ℕ) (pc p : ℕ) (a : Addr) → Held C a s → s.counter ≡ pc → pc ≡ p → Arrives C 0 s xs p [] xs a
   nothing s xs pc p a h e k = record { steps = 0; to = s; by = reaches_here s xs; at = e ∙ k; held = h; few = omega arith }
@@ -111,7 +126,7 @@ module _ (C : Console) where
       (top_held (store (a.top - 1) v a) (stored s (a.top - 1) v) (a.top - 1) (moved C (store (a.top - 1) v a) (going_to s.counter (stored s (a.top - 1) v)) s.counter (stores C a s s.counter (a.top - 1) v (ram_writable C (a.top - 1) (omega (arith, lo, hi))) h)))
 
   pushes : (a : Addr) (s : State) (xs : List ℕ) (pc r v next : ℕ) → r < 16 → 1 ≤ a.top → a.top ≤ 0x400000 → register_of s r ≡ v → Held C a s → s.counter ≡ pc → Line C.words pc (instr.One PUSH r) next → Arrives C 1 s xs next [] xs (push v a)
-  pushes a s xs pc r v next lt lo hi is h e l = one a (push v a) s (going_to next (with_register 15 (a.top - 1) (stored s (a.top - 1) v))) xs pc (instr.One PUSH r) next h e l (lt, omega arith, omega arith) (push_act a s r v next lo hi is h) (push_held a s v next lo hi h)
+  pushes a s xs pc r v next lt lo hi is h e l = one a (push v a) s (going_to next (with_register 15 (a.top - 1) (stored s (a.top - 1) v))) xs pc (instr.One PUSH r) next h e l (lt, omega arith, omega arith) (push_act a s r v next lo hi is h) refl (push_held a s v next lo hi h)
 
   -- a word is popped into a register
   pop_act : (a : Addr) (s : State) (r next : ℕ) → a.top < 0x400000 → Held C a s → act (instr.One POP r) next s ≡ EndsIn stepped.Went (going_to next (with_register r (a.memory a.top) (with_register 15 (a.top + 1) s)))
@@ -123,7 +138,7 @@ module _ (C : Console) where
 
   pops : (a : Addr) (s : State) (xs : List ℕ) (pc q next : ℕ) → q < 9 → a.top < 0x400000 → Held C a s → s.counter ≡ pc → Line C.words pc (instr.One POP q) next → Arrives C 1 s xs next [] xs (popped (Reg q) a)
   pops a s xs pc q next lt hi h e l =
-      one a (popped (Reg q) a) s (going_to next (with_register q (a.memory a.top) (with_register 15 (a.top + 1) s))) xs pc (instr.One POP q) next h e l (omega arith, omega arith, omega arith) (pop_act a s q next hi h)
+      one a (popped (Reg q) a) s (going_to next (with_register q (a.memory a.top) (with_register 15 (a.top + 1) s))) xs pc (instr.One POP q) next h e l (omega arith, omega arith, omega arith) (pop_act a s q next hi h) refl
       (kept C (record a { top = a.top + 1 }) (with_register 15 (a.top + 1) s) next q (a.memory a.top) (omega (arith, lt)) (top_held a s (a.top + 1) h))
 
   -- ---- arguments
@@ -160,7 +175,7 @@ module _ (C : Console) where
         let l = d.2 in
         let f : Arrives C 1 t xs l.0 [] xs (passed F G (Slot i) x a) =
         one a (passed F G (Slot i) x a) t (going_to l.0 (stored t (new_slot G i a) v)) xs d.0 o l.0 b.held b.at l.1 (omega arith, hand_fits x 9 (omega arith), omega arith)
-        (store_act a t i (hand x 9) v l.0 r gp b.is b.held) (stores C a t l.0 (new_slot G i a) v (ram_writable C (new_slot G i a) (omega (arith, r.below, r.above))) b.held) in
+        (store_act a t i (hand x 9) v l.0 r gp b.is b.held) refl (stores C a t l.0 (new_slot G i a) v (ram_writable C (new_slot G i a) (omega (arith, r.below, r.above))) b.held) in
         subst (λ q. Arrives C 2 s xs q [] xs (passed F G (Slot i) x a)) l.2
         (record { steps = b.steps + f.steps; to = f.to; by = reaches_on b.steps f.steps s t f.to xs xs xs [] [] b.by f.by; at = f.at; held = f.held; few = let n = f.few in let m = b.few in omega (arith, n, m) })
 
@@ -264,20 +279,37 @@ module _ (C : Console) where
     unfolding act
     less_act a s n next lo hi h = let d : sub (register_of s 15) n ≡ a.top - n = omega (arith, h.top, lo, hi) in rw d refl
 
+    -- the link that a call makes
+    abbrev pub link_at : Addr → ℕ → Link
+    link_at a next = record { top = a.top - 1; back = next }
+
     abbrev entered_as : Bool → ℕ → Addr → Addr
     entered_as bare next a = record a { memory = cond bare (push next a).memory (push a.base (push next a)).memory; base = cond bare a.base (a.top - 2); top = a.top - link_words G.size - G.size }
 
     -- from the call to the function's body: where its frame has words, BP is pushed, and room is made for them
-    pub enters : (a : Addr) (s : State) (xs : List ℕ) (pc next begins body : ℕ) → G.size + 2 ≤ a.top → a.top ≤ 0x400000 → Held C a s → s.counter ≡ pc → Line C.words pc (instr.Go CALL (src.Imm begins)) next → Here begins (frame_made G.size) body → Arrives C 4 s xs body [] xs (entered G next a)
+    pub enters : (a : Addr) (s : State) (xs : List ℕ) (pc next begins body : ℕ) → G.size + 2 ≤ a.top → a.top ≤ 0x400000 → Held C a s → s.counter ≡ pc → Line C.words pc (instr.Go CALL (src.Imm begins)) next → Here begins (frame_made G.size) body → ArrivesBy [] (link_at a next ∷ []) C 4 s xs body [] xs (entered G next a)
     enters a s xs pc next begins body lo hi h e l k = go (G.size == 0) refl k
       where
         a1 : Addr
         a1 = push next a
 
-        f1 : Arrives C 1 s xs begins [] xs a1
-        f1 = one a a1 s (going_to begins (with_register 15 (a.top - 1) (stored s (a.top - 1) next))) xs pc (instr.Go CALL (src.Imm begins)) next h e l (omega arith, omega arith, omega arith) (call_act a s begins next (omega (arith, lo)) hi h) (push_held a s next begins (omega (arith, lo)) hi h)
+        ok : Fits (instr.Go CALL (src.Imm begins))
+        ok = (omega arith, omega arith, omega arith)
 
-        go : (b : Bool) → (G.size == 0) ≡ b → Here begins (cond b [] (item.Op (instr.One PUSH 14) ∷ item.Op (instr.Mov (RegReg 14 15)) ∷ item.Op (instr.Two ISUB 15 (src.Imm (Left G.size))) ∷ [])) body → Arrives C 4 s xs body [] xs (entered_as b next a)
+        f1 : ArrivesBy [] (link_at a next ∷ []) C 1 s xs begins [] xs a1
+        f1 =
+            let t = going_to begins (with_register 15 (a.top - 1) (stored s (a.top - 1) next)) in
+            let d : sub (register_of s 15) 1 ≡ a.top - 1 = omega (arith, h.top, lo, hi) in
+            record {
+              steps = 1;
+              to = t;
+              by = subst (λ q. Moves [] (record { top = q; back = next } ∷ []) 1 s xs [] t xs) d (moves_entered s t xs begins next (line_effect C a s pc (instr.Go CALL (src.Imm begins)) next h e l ok ∙ call_act a s begins next (omega (arith, lo)) hi h) (line_turn C a s pc (instr.Go CALL (src.Imm begins)) next h e l ok));
+              at = refl;
+              held = push_held a s next begins (omega (arith, lo)) hi h;
+              few = omega arith;
+            }
+
+        go : (b : Bool) → (G.size == 0) ≡ b → Here begins (cond b [] (item.Op (instr.One PUSH 14) ∷ item.Op (instr.Mov (RegReg 14 15)) ∷ item.Op (instr.Two ISUB 15 (src.Imm (Left G.size))) ∷ [])) body → ArrivesBy [] (link_at a next ∷ []) C 4 s xs body [] xs (entered_as b next a)
         go true is k =
             let z : G.size ≡ 0 = eqb-true G.size 0 is in
             let w = link_bare G.size is in
@@ -288,17 +320,17 @@ module _ (C : Console) where
             let a2 = push a.base a1 in
             let a3 = record a2 { base = a.top - 2 } in
             let same : a1.top - 1 ≡ a.top - 2 = omega arith in
-            chain 1 3 s xs begins body a1 (entered_as false next a) f1 (λ t1 e1 h1.
-            chain 1 2 t1 xs k.0 body a2 (entered_as false next a) (pushes a1 t1 xs begins 14 a.base k.0 (omega arith) (omega (arith, lo)) (omega (arith, hi)) h1.base h1 e1 k.1) (λ t2 e2 h2.
+            chain_by [] (link_at a next ∷ []) (link_at a next ∷ []) 1 3 s xs begins body a1 (entered_as false next a) f1 (λ t1 e1 h1.
+            arrives_in (link_at a next) 3 t1 xs body (entered_as false next a) (chain 1 2 t1 xs k.0 body a2 (entered_as false next a) (pushes a1 t1 xs begins 14 a.base k.0 (omega arith) (omega (arith, lo)) (omega (arith, hi)) h1.base h1 e1 k.1) (λ t2 e2 h2.
             let v : register_of t2 15 ≡ a.top - 2 = h2.top ∙ same in
             let u2 = going_to k.2.0 (with_register 14 (a.top - 2) t2) in
-            let f3 : Arrives C 1 t2 xs k.2.0 [] xs a3 = one a2 a3 t2 u2 xs k.0 (instr.Mov (RegReg 14 15)) k.2.0 h2 e2 k.2.1 (omega arith, omega arith, omega arith) (copy_act t2 14 15 k.2.0 ∙ ap (λ x. EndsIn stepped.Went (going_to k.2.0 (with_register 14 x t2))) v) (moved C a3 (with_register 14 (a.top - 2) t2) k.2.0 (base_held a2 t2 (a.top - 2) h2)) in
+            let f3 : Arrives C 1 t2 xs k.2.0 [] xs a3 = one a2 a3 t2 u2 xs k.0 (instr.Mov (RegReg 14 15)) k.2.0 h2 e2 k.2.1 (omega arith, omega arith, omega arith) (copy_act t2 14 15 k.2.0 ∙ ap (λ x. EndsIn stepped.Went (going_to k.2.0 (with_register 14 x t2))) v) refl (moved C a3 (with_register 14 (a.top - 2) t2) k.2.0 (base_held a2 t2 (a.top - 2) h2)) in
             chain 1 1 t2 xs k.2.0 body a3 (entered_as false next a) f3 (λ t3 e3 h3.
             let d : a3.top - G.size ≡ a.top - link_words G.size - G.size = omega (arith, w) in
             let u4 = going_to k.2.2.0 (with_register 15 (a3.top - G.size) t3) in
             subst (λ q. Arrives C 1 t3 xs q [] xs (entered_as false next a)) k.2.2.2
-            (one a3 (entered_as false next a) t3 u4 xs k.2.0 (instr.Two ISUB 15 (src.Imm G.size)) k.2.2.0 h3 e3 k.2.2.1 (omega arith, omega arith, omega arith) (less_act a3 t3 G.size k.2.2.0 (omega (arith, lo)) (omega (arith, hi)) h3)
-            (held_alike C (record a3 { top = a3.top - G.size }) (entered_as false next a) u4 (λ r lt. refl) (λ q. refl) refl d (moved C (record a3 { top = a3.top - G.size }) (with_register 15 (a3.top - G.size) t3) k.2.2.0 (top_held a3 t3 (a3.top - G.size) h3)))))))
+            (one a3 (entered_as false next a) t3 u4 xs k.2.0 (instr.Two ISUB 15 (src.Imm G.size)) k.2.2.0 h3 e3 k.2.2.1 (omega arith, omega arith, omega arith) (less_act a3 t3 G.size k.2.2.0 (omega (arith, lo)) (omega (arith, hi)) h3) refl
+            (held_alike C (record a3 { top = a3.top - G.size }) (entered_as false next a) u4 (λ r lt. refl) (λ q. refl) refl d (moved C (record a3 { top = a3.top - G.size }) (with_register 15 (a3.top - G.size) t3) k.2.2.0 (top_held a3 t3 (a3.top - G.size) h3))))))))
 
     -- ---- the way back
 
@@ -337,7 +369,7 @@ module _ (C : Console) where
 
     -- from a call to the body of its function, in at most three steps for each argument and four more
     pub calls : (a : Addr) (s : State) (xs : List ℕ) (pc call next begins body : ℕ) (ps args : List Where) → Roomy a → length args ≡ length ps → in_registers ps ≤ a.top → AllOf (Good G) ps → AllOf (Good F) args → Held C a s → s.counter ≡ pc →
-        Here pc (args_items F G ps args) call → Line C.words call (instr.Go CALL (src.Imm begins)) next → Here begins (frame_made G.size) body → Arrives C (3 * length args + 4) s xs body [] xs (called F G ps args next a)
+        Here pc (args_items F G ps args) call → Line C.words call (instr.Go CALL (src.Imm begins)) next → Here begins (frame_made G.size) body → ArrivesBy [] (link_at (all_popped ps (all_pushed F ps args (all_passed F G ps args a))) next ∷ []) C (3 * length args + 4) s xs body [] xs (called F G ps args next a)
     calls a s xs pc call next begins body ps args r n le gp gx h c k l m =
         let d1 = part (slot_args F G ps args) (pushed_args F ps args ++ popped_args ps) pc call k in
         let d2 = part (pushed_args F ps args) (popped_args ps) d1.0 call d1.2 in
@@ -347,8 +379,9 @@ module _ (C : Console) where
         let same = passed_same ps args a in
         let t2 = all_pushed_top ps args a1 n (omega (arith, le, same.1)) in
         let t3 = popped_top ps a2 in
-        let f = chain (slot_steps ps) (2 * in_registers ps + (in_registers ps + 4)) s xs d1.0 body a1 (entered G next a3) (all_passes a s xs pc d1.0 ps args r gp gx h c d1.1) (λ s1 c1 h1.
-        chain (2 * in_registers ps) (in_registers ps + 4) s1 xs d2.0 body a2 (entered G next a3) (all_pushes a1 s1 xs d1.0 d2.0 ps args (roomy a a1 same.0 r.room) (omega (arith, le, same.1)) (omega (arith, same.1, r.above)) gx h1 c1 d2.1) (λ s2 c2 h2.
-        chain (in_registers ps) 4 s2 xs call body a3 (entered G next a3) (all_pops a2 s2 xs d2.0 call ps gp (omega (arith, t2, same.1, r.above)) h2 c2 d2.2) (λ s3 c3 h3.
+        let ls = link_at a3 next ∷ [] in
+        let f = chain_by [] [] ls (slot_steps ps) (2 * in_registers ps + (in_registers ps + 4)) s xs d1.0 body a1 (entered G next a3) (all_passes a s xs pc d1.0 ps args r gp gx h c d1.1) (λ s1 c1 h1.
+        chain_by [] [] ls (2 * in_registers ps) (in_registers ps + 4) s1 xs d2.0 body a2 (entered G next a3) (all_pushes a1 s1 xs d1.0 d2.0 ps args (roomy a a1 same.0 r.room) (omega (arith, le, same.1)) (omega (arith, same.1, r.above)) gx h1 c1 d2.1) (λ s2 c2 h2.
+        chain_by [] [] ls (in_registers ps) 4 s2 xs call body a3 (entered G next a3) (all_pops a2 s2 xs d2.0 call ps gp (omega (arith, t2, same.1, r.above)) h2 c2 d2.2) (λ s3 c3 h3.
         enters a3 s3 xs call next begins body (omega (arith, t3, t2, same.1, r.below)) (omega (arith, t3, t2, same.1, r.above)) h3 c3 l m))) in
         record { steps = f.steps; to = f.to; by = f.by; at = f.at; held = f.held; few = omega (arith, f.few, few_steps ps, n) }

@@ -25,7 +25,9 @@ use Rattle.v32_isa.specs.Machine.{act, effect_of, taking}
 use Rattle.v32_isa.specs.Machine.Effect.{Ends as EndsIn, Asks, Tells}
 use Rattle.v32_isa.specs.Runs.{Run, run, ended}
 use Rattle.v32_isa.specs.Runs as machine
-use Rattle.v32_isa.proofs.Steps.{before, Reaches, reaches_here, reaches_on, reaches_went, reaches_waited, reaches_told, reaches_asked, run-halted, run-fault, run-starved}
+use Rattle.v32_isa.specs.Calls.{turn}
+use Rattle.v32_isa.specs.Calls.Turn.{Other}
+use Rattle.v32_isa.proofs.Steps.{before, Reaches, reaches_here, reaches_on, reaches_went, reaches_waited, reaches_told, reaches_asked, run-halted, run-fault, run-starved, nested_stopped, nested_starved}
 use Rattle.asm_items.specs.declared.item.AsmItem.{AsmItem}
 use Rattle.asm_items.specs.declared.item.AsmItem.TheVariants as item
 use Rattle.asm_items.specs.Items.{Imm, instr_with}
@@ -40,7 +42,7 @@ use Rattle.asm_laws.specs.Operations as emitted
 use Rattle.asm_laws.specs.Placing.{Line}
 use Rattle.asm_laws.specs.Standing.{Stand}
 use Rattle.asm_laws.specs.Addresses.{Addr, Console, readable, writable, word_of, local_address, put, Room, Good, Does, Goes, Ends, computed, loaded, saved, asked, does, IsPlainOne, GoodOp, Held, Arrives, HasEnded, Follows}
-use Rattle.asm_laws.proofs.Stepping.{same_or_not, written_same, written_other, same_word, readable_word, unreadable_word, writes_at, line_effect, reg_same, took, scratch, kept, moved, stores, reg_number, fetch_effect, fetches_so}
+use Rattle.asm_laws.proofs.Stepping.{same_or_not, written_same, written_other, same_word, readable_word, unreadable_word, writes_at, line_effect, line_turn, reg_same, took, scratch, kept, moved, stores, reg_number, fetch_effect, fetch_turn, fetches_so}
 use Rattle.asm_laws.proofs.Hands.{like_self, with_reg, like_with, hand_fits, aim_fits, aim_low, hand_other, held_alike, brings_at, takes_at, word_other, kept_at, lays_from, lays_at}
 use Rattle.asm_laws.proofs.Split.{split}
 
@@ -57,7 +59,8 @@ later C j n limit s t xs pc a (Goes es ys b) r le f = record {
 later C j n limit s t xs pc a (Ends how) r le f = record {
   steps = j + f.steps;
   to = f.to;
-  by = λ k. (let e : j + f.steps + k ≡ j + (f.steps + k) = omega arith in ap (λ m. run m s xs) e) ∙ r (f.steps + k) ∙ ap (before []) (f.by k);
+  by = λ k. (let e : j + f.steps + k ≡ j + (f.steps + k) = omega arith in ap (λ m. run m s xs) e) ∙ r.runs (f.steps + k) ∙ ap (before []) (f.by k);
+  nested = λ ls. r.nests ls f.steps (f.nested ls);
   shown = f.shown;
   held = f.held;
   memory = f.memory;
@@ -69,7 +72,7 @@ one_then n s xs r e = (let k : 1 + n ≡ suc n = omega arith in ap (λ m. run m 
 
 -- a fault, where other registers than those of a machine that holds the words may have changed
 pub faults_like : (C : Console) (a b : Addr) (s t : State) (xs : List ℕ) (limit k : ℕ) → 1 ≤ limit → Held C b s → Held C a t → ((q : ℕ) → b.memory q ≡ a.memory q) → effect_of s ≡ EndsIn (stepped.Fault k) s → HasEnded C limit s xs (machine.Fault k) a
-faults_like C a b s t xs limit k le h g m e = record { steps = 1; to = s; by = λ n. one_then n s xs (ended (machine.Fault k) s) (run-fault n s s k xs e); shown = t; held = g; memory = same_word C b a s t h g m; few = le }
+faults_like C a b s t xs limit k le h g m e = record { steps = 1; to = s; by = λ n. one_then n s xs (ended (machine.Fault k) s) (run-fault n s s k xs e); nested = λ ls. nested_stopped 0 ls s s xs (stepped.Fault k) e refl; shown = t; held = g; memory = same_word C b a s t h g m; few = le }
 
 faults : (C : Console) (a : Addr) (s : State) (xs : List ℕ) (limit k : ℕ) → 1 ≤ limit → Held C a s → effect_of s ≡ EndsIn (stepped.Fault k) s → HasEnded C limit s xs (machine.Fault k) a
 faults C a s xs limit k le h e = faults_like C a a s s xs limit k le h h (λ q. refl) e
@@ -164,19 +167,19 @@ module _ (C : Console) (address : List ℕ → ℕ) (W : Whole) (F : Frame) (a :
   nine s next v h = reg_same C s 9 v (omega (arith, h.sixteen))
 
   -- a word is made in the register of its place, and laid there
-  laid : (s : State) (xs : List ℕ) (next p v : ℕ) (t : Where) → Good F t → Held C a s → effect_of s ≡ EndsIn stepped.Went (took C next (aim t) v s) → Here next (lays F t) p → Arrives C 2 s xs p [] xs (put F t v a)
-  laid s xs next p v t good h e k = lays_at C F address a a s xs next p v t room good (like_self (aim t) a) h e k
+  laid : (s : State) (xs : List ℕ) (next p v : ℕ) (t : Where) → Good F t → Held C a s → effect_of s ≡ EndsIn stepped.Went (took C next (aim t) v s) → turn s ≡ Other → Here next (lays F t) p → Arrives C 2 s xs p [] xs (put F t v a)
+  laid s xs next p v t good h e o k = lays_at C F address a a s xs next p v t room good (like_self (aim t) a) h e o k
 
   -- a word that may not be there, made in register 9
-  computed_at : (s : State) (xs : List ℕ) (next p : ℕ) (v : Option ℕ) (t : Where) → Good F t → Held C a s → effect_of s ≡ taking 9 v next s → Here next (keeps F t ∷ []) p → Follows C 2 s xs p a (computed F t v xs a)
-  computed_at s xs next p None t good h e k = faults C a s xs 2 6 (omega arith) h e
-  computed_at s xs next p (Some v) t good h e k =
-      later C 1 1 2 s (took C next 9 v s) xs p a (Goes [] xs (put F t v a)) (reaches_went s (took C next 9 v s) xs e) (omega arith)
+  computed_at : (s : State) (xs : List ℕ) (next p : ℕ) (v : Option ℕ) (t : Where) → Good F t → Held C a s → effect_of s ≡ taking 9 v next s → turn s ≡ Other → Here next (keeps F t ∷ []) p → Follows C 2 s xs p a (computed F t v xs a)
+  computed_at s xs next p None t good h e o k = faults C a s xs 2 6 (omega arith) h e
+  computed_at s xs next p (Some v) t good h e o k =
+      later C 1 1 2 s (took C next 9 v s) xs p a (Goes [] xs (put F t v a)) (reaches_went s (took C next 9 v s) xs e o) (omega arith)
       (kept_at C F address a (took C next 9 v s) xs next p 9 v t (omega arith) room good (scratch C a s next 9 v (omega arith) (omega arith) h) refl (nine s next v h) k)
 
   sets_at : (s : State) (xs : List ℕ) (pc p : ℕ) (t : Where) (i : Imm) → Good F t → Held C a s → s.counter ≡ pc → Here pc (sets F t i) p → Arrives C 2 s xs p [] xs (put F t (imm_word address i) a)
   unfolding act
-  sets_at s xs pc p t i good h e k = laid s xs k.0 p (imm_word address i) t good h (line_effect C a s pc (with (instr.Mov (RegImm (aim t) i))) k.0 h e k.1 (aim_fits t, omega arith, omega arith)) k.2
+  sets_at s xs pc p t i good h e k = laid s xs k.0 p (imm_word address i) t good h (line_effect C a s pc (with (instr.Mov (RegImm (aim t) i))) k.0 h e k.1 (aim_fits t, omega arith, omega arith)) (line_turn C a s pc (with (instr.Mov (RegImm (aim t) i))) k.0 h e k.1 (aim_fits t, omega arith, omega arith)) k.2
 
   moves_at : (s : State) (xs : List ℕ) (pc p : ℕ) (t q : Where) → Good F t → Good F q → Held C a s → s.counter ≡ pc → Here pc (moves F t q) p → Arrives C 2 s xs p [] xs (put F t (word_of F q a) a)
   moves_at s xs pc p t (Reg q) gt gq h e k = go (is_in t (register q)) refl k
@@ -195,7 +198,7 @@ module _ (C : Console) (address : List ℕ → ℕ) (W : Whole) (F : Frame) (a :
       go false is k =
           let r = kept_at C F address a s xs pc p (register q) (a.regs q) t (omega arith) room gt h e (ap (λ n. register_of s n) (reg_number C F address q gq) ∙ h.regs q gq) k in
           record { steps = r.steps; to = r.to; by = r.by; at = r.at; held = r.held; few = let f = r.few in omega (arith, f) }
-  moves_at s xs pc p t (Slot j) gt gq h e k = laid s xs k.0 p (word_of F (Slot j) a) t gt h (fetch_effect C F address a s pc (Slot j) (aim t) k.0 room gq (aim_fits t) h e k.1) k.2
+  moves_at s xs pc p t (Slot j) gt gq h e k = laid s xs k.0 p (word_of F (Slot j) a) t gt h (fetch_effect C F address a s pc (Slot j) (aim t) k.0 room gq (aim_fits t) h e k.1) (fetch_turn C F address a s pc (Slot j) (aim t) k.0 (aim_fits t) h e k.1) k.2
 
   one_effect : (o : OneOf) (m : ℕ) (s : State) (next : ℕ) → IsPlainOne o → act (instr.One o m) next s ≡ taking m (one_of o (register_of s m)) next s
   unfolding act
@@ -223,7 +226,7 @@ module _ (C : Console) (address : List ℕ → ℕ) (W : Whole) (F : Frame) (a :
       let l = d.2 in
       let eff = line_effect C (with_reg m v a) u d.0 (instr.One o m) l.0 r.held r.at l.1 (one_fits o m (aim_fits t)) ∙ one_effect o m u l.0 ok ∙ ap (λ z. taking m (one_of o z) l.0 u) r.is ∙ ap (λ z. taking m z l.0 u) x.1 in
       subst (λ z. Follows C 3 s xs p a (computed F t z xs a)) (sym x.1)
-      (later C r.steps 2 3 s u xs p a (Goes [] xs (put F t x.0 a)) r.by (let f = r.few in omega (arith, f)) (lays_at C F address a (with_reg m v a) u xs l.0 p x.0 t room gt (like_with m v a) r.held eff l.2))
+      (later C r.steps 2 3 s u xs p a (Goes [] xs (put F t x.0 a)) r.by (let f = r.few in omega (arith, f)) (lays_at C F address a (with_reg m v a) u xs l.0 p x.0 t room gt (like_with m v a) r.held eff (line_turn C (with_reg m v a) u d.0 (instr.One o m) l.0 r.held r.at l.1 (one_fits o m (aim_fits t))) l.2))
 
   -- an operator in the register of its target
   in_place_at : (s : State) (xs : List ℕ) (pc p : ℕ) (o : TwoOf) (t q r : Where) → is_direct t r ≡ true → Good F t → Good F q → Good F r → Held C a s → s.counter ≡ pc → Here pc (in_place F o (aim t) q r) p →
@@ -248,16 +251,16 @@ module _ (C : Console) (address : List ℕ → ℕ) (W : Whole) (F : Frame) (a :
       let eff0 : effect_of u ≡ taking m (two_of o (register_of u m) (register_of u (hand r 10))) l.0 u = line_effect C b u g.0 (instr.Two o m (src.Reg (hand r 10))) l.0 i.held i.at l.1 (aim_fits t, hand_fits r 10 (omega arith), omega arith) in
       let eff : effect_of u ≡ taking m (two_of o v w) l.0 u = eff0 ∙ ap (λ z. taking m (two_of o z (register_of u (hand r 10))) l.0 u) first ∙ ap (λ z. taking m (two_of o v z) l.0 u) second in
       later C f.steps 3 4 s f.to xs p a (computed F t (two_of o v w) xs a) f.by (let n = f.few in omega (arith, n))
-      (later C i.steps 2 3 f.to u xs p a (computed F t (two_of o v w) xs a) i.by (let n = i.few in omega (arith, n)) (last (two_of o v w) u l.0 i.held eff (no_lays t off.1 l.2)))
+      (later C i.steps 2 3 f.to u xs p a (computed F t (two_of o v w) xs a) i.by (let n = i.few in omega (arith, n)) (last (two_of o v w) u l.0 i.held eff (line_turn C b u g.0 (instr.Two o m (src.Reg (hand r 10))) l.0 i.held i.at l.1 (aim_fits t, hand_fits r 10 (omega arith), omega arith)) (no_lays t off.1 l.2)))
     where
       no_lays : {e f : ℕ} (t : Where) → lays_none t → e ≡ f → Here e (lays F t) f
       no_lays (Reg q) n h = h
       no_lays (Slot j) n h = absurd n
 
       -- a division may fault, with the first word in its target's register
-      last : (z : Option ℕ) (u : State) (next : ℕ) → Held C (with_reg (aim t) (word_of F q a) a) u → effect_of u ≡ taking (aim t) z next u → Here next (lays F t) p → Follows C 2 u xs p a (computed F t z xs a)
-      last None u next hu eff k = faults_like C a (with_reg (aim t) (word_of F q a) a) u s xs 2 6 (omega arith) hu h (λ q. refl) eff
-      last (Some x) u next hu eff k = lays_at C F address a (with_reg (aim t) (word_of F q a) a) u xs next p x t room gt (like_with (aim t) (word_of F q a) a) hu eff k
+      last : (z : Option ℕ) (u : State) (next : ℕ) → Held C (with_reg (aim t) (word_of F q a) a) u → effect_of u ≡ taking (aim t) z next u → turn u ≡ Other → Here next (lays F t) p → Follows C 2 u xs p a (computed F t z xs a)
+      last None u next hu eff o k = faults_like C a (with_reg (aim t) (word_of F q a) a) u s xs 2 6 (omega arith) hu h (λ q. refl) eff
+      last (Some x) u next hu eff o k = lays_at C F address a (with_reg (aim t) (word_of F q a) a) u xs next p x t room gt (like_with (aim t) (word_of F q a) a) hu eff o k
 
   -- an operator in register 9
   apart_at : (s : State) (xs : List ℕ) (pc p : ℕ) (o : TwoOf) (t q r : Where) → Good F t → Good F q → Good F r → Held C a s → s.counter ≡ pc → Here pc (apart F o t q r) p →
@@ -277,7 +280,7 @@ module _ (C : Console) (address : List ℕ → ℕ) (W : Whole) (F : Frame) (a :
       let eff0 : effect_of u ≡ taking 9 (two_of o (register_of u 9) (register_of u (hand r 10))) l.0 u = line_effect C a u d.0 (instr.Two o 9 (src.Reg (hand r 10))) l.0 i.held i.at l.1 (omega arith, hand_fits r 10 (omega arith), omega arith) in
       let eff : effect_of u ≡ taking 9 (two_of o v w) l.0 u = eff0 ∙ ap (λ z. taking 9 (two_of o z (register_of u (hand r 10))) l.0 u) first ∙ ap (λ z. taking 9 (two_of o v z) l.0 u) i.is in
       later C 1 3 4 s u1 xs p a (computed F t (two_of o v w) xs a) (fetches_so C F address a s xs pc q 9 n room gq (omega arith) h e k.1) (omega arith)
-      (later C i.steps 2 3 u1 u xs p a (computed F t (two_of o v w) xs a) i.by (let z = i.few in omega (arith, z)) (computed_at u xs l.0 p (two_of o v w) t gt i.held eff l.2))
+      (later C i.steps 2 3 u1 u xs p a (computed F t (two_of o v w) xs a) i.by (let z = i.few in omega (arith, z)) (computed_at u xs l.0 p (two_of o v w) t gt i.held eff (line_turn C a u d.0 (instr.Two o 9 (src.Reg (hand r 10))) l.0 i.held i.at l.1 (omega arith, hand_fits r 10 (omega arith), omega arith)) l.2))
 
   -- with its words the other way round, where they stand so
   turned_at : (s : State) (xs : List ℕ) (pc p : ℕ) (o : TwoOf) (u : Option TwoOf) (t q r : Where) → TurnsTo o u → Good F t → Good F q → Good F r → Held C a s → s.counter ≡ pc → Here pc (turned_or_apart F o u t q r) p →
@@ -318,11 +321,11 @@ module _ (C : Console) (address : List ℕ → ℕ) (W : Whole) (F : Frame) (a :
           let i = brings_at C F address a s xs pc d.0 q 9 room gq (omega arith) (omega arith) h e d.1 in
           let l = d.2 in
           let eff = line_effect C a i.to d.0 (instr.Mov (RegAtReg m (hand q 9))) l.0 i.held i.at l.1 (aim_fits t, hand_fits q 9 (omega arith), omega arith) in
-          later C i.steps 2 3 s i.to xs p a (loaded b F t (a.memory v) xs a) i.by (let n = i.few in omega (arith, n)) (last b ok i.to i.held i.is l.0 eff l.2)
+          later C i.steps 2 3 s i.to xs p a (loaded b F t (a.memory v) xs a) i.by (let n = i.few in omega (arith, n)) (last b ok i.to i.held i.is l.0 eff (line_turn C a i.to d.0 (instr.Mov (RegAtReg m (hand q 9))) l.0 i.held i.at l.1 (aim_fits t, hand_fits q 9 (omega arith), omega arith)) l.2)
         where
-          last : (b : Bool) → readable C (word_of F q a) ≡ b → (u : State) → Held C a u → register_of u (hand q 9) ≡ word_of F q a → (next : ℕ) → effect_of u ≡ act (instr.Mov (RegAtReg (aim t) (hand q 9))) next u → Here next (lays F t) p → Follows C 2 u xs p a (loaded b F t (a.memory (word_of F q a)) xs a)
-          last true ok u hu is next eff l = laid u xs next p (a.memory (word_of F q a)) t gt hu (eff ∙ load_effect u (aim t) (hand q 9) (word_of F q a) (a.memory (word_of F q a)) next is (readable_word C a u (word_of F q a) hu ok)) l
-          last false not_so u hu is next eff l =
+          last : (b : Bool) → readable C (word_of F q a) ≡ b → (u : State) → Held C a u → register_of u (hand q 9) ≡ word_of F q a → (next : ℕ) → effect_of u ≡ act (instr.Mov (RegAtReg (aim t) (hand q 9))) next u → turn u ≡ Other → Here next (lays F t) p → Follows C 2 u xs p a (loaded b F t (a.memory (word_of F q a)) xs a)
+          last true ok u hu is next eff o l = laid u xs next p (a.memory (word_of F q a)) t gt hu (eff ∙ load_effect u (aim t) (hand q 9) (word_of F q a) (a.memory (word_of F q a)) next is (readable_word C a u (word_of F q a) hu ok)) o l
+          last false not_so u hu is next eff o l =
               faults C a u xs 2 0 (omega arith) hu (eff ∙ load_fails u (aim t) (hand q 9) (word_of F q a) next is (unreadable_word C a u (word_of F q a) hu not_so))
 
   store_effect : (s : State) (r m q v next : ℕ) → register_of s r ≡ q → register_of s m ≡ v → is_writable_at s q ≡ true → act (instr.Mov (AtRegReg r m)) next s ≡ EndsIn stepped.Went (going_to next (stored s q v))
@@ -344,16 +347,16 @@ module _ (C : Console) (address : List ℕ → ℕ) (W : Whole) (F : Frame) (a :
       let eff = line_effect C a j.to g.0 (instr.Mov (AtRegReg (hand q 9) (hand r 10))) l.0 j.held j.at l.1 (hand_fits q 9 (omega arith), hand_fits r 10 (omega arith), omega arith) in
       let first : register_of j.to (hand q 9) ≡ word_of F q a = j.others (hand q 9) (hand_other F q 9 10 gq (omega arith) (omega arith)) ∙ i.is in
       later C i.steps 2 3 s i.to xs p a (saved (writable C (word_of F q a)) (word_of F q a) (word_of F r a) xs a) i.by (let n = i.few in omega (arith, n))
-      (later C j.steps 1 2 i.to j.to xs p a (saved (writable C (word_of F q a)) (word_of F q a) (word_of F r a) xs a) j.by (let n = j.few in omega (arith, n)) (last (writable C (word_of F q a)) refl j.to j.held first j.is l.0 eff l.2))
+      (later C j.steps 1 2 i.to j.to xs p a (saved (writable C (word_of F q a)) (word_of F q a) (word_of F r a) xs a) j.by (let n = j.few in omega (arith, n)) (last (writable C (word_of F q a)) refl j.to j.held first j.is l.0 eff (line_turn C a j.to g.0 (instr.Mov (AtRegReg (hand q 9) (hand r 10))) l.0 j.held j.at l.1 (hand_fits q 9 (omega arith), hand_fits r 10 (omega arith), omega arith)) l.2))
     where
-      last : (b : Bool) → writable C (word_of F q a) ≡ b → (u : State) → Held C a u → register_of u (hand q 9) ≡ word_of F q a → register_of u (hand r 10) ≡ word_of F r a → (next : ℕ) → effect_of u ≡ act (instr.Mov (AtRegReg (hand q 9) (hand r 10))) next u → next ≡ p →
+      last : (b : Bool) → writable C (word_of F q a) ≡ b → (u : State) → Held C a u → register_of u (hand q 9) ≡ word_of F q a → register_of u (hand r 10) ≡ word_of F r a → (next : ℕ) → effect_of u ≡ act (instr.Mov (AtRegReg (hand q 9) (hand r 10))) next u → turn u ≡ Other → next ≡ p →
           Follows C 1 u xs p a (saved b (word_of F q a) (word_of F r a) xs a)
-      last true ok u hu isq isr next eff z =
+      last true ok u hu isq isr next eff o z =
           let v = word_of F q a in
           let w = word_of F r a in
           let e = eff ∙ store_effect u (hand q 9) (hand r 10) v w next isq isr (writes_at C a u v hu ∙ ok) in
-          record { steps = 1; to = going_to next (stored u v w); by = reaches_went u (going_to next (stored u v w)) xs e; at = z; held = stores C a u next v w ok hu; few = omega arith }
-      last false not_so u hu isq isr next eff z = faults C a u xs 1 1 (omega arith) hu (eff ∙ store_fails u (hand q 9) (hand r 10) (word_of F q a) next isq (writes_at C a u (word_of F q a) hu ∙ not_so))
+          record { steps = 1; to = going_to next (stored u v w); by = reaches_went u (going_to next (stored u v w)) xs e o; at = z; held = stores C a u next v w ok hu; few = omega arith }
+      last false not_so u hu isq isr next eff o z = faults C a u xs 1 1 (omega arith) hu (eff ∙ store_fails u (hand q 9) (hand r 10) (word_of F q a) next isq (writes_at C a u (word_of F q a) hu ∙ not_so))
 
   asked_effect : (s : State) (m port next : ℕ) → is_readable port ≡ true → act (instr.In m port) next s ≡ Asks m port next s
   unfolding act
@@ -376,7 +379,7 @@ module _ (C : Console) (address : List ℕ → ℕ) (W : Whole) (F : Frame) (a :
       Follows C 2 s xs p a (asked F t port xs a)
   in_at s [] pc p t port gt lt ok h e k =
       let eff = line_effect C a s pc (instr.In (aim t) port) k.0 h e (in_line (aim t) pc k.0 port lt k.1) (aim_fits t, omega arith, lt) ∙ asked_effect s (aim t) port k.0 ok in
-      record { steps = 1; to = s; by = λ n. one_then n s [] (ended machine.Starved s) (run-starved n s s (aim t) port k.0 eff); shown = s; held = h; memory = λ q. refl; few = omega arith }
+      record { steps = 1; to = s; by = λ n. one_then n s [] (ended machine.Starved s) (run-starved n s s (aim t) port k.0 eff); nested = λ ls. nested_starved 0 ls s s (aim t) port k.0 eff; shown = s; held = h; memory = λ q. refl; few = omega arith }
   in_at s (x ∷ xs) pc p t port gt lt ok h e k =
       let m = aim t in
       let low = aim_low F t gt in
@@ -386,7 +389,7 @@ module _ (C : Console) (address : List ℕ → ℕ) (W : Whole) (F : Frame) (a :
       record {
         steps = 1 + r.steps;
         to = r.to;
-        by = reaches_on 1 r.steps s u r.to (x ∷ xs) xs xs (event.In port x ∷ []) [] (reaches_asked s s m port k.0 x xs eff) r.by;
+        by = reaches_on 1 r.steps s u r.to (x ∷ xs) xs xs (event.In port x ∷ []) [] (reaches_asked s s m port k.0 x xs eff (line_turn C a s pc (instr.In m port) k.0 h e (in_line m pc k.0 port lt k.1) (aim_fits t, omega arith, lt))) r.by;
         at = r.at;
         held = r.held;
         few = let f = r.few in omega (arith, f);
@@ -403,7 +406,7 @@ module _ (C : Console) (address : List ℕ → ℕ) (W : Whole) (F : Frame) (a :
       record {
         steps = i.steps + 1;
         to = going_to l.0 i.to;
-        by = reaches_on i.steps 1 s i.to (going_to l.0 i.to) xs xs xs [] (event.Out port v ∷ []) i.by (reaches_told i.to i.to port v l.0 xs eff);
+        by = reaches_on i.steps 1 s i.to (going_to l.0 i.to) xs xs xs [] (event.Out port v ∷ []) i.by (reaches_told i.to i.to port v l.0 xs eff (line_turn C a i.to d.0 (instr.Out port (src.Reg (hand q 9))) l.0 i.held i.at (out_line (hand q 9) d.0 l.0 port lt l.1) (hand_fits q 9 (omega arith), omega arith, lt)));
         at = l.2;
         held = moved C a i.to l.0 i.held;
         few = let n = i.few in omega (arith, n);
@@ -426,7 +429,7 @@ module _ (C : Console) (address : List ℕ → ℕ) (W : Whole) (F : Frame) (a :
 
   few_more : (n m : ℕ) (s : State) (xs : List ℕ) (pc : ℕ) (d : Does) → n ≤ m → Follows C n s xs pc a d → Follows C m s xs pc a d
   few_more n m s xs pc (Goes es ys b) le f = record { steps = f.steps; to = f.to; by = f.by; at = f.at; held = f.held; few = omega (arith, f.few) }
-  few_more n m s xs pc (Ends how) le f = record { steps = f.steps; to = f.to; by = f.by; shown = f.shown; held = f.held; memory = f.memory; few = omega (arith, f.few) }
+  few_more n m s xs pc (Ends how) le f = record { steps = f.steps; to = f.to; by = f.by; nested = f.nested; shown = f.shown; held = f.held; memory = f.memory; few = omega (arith, f.few) }
 
   nothing_at : (s : State) (xs : List ℕ) (pc p : ℕ) → Held C a s → s.counter ≡ pc → pc ≡ p → Arrives C 0 s xs p [] xs a
   nothing_at s xs pc p h e k = record { steps = 0; to = s; by = reaches_here s xs; at = e ∙ k; held = h; few = omega arith }
@@ -443,7 +446,7 @@ module _ (C : Console) (address : List ℕ → ℕ) (W : Whole) (F : Frame) (a :
   op_follows (LocalO t j) s xs pc p good h e k =
       let v = local_address F j a in
       let eff = line_effect C a s pc (with (instr.Lea (aim t) 14 (Some (Left (local_word F j))))) k.0 h e k.1 (aim_fits t, omega arith, omega arith) ∙ local_effect s (aim t) j k.0 good.1 h in
-      few_more 2 8 s xs p (Goes [] xs (put F t v a)) (omega arith) (laid s xs k.0 p v t good.0 h eff k.2)
+      few_more 2 8 s xs p (Goes [] xs (put F t v a)) (omega arith) (laid s xs k.0 p v t good.0 h eff (line_turn C a s pc (with (instr.Lea (aim t) 14 (Some (Left (local_word F j))))) k.0 h e k.1 (aim_fits t, omega arith, omega arith)) k.2)
   op_follows (LiteralO t j) s xs pc p good h e k = few_more 2 8 s xs p (Goes [] xs (put F t (address (literal_label j)) a)) (omega arith) (sets_at s xs pc p t (Right (literal_label j)) good h e k)
   op_follows (CardO t) s xs pc p good h e k = few_more 2 8 s xs p (Goes [] xs (put F t 0x30000000 a)) (omega arith) (sets_at s xs pc p t (Left 0x30000000) good h e k)
   op_follows (StepO t q r) s xs pc p good h e k = few_more 4 8 s xs p (computed F t (two_of IADD (word_of F q a) (word_of F r a)) xs a) (omega arith) (computes_at s xs pc p IADD t q r good.0 good.1 good.2 h e k)
@@ -457,7 +460,7 @@ module _ (C : Console) (address : List ℕ → ℕ) (W : Whole) (F : Frame) (a :
   op_follows (OutO port q) s xs pc p good h e k = few_more 2 8 s xs p (Goes (event.Out port (word_of F q a) ∷ []) xs a) (omega arith) (out_at s xs pc p q port good.0 good.1 good.2 h e k)
   op_follows WaitO s xs pc p good h e k =
       let eff = line_effect C a s pc (instr.Plain WAIT) k.0 h e k.1 (omega arith, omega arith, omega arith) ∙ wait_effect s k.0 in
-      record { steps = 1; to = going_to k.0 s; by = reaches_waited s (going_to k.0 s) xs eff; at = k.2; held = moved C a s k.0 h; few = omega arith }
+      record { steps = 1; to = going_to k.0 s; by = reaches_waited s (going_to k.0 s) xs eff (line_turn C a s pc (instr.Plain WAIT) k.0 h e k.1 (omega arith, omega arith, omega arith)); at = k.2; held = moved C a s k.0 h; few = omega arith }
   op_follows HaltO s xs pc p good h e k =
       let eff = line_effect C a s pc (instr.Plain HLT) k.0 h e k.1 (omega arith, omega arith, omega arith) ∙ halt_effect s k.0 in
-      record { steps = 1; to = s; by = λ n. one_then n s xs (ended machine.Halted s) (run-halted n s s xs eff); shown = s; held = h; memory = λ q. refl; few = omega arith }
+      record { steps = 1; to = s; by = λ n. one_then n s xs (ended machine.Halted s) (run-halted n s s xs eff); nested = λ ls. nested_stopped 0 ls s s xs stepped.Halted eff refl; shown = s; held = h; memory = λ q. refl; few = omega arith }

@@ -17,7 +17,7 @@ use Rattle.v32_isa.specs.Machine.{act}
 use Rattle.v32_isa.specs.Machine.Effect.{Ends as EndsIn}
 use Rattle.v32_isa.specs.Runs.{run}
 use Rattle.v32_isa.specs.Runs as runs
-use Rattle.v32_isa.proofs.Steps.{Reaches, reaches_here, reaches_on, reaches_went}
+use Rattle.v32_isa.proofs.Steps.{Reaches, reaches_here, reaches_on, reaches_went, nested_none}
 use Rattle.obj_mem.specs.declared.cell.Cell.{Cell}
 use Rattle.obj_mem.specs.declared.cell.Cell.TheVariants.{Unwritten, Num, Ptr, Null}
 use Rattle.obj_mem.specs.Runs.{Ending, Halted, Fault, Starved, Stray, Deep, OutOfBound}
@@ -34,7 +34,7 @@ use Rattle.asm_laws.specs.Standing.{Stand}
 use Rattle.asm_laws.specs.Tests.{Tests}
 use Rattle.asm_laws.specs.Addresses.{Addr, Does, Console, word_of, GoodOp, Held, Follows, does}
 use Rattle.asm_laws.specs.Addresses as words
-use Rattle.asm_laws.proofs.Stepping.{same_or_not, line_effect, took, scratch, moved, reg_same, fetches_so}
+use Rattle.asm_laws.proofs.Stepping.{same_or_not, line_effect, line_turn, took, scratch, moved, reg_same, fetches_so}
 use Rattle.asm_laws.proofs.Control.{earlier_did}
 use Rattle.asm_laws.proofs.Hands.{with_reg, hand_fits, brings_at}
 use Rattle.asm_laws.proofs.OperationsStep.{op_follows}
@@ -51,7 +51,7 @@ jump_effect m to next = refl
 
 -- one jump
 pub jump_reaches : (C : Console) (a : Addr) (m : machine.State) (xs : List ℕ) (pc to : ℕ) → Held C a m → m.counter ≡ pc → Jumps C.words pc to → Reaches 1 m xs [] (going_to to m) xs
-jump_reaches C a m xs pc to h e j = reaches_went m (going_to to m) xs (line_effect C a m pc (instr.Go JMP (src.Imm to)) j.0 h e j.1 (omega arith, omega arith, omega arith) ∙ jump_effect m to j.0)
+jump_reaches C a m xs pc to h e j = reaches_went m (going_to to m) xs (line_effect C a m pc (instr.Go JMP (src.Imm to)) j.0 h e j.1 (omega arith, omega arith, omega arith) ∙ jump_effect m to j.0) (line_turn C a m pc (instr.Go JMP (src.Imm to)) j.0 h e j.1 (omega arith, omega arith, omega arith))
 
 not_zero : (v a b : ℕ) → (if suc v == 0 then a else b) ≡ b
 not_zero v a b = elim (same_or_not (suc v) 0) [ inl x ↦ absurd (omega (arith, x.0)) | inr x ↦ ap (λ t. if t then a else b) x.1 ]
@@ -96,6 +96,7 @@ module _ (S : Setting) (fits : Fits S) where
     steps = f1.steps;
     made = [];
     to = f1.to;
+    nested = f1.nested;
     by = λ n. f1.by n ∙ ap (λ x. record { events = []; end = x; state = f1.to }) e;
     held = record { context = κ; shown = f1.shown; mach = record { place = h.place; words = a; at = h.at; held = f1.held }; memory = f1.memory };
     events = ev ∙ sym (append-nil s.world.events);
@@ -116,7 +117,7 @@ module _ (S : Setting) (fits : Fits S) where
     many = omega arith;
   }
   join κ s m a w p (On t) (words.Ends how) g f = absurd g
-  join κ s m a w p (Ends Stray t) e g f = λ n. record { steps = 0; made = []; to = m; left = s.world.store.answers; by = reaches_here m s.world.store.answers; events = g.0 ∙ sym (append-nil s.world.events); cost = omega (arith, g.1); many = omega arith }
+  join κ s m a w p (Ends Stray t) e g f = λ n. record { steps = 0; made = []; to = m; left = s.world.store.answers; by = (reaches_here m s.world.store.answers).runs; nested = λ ls. nested_none ls m s.world.store.answers; events = g.0 ∙ sym (append-nil s.world.events); cost = omega (arith, g.1); many = omega arith }
   join κ s m a w p (Ends Halted t) (words.Goes es ys b) g f = absurd g
   join κ s m a w p (Ends Halted t) (words.Ends how) g f = λ n. stopped κ s t m a w Halted how runs.Halted g.same g.holds g.events g.work f
   join κ s m a w p (Ends (Fault k) t) (words.Goes es ys b) g f = absurd g
@@ -132,7 +133,7 @@ module _ (S : Setting) (fits : Fits S) where
   passes : (κ : Ctx) (s : State Where) (m : machine.State) (a b : Addr) (w p : ℕ) (d : Did (State Where)) (go : State Where → Did (State Where)) → DoesAs S κ (spent w s) a d (words.Goes [] s.world.store.answers b) →
       ((t : State Where) → Holds S κ t b → DidSim (holder S) κ m (begin (holder S) t) p (go t)) → DidSim (holder S) κ m (begin (holder S) s) p (did_then d go)
   passes κ s m a b w p (On t) go g f = earlier_did (lang S) (holder S) κ m (begin (holder S) s) (begin (holder S) t) p (go t) (sym g.answers) (g.events ∙ append-nil s.world.events) (let n = g.work in omega (arith, n)) (f t g.holds)
-  passes κ s m a b w p (Ends Stray t) go g f = λ n. record { steps = 0; made = []; to = m; left = s.world.store.answers; by = reaches_here m s.world.store.answers; events = g.0 ∙ sym (append-nil s.world.events); cost = omega (arith, g.1); many = omega arith }
+  passes κ s m a b w p (Ends Stray t) go g f = λ n. record { steps = 0; made = []; to = m; left = s.world.store.answers; by = (reaches_here m s.world.store.answers).runs; nested = λ ls. nested_none ls m s.world.store.answers; events = g.0 ∙ sym (append-nil s.world.events); cost = omega (arith, g.1); many = omega arith }
   passes κ s m a b w p (Ends Halted t) go g f = absurd g
   passes κ s m a b w p (Ends (Fault k) t) go g f = absurd g
   passes κ s m a b w p (Ends Starved t) go g f = absurd g
@@ -259,7 +260,7 @@ module _ (S : Setting) (fits : Fits S) where
         steps = b.steps + 1;
         made = [];
         to = going_to (if v == 0 then to else next) u;
-        by = reaches_on b.steps 1 m u (going_to (if v == 0 then to else next) u) xs xs xs [] [] b.by (reaches_went u (going_to (if v == 0 then to else next) u) xs eff);
+        by = reaches_on b.steps 1 m u (going_to (if v == 0 then to else next) u) xs xs xs [] [] b.by (reaches_went u (going_to (if v == 0 then to else next) u) xs eff (line_turn C h.words u t.0 (instr.Branch JF r (src.Imm to)) next b.held b.at t.2 (hand_fits p 9 (omega arith), omega arith, omega arith)));
         at = is;
         held = record { place = h.place; words = h.words; at = h.at; held = moved C h.words u (if v == 0 then to else next) b.held };
         events = sym (append-nil s.world.events);

@@ -12,7 +12,9 @@ use Rattle.v32_isa.specs.Table.{Fits, spelling}
 use Rattle.v32_isa.specs.State.{State, register_of, with_register, going_to, stored, written, word_at, is_readable_at, is_writable_at}
 use Rattle.v32_isa.specs.Machine.{act, effect_of}
 use Rattle.v32_isa.specs.Machine.Effect.{Ends}
-use Rattle.v32_isa.proofs.Steps.{HoldsWords, effect-spelled, Reaches, reaches_went}
+use Rattle.v32_isa.specs.Calls.{turn_of, turn}
+use Rattle.v32_isa.specs.Calls.Turn.{Other}
+use Rattle.v32_isa.proofs.Steps.{HoldsWords, effect-spelled, turn-spelled, Reaches, reaches_went}
 use Rattle.asm_items.specs.Items.{instr_with}
 use Rattle.asm_items.specs.Words.{imm_word}
 use Rattle.mid_code.specs.declared.placed.Where.{Where}
@@ -101,6 +103,15 @@ module _ (C : Console) where
       let more = length-append (spelling i) l.rest in
       let same : add s.counter (length (spelling i)) ≡ next = omega (arith, e, l.place_is, l.next_is, count, more, h.short) in
       effect-spelled s i fits held ∙ ap (λ n. act i n s) same
+
+  -- and its kind
+  pub line_turn : (a : Addr) (s : State) (pc : ℕ) (i : Instr ℕ) (next : ℕ) → Held C a s → s.counter ≡ pc → Line C.words pc i next → Fits i → turn s ≡ turn_of i next s
+  line_turn a s pc i next h e l fits =
+      let held = subst (λ q. HoldsWords s q (spelling i)) (sym l.place_is ∙ sym e) (holds a s (spelling i) l.front l.rest h l.words_are) in
+      let count : length C.words ≡ length l.front + length (spelling i ++ l.rest) = ap length l.words_are ∙ length-append l.front (spelling i ++ l.rest) in
+      let more = length-append (spelling i) l.rest in
+      let same : add s.counter (length (spelling i)) ≡ next = omega (arith, e, l.place_is, l.next_is, count, more, h.short) in
+      turn-spelled s i fits held ∙ ap (λ n. turn_of i n s) same
 
   -- ---- what the state holds after a change
 
@@ -202,11 +213,15 @@ module _ (C : Console) where
     pub fetch_effect : (a : Addr) (s : State) (pc : ℕ) (p : Where) (r next : ℕ) → Room F a → Good F p → r < 16 → Held C a s → s.counter ≡ pc → Line C.words pc (instr_with (imm_word address) (fetch F p r)) next → effect_of s ≡ Ends stepped.Went (took next r (word_of F p a) s)
     fetch_effect a s pc p r next room good lt h e l = line_effect a s pc (instr_with (imm_word address) (fetch F p r)) next h e l (fetch_fits p r lt) ∙ fetch_act a s p r next room good h
 
+    pub fetch_turn : (a : Addr) (s : State) (pc : ℕ) (p : Where) (r next : ℕ) → r < 16 → Held C a s → s.counter ≡ pc → Line C.words pc (instr_with (imm_word address) (fetch F p r)) next → turn s ≡ Other
+    fetch_turn a s pc (Reg q) r next lt h e l = line_turn a s pc (instr_with (imm_word address) (fetch F (Reg q) r)) next h e l (fetch_fits (Reg q) r lt)
+    fetch_turn a s pc (Slot k) r next lt h e l = line_turn a s pc (instr_with (imm_word address) (fetch F (Slot k) r)) next h e l (fetch_fits (Slot k) r lt)
+
     -- a register takes the word of a place
     pub fetches_so : (a : Addr) (s : State) (xs : List ℕ) (pc : ℕ) (p : Where) (r next : ℕ) → Room F a → Good F p → r < 16 → Held C a s → s.counter ≡ pc →
         Line C.words pc (instr_with (imm_word address) (fetch F p r)) next → Reaches 1 s xs [] (took next r (word_of F p a) s) xs
     fetches_so a s xs pc p r next room good lt h e l =
-        reaches_went s (took next r (word_of F p a) s) xs (fetch_effect a s pc p r next room good lt h e l)
+        reaches_went s (took next r (word_of F p a) s) xs (fetch_effect a s pc p r next room good lt h e l) (fetch_turn a s pc p r next lt h e l)
 
     keep_fits : (t : Where) (r : ℕ) → r < 16 → Fits (instr_with (imm_word address) (keep F t r))
     keep_fits (Reg q) r lt = (omega arith, omega arith, omega arith)
@@ -221,7 +236,7 @@ module _ (C : Console) where
         record {
           steps = 1;
           to = took next q v s;
-          by = reaches_went s (took next q v s) xs (line_effect a s pc (instr_with (imm_word address) (keep F (Reg q) r)) next h e l (keep_fits (Reg q) r lt) ∙ act_is);
+          by = reaches_went s (took next q v s) xs (line_effect a s pc (instr_with (imm_word address) (keep F (Reg q) r)) next h e l (keep_fits (Reg q) r lt) ∙ act_is) (line_turn a s pc (instr_with (imm_word address) (keep F (Reg q) r)) next h e l (keep_fits (Reg q) r lt));
           at = refl;
           held = kept a s next q v (omega (arith, good)) h;
           few = omega arith;
@@ -232,7 +247,7 @@ module _ (C : Console) where
         record {
           steps = 1;
           to = going_to next (stored s (slot_address F k a) v);
-          by = reaches_went s _ xs (line_effect a s pc (instr_with (imm_word address) (keep F (Slot k) r)) next h e l (keep_fits (Slot k) r lt) ∙ act_is);
+          by = reaches_went s _ xs (line_effect a s pc (instr_with (imm_word address) (keep F (Slot k) r)) next h e l (keep_fits (Slot k) r lt) ∙ act_is) (line_turn a s pc (instr_with (imm_word address) (keep F (Slot k) r)) next h e l (keep_fits (Slot k) r lt));
           at = refl;
           held = stores a s next (slot_address F k a) v (ram_writable (slot_address F k a) (slot_low a k room good)) h;
           few = omega arith;

@@ -16,7 +16,8 @@ use Rattle.mid_code.specs.declared.placed.Where.TheVariants.{Reg, Slot}
 use Rattle.mid_code.specs.Code.{OpT, ConstO, NullO, MoveO, OneO, TwoO, GlobalO, LocalO, LiteralO, CardO, StepO, ApartO, PtrTestO, LoadO, StoreO, FreshO, EndO, InO, OutO, WaitO, HaltO}
 use Rattle.asm_laws.specs.Names.{literal_label}
 use Rattle.asm_laws.specs.Operations.{Frame, Whole}
-use Rattle.v32_isa.proofs.Steps.{Reaches}
+use Rattle.v32_isa.specs.Calls.{Link, Nested}
+use Rattle.v32_isa.proofs.Steps.{Moves}
 
 -- the registers that temporaries stand in, the word at each address, BP, which is the end of the frame where there is one, the top of the stack
 pub record Addr : Type 0 where
@@ -160,20 +161,25 @@ pub record Held (C : Console) (a : Addr) (s : State) : Type 0 where
   pub top : register_of s 15 ≡ a.top
   pub memory : (q : ℕ) → s.memory q ≡ a.memory q
 
--- in at most so many steps the machine comes to an address, holding the words that the operation leaves
-pub record Arrives (C : Console) (limit : ℕ) (s : State) (xs : List ℕ) (pc : ℕ) (es : List Event) (ys : List ℕ) (a : Addr) : Type 0 where
+-- in at most so many steps the machine comes to an address, holding the words that the operation leaves; and the innermost calls in progress before and
+-- after, which are the same but in a call and on the way back
+pub record ArrivesBy (ins outs : List Link) (C : Console) (limit : ℕ) (s : State) (xs : List ℕ) (pc : ℕ) (es : List Event) (ys : List ℕ) (a : Addr) : Type 0 where
   pub steps : ℕ
   pub to : State
-  pub by : Reaches steps s xs es to ys
+  pub by : Moves ins outs steps s xs es to ys
   pub at : to.counter ≡ pc
   pub held : Held C a to
   pub few : steps ≤ limit
+
+abbrev pub Arrives : Console → (limit : ℕ) → State → List ℕ → (pc : ℕ) → List Event → List ℕ → Addr → Type 0
+Arrives C limit s xs pc es ys a = ArrivesBy [] [] C limit s xs pc es ys a
 
 -- in so many steps the run has ended, with memory as a machine reads it that holds the words
 pub record HasEnded (C : Console) (limit : ℕ) (s : State) (xs : List ℕ) (how : run.End) (a : Addr) : Type 0 where
   pub steps : ℕ
   pub to : State
   pub by : (n : ℕ) → run (steps + n) s xs ≡ record { events = []; end = how; state = to }
+  pub nested : (ls : List Link) → Nested steps ls s xs
   pub shown : State
   pub held : Held C a shown
   pub memory : (q : ℕ) → word_at to q ≡ word_at shown q

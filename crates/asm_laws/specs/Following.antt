@@ -1,10 +1,11 @@
 -- What it is for the machine to follow structured code, over any states.
-use Rattle.std.specs.Prelude.{ℕ, zero, suc, ◌≡◌, ◌+◌, ◌≤◌, List, [], ◌++◌, Option, Some, None}
+use Rattle.std.specs.Prelude.{ℕ, zero, suc, ◌≡◌, ◌+◌, ◌≤◌, List, [], ◌∷◌, ◌++◌, Option, Some, None}
 use Rattle.kit_base.specs.declared.event.Event.{Event}
 use Rattle.v32_isa.specs.State.{State, going_to}
 use Rattle.v32_isa.specs.Runs.{Run, run}
 use Rattle.v32_isa.specs.Runs as machine
-use Rattle.v32_isa.proofs.Steps.{Reaches}
+use Rattle.v32_isa.specs.Calls.{Link, Nested}
+use Rattle.v32_isa.proofs.Steps.{before, Reaches, Moves}
 use Rattle.obj_mem.specs.Runs.{Ending, Halted, Fault, Starved, Stray, Deep, OutOfBound}
 use Rattle.mid_code.specs.declared.placed.Where.{Where}
 use Rattle.mid_code.specs.Code.{OpT, NodesT, Stop, Do, Call, Choose, Block, Loop, Leave, Again, Return}
@@ -38,22 +39,26 @@ abbrev pub spare : ℕ → Begin → Begin
 spare k b = record b { work = b.work + k }
 
 -- the machine comes to an address and the state t, in at least so many steps and at most the work between and `more`
-pub record Came {L : Lang Where} (X : Holder L) (m : State) (b : Begin) (t : L.S) (pc least more : ℕ) (R : State → Type 0) : Type 0 where
+pub record CameBy {L : Lang Where} (ins outs : List Link) (X : Holder L) (m : State) (b : Begin) (t : L.S) (pc least more : ℕ) (R : State → Type 0) : Type 0 where
   pub steps : ℕ
   pub made : List Event
   pub to : State
-  pub by : Reaches steps m b.answers made to (X.answers t)
+  pub by : Moves ins outs steps m b.answers made to (X.answers t)
   pub at : to.counter ≡ pc
   pub held : R to
   pub events : X.events t ≡ b.events ++ made
   pub cost : steps + b.work ≤ X.work t + more
   pub many : least ≤ steps
 
+abbrev pub Came : {L : Lang Where} → (X : Holder L) → State → Begin → L.S → (pc least more : ℕ) → (State → Type 0) → Type 0
+Came X m b t pc least more R = CameBy [] [] X m b t pc least more R
+
 pub record Stopped {L : Lang Where} (X : Holder L) (m : State) (b : Begin) (t : L.S) (how : machine.End) : Type 0 where
   pub steps : ℕ
   pub made : List Event
   pub to : State
   pub by : (n : ℕ) → run (steps + n) m b.answers ≡ record { events = made; end = how; state = to }
+  pub nested : (ls : List Link) → Nested steps ls m b.answers
   pub held : X.E t to
   pub events : X.events t ≡ b.events ++ made
   pub cost : steps + b.work ≤ X.work t
@@ -63,7 +68,8 @@ pub record Going {L : Lang Where} (X : Holder L) (m : State) (b : Begin) (t : L.
   pub made : List Event
   pub to : State
   pub left : List ℕ
-  pub by : Reaches steps m b.answers made to left
+  pub by : (n : ℕ) → run (steps + n) m b.answers ≡ before made (run n to left)
+  pub nested : (ls : List Link) → Nested steps ls m b.answers
   pub events : X.events t ≡ b.events ++ made
   pub cost : steps + b.work ≤ X.work t
   pub many : least ≤ steps
@@ -91,9 +97,10 @@ DidSim X κ m b p (Ends f t) = (n : ℕ) → Final X n m b f t
 -- A call has come to the function's body, with 8 spare for the way back; from the function's end it comes back.
 pub record Enters {L : Lang Where} (X : Holder L) (H : Shapes) (κ : X.K) (p : ℕ) (t : Option Where) (f : ℕ) (u s0 : L.S) (m : State) (b : Begin) : Type 0 where
   pub inner : X.K
+  pub link : Link
   pub placed : At H (X.fn inner) [] (X.entry f) (L.body f) (X.way_out (X.fn inner))
-  pub goes : Came X m (spare 8 b) s0 (X.entry f) 1 0 (X.M inner s0)
-  pub back : (s1 : L.S) (m1 : State) → X.G inner s1 m1 → m1.counter ≡ X.way_out (X.fn inner) → Came X m1 (begin X s1) (L.back t u s1) p 0 8 (X.M κ (L.back t u s1))
+  pub goes : CameBy [] (link ∷ []) X m (spare 8 b) s0 (X.entry f) 1 0 (X.M inner s0)
+  pub back : (s1 : L.S) (m1 : State) → X.G inner s1 m1 → m1.counter ≡ X.way_out (X.fn inner) → CameBy (link ∷ []) [] X m1 (begin X s1) (L.back t u s1) p 0 8 (X.M κ (L.back t u s1))
 
 abbrev pub CallSim : {L : Lang Where} → (X : Holder L) → Shapes → X.K → ℕ → Option Where → ℕ → L.S → State → Begin → Did L.S → Type 0
 CallSim X H κ p t f u m b (On s0) = Enters X H κ p t f u s0 m b

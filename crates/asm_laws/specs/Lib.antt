@@ -17,3 +17,5 @@ pub mod Tables
 pub mod PlacedAt
 pub mod Emitted
 pub mod Labelled
+pub mod Numbers
+pub mod Longest

@@ -3,4 +3,6 @@
 
 mod laws;
 
-pub use laws::placed_code_agrees;
+pub use laws::{
+    calls_stay_within_numbers, placed_code_agrees, places_have_numbers_or_are_forbidden,
+};

@@ -7,5 +7,7 @@ pub mod Values
 pub mod More
 pub mod Programs
 pub mod Past
+pub mod Opened
 pub mod Ports
 pub mod Mere
+pub mod Skeletons

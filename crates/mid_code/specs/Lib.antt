@@ -21,3 +21,4 @@ pub mod Alike
 pub mod Programs
 pub mod Whole
 pub mod Choices
+pub mod Skeleton

@@ -1,5 +1,5 @@
 -- What lives at once in a function of the source lives at once in its code.
-use Rattle.std.proofs.Common.{◌≡◌, ◌≢◌, ℕ, ◌+◌, ◌<◌, ◌≤◌, leb, ◌==◌, ◌||◌, arith, Bool, true, false, List, [], ◌∷◌, ◌++◌, length, map, get_or, refl, sym, ap₂, ◌∙◌, true≢false, eq-eqb, leb-true, leb-false}
+use Rattle.std.proofs.Common.{◌≡◌, ◌≢◌, ℕ, ◌+◌, ◌<◌, ◌≤◌, leb, ◌==◌, ◌||◌, arith, Bool, true, false, List, [], ◌∷◌, ◌++◌, length, map, inl, get_or, refl, sym, ap₂, ◌∙◌, true≢false, eq-eqb, leb-true, leb-false}
 use Rattle.std.proofs.lemmas.List.{get_or_append_left, get_or_past}
 use Rattle.c_types.specs.Types.{Ty}
 use Rattle.c_types.specs.Programs.{TFunctionT}
@@ -7,7 +7,6 @@ use Rattle.c_meaning.specs.Kinds.{is_structure}
 use Rattle.c_meaning.specs.Frames.{ReachesAll, is_among, AllAmong, AreLarge, AreDistinct, LargeAtOnce}
 use Rattle.mid_code.specs.Code.{Stop}
 use Rattle.mid_code.specs.Paths.{Blocked, Point, at, beginning}
-use Rattle.mid_code.specs.Open.{AreOpen}
 use Rattle.mid_code.specs.Invariants.{DifferFrom, AreDifferent}
 use Rattle.mid_code.specs.Together.{WordsAtOnce}
 use Rattle.lower_trees.specs.Shape.{Shape, words}
@@ -15,7 +14,7 @@ use Rattle.lower_trees.specs.Parts.{Nodes, first_param}
 use Rattle.lower_trees.specs.Counts.{stmts_sizes}
 use Rattle.lower_trees.specs.Statements.{ToEnd}
 use Rattle.lower_trees.specs.Lowered.{received, all_received, first_of, low_body, low_function}
-use Rattle.mid_lower.proofs.TogetherPaths.{Frames, Leads, here, doing, into_block, open_at, Reaching, led, all_made}
+use Rattle.mid_lower.proofs.TogetherPaths.{Frames, Leads, here, doing, into_block, Expected, Reaching, led, all_made}
 use Rattle.mid_lower.proofs.TogetherExpressions.{copied_leads, either_leads}
 use Rattle.mid_lower.proofs.TogetherPoints.{stmts_reaches}
 
@@ -33,9 +32,9 @@ body_reaches h f ks r =
     all_made f.made ks [] _ (led ks _ _ (all_received_leads h f.params 0 first_param _ [] _ (into_block (here _)))
     (stmts_reaches h f.gives f.body ks (first_of f.params) (length f.locals) 0 (ToEnd 0) Stop (Blocked Stop ∷ []) r))
 
-are_open : (body : Nodes) (ks js : List ℕ) (r : Reaching ks (beginning body)) → AllAmong js ks → AreOpen body js r.point
-are_open body ks [] r all = tt
-are_open body ks (j ∷ js) r all = (open_at j body r.point (r.each j all.0), are_open body ks js r all.1)
+all_expected : (js ks : List ℕ) → AllAmong js ks → Expected js ks []
+all_expected [] ks all = tt
+all_expected (j ∷ js) ks all = (inl all.0, all_expected js ks all.1)
 
 -- ---- they are different, and have the same words
 
@@ -73,6 +72,6 @@ lives_together h f sizes large =
     record {
       locals = large.objects;
       different = all_different large.objects large.distinct;
-      together = (reached.point, are_open (low_body h f) (f.made ++ large.together.0) large.objects reached large.together.2);
+      together = reached large.objects [] (all_expected large.objects (f.made ++ large.together.0) large.together.2);
       words = large.words ∙ same_words f (stmts_sizes h f.body) large.objects large.large;
     }

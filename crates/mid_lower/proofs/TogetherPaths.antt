@@ -1,9 +1,11 @@
 -- Points that lead to points by paths that end no local, and the locals that are made on the way.
-use Rattle.std.proofs.Common.{◌≡◌, ℕ, zero, suc, ◌==◌, ◌||◌, inl, inr, Bool, true, false, List, [], ◌∷◌, ◌++◌, Option, refl, sym, subst, eqb-true, true≢false}
+use Rattle.std.proofs.Common.{◌≡◌, ℕ, zero, suc, ◌==◌, ◌||◌, inl, inr, ◌⊎◌, Bool, true, false, List, [], ◌∷◌, ◌++◌, Option, refl, sym, subst, eqb-true, true≢false}
 use Rattle.c_meaning.specs.Frames.{is_among}
 use Rattle.mid_code.specs.Code.{OpT, FreshO, EndO, Stop, Do, Call, Choose, Block, Loop, Leave, Again}
-use Rattle.mid_code.specs.Paths.{Frame, Branched, Blocked, Looped, Point, at, beginning, leaving, repeating, next_points, SomePoint, Path}
-use Rattle.mid_code.specs.Open.{IsFresh, IsNoEnd, IsAny, IsOpen}
+use Rattle.mid_code.specs.Paths.{Frame, Branched, Blocked, Looped, Point, at, leaving, repeating, next_points, SomePoint, Path}
+use Rattle.mid_code.specs.Live as live
+use Rattle.mid_code.specs.Open.{without, open_behind, AllAmong, Comes}
+use Rattle.mid_code.proofs.Opened.{with_itself, with_other, some_long, some_each}
 use Rattle.lower_trees.specs.Parts.{Nodes, made}
 
 abbrev pub Frames : Type 0
@@ -69,72 +71,50 @@ module _ {fs : Frames} {q : Point ℕ} where
   pub again_leads : {k : ℕ} {c : Nodes} → OneLeads (repeating fs k) q → Leads (at fs (Again k c)) q
   again_leads {k = k} {c = c} l = onward fs (Again k c) q tt l
 
--- ---- paths one after the other
-
-each : (Q R : Point ℕ → Type 0) → ((r : Point ℕ) → Q r → R r) → (ps : List (Point ℕ)) → SomePoint Q ps → SomePoint R ps
-each Q R f [] h = absurd h
-each Q R f (p ∷ ps) h = elim h [ inl l ↦ inl (f p l) | inr l ↦ inr (each Q R f ps l) ]
-
-joined : (n : ℕ) (p q r : Point ℕ) → Path EndsNone n p q → Leads q r → Leads p r
-joined zero p q r w l = subst (λ x. Leads x r) (sym w) l
-joined (suc n) p q r w l = onward p.frames p.code r w.0 (each (λ x. Path EndsNone n x q) (λ x. Leads x r) (λ x v. joined n x q r v l) (next_points p.frames p.code) w.1)
-
-and_then : (p q r : Point ℕ) → Leads p q → Leads q r → Leads p r
-and_then p q r k l = joined k.steps p q r k.path l
-
--- ---- such paths are paths of other kinds
-
-keeps_all : (c : Nodes) → EndsNone c → IsAny c
-keeps_all c e = tt
-
-keeps_one : (k : ℕ) (c : Nodes) → EndsNone c → IsNoEnd k c
-keeps_one k (Do (EndO j) c) e = absurd e
-keeps_one k c e = tt
-
-weaker : (so : Nodes → Type 0) → ((c : Nodes) → EndsNone c → so c) → (n : ℕ) (p q : Point ℕ) → Path EndsNone n p q → Path so n p q
-weaker so f zero p q w = w
-weaker so f (suc n) p q w = (f p.code w.0, each (λ r. Path EndsNone n r q) (λ r. Path so n r q) (λ r v. weaker so f n r q v) (next_points p.frames p.code) w.1)
-
 -- ---- locals that are made on the way
 
-pub record Makes (k : ℕ) (p q : Point ℕ) : Type 0 where
-  pub makes : Point ℕ
-  pub comes : Leads p makes
-  pub fresh : IsFresh k makes.code
-  pub after : ℕ
-  pub stays : Path EndsNone (suc after) makes q
+-- each of these is still to be made, or is open
+abbrev pub Expected : (js ks made : List ℕ) → Type 0
+Expected [] ks made = Unit {0}
+Expected (j ∷ js) ks made = ((is_among j ks ≡ true) ⊎ (live.is_among made j ≡ true)) × Expected js ks made
 
-pub open_at : (k : ℕ) (body : Nodes) (q : Point ℕ) → Makes k (beginning body) q → IsOpen body k q
-open_at k body q m = record {
-  makes = m.makes;
-  before = m.comes.steps;
-  after = m.after;
-  comes = weaker IsAny keeps_all m.comes.steps (beginning body) m.makes m.comes.path;
-  fresh = m.fresh;
-  stays = weaker (IsNoEnd k) (keeps_one k) (suc m.after) m.makes q m.stays;
-}
+-- Some path from here makes these locals, and ends none that is open.
+abbrev pub Reaching : List ℕ → Point ℕ → Type 0
+Reaching ks p = (js made : List ℕ) → Expected js ks made → (n : ℕ) × Comes js n made p
 
-later : (k : ℕ) (p r q : Point ℕ) → Leads p r → Makes k r q → Makes k p q
-later k p r q l m = record { makes = m.makes; comes = and_then p r m.makes l m.comes; fresh = m.fresh; after = m.after; stays = m.stays }
+expected : (js ks ks' made made' : List ℕ) → ((j : ℕ) → (is_among j ks ≡ true) ⊎ (live.is_among made j ≡ true) → (is_among j ks' ≡ true) ⊎ (live.is_among made' j ≡ true)) → Expected js ks made → Expected js ks' made'
+expected [] ks ks' made made' f e = tt
+expected (j ∷ js) ks ks' made made' f e = (f j e.0, expected js ks ks' made made' f e.1)
 
--- Some path to a point makes these locals.
-pub record Reaching (ks : List ℕ) (p : Point ℕ) : Type 0 where
-  pub point : Point ℕ
-  pub leads : Leads p point
-  pub each : (k : ℕ) → is_among k ks ≡ true → Makes k p point
+all_open : (js made : List ℕ) → Expected js [] made → AllAmong js made
+all_open [] made e = tt
+all_open (j ∷ js) made e = (elim e.0 [ inl f ↦ absurd (true≢false (sym f)) | inr f ↦ f ], all_open js made e.1)
 
 pub none_made : (p : Point ℕ) → Reaching [] p
-none_made p = record { point = p; leads = here p; each = λ k e. absurd (true≢false (sym e)) }
+none_made p js made e = (0, all_open js made e)
+
+still_open : (c : Nodes) (made : List ℕ) (j : ℕ) → EndsNone c → live.is_among made j ≡ true → live.is_among (open_behind made c) j ≡ true
+still_open (Do (EndO k) c) made j e o = absurd e
+still_open (Do (FreshO k) c) made j e o = with_other k j made o
+still_open c made j e o = o
+
+walked : (js ks : List ℕ) (r : Point ℕ) → Reaching ks r → (n : ℕ) (p : Point ℕ) (made : List ℕ) → Path EndsNone n p r → Expected js ks made → (m : ℕ) × Comes js m made p
+walked js ks r h zero p made w e = subst (λ q. (m : ℕ) × Comes js m made q) (sym w) (h js made e)
+walked js ks r h (suc n) p made w e =
+    let behind = expected js ks ks made (open_behind made p.code) (λ j o. elim o [ inl f ↦ inl f | inr f ↦ inr (still_open p.code made j w.0 f) ]) e in
+    let s = some_long (λ m q. Comes js m (open_behind made p.code) q) (next_points p.frames p.code)
+    (some_each (λ q. Path EndsNone n q r) (λ q. (m : ℕ) × Comes js m (open_behind made p.code) q) (λ q v. walked js ks r h n q (open_behind made p.code) v behind) (next_points p.frames p.code) w.1) in
+    (suc s.0, s.1)
 
 pub led : (ks : List ℕ) (p r : Point ℕ) → Leads p r → Reaching ks r → Reaching ks p
-led ks p r l h = record { point = h.point; leads = and_then p r h.point l h.leads; each = λ k e. later k p r h.point l (h.each k e) }
+led ks p r l h js made e = walked js ks r h l.steps p made l.path e
 
 one_made : (k : ℕ) (ks : List ℕ) (fs : Frames) (c : Nodes) → Reaching ks (at fs c) → Reaching (k ∷ ks) (at fs (Do (FreshO k) c))
-one_made k ks fs c h = record { point = h.point; leads = doing tt h.leads; each = λ j e. by j (j == k) refl e }
+one_made k ks fs c h js made e = let r = h js (k ∷ without k made) (expected js (k ∷ ks) ks made (k ∷ without k made) (λ j o. by j (j == k) refl o) e) in (suc r.0, inl r.1)
   where
-    by : (j : ℕ) (b : Bool) → (j == k) ≡ b → (b || is_among j ks) ≡ true → Makes j (at fs (Do (FreshO k) c)) h.point
-    by j true s e = record { makes = at fs (Do (FreshO k) c); comes = here (at fs (Do (FreshO k) c)); fresh = sym (eqb-true j k s); after = h.leads.steps; stays = (tt, inl h.leads.path) }
-    by j false s e = later j (at fs (Do (FreshO k) c)) (at fs c) h.point (doing tt (here (at fs c))) (h.each j e)
+    by : (j : ℕ) (b : Bool) → (j == k) ≡ b → ((b || is_among j ks) ≡ true) ⊎ (live.is_among made j ≡ true) → (is_among j ks ≡ true) ⊎ (live.is_among (k ∷ without k made) j ≡ true)
+    by j true s o = inr (subst (λ i. live.is_among (k ∷ without k made) i ≡ true) (sym (eqb-true j k s)) (with_itself k made))
+    by j false s o = elim o [ inl f ↦ inl f | inr f ↦ inr (with_other k j made f) ]
 
 pub all_made : (ks js : List ℕ) (fs : Frames) (c : Nodes) → Reaching js (at fs c) → Reaching (ks ++ js) (at fs (made ks c))
 all_made [] js fs c h = h

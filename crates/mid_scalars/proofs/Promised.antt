@@ -17,7 +17,7 @@ use Rattle.mid_scalars.specs.PromotedFrom.{Renumbered, IsPromotedFunction, EachP
 use Rattle.mid_scalars.proofs.Planned.{flag_plain, kept_in, kept_at, moved_one}
 use Rattle.mid_scalars.proofs.Plainly.{found_plain, promote_same, promote_counts}
 use Rattle.mid_scalars.proofs.Promotes.{promote_keeps, promote_works, promote_lighter}
-use Rattle.mid_scalars.proofs.NonePlain.{promote_leaves_none, promote_words, promote_fewer_all}
+use Rattle.mid_scalars.proofs.NonePlain.{promote_leaves_none, promote_words, promote_fewer_or_same}
 use Rattle.mid_scalars.proofs.MidAgain.{promote_adds_none, promote_mid}
 use Rattle.mid_scalars.proofs.LiveAfter.{promote_live, AllStay}
 use Rattle.mid_scalars.proofs.Rewritten.{SamePlans, code_same}
@@ -122,7 +122,7 @@ module _ (x : CodeT ℕ) (g : ℕ) where
   abbrev f : FunctionT ℕ
   f = function_at x g
 
-  all_stay : (ks js : List ℕ) → Renumbered (new_of f) ks js → AllStay (plan_of x) (Some g) (λ j k a b e. moved_one (flags (function_at x g)) j k a b e) ks
+  all_stay : (ks js : List ℕ) → Renumbered (new_of f) ks js → AllStay (plan_of x) (Some g) ks
   all_stay [] [] r = tt
   all_stay [] (j ∷ js) r = absurd r
   all_stay (k ∷ ks) [] r = absurd r
@@ -159,7 +159,7 @@ is_promoted_from x m = record {
   adds_none = promote_adds_none x;
   start_adds_none = record { loop_count = omega arith; calls = λ f c. c };
   stays = promote_same x;
-  fewer = promote_fewer_all x;
+  fewer_or_same = promote_fewer_or_same x;
   globals = refl;
   literals = refl;
   main = refl;

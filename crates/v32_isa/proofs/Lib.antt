@@ -6,3 +6,4 @@ pub mod Steps
 pub mod LongerRuns
 pub mod PortNumbers
 pub mod Endings
+pub mod Staying

@@ -6,3 +6,4 @@ pub mod Arithmetic
 pub mod State
 pub mod Machine
 pub mod Runs
+pub mod Calls

@@ -20,7 +20,10 @@ pub use arithmetic::{magnitude_of, one_word, two_word};
 pub use decoding::decode;
 pub use encoding::{Encoded, encode};
 pub use instruction::{Branch, Go, Instr, Mov, One, Plain, Src, Two};
-pub use laws::{decoding_is_inverse, longer_runs_extend, no_spelling_begins_another};
+pub use laws::{
+    decoding_is_inverse, longer_runs_extend, nested_runs_are_closed, no_spelling_begins_another,
+    programs_stay,
+};
 pub use port::Port;
 pub use port_table::{PortRow, answers, listens, port_by_name, port_by_number};
 pub use register::{BP, CR, DR, Reg, SP, SR};

@@ -1,5 +1,6 @@
-// A law of the definitions.
+// Laws of the definitions.
 ghost use Rattle.play_laws.specs.Played.{PlayedRunsAreTheSources, PlayedRunsComeToAll};
+ghost use Rattle.play_laws.specs.Keeping.{WatchDecides, KeptRunsAreTheSources, EndedRunsAreWhole};
 
 /// For every cartridge that was built, every script of the gamepads and every memory card: what the console has done after any number of
 /// instructions and frame edges is a part of what the source means, under the answers that the devices gave up to there, and ends as it ends, until
@@ -7,4 +8,12 @@ ghost use Rattle.play_laws.specs.Played.{PlayedRunsAreTheSources, PlayedRunsCome
 pub fn played_runs_are_the_sources()
     ensures played { PlayedRunsAreTheSources }
     ensures whole { PlayedRunsComeToAll }
+{}
+
+/// Whether that run strays, or has no room for a frame, before the console has done so much, is decided by one bound, one above the number of the
+/// console's instructions. Where it does not, all that the console has done is a part of what the source means, or, where its run has ended, the whole.
+pub fn kept_runs_are_the_sources()
+    ensures decides { WatchDecides }
+    ensures follows { KeptRunsAreTheSources }
+    ensures whole { EndedRunsAreWhole }
 {}

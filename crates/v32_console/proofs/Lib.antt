@@ -1,6 +1,7 @@
 pub mod Operations
 pub mod Reaching
 pub mod Boards
+pub mod Taken
 pub mod Steps
 pub mod Frames
 pub mod Lists

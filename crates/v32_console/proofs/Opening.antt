@@ -17,6 +17,7 @@ use Rattle.port_bus.specs.State.{Facts, State as Small}
 use Rattle.v32_console.specs.Setup.{setup_of, facts_of}
 use Rattle.v32_console.specs.Moments.{Moment, opening_moment}
 use Rattle.v32_console.specs.Stands.{ConsoleStands, StandsAt}
+use Rattle.v32_console.specs.Taking.{Taped}
 use Rattle.v32_console.proofs.Frames.{after_none}
 
 connected : (card : Option (Vec ℕ Global)) → is_some card ≡ is_some (words_of card)
@@ -28,17 +29,17 @@ pub facts_are : (cart : Cartridge) (pads : Script) (card : Option (Vec ℕ Globa
 facts_are cart pads card words textures sounds has e f g h = rw (e, f, g, h, connected card) refl
 
 pub opened : (cart : Cartridge) (pads : Script) (card : Option (Vec ℕ Global)) (program : List ℕ) (textures : List Image) (sounds : List (List ℕ)) (facts : Facts)
-    (machine : Machine) (gpu : Graphics) (spu : SoundUnit) (devices : Small)
+    (machine : Machine) (gpu : Graphics) (spu : SoundUnit) (devices : Small) (tape : Taped)
     → program ≡ cart.program → textures ≡ cart.textures → sounds ≡ cart.sounds → facts ≡ facts_of (setup_of cart pads (words_of card))
     → state_of machine ≡ opening program (words_of card) → GraphicsStand textures [] gpu → SoundStands sounds [] spu → DevicesStand pads facts [] devices
-    → StandsAt (setup_of cart pads (words_of card)) 0 (record { machine = machine; board = record { gpu = gpu; spu = spu; devices = devices; cycles = 0 } })
-opened cart pads card program textures sounds facts machine gpu spu devices e f g h state graphics sound small =
+    → StandsAt (setup_of cart pads (words_of card)) 0 (record { machine = machine; board = record { gpu = gpu; spu = spu; devices = devices; cycles = 0; tape = tape } })
+opened cart pads card program textures sounds facts machine gpu spu devices tape e f g h state graphics sound small =
     let u = setup_of cart pads (words_of card) in
-    let stands : ConsoleStands u (opening_moment u) (record { machine = machine; board = record { gpu = gpu; spu = spu; devices = devices; cycles = 0 } }) = record {
+    let stands : ConsoleStands u (opening_moment u) (record { machine = machine; board = record { gpu = gpu; spu = spu; devices = devices; cycles = 0; tape = tape } }) = record {
       state_is = state ∙ ap (λ p. opening p (words_of card)) e;
       board = record { graphics = subst (λ t. GraphicsStand t [] gpu) f graphics; sound = subst (λ t. SoundStands t [] spu) g sound; small = subst (λ t. DevicesStand pads t [] devices) h small };
     } in
-    subst (λ (m : Moment). ConsoleStands u m (record { machine = machine; board = record { gpu = gpu; spu = spu; devices = devices; cycles = 0 } })) (sym (after_none u (opening_moment u))) stands
+    subst (λ (m : Moment). ConsoleStands u m (record { machine = machine; board = record { gpu = gpu; spu = spu; devices = devices; cycles = 0; tape = tape } })) (sym (after_none u (opening_moment u))) stands
 
 pub program_sized : (cart : Cartridge) (program : List ℕ) → is_cart cart ≡ true → program ≡ cart.program → (0 < length program) × (length program ≤ 33554432)
 program_sized cart program is e = let l = limits cart is in rw e (l.some, l.words)

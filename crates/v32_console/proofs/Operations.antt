@@ -107,7 +107,7 @@ one_and i n h = omega (arith, h)
 one_more : (i n : ℕ) (s : State) (answers : List ℕ) → i ≡ 1 → run (i + n) s answers ≡ runs.run_effect (effect_of s) answers (run n)
 one_more i n s answers h = ap (λ k. run k s answers) (one_and i n h) ∙ run_suc n s answers
 
-is_one : (u : Setup) (done : ℕ) (s : State) (past : List Happening) (e : Effect) → (events_by u done s past e).instructions ≡ 1
+pub is_one : (u : Setup) (done : ℕ) (s : State) (past : List Happening) (e : Effect) → (events_by u done s past e).instructions ≡ 1
 is_one u done s past (Ends how t) = refl
 is_one u done s past (Asks register port next t) = refl
 is_one u done s past (Tells port word next t) = refl

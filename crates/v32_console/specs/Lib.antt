@@ -3,6 +3,8 @@ pub mod Devices
 pub mod Moments
 pub mod Frames
 pub mod Machine
+pub mod Taking
+pub mod Runs
 pub mod Stands
 pub mod Bus
 pub mod History

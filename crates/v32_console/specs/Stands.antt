@@ -10,6 +10,8 @@ use Rattle.v32_console.specs.declared.frame_end.FrameEnd.{FrameEnd}
 use Rattle.v32_console.specs.Setup.{Setup, facts_of}
 use Rattle.v32_console.specs.Moments.{Moment, Phase, Opened, Running, Left, goes_on, console_at}
 use Rattle.v32_console.specs.Frames.{frame_of}
+use Rattle.v32_console.specs.Machine.{Operations}
+use Rattle.v32_console.specs.Taking.{Taped, taken}
 
 -- the devices stand for a past
 pub record BoardStands (u : Setup) (past : List Happening) (b : Board) : Type 0 where
@@ -52,3 +54,8 @@ pub record IsFrame (u : Setup) (k j : ℕ) (end : FrameEnd) : Type 0 where
   pub left : (console_at u (k + j)).phase ≡ Left end
   pub before : (i : ℕ) → 1 ≤ i → i < j → HasLeft (console_at u (k + i)).phase → ⊥
   pub is : console_at u (k + j) ≡ frame_of u (console_at u k)
+
+-- the tape of a board has taken these operations, and so many instructions were done in its frame
+pub record IsNoted (o : Operations) (before : Taped) (b : Board) : Type 0 where
+  pub tape : b.tape ≡ taken o before
+  pub count : b.cycles ≡ o.instructions

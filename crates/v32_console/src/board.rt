@@ -3,21 +3,23 @@ ghost use Rattle.std.specs.Prelude.{◌≡◌, ◌<◌, ◌+◌, ◌∷◌, ℕ,
 ghost use Rattle.port_history.specs.Past.{Happening, Began, Mixed, is_graphics_port, is_sound_port};
 ghost use Rattle.v32_console.specs.Setup.{Setup};
 ghost use Rattle.v32_console.specs.Stands.{BoardStands};
-ghost use Rattle.v32_console.specs.Bus.{Answering, Telling};
+ghost use Rattle.v32_console.specs.Bus.{DevicesAnswer, DevicesTake};
 
+use crate::tape::Tape;
 use cpu_core::Bus;
 use gpu_state::Gpu;
 use port_bus::Devices;
 use spu_mix::Spu;
 use v32_isa::{Port, answers, listens};
 
-/// Graphics, sound and the small devices, and the instructions done in this frame.
+/// Graphics, sound and the small devices, the instructions done in this frame, and the tape of its port operations.
 #[derive(Drop)]
 pub struct Board {
     pub gpu: Gpu,
     pub spu: Spu,
     pub devices: Devices,
     pub cycles: u32,
+    pub tape: Tape,
 }
 
 fn is_graphics(port: Port) -> bool
@@ -39,6 +41,7 @@ impl Board {
     pub fn begin_frame(&mut self)
         requires few { self.old.devices.frames < 1000000000 }
         ensures cycles { self.new.cycles ≡ 0 }
+        ensures tape { self.new.tape ≡ self.old.tape }
         ensures frames { self.new.devices.frames ≡ self.old.devices.frames + 1 }
         ensures stands { (u : Setup) (past : List Happening) → BoardStands u past self.old → BoardStands u (Began ∷ past) self.new }
     {
@@ -49,6 +52,8 @@ impl Board {
 
     /// The sound of a frame is mixed.
     pub fn mix_frame(&mut self)
+        ensures cycles { self.new.cycles ≡ self.old.cycles }
+        ensures tape { self.new.tape ≡ self.old.tape }
         ensures frames { self.new.devices.frames ≡ self.old.devices.frames }
         ensures stands { (u : Setup) (past : List Happening) → BoardStands u past self.old → BoardStands u (Mixed ∷ past) self.new }
     {
@@ -57,7 +62,7 @@ impl Board {
 
     /// The answer of a port; 0 of one that does not answer, and before the first frame.
     fn answer(&mut self, port: Port) -> u32
-        ensures answering { Answering self.old port (Some result) self.new }
+        ensures answering { DevicesAnswer self.old port (Some result) self.new }
     {
         if !answers(port) {
             return 0;
@@ -76,7 +81,7 @@ impl Board {
 
     /// Gives a port a word; nothing where it takes none.
     fn tell(&mut self, port: Port, word: u32)
-        ensures telling { Telling self.old port word self.new }
+        ensures telling { DevicesTake self.old port word self.new }
     {
         if !listens(port) {
             return;
@@ -99,10 +104,13 @@ impl Bus for Board {
     ghost output_gives = { telling };
 
     fn input(&mut self, port: Port) -> Option<u32> {
-        Some(self.answer(port))
+        let word = self.answer(port);
+        self.tape.asked(word);
+        Some(word)
     }
 
     fn output(&mut self, port: Port, word: u32) {
         self.tell(port, word);
+        self.tape.told();
     }
 }

@@ -26,10 +26,14 @@ ghost use Rattle.gpu_state.specs.Settings.{clear_color as the_clear_color};
 ghost use Rattle.v32_console.specs.Setup.{Setup, setup_of};
 ghost use Rattle.v32_console.specs.Moments.{Moment, Left, console_at};
 ghost use Rattle.v32_console.specs.Frames.{frame_of, samples_of, screen_of};
-ghost use Rattle.v32_console.specs.Stands.{ConsoleStands, IsAtRest, IsFrame, StandsAt, frames_in};
+ghost use Rattle.v32_console.specs.Runs.{frame_operations};
+ghost use Rattle.v32_console.specs.Taking.{with_operations};
+ghost use Rattle.v32_console.specs.Stands.{ConsoleStands, IsAtRest, IsFrame, IsNoted, StandsAt, frames_in};
 
 use crate::frame_end::FrameEnd;
+use crate::notes::Notes;
 use crate::running::run_frame;
+use crate::tape::Tape;
 use cart_format::{Cart, CartParts};
 use gpu_state::Gpu;
 use kit_base::Memory;
@@ -37,6 +41,7 @@ use port_bus::Devices;
 use run_files::Pads;
 use spu_mix::Spu;
 use std::alloc::Global;
+use std::mem;
 
 impl Console {
     /// A console with this cartridge, this script of the gamepads, and this memory card of 262,144 words where one is
@@ -69,6 +74,7 @@ impl Console {
             spu,
             devices,
             cycles: 0,
+            tape: Tape::new(alloc),
         };
         Ok(Console { cpu, board })
     }
@@ -82,6 +88,41 @@ impl Console {
         // In numbers of instructions and frame edges: from the one that the console stands for to the frame's end.
         ensures edges { (u : Setup) (k : ℕ) → StandsAt u k self.old → IsAtRest (console_at u k).phase → (j : ℕ) × (IsFrame u k j result × StandsAt u (k + j) self.new) }
         ensures frames { frames_in self.new ≡ frames_in self.old + 1 }
+    {
+        self.do_frame()
+    }
+
+    /// The same, and the notes take what the ports answered, and how many port operations and instructions there were.
+    pub fn frame_noting(&mut self, notes: &mut Notes) -> FrameEnd
+        requires few { frames_in self.old < 1000000000 }
+        requires room { 250000 ≤ notes.old.spare }
+        requires instructions { notes.old.instructions ≤ 1000000000 }
+        // What the console stands for goes on to the end of the definition's next frame.
+        ensures frame { (u : Setup) (m : Moment) → ConsoleStands u m self.old → IsAtRest m.phase → ConsoleStands u (frame_of u m) self.new × ((frame_of u m).phase ≡ Left result) }
+        // In numbers of instructions and frame edges: from the one that the console stands for to the frame's end.
+        ensures edges { (u : Setup) (k : ℕ) → StandsAt u k self.old → IsAtRest (console_at u k).phase → (j : ℕ) × (IsFrame u k j result × StandsAt u (k + j) self.new) }
+        ensures frames { frames_in self.new ≡ frames_in self.old + 1 }
+        // The notes go on by the operations of the definition's next frame.
+        ensures noted { (u : Setup) (m : Moment) → ConsoleStands u m self.old → IsAtRest m.phase → notes.new ≡ with_operations (frame_operations u m) notes.old }
+        ensures within { notes.new.instructions ≤ notes.old.instructions + 250000 }
+    {
+        mem::swap(&mut self.board.tape, &mut notes.tape);
+        self.board.tape.recount();
+        let end = self.do_frame();
+        mem::swap(&mut self.board.tape, &mut notes.tape);
+        let events = notes.tape.events();
+        notes.count(events, self.board.cycles);
+        end
+    }
+
+    // The tape takes the frame's operations, and the board counts its instructions.
+    fn do_frame(&mut self) -> FrameEnd
+        requires few { frames_in self.old < 1000000000 }
+        ensures frame { (u : Setup) (m : Moment) → ConsoleStands u m self.old → IsAtRest m.phase → ConsoleStands u (frame_of u m) self.new × ((frame_of u m).phase ≡ Left result) }
+        ensures frames { frames_in self.new ≡ frames_in self.old + 1 }
+        ensures noted { (u : Setup) (m : Moment) → ConsoleStands u m self.old → IsAtRest m.phase → IsNoted (frame_operations u m) self.old.board.tape self.new.board }
+        ensures within { self.new.board.cycles ≤ 250000 }
+        ensures events { self.new.board.tape.events ≤ self.old.board.tape.events + self.new.board.cycles }
     {
         self.board.begin_frame();
         let end = run_frame(&mut self.cpu, &mut self.board);

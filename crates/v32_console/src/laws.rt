@@ -5,6 +5,7 @@ ghost use Rattle.v32_console.specs.Machine.{end_of, operations_of};
 ghost use Rattle.v32_console.specs.Moments.{console_at, opening_moment};
 ghost use Rattle.v32_console.specs.Setup.{Setup};
 ghost use Rattle.v32_console.specs.History.{HistoryIsTheRuns, RunIsTheHistorys, OperationsGoOn, RunsAreMoments};
+ghost use Rattle.v32_console.specs.Runs.{RunsAreOfInstructions};
 ghost use Rattle.v32_console.specs.Alike.{SameSectionsRunAlike, TablesAreNothing};
 
 /// The console is the machine on a list of port answers: after k instructions and frame edges, with the answers that the
@@ -27,4 +28,9 @@ pub fn histories_are_of_the_run()
 pub fn cartridges_run_alike()
     ensures sections { SameSectionsRunAlike }
     ensures tables { TablesAreNothing }
+{}
+
+/// A run of at most so many frames is so many instructions and frame edges, and the operations of its frames are those of these.
+pub fn runs_are_of_instructions()
+    ensures runs { RunsAreOfInstructions }
 {}

@@ -9,8 +9,14 @@ mod board;
 mod console;
 mod frame_end;
 mod laws;
+mod notes;
 mod running;
+mod tape;
 
 pub use console::Console;
 pub use frame_end::FrameEnd;
-pub use laws::{cartridges_run_alike, histories_are_of_the_run, operations_are_the_machines};
+pub use laws::{
+    cartridges_run_alike, histories_are_of_the_run, operations_are_the_machines,
+    runs_are_of_instructions,
+};
+pub use notes::Notes;

@@ -19,6 +19,6 @@ open-requires-3-clause-program_room c = (program_sized c.args.cart _ c.program.e
 
 pub returns-clause-stands : goal.returns-clause-stands
 returns-clause-stands c =
-    opened c.args.cart c.args.pads c.args.card _ _ _ _ _ _ _ _ c.into_parts-program.ensures.program c.into_parts-program.ensures.textures c.into_parts-program.ensures.sounds
+    opened c.args.cart c.args.pads c.args.card _ _ _ _ _ _ _ _ _ c.into_parts-program.ensures.program c.into_parts-program.ensures.textures c.into_parts-program.ensures.sounds
     (facts_are c.args.cart c.args.pads c.args.card _ _ _ _ (ap length c.program.ensures.program) (ap length c.textures.ensures.textures) (ap length c.sounds.ensures.sounds) c.is_some.ensures)
     c.in_ok-cpu.ensures c.in_ok-gpu.ensures.opened c.in_ok-spu.ensures.stands c.open-devices.ensures.stands

@@ -1,5 +1,5 @@
 -- Files that are read one after another.
-use Rattle.std.proofs.Common.{ℕ, zero, suc, ◌≡◌, ◌+◌, ◌<◌, List, [], ◌∷◌, ◌++◌, length, length-append, take, get_or, refl, sym, ap, subst, ◌∙◌, arith}
+use Rattle.std.proofs.Common.{ℕ, zero, suc, inl, inr, ◌≡◌, ◌+◌, ◌<◌, List, [], ◌∷◌, ◌++◌, length, length-append, take, get_or, refl, sym, ap, subst, ◌∙◌, arith}
 use Rattle.std.specs.Prelude.{Option, Some, None, Result, Ok, Err, IfSome, Contains, Vec}
 use Rattle.std.specs.declared.alloc.Global.{Global}
 use Rattle.kit_base.specs.Held.{Held}
@@ -9,6 +9,7 @@ use Rattle.build_core.specs.declared.error.BuildErr.TheVariants as errors
 use Rattle.build_core.specs.Due.{◌>>=◌, all_of, asset_of}
 use Rattle.build_core.specs.Causes.{IsOfAsset, IsOfAssets}
 use Rattle.build_core.specs.Inner.{GivesBy, Gives}
+use Rattle.build_core.specs.Reached.{FailsAt, IsOneRead}
 
 -- a refusal that is handed on is the one due for what begins with the refused part
 pub handed_on : {X Y X' Y' : Type 0} (view : X → Y) (view' : X' → Y') (e : BuildErr) (d : Result Y BuildErr) (d' : Result Y' BuildErr) → (d ≡ Err e → d' ≡ Err e) → GivesBy view (Err e) d → GivesBy view' (Err e) d'
@@ -77,6 +78,22 @@ module _ {X : Type 0} (one : List ℕ → Result X BuildErr) where
       let rest = all_refused ns i d first.1 e (omega arith) first.3 g in
       all_of-cons n ns ∙ joined_err (one n) (all_of one ns) first.0 e first.2 rest
 
+  -- where those before it were given, a file is read
+  pub read_first : (n : List ℕ) (ns : List (List ℕ)) → IsOneRead one (n ∷ ns) n
+  unfolding IsOneRead
+  read_first n ns = inl refl
+
+  pub read_behind : (n : List ℕ) (ns : List (List ℕ)) (x : X) (name : List ℕ) → one n ≡ Ok x → IsOneRead one ns name → IsOneRead one (n ∷ ns) name
+  unfolding IsOneRead
+  read_behind n ns x name h k = inr (x, h, k)
+
+  pub read_next : (names : List (List ℕ)) (i : ℕ) (d : List ℕ) (xs : List X) → i < length names → all_of one (take i names) ≡ Ok xs → IsOneRead one names (get_or names i d)
+  read_next [] i d xs lt h = absurd (omega arith)
+  read_next (n ∷ ns) zero d xs lt h = read_first n ns
+  read_next (n ∷ ns) (suc i) d xs lt h =
+      let first = both_gave (one n) (all_of one (take i ns)) xs (sym (all_of-cons n (take i ns)) ∙ h) in
+      read_behind n ns first.0 (get_or ns i d) first.2 (read_next ns i d first.1 (omega arith) first.3)
+
 -- a refusal of one file is one of those of all
 module _ (names : List (List ℕ)) (file : List ℕ) (at : Contains names file) where
   pub of_them : (e : BuildErr) → IsOfAsset file e → IsOfAssets names e
@@ -113,6 +130,19 @@ module _ {X : Type 0} (value : List ℕ → Result X AssetErr) (names : List (Li
   told_refused e (Some m) h1 read same given =
       handed_on (λ (x : X). x) (λ (v : Vec X Global). v.items) e (asset_of value m file) _ (λ h. all_refused (asset_of value m) names i file xs e lt read (it m (Err e) h))
       (subst (λ h. IfSome h (λ m'. Gives (Err e) (asset_of value m' file))) same given)
+
+  fails_there : (T : Type 0) (At : List ℕ → Type 0) (e : BuildErr) → At file → IsOfAsset file e → FailsAt {T = T} At (Err e)
+  fails_there T At (errors.Source c f l) here h = tt
+  fails_there T At (errors.Missing n) here h = tt
+  fails_there T At (errors.Failed n) here h = subst At (sym h) here
+  fails_there T At (errors.Bad c n l) here h = tt
+  fails_there T At (errors.Limit n) here h = tt
+  fails_there T At errors.Memory here h = tt
+
+  pub reached_there : (e : BuildErr) (held : Option Held) → WereRead held → IsOfAsset file e → IfSome held (λ m. FailsAt {T = Vec X Global} (IsOneRead (asset_of value m) names) (Err e))
+  reached_there e None read h = tt
+  reached_there e (Some m) read h =
+      fails_there (Vec X Global) (IsOneRead (asset_of value m) names) e (subst (IsOneRead (asset_of value m) names) (sym is) (read_next (asset_of value m) names i file xs lt read)) h
 
 -- before the first
 pub told_none : {X : Type 0} (value : List ℕ → Result X AssetErr) (held : Option Held) (xs : List X) → xs ≡ [] → IfSome held (λ m. all_of (asset_of value m) [] ≡ Ok xs)

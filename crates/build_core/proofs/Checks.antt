@@ -186,7 +186,7 @@ module _ (text : List ℕ) where
   project_refused None e h = tt
   project_refused (Some m) e h = refused_so m e h
 
-  same_parts : (p q : Project) → IsProject text p → IsProject text q → p ≡ q
+  pub same_parts : (p q : Project) → IsProject text p → IsProject text q → p ≡ q
   same_parts p q h k =
       let one : Result Project ProjectErr = Ok p in
       let two : Result Project ProjectErr = Ok q in

@@ -1,8 +1,8 @@
 -- At which file a read failed.
-use Rattle.std.proofs.Common.{ℕ, ◌≡◌, inl, inr, List, ◌++◌, sym, subst}
-use Rattle.std.specs.Prelude.{Option, Some, None, Result, Ok, Err, IfErr, IfSome, Contains}
-use Rattle.std.proofs.lemmas.List.Elements.{Contains-append_left, Contains-append_right}
+use Rattle.std.proofs.Common.{ℕ, ◌≡◌, List, sym, subst}
+use Rattle.std.specs.Prelude.{Option, Some, None, Result, Ok, Err, IfErr, IfSome}
 use Rattle.kit_base.specs.Held.{Held}
+use Rattle.asset_pack.specs.Texts.{Image}
 use Rattle.cart_format.specs.Cartridge.{Cartridge}
 use Rattle.c_front.specs.declared.error.FrontErr.{FrontErr}
 use Rattle.c_front.specs.declared.error.FrontErr.TheVariants as front
@@ -10,12 +10,12 @@ use Rattle.c_front.specs.Over.{over}
 use Rattle.c_front.specs.Reached.{FailsAtOne, IsReadFor}
 use Rattle.project_text.specs.declared.project.Project.{Project}
 use Rattle.project_text.specs.ProjectText.{IsProject}
-use Rattle.project_text.proofs.Whole.{only}
 use Rattle.build_core.specs.declared.error.BuildErr.{BuildErr}
 use Rattle.build_core.specs.declared.error.BuildErr.TheVariants as errors
-use Rattle.build_core.specs.Causes.{IsOfAssets, IsOfContent, IsOfPacking, assets_of}
+use Rattle.build_core.specs.Causes.{IsOfContent, IsOfPacking}
 use Rattle.build_core.specs.Checked.{IsOfRules, unread}
-use Rattle.build_core.specs.Reached.{FailsAt, IsReadToBuild, IsReadToCheck}
+use Rattle.build_core.specs.Due.{all_of, sound_of, texture_of}
+use Rattle.build_core.specs.Reached.{FailsAt, IsAssetRead, IsOneRead, IsReadBeside, IsReadToCheck, reads_sound, reads_texture}
 
 -- ---- refusals that are no failure
 
@@ -45,21 +45,13 @@ packing_fails c At (Err (errors.Bad code name line)) h = tt
 packing_fails c At (Err (errors.Limit name)) h = tt
 packing_fails c At (Err errors.Memory) h = tt
 
-wider : (T U : Type 0) (At Wider : List ℕ → Type 0) → ((name : List ℕ) → At name → Wider name) → (e : BuildErr) → FailsAt {T = T} At (Err e) → FailsAt {T = U} Wider (Err e)
+pub wider : (T U : Type 0) (At Wider : List ℕ → Type 0) → ((name : List ℕ) → At name → Wider name) → (e : BuildErr) → FailsAt {T = T} At (Err e) → FailsAt {T = U} Wider (Err e)
 wider T U At Wider more (errors.Source code file line) h = tt
 wider T U At Wider more (errors.Missing name) h = tt
 wider T U At Wider more (errors.Failed name) h = more name h
 wider T U At Wider more (errors.Bad code name line) h = tt
 wider T U At Wider more (errors.Limit name) h = tt
 wider T U At Wider more errors.Memory h = tt
-
-assets_fail : (T : Type 0) (names : List (List ℕ)) (At : List ℕ → Type 0) → ((name : List ℕ) → Contains names name → At name) → (e : BuildErr) → IsOfAssets names e → FailsAt {T = T} At (Err e)
-assets_fail T names At more (errors.Source code file line) h = tt
-assets_fail T names At more (errors.Missing name) h = tt
-assets_fail T names At more (errors.Failed name) h = more name h
-assets_fail T names At more (errors.Bad code name line) h = tt
-assets_fail T names At more (errors.Limit name) h = tt
-assets_fail T names At more errors.Memory h = tt
 
 unread_fails : (T : Type 0) (m : Held) (source : List ℕ) (x : FrontErr) → FailsAtOne m source (Err x) → FailsAt {T = T} (IsReadFor m source) (Err (unread x))
 unread_fails T m source (front.Source code file line) h = tt
@@ -97,27 +89,23 @@ module _ (project : List ℕ) where
     check_fails (Some m) (Ok x) h = tt
     check_fails {T = T} (Some m) (Err e) h = wider T T (IsReadFor (over m) p.source) (IsReadToCheck m project) (to_check m) e h
 
-    pub source_fails : (T U : Type 0) (o : Option Held) (e : BuildErr) → IfSome o (λ m. FailsAt {T = T} (IsReadFor (over m) p.source) (Err e)) → IfSome o (λ m. FailsAt {T = U} (IsReadToBuild m project) (Err e))
-    source_fails T U None e h = tt
-    source_fails T U (Some m) e h = wider T U (IsReadFor (over m) p.source) (IsReadToBuild m project) (λ name k. inl (to_check m name k)) e h
+    beside : (m : Held) (name : List ℕ) → IsAssetRead m p name → IsReadBeside m project name
+    beside m name h = record { parts = p; project_is = is; is_read = h }
 
-    all_assets : (name : List ℕ) → Contains (p.textures ++ p.sounds) name → Contains (assets_of project) name
-    all_assets name h = rw (only project p is) h
+    pub textures_fail : (T U : Type 0) (o : Option Held) (names : List (List ℕ)) → names ≡ p.textures → (e : BuildErr)
+        → IfSome o (λ m. FailsAt {T = T} (IsOneRead (texture_of m) names) (Err e)) → IfSome o (λ m. FailsAt {T = U} (IsReadBeside m project) (Err e))
+    textures_fail T U None names named e h = tt
+    textures_fail T U (Some m) names named e h =
+        wider T U (IsOneRead (texture_of m) p.textures) (IsReadBeside m project) (λ name k. beside m name (reads_texture k)) e
+        (subst (λ l. FailsAt {T = T} (IsOneRead (texture_of m) l) (Err e)) named h)
 
-    pub textures_fail : (T : Type 0) (o : Option Held) (names : List (List ℕ)) → names ≡ p.textures → (e : BuildErr) → IsOfAssets names e → IfSome o (λ m. FailsAt {T = T} (IsReadToBuild m project) (Err e))
-    textures_fail T None names named e h = tt
-    textures_fail T (Some m) names named e h =
-        assets_fail T p.textures (IsReadToBuild m project) (λ name k. inr (all_assets name (Contains-append_left p.textures p.sounds name k))) e (subst (λ l. IsOfAssets l e) named h)
+    pub sounds_fail : (T U : Type 0) (ts : List Image) (h0 h1 : Option Held) (names heard : List (List ℕ)) → names ≡ p.textures → heard ≡ p.sounds → (e : BuildErr)
+        → IfSome h0 (λ m. all_of (texture_of m) names ≡ Ok ts) → h1 ≡ h0 → IfSome h1 (λ m. FailsAt {T = T} (IsOneRead (sound_of m) heard) (Err e)) → IfSome h0 (λ m. FailsAt {T = U} (IsReadBeside m project) (Err e))
+    sounds_fail T U ts None h1 names heard named named' e textures same h = tt
+    sounds_fail T U ts (Some m) h1 names heard named named' e textures same h =
+        wider T U (IsOneRead (sound_of m) p.sounds) (IsReadBeside m project) (λ name k. beside m name (reads_sound ts (subst (λ l. all_of (texture_of m) l ≡ Ok ts) named textures) k)) e
+        (subst (λ l. FailsAt {T = T} (IsOneRead (sound_of m) l) (Err e)) named' (subst (λ x. IfSome x (λ m'. FailsAt {T = T} (IsOneRead (sound_of m') heard) (Err e))) same h))
 
-    pub sounds_fail : (T : Type 0) (o : Option Held) (names : List (List ℕ)) → names ≡ p.sounds → (e : BuildErr) → IsOfAssets names e → IfSome o (λ m. FailsAt {T = T} (IsReadToBuild m project) (Err e))
-    sounds_fail T None names named e h = tt
-    sounds_fail T (Some m) names named e h =
-        assets_fail T p.sounds (IsReadToBuild m project) (λ name k. inr (all_assets name (Contains-append_right p.textures p.sounds name k))) e (subst (λ l. IsOfAssets l e) named h)
-
-  pub packed_fails : {T : Type 0} (o : Option Held) (c : Cartridge) (r : Result T BuildErr) → IfErr r (IsOfPacking c) → IfSome o (λ m. FailsAt (IsReadToBuild m project) r)
+  pub packed_fails : {T : Type 0} (o : Option Held) (c : Cartridge) (r : Result T BuildErr) → IfErr r (IsOfPacking c) → IfSome o (λ m. FailsAt (IsReadBeside m project) r)
   packed_fails None c r h = tt
-  packed_fails (Some m) c r h = packing_fails c (IsReadToBuild m project) r h
-
-pub none_fails : (T : Type 0) (o : Option Held) (At : Held → List ℕ → Type 0) → IfSome o (λ m. FailsAt {T = T} (At m) (Err errors.Memory))
-none_fails T None At = tt
-none_fails T (Some m) At = tt
+  packed_fails (Some m) c r h = packing_fails c (IsReadBeside m project) r h

@@ -14,3 +14,5 @@ pub mod Either
 pub mod Refused
 pub mod Failing
 pub mod ReadBack
+pub mod Fronting
+pub mod InOrder

@@ -13,6 +13,9 @@ use Rattle.cart_format.proofs.Laid.{all_more}
 le_true : (a b : ℕ) → a ≤ b → nat_le a b ≡ true
 le_true a b h = grind (arith, nat_tests)
 
+pub le_so : (a b : ℕ) → nat_le a b ≡ true → a ≤ b
+le_so a b h = grind (arith, nat_tests)
+
 le_false : (a b : ℕ) → nat_le a b ≡ false → b < a
 le_false a b h = grind (arith, nat_tests)
 

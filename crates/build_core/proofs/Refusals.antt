@@ -1,7 +1,9 @@
 -- Which refusals of a build come, and why.
-use Rattle.std.proofs.Common.{ℕ, zero, suc, ◌≡◌, ◌≤◌, inr, List, [], ◌∷◌, ◌++◌, length, refl, sym, subst, arith}
+use Rattle.std.proofs.Common.{ℕ, ◌≡◌, ◌≤◌, inl, inr, List, ◌++◌, length, refl, sym, subst}
 use Rattle.std.specs.Prelude.{Some, None, Result, Ok, Err, IfErr, Contains}
+use Rattle.std.proofs.lemmas.List.Elements.{Contains-append_left, Contains-append_right}
 use Rattle.asset_pack.specs.Texts.{Image}
+use Rattle.cart_format.specs.Cartridge.{Cartridge}
 use Rattle.project_text.specs.declared.project.Project.{Project}
 use Rattle.project_text.specs.ProjectText.{IsProject}
 use Rattle.project_text.proofs.Whole.{only}
@@ -12,57 +14,52 @@ use Rattle.build_core.specs.declared.building.Built.{Built}
 use Rattle.build_core.specs.declared.error.BuildErr.{BuildErr}
 use Rattle.build_core.specs.declared.error.BuildErr.TheVariants as errors
 use Rattle.build_core.specs.Due.{assets}
-use Rattle.build_core.specs.Checked.{MissesOnly}
 use Rattle.build_core.specs.Build.{cartridge_of}
-use Rattle.build_core.specs.Causes.{CanCome, Cause, CanBeTooLarge, IsTooLarge, HasCauses, IsCartridgeTooLarge, IsOfAssets, IsOfPacking, files_of}
+use Rattle.build_core.specs.Causes.{Cause, CanBeTooLarge, IsTooLarge, HasCauses, IsCartridgeTooLarge, IsOfAssets, IsOfBuilding, IsOfPacking}
 use Rattle.build_core.specs.Causes as causes
-
-in_front : (xs ys : List (List ℕ)) (n : List ℕ) → Contains xs n → Contains (xs ++ ys) n
-in_front [] ys n h = absurd (omega (arith, h.1))
-in_front (x ∷ xs) ys n (zero, lt, e) = (0, omega arith, e)
-in_front (x ∷ xs) ys n (suc k, lt, e) = let r = in_front xs ys n (k, omega (arith, lt), e) in (suc r.0, omega (arith, r.1), r.2)
-
-behind : (xs ys : List (List ℕ)) (n : List ℕ) → Contains ys n → Contains (xs ++ ys) n
-behind [] ys n h = h
-behind (x ∷ xs) ys n h = let r = behind xs ys n h in (suc r.0, omega (arith, r.1), r.2)
-
-after_first : (x : List ℕ) (xs : List (List ℕ)) (n : List ℕ) → Contains xs n → Contains (x ∷ xs) n
-after_first x xs n h = behind (x ∷ []) xs n h
+use Rattle.build_core.specs.Checkable.{AreOfOneUnit}
 
 module _ (text : List ℕ) (p : Project) (is : IsProject text p) where
-  files_are : files_of text ≡ p.source ∷ (p.textures ++ p.sounds)
-  files_are = rw (only text p is) refl
-
   assets_are : causes.assets_of text ≡ p.textures ++ p.sounds
   assets_are = rw (only text p is) refl
 
-  pub source_comes : (e : BuildErr) → MissesOnly p.source e → CanCome text e
-  source_comes (errors.Source c f l) h = tt
-  source_comes (errors.Missing n) h = subst (Contains (files_of text)) (sym h) (subst (λ l. Contains l p.source) (sym files_are) (0, omega arith, refl))
-  source_comes (errors.Failed n) h = tt
-  source_comes (errors.Bad c n l) h = absurd h
-  source_comes (errors.Limit n) h = tt
-  source_comes errors.Memory h = tt
-
   module _ (names : List (List ℕ)) (more : (n : List ℕ) → Contains names n → Contains (p.textures ++ p.sounds) n) where
-    assets_come : (e : BuildErr) → IsOfAssets names e → CanCome text e
+    named : (n : List ℕ) → Contains names n → Contains (causes.assets_of text) n
+    named n h = subst (λ l. Contains l n) (sym assets_are) (more n h)
+
+    assets_come : (e : BuildErr) → IsOfAssets names e → IsOfBuilding text e
     assets_come (errors.Source c f l) h = absurd h
-    assets_come (errors.Missing n) h = subst (λ l. Contains l n) (sym files_are) (after_first p.source (p.textures ++ p.sounds) n (more n h))
-    assets_come (errors.Failed n) h = tt
-    assets_come (errors.Bad c n None) h = (h.0, h.1, subst (λ l. Contains l n) (sym assets_are) (more n h.2))
+    assets_come (errors.Missing n) h = named n h
+    assets_come (errors.Failed n) h = named n h
+    assets_come (errors.Bad c n None) h = (h.0, h.1, named n h.2)
     assets_come (errors.Bad c n (Some l)) h = absurd h
-    assets_come (errors.Limit n) h = tt
+    assets_come (errors.Limit n) h = inl (named n h)
     assets_come errors.Memory h = tt
 
-  pub textures_come : (names : List (List ℕ)) → names ≡ p.textures → (e : BuildErr) → IsOfAssets names e → CanCome text e
-  textures_come names named e h = assets_come p.textures (in_front p.textures p.sounds) e (subst (λ l. IsOfAssets l e) named h)
+  pub textures_come : (names : List (List ℕ)) → names ≡ p.textures → (e : BuildErr) → IsOfAssets names e → IsOfBuilding text e
+  textures_come names is e h = assets_come p.textures (Contains-append_left p.textures p.sounds) e (subst (λ l. IsOfAssets l e) is h)
 
-  pub sounds_come : (names : List (List ℕ)) → names ≡ p.sounds → (e : BuildErr) → IsOfAssets names e → CanCome text e
-  sounds_come names named e h = assets_come p.sounds (behind p.textures p.sounds) e (subst (λ l. IsOfAssets l e) named h)
+  pub sounds_come : (names : List (List ℕ)) → names ≡ p.sounds → (e : BuildErr) → IsOfAssets names e → IsOfBuilding text e
+  sounds_come names is e h = assets_come p.sounds (Contains-append_right p.textures p.sounds) e (subst (λ l. IsOfAssets l e) is h)
+
+pub memory_comes : (text : List ℕ) (e : BuildErr) → e ≡ errors.Memory → IsOfBuilding text e
+memory_comes text e h = subst (IsOfBuilding text) (sym h) tt
+
+packing_comes : (text : List ℕ) (c : Cartridge) (e : BuildErr) → IsOfPacking c e → IsOfBuilding text e
+packing_comes text c (errors.Source a f l) h = absurd h
+packing_comes text c (errors.Missing n) h = absurd h
+packing_comes text c (errors.Failed n) h = absurd h
+packing_comes text c (errors.Bad a n l) h = absurd h
+packing_comes text c (errors.Limit n) h = inr h.0
+packing_comes text c errors.Memory h = tt
+
+pub packed_comes : (text : List ℕ) (c : Cartridge) (r : Result Built BuildErr) → IfErr r (IsOfPacking c) → IfErr r (IsOfBuilding text)
+packed_comes text c (Ok b) h = tt
+packed_comes text c (Err e) h = packing_comes text c e h
 
 -- ---- a cartridge that is too large
 
-module _ (text : List ℕ) (p : Project) (is : IsProject text p) (program : ProgramT) (places : Places) (starts : List ℕ) (i : ImageT) (made : IsImageOf program places starts i) where
+module _ (text : List ℕ) (p : Project) (is : IsProject text p) (program : ProgramT) (places : Places) (starts : List ℕ) (of_unit : ∥ AreOfOneUnit program places starts ∥₁) (i : ImageT) (made : IsImageOf program places starts i) where
   module _ (ts : List Image) (ss : List (List ℕ)) (each : length ts ≡ length p.textures) (each' : length ss ≡ length p.sounds) where
     can_be : IsTooLarge (cartridge_of p.title i (assets ts ss)) → CanBeTooLarge text
     can_be large = record {
@@ -71,6 +68,7 @@ module _ (text : List ℕ) (p : Project) (is : IsProject text p) (program : Prog
       program = program;
       places = places;
       starts = starts;
+      of_unit = of_unit;
       image = i;
       image_is = made;
       textures = ts;

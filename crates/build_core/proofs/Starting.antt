@@ -23,9 +23,9 @@ use Rattle.c_front.specs.declared.unit.Parsed.{Parsed}
 use Rattle.c_front.specs.Causes.{IsWithin}
 use Rattle.c_front.specs.Due.{Answers}
 use Rattle.c_front.specs.Over.{over}
-use Rattle.c_image.specs.Imaging.{AreStarts}
+use Rattle.build_core.specs.Checkable.{AreOfOneUnit, IsCheckable}
 use Rattle.build_core.specs.declared.error.BuildErr.{BuildErr}
-use Rattle.build_core.specs.declared.sources.Source.{Source}
+use Rattle.build_core.specs.declared.checked.Checked.{Checked}
 use Rattle.build_core.specs.Inner.{IsRead, IsOfUnit, TypesSource, ReadsSource}
 use Rattle.build_core.specs.Starts.{starts_of}
 use Rattle.build_core.proofs.Checks.{source_typed}
@@ -67,15 +67,21 @@ six_tokens ts ds h = six_of_items h
 
 -- ---- the starts of a source
 
-pub are_starts : FunctionsAreBodies → (parsed : Parsed) (s : Source) → IsRead parsed → IsOfUnit parsed s → AreStarts (program s.program) s.places s.starts.items
-are_starts bodies parsed s read of =
+pub checkable : FunctionsAreBodies → (parsed : Parsed) (p : ProgramT) (starts : List ℕ) → IsRead parsed → WellTyped (unit parsed.unit) p → starts ≡ starts_of (unit parsed.unit)
+    → IsCheckable p parsed.places starts
+checkable bodies parsed p starts read typed are =
     let all = unit parsed.unit in
-    let count : length s.starts.items ≡ length (starts_of all) = ap length of.starts in
-    let each = starts_each bodies all (program s.program) of.typed in
+    let count : length starts ≡ length (starts_of all) = ap length are in
+    let each = starts_each bodies all p typed in
     let six = six_tokens (toks parsed.places.tokens) all read.derived.0 in
     let same = length-map parsed.places.tokens (λ t. seen (class_of t.kind) (bytes_of t.kind)) in
-    subst (λ places. AreStarts (program s.program) places s.starts.items) (sym of.places)
-    (record { each = count ∙ each; few = omega (arith, read.few); source = read.source; texts = read.texts; lines = read.lines })
+    record {
+      starts_are = record { each = count ∙ each; few = omega (arith, read.few); source = read.source; texts = read.texts; lines = read.lines };
+      few = read.few;
+    }
+
+pub of_one_unit : (parsed : Parsed) (p : ProgramT) (starts : List ℕ) → IsRead parsed → WellTyped (unit parsed.unit) p → starts ≡ starts_of (unit parsed.unit) → AreOfOneUnit p parsed.places starts
+of_one_unit parsed p starts read typed are = record { items = unit parsed.unit; derived = read.derived; typed = typed; starts_are = are }
 
 pub is_read : (parsed : Parsed) (name : List ℕ) → Derives (toks parsed.places.tokens) (unit parsed.unit) → IsWithin parsed → parsed.places.source ≡ name → IsUtf8 name
     → list_all is_utf8 parsed.places.names ≡ true → AllByRecursion (λ t. 1 ≤ t.line) parsed.places.tokens → IsRead parsed
@@ -84,7 +90,7 @@ is_read parsed name derived within source text texts lines =
 
 -- ---- a source that was read is typed, or refused as by a check
 
-pub source_reads : (held : Option Held) (name source : List ℕ) → name ≡ source → (parsed : Parsed) (r : Result Source BuildErr)
+pub source_reads : (held : Option Held) (name source : List ℕ) → name ≡ source → (parsed : Parsed) (r : Result Checked BuildErr)
     → IfSome held (λ m. Answers (over m) name (Ok parsed)) → TypesSource parsed r → IfSome held (λ m. ReadsSource m source r)
 source_reads None name source same parsed r u h = tt
 source_reads (Some m) name source same parsed (Ok s) u h = subst (λ n. ReadsSource m n (Ok s)) same (record { parsed = parsed; is_unit = u; of_unit = h })

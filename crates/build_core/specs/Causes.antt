@@ -16,6 +16,7 @@ use Rattle.c_front.specs.declared.places.Places.{Places}
 use Rattle.c_image.specs.Imaging.{ImageT, IsImageOf}
 use Rattle.build_core.specs.declared.error.BuildErr.{BuildErr}
 use Rattle.build_core.specs.declared.error.BuildErr.TheVariants as errors
+use Rattle.build_core.specs.Checkable.{AreOfOneUnit}
 use Rattle.build_core.specs.Codes.{is_source_code}
 use Rattle.build_core.specs.Due.{assets}
 use Rattle.build_core.specs.Build.{cartridge_of}
@@ -51,13 +52,15 @@ pub record IsTooLarge (c : Cartridge) : Type 0 where
   pub samples : AllByRecursion HasSamples c.sounds
   pub large : 268435456 < total c
 
--- The cartridge of a project can be too large: with the image of a program and some textures and sounds, one for each that the project names.
+-- The cartridge of a project can be too large: with an image of the program of one unit and some textures and sounds, one for each that the project
+-- names.
 pub record CanBeTooLarge (project : List ℕ) : Type 0 where
   pub parts : Project
   pub project_is : IsProject project parts
   pub program : ProgramT
   pub places : Places
   pub starts : List ℕ
+  pub of_unit : ∥ AreOfOneUnit program places starts ∥₁
   pub image : ImageT
   pub image_is : IsImageOf program places starts image
   pub textures : List Image
@@ -129,6 +132,16 @@ IsOfAssets files (errors.Missing name) = Contains files name
 IsOfAssets files (errors.Failed name) = Contains files name
 IsOfAssets files (errors.Limit name) = Contains files name
 IsOfAssets files errors.Memory = Unit {0}
+
+-- The refusals of what is built of a checked source: of the textures and sounds that the project names, of the cartridge's size, and of memory.
+abbrev pub IsOfBuilding : List ℕ → BuildErr → Type 0
+IsOfBuilding project (errors.Source code file line) = ⊥
+IsOfBuilding project (errors.Bad code name (Some line)) = ⊥
+IsOfBuilding project (errors.Bad code name None) = (70 ≤ code) × (code ≤ 73) × Contains (assets_of project) name
+IsOfBuilding project (errors.Missing name) = Contains (assets_of project) name
+IsOfBuilding project (errors.Failed name) = Contains (assets_of project) name
+IsOfBuilding project (errors.Limit name) = Contains (assets_of project) name ⊎ (name ≡ codes "cartridge")
+IsOfBuilding project errors.Memory = Unit {0}
 
 abbrev pub IsOfPacking : Cartridge → BuildErr → Type 0
 IsOfPacking c (errors.Limit name) = (name ≡ codes "cartridge") × IsTooLarge c

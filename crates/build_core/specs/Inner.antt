@@ -14,7 +14,7 @@ use Rattle.c_front.specs.Due.{IsUnit}
 use Rattle.c_front.specs.Over.{over}
 use Rattle.build_core.specs.declared.error.BuildErr.{BuildErr}
 use Rattle.build_core.specs.declared.error.BuildErr.TheVariants as errors
-use Rattle.build_core.specs.declared.sources.Source.{Source}
+use Rattle.build_core.specs.declared.checked.Checked.{Checked}
 use Rattle.build_core.specs.Checked.{Breaks, ChecksSource}
 use Rattle.build_core.specs.Starts.{starts_of}
 
@@ -37,23 +37,23 @@ pub record IsRead (parsed : Parsed) : Type 0 where
   pub lines : AllByRecursion (λ t. 1 ≤ t.line) parsed.places.tokens
 
 -- a source with its program, of a unit
-pub record IsOfUnit (parsed : Parsed) (s : Source) : Type 0 where
+pub record IsOfUnit (parsed : Parsed) (s : Checked) : Type 0 where
   pub typed : WellTyped (unit parsed.unit) (program s.program)
   pub places : s.places ≡ parsed.places
   pub starts : s.starts.items ≡ starts_of (unit parsed.unit)
 
 -- the program of a unit, or the rule that it breaks first, unless memory ran out
-abbrev pub TypesSource : Parsed → Result Source BuildErr → Type 0
+abbrev pub TypesSource : Parsed → Result Checked BuildErr → Type 0
 TypesSource parsed (Ok s) = IsOfUnit parsed s
 TypesSource parsed (Err e) = Breaks parsed e
 
 -- a source that was read
-pub record IsSourceOf (m : Held) (source : List ℕ) (s : Source) : Type 0 where
+pub record IsSourceOf (m : Held) (source : List ℕ) (s : Checked) : Type 0 where
   pub parsed : Parsed
   pub is_unit : IsUnit (over m) source parsed
   pub of_unit : IsOfUnit parsed s
 
 -- the answer for a source, which is refused as by a check
-abbrev pub ReadsSource : Held → List ℕ → Result Source BuildErr → Type 0
+abbrev pub ReadsSource : Held → List ℕ → Result Checked BuildErr → Type 0
 ReadsSource m source (Ok s) = IsSourceOf m source s
 ReadsSource m source (Err e) = ChecksSource m source (Err e)

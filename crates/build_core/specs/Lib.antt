@@ -2,8 +2,11 @@ pub mod Due
 pub mod Codes
 pub mod Checked
 pub mod Starts
+pub mod Checkable
 pub mod Build
 pub mod Causes
 pub mod Reached
 pub mod Inner
+pub mod Fronts
+pub mod BuiltFrom
 pub mod Packing

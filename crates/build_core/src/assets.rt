@@ -6,6 +6,7 @@ ghost use Rattle.asset_pack.specs.Reading.{Gives as GivesAsset};
 ghost use Rattle.build_core.specs.Due.{all_of, asset_due, asset_of};
 ghost use Rattle.build_core.specs.Causes.{HasReadCauses, IsOfAssets, IsOfTesting, IsOfAsset, IsOfContent};
 ghost use Rattle.build_core.specs.Inner.{Gives, GivesBy};
+ghost use Rattle.build_core.specs.Reached.{FailsAt, IsOneRead};
 
 use crate::error::BuildErr;
 use crate::reading::read_file;
@@ -54,7 +55,7 @@ fn asset_in<A: Asset>(alloc: Global, name: &Name, bytes: &[u8]) -> Result<A, Bui
 {
     match A::parse(alloc, bytes) {
         Ok(asset) => Ok(asset),
-        Err(AssetErr::At { code }) => match name.copy(alloc) {
+        Err(AssetErr::At { code }) => match name.copy() {
             Ok(name) => Err(BuildErr::Bad {
                 code,
                 name,
@@ -92,6 +93,8 @@ pub fn read_assets<F: Files, A: Asset>(
     requires { AllByRecursion IsUtf8 names.now }
     ensures held { F.held files.new ≡ F.held files.old }
     ensures told { IfSome (F.held files.old) (λ m. GivesBy (λ v. v.items) result (all_of (asset_of A.value m) names.now)) }
+    // Where a call failed, it was at one of them, and those before it were read and are of their grammar.
+    ensures reached { IfSome (F.held files.old) (λ m. FailsAt (IsOneRead (asset_of A.value m) names.now) result) }
     ensures count { IfOk result (λ v. length v.items ≡ length names.now) }
     ensures kinds { IfErr result (IsOfAssets names.now) }
     ensures causes { HasReadCauses result (F.faults files.old) (F.faults files.new)

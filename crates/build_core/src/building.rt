@@ -1,14 +1,20 @@
 // The build of a project.
 ghost use Rattle.std.specs.Prelude.{◌≡◌, ◌≤◌, IfOk, IfErr, IfSome, length};
+ghost use Rattle.project_text.specs.declared.project.Project.{Project};
+ghost use Rattle.project_text.specs.ProjectText.{IsProject};
 ghost use Rattle.build_core.specs.Build.{Builds, IsCartText};
-ghost use Rattle.build_core.specs.Causes.{CanCome, HasCauses};
-ghost use Rattle.build_core.specs.Reached.{FailsAt, IsReadToBuild};
+ghost use Rattle.build_core.specs.BuiltFrom.{BuildsFrom};
+ghost use Rattle.build_core.specs.Causes.{CanCome, HasCauses, IsOfBuilding};
+ghost use Rattle.build_core.specs.Fronts.{IsFrontOf};
+ghost use Rattle.build_core.specs.Reached.{FailsAt, IsReadBeside, IsReadToBuild};
 
 use crate::assets::read_assets;
+use crate::checked::Checked;
 use crate::error::BuildErr;
+use crate::fronts::front;
 use crate::packing::packed;
 use crate::reading::project_in;
-use crate::sources::{read_source, token_count};
+use crate::sources::token_count;
 use c_image::image_of;
 use kit_base::{Files, Seq};
 use mid_code::{Choice, Mid};
@@ -27,30 +33,30 @@ pub struct Built {
     pub tokens: u32,
 }
 
-/// Builds the project of that text, which has at most 268,435,456 bytes: its source is read from the files, with those that it includes, and the
-/// headers of the dialect lie over the files; then its textures and its sounds are read, in order; nothing is written. A refusal `Source` has the
-/// codes 10 to 50 with the file and the line, counted from 1, of the token that decides; `Bad` is a fault of the project's text, of a texture or a
-/// sound; `Limit` a file over 268,435,456 bytes, or a `cartridge` over as many.
-pub fn build<F: Files>(alloc: Global, files: &mut F, project: &[u8]) -> Result<Built, BuildErr>
-    requires { length project.now ≤ 268435456 }
+/// Builds the project of that text, which has at most 268,435,456 bytes and is of its grammar, of its checked source: the textures and the sounds
+/// are read, in order; nothing is written. A refusal is of a texture or a sound, or a `Limit` of the `cartridge`, or want of memory.
+pub fn build_from<F: Files>(
+    alloc: Global,
+    files: &mut F,
+    project: &[u8],
+    checked: &Checked,
+) -> Result<Built, BuildErr>
+    requires size { length project.now ≤ 268435456 }
+    requires grammar { (parts : Project) × IsProject project.now parts }
     ensures held { F.held files.new ≡ F.held files.old }
-    // Where it is told what is held, what was built is an image of the source's program, whose words do what it means, with the project's textures
-    // and sounds; and a refusal is one that is due; unless a call of the files failed or memory ran out.
-    ensures told { IfSome (F.held files.old) (λ m. Builds m project.now result) }
-    // Where a call failed, it was at a file that is read to build the project.
-    ensures reached { IfSome (F.held files.old) (λ m. FailsAt (IsReadToBuild m project.now) result) }
+    // Where it is told what is held, and this is the project's source there, what was built is built of the project with an image of this source;
+    // and a refusal is one that is due; unless a call of the files failed or memory ran out.
+    ensures told { IfSome (F.held files.old) (λ m. IsFrontOf m project.now checked.now → BuildsFrom m project.now checked.now result) }
+    // Where a call failed, it was at a texture or a sound of the project, and those before it were read and are of their grammar.
+    ensures reached { IfSome (F.held files.old) (λ m. FailsAt (IsReadBeside m project.now) result) }
     // The cartridge is one that is read again.
     ensures cartridge { IfOk result (λ b. IsCartText b.cart) }
-    ensures kinds { IfErr result (CanCome project.now) }
+    ensures kinds { IfErr result (IsOfBuilding project.now) }
     ensures causes { HasCauses project.now result (F.faults files.old) (F.faults files.new)
         (F.misses files.old) (F.misses files.new) (F.overs files.old) (F.overs files.new) }
 {
     let parts = match project_in(alloc, project) {
         Ok(parts) => parts,
-        Err(refusal) => return Err(refusal),
-    };
-    let source = match read_source(alloc, files, &parts.source) {
-        Ok(source) => source,
         Err(refusal) => return Err(refusal),
     };
     let textures = match read_assets(alloc, files, parts.textures.as_slice()) {
@@ -61,10 +67,34 @@ pub fn build<F: Files>(alloc: Global, files: &mut F, project: &[u8]) -> Result<B
         Ok(sounds) => sounds,
         Err(refusal) => return Err(refusal),
     };
-    let made = match image_of(alloc, &source.program, &source.places, &source.starts) {
+    let made = match image_of(alloc, &checked.program, &checked.places, &checked.starts) {
         Ok(made) => made,
         Err(_) => return Err(BuildErr::Memory),
     };
-    let tokens = token_count(&source.places);
+    let tokens = token_count(&checked.places);
     packed(alloc, parts.title, made, textures, sounds, tokens)
+}
+
+/// Builds the project of that text, which has at most 268,435,456 bytes: its source is read from the files, with those that it includes, and the
+/// headers of the dialect lie over the files; then its textures and its sounds are read, in order; nothing is written. A refusal `Source` has the
+/// codes 10 to 50 with the file and the line, counted from 1, of the token that decides; `Bad` is a fault of the project's text, of a texture or a
+/// sound; `Limit` a file over 268,435,456 bytes, or a `cartridge` over as many.
+pub fn build<F: Files>(alloc: Global, files: &mut F, project: &[u8]) -> Result<Built, BuildErr>
+    requires { length project.now ≤ 268435456 }
+    ensures held { F.held files.new ≡ F.held files.old }
+    // Where it is told what is held, what was built is an image of the source's program, whose words do what it means, with the project's textures
+    // and sounds; and a refusal is one that is due; unless a call of the files failed or memory ran out.
+    ensures told { IfSome (F.held files.old) (λ m. Builds m project.now result) }
+    // Where a call failed, it was at a file that is read to build the project, and those before it were read and are as they should.
+    ensures reached { IfSome (F.held files.old) (λ m. FailsAt (IsReadToBuild m project.now) result) }
+    // The cartridge is one that is read again.
+    ensures cartridge { IfOk result (λ b. IsCartText b.cart) }
+    ensures kinds { IfErr result (CanCome project.now) }
+    ensures causes { HasCauses project.now result (F.faults files.old) (F.faults files.new)
+        (F.misses files.old) (F.misses files.new) (F.overs files.old) (F.overs files.new) }
+{
+    match front(alloc, files, project) {
+        Ok(checked) => build_from(alloc, files, project, &checked),
+        Err(refusal) => Err(refusal),
+    }
 }

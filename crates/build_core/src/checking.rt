@@ -1,25 +1,20 @@
 // The check of a project's source.
-ghost use Rattle.std.specs.Prelude.{ℕ, List, ◌≡◌, ◌≤◌, Ok, IfErr, IfSome, IsUtf8, length};
-ghost use Rattle.c_tree.specs.Tree.{ItemT};
+ghost use Rattle.std.specs.Prelude.{◌≡◌, ◌≤◌, IfErr, IfSome, length};
 ghost use Rattle.c_tree.specs.View.{unit};
-ghost use Rattle.c_prep.specs.Files.{Expansion, expansion_of};
-ghost use Rattle.c_parse.specs.Tok.{toks};
-ghost use Rattle.c_parse.specs.Units.{Derives};
 ghost use Rattle.c_front.specs.Causes.{IsWithin};
-ghost use Rattle.c_front.specs.Over.{over};
-ghost use Rattle.c_front.specs.Reached.{IsReadFor};
 ghost use Rattle.c_exprs.specs.Faults.{at};
 ghost use Rattle.c_check.specs.Whole.{WellTyped};
 ghost use Rattle.c_types.specs.Programs.{ProgramT};
 ghost use Rattle.build_core.specs.Causes.{HasReadCauses};
-ghost use Rattle.build_core.specs.Checked.{Accepts, CanBeRefused, Checks, ChecksSource, IsOfRules, IsProgramOf, MissesOnly, Tells, Types, broken, unread};
+ghost use Rattle.build_core.specs.Checked.{Accepts, CanBeRefused, Checks, IsOfRules, IsProgramOf, Tells, Types, broken, unread};
 ghost use Rattle.build_core.specs.Reached.{FailsAt, IsReadToCheck};
 
+use crate::checked::Checked;
 use crate::error::BuildErr;
-use crate::reading::project_in;
+use crate::fronts::front;
 use c_check::{Program, check};
 use c_exprs::CheckErr;
-use c_front::{FrontErr, Parsed, Places, read_unit};
+use c_front::{FrontErr, Parsed, Places};
 use c_rules::{Code, code_number};
 use c_tree::Span;
 use kit_base::{Name, Reads};
@@ -39,12 +34,12 @@ pub fn unread(error: FrontErr) -> BuildErr
 }
 
 /// A broken rule, at the file and line of the first token of that span.
-fn broken(alloc: Global, places: &Places, code: Code, span: Span) -> BuildErr
+fn broken(places: &Places, code: Code, span: Span) -> BuildErr
     ensures told { Tells result (broken places.now (at span code)) }
     ensures content { IsOfRules result }
 {
     let (name, line) = places.place_of(span);
-    match name.copy(alloc) {
+    match name.copy() {
         Ok(file) => BuildErr::Source {
             code: code_number(code),
             file,
@@ -63,26 +58,8 @@ pub fn typed(alloc: Global, parsed: &Parsed) -> Result<Program, BuildErr>
 {
     match check(alloc, &parsed.unit) {
         Ok(program) => Ok(program),
-        Err(CheckErr::At { code, span }) => Err(broken(alloc, &parsed.places, code, span)),
+        Err(CheckErr::At { code, span }) => Err(broken(&parsed.places, code, span)),
         Err(CheckErr::Memory) => Err(BuildErr::Memory),
-    }
-}
-
-/// The typed program of the source of that name.
-fn check_source<F: Reads>(alloc: Global, files: &mut F, source: &Name) -> Result<Program, BuildErr>
-    requires { IsUtf8 source.now }
-    ensures held { F.held files.new ≡ F.held files.old }
-    ensures told { IfSome (F.held files.old) (λ m. ChecksSource m source.now result) }
-    ensures accepts { IfSome (F.held files.old) (λ m. (x : Expansion) (ds : List ItemT) (p : ProgramT)
-        → expansion_of (over m) source.now ≡ Ok x → Derives (toks x.tokens) ds → WellTyped ds p → IsProgramOf p result) }
-    ensures reached { IfSome (F.held files.old) (λ m. FailsAt (IsReadFor (over m) source.now) result) }
-    ensures kinds { IfErr result (MissesOnly source.now) }
-    ensures causes { HasReadCauses result (F.faults files.old) (F.faults files.new)
-        (F.misses files.old) (F.misses files.new) (F.overs files.old) (F.overs files.new) }
-{
-    match read_unit(alloc, files, source.as_str()) {
-        Ok(parsed) => typed(alloc, &parsed),
-        Err(error) => Err(unread(error)),
     }
 }
 
@@ -109,8 +86,11 @@ pub fn check_sources<F: Reads>(
     ensures causes { HasReadCauses result (F.faults files.old) (F.faults files.new)
         (F.misses files.old) (F.misses files.new) (F.overs files.old) (F.overs files.new) }
 {
-    match project_in(alloc, project) {
-        Ok(parts) => check_source(alloc, files, &parts.source),
+    match front(alloc, files, project) {
+        Ok(checked) => {
+            let Checked { program, .. } = checked;
+            Ok(program)
+        }
         Err(refusal) => Err(refusal),
     }
 }

@@ -1,12 +1,13 @@
 // Laws over the definitions alone, each the contract of a function that does nothing.
-ghost use Rattle.std.specs.Prelude.{ℕ, ◌≡◌, List, Ok};
+ghost use Rattle.std.specs.Prelude.{ℕ, ◌≡◌, ◌<◌, List, Ok};
 ghost use Rattle.kit_base.specs.Held.{Held};
 ghost use Rattle.c_types.specs.Programs.{ProgramT};
 ghost use Rattle.build_core.specs.declared.building.Built.{Built};
 ghost use Rattle.build_core.specs.declared.error.BuildErr.{BuildErr};
 ghost use Rattle.cart_format.specs.Reading.{cart_of};
-ghost use Rattle.build_core.specs.Due.{assets};
-ghost use Rattle.build_core.specs.Build.{HasNoParts, IsBuilt, cartridge_of};
+ghost use Rattle.cart_format.specs.Cartridge.{total};
+ghost use Rattle.build_core.specs.Due.{Assets, assets, assets_of};
+ghost use Rattle.build_core.specs.Build.{HasImage, HasNoParts, IsBuilt, cartridge_of};
 ghost use Rattle.build_core.specs.Checked.{IsAccepted, IsRejected};
 
 /// A project whose files are these is accepted or rejected by a check, never both, and accepted with one program at most.
@@ -21,6 +22,12 @@ pub fn projects_are_accepted_or_rejected()
 pub fn builds_are_due_or_refused()
     ensures either { (m : Held) (project : List ℕ) (b : Built) (e : BuildErr)
         → IsBuilt m project b → HasNoParts m project e → ⊥ }
+{}
+
+/// With one image a cartridge is due as built or is too large, never both. Which of a program's images is made is not told.
+pub fn images_fit_or_are_too_large()
+    ensures either { (m : Held) (project : List ℕ) (b : Built) (built : IsBuilt m project b) (of : HasImage m project) (a : Assets)
+        → of.image ≡ built.of.image → assets_of m of.parts ≡ Ok a → 268435456 < total (cartridge_of of.parts.title of.image a) → ⊥ }
 {}
 
 /// From the bytes of a built cartridge the very cartridge is read again that the project's parts make: its title, the image's words and line table,

@@ -9,16 +9,21 @@
 
 mod assets;
 mod building;
+mod checked;
 mod checking;
 mod error;
+mod fronts;
 mod laws;
 mod packing;
 mod reading;
 mod sources;
 
-pub use building::{Built, build};
+pub use building::{Built, build, build_from};
+pub use checked::Checked;
 pub use checking::check_sources;
 pub use error::BuildErr;
+pub use fronts::front;
 pub use laws::{
-    builds_are_due_or_refused, built_cartridges_are_read_back, projects_are_accepted_or_rejected,
+    builds_are_due_or_refused, built_cartridges_are_read_back, images_fit_or_are_too_large,
+    projects_are_accepted_or_rejected,
 };

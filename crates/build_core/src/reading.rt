@@ -39,7 +39,7 @@ pub fn read_file<F: Files>(alloc: Global, files: &mut F, name: &Name) -> Result<
     ensures causes { HasReadCauses result (F.faults files.old) (F.faults files.new)
         (F.misses files.old) (F.misses files.new) (F.overs files.old) (F.overs files.new) }
 {
-    let Ok(named) = name.copy(alloc) else {
+    let Ok(named) = name.copy() else {
         return Err(BuildErr::Memory);
     };
     match files.read(alloc, name.as_str()) {

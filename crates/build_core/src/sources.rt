@@ -1,8 +1,9 @@
 // A project's source, read and typed.
 ghost use Rattle.std.specs.Prelude.{◌≡◌, ◌≤◌, IfOk, IfErr, IfSome, IsUtf8, length};
 ghost use Rattle.c_tree.specs.View.{unit};
-ghost use Rattle.c_check.specs.View.{program};
-ghost use Rattle.c_image.specs.Imaging.{AreStarts};
+ghost use Rattle.c_check.specs.Whole.{WellTyped};
+ghost use Rattle.c_types.specs.Programs.{ProgramT};
+ghost use Rattle.build_core.specs.Fronts.{AcceptsSource, IsCheckedOf};
 ghost use Rattle.build_core.specs.Causes.{HasReadCauses};
 ghost use Rattle.build_core.specs.Checked.{IsOfRules, MissesOnly};
 ghost use Rattle.build_core.specs.Inner.{IsRead, ReadsSource, TypesSource};
@@ -12,22 +13,14 @@ ghost use Rattle.c_front.specs.Causes.{IsWithin};
 ghost use Rattle.c_front.specs.Over.{over};
 ghost use Rattle.c_front.specs.Reached.{IsReadFor};
 
+use crate::checked::Checked;
 use crate::checking::{typed, unread};
 use crate::error::BuildErr;
-use c_check::Program;
 use c_facts::laws::functions_are_bodies;
 use c_front::{Parsed, Places, read_unit};
 use c_tree::{Item, Unit};
 use kit_base::{Memory, Name, Reads};
 use std::alloc::Global;
-
-/// A source's typed program, the places of its tokens, and the number of the first token of each function's definition.
-#[derive(Drop)]
-pub struct Source {
-    pub program: Program,
-    pub places: Places,
-    pub starts: Vec<u32>,
-}
 
 /// How many tokens there are.
 pub fn token_count(places: &Places) -> u32
@@ -60,12 +53,11 @@ fn starts_of(alloc: Global, parsed: &Unit) -> Result<Vec<u32>, Memory>
 }
 
 /// The typed program of a unit, with the places of its tokens.
-fn source_of(alloc: Global, parsed: Parsed) -> Result<Source, BuildErr>
+fn source_of(alloc: Global, parsed: Parsed) -> Result<Checked, BuildErr>
     requires within { IsWithin parsed }
     requires read { IsRead parsed }
     ensures typed { TypesSource parsed result }
-    ensures few { IfOk result (λ s. length s.places.tokens ≤ 200000) }
-    ensures starts { IfOk result (λ s. AreStarts (program s.program) s.places s.starts.items) }
+    ensures only { (p : ProgramT) → WellTyped (unit parsed.unit) p → IsCheckedOf p result }
     ensures content { IfErr result IsOfRules }
 {
     functions_are_bodies();
@@ -77,7 +69,7 @@ fn source_of(alloc: Global, parsed: Parsed) -> Result<Source, BuildErr>
         Ok(starts) => starts,
         Err(_) => return Err(BuildErr::Memory),
     };
-    Ok(Source {
+    Ok(Checked {
         program,
         places: parsed.places,
         starts,
@@ -86,13 +78,12 @@ fn source_of(alloc: Global, parsed: Parsed) -> Result<Source, BuildErr>
 
 /// The source of that name, read and typed.
 #[tactic(auto, using(crate::proofs::Starting::is_read))]
-pub fn read_source<F: Reads>(alloc: Global, files: &mut F, name: &Name) -> Result<Source, BuildErr>
+pub fn read_source<F: Reads>(alloc: Global, files: &mut F, name: &Name) -> Result<Checked, BuildErr>
     requires { IsUtf8 name.now }
     ensures held { F.held files.new ≡ F.held files.old }
     ensures told { IfSome (F.held files.old) (λ m. ReadsSource m name.now result) }
     ensures reached { IfSome (F.held files.old) (λ m. FailsAt (IsReadFor (over m) name.now) result) }
-    ensures few { IfOk result (λ s. length s.places.tokens ≤ 200000) }
-    ensures starts { IfOk result (λ s. AreStarts (program s.program) s.places s.starts.items) }
+    ensures accepts { IfSome (F.held files.old) (λ m. AcceptsSource m name.now result) }
     ensures kinds { IfErr result (MissesOnly name.now) }
     ensures causes { HasReadCauses result (F.faults files.old) (F.faults files.new)
         (F.misses files.old) (F.misses files.new) (F.overs files.old) (F.overs files.new) }

@@ -1,6 +1,6 @@
 use Rattle.std.proofs.Common.{◌<◌, ◌∙◌, refl, ap, arith, rules}
 use Rattle.std.specs.Prelude.{length}
-use Rattle.build_core.proofs.AssetReading.{count_more, told_none, of_assets, told_more, told_refused}
+use Rattle.build_core.proofs.AssetReading.{count_more, told_none, of_assets, reached_there, told_more, told_refused}
 use Rattle.build_core.proofs.assets.read_assets.Goals as goal
 
 pub each-init : goal.each-init
@@ -22,6 +22,11 @@ pub returns-in-Err-clause-kinds : goal.returns-in-Err-clause-kinds
 returns-in-Err-clause-kinds g c =
     let lt : c.each.name-index < length c.args.names.now = search rules in
     of_assets c.args.names.now c.each.name-index c.name-item.result c.in-Err.refusal lt c.name-item.is c.in-Err.ensures.kinds
+
+pub returns-in-Err-clause-reached : goal.returns-in-Err-clause-reached
+returns-in-Err-clause-reached g c =
+    let lt : c.each.name-index < length c.args.names.now = search rules in
+    reached_there g.A.Asset.value c.args.names.now c.each.name-index c.name-item.result c.each.assets.items lt c.name-item.is c.in-Err.refusal (g.F.Reads.held c.args.files.now) c.each.invariant.told c.in-Err.ensures.kinds
 
 pub each-preserved : goal.each-preserved
 each-preserved g c =

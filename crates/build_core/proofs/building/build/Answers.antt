@@ -1,93 +1,25 @@
-use Rattle.std.proofs.Common.{◌∙◌, length, ap, subst, arith}
-use Rattle.std.specs.Prelude.{IfOk}
-use Rattle.c_check.specs.View.{program}
-use Rattle.c_image.specs.Imaging.{IsImageOf, image}
-use Rattle.build_core.proofs.Projects.{title_is_text, source_is_text, textures_are_texts, sounds_are_texts}
-use Rattle.build_core.proofs.Refusals.{source_comes, textures_come, sounds_come, packing_causes}
-use Rattle.build_core.proofs.Builds.{project_told, source_told, textures_told, sounds_told, packed_told}
-use Rattle.build_core.specs.Due.{assets}
-use Rattle.build_core.specs.Packing.{IsPackedFrom}
-use Rattle.build_core.specs.declared.sources.Source.{Source}
-use Rattle.build_core.specs.declared.building.Built.{Built}
-use Rattle.build_core.specs.Reached.{IsReadToBuild}
-use Rattle.build_core.proofs.Failing.{packed_fails, project_fails, source_fails, sounds_fail, textures_fail}
+use Rattle.build_core.proofs.InOrder.{built_told, built_reached, built_kinds, built_causes, unchecked_told, unchecked_reached, unchecked_kinds}
 use Rattle.build_core.proofs.building.build.Goals as goal
 
+pub returns-in-Ok-clause-told : goal.returns-in-Ok-clause-told
+returns-in-Ok-clause-told g c =
+    built_told c.args.project.now c.in-Ok.checked c.build_from.result (g.F.Reads.held c.args.files.now) (g.F.Reads.held c.front.new.files) c.in-Ok.ensures.told c.in-Ok.ensures.held c.build_from.ensures.told
+
+pub returns-in-Ok-clause-reached : goal.returns-in-Ok-clause-reached
+returns-in-Ok-clause-reached g c =
+    built_reached c.args.project.now c.in-Ok.checked (g.F.Reads.held c.args.files.now) (g.F.Reads.held c.front.new.files) c.build_from.result c.in-Ok.ensures.told c.in-Ok.ensures.held c.build_from.ensures.reached
+
+pub returns-in-Ok-clause-kinds : goal.returns-in-Ok-clause-kinds
+returns-in-Ok-clause-kinds g c = built_kinds c.args.project.now c.build_from.result c.build_from.ensures.kinds
+
+pub returns-in-Ok-clause-causes : goal.returns-in-Ok-clause-causes
+returns-in-Ok-clause-causes g c = built_causes c.args.project.now c.in-Ok.checked c.build_from.result _ _ _ _ _ _ _ _ _ c.in-Ok.ensures.causes c.build_from.ensures.causes
+
 pub returns-in-Err-clause-told : goal.returns-in-Err-clause-told
-returns-in-Err-clause-told g c = project_told c.args.project.now c.in-Err.refusal (g.F.Reads.held c.args.files.now) c.in-Err.ensures.told
-
-pub read_source-requires : goal.read_source-requires
-read_source-requires g c = source_is_text c.args.project.now c.in-Ok.parts c.in-Ok.ensures.found
-
-pub returns-in-Err-read_source-clause-told : goal.returns-in-Err-read_source-clause-told
-returns-in-Err-read_source-clause-told g c =
-    source_told c.args.project.now c.in-Ok.parts c.in-Ok.ensures.found c.in-Err-read_source.refusal (g.F.Reads.held c.args.files.now) c.in-Err-read_source.ensures.told
-
-pub returns-in-Err-read_source-clause-kinds : goal.returns-in-Err-read_source-clause-kinds
-returns-in-Err-read_source-clause-kinds g c = source_comes c.args.project.now c.in-Ok.parts c.in-Ok.ensures.found c.in-Err-read_source.refusal c.in-Err-read_source.ensures.kinds
-
-pub read_assets-requires : goal.read_assets-requires
-read_assets-requires g c = rw c.as_slice.ensures (textures_are_texts c.args.project.now c.in-Ok.parts c.in-Ok.ensures.found)
-
-pub returns-in-Err-read_assets-clause-told : goal.returns-in-Err-read_assets-clause-told
-returns-in-Err-read_assets-clause-told g c =
-    textures_told c.args.project.now c.in-Ok.parts c.in-Ok.ensures.found c.in-Ok-read_source.source c.in-Err-read_assets.refusal c.as_slice.result.now (g.F.Reads.held c.args.files.now) (g.F.Reads.held c.read_source.new.files)
-    c.as_slice.ensures c.in-Ok-read_source.ensures.told c.in-Ok-read_source.ensures.held c.in-Err-read_assets.ensures.told
-
-pub returns-in-Err-read_assets-clause-kinds : goal.returns-in-Err-read_assets-clause-kinds
-returns-in-Err-read_assets-clause-kinds g c =
-    textures_come c.args.project.now c.in-Ok.parts c.in-Ok.ensures.found c.as_slice.result.now c.as_slice.ensures c.in-Err-read_assets.refusal c.in-Err-read_assets.ensures.kinds
-
-pub read_assets-requires-2 : goal.read_assets-requires-2
-read_assets-requires-2 g c = rw c.as_slice-2.ensures (sounds_are_texts c.args.project.now c.in-Ok.parts c.in-Ok.ensures.found)
-
-pub returns-in-Err-read_assets-2-clause-told : goal.returns-in-Err-read_assets-2-clause-told
-returns-in-Err-read_assets-2-clause-told g c =
-    sounds_told c.args.project.now c.in-Ok.parts c.in-Ok.ensures.found c.in-Ok-read_source.source c.in-Ok-read_assets.textures.items c.in-Err-read_assets-2.refusal c.as_slice.result.now c.as_slice-2.result.now
-    (g.F.Reads.held c.args.files.now) (g.F.Reads.held c.read_source.new.files) (g.F.Reads.held c.read_assets.new.files)
-    c.as_slice.ensures c.as_slice-2.ensures c.in-Ok-read_source.ensures.told c.in-Ok-read_source.ensures.held c.in-Ok-read_assets.ensures.told (c.in-Ok-read_assets.ensures.held ∙ c.in-Ok-read_source.ensures.held) c.in-Err-read_assets-2.ensures.told
-
-pub returns-in-Err-read_assets-2-clause-kinds : goal.returns-in-Err-read_assets-2-clause-kinds
-returns-in-Err-read_assets-2-clause-kinds g c =
-    sounds_come c.args.project.now c.in-Ok.parts c.in-Ok.ensures.found c.as_slice-2.result.now c.as_slice-2.ensures c.in-Err-read_assets-2.refusal c.in-Err-read_assets-2.ensures.kinds
-
-pub packed-requires-clause-title : goal.packed-requires-clause-title
-packed-requires-clause-title g c = title_is_text c.args.project.now c.in-Ok.parts c.in-Ok.ensures.found
-
-pub returns-clause-told : goal.returns-clause-told
-returns-clause-told g c =
-    let source = c.in-Ok-read_source.source in
-    let made : IsImageOf (program source.program) source.places source.starts.items (image c.in-Ok-image_of.made) =
-    subst (λ starts. IsImageOf (program source.program) source.places starts (image c.in-Ok-image_of.made)) c.deref.ensures.value c.in-Ok-image_of.ensures.image in
-    packed_told c.args.project.now c.in-Ok.parts c.in-Ok.ensures.found source c.in-Ok-read_assets.textures.items c.in-Ok-read_assets-2.sounds.items (image c.in-Ok-image_of.made) made c.packed.result
-    c.as_slice.result.now c.as_slice-2.result.now (g.F.Reads.held c.args.files.now) (g.F.Reads.held c.read_source.new.files) (g.F.Reads.held c.read_assets.new.files)
-    c.as_slice.ensures c.as_slice-2.ensures c.in-Ok-read_source.ensures.told c.in-Ok-read_source.ensures.held c.in-Ok-read_assets.ensures.told (c.in-Ok-read_assets.ensures.held ∙ c.in-Ok-read_source.ensures.held) c.in-Ok-read_assets-2.ensures.told
-    (subst (λ tokens. IfOk c.packed.result (IsPackedFrom c.in-Ok.parts.title (image c.in-Ok-image_of.made) (assets c.in-Ok-read_assets.textures.items c.in-Ok-read_assets-2.sounds.items) tokens)) c.token_count-tokens.ensures c.packed.ensures.packed)
-    c.packed.ensures.kinds
-
-pub returns-clause-causes : goal.returns-clause-causes
-returns-clause-causes g c =
-    let first = c.in-Ok-read_source.ensures.causes in
-    let second = c.in-Ok-read_assets.ensures.causes in
-    let third = c.in-Ok-read_assets-2.ensures.causes in
-    packing_causes c.args.project.now c.in-Ok.parts c.in-Ok.ensures.found _ _ _ (image c.in-Ok-image_of.made) c.in-Ok-image_of.ensures.image c.in-Ok-read_assets.textures.items c.in-Ok-read_assets-2.sounds.items
-    (c.in-Ok-read_assets.ensures.count ∙ ap length c.as_slice.ensures) (c.in-Ok-read_assets-2.ensures.count ∙ ap length c.as_slice-2.ensures) c.packed.result _ _ _ _ _ _
-    (omega (arith, first.faults_later, second.faults_later, third.faults_later)) (omega (arith, first.misses_later, second.misses_later, third.misses_later)) (omega (arith, first.overs_later, second.overs_later, third.overs_later))
-    c.packed.ensures.kinds
-
--- at which file a read failed
+returns-in-Err-clause-told g c = unchecked_told c.args.project.now c.in-Err.refusal (g.F.Reads.held c.args.files.now) c.in-Err.ensures.told
 
 pub returns-in-Err-clause-reached : goal.returns-in-Err-clause-reached
-returns-in-Err-clause-reached g c = project_fails c.args.project.now Built (λ m. IsReadToBuild m c.args.project.now) (g.F.Reads.held c.args.files.now) c.in-Err.refusal c.in-Err.ensures.content
+returns-in-Err-clause-reached g c = unchecked_reached c.args.project.now (g.F.Reads.held c.args.files.now) c.in-Err.refusal c.in-Err.ensures.reached
 
-pub returns-in-Err-read_source-clause-reached : goal.returns-in-Err-read_source-clause-reached
-returns-in-Err-read_source-clause-reached g c = source_fails c.args.project.now c.in-Ok.parts c.in-Ok.ensures.found Source Built (g.F.Reads.held c.args.files.now) c.in-Err-read_source.refusal c.in-Err-read_source.ensures.reached
-
-pub returns-in-Err-read_assets-clause-reached : goal.returns-in-Err-read_assets-clause-reached
-returns-in-Err-read_assets-clause-reached g c = textures_fail c.args.project.now c.in-Ok.parts c.in-Ok.ensures.found Built (g.F.Reads.held c.args.files.now) c.as_slice.result.now c.as_slice.ensures c.in-Err-read_assets.refusal c.in-Err-read_assets.ensures.kinds
-
-pub returns-in-Err-read_assets-2-clause-reached : goal.returns-in-Err-read_assets-2-clause-reached
-returns-in-Err-read_assets-2-clause-reached g c = sounds_fail c.args.project.now c.in-Ok.parts c.in-Ok.ensures.found Built (g.F.Reads.held c.args.files.now) c.as_slice-2.result.now c.as_slice-2.ensures c.in-Err-read_assets-2.refusal c.in-Err-read_assets-2.ensures.kinds
-
-pub returns-clause-reached : goal.returns-clause-reached
-returns-clause-reached g c = packed_fails c.args.project.now (g.F.Reads.held c.args.files.now) _ c.packed.result c.packed.ensures.kinds
+pub returns-in-Err-clause-kinds : goal.returns-in-Err-clause-kinds
+returns-in-Err-clause-kinds g c = unchecked_kinds c.args.project.now c.in-Err.refusal c.in-Err.ensures.kinds

@@ -1,9 +1,9 @@
-use Rattle.std.proofs.Common.{refl}
-use Rattle.build_core.specs.declared.sources.Source.{Source}
-use Rattle.build_core.proofs.Starting.{are_starts}
+use Rattle.c_check.specs.View.{program}
+use Rattle.build_core.proofs.Starting.{checkable, of_one_unit}
 use Rattle.build_core.proofs.sources.source_of.Goals as goal
 
-pub returns-clause-starts : goal.returns-clause-starts
-returns-clause-starts c =
-    let s : Source = record { program = c.in-Ok.program; places = c.args.parsed.places; starts = c.in-Ok-starts_of.starts } in
-    are_starts c.functions_are_bodies.ensures.bodies c.args.parsed s c.requires.read (record { typed = c.in-Ok.ensures.typed; places = refl; starts = c.in-Ok-starts_of.ensures })
+pub invariant_of-result : goal.invariant_of-result
+invariant_of-result c = record {
+  of_unit = ∣ of_one_unit c.args.parsed (program c.in-Ok.program) c.in-Ok-starts_of.starts.items c.requires.read c.in-Ok.ensures.typed c.in-Ok-starts_of.ensures ∣₁;
+  stands = checkable c.functions_are_bodies.ensures.bodies c.args.parsed (program c.in-Ok.program) c.in-Ok-starts_of.starts.items c.requires.read c.in-Ok.ensures.typed c.in-Ok-starts_of.ensures;
+}

@@ -57,3 +57,5 @@ void main()
     t[k] = k + (k + 1) * 5 + (t[2] = 1);
     port_out(GPU_ClearColor, t[3]);
 }
+// Without a gamepad the port answers -3,600, which is no index.
+//w stray at sums_and_loads_in_one.c:32

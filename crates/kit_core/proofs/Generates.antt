@@ -11,7 +11,8 @@ use Rattle.kit_base.proofs.Cuts.{all_done-append}
 use Rattle.cart_format.specs.Cartridge.{Cartridge}
 use Rattle.v32_console.specs.Setup.{Setup}
 use Rattle.run_core.specs.Stands.{RunParts, RunStands}
-use Rattle.plain_run.specs.Plain.{color_after, plain_setup}
+use Rattle.plain_run.specs.Plain.{color_after, plain_pads, plain_setup}
+use Rattle.play_laws.specs.Played.{PlayedRunsAreTheSources, PlayedRunsComeToAll}
 use Rattle.gen_source.specs.Source.{project_text, source_text}
 use Rattle.gen_source.specs.Summary.{summary_end, summary_front}
 use Rattle.project_text.specs.MapText.{map_text}
@@ -39,6 +40,7 @@ use Rattle.kit_core.specs.Outcome.{putting, ComesInFront, IsOutcome, FrontCutOff
 use Rattle.kit_core.specs.Playing.{IsCarried}
 use Rattle.kit_core.proofs.Behind.{some_made}
 use Rattle.kit_core.proofs.Headlines.{done_at_zero}
+use Rattle.kit_core.proofs.Meanings.{run_meant}
 use Rattle.kit_core.proofs.Projects.{refused}
 use Rattle.kit_core.proofs.Writes.{get_written, get_unwritten}
 
@@ -161,7 +163,8 @@ module _ (m : Held) (project cart map_name : List ℕ) (n : ℕ) (b : Built) (af
       (get_unwritten _ map_name (map_text b.map) project four.project_map ∙ get_unwritten _ cart b.cart project four.project_cart
       ∙ get_unwritten _ source_name (source_text n) project (differ_back source_name project four.source_project) ∙ get_written m project project_text)
 
-module _ (number project cart map_name : List ℕ) (m : Held) (after : Option Held) (before put : Option (List ℕ)) (four : AreFour project cart map_name) where
+module _ (does : PlayedRunsAreTheSources) (comes : PlayedRunsComeToAll) (number project cart map_name : List ℕ) (m : Held) (after : Option Held) (before put : Option (List ℕ))
+    (four : AreFour project cart map_name) where
   generated_into : (work : Work) (made : Held) (d : Result ℕ DueRefusal) → functions_due number ≡ d → all_done (sources_due project d) (Some m) ≡ Some made
       → number_gen_due d project cart map_name made (Ok work) → after ≡ all_done work.effects (Some made) → put ≡ putting work.text before
       → IsGeneratedInto number project cart map_name m after before put
@@ -183,23 +186,25 @@ module _ (number project cart map_name : List ℕ) (m : Held) (after : Option He
         source_stands = source_there m project cart map_name n d.built after four stands;
         cart_stands = cart_there m project cart map_name n d.built after four stands;
         map_stands = map_there m project cart map_name n d.built after four stands;
+        run = run_meant does comes made project_text d.built d.is_built d.cartridge d.cartridge_is plain_pads None tt most_frames;
         told = p ∙ ap (λ (w : Work). putting w.text before) (sym d.work_is);
       }
   generated_into work made (Err r) is made_is d e p = absurd cc
 
--- a front that was not done has not the status 0
-gen_stands : (words : List (List ℕ)) (m : Held) (status : ℕ) (after : Option Held) (before put : Option (List ℕ))
-    → IsOutcome words m status after before put → status ≡ 0 → GenStands words m after before put
-gen_stands words m status after before put (inl h) z = λ number project cart map_name named.
-    let ended = done_at_zero _ _ h.made status after before put h.ends z in
-    let is_due : number_gen_due (functions_due number) project cart map_name h.made (Ok ended.0) = subst (λ o. form_due o h.made (Ok ended.0)) named ended.1 in
-    let made_is : all_done (sources_due project (functions_due number)) (Some m) ≡ Some h.made = ap (λ o. all_done (front_of o) (Some m)) (sym named) ∙ h.made_is in
-    generated_into number project cart map_name m after before put (gen_differ words number project cart map_name named) ended.0 h.made (functions_due number) refl made_is is_due ended.2 ended.3
-gen_stands words m status after before put (inr (FrontFault name cut s p)) z = absurd (omega (arith, s, z))
-gen_stands words m status after before put (inr (FrontCutOff e comes (inl s) count line_count p)) z = absurd (omega (arith, s, z))
-gen_stands words m status after before put (inr (FrontCutOff e comes (inr s) count line_count p)) z = absurd (omega (arith, s, z))
+module _ (does : PlayedRunsAreTheSources) (comes : PlayedRunsComeToAll) where
+  -- a front that was not done has not the status 0
+  gen_stands : (words : List (List ℕ)) (m : Held) (status : ℕ) (after : Option Held) (before put : Option (List ℕ))
+      → IsOutcome words m status after before put → status ≡ 0 → GenStands words m after before put
+  gen_stands words m status after before put (inl h) z = λ number project cart map_name named.
+      let ended = done_at_zero _ _ h.made status after before put h.ends z in
+      let is_due : number_gen_due (functions_due number) project cart map_name h.made (Ok ended.0) = subst (λ o. form_due o h.made (Ok ended.0)) named ended.1 in
+      let made_is : all_done (sources_due project (functions_due number)) (Some m) ≡ Some h.made = ap (λ o. all_done (front_of o) (Some m)) (sym named) ∙ h.made_is in
+      generated_into does comes number project cart map_name m after before put (gen_differ words number project cart map_name named) ended.0 h.made (functions_due number) refl made_is is_due ended.2 ended.3
+  gen_stands words m status after before put (inr (FrontFault name cut s p)) z = absurd (omega (arith, s, z))
+  gen_stands words m status after before put (inr (FrontCutOff e cut (inl s) count line_count p)) z = absurd (omega (arith, s, z))
+  gen_stands words m status after before put (inr (FrontCutOff e cut (inr s) count line_count p)) z = absurd (omega (arith, s, z))
 
-pub gen_told : (words : List (List ℕ)) (status : ℕ) (told after : Option Held) (before put : Option (List ℕ))
-    → IfSome told (λ m. IsOutcome words m status after before put) → IfSome told (λ m. status ≡ 0 → GenStands words m after before put)
-gen_told words status None after before put outcome = tt
-gen_told words status (Some m) after before put outcome = gen_stands words m status after before put outcome
+  pub gen_told : (words : List (List ℕ)) (status : ℕ) (told after : Option Held) (before put : Option (List ℕ))
+      → IfSome told (λ m. IsOutcome words m status after before put) → IfSome told (λ m. status ≡ 0 → GenStands words m after before put)
+  gen_told words status None after before put outcome = tt
+  gen_told words status (Some m) after before put outcome = gen_stands words m status after before put outcome

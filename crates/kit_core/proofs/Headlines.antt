@@ -70,12 +70,12 @@ done_at_zero Due Reads m status after before put (OutOfMemory s h) z = absurd (o
 done_at_zero Due Reads m status after before put (SinkFault s h) z = absurd (omega arith)
 
 -- both files stand
-cart_there : (m : Held) (cart map_name : List ℕ) (b : Built) (after : Option Held) → bytes_eq cart map_name ≡ false
+pub cart_there : (m : Held) (cart map_name : List ℕ) (b : Built) (after : Option Held) → bytes_eq cart map_name ≡ false
     → after ≡ all_done (outputs_of cart map_name b) (Some m) → IsSomeAnd after (λ files. get files cart ≡ Some b.cart)
 cart_there m cart map_name b after differ e =
     subst (λ h. IsSomeAnd h (λ files. get files cart ≡ Some b.cart)) (sym e) (get_unwritten _ map_name (map_text b.map) cart differ ∙ get_written m cart b.cart)
 
-map_there : (m : Held) (cart map_name : List ℕ) (b : Built) (after : Option Held)
+pub map_there : (m : Held) (cart map_name : List ℕ) (b : Built) (after : Option Held)
     → after ≡ all_done (outputs_of cart map_name b) (Some m) → IsSomeAnd after (λ files. get files map_name ≡ Some (map_text b.map))
 map_there m cart map_name b after e =
     subst (λ h. IsSomeAnd h (λ files. get files map_name ≡ Some (map_text b.map))) (sym e) (get_written _ map_name (map_text b.map))

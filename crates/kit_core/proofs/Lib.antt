@@ -12,9 +12,14 @@ pub mod Reached
 pub mod Unbuilt
 pub mod Checks
 pub mod Builds
-pub mod PlayedFiles
+pub mod Setups
+pub mod Followed
 pub mod Plays
 pub mod Ends
 pub mod Generates
 pub mod Holdings
+pub mod Fitting
+pub mod Leaving
 pub mod Meanings
+pub mod Watches
+pub mod WatchedRuns

@@ -1,21 +1,34 @@
--- A play is what its source means: from what stands of it, and the law of played runs.
-use Rattle.std.proofs.Common.{ℕ, ◌≡◌, ◌⊎◌, ◌∙◌, Bool, true, false, cond, List, eqb, refl, sym, ap, subst}
-use Rattle.std.specs.Prelude.{Option, Some, None, Result, Ok, Err, IfSome, length}
+-- The run of a cartridge that was built is what its source means: from the law of played runs.
+use Rattle.std.proofs.Common.{ℕ, ◌≡◌, ◌∙◌, inl, inr, Bool, true, false, cond, List, [], ◌∷◌, eqb, refl, sym, ap, subst, true≢false}
+use Rattle.std.specs.Prelude.{Option, Some, None, Result, Ok, Err, length}
 use Rattle.std.proofs.lemmas.Bool.{eqb-true}
 use Rattle.kit_base.specs.Held.{Held}
 use Rattle.asset_pack.specs.Words.{words_of}
 use Rattle.asset_pack.proofs.Chunks.{length-words}
-use Rattle.obj_mem.specs.Runs.{IsCard}
-use Rattle.play_laws.specs.Played.{PlayedRunsAreTheSources, PlayedRunsComeToAll}
+use Rattle.v32_isa.specs.Runs as machine
+use Rattle.obj_mem.specs.Runs.{Ending, Halted, Fault, Starved, Stray, Deep, OutOfBound, Run, IsCard}
+use Rattle.cart_format.specs.Cartridge.{Cartridge}
+use Rattle.cart_format.specs.Reading.{cart_of}
 use Rattle.run_files.specs.Script.{Script}
+use Rattle.v32_console.specs.declared.frame_end.FrameEnd.TheVariants as ends
+use Rattle.v32_console.specs.Setup.{Setup, setup_of}
+use Rattle.v32_console.specs.Moments.{Moment, Phase, Opened, Running, Left, console_at, goes_on, opening_moment}
+use Rattle.v32_console.specs.Machine.{end_of as machine_end}
+use Rattle.v32_console.specs.Frames.{frames_of}
+use Rattle.v32_console.specs.Runs.{last_after}
+use Rattle.v32_console.proofs.Frames.{runs_are_of_instructions}
+use Rattle.run_core.specs.Outputs.{end_after, end_of, last_moment}
+use Rattle.c_image.specs.Imaging.{frame_sizes}
+use Rattle.build_core.specs.declared.building.Built.{Built}
+use Rattle.build_core.specs.Build.{IsBuilt}
+use Rattle.play_laws.specs.Played.{DoesBy, PlayedRunsAreTheSources, PlayedRunsComeToAll, meant_at, played}
 use Rattle.kit_words.specs.Command.{RunWords}
 use Rattle.kit_tools.specs.declared.refusal.DueRefusal.TheVariants as dues
 use Rattle.kit_tools.specs.declared.refusal.Refusal.{Refusal}
 use Rattle.kit_tools.specs.declared.refusal.Refusal.TheVariants as refusals
 use Rattle.kit_tools.specs.Inputs.{◌>>=◌, bytes_due, card_due, card_in}
-use Rattle.kit_tools.specs.Running.{Settings, count_due, pads_due, settings_due}
-use Rattle.kit_core.specs.Headline.{IsPlayedInto, PlayStands}
-use Rattle.kit_core.specs.Meaning.{IsPlayMeant, PlayIsMeant}
+use Rattle.kit_tools.specs.Running.{Settings, count_up_to, pads_due, settings_up_to}
+use Rattle.kit_core.specs.Meaning.{HasMadeAllBy, RunIsMeant}
 
 record Bound {A B : Type 0} (r : Result A Refusal) (f : A → Result B Refusal) (y : B) : Type 0 where
   value : A
@@ -42,33 +55,67 @@ card_read (Some name) held card e =
     let d = bind_ok (card_in name b.value) (λ (words : List ℕ). Ok (Some words)) card b.rest in
     subst IsCard (ok_is d.rest) (card_long name b.value d.value (eqb (length b.value) 1048576) refl d.first)
 
-settings_card : (words : RunWords) (held : Held) (settings : Settings) → settings_due words held ≡ Ok settings → IsCard settings.card
-settings_card words held settings e =
-    let a = bind_ok (pads_due words.pads held) (λ (script : Script). card_due words.card held >>= λ (card : Option (List ℕ)). count_due words.count >>= λ (count : ℕ). Ok (record { script = script; card = card; count = count })) settings e in
-    let b = bind_ok (card_due words.card held) (λ (card : Option (List ℕ)). count_due words.count >>= λ (count : ℕ). Ok (record { script = a.value; card = card; count = count })) settings a.rest in
-    let d = bind_ok (count_due words.count) (λ (count : ℕ). Ok (record { script = a.value; card = b.value; count = count })) settings b.rest in
+pub settings_card : (greatest : ℕ) (pads : List ℕ) (name : Option (List ℕ)) (word : List ℕ) (held : Held) (settings : Settings)
+    → settings_up_to greatest pads name word held ≡ Ok settings → IsCard settings.card
+settings_card greatest pads name word held settings e =
+    let a = bind_ok (pads_due pads held) (λ (script : Script). card_due name held >>= λ (card : Option (List ℕ)). count_up_to greatest word >>= λ (count : ℕ). Ok (record { script = script; card = card; count = count })) settings e in
+    let b = bind_ok (card_due name held) (λ (card : Option (List ℕ)). count_up_to greatest word >>= λ (count : ℕ). Ok (record { script = a.value; card = card; count = count })) settings a.rest in
+    let d = bind_ok (count_up_to greatest word) (λ (count : ℕ). Ok (record { script = a.value; card = b.value; count = count })) settings b.rest in
     let same : b.value ≡ settings.card = ap (λ (s : Settings). s.card) (ok_is d.rest) in
-    subst IsCard same (card_read words.card held b.value b.first)
+    subst IsCard same (card_read name held b.value b.first)
+
+-- ---- where a run ends
+
+same_last : (m : Moment) (later : List Moment) → last_after m later ≡ end_after m later
+same_last m [] = refl
+same_last m (n ∷ later) = same_last n later
+
+last_is : (u : Setup) (count : ℕ) → end_after (opening_moment u) (frames_of count u (opening_moment u)) ≡ last_moment u count
+unfolding last_moment
+last_is u count = refl
+
+-- a run that has ended is not going
+not_going : (phase : Phase) → goes_on (end_of phase) ≡ false → machine_end phase ≡ machine.Going → ⊥
+not_going Opened over going = true≢false over
+not_going (Running done) over going = true≢false over
+not_going (Left ends.Full) over going = true≢false over
+not_going (Left ends.Waited) over going = true≢false over
+not_going (Left ends.Halted) over going = cc
+not_going (Left (ends.Fault number address)) over going = cc
+not_going (Left (ends.Undecodable address)) over going = cc
+
+-- and so has made all that is meant
+made_all : (end : Ending) (meant : Run) (so_far : machine.Run) → (so_far.end ≡ machine.Going → ⊥) → DoesBy end meant so_far → HasMadeAllBy end meant so_far
+made_all Halted meant so_far over (inl h) = absurd (over h.going)
+made_all Halted meant so_far over (inr h) = h
+made_all (Fault number) meant so_far over (inl h) = absurd (over h.going)
+made_all (Fault number) meant so_far over (inr h) = h
+made_all Starved meant so_far over h = over h.going
+made_all OutOfBound meant so_far over h = over h.going
+made_all Stray meant so_far over (inl h) = absurd (over h.going)
+made_all Stray meant so_far over (inr h) = h
+made_all Deep meant so_far over (inl h) = absurd (over h.going)
+made_all Deep meant so_far over (inr h) = h
+
+played_end : (u : Setup) (k : ℕ) → (played u k).end ≡ machine_end (console_at u k).phase
+played_end u k = refl
+
+-- ---- the run of a cartridge that was built
 
 module _ (does : PlayedRunsAreTheSources) (comes : PlayedRunsComeToAll) where
-  play_meant : (project map_name : List ℕ) (words : RunWords) (held : Held) (status : ℕ) (after : Option Held) (before put : Option (List ℕ))
-      → IsPlayedInto project map_name words held status after before put → IsPlayMeant project words held
-  play_meant project map_name words held status after before put p =
-      let card = settings_card words held p.settings p.settings_are in
+  pub run_meant : (held : Held) (text : List ℕ) (b : Built) (built : IsBuilt held text b) (cart : Cartridge) → cart_of b.cart ≡ Ok cart
+      → (pads : Script) (card : Option (List ℕ)) → IsCard card → (count : ℕ) → RunIsMeant held text b built (setup_of cart pads card) count
+  run_meant held text b built cart is pads card whole_card count =
+      let u : Setup = setup_of cart pads card in
+      let run = runs_are_of_instructions u count in
+      let there : console_at u run.k ≡ last_moment u count = run.there ∙ same_last (opening_moment u) (frames_of count u (opening_moment u)) ∙ last_is u count in
       record {
-        text = p.text;
-        built = p.built;
-        project_is = p.project_is;
-        is_built = p.is_built;
-        cart = p.cart;
-        cart_is = p.cart_is;
-        settings = p.settings;
-        settings_are = p.settings_are;
-        does = λ k bound le. does held p.text p.built p.is_built p.cart p.cart_is p.settings.script p.settings.card card k bound le;
-        comes = λ k bound. comes held p.text p.built p.is_built p.cart p.cart_is p.settings.script p.settings.card card k bound;
+        does = λ k bound le. does held text b built cart is pads card whole_card k bound le;
+        comes = λ k bound. comes held text b built cart is pads card whole_card k bound;
+        k = run.k;
+        k_is = there;
+        whole = λ over bound le.
+            let going_not = not_going (console_at u run.k).phase (ap (λ (m : Moment). goes_on (end_of m.phase)) there ∙ over) in
+            made_all (meant_at built.of.program (frame_sizes built.of.image.map) bound u run.k).end (meant_at built.of.program (frame_sizes built.of.image.map) bound u run.k) (played u run.k)
+            (λ going. going_not (sym (played_end u run.k) ∙ going)) (does held text b built cart is pads card whole_card run.k bound le);
       }
-
-  pub meant_told : (words : List (List ℕ)) (status : ℕ) (told after : Option Held) (before put : Option (List ℕ))
-      → IfSome told (λ m. (status ≡ 0) ⊎ (status ≡ 3) → PlayStands words m status after before put) → IfSome told (λ m. (status ≡ 0) ⊎ (status ≡ 3) → PlayIsMeant words m)
-  meant_told words status None after before put stands = tt
-  meant_told words status (Some m) after before put stands = λ ended project map_name run named. play_meant project map_name run m status after before put (stands ended project map_name run named)

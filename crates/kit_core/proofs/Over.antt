@@ -3,13 +3,14 @@ use Rattle.std.proofs.Common.{ℕ, ◌≡◌, ◌⊎◌, ◌<◌, inl, inr, List
 use Rattle.std.specs.Prelude.{Option, Some, None, Result}
 use Rattle.kit_base.specs.Held.{Held}
 use Rattle.kit_words.specs.declared.conversion.Conversion.{Conversion}
-use Rattle.kit_words.specs.Command.{Command, RunWords, Build, Convert, Trace, Run, Play, Gen, command_of}
+use Rattle.kit_words.specs.Command.{Command, RunWords, WatchWords, Build, Convert, Trace, Run, Play, Watch, Gen, command_of}
 use Rattle.kit_words.specs.Number.{number_of}
 use Rattle.kit_tools.specs.declared.refusal.Refusal.{Refusal}
 use Rattle.kit_tools.specs.declared.shown.Shown.{Shown}
 use Rattle.kit_tools.specs.Causes.{Counts, HasCauses, HasCausesOr}
 use Rattle.kit_tools.specs.Converting.{ConvertsLong}
 use Rattle.kit_tools.specs.Running.{is_count}
+use Rattle.kit_tools.specs.Watching.{is_watch_count}
 use Rattle.kit_tools.proofs.Own.{wider_causes}
 use Rattle.kit_core.specs.Causes.{HasReasons, IsUsage}
 use Rattle.kit_core.specs.Limits.{IsGenOver, IsLarge, IsOver}
@@ -50,7 +51,13 @@ module _ (words : List (List ℕ)) (held : Option Held) (r : Result Shown Refusa
       wider (IsLarge project held ⊎ (is_count (number_of run.count) ≡ false))
       (λ over. inr (inr (inr (inr (inl (record { project = project; map_name = map_name; run = run; named = is; over = over })))))) h
 
+  pub watch_over : (watch : WatchWords) → command_of words ≡ Some (Watch watch)
+      → HasCausesOr (IsLarge watch.project held ⊎ (is_watch_count (number_of watch.count) ≡ false)) r before after → HasReasons words held r before after
+  watch_over watch is h =
+      wider (IsLarge watch.project held ⊎ (is_watch_count (number_of watch.count) ≡ false))
+      (λ over. inr (inr (inr (inr (inr (inl (record { watch = watch; named = is; over = over }))))))) h
+
   pub gen_over : (number project cart map_name : List ℕ) → command_of words ≡ Some (Gen number project cart map_name)
       → HasCausesOr (IsGenOver number) r before after → HasReasons words held r before after
   gen_over number project cart map_name is h =
-      wider (IsGenOver number) (λ over. inr (inr (inr (inr (inr (record { number = number; project = project; cart = cart; map_name = map_name; named = is; over = over })))))) h
+      wider (IsGenOver number) (λ over. inr (inr (inr (inr (inr (inr (record { number = number; project = project; cart = cart; map_name = map_name; named = is; over = over }))))))) h

@@ -1,5 +1,5 @@
 -- From the parts of a play to the whole, and what its statuses 0 and 3 say.
-use Rattle.std.proofs.Common.{ℕ, ◌≡◌, ◌⊎◌, List, true, refl, sym, ap, subst, ◌∙◌}
+use Rattle.std.proofs.Common.{ℕ, ◌≡◌, ◌⊎◌, List, refl, sym, ap, subst, ◌∙◌}
 use Rattle.std.specs.Prelude.{Option, Some, None, Result, Ok, Err, IfSome}
 use Rattle.kit_base.specs.Held.{Held}
 use Rattle.kit_base.specs.Effects.{all_done, written_file}
@@ -7,83 +7,34 @@ use Rattle.kit_base.specs.Outside.{due}
 use Rattle.kit_base.specs.declared.outside.FileErr.{FileErr}
 use Rattle.kit_base.proofs.Cuts.{all_done-append}
 use Rattle.build_core.specs.declared.building.Built.{Built}
-use Rattle.build_core.specs.Build.{IsBuilt, IsUnbuilt}
-use Rattle.build_core.specs.declared.error.BuildErr.{BuildErr}
+use Rattle.build_core.specs.Build.{IsBuilt}
 use Rattle.project_text.specs.MapText.{map_text}
 use Rattle.run_core.specs.Outputs.{run_outputs}
-use Rattle.kit_tools.specs.declared.refusal.DueRefusal.{DueRefusal}
 use Rattle.kit_tools.specs.declared.refusal.Refusal.{Refusal}
 use Rattle.kit_tools.specs.declared.refusal.Refusal.TheVariants as refusals
 use Rattle.kit_tools.specs.declared.running.Loaded.{Loaded}
 use Rattle.kit_tools.specs.declared.running.LoadedSettings.{LoadedSettings}
 use Rattle.kit_tools.specs.declared.shown.Shown.{Shown}
-use Rattle.kit_words.specs.Command.{RunWords, command_of}
-use Rattle.kit_words.proofs.Created.{are_apart, play_differ}
-use Rattle.kit_core.specs.Due.{IsUnplayed, not_built, not_set, form_due, outputs_of, play_due, play_effects, play_work, read_play_due, unbuilt, IsReadToPlay, reads_build, reads_set}
+use Rattle.play_laws.specs.Played.{PlayedRunsAreTheSources, PlayedRunsComeToAll}
+use Rattle.kit_words.specs.Command.{RunWords, Play, command_of}
+use Rattle.kit_words.proofs.Created.{created_differ}
+use Rattle.kit_core.specs.Due.{form_due, outputs_of, play_due, play_effects, play_work, read_play_due, IsReadToPlay}
 use Rattle.kit_tools.specs.Work.{Work}
-use Rattle.kit_tools.specs.Running.{Game, game_with, names_in, settings_due, IsReadToSet}
+use Rattle.kit_tools.specs.Running.{Game, game_with, names_in, settings_due}
 use Rattle.kit_core.specs.Playing.{IsCarried, IsGameOf}
 use Rattle.kit_tools.specs.Gaming.{IsWritten, game_of, settings_of}
-use Rattle.kit_tools.specs.Carrying.{GivesBy, IsCut, FailsIn}
-use Rattle.kit_core.specs.Checking.{IsOneUnlessStopped, TextBuilt}
+use Rattle.kit_tools.specs.Carrying.{IsCut}
 use Rattle.kit_core.specs.Headline.{IsPlayedInto, PlayStands}
 use Rattle.kit_core.specs.Outcome.{putting, IsOutcome}
 use Rattle.kit_tools.proofs.Cutting.{in_first, in_second, not_begun}
 use Rattle.kit_core.specs.Generating.{front_of}
 use Rattle.kit_core.proofs.Behind.{plain_ends}
 use Rattle.kit_core.proofs.Headlines.{done_at_three}
-use Rattle.kit_core.proofs.PlayedFiles.{cart_there, map_there}
+use Rattle.kit_core.proofs.Holdings.{PlayApart, play_apart, play_files}
+use Rattle.kit_core.proofs.Meanings.{run_meant, settings_card}
 use Rattle.kit_core.proofs.Projects.{Left, WasRead, left_cut, left_done}
-use Rattle.build_core.specs.Reached.{IsReadToBuild}
-use Rattle.kit_tools.proofs.Stages.{fails_wider}
-
--- ---- why there is no run
-
-one_weaker : (P Q : DueRefusal → Type 0) → ((r : DueRefusal) → P r → Q r) → (e : Refusal) → IsOneUnlessStopped P e → IsOneUnlessStopped Q e
-one_weaker P Q f (refusals.Due r) h = f r h
-one_weaker P Q f (refusals.Failed n) h = tt
-one_weaker P Q f refusals.Memory h = tt
-
--- a part that was read so
-one_given : {X Y : Type 0} (view : X → Y) (d : Result Y Refusal) (P : DueRefusal → Type 0) → ((r : DueRefusal) → d ≡ Err (refusals.Due r) → P r) → (e : Refusal)
-    → GivesBy view (Err e) d → IsOneUnlessStopped P e
-one_given view d P f (refusals.Due r) h = f r h
-one_given view d P f (refusals.Failed n) h = tt
-one_given view d P f refusals.Memory h = tt
 
 module _ (project text map_name : List ℕ) (words : RunWords) where
-  abbrev pub MayRefuse : Refusal → Option Held → Type 0
-  MayRefuse e held = IfSome held (λ m. IsOneUnlessStopped (λ r. IsUnplayed project text words m r) e)
-
-  pub unbuilt_told : (e : Refusal) (held : Option Held) → IfSome held (λ m. TextBuilt project text m (Err e)) → MayRefuse e held
-  unbuilt_told e None h = tt
-  unbuilt_told e (Some m) h = one_weaker (λ r. (e' : BuildErr) × IsUnbuilt m text e' × (unbuilt project e' ≡ refusals.Due r)) (λ r. IsUnplayed project text words m r) (λ r x. not_built x.0 x.1 x.2) e h
-
-  pub unset_told : (e : Refusal) (b : Built) (h1 h2 : Option Held) → h2 ≡ h1 → IfSome h1 (λ m. IsBuilt m text b)
-      → IfSome h2 (λ m. GivesBy settings_of (Err e) (settings_due words m)) → MayRefuse e h1
-  unset_told e b None h2 same built h = tt
-  unset_told e b (Some m) h2 same built h =
-      one_given settings_of (settings_due words m) (λ r. IsUnplayed project text words m r) (λ r x. not_set b built x) e (subst (λ o. IfSome o (λ k. GivesBy settings_of (Err e) (settings_due words k))) same h)
-
-  -- a call that failed was at a file of the build, or at one of the run
-  abbrev pub MayFail : Refusal → Option Held → Type 0
-  MayFail e held = IfSome held (λ m. FailsIn (IsReadToPlay words m text) e)
-
-  pub unbuilt_reached : (e : Refusal) (held : Option Held) → IfSome held (λ m. FailsIn (IsReadToBuild m text) e) → MayFail e held
-  unbuilt_reached e None h = tt
-  unbuilt_reached e (Some m) h = fails_wider _ _ e (λ n r. reads_build r) h
-
-  pub unset_reached : (e : Refusal) (b : Built) (h1 h2 : Option Held) → h2 ≡ h1 → IfSome h1 (λ m. IsBuilt m text b) → IfSome h2 (λ m. FailsIn (IsReadToSet words m) e) → MayFail e h1
-  unset_reached e b None h2 same built h = tt
-  unset_reached e b (Some m) h2 same built h =
-      fails_wider _ _ e (λ n r. reads_set b built r) (subst (λ o. IfSome o (λ k. FailsIn (IsReadToSet words k) e)) same h)
-
-  pub memory_told : (held : Option Held) → MayRefuse refusals.Memory held × MayFail refusals.Memory held
-  memory_told None = (tt, tt)
-  memory_told (Some m) = (tt, tt)
-
-  -- ---- the play
-
   abbrev pub Told : Option Held → LoadedSettings → Type 0
   Told held s = IfSome held (λ m. settings_due words m ≡ Ok (settings_of s))
 
@@ -138,36 +89,38 @@ module _ (map_name : List ℕ) (words : RunWords) (b : Built) (game : Game) wher
 
 -- ---- what the statuses 0 and 3 say
 
-played_into : (project map_name : List ℕ) (words : RunWords) (m : Held) (status : ℕ) (after : Option Held) (before put : Option (List ℕ)) (w : Work) (r : Result (List ℕ) FileErr)
-    → are_apart map_name words ≡ true → due m project ≡ r → read_play_due project map_name words m r (Ok w) → after ≡ all_done w.effects (Some m) → put ≡ putting w.text before → status ≡ w.status
-    → IsPlayedInto project map_name words m status after before put
-played_into project map_name words m status after before put w (Ok text) apart read d e p s =
-    let stands : after ≡ all_done (play_effects map_name words d.built (game_with d.cart d.settings)) (Some m) = e ∙ ap (λ (v : Work). all_done v.effects (Some m)) (sym d.work_is) in
-    record {
-      text = text;
-      built = d.built;
-      project_is = read;
-      is_built = d.is_built;
-      cart = d.cart;
-      cart_is = d.cart_is;
-      settings = d.settings;
-      settings_are = d.settings_are;
-      outputs = stands;
-      cart_stands = cart_there m map_name words d.built (game_with d.cart d.settings) after apart stands;
-      map_stands = map_there m map_name words d.built (game_with d.cart d.settings) after apart stands;
-      status_is = s ∙ ap (λ (v : Work). v.status) (sym d.work_is);
-      told = p ∙ ap (λ (v : Work). putting v.text before) (sym d.work_is);
-    }
-played_into project map_name words m status after before put w (Err f) apart read d e p s = absurd cc
+module _ (does : PlayedRunsAreTheSources) (comes : PlayedRunsComeToAll) where
+  played_into : (project map_name : List ℕ) (words : RunWords) (m : Held) (status : ℕ) (after : Option Held) (before put : Option (List ℕ)) (w : Work) (r : Result (List ℕ) FileErr)
+      → PlayApart map_name words → due m project ≡ r → read_play_due project map_name words m r (Ok w) → after ≡ all_done w.effects (Some m) → put ≡ putting w.text before → status ≡ w.status
+      → IsPlayedInto project map_name words m status after before put
+  played_into project map_name words m status after before put w (Ok text) apart read d e p s =
+      let stands : after ≡ all_done (play_effects map_name words d.built (game_with d.cart d.settings)) (Some m) = e ∙ ap (λ (v : Work). all_done v.effects (Some m)) (sym d.work_is) in
+      record {
+        text = text;
+        built = d.built;
+        project_is = read;
+        is_built = d.is_built;
+        cart = d.cart;
+        cart_is = d.cart_is;
+        settings = d.settings;
+        settings_are = d.settings_are;
+        outputs = stands;
+        files = play_files map_name words d.built (game_with d.cart d.settings) m apart after stands;
+        run = run_meant does comes m text d.built d.is_built d.cart d.cart_is d.settings.script d.settings.card (settings_card 3600 words.pads words.card words.count m d.settings d.settings_are) d.settings.count;
+        status_is = s ∙ ap (λ (v : Work). v.status) (sym d.work_is);
+        told = p ∙ ap (λ (v : Work). putting v.text before) (sym d.work_is);
+      }
+  played_into project map_name words m status after before put w (Err f) apart read d e p s = absurd cc
 
-play_stands : (words : List (List ℕ)) (m : Held) (status : ℕ) (after : Option Held) (before put : Option (List ℕ))
-    → IsOutcome words m status after before put → (status ≡ 0) ⊎ (status ≡ 3) → PlayStands words m status after before put
-play_stands words m status after before put outcome z = λ project map_name run named.
-    let done = done_at_three _ _ m status after before put (plain_ends (command_of words) m status after before put (ap front_of named) outcome) z in
-    let is_due : play_due project map_name run m (Ok done.0) = subst (λ o. form_due o m (Ok done.0)) named done.1 in
-    played_into project map_name run m status after before put done.0 (due m project) (play_differ words project map_name run named) refl is_due done.2 done.3 done.4
+  play_stands : (words : List (List ℕ)) (m : Held) (status : ℕ) (after : Option Held) (before put : Option (List ℕ))
+      → IsOutcome words m status after before put → (status ≡ 0) ⊎ (status ≡ 3) → PlayStands words m status after before put
+  play_stands words m status after before put outcome z = λ project map_name run named.
+      let done = done_at_three _ _ m status after before put (plain_ends (command_of words) m status after before put (ap front_of named) outcome) z in
+      let is_due : play_due project map_name run m (Ok done.0) = subst (λ o. form_due o m (Ok done.0)) named done.1 in
+      let apart = play_apart map_name run (created_differ words (Play project map_name run) named) in
+      played_into project map_name run m status after before put done.0 (due m project) apart refl is_due done.2 done.3 done.4
 
-pub play_told : (words : List (List ℕ)) (status : ℕ) (told after : Option Held) (before put : Option (List ℕ))
-    → IfSome told (λ m. IsOutcome words m status after before put) → IfSome told (λ m. (status ≡ 0) ⊎ (status ≡ 3) → PlayStands words m status after before put)
-play_told words status None after before put outcome = tt
-play_told words status (Some m) after before put outcome = play_stands words m status after before put outcome
+  pub play_told : (words : List (List ℕ)) (status : ℕ) (told after : Option Held) (before put : Option (List ℕ))
+      → IfSome told (λ m. IsOutcome words m status after before put) → IfSome told (λ m. (status ≡ 0) ⊎ (status ≡ 3) → PlayStands words m status after before put)
+  play_told words status None after before put outcome = tt
+  play_told words status (Some m) after before put outcome = play_stands words m status after before put outcome

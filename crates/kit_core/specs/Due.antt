@@ -13,23 +13,28 @@ use Rattle.build_core.specs.Build.{HasNoParts, IsBuilt, IsUnbuilt}
 use Rattle.build_core.specs.Checked.{IsAccepted, IsRejected}
 use Rattle.build_core.specs.Reached.{IsReadToBuild, IsReadToCheck}
 use Rattle.c_types.specs.Programs.{ProgramT}
+use Rattle.c_image.specs.Imaging.{frame_sizes}
 use Rattle.project_text.specs.MapText.{map_text}
 use Rattle.kit_tools.specs.declared.refusal.DueRefusal.{DueRefusal}
 use Rattle.kit_tools.specs.declared.refusal.DueRefusal.TheVariants as dues
 use Rattle.kit_tools.specs.declared.refusal.Refusal.{Refusal}
 use Rattle.kit_tools.specs.declared.refusal.Refusal.TheVariants as refusals
-use Rattle.kit_words.specs.Command.{Command, RunWords, Build, Convert, Trace, Run, Play, Check, Gen, command_of}
+use Rattle.kit_words.specs.Command.{Command, RunWords, WatchWords, Build, Convert, Trace, Run, Play, Watch, Check, Gen, command_of}
 use Rattle.kit_tools.specs.Inputs.{unread}
 use Rattle.kit_tools.specs.Work.{Work, accepted, as_due}
 use Rattle.kit_tools.specs.Converting.{convert_due}
 use Rattle.kit_tools.specs.Tracing.{IsReadToTrace, trace_due}
 use Rattle.kit_tools.specs.Running.{Game, Settings, end_status, game_end, game_with, names_in, run_due, settings_due, IsReadToRun, IsReadToSet}
+use Rattle.kit_tools.specs.Watching.{watch_line, watch_settings_due, IsReadToSetWatch}
+use Rattle.kit_tools.specs.declared.verdict.Verdict.{Verdict}
 use Rattle.run_core.specs.Ending.{end_text}
 use Rattle.run_core.specs.Outputs.{run_outputs}
 use Rattle.plain_run.specs.Plain.{color_after, plain_setup}
 use Rattle.gen_source.specs.Source.{project_text}
 use Rattle.gen_source.specs.Summary.{summary_text}
 use Rattle.kit_core.specs.Generating.{functions_due, most_frames}
+use Rattle.kit_core.specs.Meaning.{console_of}
+use Rattle.kit_core.specs.Watching.{verdict_at, watched_in}
 
 -- The refusal of a build. A fault in a line is one of the project's text, which goes by the name
 -- that the words give it.
@@ -87,9 +92,12 @@ pub record IsPlay (text map_name : List ℕ) (words : RunWords) (held : Held) (w
   pub work_is : play_work map_name words built (game_with cart settings) ≡ work
 
 -- Nothing is built of the project; or the pads file, the card or the number of frames is refused after a build.
-pub data IsUnplayed (project text : List ℕ) (words : RunWords) (held : Held) (refusal : DueRefusal) : Type 0 where
-  not_built : (e : BuildErr) → IsUnbuilt held text e → unbuilt project e ≡ refusals.Due refusal → IsUnplayed project text words held refusal
-  not_set : (b : Built) → IsBuilt held text b → settings_due words held ≡ Err (refusals.Due refusal) → IsUnplayed project text words held refusal
+pub data IsUnset (project text : List ℕ) (due_settings : Held → Result Settings Refusal) (held : Held) (refusal : DueRefusal) : Type 0 where
+  not_built : (e : BuildErr) → IsUnbuilt held text e → unbuilt project e ≡ refusals.Due refusal → IsUnset project text due_settings held refusal
+  not_set : (b : Built) → IsBuilt held text b → due_settings held ≡ Err (refusals.Due refusal) → IsUnset project text due_settings held refusal
+
+abbrev pub IsUnplayed : (project text : List ℕ) → RunWords → Held → DueRefusal → Type 0
+IsUnplayed project text words held refusal = IsUnset project text (settings_due words) held refusal
 
 abbrev pub text_play_due : (project text map_name : List ℕ) → RunWords → Held → Result Work DueRefusal → Type 0
 text_play_due project text map_name words held (Ok work) = IsPlay text map_name words held work
@@ -106,6 +114,38 @@ play_due project map_name words held d = read_play_due project map_name words he
 -- the input of a play is refused: that of its build, the pads file, the card or the number of frames
 abbrev pub play_refused : (project : List ℕ) → RunWords → Held → DueRefusal → Type 0
 play_refused project words held refusal = read_build_refused project held (due held project) refusal ⊎ (settings_due words held ≡ Err (refusals.Due refusal))
+
+-- the outputs of what was built, and the line of a verdict
+abbrev pub watch_work : WatchWords → Built → Verdict → Work
+watch_work words built verdict = record { effects = outputs_of words.cart words.map_name built; text = watch_line verdict; status = 0 }
+
+-- What was built of the project's text, the cartridge that its bytes are, and what is run beside it. The line is that of the verdict on the project's
+-- source, with the frames of its map, under the answers that the run of this cartridge got.
+pub record IsWatch (text : List ℕ) (words : WatchWords) (held : Held) (work : Work) : Type 0 where
+  pub built : Built
+  pub is_built : IsBuilt held text built
+  pub cart : Cartridge
+  pub cart_is : cart_of built.cart ≡ Ok cart
+  pub settings : Settings
+  pub settings_are : watch_settings_due words held ≡ Ok settings
+  pub work_is : watch_work words built (verdict_at is_built.of.parsed.places (watched_in is_built.of.program (frame_sizes built.map) (console_of cart settings) settings.count)) ≡ work
+
+abbrev pub text_watch_due : (text : List ℕ) → WatchWords → Held → Result Work DueRefusal → Type 0
+text_watch_due text words held (Ok work) = IsWatch text words held work
+text_watch_due text words held (Err refusal) = IsUnset words.project text (watch_settings_due words) held refusal
+
+abbrev pub read_watch_due : WatchWords → Held → Result (List ℕ) FileErr → Result Work DueRefusal → Type 0
+read_watch_due words held (Ok text) d = text_watch_due text words held d
+read_watch_due words held (Err e) d = Err (unread words.project e) ≡ as_due d
+
+-- The project is built, then what is run beside its cartridge is read.
+abbrev pub watch_due : WatchWords → Held → Result Work DueRefusal → Type 0
+watch_due words held d = read_watch_due words held (due held words.project) d
+
+-- the input of a watch is refused: that of its build, the pads file, the card or the number of frames
+abbrev pub watch_refused : WatchWords → Held → DueRefusal → Type 0
+watch_refused words held refusal =
+    read_build_refused words.project held (due held words.project) refusal ⊎ (watch_settings_due words held ≡ Err (refusals.Due refusal))
 
 -- what the check of a project's text is due: `ok` where its source has a program, else why it has none
 abbrev pub text_check_due : (project text : List ℕ) → Held → Result Work DueRefusal → Type 0
@@ -146,13 +186,14 @@ number_gen_due (Err refusal) project cart map_name held d = Err refusal ≡ d
 abbrev pub gen_due : (number project cart map_name : List ℕ) → Held → Result Work DueRefusal → Type 0
 gen_due number project cart map_name held d = number_gen_due (functions_due number) project cart map_name held d
 
--- What a command is due among the files that are held, its front done: one work or refusal, but for a build, a play, a check and `gen`.
+-- What a command is due among the files that are held, its front done: one work or refusal, but for a build, a play, a watch, a check and `gen`.
 abbrev pub work_due : Command → Held → Result Work DueRefusal → Type 0
 work_due (Build project cart map_name) held d = build_due project cart map_name held d
 work_due (Convert conversion source target) held d = convert_due conversion source target held ≡ as_due d
 work_due (Trace cart answers card steps) held d = trace_due cart answers card steps held ≡ as_due d
 work_due (Run words) held d = run_due words held ≡ as_due d
 work_due (Play project map_name words) held d = play_due project map_name words held d
+work_due (Watch words) held d = watch_due words held d
 work_due (Check project) held d = check_due project held d
 work_due (Gen number project cart map_name) held d = gen_due number project cart map_name held d
 
@@ -164,11 +205,12 @@ form_due (Some command) held d = work_due command held d
 abbrev pub command_due : List (List ℕ) → Held → Result Work DueRefusal → Type 0
 command_due words held d = form_due (command_of words) held d
 
--- The words are no command, or its input is refused. The cartridge of a build or a play is no input of it: whether it is too large is known only of
--- what was built. The input of `gen` is its number.
+-- The words are no command, or its input is refused. The cartridge of a build, a play or a watch is no input of it: whether it is too large is known
+-- only of what was built. The input of `gen` is its number.
 abbrev pub form_refused : Option Command → Held → DueRefusal → Type 0
 form_refused (Some (Build project cart map_name)) held refusal = read_build_refused project held (due held project) refusal
 form_refused (Some (Play project map_name words)) held refusal = play_refused project words held refusal
+form_refused (Some (Watch words)) held refusal = watch_refused words held refusal
 form_refused (Some (Gen number project cart map_name)) held refusal = functions_due number ≡ Err refusal
 form_refused c held refusal = form_due c held (Err refusal)
 
@@ -180,16 +222,25 @@ abbrev pub project_reads : (AreRead : (text name : List ℕ) → Type 0) → (pr
 project_reads AreRead project (Ok text) name = (name ≡ project) ⊎ AreRead text name
 project_reads AreRead project (Err e) name = name ≡ project
 
--- a play reads what is run beside its cartridge once it is built
-pub data IsReadToPlay (words : RunWords) (held : Held) (text name : List ℕ) : Type 0 where
-  reads_build : IsReadToBuild held text name → IsReadToPlay words held text name
-  reads_set : (b : Built) → IsBuilt held text b → IsReadToSet words held name → IsReadToPlay words held text name
+-- what is run beside a cartridge is read once it is built
+pub data IsReadSet (IsReadBeside : Held → (name : List ℕ) → Type 0) (held : Held) (text name : List ℕ) : Type 0 where
+  reads_build : IsReadToBuild held text name → IsReadSet IsReadBeside held text name
+  reads_set : (b : Built) → IsBuilt held text b → IsReadBeside held name → IsReadSet IsReadBeside held text name
+
+abbrev pub IsReadToPlay : RunWords → Held → (text name : List ℕ) → Type 0
+IsReadToPlay words held text name = IsReadSet (IsReadToSet words) held text name
+
+abbrev pub IsReadToWatch : WatchWords → Held → (text name : List ℕ) → Type 0
+IsReadToWatch words held text name = IsReadSet (IsReadToSetWatch words) held text name
 
 abbrev pub build_reads : (project : List ℕ) → Held → (name : List ℕ) → Type 0
 build_reads project held name = project_reads (IsReadToBuild held) project (due held project) name
 
 abbrev pub play_reads : (project : List ℕ) → RunWords → Held → (name : List ℕ) → Type 0
 play_reads project words held name = project_reads (IsReadToPlay words held) project (due held project) name
+
+abbrev pub watch_reads : WatchWords → Held → (name : List ℕ) → Type 0
+watch_reads words held name = project_reads (IsReadToWatch words held) words.project (due held words.project) name
 
 abbrev pub check_reads : (project : List ℕ) → Held → (name : List ℕ) → Type 0
 check_reads project held name = project_reads (IsReadToCheck held) project (due held project) name
@@ -202,6 +253,7 @@ command_reads (Some (Convert conversion source target)) held name = Contains (so
 command_reads (Some (Trace cart answers card steps)) held name = IsReadToTrace cart answers card held name
 command_reads (Some (Run words)) held name = IsReadToRun words held name
 command_reads (Some (Play project map_name words)) held name = play_reads project words held name
+command_reads (Some (Watch words)) held name = watch_reads words held name
 command_reads (Some (Check project)) held name = check_reads project held name
 command_reads (Some (Gen number project cart map_name)) held name = IsReadToBuild held project_text name
 

@@ -14,6 +14,8 @@ use Rattle.gen_source.specs.Summary.{summary_text}
 use Rattle.plain_run.specs.Plain.{color_after, plain_setup}
 use Rattle.kit_core.specs.Due.{outputs_of, play_effects}
 use Rattle.kit_core.specs.Generating.{functions_due, most_frames, sources_of}
+use Rattle.kit_core.specs.Holding.{PlayFilesStand}
+use Rattle.kit_core.specs.Meaning.{RunIsMeant, console_of}
 use Rattle.kit_tools.specs.Running.{Settings, end_status, game_end, game_with, settings_due}
 use Rattle.run_core.specs.Ending.{end_text}
 use Rattle.cart_format.specs.Cartridge.{Cartridge}
@@ -36,9 +38,9 @@ abbrev pub BuildStands : List (List ℕ) → Held → Option Held → Type 0
 BuildStands words held after =
     (project cart map_name : List ℕ) → command_of words ≡ Some (Build project cart map_name) → IsBuiltInto project cart map_name held after
 
--- The project was held. The files have its cartridge and its map, and the drawing, the sound and the card of the console's run on the cartridge that
--- those bytes are, with that script and that card; every other file is as before. The status is 3 exactly where the run ended by a fault or at an
--- undecodable word, and the line of that was put.
+-- The project was held, and this was built of it. The files hold its cartridge and its map, and the bytes of the frames, of the sound and of the card
+-- of the console's run on the cartridge that those bytes are, with that script and that card; every other file is as before. That run is what the
+-- project's source means. The status is 3 exactly where it ended by a fault or at an undecodable word, and the line of that was put.
 pub record IsPlayedInto (project map_name : List ℕ) (words : RunWords) (held : Held) (status : ℕ) (after : Option Held) (before put : Option (List ℕ)) : Type 0 where
   pub text : List ℕ
   pub built : Built
@@ -49,8 +51,8 @@ pub record IsPlayedInto (project map_name : List ℕ) (words : RunWords) (held :
   pub settings : Settings
   pub settings_are : settings_due words held ≡ Ok settings
   pub outputs : after ≡ all_done (play_effects map_name words built (game_with cart settings)) (Some held)
-  pub cart_stands : IsSomeAnd after (λ files. get files words.cart ≡ Some built.cart)
-  pub map_stands : IsSomeAnd after (λ files. get files map_name ≡ Some (map_text built.map))
+  pub files : IsSomeAnd after (λ files. PlayFilesStand map_name words built (game_with cart settings) held files)
+  pub run : RunIsMeant held text built is_built (console_of cart settings) settings.count
   pub status_is : status ≡ end_status (game_end (game_with cart settings))
   pub told : put ≡ option_map (λ bytes. bytes ++ end_text (game_with cart settings).lines (game_end (game_with cart settings))) before
 
@@ -60,8 +62,8 @@ PlayStands words held status after before put =
     (project map_name : List ℕ) (run : RunWords) → command_of words ≡ Some (Play project map_name run) → IsPlayedInto project map_name run held status after before put
 
 -- The number is in its range. The project's file has the project's text, and `gen.c` the source of so many functions; the files `cart` and `map_name` have
--- the cartridge and the map of what was built of these; every other file is as before. The line has how many functions and tokens there are, and
--- the clear colour at the end of a run of that cartridge of at most 60 frames.
+-- the cartridge and the map of what was built of these; every other file is as before. A run of that cartridge of at most 60 frames is what the source
+-- means, and the line has how many functions and tokens there are, and the clear colour at the end of that run.
 pub record IsGeneratedInto (number project cart map_name : List ℕ) (held : Held) (after : Option Held) (before put : Option (List ℕ)) : Type 0 where
   pub functions : ℕ
   pub functions_are : functions_due number ≡ Ok functions
@@ -76,6 +78,7 @@ pub record IsGeneratedInto (number project cart map_name : List ℕ) (held : Hel
   pub source_stands : IsSomeAnd after (λ files. get files source_name ≡ Some (source_text functions))
   pub cart_stands : IsSomeAnd after (λ files. get files cart ≡ Some built.cart)
   pub map_stands : IsSomeAnd after (λ files. get files map_name ≡ Some (map_text built.map))
+  pub run : RunIsMeant made project_text built is_built (plain_setup cartridge) most_frames
   pub told : put ≡ option_map (λ bytes. bytes ++ summary_text functions built.tokens (color_after (plain_setup cartridge) most_frames)) before
 
 -- where the words are a `gen`, it was carried out

@@ -1,4 +1,5 @@
 pub mod Generating
+pub mod Watching
 pub mod Due
 pub mod Limits
 pub mod Causes
@@ -10,4 +11,7 @@ pub mod Playing
 pub mod Fronts
 pub mod Headline
 pub mod Holding
+pub mod Leaving
 pub mod Meaning
+pub mod Watched
+pub mod Following

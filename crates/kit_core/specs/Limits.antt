@@ -4,11 +4,12 @@ use Rattle.kit_base.specs.Held.{Held}
 use Rattle.kit_base.specs.Outside.{due}
 use Rattle.build_core.specs.Causes.{CanBeTooLarge}
 use Rattle.kit_words.specs.declared.conversion.Conversion.{Conversion}
-use Rattle.kit_words.specs.Command.{RunWords, Build, Convert, Trace, Run, Play, Gen, command_of}
+use Rattle.kit_words.specs.Command.{RunWords, WatchWords, Build, Convert, Trace, Run, Play, Watch, Gen, command_of}
 use Rattle.kit_words.specs.Forms.{functions_role, in_range}
 use Rattle.gen_source.specs.Source.{project_text}
 use Rattle.kit_words.specs.Number.{number_of}
 use Rattle.kit_tools.specs.Running.{is_count}
+use Rattle.kit_tools.specs.Watching.{is_watch_count}
 use Rattle.kit_tools.specs.Converting.{ConvertsLong}
 
 -- the words are such a migration
@@ -56,6 +57,12 @@ pub record PlaysOver (words : List (List ℕ)) (held : Option Held) : Type 0 whe
   pub named : command_of words ≡ Some (Play project map_name run)
   pub over : IsLarge project held ⊎ (is_count (number_of run.count) ≡ false)
 
+-- likewise a watch
+pub record WatchesOver (words : List (List ℕ)) (held : Option Held) : Type 0 where
+  pub watch : WatchWords
+  pub named : command_of words ≡ Some (Watch watch)
+  pub over : IsLarge watch.project held ⊎ (is_watch_count (number_of watch.count) ≡ false)
+
 -- a number of functions out of its range, or the cartridge of what is made up can be too large
 abbrev pub IsGenOver : List ℕ → Type 0
 IsGenOver number = (in_range functions_role (number_of number) ≡ false) ⊎ CanBeTooLarge project_text
@@ -70,4 +77,4 @@ pub record GeneratesOver (words : List (List ℕ)) : Type 0 where
   pub over : IsGenOver number
 
 abbrev pub IsOver : List (List ℕ) → Option Held → Type 0
-IsOver words held = MigratesLong words held ⊎ (BuildsLarge words held ⊎ (TracesTooFar words ⊎ (RunsOutOfRange words ⊎ (PlaysOver words held ⊎ GeneratesOver words))))
+IsOver words held = MigratesLong words held ⊎ (BuildsLarge words held ⊎ (TracesTooFar words ⊎ (RunsOutOfRange words ⊎ (PlaysOver words held ⊎ (WatchesOver words held ⊎ GeneratesOver words)))))

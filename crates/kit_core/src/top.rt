@@ -1,8 +1,7 @@
 // The top call.
 ghost use Rattle.std.specs.Prelude.{◌≡◌, ◌≢◌, ◌≤◌, ◌⊎◌, ◌++◌, ℕ, List, IfSome, None, Err};
 ghost use Rattle.kit_base.specs.Counts.{Rose};
-ghost use Rattle.kit_base.specs.Outside.{HasSinkCause};
-ghost use Rattle.trace_core.specs.Putting.{PutsText, trace_text};
+ghost use Rattle.trace_core.specs.Putting.{trace_text};
 ghost use Rattle.run_core.specs.Ending.{end_text};
 ghost use Rattle.kit_tools.specs.Carrying.{shown_status, text_of};
 ghost use Rattle.kit_core.specs.Putting.{Puts, Shows};
@@ -14,8 +13,9 @@ ghost use Rattle.kit_core.specs.Causes.{HasReasons, IsUsage};
 ghost use Rattle.kit_core.specs.Due.{command_refused};
 ghost use Rattle.kit_core.specs.Fronts.{Carries};
 ghost use Rattle.kit_core.specs.Headline.{BuildStands, GenStands, PlayStands};
-ghost use Rattle.kit_core.specs.Holding.{FilesHold, RunFrontsStand};
-ghost use Rattle.kit_core.specs.Meaning.{PlayIsMeant};
+ghost use Rattle.kit_core.specs.Holding.{FilesHold};
+ghost use Rattle.kit_core.specs.Leaving.{LeavesFronts};
+ghost use Rattle.kit_core.specs.Watched.{WatchStands};
 ghost use Rattle.kit_core.specs.Limits.{IsOver};
 ghost use Rattle.kit_core.specs.Lines.{IsPut, PutsSource};
 ghost use Rattle.kit_core.specs.Outcome.{HasDueStatus, IsOutcome};
@@ -23,23 +23,26 @@ ghost use Rattle.kit_tools.specs.declared.refusal.DueRefusal.{DueRefusal};
 ghost use Rattle.kit_tools.specs.Refusal.{IsStatus, line_of, status_of};
 ghost use Rattle.kit_tools.specs.Running.{RunStands, end_status};
 ghost use Rattle.kit_tools.specs.Tracing.{TraceStands};
+ghost use Rattle.kit_tools.specs.Watching.{watch_line};
 
 use crate::building::build_command;
 use crate::checking::check_command;
 use crate::generating::gen_command;
 use crate::playing::play_command;
+use crate::watching::watch_command;
 use build_core::builds_are_due_or_refused;
 use gen_source::summary_end;
 use kit_base::{Files, Sink, SinkErr};
 use kit_tools::{
-    DueRefusal, Refusal, Shown, convert_command, line_of, run_command, status_of, trace_command,
+    DueRefusal, Refusal, Shown, Verdict, convert_command, line_of, put_both, put_verdict,
+    run_command, status_of, trace_command,
 };
 use kit_words::{Command, command_of};
-use play_laws::played_runs_are_the_sources;
+use play_laws::{kept_runs_are_the_sources, played_runs_are_the_sources};
 use run_core::Ending;
 use std::alloc::Global;
 use trace_core::Trace;
-use v32_console::FrameEnd;
+use v32_console::{FrameEnd, runs_are_of_instructions};
 
 const OUT_OF_MEMORY: &[u8] = b"out of memory\n";
 
@@ -116,20 +119,17 @@ fn put_end<S: Sink>(out: &mut S, ending: &Ending, end: FrameEnd) -> u8
     }
 }
 
-fn put_piece<S: Sink>(out: &mut S, piece: &[u8]) -> Result<(), SinkErr>
-    ensures puts { PutsText piece.now result (S.written out.old) (S.written out.new) }
-    ensures faults { HasSinkCause (S.faults out.old) (S.faults out.new) result }
+/// Puts the line of a verdict.
+fn put_watched<S: Sink>(out: &mut S, verdict: &Verdict) -> u8
+    ensures shows { Shows 0 (watch_line verdict.now) result (S.written out.old) (S.written out.new) }
+    ensures unput { result ≡ 9 → Rose (S.faults out.old) (S.faults out.new) }
+    ensures later { S.faults out.old ≤ S.faults out.new }
 {
-    out.put(piece)
-}
-
-/// Puts one piece, then another.
-fn put_both<S: Sink>(out: &mut S, first: &[u8], second: &[u8]) -> Result<(), SinkErr>
-    ensures puts { PutsText (first.now ++ second.now) result (S.written out.old) (S.written out.new) }
-    ensures faults { HasSinkCause (S.faults out.old) (S.faults out.new) result }
-{
-    put_piece(out, first)?;
-    put_piece(out, second)
+    match put_verdict(out, verdict) {
+        Ok(()) => 0,
+        Err(SinkErr::Failed) => 9,
+        Err(SinkErr::Memory) => put_last(out, OUT_OF_MEMORY, 8),
+    }
 }
 
 /// Puts a line that ends with the eight digits of a word.
@@ -157,6 +157,7 @@ fn finish<S: Sink>(out: &mut S, shown: Shown) -> u8
         Shown::Accepted => put_accepted(out),
         Shown::Run(trace) => put_trace(out, trace),
         Shown::Ended(ending, end) => put_end(out, &ending, end),
+        Shown::Watched(verdict) => put_watched(out, &verdict),
         Shown::Word(front, word) => put_word(out, &front, word),
     }
 }
@@ -195,6 +196,7 @@ fn carry_out<F: Files>(alloc: Global, words: &[String], files: &mut F) -> Result
                 words,
             },
         ) => play_command(alloc, files, project, map, &words),
+        Some(Command::Watch(words)) => watch_command(alloc, files, &words),
         Some(Command::Check { project }) => check_command(alloc, files, project),
         Some(
             Command::Gen {
@@ -243,15 +245,18 @@ pub fn kit<F: Files, S: Sink>(alloc: Global, words: &[String], files: &mut F, ou
     ensures traces { IfSome (F.held files.old) (λ m. result ≡ 0 → TraceStands (texts words.now) m (F.held files.new) (S.written out.old) (S.written out.new)) }
     // At 0 and 3 the outputs of a run are those of the console's run, and the line of its fault was put.
     ensures runs { IfSome (F.held files.old) (λ m. (result ≡ 0) ⊎ (result ≡ 3) → RunStands (texts words.now) m result (F.held files.new) (S.written out.old) (S.written out.new)) }
-    // At 0 and 3 the outputs of a play are what was built and the outputs of its run.
+    // At 0 and 3 the files of a play hold what was built and the bytes of its frames, of its sound and of its card; its console's run is what the source
+    // of what was built means, and the line of its fault was put.
     ensures plays { IfSome (F.held files.old) (λ m. (result ≡ 0) ⊎ (result ≡ 3) → PlayStands (texts words.now) m result (F.held files.new) (S.written out.old) (S.written out.new)) }
-    // At 0 and 3 the files of a run, and of a play, hold the bytes of its frames, of its sound and of its card.
+    // At 0 and 3 the files of a run hold the bytes of its frames, of its sound and of its card.
     ensures holds { IfSome (F.held files.old) (λ m. (result ≡ 0) ⊎ (result ≡ 3) → FilesHold (texts words.now) m (F.held files.new)) }
-    // At 0 and 3 what the console of a play does is what its project's source means, under the answers of its devices.
-    ensures means { IfSome (F.held files.old) (λ m. (result ≡ 0) ⊎ (result ≡ 3) → PlayIsMeant (texts words.now) m) }
-    // At any status each file of a run is as before or holds a front of its bytes.
-    ensures fronts { IfSome (F.held files.old) (λ m. RunFrontsStand (texts words.now) m (F.held files.new)) }
-    // At 0 the files of a `gen` are the project and the source that are made up and what was built of them, and its line was put.
+    // At 0 the outputs of a watch are what was built, and the line of its verdict was put, which tells exactly whether the source strays, or lacks room for
+    // a frame, before the run is over.
+    ensures watches { IfSome (F.held files.old) (λ m. result ≡ 0 → WatchStands (texts words.now) m (F.held files.new) (S.written out.old) (S.written out.new)) }
+    // At any status each file that a command creates is as before or holds a front of its bytes, and every other file is as before.
+    ensures fronts { IfSome (F.held files.old) (λ m. LeavesFronts (texts words.now) m (F.held files.new)) }
+    // At 0 the files of a `gen` are the project and the source that are made up and what was built of them; its run is what that source means, and its
+    // line was put.
     ensures generates { IfSome (F.held files.old) (λ m. result ≡ 0 → GenStands (texts words.now) m (F.held files.new) (S.written out.old) (S.written out.new)) }
     // A command whose words or input are refused changes no file, whatever its status.
     ensures untouched { IfSome (F.held files.old) (λ m. (e : DueRefusal) → command_refused (texts words.now) m e → F.held files.new ≡ F.held files.old) }
@@ -277,5 +282,7 @@ pub fn kit<F: Files, S: Sink>(alloc: Global, words: &[String], files: &mut F, ou
 {
     builds_are_due_or_refused();
     played_runs_are_the_sources();
+    kept_runs_are_the_sources();
+    runs_are_of_instructions();
     status_for(alloc, words, files, out)
 }

@@ -10,7 +10,7 @@ use Rattle.kit_tools.specs.declared.refusal.Refusal.TheVariants as refusals
 use Rattle.kit_tools.specs.Causes.{IsOwn}
 use Rattle.kit_tools.specs.Inputs.{cart_due, answers_due}
 use Rattle.kit_tools.specs.Tracing.{IsReadToTrace, reads_cart, reads_answers, reads_card, card_names}
-use Rattle.kit_tools.specs.Running.{IsReadToRun, IsReadToSet, pads_due}
+use Rattle.kit_tools.specs.Running.{IsReadToSetBy, IsReadToRun, pads_due}
 use Rattle.kit_tools.specs.Running as runs
 use Rattle.kit_tools.specs.Carrying.{FailsAt, FailsIn}
 use Rattle.kit_tools.proofs.Stages.{fails_only, fails_wider}
@@ -53,26 +53,28 @@ module _ (cart answers : List ℕ) (card : Option (List ℕ)) where
   at_card value list e None later read same answered h = tt
   at_card value list e (Some m) later read same answered h = fails_wider _ _ e (λ n c. reads_card value list read (subst (AnswersAre list) same answered) c) h
 
--- the order of a run
-module _ (words : RunWords) where
+-- the order of what is run beside a cartridge
+module _ (pads : List ℕ) (card : Option (List ℕ)) where
   abbrev pub SetStops : Refusal → Option Held → Type 0
-  SetStops e held = IfSome held (λ m. FailsIn (IsReadToSet words m) e)
+  SetStops e held = IfSome held (λ m. FailsIn (IsReadToSetBy pads card m) e)
 
-  abbrev pub RunStops : Refusal → Option Held → Type 0
-  RunStops e held = IfSome held (λ m. FailsIn (IsReadToRun words m) e)
-
-  pub at_pads : (e : Refusal) (held : Option Held) → FailsAt (words.pads ∷ []) e → SetStops e held
+  pub at_pads : (e : Refusal) (held : Option Held) → FailsAt (pads ∷ []) e → SetStops e held
   at_pads e None h = tt
-  at_pads e (Some m) h = fails_only words.pads _ e (λ n is. runs.reads_pads is) h
+  at_pads e (Some m) h = fails_only pads _ e (λ n is. runs.reads_pads is) h
 
-  pub at_run_card : (script : Script) (e : Refusal) (held : Option Held) → IfSome held (λ m. pads_due words.pads m ≡ Ok script) → FailsAt (card_names words.card) e → SetStops e held
+  pub at_run_card : (script : Script) (e : Refusal) (held : Option Held) → IfSome held (λ m. pads_due pads m ≡ Ok script) → FailsAt (card_names card) e → SetStops e held
   at_run_card script e None read h = tt
   at_run_card script e (Some m) read h = fails_wider _ _ e (λ n c. runs.reads_card script read c) h
+
+-- the order of a run
+module _ (words : RunWords) where
+  abbrev pub RunStops : Refusal → Option Held → Type 0
+  RunStops e held = IfSome held (λ m. FailsIn (IsReadToRun words m) e)
 
   pub at_run_cart : (e : Refusal) (held : Option Held) → FailsAt (words.cart ∷ []) e → RunStops e held
   at_run_cart e None h = tt
   at_run_cart e (Some m) h = fails_only words.cart _ e (λ n is. runs.reads_cart is) h
 
-  pub at_settings : (value : Cartridge) (e : Refusal) (held later : Option Held) → IfSome held (λ m. cart_due words.cart m ≡ Ok value) → later ≡ held → SetStops e later → RunStops e held
+  pub at_settings : (value : Cartridge) (e : Refusal) (held later : Option Held) → IfSome held (λ m. cart_due words.cart m ≡ Ok value) → later ≡ held → SetStops words.pads words.card e later → RunStops e held
   at_settings value e None later read same h = tt
-  at_settings value e (Some m) later read same h = fails_wider _ _ e (λ n c. runs.reads_beside value read c) (subst (SetStops e) same h)
+  at_settings value e (Some m) later read same h = fails_wider _ _ e (λ n c. runs.reads_beside value read c) (subst (SetStops words.pads words.card e) same h)

@@ -6,6 +6,7 @@ use Rattle.kit_base.specs.Digits.{word_digits}
 use Rattle.trace_core.specs.Putting.{trace_text}
 use Rattle.run_core.specs.Ending.{end_text}
 use Rattle.kit_tools.specs.Running.{end_status}
+use Rattle.kit_tools.specs.Watching.{watch_line}
 use Rattle.kit_tools.specs.declared.shown.Shown.{Shown}
 use Rattle.kit_tools.specs.declared.shown.Shown.TheVariants as shown
 use Rattle.kit_tools.specs.declared.refusal.DueRefusal.{DueRefusal}
@@ -41,6 +42,7 @@ text_of shown.Nothing = []
 text_of shown.Accepted = accepted.text
 text_of (shown.Run trace) = trace_text trace
 text_of (shown.Ended ending end) = end_text ending end
+text_of (shown.Watched verdict) = watch_line verdict
 text_of (shown.Word front word) = front.items ++ (word_digits word ++ 10 ∷ [])
 
 -- and the status that is answered then
@@ -49,6 +51,7 @@ shown_status shown.Nothing = 0
 shown_status shown.Accepted = 0
 shown_status (shown.Run trace) = 0
 shown_status (shown.Ended ending end) = end_status end
+shown_status (shown.Watched verdict) = 0
 shown_status (shown.Word front word) = 0
 
 -- a whole command: its work was done but for its text, which is handed on, or its refusal came

@@ -7,5 +7,6 @@ pub mod Migration
 pub mod Converting
 pub mod Tracing
 pub mod Running
+pub mod Watching
 pub mod Carrying
 pub mod Gaming

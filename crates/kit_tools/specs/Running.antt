@@ -29,12 +29,19 @@ pads_due name held = do
   bytes ← bytes_due name held
   or_refused (no_pads name) (pads_of bytes)
 
+-- 1 to the greatest number
+abbrev pub is_up_to : (greatest count : ℕ) → Bool
+is_up_to greatest count = nat_le 1 count && nat_le count greatest
+
+abbrev pub count_up_to : (greatest : ℕ) → List ℕ → Result ℕ Refusal
+count_up_to greatest word = if is_up_to greatest (number_of word) then Ok (number_of word) else Err (refusals.Due (dues.OutOfRange word))
+
 -- a run has 1 to 3,600 frames
 abbrev pub is_count : ℕ → Bool
-is_count count = nat_le 1 count && nat_le count 3600
+is_count count = is_up_to 3600 count
 
 abbrev pub count_due : List ℕ → Result ℕ Refusal
-count_due word = if is_count (number_of word) then Ok (number_of word) else Err (refusals.Due (dues.OutOfRange word))
+count_due word = count_up_to 3600 word
 
 -- what is run: a console's setup, for how many frames, and what tells the place of a fault
 pub record Game : Type 0 where
@@ -48,12 +55,16 @@ pub record Settings : Type 0 where
   pub card : Option (List ℕ)
   pub count : ℕ
 
-abbrev pub settings_due : RunWords → Held → Result Settings Refusal
-settings_due words held = do
-  script ← pads_due words.pads held
-  card ← card_due words.card held
-  count ← count_due words.count
+-- the pads file, then the card, then the number
+abbrev pub settings_up_to : (greatest : ℕ) → (pads : List ℕ) → (card_name : Option (List ℕ)) → (word : List ℕ) → Held → Result Settings Refusal
+settings_up_to greatest pads card_name word held = do
+  script ← pads_due pads held
+  card ← card_due card_name held
+  count ← count_up_to greatest word
   Ok (record { script = script; card = card; count = count })
+
+abbrev pub settings_due : RunWords → Held → Result Settings Refusal
+settings_due words held = settings_up_to 3600 words.pads words.card words.count held
 
 abbrev pub game_with : Cartridge → Settings → Game
 game_with cart s = record { setup = setup_of cart s.script s.card; count = s.count; lines = lines_of cart }
@@ -80,9 +91,12 @@ abbrev pub game_end : Game → FrameEnd
 game_end game = run_end game.setup game.count
 
 -- A file that is read beside the cartridge: the pads file, or the card once the pads file is of its grammar.
-pub data IsReadToSet (words : RunWords) (held : Held) (name : List ℕ) : Type 0 where
-  reads_pads : name ≡ words.pads → IsReadToSet words held name
-  reads_card : (script : Script) → pads_due words.pads held ≡ Ok script → Contains (card_names words.card) name → IsReadToSet words held name
+pub data IsReadToSetBy (pads : List ℕ) (card_name : Option (List ℕ)) (held : Held) (name : List ℕ) : Type 0 where
+  reads_pads : name ≡ pads → IsReadToSetBy pads card_name held name
+  reads_card : (script : Script) → pads_due pads held ≡ Ok script → Contains (card_names card_name) name → IsReadToSetBy pads card_name held name
+
+abbrev pub IsReadToSet : RunWords → Held → (name : List ℕ) → Type 0
+IsReadToSet words held name = IsReadToSetBy words.pads words.card held name
 
 -- A file that a run reads: the cartridge, or one beside it once the cartridge is of its grammar.
 pub data IsReadToRun (words : RunWords) (held : Held) (name : List ℕ) : Type 0 where

@@ -6,19 +6,24 @@
 #![tactic(auto)]
 
 mod converting;
+mod putting;
 mod reading;
 mod refusal;
 mod running;
 mod shown;
 mod tracing;
+mod verdict;
 mod writing;
 
 pub use converting::convert_command;
+pub use putting::{put_both, put_piece};
 pub use reading::read_file;
 pub use refusal::{DueRefusal, Refusal, line_of, status_of};
 pub use running::{
-    Loaded, LoadedSettings, Opened, OwnNames, open_game, read_settings, run_command, write_outputs,
+    Loaded, LoadedSettings, Opened, OwnNames, open_game, read_settings, read_watch_settings,
+    run_command, write_outputs,
 };
 pub use shown::Shown;
 pub use tracing::trace_command;
+pub use verdict::{Verdict, put_verdict};
 pub use writing::write_named;

@@ -10,9 +10,10 @@ ghost use Rattle.run_core.specs.Stands.{RunStands};
 ghost use Rattle.run_core.specs.Writing.{HasRisen, IsCut as IsCutAt, IsNamed};
 ghost use Rattle.kit_tools.specs.Carrying.{FailsAt, FailsIn, GivesBy, IsCut, Leaves};
 ghost use Rattle.kit_tools.specs.Causes.{HasCause, HasCauses, HasCausesOr, IsOwn, Counts, counts};
-ghost use Rattle.kit_tools.specs.Running.{run_due, Game, count_due, game_due, is_count, names_in, no_pads, pads_due, settings_due, IsReadToSet, IsReadToRun};
+ghost use Rattle.kit_tools.specs.Running.{run_due, Game, count_up_to, game_due, is_count, is_up_to, names_in, no_pads, pads_due, settings_due, settings_up_to, IsReadToSetBy, IsReadToSet, IsReadToRun};
+ghost use Rattle.kit_tools.specs.Watching.{is_watch_count, watch_settings_due, IsReadToSetWatch};
 ghost use Rattle.kit_tools.specs.Inputs.{or_refused};
-ghost use Rattle.kit_words.specs.Parsed.{run_words_from};
+ghost use Rattle.kit_words.specs.Parsed.{run_words_from, watch_words_from};
 ghost use Rattle.kit_tools.specs.Gaming.{AreNames, IsOpened, IsWritten, game_of, settings_of};
 ghost use Rattle.kit_words.specs.Number.{number_of};
 
@@ -21,13 +22,16 @@ use crate::refusal::{DueRefusal, Refusal};
 use crate::shown::Shown;
 use cart_format::Cart;
 use kit_base::{FileErr, Files, Memory as OutOfMemory, Name};
-use kit_words::{RunWords, number_of};
+use kit_words::{RunWords, WatchWords, number_of};
 use run_core::{Ending, Output, Run, RunNames, Unwritten};
 use run_files::{Pads, PadsErr, read_pads};
 use std::alloc::Global;
 
 /// The most frames of a run.
 const FRAME_LIMIT: u32 = 3_600;
+
+/// The most frames of a run that is watched.
+const WATCH_LIMIT: u32 = 600;
 
 /// What is run: a cartridge, the script of the gamepads, the words of the memory card where one is connected, and for
 /// how many frames.
@@ -47,14 +51,15 @@ pub struct LoadedSettings {
     pub count: u32,
 }
 
-/// The frames of a number word.
-fn count_of(alloc: Global, word: &str) -> Result<u32, Refusal>
-    ensures given { GivesBy (λ n. n) result (count_due word.now) }
-    ensures own { IfErr result (IsOwn (is_count (number_of word.now) ≡ false)) }
-    ensures few { IfOk result (λ n. n ≤ 3600) }
+/// The frames of a number word, at most so many.
+fn count_up_to(alloc: Global, greatest: u32, word: &str) -> Result<u32, Refusal>
+    requires { greatest ≤ 3600 }
+    ensures given { GivesBy (λ n. n) result (count_up_to greatest word.now) }
+    ensures own { IfErr result (IsOwn (is_up_to greatest (number_of word.now) ≡ false)) }
+    ensures few { IfOk result (λ n. n ≤ greatest) }
 {
     let count = number_of(word.as_bytes());
-    if count < 1 || count > FRAME_LIMIT {
+    if count < 1 || count > greatest {
         return Err(Refusal::Due(DueRefusal::OutOfRange(Name::new(alloc, word)?)));
     }
     Ok(count)
@@ -92,6 +97,29 @@ fn read_pads_file<F: Files>(alloc: Global, files: &mut F, name: &str) -> Result<
     pads_of_text(alloc, name, &text)
 }
 
+/// What these words run beside a cartridge, for at most so many frames.
+fn settings_up_to<F: Files>(
+    alloc: Global,
+    files: &mut F,
+    greatest: u32,
+    pads: &str,
+    card: Option<&str>,
+    count: &str,
+) -> Result<LoadedSettings, Refusal>
+    requires { greatest ≤ 3600 }
+    ensures held { F.held files.new ≡ F.held files.old }
+    ensures told { IfSome (F.held files.old) (λ m. GivesBy settings_of result (settings_up_to greatest pads.now (option_map (λ word. word.now) card.entry) count.now m)) }
+    ensures fails { IfSome (F.held files.old) (λ m. IfErr result (FailsIn (IsReadToSetBy pads.now (option_map (λ word. word.now) card.entry) m))) }
+    ensures causes { HasCausesOr (is_up_to greatest (number_of count.now) ≡ false) result (counts F.faults F.misses F.overs files.old) (counts F.faults F.misses F.overs files.new) }
+    ensures room { IfOk result (λ s. ForSome s.card (λ v. length v.items ≡ 0x40000)) }
+    ensures few { IfOk result (λ s. s.count ≤ greatest) }
+{
+    let pads = read_pads_file(alloc, files, pads)?;
+    let card = read_card_file(alloc, files, card)?;
+    let count = count_up_to(alloc, greatest, count)?;
+    Ok(LoadedSettings { pads, card, count })
+}
+
 /// What those words run beside a cartridge.
 pub fn read_settings<F: Files>(
     alloc: Global,
@@ -105,10 +133,37 @@ pub fn read_settings<F: Files>(
     ensures room { IfOk result (λ s. ForSome s.card (λ v. length v.items ≡ 0x40000)) }
     ensures few { IfOk result (λ s. s.count ≤ 3600) }
 {
-    let pads = read_pads_file(alloc, files, words.pads)?;
-    let card = read_card_file(alloc, files, words.card)?;
-    let count = count_of(alloc, words.count)?;
-    Ok(LoadedSettings { pads, card, count })
+    settings_up_to(
+        alloc,
+        files,
+        FRAME_LIMIT,
+        words.pads,
+        words.card,
+        words.count,
+    )
+}
+
+/// What those words run beside the cartridge of their project.
+pub fn read_watch_settings<F: Files>(
+    alloc: Global,
+    files: &mut F,
+    words: &WatchWords<'_>,
+) -> Result<LoadedSettings, Refusal>
+    ensures held { F.held files.new ≡ F.held files.old }
+    ensures told { IfSome (F.held files.old) (λ m. GivesBy settings_of result (watch_settings_due (watch_words_from words.now) m)) }
+    ensures fails { IfSome (F.held files.old) (λ m. IfErr result (FailsIn (IsReadToSetWatch (watch_words_from words.now) m))) }
+    ensures causes { HasCausesOr (is_watch_count (number_of words.now.count.now) ≡ false) result (counts F.faults F.misses F.overs files.old) (counts F.faults F.misses F.overs files.new) }
+    ensures room { IfOk result (λ s. ForSome s.card (λ v. length v.items ≡ 0x40000)) }
+    ensures few { IfOk result (λ s. s.count ≤ 600) }
+{
+    settings_up_to(
+        alloc,
+        files,
+        WATCH_LIMIT,
+        words.pads,
+        words.card,
+        words.count,
+    )
 }
 
 /// What those words run.

@@ -3,7 +3,7 @@ use Rattle.std.specs.Prelude.{ℕ, Bool, true, ◌&&◌, List, [], ◌∷◌, ma
 use Rattle.std.specs.List.{list_all}
 use Rattle.std.specs.declared.alloc.Global.{Global}
 use Rattle.kit_words.specs.declared.conversion.Conversion.{Conversion}
-use Rattle.kit_words.specs.Forms.{Form, Builds, Checks, Converts, Runs, Plays, Traces, Generates, are_as_many, are_different, card_of, created_by, form_named, is_number, is_word, number_in, words_of}
+use Rattle.kit_words.specs.Forms.{Form, Builds, Checks, Converts, Runs, Plays, Watches, Traces, Generates, are_as_many, are_different, card_of, created_by, form_named, is_number, is_word, number_in, words_of}
 
 -- the words of a run; its card is `none` or a file's name
 pub record RunWords : Type 0 where
@@ -11,6 +11,15 @@ pub record RunWords : Type 0 where
   pub pads : List ℕ
   pub frames : List ℕ
   pub samples : List ℕ
+  pub count : List ℕ
+  pub card : Option (List ℕ)
+
+-- the words of a run whose source is followed; its card is only read
+pub record WatchWords : Type 0 where
+  pub project : List ℕ
+  pub cart : List ℕ
+  pub map_name : List ℕ
+  pub pads : List ℕ
   pub count : List ℕ
   pub card : Option (List ℕ)
 
@@ -26,6 +35,8 @@ pub data Command : Type 0 where
   Run : RunWords → Command
   -- `play project cart map pads frames samples count card`: a project is built and its cartridge run; the cartridge is that of the run's words
   Play : (project map_name : List ℕ) → RunWords → Command
+  -- `watch project cart map pads count card`: a project is built, its cartridge run, and its source followed on the answers of that run
+  Watch : WatchWords → Command
   -- `check project`
   Check : (project : List ℕ) → Command
   -- `gen number project cart map`: a project and a source are made up from the number, written, built and run
@@ -43,6 +54,8 @@ made Runs (cart ∷ pads ∷ frames ∷ samples ∷ count ∷ card ∷ []) =
     Some (Run (record { cart = cart; pads = pads; frames = frames; samples = samples; count = count; card = card_of card }))
 made Plays (project ∷ cart ∷ map_name ∷ pads ∷ frames ∷ samples ∷ count ∷ card ∷ []) =
     Some (Play project map_name (record { cart = cart; pads = pads; frames = frames; samples = samples; count = count; card = card_of card }))
+made Watches (project ∷ cart ∷ map_name ∷ pads ∷ count ∷ card ∷ []) =
+    Some (Watch (record { project = project; cart = cart; map_name = map_name; pads = pads; count = count; card = card_of card }))
 made Traces (cart ∷ answers ∷ card ∷ steps ∷ []) = Some (Trace cart answers (card_of card) steps)
 made Generates (number ∷ project ∷ cart ∷ map_name ∷ []) = Some (Gen number project cart map_name)
 made form arguments = None

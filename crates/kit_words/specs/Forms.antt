@@ -30,12 +30,17 @@ pub data Form : Type 0 where
   Converts : Conversion → Form
   Runs : Form
   Plays : Form
+  Watches : Form
   Traces : Form
   Generates : Form
 
 -- frames of a run, steps of a trace, functions of a source that is made up
 abbrev pub count_role : Role
 count_role = Number 1 3600
+
+-- frames of a run whose source is followed
+abbrev pub watch_role : Role
+watch_role = Number 1 600
 
 abbrev pub steps_role : Role
 steps_role = Number 0 10000000
@@ -51,6 +56,7 @@ name_of (Converts Assemble) = codes "asm"
 name_of (Converts Disassemble) = codes "dis"
 name_of Runs = codes "run"
 name_of Plays = codes "play"
+name_of Watches = codes "watch"
 name_of Traces = codes "trace"
 name_of Generates = codes "gen"
 
@@ -67,6 +73,9 @@ words_of Runs =
 words_of Plays =
     word (codes "project") Reads ∷ word (codes "cart") Creates ∷ word (codes "map") Creates ∷ word (codes "pads") Reads
     ∷ word (codes "frames") Creates ∷ word (codes "samples") Creates ∷ word (codes "count") count_role ∷ word (codes "card") (Card true) ∷ []
+words_of Watches =
+    word (codes "project") Reads ∷ word (codes "cart") Creates ∷ word (codes "map") Creates ∷ word (codes "pads") Reads
+    ∷ word (codes "count") watch_role ∷ word (codes "card") (Card false) ∷ []
 words_of Traces =
     word (codes "cart") Reads ∷ word (codes "answers") Reads ∷ word (codes "card") (Card false) ∷ word (codes "steps") steps_role ∷ []
 words_of Generates =
@@ -83,7 +92,7 @@ own_names form = []
 
 abbrev pub forms : List Form
 forms =
-    Builds ∷ Checks ∷ Converts Migrate ∷ Converts Assemble ∷ Converts Disassemble ∷ Runs ∷ Plays ∷ Traces ∷ Generates ∷ []
+    Builds ∷ Checks ∷ Converts Migrate ∷ Converts Assemble ∷ Converts Disassemble ∷ Runs ∷ Plays ∷ Watches ∷ Traces ∷ Generates ∷ []
 
 -- ---- what comes of it
 

@@ -5,7 +5,7 @@ ghost use Rattle.std.specs.Str.{bytes_eq};
 ghost use Rattle.clap.specs.Words.{found_of, rows_of, subcommand_rows_of};
 ghost use Rattle.clap.specs.Walk.{first_of};
 ghost use Rattle.clap.specs.declared.error.kind.ErrorKind.TheVariants.{OutOfMemory};
-ghost use Rattle.kit_words.specs.Forms.{Builds, Checks, Converts, Generates, Plays, Runs, Traces, are_different, card_of, is_number, is_word, source_name};
+ghost use Rattle.kit_words.specs.Forms.{Builds, Checks, Converts, Generates, Plays, Runs, Traces, Watches, are_different, card_of, is_number, is_word, source_name};
 ghost use Rattle.kit_words.specs.Command.{command_of, is_number_if_there, texts};
 ghost use Rattle.kit_words.specs.CommandLine.{checked, command_in, form_in, given_to, texts_of};
 ghost use Rattle.kit_words.specs.Created.{created_names, number_word, run_names};
@@ -25,6 +25,17 @@ pub struct RunWords<'a> {
     pub pads: &'a str,
     pub frames: &'a str,
     pub samples: &'a str,
+    pub count: &'a str,
+    pub card: Option<&'a str>,
+}
+
+/// The words of a run whose source is followed.
+#[derive(Clone, Copy)]
+pub struct WatchWords<'a> {
+    pub project: &'a str,
+    pub cart: &'a str,
+    pub map: &'a str,
+    pub pads: &'a str,
     pub count: &'a str,
     pub card: Option<&'a str>,
 }
@@ -54,6 +65,7 @@ pub enum Command<'a> {
         map: &'a str,
         words: RunWords<'a>,
     },
+    Watch(WatchWords<'a>),
     Check {
         project: &'a str,
     },
@@ -111,6 +123,7 @@ fn has_number(command: &Command<'_>) -> bool
         Command::Trace { steps, .. } => is_number(steps),
         Command::Run(words) => is_number(words.count),
         Command::Play { words, .. } => is_number(words.count),
+        Command::Watch(words) => is_number(words.count),
         Command::Check { .. } => true,
         Command::Gen { number, .. } => is_number(number),
     }
@@ -172,6 +185,7 @@ fn created_differ(command: &Command<'_>) -> bool
         Command::Trace { .. } => are_different(&[]),
         Command::Run(words) => run_differs(&words),
         Command::Play { map, words, .. } => play_differs(map, &words),
+        Command::Watch(words) => are_different(&[words.cart, words.map]),
         Command::Check { .. } => are_different(&[]),
         Command::Gen {
             project,
@@ -284,6 +298,26 @@ fn play_in<'a>(given: &ArgMatches<'a>) -> Option<Command<'a>>
     })
 }
 
+fn watch_in<'a>(given: &ArgMatches<'a>) -> Option<Command<'a>>
+    ensures { option_map command_from result ≡ given_to Watches (rows_of (found_of given.now)) }
+{
+    let project = word_of(given, "project")?;
+    let cart = word_of(given, "cart")?;
+    let map = word_of(given, "map")?;
+    let pads = word_of(given, "pads")?;
+    let count = word_of(given, "count")?;
+    let card = word_of(given, "card")?;
+    let card = card_of(card);
+    checked(Command::Watch(WatchWords {
+        project,
+        cart,
+        map,
+        pads,
+        count,
+        card,
+    }))
+}
+
 fn check_in<'a>(given: &ArgMatches<'a>) -> Option<Command<'a>>
     ensures { option_map command_from result ≡ given_to Checks (rows_of (found_of given.now)) }
 {
@@ -324,6 +358,8 @@ fn form_in<'a>(name: &str, given: &ArgMatches<'a>) -> Option<Command<'a>>
         run_in(given)
     } else if name == "play" {
         play_in(given)
+    } else if name == "watch" {
+        watch_in(given)
     } else if name == "trace" {
         trace_in(given)
     } else if name == "gen" {

@@ -84,6 +84,12 @@ pub fn command_line<'a>(alloc: Global) -> Result<Command<'a>, AllocError>
     let command = with_form(
         alloc,
         command,
+        "watch",
+        &["project", "cart", "map", "pads", "count", "card"],
+    )?;
+    let command = with_form(
+        alloc,
+        command,
         "trace",
         &["cart", "answers", "card", "steps"],
     )?;

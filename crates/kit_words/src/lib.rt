@@ -9,7 +9,7 @@ mod conversion;
 mod laws;
 mod number;
 
-pub use command::{Command, RunWords, SOURCE_NAME, command_of};
+pub use command::{Command, RunWords, SOURCE_NAME, WatchWords, command_of};
 pub use conversion::Conversion;
 pub use laws::{commands_are_listed, commands_are_tested, forms_have_commands};
 pub use number::number_of;

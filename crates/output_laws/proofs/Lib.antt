@@ -1,2 +1,3 @@
 pub mod Tracked
+pub mod Begun
 pub mod Outputs

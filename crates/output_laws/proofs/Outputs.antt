@@ -1,9 +1,9 @@
 -- The files of a run, one by one.
-use Rattle.std.proofs.Common.{◌≡◌, ℕ, Bool, true, false, cond, List, [], ◌∷◌, ◌++◌, flat_map, refl, sym, ap, subst, ◌∙◌, inl, append_assoc, append-nil}
+use Rattle.std.proofs.Common.{◌≡◌, ℕ, Bool, true, false, cond, List, [], ◌∷◌, ◌++◌, flat_map, refl, sym, ap, subst, ◌∙◌, inl, inr, append_assoc, append-nil}
 use Rattle.std.specs.Prelude.{Option, Some, None}
 use Rattle.std.specs.FinMap.{get}
 use Rattle.kit_base.specs.Held.{Held}
-use Rattle.kit_base.specs.Effects.{Effect, Creates, Appends, all_done, CutShort}
+use Rattle.kit_base.specs.Effects.{Effect, Creates, Appends, all_done, written_file}
 use Rattle.asset_pack.specs.Words.{words_text}
 use Rattle.run_files.specs.Screens.{frames_header, samples_header}
 use Rattle.v32_isa.specs.State.{State}
@@ -13,7 +13,9 @@ use Rattle.v32_console.specs.Frames.{samples_of, screen_of}
 use Rattle.run_core.specs.Outputs.{Names, frame_outputs, card_words, card_outputs, last_moment, run_outputs}
 use Rattle.output_laws.specs.Bytes.{frame_ends, frames_bytes, samples_bytes, card_bytes}
 use Rattle.output_laws.specs.Standing.{AreOther, IsNoCard, AreApart, IsNone, OutputsStand, FrontsStand, IsFrontOf, OutputsAreTheirBytes, CutOutputsAreFronts}
-use Rattle.output_laws.proofs.Tracked.{seen, seen_is, seen_both, Spares, spares_both, seen_spared, own_added, own_made, other_added, other_made, Adds, adds_both, spares_adds, others_spared, making}
+use Rattle.output_laws.specs.Begun.{is_among, CreatesOnce, creates, bytes_in, AreFronts, RunFrontsAreItsFiles}
+use Rattle.output_laws.proofs.Tracked.{seen, seen_is, seen_both, Spares, spares_both, seen_spared, own_added, own_made, other_added, other_made, Adds, adds_both, spares_adds}
+use Rattle.output_laws.proofs.Begun.{first_among, later_among, not_among, other_way, written_once, spares_unmade, created_first, created_later, own_bytes, bytes_behind, begun_fronts}
 
 abbrev each_frame : Names → Setup → List Moment → List Effect
 each_frame names u ms = flat_map (frame_outputs names u) ms
@@ -27,6 +29,11 @@ sounds u ms = flat_map (λ m. words_text (samples_of u m)) ms
 -- the card's file, made anew
 abbrev card_effects : Bool → List ℕ → State → List Effect
 card_effects b name s = cond b (Creates name ∷ Appends name (words_text (card_words s)) ∷ []) []
+
+-- the name of the card's file is not in the list
+abbrev pub IsNewCard : Option (List ℕ) → List (List ℕ) → Type 0
+IsNewCard None made = Unit {0}
+IsNewCard (Some name) made = is_among name made ≡ false
 
 module _ (names : Names) (u : Setup) (apart : AreApart names) where
   abbrev f : List ℕ
@@ -140,7 +147,7 @@ module _ (names : Names) (u : Setup) (apart : AreApart names) where
     unfolding card_bytes
     card_added name = own_added name (words_text (card_words ended)) [] (Some [])
 
-    none_spared : (x : List ℕ) → IsNone names x → Spares x (run_outputs names u count)
+    pub none_spared : (x : List ℕ) → IsNone names x → Spares x (run_outputs names u count)
     none_spared x h = subst (Spares x) (sym outputs_are) (spares_both x heads_and_frames _ (heads_and_frames_spared x h.frames h.samples) (card_spared x names.card ended h.card))
 
     -- ---- all is done
@@ -173,38 +180,85 @@ module _ (names : Names) (u : Setup) (apart : AreApart names) where
         others = λ x h. at x ∙ seen_spared x (run_outputs names u count) (get before x) (none_spared x h);
       }
 
-    -- ---- the outputs were cut short
+    -- ---- the outputs were begun
 
-    module _ (name : List ℕ) (before after : Held) (cut : CutShort name (run_outputs names u count) (Some before) (Some after)) where
-      frames_front : IsFrontOf (frames_bytes u count) (get before f) (get after f)
-      unfolding run_outputs frames_tail
-      frames_front = making f name (frames_bytes u count) [] frames_tail before after tt frames_tail_adds frames_whole cut
+    -- nothing is created twice, behind files that are none of these
+    module _ (made : List (List ℕ)) (frames_new : is_among f made ≡ false) (samples_new : is_among s made ≡ false) (card_new : IsNewCard names.card made) where
+      abbrev all : List (List ℕ)
+      all = s ∷ f ∷ made
 
-      samples_front_of : IsFrontOf (samples_bytes u count) (get before s) (get after s)
-      unfolding run_outputs samples_tail samples_front
-      samples_front_of = making s name (samples_bytes u count) samples_front samples_tail before after samples_front_spared samples_tail_adds samples_whole cut
+      frames_made : is_among f all ≡ true
+      frames_made = later_among f s (f ∷ made) (first_among f made)
 
+      each_once : (later : List Moment) (es : List Effect) → CreatesOnce all es → CreatesOnce all (each_frame names u later ++ es)
+      each_once [] es h = h
+      each_once (m ∷ later) es h = (frames_made, (first_among s (f ∷ made), each_once later es h))
+
+      card_once : (card : Option (List ℕ)) → IsNoCard f card → IsNoCard s card → IsNewCard card made → CreatesOnce all (card_outputs card ended)
+      card_once None one two new = tt
+      card_once (Some name) one two new = by ended.has_card
+        where
+          by : (b : Bool) → CreatesOnce all (card_effects b name ended)
+          by true = (not_among name s (f ∷ made) (other_way s name two) (not_among name f made (other_way f name one) new), (first_among name all, tt))
+          by false = tt
+
+      pub run_once : CreatesOnce made (run_outputs names u count)
+      unfolding run_outputs
+      run_once = written_once made f frames_header (written_file s samples_header ++ tail) frames_new
+          (written_once (f ∷ made) s samples_header tail (not_among s f made apart.samples_frames samples_new)
+          (each_once ms (card_outputs names.card ended) (card_once names.card apart.frames_card apart.samples_card card_new)))
+
+    frames_bytes_are : bytes_in f (run_outputs names u count) ≡ frames_bytes u count
+    unfolding run_outputs frames_tail
+    frames_bytes_are = own_bytes f (frames_bytes u count) frames_tail frames_tail_adds frames_whole
+
+    samples_bytes_are : bytes_in s (run_outputs names u count) ≡ samples_bytes u count
+    unfolding run_outputs samples_tail samples_front
+    samples_bytes_are = bytes_behind s samples_front (Creates s ∷ samples_tail) samples_front_spared ∙ own_bytes s (samples_bytes u count) samples_tail samples_tail_adds samples_whole
+
+    frames_created : creates f (run_outputs names u count) ≡ true
+    unfolding run_outputs frames_tail
+    frames_created = created_first f frames_tail
+
+    samples_created : creates s (run_outputs names u count) ≡ true
+    unfolding run_outputs samples_tail samples_front
+    samples_created = created_later s samples_front (Creates s ∷ samples_tail) (created_first s samples_tail)
+
+    module _ (before after : Held) (left : AreFronts (run_outputs names u count) before after) where
       card_by : (card : List ℕ) → names.card ≡ Some card → (b : Bool) → ended.has_card ≡ b → IsFrontOf (card_bytes u count) (get before card) (get after card)
       card_by card e true h =
           let es : run_outputs names u count ≡ heads_and_frames ++ card_effects true card ended = outputs_are ∙ ap (λ (l : List Effect). heads_and_frames ++ l) (card_is card e true h) in
-          making card name (card_bytes u count) heads_and_frames (Appends card (words_text (card_words ended)) ∷ []) before after
-          (heads_and_frames_spared card (apart.card_frames card e) (apart.card_samples card e)) tt (card_added card)
-          (subst (λ (l : List Effect). CutShort name l (Some before) (Some after)) es cut)
+          let spared = heads_and_frames_spared card (apart.card_frames card e) (apart.card_samples card e) in
+          let added = Appends card (words_text (card_words ended)) ∷ [] in
+          let bytes : bytes_in card (run_outputs names u count) ≡ card_bytes u count
+          = ap (bytes_in card) es ∙ bytes_behind card heads_and_frames (Creates card ∷ added) spared ∙ own_bytes card (card_bytes u count) added tt (card_added card) in
+          let there : creates card (run_outputs names u count) ≡ true = ap (creates card) es ∙ created_later card heads_and_frames (Creates card ∷ added) (created_first card added) in
+          subst (λ (whole : List ℕ). IsFrontOf whole (get before card) (get after card)) bytes (left.created card there)
       card_by card e false h =
           let es : run_outputs names u count ≡ heads_and_frames ++ [] = outputs_are ∙ ap (λ (l : List Effect). heads_and_frames ++ l) (card_is card e false h) in
           let spared : Spares card (heads_and_frames ++ []) = spares_both card heads_and_frames [] (heads_and_frames_spared card (apart.card_frames card e) (apart.card_samples card e)) tt in
-          inl (others_spared card name (heads_and_frames ++ []) before after spared (subst (λ (l : List Effect). CutShort name l (Some before) (Some after)) es cut))
+          inl (left.others card (ap (creates card) es ∙ spares_unmade card (heads_and_frames ++ []) spared))
 
-      pub fronts : FrontsStand names u count before after
-      fronts = record {
-        frames = frames_front;
-        samples = samples_front_of;
+      pub its_files : FrontsStand names u count before after
+      its_files = record {
+        frames = subst (λ (bytes : List ℕ). IsFrontOf bytes (get before f) (get after f)) frames_bytes_are (left.created f frames_created);
+        samples = subst (λ (bytes : List ℕ). IsFrontOf bytes (get before s) (get after s)) samples_bytes_are (left.created s samples_created);
         card = λ card e. card_by card e ended.has_card refl;
-        others = λ x h. others_spared x name (run_outputs names u count) before after (none_spared x h) cut;
+        others = λ x h. left.others x (spares_unmade x (run_outputs names u count) (none_spared x h));
       }
+
+-- in no list there is a card's file
+pub no_list : (card : Option (List ℕ)) → IsNewCard card []
+no_list None = tt
+no_list (Some name) = refl
 
 pub outputs_whole : OutputsAreTheirBytes
 outputs_whole names u count before after apart is = whole names u apart count before after is
 
+pub outputs_files : RunFrontsAreItsFiles
+outputs_files names u count before after apart left = its_files names u apart count before after left
+
 pub outputs_fronts : CutOutputsAreFronts
-outputs_fronts names u count name before after apart cut = fronts names u apart count name before after cut
+outputs_fronts names u count name before after apart cut =
+    outputs_files names u count before after apart
+    (begun_fronts (run_outputs names u count) before after (run_once names u apart count [] refl refl (no_list names.card)) (inr (name, cut)))

@@ -14,7 +14,7 @@ use Rattle.output_laws.specs.Standing.{AreOther, IsFrontOf}
 pub same_name : (x : List ℕ) → bytes_eq x x ≡ true
 same_name x = (bytes_eq-Decides x x).1 refl
 
-named : (x n : List ℕ) → bytes_eq x n ≡ true → x ≡ n
+pub named : (x n : List ℕ) → bytes_eq x n ≡ true → x ≡ n
 named x n e = (bytes_eq-Decides x n).0 e
 
 get_same : (m : Held) (name bytes : List ℕ) → get (insert m name bytes) name ≡ Some bytes
@@ -116,7 +116,7 @@ spares_adds x [] h = tt
 spares_adds x (Creates n ∷ es) h = (h.0, spares_adds x es h.1)
 spares_adds x (Appends n piece ∷ es) h = spares_adds x es h.1
 
-some_list : {a b : List ℕ} → (let o : Option (List ℕ) = Some a in o ≡ Some b) → a ≡ b
+pub some_list : {a b : List ℕ} → (let o : Option (List ℕ) = Some a in o ≡ Some b) → a ≡ b
 some_list e = cc
 
 -- what was there stays at the front

@@ -12,7 +12,8 @@ use Rattle.kit_tools.specs.Gaming.{settings_of}
 use Rattle.kit_tools.specs.Running.{IsReadToSet, settings_due}
 use Rattle.kit_tools.proofs.Own.{later_causes}
 use Rattle.kit_core.proofs.Projects.{Left, left_refused, left_unread}
-use Rattle.kit_core.proofs.Plays.{memory_told, play_left, unbuilt_reached, unbuilt_told, unset_reached, unset_told}
+use Rattle.kit_core.proofs.Setups.{memory_told, unbuilt_reached, unbuilt_told, unset_reached, unset_told}
+use Rattle.kit_core.proofs.Plays.{play_left}
 use Rattle.kit_core.proofs.playing.play_command.Goals as goal
 
 pub returns-in_err-text-clause-told : goal.returns-in_err-text-clause-told
@@ -30,8 +31,8 @@ returns-in_err-built-clause-told g c =
     subst (Left c.args.project.now (read_play_due c.args.project.now c.args.map.now (run_words_from c.args.words.now)) (IsReadToPlay (run_words_from c.args.words.now)) (g.F.Reads.held c.args.files.now) (g.F.Reads.held c.build_text.new.files)) (sym is)
     (left_refused c.args.project.now (read_play_due c.args.project.now c.args.map.now (run_words_from c.args.words.now)) (IsReadToPlay (run_words_from c.args.words.now)) c.in_ok-text.text.items c.in_err-built.field-0.0 (g.F.Reads.held c.args.files.now) (g.F.Reads.held c.read_file.new.files) (g.F.Reads.held c.build_text.new.files)
     c.in_ok-text.ensures.told c.in_ok-text.ensures.held
-    (unbuilt_told c.args.project.now c.in_ok-text.text.items c.args.map.now (run_words_from c.args.words.now) c.in_err-built.field-0.0 (g.F.Reads.held c.read_file.new.files) given)
-    (unbuilt_reached c.args.project.now c.in_ok-text.text.items c.args.map.now (run_words_from c.args.words.now) c.in_err-built.field-0.0 (g.F.Reads.held c.read_file.new.files) reached) c.in_err-built.ensures.held)
+    (unbuilt_told c.args.project.now c.in_ok-text.text.items (settings_due (run_words_from c.args.words.now)) (IsReadToSet (run_words_from c.args.words.now)) c.in_err-built.field-0.0 (g.F.Reads.held c.read_file.new.files) given)
+    (unbuilt_reached c.args.project.now c.in_ok-text.text.items (settings_due (run_words_from c.args.words.now)) (IsReadToSet (run_words_from c.args.words.now)) c.in_err-built.field-0.0 (g.F.Reads.held c.read_file.new.files) reached) c.in_err-built.ensures.held)
 
 pub returns-in_err-settings-clause-told : goal.returns-in_err-settings-clause-told
 returns-in_err-settings-clause-told g c =
@@ -43,9 +44,9 @@ returns-in_err-settings-clause-told g c =
     subst (Left c.args.project.now (read_play_due c.args.project.now c.args.map.now (run_words_from c.args.words.now)) (IsReadToPlay (run_words_from c.args.words.now)) (g.F.Reads.held c.args.files.now) (g.F.Reads.held c.read_settings.new.files)) (sym is)
     (left_refused c.args.project.now (read_play_due c.args.project.now c.args.map.now (run_words_from c.args.words.now)) (IsReadToPlay (run_words_from c.args.words.now)) c.in_ok-text.text.items c.in_err-settings.field-0.0 (g.F.Reads.held c.args.files.now) (g.F.Reads.held c.read_file.new.files) (g.F.Reads.held c.read_settings.new.files)
     c.in_ok-text.ensures.told c.in_ok-text.ensures.held
-    (unset_told c.args.project.now c.in_ok-text.text.items c.args.map.now (run_words_from c.args.words.now) c.in_err-settings.field-0.0 c.in_ok-built.built (g.F.Reads.held c.read_file.new.files) (g.F.Reads.held c.build_text.new.files)
+    (unset_told c.args.project.now c.in_ok-text.text.items (settings_due (run_words_from c.args.words.now)) (IsReadToSet (run_words_from c.args.words.now)) c.in_err-settings.field-0.0 c.in_ok-built.built (g.F.Reads.held c.read_file.new.files) (g.F.Reads.held c.build_text.new.files)
     c.in_ok-built.ensures.held built given)
-    (unset_reached c.args.project.now c.in_ok-text.text.items c.args.map.now (run_words_from c.args.words.now) c.in_err-settings.field-0.0 c.in_ok-built.built (g.F.Reads.held c.read_file.new.files) (g.F.Reads.held c.build_text.new.files)
+    (unset_reached c.args.project.now c.in_ok-text.text.items (settings_due (run_words_from c.args.words.now)) (IsReadToSet (run_words_from c.args.words.now)) c.in_err-settings.field-0.0 c.in_ok-built.built (g.F.Reads.held c.read_file.new.files) (g.F.Reads.held c.build_text.new.files)
     c.in_ok-built.ensures.held built fails) (c.in_err-settings.ensures.held ∙ c.in_ok-built.ensures.held))
 
 pub returns-in_err-game-clause-told : goal.returns-in_err-game-clause-told
@@ -54,7 +55,7 @@ returns-in_err-game-clause-told g c =
     subst (Left c.args.project.now (read_play_due c.args.project.now c.args.map.now (run_words_from c.args.words.now)) (IsReadToPlay (run_words_from c.args.words.now)) (g.F.Reads.held c.args.files.now) (g.F.Reads.held c.read_settings.new.files)) (sym is)
     (left_refused c.args.project.now (read_play_due c.args.project.now c.args.map.now (run_words_from c.args.words.now)) (IsReadToPlay (run_words_from c.args.words.now)) c.in_ok-text.text.items refusals.Memory (g.F.Reads.held c.args.files.now) (g.F.Reads.held c.read_file.new.files) (g.F.Reads.held c.read_settings.new.files)
     c.in_ok-text.ensures.told c.in_ok-text.ensures.held
-    ((memory_told c.args.project.now c.in_ok-text.text.items c.args.map.now (run_words_from c.args.words.now) (g.F.Reads.held c.read_file.new.files)).0) (memory_told c.args.project.now c.in_ok-text.text.items c.args.map.now (run_words_from c.args.words.now) (g.F.Reads.held c.read_file.new.files)).1 (c.in_ok-settings.ensures.held ∙ c.in_ok-built.ensures.held))
+    ((memory_told c.args.project.now c.in_ok-text.text.items (settings_due (run_words_from c.args.words.now)) (IsReadToSet (run_words_from c.args.words.now)) (g.F.Reads.held c.read_file.new.files)).0) (memory_told c.args.project.now c.in_ok-text.text.items (settings_due (run_words_from c.args.words.now)) (IsReadToSet (run_words_from c.args.words.now)) (g.F.Reads.held c.read_file.new.files)).1 (c.in_ok-settings.ensures.held ∙ c.in_ok-built.ensures.held))
 
 pub returns-clause-told : goal.returns-clause-told
 returns-clause-told g c =

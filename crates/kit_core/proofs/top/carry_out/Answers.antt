@@ -1,10 +1,10 @@
 use Rattle.std.proofs.Common.{rules, ◌≡◌, refl}
 use Rattle.std.specs.Prelude.{Some, None}
 use Rattle.std.specs.Option.{option_map}
-use Rattle.kit_words.specs.Command.{Build, Check, Convert, Gen, Play, Run, Trace, command_of, texts}
-use Rattle.kit_words.specs.Parsed.{run_words_from}
+use Rattle.kit_words.specs.Command.{Build, Check, Convert, Gen, Play, Run, Trace, Watch, command_of, texts}
+use Rattle.kit_words.specs.Parsed.{run_words_from, watch_words_from}
 use Rattle.kit_core.proofs.Behind.{no_form, plainly}
-use Rattle.kit_core.proofs.Over.{build_over, check_over, convert_over, gen_over, not_none, play_over, run_over, trace_over}
+use Rattle.kit_core.proofs.Over.{build_over, check_over, convert_over, gen_over, not_none, play_over, run_over, trace_over, watch_over}
 use Rattle.kit_core.proofs.top.carry_out.Goals as goal
 
 pub returns-in-None-clause-told : goal.returns-in-None-clause-told
@@ -36,6 +36,21 @@ pub returns-in-Some-Play-clause-told : goal.returns-in-Some-Play-clause-told
 returns-in-Some-Play-clause-told g c =
     let is : command_of (texts c.args.words.now) ≡ Some (Play c.in-Some-Play.project.now c.in-Some-Play.map.now (run_words_from c.in-Some-Play.words)) = search rules in
     plainly _ _ is c.play_command.result (g.F.Reads.held c.args.files.now) (g.F.Reads.held c.play_command.new.files) refl c.play_command.ensures.told
+
+pub returns-in-Some-Watch-clause-told : goal.returns-in-Some-Watch-clause-told
+returns-in-Some-Watch-clause-told g c =
+    let is : command_of (texts c.args.words.now) ≡ Some (Watch (watch_words_from c.in-Some-Watch.words)) = search rules in
+    plainly _ _ is c.watch_command.result (g.F.Reads.held c.args.files.now) (g.F.Reads.held c.watch_command.new.files) refl c.watch_command.ensures.told
+
+pub returns-in-Some-Watch-clause-usage : goal.returns-in-Some-Watch-clause-usage
+returns-in-Some-Watch-clause-usage g c =
+    let is : command_of (texts c.args.words.now) ≡ Some (Watch (watch_words_from c.in-Some-Watch.words)) = search rules in
+    λ none. not_none (texts c.args.words.now) _ c.watch_command.result is none
+
+pub returns-in-Some-Watch-clause-causes : goal.returns-in-Some-Watch-clause-causes
+returns-in-Some-Watch-clause-causes g c =
+    let is : command_of (texts c.args.words.now) ≡ Some (Watch (watch_words_from c.in-Some-Watch.words)) = search rules in
+    watch_over (texts c.args.words.now) (g.F.Reads.held c.args.files.now) c.watch_command.result _ _ _ is c.watch_command.ensures.causes
 
 pub returns-in-Some-Check-clause-told : goal.returns-in-Some-Check-clause-told
 returns-in-Some-Check-clause-told g c =

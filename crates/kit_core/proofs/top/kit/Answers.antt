@@ -3,9 +3,10 @@ use Rattle.kit_core.proofs.Headlines.{headline_told}
 use Rattle.kit_core.proofs.Traces.{trace_told}
 use Rattle.kit_core.proofs.Runs.{run_told}
 use Rattle.kit_core.proofs.Plays.{play_told}
-use Rattle.kit_core.proofs.Holdings.{fronts_told, hold_told}
+use Rattle.kit_core.proofs.Holdings.{hold_told}
+use Rattle.kit_core.proofs.Leaving.{fronts_told}
 use Rattle.kit_core.proofs.Generates.{gen_told}
-use Rattle.kit_core.proofs.Meanings.{meant_told}
+use Rattle.kit_core.proofs.WatchedRuns.{watch_told}
 use Rattle.kit_core.proofs.Ends.{complete_told, untouched_told}
 use Rattle.kit_core.proofs.top.kit.Goals as goal
 
@@ -26,7 +27,7 @@ returns-clause-runs g c =
 
 pub returns-clause-plays : goal.returns-clause-plays
 returns-clause-plays g c =
-    play_told (texts c.args.words.now) c.status_for.result (g.F.Reads.held c.args.files.now) (g.F.Reads.held c.status_for.new.files)
+    play_told c.played_runs_are_the_sources.ensures.played c.played_runs_are_the_sources.ensures.whole (texts c.args.words.now) c.status_for.result (g.F.Reads.held c.args.files.now) (g.F.Reads.held c.status_for.new.files)
     (g.S.Sink.written c.args.out.now) (g.S.Sink.written c.status_for.new.out) c.status_for.ensures.told
 
 pub returns-clause-holds : goal.returns-clause-holds
@@ -35,15 +36,12 @@ returns-clause-holds g c =
     (g.S.Sink.written c.args.out.now) (g.S.Sink.written c.status_for.new.out)
     (run_told (texts c.args.words.now) c.status_for.result (g.F.Reads.held c.args.files.now) (g.F.Reads.held c.status_for.new.files)
     (g.S.Sink.written c.args.out.now) (g.S.Sink.written c.status_for.new.out) c.status_for.ensures.told)
-    (play_told (texts c.args.words.now) c.status_for.result (g.F.Reads.held c.args.files.now) (g.F.Reads.held c.status_for.new.files)
-    (g.S.Sink.written c.args.out.now) (g.S.Sink.written c.status_for.new.out) c.status_for.ensures.told)
 
-pub returns-clause-means : goal.returns-clause-means
-returns-clause-means g c =
-    meant_told c.played_runs_are_the_sources.ensures.played c.played_runs_are_the_sources.ensures.whole (texts c.args.words.now) c.status_for.result (g.F.Reads.held c.args.files.now) (g.F.Reads.held c.status_for.new.files)
-    (g.S.Sink.written c.args.out.now) (g.S.Sink.written c.status_for.new.out)
-    (play_told (texts c.args.words.now) c.status_for.result (g.F.Reads.held c.args.files.now) (g.F.Reads.held c.status_for.new.files)
-    (g.S.Sink.written c.args.out.now) (g.S.Sink.written c.status_for.new.out) c.status_for.ensures.told)
+pub returns-clause-watches : goal.returns-clause-watches
+returns-clause-watches g c =
+    watch_told c.runs_are_of_instructions.ensures.runs c.kept_runs_are_the_sources.ensures.decides c.kept_runs_are_the_sources.ensures.follows c.kept_runs_are_the_sources.ensures.whole
+    (texts c.args.words.now) c.status_for.result (g.F.Reads.held c.args.files.now) (g.F.Reads.held c.status_for.new.files)
+    (g.S.Sink.written c.args.out.now) (g.S.Sink.written c.status_for.new.out) c.status_for.ensures.told
 
 pub returns-clause-fronts : goal.returns-clause-fronts
 returns-clause-fronts g c =
@@ -52,7 +50,7 @@ returns-clause-fronts g c =
 
 pub returns-clause-generates : goal.returns-clause-generates
 returns-clause-generates g c =
-    gen_told (texts c.args.words.now) c.status_for.result (g.F.Reads.held c.args.files.now) (g.F.Reads.held c.status_for.new.files)
+    gen_told c.played_runs_are_the_sources.ensures.played c.played_runs_are_the_sources.ensures.whole (texts c.args.words.now) c.status_for.result (g.F.Reads.held c.args.files.now) (g.F.Reads.held c.status_for.new.files)
     (g.S.Sink.written c.args.out.now) (g.S.Sink.written c.status_for.new.out) c.status_for.ensures.told
 
 pub returns-clause-untouched : goal.returns-clause-untouched

@@ -3,7 +3,7 @@ use Rattle.std.specs.Prelude.{Err}
 use Rattle.trace_core.specs.Putting.{PutsText}
 use Rattle.trace_core.proofs.Puts.{front_of_piece}
 use Rattle.run_core.proofs.Endings.{put_rest}
-use Rattle.kit_core.proofs.top.put_both.Goals as goal
+use Rattle.kit_tools.proofs.putting.put_both.Goals as goal
 
 pub returns-in_err-put_piece-clause-puts : goal.returns-in_err-put_piece-clause-puts
 returns-in_err-put_piece-clause-puts g c =

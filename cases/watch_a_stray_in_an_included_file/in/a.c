@@ -1,0 +1,2 @@
+#include "b.c"
+void main() { port_out(GPU_ClearColor, wrong()); }

@@ -1,0 +1,13 @@
+
+
+
+
+
+
+
+
+int wrong()
+{
+    int x;
+    return x;
+}

@@ -1,0 +1,1 @@
+void main() { int[3] a; a[3] = 1; }

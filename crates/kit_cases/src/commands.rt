@@ -18,6 +18,32 @@ const FRONT: &[u8] = b"KIT-CART\x01\0\0\0\x98\0\0\0\x03\0\0\0\0\0\0\0\0\0\0\0hel
 
 const PROGRAM: &[u8] = b"V32-VBIN\x03\0\0\0\x02\x02\0\x62\xff\0\0\0\0\0\0\0";
 
+// Waits for ever.
+const WAITS: &[u8] = b"V32-VBIN\x03\0\0\0\0\0\0\x04\0\0\0\x0A\0\0\0\x20";
+
+// Asks for two controls of a gamepad, shows their difference as a colour, and halts.
+const FRONT_OF_FIVE: &[u8] = b"KIT-CART\x01\0\0\0\xA0\0\0\0\x05\0\0\0\0\0\0\0\0\0\0\0hello";
+
+const ASKS: &[u8] =
+    b"V32-VBIN\x05\0\0\0\x02\x04\0\x5C\x03\x04\x20\x5C\0\0\x02\x9C\x02\x02\0\x60\0\0\0\0";
+
+// The moving square.
+const SQUARE: &[u8] = b"#include \"video.h\"\n#include \"input.h\"\n#include \"time.h\"
+void main() {
+    int x = 304;
+    select_texture(0);
+    select_region(0);
+    define_region(0, 0, 31, 31, 0, 0);
+    while (true) {
+        clear_screen(color_black);
+        if (gamepad_left() > 0) x -= 2;
+        if (gamepad_right() > 0) x += 2;
+        draw_region_at(x, 164);
+        end_frame();
+    }
+}
+";
+
 const FRONT_WITH_LINES: &[u8] = b"KIT-CART\x02\0\0\0\xC8\0\0\0\x03\0\0\0\0\0\0\0\0\0\0\0hello";
 
 const FAULTY: &[u8] =
@@ -29,7 +55,7 @@ const EMPTY_WORDS: &[u8] = b"V32-VBIN\x01\0\0\0\0\0\0\0";
 fn some_files(alloc: Global) -> Result<Vec<(Name, Seq<u8>)>, Fail> {
     let mut held = Vec::new(alloc);
     // A name, and its bytes: those in front, so many zeros, and those behind.
-    let rows: [(&str, &[u8], usize, &[u8]); 12] = [
+    let rows: [(&str, &[u8], usize, &[u8]); 20] = [
         ("p", b"title hello\nsource s\n", 0, b""),
         (
             "s",
@@ -41,12 +67,25 @@ fn some_files(alloc: Global) -> Result<Vec<(Name, Seq<u8>)>, Fail> {
         ("c", b"#include \"h\"\nvoid main() { }", 0, b""),
         ("h", b"int x;", 0, b""),
         ("pads", b"pads 0 0 0\n", 0, b""),
-        ("answers", b"7\n", 0, b""),
+        ("answers", b"5\n7\n", 0, b""),
         ("text", b"a: OUT 0x202, 7\nJMP a\n", 0, b""),
         ("words", EMPTY_WORDS, 0, b""),
         ("cart", FRONT, 95, PROGRAM),
         ("faulty", FRONT_WITH_LINES, 95, FAULTY),
         ("card", b"", 1_048_576, b""),
+        ("v", b"title strays\nsource x\n", 0, b""),
+        (
+            "x",
+            b"void main() { int y; port_out(GPU_ClearColor, y); }",
+            0,
+            b"",
+        ),
+        ("w", b"title w\nsource m\ntexture t\nsound d\n", 0, b""),
+        ("m", SQUARE, 0, b""),
+        ("t", b"V32-VTEX\x20\0\0\0\x20\0\0\0", 4096, b""),
+        ("d", b"V32-VSND\x01\0\0\0", 4, b""),
+        ("waits", FRONT, 95, WAITS),
+        ("asks", FRONT_OF_FIVE, 95, ASKS),
     ];
     for (name, front, zeros, behind) in rows {
         let mut bytes = Vec::from_slice(alloc, front)?;
@@ -116,6 +155,15 @@ fn each_failing_call_of_the_files_leaves_fronts(rt: HostRuntime) -> Result<(), F
             "play p a b pads e f 2 card",
             "p s pads card a a b b e e f f e f card card",
         ),
+        (
+            "run waits pads a b 3 card",
+            "waits pads card a a b b a b a b a b card card",
+        ),
+        (
+            "play w a b pads e f 3 card",
+            "w m t d pads card a a b b e e f f e f e f e f card card",
+        ),
+        ("watch p a b pads 2 card", "p s pads card a a b b"),
         ("gen 4 e a b", "e e gen.c gen.c gen.c a a b b"),
     ];
     for (words, calls) in rows {
@@ -157,7 +205,15 @@ fn each_refused_put_leaves_a_front(rt: HostRuntime) -> Result<(), Fail> {
             2u32,
             0u8,
         ),
+        (
+            "trace asks answers none 9",
+            "in 0x402 0x00000005\nin 0x403 0x00000007\nout 0x202 0xFFFFFFFE\nhalted\n",
+            4,
+            0,
+        ),
         ("check p", "ok\n", 1, 0),
+        ("watch p a b pads 2 none", "met\n", 1, 0),
+        ("watch v a b pads 2 none", "stray at x:1\n", 3, 0),
         (
             "gen 1 e a b",
             "functions 1 tokens 29 out 0x00000008\n",

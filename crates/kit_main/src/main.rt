@@ -32,7 +32,7 @@ fn main(rt: HostRuntime) -> ExitCode {
     let Ok(words) = words_of(&rt) else {
         return ExitCode::from(NO_WORDS);
     };
-    let mut files = DiskFiles::new(&rt);
+    let mut files = DiskFiles::new(rt.alloc(), &rt);
     let mut out = StdoutSink::new(&rt);
     ExitCode::from(kit(rt.alloc(), &words, &mut files, &mut out))
 }

@@ -16,5 +16,8 @@ mod survey;
 pub use asm_reader::{AsmErr, read_asm};
 pub use assembling::assemble;
 pub use labels::Labels;
-pub use laws::{labels_are_addresses, words_assemble_again, words_stand_at_the_sizes_before};
+pub use laws::{
+    disassembly_assembles_again, labels_are_addresses, words_assemble_again,
+    words_stand_at_the_sizes_before,
+};
 pub use placement::Placement;

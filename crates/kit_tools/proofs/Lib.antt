@@ -5,3 +5,4 @@ pub mod Seconds
 pub mod Own
 pub mod Conversions
 pub mod Games
+pub mod Again

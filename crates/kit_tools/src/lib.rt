@@ -6,6 +6,7 @@
 #![tactic(auto)]
 
 mod converting;
+mod laws;
 mod putting;
 mod reading;
 mod refusal;
@@ -16,6 +17,7 @@ mod verdict;
 mod writing;
 
 pub use converting::convert_command;
+pub use laws::disassembly_is_assembled_to_its_file;
 pub use putting::{put_both, put_piece};
 pub use reading::read_file;
 pub use refusal::{DueRefusal, Refusal, line_of, status_of};

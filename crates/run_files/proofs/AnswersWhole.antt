@@ -1,6 +1,6 @@
 -- A list of answers that is read is what its lines write, and what its lines write is read.
 use Rattle.std.proofs.Common.{◌≡◌, inl, inr, ℕ, ◌+◌, ◌≤◌, ◌<◌, ◌^◌, Bool, true, false, List, [], ◌∷◌, ◌++◌, length, take, drop, refl, sym, ap, subst, ◌∙◌, append_assoc, append-nil, arith}
-use Rattle.std.specs.Prelude.{Option, Some, None, Ok, Err, ◌||◌, ◌==◌, not, nat_lt, nat_eq, codes, if◌then◌else◌}
+use Rattle.std.specs.Prelude.{Option, Some, None, Result, Ok, Err, Vec, IfOk, ◌||◌, ◌==◌, not, nat_lt, nat_eq, codes, if◌then◌else◌}
 use Rattle.std.specs.List.{list_all, AllByRecursion, AllZip, starts_with}
 use Rattle.std.specs.Cmp.Lexicographic.{same_text}
 use Rattle.std.proofs.lemmas.List.{take-append-drop}
@@ -8,7 +8,10 @@ use Rattle.line_text.specs.Lines.{lines_of}
 use Rattle.kit_base.specs.Digits.{value_in}
 use Rattle.line_text.specs.Numbers.{is_digit, is_hexadecimal_digit, begins_zero, below_limit, decimal_word, hexadecimal_word}
 use Rattle.line_text.specs.Reading.{Reading, read_from, after}
-use Rattle.run_files.specs.Answers.{answer_of, answer_step, with_answer}
+use Rattle.run_files.specs.declared.answers.AnswerErr.{AnswerErr}
+use Rattle.run_files.specs.declared.answers.AnswerErr.TheVariants as errors
+use Rattle.std.specs.declared.alloc.Global.{Global}
+use Rattle.run_files.specs.Answers.{answer_of, answer_step, with_answer, ReadAs}
 use Rattle.run_files.specs.AnswersFile.{IsDecimal, IsHexadecimal, IsAnswerLine, IsAnswersFile, IsFirstFaulty}
 use Rattle.run_files.proofs.Codes.{faulty_code}
 
@@ -233,3 +236,19 @@ pub is_refused : (bytes : List ℕ) (code number : ℕ) → (code ≡ 111) × Is
 is_refused bytes code number (is_code, h) =
     let at : 1 + length h.before ≡ number = (let is : number ≡ length h.before + 1 = h.number_is in omega arith) in
     ap (λ (ls : List (List ℕ)). go 1 [] ls) h.lines ∙ stops h.before h.faulty h.others 1 [] h.fine h.none ∙ ap (λ (k : ℕ). Err (111, k)) at ∙ ap (λ (c : ℕ). Err (c, number)) (sym is_code)
+
+-- ---- of the reader's answer
+
+pub is_found : (bytes : List ℕ) (r : Result (Vec ℕ Global) AnswerErr) → ReadAs r (go 1 [] (lines_of bytes)) → IfOk r (λ v. IsAnswersFile bytes v.items)
+is_found bytes (Ok v) given = found bytes v.items given
+is_found bytes (Err e) given = tt
+
+pub is_only : (bytes words : List ℕ) (r : Result (Vec ℕ Global) AnswerErr) → ReadAs r (go 1 [] (lines_of bytes)) → IsAnswersFile bytes words → ReadAs r (Ok words)
+is_only bytes words r given is = subst (λ reading. ReadAs r reading) (only bytes words is) given
+
+pub is_first : (bytes : List ℕ) (line : ℕ) (r : Result (Vec ℕ Global) AnswerErr) → ReadAs r (go 1 [] (lines_of bytes)) → r ≡ Err (errors.At line) → IsFirstFaulty bytes line
+is_first bytes line (Err (errors.At n)) given same =
+    let is : n ≡ line = cc in
+    (first_faulty bytes 111 line (given ∙ ap (λ k. Err (111, k)) is)).1
+is_first bytes line (Err errors.Memory) given same = absurd cc
+is_first bytes line (Ok v) given same = absurd cc

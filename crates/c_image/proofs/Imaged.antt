@@ -6,6 +6,7 @@ use Rattle.std.specs.Str.{is_utf8}
 use Rattle.std.proofs.lemmas.Bool.{and_from, le-leb}
 use Rattle.std.proofs.lemmas.List.{length-map}
 use Rattle.asm_items.specs.declared.item.AsmItem.{AsmItem}
+use Rattle.asm_items.specs.Written.{written}
 use Rattle.asm_reader.specs.Reading.{read}
 use Rattle.assembler.specs.Labels.{address_in}
 use Rattle.assembler.specs.Placed.{Placed}
@@ -86,10 +87,11 @@ module _ (p : ProgramT) (places : Places) (starts : List ℕ) (c : CompiledT) (w
     globals_are : global_addresses m ≡ addresses 0 (map (λ g. g.1) p.globals)
     globals_are = ap global_addresses map_is ∙ addresses_are p.globals 0 (let total = sound.globals in omega (arith, total))
 
-    pub is_image : (text : List ℕ) (table : LineTable) → read text ≡ Ok c.items → table ≡ table_of (address_in labels) p.functions os → length words ≤ 33554432
+    pub is_image : (text : List ℕ) (table : LineTable) → text ≡ written c.items → read text ≡ Ok c.items → table ≡ table_of (address_in labels) p.functions os → length words ≤ 33554432
         → IsImageOf p places starts (record { words = words; map = m; text = text; mid = c.mid; choices = c.choices; table = table })
-    is_image text table reads table_is short = record {
+    is_image text table spelled reads table_is short = record {
       items = c.items;
+      spelled = spelled;
       reads = reads;
       labels = labels;
       words = placed;

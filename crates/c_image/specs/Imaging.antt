@@ -3,6 +3,7 @@ use Rattle.std.specs.Prelude.{ℕ, ◌≡◌, ◌≤◌, ◌+◌, ◌*◌, true,
 use Rattle.std.specs.List.{AllByRecursion, list_all}
 use Rattle.std.specs.Str.{is_utf8}
 use Rattle.asm_items.specs.declared.item.AsmItem.{AsmItem}
+use Rattle.asm_items.specs.Written.{written}
 use Rattle.asm_reader.specs.Reading.{read}
 use Rattle.assembler.specs.Placed.{Placed}
 use Rattle.assembler.specs.Labels.{address_in}
@@ -90,8 +91,9 @@ pub record IsMidOf (p : ProgramT) (i : ImageT) : Type 0 where
 
 -- The image of a program whose functions begin at these tokens.
 pub record IsImageOf (p : ProgramT) (places : Places) (starts : List ℕ) (i : ImageT) : Type 0 where
-  -- the text reads as items, and the words are those that these are placed as
+  -- the text is the written form of items and reads as them, and the words are those that these are placed as
   pub items : List AsmItem
+  pub spelled : i.text ≡ written items
   pub reads : read i.text ≡ Ok items
   pub labels : List (List ℕ × ℕ)
   pub words : Placed items i.words labels

@@ -177,7 +177,7 @@ module _ (x : PlacedT) (names : List (List ℕ)) (placed : IsPlaced x) (can : Ca
           begins = f.begins;
           label = f.label;
           entry = f.entry;
-          body = body_at (S has_card) g f.out f.leave x.code (length (function_at x.code g).locals) (function_at x.code g).body (f.out + 1) (enters g) (leaves g) (function_is IsPlace x.code x.code.functions g placed.code.functions lt).nodes few f.inner;
+          body = body_at (S has_card) g f.out f.leave x.code (length (function_at x.code g).locals) (function_at x.code g).body (f.out + 1) (enters g) (leaves g) (function_is IsPlace x.code x.code.functions g placed.code.functions lt).nodes few refl f.inner;
           ends = f.ends;
           exit = f.exit;
         }
@@ -191,7 +191,7 @@ module _ (x : PlacedT) (names : List (List ℕ)) (placed : IsPlaced x) (can : Ca
         let here = subst (λ q. Stand words address (enters (count_of x)) (code_items V (frames (count_of x)) 0 [] 1 body) q) (sym leaves_boot) here1 in
         record {
           opening = subst (λ q. Stand words address 0x20000000 opening_items q) (sym enters_boot) b.1;
-          start = body_at (S has_card) (count_of x) 0 (c.2.1.0 ∙ sym leaves_boot) x.code (length x.code.start.locals) body 1 (enters (count_of x)) (leaves (count_of x)) placed.code.start.function.nodes (omega (arith, few)) here;
+          start = body_at (S has_card) (count_of x) 0 (c.2.1.0 ∙ sym leaves_boot) x.code (length x.code.start.locals) body 1 (enters (count_of x)) (leaves (count_of x)) placed.code.start.function.nodes (omega (arith, few)) refl here;
           last = a.0;
           closing = subst (λ q. Stand words address q (call_item V x.code.main ∷ item.Op (instr.Plain HLT) ∷ []) a.0) (c.2.1.1 ∙ sym leaves_boot) c.2.2;
           functions = λ g call. body_of g (called_lt g call.called_as);

@@ -22,10 +22,11 @@ use Rattle.asm_laws.specs.Names.{jump_label, function_label}
 use Rattle.asm_laws.specs.Labelled.{HasLabel}
 use Rattle.asm_laws.specs.Operations.{Frame, Whole, register, keep, fetches, keeps, keeps_some, is_in, hand, brings, takes, aim, lays, moves, changes, is_direct, in_place, apart, turned, is_turned, turned_or_apart, computes, slot_arg, slot_args, pushed_arg, pushed_args, popped_arg, popped_args, args_items, call_items, op_items, in_one, one_or_more, more_of, giving}
 use Rattle.asm_laws.specs.Framing.{frame_made, frame_gone}
-use Rattle.asm_laws.specs.Emitted.{labels, enclosing, jump, jump_unless, mark, first_part, second_part, choice, one_way, is_stop, enclosed, returning, items_past, code_items, call_item, own_items, exit_items}
+use Rattle.asm_laws.specs.Emitted.{labels, enclosing, jump, jump_unless, mark, first_part, second_part, choice, one_way, alone, left_to, ends, jump_when, is_stop, enclosed, returning, items_past, code_items, call_item, own_items, exit_items}
 use Rattle.asm_emit.specs.EmittedFrom.{IsCalled, GoesOn, AllGoOn}
 use Rattle.asm_laws.proofs.Enclosing.{innermost, further}
 use Rattle.asm_laws.proofs.InOne.{one_or_more_is}
+use Rattle.asm_laws.proofs.Leaving.{left_is}
 use Rattle.asm_laws.proofs.Known.{marked_left, marked_right, function_there}
 
 module _ (names : List (List ℕ)) (body : NodesT Where) where
@@ -213,62 +214,73 @@ module _ (names : List (List ℕ)) (body : NodesT Where) where
         let on : HasLabel (inner ++ later) (jump_label n) = marked_left inner later (jump_label n) (marked_right a (mark n ∷ []) (jump_label n) (inl refl)) in
         brought_ahead F p 9 (jump_unless (hand p 9) n ∷ inner) later (on, ahead_append a (mark n ∷ []) later ha (tt, tt))
 
-    chosen_ahead : (p : Where) (n w : ℕ) (t : Bool) (a b later : List AsmItem) → (t ≡ true → Ahead a ((mark n ∷ []) ++ later)) → Ahead a ((jump w ∷ mark n ∷ []) ++ (second_part w b ++ later)) → Ahead b ((mark w ∷ []) ++ later) → Ahead (cond t (one_way F p n a) (choice F p n w a b)) later
-    chosen_ahead p n w true a b later one ha hb = one_way_ahead p n a later (one refl)
-    chosen_ahead p n w false a b later one ha hb = choice_ahead p n w a b later ha hb
+    alone_ahead : (p : Where) (n : ℕ) (to : Option ℕ) (a later : List AsmItem) → ((l : ℕ) → to ≡ Some l → HasLabel later (jump_label l)) → Ahead a ((mark n ∷ []) ++ later) → Ahead (alone F p n to a) later
+    alone_ahead p n None a later there ha = one_way_ahead p n a later ha
+    alone_ahead p n (Some l) a later there ha = brought_ahead F p 9 (jump_when (hand p 9) l ∷ mark n ∷ []) later (marked_right (mark n ∷ []) later (jump_label l) (there l refl), (tt, tt))
+
+    chosen_ahead : (p : Where) (n w : ℕ) (t : Bool) (to : Option ℕ) (one a b later : List AsmItem) → ((l : ℕ) → to ≡ Some l → HasLabel later (jump_label l)) → (t ≡ true → Ahead one ((mark n ∷ []) ++ later)) → Ahead a ((jump w ∷ mark n ∷ []) ++ (second_part w b ++ later)) → Ahead b ((mark w ∷ []) ++ later) → Ahead (cond t (alone F p n to one) (choice F p n w a b)) later
+    chosen_ahead p n w true to one a b later there go ha hb = alone_ahead p n to one later there (go refl)
+    chosen_ahead p n w false to one a b later there go ha hb = choice_ahead p n w a b later ha hb
+
+    left_ahead : (a : NodesT Where) (bs : List Bool) (ls : List ℕ) (later : List AsmItem) → AreNodes x m bs a → length ls ≡ length bs → Ends ls later → (l : ℕ) → left_to ls a ≡ Some l → HasLabel later (jump_label l)
+    left_ahead a bs ls later ok same over l e =
+        let r = left_is ls a l e in
+        let i = (subst (λ z. AreNodes x m bs z) r.1 ok).0 in
+        subst (λ z. HasLabel later (jump_label z)) (sym r.2) (over r.0 (omega (arith, i, same)))
 
     deeper : (ls : List ℕ) (n : ℕ) (bs : List Bool) (b : Bool) → length ls ≡ length bs → length (ls ++ n ∷ []) ≡ length (b ∷ bs)
     deeper ls n bs b same = let h = length-append ls (n ∷ []) in omega (arith, h, same)
 
     module _ (out : ℕ) where
-      past_ahead : (c : NodesT Where) (done : ℕ) (bs : List Bool) (ls : List ℕ) (n : ℕ) (later : List AsmItem) → AreNodes x m bs c → length ls ≡ length bs → NoLoop bs → loops c ≡ 0 → n + labels c < 2 ^ 32 - 1 →
-          ((g : ℕ) → CallsTo g c → CallsTo g body) → Ends ls later → HasLabel later (jump_label out) → Ahead (items_past W F out ls n c done) later
-      past_ahead Stop done bs ls n later ok same nl none few calls ends over = tt
-      past_ahead (Do o c) zero bs ls n later ok same nl none few calls ends over =
+      past_ahead : (c : NodesT Where) (done : ℕ) (last : Bool) (bs : List Bool) (ls : List ℕ) (n : ℕ) (later : List AsmItem) → AreNodes x m bs c → length ls ≡ length bs → NoLoop bs → loops c ≡ 0 → n + labels c < 2 ^ 32 - 1 →
+          ((g : ℕ) → CallsTo g c → CallsTo g body) → Ends ls later → HasLabel later (jump_label out) → Ahead (items_past W F out last ls n c done) later
+      past_ahead Stop done last bs ls n later ok same nl none few calls on over = tt
+      past_ahead (Do o c) zero last bs ls n later ok same nl none few calls on over =
           let more = more_of (in_one W o c) in
-          ahead_append (one_or_more W F o (in_one W o c)) (items_past W F out ls n c more) later (one_or_more_ahead o c _ ok.0) (past_ahead c more bs ls n later ok.1 same nl none few calls ends over)
-      past_ahead (Do o c) (suc done) bs ls n later ok same nl none few calls ends over = past_ahead c done bs ls n later ok.1 same nl none few calls ends over
-      past_ahead (Call t g args c) done bs ls n later ok same nl none few calls ends over =
-          ahead_append (call_items W F t g args) (items_past W F out ls n c 0) later (call_ahead t g args _ (function_there x g (length args) ok.0) (calls g (inl refl)))
-          (past_ahead c 0 bs ls n later ok.1 same nl none few (λ h k. calls h (inr k)) ends over)
-      past_ahead (Choose p a b c) done bs ls n later ok same nl none few calls ends over =
+          ahead_append (one_or_more W F o (in_one W o c)) (items_past W F out last ls n c more) later (one_or_more_ahead o c _ ok.0) (past_ahead c more last bs ls n later ok.1 same nl none few calls on over)
+      past_ahead (Do o c) (suc done) last bs ls n later ok same nl none few calls on over = past_ahead c done last bs ls n later ok.1 same nl none few calls on over
+      past_ahead (Call t g args c) done last bs ls n later ok same nl none few calls on over =
+          ahead_append (call_items W F t g args) (items_past W F out last ls n c 0) later (call_ahead t g args _ (function_there x g (length args) ok.0) (calls g (inl refl)))
+          (past_ahead c 0 last bs ls n later ok.1 same nl none few (λ h k. calls h (inr k)) on over)
+      past_ahead (Choose p a b c) done last bs ls n later ok same nl none few calls on over =
           let w = n + 1 + labels a in
-          let one = items_past W F out ls (n + 1) a 0 in
-          let two = items_past W F out ls (w + 1) b 0 in
-          let rest = items_past W F out ls (n + (2 + labels a + labels b)) c 0 in
+          let one = items_past W F out (ends last c) ls (n + 1) a 0 in
+          let first = items_past W F out false ls (n + 1) a 0 in
+          let two = items_past W F out (ends last c) ls (w + 1) b 0 in
+          let rest = items_past W F out last ls (n + (2 + labels a + labels b)) c 0 in
           let after = rest ++ later in
-          let ends1 = ends_later ls rest later ends in
+          let ends1 = ends_later ls rest later on in
           let over1 = marked_right rest later (jump_label out) over in
-          ahead_append (cond (is_stop b) (one_way F p n one) (choice F p n w one two)) rest later
-          (chosen_ahead p n w (is_stop b) one two after
-          (λ is. past_ahead a 0 bs ls (n + 1) ((mark n ∷ []) ++ after) ok.0 same nl (omega (arith, none)) (omega (arith, few)) (λ h k. calls h (inl k)) (ends_later ls (mark n ∷ []) after ends1) (marked_right (mark n ∷ []) after (jump_label out) over1))
-          (past_ahead a 0 bs ls (n + 1) ((jump w ∷ mark n ∷ []) ++ (second_part w two ++ after)) ok.0 same nl (omega (arith, none)) (omega (arith, few)) (λ h k. calls h (inl k))
+          ahead_append (cond (is_stop b) (alone F p n (left_to ls a) one) (choice F p n w first two)) rest later
+          (chosen_ahead p n w (is_stop b) (left_to ls a) one first two after (left_ahead a bs ls after ok.0 same ends1)
+          (λ is. past_ahead a 0 (ends last c) bs ls (n + 1) ((mark n ∷ []) ++ after) ok.0 same nl (omega (arith, none)) (omega (arith, few)) (λ h k. calls h (inl k)) (ends_later ls (mark n ∷ []) after ends1) (marked_right (mark n ∷ []) after (jump_label out) over1))
+          (past_ahead a 0 false bs ls (n + 1) ((jump w ∷ mark n ∷ []) ++ (second_part w two ++ after)) ok.0 same nl (omega (arith, none)) (omega (arith, few)) (λ h k. calls h (inl k))
           (ends_later ls (jump w ∷ mark n ∷ []) (second_part w two ++ after) (ends_later ls (second_part w two) after ends1))
           (marked_right (jump w ∷ mark n ∷ []) (second_part w two ++ after) (jump_label out) (marked_right (second_part w two) after (jump_label out) over1)))
-          (past_ahead b 0 bs ls (w + 1) ((mark w ∷ []) ++ after) ok.1 same nl (omega (arith, none)) (omega (arith, few)) (λ h k. calls h (inr (inl k))) (ends_later ls (mark w ∷ []) after ends1) (marked_right (mark w ∷ []) after (jump_label out) over1)))
-          (past_ahead c 0 bs ls (n + (2 + labels a + labels b)) later ok.2 same nl (omega (arith, none)) (omega (arith, few)) (λ h k. calls h (inr (inr k))) ends over)
-      past_ahead (Block b c) done bs ls n later ok same nl none few calls ends over =
-          let one = items_past W F out (ls ++ n ∷ []) (n + 2) b 0 in
-          let rest = items_past W F out ls (n + (2 + labels b)) c 0 in
+          (past_ahead b 0 (ends last c) bs ls (w + 1) ((mark w ∷ []) ++ after) ok.1 same nl (omega (arith, none)) (omega (arith, few)) (λ h k. calls h (inr (inl k))) (ends_later ls (mark w ∷ []) after ends1) (marked_right (mark w ∷ []) after (jump_label out) over1)))
+          (past_ahead c 0 last bs ls (n + (2 + labels a + labels b)) later ok.2 same nl (omega (arith, none)) (omega (arith, few)) (λ h k. calls h (inr (inr k))) on over)
+      past_ahead (Block b c) done last bs ls n later ok same nl none few calls on over =
+          let one = items_past W F out (ends last c) (ls ++ n ∷ []) (n + 2) b 0 in
+          let rest = items_past W F out last ls (n + (2 + labels b)) c 0 in
           let after = rest ++ later in
-          let ends1 = ends_later ls (mark (n + 1) ∷ []) after (ends_later ls rest later ends) in
-          let inside = past_ahead b 0 (false ∷ bs) (ls ++ n ∷ []) (n + 2) ((mark (n + 1) ∷ []) ++ after) ok.0 (deeper ls n bs false same) (no_loop bs nl) (omega (arith, none)) (omega (arith, few)) (λ h k. calls h (inl k))
+          let ends1 = ends_later ls (mark (n + 1) ∷ []) after (ends_later ls rest later on) in
+          let inside = past_ahead b 0 (ends last c) (false ∷ bs) (ls ++ n ∷ []) (n + 2) ((mark (n + 1) ∷ []) ++ after) ok.0 (deeper ls n bs false same) (no_loop bs nl) (omega (arith, none)) (omega (arith, few)) (λ h k. calls h (inl k))
           (ends_inside ls n ((mark (n + 1) ∷ []) ++ after) (omega (arith, few)) ends1 (inl refl)) (marked_right (mark (n + 1) ∷ []) after (jump_label out) (marked_right rest later (jump_label out) over)) in
           ahead_append (enclosed n one) rest later (tt, ahead_append one (mark (n + 1) ∷ []) after inside (tt, tt))
-          (past_ahead c 0 bs ls (n + (2 + labels b)) later ok.1 same nl (omega (arith, none)) (omega (arith, few)) (λ h k. calls h (inr k)) ends over)
-      past_ahead (Loop b c) done bs ls n later ok same nl none few calls ends over = absurd (omega (arith, none))
-      past_ahead (Leave k c) done bs ls n later ok same nl none few calls ends over =
+          (past_ahead c 0 last bs ls (n + (2 + labels b)) later ok.1 same nl (omega (arith, none)) (omega (arith, few)) (λ h k. calls h (inr k)) on over)
+      past_ahead (Loop b c) done last bs ls n later ok same nl none few calls on over = absurd (omega (arith, none))
+      past_ahead (Leave k c) done last bs ls n later ok same nl none few calls on over =
           let l = ok.0 in
-          (marked_right (items_past W F out ls n c 0) later (jump_label (add (enclosing ls k) 1)) (ends k (omega (arith, l, same))), past_ahead c 0 bs ls n later ok.1 same nl none few calls ends over)
-      past_ahead (Again k c) done bs ls n later ok same nl none few calls ends over = absurd (nl k ok.0)
-      past_ahead (Return p c) done bs ls n later ok same nl none few calls ends over =
-          let rest = items_past W F out ls n c 0 in
-          ahead_append (returning F p out) rest later (ahead_append (giving F p) (jump out ∷ []) (rest ++ later) (giving_ahead p _) (marked_right rest later (jump_label out) over, tt))
-          (past_ahead c 0 bs ls n later ok same nl none few calls ends over)
+          (marked_right (items_past W F out last ls n c 0) later (jump_label (add (enclosing ls k) 1)) (on k (omega (arith, l, same))), past_ahead c 0 last bs ls n later ok.1 same nl none few calls on over)
+      past_ahead (Again k c) done last bs ls n later ok same nl none few calls on over = absurd (nl k ok.0)
+      past_ahead (Return p c) done last bs ls n later ok same nl none few calls on over =
+          let rest = items_past W F out last ls n c 0 in
+          ahead_append (returning F p out (ends last c)) rest later (ahead_append (giving F p) (cond (ends last c) [] (jump out ∷ [])) (rest ++ later) (giving_ahead p _) (one_of_both (ends last c) [] (jump out ∷ []) (rest ++ later) tt (marked_right rest later (jump_label out) over, tt)))
+          (past_ahead c 0 last bs ls n later ok same nl none few calls on over)
 
       pub code_ahead : (c : NodesT Where) (bs : List Bool) (ls : List ℕ) (n : ℕ) (later : List AsmItem) → AreNodes x m bs c → length ls ≡ length bs → NoLoop bs → loops c ≡ 0 → n + labels c < 2 ^ 32 - 1 →
           ((g : ℕ) → CallsTo g c → CallsTo g body) → Ends ls later → HasLabel later (jump_label out) → Ahead (code_items W F out ls n c) later
-      code_ahead c bs ls n later ok same nl none few calls ends over = past_ahead c 0 bs ls n later ok same nl none few calls ends over
+      code_ahead c bs ls n later ok same nl none few calls on over = past_ahead c 0 true bs ls n later ok same nl none few calls on over
 
   made_ahead : (size : ℕ) (later : List AsmItem) → Ahead (frame_made size) later
   made_ahead size later = one_of_both (size == 0) [] (item.Op (instr.One PUSH 14) ∷ item.Op (instr.Mov (RegReg 14 15)) ∷ item.Op (instr.Two ISUB 15 (src.Imm (Left size))) ∷ []) later tt (tt, (tt, (tt, tt)))

@@ -1,6 +1,6 @@
 -- The items of nodes in memory are those of the plain nodes.
-use Rattle.std.proofs.Common.{◌≡◌, ℕ, zero, suc, ◌+◌, ◌-◌, List, [], ◌∷◌, ◌++◌, refl, sym, ap, ◌∙◌, arith, false, cond, Option, Some, None}
-use Rattle.std.specs.Prelude.{◌==◌}
+use Rattle.std.proofs.Common.{◌≡◌, ℕ, zero, suc, ◌+◌, ◌-◌, List, [], ◌∷◌, ◌++◌, refl, sym, ap, ◌∙◌, arith, Bool, true, false, cond, Option, Some, None}
+use Rattle.std.specs.Prelude.{◌==◌, ◌&&◌}
 use Rattle.std.proofs.lemmas.Bool.Decides.{nat_tests}
 use Rattle.kit_base.specs.Word.{add}
 use Rattle.v32_isa.specs.declared.instruction.Instr.{Instr}
@@ -9,11 +9,11 @@ use Rattle.asm_items.specs.Items.{Imm}
 use Rattle.mid_code.specs.declared.placed.Where.{Where}
 use Rattle.mid_code.specs.declared.node.Op.{Op}
 use Rattle.mid_code.specs.declared.node.Op.TheVariants as op
-use Rattle.mid_code.specs.Code.{OpT, ConstO, NullO, MoveO, OneO, TwoO, GlobalO, LocalO, LiteralO, CardO, StepO, ApartO, PtrTestO, LoadO, StoreO, FreshO, EndO, InO, OutO, WaitO, HaltO, NodesT, Do, Call}
+use Rattle.mid_code.specs.Code.{OpT, ConstO, NullO, MoveO, OneO, TwoO, GlobalO, LocalO, LiteralO, CardO, StepO, ApartO, PtrTestO, LoadO, StoreO, FreshO, EndO, InO, OutO, WaitO, HaltO, NodesT, Do, Call, Leave}
 use Rattle.mid_code.specs.Functions.{op_before, NodeT, DoN, ChooseN, BlockN, LoopN, LeaveN, AgainN, ReturnN, ListT, NoN, MoreN, before, joined}
 use Rattle.asm_laws.specs.Operations.{Frame, Whole, op_items, in_one, one_or_more, more_of, call_items}
-use Rattle.asm_laws.specs.Emitted.{labels, enclosing, jump, one_way, is_stop, choice, enclosed, returning, items_past, code_items}
-use Rattle.asm_emit.specs.Listed.{node_labels, list_labels, is_none, do_items, ahead_items, ahead_more, front_items, front_more, onward, node_items, list_past, list_items}
+use Rattle.asm_laws.specs.Emitted.{labels, enclosing, jump, alone, left_to, ends, is_stop, choice, enclosed, returning, items_past, code_items}
+use Rattle.asm_emit.specs.Listed.{left_in, ends_in, node_labels, list_labels, is_none, do_items, ahead_items, ahead_more, front_items, front_more, onward, node_items, list_past, list_items}
 
 -- an operation before nodes is a node of its own, or a call
 op_parts : (Q : NodesT Where → NodesT Where → Type 0) → ((o : OpT Where) (c : NodesT Where) → Q c (Do o c)) → ((t : Option Where) (f : ℕ) (args : List Where) (c : NodesT Where) → Q c (Call t f args c)) → (o : Op Where) (c : NodesT Where) → Q c (op_before o c)
@@ -55,6 +55,26 @@ stops_alike : (xs : ListT Where) → is_stop (joined xs) ≡ is_none xs
 stops_alike NoN = refl
 stops_alike (MoreN x rest) = node_goes x (joined rest)
 
+left_none : (ls : List ℕ) (k : ℕ) (x : NodeT Where) (c : NodesT Where) → left_to ls (Leave k (before x c)) ≡ None
+left_none ls k (DoN o) c = op_parts (λ c n. left_to ls (Leave k n) ≡ None) (λ o c. refl) (λ t f args c. refl) o c
+left_none ls k (ChooseN p a b) c = refl
+left_none ls k (BlockN b) c = refl
+left_none ls k (LoopN b) c = refl
+left_none ls k (LeaveN j) c = refl
+left_none ls k (AgainN j) c = refl
+left_none ls k (ReturnN p) c = refl
+
+left_alike : (ls : List ℕ) (xs : ListT Where) → left_to ls (joined xs) ≡ left_in ls xs
+left_alike ls NoN = refl
+left_alike ls (MoreN (DoN o) rest) = op_parts (λ c n. left_to ls n ≡ None) (λ o c. refl) (λ t f args c. refl) o (joined rest)
+left_alike ls (MoreN (ChooseN p a b) rest) = refl
+left_alike ls (MoreN (BlockN b) rest) = refl
+left_alike ls (MoreN (LoopN b) rest) = refl
+left_alike ls (MoreN (LeaveN k) NoN) = refl
+left_alike ls (MoreN (LeaveN k) (MoreN x rest)) = left_none ls k x (joined rest)
+left_alike ls (MoreN (AgainN k) rest) = refl
+left_alike ls (MoreN (ReturnN p) rest) = refl
+
 mutual
   node_counts : (x : NodeT Where) (c : NodesT Where) → labels (before x c) ≡ node_labels x + labels c
   node_counts (DoN o) c = let e = op_labels o c in omega (arith, e)
@@ -73,81 +93,89 @@ not_zero : (k : ℕ) → (suc k == 0) ≡ false
 not_zero k = grind (arith, nat_tests)
 
 module _ (W : Whole) (F : Frame) (out : ℕ) where
-  abbrev items : List ℕ → ℕ → NodesT Where → (done : ℕ) → List AsmItem
+  abbrev items : (last : Bool) → List ℕ → ℕ → NodesT Where → (done : ℕ) → List AsmItem
   items = items_past W F out
 
-  nothing : (ls : List ℕ) (n : ℕ) (c : NodesT Where) → items ls n c 0 ≡ items ls (n + 0) c 0
-  nothing ls n c = let z : n ≡ n + 0 = omega arith in ap (λ k. items ls k c 0) z
+  nothing : (last : Bool) (ls : List ℕ) (n : ℕ) (c : NodesT Where) → items last ls n c 0 ≡ items last ls (n + 0) c 0
+  nothing last ls n c = let z : n ≡ n + 0 = omega arith in ap (λ k. items last ls k c 0) z
 
   -- what comes of nodes whose first is a node with these items and so many labels
-  abbrev On : NodesT Where → ℕ → List AsmItem → List ℕ → ℕ → ℕ → NodesT Where → List AsmItem
-  On first k own ls n m c = front_items W first k ++ onward (front_more W first k) own (items ls n c) (items ls (n + m) c 0)
+  abbrev On : (last : Bool) → NodesT Where → ℕ → List AsmItem → List ℕ → ℕ → ℕ → NodesT Where → List AsmItem
+  On last first k own ls n m c = front_items W first k ++ onward (front_more W first k) own (items last ls n c) (items last ls (n + m) c 0)
 
-  done_are : (o : OpT Where) (r : Option (ℕ × Option (Instr Imm) × Instr Imm)) (ls : List ℕ) (n : ℕ) (c : NodesT Where) → one_or_more W F o r ++ items ls n c (more_of r) ≡ ahead_items r ++ onward (ahead_more r) (op_items W F o) (items ls n c) (items ls (n + 0) c 0)
-  done_are o None ls n c = ap (λ xs. op_items W F o ++ xs) (nothing ls n c)
-  done_are o (Some (more, first, i)) ls n c = refl
+  done_are : (o : OpT Where) (r : Option (ℕ × Option (Instr Imm) × Instr Imm)) (last : Bool) (ls : List ℕ) (n : ℕ) (c : NodesT Where) → one_or_more W F o r ++ items last ls n c (more_of r) ≡ ahead_items r ++ onward (ahead_more r) (op_items W F o) (items last ls n c) (items last ls (n + 0) c 0)
+  done_are o None last ls n c = ap (λ xs. op_items W F o ++ xs) (nothing last ls n c)
+  done_are o (Some (more, first, i)) last ls n c = refl
 
-  plain_are : (o : OpT Where) (ls : List ℕ) (n : ℕ) (c : NodesT Where) (k : ℕ) → items ls n (Do o c) k ≡ On (Do o c) k (op_items W F o) ls n 0 c
-  plain_are o ls n c zero = done_are o (in_one W o c) ls n c
-  plain_are o ls n c (suc k) =
+  plain_are : (o : OpT Where) (last : Bool) (ls : List ℕ) (n : ℕ) (c : NodesT Where) (k : ℕ) → items last ls n (Do o c) k ≡ On last (Do o c) k (op_items W F o) ls n 0 c
+  plain_are o last ls n c zero = done_are o (in_one W o c) last ls n c
+  plain_are o last ls n c (suc k) =
       let e : k ≡ suc k - 1 = omega arith in
       let b = not_zero k in
       let r = in_one W o c in
-      ap (items ls n c) e ∙ (λ i. cond (sym b i) (ahead_items r) [] ++ onward (cond (sym b i) (ahead_more r) (Some (suc k - 1))) (op_items W F o) (items ls n c) (items ls (n + 0) c 0))
+      ap (items last ls n c) e ∙ (λ i. cond (sym b i) (ahead_items r) [] ++ onward (cond (sym b i) (ahead_more r) (Some (suc k - 1))) (op_items W F o) (items last ls n c) (items last ls (n + 0) c 0))
 
-  op_are : (o : Op Where) (ls : List ℕ) (n : ℕ) (c : NodesT Where) (k : ℕ) → items ls n (op_before o c) k ≡ On (op_before o c) k (do_items W F o) ls n 0 c
-  op_are (op.Const t word) ls n c k = plain_are (ConstO t word) ls n c k
-  op_are (op.Null t) ls n c k = plain_are (NullO t) ls n c k
-  op_are (op.Move t a) ls n c k = plain_are (MoveO t a) ls n c k
-  op_are (op.One o t a) ls n c k = plain_are (OneO o t a) ls n c k
-  op_are (op.Two o t a b) ls n c k = plain_are (TwoO o t a b) ls n c k
-  op_are (op.Global t j) ls n c k = plain_are (GlobalO t j) ls n c k
-  op_are (op.Local t j) ls n c k = plain_are (LocalO t j) ls n c k
-  op_are (op.Literal t j) ls n c k = plain_are (LiteralO t j) ls n c k
-  op_are (op.Card t) ls n c k = plain_are (CardO t) ls n c k
-  op_are (op.Step t p s) ls n c k = plain_are (StepO t p s) ls n c k
-  op_are (op.Apart t p q) ls n c k = plain_are (ApartO t p q) ls n c k
-  op_are (op.PtrTest o t p q) ls n c k = plain_are (PtrTestO o t p q) ls n c k
-  op_are (op.Load t p) ls n c k = plain_are (LoadO t p) ls n c k
-  op_are (op.Store p a) ls n c k = plain_are (StoreO p a) ls n c k
-  op_are (op.Fresh j) ls n c k = plain_are (FreshO j) ls n c k
-  op_are (op.End j) ls n c k = plain_are (EndO j) ls n c k
-  op_are (op.Call t f args) ls n c k = ap (λ xs. call_items W F t f args ++ xs) (nothing ls n c)
-  op_are (op.In t p) ls n c k = plain_are (InO t p) ls n c k
-  op_are (op.Out p a) ls n c k = plain_are (OutO p a) ls n c k
-  op_are op.Wait ls n c k = plain_are WaitO ls n c k
-  op_are op.Halt ls n c k = plain_are HaltO ls n c k
+  op_are : (o : Op Where) (last : Bool) (ls : List ℕ) (n : ℕ) (c : NodesT Where) (k : ℕ) → items last ls n (op_before o c) k ≡ On last (op_before o c) k (do_items W F o) ls n 0 c
+  op_are (op.Const t word) last ls n c k = plain_are (ConstO t word) last ls n c k
+  op_are (op.Null t) last ls n c k = plain_are (NullO t) last ls n c k
+  op_are (op.Move t a) last ls n c k = plain_are (MoveO t a) last ls n c k
+  op_are (op.One o t a) last ls n c k = plain_are (OneO o t a) last ls n c k
+  op_are (op.Two o t a b) last ls n c k = plain_are (TwoO o t a b) last ls n c k
+  op_are (op.Global t j) last ls n c k = plain_are (GlobalO t j) last ls n c k
+  op_are (op.Local t j) last ls n c k = plain_are (LocalO t j) last ls n c k
+  op_are (op.Literal t j) last ls n c k = plain_are (LiteralO t j) last ls n c k
+  op_are (op.Card t) last ls n c k = plain_are (CardO t) last ls n c k
+  op_are (op.Step t p s) last ls n c k = plain_are (StepO t p s) last ls n c k
+  op_are (op.Apart t p q) last ls n c k = plain_are (ApartO t p q) last ls n c k
+  op_are (op.PtrTest o t p q) last ls n c k = plain_are (PtrTestO o t p q) last ls n c k
+  op_are (op.Load t p) last ls n c k = plain_are (LoadO t p) last ls n c k
+  op_are (op.Store p a) last ls n c k = plain_are (StoreO p a) last ls n c k
+  op_are (op.Fresh j) last ls n c k = plain_are (FreshO j) last ls n c k
+  op_are (op.End j) last ls n c k = plain_are (EndO j) last ls n c k
+  op_are (op.Call t f args) last ls n c k = ap (λ xs. call_items W F t f args ++ xs) (nothing last ls n c)
+  op_are (op.In t p) last ls n c k = plain_are (InO t p) last ls n c k
+  op_are (op.Out p a) last ls n c k = plain_are (OutO p a) last ls n c k
+  op_are op.Wait last ls n c k = plain_are WaitO last ls n c k
+  op_are op.Halt last ls n c k = plain_are HaltO last ls n c k
 
   mutual
-    node_are : (x : NodeT Where) (ls : List ℕ) (n : ℕ) (c : NodesT Where) (k : ℕ) → items ls n (before x c) k ≡ On (before x c) k (node_items W F out ls n x) ls n (node_labels x) c
-    node_are (DoN o) ls n c k = op_are o ls n c k
-    node_are (ChooseN p a b) ls n c k =
+    node_are : (x : NodeT Where) (last : Bool) (ls : List ℕ) (n : ℕ) (c : NodesT Where) (k : ℕ) → items last ls n (before x c) k ≡ On last (before x c) k (node_items W F out (ends last c) ls n x) ls n (node_labels x) c
+    node_are (DoN o) last ls n c k = op_are o last ls n c k
+    node_are (ChooseN p a b) last ls n c k =
         let la = list_counts a in
         let lb = list_counts b in
-        let one = past_are a ls (n + 1) 0 in
-        let two = past_are b ls (n + 1 + list_labels a + 1) 0 in
+        let one = past_are a (ends last c) ls (n + 1) 0 in
+        let first = past_are a false ls (n + 1) 0 in
+        let le = left_alike ls a in
+        let two = past_are b (ends last c) ls (n + 1 + list_labels a + 1) 0 in
         let st = stops_alike b in
-        (λ i. cond (st i) (one_way F p n (items ls (n + 1) (joined a) 0)) (choice F p n (n + 1 + la i) (items ls (n + 1) (joined a) 0) (items ls (n + 1 + la i + 1) (joined b) 0)) ++ items ls (n + (2 + la i + lb i)) c 0)
-        ∙ (λ i. cond (is_none b) (one_way F p n (one i)) (choice F p n (n + 1 + list_labels a) (one i) (two i)) ++ items ls (n + (2 + list_labels a + list_labels b)) c 0)
-    node_are (BlockN b) ls n c k =
+        (λ i. cond (st i) (alone F p n (le i) (items (ends last c) ls (n + 1) (joined a) 0)) (choice F p n (n + 1 + la i) (items false ls (n + 1) (joined a) 0) (items (ends last c) ls (n + 1 + la i + 1) (joined b) 0)) ++ items last ls (n + (2 + la i + lb i)) c 0)
+        ∙ (λ i. cond (is_none b) (alone F p n (left_in ls a) (one i)) (choice F p n (n + 1 + list_labels a) (first i) (two i)) ++ items last ls (n + (2 + list_labels a + list_labels b)) c 0)
+    node_are (BlockN b) last ls n c k =
         let lb = list_counts b in
-        let one = past_are b (ls ++ n ∷ []) (n + 2) 0 in
-        λ i. enclosed n (one i) ++ items ls (n + (2 + lb i)) c 0
-    node_are (LoopN b) ls n c k =
+        let one = past_are b (ends last c) (ls ++ n ∷ []) (n + 2) 0 in
+        λ i. enclosed n (one i) ++ items last ls (n + (2 + lb i)) c 0
+    node_are (LoopN b) last ls n c k =
         let lb = list_counts b in
-        let one = past_are b (ls ++ n ∷ []) (n + 2) 0 in
-        λ i. enclosed n (one i) ++ items ls (n + (2 + lb i)) c 0
-    node_are (LeaveN j) ls n c k = ap (λ xs. jump (add (enclosing ls j) 1) ∷ xs) (nothing ls n c)
-    node_are (AgainN j) ls n c k = ap (λ xs. jump (enclosing ls j) ∷ xs) (nothing ls n c)
-    node_are (ReturnN p) ls n c k = ap (λ xs. returning F p out ++ xs) (nothing ls n c)
+        let one = past_are b (ends last c) (ls ++ n ∷ []) (n + 2) 0 in
+        λ i. enclosed n (one i) ++ items last ls (n + (2 + lb i)) c 0
+    node_are (LeaveN j) last ls n c k = ap (λ xs. jump (add (enclosing ls j) 1) ∷ xs) (nothing last ls n c)
+    node_are (AgainN j) last ls n c k = ap (λ xs. jump (enclosing ls j) ∷ xs) (nothing last ls n c)
+    node_are (ReturnN p) last ls n c k = ap (λ xs. returning F p out (ends last c) ++ xs) (nothing last ls n c)
 
-    past_are : (xs : ListT Where) (ls : List ℕ) (n k : ℕ) → items ls n (joined xs) k ≡ list_past W F out ls n xs k
-    past_are NoN ls n k = refl
-    past_are (MoreN x rest) ls n k =
+    past_are : (xs : ListT Where) (last : Bool) (ls : List ℕ) (n k : ℕ) → items last ls n (joined xs) k ≡ list_past W F out last ls n xs k
+    past_are NoN last ls n k = refl
+    past_are (MoreN x rest) last ls n k =
         let first = before x (joined rest) in
-        let on : (j : ℕ) → items ls n (joined rest) j ≡ list_past W F out ls n rest j = past_are rest ls n in
-        let anew = past_are rest ls (n + node_labels x) 0 in
-        node_are x ls n (joined rest) k ∙ (λ i. front_items W first k ++ onward (front_more W first k) (node_items W F out ls n x) (λ j. on j i) (anew i))
+        let on : (j : ℕ) → items last ls n (joined rest) j ≡ list_past W F out last ls n rest j = past_are rest last ls n in
+        let anew = past_are rest last ls (n + node_labels x) 0 in
+        let st = stops_alike rest in
+        node_are x last ls n (joined rest) k ∙ (λ i. front_items W first k ++ onward (front_more W first k) (node_items W F out (st i && last) ls n x) (λ j. on j i) (anew i))
 
   pub list_are : (xs : ListT Where) (ls : List ℕ) (n : ℕ) → code_items W F out ls n (joined xs) ≡ list_items W F out ls n xs
-  list_are xs ls n = past_are xs ls n 0
+  list_are xs ls n = past_are xs true ls n 0
+
+-- nodes that only leave a block or loop take no labels
+pub left_labels : (ls : List ℕ) (xs : ListT Where) (l : ℕ) → left_in ls xs ≡ Some l → list_labels xs ≡ 0
+left_labels ls (MoreN (LeaveN k) NoN) l e = refl
+left_labels ls _ l e = absurd cc

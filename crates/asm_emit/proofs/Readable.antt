@@ -24,7 +24,7 @@ use Rattle.mid_code.specs.Code.{OpT, ConstO, NullO, MoveO, OneO, TwoO, GlobalO, 
 use Rattle.mid_code.specs.Invariants.{AllOf, IsOp, AreNodes}
 use Rattle.asm_laws.specs.Operations.{Frame, Whole, register, keep, fetches, keeps, keeps_some, is_in, hand, brings, takes, aim, lays, moves, changes, is_direct, in_place, apart, turned, is_turned, turned_or_apart, computes, slot_arg, slot_args, pushed_arg, pushed_args, popped_arg, popped_args, args_items, call_items, op_items, in_one, one_or_more, more_of, giving, start_frame, opening_items, literal_items, literals_items}
 use Rattle.asm_laws.specs.Framing.{frame_made, frame_gone}
-use Rattle.asm_laws.specs.Emitted.{labels, enclosing, jump, jump_unless, mark, first_part, second_part, choice, one_way, is_stop, enclosed, returning, items_past, code_items, exit_items, function_items, functions_items, closing_items, start_items, program_items}
+use Rattle.asm_laws.specs.Emitted.{labels, enclosing, jump, jump_unless, mark, first_part, second_part, choice, one_way, alone, left_to, ends, jump_when, is_stop, enclosed, returning, items_past, code_items, exit_items, function_items, functions_items, closing_items, start_items, program_items}
 use Rattle.asm_laws.proofs.InOne.{one_or_more_is}
 use Rattle.asm_emit.specs.Words.{AreWords, TextsAreWords}
 use Rattle.asm_emit.proofs.ReadableLabels.{jump_named, literal_named, function_named}
@@ -213,11 +213,15 @@ module _ (x : CodeT Where) (W : Whole) (words : list_all is_word W.names ≡ tru
     call_fine : (t : Option Where) (g : ℕ) (args : List Where) → AllFine (call_items W F t g args)
     call_fine t g args = join (args_items F (W.frames g) (W.params g) args) _ (args_fine F (W.frames g) (W.params g) args) ((function_named W.names g words, tt), some_fine F t)
 
-    chosen_fine : (p : Where) (n w : ℕ) (t : Bool) (a b : List AsmItem) → AllFine a → AllFine b → AllFine (cond t (one_way F p n a) (choice F p n w a b))
-    chosen_fine p n w t a b ha hb =
+    alone_fine : (p : Where) (n : ℕ) (to : Option ℕ) (a : List AsmItem) → AllFine a → AllFine (alone F p n to a)
+    alone_fine p n None a ha = join (brings F p 9) (jump_unless (hand p 9) n ∷ (a ++ mark n ∷ [])) (brings_fine F p 9 (omega arith)) ((hand_fine p 9 (omega arith), (jump_named n, tt)), join a (mark n ∷ []) ha (jump_named n, tt))
+    alone_fine p n (Some l) a ha = join (brings F p 9) (jump_when (hand p 9) l ∷ mark n ∷ []) (brings_fine F p 9 (omega arith)) ((hand_fine p 9 (omega arith), (jump_named l, tt)), (jump_named n, tt))
+
+    chosen_fine : (p : Where) (n w : ℕ) (t : Bool) (to : Option ℕ) (one a b : List AsmItem) → AllFine one → AllFine a → AllFine b → AllFine (cond t (alone F p n to one) (choice F p n w a b))
+    chosen_fine p n w t to one a b ho ha hb =
         let test : Fine (jump_unless (hand p 9) n) = (hand_fine p 9 (omega arith), (jump_named n, tt)) in
-        either t (one_way F p n a) (choice F p n w a b)
-        (join (brings F p 9) (jump_unless (hand p 9) n ∷ (a ++ mark n ∷ [])) (brings_fine F p 9 (omega arith)) (test, join a (mark n ∷ []) ha (jump_named n, tt)))
+        either t (alone F p n to one) (choice F p n w a b)
+        (alone_fine p n to one ho)
         (join (first_part F p n w a) (second_part w b)
         (join (brings F p 9) (jump_unless (hand p 9) n ∷ (a ++ jump w ∷ mark n ∷ [])) (brings_fine F p 9 (omega arith)) (test, join a (jump w ∷ mark n ∷ []) ha ((jump_named w, tt), (jump_named n, tt))))
         (join b (mark w ∷ []) hb (jump_named w, tt)))
@@ -226,23 +230,23 @@ module _ (x : CodeT Where) (W : Whole) (words : list_all is_word W.names ≡ tru
     enclosed_fine n b h = (jump_named n, join b (mark (n + 1) ∷ []) h (jump_named (n + 1), tt))
 
     module _ (out : ℕ) where
-      past_fine : (c : NodesT Where) (done : ℕ) (bs : List Bool) (ls : List ℕ) (n : ℕ) → AreNodes x m bs c → AllFine (items_past W F out ls n c done)
-      past_fine Stop done bs ls n ok = tt
-      past_fine (Do o c) zero bs ls n ok = join (one_or_more W F o (in_one W o c)) _ (one_or_more_fine o c ok.0) (past_fine c (more_of (in_one W o c)) bs ls n ok.1)
-      past_fine (Do o c) (suc done) bs ls n ok = past_fine c done bs ls n ok.1
-      past_fine (Call t g args c) done bs ls n ok = join (call_items W F t g args) _ (call_fine t g args) (past_fine c 0 bs ls n ok.1)
-      past_fine (Choose p a b c) done bs ls n ok =
-          join (cond (is_stop b) (one_way F p n (items_past W F out ls (n + 1) a 0)) (choice F p n (n + 1 + labels a) (items_past W F out ls (n + 1) a 0) (items_past W F out ls (n + 1 + labels a + 1) b 0))) _
-          (chosen_fine p n (n + 1 + labels a) (is_stop b) (items_past W F out ls (n + 1) a 0) (items_past W F out ls (n + 1 + labels a + 1) b 0) (past_fine a 0 bs ls (n + 1) ok.0) (past_fine b 0 bs ls (n + 1 + labels a + 1) ok.1))
-          (past_fine c 0 bs ls (n + (2 + labels a + labels b)) ok.2)
-      past_fine (Block b c) done bs ls n ok = join (enclosed n (items_past W F out (ls ++ n ∷ []) (n + 2) b 0)) _ (enclosed_fine n _ (past_fine b 0 (false ∷ bs) (ls ++ n ∷ []) (n + 2) ok.0)) (past_fine c 0 bs ls (n + (2 + labels b)) ok.1)
-      past_fine (Loop b c) done bs ls n ok = join (enclosed n (items_past W F out (ls ++ n ∷ []) (n + 2) b 0)) _ (enclosed_fine n _ (past_fine b 0 (true ∷ bs) (ls ++ n ∷ []) (n + 2) ok.0)) (past_fine c 0 bs ls (n + (2 + labels b)) ok.1)
-      past_fine (Leave k c) done bs ls n ok = ((jump_named (add (enclosing ls k) 1), tt), past_fine c 0 bs ls n ok.1)
-      past_fine (Again k c) done bs ls n ok = ((jump_named (enclosing ls k), tt), past_fine c 0 bs ls n ok.1)
-      past_fine (Return p c) done bs ls n ok = join (returning F p out) _ (join (giving F p) (jump out ∷ []) (giving_fine F p) ((jump_named out, tt), tt)) (past_fine c 0 bs ls n ok)
+      past_fine : (c : NodesT Where) (done : ℕ) (last : Bool) (bs : List Bool) (ls : List ℕ) (n : ℕ) → AreNodes x m bs c → AllFine (items_past W F out last ls n c done)
+      past_fine Stop done last bs ls n ok = tt
+      past_fine (Do o c) zero last bs ls n ok = join (one_or_more W F o (in_one W o c)) _ (one_or_more_fine o c ok.0) (past_fine c (more_of (in_one W o c)) last bs ls n ok.1)
+      past_fine (Do o c) (suc done) last bs ls n ok = past_fine c done last bs ls n ok.1
+      past_fine (Call t g args c) done last bs ls n ok = join (call_items W F t g args) _ (call_fine t g args) (past_fine c 0 last bs ls n ok.1)
+      past_fine (Choose p a b c) done last bs ls n ok =
+          join (cond (is_stop b) (alone F p n (left_to ls a) (items_past W F out (ends last c) ls (n + 1) a 0)) (choice F p n (n + 1 + labels a) (items_past W F out false ls (n + 1) a 0) (items_past W F out (ends last c) ls (n + 1 + labels a + 1) b 0))) _
+          (chosen_fine p n (n + 1 + labels a) (is_stop b) (left_to ls a) (items_past W F out (ends last c) ls (n + 1) a 0) (items_past W F out false ls (n + 1) a 0) (items_past W F out (ends last c) ls (n + 1 + labels a + 1) b 0) (past_fine a 0 (ends last c) bs ls (n + 1) ok.0) (past_fine a 0 false bs ls (n + 1) ok.0) (past_fine b 0 (ends last c) bs ls (n + 1 + labels a + 1) ok.1))
+          (past_fine c 0 last bs ls (n + (2 + labels a + labels b)) ok.2)
+      past_fine (Block b c) done last bs ls n ok = join (enclosed n (items_past W F out (ends last c) (ls ++ n ∷ []) (n + 2) b 0)) _ (enclosed_fine n _ (past_fine b 0 (ends last c) (false ∷ bs) (ls ++ n ∷ []) (n + 2) ok.0)) (past_fine c 0 last bs ls (n + (2 + labels b)) ok.1)
+      past_fine (Loop b c) done last bs ls n ok = join (enclosed n (items_past W F out (ends last c) (ls ++ n ∷ []) (n + 2) b 0)) _ (enclosed_fine n _ (past_fine b 0 (ends last c) (true ∷ bs) (ls ++ n ∷ []) (n + 2) ok.0)) (past_fine c 0 last bs ls (n + (2 + labels b)) ok.1)
+      past_fine (Leave k c) done last bs ls n ok = ((jump_named (add (enclosing ls k) 1), tt), past_fine c 0 last bs ls n ok.1)
+      past_fine (Again k c) done last bs ls n ok = ((jump_named (enclosing ls k), tt), past_fine c 0 last bs ls n ok.1)
+      past_fine (Return p c) done last bs ls n ok = join (returning F p out (ends last c)) _ (join (giving F p) (cond (ends last c) [] (jump out ∷ [])) (giving_fine F p) (either (ends last c) [] (jump out ∷ []) tt ((jump_named out, tt), tt))) (past_fine c 0 last bs ls n ok)
 
       code_fine : (c : NodesT Where) (bs : List Bool) (ls : List ℕ) (n : ℕ) → AreNodes x m bs c → AllFine (code_items W F out ls n c)
-      code_fine c bs ls n ok = past_fine c 0 bs ls n ok
+      code_fine c bs ls n ok = past_fine c 0 true bs ls n ok
 
   function_fine : (f n : ℕ) (g : FunctionT Where) → (W.frames f).size < 2 ^ 32 → AreNodes x (length g.locals) [] g.body → AllFine (function_items W f n g.body)
   function_fine f n g small ok =

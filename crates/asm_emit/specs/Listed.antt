@@ -1,5 +1,5 @@
 -- The items of nodes as they stand in memory.
-use Rattle.std.specs.Prelude.{ℕ, ◌+◌, ◌-◌, ◌==◌, Bool, true, false, cond, List, [], ◌∷◌, ◌++◌, Option, Some, None}
+use Rattle.std.specs.Prelude.{ℕ, ◌+◌, ◌-◌, ◌==◌, ◌&&◌, Bool, true, false, cond, List, [], ◌∷◌, ◌++◌, Option, Some, None}
 use Rattle.kit_base.specs.Word.{add}
 use Rattle.v32_isa.specs.declared.instruction.Instr.{Instr}
 use Rattle.asm_items.specs.declared.item.AsmItem.{AsmItem}
@@ -11,7 +11,7 @@ use Rattle.mid_code.specs.declared.node.Op.TheVariants as op
 use Rattle.mid_code.specs.Code.{NodesT, Do, Call, Stop}
 use Rattle.mid_code.specs.Functions.{op_before, NodeT, DoN, ChooseN, BlockN, LoopN, LeaveN, AgainN, ReturnN, ListT, NoN, MoreN, before, joined}
 use Rattle.asm_laws.specs.Operations.{Frame, Whole, op_items, word_put, with_word, in_one, before_it, call_items}
-use Rattle.asm_laws.specs.Emitted.{enclosing, jump, one_way, choice, enclosed, returning}
+use Rattle.asm_laws.specs.Emitted.{enclosing, jump, alone, choice, enclosed, returning}
 
 -- how many labels nodes take
 abbrev mutual
@@ -83,23 +83,32 @@ abbrev pub onward : Option ℕ → (own : List AsmItem) → (past : ℕ → List
 onward None own past anew = own ++ anew
 onward (Some k) own past anew = past k
 
+-- the label to which a list goes that only leaves a block or loop
+abbrev pub left_in : List ℕ → ListT Where → Option ℕ
+left_in ls (MoreN (LeaveN k) NoN) = Some (add (enclosing ls k) 1)
+left_in ls _ = None
+
+-- whether the function's end comes right behind a node, where it comes behind the list
+abbrev pub ends_in : (last : Bool) → ListT Where → Bool
+ends_in last rest = is_none rest && last
+
 module _ (W : Whole) (F : Frame) (out : ℕ) where
   abbrev mutual
-    pub node_items : List ℕ → ℕ → NodeT Where → List AsmItem
-    node_items ls n (DoN o) = do_items W F o
-    node_items ls n (ChooseN p a b) =
-        cond (is_none b) (one_way F p n (list_past ls (n + 1) a 0)) (choice F p n (n + 1 + list_labels a) (list_past ls (n + 1) a 0) (list_past ls (n + 1 + list_labels a + 1) b 0))
-    node_items ls n (BlockN b) = enclosed n (list_past (ls ++ n ∷ []) (n + 2) b 0)
-    node_items ls n (LoopN b) = enclosed n (list_past (ls ++ n ∷ []) (n + 2) b 0)
-    node_items ls n (LeaveN k) = jump (add (enclosing ls k) 1) ∷ []
-    node_items ls n (AgainN k) = jump (enclosing ls k) ∷ []
-    node_items ls n (ReturnN p) = returning F p out
+    pub node_items : (last : Bool) → List ℕ → ℕ → NodeT Where → List AsmItem
+    node_items last ls n (DoN o) = do_items W F o
+    node_items last ls n (ChooseN p a b) =
+        cond (is_none b) (alone F p n (left_in ls a) (list_past last ls (n + 1) a 0)) (choice F p n (n + 1 + list_labels a) (list_past false ls (n + 1) a 0) (list_past last ls (n + 1 + list_labels a + 1) b 0))
+    node_items last ls n (BlockN b) = enclosed n (list_past last (ls ++ n ∷ []) (n + 2) b 0)
+    node_items last ls n (LoopN b) = enclosed n (list_past last (ls ++ n ∷ []) (n + 2) b 0)
+    node_items last ls n (LeaveN k) = jump (add (enclosing ls k) 1) ∷ []
+    node_items last ls n (AgainN k) = jump (enclosing ls k) ∷ []
+    node_items last ls n (ReturnN p) = returning F p out last
 
     -- so many operations in front are done already
-    pub list_past : List ℕ → ℕ → ListT Where → (done : ℕ) → List AsmItem
-    list_past ls n NoN k = []
-    list_past ls n (MoreN x rest) k =
-        front_items W (before x (joined rest)) k ++ onward (front_more W (before x (joined rest)) k) (node_items ls n x) (list_past ls n rest) (list_past ls (n + node_labels x) rest 0)
+    pub list_past : (last : Bool) → List ℕ → ℕ → ListT Where → (done : ℕ) → List AsmItem
+    list_past last ls n NoN k = []
+    list_past last ls n (MoreN x rest) k =
+        front_items W (before x (joined rest)) k ++ onward (front_more W (before x (joined rest)) k) (node_items (ends_in last rest) ls n x) (list_past last ls n rest) (list_past last ls (n + node_labels x) rest 0)
 
   abbrev pub list_items : List ℕ → ℕ → ListT Where → List AsmItem
-  list_items ls n xs = list_past ls n xs 0
+  list_items ls n xs = list_past true ls n xs 0

@@ -1,10 +1,10 @@
 // Nodes.
-ghost use Rattle.std.specs.Prelude.{◌≡◌, ◌+◌, ◌-◌, ◌<◌, ◌^◌, ◌++◌, ◌∷◌, [], map, suc, length, get_or, OnOk, IfOk};
+ghost use Rattle.std.specs.Prelude.{◌≡◌, ◌+◌, ◌-◌, ◌<◌, ◌^◌, ◌++◌, ◌∷◌, [], false, map, suc, length, get_or, OnOk, IfOk};
 ghost use Rattle.kit_base.specs.Word.{add};
 ghost use Rattle.mid_code.specs.Functions.{node, nodes, listed, BlockN};
-ghost use Rattle.asm_laws.specs.Operations.{giving};
-ghost use Rattle.asm_laws.specs.Emitted.{labels, enclosing, jump, jump_unless, mark, first_part, second_part, one_way, returning, code_items};
-ghost use Rattle.asm_emit.specs.Listed.{node_labels, list_labels, node_items, list_items};
+ghost use Rattle.asm_laws.specs.Operations.{giving, hand, brings};
+ghost use Rattle.asm_laws.specs.Emitted.{labels, enclosing, jump, jump_unless, jump_when, mark, first_part, second_part, one_way, alone, returning, code_items};
+ghost use Rattle.asm_emit.specs.Listed.{left_in, ends_in, node_labels, list_labels, node_items, list_past};
 ghost use Rattle.asm_emit.specs.View.{frame, whole};
 
 use crate::ahead::{behind, put_ahead};
@@ -38,6 +38,17 @@ fn put_jump_unless(alloc: Global, out: &mut Vec<AsmItem>, r: Reg, n: u32) -> Res
     )
 }
 
+/// Adds a jump to a label where a register is not 0.
+fn put_jump_when(alloc: Global, out: &mut Vec<AsmItem>, r: Reg, n: u32) -> Result<(), Memory>
+    ensures { OnOk result (out.new.items ≡ out.old.items ++ jump_when r n ∷ []) }
+{
+    let label = jump_label(alloc, n)?;
+    op(
+        out,
+        Instr::Branch(Branch::JT, r, Src::Imm(Either::Right(label))),
+    )
+}
+
 /// Adds a label.
 pub(crate) fn put_mark(alloc: Global, out: &mut Vec<AsmItem>, n: u32) -> Result<(), Memory>
     ensures { OnOk result (out.new.items ≡ out.old.items ++ mark n ∷ []) }
@@ -55,6 +66,32 @@ fn enclosing(ls: &[u32], k: u32) -> u32
     match ls.get(place) {
         Some(n) => *n,
         None => 0,
+    }
+}
+
+/// The label to which nodes go that only leave a block or loop.
+fn left_in(ls: &[u32], a: &[Node<Where>]) -> Option<u32>
+    ensures { result ≡ left_in ls.now (listed (map node a.now)) }
+{
+    let Some((x, rest)) = a.split_first() else {
+        return None;
+    };
+    match x {
+        Node::Leave(k) => match rest.split_first() {
+            None => Some(enclosing(ls, *k).wrapping_add(1)),
+            Some(_) => None,
+        },
+        _ => None,
+    }
+}
+
+/// Whether the function's end comes right behind a node, with these nodes behind it.
+fn ends_in(last: bool, rest: &[Node<Where>]) -> bool
+    ensures { result ≡ ends_in last (listed (map node rest.now)) }
+{
+    match rest.split_first() {
+        None => last,
+        Some(_) => false,
     }
 }
 
@@ -90,13 +127,13 @@ fn put_first(
     a: &[Node<Where>],
 ) -> Result<u32, Memory>
     requires fits { n + 1 + list_labels (listed (map node a.now)) < 2 ^ 32 - 1 }
-    ensures items { OnOk result (out.new.items ≡ out.old.items ++ first_part (frame s.now) p n (n + 1 + list_labels (listed (map node a.now))) (list_items (whole w.now) (frame s.now) end ls.old.items (n + 1) (listed (map node a.now)))) }
+    ensures items { OnOk result (out.new.items ≡ out.old.items ++ first_part (frame s.now) p n (n + 1 + list_labels (listed (map node a.now))) (list_past (whole w.now) (frame s.now) end false ls.old.items (n + 1) (listed (map node a.now)) 0)) }
     ensures labels { OnOk result (ls.new.items ≡ ls.old.items) }
     ensures next { IfOk result (λ m. m ≡ n + 1 + list_labels (listed (map node a.now))) }
 {
     brings(out, s, p, 9)?;
     put_jump_unless(alloc, out, hand(p, 9), n)?;
-    let m = put_nodes(alloc, out, w, s, end, ls, n + 1, a)?;
+    let m = put_nodes(alloc, out, w, s, end, false, ls, n + 1, a)?;
     put_jump(alloc, out, m)?;
     put_mark(alloc, out, n)?;
     Ok(m)
@@ -110,16 +147,17 @@ fn put_second(
     w: &Around<'_>,
     s: &Scope<'_>,
     end: u32,
+    last: bool,
     ls: &mut Vec<u32>,
     m: u32,
     b: &[Node<Where>],
 ) -> Result<u32, Memory>
     requires fits { m + 1 + list_labels (listed (map node b.now)) < 2 ^ 32 - 1 }
-    ensures items { OnOk result (out.new.items ≡ out.old.items ++ second_part m (list_items (whole w.now) (frame s.now) end ls.old.items (m + 1) (listed (map node b.now)))) }
+    ensures items { OnOk result (out.new.items ≡ out.old.items ++ second_part m (list_past (whole w.now) (frame s.now) end last ls.old.items (m + 1) (listed (map node b.now)) 0)) }
     ensures labels { OnOk result (ls.new.items ≡ ls.old.items) }
     ensures next { IfOk result (λ k. k ≡ m + 1 + list_labels (listed (map node b.now))) }
 {
-    let next = put_nodes(alloc, out, w, s, end, ls, m + 1, b)?;
+    let next = put_nodes(alloc, out, w, s, end, last, ls, m + 1, b)?;
     put_mark(alloc, out, m)?;
     Ok(next)
 }
@@ -132,21 +170,67 @@ fn put_one_way(
     w: &Around<'_>,
     s: &Scope<'_>,
     end: u32,
+    last: bool,
     ls: &mut Vec<u32>,
     n: u32,
     p: Where,
     a: &[Node<Where>],
 ) -> Result<u32, Memory>
     requires fits { n + 2 + list_labels (listed (map node a.now)) < 2 ^ 32 - 1 }
-    ensures items { OnOk result (out.new.items ≡ out.old.items ++ one_way (frame s.now) p n (list_items (whole w.now) (frame s.now) end ls.old.items (n + 1) (listed (map node a.now)))) }
+    ensures items { OnOk result (out.new.items ≡ out.old.items ++ one_way (frame s.now) p n (list_past (whole w.now) (frame s.now) end last ls.old.items (n + 1) (listed (map node a.now)) 0)) }
     ensures labels { OnOk result (ls.new.items ≡ ls.old.items) }
     ensures next { IfOk result (λ m. m ≡ n + 2 + list_labels (listed (map node a.now))) }
 {
     brings(out, s, p, 9)?;
     put_jump_unless(alloc, out, hand(p, 9), n)?;
-    let next = put_nodes(alloc, out, w, s, end, ls, n + 1, a)?;
+    let next = put_nodes(alloc, out, w, s, end, last, ls, n + 1, a)?;
     put_mark(alloc, out, n)?;
     Ok(next + 1)
+}
+
+/// Adds a test that goes to a label, where the first part of a choice does no more and there is no second one.
+fn put_left(
+    alloc: Global,
+    out: &mut Vec<AsmItem>,
+    s: &Scope<'_>,
+    n: u32,
+    p: Where,
+    l: u32,
+) -> Result<(), Memory>
+    ensures { OnOk result (out.new.items ≡ out.old.items ++ (brings (frame s.now) p 9 ++ jump_when (hand p 9) l ∷ mark n ∷ [])) }
+{
+    brings(out, s, p, 9)?;
+    put_jump_when(alloc, out, hand(p, 9), l)?;
+    put_mark(alloc, out, n)
+}
+
+/// Adds a choice that has nothing in its second part; the number of the next label.
+#[cycle(items)]
+#[tactic(auto, using(crate::proofs::InMemory::left_labels))]
+fn put_alone(
+    alloc: Global,
+    out: &mut Vec<AsmItem>,
+    w: &Around<'_>,
+    s: &Scope<'_>,
+    end: u32,
+    last: bool,
+    ls: &mut Vec<u32>,
+    n: u32,
+    p: Where,
+    a: &[Node<Where>],
+) -> Result<u32, Memory>
+    requires fits { n + 2 + list_labels (listed (map node a.now)) < 2 ^ 32 - 1 }
+    ensures items { OnOk result (out.new.items ≡ out.old.items ++ alone (frame s.now) p n (left_in ls.old.items (listed (map node a.now))) (list_past (whole w.now) (frame s.now) end last ls.old.items (n + 1) (listed (map node a.now)) 0)) }
+    ensures labels { OnOk result (ls.new.items ≡ ls.old.items) }
+    ensures next { IfOk result (λ m. m ≡ n + 2 + list_labels (listed (map node a.now))) }
+{
+    match left_in(ls, a) {
+        Some(l) => {
+            put_left(alloc, out, s, n, p, l)?;
+            Ok(n + 2)
+        }
+        None => put_one_way(alloc, out, w, s, end, last, ls, n, p, a),
+    }
 }
 
 /// Adds a block or loop.
@@ -157,18 +241,19 @@ fn put_enclosed(
     w: &Around<'_>,
     s: &Scope<'_>,
     end: u32,
+    last: bool,
     ls: &mut Vec<u32>,
     n: u32,
     b: &[Node<Where>],
 ) -> Result<u32, Memory>
     requires fits { n + node_labels (BlockN (listed (map node b.now))) < 2 ^ 32 - 1 }
-    ensures items { OnOk result (out.new.items ≡ out.old.items ++ node_items (whole w.now) (frame s.now) end ls.old.items n (BlockN (listed (map node b.now)))) }
+    ensures items { OnOk result (out.new.items ≡ out.old.items ++ node_items (whole w.now) (frame s.now) end last ls.old.items n (BlockN (listed (map node b.now)))) }
     ensures labels { OnOk result (ls.new.items ≡ ls.old.items) }
     ensures next { IfOk result (λ m. m ≡ n + node_labels (BlockN (listed (map node b.now)))) }
 {
     put_mark(alloc, out, n)?;
     open(ls, n)?;
-    let next = put_nodes(alloc, out, w, s, end, ls, n + 2, b)?;
+    let next = put_nodes(alloc, out, w, s, end, last, ls, n + 2, b)?;
     ls.pop();
     put_mark(alloc, out, n + 1)?;
     Ok(next)
@@ -180,12 +265,17 @@ fn put_return(
     out: &mut Vec<AsmItem>,
     s: &Scope<'_>,
     end: u32,
+    last: bool,
     p: Option<Where>,
 ) -> Result<(), Memory>
-    ensures { OnOk result (out.new.items ≡ out.old.items ++ returning (frame s.now) p end) }
+    ensures { OnOk result (out.new.items ≡ out.old.items ++ returning (frame s.now) p end last) }
 {
     put_giving(out, s, p)?;
-    put_jump(alloc, out, end)
+    if last {
+        Ok(())
+    } else {
+        put_jump(alloc, out, end)
+    }
 }
 
 /// Adds the items of a node whose labels begin at n, inside blocks and loops with the labels ls; the number of the
@@ -197,12 +287,13 @@ fn put_node(
     w: &Around<'_>,
     s: &Scope<'_>,
     end: u32,
+    last: bool,
     ls: &mut Vec<u32>,
     n: u32,
     x: &Node<Where>,
 ) -> Result<u32, Memory>
     requires fits { n + node_labels (node x.now) < 2 ^ 32 - 1 }
-    ensures items { OnOk result (out.new.items ≡ out.old.items ++ node_items (whole w.now) (frame s.now) end ls.old.items n (node x.now)) }
+    ensures items { OnOk result (out.new.items ≡ out.old.items ++ node_items (whole w.now) (frame s.now) end last ls.old.items n (node x.now)) }
     ensures labels { OnOk result (ls.new.items ≡ ls.old.items) }
     ensures next { IfOk result (λ m. m ≡ n + node_labels (node x.now)) }
 {
@@ -212,14 +303,14 @@ fn put_node(
             Ok(n)
         }
         Node::Choose(p, a, b) => match b.as_slice().split_first() {
-            None => put_one_way(alloc, out, w, s, end, ls, n, *p, a.as_slice()),
+            None => put_alone(alloc, out, w, s, end, last, ls, n, *p, a.as_slice()),
             Some(_) => {
                 let m = put_first(alloc, out, w, s, end, ls, n, *p, a.as_slice())?;
-                put_second(alloc, out, w, s, end, ls, m, b.as_slice())
+                put_second(alloc, out, w, s, end, last, ls, m, b.as_slice())
             }
         },
-        Node::Block(b) => put_enclosed(alloc, out, w, s, end, ls, n, b.as_slice()),
-        Node::Loop(b) => put_enclosed(alloc, out, w, s, end, ls, n, b.as_slice()),
+        Node::Block(b) => put_enclosed(alloc, out, w, s, end, last, ls, n, b.as_slice()),
+        Node::Loop(b) => put_enclosed(alloc, out, w, s, end, last, ls, n, b.as_slice()),
         Node::Leave(k) => {
             put_jump(alloc, out, enclosing(ls, *k).wrapping_add(1))?;
             Ok(n)
@@ -229,7 +320,7 @@ fn put_node(
             Ok(n)
         }
         Node::Return(p) => {
-            put_return(alloc, out, s, end, *p)?;
+            put_return(alloc, out, s, end, last, *p)?;
             Ok(n)
         }
     }
@@ -243,12 +334,13 @@ fn put_nodes(
     w: &Around<'_>,
     s: &Scope<'_>,
     end: u32,
+    last: bool,
     ls: &mut Vec<u32>,
     n: u32,
     xs: &[Node<Where>],
 ) -> Result<u32, Memory>
     requires fits { n + list_labels (listed (map node xs.now)) < 2 ^ 32 - 1 }
-    ensures items { OnOk result (out.new.items ≡ out.old.items ++ list_items (whole w.now) (frame s.now) end ls.old.items n (listed (map node xs.now))) }
+    ensures items { OnOk result (out.new.items ≡ out.old.items ++ list_past (whole w.now) (frame s.now) end last ls.old.items n (listed (map node xs.now)) 0) }
     ensures labels { OnOk result (ls.new.items ≡ ls.old.items) }
     ensures next { IfOk result (λ m. m ≡ n + list_labels (listed (map node xs.now))) }
 {
@@ -260,7 +352,7 @@ fn put_nodes(
         match put_ahead(out, w, x, rest, done)? {
             Some(more) => done = more,
             None => {
-                next = put_node(alloc, out, w, s, end, ls, next, x)?;
+                next = put_node(alloc, out, w, s, end, ends_in(last, rest), ls, next, x)?;
                 done = 0;
             }
         }
@@ -284,5 +376,5 @@ pub(crate) fn put_body(
     ensures next { IfOk result (λ m. m ≡ n + labels (nodes body.now)) }
 {
     let mut ls = Vec::new(alloc);
-    put_nodes(alloc, out, w, s, end, &mut ls, n, body)
+    put_nodes(alloc, out, w, s, end, true, &mut ls, n, body)
 }

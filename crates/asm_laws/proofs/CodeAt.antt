@@ -1,5 +1,5 @@
 -- Items of structured code that stand among the words are code that stands there.
-use Rattle.std.proofs.Common.{◌≡◌, ℕ, zero, suc, ◌+◌, ◌-◌, ◌^◌, ◌<◌, inl, inr, Bool, true, false, cond, List, [], ◌∷◌, ◌++◌, length, refl, sym, ap, ◌∙◌, subst, arith, length-append}
+use Rattle.std.proofs.Common.{◌≡◌, ℕ, zero, suc, ◌+◌, ◌-◌, ◌^◌, ◌<◌, inl, inr, Bool, true, false, cond, List, [], ◌∷◌, ◌++◌, length, Option, Some, None, refl, sym, ap, ◌∙◌, subst, arith, length-append}
 use Rattle.kit_base.specs.Word.{add}
 use Rattle.v32_isa.specs.declared.instruction.Go.TheVariants.{JMP}
 use Rattle.v32_isa.specs.declared.instruction.Src.TheVariants as src
@@ -10,14 +10,15 @@ use Rattle.mid_code.specs.Code.{NodesT, Stop, Do, Call, Choose, Block, Loop, Lea
 use Rattle.mid_code.specs.Invariants.{AreNodes}
 use Rattle.asm_laws.specs.Names.{jump_label}
 use Rattle.asm_laws.specs.Operations.{Frame, hand, brings, giving, in_one, one_or_more, more_of, call_items}
-use Rattle.asm_laws.specs.Emitted.{labels, enclosing, jump, jump_unless, mark, choice, first_part, second_part, one_way, is_stop, enclosed, returning, items_past, code_items}
-use Rattle.asm_laws.specs.Placing.{Line, Bounds, end_of, begin_of, Jumps, Past, At}
+use Rattle.asm_laws.specs.Emitted.{labels, enclosing, jump, jump_unless, mark, jump_when, choice, first_part, second_part, left_to, alone, ends, is_stop, enclosed, returning, items_past, code_items}
+use Rattle.asm_laws.specs.Placing.{Line, Bounds, end_of, begin_of, Jumps, Passes, Past, At}
 use Rattle.asm_laws.specs.Standing.{Stand}
 use Rattle.asm_laws.specs.Holds.{Setting}
 use Rattle.asm_laws.specs.Program.{items_at}
 use Rattle.asm_laws.proofs.Split.{split}
 use Rattle.asm_laws.proofs.Enclosing.{innermost, further}
 use Rattle.asm_laws.proofs.Known.{loop_there}
+use Rattle.asm_laws.proofs.Leaving.{left_is}
 
 abbrev Few : ℕ → Type 0
 Few n = n < 2 ^ 32 - 1
@@ -43,7 +44,7 @@ module _ (S : Setting) (f out : ℕ) (leave : S.address (jump_label out) ≡ S.l
   abbrev items : List ℕ → ℕ → NodesT Where → List AsmItem
   items = code_items S.whole (S.whole.frames f) out
 
-  abbrev past : List ℕ → ℕ → NodesT Where → (done : ℕ) → List AsmItem
+  abbrev past : (last : Bool) → List ℕ → ℕ → NodesT Where → (done : ℕ) → List AsmItem
   past = items_past S.whole (S.whole.frames f) out
 
   abbrev CodeAt : List Bounds → ℕ → NodesT Where → ℕ → Type 0
@@ -92,10 +93,33 @@ module _ (S : Setting) (f out : ℕ) (leave : S.address (jump_label out) ≡ S.l
   upto : (es : List Bounds) (pc e q : ℕ) (c : NodesT Where) → e ≡ q → CodeAt es pc c e → CodeAt es pc c q
   upto es pc e q c same h = subst (λ n. CodeAt es pc c n) same h
 
+  -- what the ends of nodes are known of
+  abbrev Over : Bool → ℕ → Type 0
+  Over last e = last ≡ true → e ≡ S.leaves f
+
+  shut : (c : NodesT Where) (last : Bool) (ls : List ℕ) (n q e : ℕ) → Over last e → Here q (past last ls n c zero) e → Over (ends last c) q
+  shut Stop last ls n q e over h is = h ∙ over is
+  shut (Do o c) last ls n q e over h is = absurd cc
+  shut (Call t g args c) last ls n q e over h is = absurd cc
+  shut (Choose p a b c) last ls n q e over h is = absurd cc
+  shut (Block b c) last ls n q e over h is = absurd cc
+  shut (Loop b c) last ls n q e over h is = absurd cc
+  shut (Leave k c) last ls n q e over h is = absurd cc
+  shut (Again k c) last ls n q e over h is = absurd cc
+  shut (Return p c) last ls n q e over h is = absurd cc
+
+  moved : (last : Bool) (p q : ℕ) → p ≡ q → Over last q → Over last p
+  moved last p q same over is = same ∙ over is
+
+  not_over : (q : ℕ) → Over false q
+  not_over q e = absurd cc
+
   -- a choice, with nothing in its second part or something
-  chosen : (w : Where) (a b c : NodesT Where) (es : List Bounds) (n m pc e : ℕ) (one two rest : List AsmItem) (t : Bool) → is_stop b ≡ t → ((p q : ℕ) → Here p one q → CodeAt es p a q) → ((p q : ℕ) → Here p two q → CodeAt es p b q) → ((q : ℕ) → Here q rest e → CodeAt es q c e) →
-      (q : ℕ) × Here pc (cond t (one_way F w n one) (choice F w n m one two)) q × Here q rest e → CodeAt es pc (Choose w a b c) e
-  chosen w a b c es n m pc e one two rest true is one_at two_at behind h0 =
+  chosen : (w : Where) (a b c : NodesT Where) (es : List Bounds) (n m pc e : ℕ) (last : Bool) (to : Option ℕ) (one first two rest : List AsmItem) (t : Bool) → is_stop b ≡ t → ((q : ℕ) → Here q rest e → Over last q) →
+      ((l : ℕ) → to ≡ Some l → (k : ℕ) × (a ≡ Leave k Stop) × (end_of es k ≡ label l)) →
+      ((p q : ℕ) → Over last q → Here p one q → CodeAt es p a q) → ((p q : ℕ) → Here p first q → CodeAt es p a q) → ((p q : ℕ) → Over last q → Here p two q → CodeAt es p b q) → ((q : ℕ) → Here q rest e → CodeAt es q c e) →
+      (q : ℕ) × Here pc (cond t (alone F w n to one) (choice F w n m first two)) q × Here q rest e → CodeAt es pc (Choose w a b c) e
+  chosen w a b c es n m pc e last None one first two rest true is over left one_at first_at two_at behind h0 =
       let t = parts (brings F w 9) (jump_unless (hand w 9) n ∷ (one ++ mark n ∷ [])) pc h0.0 h0.1 in
       let u = t.2 in
       let h2 = parts one (mark n ∷ []) u.0 h0.0 u.2 in
@@ -105,17 +129,34 @@ module _ (S : Setting) (f out : ℕ) (leave : S.address (jump_label out) ≡ S.l
         h2.0,
         label n,
         label n,
-        (t.0, t.1, u.1),
-        one_at u.0 h2.0 h2.1,
+        (t.0, t.1, inl u.1),
+        one_at u.0 h2.0 (moved last h2.0 h0.0 (sym l.1.1 ∙ l.2) (over h0.0 h0.2)) h2.1,
         inr (sym l.1.0),
         subst (λ y. CodeAt es (label n) y (label n)) (sym (stops b is)) refl,
         from es h0.0 (label n) e c q_n (behind h0.0 h0.2),
       )
-  chosen w a b c es n m pc e one two rest false is one_at two_at behind h0 =
-      let h1 = parts (first_part F w n m one) (second_part m two) pc h0.0 h0.1 in
-      let t = parts (brings F w 9) (jump_unless (hand w 9) n ∷ (one ++ jump m ∷ mark n ∷ [])) pc h1.0 h1.1 in
+  chosen w a b c es n m pc e last (Some to) one first two rest true is over left one_at first_at two_at behind h0 =
+      let t = parts (brings F w 9) (jump_when (hand w 9) to ∷ mark n ∷ []) pc h0.0 h0.1 in
       let u = t.2 in
-      let h2 = parts one (jump m ∷ mark n ∷ []) u.0 h1.0 u.2 in
+      let l = u.2 in
+      let at_n : label n ≡ u.0 = l.1.0 in
+      let q_n : h0.0 ≡ u.0 = sym l.2 ∙ l.1.1 in
+      let r = left to refl in (
+        label to,
+        u.0,
+        u.0,
+        u.0,
+        (t.0, t.1, inr u.1),
+        subst (λ z. CodeAt es (label to) z u.0) (sym r.1) (inr (sym r.2), (u.0, refl)),
+        inr refl,
+        subst (λ y. CodeAt es u.0 y u.0) (sym (stops b is)) refl,
+        from es h0.0 u.0 e c q_n (behind h0.0 h0.2),
+      )
+  chosen w a b c es n m pc e last to one first two rest false is over left one_at first_at two_at behind h0 =
+      let h1 = parts (first_part F w n m first) (second_part m two) pc h0.0 h0.1 in
+      let t = parts (brings F w 9) (jump_unless (hand w 9) n ∷ (first ++ jump m ∷ mark n ∷ [])) pc h1.0 h1.1 in
+      let u = t.2 in
+      let h2 = parts first (jump m ∷ mark n ∷ []) u.0 h1.0 u.2 in
       let h3 = parts two (mark m ∷ []) h1.0 h0.0 h1.2 in
       let j = h2.2 in
       let at_n : label n ≡ h1.0 = j.2.1.0 ∙ sym j.2.1.1 ∙ j.2.2 in
@@ -125,73 +166,87 @@ module _ (S : Setting) (f out : ℕ) (leave : S.address (jump_label out) ≡ S.l
         h2.0,
         label n,
         label m,
-        (t.0, t.1, u.1),
-        one_at u.0 h2.0 h2.1,
+        (t.0, t.1, inl u.1),
+        first_at u.0 h2.0 h2.1,
         inl (j.0, j.1),
-        from es h1.0 (label n) (label m) b (sym at_n) (upto es h1.0 h3.0 (label m) b at_m (two_at h1.0 h3.0 h3.1)),
+        from es h1.0 (label n) (label m) b (sym at_n) (upto es h1.0 h3.0 (label m) b at_m (two_at h1.0 h3.0 (moved last h3.0 h0.0 (sym h3.2.1.1 ∙ h3.2.2) (over h0.0 h0.2)) h3.1)),
         from es h0.0 (label m) e c q_m (behind h0.0 h0.2),
       )
 
   -- a block or loop stands between its labels
-  enclosed_at : (b : NodesT Where) (a : List AsmItem) (es : List Bounds) (n pc q : ℕ) → ((p e : ℕ) → Here p a e → CodeAt (record { begins = label n; ends = label (n + 1) } ∷ es) p b e) → Here pc (enclosed n a) q →
+  enclosed_at : (b : NodesT Where) (a : List AsmItem) (es : List Bounds) (n pc q : ℕ) (last : Bool) → Over last q → ((p e : ℕ) → Over last e → Here p a e → CodeAt (record { begins = label n; ends = label (n + 1) } ∷ es) p b e) → Here pc (enclosed n a) q →
       (p : ℕ) × CodeAt (record { begins = pc; ends = p } ∷ es) pc b p × (q ≡ p)
-  enclosed_at b a es n pc q go h =
+  enclosed_at b a es n pc q last over go h =
       let s = parts a (mark (n + 1) ∷ []) h.0 q h.2 in
       let at_n : h.0 ≡ label n = h.1.1 ∙ sym h.1.0 in
       let pc_n : label n ≡ pc = h.1.0 in
       let at_e : s.0 ≡ label (n + 1) = sym s.2.1.0 in
       let q_e : q ≡ label (n + 1) = sym s.2.2 ∙ s.2.1.1 ∙ at_e in
       let around = record { begins = label n; ends = label (n + 1) } ∷ es in
-      let inner = from around h.0 pc (label (n + 1)) b (at_n ∙ pc_n) (upto around h.0 s.0 (label (n + 1)) b at_e (go h.0 s.0 s.1)) in
+      let inner = from around h.0 pc (label (n + 1)) b (at_n ∙ pc_n) (upto around h.0 s.0 (label (n + 1)) b at_e (go h.0 s.0 (moved last s.0 q (sym s.2.1.1 ∙ s.2.2) over) s.1)) in
       (label (n + 1), subst (λ m. CodeAt (record { begins = m; ends = label (n + 1) } ∷ es) pc b (label (n + 1))) pc_n inner, q_e)
 
   deeper : (ls : List ℕ) (n : ℕ) (bs : List Bool) (b : Bool) → length ls ≡ length bs → length (ls ++ n ∷ []) ≡ length (b ∷ bs)
   deeper ls n bs b same = let h = length-append ls (n ∷ []) in omega (arith, h, same)
 
   module _ (x : CodeT Where) (m : ℕ) where
-    pub code_at : (c : NodesT Where) (done : ℕ) (bs : List Bool) (ls : List ℕ) (es : List Bounds) (n pc e : ℕ) → AreNodes x m bs c → length ls ≡ length bs → Few (n + labels c) → Enclose ls es → Here pc (past ls n c done) e → Past (items_at S) f es pc c done e
-    code_at Stop done bs ls es n pc e ok same few en h = h
-    code_at (Do o c) zero bs ls es n pc e ok same few en h =
+    given : (last : Bool) (p q : ℕ) → Over last q → Here p (cond last [] (jump out ∷ [])) q → Passes S.console.words p (S.leaves f)
+    given true p q over h = inr (h ∙ over refl)
+    given false p q over h = inl (jumps_to p h.0 (label out) (S.leaves f) h.1 leave)
+
+    left_at : (a : NodesT Where) (bs : List Bool) (ls : List ℕ) (es : List Bounds) → AreNodes x m bs a → length ls ≡ length bs → Enclose ls es → (l : ℕ) → left_to ls a ≡ Some l → (k : ℕ) × (a ≡ Leave k Stop) × (end_of es k ≡ label l)
+    left_at a bs ls es ok same en l e =
+        let r = left_is ls a l e in
+        let i = (subst (λ z. AreNodes x m bs z) r.1 ok).0 in
+        let lt : r.0 < length ls = omega (arith, i, same) in
+        let w : add (enclosing ls r.0) 1 ≡ enclosing ls r.0 + 1 = omega (arith, en.few r.0 lt) in
+        (r.0, r.1, en.ends r.0 lt ∙ ap label (sym w ∙ sym r.2))
+
+    pub code_at : (c : NodesT Where) (done : ℕ) (last : Bool) (bs : List Bool) (ls : List ℕ) (es : List Bounds) (n pc e : ℕ) → AreNodes x m bs c → length ls ≡ length bs → Few (n + labels c) → Enclose ls es → Over last e → Here pc (past last ls n c done) e → Past (items_at S) f es pc c done e
+    code_at Stop done last bs ls es n pc e ok same few en over h = h
+    code_at (Do o c) zero last bs ls es n pc e ok same few en over h =
         let one = in_one S.whole o c in
-        let s = parts (one_or_more S.whole F o one) (past ls n c (more_of one)) pc e h in
-        (more_of one, s.0, (s.1, refl), code_at c (more_of one) bs ls es n s.0 e ok.1 same few en s.2)
-    code_at (Do o c) (suc j) bs ls es n pc e ok same few en h = code_at c j bs ls es n pc e ok.1 same few en h
-    code_at (Call t g args c) done bs ls es n pc e ok same few en h =
-        let s = parts (call_items S.whole F t g args) (items ls n c) pc e h in
-        (s.0, s.1, code_at c zero bs ls es n s.0 e ok.1 same few en s.2)
-    code_at (Choose w a b c) done bs ls es n pc e ok same few en h =
-        let one = items ls (n + 1) a in
-        let two = items ls (n + 1 + labels a + 1) b in
-        let rest = items ls (n + (2 + labels a + labels b)) c in
-        chosen w a b c es n (n + 1 + labels a) pc e one two rest (is_stop b) refl
-        (λ p q k. code_at a zero bs ls es (n + 1) p q ok.0 same (omega (arith, few)) en k) (λ p q k. code_at b zero bs ls es (n + 1 + labels a + 1) p q ok.1 same (omega (arith, few)) en k) (λ q k. code_at c zero bs ls es (n + (2 + labels a + labels b)) q e ok.2 same (omega (arith, few)) en k)
-        (parts (cond (is_stop b) (one_way F w n one) (choice F w n (n + 1 + labels a) one two)) rest pc e h)
-    code_at (Block b c) done bs ls es n pc e ok same few en h =
-        let one = items (ls ++ n ∷ []) (n + 2) b in
-        let s = parts (enclosed n one) (items ls (n + (2 + labels b)) c) pc e h in
+        let s = parts (one_or_more S.whole F o one) (past last ls n c (more_of one)) pc e h in
+        (more_of one, s.0, (s.1, refl), code_at c (more_of one) last bs ls es n s.0 e ok.1 same few en over s.2)
+    code_at (Do o c) (suc j) last bs ls es n pc e ok same few en over h = code_at c j last bs ls es n pc e ok.1 same few en over h
+    code_at (Call t g args c) done last bs ls es n pc e ok same few en over h =
+        let s = parts (call_items S.whole F t g args) (past last ls n c zero) pc e h in
+        (s.0, s.1, code_at c zero last bs ls es n s.0 e ok.1 same few en over s.2)
+    code_at (Choose w a b c) done last bs ls es n pc e ok same few en over h =
+        let here = ends last c in
+        let one = past here ls (n + 1) a zero in
+        let first = past false ls (n + 1) a zero in
+        let two = past here ls (n + 1 + labels a + 1) b zero in
+        let rest = past last ls (n + (2 + labels a + labels b)) c zero in
+        chosen w a b c es n (n + 1 + labels a) pc e here (left_to ls a) one first two rest (is_stop b) refl (λ q k. shut c last ls (n + (2 + labels a + labels b)) q e over k) (left_at a bs ls es ok.0 same en)
+        (λ p q o k. code_at a zero here bs ls es (n + 1) p q ok.0 same (omega (arith, few)) en o k) (λ p q k. code_at a zero false bs ls es (n + 1) p q ok.0 same (omega (arith, few)) en (not_over q) k) (λ p q o k. code_at b zero here bs ls es (n + 1 + labels a + 1) p q ok.1 same (omega (arith, few)) en o k) (λ q k. code_at c zero last bs ls es (n + (2 + labels a + labels b)) q e ok.2 same (omega (arith, few)) en over k)
+        (parts (cond (is_stop b) (alone F w n (left_to ls a) one) (choice F w n (n + 1 + labels a) first two)) rest pc e h)
+    code_at (Block b c) done last bs ls es n pc e ok same few en over h =
+        let one = past (ends last c) (ls ++ n ∷ []) (n + 2) b zero in
+        let s = parts (enclosed n one) (past last ls (n + (2 + labels b)) c zero) pc e h in
         let around = record { begins = label n; ends = label (n + 1) } ∷ es in
-        let r = enclosed_at b one es n pc s.0 (λ p q k. code_at b zero (false ∷ bs) (ls ++ n ∷ []) around (n + 2) p q ok.0 (deeper ls n bs false same) (omega (arith, few)) (enter ls es n (omega (arith, few)) en) k) s.1 in
-        (r.0, r.1, from es s.0 r.0 e c r.2 (code_at c zero bs ls es (n + (2 + labels b)) s.0 e ok.1 same (omega (arith, few)) en s.2))
-    code_at (Loop b c) done bs ls es n pc e ok same few en h =
-        let one = items (ls ++ n ∷ []) (n + 2) b in
-        let s = parts (enclosed n one) (items ls (n + (2 + labels b)) c) pc e h in
+        let r = enclosed_at b one es n pc s.0 (ends last c) (shut c last ls (n + (2 + labels b)) s.0 e over s.2) (λ p q o k. code_at b zero (ends last c) (false ∷ bs) (ls ++ n ∷ []) around (n + 2) p q ok.0 (deeper ls n bs false same) (omega (arith, few)) (enter ls es n (omega (arith, few)) en) o k) s.1 in
+        (r.0, r.1, from es s.0 r.0 e c r.2 (code_at c zero last bs ls es (n + (2 + labels b)) s.0 e ok.1 same (omega (arith, few)) en over s.2))
+    code_at (Loop b c) done last bs ls es n pc e ok same few en over h =
+        let one = past (ends last c) (ls ++ n ∷ []) (n + 2) b zero in
+        let s = parts (enclosed n one) (past last ls (n + (2 + labels b)) c zero) pc e h in
         let around = record { begins = label n; ends = label (n + 1) } ∷ es in
-        let r = enclosed_at b one es n pc s.0 (λ p q k. code_at b zero (true ∷ bs) (ls ++ n ∷ []) around (n + 2) p q ok.0 (deeper ls n bs true same) (omega (arith, few)) (enter ls es n (omega (arith, few)) en) k) s.1 in
-        (r.0, r.1, from es s.0 r.0 e c r.2 (code_at c zero bs ls es (n + (2 + labels b)) s.0 e ok.1 same (omega (arith, few)) en s.2))
-    code_at (Leave k c) done bs ls es n pc e ok same few en h =
+        let r = enclosed_at b one es n pc s.0 (ends last c) (shut c last ls (n + (2 + labels b)) s.0 e over s.2) (λ p q o k. code_at b zero (ends last c) (true ∷ bs) (ls ++ n ∷ []) around (n + 2) p q ok.0 (deeper ls n bs true same) (omega (arith, few)) (enter ls es n (omega (arith, few)) en) o k) s.1 in
+        (r.0, r.1, from es s.0 r.0 e c r.2 (code_at c zero last bs ls es (n + (2 + labels b)) s.0 e ok.1 same (omega (arith, few)) en over s.2))
+    code_at (Leave k c) done last bs ls es n pc e ok same few en over h =
         let l = ok.0 in
         let lt : k < length ls = omega (arith, l, same) in
         let w : add (enclosing ls k) 1 ≡ enclosing ls k + 1 = omega (arith, en.few k lt) in
-        (jumps_to pc h.0 _ (end_of es k) h.1 (ap label w ∙ sym (en.ends k lt)), (h.0, code_at c zero bs ls es n h.0 e ok.1 same few en h.2))
-    code_at (Again k c) done bs ls es n pc e ok same few en h =
+        (inl (jumps_to pc h.0 _ (end_of es k) h.1 (ap label w ∙ sym (en.ends k lt))), (h.0, code_at c zero last bs ls es n h.0 e ok.1 same few en over h.2))
+    code_at (Again k c) done last bs ls es n pc e ok same few en over h =
         let l = loop_there bs k ok.0 in
         let lt : k < length ls = omega (arith, l, same) in
-        (jumps_to pc h.0 _ (begin_of es k) h.1 (sym (en.begins k lt)), (h.0, code_at c zero bs ls es n h.0 e ok.1 same few en h.2))
-    code_at (Return w c) done bs ls es n pc e ok same few en h =
-        let s = parts (returning F w out) (items ls n c) pc e h in
-        let t = parts (giving F w) (jump out ∷ []) pc s.0 s.1 in
-        ((t.0, t.1, jumps_to t.0 t.2.0 (label out) (S.leaves f) t.2.1 leave), (s.0, code_at c zero bs ls es n s.0 e ok same few en s.2))
+        (jumps_to pc h.0 _ (begin_of es k) h.1 (sym (en.begins k lt)), (h.0, code_at c zero last bs ls es n h.0 e ok.1 same few en over h.2))
+    code_at (Return w c) done last bs ls es n pc e ok same few en over h =
+        let s = parts (returning F w out (ends last c)) (past last ls n c zero) pc e h in
+        let t = parts (giving F w) (cond (ends last c) [] (jump out ∷ [])) pc s.0 s.1 in
+        ((t.0, t.1, given (ends last c) t.0 s.0 (shut c last ls n s.0 e over s.2) t.2), (s.0, code_at c zero last bs ls es n s.0 e ok same few en over s.2))
 
     -- the body of a function stands where its items do
-    pub body_at : (c : NodesT Where) (n pc e : ℕ) → AreNodes x m [] c → Few (n + labels c) → Here pc (items [] n c) e → CodeAt [] pc c e
-    body_at c n pc e ok few h = code_at c zero [] [] [] n pc e ok refl few (record { few = λ k lt. absurd (omega arith); ends = λ k lt. absurd (omega arith); begins = λ k lt. absurd (omega arith) }) h
+    pub body_at : (c : NodesT Where) (n pc e : ℕ) → AreNodes x m [] c → Few (n + labels c) → e ≡ S.leaves f → Here pc (items [] n c) e → CodeAt [] pc c e
+    body_at c n pc e ok few over h = code_at c zero true [] [] [] n pc e ok refl few (record { few = λ k lt. absurd (omega arith); ends = λ k lt. absurd (omega arith); begins = λ k lt. absurd (omega arith) }) (λ z. over) h

@@ -192,6 +192,21 @@ module _ (L : Lang Where) (X : Holder L) where
           many = omega arith;
         }
 
+    -- a jump that may be none
+    pass_node : (κ : X.K) (pc to : ℕ) (s : L.S) (m : State) → Passes H.words pc to → m.counter ≡ pc → X.M κ s m → Came X m (begin X s) (L.tick node_weight s) to 0 0 (X.M κ (L.tick node_weight s))
+    pass_node κ pc to s m (inl j) e h = let f = jump_node κ pc to s m j e h in record { steps = f.steps; made = f.made; to = f.to; by = f.by; at = f.at; held = f.held; events = f.events; cost = f.cost; many = omega arith }
+    pass_node κ pc to s m (inr q) e h = record {
+      steps = 0;
+      made = [];
+      to = m;
+      by = subst (λ xs. Reaches 0 m (X.answers s) [] m xs) (sym (parts.tick_answers node_weight s)) (reaches_here m (X.answers s));
+      at = e ∙ q;
+      held = parts.ticks κ node_weight s m h;
+      events = parts.tick_events node_weight s ∙ sym (append-nil (X.events s));
+      cost = omega (arith, parts.tick_work node_weight s);
+      many = omega arith;
+    }
+
     choose_sim : (κ : X.K) (m : State) (b : Begin) (px py pe pz n : ℕ) (ls : List Bounds) (s : L.S) (o : Option ℕ) (go other : L.S → Res L.S) → Going X m b s 0 → Passes H.words pe pz → TestSim X κ py px m b s o →
         ((m1 : State) → m1.counter ≡ px → X.M κ s m1 → Sim X κ m1 (begin X s) pe n ls (go s)) → ((m1 : State) → m1.counter ≡ py → X.M κ s m1 → Sim X κ m1 (begin X s) pz n ls (other s)) → Sim X κ m b pz n ls (choose o s go other)
     choose_sim κ m b px py pe pz n ls s None go other st j t gx gy = st
@@ -303,8 +318,8 @@ module _ (L : Lang Where) (X : Holder L) where
         (λ t m1 e1 h1. bef κ pc at.0 ls (Loop b Stop) t m1 (at.0, at.1, refl) e1 h1))
         (λ t m1 e1 h1. nodes n k prev le bef κ at.0 e ls c zero (begin X t) t m1 at.2 (fresh κ c t m1 at.0 e1 h1)))
     nodes n k prev le bef κ pc e ls (Leave i c) j b s m at d =
-        let f = jump_node κ pc (end_of ls i) s d.to at.0 d.at d.held in
-        came_came m b s (L.tick node_weight s) pc (end_of ls i) 0 1 0 0 (X.M κ s) (X.M κ (L.tick node_weight s)) d f (omega arith)
+        let f = pass_node κ pc (end_of ls i) s d.to at.0 d.at d.held in
+        came_came m b s (L.tick node_weight s) pc (end_of ls i) 0 0 0 0 (X.M κ s) (X.M κ (L.tick node_weight s)) d f (omega arith)
     nodes n k prev le bef κ pc e ls (Again i c) j b s m at d =
         let f = jump_node κ pc (begin_of ls i) s d.to at.0 d.at d.held in
         came_came m b s (L.tick node_weight s) pc (begin_of ls i) 0 1 1 0 (X.M κ s) (X.M κ (L.tick node_weight s)) d f (omega arith)

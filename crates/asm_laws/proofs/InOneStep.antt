@@ -51,7 +51,7 @@ unfolding first_of second_of
 same_pair a b c d e = (ap first_of e, ap second_of e)
 
 -- a register that is written twice
-twice : (f : ℕ → ℕ) (k x y z : ℕ) → written f k x z ≡ written (written f k y) k x z
+pub twice : (f : ℕ → ℕ) (k x y z : ℕ) → written f k x z ≡ written (written f k y) k x z
 twice f k x y z = elim (same_or_not z k) [
   | inl p ↦ written_same f k x z p.0 ∙ sym (written_same (written f k y) k x z p.0)
   | inr p ↦ written_other f k x z p.0 ∙ sym (written_other (written f k y) k x z p.0 ∙ written_other f k y z p.0)
@@ -237,7 +237,7 @@ module _ (C : Console) (address : List ℕ → ℕ) (W : Whole) (F : Frame) (a :
   unfolding act
   copy_effect s k q next lk lq h = ap (λ z. EndsIn stepped.Went (took C next z (register_of s q) s)) (reg_number C F address k lk) ∙ ap (λ z. EndsIn stepped.Went (took C next k z s)) (h.regs q lq)
 
-  number_effect : (o : TwoOf) (s : State) (k v w next : ℕ) → k < 9 → register_of s k ≡ v → act (instr.Two o (register k) (src.Imm w)) next s ≡ taking k (two_of o v w) next s
+  pub number_effect : (o : TwoOf) (s : State) (k v w next : ℕ) → k < 9 → register_of s k ≡ v → act (instr.Two o (register k) (src.Imm w)) next s ≡ taking k (two_of o v w) next s
   unfolding act
   number_effect o s k v w next lk is = ap (λ z. taking z (two_of o (register_of s z) w) next s) (reg_number C F address k lk) ∙ ap (λ z. taking k (two_of o z w) next s) is
 

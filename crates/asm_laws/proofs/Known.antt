@@ -31,7 +31,8 @@ use Rattle.asm_laws.specs.Labelled.{HasLabel}
 use Rattle.asm_laws.specs.Names.{jump_label, literal_label, function_label}
 use Rattle.asm_laws.specs.Operations.{Frame, Whole, register, keep, fetches, keeps, keeps_some, is_in, hand, brings, takes, aim, lays, moves, changes, is_direct, in_place, apart, turned, is_turned, turned_or_apart, computes, slot_arg, slot_args, pushed_arg, pushed_args, popped_arg, popped_args, args_items, call_items, op_items, in_one, one_or_more, more_of, giving, start_frame, opening_items, literal_items, literals_items}
 use Rattle.asm_laws.specs.Framing.{frame_made, frame_gone}
-use Rattle.asm_laws.specs.Emitted.{labels, functions_labels, enclosing, jump, jump_unless, mark, first_part, second_part, choice, one_way, is_stop, enclosed, returning, items_past, code_items, entry_items, exit_items, function_items, functions_items, closing_items, start_items, program_items}
+use Rattle.asm_laws.proofs.Leaving.{left_is}
+use Rattle.asm_laws.specs.Emitted.{labels, functions_labels, enclosing, jump, jump_unless, mark, first_part, second_part, choice, one_way, alone, left_to, ends, jump_when, is_stop, enclosed, returning, items_past, code_items, entry_items, exit_items, function_items, functions_items, closing_items, start_items, program_items}
 use Rattle.asm_laws.proofs.Programs.{mapped_from}
 use Rattle.asm_laws.proofs.Walked.{total_more}
 use Rattle.asm_laws.proofs.InOne.{one_or_more_is}
@@ -245,7 +246,7 @@ module _ (x : CodeT Where) (W : Whole) (Q : List ℕ → Type 0) (of_function : 
   abbrev Knows : List AsmItem → Type 0
   Knows xs = (m : List ℕ) → HasLabel xs m → Q m
 
-  module _ (F : Frame) (out : ℕ) (ends : Q (jump_label out)) where
+  module _ (F : Frame) (out : ℕ) (at_end : Q (jump_label out)) where
     choice_uses : (p : Where) (n m : ℕ) (a b : List AsmItem) → Knows (choice F p n m a b) → (Knows a → Uses Q a) → (Knows b → Uses Q b) → Uses Q (choice F p n m a b)
     choice_uses p n m a b k ua ub =
         let inner = a ++ jump m ∷ mark n ∷ [] in
@@ -266,9 +267,19 @@ module _ (x : CodeT Where) (W : Whole) (Q : List ℕ → Type 0) (of_function : 
         let qn : Q (jump_label n) = left (jump_label n) (marked_right a (mark n ∷ []) (jump_label n) (inl refl)) in
         brought_uses F p 9 (j ∷ inner) (qn, uses_append Q a (mark n ∷ []) (ua (λ x h. left x (marked_left a (mark n ∷ []) x h))) (tt, tt))
 
-    chosen_uses : (p : Where) (n m : ℕ) (t : Bool) (a b : List AsmItem) → Knows (cond t (one_way F p n a) (choice F p n m a b)) → (Knows a → Uses Q a) → (Knows b → Uses Q b) → Uses Q (cond t (one_way F p n a) (choice F p n m a b))
-    chosen_uses p n m true a b k ua ub = one_way_uses p n a k ua
-    chosen_uses p n m false a b k ua ub = choice_uses p n m a b k ua ub
+    alone_uses : (p : Where) (n : ℕ) (to : Option ℕ) (a : List AsmItem) → ((l : ℕ) → to ≡ Some l → Q (jump_label l)) → Knows (alone F p n to a) → (Knows a → Uses Q a) → Uses Q (alone F p n to a)
+    alone_uses p n None a there k ua = one_way_uses p n a k ua
+    alone_uses p n (Some l) a there k ua = brought_uses F p 9 (jump_when (hand p 9) l ∷ mark n ∷ []) (there l refl, (tt, tt))
+
+    chosen_uses : (p : Where) (n m : ℕ) (t : Bool) (to : Option ℕ) (one a b : List AsmItem) → ((l : ℕ) → to ≡ Some l → Q (jump_label l)) → Knows (cond t (alone F p n to one) (choice F p n m a b)) → (Knows one → Uses Q one) → (Knows a → Uses Q a) → (Knows b → Uses Q b) → Uses Q (cond t (alone F p n to one) (choice F p n m a b))
+    chosen_uses p n m true to one a b there k uo ua ub = alone_uses p n to one there k uo
+    chosen_uses p n m false to one a b there k uo ua ub = choice_uses p n m a b k ua ub
+
+    left_known : (m : ℕ) (a : NodesT Where) (bs : List Bool) (ls : List ℕ) → length ls ≡ length bs → AreNodes x m bs a → Jumpable ls → (l : ℕ) → left_to ls a ≡ Some l → Q (jump_label l)
+    left_known m a bs ls same ok j l e =
+        let r = left_is ls a l e in
+        let in_range = (subst (λ z. AreNodes x m bs z) r.1 ok).0 in
+        subst (λ z. Q (jump_label z)) (sym r.2) (j r.0 (omega (arith, in_range, same))).1
 
     enclosed_uses : (n : ℕ) (a : List AsmItem) (ls : List ℕ) → n < 2 ^ 32 - 1 → Jumpable ls → Knows (enclosed n a) → (Jumpable (ls ++ n ∷ []) → Knows a → Uses Q a) → Uses Q (enclosed n a)
     enclosed_uses n a ls few j k ua =
@@ -276,48 +287,49 @@ module _ (x : CodeT Where) (W : Whole) (Q : List ℕ → Type 0) (of_function : 
         let q1 : Q (jump_label (n + 1)) = k (jump_label (n + 1)) (inr (marked_right a (mark (n + 1) ∷ []) (jump_label (n + 1)) (inl refl))) in
         (tt, uses_append Q a (mark (n + 1) ∷ []) (ua (enter ls n few qn q1 j) (λ x h. k x (inr (marked_left a (mark (n + 1) ∷ []) x h)))) (tt, tt))
 
-    past_uses : (m : ℕ) (c : NodesT Where) (done : ℕ) (bs : List Bool) (ls : List ℕ) (n : ℕ) → length ls ≡ length bs → AreNodes x m bs c → n + labels c < 2 ^ 32 - 1 → Jumpable ls → Knows (items_past W F out ls n c done) → Uses Q (items_past W F out ls n c done)
-    past_uses m Stop done bs ls n same ok few j k = tt
-    past_uses m (Do o c) zero bs ls n same ok few j k =
+    past_uses : (m : ℕ) (c : NodesT Where) (done : ℕ) (last : Bool) (bs : List Bool) (ls : List ℕ) (n : ℕ) → length ls ≡ length bs → AreNodes x m bs c → n + labels c < 2 ^ 32 - 1 → Jumpable ls → Knows (items_past W F out last ls n c done) → Uses Q (items_past W F out last ls n c done)
+    past_uses m Stop done last bs ls n same ok few j k = tt
+    past_uses m (Do o c) zero last bs ls n same ok few j k =
         let a = one_or_more W F o (in_one W o c) in
-        let b = items_past W F out ls n c (more_of (in_one W o c)) in
-        uses_append Q a b (one_uses m F o c ok.0) (past_uses m c (more_of (in_one W o c)) bs ls n same ok.1 few j (λ w h. k w (marked_right a b w h)))
-    past_uses m (Do o c) (suc done) bs ls n same ok few j k = past_uses m c done bs ls n same ok.1 few j k
-    past_uses m (Call t g args c) done bs ls n same ok few j k =
+        let b = items_past W F out last ls n c (more_of (in_one W o c)) in
+        uses_append Q a b (one_uses m F o c ok.0) (past_uses m c (more_of (in_one W o c)) last bs ls n same ok.1 few j (λ w h. k w (marked_right a b w h)))
+    past_uses m (Do o c) (suc done) last bs ls n same ok few j k = past_uses m c done last bs ls n same ok.1 few j k
+    past_uses m (Call t g args c) done last bs ls n same ok few j k =
         let a = call_items W F t g args in
-        let b = items_past W F out ls n c 0 in
-        uses_append Q a b (call_uses F t g args (function_there x g (length args) ok.0)) (past_uses m c 0 bs ls n same ok.1 few j (λ w h. k w (marked_right a b w h)))
-    past_uses m (Choose p a b c) done bs ls n same ok few j k =
-        let one = items_past W F out ls (n + 1) a 0 in
-        let two = items_past W F out ls (n + 1 + labels a + 1) b 0 in
-        let xs = cond (is_stop b) (one_way F p n one) (choice F p n (n + 1 + labels a) one two) in
-        let ys = items_past W F out ls (n + (2 + labels a + labels b)) c 0 in
+        let b = items_past W F out last ls n c 0 in
+        uses_append Q a b (call_uses F t g args (function_there x g (length args) ok.0)) (past_uses m c 0 last bs ls n same ok.1 few j (λ w h. k w (marked_right a b w h)))
+    past_uses m (Choose p a b c) done last bs ls n same ok few j k =
+        let one = items_past W F out (ends last c) ls (n + 1) a 0 in
+        let first = items_past W F out false ls (n + 1) a 0 in
+        let two = items_past W F out (ends last c) ls (n + 1 + labels a + 1) b 0 in
+        let xs = cond (is_stop b) (alone F p n (left_to ls a) one) (choice F p n (n + 1 + labels a) first two) in
+        let ys = items_past W F out last ls (n + (2 + labels a + labels b)) c 0 in
         uses_append Q xs ys
-        (chosen_uses p n (n + 1 + labels a) (is_stop b) one two (λ w h. k w (marked_left xs ys w h)) (λ h. past_uses m a 0 bs ls (n + 1) same ok.0 (omega (arith, few)) j h) (λ h. past_uses m b 0 bs ls (n + 1 + labels a + 1) same ok.1 (omega (arith, few)) j h))
-        (past_uses m c 0 bs ls (n + (2 + labels a + labels b)) same ok.2 (omega (arith, few)) j (λ w h. k w (marked_right xs ys w h)))
-    past_uses m (Block b c) done bs ls n same ok few j k =
-        let one = items_past W F out (ls ++ n ∷ []) (n + 2) b 0 in
+        (chosen_uses p n (n + 1 + labels a) (is_stop b) (left_to ls a) one first two (left_known m a bs ls same ok.0 j) (λ w h. k w (marked_left xs ys w h)) (λ h. past_uses m a 0 (ends last c) bs ls (n + 1) same ok.0 (omega (arith, few)) j h) (λ h. past_uses m a 0 false bs ls (n + 1) same ok.0 (omega (arith, few)) j h) (λ h. past_uses m b 0 (ends last c) bs ls (n + 1 + labels a + 1) same ok.1 (omega (arith, few)) j h))
+        (past_uses m c 0 last bs ls (n + (2 + labels a + labels b)) same ok.2 (omega (arith, few)) j (λ w h. k w (marked_right xs ys w h)))
+    past_uses m (Block b c) done last bs ls n same ok few j k =
+        let one = items_past W F out (ends last c) (ls ++ n ∷ []) (n + 2) b 0 in
         let xs = enclosed n one in
-        let ys = items_past W F out ls (n + (2 + labels b)) c 0 in
+        let ys = items_past W F out last ls (n + (2 + labels b)) c 0 in
         uses_append Q xs ys
-        (enclosed_uses n one ls (omega (arith, few)) j (λ w h. k w (marked_left xs ys w h)) (λ i h. past_uses m b 0 (false ∷ bs) (ls ++ n ∷ []) (n + 2) (deeper ls n bs false same) ok.0 (omega (arith, few)) i h))
-        (past_uses m c 0 bs ls (n + (2 + labels b)) same ok.1 (omega (arith, few)) j (λ w h. k w (marked_right xs ys w h)))
-    past_uses m (Loop b c) done bs ls n same ok few j k =
-        let one = items_past W F out (ls ++ n ∷ []) (n + 2) b 0 in
+        (enclosed_uses n one ls (omega (arith, few)) j (λ w h. k w (marked_left xs ys w h)) (λ i h. past_uses m b 0 (ends last c) (false ∷ bs) (ls ++ n ∷ []) (n + 2) (deeper ls n bs false same) ok.0 (omega (arith, few)) i h))
+        (past_uses m c 0 last bs ls (n + (2 + labels b)) same ok.1 (omega (arith, few)) j (λ w h. k w (marked_right xs ys w h)))
+    past_uses m (Loop b c) done last bs ls n same ok few j k =
+        let one = items_past W F out (ends last c) (ls ++ n ∷ []) (n + 2) b 0 in
         let xs = enclosed n one in
-        let ys = items_past W F out ls (n + (2 + labels b)) c 0 in
+        let ys = items_past W F out last ls (n + (2 + labels b)) c 0 in
         uses_append Q xs ys
-        (enclosed_uses n one ls (omega (arith, few)) j (λ w h. k w (marked_left xs ys w h)) (λ i h. past_uses m b 0 (true ∷ bs) (ls ++ n ∷ []) (n + 2) (deeper ls n bs true same) ok.0 (omega (arith, few)) i h))
-        (past_uses m c 0 bs ls (n + (2 + labels b)) same ok.1 (omega (arith, few)) j (λ w h. k w (marked_right xs ys w h)))
-    past_uses m (Leave i c) done bs ls n same ok few j k = ((j i (let l = ok.0 in omega (arith, l, same))).1, past_uses m c 0 bs ls n same ok.1 few j k)
-    past_uses m (Again i c) done bs ls n same ok few j k = ((j i (let l = loop_there bs i ok.0 in omega (arith, l, same))).0, past_uses m c 0 bs ls n same ok.1 few j k)
-    past_uses m (Return p c) done bs ls n same ok few j k =
-        let a = returning F p out in
-        let b = items_past W F out ls n c 0 in
-        uses_append Q a b (uses_append Q (giving F p) (jump out ∷ []) (giving_uses F p) (ends, tt)) (past_uses m c 0 bs ls n same ok few j (λ w h. k w (marked_right a b w h)))
+        (enclosed_uses n one ls (omega (arith, few)) j (λ w h. k w (marked_left xs ys w h)) (λ i h. past_uses m b 0 (ends last c) (true ∷ bs) (ls ++ n ∷ []) (n + 2) (deeper ls n bs true same) ok.0 (omega (arith, few)) i h))
+        (past_uses m c 0 last bs ls (n + (2 + labels b)) same ok.1 (omega (arith, few)) j (λ w h. k w (marked_right xs ys w h)))
+    past_uses m (Leave i c) done last bs ls n same ok few j k = ((j i (let l = ok.0 in omega (arith, l, same))).1, past_uses m c 0 last bs ls n same ok.1 few j k)
+    past_uses m (Again i c) done last bs ls n same ok few j k = ((j i (let l = loop_there bs i ok.0 in omega (arith, l, same))).0, past_uses m c 0 last bs ls n same ok.1 few j k)
+    past_uses m (Return p c) done last bs ls n same ok few j k =
+        let a = returning F p out (ends last c) in
+        let b = items_past W F out last ls n c 0 in
+        uses_append Q a b (uses_append Q (giving F p) (cond (ends last c) [] (jump out ∷ [])) (giving_uses F p) (one_of_both (ends last c) [] (jump out ∷ []) tt (at_end, tt))) (past_uses m c 0 last bs ls n same ok few j (λ w h. k w (marked_right a b w h)))
 
     pub code_uses : (m : ℕ) (c : NodesT Where) (bs : List Bool) (ls : List ℕ) (n : ℕ) → length ls ≡ length bs → AreNodes x m bs c → n + labels c < 2 ^ 32 - 1 → Jumpable ls → Knows (code_items W F out ls n c) → Uses Q (code_items W F out ls n c)
-    code_uses m c bs ls n same ok few j k = past_uses m c 0 bs ls n same ok few j k
+    code_uses m c bs ls n same ok few j k = past_uses m c 0 true bs ls n same ok few j k
 
   -- ---- the whole program
 

@@ -29,6 +29,7 @@ pub mod Tables
 pub mod PlacedAgrees
 pub mod Walked
 pub mod Enclosing
+pub mod Leaving
 pub mod LabelKinds
 pub mod InOne
 pub mod Marks

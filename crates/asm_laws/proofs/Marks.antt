@@ -18,7 +18,7 @@ use Rattle.mid_code.specs.Code.{OpT, ConstO, NullO, MoveO, OneO, TwoO, GlobalO, 
 use Rattle.asm_laws.specs.Names.{function_label, literal_label}
 use Rattle.asm_laws.specs.Operations.{Frame, Whole, register, keep, fetches, keeps_some, is_in, hand, brings, takes, aim, lays, moves, changes, is_direct, in_place, apart, turned, is_turned, turned_or_apart, computes, slot_arg, slot_args, pushed_arg, pushed_args, popped_arg, popped_args, args_items, call_items, op_items, in_one, one_or_more, more_of, giving, start_frame, opening_items, literal_items, literals_items}
 use Rattle.asm_laws.specs.Framing.{frame_made, frame_gone}
-use Rattle.asm_laws.specs.Emitted.{labels, functions_labels, enclosing, jump, jump_unless, mark, choice, one_way, is_stop, enclosed, returning, items_past, code_items, entry_items, exit_items, function_items, functions_items, closing_items, start_items, program_items, labels_of}
+use Rattle.asm_laws.specs.Emitted.{labels, functions_labels, enclosing, jump, jump_unless, mark, choice, one_way, alone, left_to, ends, jump_when, is_stop, enclosed, returning, items_past, code_items, entry_items, exit_items, function_items, functions_items, closing_items, start_items, program_items, labels_of}
 use Rattle.asm_laws.proofs.InOne.{one_or_more_is}
 use Rattle.asm_laws.proofs.LabelKinds.{Differ, Kind, Jump, Fun, Text, name_of, Valid, kind_same, Range, Box, Within, Aside, jumps, jumps_within, jumps_below, jumps_above}
 
@@ -231,9 +231,15 @@ module _ (W : Whole) (differ : Differ W.names) where
       bare_then (jumps n m) (brings F p 9) (jump_unless (hand p 9) n ∷ (a ++ mark n ∷ [])) (brings_bare F p 9)
       (bare_then (jumps n m) (jump_unless (hand p 9) n ∷ []) (a ++ mark n ∷ []) tt (falling n (n + 1) m a (mark n ∷ []) (omega arith) x ma (mark_one n (omega (arith, x, few)))))
 
-  chosen_marks : (F : Frame) (p : Where) (n m e : ℕ) (t : Bool) (a b : List AsmItem) → n + 1 ≤ m → m + 1 ≤ e → e ≤ 2 ^ 32 → Marks (jumps (n + 1) m) a → Marks (jumps (m + 1) e) b → Marks (jumps n e) (cond t (one_way F p n a) (choice F p n m a b))
-  chosen_marks F p n m e true a b x y few ma mb = marks_more (jumps n m) (jumps n e) (one_way F p n a) (jumps_within n m n e (omega arith) (omega (arith, y))) (one_way_marks F p n m a x (omega (arith, y, few)) ma)
-  chosen_marks F p n m e false a b x y few ma mb = choice_marks F p n m e a b x y few ma mb
+  alone_marks : (F : Frame) (p : Where) (n m : ℕ) (to : Option ℕ) (a : List AsmItem) → n + 1 ≤ m → m ≤ 2 ^ 32 → Marks (jumps (n + 1) m) a → Marks (jumps n m) (alone F p n to a)
+  alone_marks F p n m None a x few ma = one_way_marks F p n m a x few ma
+  alone_marks F p n m (Some l) a x few ma =
+      bare_then (jumps n m) (brings F p 9) (jump_when (hand p 9) l ∷ mark n ∷ []) (brings_bare F p 9)
+      (bare_then (jumps n m) (jump_when (hand p 9) l ∷ []) (mark n ∷ []) tt (marks_more (jumps n (n + 1)) (jumps n m) (mark n ∷ []) (jumps_within n (n + 1) n m (omega arith) (omega (arith, x))) (mark_one n (omega (arith, x, few)))))
+
+  chosen_marks : (F : Frame) (p : Where) (n m e : ℕ) (t : Bool) (to : Option ℕ) (one a b : List AsmItem) → n + 1 ≤ m → m + 1 ≤ e → e ≤ 2 ^ 32 → Marks (jumps (n + 1) m) one → Marks (jumps (n + 1) m) a → Marks (jumps (m + 1) e) b → Marks (jumps n e) (cond t (alone F p n to one) (choice F p n m a b))
+  chosen_marks F p n m e true to one a b x y few mo ma mb = marks_more (jumps n m) (jumps n e) (alone F p n to one) (jumps_within n m n e (omega arith) (omega (arith, y))) (alone_marks F p n m to one x (omega (arith, y, few)) mo)
+  chosen_marks F p n m e false to one a b x y few mo ma mb = choice_marks F p n m e a b x y few ma mb
 
   enclosed_marks : (n e : ℕ) (a : List AsmItem) → n + 2 ≤ e → e ≤ 2 ^ 32 → Marks (jumps (n + 2) e) a → Marks (jumps n e) (enclosed n a)
   enclosed_marks n e a x few ma =
@@ -242,36 +248,36 @@ module _ (W : Whole) (differ : Differ W.names) where
       rising n (n + 1) e (mark n ∷ []) (a ++ mark (n + 1) ∷ []) (omega arith) (omega arith) (mark_one n (omega arith)) (falling (n + 1) (n + 2) e a (mark (n + 1) ∷ []) (omega arith) x ma last)
 
   module _ (F : Frame) (out : ℕ) where
-    past_marks : (c : NodesT Where) (done : ℕ) (ls : List ℕ) (n e : ℕ) → n + labels c ≡ e → e ≤ 2 ^ 32 → Marks (jumps n e) (items_past W F out ls n c done)
-    past_marks Stop done ls n e is few = marks_bare (jumps n e) [] tt
-    past_marks (Do o c) zero ls n e is few =
+    past_marks : (c : NodesT Where) (done : ℕ) (last : Bool) (ls : List ℕ) (n e : ℕ) → n + labels c ≡ e → e ≤ 2 ^ 32 → Marks (jumps n e) (items_past W F out last ls n c done)
+    past_marks Stop done last ls n e is few = marks_bare (jumps n e) [] tt
+    past_marks (Do o c) zero last ls n e is few =
         let more = more_of (in_one W o c) in
-        bare_then (jumps n e) (one_or_more W F o (in_one W o c)) (items_past W F out ls n c more) (one_bare F o c) (past_marks c more ls n e is few)
-    past_marks (Do o c) (suc done) ls n e is few = past_marks c done ls n e is few
-    past_marks (Call t g args c) done ls n e is few = bare_then (jumps n e) (call_items W F t g args) (items_past W F out ls n c 0) (call_bare F t g args) (past_marks c 0 ls n e is few)
-    past_marks (Choose p a b c) done ls n e is few =
+        bare_then (jumps n e) (one_or_more W F o (in_one W o c)) (items_past W F out last ls n c more) (one_bare F o c) (past_marks c more last ls n e is few)
+    past_marks (Do o c) (suc done) last ls n e is few = past_marks c done last ls n e is few
+    past_marks (Call t g args c) done last ls n e is few = bare_then (jumps n e) (call_items W F t g args) (items_past W F out last ls n c 0) (call_bare F t g args) (past_marks c 0 last ls n e is few)
+    past_marks (Choose p a b c) done last ls n e is few =
         let m = n + 1 + labels a in
         let k = n + (2 + labels a + labels b) in
-        rising n k e (cond (is_stop b) (one_way F p n (items_past W F out ls (n + 1) a 0)) (choice F p n m (items_past W F out ls (n + 1) a 0) (items_past W F out ls (m + 1) b 0))) (items_past W F out ls k c 0) (omega arith) (omega (arith, is))
-        (chosen_marks F p n m k (is_stop b) (items_past W F out ls (n + 1) a 0) (items_past W F out ls (m + 1) b 0) (omega arith) (omega arith) (omega (arith, is, few))
-        (past_marks a 0 ls (n + 1) m (omega arith) (omega (arith, is, few))) (past_marks b 0 ls (m + 1) k (omega arith) (omega (arith, is, few))))
-        (past_marks c 0 ls k e (omega (arith, is)) few)
-    past_marks (Block b c) done ls n e is few =
+        rising n k e (cond (is_stop b) (alone F p n (left_to ls a) (items_past W F out (ends last c) ls (n + 1) a 0)) (choice F p n m (items_past W F out false ls (n + 1) a 0) (items_past W F out (ends last c) ls (m + 1) b 0))) (items_past W F out last ls k c 0) (omega arith) (omega (arith, is))
+        (chosen_marks F p n m k (is_stop b) (left_to ls a) (items_past W F out (ends last c) ls (n + 1) a 0) (items_past W F out false ls (n + 1) a 0) (items_past W F out (ends last c) ls (m + 1) b 0) (omega arith) (omega arith) (omega (arith, is, few))
+        (past_marks a 0 (ends last c) ls (n + 1) m (omega arith) (omega (arith, is, few))) (past_marks a 0 false ls (n + 1) m (omega arith) (omega (arith, is, few))) (past_marks b 0 (ends last c) ls (m + 1) k (omega arith) (omega (arith, is, few))))
+        (past_marks c 0 last ls k e (omega (arith, is)) few)
+    past_marks (Block b c) done last ls n e is few =
         let k = n + (2 + labels b) in
-        rising n k e (enclosed n (items_past W F out (ls ++ n ∷ []) (n + 2) b 0)) (items_past W F out ls k c 0) (omega arith) (omega (arith, is))
-        (enclosed_marks n k (items_past W F out (ls ++ n ∷ []) (n + 2) b 0) (omega arith) (omega (arith, is, few)) (past_marks b 0 (ls ++ n ∷ []) (n + 2) k (omega arith) (omega (arith, is, few))))
-        (past_marks c 0 ls k e (omega (arith, is)) few)
-    past_marks (Loop b c) done ls n e is few =
+        rising n k e (enclosed n (items_past W F out (ends last c) (ls ++ n ∷ []) (n + 2) b 0)) (items_past W F out last ls k c 0) (omega arith) (omega (arith, is))
+        (enclosed_marks n k (items_past W F out (ends last c) (ls ++ n ∷ []) (n + 2) b 0) (omega arith) (omega (arith, is, few)) (past_marks b 0 (ends last c) (ls ++ n ∷ []) (n + 2) k (omega arith) (omega (arith, is, few))))
+        (past_marks c 0 last ls k e (omega (arith, is)) few)
+    past_marks (Loop b c) done last ls n e is few =
         let k = n + (2 + labels b) in
-        rising n k e (enclosed n (items_past W F out (ls ++ n ∷ []) (n + 2) b 0)) (items_past W F out ls k c 0) (omega arith) (omega (arith, is))
-        (enclosed_marks n k (items_past W F out (ls ++ n ∷ []) (n + 2) b 0) (omega arith) (omega (arith, is, few)) (past_marks b 0 (ls ++ n ∷ []) (n + 2) k (omega arith) (omega (arith, is, few))))
-        (past_marks c 0 ls k e (omega (arith, is)) few)
-    past_marks (Leave k c) done ls n e is few = bare_then (jumps n e) (jump _ ∷ []) (items_past W F out ls n c 0) tt (past_marks c 0 ls n e is few)
-    past_marks (Again k c) done ls n e is few = bare_then (jumps n e) (jump (enclosing ls k) ∷ []) (items_past W F out ls n c 0) tt (past_marks c 0 ls n e is few)
-    past_marks (Return p c) done ls n e is few = bare_then (jumps n e) (returning F p out) (items_past W F out ls n c 0) (names_append (λ m. ⊥) (giving F p) (jump out ∷ []) (giving_bare F p) tt) (past_marks c 0 ls n e is few)
+        rising n k e (enclosed n (items_past W F out (ends last c) (ls ++ n ∷ []) (n + 2) b 0)) (items_past W F out last ls k c 0) (omega arith) (omega (arith, is))
+        (enclosed_marks n k (items_past W F out (ends last c) (ls ++ n ∷ []) (n + 2) b 0) (omega arith) (omega (arith, is, few)) (past_marks b 0 (ends last c) (ls ++ n ∷ []) (n + 2) k (omega arith) (omega (arith, is, few))))
+        (past_marks c 0 last ls k e (omega (arith, is)) few)
+    past_marks (Leave k c) done last ls n e is few = bare_then (jumps n e) (jump _ ∷ []) (items_past W F out last ls n c 0) tt (past_marks c 0 last ls n e is few)
+    past_marks (Again k c) done last ls n e is few = bare_then (jumps n e) (jump (enclosing ls k) ∷ []) (items_past W F out last ls n c 0) tt (past_marks c 0 last ls n e is few)
+    past_marks (Return p c) done last ls n e is few = bare_then (jumps n e) (returning F p out (ends last c)) (items_past W F out last ls n c 0) (names_append (λ m. ⊥) (giving F p) (cond (ends last c) [] (jump out ∷ [])) (giving_bare F p) (one_of_both (ends last c) [] (jump out ∷ []) tt tt)) (past_marks c 0 last ls n e is few)
 
     pub code_marks : (c : NodesT Where) (ls : List ℕ) (n e : ℕ) → n + labels c ≡ e → e ≤ 2 ^ 32 → Marks (jumps n e) (code_items W F out ls n c)
-    code_marks c ls n e is few = past_marks c 0 ls n e is few
+    code_marks c ls n e is few = past_marks c 0 true ls n e is few
 
   -- ---- the whole program
 

@@ -1,10 +1,10 @@
 -- The parts of placed code but calls are followed.
-use Rattle.std.proofs.Common.{◌≡◌, ℕ, zero, suc, ◌+◌, ◌<◌, inl, inr, Bool, true, false, cond, List, [], length, Option, Some, None, refl, sym, ap, ◌∙◌, subst, arith, append-nil}
+use Rattle.std.proofs.Common.{◌≡◌, ℕ, zero, suc, ◌+◌, ◌<◌, ◌≤◌, ◌⊎◌, inl, inr, Bool, true, false, cond, List, [], length, Option, Some, None, refl, sym, ap, ◌∙◌, subst, arith, append-nil}
 use Rattle.std.specs.Prelude.{if◌then◌else◌, ◌==◌, get_or}
 use Rattle.either.specs.declared.Either.TheVariants.{Left}
 use Rattle.kit_base.specs.Word.{add}
 use Rattle.v32_isa.specs.declared.instruction.Go.TheVariants.{JMP}
-use Rattle.v32_isa.specs.declared.instruction.Branch.TheVariants.{JF}
+use Rattle.v32_isa.specs.declared.instruction.Branch.TheVariants.{JT, JF}
 use Rattle.v32_isa.specs.declared.instruction.Src.TheVariants as src
 use Rattle.v32_isa.specs.declared.instruction.Mov.TheVariants.{RegAtOff}
 use Rattle.v32_isa.specs.declared.instruction.Instr.{Instr}
@@ -13,7 +13,7 @@ use Rattle.v32_isa.specs.declared.instruction.Instr.TheVariants as instr
 use Rattle.v32_isa.specs.declared.stepped.Stepped.TheVariants as stepped
 use Rattle.v32_isa.specs.State.{register_of, going_to}
 use Rattle.v32_isa.specs.State as machine
-use Rattle.v32_isa.specs.Machine.{act}
+use Rattle.v32_isa.specs.Machine.{act, effect_of}
 use Rattle.v32_isa.specs.Machine.Effect.{Ends as EndsIn}
 use Rattle.v32_isa.specs.Runs.{run}
 use Rattle.v32_isa.specs.Runs as runs
@@ -28,7 +28,7 @@ use Rattle.mid_code.specs.Code.{NodesT, Stop, Do, Call, Choose, Block, Loop, Lea
 use Rattle.mid_code.specs.Meaning.{Did, On, Ends, node_weight}
 use Rattle.mid_code.specs.States.{State, spent, op_weight, word_tested, registers_and_slots, acted}
 use Rattle.asm_laws.specs.Operations.{Frame, register, hand, turned, word_put, first_word, summed, loads_there, unturned, copied, with_copy, with_sum, with_word, in_one, one_or_more, more_of}
-use Rattle.asm_laws.specs.Placing.{Jumps}
+use Rattle.asm_laws.specs.Placing.{Line, Jumps, Passes}
 use Rattle.asm_laws.specs.Following.{Begin, begin, spare, Came, Stopped, DidSim, TestSim, did_then, front_acts}
 use Rattle.asm_laws.specs.Standing.{Stand}
 use Rattle.asm_laws.specs.Tests.{Tests}
@@ -59,6 +59,27 @@ not_zero v a b = elim (same_or_not (suc v) 0) [ inl x ↦ absurd (omega (arith, 
 branch_effect : (m : machine.State) (r to next v : ℕ) → register_of m r ≡ v → act (instr.Branch JF r (src.Imm to)) next m ≡ EndsIn stepped.Went (going_to (if v == 0 then to else next) m)
 unfolding act
 branch_effect m r to next v is = rw is refl
+
+when_effect : (m : machine.State) (r to next v : ℕ) → register_of m r ≡ v → act (instr.Branch JT r (src.Imm to)) next m ≡ EndsIn stepped.Went (going_to (if v == 0 then next else to) m)
+unfolding act
+when_effect m r to next v is = rw is refl
+
+-- the machine stands at an address, by a jump or without one
+record Gone (C : Console) (a : Addr) (m : machine.State) (xs : List ℕ) (to : ℕ) : Type 0 where
+  steps : ℕ
+  there : machine.State
+  by : Reaches steps m xs [] there xs
+  at : there.counter ≡ to
+  held : Held C a there
+  nine : register_of there 9 ≡ register_of m 9
+  few : steps ≤ 1
+
+nine_same : (m : machine.State) (to : ℕ) → register_of (going_to to m) 9 ≡ register_of m 9
+nine_same m to = refl
+
+gone : (C : Console) (a : Addr) (m : machine.State) (xs : List ℕ) (pc to : ℕ) → Held C a m → m.counter ≡ pc → Passes C.words pc to → Gone C a m xs to
+gone C a m xs pc to h e (inl j) = record { steps = 1; there = going_to to m; by = jump_reaches C a m xs pc to h e j; at = refl; held = moved C a m to h; nine = nine_same m to; few = omega arith }
+gone C a m xs pc to h e (inr q) = record { steps = 0; there = m; by = reaches_here m xs; at = e ∙ q; held = h; nine = refl; few = omega arith }
 
 module _ (S : Setting) (fits : Fits S) where
   abbrev C : Console
@@ -247,6 +268,11 @@ module _ (S : Setting) (fits : Fits S) where
   pub jump_sim : (κ : Ctx) (s : State Where) (m : machine.State) (pc to : ℕ) → Mach S κ s m → m.counter ≡ pc → Jumps C.words pc to → Reaches 1 m s.world.store.answers [] (going_to to m) s.world.store.answers × Mach S κ s (going_to to m)
   jump_sim κ s m pc to h e j = (jump_reaches C h.words m s.world.store.answers pc to h.held e j, record { place = h.place; words = h.words; at = h.at; held = moved C h.words m to h.held })
 
+  branched : (u : machine.State) (at r to next v : ℕ) (p : Where) (a : Addr) → Held C a u → u.counter ≡ at → Line C.words at (instr.Branch JF r (src.Imm to)) next ⊎ Line C.words at (instr.Branch JT r (src.Imm next)) to → r < 16 → register_of u r ≡ v →
+      effect_of u ≡ EndsIn stepped.Went (going_to (if v == 0 then to else next) u)
+  branched u at r to next v p a h e (inl l) lt is = line_effect C a u at (instr.Branch JF r (src.Imm to)) next h e l (lt, omega arith, omega arith) ∙ branch_effect u r to next v is
+  branched u at r to next v p a h e (inr l) lt is = line_effect C a u at (instr.Branch JT r (src.Imm next)) to h e l (lt, omega arith, omega arith) ∙ when_effect u r next to v is
+
   tested : (κ : Ctx) (s : State Where) (m : machine.State) (pc to next : ℕ) (p : Where) (q : ℕ) → Named S κ.fn p → (h : Mach S κ s m) → m.counter ≡ pc → Tests C.words S.address (Of κ) pc p to next → (if word_of (Of κ) p h.words == 0 then to else next) ≡ q → Came (holder S) m (spare 1 (begin (holder S) s)) (spent node_weight s) q 0 0 (Mach S κ (spent node_weight s))
   tested κ s m pc to next p q named h e t is =
       let F = Of κ in
@@ -255,7 +281,7 @@ module _ (S : Setting) (fits : Fits S) where
       let b = brings_at C F S.address h.words m xs pc t.0 p 9 (room S fits κ s.world.store s.cells h.place h.words h.at) (good S fits κ p named) (omega arith) (omega arith) h.held e t.1 in
       let r = hand p 9 in
       let u = b.to in
-      let eff = line_effect C h.words u t.0 (instr.Branch JF r (src.Imm to)) next b.held b.at t.2 (hand_fits p 9 (omega arith), omega arith, omega arith) ∙ branch_effect u r to next v b.is in
+      let eff = branched u t.0 r to next v p h.words b.held b.at t.2 (hand_fits p 9 (omega arith)) b.is in
       record {
         steps = b.steps + 1;
         made = [];
@@ -281,15 +307,16 @@ module _ (S : Setting) (fits : Fits S) where
   pub give_sim : (κ : Ctx) (pc : ℕ) (w : Option Where) (s : State Where) (m : machine.State) → GivingAt S κ.fn pc w → m.counter ≡ pc → Mach S κ s m → Came (holder S) m (begin (holder S) s) ((lang S).give w (spent node_weight s)) (S.leaves κ.fn) 0 0 (Given S κ ((lang S).give w (spent node_weight s)))
   give_sim κ pc None s m st e h =
       let xs = s.world.store.answers in
+      let g = gone C h.words m xs pc (S.leaves κ.fn) h.held e (subst (λ z. Passes C.words z (S.leaves κ.fn)) (sym st.stands) st.passes) in
       record {
-        steps = 1;
+        steps = g.steps;
         made = [];
-        to = going_to (S.leaves κ.fn) m;
-        by = jump_reaches C h.words m xs pc (S.leaves κ.fn) h.held e (subst (λ z. Jumps C.words z (S.leaves κ.fn)) (sym st.stands) st.jumps);
-        at = refl;
-        held = record { place = h.place; words = h.words; at = h.at; held = moved C h.words m (S.leaves κ.fn) h.held; given = tt };
+        to = g.there;
+        by = g.by;
+        at = g.at;
+        held = record { place = h.place; words = h.words; at = h.at; held = g.held; given = tt };
         events = sym (append-nil s.world.events);
-        cost = omega arith;
+        cost = let n = g.few in omega (arith, n);
         many = omega arith;
       }
   give_sim κ pc (Some p) s m st e h =
@@ -300,15 +327,16 @@ module _ (S : Setting) (fits : Fits S) where
       let v = word_of F p h.words in
       let u = took C g.0 9 v m in
       let hu = scratch C h.words m g.0 9 v (omega arith) (omega arith) h.held in
-      let nine : register_of u 9 ≡ v = reg_same C m 9 v (omega (arith, h.held.sixteen)) in
+      let on = gone C h.words u xs g.0 out hu refl (subst (λ z. Passes C.words z out) (sym g.2) st.passes) in
+      let nine : register_of on.there 9 ≡ v = on.nine ∙ reg_same C m 9 v (omega (arith, h.held.sixteen)) in
       record {
-        steps = 1 + 1;
+        steps = 1 + on.steps;
         made = [];
-        to = going_to out u;
-        by = reaches_on 1 1 m u (going_to out u) xs xs xs [] [] (fetches_so C F S.address h.words m xs pc p 9 g.0 (room S fits κ s.world.store s.cells h.place h.words h.at) (good S fits κ p st.named.0) (omega arith) h.held e g.1) (jump_reaches C h.words u xs g.0 out hu refl (subst (λ z. Jumps C.words z out) (sym g.2) st.jumps));
-        at = refl;
-        held = record { place = h.place; words = h.words; at = h.at; held = moved C h.words u out hu; given = subst (λ z. Stands (length s.world.store.objects) h.place (s.cells p) z) (sym nine) (word_stands S fits κ s.world.store s.cells h.place h.words p st.named.0 h.at) };
+        to = on.there;
+        by = reaches_on 1 on.steps m u on.there xs xs xs [] [] (fetches_so C F S.address h.words m xs pc p 9 g.0 (room S fits κ s.world.store s.cells h.place h.words h.at) (good S fits κ p st.named.0) (omega arith) h.held e g.1) on.by;
+        at = on.at;
+        held = record { place = h.place; words = h.words; at = h.at; held = on.held; given = subst (λ z. Stands (length s.world.store.objects) h.place (s.cells p) z) (sym nine) (word_stands S fits κ s.world.store s.cells h.place h.words p st.named.0 h.at) };
         events = sym (append-nil s.world.events);
-        cost = omega arith;
+        cost = let n = on.few in omega (arith, n);
         many = omega arith;
       }

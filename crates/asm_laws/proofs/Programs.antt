@@ -92,7 +92,7 @@ module _ (S : Setting) (boot rest : ℕ) (card : Option (List ℕ)) (ok : IsCard
   at_of f so cs ls bs (Loop b c) done pc e n m at = (at.0, at_of f so cs (record { begins = pc; ends = at.0 } ∷ ls) (true ∷ bs) b zero pc at.0 n.0 m.0 at.1, at_of f so cs ls bs c zero at.0 e n.1 m.1 at.2)
   at_of f so cs ls bs (Leave k c) done pc e n m at = (at.0, (at.1.0, at_of f so cs ls bs c zero at.1.0 e n.1 m at.1.1))
   at_of f so cs ls bs (Again k c) done pc e n m at = (at.0, (at.1.0, at_of f so cs ls bs c zero at.1.0 e n.1 m at.1.1))
-  at_of f so cs ls bs (Return w c) done pc e n m at = (record { named = m.0.0; then = at.0.0; stands = at.0.1; jumps = at.0.2 }, (at.1.0, at_of f so cs ls bs c zero at.1.0 e n m.1 at.1.1))
+  at_of f so cs ls bs (Return w c) done pc e n m at = (record { named = m.0.0; then = at.0.0; stands = at.0.1; passes = at.0.2 }, (at.1.0, at_of f so cs ls bs c zero at.1.0 e n m.1 at.1.1))
 
   -- the start calls none
   at_quiet : (f : ℕ) → Sound S f → (ls : List Bounds) (bs : List Bool) (c : NodesT Where) (done pc e : ℕ) → AreNodes S.code (length (S.locals f)) bs c → Names (Named S f) c → CallsNone c → Past (items_at S) f ls pc c done e → Past (shapes S) f ls pc c done e
@@ -106,7 +106,7 @@ module _ (S : Setting) (boot rest : ℕ) (card : Option (List ℕ)) (ok : IsCard
   at_quiet f so ls bs (Loop b c) done pc e n m q at = (at.0, at_quiet f so (record { begins = pc; ends = at.0 } ∷ ls) (true ∷ bs) b zero pc at.0 n.0 m.0 q.0 at.1, at_quiet f so ls bs c zero at.0 e n.1 m.1 q.1 at.2)
   at_quiet f so ls bs (Leave k c) done pc e n m q at = (at.0, (at.1.0, at_quiet f so ls bs c zero at.1.0 e n.1 m q at.1.1))
   at_quiet f so ls bs (Again k c) done pc e n m q at = (at.0, (at.1.0, at_quiet f so ls bs c zero at.1.0 e n.1 m q at.1.1))
-  at_quiet f so ls bs (Return w c) done pc e n m q at = (record { named = m.0.0; then = at.0.0; stands = at.0.1; jumps = at.0.2 }, (at.1.0, at_quiet f so ls bs c zero at.1.0 e n m.1 q at.1.1))
+  at_quiet f so ls bs (Return w c) done pc e n m q at = (record { named = m.0.0; then = at.0.0; stands = at.0.1; passes = at.0.2 }, (at.1.0, at_quiet f so ls bs c zero at.1.0 e n m.1 q at.1.1))
 
   pub linked : ProgramAt S boot → Linked S card boot rest
   linked at = record {

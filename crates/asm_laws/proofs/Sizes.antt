@@ -27,7 +27,7 @@ use Rattle.kit_base.specs.Word.{add, sub}
 use Rattle.asm_laws.specs.Operations as operations
 use Rattle.asm_laws.specs.Operations.{Frame, Whole, register, slot_word, local_word, fetches, keeps, keeps_some, is_in, hand, brings, takes, aim, lays, moves, changes, is_direct, in_place, apart, turned, is_turned, turned_or_apart, computes, slot_arg, slot_args, pushed_arg, pushed_args, popped_arg, popped_args, args_items, call_items, op_items, in_one, one_or_more, more_of, giving, start_frame, opening_items, literal_items, literals_items}
 use Rattle.asm_laws.specs.Framing.{frame_made, frame_gone}
-use Rattle.asm_laws.specs.Emitted.{labels, enclosing, jump, jump_unless, mark, choice, one_way, is_stop, enclosed, returning, items_past, code_items, entry_items, exit_items, function_items, functions_items, functions_labels, call_item, closing_items, start_items, program_items, labels_of}
+use Rattle.asm_laws.specs.Emitted.{labels, enclosing, jump, jump_unless, mark, choice, one_way, alone, left_to, ends, jump_when, is_stop, enclosed, returning, items_past, code_items, entry_items, exit_items, function_items, functions_items, functions_labels, call_item, closing_items, start_items, program_items, labels_of}
 use Rattle.asm_laws.proofs.InOne.{one_or_more_is}
 use Rattle.asm_laws.proofs.Walked.{total_append, total_one, total_none, total_more}
 
@@ -204,9 +204,17 @@ one_way_size F p n w a le =
     let x4 = one_item (mark n) 0 (omega arith) in
     omega (arith, x1, x2, x3, x4, le, brings_size F p 9)
 
-chosen_size : (F : Frame) (p : Where) (n m wa wb : ℕ) (t : Bool) (a b : List AsmItem) → size a ≤ wa → size b ≤ wb → size (cond t (one_way F p n a) (choice F p n m a b)) ≤ wa + wb + 8
-chosen_size F p n m wa wb true a b la lb = let r = one_way_size F p n wa a la in omega (arith, r)
-chosen_size F p n m wa wb false a b la lb = choice_size F p n m wa wb a b la lb
+alone_size : (F : Frame) (p : Where) (n w : ℕ) (to : Option ℕ) (a : List AsmItem) → size a ≤ w → size (alone F p n to a) ≤ w + 8
+alone_size F p n w None a le = one_way_size F p n w a le
+alone_size F p n w (Some l) a le =
+    let j = jump_when (hand p 9) l in
+    let x1 = total_append (brings F p 9) (j ∷ mark n ∷ []) in
+    let x2 = two_items j (mark n) 2 0 (omega arith) (omega arith) in
+    omega (arith, x1, x2, brings_size F p 9)
+
+chosen_size : (F : Frame) (p : Where) (n m wa wb : ℕ) (t : Bool) (to : Option ℕ) (one a b : List AsmItem) → size one ≤ wa → size a ≤ wa → size b ≤ wb → size (cond t (alone F p n to one) (choice F p n m a b)) ≤ wa + wb + 8
+chosen_size F p n m wa wb true to one a b lo la lb = let r = alone_size F p n wa to one lo in omega (arith, r)
+chosen_size F p n m wa wb false to one a b lo la lb = choice_size F p n m wa wb a b la lb
 
 enclosed_size : (n w : ℕ) (a : List AsmItem) → size a ≤ w → size (enclosed n a) ≤ w + 8
 enclosed_size n w a le =
@@ -215,8 +223,9 @@ enclosed_size n w a le =
     let x3 = one_item (mark (n + 1)) 0 (omega arith) in
     omega (arith, x1, x2, x3, le)
 
-returning_size : (F : Frame) (p : Option Where) (out : ℕ) → size (returning F p out) ≤ 8
-returning_size F p out = let x = total_append (giving F p) (jump out ∷ []) in let r = one_item (jump out) 2 (omega arith) in omega (arith, x, r, giving_size F p)
+returning_size : (F : Frame) (p : Option Where) (out : ℕ) (last : Bool) → size (returning F p out last) ≤ 8
+returning_size F p out true = let x = total_append (giving F p) [] in omega (arith, x, total_none, giving_size F p)
+returning_size F p out false = let x = total_append (giving F p) (jump out ∷ []) in let r = one_item (jump out) 2 (omega arith) in omega (arith, x, r, giving_size F p)
 
 jump_size : (n : ℕ) → item_size (jump n) ≤ 2
 jump_size n = omega arith
@@ -226,33 +235,33 @@ abbrev pub Counts : CodeT Where → Whole → Type 0
 Counts x W = (g n : ℕ) → parameter_count x g ≡ Some n → n ≡ length (W.params g)
 
 module _ (x : CodeT Where) (W : Whole) (counts : Counts x W) (m : ℕ) (F : Frame) (out : ℕ) where
-  past_size : (c : NodesT Where) (done : ℕ) (bs : List Bool) (ls : List ℕ) (n : ℕ) → AreNodes x m bs c → size (items_past W F out ls n c done) ≤ nodes_weight c
-  past_size Stop done bs ls n ok = omega (arith, total_none)
-  past_size (Do o c) zero bs ls n ok =
+  past_size : (c : NodesT Where) (done : ℕ) (last : Bool) (bs : List Bool) (ls : List ℕ) (n : ℕ) → AreNodes x m bs c → size (items_past W F out last ls n c done) ≤ nodes_weight c
+  past_size Stop done last bs ls n ok = omega (arith, total_none)
+  past_size (Do o c) zero last bs ls n ok =
       let more = more_of (in_one W o c) in
-      let t = total_append (one_or_more W F o (in_one W o c)) (items_past W F out ls n c more) in
-      omega (arith, t, one_size W F o c, past_size c more bs ls n ok.1)
-  past_size (Do o c) (suc done) bs ls n ok = let r = past_size c done bs ls n ok.1 in omega (arith, r)
-  past_size (Call t g args c) done bs ls n ok = let s = total_append (call_items W F t g args) (items_past W F out ls n c 0) in omega (arith, s, call_size W F t g args (counts g (length args) ok.0), past_size c 0 bs ls n ok.1)
-  past_size (Choose p a b c) done bs ls n ok =
-      let xs = cond (is_stop b) (one_way F p n (items_past W F out ls (n + 1) a 0)) (choice F p n (n + 1 + labels a) (items_past W F out ls (n + 1) a 0) (items_past W F out ls (n + 1 + labels a + 1) b 0)) in
-      let s = total_append xs (items_past W F out ls (n + (2 + labels a + labels b)) c 0) in
-      let h = chosen_size F p n (n + 1 + labels a) (nodes_weight a) (nodes_weight b) (is_stop b) _ _ (past_size a 0 bs ls (n + 1) ok.0) (past_size b 0 bs ls (n + 1 + labels a + 1) ok.1) in
-      omega (arith, s, h, past_size c 0 bs ls (n + (2 + labels a + labels b)) ok.2)
-  past_size (Block b c) done bs ls n ok =
-      let s = total_append (enclosed n (items_past W F out (ls ++ n ∷ []) (n + 2) b 0)) (items_past W F out ls (n + (2 + labels b)) c 0) in
-      let h = enclosed_size n (nodes_weight b) _ (past_size b 0 (false ∷ bs) (ls ++ n ∷ []) (n + 2) ok.0) in
-      omega (arith, s, h, past_size c 0 bs ls (n + (2 + labels b)) ok.1)
-  past_size (Loop b c) done bs ls n ok =
-      let s = total_append (enclosed n (items_past W F out (ls ++ n ∷ []) (n + 2) b 0)) (items_past W F out ls (n + (2 + labels b)) c 0) in
-      let h = enclosed_size n (nodes_weight b) _ (past_size b 0 (true ∷ bs) (ls ++ n ∷ []) (n + 2) ok.0) in
-      omega (arith, s, h, past_size c 0 bs ls (n + (2 + labels b)) ok.1)
-  past_size (Leave k c) done bs ls n ok = let j = jump_size (add (enclosing ls k) 1) in let s = total_more (jump (add (enclosing ls k) 1)) (items_past W F out ls n c 0) in omega (arith, s, j, past_size c 0 bs ls n ok.1)
-  past_size (Again k c) done bs ls n ok = let j = jump_size (enclosing ls k) in let s = total_more (jump (enclosing ls k)) (items_past W F out ls n c 0) in omega (arith, s, j, past_size c 0 bs ls n ok.1)
-  past_size (Return p c) done bs ls n ok = let s = total_append (returning F p out) (items_past W F out ls n c 0) in omega (arith, s, returning_size F p out, past_size c 0 bs ls n ok)
+      let t = total_append (one_or_more W F o (in_one W o c)) (items_past W F out last ls n c more) in
+      omega (arith, t, one_size W F o c, past_size c more last bs ls n ok.1)
+  past_size (Do o c) (suc done) last bs ls n ok = let r = past_size c done last bs ls n ok.1 in omega (arith, r)
+  past_size (Call t g args c) done last bs ls n ok = let s = total_append (call_items W F t g args) (items_past W F out last ls n c 0) in omega (arith, s, call_size W F t g args (counts g (length args) ok.0), past_size c 0 last bs ls n ok.1)
+  past_size (Choose p a b c) done last bs ls n ok =
+      let xs = cond (is_stop b) (alone F p n (left_to ls a) (items_past W F out (ends last c) ls (n + 1) a 0)) (choice F p n (n + 1 + labels a) (items_past W F out false ls (n + 1) a 0) (items_past W F out (ends last c) ls (n + 1 + labels a + 1) b 0)) in
+      let s = total_append xs (items_past W F out last ls (n + (2 + labels a + labels b)) c 0) in
+      let h = chosen_size F p n (n + 1 + labels a) (nodes_weight a) (nodes_weight b) (is_stop b) (left_to ls a) _ _ _ (past_size a 0 (ends last c) bs ls (n + 1) ok.0) (past_size a 0 false bs ls (n + 1) ok.0) (past_size b 0 (ends last c) bs ls (n + 1 + labels a + 1) ok.1) in
+      omega (arith, s, h, past_size c 0 last bs ls (n + (2 + labels a + labels b)) ok.2)
+  past_size (Block b c) done last bs ls n ok =
+      let s = total_append (enclosed n (items_past W F out (ends last c) (ls ++ n ∷ []) (n + 2) b 0)) (items_past W F out last ls (n + (2 + labels b)) c 0) in
+      let h = enclosed_size n (nodes_weight b) _ (past_size b 0 (ends last c) (false ∷ bs) (ls ++ n ∷ []) (n + 2) ok.0) in
+      omega (arith, s, h, past_size c 0 last bs ls (n + (2 + labels b)) ok.1)
+  past_size (Loop b c) done last bs ls n ok =
+      let s = total_append (enclosed n (items_past W F out (ends last c) (ls ++ n ∷ []) (n + 2) b 0)) (items_past W F out last ls (n + (2 + labels b)) c 0) in
+      let h = enclosed_size n (nodes_weight b) _ (past_size b 0 (ends last c) (true ∷ bs) (ls ++ n ∷ []) (n + 2) ok.0) in
+      omega (arith, s, h, past_size c 0 last bs ls (n + (2 + labels b)) ok.1)
+  past_size (Leave k c) done last bs ls n ok = let j = jump_size (add (enclosing ls k) 1) in let s = total_more (jump (add (enclosing ls k) 1)) (items_past W F out last ls n c 0) in omega (arith, s, j, past_size c 0 last bs ls n ok.1)
+  past_size (Again k c) done last bs ls n ok = let j = jump_size (enclosing ls k) in let s = total_more (jump (enclosing ls k)) (items_past W F out last ls n c 0) in omega (arith, s, j, past_size c 0 last bs ls n ok.1)
+  past_size (Return p c) done last bs ls n ok = let s = total_append (returning F p out (ends last c)) (items_past W F out last ls n c 0) in omega (arith, s, returning_size F p out (ends last c), past_size c 0 last bs ls n ok)
 
   pub code_size : (c : NodesT Where) (bs : List Bool) (ls : List ℕ) (n : ℕ) → AreNodes x m bs c → size (code_items W F out ls n c) ≤ nodes_weight c
-  code_size c bs ls n ok = past_size c 0 bs ls n ok
+  code_size c bs ls n ok = past_size c 0 true bs ls n ok
 
 -- ---- the whole program
 

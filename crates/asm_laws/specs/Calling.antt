@@ -7,7 +7,7 @@ use Rattle.mid_code.specs.Code.{maybe}
 use Rattle.mid_code.specs.Meaning.{Lang}
 use Rattle.mid_code.specs.States.{State, registers_and_slots, function_at, over_worlds}
 use Rattle.mid_code.specs.Invariants.{AllOf, AreDifferent, in_registers}
-use Rattle.asm_laws.specs.Placing.{Shapes, Jumps, At}
+use Rattle.asm_laws.specs.Placing.{Shapes, Passes, At}
 use Rattle.asm_laws.specs.Following.{Holder}
 use Rattle.asm_laws.specs.Names.{function_label}
 use Rattle.asm_laws.specs.Operations.{in_one, one_or_more, more_of, call_items, giving}
@@ -83,7 +83,7 @@ pub record GivingAt (S : Setting) (f pc : ℕ) (w : Option Where) : Type 0 where
   pub named : AllOf (Named S f) (maybe w)
   pub then : ℕ
   pub stands : Stand S.console.words S.address pc (giving (S.whole.frames f) w) then
-  pub jumps : Jumps S.console.words then (S.leaves f)
+  pub passes : Passes S.console.words then (S.leaves f)
 
 abbrev pub shapes : Setting → Shapes
 shapes S = record {

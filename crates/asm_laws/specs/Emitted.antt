@@ -1,9 +1,9 @@
 -- The items of placed code: its instructions one after another, with labels where jumps go.
-use Rattle.std.specs.Prelude.{ℕ, zero, suc, Bool, true, false, cond, ◌+◌, ◌-◌, List, [], ◌∷◌, ◌++◌, length, Option, get_or}
+use Rattle.std.specs.Prelude.{ℕ, zero, suc, Bool, true, false, cond, ◌&&◌, ◌+◌, ◌-◌, List, [], ◌∷◌, ◌++◌, length, Option, Some, None, get_or}
 use Rattle.either.specs.declared.Either.TheVariants.{Right}
 use Rattle.v32_isa.specs.declared.instruction.Plain.TheVariants.{HLT}
 use Rattle.v32_isa.specs.declared.instruction.Go.TheVariants.{JMP, CALL}
-use Rattle.v32_isa.specs.declared.instruction.Branch.TheVariants.{JF}
+use Rattle.v32_isa.specs.declared.instruction.Branch.TheVariants.{JT, JF}
 use Rattle.v32_isa.specs.declared.instruction.Src.TheVariants as src
 use Rattle.v32_isa.specs.declared.instruction.Instr.TheVariants as instr
 use Rattle.kit_base.specs.Word.{add}
@@ -38,6 +38,9 @@ jump n = items.Op (instr.Go JMP (src.Imm (Right (jump_label n))))
 abbrev pub jump_unless : (register n : ℕ) → AsmItem
 jump_unless r n = items.Op (instr.Branch JF r (src.Imm (Right (jump_label n))))
 
+abbrev pub jump_when : (register n : ℕ) → AsmItem
+jump_when r n = items.Op (instr.Branch JT r (src.Imm (Right (jump_label n))))
+
 abbrev pub mark : ℕ → AsmItem
 mark n = items.Label (jump_label n)
 
@@ -55,6 +58,16 @@ choice F p n m a b = first_part F p n m a ++ second_part m b
 abbrev pub one_way : Frame → Where → ℕ → List AsmItem → List AsmItem
 one_way F p n a = brings F p 9 ++ jump_unless (hand p 9) n ∷ (a ++ mark n ∷ [])
 
+-- the label to which nodes go that only leave a block or loop
+abbrev pub left_to : List ℕ → NodesT Where → Option ℕ
+left_to ls (Leave k Stop) = Some (add (enclosing ls k) 1)
+left_to ls _ = None
+
+-- the same where the first part only goes to a label: the test goes there itself
+abbrev pub alone : Frame → Where → ℕ → (to : Option ℕ) → List AsmItem → List AsmItem
+alone F p n None a = one_way F p n a
+alone F p n (Some l) a = brings F p 9 ++ jump_when (hand p 9) l ∷ mark n ∷ []
+
 abbrev pub is_stop : NodesT Where → Bool
 is_stop Stop = true
 is_stop _ = false
@@ -63,28 +76,33 @@ is_stop _ = false
 abbrev pub enclosed : ℕ → List AsmItem → List AsmItem
 enclosed n a = mark n ∷ (a ++ mark (n + 1) ∷ [])
 
--- a result is given back in register 9, by a jump to the function's end
-abbrev pub returning : Frame → Option Where → ℕ → List AsmItem
-returning F p out = giving F p ++ jump out ∷ []
+-- whether the function's end comes right behind a node, where it comes behind those that the node stands before
+abbrev pub ends : (last : Bool) → NodesT Where → Bool
+ends last c = is_stop c && last
+
+-- a result is given back in register 9, by a jump to the function's end where that does not come next
+abbrev pub returning : Frame → Option Where → ℕ → (last : Bool) → List AsmItem
+returning F p out last = giving F p ++ cond last [] (jump out ∷ [])
 
 module _ (W : Whole) (F : Frame) (out : ℕ) where
-  -- the items of nodes whose labels begin at n, inside blocks and loops with these labels; so many operations in front are done already
-  abbrev pub items_past : List ℕ → ℕ → NodesT Where → (done : ℕ) → List AsmItem
-  items_past ls n Stop k = []
-  items_past ls n (Do o c) zero = one_or_more W F o (in_one W o c) ++ items_past ls n c (more_of (in_one W o c))
-  items_past ls n (Do o c) (suc k) = items_past ls n c k
-  items_past ls n (Call t g args c) k = call_items W F t g args ++ items_past ls n c 0
-  items_past ls n (Choose p a b c) k =
-      cond (is_stop b) (one_way F p n (items_past ls (n + 1) a 0)) (choice F p n (n + 1 + labels a) (items_past ls (n + 1) a 0) (items_past ls (n + 1 + labels a + 1) b 0))
-      ++ items_past ls (n + (2 + labels a + labels b)) c 0
-  items_past ls n (Block b c) k = enclosed n (items_past (ls ++ n ∷ []) (n + 2) b 0) ++ items_past ls (n + (2 + labels b)) c 0
-  items_past ls n (Loop b c) k = enclosed n (items_past (ls ++ n ∷ []) (n + 2) b 0) ++ items_past ls (n + (2 + labels b)) c 0
-  items_past ls n (Leave j c) k = jump (add (enclosing ls j) 1) ∷ items_past ls n c 0
-  items_past ls n (Again j c) k = jump (enclosing ls j) ∷ items_past ls n c 0
-  items_past ls n (Return p c) k = returning F p out ++ items_past ls n c 0
+  -- the items of nodes whose labels begin at n, inside blocks and loops with these labels; so many operations in front are done already. Whether the function's end comes
+  -- right behind them.
+  abbrev pub items_past : (last : Bool) → List ℕ → ℕ → NodesT Where → (done : ℕ) → List AsmItem
+  items_past last ls n Stop k = []
+  items_past last ls n (Do o c) zero = one_or_more W F o (in_one W o c) ++ items_past last ls n c (more_of (in_one W o c))
+  items_past last ls n (Do o c) (suc k) = items_past last ls n c k
+  items_past last ls n (Call t g args c) k = call_items W F t g args ++ items_past last ls n c 0
+  items_past last ls n (Choose p a b c) k =
+      cond (is_stop b) (alone F p n (left_to ls a) (items_past (ends last c) ls (n + 1) a 0)) (choice F p n (n + 1 + labels a) (items_past false ls (n + 1) a 0) (items_past (ends last c) ls (n + 1 + labels a + 1) b 0))
+      ++ items_past last ls (n + (2 + labels a + labels b)) c 0
+  items_past last ls n (Block b c) k = enclosed n (items_past (ends last c) (ls ++ n ∷ []) (n + 2) b 0) ++ items_past last ls (n + (2 + labels b)) c 0
+  items_past last ls n (Loop b c) k = enclosed n (items_past (ends last c) (ls ++ n ∷ []) (n + 2) b 0) ++ items_past last ls (n + (2 + labels b)) c 0
+  items_past last ls n (Leave j c) k = jump (add (enclosing ls j) 1) ∷ items_past last ls n c 0
+  items_past last ls n (Again j c) k = jump (enclosing ls j) ∷ items_past last ls n c 0
+  items_past last ls n (Return p c) k = returning F p out (ends last c) ++ items_past last ls n c 0
 
   abbrev pub code_items : List ℕ → ℕ → NodesT Where → List AsmItem
-  code_items ls n c = items_past ls n c 0
+  code_items ls n c = items_past true ls n c 0
 
 -- a function begins with its label and makes its frame; at its end it takes the frame away and goes back
 abbrev pub entry_items : Whole → ℕ → Frame → List AsmItem

@@ -11,7 +11,7 @@ use Rattle.mid_code.specs.declared.placed.Where.{Where}
 use Rattle.mid_code.specs.Code.{FunctionT}
 use Rattle.mid_code.specs.States.{function_at}
 use Rattle.mid_code.specs.Invariants.{AreNodes, Names, CallsNone}
-use Rattle.asm_laws.specs.Placing.{Shapes, Jumps, At}
+use Rattle.asm_laws.specs.Placing.{Shapes, Passes, At}
 use Rattle.asm_laws.specs.Names.{function_label}
 use Rattle.asm_laws.specs.Operations.{in_one, one_or_more, more_of, call_items, giving, opening_items}
 use Rattle.asm_laws.specs.Standing.{Stand}
@@ -28,7 +28,7 @@ items_at S = record {
   op = λ f pc o c more p. Stand S.console.words S.address pc (one_or_more S.whole (S.whole.frames f) o (in_one S.whole o c)) p × (more ≡ more_of (in_one S.whole o c));
   call = λ f pc t g args p. Stand S.console.words S.address pc (call_items S.whole (S.whole.frames f) t g args) p;
   test = λ f pc w other next. Tests S.console.words S.address (S.whole.frames f) pc w other next;
-  giving = λ f pc w. (q : ℕ) × Stand S.console.words S.address pc (giving (S.whole.frames f) w) q × Jumps S.console.words q (S.leaves f);
+  giving = λ f pc w. (q : ℕ) × Stand S.console.words S.address pc (giving (S.whole.frames f) w) q × Passes S.console.words q (S.leaves f);
 }
 
 -- a function stands among the words

@@ -4,6 +4,7 @@
 //! no instruction moves it there. What is made is taken only where `is_safe` of reg_choose says that it is safe, so safe choices stay safe.
 #![tactic(auto)]
 
+mod entry;
 mod merge;
 mod operands;
 mod places;

@@ -4,13 +4,13 @@ use crate::places::{maybe_stands, place};
 use crate::upwards::{may_stand, op_at};
 use mid_code::{Node, Op, Where};
 
-fn is_single(single: &[bool], t: u32) -> bool {
+pub(crate) fn is_single(single: &[bool], t: u32) -> bool {
     let i = t as usize;
     if i < single.len() { single[i] } else { false }
 }
 
 /// Whether both are registers or both slots, and not the same one.
-fn can_go(from: Where, to: Where) -> bool {
+pub(crate) fn can_go(from: Where, to: Where) -> bool {
     match (from, to) {
         (Where::Reg(k), Where::Reg(n)) => k != n,
         (Where::Slot(k), Where::Slot(n)) => k != n,
@@ -19,7 +19,7 @@ fn can_go(from: Where, to: Where) -> bool {
     }
 }
 
-fn put(at: &mut [Where], t: u32, r: Where) {
+pub(crate) fn put(at: &mut [Where], t: u32, r: Where) {
     let i = t as usize;
     if i < at.len() {
         at[i] = r;

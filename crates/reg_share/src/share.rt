@@ -7,6 +7,7 @@ ghost use Rattle.mid_code.specs.Whole.{mid};
 ghost use Rattle.mid_code.specs.Safe.{IsSafe, SparesSlots, IsRegister, AllPlaces};
 ghost use Rattle.reg_choose.specs.Each.{EachSpares, AllSpare, places_in, IsNamed};
 
+use crate::entry::merge_params;
 use crate::merge::merge_nodes;
 use crate::registers::adds_no_slot;
 use crate::singles::singles;
@@ -34,6 +35,21 @@ fn merged(alloc: Global, f: &Function<u32>, given: &[Where]) -> Result<Choice, M
     })
 }
 
+/// The choice in which parameters, too, stand at the places of the locals that take them. It is tested as well.
+fn entered(alloc: Global, f: &Function<u32>, given: &[Where]) -> Result<Choice, Memory> {
+    let single = singles(alloc, f)?;
+    let mut at = given.to_vec(alloc)?;
+    merge_params(
+        single.as_slice(),
+        at.as_mut_slice(),
+        f.params.as_slice(),
+        f.body.as_slice(),
+    );
+    Ok(Choice {
+        at: Seq::from_vec(at),
+    })
+}
+
 /// Whether another choice may be taken in the place of the given one: it is safe, and has no slot where that has none.
 fn serves(alloc: Global, f: &Function<u32>, given: &[Where], other: &Choice) -> Result<bool, Memory>
     requires named { IsNamed (function f.now) }
@@ -46,7 +62,23 @@ fn serves(alloc: Global, f: &Function<u32>, given: &[Where], other: &Choice) -> 
     is_safe(alloc, f, other)
 }
 
-/// The choice for one function: the one in which operands share places where it serves, else the given one.
+/// The choice in which parameters share places too, where it serves, else the one given.
+fn share_entry(alloc: Global, f: &Function<u32>, given: Choice) -> Result<Choice, Memory>
+    requires named { IsNamed (function f.now) }
+    requires safe { IsSafe (function f.now) given.at }
+    requires spares { SparesSlots (function f.now) given.at }
+    ensures safe { IfOk result (λ c. IsSafe (function f.now) c.at) }
+    ensures spares { IfOk result (λ c. SparesSlots (function f.now) c.at) }
+{
+    let other = entered(alloc, f, given.at.as_slice())?;
+    if serves(alloc, f, given.at.as_slice(), &other)? {
+        Ok(other)
+    } else {
+        Ok(given)
+    }
+}
+
+/// The choice for one function: the one in which operands share places where it serves, else the given one; then the same of parameters.
 fn share(alloc: Global, f: &Function<u32>, given: &[Where]) -> Result<Choice, Memory>
     requires named { IsNamed (function f.now) }
     requires safe { IsSafe (function f.now) given.now }
@@ -56,9 +88,9 @@ fn share(alloc: Global, f: &Function<u32>, given: &[Where]) -> Result<Choice, Me
 {
     let other = merged(alloc, f, given)?;
     if serves(alloc, f, given, &other)? {
-        Ok(other)
+        share_entry(alloc, f, other)
     } else {
-        copy(alloc, given)
+        share_entry(alloc, f, copy(alloc, given)?)
     }
 }
 

@@ -1,36 +1,54 @@
-// The run of a source by its mid code.
+// The mid code of a source, and its run.
 use crate::counting::size_of;
 use crate::put::put;
+use crate::work::Stage;
 use c_check::Program;
 use kit_base::Memory;
 use mid_code::Mid;
+use mid_copies::spare_copies;
 use mid_evaluate::evaluate_mid;
 use mid_lower::lower;
 use mid_scalars::promote;
+use mid_text::write_mid;
 use obj_mem::Frames;
 use std::alloc::Global;
 use std::io;
 
-fn code_of(alloc: Global, program: &Program, promoted: bool) -> Result<Mid, Memory> {
+fn code_of(alloc: Global, program: &Program, stage: Stage) -> Result<Mid, Memory> {
     let code = lower(alloc, program)?;
-    if promoted {
-        promote(alloc, code)
-    } else {
-        Ok(code)
+    match stage {
+        Stage::Lowered => Ok(code),
+        Stage::Promoted => promote(alloc, code),
+        Stage::Spared => {
+            let first = promote(alloc, code)?;
+            let spared = spare_copies(alloc, first)?;
+            promote(alloc, spared)
+        }
     }
 }
 
-/// Runs a program by its mid code, with scalars promoted or not, and puts what it does and keeps and how large its code is.
+/// Puts the mid code of a program at a stage.
+pub fn put_text(rt: &HostRuntime, program: &Program, stage: Stage) -> io::Result<()> {
+    let Ok(code) = code_of(rt.alloc(), program, stage) else {
+        return println!(rt; "no memory");
+    };
+    match write_mid(rt.alloc(), &code) {
+        Ok(text) => print!(rt; "{text}"),
+        Err(_) => println!(rt; "no memory"),
+    }
+}
+
+/// Runs a program by its mid code at a stage, and puts what it does and keeps and how large its code is.
 pub fn put_mid(
     rt: &HostRuntime,
     program: &Program,
-    promoted: bool,
+    stage: Stage,
     frames: &Frames,
     answers: &[u32],
     card: Option<&[u32]>,
     bound: u32,
 ) -> io::Result<()> {
-    let Ok(code) = code_of(rt.alloc(), program, promoted) else {
+    let Ok(code) = code_of(rt.alloc(), program, stage) else {
         return println!(rt; "no memory");
     };
     match evaluate_mid(rt.alloc(), &code, frames, bound, answers, card) {

@@ -2,16 +2,23 @@
 use line_text::decimal_word;
 use std::alloc::Global;
 
-/// How a source is run: by its meaning, or by its mid code without and with promotion.
+/// Mid code as it is lowered; with scalars promoted; and with copies spared and scalars promoted once more, as places are chosen for.
+#[derive(Clone, Copy, Drop)]
+pub enum Stage {
+    Lowered,
+    Promoted,
+    Spared,
+}
+
+/// How a source is run: by its meaning, or by its mid code.
 #[derive(Clone, Copy, Drop)]
 pub enum How {
     Meaning,
-    Lowered,
-    Promoted,
+    Code(Stage),
 }
 
-/// What is asked for: the files of the source and of the port answers, whether a card of zeros is connected, the bound, how it is run, and the
-/// sizes of the frames.
+/// A run that is asked for: the files of the source and of the port answers, whether a card of zeros is connected, the bound, how it is run, and
+/// the sizes of the frames.
 #[derive(Drop)]
 pub struct Work<'a> {
     pub source: &'a str,
@@ -22,16 +29,35 @@ pub struct Work<'a> {
     pub sizes: Vec<u32>,
 }
 
-fn how_of(word: &str) -> Option<How> {
+fn stage_of(word: &str) -> Option<Stage> {
     match word {
-        "meaning" => Some(How::Meaning),
-        "lowered" => Some(How::Lowered),
-        "promoted" => Some(How::Promoted),
+        "lowered" => Some(Stage::Lowered),
+        "promoted" => Some(Stage::Promoted),
+        "spared" => Some(Stage::Spared),
         _ => None,
     }
 }
 
-/// What `SOURCE ANSWERS none|zeros BOUND meaning|lowered|promoted SIZE ..` ask for; none where they are no such words, or memory ran out.
+fn how_of(word: &str) -> Option<How> {
+    if word == "meaning" {
+        Some(How::Meaning)
+    } else {
+        Some(How::Code(stage_of(word)?))
+    }
+}
+
+/// The source and the stage whose mid code `SOURCE text lowered|promoted|spared` asks for; none where the words are no such ones.
+pub fn text_of(words: &[String]) -> Option<(&str, Stage)> {
+    let [source, text, stage] = words else {
+        return None;
+    };
+    if text.as_str() != "text" {
+        return None;
+    }
+    Some((source.as_str(), stage_of(stage.as_str())?))
+}
+
+/// What `SOURCE ANSWERS none|zeros BOUND meaning|lowered|promoted|spared SIZE ..` ask for; none where they are no such words, or memory ran out.
 pub fn work_of(alloc: Global, words: &[String]) -> Option<Work<'_>> {
     let [source, answers, card, bound, how, rest @ ..] = words else {
         return None;

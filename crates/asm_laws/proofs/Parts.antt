@@ -15,6 +15,8 @@ use Rattle.v32_isa.specs.State.{register_of, going_to}
 use Rattle.v32_isa.specs.State as machine
 use Rattle.v32_isa.specs.Machine.{act, effect_of}
 use Rattle.v32_isa.specs.Machine.Effect.{Ends as EndsIn}
+use Rattle.v32_isa.specs.Calls.{turn}
+use Rattle.v32_isa.specs.Calls.Turn.{Other as Onwards}
 use Rattle.v32_isa.specs.Runs.{run}
 use Rattle.v32_isa.specs.Runs as runs
 use Rattle.v32_isa.proofs.Steps.{Reaches, reaches_here, reaches_on, reaches_went, nested_none}
@@ -273,6 +275,10 @@ module _ (S : Setting) (fits : Fits S) where
   branched u at r to next v p a h e (inl l) lt is = line_effect C a u at (instr.Branch JF r (src.Imm to)) next h e l (lt, omega arith, omega arith) ∙ branch_effect u r to next v is
   branched u at r to next v p a h e (inr l) lt is = line_effect C a u at (instr.Branch JT r (src.Imm next)) to h e l (lt, omega arith, omega arith) ∙ when_effect u r next to v is
 
+  branch_turn : (u : machine.State) (at r to next : ℕ) (a : Addr) → Held C a u → u.counter ≡ at → Line C.words at (instr.Branch JF r (src.Imm to)) next ⊎ Line C.words at (instr.Branch JT r (src.Imm next)) to → r < 16 → turn u ≡ Onwards
+  branch_turn u at r to next a h e (inl l) lt = line_turn C a u at (instr.Branch JF r (src.Imm to)) next h e l (lt, omega arith, omega arith)
+  branch_turn u at r to next a h e (inr l) lt = line_turn C a u at (instr.Branch JT r (src.Imm next)) to h e l (lt, omega arith, omega arith)
+
   tested : (κ : Ctx) (s : State Where) (m : machine.State) (pc to next : ℕ) (p : Where) (q : ℕ) → Named S κ.fn p → (h : Mach S κ s m) → m.counter ≡ pc → Tests C.words S.address (Of κ) pc p to next → (if word_of (Of κ) p h.words == 0 then to else next) ≡ q → Came (holder S) m (spare 1 (begin (holder S) s)) (spent node_weight s) q 0 0 (Mach S κ (spent node_weight s))
   tested κ s m pc to next p q named h e t is =
       let F = Of κ in
@@ -286,7 +292,7 @@ module _ (S : Setting) (fits : Fits S) where
         steps = b.steps + 1;
         made = [];
         to = going_to (if v == 0 then to else next) u;
-        by = reaches_on b.steps 1 m u (going_to (if v == 0 then to else next) u) xs xs xs [] [] b.by (reaches_went u (going_to (if v == 0 then to else next) u) xs eff (line_turn C h.words u t.0 (instr.Branch JF r (src.Imm to)) next b.held b.at t.2 (hand_fits p 9 (omega arith), omega arith, omega arith)));
+        by = reaches_on b.steps 1 m u (going_to (if v == 0 then to else next) u) xs xs xs [] [] b.by (reaches_went u (going_to (if v == 0 then to else next) u) xs eff (branch_turn u t.0 r to next h.words b.held b.at t.2 (hand_fits p 9 (omega arith))));
         at = is;
         held = record { place = h.place; words = h.words; at = h.at; held = moved C h.words u (if v == 0 then to else next) b.held };
         events = sym (append-nil s.world.events);

@@ -1,7 +1,10 @@
 // What holds of every program.
-ghost use Rattle.std.specs.Prelude.{◌≤◌, ◌≡◌, ℕ, Some, length, slice_get};
-ghost use Rattle.c_types.specs.Programs.{TFunctionT};
+ghost use Rattle.std.specs.Prelude.{◌≤◌, ◌≡◌, ℕ, List, Some, length, slice_get};
+ghost use Rattle.c_tree.specs.Count.{unit_nodes};
+ghost use Rattle.c_tree.specs.Tree.{ItemT};
+ghost use Rattle.c_types.specs.Programs.{ProgramT, TFunctionT};
 ghost use Rattle.c_check.specs.View.{program};
+ghost use Rattle.c_check.specs.Whole.{WellTyped};
 ghost use Rattle.c_facts.specs.Sound.{IsSound};
 ghost use Rattle.c_types.specs.Nodes.{program_nodes};
 ghost use Rattle.c_facts.specs.Bodies.{FunctionsAreBodies};
@@ -22,6 +25,11 @@ pub fn programs_are_sound(checked: &Program)
 /// A program has at most 200,000 nodes.
 pub fn programs_have_few_nodes(checked: &Program)
     ensures few { program_nodes (program checked.now) ≤ 200000 }
+{}
+
+/// A typed program has at most as many nodes as the trees of its unit.
+pub fn programs_add_no_nodes()
+    ensures nodes { (all : List ItemT) (p : ProgramT) → WellTyped all p → program_nodes p ≤ unit_nodes all }
 {}
 
 /// A call of a function has at most 200,000 objects.

@@ -1,6 +1,6 @@
 // Single tokens at the front.
 ghost use Rattle.std.specs.Prelude.{◌≡◌, ◌≤◌, ◌<◌, IfOk, IfErr, Ok, length};
-ghost use Rattle.c_parse.specs.Tok.{toks};
+ghost use Rattle.c_parse.specs.Tok.{bytes_of, toks};
 ghost use Rattle.c_parse.specs.declared.fault.Fault.TheVariants.{Syntax, TooDeep};
 ghost use Rattle.c_parse.specs.declared.fault.ReadErr.TheVariants as errors;
 ghost use Rattle.c_parse.specs.Reader as reader;
@@ -10,8 +10,8 @@ ghost use Rattle.c_parse.specs.View.{Gives, context};
 use crate::class::{Class, Key, next};
 use crate::fault::{Fault, ReadErr};
 use crate::scope::{Scope, bytes_of, is_type};
-use c_lex::{Punct, Token};
-use kit_base::Name;
+use c_lex::{Kind, Punct, Token};
+use kit_base::{Memory, Name};
 use std::alloc::Global;
 
 /// No unit goes on with the first of these tokens.
@@ -166,13 +166,16 @@ fn at_new(tokens: &[Token]) -> bool
     }
 }
 
-fn bytes_at(tokens: &[Token]) -> &[u8]
-    ensures { result.now ≡ bytes_at (toks tokens.now) }
+/// The token's own word or text, whose bytes are shared and not copied.
+fn shared(alloc: Global, token: &Token) -> Result<Name, Memory>
+    ensures { IfOk result (λ n. n ≡ bytes_of token.now.kind) }
 {
-    match next(tokens) {
-        Some((Class::Word, token, _)) => bytes_of(token),
-        Some((Class::Text, token, _)) => bytes_of(token),
-        _ => &[],
+    match &token.kind {
+        Kind::Word(word) => word.copy(),
+        Kind::Text(text) => text.copy(),
+        Kind::Number(_) => Name::from_bytes(alloc, &[]),
+        Kind::Char(_) => Name::from_bytes(alloc, &[]),
+        Kind::Punct(_) => Name::from_bytes(alloc, &[]),
     }
 }
 
@@ -180,7 +183,11 @@ fn bytes_at(tokens: &[Token]) -> &[u8]
 pub(crate) fn word(alloc: Global, tokens: &[Token]) -> Result<Name, ReadErr>
     ensures { Gives (λ x. x) result (Ok (bytes_at (toks tokens.now))) }
 {
-    Ok(Name::from_bytes(alloc, bytes_at(tokens))?)
+    match next(tokens) {
+        Some((Class::Word, token, _)) => Ok(shared(alloc, token)?),
+        Some((Class::Text, token, _)) => Ok(shared(alloc, token)?),
+        _ => Ok(Name::from_bytes(alloc, &[])?),
+    }
 }
 
 /// A name that is no type's.

@@ -1,7 +1,0 @@
-use Rattle.std.proofs.Common.{◌≡◌, ◌≤◌, ◌*◌, ◌^◌, min, map}
-use Rattle.c_types.specs.Sizes.{words_of}
-use Rattle.c_types.specs.View.{ctype, layout}
-use Rattle.c_rules.proofs.sizes.words_within.Given as goal
-
-abbrev pub invariant-loop-at : goal.invariant-loop-at
-invariant-loop-at l = (l.times ≤ 2 ^ 32) × (min (words_of (map layout l.layouts) (ctype l.at) * l.times) (2 ^ 32) ≡ min (words_of (map layout l.layouts) (ctype l.ty)) (2 ^ 32))

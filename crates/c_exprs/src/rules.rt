@@ -10,8 +10,8 @@ ghost use Rattle.c_exprs.specs.Gives.{Gives};
 use crate::error::{CheckErr, at_node, placed};
 use crate::names::Globals;
 use c_rules::{
-    Code, array_type, assign_type, binary_type, cast_type, compound_type, fits, index_type,
-    is_structure, is_whole, step_type, type_size, unary_type,
+    Code, Counted, array_type, assign_type, binary_type, cast_type, compound_type, fits,
+    index_type, is_structure, is_whole, step_type, type_size, unary_type,
 };
 use c_tree::{BinOp, Span, StepOp, UnOp};
 use c_types::{CType, Layout};
@@ -147,11 +147,11 @@ pub(crate) fn array_at(
     alloc: Global,
     globals: &Globals,
     span: Span,
-    of: CType,
+    of: Counted,
     count: u32,
-) -> Result<CType, CheckErr>
-    ensures { Gives ctype result (at_node span (array_rule (map layout globals.now.layouts.items) globals.now.whole.items (ctype of) count)) }
+) -> Result<Counted, CheckErr>
+    ensures { Gives (λ r. ctype r.ty) result (at_node span (array_rule (map layout globals.now.layouts.items) globals.now.whole.items (ctype of.ty) count)) }
 {
-    let answer = array_type(alloc, &globals.layouts, &globals.whole, &of, count);
+    let answer = array_type(alloc, &globals.layouts, &globals.whole, of, count);
     at_node(span, answer)
 }

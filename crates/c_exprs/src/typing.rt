@@ -2,7 +2,7 @@
 ghost use Rattle.std.specs.Prelude.{◌≡◌, [], List, IfOk, OnErr, Err, map};
 ghost use Rattle.c_tree.specs.declared.span.Span.{Span};
 ghost use Rattle.c_tree.specs.View.{expr, exprs, type};
-ghost use Rattle.c_types.specs.Types.{Ty};
+ghost use Rattle.c_types.specs.Types.{PointerY, Ty};
 ghost use Rattle.c_types.specs.Typed.{TExprT};
 ghost use Rattle.c_types.specs.View.{ctype, texpr, texprs};
 ghost use Rattle.c_rules.specs.Nodes.{needs_place};
@@ -28,10 +28,10 @@ use crate::nodes::{constant, span_of};
 use crate::rules::{array_at, size_at, value_at};
 use crate::texts::{Texts, kept_texts};
 use crate::trees::{arrow_tree, member_tree, name_tree, named_type, node};
-use c_rules::{Code, array_of, pointer_to};
+use c_rules::{Code, Counted, array_of, pointer_to, with_elements};
 use c_tree::{Expr, Span, TypeTree, UnOp};
 use c_types::{CType, TExpr, TKind};
-use kit_base::Name;
+use kit_base::{Memory, Name};
 use std::alloc::Global;
 use std::rc::Rc;
 
@@ -131,14 +131,14 @@ fn typed(
             Ok(node(kind, ty, *span))
         }
         Expr::Cast(to, a, span) => {
-            let to = type_of(alloc, globals, scopes, texts, *span, to)?;
+            let to = counted_type(alloc, globals, scopes, texts, *span, to)?;
             let x = valued(alloc, globals, scopes, texts, a);
             let (to, x) = keeping(to, x)?;
-            Ok(cast_tree(alloc, to, x, *span)?)
+            Ok(cast_tree(alloc, to.ty, x, *span)?)
         }
         Expr::SizeOf(of, span) => {
-            let ty = type_of(alloc, globals, scopes, texts, *span, of)?;
-            let n = size_at(globals, *span, ty)?;
+            let found = counted_type(alloc, globals, scopes, texts, *span, of)?;
+            let n = size_at(globals, *span, found.ty)?;
             Ok(node(TKind::Number(n), CType::Int, *span))
         }
     }
@@ -188,8 +188,44 @@ fn all_valued(
     Ok(found)
 }
 
+/// A pointer to a type, with its elements.
+fn counted_pointer(alloc: Global, to: Counted) -> Result<Counted, Memory>
+    ensures { IfOk result (λ r. ctype r.ty ≡ PointerY (ctype to.ty)) }
+{
+    Ok(with_elements(CType::Pointer(Rc::new(alloc, to.ty)?)))
+}
+
+/// The type that a type tree names, with its elements: an array of it then needs no walk down the type.
 #[cycle(typing)]
 #[tactic(auto, unfolding(crate::specs::Typing::as_value))]
+fn counted_type(
+    alloc: Global,
+    globals: &Globals,
+    scopes: &[Scope],
+    texts: &mut Texts,
+    span: Span,
+    ty: &TypeTree,
+) -> Result<Counted, CheckErr>
+    ensures { Gives (λ r. (ctype r.ty, texts.new)) result (type_of (ctx globals.now scopes.now) texts.old span (type ty.now)) }
+{
+    match ty {
+        TypeTree::Int => Ok(with_elements(CType::Int)),
+        TypeTree::Bool => Ok(with_elements(CType::Bool)),
+        TypeTree::Void => Ok(with_elements(CType::Void)),
+        TypeTree::Named(name) => Ok(with_elements(named_type(globals, scopes, name, span)?)),
+        TypeTree::Pointer(to) => {
+            let to = counted_type(alloc, globals, scopes, texts, span, to)?;
+            Ok(counted_pointer(alloc, to)?)
+        }
+        TypeTree::Array(of, n) => {
+            let x = valued(alloc, globals, scopes, texts, n)?;
+            let count = count_at(span_of(n), x)?;
+            let of = counted_type(alloc, globals, scopes, texts, span, of)?;
+            Ok(array_at(alloc, globals, span_of(n), of, count)?)
+        }
+    }
+}
+
 fn type_of(
     alloc: Global,
     globals: &Globals,
@@ -200,22 +236,8 @@ fn type_of(
 ) -> Result<CType, CheckErr>
     ensures { Gives (λ r. (ctype r, texts.new)) result (type_of (ctx globals.now scopes.now) texts.old span (type ty.now)) }
 {
-    match ty {
-        TypeTree::Int => Ok(CType::Int),
-        TypeTree::Bool => Ok(CType::Bool),
-        TypeTree::Void => Ok(CType::Void),
-        TypeTree::Named(name) => Ok(named_type(globals, scopes, name, span)?),
-        TypeTree::Pointer(to) => {
-            let to = type_of(alloc, globals, scopes, texts, span, to)?;
-            Ok(CType::Pointer(Rc::new(alloc, to)?))
-        }
-        TypeTree::Array(of, n) => {
-            let x = valued(alloc, globals, scopes, texts, n)?;
-            let count = count_at(span_of(n), x)?;
-            let of = type_of(alloc, globals, scopes, texts, span, of)?;
-            Ok(array_at(alloc, globals, span_of(n), of, count)?)
-        }
-    }
+    let found = counted_type(alloc, globals, scopes, texts, span, ty)?;
+    Ok(found.ty)
 }
 
 /// The typed tree of an expression. Its texts are added to those so far; after a refusal there are none.

@@ -3,9 +3,12 @@ use Rattle.std.proofs.Common.{◌≡◌, ◌≢◌, ◌^◌, ◌≤◌, ◌<◌,
 use Rattle.std.proofs.lemmas.Bool.{eq-eqb, eqb-true}
 use Rattle.std.proofs.lemmas.Bool.Decides.{leb_tells}
 use Rattle.std.proofs.Math.Dec.{leb}
-use Rattle.std.proofs.Math.Nat.{min-eq_left, min-eq_right, mul-le-mul_right, mul_assoc}
-use Rattle.c_types.specs.Types.{Ty, ArrayY, LayoutT}
+use Rattle.std.proofs.Math.Nat.{min-eq_left, min-eq_right, mul-le-mul_right, mul_assoc, mul_comm}
+use Rattle.c_types.specs.Types.{Ty, VoidY, IntY, BoolY, EnumY, StructY, UnionY, PointerY, ArrayY, LayoutT}
 use Rattle.c_types.specs.Sizes.{words_of}
+use Rattle.c_rules.specs.declared.elements.Element.{Element}
+use Rattle.c_rules.specs.Elements.{element_of, element_words, elements_in, is_element_whole}
+use Rattle.c_rules.specs.Sizes.{is_whole}
 use Rattle.c_rules.specs.Kinds.{same_type, element, element_count}
 
 and_true : (p q : Bool) → q ≡ true → p ≡ (p && q)
@@ -49,8 +52,42 @@ capped (suc w) k c = at (leb_tells c k)
     at (inr h) = ap (λ (x : ℕ). min (suc w * x) c) (min-eq_left {m = c} (omega (arith, h.1)))
 
 -- one array further down: its length is one more factor
-pub stepped : (ls : List LayoutT) (t of : Ty) (len times m goal : ℕ) → t ≡ ArrayY of len → m ≡ min (len * times) (2 ^ 32)
-    → min (words_of ls t * times) (2 ^ 32) ≡ goal → min (words_of ls of * m) (2 ^ 32) ≡ goal
-stepped ls t of len times m goal is p q =
-    ap (λ (x : ℕ). min (words_of ls of * x) (2 ^ 32)) p ∙ capped (words_of ls of) (len * times) (2 ^ 32)
-    ∙ ap (λ (x : ℕ). min x (2 ^ 32)) (sym (mul_assoc (words_of ls of) len times)) ∙ ap (λ (s : Ty). min (words_of ls s * times) (2 ^ 32)) (sym is) ∙ q
+pub stepped : (t of : Ty) (len times m goal : ℕ) → t ≡ ArrayY of len → m ≡ min (len * times) (2 ^ 32)
+    → min (elements_in t * times) (2 ^ 32) ≡ goal → min (elements_in of * m) (2 ^ 32) ≡ goal
+stepped t of len times m goal is p q =
+    ap (λ (x : ℕ). min (elements_in of * x) (2 ^ 32)) p ∙ capped (elements_in of) (len * times) (2 ^ 32)
+    ∙ ap (λ (x : ℕ). min x (2 ^ 32)) (sym (mul_assoc (elements_in of) len times)) ∙ ap (λ (s : Ty). min (elements_in s * times) (2 ^ 32)) (sym is) ∙ q
+
+-- one array further up: its length is one more factor
+pub one_array_more : (n len k r : ℕ) → k ≡ min n (2 ^ 32) → r ≡ min (len * k) (2 ^ 32) → r ≡ min (n * len) (2 ^ 32)
+one_array_more n len k r is told = told ∙ ap (λ (x : ℕ). min (len * x) (2 ^ 32)) is ∙ capped len n (2 ^ 32) ∙ ap (λ (x : ℕ). min x (2 ^ 32)) (mul_comm len n)
+
+-- ---- sizes by elements
+
+words_of_elements : (ls : List LayoutT) (ty : Ty) → element_words ls (element_of ty) * elements_in ty ≡ words_of ls ty
+words_of_elements ls VoidY = refl
+words_of_elements ls IntY = refl
+words_of_elements ls BoolY = refl
+words_of_elements ls (EnumY number) = refl
+words_of_elements ls (StructY number) = omega arith
+words_of_elements ls (UnionY number) = omega arith
+words_of_elements ls (PointerY to) = refl
+words_of_elements ls (ArrayY of len) = sym (mul_assoc (element_words ls (element_of of)) (elements_in of) len) ∙ ap (λ (x : ℕ). x * len) (words_of_elements ls of)
+
+pub words_by_count : (ls : List LayoutT) (ty : Ty) (e : Element) (k r : ℕ) → e ≡ element_of ty → k ≡ min (elements_in ty) (2 ^ 32) → r ≡ min (element_words ls e * k) (2 ^ 32) → r ≡ min (words_of ls ty) (2 ^ 32)
+words_by_count ls ty e k r is n told =
+    told ∙ ap (λ (x : Element). min (element_words ls x * k) (2 ^ 32)) is ∙ ap (λ (x : ℕ). min (element_words ls (element_of ty) * x) (2 ^ 32)) n
+    ∙ capped (element_words ls (element_of ty)) (elements_in ty) (2 ^ 32) ∙ ap (λ (x : ℕ). min x (2 ^ 32)) (words_of_elements ls ty)
+
+whole_element : (whole : List Bool) (ty : Ty) → is_element_whole whole (element_of ty) ≡ is_whole whole ty
+whole_element whole VoidY = refl
+whole_element whole IntY = refl
+whole_element whole BoolY = refl
+whole_element whole (EnumY number) = refl
+whole_element whole (StructY number) = refl
+whole_element whole (UnionY number) = refl
+whole_element whole (PointerY to) = refl
+whole_element whole (ArrayY of len) = whole_element whole of
+
+pub whole_by_element : (whole : List Bool) (ty : Ty) (e : Element) (r : Bool) → e ≡ element_of ty → r ≡ is_element_whole whole e → r ≡ is_whole whole ty
+whole_by_element whole ty e r is told = told ∙ ap (is_element_whole whole) is ∙ whole_element whole ty

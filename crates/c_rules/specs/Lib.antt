@@ -1,5 +1,6 @@
 pub mod Kinds
 pub mod Sizes
+pub mod Elements
 pub mod Rules
 pub mod Lowest
 pub mod Nodes

@@ -8,6 +8,8 @@
 mod building;
 mod code;
 mod constants;
+mod counted;
+mod elements;
 mod kinds;
 pub mod laws;
 mod nodes;
@@ -16,6 +18,8 @@ mod sizes;
 pub use building::{array_of, copy_type, decayed, pointer_to};
 pub use code::{Code, RuleErr, code_number};
 pub use constants::{constant_binary, constant_unary};
+pub use counted::{Counted, with_elements};
+pub use elements::{Element, Elements};
 pub use kinds::{
     can_cast, converts, is_array, is_condition, is_number, is_structure, is_void, same_type, target,
 };

@@ -8,8 +8,9 @@ ghost use Rattle.c_rules.specs.Kinds.{target};
 ghost use Rattle.c_rules.specs.Rules.{judged};
 ghost use Rattle.c_rules.specs.Nodes.{given, unary_rule, are_numbers, are_comparable, moved, apart, sum_gives, difference_gives, binary_gives, led_to_whole, counts_elements, count_is_known, binary_rule, index_rule, store_rule, assign_rule, kept_as, compound_rule, step_operator, step_rule, cast_rule, size_rule, array_rule};
 
-use crate::building::{array_of, copy_type, pointer_to};
+use crate::building::{copy_type, pointer_to};
 use crate::code::{Code, RuleErr, demand};
+use crate::counted::{Counted, counted_fits, is_counted_whole, so_many_of};
 use crate::kinds::{
     can_cast, converts, is_array, is_condition, is_number, is_void, pointers_meet, same_type,
     target,
@@ -328,21 +329,21 @@ pub fn type_size(layouts: &[Layout], whole: &[bool], ty: &CType) -> Result<u32, 
     Ok(words as u32)
 }
 
-/// The type of an array of so many elements. A count of 2^31 and above is a negative number.
+/// The type of an array of so many elements, in constant time. A count of 2^31 and above is a negative number.
 #[tactic(auto, unfolding(crate::specs::Nodes::array_rule))]
 pub fn array_type(
     alloc: Global,
     layouts: &[Layout],
     whole: &[bool],
-    of: &CType,
+    of: Counted,
     count: u32,
-) -> Result<CType, RuleErr>
-    ensures judged { Gives ctype result (judged (array_rule (map layout layouts.now) whole.now (ctype of.now) count)) }
+) -> Result<Counted, RuleErr>
+    ensures judged { Gives (λ r. ctype r.ty) result (judged (array_rule (map layout layouts.now) whole.now (ctype of.ty) count)) }
 {
-    demand(Code::WrongType, !is_void(of) && count != 0)?;
-    demand(Code::InfiniteType, is_whole(whole, of))?;
+    demand(Code::WrongType, !is_void(&of.ty) && count != 0)?;
+    demand(Code::InfiniteType, is_counted_whole(whole, &of))?;
     demand(Code::TooLarge, count < 0x8000_0000)?;
-    let array = array_of(alloc, of, count)?;
-    demand(Code::TooLarge, fits(layouts, 4_194_304, &array))?;
+    let array = so_many_of(alloc, of, count)?;
+    demand(Code::TooLarge, counted_fits(layouts, 4_194_304, &array))?;
     Ok(array)
 }

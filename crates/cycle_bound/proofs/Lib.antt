@@ -1,0 +1,10 @@
+pub mod Rules
+pub mod Nodes
+pub mod Placed
+pub mod Sound
+pub mod Closed
+pub mod Gathering
+pub mod Telling
+pub mod Once
+pub mod Forwards
+pub mod Staying

@@ -18,7 +18,7 @@ use Rattle.mid_code.specs.Passing.{then_act, acts, Prefix, Pass, DidAlike}
 use Rattle.mid_code.proofs.More.{all_of}
 use Rattle.mid_copies.specs.Copying.{Copies, origin, behind, behind_maybe, used_up, Gone, with_uses, known_behind, serves, takes, op_serves}
 use Rattle.mid_copies.proofs.KnownCells.{both, served}
-use Rattle.mid_copies.proofs.OnePass.{SameWorlds, worlds_spend, worlds_spend_first, worlds_store, worlds_happened, Agree, world_agrees, spent_agrees, used_agrees, put_agrees, copy_agrees, ops_of, AsksLess, sparing}
+use Rattle.mid_copies.proofs.OnePass.{SameWorlds, worlds_spend, worlds_spend_first, worlds_store, worlds_happened, Agree, world_agrees, spent_agrees, used_agrees, put_agrees, copy_agrees, gone_agrees, ops_of, AsksLess, sparing}
 
 pub then_on : (d : Did (State ℕ)) → then_act d (λ s. On s) ≡ d
 then_on (On s) = refl
@@ -143,8 +143,15 @@ module _ (g : Option ℕ → Gone) (x y : CodeT ℕ) (frames : List ℕ) (sizes 
         (t, refl, copy_agrees (g f) (used_up (a ∷ []) i) (spent 8 s) t (record { worlds = worlds_spend_first s.world t.world 8 A.worlds; given = A.given; cells = A.cells; held = u.held }) q (origin i a) (s.cells a) h e)
     moves q a e false h = alike_by f (used_up (a ∷ []) i) s t (used_agrees (g f) i s t A (a ∷ [])) (origin i) (MoveO q a) (e, tt)
 
+    -- a constant is put there, or it is used nowhere
+    puts : (q n : ℕ) → (b : Bool) → g f q ≡ b → DidAlike PP f (behind (used_up [] i) q) (L.act (ConstO q n) s) (acts L' (cond b [] (ConstO q n ∷ [])) t)
+    puts q n true h =
+        let u = used_agrees (g f) i s t A [] in
+        (t, refl, gone_agrees (g f) (used_up [] i) (spent 8 s) t (record { worlds = worlds_spend_first s.world t.world 8 A.worlds; given = A.given; cells = A.cells; held = u.held }) q (Num n) h)
+    puts q n false h = alike_by f (used_up [] i) s t (used_agrees (g f) i s t A []) (origin i) (ConstO q n) tt
+
     pub each : (o : OpT ℕ) → op_serves (g f) i o ≡ true → DidAlike PP f (known_behind (g f) i o) (L.act o s) (acts L' (ops_of (g f) i o) t)
-    each (ConstO q n) h = plain (ConstO q n) h
+    each (ConstO q n) h = puts q n (g f q) refl
     each (NullO q) h = plain (NullO q) h
     each (MoveO q a) h = moves q a (served (g f) i s.cells t.cells a A.held A.cells h) (g f q) refl
     each (OneO o q a) h = plain (OneO o q a) h

@@ -25,8 +25,12 @@ move_is : (b : Bool) (t x : ℕ) (c : NodesT ℕ) → some_before (cond b None (
 move_is true t x c = refl
 move_is false t x c = refl
 
+const_is : (b : Bool) (t word : ℕ) (c : NodesT ℕ) → some_before (cond b None (Some (op.Const t word))) c ≡ cond b c (Do (ConstO t word) c)
+const_is true t word c = refl
+const_is false t word c = refl
+
 op_is : (g : Gone) (es : Copies) (o : Op ℕ) (c : NodesT ℕ) → some_before (op_spared g es o) (spared g (op_known g es o) c) ≡ spared g es (op_before o c)
-op_is g es (op.Const t word) c = refl
+op_is g es (op.Const t word) c = const_is (g t) t word _
 op_is g es (op.Null t) c = refl
 op_is g es (op.Move t a) c = move_is (g t) t (origin es a) _
 op_is g es (op.One o t a) c = refl

@@ -14,7 +14,11 @@ map_length f [] = refl
 map_length f (x ∷ xs) = ap suc (map_length f xs)
 
 op_then_is : (g : Gone) (es : Copies) (o : OpT ℕ) (c : NodesT ℕ) → op_then g es o c ≡ doing (ops_of g es o) c
-op_then_is g es (ConstO q n) c = refl
+op_then_is g es (ConstO q n) c = go (g q)
+  where
+    go : (b : Bool) → cond b c (Do (ConstO q n) c) ≡ doing (cond b [] (ConstO q n ∷ [])) c
+    go true = refl
+    go false = refl
 op_then_is g es (NullO q) c = refl
 op_then_is g es (MoveO q a) c = go (g q)
   where

@@ -6,7 +6,7 @@ use Rattle.kit_base.specs.declared.event.Event.{Event}
 use Rattle.obj_mem.specs.declared.cell.Cell.{Cell}
 use Rattle.obj_mem.specs.Stores.{Store}
 use Rattle.obj_mem.specs.Worlds.{World, on_store, spend, happened}
-use Rattle.mid_code.specs.Code.{OpT, MoveO, CodeT, maybe}
+use Rattle.mid_code.specs.Code.{OpT, ConstO, MoveO, CodeT, maybe}
 use Rattle.mid_code.specs.States.{State, temporaries, put, put_in, in_world, spent, over_worlds}
 use Rattle.mid_code.specs.Passing.{Pass}
 use Rattle.mid_copies.specs.Copying.{Copies, origin, behind, behind_maybe, used_up, Gone, with_uses, with_use, known_behind, serves, takes, op_serves}
@@ -73,10 +73,24 @@ module _ (g : Gone) (es : Copies) (s t : State ℕ) (a : Agree g es s t) where
       off r n true f = absurd (true≢false (sym gone ∙ sym (ap g (eqb-true r q f)) ∙ n))
       off r n false f = f
 
+  -- a temporary that is gone takes a cell on the first side alone
+  pub gone_agrees : (q : ℕ) (c : Cell) → g q ≡ true → Agree g (behind es q) (put_in temporaries q c s) t
+  gone_agrees q c gone = record {
+    worlds = a.worlds;
+    given = a.given;
+    cells = λ r n. put_off s.cells q c r (other r n (eqb r q) refl) ∙ a.cells r n;
+    held = still_held es q s.cells t.cells (put temporaries s.cells q c) t.cells (λ r n. put_off s.cells q c r n) (λ r n. refl) a.held;
+  }
+    where
+      other : (r : ℕ) → g r ≡ false → (x : Bool) → eqb r q ≡ x → eqb r q ≡ false
+      other r n true f = absurd (true≢false (sym gone ∙ sym (ap g (eqb-true r q f)) ∙ n))
+      other r n false f = f
+
 -- ---- the pass
 
 -- the operations that stand for one
 abbrev pub ops_of : Gone → Copies → OpT ℕ → List (OpT ℕ)
+ops_of g es (ConstO t word) = cond (g t) [] (ConstO t word ∷ [])
 ops_of g es (MoveO t a) = cond (g t) [] (MoveO t (origin es a) ∷ [])
 ops_of g es o = with_uses (origin es) o ∷ []
 

@@ -1,9 +1,13 @@
 -- What the pass promises: without copies, and then with known words where they are used, code is spared from the code.
-use Rattle.std.proofs.Common.{◌≡◌, ℕ, List, [], ◌∷◌, refl, sym, ◌∙◌, subst, arith}
+use Rattle.std.proofs.Common.{◌≡◌, ℕ, List, [], ◌∷◌, refl, sym, ap, ◌∙◌, subst, arith, append-nil}
+use Rattle.std.specs.Prelude.{Result, Ok, Err, IfOk}
 use Rattle.mid_code.specs.Code.{NodesT, FunctionT, CodeT}
 use Rattle.mid_code.specs.Invariants.{IsMid}
 use Rattle.mid_code.specs.Calls.{AddsNone, NoneAdd}
+use Rattle.obj_mem.specs.Runs.{Ending, Halted, Fault, Starved, Stray, Deep, OutOfBound, Run}
+use Rattle.mid_code.specs.Keeps.{SameRun, KeepsRun, KeepsRuns, WorksAtMost}
 use Rattle.mid_code.specs.Runs.{mid_runs}
+use Rattle.mid_fold.specs.FoldedFrom.{IsFoldedFunction, EachFolded, IsFoldedFrom}
 use Rattle.mid_code.proofs.Keeping.{keeps_through}
 use Rattle.mid_code.proofs.Agreeing.{works_through}
 use Rattle.mid_copies.specs.Copying.{AreSparedBy}
@@ -94,3 +98,53 @@ tidied_from x start functions mid s fs =
 pub is_tidied : (x o : CodeT ℕ) (start : FunctionT ℕ) (functions : List (FunctionT ℕ)) → IsMid x → o ≡ x
     → IsTidiedBy o.start start → AreTidiedBy o.functions functions → IsSparedFrom x (with_functions o start functions)
 is_tidied x o start functions mid of s fs = subst (λ z. IsSparedFrom z (with_functions o start functions)) of (tidied_from o start functions (subst IsMid (sym of) mid) s fs)
+
+-- ---- after folding
+
+same_as_itself : (a : Run) → SameRun a a
+same_as_itself a = record { end = refl; events = refl; cells = record { of_globals = λ k i x h. h; of_card = λ i x h. h } }
+
+itself : (e : Ending) (a : Run) → a.end ≡ e → KeepsRun e a a
+itself Halted a h = same_as_itself a
+itself (Fault n) a h = same_as_itself a
+itself Starved a h = same_as_itself a
+itself OutOfBound a h = same_as_itself a
+itself Deep a h = (h, refl)
+itself Stray a h = ([], sym (append-nil a.events))
+
+same_run : (a b : Run) → b ≡ a → KeepsRun a.end a b
+same_run a b e = subst (KeepsRun a.end a) (sym e) (itself a.end a refl)
+
+function_folded : (f g : FunctionT ℕ) → IsFoldedFunction f g → IsSparedFunction f g
+function_folded f g h = record { temporaries = h.temporaries; params = h.params; locals = h.locals; gives = h.gives }
+
+each_is_folded : (fs gs : List (FunctionT ℕ)) → EachFolded fs gs → EachSpared fs gs
+each_is_folded [] [] a = tt
+each_is_folded [] (g ∷ gs) a = absurd a
+each_is_folded (f ∷ fs) [] a = absurd a
+each_is_folded (f ∷ fs) (g ∷ gs) a = (function_folded f g a.0, each_is_folded fs gs a.1)
+
+folding_keeps : (x z : CodeT ℕ) → IsFoldedFrom x z → (frames : List ℕ) → KeepsRuns (mid_runs x frames) (mid_runs z frames)
+folding_keeps x z h frames n answers card is = same_run (mid_runs x frames n answers card) (mid_runs z frames n answers card) (h.runs frames n answers card)
+
+folding_works : (x z : CodeT ℕ) → IsFoldedFrom x z → (frames : List ℕ) → WorksAtMost 1 (mid_runs x frames) (mid_runs z frames)
+folding_works x z h frames n answers card is strays = let e = ap (λ r. r.work) (h.runs frames n answers card) in omega (arith, e)
+
+-- What is made of folded code is spared from the code.
+spared_after_folding : (x z y : CodeT ℕ) → IsFoldedFrom x z → IsSparedFrom z y → IsSparedFrom x y
+spared_after_folding x z y h a = record {
+  is_mid = a.is_mid;
+  keeps = λ frames. keeps_through (mid_runs x frames) (mid_runs z frames) (mid_runs y frames) (folding_keeps x z h frames) (a.keeps frames);
+  works = λ frames. works_through 1 (mid_runs x frames) (mid_runs z frames) (mid_runs y frames) (folding_keeps x z h frames) (folding_works x z h frames) (a.works frames);
+  weighs = let e = h.weighs in let k = a.weighs in omega (arith, e, k);
+  functions = each_through x.functions z.functions y.functions (each_is_folded x.functions z.functions h.functions) a.functions;
+  adds_none = none_through x.functions z.functions y.functions h.adds_none a.adds_none;
+  start_adds_none = adds_through x.start.body z.start.body y.start.body h.start_adds_none a.start_adds_none;
+  globals = a.globals ∙ h.globals;
+  literals = a.literals ∙ h.literals;
+  main = a.main ∙ h.main;
+}
+
+pub after_folding : {M E : Type 0} (view : M → CodeT ℕ) (x z : CodeT ℕ) (r : Result M E) → IsFoldedFrom x z → IfOk r (λ y. IsSparedFrom z (view y)) → IfOk r (λ y. IsSparedFrom x (view y))
+after_folding view x z (Ok y) h a = spared_after_folding x z (view y) h a
+after_folding view x z (Err e) h a = tt

@@ -5,7 +5,11 @@ use Rattle.mid_code.specs.States.{op_weight}
 use Rattle.mid_copies.specs.Copying.{Copies, origin, Gone, with_uses, op_then}
 
 pub op_either : (g : Gone) (es : Copies) (o : OpT ℕ) (c : NodesT ℕ) → (op_then g es o c ≡ c) ⊎ (op_then g es o c ≡ Do (with_uses (origin es) o) c)
-op_either g es (ConstO q n) c = inr refl
+op_either g es (ConstO q n) c = go (g q)
+  where
+    go : (b : Bool) → (cond b c (Do (ConstO q n) c) ≡ c) ⊎ (cond b c (Do (ConstO q n) c) ≡ Do (ConstO q n) c)
+    go true = inl refl
+    go false = inr refl
 op_either g es (NullO q) c = inr refl
 op_either g es (MoveO q a) c = go (g q)
   where

@@ -1,5 +1,5 @@
 -- Copies that are not made: where a temporary takes nothing but the cell of another one, and is used only while that one keeps its cell, the
--- other one serves in its place.
+-- other one serves in its place. So is a constant that is used nowhere.
 use Rattle.std.specs.Prelude.{ℕ, ◌≡◌, Bool, true, not, eqb, cond, ◌&&◌, ◌||◌, List, [], ◌∷◌, map, get_or, false, Option, Some, None}
 use Rattle.std.specs.List.{list_all}
 use Rattle.mid_code.specs.Code.{OpT, ConstO, NullO, MoveO, OneO, TwoO, GlobalO, LocalO, LiteralO, CardO, StepO, ApartO, PtrTestO, LoadO, StoreO, FreshO, EndO, InO, OutO, WaitO, HaltO, NodesT, Stop, Do, Call, Choose, Block, Loop, Leave, Again, Return, FunctionT, CodeT, uses, target, maybe}
@@ -67,8 +67,9 @@ abbrev pub with_use : (ℕ → ℕ) → Option ℕ → Option ℕ
 with_use w None = None
 with_use w (Some p) = Some (w p)
 
--- what stands for an operation before the nodes behind it: nothing for a copy that is not made
+-- what stands for an operation before the nodes behind it: nothing for a copy that is not made, and for a constant that is used nowhere
 abbrev pub op_then : Gone → Copies → OpT ℕ → NodesT ℕ → NodesT ℕ
+op_then g es (ConstO t word) c = cond (g t) c (Do (ConstO t word) c)
 op_then g es (MoveO t a) c = cond (g t) c (Do (MoveO t (origin es a)) c)
 op_then g es o c = Do (with_uses (origin es) o) c
 
@@ -101,6 +102,7 @@ takes g None = true
 takes g (Some t) = not (g t)
 
 abbrev pub op_serves : Gone → Copies → OpT ℕ → Bool
+op_serves g es (ConstO t word) = true
 op_serves g es (MoveO t a) = serves g es a
 op_serves g es o = list_all (serves g es) (uses o) && takes g (target o)
 

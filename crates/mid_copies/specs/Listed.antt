@@ -39,7 +39,7 @@ op_known g es op.Wait = known es [] None
 op_known g es op.Halt = known es [] None
 
 abbrev pub op_spared : Gone → Copies → Op ℕ → Option (Op ℕ)
-op_spared g es (op.Const t word) = Some (op.Const t word)
+op_spared g es (op.Const t word) = cond (g t) None (Some (op.Const t word))
 op_spared g es (op.Null t) = Some (op.Null t)
 op_spared g es (op.Move t a) = cond (g t) None (Some (op.Move t (origin es a)))
 op_spared g es (op.One o t a) = Some (op.One o t (origin es a))
@@ -66,7 +66,7 @@ abbrev pub all_right : Gone → Copies → List ℕ → Option ℕ → Bool
 all_right g es qs t = list_all (serves g es) qs && takes g t
 
 abbrev pub op_right : Gone → Copies → Op ℕ → Bool
-op_right g es (op.Const t word) = all_right g es [] (Some t)
+op_right g es (op.Const t word) = true
 op_right g es (op.Null t) = all_right g es [] (Some t)
 op_right g es (op.Move t a) = serves g es a
 op_right g es (op.One o t a) = all_right g es (a ∷ []) (Some t)

@@ -95,16 +95,25 @@ fn count_nodes(counts: &mut [Count], ns: &[Node<u32>]) {
     }
 }
 
-/// Of each temporary whether it is a target once and used once, and is no parameter.
-pub(crate) fn singles(alloc: Global, f: &Function<u32>) -> Result<Vec<bool>, Memory> {
+/// Of each temporary that is a target once, and no parameter, whether it is used once, and whether it is used nowhere.
+#[derive(Drop)]
+pub(crate) struct Uses {
+    pub single: Vec<bool>,
+    pub unused: Vec<bool>,
+}
+
+/// How often each temporary is used that is a target once.
+pub(crate) fn uses_of(alloc: Global, f: &Function<u32>) -> Result<Uses, Memory> {
     let mut counts = Vec::from_elem(alloc, Count { made: 0, used: 0 }, f.temps as usize)?;
     count_nodes(counts.as_mut_slice(), f.body.as_slice());
     for p in f.params.as_slice() {
         make(counts.as_mut_slice(), *p);
     }
-    let mut found = Vec::new(alloc);
+    let mut single = Vec::new(alloc);
+    let mut unused = Vec::new(alloc);
     for count in counts.as_slice() {
-        found.push(count.made == 1 && count.used == 1)?;
+        single.push(count.made == 1 && count.used == 1)?;
+        unused.push(count.made == 1 && count.used == 0)?;
     }
-    Ok(found)
+    Ok(Uses { single, unused })
 }

@@ -1,5 +1,5 @@
-// Which copies are not made: those of temporaries that are used once, where the copy is known.
-use crate::counts::singles;
+// Which copies are not made: those of temporaries that are used once, where the copy is known, and which constants: those that are used nowhere.
+use crate::counts::{Uses, uses_of};
 use crate::known::{is_copy, know_node};
 use kit_base::Memory;
 use mid_code::{Function, Node, Op};
@@ -19,11 +19,24 @@ fn mark_all(gone: &mut [bool], copies: &[(u32, u32)], qs: &[u32]) {
     }
 }
 
-fn mark_op(gone: &mut [bool], copies: &[(u32, u32)], o: &Op<u32>) {
+/// A temporary that is used nowhere takes no cell.
+fn mark_unused(unused: &[bool], gone: &mut [bool], t: u32) {
+    let i = t as usize;
+    if i < gone.len() && i < unused.len() && unused[i] {
+        gone[i] = true;
+    }
+}
+
+fn mark_move(unused: &[bool], gone: &mut [bool], copies: &[(u32, u32)], t: u32, a: u32) {
+    mark(gone, copies, a);
+    mark_unused(unused, gone, t);
+}
+
+fn mark_op(unused: &[bool], gone: &mut [bool], copies: &[(u32, u32)], o: &Op<u32>) {
     match o {
-        Op::Const(_, _) => {}
+        Op::Const(t, _) => mark_unused(unused, gone, *t),
         Op::Null(_) => {}
-        Op::Move(_, a) => mark(gone, copies, *a),
+        Op::Move(t, a) => mark_move(unused, gone, copies, *t, *a),
         Op::One(_, _, a) => mark(gone, copies, *a),
         Op::Two(_, _, a, b) => mark_all(gone, copies, &[*a, *b]),
         Op::Global(_, _) => {}
@@ -49,22 +62,23 @@ fn mark_op(gone: &mut [bool], copies: &[(u32, u32)], o: &Op<u32>) {
 fn mark_node(
     alloc: Global,
     single: &[bool],
+    unused: &[bool],
     gone: &mut [bool],
     copies: &[(u32, u32)],
     n: &Node<u32>,
 ) -> Result<(), Memory> {
     match n {
         Node::Do(o) => {
-            mark_op(gone, copies, o);
+            mark_op(unused, gone, copies, o);
             Ok(())
         }
         Node::Choose(p, a, b) => {
             mark(gone, copies, *p);
-            mark_nodes(alloc, single, gone, a.as_slice())?;
-            mark_nodes(alloc, single, gone, b.as_slice())
+            mark_nodes(alloc, single, unused, gone, a.as_slice())?;
+            mark_nodes(alloc, single, unused, gone, b.as_slice())
         }
-        Node::Block(b) => mark_nodes(alloc, single, gone, b.as_slice()),
-        Node::Loop(b) => mark_nodes(alloc, single, gone, b.as_slice()),
+        Node::Block(b) => mark_nodes(alloc, single, unused, gone, b.as_slice()),
+        Node::Loop(b) => mark_nodes(alloc, single, unused, gone, b.as_slice()),
         Node::Leave(_) => Ok(()),
         Node::Again(_) => Ok(()),
         Node::Return(p) => {
@@ -80,24 +94,27 @@ fn mark_node(
 fn mark_nodes(
     alloc: Global,
     single: &[bool],
+    unused: &[bool],
     gone: &mut [bool],
     ns: &[Node<u32>],
 ) -> Result<(), Memory> {
     let mut copies = Vec::new(alloc);
     for n in ns {
-        mark_node(alloc, single, gone, copies.as_slice(), n)?;
+        mark_node(alloc, single, unused, gone, copies.as_slice(), n)?;
         copies = know_node(alloc, single, copies.as_slice(), n)?;
     }
     Ok(())
 }
 
-/// Which temporaries take no cell: those that are the target of one move alone, and are used once, while the other temporary keeps its cell.
+/// Which temporaries take no cell: those that are the target of one move alone, and are used once, while the other temporary keeps its cell; and
+/// those that are the target of one move or constant, and are used nowhere.
 pub(crate) fn marks_of(alloc: Global, f: &Function<u32>) -> Result<Vec<bool>, Memory> {
-    let single = singles(alloc, f)?;
+    let Uses { single, unused } = uses_of(alloc, f)?;
     let mut gone = Vec::from_elem(alloc, false, f.temps as usize)?;
     mark_nodes(
         alloc,
         single.as_slice(),
+        unused.as_slice(),
         gone.as_mut_slice(),
         f.body.as_slice(),
     )?;

@@ -34,6 +34,16 @@ fn spare_call(
     Ok(Op::Call(target, function, Seq::from_vec(arguments)))
 }
 
+fn spare_const(gone: &[bool], t: u32, word: u32) -> Option<Op<u32>>
+    ensures { result ≡ op_spared (marked gone.now) [] (Op.Const t word) }
+{
+    if is_gone(gone, t) {
+        None
+    } else {
+        Some(Op::Const(t, word))
+    }
+}
+
 fn spare_move(gone: &[bool], copies: &[(u32, u32)], t: u32, a: u32) -> Option<Op<u32>>
     ensures { result ≡ op_spared (marked gone.now) copies.now (Op.Move t a) }
 {
@@ -54,7 +64,7 @@ fn spare_op(
     ensures { IfOk result (λ r. r ≡ op_spared (marked gone.now) copies.now o.now) }
 {
     Ok(match o {
-        Op::Const(t, word) => Some(Op::Const(*t, *word)),
+        Op::Const(t, word) => spare_const(gone, *t, *word),
         Op::Null(t) => Some(Op::Null(*t)),
         Op::Move(t, a) => spare_move(gone, copies, *t, *a),
         Op::One(o, t, a) => Some(Op::One(*o, *t, origin(copies, *a))),

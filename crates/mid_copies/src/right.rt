@@ -43,7 +43,7 @@ fn is_op_right(gone: &[bool], copies: &[(u32, u32)], o: &Op<u32>) -> bool
     ensures { result ≡ op_right (marked gone.now) copies.now o.now }
 {
     match o {
-        Op::Const(t, _) => all_right(gone, copies, &[], Some(*t)),
+        Op::Const(_, _) => true,
         Op::Null(t) => all_right(gone, copies, &[], Some(*t)),
         Op::Move(_, a) => serves(gone, copies, *a),
         Op::One(_, t, a) => all_right(gone, copies, &[*a], Some(*t)),

@@ -1,0 +1,6 @@
+pub mod Knowing
+pub mod Acting
+pub mod Running
+pub mod Staying
+pub mod Joined
+pub mod Folds

@@ -1,0 +1,195 @@
+-- Folded code is mid code, weighs the same, and has the same loops and calls.
+use Rattle.std.proofs.Common.{◌≡◌, ℕ, zero, suc, ◌+◌, ◌<◌, ◌^◌, ◌≤◌, inl, inr, ◌⊎◌, Bool, true, false, nat_lt, List, [], ◌∷◌, map, length, sum, sum_by, option_map, slice_get, Option, Some, None, refl, sym, ap, ◌∙◌, subst, arith}
+use Rattle.std.proofs.lemmas.List.Sums.{sum_by-cons}
+use Rattle.mid_code.specs.Code.{OpT, ConstO, NullO, MoveO, OneO, TwoO, GlobalO, LocalO, LiteralO, CardO, StepO, ApartO, PtrTestO, LoadO, StoreO, FreshO, EndO, InO, OutO, WaitO, HaltO, NodesT, Stop, Do, Call, Choose, Block, Loop, Leave, Again, Return, FunctionT, CodeT, maybe, uses, target}
+use Rattle.mid_code.specs.Calls.{loops, CallsTo, AddsNone, NoneAdd}
+use Rattle.mid_code.specs.Invariants.{IsOp, parameter_count, AreNodes, AllOf, NodeNames, Names, CallsNone, IsFunction, IsStart, IsTemporary, IsMid}
+use Rattle.mid_code.specs.States.{op_weight}
+use Rattle.mid_code.specs.Runs.{nodes_weight, function_weight, weight}
+use Rattle.mid_fold.specs.Folding.{Words, word_in, one_known, two_known, known_behind, folded_op, folded, folded_function, folded_code}
+use Rattle.mid_fold.specs.FoldedFrom.{IsFoldedFunction, EachFolded}
+use Rattle.mid_fold.proofs.Acting.{stays, weight_same}
+
+below_limit : (w : ℕ) → nat_lt w (2 ^ 32) ≡ true → w < 2 ^ 32
+below_limit w e = grind (arith, e)
+
+-- ---- weight, loops and calls
+
+pub weighs_same : (es : Words) (c : NodesT ℕ) → nodes_weight (folded es c) ≡ nodes_weight c
+weighs_same es Stop = refl
+weighs_same es (Do o c) = λ i. weight_same es o i + weighs_same (known_behind es (folded_op es o)) c i
+weighs_same es (Call t f args c) = let h = weighs_same [] c in omega (arith, h)
+weighs_same es (Choose p a b c) = let d = weighs_same es a in let e = weighs_same es b in let h = weighs_same [] c in omega (arith, d, e, h)
+weighs_same es (Block b c) = let e = weighs_same es b in let h = weighs_same [] c in omega (arith, e, h)
+weighs_same es (Loop b c) = let e = weighs_same [] b in let h = weighs_same [] c in omega (arith, e, h)
+weighs_same es (Leave k c) = let h = weighs_same [] c in omega (arith, h)
+weighs_same es (Again k c) = let h = weighs_same [] c in omega (arith, h)
+weighs_same es (Return p c) = let h = weighs_same [] c in omega (arith, h)
+
+loops_same : (es : Words) (c : NodesT ℕ) → loops (folded es c) ≡ loops c
+loops_same es Stop = refl
+loops_same es (Do o c) = loops_same (known_behind es (folded_op es o)) c
+loops_same es (Call t f args c) = loops_same [] c
+loops_same es (Choose p a b c) = λ i. loops_same es a i + (loops_same es b i + loops_same [] c i)
+loops_same es (Block b c) = λ i. loops_same es b i + loops_same [] c i
+loops_same es (Loop b c) = λ i. suc (loops_same [] b i + loops_same [] c i)
+loops_same es (Leave k c) = loops_same [] c
+loops_same es (Again k c) = loops_same [] c
+loops_same es (Return p c) = loops_same [] c
+
+calls_same : (g : ℕ) (es : Words) (c : NodesT ℕ) → CallsTo g (folded es c) → CallsTo g c
+calls_same g es Stop h = h
+calls_same g es (Do o c) h = calls_same g (known_behind es (folded_op es o)) c h
+calls_same g es (Call t f args c) (inl e) = inl e
+calls_same g es (Call t f args c) (inr h) = inr (calls_same g [] c h)
+calls_same g es (Choose p a b c) (inl h) = inl (calls_same g es a h)
+calls_same g es (Choose p a b c) (inr (inl h)) = inr (inl (calls_same g es b h))
+calls_same g es (Choose p a b c) (inr (inr h)) = inr (inr (calls_same g [] c h))
+calls_same g es (Block b c) (inl h) = inl (calls_same g es b h)
+calls_same g es (Block b c) (inr h) = inr (calls_same g [] c h)
+calls_same g es (Loop b c) (inl h) = inl (calls_same g [] b h)
+calls_same g es (Loop b c) (inr h) = inr (calls_same g [] c h)
+calls_same g es (Leave k c) h = calls_same g [] c h
+calls_same g es (Again k c) h = calls_same g [] c h
+calls_same g es (Return p c) h = calls_same g [] c h
+
+pub adds_none : (c : NodesT ℕ) → AddsNone c (folded [] c)
+adds_none c = record { loop_count = (let e = loops_same [] c in omega (arith, e)); calls = λ g h. calls_same g [] c h }
+
+pub none_add : (fs : List (FunctionT ℕ)) → NoneAdd fs (map folded_function fs)
+none_add [] = tt
+none_add (f ∷ fs) = (adds_none f.body, none_add fs)
+
+functions_weigh : (fs : List (FunctionT ℕ)) → sum_by function_weight (map folded_function fs) ≡ sum_by function_weight fs
+functions_weigh [] = refl
+functions_weigh (f ∷ fs) =
+    let one = weighs_same [] f.body in
+    let more = functions_weigh fs in
+    let after = sum_by-cons function_weight (folded_function f) (map folded_function fs) in
+    let before = sum_by-cons function_weight f fs in
+    omega (arith, one, more, after, before)
+
+pub code_weighs : (x : CodeT ℕ) → weight (folded_code x) ≡ weight x
+code_weighs x = λ i. weighs_same [] x.start.body i + functions_weigh x.functions i
+
+pub each_folded : (fs : List (FunctionT ℕ)) → EachFolded fs (map folded_function fs)
+each_folded [] = tt
+each_folded (f ∷ fs) = (record { temporaries = refl; params = refl; locals = refl; gives = refl }, each_folded fs)
+
+-- ---- names
+
+module _ (Q : ℕ → Type 0) where
+  abbrev Named : OpT ℕ → Type 0
+  Named o = AllOf Q (uses o) × AllOf Q (maybe (target o))
+
+  op_named : (es : Words) (o : OpT ℕ) → Named o → Named (folded_op es o)
+  op_named es (ConstO t n) h = h
+  op_named es (NullO t) h = h
+  op_named es (MoveO t a) h = stays Named t (MoveO t a) (word_in es a) h (λ w f. (tt, h.1))
+  op_named es (OneO o t a) h = stays Named t (OneO o t a) (one_known o (word_in es a)) h (λ w f. (tt, h.1))
+  op_named es (TwoO o t a b) h = stays Named t (TwoO o t a b) (two_known o (word_in es a) (word_in es b)) h (λ w f. (tt, h.1))
+  op_named es (GlobalO t n) h = h
+  op_named es (LocalO t n) h = h
+  op_named es (LiteralO t n) h = h
+  op_named es (CardO t) h = h
+  op_named es (StepO t p n) h = h
+  op_named es (ApartO t p q) h = h
+  op_named es (PtrTestO o t p q) h = h
+  op_named es (LoadO t p) h = h
+  op_named es (StoreO p a) h = h
+  op_named es (FreshO n) h = h
+  op_named es (EndO n) h = h
+  op_named es (InO t port) h = h
+  op_named es (OutO port a) h = h
+  op_named es WaitO h = h
+  op_named es HaltO h = h
+
+  names_ok : (es : Words) (c : NodesT ℕ) → Names Q c → Names Q (folded es c)
+  names_ok es Stop n = tt
+  names_ok es (Do o c) n = (op_named es o n.0, names_ok (known_behind es (folded_op es o)) c n.1)
+  names_ok es (Call t f args c) n = (n.0, names_ok [] c n.1)
+  names_ok es (Choose p a b c) n = (n.0, names_ok es a n.1, names_ok es b n.2, names_ok [] c n.3)
+  names_ok es (Block b c) n = (names_ok es b n.0, names_ok [] c n.1)
+  names_ok es (Loop b c) n = (names_ok [] b n.0, names_ok [] c n.1)
+  names_ok es (Leave k c) n = names_ok [] c n
+  names_ok es (Again k c) n = names_ok [] c n
+  names_ok es (Return p c) n = (n.0, names_ok [] c n.1)
+
+-- ---- nodes
+
+calls_none : (es : Words) (c : NodesT ℕ) → CallsNone c → CallsNone (folded es c)
+calls_none es Stop n = tt
+calls_none es (Do o c) n = calls_none (known_behind es (folded_op es o)) c n
+calls_none es (Call t f args c) n = absurd n
+calls_none es (Choose p a b c) n = (calls_none es a n.0, calls_none es b n.1, calls_none [] c n.2)
+calls_none es (Block b c) n = (calls_none es b n.0, calls_none [] c n.1)
+calls_none es (Loop b c) n = (calls_none [] b n.0, calls_none [] c n.1)
+calls_none es (Leave k c) n = calls_none [] c n
+calls_none es (Again k c) n = calls_none [] c n
+calls_none es (Return p c) n = calls_none [] c n
+
+counts_same : (fs : List (FunctionT ℕ)) (h : ℕ) → option_map (λ f. length f.params) (slice_get (map folded_function fs) h) ≡ option_map (λ f. length f.params) (slice_get fs h)
+counts_same [] h = refl
+counts_same (f ∷ fs) zero = refl
+counts_same (f ∷ fs) (suc h) = counts_same fs h
+
+module _ (x : CodeT ℕ) where
+  abbrev y : CodeT ℕ
+  y = folded_code x
+
+  op_ok : (m : ℕ) (es : Words) (o : OpT ℕ) → IsOp x m o → IsOp y m (folded_op es o)
+  op_ok m es (ConstO t n) h = h
+  op_ok m es (NullO t) h = h
+  op_ok m es (MoveO t a) h = stays (IsOp y m) t (MoveO t a) (word_in es a) tt below_limit
+  op_ok m es (OneO o t a) h = stays (IsOp y m) t (OneO o t a) (one_known o (word_in es a)) h below_limit
+  op_ok m es (TwoO o t a b) h = stays (IsOp y m) t (TwoO o t a b) (two_known o (word_in es a) (word_in es b)) tt below_limit
+  op_ok m es (GlobalO t n) h = h
+  op_ok m es (LocalO t n) h = h
+  op_ok m es (LiteralO t n) h = h
+  op_ok m es (CardO t) h = h
+  op_ok m es (StepO t p n) h = h
+  op_ok m es (ApartO t p q) h = h
+  op_ok m es (PtrTestO o t p q) h = h
+  op_ok m es (LoadO t p) h = h
+  op_ok m es (StoreO p a) h = h
+  op_ok m es (FreshO n) h = h
+  op_ok m es (EndO n) h = h
+  op_ok m es (InO t port) h = h
+  op_ok m es (OutO port a) h = h
+  op_ok m es WaitO h = h
+  op_ok m es HaltO h = h
+
+  nodes_ok : (m : ℕ) (bs : List Bool) (es : Words) (c : NodesT ℕ) → AreNodes x m bs c → AreNodes y m bs (folded es c)
+  nodes_ok m bs es Stop n = tt
+  nodes_ok m bs es (Do o c) n = (op_ok m es o n.0, nodes_ok m bs (known_behind es (folded_op es o)) c n.1)
+  nodes_ok m bs es (Call t f args c) n = (counts_same x.functions f ∙ n.0, nodes_ok m bs [] c n.1)
+  nodes_ok m bs es (Choose p a b c) n = (nodes_ok m bs es a n.0, nodes_ok m bs es b n.1, nodes_ok m bs [] c n.2)
+  nodes_ok m bs es (Block b c) n = (nodes_ok m (false ∷ bs) es b n.0, nodes_ok m bs [] c n.1)
+  nodes_ok m bs es (Loop b c) n = (nodes_ok m (true ∷ bs) [] b n.0, nodes_ok m bs [] c n.1)
+  nodes_ok m bs es (Leave k c) n = (n.0, nodes_ok m bs [] c n.1)
+  nodes_ok m bs es (Again k c) n = (n.0, nodes_ok m bs [] c n.1)
+  nodes_ok m bs es (Return p c) n = nodes_ok m bs [] c n
+
+  function_ok : (f : FunctionT ℕ) → IsFunction IsTemporary x f → IsFunction IsTemporary y (folded_function f)
+  function_ok f ok = record {
+    nodes = nodes_ok (length f.locals) [] [] f.body ok.nodes;
+    names = names_ok (λ t. t < f.temps) [] f.body ok.names;
+    params_named = ok.params_named;
+    params_differ = ok.params_differ;
+    count = ok.count;
+    sizes = ok.sizes;
+    words = ok.words;
+  }
+
+  functions_ok : (fs : List (FunctionT ℕ)) → AllOf (IsFunction IsTemporary x) fs → AllOf (IsFunction IsTemporary y) (map folded_function fs)
+  functions_ok [] ok = tt
+  functions_ok (f ∷ fs) ok = (function_ok f ok.0, functions_ok fs ok.1)
+
+  -- Folded code is mid code.
+  pub folded_mid : IsMid x → IsMid y
+  folded_mid mid = record {
+    start = record { function = function_ok x.start mid.start.function; params = mid.start.params; locals = mid.start.locals; gives = mid.start.gives; calls = calls_none [] x.start.body mid.start.calls };
+    functions = functions_ok x.functions mid.functions;
+    globals = mid.globals;
+    main = counts_same x.functions x.main ∙ mid.main;
+  }

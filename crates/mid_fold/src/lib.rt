@@ -1,0 +1,11 @@
+//! Constant folding: operators whose words are known are worked out, and a move of a known word puts the word itself.
+//!
+//! It promises that the code does exactly what it did, in the same work, with the same temporaries, parameters and locals. It stands on mid_code.
+#![tactic(auto)]
+
+mod folding;
+mod functions;
+mod known;
+mod nodes;
+
+pub use functions::fold_words;

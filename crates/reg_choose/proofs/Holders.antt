@@ -6,7 +6,7 @@ use Rattle.mid_code.specs.declared.placed.Where.TheVariants.{Reg, Slot}
 use Rattle.mid_code.specs.Live.{is_among}
 use Rattle.mid_code.specs.Safe.{place_of, IsSlot}
 use Rattle.reg_choose.specs.Scan.{one}
-use Rattle.reg_choose.specs.Sets.{on, room}
+use Rattle.mid_live.specs.Sets.{on, room}
 use Rattle.reg_choose.specs.Checked.{ApartIn}
 use Rattle.reg_choose.specs.Holding.{below, slots_in, number_of, number_at, Stands, Laid, Made}
 use Rattle.reg_choose.proofs.Tenants.{get_set}
@@ -310,55 +310,34 @@ pub made_of : (at : List Where) (s t mid new hs : List ℕ) (b : Bool) → ((y :
 made_of at s t mid new hs true i l = ((λ y h. l.0 y h ∙ ap (λ z. on t y || z) (i y h) ∙ both_in (on t y) (on s y)), l.1)
 made_of at s t mid new hs false i l = λ a. l (apart_less (length at) at (λ y. on t y || on mid y) (on t) (λ y h e. sym (ap (λ z. on t y || z) (i y h) ∙ both_in (on t y) (on s y)) ∙ e) a)
 
--- nothing to take out
-pub no_less : (a b : Bool) → (a && not b) ≡ false → a ≡ (a && b)
-no_less true true e = refl
-no_less true false e = absurd (true≢false e)
-no_less false b e = refl
+pub lift_turn : (e b r : Bool) → (cond e false b && not r) ≡ (b && not (e || r))
+lift_turn true true r = refl
+lift_turn true false r = refl
+lift_turn false b r = refl
 
--- nothing to put in
-pub no_more : (t s : Bool) → (t && not s) ≡ false → s ≡ (t || s)
-no_more true true e = refl
-no_more true false e = absurd (true≢false e)
-no_more false s e = refl
-
-pub lay_step : (x y : ℕ) (t m o : Bool) (k : Bool) → k ≡ ((eqb x y && t) || m) → m ≡ o → x ≡ y → k ≡ (t || o)
-lay_step x y t m o k e f g = e ∙ ap (λ z. (z && t) || m) (eq-eqb x y g) ∙ ap (λ z. t || z) f
-
-pub lay_past : (x y : ℕ) (t m : Bool) (k : Bool) → k ≡ ((eqb x y && t) || m) → x ≢ y → k ≡ m
-lay_past x y t m k e g = e ∙ ap (λ z. (z && t) || m) (ne_eqb x y g)
-
-lay_clash_in : (t s o : Bool) (x y : ℕ) → (y < x → s ≡ (t || o)) → (x ≤ y → s ≡ o) → ((eqb x y && t) || s) ≡ true → (t || o) ≡ true
-lay_clash_in true s o x y f g e = refl
-lay_clash_in false s o x y f g e = elim (lt_or y x) [ inl l ↦ sym (f l.0) ∙ sym (none (eqb x y)) ∙ e | inr l ↦ sym (g l.0) ∙ sym (none (eqb x y)) ∙ e ]
+-- what was there and is gone was taken out
+pub both_left : (w t g : Bool) → g ≡ (w && not t) → (w && not g) ≡ (w && t)
+both_left w t g e = ap (λ z. w && not z) e ∙ go w t
   where
-    none : (b : Bool) → ((b && false) || s) ≡ s
-    none true = refl
-    none false = refl
+    go : (w t : Bool) → (w && not (w && not t)) ≡ (w && t)
+    go true true = refl
+    go true false = refl
+    go false t = refl
 
-pub set_clash : (at : List Where) (s t o new hs : List ℕ) (x : ℕ) → ((y : ℕ) → y < x → y < length at → on s y ≡ (on t y || on o y)) → ((y : ℕ) → x ≤ y → y < length at → on s y ≡ on o y) → Laid at (λ y. eqb x y && on t y) s new hs false → Laid at (on t) o new hs false
-set_clash at s t o new hs x f g l = λ a. l (apart_less (length at) at (λ y. (eqb x y && on t y) || on s y) (λ y. on t y || on o y) (λ y h e. lay_clash_in (on t y) (on s y) (on o y) x y (λ q. f y q h) (λ q. g y q h) e) a)
-
--- one of a set, where it is there
-pub lay_one : (at : List Where) (t old new hs : List ℕ) (x : ℕ) (b : Bool) → on t x ≡ true → Laid at (λ y. eqb x y || false) old new hs b → Laid at (λ y. eqb x y && on t y) old new hs b
-lay_one at t old new hs x b e l = laid_as at (λ y. eqb x y || false) (λ y. eqb x y && on t y) old new hs b same l
+-- what is new put in
+pub laid_fresh : (at : List Where) (f g : ℕ → Bool) (old new hs : List ℕ) (b : Bool) → ((y : ℕ) → f y ≡ (g y && not (on old y))) → Laid at f old new hs b → Laid at g old new hs b
+laid_fresh at f g old new hs true e l = ((λ y h. l.0 y h ∙ ap (λ z. z || on old y) (e y) ∙ fresh_or (g y) (on old y)), l.1)
   where
-    same : (y : ℕ) → (eqb x y || false) ≡ (eqb x y && on t y)
-    same y = turn (eqb x y) refl
-      where
-        turn : (d : Bool) → eqb x y ≡ d → (eqb x y || false) ≡ (eqb x y && on t y)
-        turn true q = ap (λ z. z || false) q ∙ sym (ap (λ z. z && on t y) q ∙ ap (on t) (sym (eqb-true x y q)) ∙ e)
-        turn false q = ap (λ z. z || false) q ∙ sym (ap (λ z. z && on t y) q)
-
-pub lay_none : (at : List Where) (t s hs : List ℕ) (x : ℕ) → on t x ≡ false → Stands at s hs → Laid at (λ y. eqb x y && on t y) s s hs true
-lay_none at t s hs x e g = ((λ y h. sym (ap (λ z. z || on s y) (none y))), g)
+    fresh_or : (a b : Bool) → ((a && not b) || b) ≡ (a || b)
+    fresh_or true true = refl
+    fresh_or true false = refl
+    fresh_or false b = refl
+laid_fresh at f g old new hs false e l = λ a. l (apart_less (length at) at (λ y. f y || on old y) (λ y. g y || on old y) (λ y h i. sym (fresh_or (g y) (on old y)) ∙ ap (λ z. z || on old y) (sym (e y)) ∙ i) a)
   where
-    none : (y : ℕ) → (eqb x y && on t y) ≡ false
-    none y = turn (eqb x y) refl
-      where
-        turn : (d : Bool) → eqb x y ≡ d → (eqb x y && on t y) ≡ false
-        turn true q = ap (λ z. z && on t y) q ∙ ap (on t) (sym (eqb-true x y q)) ∙ e
-        turn false q = ap (λ z. z && on t y) q
+    fresh_or : (a b : Bool) → ((a && not b) || b) ≡ (a || b)
+    fresh_or true true = refl
+    fresh_or true false = refl
+    fresh_or false b = refl
 
 -- from nothing: whether those that are added are apart
 pub laid_apart : (at : List Where) (f : ℕ → Bool) (old new hs : List ℕ) (b : Bool) → ((y : ℕ) → on old y ≡ false) → Laid at f old new hs b → (b ≡ true) ↔ ApartIn (length at) at f

@@ -1,5 +1,4 @@
 pub mod Facts
-pub mod Bits
 pub mod Exact
 pub mod Checking
 pub mod Planned

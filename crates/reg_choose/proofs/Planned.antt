@@ -8,7 +8,7 @@ use Rattle.mid_code.specs.declared.placed.Where.{Where}
 use Rattle.mid_code.specs.declared.placed.Where.TheVariants.{Reg, Slot}
 use Rattle.mid_code.specs.Safe.{place_of, IsChosen, AllPlaces}
 use Rattle.reg_choose.specs.Scan.{one}
-use Rattle.reg_choose.specs.Sets.{on, room}
+use Rattle.mid_live.specs.Sets.{on, room}
 use Rattle.reg_choose.specs.Holding.{below, slots_in, number_of, number_at, IsPlan, Stands}
 
 -- how many are lower is found by adding

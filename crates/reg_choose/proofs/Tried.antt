@@ -10,7 +10,7 @@ use Rattle.mid_code.specs.Code.{Stop}
 use Rattle.mid_code.specs.Functions.{NodeT, ListT, DoN, ChooseN, BlockN, LoopN, before, joined, op_before, node, nodes, listed}
 use Rattle.mid_code.specs.Live.{live_before, is_live, is_used, is_target}
 use Rattle.mid_code.specs.Safe.{place_of, IsSlot}
-use Rattle.reg_choose.specs.Sets.{on}
+use Rattle.mid_live.specs.Sets.{on}
 use Rattle.reg_choose.specs.Checked.{Labels, Set, ApartIn, FreeIn, TargetIn, live_set, in_block, in_loop, InsideChecked, ListChecked}
 use Rattle.reg_choose.specs.Holding.{number_at, Stands, Laid, Made, NodeTried, ListTried}
 use Rattle.reg_choose.proofs.Facts.{op_live}

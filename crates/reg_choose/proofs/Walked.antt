@@ -8,7 +8,7 @@ use Rattle.mid_code.specs.Functions.{NodeT, ListT, DoN, ChooseN, BlockN, LoopN, 
 use Rattle.mid_code.specs.Live.{Label, label, is_live, is_among, is_used, is_target}
 use Rattle.mid_code.specs.Spans.{places}
 use Rattle.reg_choose.specs.declared.trail.Trail.{Trail}
-use Rattle.reg_choose.specs.Sets.{on}
+use Rattle.mid_live.specs.Sets.{on}
 use Rattle.reg_choose.specs.Trails.{stood, crossing, called, trail_at}
 use Rattle.reg_choose.specs.Sparse.{follows, ceases, sparse}
 use Rattle.reg_choose.specs.Seen.{seen, calls}

@@ -6,7 +6,7 @@ use Rattle.mid_code.specs.Code.{Stop}
 use Rattle.mid_code.specs.Functions.{NodeT, ListT, before, joined}
 use Rattle.mid_code.specs.Safe.{place_of}
 use Rattle.reg_choose.specs.Scan.{one}
-use Rattle.reg_choose.specs.Sets.{on, room}
+use Rattle.mid_live.specs.Sets.{on, room}
 use Rattle.reg_choose.specs.Checked.{Labels, ApartIn, live_set, InsideChecked, ListChecked, NodeChecked}
 
 -- ---- numbers of places

@@ -1,4 +1,3 @@
-pub mod Sets
 pub mod Marked
 pub mod Checked
 pub mod Holding

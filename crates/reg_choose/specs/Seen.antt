@@ -2,7 +2,7 @@
 use Rattle.std.specs.Prelude.{ℕ, List, Bool, true, false}
 use Rattle.mid_code.specs.Code.{NodesT, Call}
 use Rattle.reg_choose.specs.declared.trail.Trail.{Trail}
-use Rattle.reg_choose.specs.Sets.{on}
+use Rattle.mid_live.specs.Sets.{on}
 use Rattle.reg_choose.specs.Trails.{crossing, trail_at}
 
 abbrev pub seen : List Trail → (crossed : List ℕ) → ℕ → Trail

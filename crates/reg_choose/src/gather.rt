@@ -4,18 +4,18 @@ ghost use Rattle.mid_code.specs.Code.{Stop};
 ghost use Rattle.mid_code.specs.Functions.{node, nodes, before, function};
 ghost use Rattle.mid_code.specs.Live.{is_live};
 ghost use Rattle.mid_code.specs.Spans.{places};
-ghost use Rattle.reg_choose.specs.Sets.{on, room};
+ghost use Rattle.mid_live.specs.Sets.{on, room};
 ghost use Rattle.reg_choose.specs.Trails.{stood, crossing, no_trail, trail_at, trail_of};
 ghost use Rattle.reg_choose.specs.Sparse.{sparse, follows};
 ghost use Rattle.reg_choose.specs.Seen.{seen};
 
 use crate::live::outside;
-use crate::sets::{has, none};
 use crate::spans::{more_from, walk_nodes};
-use crate::stands::{stand, stand_all};
+use crate::stands::stand_all;
 use crate::trail::Trail;
 use kit_base::Memory;
 use mid_code::{Function, Node};
+use mid_live::{Kept, Live};
 use std::alloc::Global;
 
 fn one_more(count: u64) -> Result<u64, Memory>
@@ -62,23 +62,25 @@ fn behind_nodes(ns: &[Node<u32>], first: u64) -> Result<u64, Memory>
 
 /// The first place, added to what is live there, where there are nodes.
 #[tactic(auto, using(crate::proofs::Gathered::begun, crate::proofs::Gathered::not_begun))]
-fn begin(trails: &mut [Trail], live: &[u64], ns: &[Node<u32>], nothing: &[u64])
-    requires nothing { (y : ℕ) → on nothing.now y ≡ false }
-    ensures len { length trails.new ≡ length trails.old }
-    ensures is { (y : ℕ) → y < length trails.old → trail_at trails.new y ≡ stood (on live.now y && follows (nodes ns.now)) 1 (trail_at trails.old y) }
+fn begin(alloc: Global, trails: &mut [Trail], live: &Kept, ns: &[Node<u32>]) -> Result<(), Memory>
+    ensures len { OnOk result (length trails.new ≡ length trails.old) }
+    ensures is { OnOk result ((y : ℕ) → y < length trails.old → trail_at trails.new y ≡ stood (on live.now y && follows (nodes ns.now)) 1 (trail_at trails.old y)) }
 {
     if more_from(ns, 0) {
-        stand(trails, live, nothing, 1);
+        let nothing = Live::none(alloc, 0)?;
+        let all = live.less(alloc, &nothing)?;
+        stand_all(trails, all.as_slice(), 1);
     }
+    Ok(())
 }
 
 /// What a function's nodes add to the trails, with what is live before them.
 fn walk_body(
     alloc: Global,
     ns: &[Node<u32>],
-    s: &mut [u64],
+    s: &mut Live,
     trails: &mut [Trail],
-    crossed: &mut [u64],
+    crossed: &mut Live,
 ) -> Result<(), Memory>
     requires sizes { length trails.old ≤ room s.old }
     requires crossed_sizes { length trails.old ≤ room crossed.old }
@@ -87,10 +89,10 @@ fn walk_body(
     ensures crossed_len { OnOk result (length crossed.new ≡ length crossed.old) }
     ensures is { OnOk result ((y : ℕ) → y < length trails.old → seen trails.new crossed.new y ≡ stood (is_live y [] (nodes ns.now) false && follows (nodes ns.now)) 1 (sparse y [] (nodes ns.now) false false 1 (seen trails.old crossed.old y))) }
 {
-    let nothing = none(alloc, 0)?;
     let end = behind_nodes(ns, 1)?;
     walk_nodes(alloc, ns, &outside(), s, trails, crossed, end)?;
-    begin(trails, s, ns, nothing.as_slice());
+    let live = s.kept(alloc)?;
+    begin(alloc, trails, &live, ns)?;
     Ok(())
 }
 
@@ -106,13 +108,13 @@ fn with_crossing(r: Trail, crosses: bool) -> Trail
 }
 
 /// What crosses a call, told in the trails.
-fn tell_crossing(trails: &mut [Trail], crossed: &[u64])
+fn tell_crossing(trails: &mut [Trail], crossed: &Live)
     ensures len { length trails.new ≡ length trails.old }
     ensures is { (y : ℕ) → y < length trails.old → trail_at trails.new y ≡ seen trails.old crossed.now y }
 {
     let mut i = 0;
     while i < trails.len() {
-        trails[i] = with_crossing(trails[i], has(crossed, i));
+        trails[i] = with_crossing(trails[i], crossed.has(i));
         i += 1;
     }
 }
@@ -122,17 +124,11 @@ fn walk_function(alloc: Global, f: &Function<u32>, trails: &mut [Trail]) -> Resu
     ensures len { OnOk result (length trails.new ≡ length trails.old) }
     ensures is { OnOk result ((y : ℕ) → y < length trails.old → trail_at trails.new y ≡ trail_of (function f.now) y) }
 {
-    let mut live = none(alloc, trails.len())?;
-    let mut crossed = none(alloc, trails.len())?;
-    walk_body(
-        alloc,
-        f.body.as_slice(),
-        live.as_mut_slice(),
-        trails,
-        crossed.as_mut_slice(),
-    )?;
+    let mut live = Live::none(alloc, trails.len())?;
+    let mut crossed = Live::none(alloc, trails.len())?;
+    walk_body(alloc, f.body.as_slice(), &mut live, trails, &mut crossed)?;
     stand_all(trails, f.params.as_slice(), 0);
-    tell_crossing(trails, crossed.as_slice());
+    tell_crossing(trails, &crossed);
     Ok(())
 }
 

@@ -1,27 +1,29 @@
 // Which temporary of a set stands at each place.
-ghost use Rattle.std.specs.Prelude.{◌≡◌, ℕ, ◌+◌, ◌<◌, ◌≤◌, ◌||◌, ◌&&◌, ◌↔◌, length, Bool, true, false, cond, eqb};
+ghost use Rattle.std.specs.Prelude.{◌≡◌, ℕ, ◌+◌, ◌<◌, ◌≤◌, ◌||◌, ◌&&◌, ◌↔◌, not, IfOk, OnOk, length, Bool, true, false, cond, eqb};
 ghost use Rattle.mid_code.specs.Live.{is_among};
-ghost use Rattle.reg_choose.specs.Sets.{on, room};
+ghost use Rattle.mid_live.specs.Sets.{on, room};
 ghost use Rattle.reg_choose.specs.Holding.{number_at, IsPlan, Stands, Laid, Made};
 
 use crate::plan::place_number;
-use crate::sets::{has, is_bare, put_at, strike_at};
+use kit_base::Memory;
 use mid_code::Where;
+use mid_live::{Kept, Live};
+use std::alloc::Global;
 
-fn is_there(at: &[Where], s: &[u64], x: usize) -> bool
+fn is_there(at: &[Where], s: &Live, x: usize) -> bool
     ensures { (result ≡ true) ↔ ((x < length at.now) × (on s.now x ≡ true)) }
 {
-    x < at.len() && has(s, x)
+    x < at.len() && s.has(x)
 }
 
-fn is_new(at: &[Where], s: &[u64], x: usize) -> bool
+fn is_new(at: &[Where], s: &Live, x: usize) -> bool
     ensures { (result ≡ true) ↔ ((x < length at.now) × (on s.now x ≡ false)) }
 {
-    x < at.len() && !has(s, x)
+    x < at.len() && !s.has(x)
 }
 
 /// Takes a temporary out of the set.
-pub(crate) fn lift(at: &[Where], numbers: &[usize], s: &mut [u64], hs: &mut [usize], x: usize)
+pub(crate) fn lift(at: &[Where], numbers: &[usize], s: &mut Live, hs: &mut [usize], x: usize)
     requires plan { IsPlan at.now numbers.now }
     requires stands { Stands at.now s.old hs.old }
     ensures len { length s.new ≡ length s.old }
@@ -30,27 +32,21 @@ pub(crate) fn lift(at: &[Where], numbers: &[usize], s: &mut [u64], hs: &mut [usi
 {
     if is_there(at, s, x) {
         hs[place_number(at, numbers, x)] = 0;
-        strike_at(s, x);
+        s.strike(x);
     } else {
-        strike_at(s, x);
+        s.strike(x);
     }
 }
 
 /// Puts a temporary into the set; false where another one stands at its place.
-pub(crate) fn lay(
-    at: &[Where],
-    numbers: &[usize],
-    s: &mut [u64],
-    hs: &mut [usize],
-    x: usize,
-) -> bool
+pub(crate) fn lay(at: &[Where], numbers: &[usize], s: &mut Live, hs: &mut [usize], x: usize) -> bool
     requires plan { IsPlan at.now numbers.now }
     requires stands { Stands at.now s.old hs.old }
     ensures len { length s.new ≡ length s.old }
     ensures laid { Laid at.now (λ y. eqb x y || false) s.old s.new hs.new result }
 {
     if !is_new(at, s, x) {
-        put_at(s, x);
+        s.put(x);
         return true;
     }
     let k = place_number(at, numbers, x);
@@ -58,7 +54,7 @@ pub(crate) fn lay(
         return false;
     }
     hs[k] = x + 1;
-    put_at(s, x);
+    s.put(x);
     true
 }
 
@@ -66,7 +62,7 @@ pub(crate) fn lay(
 pub(crate) fn lay_two(
     at: &[Where],
     numbers: &[usize],
-    s: &mut [u64],
+    s: &mut Live,
     hs: &mut [usize],
     a: u32,
     b: u32,
@@ -85,7 +81,7 @@ pub(crate) fn lay_two(
 pub(crate) fn lay_all(
     at: &[Where],
     numbers: &[usize],
-    s: &mut [u64],
+    s: &mut Live,
     hs: &mut [usize],
     xs: &[u32],
 ) -> bool
@@ -102,99 +98,58 @@ pub(crate) fn lay_all(
     true
 }
 
-/// Takes one temporary out, where it is not in the other set.
-fn lift_where(at: &[Where], numbers: &[usize], s: &mut [u64], hs: &mut [usize], t: &[u64], x: usize)
+/// Takes these out of the set.
+#[tactic(auto, using(crate::proofs::Holders::lift_turn))]
+fn lift_all(at: &[Where], numbers: &[usize], s: &mut Live, hs: &mut [usize], xs: &[u32])
     requires plan { IsPlan at.now numbers.now }
     requires stands { Stands at.now s.old hs.old }
     ensures len { length s.new ≡ length s.old }
-    ensures is { (y : ℕ) → y < length at.now → on s.new y ≡ cond (eqb x y) (on s.old x && on t.now x) (on s.old y) }
+    ensures is { (y : ℕ) → y < length at.now → on s.new y ≡ (on s.old y && not (is_among xs.now y)) }
     ensures stands { Stands at.now s.new hs.new }
 {
-    if has(s, x) && !has(t, x) {
-        lift(at, numbers, s, hs, x);
+    for x in xs {
+        lift(at, numbers, s, hs, *x as usize);
     }
 }
 
-/// Takes out what is not in the other set.
-fn lift_gone(at: &[Where], numbers: &[usize], s: &mut [u64], hs: &mut [usize], t: &[u64])
-    requires plan { IsPlan at.now numbers.now }
-    requires stands { Stands at.now s.old hs.old }
-    ensures len { length s.new ≡ length s.old }
-    ensures is { (y : ℕ) → y < length at.now → on s.new y ≡ (on s.old y && on t.now y) }
-    ensures stands { Stands at.now s.new hs.new }
-{
-    let mut i = 0;
-    while i < at.len() {
-        if is_bare(s, t, i) {
-            i += 64;
-        } else {
-            lift_where(at, numbers, s, hs, t, i);
-            i += 1;
-        }
-    }
-}
-
-/// Puts one temporary in, where it is in the other set.
-fn lay_where(
-    at: &[Where],
-    numbers: &[usize],
-    s: &mut [u64],
-    hs: &mut [usize],
-    t: &[u64],
-    x: usize,
-) -> bool
-    requires plan { IsPlan at.now numbers.now }
-    requires stands { Stands at.now s.old hs.old }
-    ensures len { length s.new ≡ length s.old }
-    ensures laid { Laid at.now (λ y. eqb x y && on t.now y) s.old s.new hs.new result }
-{
-    if has(t, x) {
-        lay(at, numbers, s, hs, x)
-    } else {
-        true
-    }
-}
-
-/// Puts in what is in the other set.
+/// Puts in what another set had.
 pub(crate) fn lay_set(
+    alloc: Global,
     at: &[Where],
     numbers: &[usize],
-    s: &mut [u64],
+    s: &mut Live,
     hs: &mut [usize],
-    t: &[u64],
-) -> bool
+    t: &Kept,
+) -> Result<bool, Memory>
     requires plan { IsPlan at.now numbers.now }
     requires stands { Stands at.now s.old hs.old }
-    ensures len { length s.new ≡ length s.old }
-    ensures laid { Laid at.now (on t.now) s.old s.new hs.new result }
+    ensures len { OnOk result (length s.new ≡ length s.old) }
+    ensures laid { IfOk result (λ b. Laid at.now (on t.now) s.old s.new hs.new b) }
 {
-    let mut i = 0;
-    while i < at.len() {
-        if is_bare(t, s, i) {
-            i += 64;
-        } else {
-            if !lay_where(at, numbers, s, hs, t, i) {
-                return false;
-            }
-            i += 1;
-        }
-    }
-    true
+    let fresh = t.less(alloc, s)?;
+    let fits = lay_all(at, numbers, s, hs, fresh.as_slice());
+    Ok(fits)
 }
 
-/// Makes it the other set; false where two of that share a place.
-pub(crate) fn replace(
+/// Where the set was another one, for which the holders stand, makes them stand for what it is; false where two of it share a place.
+pub(crate) fn settle(
+    alloc: Global,
     at: &[Where],
     numbers: &[usize],
-    s: &mut [u64],
+    s: &mut Live,
     hs: &mut [usize],
-    t: &[u64],
-) -> bool
+    was: &Kept,
+) -> Result<bool, Memory>
     requires plan { IsPlan at.now numbers.now }
-    requires stands { Stands at.now s.old hs.old }
-    ensures len { length s.new ≡ length s.old }
-    ensures made { Made at.now t.now s.new hs.new result }
+    requires same { length s.old ≡ length was.now }
+    requires stands { Stands at.now was.now hs.old }
+    ensures len { OnOk result (length s.new ≡ length s.old) }
+    ensures made { IfOk result (λ b. Made at.now s.old s.new hs.new b) }
 {
-    lift_gone(at, numbers, s, hs, t);
-    lay_set(at, numbers, s, hs, t)
+    let target = s.kept(alloc)?;
+    let gone = was.less(alloc, s)?;
+    s.restore(was);
+    lift_all(at, numbers, s, hs, gone.as_slice());
+    let fits = lay_set(alloc, at, numbers, s, hs, &target)?;
+    Ok(fits)
 }

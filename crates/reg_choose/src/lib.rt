@@ -14,7 +14,6 @@ mod ordered;
 mod plan;
 mod registers;
 mod safe;
-mod sets;
 mod spans;
 mod stands;
 mod target;

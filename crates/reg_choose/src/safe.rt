@@ -4,7 +4,7 @@ ghost use Rattle.mid_code.specs.Functions.{function};
 ghost use Rattle.mid_code.specs.Invariants.{Names, AllOf, IsTemporary};
 ghost use Rattle.mid_code.specs.Live.{is_among};
 ghost use Rattle.mid_code.specs.Safe.{IsSafe, IsChosen, AllPlaces};
-ghost use Rattle.reg_choose.specs.Sets.{on, room};
+ghost use Rattle.mid_live.specs.Sets.{on, room};
 ghost use Rattle.reg_choose.specs.Checked.{ApartIn};
 ghost use Rattle.reg_choose.specs.Holding.{IsPlan, Stands};
 
@@ -12,9 +12,9 @@ use crate::checks::try_nodes;
 use crate::hold::lay_all;
 use crate::live::outside;
 use crate::plan::plan;
-use crate::sets::none;
 use kit_base::Memory;
 use mid_code::{Choice, Function, Where};
+use mid_live::Live;
 use std::alloc::Global;
 
 fn is_chosen(w: Where) -> bool
@@ -39,7 +39,7 @@ fn all_chosen(at: &[Where]) -> bool
 
 /// Holders of no set.
 #[tactic(auto, using(crate::proofs::Planned::none_stands))]
-fn no_holders(alloc: Global, at: &[Where], s: &[u64]) -> Result<Vec<usize>, Memory>
+fn no_holders(alloc: Global, at: &[Where], s: &Live) -> Result<Vec<usize>, Memory>
     requires chosen { AllPlaces IsChosen at.now }
     requires wide { length at.now ≤ room s.now }
     requires nothing { (y : ℕ) → on s.now y ≡ false }
@@ -56,9 +56,9 @@ fn apart(alloc: Global, at: &[Where], numbers: &[usize], xs: &[u32]) -> Result<b
     requires plan { IsPlan at.now numbers.now }
     ensures { IfOk result (λ b. (b ≡ true) ↔ ApartIn (length at.now) at.now (is_among xs.now)) }
 {
-    let mut s = none(alloc, at.len())?;
-    let mut held = no_holders(alloc, at, s.as_slice())?;
-    let fits = lay_all(at, numbers, s.as_mut_slice(), held.as_mut_slice(), xs);
+    let mut s = Live::none(alloc, at.len())?;
+    let mut held = no_holders(alloc, at, &s)?;
+    let fits = lay_all(at, numbers, &mut s, held.as_mut_slice(), xs);
     Ok(fits)
 }
 
@@ -77,15 +77,15 @@ pub fn is_safe(alloc: Global, f: &Function<u32>, c: &Choice) -> Result<bool, Mem
     if !apart(alloc, at, numbers.as_slice(), f.params.as_slice())? {
         return Ok(false);
     }
-    let mut behind = none(alloc, at.len())?;
-    let mut held = no_holders(alloc, at, behind.as_slice())?;
+    let mut behind = Live::none(alloc, at.len())?;
+    let mut held = no_holders(alloc, at, &behind)?;
     let safe = try_nodes(
         alloc,
         f.body.as_slice(),
         at,
         numbers.as_slice(),
         &outside(),
-        behind.as_mut_slice(),
+        &mut behind,
         held.as_mut_slice(),
     )?;
     Ok(safe)

@@ -4,17 +4,19 @@ ghost use Rattle.mid_code.specs.Code.{Stop};
 ghost use Rattle.mid_code.specs.Functions.{op_before, node, nodes, before};
 ghost use Rattle.mid_code.specs.Live.{label, is_live};
 ghost use Rattle.mid_code.specs.Spans.{places};
-ghost use Rattle.reg_choose.specs.Sets.{on, room};
+ghost use Rattle.mid_live.specs.Sets.{on, room};
 ghost use Rattle.reg_choose.specs.Marked.{marks};
 ghost use Rattle.reg_choose.specs.Sparse.{sparse, follows};
 ghost use Rattle.reg_choose.specs.Seen.{seen, calls};
 
-use crate::live::{Marks, at_begin, at_end, before_nodes, nested, put_uses, strike_target};
-use crate::sets::{clear, copy, join, none, put};
-use crate::stands::{cease, stand, stand_maybe, stand_one, stand_target, stand_uses};
+use crate::live::{
+    Marks, at_begin, at_end, before_nodes, begin_less, nested, put_uses, strike_target,
+};
+use crate::stands::{cease, stand_all, stand_maybe, stand_one, stand_target, stand_uses};
 use crate::trail::Trail;
 use kit_base::Memory;
 use mid_code::{Node, Op};
+use mid_live::{Kept, Live};
 use std::alloc::Global;
 
 /// The place before one. There are no more than a word can number.
@@ -57,57 +59,60 @@ fn is_call(o: &Op<u32>) -> bool
 }
 
 /// What is in the set crosses a call, where the operation is one.
-fn cross(crossed: &mut [u64], s: &[u64], o: &Op<u32>)
-    ensures len { length crossed.new ≡ length crossed.old }
-    ensures is { (y : ℕ) → y < room crossed.old → on crossed.new y ≡ ((calls (op_before o.now Stop) && on s.now y) || on crossed.old y) }
+fn cross(alloc: Global, crossed: &mut Live, s: &Live, o: &Op<u32>) -> Result<(), Memory>
+    ensures len { OnOk result (length crossed.new ≡ length crossed.old) }
+    ensures is { OnOk result ((y : ℕ) → y < room crossed.old → on crossed.new y ≡ ((calls (op_before o.now Stop) && on s.now y) || on crossed.old y)) }
 {
     if is_call(o) {
-        join(crossed, s);
+        let live = s.kept(alloc)?;
+        crossed.join(&live);
     }
+    Ok(())
 }
 
 fn walk_op(
+    alloc: Global,
     o: &Op<u32>,
     m: &Marks,
-    s: &mut [u64],
+    s: &mut Live,
     trails: &mut [Trail],
-    crossed: &mut [u64],
+    crossed: &mut Live,
     place: u64,
     more: bool,
-)
+) -> Result<(), Memory>
     requires sizes { length trails.old ≤ room s.old }
     requires crossed_sizes { length trails.old ≤ room crossed.old }
-    ensures len { length s.new ≡ length s.old }
-    ensures trails_len { length trails.new ≡ length trails.old }
-    ensures crossed_len { length crossed.new ≡ length crossed.old }
-    ensures live { (y : ℕ) → y < room s.old → on s.new y ≡ is_live y (marks y m.now) (op_before o.now Stop) (on s.old y) }
-    ensures trails { (y : ℕ) → y < length trails.old → seen trails.new crossed.new y ≡ sparse y (marks y m.now) (op_before o.now Stop) (on s.old y) more place (seen trails.old crossed.old y) }
+    ensures len { OnOk result (length s.new ≡ length s.old) }
+    ensures trails_len { OnOk result (length trails.new ≡ length trails.old) }
+    ensures crossed_len { OnOk result (length crossed.new ≡ length crossed.old) }
+    ensures live { OnOk result ((y : ℕ) → y < room s.old → on s.new y ≡ is_live y (marks y m.now) (op_before o.now Stop) (on s.old y)) }
+    ensures trails { OnOk result ((y : ℕ) → y < length trails.old → seen trails.new crossed.new y ≡ sparse y (marks y m.now) (op_before o.now Stop) (on s.old y) more place (seen trails.old crossed.old y)) }
 {
     strike_target(s, o);
-    cross(crossed, s, o);
+    cross(alloc, crossed, s, o)?;
     put_uses(s, o);
     stand_uses(trails, o, place);
     stand_target(trails, o, place);
+    Ok(())
 }
 
-/// What is live at the head of a loop.
+/// What is live at the head of a loop, of which the set has what is live behind it.
 pub(crate) fn head_of(
     alloc: Global,
     b: &[Node<u32>],
     m: &Marks,
-    s: &[u64],
-) -> Result<Vec<u64>, Memory>
-    ensures len { IfOk result (λ v. length v.items ≡ length s.now) }
-    ensures is { IfOk result (λ v. (y : ℕ) → y < room s.now → on v.items y ≡ is_live y (label false (on s.now y) ∷ marks y m.now) (nodes b.now) (on s.now y)) }
+    s: &mut Live,
+    ends: &Kept,
+) -> Result<Kept, Memory>
+    requires behind { ends.now ≡ s.old }
+    ensures kept { OnOk result (s.new ≡ s.old) }
+    ensures head_len { IfOk result (λ v. length v ≡ length s.old) }
+    ensures is { IfOk result (λ v. (y : ℕ) → y < room s.old → on v y ≡ is_live y (label false (on s.old y) ∷ marks y m.now) (nodes b.now) (on s.old y)) }
 {
-    let begins = none(alloc, 0)?;
-    let mut head = copy(alloc, s)?;
-    before_nodes(
-        alloc,
-        b,
-        &Marks::Inside(begins.as_slice(), s, &*m),
-        head.as_mut_slice(),
-    )?;
+    let begins = Kept::none(alloc);
+    before_nodes(alloc, b, &Marks::Inside(&begins, ends, &*m), s)?;
+    let head = s.kept(alloc)?;
+    s.restore(ends);
     Ok(head)
 }
 
@@ -124,9 +129,9 @@ fn walk_node(
     alloc: Global,
     x: &Node<u32>,
     m: &Marks,
-    s: &mut [u64],
+    s: &mut Live,
     trails: &mut [Trail],
-    crossed: &mut [u64],
+    crossed: &mut Live,
     place: u64,
     more: bool,
 ) -> Result<u64, Memory>
@@ -142,86 +147,79 @@ fn walk_node(
     match x {
         Node::Do(o) => {
             let first = one_less(place)?;
-            walk_op(o, m, s, trails, crossed, first, more);
+            walk_op(alloc, o, m, s, trails, crossed, first, more)?;
             Ok(first)
         }
         Node::Choose(p, a, b) => {
-            let behind = copy(alloc, s)?;
-            let mut other = copy(alloc, s)?;
-            let between = walk_nodes(
-                alloc,
-                b.as_slice(),
-                &*m,
-                other.as_mut_slice(),
-                trails,
-                crossed,
-                place,
-            )?;
+            let behind = s.kept(alloc)?;
+            let between = walk_nodes(alloc, b.as_slice(), &*m, s, trails, crossed, place)?;
+            let other = s.kept(alloc)?;
+            s.restore(&behind);
             let inside = walk_nodes(alloc, a.as_slice(), &*m, s, trails, crossed, between)?;
-            join(s, other.as_slice());
-            put(s, *p);
+            s.join(&other);
+            s.put(*p as usize);
+            cease(alloc, trails, &behind, s, place, more)?;
             let first = one_less(inside)?;
-            cease(trails, behind.as_slice(), s, place, more);
             stand_one(trails, *p as usize, first);
             Ok(first)
         }
         Node::Block(b) => {
-            let ends = copy(alloc, s)?;
-            let begins = none(alloc, 0)?;
+            let ends = s.kept(alloc)?;
+            let begins = Kept::none(alloc);
             let inside = walk_nodes(
                 alloc,
                 b.as_slice(),
-                &nested(begins.as_slice(), ends.as_slice(), &*m),
+                &nested(&begins, &ends, &*m),
                 s,
                 trails,
                 crossed,
                 place,
             )?;
+            cease(alloc, trails, &ends, s, place, more)?;
             let first = one_less(inside)?;
-            cease(trails, ends.as_slice(), s, place, more);
             Ok(first)
         }
         Node::Loop(b) => {
-            let ends = copy(alloc, s)?;
-            let head = head_of(alloc, b.as_slice(), &*m, s)?;
+            let ends = s.kept(alloc)?;
+            let head = head_of(alloc, b.as_slice(), &*m, s, &ends)?;
             let inside = walk_nodes(
                 alloc,
                 b.as_slice(),
-                &nested(head.as_slice(), ends.as_slice(), &*m),
+                &nested(&head, &ends, &*m),
                 s,
                 trails,
                 crossed,
                 place,
             )?;
-            clear(s);
-            join(s, head.as_slice());
+            s.restore(&head);
+            cease(alloc, trails, &ends, s, place, more)?;
             let first = one_less(inside)?;
-            cease(trails, ends.as_slice(), s, place, more);
             Ok(first)
         }
         Node::Leave(k) => {
-            let first = one_less(place)?;
-            let behind = copy(alloc, s)?;
+            let behind = s.kept(alloc)?;
             at_end(m, *k, s);
-            cease(trails, behind.as_slice(), s, place, more);
+            cease(alloc, trails, &behind, s, place, more)?;
+            let first = one_less(place)?;
             Ok(first)
         }
         Node::Again(k) => {
-            let first = one_less(place)?;
-            let behind = copy(alloc, s)?;
+            let behind = s.kept(alloc)?;
+            let fresh = begin_less(alloc, m, *k, s)?;
             at_begin(m, *k, s);
-            cease(trails, behind.as_slice(), s, place, more);
-            stand(trails, s, behind.as_slice(), first);
+            cease(alloc, trails, &behind, s, place, more)?;
+            let first = one_less(place)?;
+            stand_all(trails, fresh.as_slice(), first);
             Ok(first)
         }
         Node::Return(p) => {
-            let first = one_less(place)?;
-            let behind = copy(alloc, s)?;
-            clear(s);
+            let behind = s.kept(alloc)?;
+            s.clear();
             if let Some(p) = p {
-                put(s, *p);
+                s.put(*p as usize);
             }
-            cease(trails, behind.as_slice(), s, place, more);
+            cease(alloc, trails, &behind, s, place, more)?;
+            let first = one_less(place)?;
             stand_maybe(trails, p, first);
             Ok(first)
         }
@@ -234,9 +232,9 @@ pub(crate) fn walk_nodes(
     alloc: Global,
     ns: &[Node<u32>],
     m: &Marks,
-    s: &mut [u64],
+    s: &mut Live,
     trails: &mut [Trail],
-    crossed: &mut [u64],
+    crossed: &mut Live,
     place: u64,
 ) -> Result<u64, Memory>
     requires sizes { length trails.old ≤ room s.old }

@@ -1,15 +1,17 @@
 // Places added to trails.
-ghost use Rattle.std.specs.Prelude.{◌≡◌, ℕ, ◌+◌, ◌<◌, ◌&&◌, ◌||◌, not, length, Bool, true, false, cond, eqb};
+ghost use Rattle.std.specs.Prelude.{◌≡◌, ℕ, ◌+◌, ◌<◌, ◌&&◌, ◌||◌, not, length, Bool, true, false, cond, eqb, OnOk};
 ghost use Rattle.mid_code.specs.Code.{Stop, maybe};
 ghost use Rattle.mid_code.specs.Functions.{op_before};
 ghost use Rattle.mid_code.specs.Live.{is_among, is_target, is_used};
-ghost use Rattle.reg_choose.specs.Sets.{on};
+ghost use Rattle.mid_live.specs.Sets.{on};
 ghost use Rattle.reg_choose.specs.Trails.{longer, stood, trail_at};
 ghost use Rattle.reg_choose.specs.Sparse.{ceases};
 
-use crate::sets::{has, is_bare};
 use crate::trail::Trail;
+use kit_base::Memory;
 use mid_code::Op;
+use mid_live::{Kept, Live};
+use std::alloc::Global;
 
 fn with_place(r: Trail, place: u64) -> Trail
     ensures { result ≡ longer place r }
@@ -31,41 +33,24 @@ pub(crate) fn stand_one(trails: &mut [Trail], x: usize, place: u64)
     }
 }
 
-/// The place, added to one temporary where it is in the one set and not in the other.
-fn stand_where(trails: &mut [Trail], s: &[u64], t: &[u64], x: usize, place: u64)
-    ensures len { length trails.new ≡ length trails.old }
-    ensures is { (y : ℕ) → y < length trails.old → trail_at trails.new y ≡ stood ((eqb x y || false) && (on s.now x && not (on t.now x))) place (trail_at trails.old y) }
-{
-    if has(s, x) && !has(t, x) {
-        stand_one(trails, x, place);
-    }
-}
-
-/// The place, added to what is in the one set and not in the other.
-pub(crate) fn stand(trails: &mut [Trail], s: &[u64], t: &[u64], place: u64)
-    ensures len { length trails.new ≡ length trails.old }
-    ensures is { (y : ℕ) → y < length trails.old → trail_at trails.new y ≡ stood (on s.now y && not (on t.now y)) place (trail_at trails.old y) }
-{
-    let mut i = 0;
-    while i < trails.len() {
-        if is_bare(s, t, i) {
-            i += 64;
-        } else {
-            stand_where(trails, s, t, i, place);
-            i += 1;
-        }
-    }
-}
-
 /// The place behind a node, added to what is live there and not before it, where more nodes follow.
 #[tactic(auto, using(crate::proofs::Walked::ceases_more, crate::proofs::Walked::ceases_none))]
-pub(crate) fn cease(trails: &mut [Trail], behind: &[u64], before: &[u64], place: u64, more: bool)
-    ensures len { length trails.new ≡ length trails.old }
-    ensures is { (y : ℕ) → y < length trails.old → trail_at trails.new y ≡ stood (ceases (on before.now y) (on behind.now y) more) place (trail_at trails.old y) }
+pub(crate) fn cease(
+    alloc: Global,
+    trails: &mut [Trail],
+    behind: &Kept,
+    before: &Live,
+    place: u64,
+    more: bool,
+) -> Result<(), Memory>
+    ensures len { OnOk result (length trails.new ≡ length trails.old) }
+    ensures is { OnOk result ((y : ℕ) → y < length trails.old → trail_at trails.new y ≡ stood (ceases (on before.now y) (on behind.now y) more) place (trail_at trails.old y)) }
 {
     if more {
-        stand(trails, behind, before, place);
+        let gone = behind.less(alloc, before)?;
+        stand_all(trails, gone.as_slice(), place);
     }
+    Ok(())
 }
 
 #[tactic(auto, using(crate::proofs::Walked::use_more))]

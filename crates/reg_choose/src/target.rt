@@ -5,7 +5,7 @@ ghost use Rattle.mid_code.specs.Functions.{op_before, DoN};
 ghost use Rattle.mid_code.specs.Live.{is_among, is_used, is_target};
 ghost use Rattle.mid_code.specs.declared.placed.Where.TheVariants.{Reg};
 ghost use Rattle.mid_code.specs.Safe.{place_of, IsSlot};
-ghost use Rattle.reg_choose.specs.Sets.{on};
+ghost use Rattle.mid_live.specs.Sets.{on};
 ghost use Rattle.reg_choose.specs.Marked.{marks};
 ghost use Rattle.reg_choose.specs.Checked.{FreeIn, TargetIn};
 ghost use Rattle.reg_choose.specs.Holding.{IsPlan, Stands, Laid, NodeTried};
@@ -14,9 +14,10 @@ use crate::hold::{lay, lay_all, lay_two, lift};
 use crate::live::Marks;
 use crate::plan::place_number;
 use mid_code::{Op, Where};
+use mid_live::Live;
 
 /// Whether no other temporary of the set stands at the place of one.
-fn free(at: &[Where], numbers: &[usize], s: &[u64], hs: &[usize], t: u32) -> bool
+fn free(at: &[Where], numbers: &[usize], s: &Live, hs: &[usize], t: u32) -> bool
     requires plan { IsPlan at.now numbers.now }
     requires stands { Stands at.now s.now hs.now }
     ensures { (result ≡ true) ↔ FreeIn (length at.now) at.now (Some t) (on s.now) }
@@ -25,7 +26,7 @@ fn free(at: &[Where], numbers: &[usize], s: &[u64], hs: &[usize], t: u32) -> boo
     held == 0 || held - 1 == t as usize
 }
 
-fn free_maybe(at: &[Where], numbers: &[usize], s: &[u64], hs: &[usize], t: &Option<u32>) -> bool
+fn free_maybe(at: &[Where], numbers: &[usize], s: &Live, hs: &[usize], t: &Option<u32>) -> bool
     requires plan { IsPlan at.now numbers.now }
     requires stands { Stands at.now s.now hs.now }
     ensures { (result ≡ true) ↔ FreeIn (length at.now) at.now t.now (on s.now) }
@@ -46,7 +47,7 @@ fn is_it(t: &Option<u32>, y: usize) -> bool
 }
 
 /// Whether every temporary of the set but one stands in a slot.
-fn slots(at: &[Where], s: &[u64], hs: &[usize], t: &Option<u32>) -> bool
+fn slots(at: &[Where], s: &Live, hs: &[usize], t: &Option<u32>) -> bool
     requires chosen { (x r : ℕ) → place_of at.now x ≡ Reg r → r < 9 }
     requires stands { Stands at.now s.now hs.now }
     ensures { (result ≡ true) ↔ ((y : ℕ) → y < length at.now → on s.now y ≡ true → t.now ≢ Some y → IsSlot (place_of at.now y)) }
@@ -62,7 +63,7 @@ fn slots(at: &[Where], s: &[u64], hs: &[usize], t: &Option<u32>) -> bool
 }
 
 /// Whether the target of an operation shares no place with another temporary of the set, and at a call all others of the set have slots.
-fn target_free(at: &[Where], numbers: &[usize], s: &[u64], hs: &[usize], o: &Op<u32>) -> bool
+fn target_free(at: &[Where], numbers: &[usize], s: &Live, hs: &[usize], o: &Op<u32>) -> bool
     requires plan { IsPlan at.now numbers.now }
     requires stands { Stands at.now s.now hs.now }
     ensures { (result ≡ true) ↔ TargetIn (length at.now) at.now (op_before o.now Stop) (on s.now) }
@@ -92,7 +93,7 @@ fn target_free(at: &[Where], numbers: &[usize], s: &[u64], hs: &[usize], o: &Op<
     }
 }
 
-fn lift_maybe(at: &[Where], numbers: &[usize], s: &mut [u64], hs: &mut [usize], t: &Option<u32>)
+fn lift_maybe(at: &[Where], numbers: &[usize], s: &mut Live, hs: &mut [usize], t: &Option<u32>)
     requires plan { IsPlan at.now numbers.now }
     requires stands { Stands at.now s.old hs.old }
     ensures len { length s.new ≡ length s.old }
@@ -106,7 +107,7 @@ fn lift_maybe(at: &[Where], numbers: &[usize], s: &mut [u64], hs: &mut [usize], 
 
 /// Takes the target out of the set.
 #[tactic(auto, using(crate::proofs::Facts::or_none))]
-fn lift_target(at: &[Where], numbers: &[usize], s: &mut [u64], hs: &mut [usize], o: &Op<u32>)
+fn lift_target(at: &[Where], numbers: &[usize], s: &mut Live, hs: &mut [usize], o: &Op<u32>)
     requires plan { IsPlan at.now numbers.now }
     requires stands { Stands at.now s.old hs.old }
     ensures len { length s.new ≡ length s.old }
@@ -139,7 +140,7 @@ fn lift_target(at: &[Where], numbers: &[usize], s: &mut [u64], hs: &mut [usize],
 }
 
 /// Puts what an operation uses into the set.
-fn lay_uses(at: &[Where], numbers: &[usize], s: &mut [u64], hs: &mut [usize], o: &Op<u32>) -> bool
+fn lay_uses(at: &[Where], numbers: &[usize], s: &mut Live, hs: &mut [usize], o: &Op<u32>) -> bool
     requires plan { IsPlan at.now numbers.now }
     requires stands { Stands at.now s.old hs.old }
     ensures len { length s.new ≡ length s.old }
@@ -175,7 +176,7 @@ pub(crate) fn try_op(
     at: &[Where],
     numbers: &[usize],
     m: &Marks,
-    s: &mut [u64],
+    s: &mut Live,
     hs: &mut [usize],
     o: &Op<u32>,
 ) -> bool

@@ -1,7 +1,7 @@
-use Rattle.std.proofs.Common.{rules, arith, ◌≡◌, ◌+◌, ◌&&◌}
+use Rattle.std.proofs.Common.{rules, arith, ◌≡◌, ◌+◌, ◌&&◌, ap, ◌∙◌}
 use Rattle.mid_code.specs.Functions.{nodes}
 use Rattle.mid_code.specs.Spans.{places}
-use Rattle.reg_choose.specs.Sets.{on}
+use Rattle.mid_live.specs.Sets.{on}
 use Rattle.reg_choose.specs.Marked.{marks}
 use Rattle.reg_choose.specs.Sparse.{follows}
 use Rattle.reg_choose.specs.Seen.{seen}
@@ -19,5 +19,6 @@ returns-clause-is c = λ y h.
     let l = c.requires.sizes in
     let m = w.trails_len in
     let cs = c.walk_nodes.new.crossed in
-    let v = on c.walk_nodes.new.s y in
-    body_seen y (marks y c.outside.result) b (on c.args.s.now y) v (follows b) n (seen c.args.trails.now c.args.crossed.now y) (seen c.walk_nodes.new.trails cs y) (seen c.begin.new.trails cs y) (c.outside.ensures y) (c.requires.nothing y) first (w.live y (omega (arith, h, l))) (w.trails y h) (seen_stood c.walk_nodes.new.trails c.begin.new.trails cs y (v && follows b) 1 (c.begin.ensures.is y (omega (arith, h, m))))
+    let v = on c.in_ok-live.live y in
+    let live : c.in_ok-live.live ≡ c.walk_nodes.new.s = search rules in
+    body_seen y (marks y c.outside.result) b (on c.args.s.now y) v (follows b) n (seen c.args.trails.now c.args.crossed.now y) (seen c.walk_nodes.new.trails cs y) (seen c.begin.new.trails cs y) (c.outside.ensures y) (c.requires.nothing y) first (ap (λ z. on z y) live ∙ w.live y (omega (arith, h, l))) (w.trails y h) (seen_stood c.walk_nodes.new.trails c.begin.new.trails cs y (v && follows b) 1 (c.in_ok-begin.ensures.is y (omega (arith, h, m))))

@@ -1,9 +1,8 @@
-use Rattle.std.proofs.Common.{rules, arith, ◌≡◌, ◌++◌, length, take, drop, false, ap, ◌∙◌}
+use Rattle.std.proofs.Common.{rules, arith, ◌≡◌, false, ap, ◌∙◌}
 use Rattle.mid_code.specs.Functions.{nodes, function}
-use Rattle.reg_choose.specs.Sets.{on}
+use Rattle.mid_live.specs.Sets.{on}
 use Rattle.reg_choose.specs.Trails.{crossing, no_trail, trail_at}
 use Rattle.reg_choose.specs.Seen.{seen}
-use Rattle.reg_choose.proofs.Facts.{taken_back}
 use Rattle.reg_choose.proofs.Gathered.{function_seen}
 use Rattle.reg_choose.proofs.gather.walk_function.Goals as goal
 
@@ -14,15 +13,9 @@ returns-clause-is c = λ y h.
     let body : b ≡ f.body = search rules in
     let params : c.as_slice-2.result.now ≡ f.params = search rules in
     let cs = c.walk_body.new.crossed in
-    let vs = c.in_ok-crossed.crossed.items in
-    let kept : c.as_slice-3.result.now ≡ take c.in_ok-crossed.crossed.len (cs ++ drop (length cs) vs) = search rules in
-    let counted : c.in_ok-crossed.crossed.len ≡ length vs = search rules in
-    let long : length cs ≡ length vs = search rules in
-    let written : c.as_slice-3.result.now ≡ cs = kept ∙ taken_back cs (drop (length cs) vs) vs c.in_ok-crossed.crossed.len counted long in
-    let from : c.as_mut_slice-2.result.now ≡ vs = search rules in
-    let start : seen c.args.trails.now c.as_mut_slice-2.result.now y ≡ no_trail = ap (λ z. crossing (on z y) (trail_at c.args.trails.now y)) from ∙ ap (λ z. crossing z (trail_at c.args.trails.now y)) (c.in_ok-crossed.ensures.is y) ∙ ap (crossing false) (c.requires.empty y) in
+    let start : seen c.args.trails.now c.in_ok-crossed.crossed y ≡ no_trail = ap (λ z. crossing z (trail_at c.args.trails.now y)) (c.in_ok-crossed.ensures.is y) ∙ ap (crossing false) (c.requires.empty y) in
     let m = c.in_ok-walk_body.ensures.trails_len in
     let l = c.stand_all.ensures.len in
     let stands = c.stand_all.ensures.is y (omega (arith, h, m)) in
-    let told : trail_at c.tell_crossing.new.trails y ≡ crossing (on cs y) (trail_at c.stand_all.new.trails y) = c.tell_crossing.ensures.is y (omega (arith, h, m, l)) ∙ ap (λ z. crossing (on z y) (trail_at c.stand_all.new.trails y)) written in
-    function_seen f y (on cs y) b c.as_slice-2.result.now (seen c.args.trails.now c.as_mut_slice-2.result.now y) (trail_at c.walk_body.new.trails y) (trail_at c.stand_all.new.trails y) (trail_at c.tell_crossing.new.trails y) body params start (c.in_ok-walk_body.ensures.is y h) stands told
+    let told : trail_at c.tell_crossing.new.trails y ≡ crossing (on cs y) (trail_at c.stand_all.new.trails y) = c.tell_crossing.ensures.is y (omega (arith, h, m, l)) in
+    function_seen f y (on cs y) b c.as_slice-2.result.now (seen c.args.trails.now c.in_ok-crossed.crossed y) (trail_at c.walk_body.new.trails y) (trail_at c.stand_all.new.trails y) (trail_at c.tell_crossing.new.trails y) body params start (c.in_ok-walk_body.ensures.is y h) stands told

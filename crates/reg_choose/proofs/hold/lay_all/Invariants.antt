@@ -1,6 +1,6 @@
 use Rattle.std.proofs.Common.{◌≡◌, ℕ, ◌<◌, ◌||◌, length, drop}
 use Rattle.mid_code.specs.Live.{is_among}
-use Rattle.reg_choose.specs.Sets.{on}
+use Rattle.mid_live.specs.Sets.{on}
 use Rattle.reg_choose.specs.Holding.{Stands}
 use Rattle.reg_choose.proofs.hold.lay_all.Given as goal
 

@@ -1,8 +1,8 @@
-use Rattle.std.proofs.Common.{rules, ◌≡◌, ℕ, length, map, List, [], false, ap, sym, ◌∙◌, subst}
+use Rattle.std.proofs.Common.{rules, ◌≡◌, ℕ, length, map, List, [], false, ap, sym, subst}
 use Rattle.mid_code.specs.Functions.{function, listed, joined, node}
 use Rattle.mid_code.specs.Live.{is_among}
 use Rattle.mid_code.specs.Safe.{IsSafe}
-use Rattle.reg_choose.specs.Sets.{on}
+use Rattle.mid_live.specs.Sets.{on}
 use Rattle.reg_choose.specs.Marked.{marks}
 use Rattle.reg_choose.specs.Checked.{Labels}
 use Rattle.mid_code.specs.declared.placed.Where.{Where}
@@ -17,16 +17,15 @@ returns c =
     let at : List Where = c.as_slice-at.result.now in
     let n = length at in
     let v : at ≡ c.args.c.now.at = search rules in
-    let ns = c.as_slice-4.result.now in
+    let ns = c.as_slice-3.result.now in
     let x = listed (map node ns) in
     let xs = c.as_slice-2.result.now in
-    let s : List ℕ = c.as_mut_slice.result.now in
+    let s : List ℕ = c.in_ok-behind.behind in
     let ls : Labels = λ y. marks y c.outside.result in
     let body : f.body ≡ joined x = ap (λ z. joined (listed (map node z))) (search rules) in
     let same : xs ≡ f.params = search rules in
     let i : Like n (is_among xs) (is_among f.params) = λ y l. ap (λ z. is_among z y) same in
-    let s0 : s ≡ c.in_ok-behind.behind.items = search rules in
-    let k : Like n (on s) (λ y. false) = λ y l. ap (λ z. on z y) s0 ∙ c.in_ok-behind.ensures.is y in
+    let k : Like n (on s) (λ y. false) = λ y l. c.in_ok-behind.ensures.is y in
     let j : Like n ls (λ y. []) = λ y l. c.outside.ensures y in
     let checked = list_tried_is at ls x s c.try_nodes.new.s c.try_nodes.new.hs c.in_ok-safe.safe c.in_ok-safe.ensures.tried in
     ((λ r. subst (IsSafe f) v (parts_safe f at x (is_among xs) ls (on s) body c.requires.names c.requires.params i j k (record { count = search rules; chosen = c.all_chosen.ensures.0 c.if-not-all_chosen.false; params = c.in_ok-apart.ensures.0 c.if-not-branch.false; points = checked.0 r }))), (λ h. checked.1 (safe_parts f at x (is_among xs) ls (on s) body i j k (subst (IsSafe f) (sym v) h)).points))

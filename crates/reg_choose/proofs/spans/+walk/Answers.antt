@@ -1,15 +1,15 @@
-use Rattle.std.proofs.Common.{rules, arith, ◌≡◌, ◌<◌, ◌-◌, ◌||◌, Bool, false, List, ◌∷◌, map, eqb, length, take, drop, ◌++◌, sym, ap, ◌∙◌}
+use Rattle.std.proofs.Common.{rules, arith, ◌≡◌, ◌<◌, ◌-◌, ◌||◌, Bool, false, List, ◌∷◌, map, eqb, length, drop, sym, ap, ◌∙◌}
 use Rattle.mid_code.specs.Code.{Stop}
 use Rattle.mid_code.specs.Live.{Label, label, is_live}
 use Rattle.mid_code.specs.Spans.{places}
 use Rattle.mid_code.specs.Functions.{node, nodes, listed, before, joined, ChooseN, BlockN, LoopN}
 use Rattle.mid_code.specs.declared.node.Node.{the_lemmas}
-use Rattle.reg_choose.specs.Sets.{on, room}
+use Rattle.mid_live.specs.Sets.{on, room}
 use Rattle.reg_choose.specs.Marked.{marks}
 use Rattle.reg_choose.specs.Trails.{stood}
 use Rattle.reg_choose.specs.Sparse.{ceases, sparse}
 use Rattle.reg_choose.specs.Seen.{seen}
-use Rattle.reg_choose.proofs.Facts.{nodes_drop, live_node, taken_back}
+use Rattle.reg_choose.proofs.Facts.{nodes_drop, live_node}
 use Rattle.reg_choose.proofs.Trailed.{choose_live, places_node}
 use Rattle.reg_choose.proofs.Walked.{seen_stood, seen_step, choose_seen, block_seen, loop_seen}
 use Rattle.reg_choose.proofs.spans.+walk.Goals as goal
@@ -24,20 +24,16 @@ walk_node-returns-in_ok-first-in-Choose-clause-trails t c = λ y h.
     let e : node c.args.x.now ≡ ChooseN p a b = search (rules, the_lemmas) in
     let l0 = c.requires.sizes in
     let g : y < room c.args.s.now = omega (arith, h, l0) in
-    let copied : c.as_mut_slice.result.now ≡ c.args.s.now = search rules in
-    let vs = c.in_ok-other-in-Choose.other.items in
-    let kept : c.as_slice-in-Choose-2.result.now ≡ take c.in_ok-other-in-Choose.other.len (c.walk_nodes.new.s ++ drop (length c.walk_nodes.new.s) vs) = search rules in
-    let counted : c.in_ok-other-in-Choose.other.len ≡ length vs = search rules in
-    let long : length c.walk_nodes.new.s ≡ length vs = search rules in
-    let written : c.as_slice-in-Choose-2.result.now ≡ c.walk_nodes.new.s = kept ∙ taken_back c.walk_nodes.new.s (drop (length c.walk_nodes.new.s) vs) vs c.in_ok-other-in-Choose.other.len counted long in
-    let k : y < room c.as_mut_slice.result.now = (let q = ap length copied in omega (arith, g, q)) in
-    let sa : on c.walk_nodes-in-Choose.new.s y ≡ is_live y ls (joined a) j = c.in_ok-inside-in-Choose.ensures.live y g in
-    let so : on c.as_slice-in-Choose-2.result.now y ≡ is_live y ls (joined b) j = ap (λ z. on z y) written ∙ c.in_ok-between-in-Choose.ensures.live y k ∙ ap (λ z. is_live y ls (joined b) (on z y)) copied in
+    let other : c.in_ok-other-in-Choose.other ≡ c.walk_nodes.new.s = search rules in
+    let again : c.restore.new.self ≡ c.args.s.now = search rules in
+    let k : y < room c.restore.new.self = (let q = ap length again in omega (arith, g, q)) in
+    let sa : on c.walk_nodes-in-Choose.new.s y ≡ is_live y ls (joined a) j = c.in_ok-inside-in-Choose.ensures.live y k ∙ ap (λ z. is_live y ls (joined a) (on z y)) again in
+    let so : on c.in_ok-other-in-Choose.other y ≡ is_live y ls (joined b) j = ap (λ z. on z y) other ∙ c.in_ok-between-in-Choose.ensures.live y g in
     let l1 = c.in_ok-inside-in-Choose.ensures.len in
-    let w : on c.join.new.s y ≡ (on c.walk_nodes-in-Choose.new.s y || on c.as_slice-in-Choose-2.result.now y) = c.join.ensures.is y (omega (arith, g, l1)) in
+    let w : on c.join.new.self y ≡ (on c.walk_nodes-in-Choose.new.s y || on c.in_ok-other-in-Choose.other y) = c.join.ensures.is y (omega (arith, k, l1)) in
     let l2 = c.join.ensures.len in
-    let v : on c.put.new.s y ≡ (eqb p y || on c.join.new.s y) = c.put.ensures.is y (omega (arith, g, l1, l2)) in
-    let live = choose_live y ls (node c.args.x.now) p a b j (on c.walk_nodes-in-Choose.new.s y) (on c.as_slice-in-Choose-2.result.now y) (on c.join.new.s y) (on c.put.new.s y) e sa so w v in
+    let v : on c.put.new.self y ≡ (eqb p y || on c.join.new.self y) = c.put.ensures.is y (omega (arith, k, l1, l2)) in
+    let live = choose_live y ls (node c.args.x.now) p a b j (on c.walk_nodes-in-Choose.new.s y) (on c.in_ok-other-in-Choose.other y) (on c.join.new.self y) (on c.put.new.self y) e sa so w v in
     let n = c.in_ok-first-in-Choose.first in
     let inside = c.in_ok-inside-in-Choose.inside in
     let between = c.in_ok-between-in-Choose.between in
@@ -49,13 +45,13 @@ walk_node-returns-in_ok-first-in-Choose-clause-trails t c = λ y h.
     let u1 = seen c.cease.new.trails cs y in
     let m1 = c.in_ok-between-in-Choose.ensures.trails_len in
     let m2 = c.in_ok-inside-in-Choose.ensures.trails_len in
-    let m3 = c.cease.ensures.len in
-    let behind : c.as_slice-in-Choose-3.result.now ≡ c.args.s.now = search rules in
-    let one : s1 ≡ sparse y ls (joined b) j false between r = c.in_ok-between-in-Choose.ensures.trails y h ∙ ap (λ z. sparse y ls (joined b) (on z y) false between r) copied in
-    let two : t1 ≡ sparse y ls (joined a) j false inside s1 = c.in_ok-inside-in-Choose.ensures.trails y (omega (arith, h, m1)) in
-    let three : u1 ≡ stood (ceases (on c.put.new.s y) j more) c.args.place t1 = seen_stood c.walk_nodes-in-Choose.new.trails c.cease.new.trails cs y (ceases (on c.put.new.s y) (on c.as_slice-in-Choose-3.result.now y) more) c.args.place (c.cease.ensures.is y (omega (arith, h, m1, m2))) ∙ ap (λ z. stood (ceases (on c.put.new.s y) (on z y) more) c.args.place t1) behind in
+    let m3 = c.in_ok-cease-in-Choose.ensures.len in
+    let behind : c.in_ok-behind-in-Choose.behind ≡ c.args.s.now = search rules in
+    let one : s1 ≡ sparse y ls (joined b) j false between r = c.in_ok-between-in-Choose.ensures.trails y h in
+    let two : t1 ≡ sparse y ls (joined a) j false inside s1 = c.in_ok-inside-in-Choose.ensures.trails y (omega (arith, h, m1)) ∙ ap (λ z. sparse y ls (joined a) (on z y) false inside s1) again in
+    let three : u1 ≡ stood (ceases (on c.put.new.self y) j more) c.args.place t1 = seen_stood c.walk_nodes-in-Choose.new.trails c.cease.new.trails cs y (ceases (on c.put.new.self y) (on c.in_ok-behind-in-Choose.behind y) more) c.args.place (c.in_ok-cease-in-Choose.ensures.is y (omega (arith, h, m1, m2))) ∙ ap (λ z. stood (ceases (on c.put.new.self y) (on z y) more) c.args.place t1) behind in
     let four : seen c.stand_one.new.trails cs y ≡ stood (eqb p y || false) n u1 = seen_stood c.cease.new.trails c.stand_one.new.trails cs y (eqb p y || false) n (c.stand_one.ensures.is y (omega (arith, h, m1, m2, m3))) in
-    choose_seen (node c.args.x.now) y ls p a b j (on c.put.new.s y) more n inside between c.args.place r s1 t1 u1 (seen c.stand_one.new.trails cs y) e live c.in_ok-first-in-Choose.ensures c.in_ok-inside-in-Choose.ensures.place c.in_ok-between-in-Choose.ensures.place one two three four
+    choose_seen (node c.args.x.now) y ls p a b j (on c.put.new.self y) more n inside between c.args.place r s1 t1 u1 (seen c.stand_one.new.trails cs y) e live c.in_ok-first-in-Choose.ensures c.in_ok-inside-in-Choose.ensures.place c.in_ok-between-in-Choose.ensures.place one two three four
 
 pub walk_node-returns-in_ok-first-in-Block-clause-trails : goal.walk_node-returns-in_ok-first-in-Block-clause-trails
 walk_node-returns-in_ok-first-in-Block-clause-trails t c = λ y h.
@@ -66,10 +62,8 @@ walk_node-returns-in_ok-first-in-Block-clause-trails t c = λ y h.
     let l0 = c.requires.sizes in
     let g : y < room c.args.s.now = omega (arith, h, l0) in
     let more = c.args.more in
-    let begins : c.as_slice-in-Block-2.result.now ≡ c.in_ok-begins-in-Block.begins.items = search rules in
-    let ends : c.as_slice-in-Block-3.result.now ≡ c.args.s.now = search rules in
-    let behind : c.as_slice-in-Block-4.result.now ≡ c.args.s.now = search rules in
-    let i1 : marks y c.nested.result ≡ label false j ∷ ls = c.nested.ensures y ∙ ap (λ z. label (on z y) (on c.as_slice-in-Block-3.result.now y) ∷ ls) begins ∙ ap (λ z. label z (on c.as_slice-in-Block-3.result.now y) ∷ ls) (c.in_ok-begins-in-Block.ensures.is y) ∙ ap (λ z. label false (on z y) ∷ ls) ends in
+    let ends : c.in_ok-ends-in-Block.ends ≡ c.args.s.now = search rules in
+    let i1 : marks y c.nested.result ≡ label false j ∷ ls = c.nested.ensures y ∙ ap (λ z. label z (on c.in_ok-ends-in-Block.ends y) ∷ ls) (c.none-begins.ensures y) ∙ ap (λ z. label false (on z y) ∷ ls) ends in
     let v = on c.walk_nodes-in-Block.new.s y in
     let live = c.in_ok-inside-in-Block.ensures.live y g ∙ ap (λ z. is_live y z (joined b) j) i1 ∙ ap (λ z. is_live y ls (before z Stop) j) (sym e) in
     let n = c.in_ok-first-in-Block.first in
@@ -80,7 +74,7 @@ walk_node-returns-in_ok-first-in-Block-clause-trails t c = λ y h.
     let u1 = seen c.cease-in-Block.new.trails cs y in
     let m1 = c.in_ok-inside-in-Block.ensures.trails_len in
     let one : s1 ≡ sparse y (label false j ∷ ls) (joined b) j false inside r = c.in_ok-inside-in-Block.ensures.trails y h ∙ ap (λ z. sparse y z (joined b) j false inside r) i1 in
-    let two : u1 ≡ stood (ceases v j more) c.args.place s1 = seen_stood c.walk_nodes-in-Block.new.trails c.cease-in-Block.new.trails cs y (ceases v (on c.as_slice-in-Block-4.result.now y) more) c.args.place (c.cease-in-Block.ensures.is y (omega (arith, h, m1))) ∙ ap (λ z. stood (ceases v (on z y) more) c.args.place s1) behind in
+    let two : u1 ≡ stood (ceases v j more) c.args.place s1 = seen_stood c.walk_nodes-in-Block.new.trails c.cease-in-Block.new.trails cs y (ceases v (on c.in_ok-ends-in-Block.ends y) more) c.args.place (c.in_ok-cease-in-Block.ensures.is y (omega (arith, h, m1))) ∙ ap (λ z. stood (ceases v (on z y) more) c.args.place s1) ends in
     block_seen (node c.args.x.now) y ls b j v more n inside c.args.place r s1 u1 e live c.in_ok-first-in-Block.ensures c.in_ok-inside-in-Block.ensures.place one two
 
 pub walk_node-returns-in_ok-first-in-Loop-clause-trails : goal.walk_node-returns-in_ok-first-in-Loop-clause-trails
@@ -93,16 +87,12 @@ walk_node-returns-in_ok-first-in-Loop-clause-trails t c = λ y h.
     let g : y < room c.args.s.now = omega (arith, h, l0) in
     let more = c.args.more in
     let same : nodes c.as_slice-in-Loop.result.now ≡ nodes c.as_slice-in-Loop-2.result.now = search rules in
-    let head : c.as_slice-in-Loop-3.result.now ≡ c.in_ok-head-in-Loop.head.items = search rules in
-    let ends : c.as_slice-in-Loop-4.result.now ≡ c.args.s.now = search rules in
-    let again : c.as_slice-in-Loop-5.result.now ≡ c.in_ok-head-in-Loop.head.items = search rules in
-    let behind : c.as_slice-in-Loop-6.result.now ≡ c.args.s.now = search rules in
-    let v = on c.join-in-Loop.new.s y in
-    let l1 = c.in_ok-inside-in-Loop.ensures.len in
-    let l2 = c.clear.ensures.len in
-    let is : v ≡ on c.in_ok-head-in-Loop.head.items y = c.join-in-Loop.ensures.is y (omega (arith, g, l1, l2)) ∙ ap (λ z. z || on c.as_slice-in-Loop-5.result.now y) (c.clear.ensures.is y) ∙ ap (λ z. on z y) again in
+    let ends : c.in_ok-ends-in-Loop.ends ≡ c.args.s.now = search rules in
+    let again : c.head_of.new.s ≡ c.args.s.now = search rules in
+    let v = on c.restore-in-Loop.new.self y in
+    let is : v ≡ on c.in_ok-head-in-Loop.head y = ap (λ z. on z y) c.restore-in-Loop.ensures in
     let live = is ∙ c.in_ok-head-in-Loop.ensures.is y g ∙ ap (λ z. is_live y (label false j ∷ ls) z j) same ∙ ap (λ z. is_live y ls (before z Stop) j) (sym e) in
-    let i1 : marks y c.nested-in-Loop.result ≡ label v j ∷ ls = c.nested-in-Loop.ensures y ∙ ap (λ z. label (on z y) (on c.as_slice-in-Loop-4.result.now y) ∷ ls) head ∙ ap (λ z. label z (on c.as_slice-in-Loop-4.result.now y) ∷ ls) (sym is) ∙ ap (λ z. label v (on z y) ∷ ls) ends in
+    let i1 : marks y c.nested-in-Loop.result ≡ label v j ∷ ls = c.nested-in-Loop.ensures y ∙ ap (λ z. label z (on c.in_ok-ends-in-Loop.ends y) ∷ ls) (sym is) ∙ ap (λ z. label v (on z y) ∷ ls) ends in
     let n = c.in_ok-first-in-Loop.first in
     let inside = c.in_ok-inside-in-Loop.inside in
     let r = seen c.args.trails.now c.args.crossed.now y in
@@ -110,8 +100,8 @@ walk_node-returns-in_ok-first-in-Loop-clause-trails t c = λ y h.
     let s1 = seen c.walk_nodes-in-Loop.new.trails cs y in
     let u1 = seen c.cease-in-Loop.new.trails cs y in
     let m1 = c.in_ok-inside-in-Loop.ensures.trails_len in
-    let one : s1 ≡ sparse y (label v j ∷ ls) (joined b) j false inside r = c.in_ok-inside-in-Loop.ensures.trails y h ∙ ap (λ z. sparse y z (joined b) j false inside r) i1 in
-    let two : u1 ≡ stood (ceases v j more) c.args.place s1 = seen_stood c.walk_nodes-in-Loop.new.trails c.cease-in-Loop.new.trails cs y (ceases v (on c.as_slice-in-Loop-6.result.now y) more) c.args.place (c.cease-in-Loop.ensures.is y (omega (arith, h, m1))) ∙ ap (λ z. stood (ceases v (on z y) more) c.args.place s1) behind in
+    let one : s1 ≡ sparse y (label v j ∷ ls) (joined b) j false inside r = c.in_ok-inside-in-Loop.ensures.trails y h ∙ ap (λ z. sparse y (marks y c.nested-in-Loop.result) (joined b) (on z y) false inside r) again ∙ ap (λ z. sparse y z (joined b) j false inside r) i1 in
+    let two : u1 ≡ stood (ceases v j more) c.args.place s1 = seen_stood c.walk_nodes-in-Loop.new.trails c.cease-in-Loop.new.trails cs y (ceases v (on c.in_ok-ends-in-Loop.ends y) more) c.args.place (c.in_ok-cease-in-Loop.ensures.is y (omega (arith, h, m1))) ∙ ap (λ z. stood (ceases v (on z y) more) c.args.place s1) ends in
     loop_seen (node c.args.x.now) y ls b j v more n inside c.args.place r s1 u1 e live c.in_ok-first-in-Loop.ensures c.in_ok-inside-in-Loop.ensures.place one two
 
 pub walk_nodes-loop-i-preserved : goal.walk_nodes-loop-i-preserved

@@ -2,7 +2,7 @@ use Rattle.std.proofs.Common.{◌≡◌, ℕ, ◌+◌, ◌<◌, ◌≤◌, lengt
 use Rattle.mid_code.specs.Live.{is_live}
 use Rattle.mid_code.specs.Functions.{nodes}
 use Rattle.mid_code.specs.Spans.{places}
-use Rattle.reg_choose.specs.Sets.{on, room}
+use Rattle.mid_live.specs.Sets.{on, room}
 use Rattle.reg_choose.specs.Marked.{marks}
 use Rattle.reg_choose.specs.Sparse.{sparse}
 use Rattle.reg_choose.specs.Seen.{seen}

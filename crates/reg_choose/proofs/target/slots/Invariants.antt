@@ -1,5 +1,5 @@
 use Rattle.std.proofs.Common.{◌≡◌, ◌≢◌, ℕ, ◌<◌, ◌≤◌, ◌-◌, length, true, Some}
-use Rattle.reg_choose.specs.Sets.{on}
+use Rattle.mid_live.specs.Sets.{on}
 use Rattle.reg_choose.specs.Holding.{number_at}
 use Rattle.reg_choose.proofs.target.slots.Given as goal
 

@@ -1,0 +1,7 @@
+//! Live sets of mid code.
+#![tactic(auto)]
+
+mod live;
+mod words;
+
+pub use live::{Kept, Live};

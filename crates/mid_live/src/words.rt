@@ -1,0 +1,263 @@
+// Words of bits, and which of them may be other than 0.
+ghost use Rattle.std.specs.Prelude.{◌≡◌, ◌≢◌, ℕ, ◌+◌, ◌*◌, ◌/◌, ◌%◌, ◌<◌, ◌≤◌, ◌||◌, ◌&&◌, not, false, cond, eqb, length, get_or, replicate, slice_set, All, IfOk, OnOk};
+ghost use Rattle.mid_code.specs.Live.{is_among};
+ghost use Rattle.mid_live.specs.Sets.{on, room};
+ghost use Rattle.mid_live.specs.Words.{bit, some, IsHeld, FreshIn, spread};
+ghost use Rattle.mid_live.specs.declared.words.Held.{Held};
+
+use kit_base::Memory;
+use std::alloc::Global;
+
+/// A word of bits, by its number.
+#[derive(Clone, Copy)]
+pub(crate) struct Held {
+    pub(crate) at: usize,
+    pub(crate) word: u64,
+}
+
+pub(crate) fn word(ws: &[u64], i: usize) -> u64
+    ensures { result ≡ get_or ws.now i 0 }
+{
+    if i < ws.len() { ws[i] } else { 0 }
+}
+
+#[tactic(auto, using(crate::proofs::Bits::has_is))]
+pub(crate) fn has_bit(ws: &[u64], x: usize) -> bool
+    ensures { result ≡ on ws.now x }
+{
+    (word(ws, x / 64) >> (x % 64)) & 1 == 1
+}
+
+/// A word, written where it is there.
+#[tactic(auto, using(crate::proofs::Written::written_in, crate::proofs::Written::written_past, crate::proofs::Written::set_past))]
+fn write(ws: &mut Vec<u64>, i: usize, w: u64)
+    ensures len { length ws.new.items ≡ length ws.old.items }
+    ensures list { ws.new.items ≡ slice_set ws.old.items i w }
+    ensures is { (j : ℕ) → j < length ws.old.items → get_or ws.new.items j 0 ≡ cond (eqb j i) w (get_or ws.old.items j 0) }
+{
+    if i < ws.len() {
+        ws[i] = w;
+    }
+}
+
+fn put_bit(ws: &mut Vec<u64>, x: usize)
+    ensures len { length ws.new.items ≡ length ws.old.items }
+    ensures is { (y : ℕ) → y < room ws.old.items → on ws.new.items y ≡ (eqb x y || on ws.old.items y) }
+    ensures others { (j : ℕ) → j ≢ x / 64 → get_or ws.new.items j 0 ≡ get_or ws.old.items j 0 }
+{
+    if x / 64 < ws.len() {
+        ws[x / 64] = ws[x / 64] | 1 << (x % 64);
+    }
+}
+
+fn strike_bit(ws: &mut Vec<u64>, x: usize)
+    ensures len { length ws.new.items ≡ length ws.old.items }
+    ensures is { (y : ℕ) → y < room ws.old.items → on ws.new.items y ≡ cond (eqb x y) false (on ws.old.items y) }
+    ensures others { (j : ℕ) → j ≢ x / 64 → get_or ws.new.items j 0 ≡ get_or ws.old.items j 0 }
+{
+    if x / 64 < ws.len() {
+        ws[x / 64] = ws[x / 64] & !(1 << (x % 64));
+    }
+}
+
+/// A temporary put in.
+#[tactic(auto, using(crate::proofs::Written::put_held))]
+pub(crate) fn put_in(words: &mut Vec<u64>, held: &mut Vec<u64>, x: usize)
+    requires held { IsHeld words.old.items held.old.items }
+    ensures held { IsHeld words.new.items held.new.items }
+    ensures len { length words.new.items ≡ length words.old.items }
+    ensures is { (y : ℕ) → y < room words.old.items → on words.new.items y ≡ (eqb x y || on words.old.items y) }
+{
+    put_bit(words, x);
+    put_bit(held, x / 64);
+}
+
+/// A temporary taken out.
+#[tactic(auto, using(crate::proofs::Written::put_held, crate::proofs::Written::strike_held))]
+pub(crate) fn strike_from(words: &mut Vec<u64>, held: &mut Vec<u64>, x: usize)
+    requires held { IsHeld words.old.items held.old.items }
+    ensures held { IsHeld words.new.items held.new.items }
+    ensures len { length words.new.items ≡ length words.old.items }
+    ensures is { (y : ℕ) → y < room words.old.items → on words.new.items y ≡ cond (eqb x y) false (on words.old.items y) }
+{
+    strike_bit(words, x);
+    if word(words.as_slice(), x / 64) == 0 {
+        strike_bit(held, x / 64);
+    } else {
+        put_bit(held, x / 64);
+    }
+}
+
+/// No bit stands from this one on and below the answer.
+fn next_bit(held: &[u64], i: usize) -> usize
+    requires few { i ≤ 0x1000_0000 }
+    ensures from { i ≤ result }
+    ensures few { result ≤ i + 64 }
+    ensures none { (j : ℕ) → i ≤ j → j < result → on held.now j ≡ false }
+{
+    let w = word(held, i / 64) >> (i % 64);
+    if w == 0 {
+        64 * (i / 64 + 1)
+    } else {
+        i + w.trailing_zeros() as usize
+    }
+}
+
+/// The words that are not 0, in ascending order.
+#[tactic(auto, using(crate::proofs::Written::copied_none, crate::proofs::Written::copied_same, crate::proofs::Written::copied_more, crate::proofs::Written::copied_all))]
+pub(crate) fn copied(alloc: Global, words: &[u64], held: &[u64]) -> Result<Vec<Held>, Memory>
+    requires held { IsHeld words.now held.now }
+    ensures fresh { IfOk result (λ v. FreshIn (replicate (length words.now) 0) v.items) }
+    ensures is { IfOk result (λ v. spread (replicate (length words.now) 0) v.items ≡ words.now) }
+{
+    let mut found = Vec::new(alloc);
+    let mut i = next_bit(held, 0);
+    'words: while i < words.len() {
+        let at = i;
+        i = next_bit(held, at + 1);
+        if words[at] != 0 {
+            found.push(Held {
+                at,
+                word: words[at],
+            })?;
+        }
+    }
+    Ok(found)
+}
+
+#[tactic(auto, using(crate::proofs::Written::zeroed_none, crate::proofs::Written::zeroed_more, crate::proofs::Written::zeroed_all))]
+fn zero_words(words: &mut Vec<u64>, held: &[u64])
+    requires held { IsHeld words.old.items held.now }
+    ensures len { length words.new.items ≡ length words.old.items }
+    ensures none { (j : ℕ) → get_or words.new.items j 0 ≡ 0 }
+{
+    let mut i = next_bit(held, 0);
+    'words: while i < words.len() {
+        words[i] = 0;
+        i = next_bit(held, i + 1);
+    }
+}
+
+fn zero_all(ws: &mut Vec<u64>)
+    ensures len { length ws.new.items ≡ length ws.old.items }
+{
+    let mut i = 0;
+    'words: while i < ws.len() {
+        ws[i] = 0;
+        i += 1;
+    }
+}
+
+/// All temporaries taken out.
+#[tactic(auto, using(crate::proofs::Written::zero_held, crate::proofs::Written::zero_on, crate::proofs::Written::zero_list))]
+pub(crate) fn clear_words(words: &mut Vec<u64>, held: &mut Vec<u64>)
+    requires held { IsHeld words.old.items held.old.items }
+    ensures held { IsHeld words.new.items held.new.items }
+    ensures len { length words.new.items ≡ length words.old.items }
+    ensures none { (y : ℕ) → on words.new.items y ≡ false }
+    ensures list { words.new.items ≡ replicate (length words.old.items) 0 }
+{
+    zero_words(words, held.as_slice());
+    zero_all(held);
+}
+
+/// The bits of a word put in.
+#[tactic(auto, using(crate::proofs::Written::put_held, crate::proofs::Written::written_other))]
+fn join_word(words: &mut Vec<u64>, held: &mut Vec<u64>, e: Held)
+    requires held { IsHeld words.old.items held.old.items }
+    ensures held { IsHeld words.new.items held.new.items }
+    ensures len { length words.new.items ≡ length words.old.items }
+    ensures is { (y : ℕ) → y < room words.old.items → on words.new.items y ≡ (on words.old.items y || (eqb e.at (y / 64) && bit e.word (y % 64))) }
+{
+    let joint = word(words.as_slice(), e.at) | e.word;
+    write(words, e.at, joint);
+    put_bit(held, e.at);
+}
+
+/// The bits of words put in.
+#[tactic(auto, using(crate::proofs::Written::or_both))]
+pub(crate) fn join_words(words: &mut Vec<u64>, held: &mut Vec<u64>, es: &[Held])
+    requires held { IsHeld words.old.items held.old.items }
+    ensures held { IsHeld words.new.items held.new.items }
+    ensures len { length words.new.items ≡ length words.old.items }
+    ensures is { (y : ℕ) → y < room words.old.items → on words.new.items y ≡ (on words.old.items y || some es.now y) }
+{
+    for e in es {
+        join_word(words, held, *e);
+    }
+}
+
+/// A word in place of another.
+#[tactic(auto, using(crate::proofs::Written::put_held, crate::proofs::Written::written_other))]
+fn write_word(words: &mut Vec<u64>, held: &mut Vec<u64>, e: Held)
+    requires held { IsHeld words.old.items held.old.items }
+    ensures held { IsHeld words.new.items held.new.items }
+    ensures is { words.new.items ≡ slice_set words.old.items e.at e.word }
+{
+    write(words, e.at, e.word);
+    put_bit(held, e.at);
+}
+
+/// These words in their places, and 0 elsewhere.
+pub(crate) fn restore_words(words: &mut Vec<u64>, held: &mut Vec<u64>, es: &[Held])
+    requires held { IsHeld words.old.items held.old.items }
+    ensures held { IsHeld words.new.items held.new.items }
+    ensures is { words.new.items ≡ spread (replicate (length words.old.items) 0) es.now }
+{
+    clear_words(words, held);
+    for e in es {
+        write_word(words, held, *e);
+    }
+}
+
+#[tactic(auto, using(crate::proofs::Bits::is_bit_is))]
+fn is_bit(w: u64, b: usize) -> bool
+    requires inside { b < 64 }
+    ensures { result ≡ bit w b }
+{
+    (w >> b) & 1 == 1
+}
+
+/// The numbers of the bits of a word.
+#[tactic(auto, using(crate::proofs::Written::bits_none, crate::proofs::Written::bits_found, crate::proofs::Written::bits_passed, crate::proofs::Written::bits_all))]
+fn push_bits(found: &mut Vec<u32>, at: usize, w: u64) -> Result<(), Memory>
+    requires few { at < 0x400_0000 }
+    ensures { OnOk result ((y : ℕ) → is_among found.new.items y ≡ (is_among found.old.items y || (eqb at (y / 64) && bit w (y % 64)))) }
+{
+    let mut b = 0;
+    'bits: while b < 64 {
+        let k = b;
+        b += 1;
+        if is_bit(w, k) {
+            found.push((64 * at + k) as u32)?;
+        }
+    }
+    Ok(())
+}
+
+/// The numbers of the bits of a word that other words have not.
+#[tactic(auto, using(crate::proofs::Written::push_none, crate::proofs::Written::push_some))]
+fn push_left(found: &mut Vec<u32>, e: Held, words: &[u64]) -> Result<(), Memory>
+    requires few { e.at < 0x400_0000 }
+    ensures { OnOk result ((y : ℕ) → is_among found.new.items y ≡ (is_among found.old.items y || ((eqb e.at (y / 64) && bit e.word (y % 64)) && not (on words.now y)))) }
+{
+    let left = e.word & !word(words, e.at);
+    if left == 0 {
+        return Ok(());
+    }
+    push_bits(found, e.at, left)?;
+    Ok(())
+}
+
+/// Those whose bits stand in the first words and not in the others.
+#[tactic(auto, using(crate::proofs::Written::less_turn))]
+pub(crate) fn gone_from(alloc: Global, es: &[Held], words: &[u64]) -> Result<Vec<u32>, Memory>
+    requires few { All (λ (e : Held). e.at < 0x400_0000) es.now }
+    ensures { IfOk result (λ v. (y : ℕ) → is_among v.items y ≡ (some es.now y && not (on words.now y))) }
+{
+    let mut found = Vec::new(alloc);
+    for e in es {
+        push_left(&mut found, *e, words)?;
+    }
+    Ok(found)
+}

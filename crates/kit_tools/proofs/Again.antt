@@ -49,7 +49,7 @@ pub assembled_again : (words text : List ℕ) (before after : Held) (bytes listi
     → bytes_due text after ≡ Ok listing → assembled_due text after ≡ Ok bytes
 assembled_again words text before after bytes listing fits read made_so found =
     let from : (or_refused (no_words words) (words_in kinds.Words bytes) >>= λ ws. Ok (written (disassembled ws))) ≡ Ok listing =
-        sym (ap (λ r. r >>= λ b. or_refused (no_words words) (words_in kinds.Words b) >>= λ ws. Ok (written (disassembled ws))) read) ∙ made_so in
+    sym (ap (λ r. r >>= λ b. or_refused (no_words words) (words_in kinds.Words b) >>= λ ws. Ok (written (disassembled ws))) read) ∙ made_so in
     let l = listed words (words_in kinds.Words bytes) listing from in
     let p = program_found bytes l.0 fits l.1 in
     let first : assembled_due text after ≡ made_of text listing = ap (λ r. r >>= made_of text) found in

@@ -43,7 +43,7 @@ made_of text bytes = do
 made : (text ws : List ℕ) → All (λ w. w < 2 ^ 32) ws → length ws ≤ 33554432 → made_of text (written (disassembled ws)) ≡ Ok (words_file_text ws)
 made text ws small few =
     let a = assembles_again ws (disassembled ws) small few (reads_again ws small) in
-    rw (reads_again ws small, a.0) ap (λ us. Ok (words_file_text us)) (sym a.1.words_are)
+    rw (reads_again ws small, a.0) (ap (λ us. Ok (words_file_text us)) (sym a.1.words_are))
 
 pub assembled_again : (words text : List ℕ) (before after : Held) (bytes listing : List ℕ) → IsBytes bytes → bytes_due words before ≡ Ok bytes → disassembled_due words before ≡ Ok listing
     → bytes_due text after ≡ Ok listing → assembled_due text after ≡ Ok bytes

@@ -1,4 +1,5 @@
 pub mod Labels
 pub mod Mapping
 pub mod Lines
+pub mod LoopFree
 pub mod Imaging

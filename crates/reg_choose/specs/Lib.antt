@@ -7,3 +7,4 @@ pub mod Seen
 pub mod Scan
 pub mod Handing
 pub mod Each
+pub mod Heads

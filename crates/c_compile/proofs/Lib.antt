@@ -1,2 +1,1 @@
-pub mod Straight
 pub mod Emitting

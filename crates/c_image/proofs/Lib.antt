@@ -4,5 +4,4 @@ mod Files
 mod Mapped
 mod Named
 mod Told
-mod LoopFree
 mod Imaged

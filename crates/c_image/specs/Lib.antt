@@ -1,5 +1,4 @@
 pub mod Labels
 pub mod Mapping
 pub mod Lines
-pub mod LoopFree
 pub mod Imaging

@@ -352,14 +352,3 @@ none_held count h = record {
 
 pub restored : (n m : ℕ) (ws new : List ℕ) (es : List Held) → length ws ≡ length (spread (replicate m 0) es) → length ws ≡ n → new ≡ spread (replicate n 0) es → new ≡ spread (replicate m 0) es
 restored n m ws new es e l is = (let same : n ≡ m = sym l ∙ e ∙ spread_long (replicate m 0) es ∙ long m in is ∙ ap (λ z. spread (replicate z 0) es) same)
-
--- ---- the same words
-
-pub same_turn : (a b : Held) → a.at ≡ b.at → a.word ≡ b.word → a ≡ b
-same_turn a b e f = λ i. record { at = e i; word = f i }
-
-pub all_same : (a b : List Held) (i : ℕ) → length a ≡ length b → length a ≤ i → ((j : ℕ) (d : Held) → j < i → j < length a → get_or a j d ≡ get_or b j d) → a ≡ b
-all_same a b i l h same = ext_get_or nothing a b l (λ j k. same j nothing (omega (arith, k, h)) k)
-  where
-    nothing : Held
-    nothing = record { at = 0; word = 0 }

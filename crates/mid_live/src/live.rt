@@ -1,6 +1,6 @@
 // A set of temporaries that is changed in place, and what it was at some point.
 use crate::words::{
-    Held, are_same, clear_words, copied, gone_from, has_bit, join_words, put_in, restore_words, strike_from,
+    Held, clear_words, copied, gone_from, has_bit, join_words, put_in, restore_words, strike_from,
 };
 use kit_base::Memory;
 use std::alloc::Global;
@@ -45,7 +45,6 @@ impl Model for Kept {
 }
 
 ghost use Rattle.std.specs.Prelude.{◌≡◌, ℕ, ◌<◌, ◌≤◌, ◌||◌, ◌&&◌, not, false, cond, eqb, length, IfOk};
-ghost use Rattle.std.specs.Bool.{OnTrue};
 ghost use Rattle.mid_code.specs.Live.{is_among};
 ghost use Rattle.mid_live.specs.Sets.{on, room};
 
@@ -140,13 +139,6 @@ impl Kept {
             len: 0,
             words: Vec::new(alloc),
         }
-    }
-
-    /// Whether the other one is the same, word for word. Sets that were written down differently may be told apart.
-    pub fn equals(&self, other: &Kept) -> bool
-        ensures { OnTrue result (self.now ≡ other.now) }
-    {
-        self.len == other.len && are_same(self.words.as_slice(), other.words.as_slice())
     }
 
     /// The temporaries of this set that are not in the other one.

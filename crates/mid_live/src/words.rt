@@ -1,6 +1,5 @@
 // Words of bits, and which of them may be other than 0.
 ghost use Rattle.std.specs.Prelude.{◌≡◌, ◌≢◌, ℕ, ◌+◌, ◌*◌, ◌/◌, ◌%◌, ◌<◌, ◌≤◌, ◌||◌, ◌&&◌, not, false, cond, eqb, length, get_or, replicate, slice_set, All, IfOk, OnOk};
-ghost use Rattle.std.specs.Bool.{OnTrue};
 ghost use Rattle.mid_code.specs.Live.{is_among};
 ghost use Rattle.mid_live.specs.Sets.{on, room};
 ghost use Rattle.mid_live.specs.Words.{bit, some, IsHeld, FreshIn, spread};
@@ -261,29 +260,4 @@ pub(crate) fn gone_from(alloc: Global, es: &[Held], words: &[u64]) -> Result<Vec
         push_left(&mut found, *e, words)?;
     }
     Ok(found)
-}
-
-#[tactic(auto, using(crate::proofs::Written::same_turn))]
-fn is_same(a: Held, b: Held) -> bool
-    ensures { OnTrue result (a ≡ b) }
-{
-    a.at == b.at && a.word == b.word
-}
-
-/// Whether they are the same words; where it is not known it is false.
-#[tactic(auto, using(crate::proofs::Written::all_same))]
-pub(crate) fn are_same(a: &[Held], b: &[Held]) -> bool
-    ensures { OnTrue result (a.now ≡ b.now) }
-{
-    if a.len() != b.len() {
-        return false;
-    }
-    let mut i = 0;
-    'words: while i < a.len() {
-        if !is_same(a[i], b[i]) {
-            return false;
-        }
-        i += 1;
-    }
-    true
 }

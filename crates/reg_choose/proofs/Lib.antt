@@ -23,5 +23,3 @@ pub mod Collected
 pub mod Numbered
 pub mod Chooser
 pub mod Program
-pub mod Raised
-pub mod Learned

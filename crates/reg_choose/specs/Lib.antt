@@ -7,4 +7,3 @@ pub mod Seen
 pub mod Scan
 pub mod Handing
 pub mod Each
-pub mod Heads

@@ -1,17 +1,14 @@
 // The spans of a function's temporaries, and what crosses calls.
-ghost use Rattle.std.specs.Prelude.{◌≡◌, ℕ, ◌+◌, ◌<◌, ◌≤◌, ◌&&◌, ◌^◌, [], length, IfOk, OnOk, Bool, false, map};
+ghost use Rattle.std.specs.Prelude.{◌≡◌, ℕ, ◌+◌, ◌<◌, ◌≤◌, ◌&&◌, ◌^◌, [], length, IfOk, OnOk, Bool, false};
 ghost use Rattle.mid_code.specs.Code.{Stop};
-ghost use Rattle.mid_code.specs.Functions.{node, nodes, before, listed, function};
+ghost use Rattle.mid_code.specs.Functions.{node, nodes, before, function};
 ghost use Rattle.mid_code.specs.Live.{is_live};
 ghost use Rattle.mid_code.specs.Spans.{places};
 ghost use Rattle.mid_live.specs.Sets.{on, room};
 ghost use Rattle.reg_choose.specs.Trails.{stood, crossing, no_trail, trail_at, trail_of};
 ghost use Rattle.reg_choose.specs.Sparse.{sparse, follows};
 ghost use Rattle.reg_choose.specs.Seen.{seen};
-ghost use Rattle.reg_choose.specs.Heads.{ListTold};
 
-use crate::heads::Head;
-use crate::learn::heads_in;
 use crate::live::outside;
 use crate::spans::{more_from, walk_nodes};
 use crate::stands::stand_all;
@@ -84,9 +81,7 @@ fn walk_body(
     s: &mut Live,
     trails: &mut [Trail],
     crossed: &mut Live,
-    heads: &[Head],
 ) -> Result<(), Memory>
-    requires told { ListTold (length s.old) heads.now 0 (listed (map node ns.now)) }
     requires sizes { length trails.old ≤ room s.old }
     requires crossed_sizes { length trails.old ≤ room crossed.old }
     requires nothing { (y : ℕ) → on s.old y ≡ false }
@@ -95,18 +90,7 @@ fn walk_body(
     ensures is { OnOk result ((y : ℕ) → y < length trails.old → seen trails.new crossed.new y ≡ stood (is_live y [] (nodes ns.now) false && follows (nodes ns.now)) 1 (sparse y [] (nodes ns.now) false false 1 (seen trails.old crossed.old y))) }
 {
     let end = behind_nodes(ns, 1)?;
-    let mut next = 0;
-    walk_nodes(
-        alloc,
-        ns,
-        &outside(),
-        s,
-        trails,
-        crossed,
-        end,
-        heads,
-        &mut next,
-    )?;
+    walk_nodes(alloc, ns, &outside(), s, trails, crossed, end)?;
     let live = s.kept(alloc)?;
     begin(alloc, trails, &live, ns)?;
     Ok(())
@@ -142,8 +126,7 @@ fn walk_function(alloc: Global, f: &Function<u32>, trails: &mut [Trail]) -> Resu
 {
     let mut live = Live::none(alloc, trails.len())?;
     let mut crossed = Live::none(alloc, trails.len())?;
-    let heads = heads_in(alloc, f.body.as_slice(), &mut live)?;
-    walk_body(alloc, f.body.as_slice(), &mut live, trails, &mut crossed, heads.as_slice())?;
+    walk_body(alloc, f.body.as_slice(), &mut live, trails, &mut crossed)?;
     stand_all(trails, f.params.as_slice(), 0);
     tell_crossing(trails, &crossed);
     Ok(())

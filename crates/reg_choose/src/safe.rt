@@ -10,7 +10,6 @@ ghost use Rattle.reg_choose.specs.Holding.{IsPlan, Stands};
 
 use crate::checks::try_nodes;
 use crate::hold::lay_all;
-use crate::learn::heads_in;
 use crate::live::outside;
 use crate::plan::plan;
 use kit_base::Memory;
@@ -79,8 +78,6 @@ pub fn is_safe(alloc: Global, f: &Function<u32>, c: &Choice) -> Result<bool, Mem
         return Ok(false);
     }
     let mut behind = Live::none(alloc, at.len())?;
-    let heads = heads_in(alloc, f.body.as_slice(), &mut behind)?;
-    let mut next = 0;
     let mut held = no_holders(alloc, at, &behind)?;
     let safe = try_nodes(
         alloc,
@@ -90,8 +87,6 @@ pub fn is_safe(alloc: Global, f: &Function<u32>, c: &Choice) -> Result<bool, Mem
         &outside(),
         &mut behind,
         held.as_mut_slice(),
-        heads.as_slice(),
-        &mut next,
     )?;
     Ok(safe)
 }

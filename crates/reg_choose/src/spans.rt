@@ -1,16 +1,14 @@
 // The spans of temporaries, found in one walk from the end.
-ghost use Rattle.std.specs.Prelude.{◌≡◌, ◌∷◌, ℕ, ◌+◌, ◌<◌, ◌≤◌, ◌&&◌, ◌||◌, ◌^◌, not, length, drop, map, IfOk, OnOk, false, true};
+ghost use Rattle.std.specs.Prelude.{◌≡◌, ◌∷◌, ℕ, ◌+◌, ◌<◌, ◌≤◌, ◌&&◌, ◌||◌, ◌^◌, not, length, drop, IfOk, OnOk, false, true};
 ghost use Rattle.mid_code.specs.Code.{Stop};
-ghost use Rattle.mid_code.specs.Functions.{LoopN, op_before, node, nodes, before, listed};
+ghost use Rattle.mid_code.specs.Functions.{op_before, node, nodes, before};
 ghost use Rattle.mid_code.specs.Live.{label, is_live};
 ghost use Rattle.mid_code.specs.Spans.{places};
 ghost use Rattle.mid_live.specs.Sets.{on, room};
 ghost use Rattle.reg_choose.specs.Marked.{marks};
-ghost use Rattle.reg_choose.specs.Heads.{node_loops, list_loops, NodeTold, ListTold};
 ghost use Rattle.reg_choose.specs.Sparse.{sparse, follows};
 ghost use Rattle.reg_choose.specs.Seen.{seen, calls};
 
-use crate::heads::{Head, look, one_further};
 use crate::live::{
     Marks, at_begin, at_end, before_nodes, begin_less, nested, put_uses, strike_target,
 };
@@ -98,30 +96,6 @@ fn walk_op(
     Ok(())
 }
 
-/// Makes the set what is live at the head of a loop.
-fn to_head(
-    alloc: Global,
-    b: &[Node<u32>],
-    m: &Marks,
-    s: &mut Live,
-    ends: &Kept,
-    heads: &[Head],
-    at: usize,
-) -> Result<(), Memory>
-    requires behind { ends.now ≡ s.old }
-    requires told { NodeTold (length s.old) heads.now at (LoopN (listed (map node b.now))) }
-    ensures len { OnOk result (length s.new ≡ length s.old) }
-    ensures is { OnOk result ((y : ℕ) → y < room s.old → on s.new y ≡ is_live y (label false (on s.old y) ∷ marks y m.now) (nodes b.now) (on s.old y)) }
-{
-    let first = one_further(at)?;
-    if let Some(_) = look(alloc, heads, at, s)? {
-        return Ok(());
-    }
-    let begins = Kept::none(alloc);
-    before_nodes(alloc, b, &Marks::Inside(&begins, ends, &*m), s, heads, first)?;
-    Ok(())
-}
-
 /// What is live at the head of a loop, of which the set has what is live behind it.
 pub(crate) fn head_of(
     alloc: Global,
@@ -129,16 +103,14 @@ pub(crate) fn head_of(
     m: &Marks,
     s: &mut Live,
     ends: &Kept,
-    heads: &[Head],
-    at: usize,
 ) -> Result<Kept, Memory>
     requires behind { ends.now ≡ s.old }
-    requires told { NodeTold (length s.old) heads.now at (LoopN (listed (map node b.now))) }
     ensures kept { OnOk result (s.new ≡ s.old) }
     ensures head_len { IfOk result (λ v. length v ≡ length s.old) }
     ensures is { IfOk result (λ v. (y : ℕ) → y < room s.old → on v y ≡ is_live y (label false (on s.old y) ∷ marks y m.now) (nodes b.now) (on s.old y)) }
 {
-    to_head(alloc, b, m, s, ends, heads, at)?;
+    let begins = Kept::none(alloc);
+    before_nodes(alloc, b, &Marks::Inside(&begins, ends, &*m), s)?;
     let head = s.kept(alloc)?;
     s.restore(ends);
     Ok(head)
@@ -162,13 +134,9 @@ fn walk_node(
     crossed: &mut Live,
     place: u64,
     more: bool,
-    heads: &[Head],
-    next: &mut usize,
 ) -> Result<u64, Memory>
     requires sizes { length trails.old ≤ room s.old }
     requires crossed_sizes { length trails.old ≤ room crossed.old }
-    requires told { NodeTold (length s.old) heads.now next.old (node x.now) }
-    ensures next { OnOk result (next.new ≡ node_loops (node x.now) + next.old) }
     ensures len { OnOk result (length s.new ≡ length s.old) }
     ensures trails_len { OnOk result (length trails.new ≡ length trails.old) }
     ensures crossed_len { OnOk result (length crossed.new ≡ length crossed.old) }
@@ -184,10 +152,10 @@ fn walk_node(
         }
         Node::Choose(p, a, b) => {
             let behind = s.kept(alloc)?;
-            let between = walk_nodes(alloc, b.as_slice(), &*m, s, trails, crossed, place, heads, next)?;
+            let between = walk_nodes(alloc, b.as_slice(), &*m, s, trails, crossed, place)?;
             let other = s.kept(alloc)?;
             s.restore(&behind);
-            let inside = walk_nodes(alloc, a.as_slice(), &*m, s, trails, crossed, between, heads, next)?;
+            let inside = walk_nodes(alloc, a.as_slice(), &*m, s, trails, crossed, between)?;
             s.join(&other);
             s.put(*p as usize);
             cease(alloc, trails, &behind, s, place, more)?;
@@ -206,8 +174,6 @@ fn walk_node(
                 trails,
                 crossed,
                 place,
-                heads,
-                next,
             )?;
             cease(alloc, trails, &ends, s, place, more)?;
             let first = one_less(inside)?;
@@ -215,8 +181,7 @@ fn walk_node(
         }
         Node::Loop(b) => {
             let ends = s.kept(alloc)?;
-            let head = head_of(alloc, b.as_slice(), &*m, s, &ends, heads, *next)?;
-            *next = one_further(*next)?;
+            let head = head_of(alloc, b.as_slice(), &*m, s, &ends)?;
             let inside = walk_nodes(
                 alloc,
                 b.as_slice(),
@@ -225,8 +190,6 @@ fn walk_node(
                 trails,
                 crossed,
                 place,
-                heads,
-                next,
             )?;
             s.restore(&head);
             cease(alloc, trails, &ends, s, place, more)?;
@@ -265,7 +228,6 @@ fn walk_node(
 
 /// What nodes add to the trails, and what is live before them. The answer is the first place; the one behind them is given.
 #[cycle(walk)]
-#[tactic(auto, using(crate::proofs::Learned::told_turn))]
 pub(crate) fn walk_nodes(
     alloc: Global,
     ns: &[Node<u32>],
@@ -274,13 +236,9 @@ pub(crate) fn walk_nodes(
     trails: &mut [Trail],
     crossed: &mut Live,
     place: u64,
-    heads: &[Head],
-    next: &mut usize,
 ) -> Result<u64, Memory>
     requires sizes { length trails.old ≤ room s.old }
     requires crossed_sizes { length trails.old ≤ room crossed.old }
-    requires told { ListTold (length s.old) heads.now next.old (listed (map node ns.now)) }
-    ensures next { OnOk result (next.new ≡ list_loops (listed (map node ns.now)) + next.old) }
     ensures len { OnOk result (length s.new ≡ length s.old) }
     ensures trails_len { OnOk result (length trails.new ≡ length trails.old) }
     ensures crossed_len { OnOk result (length crossed.new ≡ length crossed.old) }
@@ -293,7 +251,7 @@ pub(crate) fn walk_nodes(
     while i > 0 {
         let more = more_from(ns, i);
         i -= 1;
-        first = walk_node(alloc, &ns[i], &*m, s, trails, crossed, first, more, heads, next)?;
+        first = walk_node(alloc, &ns[i], &*m, s, trails, crossed, first, more)?;
     }
     Ok(first)
 }

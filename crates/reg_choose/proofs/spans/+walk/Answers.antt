@@ -12,7 +12,6 @@ use Rattle.reg_choose.specs.Seen.{seen}
 use Rattle.reg_choose.proofs.Facts.{nodes_drop, live_node}
 use Rattle.reg_choose.proofs.Trailed.{choose_live, places_node}
 use Rattle.reg_choose.proofs.Walked.{seen_stood, seen_step, choose_seen, block_seen, loop_seen}
-use Rattle.reg_choose.proofs.Learned.{loops_turn}
 use Rattle.reg_choose.proofs.spans.+walk.Goals as goal
 
 pub walk_node-returns-in_ok-first-in-Choose-clause-trails : goal.walk_node-returns-in_ok-first-in-Choose-clause-trails
@@ -120,7 +119,6 @@ walk_nodes-loop-i-preserved t c =
       trails_len = e.trails_len ∙ i.trails_len;
       crossed_len = e.crossed_len ∙ i.crossed_len;
       live = λ y h. (let l = e.len in e.live y (omega (arith, h, l)) ∙ ap (λ z. is_live y (marks y c.args.m.now) (before x Stop) z) (i.live y (omega (arith, h, l))) ∙ sym (live_node x y (marks y c.args.m.now) d (on c.args.s.now y)) ∙ ap (λ z. is_live y (marks y c.args.m.now) z (on c.args.s.now y)) (sym j));
-      next = loops_turn c.args.ns.now c.loop-i.i c.args.next.now c.loop-i.next c.walk_node.new.next c.index-ns-i.result (nodes_drop c.args.ns.now c.loop-i.i c.index-ns-i.result (omega (arith, c.loop-i-test.true)) (let p = c.loop-i-test.true in let r = i.bound in omega (arith, p, r)) c.index-ns-i.is) i.next e.next;
       place = (let p = e.place in let q = i.place in omega (arith, k, m, p, q));
       trails = λ y h. (
           let l = e.trails_len in

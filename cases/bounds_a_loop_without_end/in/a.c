@@ -1,1 +1,0 @@
-void main() { while (true) wait_frame(); }

@@ -8,6 +8,7 @@ pub mod AssetFiles
 pub mod Limits
 pub mod Starting
 pub mod Refusals
+pub mod AsmTexts
 pub mod Builds
 pub mod Checks
 pub mod Either

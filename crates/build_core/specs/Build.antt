@@ -7,6 +7,8 @@ use Rattle.asset_pack.specs.declared.kind.Kind.TheVariants as kinds
 use Rattle.asset_pack.specs.Words.{IsBytes}
 use Rattle.asset_pack.specs.Texts.{Image, IsTexture, IsSound, texture_text, sound_text}
 use Rattle.asset_pack.specs.Reading.{texture_in, words_in}
+use Rattle.asm_items.specs.declared.item.AsmItem.{AsmItem}
+use Rattle.asm_reader.specs.Reading.{read}
 use Rattle.cart_format.specs.Cartridge.{Cartridge, IsCartridge, cart_text, total}
 use Rattle.c_tree.specs.View.{unit}
 use Rattle.c_types.specs.Programs.{ProgramT}
@@ -91,6 +93,10 @@ Builds m project (Ok b) = IsBuilt m project b
 Builds m project (Err errors.Memory) = Unit {0}
 Builds m project (Err (errors.Failed name)) = Unit {0}
 Builds m project (Err e) = IsUnbuilt m project e
+
+-- the bytes are a text that reads as items
+abbrev pub IsAsmText : List ℕ → Type 0
+IsAsmText bytes = (items : List AsmItem) × (read bytes ≡ Ok items)
 
 -- the bytes are those of a cartridge, which is read from them again
 abbrev pub IsCartText : List ℕ → Type 0

@@ -2,7 +2,7 @@
 ghost use Rattle.std.specs.Prelude.{◌≡◌, ◌≤◌, IfOk, IfErr, IfSome, length};
 ghost use Rattle.project_text.specs.declared.project.Project.{Project};
 ghost use Rattle.project_text.specs.ProjectText.{IsProject};
-ghost use Rattle.build_core.specs.Build.{Builds, IsCartText};
+ghost use Rattle.build_core.specs.Build.{Builds, IsAsmText, IsCartText};
 ghost use Rattle.build_core.specs.BuiltFrom.{BuildsFrom};
 ghost use Rattle.build_core.specs.Causes.{CanCome, HasCauses, IsOfBuilding};
 ghost use Rattle.build_core.specs.Fronts.{IsFrontOf};
@@ -51,6 +51,8 @@ pub fn build_from<F: Files>(
     ensures reached { IfSome (F.held files.old) (λ m. FailsAt (IsReadBeside m project.now) result) }
     // The cartridge is one that is read again.
     ensures cartridge { IfOk result (λ b. IsCartText b.cart) }
+    // The assembly text is one that reads as items.
+    ensures asm { IfOk result (λ b. IsAsmText b.asm) }
     ensures kinds { IfErr result (IsOfBuilding project.now) }
     ensures causes { HasCauses project.now result (F.faults files.old) (F.faults files.new)
         (F.misses files.old) (F.misses files.new) (F.overs files.old) (F.overs files.new) }
@@ -89,6 +91,8 @@ pub fn build<F: Files>(alloc: Global, files: &mut F, project: &[u8]) -> Result<B
     ensures reached { IfSome (F.held files.old) (λ m. FailsAt (IsReadToBuild m project.now) result) }
     // The cartridge is one that is read again.
     ensures cartridge { IfOk result (λ b. IsCartText b.cart) }
+    // The assembly text is one that reads as items.
+    ensures asm { IfOk result (λ b. IsAsmText b.asm) }
     ensures kinds { IfErr result (CanCome project.now) }
     ensures causes { HasCauses project.now result (F.faults files.old) (F.faults files.new)
         (F.misses files.old) (F.misses files.new) (F.overs files.old) (F.overs files.new) }

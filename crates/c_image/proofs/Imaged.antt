@@ -93,6 +93,8 @@ module _ (p : ProgramT) (places : Places) (starts : List ℕ) (c : CompiledT) (w
       items = c.items;
       spelled = spelled;
       reads = reads;
+      faultless = compiled.emitted.faultless;
+      readable = compiled.emitted.readable;
       labels = labels;
       words = placed;
       map_is = map_is ∙ ap (λ sizes. map_of p sizes (length words) (address_in labels)) (sym frames_are);

@@ -1,10 +1,12 @@
 -- What the image of a program is.
-use Rattle.std.specs.Prelude.{ℕ, ◌≡◌, ◌≤◌, ◌+◌, ◌*◌, true, List, [], map, length, sum_by, Ok}
+use Rattle.std.specs.Prelude.{ℕ, ◌≡◌, ◌≤◌, ◌+◌, ◌*◌, true, List, [], map, length, sum_by, None, Ok}
 use Rattle.std.specs.List.{AllByRecursion, list_all}
 use Rattle.std.specs.Str.{is_utf8}
 use Rattle.asm_items.specs.declared.item.AsmItem.{AsmItem}
 use Rattle.asm_items.specs.Written.{written}
+use Rattle.asm_reader.specs.Readable.{AreReadable}
 use Rattle.asm_reader.specs.Reading.{read}
+use Rattle.assembler.specs.Faults.{fault_of}
 use Rattle.assembler.specs.Placed.{Placed}
 use Rattle.assembler.specs.Labels.{address_in}
 use Rattle.c_front.specs.Places.{place_at}
@@ -95,6 +97,9 @@ pub record IsImageOf (p : ProgramT) (places : Places) (starts : List ℕ) (i : I
   pub items : List AsmItem
   pub spelled : i.text ≡ written items
   pub reads : read i.text ≡ Ok items
+  -- labels are distinct and all there; registers, ports and numbers are in their ranges
+  pub faultless : fault_of items ≡ None
+  pub readable : AreReadable items
   pub labels : List (List ℕ × ℕ)
   pub words : Placed items i.words labels
   -- the map and the line table tell of them

@@ -164,6 +164,7 @@ fn each_failing_call_of_the_files_leaves_fronts(rt: HostRuntime) -> Result<(), F
             "w m t d pads card a a b b e e f f e f e f e f card card",
         ),
         ("watch p a b pads 2 card", "p s pads card a a b b"),
+        ("bounds p a b e", "p s a a b b e e"),
         ("gen 4 e a b", "e e gen.c gen.c gen.c a a b b"),
     ];
     for (words, calls) in rows {
@@ -213,6 +214,7 @@ fn each_refused_put_leaves_a_front(rt: HostRuntime) -> Result<(), Fail> {
         ),
         ("check p", "ok\n", 1, 0),
         ("watch p a b pads 2 none", "met\n", 1, 0),
+        ("bounds p a b e", "bound main 3\n", 1, 0),
         ("watch v a b pads 2 none", "stray at x:1\n", 3, 0),
         (
             "gen 1 e a b",

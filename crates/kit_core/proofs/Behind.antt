@@ -13,7 +13,7 @@ use Rattle.kit_tools.specs.declared.shown.Shown.{Shown}
 use Rattle.kit_tools.specs.Refusal.{line_of, status_of}
 use Rattle.kit_tools.specs.Work.{Work}
 use Rattle.kit_tools.specs.Carrying.{LeavesBy, shown_status, text_of}
-use Rattle.kit_words.specs.Command.{Command, Build, Convert, Trace, Run, Play, Watch, Check, Gen}
+use Rattle.kit_words.specs.Command.{Command, Build, Convert, Trace, Run, Play, Watch, Bounds, Check, Gen}
 use Rattle.kit_core.specs.Due.{command_reads, form_due, form_refused}
 use Rattle.kit_core.specs.Fronts.{Carries, StopsBy}
 use Rattle.kit_core.specs.Generating.{front_of, sources_due}
@@ -111,5 +111,6 @@ refused_plain (Some (Trace cart answers card steps)) m e h = refl
 refused_plain (Some (Run words)) m e h = refl
 refused_plain (Some (Play project map_name words)) m e h = refl
 refused_plain (Some (Watch words)) m e h = refl
+refused_plain (Some (Bounds project cart map_name text_name)) m e h = refl
 refused_plain (Some (Check project)) m e h = refl
 refused_plain (Some (Gen number project cart map_name)) m e h = ap (sources_due project) h

@@ -15,11 +15,11 @@ use Rattle.kit_tools.specs.declared.refusal.Refusal.TheVariants as refusals
 use Rattle.kit_tools.specs.Causes.{IsUnrisen}
 use Rattle.kit_tools.specs.Running.{settings_due, run_due}
 use Rattle.kit_tools.specs.Watching.{watch_settings_due}
-use Rattle.kit_words.specs.Command.{RunWords, WatchWords, Command, Build, Convert, Trace, Run, Play, Watch, Check, Gen, command_of}
+use Rattle.kit_words.specs.Command.{RunWords, WatchWords, Command, Build, Convert, Trace, Run, Play, Watch, Bounds, Check, Gen, command_of}
 use Rattle.kit_tools.specs.Work.{Work, ComesBy}
 use Rattle.kit_tools.specs.Converting.{convert_due}
 use Rattle.kit_tools.specs.Tracing.{trace_due}
-use Rattle.kit_core.specs.Due.{read_build_due, number_gen_due, read_build_refused, read_check_due, read_play_due, read_watch_due, form_due, form_refused, command_due, command_refused}
+use Rattle.kit_core.specs.Due.{read_build_due, number_gen_due, read_build_refused, read_check_due, read_play_due, read_watch_due, read_bounds_due, form_due, form_refused, command_due, command_refused}
 use Rattle.kit_core.specs.Outcome.{IsShown, EndsAs, Done, Refused, FileFault, OutOfMemory, SinkFault, FrontFault, FrontCutOff, HasDueStatus, IsOutcome, status_due}
 use Rattle.kit_core.specs.Generating.{front_of, functions_due}
 use Rattle.kit_core.proofs.Behind.{plain_ends, refused_plain}
@@ -82,6 +82,12 @@ no_watch law words m (Ok text) e w (inl h) k = law m text k.built h.0 k.is_built
 no_watch law words m (Ok text) e w (inr h) k = differ (watch_settings_due words m) (refusals.Due e) k.settings h k.settings_are
 no_watch law words m (Err f) e w h k = absurd cc
 
+-- nor of `bounds` whose input is refused
+no_bounds : Law → (project cart map_name text_name : List ℕ) (m : Held) (r : Result (List ℕ) FileErr) (e : DueRefusal) (w : Work)
+    → read_build_refused project m r e → read_bounds_due project cart map_name text_name m r (Ok w) → ⊥
+no_bounds law project cart map_name text_name m (Ok text) e w h k = law m text k.built h.0 k.is_built h.1
+no_bounds law project cart map_name text_name m (Err f) e w h k = absurd cc
+
 -- nor of a number out of its range
 no_gen : (d : Result ℕ DueRefusal) (project cart map_name : List ℕ) (m : Held) (e : DueRefusal) (w : Work) → d ≡ Err e → number_gen_due d project cart map_name m (Ok w) → ⊥
 no_gen (Ok n) project cart map_name m e w h k = absurd cc
@@ -95,6 +101,7 @@ form_still law (Some (Trace cart answers card steps)) m e h w k = absurd (differ
 form_still law (Some (Run words)) m e h w k = absurd (differ (run_due words m) (refusals.Due e) w h k)
 form_still law (Some (Play project map_name words)) m e h w k = absurd (no_play law project map_name words m (due m project) e w h k)
 form_still law (Some (Watch words)) m e h w k = absurd (no_watch law words m (due m words.project) e w h k)
+form_still law (Some (Bounds project cart map_name text_name)) m e h w k = absurd (no_bounds law project cart map_name text_name m (due m project) e w h k)
 form_still law (Some (Check project)) m e h w k = check_still project m (due m project) w k
 form_still law (Some (Gen number project cart map_name)) m e h w k = absurd (no_gen (functions_due number) project cart map_name m e w h k)
 

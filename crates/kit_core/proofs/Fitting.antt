@@ -16,16 +16,16 @@ use Rattle.output_laws.proofs.Tracked.{Spares, spares_both}
 use Rattle.output_laws.proofs.Begun.{not_among, other_way, spares_unmade, written_once}
 use Rattle.output_laws.proofs.Outputs.{IsNewCard, no_list, none_spared, run_once}
 use Rattle.kit_words.specs.declared.conversion.Conversion.{Conversion}
-use Rattle.kit_words.specs.Command.{Command, RunWords, WatchWords, Build, Convert, Trace, Run, Play, Watch, Check, Gen, command_of}
+use Rattle.kit_words.specs.Command.{Command, RunWords, WatchWords, Build, Convert, Trace, Run, Play, Watch, Bounds, Check, Gen, command_of}
 use Rattle.kit_words.specs.Created.{created_names, run_names}
 use Rattle.kit_words.specs.Forms.{are_different, differs_from, source_name}
-use Rattle.kit_words.proofs.Created.{AreFour, build_differ, created_differ, differs_first, differs_later, gen_differ, watch_differ}
+use Rattle.kit_words.proofs.Created.{AreFour, AreThree, bounds_differ, build_differ, created_differ, differs_first, differs_later, gen_differ, watch_differ}
 use Rattle.kit_tools.specs.declared.refusal.DueRefusal.{DueRefusal}
 use Rattle.kit_tools.specs.Converting.{convert_due, made_due}
 use Rattle.kit_tools.specs.Running.{Game, game_due, game_with, names_in, run_due}
 use Rattle.kit_tools.specs.Tracing.{trace_due, traced_due}
 use Rattle.kit_tools.specs.Work.{Work}
-use Rattle.kit_core.specs.Due.{form_due, number_gen_due, outputs_of, play_effects, read_build_due, read_play_due, read_watch_due}
+use Rattle.kit_core.specs.Due.{bounds_effects, form_due, number_gen_due, outputs_of, play_effects, read_bounds_due, read_build_due, read_play_due, read_watch_due}
 use Rattle.kit_core.specs.Generating.{front_of, functions_due, sources_due, sources_of}
 use Rattle.kit_core.specs.Leaving.{Begins, begins_front, begins_work, IsNoOutput}
 use Rattle.kit_core.proofs.Ends.{check_still}
@@ -77,6 +77,30 @@ read_watch_fits watch held (Ok text) work differ d =
     fits_same (Some (Watch watch)) (outputs_of watch.cart watch.map_name d.built) work.effects (ap (λ (w : Work). w.effects) d.work_is)
     (built_fits (Some (Watch watch)) watch.cart watch.map_name d.built differ (λ name h. h))
 read_watch_fits watch held (Err e) work differ d = absurd cc
+
+-- ---- the cartridge, the map and the assembly text
+
+module _ (project cart map_name text_name : List ℕ) (three : AreThree cart map_name text_name) where
+  abbrev bounded : Option Command
+  bounded = Some (Bounds project cart map_name text_name)
+
+  bounds_fit : (b : Built) → Fits bounded (bounds_effects cart map_name text_name b)
+  bounds_fit b = record {
+    once = outputs_once [] cart map_name b (written_file text_name b.asm) refl (not_among map_name cart [] (other_way cart map_name three.cart_map) refl)
+        (written_once (map_name ∷ cart ∷ []) text_name b.asm []
+        (not_among text_name map_name (cart ∷ []) (other_way map_name text_name three.map_text) (not_among text_name cart [] (other_way cart text_name three.cart_text) refl)) tt);
+    others = λ name h.
+        let later = differs_later name cart (map_name ∷ text_name ∷ []) h in
+        let last = differs_first name text_name [] (differs_later name map_name (text_name ∷ []) later) in
+        spares_unmade name (bounds_effects cart map_name text_name b)
+        (spares_both name (outputs_of cart map_name b) (written_file text_name b.asm)
+        (outputs_spared name cart map_name b (differs_first name cart (map_name ∷ text_name ∷ []) h) (differs_first name map_name (text_name ∷ []) later)) (last, (last, tt)));
+  }
+
+  read_bounds_fit : (held : Held) (r : Result (List ℕ) FileErr) (work : Work) → read_bounds_due project cart map_name text_name held r (Ok work) → Fits bounded work.effects
+  read_bounds_fit held (Ok text) work d =
+      fits_same bounded (bounds_effects cart map_name text_name d.built) work.effects (ap (λ (w : Work). w.effects) d.work_is) (bounds_fit d.built)
+  read_bounds_fit held (Err e) work d = absurd cc
 
 -- ---- a file made of another
 
@@ -212,6 +236,7 @@ module _ (words : List (List ℕ)) where
   front_fitting (Some (Run run)) is = no_effects _
   front_fitting (Some (Play project map_name run)) is = no_effects _
   front_fitting (Some (Watch watch)) is = no_effects _
+  front_fitting (Some (Bounds project cart map_name text_name)) is = no_effects _
   front_fitting (Some (Check project)) is = no_effects _
   front_fitting (Some (Gen number project cart map_name)) is = front_fits number project cart map_name (gen_differ words number project cart map_name is) (functions_due number)
 
@@ -224,6 +249,8 @@ module _ (words : List (List ℕ)) where
   work_fitting (Some (Play project map_name run)) is held work d =
       read_play_fits project map_name run held (due held project) work (created_differ words (Play project map_name run) is) d
   work_fitting (Some (Watch watch)) is held work d = read_watch_fits watch held (due held watch.project) work (watch_differ words watch is) d
+  work_fitting (Some (Bounds project cart map_name text_name)) is held work d =
+      read_bounds_fit project cart map_name text_name (bounds_differ words project cart map_name text_name is) held (due held project) work d
   work_fitting (Some (Check project)) is held work d =
       fits_same (Some (Check project)) [] work.effects (sym (check_still project held (due held project) work d)) (no_effects (Some (Check project)))
   work_fitting (Some (Gen number project cart map_name)) is held work d =

@@ -22,4 +22,5 @@ pub mod Fitting
 pub mod Leaving
 pub mod Meanings
 pub mod Watches
+pub mod Bounds
 pub mod WatchedRuns

@@ -3,7 +3,7 @@ use Rattle.std.proofs.Common.{ℕ, ◌≡◌, ◌⊎◌, ◌<◌, inl, inr, List
 use Rattle.std.specs.Prelude.{Option, Some, None, Result}
 use Rattle.kit_base.specs.Held.{Held}
 use Rattle.kit_words.specs.declared.conversion.Conversion.{Conversion}
-use Rattle.kit_words.specs.Command.{Command, RunWords, WatchWords, Build, Convert, Trace, Run, Play, Watch, Gen, command_of}
+use Rattle.kit_words.specs.Command.{Command, RunWords, WatchWords, Build, Convert, Trace, Run, Play, Watch, Bounds, Gen, command_of}
 use Rattle.kit_words.specs.Number.{number_of}
 use Rattle.kit_tools.specs.declared.refusal.Refusal.{Refusal}
 use Rattle.kit_tools.specs.declared.shown.Shown.{Shown}
@@ -60,4 +60,9 @@ module _ (words : List (List ℕ)) (held : Option Held) (r : Result Shown Refusa
   pub gen_over : (number project cart map_name : List ℕ) → command_of words ≡ Some (Gen number project cart map_name)
       → HasCausesOr (IsGenOver number) r before after → HasReasons words held r before after
   gen_over number project cart map_name is h =
-      wider (IsGenOver number) (λ over. inr (inr (inr (inr (inr (inr (record { number = number; project = project; cart = cart; map_name = map_name; named = is; over = over }))))))) h
+      wider (IsGenOver number) (λ over. inr (inr (inr (inr (inr (inr (inl (record { number = number; project = project; cart = cart; map_name = map_name; named = is; over = over })))))))) h
+
+  pub bounds_over : (project cart map_name text_name : List ℕ) → command_of words ≡ Some (Bounds project cart map_name text_name)
+      → HasCausesOr (IsLarge project held) r before after → HasReasons words held r before after
+  bounds_over project cart map_name text_name is h =
+      wider (IsLarge project held) (λ large. inr (inr (inr (inr (inr (inr (inr (record { project = project; cart = cart; map_name = map_name; text_name = text_name; named = is; large = large })))))))) h

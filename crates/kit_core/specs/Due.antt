@@ -1,5 +1,5 @@
 -- What a command is due, for its words and for the files that are held: the one order of refusals.
-use Rattle.std.specs.Prelude.{ℕ, ◌≡◌, List, [], ◌∷◌, ◌++◌, ◌⊎◌, Option, Some, None, Result, Ok, Err, Contains}
+use Rattle.std.specs.Prelude.{ℕ, ◌≡◌, List, [], ◌∷◌, ◌++◌, ◌⊎◌, Option, Some, None, Result, Ok, Err, Contains, map}
 use Rattle.kit_base.specs.Held.{Held}
 use Rattle.kit_base.specs.Effects.{Effect, written_file}
 use Rattle.kit_base.specs.Outside.{due}
@@ -14,12 +14,14 @@ use Rattle.build_core.specs.Checked.{IsAccepted, IsRejected}
 use Rattle.build_core.specs.Reached.{IsReadToBuild, IsReadToCheck}
 use Rattle.c_types.specs.Programs.{ProgramT}
 use Rattle.c_image.specs.Imaging.{frame_sizes}
+use Rattle.cycle_bound.specs.Lines.{IsTold}
 use Rattle.project_text.specs.MapText.{map_text}
+use Rattle.project_text.specs.declared.map.Map.{Map}
 use Rattle.kit_tools.specs.declared.refusal.DueRefusal.{DueRefusal}
 use Rattle.kit_tools.specs.declared.refusal.DueRefusal.TheVariants as dues
 use Rattle.kit_tools.specs.declared.refusal.Refusal.{Refusal}
 use Rattle.kit_tools.specs.declared.refusal.Refusal.TheVariants as refusals
-use Rattle.kit_words.specs.Command.{Command, RunWords, WatchWords, Build, Convert, Trace, Run, Play, Watch, Check, Gen, command_of}
+use Rattle.kit_words.specs.Command.{Command, RunWords, WatchWords, Build, Convert, Trace, Run, Play, Watch, Bounds, Check, Gen, command_of}
 use Rattle.kit_tools.specs.Inputs.{unread}
 use Rattle.kit_tools.specs.Work.{Work, accepted, as_due}
 use Rattle.kit_tools.specs.Converting.{convert_due}
@@ -147,6 +149,38 @@ abbrev pub watch_refused : WatchWords → Held → DueRefusal → Type 0
 watch_refused words held refusal =
     read_build_refused words.project held (due held words.project) refusal ⊎ (watch_settings_due words held ≡ Err (refusals.Due refusal))
 
+-- the names of a map's functions, in its order
+abbrev pub function_names : Map → List (List ℕ)
+function_names m = map (λ row. row.0) m.frames
+
+-- the outputs of what was built, then its program's assembly text
+abbrev pub bounds_effects : (cart map_name text_name : List ℕ) → Built → List Effect
+bounds_effects cart map_name text_name built = outputs_of cart map_name built ++ written_file text_name built.asm
+
+-- and a line for each function
+abbrev pub bounds_work : (cart map_name text_name : List ℕ) → Built → (lines : List ℕ) → Work
+bounds_work cart map_name text_name built lines = record { effects = bounds_effects cart map_name text_name built; text = lines; status = 0 }
+
+-- what was built of the project's text, and the lines of its functions, by the assembly text that is written
+pub record IsBounds (text cart map_name text_name : List ℕ) (held : Held) (work : Work) : Type 0 where
+  pub built : Built
+  pub is_built : IsBuilt held text built
+  pub lines : List ℕ
+  pub told : IsTold built.asm (function_names built.map) lines
+  pub work_is : bounds_work cart map_name text_name built lines ≡ work
+
+abbrev pub text_bounds_due : (project text cart map_name text_name : List ℕ) → Held → Result Work DueRefusal → Type 0
+text_bounds_due project text cart map_name text_name held (Ok work) = IsBounds text cart map_name text_name held work
+text_bounds_due project text cart map_name text_name held (Err refusal) = (e : BuildErr) × IsUnbuilt held text e × (unbuilt project e ≡ refusals.Due refusal)
+
+abbrev pub read_bounds_due : (project cart map_name text_name : List ℕ) → Held → Result (List ℕ) FileErr → Result Work DueRefusal → Type 0
+read_bounds_due project cart map_name text_name held (Ok text) d = text_bounds_due project text cart map_name text_name held d
+read_bounds_due project cart map_name text_name held (Err e) d = Err (unread project e) ≡ as_due d
+
+-- The project is built; its refusals are those of a build.
+abbrev pub bounds_due : (project cart map_name text_name : List ℕ) → Held → Result Work DueRefusal → Type 0
+bounds_due project cart map_name text_name held d = read_bounds_due project cart map_name text_name held (due held project) d
+
 -- what the check of a project's text is due: `ok` where its source has a program, else why it has none
 abbrev pub text_check_due : (project text : List ℕ) → Held → Result Work DueRefusal → Type 0
 text_check_due project text held (Ok work) = ((p : ProgramT) × IsAccepted held text p) × (accepted ≡ work)
@@ -186,7 +220,7 @@ number_gen_due (Err refusal) project cart map_name held d = Err refusal ≡ d
 abbrev pub gen_due : (number project cart map_name : List ℕ) → Held → Result Work DueRefusal → Type 0
 gen_due number project cart map_name held d = number_gen_due (functions_due number) project cart map_name held d
 
--- What a command is due among the files that are held, its front done: one work or refusal, but for a build, a play, a watch, a check and `gen`.
+-- What a command is due among the files that are held, its front done: one work or refusal, but for a build, a play, a watch, `bounds`, a check and `gen`.
 abbrev pub work_due : Command → Held → Result Work DueRefusal → Type 0
 work_due (Build project cart map_name) held d = build_due project cart map_name held d
 work_due (Convert conversion source target) held d = convert_due conversion source target held ≡ as_due d
@@ -194,6 +228,7 @@ work_due (Trace cart answers card steps) held d = trace_due cart answers card st
 work_due (Run words) held d = run_due words held ≡ as_due d
 work_due (Play project map_name words) held d = play_due project map_name words held d
 work_due (Watch words) held d = watch_due words held d
+work_due (Bounds project cart map_name text_name) held d = bounds_due project cart map_name text_name held d
 work_due (Check project) held d = check_due project held d
 work_due (Gen number project cart map_name) held d = gen_due number project cart map_name held d
 
@@ -205,12 +240,13 @@ form_due (Some command) held d = work_due command held d
 abbrev pub command_due : List (List ℕ) → Held → Result Work DueRefusal → Type 0
 command_due words held d = form_due (command_of words) held d
 
--- The words are no command, or its input is refused. The cartridge of a build, a play or a watch is no input of it: whether it is too large is known
+-- The words are no command, or its input is refused. The cartridge of a build, a play, a watch or `bounds` is no input of it: whether it is too large is known
 -- only of what was built. The input of `gen` is its number.
 abbrev pub form_refused : Option Command → Held → DueRefusal → Type 0
 form_refused (Some (Build project cart map_name)) held refusal = read_build_refused project held (due held project) refusal
 form_refused (Some (Play project map_name words)) held refusal = play_refused project words held refusal
 form_refused (Some (Watch words)) held refusal = watch_refused words held refusal
+form_refused (Some (Bounds project cart map_name text_name)) held refusal = read_build_refused project held (due held project) refusal
 form_refused (Some (Gen number project cart map_name)) held refusal = functions_due number ≡ Err refusal
 form_refused c held refusal = form_due c held (Err refusal)
 
@@ -254,6 +290,7 @@ command_reads (Some (Trace cart answers card steps)) held name = IsReadToTrace c
 command_reads (Some (Run words)) held name = IsReadToRun words held name
 command_reads (Some (Play project map_name words)) held name = play_reads project words held name
 command_reads (Some (Watch words)) held name = watch_reads words held name
+command_reads (Some (Bounds project cart map_name text_name)) held name = build_reads project held name
 command_reads (Some (Check project)) held name = check_reads project held name
 command_reads (Some (Gen number project cart map_name)) held name = IsReadToBuild held project_text name
 

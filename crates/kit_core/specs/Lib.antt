@@ -14,4 +14,5 @@ pub mod Holding
 pub mod Leaving
 pub mod Meaning
 pub mod Watched
+pub mod Bounded
 pub mod Following

@@ -4,7 +4,7 @@ use Rattle.kit_base.specs.Held.{Held}
 use Rattle.kit_base.specs.Outside.{due}
 use Rattle.build_core.specs.Causes.{CanBeTooLarge}
 use Rattle.kit_words.specs.declared.conversion.Conversion.{Conversion}
-use Rattle.kit_words.specs.Command.{RunWords, WatchWords, Build, Convert, Trace, Run, Play, Watch, Gen, command_of}
+use Rattle.kit_words.specs.Command.{RunWords, WatchWords, Build, Convert, Trace, Run, Play, Watch, Bounds, Gen, command_of}
 use Rattle.kit_words.specs.Forms.{functions_role, in_range}
 use Rattle.gen_source.specs.Source.{project_text}
 use Rattle.kit_words.specs.Number.{number_of}
@@ -63,6 +63,15 @@ pub record WatchesOver (words : List (List ℕ)) (held : Option Held) : Type 0 w
   pub named : command_of words ≡ Some (Watch watch)
   pub over : IsLarge watch.project held ⊎ (is_watch_count (number_of watch.count) ≡ false)
 
+-- the words tell the bounds of such a project
+pub record BoundsLarge (words : List (List ℕ)) (held : Option Held) : Type 0 where
+  pub project : List ℕ
+  pub cart : List ℕ
+  pub map_name : List ℕ
+  pub text_name : List ℕ
+  pub named : command_of words ≡ Some (Bounds project cart map_name text_name)
+  pub large : IsLarge project held
+
 -- a number of functions out of its range, or the cartridge of what is made up can be too large
 abbrev pub IsGenOver : List ℕ → Type 0
 IsGenOver number = (in_range functions_role (number_of number) ≡ false) ⊎ CanBeTooLarge project_text
@@ -77,4 +86,4 @@ pub record GeneratesOver (words : List (List ℕ)) : Type 0 where
   pub over : IsGenOver number
 
 abbrev pub IsOver : List (List ℕ) → Option Held → Type 0
-IsOver words held = MigratesLong words held ⊎ (BuildsLarge words held ⊎ (TracesTooFar words ⊎ (RunsOutOfRange words ⊎ (PlaysOver words held ⊎ (WatchesOver words held ⊎ GeneratesOver words)))))
+IsOver words held = MigratesLong words held ⊎ (BuildsLarge words held ⊎ (TracesTooFar words ⊎ (RunsOutOfRange words ⊎ (PlaysOver words held ⊎ (WatchesOver words held ⊎ (GeneratesOver words ⊎ BoundsLarge words held))))))

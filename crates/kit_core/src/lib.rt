@@ -2,11 +2,12 @@
 //! and the line that is put.
 //!
 //! It promises that status, files and text are those of the command, that each refusal by the
-//! outside has its cause, and that a build or a play that ends well stands and does what its source means, and that a watch
-//! tells exactly whether its source strays. It
+//! outside has its cause, and that a build or a play that ends well stands and does what its source means, that a watch
+//! tells exactly whether its source strays, and that calls stay within the bounds that are told. It
 //! stands on `build_core` for the build, on `kit_words` for the words, on `kit_tools` for the commands without a build and on `kit_base` for the outside.
 #![tactic(auto)]
 
+mod bounding;
 mod build_refusal;
 mod building;
 mod checking;

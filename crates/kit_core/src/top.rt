@@ -16,6 +16,7 @@ ghost use Rattle.kit_core.specs.Headline.{BuildStands, GenStands, PlayStands};
 ghost use Rattle.kit_core.specs.Holding.{FilesHold};
 ghost use Rattle.kit_core.specs.Leaving.{LeavesFronts};
 ghost use Rattle.kit_core.specs.Watched.{WatchStands};
+ghost use Rattle.kit_core.specs.Bounded.{BoundsStand};
 ghost use Rattle.kit_core.specs.Limits.{IsOver};
 ghost use Rattle.kit_core.specs.Lines.{IsPut, PutsSource};
 ghost use Rattle.kit_core.specs.Outcome.{HasDueStatus, IsOutcome};
@@ -25,12 +26,14 @@ ghost use Rattle.kit_tools.specs.Running.{RunStands, end_status};
 ghost use Rattle.kit_tools.specs.Tracing.{TraceStands};
 ghost use Rattle.kit_tools.specs.Watching.{watch_line};
 
+use crate::bounding::bounds_command;
 use crate::building::build_command;
 use crate::checking::check_command;
 use crate::generating::gen_command;
 use crate::playing::play_command;
 use crate::watching::watch_command;
-use build_core::builds_are_due_or_refused;
+use build_core::{builds_are_due_or_refused, built_cartridges_are_read_back};
+use cycle_bound::calls_stay_within_bounds;
 use gen_source::summary_end;
 use kit_base::{Files, Sink, SinkErr};
 use kit_tools::{
@@ -132,6 +135,15 @@ fn put_watched<S: Sink>(out: &mut S, verdict: &Verdict) -> u8
     }
 }
 
+/// Puts lines that were made before.
+fn put_lines<S: Sink>(out: &mut S, lines: &[u8]) -> u8
+    ensures shows { Shows 0 lines.now result (S.written out.old) (S.written out.new) }
+    ensures unput { result ≡ 9 → Rose (S.faults out.old) (S.faults out.new) }
+    ensures later { S.faults out.old ≤ S.faults out.new }
+{
+    put_last(out, lines, 0)
+}
+
 /// Puts a line that ends with the eight digits of a word.
 fn put_word<S: Sink>(out: &mut S, front: &[u8], word: u32) -> u8
     ensures shows { Shows 0 (front.now ++ summary_end word) result (S.written out.old) (S.written out.new) }
@@ -158,6 +170,7 @@ fn finish<S: Sink>(out: &mut S, shown: Shown) -> u8
         Shown::Run(trace) => put_trace(out, trace),
         Shown::Ended(ending, end) => put_end(out, &ending, end),
         Shown::Watched(verdict) => put_watched(out, &verdict),
+        Shown::Lines(lines) => put_lines(out, &lines),
         Shown::Word(front, word) => put_word(out, &front, word),
     }
 }
@@ -197,6 +210,14 @@ fn carry_out<F: Files>(alloc: Global, words: &[String], files: &mut F) -> Result
             },
         ) => play_command(alloc, files, project, map, &words),
         Some(Command::Watch(words)) => watch_command(alloc, files, &words),
+        Some(
+            Command::Bounds {
+                project,
+                cart,
+                map,
+                text,
+            },
+        ) => bounds_command(alloc, files, project, cart, map, text),
         Some(Command::Check { project }) => check_command(alloc, files, project),
         Some(
             Command::Gen {
@@ -253,6 +274,9 @@ pub fn kit<F: Files, S: Sink>(alloc: Global, words: &[String], files: &mut F, ou
     // At 0 the outputs of a watch are what was built, and the line of its verdict was put, which tells exactly whether the source strays, or lacks room for
     // a frame, before the run is over.
     ensures watches { IfSome (F.held files.old) (λ m. result ≡ 0 → WatchStands (texts words.now) m (F.held files.new) (S.written out.old) (S.written out.new)) }
+    // At 0 the outputs of `bounds` stand, with the assembly text, and for each function of the map the line of its bound was put, within which its calls
+    // stay in each run of the cartridge, as far as the run does what the source means.
+    ensures bounded { IfSome (F.held files.old) (λ m. result ≡ 0 → BoundsStand (texts words.now) m (F.held files.new) (S.written out.old) (S.written out.new)) }
     // At any status each file that a command creates is as before or holds a front of its bytes, and every other file is as before.
     ensures fronts { IfSome (F.held files.old) (λ m. LeavesFronts (texts words.now) m (F.held files.new)) }
     // At 0 the files of a `gen` are the project and the source that are made up and what was built of them; its run is what that source means, and its
@@ -281,6 +305,8 @@ pub fn kit<F: Files, S: Sink>(alloc: Global, words: &[String], files: &mut F, ou
     ensures status { IsStatus result }
 {
     builds_are_due_or_refused();
+    built_cartridges_are_read_back();
+    calls_stay_within_bounds();
     played_runs_are_the_sources();
     kept_runs_are_the_sources();
     runs_are_of_instructions();

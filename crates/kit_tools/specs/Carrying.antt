@@ -43,6 +43,7 @@ text_of shown.Accepted = accepted.text
 text_of (shown.Run trace) = trace_text trace
 text_of (shown.Ended ending end) = end_text ending end
 text_of (shown.Watched verdict) = watch_line verdict
+text_of (shown.Lines lines) = lines.items
 text_of (shown.Word front word) = front.items ++ (word_digits word ++ 10 ∷ [])
 
 -- and the status that is answered then
@@ -52,6 +53,7 @@ shown_status shown.Accepted = 0
 shown_status (shown.Run trace) = 0
 shown_status (shown.Ended ending end) = end_status end
 shown_status (shown.Watched verdict) = 0
+shown_status (shown.Lines lines) = 0
 shown_status (shown.Word front word) = 0
 
 -- a whole command: its work was done but for its text, which is handed on, or its refusal came

@@ -4,8 +4,8 @@ use Rattle.std.specs.Prelude.{if◌then◌else◌, option_and_then, option_map}
 use Rattle.std.specs.List.{list_all}
 use Rattle.std.specs.Str.{bytes_eq}
 use Rattle.clap.proofs.WalkLemmas.{both}
-use Rattle.kit_words.specs.Forms.{Form, Builds, Checks, Converts, Runs, Plays, Watches, Traces, Generates, are_as_many, are_different, created_by, differs_from, form_named, is_word, number_in, read_in, source_name, with_card, words_of}
-use Rattle.kit_words.specs.Command.{Command, RunWords, WatchWords, Build, Play, Watch, Gen, command_of, command_with, form_of, form_with, is_number_if_there, made, tested}
+use Rattle.kit_words.specs.Forms.{Form, Builds, Checks, Converts, Runs, Plays, Watches, TellsBounds, Traces, Generates, are_as_many, are_different, created_by, differs_from, form_named, is_word, number_in, read_in, source_name, with_card, words_of}
+use Rattle.kit_words.specs.Command.{Command, RunWords, WatchWords, Build, Play, Watch, Bounds, Gen, command_of, command_with, form_of, form_with, is_number_if_there, made, tested}
 use Rattle.kit_words.specs.Created.{created_names, number_word, read_names, run_names}
 
 -- the table lists the files of the command, and its number
@@ -26,6 +26,7 @@ if_made (Converts conversion) (source ∷ target ∷ []) = record { created = re
 if_made Runs (cart ∷ pads ∷ frames ∷ samples ∷ count ∷ card ∷ []) = record { created = refl; read = refl; number = refl }
 if_made Plays (project ∷ cart ∷ map_name ∷ pads ∷ frames ∷ samples ∷ count ∷ card ∷ []) = record { created = refl; read = refl; number = refl }
 if_made Watches (project ∷ cart ∷ map_name ∷ pads ∷ count ∷ card ∷ []) = record { created = refl; read = refl; number = refl }
+if_made TellsBounds (project ∷ cart ∷ map_name ∷ text_name ∷ []) = record { created = refl; read = refl; number = refl }
 if_made Traces (cart ∷ answers ∷ card ∷ steps ∷ []) = record { created = refl; read = refl; number = refl }
 if_made Generates (number ∷ project ∷ cart ∷ map_name ∷ []) = record { created = refl; read = refl; number = refl }
 if_made form arguments = tt
@@ -119,6 +120,22 @@ build_differ words project cart map_name is =
 
 pub watch_differ : (words : List (List ℕ)) (watch : WatchWords) → command_of words ≡ Some (Watch watch) → bytes_eq watch.cart watch.map_name ≡ false
 watch_differ words watch is = differs_first watch.cart watch.map_name [] ((split watch.cart (watch.map_name ∷ []) (created_differ words _ is)).0)
+
+-- the files of `bounds`
+pub record AreThree (cart map_name text_name : List ℕ) : Type 0 where
+  pub cart_map : bytes_eq cart map_name ≡ false
+  pub cart_text : bytes_eq cart text_name ≡ false
+  pub map_text : bytes_eq map_name text_name ≡ false
+
+pub bounds_differ : (words : List (List ℕ)) (project cart map_name text_name : List ℕ) → command_of words ≡ Some (Bounds project cart map_name text_name) → AreThree cart map_name text_name
+bounds_differ words project cart map_name text_name is =
+    let a = split cart (map_name ∷ text_name ∷ []) (created_differ words _ is) in
+    let b = split map_name (text_name ∷ []) a.1 in
+    record {
+      cart_map = differs_first cart map_name (text_name ∷ []) a.0;
+      cart_text = differs_first cart text_name [] (differs_later cart map_name (text_name ∷ []) a.0);
+      map_text = differs_first map_name text_name [] b.0;
+    }
 
 -- the file is another one than the card's
 abbrev pub differ_from : List ℕ → Option (List ℕ) → Bool

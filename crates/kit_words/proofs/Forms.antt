@@ -10,7 +10,7 @@ use Rattle.clap.proofs.OnLiterals.{clap_on_literals}
 use Rattle.clap.specs.declared.error.kind.ErrorKind.{ErrorKind}
 use Rattle.clap.specs.declared.error.kind.ErrorKind.TheVariants as kind
 use Rattle.kit_words.specs.declared.conversion.Conversion.TheVariants.{Migrate, Assemble, Disassemble}
-use Rattle.kit_words.specs.Forms.{Form, Builds, Checks, Converts, Runs, Plays, Watches, Traces, Generates, are_as_many, created_by, form_named, forms, is_word, name_of, number_in, words_of}
+use Rattle.kit_words.specs.Forms.{Form, Builds, Checks, Converts, Runs, Plays, Watches, TellsBounds, Traces, Generates, are_as_many, created_by, form_named, forms, is_word, name_of, number_in, words_of}
 use Rattle.kit_words.specs.Command.{command_of, command_with, form_of, form_with, made, tested}
 use Rattle.kit_words.specs.CommandLine.{command_in, command_line, form_in, form_shape, given, given_to, ids_of}
 use Rattle.kit_words.proofs.Plain.{form_faults, form_faults_are, form_rows_are, is_flat, plain_faults, plain_walk}
@@ -136,6 +136,19 @@ pub watch_good : IsGood Watches
 unfolding form_named
 watch_good = record { known = record { named = refl; found = refl; flat = refl; listed = refl }; fits = watch_fits }
 
+bounds_fits : (words : List Text) → Fits TellsBounds words
+unfolding clap_on_literals plain_walk plain_faults
+bounds_fits [] = Other kind.MissingRequiredArgument refl refl
+bounds_fits (a ∷ []) = Other kind.MissingRequiredArgument refl refl
+bounds_fits (a ∷ b ∷ []) = Other kind.MissingRequiredArgument refl refl
+bounds_fits (a ∷ b ∷ c ∷ []) = Other kind.MissingRequiredArgument refl refl
+bounds_fits (a ∷ b ∷ c ∷ d ∷ []) = Exact refl refl
+bounds_fits (a ∷ b ∷ c ∷ d ∷ f ∷ rest) = Other kind.UnknownArgument refl refl
+
+pub bounds_good : IsGood TellsBounds
+unfolding form_named
+bounds_good = record { known = record { named = refl; found = refl; flat = refl; listed = refl }; fits = bounds_fits }
+
 trace_fits : (words : List Text) → Fits Traces words
 unfolding clap_on_literals plain_walk plain_faults
 trace_fits [] = Other kind.MissingRequiredArgument refl refl
@@ -202,4 +215,4 @@ Each P (form ∷ later) = P form × Each P later
 
 pub all_good : Each IsGood forms
 all_good =
-    (build_good, (check_good, (migrate_good, (assemble_good, (disassemble_good, (run_good, (play_good, (watch_good, (trace_good, (gen_good, tt))))))))))
+    (build_good, (check_good, (migrate_good, (assemble_good, (disassemble_good, (run_good, (play_good, (watch_good, (bounds_good, (trace_good, (gen_good, tt)))))))))))

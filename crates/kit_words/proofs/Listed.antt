@@ -2,7 +2,7 @@
 use Rattle.std.proofs.Common.{ℕ, ◌≡◌, List, [], ◌∷◌, Some, refl}
 use Rattle.std.specs.Prelude.{is_some}
 use Rattle.kit_words.specs.declared.conversion.Conversion.TheVariants.{Migrate, Assemble, Disassemble}
-use Rattle.kit_words.specs.Forms.{Form, Builds, Checks, Converts, Runs, Plays, Watches, Traces, Generates, are_as_many, form_named, name_of, words_of}
+use Rattle.kit_words.specs.Forms.{Form, Builds, Checks, Converts, Runs, Plays, Watches, TellsBounds, Traces, Generates, are_as_many, form_named, name_of, words_of}
 use Rattle.kit_words.specs.Command.{made}
 
 pub named_form : (form : Form) → form_named (name_of form) ≡ Some form
@@ -15,6 +15,7 @@ named_form (Converts Disassemble) = refl
 named_form Runs = refl
 named_form Plays = refl
 named_form Watches = refl
+named_form TellsBounds = refl
 named_form Traces = refl
 named_form Generates = refl
 
@@ -25,6 +26,7 @@ made_as_many (Converts conversion) (source ∷ target ∷ []) = refl
 made_as_many Runs (cart ∷ pads ∷ frames ∷ samples ∷ count ∷ card ∷ []) = refl
 made_as_many Plays (project ∷ cart ∷ map_name ∷ pads ∷ frames ∷ samples ∷ count ∷ card ∷ []) = refl
 made_as_many Watches (project ∷ cart ∷ map_name ∷ pads ∷ count ∷ card ∷ []) = refl
+made_as_many TellsBounds (project ∷ cart ∷ map_name ∷ text_name ∷ []) = refl
 made_as_many Traces (cart ∷ answers ∷ card ∷ steps ∷ []) = refl
 made_as_many Generates (number ∷ project ∷ cart ∷ map_name ∷ []) = refl
 made_as_many form arguments = refl

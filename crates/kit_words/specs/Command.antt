@@ -3,7 +3,7 @@ use Rattle.std.specs.Prelude.{ℕ, Bool, true, ◌&&◌, List, [], ◌∷◌, ma
 use Rattle.std.specs.List.{list_all}
 use Rattle.std.specs.declared.alloc.Global.{Global}
 use Rattle.kit_words.specs.declared.conversion.Conversion.{Conversion}
-use Rattle.kit_words.specs.Forms.{Form, Builds, Checks, Converts, Runs, Plays, Watches, Traces, Generates, are_as_many, are_different, card_of, created_by, form_named, is_number, is_word, number_in, words_of}
+use Rattle.kit_words.specs.Forms.{Form, Builds, Checks, Converts, Runs, Plays, Watches, TellsBounds, Traces, Generates, are_as_many, are_different, card_of, created_by, form_named, is_number, is_word, number_in, words_of}
 
 -- the words of a run; its card is `none` or a file's name
 pub record RunWords : Type 0 where
@@ -37,6 +37,8 @@ pub data Command : Type 0 where
   Play : (project map_name : List ℕ) → RunWords → Command
   -- `watch project cart map pads count card`: a project is built, its cartridge run, and its source followed on the answers of that run
   Watch : WatchWords → Command
+  -- `bounds project cart map text`: a project is built, its program's assembly text written too, and a bound told of each function
+  Bounds : (project cart map_name text_name : List ℕ) → Command
   -- `check project`
   Check : (project : List ℕ) → Command
   -- `gen number project cart map`: a project and a source are made up from the number, written, built and run
@@ -56,6 +58,7 @@ made Plays (project ∷ cart ∷ map_name ∷ pads ∷ frames ∷ samples ∷ co
     Some (Play project map_name (record { cart = cart; pads = pads; frames = frames; samples = samples; count = count; card = card_of card }))
 made Watches (project ∷ cart ∷ map_name ∷ pads ∷ count ∷ card ∷ []) =
     Some (Watch (record { project = project; cart = cart; map_name = map_name; pads = pads; count = count; card = card_of card }))
+made TellsBounds (project ∷ cart ∷ map_name ∷ text_name ∷ []) = Some (Bounds project cart map_name text_name)
 made Traces (cart ∷ answers ∷ card ∷ steps ∷ []) = Some (Trace cart answers (card_of card) steps)
 made Generates (number ∷ project ∷ cart ∷ map_name ∷ []) = Some (Gen number project cart map_name)
 made form arguments = None

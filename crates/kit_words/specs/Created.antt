@@ -1,7 +1,7 @@
 -- The files that a command creates, and those that it reads as far as its words tell.
 use Rattle.std.specs.Prelude.{ℕ, List, [], ◌∷◌, Option, Some, None}
 use Rattle.kit_words.specs.Forms.{source_name, with_card}
-use Rattle.kit_words.specs.Command.{Command, RunWords, Build, Convert, Trace, Run, Play, Watch, Check, Gen}
+use Rattle.kit_words.specs.Command.{Command, RunWords, Build, Convert, Trace, Run, Play, Watch, Bounds, Check, Gen}
 
 abbrev pub run_names : RunWords → List (List ℕ)
 run_names words = words.frames ∷ words.samples ∷ with_card words.card []
@@ -13,6 +13,7 @@ created_names (Trace cart answers card steps) = []
 created_names (Run words) = run_names words
 created_names (Play project map_name words) = words.cart ∷ map_name ∷ run_names words
 created_names (Watch words) = words.cart ∷ words.map_name ∷ []
+created_names (Bounds project cart map_name text_name) = cart ∷ map_name ∷ text_name ∷ []
 created_names (Check project) = []
 created_names (Gen number project cart map_name) = source_name ∷ project ∷ cart ∷ map_name ∷ []
 
@@ -23,6 +24,7 @@ read_names (Trace cart answers card steps) = cart ∷ answers ∷ with_card card
 read_names (Run words) = words.cart ∷ words.pads ∷ with_card words.card []
 read_names (Play project map_name words) = project ∷ words.pads ∷ with_card words.card []
 read_names (Watch words) = words.project ∷ words.pads ∷ with_card words.card []
+read_names (Bounds project cart map_name text_name) = project ∷ []
 read_names (Check project) = project ∷ []
 read_names (Gen number project cart map_name) = []
 

@@ -31,6 +31,7 @@ pub data Form : Type 0 where
   Runs : Form
   Plays : Form
   Watches : Form
+  TellsBounds : Form
   Traces : Form
   Generates : Form
 
@@ -57,6 +58,7 @@ name_of (Converts Disassemble) = codes "dis"
 name_of Runs = codes "run"
 name_of Plays = codes "play"
 name_of Watches = codes "watch"
+name_of TellsBounds = codes "bounds"
 name_of Traces = codes "trace"
 name_of Generates = codes "gen"
 
@@ -76,6 +78,8 @@ words_of Plays =
 words_of Watches =
     word (codes "project") Reads ∷ word (codes "cart") Creates ∷ word (codes "map") Creates ∷ word (codes "pads") Reads
     ∷ word (codes "count") watch_role ∷ word (codes "card") (Card false) ∷ []
+words_of TellsBounds =
+    word (codes "project") Reads ∷ word (codes "cart") Creates ∷ word (codes "map") Creates ∷ word (codes "text") Creates ∷ []
 words_of Traces =
     word (codes "cart") Reads ∷ word (codes "answers") Reads ∷ word (codes "card") (Card false) ∷ word (codes "steps") steps_role ∷ []
 words_of Generates =
@@ -92,7 +96,7 @@ own_names form = []
 
 abbrev pub forms : List Form
 forms =
-    Builds ∷ Checks ∷ Converts Migrate ∷ Converts Assemble ∷ Converts Disassemble ∷ Runs ∷ Plays ∷ Watches ∷ Traces ∷ Generates ∷ []
+    Builds ∷ Checks ∷ Converts Migrate ∷ Converts Assemble ∷ Converts Disassemble ∷ Runs ∷ Plays ∷ Watches ∷ TellsBounds ∷ Traces ∷ Generates ∷ []
 
 -- ---- what comes of it
 

@@ -4,7 +4,7 @@ use Rattle.kit_words.specs.declared.command.Command.TheVariants as parsed
 use Rattle.kit_words.specs.declared.command.Command as declared
 use Rattle.kit_words.specs.declared.command.RunWords as run
 use Rattle.kit_words.specs.declared.command.WatchWords as watch
-use Rattle.kit_words.specs.Command.{Command, RunWords, WatchWords, Build, Convert, Trace, Run, Play, Watch, Check, Gen}
+use Rattle.kit_words.specs.Command.{Command, RunWords, WatchWords, Build, Convert, Trace, Run, Play, Watch, Bounds, Check, Gen}
 
 abbrev pub run_words_from : run.RunWords → RunWords
 run_words_from words = record {
@@ -33,5 +33,6 @@ command_from (parsed.Trace cart answers card steps) = Trace cart.now answers.now
 command_from (parsed.Run words) = Run (run_words_from words)
 command_from (parsed.Play project map_name words) = Play project.now map_name.now (run_words_from words)
 command_from (parsed.Watch words) = Watch (watch_words_from words)
+command_from (parsed.Bounds project cart map text) = Bounds project.now cart.now map.now text.now
 command_from (parsed.Check project) = Check project.now
 command_from (parsed.Gen number project cart map) = Gen number.now project.now cart.now map.now

@@ -5,7 +5,7 @@ ghost use Rattle.std.specs.Str.{bytes_eq};
 ghost use Rattle.clap.specs.Words.{found_of, rows_of, subcommand_rows_of};
 ghost use Rattle.clap.specs.Walk.{first_of};
 ghost use Rattle.clap.specs.declared.error.kind.ErrorKind.TheVariants.{OutOfMemory};
-ghost use Rattle.kit_words.specs.Forms.{Builds, Checks, Converts, Generates, Plays, Runs, Traces, Watches, are_different, card_of, is_number, is_word, source_name};
+ghost use Rattle.kit_words.specs.Forms.{Builds, Checks, Converts, Generates, Plays, Runs, TellsBounds, Traces, Watches, are_different, card_of, is_number, is_word, source_name};
 ghost use Rattle.kit_words.specs.Command.{command_of, is_number_if_there, texts};
 ghost use Rattle.kit_words.specs.CommandLine.{checked, command_in, form_in, given_to, texts_of};
 ghost use Rattle.kit_words.specs.Created.{created_names, number_word, run_names};
@@ -66,6 +66,12 @@ pub enum Command<'a> {
         words: RunWords<'a>,
     },
     Watch(WatchWords<'a>),
+    Bounds {
+        project: &'a str,
+        cart: &'a str,
+        map: &'a str,
+        text: &'a str,
+    },
     Check {
         project: &'a str,
     },
@@ -124,6 +130,7 @@ fn has_number(command: &Command<'_>) -> bool
         Command::Run(words) => is_number(words.count),
         Command::Play { words, .. } => is_number(words.count),
         Command::Watch(words) => is_number(words.count),
+        Command::Bounds { .. } => true,
         Command::Check { .. } => true,
         Command::Gen { number, .. } => is_number(number),
     }
@@ -186,6 +193,12 @@ fn created_differ(command: &Command<'_>) -> bool
         Command::Run(words) => run_differs(&words),
         Command::Play { map, words, .. } => play_differs(map, &words),
         Command::Watch(words) => are_different(&[words.cart, words.map]),
+        Command::Bounds {
+            cart,
+            map,
+            text,
+            ..
+        } => are_different(&[cart, map, text]),
         Command::Check { .. } => are_different(&[]),
         Command::Gen {
             project,
@@ -318,6 +331,21 @@ fn watch_in<'a>(given: &ArgMatches<'a>) -> Option<Command<'a>>
     }))
 }
 
+fn bounds_in<'a>(given: &ArgMatches<'a>) -> Option<Command<'a>>
+    ensures { option_map command_from result ≡ given_to TellsBounds (rows_of (found_of given.now)) }
+{
+    let project = word_of(given, "project")?;
+    let cart = word_of(given, "cart")?;
+    let map = word_of(given, "map")?;
+    let text = word_of(given, "text")?;
+    checked(Command::Bounds {
+        project,
+        cart,
+        map,
+        text,
+    })
+}
+
 fn check_in<'a>(given: &ArgMatches<'a>) -> Option<Command<'a>>
     ensures { option_map command_from result ≡ given_to Checks (rows_of (found_of given.now)) }
 {
@@ -360,6 +388,8 @@ fn form_in<'a>(name: &str, given: &ArgMatches<'a>) -> Option<Command<'a>>
         play_in(given)
     } else if name == "watch" {
         watch_in(given)
+    } else if name == "bounds" {
+        bounds_in(given)
     } else if name == "trace" {
         trace_in(given)
     } else if name == "gen" {

@@ -90,6 +90,12 @@ pub fn command_line<'a>(alloc: Global) -> Result<Command<'a>, AllocError>
     let command = with_form(
         alloc,
         command,
+        "bounds",
+        &["project", "cart", "map", "text"],
+    )?;
+    let command = with_form(
+        alloc,
+        command,
         "trace",
         &["cart", "answers", "card", "steps"],
     )?;

@@ -1,5 +1,6 @@
 use Rattle.std.proofs.Common.{◌∙◌, ℕ, List, ap, length, subst, arith}
 use Rattle.std.specs.Prelude.{IfOk, Vec}
+use Rattle.std.proofs.lemmas.Result.{IfOk-weaker}
 use Rattle.std.specs.declared.alloc.Global.{Global}
 use Rattle.asset_pack.specs.Texts.{Image}
 use Rattle.c_check.specs.View.{program}
@@ -11,6 +12,7 @@ use Rattle.build_core.specs.Due.{assets}
 use Rattle.build_core.specs.Packing.{IsPackedFrom}
 use Rattle.build_core.specs.declared.building.Built.{Built}
 use Rattle.build_core.specs.Reached.{IsReadBeside}
+use Rattle.build_core.proofs.AsmTexts.{text_reads}
 use Rattle.build_core.proofs.Failing.{packed_fails, project_fails, sounds_fail, textures_fail}
 use Rattle.build_core.proofs.building.build_from.Goals as goal
 
@@ -78,6 +80,10 @@ returns-clause-told g c =
     c.as_slice.ensures c.as_slice-2.ensures c.in-Ok-read_assets.ensures.told c.in-Ok-read_assets.ensures.held c.in-Ok-read_assets-2.ensures.told
     (subst (λ tokens. IfOk c.packed.result (IsPackedFrom c.in-Ok.parts.title (image c.in-Ok-image_of.made) (assets c.in-Ok-read_assets.textures.items c.in-Ok-read_assets-2.sounds.items) tokens)) c.token_count-tokens.ensures c.packed.ensures.packed)
     c.packed.ensures.kinds
+
+pub returns-clause-asm : goal.returns-clause-asm
+returns-clause-asm g c =
+    IfOk-weaker c.packed.result _ _ (text_reads _ _ _ (image c.in-Ok-image_of.made) c.in-Ok-image_of.ensures.image _ _ _) c.packed.ensures.packed
 
 pub returns-clause-reached : goal.returns-clause-reached
 returns-clause-reached g c = packed_fails c.args.project.now (g.F.Reads.held c.args.files.now) _ c.packed.result c.packed.ensures.kinds

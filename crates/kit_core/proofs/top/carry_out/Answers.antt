@@ -1,10 +1,10 @@
 use Rattle.std.proofs.Common.{rules, ◌≡◌, refl}
 use Rattle.std.specs.Prelude.{Some, None}
 use Rattle.std.specs.Option.{option_map}
-use Rattle.kit_words.specs.Command.{Build, Check, Convert, Gen, Play, Run, Trace, Watch, command_of, texts}
+use Rattle.kit_words.specs.Command.{Bounds, Build, Check, Convert, Gen, Play, Run, Trace, Watch, command_of, texts}
 use Rattle.kit_words.specs.Parsed.{run_words_from, watch_words_from}
 use Rattle.kit_core.proofs.Behind.{no_form, plainly}
-use Rattle.kit_core.proofs.Over.{build_over, check_over, convert_over, gen_over, not_none, play_over, run_over, trace_over, watch_over}
+use Rattle.kit_core.proofs.Over.{bounds_over, build_over, check_over, convert_over, gen_over, not_none, play_over, run_over, trace_over, watch_over}
 use Rattle.kit_core.proofs.top.carry_out.Goals as goal
 
 pub returns-in-None-clause-told : goal.returns-in-None-clause-told
@@ -125,3 +125,18 @@ pub returns-in-Some-Gen-clause-causes : goal.returns-in-Some-Gen-clause-causes
 returns-in-Some-Gen-clause-causes g c =
     let is : command_of (texts c.args.words.now) ≡ Some (Gen c.in-Some-Gen.number.now c.in-Some-Gen.project.now c.in-Some-Gen.cart.now c.in-Some-Gen.map.now) = search rules in
     gen_over (texts c.args.words.now) (g.F.Reads.held c.args.files.now) c.gen_command.result _ _ _ _ _ _ is c.gen_command.ensures.causes
+
+pub returns-in-Some-Bounds-clause-told : goal.returns-in-Some-Bounds-clause-told
+returns-in-Some-Bounds-clause-told g c =
+    let is : command_of (texts c.args.words.now) ≡ Some (Bounds c.in-Some-Bounds.project.now c.in-Some-Bounds.cart.now c.in-Some-Bounds.map.now c.in-Some-Bounds.text.now) = search rules in
+    plainly _ _ is c.bounds_command.result (g.F.Reads.held c.args.files.now) (g.F.Reads.held c.bounds_command.new.files) refl c.bounds_command.ensures.told
+
+pub returns-in-Some-Bounds-clause-usage : goal.returns-in-Some-Bounds-clause-usage
+returns-in-Some-Bounds-clause-usage g c =
+    let is : command_of (texts c.args.words.now) ≡ Some (Bounds c.in-Some-Bounds.project.now c.in-Some-Bounds.cart.now c.in-Some-Bounds.map.now c.in-Some-Bounds.text.now) = search rules in
+    λ none. not_none (texts c.args.words.now) _ c.bounds_command.result is none
+
+pub returns-in-Some-Bounds-clause-causes : goal.returns-in-Some-Bounds-clause-causes
+returns-in-Some-Bounds-clause-causes g c =
+    let is : command_of (texts c.args.words.now) ≡ Some (Bounds c.in-Some-Bounds.project.now c.in-Some-Bounds.cart.now c.in-Some-Bounds.map.now c.in-Some-Bounds.text.now) = search rules in
+    bounds_over (texts c.args.words.now) (g.F.Reads.held c.args.files.now) c.bounds_command.result _ _ _ _ _ _ is c.bounds_command.ensures.causes

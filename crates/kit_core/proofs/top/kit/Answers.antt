@@ -7,6 +7,7 @@ use Rattle.kit_core.proofs.Holdings.{hold_told}
 use Rattle.kit_core.proofs.Leaving.{fronts_told}
 use Rattle.kit_core.proofs.Generates.{gen_told}
 use Rattle.kit_core.proofs.WatchedRuns.{watch_told}
+use Rattle.kit_core.proofs.Bounds.{bounds_told}
 use Rattle.kit_core.proofs.Ends.{complete_told, untouched_told}
 use Rattle.kit_core.proofs.top.kit.Goals as goal
 
@@ -41,6 +42,11 @@ pub returns-clause-watches : goal.returns-clause-watches
 returns-clause-watches g c =
     watch_told c.runs_are_of_instructions.ensures.runs c.kept_runs_are_the_sources.ensures.decides c.kept_runs_are_the_sources.ensures.follows c.kept_runs_are_the_sources.ensures.whole
     (texts c.args.words.now) c.status_for.result (g.F.Reads.held c.args.files.now) (g.F.Reads.held c.status_for.new.files)
+    (g.S.Sink.written c.args.out.now) (g.S.Sink.written c.status_for.new.out) c.status_for.ensures.told
+
+pub returns-clause-bounded : goal.returns-clause-bounded
+returns-clause-bounded g c =
+    bounds_told c.calls_stay_within_bounds.ensures c.built_cartridges_are_read_back.ensures.read (texts c.args.words.now) c.status_for.result (g.F.Reads.held c.args.files.now) (g.F.Reads.held c.status_for.new.files)
     (g.S.Sink.written c.args.out.now) (g.S.Sink.written c.status_for.new.out) c.status_for.ensures.told
 
 pub returns-clause-fronts : goal.returns-clause-fronts

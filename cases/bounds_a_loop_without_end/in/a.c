@@ -1,0 +1,1 @@
+void main() { while (true) wait_frame(); }

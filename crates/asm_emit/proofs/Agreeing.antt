@@ -19,7 +19,7 @@ use Rattle.mid_code.specs.Invariants.{AllOf, AreNodes, DifferFrom, AreDifferent,
 use Rattle.mid_code.specs.Runs.{placed_runs}
 use Rattle.mid_code.specs.Agrees.{AgreesWithin}
 use Rattle.asm_laws.specs.Operations.{Frame, Whole, start_frame, opening_items, literals_items}
-use Rattle.asm_laws.specs.Emitted.{labels, labels_of, code_items, functions_items, call_item, closing_items, start_items, program_items}
+use Rattle.asm_laws.specs.inner.Emitted.{labels, labels_of, code_items, functions_items, call_item, closing_items, start_items, program_items}
 use Rattle.asm_laws.specs.Standing.{Stand}
 use Rattle.asm_laws.specs.Holds.{Setting}
 use Rattle.asm_laws.specs.Linked.{setting}

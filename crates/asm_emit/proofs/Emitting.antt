@@ -7,12 +7,12 @@ use Rattle.asm_items.specs.declared.item.AsmItem.{AsmItem}
 use Rattle.mid_code.specs.Placed.{PlacedT}
 use Rattle.mid_code.specs.Invariants.{IsPlaced}
 use Rattle.asm_laws.specs.Tables.{addresses}
-use Rattle.asm_laws.specs.Emitted.{program_items, labels_of}
-use Rattle.asm_emit.specs.Words.{AreWords, TextsAreWords}
+use Rattle.asm_laws.specs.inner.Emitted.{program_items, labels_of}
+use Rattle.asm_emit.specs.inner.Words.{AreWords, TextsAreWords}
 use Rattle.asm_emit.specs.EmittedFrom.{CanBeEmitted, IsEmitted}
 use Rattle.asm_laws.proofs.Sizes.{program_few, few_texts, few_functions}
 use Rattle.asm_emit.proofs.Promised.{is_emitted}
-use Rattle.asm_emit.specs.View.{whole_of_parts, wrapped_addresses}
+use Rattle.asm_emit.specs.inner.View.{whole_of_parts, wrapped_addresses}
 
 -- where the sum is a word, none wraps
 pub addresses_same : (ns : List ℕ) (p : ℕ) → p + sum ns < 0x100000000 → wrapped_addresses p ns ≡ addresses p ns

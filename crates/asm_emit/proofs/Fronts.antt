@@ -7,7 +7,7 @@ use Rattle.mid_code.specs.declared.node.Op.TheVariants as op
 use Rattle.mid_code.specs.Code.{OpT, ConstO, NullO, MoveO, OneO, TwoO, GlobalO, LocalO, LiteralO, CardO, StepO, ApartO, PtrTestO, LoadO, StoreO, FreshO, EndO, InO, OutO, WaitO, HaltO, NodesT, Stop, Do, Call}
 use Rattle.mid_code.specs.Functions.{op_before}
 use Rattle.asm_laws.specs.Operations.{Whole, word_put, in_one}
-use Rattle.asm_emit.specs.Listed.{front_put, front_summed, ahead_items, ahead_more, is_call, front_items, front_more, labels_due}
+use Rattle.asm_emit.specs.inner.Listed.{front_put, front_summed, ahead_items, ahead_more, is_call, front_items, front_more, labels_due}
 
 pub none_due : (k : Option ℕ) → labels_due k 0 ≡ 0
 none_due None = refl

@@ -21,10 +21,10 @@ use Rattle.asm_laws.specs.Names.{function_label}
 use Rattle.asm_laws.specs.Labelled.{label_of_function}
 use Rattle.asm_laws.specs.Operations.{Whole, literal_items, literals_items}
 use Rattle.asm_laws.specs.Framing.{frame_made, frame_gone}
-use Rattle.asm_laws.specs.Emitted.{labels, functions_labels, mark, code_items, exit_items, own_items, function_items, functions_items, start_items, program_items}
+use Rattle.asm_laws.specs.inner.Emitted.{labels, functions_labels, mark, code_items, exit_items, own_items, function_items, functions_items, start_items, program_items}
 use Rattle.asm_laws.specs.Tables.{addresses, whole_of}
 use Rattle.asm_reader.specs.Readable.{AreReadable}
-use Rattle.asm_emit.specs.Words.{AreWords, TextsAreWords}
+use Rattle.asm_emit.specs.inner.Words.{AreWords, TextsAreWords}
 use Rattle.asm_emit.specs.EmittedFrom.{CanBeEmitted, HasInstruction, AreData, IsCalled, AreItemsOf, AreFunctions, IsEmitted}
 use Rattle.asm_laws.proofs.Sizes.{program_size}
 use Rattle.asm_laws.proofs.Known.{no_fault}

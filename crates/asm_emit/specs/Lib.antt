@@ -1,4 +1,2 @@
 pub mod EmittedFrom
-pub mod View
-pub mod Listed
-pub mod Words
+pub mod inner

@@ -3,8 +3,8 @@ ghost use Rattle.std.specs.Prelude.{◌≡◌, ◌++◌, OnOk, IfOk, Some, map, 
 ghost use Rattle.mid_code.specs.Code.{Stop};
 ghost use Rattle.mid_code.specs.Functions.{op_before, node, before, nodes};
 ghost use Rattle.asm_laws.specs.Operations.{turned, other_word, first_word, sum_of, loads_there, unturned, copied, with_sum, before_it};
-ghost use Rattle.asm_emit.specs.Listed.{front_put, front_summed, ahead_items, ahead_more, is_call, front_items, front_more, labels_due, node_labels};
-ghost use Rattle.asm_emit.specs.View.{whole};
+ghost use Rattle.asm_emit.specs.inner.Listed.{front_put, front_summed, ahead_items, ahead_more, is_call, front_items, front_more, labels_due, node_labels};
+ghost use Rattle.asm_emit.specs.inner.View.{whole};
 
 use crate::hands::{is_in, op, register};
 use crate::pieces::turned;

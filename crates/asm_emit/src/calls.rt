@@ -1,7 +1,7 @@
 // Calls.
 ghost use Rattle.std.specs.Prelude.{◌≡◌, ◌++◌, ◌∷◌, [], OnOk, IfOk};
 ghost use Rattle.asm_laws.specs.Operations.{slot_arg, slot_args, pushed_arg, pushed_args, popped_arg, popped_args, args_items, call_items};
-ghost use Rattle.asm_emit.specs.View.{frame, whole};
+ghost use Rattle.asm_emit.specs.inner.View.{frame, whole};
 
 use crate::hands::{brings, hand, keeps_some, op, register};
 use crate::names::function_label;

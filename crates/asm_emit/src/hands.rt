@@ -2,7 +2,7 @@
 ghost use Rattle.std.specs.Prelude.{◌≡◌, ◌++◌, ◌∷◌, ◌<◌, [], OnOk};
 ghost use Rattle.asm_items.specs.declared.item.AsmItem.TheVariants as item;
 ghost use Rattle.asm_laws.specs.Operations.{register, fetch, keep, fetches, keeps, keeps_some, is_in, hand, brings, takes, aim, lays};
-ghost use Rattle.asm_emit.specs.View.{frame};
+ghost use Rattle.asm_emit.specs.inner.View.{frame};
 
 use crate::scope::{Scope, slot_word};
 use asm_items::{AsmItem, Imm};

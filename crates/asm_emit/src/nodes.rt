@@ -3,9 +3,9 @@ ghost use Rattle.std.specs.Prelude.{◌≡◌, ◌+◌, ◌-◌, ◌<◌, ◌^�
 ghost use Rattle.kit_base.specs.Word.{add};
 ghost use Rattle.mid_code.specs.Functions.{node, nodes, listed, BlockN};
 ghost use Rattle.asm_laws.specs.Operations.{giving, hand, brings};
-ghost use Rattle.asm_laws.specs.Emitted.{labels, enclosing, jump, jump_unless, jump_when, mark, first_part, second_part, one_way, alone, returning, code_items};
-ghost use Rattle.asm_emit.specs.Listed.{left_in, ends_in, node_labels, list_labels, node_items, list_past};
-ghost use Rattle.asm_emit.specs.View.{frame, whole};
+ghost use Rattle.asm_laws.specs.inner.Emitted.{labels, enclosing, jump, jump_unless, jump_when, mark, first_part, second_part, one_way, alone, returning, code_items};
+ghost use Rattle.asm_emit.specs.inner.Listed.{left_in, ends_in, node_labels, list_labels, node_items, list_past};
+ghost use Rattle.asm_emit.specs.inner.View.{frame, whole};
 
 use crate::ahead::{behind, put_ahead};
 use crate::hands::{brings, fetches, hand, op};

@@ -1,7 +1,7 @@
 // Operations.
 ghost use Rattle.std.specs.Prelude.{◌≡◌, ◌++◌, ◌∷◌, [], OnOk, IfOk};
-ghost use Rattle.asm_emit.specs.Listed.{do_items};
-ghost use Rattle.asm_emit.specs.View.{frame, whole};
+ghost use Rattle.asm_emit.specs.inner.Listed.{do_items};
+ghost use Rattle.asm_emit.specs.inner.View.{frame, whole};
 
 use crate::calls::put_call;
 use crate::hands::{aim, brings, hand, lays, op};

@@ -1,7 +1,7 @@
 // Pieces of which the operations are made.
 ghost use Rattle.std.specs.Prelude.{◌≡◌, ◌++◌, ◌∷◌, [], OnOk};
 ghost use Rattle.asm_laws.specs.Operations.{port, sets, moves, changes, is_direct, in_place, apart, turned, is_turned, turned_or_apart, computes};
-ghost use Rattle.asm_emit.specs.View.{frame};
+ghost use Rattle.asm_emit.specs.inner.View.{frame};
 
 use crate::hands::{
     aim, brings, fetch, fetches, hand, is_in, keep, keeps, lays, op, register, takes,

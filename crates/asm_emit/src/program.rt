@@ -6,9 +6,9 @@ ghost use Rattle.mid_code.specs.View.{code, spots};
 ghost use Rattle.mid_code.specs.Whole.{placed};
 ghost use Rattle.asm_laws.specs.Operations.{literal_items, literals_items};
 ghost use Rattle.asm_laws.specs.Framing.{frame_made, frame_gone};
-ghost use Rattle.asm_laws.specs.Emitted.{labels, labels_of, functions_labels, entry_items, exit_items, function_items, functions_items, start_items, closing_items, program_items};
+ghost use Rattle.asm_laws.specs.inner.Emitted.{labels, labels_of, functions_labels, entry_items, exit_items, function_items, functions_items, start_items, closing_items, program_items};
 ghost use Rattle.asm_emit.specs.EmittedFrom.{CanBeEmitted, IsEmitted};
-ghost use Rattle.asm_emit.specs.View.{frame, whole, whole_of_parts, wrapped_addresses};
+ghost use Rattle.asm_emit.specs.inner.View.{frame, whole, whole_of_parts, wrapped_addresses};
 
 use crate::hands::op;
 use crate::names::{function_label, literal_label};

@@ -5,7 +5,7 @@ ghost use Rattle.asm_laws.specs.Operations.{word_at, slot_word, local_word};
 ghost use Rattle.mid_code.specs.Functions.{function};
 ghost use Rattle.mid_code.specs.View.{spots};
 ghost use Rattle.mid_code.specs.States.{no_function};
-ghost use Rattle.asm_emit.specs.View.{frame, no_spots, whole};
+ghost use Rattle.asm_emit.specs.inner.View.{frame, no_spots, whole};
 
 use kit_base::Name;
 use mid_code::{Function, Spots, Where};

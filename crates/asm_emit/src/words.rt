@@ -1,6 +1,6 @@
 // Numbers and bytes in memory are words.
 ghost use Rattle.mid_code.specs.Invariants.{AllOf};
-ghost use Rattle.asm_emit.specs.Words.{IsWord, AreWords, TextsAreWords};
+ghost use Rattle.asm_emit.specs.inner.Words.{IsWord, AreWords, TextsAreWords};
 
 use kit_base::Name;
 

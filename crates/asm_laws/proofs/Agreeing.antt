@@ -27,8 +27,8 @@ use Rattle.mid_code.specs.States.{State, spent, registers_and_slots}
 use Rattle.mid_code.specs.Runs.{Final, final, opening, start_done, main_done, main_called, final_of, run_of}
 use Rattle.mid_code.specs.Keeps.{global_cell}
 use Rattle.mid_code.specs.Agrees.{KeepsWords, Matches}
-use Rattle.asm_laws.specs.Following.{Begin, begin, Came, Stopped, Going, Sim, CallSim}
-use Rattle.asm_laws.specs.Following as follow
+use Rattle.asm_laws.specs.inner.Following.{Begin, begin, Came, Stopped, Going, Sim, CallSim}
+use Rattle.asm_laws.specs.inner.Following as follow
 use Rattle.asm_laws.proofs.Control.{still, entered_sim}
 use Rattle.asm_laws.specs.Addresses.{Addr, Held}
 use Rattle.asm_laws.proofs.Stepping.{line_effect, line_turn, moved, readable_word}

@@ -10,7 +10,7 @@ use Rattle.mid_code.specs.States.{registers_and_slots, received}
 use Rattle.mid_code.specs.Invariants.{AllOf, DifferFrom, AreDifferent, in_registers}
 use Rattle.asm_laws.specs.Operations.{Frame}
 use Rattle.asm_laws.specs.Addresses.{Addr, word_of, store}
-use Rattle.asm_laws.specs.Links.{new_slot, all_passed, push, all_pushed, all_popped}
+use Rattle.asm_laws.specs.inner.Links.{new_slot, all_passed, push, all_pushed, all_popped}
 use Rattle.asm_laws.proofs.Stepping.{same_or_not, written_same, written_other}
 use Rattle.asm_laws.specs.Holds.{Setting, sizes, slot_offset, Named, Fits, Ctx, Stands, HoldsAt}
 use Rattle.asm_laws.proofs.First.{word_stands}

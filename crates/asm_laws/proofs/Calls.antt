@@ -26,11 +26,11 @@ use Rattle.mid_code.specs.Invariants.{AllOf, in_registers}
 use Rattle.asm_laws.specs.Names.{function_label}
 use Rattle.asm_laws.specs.Operations.{Frame, args_items, keeps_some}
 use Rattle.asm_laws.specs.Placing.{Line}
-use Rattle.asm_laws.specs.Following.{begin, spare, CameBy, Enters, CallSim}
+use Rattle.asm_laws.specs.inner.Following.{begin, spare, CameBy, Enters, CallSim}
 use Rattle.asm_laws.specs.Standing.{Stand}
 use Rattle.asm_laws.specs.Addresses.{Addr, Console, store, put, Good, Held, ArrivesBy}
 use Rattle.asm_laws.specs.Framing.{frame_gone}
-use Rattle.asm_laws.specs.Links.{all_passed, all_pushed, all_popped, new_slot, called, way_back, gone_back}
+use Rattle.asm_laws.specs.inner.Links.{all_passed, all_pushed, all_popped, new_slot, called, way_back, gone_back}
 use Rattle.asm_laws.proofs.Stepping.{line_effect, line_turn, reg_other, moved, keeps_so, written_same, written_other}
 use Rattle.asm_laws.proofs.LinksStep.{link_bare, link_framed, framed_link, link_range, Roomy, calls, part, top_held, base_held, copy_act, popbase_act, ret_act, returns_by, link_at, passed_same}
 use Rattle.asm_laws.proofs.LinksStep as emitted_calls

@@ -10,7 +10,7 @@ use Rattle.mid_code.specs.Code.{NodesT, Stop, Do, Call, Choose, Block, Loop, Lea
 use Rattle.mid_code.specs.Invariants.{AreNodes}
 use Rattle.asm_laws.specs.Names.{jump_label}
 use Rattle.asm_laws.specs.Operations.{Frame, hand, brings, giving, in_one, one_or_more, more_of, call_items}
-use Rattle.asm_laws.specs.Emitted.{labels, enclosing, jump, jump_unless, mark, jump_when, choice, first_part, second_part, left_to, alone, ends, is_stop, enclosed, returning, items_past, code_items}
+use Rattle.asm_laws.specs.inner.Emitted.{labels, enclosing, jump, jump_unless, mark, jump_when, choice, first_part, second_part, left_to, alone, ends, is_stop, enclosed, returning, items_past, code_items}
 use Rattle.asm_laws.specs.Placing.{Line, Bounds, end_of, begin_of, Jumps, Passes, Past, At}
 use Rattle.asm_laws.specs.Standing.{Stand}
 use Rattle.asm_laws.specs.Holds.{Setting}

@@ -10,7 +10,7 @@ use Rattle.mid_code.specs.declared.placed.Where.{Where}
 use Rattle.mid_code.specs.Code.{NodesT, Stop, Do, Call, Choose, Block, Loop, Leave, Again, Return}
 use Rattle.mid_code.specs.Meaning.{Did, On, Ends, Res, Next, Leaves, Repeats, Returns, Over, Lang, node_weight, call_weight, then_next, did, block_done, turn_done, choose, call_done, called, does, below, runs}
 use Rattle.asm_laws.specs.Placing.{Shapes, Bounds, end_of, begin_of, Jumps, Passes, Past, At}
-use Rattle.asm_laws.specs.Following.{Holder, Begin, begin, spare, CameBy, Came, Stopped, Going, Final, Sim, DidSim, Enters, CallSim, TestSim, did_then, front_acts, Parts}
+use Rattle.asm_laws.specs.inner.Following.{Holder, Begin, begin, spare, CameBy, Came, Stopped, Going, Final, Sim, DidSim, Enters, CallSim, TestSim, did_then, front_acts, Parts}
 
 module _ (L : Lang Where) (X : Holder L) where
   came_by : (is js ks : List Link) (m : State) (b : Begin) (t u : L.S) (pc q i j k x : ℕ) (R Q : State → Type 0) → (f : CameBy is js X m b t pc i 0 R) → (g : CameBy js ks X f.to (begin X t) u q j x Q) → k ≤ i + j → CameBy is ks X m b u q k x Q

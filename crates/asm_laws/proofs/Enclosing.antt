@@ -1,7 +1,7 @@
 -- The labels of enclosing blocks and loops.
 use Rattle.std.proofs.Common.{◌≡◌, ℕ, zero, suc, ◌-◌, ◌<◌, List, [], ◌∷◌, ◌++◌, length, refl, ap, ◌∙◌, arith, length-append}
 use Rattle.std.specs.Prelude.{get_or}
-use Rattle.asm_laws.specs.Emitted.{enclosing}
+use Rattle.asm_laws.specs.inner.Emitted.{enclosing}
 
 get_first : (ls : List ℕ) (n k : ℕ) → k < length ls → get_or (ls ++ n ∷ []) k 0 ≡ get_or ls k 0
 get_first [] n k lt = absurd (omega arith)

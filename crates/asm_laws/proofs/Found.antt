@@ -8,7 +8,7 @@ use Rattle.mid_code.specs.States.{no_function}
 use Rattle.asm_laws.specs.Names.{jump_label, function_label}
 use Rattle.asm_laws.specs.Operations.{Whole}
 use Rattle.asm_laws.specs.Framing.{frame_made, frame_gone}
-use Rattle.asm_laws.specs.Emitted.{labels, functions_labels, code_items, entry_items, exit_items, function_items, functions_items}
+use Rattle.asm_laws.specs.inner.Emitted.{labels, functions_labels, code_items, entry_items, exit_items, function_items, functions_items}
 use Rattle.asm_laws.specs.Standing.{Stand}
 use Rattle.asm_laws.proofs.Split.{split}
 

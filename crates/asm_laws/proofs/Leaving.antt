@@ -3,7 +3,7 @@ use Rattle.std.proofs.Common.{◌≡◌, ℕ, List, Option, Some, refl}
 use Rattle.kit_base.specs.Word.{add}
 use Rattle.mid_code.specs.declared.placed.Where.{Where}
 use Rattle.mid_code.specs.Code.{NodesT, Stop, Leave}
-use Rattle.asm_laws.specs.Emitted.{enclosing, left_to}
+use Rattle.asm_laws.specs.inner.Emitted.{enclosing, left_to}
 
 got : Option ℕ → ℕ
 got (Some l) = l

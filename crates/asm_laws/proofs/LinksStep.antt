@@ -32,7 +32,7 @@ use Rattle.asm_laws.specs.Placing.{Line}
 use Rattle.asm_laws.specs.Standing.{Stand}
 use Rattle.asm_laws.specs.Addresses.{Addr, Console, word_of, store, Room, Good, Held, ArrivesBy, Arrives}
 use Rattle.asm_laws.specs.Framing.{frame_made, link_words}
-use Rattle.asm_laws.specs.Links.{new_slot, passed, all_passed, push, pushed, all_pushed, popped, all_popped, entered, slot_steps, called}
+use Rattle.asm_laws.specs.inner.Links.{new_slot, passed, all_passed, push, pushed, all_pushed, popped, all_popped, entered, slot_steps, called}
 use Rattle.asm_laws.proofs.Stepping.{readable_word, ram_readable, ram_writable, writes_at, line_effect, line_turn, reg_same, reg_other, moved, kept, stores, reg_number}
 use Rattle.asm_laws.proofs.Hands.{held_alike, hand_fits, brings_at}
 

@@ -31,7 +31,7 @@ use Rattle.mid_code.specs.Meaning.{Did, On, Ends, node_weight}
 use Rattle.mid_code.specs.States.{State, spent, op_weight, word_tested, registers_and_slots, acted}
 use Rattle.asm_laws.specs.Operations.{Frame, register, hand, turned, word_put, first_word, summed, loads_there, unturned, copied, with_copy, with_sum, with_word, in_one, one_or_more, more_of}
 use Rattle.asm_laws.specs.Placing.{Line, Jumps, Passes}
-use Rattle.asm_laws.specs.Following.{Begin, begin, spare, Came, Stopped, DidSim, TestSim, did_then, front_acts}
+use Rattle.asm_laws.specs.inner.Following.{Begin, begin, spare, Came, Stopped, DidSim, TestSim, did_then, front_acts}
 use Rattle.asm_laws.specs.Standing.{Stand}
 use Rattle.asm_laws.specs.Tests.{Tests}
 use Rattle.asm_laws.specs.Addresses.{Addr, Does, Console, word_of, GoodOp, Held, Follows, does}

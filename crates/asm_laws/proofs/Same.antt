@@ -11,7 +11,7 @@ use Rattle.mid_code.specs.Code.{OpT, ConstO, NullO, MoveO, OneO, TwoO, GlobalO, 
 use Rattle.mid_code.specs.Invariants.{AreNodes, AllOf}
 use Rattle.asm_laws.specs.Names.{function_label}
 use Rattle.asm_laws.specs.Operations.{Frame, Whole, op_items, word_put, with_word, in_one, one_or_more, more_of, call_items, args_items, keeps_some, start_frame, opening_items, literals_items}
-use Rattle.asm_laws.specs.Emitted.{labels, enclosing, jump, choice, alone, left_to, ends, is_stop, enclosed, returning, items_past, code_items, function_items, functions_items, call_item, exit_items, closing_items, program_items}
+use Rattle.asm_laws.specs.inner.Emitted.{labels, enclosing, jump, choice, alone, left_to, ends, is_stop, enclosed, returning, items_past, code_items, function_items, functions_items, call_item, exit_items, closing_items, program_items}
 use Rattle.asm_laws.specs.Framing.{frame_made}
 use Rattle.asm_laws.proofs.Known.{function_there}
 

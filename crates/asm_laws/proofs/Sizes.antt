@@ -27,7 +27,7 @@ use Rattle.kit_base.specs.Word.{add, sub}
 use Rattle.asm_laws.specs.Operations as operations
 use Rattle.asm_laws.specs.Operations.{Frame, Whole, register, slot_word, local_word, fetches, keeps, keeps_some, is_in, hand, brings, takes, aim, lays, moves, changes, is_direct, in_place, apart, turned, is_turned, turned_or_apart, computes, slot_arg, slot_args, pushed_arg, pushed_args, popped_arg, popped_args, args_items, call_items, op_items, in_one, one_or_more, more_of, giving, start_frame, opening_items, literal_items, literals_items}
 use Rattle.asm_laws.specs.Framing.{frame_made, frame_gone}
-use Rattle.asm_laws.specs.Emitted.{labels, enclosing, jump, jump_unless, mark, choice, one_way, alone, left_to, ends, jump_when, is_stop, enclosed, returning, items_past, code_items, entry_items, exit_items, function_items, functions_items, functions_labels, call_item, closing_items, start_items, program_items, labels_of}
+use Rattle.asm_laws.specs.inner.Emitted.{labels, enclosing, jump, jump_unless, mark, choice, one_way, alone, left_to, ends, jump_when, is_stop, enclosed, returning, items_past, code_items, entry_items, exit_items, function_items, functions_items, functions_labels, call_item, closing_items, start_items, program_items, labels_of}
 use Rattle.asm_laws.proofs.InOne.{one_or_more_is}
 use Rattle.asm_laws.proofs.Walked.{total_append, total_one, total_none, total_more}
 

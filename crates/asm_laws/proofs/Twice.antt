@@ -9,7 +9,7 @@ use Rattle.assembler.specs.Faults.{twice_from}
 use Rattle.mid_code.specs.declared.placed.Where.{Where}
 use Rattle.mid_code.specs.Code.{CodeT}
 use Rattle.asm_laws.specs.Operations.{Whole}
-use Rattle.asm_laws.specs.Emitted.{program_items, labels_of}
+use Rattle.asm_laws.specs.inner.Emitted.{program_items, labels_of}
 use Rattle.asm_laws.proofs.LabelKinds.{Differ}
 use Rattle.asm_laws.proofs.Marks.{Names, Distinct, program_marks}
 

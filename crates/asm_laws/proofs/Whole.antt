@@ -6,7 +6,7 @@ use Rattle.mid_code.specs.Code.{NodesT}
 use Rattle.mid_code.specs.Meaning.{runs, call_weight}
 use Rattle.mid_code.specs.States.{State}
 use Rattle.asm_laws.specs.Placing.{Bounds, At}
-use Rattle.asm_laws.specs.Following.{Parts, Sim, begin}
+use Rattle.asm_laws.specs.inner.Following.{Parts, Sim, begin}
 use Rattle.asm_laws.proofs.Control as control
 use Rattle.asm_laws.specs.Holds.{Setting, Fits, Ctx}
 use Rattle.asm_laws.specs.Calling.{Callable, Mach, lang, holder, shapes, FunctionAt}

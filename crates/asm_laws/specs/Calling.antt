@@ -8,7 +8,7 @@ use Rattle.mid_code.specs.Meaning.{Lang}
 use Rattle.mid_code.specs.States.{State, registers_and_slots, function_at, over_worlds}
 use Rattle.mid_code.specs.Invariants.{AllOf, AreDifferent, in_registers}
 use Rattle.asm_laws.specs.Placing.{Shapes, Passes, At}
-use Rattle.asm_laws.specs.Following.{Holder}
+use Rattle.asm_laws.specs.inner.Following.{Holder}
 use Rattle.asm_laws.specs.Names.{function_label}
 use Rattle.asm_laws.specs.Operations.{in_one, one_or_more, more_of, call_items, giving}
 use Rattle.asm_laws.specs.Standing.{Stand}

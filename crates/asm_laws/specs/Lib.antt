@@ -5,8 +5,6 @@ pub mod Placing
 pub mod Standing
 pub mod Tests
 pub mod Addresses
-pub mod Links
-pub mod Following
 pub mod Holds
 pub mod Acting
 pub mod Calling
@@ -15,7 +13,7 @@ pub mod Laid
 pub mod Program
 pub mod Tables
 pub mod PlacedAt
-pub mod Emitted
 pub mod Labelled
 pub mod Numbers
 pub mod Longest
+pub mod inner

@@ -12,7 +12,7 @@ use Rattle.assembler.specs.Labels.{address_of, address_in, has_label}
 use Rattle.assembler.specs.Placed.{item_size, label_at, labels_from, Placed}
 use Rattle.assembler.specs.Sizes.{total_size}
 use Rattle.assembler.specs.Faults.{label_in, with_name, twice_from, fault_of}
-use Rattle.assembler.specs.Survey.{with_item, has_item, names_of}
+use Rattle.assembler.specs.inner.Survey.{with_item, has_item, names_of}
 use Rattle.assembler.specs.Standing.{Stands}
 use Rattle.assembler.proofs.ItemSizes.{op_size}
 use Rattle.assembler.proofs.Walking.{among, names_more}

@@ -9,7 +9,7 @@ use Rattle.assembler.specs.Placed.{item_size, label_at, labels_from}
 use Rattle.assembler.specs.Sizes.{total_size}
 use Rattle.assembler.specs.Faults.{label_in, is_among, with_name, twice_from, unknown_from, past_from}
 use Rattle.assembler.specs.Naming.{is_known}
-use Rattle.assembler.specs.Survey.{with_item, collected, has_item, or_twice, names_of, or_later}
+use Rattle.assembler.specs.inner.Survey.{with_item, collected, has_item, or_twice, names_of, or_later}
 
 -- ---- sizes
 

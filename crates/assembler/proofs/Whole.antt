@@ -13,7 +13,7 @@ use Rattle.assembler.specs.Naming.{is_known, named_in}
 use Rattle.assembler.specs.Placed.{item_size, label_at, labels_from, labels_of, Placed}
 use Rattle.assembler.specs.Sizes.{total_size}
 use Rattle.assembler.specs.Faults.{Fault, label_in, with_name, twice_from, past_from, unknown_from, naming_fault, or_past, fault_of}
-use Rattle.assembler.specs.Survey.{with_item, collected, has_item, names_of}
+use Rattle.assembler.specs.inner.Survey.{with_item, collected, has_item, names_of}
 use Rattle.assembler.proofs.Walking.{among, names_more}
 use Rattle.assembler.proofs.ItemSizes.{op_size}
 

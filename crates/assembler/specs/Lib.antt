@@ -3,5 +3,5 @@ pub mod Naming
 pub mod Placed
 pub mod Sizes
 pub mod Faults
-pub mod Survey
 pub mod Standing
+pub mod inner

@@ -2,7 +2,7 @@
 ghost use Rattle.std.specs.Prelude.{◌≡◌, ◌≤◌, IfErr, IfOk, OnOk, None, [], length};
 ghost use Rattle.assembler.specs.Placed.{Placed};
 ghost use Rattle.assembler.specs.Faults.{IsRefusal, fault_of, naming_fault, or_past, twice_from};
-ghost use Rattle.assembler.specs.Survey.{collected};
+ghost use Rattle.assembler.specs.inner.Survey.{collected};
 
 use crate::naming::first_unknown;
 use crate::placement::{Placement, labels_of};

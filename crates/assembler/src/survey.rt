@@ -1,7 +1,7 @@
 // The first pass: labels, and the first that stands twice.
 ghost use Rattle.std.specs.Prelude.{◌≡◌, IfOk, OnOk, []};
 ghost use Rattle.assembler.specs.Faults.{label_in, twice_from};
-ghost use Rattle.assembler.specs.Survey.{collected, has_item, or_twice, with_item};
+ghost use Rattle.assembler.specs.inner.Survey.{collected, has_item, or_twice, with_item};
 
 use crate::labels::Labels;
 use crate::sizes::item_size;

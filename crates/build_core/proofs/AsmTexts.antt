@@ -7,7 +7,7 @@ use Rattle.c_image.specs.Imaging.{ImageT, IsImageOf}
 use Rattle.build_core.specs.declared.building.Built.{Built}
 use Rattle.build_core.specs.Due.{Assets}
 use Rattle.build_core.specs.Build.{IsAsmText}
-use Rattle.build_core.specs.Packing.{IsPackedFrom}
+use Rattle.build_core.specs.inner.Packing.{IsPackedFrom}
 
 module _ (p : ProgramT) (places : Places) (starts : List ℕ) (i : ImageT) (of : IsImageOf p places starts i) (title : List ℕ) (a : Assets) (tokens : ℕ) where
   pub text_reads : (b : Built) → IsPackedFrom title i a tokens b → IsAsmText b.asm

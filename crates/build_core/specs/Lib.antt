@@ -9,4 +9,4 @@ pub mod Reached
 pub mod Inner
 pub mod Fronts
 pub mod BuiltFrom
-pub mod Packing
+pub mod inner

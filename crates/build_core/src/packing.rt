@@ -8,7 +8,7 @@ ghost use Rattle.c_image.specs.Imaging.{image};
 ghost use Rattle.build_core.specs.Due.{assets};
 ghost use Rattle.build_core.specs.Build.{IsCartText, cartridge_of};
 ghost use Rattle.build_core.specs.Causes.{IsOfPacking};
-ghost use Rattle.build_core.specs.Packing.{IsPackedFrom};
+ghost use Rattle.build_core.specs.inner.Packing.{IsPackedFrom};
 
 use crate::building::Built;
 use crate::error::BuildErr;

@@ -7,9 +7,9 @@ use Rattle.c_tree.specs.Count.{vars_nodes}
 use Rattle.c_types.specs.Types.{Ty}
 use Rattle.c_exprs.specs.Env.{Text, Decl}
 use Rattle.c_exprs.specs.Faults.{◌>>=◌}
-use Rattle.c_check.specs.Steps.{before}
+use Rattle.c_check.specs.inner.Steps.{before}
 use Rattle.c_check.specs.Reading.{Un, with_parameter, is_free, with_names, named}
-use Rattle.c_check.specs.ItemTyping.{Reads, parameter, parameters}
+use Rattle.c_check.specs.inner.ItemTyping.{Reads, parameter, parameters}
 use Rattle.c_check.specs.ItemTypes as good
 use Rattle.c_check.specs.ItemTypes.{TypeAt, Parameter, Parameters}
 use Rattle.c_check.proofs.ItemExact.{ParameterOut, parameter_outcome, ParametersOut, parameters_outcome}

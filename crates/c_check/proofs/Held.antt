@@ -16,8 +16,8 @@ use Rattle.c_exprs.specs.Calls.{ensured}
 use Rattle.c_exprs.specs.Env.{Text}
 use Rattle.c_exprs.specs.Faults.{FaultT, ◌>>=◌, placed}
 use Rattle.c_check.specs.Reading.{Un, member_size, has_members, whole_record, members_declared, record_entered, record_number, with_layout}
-use Rattle.c_check.specs.ItemTyping.{Reads, type_at, member, members, item}
-use Rattle.c_check.specs.Steps.{counted, counted_members, counted_record, held_member, held}
+use Rattle.c_check.specs.inner.ItemTyping.{Reads, type_at, member, members, item}
+use Rattle.c_check.specs.inner.Steps.{counted, counted_members, counted_record, held_member, held}
 
 abbrev pub held_so : Reads LayoutT → Reads LayoutT
 held_so r = r >>= λ x. Ok (held x.0, x.1)

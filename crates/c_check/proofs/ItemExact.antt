@@ -20,7 +20,7 @@ use Rattle.c_stmts.specs.InitTyping.{filled_by}
 use Rattle.c_stmts.proofs.InitExact.{FillOut, fill_outcome, fill_good, fill_bad}
 use Rattle.c_stmts.specs.StatementTyping.{Does, statements}
 use Rattle.c_stmts.proofs.StatementExact.{StatementsOut, statements_outcome, statements_good, statements_bad}
-use Rattle.c_check.specs.ItemTyping.{Reads, value_at, type_at, fill_at, body_at, member, members, enumerator, named_enumerator, enumerators, maybe_fill_at, global, globals, parameter, parameters, maybe_body, item, items}
+use Rattle.c_check.specs.inner.ItemTyping.{Reads, value_at, type_at, fill_at, body_at, member, members, enumerator, named_enumerator, enumerators, maybe_fill_at, global, globals, parameter, parameters, maybe_body, item, items}
 use Rattle.c_check.specs.ItemTypes as good
 use Rattle.c_check.specs.ItemTypes.{ValueAt, TypeAt, FillsAt, BodyAt, Member, Members, Enumerator, NamedEnumerator, Enumerators, MaybeFillsAt, Global, Globals, Parameter, Parameters, MaybeBody, Item, Items}
 use Rattle.c_check.specs.ItemBreaks as bad

@@ -15,10 +15,10 @@ use Rattle.c_exprs.specs.Env as env
 use Rattle.c_stmts.specs.State.{made}
 use Rattle.c_exprs.specs.Faults.{◌>>=◌}
 use Rattle.c_check.specs.Reading.{Un, state_in, with_parameter, is_free, with_names, named, new_record, record_entered, new_enum, enum_entered, with_layout, begun, with_function}
-use Rattle.c_check.specs.ItemTyping.{Reads, item, items}
+use Rattle.c_check.specs.inner.ItemTyping.{Reads, item, items}
 use Rattle.c_check.specs.ItemTypes as good
 use Rattle.c_check.specs.ItemTypes.{ValueAt, TypeAt, FillsAt, BodyAt, Member, Members, Enumerator, NamedEnumerator, Enumerators, MaybeFillsAt, Global, Globals, Parameter, Parameters, MaybeBody, Item}
-use Rattle.c_check.specs.Steps.{spent}
+use Rattle.c_check.specs.inner.Steps.{spent}
 use Rattle.c_check.proofs.ItemExact.{ItemOut, item_outcome}
 
 named_spends : (n : Text) (d : Decl) (un : Un) → spent (named n d un) ≡ spent un

@@ -7,7 +7,7 @@ use Rattle.c_rules.specs.declared.code.Code.{Code}
 use Rattle.c_rules.specs.declared.code.Code.TheVariants.{NoMain}
 use Rattle.c_exprs.specs.Faults.{FaultT, ◌>>=◌, known}
 use Rattle.c_check.specs.Reading.{Un, opening, bodies_of}
-use Rattle.c_check.specs.ItemTyping.{Reads, items}
+use Rattle.c_check.specs.inner.ItemTyping.{Reads, items}
 use Rattle.c_check.specs.Whole.{main_of, program_of, last_token, WellTyped, IsProgram, FirstBroken, unit, items_break, no_main, checked}
 use Rattle.c_types.specs.Programs.{ProgramT}
 use Rattle.c_check.proofs.ItemExact.{ItemsOut, items_outcome, items_good, items_bad}

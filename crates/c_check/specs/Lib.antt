@@ -1,8 +1,7 @@
 pub mod Words
 pub mod Reading
-pub mod ItemTyping
 pub mod ItemTypes
 pub mod ItemBreaks
 pub mod Whole
 pub mod View
-pub mod Steps
+pub mod inner

@@ -9,7 +9,7 @@ use Rattle.c_rules.specs.Kinds.{is_void, holds}
 use Rattle.c_exprs.specs.Env.{Text, find}
 use Rattle.c_exprs.specs.Faults.{FaultT, at, ◌>>=◌, known}
 use Rattle.c_check.specs.Reading.{Un, opening, bodies_of, same_types}
-use Rattle.c_check.specs.ItemTyping.{items}
+use Rattle.c_check.specs.inner.ItemTyping.{items}
 use Rattle.c_check.specs.ItemTypes.{Items}
 use Rattle.c_check.specs.ItemBreaks.{NoItems}
 

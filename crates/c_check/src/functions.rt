@@ -7,7 +7,7 @@ ghost use Rattle.c_rules.specs.Rules.{judged};
 ghost use Rattle.c_exprs.specs.Gives.{Gives};
 ghost use Rattle.c_exprs.specs.View.{decl};
 ghost use Rattle.c_check.specs.Reading.{begun, parameter_rule, parameter_size, with_parameter, same_types, is_function, agrees, is_own_body, named, result_rule, function_rules, with_function};
-ghost use Rattle.c_check.specs.ItemTyping.{item, parameter, parameters};
+ghost use Rattle.c_check.specs.inner.ItemTyping.{item, parameter, parameters};
 ghost use Rattle.c_rules.specs.Kinds.{holds};
 ghost use Rattle.c_exprs.specs.Env.{FunctionD as DeclaredFunction};
 ghost use Rattle.c_tree.specs.Tree.{FunctionD};

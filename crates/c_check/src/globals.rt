@@ -7,8 +7,8 @@ ghost use Rattle.c_types.specs.View.{ctype, tinit, tvar};
 ghost use Rattle.c_exprs.specs.Gives.{Gives};
 ghost use Rattle.c_stmts.specs.State.{filled_var};
 ghost use Rattle.c_check.specs.Reading.{global_size, with_init};
-ghost use Rattle.c_check.specs.ItemTyping.{global, globals, item};
-ghost use Rattle.c_check.specs.Steps.{before, spent};
+ghost use Rattle.c_check.specs.inner.ItemTyping.{global, globals, item};
+ghost use Rattle.c_check.specs.inner.Steps.{before, spent};
 ghost use Rattle.c_check.specs.View.{un};
 
 use crate::declaring::{declare, is_free};

@@ -4,8 +4,8 @@ ghost use Rattle.c_tree.specs.Count.{item_nodes, unit_nodes};
 ghost use Rattle.c_tree.specs.Tree.{RecordD, EnumD, TypedefD, VarsD};
 ghost use Rattle.c_tree.specs.View.{expr, item, type, var};
 ghost use Rattle.c_exprs.specs.Gives.{Gives};
-ghost use Rattle.c_check.specs.ItemTyping.{item as read_by, items as all_read_by};
-ghost use Rattle.c_check.specs.Steps.{counted_record, spent};
+ghost use Rattle.c_check.specs.inner.ItemTyping.{item as read_by, items as all_read_by};
+ghost use Rattle.c_check.specs.inner.Steps.{counted_record, spent};
 ghost use Rattle.c_check.specs.View.{un};
 
 use crate::declaring::{declare, enter_enum, enter_record, is_free, record_number};

@@ -6,8 +6,8 @@ ghost use Rattle.c_types.specs.Sizes.{member_named, no_layout, with_member, capp
 ghost use Rattle.c_rules.specs.Kinds.{holds};
 ghost use Rattle.c_exprs.specs.Gives.{Gives};
 ghost use Rattle.c_check.specs.Reading.{members_declared, with_layout};
-ghost use Rattle.c_check.specs.ItemTyping.{member as the_member};
-ghost use Rattle.c_check.specs.Steps.{counted, counted_members};
+ghost use Rattle.c_check.specs.inner.ItemTyping.{member as the_member};
+ghost use Rattle.c_check.specs.inner.Steps.{counted, counted_members};
 ghost use Rattle.c_check.specs.View.{un};
 
 use crate::declaring::record_number;

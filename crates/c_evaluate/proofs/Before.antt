@@ -21,7 +21,7 @@ use Rattle.c_meaning.proofs.Past.{val_past, vals_past, went_past, done_past, fin
 use Rattle.c_evaluate.specs.declared.frame.Came.{Came}
 use Rattle.c_evaluate.specs.declared.frame.Came.TheVariants.{Value, Place, Nothing}
 use Rattle.c_evaluate.specs.declared.frame.How.TheVariants.{On, Break, Continue, Return}
-use Rattle.c_evaluate.specs.Machine.{FocusT, EvalF, FillF, DoF, CameF, MadeF, LeftF, FullF, CallerT, FrameT, FirstW, SecondW, ArgumentW, BackW, ValueW, StepW, BodyW, BeginW, RestW, ArmsW, EndW, SwitchW, OneW, ItemsW, VarsW, FilledW, MainW, Res, V, D, W, val, done, went, first_came, second_came, behind, types_left, argument_came, call_left, value_came, step_came, body_came, begin_came, inits_came, apply, resume, val_at, result_of}
+use Rattle.c_evaluate.specs.inner.Machine.{FocusT, EvalF, FillF, DoF, CameF, MadeF, LeftF, FullF, CallerT, FrameT, FirstW, SecondW, ArgumentW, BackW, ValueW, StepW, BodyW, BeginW, RestW, ArmsW, EndW, SwitchW, OneW, ItemsW, VarsW, FilledW, MainW, Res, V, D, W, val, done, went, first_came, second_came, behind, types_left, argument_came, call_left, value_came, step_came, body_came, begin_came, inits_came, apply, resume, val_at, result_of}
 
 module _ (d : ℕ) (es : List Event) where
   abbrev p : World → World

@@ -15,7 +15,7 @@ use Rattle.c_meaning.specs.Setting.{Setting}
 use Rattle.c_meaning.specs.Expressions.{unary, binary, params_of, next_argument, evaluated_all, call}
 use Rattle.c_meaning.specs.Statements.{below}
 use Rattle.c_meaning.specs.Runs.{final, main_done}
-use Rattle.c_evaluate.specs.Machine.{FrameT, FirstW, SecondW, ArgumentW, BackW, ValueW, StepW, BodyW, BeginW, RestW, ArmsW, EndW, SwitchW, OneW, ItemsW, VarsW, FilledW, MainW, Res, V, D, W, val, done, went, first_came, second_came, behind, types_left, argument_came, call_left, value_came, step_came, body_came, begin_came, apply, resume}
+use Rattle.c_evaluate.specs.inner.Machine.{FrameT, FirstW, SecondW, ArgumentW, BackW, ValueW, StepW, BodyW, BeginW, RestW, ArmsW, EndW, SwitchW, OneW, ItemsW, VarsW, FilledW, MainW, Res, V, D, W, val, done, went, first_came, second_came, behind, types_left, argument_came, call_left, value_came, step_came, body_came, begin_came, apply, resume}
 
 module _ (s : Setting) (e : End) (w : World) where
   -- an outcome where the run is over

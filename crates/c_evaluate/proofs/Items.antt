@@ -5,7 +5,7 @@ use Rattle.std.proofs.lemmas.Option.{slice_get_within}
 use Rattle.c_types.specs.Typed.{NoI, MoreI}
 use Rattle.c_types.specs.declared.typed.TInit.{TInit}
 use Rattle.c_types.specs.View.{tinit, tinits}
-use Rattle.c_evaluate.specs.FocusView.{items_from}
+use Rattle.c_evaluate.specs.inner.FocusView.{items_from}
 
 next_is : (k : ℕ) → k + 1 ≡ suc k
 next_is k = omega arith

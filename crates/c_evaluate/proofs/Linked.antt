@@ -16,7 +16,7 @@ use Rattle.c_meaning.specs.Operators.{read_as}
 use Rattle.c_meaning.specs.Cells.{cell_set, next_turn, cells_set, structure_read, scalar_read, fetched, stored}
 use Rattle.c_meaning.specs.Initialisers.{text_filled, rest_filled}
 use Rattle.c_meaning.specs.Statements.{params_stored}
-use Rattle.c_evaluate.specs.Storing.{Kept, With, at_span, then_ok, next_in, cells_in, structure_in, scalar_in, fetched_in, stored_in, text_in, rest_in, params_in}
+use Rattle.c_evaluate.specs.inner.Storing.{Kept, With, at_span, then_ok, next_in, cells_in, structure_in, scalar_in, fetched_in, stored_in, text_in, rest_in, params_in}
 
 -- a store where so much work was done, and nothing else that is seen
 abbrev pub spent : ℕ → Store → World

@@ -20,9 +20,9 @@ use Rattle.c_meaning.proofs.Past.{final_past}
 use Rattle.c_evaluate.specs.declared.frame.Came.{Came}
 use Rattle.c_evaluate.specs.declared.frame.Came.TheVariants.{Value, Place, Nothing}
 use Rattle.c_evaluate.specs.Evaluation.{left_of}
-use Rattle.c_evaluate.specs.Storing.{Kept, With, at_span, then_ok, fetched_in, taken, tested_in, dropped_in, placed_in}
-use Rattle.c_evaluate.specs.Machine.{FocusT, EvalF, FillF, DoF, CameF, MadeF, LeftF, FullF, FrameT, FirstW, SecondW, ArgumentW, BackW, ValueW, StepW, BodyW, BeginW, RestW, ArmsW, EndW, SwitchW, OneW, ItemsW, VarsW, FilledW, MainW, Config, Going, Over, V, D, W, resume, val_at, result_of, whole, run_left, work_left}
-use Rattle.c_evaluate.specs.Steps.{on, either_of}
+use Rattle.c_evaluate.specs.inner.Storing.{Kept, With, at_span, then_ok, fetched_in, taken, tested_in, dropped_in, placed_in}
+use Rattle.c_evaluate.specs.inner.Machine.{FocusT, EvalF, FillF, DoF, CameF, MadeF, LeftF, FullF, FrameT, FirstW, SecondW, ArgumentW, BackW, ValueW, StepW, BodyW, BeginW, RestW, ArmsW, EndW, SwitchW, OneW, ItemsW, VarsW, FilledW, MainW, Config, Going, Over, V, D, W, resume, val_at, result_of, whole, run_left, work_left}
+use Rattle.c_evaluate.specs.inner.Steps.{on, either_of}
 use Rattle.c_evaluate.proofs.Before.{resume_past, result_past}
 use Rattle.c_evaluate.proofs.Ending.{val_ends, done_ends, went_ends}
 use Rattle.c_evaluate.proofs.Linked.{spent, Keeps, Holds, fetched_held}

@@ -18,8 +18,8 @@ use Rattle.c_meaning.specs.Expressions.{call}
 use Rattle.c_meaning.specs.Statements.{does_all, below}
 use Rattle.c_meaning.specs.Runs.{main_done, main_called, inits_done}
 use Rattle.c_evaluate.specs.Evaluation.{left_of, run_of}
-use Rattle.c_evaluate.specs.Machine.{FrameT, MainW, Config, Over, D, inits_came, resume, whole, run_left}
-use Rattle.c_evaluate.specs.Steps.{rest_of}
+use Rattle.c_evaluate.specs.inner.Machine.{FrameT, MainW, Config, Over, D, inits_came, resume, whole, run_left}
+use Rattle.c_evaluate.specs.inner.Steps.{rest_of}
 
 -- ---- the words of globals, cut at a limit
 

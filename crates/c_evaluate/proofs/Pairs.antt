@@ -12,7 +12,7 @@ use Rattle.obj_mem.specs.Stores.{Store}
 use Rattle.c_meaning.specs.Kinds.{type_of}
 use Rattle.c_meaning.specs.Setting.{Setting}
 use Rattle.c_evaluate.specs.declared.frame.Came.{Came}
-use Rattle.c_evaluate.specs.Swift.{with_some, is_strict, strict_at_once, binary_at_once, index_at_once, comes, when, is_word, binary_worth, worth}
+use Rattle.c_evaluate.specs.inner.Swift.{with_some, is_strict, strict_at_once, binary_at_once, index_at_once, comes, when, is_word, binary_worth, worth}
 
 pub type_is : (x : TExpr) → type_of (texpr x) ≡ ctype x.ty
 type_is x = search (rules, the_lemmas)

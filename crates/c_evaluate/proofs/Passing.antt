@@ -15,8 +15,8 @@ use Rattle.c_meaning.specs.Setting.{Setting, words}
 use Rattle.c_meaning.specs.Kinds.{is_structure}
 use Rattle.c_meaning.specs.Cells.{end_temporary}
 use Rattle.c_meaning.specs.Expressions.{all_released}
-use Rattle.c_evaluate.specs.Storing.{Kept, at_span, then_ok, cells_in, params_in}
-use Rattle.c_evaluate.specs.Swift.{is_word, are_words, passed}
+use Rattle.c_evaluate.specs.inner.Storing.{Kept, at_span, then_ok, cells_in, params_in}
+use Rattle.c_evaluate.specs.inner.Swift.{is_word, are_words, passed}
 
 -- the objects of the parameters, unwritten and with their arguments; and where they have ended
 abbrev pub blanks : List Cell → List ObjectT

@@ -27,11 +27,11 @@ use Rattle.c_evaluate.specs.declared.frame.Came.{Came}
 use Rattle.c_evaluate.specs.declared.frame.Came.TheVariants.{Value, Place, Nothing}
 use Rattle.c_evaluate.specs.declared.frame.How.{How}
 use Rattle.c_evaluate.specs.declared.frame.How.TheVariants.{On, Break, Continue, Return}
-use Rattle.c_evaluate.specs.Storing.{With, at_span, then_ok, cells_in, params_in, returned_in, taken, tested_in, placed_in, operated_in, stepped_in, second_assigned_in}
-use Rattle.c_evaluate.specs.Machine.{FocusT, EvalF, FillF, DoF, CameF, MadeF, LeftF, FullF, FrameT, FirstW, SecondW, ArgumentW, BackW, ValueW, StepW, BodyW, BeginW, RestW, ArmsW, EndW, SwitchW, OneW, ItemsW, VarsW, FilledW, MainW, Config, Going, caller_of, back_in}
-use Rattle.c_evaluate.specs.Steps.{on, came, value, left, args_of, argument_in, argument_step, value_here, place_here, either_of, eval, first_step, second_step, unary_first, member_first, binary_second, combined, second_of, second_of_node, binary_of, exec, value_step, again, after_body, body_step, give, leave, step, rest_of, in_room, body_of, enter, call_of, call, return_of}
-use Rattle.c_evaluate.specs.Turning.{Works}
-use Rattle.c_evaluate.specs.Swift.{unary_worth, binary_worth, when, is_word, word_held, word_at, worth, are_words, returned_by, quick_of, quick, passed, word_or, call_on, asks_on, assigns_on, steps_on, does_on, exec_on, took, args_on, argument_on, with_some, answered, seen, value_at_once, place_at_once, unary_at_once, is_strict, strict_at_once, binary_at_once, index_at_once, member_at_once, arrow_at_once, cast_at_once, comes, depth_at_once, at_once, local_at_once, handed, second_on, binary_on, first_on, first_of_on, operand_on, eval_on, give_on, again_on, body_on, leave_on, step_on}
+use Rattle.c_evaluate.specs.inner.Storing.{With, at_span, then_ok, cells_in, params_in, returned_in, taken, tested_in, placed_in, operated_in, stepped_in, second_assigned_in}
+use Rattle.c_evaluate.specs.inner.Machine.{FocusT, EvalF, FillF, DoF, CameF, MadeF, LeftF, FullF, FrameT, FirstW, SecondW, ArgumentW, BackW, ValueW, StepW, BodyW, BeginW, RestW, ArmsW, EndW, SwitchW, OneW, ItemsW, VarsW, FilledW, MainW, Config, Going, caller_of, back_in}
+use Rattle.c_evaluate.specs.inner.Steps.{on, came, value, left, args_of, argument_in, argument_step, value_here, place_here, either_of, eval, first_step, second_step, unary_first, member_first, binary_second, combined, second_of, second_of_node, binary_of, exec, value_step, again, after_body, body_step, give, leave, step, rest_of, in_room, body_of, enter, call_of, call, return_of}
+use Rattle.c_evaluate.specs.inner.Turning.{Works}
+use Rattle.c_evaluate.specs.inner.Swift.{unary_worth, binary_worth, when, is_word, word_held, word_at, worth, are_words, returned_by, quick_of, quick, passed, word_or, call_on, asks_on, assigns_on, steps_on, does_on, exec_on, took, args_on, argument_on, with_some, answered, seen, value_at_once, place_at_once, unary_at_once, is_strict, strict_at_once, binary_at_once, index_at_once, member_at_once, arrow_at_once, cast_at_once, comes, depth_at_once, at_once, local_at_once, handed, second_on, binary_on, first_on, first_of_on, operand_on, eval_on, give_on, again_on, body_on, leave_on, step_on}
 use Rattle.c_evaluate.proofs.Passing.{laid, counted, others, held, no_structure, all_params, all_made, param_held, passed_back, words_released}
 
 -- so many steps lead from one configuration to the other

@@ -10,12 +10,12 @@ use Rattle.c_evaluate.specs.declared.frame.Came.{Came}
 use Rattle.c_evaluate.specs.declared.answer.Advanced.TheVariants.{Made, Ended}
 use Rattle.c_evaluate.specs.declared.frame.Came.TheVariants.{Value, Place, Nothing}
 use Rattle.c_evaluate.specs.Evaluation.{Gives}
-use Rattle.c_evaluate.specs.Machine.{CameF, MadeF, FrameT, Config, Going, Over, V, val_at, whole, run_left, work_left}
-use Rattle.c_evaluate.specs.Turning.{GoesOn, stepped}
-use Rattle.c_evaluate.specs.Steps.{step}
+use Rattle.c_evaluate.specs.inner.Machine.{CameF, MadeF, FrameT, Config, Going, Over, V, val_at, whole, run_left, work_left}
+use Rattle.c_evaluate.specs.inner.Turning.{GoesOn, stepped}
+use Rattle.c_evaluate.specs.inner.Steps.{step}
 use Rattle.c_evaluate.proofs.Before.{resume_past}
 use Rattle.c_evaluate.proofs.Moving.{busy, load, size}
-use Rattle.c_evaluate.specs.Swift.{step_on, stepped_on}
+use Rattle.c_evaluate.specs.inner.Swift.{step_on, stepped_on}
 use Rattle.c_evaluate.proofs.Stepping.{step_later}
 use Rattle.c_evaluate.proofs.Reaching.{Reaches, here, further, step_reaches}
 

@@ -36,12 +36,12 @@ use Rattle.c_evaluate.specs.declared.frame.Came.{Came}
 use Rattle.c_evaluate.specs.declared.frame.Came.TheVariants.{Value, Place, Nothing}
 use Rattle.c_evaluate.specs.declared.frame.How.{How}
 use Rattle.c_evaluate.specs.declared.frame.How.TheVariants.{On, Break, Continue, Return}
-use Rattle.c_evaluate.specs.Storing.{Kept, With, at_span, then_ok, cells_in, taken, assigned_in, stepped_in, second_assigned_in, member_in, one_in, either}
-use Rattle.c_evaluate.specs.Machine as m
-use Rattle.c_evaluate.specs.Machine.{FocusT, EvalF, FillF, DoF, CameF, MadeF, LeftF, FullF, CallerT, FrameT, FirstW, SecondW, ArgumentW, BackW, ValueW, StepW, BodyW, BeginW, RestW, ArmsW, EndW, SwitchW, OneW, ItemsW, VarsW, FilledW, MainW, Config, Going, Over, Res, V, D, W, stopped, behind, types_left, argument_came, caller_of, call_left, apply, resume, val_at, done_at, whole}
-use Rattle.c_evaluate.specs.Steps as st
-use Rattle.c_evaluate.specs.Steps.{on, came, value, value_here, place_here, full, rest_of, arms_of, vars_of, items_of, in_room, body_of, enter, call_of, call, args_of, input, eval, unary_first, second_of_node, either_of, binary_of, member_first, first_step, combined, binary_second, second_step, argument_in, argument_step, turn_of, again, do_again, step_of, begin_of, exec, other_of, value_looped, value_step, step_step, after_body, after_on, body_step, begin_step, switched, back_step, main_step, fill, give, leave, fill_up, step}
-use Rattle.c_evaluate.specs.Turning.{Works}
+use Rattle.c_evaluate.specs.inner.Storing.{Kept, With, at_span, then_ok, cells_in, taken, assigned_in, stepped_in, second_assigned_in, member_in, one_in, either}
+use Rattle.c_evaluate.specs.inner.Machine as m
+use Rattle.c_evaluate.specs.inner.Machine.{FocusT, EvalF, FillF, DoF, CameF, MadeF, LeftF, FullF, CallerT, FrameT, FirstW, SecondW, ArgumentW, BackW, ValueW, StepW, BodyW, BeginW, RestW, ArmsW, EndW, SwitchW, OneW, ItemsW, VarsW, FilledW, MainW, Config, Going, Over, Res, V, D, W, stopped, behind, types_left, argument_came, caller_of, call_left, apply, resume, val_at, done_at, whole}
+use Rattle.c_evaluate.specs.inner.Steps as st
+use Rattle.c_evaluate.specs.inner.Steps.{on, came, value, value_here, place_here, full, rest_of, arms_of, vars_of, items_of, in_room, body_of, enter, call_of, call, args_of, input, eval, unary_first, second_of_node, either_of, binary_of, member_first, first_step, combined, binary_second, second_step, argument_in, argument_step, turn_of, again, do_again, step_of, begin_of, exec, other_of, value_looped, value_step, step_step, after_body, after_on, body_step, begin_step, switched, back_step, main_step, fill, give, leave, fill_up, step}
+use Rattle.c_evaluate.specs.inner.Turning.{Works}
 use Rattle.c_evaluate.proofs.Linked.{spent, Keeps, Holds, then_kept, then_held, asked_kept, asked_held, cells_kept, stored_kept, text_kept, rest_kept, params_kept}
 use Rattle.c_evaluate.proofs.Moving.{busy, load, size, Later, to, over, Way, val_way, done_way, went_way, over_later, asked_later, kept_later, taken_later, on_then, tested_later, dropped_later, placed_later}
 

@@ -9,8 +9,8 @@ use Rattle.c_meaning.specs.declared.end.End.TheVariants.{OutOfBound}
 use Rattle.c_meaning.specs.Cells.{cell_set}
 use Rattle.c_evaluate.specs.declared.stop.Stop.{Stop}
 use Rattle.c_evaluate.specs.declared.stop.Stop.TheVariants.{NoMemory, Ends}
-use Rattle.c_evaluate.specs.Results.{Fails}
-use Rattle.c_evaluate.specs.Storing.{Kept, at_span, then_ok, next_in, cells_in}
+use Rattle.c_evaluate.specs.inner.Results.{Fails}
+use Rattle.c_evaluate.specs.inner.Storing.{Kept, at_span, then_ok, next_in, cells_in}
 
 abbrev set_in : Span → Option Cell → Cell → Store → Kept
 set_in span from to u = then_ok (at_span span (cell_set from to u.objects)) (λ os. Ok (with_objects os u))

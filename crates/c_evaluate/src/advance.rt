@@ -1,13 +1,13 @@
 // The steps of the machine.
 ghost use Rattle.std.specs.Prelude.{◌≡◌, IfOk, IfNone, IfSome, OnOk};
 ghost use Rattle.c_evaluate.specs.Evaluation.{Gives};
-ghost use Rattle.c_evaluate.specs.Machine.{run_left};
-ghost use Rattle.c_evaluate.specs.Results.{Leads};
-ghost use Rattle.c_evaluate.specs.Swift.{stepped_on};
-ghost use Rattle.c_evaluate.specs.Turning.{GoesOn};
-ghost use Rattle.c_evaluate.specs.FocusView.{at, stack_of};
-ghost use Rattle.c_evaluate.specs.StoreView.{store_of};
-ghost use Rattle.c_evaluate.specs.MachineView.{config_of, setting_of};
+ghost use Rattle.c_evaluate.specs.inner.Machine.{run_left};
+ghost use Rattle.c_evaluate.specs.inner.Results.{Leads};
+ghost use Rattle.c_evaluate.specs.inner.Swift.{stepped_on};
+ghost use Rattle.c_evaluate.specs.inner.Turning.{GoesOn};
+ghost use Rattle.c_evaluate.specs.inner.FocusView.{at, stack_of};
+ghost use Rattle.c_evaluate.specs.inner.StoreView.{store_of};
+ghost use Rattle.c_evaluate.specs.inner.MachineView.{config_of, setting_of};
 
 use crate::answer::Advanced;
 use crate::dispatch::{fill_up, give, leave};

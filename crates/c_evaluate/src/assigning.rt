@@ -2,10 +2,10 @@
 ghost use Rattle.std.specs.Prelude.{◌≡◌};
 ghost use Rattle.c_types.specs.View.{ctype, texpr};
 ghost use Rattle.c_meaning.specs.Expressions.{step_operator, gives_old};
-ghost use Rattle.c_evaluate.specs.Results.{Gives};
-ghost use Rattle.c_evaluate.specs.SettingView.{setting_of};
-ghost use Rattle.c_evaluate.specs.StoreView.{store_of};
-ghost use Rattle.c_evaluate.specs.Storing.{operated_in, assigned_in, changed_in, stepped_in, second_assigned_in, member_in};
+ghost use Rattle.c_evaluate.specs.inner.Results.{Gives};
+ghost use Rattle.c_evaluate.specs.inner.SettingView.{setting_of};
+ghost use Rattle.c_evaluate.specs.inner.StoreView.{store_of};
+ghost use Rattle.c_evaluate.specs.inner.Storing.{operated_in, assigned_in, changed_in, stepped_in, second_assigned_in, member_in};
 
 use crate::cells::{located, stored};
 use crate::operators::{converted, operated, read_as};

@@ -3,14 +3,14 @@ ghost use Rattle.std.specs.Prelude.{◌≡◌, ◌<◌, ◌+◌, ◌^◌, List, 
 ghost use Rattle.c_types.specs.View.{ctype, function, texpr, texprs};
 ghost use Rattle.obj_mem.specs.Stores.{has_room};
 ghost use Rattle.c_meaning.specs.Expressions.{result_place, with_result, params_of, all_released};
-ghost use Rattle.c_evaluate.specs.Machine.{FrameT};
-ghost use Rattle.c_evaluate.specs.Results.{Gives, Leads};
-ghost use Rattle.c_evaluate.specs.FocusView.{at, stack_of};
-ghost use Rattle.c_evaluate.specs.SettingView.{setting_of};
-ghost use Rattle.c_evaluate.specs.StoreView.{store_of, caller};
-ghost use Rattle.c_evaluate.specs.Storing.{params_in};
-ghost use Rattle.c_evaluate.specs.Steps.{body_of, in_room, enter, call, argument_in, back_step};
-ghost use Rattle.c_evaluate.specs.Swift.{args_on, argument_on, call_on, took};
+ghost use Rattle.c_evaluate.specs.inner.Machine.{FrameT};
+ghost use Rattle.c_evaluate.specs.inner.Results.{Gives, Leads};
+ghost use Rattle.c_evaluate.specs.inner.FocusView.{at, stack_of};
+ghost use Rattle.c_evaluate.specs.inner.SettingView.{setting_of};
+ghost use Rattle.c_evaluate.specs.inner.StoreView.{store_of, caller};
+ghost use Rattle.c_evaluate.specs.inner.Storing.{params_in};
+ghost use Rattle.c_evaluate.specs.inner.Steps.{body_of, in_room, enter, call, argument_in, back_step};
+ghost use Rattle.c_evaluate.specs.inner.Swift.{args_on, argument_on, call_on, took};
 
 use crate::cells::{located, stored};
 use crate::exec::rest;

@@ -1,14 +1,14 @@
 // Loops over cells, reading and storing.
 ghost use Rattle.std.specs.Prelude.{◌≡◌, ◌<◌, ◌-◌, Ok, IfOk, IfErr, option_map};
 ghost use Rattle.c_types.specs.View.{ctype};
-ghost use Rattle.obj_mem.specs.View.{objects};
+ghost use Rattle.obj_mem.specs.inner.View.{objects};
 ghost use Rattle.obj_mem.specs.Stores.{with_objects};
 ghost use Rattle.obj_mem.specs.Queries.{further};
 ghost use Rattle.c_meaning.specs.Cells.{source, cell_set};
-ghost use Rattle.c_evaluate.specs.Results.{Fails, Gives};
-ghost use Rattle.c_evaluate.specs.SettingView.{setting_of};
-ghost use Rattle.c_evaluate.specs.StoreView.{store_of};
-ghost use Rattle.c_evaluate.specs.Storing.{at_span, then_ok, cells_in, structure_in, scalar_in, fetched_in, stored_in};
+ghost use Rattle.c_evaluate.specs.inner.Results.{Fails, Gives};
+ghost use Rattle.c_evaluate.specs.inner.SettingView.{setting_of};
+ghost use Rattle.c_evaluate.specs.inner.StoreView.{store_of};
+ghost use Rattle.c_evaluate.specs.inner.Storing.{at_span, then_ok, cells_in, structure_in, scalar_in, fetched_in, stored_in};
 
 use crate::operators::read_as;
 use crate::queries::{further, read as read_cell, write};

@@ -1,13 +1,13 @@
 // Expressions begun.
 ghost use Rattle.std.specs.Prelude.{List};
 ghost use Rattle.c_types.specs.View.{texpr};
-ghost use Rattle.c_evaluate.specs.Machine.{FrameT};
-ghost use Rattle.c_evaluate.specs.Results.{Leads};
-ghost use Rattle.c_evaluate.specs.FocusView.{at, stack_of};
-ghost use Rattle.c_evaluate.specs.SettingView.{setting_of};
-ghost use Rattle.c_evaluate.specs.StoreView.{store_of};
-ghost use Rattle.c_evaluate.specs.Steps.{input};
-ghost use Rattle.c_evaluate.specs.Swift.{eval_of_on, operand_on};
+ghost use Rattle.c_evaluate.specs.inner.Machine.{FrameT};
+ghost use Rattle.c_evaluate.specs.inner.Results.{Leads};
+ghost use Rattle.c_evaluate.specs.inner.FocusView.{at, stack_of};
+ghost use Rattle.c_evaluate.specs.inner.SettingView.{setting_of};
+ghost use Rattle.c_evaluate.specs.inner.StoreView.{store_of};
+ghost use Rattle.c_evaluate.specs.inner.Steps.{input};
+ghost use Rattle.c_evaluate.specs.inner.Swift.{eval_of_on, operand_on};
 
 use crate::calls::arguments;
 use crate::cells::located;

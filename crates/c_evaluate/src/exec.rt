@@ -2,14 +2,14 @@
 ghost use Rattle.std.specs.Prelude.{◌≡◌, ◌∷◌, map, option_map};
 ghost use Rattle.c_types.specs.View.{texpr, tstmt, tstmts, tarm, tarms};
 ghost use Rattle.obj_mem.specs.Stores as stores;
-ghost use Rattle.c_evaluate.specs.Results.{Leads};
-ghost use Rattle.c_evaluate.specs.FocusView.{at, stmt_frame, stack_of};
-ghost use Rattle.c_evaluate.specs.SettingView.{setting_of};
-ghost use Rattle.c_evaluate.specs.StoreView.{store_of};
-ghost use Rattle.c_evaluate.specs.Steps.{rest_of, arms_of, turn_of, asks, on};
-ghost use Rattle.c_evaluate.specs.Swift.{asks_on, assigned_on, assigns_on, does_on, exec_on, steps_on};
-ghost use Rattle.c_evaluate.specs.Machine.{DoF, EvalF, Going, SecondW, ValueW};
-ghost use Rattle.c_evaluate.specs.Storing.{placed_in};
+ghost use Rattle.c_evaluate.specs.inner.Results.{Leads};
+ghost use Rattle.c_evaluate.specs.inner.FocusView.{at, stmt_frame, stack_of};
+ghost use Rattle.c_evaluate.specs.inner.SettingView.{setting_of};
+ghost use Rattle.c_evaluate.specs.inner.StoreView.{store_of};
+ghost use Rattle.c_evaluate.specs.inner.Steps.{rest_of, arms_of, turn_of, asks, on};
+ghost use Rattle.c_evaluate.specs.inner.Swift.{asks_on, assigned_on, assigns_on, does_on, exec_on, steps_on};
+ghost use Rattle.c_evaluate.specs.inner.Machine.{DoF, EvalF, Going, SecondW, ValueW};
+ghost use Rattle.c_evaluate.specs.inner.Storing.{placed_in};
 ghost use Rattle.c_meaning.specs.Kinds.{span_of};
 
 use crate::assigning::{second_assigned, stepped_place};

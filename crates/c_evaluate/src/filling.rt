@@ -7,12 +7,12 @@ ghost use Rattle.c_meaning.specs.Outcomes.{nowhere};
 ghost use Rattle.c_meaning.specs.Parts.{part_type};
 ghost use Rattle.c_meaning.specs.Setting.{words};
 ghost use Rattle.c_meaning.specs.Initialisers.{object_of};
-ghost use Rattle.c_evaluate.specs.Results.{Gives, Leads};
-ghost use Rattle.c_evaluate.specs.FocusView.{at, items_from, stack_of};
-ghost use Rattle.c_evaluate.specs.SettingView.{setting_of, or_void};
-ghost use Rattle.c_evaluate.specs.StoreView.{store_of};
-ghost use Rattle.c_evaluate.specs.Storing.{one_in, text_in, rest_in};
-ghost use Rattle.c_evaluate.specs.Steps.{vars_of, items_of, fill};
+ghost use Rattle.c_evaluate.specs.inner.Results.{Gives, Leads};
+ghost use Rattle.c_evaluate.specs.inner.FocusView.{at, items_from, stack_of};
+ghost use Rattle.c_evaluate.specs.inner.SettingView.{setting_of, or_void};
+ghost use Rattle.c_evaluate.specs.inner.StoreView.{store_of};
+ghost use Rattle.c_evaluate.specs.inner.Storing.{one_in, text_in, rest_in};
+ghost use Rattle.c_evaluate.specs.inner.Steps.{vars_of, items_of, fill};
 
 use crate::cells::{cells, located, stored};
 use crate::frame::{Focus, Frame};

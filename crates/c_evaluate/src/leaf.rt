@@ -5,10 +5,10 @@ ghost use Rattle.obj_mem.specs.Queries.{truth};
 ghost use Rattle.c_meaning.specs.Kinds.{decayed};
 ghost use Rattle.c_meaning.specs.Operators.{is_true};
 ghost use Rattle.c_meaning.specs.Setting.{global_at};
-ghost use Rattle.c_evaluate.specs.SettingView.{setting_of};
-ghost use Rattle.c_evaluate.specs.StoreView.{store_of};
+ghost use Rattle.c_evaluate.specs.inner.SettingView.{setting_of};
+ghost use Rattle.c_evaluate.specs.inner.StoreView.{store_of};
 ghost use Rattle.c_evaluate.specs.declared.frame.Came.TheVariants.{Value};
-ghost use Rattle.c_evaluate.specs.Swift.{answered, arrow_at_once, at_once, binary_at_once, cast_at_once, comes, depth_at_once, index_at_once, is_strict, local_at_once, member_at_once, place_at_once, place_of, seen, seen_at, unary_at_once, value_at_once, with_some};
+ghost use Rattle.c_evaluate.specs.inner.Swift.{answered, arrow_at_once, at_once, binary_at_once, cast_at_once, comes, depth_at_once, index_at_once, is_strict, local_at_once, member_at_once, place_at_once, place_of, seen, seen_at, unary_at_once, value_at_once, with_some};
 
 use crate::frame::Came;
 use crate::operators::{cell_unary, converted, is_true, operated, read_as, stepped, truth};

@@ -5,7 +5,7 @@ ghost use Rattle.obj_mem.specs.Stores.{ram_words, words_here};
 ghost use Rattle.c_meaning.specs.Setting.{words, literal_at, literal_words, card_at, result_of};
 ghost use Rattle.c_meaning.specs.Expressions.{params_of};
 ghost use Rattle.c_meaning.specs.Parts.{part_type, member_type};
-ghost use Rattle.c_evaluate.specs.SettingView.{setting_of, or_void};
+ghost use Rattle.c_evaluate.specs.inner.SettingView.{setting_of, or_void};
 
 use crate::setting::Setting;
 use c_types::{CType, Layout, TFunction, wrapped_size};

@@ -3,10 +3,10 @@ ghost use Rattle.std.specs.Prelude.{◌≡◌, cond, not, Ok};
 ghost use Rattle.obj_mem.specs.Queries.{then_ask, truth, equal_pointers};
 ghost use Rattle.kit_base.specs.Word.{mul, negated, below, bool_word, quotient, remainder};
 ghost use Rattle.c_types.specs.View.{ctype};
-ghost use Rattle.obj_mem.specs.View.{objects};
+ghost use Rattle.obj_mem.specs.inner.View.{objects};
 ghost use Rattle.c_meaning.specs.Kinds.{decayed};
 ghost use Rattle.c_meaning.specs.Operators.{is_of, read_as, converted, is_true, word_unary, unless_zero, word_binary, cell_unary, cell_binary, stepped, stepped_back, distance, ordered, pointer_operated, operated};
-ghost use Rattle.c_evaluate.specs.SettingView.{setting_of};
+ghost use Rattle.c_evaluate.specs.inner.SettingView.{setting_of};
 
 use crate::queries::{apart, equal_pointers, offsets, read, step, word_of};
 use crate::setting::Setting;

@@ -1,6 +1,6 @@
 // What is asked of cells and objects.
 ghost use Rattle.std.specs.Prelude.{◌≡◌, Ok, Err, IfErr, OnOk, OnErr};
-ghost use Rattle.obj_mem.specs.View.{objects};
+ghost use Rattle.obj_mem.specs.inner.View.{objects};
 ghost use Rattle.obj_mem.specs.Queries.{word_of, refused, accessed, read, write, step, further, equal_by_object, equal_pointers, offsets, apart, answer_if};
 
 use kit_base::{wrap_add, wrap_sub};

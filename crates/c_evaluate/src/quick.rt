@@ -1,9 +1,9 @@
 // Calls of functions of words that return an expression of their parameters.
 ghost use Rattle.std.specs.Prelude.{◌≡◌, map, slice_get, Option, option_map, ltb};
 ghost use Rattle.c_types.specs.View.{ctype, texpr, function, tstmt, tstmts};
-ghost use Rattle.c_evaluate.specs.SettingView.{setting_of};
-ghost use Rattle.c_evaluate.specs.StoreView.{store_of};
-ghost use Rattle.c_evaluate.specs.Swift.{answered, unary_worth, binary_worth, with_some, when, is_word, word_held, word_at, worth, are_words, returned_of, returned_by, quick_of, quick};
+ghost use Rattle.c_evaluate.specs.inner.SettingView.{setting_of};
+ghost use Rattle.c_evaluate.specs.inner.StoreView.{store_of};
+ghost use Rattle.c_evaluate.specs.inner.Swift.{answered, unary_worth, binary_worth, with_some, when, is_word, word_held, word_at, worth, are_words, returned_of, returned_by, quick_of, quick};
 
 use crate::leaf::is_strict;
 use crate::operators::{bool_word, word_binary, word_unary};

@@ -20,8 +20,8 @@ impl<'a> Model for Runner<'a> {
 
     ghost Value = { RunnerT };
 
-    ghost use Rattle.c_evaluate.specs.Machine.{run_left};
-    ghost use Rattle.c_evaluate.specs.MachineView.{config_of, setting_of};
+    ghost use Rattle.c_evaluate.specs.inner.Machine.{run_left};
+    ghost use Rattle.c_evaluate.specs.inner.MachineView.{config_of, setting_of};
 
     ghost view = { λ r. record { left = run_left (setting_of r.machine) (config_of r.machine); refused = r.refused } };
 }

@@ -1,7 +1,7 @@
 // What a run goes by.
 ghost use Rattle.std.specs.Prelude.{◌≡◌, sum_by, min};
 ghost use Rattle.c_check.specs.View.{program};
-ghost use Rattle.c_evaluate.specs.Capped.{capped_one};
+ghost use Rattle.c_evaluate.specs.inner.Capped.{capped_one};
 
 use c_check::Program;
 use std::alloc::Global;

@@ -1,6 +1,6 @@
 // The frames that wait.
 ghost use Rattle.std.specs.Prelude.{◌≡◌, ◌∷◌, [], OnOk, MatchOption, IfSome, IfNone};
-ghost use Rattle.c_evaluate.specs.FocusView.{frame, stack_of};
+ghost use Rattle.c_evaluate.specs.inner.FocusView.{frame, stack_of};
 
 use crate::frame::Frame;
 use std::alloc::AllocError;

@@ -6,12 +6,12 @@ ghost use Rattle.obj_mem.specs.declared.cell.ObjectKind.TheVariants.{Local};
 ghost use Rattle.obj_mem.specs.Objects.{made, unwritten, end_object};
 ghost use Rattle.obj_mem.specs.Stores.{local_object, end_local, fresh, fresh_all, end_all, with_temporary, next_object, entered, with_objects};
 ghost use Rattle.obj_mem.specs.Queries.{first_cell};
-ghost use Rattle.obj_mem.specs.View.{objects};
+ghost use Rattle.obj_mem.specs.inner.View.{objects};
 ghost use Rattle.c_meaning.specs.Cells.{end_temporary, released};
-ghost use Rattle.c_evaluate.specs.Machine.{caller_of, back_in};
-ghost use Rattle.c_evaluate.specs.SettingView.{setting_of};
-ghost use Rattle.c_evaluate.specs.StoreView.{store_of, caller};
-ghost use Rattle.c_evaluate.specs.Swift.{passed};
+ghost use Rattle.c_evaluate.specs.inner.Machine.{caller_of, back_in};
+ghost use Rattle.c_evaluate.specs.inner.SettingView.{setting_of};
+ghost use Rattle.c_evaluate.specs.inner.StoreView.{store_of, caller};
+ghost use Rattle.c_evaluate.specs.inner.Swift.{passed};
 
 use crate::frame::Caller;
 use crate::setting::Setting;

@@ -1,10 +1,10 @@
 // What came of an expression, used.
 ghost use Rattle.std.specs.Prelude.{◌≡◌};
 ghost use Rattle.c_types.specs.View.{texpr};
-ghost use Rattle.c_evaluate.specs.Results.{Gives};
-ghost use Rattle.c_evaluate.specs.SettingView.{setting_of};
-ghost use Rattle.c_evaluate.specs.StoreView.{store_of};
-ghost use Rattle.c_evaluate.specs.Storing.{taken, tested_in, dropped_in, placed_in};
+ghost use Rattle.c_evaluate.specs.inner.Results.{Gives};
+ghost use Rattle.c_evaluate.specs.inner.SettingView.{setting_of};
+ghost use Rattle.c_evaluate.specs.inner.StoreView.{store_of};
+ghost use Rattle.c_evaluate.specs.inner.Storing.{taken, tested_in, dropped_in, placed_in};
 
 use crate::cells::{fetched, located};
 use crate::frame::Came;

@@ -21,7 +21,7 @@ use Rattle.c_front.specs.declared.unit.Parsed.{Parsed}
 use Rattle.c_front.specs.Over.{over}
 use Rattle.c_front.specs.Due.{Answers, IsNoUnit, bad, deep, IsRefused, unread, unparsed, IsUnit, told_as}
 use Rattle.c_front.specs.Answer.{IsTooDeep, IsUnitOf}
-use Rattle.c_front.specs.Inner.{Parses, Tells}
+use Rattle.c_front.specs.inner.Inner.{Parses, Tells}
 
 abbrev Answer : Type 0
 Answer = Result Parsed FrontErr

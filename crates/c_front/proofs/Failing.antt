@@ -14,7 +14,7 @@ use Rattle.c_front.specs.declared.error.FrontErr.TheVariants as errors
 use Rattle.c_front.specs.declared.unit.Parsed.{Parsed}
 use Rattle.c_front.specs.Causes.{IsOfTokens}
 use Rattle.c_front.specs.Due.{told_as}
-use Rattle.c_front.specs.Inner.{Tells}
+use Rattle.c_front.specs.inner.Inner.{Tells}
 use Rattle.c_front.specs.Names.{name_of}
 use Rattle.c_front.specs.Over.{over}
 use Rattle.c_front.specs.Reached.{FailsAtOne}

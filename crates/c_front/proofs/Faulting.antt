@@ -7,7 +7,7 @@ use Rattle.c_front.specs.declared.error.FrontErr.{FrontErr}
 use Rattle.c_front.specs.declared.error.FrontErr.TheVariants as errors
 use Rattle.c_front.specs.declared.places.Places.{Places}
 use Rattle.c_front.specs.Due.{refusal_at, bad_code, IsNoUnit, bad, deep}
-use Rattle.c_front.specs.Inner.{Tells, Faults}
+use Rattle.c_front.specs.inner.Inner.{Tells, Faults}
 
 faults : (p : Places) (e due_one : FrontErr) → (e ≡ due_one → IsNoUnit p e) → Tells e due_one → Faults p e
 faults p (errors.Source code file line) due_one says tells = says tells

@@ -8,7 +8,7 @@ use Rattle.c_front.specs.declared.error.FrontErr.{FrontErr}
 use Rattle.c_front.specs.declared.error.FrontErr.TheVariants as errors
 use Rattle.c_front.specs.declared.places.Places.{Places}
 use Rattle.c_front.specs.Due.{refusal_at, told_as}
-use Rattle.c_front.specs.Inner.{Tells}
+use Rattle.c_front.specs.inner.Inner.{Tells}
 
 told_code : (e due_one : FrontErr) → Tells e due_one → HasFrontCode due_one → HasFrontCode e
 told_code (errors.Source code file line) due_one tells listed = subst HasFrontCode (sym tells) listed

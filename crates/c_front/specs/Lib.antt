@@ -5,5 +5,5 @@ pub mod Due
 pub mod Answer
 pub mod Codes
 pub mod Causes
-pub mod Inner
 pub mod Reached
+pub mod inner

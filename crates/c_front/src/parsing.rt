@@ -3,7 +3,7 @@ ghost use Rattle.std.specs.Prelude.{◌≤◌, length, IfOk, IfErr};
 ghost use Rattle.c_front.specs.Causes.{IsOfTokens, IsWithin};
 ghost use Rattle.c_front.specs.Codes.{HasFrontCode};
 ghost use Rattle.c_front.specs.Due.{refusal_at};
-ghost use Rattle.c_front.specs.Inner.{Parses, Tells};
+ghost use Rattle.c_front.specs.inner.Inner.{Parses, Tells};
 
 use crate::error::FrontErr;
 use crate::places::Places;

@@ -15,7 +15,7 @@ ghost use Rattle.c_front.specs.Due.{Answers, told_as};
 ghost use Rattle.c_front.specs.Answer.{IsTooDeep, IsUnitOf};
 ghost use Rattle.c_front.specs.Codes.{HasFrontCode};
 ghost use Rattle.c_front.specs.Causes.{HasFailed, IsOver, IsWithin, Lacks, MissesOnly};
-ghost use Rattle.c_front.specs.Inner.{Tells};
+ghost use Rattle.c_front.specs.inner.Inner.{Tells};
 ghost use Rattle.c_front.specs.Reached.{FailsAtOne};
 
 use crate::error::FrontErr;

@@ -4,7 +4,7 @@ use Rattle.std.specs.Prelude.{Option, Some, None, is_some, unwrap_or, bytes_eq}
 use Rattle.std.proofs.lemmas.Bool.{and_parts, and_from, lt-ltb}
 use Rattle.std.proofs.lemmas.Slice.Eq.{bytes_eq-Decides}
 use Rattle.assembler.specs.Labels.{address_of, address_in, has_label, with_label, are_words}
-use Rattle.c_image.specs.Labels.{added}
+use Rattle.c_image.specs.inner.Labels.{added}
 
 abbrev Labels : Type 0
 Labels = List (List ℕ × ℕ)

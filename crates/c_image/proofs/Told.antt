@@ -7,7 +7,7 @@ use Rattle.c_front.specs.declared.places.Places.{Places}
 use Rattle.c_types.specs.Programs.{TFunctionT, ProgramT}
 use Rattle.cart_format.specs.declared.row.LineRow.{LineRow}
 use Rattle.project_text.specs.declared.map.Map.{Map}
-use Rattle.c_image.specs.Labels.{added}
+use Rattle.c_image.specs.inner.Labels.{added}
 use Rattle.c_image.specs.Lines.{files_behind, rows_of}
 use Rattle.c_image.specs.Mapping.{map_of}
 use Rattle.c_image.proofs.Added.{same_addresses}

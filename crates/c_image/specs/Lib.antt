@@ -1,4 +1,4 @@
-pub mod Labels
 pub mod Mapping
 pub mod Lines
 pub mod Imaging
+pub mod inner

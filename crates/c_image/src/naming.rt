@@ -2,7 +2,7 @@
 ghost use Rattle.std.specs.Prelude.{◌≡◌, [], true, IfOk};
 ghost use Rattle.asm_laws.specs.Labelled.{label_of_function};
 ghost use Rattle.assembler.specs.Labels.{address_in, are_words};
-ghost use Rattle.c_image.specs.Labels.{added};
+ghost use Rattle.c_image.specs.inner.Labels.{added};
 
 use assembler::Labels;
 use kit_base::{Memory, Name, join_pieces};

@@ -25,9 +25,9 @@ use Rattle.c_parse.specs.Scope.{Context, is_type, span}
 use Rattle.c_parse.specs.Marks.{prefix, step_before, step_behind, binary, assigner}
 use Rattle.c_parse.specs.Grammar as g
 use Rattle.c_parse.specs.Grammar.{NoBracket, Base, Ty, Run, Expr, Level, Tail, Unary, Suffixes, Primary, Exprs}
-use Rattle.c_parse.specs.Reader.{◌>>=◌, Got, bad, deep, room_fault, goes_on, repeat, loop, behind, at_open_bracket, at_open_paren, open_paren, at_close_paren, close_paren, close_bracket, at_comma, at_star, name}
-use Rattle.c_parse.specs.Leads.{type_at, begins_type, type_mark_at, start_at, is_some_type, is_some_start, is_some_lead, begins_expr, lead_at, suffix_at}
-use Rattle.c_parse.specs.Reading.{Readers, run_more, run_with, type_mark_by, type_mark_turn, base_by, type_with, exprs_by, exprs_turn, exprs_with, arguments_by, arguments_with, named_by, primary_by, primary_with, suffix_by, is_some_suffix, suffix_turn_by, suffix_turn, postfix_with, unary_by, unary_with, of_level, operator_at, operator_by, operator_turn, level_with, is_unary, assigner_at, assigner_behind, assign_by, whole_with, readers}
+use Rattle.c_parse.specs.inner.Reader.{◌>>=◌, Got, bad, deep, room_fault, goes_on, repeat, loop, behind, at_open_bracket, at_open_paren, open_paren, at_close_paren, close_paren, close_bracket, at_comma, at_star, name}
+use Rattle.c_parse.specs.inner.Leads.{type_at, begins_type, type_mark_at, start_at, is_some_type, is_some_start, is_some_lead, begins_expr, lead_at, suffix_at}
+use Rattle.c_parse.specs.inner.Reading.{Readers, run_more, run_with, type_mark_by, type_mark_turn, base_by, type_with, exprs_by, exprs_turn, exprs_with, arguments_by, arguments_with, named_by, primary_by, primary_with, suffix_by, is_some_suffix, suffix_turn_by, suffix_turn, postfix_with, unary_by, unary_with, of_level, operator_at, operator_by, operator_turn, level_with, is_unary, assigner_at, assigner_behind, assign_by, whole_with, readers}
 use Rattle.c_parse.proofs.Told as told
 use Rattle.c_parse.proofs.Told.{StartIs, start_is, LeadIs, lead_is, SuffixIs, suffix_is, TypeIs, type_is, TypeMarkIs, type_mark_is}
 use Rattle.c_parse.proofs.Single.{no_bracket, open_paren_is, close_paren_is, open_bracket_is, comma_is, star_is}

@@ -8,20 +8,20 @@ use Rattle.c_parse.specs.declared.fault.Fault.{Fault}
 use Rattle.c_parse.specs.declared.fault.Fault.TheVariants.{TooDeep}
 use Rattle.c_parse.specs.Tok.{Tok, keyword, number, mark}
 use Rattle.c_parse.specs.Scope.{Context, is_type, span}
-use Rattle.c_parse.specs.Reader.{◌>>=◌, Got, Reader, room_fault, loop, behind, at_close_paren, name}
-use Rattle.c_parse.specs.Leads.{begins_expr}
-use Rattle.c_parse.specs.Reading.{level_at, expr_at, type_read}
+use Rattle.c_parse.specs.inner.Reader.{◌>>=◌, Got, Reader, room_fault, loop, behind, at_close_paren, name}
+use Rattle.c_parse.specs.inner.Leads.{begins_expr}
+use Rattle.c_parse.specs.inner.Reading.{level_at, expr_at, type_read}
 use Rattle.c_parse.proofs.Completion.{Rule, Deep, GoodFault, Good, GoodTurn, Word, Seq, Implies, widen_fault, widen, good_behind, fault_front, bind_good, seq_word, widen_word, first_wrong, first_deep, Repeats, repeats_word, TurnTakes, loop_good}
 use Rattle.c_parse.specs.Lists as lists
 use Rattle.c_parse.specs.Lists.{Separated, ListEnd}
-use Rattle.c_parse.specs.ReadingLists.{separated, more_turn, listed}
-use Rattle.c_parse.specs.Reader.{end_list, at_open_brace, at_close_brace, semicolon, at_assign, at_void_word}
+use Rattle.c_parse.specs.inner.ReadingLists.{separated, more_turn, listed}
+use Rattle.c_parse.specs.inner.Reader.{end_list, at_open_brace, at_close_brace, semicolon, at_assign, at_void_word}
 use Rattle.c_parse.proofs.OneToken.{TokR, token_frame}
 use Rattle.c_tree.specs.Tree.{InitT, OneI, ListI, VarT}
 use Rattle.c_tree.specs.View.{inits}
 use Rattle.c_parse.specs.Declarations as d
 use Rattle.c_parse.specs.Declarations.{Init, Inits, Field, Var, Vars, Member, Members, Param, Params, Value}
-use Rattle.c_parse.specs.ReadingDeclarations.{init_by, init_at, bare_var, field, var_by, var, vars_at, member_at, members_by, members_turn, members_at, param_at, params_by, at_void, params_at}
+use Rattle.c_parse.specs.inner.ReadingDeclarations.{init_by, init_at, bare_var, field, var_by, var, vars_at, member_at, members_by, members_turn, members_at, param_at, params_by, at_void, params_at}
 use Rattle.c_parse.proofs.Single.{open_brace_is, assign_is, void_word_is}
 use Rattle.c_parse.proofs.Shrinking.{turns_of_fields, turns_of_vars, turns_of_params, turns_of_inits, turns_of_members}
 use Rattle.c_parse.proofs.Begins.{NameR, name_word, name_good, ExprR, LevelR, UnaryR, TyR, expr_word, type_word, unary_level, zero_unary, level_expr, unary_deep, type_room, readers_good, plain_level}

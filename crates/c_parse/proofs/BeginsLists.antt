@@ -4,14 +4,14 @@ use Rattle.c_lex.specs.declared.token.Punct.TheVariants as m
 use Rattle.c_parse.specs.declared.class.Key.TheVariants as key
 use Rattle.c_parse.specs.declared.fault.Fault.{Fault}
 use Rattle.c_parse.specs.Tok.{Tok, keyword, mark}
-use Rattle.c_parse.specs.Reader.{◌>>=◌, Got, Reader, loop, behind, at_comma}
+use Rattle.c_parse.specs.inner.Reader.{◌>>=◌, Got, Reader, loop, behind, at_comma}
 use Rattle.c_parse.proofs.Single as single
 use Rattle.c_parse.proofs.Single.{no_bracket, open_paren_is, close_paren_is, open_bracket_is, close_bracket_is, comma_is, star_is}
 use Rattle.c_parse.proofs.Completion.{Rule, Good, GoodTokens, GoodTurn, Word, Seq, Implies, widen_fault, widen_frame, widen, good_behind, fault_behind, frame_seq, bind_good, Repeats, repeats_word, TurnTakes, loop_good}
 use Rattle.c_parse.specs.Lists as lists
 use Rattle.c_parse.specs.Lists.{Separated, ListEnd}
-use Rattle.c_parse.specs.ReadingLists.{pushed, comma_by, comma_turn, separated, more_turn, listed, brace_by, brace_turn, braced}
-use Rattle.c_parse.specs.Reader.{at_more, end_list, is_open_brace, open_brace, is_close_brace, at_close_brace, close_brace, is_semicolon, semicolon, is_colon, colon, is_while_word, while_word}
+use Rattle.c_parse.specs.inner.ReadingLists.{pushed, comma_by, comma_turn, separated, more_turn, listed, brace_by, brace_turn, braced}
+use Rattle.c_parse.specs.inner.Reader.{at_more, end_list, is_open_brace, open_brace, is_close_brace, at_close_brace, close_brace, is_semicolon, semicolon, is_colon, colon, is_while_word, while_word}
 use Rattle.c_parse.proofs.OneToken.{TokR, token_frame, token_word, must_good}
 
 -- ---- what repeats

@@ -8,18 +8,18 @@ use Rattle.c_parse.specs.declared.fault.Fault.TheVariants.{TooDeep}
 use Rattle.c_parse.specs.Tok.{Tok, keyword, number, mark}
 use Rattle.c_parse.specs.Scope.{Context, is_type, span}
 use Rattle.c_parse.specs.Grammar.{Expr, Level}
-use Rattle.c_parse.specs.Reader.{◌>>=◌, no_room, room_fault, at_else_word, open_paren, close_paren}
-use Rattle.c_parse.specs.Leads.{begins_type, begins_expr}
-use Rattle.c_parse.specs.Reading.{level_at, expr_at}
+use Rattle.c_parse.specs.inner.Reader.{◌>>=◌, no_room, room_fault, at_else_word, open_paren, close_paren}
+use Rattle.c_parse.specs.inner.Leads.{begins_type, begins_expr}
+use Rattle.c_parse.specs.inner.Reading.{level_at, expr_at}
 use Rattle.c_parse.proofs.Told as told
 use Rattle.c_parse.proofs.Told.{StartIs, start_is, LeadIs, lead_is, SuffixIs, suffix_is, TypeIs, type_is, TypeMarkIs, type_mark_is}
 use Rattle.c_parse.proofs.Completion.{Rule, Plain, Fits, Deep, GoodFault, Good, Word, Seq, Implies, widen_fault, widen, good_behind, fault_front, bind_good, bind_good_tokens, seq_word, first_wrong, first_deep, Repeats, repeats_word, TurnTakes}
-use Rattle.c_parse.specs.ReadingLists.{brace_turn, braced}
-use Rattle.c_parse.specs.Reader.{open_brace, close_brace, semicolon, colon, while_word}
+use Rattle.c_parse.specs.inner.ReadingLists.{brace_turn, braced}
+use Rattle.c_parse.specs.inner.Reader.{open_brace, close_brace, semicolon, colon, while_word}
 use Rattle.c_parse.proofs.OneToken.{TokR, token_frame, open_paren_good, close_paren_good, open_paren_word, close_paren_word}
 use Rattle.c_tree.specs.Tree.{VarT}
 use Rattle.c_parse.specs.Declarations.{Vars}
-use Rattle.c_parse.specs.ReadingDeclarations.{vars_at}
+use Rattle.c_parse.specs.inner.ReadingDeclarations.{vars_at}
 use Rattle.c_parse.proofs.Shrinking.{turns_of_stmts, turns_of_arms}
 use Rattle.c_parse.proofs.Begins.{ExprR, LevelR, UnaryR, level_word, expr_word, unary_level, zero_unary, level_expr, unary_deep, type_deep}
 use Rattle.c_parse.proofs.BeginsLists.{mapped_good, mapped_tokens, braced_good, open_brace_good, close_brace_good, semicolon_good, colon_good, while_word_good, open_brace_word, close_brace_word, semicolon_word, colon_word, while_tok_word}
@@ -29,8 +29,8 @@ use Rattle.c_parse.specs.declared.lead.StmtLead.{StmtLead}
 use Rattle.c_parse.specs.declared.lead.ArmLead.{ArmLead}
 use Rattle.c_parse.specs.Statements as s
 use Rattle.c_parse.specs.Statements.{Maybe, First, Stmt, Stmts, Arm, Arms}
-use Rattle.c_parse.specs.Leads.{stmt_at, begins_stmt, is_some_stmt, arm_at, is_some_arm}
-use Rattle.c_parse.specs.ReadingStatements.{maybe_by, maybe_at, first_by, first_at, Bodies, test_at, if_by, stmt_by, stmt_with, arm_by, arm_with, bodies, stmt_read}
+use Rattle.c_parse.specs.inner.Leads.{stmt_at, begins_stmt, is_some_stmt, arm_at, is_some_arm}
+use Rattle.c_parse.specs.inner.ReadingStatements.{maybe_by, maybe_at, first_by, first_at, Bodies, test_at, if_by, stmt_by, stmt_with, arm_by, arm_with, bodies, stmt_read}
 use Rattle.c_parse.proofs.Told.{StmtIs, stmt_is, ArmIs, arm_is}
 use Rattle.c_parse.proofs.Single.{no_else, else_word_is}
 use Rattle.c_parse.proofs.BeginsDeclarations.{expr_read_good, level_read_good, zero_expr, VarsQ, vars_word, vars_good, vars_deep}

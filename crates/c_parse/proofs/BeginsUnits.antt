@@ -12,21 +12,21 @@ use Rattle.c_parse.specs.declared.fault.Fault.TheVariants.{Syntax, TooDeep}
 use Rattle.c_parse.specs.Tok.{Tok, keyword, refused, word, number, character, text, mark}
 use Rattle.c_parse.specs.Scope.{Context, is_type, span}
 use Rattle.c_parse.specs.Grammar.{Ty}
-use Rattle.c_parse.specs.Reader.{◌>>=◌, Got, Reader, room_fault, goes_on, repeat, loop, at_open_paren, open_paren, close_paren, is_comma, at_comma, name}
-use Rattle.c_parse.specs.Reading.{level_at, type_read}
+use Rattle.c_parse.specs.inner.Reader.{◌>>=◌, Got, Reader, room_fault, goes_on, repeat, loop, at_open_paren, open_paren, close_paren, is_comma, at_comma, name}
+use Rattle.c_parse.specs.inner.Reading.{level_at, type_read}
 use Rattle.c_parse.proofs.Told as told
 use Rattle.c_parse.proofs.Told.{StartIs, start_is, LeadIs, lead_is, SuffixIs, suffix_is, TypeIs, type_is, TypeMarkIs, type_mark_is}
 use Rattle.c_parse.proofs.Single.{comma_is}
 use Rattle.c_parse.proofs.Completion.{Rule, Fits, Frame, Cut, Begun, Deep, GoodFault, Good, Word, Seq, Implies, widen_fault, widen_frame, widen, fits_part, good_behind, fault_behind, fault_front, bind_good, bind_good_tokens, seq_word, widen_word, first_wrong, first_deep}
 use Rattle.c_parse.specs.Lists as lists
 use Rattle.c_parse.specs.Lists.{Separated, ListEnd}
-use Rattle.c_parse.specs.ReadingLists.{listed, braced}
-use Rattle.c_parse.specs.Reader.{end_list, open_brace, close_brace, is_semicolon, at_semicolon, semicolon, is_assign, at_assign, new}
+use Rattle.c_parse.specs.inner.ReadingLists.{listed, braced}
+use Rattle.c_parse.specs.inner.Reader.{end_list, open_brace, close_brace, is_semicolon, at_semicolon, semicolon, is_assign, at_assign, new}
 use Rattle.c_parse.proofs.OneToken.{TokR, token_frame, token_word, open_paren_good, close_paren_good, open_paren_word, close_paren_word}
 use Rattle.c_tree.specs.Tree.{VarT}
 use Rattle.c_parse.specs.Declarations as d
 use Rattle.c_parse.specs.Declarations.{Init, Inits, Field, Var, Vars, Member, Members, Param, Params, Value}
-use Rattle.c_parse.specs.ReadingDeclarations.{value_by, value, vars_at, members_at, params_at}
+use Rattle.c_parse.specs.inner.ReadingDeclarations.{value_by, value, vars_at, members_at, params_at}
 use Rattle.c_parse.proofs.Single.{assign_is}
 use Rattle.c_parse.proofs.Shrinking.{turns_of_values}
 use Rattle.c_parse.proofs.Begins.{NameR, name_word, name_good, LevelR, TyR, level_word, type_word}
@@ -34,7 +34,7 @@ use Rattle.c_parse.proofs.BeginsLists.{mapped_tokens, listed_good, OneR, SomeR, 
 use Rattle.c_tree.specs.Tree.{StmtT}
 use Rattle.c_tree.specs.View.{stmts}
 use Rattle.c_parse.specs.Statements.{Stmts}
-use Rattle.c_parse.specs.ReadingStatements.{stmt_read}
+use Rattle.c_parse.specs.inner.ReadingStatements.{stmt_read}
 use Rattle.c_parse.proofs.Told.{StmtIs, stmt_is, ArmIs, arm_is}
 use Rattle.c_parse.proofs.BeginsDeclarations.{type_read_good, level_read_good, VarsQ, vars_good}
 use Rattle.c_tree.specs.Tree.{ItemT, RecordD, EnumD, TypedefD, VarsD, FunctionD}
@@ -42,8 +42,8 @@ use Rattle.c_parse.specs.declared.lead.ItemLead.{ItemLead}
 use Rattle.c_parse.specs.Units as u
 use Rattle.c_parse.specs.Units.{record_word, Gives, Item, behind_item, Items, Unit_}
 use Rattle.c_parse.specs.Scope.{declare}
-use Rattle.c_parse.specs.Leads.{item_at}
-use Rattle.c_parse.specs.ReadingUnits.{record_by, record_at, enum_at, typedef_at, body_by, function_at, vars_by, typed_by, item_by, item_read, Unit_so_far, item_turn, unit_at}
+use Rattle.c_parse.specs.inner.Leads.{item_at}
+use Rattle.c_parse.specs.inner.ReadingUnits.{record_by, record_at, enum_at, typedef_at, body_by, function_at, vars_by, typed_by, item_by, item_read, Unit_so_far, item_turn, unit_at}
 use Rattle.c_parse.proofs.Told.{ItemIs, item_is}
 use Rattle.c_parse.proofs.Single.{assign_is, semicolon_is}
 use Rattle.c_parse.proofs.Shrinking.{items_take}

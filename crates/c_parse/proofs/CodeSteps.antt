@@ -13,15 +13,15 @@ use Rattle.c_tree.specs.Tree as t
 use Rattle.c_tree.specs.View.{expr, init, inits, var, stmt, stmts, arm, arms}
 use Rattle.c_parse.specs.Tok.{Tok}
 use Rattle.c_parse.specs.Scope.{Context}
-use Rattle.c_parse.specs.View.{boxed_stmt}
-use Rattle.c_parse.specs.Reader.{◌>>=◌, no_room, at_open_brace, semicolon}
-use Rattle.c_parse.specs.Leads.{begins_expr, begins_type, begins_stmt, stmt_at, arm_at, is_some_arm}
-use Rattle.c_parse.specs.Reading.{type_read}
-use Rattle.c_parse.specs.ReadingLists.{separated}
-use Rattle.c_parse.specs.ReadingDeclarations.{init_by, init_at, field, vars_at, member_at, param_at}
-use Rattle.c_parse.specs.ReadingDeclarations as r
-use Rattle.c_parse.specs.ReadingStatements.{first_by, first_at, bodies, arm_with, stmt_read, arm_read}
-use Rattle.c_parse.specs.ReadingParts.{stmt_parts}
+use Rattle.c_parse.specs.inner.View.{boxed_stmt}
+use Rattle.c_parse.specs.inner.Reader.{◌>>=◌, no_room, at_open_brace, semicolon}
+use Rattle.c_parse.specs.inner.Leads.{begins_expr, begins_type, begins_stmt, stmt_at, arm_at, is_some_arm}
+use Rattle.c_parse.specs.inner.Reading.{type_read}
+use Rattle.c_parse.specs.inner.ReadingLists.{separated}
+use Rattle.c_parse.specs.inner.ReadingDeclarations.{init_by, init_at, field, vars_at, member_at, param_at}
+use Rattle.c_parse.specs.inner.ReadingDeclarations as r
+use Rattle.c_parse.specs.inner.ReadingStatements.{first_by, first_at, bodies, arm_with, stmt_read, arm_read}
+use Rattle.c_parse.specs.inner.ReadingParts.{stmt_parts}
 use Rattle.c_parse.proofs.Parts.{parts_are}
 
 pub init_step : (c : Context) (n : ℕ) (ts : List Tok) → 0 < n → init_at c n ts ≡ init_by c (n - 1) (λ us. init_at c (n - 1) us) ts (at_open_brace ts)

@@ -4,7 +4,7 @@ use Rattle.std.specs.Prelude.{nat_lt}
 use Rattle.c_parse.specs.declared.fault.Fault.{Fault}
 use Rattle.c_parse.specs.declared.fault.Fault.TheVariants.{Syntax, TooDeep}
 use Rattle.c_parse.specs.Tok.{Tok}
-use Rattle.c_parse.specs.Reader.{◌>>=◌, Got, deep, above, Turn, goes_on, repeat, loop, at_else_word, at_open_bracket}
+use Rattle.c_parse.specs.inner.Reader.{◌>>=◌, Got, deep, above, Turn, goes_on, repeat, loop, at_else_word, at_open_bracket}
 
 -- tokens that a rule takes, and those behind them
 abbrev pub Rule : Type 1

@@ -9,11 +9,11 @@ use Rattle.c_tree.specs.Depth.{type_depth, init_depth, inits_depth, var_depth, v
 use Rattle.c_parse.specs.declared.lead.TypeMark.TheVariants as type_mark
 use Rattle.c_parse.specs.Tok.{Tok, word, mark}
 use Rattle.c_parse.specs.Scope.{Context, is_type, span}
-use Rattle.c_parse.specs.Reader.{◌>>=◌, Got, Reader, Turn, name, at_comma, at_more, at_assign, at_open_brace, at_close_brace, at_close_paren, end_list, semicolon}
-use Rattle.c_parse.specs.Leads.{begins_expr, begins_type, type_mark_at}
-use Rattle.c_parse.specs.Reading.{type_read}
-use Rattle.c_parse.specs.ReadingLists.{pushed, comma_turn, more_turn, separated, listed}
-use Rattle.c_parse.specs.ReadingDeclarations.{init_by, init_at, field, var, vars_at, member_at, members_turn, members_at, param_at, at_void, params_at, value}
+use Rattle.c_parse.specs.inner.Reader.{◌>>=◌, Got, Reader, Turn, name, at_comma, at_more, at_assign, at_open_brace, at_close_brace, at_close_paren, end_list, semicolon}
+use Rattle.c_parse.specs.inner.Leads.{begins_expr, begins_type, type_mark_at}
+use Rattle.c_parse.specs.inner.Reading.{type_read}
+use Rattle.c_parse.specs.inner.ReadingLists.{pushed, comma_turn, more_turn, separated, listed}
+use Rattle.c_parse.specs.inner.ReadingDeclarations.{init_by, init_at, field, var, vars_at, member_at, members_turn, members_at, param_at, at_void, params_at, value}
 use Rattle.c_parse.specs.Grammar.{Base, Ty, Expr, Level}
 use Rattle.c_parse.specs.Grammar as g
 use Rattle.c_parse.specs.Lists.{Separated, ListEnd}

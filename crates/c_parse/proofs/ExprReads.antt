@@ -14,9 +14,9 @@ use Rattle.c_parse.specs.declared.lead.TypeMark.TheVariants as type_mark
 use Rattle.c_parse.specs.Tok.{Tok, keyword, word, mark}
 use Rattle.c_parse.specs.Scope.{Context, span}
 use Rattle.c_parse.specs.Marks.{step_behind}
-use Rattle.c_parse.specs.Reader.{◌>>=◌, Got, above, goes_on, repeat, loop, at_close_paren, at_open_paren, at_open_bracket, close_paren}
-use Rattle.c_parse.specs.Leads.{begins_expr, begins_type, type_mark_at, suffix_of}
-use Rattle.c_parse.specs.Reading.{run_with, type_mark_by, type_mark_turn, base, type_with, exprs_turn, exprs_with, primary_with, suffix_by, suffix_turn, is_some_suffix, unary_with, operator_by, operator_at, operator_turn, level_with, assigner_at, assigner_behind, assign_by, is_unary, readers, level_at, expr_at, type_read, run_at}
+use Rattle.c_parse.specs.inner.Reader.{◌>>=◌, Got, above, goes_on, repeat, loop, at_close_paren, at_open_paren, at_open_bracket, close_paren}
+use Rattle.c_parse.specs.inner.Leads.{begins_expr, begins_type, type_mark_at, suffix_of}
+use Rattle.c_parse.specs.inner.Reading.{run_with, type_mark_by, type_mark_turn, base, type_with, exprs_turn, exprs_with, primary_with, suffix_by, suffix_turn, is_some_suffix, unary_with, operator_by, operator_at, operator_turn, level_with, assigner_at, assigner_behind, assign_by, is_unary, readers, level_at, expr_at, type_read, run_at}
 use Rattle.c_parse.specs.Grammar as g
 use Rattle.c_parse.specs.Grammar.{Base, Ty, Marks, Run, Expr, Level, Tail, Unary, Suffixes, Primary, Exprs, NoBracket}
 use Rattle.c_parse.proofs.Outcomes.{Reads, read, over, reads_is, bind_reads, bind_twice, above_reads, above_twice, none_reads, repeat_ends, repeat_goes}

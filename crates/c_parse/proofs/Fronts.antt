@@ -14,9 +14,9 @@ use Rattle.c_parse.specs.declared.lead.Suffix.TheVariants as suffix
 use Rattle.c_parse.specs.Tok.{Tok, keyword, number, character, mark}
 use Rattle.c_parse.specs.Scope.{Context}
 use Rattle.c_parse.specs.Marks.{prefix, step_before, step_behind, binary, assigner, value}
-use Rattle.c_parse.specs.Reader.{at_open_paren, is_open_paren}
-use Rattle.c_parse.specs.Leads.{begins_type, start_at, lead_of, begins_expr, suffix_of, suffix_at}
-use Rattle.c_parse.specs.Reading.{operator_at, assigner_at, is_unary}
+use Rattle.c_parse.specs.inner.Reader.{at_open_paren, is_open_paren}
+use Rattle.c_parse.specs.inner.Leads.{begins_type, start_at, lead_of, begins_expr, suffix_of, suffix_at}
+use Rattle.c_parse.specs.inner.Reading.{operator_at, assigner_at, is_unary}
 use Rattle.c_parse.specs.Grammar as g
 use Rattle.c_parse.specs.Grammar.{Base, Ty, Marks, Run, Expr, Level, Tail, Unary, Suffixes, Primary, Exprs, NoBracket}
 

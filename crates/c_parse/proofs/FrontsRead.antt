@@ -21,9 +21,9 @@ use Rattle.c_parse.specs.Tok.{Tok, keyword, word, number, character, text, mark}
 use Rattle.c_parse.specs.Scope.{Context, is_type}
 use Rattle.c_parse.specs.Marks.{prefix, prefix_mark, step_before, step_behind, binary, assigner, value, value_of_key}
 use Rattle.c_parse.specs.Grammar.{NoBracket}
-use Rattle.c_parse.specs.Reader.{◌>>=◌, Got, deep, above, behind, bytes_at, is_behind, must, at_name, name, at_new, new, at_open_paren, at_close_paren, at_open_bracket, at_close_bracket, at_open_brace, at_close_brace, at_semicolon, at_comma, at_colon, at_assign, at_star, at_else_word, at_while_word, at_void_word, open_paren, close_paren, close_bracket, open_brace, close_brace, semicolon, colon, while_word}
-use Rattle.c_parse.specs.Leads.{type_at, begins_type, type_mark_at, operator_start, mark_start, start_at, key_lead, lead_at, suffix_at}
-use Rattle.c_parse.specs.Reading.{of_level, operator_at, assigner_at}
+use Rattle.c_parse.specs.inner.Reader.{◌>>=◌, Got, deep, above, behind, bytes_at, is_behind, must, at_name, name, at_new, new, at_open_paren, at_close_paren, at_open_bracket, at_close_bracket, at_open_brace, at_close_brace, at_semicolon, at_comma, at_colon, at_assign, at_star, at_else_word, at_while_word, at_void_word, open_paren, close_paren, close_bracket, open_brace, close_brace, semicolon, colon, while_word}
+use Rattle.c_parse.specs.inner.Leads.{type_at, begins_type, type_mark_at, operator_start, mark_start, start_at, key_lead, lead_at, suffix_at}
+use Rattle.c_parse.specs.inner.Reading.{of_level, operator_at, assigner_at}
 
 pub bind_ok : {A B : Type 0} (r : Result A Fault) (f : A → Result B Fault) (y : B) → (r >>= f) ≡ Ok y → (x : A) × (r ≡ Ok x) × (f x ≡ Ok y)
 bind_ok (Ok x) f y e = (x, refl, e)

@@ -5,10 +5,10 @@ use Rattle.c_tree.specs.View.{inits}
 use Rattle.c_parse.specs.declared.fault.ReadErr.{ReadErr}
 use Rattle.c_parse.specs.Tok.{Tok}
 use Rattle.c_parse.specs.Scope.{Context, span}
-use Rattle.c_parse.specs.View.{Fails}
-use Rattle.c_parse.specs.Reader.{behind, at_open_brace, end_list}
-use Rattle.c_parse.specs.ReadingLists.{listed}
-use Rattle.c_parse.specs.ReadingDeclarations.{init_at}
+use Rattle.c_parse.specs.inner.View.{Fails}
+use Rattle.c_parse.specs.inner.Reader.{behind, at_open_brace, end_list}
+use Rattle.c_parse.specs.inner.ReadingLists.{listed}
+use Rattle.c_parse.specs.inner.ReadingDeclarations.{init_at}
 use Rattle.c_parse.proofs.Loops.{fails_on}
 use Rattle.c_parse.proofs.CodeSteps.{init_step}
 

@@ -3,10 +3,10 @@ use Rattle.std.proofs.Common.{◌≡◌, ℕ, ◌<◌, Bool, true, false, List, 
 use Rattle.c_tree.specs.Tree.{ExprT, TypeT, InitT, VarT, StmtT, ArmT, ItemT}
 use Rattle.c_parse.specs.Tok.{Tok}
 use Rattle.c_parse.specs.Scope.{Context, span}
-use Rattle.c_parse.specs.Reader.{Got, behind, name, at_assign}
-use Rattle.c_parse.specs.ReadingDeclarations.{init_at, bare_var, field, var_by, var, member_at, param_at, value}
-use Rattle.c_parse.specs.ReadingStatements.{stmt_read, arm_read}
-use Rattle.c_parse.specs.ReadingUnits.{item_read}
+use Rattle.c_parse.specs.inner.Reader.{Got, behind, name, at_assign}
+use Rattle.c_parse.specs.inner.ReadingDeclarations.{init_at, bare_var, field, var_by, var, member_at, param_at, value}
+use Rattle.c_parse.specs.inner.ReadingStatements.{stmt_read, arm_read}
+use Rattle.c_parse.specs.inner.ReadingUnits.{item_read}
 use Rattle.c_parse.proofs.FrontsRead as f
 use Rattle.c_parse.proofs.FrontsRead.{bind_ok, ok_at}
 use Rattle.c_parse.proofs.SoundDeclarations.{init_derived, member_derived, param_derived, value_derived}

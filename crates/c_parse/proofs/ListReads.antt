@@ -4,7 +4,7 @@ use Rattle.std.specs.Prelude.{max}
 use Rattle.std.proofs.lemmas.List.{append-nil}
 use Rattle.c_parse.specs.declared.fault.Fault.{Fault}
 use Rattle.c_parse.specs.Tok.{Tok}
-use Rattle.c_parse.specs.Reader.{◌>>=◌, Got, Reader, Turn, goes_on, repeat, loop}
+use Rattle.c_parse.specs.inner.Reader.{◌>>=◌, Got, Reader, Turn, goes_on, repeat, loop}
 use Rattle.c_parse.proofs.Outcomes.{Reads, read, over, bind_reads, bind_twice, repeat_ends, repeat_goes}
 
 -- a list's part that one turn adds, and how deep that is

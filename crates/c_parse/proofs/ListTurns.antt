@@ -2,9 +2,9 @@
 use Rattle.std.proofs.Common.{◌≡◌, true, false, List, [], ◌∷◌, ◌++◌, Some, None, Ok, refl}
 use Rattle.c_parse.specs.declared.fault.ReadErr.{ReadErr}
 use Rattle.c_parse.specs.Tok.{Tok}
-use Rattle.c_parse.specs.View.{Fails}
-use Rattle.c_parse.specs.Reader.{Got, Reader, behind, at_comma, at_more, at_close_brace}
-use Rattle.c_parse.specs.ReadingLists.{pushed, comma_turn, more_turn, brace_turn}
+use Rattle.c_parse.specs.inner.View.{Fails}
+use Rattle.c_parse.specs.inner.Reader.{Got, Reader, behind, at_comma, at_more, at_close_brace}
+use Rattle.c_parse.specs.inner.ReadingLists.{pushed, comma_turn, more_turn, brace_turn}
 use Rattle.c_parse.proofs.Loops.{fails_on}
 
 module _ {A : Type 0} (read : Reader A) (xs : List A) (ts : List Tok) where

@@ -6,13 +6,13 @@ use Rattle.c_parse.specs.declared.fault.Fault.{Fault}
 use Rattle.c_parse.specs.Tok.{Tok, keyword}
 use Rattle.c_tree.specs.Tree.{ExprT, TypeT, InitT, OneI, ListI, VarT}
 use Rattle.c_parse.specs.Scope.{Context, span}
-use Rattle.c_parse.specs.Leads.{begins_expr}
+use Rattle.c_parse.specs.inner.Leads.{begins_expr}
 use Rattle.c_tree.specs.View.{inits}
-use Rattle.c_parse.specs.ReadingDeclarations.{init_by, init_at, bare_var, field, var_by, var, vars_at, member_at, members_by, members_turn, members_at, param_at, params_by, at_void, params_at, value_by, value}
-use Rattle.c_parse.specs.ReadingStatements.{stmt_read, arm_read}
-use Rattle.c_parse.specs.ReadingLists.{comma_turn, separated, more_turn, listed, brace_turn}
-use Rattle.c_parse.specs.Reading.{type_mark_turn, base, readers, level_at, expr_at, type_read}
-use Rattle.c_parse.specs.Reader.{◌>>=◌, Got, Reader, Turn, loop, behind, is_close_paren, is_open_brace, at_close_brace, semicolon, end_list, at_semicolon, is_void_word, at_open_brace, is_assign, at_assign, at_star, at_close_paren, name}
+use Rattle.c_parse.specs.inner.ReadingDeclarations.{init_by, init_at, bare_var, field, var_by, var, vars_at, member_at, members_by, members_turn, members_at, param_at, params_by, at_void, params_at, value_by, value}
+use Rattle.c_parse.specs.inner.ReadingStatements.{stmt_read, arm_read}
+use Rattle.c_parse.specs.inner.ReadingLists.{comma_turn, separated, more_turn, listed, brace_turn}
+use Rattle.c_parse.specs.inner.Reading.{type_mark_turn, base, readers, level_at, expr_at, type_read}
+use Rattle.c_parse.specs.inner.Reader.{◌>>=◌, Got, Reader, Turn, loop, behind, is_close_paren, is_open_brace, at_close_brace, semicolon, end_list, at_semicolon, is_void_word, at_open_brace, is_assign, at_assign, at_star, at_close_paren, name}
 use Rattle.c_parse.proofs.Single.{void_word_is}
 use Rattle.c_parse.proofs.Locality
 use Rattle.c_parse.proofs.Locality.{Takes, last, next, read, past, bind_past, bind_same, loop_past, loop_same, behind_gone, bind_got, bind_tokens, must_past, semicolon_same, end_list_same, at_close_brace_same, at_close_paren_same, at_open_brace_same, room_local, end_beyond, more_past, separated_is_local, listed_past, listed_same}

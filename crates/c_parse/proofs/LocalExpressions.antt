@@ -21,9 +21,9 @@ use Rattle.c_parse.specs.declared.lead.TypeMark.{TypeMark}
 use Rattle.c_parse.specs.declared.lead.TypeMark.TheVariants as type_mark
 use Rattle.c_lex.specs.declared.token.Punct.TheVariants as m
 use Rattle.c_parse.specs.Scope.{Context, span}
-use Rattle.c_parse.specs.Leads.{type_of, type_at, begins_type, type_mark_of, type_mark_at, start_of, start_at, is_some_start, begins_expr, lead_of, lead_at, suffix_of, suffix_at}
-use Rattle.c_parse.specs.Reading.{Readers, run_more, run_with, type_mark_by, type_mark_turn, base_by, base, type_with, exprs_by, exprs_turn, exprs_with, arguments_by, arguments_with, named_by, primary_by, primary_with, suffix_by, is_some_suffix, suffix_turn_by, suffix_turn, postfix_with, unary_by, unary_with, operator_at, operator_by, operator_turn, level_with, assigner_behind, assign_by, whole_with, readers}
-use Rattle.c_parse.specs.Reader.{◌>>=◌, Got, Reader, bad, no_room, Turn, loop, behind, open_paren, is_close_paren, close_paren, close_bracket, is_comma, at_comma, bytes_at, at_star, at_open_paren, at_close_paren, at_open_bracket, at_close_bracket, is_name, at_name, name}
+use Rattle.c_parse.specs.inner.Leads.{type_of, type_at, begins_type, type_mark_of, type_mark_at, start_of, start_at, is_some_start, begins_expr, lead_of, lead_at, suffix_of, suffix_at}
+use Rattle.c_parse.specs.inner.Reading.{Readers, run_more, run_with, type_mark_by, type_mark_turn, base_by, base, type_with, exprs_by, exprs_turn, exprs_with, arguments_by, arguments_with, named_by, primary_by, primary_with, suffix_by, is_some_suffix, suffix_turn_by, suffix_turn, postfix_with, unary_by, unary_with, operator_at, operator_by, operator_turn, level_with, assigner_behind, assign_by, whole_with, readers}
+use Rattle.c_parse.specs.inner.Reader.{◌>>=◌, Got, Reader, bad, no_room, Turn, loop, behind, open_paren, is_close_paren, close_paren, close_bracket, is_comma, at_comma, bytes_at, at_star, at_open_paren, at_close_paren, at_open_bracket, at_close_bracket, is_name, at_name, name}
 use Rattle.c_parse.proofs.Locality
 use Rattle.c_parse.proofs.Locality.{Takes, last, next, read, syntax, too_deep, past, bind_past, agree_length, loop_past, loop_same, behind_gone, above_past, above_same, bind_got, bind_tokens, must_past, open_paren_same, close_paren_same, close_bracket_same, bytes_same, worded_past, worded_last, worded_next, closed_past, closed_same, at_star_same, at_open_paren_same, at_open_bracket_same, room_local, weaken_turn}
 

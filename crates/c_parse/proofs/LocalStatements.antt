@@ -5,17 +5,17 @@ use Rattle.c_parse.specs.declared.fault.Fault.{Fault}
 use Rattle.c_parse.specs.Tok.{Tok, keyword, refused, word, number, character, text, mark}
 use Rattle.c_tree.specs.Tree.{ExprT, VarT, StmtT, BlockS, VarsS, DoS, IfS, WhileS, DoWhileS, ForS, SwitchS, ReturnS, BreakS, ContinueS, MaybeS, NoneS, SomeS, ArmT, CaseA, DefaultA, StmtA}
 use Rattle.c_parse.specs.Scope.{Context, span}
-use Rattle.c_parse.specs.Leads.{begins_type, begins_expr, stmt_of, stmt_at, begins_stmt, arm_of, arm_at, is_some_arm}
-use Rattle.c_parse.specs.ReadingDeclarations.{vars_at}
+use Rattle.c_parse.specs.inner.Leads.{begins_type, begins_expr, stmt_of, stmt_at, begins_stmt, arm_of, arm_at, is_some_arm}
+use Rattle.c_parse.specs.inner.ReadingDeclarations.{vars_at}
 use Rattle.c_tree.specs.View.{stmts, arms}
 use Rattle.c_parse.specs.declared.lead.StmtLead.{StmtLead}
 use Rattle.c_parse.specs.declared.lead.StmtLead.TheVariants as stmt
 use Rattle.c_parse.specs.declared.lead.ArmLead.{ArmLead}
 use Rattle.c_parse.specs.declared.lead.ArmLead.TheVariants as arm
-use Rattle.c_parse.specs.ReadingStatements.{maybe_by, maybe_at, first_by, first_at, Bodies, test_at, if_by, stmt_by, stmt_with, arm_by, arm_with, bodies}
-use Rattle.c_parse.specs.ReadingLists.{brace_turn, braced}
-use Rattle.c_parse.specs.Reading.{readers, level_at, expr_at}
-use Rattle.c_parse.specs.Reader.{◌>>=◌, Got, Reader, no_room, behind, open_paren, close_paren, open_brace, at_close_brace, close_brace, semicolon, colon, while_word, is_else_word, at_else_word, at_while_word, at_colon, at_semicolon, at_open_brace, at_open_paren, at_close_paren}
+use Rattle.c_parse.specs.inner.ReadingStatements.{maybe_by, maybe_at, first_by, first_at, Bodies, test_at, if_by, stmt_by, stmt_with, arm_by, arm_with, bodies}
+use Rattle.c_parse.specs.inner.ReadingLists.{brace_turn, braced}
+use Rattle.c_parse.specs.inner.Reading.{readers, level_at, expr_at}
+use Rattle.c_parse.specs.inner.Reader.{◌>>=◌, Got, Reader, no_room, behind, open_paren, close_paren, open_brace, at_close_brace, close_brace, semicolon, colon, while_word, is_else_word, at_else_word, at_while_word, at_colon, at_semicolon, at_open_brace, at_open_paren, at_close_paren}
 use Rattle.c_parse.proofs.Locality
 use Rattle.c_parse.proofs.Locality.{Takes, last, next, read, too_deep, past, bind_past, behind_gone, bind_got, bind_tokens, must_past, open_paren_same, close_paren_same, open_brace_same, close_brace_same, semicolon_same, colon_same, while_word_same, closed_past, closed_same, room_local, braced_is_local}
 use Rattle.c_parse.proofs.LocalExpressions

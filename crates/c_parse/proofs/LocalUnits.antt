@@ -10,15 +10,15 @@ use Rattle.c_tree.specs.Depth.{type_depth}
 use Rattle.c_parse.specs.declared.lead.ItemLead.{ItemLead}
 use Rattle.c_parse.specs.declared.lead.ItemLead.TheVariants as item
 use Rattle.c_parse.specs.Units.{behind_item}
-use Rattle.c_parse.specs.ReadingUnits.{record_by, body_by, function_at, vars_by, typed_by, typed_at, item_by, item_read, Unit_so_far, item_turn, unit_at}
+use Rattle.c_parse.specs.inner.ReadingUnits.{record_by, body_by, function_at, vars_by, typed_by, typed_at, item_by, item_read, Unit_so_far, item_turn, unit_at}
 use Rattle.c_parse.specs.Scope.{Context, span, declare}
-use Rattle.c_parse.specs.Leads.{item_of, item_at}
-use Rattle.c_parse.specs.ReadingDeclarations.{var, vars_at, members_at, params_at, value}
+use Rattle.c_parse.specs.inner.Leads.{item_of, item_at}
+use Rattle.c_parse.specs.inner.ReadingDeclarations.{var, vars_at, members_at, params_at, value}
 use Rattle.c_tree.specs.View.{stmts}
-use Rattle.c_parse.specs.ReadingStatements.{stmt_read}
-use Rattle.c_parse.specs.ReadingLists.{comma_turn, separated, listed, braced}
-use Rattle.c_parse.specs.Reading.{type_read}
-use Rattle.c_parse.specs.Reader.{◌>>=◌, Got, Reader, goes_on, repeat, loop, behind, open_paren, close_paren, open_brace, at_close_brace, close_brace, is_semicolon, semicolon, at_comma, end_list, at_semicolon, at_open_brace, at_assign, at_star, at_open_paren, at_close_paren, name, new}
+use Rattle.c_parse.specs.inner.ReadingStatements.{stmt_read}
+use Rattle.c_parse.specs.inner.ReadingLists.{comma_turn, separated, listed, braced}
+use Rattle.c_parse.specs.inner.Reading.{type_read}
+use Rattle.c_parse.specs.inner.Reader.{◌>>=◌, Got, Reader, goes_on, repeat, loop, behind, open_paren, close_paren, open_brace, at_close_brace, close_brace, is_semicolon, semicolon, at_comma, end_list, at_semicolon, at_open_brace, at_assign, at_star, at_open_paren, at_close_paren, name, new}
 use Rattle.c_parse.proofs.Locality
 use Rattle.c_parse.proofs.Locality.{last, next, read, syntax, too_deep, past, bind_past, bind_same, agree_length, behind_gone, bind_got, bind_tokens, must_past, open_paren_same, close_paren_same, open_brace_same, close_brace_same, semicolon_same, end_list_same, new_past, new_same, at_star_same, at_open_paren_same, at_comma_same, at_semicolon_same, at_assign_same, fault_past, roomless_same, end_beyond, more_past, braced_is_local, listed_past, listed_same}
 use Rattle.c_parse.proofs.LocalExpressions

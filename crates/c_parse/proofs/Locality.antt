@@ -5,8 +5,8 @@ use Rattle.c_parse.specs.declared.fault.Fault.{Fault}
 use Rattle.c_parse.specs.declared.fault.Fault.TheVariants.{Syntax, TooDeep}
 use Rattle.c_parse.specs.Tok.{Tok, keyword, refused, word, number, character, text, mark}
 use Rattle.c_lex.specs.declared.token.Punct.TheVariants as m
-use Rattle.c_parse.specs.ReadingLists.{pushed, comma_by, comma_turn, separated, more_turn, listed, brace_by, brace_turn, braced}
-use Rattle.c_parse.specs.Reader.{◌>>=◌, Got, Reader, bad, deep, no_room, room_fault, above, Turn, goes_on, repeat, loop, behind, must, is_behind, is_open_paren, open_paren, is_close_paren, close_paren, is_close_bracket, close_bracket, is_open_brace, open_brace, is_close_brace, at_close_brace, close_brace, is_semicolon, semicolon, is_colon, colon, is_while_word, while_word, is_comma, at_comma, end_list, at_more, bytes_at, at_semicolon, at_open_brace, at_assign, at_star, at_open_paren, at_close_paren, at_open_bracket, is_new, at_new, new}
+use Rattle.c_parse.specs.inner.ReadingLists.{pushed, comma_by, comma_turn, separated, more_turn, listed, brace_by, brace_turn, braced}
+use Rattle.c_parse.specs.inner.Reader.{◌>>=◌, Got, Reader, bad, deep, no_room, room_fault, above, Turn, goes_on, repeat, loop, behind, must, is_behind, is_open_paren, open_paren, is_close_paren, close_paren, is_close_bracket, close_bracket, is_open_brace, open_brace, is_close_brace, at_close_brace, close_brace, is_semicolon, semicolon, is_colon, colon, is_while_word, while_word, is_comma, at_comma, end_list, at_more, bytes_at, at_semicolon, at_open_brace, at_assign, at_star, at_open_paren, at_close_paren, at_open_bracket, is_new, at_new, new}
 use Rattle.c_parse.proofs.Single.{comma_is}
 
 -- each turn takes a token at least

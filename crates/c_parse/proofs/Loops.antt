@@ -4,8 +4,8 @@ use Rattle.c_parse.specs.declared.fault.Fault.{Fault}
 use Rattle.c_parse.specs.declared.fault.ReadErr.{ReadErr}
 use Rattle.c_parse.specs.declared.fault.ReadErr.TheVariants as errors
 use Rattle.c_parse.specs.Tok.{Tok}
-use Rattle.c_parse.specs.View.{Fails}
-use Rattle.c_parse.specs.Reader.{◌>>=◌, Got, Turn, goes_on, repeat, loop}
+use Rattle.c_parse.specs.inner.View.{Fails}
+use Rattle.c_parse.specs.inner.Reader.{◌>>=◌, Got, Turn, goes_on, repeat, loop}
 
 -- what is still to be read gives the total, and the count of turns is enough
 pub record Goes {A : Type 0} (turn : Turn A) (a : A) (ts : List Tok) (total : Result (Got A) Fault) : Type 0 where

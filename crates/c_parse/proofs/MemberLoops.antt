@@ -6,10 +6,10 @@ use Rattle.c_parse.specs.declared.fault.ReadErr.{ReadErr}
 use Rattle.c_parse.specs.declared.fault.ReadErr.TheVariants as errors
 use Rattle.c_parse.specs.Tok.{Tok}
 use Rattle.c_parse.specs.Scope.{Context}
-use Rattle.c_parse.specs.View.{Fails}
-use Rattle.c_parse.specs.Reader.{◌>>=◌, Got, at_close_paren, at_close_brace}
-use Rattle.c_parse.specs.ReadingLists.{separated}
-use Rattle.c_parse.specs.ReadingDeclarations.{param_at, params_by, params_at, at_void, member_at, behind_others, members_turn}
+use Rattle.c_parse.specs.inner.View.{Fails}
+use Rattle.c_parse.specs.inner.Reader.{◌>>=◌, Got, at_close_paren, at_close_brace}
+use Rattle.c_parse.specs.inner.ReadingLists.{separated}
+use Rattle.c_parse.specs.inner.ReadingDeclarations.{param_at, params_by, params_at, at_void, member_at, behind_others, members_turn}
 use Rattle.c_parse.proofs.Less.{member_less}
 use Rattle.c_parse.proofs.FrontsRead.{bind_ok, ok_at}
 

@@ -4,7 +4,7 @@ use Rattle.c_tree.specs.Tree.{ItemT}
 use Rattle.c_parse.specs.declared.fault.Fault.TheVariants.{Syntax, TooDeep}
 use Rattle.c_parse.specs.Tok.{Tok}
 use Rattle.c_parse.specs.Units.{Unit_, Derives}
-use Rattle.c_parse.specs.ReadingUnits.{unit_at}
+use Rattle.c_parse.specs.inner.ReadingUnits.{unit_at}
 use Rattle.c_parse.proofs.LocalUnits.{shifted, KnownOf, syntax_stays, too_deep_stays}
 use Rattle.c_parse.proofs.Shrinking.{known}
 use Rattle.c_parse.proofs.TypeAgain.{type_again}

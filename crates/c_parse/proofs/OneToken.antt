@@ -2,7 +2,7 @@
 use Rattle.std.proofs.Common.{◌≡◌, Bool, true, false, List, [], ◌∷◌, refl, ap, inl, inr}
 use Rattle.c_lex.specs.declared.token.Punct.TheVariants as m
 use Rattle.c_parse.specs.Tok.{Tok, mark}
-use Rattle.c_parse.specs.Reader.{behind, must, is_behind, at_open_bracket, is_open_paren, open_paren, is_close_paren, close_paren, is_close_bracket, close_bracket}
+use Rattle.c_parse.specs.inner.Reader.{behind, must, is_behind, at_open_bracket, is_open_paren, open_paren, is_close_paren, close_paren, is_close_bracket, close_bracket}
 use Rattle.c_parse.proofs.Single.{open_paren_is, close_paren_is, close_bracket_is}
 use Rattle.c_parse.proofs.Completion.{Rule, Plain, Fits, Frame, GoodTokens, Word, first_wrong}
 

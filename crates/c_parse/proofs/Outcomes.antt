@@ -4,7 +4,7 @@ use Rattle.std.proofs.lemmas.Bool.{cases_lt, lt-ltb, le-ltb}
 use Rattle.c_parse.specs.declared.fault.Fault.{Fault}
 use Rattle.c_parse.specs.declared.fault.Fault.TheVariants.{Syntax, TooDeep}
 use Rattle.c_parse.specs.Tok.{Tok}
-use Rattle.c_parse.specs.Reader.{◌>>=◌, Got, above, no_room, Turn, goes_on, repeat}
+use Rattle.c_parse.specs.inner.Reader.{◌>>=◌, Got, above, no_room, Turn, goes_on, repeat}
 
 pub data Reads {A : Type 0} (depth room : ℕ) (x : A) : Result A Fault → Type 0 where
   read : depth ≤ room → Reads depth room x (Ok x)

@@ -6,10 +6,10 @@ use Rattle.c_parse.specs.declared.lead.StmtLead.{StmtLead}
 use Rattle.c_parse.specs.declared.lead.StmtLead.TheVariants as stmt
 use Rattle.c_parse.specs.Tok.{Tok}
 use Rattle.c_parse.specs.Scope.{Context}
-use Rattle.c_parse.specs.Reader.{Got, behind, open_paren, close_paren, open_brace, close_brace, semicolon, while_word, at_else_word}
-use Rattle.c_parse.specs.ReadingLists.{braced}
-use Rattle.c_parse.specs.ReadingStatements.{Bodies, maybe_at, first_at, test_at, if_with, while_with, do_with, for_with, switch_with, stmt_by}
-use Rattle.c_parse.specs.ReadingParts.{if_parts, while_parts, do_parts, for_parts, switch_parts, stmt_parts}
+use Rattle.c_parse.specs.inner.Reader.{Got, behind, open_paren, close_paren, open_brace, close_brace, semicolon, while_word, at_else_word}
+use Rattle.c_parse.specs.inner.ReadingLists.{braced}
+use Rattle.c_parse.specs.inner.ReadingStatements.{Bodies, maybe_at, first_at, test_at, if_with, while_with, do_with, for_with, switch_with, stmt_by}
+use Rattle.c_parse.specs.inner.ReadingParts.{if_parts, while_parts, do_parts, for_parts, switch_parts, stmt_parts}
 
 -- Each form by cases on what its parts give, one after another; where one fails, both sides fail.
 module _ (c : Context) (n : ℕ) (r : Bodies) (ts : List Tok) where

@@ -15,10 +15,10 @@ use Rattle.c_parse.specs.declared.fault.ReadErr.{ReadErr}
 use Rattle.c_parse.specs.declared.fault.ReadErr.TheVariants as read
 use Rattle.c_parse.specs.Tok.{Tok}
 use Rattle.c_parse.specs.Units.{Unit_, Derives}
-use Rattle.c_parse.specs.View.{Gives}
+use Rattle.c_parse.specs.inner.View.{Gives}
 use Rattle.c_parse.specs.Places.{refused_at, FirstBad, FirstDeep, Answers, AnswersTooDeep}
-use Rattle.c_parse.specs.Answer.{bad_at, answered}
-use Rattle.c_parse.specs.ReadingUnits.{unit_at}
+use Rattle.c_parse.specs.inner.Answer.{bad_at, answered}
+use Rattle.c_parse.specs.inner.ReadingUnits.{unit_at}
 use Rattle.c_parse.proofs.UnitReads.{unit_read, unit_deep, never_faulty}
 use Rattle.c_parse.proofs.SoundUnits.{unit_derived}
 use Rattle.c_parse.proofs.BeginsUnits.{syntax_begun, deep_begun}

@@ -24,13 +24,13 @@ use Rattle.c_parse.specs.declared.lead.ItemLead.TheVariants as item
 use Rattle.c_parse.specs.Tok.{Tok}
 use Rattle.c_parse.specs.Scope.{Context, declare}
 use Rattle.c_parse.specs.Marks.{binary}
-use Rattle.c_parse.specs.Leads.{type_of, type_mark_of, lead_of, start_of, suffix_of, begins_type, begins_expr, stmt_of, arm_of, item_of}
-use Rattle.c_parse.specs.ReadingDeclarations.{init_by, init_at, field, var_by, var, vars_at, member_at, members_by, members_turn, members_at, param_at, params_by, at_void, params_at, value_by, value}
-use Rattle.c_parse.specs.ReadingStatements.{maybe_by, maybe_at, first_by, first_at, Bodies, test_at, if_by, if_with, while_with, do_with, for_with, switch_with, stmt_by, stmt_with, arm_by, arm_with, bodies, stmt_read, arm_read}
-use Rattle.c_parse.specs.ReadingUnits.{record_by, enum_at, typedef_at, body_by, function_at, vars_by, typed_by, typed_at, item_by, item_read}
-use Rattle.c_parse.specs.ReadingLists.{pushed, comma_by, comma_turn, separated, more_turn, listed, brace_by, brace_turn, braced}
-use Rattle.c_parse.specs.Reading.{expr_at, level_at, type_read, Readers, run_more, run_with, type_mark_by, type_mark_turn, base_by, base, type_with, exprs_by, exprs_turn, exprs_with, arguments_by, named_by, primary_by, primary_with, suffix_by, is_some_suffix, suffix_turn_by, suffix_turn, postfix_with, unary_by, unary_with, of_level, operator_by, operator_turn, level_with, assigner_behind, assign_by, whole_with, readers}
-use Rattle.c_parse.specs.Reader.{◌>>=◌, Got, Reader, bad, deep, above, Turn, goes_on, repeat, loop, behind, bytes_at, must, is_behind, is_comma, at_comma, at_more, at_open_paren, at_close_paren, at_open_bracket, at_close_bracket, at_close_brace, at_open_brace, at_semicolon, at_assign, at_colon, at_while_word, at_else_word, no_room, is_name, name, is_new, new, at_star, close_brace, end_list}
+use Rattle.c_parse.specs.inner.Leads.{type_of, type_mark_of, lead_of, start_of, suffix_of, begins_type, begins_expr, stmt_of, arm_of, item_of}
+use Rattle.c_parse.specs.inner.ReadingDeclarations.{init_by, init_at, field, var_by, var, vars_at, member_at, members_by, members_turn, members_at, param_at, params_by, at_void, params_at, value_by, value}
+use Rattle.c_parse.specs.inner.ReadingStatements.{maybe_by, maybe_at, first_by, first_at, Bodies, test_at, if_by, if_with, while_with, do_with, for_with, switch_with, stmt_by, stmt_with, arm_by, arm_with, bodies, stmt_read, arm_read}
+use Rattle.c_parse.specs.inner.ReadingUnits.{record_by, enum_at, typedef_at, body_by, function_at, vars_by, typed_by, typed_at, item_by, item_read}
+use Rattle.c_parse.specs.inner.ReadingLists.{pushed, comma_by, comma_turn, separated, more_turn, listed, brace_by, brace_turn, braced}
+use Rattle.c_parse.specs.inner.Reading.{expr_at, level_at, type_read, Readers, run_more, run_with, type_mark_by, type_mark_turn, base_by, base, type_with, exprs_by, exprs_turn, exprs_with, arguments_by, named_by, primary_by, primary_with, suffix_by, is_some_suffix, suffix_turn_by, suffix_turn, postfix_with, unary_by, unary_with, of_level, operator_by, operator_turn, level_with, assigner_behind, assign_by, whole_with, readers}
+use Rattle.c_parse.specs.inner.Reader.{◌>>=◌, Got, Reader, bad, deep, above, Turn, goes_on, repeat, loop, behind, bytes_at, must, is_behind, is_comma, at_comma, at_more, at_open_paren, at_close_paren, at_open_bracket, at_close_bracket, at_close_brace, at_open_brace, at_semicolon, at_assign, at_colon, at_while_word, at_else_word, no_room, is_name, name, is_new, new, at_star, close_brace, end_list}
 use Rattle.c_parse.proofs.Locality.{Takes}
 use Rattle.c_parse.proofs.LocalExpressions.{TurnsTake}
 use Rattle.c_parse.proofs.LocalDeclarations.{ListsTake}

@@ -8,7 +8,7 @@ use Rattle.c_parse.specs.declared.class.Key.TheVariants as key
 use Rattle.c_parse.specs.Tok.{Tok, keyword, refused, word, number, character, text, mark}
 use Rattle.c_parse.specs.Grammar.{NoBracket}
 use Rattle.c_parse.specs.Statements.{NoElse}
-use Rattle.c_parse.specs.Reader.{is_mark, is_open_paren, is_close_paren, is_open_bracket, is_close_bracket, is_open_brace, is_close_brace, is_semicolon, is_comma, is_colon, is_assign, is_star, is_else_word, is_while_word, is_void_word, at_open_bracket, at_else_word}
+use Rattle.c_parse.specs.inner.Reader.{is_mark, is_open_paren, is_close_paren, is_open_bracket, is_close_bracket, is_open_brace, is_close_brace, is_semicolon, is_comma, is_colon, is_assign, is_star, is_else_word, is_while_word, is_void_word, at_open_bracket, at_else_word}
 
 pub mark_is : (p : Punct) (o : Tok) → is_mark p o ≡ true → o ≡ mark p
 mark_is p (mark q) e = ap mark (same_true the_type tt q p e)

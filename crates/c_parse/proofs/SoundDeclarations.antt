@@ -12,10 +12,10 @@ use Rattle.c_parse.specs.Lists as l
 use Rattle.c_parse.specs.Lists.{Separated, ListEnd}
 use Rattle.c_parse.specs.Declarations as g
 use Rattle.c_parse.specs.Declarations.{Init, Inits, Field, Var, Vars, Member, Members, Param, Params, Value}
-use Rattle.c_parse.specs.Reader.{Got, Reader, loop, behind, name, at_open_brace, at_close_brace, at_assign, at_close_paren, at_void_word, semicolon, end_list}
-use Rattle.c_parse.specs.Reading.{level_at, expr_at, type_read}
-use Rattle.c_parse.specs.ReadingLists.{separated, listed}
-use Rattle.c_parse.specs.ReadingDeclarations.{init_by, init_at, bare_var, field, var_by, var, vars_at, member_at, members_by, members_turn, members_at, param_at, at_void, params_by, params_at, value_by, value}
+use Rattle.c_parse.specs.inner.Reader.{Got, Reader, loop, behind, name, at_open_brace, at_close_brace, at_assign, at_close_paren, at_void_word, semicolon, end_list}
+use Rattle.c_parse.specs.inner.Reading.{level_at, expr_at, type_read}
+use Rattle.c_parse.specs.inner.ReadingLists.{separated, listed}
+use Rattle.c_parse.specs.inner.ReadingDeclarations.{init_by, init_at, bare_var, field, var_by, var, vars_at, member_at, members_by, members_turn, members_at, param_at, at_void, params_by, params_at, value_by, value}
 use Rattle.c_parse.proofs.FrontsRead as f
 use Rattle.c_parse.proofs.FrontsRead.{bind_ok, ok_at}
 use Rattle.c_parse.proofs.Soundness.{Found, IsSound, repeat_runs, some_at, nothing_read, level_derived, expr_derived, type_derived}

@@ -6,8 +6,8 @@ use Rattle.c_lex.specs.declared.token.Punct.TheVariants as m
 use Rattle.c_parse.specs.Tok.{Tok, mark}
 use Rattle.c_parse.specs.Lists as l
 use Rattle.c_parse.specs.Lists.{Separated, ListEnd}
-use Rattle.c_parse.specs.Reader.{◌>>=◌, Got, Reader, loop, behind, at_comma, at_close_brace, at_more, close_brace, end_list}
-use Rattle.c_parse.specs.ReadingLists.{comma_by, separated, listed, brace_by, brace_turn, braced}
+use Rattle.c_parse.specs.inner.Reader.{◌>>=◌, Got, Reader, loop, behind, at_comma, at_close_brace, at_more, close_brace, end_list}
+use Rattle.c_parse.specs.inner.ReadingLists.{comma_by, separated, listed, brace_by, brace_turn, braced}
 use Rattle.c_parse.proofs.FrontsRead as f
 use Rattle.c_parse.proofs.FrontsRead.{bind_ok, ok_at}
 use Rattle.c_parse.proofs.Soundness.{IsSound, repeat_runs, some_at}

@@ -16,12 +16,12 @@ use Rattle.c_parse.specs.Grammar.{Expr, Level}
 use Rattle.c_parse.specs.Declarations.{Vars}
 use Rattle.c_parse.specs.Statements as g
 use Rattle.c_parse.specs.Statements.{NoElse, Maybe, First, Stmt, Stmts, Arm, Arms}
-use Rattle.c_parse.specs.Reader.{Got, no_room, behind, open_paren, close_paren, open_brace, close_brace, semicolon, colon, while_word, at_else_word}
-use Rattle.c_parse.specs.Leads.{begins_expr, begins_type, stmt_at, arm_at}
-use Rattle.c_parse.specs.Reading.{level_at, expr_at}
-use Rattle.c_parse.specs.ReadingLists.{braced}
-use Rattle.c_parse.specs.ReadingDeclarations.{vars_at}
-use Rattle.c_parse.specs.ReadingStatements.{maybe_by, maybe_at, first_by, first_at, Bodies, test_at, if_by, if_with, while_with, do_with, for_with, switch_with, stmt_by, stmt_with, arm_by, arm_with, bodies, stmt_read, arm_read}
+use Rattle.c_parse.specs.inner.Reader.{Got, no_room, behind, open_paren, close_paren, open_brace, close_brace, semicolon, colon, while_word, at_else_word}
+use Rattle.c_parse.specs.inner.Leads.{begins_expr, begins_type, stmt_at, arm_at}
+use Rattle.c_parse.specs.inner.Reading.{level_at, expr_at}
+use Rattle.c_parse.specs.inner.ReadingLists.{braced}
+use Rattle.c_parse.specs.inner.ReadingDeclarations.{vars_at}
+use Rattle.c_parse.specs.inner.ReadingStatements.{maybe_by, maybe_at, first_by, first_at, Bodies, test_at, if_by, if_with, while_with, do_with, for_with, switch_with, stmt_by, stmt_with, arm_by, arm_with, bodies, stmt_read, arm_read}
 use Rattle.c_parse.proofs.FrontsRead as f
 use Rattle.c_parse.proofs.FrontsRead.{bind_ok, ok_at}
 use Rattle.c_parse.proofs.Soundness.{Found, IsSound, nothing_read, level_derived, expr_derived}

@@ -18,13 +18,13 @@ use Rattle.c_parse.specs.Declarations.{Vars, Members, Params, Value}
 use Rattle.c_parse.specs.Statements.{Stmts}
 use Rattle.c_parse.specs.Units as g
 use Rattle.c_parse.specs.Units.{record_word, Gives, Item, behind_item, Items, Unit_}
-use Rattle.c_parse.specs.Reader.{Got, loop, behind, name, new, at_open_paren, open_paren, close_paren, open_brace, close_brace, at_semicolon, semicolon, at_star, end_list}
-use Rattle.c_parse.specs.Leads.{item_at, key_item}
-use Rattle.c_parse.specs.Reading.{type_read}
-use Rattle.c_parse.specs.ReadingLists.{listed, braced}
-use Rattle.c_parse.specs.ReadingDeclarations.{vars_at, members_at, params_at, value}
-use Rattle.c_parse.specs.ReadingStatements.{stmt_read}
-use Rattle.c_parse.specs.ReadingUnits.{record_by, record_at, enum_at, typedef_at, body_by, function_at, vars_by, typed_by, typed_at, item_by, item_read, Unit_so_far, item_turn, unit_at}
+use Rattle.c_parse.specs.inner.Reader.{Got, loop, behind, name, new, at_open_paren, open_paren, close_paren, open_brace, close_brace, at_semicolon, semicolon, at_star, end_list}
+use Rattle.c_parse.specs.inner.Leads.{item_at, key_item}
+use Rattle.c_parse.specs.inner.Reading.{type_read}
+use Rattle.c_parse.specs.inner.ReadingLists.{listed, braced}
+use Rattle.c_parse.specs.inner.ReadingDeclarations.{vars_at, members_at, params_at, value}
+use Rattle.c_parse.specs.inner.ReadingStatements.{stmt_read}
+use Rattle.c_parse.specs.inner.ReadingUnits.{record_by, record_at, enum_at, typedef_at, body_by, function_at, vars_by, typed_by, typed_at, item_by, item_read, Unit_so_far, item_turn, unit_at}
 use Rattle.c_parse.proofs.FrontsRead as f
 use Rattle.c_parse.proofs.FrontsRead.{bind_ok, ok_at}
 use Rattle.c_parse.proofs.Soundness.{Found, repeat_runs, some_at, nothing_read, type_derived}

@@ -21,9 +21,9 @@ use Rattle.c_parse.specs.Tok.{Tok, keyword, word, mark}
 use Rattle.c_parse.specs.Scope.{Context, is_type, span}
 use Rattle.c_parse.specs.Grammar as g
 use Rattle.c_parse.specs.Grammar.{Base, Ty, Marks, Run, Expr, Level, Tail, Unary, Suffixes, Primary, Exprs, NoBracket}
-use Rattle.c_parse.specs.Reader.{Got, Reader, Turn, goes_on, repeat, loop, behind, bytes_at, open_paren, close_paren, close_bracket, at_open_paren, at_close_paren, at_open_bracket, at_comma, at_star, name}
-use Rattle.c_parse.specs.Leads.{start_at, lead_at, suffix_at, type_at, type_mark_at}
-use Rattle.c_parse.specs.Reading.{Readers, run_more, run_with, type_mark_by, type_mark_turn, base_by, base, type_with, exprs_by, exprs_turn, exprs_with, arguments_by, arguments_with, named_by, primary_by, primary_with, suffix_by, is_some_suffix, suffix_turn_by, suffix_turn, unary_by, unary_with, operator_by, operator_at, operator_turn, level_with, is_unary, assigner_at, assigner_behind, assign_by, whole_with, readers, level_at, expr_at, type_read, run_at}
+use Rattle.c_parse.specs.inner.Reader.{Got, Reader, Turn, goes_on, repeat, loop, behind, bytes_at, open_paren, close_paren, close_bracket, at_open_paren, at_close_paren, at_open_bracket, at_comma, at_star, name}
+use Rattle.c_parse.specs.inner.Leads.{start_at, lead_at, suffix_at, type_at, type_mark_at}
+use Rattle.c_parse.specs.inner.Reading.{Readers, run_more, run_with, type_mark_by, type_mark_turn, base_by, base, type_with, exprs_by, exprs_turn, exprs_with, arguments_by, arguments_with, named_by, primary_by, primary_with, suffix_by, is_some_suffix, suffix_turn_by, suffix_turn, unary_by, unary_with, operator_by, operator_at, operator_turn, level_with, is_unary, assigner_at, assigner_behind, assign_by, whole_with, readers, level_at, expr_at, type_read, run_at}
 use Rattle.c_parse.proofs.FrontsRead as f
 use Rattle.c_parse.proofs.FrontsRead.{bind_ok, done, ok_is, ok_at, above_ok}
 

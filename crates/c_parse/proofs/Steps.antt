@@ -10,13 +10,13 @@ use Rattle.c_tree.specs.View.{expr, type}
 use Rattle.c_parse.specs.declared.fault.Fault.{Fault}
 use Rattle.c_parse.specs.declared.fault.ReadErr.{ReadErr}
 use Rattle.c_parse.specs.declared.fault.ReadErr.TheVariants as errors
-use Rattle.c_parse.specs.View.{Fails}
+use Rattle.c_parse.specs.inner.View.{Fails}
 use Rattle.c_tree.specs.Depth.{type_depth}
 use Rattle.c_parse.specs.Tok.{Tok}
 use Rattle.c_parse.specs.Scope.{Context}
-use Rattle.c_parse.specs.Reader.{◌>>=◌, deep, no_room, loop}
-use Rattle.c_parse.specs.Leads.{begins_expr, begins_type}
-use Rattle.c_parse.specs.Reading.{unary_with, operator_turn, level_with, assigner_behind, assign_by, type_with, run_with, readers, level_at, expr_at, type_read, run_at}
+use Rattle.c_parse.specs.inner.Reader.{◌>>=◌, deep, no_room, loop}
+use Rattle.c_parse.specs.inner.Leads.{begins_expr, begins_type}
+use Rattle.c_parse.specs.inner.Reading.{unary_with, operator_turn, level_with, assigner_behind, assign_by, type_with, run_with, readers, level_at, expr_at, type_read, run_at}
 
 pub expr_step : (c : Context) (r : ℕ) (ts : List Tok) → 0 < r → expr_at c r ts ≡ (level_at c r 10 ts >>= λ a. assign_by c (readers c (r - 1)) r ts a.0 a.1 (assigner_behind a.0 a.1))
 unfolding readers

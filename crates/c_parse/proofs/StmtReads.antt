@@ -15,10 +15,10 @@ use Rattle.c_parse.specs.declared.lead.ArmLead.TheVariants as arm
 use Rattle.c_parse.specs.Tok.{Tok, keyword, number, character, mark}
 use Rattle.c_parse.specs.Scope.{Context}
 use Rattle.c_parse.specs.Marks.{prefix, step_before, value}
-use Rattle.c_parse.specs.Reader.{◌>>=◌, Got, Reader, at_close_brace, at_else_word}
-use Rattle.c_parse.specs.Leads.{begins_expr, begins_type, begins_stmt, stmt_at, is_some_arm, arm_at}
-use Rattle.c_parse.specs.ReadingLists.{pushed, brace_turn, braced}
-use Rattle.c_parse.specs.ReadingStatements.{maybe_at, first_by, first_at, test_at, stmt_with, arm_with, bodies, stmt_read, arm_read}
+use Rattle.c_parse.specs.inner.Reader.{◌>>=◌, Got, Reader, at_close_brace, at_else_word}
+use Rattle.c_parse.specs.inner.Leads.{begins_expr, begins_type, begins_stmt, stmt_at, is_some_arm, arm_at}
+use Rattle.c_parse.specs.inner.ReadingLists.{pushed, brace_turn, braced}
+use Rattle.c_parse.specs.inner.ReadingStatements.{maybe_at, first_by, first_at, test_at, stmt_with, arm_with, bodies, stmt_read, arm_read}
 use Rattle.c_parse.specs.Grammar.{Base, Ty, Expr, Level, Unary, Primary}
 use Rattle.c_parse.specs.Grammar as g
 use Rattle.c_parse.specs.Declarations.{Vars}

@@ -24,8 +24,8 @@ use Rattle.c_parse.specs.Tok.{Tok, keyword, refused, word, number, character, te
 use Rattle.c_parse.specs.Scope.{Context, is_type}
 use Rattle.c_parse.specs.Marks.{prefix, step_before, step_behind, value}
 use Rattle.c_parse.specs.Units.{record_word}
-use Rattle.c_parse.specs.Reader.{at_star}
-use Rattle.c_parse.specs.Leads.{type_at, begins_type, type_mark_at, start_at, lead_at, suffix_at, stmt_at, arm_at, item_at}
+use Rattle.c_parse.specs.inner.Reader.{at_star}
+use Rattle.c_parse.specs.inner.Leads.{type_at, begins_type, type_mark_at, start_at, lead_at, suffix_at, stmt_at, arm_at, item_at}
 
 pub data StartIs (c : Context) : List Tok → Start → Type 0 where
   operator : {o : Tok} {ts : List Tok} {op : UnOp} → prefix o ≡ Some op → StartIs c (o ∷ ts) (start.Operator op)

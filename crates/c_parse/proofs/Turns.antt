@@ -14,10 +14,10 @@ use Rattle.c_parse.specs.declared.lead.Suffix.{Suffix}
 use Rattle.c_parse.specs.declared.lead.Suffix.TheVariants as suffix
 use Rattle.c_parse.specs.Tok.{Tok}
 use Rattle.c_parse.specs.Scope.{Context, span}
-use Rattle.c_parse.specs.View.{Fails}
-use Rattle.c_parse.specs.Reader.{Got, behind, close_paren, at_close_paren, close_bracket, name}
-use Rattle.c_parse.specs.Leads.{suffix_at, type_mark_at}
-use Rattle.c_parse.specs.Reading.{Readers, operator_at, operator_turn, suffix_by, is_some_suffix, suffix_turn, readers, run_with, type_mark_turn, exprs_with, arguments_with}
+use Rattle.c_parse.specs.inner.View.{Fails}
+use Rattle.c_parse.specs.inner.Reader.{Got, behind, close_paren, at_close_paren, close_bracket, name}
+use Rattle.c_parse.specs.inner.Leads.{suffix_at, type_mark_at}
+use Rattle.c_parse.specs.inner.Reading.{Readers, operator_at, operator_turn, suffix_by, is_some_suffix, suffix_turn, readers, run_with, type_mark_turn, exprs_with, arguments_with}
 use Rattle.c_parse.proofs.FrontsRead as f
 use Rattle.c_parse.proofs.FrontsRead.{bind_ok, ok_at}
 use Rattle.c_parse.proofs.Loops.{fails_on}

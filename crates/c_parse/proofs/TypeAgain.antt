@@ -9,9 +9,9 @@ use Rattle.c_parse.specs.declared.lead.TypeMark.{TypeMark}
 use Rattle.c_parse.specs.declared.lead.TypeMark.TheVariants as type_mark
 use Rattle.c_parse.specs.Tok.{Tok}
 use Rattle.c_parse.specs.Scope.{Context}
-use Rattle.c_parse.specs.Reader.{Got, loop, behind}
-use Rattle.c_parse.specs.Leads.{type_mark_at}
-use Rattle.c_parse.specs.Reading.{Readers, run_with, type_mark_by, type_mark_turn, base, readers, type_read}
+use Rattle.c_parse.specs.inner.Reader.{Got, loop, behind}
+use Rattle.c_parse.specs.inner.Leads.{type_mark_at}
+use Rattle.c_parse.specs.inner.Reading.{Readers, run_with, type_mark_by, type_mark_turn, base, readers, type_read}
 use Rattle.c_parse.proofs.FrontsRead.{bind_ok, above_ok}
 use Rattle.c_parse.proofs.Soundness.{repeat_runs, type_derived}
 use Rattle.c_parse.proofs.Outcomes.{fits_is}

@@ -13,9 +13,9 @@ use Rattle.c_parse.specs.declared.fault.Fault.TheVariants.{Syntax, TooDeep}
 use Rattle.c_parse.specs.declared.lead.ItemLead.TheVariants as item
 use Rattle.c_parse.specs.Tok.{Tok, keyword, word, mark}
 use Rattle.c_parse.specs.Scope.{Context, is_type, span}
-use Rattle.c_parse.specs.Reader.{◌>>=◌, Got, repeat, goes_on, at_comma, at_assign, at_semicolon, at_open_paren}
-use Rattle.c_parse.specs.Leads.{item_at}
-use Rattle.c_parse.specs.ReadingUnits.{function_at, vars_by, typed_at, item_read, Unit_so_far, item_turn, unit_at}
+use Rattle.c_parse.specs.inner.Reader.{◌>>=◌, Got, repeat, goes_on, at_comma, at_assign, at_semicolon, at_open_paren}
+use Rattle.c_parse.specs.inner.Leads.{item_at}
+use Rattle.c_parse.specs.inner.ReadingUnits.{function_at, vars_by, typed_at, item_read, Unit_so_far, item_turn, unit_at}
 use Rattle.c_parse.specs.Grammar.{Base, Ty}
 use Rattle.c_parse.specs.Grammar as g
 use Rattle.c_parse.specs.Lists.{Separated, ListEnd}

@@ -4,10 +4,10 @@ use Rattle.c_tree.specs.Tree.{ItemT}
 use Rattle.c_parse.specs.declared.fault.ReadErr.{ReadErr}
 use Rattle.c_lex.specs.declared.token.Token.{Token}
 use Rattle.c_parse.specs.Tok.{Tok, toks}
-use Rattle.c_parse.specs.View.{Fails}
-use Rattle.c_parse.specs.Reader.{loop}
+use Rattle.c_parse.specs.inner.View.{Fails}
+use Rattle.c_parse.specs.inner.Reader.{loop}
 use Rattle.c_parse.specs.Units.{behind_item}
-use Rattle.c_parse.specs.ReadingUnits.{Unit_so_far, item_read, item_turn, unit_at}
+use Rattle.c_parse.specs.inner.ReadingUnits.{Unit_so_far, item_read, item_turn, unit_at}
 use Rattle.c_parse.proofs.Loops.{fails_on}
 
 abbrev pub Some_tokens : List Tok → Type 0

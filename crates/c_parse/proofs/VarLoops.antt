@@ -6,11 +6,11 @@ use Rattle.c_parse.specs.declared.fault.ReadErr.{ReadErr}
 use Rattle.c_parse.specs.declared.fault.ReadErr.TheVariants as errors
 use Rattle.c_parse.specs.Tok.{Tok}
 use Rattle.c_parse.specs.Scope.{Context}
-use Rattle.c_parse.specs.View.{Fails}
-use Rattle.c_parse.specs.Reader.{◌>>=◌, Got, behind, at_comma, semicolon}
-use Rattle.c_parse.specs.Reading.{type_read}
-use Rattle.c_parse.specs.ReadingLists.{comma_turn, separated}
-use Rattle.c_parse.specs.ReadingDeclarations.{var, field, vars_at, member_at}
+use Rattle.c_parse.specs.inner.View.{Fails}
+use Rattle.c_parse.specs.inner.Reader.{◌>>=◌, Got, behind, at_comma, semicolon}
+use Rattle.c_parse.specs.inner.Reading.{type_read}
+use Rattle.c_parse.specs.inner.ReadingLists.{comma_turn, separated}
+use Rattle.c_parse.specs.inner.ReadingDeclarations.{var, field, vars_at, member_at}
 use Rattle.c_parse.proofs.Loops.{Goes, goes_start, goes_end, goes_fail, goes_turn, fails_on}
 use Rattle.c_parse.proofs.ListTurns.{comma_end, comma_fail, comma_ok}
 use Rattle.c_parse.proofs.Less.{var_less, field_less}

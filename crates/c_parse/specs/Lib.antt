@@ -6,14 +6,5 @@ pub mod Lists
 pub mod Declarations
 pub mod Statements
 pub mod Units
-pub mod Reader
-pub mod Leads
-pub mod Reading
-pub mod ReadingLists
-pub mod ReadingDeclarations
-pub mod ReadingStatements
-pub mod ReadingParts
-pub mod ReadingUnits
-pub mod View
 pub mod Places
-pub mod Answer
+pub mod inner

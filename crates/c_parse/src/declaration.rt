@@ -1,9 +1,9 @@
 // From tokens to variables, members, parameters and the values of an enumeration.
 ghost use Rattle.std.specs.Prelude.{◌≡◌, map, option_map};
-ghost use Rattle.c_parse.specs.ReadingDeclarations as reading;
-ghost use Rattle.c_parse.specs.ReadingLists as lists;
+ghost use Rattle.c_parse.specs.inner.ReadingDeclarations as reading;
+ghost use Rattle.c_parse.specs.inner.ReadingLists as lists;
 ghost use Rattle.c_parse.specs.Tok.{toks};
-ghost use Rattle.c_parse.specs.View.{Gives, context};
+ghost use Rattle.c_parse.specs.inner.View.{Gives, context};
 ghost use Rattle.c_tree.specs.View.{expr, init, type, var};
 
 use crate::expression::{expression, level, type_tree};

@@ -1,10 +1,10 @@
 // What tokens begin.
 ghost use Rattle.std.specs.Prelude.{◌≡◌, suc};
-ghost use Rattle.c_parse.specs.Leads as leads;
+ghost use Rattle.c_parse.specs.inner.Leads as leads;
 ghost use Rattle.c_parse.specs.Marks as marks;
-ghost use Rattle.c_parse.specs.Reading.{assigner_at, assigner_behind, is_some_suffix, is_unary, of_level, operator_at};
+ghost use Rattle.c_parse.specs.inner.Reading.{assigner_at, assigner_behind, is_some_suffix, is_unary, of_level, operator_at};
 ghost use Rattle.c_parse.specs.Tok.{toks};
-ghost use Rattle.c_parse.specs.View.{context};
+ghost use Rattle.c_parse.specs.inner.View.{context};
 ghost use Rattle.c_tree.specs.View.{expr};
 
 use crate::class::{Class, Key, next};

@@ -1,6 +1,6 @@
 // The parser.
 ghost use Rattle.std.specs.Prelude.{◌≡◌, ◌<◌, ◌≤◌, ◌-◌, ℕ, List, length, drop, IfOk, Err, Some, None};
-ghost use Rattle.c_parse.specs.Answer as answer;
+ghost use Rattle.c_parse.specs.inner.Answer as answer;
 ghost use Rattle.c_parse.specs.Places as places;
 ghost use Rattle.c_parse.specs.Places.{Answers, AnswersTooDeep, FirstBad, FirstDeep};
 ghost use Rattle.c_parse.specs.Tok.{toks};

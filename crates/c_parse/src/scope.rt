@@ -2,7 +2,7 @@
 ghost use Rattle.std.specs.Prelude.{◌≡◌, ◌-◌, length};
 ghost use Rattle.c_parse.specs.Scope.{is_type, span};
 ghost use Rattle.c_parse.specs.Tok.{bytes_of, toks};
-ghost use Rattle.c_parse.specs.View.{context};
+ghost use Rattle.c_parse.specs.inner.View.{context};
 
 use crate::types::Types;
 use c_lex::{Kind, Token};

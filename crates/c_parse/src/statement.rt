@@ -2,14 +2,14 @@
 ghost use Rattle.std.specs.Prelude.{◌≡◌, ◌<◌, ◌-◌, ◌*◌, Ok, map, option_map, true};
 ghost use Rattle.c_parse.specs.declared.lead.ArmLead.TheVariants as arm_leads;
 ghost use Rattle.c_parse.specs.declared.lead.StmtLead.TheVariants as leads;
-ghost use Rattle.c_parse.specs.Reader as reader;
-ghost use Rattle.c_parse.specs.ReadingLists.{braced};
-ghost use Rattle.c_parse.specs.ReadingParts as parts;
-ghost use Rattle.c_parse.specs.ReadingStatements as reading;
+ghost use Rattle.c_parse.specs.inner.Reader as reader;
+ghost use Rattle.c_parse.specs.inner.ReadingLists.{braced};
+ghost use Rattle.c_parse.specs.inner.ReadingParts as parts;
+ghost use Rattle.c_parse.specs.inner.ReadingStatements as reading;
 ghost use Rattle.c_parse.specs.Tok.{toks};
-ghost use Rattle.c_parse.specs.View.{Gives, boxed_stmt, context};
+ghost use Rattle.c_parse.specs.inner.View.{Gives, boxed_stmt, context};
 ghost use Rattle.c_tree.specs.Tree.{ForS, IfS};
-ghost use Rattle.c_parse.specs.ReadingStatements.{maybe};
+ghost use Rattle.c_parse.specs.inner.ReadingStatements.{maybe};
 ghost use Rattle.c_tree.specs.View.{arm, expr, stmt};
 
 use crate::declaration::variables;

@@ -3,9 +3,9 @@ ghost use Rattle.std.specs.Prelude.{◌≡◌, ◌≤◌, ◌<◌, IfOk, IfErr, 
 ghost use Rattle.c_parse.specs.Tok.{bytes_of, toks};
 ghost use Rattle.c_parse.specs.declared.fault.Fault.TheVariants.{Syntax, TooDeep};
 ghost use Rattle.c_parse.specs.declared.fault.ReadErr.TheVariants as errors;
-ghost use Rattle.c_parse.specs.Reader as reader;
-ghost use Rattle.c_parse.specs.Reader.{behind, bytes_at, must};
-ghost use Rattle.c_parse.specs.View.{Gives, context};
+ghost use Rattle.c_parse.specs.inner.Reader as reader;
+ghost use Rattle.c_parse.specs.inner.Reader.{behind, bytes_at, must};
+ghost use Rattle.c_parse.specs.inner.View.{Gives, context};
 
 use crate::class::{Class, Key, next};
 use crate::fault::{Fault, ReadErr};

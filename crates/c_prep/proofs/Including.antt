@@ -15,7 +15,7 @@ use Rattle.c_prep.specs.Conditions.{closed}
 use Rattle.c_prep.specs.Lines.{lines_of}
 use Rattle.c_prep.specs.Steps.{step_at}
 use Rattle.c_prep.specs.Files.{Progress, Stop, InFile, Including, Inclusion, stopping, refusing, line_by, include_in, lines_at, bytes_of, lexed, tokens_of, ended, with_name, file_at, missing_at, too_deep, include_at}
-use Rattle.c_prep.specs.Inner.{GivesAs, GivesOut}
+use Rattle.c_prep.specs.inner.Inner.{GivesAs, GivesOut}
 
 -- the tokens of a file
 module _ (m : Held) (missing : PrepErr) (name : List ℕ) (file : ℕ) {X Y : Type 0} (bytes_in : X → List ℕ) (tokens_in : Y → List Token) where

@@ -6,7 +6,7 @@ use Rattle.c_prep.specs.declared.error.PrepErr.{PrepErr}
 use Rattle.c_prep.specs.declared.error.PrepErr.TheVariants as e
 use Rattle.c_prep.specs.Codes.{is_reading_code, HasReadingCode}
 use Rattle.c_prep.specs.Files.{code_of}
-use Rattle.c_prep.specs.Inner.{SaysMissing}
+use Rattle.c_prep.specs.inner.Inner.{SaysMissing}
 
 listed : (fault : Fault) → is_reading_code (code_of fault) ≡ true
 unfolding is_reading_code

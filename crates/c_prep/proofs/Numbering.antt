@@ -26,7 +26,7 @@ use Rattle.c_prep.specs.Conditions.{skips, turned, ended, closed}
 use Rattle.c_prep.specs.Lines.{begins_directive}
 use Rattle.c_prep.specs.Directives.{Directive, Include, Define, Undef, IfDef, IfNotDef, Else, EndIf, Error, Bad, Directed, directive_in, directive_of}
 use Rattle.c_prep.specs.Steps.{Moment, obeyed, is_condition, directed, put, step_by, step_at}
-use Rattle.c_prep.specs.Inner.{IsPlaced, ArePlaced, PlacedPut, refused}
+use Rattle.c_prep.specs.inner.Inner.{IsPlaced, ArePlaced, PlacedPut, refused}
 use Rattle.c_prep.specs.Numbers.{AreBelow, HaveLines, IsBelow}
 
 pub placed_append : (n : ℕ) (xs ys : List Token) → ArePlaced n xs → ArePlaced n ys → ArePlaced n (xs ++ ys)

@@ -13,7 +13,7 @@ use Rattle.c_prep.specs.Conditions.{closed}
 use Rattle.c_prep.specs.Lines.{lines_of}
 use Rattle.c_prep.specs.Steps.{step_at}
 use Rattle.c_prep.specs.Files.{Progress, Stop, InFile, Including, Inclusion, stopping, refusing, line_by, include_in, lines_at, tokens_of, ended, with_name, file_at, missing_at, too_deep, include_at, opening, expansion_of}
-use Rattle.c_prep.specs.Inner.{IsOfText, IsFailedAt, so_far}
+use Rattle.c_prep.specs.inner.Inner.{IsOfText, IsFailedAt, so_far}
 use Rattle.c_prep.specs.Reached.{AreFirst, Reaches, names_of, read_by}
 use Rattle.c_prep.proofs.Including.{by_include}
 

@@ -15,7 +15,7 @@ use Rattle.c_prep.specs.declared.replace.Frame.{Frame}
 use Rattle.c_prep.specs.Faults.{◌>>=◌, Gives, fault_at}
 use Rattle.c_prep.specs.Kinds.{word_in}
 use Rattle.c_prep.specs.Macros.{Table, Put, Macro, macro_at, body_of, visible, each, stands, macro_of, counted, emitted, replaced_at, replaced_in}
-use Rattle.c_prep.specs.Frames.{names, macro_in, at_place, unwound, unwound_after, Goes}
+use Rattle.c_prep.specs.inner.Frames.{names, macro_in, at_place, unwound, unwound_after, Goes}
 
 abbrev Step : Type 0
 Step = Put → Result Put FaultAt

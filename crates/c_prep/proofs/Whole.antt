@@ -8,7 +8,7 @@ use Rattle.c_prep.specs.declared.error.PrepErr.TheVariants as e
 use Rattle.c_prep.specs.Faults.{◌>>=◌}
 use Rattle.c_prep.specs.Macros.{Table, Put}
 use Rattle.c_prep.specs.Files.{Progress, Stop, Expansion, file_at, include_at, opening, expansion_of, Answers}
-use Rattle.c_prep.specs.Inner.{GivesOut}
+use Rattle.c_prep.specs.inner.Inner.{GivesOut}
 
 pub where_told : (o : Option Held) (P : Held → Type 0) → ((m : Held) → o ≡ Some m → P m) → IfSome o P
 where_told None P h = tt

@@ -2,7 +2,6 @@ pub mod Kinds
 pub mod Faults
 pub mod Macros
 pub mod Standing
-pub mod Frames
 pub mod Lines
 pub mod Directives
 pub mod Conditions
@@ -12,4 +11,4 @@ pub mod Codes
 pub mod Causes
 pub mod Numbers
 pub mod Reached
-pub mod Inner
+pub mod inner

@@ -4,7 +4,7 @@ ghost use Rattle.std.specs.List.{list_any};
 ghost use Rattle.c_prep.specs.Kinds.{kinds_of};
 ghost use Rattle.c_prep.specs.Lines.{begins_directive, is_hash, lines_of};
 ghost use Rattle.c_prep.specs.Directives.{class_in, class_of, define_of, directive_in, directive_of, is_keyword, lone, name_in, of_class, text_in};
-ghost use Rattle.c_prep.specs.Inner.{ArePlaced, listed, shown, shown_in};
+ghost use Rattle.c_prep.specs.inner.Inner.{ArePlaced, listed, shown, shown_in};
 
 use crate::kinds::word_in;
 use c_lex::{Kind, Punct, Token};

@@ -10,7 +10,7 @@ ghost use Rattle.c_prep.specs.Faults.{fault_at};
 ghost use Rattle.c_prep.specs.Conditions.{closed};
 ghost use Rattle.c_prep.specs.Steps.{step_at};
 ghost use Rattle.c_prep.specs.Files.{bytes_of, code_of, file_at, include_at, include_in, lexed, missing_at, refusal, refusing, stopping, tokens_of};
-ghost use Rattle.c_prep.specs.Inner.{ArePlaced, GivesAs, GivesOut, IsFailedAt, IsOfText, PlacedIn, PlacedPut, SaysMissing, included, refused, so_far};
+ghost use Rattle.c_prep.specs.inner.Inner.{ArePlaced, GivesAs, GivesOut, IsFailedAt, IsOfText, PlacedIn, PlacedPut, SaysMissing, included, refused, so_far};
 ghost use Rattle.c_prep.specs.Causes.{HasCauses};
 ghost use Rattle.c_prep.specs.Codes.{HasReadingCode};
 ghost use Rattle.c_prep.specs.Numbers.{IsBelow};

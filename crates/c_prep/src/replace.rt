@@ -4,7 +4,7 @@ ghost use Rattle.std.specs.List.{list_any};
 ghost use Rattle.c_prep.specs.declared.error.StepErr.TheVariants as steps;
 ghost use Rattle.c_prep.specs.Faults.{Gives};
 ghost use Rattle.c_prep.specs.Macros.{macro_of, visible, body_of, replaced_at, replaced_in};
-ghost use Rattle.c_prep.specs.Frames.{names, macro_in, at_place, unwound, unwound_after, Goes, work};
+ghost use Rattle.c_prep.specs.inner.Frames.{names, macro_in, at_place, unwound, unwound_after, Goes, work};
 
 use crate::error::StepErr;
 use crate::kinds::word_in;

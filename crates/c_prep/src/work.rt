@@ -2,7 +2,7 @@
 ghost use Rattle.std.specs.Prelude.{◌≡◌, [], ◌∷◌, not};
 ghost use Rattle.c_prep.specs.Faults.{Gives};
 ghost use Rattle.c_prep.specs.Directives.{Directed as LineDirective};
-ghost use Rattle.c_prep.specs.Inner.{shown};
+ghost use Rattle.c_prep.specs.inner.Inner.{shown};
 ghost use Rattle.c_prep.specs.Steps.{directed, is_condition, is_defined, obeyed, put, step_at};
 
 use crate::conditions::Conditions;

@@ -12,7 +12,7 @@ use Rattle.c_exprs.specs.Env.{Text, Ctx}
 use Rattle.c_exprs.specs.Faults.{FaultT, ◌>>=◌}
 use Rattle.c_exprs.specs.Typing.{Typer}
 use Rattle.c_stmts.specs.Slots.{Slots, next_slot, item_count}
-use Rattle.c_stmts.specs.Places.{slots_behind}
+use Rattle.c_stmts.specs.inner.Places.{slots_behind}
 use Rattle.c_stmts.specs.InitTyping.{filled_by, all_filled_by}
 use Rattle.c_stmts.proofs.Places.{behind-more, behind-none}
 

@@ -3,7 +3,7 @@ use Rattle.std.proofs.Common.{ℕ, zero, suc, ◌-◌, ◌+◌, ◌<◌, ◌≤�
 use Rattle.std.specs.Prelude.{slice_get, min, ◌==◌}
 use Rattle.c_types.specs.Types.{Ty, MemberT}
 use Rattle.c_stmts.specs.Slots.{Slots, NoSlots, Elements, Members, member_types, first_of, next_slot, later_slots}
-use Rattle.c_stmts.specs.Places.{slots_behind}
+use Rattle.c_stmts.specs.inner.Places.{slots_behind}
 
 pub member_type_at : (ms : List MemberT) (i : ℕ) → slice_get (member_types ms) i ≡ option_map (λ (m : MemberT). m.ty) (slice_get ms i)
 member_type_at [] i = refl

@@ -1,5 +1,4 @@
 pub mod Slots
-pub mod Places
 pub mod InitTyping
 pub mod InitTypes
 pub mod InitBreaks
@@ -8,3 +7,4 @@ pub mod View
 pub mod StatementTyping
 pub mod StatementTypes
 pub mod StatementBreaks
+pub mod inner

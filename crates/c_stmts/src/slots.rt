@@ -2,7 +2,7 @@
 ghost use Rattle.std.specs.Prelude.{◌≡◌, map, option_map, slice_get, length};
 ghost use Rattle.c_types.specs.View.{ctype, layout};
 ghost use Rattle.c_stmts.specs.Slots.{Members, members_of, first_of, slots_of, slots_for, next_slot, has_room};
-ghost use Rattle.c_stmts.specs.Places.{slots_behind};
+ghost use Rattle.c_stmts.specs.inner.Places.{slots_behind};
 
 use c_types::{CType, Layout};
 

@@ -6,7 +6,7 @@ use Rattle.asm_items.specs.declared.item.AsmItem.{AsmItem}
 use Rattle.asm_items.specs.declared.item.AsmItem.TheVariants.{Label, Op, Integer, Pointer}
 use Rattle.assembler.specs.Labels.{address_of, has_label, with_label}
 use Rattle.cycle_bound.specs.declared.node.Node.{Node}
-use Rattle.cycle_bound.specs.Places.{place_of, place_in, node_of, nodes_of, gathered}
+use Rattle.cycle_bound.specs.inner.Places.{place_of, place_in, node_of, nodes_of, gathered}
 
 abbrev Labels : Type 0
 Labels = List (List ℕ × ℕ)

@@ -15,9 +15,9 @@ use Rattle.v32_isa.specs.declared.instruction.Instr.TheVariants as instr
 use Rattle.asm_items.specs.Items.{Imm}
 use Rattle.asm_items.specs.declared.item.AsmItem.{AsmItem}
 use Rattle.assembler.specs.Faults.{label_in}
-use Rattle.assembler.specs.Survey.{with_item}
+use Rattle.assembler.specs.inner.Survey.{with_item}
 use Rattle.asm_laws.specs.Numbers.{kind_of}
-use Rattle.cycle_bound.specs.Places.{kind_node, go_node, branch_node, label_of, gathered}
+use Rattle.cycle_bound.specs.inner.Places.{kind_node, go_node, branch_node, label_of, gathered}
 
 pub gone : (p : List ℕ → ℕ) (g : Go) (s : Src Imm) → go_node g (option_map p (label_of s)) ≡ kind_node p (kind_of (instr.Go g s))
 gone p JMP (src.Imm (Left w)) = refl

@@ -5,8 +5,8 @@ use Rattle.asm_items.specs.declared.item.AsmItem.{AsmItem}
 use Rattle.asm_items.specs.declared.item.AsmItem.TheVariants.{Label, Op, Integer, Pointer}
 use Rattle.asm_laws.specs.Numbers.{behind}
 use Rattle.cycle_bound.specs.declared.node.Node.TheVariants as node
-use Rattle.cycle_bound.specs.Places.{place_of, node_of, nodes_of}
-use Rattle.cycle_bound.specs.Settled.{node_at}
+use Rattle.cycle_bound.specs.inner.Places.{place_of, node_of, nodes_of}
+use Rattle.cycle_bound.specs.inner.Settled.{node_at}
 
 pub placed : (items : List AsmItem) (l : List ℕ) → drop (place_of items l) items ≡ behind items l
 unfolding place_of

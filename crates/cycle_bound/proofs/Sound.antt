@@ -11,9 +11,9 @@ use Rattle.asm_laws.specs.Numbers.{Kind, kind_of, behind, Number}
 use Rattle.asm_laws.specs.Numbers.Kind.{Goes, Jumps, Parts, Calls, Returns, Halts, Other}
 use Rattle.asm_laws.specs.Numbers.Number.{at_mark, at_goes, at_jump, at_parts, at_call, at_return, at_halt}
 use Rattle.cycle_bound.specs.declared.node.Node.TheVariants as node
-use Rattle.cycle_bound.specs.Places.{place_of, kind_node, node_of, nodes_of}
-use Rattle.cycle_bound.specs.Settled.{Table, capped, after, after_two, greater, known, ruled, node_at, Settled}
-use Rattle.cycle_bound.specs.Settled.Settled.{none, gives}
+use Rattle.cycle_bound.specs.inner.Places.{place_of, kind_node, node_of, nodes_of}
+use Rattle.cycle_bound.specs.inner.Settled.{Table, capped, after, after_two, greater, known, ruled, node_at, Settled}
+use Rattle.cycle_bound.specs.inner.Settled.Settled.{none, gives}
 use Rattle.cycle_bound.proofs.Placed.{placed, At, at}
 use Rattle.cycle_bound.proofs.Placed.At.{stands, ended}
 

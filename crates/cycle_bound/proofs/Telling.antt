@@ -12,8 +12,8 @@ use Rattle.cycle_bound.specs.declared.bound.Bound.{Bound}
 use Rattle.cycle_bound.specs.declared.bound.Bound.TheVariants as bounds
 use Rattle.cycle_bound.specs.declared.node.Node.{Node}
 use Rattle.cycle_bound.specs.Told.{IsBoundAt, IsBoundOf}
-use Rattle.cycle_bound.specs.Places.{place_of, place_in, node_of, nodes_of, gathered, told}
-use Rattle.cycle_bound.specs.Settled.{Table, capped, known, Settled, Closed}
+use Rattle.cycle_bound.specs.inner.Places.{place_of, place_in, node_of, nodes_of, gathered, told}
+use Rattle.cycle_bound.specs.inner.Settled.{Table, capped, known, Settled, Closed}
 use Rattle.cycle_bound.proofs.Placed.{placed}
 use Rattle.cycle_bound.proofs.Gathering.{nodes_are, places_are}
 use Rattle.cycle_bound.proofs.Sound.{Cut, sound, known_is}

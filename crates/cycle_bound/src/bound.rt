@@ -2,8 +2,8 @@
 ghost use Rattle.std.specs.Prelude.{◌≡◌, IfOk, Option, None, Some};
 ghost use Rattle.std.specs.List.{AllZip};
 ghost use Rattle.asm_laws.specs.Labelled.{label_of_function};
-ghost use Rattle.cycle_bound.specs.Places.{place_in, told};
-ghost use Rattle.cycle_bound.specs.Settled.{known};
+ghost use Rattle.cycle_bound.specs.inner.Places.{place_in, told};
+ghost use Rattle.cycle_bound.specs.inner.Settled.{known};
 ghost use Rattle.cycle_bound.specs.Told.{IsBoundOf};
 
 use crate::node::place_at;

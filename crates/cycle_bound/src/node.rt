@@ -2,7 +2,7 @@
 ghost use Rattle.std.specs.Prelude.{◌≡◌, option_map};
 ghost use Rattle.v32_isa.specs.declared.instruction.Instr.TheVariants as instr;
 ghost use Rattle.asm_laws.specs.Numbers.{kind_of};
-ghost use Rattle.cycle_bound.specs.Places.{branch_node, go_node, kind_node, label_of, node_of, place_in};
+ghost use Rattle.cycle_bound.specs.inner.Places.{branch_node, go_node, kind_node, label_of, node_of, place_in};
 
 use asm_items::{AsmItem, Imm};
 use assembler::Labels;

@@ -1,8 +1,8 @@
 // Items as nodes.
 ghost use Rattle.std.specs.Prelude.{◌≡◌, IfOk, OnOk, [], map, length};
 ghost use Rattle.assembler.specs.Faults.{label_in};
-ghost use Rattle.assembler.specs.Survey.{with_item};
-ghost use Rattle.cycle_bound.specs.Places.{node_of, place_in, gathered};
+ghost use Rattle.assembler.specs.inner.Survey.{with_item};
+ghost use Rattle.cycle_bound.specs.inner.Places.{node_of, place_in, gathered};
 
 use crate::node::{Node, node_of};
 use asm_items::AsmItem;

@@ -15,10 +15,10 @@ use Rattle.kit_tools.specs.Work.{Work}
 use Rattle.kit_tools.specs.Carrying.{LeavesBy, shown_status, text_of}
 use Rattle.kit_words.specs.Command.{Command, Build, Convert, Trace, Run, Play, Watch, Bounds, Check, Gen}
 use Rattle.kit_core.specs.Due.{command_reads, form_due, form_refused}
-use Rattle.kit_core.specs.Fronts.{Carries, StopsBy}
+use Rattle.kit_core.specs.inner.Fronts.{Carries, StopsBy}
 use Rattle.kit_core.specs.Generating.{front_of, sources_due}
 use Rattle.kit_core.specs.Outcome.{putting, ComesInFront, EndsAs, FormEnds, FrontCutOff, FrontFault, OutOfMemory, SinkFault, StopsInFront, IsCutOff}
-use Rattle.kit_core.specs.Putting.{Shows}
+use Rattle.kit_core.specs.inner.Putting.{Shows}
 use Rattle.kit_core.proofs.Outcomes.{outcome_done, outcome_refused}
 
 -- what is held is told after a front as before it

@@ -8,7 +8,7 @@ use Rattle.build_core.specs.declared.building.Built.{Built}
 use Rattle.build_core.specs.Build.{Builds, IsBuilt}
 use Rattle.kit_tools.specs.declared.refusal.Refusal.{Refusal}
 use Rattle.kit_core.specs.Due.{built_work, text_build_due, unbuilt}
-use Rattle.kit_core.specs.Checking.{TextBuilt}
+use Rattle.kit_core.specs.inner.Checking.{TextBuilt}
 
 module _ (project text : List ℕ) where
   refused_so : (m : Held) (e : BuildErr) → Builds m text (Err e) → TextBuilt project text m (Err (unbuilt project e))

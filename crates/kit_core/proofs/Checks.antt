@@ -8,7 +8,7 @@ use Rattle.build_core.specs.Checked.{Checks}
 use Rattle.kit_tools.specs.declared.refusal.Refusal.{Refusal}
 use Rattle.kit_tools.specs.Work.{accepted}
 use Rattle.kit_core.specs.Due.{text_check_due, unbuilt}
-use Rattle.kit_core.specs.Checking.{TextChecked}
+use Rattle.kit_core.specs.inner.Checking.{TextChecked}
 
 module _ (project text : List ℕ) where
   refused_so : (m : Held) (e : BuildErr) → Checks m text (Err e) → TextChecked project text m (Err (unbuilt project e))

@@ -31,13 +31,13 @@ use Rattle.kit_tools.proofs.Stages.{cut}
 use Rattle.kit_words.specs.Command.{Gen}
 use Rattle.kit_words.specs.Forms.{source_name}
 use Rattle.kit_words.proofs.Created.{AreFour, gen_differ}
-use Rattle.kit_core.specs.Checking.{TextBuilt}
+use Rattle.kit_core.specs.inner.Checking.{TextBuilt}
 use Rattle.kit_core.specs.Due.{form_due, functions_gen_due, gen_work, number_gen_due, outputs_of}
-use Rattle.kit_core.specs.Fronts.{Carries, GivesNumber}
+use Rattle.kit_core.specs.inner.Fronts.{Carries, GivesNumber}
 use Rattle.kit_core.specs.Generating.{front_of, functions_due, most_frames, sources_due, sources_of}
 use Rattle.kit_core.specs.Headline.{GenStands, IsGeneratedInto}
 use Rattle.kit_core.specs.Outcome.{putting, ComesInFront, IsOutcome, FrontCutOff, FrontFault}
-use Rattle.kit_core.specs.Playing.{IsCarried}
+use Rattle.kit_core.specs.inner.Playing.{IsCarried}
 use Rattle.kit_core.proofs.Behind.{some_made}
 use Rattle.kit_core.proofs.Headlines.{done_at_zero}
 use Rattle.kit_core.proofs.Meanings.{run_meant}

@@ -10,7 +10,7 @@ use Rattle.kit_tools.specs.Refusal.{status_of, line_of}
 use Rattle.kit_tools.specs.Work.{Work, ComesBy}
 use Rattle.kit_core.specs.Outcome.{putting, EndsAs, Done, Refused, FileFault, OutOfMemory, SinkFault, IsCutOff}
 use Rattle.kit_tools.specs.Carrying.{LeavesBy, shown_status, text_of}
-use Rattle.kit_core.specs.Putting.{Shows}
+use Rattle.kit_core.specs.inner.Putting.{Shows}
 use Rattle.kit_tools.specs.declared.shown.Shown.{Shown}
 
 module _ (Due : Result Work DueRefusal → Type 0) (Reads : List ℕ → Type 0) (m : Held) (status : ℕ) (after : Option Held) (before put : Option (List ℕ)) where

@@ -12,7 +12,7 @@ use Rattle.kit_tools.specs.Converting.{ConvertsLong}
 use Rattle.kit_tools.specs.Running.{is_count}
 use Rattle.kit_tools.specs.Watching.{is_watch_count}
 use Rattle.kit_tools.proofs.Own.{wider_causes}
-use Rattle.kit_core.specs.Causes.{HasReasons, IsUsage}
+use Rattle.kit_core.specs.inner.Causes.{HasReasons, IsUsage}
 use Rattle.kit_core.specs.Limits.{IsGenOver, IsLarge, IsOver}
 use Rattle.kit_core.proofs.Reasons.{reasons}
 

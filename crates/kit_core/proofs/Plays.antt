@@ -21,7 +21,7 @@ use Rattle.kit_words.proofs.Created.{created_differ}
 use Rattle.kit_core.specs.Due.{form_due, outputs_of, play_due, play_effects, play_work, read_play_due, IsReadToPlay}
 use Rattle.kit_tools.specs.Work.{Work}
 use Rattle.kit_tools.specs.Running.{Game, game_with, names_in, settings_due}
-use Rattle.kit_core.specs.Playing.{IsCarried, IsGameOf}
+use Rattle.kit_core.specs.inner.Playing.{IsCarried, IsGameOf}
 use Rattle.kit_tools.specs.Gaming.{IsWritten, game_of, settings_of}
 use Rattle.kit_tools.specs.Carrying.{IsCut}
 use Rattle.kit_core.specs.Headline.{IsPlayedInto, PlayStands}

@@ -13,7 +13,7 @@ use Rattle.kit_tools.specs.Inputs.{or_refused, unread}
 use Rattle.kit_tools.specs.Work.{Work, ComesBy}
 use Rattle.kit_tools.specs.Carrying.{FailsAt, FailsIn, GivesBy, IsCut, LeavesBy, shown_status, text_of}
 use Rattle.kit_tools.proofs.Stages.{cut, fails_wider, refused_gave}
-use Rattle.kit_core.specs.Checking.{IsOneUnlessStopped}
+use Rattle.kit_core.specs.inner.Checking.{IsOneUnlessStopped}
 use Rattle.kit_core.specs.Due.{project_reads}
 
 -- one of the refusals that are due came, or a call failed at a file that is read, and nothing was changed

@@ -12,9 +12,9 @@ use Rattle.kit_tools.specs.declared.refusal.Refusal.{Refusal}
 use Rattle.kit_tools.specs.declared.refusal.Refusal.TheVariants as refusals
 use Rattle.kit_tools.specs.declared.shown.Shown.{Shown}
 use Rattle.kit_core.specs.Outcome.{putting}
-use Rattle.kit_core.specs.Putting.{Shows}
+use Rattle.kit_core.specs.inner.Putting.{Shows}
 use Rattle.kit_core.specs.Limits.{IsOver}
-use Rattle.kit_core.specs.Causes.{HasReason, HasReasons, IsUsage}
+use Rattle.kit_core.specs.inner.Causes.{HasReason, HasReasons, IsUsage}
 use Rattle.kit_core.specs.Lines.{IsPut, Text, Line, Front, PutsSource}
 use Rattle.kit_tools.specs.Causes.{Counts, HasCause, HasDueCause, HasCausesOr}
 

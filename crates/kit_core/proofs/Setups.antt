@@ -13,7 +13,7 @@ use Rattle.kit_tools.specs.Running.{Settings}
 use Rattle.kit_tools.specs.Gaming.{settings_of}
 use Rattle.kit_tools.specs.Carrying.{GivesBy, FailsIn}
 use Rattle.kit_tools.proofs.Stages.{fails_wider}
-use Rattle.kit_core.specs.Checking.{IsOneUnlessStopped, TextBuilt}
+use Rattle.kit_core.specs.inner.Checking.{IsOneUnlessStopped, TextBuilt}
 use Rattle.kit_core.specs.Due.{IsUnset, not_built, not_set, unbuilt, IsReadSet, reads_build, reads_set}
 
 one_weaker : (P Q : DueRefusal → Type 0) → ((r : DueRefusal) → P r → Q r) → (e : Refusal) → IsOneUnlessStopped P e → IsOneUnlessStopped Q e

@@ -5,7 +5,7 @@ use Rattle.std.specs.Prelude.{Option, Some, None, length}
 use Rattle.kit_tools.specs.declared.refusal.Refusal.TheVariants as refusals
 use Rattle.kit_tools.specs.Refusal.{line_of}
 use Rattle.kit_core.specs.Outcome.{putting}
-use Rattle.kit_core.specs.Putting.{Puts, Shows}
+use Rattle.kit_core.specs.inner.Putting.{Puts, Shows}
 
 pub putting_nothing : (w : Option (List ℕ)) → w ≡ putting [] w
 putting_nothing None = refl

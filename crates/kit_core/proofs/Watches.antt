@@ -30,9 +30,9 @@ use Rattle.kit_tools.proofs.Cutting.{in_first, in_second, not_begun}
 use Rattle.kit_words.specs.Command.{WatchWords}
 use Rattle.kit_core.specs.declared.following.Watchable.{Watchable}
 use Rattle.kit_core.specs.Due.{outputs_of, read_watch_due, watch_work, IsReadToWatch}
-use Rattle.kit_core.specs.Following.{shown_by}
+use Rattle.kit_core.specs.inner.Following.{shown_by}
 use Rattle.kit_core.specs.Meaning.{console_of}
-use Rattle.kit_core.specs.Playing.{IsCarried}
+use Rattle.kit_core.specs.inner.Playing.{IsCarried}
 use Rattle.kit_core.specs.Watching.{done_in, ends_in, verdict_at, watched_in}
 use Rattle.kit_core.proofs.Projects.{Left, WasRead, left_cut, left_done}
 

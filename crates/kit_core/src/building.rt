@@ -7,9 +7,9 @@ ghost use Rattle.build_core.specs.Reached.{IsReadToBuild};
 ghost use Rattle.kit_tools.specs.Carrying.{FailsIn, IsCut, LeavesBy};
 ghost use Rattle.kit_tools.specs.Causes.{HasCauses, HasCausesOr, counts};
 ghost use Rattle.kit_core.specs.Limits.{IsLarge};
-ghost use Rattle.kit_core.specs.Checking.{TextBuilt};
+ghost use Rattle.kit_core.specs.inner.Checking.{TextBuilt};
 ghost use Rattle.kit_core.specs.Due.{build_due, build_reads, outputs_of};
-ghost use Rattle.kit_core.specs.Playing.{AreOutputs};
+ghost use Rattle.kit_core.specs.inner.Playing.{AreOutputs};
 
 use crate::build_refusal::unbuilt;
 use build_core::{Built, build};

@@ -3,7 +3,7 @@ ghost use Rattle.std.specs.Prelude.{ℕ, List, ◌≡◌, ◌≤◌, IfErr, IfSo
 ghost use Rattle.build_core.specs.Reached.{IsReadToCheck};
 ghost use Rattle.kit_tools.specs.Carrying.{FailsIn, LeavesBy};
 ghost use Rattle.kit_tools.specs.Causes.{HasCauses, counts};
-ghost use Rattle.kit_core.specs.Checking.{TextChecked};
+ghost use Rattle.kit_core.specs.inner.Checking.{TextChecked};
 ghost use Rattle.kit_core.specs.Due.{check_due, check_reads};
 
 use crate::build_refusal::unbuilt;

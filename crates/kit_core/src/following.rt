@@ -5,7 +5,7 @@ ghost use Rattle.build_core.specs.Causes.{CanBeTooLarge, HasCauses as HasBuildCa
 ghost use Rattle.build_core.specs.Reached.{FailsAt, IsReadToBuild};
 ghost use Rattle.kit_tools.specs.Carrying.{FailsIn};
 ghost use Rattle.kit_tools.specs.Causes.{HasCausesOr, counts};
-ghost use Rattle.kit_core.specs.Following.{BuildsWatchable, TextWatchable};
+ghost use Rattle.kit_core.specs.inner.Following.{BuildsWatchable, TextWatchable};
 
 use crate::build_refusal::unbuilt;
 use build_core::{BuildErr, Built, Checked, build_from, front};

@@ -14,10 +14,10 @@ ghost use Rattle.kit_words.specs.Number.{number_of};
 ghost use Rattle.kit_tools.specs.Carrying.{IsCut, LeavesBy};
 ghost use Rattle.kit_tools.specs.Causes.{HasCauses, HasCausesOr, IsOwn, counts};
 ghost use Rattle.kit_core.specs.Due.{functions_gen_due, gen_work};
-ghost use Rattle.kit_core.specs.Fronts.{Carries, GivesNumber};
+ghost use Rattle.kit_core.specs.inner.Fronts.{Carries, GivesNumber};
 ghost use Rattle.kit_core.specs.Generating.{functions_due, most_frames, sources_of};
 ghost use Rattle.kit_core.specs.Limits.{IsGenOver};
-ghost use Rattle.kit_core.specs.Playing.{AreOutputs, IsCarried};
+ghost use Rattle.kit_core.specs.inner.Playing.{AreOutputs, IsCarried};
 
 use crate::building::{Outputs, build_text, made_outputs, write_made};
 use crate::playing::built_cart;

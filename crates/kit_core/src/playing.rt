@@ -6,7 +6,7 @@ ghost use Rattle.cart_format.specs.Reading.{cart_of};
 ghost use Rattle.kit_tools.specs.Carrying.{LeavesBy};
 ghost use Rattle.kit_tools.specs.Causes.{HasCauses, HasCausesOr, counts};
 ghost use Rattle.kit_core.specs.Due.{play_due, play_reads, play_work};
-ghost use Rattle.kit_core.specs.Playing.{AreOutputs, IsCarried, IsGameOf};
+ghost use Rattle.kit_core.specs.inner.Playing.{AreOutputs, IsCarried, IsGameOf};
 ghost use Rattle.kit_tools.specs.Gaming.{IsOpened, game_of};
 ghost use Rattle.kit_core.specs.Limits.{IsLarge};
 ghost use Rattle.kit_words.specs.Parsed.{run_words_from};

@@ -13,10 +13,10 @@ ghost use Rattle.kit_tools.specs.Causes.{HasCauses, HasCausesOr, counts};
 ghost use Rattle.kit_tools.specs.Gaming.{settings_of};
 ghost use Rattle.kit_tools.specs.Watching.{is_watch_count};
 ghost use Rattle.kit_core.specs.Due.{watch_due, watch_reads, watch_work};
-ghost use Rattle.kit_core.specs.Following.{IsOpened, shown_by};
+ghost use Rattle.kit_core.specs.inner.Following.{IsOpened, shown_by};
 ghost use Rattle.kit_core.specs.Limits.{IsLarge};
 ghost use Rattle.kit_core.specs.Meaning.{console_of};
-ghost use Rattle.kit_core.specs.Playing.{AreOutputs, IsCarried};
+ghost use Rattle.kit_core.specs.inner.Playing.{AreOutputs, IsCarried};
 ghost use Rattle.kit_core.specs.Watching.{verdict_at, watched_in};
 
 use crate::building::{Outputs, made_outputs, write_made};

@@ -6,7 +6,7 @@ use Rattle.std.specs.Str.{bytes_eq}
 use Rattle.std.proofs.lemmas.List.Folds.{list_all-map}
 use Rattle.clap.specs.Walk.{Text}
 use Rattle.kit_words.specs.Forms.{are_different}
-use Rattle.kit_words.specs.CommandLine.{texts_of}
+use Rattle.kit_words.specs.inner.CommandLine.{texts_of}
 
 pub none_left : (names : List (Bor Text)) → length names ≡ 0 → are_different (texts_of names) ≡ true
 unfolding are_different

@@ -12,7 +12,7 @@ use Rattle.clap.proofs.OnLiterals.{clap_on_literals}
 use Rattle.clap.proofs.WalkLemmas.{walk_stopped}
 use Rattle.clap.specs.declared.error.kind.ErrorKind.TheVariants as kind
 use Rattle.kit_words.specs.Forms.{is_word}
-use Rattle.kit_words.specs.CommandLine.{command_line}
+use Rattle.kit_words.specs.inner.CommandLine.{command_line}
 use Rattle.kit_words.proofs.Plain.{plain_fault, plain_met, Pair}
 
 abbrev pub app : App

@@ -12,7 +12,7 @@ use Rattle.clap.specs.declared.error.kind.ErrorKind.TheVariants as kind
 use Rattle.kit_words.specs.declared.conversion.Conversion.TheVariants.{Migrate, Assemble, Disassemble}
 use Rattle.kit_words.specs.Forms.{Form, Builds, Checks, Converts, Runs, Plays, Watches, TellsBounds, Traces, Generates, are_as_many, created_by, form_named, forms, is_word, name_of, number_in, words_of}
 use Rattle.kit_words.specs.Command.{command_of, command_with, form_of, form_with, made, tested}
-use Rattle.kit_words.specs.CommandLine.{command_in, command_line, form_in, form_shape, given, given_to, ids_of}
+use Rattle.kit_words.specs.inner.CommandLine.{command_in, command_line, form_in, form_shape, given, given_to, ids_of}
 use Rattle.kit_words.proofs.Plain.{form_faults, form_faults_are, form_rows_are, is_flat, plain_faults, plain_walk}
 use Rattle.kit_words.proofs.FirstWord.{app, names, named_fault, named_rows}
 

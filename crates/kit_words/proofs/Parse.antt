@@ -17,7 +17,7 @@ use Rattle.clap.specs.declared.error.kind.ErrorKind.{ErrorKind}
 use Rattle.clap.specs.declared.error.kind.ErrorKind.TheVariants as kind
 use Rattle.kit_words.specs.Forms.{Form, form_named, forms, is_word, name_of}
 use Rattle.kit_words.specs.Command.{command_of, command_with, form_of, form_with}
-use Rattle.kit_words.specs.CommandLine.{command_in, command_line}
+use Rattle.kit_words.specs.inner.CommandLine.{command_in, command_line}
 use Rattle.kit_words.proofs.FirstWord.{unmet_fault}
 use Rattle.kit_words.proofs.Forms.{Answer, Taken, Refused, Each, IsGood, all_good, form_answer, form_of_words}
 

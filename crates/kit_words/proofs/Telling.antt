@@ -4,7 +4,7 @@ use Rattle.std.proofs.lemmas.List.{map-append, take_more}
 use Rattle.std.specs.Borrow.{Bor}
 use Rattle.clap.specs.Walk.{Rule, Text}
 use Rattle.clap.specs.Simple.{with_rule}
-use Rattle.kit_words.specs.CommandLine.{form_alone, texts_of, required}
+use Rattle.kit_words.specs.inner.CommandLine.{form_alone, texts_of, required}
 
 rules_more : (ids : List (Bor Text)) (i : ℕ) (d : Bor Text) → i < length ids
     → map required (texts_of (take i ids)) ++ required (get_or ids i d).now ∷ [] ≡ map required (texts_of (take (i + 1) ids))

@@ -7,7 +7,7 @@ ghost use Rattle.clap.specs.Walk.{first_of};
 ghost use Rattle.clap.specs.declared.error.kind.ErrorKind.TheVariants.{OutOfMemory};
 ghost use Rattle.kit_words.specs.Forms.{Builds, Checks, Converts, Generates, Plays, Runs, TellsBounds, Traces, Watches, are_different, card_of, is_number, is_word, source_name};
 ghost use Rattle.kit_words.specs.Command.{command_of, is_number_if_there, texts};
-ghost use Rattle.kit_words.specs.CommandLine.{checked, command_in, form_in, given_to, texts_of};
+ghost use Rattle.kit_words.specs.inner.CommandLine.{checked, command_in, form_in, given_to, texts_of};
 ghost use Rattle.kit_words.specs.Created.{created_names, number_word, run_names};
 ghost use Rattle.kit_words.specs.Parsed.{command_from, run_words_from};
 

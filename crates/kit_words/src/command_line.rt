@@ -2,7 +2,7 @@
 ghost use Rattle.std.specs.Prelude.{◌≡◌, IfOk, false};
 ghost use Rattle.clap.specs.Words.{app_of, rule_of};
 ghost use Rattle.clap.specs.declared.builder.command.Command.TheViews.{out-Command};
-ghost use Rattle.kit_words.specs.CommandLine.{command_line, form_alone, no_forms, required, texts_of, with_converting, with_form};
+ghost use Rattle.kit_words.specs.inner.CommandLine.{command_line, form_alone, no_forms, required, texts_of, with_converting, with_form};
 
 use clap::{Arg, Command};
 use std::alloc::{AllocError, Global};

@@ -12,5 +12,4 @@ pub mod ListedInitialisers
 pub mod ListedStatements
 pub mod ListedFunctions
 pub mod View
-pub mod MaybeTypes
-pub mod MaybeStatements
+pub mod inner

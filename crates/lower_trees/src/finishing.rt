@@ -7,7 +7,7 @@ ghost use Rattle.lower_trees.specs.Counts.{one_size};
 ghost use Rattle.lower_trees.specs.Expressions.{is_void, later_types};
 ghost use Rattle.lower_trees.specs.ListedParts.{as_flag, converted, stored, operated, moved_by, structure_read};
 ghost use Rattle.lower_trees.specs.ListedExpressions.{lazy_choice, step_by, stepped_to, member_of, led, called_with, converted_to};
-ghost use Rattle.lower_trees.specs.MaybeTypes.{or_void, or_none};
+ghost use Rattle.lower_trees.specs.inner.MaybeTypes.{or_void, or_none};
 ghost use Rattle.lower_trees.specs.View.{shape_of};
 
 use crate::at::At;

@@ -6,7 +6,7 @@ ghost use Rattle.lower_trees.specs.Counts.{init_temps, inits_temps, init_sizes, 
 ghost use Rattle.lower_trees.specs.Initialisers.{address_of};
 ghost use Rattle.lower_trees.specs.ListedInitialisers.{part_at, cell_filled, part_filled, part_zeroed, low_text, low_rest, low_init, low_inits, object_to, low_vars};
 ghost use Rattle.lower_trees.specs.ListedParts.{converted};
-ghost use Rattle.lower_trees.specs.MaybeTypes.{or_void};
+ghost use Rattle.lower_trees.specs.inner.MaybeTypes.{or_void};
 ghost use Rattle.lower_trees.specs.View.{shape_of};
 
 use crate::at::{At, from};

@@ -2,7 +2,7 @@
 ghost use Rattle.std.specs.Prelude.{◌≡◌, ◌≤◌, ◌+◌, length, map, sum_by, option_map};
 ghost use Rattle.c_types.specs.View.{ctype, layout, function};
 ghost use Rattle.c_meaning.specs.Parts.{part_type, member_type};
-ghost use Rattle.lower_trees.specs.MaybeTypes.{or_void, or_none};
+ghost use Rattle.lower_trees.specs.inner.MaybeTypes.{or_void, or_none};
 
 use c_types::{CType, Layout, TFunction, wrapped_size};
 use kit_base::Name;

@@ -7,7 +7,7 @@ ghost use Rattle.mid_code.specs.Functions.{node};
 ghost use Rattle.lower_trees.specs.Counts.{stmt_temps, stmts_temps, other_temps, arms_temps, stmt_sizes, stmts_sizes, other_sizes, arms_sizes};
 ghost use Rattle.lower_trees.specs.ListedStatements.{depth, low_stmt, low_other, low_stmts, low_arms};
 ghost use Rattle.lower_trees.specs.Statements.{ToEnd};
-ghost use Rattle.lower_trees.specs.MaybeStatements.{other_of};
+ghost use Rattle.lower_trees.specs.inner.MaybeStatements.{other_of};
 ghost use Rattle.lower_trees.specs.View.{shape_of, jump_of};
 
 use crate::at::{At, from};

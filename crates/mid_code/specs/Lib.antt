@@ -14,11 +14,8 @@ pub mod Safe
 pub mod Together
 pub mod Open
 pub mod Invariants
-pub mod Passing
 pub mod Plain
 pub mod Calls
-pub mod Alike
-pub mod Programs
 pub mod Whole
 pub mod Choices
-pub mod Skeleton
+pub mod inner

@@ -8,9 +8,9 @@ use Rattle.obj_mem.specs.Worlds.{on_store, spend}
 use Rattle.mid_code.specs.Code.{OpT, CodeT, maybe}
 use Rattle.mid_code.specs.Meaning.{Next, Lang, did}
 use Rattle.mid_code.specs.States.{State, temporaries, received, cell_of, word_tested, begun, if_room, back, entry_weight, over_worlds, sizes_of, function_at}
-use Rattle.mid_code.specs.Passing.{acts, Pass, Like, CallAlike, DidAlike, TestAlike, Keeps}
+use Rattle.mid_code.specs.inner.Passing.{acts, Pass, Like, CallAlike, DidAlike, TestAlike, Keeps}
 use Rattle.mid_code.proofs.More.{act_more, enter_more, back_more}
-use Rattle.mid_copies.specs.Copying.{Copies, origin, behind_maybe, used_up, Gone, with_use, known_behind, serves, takes, op_serves}
+use Rattle.mid_copies.specs.inner.Copying.{Copies, origin, behind_maybe, used_up, Gone, with_use, known_behind, serves, takes, op_serves}
 use Rattle.mid_copies.proofs.KnownCells.{both, served, all_served}
 use Rattle.mid_copies.proofs.OnePass.{worlds_spend, worlds_store, Agree, spent_agrees, used_agrees, put_agrees, ops_of, AsksLess, sparing}
 use Rattle.mid_copies.proofs.EachOp.{did_less, each}

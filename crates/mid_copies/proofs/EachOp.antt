@@ -14,9 +14,9 @@ use Rattle.mid_code.specs.Code.{OpT, ConstO, NullO, MoveO, OneO, TwoO, GlobalO, 
 use Rattle.mid_code.specs.Invariants.{AllOf}
 use Rattle.mid_code.specs.Meaning.{Did, On, Ends, Lang}
 use Rattle.mid_code.specs.States.{State, temporaries, put_in, one_word, two_words, stepped, distance, pointers_tested, to, in_world, to_objects, input, output, spent, over_worlds, sizes_of}
-use Rattle.mid_code.specs.Passing.{then_act, acts, Prefix, Pass, DidAlike}
+use Rattle.mid_code.specs.inner.Passing.{then_act, acts, Prefix, Pass, DidAlike}
 use Rattle.mid_code.proofs.More.{all_of}
-use Rattle.mid_copies.specs.Copying.{Copies, origin, behind, behind_maybe, used_up, Gone, with_uses, known_behind, serves, takes, op_serves}
+use Rattle.mid_copies.specs.inner.Copying.{Copies, origin, behind, behind_maybe, used_up, Gone, with_uses, known_behind, serves, takes, op_serves}
 use Rattle.mid_copies.proofs.KnownCells.{both, served}
 use Rattle.mid_copies.proofs.OnePass.{SameWorlds, worlds_spend, worlds_spend_first, worlds_store, worlds_happened, Agree, world_agrees, spent_agrees, used_agrees, put_agrees, copy_agrees, gone_agrees, ops_of, AsksLess, sparing}
 

@@ -6,13 +6,13 @@ use Rattle.std.specs.Prelude.{Result, Ok, Err, IfOk}
 use Rattle.mid_code.specs.declared.node.Op.{Op}
 use Rattle.mid_code.specs.declared.node.Op.TheVariants as op
 use Rattle.mid_code.specs.declared.node.Node.{Node}
-use Rattle.mid_code.specs.Passing.{doing}
+use Rattle.mid_code.specs.inner.Passing.{doing}
 use Rattle.mid_code.specs.Code.{OpT, ConstO, NullO, MoveO, OneO, TwoO, GlobalO, LocalO, LiteralO, CardO, StepO, ApartO, PtrTestO, LoadO, StoreO, FreshO, EndO, InO, OutO, WaitO, HaltO, NodesT, Do, Call, Choose, Block, Loop, Leave, Again, Return, FunctionT}
 use Rattle.mid_code.specs.declared.function.Function.{Function}
 use Rattle.mid_code.specs.Functions.{function, op_before, NodeT, DoN, ChooseN, BlockN, LoopN, LeaveN, AgainN, ReturnN, ListT, NoN, MoreN, listed, node, before, joined, nodes}
-use Rattle.mid_copies.specs.Copying.{Gone, Copies, origin, with_use, spared, serves, takes, all_serve, is_right, spared_function}
-use Rattle.mid_copies.specs.Sinking.{Held, held_ops, is_free, is_apart, ops_at, held_behind, sunk, sunk_function, IsTidiedBy, AreTidiedBy}
-use Rattle.mid_copies.specs.Listed.{op_known, op_spared, op_right, some_node, node_known, op_of, node_op, held_nodes, nodes_at, held_at, list_sunk, node_spared, list_spared, node_right, list_right}
+use Rattle.mid_copies.specs.inner.Copying.{Gone, Copies, origin, with_use, spared, serves, takes, all_serve, is_right, spared_function}
+use Rattle.mid_copies.specs.inner.Sinking.{Held, held_ops, is_free, is_apart, ops_at, held_behind, sunk, sunk_function, IsTidiedBy, AreTidiedBy}
+use Rattle.mid_copies.specs.inner.Listed.{op_known, op_spared, op_right, some_node, node_known, op_of, node_op, held_nodes, nodes_at, held_at, list_sunk, node_spared, list_spared, node_right, list_right}
 
 -- ---- what stands for nodes
 

@@ -5,7 +5,7 @@ use Rattle.std.specs.List.{list_all}
 use Rattle.obj_mem.specs.declared.cell.Cell.{Cell}
 use Rattle.mid_code.specs.Live.{is_among}
 use Rattle.mid_code.specs.States.{temporaries, put}
-use Rattle.mid_copies.specs.Copying.{Copies, origin, is_copy, behind, used_up, Gone, serves}
+use Rattle.mid_copies.specs.inner.Copying.{Copies, origin, is_copy, behind, used_up, Gone, serves}
 
 pub both : (x y : Bool) → (x && y) ≡ true → (x ≡ true) × (y ≡ true)
 both true y e = (refl, e)

@@ -4,8 +4,8 @@ use Rattle.std.specs.List.{list_all}
 use Rattle.mid_code.specs.Code.{OpT, ConstO, NullO, MoveO, OneO, TwoO, GlobalO, LocalO, LiteralO, CardO, StepO, ApartO, PtrTestO, LoadO, StoreO, FreshO, EndO, InO, OutO, WaitO, HaltO, NodesT, Stop, Do, Call, Choose, Block, Loop, Leave, Again, Return, CodeT, maybe}
 use Rattle.mid_code.specs.Invariants.{IsLoop, AreNodes}
 use Rattle.mid_code.specs.States.{temporaries, over_worlds}
-use Rattle.mid_code.specs.Passing.{doing, Pass, Points, end_at, begin_at, Like}
-use Rattle.mid_copies.specs.Copying.{Copies, origin, behind_maybe, used_up, Gone, with_use, op_then, known_behind, spared, serves, takes, op_serves, all_serve}
+use Rattle.mid_code.specs.inner.Passing.{doing, Pass, Points, end_at, begin_at, Like}
+use Rattle.mid_copies.specs.inner.Copying.{Copies, origin, behind_maybe, used_up, Gone, with_use, op_then, known_behind, spared, serves, takes, op_serves, all_serve}
 use Rattle.mid_copies.proofs.KnownCells.{both}
 use Rattle.mid_copies.proofs.OnePass.{ops_of, AsksLess, sparing}
 

@@ -3,7 +3,7 @@ use Rattle.std.proofs.Common.{◌≡◌, ℕ, zero, suc, ◌<◌, inl, inr, Bool
 use Rattle.mid_code.specs.Code.{OpT, ConstO, NullO, MoveO, OneO, TwoO, GlobalO, LocalO, LiteralO, CardO, StepO, ApartO, PtrTestO, LoadO, StoreO, FreshO, EndO, InO, OutO, WaitO, HaltO, NodesT, Stop, Do, Call, Choose, Block, Loop, Leave, Again, Return, FunctionT, CodeT, maybe, uses, target}
 use Rattle.mid_code.specs.Live.{is_among}
 use Rattle.mid_code.specs.Invariants.{IsOp, parameter_count, AreNodes, AllOf, NodeNames, Names, CallsNone, IsFunction, IsStart, IsTemporary, IsMid}
-use Rattle.mid_copies.specs.Copying.{Copies, origin, behind, behind_maybe, used_up, Gone, with_uses, with_use, op_then, known_behind, spared, spared_function, AreSparedBy, IsSparedCode}
+use Rattle.mid_copies.specs.inner.Copying.{Copies, origin, behind, behind_maybe, used_up, Gone, with_uses, with_use, op_then, known_behind, spared, spared_function, AreSparedBy, IsSparedCode}
 use Rattle.mid_copies.proofs.WithUses.{op_either, uses_with, target_with}
 
 pub map_length : {A B : Type 0} (f : A → B) (xs : List A) → length (map f xs) ≡ length xs

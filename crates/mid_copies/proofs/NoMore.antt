@@ -5,7 +5,7 @@ use Rattle.mid_code.specs.Code.{OpT, NodesT, Stop, Do, Call, Choose, Block, Loop
 use Rattle.mid_code.specs.States.{op_weight}
 use Rattle.mid_code.specs.Runs.{nodes_weight, function_weight, weight}
 use Rattle.mid_code.specs.Calls.{loops, CallsTo, AddsNone, NoneAdd}
-use Rattle.mid_copies.specs.Copying.{Copies, origin, behind_maybe, used_up, Gone, op_then, known_behind, spared, spared_function, IsSparedBy, AreSparedBy, IsSparedCode}
+use Rattle.mid_copies.specs.inner.Copying.{Copies, origin, behind_maybe, used_up, Gone, op_then, known_behind, spared, spared_function, IsSparedBy, AreSparedBy, IsSparedCode}
 use Rattle.mid_copies.proofs.WithUses.{op_either, weight_with}
 use Rattle.mid_copies.proofs.MidStill.{map_length}
 

@@ -3,7 +3,7 @@ use Rattle.std.proofs.Common.{◌≡◌, ℕ, zero, suc, true, false, not, ◌&&
 use Rattle.std.proofs.lemmas.Bool.{and_from}
 use Rattle.std.specs.List.{list_all}
 use Rattle.mid_code.specs.Code.{OpT, ConstO, NullO, MoveO, OneO, TwoO, GlobalO, LocalO, LiteralO, CardO, StepO, ApartO, PtrTestO, LoadO, StoreO, FreshO, EndO, InO, OutO, WaitO, HaltO, NodesT, Stop, Do, Call, Choose, Block, Loop, Leave, Again, Return, FunctionT, maybe}
-use Rattle.mid_copies.specs.Copying.{Copies, behind_maybe, used_up, known_behind, serves, takes, op_serves, all_serve, none_gone, marked, is_right}
+use Rattle.mid_copies.specs.inner.Copying.{Copies, behind_maybe, used_up, known_behind, serves, takes, op_serves, all_serve, none_gone, marked, is_right}
 
 uses_serve : (es : Copies) (qs : List ℕ) → list_all (serves none_gone es) qs ≡ true
 uses_serve es [] = refl

@@ -8,8 +8,8 @@ use Rattle.obj_mem.specs.Stores.{Store}
 use Rattle.obj_mem.specs.Worlds.{World, on_store, spend, happened}
 use Rattle.mid_code.specs.Code.{OpT, ConstO, MoveO, CodeT, maybe}
 use Rattle.mid_code.specs.States.{State, temporaries, put, put_in, in_world, spent, over_worlds}
-use Rattle.mid_code.specs.Passing.{Pass}
-use Rattle.mid_copies.specs.Copying.{Copies, origin, behind, behind_maybe, used_up, Gone, with_uses, with_use, known_behind, serves, takes, op_serves}
+use Rattle.mid_code.specs.inner.Passing.{Pass}
+use Rattle.mid_copies.specs.inner.Copying.{Copies, origin, behind, behind_maybe, used_up, Gone, with_uses, with_use, known_behind, serves, takes, op_serves}
 use Rattle.mid_copies.proofs.KnownCells.{put_off, put_on, put_same, AllHeld, still_held, left_held}
 
 -- ---- worlds

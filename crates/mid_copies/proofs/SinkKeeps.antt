@@ -8,9 +8,9 @@ use Rattle.obj_mem.specs.Runs.{Ending, Halted, Fault, Starved, Stray, Deep, OutO
 use Rattle.mid_code.specs.Code.{OpT, CodeT}
 use Rattle.mid_code.specs.Meaning.{Did, On, Ends, Next, Over, Lang, did}
 use Rattle.mid_code.specs.States.{State, temporaries, received, cell_of, word_tested, begun, if_room, back, entry_weight, over_worlds, sizes_of, function_at}
-use Rattle.mid_code.specs.Passing.{then_act, acts, Prefix, state_of, did_state, Pass, Like, Kept, CallAlike, DidAlike, TestAlike, Keeps}
+use Rattle.mid_code.specs.inner.Passing.{then_act, acts, Prefix, state_of, did_state, Pass, Like, Kept, CallAlike, DidAlike, TestAlike, Keeps}
 use Rattle.mid_code.proofs.More.{further, act_more, enter_more, back_more}
-use Rattle.mid_copies.specs.Sinking.{is_free, Held, held_ops, is_apart, ops_at, held_behind}
+use Rattle.mid_copies.specs.inner.Sinking.{is_free, Held, held_ops, is_apart, ops_at, held_behind}
 use Rattle.mid_copies.proofs.AlikeCode.{test_same}
 use Rattle.mid_copies.proofs.SinkPass.{less_same, less_spend, less_store, held_weight, Agree, spent_agrees, put_agrees, sinking}
 use Rattle.mid_copies.proofs.SinkOps.{none_apart, alike, done, hold}

@@ -3,8 +3,8 @@ use Rattle.std.proofs.Common.{◌≡◌, ℕ, zero, suc, ◌<◌, Bool, true, fa
 use Rattle.mid_code.specs.Code.{OpT, NodesT, Stop, Do, Call, Choose, Block, Loop, Leave, Again, Return, CodeT}
 use Rattle.mid_code.specs.Invariants.{IsLoop, AreNodes}
 use Rattle.mid_code.specs.States.{temporaries, over_worlds}
-use Rattle.mid_code.specs.Passing.{doing, Pass, Points, end_at, begin_at, Like}
-use Rattle.mid_copies.specs.Sinking.{Held, held_ops, ops_at, held_behind, sunk}
+use Rattle.mid_code.specs.inner.Passing.{doing, Pass, Points, end_at, begin_at, Like}
+use Rattle.mid_copies.specs.inner.Sinking.{Held, held_ops, ops_at, held_behind, sunk}
 use Rattle.mid_copies.proofs.SinkPass.{sinking}
 
 -- nothing is held where a block or loop begins anew, and where it ends

@@ -3,11 +3,11 @@ use Rattle.std.proofs.Common.{◌≡◌, ℕ, zero, suc, ◌+◌, ◌≤◌, ◌
 use Rattle.std.proofs.lemmas.List.Sums.{sum_by-cons}
 use Rattle.mid_code.specs.Code.{OpT, ConstO, NullO, MoveO, OneO, TwoO, GlobalO, LocalO, LiteralO, CardO, StepO, ApartO, PtrTestO, LoadO, StoreO, FreshO, EndO, InO, OutO, WaitO, HaltO, NodesT, Stop, Do, Call, Choose, Block, Loop, Leave, Again, Return, FunctionT, CodeT, maybe, uses, target}
 use Rattle.mid_code.specs.Invariants.{IsOp, parameter_count, AreNodes, AllOf, Names, CallsNone, IsFunction, IsStart, IsTemporary, IsMid}
-use Rattle.mid_code.specs.Passing.{doing}
+use Rattle.mid_code.specs.inner.Passing.{doing}
 use Rattle.mid_code.specs.States.{op_weight}
 use Rattle.mid_code.specs.Runs.{nodes_weight, function_weight, weight}
 use Rattle.mid_code.specs.Calls.{loops, CallsTo, AddsNone, NoneAdd}
-use Rattle.mid_copies.specs.Sinking.{is_free, Held, held_ops, is_apart, ops_at, held_behind, sunk, sunk_function, AreSunk, IsSunkCode}
+use Rattle.mid_copies.specs.inner.Sinking.{is_free, Held, held_ops, is_apart, ops_at, held_behind, sunk, sunk_function, AreSunk, IsSunkCode}
 
 -- ---- operations
 

@@ -14,9 +14,9 @@ use Rattle.obj_mem.specs.Runs.{Halted}
 use Rattle.mid_code.specs.Code.{OpT, ConstO, NullO, MoveO, OneO, TwoO, GlobalO, LocalO, LiteralO, CardO, StepO, ApartO, PtrTestO, LoadO, StoreO, FreshO, EndO, InO, OutO, WaitO, HaltO, CodeT, uses, target, maybe}
 use Rattle.mid_code.specs.Meaning.{Did, On, Ends, Lang}
 use Rattle.mid_code.specs.States.{State, temporaries, put, put_in, one_word, two_words, stepped, distance, pointers_tested, to, in_world, to_objects, input, output, spent, over_worlds, sizes_of}
-use Rattle.mid_code.specs.Passing.{acts, Prefix, Pass, DidAlike}
+use Rattle.mid_code.specs.inner.Passing.{acts, Prefix, Pass, DidAlike}
 use Rattle.mid_code.proofs.More.{all_of}
-use Rattle.mid_copies.specs.Sinking.{is_free, Held, hides, is_apart}
+use Rattle.mid_copies.specs.inner.Sinking.{is_free, Held, hides, is_apart}
 use Rattle.mid_copies.proofs.KnownCells.{both, put_off, put_on}
 use Rattle.mid_copies.proofs.OnePass.{SameWorlds}
 use Rattle.mid_copies.proofs.EachOp.{then_on}

@@ -8,8 +8,8 @@ use Rattle.obj_mem.specs.Stores.{Store}
 use Rattle.obj_mem.specs.Worlds.{World, on_store, spend, happened}
 use Rattle.mid_code.specs.Code.{ConstO, GlobalO, CodeT}
 use Rattle.mid_code.specs.States.{State, temporaries, put, put_in, in_world, spent, over_worlds}
-use Rattle.mid_code.specs.Passing.{Pass}
-use Rattle.mid_copies.specs.Sinking.{Held, held_ops, hides, ops_at, held_behind}
+use Rattle.mid_code.specs.inner.Passing.{Pass}
+use Rattle.mid_copies.specs.inner.Sinking.{Held, held_ops, hides, ops_at, held_behind}
 use Rattle.mid_copies.proofs.KnownCells.{put_off, put_same}
 use Rattle.mid_copies.proofs.OnePass.{SameWorlds}
 

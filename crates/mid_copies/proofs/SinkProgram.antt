@@ -6,10 +6,10 @@ use Rattle.mid_code.specs.Invariants.{AreNodes, IsMid}
 use Rattle.mid_code.specs.States.{temporaries, over_worlds, sizes_of, function_at, no_function}
 use Rattle.mid_code.specs.Runs.{mid_runs}
 use Rattle.mid_code.specs.Keeps.{KeepsRuns, WorksAtMost}
-use Rattle.mid_code.specs.Passing.{Pass, Like}
-use Rattle.mid_code.specs.Programs.{Program}
+use Rattle.mid_code.specs.inner.Passing.{Pass, Like}
+use Rattle.mid_code.specs.inner.Programs.{Program}
 use Rattle.mid_code.proofs.Programs.{program_keeps, program_works}
-use Rattle.mid_copies.specs.Sinking.{sunk_function, AreSunk, IsSunkCode}
+use Rattle.mid_copies.specs.inner.Sinking.{sunk_function, AreSunk, IsSunkCode}
 use Rattle.mid_copies.proofs.WholeProgram.{worlds_ended, nodes_at}
 use Rattle.mid_copies.proofs.SinkPass.{LessWorlds, sinking}
 use Rattle.mid_copies.proofs.SinkKeeps.{keeps}

@@ -2,7 +2,7 @@
 use Rattle.std.proofs.Common.{ℕ, List, [], ◌∷◌, refl, sym, subst}
 use Rattle.mid_code.specs.Code.{FunctionT, CodeT}
 use Rattle.mid_code.specs.Invariants.{IsMid}
-use Rattle.mid_copies.specs.Copying.{IsSparedBy, AreSparedBy, IsSparedCode}
+use Rattle.mid_copies.specs.inner.Copying.{IsSparedBy, AreSparedBy, IsSparedCode}
 use Rattle.mid_copies.specs.SparedFrom.{IsSparedFunction, EachSpared, IsSparedFrom}
 use Rattle.mid_copies.proofs.WholeProgram.{spared_keeps, spared_works}
 use Rattle.mid_copies.proofs.MidStill.{spared_mid}

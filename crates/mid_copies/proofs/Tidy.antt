@@ -10,8 +10,8 @@ use Rattle.mid_code.specs.Runs.{mid_runs}
 use Rattle.mid_fold.specs.FoldedFrom.{IsFoldedFunction, EachFolded, IsFoldedFrom}
 use Rattle.mid_code.proofs.Keeping.{keeps_through}
 use Rattle.mid_code.proofs.Agreeing.{works_through}
-use Rattle.mid_copies.specs.Copying.{AreSparedBy}
-use Rattle.mid_copies.specs.Sinking.{sunk_function, IsTidiedBy, AreTidiedBy, AreSunk, IsSunkCode}
+use Rattle.mid_copies.specs.inner.Copying.{AreSparedBy}
+use Rattle.mid_copies.specs.inner.Sinking.{sunk_function, IsTidiedBy, AreTidiedBy, AreSunk, IsSunkCode}
 use Rattle.mid_copies.specs.SparedFrom.{IsSparedFunction, EachSpared, IsSparedFrom}
 use Rattle.mid_copies.proofs.Spares.{spared_from}
 use Rattle.mid_copies.proofs.Programs.{with_functions}

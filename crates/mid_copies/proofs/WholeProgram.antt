@@ -10,10 +10,10 @@ use Rattle.mid_code.specs.Invariants.{AreNodes, AllOf, IsFunction, IsTemporary, 
 use Rattle.mid_code.specs.States.{temporaries, over_worlds, sizes_of, function_at, no_function}
 use Rattle.mid_code.specs.Runs.{mid_runs}
 use Rattle.mid_code.specs.Keeps.{KeepsRuns, WorksAtMost}
-use Rattle.mid_code.specs.Passing.{Pass, Like}
-use Rattle.mid_code.specs.Programs.{KeptWorlds, Program}
+use Rattle.mid_code.specs.inner.Passing.{Pass, Like}
+use Rattle.mid_code.specs.inner.Programs.{KeptWorlds, Program}
 use Rattle.mid_code.proofs.Programs.{program_keeps, program_works}
-use Rattle.mid_copies.specs.Copying.{Gone, all_serve, none_gone, is_right, spared_function, AreSparedBy, IsSparedCode}
+use Rattle.mid_copies.specs.inner.Copying.{Gone, all_serve, none_gone, is_right, spared_function, AreSparedBy, IsSparedCode}
 use Rattle.mid_copies.proofs.KnownCells.{both}
 use Rattle.mid_copies.proofs.OnePass.{SameWorlds, sparing}
 use Rattle.mid_copies.proofs.AlikeCode.{keeps}

@@ -2,7 +2,7 @@
 use Rattle.std.proofs.Common.{◌≡◌, ℕ, Bool, true, false, cond, ◌⊎◌, inl, inr, map, refl}
 use Rattle.mid_code.specs.Code.{OpT, ConstO, NullO, MoveO, OneO, TwoO, GlobalO, LocalO, LiteralO, CardO, StepO, ApartO, PtrTestO, LoadO, StoreO, FreshO, EndO, InO, OutO, WaitO, HaltO, NodesT, Do, uses, target}
 use Rattle.mid_code.specs.States.{op_weight}
-use Rattle.mid_copies.specs.Copying.{Copies, origin, Gone, with_uses, op_then}
+use Rattle.mid_copies.specs.inner.Copying.{Copies, origin, Gone, with_uses, op_then}
 
 pub op_either : (g : Gone) (es : Copies) (o : OpT ℕ) (c : NodesT ℕ) → (op_then g es o c ≡ c) ⊎ (op_then g es o c ≡ Do (with_uses (origin es) o) c)
 op_either g es (ConstO q n) c = go (g q)

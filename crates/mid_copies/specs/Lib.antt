@@ -1,5 +1,2 @@
-pub mod Copying
-pub mod Sinking
 pub mod SparedFrom
-pub mod Listed
-pub mod Holding
+pub mod inner

@@ -2,8 +2,8 @@
 ghost use Rattle.std.specs.Prelude.{◌≡◌, ◌&&◌, ◌∷◌, [], true, not, IfOk, IfSome, IfNone, map};
 ghost use Rattle.std.specs.List.{list_all};
 ghost use Rattle.mid_code.specs.Functions.{function};
-ghost use Rattle.mid_copies.specs.Copying.{marked, is_right, spared_function};
-ghost use Rattle.mid_copies.specs.Sinking.{sunk_function, IsTidiedBy, AreTidiedBy};
+ghost use Rattle.mid_copies.specs.inner.Copying.{marked, is_right, spared_function};
+ghost use Rattle.mid_copies.specs.inner.Sinking.{sunk_function, IsTidiedBy, AreTidiedBy};
 
 use crate::known::is_gone;
 use crate::marks::marks_of;

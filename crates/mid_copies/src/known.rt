@@ -2,8 +2,8 @@
 ghost use Rattle.std.specs.Prelude.{◌≡◌, ◌∷◌, [], IfOk, map};
 ghost use Rattle.mid_code.specs.Functions.{node};
 ghost use Rattle.mid_code.specs.Live.{is_among};
-ghost use Rattle.mid_copies.specs.Copying.{marked, origin, is_copy, behind, behind_maybe, used_up};
-ghost use Rattle.mid_copies.specs.Listed.{known, op_known, node_known};
+ghost use Rattle.mid_copies.specs.inner.Copying.{marked, origin, is_copy, behind, behind_maybe, used_up};
+ghost use Rattle.mid_copies.specs.inner.Listed.{known, op_known, node_known};
 
 use kit_base::Memory;
 use mid_code::{Node, Op};

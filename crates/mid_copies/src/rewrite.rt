@@ -1,8 +1,8 @@
 // Code without the copies that are not made.
 ghost use Rattle.std.specs.Prelude.{◌≡◌, ◌++◌, [], None, IfOk, OnOk, map};
 ghost use Rattle.mid_code.specs.Functions.{node, listed};
-ghost use Rattle.mid_copies.specs.Copying.{marked, origin, with_use};
-ghost use Rattle.mid_copies.specs.Listed.{op_spared, some_node, list_sunk, node_spared, list_spared};
+ghost use Rattle.mid_copies.specs.inner.Copying.{marked, origin, with_use};
+ghost use Rattle.mid_copies.specs.inner.Listed.{op_spared, some_node, list_sunk, node_spared, list_spared};
 
 use crate::known::{is_gone, know_node, origin};
 use crate::sinking::sink;

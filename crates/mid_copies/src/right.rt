@@ -3,8 +3,8 @@ ghost use Rattle.std.specs.Prelude.{◌≡◌, [], map, IfOk};
 ghost use Rattle.std.specs.List.{list_all};
 ghost use Rattle.mid_code.specs.Code.{maybe};
 ghost use Rattle.mid_code.specs.Functions.{node, listed};
-ghost use Rattle.mid_copies.specs.Copying.{marked, serves, takes};
-ghost use Rattle.mid_copies.specs.Listed.{all_right, op_right, node_right, list_right};
+ghost use Rattle.mid_copies.specs.inner.Copying.{marked, serves, takes};
+ghost use Rattle.mid_copies.specs.inner.Listed.{all_right, op_right, node_right, list_right};
 
 use crate::known::{is_copy, is_gone, know_node};
 use kit_base::Memory;

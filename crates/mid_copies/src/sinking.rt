@@ -2,9 +2,9 @@
 ghost use Rattle.std.specs.Prelude.{◌≡◌, ◌++◌, ◌&&◌, ◌∷◌, [], not, None, Some, IfOk, OnOk, map};
 ghost use Rattle.std.specs.List.{list_all};
 ghost use Rattle.mid_code.specs.Functions.{node};
-ghost use Rattle.mid_copies.specs.Sinking.{hides};
-ghost use Rattle.mid_copies.specs.Listed.{node_op, plain_op, held_nodes, nodes_at, held_at, list_sunk};
-ghost use Rattle.mid_copies.specs.Holding.{free_op, held_of, free_in, apart_in};
+ghost use Rattle.mid_copies.specs.inner.Sinking.{hides};
+ghost use Rattle.mid_copies.specs.inner.Listed.{node_op, plain_op, held_nodes, nodes_at, held_at, list_sunk};
+ghost use Rattle.mid_copies.specs.inner.Holding.{free_op, held_of, free_in, apart_in};
 
 use kit_base::Memory;
 use mid_code::{Node, Op};

@@ -14,8 +14,8 @@ use Rattle.mid_evaluate.specs.declared.flow.Flow.TheVariants as flow
 use Rattle.mid_evaluate.specs.declared.stop.Stop as stop
 use Rattle.mid_evaluate.specs.declared.stop.Stop.TheVariants.{NoMemory, Ends}
 use Rattle.mid_evaluate.specs.View.{CallerT, ending}
-use Rattle.mid_evaluate.specs.Answers.{S, went, Leads, Stops, StopsIn}
-use Rattle.mid_evaluate.specs.Once.{performed, weight_of, call_parts, op_once, ran, taken, choose_by, turn_left, looped, node_once, caller_of, returned}
+use Rattle.mid_evaluate.specs.inner.Answers.{S, went, Leads, Stops, StopsIn}
+use Rattle.mid_evaluate.specs.inner.Once.{performed, weight_of, call_parts, op_once, ran, taken, choose_by, turn_left, looped, node_once, caller_of, returned}
 
 lower : (n m : ℕ) → m + 1 ≡ suc n → n ≡ m
 lower n m z = omega (arith, z)

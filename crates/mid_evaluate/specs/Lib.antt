@@ -1,3 +1,2 @@
 pub mod View
-pub mod Answers
-pub mod Once
+pub mod inner

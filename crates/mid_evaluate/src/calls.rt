@@ -2,8 +2,8 @@
 ghost use Rattle.std.specs.Prelude.{◌≡◌, ◌<◌, ◌+◌, ◌^◌, [], IfOk, OnOk, map, option_map};
 ghost use Rattle.obj_mem.specs.Stores.{entered, has_room};
 ghost use Rattle.mid_code.specs.States.{begun, function_at, if_room, received, temporaries};
-ghost use Rattle.mid_evaluate.specs.Answers.{Does, Leads, went};
-ghost use Rattle.mid_evaluate.specs.Once.{back_in, call_parts, caller_of, restored, returned};
+ghost use Rattle.mid_evaluate.specs.inner.Answers.{Does, Leads, went};
+ghost use Rattle.mid_evaluate.specs.inner.Once.{back_in, call_parts, caller_of, restored, returned};
 ghost use Rattle.mid_evaluate.specs.View.{caller, code_of, held, parts_of, sizes, state_of, store_of};
 
 use crate::answer::Ending;

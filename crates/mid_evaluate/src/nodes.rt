@@ -3,8 +3,8 @@ ghost use Rattle.std.specs.Prelude.{◌≡◌, Some};
 ghost use Rattle.mid_code.specs.Functions.{node, nodes};
 ghost use Rattle.mid_code.specs.Meaning.{below, block_done, called};
 ghost use Rattle.mid_code.specs.States.{word_tested};
-ghost use Rattle.mid_evaluate.specs.Answers.{Leads, went};
-ghost use Rattle.mid_evaluate.specs.Once.{block, call_parts, choice, looped, node_once, op_once, ran, taken, turn_left};
+ghost use Rattle.mid_evaluate.specs.inner.Answers.{Leads, went};
+ghost use Rattle.mid_evaluate.specs.inner.Once.{block, call_parts, choice, looped, node_once, op_once, ran, taken, turn_left};
 ghost use Rattle.mid_evaluate.specs.View.{code_of, lang, state_of};
 
 use crate::answer::Ending;

@@ -3,7 +3,7 @@ ghost use Rattle.std.specs.Prelude.{◌≡◌, ◌++◌, ◌∷◌, [], IfOk, On
 ghost use Rattle.obj_mem.specs.declared.cell.Cell.TheVariants.{Num};
 ghost use Rattle.obj_mem.specs.Objects.{global_object, literal_object, card_object, opening_objects};
 ghost use Rattle.obj_mem.specs.Runs.{opening_store};
-ghost use Rattle.obj_mem.specs.View.{objects};
+ghost use Rattle.obj_mem.specs.inner.View.{objects};
 ghost use Rattle.mid_code.specs.Runs.{opening};
 ghost use Rattle.mid_code.specs.View.{code};
 ghost use Rattle.mid_evaluate.specs.View.{state_of, store_of};

@@ -1,6 +1,6 @@
 // What operations do.
 ghost use Rattle.std.specs.Prelude.{◌≡◌};
-ghost use Rattle.obj_mem.specs.View.{objects};
+ghost use Rattle.obj_mem.specs.inner.View.{objects};
 ghost use Rattle.kit_base.specs.declared.event.Event.TheVariants.{Wait};
 ghost use Rattle.v32_isa.specs.declared.instruction.Two.TheVariants.{IEQ, INE};
 ghost use Rattle.v32_isa.specs.Arithmetic.{two_of};
@@ -9,8 +9,8 @@ ghost use Rattle.obj_mem.specs.Stores.{end_one, fresh, local_object};
 ghost use Rattle.obj_mem.specs.Worlds.{happened, on_store};
 ghost use Rattle.mid_code.specs.States.{distance, in_world, input, one_word, output, pointers_tested, stepped, temporaries, to, to_objects, two_words};
 ghost use Rattle.mid_code.specs.Meaning.{On};
-ghost use Rattle.mid_evaluate.specs.Answers.{Does};
-ghost use Rattle.mid_evaluate.specs.Once.{performed, weight_of};
+ghost use Rattle.mid_evaluate.specs.inner.Answers.{Does};
+ghost use Rattle.mid_evaluate.specs.inner.Once.{performed, weight_of};
 ghost use Rattle.mid_evaluate.specs.View.{sizes, state_of};
 
 use crate::answer::Ending;

@@ -4,7 +4,7 @@ ghost use Rattle.mid_code.specs.View.{code};
 ghost use Rattle.mid_code.specs.Whole.{mid};
 ghost use Rattle.mid_code.specs.Runs.{final, main_called, mid_runs, run_of, start_done};
 ghost use Rattle.mid_code.specs.States.{temporaries};
-ghost use Rattle.mid_evaluate.specs.Once.{ran};
+ghost use Rattle.mid_evaluate.specs.inner.Once.{ran};
 ghost use Rattle.mid_evaluate.specs.View.{code_of, ending, run, state_of};
 
 use crate::answer::{Ending, MidRun};

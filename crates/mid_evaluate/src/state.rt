@@ -5,10 +5,10 @@ ghost use Rattle.obj_mem.specs.Objects.{made, unwritten};
 ghost use Rattle.obj_mem.specs.Stores as stores;
 ghost use Rattle.obj_mem.specs.Stores.{local_object, end_local, end_one};
 ghost use Rattle.obj_mem.specs.Worlds.{happened, spend};
-ghost use Rattle.obj_mem.specs.View.{objects};
+ghost use Rattle.obj_mem.specs.inner.View.{objects};
 ghost use Rattle.mid_code.specs.States.{put, put_in, put_in_maybe, spent, cell_of, temporaries};
 ghost use Rattle.mid_evaluate.specs.View.{sizes, store_of, world_of, state_of, held};
-ghost use Rattle.mid_evaluate.specs.Once.{given};
+ghost use Rattle.mid_evaluate.specs.inner.Once.{given};
 
 use crate::setting::Setting;
 use kit_base::{Event, Memory};

@@ -2,7 +2,7 @@
 use Rattle.std.proofs.Common.{◌≡◌, ℕ, List, map, refl, sym, ap, ◌∙◌, subst}
 use Rattle.mid_code.specs.Code.{FunctionT, CodeT}
 use Rattle.mid_code.specs.Invariants.{IsMid}
-use Rattle.mid_fold.specs.Folding.{folded_function, folded_code}
+use Rattle.mid_fold.specs.inner.Folding.{folded_function, folded_code}
 use Rattle.mid_fold.specs.FoldedFrom.{IsFoldedFrom}
 use Rattle.mid_fold.proofs.Running.{run_same}
 use Rattle.mid_fold.proofs.Staying.{code_weighs, each_folded, none_add, adds_none, folded_mid}

@@ -6,8 +6,8 @@ use Rattle.mid_code.specs.declared.node.Node.{Node}
 use Rattle.mid_code.specs.declared.function.Function.{Function}
 use Rattle.mid_code.specs.Code.{OpT, ConstO, MoveO, OneO, TwoO, NodesT, Do, Call, Choose, Block, Loop, Leave, Again, Return, FunctionT}
 use Rattle.mid_code.specs.Functions.{NodeT, DoN, ChooseN, BlockN, LoopN, LeaveN, AgainN, ReturnN, ListT, NoN, MoreN, op_before, listed, node, before, joined, nodes, function}
-use Rattle.mid_fold.specs.Folding.{Words, word_in, one_known, two_known, word_or, known_behind, folded, folded_function}
-use Rattle.mid_fold.specs.Listed.{or_word, op_folded, op_known, node_known, node_folded, list_folded}
+use Rattle.mid_fold.specs.inner.Folding.{Words, word_in, one_known, two_known, word_or, known_behind, folded, folded_function}
+use Rattle.mid_fold.specs.inner.Listed.{or_word, op_folded, op_known, node_known, node_folded, list_folded}
 
 -- an operation that stays or becomes a constant for its target, in memory and as plain data
 stands : (es : Words) (t : ℕ) (o : Op ℕ) (p : OpT ℕ) (r : Option ℕ) (c d : NodesT ℕ) → ((a : NodesT ℕ) → op_before o a ≡ Do p a) → op_known es o ≡ known_behind es p

@@ -4,7 +4,7 @@ use Rattle.std.proofs.lemmas.Bool.{eqb-true, eq-eqb}
 use Rattle.obj_mem.specs.declared.cell.Cell.{Cell}
 use Rattle.obj_mem.specs.declared.cell.Cell.TheVariants.{Num}
 use Rattle.mid_code.specs.States.{temporaries, put}
-use Rattle.mid_fold.specs.Folding.{Words, word_in, behind, few}
+use Rattle.mid_fold.specs.inner.Folding.{Words, word_in, behind, few}
 
 -- each of them has its word
 abbrev pub Knows : Words → (ℕ → Cell) → Type 0

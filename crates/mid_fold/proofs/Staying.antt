@@ -6,7 +6,7 @@ use Rattle.mid_code.specs.Calls.{loops, CallsTo, AddsNone, NoneAdd}
 use Rattle.mid_code.specs.Invariants.{IsOp, parameter_count, AreNodes, AllOf, NodeNames, Names, CallsNone, IsFunction, IsStart, IsTemporary, IsMid}
 use Rattle.mid_code.specs.States.{op_weight}
 use Rattle.mid_code.specs.Runs.{nodes_weight, function_weight, weight}
-use Rattle.mid_fold.specs.Folding.{Words, word_in, one_known, two_known, known_behind, folded_op, folded, folded_function, folded_code}
+use Rattle.mid_fold.specs.inner.Folding.{Words, word_in, one_known, two_known, known_behind, folded_op, folded, folded_function, folded_code}
 use Rattle.mid_fold.specs.FoldedFrom.{IsFoldedFunction, EachFolded}
 use Rattle.mid_fold.proofs.Acting.{stays, weight_same}
 

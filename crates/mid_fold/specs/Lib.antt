@@ -1,3 +1,2 @@
-pub mod Folding
 pub mod FoldedFrom
-pub mod Listed
+pub mod inner

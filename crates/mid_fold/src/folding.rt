@@ -1,7 +1,7 @@
 // Operations whose words are known.
 ghost use Rattle.std.specs.Prelude.{◌≡◌, IfOk};
-ghost use Rattle.mid_fold.specs.Folding.{one_known, two_known};
-ghost use Rattle.mid_fold.specs.Listed.{op_folded, or_word};
+ghost use Rattle.mid_fold.specs.inner.Folding.{one_known, two_known};
+ghost use Rattle.mid_fold.specs.inner.Listed.{op_folded, or_word};
 
 use crate::known::word_in;
 use kit_base::{Memory, Seq};

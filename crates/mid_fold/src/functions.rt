@@ -3,7 +3,7 @@ ghost use Rattle.std.specs.Prelude.{◌≡◌, IfOk, map};
 ghost use Rattle.mid_code.specs.Functions.{function};
 ghost use Rattle.mid_code.specs.Whole.{mid};
 ghost use Rattle.mid_fold.specs.FoldedFrom.{IsFoldedFrom};
-ghost use Rattle.mid_fold.specs.Folding.{folded_function};
+ghost use Rattle.mid_fold.specs.inner.Folding.{folded_function};
 
 use crate::nodes::fold_nodes;
 use kit_base::{Memory, Seq};

@@ -1,8 +1,8 @@
 // The words that are known at a point.
 ghost use Rattle.std.specs.Prelude.{◌≡◌, ◌∷◌, [], IfOk, map};
 ghost use Rattle.mid_code.specs.Functions.{node};
-ghost use Rattle.mid_fold.specs.Folding.{behind, few, word_in};
-ghost use Rattle.mid_fold.specs.Listed.{node_known, op_known};
+ghost use Rattle.mid_fold.specs.inner.Folding.{behind, few, word_in};
+ghost use Rattle.mid_fold.specs.inner.Listed.{node_known, op_known};
 
 use kit_base::Memory;
 use mid_code::{Node, Op};

@@ -1,7 +1,7 @@
 // Nodes whose words are known.
 ghost use Rattle.std.specs.Prelude.{◌≡◌, IfOk, map};
 ghost use Rattle.mid_code.specs.Functions.{listed, node};
-ghost use Rattle.mid_fold.specs.Listed.{list_folded, node_folded};
+ghost use Rattle.mid_fold.specs.inner.Listed.{list_folded, node_folded};
 
 use crate::folding::fold_op;
 use crate::known::{Words, know_node};

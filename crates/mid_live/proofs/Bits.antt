@@ -6,7 +6,7 @@ use Rattle.std.proofs.Common.{bit_and}
 use Rattle.std.proofs.lemmas.Bool.{eq-eqb, ne_eqb, eqb-true, eqb-false, ltb-true, ltb-false}
 use Rattle.std.proofs.lemmas.Nat.Bits.{shr_and_one, bit_at-lt, bit_at-zero, bit_at_and, bit_at_or, bit_at_not, bit_at_set_same, bit_at_set_other, bit_at_clear_same, bit_at_clear_other, bit_at-trailing_zeros, bit_at_above}
 use Rattle.mid_live.specs.Sets.{on, room}
-use Rattle.mid_live.specs.Words.{bit}
+use Rattle.mid_live.specs.inner.Words.{bit}
 use Rattle.std.proofs.lemmas.List.{get_or-set_same, get_or-set_other}
 use Rattle.std.proofs.lemmas.Nat.{shr-shr, shr_le}
 use Rattle.std.specs.Int.{trailing_zeros}

@@ -6,7 +6,7 @@ use Rattle.std.proofs.lemmas.List.{ext_get_or, get_or_past, length-set}
 use Rattle.mid_live.specs.declared.words.Held.{Held}
 use Rattle.mid_code.specs.Live.{is_among}
 use Rattle.mid_live.specs.Sets.{on, room}
-use Rattle.mid_live.specs.Words.{bit, some, IsHeld, FreshIn, spread}
+use Rattle.mid_live.specs.inner.Words.{bit, some, IsHeld, FreshIn, spread}
 use Rattle.mid_live.proofs.Bits.{eq_or, lt_or, small, zeros, get_set, no_bit, bit_on, or_bit, less_bit}
 
 -- ---- held words

@@ -18,7 +18,7 @@ impl Model for Live {
 
     ghost Value = { List ℕ };
 
-    ghost use Rattle.mid_live.specs.Words.{IsHeld};
+    ghost use Rattle.mid_live.specs.inner.Words.{IsHeld};
 
     ghost view = { λ s. s.words.items };
 
@@ -37,7 +37,7 @@ impl Model for Kept {
 
     ghost Value = { List ℕ };
 
-    ghost use Rattle.mid_live.specs.Words.{FreshIn, spread};
+    ghost use Rattle.mid_live.specs.inner.Words.{FreshIn, spread};
 
     ghost view = { λ k. spread (replicate k.len 0) k.words.items };
 

@@ -2,7 +2,7 @@
 ghost use Rattle.std.specs.Prelude.{◌≡◌, ◌≢◌, ℕ, ◌+◌, ◌*◌, ◌/◌, ◌%◌, ◌<◌, ◌≤◌, ◌||◌, ◌&&◌, not, false, cond, eqb, length, get_or, replicate, slice_set, All, IfOk, OnOk};
 ghost use Rattle.mid_code.specs.Live.{is_among};
 ghost use Rattle.mid_live.specs.Sets.{on, room};
-ghost use Rattle.mid_live.specs.Words.{bit, some, IsHeld, FreshIn, spread};
+ghost use Rattle.mid_live.specs.inner.Words.{bit, some, IsHeld, FreshIn, spread};
 ghost use Rattle.mid_live.specs.declared.words.Held.{Held};
 
 use kit_base::Memory;

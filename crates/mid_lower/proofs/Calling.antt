@@ -17,7 +17,7 @@ use Rattle.mid_code.specs.Code.{NodesT}
 use Rattle.mid_code.specs.Meaning as res
 use Rattle.mid_code.specs.Meaning.{Res, Over, did, then_next, ask}
 use Rattle.mid_code.specs.States.{temporaries, received, begun, sizes_of, function_at, if_room}
-use Rattle.mid_code.specs.Passing.{Prefix}
+use Rattle.mid_code.specs.inner.Passing.{Prefix}
 use Rattle.mid_lower.proofs.Grows.{Mid, Grows, more, then_grows, done_grows}
 use Rattle.mid_lower.proofs.Under.{Under, under_length, under_from}
 use Rattle.mid_lower.proofs.Lives.{later_then, later_from}

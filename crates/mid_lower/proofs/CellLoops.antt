@@ -18,7 +18,7 @@ use Rattle.mid_code.specs.Code.{CodeT, ConstO, TwoO, StepO, LoadO, StoreO, Nodes
 use Rattle.mid_code.specs.Meaning.{Res, Next, Leaves, Repeats, Returns, Over, then_next, turn_done, choose, does}
 use Rattle.mid_code.specs.Meaning.{below as mid_below}
 use Rattle.mid_code.specs.States.{temporaries, to, spent, word_tested, over_worlds}
-use Rattle.mid_code.specs.Passing.{Prefix}
+use Rattle.mid_code.specs.inner.Passing.{Prefix}
 use Rattle.lower_trees.specs.Parts as part
 use Rattle.mid_lower.proofs.Grows.{Mid, Grows, all_of, more, then_grows, turn_grows, node_grows}
 use Rattle.mid_lower.proofs.Under.{read_both}

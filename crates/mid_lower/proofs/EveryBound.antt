@@ -19,7 +19,7 @@ use Rattle.mid_code.specs.Code.{MoveO, LocalO, StoreO, NodesT, Stop, Do, Block, 
 use Rattle.mid_code.specs.Meaning.{Res, Next, then_next, block_done}
 use Rattle.mid_code.specs.Meaning.{below as mid_below}
 use Rattle.mid_code.specs.States.{temporaries, to, spent, received, function_at, over_worlds}
-use Rattle.mid_code.specs.Passing.{Prefix}
+use Rattle.mid_code.specs.inner.Passing.{Prefix}
 use Rattle.lower_trees.specs.Shape.{Shape, shape_in, words}
 use Rattle.lower_trees.specs.Parts as part
 use Rattle.lower_trees.specs.Statements.{ToEnd, low_stmt, low_stmts}

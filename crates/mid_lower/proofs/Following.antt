@@ -17,7 +17,7 @@ use Rattle.c_meaning.specs.Outcomes.{Val, Value, Place, NoValue, Stops, asked, t
 use Rattle.mid_code.specs.Code.{OpT, NodesT, Do}
 use Rattle.mid_code.specs.Meaning.{Res, Over, did, does, Lang}
 use Rattle.mid_code.specs.States.{temporaries, put, to, spent, over_worlds}
-use Rattle.mid_code.specs.Passing.{state_of, Prefix}
+use Rattle.mid_code.specs.inner.Passing.{state_of, Prefix}
 use Rattle.mid_lower.proofs.Grows.{Mid, Grows, append_nil, more, node_grows}
 use Rattle.mid_lower.proofs.Under.{Under, Alike}
 use Rattle.mid_lower.proofs.Lives.{Later, Gone, later_same, later_then, later_gone}

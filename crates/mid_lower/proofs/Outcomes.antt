@@ -10,7 +10,7 @@ use Rattle.c_meaning.specs.Kinds.{is_structure}
 use Rattle.mid_code.specs.Code.{NodesT, Stop, Again}
 use Rattle.mid_code.specs.Meaning.{Res, Next, Leaves, Repeats, Over, then_next, block_done, turn_done, did}
 use Rattle.mid_code.specs.Meaning as res
-use Rattle.mid_code.specs.Passing.{Prefix}
+use Rattle.mid_code.specs.inner.Passing.{Prefix}
 use Rattle.lower_trees.specs.Parts.{result_at}
 use Rattle.lower_trees.specs.Statements.{Jump, ToEnd, ToTurn}
 use Rattle.mid_lower.proofs.Grows.{Mid, Grows, more, then_grows, block_grows, turn_grows}

@@ -25,7 +25,7 @@ use Rattle.mid_code.specs.Meaning.{Res, Next, Leaves, Repeats, Returns, Over, th
 use Rattle.mid_code.specs.States.{temporaries}
 use Rattle.mid_code.specs.Runs as mid
 use Rattle.mid_code.specs.Keeps.{WorksAtMost, KeepsRuns, KeepsRun, SameRun, global_cell}
-use Rattle.mid_code.specs.Passing.{Prefix}
+use Rattle.mid_code.specs.inner.Passing.{Prefix}
 use Rattle.lower_trees.specs.Shape.{shape}
 use Rattle.lower_trees.specs.Parts.{first_param}
 use Rattle.lower_trees.specs.Expressions.{is_void}

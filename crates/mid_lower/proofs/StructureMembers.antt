@@ -16,7 +16,7 @@ use Rattle.c_meaning.specs.Expressions as src
 use Rattle.c_meaning.specs.Expressions.{value_of, evaluated}
 use Rattle.mid_code.specs.Code.{ConstO, StepO, LoadO, NodesT, Do}
 use Rattle.mid_code.specs.Meaning.{Res}
-use Rattle.mid_code.specs.Passing.{Prefix}
+use Rattle.mid_code.specs.inner.Passing.{Prefix}
 use Rattle.mid_code.specs.States.{temporaries, to, spent}
 use Rattle.lower_trees.specs.Shape.{Shape, shape_in}
 use Rattle.lower_trees.specs.Parts as part

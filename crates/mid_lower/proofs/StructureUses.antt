@@ -22,7 +22,7 @@ use Rattle.c_meaning.specs.Expressions.{value_of, dropped, dropped_value, evalua
 use Rattle.mid_code.specs.Code.{MoveO, StoreO, NodesT, Do}
 use Rattle.mid_code.specs.States.{temporaries, to, spent}
 use Rattle.mid_code.specs.Meaning.{Res}
-use Rattle.mid_code.specs.Passing.{Prefix}
+use Rattle.mid_code.specs.inner.Passing.{Prefix}
 use Rattle.lower_trees.specs.Shape.{Shape, shape_in, words}
 use Rattle.lower_trees.specs.Flags.{is_flag}
 use Rattle.lower_trees.specs.Parts as part

@@ -5,9 +5,9 @@ use Rattle.mid_code.specs.Code.{ConstO, NullO, MoveO, OneO, TwoO, GlobalO, Local
 use Rattle.mid_code.specs.Live.{is_among}
 use Rattle.mid_scalars.specs.declared.roles.Role.{Role}
 use Rattle.mid_scalars.specs.declared.roles.Role.TheVariants.{Open, AddressOf, Spoilt}
-use Rattle.mid_scalars.specs.Plan.{Own, Address}
-use Rattle.mid_scalars.specs.Table.{all_nodes, uses_as_address, is_clean, flags, first_some, address_in, address_kind, kind_in}
-use Rattle.mid_scalars.specs.Purposes.{role_of, fits, kind_by}
+use Rattle.mid_scalars.specs.inner.Plan.{Own, Address}
+use Rattle.mid_scalars.specs.inner.Table.{all_nodes, uses_as_address, is_clean, flags, first_some, address_in, address_kind, kind_in}
+use Rattle.mid_scalars.specs.inner.Purposes.{role_of, fits, kind_by}
 use Rattle.mid_scalars.proofs.Tables.{only_address, found_clean}
 use Rattle.mid_scalars.proofs.Planned.{flag_plain, well_taken, clean_every, below_kind}
 use Rattle.mid_scalars.proofs.Purposes.{clean_is}

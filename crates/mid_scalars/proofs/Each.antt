@@ -15,11 +15,11 @@ use Rattle.obj_mem.specs.Runs.{Fault, Stray}
 use Rattle.mid_code.specs.Code.{OpT, ConstO, NullO, MoveO, OneO, TwoO, GlobalO, LocalO, LiteralO, CardO, StepO, ApartO, PtrTestO, LoadO, StoreO, FreshO, EndO, InO, OutO, WaitO, HaltO, CodeT}
 use Rattle.mid_code.specs.Meaning.{On, Ends, Next, Lang, did}
 use Rattle.mid_code.specs.States.{State, temporaries, put, put_in, one_word, two_words, stepped, distance, pointers_tested, to, in_world, to_objects, input, output, spent, over_worlds, sizes_of}
-use Rattle.mid_code.specs.Passing.{acts, Pass, Kept, DidAlike}
-use Rattle.mid_code.specs.Alike.{Known, Memory, Answered, Same}
+use Rattle.mid_code.specs.inner.Passing.{acts, Pass, Kept, DidAlike}
+use Rattle.mid_code.specs.inner.Alike.{Known, Memory, Answered, Same}
 use Rattle.mid_code.proofs.Values.{word_known, one_known, two_known, stepped_known, read_known, distance_known, tested_known, Wrote, write_ok, write_err, write_alike, set_length, twin_written}
-use Rattle.mid_scalars.specs.Plan.{Kind, Own, Address, Variable, Plan, by_kind, promoted_op, IsAddress, Takes, GoodOp}
-use Rattle.mid_scalars.specs.Named.{name_at, IsHere, Points, LocalKnown, Begun, Holds, count_of, Fits, Alive, KeptStates, promoting}
+use Rattle.mid_scalars.specs.inner.Plan.{Kind, Own, Address, Variable, Plan, by_kind, promoted_op, IsAddress, Takes, GoodOp}
+use Rattle.mid_scalars.specs.inner.Named.{name_at, IsHere, Points, LocalKnown, Begun, Holds, count_of, Fits, Alive, KeptStates, promoting}
 use Rattle.mid_scalars.proofs.Names.{decide, set_at, set_off, close_length, closed_dead, away_in, away_same, away_not_here, memory}
 use Rattle.mid_scalars.proofs.Growing.{core_set, core_hide, points_more}
 use Rattle.mid_scalars.proofs.Working.{put_off, put_on, own_variable, variable_same, some_same, then_on, kinds_off, now_kept, stray, timed, timed_left, asked, set_alive, address_alive, objects_alive, end_away, end_both, new_away, new_here}

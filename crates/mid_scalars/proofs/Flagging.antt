@@ -8,9 +8,9 @@ use Rattle.mid_code.specs.Code.{OpT, ConstO, NullO, MoveO, OneO, TwoO, GlobalO, 
 use Rattle.mid_code.specs.Functions.{NodeT, DoN, ChooseN, BlockN, LoopN, LeaveN, AgainN, ReturnN, op_before, before, joined, node, nodes}
 use Rattle.mid_code.specs.Invariants.{Names, IsTemporary}
 use Rattle.mid_scalars.specs.declared.roles.Role.{Role}
-use Rattle.mid_scalars.specs.Table.{all_nodes, is_one, is_plain, flags_from, flags}
-use Rattle.mid_scalars.specs.Purposes.{fits, takes_by, role_of}
-use Rattle.mid_scalars.specs.Flags.{flag_at}
+use Rattle.mid_scalars.specs.inner.Table.{all_nodes, is_one, is_plain, flags_from, flags}
+use Rattle.mid_scalars.specs.inner.Purposes.{fits, takes_by, role_of}
+use Rattle.mid_scalars.specs.inner.Flags.{flag_at}
 use Rattle.mid_scalars.proofs.Planned.{flag_of}
 use Rattle.mid_scalars.proofs.Purposes.{all_takes}
 

@@ -3,10 +3,10 @@ use Rattle.std.proofs.Common.{◌≡◌, ℕ, zero, suc, ◌+◌, ◌<◌, ◌�
 use Rattle.mid_code.specs.Code.{OpT, ConstO, NullO, MoveO, OneO, TwoO, GlobalO, LocalO, LiteralO, CardO, StepO, ApartO, PtrTestO, LoadO, StoreO, FreshO, EndO, InO, OutO, WaitO, HaltO, NodesT, Stop, Do, Call, Choose, Block, Loop, Leave, Again, Return, FunctionT, CodeT, maybe, node_uses, node_target}
 use Rattle.mid_code.specs.Invariants.{IsOp, AreNodes, AllOf, NodeNames, Names, IsFunction, IsTemporary, IsMid}
 use Rattle.mid_code.specs.States.{function_at, no_function}
-use Rattle.mid_scalars.specs.Plan.{Kind, Own, Address, Variable, Plan, promoted_op, promoted_nodes}
-use Rattle.mid_scalars.specs.Table.{flags, trues, trues_before, falses_before, kept, kind_in, is_promoted, variable_of, kind_of, moved_to, plan_of, promoted_function, promoted_functions, promoted}
-use Rattle.mid_code.specs.Passing.{doing}
-use Rattle.mid_scalars.specs.Plan.{by_kind}
+use Rattle.mid_scalars.specs.inner.Plan.{Kind, Own, Address, Variable, Plan, promoted_op, promoted_nodes}
+use Rattle.mid_scalars.specs.inner.Table.{flags, trues, trues_before, falses_before, kept, kind_in, is_promoted, variable_of, kind_of, moved_to, plan_of, promoted_function, promoted_functions, promoted}
+use Rattle.mid_code.specs.inner.Passing.{doing}
+use Rattle.mid_scalars.specs.inner.Plan.{by_kind}
 use Rattle.mid_scalars.proofs.Planned.{kept_in, kind_address}
 use Rattle.mid_scalars.proofs.Promotes.{same_nodes, function_ok}
 use Rattle.std.specs.Prelude.{sum}

@@ -5,14 +5,14 @@ use Rattle.mid_code.specs.States.{function_at, no_function}
 use Rattle.mid_code.specs.Invariants.{AllOf, IsFunction, IsTemporary, IsMid}
 use Rattle.mid_code.specs.Open.{LiveAtOnce}
 use Rattle.mid_code.specs.Plain.{IsPlain}
-use Rattle.mid_scalars.specs.Plan.{promoted_nodes}
-use Rattle.mid_scalars.specs.Table.{flags, trues, kept, falses_before, kind_in, trues_before, plan_of, promoted_function, promoted_functions, promoted}
+use Rattle.mid_scalars.specs.inner.Plan.{promoted_nodes}
+use Rattle.mid_scalars.specs.inner.Table.{flags, trues, kept, falses_before, kind_in, trues_before, plan_of, promoted_function, promoted_functions, promoted}
 use Rattle.std.specs.Option.{option_map_or}
 use Rattle.std.proofs.lemmas.Bool.{lt-ltb}
 use Rattle.mid_scalars.specs.declared.table.Table.{Table}
-use Rattle.mid_scalars.specs.Rewriting.{addressed, plan_by}
-use Rattle.mid_scalars.specs.Tabled.{IsTableOf}
-use Rattle.mid_scalars.specs.Alone.{alone, promoted_alone, ArePromotable}
+use Rattle.mid_scalars.specs.inner.Rewriting.{addressed, plan_by}
+use Rattle.mid_scalars.specs.inner.Tabled.{IsTableOf}
+use Rattle.mid_scalars.specs.inner.Alone.{alone, promoted_alone, ArePromotable}
 use Rattle.mid_scalars.specs.PromotedFrom.{Renumbered, IsPromotedFunction, EachPromoted, IsPromotedFrom}
 use Rattle.mid_scalars.proofs.Planned.{flag_plain, kept_in, kept_at, moved_one}
 use Rattle.mid_scalars.proofs.Plainly.{found_plain, promote_same, promote_counts}

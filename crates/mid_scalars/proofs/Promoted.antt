@@ -10,12 +10,12 @@ use Rattle.mid_code.specs.Code.{NodesT, Stop, Do, Call, Choose, Block, Loop, Lea
 use Rattle.mid_code.specs.Meaning.{Next, Lang, did}
 use Rattle.mid_code.specs.Live.{is_among}
 use Rattle.mid_code.specs.States.{State, temporaries, received, cell_of, word_tested, begun, if_room, back, over_worlds, sizes_of, function_at}
-use Rattle.mid_code.specs.Passing.{acts, Pass, Points, end_at, begin_at, Like, CallAlike, DidAlike, TestAlike, Keeps}
-use Rattle.mid_code.specs.Alike.{Known, AllKnown}
+use Rattle.mid_code.specs.inner.Passing.{acts, Pass, Points, end_at, begin_at, Like, CallAlike, DidAlike, TestAlike, Keeps}
+use Rattle.mid_code.specs.inner.Alike.{Known, AllKnown}
 use Rattle.mid_code.proofs.Values.{test_known}
 use Rattle.mid_code.proofs.More.{act_more, enter_more, back_more}
-use Rattle.mid_scalars.specs.Plan.{Address, Plan, promoted_op, promoted_nodes, AllOwn, GoodNodes}
-use Rattle.mid_scalars.specs.Named.{Away, name_at, IsHere, Points as Addresses, LocalKnown, Begun, Holds, count_of, Fits, Alive, Given, promoting}
+use Rattle.mid_scalars.specs.inner.Plan.{Address, Plan, promoted_op, promoted_nodes, AllOwn, GoodNodes}
+use Rattle.mid_scalars.specs.inner.Named.{Away, name_at, IsHere, Points as Addresses, LocalKnown, Begun, Holds, count_of, Fits, Alive, Given, promoting}
 use Rattle.mid_scalars.proofs.Growing.{later_away, later_here, later_known, inner, core_enter, as_before, core_back, points_more}
 use Rattle.mid_scalars.proofs.Working.{known_cond, true_false, own_address, now_kept, timed, set_alive}
 use Rattle.mid_scalars.proofs.Each.{each}

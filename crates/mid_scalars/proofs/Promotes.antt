@@ -8,16 +8,16 @@ use Rattle.mid_code.specs.Invariants.{AreNodes, AllOf, Names, IsFunction, IsTemp
 use Rattle.mid_code.specs.States.{function_at, no_function, sizes_of}
 use Rattle.mid_code.specs.Keeps.{KeepsRuns, WorksAtMost}
 use Rattle.mid_code.specs.Runs.{mid_runs}
-use Rattle.mid_scalars.specs.Plan.{Kind, Own, Address, Variable, Plan, promoted_op, promoted_nodes, GoodNodes}
-use Rattle.mid_scalars.specs.Named.{Fits, count_of}
-use Rattle.mid_scalars.specs.Promoted.{IsPromotion}
-use Rattle.mid_scalars.specs.Table.{all_nodes, uses_as_address, is_clean, takes_well, flags, falses_before, kept, kind_in, is_promoted, variable_of, kind_of, moved_to, plan_of, promoted_function, promoted_functions, promoted}
+use Rattle.mid_scalars.specs.inner.Plan.{Kind, Own, Address, Variable, Plan, promoted_op, promoted_nodes, GoodNodes}
+use Rattle.mid_scalars.specs.inner.Named.{Fits, count_of}
+use Rattle.mid_scalars.specs.inner.Promoted.{IsPromotion}
+use Rattle.mid_scalars.specs.inner.Table.{all_nodes, uses_as_address, is_clean, takes_well, flags, falses_before, kept, kind_in, is_promoted, variable_of, kind_of, moved_to, plan_of, promoted_function, promoted_functions, promoted}
 use Rattle.mid_scalars.proofs.Whole.{promotion_keeps, promotion_works}
 use Rattle.mid_scalars.proofs.Tables.{and_left, not_or, not_true, Every, Finds, finds}
 use Rattle.obj_mem.specs.Stores.{words_here}
-use Rattle.mid_code.specs.Passing.{doing}
+use Rattle.mid_code.specs.inner.Passing.{doing}
 use Rattle.mid_code.specs.Runs.{function_weight, weight}
-use Rattle.mid_scalars.specs.Plan.{by_kind}
+use Rattle.mid_scalars.specs.inner.Plan.{by_kind}
 use Rattle.mid_scalars.proofs.Whole.{lighter}
 use Rattle.mid_scalars.proofs.Planned.{flag_in, flag_plain, one_size, well_taken, clean_every, kept_in, kept_at, moved_one, kind_address, no_variable, kind_clean, kind_found, variable_kind, good_nodes}
 use Rattle.std.specs.Prelude.{sum_by}

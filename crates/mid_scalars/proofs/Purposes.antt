@@ -5,8 +5,8 @@ use Rattle.mid_code.specs.Code.{OpT, ConstO, NullO, MoveO, OneO, TwoO, GlobalO, 
 use Rattle.mid_code.specs.Live.{is_among}
 use Rattle.mid_scalars.specs.declared.roles.Role.{Role}
 use Rattle.mid_scalars.specs.declared.roles.Role.TheVariants.{Open, AddressOf, Spoilt}
-use Rattle.mid_scalars.specs.Table.{all_nodes, uses_as_address, is_clean, takes_well}
-use Rattle.mid_scalars.specs.Purposes.{met, spoilt, others, role_after, role_in, role_of, fits, takes_by}
+use Rattle.mid_scalars.specs.inner.Table.{all_nodes, uses_as_address, is_clean, takes_well}
+use Rattle.mid_scalars.specs.inner.Purposes.{met, spoilt, others, role_after, role_in, role_of, fits, takes_by}
 
 true_false : true ≡ false → ⊥
 true_false e = cc

@@ -6,9 +6,9 @@ use Rattle.mid_code.specs.declared.node.Op.TheVariants as op
 use Rattle.mid_code.specs.declared.node.Node.{Node}
 use Rattle.mid_code.specs.Code.{OpT, ConstO, NullO, MoveO, OneO, TwoO, GlobalO, LocalO, LiteralO, CardO, StepO, ApartO, PtrTestO, LoadO, StoreO, FreshO, EndO, InO, OutO, WaitO, HaltO, NodesT, Stop, Do, Call, Choose, Block, Loop, Leave, Again, Return}
 use Rattle.mid_code.specs.Functions.{NodeT, DoN, ChooseN, BlockN, LoopN, LeaveN, AgainN, ReturnN, ListT, NoN, MoreN, op_before, before, joined, listed, node, nodes}
-use Rattle.mid_code.specs.Passing.{doing}
-use Rattle.mid_scalars.specs.Plan.{Kind, Own, Address, Variable, by_kind, Plan, promoted_op, promoted_nodes}
-use Rattle.mid_scalars.specs.Rewriting.{addressed, op_by, some_node, node_by, list_by}
+use Rattle.mid_code.specs.inner.Passing.{doing}
+use Rattle.mid_scalars.specs.inner.Plan.{Kind, Own, Address, Variable, by_kind, Plan, promoted_op, promoted_nodes}
+use Rattle.mid_scalars.specs.inner.Rewriting.{addressed, op_by, some_node, node_by, list_by}
 
 -- ---- nodes in memory
 

@@ -6,11 +6,11 @@ use Rattle.mid_code.specs.States.{function_at}
 use Rattle.mid_scalars.specs.declared.roles.Role.{Role}
 use Rattle.mid_scalars.specs.declared.roles.Role.TheVariants.{Open, AddressOf, Spoilt}
 use Rattle.mid_scalars.specs.declared.table.Table.{Table}
-use Rattle.mid_scalars.specs.Plan.{Kind, Own, Address, Variable, promoted_nodes}
-use Rattle.mid_scalars.specs.Table.{flags_from, flags, nth_true, address_in, address_kind, trues, trues_before, falses_before, kind_in, plan_of}
-use Rattle.mid_scalars.specs.Purposes.{role_of, role_at, kind_by}
-use Rattle.mid_scalars.specs.Rewriting.{addressed, number_in, plan_by}
-use Rattle.mid_scalars.specs.Tabled.{falses, numbers_from, IsTableOf}
+use Rattle.mid_scalars.specs.inner.Plan.{Kind, Own, Address, Variable, promoted_nodes}
+use Rattle.mid_scalars.specs.inner.Table.{flags_from, flags, nth_true, address_in, address_kind, trues, trues_before, falses_before, kind_in, plan_of}
+use Rattle.mid_scalars.specs.inner.Purposes.{role_of, role_at, kind_by}
+use Rattle.mid_scalars.specs.inner.Rewriting.{addressed, number_in, plan_by}
+use Rattle.mid_scalars.specs.inner.Tabled.{falses, numbers_from, IsTableOf}
 use Rattle.mid_scalars.proofs.ByRole.{kind_is}
 use Rattle.mid_scalars.proofs.Rewritten.{SamePlans, code_same}
 

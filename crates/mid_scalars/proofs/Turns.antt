@@ -6,7 +6,7 @@ use Rattle.mid_code.specs.declared.node.Node.{Node}
 use Rattle.mid_code.specs.Code.{NodesT, Stop}
 use Rattle.mid_code.specs.Functions.{NodeT, DoN, ChooseN, BlockN, LoopN, LeaveN, AgainN, ReturnN, op_before, before, node, nodes}
 use Rattle.mid_scalars.specs.declared.roles.Role.{Role}
-use Rattle.mid_scalars.specs.Purposes.{role_in}
+use Rattle.mid_scalars.specs.inner.Purposes.{role_in}
 
 op_role : (y : ℕ) (o : Op ℕ) (c : NodesT ℕ) (r : Role) → role_in y (op_before o c) r ≡ role_in y c (role_in y (op_before o Stop) r)
 op_role y (op.Const t word) c r = refl

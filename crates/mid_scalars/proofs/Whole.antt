@@ -7,13 +7,13 @@ use Rattle.mid_code.specs.Code.{OpT, ConstO, NullO, MoveO, OneO, TwoO, GlobalO, 
 use Rattle.mid_code.specs.States.{temporaries, function_at, op_weight}
 use Rattle.mid_code.specs.Runs.{opening, mid_runs, nodes_weight}
 use Rattle.mid_code.specs.Keeps.{KeepsRuns, WorksAtMost}
-use Rattle.mid_code.specs.Passing.{doing, Like}
-use Rattle.mid_code.specs.Alike.{Known, Twin}
-use Rattle.mid_code.specs.Programs.{Program}
+use Rattle.mid_code.specs.inner.Passing.{doing, Like}
+use Rattle.mid_code.specs.inner.Alike.{Known, Twin}
+use Rattle.mid_code.specs.inner.Programs.{Program}
 use Rattle.mid_code.proofs.Programs.{program_keeps, program_works}
-use Rattle.mid_scalars.specs.Plan.{Kind, Own, Address, Variable, Plan, by_kind, promoted_op, promoted_nodes}
-use Rattle.mid_scalars.specs.Named.{Name, Away, Here, name_at, IsHere, Begun, Core, Fits, Alive, promoting}
-use Rattle.mid_scalars.specs.Promoted.{IsPromotion}
+use Rattle.mid_scalars.specs.inner.Plan.{Kind, Own, Address, Variable, Plan, by_kind, promoted_op, promoted_nodes}
+use Rattle.mid_scalars.specs.inner.Named.{Name, Away, Here, name_at, IsHere, Begun, Core, Fits, Alive, promoting}
+use Rattle.mid_scalars.specs.inner.Promoted.{IsPromotion}
 use Rattle.mid_scalars.proofs.Growing.{later_self}
 use Rattle.mid_scalars.proofs.Promoted.{keeps, like}
 

@@ -12,12 +12,12 @@ use Rattle.obj_mem.specs.Runs.{Stray}
 use Rattle.mid_code.specs.Code.{OpT, CodeT}
 use Rattle.mid_code.specs.Meaning.{Did, On, Ends, Next, Lang, did}
 use Rattle.mid_code.specs.States.{State, temporaries, put, put_in, in_world, spent, over_worlds, sizes_of}
-use Rattle.mid_code.specs.Passing.{then_act, acts, state_of, Prefix, Pass, Kept, did_state}
-use Rattle.mid_code.specs.Alike.{Known, Twin}
+use Rattle.mid_code.specs.inner.Passing.{then_act, acts, state_of, Prefix, Pass, Kept, did_state}
+use Rattle.mid_code.specs.inner.Alike.{Known, Twin}
 use Rattle.mid_code.proofs.Values.{set_length, word_kept}
 use Rattle.mid_code.proofs.More.{acts_more}
-use Rattle.mid_scalars.specs.Plan.{Kind, Own, Address, Variable, Plan}
-use Rattle.mid_scalars.specs.Named.{Name, Away, Here, name_at, IsHere, Points, LocalKnown, Begun, Core, Holds, count_of, Fits, Alive, KeptStates, promoting}
+use Rattle.mid_scalars.specs.inner.Plan.{Kind, Own, Address, Variable, Plan}
+use Rattle.mid_scalars.specs.inner.Named.{Name, Away, Here, name_at, IsHere, Points, LocalKnown, Begun, Core, Holds, count_of, Fits, Alive, KeptStates, promoting}
 use Rattle.mid_scalars.proofs.Names.{decide, set_off, join_first, join_last, closed_live, away_in, name_last, here_more, away_more, known_more, away_not_here}
 use Rattle.mid_scalars.proofs.Growing.{core_end_away, core_end, core_away, core_here, later_length, points_more}
 

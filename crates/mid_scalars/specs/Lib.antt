@@ -1,10 +1,2 @@
-pub mod Plan
-pub mod Named
-pub mod Promoted
-pub mod Table
-pub mod Purposes
-pub mod Flags
-pub mod Rewriting
-pub mod Tabled
 pub mod PromotedFrom
-pub mod Alone
+pub mod inner

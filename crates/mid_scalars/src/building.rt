@@ -2,8 +2,8 @@
 ghost use Rattle.std.specs.Prelude.{◌≡◌, ◌≤◌, ◌+◌, IfOk, length};
 ghost use Rattle.mid_code.specs.Functions.{function};
 ghost use Rattle.mid_code.specs.Invariants.{Names, IsTemporary};
-ghost use Rattle.mid_scalars.specs.Table.{flags, kept};
-ghost use Rattle.mid_scalars.specs.Tabled.{numbers_from, falses, IsTableOf};
+ghost use Rattle.mid_scalars.specs.inner.Table.{flags, kept};
+ghost use Rattle.mid_scalars.specs.inner.Tabled.{numbers_from, falses, IsTableOf};
 
 use crate::plain::plain_of;
 use crate::slices::next;

@@ -1,7 +1,7 @@
 // Functions with their plain locals in temporaries.
 ghost use Rattle.std.specs.Prelude.{◌≡◌, IfOk, map};
 ghost use Rattle.mid_code.specs.Functions.{function};
-ghost use Rattle.mid_scalars.specs.Alone.{promoted_alone, IsPromotable, ArePromotable};
+ghost use Rattle.mid_scalars.specs.inner.Alone.{promoted_alone, IsPromotable, ArePromotable};
 
 use crate::building::{kept_of, table_of};
 use crate::rewrite::promote_nodes;

@@ -3,9 +3,9 @@ ghost use Rattle.std.specs.Prelude.{◌≡◌, ◌<◌, ◌&&◌, ◌||◌, not,
 ghost use Rattle.mid_code.specs.Code.{Stop};
 ghost use Rattle.mid_code.specs.Functions.{op_before, node, before, nodes, function};
 ghost use Rattle.mid_code.specs.Invariants.{Names, IsTemporary};
-ghost use Rattle.mid_scalars.specs.Table.{all_nodes, flags};
-ghost use Rattle.mid_scalars.specs.Purposes.{fits, takes_by, role_at, role_of};
-ghost use Rattle.mid_scalars.specs.Flags.{flag_at};
+ghost use Rattle.mid_scalars.specs.inner.Table.{all_nodes, flags};
+ghost use Rattle.mid_scalars.specs.inner.Purposes.{fits, takes_by, role_at, role_of};
+ghost use Rattle.mid_scalars.specs.inner.Flags.{flag_at};
 
 use crate::roles::Role;
 use kit_base::Memory;

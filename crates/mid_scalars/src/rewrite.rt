@@ -1,8 +1,8 @@
 // Code with its plain locals in temporaries.
 ghost use Rattle.std.specs.Prelude.{◌≡◌, ◌≤◌, ◌++◌, None, Some, IfOk, OnOk, map, length, get_or, false};
 ghost use Rattle.mid_code.specs.Functions.{node, listed};
-ghost use Rattle.mid_scalars.specs.Purposes.{kind_by, role_at};
-ghost use Rattle.mid_scalars.specs.Rewriting.{addressed, op_by, some_node, node_by, list_by, number_in, plan_by};
+ghost use Rattle.mid_scalars.specs.inner.Purposes.{kind_by, role_at};
+ghost use Rattle.mid_scalars.specs.inner.Rewriting.{addressed, op_by, some_node, node_by, list_by, number_in, plan_by};
 
 use crate::plain::role;
 use crate::roles::Role;

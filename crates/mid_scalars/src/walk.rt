@@ -3,7 +3,7 @@ ghost use Rattle.std.specs.Prelude.{◌≡◌, ◌<◌, ℕ, cond, eqb, length, 
 ghost use Rattle.mid_code.specs.Code.{Stop, maybe};
 ghost use Rattle.mid_code.specs.Functions.{op_before, node, before, nodes, function};
 ghost use Rattle.mid_scalars.specs.declared.roles.Role.TheVariants.{Open, Spoilt};
-ghost use Rattle.mid_scalars.specs.Purposes.{met, spoilt, role_in, role_of, role_at};
+ghost use Rattle.mid_scalars.specs.inner.Purposes.{met, spoilt, role_in, role_of, role_at};
 
 use crate::roles::Role;
 use kit_base::Memory;

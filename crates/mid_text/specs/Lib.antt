@@ -1,3 +1,3 @@
 pub mod Operators
 pub mod Text
-pub mod Said
+pub mod inner

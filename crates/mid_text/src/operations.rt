@@ -5,7 +5,7 @@ ghost use Rattle.mid_code.specs.Code.{Stop};
 ghost use Rattle.mid_code.specs.Functions.{op_before};
 ghost use Rattle.mid_text.specs.Text.{call_text, op_text, target_text};
 ghost use Rattle.mid_code.specs.Code.{OneO, TwoO, PtrTestO};
-ghost use Rattle.mid_text.specs.Said.{said};
+ghost use Rattle.mid_text.specs.inner.Said.{said};
 
 use crate::operators::{one_name, two_name};
 use crate::pieces::{put, put_enclosed, put_number, put_one, put_three, put_two};

@@ -13,7 +13,7 @@ pub struct NotedRun {
 
 impl Model for NotedRun {
     ghost use Rattle.run_core.specs.Stands.{RunParts};
-    ghost use Rattle.noted_run.specs.First.{IsFirst};
+    ghost use Rattle.noted_run.specs.inner.First.{IsFirst};
 
     ghost Value = { RunParts };
 

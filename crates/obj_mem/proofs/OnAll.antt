@@ -10,7 +10,7 @@ use Rattle.obj_mem.specs.Objects.{ObjectT, cell_at, cell_read, cell_written, end
 use Rattle.obj_mem.specs.Queries.{is_inside, is_within}
 use Rattle.obj_mem.specs.Living.{ActsOnLiving, KeepsRising, LiveT, Rises, found, live_below, live_made, live_without, live_written, objects_of}
 use Rattle.obj_mem.specs.LiveView.{live_object}
-use Rattle.obj_mem.specs.View.{objects}
+use Rattle.obj_mem.specs.inner.View.{objects}
 use Rattle.obj_mem.proofs.Living.{living, at}
 
 module _ (x : Objects) where

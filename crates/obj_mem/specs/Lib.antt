@@ -5,5 +5,5 @@ pub mod Stores
 pub mod Worlds
 pub mod Queries
 pub mod Runs
-pub mod View
 pub mod LiveView
+pub mod inner

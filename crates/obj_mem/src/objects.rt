@@ -24,7 +24,7 @@ impl Objects {
     ghost use Rattle.std.specs.Prelude.{◌≡◌, [], IfErr, IfOk, OnErr, OnOk, length, Err, Ok};
     ghost use Rattle.obj_mem.specs.Objects.{ObjectT, cell_read, cell_written, end_from, end_object, made, object_at};
     ghost use Rattle.obj_mem.specs.Queries.{is_inside, is_within};
-    ghost use Rattle.obj_mem.specs.View.{objects};
+    ghost use Rattle.obj_mem.specs.inner.View.{objects};
 
     /// No objects.
     #[tactic(auto, unfolding(crate::specs::View::objects))]

@@ -3,7 +3,7 @@ use Rattle.std.proofs.Common.{◌≡◌, ℕ, ◌+◌, ◌-◌, ◌*◌, ◌/◌
 use Rattle.std.specs.Simd.Lanes.{zip2}
 use Rattle.word_lanes.proofs.LaneSteps.{two_at}
 use Rattle.std.proofs.lemmas.Bool.{cases_eq}
-use Rattle.pix_lanes.specs.Lanes.{AreBytes}
+use Rattle.pix_lanes.specs.inner.Lanes.{AreBytes}
 
 pub less_at : (n : ℕ) (a b : List ℕ) (k : ℕ) → length a ≡ n → length b ≡ n → k < n → get_or b k 0 ≤ get_or a k 0 → get_or a k 0 < 65536 →
     get_or (zip2 (λ x y. (x + (65536 - y)) % 65536) a b) k 0 ≡ get_or a k 0 - get_or b k 0

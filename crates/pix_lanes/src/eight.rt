@@ -1,7 +1,7 @@
 // Eight pixels at once. A vector of sixteen lanes holds two parts of each, red and blue or green and alpha, and every sum stays
 // below 2^16.
 ghost use Rattle.std.specs.Prelude.{◌≡◌, ℕ, ◌≤◌, ◌<◌, ◌+◌, ◌*◌, slice_index};
-ghost use Rattle.pix_lanes.specs.Lanes.{AreBytes, HasParts};
+ghost use Rattle.pix_lanes.specs.inner.Lanes.{AreBytes, HasParts};
 ghost use Rattle.pix_lanes.specs.Pixels.{alpha, blue, drawn, green, nearest_quotient, opaque, part_over, product, red};
 
 use crate::blend::Blend;

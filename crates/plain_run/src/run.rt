@@ -11,7 +11,7 @@ pub struct PlainRun {
 
 impl Model for PlainRun {
     ghost use Rattle.run_core.specs.Stands.{RunParts};
-    ghost use Rattle.plain_run.specs.Fresh.{IsFresh};
+    ghost use Rattle.plain_run.specs.inner.Fresh.{IsFresh};
 
     ghost Value = { RunParts };
 

@@ -8,7 +8,7 @@ use Rattle.std.proofs.Math.ListN.{length-set}
 use Rattle.run_files.specs.declared.pads.PadEvent.{PadEvent}
 use Rattle.run_files.specs.Script.{Script, IsScript, IsEvent, NeverFall, is_connected}
 use Rattle.port_bus.specs.Controls.{concerns, after_events, events_before, is_down_in, downs_of, down_now}
-use Rattle.port_bus.specs.Kept.{place, PartsAt, AreDowns}
+use Rattle.port_bus.specs.inner.Kept.{place, PartsAt, AreDowns}
 
 -- ---- what a script keeps, event by event
 

@@ -3,7 +3,7 @@ use Rattle.std.proofs.Common.{◌≡◌, ℕ, ◌+◌, ◌<◌, ◌≤◌, arith
 use Rattle.std.proofs.lemmas.List.{length-replicate, get_or-replicate}
 use Rattle.run_files.specs.declared.pads.PadEvent.{PadEvent}
 use Rattle.port_bus.specs.Controls.{after_events, is_down_in, downs_of, down_now, count_now, signed_count, control_word}
-use Rattle.port_bus.specs.Kept.{place, PartsAt, AreDowns, IsKept}
+use Rattle.port_bus.specs.inner.Kept.{place, PartsAt, AreDowns, IsKept}
 use Rattle.port_bus.proofs.Applying.{down_is}
 
 none_taken : (es : List PadEvent) → take 0 es ≡ []

@@ -1,7 +1,7 @@
 // The controls of the four gamepads, frame by frame.
 ghost use Rattle.std.specs.Prelude.{◌≡◌, ℕ, ◌≤◌, ◌<◌, Bool, false, List, ◌∷◌, length, slice_index, slice_index_or};
 ghost use Rattle.port_bus.specs.Controls.{down_now, count_now, signed_count};
-ghost use Rattle.port_bus.specs.Kept.{place};
+ghost use Rattle.port_bus.specs.inner.Kept.{place};
 
 /// The controls of a gamepad: left, right, up, down, start, a, b, x, y, l, r.
 pub(crate) const CONTROLS: u32 = 11;

@@ -28,7 +28,7 @@ pub struct Devices {
 
 impl Model for Devices {
     ghost use Rattle.port_bus.specs.State.{State};
-    ghost use Rattle.port_bus.specs.Kept.{IsKept};
+    ghost use Rattle.port_bus.specs.inner.Kept.{IsKept};
 
     ghost Value = { State };
 
@@ -71,7 +71,7 @@ impl Devices {
     ghost use Rattle.run_files.specs.Script.{Script};
     ghost use Rattle.port_history.specs.Past.{Happening, Began, Asked, Told};
     ghost use Rattle.port_bus.specs.State.{Facts};
-    ghost use Rattle.port_bus.specs.Ports.{Answers, TakesWords};
+    ghost use Rattle.port_bus.specs.inner.Ports.{Answers, TakesWords};
     ghost use Rattle.port_bus.specs.Controls.{control_word};
     ghost use Rattle.port_bus.specs.Answers.{timer_answer, pad_answer, cartridge_answer, answer_of, small_answer};
     ghost use Rattle.port_bus.specs.Stand.{DevicesStand};

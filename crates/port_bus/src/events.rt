@@ -1,7 +1,7 @@
 // The events of a script, applied as their frames begin.
 ghost use Rattle.std.specs.Prelude.{◌≡◌, ◌+◌, ◌<◌, ◌≤◌, ◌^◌, IfSome, slice_get};
 ghost use Rattle.run_files.specs.Script.{IsScript};
-ghost use Rattle.port_bus.specs.Kept.{PartsAt, AreDowns};
+ghost use Rattle.port_bus.specs.inner.Kept.{PartsAt, AreDowns};
 
 use crate::controls::place;
 use run_files::{PadEvent, Pads};

@@ -1,6 +1,6 @@
 pub mod Entries
 pub mod Grammar
-pub mod Views
 pub mod Reading
 pub mod MapText
 pub mod ProjectText
+pub mod inner

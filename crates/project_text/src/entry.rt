@@ -2,7 +2,7 @@
 ghost use Rattle.std.specs.Prelude.{◌≡◌, ◌≤◌, length, option_map, bytes_eq};
 ghost use Rattle.std.specs.List.{list_all};
 ghost use Rattle.project_text.specs.Grammar.{is_printable, is_text, is_passed_over, value_of, entry_of};
-ghost use Rattle.project_text.specs.Views.{entry_view};
+ghost use Rattle.project_text.specs.inner.Views.{entry_view};
 
 /// What a line says; `Nothing` for an empty line and for a comment.
 pub(crate) enum Entry<'a> {

@@ -12,9 +12,9 @@ use Rattle.mid_code.specs.Safe.{place_of, IsChosen, IsSlot, IsRegister, AllPlace
 use Rattle.mid_code.specs.Spans.{Span, HeldAt, IsSpan, AtMostNineMeet, NoneLiveAcrossCalls}
 use Rattle.mid_code.proofs.Intervals.{interval}
 use Rattle.reg_choose.specs.declared.trail.Trail.{Trail}
-use Rattle.reg_choose.specs.Trails.{trail_at, trail_of, trailed, no_trail}
-use Rattle.reg_choose.specs.Scan.{Has, AllG, scan, chosen, From, Differ, AreSpans, HoldsAt, place_in}
-use Rattle.reg_choose.specs.Handing.{spans_from, kept, give, got, first_got, numbered}
+use Rattle.reg_choose.specs.inner.Trails.{trail_at, trail_of, trailed, no_trail}
+use Rattle.reg_choose.specs.inner.Scan.{Has, AllG, scan, chosen, From, Differ, AreSpans, HoldsAt, place_in}
+use Rattle.reg_choose.specs.inner.Handing.{spans_from, kept, give, got, first_got, numbered}
 use Rattle.reg_choose.proofs.Scanned.{scan_all, over_zero, le_or}
 use Rattle.reg_choose.proofs.Hulls.{held_span, held_trail}
 use Rattle.reg_choose.proofs.Crossed.{stood_keeps, none_stood, crossed_across, none_crosses}

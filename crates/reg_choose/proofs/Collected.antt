@@ -8,9 +8,9 @@ use Rattle.std.proofs.lemmas.List.Sorted.{All-permutation, list_any-IsPermutatio
 use Rattle.std.proofs.lemmas.Map.Keys.{IsDistinct-head, IsDistinct-tail, IsDistinct-cons, IsDistinct-IsPermutation}
 use Rattle.mid_code.specs.Spans.{Span}
 use Rattle.reg_choose.specs.declared.trail.Trail.{Trail}
-use Rattle.reg_choose.specs.Trails.{trail_at}
-use Rattle.reg_choose.specs.Scan.{From, NoneOf, Differ, HoldsAt}
-use Rattle.reg_choose.specs.Handing.{span_at, spans_from, kept}
+use Rattle.reg_choose.specs.inner.Trails.{trail_at}
+use Rattle.reg_choose.specs.inner.Scan.{From, NoneOf, Differ, HoldsAt}
+use Rattle.reg_choose.specs.inner.Handing.{span_at, spans_from, kept}
 
 -- ---- as they are collected
 

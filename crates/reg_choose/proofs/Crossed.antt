@@ -10,7 +10,7 @@ use Rattle.mid_code.specs.Safe.{place_of, IsSlot}
 use Rattle.mid_code.proofs.Intervals.{Across}
 use Rattle.mid_code.proofs.Liveness.{path_computed, computed_path}
 use Rattle.reg_choose.specs.declared.trail.Trail.{Trail}
-use Rattle.reg_choose.specs.Trails.{stood, crossing, trailed}
+use Rattle.reg_choose.specs.inner.Trails.{stood, crossing, trailed}
 
 pub stood_keeps : (b : Bool) (n : ℕ) (r : Trail) → r.crosses ≡ true → (stood b n r).crosses ≡ true
 stood_keeps true n r e = e

@@ -3,8 +3,8 @@ use Rattle.std.proofs.Common.{◌≡◌, ℕ, Bool, true, false, ◌&&◌, not, 
 use Rattle.mid_code.specs.Code.{NodesT, FunctionT}
 use Rattle.mid_code.specs.Live.{Label, is_live, is_among}
 use Rattle.reg_choose.specs.declared.trail.Trail.{Trail}
-use Rattle.reg_choose.specs.Trails.{stood, crossing, no_trail, trail_of}
-use Rattle.reg_choose.specs.Sparse.{sparse, follows}
+use Rattle.reg_choose.specs.inner.Trails.{stood, crossing, no_trail, trail_of}
+use Rattle.reg_choose.specs.inner.Sparse.{sparse, follows}
 use Rattle.reg_choose.proofs.Ranges.{crossing_stood}
 use Rattle.reg_choose.proofs.Shortcut.{function_shortcut}
 

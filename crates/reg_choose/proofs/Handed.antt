@@ -4,8 +4,8 @@ use Rattle.std.proofs.lemmas.Bool.{eq-eqb, ne_eqb, eqb-true, eqb-false}
 use Rattle.mid_code.specs.declared.placed.Where.{Where}
 use Rattle.mid_code.specs.declared.placed.Where.TheVariants.{Reg, Slot}
 use Rattle.mid_code.specs.Spans.{Span}
-use Rattle.reg_choose.specs.Scan.{scan, free, taking, where_of, place_in, NoneOf, Differ}
-use Rattle.reg_choose.specs.Handing.{written, give}
+use Rattle.reg_choose.specs.inner.Scan.{scan, free, taking, where_of, place_in, NoneOf, Differ}
+use Rattle.reg_choose.specs.inner.Handing.{written, give}
 
 abbrev pub where_from : ℕ → Option ℕ → Where
 where_from x None = Slot x

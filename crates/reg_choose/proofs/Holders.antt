@@ -5,10 +5,10 @@ use Rattle.mid_code.specs.declared.placed.Where.{Where}
 use Rattle.mid_code.specs.declared.placed.Where.TheVariants.{Reg, Slot}
 use Rattle.mid_code.specs.Live.{is_among}
 use Rattle.mid_code.specs.Safe.{place_of, IsSlot}
-use Rattle.reg_choose.specs.Scan.{one}
+use Rattle.reg_choose.specs.inner.Scan.{one}
 use Rattle.mid_live.specs.Sets.{on, room}
-use Rattle.reg_choose.specs.Checked.{ApartIn}
-use Rattle.reg_choose.specs.Holding.{below, slots_in, number_of, number_at, Stands, Laid, Made}
+use Rattle.reg_choose.specs.inner.Checked.{ApartIn}
+use Rattle.reg_choose.specs.inner.Holding.{below, slots_in, number_of, number_at, Stands, Laid, Made}
 use Rattle.reg_choose.proofs.Tenants.{get_set}
 
 eq_or : (a b : ℕ) → (a ≡ b) ⊎ (a ≢ b)

@@ -8,7 +8,7 @@ use Rattle.mid_code.specs.Spans.{places, Stands, StandsAt, HeldAt, Span, IsSpan}
 use Rattle.mid_code.proofs.Liveness.{path_computed, computed_path, found_used}
 use Rattle.reg_choose.proofs.Scanned.{le_or}
 use Rattle.reg_choose.specs.declared.trail.Trail.{Trail}
-use Rattle.reg_choose.specs.Trails.{no_trail, longer, stood, crossing, trailed, trail_of}
+use Rattle.reg_choose.specs.inner.Trails.{no_trail, longer, stood, crossing, trailed, trail_of}
 
 -- the range of R is that of r, and the places H
 pub record Hull (H : ℕ → Type 0) (r R : Trail) : Type 0 where

@@ -3,7 +3,7 @@ use Rattle.std.proofs.Common.{◌≡◌, ℕ, zero, suc, ◌<◌, ◌≤◌, ◌
 use Rattle.mid_code.specs.declared.placed.Where.{Where}
 use Rattle.mid_code.specs.declared.placed.Where.TheVariants.{Reg, Slot}
 use Rattle.mid_code.specs.Safe.{place_of, IsSlot}
-use Rattle.reg_choose.specs.Handing.{got, numbered}
+use Rattle.reg_choose.specs.inner.Handing.{got, numbered}
 
 abbrev is_reg : Where → Bool
 is_reg (Reg n) = true

@@ -7,9 +7,9 @@ use Rattle.std.proofs.lemmas.Bool.{false≢true, true≢false}
 use Rattle.mid_code.specs.declared.placed.Where.{Where}
 use Rattle.mid_code.specs.declared.placed.Where.TheVariants.{Reg, Slot}
 use Rattle.mid_code.specs.Safe.{place_of, IsChosen, AllPlaces}
-use Rattle.reg_choose.specs.Scan.{one}
+use Rattle.reg_choose.specs.inner.Scan.{one}
 use Rattle.mid_live.specs.Sets.{on, room}
-use Rattle.reg_choose.specs.Holding.{below, slots_in, number_of, number_at, IsPlan, Stands}
+use Rattle.reg_choose.specs.inner.Holding.{below, slots_in, number_of, number_at, IsPlan, Stands}
 
 -- how many are lower is found by adding
 fold_more : (f : ℕ → ℕ) (a : ℕ) (ms : List ℕ) → fold (λ b m. b + f m) a ms ≡ a + fold (λ b m. b + f m) 0 ms

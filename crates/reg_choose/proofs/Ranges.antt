@@ -2,7 +2,7 @@
 use Rattle.std.proofs.Common.{◌≡◌, ℕ, ◌≤◌, Bool, true, false, ◌||◌, min, max, refl, arith}
 use Rattle.std.proofs.lemmas.Bool.{false≢true}
 use Rattle.reg_choose.specs.declared.trail.Trail.{Trail}
-use Rattle.reg_choose.specs.Trails.{longer, stood, crossing}
+use Rattle.reg_choose.specs.inner.Trails.{longer, stood, crossing}
 
 abbrev made : (held : Bool) (first last : ℕ) (crosses : Bool) → Trail
 made h f l c = record { held = h; first = f; last = l; crosses = c }

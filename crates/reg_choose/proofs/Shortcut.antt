@@ -7,8 +7,8 @@ use Rattle.mid_code.specs.Live.{ends_of, live_before, is_among, is_used, is_targ
 use Rattle.mid_code.specs.Spans.{places}
 use Rattle.mid_code.proofs.Liveness.{before_cases, computed_path, path_computed, found_turn}
 use Rattle.reg_choose.specs.declared.trail.Trail.{Trail}
-use Rattle.reg_choose.specs.Trails.{no_trail, longer, stood, crossing, trailed, trail_of}
-use Rattle.reg_choose.specs.Sparse.{follows, ceases, sparse}
+use Rattle.reg_choose.specs.inner.Trails.{no_trail, longer, stood, crossing, trailed, trail_of}
+use Rattle.reg_choose.specs.inner.Sparse.{follows, ceases, sparse}
 use Rattle.reg_choose.proofs.Ranges.{Reach, twice, again, over, crossing_stood, stood_reach, reach_here, reach_less}
 use Rattle.reg_choose.proofs.Sparsely.{trailed_stood, sparse_reach}
 

@@ -4,8 +4,8 @@ use Rattle.mid_code.specs.Code.{NodesT, Stop, Do, Call, Choose, Block, Loop, Lea
 use Rattle.mid_code.specs.Live.{Label, label, is_among, is_used, is_target, is_live}
 use Rattle.mid_code.specs.Spans.{places}
 use Rattle.reg_choose.specs.declared.trail.Trail.{Trail}
-use Rattle.reg_choose.specs.Trails.{stood, crossing, trailed}
-use Rattle.reg_choose.specs.Sparse.{follows, ceases, sparse}
+use Rattle.reg_choose.specs.inner.Trails.{stood, crossing, trailed}
+use Rattle.reg_choose.specs.inner.Sparse.{follows, ceases, sparse}
 use Rattle.reg_choose.proofs.Ranges.{Reach, swap, crossing_stood, stood_reach}
 
 -- ---- what was told before is told still

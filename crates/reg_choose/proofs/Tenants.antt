@@ -4,8 +4,8 @@ use Rattle.std.specs.List.Sorted.{IsNonDecreasingBy}
 use Rattle.std.proofs.lemmas.Bool.{eqb-true, eqb-false}
 use Rattle.mid_code.specs.Spans.{Span}
 use Rattle.reg_choose.specs.declared.interval.Interval.{Interval}
-use Rattle.reg_choose.specs.Scan.{put, free, taking, scan, AllG, Has}
-use Rattle.reg_choose.specs.Handing.{span, flag, kept, freed, freed_at, got, first_got, written, give}
+use Rattle.reg_choose.specs.inner.Scan.{put, free, taking, scan, AllG, Has}
+use Rattle.reg_choose.specs.inner.Handing.{span, flag, kept, freed, freed_at, got, first_got, written, give}
 
 pub free_turn : (f : ℕ → ℕ) (p n : ℕ) → 0 < n → free f p n ≡ cond (leb (f (n - 1)) p) (Some (n - 1)) (free f p (n - 1))
 free_turn f p zero h = absurd (omega (arith, h))

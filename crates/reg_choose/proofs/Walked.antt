@@ -9,9 +9,9 @@ use Rattle.mid_code.specs.Live.{Label, label, is_live, is_among, is_used, is_tar
 use Rattle.mid_code.specs.Spans.{places}
 use Rattle.reg_choose.specs.declared.trail.Trail.{Trail}
 use Rattle.mid_live.specs.Sets.{on}
-use Rattle.reg_choose.specs.Trails.{stood, crossing, called, trail_at}
-use Rattle.reg_choose.specs.Sparse.{follows, ceases, sparse}
-use Rattle.reg_choose.specs.Seen.{seen, calls}
+use Rattle.reg_choose.specs.inner.Trails.{stood, crossing, called, trail_at}
+use Rattle.reg_choose.specs.inner.Sparse.{follows, ceases, sparse}
+use Rattle.reg_choose.specs.inner.Seen.{seen, calls}
 use Rattle.reg_choose.proofs.Ranges.{either, crossing_stood}
 use Rattle.reg_choose.proofs.Trailed.{op_places}
 

@@ -1,9 +1,2 @@
-pub mod Marked
-pub mod Checked
-pub mod Holding
-pub mod Trails
-pub mod Sparse
-pub mod Seen
-pub mod Scan
-pub mod Handing
 pub mod Each
+pub mod inner

@@ -3,9 +3,9 @@ ghost use Rattle.std.specs.Prelude.{◌≡◌, ℕ, ◌<◌, ◌^◌, length, If
 ghost use Rattle.mid_code.specs.Functions.{function};
 ghost use Rattle.mid_code.specs.Invariants.{Names, AllOf, IsTemporary};
 ghost use Rattle.mid_code.specs.Safe.{IsSafe, SparesSlots};
-ghost use Rattle.reg_choose.specs.Scan.{scan, AllG, Has};
-ghost use Rattle.reg_choose.specs.Trails.{trail_at};
-ghost use Rattle.reg_choose.specs.Handing.{span, flag, kept, got, give, first_got, numbered};
+ghost use Rattle.reg_choose.specs.inner.Scan.{scan, AllG, Has};
+ghost use Rattle.reg_choose.specs.inner.Trails.{trail_at};
+ghost use Rattle.reg_choose.specs.inner.Handing.{span, flag, kept, got, give, first_got, numbered};
 
 use crate::gather::trails_of;
 use crate::interval::Interval;

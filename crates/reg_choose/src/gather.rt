@@ -5,9 +5,9 @@ ghost use Rattle.mid_code.specs.Functions.{node, nodes, before, function};
 ghost use Rattle.mid_code.specs.Live.{is_live};
 ghost use Rattle.mid_code.specs.Spans.{places};
 ghost use Rattle.mid_live.specs.Sets.{on, room};
-ghost use Rattle.reg_choose.specs.Trails.{stood, crossing, no_trail, trail_at, trail_of};
-ghost use Rattle.reg_choose.specs.Sparse.{sparse, follows};
-ghost use Rattle.reg_choose.specs.Seen.{seen};
+ghost use Rattle.reg_choose.specs.inner.Trails.{stood, crossing, no_trail, trail_at, trail_of};
+ghost use Rattle.reg_choose.specs.inner.Sparse.{sparse, follows};
+ghost use Rattle.reg_choose.specs.inner.Seen.{seen};
 
 use crate::live::outside;
 use crate::spans::{more_from, walk_nodes};

@@ -2,7 +2,7 @@
 ghost use Rattle.std.specs.Prelude.{◌≡◌, ℕ, ◌+◌, ◌<◌, ◌≤◌, ◌||◌, ◌&&◌, ◌↔◌, not, IfOk, OnOk, length, Bool, true, false, cond, eqb};
 ghost use Rattle.mid_code.specs.Live.{is_among};
 ghost use Rattle.mid_live.specs.Sets.{on, room};
-ghost use Rattle.reg_choose.specs.Holding.{number_at, IsPlan, Stands, Laid, Made};
+ghost use Rattle.reg_choose.specs.inner.Holding.{number_at, IsPlan, Stands, Laid, Made};
 
 use crate::plan::place_number;
 use kit_base::Memory;

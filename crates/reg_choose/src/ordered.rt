@@ -1,7 +1,7 @@
 // The spans of temporaries, in the order of their first places.
 ghost use Rattle.std.specs.Prelude.{◌≡◌, ℕ, ◌<◌, length, IfOk, map, All};
 ghost use Rattle.std.specs.List.Sorted.{IsPermutation, IsNonDecreasingBy};
-ghost use Rattle.reg_choose.specs.Handing.{span, spans_from};
+ghost use Rattle.reg_choose.specs.inner.Handing.{span, spans_from};
 
 use crate::interval::Interval;
 use crate::trail::Trail;

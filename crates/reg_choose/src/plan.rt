@@ -2,7 +2,7 @@
 ghost use Rattle.std.specs.Prelude.{◌≡◌, ℕ, ◌+◌, ◌<◌, ◌≤◌, ◌∷◌, length, IfOk, map};
 ghost use Rattle.std.specs.List.Sorted.{IsNonDecreasing};
 ghost use Rattle.mid_code.specs.Safe.{IsChosen, AllPlaces};
-ghost use Rattle.reg_choose.specs.Holding.{below, slots_in, number_of, number_at, IsPlan};
+ghost use Rattle.reg_choose.specs.inner.Holding.{below, slots_in, number_of, number_at, IsPlan};
 
 use kit_base::Memory;
 use mid_code::Where;

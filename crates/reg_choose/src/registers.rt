@@ -1,7 +1,7 @@
 // Registers, handed out by a scan over spans in the order of their first places.
 ghost use Rattle.std.specs.Prelude.{◌≡◌, ℕ, ◌<◌, length, map, leb, true, Some, IfSome, All};
-ghost use Rattle.reg_choose.specs.Scan.{free, taking, scan, AllG, Has};
-ghost use Rattle.reg_choose.specs.Handing.{span, kept, flag, freed, freed_at, written, got, give};
+ghost use Rattle.reg_choose.specs.inner.Scan.{free, taking, scan, AllG, Has};
+ghost use Rattle.reg_choose.specs.inner.Handing.{span, kept, flag, freed, freed_at, written, got, give};
 
 use crate::interval::Interval;
 

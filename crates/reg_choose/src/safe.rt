@@ -5,8 +5,8 @@ ghost use Rattle.mid_code.specs.Invariants.{Names, AllOf, IsTemporary};
 ghost use Rattle.mid_code.specs.Live.{is_among};
 ghost use Rattle.mid_code.specs.Safe.{IsSafe, IsChosen, AllPlaces};
 ghost use Rattle.mid_live.specs.Sets.{on, room};
-ghost use Rattle.reg_choose.specs.Checked.{ApartIn};
-ghost use Rattle.reg_choose.specs.Holding.{IsPlan, Stands};
+ghost use Rattle.reg_choose.specs.inner.Checked.{ApartIn};
+ghost use Rattle.reg_choose.specs.inner.Holding.{IsPlan, Stands};
 
 use crate::checks::try_nodes;
 use crate::hold::lay_all;

@@ -5,9 +5,9 @@ ghost use Rattle.mid_code.specs.Functions.{op_before, node, nodes, before};
 ghost use Rattle.mid_code.specs.Live.{label, is_live};
 ghost use Rattle.mid_code.specs.Spans.{places};
 ghost use Rattle.mid_live.specs.Sets.{on, room};
-ghost use Rattle.reg_choose.specs.Marked.{marks};
-ghost use Rattle.reg_choose.specs.Sparse.{sparse, follows};
-ghost use Rattle.reg_choose.specs.Seen.{seen, calls};
+ghost use Rattle.reg_choose.specs.inner.Marked.{marks};
+ghost use Rattle.reg_choose.specs.inner.Sparse.{sparse, follows};
+ghost use Rattle.reg_choose.specs.inner.Seen.{seen, calls};
 
 use crate::live::{
     Marks, at_begin, at_end, before_nodes, begin_less, nested, put_uses, strike_target,

@@ -4,8 +4,8 @@ ghost use Rattle.mid_code.specs.Code.{Stop, maybe};
 ghost use Rattle.mid_code.specs.Functions.{op_before};
 ghost use Rattle.mid_code.specs.Live.{is_among, is_target, is_used};
 ghost use Rattle.mid_live.specs.Sets.{on};
-ghost use Rattle.reg_choose.specs.Trails.{longer, stood, trail_at};
-ghost use Rattle.reg_choose.specs.Sparse.{ceases};
+ghost use Rattle.reg_choose.specs.inner.Trails.{longer, stood, trail_at};
+ghost use Rattle.reg_choose.specs.inner.Sparse.{ceases};
 
 use crate::trail::Trail;
 use kit_base::Memory;

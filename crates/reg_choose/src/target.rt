@@ -6,9 +6,9 @@ ghost use Rattle.mid_code.specs.Live.{is_among, is_used, is_target};
 ghost use Rattle.mid_code.specs.declared.placed.Where.TheVariants.{Reg};
 ghost use Rattle.mid_code.specs.Safe.{place_of, IsSlot};
 ghost use Rattle.mid_live.specs.Sets.{on};
-ghost use Rattle.reg_choose.specs.Marked.{marks};
-ghost use Rattle.reg_choose.specs.Checked.{FreeIn, TargetIn};
-ghost use Rattle.reg_choose.specs.Holding.{IsPlan, Stands, Laid, NodeTried};
+ghost use Rattle.reg_choose.specs.inner.Marked.{marks};
+ghost use Rattle.reg_choose.specs.inner.Checked.{FreeIn, TargetIn};
+ghost use Rattle.reg_choose.specs.inner.Holding.{IsPlan, Stands, Laid, NodeTried};
 
 use crate::hold::{lay, lay_all, lay_two, lift};
 use crate::live::Marks;

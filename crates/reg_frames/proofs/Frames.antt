@@ -13,7 +13,7 @@ use Rattle.mid_code.specs.States.{op_weight}
 use Rattle.mid_code.specs.Runs.{nodes_weight, function_weight, weight}
 use Rattle.mid_code.specs.Calls.{loops, CallsTo, AddsNone, NoneAdd}
 use Rattle.mid_code.specs.Invariants.{SpotWord, OfSlot, OfLocal, OfEmitter, StandsAt, slot, local, emitter, AreSpots, in_registers, IsPlace, AllOf, DifferFrom, AreDifferent}
-use Rattle.reg_frames.specs.Placing.{placed_op, placed_nodes, placed_function, placing, own_words, frame_size, rising, begins_from, falling, spots_of, placed_functions, placed}
+use Rattle.reg_frames.specs.inner.Placing.{placed_op, placed_nodes, placed_function, placing, own_words, frame_size, rising, begins_from, falling, spots_of, placed_functions, placed}
 use Rattle.mid_code.specs.Choices.{slot_count}
 
 map_length : {A B : Type 0} (f : A → B) (xs : List A) → length (map f xs) ≡ length xs

@@ -6,7 +6,7 @@ use Rattle.mid_code.specs.Code.{OpT, ConstO, NullO, MoveO, OneO, TwoO, GlobalO, 
 use Rattle.mid_code.specs.Live.{is_among}
 use Rattle.mid_code.specs.Safe.{place_of, IsChosen, AllPlaces, IsSafe}
 use Rattle.mid_code.specs.Invariants.{IsOp, IsCall, AreNodes, AllOf, Names, CallsNone, DifferFrom, AreDifferent, IsFunction, IsTemporary, IsMid, IsPlace, HasSlot, AllSpots, IsStartPlace, IsPlaced}
-use Rattle.reg_frames.specs.Placing.{placed_op, placed_maybe, placed_nodes, placed_function, renumbered, placing, spots_of, placed_functions, frame_sizes, all_spots, placed_code, placed}
+use Rattle.reg_frames.specs.inner.Placing.{placed_op, placed_maybe, placed_nodes, placed_function, renumbered, placing, spots_of, placed_functions, frame_sizes, all_spots, placed_code, placed}
 use Rattle.mid_code.specs.Choices.{slots_named, slot_count, EachSafe}
 use Rattle.reg_frames.proofs.Moving.{among_first, or_right}
 use Rattle.reg_frames.proofs.Slots.{index_below, slot_named, placing_one, named_count}

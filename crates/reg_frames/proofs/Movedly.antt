@@ -7,8 +7,8 @@ use Rattle.mid_code.specs.declared.node.Node.{Node}
 use Rattle.mid_code.specs.Code.{NodesT}
 use Rattle.mid_code.specs.Functions.{NodeT, DoN, ChooseN, BlockN, LoopN, LeaveN, AgainN, ReturnN, ListT, NoN, MoreN, op_before, before, joined, listed, node, nodes}
 use Rattle.mid_code.specs.Code.{Choose, Block, Loop}
-use Rattle.reg_frames.specs.Placing.{placed_nodes}
-use Rattle.reg_frames.specs.Moved.{op_moved, node_moved, list_moved}
+use Rattle.reg_frames.specs.inner.Placing.{placed_nodes}
+use Rattle.reg_frames.specs.inner.Moved.{op_moved, node_moved, list_moved}
 
 module _ {P Q : Type 0} (w : P → Q) where
   op_moves : (o : Op P) (c : NodesT P) → op_before (op_moved w o) (placed_nodes w c) ≡ placed_nodes w (op_before o c)

@@ -6,7 +6,7 @@ use Rattle.indexmap.specs.IndexSet.{insert_key}
 use Rattle.mid_code.specs.declared.placed.Where.TheVariants.{Slot}
 use Rattle.mid_code.specs.Live.{is_among}
 use Rattle.mid_code.specs.Choices.{with_slot}
-use Rattle.reg_frames.specs.Placing.{index_in}
+use Rattle.reg_frames.specs.inner.Placing.{index_in}
 
 eqb_swap : (a b : ℕ) → eqb a b ≡ nat_eq b a
 eqb_swap a b = grind arith

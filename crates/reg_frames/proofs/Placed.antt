@@ -14,16 +14,16 @@ use Rattle.mid_code.specs.Invariants.{AreNodes, AllOf, IsFunction, IsTemporary, 
 use Rattle.mid_code.specs.States.{State, temporaries, registers_and_slots, received, cell_of, if_room, begun, entry_weight, word_tested, over_worlds, sizes_of, function_at, no_function}
 use Rattle.mid_code.specs.Runs.{mid_runs, placed_runs}
 use Rattle.mid_code.specs.Keeps.{KeepsRuns, WorksAtMost}
-use Rattle.mid_code.specs.Passing.{acts, Pass, Like, CallAlike, DidAlike, TestAlike, Keeps}
-use Rattle.mid_code.specs.Alike.{Known}
-use Rattle.mid_code.specs.Programs.{KeptWorlds, Program}
+use Rattle.mid_code.specs.inner.Passing.{acts, Pass, Like, CallAlike, DidAlike, TestAlike, Keeps}
+use Rattle.mid_code.specs.inner.Alike.{Known}
+use Rattle.mid_code.specs.inner.Programs.{KeptWorlds, Program}
 use Rattle.mid_code.proofs.Values.{test_known, word_kept}
 use Rattle.mid_code.proofs.More.{act_more, enter_more, back_more}
 use Rattle.mid_code.proofs.Liveness.{path_computed}
 use Rattle.mid_code.proofs.Programs.{program_keeps, program_works}
-use Rattle.reg_frames.specs.Placing.{placed_op, placed_maybe, placed_nodes, placed_function, placing, choice_at, placed_functions, placed_code, placed}
+use Rattle.reg_frames.specs.inner.Placing.{placed_op, placed_maybe, placed_nodes, placed_function, placing, choice_at, placed_functions, placed_code, placed}
 use Rattle.mid_code.specs.Choices.{EachSafe}
-use Rattle.reg_frames.specs.Pass.{SameNumber, WorldsAlike, LiveSet, StatesAlike, Apart, Before, AllLive, Stays, places_pass}
+use Rattle.reg_frames.specs.inner.Pass.{SameNumber, WorldsAlike, LiveSet, StatesAlike, Apart, Before, AllLive, Stays, places_pass}
 use Rattle.reg_frames.proofs.Objects.{memory, twin_self}
 use Rattle.reg_frames.proofs.Moving.{worlds_spend, worlds_entered, room_same, received_alike, each, args_known, returns}
 use Rattle.reg_frames.proofs.Slots.{placing_one, placing_slot}

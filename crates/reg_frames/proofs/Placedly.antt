@@ -8,7 +8,7 @@ use Rattle.mid_code.specs.Functions.{function}
 use Rattle.mid_code.specs.Placed.{SpotsT}
 use Rattle.mid_code.specs.View.{spots}
 use Rattle.mid_code.specs.Invariants.{in_registers}
-use Rattle.reg_frames.specs.Placing.{placing, placed_nodes, placed_function, placed_functions, own_words, frame_size, frame_sizes, spots_of, all_spots}
+use Rattle.reg_frames.specs.inner.Placing.{placing, placed_nodes, placed_function, placed_functions, own_words, frame_size, frame_sizes, spots_of, all_spots}
 use Rattle.reg_frames.specs.Placeable.{first_of, later, ArePlaceable}
 
 pub function_by : (w : ℕ → Where) (ws : List Where) (f : FunctionT ℕ) (g : FunctionT Where) → g ≡ placed_function w f → ((x : ℕ) → w x ≡ placing ws x) → g ≡ placed_function (placing ws) f

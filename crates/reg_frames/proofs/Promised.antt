@@ -7,7 +7,7 @@ use Rattle.mid_code.specs.Placed.{SpotsT, PlacedT}
 use Rattle.mid_code.specs.Safe.{IsSafe}
 use Rattle.mid_code.specs.Choices.{EachSafe, AreSafe}
 use Rattle.mid_code.specs.Invariants.{AllOf, IsFunction, IsTemporary, IsMid, IsPlaced, in_registers}
-use Rattle.reg_frames.specs.Placing.{placing, placed_function, frame_sizes, placed_functions, all_spots, placed}
+use Rattle.reg_frames.specs.inner.Placing.{placing, placed_function, frame_sizes, placed_functions, all_spots, placed}
 use Rattle.reg_frames.specs.Placeable.{first_of, later, IsPlaceable, ArePlaceable}
 use Rattle.reg_frames.specs.PlacedFrom.{AreFrames, IsPlacedFrom}
 use Rattle.reg_frames.proofs.Slots.{named_count}

@@ -6,7 +6,7 @@ use Rattle.mid_code.specs.declared.placed.Where.TheVariants.{Reg, Slot}
 use Rattle.mid_code.specs.Live.{is_among}
 use Rattle.mid_code.specs.Safe.{place_of, IsSlot}
 use Rattle.mid_code.specs.Choices.{with_slot, slots_from, slots_named, slot_count}
-use Rattle.reg_frames.specs.Placing.{index_in, renumbered, placing}
+use Rattle.reg_frames.specs.inner.Placing.{index_in, renumbered, placing}
 use Rattle.reg_frames.proofs.Moving.{true_false, or_right, among_first}
 
 suc_same : (a b : ℕ) → suc a ≡ suc b → a ≡ b

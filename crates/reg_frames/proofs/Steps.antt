@@ -4,7 +4,7 @@ use Rattle.mid_code.specs.declared.placed.Where.{Where}
 use Rattle.mid_code.specs.declared.placed.Where.TheVariants.{Reg, Slot}
 use Rattle.mid_code.specs.Live.{is_among}
 use Rattle.mid_code.specs.Choices.{with_slot, slots_from, slots_named}
-use Rattle.reg_frames.specs.Placing.{index_in, renumbered, placing, rising, falling}
+use Rattle.reg_frames.specs.inner.Placing.{index_in, renumbered, placing, rising, falling}
 use Rattle.reg_frames.proofs.Slots.{with_here, with_count}
 use Rattle.reg_frames.proofs.Named.{index_kept}
 use Rattle.reg_frames.proofs.Moving.{true_false}

@@ -1,5 +1,3 @@
-pub mod Placing
-pub mod Pass
-pub mod Moved
 pub mod Placeable
 pub mod PlacedFrom
+pub mod inner

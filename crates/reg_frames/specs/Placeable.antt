@@ -3,7 +3,7 @@ use Rattle.std.specs.Prelude.{ℕ, ◌<◌, ◌^◌, List, [], ◌∷◌, map, l
 use Rattle.mid_code.specs.declared.placed.Where.{Where}
 use Rattle.mid_code.specs.declared.placed.Choice.{Choice}
 use Rattle.mid_code.specs.Code.{FunctionT}
-use Rattle.reg_frames.specs.Placing.{frame_size}
+use Rattle.reg_frames.specs.inner.Placing.{frame_size}
 
 -- the places of choices
 abbrev pub places_of : List Choice → List (List Where)

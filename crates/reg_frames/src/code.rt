@@ -1,8 +1,8 @@
 // Code over other places.
 ghost use Rattle.std.specs.Prelude.{◌≡◌, IfOk, IfSome, map};
 ghost use Rattle.mid_code.specs.Functions.{node, listed};
-ghost use Rattle.reg_frames.specs.Placing.{placed_maybe};
-ghost use Rattle.reg_frames.specs.Moved.{stands, op_moved, node_moved, list_moved};
+ghost use Rattle.reg_frames.specs.inner.Placing.{placed_maybe};
+ghost use Rattle.reg_frames.specs.inner.Moved.{stands, op_moved, node_moved, list_moved};
 
 use crate::places::Places;
 use kit_base::{Memory, Seq};

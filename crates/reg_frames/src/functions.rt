@@ -2,9 +2,9 @@
 ghost use Rattle.std.specs.Prelude.{◌≡◌, ◌<◌, ◌^◌, IfOk, map, length};
 ghost use Rattle.mid_code.specs.Functions.{function};
 ghost use Rattle.mid_code.specs.View.{spots};
-ghost use Rattle.reg_frames.specs.Placing.{placing, placed_function, placed_functions, frame_size, frame_sizes, spots_of, all_spots};
+ghost use Rattle.reg_frames.specs.inner.Placing.{placing, placed_function, placed_functions, frame_size, frame_sizes, spots_of, all_spots};
 ghost use Rattle.reg_frames.specs.Placeable.{places_of, first_of, later, IsPlaceable, ArePlaceable};
-ghost use Rattle.reg_frames.specs.Moved.{stands};
+ghost use Rattle.reg_frames.specs.inner.Moved.{stands};
 
 use crate::code::{place_all, place_nodes};
 use crate::layout::{begins, falling, in_registers, rising, total};

@@ -1,7 +1,7 @@
 // The layout of a frame.
 ghost use Rattle.std.specs.Prelude.{◌≡◌, ◌+◌, ◌<◌, ◌^◌, IfOk, length, sum};
 ghost use Rattle.mid_code.specs.Invariants.{in_registers};
-ghost use Rattle.reg_frames.specs.Placing.{rising, begins_from, falling};
+ghost use Rattle.reg_frames.specs.inner.Placing.{rising, begins_from, falling};
 
 use crate::slices::next;
 use kit_base::Memory;

@@ -2,8 +2,8 @@
 ghost use Rattle.std.specs.Prelude.{◌≡◌, ◌+◌, ◌<◌, ◌^◌, ℕ, IfOk, OnOk, length};
 ghost use Rattle.mid_code.specs.declared.placed.Where.TheVariants.{Slot};
 ghost use Rattle.mid_code.specs.Choices.{with_slot, slot_count};
-ghost use Rattle.reg_frames.specs.Placing.{index_in, renumbered, placing};
-ghost use Rattle.reg_frames.specs.Moved.{stands};
+ghost use Rattle.reg_frames.specs.inner.Placing.{index_in, renumbered, placing};
+ghost use Rattle.reg_frames.specs.inner.Moved.{stands};
 
 use crate::places::Places;
 use crate::slices::next;

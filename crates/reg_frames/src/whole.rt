@@ -1,6 +1,6 @@
 // Programs over registers and slots.
 ghost use Rattle.std.specs.Prelude.{◌≡◌, IfOk, map};
-ghost use Rattle.reg_frames.specs.Placing.{placed_code};
+ghost use Rattle.reg_frames.specs.inner.Placing.{placed_code};
 ghost use Rattle.mid_code.specs.Whole.{mid, placed};
 ghost use Rattle.mid_code.specs.View.{code};
 ghost use Rattle.mid_code.specs.Invariants.{IsMid};

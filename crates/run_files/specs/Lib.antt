@@ -4,7 +4,7 @@ pub mod Screens
 pub mod Script
 pub mod PadsText
 pub mod PadsReading
-pub mod PadsViews
 pub mod PadsFile
 pub mod PadsAnswer
 pub mod AnswersFile
+pub mod inner

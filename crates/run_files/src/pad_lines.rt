@@ -4,7 +4,7 @@ ghost use Rattle.std.specs.Str.{bytes_eq};
 ghost use Rattle.run_files.specs.Script.{is_connected};
 ghost use Rattle.run_files.specs.PadsText.{header_of, action_of, event_of, is_one_field};
 ghost use Rattle.run_files.specs.PadsReading.{control_of};
-ghost use Rattle.run_files.specs.PadsViews.{event_view, header_view};
+ghost use Rattle.run_files.specs.inner.PadsViews.{event_view, header_view};
 
 use line_text::{decimal_word, field_at};
 

@@ -100,7 +100,7 @@ impl Pads {
     ghost use Rattle.std.specs.Prelude.{Ok};
     ghost use Rattle.run_files.specs.Script.{IsEvent};
     ghost use Rattle.run_files.specs.PadsReading.{said_step, last_frame, with_event};
-    ghost use Rattle.run_files.specs.PadsViews.{header_view};
+    ghost use Rattle.run_files.specs.inner.PadsViews.{header_view};
     ghost use Rattle.line_text.specs.Reading.{Steps};
 
     /// The script of that header, without events yet.

@@ -14,7 +14,7 @@ use Rattle.cpu_core.specs.Stepping.{run_from}
 use Rattle.cpu_core.proofs.Outcomes.{run_of_step}
 use Rattle.trace_core.specs.Texts.{event_line, end_line, run_text}
 use Rattle.trace_core.specs.Putting.{putting, HasPut, HasPutFront}
-use Rattle.trace_core.specs.Steps.{event_of, step_text, last_line, rest_of, StepPuts}
+use Rattle.trace_core.specs.inner.Steps.{event_of, step_text, last_line, rest_of, StepPuts}
 use Rattle.trace_core.proofs.Puts.{nothing_put, put_more, put_onto, front_more, front_of_piece}
 
 text_after : (e : Event) (r : Run) → run_text (after e r) ≡ event_line e ++ run_text r

@@ -1,4 +1,4 @@
 pub mod Digits
 pub mod Texts
 pub mod Putting
-pub mod Steps
+pub mod inner

@@ -5,7 +5,7 @@ ghost use Rattle.cpu_core.specs.Machine.{state_of};
 ghost use Rattle.v32_isa.specs.Runs.{run};
 ghost use Rattle.trace_core.specs.Texts.{run_text};
 ghost use Rattle.trace_core.specs.Putting.{PutsText, trace_text};
-ghost use Rattle.trace_core.specs.Steps.{StepPuts, event_of, step_text};
+ghost use Rattle.trace_core.specs.inner.Steps.{StepPuts, event_of, step_text};
 
 use crate::line::Line;
 use crate::text::{event_line, going_line, last_line};

@@ -2,7 +2,7 @@
 ghost use Rattle.std.specs.Prelude.{◌≡◌, ◌≤◌, ◌++◌, [], ◌∷◌, codes, length};
 ghost use Rattle.kit_base.specs.Digits.{word_digits};
 ghost use Rattle.trace_core.specs.Texts.{event_line, port_line, end_line};
-ghost use Rattle.trace_core.specs.Steps.{last_line};
+ghost use Rattle.trace_core.specs.inner.Steps.{last_line};
 ghost use Rattle.v32_isa.specs.Runs.End.{Fault};
 
 use crate::digits::without_zeros;

@@ -11,7 +11,7 @@ use Rattle.spu_mix.specs.Answers.{sound_answer}
 use Rattle.spu_mix.proofs.Others.{stands_for_all, stands_for_ours}
 use Rattle.port_bus.specs.Stand.{DevicesStand}
 use Rattle.port_bus.specs.State as small
-use Rattle.port_bus.specs.Ports.{Answers, TakesWords}
+use Rattle.port_bus.specs.inner.Ports.{Answers, TakesWords}
 use Rattle.port_bus.specs.Answers.{small_answer}
 use Rattle.port_bus.proofs.Others.{asked_elsewhere, told_elsewhere, mixed_elsewhere}
 use Rattle.v32_console.specs.declared.board.Board.{Board}

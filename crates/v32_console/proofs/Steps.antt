@@ -16,7 +16,7 @@ use Rattle.v32_console.specs.Setup.{Setup}
 use Rattle.v32_console.specs.Moments.{Moment, Running, moment, next, next_from, went_on, left_by, after_step, after_effect}
 use Rattle.v32_console.specs.Frames.{until_left, left_within}
 use Rattle.v32_console.specs.Stands.{BoardStands, IsNoted}
-use Rattle.v32_console.specs.Bus.{Answering, Telling, KeepsCounts}
+use Rattle.v32_console.specs.inner.Bus.{Answering, Telling, KeepsCounts}
 use Rattle.v32_console.specs.Machine.{Operations, none, one, joined, waits, operation, operations_from}
 use Rattle.v32_console.specs.Taking.{Taped, taken, asked_by}
 use Rattle.v32_console.specs.Runs.{unless_left, operations_within}

@@ -6,6 +6,6 @@ pub mod Machine
 pub mod Taking
 pub mod Runs
 pub mod Stands
-pub mod Bus
 pub mod History
 pub mod Alike
+pub mod inner

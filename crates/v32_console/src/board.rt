@@ -3,7 +3,7 @@ ghost use Rattle.std.specs.Prelude.{◌≡◌, ◌<◌, ◌+◌, ◌∷◌, ℕ,
 ghost use Rattle.port_history.specs.Past.{Happening, Began, Mixed, is_graphics_port, is_sound_port};
 ghost use Rattle.v32_console.specs.Setup.{Setup};
 ghost use Rattle.v32_console.specs.Stands.{BoardStands};
-ghost use Rattle.v32_console.specs.Bus.{DevicesAnswer, DevicesTake};
+ghost use Rattle.v32_console.specs.inner.Bus.{DevicesAnswer, DevicesTake};
 
 use crate::tape::Tape;
 use cpu_core::Bus;
@@ -97,7 +97,7 @@ impl Board {
 }
 
 impl Bus for Board {
-    ghost use Rattle.v32_console.specs.Bus.{Answering as answering, Telling as telling};
+    ghost use Rattle.v32_console.specs.inner.Bus.{Answering as answering, Telling as telling};
 
     ghost input_gives = { answering };
 

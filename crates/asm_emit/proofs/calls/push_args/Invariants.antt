@@ -1,5 +1,5 @@
 use Rattle.std.proofs.Common.{◌≡◌, ◌++◌, drop}
-use Rattle.asm_emit.specs.View.{frame}
+use Rattle.asm_emit.specs.inner.View.{frame}
 use Rattle.asm_laws.specs.Operations.{pushed_args}
 use Rattle.asm_emit.proofs.calls.push_args.Given as goal
 

@@ -1,7 +1,7 @@
 use Rattle.std.proofs.Common.{◌≡◌, ◌+◌, ◌++◌, map, drop}
 use Rattle.mid_code.specs.Functions.{node, listed}
-use Rattle.asm_emit.specs.Listed.{list_labels, list_past}
-use Rattle.asm_emit.specs.View.{frame, whole}
+use Rattle.asm_emit.specs.inner.Listed.{list_labels, list_past}
+use Rattle.asm_emit.specs.inner.View.{frame, whole}
 use Rattle.asm_emit.proofs.nodes.+items.Given as goal
 
 abbrev pub invariant-put_nodes-loop-x : goal.invariant-put_nodes-loop-x

@@ -1,5 +1,5 @@
 use Rattle.std.proofs.Common.{◌≡◌, ◌++◌, drop}
-use Rattle.asm_emit.specs.View.{wrapped_addresses}
+use Rattle.asm_emit.specs.inner.View.{wrapped_addresses}
 use Rattle.asm_emit.proofs.program.addresses.Given as goal
 
 abbrev pub invariant-loop-size : goal.invariant-loop-size

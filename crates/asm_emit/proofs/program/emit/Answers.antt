@@ -2,10 +2,10 @@ use Rattle.std.proofs.Common.{rules, ◌≡◌, ◌-◌, ◌^◌, ◌<◌, map, 
 use Rattle.mid_code.specs.View.{code, spots}
 use Rattle.mid_code.specs.Whole.{placed}
 use Rattle.mid_code.specs.Invariants.{IsPlaced}
-use Rattle.asm_laws.specs.Emitted.{program_items, labels_of}
-use Rattle.asm_emit.specs.Words.{AreWords, TextsAreWords}
+use Rattle.asm_laws.specs.inner.Emitted.{program_items, labels_of}
+use Rattle.asm_emit.specs.inner.Words.{AreWords, TextsAreWords}
 use Rattle.asm_emit.specs.EmittedFrom.{IsEmitted}
-use Rattle.asm_emit.specs.View.{whole_of_parts, wrapped_addresses}
+use Rattle.asm_emit.specs.inner.View.{whole_of_parts, wrapped_addresses}
 use Rattle.asm_emit.proofs.Emitting.{few_labels, few_function_numbers, few_literal_numbers, promised, if_ok}
 use Rattle.asm_emit.proofs.program.emit.Goals as goal
 

@@ -1,7 +1,7 @@
 use Rattle.std.proofs.Common.{◌≡◌, ◌+◌, ◌<◌, ◌^◌, ◌-◌, ◌++◌, map, length}
 use Rattle.mid_code.specs.Functions.{function}
-use Rattle.asm_laws.specs.Emitted.{functions_items, functions_labels}
-use Rattle.asm_emit.specs.View.{whole}
+use Rattle.asm_laws.specs.inner.Emitted.{functions_items, functions_labels}
+use Rattle.asm_emit.specs.inner.View.{whole}
 use Rattle.asm_emit.proofs.program.put_functions.Given as goal
 
 abbrev pub invariant-each : goal.invariant-each

@@ -1,5 +1,5 @@
 use Rattle.std.proofs.Common.{drop}
-use Rattle.asm_emit.specs.Words.{AreWords}
+use Rattle.asm_emit.specs.inner.Words.{AreWords}
 use Rattle.asm_emit.proofs.words.sizes_are_words.Given as goal
 
 abbrev pub invariant-loop-size : goal.invariant-loop-size

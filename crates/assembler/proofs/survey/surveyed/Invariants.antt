@@ -1,6 +1,6 @@
 use Rattle.std.proofs.Common.{◌≡◌, ◌+◌, ◌*◌, ◌≤◌, [], length}
 use Rattle.assembler.specs.Faults.{twice_from}
-use Rattle.assembler.specs.Survey.{collected, names_of, or_later}
+use Rattle.assembler.specs.inner.Survey.{collected, names_of, or_later}
 use Rattle.assembler.proofs.survey.surveyed.Given as goal
 
 abbrev pub invariant-each : goal.invariant-each

@@ -9,7 +9,7 @@ use Rattle.build_core.proofs.Projects.{title_is_text, textures_are_texts, sounds
 use Rattle.build_core.proofs.Refusals.{memory_comes, textures_come, sounds_come, packed_comes, packing_causes}
 use Rattle.build_core.proofs.Builds.{memory_alone, memory_told, textures_told, sounds_told, packed_told}
 use Rattle.build_core.specs.Due.{assets}
-use Rattle.build_core.specs.Packing.{IsPackedFrom}
+use Rattle.build_core.specs.inner.Packing.{IsPackedFrom}
 use Rattle.build_core.specs.declared.building.Built.{Built}
 use Rattle.build_core.specs.Reached.{IsReadBeside}
 use Rattle.build_core.proofs.AsmTexts.{text_reads}

@@ -1,6 +1,6 @@
 use Rattle.std.proofs.Common.{◌≡◌, drop, map, option_map}
 use Rattle.c_tree.specs.View.{expr}
-use Rattle.c_check.specs.ItemTyping.{enumerators}
+use Rattle.c_check.specs.inner.ItemTyping.{enumerators}
 use Rattle.c_check.specs.View.{un}
 use Rattle.c_check.proofs.enumerators.read_enumerators.Given as goal
 

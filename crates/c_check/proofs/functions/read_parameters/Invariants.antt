@@ -2,8 +2,8 @@ use Rattle.std.proofs.Common.{◌≡◌, ◌+◌, ◌≤◌, ◌^◌, drop, leng
 use Rattle.c_tree.specs.Count.{vars_nodes}
 use Rattle.c_tree.specs.View.{var}
 use Rattle.c_types.specs.View.{ctype}
-use Rattle.c_check.specs.Steps.{before}
-use Rattle.c_check.specs.ItemTyping.{parameters}
+use Rattle.c_check.specs.inner.Steps.{before}
+use Rattle.c_check.specs.inner.ItemTyping.{parameters}
 use Rattle.c_check.specs.View.{un}
 use Rattle.c_check.proofs.functions.read_parameters.Given as goal
 

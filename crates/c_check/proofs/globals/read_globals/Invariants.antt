@@ -1,8 +1,8 @@
 use Rattle.std.proofs.Common.{◌≡◌, ◌+◌, length, drop, map}
 use Rattle.c_tree.specs.View.{var}
 use Rattle.c_types.specs.View.{tvar}
-use Rattle.c_check.specs.Steps.{before}
-use Rattle.c_check.specs.ItemTyping.{globals}
+use Rattle.c_check.specs.inner.Steps.{before}
+use Rattle.c_check.specs.inner.ItemTyping.{globals}
 use Rattle.c_check.specs.View.{un}
 use Rattle.c_check.proofs.globals.read_globals.Given as goal
 

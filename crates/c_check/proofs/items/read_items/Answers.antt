@@ -4,7 +4,7 @@ use Rattle.std.proofs.Math.ListN.{get_or}
 use Rattle.c_tree.specs.Count.{unit_nodes}
 use Rattle.c_tree.specs.View.{item}
 use Rattle.c_tree.specs.declared.item.Item.{Item}
-use Rattle.c_check.specs.Steps.{spent}
+use Rattle.c_check.specs.inner.Steps.{spent}
 use Rattle.c_check.specs.View.{un}
 use Rattle.c_check.proofs.Spent.{items_step}
 use Rattle.c_check.proofs.items.read_items.Goals as goal

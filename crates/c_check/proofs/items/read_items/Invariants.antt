@@ -1,8 +1,8 @@
 use Rattle.std.proofs.Common.{◌≡◌, ◌+◌, ◌≤◌, drop, map}
 use Rattle.c_tree.specs.Count.{unit_nodes}
 use Rattle.c_tree.specs.View.{item}
-use Rattle.c_check.specs.ItemTyping.{items}
-use Rattle.c_check.specs.Steps.{spent}
+use Rattle.c_check.specs.inner.ItemTyping.{items}
+use Rattle.c_check.specs.inner.Steps.{spent}
 use Rattle.c_check.specs.View.{un}
 use Rattle.c_check.proofs.items.read_items.Given as goal
 

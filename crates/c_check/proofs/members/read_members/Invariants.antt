@@ -2,7 +2,7 @@ use Rattle.std.proofs.Common.{◌≡◌, drop, map}
 use Rattle.c_tree.specs.View.{var}
 use Rattle.c_types.specs.View.{layout}
 use Rattle.c_types.specs.Sizes.{no_layout}
-use Rattle.c_check.specs.Steps.{counted_members}
+use Rattle.c_check.specs.inner.Steps.{counted_members}
 use Rattle.c_check.specs.View.{un}
 use Rattle.c_check.proofs.members.read_members.Given as goal
 

@@ -1,9 +1,9 @@
 use Rattle.std.proofs.Common.{◌≡◌, length, map}
 use Rattle.c_types.specs.View.{texpr, texprs}
-use Rattle.c_evaluate.specs.FocusView.{stack_of}
-use Rattle.c_evaluate.specs.SettingView.{setting_of}
-use Rattle.c_evaluate.specs.StoreView.{store_of}
-use Rattle.c_evaluate.specs.Swift.{args_on}
+use Rattle.c_evaluate.specs.inner.FocusView.{stack_of}
+use Rattle.c_evaluate.specs.inner.SettingView.{setting_of}
+use Rattle.c_evaluate.specs.inner.StoreView.{store_of}
+use Rattle.c_evaluate.specs.inner.Swift.{args_on}
 use Rattle.c_evaluate.proofs.calls.arguments.Given as goal
 
 abbrev pub decreases-arguments : goal.decreases-arguments

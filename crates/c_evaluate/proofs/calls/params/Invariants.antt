@@ -1,8 +1,8 @@
 use Rattle.std.proofs.Common.{◌≡◌, ◌+◌, length, map}
 use Rattle.c_types.specs.View.{ctype}
-use Rattle.c_evaluate.specs.SettingView.{setting_of}
-use Rattle.c_evaluate.specs.StoreView.{store_of}
-use Rattle.c_evaluate.specs.Storing.{params_in}
+use Rattle.c_evaluate.specs.inner.SettingView.{setting_of}
+use Rattle.c_evaluate.specs.inner.StoreView.{store_of}
+use Rattle.c_evaluate.specs.inner.Storing.{params_in}
 use Rattle.c_evaluate.proofs.calls.params.Given as goal
 
 abbrev pub decreases-params : goal.decreases-params

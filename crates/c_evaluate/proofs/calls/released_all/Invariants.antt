@@ -1,7 +1,7 @@
 use Rattle.std.proofs.Common.{◌≡◌, length, map}
 use Rattle.c_types.specs.View.{ctype}
 use Rattle.c_meaning.specs.Expressions.{all_released}
-use Rattle.c_evaluate.specs.StoreView.{store_of}
+use Rattle.c_evaluate.specs.inner.StoreView.{store_of}
 use Rattle.c_evaluate.proofs.calls.released_all.Given as goal
 
 abbrev pub decreases-types : goal.decreases-types

@@ -1,6 +1,6 @@
 use Rattle.std.proofs.Common.{◌≡◌}
-use Rattle.c_evaluate.specs.Storing.{cells_in}
-use Rattle.c_evaluate.specs.StoreView.{store_of}
+use Rattle.c_evaluate.specs.inner.Storing.{cells_in}
+use Rattle.c_evaluate.specs.inner.StoreView.{store_of}
 use Rattle.c_evaluate.proofs.cells.cells.Given as goal
 
 abbrev pub decreases-cells : goal.decreases-cells

@@ -1,8 +1,8 @@
 use Rattle.std.proofs.Common.{◌≡◌, length, map}
 use Rattle.c_types.specs.View.{tarm, tarms}
 use Rattle.obj_mem.specs.Stores.{Store}
-use Rattle.c_evaluate.specs.FocusView.{stack_of}
-use Rattle.c_evaluate.specs.Steps.{arms_of}
+use Rattle.c_evaluate.specs.inner.FocusView.{stack_of}
+use Rattle.c_evaluate.specs.inner.Steps.{arms_of}
 use Rattle.c_evaluate.proofs.exec.arms.Given as goal
 
 abbrev pub decreases-arms : goal.decreases-arms

@@ -3,9 +3,9 @@ use Rattle.c_types.specs.View.{ctype, texpr}
 use Rattle.c_types.specs.Typed.{TExprT, Typed, BinaryK, IndexK}
 use Rattle.c_types.specs.declared.typed.TExpr.{the_lemmas}
 use Rattle.c_meaning.specs.Kinds.{type_of}
-use Rattle.c_evaluate.specs.SettingView.{setting_of}
-use Rattle.c_evaluate.specs.StoreView.{store_of}
-use Rattle.c_evaluate.specs.Swift.{binary_at_once, comes, index_at_once, is_strict, with_some}
+use Rattle.c_evaluate.specs.inner.SettingView.{setting_of}
+use Rattle.c_evaluate.specs.inner.StoreView.{store_of}
+use Rattle.c_evaluate.specs.inner.Swift.{binary_at_once, comes, index_at_once, is_strict, with_some}
 use Rattle.c_evaluate.proofs.Pairs.{binary_comes, index_comes, type_is}
 use Rattle.c_evaluate.proofs.leaf.+comes.Goals as goal
 

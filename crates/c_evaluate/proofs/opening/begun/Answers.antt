@@ -4,10 +4,10 @@ use Rattle.c_types.specs.View.{tstmts}
 use Rattle.c_check.specs.View.{program}
 use Rattle.obj_mem.specs.declared.cell.Cell.TheVariants.{Unwritten}
 use Rattle.obj_mem.specs.Stores.{Store}
-use Rattle.c_evaluate.specs.FocusView.{at, stack_of}
-use Rattle.c_evaluate.specs.StoreView.{store_of}
-use Rattle.c_evaluate.specs.Machine.{FrameT, MainW, Config}
-use Rattle.c_evaluate.specs.Steps.{rest_of}
+use Rattle.c_evaluate.specs.inner.FocusView.{at, stack_of}
+use Rattle.c_evaluate.specs.inner.StoreView.{store_of}
+use Rattle.c_evaluate.specs.inner.Machine.{FrameT, MainW, Config}
+use Rattle.c_evaluate.specs.inner.Steps.{rest_of}
 use Rattle.c_evaluate.proofs.Opened.{first_run}
 use Rattle.c_evaluate.proofs.Stacks.{none_left}
 use Rattle.c_evaluate.proofs.opening.begun.Goals as goal

@@ -3,7 +3,7 @@ use Rattle.c_types.specs.View.{ctype, texpr}
 use Rattle.c_types.specs.Typed.{TExprT, Typed, BinaryK}
 use Rattle.c_types.specs.declared.typed.TExpr.{the_lemmas}
 use Rattle.c_meaning.specs.Kinds.{type_of}
-use Rattle.c_evaluate.specs.Swift.{binary_worth, is_strict, is_word, with_some, worth}
+use Rattle.c_evaluate.specs.inner.Swift.{binary_worth, is_strict, is_word, with_some, worth}
 use Rattle.c_evaluate.proofs.Pairs.{binary_worths, type_is}
 use Rattle.c_evaluate.proofs.quick.+worth.Goals as goal
 

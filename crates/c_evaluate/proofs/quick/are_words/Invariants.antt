@@ -1,6 +1,6 @@
 use Rattle.std.proofs.Common.{◌≡◌, ◌+◌, length, map}
 use Rattle.c_types.specs.View.{ctype}
-use Rattle.c_evaluate.specs.Swift.{are_words}
+use Rattle.c_evaluate.specs.inner.Swift.{are_words}
 use Rattle.c_evaluate.proofs.quick.are_words.Given as goal
 
 abbrev pub decreases-params : goal.decreases-params

@@ -1,7 +1,7 @@
 use Rattle.std.proofs.Common.{◌≡◌, drop}
 use Rattle.obj_mem.specs.Stores.{fresh_all}
-use Rattle.c_evaluate.specs.SettingView.{setting_of}
-use Rattle.c_evaluate.specs.StoreView.{store_of}
+use Rattle.c_evaluate.specs.inner.SettingView.{setting_of}
+use Rattle.c_evaluate.specs.inner.StoreView.{store_of}
 use Rattle.c_evaluate.proofs.store.fresh_all.Given as goal
 
 abbrev pub invariant-locals : goal.invariant-locals

@@ -1,6 +1,6 @@
 use Rattle.std.proofs.Common.{◌≡◌, length}
-use Rattle.c_evaluate.specs.StoreView.{store_of}
-use Rattle.c_evaluate.specs.Swift.{passed}
+use Rattle.c_evaluate.specs.inner.StoreView.{store_of}
+use Rattle.c_evaluate.specs.inner.Swift.{passed}
 use Rattle.c_evaluate.proofs.store.passed.Given as goal
 
 abbrev pub decreases-each : goal.decreases-each

@@ -1,10 +1,10 @@
 use Rattle.std.proofs.Common.{length, map, ◌-◌}
 use Rattle.c_tree.specs.View.{init}
 use Rattle.c_parse.specs.Tok.{toks}
-use Rattle.c_parse.specs.View.{context}
-use Rattle.c_parse.specs.Reader.{behind}
-use Rattle.c_parse.specs.ReadingLists.{more_turn, listed}
-use Rattle.c_parse.specs.ReadingDeclarations.{init_at}
+use Rattle.c_parse.specs.inner.View.{context}
+use Rattle.c_parse.specs.inner.Reader.{behind}
+use Rattle.c_parse.specs.inner.ReadingLists.{more_turn, listed}
+use Rattle.c_parse.specs.inner.ReadingDeclarations.{init_at}
 use Rattle.c_parse.proofs.Loops.{Goes}
 use Rattle.c_parse.proofs.declaration.+initials.Given as goal
 

@@ -1,7 +1,7 @@
 use Rattle.std.proofs.Common.{length, map, ◌-◌}
 use Rattle.c_tree.specs.View.{var}
 use Rattle.c_parse.specs.Tok.{toks}
-use Rattle.c_parse.specs.View.{context}
+use Rattle.c_parse.specs.inner.View.{context}
 use Rattle.c_parse.proofs.VarLoops.{FieldsGo}
 use Rattle.c_parse.proofs.declaration.member.Given as goal
 

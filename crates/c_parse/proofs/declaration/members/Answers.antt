@@ -1,8 +1,8 @@
 use Rattle.std.proofs.Common.{◌≡◌, map, true, false, arith}
 use Rattle.std.proofs.lemmas.Result.{err_from_is_err_and}
-use Rattle.c_parse.specs.Reader.{at_close_brace}
+use Rattle.c_parse.specs.inner.Reader.{at_close_brace}
 use Rattle.c_parse.specs.Tok.{toks}
-use Rattle.c_parse.specs.View.{context}
+use Rattle.c_parse.specs.inner.View.{context}
 use Rattle.c_tree.specs.View.{var}
 use Rattle.c_parse.proofs.Loops.{goes_end, goes_fail, goes_turn}
 use Rattle.c_parse.proofs.MemberLoops.{others_less, members_end, members_fail, members_ok}

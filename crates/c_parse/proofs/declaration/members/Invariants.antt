@@ -1,8 +1,8 @@
 use Rattle.std.proofs.Common.{length, map}
 use Rattle.c_tree.specs.View.{var}
 use Rattle.c_parse.specs.Tok.{toks}
-use Rattle.c_parse.specs.View.{context}
-use Rattle.c_parse.specs.ReadingDeclarations.{members_turn, members_at}
+use Rattle.c_parse.specs.inner.View.{context}
+use Rattle.c_parse.specs.inner.ReadingDeclarations.{members_turn, members_at}
 use Rattle.c_parse.proofs.Loops.{Goes}
 use Rattle.c_parse.proofs.declaration.members.Given as goal
 

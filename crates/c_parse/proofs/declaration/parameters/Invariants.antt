@@ -1,9 +1,9 @@
 use Rattle.std.proofs.Common.{length, map}
 use Rattle.c_tree.specs.View.{var}
 use Rattle.c_parse.specs.Tok.{toks}
-use Rattle.c_parse.specs.View.{context}
-use Rattle.c_parse.specs.ReadingLists.{comma_turn, separated}
-use Rattle.c_parse.specs.ReadingDeclarations.{param_at}
+use Rattle.c_parse.specs.inner.View.{context}
+use Rattle.c_parse.specs.inner.ReadingLists.{comma_turn, separated}
+use Rattle.c_parse.specs.inner.ReadingDeclarations.{param_at}
 use Rattle.c_parse.proofs.Loops.{Goes}
 use Rattle.c_parse.proofs.declaration.parameters.Given as goal
 

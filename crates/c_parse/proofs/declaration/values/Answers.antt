@@ -1,10 +1,10 @@
 use Rattle.std.proofs.Common.{◌≡◌, map, option_map, ℕ, ◌<◌, length, true, false, List, [], ◌∷◌, ◌++◌, Option, arith}
 use Rattle.std.proofs.lemmas.Result.{err_from_is_err_and}
 use Rattle.std.proofs.lemmas.List.{map_push}
-use Rattle.c_parse.specs.ReadingDeclarations as reading
-use Rattle.c_parse.specs.Reader.{at_more, behind}
+use Rattle.c_parse.specs.inner.ReadingDeclarations as reading
+use Rattle.c_parse.specs.inner.Reader.{at_more, behind}
 use Rattle.c_parse.specs.Tok.{toks}
-use Rattle.c_parse.specs.View.{context}
+use Rattle.c_parse.specs.inner.View.{context}
 use Rattle.c_tree.specs.Tree.{ExprT}
 use Rattle.c_tree.specs.View.{expr}
 use Rattle.c_parse.proofs.Loops.{goes_end, goes_fail, goes_turn}

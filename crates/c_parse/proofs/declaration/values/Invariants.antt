@@ -1,9 +1,9 @@
 use Rattle.std.proofs.Common.{length, map, option_map}
 use Rattle.c_tree.specs.View.{expr}
 use Rattle.c_parse.specs.Tok.{toks}
-use Rattle.c_parse.specs.View.{context}
-use Rattle.c_parse.specs.ReadingLists.{more_turn, listed}
-use Rattle.c_parse.specs.ReadingDeclarations.{value}
+use Rattle.c_parse.specs.inner.View.{context}
+use Rattle.c_parse.specs.inner.ReadingLists.{more_turn, listed}
+use Rattle.c_parse.specs.inner.ReadingDeclarations.{value}
 use Rattle.c_parse.proofs.Loops.{Goes}
 use Rattle.c_parse.proofs.declaration.values.Given as goal
 

@@ -1,10 +1,10 @@
 use Rattle.std.proofs.Common.{rules, ◌≡◌, map, ℕ, suc, ◌-◌, true, false, [], ◌∷◌, ◌++◌, arith, subst}
 use Rattle.std.proofs.lemmas.Result.{err_from_is_err_and}
 use Rattle.std.proofs.lemmas.List.{map_push}
-use Rattle.c_parse.specs.Reader.{at_comma, behind}
-use Rattle.c_parse.specs.ReadingDeclarations.{vars_at}
+use Rattle.c_parse.specs.inner.Reader.{at_comma, behind}
+use Rattle.c_parse.specs.inner.ReadingDeclarations.{vars_at}
 use Rattle.c_parse.specs.Tok.{toks}
-use Rattle.c_parse.specs.View.{context}
+use Rattle.c_parse.specs.inner.View.{context}
 use Rattle.c_tree.specs.View.{type, var}
 use Rattle.c_parse.proofs.Less.{var_less}
 use Rattle.c_parse.proofs.Turns.{behind_up}

@@ -1,8 +1,8 @@
 use Rattle.std.proofs.Common.{length, map, ◌-◌}
 use Rattle.c_tree.specs.View.{var}
 use Rattle.c_parse.specs.Tok.{toks}
-use Rattle.c_parse.specs.View.{context}
-use Rattle.c_parse.specs.ReadingDeclarations.{vars_at}
+use Rattle.c_parse.specs.inner.View.{context}
+use Rattle.c_parse.specs.inner.ReadingDeclarations.{vars_at}
 use Rattle.c_parse.proofs.VarLoops.{VarsGo}
 use Rattle.c_parse.proofs.declaration.variables.Given as goal
 

@@ -3,10 +3,10 @@ use Rattle.std.proofs.lemmas.Result.{err_from_is_err_and}
 use Rattle.std.proofs.lemmas.List.{map_push}
 use Rattle.c_parse.specs.declared.lead.TypeMark.TheVariants as type_mark
 use Rattle.c_parse.specs.Tok.{toks}
-use Rattle.c_parse.specs.Reader.{at_comma, at_close_paren, behind}
-use Rattle.c_parse.specs.Leads.{suffix_at, type_mark_at}
-use Rattle.c_parse.specs.View.{context}
-use Rattle.c_parse.specs.Reading.{operator_at, is_some_suffix, readers}
+use Rattle.c_parse.specs.inner.Reader.{at_comma, at_close_paren, behind}
+use Rattle.c_parse.specs.inner.Leads.{suffix_at, type_mark_at}
+use Rattle.c_parse.specs.inner.View.{context}
+use Rattle.c_parse.specs.inner.Reading.{operator_at, is_some_suffix, readers}
 use Rattle.c_tree.specs.View.{expr, type}
 use Rattle.c_tree.specs.Depth.{expr_depth, type_depth}
 use Rattle.c_parse.proofs.FrontsRead.{star-is, bracket-is}

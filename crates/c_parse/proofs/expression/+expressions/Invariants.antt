@@ -1,10 +1,10 @@
 use Rattle.std.proofs.Common.{◌≡◌, ◌≤◌, length, map, ◌+◌, ◌-◌, ◌*◌, Ok}
 use Rattle.c_tree.specs.View.{expr, exprs, type}
 use Rattle.c_tree.specs.Depth.{expr_depth, exprs_depth, type_depth}
-use Rattle.c_parse.specs.Reader.{loop}
+use Rattle.c_parse.specs.inner.Reader.{loop}
 use Rattle.c_parse.specs.Tok.{toks}
-use Rattle.c_parse.specs.View.{context}
-use Rattle.c_parse.specs.Reading.{readers, operator_turn, suffix_turn, exprs_turn, type_mark_turn, level_at, postfix_with, exprs_with, type_read}
+use Rattle.c_parse.specs.inner.View.{context}
+use Rattle.c_parse.specs.inner.Reading.{readers, operator_turn, suffix_turn, exprs_turn, type_mark_turn, level_at, postfix_with, exprs_with, type_read}
 use Rattle.c_parse.proofs.Loops.{Goes}
 use Rattle.c_parse.proofs.expression.+expressions.Given as goal
 

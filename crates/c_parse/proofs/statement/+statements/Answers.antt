@@ -1,10 +1,10 @@
 use Rattle.std.proofs.Common.{◌≡◌, map, true, false, [], ◌∷◌, ◌++◌, arith}
 use Rattle.std.proofs.lemmas.Result.{err_from_is_err_and}
 use Rattle.std.proofs.lemmas.List.{map_push}
-use Rattle.c_parse.specs.Reader.{at_close_brace}
-use Rattle.c_parse.specs.ReadingStatements.{bodies}
+use Rattle.c_parse.specs.inner.Reader.{at_close_brace}
+use Rattle.c_parse.specs.inner.ReadingStatements.{bodies}
 use Rattle.c_parse.specs.Tok.{toks}
-use Rattle.c_parse.specs.View.{context}
+use Rattle.c_parse.specs.inner.View.{context}
 use Rattle.c_tree.specs.View.{arm, stmt}
 use Rattle.c_parse.proofs.Loops.{goes_end, goes_fail, goes_turn}
 use Rattle.c_parse.proofs.ListTurns.{brace_end, brace_fail, brace_ok}

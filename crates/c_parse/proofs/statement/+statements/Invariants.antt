@@ -1,9 +1,9 @@
 use Rattle.std.proofs.Common.{length, map, ◌+◌, ◌*◌}
 use Rattle.c_tree.specs.View.{stmt, arm}
 use Rattle.c_parse.specs.Tok.{toks}
-use Rattle.c_parse.specs.View.{context}
-use Rattle.c_parse.specs.ReadingLists.{brace_turn, braced}
-use Rattle.c_parse.specs.ReadingStatements.{bodies}
+use Rattle.c_parse.specs.inner.View.{context}
+use Rattle.c_parse.specs.inner.ReadingLists.{brace_turn, braced}
+use Rattle.c_parse.specs.inner.ReadingStatements.{bodies}
 use Rattle.c_parse.proofs.Loops.{Goes}
 use Rattle.c_parse.proofs.statement.+statements.Given as goal
 

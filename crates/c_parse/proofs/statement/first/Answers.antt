@@ -1,7 +1,7 @@
 use Rattle.std.proofs.Common.{◌≡◌, true, false, arith}
-use Rattle.c_parse.specs.Leads.{begins_expr, begins_type}
+use Rattle.c_parse.specs.inner.Leads.{begins_expr, begins_type}
 use Rattle.c_parse.specs.Tok.{toks}
-use Rattle.c_parse.specs.View.{context}
+use Rattle.c_parse.specs.inner.View.{context}
 use Rattle.c_parse.proofs.CodeSteps.{first_none_type, first_none_expr, first_neither}
 use Rattle.c_parse.proofs.statement.first.Goals as goal
 

@@ -3,7 +3,7 @@ use Rattle.std.proofs.lemmas.Result.{err_from_is_err_and}
 use Rattle.std.proofs.lemmas.List.{map_push}
 use Rattle.c_tree.specs.View.{item}
 use Rattle.c_parse.specs.Tok.{toks}
-use Rattle.c_parse.specs.View.{context}
+use Rattle.c_parse.specs.inner.View.{context}
 use Rattle.c_parse.proofs.Less.{item_less}
 use Rattle.c_parse.proofs.Loops.{goes_end, goes_fail, goes_turn}
 use Rattle.c_parse.proofs.UnitTurns.{items_end, items_fail, items_go, unit_fails, unit_is, toks_length, some_left}

@@ -1,9 +1,9 @@
 use Rattle.std.proofs.Common.{length, map, []}
 use Rattle.c_tree.specs.View.{item}
 use Rattle.c_parse.specs.Tok.{toks}
-use Rattle.c_parse.specs.View.{context}
-use Rattle.c_parse.specs.Reader.{loop}
-use Rattle.c_parse.specs.ReadingUnits.{item_turn}
+use Rattle.c_parse.specs.inner.View.{context}
+use Rattle.c_parse.specs.inner.Reader.{loop}
+use Rattle.c_parse.specs.inner.ReadingUnits.{item_turn}
 use Rattle.c_parse.proofs.Loops.{Goes}
 use Rattle.c_parse.proofs.unit.read_unit.Given as goal
 

@@ -1,6 +1,6 @@
 use Rattle.std.proofs.Common.{◌≡◌, drop, map}
 use Rattle.c_prep.specs.Directives.{class_in}
-use Rattle.c_prep.specs.Inner.{listed}
+use Rattle.c_prep.specs.inner.Inner.{listed}
 use Rattle.c_prep.proofs.directive.class_among.Given as goal
 
 -- what the entries left say is what all say

@@ -1,5 +1,5 @@
 use Rattle.std.proofs.Common.{sym, subst}
-use Rattle.c_prep.specs.Inner.{ArePlaced}
+use Rattle.c_prep.specs.inner.Inner.{ArePlaced}
 use Rattle.c_prep.proofs.Directing.{line_parts}
 use Rattle.c_prep.proofs.Numbering.{placed_take, placed_drop}
 use Rattle.c_prep.proofs.directive.first_line.Goals as goal

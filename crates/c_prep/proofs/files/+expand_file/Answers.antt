@@ -8,7 +8,7 @@ use Rattle.c_lex.specs.declared.token.Token.{Token}
 use Rattle.c_prep.specs.declared.error.PrepErr.{PrepErr}
 use Rattle.c_prep.specs.Lines.{lines_of}
 use Rattle.c_prep.specs.Files.{Progress, Stop, Inclusion, include_in, include_at, file_at, refusal}
-use Rattle.c_prep.specs.Inner.{ArePlaced, GivesOut, included, so_far}
+use Rattle.c_prep.specs.inner.Inner.{ArePlaced, GivesOut, included, so_far}
 use Rattle.c_prep.specs.declared.error.Fault.TheVariants.{TooDeep}
 use Rattle.c_prep.specs.Faults.{fault_at}
 use Rattle.c_prep.specs.Numbers.{IsBelow}

@@ -6,7 +6,7 @@ use Rattle.kit_base.specs.Held.{Held}
 use Rattle.c_prep.specs.Faults.{◌>>=◌}
 use Rattle.c_prep.specs.Lines.{lines_of}
 use Rattle.c_prep.specs.Files.{file_at, include_at, lines_at, ended}
-use Rattle.c_prep.specs.Inner.{ArePlaced}
+use Rattle.c_prep.specs.inner.Inner.{ArePlaced}
 use Rattle.c_prep.proofs.files.+expand_file.Given as goal
 
 abbrev pub decreases-expand_file : goal.decreases-expand_file

@@ -1,7 +1,7 @@
 use Rattle.std.proofs.Common.{sym, subst}
 use Rattle.std.specs.Prelude.{Result}
 use Rattle.c_prep.specs.declared.error.PrepErr.{PrepErr}
-use Rattle.c_prep.specs.Inner.{PlacedPut}
+use Rattle.c_prep.specs.inner.Inner.{PlacedPut}
 use Rattle.c_prep.proofs.Numbering.{step_numbers}
 use Rattle.c_prep.proofs.files.step_line.Goals as goal
 

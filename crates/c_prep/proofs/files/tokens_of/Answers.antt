@@ -4,7 +4,7 @@ use Rattle.std.specs.declared.alloc.Global.{Global}
 use Rattle.c_lex.specs.declared.token.Token.{Token}
 use Rattle.c_lex.specs.Found.{reading_of}
 use Rattle.c_prep.specs.Files.{lexed}
-use Rattle.c_prep.specs.Inner.{GivesAs}
+use Rattle.c_prep.specs.inner.Inner.{GivesAs}
 use Rattle.c_prep.proofs.Including.{tokens_refused, tokens_read}
 use Rattle.c_prep.proofs.files.tokens_of.Goals as goal
 

@@ -2,7 +2,7 @@ use Rattle.std.proofs.Common.{◌≡◌, map, sym, ◌∙◌, ap}
 use Rattle.std.specs.Prelude.{Some, None, option_map}
 use Rattle.std.proofs.lemmas.Result.{err_from_is_err_and}
 use Rattle.c_prep.specs.Macros.{macro_of}
-use Rattle.c_prep.specs.Frames.{names, macro_in}
+use Rattle.c_prep.specs.inner.Frames.{names, macro_in}
 use Rattle.c_prep.proofs.Unwinding.{new_name, begins_macro, count_refused, put_plain}
 use Rattle.c_prep.proofs.replace.place.Goals as goal
 

@@ -3,7 +3,7 @@ use Rattle.std.proofs.lemmas.Result.{err_from_is_err_and}
 use Rattle.std.proofs.lemmas.List.{map_push}
 use Rattle.c_prep.specs.declared.replace.Frame.{Frame}
 use Rattle.c_prep.specs.Macros.{replaced_at}
-use Rattle.c_prep.specs.Frames.{unwound, unwound_after, at_place, names}
+use Rattle.c_prep.specs.inner.Frames.{unwound, unwound_after, at_place, names}
 use Rattle.c_prep.proofs.Unwinding.{refused, no_frames, next_of_top, top_done, unwound_none}
 use Rattle.c_prep.proofs.replace.replace_one.Goals as goal
 

@@ -1,6 +1,6 @@
 use Rattle.std.proofs.Common.{◌≡◌, ◌≤◌, [], length, map}
 use Rattle.c_prep.specs.Macros.{replaced_at}
-use Rattle.c_prep.specs.Frames.{names, unwound, work}
+use Rattle.c_prep.specs.inner.Frames.{names, unwound, work}
 use Rattle.c_prep.proofs.replace.replace_one.Given as goal
 
 abbrev pub invariant-each : goal.invariant-each

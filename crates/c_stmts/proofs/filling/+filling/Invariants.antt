@@ -3,7 +3,7 @@ use Rattle.c_tree.specs.View.{init, inits}
 use Rattle.c_types.specs.View.{ctype, layout, tinit}
 use Rattle.c_exprs.specs.View.{ctx}
 use Rattle.c_stmts.specs.Slots.{slots_for}
-use Rattle.c_stmts.specs.Places.{slots_behind}
+use Rattle.c_stmts.specs.inner.Places.{slots_behind}
 use Rattle.c_stmts.specs.InitTyping.{all_filled_by}
 use Rattle.c_stmts.proofs.InitFronts.{before}
 use Rattle.c_stmts.proofs.filling.+filling.Given as goal

@@ -1,8 +1,8 @@
 use Rattle.std.proofs.Common.{rules, ◌≡◌, ◌<◌, [], ◌∷◌, ◌++◌, length, map, refl}
 use Rattle.asm_laws.specs.Labelled.{label_of_function}
 use Rattle.cycle_bound.specs.Told.{IsBoundOf}
-use Rattle.cycle_bound.specs.Places.{told, place_in, gathered, node_of}
-use Rattle.cycle_bound.specs.Settled.{known}
+use Rattle.cycle_bound.specs.inner.Places.{told, place_in, gathered, node_of}
+use Rattle.cycle_bound.specs.inner.Settled.{known}
 use Rattle.cycle_bound.proofs.Telling.{bound_of, each_on}
 use Rattle.cycle_bound.proofs.bound.bounds.Goals as goal
 

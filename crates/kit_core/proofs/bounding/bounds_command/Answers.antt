@@ -7,7 +7,7 @@ use Rattle.kit_tools.specs.Carrying.{FailsIn}
 use Rattle.kit_tools.specs.declared.refusal.Refusal.TheVariants as refusals
 use Rattle.kit_tools.specs.declared.shown.Shown.TheVariants as shown
 use Rattle.kit_core.specs.Due.{bounds_work, read_bounds_due}
-use Rattle.kit_core.specs.Checking.{TextBuilt}
+use Rattle.kit_core.specs.inner.Checking.{TextBuilt}
 use Rattle.kit_core.proofs.Bounds.{bounds_of, nothing}
 use Rattle.kit_core.proofs.Projects.{Left, left_unread, left_refused, left_done, left_cut}
 use Rattle.kit_core.proofs.bounding.bounds_command.Goals as goal

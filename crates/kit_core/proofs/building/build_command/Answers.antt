@@ -6,7 +6,7 @@ use Rattle.build_core.specs.Reached.{IsReadToBuild}
 use Rattle.kit_tools.specs.Carrying.{FailsIn}
 use Rattle.kit_tools.specs.declared.shown.Shown.TheVariants as shown
 use Rattle.kit_core.specs.Due.{built_work, read_build_due}
-use Rattle.kit_core.specs.Checking.{TextBuilt}
+use Rattle.kit_core.specs.inner.Checking.{TextBuilt}
 use Rattle.kit_core.proofs.Builds.{built_due}
 use Rattle.kit_core.proofs.Projects.{Left, left_unread, left_refused, left_done, left_cut}
 use Rattle.kit_core.proofs.building.build_command.Goals as goal

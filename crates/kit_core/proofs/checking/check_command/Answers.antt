@@ -6,7 +6,7 @@ use Rattle.kit_tools.specs.Carrying.{FailsIn}
 use Rattle.kit_tools.specs.Work.{accepted}
 use Rattle.kit_tools.specs.declared.shown.Shown.TheVariants as shown
 use Rattle.kit_core.specs.Due.{read_check_due}
-use Rattle.kit_core.specs.Checking.{TextChecked}
+use Rattle.kit_core.specs.inner.Checking.{TextChecked}
 use Rattle.kit_core.proofs.Checks.{accepted_due}
 use Rattle.kit_core.proofs.Projects.{Left, left_unread, left_refused, left_done}
 use Rattle.kit_core.proofs.checking.check_command.Goals as goal

@@ -4,7 +4,7 @@ use Rattle.build_core.specs.Build.{IsBuilt}
 use Rattle.build_core.specs.Reached.{IsReadToBuild}
 use Rattle.gen_source.specs.Source.{project_text}
 use Rattle.kit_tools.specs.Carrying.{FailsIn}
-use Rattle.kit_core.specs.Checking.{TextBuilt}
+use Rattle.kit_core.specs.inner.Checking.{TextBuilt}
 use Rattle.kit_core.proofs.Generates.{GenLeft, gen_left, gen_refused}
 use Rattle.kit_core.proofs.generating.build_made.Goals as goal
 

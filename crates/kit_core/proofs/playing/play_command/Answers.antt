@@ -6,7 +6,7 @@ use Rattle.build_core.specs.Reached.{IsReadToBuild}
 use Rattle.kit_tools.specs.declared.refusal.Refusal.TheVariants as refusals
 use Rattle.kit_words.specs.Parsed.{run_words_from}
 use Rattle.kit_tools.specs.Carrying.{FailsIn, GivesBy}
-use Rattle.kit_core.specs.Checking.{TextBuilt}
+use Rattle.kit_core.specs.inner.Checking.{TextBuilt}
 use Rattle.kit_core.specs.Due.{IsReadToPlay, read_play_due}
 use Rattle.kit_tools.specs.Gaming.{settings_of}
 use Rattle.kit_tools.specs.Running.{IsReadToSet, settings_due}

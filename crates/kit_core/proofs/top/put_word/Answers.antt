@@ -1,6 +1,6 @@
 use Rattle.std.proofs.Common.{rules, ◌≡◌, ◌++◌, subst}
 use Rattle.gen_source.specs.Summary.{summary_end}
-use Rattle.kit_core.specs.Putting.{Shows}
+use Rattle.kit_core.specs.inner.Putting.{Shows}
 use Rattle.kit_core.proofs.Showing.{shown_twice}
 use Rattle.kit_core.proofs.top.put_word.Goals as goal
 

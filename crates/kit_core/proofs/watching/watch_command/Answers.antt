@@ -7,7 +7,7 @@ use Rattle.kit_tools.specs.declared.refusal.Refusal.TheVariants as refusals
 use Rattle.kit_words.specs.Number.{number_of}
 use Rattle.kit_words.specs.Parsed.{watch_words_from}
 use Rattle.kit_tools.specs.Carrying.{FailsIn, GivesBy}
-use Rattle.kit_core.specs.Checking.{TextBuilt}
+use Rattle.kit_core.specs.inner.Checking.{TextBuilt}
 use Rattle.kit_core.specs.Due.{IsReadToWatch, read_watch_due}
 use Rattle.kit_tools.specs.Gaming.{settings_of}
 use Rattle.kit_tools.specs.Watching.{IsReadToSetWatch, is_watch_count, watch_settings_due}

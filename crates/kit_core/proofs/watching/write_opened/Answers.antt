@@ -1,7 +1,7 @@
 use Rattle.std.proofs.Common.{rules, ◌≡◌}
 use Rattle.c_check.specs.View.{program}
 use Rattle.kit_words.specs.Parsed.{watch_words_from}
-use Rattle.kit_core.specs.Following.{shown_by}
+use Rattle.kit_core.specs.inner.Following.{shown_by}
 use Rattle.kit_core.specs.Watching.{verdict_at, watched_in}
 use Rattle.kit_core.proofs.Watches.{watch_built_cut, watch_judged}
 use Rattle.kit_core.proofs.watching.write_opened.Goals as goal

@@ -1,7 +1,7 @@
 use Rattle.std.proofs.Common.{◌∙◌, ap}
 use Rattle.std.proofs.lemmas.Result.{IfOk-weaker}
 use Rattle.kit_words.specs.Forms.{Builds, Checks, Runs, Plays, Watches, TellsBounds, Traces, Generates}
-use Rattle.kit_words.specs.CommandLine.{with_converting, with_listed}
+use Rattle.kit_words.specs.inner.CommandLine.{with_converting, with_listed}
 use Rattle.kit_words.proofs.command_line.command_line.Goals as goal
 
 pub returns : goal.returns

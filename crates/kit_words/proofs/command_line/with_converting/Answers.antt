@@ -2,7 +2,7 @@ use Rattle.std.proofs.Common.{◌∙◌, ap}
 use Rattle.std.proofs.lemmas.Result.{IfOk-weaker}
 use Rattle.kit_words.specs.declared.conversion.Conversion.TheVariants.{Assemble, Disassemble}
 use Rattle.kit_words.specs.Forms.{Converts}
-use Rattle.kit_words.specs.CommandLine.{with_listed}
+use Rattle.kit_words.specs.inner.CommandLine.{with_listed}
 use Rattle.kit_words.proofs.command_line.with_converting.Goals as goal
 
 pub returns : goal.returns

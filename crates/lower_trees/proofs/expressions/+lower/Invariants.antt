@@ -5,7 +5,7 @@ use Rattle.lower_trees.specs.Shape.{params_of}
 use Rattle.lower_trees.specs.Counts.{temps_all, sizes_all}
 use Rattle.lower_trees.specs.Expressions.{spots}
 use Rattle.lower_trees.specs.ListedExpressions.{low_args}
-use Rattle.lower_trees.specs.MaybeTypes.{or_none}
+use Rattle.lower_trees.specs.inner.MaybeTypes.{or_none}
 use Rattle.lower_trees.specs.View.{shape_of}
 use Rattle.lower_trees.proofs.expressions.+lower.Given as goal
 

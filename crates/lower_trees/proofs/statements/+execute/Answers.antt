@@ -10,7 +10,7 @@ use Rattle.lower_trees.specs.Counts.{value_temps, maybe_temps, stmt_temps, other
 use Rattle.lower_trees.specs.ListedParts.{converted}
 use Rattle.lower_trees.specs.ListedExpressions.{low_value}
 use Rattle.lower_trees.specs.ListedStatements.{depth, low_label, returned, low_stmt, low_arms}
-use Rattle.lower_trees.specs.MaybeStatements.{other_of}
+use Rattle.lower_trees.specs.inner.MaybeStatements.{other_of}
 use Rattle.lower_trees.specs.View.{shape_of, jump_of}
 use Rattle.lower_trees.proofs.StatementForms.{return_nodes, if_length, do_while_length, for_length, switch_length, arms_many}
 use Rattle.lower_trees.proofs.Viewed.{stmts_left, arms_left, stmts_drop, arms_drop}

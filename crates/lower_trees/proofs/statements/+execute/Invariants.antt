@@ -4,7 +4,7 @@ use Rattle.c_types.specs.Nodes.{statement_nodes, maybe_statement_nodes, statemen
 use Rattle.mid_code.specs.Functions.{node}
 use Rattle.lower_trees.specs.Counts.{stmts_temps, stmts_sizes, arms_temps, arms_sizes}
 use Rattle.lower_trees.specs.ListedStatements.{low_stmts, low_arms, arms_open}
-use Rattle.lower_trees.specs.MaybeStatements.{other_of}
+use Rattle.lower_trees.specs.inner.MaybeStatements.{other_of}
 use Rattle.lower_trees.specs.View.{shape_of, jump_of}
 use Rattle.lower_trees.proofs.statements.+execute.Given as goal
 

@@ -1,8 +1,8 @@
 use Rattle.std.proofs.Common.{rules, ◌≡◌, ◌∙◌, ◌&&◌, [], not, map}
 use Rattle.std.specs.List.{list_all}
 use Rattle.mid_code.specs.Functions.{node, listed}
-use Rattle.mid_copies.specs.Copying.{marked}
-use Rattle.mid_copies.specs.Listed.{list_right}
+use Rattle.mid_copies.specs.inner.Copying.{marked}
+use Rattle.mid_copies.specs.inner.Listed.{list_right}
 use Rattle.mid_copies.proofs.Joined.{right_is}
 use Rattle.mid_copies.proofs.functions.is_function_right.Goals as goal
 

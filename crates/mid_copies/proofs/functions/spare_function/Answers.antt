@@ -1,6 +1,6 @@
 use Rattle.std.proofs.Common.{rules, ◌≡◌, true, sym, subst}
 use Rattle.mid_code.specs.Functions.{function}
-use Rattle.mid_copies.specs.Copying.{marked, is_right}
+use Rattle.mid_copies.specs.inner.Copying.{marked, is_right}
 use Rattle.mid_copies.proofs.Joined.{tidied_by}
 use Rattle.mid_copies.proofs.functions.spare_function.Goals as goal
 

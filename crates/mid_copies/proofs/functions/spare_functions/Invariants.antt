@@ -1,7 +1,7 @@
 use Rattle.std.proofs.Common.{ℕ, List, ◌++◌, map, length}
 use Rattle.mid_code.specs.Code.{FunctionT}
 use Rattle.mid_code.specs.Functions.{function}
-use Rattle.mid_copies.specs.Sinking.{AreTidiedBy}
+use Rattle.mid_copies.specs.inner.Sinking.{AreTidiedBy}
 use Rattle.mid_copies.proofs.functions.spare_functions.Given as goal
 
 abbrev pub invariant-functions : goal.invariant-functions

@@ -1,7 +1,7 @@
 use Rattle.std.proofs.Common.{rules, ◌≡◌, [], map, None}
 use Rattle.mid_code.specs.Functions.{function, node, listed}
-use Rattle.mid_copies.specs.Copying.{marked}
-use Rattle.mid_copies.specs.Listed.{list_sunk, list_spared}
+use Rattle.mid_copies.specs.inner.Copying.{marked}
+use Rattle.mid_copies.specs.inner.Listed.{list_sunk, list_spared}
 use Rattle.mid_copies.proofs.Joined.{function_is, spared_joined}
 use Rattle.mid_copies.proofs.functions.without.Goals as goal
 

@@ -1,5 +1,5 @@
 use Rattle.std.proofs.Common.{◌≡◌, ◌++◌, drop}
-use Rattle.mid_copies.specs.Copying.{behind}
+use Rattle.mid_copies.specs.inner.Copying.{behind}
 use Rattle.mid_copies.proofs.known.behind.Given as goal
 
 abbrev pub invariant-loop-copy : goal.invariant-loop-copy

@@ -1,5 +1,5 @@
 use Rattle.std.proofs.Common.{◌≡◌, drop}
-use Rattle.mid_copies.specs.Copying.{is_copy}
+use Rattle.mid_copies.specs.inner.Copying.{is_copy}
 use Rattle.mid_copies.proofs.known.is_copy.Given as goal
 
 abbrev pub invariant-loop-copy : goal.invariant-loop-copy

@@ -1,5 +1,5 @@
 use Rattle.std.proofs.Common.{◌≡◌, ◌++◌, drop}
-use Rattle.mid_copies.specs.Copying.{used_up}
+use Rattle.mid_copies.specs.inner.Copying.{used_up}
 use Rattle.mid_copies.proofs.known.used_up.Given as goal
 
 abbrev pub invariant-loop-copy : goal.invariant-loop-copy

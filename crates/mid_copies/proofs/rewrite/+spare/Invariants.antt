@@ -1,7 +1,7 @@
 use Rattle.std.proofs.Common.{◌≡◌, ◌++◌, [], map, drop}
 use Rattle.mid_code.specs.Functions.{node, listed}
-use Rattle.mid_copies.specs.Copying.{marked}
-use Rattle.mid_copies.specs.Listed.{list_spared}
+use Rattle.mid_copies.specs.inner.Copying.{marked}
+use Rattle.mid_copies.specs.inner.Listed.{list_spared}
 use Rattle.mid_copies.proofs.rewrite.+spare.Given as goal
 
 abbrev pub invariant-spare_nodes-loop-n : goal.invariant-spare_nodes-loop-n

@@ -1,5 +1,5 @@
 use Rattle.std.proofs.Common.{◌≡◌, ◌++◌, drop, map}
-use Rattle.mid_copies.specs.Copying.{origin}
+use Rattle.mid_copies.specs.inner.Copying.{origin}
 use Rattle.mid_copies.proofs.rewrite.origins.Given as goal
 
 abbrev pub invariant-loop-q : goal.invariant-loop-q

@@ -1,7 +1,7 @@
 use Rattle.std.proofs.Common.{◌≡◌, [], map, drop}
 use Rattle.mid_code.specs.Functions.{node, listed}
-use Rattle.mid_copies.specs.Copying.{marked}
-use Rattle.mid_copies.specs.Listed.{list_right}
+use Rattle.mid_copies.specs.inner.Copying.{marked}
+use Rattle.mid_copies.specs.inner.Listed.{list_right}
 use Rattle.mid_copies.proofs.right.+right.Given as goal
 
 abbrev pub invariant-are_nodes_right-loop-n : goal.invariant-are_nodes_right-loop-n

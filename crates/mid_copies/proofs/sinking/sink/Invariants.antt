@@ -1,7 +1,7 @@
 use Rattle.std.proofs.Common.{◌≡◌, ◌++◌, None, map}
 use Rattle.mid_code.specs.Functions.{node}
-use Rattle.mid_copies.specs.Listed.{list_sunk}
-use Rattle.mid_copies.specs.Holding.{held_of}
+use Rattle.mid_copies.specs.inner.Listed.{list_sunk}
+use Rattle.mid_copies.specs.inner.Holding.{held_of}
 use Rattle.mid_copies.proofs.sinking.sink.Given as goal
 
 abbrev pub invariant-loop-n : goal.invariant-loop-n

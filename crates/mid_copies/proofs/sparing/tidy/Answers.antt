@@ -3,7 +3,7 @@ use Rattle.mid_code.specs.Functions.{function}
 use Rattle.mid_code.specs.View.{code}
 use Rattle.mid_code.specs.Whole.{mid}
 use Rattle.mid_code.specs.Invariants.{IsMid}
-use Rattle.mid_copies.specs.Sinking.{IsTidiedBy, AreTidiedBy}
+use Rattle.mid_copies.specs.inner.Sinking.{IsTidiedBy, AreTidiedBy}
 use Rattle.mid_copies.specs.SparedFrom.{IsSparedFrom}
 use Rattle.mid_copies.proofs.Programs.{with_functions}
 use Rattle.mid_copies.proofs.Tidy.{is_tidied}

@@ -5,8 +5,8 @@ use Rattle.mid_code.specs.Meaning.{Did, On, Res, Next, Leaves, Repeats, Returns,
 use Rattle.mid_code.specs.States.{function_at, spent}
 use Rattle.mid_evaluate.specs.declared.flow.Flow.{Flow}
 use Rattle.mid_evaluate.specs.declared.stop.Stop.{Stop}
-use Rattle.mid_evaluate.specs.Answers.{S, Leads, Stops, went}
-use Rattle.mid_evaluate.specs.Once.{caller_of, looped, node_once, ran, returned, turn_left}
+use Rattle.mid_evaluate.specs.inner.Answers.{S, Leads, Stops, went}
+use Rattle.mid_evaluate.specs.inner.Once.{caller_of, looped, node_once, ran, returned, turn_left}
 use Rattle.mid_evaluate.specs.View.{caller, code_of, state_of}
 use Rattle.mid_evaluate.proofs.Sizes.{count, count_one, most, split, node_falls, called_falls}
 use Rattle.mid_evaluate.proofs.Following.{entering, calling, call_stops, call_leads, turn_next, list_on, list_out, list_stops}

@@ -1,6 +1,6 @@
 use Rattle.std.proofs.Common.{◌≡◌, ◌+◌, ◌*◌, ◌≤◌, map, drop}
 use Rattle.mid_code.specs.Functions.{node, nodes, listed, joined}
-use Rattle.mid_evaluate.specs.Once.{looped, ran}
+use Rattle.mid_evaluate.specs.inner.Once.{looped, ran}
 use Rattle.mid_evaluate.specs.View.{code_of, state_of}
 use Rattle.mid_evaluate.proofs.Sizes.{count, count_one, most}
 use Rattle.mid_evaluate.proofs.nodes.+nodes.Given as goal

@@ -1,6 +1,6 @@
 use Rattle.std.proofs.Common.{rules, ◌≡◌, [], map}
 use Rattle.mid_code.specs.Functions.{function, node, listed}
-use Rattle.mid_fold.specs.Listed.{list_folded}
+use Rattle.mid_fold.specs.inner.Listed.{list_folded}
 use Rattle.mid_fold.proofs.Joined.{function_is, folded_joined}
 use Rattle.mid_fold.proofs.functions.fold_function.Goals as goal
 

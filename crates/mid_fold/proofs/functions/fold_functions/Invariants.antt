@@ -1,6 +1,6 @@
 use Rattle.std.proofs.Common.{◌≡◌, ◌++◌, map, drop}
 use Rattle.mid_code.specs.Functions.{function}
-use Rattle.mid_fold.specs.Folding.{folded_function}
+use Rattle.mid_fold.specs.inner.Folding.{folded_function}
 use Rattle.mid_fold.proofs.functions.fold_functions.Given as goal
 
 abbrev pub invariant-loop-f : goal.invariant-loop-f

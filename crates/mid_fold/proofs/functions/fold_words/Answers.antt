@@ -3,7 +3,7 @@ use Rattle.mid_code.specs.Functions.{function}
 use Rattle.mid_code.specs.View.{code}
 use Rattle.mid_code.specs.Whole.{mid}
 use Rattle.mid_code.specs.Invariants.{IsMid}
-use Rattle.mid_fold.specs.Folding.{folded_function}
+use Rattle.mid_fold.specs.inner.Folding.{folded_function}
 use Rattle.mid_fold.specs.FoldedFrom.{IsFoldedFrom}
 use Rattle.mid_fold.proofs.Folds.{with_functions, is_folded}
 use Rattle.mid_fold.proofs.functions.fold_words.Goals as goal

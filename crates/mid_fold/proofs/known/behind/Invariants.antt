@@ -1,5 +1,5 @@
 use Rattle.std.proofs.Common.{◌≡◌, ◌++◌, drop}
-use Rattle.mid_fold.specs.Folding.{behind}
+use Rattle.mid_fold.specs.inner.Folding.{behind}
 use Rattle.mid_fold.proofs.known.behind.Given as goal
 
 abbrev pub invariant-loop-known : goal.invariant-loop-known

@@ -1,5 +1,5 @@
 use Rattle.std.proofs.Common.{◌≡◌, drop}
-use Rattle.mid_fold.specs.Folding.{word_in}
+use Rattle.mid_fold.specs.inner.Folding.{word_in}
 use Rattle.mid_fold.proofs.known.word_in.Given as goal
 
 abbrev pub invariant-loop-known : goal.invariant-loop-known

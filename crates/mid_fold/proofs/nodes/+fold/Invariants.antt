@@ -1,6 +1,6 @@
 use Rattle.std.proofs.Common.{◌≡◌, ◌++◌, map, drop}
 use Rattle.mid_code.specs.Functions.{node, listed}
-use Rattle.mid_fold.specs.Listed.{list_folded}
+use Rattle.mid_fold.specs.inner.Listed.{list_folded}
 use Rattle.mid_fold.proofs.nodes.+fold.Given as goal
 
 abbrev pub invariant-fold_nodes-loop-n : goal.invariant-fold_nodes-loop-n

@@ -1,7 +1,7 @@
 use Rattle.std.proofs.Common.{◌≡◌, ℕ, ◌||◌, ◌&&◌, not, drop}
 use Rattle.mid_live.specs.Sets.{on}
 use Rattle.mid_code.specs.Live.{is_among}
-use Rattle.mid_live.specs.Words.{some}
+use Rattle.mid_live.specs.inner.Words.{some}
 use Rattle.mid_live.proofs.words.gone_from.Given as goal
 
 abbrev pub invariant-loop-e : goal.invariant-loop-e

@@ -1,6 +1,6 @@
 use Rattle.std.proofs.Common.{length, drop, ◌≡◌, ℕ, ◌<◌, ◌||◌}
 use Rattle.mid_live.specs.Sets.{on, room}
-use Rattle.mid_live.specs.Words.{some, IsHeld}
+use Rattle.mid_live.specs.inner.Words.{some, IsHeld}
 use Rattle.mid_live.proofs.words.join_words.Given as goal
 
 abbrev pub invariant-loop-e : goal.invariant-loop-e

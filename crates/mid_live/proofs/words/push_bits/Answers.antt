@@ -1,5 +1,5 @@
 use Rattle.std.proofs.Common.{rules, arith, ◌≡◌, ◌<◌, ◌+◌, ◌*◌, ◌%◌, ◌^◌, ◌∷◌, [], ◌++◌, true}
-use Rattle.mid_live.specs.Words.{bit}
+use Rattle.mid_live.specs.inner.Words.{bit}
 use Rattle.mid_live.proofs.Written.{bits_found}
 use Rattle.mid_live.proofs.words.push_bits.Goals as goal
 

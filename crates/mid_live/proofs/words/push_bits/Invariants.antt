@@ -1,6 +1,6 @@
 use Rattle.std.proofs.Common.{◌-◌, ◌≡◌, ℕ, ◌/◌, ◌%◌, ◌≤◌, ◌||◌, ◌&&◌, eqb, ltb}
 use Rattle.mid_code.specs.Live.{is_among}
-use Rattle.mid_live.specs.Words.{bit}
+use Rattle.mid_live.specs.inner.Words.{bit}
 use Rattle.mid_live.proofs.words.push_bits.Given as goal
 
 abbrev pub invariant-bits : goal.invariant-bits

@@ -1,5 +1,5 @@
 use Rattle.std.proofs.Common.{length, drop, replicate, ◌≡◌}
-use Rattle.mid_live.specs.Words.{IsHeld, spread}
+use Rattle.mid_live.specs.inner.Words.{IsHeld, spread}
 use Rattle.mid_live.proofs.words.restore_words.Given as goal
 
 abbrev pub invariant-loop-e : goal.invariant-loop-e

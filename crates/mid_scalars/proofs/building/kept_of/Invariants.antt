@@ -1,5 +1,5 @@
 use Rattle.std.proofs.Common.{◌≡◌, ◌++◌, length}
-use Rattle.mid_scalars.specs.Table.{kept}
+use Rattle.mid_scalars.specs.inner.Table.{kept}
 use Rattle.mid_scalars.proofs.building.kept_of.Given as goal
 
 abbrev pub invariant-loop-size : goal.invariant-loop-size

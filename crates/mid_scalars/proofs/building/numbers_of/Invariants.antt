@@ -1,5 +1,5 @@
 use Rattle.std.proofs.Common.{◌≡◌, ◌≤◌, ◌+◌, ◌++◌, length}
-use Rattle.mid_scalars.specs.Tabled.{numbers_from, falses}
+use Rattle.mid_scalars.specs.inner.Tabled.{numbers_from, falses}
 use Rattle.mid_scalars.proofs.building.numbers_of.Given as goal
 
 abbrev pub invariant-loop-is_plain : goal.invariant-loop-is_plain

@@ -1,6 +1,6 @@
 use Rattle.std.proofs.Common.{rules, arith, ◌≡◌}
 use Rattle.mid_code.specs.Functions.{function}
-use Rattle.mid_scalars.specs.Table.{flags}
+use Rattle.mid_scalars.specs.inner.Table.{flags}
 use Rattle.mid_scalars.proofs.Tabled.{flags_long}
 use Rattle.mid_scalars.proofs.building.table_of.Goals as goal
 

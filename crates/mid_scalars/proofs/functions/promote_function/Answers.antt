@@ -1,8 +1,8 @@
 use Rattle.std.proofs.Common.{rules, arith, None, ◌≡◌, ◌+◌, ◌-◌, length, map}
 use Rattle.mid_code.specs.Functions.{function, node, listed}
-use Rattle.mid_scalars.specs.Table.{kept}
-use Rattle.mid_scalars.specs.Rewriting.{list_by, plan_by}
-use Rattle.mid_scalars.specs.Tabled.{IsTableOf}
+use Rattle.mid_scalars.specs.inner.Table.{kept}
+use Rattle.mid_scalars.specs.inner.Rewriting.{list_by, plan_by}
+use Rattle.mid_scalars.specs.inner.Tabled.{IsTableOf}
 use Rattle.mid_scalars.proofs.Rewritten.{rewritten}
 use Rattle.mid_scalars.proofs.Promised.{function_is, table_fits, table_long, table_least}
 use Rattle.mid_scalars.proofs.functions.promote_function.Goals as goal

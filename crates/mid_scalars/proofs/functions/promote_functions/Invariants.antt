@@ -1,6 +1,6 @@
 use Rattle.std.proofs.Common.{◌≡◌, ◌++◌, map, length}
 use Rattle.mid_code.specs.Functions.{function}
-use Rattle.mid_scalars.specs.Alone.{promoted_alone, ArePromotable}
+use Rattle.mid_scalars.specs.inner.Alone.{promoted_alone, ArePromotable}
 use Rattle.mid_scalars.proofs.functions.promote_functions.Given as goal
 
 abbrev pub invariant-loop-f : goal.invariant-loop-f

@@ -1,8 +1,8 @@
 use Rattle.std.proofs.Common.{◌≡◌, ◌<◌, ◌&&◌, ℕ, length, drop}
 use Rattle.mid_code.specs.Functions.{nodes}
-use Rattle.mid_scalars.specs.Table.{all_nodes}
-use Rattle.mid_scalars.specs.Purposes.{takes_by, role_at}
-use Rattle.mid_scalars.specs.Flags.{flag_at}
+use Rattle.mid_scalars.specs.inner.Table.{all_nodes}
+use Rattle.mid_scalars.specs.inner.Purposes.{takes_by, role_at}
+use Rattle.mid_scalars.specs.inner.Flags.{flag_at}
 use Rattle.mid_scalars.proofs.plain.+flags.Given as goal
 
 abbrev pub invariant-nodes_flags-loop-n : goal.invariant-nodes_flags-loop-n

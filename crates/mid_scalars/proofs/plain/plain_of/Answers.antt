@@ -1,8 +1,8 @@
 use Rattle.std.proofs.Common.{rules, ◌≡◌, ◌∙◌, ◌<◌, ◌&&◌, ℕ, eqb, length, map, drop}
 use Rattle.mid_code.specs.Functions.{function}
-use Rattle.mid_scalars.specs.Table.{all_nodes}
-use Rattle.mid_scalars.specs.Purposes.{role_at, takes_by}
-use Rattle.mid_scalars.specs.Flags.{flag_at}
+use Rattle.mid_scalars.specs.inner.Table.{all_nodes}
+use Rattle.mid_scalars.specs.inner.Purposes.{role_at, takes_by}
+use Rattle.mid_scalars.specs.inner.Flags.{flag_at}
 use Rattle.mid_scalars.proofs.Flagging.{flags_are, taken_back}
 use Rattle.mid_scalars.proofs.plain.plain_of.Goals as goal
 

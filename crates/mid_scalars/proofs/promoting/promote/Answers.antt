@@ -3,7 +3,7 @@ use Rattle.mid_code.specs.Functions.{function}
 use Rattle.mid_code.specs.View.{code}
 use Rattle.mid_code.specs.Whole.{mid}
 use Rattle.mid_code.specs.Invariants.{IsMid}
-use Rattle.mid_scalars.specs.Alone.{promoted_alone}
+use Rattle.mid_scalars.specs.inner.Alone.{promoted_alone}
 use Rattle.mid_scalars.specs.PromotedFrom.{IsPromotedFrom}
 use Rattle.mid_scalars.proofs.MidAgain.{promote_mid}
 use Rattle.mid_scalars.proofs.Promised.{program_is, is_promoted_from}

@@ -1,6 +1,6 @@
 use Rattle.std.proofs.Common.{◌≡◌, ◌++◌, None, map, drop}
 use Rattle.mid_code.specs.Functions.{node, listed}
-use Rattle.mid_scalars.specs.Rewriting.{list_by, plan_by}
+use Rattle.mid_scalars.specs.inner.Rewriting.{list_by, plan_by}
 use Rattle.mid_scalars.proofs.rewrite.+promote.Given as goal
 
 abbrev pub invariant-promote_nodes-loop-n : goal.invariant-promote_nodes-loop-n

@@ -1,6 +1,6 @@
 use Rattle.std.proofs.Common.{◌≡◌, ◌<◌, ℕ, length, drop}
 use Rattle.mid_code.specs.Functions.{nodes}
-use Rattle.mid_scalars.specs.Purposes.{role_in, role_at}
+use Rattle.mid_scalars.specs.inner.Purposes.{role_in, role_at}
 use Rattle.mid_scalars.proofs.walk.+roles.Given as goal
 
 abbrev pub invariant-nodes_roles-loop-n : goal.invariant-nodes_roles-loop-n

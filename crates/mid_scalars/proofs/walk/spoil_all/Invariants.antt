@@ -1,5 +1,5 @@
 use Rattle.std.proofs.Common.{◌≡◌, ◌<◌, ℕ, length, drop}
-use Rattle.mid_scalars.specs.Purposes.{spoilt, role_at}
+use Rattle.mid_scalars.specs.inner.Purposes.{spoilt, role_at}
 use Rattle.mid_scalars.proofs.walk.spoil_all.Given as goal
 
 abbrev pub invariant-loop-x : goal.invariant-loop-x

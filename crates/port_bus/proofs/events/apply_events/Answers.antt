@@ -1,7 +1,7 @@
 use Rattle.std.proofs.Common.{◌≡◌, inl, inr, ℕ, ◌<◌, ◌+◌, arith, sym, ◌∙◌, Some, None, length, slice_get, subst, set}
 use Rattle.std.proofs.lemmas.Bool.{cases_lt}
 use Rattle.std.proofs.lemmas.Option.{slice_get_within}
-use Rattle.port_bus.specs.Kept.{AreDowns}
+use Rattle.port_bus.specs.inner.Kept.{AreDowns}
 use Rattle.port_bus.proofs.Applying.{downs_more, stopped, ended}
 use Rattle.port_bus.proofs.events.apply_events.Goals as goal
 

@@ -1,6 +1,6 @@
 use Rattle.std.proofs.Common.{◌≡◌, ℕ, ◌<◌, ◌≤◌, ◌+◌, ◌-◌, length, Some, slice_get}
 use Rattle.run_files.specs.declared.pads.PadEvent.{PadEvent}
-use Rattle.port_bus.specs.Kept.{AreDowns}
+use Rattle.port_bus.specs.inner.Kept.{AreDowns}
 use Rattle.port_bus.proofs.events.apply_events.Given as goal
 
 abbrev pub invariant-each : goal.invariant-each

@@ -1,6 +1,6 @@
 use Rattle.std.proofs.Common.{◌||◌, false, eqb, subst}
 use Rattle.mid_live.specs.Sets.{on}
-use Rattle.reg_choose.specs.Holding.{Laid}
+use Rattle.reg_choose.specs.inner.Holding.{Laid}
 use Rattle.reg_choose.proofs.Holders.{laid_less, laid_more}
 use Rattle.reg_choose.proofs.checks.lay_both.Goals as goal
 

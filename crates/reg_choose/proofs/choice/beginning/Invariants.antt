@@ -1,5 +1,5 @@
 use Rattle.std.proofs.Common.{◌≡◌, ◌++◌, map, drop}
-use Rattle.reg_choose.specs.Handing.{first_got}
+use Rattle.reg_choose.specs.inner.Handing.{first_got}
 use Rattle.reg_choose.proofs.choice.beginning.Given as goal
 
 abbrev pub invariant-loop-o : goal.invariant-loop-o

@@ -5,9 +5,9 @@ use Rattle.mid_code.specs.Functions.{function}
 use Rattle.mid_code.specs.Safe.{IsSafe, SparesSlots}
 use Rattle.reg_choose.specs.declared.trail.Trail.{Trail}
 use Rattle.reg_choose.specs.declared.interval.Interval.{Interval}
-use Rattle.reg_choose.specs.Scan.{scan, AllG, Has}
-use Rattle.reg_choose.specs.Trails.{trail_at}
-use Rattle.reg_choose.specs.Handing.{span, flag, kept, got, give, first_got, numbered, spans_from}
+use Rattle.reg_choose.specs.inner.Scan.{scan, AllG, Has}
+use Rattle.reg_choose.specs.inner.Trails.{trail_at}
+use Rattle.reg_choose.specs.inner.Handing.{span, flag, kept, got, give, first_got, numbered, spans_from}
 use Rattle.reg_choose.proofs.Chooser.{Made, made_safe, made_spares}
 use Rattle.reg_choose.proofs.Tenants.{got_begun}
 use Rattle.reg_choose.proofs.choice.choose.Goals as goal

@@ -1,5 +1,5 @@
 use Rattle.std.proofs.Common.{◌≡◌, ◌++◌, ◌≤◌, drop}
-use Rattle.reg_choose.specs.Handing.{numbered}
+use Rattle.reg_choose.specs.inner.Handing.{numbered}
 use Rattle.reg_choose.proofs.choice.places.Given as goal
 
 abbrev pub invariant-loop-g : goal.invariant-loop-g

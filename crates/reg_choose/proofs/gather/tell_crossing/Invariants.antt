@@ -1,6 +1,6 @@
 use Rattle.std.proofs.Common.{length, ◌-◌, ◌≡◌, ℕ, ◌<◌, ◌≤◌}
-use Rattle.reg_choose.specs.Trails.{trail_at}
-use Rattle.reg_choose.specs.Seen.{seen}
+use Rattle.reg_choose.specs.inner.Trails.{trail_at}
+use Rattle.reg_choose.specs.inner.Seen.{seen}
 use Rattle.reg_choose.proofs.gather.tell_crossing.Given as goal
 
 abbrev pub invariant-loop-i : goal.invariant-loop-i

@@ -2,9 +2,9 @@ use Rattle.std.proofs.Common.{rules, arith, ◌≡◌, ◌+◌, ◌&&◌, ap, �
 use Rattle.mid_code.specs.Functions.{nodes}
 use Rattle.mid_code.specs.Spans.{places}
 use Rattle.mid_live.specs.Sets.{on}
-use Rattle.reg_choose.specs.Marked.{marks}
-use Rattle.reg_choose.specs.Sparse.{follows}
-use Rattle.reg_choose.specs.Seen.{seen}
+use Rattle.reg_choose.specs.inner.Marked.{marks}
+use Rattle.reg_choose.specs.inner.Sparse.{follows}
+use Rattle.reg_choose.specs.inner.Seen.{seen}
 use Rattle.reg_choose.proofs.Walked.{seen_stood}
 use Rattle.reg_choose.proofs.Gathered.{body_seen}
 use Rattle.reg_choose.proofs.gather.walk_body.Goals as goal

@@ -1,8 +1,8 @@
 use Rattle.std.proofs.Common.{rules, arith, ◌≡◌, false, ap, ◌∙◌}
 use Rattle.mid_code.specs.Functions.{nodes, function}
 use Rattle.mid_live.specs.Sets.{on}
-use Rattle.reg_choose.specs.Trails.{crossing, no_trail, trail_at}
-use Rattle.reg_choose.specs.Seen.{seen}
+use Rattle.reg_choose.specs.inner.Trails.{crossing, no_trail, trail_at}
+use Rattle.reg_choose.specs.inner.Seen.{seen}
 use Rattle.reg_choose.proofs.Gathered.{function_seen}
 use Rattle.reg_choose.proofs.gather.walk_function.Goals as goal
 

@@ -1,6 +1,6 @@
 use Rattle.std.proofs.Common.{arith, ◌≡◌, ◌+◌, ◌-◌, ◌||◌, false, true, suc, eqb, get_or, set, subst, sym, ap}
 use Rattle.mid_live.specs.Sets.{on}
-use Rattle.reg_choose.specs.Holding.{number_at, Laid}
+use Rattle.reg_choose.specs.inner.Holding.{number_at, Laid}
 use Rattle.reg_choose.proofs.Holders.{laid_same, laid_new, lay_clash, not_new}
 use Rattle.reg_choose.proofs.hold.lay.Goals as goal
 

@@ -1,7 +1,7 @@
 use Rattle.std.proofs.Common.{rules, ◌||◌, false, eqb, get_or, subst, sym, ◌∙◌}
 use Rattle.mid_code.specs.Live.{is_among}
 use Rattle.mid_live.specs.Sets.{on}
-use Rattle.reg_choose.specs.Holding.{Laid}
+use Rattle.reg_choose.specs.inner.Holding.{Laid}
 use Rattle.reg_choose.proofs.Holders.{clash_more, among_more}
 use Rattle.reg_choose.proofs.hold.lay_all.Goals as goal
 

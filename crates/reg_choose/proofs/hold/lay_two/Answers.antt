@@ -1,5 +1,5 @@
 use Rattle.std.proofs.Common.{◌||◌, false, eqb, subst}
-use Rattle.reg_choose.specs.Holding.{Laid}
+use Rattle.reg_choose.specs.inner.Holding.{Laid}
 use Rattle.reg_choose.proofs.Holders.{laid_less}
 use Rattle.reg_choose.proofs.hold.lay_two.Goals as goal
 

@@ -1,5 +1,5 @@
 use Rattle.std.proofs.Common.{subst, sym, set}
-use Rattle.reg_choose.specs.Holding.{Stands}
+use Rattle.reg_choose.specs.inner.Holding.{Stands}
 use Rattle.reg_choose.proofs.Holders.{lift_stands, lifted, lifted_same, not_there}
 use Rattle.mid_live.specs.Sets.{on}
 use Rattle.reg_choose.proofs.hold.lift.Goals as goal

@@ -1,7 +1,7 @@
 use Rattle.std.proofs.Common.{◌≡◌, ℕ, ◌<◌, ◌&&◌, not, length, drop}
 use Rattle.mid_code.specs.Live.{is_among}
 use Rattle.mid_live.specs.Sets.{on}
-use Rattle.reg_choose.specs.Holding.{Stands}
+use Rattle.reg_choose.specs.inner.Holding.{Stands}
 use Rattle.reg_choose.proofs.hold.lift_all.Given as goal
 
 abbrev pub invariant-loop-x : goal.invariant-loop-x

@@ -1,7 +1,7 @@
 use Rattle.std.proofs.Common.{rules, ◌≡◌, ◌&&◌, not, ap, subst, ◌∙◌}
 use Rattle.mid_code.specs.Live.{is_among}
 use Rattle.mid_live.specs.Sets.{on}
-use Rattle.reg_choose.specs.Holding.{Laid}
+use Rattle.reg_choose.specs.inner.Holding.{Laid}
 use Rattle.reg_choose.proofs.Holders.{both_left, made_of}
 use Rattle.reg_choose.proofs.hold.settle.Goals as goal
 

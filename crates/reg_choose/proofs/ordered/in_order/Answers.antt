@@ -3,7 +3,7 @@ use Rattle.std.specs.List.{All}
 use Rattle.std.specs.List.Sorted.{IsPermutation}
 use Rattle.std.proofs.lemmas.List.Sorted.{All-permutation, IsPermutation-map, IsNonDecreasingBy-from_sort_by_key}
 use Rattle.reg_choose.specs.declared.interval.Interval.{Interval}
-use Rattle.reg_choose.specs.Handing.{span, spans_from}
+use Rattle.reg_choose.specs.inner.Handing.{span, spans_from}
 use Rattle.reg_choose.proofs.Tenants.{rises_spans}
 use Rattle.reg_choose.proofs.ordered.in_order.Goals as goal
 

@@ -1,7 +1,7 @@
 use Rattle.std.proofs.Common.{◌≡◌, ◌-◌, ◌≤◌, ◌<◌, ◌++◌, length, drop, map}
 use Rattle.std.specs.List.{All}
 use Rattle.reg_choose.specs.declared.interval.Interval.{Interval}
-use Rattle.reg_choose.specs.Handing.{span, spans_from}
+use Rattle.reg_choose.specs.inner.Handing.{span, spans_from}
 use Rattle.reg_choose.proofs.ordered.intervals.Given as goal
 
 abbrev pub invariant-loop-x : goal.invariant-loop-x

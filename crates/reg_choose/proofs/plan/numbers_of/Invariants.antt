@@ -1,5 +1,5 @@
 use Rattle.std.proofs.Common.{◌≡◌, ◌++◌, map, drop}
-use Rattle.reg_choose.specs.Holding.{number_of}
+use Rattle.reg_choose.specs.inner.Holding.{number_of}
 use Rattle.reg_choose.proofs.plan.numbers_of.Given as goal
 
 abbrev pub invariant-loop-w : goal.invariant-loop-w

@@ -1,6 +1,6 @@
 use Rattle.std.proofs.Common.{rules, ◌≡◌, List, ℕ, [], ◌∷◌, ◌++◌, map, ap, ◌∙◌}
 use Rattle.mid_code.specs.declared.placed.Where.TheVariants.{Slot}
-use Rattle.reg_choose.specs.Holding.{number_of}
+use Rattle.reg_choose.specs.inner.Holding.{number_of}
 use Rattle.reg_choose.proofs.Planned.{is_plan}
 use Rattle.reg_choose.proofs.plan.plan.Goals as goal
 

@@ -1,5 +1,5 @@
 use Rattle.std.proofs.Common.{◌≡◌, ◌++◌, ◌∷◌, drop}
-use Rattle.reg_choose.specs.Holding.{slots_in}
+use Rattle.reg_choose.specs.inner.Holding.{slots_in}
 use Rattle.reg_choose.proofs.plan.slots.Given as goal
 
 abbrev pub invariant-loop-w : goal.invariant-loop-w

@@ -1,6 +1,6 @@
 use Rattle.std.proofs.Common.{ap, ◌∙◌}
 use Rattle.std.proofs.lemmas.List.Sorted.{IsNonDecreasingBy-from_sort}
-use Rattle.reg_choose.specs.Holding.{below}
+use Rattle.reg_choose.specs.inner.Holding.{below}
 use Rattle.reg_choose.proofs.Planned.{below_order}
 use Rattle.reg_choose.proofs.plan.sorted_slots.Goals as goal
 

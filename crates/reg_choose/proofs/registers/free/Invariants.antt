@@ -1,6 +1,6 @@
 use Rattle.std.proofs.Common.{◌≡◌, ◌≤◌}
-use Rattle.reg_choose.specs.Scan.{free}
-use Rattle.reg_choose.specs.Handing.{freed_at}
+use Rattle.reg_choose.specs.inner.Scan.{free}
+use Rattle.reg_choose.specs.inner.Handing.{freed_at}
 use Rattle.reg_choose.proofs.registers.free.Given as goal
 
 abbrev pub invariant-loop-n : goal.invariant-loop-n

@@ -1,5 +1,5 @@
 use Rattle.std.proofs.Common.{◌≡◌, length, map, drop}
-use Rattle.reg_choose.specs.Handing.{span, kept, flag, freed_at, got, give}
+use Rattle.reg_choose.specs.inner.Handing.{span, kept, flag, freed_at, got, give}
 use Rattle.reg_choose.proofs.registers.hand_out.Given as goal
 
 abbrev pub invariant-loop-s : goal.invariant-loop-s

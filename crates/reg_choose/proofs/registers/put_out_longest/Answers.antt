@@ -1,6 +1,6 @@
 use Rattle.std.proofs.Common.{rules, arith, ◌≡◌, ◌<◌, ◌+◌, suc, length, map, drop, get_or, Some, ap, sym, ◌∙◌, subst}
-use Rattle.reg_choose.specs.Scan.{taking, scan, AllG, Has}
-use Rattle.reg_choose.specs.Handing.{span, freed_at}
+use Rattle.reg_choose.specs.inner.Scan.{taking, scan, AllG, Has}
+use Rattle.reg_choose.specs.inner.Handing.{span, freed_at}
 use Rattle.reg_choose.proofs.Tenants.{met_turn, nothing}
 use Rattle.reg_choose.proofs.registers.put_out_longest.Goals as goal
 

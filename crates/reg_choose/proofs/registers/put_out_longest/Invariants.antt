@@ -1,6 +1,6 @@
 use Rattle.std.proofs.Common.{◌≡◌, ℕ, length, map, drop, true}
-use Rattle.reg_choose.specs.Scan.{scan, AllG, Has}
-use Rattle.reg_choose.specs.Handing.{span, flag, freed_at}
+use Rattle.reg_choose.specs.inner.Scan.{scan, AllG, Has}
+use Rattle.reg_choose.specs.inner.Handing.{span, flag, freed_at}
 use Rattle.reg_choose.proofs.registers.put_out_longest.Given as goal
 
 abbrev pub invariant-loop-s : goal.invariant-loop-s

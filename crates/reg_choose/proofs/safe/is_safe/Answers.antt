@@ -3,8 +3,8 @@ use Rattle.mid_code.specs.Functions.{function, listed, joined, node}
 use Rattle.mid_code.specs.Live.{is_among}
 use Rattle.mid_code.specs.Safe.{IsSafe}
 use Rattle.mid_live.specs.Sets.{on}
-use Rattle.reg_choose.specs.Marked.{marks}
-use Rattle.reg_choose.specs.Checked.{Labels}
+use Rattle.reg_choose.specs.inner.Marked.{marks}
+use Rattle.reg_choose.specs.inner.Checked.{Labels}
 use Rattle.mid_code.specs.declared.placed.Where.{Where}
 use Rattle.reg_choose.proofs.Checking.{Like}
 use Rattle.reg_choose.proofs.Tried.{list_tried_is}

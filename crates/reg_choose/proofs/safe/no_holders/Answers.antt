@@ -1,5 +1,5 @@
 use Rattle.std.proofs.Common.{rules, ◌≡◌, ◌+◌, ℕ, List, length, replicate, refl, subst, sym}
-use Rattle.reg_choose.specs.Holding.{Stands}
+use Rattle.reg_choose.specs.inner.Holding.{Stands}
 use Rattle.reg_choose.proofs.Planned.{none_stands}
 use Rattle.reg_choose.proofs.safe.no_holders.Goals as goal
 

@@ -5,10 +5,10 @@ use Rattle.mid_code.specs.Spans.{places}
 use Rattle.mid_code.specs.Functions.{node, nodes, listed, before, joined, ChooseN, BlockN, LoopN}
 use Rattle.mid_code.specs.declared.node.Node.{the_lemmas}
 use Rattle.mid_live.specs.Sets.{on, room}
-use Rattle.reg_choose.specs.Marked.{marks}
-use Rattle.reg_choose.specs.Trails.{stood}
-use Rattle.reg_choose.specs.Sparse.{ceases, sparse}
-use Rattle.reg_choose.specs.Seen.{seen}
+use Rattle.reg_choose.specs.inner.Marked.{marks}
+use Rattle.reg_choose.specs.inner.Trails.{stood}
+use Rattle.reg_choose.specs.inner.Sparse.{ceases, sparse}
+use Rattle.reg_choose.specs.inner.Seen.{seen}
 use Rattle.reg_choose.proofs.Facts.{nodes_drop, live_node}
 use Rattle.reg_choose.proofs.Trailed.{choose_live, places_node}
 use Rattle.reg_choose.proofs.Walked.{seen_stood, seen_step, choose_seen, block_seen, loop_seen}

@@ -3,9 +3,9 @@ use Rattle.mid_code.specs.Live.{is_live}
 use Rattle.mid_code.specs.Functions.{nodes}
 use Rattle.mid_code.specs.Spans.{places}
 use Rattle.mid_live.specs.Sets.{on, room}
-use Rattle.reg_choose.specs.Marked.{marks}
-use Rattle.reg_choose.specs.Sparse.{sparse}
-use Rattle.reg_choose.specs.Seen.{seen}
+use Rattle.reg_choose.specs.inner.Marked.{marks}
+use Rattle.reg_choose.specs.inner.Sparse.{sparse}
+use Rattle.reg_choose.specs.inner.Seen.{seen}
 use Rattle.reg_choose.proofs.spans.+walk.Given as goal
 
 abbrev pub invariant-walk_nodes-loop-i : goal.invariant-walk_nodes-loop-i

@@ -1,6 +1,6 @@
 use Rattle.std.proofs.Common.{length, drop, ◌≡◌, ℕ, ◌<◌}
 use Rattle.mid_code.specs.Live.{is_among}
-use Rattle.reg_choose.specs.Trails.{stood, trail_at}
+use Rattle.reg_choose.specs.inner.Trails.{stood, trail_at}
 use Rattle.reg_choose.proofs.stands.stand_all.Given as goal
 
 abbrev pub invariant-loop-x : goal.invariant-loop-x

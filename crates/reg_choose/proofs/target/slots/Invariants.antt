@@ -1,6 +1,6 @@
 use Rattle.std.proofs.Common.{◌≡◌, ◌≢◌, ℕ, ◌<◌, ◌≤◌, ◌-◌, length, true, Some}
 use Rattle.mid_live.specs.Sets.{on}
-use Rattle.reg_choose.specs.Holding.{number_at}
+use Rattle.reg_choose.specs.inner.Holding.{number_at}
 use Rattle.reg_choose.proofs.target.slots.Given as goal
 
 abbrev pub invariant-loop-r : goal.invariant-loop-r

@@ -1,4 +1,4 @@
-use Rattle.reg_choose.specs.Marked.{marks}
+use Rattle.reg_choose.specs.inner.Marked.{marks}
 use Rattle.reg_choose.proofs.Tried.{op_tried}
 use Rattle.reg_choose.proofs.target.try_op.Goals as goal
 

@@ -1,5 +1,5 @@
 use Rattle.std.proofs.Common.{rules, ◌≤◌, length}
-use Rattle.reg_frames.specs.Moved.{stands}
+use Rattle.reg_frames.specs.inner.Moved.{stands}
 use Rattle.reg_frames.proofs.Movedly.{all_moved}
 use Rattle.reg_frames.proofs.code.+place.Goals as goal
 

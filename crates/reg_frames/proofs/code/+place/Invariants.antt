@@ -1,6 +1,6 @@
 use Rattle.std.proofs.Common.{◌≡◌, ◌++◌, map, drop}
 use Rattle.mid_code.specs.Functions.{node}
-use Rattle.reg_frames.specs.Moved.{stands, node_moved}
+use Rattle.reg_frames.specs.inner.Moved.{stands, node_moved}
 use Rattle.reg_frames.proofs.code.+place.Given as goal
 
 abbrev pub invariant-place_nodes-loop-n : goal.invariant-place_nodes-loop-n

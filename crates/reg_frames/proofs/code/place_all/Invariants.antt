@@ -1,5 +1,5 @@
 use Rattle.std.proofs.Common.{◌≡◌, ◌++◌, map, drop}
-use Rattle.reg_frames.specs.Moved.{stands}
+use Rattle.reg_frames.specs.inner.Moved.{stands}
 use Rattle.reg_frames.proofs.code.place_all.Given as goal
 
 abbrev pub invariant-loop-x : goal.invariant-loop-x

@@ -1,6 +1,6 @@
 use Rattle.std.proofs.Common.{rules, ◌≡◌, map}
 use Rattle.mid_code.specs.Functions.{node, listed, function}
-use Rattle.reg_frames.specs.Moved.{stands, list_moved}
+use Rattle.reg_frames.specs.inner.Moved.{stands, list_moved}
 use Rattle.reg_frames.proofs.Movedly.{nodes_moves}
 use Rattle.reg_frames.proofs.Placedly.{function_made}
 use Rattle.reg_frames.proofs.functions.place_code.Goals as goal

@@ -2,9 +2,9 @@ use Rattle.std.proofs.Common.{rules, arith, ◌≡◌, ◌-◌, sum}
 use Rattle.mid_code.specs.Functions.{function}
 use Rattle.mid_code.specs.Invariants.{in_registers}
 use Rattle.mid_code.specs.Choices.{slot_count}
-use Rattle.reg_frames.specs.Placing.{placing, placed_function}
+use Rattle.reg_frames.specs.inner.Placing.{placing, placed_function}
 use Rattle.reg_frames.proofs.Placedly.{function_by, own_by}
-use Rattle.reg_frames.specs.Moved.{stands}
+use Rattle.reg_frames.specs.inner.Moved.{stands}
 use Rattle.reg_frames.proofs.functions.place_function.Goals as goal
 
 pub overflow_add-size-2 : goal.overflow_add-size-2

@@ -1,7 +1,7 @@
 use Rattle.std.proofs.Common.{rules, ◌≡◌, ◌++◌, ◌∷◌, [], map}
 use Rattle.mid_code.specs.Functions.{function}
 use Rattle.mid_code.specs.View.{spots}
-use Rattle.reg_frames.specs.Placing.{placing, placed_function, placed_functions, frame_size, frame_sizes, spots_of, all_spots}
+use Rattle.reg_frames.specs.inner.Placing.{placing, placed_function, placed_functions, frame_size, frame_sizes, spots_of, all_spots}
 use Rattle.reg_frames.specs.Placeable.{places_of, first_of, later}
 use Rattle.reg_frames.proofs.Placedly.{placeable_turn, functions_turn, sizes_turn, spots_turn}
 use Rattle.reg_frames.proofs.functions.place_functions.Goals as goal

@@ -1,7 +1,7 @@
 use Rattle.std.proofs.Common.{◌≡◌, ◌++◌, map, length}
 use Rattle.mid_code.specs.Functions.{function}
 use Rattle.mid_code.specs.View.{spots}
-use Rattle.reg_frames.specs.Placing.{placed_functions, frame_sizes, all_spots}
+use Rattle.reg_frames.specs.inner.Placing.{placed_functions, frame_sizes, all_spots}
 use Rattle.reg_frames.specs.Placeable.{places_of, ArePlaceable}
 use Rattle.reg_frames.proofs.functions.place_functions.Given as goal
 

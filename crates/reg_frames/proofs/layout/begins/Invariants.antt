@@ -1,5 +1,5 @@
 use Rattle.std.proofs.Common.{◌≡◌, ◌+◌, ◌++◌, ◌<◌, ◌^◌, length, sum}
-use Rattle.reg_frames.specs.Placing.{begins_from}
+use Rattle.reg_frames.specs.inner.Placing.{begins_from}
 use Rattle.reg_frames.proofs.layout.begins.Given as goal
 
 abbrev pub invariant-loop-size : goal.invariant-loop-size

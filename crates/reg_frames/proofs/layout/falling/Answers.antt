@@ -1,5 +1,5 @@
 use Rattle.std.proofs.Common.{rules, ◌≡◌, ◌<◌, ◌-◌, ◌++◌, ◌∷◌, []}
-use Rattle.reg_frames.specs.Placing.{falling}
+use Rattle.reg_frames.specs.inner.Placing.{falling}
 use Rattle.reg_frames.proofs.Steps.{falling_turn}
 use Rattle.reg_frames.proofs.layout.falling.Goals as goal
 

@@ -1,5 +1,5 @@
 use Rattle.std.proofs.Common.{◌≡◌, ◌++◌}
-use Rattle.reg_frames.specs.Placing.{falling}
+use Rattle.reg_frames.specs.inner.Placing.{falling}
 use Rattle.reg_frames.proofs.layout.falling.Given as goal
 
 abbrev pub invariant-loop-left : goal.invariant-loop-left

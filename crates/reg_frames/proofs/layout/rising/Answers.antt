@@ -1,5 +1,5 @@
 use Rattle.std.proofs.Common.{rules, arith, ◌≡◌, ◌<◌, ◌++◌, ◌∷◌, []}
-use Rattle.reg_frames.specs.Placing.{rising}
+use Rattle.reg_frames.specs.inner.Placing.{rising}
 use Rattle.reg_frames.proofs.Steps.{rising_turn}
 use Rattle.reg_frames.proofs.layout.rising.Goals as goal
 

@@ -1,5 +1,5 @@
 use Rattle.std.proofs.Common.{◌≡◌, ◌+◌, ◌++◌}
-use Rattle.reg_frames.specs.Placing.{rising}
+use Rattle.reg_frames.specs.inner.Placing.{rising}
 use Rattle.reg_frames.proofs.layout.rising.Given as goal
 
 abbrev pub invariant-loop-left : goal.invariant-loop-left

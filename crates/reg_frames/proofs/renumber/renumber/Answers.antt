@@ -1,7 +1,7 @@
 use Rattle.std.proofs.Common.{rules, ◌≡◌, ◌++◌, ◌∷◌, [], map}
 use Rattle.mid_code.specs.declared.placed.Where.TheVariants.{Slot}
 use Rattle.mid_code.specs.Choices.{with_slot, slots_named}
-use Rattle.reg_frames.specs.Placing.{renumbered, index_in}
+use Rattle.reg_frames.specs.inner.Placing.{renumbered, index_in}
 use Rattle.reg_frames.proofs.Steps.{count_turn, named_turn, place_turn, places_are}
 use Rattle.reg_frames.proofs.renumber.renumber.Goals as goal
 

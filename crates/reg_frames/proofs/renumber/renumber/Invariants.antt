@@ -1,6 +1,6 @@
 use Rattle.std.proofs.Common.{◌≡◌, ◌≤◌, ◌+◌, ◌++◌, length, map}
 use Rattle.mid_code.specs.Choices.{slots_from, slots_named}
-use Rattle.reg_frames.specs.Placing.{renumbered}
+use Rattle.reg_frames.specs.inner.Placing.{renumbered}
 use Rattle.reg_frames.proofs.renumber.renumber.Given as goal
 
 abbrev pub invariant-loop-place : goal.invariant-loop-place

@@ -3,7 +3,7 @@ use Rattle.mid_code.specs.Functions.{function}
 use Rattle.mid_code.specs.View.{spots}
 use Rattle.mid_code.specs.Whole.{mid, placed}
 use Rattle.mid_code.specs.Invariants.{IsMid, IsPlaced}
-use Rattle.reg_frames.specs.Placing.{placing, placed_function, placed_functions, frame_sizes, all_spots}
+use Rattle.reg_frames.specs.inner.Placing.{placing, placed_function, placed_functions, frame_sizes, all_spots}
 use Rattle.reg_frames.specs.Placeable.{places_of, first_of, later, IsPlaceable, ArePlaceable}
 use Rattle.reg_frames.specs.PlacedFrom.{IsPlacedFrom}
 use Rattle.reg_frames.proofs.Promised.{start_placeable, functions_placeable, is_placed, is_placed_from, made, placed_of}

@@ -4,7 +4,7 @@ use Rattle.cpu_core.specs.Machine.{state_of}
 use Rattle.v32_isa.specs.Runs.{run}
 use Rattle.trace_core.specs.Texts.{run_text}
 use Rattle.trace_core.specs.Putting.{HasPut, PutsText}
-use Rattle.trace_core.specs.Steps.{last_line}
+use Rattle.trace_core.specs.inner.Steps.{last_line}
 use Rattle.trace_core.proofs.Puts.{put_last}
 use Rattle.trace_core.proofs.Runs.{run_refused, run_stepped, rest_ends, rest_goes, none_left}
 use Rattle.trace_core.proofs.run.put_run.Goals as goal

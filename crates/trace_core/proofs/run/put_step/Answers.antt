@@ -1,7 +1,7 @@
 use Rattle.std.proofs.Common.{rules, ◌≡◌}
 use Rattle.cpu_core.specs.Machine.{state_of}
 use Rattle.trace_core.specs.Putting.{putting, HasPutFront}
-use Rattle.trace_core.specs.Steps.{event_of, step_text}
+use Rattle.trace_core.specs.inner.Steps.{event_of, step_text}
 use Rattle.trace_core.proofs.Runs.{step_put, step_unput}
 use Rattle.trace_core.proofs.run.put_step.Goals as goal
 

@@ -1,6 +1,6 @@
 use Rattle.std.proofs.Common.{◌≡◌, ◌+◌, ◌*◌}
-use Rattle.c_evaluate.specs.MachineView.{config_of, setting_of}
-use Rattle.c_evaluate.specs.Machine.{run_left, work_left}
+use Rattle.c_evaluate.specs.inner.MachineView.{config_of, setting_of}
+use Rattle.c_evaluate.specs.inner.Machine.{run_left, work_left}
 use Rattle.c_evaluate.proofs.Moving.{size}
 use Rattle.c_evaluate.proofs.machine.Machine.advance.Given as goal
 

@@ -1,7 +1,7 @@
 use Rattle.std.proofs.Common.{rules, ◌≡◌, ◌<◌, ◌&&◌, ℕ, length, get_or, not, ap, sym, subst, ◌∙◌}
 use Rattle.mid_live.specs.declared.words.Held.{Held}
 use Rattle.mid_live.specs.Sets.{on}
-use Rattle.mid_live.specs.Words.{some}
+use Rattle.mid_live.specs.inner.Words.{some}
 use Rattle.mid_live.proofs.Written.{kept_few, kept_on}
 use Rattle.mid_live.proofs.live.Kept.less.Goals as goal
 

@@ -1,7 +1,7 @@
 use Rattle.std.proofs.Common.{rules, ◌≡◌, [], List, refl, ap, ◌∙◌}
 use Rattle.mid_live.specs.declared.words.Held.{Held}
 use Rattle.mid_live.specs.Sets.{on}
-use Rattle.mid_live.specs.Words.{spread}
+use Rattle.mid_live.specs.inner.Words.{spread}
 use Rattle.mid_live.proofs.Written.{zero_on}
 use Rattle.mid_live.proofs.live.Kept.none.Goals as goal
 

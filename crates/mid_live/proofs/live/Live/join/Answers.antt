@@ -1,6 +1,6 @@
 use Rattle.std.proofs.Common.{rules, ◌≡◌, ◌<◌, ◌||◌, ap, sym, subst, ◌∙◌}
 use Rattle.mid_live.specs.Sets.{on, room}
-use Rattle.mid_live.specs.Words.{some}
+use Rattle.mid_live.specs.inner.Words.{some}
 use Rattle.mid_live.proofs.Written.{kept_on}
 use Rattle.mid_live.proofs.live.Live.join.Goals as goal
 

@@ -1,5 +1,5 @@
 use Rattle.std.proofs.Common.{rules, ◌≡◌, length, replicate, refl, ap, sym, ◌∙◌}
-use Rattle.mid_live.specs.Words.{spread}
+use Rattle.mid_live.specs.inner.Words.{spread}
 use Rattle.mid_live.proofs.Written.{restored}
 use Rattle.mid_live.proofs.live.Live.restore.Goals as goal
 

@@ -1,0 +1,114 @@
+-- The items of nodes as they stand in memory.
+use Rattle.std.specs.Prelude.{ℕ, ◌+◌, ◌-◌, ◌==◌, ◌&&◌, Bool, true, false, cond, List, [], ◌∷◌, ◌++◌, Option, Some, None}
+use Rattle.kit_base.specs.Word.{add}
+use Rattle.v32_isa.specs.declared.instruction.Instr.{Instr}
+use Rattle.asm_items.specs.declared.item.AsmItem.{AsmItem}
+use Rattle.asm_items.specs.declared.item.AsmItem.TheVariants as item
+use Rattle.asm_items.specs.Items.{Imm}
+use Rattle.mid_code.specs.declared.placed.Where.{Where}
+use Rattle.mid_code.specs.declared.node.Op.{Op}
+use Rattle.mid_code.specs.declared.node.Op.TheVariants as op
+use Rattle.mid_code.specs.Code.{NodesT, Do, Call, Stop}
+use Rattle.mid_code.specs.Functions.{op_before, NodeT, DoN, ChooseN, BlockN, LoopN, LeaveN, AgainN, ReturnN, ListT, NoN, MoreN, before, joined}
+use Rattle.asm_laws.specs.Operations.{Frame, Whole, op_items, word_put, with_word, in_one, before_it, call_items}
+use Rattle.asm_laws.specs.inner.Emitted.{enclosing, jump, alone, choice, enclosed, returning}
+
+-- how many labels nodes take
+abbrev mutual
+  pub node_labels : NodeT Where → ℕ
+  node_labels (DoN o) = 0
+  node_labels (ChooseN p a b) = 2 + list_labels a + list_labels b
+  node_labels (BlockN b) = 2 + list_labels b
+  node_labels (LoopN b) = 2 + list_labels b
+  node_labels (LeaveN k) = 0
+  node_labels (AgainN k) = 0
+  node_labels (ReturnN p) = 0
+
+  pub list_labels : ListT Where → ℕ
+  list_labels NoN = 0
+  list_labels (MoreN x rest) = node_labels x + list_labels rest
+
+abbrev pub is_none : ListT Where → Bool
+is_none NoN = true
+is_none (MoreN x rest) = false
+
+-- the items of an operation or a call that stands first
+abbrev pub first_items : Whole → Frame → NodesT Where → List AsmItem
+first_items W F (Do o c) = op_items W F o
+first_items W F (Call t f args c) = call_items W F t f args
+first_items W F _ = []
+
+abbrev pub do_items : Whole → Frame → Op Where → List AsmItem
+do_items W F o = first_items W F (op_before o Stop)
+
+-- the word that an operation that stands first puts into a register
+abbrev pub front_put : Whole → NodesT Where → Option (ℕ × ℕ)
+front_put W (Do o c) = word_put W o
+front_put W _ = None
+
+-- what is done in one go where a word was put into a register before
+abbrev pub front_summed : (put : Option (ℕ × ℕ)) → NodesT Where → Option (ℕ × Option (Instr Imm) × Instr Imm)
+front_summed put (Do o c) = with_word put o c
+front_summed put _ = None
+
+abbrev pub ahead_items : Option (ℕ × Option (Instr Imm) × Instr Imm) → List AsmItem
+ahead_items None = []
+ahead_items (Some (more, first, i)) = before_it first ++ item.Op i ∷ []
+
+abbrev pub ahead_more : Option (ℕ × Option (Instr Imm) × Instr Imm) → Option ℕ
+ahead_more None = None
+ahead_more (Some (more, first, i)) = Some more
+
+abbrev pub is_call : Op Where → Bool
+is_call (op.Call t f args) = true
+is_call _ = false
+
+-- the items of an operation that stands first and is done in one go with others, where it is not done already
+abbrev pub front_items : Whole → NodesT Where → (done : ℕ) → List AsmItem
+front_items W (Do o c) k = cond (k == 0) (ahead_items (in_one W o c)) []
+front_items W _ k = []
+
+-- how many behind it are done then; none is said where its own items are due
+abbrev pub front_more : Whole → NodesT Where → (done : ℕ) → Option ℕ
+front_more W (Do o c) k = cond (k == 0) (ahead_more (in_one W o c)) (Some (k - 1))
+front_more W _ k = None
+
+-- the labels of a node whose own items are due
+abbrev pub labels_due : Option ℕ → ℕ → ℕ
+labels_due None n = n
+labels_due (Some k) n = 0
+
+-- a node's own items and those behind it anew, or those behind it where so many are done
+abbrev pub onward : Option ℕ → (own : List AsmItem) → (past : ℕ → List AsmItem) → (anew : List AsmItem) → List AsmItem
+onward None own past anew = own ++ anew
+onward (Some k) own past anew = past k
+
+-- the label to which a list goes that only leaves a block or loop
+abbrev pub left_in : List ℕ → ListT Where → Option ℕ
+left_in ls (MoreN (LeaveN k) NoN) = Some (add (enclosing ls k) 1)
+left_in ls _ = None
+
+-- whether the function's end comes right behind a node, where it comes behind the list
+abbrev pub ends_in : (last : Bool) → ListT Where → Bool
+ends_in last rest = is_none rest && last
+
+module _ (W : Whole) (F : Frame) (out : ℕ) where
+  abbrev mutual
+    pub node_items : (last : Bool) → List ℕ → ℕ → NodeT Where → List AsmItem
+    node_items last ls n (DoN o) = do_items W F o
+    node_items last ls n (ChooseN p a b) =
+        cond (is_none b) (alone F p n (left_in ls a) (list_past last ls (n + 1) a 0)) (choice F p n (n + 1 + list_labels a) (list_past false ls (n + 1) a 0) (list_past last ls (n + 1 + list_labels a + 1) b 0))
+    node_items last ls n (BlockN b) = enclosed n (list_past last (ls ++ n ∷ []) (n + 2) b 0)
+    node_items last ls n (LoopN b) = enclosed n (list_past last (ls ++ n ∷ []) (n + 2) b 0)
+    node_items last ls n (LeaveN k) = jump (add (enclosing ls k) 1) ∷ []
+    node_items last ls n (AgainN k) = jump (enclosing ls k) ∷ []
+    node_items last ls n (ReturnN p) = returning F p out last
+
+    -- so many operations in front are done already
+    pub list_past : (last : Bool) → List ℕ → ℕ → ListT Where → (done : ℕ) → List AsmItem
+    list_past last ls n NoN k = []
+    list_past last ls n (MoreN x rest) k =
+        front_items W (before x (joined rest)) k ++ onward (front_more W (before x (joined rest)) k) (node_items (ends_in last rest) ls n x) (list_past last ls n rest) (list_past last ls (n + node_labels x) rest 0)
+
+  abbrev pub list_items : List ℕ → ℕ → ListT Where → List AsmItem
+  list_items ls n xs = list_past true ls n xs 0

@@ -1,0 +1,3 @@
+pub mod Links
+pub mod Following
+pub mod Emitted

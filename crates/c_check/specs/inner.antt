@@ -1,0 +1,2 @@
+pub mod ItemTyping
+pub mod Steps

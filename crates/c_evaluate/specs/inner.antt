@@ -1,0 +1,11 @@
+pub mod Storing
+pub mod Machine
+pub mod Steps
+pub mod Results
+pub mod Capped
+pub mod SettingView
+pub mod StoreView
+pub mod FocusView
+pub mod Turning
+pub mod MachineView
+pub mod Swift

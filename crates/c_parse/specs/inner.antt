@@ -1,0 +1,10 @@
+pub mod Reader
+pub mod Leads
+pub mod Reading
+pub mod ReadingLists
+pub mod ReadingDeclarations
+pub mod ReadingStatements
+pub mod ReadingParts
+pub mod ReadingUnits
+pub mod View
+pub mod Answer

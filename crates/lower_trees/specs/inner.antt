@@ -1,0 +1,2 @@
+pub mod MaybeTypes
+pub mod MaybeStatements

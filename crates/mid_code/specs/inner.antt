@@ -1,0 +1,4 @@
+pub mod Passing
+pub mod Alike
+pub mod Programs
+pub mod Skeleton

@@ -1,0 +1,4 @@
+pub mod Copying
+pub mod Sinking
+pub mod Listed
+pub mod Holding

@@ -1,0 +1,9 @@
+pub mod Plan
+pub mod Named
+pub mod Promoted
+pub mod Table
+pub mod Purposes
+pub mod Flags
+pub mod Rewriting
+pub mod Tabled
+pub mod Alone

@@ -23,6 +23,7 @@ use Rattle.asm_emit.specs.EmittedFrom.{CanBeEmitted, IsEmitted, literal_words}
 use Rattle.pass_laws.specs.Meeting.{PassesMeet, DoesAsMeant}
 use Rattle.c_compile.specs.Compiling.{names_of, IsCompiled}
 use Rattle.reg_choose.specs.Each.{AllSpare}
+use Rattle.c_compile.proofs.Straight.{each_straight, none_add}
 
 -- ---- names
 
@@ -92,5 +93,7 @@ module _ (p : ProgramT) (m first spared promoted : CodeT ℕ) (cs : List (List W
     spares = spares;
     placed = c;
     emitted = emitted;
+    straight = each_straight (setting p []) p.functions m.functions x.code.functions l.functions
+        (none_add m.functions first.functions x.code.functions o.adds_none (none_add first.functions spared.functions x.code.functions r.adds_none (none_add spared.functions promoted.functions x.code.functions q.adds_none c.adds_none)));
     does = meet p m first spared promoted cs x (names_of p) items l o r q safe c emitted;
   }

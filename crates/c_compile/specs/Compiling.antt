@@ -1,7 +1,8 @@
 -- What is made of a program.
-use Rattle.std.specs.Prelude.{ℕ, List, map}
+use Rattle.std.specs.Prelude.{ℕ, List, [], map}
 use Rattle.asm_items.specs.declared.item.AsmItem.{AsmItem}
 use Rattle.c_types.specs.Programs.{ProgramT}
+use Rattle.c_meaning.specs.Setting.{setting}
 use Rattle.mid_code.specs.declared.placed.Where.{Where}
 use Rattle.mid_code.specs.Code.{CodeT}
 use Rattle.mid_code.specs.Plain.{IsPromoted}
@@ -13,6 +14,7 @@ use Rattle.reg_frames.specs.Placeable.{places_of}
 use Rattle.reg_frames.specs.PlacedFrom.{IsPlacedFrom}
 use Rattle.asm_emit.specs.EmittedFrom.{IsEmitted}
 use Rattle.pass_laws.specs.Meeting.{DoesAsMeant}
+use Rattle.c_compile.specs.Straight.{EachStraight}
 use Rattle.c_compile.specs.declared.compiling.Compiled.{Compiled}
 
 -- Mid code without plain locals, where its temporaries stand, the code over these places, and its items.
@@ -35,5 +37,7 @@ pub record IsCompiled (p : ProgramT) (c : CompiledT) : Type 0 where
   pub spares : AllSpare c.mid c.choices
   pub placed : IsPlacedFrom c.mid c.choices c.placed
   pub emitted : IsEmitted c.placed (names_of p) c.items
+  -- functions without loops stay so
+  pub straight : EachStraight (setting p []) p.functions c.placed.code.functions
   -- the words that the items are placed as do what the program means
   pub does : DoesAsMeant p c.mid c.placed c.items

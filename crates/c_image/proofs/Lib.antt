@@ -4,4 +4,5 @@ mod Files
 mod Mapped
 mod Named
 mod Told
+mod LoopFree
 mod Imaged

@@ -1,5 +1,5 @@
 -- What the image of a program is.
-use Rattle.std.specs.Prelude.{ℕ, ◌≡◌, ◌≤◌, ◌+◌, ◌*◌, true, List, [], map, length, sum_by, None, Ok}
+use Rattle.std.specs.Prelude.{ℕ, ◌≡◌, ◌≤◌, ◌+◌, ◌*◌, true, List, [], map, length, slice_get, sum_by, Some, None, Ok}
 use Rattle.std.specs.List.{AllByRecursion, list_all}
 use Rattle.std.specs.Str.{is_utf8}
 use Rattle.asm_items.specs.declared.item.AsmItem.{AsmItem}
@@ -12,7 +12,7 @@ use Rattle.assembler.specs.Labels.{address_in}
 use Rattle.c_front.specs.Places.{place_at}
 use Rattle.c_front.specs.declared.places.Places.{Places}
 use Rattle.c_types.specs.Nodes.{program_nodes}
-use Rattle.c_types.specs.Programs.{ProgramT}
+use Rattle.c_types.specs.Programs.{TFunctionT, ProgramT}
 use Rattle.c_meaning.specs.Setting.{setting}
 use Rattle.c_meaning.specs.Runs.{c_runs}
 use Rattle.c_meaning.specs.Frames.{EachFits}
@@ -30,6 +30,10 @@ use Rattle.project_text.specs.declared.map.Map.{Map}
 use Rattle.reg_choose.specs.Each.{AllSpare}
 use Rattle.reg_frames.specs.Placeable.{places_of}
 use Rattle.reg_frames.specs.PlacedFrom.{FramesFit}
+use Rattle.asm_laws.specs.Labelled.{label_of_function}
+use Rattle.asm_laws.specs.Numbers.{behind}
+use Rattle.cycle_bound.specs.Forward.{HasNumber}
+use Rattle.c_image.specs.LoopFree.{IsLoopFree}
 use Rattle.c_image.specs.Mapping.{map_of}
 use Rattle.c_image.specs.Lines.{table_of}
 use Rattle.c_image.specs.declared.imaging.Image.{Image}
@@ -102,6 +106,8 @@ pub record IsImageOf (p : ProgramT) (places : Places) (starts : List ℕ) (i : I
   pub readable : AreReadable items
   pub labels : List (List ℕ × ℕ)
   pub words : Placed items i.words labels
+  -- calls of a function that takes no turns, and calls only such functions, take at most a number of instructions
+  pub numbered : (depth n : ℕ) (f : TFunctionT) → slice_get p.functions n ≡ Some f → IsLoopFree p depth f → HasNumber items (behind items (label_of_function f.name))
   -- the map and the line table tell of them
   pub map_is : i.map ≡ map_of p (frame_sizes i.map) (length i.words) (address_in labels)
   pub table_is : i.table ≡ table_of (address_in labels) p.functions (map (place_at places) starts)

@@ -1,4 +1,5 @@
 pub mod Mapping
 pub mod Lines
+pub mod LoopFree
 pub mod Imaging
 pub mod inner

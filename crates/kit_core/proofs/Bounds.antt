@@ -1,12 +1,14 @@
 -- From the parts of `bounds` to the whole, and what its status 0 says.
-use Rattle.std.proofs.Common.{ℕ, ◌≡◌, ◌≤◌, length, List, [], ◌∷◌, map, refl, sym, ap, subst, ◌∙◌}
+use Rattle.std.proofs.Common.{ℕ, zero, suc, ◌≡◌, ◌≤◌, length, slice_get, List, [], ◌∷◌, ◌++◌, map, false, refl, sym, ap, subst, ◌∙◌}
 use Rattle.std.specs.Prelude.{Option, Some, None, Result, Ok, Err, IfSome, IsSomeAnd}
 use Rattle.std.specs.FinMap.{get}
 use Rattle.std.specs.List.{AllZip}
+use Rattle.std.specs.Str.{bytes_eq}
 use Rattle.kit_base.specs.Held.{Held}
-use Rattle.kit_base.specs.Effects.{all_done}
+use Rattle.kit_base.specs.Effects.{all_done, written_file}
 use Rattle.kit_base.specs.Outside.{due}
 use Rattle.kit_base.specs.declared.outside.FileErr.{FileErr}
+use Rattle.kit_base.proofs.Cuts.{all_done-append}
 use Rattle.asm_items.specs.declared.item.AsmItem.{AsmItem}
 use Rattle.asm_reader.specs.Readable.{AreReadable}
 use Rattle.asm_reader.specs.Reading.{read}
@@ -14,26 +16,32 @@ use Rattle.assembler.specs.Faults.{fault_of}
 use Rattle.assembler.specs.Labels.{address_in}
 use Rattle.assembler.specs.Placed.{Placed}
 use Rattle.asm_laws.specs.Labelled.{label_of_function}
+use Rattle.asm_laws.specs.Numbers.{behind}
+use Rattle.asm_laws.specs.Longest.{Forbids}
+use Rattle.cart_format.specs.Cartridge.{Cartridge}
 use Rattle.cart_format.specs.Reading.{cart_of}
 use Rattle.c_types.specs.Programs.{TFunctionT, ProgramT}
 use Rattle.c_meaning.specs.Runs.{c_runs}
-use Rattle.c_image.specs.Imaging.{frame_sizes, global_addresses}
+use Rattle.c_image.specs.Imaging.{ImageT, IsImageOf, frame_sizes, global_addresses}
+use Rattle.c_image.specs.LoopFree.{IsLoopFree}
 use Rattle.c_image.specs.Mapping.{frames_at, map_of}
 use Rattle.project_text.specs.MapText.{map_text}
 use Rattle.project_text.specs.declared.map.Map.{Map}
 use Rattle.obj_mem.specs.Runs.{Meaning}
 use Rattle.mid_code.specs.Agrees.{AgreesWithin}
 use Rattle.cycle_bound.specs.declared.bound.Bound.{Bound}
+use Rattle.cycle_bound.specs.declared.bound.Bound.TheVariants.{Unbounded}
+use Rattle.cycle_bound.specs.Forward.{HasNumber}
 use Rattle.cycle_bound.specs.Lines.{IsTold}
 use Rattle.cycle_bound.specs.Staying.{StayWithin}
 use Rattle.cycle_bound.specs.Told.{IsBoundOf}
 use Rattle.build_core.specs.declared.building.Built.{Built}
 use Rattle.build_core.specs.Due.{assets}
 use Rattle.build_core.specs.Build.{IsBuilt, cartridge_of}
-use Rattle.kit_words.specs.Command.{command_of}
+use Rattle.kit_words.specs.Command.{Bounds, command_of}
 use Rattle.kit_words.proofs.Created.{AreThree, bounds_differ}
 use Rattle.kit_tools.specs.Work.{Work}
-use Rattle.kit_core.specs.Due.{bounds_due, bounds_effects, bounds_work, form_due, function_names, read_bounds_due}
+use Rattle.kit_core.specs.Due.{bounds_due, bounds_effects, bounds_work, form_due, function_names, outputs_of, read_bounds_due}
 use Rattle.kit_core.specs.Bounded.{BoundsStand, IsBoundedInto, function_addresses}
 use Rattle.kit_core.specs.Generating.{front_of}
 use Rattle.kit_core.specs.Outcome.{IsOutcome, putting}
@@ -79,6 +87,25 @@ at_rows : (m : Map) (p : ProgramT) (sizes : List ℕ) (count : ℕ) (address : L
 at_rows m p sizes count address is =
     ap (λ (k : Map). map (λ name. address (label_of_function name)) (function_names k)) is ∙ rows_at address p.functions sizes ∙ sym (ap function_addresses is)
 
+-- the name of a row is that of its function
+name_at : (address : List ℕ → ℕ) (fs : List TFunctionT) (sizes : List ℕ) (n : ℕ) (name : List ℕ) (f : TFunctionT) → slice_get (map (λ row. row.0) (frames_at address fs sizes)) n ≡ Some name → slice_get fs n ≡ Some f → name ≡ f.name
+name_at address [] sizes n name f e h = absurd cc
+name_at address (g ∷ fs) [] n name f e h = absurd cc
+name_at address (g ∷ fs) (size ∷ sizes) zero name f e h = let a : g.name ≡ name = cc in let b : g ≡ f = cc in sym a ∙ ap (λ (k : TFunctionT). k.name) b
+name_at address (g ∷ fs) (size ∷ sizes) (suc n) name f e h = name_at address fs sizes n name f e h
+
+-- what stands beside an element
+beside : {A B : Type 0} (R : A → B → Type 0) (xs : List A) (ys : List B) (n : ℕ) (y : B) → AllZip R xs ys → slice_get ys n ≡ Some y → (x : A) × (slice_get xs n ≡ Some x) × R x y
+beside R [] [] n y h e = absurd cc
+beside R [] (z ∷ ys) n y h e = absurd h
+beside R (x ∷ xs) [] n y h e = absurd h
+beside R (x ∷ xs) (z ∷ ys) zero y h e = (x, refl, (let same : z ≡ y = cc in subst (R x) same h.0))
+beside R (x ∷ xs) (z ∷ ys) (suc n) y h e = beside R xs ys n y h.1 e
+
+forbidden : (items : List AsmItem) (name : List ℕ) → IsBoundOf items name Unbounded → Forbids items (behind items (label_of_function name))
+unfolding IsBoundOf
+forbidden items name h = h
+
 abbrev pub ReadBack : Type 0
 ReadBack = (m : Held) (project : List ℕ) (b : Built) (built : IsBuilt m project b) → cart_of b.cart ≡ Ok (cartridge_of built.of.parts.title built.of.image (assets built.textures built.sounds))
 
@@ -106,6 +133,19 @@ module _ (stay : StayingLaw) (back : ReadBack) where
       (stay image.items built.of.image.words image.labels image.faultless image.readable image.words image.few 64 (global_addresses b.map) (c_runs built.of.program (frame_sizes b.map)) agrees
       (function_names b.map) bounds (subst (λ is. AllZip (IsBoundOf is) (function_names b.map) bounds) same exact))
 
+  numbered : (m : Held) (text : List ℕ) (b : Built) (built : IsBuilt m text b) (items : List AsmItem) → read b.asm ≡ Ok items → (bounds : List Bound) → AllZip (IsBoundOf items) (function_names b.map) bounds
+      → (depth n : ℕ) (f : TFunctionT) → slice_get built.of.program.functions n ≡ Some f → IsLoopFree built.of.program depth f → slice_get bounds n ≡ Some Unbounded → ⊥
+  numbered m text b built items reads bounds exact depth n f at free none =
+      let image = built.of.image_is in
+      let same : items ≡ image.items = same_items items image.items (read b.asm) reads (ap read built.asm_is ∙ image.reads) in
+      let x = beside (IsBoundOf items) (function_names b.map) bounds n Unbounded exact none in
+      let named : slice_get (map (λ row. row.0) (frames_at (address_in image.labels) built.of.program.functions (frame_sizes built.of.image.map))) n ≡ Some x.0 =
+      ap (λ (k : Map). slice_get (function_names k) n) (sym (built.map_is ∙ image.map_is)) ∙ x.1 in
+      let name : x.0 ≡ f.name = name_at (address_in image.labels) built.of.program.functions (frame_sizes built.of.image.map) n x.0 f named at in
+      let forbids : Forbids image.items (behind image.items (label_of_function f.name)) =
+      subst (λ is. Forbids is (behind is (label_of_function f.name))) same (subst (λ k. Forbids items (behind items (label_of_function k))) name (forbidden items x.0 x.2)) in
+      (image.numbered depth n f at free).1.allowed forbids
+
   bounded_into : (project cart map_name text_name : List ℕ) (m : Held) (after : Option Held) (before put : Option (List ℕ)) (w : Work) (r : Result (List ℕ) FileErr) → AreThree cart map_name text_name
       → due m project ≡ r → read_bounds_due project cart map_name text_name m r (Ok w) → after ≡ all_done w.effects (Some m) → put ≡ putting w.text before → IsBoundedInto project cart map_name text_name m after before put
   bounded_into project cart map_name text_name m after before put w (Ok text) three read d e p =
@@ -123,6 +163,7 @@ module _ (stay : StayingLaw) (back : ReadBack) where
         reads = d.told.reads;
         bounds = d.told.bounds;
         exact = d.told.exact;
+        numbered = numbered m text d.built d.is_built d.told.items d.told.reads d.told.bounds d.told.exact;
         told = p ∙ ap (λ (v : Work). putting v.text before) (sym d.work_is) ∙ ap (λ lines. putting lines before) d.told.lines_are;
         cartridge = cartridge_of d.is_built.of.parts.title d.is_built.of.image (assets d.is_built.textures d.is_built.sounds);
         cartridge_is = back m text d.built d.is_built;

@@ -1,5 +1,5 @@
 -- What a status 0 says of `bounds`.
-use Rattle.std.specs.Prelude.{ℕ, ◌≡◌, List, map, Option, Some, Ok, IsSomeAnd}
+use Rattle.std.specs.Prelude.{ℕ, ◌≡◌, List, map, slice_get, Option, Some, Ok, IsSomeAnd}
 use Rattle.std.specs.FinMap.{get}
 use Rattle.std.specs.List.{AllZip}
 use Rattle.kit_base.specs.Held.{Held}
@@ -11,9 +11,12 @@ use Rattle.cart_format.specs.Cartridge.{Cartridge}
 use Rattle.cart_format.specs.Reading.{cart_of}
 use Rattle.project_text.specs.MapText.{map_text}
 use Rattle.project_text.specs.declared.map.Map.{Map}
+use Rattle.c_types.specs.Programs.{TFunctionT}
 use Rattle.c_meaning.specs.Runs.{c_runs}
 use Rattle.c_image.specs.Imaging.{frame_sizes, global_addresses}
+use Rattle.c_image.specs.LoopFree.{IsLoopFree}
 use Rattle.cycle_bound.specs.declared.bound.Bound.{Bound}
+use Rattle.cycle_bound.specs.declared.bound.Bound.TheVariants.{Unbounded}
 use Rattle.cycle_bound.specs.Lines.{bound_lines}
 use Rattle.cycle_bound.specs.Staying.{StayWithin}
 use Rattle.cycle_bound.specs.Told.{IsBoundOf}
@@ -28,8 +31,9 @@ abbrev pub function_addresses : Map → List ℕ
 function_addresses m = map (λ row. row.1) m.frames
 
 -- The project was held. Its cartridge, its map and its program's assembly text stand, with every other file as before. The text reads as items, and a
--- line was put for each function of the map, in its order, with the bound that it has among them. In each run of the cartridge that those bytes are,
--- calls of the functions of the map stay within their bounds, as far as the run does what the project's source means.
+-- line was put for each function of the map, in its order, with the bound that it has among them. A function of the source that takes no turns, and
+-- calls only such functions, is not without a number. In each run of the cartridge that those bytes are, calls of the functions of the map stay within their
+-- bounds, as far as the run does what the project's source means.
 pub record IsBoundedInto (project cart map_name text_name : List ℕ) (held : Held) (after : Option Held) (before put : Option (List ℕ)) : Type 0 where
   pub text : List ℕ
   pub built : Built
@@ -43,6 +47,7 @@ pub record IsBoundedInto (project cart map_name text_name : List ℕ) (held : He
   pub reads : read built.asm ≡ Ok items
   pub bounds : List Bound
   pub exact : AllZip (IsBoundOf items) (function_names built.map) bounds
+  pub numbered : (depth n : ℕ) (f : TFunctionT) → slice_get is_built.of.program.functions n ≡ Some f → IsLoopFree is_built.of.program depth f → slice_get bounds n ≡ Some Unbounded → ⊥
   pub told : put ≡ putting (bound_lines (function_names built.map) bounds) before
   pub cartridge : Cartridge
   pub cartridge_is : cart_of built.cart ≡ Ok cartridge

@@ -275,7 +275,7 @@ pub fn kit<F: Files, S: Sink>(alloc: Global, words: &[String], files: &mut F, ou
     // a frame, before the run is over.
     ensures watches { IfSome (F.held files.old) (λ m. result ≡ 0 → WatchStands (texts words.now) m (F.held files.new) (S.written out.old) (S.written out.new)) }
     // At 0 the outputs of `bounds` stand, with the assembly text, and for each function of the map the line of its bound was put, within which its calls
-    // stay in each run of the cartridge, as far as the run does what the source means.
+    // stay in each run of the cartridge, as far as the run does what the source means; a function that takes no turns has a number.
     ensures bounded { IfSome (F.held files.old) (λ m. result ≡ 0 → BoundsStand (texts words.now) m (F.held files.new) (S.written out.old) (S.written out.new)) }
     // At any status each file that a command creates is as before or holds a front of its bytes, and every other file is as before.
     ensures fronts { IfSome (F.held files.old) (λ m. LeavesFronts (texts words.now) m (F.held files.new)) }

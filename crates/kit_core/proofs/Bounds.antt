@@ -1,14 +1,12 @@
 -- From the parts of `bounds` to the whole, and what its status 0 says.
-use Rattle.std.proofs.Common.{ℕ, zero, suc, ◌≡◌, ◌≤◌, length, slice_get, List, [], ◌∷◌, ◌++◌, map, false, refl, sym, ap, subst, ◌∙◌}
+use Rattle.std.proofs.Common.{ℕ, zero, suc, ◌≡◌, ◌≤◌, length, slice_get, List, [], ◌∷◌, ◌++◌, map, refl, sym, ap, subst, ◌∙◌}
 use Rattle.std.specs.Prelude.{Option, Some, None, Result, Ok, Err, IfSome, IsSomeAnd}
 use Rattle.std.specs.FinMap.{get}
 use Rattle.std.specs.List.{AllZip}
-use Rattle.std.specs.Str.{bytes_eq}
 use Rattle.kit_base.specs.Held.{Held}
-use Rattle.kit_base.specs.Effects.{all_done, written_file}
+use Rattle.kit_base.specs.Effects.{all_done}
 use Rattle.kit_base.specs.Outside.{due}
 use Rattle.kit_base.specs.declared.outside.FileErr.{FileErr}
-use Rattle.kit_base.proofs.Cuts.{all_done-append}
 use Rattle.asm_items.specs.declared.item.AsmItem.{AsmItem}
 use Rattle.asm_reader.specs.Readable.{AreReadable}
 use Rattle.asm_reader.specs.Reading.{read}
@@ -18,11 +16,9 @@ use Rattle.assembler.specs.Placed.{Placed}
 use Rattle.asm_laws.specs.Labelled.{label_of_function}
 use Rattle.asm_laws.specs.Numbers.{behind}
 use Rattle.asm_laws.specs.Longest.{Forbids}
-use Rattle.cart_format.specs.Cartridge.{Cartridge}
-use Rattle.cart_format.specs.Reading.{cart_of}
 use Rattle.c_types.specs.Programs.{TFunctionT, ProgramT}
 use Rattle.c_meaning.specs.Runs.{c_runs}
-use Rattle.c_image.specs.Imaging.{ImageT, IsImageOf, frame_sizes, global_addresses}
+use Rattle.c_image.specs.Imaging.{frame_sizes, global_addresses}
 use Rattle.c_image.specs.LoopFree.{IsLoopFree}
 use Rattle.c_image.specs.Mapping.{frames_at, map_of}
 use Rattle.project_text.specs.MapText.{map_text}
@@ -31,22 +27,21 @@ use Rattle.obj_mem.specs.Runs.{Meaning}
 use Rattle.mid_code.specs.Agrees.{AgreesWithin}
 use Rattle.cycle_bound.specs.declared.bound.Bound.{Bound}
 use Rattle.cycle_bound.specs.declared.bound.Bound.TheVariants.{Unbounded}
-use Rattle.cycle_bound.specs.Forward.{HasNumber}
 use Rattle.cycle_bound.specs.Lines.{IsTold}
 use Rattle.cycle_bound.specs.Staying.{StayWithin}
 use Rattle.cycle_bound.specs.Told.{IsBoundOf}
 use Rattle.build_core.specs.declared.building.Built.{Built}
 use Rattle.build_core.specs.Due.{assets}
 use Rattle.build_core.specs.Build.{IsBuilt, cartridge_of}
-use Rattle.kit_words.specs.Command.{Bounds, command_of}
+use Rattle.kit_words.specs.Command.{command_of}
 use Rattle.kit_words.proofs.Created.{AreThree, bounds_differ}
 use Rattle.kit_tools.specs.Work.{Work}
-use Rattle.kit_core.specs.Due.{bounds_due, bounds_effects, bounds_work, form_due, function_names, outputs_of, read_bounds_due}
+use Rattle.kit_core.specs.Due.{bounds_due, bounds_effects, bounds_work, form_due, function_names, read_bounds_due}
 use Rattle.kit_core.specs.Bounded.{BoundsStand, IsBoundedInto, function_addresses}
 use Rattle.kit_core.specs.Generating.{front_of}
 use Rattle.kit_core.specs.Outcome.{IsOutcome, putting}
 use Rattle.kit_core.proofs.Behind.{plain_ends}
-use Rattle.kit_core.proofs.Headlines.{done_at_zero}
+use Rattle.kit_core.proofs.Headlines.{ReadBack, done_at_zero, words_agree}
 use Rattle.kit_core.proofs.Writes.{get_unwritten, get_written}
 
 -- ---- the whole
@@ -106,9 +101,6 @@ forbidden : (items : List AsmItem) (name : List ℕ) → IsBoundOf items name Un
 unfolding IsBoundOf
 forbidden items name h = h
 
-abbrev pub ReadBack : Type 0
-ReadBack = (m : Held) (project : List ℕ) (b : Built) (built : IsBuilt m project b) → cart_of b.cart ≡ Ok (cartridge_of built.of.parts.title built.of.image (assets built.textures built.sounds))
-
 abbrev pub StayingLaw : Type 0
 StayingLaw =
     (items : List AsmItem) (words : List ℕ) (labels : List (List ℕ × ℕ)) → fault_of items ≡ None → AreReadable items → Placed items words labels → length words ≤ 33554432
@@ -125,12 +117,10 @@ module _ (stay : StayingLaw) (back : ReadBack) where
       let image = built.of.image_is in
       let same : items ≡ image.items = same_items items image.items (read b.asm) reads (ap read built.asm_is ∙ image.reads) in
       let map_is = built.map_is in
-      let agrees : AgreesWithin 64 (global_addresses b.map) (c_runs built.of.program (frame_sizes b.map)) built.of.image.words =
-      subst (λ (k : Map). AgreesWithin 64 (global_addresses k) (c_runs built.of.program (frame_sizes k)) built.of.image.words) (sym map_is) image.does.agrees in
       let at : map (λ name. address_in image.labels (label_of_function name)) (function_names b.map) ≡ function_addresses b.map =
       at_rows b.map built.of.program (frame_sizes built.of.image.map) _ (address_in image.labels) (map_is ∙ image.map_is) in
       subst (λ addresses. StayWithin (global_addresses b.map) (c_runs built.of.program (frame_sizes b.map)) built.of.image.words addresses bounds) at
-      (stay image.items built.of.image.words image.labels image.faultless image.readable image.words image.few 64 (global_addresses b.map) (c_runs built.of.program (frame_sizes b.map)) agrees
+      (stay image.items built.of.image.words image.labels image.faultless image.readable image.words image.few 64 (global_addresses b.map) (c_runs built.of.program (frame_sizes b.map)) (words_agree m text b built)
       (function_names b.map) bounds (subst (λ is. AllZip (IsBoundOf is) (function_names b.map) bounds) same exact))
 
   numbered : (m : Held) (text : List ℕ) (b : Built) (built : IsBuilt m text b) (items : List AsmItem) → read b.asm ≡ Ok items → (bounds : List Bound) → AllZip (IsBoundOf items) (function_names b.map) bounds

@@ -8,6 +8,13 @@ use Rattle.kit_base.specs.Effects.{all_done}
 use Rattle.kit_base.specs.Outside.{due}
 use Rattle.kit_base.specs.declared.outside.FileErr.{FileErr}
 use Rattle.build_core.specs.declared.building.Built.{Built}
+use Rattle.build_core.specs.Build.{IsBuilt, cartridge_of}
+use Rattle.build_core.specs.Due.{assets}
+use Rattle.c_meaning.specs.Runs.{c_runs}
+use Rattle.c_image.specs.Imaging.{frame_sizes, global_addresses}
+use Rattle.cart_format.specs.Reading.{cart_of}
+use Rattle.mid_code.specs.Agrees.{AgreesWithin}
+use Rattle.project_text.specs.declared.map.Map.{Map}
 use Rattle.project_text.specs.MapText.{map_text}
 use Rattle.kit_tools.specs.declared.refusal.Refusal.{Refusal}
 use Rattle.kit_tools.specs.declared.refusal.DueRefusal.{DueRefusal}
@@ -80,29 +87,41 @@ pub map_there : (m : Held) (cart map_name : List ℕ) (b : Built) (after : Optio
 map_there m cart map_name b after e =
     subst (λ h. IsSomeAnd h (λ files. get files map_name ≡ Some (map_text b.map))) (sym e) (get_written _ map_name (map_text b.map))
 
-built_into : (project cart map_name : List ℕ) (m : Held) (after : Option Held) (work : Work) (r : Result (List ℕ) FileErr) → bytes_eq cart map_name ≡ false
-    → due m project ≡ r → read_build_due project cart map_name m r (Ok work) → after ≡ all_done work.effects (Some m) → IsBuiltInto project cart map_name m after
-built_into project cart map_name m after work (Ok text) differ read d e =
-    let stands : after ≡ all_done (outputs_of cart map_name d.0) (Some m) = e ∙ ap (λ (w : Work). all_done w.effects (Some m)) (sym d.2) in
-    record {
-      text = text;
-      built = d.0;
-      project_is = read;
-      is_built = d.1;
-      outputs = stands;
-      cart_stands = cart_there m cart map_name d.0 after differ stands;
-      map_stands = map_there m cart map_name d.0 after stands;
-    }
-built_into project cart map_name m after work (Err f) differ read d e = absurd cc
+abbrev pub ReadBack : Type 0
+ReadBack = (m : Held) (project : List ℕ) (b : Built) (built : IsBuilt m project b) → cart_of b.cart ≡ Ok (cartridge_of built.of.parts.title built.of.image (assets built.textures built.sounds))
 
-headline : (words : List (List ℕ)) (m : Held) (status : ℕ) (after : Option Held) (before put : Option (List ℕ))
-    → IsOutcome words m status after before put → status ≡ 0 → BuildStands words m after
-headline words m status after before put outcome z = λ project cart map_name named.
-    let done = done_at_zero _ _ m status after before put (plain_ends (command_of words) m status after before put (ap front_of named) outcome) z in
-    let is_due : build_due project cart map_name m (Ok done.0) = subst (λ o. form_due o m (Ok done.0)) named done.1 in
-    built_into project cart map_name m after done.0 (due m project) (build_differ words project cart map_name named) refl is_due done.2
+-- what the words of a build do, told by its own map
+pub words_agree : (m : Held) (text : List ℕ) (b : Built) (built : IsBuilt m text b) → AgreesWithin 64 (global_addresses b.map) (c_runs built.of.program (frame_sizes b.map)) built.of.image.words
+words_agree m text b built =
+    subst (λ (k : Map). AgreesWithin 64 (global_addresses k) (c_runs built.of.program (frame_sizes k)) built.of.image.words) (sym built.map_is) built.of.image_is.does.agrees
 
-pub headline_told : (words : List (List ℕ)) (status : ℕ) (told after : Option Held) (before put : Option (List ℕ))
-    → IfSome told (λ m. IsOutcome words m status after before put) → IfSome told (λ m. status ≡ 0 → BuildStands words m after)
-headline_told words status None after before put outcome = tt
-headline_told words status (Some m) after before put outcome = headline words m status after before put outcome
+module _ (back : ReadBack) where
+  built_into : (project cart map_name : List ℕ) (m : Held) (after : Option Held) (work : Work) (r : Result (List ℕ) FileErr) → bytes_eq cart map_name ≡ false
+      → due m project ≡ r → read_build_due project cart map_name m r (Ok work) → after ≡ all_done work.effects (Some m) → IsBuiltInto project cart map_name m after
+  built_into project cart map_name m after work (Ok text) differ read d e =
+      let stands : after ≡ all_done (outputs_of cart map_name d.0) (Some m) = e ∙ ap (λ (w : Work). all_done w.effects (Some m)) (sym d.2) in
+      record {
+        text = text;
+        built = d.0;
+        project_is = read;
+        is_built = d.1;
+        outputs = stands;
+        cart_stands = cart_there m cart map_name d.0 after differ stands;
+        map_stands = map_there m cart map_name d.0 after stands;
+        cartridge = cartridge_of d.1.of.parts.title d.1.of.image (assets d.1.textures d.1.sounds);
+        cartridge_is = back m text d.0 d.1;
+        does = words_agree m text d.0 d.1;
+      }
+  built_into project cart map_name m after work (Err f) differ read d e = absurd cc
+
+  headline : (words : List (List ℕ)) (m : Held) (status : ℕ) (after : Option Held) (before put : Option (List ℕ))
+      → IsOutcome words m status after before put → status ≡ 0 → BuildStands words m after
+  headline words m status after before put outcome z = λ project cart map_name named.
+      let done = done_at_zero _ _ m status after before put (plain_ends (command_of words) m status after before put (ap front_of named) outcome) z in
+      let is_due : build_due project cart map_name m (Ok done.0) = subst (λ o. form_due o m (Ok done.0)) named done.1 in
+      built_into project cart map_name m after done.0 (due m project) (build_differ words project cart map_name named) refl is_due done.2
+
+  pub headline_told : (words : List (List ℕ)) (status : ℕ) (told after : Option Held) (before put : Option (List ℕ))
+      → IfSome told (λ m. IsOutcome words m status after before put) → IfSome told (λ m. status ≡ 0 → BuildStands words m after)
+  headline_told words status None after before put outcome = tt
+  headline_told words status (Some m) after before put outcome = headline words m status after before put outcome

@@ -6,6 +6,9 @@ use Rattle.kit_base.specs.Effects.{all_done}
 use Rattle.kit_base.specs.Outside.{due}
 use Rattle.build_core.specs.declared.building.Built.{Built}
 use Rattle.build_core.specs.Build.{IsBuilt}
+use Rattle.c_meaning.specs.Runs.{c_runs}
+use Rattle.c_image.specs.Imaging.{frame_sizes, global_addresses}
+use Rattle.mid_code.specs.Agrees.{AgreesWithin}
 use Rattle.project_text.specs.MapText.{map_text}
 use Rattle.kit_words.specs.Command.{RunWords, Build, Play, Gen, command_of}
 use Rattle.kit_words.specs.Forms.{source_name}
@@ -22,8 +25,9 @@ use Rattle.cart_format.specs.Cartridge.{Cartridge}
 use Rattle.cart_format.specs.Reading.{cart_of}
 
 -- The project was held. Its outputs stand, with every other file as before: the file `cart` has the
--- bytes of the cartridge, whose program does what the project's source means, and the file
--- `map_name` has the text of its map.
+-- bytes of the cartridge, and the file `map_name` the text of its map. The program of the cartridge
+-- that those bytes are does what the project's source means, for every bound, answers and card: in
+-- a run that does not stray within 64 instructions for each unit of the source's work, and 64.
 pub record IsBuiltInto (project cart map_name : List ℕ) (held : Held) (after : Option Held) : Type 0 where
   pub text : List ℕ
   pub built : Built
@@ -32,6 +36,9 @@ pub record IsBuiltInto (project cart map_name : List ℕ) (held : Held) (after :
   pub outputs : after ≡ all_done (outputs_of cart map_name built) (Some held)
   pub cart_stands : IsSomeAnd after (λ files. get files cart ≡ Some built.cart)
   pub map_stands : IsSomeAnd after (λ files. get files map_name ≡ Some (map_text built.map))
+  pub cartridge : Cartridge
+  pub cartridge_is : cart_of built.cart ≡ Ok cartridge
+  pub does : AgreesWithin 64 (global_addresses built.map) (c_runs is_built.of.program (frame_sizes built.map)) cartridge.program
 
 -- where the words are a build, it was carried out
 abbrev pub BuildStands : List (List ℕ) → Held → Option Held → Type 0

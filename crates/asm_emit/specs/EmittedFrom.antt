@@ -94,6 +94,7 @@ pub record IsEmitted (x : PlacedT) (names : List (List ℕ)) (items : List AsmIt
   -- they can be written as text
   pub readable : AreReadable items
   -- the words that the items are placed as do what the code means, each global at the sum of the sizes before it
-  pub agrees : (words : List ℕ) (labels : List (List ℕ × ℕ)) → asm.Placed items words labels → AgreesWithin 1 (addresses 0 x.code.globals) (placed_runs x) words
+  pub agrees : (words : List ℕ) (labels : List (List ℕ × ℕ)) → asm.Placed items words labels
+      → AgreesWithin 1 (addresses 0 x.code.globals) (placed_runs x) words
   pub functions : (start rest : List AsmItem) × (items ≡ start ++ rest) × AreFunctions names names x.code.functions rest
   pub small : total_size items ≤ weight x.code + literal_words x + 64

@@ -201,7 +201,8 @@ fn put_in_one(
     o: &Op<Where>,
     rest: &[Node<Where>],
 ) -> Result<Option<u32>, Memory>
-    ensures items { OnOk result (out.new.items ≡ out.old.items ++ ahead_items (front_summed (front_put (whole w.now) (op_before o.now Stop)) (nodes rest.now))) }
+    ensures items { OnOk result (out.new.items ≡ out.old.items
+        ++ ahead_items (front_summed (front_put (whole w.now) (op_before o.now Stop)) (nodes rest.now))) }
     ensures more { IfOk result (λ k. k ≡ ahead_more (front_summed (front_put (whole w.now) (op_before o.now Stop)) (nodes rest.now))) }
 {
     match in_one(w, o, rest) {

@@ -3,7 +3,8 @@ ghost use Rattle.std.specs.Prelude.{◌≡◌, ◌+◌, ◌-◌, ◌<◌, ◌^�
 ghost use Rattle.kit_base.specs.Word.{add};
 ghost use Rattle.mid_code.specs.Functions.{node, nodes, listed, BlockN};
 ghost use Rattle.asm_laws.specs.Operations.{giving, hand, brings};
-ghost use Rattle.asm_laws.specs.inner.Emitted.{labels, enclosing, jump, jump_unless, jump_when, mark, first_part, second_part, one_way, alone, returning, code_items};
+ghost use Rattle.asm_laws.specs.inner.Emitted.{labels, enclosing, jump, jump_unless, jump_when, mark, first_part, second_part, one_way, alone};
+ghost use Rattle.asm_laws.specs.inner.Emitted.{returning, code_items};
 ghost use Rattle.asm_emit.specs.inner.Listed.{left_in, ends_in, node_labels, list_labels, node_items, list_past};
 ghost use Rattle.asm_emit.specs.inner.View.{frame, whole};
 
@@ -127,7 +128,9 @@ fn put_first(
     a: &[Node<Where>],
 ) -> Result<u32, Memory>
     requires fits { n + 1 + list_labels (listed (map node a.now)) < 2 ^ 32 - 1 }
-    ensures items { OnOk result (out.new.items ≡ out.old.items ++ first_part (frame s.now) p n (n + 1 + list_labels (listed (map node a.now))) (list_past (whole w.now) (frame s.now) end false ls.old.items (n + 1) (listed (map node a.now)) 0)) }
+    ensures items { OnOk result (out.new.items ≡ out.old.items
+        ++ first_part (frame s.now) p n (n + 1 + list_labels (listed (map node a.now)))
+        (list_past (whole w.now) (frame s.now) end false ls.old.items (n + 1) (listed (map node a.now)) 0)) }
     ensures labels { OnOk result (ls.new.items ≡ ls.old.items) }
     ensures next { IfOk result (λ m. m ≡ n + 1 + list_labels (listed (map node a.now))) }
 {
@@ -153,7 +156,8 @@ fn put_second(
     b: &[Node<Where>],
 ) -> Result<u32, Memory>
     requires fits { m + 1 + list_labels (listed (map node b.now)) < 2 ^ 32 - 1 }
-    ensures items { OnOk result (out.new.items ≡ out.old.items ++ second_part m (list_past (whole w.now) (frame s.now) end last ls.old.items (m + 1) (listed (map node b.now)) 0)) }
+    ensures items { OnOk result (out.new.items ≡ out.old.items
+        ++ second_part m (list_past (whole w.now) (frame s.now) end last ls.old.items (m + 1) (listed (map node b.now)) 0)) }
     ensures labels { OnOk result (ls.new.items ≡ ls.old.items) }
     ensures next { IfOk result (λ k. k ≡ m + 1 + list_labels (listed (map node b.now))) }
 {
@@ -177,7 +181,8 @@ fn put_one_way(
     a: &[Node<Where>],
 ) -> Result<u32, Memory>
     requires fits { n + 2 + list_labels (listed (map node a.now)) < 2 ^ 32 - 1 }
-    ensures items { OnOk result (out.new.items ≡ out.old.items ++ one_way (frame s.now) p n (list_past (whole w.now) (frame s.now) end last ls.old.items (n + 1) (listed (map node a.now)) 0)) }
+    ensures items { OnOk result (out.new.items ≡ out.old.items
+        ++ one_way (frame s.now) p n (list_past (whole w.now) (frame s.now) end last ls.old.items (n + 1) (listed (map node a.now)) 0)) }
     ensures labels { OnOk result (ls.new.items ≡ ls.old.items) }
     ensures next { IfOk result (λ m. m ≡ n + 2 + list_labels (listed (map node a.now))) }
 {
@@ -220,7 +225,9 @@ fn put_alone(
     a: &[Node<Where>],
 ) -> Result<u32, Memory>
     requires fits { n + 2 + list_labels (listed (map node a.now)) < 2 ^ 32 - 1 }
-    ensures items { OnOk result (out.new.items ≡ out.old.items ++ alone (frame s.now) p n (left_in ls.old.items (listed (map node a.now))) (list_past (whole w.now) (frame s.now) end last ls.old.items (n + 1) (listed (map node a.now)) 0)) }
+    ensures items { OnOk result (out.new.items ≡ out.old.items
+        ++ alone (frame s.now) p n (left_in ls.old.items (listed (map node a.now)))
+        (list_past (whole w.now) (frame s.now) end last ls.old.items (n + 1) (listed (map node a.now)) 0)) }
     ensures labels { OnOk result (ls.new.items ≡ ls.old.items) }
     ensures next { IfOk result (λ m. m ≡ n + 2 + list_labels (listed (map node a.now))) }
 {
@@ -247,7 +254,8 @@ fn put_enclosed(
     b: &[Node<Where>],
 ) -> Result<u32, Memory>
     requires fits { n + node_labels (BlockN (listed (map node b.now))) < 2 ^ 32 - 1 }
-    ensures items { OnOk result (out.new.items ≡ out.old.items ++ node_items (whole w.now) (frame s.now) end last ls.old.items n (BlockN (listed (map node b.now)))) }
+    ensures items { OnOk result (out.new.items ≡ out.old.items
+        ++ node_items (whole w.now) (frame s.now) end last ls.old.items n (BlockN (listed (map node b.now)))) }
     ensures labels { OnOk result (ls.new.items ≡ ls.old.items) }
     ensures next { IfOk result (λ m. m ≡ n + node_labels (BlockN (listed (map node b.now)))) }
 {

@@ -6,7 +6,8 @@ ghost use Rattle.mid_code.specs.View.{code, spots};
 ghost use Rattle.mid_code.specs.Whole.{placed};
 ghost use Rattle.asm_laws.specs.Operations.{literal_items, literals_items};
 ghost use Rattle.asm_laws.specs.Framing.{frame_made, frame_gone};
-ghost use Rattle.asm_laws.specs.inner.Emitted.{labels, labels_of, functions_labels, entry_items, exit_items, function_items, functions_items, start_items, closing_items, program_items};
+ghost use Rattle.asm_laws.specs.inner.Emitted.{labels, labels_of, functions_labels, entry_items, exit_items, function_items, functions_items};
+ghost use Rattle.asm_laws.specs.inner.Emitted.{start_items, closing_items, program_items};
 ghost use Rattle.asm_emit.specs.EmittedFrom.{CanBeEmitted, IsEmitted};
 ghost use Rattle.asm_emit.specs.inner.View.{frame, whole, whole_of_parts, wrapped_addresses};
 
@@ -23,7 +24,7 @@ use mid_code::{Code, Function, Node, Placed, Spots, Where};
 use std::alloc::Global;
 use v32_isa::{Go, Instr, Mov, One, Plain, Reg, Src, Two};
 
-/// Adds what makes a frame of so many words, where it has any.
+/// Adds what makes a frame of `size` words, where it has any.
 fn put_frame_made(out: &mut Vec<AsmItem>, size: u32) -> Result<(), Memory>
     ensures { OnOk result (out.new.items ≡ out.old.items ++ frame_made size) }
 {
@@ -39,7 +40,7 @@ fn put_frame_made(out: &mut Vec<AsmItem>, size: u32) -> Result<(), Memory>
     }
 }
 
-/// Adds what takes away a frame of so many words, where it has any, and goes back.
+/// Adds what takes away a frame of `size` words, where it has any, and goes back.
 fn put_frame_gone(out: &mut Vec<AsmItem>, size: u32) -> Result<(), Memory>
     ensures { OnOk result (out.new.items ≡ out.old.items ++ frame_gone size) }
 {
@@ -221,7 +222,8 @@ fn items_of(
     requires fits { labels_of (code of.now) < 2 ^ 32 - 1 }
     requires few { length (code of.now).functions < 2 ^ 32 - 1 }
     requires texts { length (code of.now).literals < 2 ^ 32 - 1 }
-    ensures { IfOk result (λ v. v.items ≡ program_items (whole_of_parts (code of.now).functions (map spots at.now) sizes.now names.now (wrapped_addresses 0 (code of.now).globals)) (code of.now)) }
+    ensures { IfOk result (λ v. v.items ≡ program_items
+        (whole_of_parts (code of.now).functions (map spots at.now) sizes.now names.now (wrapped_addresses 0 (code of.now).globals)) (code of.now)) }
 {
     let globals = addresses(alloc, of.globals.as_slice())?;
     let w = Around {

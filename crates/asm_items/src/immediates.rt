@@ -4,13 +4,13 @@ ghost use Rattle.asm_items.specs.Items.{instr_with, mov_with, src_with};
 
 use v32_isa::{Instr, Mov, Src};
 
-/// What is put in the place of each immediate: of type `J`, for those of type `I`.
+/// What takes the place of each immediate: of type `J`, for those of type `I`.
 pub trait Immediates<I, J> {
     ghost can_place: { Self → Type 0 };
 
     ghost placed: { Self → I → J };
 
-    /// What is put in the place of this immediate.
+    /// What takes the place of this immediate.
     fn placed(&self, imm: &I) -> J
         requires can { can_place self.now }
         ensures placed { result ≡ placed self.now imm.now };
@@ -42,7 +42,7 @@ fn mov_with<I, J, F: Immediates<I, J>>(f: &F, m: &Mov<I>) -> Mov<J>
     }
 }
 
-/// The instruction with what is put in the place of each of its immediates.
+/// The instruction with each of its immediates replaced.
 pub fn instr_with<I, J, F: Immediates<I, J>>(f: &F, i: &Instr<I>) -> Instr<J>
     requires can { F.can_place f.now }
     ensures with { result ≡ instr_with (F.placed f.now) i.now }

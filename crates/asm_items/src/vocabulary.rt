@@ -2,7 +2,8 @@
 ghost use Rattle.std.specs.Prelude.{◌≡◌, ◌<◌, IfSome, map, option_map};
 ghost use Rattle.std.specs.List.{list_all};
 ghost use Rattle.v32_isa.specs.Ports.{port_named};
-ghost use Rattle.asm_items.specs.Vocabulary.{entry, is_label, is_label_word, is_letter, is_spelled, is_word, is_word_byte, listed, named, registers, vocabulary, word_kind};
+ghost use Rattle.asm_items.specs.Vocabulary.{entry, is_label, is_label_word, is_letter, is_spelled, is_word, is_word_byte, listed, named, registers};
+ghost use Rattle.asm_items.specs.Vocabulary.{vocabulary, word_kind};
 
 use crate::mnemonic::operation_name;
 use v32_isa::{Branch, Go, One, Plain, Port, Reg, Two, port_by_name};

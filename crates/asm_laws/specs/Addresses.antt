@@ -1,5 +1,6 @@
 -- What operations do to the words at addresses and in registers.
-use Rattle.std.specs.Prelude.{ℕ, ◌≡◌, ◌+◌, ◌-◌, ◌<◌, ◌≤◌, Bool, true, ◌&&◌, ◌||◌, false, nat_lt, nat_le, List, [], ◌∷◌, length, Option, Some, None, get_or, slice_index}
+use Rattle.std.specs.Prelude.{ℕ, ◌≡◌, ◌+◌, ◌-◌, ◌<◌, ◌≤◌, Bool, true, ◌&&◌, ◌||◌, false, nat_lt, nat_le, List, [], ◌∷◌, length, Option, Some, None}
+use Rattle.std.specs.Prelude.{get_or, slice_index}
 use Rattle.kit_base.specs.declared.event.Event.{Event}
 use Rattle.kit_base.specs.declared.event.Event.TheVariants as event
 use Rattle.kit_base.specs.Word.{add, sub}
@@ -13,7 +14,8 @@ use Rattle.v32_isa.specs.Runs as run
 use Rattle.v32_isa.specs.Runs.End.{Halted, Fault, Starved}
 use Rattle.mid_code.specs.declared.placed.Where.{Where}
 use Rattle.mid_code.specs.declared.placed.Where.TheVariants.{Reg, Slot}
-use Rattle.mid_code.specs.Code.{OpT, ConstO, NullO, MoveO, OneO, TwoO, GlobalO, LocalO, LiteralO, CardO, StepO, ApartO, PtrTestO, LoadO, StoreO, FreshO, EndO, InO, OutO, WaitO, HaltO}
+use Rattle.mid_code.specs.Code.{OpT, ConstO, NullO, MoveO, OneO, TwoO, GlobalO, LocalO, LiteralO, CardO, StepO, ApartO, PtrTestO, LoadO, StoreO}
+use Rattle.mid_code.specs.Code.{FreshO, EndO, InO, OutO, WaitO, HaltO}
 use Rattle.asm_laws.specs.Names.{literal_label}
 use Rattle.asm_laws.specs.Operations.{Frame, Whole}
 use Rattle.v32_isa.specs.Calls.{Link, Nested}
@@ -163,7 +165,8 @@ pub record Held (C : Console) (a : Addr) (s : State) : Type 0 where
 
 -- in at most so many steps the machine comes to an address, holding the words that the operation leaves; and the innermost calls in progress before and
 -- after, which are the same but in a call and on the way back
-pub record ArrivesBy (ins outs : List Link) (C : Console) (limit : ℕ) (s : State) (xs : List ℕ) (pc : ℕ) (es : List Event) (ys : List ℕ) (a : Addr) : Type 0 where
+pub record ArrivesBy (ins outs : List Link) (C : Console) (limit : ℕ) (s : State) (xs : List ℕ) (pc : ℕ) (es : List Event) (ys : List ℕ)
+    (a : Addr) : Type 0 where
   pub steps : ℕ
   pub to : State
   pub by : Moves ins outs steps s xs es to ys

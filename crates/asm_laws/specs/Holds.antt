@@ -61,7 +61,8 @@ pub record Fits (S : Setting) : Type 0 where
   pub slot_apart : (f j k : ℕ) → S.has_slot f j → S.has_slot f k → slot_offset S f j ≡ slot_offset S f k → j ≡ k
   pub slot_local : (f k j i : ℕ) → S.has_slot f k → j < length (S.locals f) → i < local_words S f j → slot_offset S f k ≢ local_offset S f j + i
   pub local_in : (f j : ℕ) → j < length (S.locals f) → local_offset S f j + local_words S f j ≤ (S.whole.frames f).size
-  pub local_apart : (f j k i h : ℕ) → j < length (S.locals f) → k < length (S.locals f) → i < local_words S f j → h < local_words S f k → local_offset S f j + i ≡ local_offset S f k + h → j ≡ k
+  pub local_apart : (f j k i h : ℕ) → j < length (S.locals f) → k < length (S.locals f) → i < local_words S f j → h < local_words S f k
+      → local_offset S f j + i ≡ local_offset S f k + h → j ≡ k
   pub depth_in : (f : ℕ) → S.depth f ≤ (S.whole.frames f).size
   -- a function, or the start, which has no locals
   pub depth_is : (f j : ℕ) → j < length (S.locals f) → S.depth f ≡ (S.whole.frames f).size
@@ -69,7 +70,8 @@ pub record Fits (S : Setting) : Type 0 where
   pub locals_none : (f : ℕ) → S.called_as f ≡ None → S.locals f ≡ []
   -- the addresses in the code
   pub globals_at : (k : ℕ) → k < length S.code.globals → (k < S.fixed_count) × (get_or S.whole.globals k 0 ≡ S.fixed k)
-  pub literals_at : (k : ℕ) → k < length S.code.literals → (length S.code.globals + k < S.fixed_count) × (S.address (literal_label k) ≡ S.fixed (length S.code.globals + k))
+  pub literals_at : (k : ℕ) → k < length S.code.literals → (length S.code.globals + k < S.fixed_count)
+      × (S.address (literal_label k) ≡ S.fixed (length S.code.globals + k))
   pub card_at : (length S.code.globals + length S.code.literals < S.fixed_count) × (S.fixed (length S.code.globals + length S.code.literals) ≡ 0x30000000)
   pub fixed_small : (o : ℕ) → o < S.fixed_count → S.fixed o < 0x40000000
   -- the program ends below the card
@@ -131,7 +133,8 @@ pub record Ranges (S : Setting) (κ : Ctx) (os : List ObjectT) (place : ℕ → 
   pub apart : (o p i j : ℕ) → Lives os o → Lives os p → i < wide os o → j < wide os p → place o + i ≡ place p + j → o ≡ p
   pub outer : (o i : ℕ) → o < κ.first → Lives os o → i < wide os o → (place o + i < (sizes S).globals) ⊎ (κ.base ≤ place o + i)
   pub mine : (o : ℕ) → κ.first ≤ o → Lives os o → (k : ℕ) × (k < length locals) × (local_object locals k ≡ Some o)
-  pub local : (k o : ℕ) → k < length locals → local_object locals k ≡ Some o → (κ.first ≤ o) × (o < length os) × (place o + ((S.whole.frames κ.fn).size - local_offset S κ.fn k) ≡ κ.base)
+  pub local : (k o : ℕ) → k < length locals → local_object locals k ≡ Some o
+      → (κ.first ≤ o) × (o < length os) × (place o + ((S.whole.frames κ.fn).size - local_offset S κ.fn k) ≡ κ.base)
   pub local_wide : (k o : ℕ) → k < length locals → local_object locals k ≡ Some o → Lives os o → wide os o ≡ local_words S κ.fn k
   pub first_in : κ.first ≤ length os
   pub old_lives : (o : ℕ) → o < κ.first → Lives os o → Lives κ.seen o × (wide os o ≡ wide κ.seen o)

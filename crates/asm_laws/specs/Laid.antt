@@ -20,7 +20,8 @@ pub record Laid (S : Setting) (boot : ℕ) (card : Option (List ℕ)) : Type 0 w
   pub from : 0x20000000 ≤ first_literal
   pub upto : first_literal + sum (literal_sizes S.code.literals) ≤ 0x20000000 + length S.console.words
   pub short : length S.console.words < 0x10000000
-  pub literal_words : (k i j : ℕ) → k < length S.code.literals → i < length (get_or S.code.literals k []) + 1 → 0x20000000 + j ≡ spread (literal_sizes S.code.literals) first_literal k + i →
+  pub literal_words : (k i j : ℕ) → k < length S.code.literals → i < length (get_or S.code.literals k []) + 1
+      → 0x20000000 + j ≡ spread (literal_sizes S.code.literals) first_literal k + i →
       slice_index S.console.words j ≡ get_or (get_or S.code.literals k [] ++ 0 ∷ []) i 0
   pub card_at : S.fixed (length S.code.globals + length S.code.literals) ≡ 0x30000000
   pub has_card : S.console.has_card ≡ is_some card

@@ -48,7 +48,8 @@ pub record Linked (S : Setting) (card : Option (List ℕ)) (boot rest : ℕ) : T
   pub calls_main : CallAt S rest (S.leaves boot) None S.code.main [] after
   pub last : ℕ
   pub halt : Line S.console.words after (instr.Plain HLT) last
-  pub opens : (answers : List ℕ) → HoldsAt S (first_context S boot card) (opening_store S.code.globals S.code.literals answers card) (λ q. Unwritten) S.fixed (first_words S card)
+  pub opens : (answers : List ℕ) → HoldsAt S (first_context S boot card) (opening_store S.code.globals S.code.literals answers card)
+      (λ q. Unwritten) S.fixed (first_words S card)
 
 -- where a program stands, but for its words and card
 pub record Plan : Type 1 where

@@ -40,10 +40,13 @@ pub data Forbids (items : List AsmItem) (p : List AsmItem) : Type 0 where
 pub data Takes (items : List AsmItem) : List AsmItem → ℕ → Type 0 where
   of_mark : (name : List ℕ) (rest : List AsmItem) (n : ℕ) → Takes items rest n → Takes items (Label name ∷ rest) n
   of_goes : (i : Instr Imm) (rest : List AsmItem) (n : ℕ) → kind_of i ≡ Goes → Takes items rest n → Takes items (Op i ∷ rest) (suc n)
-  of_jump : (i : Instr Imm) (l : List ℕ) (rest : List AsmItem) (n : ℕ) → kind_of i ≡ Jumps l → Takes items (behind items l) n → Takes items (Op i ∷ rest) (suc n)
+  of_jump : (i : Instr Imm) (l : List ℕ) (rest : List AsmItem) (n : ℕ) → kind_of i ≡ Jumps l → Takes items (behind items l) n
+      → Takes items (Op i ∷ rest) (suc n)
   of_pass : (i : Instr Imm) (l : List ℕ) (rest : List AsmItem) (n : ℕ) → kind_of i ≡ Parts l → Takes items rest n → Takes items (Op i ∷ rest) (suc n)
-  of_part : (i : Instr Imm) (l : List ℕ) (rest : List AsmItem) (n : ℕ) → kind_of i ≡ Parts l → Takes items (behind items l) n → Takes items (Op i ∷ rest) (suc n)
-  of_call : (i : Instr Imm) (l : List ℕ) (rest : List AsmItem) (m n : ℕ) → kind_of i ≡ Calls l → Takes items (behind items l) m → Takes items rest n → Takes items (Op i ∷ rest) (suc (m + n))
+  of_part : (i : Instr Imm) (l : List ℕ) (rest : List AsmItem) (n : ℕ) → kind_of i ≡ Parts l → Takes items (behind items l) n
+      → Takes items (Op i ∷ rest) (suc n)
+  of_call : (i : Instr Imm) (l : List ℕ) (rest : List AsmItem) (m n : ℕ) → kind_of i ≡ Calls l → Takes items (behind items l) m → Takes items rest n
+      → Takes items (Op i ∷ rest) (suc (m + n))
   of_return : (i : Instr Imm) (rest : List AsmItem) → kind_of i ≡ Returns → Takes items (Op i ∷ rest) 1
   of_halt : (i : Instr Imm) (rest : List AsmItem) → kind_of i ≡ Halts → Takes items (Op i ∷ rest) 1
 

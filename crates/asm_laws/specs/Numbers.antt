@@ -64,9 +64,12 @@ behind (Pointer name ∷ items) l = behind items l
 pub data Number (items : List AsmItem) : List AsmItem → ℕ → Type 0 where
   at_mark : (name : List ℕ) (rest : List AsmItem) (n : ℕ) → Number items rest n → Number items (Label name ∷ rest) n
   at_goes : (i : Instr Imm) (rest : List AsmItem) (n : ℕ) → kind_of i ≡ Goes → Number items rest n → Number items (Op i ∷ rest) (suc n)
-  at_jump : (i : Instr Imm) (l : List ℕ) (rest : List AsmItem) (n : ℕ) → kind_of i ≡ Jumps l → Number items (behind items l) n → Number items (Op i ∷ rest) (suc n)
-  at_parts : (i : Instr Imm) (l : List ℕ) (rest : List AsmItem) (m k n : ℕ) → kind_of i ≡ Parts l → Number items rest m → Number items (behind items l) k → m ≤ n → k ≤ n → (n ≡ m) ⊎ (n ≡ k) → Number items (Op i ∷ rest) (suc n)
-  at_call : (i : Instr Imm) (l : List ℕ) (rest : List AsmItem) (m n : ℕ) → kind_of i ≡ Calls l → Number items (behind items l) m → Number items rest n → Number items (Op i ∷ rest) (suc (m + n))
+  at_jump : (i : Instr Imm) (l : List ℕ) (rest : List AsmItem) (n : ℕ) → kind_of i ≡ Jumps l → Number items (behind items l) n
+      → Number items (Op i ∷ rest) (suc n)
+  at_parts : (i : Instr Imm) (l : List ℕ) (rest : List AsmItem) (m k n : ℕ) → kind_of i ≡ Parts l → Number items rest m
+      → Number items (behind items l) k → m ≤ n → k ≤ n → (n ≡ m) ⊎ (n ≡ k) → Number items (Op i ∷ rest) (suc n)
+  at_call : (i : Instr Imm) (l : List ℕ) (rest : List AsmItem) (m n : ℕ) → kind_of i ≡ Calls l → Number items (behind items l) m → Number items rest n
+      → Number items (Op i ∷ rest) (suc (m + n))
   at_return : (i : Instr Imm) (rest : List AsmItem) → kind_of i ≡ Returns → Number items (Op i ∷ rest) 1
   at_halt : (i : Instr Imm) (rest : List AsmItem) → kind_of i ≡ Halts → Number items (Op i ∷ rest) 1
 

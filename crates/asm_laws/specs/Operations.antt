@@ -17,7 +17,8 @@ use Rattle.asm_items.specs.declared.item.AsmItem.TheVariants as item
 use Rattle.asm_items.specs.Items.{Imm}
 use Rattle.mid_code.specs.declared.placed.Where.{Where}
 use Rattle.mid_code.specs.declared.placed.Where.TheVariants.{Reg, Slot}
-use Rattle.mid_code.specs.Code.{NodesT, Do, OpT, ConstO, NullO, MoveO, OneO, TwoO, GlobalO, LocalO, LiteralO, CardO, StepO, ApartO, PtrTestO, LoadO, StoreO, FreshO, EndO, InO, OutO, WaitO, HaltO}
+use Rattle.mid_code.specs.Code.{NodesT, Do, OpT, ConstO, NullO, MoveO, OneO, TwoO, GlobalO, LocalO, LiteralO, CardO, StepO, ApartO, PtrTestO, LoadO}
+use Rattle.mid_code.specs.Code.{StoreO, FreshO, EndO, InO, OutO, WaitO, HaltO}
 use Rattle.asm_laws.specs.Names.{literal_label, function_label}
 
 -- the frame of a function: its size, and the offsets of its slots and of its locals' first words. Offset 0 is the
@@ -226,7 +227,8 @@ word_put W _ = None
 
 -- the register of the other word, where a target and just one of two words stand in register r
 abbrev pub other_word : ℕ → (target first second : Where) → Option ℕ
-other_word r (Reg t) (Reg a) (Reg b) = cond (register t == r) (cond (register a == r) (cond (register b == r) None (Some (register b))) (cond (register b == r) (Some (register a)) None)) None
+other_word r (Reg t) (Reg a) (Reg b) = cond (register t == r)
+    (cond (register a == r) (cond (register b == r) None (Some (register b))) (cond (register b == r) (Some (register a)) None)) None
 other_word r _ _ _ = None
 
 -- the register of the first word, where a target and the second word stand in register r, and the first one does not

@@ -25,7 +25,8 @@ use Rattle.asm_laws.specs.Laid.{Laid}
 abbrev pub items_at : Setting → Shapes
 items_at S = record {
   words = S.console.words;
-  op = λ f pc o c more p. Stand S.console.words S.address pc (one_or_more S.whole (S.whole.frames f) o (in_one S.whole o c)) p × (more ≡ more_of (in_one S.whole o c));
+  op = λ f pc o c more p. Stand S.console.words S.address pc (one_or_more S.whole (S.whole.frames f) o (in_one S.whole o c)) p
+      × (more ≡ more_of (in_one S.whole o c));
   call = λ f pc t g args p. Stand S.console.words S.address pc (call_items S.whole (S.whole.frames f) t g args) p;
   test = λ f pc w other next. Tests S.console.words S.address (S.whole.frames f) pc w other next;
   giving = λ f pc w. (q : ℕ) × Stand S.console.words S.address pc (giving (S.whole.frames f) w) q × Passes S.console.words q (S.leaves f);
@@ -44,7 +45,8 @@ pub record ProgramAt (S : Setting) (boot : ℕ) : Type 0 where
   pub opening : Stand S.console.words S.address 0x20000000 opening_items (S.enters boot)
   pub start : At (items_at S) boot [] (S.enters boot) S.code.start.body (S.leaves boot)
   pub last : ℕ
-  pub closing : Stand S.console.words S.address (S.leaves boot) (item.Op (instr.Go CALL (src.Imm (Right (function_label S.whole.names S.code.main)))) ∷ item.Op (instr.Plain HLT) ∷ []) last
+  pub closing : Stand S.console.words S.address (S.leaves boot) (item.Op (instr.Go CALL (src.Imm (Right (function_label S.whole.names S.code.main))))
+      ∷ item.Op (instr.Plain HLT) ∷ []) last
   pub functions : (g : ℕ) → Callable S g → BodyAt S g
 
 -- what a program is, in a function of a number
@@ -63,7 +65,8 @@ pub record Program (S : Setting) (boot rest : ℕ) (card : Option (List ℕ)) : 
   pub nodes : (g : ℕ) → Callable S g → AreNodes S.code (length (S.locals g)) [] (function_at S.code g).body
   pub names : (g : ℕ) → Callable S g → Names (Named S g) (function_at S.code g).body
   pub sound : (g : ℕ) → Callable S g → Sound S g
-  pub calls : (f : ℕ) → Callable S f → (g : ℕ) (fn : FunctionT Where) → slice_get S.code.functions g ≡ Some fn → (S.depth f ≡ (S.whole.frames f).size) × Callable S g × (S.whole.params g ≡ fn.params)
+  pub calls : (f : ℕ) → Callable S f → (g : ℕ) (fn : FunctionT Where) → slice_get S.code.functions g ≡ Some fn
+      → (S.depth f ≡ (S.whole.frames f).size) × Callable S g × (S.whole.params g ≡ fn.params)
   pub main : Callable S S.code.main
   pub main_params : S.whole.params S.code.main ≡ []
   pub rest_as : S.called_as rest ≡ S.called_as boot

@@ -15,12 +15,15 @@ ghost use Rattle.asm_laws.specs.Longest.{Forbids, IsLongest};
 
 /// The words among which placed code stands do what it means, in at most as many steps as its work and 64.
 pub fn placed_code_agrees()
-    ensures { (x : PlacedT) (names : List (List ℕ)) (address : List ℕ → ℕ) (enters leaves : ℕ → ℕ) (first : ℕ) (words : List ℕ) → PlacedAt x names address enters leaves first words → AgreesWithin 1 (addresses 0 x.code.globals) (placed_runs x) words }
+    ensures { (x : PlacedT) (names : List (List ℕ)) (address : List ℕ → ℕ) (enters leaves : ℕ → ℕ) (first : ℕ) (words : List ℕ)
+        → PlacedAt x names address enters leaves first words → AgreesWithin 1 (addresses 0 x.code.globals) (placed_runs x) words }
 {}
 
 /// Where calls and returns are nested, a call of the function at a label takes at most as many instructions as the number of the place behind it.
 pub fn calls_stay_within_numbers()
-    ensures { (items : List AsmItem) (words : List ℕ) (labels : List (List ℕ × ℕ)) → fault_of items ≡ None → Placed items words labels → length words < 0x10000000 → AllFit (address_in labels) items → (answers : List ℕ) (card : Option (List ℕ)) (within : ℕ) (l : List ℕ) (N : ℕ) → IsLongest items (behind items l) N → IsNested words answers card within → CallsTakeAtMost words answers card within (address_in labels l) N }
+    ensures { (items : List AsmItem) (words : List ℕ) (labels : List (List ℕ × ℕ)) → fault_of items ≡ None → Placed items words labels
+        → length words < 0x10000000 → AllFit (address_in labels) items → (answers : List ℕ) (card : Option (List ℕ)) (within : ℕ) (l : List ℕ) (N : ℕ)
+        → IsLongest items (behind items l) N → IsNested words answers card within → CallsTakeAtMost words answers card within (address_in labels l) N }
 {}
 
 /// A place among items has a longest path, with a number of instructions, or a path from it is forbidden.

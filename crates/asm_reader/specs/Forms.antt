@@ -1,6 +1,7 @@
 -- The forms of instructions: which operands each mnemonic takes, and in what range its numbers are
 -- (the table of instruction forms, and the assembly guide).
-use Rattle.std.specs.Prelude.{ℕ, ◌^◌, List, [], ◌∷◌, Bool, true, false, ◌&&◌, if◌then◌else◌, nat_le, nat_lt, ◌==◌, Option, Some, None, is_some, Result, Ok, Err}
+use Rattle.std.specs.Prelude.{ℕ, ◌^◌, List, [], ◌∷◌, Bool, true, false, ◌&&◌, if◌then◌else◌, nat_le, nat_lt, ◌==◌, Option, Some, None, is_some}
+use Rattle.std.specs.Prelude.{Result, Ok, Err}
 use Rattle.std.specs.List.{list_all}
 use Rattle.kit_base.specs.Word.{negated}
 use Rattle.either.specs.declared.Either.TheVariants.{Left, Right}

@@ -2,7 +2,8 @@
 ghost use Rattle.std.specs.Prelude.{◌≡◌};
 ghost use Rattle.std.specs.List.{list_all};
 ghost use Rattle.asm_reader.specs.Faults.{Gives};
-ghost use Rattle.asm_reader.specs.Forms.{fits, fits_some, formed, immediate, instruction, is_port, is_source, judged, load_address, moved, move_from, move_to, output, port, port_of, register, source, with_none, with_one, with_two, word_of};
+ghost use Rattle.asm_reader.specs.Forms.{fits, fits_some, formed, immediate, instruction, is_port, is_source, judged, load_address, moved, move_from};
+ghost use Rattle.asm_reader.specs.Forms.{move_to, output, port, port_of, register, source, with_none, with_one, with_two, word_of};
 
 use crate::fault::{LineErr, LineFault};
 use crate::value::{Value, Written};

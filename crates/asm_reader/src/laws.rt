@@ -49,7 +49,8 @@ pub fn parts_are_what_marks_part()
 pub fn words_and_numbers_are_runs_of_word_bytes()
     ensures blanks { (b : ℕ) (rest : List ℕ) → is_blank b ≡ true → tokens_of (b ∷ rest) ≡ tokens_of rest }
     ensures comments { (rest : List ℕ) → tokens_of (59 ∷ rest) ≡ [] }
-    ensures runs { (run rest : List ℕ) → 0 < length run → list_all is_word_byte run ≡ true → begins is_word_byte rest ≡ false → tokens_of (run ++ rest) ≡ run_token run ∷ tokens_of rest }
+    ensures runs { (run rest : List ℕ) → 0 < length run → list_all is_word_byte run ≡ true → begins is_word_byte rest ≡ false
+        → tokens_of (run ++ rest) ≡ run_token run ∷ tokens_of rest }
 {}
 
 /// The written form of items that text can spell reads as those items again.

@@ -1,7 +1,8 @@
 // The lines of a text.
 ghost use Rattle.std.specs.Prelude.{◌≡◌, drop};
 ghost use Rattle.asm_reader.specs.Faults.{Gives, Puts};
-ghost use Rattle.asm_reader.specs.Lines.{begins_float, has_label, instruction_of, is_colon, label_items, label_part, line_items, parts_items, statement_items, statement_part};
+ghost use Rattle.asm_reader.specs.Lines.{begins_float, has_label, instruction_of, is_colon, label_items, label_part, line_items, parts_items};
+ghost use Rattle.asm_reader.specs.Lines.{statement_items, statement_part};
 
 use crate::datum::put_data;
 use crate::fault::{LineErr, LineFault};

@@ -3,7 +3,8 @@ ghost use Rattle.std.specs.Prelude.{◌≡◌, ◌∷◌, ◌<◌, ◌≤◌, []
 ghost use Rattle.std.specs.List.{take_while};
 ghost use Rattle.std.specs.Option.{option_map_or};
 ghost use Rattle.asm_reader.specs.Faults.{Gives, GivesBy};
-ghost use Rattle.asm_reader.specs.Operands.{added_to, bracketed, inside_one, inside_three, inside_two, is_close, is_comma, is_open, joined_to, operand, operands_in, operands_of, plain, signed_to, taken_from};
+ghost use Rattle.asm_reader.specs.Operands.{added_to, bracketed, inside_one, inside_three, inside_two, is_close, is_comma, is_open, joined_to};
+ghost use Rattle.asm_reader.specs.Operands.{operand, operands_in, operands_of, plain, signed_to, taken_from};
 ghost use Rattle.asm_reader.specs.Parted.{parted};
 
 use crate::fault::{LineErr, LineFault};
@@ -160,7 +161,7 @@ fn after_two(first: &Token, second: &Token, rest: &[Token]) -> Result<Written, L
     }
 }
 
-/// What stands behind an open bracket, up to the closing one at the end.
+/// The rest of an operand after its open bracket, up to the closing one at the end.
 #[tactic(auto, unfolding(crate::specs::Operands::bracketed))]
 fn bracketed(tokens: &[Token]) -> Result<Written, LineErr>
     ensures { Gives result (bracketed tokens.now) }

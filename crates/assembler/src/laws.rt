@@ -13,12 +13,14 @@ ghost use Rattle.assembler.specs.Sizes.{total_size};
 
 /// The words of each item stand at the sum of the sizes of the items before it.
 pub fn words_stand_at_the_sizes_before()
-    ensures { (before after : List AsmItem) (item : AsmItem) (words : List ℕ) (labels : List (List ℕ × ℕ)) → Placed (before ++ item ∷ after) words labels → Stands labels item (total_size before) words }
+    ensures { (before after : List AsmItem) (item : AsmItem) (words : List ℕ) (labels : List (List ℕ × ℕ))
+        → Placed (before ++ item ∷ after) words labels → Stands labels item (total_size before) words }
 {}
 
 /// A label is the address of the item after it: 0x20000000 and the sum of the sizes before it.
 pub fn labels_are_addresses()
-    ensures { (before after : List AsmItem) (name words : List ℕ) (labels : List (List ℕ × ℕ)) → fault_of (before ++ items.Label name ∷ after) ≡ None → Placed (before ++ items.Label name ∷ after) words labels → address_of labels name ≡ Some (0x20000000 + total_size before) }
+    ensures { (before after : List AsmItem) (name words : List ℕ) (labels : List (List ℕ × ℕ)) → fault_of (before ++ items.Label name ∷ after) ≡ None
+        → Placed (before ++ items.Label name ∷ after) words labels → address_of labels name ≡ Some (0x20000000 + total_size before) }
 {}
 
 /// The items that words are taken apart into have no fault, and they are placed as those words again.
@@ -31,5 +33,6 @@ pub fn words_assemble_again()
 /// is placed as those words.
 pub fn disassembly_assembles_again()
     ensures reads { (words : List ℕ) → All (λ w. w < 2 ^ 32) words → read (written (disassembled words)) ≡ Ok (disassembled words) }
-    ensures assembles { (words : List ℕ) (items : List AsmItem) → All (λ w. w < 2 ^ 32) words → length words ≤ 33554432 → read (written (disassembled words)) ≡ Ok items → (fault_of items ≡ None) × Placed items words (labels_of items) }
+    ensures assembles { (words : List ℕ) (items : List AsmItem) → All (λ w. w < 2 ^ 32) words → length words ≤ 33554432
+        → read (written (disassembled words)) ≡ Ok items → (fault_of items ≡ None) × Placed items words (labels_of items) }
 {}

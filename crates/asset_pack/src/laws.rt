@@ -16,7 +16,8 @@ pub fn texts_read_again()
 
 /// What is read at the front of bytes is spelled so, each byte of it.
 pub fn fronts_are_texts()
-    ensures words { (bytes : List ℕ) (x : List ℕ × List ℕ) → IsBytes bytes → words_at Kind.Words bytes ≡ Ok x → IsProgram x.0 × (bytes ≡ words_file_text x.0 ++ x.1) }
+    ensures words { (bytes : List ℕ) (x : List ℕ × List ℕ) → IsBytes bytes → words_at Kind.Words bytes ≡ Ok x
+        → IsProgram x.0 × (bytes ≡ words_file_text x.0 ++ x.1) }
     ensures texture { (bytes : List ℕ) (x : Image × List ℕ) → IsBytes bytes → texture_at bytes ≡ Ok x → IsTexture x.0 × (bytes ≡ texture_text x.0 ++ x.1) }
     ensures sound { (bytes : List ℕ) (x : List ℕ × List ℕ) → IsBytes bytes → words_at Kind.Sound bytes ≡ Ok x → IsSound x.0 × (bytes ≡ sound_text x.0 ++ x.1) }
 {}

@@ -25,7 +25,8 @@ pub record IsCheckable (p : ProgramT) (places : Places) (starts : List ℕ) : Ty
   pub few : length places.tokens ≤ 200000
 
 starts_one : (p : ProgramT) (places : Places) (starts : List ℕ) → IsProp (AreStarts p places starts)
-starts_one p places starts = let lines : IsProp (AllByRecursion (λ t. 1 ≤ t.line) places.tokens) = AllByRecursion-prop _ (λ t. le_prop) places.tokens in hlevel (props, lines)
+starts_one p places starts = let lines : IsProp (AllByRecursion (λ t. 1 ≤ t.line) places.tokens) =
+    AllByRecursion-prop _ (λ t. le_prop) places.tokens in hlevel (props, lines)
 
 pub checkable_one : (p : ProgramT) (places : Places) (starts : List ℕ) → IsProp (IsCheckable p places starts)
 checkable_one p places starts = let one : IsProp (AreStarts p places starts) = starts_one p places starts in hlevel (props, one)

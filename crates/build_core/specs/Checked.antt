@@ -50,7 +50,8 @@ pub record HasProgram (m : Held) (source : List ℕ) (p : ProgramT) : Type 0 whe
 -- The source stands for no unit, or for a unit that breaks a rule, the first of which is told.
 pub data HasNoProgram (m : Held) (source : List ℕ) (e : BuildErr) : Type 0 where
   no_unit : (why : FrontErr) → front_due.IsRefused (over m) source why → e ≡ unread why → HasNoProgram m source e
-  breaks : (parsed : Parsed) (fault : FaultT) → IsUnit (over m) source parsed → FirstBroken (unit parsed.unit) fault → e ≡ broken parsed.places fault → HasNoProgram m source e
+  breaks : (parsed : Parsed) (fault : FaultT) → IsUnit (over m) source parsed → FirstBroken (unit parsed.unit) fault → e ≡ broken parsed.places fault
+      → HasNoProgram m source e
 
 -- The project's text is of its grammar, and its source has this program.
 pub record IsAccepted (m : Held) (project : List ℕ) (p : ProgramT) : Type 0 where

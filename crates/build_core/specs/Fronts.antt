@@ -37,7 +37,8 @@ IsCheckedOf p (Err e) = ⊥
 
 -- where the source's tokens are a well typed unit, its program is in the answer
 abbrev pub AcceptsSource : Held → List ℕ → Result Checked BuildErr → Type 0
-AcceptsSource m source r = (x : Expansion) (ds : List ItemT) (p : ProgramT) → expansion_of (over m) source ≡ Ok x → Derives (toks x.tokens) ds → WellTyped ds p → IsCheckedOf p r
+AcceptsSource m source r = (x : Expansion) (ds : List ItemT) (p : ProgramT) → expansion_of (over m) source ≡ Ok x → Derives (toks x.tokens) ds
+    → WellTyped ds p → IsCheckedOf p r
 
 abbrev pub AcceptsFront : Held → List ℕ → Result Checked BuildErr → Type 0
 AcceptsFront m project r = (parts : Project) (x : Expansion) (ds : List ItemT) (p : ProgramT)

@@ -27,7 +27,8 @@ IsOneRead {X = X} one (first ∷ names) name = (name ≡ first) ⊎ ((x : X) × 
 -- A texture, or a sound once all textures were read and are of their grammar.
 pub data IsAssetRead (m : Held) (parts : Project) (name : List ℕ) : Type 0 where
   reads_texture : IsOneRead (texture_of m) parts.textures name → IsAssetRead m parts name
-  reads_sound : (textures : List Image) → all_of (texture_of m) parts.textures ≡ Ok textures → IsOneRead (sound_of m) parts.sounds name → IsAssetRead m parts name
+  reads_sound : (textures : List Image) → all_of (texture_of m) parts.textures ≡ Ok textures → IsOneRead (sound_of m) parts.sounds name
+      → IsAssetRead m parts name
 
 -- A file of that name is read beside the project's source.
 pub record IsReadBeside (m : Held) (project name : List ℕ) : Type 0 where

@@ -1,5 +1,6 @@
 -- What the items of a unit change, in the order of reading.
-use Rattle.std.specs.Prelude.{ℕ, ◌+◌, ◌==◌, Bool, true, false, ◌&&◌, ◌||◌, not, min, max, List, [], ◌∷◌, ◌++◌, length, map, sum_by, slice_get, slice_set, is_some, Option, Some, None, Result, Ok, Err, nat_le, if◌then◌else◌}
+use Rattle.std.specs.Prelude.{ℕ, ◌+◌, ◌==◌, Bool, true, false, ◌&&◌, ◌||◌, not, min, max, List, [], ◌∷◌, ◌++◌, length, map, sum_by, slice_get}
+use Rattle.std.specs.Prelude.{slice_set, is_some, Option, Some, None, Result, Ok, Err, nat_le, if◌then◌else◌}
 use Rattle.std.specs.Str.{bytes_eq}
 use Rattle.c_tree.specs.Tree.{StmtTs, ItemT, RecordD, EnumD, TypedefD, VarsD, FunctionD}
 use Rattle.c_types.specs.Types.{Ty, EnumY, StructY, UnionY, LayoutT}
@@ -19,7 +20,8 @@ use Rattle.c_exprs.specs.Calls.{ensured}
 use Rattle.c_stmts.specs.State.{Scope, Fn, St, innermost, declare, made, object_size}
 use Rattle.c_check.specs.Words.{is_word}
 
--- What was read of a unit, and the numbers of all functions with a body in it, which do not change: the layouts, with whether each is declared whole; the names of structures and unions, by their numbers; how many
+-- What was read of a unit, and the numbers of all functions with a body in it, which do not change: the layouts, with whether each is declared whole;
+-- the names of structures and unions, by their numbers; how many
 -- enumerations there are; what names are declared as; the globals with their sizes; their initialisers; the functions with a body; the texts;
 -- and of the function that is read the open scopes, the sizes of its objects, and the words of those that are variables.
 pub record Un : Type 0 where
@@ -39,7 +41,21 @@ pub record Un : Type 0 where
 
 -- nothing is read yet
 abbrev pub opening : List (Text × ℕ) → Un
-opening b = record { layouts = []; whole = []; records = []; enums = 0; names = []; globals = []; inits = []; functions = []; texts = []; scopes = []; sizes = []; used = 0; bodies = b }
+opening b = record {
+  layouts = [];
+  whole = [];
+  records = [];
+  enums = 0;
+  names = [];
+  globals = [];
+  inits = [];
+  functions = [];
+  texts = [];
+  scopes = [];
+  sizes = [];
+  used = 0;
+  bodies = b;
+}
 
 -- A function with a body has the next number; a second body of one name gives that name no other number.
 abbrev pub numbered : Text → ℕ → List (Text × ℕ) → List (Text × ℕ)
@@ -142,7 +158,8 @@ has_members l = not (length l.members == 0)
 
 abbrev pub whole_record : Un → LayoutT → Result ℕ Code → Result ℕ Code
 whole_record un l (Err k) = Err k
-whole_record un l (Ok number) = ensured Twice (not (is_declared un.whole number)) (ensured WrongType (has_members l) (ensured TooLarge (nat_le l.size type_limit) (Ok number)))
+whole_record un l (Ok number) = ensured Twice (not (is_declared un.whole number))
+    (ensured WrongType (has_members l) (ensured TooLarge (nat_le l.size type_limit) (Ok number)))
 
 -- Members are declared of a structure or union of this name that has none yet; there is one at least, and they have at most so many words.
 unfoldable pub members_declared : Bool → Text → Un → LayoutT → Result ℕ Code
@@ -243,4 +260,14 @@ function_rules un n params gives body =
 -- body outside every block, `for` and `switch`: these are made with the call.
 abbrev pub with_function : Text → List Ty → Ty → Option TStmtTs → Un → Un
 with_function n params gives None un = ended un
-with_function n params gives (Some body) un = record (ended un) { functions = un.functions ++ record { name = n; params = params; locals = un.sizes; made = made (state_in un); gives = gives; body = body } ∷ [] }
+with_function n params gives (Some body) un =
+    record (ended un) {
+      functions = un.functions ++ record {
+        name = n;
+        params = params;
+        locals = un.sizes;
+        made = made (state_in un);
+        gives = gives;
+        body = body;
+      } ∷ [];
+    }

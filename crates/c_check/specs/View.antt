@@ -9,7 +9,14 @@ use Rattle.c_check.specs.Reading.{Un}
 use Rattle.c_types.specs.Programs.{ProgramT}
 
 abbrev pub program : Program → ProgramT
-program p = record { layouts = map layout p.layouts; globals = p.globals; inits = map tstmt p.inits; literals = p.literals; functions = map function p.functions; main = p.main }
+program p = record {
+  layouts = map layout p.layouts;
+  globals = p.globals;
+  inits = map tstmt p.inits;
+  literals = p.literals;
+  functions = map function p.functions;
+  main = p.main;
+}
 
 abbrev pub un : Reading → Un
 un r = record {

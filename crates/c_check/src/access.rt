@@ -17,8 +17,22 @@ pub(crate) fn of_parts(
     functions: Vec<TFunction>,
     main: u32,
 ) -> Program
-    requires { ∥ IsProgram (record { layouts = map layout layouts.items; globals = globals.items; inits = map tstmt inits.items; literals = literals.items; functions = map function functions.items; main = main }) ∥₁ }
-    ensures { program result ≡ record { layouts = map layout layouts.items; globals = globals.items; inits = map tstmt inits.items; literals = literals.items; functions = map function functions.items; main = main } }
+    requires { ∥ IsProgram (record {
+      layouts = map layout layouts.items;
+      globals = globals.items;
+      inits = map tstmt inits.items;
+      literals = literals.items;
+      functions = map function functions.items;
+      main = main;
+    }) ∥₁ }
+    ensures { program result ≡ record {
+      layouts = map layout layouts.items;
+      globals = globals.items;
+      inits = map tstmt inits.items;
+      literals = literals.items;
+      functions = map function functions.items;
+      main = main;
+    } }
 {
     Program {
         layouts: Seq::from_vec(layouts),

@@ -133,7 +133,8 @@ fn number_bodies(alloc: Global, items: &[Item]) -> Result<Globals, Memory>
     Ok(globals)
 }
 
-/// The typed program of a unit, which has at most 200,000 nodes. A refusal names the first broken rule in the order of reading: the parts of a node from left to right, then the
+/// The typed program of a unit, which has at most 200,000 nodes. A refusal names the first broken rule in the order of reading: the parts of a node
+/// from left to right, then the
 /// node, at one node the lowest code; that there is no `void main()` is told last, at the last token. The error `Memory` is want of memory.
 pub fn check(alloc: Global, parsed: &Unit) -> Result<Program, CheckErr>
     requires nodes { unit_nodes (unit parsed.now) ≤ 200000 }

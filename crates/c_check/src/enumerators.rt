@@ -15,7 +15,7 @@ use kit_base::{Name, wrap_add};
 use std::alloc::Global;
 
 /// The number of an enumerator.
-#[tactic(auto, unfolding(crate::specs::ItemTyping::enumerator))]
+#[tactic(auto, unfolding(crate::specs::inner::ItemTyping::enumerator))]
 fn read_number(
     alloc: Global,
     reading: &mut Reading,
@@ -50,7 +50,7 @@ pub(crate) fn read_enumerators(
 }
 
 /// Declares an enumerator, and gives the number behind its own.
-#[tactic(auto, unfolding(crate::specs::ItemTyping::named_enumerator))]
+#[tactic(auto, unfolding(crate::specs::inner::ItemTyping::named_enumerator))]
 fn read_enumerator(
     alloc: Global,
     reading: &mut Reading,

@@ -6,7 +6,8 @@ ghost use Rattle.c_types.specs.View.{ctype, layout, tstmt, tstmts};
 ghost use Rattle.c_rules.specs.Rules.{judged};
 ghost use Rattle.c_exprs.specs.Gives.{Gives};
 ghost use Rattle.c_exprs.specs.View.{decl};
-ghost use Rattle.c_check.specs.Reading.{begun, parameter_rule, parameter_size, with_parameter, same_types, is_function, agrees, is_own_body, named, result_rule, function_rules, with_function};
+ghost use Rattle.c_check.specs.Reading.{begun, parameter_rule, parameter_size, with_parameter, same_types, is_function, agrees, is_own_body, named};
+ghost use Rattle.c_check.specs.Reading.{result_rule, function_rules, with_function};
 ghost use Rattle.c_check.specs.inner.ItemTyping.{item, parameter, parameters};
 ghost use Rattle.c_rules.specs.Kinds.{holds};
 ghost use Rattle.c_exprs.specs.Env.{FunctionD as DeclaredFunction};
@@ -39,7 +40,7 @@ fn parameter_words(layouts: &[Layout], whole: &[bool], ty: &CType) -> Result<u32
     Ok(words)
 }
 
-#[tactic(auto, unfolding(crate::specs::ItemTyping::parameter, crate::specs::Reading::parameter_size, crate::specs::Reading::with_parameter))]
+#[tactic(auto, unfolding(crate::specs::inner::ItemTyping::parameter, crate::specs::Reading::parameter_size, crate::specs::Reading::with_parameter))]
 fn read_parameter(alloc: Global, reading: &mut Reading, v: &Var) -> Result<CType, CheckErr>
     requires room { length (un reading.old).sizes < 2 ^ 32 }
     ensures { Gives (λ r. (ctype r, un reading.new)) result (parameter (un reading.old) (var v.now)) }
@@ -219,7 +220,8 @@ fn keep_function(
     gives: CType,
     body: Option<Vec<TStmt>>,
 ) -> Result<(), Memory>
-    ensures kept { OnOk result (un reading.new ≡ with_function name.now (map ctype params.items) (ctype gives) (option_map (λ b. tstmts (map tstmt b.items)) body) (un reading.old)) }
+    ensures kept { OnOk result (un reading.new ≡ with_function name.now (map ctype params.items) (ctype gives)
+        (option_map (λ b. tstmts (map tstmt b.items)) body) (un reading.old)) }
 {
     let made = reading.state.close(alloc)?;
     let locals = end(alloc, &mut reading.state);
@@ -237,7 +239,7 @@ fn keep_function(
 }
 
 /// Reads a function: its result, its parameters, its name, its body, then its rules.
-#[tactic(auto, unfolding(crate::specs::ItemTyping::item))]
+#[tactic(auto, unfolding(crate::specs::inner::ItemTyping::item))]
 pub(crate) fn read_function(
     alloc: Global,
     reading: &mut Reading,
@@ -248,7 +250,8 @@ pub(crate) fn read_function(
     body: &Option<Seq<Stmt>>,
 ) -> Result<(), CheckErr>
     requires few { vars_nodes (map var params.now) + maybe_stmts_nodes (option_map (λ b. stmts (map stmt b)) body.now) ≤ 200000 }
-    ensures { Gives (λ r. (r, un reading.new)) result (item (un reading.old) (FunctionD (type gives.now) name.now (map var params.now) (option_map (λ b. stmts (map stmt b)) body.now) span)) }
+    ensures { Gives (λ r. (r, un reading.new)) result
+        (item (un reading.old) (FunctionD (type gives.now) name.now (map var params.now) (option_map (λ b. stmts (map stmt b)) body.now) span)) }
 {
     let gives = type_at(alloc, reading, span, gives)?;
     begin(alloc, &mut reading.state)?;

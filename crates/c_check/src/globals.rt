@@ -58,7 +58,7 @@ fn keep(
 }
 
 /// Reads a global, and puts it at the end of those that are filled.
-#[tactic(auto, unfolding(crate::specs::ItemTyping::global))]
+#[tactic(auto, unfolding(crate::specs::inner::ItemTyping::global))]
 fn read_global(
     alloc: Global,
     reading: &mut Reading,
@@ -66,7 +66,8 @@ fn read_global(
     v: &Var,
 ) -> Result<(), CheckErr>
     requires few { length (un reading.old).globals < 200000 }
-    ensures gives { Gives (λ _. (map tvar filled.new.items, un reading.new)) result (before (map tvar filled.old.items) (global (un reading.old) (var v.now))) }
+    ensures gives { Gives (λ _. (map tvar filled.new.items, un reading.new)) result
+        (before (map tvar filled.old.items) (global (un reading.old) (var v.now))) }
     ensures count { OnOk result (length (un reading.new).globals ≡ length (un reading.old).globals + 1) }
 {
     let object = reading.objects.next();
@@ -94,7 +95,7 @@ fn read_globals(alloc: Global, reading: &mut Reading, all: &[Var]) -> Result<Vec
 }
 
 /// Reads the globals of an item, with the statement that fills them.
-#[tactic(auto, using(crate::proofs::Spent::vars_within), unfolding(crate::specs::ItemTyping::item))]
+#[tactic(auto, using(crate::proofs::Spent::vars_within), unfolding(crate::specs::inner::ItemTyping::item))]
 pub(crate) fn read_objects(
     alloc: Global,
     reading: &mut Reading,

@@ -22,7 +22,7 @@ use kit_base::Name;
 use std::alloc::Global;
 
 /// A structure or union by its name alone.
-#[tactic(auto, unfolding(crate::specs::ItemTyping::item))]
+#[tactic(auto, unfolding(crate::specs::inner::ItemTyping::item))]
 fn read_record_name(
     alloc: Global,
     reading: &mut Reading,
@@ -40,7 +40,7 @@ fn read_record_name(
 }
 
 /// A structure or union with its members, whose words are counted as far as memory holds them.
-#[tactic(auto, unfolding(crate::specs::Steps::counted_record))]
+#[tactic(auto, unfolding(crate::specs::inner::Steps::counted_record))]
 fn read_counted(
     alloc: Global,
     reading: &mut Reading,
@@ -76,7 +76,7 @@ fn read_record(
     read_counted(alloc, reading, span, is_union, name, all)
 }
 
-#[tactic(auto, unfolding(crate::specs::ItemTyping::item))]
+#[tactic(auto, unfolding(crate::specs::inner::ItemTyping::item))]
 fn read_enum(
     alloc: Global,
     reading: &mut Reading,
@@ -93,7 +93,7 @@ fn read_enum(
     demanded(span, Code::Twice, fresh)
 }
 
-#[tactic(auto, unfolding(crate::specs::ItemTyping::item))]
+#[tactic(auto, unfolding(crate::specs::inner::ItemTyping::item))]
 fn read_typedef(
     alloc: Global,
     reading: &mut Reading,

@@ -26,7 +26,7 @@ fn has_member(seen: &Layout, name: &[u8]) -> bool
     seen.member(name).is_some()
 }
 
-/// Adds a member of so many words. The error is want of memory.
+/// Adds a member of size `words`. The error is want of memory.
 fn add_member(
     alloc: Global,
     seen: &mut Layout,
@@ -43,7 +43,7 @@ fn add_member(
 }
 
 /// Adds a member to those before it.
-#[tactic(auto, unfolding(crate::specs::ItemTyping::member, crate::specs::Reading::member_size))]
+#[tactic(auto, unfolding(crate::specs::inner::ItemTyping::member, crate::specs::Reading::member_size))]
 fn read_member(
     alloc: Global,
     reading: &mut Reading,

@@ -16,7 +16,7 @@ use kit_base::Seq;
 use std::alloc::Global;
 
 /// The value of an expression outside functions.
-#[tactic(auto, unfolding(crate::specs::ItemTyping::value_at))]
+#[tactic(auto, unfolding(crate::specs::inner::ItemTyping::value_at))]
 pub(crate) fn value_at(alloc: Global, reading: &mut Reading, e: &Expr) -> Result<TExpr, CheckErr>
     ensures { Gives (λ r. (texpr r, un reading.new)) result (value_at (un reading.old) (expr e.now)) }
 {
@@ -30,7 +30,7 @@ pub(crate) fn value_at(alloc: Global, reading: &mut Reading, e: &Expr) -> Result
 }
 
 /// The type that a type tree names, at a node of this span.
-#[tactic(auto, unfolding(crate::specs::ItemTyping::type_at))]
+#[tactic(auto, unfolding(crate::specs::inner::ItemTyping::type_at))]
 pub(crate) fn type_at(
     alloc: Global,
     reading: &mut Reading,
@@ -52,7 +52,7 @@ pub(crate) fn type_at(
 }
 
 /// What a global of this type is filled with.
-#[tactic(auto, unfolding(crate::specs::ItemTyping::fill_at))]
+#[tactic(auto, unfolding(crate::specs::inner::ItemTyping::fill_at))]
 fn fill_at(
     alloc: Global,
     reading: &mut Reading,
@@ -74,7 +74,7 @@ fn fill_at(
 }
 
 /// The same for an initialiser that may be missing.
-#[tactic(auto, unfolding(crate::specs::ItemTyping::maybe_fill_at))]
+#[tactic(auto, unfolding(crate::specs::inner::ItemTyping::maybe_fill_at))]
 pub(crate) fn maybe_fill_at(
     alloc: Global,
     reading: &mut Reading,
@@ -94,7 +94,7 @@ pub(crate) fn maybe_fill_at(
 }
 
 /// The body of a function with this result.
-#[tactic(auto, unfolding(crate::specs::ItemTyping::body_at))]
+#[tactic(auto, unfolding(crate::specs::inner::ItemTyping::body_at))]
 fn body_at(
     alloc: Global,
     reading: &mut Reading,
@@ -108,7 +108,7 @@ fn body_at(
 }
 
 /// The same for a body that may be missing.
-#[tactic(auto, unfolding(crate::specs::ItemTyping::maybe_body))]
+#[tactic(auto, unfolding(crate::specs::inner::ItemTyping::maybe_body))]
 pub(crate) fn maybe_body(
     alloc: Global,
     reading: &mut Reading,
@@ -116,7 +116,8 @@ pub(crate) fn maybe_body(
     body: &Option<Seq<Stmt>>,
 ) -> Result<Option<Vec<TStmt>>, CheckErr>
     requires room { length (un reading.old).sizes + maybe_stmts_nodes (option_map (λ b. stmts (map stmt b)) body.now) ≤ 2 ^ 32 }
-    ensures { Gives (λ r. (option_map (λ b. tstmts (map tstmt b.items)) r, un reading.new)) result (maybe_body (un reading.old) (ctype gives.now) (option_map (λ b. stmts (map stmt b)) body.now)) }
+    ensures { Gives (λ r. (option_map (λ b. tstmts (map tstmt b.items)) r, un reading.new)) result
+        (maybe_body (un reading.old) (ctype gives.now) (option_map (λ b. stmts (map stmt b)) body.now)) }
 {
     match body {
         None => Ok(None),

@@ -15,5 +15,12 @@ pub struct Program {
     pub(crate) literals: Seq<Name>,
     pub(crate) functions: Seq<TFunction>,
     pub(crate) main: u32,
-    ghost made: { ∥ IsProgram (record { layouts = map layout layouts; globals = globals; inits = map tstmt inits; literals = literals; functions = map function functions; main = main }) ∥₁ },
+    ghost made: { ∥ IsProgram (record {
+      layouts = map layout layouts;
+      globals = globals;
+      inits = map tstmt inits;
+      literals = literals;
+      functions = map function functions;
+      main = main;
+    }) ∥₁ },
 }

@@ -56,7 +56,8 @@ pub fn compile_lowered(alloc: Global, checked: &Program, lowered: Mid) -> Result
     })
 }
 
-/// What is made of a program: it is lowered to mid code, from which local places that need no address are taken, and copies that need not be made, and then places whose
+/// What is made of a program: it is lowered to mid code, from which local places that need no address are taken, and copies that need not be made,
+/// and then places whose
 /// address was only copied; a register or slot is chosen for each temporary, which operands share with
 /// targets; and the code over these places becomes assembly items. The error is want of memory.
 pub fn compile(alloc: Global, checked: &Program) -> Result<Compiled, Memory>

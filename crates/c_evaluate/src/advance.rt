@@ -24,10 +24,11 @@ use kit_base::Memory;
 impl<'a> Machine<'a> {
     /// What is looked at next.
     #[inline(always)]
-    #[tactic(auto, unfolding(crate::specs::Swift::step_on, crate::specs::Steps::step))]
+    #[tactic(auto, unfolding(crate::specs::inner::Swift::step_on, crate::specs::inner::Steps::step))]
     fn next_focus(&mut self) -> Result<Focus<'a>, Stop>
         ensures same { setting_of self.new ≡ setting_of self.old }
-        ensures steps { Leads (λ x. at x (stack_of self.new.stack.items) (store_of self.new.store)) result (stepped_on (setting_of self.old) (config_of self.old)) }
+        ensures steps { Leads (λ x. at x (stack_of self.new.stack.items) (store_of self.new.store)) result
+            (stepped_on (setting_of self.old) (config_of self.old)) }
     {
         match self.focus {
             Focus::Eval(n, e) => eval(&self.setting, n, e, &mut self.stack, &mut self.store),
@@ -81,7 +82,8 @@ impl<'a> Machine<'a> {
     fn pause(&mut self) -> Option<Advanced>
         ensures same { setting_of self.new ≡ setting_of self.old }
         ensures none { IfNone result (GoesOn (config_of self.new) × (config_of self.new ≡ config_of self.old)) }
-        ensures some { IfSome result (λ a. Gives a (run_left (setting_of self.old) (config_of self.old)) (run_left (setting_of self.old) (config_of self.new))) }
+        ensures some { IfSome result (λ a. Gives a (run_left (setting_of self.old) (config_of self.old))
+            (run_left (setting_of self.old) (config_of self.new))) }
     {
         match self.focus {
             Focus::Made(event, v) => {
@@ -98,7 +100,8 @@ impl<'a> Machine<'a> {
     #[tactic(auto, using(crate::proofs::Running::turn_keeps, crate::proofs::Running::turn_falls))]
     pub(crate) fn advance(&mut self) -> Result<Advanced, Memory>
         ensures same { setting_of self.new ≡ setting_of self.old }
-        ensures advances { IfOk result (λ a. Gives a (run_left (setting_of self.old) (config_of self.old)) (run_left (setting_of self.old) (config_of self.new))) }
+        ensures advances { IfOk result (λ a. Gives a (run_left (setting_of self.old) (config_of self.old))
+            (run_left (setting_of self.old) (config_of self.new))) }
     {
         'steps: loop {
             match self.pause() {

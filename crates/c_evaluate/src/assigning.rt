@@ -114,7 +114,8 @@ pub(crate) fn second_assigned<'a>(
     c: Cell,
     store: &mut Store<'a>,
 ) -> Result<Cell, Stop>
-    ensures { Gives (λ z. (z, store_of store.new)) result (second_assigned_in (setting_of s.now) n op (texpr x.now) (texpr y.now) span p c (store_of store.old)) }
+    ensures { Gives (λ z. (z, store_of store.new)) result (second_assigned_in (setting_of s.now) n op (texpr x.now) (texpr y.now) span p c
+        (store_of store.old)) }
 {
     match op {
         None => assigned(s, n, x, span, p, c, store),

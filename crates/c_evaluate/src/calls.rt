@@ -79,7 +79,8 @@ fn body<'a>(
 ) -> Result<Focus<'a>, Stop>
     requires room { store.old.used + (frame + 2) < 2 ^ 32 }
     requires words { frame ≡ (setting_of s.now).sizes.frame f }
-    ensures { Leads (λ x. at x (stack_of stack.new.items) (store_of store.new)) result (body_of (setting_of s.now) m f (function g.now) values.items r span (stack_of stack.old.items) (store_of store.old)) }
+    ensures { Leads (λ x. at x (stack_of stack.new.items) (store_of store.new)) result
+        (body_of (setting_of s.now) m f (function g.now) values.items r span (stack_of stack.old.items) (store_of store.old)) }
 {
     let caller = Box::new(s.alloc, enter_function(s, store, f, frame)?)?;
     fresh_all(s, store, g.made.as_slice())?;
@@ -100,7 +101,9 @@ fn enter_in<'a>(
     stack: &mut Vec<Frame<'a>>,
     store: &mut Store<'a>,
 ) -> Result<Focus<'a>, Stop>
-    ensures { Leads (λ x. at x (stack_of stack.new.items) (store_of store.new)) result (in_room (has_room (setting_of s.now).sizes f (store_of store.old)) span (body_of (setting_of s.now) m f (function g.now) values.items r span (stack_of stack.old.items) (store_of store.old))) }
+    ensures { Leads (λ x. at x (stack_of stack.new.items) (store_of store.new)) result
+        (in_room (has_room (setting_of s.now).sizes f (store_of store.old)) span
+        (body_of (setting_of s.now) m f (function g.now) values.items r span (stack_of stack.old.items) (store_of store.old))) }
 {
     if !s.has_room(f, store.used) {
         return Err(Stop::Ends(End::Deep(span)));
@@ -120,7 +123,8 @@ fn enter<'a>(
     stack: &mut Vec<Frame<'a>>,
     store: &mut Store<'a>,
 ) -> Result<Focus<'a>, Stop>
-    ensures { Leads (λ x. at x (stack_of stack.new.items) (store_of store.new)) result (enter (setting_of s.now) n f (function g.now) values.items r span (stack_of stack.old.items) (store_of store.old)) }
+    ensures { Leads (λ x. at x (stack_of stack.new.items) (store_of store.new)) result
+        (enter (setting_of s.now) n f (function g.now) values.items r span (stack_of stack.old.items) (store_of store.old)) }
 {
     if n == 0 {
         return Err(Stop::Ends(End::OutOfBound));
@@ -149,7 +153,8 @@ pub(crate) fn call<'a>(
     stack: &mut Vec<Frame<'a>>,
     store: &mut Store<'a>,
 ) -> Result<Focus<'a>, Stop>
-    ensures { Leads (λ x. at x (stack_of stack.new.items) (store_of store.new)) result (call (setting_of s.now) n f values.items span (stack_of stack.old.items) (store_of store.old)) }
+    ensures { Leads (λ x. at x (stack_of stack.new.items) (store_of store.new)) result
+        (call (setting_of s.now) n f values.items span (stack_of stack.old.items) (store_of store.old)) }
 {
     let Some(g) = s.function(f) else {
         return Err(Stop::Ends(End::Stray(span)));
@@ -168,7 +173,8 @@ fn called<'a>(
     stack: &mut Vec<Frame<'a>>,
     store: &mut Store<'a>,
 ) -> Result<Focus<'a>, Stop>
-    ensures { Leads (λ x. at x (stack_of stack.new.items) (store_of store.new)) result (call_on (setting_of s.now) n f values.items span (stack_of stack.old.items) (store_of store.old)) }
+    ensures { Leads (λ x. at x (stack_of stack.new.items) (store_of store.new)) result
+        (call_on (setting_of s.now) n f values.items span (stack_of stack.old.items) (store_of store.old)) }
 {
     match quick(s, n, f, &values, store) {
         None => call(s, n, f, values, span, stack, store),
@@ -221,7 +227,8 @@ pub(crate) fn arguments<'a>(
     stack: &mut Vec<Frame<'a>>,
     store: &mut Store<'a>,
 ) -> Result<Focus<'a>, Stop>
-    ensures { Leads (λ x. at x (stack_of stack.new.items) (store_of store.new)) result (args_on (setting_of s.now) n f span values.items (texprs (map texpr xs.now)) (stack_of stack.old.items) (store_of store.old)) }
+    ensures { Leads (λ x. at x (stack_of stack.new.items) (store_of store.new)) result
+        (args_on (setting_of s.now) n f span values.items (texprs (map texpr xs.now)) (stack_of stack.old.items) (store_of store.old)) }
 {
     let mut given = values;
     let mut left = xs;
@@ -248,7 +255,8 @@ pub(crate) fn argument_came<'a>(
     stack: &mut Vec<Frame<'a>>,
     store: &mut Store<'a>,
 ) -> Result<Focus<'a>, Stop>
-    ensures { Leads (λ x. at x (stack_of stack.new.items) (store_of store.new)) result (argument_on (setting_of s.now) n f span values.items (texprs (map texpr xs.now)) v (stack_of stack.old.items) (store_of store.old)) }
+    ensures { Leads (λ x. at x (stack_of stack.new.items) (store_of store.new)) result
+        (argument_on (setting_of s.now) n f span values.items (texprs (map texpr xs.now)) v (stack_of stack.old.items) (store_of store.old)) }
 {
     match next(xs) {
         None => Ok(Focus::Came(v)),
@@ -296,7 +304,8 @@ pub(crate) fn back_from<'a>(
     h: How,
     store: &mut Store<'a>,
 ) -> Result<Focus<'a>, Stop>
-    ensures { (k : List FrameT) → Leads (λ x. at x k (store_of store.new)) result (back_step (params_of (slice_get (setting_of s.now).functions f)) values.now r span (caller c) h k (store_of store.old)) }
+    ensures { (k : List FrameT) → Leads (λ x. at x k (store_of store.new)) result
+        (back_step (params_of (slice_get (setting_of s.now).functions f)) values.now r span (caller c) h k (store_of store.old)) }
 {
     match h {
         How::On | How::Return(None) => {

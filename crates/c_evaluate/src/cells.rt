@@ -44,7 +44,8 @@ fn source(os: &Objects, from: Option<Cell>) -> Result<Cell, Refusal>
 
 /// Sets a cell to the one at a pointer, or to 0.
 fn set_cell<'a>(span: Span, from: Option<Cell>, to: Cell, store: &mut Store<'a>) -> Result<(), Stop>
-    ensures { Gives (λ _. store_of store.new) result (then_ok (at_span span (cell_set from to (store_of store.old).objects)) (λ os. Ok (with_objects os (store_of store.old)))) }
+    ensures { Gives (λ _. store_of store.new) result
+        (then_ok (at_span span (cell_set from to (store_of store.old).objects)) (λ os. Ok (with_objects os (store_of store.old)))) }
 {
     let c = located(span, source(&store.objects, from))?;
     located(span, write(&mut store.objects, to, c))?;
@@ -72,7 +73,8 @@ fn turn<'a>(
     store: &mut Store<'a>,
 ) -> Result<u32, Stop>
     requires some { 0 < left }
-    ensures goes { IfOk result (λ m. cells_in span n left from to (store_of store.old) ≡ cells_in span m (left - 1) (option_map (λ p. further p 1) from) (further to 1) (store_of store.new)) }
+    ensures goes { IfOk result (λ m. cells_in span n left from to (store_of store.old)
+        ≡ cells_in span m (left - 1) (option_map (λ p. further p 1) from) (further to 1) (store_of store.new)) }
     ensures ends { IfErr result (λ e. Fails e (cells_in span n left from to (store_of store.old))) }
 {
     set_cell(span, from, to, store)?;
@@ -85,7 +87,7 @@ fn turn<'a>(
     Ok(n - 1)
 }
 
-/// Sets so many cells to those from a pointer on, or to 0, one per turn.
+/// Sets `count` cells to those from a pointer on, or to 0, one per turn.
 pub(crate) fn cells<'a>(
     span: Span,
     n: u32,

@@ -35,7 +35,7 @@ fn strays<'a>() -> Result<Focus<'a>, Stop>
 
 /// A value of a statement came.
 #[inline(always)]
-#[tactic(auto, unfolding(crate::specs::Steps::give))]
+#[tactic(auto, unfolding(crate::specs::inner::Steps::give))]
 fn give_statement<'a>(
     s: &Setting<'a>,
     stage: Stage,
@@ -46,7 +46,8 @@ fn give_statement<'a>(
     stack: &mut Vec<Frame<'a>>,
     store: &mut Store<'a>,
 ) -> Result<Focus<'a>, Stop>
-    ensures { Leads (λ x. at x (stack_of stack.new.items) (store_of store.new)) result (give (setting_of s.now) (stmt_frame stage n r (tstmt a.now)) v (stack_of stack.old.items) (store_of store.old)) }
+    ensures { Leads (λ x. at x (stack_of stack.new.items) (store_of store.new)) result
+        (give (setting_of s.now) (stmt_frame stage n r (tstmt a.now)) v (stack_of stack.old.items) (store_of store.old)) }
 {
     match stage {
         Stage::Value => value_came(s, n, r, a, v, stack, store),
@@ -57,7 +58,7 @@ fn give_statement<'a>(
 }
 
 /// The value of an initialiser came.
-#[tactic(auto, unfolding(crate::specs::Steps::give))]
+#[tactic(auto, unfolding(crate::specs::inner::Steps::give))]
 fn give_one<'a>(
     s: &Setting<'a>,
     n: u32,
@@ -68,7 +69,8 @@ fn give_one<'a>(
     stack: &Vec<Frame<'a>>,
     store: &mut Store<'a>,
 ) -> Result<Focus<'a>, Stop>
-    ensures { Leads (λ x. at x (stack_of stack.now.items) (store_of store.new)) result (give (setting_of s.now) (OneW n (or_void ty.entry) (texpr x.now) p) v (stack_of stack.now.items) (store_of store.old)) }
+    ensures { Leads (λ x. at x (stack_of stack.now.items) (store_of store.new)) result
+        (give (setting_of s.now) (OneW n (or_void ty.entry) (texpr x.now) p) v (stack_of stack.now.items) (store_of store.old)) }
 {
     let c = taken(s, n, x, v, store)?;
     let void = CType::Void;
@@ -82,7 +84,7 @@ fn give_one<'a>(
 
 /// Something came of an expression.
 #[inline(always)]
-#[tactic(auto, unfolding(crate::specs::Swift::give_on, crate::specs::Steps::give))]
+#[tactic(auto, unfolding(crate::specs::inner::Swift::give_on, crate::specs::inner::Steps::give))]
 pub(crate) fn give<'a>(
     s: &Setting<'a>,
     f: Frame<'a>,
@@ -90,7 +92,8 @@ pub(crate) fn give<'a>(
     stack: &mut Vec<Frame<'a>>,
     store: &mut Store<'a>,
 ) -> Result<Focus<'a>, Stop>
-    ensures { Leads (λ x. at x (stack_of stack.new.items) (store_of store.new)) result (give_on (setting_of s.now) (frame f.entry) v (stack_of stack.old.items) (store_of store.old)) }
+    ensures { Leads (λ x. at x (stack_of stack.new.items) (store_of store.new)) result
+        (give_on (setting_of s.now) (frame f.entry) v (stack_of stack.old.items) (store_of store.old)) }
 {
     match f {
         Frame::First(n, e) => first(s, n, e, v, stack, store),
@@ -112,7 +115,7 @@ pub(crate) fn give<'a>(
 
 /// A part of a statement was left.
 #[inline(always)]
-#[tactic(auto, unfolding(crate::specs::Swift::leave_on, crate::specs::Steps::leave))]
+#[tactic(auto, unfolding(crate::specs::inner::Swift::leave_on, crate::specs::inner::Steps::leave))]
 fn leave_statement<'a>(
     s: &Setting<'a>,
     stage: Stage,
@@ -123,7 +126,8 @@ fn leave_statement<'a>(
     stack: &mut Vec<Frame<'a>>,
     store: &mut Store<'a>,
 ) -> Result<Focus<'a>, Stop>
-    ensures { Leads (λ x. at x (stack_of stack.new.items) (store_of store.new)) result (leave_on (setting_of s.now) (stmt_frame stage n r (tstmt a.now)) h (stack_of stack.old.items) (store_of store.old)) }
+    ensures { Leads (λ x. at x (stack_of stack.new.items) (store_of store.new)) result
+        (leave_on (setting_of s.now) (stmt_frame stage n r (tstmt a.now)) h (stack_of stack.old.items) (store_of store.old)) }
 {
     match stage {
         Stage::Body => body_left(s, n, r, a, h, stack, store),
@@ -153,7 +157,8 @@ fn main_called<'a>(
     stack: &mut Vec<Frame<'a>>,
     store: &mut Store<'a>,
 ) -> Result<Focus<'a>, Stop>
-    ensures { Leads (λ x. at x (stack_of stack.new.items) (store_of store.new)) result (main_step (setting_of s.now) n main h (stack_of stack.old.items) (store_of store.old)) }
+    ensures { Leads (λ x. at x (stack_of stack.new.items) (store_of store.new)) result
+        (main_step (setting_of s.now) n main h (stack_of stack.old.items) (store_of store.old)) }
 {
     match h {
         How::On => call(s, n, main, Vec::new(s.alloc), nowhere(), stack, store),
@@ -165,7 +170,7 @@ fn main_called<'a>(
 
 /// A statement was left.
 #[inline(always)]
-#[tactic(auto, unfolding(crate::specs::Swift::leave_on, crate::specs::Steps::leave))]
+#[tactic(auto, unfolding(crate::specs::inner::Swift::leave_on, crate::specs::inner::Steps::leave))]
 pub(crate) fn leave<'a>(
     s: &Setting<'a>,
     f: Frame<'a>,
@@ -173,7 +178,8 @@ pub(crate) fn leave<'a>(
     stack: &mut Vec<Frame<'a>>,
     store: &mut Store<'a>,
 ) -> Result<Focus<'a>, Stop>
-    ensures { Leads (λ x. at x (stack_of stack.new.items) (store_of store.new)) result (leave_on (setting_of s.now) (frame f.entry) h (stack_of stack.old.items) (store_of store.old)) }
+    ensures { Leads (λ x. at x (stack_of stack.new.items) (store_of store.new)) result
+        (leave_on (setting_of s.now) (frame f.entry) h (stack_of stack.old.items) (store_of store.old)) }
 {
     match f {
         Frame::Back(f, values, r, span, c) => back_from(
@@ -208,7 +214,7 @@ pub(crate) fn leave<'a>(
 }
 
 /// A statement waits for no initialiser.
-#[tactic(auto, unfolding(crate::specs::Steps::fill_up))]
+#[tactic(auto, unfolding(crate::specs::inner::Steps::fill_up))]
 fn full_statement<'a>(
     s: &Setting<'a>,
     stage: Stage,
@@ -218,7 +224,8 @@ fn full_statement<'a>(
     stack: &Vec<Frame<'a>>,
     store: &Store<'a>,
 ) -> Result<Focus<'a>, Stop>
-    ensures { Leads (λ x. at x (stack_of stack.now.items) (store_of store.now)) result (fill_up (setting_of s.now) (stmt_frame stage n r (tstmt a.now)) (stack_of stack.now.items) (store_of store.now)) }
+    ensures { Leads (λ x. at x (stack_of stack.now.items) (store_of store.now)) result
+        (fill_up (setting_of s.now) (stmt_frame stage n r (tstmt a.now)) (stack_of stack.now.items) (store_of store.now)) }
 {
     match stage {
         Stage::Body => strays(),
@@ -230,14 +237,15 @@ fn full_statement<'a>(
 
 /// An initialiser is filled in.
 #[inline(always)]
-#[tactic(auto, unfolding(crate::specs::Steps::fill_up))]
+#[tactic(auto, unfolding(crate::specs::inner::Steps::fill_up))]
 pub(crate) fn fill_up<'a>(
     s: &Setting<'a>,
     f: Frame<'a>,
     stack: &mut Vec<Frame<'a>>,
     store: &mut Store<'a>,
 ) -> Result<Focus<'a>, Stop>
-    ensures { Leads (λ x. at x (stack_of stack.new.items) (store_of store.new)) result (fill_up (setting_of s.now) (frame f.entry) (stack_of stack.old.items) (store_of store.old)) }
+    ensures { Leads (λ x. at x (stack_of stack.new.items) (store_of store.new)) result
+        (fill_up (setting_of s.now) (frame f.entry) (stack_of stack.old.items) (store_of store.old)) }
 {
     match f {
         Frame::Items(n, all, ty, k, p) => items(s, n, all, ty, k, p, stack, store),

@@ -32,7 +32,8 @@ fn operand<'a>(
     stack: &mut Vec<Frame<'a>>,
     store: &mut Store<'a>,
 ) -> Result<Focus<'a>, Stop>
-    ensures { Leads (λ f. at f (stack_of stack.new.items) (store_of store.new)) result (operand_on (setting_of s.now) n (texpr e.now) (texpr x.now) (stack_of stack.old.items) (store_of store.old)) }
+    ensures { Leads (λ f. at f (stack_of stack.new.items) (store_of store.new)) result
+        (operand_on (setting_of s.now) n (texpr e.now) (texpr x.now) (stack_of stack.old.items) (store_of store.old)) }
 {
     match at_once(s, x, store) {
         Some(v) => first(s, n, e, v, stack, store),
@@ -59,7 +60,7 @@ fn input<'a>(port: u32, store: &mut Store<'a>) -> Result<Focus<'a>, Stop>
 
 /// Begins an expression.
 #[inline(always)]
-#[tactic(auto, unfolding(crate::specs::Swift::eval_on, crate::specs::Steps::eval))]
+#[tactic(auto, unfolding(crate::specs::inner::Swift::eval_on, crate::specs::inner::Steps::eval))]
 pub(crate) fn eval<'a>(
     s: &Setting<'a>,
     n: u32,
@@ -67,7 +68,8 @@ pub(crate) fn eval<'a>(
     stack: &mut Vec<Frame<'a>>,
     store: &mut Store<'a>,
 ) -> Result<Focus<'a>, Stop>
-    ensures { Leads (λ f. at f (stack_of stack.new.items) (store_of store.new)) result (eval_of_on (setting_of s.now) n (texpr e.now) (stack_of stack.old.items) (store_of store.old)) }
+    ensures { Leads (λ f. at f (stack_of stack.new.items) (store_of store.new)) result
+        (eval_of_on (setting_of s.now) n (texpr e.now) (stack_of stack.old.items) (store_of store.old)) }
 {
     match &e.kind {
         TKind::Number(x) => Ok(Focus::Came(Came::Value(Cell::Num(*x)))),

@@ -34,7 +34,8 @@ pub(crate) fn rest<'a>(
     xs: &'a [TStmt],
     stack: &mut Vec<Frame<'a>>,
 ) -> Result<Focus<'a>, Stop>
-    ensures { (u : stores.Store) → Leads (λ x. at x (stack_of stack.new.items) u) result (rest_of n r (tstmts (map tstmt xs.now)) (stack_of stack.old.items) u) }
+    ensures { (u : stores.Store) → Leads (λ x. at x (stack_of stack.new.items) u) result
+        (rest_of n r (tstmts (map tstmt xs.now)) (stack_of stack.old.items) u) }
 {
     match next(xs) {
         None => Ok(Focus::Left(How::On)),
@@ -45,7 +46,7 @@ pub(crate) fn rest<'a>(
     }
 }
 
-/// On to the next statement of the arms of a switch, without so many first ones.
+/// On to the next statement of the arms of a switch, without the first `before`.
 pub(crate) fn arms<'a>(
     n: u32,
     r: Cell,
@@ -53,7 +54,8 @@ pub(crate) fn arms<'a>(
     xs: &'a [TArm],
     stack: &mut Vec<Frame<'a>>,
 ) -> Result<Focus<'a>, Stop>
-    ensures { (u : stores.Store) → Leads (λ x. at x (stack_of stack.new.items) u) result (arms_of n r before (tarms (map tarm xs.now)) (stack_of stack.old.items) u) }
+    ensures { (u : stores.Store) → Leads (λ x. at x (stack_of stack.new.items) u) result
+        (arms_of n r before (tarms (map tarm xs.now)) (stack_of stack.old.items) u) }
 {
     let mut skipped = before;
     let mut left = xs;
@@ -81,7 +83,8 @@ pub(crate) fn turn<'a>(
     body: &'a TStmt,
     stack: &mut Vec<Frame<'a>>,
 ) -> Result<Focus<'a>, Stop>
-    ensures { (u : stores.Store) → Leads (λ x. at x (stack_of stack.new.items) u) result (turn_of n r (tstmt a.now) (option_map (λ x. texpr x.now) test.entry) (tstmt body.now) (stack_of stack.old.items) u) }
+    ensures { (u : stores.Store) → Leads (λ x. at x (stack_of stack.new.items) u) result
+        (turn_of n r (tstmt a.now) (option_map (λ x. texpr x.now) test.entry) (tstmt body.now) (stack_of stack.old.items) u) }
 {
     match test {
         None => {
@@ -120,7 +123,8 @@ pub(crate) fn asked<'a>(
     stack: &mut Vec<Frame<'a>>,
     store: &mut Store<'a>,
 ) -> Result<Focus<'a>, Stop>
-    ensures { Leads (λ f. at f (stack_of stack.new.items) (store_of store.new)) result (asks_on (setting_of s.now) n r (tstmt a.now) (texpr x.now) (stack_of stack.old.items) (store_of store.old)) }
+    ensures { Leads (λ f. at f (stack_of stack.new.items) (store_of store.new)) result
+        (asks_on (setting_of s.now) n r (tstmt a.now) (texpr x.now) (stack_of stack.old.items) (store_of store.old)) }
 {
     match at_once(s, x, store) {
         Some(v) => value_came(s, n, r, a, v, stack, store),
@@ -139,7 +143,9 @@ fn assigned_behind<'a>(
     stack: &mut Vec<Frame<'a>>,
     store: &Store<'a>,
 ) -> Result<Focus<'a>, Stop>
-    ensures { Leads (λ f. at f (stack_of stack.new.items) (store_of store.now)) result (on (placed_in (span_of (texpr e.now)) v) (λ p. Going (EvalF n (texpr y.now)) (SecondW n (texpr e.now) p ∷ (ValueW n r (tstmt a.now) ∷ stack_of stack.old.items)) (store_of store.now))) }
+    ensures { Leads (λ f. at f (stack_of stack.new.items) (store_of store.now)) result
+        (on (placed_in (span_of (texpr e.now)) v)
+        (λ p. Going (EvalF n (texpr y.now)) (SecondW n (texpr e.now) p ∷ (ValueW n r (tstmt a.now) ∷ stack_of stack.old.items)) (store_of store.now))) }
 {
     let p = placed(e.span, v)?;
     push(stack, Frame::InStmt(Stage::Value, n, r, a))?;
@@ -161,7 +167,8 @@ fn assigned_at_once<'a>(
     stack: &Vec<Frame<'a>>,
     store: &mut Store<'a>,
 ) -> Result<Focus<'a>, Stop>
-    ensures { Leads (λ f. at f (stack_of stack.now.items) (store_of store.new)) result (assigned_on (setting_of s.now) n (texpr e.now) op (texpr x.now) (texpr y.now) v w (stack_of stack.now.items) (store_of store.old)) }
+    ensures { Leads (λ f. at f (stack_of stack.now.items) (store_of store.new)) result
+        (assigned_on (setting_of s.now) n (texpr e.now) op (texpr x.now) (texpr y.now) v w (stack_of stack.now.items) (store_of store.old)) }
 {
     let p = placed(e.span, v)?;
     let d = taken(s, n, y, w, store)?;
@@ -183,7 +190,8 @@ fn assigns<'a>(
     stack: &mut Vec<Frame<'a>>,
     store: &mut Store<'a>,
 ) -> Result<Focus<'a>, Stop>
-    ensures { Leads (λ f. at f (stack_of stack.new.items) (store_of store.new)) result (assigns_on (setting_of s.now) n r (tstmt a.now) (texpr e.now) op (texpr x.now) (texpr y.now) (stack_of stack.old.items) (store_of store.old)) }
+    ensures { Leads (λ f. at f (stack_of stack.new.items) (store_of store.new)) result
+        (assigns_on (setting_of s.now) n r (tstmt a.now) (texpr e.now) op (texpr x.now) (texpr y.now) (stack_of stack.old.items) (store_of store.old)) }
 {
     match at_once(s, x, store) {
         None => ask(n, r, a, e, stack),
@@ -206,7 +214,8 @@ fn steps<'a>(
     stack: &mut Vec<Frame<'a>>,
     store: &mut Store<'a>,
 ) -> Result<Focus<'a>, Stop>
-    ensures { Leads (λ f. at f (stack_of stack.new.items) (store_of store.new)) result (steps_on (setting_of s.now) n r (tstmt a.now) (texpr e.now) op (texpr x.now) (stack_of stack.old.items) (store_of store.old)) }
+    ensures { Leads (λ f. at f (stack_of stack.new.items) (store_of store.new)) result
+        (steps_on (setting_of s.now) n r (tstmt a.now) (texpr e.now) op (texpr x.now) (stack_of stack.old.items) (store_of store.old)) }
 {
     let Some(v) = at_once(s, x, store) else {
         return ask(n, r, a, e, stack);
@@ -218,7 +227,7 @@ fn steps<'a>(
 }
 
 /// An expression whose value is dropped.
-#[tactic(auto, unfolding(crate::specs::Swift::does_on))]
+#[tactic(auto, unfolding(crate::specs::inner::Swift::does_on))]
 fn does<'a>(
     s: &Setting<'a>,
     n: u32,
@@ -228,7 +237,8 @@ fn does<'a>(
     stack: &mut Vec<Frame<'a>>,
     store: &mut Store<'a>,
 ) -> Result<Focus<'a>, Stop>
-    ensures { Leads (λ f. at f (stack_of stack.new.items) (store_of store.new)) result (does_on (setting_of s.now) n r (tstmt a.now) (texpr e.now) (stack_of stack.old.items) (store_of store.old)) }
+    ensures { Leads (λ f. at f (stack_of stack.new.items) (store_of store.new)) result
+        (does_on (setting_of s.now) n r (tstmt a.now) (texpr e.now) (stack_of stack.old.items) (store_of store.old)) }
 {
     match &e.kind {
         TKind::Assign(op, x, y) => assigns(s, n, r, a, e, *op, x, y, stack, store),
@@ -252,7 +262,8 @@ pub(crate) fn part<'a>(
     b: &'a TStmt,
     stack: &mut Vec<Frame<'a>>,
 ) -> Result<Focus<'a>, Stop>
-    ensures { (u : stores.Store) → Leads (λ f. at f (stack_of stack.new.items) u) result (Going (DoF n r (tstmt b.now)) (stmt_frame stage n r (tstmt a.now) ∷ stack_of stack.old.items) u) }
+    ensures { (u : stores.Store) → Leads (λ f. at f (stack_of stack.new.items) u) result
+        (Going (DoF n r (tstmt b.now)) (stmt_frame stage n r (tstmt a.now) ∷ stack_of stack.old.items) u) }
 {
     push(stack, Frame::InStmt(stage, n, r, a))?;
     Ok(Focus::Do(n, r, b))
@@ -260,7 +271,7 @@ pub(crate) fn part<'a>(
 
 /// Begins a statement.
 #[inline(always)]
-#[tactic(auto, unfolding(crate::specs::Swift::exec_on, crate::specs::Steps::exec))]
+#[tactic(auto, unfolding(crate::specs::inner::Swift::exec_on, crate::specs::inner::Steps::exec))]
 pub(crate) fn exec<'a>(
     s: &Setting<'a>,
     n: u32,
@@ -269,7 +280,8 @@ pub(crate) fn exec<'a>(
     stack: &mut Vec<Frame<'a>>,
     store: &mut Store<'a>,
 ) -> Result<Focus<'a>, Stop>
-    ensures { Leads (λ x. at x (stack_of stack.new.items) (store_of store.new)) result (exec_on (setting_of s.now) n r (tstmt a.now) (stack_of stack.old.items) (store_of store.old)) }
+    ensures { Leads (λ x. at x (stack_of stack.new.items) (store_of store.new)) result
+        (exec_on (setting_of s.now) n r (tstmt a.now) (stack_of stack.old.items) (store_of store.old)) }
 {
     match a {
         TStmt::Block(made, body) => {

@@ -72,7 +72,7 @@ fn text<'a>(
     )
 }
 
-/// A pointer so many words on.
+/// The pointer `words` words further on.
 #[tactic(auto, using(crate::proofs::Wrapping::far_on))]
 fn far_on(p: Cell, words: u64) -> Cell
     ensures { result ≡ further p words }
@@ -129,7 +129,8 @@ pub(crate) fn vars<'a>(
     stack: &mut Vec<Frame<'a>>,
     store: &Store<'a>,
 ) -> Result<Focus<'a>, Stop>
-    ensures { Leads (λ x. at x (stack_of stack.new.items) (store_of store.now)) result (vars_of n (map tvar vs.now) (stack_of stack.old.items) (store_of store.now)) }
+    ensures { Leads (λ x. at x (stack_of stack.new.items) (store_of store.now)) result
+        (vars_of n (map tvar vs.now) (stack_of stack.old.items) (store_of store.now)) }
 {
     match next(vs) {
         None => Ok(Focus::Full),
@@ -191,7 +192,8 @@ pub(crate) fn items<'a>(
     stack: &mut Vec<Frame<'a>>,
     store: &mut Store<'a>,
 ) -> Result<Focus<'a>, Stop>
-    ensures { Leads (λ x. at x (stack_of stack.new.items) (store_of store.new)) result (items_of (setting_of s.now) n (items_from all.now k) (or_void ty.entry) k p (stack_of stack.old.items) (store_of store.old)) }
+    ensures { Leads (λ x. at x (stack_of stack.new.items) (store_of store.new)) result
+        (items_of (setting_of s.now) n (items_from all.now k) (or_void ty.entry) k p (stack_of stack.old.items) (store_of store.old)) }
 {
     match item_at(all, k) {
         None => {
@@ -208,7 +210,7 @@ pub(crate) fn items<'a>(
 }
 
 /// Begins an initialiser.
-#[tactic(auto, unfolding(crate::specs::Steps::fill))]
+#[tactic(auto, unfolding(crate::specs::inner::Steps::fill))]
 pub(crate) fn fill<'a>(
     s: &Setting<'a>,
     n: u32,
@@ -218,7 +220,8 @@ pub(crate) fn fill<'a>(
     stack: &mut Vec<Frame<'a>>,
     store: &mut Store<'a>,
 ) -> Result<Focus<'a>, Stop>
-    ensures { Leads (λ x. at x (stack_of stack.new.items) (store_of store.new)) result (fill (setting_of s.now) n (tinit i.now) (or_void ty.entry) p (stack_of stack.old.items) (store_of store.old)) }
+    ensures { Leads (λ x. at x (stack_of stack.new.items) (store_of store.new)) result
+        (fill (setting_of s.now) n (tinit i.now) (or_void ty.entry) p (stack_of stack.old.items) (store_of store.old)) }
 {
     match i {
         TInit::One(x) => {

@@ -8,7 +8,9 @@ ghost use Rattle.c_meaning.specs.Setting.{global_at};
 ghost use Rattle.c_evaluate.specs.inner.SettingView.{setting_of};
 ghost use Rattle.c_evaluate.specs.inner.StoreView.{store_of};
 ghost use Rattle.c_evaluate.specs.declared.frame.Came.TheVariants.{Value};
-ghost use Rattle.c_evaluate.specs.inner.Swift.{answered, arrow_at_once, at_once, binary_at_once, cast_at_once, comes, depth_at_once, index_at_once, is_strict, local_at_once, member_at_once, place_at_once, place_of, seen, seen_at, unary_at_once, value_at_once, with_some};
+ghost use Rattle.c_evaluate.specs.inner.Swift.{answered, arrow_at_once, at_once, binary_at_once, cast_at_once, comes, depth_at_once, index_at_once};
+ghost use Rattle.c_evaluate.specs.inner.Swift.{is_strict, local_at_once, member_at_once, place_at_once, place_of, seen, seen_at, unary_at_once};
+ghost use Rattle.c_evaluate.specs.inner.Swift.{value_at_once, with_some};
 
 use crate::frame::Came;
 use crate::operators::{cell_unary, converted, is_true, operated, read_as, stepped, truth};
@@ -90,7 +92,7 @@ fn seen_at<'a>(ty: &CType, p: Cell, store: &Store<'a>) -> Option<Cell>
 
 /// The value of what came.
 #[inline(always)]
-#[tactic(auto, unfolding(crate::specs::Swift::seen))]
+#[tactic(auto, unfolding(crate::specs::inner::Swift::seen))]
 fn seen<'a>(ty: &CType, v: Came, store: &Store<'a>) -> Option<Cell>
     ensures { result ≡ seen (ctype ty.now) v (store_of store.now) }
 {
@@ -120,7 +122,7 @@ fn negated<'a>(ty: &CType, c: Cell, store: &Store<'a>) -> Option<Came>
     }
 }
 
-#[tactic(auto, unfolding(crate::specs::Swift::unary_at_once))]
+#[tactic(auto, unfolding(crate::specs::inner::Swift::unary_at_once))]
 fn unary_at_once<'a>(op: UnOp, ty: &CType, v: Came, store: &Store<'a>) -> Option<Came>
     ensures { result ≡ unary_at_once op (ctype ty.now) v (store_of store.now) }
 {
@@ -171,7 +173,7 @@ pub(crate) fn is_strict(op: BinOp) -> bool
 }
 
 #[inline(always)]
-#[tactic(auto, unfolding(crate::specs::Swift::binary_at_once))]
+#[tactic(auto, unfolding(crate::specs::inner::Swift::binary_at_once))]
 fn binary_at_once<'a>(
     s: &Setting<'a>,
     op: BinOp,
@@ -193,7 +195,7 @@ fn binary_at_once<'a>(
 }
 
 #[inline(always)]
-#[tactic(auto, unfolding(crate::specs::Swift::index_at_once))]
+#[tactic(auto, unfolding(crate::specs::inner::Swift::index_at_once))]
 fn index_at_once<'a>(
     s: &Setting<'a>,
     ty: &CType,
@@ -251,7 +253,7 @@ fn index_with<'a>(
     }
 }
 
-#[tactic(auto, unfolding(crate::specs::Swift::member_at_once))]
+#[tactic(auto, unfolding(crate::specs::inner::Swift::member_at_once))]
 fn member_at_once(offset: u32, v: Came) -> Option<Came>
     ensures { result ≡ member_at_once offset v }
 {
@@ -261,7 +263,7 @@ fn member_at_once(offset: u32, v: Came) -> Option<Came>
     }
 }
 
-#[tactic(auto, unfolding(crate::specs::Swift::arrow_at_once))]
+#[tactic(auto, unfolding(crate::specs::inner::Swift::arrow_at_once))]
 fn arrow_at_once<'a>(ty: &CType, offset: u32, v: Came, store: &Store<'a>) -> Option<Came>
     ensures { result ≡ arrow_at_once (ctype ty.now) offset v (store_of store.now) }
 {
@@ -271,7 +273,7 @@ fn arrow_at_once<'a>(ty: &CType, offset: u32, v: Came, store: &Store<'a>) -> Opt
     }
 }
 
-#[tactic(auto, unfolding(crate::specs::Swift::cast_at_once))]
+#[tactic(auto, unfolding(crate::specs::inner::Swift::cast_at_once))]
 fn cast_at_once<'a>(to: &CType, ty: &CType, v: Came, store: &Store<'a>) -> Option<Came>
     ensures { result ≡ cast_at_once (ctype to.now) (ctype ty.now) v (store_of store.now) }
 {
@@ -282,7 +284,7 @@ fn cast_at_once<'a>(to: &CType, ty: &CType, v: Came, store: &Store<'a>) -> Optio
 }
 
 /// What comes of an expression whose operators nest to a depth at most; none of others, which take steps.
-#[tactic(auto, unfolding(crate::specs::Swift::comes))]
+#[tactic(auto, unfolding(crate::specs::inner::Swift::comes))]
 fn comes<'a>(s: &Setting<'a>, depth: u32, x: &TExpr, store: &Store<'a>) -> Option<Came>
     ensures { result ≡ comes (setting_of s.now) depth (texpr x.now) (store_of store.now) }
 {
@@ -372,7 +374,7 @@ fn comes<'a>(s: &Setting<'a>, depth: u32, x: &TExpr, store: &Store<'a>) -> Optio
 }
 
 /// What comes of an operand without a step; none of others, which take steps.
-#[tactic(auto, unfolding(crate::specs::Swift::at_once))]
+#[tactic(auto, unfolding(crate::specs::inner::Swift::at_once))]
 pub(crate) fn at_once<'a>(s: &Setting<'a>, x: &TExpr, store: &Store<'a>) -> Option<Came>
     ensures { result ≡ at_once (setting_of s.now) (texpr x.now) (store_of store.now) }
 {

@@ -144,7 +144,7 @@ impl<'a> Setting<'a> {
         }
     }
 
-    /// Whether there is room for one more frame beside so many words of frames.
+    /// Whether there is room for one more frame beside `used` words of frames.
     #[tactic(auto, using(crate::proofs::Wrapping::room_capped))]
     pub(crate) fn has_room(&self, f: u32, used: u32) -> bool
         ensures { result ≡ leb (used + ((setting_of self.now).sizes.frame f + 2) + (setting_of self.now).sizes.globals) ram_words }

@@ -120,7 +120,8 @@ fn opening<'a>(
     answers: &'a [u32],
     card: Option<&[u32]>,
 ) -> Result<Store<'a>, Memory>
-    ensures { IfOk result (λ s. store_of s ≡ opening_store (map (λ g. g.1) (program p.now).globals) (program p.now).literals answers.now (option_map (λ w. w.now) card.entry)) }
+    ensures { IfOk result (λ s. store_of s ≡ opening_store (map (λ g. g.1) (program p.now).globals) (program p.now).literals answers.now
+        (option_map (λ w. w.now) card.entry)) }
 {
     Ok(Store {
         objects: opened(alloc, p.globals(), p.literals(), card)?,
@@ -139,7 +140,8 @@ fn first_focus<'a>(
     inits: &'a [TStmt],
     stack: &mut Vec<Frame<'a>>,
 ) -> Result<Focus<'a>, Memory>
-    ensures { IfOk result (λ x. (u : stores.Store) → rest_of n Unwritten (tstmts (map tstmt inits.now)) (MainW n main ∷ stack_of stack.old.items) u ≡ at x (stack_of stack.new.items) u) }
+    ensures { IfOk result (λ x. (u : stores.Store)
+        → rest_of n Unwritten (tstmts (map tstmt inits.now)) (MainW n main ∷ stack_of stack.old.items) u ≡ at x (stack_of stack.new.items) u) }
 {
     push(stack, Frame::Main(n, main))?;
     match rest(n, Cell::Unwritten, inits, stack) {
@@ -158,7 +160,8 @@ pub(crate) fn begun<'a>(
     card: Option<&[u32]>,
     bound: u32,
 ) -> Result<Machine<'a>, Memory>
-    ensures { IfOk result (λ m. run_left (setting_of m) (config_of m) ≡ run_of (program p.now) frames.now bound answers.now (option_map (λ w. w.now) card.entry)) }
+    ensures { IfOk result (λ m. run_left (setting_of m) (config_of m) ≡ run_of (program p.now) frames.now bound answers.now
+        (option_map (λ w. w.now) card.entry)) }
 {
     let store = opening(alloc, p, answers, card)?;
     let globals = global_words(p.globals());

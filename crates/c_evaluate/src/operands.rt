@@ -42,7 +42,8 @@ fn unary<'a>(
     stack: &Vec<Frame<'a>>,
     store: &mut Store<'a>,
 ) -> Result<Focus<'a>, Stop>
-    ensures { Leads (λ f. at f (stack_of stack.now.items) (store_of store.new)) result (unary_first (setting_of s.now) n op (texpr x.now) span v (stack_of stack.now.items) (store_of store.old)) }
+    ensures { Leads (λ f. at f (stack_of stack.now.items) (store_of store.new)) result
+        (unary_first (setting_of s.now) n op (texpr x.now) span v (stack_of stack.now.items) (store_of store.old)) }
 {
     match op {
         UnOp::Deref => {
@@ -75,7 +76,8 @@ fn second<'a>(
     stack: &mut Vec<Frame<'a>>,
     store: &mut Store<'a>,
 ) -> Result<Focus<'a>, Stop>
-    ensures { Leads (λ f. at f (stack_of stack.new.items) (store_of store.new)) result (second_on (setting_of s.now) n (texpr e.now) (texpr y.now) c (stack_of stack.old.items) (store_of store.old)) }
+    ensures { Leads (λ f. at f (stack_of stack.new.items) (store_of store.new)) result
+        (second_on (setting_of s.now) n (texpr e.now) (texpr y.now) c (stack_of stack.old.items) (store_of store.old)) }
 {
     match at_once(s, y, store) {
         Some(v) => second_came(s, n, e, c, v, stack, store),
@@ -96,7 +98,8 @@ fn member_of<'a>(
     v: Came,
     store: &mut Store<'a>,
 ) -> Result<Focus<'a>, Stop>
-    ensures { (k : List FrameT) → Leads (λ f. at f k (store_of store.new)) result (member_first (ctype ty.now) (texpr x.now) span offset v k (store_of store.old)) }
+    ensures { (k : List FrameT) → Leads (λ f. at f k (store_of store.new)) result
+        (member_first (ctype ty.now) (texpr x.now) span offset v k (store_of store.old)) }
 {
     match v {
         Came::Place(p) => {
@@ -119,7 +122,8 @@ fn output<'a>(
     stack: &Vec<Frame<'a>>,
     store: &Store<'a>,
 ) -> Result<Focus<'a>, Stop>
-    ensures { Leads (λ f. at f (stack_of stack.now.items) (store_of store.now)) result (on (at_span span (word_of c)) (λ z. Going (MadeF (Out port z) Nothing) (stack_of stack.now.items) (store_of store.now))) }
+    ensures { Leads (λ f. at f (stack_of stack.now.items) (store_of store.now)) result
+        (on (at_span span (word_of c)) (λ z. Going (MadeF (Out port z) Nothing) (stack_of stack.now.items) (store_of store.now))) }
 {
     let word = located(span, word_of(c))?;
     Ok(Focus::Made(Event::Out(port, word), Came::Nothing))
@@ -138,7 +142,8 @@ fn binary<'a>(
     stack: &mut Vec<Frame<'a>>,
     store: &mut Store<'a>,
 ) -> Result<Focus<'a>, Stop>
-    ensures { Leads (λ f. at f (stack_of stack.new.items) (store_of store.new)) result (binary_on (setting_of s.now) n op (texpr e.now) (texpr x.now) (texpr y.now) v (stack_of stack.old.items) (store_of store.old)) }
+    ensures { Leads (λ f. at f (stack_of stack.new.items) (store_of store.new)) result
+        (binary_on (setting_of s.now) n op (texpr e.now) (texpr x.now) (texpr y.now) v (stack_of stack.old.items) (store_of store.old)) }
 {
     match op {
         BinOp::AndAlso => {
@@ -194,7 +199,8 @@ fn combined<'a>(
     stack: &Vec<Frame<'a>>,
     store: &mut Store<'a>,
 ) -> Result<Focus<'a>, Stop>
-    ensures { Leads (λ f. at f (stack_of stack.now.items) (store_of store.new)) result (combined (setting_of s.now) n op (texpr x.now) (texpr y.now) span c v (stack_of stack.now.items) (store_of store.old)) }
+    ensures { Leads (λ f. at f (stack_of stack.now.items) (store_of store.new)) result
+        (combined (setting_of s.now) n op (texpr x.now) (texpr y.now) span c v (stack_of stack.now.items) (store_of store.old)) }
 {
     let d = taken(s, n, y, v, store)?;
     let z = second_operated(s, op, x, y, span, c, d, store)?;
@@ -215,7 +221,8 @@ fn binary_second<'a>(
     stack: &Vec<Frame<'a>>,
     store: &mut Store<'a>,
 ) -> Result<Focus<'a>, Stop>
-    ensures { Leads (λ f. at f (stack_of stack.now.items) (store_of store.new)) result (binary_second (setting_of s.now) n op (texpr x.now) (texpr y.now) span c v (stack_of stack.now.items) (store_of store.old)) }
+    ensures { Leads (λ f. at f (stack_of stack.now.items) (store_of store.new)) result
+        (binary_second (setting_of s.now) n op (texpr x.now) (texpr y.now) span c v (stack_of stack.now.items) (store_of store.old)) }
 {
     match op {
         BinOp::AndAlso | BinOp::OrElse => {
@@ -243,7 +250,7 @@ fn binary_second<'a>(
 
 /// What came of the first operand.
 #[inline(always)]
-#[tactic(auto, unfolding(crate::specs::Swift::first_on, crate::specs::Steps::first_step))]
+#[tactic(auto, unfolding(crate::specs::inner::Swift::first_on, crate::specs::inner::Steps::first_step))]
 pub(crate) fn first<'a>(
     s: &Setting<'a>,
     n: u32,
@@ -252,7 +259,8 @@ pub(crate) fn first<'a>(
     stack: &mut Vec<Frame<'a>>,
     store: &mut Store<'a>,
 ) -> Result<Focus<'a>, Stop>
-    ensures { Leads (λ f. at f (stack_of stack.new.items) (store_of store.new)) result (first_of_on (setting_of s.now) n (texpr e.now) v (stack_of stack.old.items) (store_of store.old)) }
+    ensures { Leads (λ f. at f (stack_of stack.new.items) (store_of store.new)) result
+        (first_of_on (setting_of s.now) n (texpr e.now) v (stack_of stack.old.items) (store_of store.old)) }
 {
     match &e.kind {
         TKind::Unary(op, x) => unary(s, n, *op, x, e.span, v, stack, store),
@@ -295,7 +303,7 @@ pub(crate) fn first<'a>(
 
 /// What came of the second operand, where the first came to a cell.
 #[inline(always)]
-#[tactic(auto, unfolding(crate::specs::Steps::second_step))]
+#[tactic(auto, unfolding(crate::specs::inner::Steps::second_step))]
 pub(crate) fn second_came<'a>(
     s: &Setting<'a>,
     n: u32,
@@ -305,7 +313,8 @@ pub(crate) fn second_came<'a>(
     stack: &Vec<Frame<'a>>,
     store: &mut Store<'a>,
 ) -> Result<Focus<'a>, Stop>
-    ensures { Leads (λ f. at f (stack_of stack.now.items) (store_of store.new)) result (second_of (setting_of s.now) n (texpr e.now) c v (stack_of stack.now.items) (store_of store.old)) }
+    ensures { Leads (λ f. at f (stack_of stack.now.items) (store_of store.new)) result
+        (second_of (setting_of s.now) n (texpr e.now) c v (stack_of stack.now.items) (store_of store.old)) }
 {
     match &e.kind {
         TKind::Binary(op, x, y) => binary_second(s, n, *op, x, y, e.span, c, v, stack, store),

@@ -5,7 +5,8 @@ ghost use Rattle.kit_base.specs.Word.{mul, negated, below, bool_word, quotient, 
 ghost use Rattle.c_types.specs.View.{ctype};
 ghost use Rattle.obj_mem.specs.inner.View.{objects};
 ghost use Rattle.c_meaning.specs.Kinds.{decayed};
-ghost use Rattle.c_meaning.specs.Operators.{is_of, read_as, converted, is_true, word_unary, unless_zero, word_binary, cell_unary, cell_binary, stepped, stepped_back, distance, ordered, pointer_operated, operated};
+ghost use Rattle.c_meaning.specs.Operators.{is_of, read_as, converted, is_true, word_unary, unless_zero, word_binary, cell_unary, cell_binary};
+ghost use Rattle.c_meaning.specs.Operators.{stepped, stepped_back, distance, ordered, pointer_operated, operated};
 ghost use Rattle.c_evaluate.specs.inner.SettingView.{setting_of};
 
 use crate::queries::{apart, equal_pointers, offsets, read, step, word_of};
@@ -179,7 +180,7 @@ fn cell_binary(op: BinOp, c: Cell, d: Cell) -> Result<Cell, Refusal>
     Ok(Cell::Num(z))
 }
 
-/// A pointer so many elements of a size on.
+/// A pointer moved on by a number of elements of `size` words.
 #[inline(always)]
 pub(crate) fn stepped(size: u32, p: Cell, c: Cell) -> Result<Cell, Refusal>
     ensures { result ≡ stepped size p c }

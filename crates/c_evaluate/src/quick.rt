@@ -3,7 +3,8 @@ ghost use Rattle.std.specs.Prelude.{◌≡◌, map, slice_get, Option, option_ma
 ghost use Rattle.c_types.specs.View.{ctype, texpr, function, tstmt, tstmts};
 ghost use Rattle.c_evaluate.specs.inner.SettingView.{setting_of};
 ghost use Rattle.c_evaluate.specs.inner.StoreView.{store_of};
-ghost use Rattle.c_evaluate.specs.inner.Swift.{answered, unary_worth, binary_worth, with_some, when, is_word, word_held, word_at, worth, are_words, returned_of, returned_by, quick_of, quick};
+ghost use Rattle.c_evaluate.specs.inner.Swift.{answered, unary_worth, binary_worth, with_some, when, is_word, word_held, word_at, worth, are_words};
+ghost use Rattle.c_evaluate.specs.inner.Swift.{returned_of, returned_by, quick_of, quick};
 
 use crate::leaf::is_strict;
 use crate::operators::{bool_word, word_binary, word_unary};
@@ -77,7 +78,7 @@ fn word_at(ty: &CType, x: u32) -> u32
 
 /// The value of a unary operator.
 #[inline(always)]
-#[tactic(auto, unfolding(crate::specs::Swift::unary_worth))]
+#[tactic(auto, unfolding(crate::specs::inner::Swift::unary_worth))]
 fn unary_worth(op: UnOp, x: u32) -> Option<u32>
     ensures { result ≡ unary_worth op x }
 {
@@ -86,7 +87,7 @@ fn unary_worth(op: UnOp, x: u32) -> Option<u32>
 
 /// The value of a binary operator.
 #[inline(always)]
-#[tactic(auto, unfolding(crate::specs::Swift::binary_worth))]
+#[tactic(auto, unfolding(crate::specs::inner::Swift::binary_worth))]
 fn binary_worth(op: BinOp, x: u32, y: u32) -> Option<u32>
     ensures { result ≡ binary_worth op x y }
 {
@@ -105,7 +106,7 @@ fn binary_with(op: BinOp, x: u32, y: Option<u32>) -> Option<u32>
 }
 
 /// The value of an expression of words, where the parameters have these arguments; none of others.
-#[tactic(auto, unfolding(crate::specs::Swift::worth))]
+#[tactic(auto, unfolding(crate::specs::inner::Swift::worth))]
 fn worth(depth: u32, args: &[Cell], x: &TExpr) -> Option<u32>
     ensures { result ≡ worth depth args.now (texpr x.now) }
 {
@@ -211,7 +212,7 @@ fn returned_by(body: &[TStmt]) -> Option<&TExpr>
 }
 
 /// What a function of words returns for these arguments; none where it takes steps.
-#[tactic(auto, unfolding(crate::specs::Swift::quick_of))]
+#[tactic(auto, unfolding(crate::specs::inner::Swift::quick_of))]
 fn quick_of(sizes: &[u32], g: &TFunction, args: &[Cell]) -> Option<u32>
     ensures { result ≡ quick_of sizes.now (function g.now) args.now }
 {
@@ -231,7 +232,7 @@ fn quick_of(sizes: &[u32], g: &TFunction, args: &[Cell]) -> Option<u32>
 }
 
 /// What a call returns at once, where there is bound and room for it; none where it takes steps.
-#[tactic(auto, unfolding(crate::specs::Swift::quick))]
+#[tactic(auto, unfolding(crate::specs::inner::Swift::quick))]
 pub(crate) fn quick<'a>(
     s: &Setting<'a>,
     n: u32,

@@ -17,7 +17,8 @@ pub(crate) fn push<'a>(stack: &mut Vec<Frame<'a>>, f: Frame<'a>) -> Result<(), A
 #[inline(always)]
 #[tactic(auto, using(crate::proofs::Stacks::pushed, crate::proofs::Stacks::none_left))]
 pub(crate) fn pop<'a>(stack: &mut Vec<Frame<'a>>) -> Option<Frame<'a>>
-    ensures { MatchOption result ((stack_of stack.old.items ≡ []) × (stack_of stack.new.items ≡ [])) (λ f. stack_of stack.old.items ≡ frame f ∷ stack_of stack.new.items) }
+    ensures { MatchOption result ((stack_of stack.old.items ≡ []) × (stack_of stack.new.items ≡ [])) (λ f. stack_of stack.old.items ≡ frame f
+        ∷ stack_of stack.new.items) }
 {
     match stack.pop() {
         None => None,

@@ -8,7 +8,8 @@ ghost use Rattle.c_evaluate.specs.inner.FocusView.{at, stack_of};
 ghost use Rattle.c_evaluate.specs.inner.SettingView.{setting_of};
 ghost use Rattle.c_evaluate.specs.inner.StoreView.{store_of};
 ghost use Rattle.c_evaluate.specs.inner.Storing.{returned_in};
-ghost use Rattle.c_evaluate.specs.inner.Steps.{after_body, after_on, again, do_again, turn_of, step_dropped, step_of, value_looped, value_switched, value_returned, value_step, step_step, begin_step};
+ghost use Rattle.c_evaluate.specs.inner.Steps.{after_body, after_on, again, do_again, turn_of, step_dropped, step_of, value_looped, value_switched};
+ghost use Rattle.c_evaluate.specs.inner.Steps.{value_returned, value_step, step_step, begin_step};
 ghost use Rattle.c_evaluate.specs.inner.Swift.{again_on, body_on};
 
 use crate::cells::{cells, located};
@@ -80,7 +81,8 @@ fn again<'a>(
     body: &'a TStmt,
     stack: &mut Vec<Frame<'a>>,
 ) -> Result<Focus<'a>, Stop>
-    ensures { (u : stores.Store) → Leads (λ f. at f (stack_of stack.new.items) u) result (again n r (tstmt a.now) (option_map (λ x. texpr x.now) test.entry) (tstmt body.now) (stack_of stack.old.items) u) }
+    ensures { (u : stores.Store) → Leads (λ f. at f (stack_of stack.new.items) u) result
+        (again n r (tstmt a.now) (option_map (λ x. texpr x.now) test.entry) (tstmt body.now) (stack_of stack.old.items) u) }
 {
     if n == 0 {
         return Err(Stop::Ends(End::OutOfBound));
@@ -97,7 +99,8 @@ fn do_again<'a>(
     body: &'a TStmt,
     stack: &mut Vec<Frame<'a>>,
 ) -> Result<Focus<'a>, Stop>
-    ensures { (u : stores.Store) → Leads (λ f. at f (stack_of stack.new.items) u) result (do_again n r (tstmt a.now) (tstmt body.now) (stack_of stack.old.items) u) }
+    ensures { (u : stores.Store) → Leads (λ f. at f (stack_of stack.new.items) u) result
+        (do_again n r (tstmt a.now) (tstmt body.now) (stack_of stack.old.items) u) }
 {
     if n == 0 {
         return Err(Stop::Ends(End::OutOfBound));
@@ -117,7 +120,9 @@ fn step<'a>(
     body: &'a TStmt,
     stack: &mut Vec<Frame<'a>>,
 ) -> Result<Focus<'a>, Stop>
-    ensures { (u : stores.Store) → Leads (λ f. at f (stack_of stack.new.items) u) result (step_of n r (tstmt a.now) (option_map (λ x. texpr x.now) test.entry) (option_map (λ x. texpr x.now) step.entry) (tstmt body.now) (stack_of stack.old.items) u) }
+    ensures { (u : stores.Store) → Leads (λ f. at f (stack_of stack.new.items) u) result
+        (step_of n r (tstmt a.now) (option_map (λ x. texpr x.now) test.entry) (option_map (λ x. texpr x.now) step.entry) (tstmt body.now)
+        (stack_of stack.old.items) u) }
 {
     match step {
         None => again(n, r, a, test, body, stack),
@@ -157,7 +162,8 @@ fn returns<'a>(
     stack: &Vec<Frame<'a>>,
     store: &mut Store<'a>,
 ) -> Result<Focus<'a>, Stop>
-    ensures { Leads (λ f. at f (stack_of stack.now.items) (store_of store.new)) result (value_returned (setting_of s.now) n r (texpr x.now) v (stack_of stack.now.items) (store_of store.old)) }
+    ensures { Leads (λ f. at f (stack_of stack.now.items) (store_of store.new)) result
+        (value_returned (setting_of s.now) n r (texpr x.now) v (stack_of stack.now.items) (store_of store.old)) }
 {
     let c = taken(s, n, x, v, store)?;
     let void = CType::Void;
@@ -182,7 +188,8 @@ fn switches<'a>(
     stack: &mut Vec<Frame<'a>>,
     store: &mut Store<'a>,
 ) -> Result<Focus<'a>, Stop>
-    ensures { Leads (λ f. at f (stack_of stack.new.items) (store_of store.new)) result (value_switched (setting_of s.now) n r (texpr x.now) made.now (tarms (map tarm xs.now)) v (stack_of stack.old.items) (store_of store.old)) }
+    ensures { Leads (λ f. at f (stack_of stack.new.items) (store_of store.new)) result
+        (value_switched (setting_of s.now) n r (texpr x.now) made.now (tarms (map tarm xs.now)) v (stack_of stack.old.items) (store_of store.old)) }
 {
     let c = taken(s, n, x, v, store)?;
     let word = located(x.span, word_of(c))?;
@@ -205,7 +212,8 @@ fn loops<'a>(
     stack: &mut Vec<Frame<'a>>,
     store: &mut Store<'a>,
 ) -> Result<Focus<'a>, Stop>
-    ensures { Leads (λ f. at f (stack_of stack.new.items) (store_of store.new)) result (value_looped (setting_of s.now) n r (tstmt a.now) (texpr x.now) (tstmt body.now) v (stack_of stack.old.items) (store_of store.old)) }
+    ensures { Leads (λ f. at f (stack_of stack.new.items) (store_of store.new)) result
+        (value_looped (setting_of s.now) n r (tstmt a.now) (texpr x.now) (tstmt body.now) v (stack_of stack.old.items) (store_of store.old)) }
 {
     if tested(s, n, x, v, store)? {
         part(Stage::Body, n, r, a, body, stack)
@@ -216,7 +224,7 @@ fn loops<'a>(
 
 /// The value that a statement asks for came.
 #[inline(always)]
-#[tactic(auto, unfolding(crate::specs::Steps::value_step))]
+#[tactic(auto, unfolding(crate::specs::inner::Steps::value_step))]
 pub(crate) fn value_came<'a>(
     s: &Setting<'a>,
     n: u32,
@@ -226,7 +234,8 @@ pub(crate) fn value_came<'a>(
     stack: &mut Vec<Frame<'a>>,
     store: &mut Store<'a>,
 ) -> Result<Focus<'a>, Stop>
-    ensures { Leads (λ f. at f (stack_of stack.new.items) (store_of store.new)) result (value_step (setting_of s.now) n r (tstmt a.now) v (stack_of stack.old.items) (store_of store.old)) }
+    ensures { Leads (λ f. at f (stack_of stack.new.items) (store_of store.new)) result
+        (value_step (setting_of s.now) n r (tstmt a.now) v (stack_of stack.old.items) (store_of store.old)) }
 {
     match a {
         TStmt::Do(x) => {
@@ -292,14 +301,16 @@ fn stepped<'a>(
     stack: &mut Vec<Frame<'a>>,
     store: &mut Store<'a>,
 ) -> Result<Focus<'a>, Stop>
-    ensures { Leads (λ f. at f (stack_of stack.new.items) (store_of store.new)) result (step_dropped (setting_of s.now) n r (tstmt a.now) (option_map (λ x. texpr x.now) test.entry) (texpr y.now) (tstmt body.now) v (stack_of stack.old.items) (store_of store.old)) }
+    ensures { Leads (λ f. at f (stack_of stack.new.items) (store_of store.new)) result
+        (step_dropped (setting_of s.now) n r (tstmt a.now) (option_map (λ x. texpr x.now) test.entry) (texpr y.now) (tstmt body.now) v
+        (stack_of stack.old.items) (store_of store.old)) }
 {
     dropped(s, n, y, v, store)?;
     again(n, r, a, test, body, stack)
 }
 
 /// The step of a `for` came.
-#[tactic(auto, unfolding(crate::specs::Steps::step_step))]
+#[tactic(auto, unfolding(crate::specs::inner::Steps::step_step))]
 pub(crate) fn step_came<'a>(
     s: &Setting<'a>,
     n: u32,
@@ -309,7 +320,8 @@ pub(crate) fn step_came<'a>(
     stack: &mut Vec<Frame<'a>>,
     store: &mut Store<'a>,
 ) -> Result<Focus<'a>, Stop>
-    ensures { Leads (λ f. at f (stack_of stack.new.items) (store_of store.new)) result (step_step (setting_of s.now) n r (tstmt a.now) v (stack_of stack.old.items) (store_of store.old)) }
+    ensures { Leads (λ f. at f (stack_of stack.new.items) (store_of store.new)) result
+        (step_step (setting_of s.now) n r (tstmt a.now) v (stack_of stack.old.items) (store_of store.old)) }
 {
     match a {
         TStmt::For(_, None, test, Some(y), body) => stepped(
@@ -361,7 +373,10 @@ fn for_left<'a>(
     stack: &mut Vec<Frame<'a>>,
     store: &Store<'a>,
 ) -> Result<Focus<'a>, Stop>
-    ensures { Leads (λ f. at f (stack_of stack.new.items) (store_of store.now)) result (after_body h (stack_of stack.old.items) (store_of store.now) (step_of n r (tstmt a.now) (option_map (λ x. texpr x.now) test.entry) (option_map (λ x. texpr x.now) y.entry) (tstmt body.now) (stack_of stack.old.items) (store_of store.now))) }
+    ensures { Leads (λ f. at f (stack_of stack.new.items) (store_of store.now)) result
+        (after_body h (stack_of stack.old.items) (store_of store.now)
+        (step_of n r (tstmt a.now) (option_map (λ x. texpr x.now) test.entry) (option_map (λ x. texpr x.now) y.entry) (tstmt body.now)
+        (stack_of stack.old.items) (store_of store.now))) }
 {
     match h {
         How::On => step(n, r, a, test, y, body, stack),
@@ -382,7 +397,9 @@ fn for_begun<'a>(
     stack: &mut Vec<Frame<'a>>,
     store: &Store<'a>,
 ) -> Result<Focus<'a>, Stop>
-    ensures { Leads (λ f. at f (stack_of stack.new.items) (store_of store.now)) result (after_on h (stack_of stack.old.items) (store_of store.now) (turn_of n r (tstmt a.now) (option_map (λ x. texpr x.now) test.entry) (tstmt body.now) (stack_of stack.old.items) (store_of store.now))) }
+    ensures { Leads (λ f. at f (stack_of stack.new.items) (store_of store.now)) result
+        (after_on h (stack_of stack.old.items) (store_of store.now)
+        (turn_of n r (tstmt a.now) (option_map (λ x. texpr x.now) test.entry) (tstmt body.now) (stack_of stack.old.items) (store_of store.now))) }
 {
     match h {
         How::On => turn(n, r, a, test, body, stack),
@@ -401,7 +418,8 @@ fn while_again<'a>(
     stack: &mut Vec<Frame<'a>>,
     store: &mut Store<'a>,
 ) -> Result<Focus<'a>, Stop>
-    ensures { Leads (λ f. at f (stack_of stack.new.items) (store_of store.new)) result (again_on (setting_of s.now) n r (tstmt a.now) (texpr x.now) (stack_of stack.old.items) (store_of store.old)) }
+    ensures { Leads (λ f. at f (stack_of stack.new.items) (store_of store.new)) result
+        (again_on (setting_of s.now) n r (tstmt a.now) (texpr x.now) (stack_of stack.old.items) (store_of store.old)) }
 {
     if n == 0 {
         return Err(Stop::Ends(End::OutOfBound));
@@ -411,7 +429,7 @@ fn while_again<'a>(
 
 /// The body of a loop was left.
 #[inline(always)]
-#[tactic(auto, unfolding(crate::specs::Swift::body_on, crate::specs::Steps::body_step))]
+#[tactic(auto, unfolding(crate::specs::inner::Swift::body_on, crate::specs::inner::Steps::body_step))]
 pub(crate) fn body_left<'a>(
     s: &Setting<'a>,
     n: u32,
@@ -421,7 +439,8 @@ pub(crate) fn body_left<'a>(
     stack: &mut Vec<Frame<'a>>,
     store: &mut Store<'a>,
 ) -> Result<Focus<'a>, Stop>
-    ensures { Leads (λ f. at f (stack_of stack.new.items) (store_of store.new)) result (body_on (setting_of s.now) n r (tstmt a.now) h (stack_of stack.old.items) (store_of store.old)) }
+    ensures { Leads (λ f. at f (stack_of stack.new.items) (store_of store.new)) result
+        (body_on (setting_of s.now) n r (tstmt a.now) h (stack_of stack.old.items) (store_of store.old)) }
 {
     match a {
         TStmt::While(x, _) => match h {
@@ -466,7 +485,7 @@ pub(crate) fn body_left<'a>(
 }
 
 /// The first part of a `for` was left.
-#[tactic(auto, unfolding(crate::specs::Steps::begin_step))]
+#[tactic(auto, unfolding(crate::specs::inner::Steps::begin_step))]
 pub(crate) fn begin_left<'a>(
     n: u32,
     r: Cell,
@@ -475,7 +494,8 @@ pub(crate) fn begin_left<'a>(
     stack: &mut Vec<Frame<'a>>,
     store: &Store<'a>,
 ) -> Result<Focus<'a>, Stop>
-    ensures { Leads (λ f. at f (stack_of stack.new.items) (store_of store.now)) result (begin_step n r (tstmt a.now) h (stack_of stack.old.items) (store_of store.now)) }
+    ensures { Leads (λ f. at f (stack_of stack.new.items) (store_of store.now)) result
+        (begin_step n r (tstmt a.now) h (stack_of stack.old.items) (store_of store.now)) }
 {
     match a {
         TStmt::For(_, None, test, _, body) => for_begun(

@@ -61,7 +61,7 @@ fn set_local(locals: &mut Vec<Option<u64>>, k: u32, o: u64)
     }
 }
 
-/// Makes an object of so many unwritten cells.
+/// Makes an object of `words` unwritten cells.
 fn make(alloc: Global, os: &mut Objects, words: u32) -> Result<(), Memory>
     ensures { OnOk result (objects os.new ≡ made (objects os.old) Local (unwritten words)) }
 {
@@ -154,7 +154,8 @@ pub(crate) fn released<'a>(store: &mut Store<'a>, ty: &CType, c: Cell)
 
 /// An object is made, and ends.
 fn passed_one<'a>(s: &Setting<'a>, store: &mut Store<'a>) -> Result<(), Memory>
-    ensures { OnOk result (store_of store.new ≡ with_objects (end_object (made (store_of store.old).objects Local []) (length (store_of store.old).objects)) (store_of store.old)) }
+    ensures { OnOk result (store_of store.new
+        ≡ with_objects (end_object (made (store_of store.old).objects Local []) (length (store_of store.old).objects)) (store_of store.old)) }
 {
     let object = store.objects.count();
     store.objects.make(ObjectKind::Local, Vec::new(s.alloc))?;

@@ -1,7 +1,8 @@
 -- The rules of calls.
 use Rattle.std.specs.Prelude.{ℕ, ◌==◌, Bool, true, false, ◌&&◌, List, [], ◌∷◌, length, Option, Some, None, Result, Ok, Err, if◌then◌else◌}
 use Rattle.v32_isa.specs.Ports.{PortEntry, port_named}
-use Rattle.c_tree.specs.Tree.{ExprT, NameE, NumberE, TextE, NullE, ParenE, UnaryE, BinaryE, AssignE, StepE, IndexE, MemberE, ArrowE, CallE, CastE, SizeOfE, ExprTs, NoE, MoreE}
+use Rattle.c_tree.specs.Tree.{ExprT, NameE, NumberE, TextE, NullE, ParenE, UnaryE, BinaryE, AssignE, StepE, IndexE, MemberE, ArrowE, CallE, CastE}
+use Rattle.c_tree.specs.Tree.{SizeOfE, ExprTs, NoE, MoreE}
 use Rattle.c_types.specs.Types.{Ty, VoidY, IntY, PointerY}
 use Rattle.c_types.specs.Typed.{TExprT, TKindT, CallK, InK, OutK, WaitK, HaltK, CardK, TExprTs}
 use Rattle.c_types.specs.Lists.{listed}

@@ -2,7 +2,8 @@
 -- come in, and go out with those of the part.
 use Rattle.std.specs.Prelude.{◌+◌, Bool, true, false, List, length, Some, None, Result, Ok}
 use Rattle.c_tree.specs.declared.span.Span.{Span}
-use Rattle.c_tree.specs.Tree.{ExprT, NameE, NumberE, TextE, NullE, ParenE, UnaryE, BinaryE, AssignE, StepE, IndexE, MemberE, ArrowE, CallE, CastE, SizeOfE, ExprTs, NoE, MoreE, TypeT}
+use Rattle.c_tree.specs.Tree.{ExprT, NameE, NumberE, TextE, NullE, ParenE, UnaryE, BinaryE, AssignE, StepE, IndexE, MemberE, ArrowE, CallE, CastE}
+use Rattle.c_tree.specs.Tree.{SizeOfE, ExprTs, NoE, MoreE, TypeT}
 use Rattle.c_tree.specs.Tree as tree
 use Rattle.c_types.specs.Types.{Ty, VoidY, IntY, BoolY, PointerY, ArrayY}
 use Rattle.c_types.specs.Typed.{TExprT, Typed, NumberK, NullK, LiteralK, UnaryK, BinaryK, AssignK, StepK, IndexK, CastK, TExprTs, NoX, MoreX}

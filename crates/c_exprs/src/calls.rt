@@ -8,7 +8,8 @@ ghost use Rattle.c_exprs.specs.Faults.{placed};
 ghost use Rattle.c_rules.specs.declared.code.Code.TheVariants.{WrongType, BadCall};
 ghost use Rattle.c_rules.specs.Kinds.{is_number};
 ghost use Rattle.c_exprs.specs.Nodes.{type_of_typed};
-ghost use Rattle.c_exprs.specs.Calls.{IntrinsicC, ensured, takes_port, names_port, all_convert, with_body, function_call, first_port, read_port, written_port, port_in_call, port_out_call, plain_call, intrinsic_call, call_node};
+ghost use Rattle.c_exprs.specs.Calls.{IntrinsicC, ensured, takes_port, names_port, all_convert, with_body, function_call, first_port, read_port};
+ghost use Rattle.c_exprs.specs.Calls.{written_port, port_in_call, port_out_call, plain_call, intrinsic_call, call_node};
 ghost use Rattle.c_exprs.specs.View.{called, ctx, tkind};
 ghost use Rattle.c_exprs.specs.Gives.{Gives};
 
@@ -129,7 +130,8 @@ fn read_port(args: &[Expr], span: Span) -> Result<(TKind, CType), CheckErr>
 
 /// The number of the port that the word `x` goes to.
 fn written_port(args: &[Expr], x: &TExpr, span: Span) -> Result<u32, CheckErr>
-    ensures { Gives (λ n. (OutK n (texpr x.now), VoidY)) result (placed span (ensured WrongType (is_number (type_of_typed (texpr x.now))) (written_port (texpr x.now) (first_port (exprs (map expr args.now)))))) }
+    ensures { Gives (λ n. (OutK n (texpr x.now), VoidY)) result
+        (placed span (ensured WrongType (is_number (type_of_typed (texpr x.now))) (written_port (texpr x.now) (first_port (exprs (map expr args.now)))))) }
 {
     if !is_number(&x.ty) {
         return Err(refused(span, Code::WrongType));
@@ -152,7 +154,8 @@ fn write_port(
     x: TExpr,
     span: Span,
 ) -> Result<(TKind, CType), CheckErr>
-    ensures { Gives called result (placed span (ensured WrongType (is_number (type_of_typed (texpr x))) (written_port (texpr x) (first_port (exprs (map expr args.now)))))) }
+    ensures { Gives called result (placed span
+        (ensured WrongType (is_number (type_of_typed (texpr x))) (written_port (texpr x) (first_port (exprs (map expr args.now)))))) }
 {
     let number = written_port(args, &x, span);
     let (x, number) = keeping(x, number)?;

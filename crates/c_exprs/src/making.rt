@@ -59,7 +59,9 @@ pub(crate) fn assign_tree(
     y: TExpr,
     span: Span,
 ) -> Result<TExpr, CheckErr>
-    ensures rule { Gives (λ r. ctype r.ty) result (at_node span (assign_rule (map layout globals.now.layouts.items) globals.now.whole.items (type_of_typed (texpr x)) (is_place (texpr x)) (type_of_typed (texpr y)))) }
+    ensures rule { Gives (λ r. ctype r.ty) result
+        (at_node span (assign_rule (map layout globals.now.layouts.items) globals.now.whole.items (type_of_typed (texpr x)) (is_place (texpr x))
+        (type_of_typed (texpr y)))) }
     ensures tree { IfOk result (λ r. texpr r ≡ Typed (AssignK None (texpr x) (texpr y)) (ctype r.ty) span) }
 {
     let ty = assign_at(globals, span, &x.ty, is_place(&x), &y.ty);
@@ -76,7 +78,8 @@ pub(crate) fn compound_tree(
     y: TExpr,
     span: Span,
 ) -> Result<TExpr, CheckErr>
-    ensures rule { Gives (λ r. ctype r.ty) result (at_node span (compound_rule globals.now.whole.items op (type_of_typed (texpr x)) (is_place (texpr x)) (type_of_typed (texpr y)))) }
+    ensures rule { Gives (λ r. ctype r.ty) result
+        (at_node span (compound_rule globals.now.whole.items op (type_of_typed (texpr x)) (is_place (texpr x)) (type_of_typed (texpr y)))) }
     ensures tree { IfOk result (λ r. texpr r ≡ Typed (AssignK (Some op) (texpr x) (texpr y)) (ctype r.ty) span) }
 {
     let ty = compound_at(alloc, globals, span, op, &x.ty, is_place(&x), &y.ty);

@@ -78,7 +78,8 @@ pub(crate) fn assign_at(
     place: bool,
     from: &CType,
 ) -> Result<CType, CheckErr>
-    ensures { Gives ctype result (at_node span (assign_rule (map layout globals.now.layouts.items) globals.now.whole.items (ctype to.now) place (ctype from.now))) }
+    ensures { Gives ctype result (at_node span (assign_rule (map layout globals.now.layouts.items) globals.now.whole.items (ctype to.now) place
+        (ctype from.now))) }
 {
     let answer = assign_type(&globals.layouts, &globals.whole, to, place, from);
     at_node(span, answer)

@@ -139,7 +139,8 @@ fn member_of(
     name: &Name,
     span: Span,
 ) -> Result<(u32, CType), CheckErr>
-    ensures { Gives (λ r. Typed (MemberK (texpr x.now) r.0) (ctype r.1) span) result (placed span (member_at span (texpr x.now) (member_in name.now (layout_of (map layout layouts.now) (type_of_typed (texpr x.now)))))) }
+    ensures { Gives (λ r. Typed (MemberK (texpr x.now) r.0) (ctype r.1) span) result
+        (placed span (member_at span (texpr x.now) (member_in name.now (layout_of (map layout layouts.now) (type_of_typed (texpr x.now)))))) }
 {
     let member = member_in(layout_of(layouts, &x.ty), name, span)?;
     if !is_place(x) && is_array(&member.ty) {
@@ -172,7 +173,9 @@ fn arrow_of(
     name: &Name,
     span: Span,
 ) -> Result<(u32, CType), CheckErr>
-    ensures { Gives (λ r. Typed (ArrowK (texpr x.now) r.0) (ctype r.1) span) result (placed span (arrow_at span (texpr x.now) (member_in name.now (layout_behind (map layout layouts.now) (pointed (decayed (type_of_typed (texpr x.now)))))))) }
+    ensures { Gives (λ r. Typed (ArrowK (texpr x.now) r.0) (ctype r.1) span) result
+        (placed span (arrow_at span (texpr x.now)
+        (member_in name.now (layout_behind (map layout layouts.now) (pointed (decayed (type_of_typed (texpr x.now)))))))) }
 {
     let member = member_in(layout_behind(layouts, &x.ty), name, span)?;
     let ty = copy_type(&member.ty)?;
@@ -187,7 +190,8 @@ pub(crate) fn arrow_tree(
     name: &Name,
     span: Span,
 ) -> Result<TExpr, CheckErr>
-    ensures { Gives texpr result (placed span (arrow_at span (texpr x) (member_in name.now (layout_behind (map layout layouts.now) (pointed (decayed (type_of_typed (texpr x)))))))) }
+    ensures { Gives texpr result (placed span
+        (arrow_at span (texpr x) (member_in name.now (layout_behind (map layout layouts.now) (pointed (decayed (type_of_typed (texpr x)))))))) }
 {
     let found = arrow_of(layouts, &x, name, span);
     let (x, (offset, ty)) = keeping(x, found)?;

@@ -154,7 +154,8 @@ fn valued(
     texts: &mut Texts,
     e: &Expr,
 ) -> Result<TExpr, CheckErr>
-    ensures { Gives (λ r. (texpr r, texts.new)) result (as_value (ctx globals.now scopes.now) (span_of (expr e.now)) (typed (ctx globals.now scopes.now) texts.old (expr e.now))) }
+    ensures { Gives (λ r. (texpr r, texts.new)) result
+        (as_value (ctx globals.now scopes.now) (span_of (expr e.now)) (typed (ctx globals.now scopes.now) texts.old (expr e.now))) }
 {
     let x = typed(alloc, globals, scopes, texts, e)?;
     let checked = value_at(globals, span_of(e), &x.ty);
@@ -252,7 +253,8 @@ pub fn type_expr(
     // What is answered is typed so by the rules.
     ensures types { IfOk result (λ r. Types (ctx globals.now scopes.now) texts.old (expr e.now) (texpr r) texts.new) }
     // What the rules type is answered, unless memory runs out.
-    ensures only { (x : TExprT) (us : List Text) → Types (ctx globals.now scopes.now) texts.old (expr e.now) x us → Gives (λ r. (texpr r, texts.new)) result (read x us) }
+    ensures only { (x : TExprT) (us : List Text) → Types (ctx globals.now scopes.now) texts.old (expr e.now) x us
+        → Gives (λ r. (texpr r, texts.new)) result (read x us) }
     // A refusal names the first broken rule.
     ensures first { (k : Code) (s : Span) → result ≡ Err (At k s) → Breaks (ctx globals.now scopes.now) texts.old (expr e.now) (at s k) }
     // After a refusal there are no texts: the unit is read no further.
@@ -270,9 +272,11 @@ pub fn type_value(
     texts: &mut Texts,
     e: &Expr,
 ) -> Result<TExpr, CheckErr>
-    ensures gives { Gives (λ r. (texpr r, texts.new)) result (as_value (ctx globals.now scopes.now) (span_of (expr e.now)) (typed (ctx globals.now scopes.now) texts.old (expr e.now))) }
+    ensures gives { Gives (λ r. (texpr r, texts.new)) result
+        (as_value (ctx globals.now scopes.now) (span_of (expr e.now)) (typed (ctx globals.now scopes.now) texts.old (expr e.now))) }
     ensures types { IfOk result (λ r. Values (ctx globals.now scopes.now) texts.old (expr e.now) (texpr r) texts.new) }
-    ensures only { (x : TExprT) (us : List Text) → Values (ctx globals.now scopes.now) texts.old (expr e.now) x us → Gives (λ r. (texpr r, texts.new)) result (read x us) }
+    ensures only { (x : TExprT) (us : List Text) → Values (ctx globals.now scopes.now) texts.old (expr e.now) x us
+        → Gives (λ r. (texpr r, texts.new)) result (read x us) }
     ensures first { (k : Code) (s : Span) → result ≡ Err (At k s) → NoValue (ctx globals.now scopes.now) texts.old (expr e.now) (at s k) }
     // After a refusal there are no texts: the unit is read no further.
     ensures refused { OnErr result (texts.new ≡ []) }
@@ -293,7 +297,8 @@ pub fn type_of_tree(
 ) -> Result<CType, CheckErr>
     ensures gives { Gives (λ r. (ctype r, texts.new)) result (type_of (ctx globals.now scopes.now) texts.old span (type ty.now)) }
     ensures types { IfOk result (λ r. Names (ctx globals.now scopes.now) texts.old span (type ty.now) (ctype r) texts.new) }
-    ensures only { (t : Ty) (us : List Text) → Names (ctx globals.now scopes.now) texts.old span (type ty.now) t us → Gives (λ r. (ctype r, texts.new)) result (read t us) }
+    ensures only { (t : Ty) (us : List Text) → Names (ctx globals.now scopes.now) texts.old span (type ty.now) t us
+        → Gives (λ r. (ctype r, texts.new)) result (read t us) }
     ensures first { (k : Code) (s : Span) → result ≡ Err (At k s) → NoName (ctx globals.now scopes.now) texts.old span (type ty.now) (at s k) }
     // After a refusal there are no texts: the unit is read no further.
     ensures refused { OnErr result (texts.new ≡ []) }

@@ -1,9 +1,13 @@
 -- What every checked program is: its numbers are in range, its trees are typed by the rules, its limits are kept.
-use Rattle.std.specs.Prelude.{◌≡◌, ℕ, ◌+◌, ◌==◌, ◌<◌, ◌≤◌, Bool, true, false, ◌&&◌, ◌||◌, not, List, [], ◌∷◌, length, map, sum, sum_by, nat_le, slice_get, Option, Some, None, option_map, Ok}
+use Rattle.std.specs.Prelude.{◌≡◌, ℕ, ◌+◌, ◌==◌, ◌<◌, ◌≤◌, Bool, true, false, ◌&&◌, ◌||◌, not, List, [], ◌∷◌, length, map, sum, sum_by, nat_le}
+use Rattle.std.specs.Prelude.{slice_get, Option, Some, None, option_map, Ok}
 use Rattle.std.specs.List.{list_any}
 use Rattle.v32_isa.specs.Ports.{is_readable, is_writable}
 use Rattle.c_types.specs.Types.{Ty, VoidY, IntY, BoolY, EnumY, StructY, UnionY, PointerY, ArrayY, MemberT, LayoutT}
-use Rattle.c_types.specs.Typed.{TExprT, Typed, TKindT, NumberK, NullK, LiteralK, GlobalK, LocalK, UnaryK, BinaryK, AssignK, StepK, IndexK, MemberK, ArrowK, CastK, CallK, InK, OutK, WaitK, HaltK, CardK, TExprTs, NoX, MoreX, TInitT, OneI, TextI, ListI, TInitTs, NoI, MoreI, TVarT, TStmtT, BlockZ, EmptyZ, VarsZ, DoZ, IfZ, WhileZ, DoWhileZ, ForZ, SwitchZ, ReturnZ, BreakZ, ContinueZ, MaybeZ, NoneZ, SomeZ, TStmtTs, NoZ, MoreZ, TArmT, CaseB, DefaultB, StmtB, TArmTs, NoB, MoreB}
+use Rattle.c_types.specs.Typed.{TExprT, Typed, TKindT, NumberK, NullK, LiteralK, GlobalK, LocalK, UnaryK, BinaryK, AssignK, StepK, IndexK, MemberK}
+use Rattle.c_types.specs.Typed.{ArrowK, CastK, CallK, InK, OutK, WaitK, HaltK, CardK, TExprTs, NoX, MoreX, TInitT, OneI, TextI, ListI, TInitTs, NoI}
+use Rattle.c_types.specs.Typed.{MoreI, TVarT, TStmtT, BlockZ, EmptyZ, VarsZ, DoZ, IfZ, WhileZ, DoWhileZ, ForZ, SwitchZ, ReturnZ, BreakZ, ContinueZ}
+use Rattle.c_types.specs.Typed.{MaybeZ, NoneZ, SomeZ, TStmtTs, NoZ, MoreZ, TArmT, CaseB, DefaultB, StmtB, TArmTs, NoB, MoreB}
 use Rattle.c_types.specs.Sizes.{words_of, IsPlaced}
 use Rattle.c_rules.specs.Kinds.{is_int, is_array, is_number, is_structure, decayed, pointed, holds, same_type, converts}
 use Rattle.c_rules.specs.Rules.{judged}
@@ -43,7 +47,8 @@ IsKnown layouts whole (EnumY number) = Unit {0}
 IsKnown layouts whole (StructY number) = number < length layouts
 IsKnown layouts whole (UnionY number) = number < length layouts
 IsKnown layouts whole (PointerY to) = IsKnown layouts whole to
-IsKnown layouts whole (ArrayY of count) = IsKnown layouts whole of × (is_whole whole of ≡ true) × (0 < count) × (words_of layouts (ArrayY of count) ≤ type_limit)
+IsKnown layouts whole (ArrayY of count) =
+    IsKnown layouts whole of × (is_whole whole of ≡ true) × (0 < count) × (words_of layouts (ArrayY of count) ≤ type_limit)
 
 -- what an object, a member or a parameter may be: a type that has words, of which the size is known
 pub record IsSized (layouts : List LayoutT) (whole : List Bool) (ty : Ty) : Type 0 where
@@ -104,13 +109,19 @@ abbrev mutual
   IsKind s (GlobalK number) ty = IsGlobal s number ty
   IsKind s (LocalK number) ty = IsLocal s number ty
   IsKind s (UnaryK op x) ty = IsTyped s x × IsUsed s (needs_place op) (type_of_typed x) × (judged (unary_rule op (type_of_typed x) (is_place x)) ≡ Ok ty)
-  IsKind s (BinaryK op x y) ty = IsTyped s x × IsValue s (type_of_typed x) × IsTyped s y × IsValue s (type_of_typed y) × (judged (binary_rule s.whole op (type_of_typed x) (type_of_typed y)) ≡ Ok ty)
-  IsKind s (AssignK None x y) ty = IsTyped s x × IsTyped s y × IsValue s (type_of_typed y) × (judged (assign_rule s.layouts s.whole (type_of_typed x) (is_place x) (type_of_typed y)) ≡ Ok ty)
-  IsKind s (AssignK (Some op) x y) ty = IsTyped s x × IsTyped s y × IsValue s (type_of_typed y) × (judged (compound_rule s.whole op (type_of_typed x) (is_place x) (type_of_typed y)) ≡ Ok ty)
+  IsKind s (BinaryK op x y) ty = IsTyped s x × IsValue s (type_of_typed x) × IsTyped s y × IsValue s (type_of_typed y)
+      × (judged (binary_rule s.whole op (type_of_typed x) (type_of_typed y)) ≡ Ok ty)
+  IsKind s (AssignK None x y) ty = IsTyped s x × IsTyped s y × IsValue s (type_of_typed y)
+      × (judged (assign_rule s.layouts s.whole (type_of_typed x) (is_place x) (type_of_typed y)) ≡ Ok ty)
+  IsKind s (AssignK (Some op) x y) ty = IsTyped s x × IsTyped s y × IsValue s (type_of_typed y)
+      × (judged (compound_rule s.whole op (type_of_typed x) (is_place x) (type_of_typed y)) ≡ Ok ty)
   IsKind s (StepK op x) ty = IsTyped s x × (judged (step_rule s.whole op (type_of_typed x) (is_place x)) ≡ Ok ty)
-  IsKind s (IndexK x y) ty = IsTyped s x × IsValue s (type_of_typed x) × IsTyped s y × IsValue s (type_of_typed y) × (judged (index_rule s.whole (type_of_typed x) (type_of_typed y)) ≡ Ok ty)
-  IsKind s (MemberK x offset) ty = IsTyped s x × (has_member (layout_of s.layouts (type_of_typed x)) offset ty ≡ true) × ((is_place x || not (is_array ty)) ≡ true)
-  IsKind s (ArrowK x offset) ty = IsTyped s x × IsValue s (type_of_typed x) × (has_member (layout_behind s.layouts (pointed (decayed (type_of_typed x)))) offset ty ≡ true)
+  IsKind s (IndexK x y) ty = IsTyped s x × IsValue s (type_of_typed x) × IsTyped s y × IsValue s (type_of_typed y)
+      × (judged (index_rule s.whole (type_of_typed x) (type_of_typed y)) ≡ Ok ty)
+  IsKind s (MemberK x offset) ty = IsTyped s x × (has_member (layout_of s.layouts (type_of_typed x)) offset ty ≡ true)
+      × ((is_place x || not (is_array ty)) ≡ true)
+  IsKind s (ArrowK x offset) ty = IsTyped s x × IsValue s (type_of_typed x)
+      × (has_member (layout_behind s.layouts (pointed (decayed (type_of_typed x)))) offset ty ≡ true)
   IsKind s (CastK x) ty = IsTyped s x × IsValue s (type_of_typed x) × (judged (cast_rule (type_of_typed x) ty) ≡ Ok ty)
   IsKind s (CallK number xs) ty = AreValues s xs × Calls (slice_get s.functions number) xs ty
   IsKind s (InK number) ty = (is_readable number ≡ true) × (ty ≡ IntY)
@@ -208,8 +219,10 @@ abbrev mutual
   IsStatement s (IfZ x a b) gives breaks continues = IsTest s x × IsStatement s a gives breaks continues × MayState s b gives breaks continues
   IsStatement s (WhileZ x a) gives breaks continues = IsTest s x × IsStatement s a gives true true
   IsStatement s (DoWhileZ a x) gives breaks continues = IsStatement s a gives true true × IsTest s x
-  IsStatement s (ForZ made first test step a) gives breaks continues = AreObjects s 0 made × MayState s first gives breaks continues × MayTest s test × MayValue s step × IsStatement s a gives true true
-  IsStatement s (SwitchZ x made arms) gives breaks continues = IsTypedValue s x × (is_number (type_of_typed x) ≡ true) × AreObjects s 0 made × AreArms s arms gives continues no_labels
+  IsStatement s (ForZ made first test step a) gives breaks continues =
+      AreObjects s 0 made × MayState s first gives breaks continues × MayTest s test × MayValue s step × IsStatement s a gives true true
+  IsStatement s (SwitchZ x made arms) gives breaks continues =
+      IsTypedValue s x × (is_number (type_of_typed x) ≡ true) × AreObjects s 0 made × AreArms s arms gives continues no_labels
   IsStatement s (ReturnZ e) gives breaks continues = Returns s gives e
   IsStatement s BreakZ gives breaks continues = breaks ≡ true
   IsStatement s ContinueZ gives breaks continues = continues ≡ true
@@ -258,7 +271,8 @@ AreDeclaredAs layouts whole (l ∷ ls) = IsDeclaredAs layouts whole l (has_membe
 abbrev pub AreCallObjects : List LayoutT → List Bool → List Ty → List ℕ → Type 0
 AreCallObjects layouts whole [] sizes = sum sizes ≤ locals_limit
 AreCallObjects layouts whole (ty ∷ tys) [] = ⊥
-AreCallObjects layouts whole (ty ∷ tys) (n ∷ ns) = IsKnown layouts whole ty × (judged (parameter_rule layouts whole ty) ≡ Ok n) × AreCallObjects layouts whole tys ns
+AreCallObjects layouts whole (ty ∷ tys) (n ∷ ns) =
+    IsKnown layouts whole ty × (judged (parameter_rule layouts whole ty) ≡ Ok n) × AreCallObjects layouts whole tys ns
 
 abbrev pub in_call : Scene → List ℕ → Scene
 in_call s sizes = record { layouts = s.layouts; whole = s.whole; globals = s.globals; literals = s.literals; functions = s.functions; locals = sizes }

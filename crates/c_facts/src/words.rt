@@ -2,7 +2,9 @@
 ghost use Rattle.std.specs.Prelude.{map, option_map};
 ghost use Rattle.c_types.specs.View.{function, texpr, texprs, tinit, tinits, tvar, tstmt, tstmts, tarm, tarms};
 ghost use Rattle.c_check.specs.View.{program};
-ghost use Rattle.c_facts.specs.Words.{IsWord, AreWords, InWords, AllInWords, FillsInWords, AllFillInWords, VariableInWords, VariablesInWords, MaybeInWords, StatementInWords, StatementsInWords, ArmInWords, ArmsInWords, FillInWords, FunctionsInWords, NumbersAreWords};
+ghost use Rattle.c_facts.specs.Words.{IsWord, AreWords, InWords, AllInWords, FillsInWords, AllFillInWords, VariableInWords, VariablesInWords};
+ghost use Rattle.c_facts.specs.Words.{MaybeInWords, StatementInWords, StatementsInWords, ArmInWords, ArmsInWords, FillInWords, FunctionsInWords};
+ghost use Rattle.c_facts.specs.Words.{NumbersAreWords};
 
 use c_check::Program;
 use c_types::{TArm, TExpr, TFunction, TInit, TKind, TStmt, TVar};

@@ -107,7 +107,8 @@ pub record IsImageOf (p : ProgramT) (places : Places) (starts : List ℕ) (i : I
   pub labels : List (List ℕ × ℕ)
   pub words : Placed items i.words labels
   -- calls of a function that takes no turns, and calls only such functions, take at most a number of instructions
-  pub numbered : (depth n : ℕ) (f : TFunctionT) → slice_get p.functions n ≡ Some f → IsLoopFree p depth f → HasNumber items (behind items (label_of_function f.name))
+  pub numbered : (depth n : ℕ) (f : TFunctionT) → slice_get p.functions n ≡ Some f → IsLoopFree p depth f
+      → HasNumber items (behind items (label_of_function f.name))
   -- the map and the line table tell of them
   pub map_is : i.map ≡ map_of p (frame_sizes i.map) (length i.words) (address_in labels)
   pub table_is : i.table ≡ table_of (address_in labels) p.functions (map (place_at places) starts)

@@ -29,7 +29,12 @@ number_of name (file ∷ files) = if bytes_eq file name then 0 else suc (number_
 abbrev pub rows_of : (address : List ℕ → ℕ) → (files : List (List ℕ)) → List TFunctionT → List Place → List LineRow
 rows_of address files [] os = []
 rows_of address files (f ∷ fs) [] = []
-rows_of address files (f ∷ fs) (o ∷ os) = record { address = address (label_of_function f.name); file = number_of o.0 files; line = o.1; name = f.name } ∷ rows_of address files fs os
+rows_of address files (f ∷ fs) (o ∷ os) = record {
+  address = address (label_of_function f.name);
+  file = number_of o.0 files;
+  line = o.1;
+  name = f.name;
+} ∷ rows_of address files fs os
 
 abbrev pub table_of : (address : List ℕ → ℕ) → List TFunctionT → List Place → LineTable
 table_of address fs os = record { files = files_behind [] os; rows = rows_of address (files_behind [] os) fs os }

@@ -44,7 +44,7 @@ struct Tables {
     rows: Vec<LineRow>,
 }
 
-/// The map and the line table of a program whose frames have these sizes, of so many words with these labels. The error is want of memory.
+/// The map and the line table of a program whose frames have these sizes, of `count` words with these labels. The error is want of memory.
 fn tables_of(
     alloc: Global,
     checked: &Program,
@@ -57,7 +57,8 @@ fn tables_of(
     requires few { length starts.now < 2 ^ 32 }
     ensures map { IfOk result (λ t. t.map ≡ map_of (program checked.now) sizes.now count (address_in labels.now)) }
     ensures files { IfOk result (λ t. t.files.items ≡ files_behind [] (map (place_at places.now) starts.now)) }
-    ensures rows { IfOk result (λ t. t.rows.items ≡ rows_of (address_in labels.now) (files_behind [] (map (place_at places.now) starts.now)) (program checked.now).functions (map (place_at places.now) starts.now)) }
+    ensures rows { IfOk result (λ t. t.rows.items ≡ rows_of (address_in labels.now) (files_behind [] (map (place_at places.now) starts.now))
+        (program checked.now).functions (map (place_at places.now) starts.now)) }
 {
     let table = labels_in(alloc, labels)?;
     let map = map_of(alloc, checked, sizes, count, &table)?;

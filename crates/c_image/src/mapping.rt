@@ -51,7 +51,7 @@ fn globals_from(alloc: Global, globals: &[(Name, u32)]) -> Result<Vec<(Name, u32
     Ok(rows)
 }
 
-/// The map of a program whose frames have these sizes, of so many words with these labels. The error is want of memory.
+/// The map of a program whose frames have these sizes, of `count` words with these labels. The error is want of memory.
 pub fn map_of(
     alloc: Global,
     checked: &Program,

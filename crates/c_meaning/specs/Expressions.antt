@@ -10,7 +10,8 @@ use Rattle.c_tree.specs.declared.operator.StepOp.TheVariants.{PreUp, PreDown, Po
 use Rattle.c_tree.specs.declared.operator.BinOp.{BinOp}
 use Rattle.c_tree.specs.declared.operator.BinOp.TheVariants.{Add, Sub, AndAlso, OrElse}
 use Rattle.c_types.specs.Types.{Ty, IntY}
-use Rattle.c_types.specs.Typed.{TExprT, Typed, TKindT, NumberK, NullK, LiteralK, GlobalK, LocalK, UnaryK, BinaryK, AssignK, StepK, IndexK, MemberK, ArrowK, CastK, CallK, InK, OutK, WaitK, HaltK, CardK, TExprTs, NoX, MoreX}
+use Rattle.c_types.specs.Typed.{TExprT, Typed, TKindT, NumberK, NullK, LiteralK, GlobalK, LocalK, UnaryK, BinaryK, AssignK, StepK, IndexK, MemberK}
+use Rattle.c_types.specs.Typed.{ArrowK, CastK, CallK, InK, OutK, WaitK, HaltK, CardK, TExprTs, NoX, MoreX}
 use Rattle.c_types.specs.Programs.{TFunctionT}
 use Rattle.obj_mem.specs.declared.cell.Cell.{Cell}
 use Rattle.obj_mem.specs.declared.cell.Cell.TheVariants.{Unwritten, Num, Null}
@@ -19,7 +20,8 @@ use Rattle.obj_mem.specs.Worlds.{World, on_store, spend, happened, answered}
 use Rattle.obj_mem.specs.Queries.{word_of, truth, step, further, first_cell}
 use Rattle.c_meaning.specs.declared.end.End.{End}
 use Rattle.c_meaning.specs.declared.end.End.TheVariants.{Halted, Starved, Stray, Deep, OutOfBound}
-use Rattle.c_meaning.specs.Outcomes.{Val, Value, Place, NoValue, Stops, Vals, Values, Short, Done, Goes, Breaks, Continues, Returns, Ended, Before, Body, asked, then_value, then_place, then_went, then_values, in_front, either_way}
+use Rattle.c_meaning.specs.Outcomes.{Val, Value, Place, NoValue, Stops, Vals, Values, Short, Done, Goes, Breaks, Continues, Returns, Ended, Before}
+use Rattle.c_meaning.specs.Outcomes.{Body, asked, then_value, then_place, then_went, then_values, in_front, either_way}
 use Rattle.c_meaning.specs.Kinds.{type_of, span_of, is_structure, decayed}
 use Rattle.c_meaning.specs.Setting.{Setting, words, global_at, literal_at, card_at}
 use Rattle.c_meaning.specs.Operators.{read_as, converted, is_true, cell_unary, stepped, operated}
@@ -238,7 +240,8 @@ abbrev mutual
   evaluated_kind s n prev (MemberK x offset) ty span w = member_at ty x span offset (evaluated s n prev x w)
   evaluated_kind s n prev (ArrowK x offset) ty span w = arrow s n x span offset (evaluated s n prev x w)
   evaluated_kind s n prev (CastK x) ty span w = with_value Stops s n x (evaluated s n prev x w) (λ c v. asked Stops span v (converted ty c) (λ z. Value z v))
-  evaluated_kind s n prev (CallK f xs) ty span w = then_values (evaluated_all s n prev (params_of (slice_get s.functions f)) xs w) (λ vs v. call s n prev f vs span v)
+  evaluated_kind s n prev (CallK f xs) ty span w =
+      then_values (evaluated_all s n prev (params_of (slice_get s.functions f)) xs w) (λ vs v. call s n prev f vs span v)
   evaluated_kind s n prev (InK port) ty span w = input port w.store.answers w
   evaluated_kind s n prev (OutK port x) ty span w = output s n port x (evaluated s n prev x w)
   evaluated_kind s n prev WaitK ty span w = NoValue (happened event.Wait w)

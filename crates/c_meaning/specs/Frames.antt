@@ -1,7 +1,11 @@
 -- How large the frame of a function may be, and how large it has to be.
-use Rattle.std.specs.Prelude.{ℕ, ◌≡◌, ◌+◌, ◌*◌, ◌≤◌, ◌==◌, Bool, true, false, ◌||◌, List, [], ◌∷◌, ◌++◌, length, sum, map, get_or, ◌⊎◌, Option, Some, None, if◌then◌else◌}
+use Rattle.std.specs.Prelude.{ℕ, ◌≡◌, ◌+◌, ◌*◌, ◌≤◌, ◌==◌, Bool, true, false, ◌||◌, List, [], ◌∷◌, ◌++◌, length, sum, map, get_or, ◌⊎◌, Option, Some}
+use Rattle.std.specs.Prelude.{None, if◌then◌else◌}
 use Rattle.c_types.specs.Types.{Ty}
-use Rattle.c_types.specs.Typed.{TExprT, Typed, TKindT, NumberK, NullK, LiteralK, GlobalK, LocalK, UnaryK, BinaryK, AssignK, StepK, IndexK, MemberK, ArrowK, CastK, CallK, InK, OutK, WaitK, HaltK, CardK, TExprTs, NoX, MoreX, TInitT, OneI, TextI, ListI, TInitTs, NoI, MoreI, TVarT, TStmtT, BlockZ, EmptyZ, VarsZ, DoZ, IfZ, WhileZ, DoWhileZ, ForZ, SwitchZ, ReturnZ, BreakZ, ContinueZ, MaybeZ, NoneZ, SomeZ, TStmtTs, NoZ, MoreZ, TArmT, CaseB, DefaultB, StmtB, TArmTs, NoB, MoreB}
+use Rattle.c_types.specs.Typed.{TExprT, Typed, TKindT, NumberK, NullK, LiteralK, GlobalK, LocalK, UnaryK, BinaryK, AssignK, StepK, IndexK, MemberK}
+use Rattle.c_types.specs.Typed.{ArrowK, CastK, CallK, InK, OutK, WaitK, HaltK, CardK, TExprTs, NoX, MoreX, TInitT, OneI, TextI, ListI, TInitTs, NoI}
+use Rattle.c_types.specs.Typed.{MoreI, TVarT, TStmtT, BlockZ, EmptyZ, VarsZ, DoZ, IfZ, WhileZ, DoWhileZ, ForZ, SwitchZ, ReturnZ, BreakZ, ContinueZ}
+use Rattle.c_types.specs.Typed.{MaybeZ, NoneZ, SomeZ, TStmtTs, NoZ, MoreZ, TArmT, CaseB, DefaultB, StmtB, TArmTs, NoB, MoreB}
 use Rattle.c_types.specs.Programs.{TFunctionT}
 use Rattle.c_meaning.specs.Kinds.{is_structure}
 use Rattle.c_meaning.specs.Setting.{Setting, words}
@@ -140,7 +144,8 @@ abbrev mutual
   Leaves w (WhileZ x a) = IsOnward w
   Leaves w (DoWhileZ a x) = IsOnward w × (Leaves Onward a ⊎ Leaves ByBreak a ⊎ Leaves ByContinue a)
   Leaves w (ForZ made first test step a) = IsOnward w × LeavesOther Onward first × (HasTest test ⊎ Leaves ByBreak a)
-  Leaves w (SwitchZ x made arms) = (IsOnward w × (HasNoDefault arms ⊎ LeavesFrom Onward arms ⊎ LeavesFrom ByBreak arms)) ⊎ (IsContinue w × LeavesFrom ByContinue arms)
+  Leaves w (SwitchZ x made arms) = (IsOnward w × (HasNoDefault arms ⊎ LeavesFrom Onward arms ⊎ LeavesFrom ByBreak arms))
+      ⊎ (IsContinue w × LeavesFrom ByContinue arms)
   Leaves w (ReturnZ e) = ⊥
   Leaves w BreakZ = IsBreak w
   Leaves w ContinueZ = IsContinue w
@@ -177,7 +182,8 @@ abbrev mutual
   Reaches (IfZ x a b) ks = (ks ≡ []) ⊎ Reaches a ks ⊎ ReachesOther b ks
   Reaches (WhileZ x a) ks = (ks ≡ []) ⊎ Reaches a ks
   Reaches (DoWhileZ a x) ks = (ks ≡ []) ⊎ Reaches a ks
-  Reaches (ForZ made first test step a) ks = (js : List ℕ) × (ks ≡ made ++ js) × ((js ≡ []) ⊎ ReachesOther first js ⊎ (LeavesOther Onward first × Reaches a js))
+  Reaches (ForZ made first test step a) ks = (js : List ℕ) × (ks ≡ made ++ js)
+      × ((js ≡ []) ⊎ ReachesOther first js ⊎ (LeavesOther Onward first × Reaches a js))
   Reaches (SwitchZ x made arms) ks = (js : List ℕ) × (ks ≡ made ++ js) × ((js ≡ []) ⊎ ReachesFrom arms js)
   Reaches (ReturnZ e) ks = ks ≡ []
   Reaches BreakZ ks = ks ≡ []

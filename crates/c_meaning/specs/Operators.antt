@@ -4,7 +4,8 @@ use Rattle.kit_base.specs.Word.{add, sub, mul, quotient, remainder, shifted, bel
 use Rattle.c_tree.specs.declared.operator.UnOp.{UnOp}
 use Rattle.c_tree.specs.declared.operator.UnOp.TheVariants as un
 use Rattle.c_tree.specs.declared.operator.BinOp.{BinOp}
-use Rattle.c_tree.specs.declared.operator.BinOp.TheVariants.{Mul, Div, Mod, Add, Sub, Shl, Shr, Less, LessEq, More, MoreEq, Equal, NotEqual, BitAnd, BitXor, BitOr, AndAlso, OrElse}
+use Rattle.c_tree.specs.declared.operator.BinOp.TheVariants.{Mul, Div, Mod, Add, Sub, Shl, Shr, Less, LessEq, More, MoreEq, Equal, NotEqual, BitAnd}
+use Rattle.c_tree.specs.declared.operator.BinOp.TheVariants.{BitXor, BitOr, AndAlso, OrElse}
 use Rattle.c_types.specs.Types.{Ty, IntY, BoolY, EnumY, PointerY}
 use Rattle.obj_mem.specs.declared.cell.Cell.{Cell}
 use Rattle.obj_mem.specs.declared.cell.Cell.TheVariants.{Num, Ptr, Null}

@@ -1,14 +1,16 @@
 -- What statements and functions do (the C language guide, sections on statements and functions).
 use Rattle.std.specs.Prelude.{ℕ, zero, suc, ◌+◌, ◌==◌, List, [], ◌∷◌, slice_get, Option, Some, None, option_map, if◌then◌else◌}
 use Rattle.c_types.specs.Types.{Ty}
-use Rattle.c_types.specs.Typed.{TExprT, TStmtT, BlockZ, EmptyZ, VarsZ, DoZ, IfZ, WhileZ, DoWhileZ, ForZ, SwitchZ, ReturnZ, BreakZ, ContinueZ, MaybeZ, NoneZ, SomeZ, TStmtTs, NoZ, MoreZ, TArmT, CaseB, DefaultB, StmtB, TArmTs, NoB, MoreB}
+use Rattle.c_types.specs.Typed.{TExprT, TStmtT, BlockZ, EmptyZ, VarsZ, DoZ, IfZ, WhileZ, DoWhileZ, ForZ, SwitchZ, ReturnZ, BreakZ, ContinueZ, MaybeZ}
+use Rattle.c_types.specs.Typed.{NoneZ, SomeZ, TStmtTs, NoZ, MoreZ, TArmT, CaseB, DefaultB, StmtB, TArmTs, NoB, MoreB}
 use Rattle.c_types.specs.Programs.{TFunctionT}
 use Rattle.obj_mem.specs.declared.cell.Cell.{Cell}
 use Rattle.obj_mem.specs.Stores.{local_object, fresh_all, end_all}
 use Rattle.obj_mem.specs.Worlds.{World, on_store, spend}
 use Rattle.obj_mem.specs.Queries.{word_of, first_cell}
 use Rattle.c_meaning.specs.declared.end.End.TheVariants.{Stray, OutOfBound}
-use Rattle.c_meaning.specs.Outcomes.{Val, Went, Through, CutOff, Done, Goes, Breaks, Continues, Returns, Ended, Task, Turn, DoTurn, Body, Before, nowhere, asked, then_went, then_done}
+use Rattle.c_meaning.specs.Outcomes.{Val, Went, Through, CutOff, Done, Goes, Breaks, Continues, Returns, Ended, Task, Turn, DoTurn, Body, Before}
+use Rattle.c_meaning.specs.Outcomes.{nowhere, asked, then_went, then_done}
 use Rattle.c_meaning.specs.Kinds.{span_of, is_structure}
 use Rattle.c_meaning.specs.Setting.{Setting, words, result_of}
 use Rattle.c_meaning.specs.Operators.{converted}

@@ -21,7 +21,8 @@ mutual
 
 -- a name that has the type y
 pub data Field (c : Context) (y : TypeT) : List Tok → VarT → List Tok → Type 0 where
-  field : {rest : List Tok} {n : List ℕ} → is_type c n ≡ false → Field c y (word n ∷ rest) (record { ty = y; name = n; init = None; span = span c (word n ∷ rest) rest }) rest
+  field : {rest : List Tok} {n : List ℕ} → is_type c n ≡ false
+      → Field c y (word n ∷ rest) (record { ty = y; name = n; init = None; span = span c (word n ∷ rest) rest }) rest
 
 -- and may have an initial value
 pub data Var (c : Context) (y : TypeT) : List Tok → VarT → List Tok → Type 0 where
@@ -49,4 +50,5 @@ pub data Params (c : Context) : List Tok → List VarT → List Tok → Type 0 w
 
 pub data Value (c : Context) : List Tok → List ℕ × Option ExprT → List Tok → Type 0 where
   plain_value : {rest : List Tok} {n : List ℕ} → is_type c n ≡ false → Value c (word n ∷ rest) (n, None) rest
-  set_value : {ts rest : List Tok} {n : List ℕ} {e : ExprT} → is_type c n ≡ false → Level c 10 ts e rest → Value c (word n ∷ mark m.Assign ∷ ts) (n, Some e) rest
+  set_value : {ts rest : List Tok} {n : List ℕ} {e : ExprT} → is_type c n ≡ false → Level c 10 ts e rest
+      → Value c (word n ∷ mark m.Assign ∷ ts) (n, Some e) rest

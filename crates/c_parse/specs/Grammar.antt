@@ -5,7 +5,8 @@ use Rattle.c_lex.specs.declared.token.Punct.TheVariants as m
 use Rattle.c_tree.specs.declared.operator.UnOp.{UnOp}
 use Rattle.c_tree.specs.declared.operator.StepOp.{StepOp}
 use Rattle.c_tree.specs.declared.operator.BinOp.{BinOp}
-use Rattle.c_tree.specs.Tree.{ExprT, NameE, NumberE, TextE, NullE, ParenE, UnaryE, BinaryE, AssignE, StepE, IndexE, MemberE, ArrowE, CallE, CastE, SizeOfE, NoE, TypeT, IntY, BoolY, VoidY, NamedY, PointerY, ArrayY}
+use Rattle.c_tree.specs.Tree.{ExprT, NameE, NumberE, TextE, NullE, ParenE, UnaryE, BinaryE, AssignE, StepE, IndexE, MemberE, ArrowE, CallE, CastE}
+use Rattle.c_tree.specs.Tree.{SizeOfE, NoE, TypeT, IntY, BoolY, VoidY, NamedY, PointerY, ArrayY}
 use Rattle.c_tree.specs.View.{exprs}
 use Rattle.c_parse.specs.declared.class.Key.TheVariants as key
 use Rattle.c_parse.specs.Tok.{Tok, keyword, word, text, mark}
@@ -37,7 +38,8 @@ mutual
   -- brackets behind a type a make the array b, the first of them the outermost
   pub data Run (c : Context) : TypeT → List Tok → TypeT → List Tok → Type 0 where
     bracket : {ts rest : List Tok} {a : TypeT} {e : ExprT} → Level c 10 ts e (mark m.CloseBracket ∷ rest) → Run c a (mark m.OpenBracket ∷ ts) (ArrayY a e) rest
-    brackets : {ts mid rest : List Tok} {a b : TypeT} {e : ExprT} → Level c 10 ts e (mark m.CloseBracket ∷ mid) → Run c a mid b rest → Run c a (mark m.OpenBracket ∷ ts) (ArrayY b e) rest
+    brackets : {ts mid rest : List Tok} {a b : TypeT} {e : ExprT} → Level c 10 ts e (mark m.CloseBracket ∷ mid) → Run c a mid b rest
+        → Run c a (mark m.OpenBracket ∷ ts) (ArrayY b e) rest
 
   pub data Expr (c : Context) : List Tok → ExprT → List Tok → Type 0 where
     plain : {ts rest : List Tok} {e : ExprT} → Level c 10 ts e rest → Expr c ts e rest
@@ -56,8 +58,10 @@ mutual
         → Tail c k at (BinaryE op a b (span c at mid)) mid e rest → Tail c k at a (o ∷ ts) e rest
 
   pub data Unary (c : Context) : List Tok → ExprT → List Tok → Type 0 where
-    operator : {ts rest : List Tok} {o : Tok} {op : UnOp} {a : ExprT} → prefix o ≡ Some op → Unary c ts a rest → Unary c (o ∷ ts) (UnaryE op a (span c (o ∷ ts) rest)) rest
-    step : {ts rest : List Tok} {o : Tok} {op : StepOp} {a : ExprT} → step_before o ≡ Some op → Unary c ts a rest → Unary c (o ∷ ts) (StepE op a (span c (o ∷ ts) rest)) rest
+    operator : {ts rest : List Tok} {o : Tok} {op : UnOp} {a : ExprT} → prefix o ≡ Some op → Unary c ts a rest
+        → Unary c (o ∷ ts) (UnaryE op a (span c (o ∷ ts) rest)) rest
+    step : {ts rest : List Tok} {o : Tok} {op : StepOp} {a : ExprT} → step_before o ≡ Some op → Unary c ts a rest
+        → Unary c (o ∷ ts) (StepE op a (span c (o ∷ ts) rest)) rest
     cast : {ts mid rest : List Tok} {y : TypeT} {a : ExprT} → Ty c ts y (mark m.CloseParen ∷ mid) → Unary c mid a rest
         → Unary c (mark m.OpenParen ∷ ts) (CastE y a (span c (mark m.OpenParen ∷ ts) rest)) rest
     size : {ts rest : List Tok} {y : TypeT} → Ty c ts y (mark m.CloseParen ∷ rest)
@@ -79,13 +83,15 @@ mutual
   pub data Primary (c : Context) : List Tok → ExprT → List Tok → Type 0 where
     name : {rest : List Tok} {n : List ℕ} → is_type c n ≡ false → Primary c (word n ∷ rest) (NameE n (span c (word n ∷ rest) rest)) rest
     call_bare : {rest : List Tok} {n : List ℕ} → is_type c n ≡ false
-        → Primary c (word n ∷ mark m.OpenParen ∷ mark m.CloseParen ∷ rest) (CallE n NoE (span c (word n ∷ mark m.OpenParen ∷ mark m.CloseParen ∷ rest) rest)) rest
+        → Primary c (word n ∷ mark m.OpenParen ∷ mark m.CloseParen ∷ rest)
+        (CallE n NoE (span c (word n ∷ mark m.OpenParen ∷ mark m.CloseParen ∷ rest) rest)) rest
     call : {ts rest : List Tok} {n : List ℕ} {es : List ExprT} → is_type c n ≡ false → Exprs c ts es (mark m.CloseParen ∷ rest)
         → Primary c (word n ∷ mark m.OpenParen ∷ ts) (CallE n (exprs es) (span c (word n ∷ mark m.OpenParen ∷ ts) rest)) rest
     valued : {rest : List Tok} {o : Tok} {n : ℕ} → value o ≡ Some n → Primary c (o ∷ rest) (NumberE n (span c (o ∷ rest) rest)) rest
     text_ : {rest : List Tok} {t : List ℕ} → Primary c (text t ∷ rest) (TextE t (span c (text t ∷ rest) rest)) rest
     null : {rest : List Tok} → Primary c (keyword key.Null ∷ rest) (NullE (span c (keyword key.Null ∷ rest) rest)) rest
-    paren : {ts rest : List Tok} {e : ExprT} → Expr c ts e (mark m.CloseParen ∷ rest) → Primary c (mark m.OpenParen ∷ ts) (ParenE e (span c (mark m.OpenParen ∷ ts) rest)) rest
+    paren : {ts rest : List Tok} {e : ExprT} → Expr c ts e (mark m.CloseParen ∷ rest)
+        → Primary c (mark m.OpenParen ∷ ts) (ParenE e (span c (mark m.OpenParen ∷ ts) rest)) rest
 
   -- parted by commas
   pub data Exprs (c : Context) : List Tok → List ExprT → List Tok → Type 0 where

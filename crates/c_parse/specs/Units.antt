@@ -24,18 +24,22 @@ pub data Gives (c : Context) : List Tok → TypeT → List Tok → Type 0 where
 
 pub data Item (c : Context) : List Tok → ItemT → List Tok → Type 0 where
   -- the name is a type inside its own members
-  record_ : {ts rest : List Tok} {o : Tok} {u : Bool} {n : List ℕ} {vs : List VarT} → record_word o ≡ Some u → Members (declare n c) ts vs (mark m.CloseBrace ∷ mark m.Semicolon ∷ rest)
+  record_ : {ts rest : List Tok} {o : Tok} {u : Bool} {n : List ℕ} {vs : List VarT} → record_word o ≡ Some u
+      → Members (declare n c) ts vs (mark m.CloseBrace ∷ mark m.Semicolon ∷ rest)
       → Item c (o ∷ word n ∷ mark m.OpenBrace ∷ ts) (RecordD u n (Some vs) (span c (o ∷ word n ∷ mark m.OpenBrace ∷ ts) rest)) rest
   forward : {rest : List Tok} {o : Tok} {u : Bool} {n : List ℕ} → record_word o ≡ Some u
       → Item c (o ∷ word n ∷ mark m.Semicolon ∷ rest) (RecordD u n None (span c (o ∷ word n ∷ mark m.Semicolon ∷ rest) rest)) rest
   enum : {ts mid rest : List Tok} {n : List ℕ} {vs : List (List ℕ × Option ExprT)} → Separated (Value c) ts vs mid → ListEnd mid (mark m.Semicolon ∷ rest)
       → Item c (keyword key.Enum ∷ word n ∷ mark m.OpenBrace ∷ ts) (EnumD n vs (span c (keyword key.Enum ∷ word n ∷ mark m.OpenBrace ∷ ts) rest)) rest
-  typedef : {ts rest : List Tok} {y : TypeT} {n : List ℕ} → Ty c ts y (word n ∷ mark m.Semicolon ∷ rest) → Item c (keyword key.Typedef ∷ ts) (TypedefD y n (span c (keyword key.Typedef ∷ ts) rest)) rest
+  typedef : {ts rest : List Tok} {y : TypeT} {n : List ℕ} → Ty c ts y (word n ∷ mark m.Semicolon ∷ rest)
+      → Item c (keyword key.Typedef ∷ ts) (TypedefD y n (span c (keyword key.Typedef ∷ ts) rest)) rest
   vars : {ts rest : List Tok} {vs : List VarT} → Vars c ts vs (mark m.Semicolon ∷ rest) → Item c ts (VarsD vs (span c ts rest)) rest
   declared : {ts mid rest : List Tok} {y : TypeT} {n : List ℕ} {vs : List VarT} → Gives c ts y (word n ∷ mark m.OpenParen ∷ mid) → is_type c n ≡ false
       → Params c mid vs (mark m.CloseParen ∷ mark m.Semicolon ∷ rest) → Item c ts (FunctionD y n vs None (span c ts rest)) rest
-  defined : {ts mid on rest : List Tok} {y : TypeT} {n : List ℕ} {vs : List VarT} {ss : List StmtT} → Gives c ts y (word n ∷ mark m.OpenParen ∷ mid) → is_type c n ≡ false
-      → Params c mid vs (mark m.CloseParen ∷ mark m.OpenBrace ∷ on) → Stmts c on ss (mark m.CloseBrace ∷ rest) → Item c ts (FunctionD y n vs (Some (stmts ss)) (span c ts rest)) rest
+  defined : {ts mid on rest : List Tok} {y : TypeT} {n : List ℕ} {vs : List VarT} {ss : List StmtT} → Gives c ts y (word n ∷ mark m.OpenParen ∷ mid)
+      → is_type c n ≡ false
+      → Params c mid vs (mark m.CloseParen ∷ mark m.OpenBrace ∷ on) → Stmts c on ss (mark m.CloseBrace ∷ rest)
+      → Item c ts (FunctionD y n vs (Some (stmts ss)) (span c ts rest)) rest
 
 -- under the names that are types behind an item
 abbrev pub behind_item : ItemT → Context → Context

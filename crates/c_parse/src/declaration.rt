@@ -145,7 +145,8 @@ fn member<'a>(
     before: Vec<Var>,
     tokens: &'a [Token],
 ) -> Result<(Vec<Var>, &'a [Token]), ReadErr>
-    ensures gives { Gives (λ x. (map var x.0.items, toks x.1.now)) result (reading.behind_others (map var before.items) (reading.member_at (context scope.now) room (toks tokens.now))) }
+    ensures gives { Gives (λ x. (map var x.0.items, toks x.1.now)) result
+        (reading.behind_others (map var before.items) (reading.member_at (context scope.now) room (toks tokens.now))) }
 {
     if room == 0 {
         return Err(no_room(begins_type(scope, tokens), tokens));
@@ -251,7 +252,8 @@ pub(crate) fn values<'a>(
     room: u32,
     tokens: &'a [Token],
 ) -> Result<(Seq<(Name, Option<Expr>)>, &'a [Token]), ReadErr>
-    ensures gives { Gives (λ x. (map (λ v. (v.0, option_map expr v.1)) x.0, toks x.1.now)) result (lists.listed (reading.value (context scope.now) room) (toks tokens.now)) }
+    ensures gives { Gives (λ x. (map (λ v. (v.0, option_map expr v.1)) x.0, toks x.1.now)) result
+        (lists.listed (reading.value (context scope.now) room) (toks tokens.now)) }
 {
     let mut found = Vec::new(alloc);
     let (first, mut rest) = value(alloc, scope, room, tokens)?;

@@ -6,7 +6,8 @@ ghost use Rattle.c_parse.specs.declared.lead.Suffix.TheVariants as suffixes;
 ghost use Rattle.c_parse.specs.inner.Reader.{at_open_paren, behind, loop};
 ghost use Rattle.c_parse.specs.Tok.{toks};
 ghost use Rattle.c_parse.specs.inner.View.{Gives, context};
-ghost use Rattle.c_parse.specs.inner.Reading.{assign_by, named_by, primary_by, selected, selection, suffix_by, unary_by, arguments_with, base, expr_at, level_at, operator_turn, postfix_with, primary_with, readers, run_at, type_read};
+ghost use Rattle.c_parse.specs.inner.Reading.{assign_by, named_by, primary_by, selected, selection, suffix_by, unary_by, arguments_with, base};
+ghost use Rattle.c_parse.specs.inner.Reading.{expr_at, level_at, operator_turn, postfix_with, primary_with, readers, run_at, type_read};
 ghost use Rattle.c_parse.specs.inner.Leads as leads;
 ghost use Rattle.c_tree.specs.View.{expr, exprs, type};
 ghost use Rattle.c_tree.specs.Depth.{expr_depth, exprs_depth, type_depth};
@@ -67,7 +68,8 @@ fn assigned<'a>(
 ) -> Result<(Expr, u32, &'a [Token]), ReadErr>
     requires some { 0 < room }
     requires depth { depth ≡ expr_depth (expr left) }
-    ensures gives { Gives (λ x. (expr x.0, toks x.2.now)) result (assign_by (context scope.now) (readers (context scope.now) (room - 1)) room (toks from.now) (expr left) (toks tokens.now) (Some op)) }
+    ensures gives { Gives (λ x. (expr x.0, toks x.2.now)) result
+        (assign_by (context scope.now) (readers (context scope.now) (room - 1)) room (toks from.now) (expr left) (toks tokens.now) (Some op)) }
     ensures depth { IfOk result (λ x. x.1 ≡ expr_depth (expr x.0)) }
     ensures fits { IfOk result (λ x. x.1 ≤ room) }
 {
@@ -126,7 +128,8 @@ fn operators<'a>(
     requires known { k < 10 }
     requires depth { depth ≡ expr_depth (expr left) }
     requires fits { depth ≤ room }
-    ensures gives { Gives (λ x. (expr x.0, toks x.2.now)) result (loop (operator_turn (context scope.now) (readers (context scope.now) (room - 1)) room k (toks from.now)) (expr left) (toks tokens.now)) }
+    ensures gives { Gives (λ x. (expr x.0, toks x.2.now)) result
+        (loop (operator_turn (context scope.now) (readers (context scope.now) (room - 1)) room k (toks from.now)) (expr left) (toks tokens.now)) }
     ensures depth { IfOk result (λ x. x.1 ≡ expr_depth (expr x.0)) }
     ensures fits { IfOk result (λ x. x.1 ≤ room) }
 {
@@ -185,7 +188,8 @@ fn cast_expression<'a>(
     tokens: &'a [Token],
 ) -> Result<(Expr, u32, &'a [Token]), ReadErr>
     requires some { 0 < room }
-    ensures gives { Gives (λ x. (expr x.0, toks x.2.now)) result (unary_by (context scope.now) (readers (context scope.now) (room - 1)) room (toks tokens.now) starts.Cast) }
+    ensures gives { Gives (λ x. (expr x.0, toks x.2.now)) result
+        (unary_by (context scope.now) (readers (context scope.now) (room - 1)) room (toks tokens.now) starts.Cast) }
     ensures depth { IfOk result (λ x. x.1 ≡ expr_depth (expr x.0)) }
     ensures fits { IfOk result (λ x. x.1 ≤ room) }
 {
@@ -206,7 +210,8 @@ fn size_expression<'a>(
     tokens: &'a [Token],
 ) -> Result<(Expr, u32, &'a [Token]), ReadErr>
     requires some { 0 < room }
-    ensures gives { Gives (λ x. (expr x.0, toks x.2.now)) result (unary_by (context scope.now) (readers (context scope.now) (room - 1)) room (toks tokens.now) starts.Size) }
+    ensures gives { Gives (λ x. (expr x.0, toks x.2.now)) result
+        (unary_by (context scope.now) (readers (context scope.now) (room - 1)) room (toks tokens.now) starts.Size) }
     ensures depth { IfOk result (λ x. x.1 ≡ expr_depth (expr x.0)) }
     ensures fits { IfOk result (λ x. x.1 ≤ room) }
 {
@@ -225,7 +230,8 @@ fn postfix<'a>(
     tokens: &'a [Token],
 ) -> Result<(Expr, u32, &'a [Token]), ReadErr>
     requires some { 0 < room }
-    ensures gives { Gives (λ x. (expr x.0, toks x.2.now)) result (postfix_with (context scope.now) (readers (context scope.now) (room - 1)) room (toks tokens.now)) }
+    ensures gives { Gives (λ x. (expr x.0, toks x.2.now)) result
+        (postfix_with (context scope.now) (readers (context scope.now) (room - 1)) room (toks tokens.now)) }
     ensures depth { IfOk result (λ x. x.1 ≡ expr_depth (expr x.0)) }
     ensures fits { IfOk result (λ x. x.1 ≤ room) }
 {
@@ -254,7 +260,9 @@ fn suffixed<'a>(
 ) -> Result<(Expr, u32, &'a [Token]), ReadErr>
     requires depth { depth ≡ expr_depth (expr left) }
     requires some { depth < room }
-    ensures gives { Gives (λ x. (expr x.0, toks x.2.now)) result (suffix_by (context scope.now) (readers (context scope.now) (room - 1)) (toks from.now) (expr left) (toks tokens.now) (leads.suffix_at (toks tokens.now))) }
+    ensures gives { Gives (λ x. (expr x.0, toks x.2.now)) result
+        (suffix_by (context scope.now) (readers (context scope.now) (room - 1)) (toks from.now) (expr left) (toks tokens.now)
+        (leads.suffix_at (toks tokens.now))) }
     ensures depth { IfOk result (λ x. x.1 ≡ expr_depth (expr x.0)) }
     ensures fits { IfOk result (λ x. x.1 ≤ room) }
 {
@@ -284,7 +292,8 @@ fn indexed<'a>(
 ) -> Result<(Expr, u32, &'a [Token]), ReadErr>
     requires depth { depth ≡ expr_depth (expr left) }
     requires some { depth < room }
-    ensures gives { Gives (λ x. (expr x.0, toks x.2.now)) result (suffix_by (context scope.now) (readers (context scope.now) (room - 1)) (toks from.now) (expr left) (toks tokens.now) suffixes.Index) }
+    ensures gives { Gives (λ x. (expr x.0, toks x.2.now)) result
+        (suffix_by (context scope.now) (readers (context scope.now) (room - 1)) (toks from.now) (expr left) (toks tokens.now) suffixes.Index) }
     ensures depth { IfOk result (λ x. x.1 ≡ expr_depth (expr x.0)) }
     ensures fits { IfOk result (λ x. x.1 ≤ room) }
 {
@@ -342,7 +351,8 @@ fn primary<'a>(
     tokens: &'a [Token],
 ) -> Result<(Expr, u32, &'a [Token]), ReadErr>
     requires some { 0 < room }
-    ensures gives { Gives (λ x. (expr x.0, toks x.2.now)) result (primary_with (context scope.now) (readers (context scope.now) (room - 1)) (toks tokens.now)) }
+    ensures gives { Gives (λ x. (expr x.0, toks x.2.now)) result
+        (primary_with (context scope.now) (readers (context scope.now) (room - 1)) (toks tokens.now)) }
     ensures depth { IfOk result (λ x. x.1 ≡ expr_depth (expr x.0)) }
     ensures fits { IfOk result (λ x. x.1 ≤ room) }
 {
@@ -370,7 +380,8 @@ fn named<'a>(
     tokens: &'a [Token],
 ) -> Result<(Expr, u32, &'a [Token]), ReadErr>
     requires some { 0 < room }
-    ensures gives { Gives (λ x. (expr x.0, toks x.2.now)) result (named_by (context scope.now) (readers (context scope.now) (room - 1)) (toks tokens.now) (at_open_paren (behind (toks tokens.now)))) }
+    ensures gives { Gives (λ x. (expr x.0, toks x.2.now)) result
+        (named_by (context scope.now) (readers (context scope.now) (room - 1)) (toks tokens.now) (at_open_paren (behind (toks tokens.now)))) }
     ensures depth { IfOk result (λ x. x.1 ≡ expr_depth (expr x.0)) }
     ensures fits { IfOk result (λ x. x.1 ≤ room) }
 {
@@ -397,7 +408,8 @@ fn parenthesised<'a>(
     tokens: &'a [Token],
 ) -> Result<(Expr, u32, &'a [Token]), ReadErr>
     requires some { 0 < room }
-    ensures gives { Gives (λ x. (expr x.0, toks x.2.now)) result (primary_by (context scope.now) (readers (context scope.now) (room - 1)) (toks tokens.now) main_leads.Paren) }
+    ensures gives { Gives (λ x. (expr x.0, toks x.2.now)) result
+        (primary_by (context scope.now) (readers (context scope.now) (room - 1)) (toks tokens.now) main_leads.Paren) }
     ensures depth { IfOk result (λ x. x.1 ≡ expr_depth (expr x.0)) }
     ensures fits { IfOk result (λ x. x.1 ≤ room) }
 {

@@ -47,7 +47,7 @@ fn bad_at(token: u32, what: Option<u32>) -> ParseErr
     }
 }
 
-/// The place of the token with which so many are left.
+/// The place of the token from which on `left` tokens remain.
 fn place(tokens: &[Token], left: usize) -> u32
     requires fits { length tokens.now ≤ 200000 }
     ensures { result ≡ length (toks tokens.now) - left }

@@ -118,7 +118,8 @@ fn block<'a>(
     room: u32,
     tokens: &'a [Token],
 ) -> Result<(Stmt, &'a [Token]), ReadErr>
-    ensures gives { Gives (λ x. (stmt x.0, toks x.1.now)) result (reading.stmt_by (context scope.now) room (reading.bodies (context scope.now) room) (toks tokens.now) leads.Block) }
+    ensures gives { Gives (λ x. (stmt x.0, toks x.1.now)) result (reading.stmt_by (context scope.now) room (reading.bodies (context scope.now) room)
+        (toks tokens.now) leads.Block) }
 {
     let (body, rest) = statements(alloc, scope, room, behind(tokens))?;
     let (body, rest) = keeping(body, close_brace(rest))?;
@@ -147,7 +148,8 @@ fn guarded<'a>(
     room: u32,
     tokens: &'a [Token],
 ) -> Result<((Expr, Box<Stmt>), &'a [Token]), ReadErr>
-    ensures gives { Gives (λ x. ((expr x.0.0, boxed_stmt x.0.1), toks x.1.now)) result (parts.guarded (context scope.now) room (reading.bodies (context scope.now) room) (toks tokens.now)) }
+    ensures gives { Gives (λ x. ((expr x.0.0, boxed_stmt x.0.1), toks x.1.now)) result
+        (parts.guarded (context scope.now) room (reading.bodies (context scope.now) room) (toks tokens.now)) }
 {
     let (e, rest) = test(alloc, scope, room, tokens)?;
     let (e, (body, rest)) = keeping(e, inner(alloc, scope, room, rest))?;
@@ -162,13 +164,14 @@ fn while_statement<'a>(
     room: u32,
     tokens: &'a [Token],
 ) -> Result<(Stmt, &'a [Token]), ReadErr>
-    ensures gives { Gives (λ x. (stmt x.0, toks x.1.now)) result (parts.while_parts (context scope.now) room (reading.bodies (context scope.now) room) (toks tokens.now)) }
+    ensures gives { Gives (λ x. (stmt x.0, toks x.1.now)) result (parts.while_parts (context scope.now) room (reading.bodies (context scope.now) room)
+        (toks tokens.now)) }
 {
     let ((e, body), rest) = guarded(alloc, scope, room, behind(tokens))?;
     Ok((Stmt::While(e, body, span(scope, tokens, rest)), rest))
 }
 
-/// What stands behind the statement of a `do`.
+/// The rest of a `do` statement, after its body.
 fn do_end<'a>(
     alloc: Global,
     scope: &Scope,
@@ -189,7 +192,8 @@ fn do_statement<'a>(
     room: u32,
     tokens: &'a [Token],
 ) -> Result<(Stmt, &'a [Token]), ReadErr>
-    ensures gives { Gives (λ x. (stmt x.0, toks x.1.now)) result (parts.do_parts (context scope.now) room (reading.bodies (context scope.now) room) (toks tokens.now)) }
+    ensures gives { Gives (λ x. (stmt x.0, toks x.1.now)) result (parts.do_parts (context scope.now) room (reading.bodies (context scope.now) room)
+        (toks tokens.now)) }
 {
     let (body, rest) = statement(alloc, scope, room, behind(tokens))?;
     let (body, (e, rest)) = keeping(body, do_end(alloc, scope, room, rest))?;
@@ -216,7 +220,8 @@ fn switch_body<'a>(
     room: u32,
     tokens: &'a [Token],
 ) -> Result<(Seq<Arm>, &'a [Token]), ReadErr>
-    ensures gives { Gives (λ x. (map arm x.0, toks x.1.now)) result (parts.ended reader.close_brace (braced (reading.bodies (context scope.now) room).arm) (toks tokens.now)) }
+    ensures gives { Gives (λ x. (map arm x.0, toks x.1.now)) result
+        (parts.ended reader.close_brace (braced (reading.bodies (context scope.now) room).arm) (toks tokens.now)) }
 {
     let (arms, rest) = arms(alloc, scope, room, tokens)?;
     keeping(arms, close_brace(rest))
@@ -229,7 +234,8 @@ fn switch_statement<'a>(
     room: u32,
     tokens: &'a [Token],
 ) -> Result<(Stmt, &'a [Token]), ReadErr>
-    ensures gives { Gives (λ x. (stmt x.0, toks x.1.now)) result (parts.switch_parts (context scope.now) room (reading.bodies (context scope.now) room) (toks tokens.now)) }
+    ensures gives { Gives (λ x. (stmt x.0, toks x.1.now)) result
+        (parts.switch_parts (context scope.now) room (reading.bodies (context scope.now) room) (toks tokens.now)) }
 {
     let (e, rest) = switch_head(alloc, scope, room, behind(tokens))?;
     let (e, (arms, rest)) = keeping(e, switch_body(alloc, scope, room, rest))?;
@@ -243,7 +249,8 @@ fn vars_statement<'a>(
     room: u32,
     tokens: &'a [Token],
 ) -> Result<(Stmt, &'a [Token]), ReadErr>
-    ensures gives { Gives (λ x. (stmt x.0, toks x.1.now)) result (reading.stmt_by (context scope.now) room (reading.bodies (context scope.now) room) (toks tokens.now) leads.Vars) }
+    ensures gives { Gives (λ x. (stmt x.0, toks x.1.now)) result (reading.stmt_by (context scope.now) room (reading.bodies (context scope.now) room)
+        (toks tokens.now) leads.Vars) }
 {
     let (vars, rest) = variables(alloc, scope, room, tokens)?;
     let (vars, rest) = keeping(vars, semicolon(rest))?;
@@ -257,7 +264,8 @@ fn return_statement<'a>(
     room: u32,
     tokens: &'a [Token],
 ) -> Result<(Stmt, &'a [Token]), ReadErr>
-    ensures gives { Gives (λ x. (stmt x.0, toks x.1.now)) result (reading.stmt_by (context scope.now) room (reading.bodies (context scope.now) room) (toks tokens.now) leads.Return) }
+    ensures gives { Gives (λ x. (stmt x.0, toks x.1.now)) result (reading.stmt_by (context scope.now) room (reading.bodies (context scope.now) room)
+        (toks tokens.now) leads.Return) }
 {
     let (e, rest) = maybe(alloc, scope, room, behind(tokens))?;
     let (e, rest) = keeping(e, semicolon(rest))?;
@@ -271,7 +279,8 @@ fn expression_statement<'a>(
     room: u32,
     tokens: &'a [Token],
 ) -> Result<(Stmt, &'a [Token]), ReadErr>
-    ensures gives { Gives (λ x. (stmt x.0, toks x.1.now)) result (reading.stmt_by (context scope.now) room (reading.bodies (context scope.now) room) (toks tokens.now) leads.Expr) }
+    ensures gives { Gives (λ x. (stmt x.0, toks x.1.now)) result (reading.stmt_by (context scope.now) room (reading.bodies (context scope.now) room)
+        (toks tokens.now) leads.Expr) }
 {
     let (e, _depth, rest) = expression(alloc, scope, room, tokens)?;
     let (e, rest) = keeping(e, semicolon(rest))?;
@@ -287,7 +296,8 @@ fn simple<'a>(
     tokens: &'a [Token],
 ) -> Result<(Stmt, &'a [Token]), ReadErr>
     requires simple { reading.is_simple lead ≡ true }
-    ensures gives { Gives (λ x. (stmt x.0, toks x.1.now)) result (parts.stmt_parts (context scope.now) room (reading.bodies (context scope.now) room) (toks tokens.now) lead) }
+    ensures gives { Gives (λ x. (stmt x.0, toks x.1.now)) result (parts.stmt_parts (context scope.now) room (reading.bodies (context scope.now) room)
+        (toks tokens.now) lead) }
 {
     match lead {
         StmtLead::Empty => {
@@ -308,7 +318,7 @@ fn simple<'a>(
     }
 }
 
-/// What stands behind `else`, where that comes next.
+/// The statement after `else`, where an `else` comes next.
 #[cycle(statements)]
 fn otherwise<'a>(
     alloc: Global,
@@ -316,7 +326,8 @@ fn otherwise<'a>(
     room: u32,
     tokens: &'a [Token],
 ) -> Result<(Option<Box<Stmt>>, &'a [Token]), ReadErr>
-    ensures gives { Gives (λ x. (maybe (option_map boxed_stmt x.0), toks x.1.now)) result (parts.else_at (reading.bodies (context scope.now) room) (toks tokens.now)) }
+    ensures gives { Gives (λ x. (maybe (option_map boxed_stmt x.0), toks x.1.now)) result
+        (parts.else_at (reading.bodies (context scope.now) room) (toks tokens.now)) }
 {
     if !at_else_word(tokens) {
         return Ok((None, tokens));
@@ -332,7 +343,8 @@ fn if_statement<'a>(
     room: u32,
     tokens: &'a [Token],
 ) -> Result<(Stmt, &'a [Token]), ReadErr>
-    ensures gives { Gives (λ x. (stmt x.0, toks x.1.now)) result (parts.if_parts (context scope.now) room (reading.bodies (context scope.now) room) (toks tokens.now)) }
+    ensures gives { Gives (λ x. (stmt x.0, toks x.1.now)) result (parts.if_parts (context scope.now) room (reading.bodies (context scope.now) room)
+        (toks tokens.now)) }
 {
     let (head, rest) = guarded(alloc, scope, room, behind(tokens))?;
     let other = otherwise(alloc, scope, room, rest);
@@ -371,7 +383,8 @@ fn for_steps<'a>(
     room: u32,
     tokens: &'a [Token],
 ) -> Result<((Option<Expr>, Option<Expr>), &'a [Token]), ReadErr>
-    ensures gives { Gives (λ x. ((option_map expr x.0.0, option_map expr x.0.1), toks x.1.now)) result (parts.for_steps (context scope.now) room (toks tokens.now)) }
+    ensures gives { Gives (λ x. ((option_map expr x.0.0, option_map expr x.0.1), toks x.1.now)) result
+        (parts.for_steps (context scope.now) room (toks tokens.now)) }
 {
     let (check, rest) = maybe(alloc, scope, room, tokens)?;
     let (check, rest) = keeping(check, semicolon(rest))?;
@@ -385,7 +398,8 @@ fn for_head<'a>(
     room: u32,
     tokens: &'a [Token],
 ) -> Result<((Option<Box<Stmt>>, Option<Expr>, Option<Expr>), &'a [Token]), ReadErr>
-    ensures gives { Gives (λ x. ((maybe (option_map boxed_stmt x.0.0), option_map expr x.0.1, option_map expr x.0.2), toks x.1.now)) result (parts.for_head (context scope.now) room (toks tokens.now)) }
+    ensures gives { Gives (λ x. ((maybe (option_map boxed_stmt x.0.0), option_map expr x.0.1, option_map expr x.0.2), toks x.1.now)) result
+        (parts.for_head (context scope.now) room (toks tokens.now)) }
 {
     let (from, rest) = for_first(alloc, scope, room, tokens)?;
     let (from, ((check, step), rest)) = keeping(from, for_steps(alloc, scope, room, rest))?;
@@ -399,7 +413,8 @@ fn for_statement<'a>(
     room: u32,
     tokens: &'a [Token],
 ) -> Result<(Stmt, &'a [Token]), ReadErr>
-    ensures gives { Gives (λ x. (stmt x.0, toks x.1.now)) result (parts.for_parts (context scope.now) room (reading.bodies (context scope.now) room) (toks tokens.now)) }
+    ensures gives { Gives (λ x. (stmt x.0, toks x.1.now)) result (parts.for_parts (context scope.now) room (reading.bodies (context scope.now) room)
+        (toks tokens.now)) }
 {
     let (head, rest) = for_head(alloc, scope, room, behind(tokens))?;
     let (head, (body, rest)) = keeping(head, inner(alloc, scope, room, rest))?;
@@ -443,7 +458,8 @@ fn case_arm<'a>(
     room: u32,
     tokens: &'a [Token],
 ) -> Result<(Arm, &'a [Token]), ReadErr>
-    ensures gives { Gives (λ x. (arm x.0, toks x.1.now)) result (reading.arm_by (context scope.now) room (reading.bodies (context scope.now) room) (toks tokens.now) arm_leads.Case) }
+    ensures gives { Gives (λ x. (arm x.0, toks x.1.now)) result (reading.arm_by (context scope.now) room (reading.bodies (context scope.now) room)
+        (toks tokens.now) arm_leads.Case) }
 {
     let (e, _depth, rest) = level(alloc, scope, room, 10, behind(tokens))?;
     let (e, rest) = keeping(e, colon(rest))?;
@@ -456,7 +472,8 @@ fn default_arm<'a>(
     room: u32,
     tokens: &'a [Token],
 ) -> Result<(Arm, &'a [Token]), ReadErr>
-    ensures gives { Gives (λ x. (arm x.0, toks x.1.now)) result (reading.arm_by (context scope.now) room (reading.bodies (context scope.now) room) (toks tokens.now) arm_leads.Default) }
+    ensures gives { Gives (λ x. (arm x.0, toks x.1.now)) result (reading.arm_by (context scope.now) room (reading.bodies (context scope.now) room)
+        (toks tokens.now) arm_leads.Default) }
 {
     let rest = colon(behind(tokens))?;
     Ok((Arm::Default(span(scope, tokens, rest)), rest))

@@ -128,7 +128,8 @@ fn function<'a>(
     name: Name,
     tokens: &'a [Token],
 ) -> Result<(Item, &'a [Token]), ReadErr>
-    ensures gives { Gives (λ x. (item x.0, toks x.1.now)) result (reading.function_at (context scope.now) room (toks from.now) (type ty) name (toks tokens.now)) }
+    ensures gives { Gives (λ x. (item x.0, toks x.1.now)) result
+        (reading.function_at (context scope.now) room (toks from.now) (type ty) name (toks tokens.now)) }
     ensures declared { IfOk result (λ x. context scope.now ≡ behind_item (item x.0) (context scope.now)) }
 {
     let ((ty, name), rest) = keeping((ty, name), open_paren(tokens))?;
@@ -149,7 +150,8 @@ fn with_body<'a>(
     params: Seq<Var>,
     tokens: &'a [Token],
 ) -> Result<(Item, &'a [Token]), ReadErr>
-    ensures gives { Gives (λ x. (item x.0, toks x.1.now)) result (reading.body_by (context scope.now) room (toks from.now) (type ty) name (map var params) (toks tokens.now) (at_semicolon (toks tokens.now))) }
+    ensures gives { Gives (λ x. (item x.0, toks x.1.now)) result
+        (reading.body_by (context scope.now) room (toks from.now) (type ty) name (map var params) (toks tokens.now) (at_semicolon (toks tokens.now))) }
     ensures declared { IfOk result (λ x. context scope.now ≡ behind_item (item x.0) (context scope.now)) }
 {
     if at(Punct::Semicolon, tokens) {
@@ -245,8 +247,8 @@ fn read_item<'a>(
     }
 }
 
-/// The items of a unit, with so many trees on a path below each.
-#[tactic(auto, unfolding(crate::specs::ReadingUnits::unit_at))]
+/// The items of a unit, with `room` trees on a path below each.
+#[tactic(auto, unfolding(crate::specs::inner::ReadingUnits::unit_at))]
 pub(crate) fn read_unit(alloc: Global, room: u32, tokens: &[Token]) -> Result<Unit, ReadErr>
     requires fits { length tokens.now ≤ 200000 }
     requires some { 0 < room }

@@ -1,11 +1,13 @@
 -- The rules of the nodes of expressions.
-use Rattle.std.specs.Prelude.{ℕ, ◌^◌, ◌==◌, Bool, true, false, ◌&&◌, ◌||◌, not, List, [], ◌∷◌, Option, Some, None, option_map, option_and_then, nat_lt, if◌then◌else◌}
+use Rattle.std.specs.Prelude.{ℕ, ◌^◌, ◌==◌, Bool, true, false, ◌&&◌, ◌||◌, not, List, [], ◌∷◌, Option, Some, None, option_map, option_and_then}
+use Rattle.std.specs.Prelude.{nat_lt, if◌then◌else◌}
 use Rattle.c_tree.specs.declared.operator.UnOp.{UnOp}
 use Rattle.c_tree.specs.declared.operator.UnOp.TheVariants.{Minus, Plus, Not, Flip, Deref, Address}
 use Rattle.c_tree.specs.declared.operator.StepOp.{StepOp}
 use Rattle.c_tree.specs.declared.operator.StepOp.TheVariants.{PreUp, PreDown, PostUp, PostDown}
 use Rattle.c_tree.specs.declared.operator.BinOp.{BinOp}
-use Rattle.c_tree.specs.declared.operator.BinOp.TheVariants.{Mul, Div, Mod, Add, Sub, Shl, Shr, Less, LessEq, More, MoreEq, Equal, NotEqual, BitAnd, BitXor, BitOr, AndAlso, OrElse}
+use Rattle.c_tree.specs.declared.operator.BinOp.TheVariants.{Mul, Div, Mod, Add, Sub, Shl, Shr, Less, LessEq, More, MoreEq, Equal, NotEqual, BitAnd}
+use Rattle.c_tree.specs.declared.operator.BinOp.TheVariants.{BitXor, BitOr, AndAlso, OrElse}
 use Rattle.c_types.specs.Types.{Ty, IntY, BoolY, PointerY, ArrayY, LayoutT}
 use Rattle.c_types.specs.Sizes.{words_of}
 use Rattle.c_rules.specs.declared.code.Code.TheVariants.{NotAPlace, InfiniteType, TooLarge}
@@ -101,10 +103,17 @@ index_rule whole a b = record { gives = if is_number b then target a else None; 
 
 -- A value that is passed, returned or filled in as a type. A structure or union is a value where it is whole and not too large.
 unfoldable pub store_rule : List LayoutT → List Bool → Ty → Ty → Rule (Unit {0})
-store_rule layouts whole from to = record { gives = given (converts from to) tt; demands = demand InfiniteType (is_whole whole to) ∷ demand TooLarge (fits layouts value_limit to) ∷ [] }
+store_rule layouts whole from to = record {
+  gives = given (converts from to) tt;
+  demands = demand InfiniteType (is_whole whole to) ∷ demand TooLarge (fits layouts value_limit to) ∷ [];
+}
 
 unfoldable pub assign_rule : List LayoutT → List Bool → Ty → Bool → Ty → Rule Ty
-assign_rule layouts whole to place from = record { gives = given (not (is_array to) && converts from to) to; demands = demand NotAPlace place ∷ demand InfiniteType (is_whole whole to) ∷ demand TooLarge (fits layouts value_limit to) ∷ [] }
+assign_rule layouts whole to place from =
+    record {
+      gives = given (not (is_array to) && converts from to) to;
+      demands = demand NotAPlace place ∷ demand InfiniteType (is_whole whole to) ∷ demand TooLarge (fits layouts value_limit to) ∷ [];
+    }
 
 abbrev pub kept_as : Ty → Option Ty → Option Ty
 kept_as to None = None
@@ -112,7 +121,10 @@ kept_as to (Some ty) = given (not (is_array to) && converts ty to) to
 
 -- `a op= b` is what `a = a op b` is
 unfoldable pub compound_rule : List Bool → BinOp → Ty → Bool → Ty → Rule Ty
-compound_rule whole op to place from = record { gives = kept_as to (binary_gives op to from); demands = demand NotAPlace place ∷ demand InfiniteType (count_is_known whole op to) ∷ [] }
+compound_rule whole op to place from = record {
+  gives = kept_as to (binary_gives op to from);
+  demands = demand NotAPlace place ∷ demand InfiniteType (count_is_known whole op to) ∷ [];
+}
 
 -- a step is `a += 1` or `a -= 1`
 abbrev pub step_operator : StepOp → BinOp
@@ -131,8 +143,15 @@ cast_rule from to = record { gives = given (can_cast from to) to; demands = [] }
 
 -- `sizeof`, and the size of what is declared
 unfoldable pub size_rule : List LayoutT → List Bool → Ty → Rule ℕ
-size_rule layouts whole ty = record { gives = given (not (is_void ty)) (words_of layouts ty); demands = demand InfiniteType (is_whole whole ty) ∷ demand TooLarge (fits layouts type_limit ty) ∷ [] }
+size_rule layouts whole ty = record {
+  gives = given (not (is_void ty)) (words_of layouts ty);
+  demands = demand InfiniteType (is_whole whole ty) ∷ demand TooLarge (fits layouts type_limit ty) ∷ [];
+}
 
 -- An array of so many; a count of 2 ^ 31 and above is a negative number.
 unfoldable pub array_rule : List LayoutT → List Bool → Ty → ℕ → Rule Ty
-array_rule layouts whole of count = record { gives = given (not (is_void of) && not (count == 0)) (ArrayY of count); demands = demand InfiniteType (is_whole whole of) ∷ demand TooLarge (nat_lt count (2 ^ 31)) ∷ demand TooLarge (fits layouts type_limit (ArrayY of count)) ∷ [] }
+array_rule layouts whole of count = record {
+  gives = given (not (is_void of) && not (count == 0)) (ArrayY of count);
+  demands =
+      demand InfiniteType (is_whole whole of) ∷ demand TooLarge (nat_lt count (2 ^ 31)) ∷ demand TooLarge (fits layouts type_limit (ArrayY of count)) ∷ [];
+}

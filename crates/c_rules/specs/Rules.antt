@@ -1,7 +1,8 @@
 -- Rules of a node, and their answer.
 use Rattle.std.specs.Prelude.{ℕ, Bool, List, [], ◌∷◌, Option, Some, None, Result, Ok, Err, if◌then◌else◌}
 use Rattle.c_rules.specs.declared.code.Code.{Code}
-use Rattle.c_rules.specs.declared.code.Code.TheVariants.{UnknownName, Twice, WrongType, NotAPlace, BadCall, BadPort, NoMain, InfiniteType, NotConstant, BreakOutside, TooLarge}
+use Rattle.c_rules.specs.declared.code.Code.TheVariants.{UnknownName, Twice, WrongType, NotAPlace, BadCall, BadPort, NoMain, InfiniteType}
+use Rattle.c_rules.specs.declared.code.Code.TheVariants.{NotConstant, BreakOutside, TooLarge}
 
 abbrev pub number_of : Code → ℕ
 number_of UnknownName = 40

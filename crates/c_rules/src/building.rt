@@ -33,7 +33,7 @@ pub fn pointer_to(alloc: Global, ty: &CType) -> Result<CType, Memory>
     Ok(CType::Pointer(Rc::new(alloc, copy_type(ty)?)?))
 }
 
-/// The type of an array of so many of these, without regard to any rule. The error is want of memory.
+/// The type of an array of `len` elements of this type, without regard to any rule. The error is want of memory.
 pub fn array_of(alloc: Global, of: &CType, len: u32) -> Result<CType, Memory>
     ensures array { IfOk result (λ r. ctype r ≡ ArrayY (ctype of.now) len) }
 {

@@ -29,7 +29,7 @@ pub fn with_elements(ty: CType) -> Counted
     Counted { ty, elements }
 }
 
-/// The array of so many of a type, without regard to any rule. The error is want of memory.
+/// The array of `len` elements of a type, without regard to any rule. The error is want of memory.
 #[tactic(auto, using(crate::proofs::Walks::one_array_more))]
 pub(crate) fn so_many_of(alloc: Global, of: Counted, len: u32) -> Result<Counted, Memory>
     ensures array { IfOk result (λ r. ctype r.ty ≡ ArrayY (ctype of.ty) len) }
@@ -59,7 +59,7 @@ fn counted_words(layouts: &[Layout], of: &Counted) -> u64
     words_in(layouts, of.elements)
 }
 
-/// Whether it has at most so many words, in constant time.
+/// Whether the type has at most `limit` words, in constant time.
 #[tactic(auto, unfolding(crate::specs::Sizes::fits))]
 pub(crate) fn counted_fits(layouts: &[Layout], limit: u32, of: &Counted) -> bool
     ensures fits { result ≡ fits (map layout layouts.now) limit (ctype of.now.ty) }

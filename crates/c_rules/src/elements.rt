@@ -72,7 +72,7 @@ pub(crate) fn at_most(words: u32, times: u64) -> u64
     (u64::from(words) * times).min(0x1_0000_0000)
 }
 
-/// The words of so many elements, or 2^32 where there are more.
+/// The words of an array's elements, or 2^32 where there are more.
 pub(crate) fn words_in(layouts: &[Layout], elements: Elements) -> u64
     requires small { elements.count ≤ 2 ^ 32 }
     ensures words { result ≡ min (element_words (map layout layouts.now) elements.element * elements.count) (2 ^ 32) }

@@ -1,7 +1,9 @@
 // Kinds of types, and which values become which.
 ghost use Rattle.std.specs.Prelude.{◌≡◌, ◌==◌, option_map, ◌||◌};
 ghost use Rattle.c_types.specs.View.{ctype};
-ghost use Rattle.c_rules.specs.Kinds.{is_void, is_number, is_array, is_structure, is_pointer, is_condition, decayed, enum_number, struct_number, union_number, pointed, element, element_count, holds, target, same_type, leads_alike, pointers_convert, converts, can_cast};
+ghost use Rattle.c_rules.specs.Kinds.{is_void, is_number, is_array, is_structure, is_pointer, is_condition, decayed, enum_number, struct_number};
+ghost use Rattle.c_rules.specs.Kinds.{union_number, pointed, element, element_count, holds, target, same_type, leads_alike, pointers_convert};
+ghost use Rattle.c_rules.specs.Kinds.{converts, can_cast};
 
 use c_types::CType;
 
@@ -228,7 +230,8 @@ fn pointer_converts(from: &CType, to: &CType) -> bool
 
 /// Whether of two pointers or arrays one becomes the other.
 pub(crate) fn pointers_meet(a: &CType, b: &CType) -> bool
-    ensures meet { result ≡ (pointers_convert (decayed (ctype a.now)) (decayed (ctype b.now)) || pointers_convert (decayed (ctype b.now)) (decayed (ctype a.now))) }
+    ensures meet { result ≡ (pointers_convert (decayed (ctype a.now)) (decayed (ctype b.now))
+        || pointers_convert (decayed (ctype b.now)) (decayed (ctype a.now))) }
 {
     match (led_to(a), led_to(b)) {
         (Some(a), Some(b)) => leads_alike(a, b) || leads_alike(b, a),

@@ -6,7 +6,8 @@ ghost use Rattle.c_tree.specs.declared.operator.UnOp.{UnOp};
 ghost use Rattle.c_types.specs.Types.{LayoutT, Ty};
 ghost use Rattle.c_rules.specs.Kinds.{is_number, is_pointer, same_type};
 ghost use Rattle.c_rules.specs.Lowest.{HasLowest, joined};
-ghost use Rattle.c_rules.specs.Nodes.{array_rule, assign_rule, binary_gives, binary_rule, cast_rule, compound_rule, index_rule, size_rule, step_rule, store_rule, unary_rule};
+ghost use Rattle.c_rules.specs.Nodes.{array_rule, assign_rule, binary_gives, binary_rule, cast_rule, compound_rule, index_rule, size_rule, step_rule};
+ghost use Rattle.c_rules.specs.Nodes.{store_rule, unary_rule};
 ghost use Rattle.c_rules.specs.Rules.{judged};
 ghost use Rattle.c_rules.specs.declared.code.Code.TheVariants as codes;
 
@@ -30,7 +31,11 @@ pub fn same_types_are_equal()
 
 /// `a op= b` is typed as `a = a op b`, with the lowest code of both; what can be stepped is a number or a pointer.
 pub fn compound_assignments_are_assignments()
-    ensures assignment { (layouts : List LayoutT) (whole : List Bool) (op : BinOp) (to : Ty) (place : Bool) (from value : Ty) → binary_gives op to from ≡ Some value → judged (compound_rule whole op to place from) ≡ joined (judged (binary_rule whole op to from)) (judged (assign_rule layouts whole to place value)) }
-    ensures refused { (whole : List Bool) (op : BinOp) (to : Ty) (place : Bool) (from : Ty) → binary_gives op to from ≡ None → judged (compound_rule whole op to place from) ≡ Err codes.WrongType }
-    ensures stepped { (whole : List Bool) (op : StepOp) (to : Ty) (place : Bool) (ty : Ty) → judged (step_rule whole op to place) ≡ Ok ty → (is_number to || is_pointer to) ≡ true }
+    ensures assignment { (layouts : List LayoutT) (whole : List Bool) (op : BinOp) (to : Ty) (place : Bool) (from value : Ty)
+        → binary_gives op to from ≡ Some value
+        → judged (compound_rule whole op to place from) ≡ joined (judged (binary_rule whole op to from)) (judged (assign_rule layouts whole to place value)) }
+    ensures refused { (whole : List Bool) (op : BinOp) (to : Ty) (place : Bool) (from : Ty) → binary_gives op to from ≡ None
+        → judged (compound_rule whole op to place from) ≡ Err codes.WrongType }
+    ensures stepped { (whole : List Bool) (op : StepOp) (to : Ty) (place : Bool) (ty : Ty) → judged (step_rule whole op to place) ≡ Ok ty
+        → (is_number to || is_pointer to) ≡ true }
 {}

@@ -6,7 +6,9 @@ ghost use Rattle.c_types.specs.View.{ctype, layout};
 ghost use Rattle.c_rules.specs.Gives.{Gives};
 ghost use Rattle.c_rules.specs.Kinds.{target};
 ghost use Rattle.c_rules.specs.Rules.{judged};
-ghost use Rattle.c_rules.specs.Nodes.{given, unary_rule, are_numbers, are_comparable, moved, apart, sum_gives, difference_gives, binary_gives, led_to_whole, counts_elements, count_is_known, binary_rule, index_rule, store_rule, assign_rule, kept_as, compound_rule, step_operator, step_rule, cast_rule, size_rule, array_rule};
+ghost use Rattle.c_rules.specs.Nodes.{given, unary_rule, are_numbers, are_comparable, moved, apart, sum_gives, difference_gives, binary_gives};
+ghost use Rattle.c_rules.specs.Nodes.{led_to_whole, counts_elements, count_is_known, binary_rule, index_rule, store_rule, assign_rule, kept_as};
+ghost use Rattle.c_rules.specs.Nodes.{compound_rule, step_operator, step_rule, cast_rule, size_rule, array_rule};
 
 use crate::building::{copy_type, pointer_to};
 use crate::code::{Code, RuleErr, demand};
@@ -329,7 +331,7 @@ pub fn type_size(layouts: &[Layout], whole: &[bool], ty: &CType) -> Result<u32, 
     Ok(words as u32)
 }
 
-/// The type of an array of so many elements, in constant time. A count of 2^31 and above is a negative number.
+/// The type of an array of `count` elements, in constant time. A count of 2^31 and above is a negative number.
 #[tactic(auto, unfolding(crate::specs::Nodes::array_rule))]
 pub fn array_type(
     alloc: Global,

@@ -24,7 +24,7 @@ pub(crate) fn words_within(layouts: &[Layout], ty: &CType) -> u64
     words_in(layouts, elements_of(ty))
 }
 
-/// Whether a type has at most so many words.
+/// Whether a type has at most `limit` words.
 #[tactic(auto, unfolding(crate::specs::Sizes::fits))]
 pub fn fits(layouts: &[Layout], limit: u32, ty: &CType) -> bool
     ensures fits { result ≡ fits (map layout layouts.now) limit (ctype ty.now) }

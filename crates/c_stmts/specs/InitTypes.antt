@@ -16,11 +16,16 @@ use Rattle.c_stmts.specs.Slots.{Slots, slots_for, next_slot, later_slots, item_c
 -- target as x does, and the texts after it are us.
 mutual
   pub data Fills (c : Ctx) : List Text → Bool → Option Ty → InitT → TInitT → List Text → Type 0 where
-    one : {ts us : List Text} {global : Bool} {target : Option Ty} {e : ExprT} {x : TExprT} {i : TInitT} → Values c ts e x us → placed (span_of e) (filled global target x) ≡ Ok i → Fills c ts global target (tree.OneI e) i us
-    list : {ts us : List Text} {global : Bool} {target : Option Ty} {items : InitTs} {s : Span} {xs : TInitTs} → AllFill c ts global (slots_for c.layouts target) items xs us → demanded s WrongType (has_room (item_count items) (slots_for c.layouts target)) ≡ Ok tt →
+    one : {ts us : List Text} {global : Bool} {target : Option Ty} {e : ExprT} {x : TExprT} {i : TInitT} → Values c ts e x us
+        → placed (span_of e) (filled global target x) ≡ Ok i → Fills c ts global target (tree.OneI e) i us
+    list : {ts us : List Text} {global : Bool} {target : Option Ty} {items : InitTs} {s : Span} {xs : TInitTs}
+        → AllFill c ts global (slots_for c.layouts target) items xs us
+        → demanded s WrongType (has_room (item_count items) (slots_for c.layouts target)) ≡ Ok tt →
         Fills c ts global target (tree.ListI items s) (ListI xs) us
 
   -- the items of a brace list, each for the next place
   pub data AllFill (c : Ctx) : List Text → Bool → Slots → InitTs → TInitTs → List Text → Type 0 where
     no_items : {ts : List Text} {global : Bool} {slots : Slots} → AllFill c ts global slots tree.NoI NoI ts
-    more_items : {ts us vs : List Text} {global : Bool} {slots : Slots} {i : InitT} {rest : InitTs} {x : TInitT} {xs : TInitTs} → Fills c ts global (next_slot slots) i x us → AllFill c us global (later_slots slots) rest xs vs → AllFill c ts global slots (tree.MoreI i rest) (MoreI x xs) vs
+    more_items : {ts us vs : List Text} {global : Bool} {slots : Slots} {i : InitT} {rest : InitTs} {x : TInitT} {xs : TInitTs}
+        → Fills c ts global (next_slot slots) i x us → AllFill c us global (later_slots slots) rest xs vs
+        → AllFill c ts global slots (tree.MoreI i rest) (MoreI x xs) vs

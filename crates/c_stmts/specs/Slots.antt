@@ -1,5 +1,6 @@
 -- What a variable is filled with: the places of a brace list, and the rules of an initialiser.
-use Rattle.std.specs.Prelude.{ℕ, ◌+◌, ◌-◌, ◌==◌, Bool, true, false, ◌&&◌, ◌||◌, not, List, [], ◌∷◌, length, slice_get, Option, Some, None, is_some, Result, Ok, Err, nat_le, if◌then◌else◌}
+use Rattle.std.specs.Prelude.{ℕ, ◌+◌, ◌-◌, ◌==◌, Bool, true, false, ◌&&◌, ◌||◌, not, List, [], ◌∷◌, length, slice_get, Option, Some, None, is_some}
+use Rattle.std.specs.Prelude.{Result, Ok, Err, nat_le, if◌then◌else◌}
 use Rattle.std.specs.Option.{option_map_or}
 use Rattle.c_tree.specs.Tree as tree
 use Rattle.c_tree.specs.Tree.{InitTs}

@@ -1,5 +1,6 @@
 -- What the statements of a function are read under, and what they change.
-use Rattle.std.specs.Prelude.{ℕ, ◌+◌, Bool, true, false, not, List, [], ◌∷◌, ◌++◌, length, map, ◌==◌, is_some, Option, Some, None, Result, nat_le, if◌then◌else◌}
+use Rattle.std.specs.Prelude.{ℕ, ◌+◌, Bool, true, false, not, List, [], ◌∷◌, ◌++◌, length, map, ◌==◌, is_some, Option, Some, None, Result, nat_le}
+use Rattle.std.specs.Prelude.{if◌then◌else◌}
 use Rattle.std.specs.List.{list_any}
 use Rattle.c_types.specs.Types.{Ty, LayoutT}
 use Rattle.c_types.specs.Typed.{TExprT, TInitT, TVarT, TArmT, CaseB, DefaultB, StmtB}
@@ -71,7 +72,12 @@ is_new n st = not (is_some (find n (innermost st.scopes)))
 
 -- The name is the next object from here on; a name that its scope has already keeps its meaning.
 unfoldable pub entered : Text → Ty → St → St
-entered n ty st = if is_new n st then record { scopes = declare n (record { number = length st.sizes; ty = ty }) st.scopes; sizes = st.sizes; used = st.used; texts = st.texts } else st
+entered n ty st = if is_new n st then record {
+  scopes = declare n (record { number = length st.sizes; ty = ty }) st.scopes;
+  sizes = st.sizes;
+  used = st.used;
+  texts = st.texts;
+} else st
 
 -- An object: its size, where with those before it there are at most so many words.
 unfoldable pub object_rule : List LayoutT → List Bool → ℕ → ℕ → Ty → Rule ℕ

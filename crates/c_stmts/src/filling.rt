@@ -13,7 +13,8 @@ ghost use Rattle.c_exprs.specs.Faults.{at, placed};
 ghost use Rattle.c_exprs.specs.Nodes.{type_of_typed, kind_of_typed};
 ghost use Rattle.c_exprs.specs.View.{ctx};
 ghost use Rattle.c_exprs.specs.Gives.{Gives, read};
-ghost use Rattle.c_stmts.specs.Slots.{slots_for, item_count, has_room, literal_of, is_null_or_text, is_fixed, text_fills, local_fills, global_fills, value_fills, fills, filled};
+ghost use Rattle.c_stmts.specs.Slots.{slots_for, item_count, has_room, literal_of, is_null_or_text, is_fixed, text_fills, local_fills, global_fills};
+ghost use Rattle.c_stmts.specs.Slots.{value_fills, fills, filled};
 ghost use Rattle.c_stmts.specs.InitTyping.{filled_by, all_filled_by};
 ghost use Rattle.c_stmts.specs.InitTypes.{Fills};
 ghost use Rattle.c_stmts.specs.InitBreaks.{NoFill};
@@ -174,7 +175,8 @@ fn filled_by(
     global: bool,
     target: Option<&CType>,
 ) -> Result<TInit, CheckErr>
-    ensures { Gives (λ r. (tinit r, texts.new)) result (filled_by (ctx globals.now scopes.now) texts.old global (option_map (λ t. ctype t.now) target.entry) (init initialiser.now)) }
+    ensures { Gives (λ r. (tinit r, texts.new)) result
+        (filled_by (ctx globals.now scopes.now) texts.old global (option_map (λ t. ctype t.now) target.entry) (init initialiser.now)) }
 {
     match initialiser {
         Init::One(e) => {
@@ -204,7 +206,9 @@ fn all_filled_by(
     global: bool,
     target: Option<&CType>,
 ) -> Result<Vec<TInit>, CheckErr>
-    ensures { Gives (λ r. (tinits (map tinit r.items), texts.new)) result (all_filled_by (ctx globals.now scopes.now) texts.old global (slots_for (map layout globals.now.layouts.items) (option_map (λ t. ctype t.now) target.entry)) (inits (map init items.now))) }
+    ensures { Gives (λ r. (tinits (map tinit r.items), texts.new)) result
+        (all_filled_by (ctx globals.now scopes.now) texts.old global
+        (slots_for (map layout globals.now.layouts.items) (option_map (λ t. ctype t.now) target.entry)) (inits (map init items.now))) }
 {
     let mut found = Vec::new(alloc);
     for i in items {
@@ -227,13 +231,18 @@ pub fn fill(
     target: Option<&CType>,
     initialiser: &Init,
 ) -> Result<TInit, CheckErr>
-    ensures gives { Gives (λ r. (tinit r, texts.new)) result (filled_by (ctx globals.now scopes.now) texts.old global (option_map (λ t. ctype t.now) target.entry) (init initialiser.now)) }
+    ensures gives { Gives (λ r. (tinit r, texts.new)) result
+        (filled_by (ctx globals.now scopes.now) texts.old global (option_map (λ t. ctype t.now) target.entry) (init initialiser.now)) }
     // What is answered fills so by the rules.
-    ensures types { IfOk result (λ r. Fills (ctx globals.now scopes.now) texts.old global (option_map (λ t. ctype t.now) target.entry) (init initialiser.now) (tinit r) texts.new) }
+    ensures types { IfOk result (λ r. Fills (ctx globals.now scopes.now) texts.old global (option_map (λ t. ctype t.now) target.entry)
+        (init initialiser.now) (tinit r) texts.new) }
     // What fills by the rules is answered, unless memory runs out.
-    ensures only { (x : TInitT) (us : List Text) → Fills (ctx globals.now scopes.now) texts.old global (option_map (λ t. ctype t.now) target.entry) (init initialiser.now) x us → Gives (λ r. (tinit r, texts.new)) result (read x us) }
+    ensures only { (x : TInitT) (us : List Text)
+        → Fills (ctx globals.now scopes.now) texts.old global (option_map (λ t. ctype t.now) target.entry) (init initialiser.now) x us
+        → Gives (λ r. (tinit r, texts.new)) result (read x us) }
     // A refusal names the first broken rule.
-    ensures first { (k : Code) (s : Span) → result ≡ Err (errors.At k s) → NoFill (ctx globals.now scopes.now) texts.old global (option_map (λ t. ctype t.now) target.entry) (init initialiser.now) (at s k) }
+    ensures first { (k : Code) (s : Span) → result ≡ Err (errors.At k s)
+        → NoFill (ctx globals.now scopes.now) texts.old global (option_map (λ t. ctype t.now) target.entry) (init initialiser.now) (at s k) }
     // After a refusal there are no texts: the unit is read no further.
     ensures refused { OnErr result (texts.new ≡ []) }
 {

@@ -41,7 +41,8 @@ fn member_slot(layouts: &[Layout], number: u32, index: usize) -> Option<&CType>
 }
 
 fn first_slot(layouts: &[Layout], number: u32, index: usize) -> Option<&CType>
-    ensures { option_map (λ t. ctype t.now) result ≡ next_slot (slots_behind index (Members (first_of (members_of (slice_get (map layout layouts.now) number))))) }
+    ensures { option_map (λ t. ctype t.now) result
+        ≡ next_slot (slots_behind index (Members (first_of (members_of (slice_get (map layout layouts.now) number))))) }
 {
     if index > 0 {
         return None;
@@ -73,7 +74,8 @@ pub(crate) fn slot_at<'a>(
     target: Option<&'a CType>,
     index: usize,
 ) -> Option<&'a CType>
-    ensures { option_map (λ t. ctype t.now) result ≡ next_slot (slots_behind index (slots_for (map layout layouts.now) (option_map (λ t. ctype t.now) target.entry))) }
+    ensures { option_map (λ t. ctype t.now) result
+        ≡ next_slot (slots_behind index (slots_for (map layout layouts.now) (option_map (λ t. ctype t.now) target.entry))) }
 {
     match target {
         Some(ty) => slot_in(layouts, ty, index),
@@ -104,7 +106,7 @@ fn has_room_in(layouts: &[Layout], ty: &CType, count: usize) -> bool
     }
 }
 
-/// Whether a brace list of so many items has a place for each.
+/// Whether a brace list of `count` items has a place for each.
 pub(crate) fn has_room(layouts: &[Layout], target: Option<&CType>, count: usize) -> bool
     ensures { result ≡ has_room count (slots_for (map layout layouts.now) (option_map (λ t. ctype t.now) target.entry)) }
 {

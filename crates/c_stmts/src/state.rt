@@ -49,7 +49,8 @@ impl State {
         is_new(name, &self.scopes)
     }
 
-    /// Declares a parameter as the next object, where there are fewer than 2^32, in the innermost scope, under a name that this does not have, with its size in words. The error is want of memory, and then the state is of no further use.
+    /// Declares a parameter as the next object, where there are fewer than 2^32, in the innermost scope, under a name that this does not have, with
+    /// its size in words. The error is want of memory, and then the state is of no further use.
     pub fn add_object(
         &mut self,
         alloc: Global,
@@ -59,7 +60,13 @@ impl State {
     ) -> Result<(), Memory>
         requires new { is_new name.now (st self.old) ≡ true }
         requires room { length (st self.old).sizes < 2 ^ 32 }
-        ensures added { OnOk result (st self.new ≡ record { scopes = declare name.now (record { number = length (st self.old).sizes; ty = ctype ty }) (st self.old).scopes; sizes = (st self.old).sizes ++ size ∷ []; used = (st self.old).used; texts = (st self.old).texts }) }
+        ensures added { OnOk result (st self.new ≡ record {
+          scopes = declare name.now (record { number = length (st self.old).sizes; ty = ctype ty }) (st self.old).scopes;
+          sizes = (st self.old).sizes ++ size
+              ∷ [];
+          used = (st self.old).used;
+          texts = (st self.old).texts;
+        }) }
     {
         let number = self.sizes.next();
         declare(alloc, &mut self.scopes, name, number, ty)?;

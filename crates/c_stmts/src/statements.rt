@@ -39,7 +39,8 @@ fn vars_of(
     span: Span,
 ) -> Result<TStmt, CheckErr>
     requires room { length (st state.old).sizes + vars_nodes (map var vars.now) ≤ 2 ^ 32 }
-    ensures { Gives (λ r. (tstmt r, st state.new)) result (typing.statement (fn_of globals.now gives.now) (st state.old) false false (VarsS (map var vars.now) span)) }
+    ensures { Gives (λ r. (tstmt r, st state.new)) result
+        (typing.statement (fn_of globals.now gives.now) (st state.old) false false (VarsS (map var vars.now) span)) }
 {
     let vars = all_declared(alloc, globals, state, gives, vars)?;
     Ok(TStmt::Vars(Seq::from_vec(vars)))
@@ -68,7 +69,8 @@ fn return_of(
     e: &Expr,
     span: Span,
 ) -> Result<TStmt, CheckErr>
-    ensures { Gives (λ r. (tstmt r, st state.new)) result (typing.statement (fn_of globals.now gives.now) (st state.old) false false (ReturnS (Some (expr e.now)) span)) }
+    ensures { Gives (λ r. (tstmt r, st state.new)) result
+        (typing.statement (fn_of globals.now gives.now) (st state.old) false false (ReturnS (Some (expr e.now)) span)) }
 {
     let x = value_in(alloc, globals, state, gives, e)?;
     let holds = demanded(span, Code::WrongType, converts(&x.ty, gives));
@@ -164,7 +166,8 @@ fn maybe_of(
     continues: bool,
 ) -> Result<Option<TStmt>, CheckErr>
     requires room { length (st state.old).sizes + maybe_nodes (maybe_s s.now) ≤ 2 ^ 32 }
-    ensures { Gives (λ r. (maybe_z r, st state.new)) result (typing.maybe_statement (fn_of globals.now gives.now) (st state.old) breaks continues (maybe_s s.now)) }
+    ensures { Gives (λ r. (maybe_z r, st state.new)) result (typing.maybe_statement (fn_of globals.now gives.now) (st state.old) breaks continues
+        (maybe_s s.now)) }
 {
     match s {
         Some(s) => {
@@ -186,7 +189,8 @@ fn stmts_of(
     continues: bool,
 ) -> Result<Vec<TStmt>, CheckErr>
     requires room { length (st state.old).sizes + stmts_nodes (stmts (map stmt all.now)) ≤ 2 ^ 32 }
-    ensures { Gives (λ r. (tstmts (map tstmt r.items), st state.new)) result (typing.statements (fn_of globals.now gives.now) (st state.old) breaks continues (stmts (map stmt all.now))) }
+    ensures { Gives (λ r. (tstmts (map tstmt r.items), st state.new)) result
+        (typing.statements (fn_of globals.now gives.now) (st state.old) breaks continues (stmts (map stmt all.now))) }
 {
     let mut found = Vec::new(alloc);
     for s in all {
@@ -209,7 +213,8 @@ fn arm_of(
     seen: &mut Labels,
 ) -> Result<TArm, CheckErr>
     requires room { length (st state.old).sizes + arm_nodes (arm a.now) ≤ 2 ^ 32 }
-    ensures gives { Gives (λ r. (tarm r, st state.new)) result (typing.arm (fn_of globals.now gives.now) (st state.old) breaks continues (labels seen.old) (arm a.now)) }
+    ensures gives { Gives (λ r. (tarm r, st state.new)) result
+        (typing.arm (fn_of globals.now gives.now) (st state.old) breaks continues (labels seen.old) (arm a.now)) }
     ensures labels { IfOk result (λ r. labels seen.new ≡ with_label (labels seen.old) (tarm r)) }
 {
     match a {
@@ -241,7 +246,8 @@ fn arms_of(
     continues: bool,
 ) -> Result<Vec<TArm>, CheckErr>
     requires room { length (st state.old).sizes + arms_nodes (arms (map arm all.now)) ≤ 2 ^ 32 }
-    ensures { Gives (λ r. (tarms (map tarm r.items), st state.new)) result (typing.arms (fn_of globals.now gives.now) (st state.old) breaks continues no_labels (arms (map arm all.now))) }
+    ensures { Gives (λ r. (tarms (map tarm r.items), st state.new)) result
+        (typing.arms (fn_of globals.now gives.now) (st state.old) breaks continues no_labels (arms (map arm all.now))) }
 {
     let mut seen = no_labels(alloc);
     let mut found = Vec::new(alloc);
@@ -264,13 +270,17 @@ pub fn type_statements(
     gives: &CType,
 ) -> Result<Vec<TStmt>, CheckErr>
     requires room { length (st state.old).sizes + stmts_nodes (stmts (map stmt body.now)) ≤ 2 ^ 32 }
-    ensures gives { Gives (λ r. (tstmts (map tstmt r.items), st state.new)) result (typing.statements (fn_of globals.now gives.now) (st state.old) false false (stmts (map stmt body.now))) }
+    ensures gives { Gives (λ r. (tstmts (map tstmt r.items), st state.new)) result
+        (typing.statements (fn_of globals.now gives.now) (st state.old) false false (stmts (map stmt body.now))) }
     // What is answered is typed so by the rules.
-    ensures types { IfOk result (λ r. Statements (fn_of globals.now gives.now) (st state.old) false false (stmts (map stmt body.now)) (tstmts (map tstmt r.items)) (st state.new)) }
+    ensures types { IfOk result (λ r. Statements (fn_of globals.now gives.now) (st state.old) false false (stmts (map stmt body.now))
+        (tstmts (map tstmt r.items)) (st state.new)) }
     // What the rules type is answered, unless memory runs out.
-    ensures only { (x : TStmtTs) (sq : St) → Statements (fn_of globals.now gives.now) (st state.old) false false (stmts (map stmt body.now)) x sq → Gives (λ r. (tstmts (map tstmt r.items), st state.new)) result (reached x sq) }
+    ensures only { (x : TStmtTs) (sq : St) → Statements (fn_of globals.now gives.now) (st state.old) false false (stmts (map stmt body.now)) x sq
+        → Gives (λ r. (tstmts (map tstmt r.items), st state.new)) result (reached x sq) }
     // A refusal names the first broken rule.
-    ensures first { (k : Code) (s : Span) → result ≡ Err (At k s) → NotStatements (fn_of globals.now gives.now) (st state.old) false false (stmts (map stmt body.now)) (at s k) }
+    ensures first { (k : Code) (s : Span) → result ≡ Err (At k s)
+        → NotStatements (fn_of globals.now gives.now) (st state.old) false false (stmts (map stmt body.now)) (at s k) }
     // After a refusal nothing is left of the state: the unit is read no further.
     ensures refused { OnErr result (st state.new ≡ record { scopes = []; sizes = []; used = 0; texts = [] }) }
 {

@@ -82,7 +82,8 @@ fn fill_in(
     target: &CType,
     initialiser: &Init,
 ) -> Result<TInit, CheckErr>
-    ensures gives { Gives (λ r. (tinit r, st state.new)) result (fill_in (fn_of globals.now gives.now) (st state.old) (ctype target.now) (init initialiser.now)) }
+    ensures gives { Gives (λ r. (tinit r, st state.new)) result
+        (fill_in (fn_of globals.now gives.now) (st state.old) (ctype target.now) (init initialiser.now)) }
     ensures sizes { (st state.new).sizes ≡ (st state.old).sizes }
     ensures used { (st state.new).used ≡ (st state.old).used }
 {
@@ -109,7 +110,8 @@ fn maybe_filled(
     target: &CType,
     initialiser: &Option<Init>,
 ) -> Result<Option<TInit>, CheckErr>
-    ensures gives { Gives (λ r. (option_map tinit r, st state.new)) result (maybe_filled (fn_of globals.now gives.now) (st state.old) (ctype target.now) (option_map init initialiser.now)) }
+    ensures gives { Gives (λ r. (option_map tinit r, st state.new)) result
+        (maybe_filled (fn_of globals.now gives.now) (st state.old) (ctype target.now) (option_map init initialiser.now)) }
     ensures sizes { (st state.new).sizes ≡ (st state.old).sizes }
     ensures used { (st state.new).used ≡ (st state.old).used }
 {

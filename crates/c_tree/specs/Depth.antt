@@ -1,7 +1,11 @@
 -- How deep a tree is: the greatest number of expressions, types, initialisers, variables, statements, arms and items
 -- on one path from its root, itself included.
 use Rattle.std.specs.Prelude.{ℕ, ◌+◌, max, List, [], ◌∷◌, Option, Some, None}
-use Rattle.c_tree.specs.Tree.{ExprT, NameE, NumberE, TextE, NullE, ParenE, UnaryE, BinaryE, AssignE, StepE, IndexE, MemberE, ArrowE, CallE, CastE, SizeOfE, ExprTs, NoE, MoreE, TypeT, IntY, BoolY, VoidY, NamedY, PointerY, ArrayY, InitT, OneI, ListI, InitTs, NoI, MoreI, VarT, StmtT, BlockS, EmptyS, VarsS, DoS, IfS, WhileS, DoWhileS, ForS, SwitchS, ReturnS, BreakS, ContinueS, MaybeS, NoneS, SomeS, StmtTs, NoS, MoreS, ArmT, CaseA, DefaultA, StmtA, ArmTs, NoA, MoreA, ItemT, RecordD, EnumD, TypedefD, VarsD, FunctionD}
+use Rattle.c_tree.specs.Tree.{ExprT, NameE, NumberE, TextE, NullE, ParenE, UnaryE, BinaryE, AssignE, StepE, IndexE, MemberE, ArrowE, CallE, CastE}
+use Rattle.c_tree.specs.Tree.{SizeOfE, ExprTs, NoE, MoreE, TypeT, IntY, BoolY, VoidY, NamedY, PointerY, ArrayY, InitT, OneI, ListI, InitTs, NoI}
+use Rattle.c_tree.specs.Tree.{MoreI, VarT, StmtT, BlockS, EmptyS, VarsS, DoS, IfS, WhileS, DoWhileS, ForS, SwitchS, ReturnS, BreakS, ContinueS}
+use Rattle.c_tree.specs.Tree.{MaybeS, NoneS, SomeS, StmtTs, NoS, MoreS, ArmT, CaseA, DefaultA, StmtA, ArmTs, NoA, MoreA, ItemT, RecordD, EnumD}
+use Rattle.c_tree.specs.Tree.{TypedefD, VarsD, FunctionD}
 
 abbrev mutual
   pub expr_depth : ExprT → ℕ

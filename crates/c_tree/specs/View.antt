@@ -12,7 +12,11 @@ use Rattle.c_tree.specs.declared.statement.Arm.TheOpen as s
 use Rattle.c_tree.specs.declared.item.Item.{Item}
 use Rattle.c_tree.specs.declared.item.Item.TheVariants.{Record, Enum, Typedef, Vars, Function}
 use Rattle.c_tree.specs.declared.item.Unit.{Unit as File}
-use Rattle.c_tree.specs.Tree.{ExprT, NameE, NumberE, TextE, NullE, ParenE, UnaryE, BinaryE, AssignE, StepE, IndexE, MemberE, ArrowE, CallE, CastE, SizeOfE, ExprTs, NoE, MoreE, TypeT, IntY, BoolY, VoidY, NamedY, PointerY, ArrayY, InitT, OneI, ListI, InitTs, NoI, MoreI, VarT, StmtT, BlockS, EmptyS, VarsS, DoS, IfS, WhileS, DoWhileS, ForS, SwitchS, ReturnS, BreakS, ContinueS, NoneS, SomeS, StmtTs, NoS, MoreS, ArmT, CaseA, DefaultA, StmtA, ArmTs, NoA, MoreA, ItemT, RecordD, EnumD, TypedefD, VarsD, FunctionD}
+use Rattle.c_tree.specs.Tree.{ExprT, NameE, NumberE, TextE, NullE, ParenE, UnaryE, BinaryE, AssignE, StepE, IndexE, MemberE, ArrowE, CallE, CastE}
+use Rattle.c_tree.specs.Tree.{SizeOfE, ExprTs, NoE, MoreE, TypeT, IntY, BoolY, VoidY, NamedY, PointerY, ArrayY, InitT, OneI, ListI, InitTs, NoI}
+use Rattle.c_tree.specs.Tree.{MoreI, VarT, StmtT, BlockS, EmptyS, VarsS, DoS, IfS, WhileS, DoWhileS, ForS, SwitchS, ReturnS, BreakS, ContinueS}
+use Rattle.c_tree.specs.Tree.{NoneS, SomeS, StmtTs, NoS, MoreS, ArmT, CaseA, DefaultA, StmtA, ArmTs, NoA, MoreA, ItemT, RecordD, EnumD, TypedefD}
+use Rattle.c_tree.specs.Tree.{VarsD, FunctionD}
 
 abbrev pub exprs : List ExprT → ExprTs
 exprs [] = NoE

@@ -2,7 +2,8 @@
 
 ghost use Rattle.std.specs.Prelude.{◌≡◌, IfOk, option_map};
 ghost use Rattle.c_tree.specs.View.{expr, type, stmt};
-ghost use Rattle.c_tree.specs.Tree.{ParenE, UnaryE, BinaryE, AssignE, StepE, IndexE, MemberE, ArrowE, CastE, PointerY, ArrayY, IfS, NoneS, SomeS, WhileS, DoWhileS, ForS};
+ghost use Rattle.c_tree.specs.Tree.{ParenE, UnaryE, BinaryE, AssignE, StepE, IndexE, MemberE, ArrowE, CastE, PointerY, ArrayY, IfS, NoneS, SomeS};
+ghost use Rattle.c_tree.specs.Tree.{WhileS, DoWhileS, ForS};
 
 use crate::expression::{Expr, TypeTree};
 use crate::operator::{BinOp, StepOp, UnOp};

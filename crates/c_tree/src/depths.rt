@@ -2,7 +2,8 @@
 
 ghost use Rattle.std.specs.Prelude.{◌≡◌, ◌<◌, ◌^◌, map, option_map};
 ghost use Rattle.c_tree.specs.View.{expr, type, init, var, stmt, stmts, arm, item, unit};
-ghost use Rattle.c_tree.specs.Depth.{expr_depth, type_depth, init_depth, var_depth, vars_depth, stmt_depth, stmts_depth, arm_depth, maybe_expr_depth, values_depth, item_depth, unit_depth};
+ghost use Rattle.c_tree.specs.Depth.{expr_depth, type_depth, init_depth, var_depth, vars_depth, stmt_depth, stmts_depth, arm_depth, maybe_expr_depth};
+ghost use Rattle.c_tree.specs.Depth.{values_depth, item_depth, unit_depth};
 
 use crate::expression::{Expr, TypeTree};
 use crate::item::{Item, Unit};

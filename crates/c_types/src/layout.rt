@@ -98,7 +98,7 @@ impl Layout {
         }
     }
 
-    /// Adds a member of so many words under a name that no member has yet. It goes last, behind those before it in a structure, at word 0 in
+    /// Adds a member of size `words` under a name that no member has yet. It goes last, behind those before it in a structure, at word 0 in
     /// a union. More than 2^32 - 1 words are counted as 2^32 - 1. The error is want of memory, and then the layout stays.
     pub fn add(&mut self, name: Vec<u8>, ty: CType, words: u32) -> Result<(), AllocError>
         requires new { is_some (member_named name.items (layout self.old).members) ≡ false }

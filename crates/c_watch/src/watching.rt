@@ -28,7 +28,8 @@ pub fn watch(
     card: Option<&[u32]>,
     goal: &Goal,
 ) -> Result<Watched, Memory>
-    ensures { IfOk result (λ w. w ≡ watched_by goal.now.events goal.now.ended (final_of (program p.now) f.now.sizes goal.now.bound answers.now (option_map (λ x. x.now) card.entry))) }
+    ensures { IfOk result (λ w. w ≡ watched_by goal.now.events goal.now.ended
+        (final_of (program p.now) f.now.sizes goal.now.bound answers.now (option_map (λ x. x.now) card.entry))) }
 {
     let mut runner = Runner::new(alloc, p, f, answers, card, goal.bound)?;
     let mut left = goal.events;

@@ -1,6 +1,7 @@
 -- The cartridge that bytes are, or the first test that fails: the header's, then 83 with the index of
 -- the first section that is not of its grammar, then 82 where the sections end before the total.
-use Rattle.std.specs.Prelude.{◌≡◌, ℕ, zero, suc, ◌+◌, List, [], ◌∷◌, length, take, drop, codes, bytes_eq, ◌||◌, ◌==◌, not, nat_lt, if◌then◌else◌, Option, Some, None, Result, Ok, Err}
+use Rattle.std.specs.Prelude.{◌≡◌, ℕ, zero, suc, ◌+◌, List, [], ◌∷◌, length, take, drop, codes, bytes_eq, ◌||◌, ◌==◌, not, nat_lt, if◌then◌else◌}
+use Rattle.std.specs.Prelude.{Option, Some, None, Result, Ok, Err}
 use Rattle.std.specs.List.{list_all}
 use Rattle.asset_pack.specs.declared.kind.Kind.TheVariants as kinds
 use Rattle.asset_pack.specs.declared.error.AssetErr.{AssetErr}

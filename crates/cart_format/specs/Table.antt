@@ -45,4 +45,5 @@ are_rows files least end (r ∷ rs) = is_row files least end r && are_rows files
 -- a table of a program of so many words, which stands at 0x20000000
 unfoldable pub is_table : ℕ → LineTable → Bool
 is_table words t =
-    nat_le (length t.files) 40000 && (nat_le (length t.rows) 40000 && (list_all is_utf8 t.files && are_rows (length t.files) 0x2000_0000 (0x2000_0000 + words) t.rows))
+    nat_le (length t.files) 40000 && (nat_le (length t.rows) 40000
+    && (list_all is_utf8 t.files && are_rows (length t.files) 0x2000_0000 (0x2000_0000 + words) t.rows))

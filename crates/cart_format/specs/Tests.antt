@@ -1,7 +1,8 @@
 -- The tests of a cartridge's header, in their order: 85 for over 268,435,456 bytes, 81 for under 128,
 -- 80 for another signature, 86 for another revision, 82 for a field out of range, 81 and 84 for a
 -- file that is shorter or longer than its total.
-use Rattle.std.specs.Prelude.{ℕ, List, [], ◌∷◌, length, take, drop, codes, bytes_eq, Bool, ◌&&◌, ◌||◌, ◌==◌, not, nat_lt, nat_le, if◌then◌else◌, Option, Some, None}
+use Rattle.std.specs.Prelude.{ℕ, List, [], ◌∷◌, length, take, drop, codes, bytes_eq, Bool, ◌&&◌, ◌||◌, ◌==◌, not, nat_lt, nat_le, if◌then◌else◌}
+use Rattle.std.specs.Prelude.{Option, Some, None}
 use Rattle.std.specs.List.{list_all}
 use Rattle.asset_pack.specs.Words.{word_at}
 use Rattle.cart_format.specs.declared.error.CartErr.{CartErr}

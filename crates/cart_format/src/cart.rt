@@ -90,9 +90,21 @@ pub(crate) fn make(
     sounds: Vec<Sound>,
     table: Option<LineTable>,
 ) -> Option<Cart>
-    ensures made { IfSome result (λ c. c ≡ record { title = title; program = program.items; textures = textures.items; sounds = sounds.items; table = table }) }
+    ensures made { IfSome result (λ c. c ≡ record {
+      title = title;
+      program = program.items;
+      textures = textures.items;
+      sounds = sounds.items;
+      table = table;
+    }) }
     ensures limits { IfSome result (λ c. is_cart c ≡ true) }
-    ensures none { IfNone result (is_cart (record { title = title; program = program.items; textures = textures.items; sounds = sounds.items; table = table }) ≡ false) }
+    ensures none { IfNone result (is_cart (record {
+      title = title;
+      program = program.items;
+      textures = textures.items;
+      sounds = sounds.items;
+      table = table;
+    }) ≡ false) }
 {
     if !is_cart(&title, &program, &textures, &sounds, &table) {
         return None;
@@ -114,9 +126,21 @@ impl Cart {
         textures: Vec<Texture>,
         sounds: Vec<Sound>,
     ) -> Option<Cart>
-        ensures made { IfSome result (λ c. c ≡ record { title = title; program = program.items; textures = textures.items; sounds = sounds.items; table = None }) }
+        ensures made { IfSome result (λ c. c ≡ record {
+          title = title;
+          program = program.items;
+          textures = textures.items;
+          sounds = sounds.items;
+          table = None;
+        }) }
         ensures limits { IfSome result (λ c. is_cart c ≡ true) }
-        ensures none { IfNone result (is_cart (record { title = title; program = program.items; textures = textures.items; sounds = sounds.items; table = None }) ≡ false) }
+        ensures none { IfNone result (is_cart (record {
+          title = title;
+          program = program.items;
+          textures = textures.items;
+          sounds = sounds.items;
+          table = None;
+        }) ≡ false) }
     {
         make(title, program, textures, sounds, None)
     }
@@ -133,9 +157,21 @@ impl Cart {
         files: Vec<Name>,
         rows: Vec<LineRow>,
     ) -> Option<Cart>
-        ensures made { IfSome result (λ c. c ≡ record { title = title; program = program.items; textures = textures.items; sounds = sounds.items; table = Some (record { files = files.items; rows = rows.items }) }) }
+        ensures made { IfSome result (λ c. c ≡ record {
+          title = title;
+          program = program.items;
+          textures = textures.items;
+          sounds = sounds.items;
+          table = Some (record { files = files.items; rows = rows.items });
+        }) }
         ensures limits { IfSome result (λ c. is_cart c ≡ true) }
-        ensures none { IfNone result (is_cart (record { title = title; program = program.items; textures = textures.items; sounds = sounds.items; table = Some (record { files = files.items; rows = rows.items }) }) ≡ false) }
+        ensures none { IfNone result (is_cart (record {
+          title = title;
+          program = program.items;
+          textures = textures.items;
+          sounds = sounds.items;
+          table = Some (record { files = files.items; rows = rows.items });
+        }) ≡ false) }
     {
         let table = LineTable {
             files: Seq::from_vec(files),

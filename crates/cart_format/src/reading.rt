@@ -23,7 +23,7 @@ struct Parts {
     table: Option<LineTable>,
 }
 
-/// The sections of a revision with so many words, textures and sounds, to the end of the bytes.
+/// The sections of a revision with `words` words, `textures` textures and `sounds` sounds, to the end of the bytes.
 #[tactic(auto, unfolding(crate::specs::Reading::parts_of))]
 fn parts_of(
     alloc: Global,

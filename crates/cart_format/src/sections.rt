@@ -49,7 +49,7 @@ impl Part for Sound {
     }
 }
 
-/// The words file that is section 0, of so many words.
+/// The words file that is section 0, of `words` words.
 #[tactic(auto, unfolding(crate::specs::Reading::program_at))]
 pub(crate) fn program_at(
     alloc: Global,

@@ -96,7 +96,13 @@ pub(crate) fn file_size(
     sounds: &[Sound],
     table: &Option<LineTable>,
 ) -> u64
-    ensures { (title : List ℕ) → result ≡ min (total (record { title = title; program = program.now; textures = textures.now; sounds = sounds.now; table = table.now })) (2 ^ 64 - 1) }
+    ensures { (title : List ℕ) → result ≡ min (total (record {
+      title = title;
+      program = program.now;
+      textures = textures.now;
+      sounds = sounds.now;
+      table = table.now;
+    })) (2 ^ 64 - 1) }
 {
     let size = textures_size(textures)
         .saturating_add(sounds_size(sounds))

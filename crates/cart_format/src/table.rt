@@ -88,7 +88,7 @@ fn is_name(text: &[u8]) -> bool
     }
 }
 
-/// Whether it is a row of one of so many files, at an address from the least on and below the end.
+/// Whether it is a row of one of `files` files, at an address from `least` on and below `end`.
 #[tactic(auto, unfolding(crate::specs::Table::is_row))]
 fn is_row(files: usize, least: u64, end: u64, row: &LineRow) -> bool
     ensures { result ≡ is_row files least end row.now }
@@ -101,7 +101,7 @@ fn is_row(files: usize, least: u64, end: u64, row: &LineRow) -> bool
         && is_name(row.name.bytes())
 }
 
-/// Whether they are rows of so many files, whose addresses rise from the least on.
+/// Whether they are rows of `files` files, whose addresses rise from `least` on.
 #[tactic(auto, using(crate::proofs::Rows::row_more, crate::proofs::Rows::row_bad, crate::proofs::Rows::no_row))]
 fn are_rows(files: usize, least: u64, end: u64, rows: &[LineRow]) -> bool
     ensures { result ≡ are_rows files least end rows.now }
@@ -131,7 +131,7 @@ fn all_texts(files: &[Name]) -> bool
     files.iter().all(|name| is_text(name))
 }
 
-/// Whether they are the table of a program of so many words.
+/// Whether they are the table of a program of `words` words.
 #[tactic(auto, unfolding(crate::specs::Table::is_table))]
 pub(crate) fn is_table(words: usize, table: &LineTable) -> bool
     requires { words ≤ 33554432 }

@@ -12,7 +12,7 @@ use asset_pack::{Sound, Texture, put_sound, put_texture, put_word, put_words, pu
 use kit_base::{Memory, Name};
 use std::alloc::Global;
 
-/// Adds so many zeros.
+/// Adds `count` zeros.
 #[tactic(auto, using(crate::proofs::Laid::zeros_front))]
 fn put_zeros(out: &mut Vec<u8>, count: usize) -> Result<(), Memory>
     requires { count ≤ 64 }
@@ -160,7 +160,8 @@ fn put_fields(
 
 #[tactic(auto, using(crate::proofs::Limits::short_title, crate::proofs::Limits::few_textures, crate::proofs::Limits::few_sounds, crate::proofs::Limits::short_program))]
 fn put_header(out: &mut Vec<u8>, cart: &Cart) -> Result<(), Memory>
-    ensures { OnOk result (out.new.items ≡ out.old.items ++ header_text (revision cart.now.table) (total cart.now) (length cart.now.program) (length cart.now.textures) (length cart.now.sounds) cart.now.title) }
+    ensures { OnOk result (out.new.items ≡ out.old.items ++ header_text (revision cart.now.table) (total cart.now) (length cart.now.program)
+        (length cart.now.textures) (length cart.now.sounds) cart.now.title) }
 {
     let words = cart.program().len() as u32;
     let textures = cart.textures().len() as u32;
@@ -186,7 +187,13 @@ fn put_parts(
 ) -> Result<(), Memory>
     requires program { length program.now ≤ 33554432 }
     requires table { length (tail_text table.now) < 2 ^ 32 }
-    ensures text { (title : List ℕ) → OnOk result (out.new.items ≡ out.old.items ++ sections_text (record { title = title; program = program.now; textures = textures.now; sounds = sounds.now; table = table.now })) }
+    ensures text { (title : List ℕ) → OnOk result (out.new.items ≡ out.old.items ++ sections_text (record {
+      title = title;
+      program = program.now;
+      textures = textures.now;
+      sounds = sounds.now;
+      table = table.now;
+    })) }
     ensures program { OnOk result (IsProgram program.now) }
     ensures textures { OnOk result (AllByRecursion IsTexture textures.now) }
     ensures sounds { OnOk result (AllByRecursion IsSound sounds.now) }

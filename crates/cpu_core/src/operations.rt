@@ -74,7 +74,8 @@ impl Cpu {
 
     #[inline(always)]
     pub(crate) fn two(&mut self, t: Two, a: Reg, operand: Src<u32>, next: u32) -> Stepped
-        ensures { Ends result (state_of self.new) ≡ taking a (two_of t (register_of (state_of self.old) a) (value_of (state_of self.old) operand)) next (state_of self.old) }
+        ensures { Ends result (state_of self.new)
+            ≡ taking a (two_of t (register_of (state_of self.old) a) (value_of (state_of self.old) operand)) next (state_of self.old) }
     {
         match two_word(t, self.register(a), self.value(operand)) {
             Some(word) => self.take(a, word, next),

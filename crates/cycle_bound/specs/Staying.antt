@@ -20,4 +20,5 @@ HoldsFor words answers card within address Unbounded = Unit {0}
 abbrev pub StayWithin : (globals : List ℕ) → Meaning → (words : List ℕ) → (addresses : List ℕ) → List Bound → Type 0
 StayWithin globals meaning words addresses bounds =
     (n : ℕ) (answers : List ℕ) (card : Option (List ℕ)) → IsCard card
-    → (steps : ℕ) × Matches globals n steps (meaning n answers card) (machine_runs words answers card steps) × AllZip (HoldsFor words answers card steps) addresses bounds
+    → (steps : ℕ) × Matches globals n steps (meaning n answers card) (machine_runs words answers card steps)
+    × AllZip (HoldsFor words answers card steps) addresses bounds

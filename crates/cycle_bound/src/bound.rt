@@ -14,7 +14,7 @@ use assembler::Labels;
 use kit_base::{Memory, Name, join_pieces};
 use std::alloc::Global;
 
-/// How many instructions a call of a function takes, those of called functions and its `RET` counted: at most so many, at most
+/// How many instructions a call of a function takes, those of called functions and its `RET` counted: at most this number, at most
 /// 1,000,000,000,000; more than that on some path; or no number.
 #[derive(Clone, Copy)]
 pub enum Bound {

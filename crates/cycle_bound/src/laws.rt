@@ -21,12 +21,15 @@ pub fn functions_have_one_bound()
 
 /// Items of a program without a fault that only go on, up to a return, have a number.
 pub fn items_that_go_on_have_a_number()
-    ensures { (items before own rest : List AsmItem) → fault_of items ≡ None → items ≡ before ++ (own ++ rest) → EndsInReturn own → AllGoOn items own → HasNumber items (own ++ rest) }
+    ensures { (items before own rest : List AsmItem) → fault_of items ≡ None → items ≡ before ++ (own ++ rest) → EndsInReturn own → AllGoOn items own
+        → HasNumber items (own ++ rest) }
 {}
 
 /// Where the words of a program do what is meant, calls of its functions stay within their bounds, as far as the words do so.
 pub fn calls_stay_within_bounds()
-    ensures { (items : List AsmItem) (words : List ℕ) (labels : List (List ℕ × ℕ)) → fault_of items ≡ None → AreReadable items → Placed items words labels → length words ≤ 33554432
-        → (times : ℕ) (globals : List ℕ) (meaning : Meaning) → AgreesWithin times globals meaning words → (names : List (List ℕ)) (bounds : List Bound) → AllZip (IsBoundOf items) names bounds
+    ensures { (items : List AsmItem) (words : List ℕ) (labels : List (List ℕ × ℕ)) → fault_of items ≡ None → AreReadable items
+        → Placed items words labels → length words ≤ 33554432
+        → (times : ℕ) (globals : List ℕ) (meaning : Meaning) → AgreesWithin times globals meaning words
+        → (names : List (List ℕ)) (bounds : List Bound) → AllZip (IsBoundOf items) names bounds
         → StayWithin globals meaning words (map (λ name. address_in labels (label_of_function name)) names) bounds }
 {}

@@ -1,7 +1,7 @@
 //! How many instructions a call of a function takes, worked out of assembly items.
 //!
 //! It promises of each name the greatest count of instructions over the paths behind its label, that this is above the greatest number
-//! told, or that a path comes to what has no number. It stands on the items of `asm_items` and on the paths of `asm_laws`.
+//! told, or that a path leads to what has no number. It stands on the items of `asm_items` and on the paths of `asm_laws`.
 #![tactic(auto)]
 
 mod bound;

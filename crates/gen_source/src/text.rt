@@ -52,7 +52,7 @@ fn function_line(alloc: Global, own: u32, below: u32) -> Result<Vec<u8>, AllocEr
     join_pieces(alloc, &[&head, &call, &end])
 }
 
-/// The lines of so many functions, behind the first one.
+/// The lines of `count` functions, behind the first one.
 #[tactic(auto, using(crate::proofs::Lines::one_more))]
 fn functions(alloc: Global, count: u32) -> Result<Vec<u8>, AllocError>
     ensures { IfOk result (λ v. v.items ≡ function_lines count) }
@@ -81,7 +81,7 @@ fn main_line(alloc: Global, last: u32) -> Result<Vec<u8>, AllocError>
     )
 }
 
-/// The source of a program of so many functions, of which each calls the one before it, and of `main`, which calls the last with 7 and puts
+/// The source of a program of `count` functions, of which each calls the one before it, and of `main`, which calls the last with 7 and puts
 /// what it gives; of none it is that of one. The error is want of memory.
 #[tactic(auto, unfolding(crate::specs::Source::source_text))]
 pub fn source_text(alloc: Global, count: u32) -> Result<Vec<u8>, Memory>

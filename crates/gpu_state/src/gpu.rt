@@ -105,7 +105,7 @@ impl Gpu {
         self.left = 2_073_600;
     }
 
-    /// A port is told a word: a setting, a value of the selected region, or a command. Words that the port does not accept are
+    /// Takes a word that was written to a port: a setting, a value of the selected region, or a command. Words that the port does not accept are
     /// ignored.
     pub fn out(&mut self, port: Port, word: u32)
         requires listed { (is_graphics_port port ≡ true) × (is_writable port ≡ true) }

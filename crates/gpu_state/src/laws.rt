@@ -16,7 +16,7 @@ pub fn other_events_leave_graphics()
         GraphicsStand textures (Mixed ∷ past) g }
 {}
 
-/// A texture's place u comes to the screen's place point + u - hotspot, in whole numbers with sign and without wrapping.
+/// A texture's place u is drawn at the screen's place point + u - hotspot, in whole numbers with sign and without wrapping.
 pub fn places_are_sums()
     ensures sum { (point hotspot u x : ℕ) → point < 2 ^ 32 → hotspot < 2 ^ 32 →
         (pos x ≡ (signed point +ℤ pos u) -ℤ signed hotspot) ↔ (x + raised hotspot ≡ raised point + u) }

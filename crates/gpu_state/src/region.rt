@@ -5,7 +5,7 @@ ghost use Rattle.gpu_state.specs.Settings.{selected_texture, selected_region};
 ghost use Rattle.gpu_state.specs.Regions.{is_hotspot};
 ghost use Rattle.gpu_state.specs.Stand.{RegionStands};
 
-/// The six values of a region: its sides, ends included, and the point that comes to stand on the drawing point. Hotspots are
+/// The six values of a region: its sides, ends included, and the point that is drawn on the drawing point. Hotspots are
 /// signed words.
 #[derive(Clone, Copy)]
 pub struct Region {
@@ -25,7 +25,7 @@ fn is_hotspot_word(word: u32) -> bool
 }
 
 impl Region {
-    /// A port of region values is told a word, while the region is selected.
+    /// Takes a word that was written to a port of region values, while the region is selected.
     pub fn out(&mut self, port: u32, word: u32)
         ensures stands { (count t r : ℕ) (past : List Happening) → 0 < count → selected_texture count past ≡ t → selected_region past ≡ r →
             RegionStands count t r past self.old → RegionStands count t r (Told port word ∷ past) self.new }

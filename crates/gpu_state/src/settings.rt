@@ -31,7 +31,7 @@ impl Settings {
         }
     }
 
-    /// A port is told a word, over so many textures.
+    /// Takes a word that was written to a port, with `count` textures in the cartridge.
     pub fn out(&mut self, port: u32, word: u32, count: u32)
         ensures stand { (past : List Happening) → SettingsStand count past self.old → SettingsStand count (Told port word ∷ past) self.new }
     {

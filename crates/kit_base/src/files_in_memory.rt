@@ -1,5 +1,6 @@
 // Files in memory, whose calls fail where the caller says.
-ghost use Rattle.std.specs.Prelude.{◌≡◌, ◌≤◌, ◌<◌, ◌+◌, ◌++◌, ◌⊎◌, ℕ, [], ◌∷◌, Some, None, IfSome, IfNone, IsTrue, OnOk, OnErr, IfOk, IfErr, length, slice_get, take, if◌then◌else◌};
+ghost use Rattle.std.specs.Prelude.{◌≡◌, ◌≤◌, ◌<◌, ◌+◌, ◌++◌, ◌⊎◌, ℕ, [], ◌∷◌, Some, None, IfSome, IfNone, IsTrue, OnOk, OnErr, IfOk, IfErr, length};
+ghost use Rattle.std.specs.Prelude.{slice_get, take, if◌then◌else◌};
 ghost use Rattle.std.specs.FinMap.{get, insert, contains_key};
 ghost use Rattle.std.specs.Option.{option_copied};
 ghost use Rattle.kit_base.specs.Held.{lookup, IsFirstAt, from_entries_of, emptied, appended};
@@ -47,7 +48,8 @@ fn lengthen(file: &mut (Name, Seq<u8>), piece: &[u8]) -> Result<(), AllocError>
 
 /// The files with a piece added to the file of that name, where there is one.
 fn add_to_file(files: &mut Vec<(Name, Seq<u8>)>, name: &str, piece: &[u8]) -> Result<(), Memory>
-    ensures ok { OnOk result (IsTrue (contains_key (from_entries_of files.old.items) name.now) → from_entries_of files.new.items ≡ appended name.now piece.now (from_entries_of files.old.items)) }
+    ensures ok { OnOk result (IsTrue (contains_key (from_entries_of files.old.items) name.now)
+        → from_entries_of files.new.items ≡ appended name.now piece.now (from_entries_of files.old.items)) }
     ensures err { OnErr result (files.new.items ≡ files.old.items) }
     ensures distinct { IsTrue (are_distinct files.old.items) → IsTrue (are_distinct files.new.items) }
 {
@@ -254,7 +256,8 @@ impl Files for FilesInMemory {
     fn append(&mut self, name: &str, piece: &[u8]) -> Result<(), FileErr>
         requires { IsTrue (contains_key (from_entries_of self.old.files) name.now) }
         ensures ok { OnOk result (Some (from_entries_of self.new.files) ≡ Some (appended name.now piece.now (from_entries_of self.old.files))) }
-        ensures err { OnErr result ((n : ℕ) × (Some (from_entries_of self.new.files) ≡ Some (appended name.now (take n piece.now) (from_entries_of self.old.files)))) }
+        ensures err { OnErr result ((n : ℕ)
+            × (Some (from_entries_of self.new.files) ≡ Some (appended name.now (take n piece.now) (from_entries_of self.old.files)))) }
         ensures kinds { IfErr result IsOfWriting }
         ensures faults { HasCause FileErr.Failed self.old.faults self.new.faults result }
         ensures misses { HasCause FileErr.Missing self.old.misses self.new.misses result }

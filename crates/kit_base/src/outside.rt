@@ -83,7 +83,7 @@ pub enum SinkErr {
 
 /// Takes the text that a command puts.
 pub trait Sink {
-    /// What was put, where that is told.
+    /// What was written, where that is told.
     ghost written: { Self → Option (List ℕ) };
 
     /// How often a call failed. It does not fall.

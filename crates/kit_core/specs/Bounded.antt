@@ -47,13 +47,16 @@ pub record IsBoundedInto (project cart map_name text_name : List ℕ) (held : He
   pub reads : read built.asm ≡ Ok items
   pub bounds : List Bound
   pub exact : AllZip (IsBoundOf items) (function_names built.map) bounds
-  pub numbered : (depth n : ℕ) (f : TFunctionT) → slice_get is_built.of.program.functions n ≡ Some f → IsLoopFree is_built.of.program depth f → slice_get bounds n ≡ Some Unbounded → ⊥
+  pub numbered : (depth n : ℕ) (f : TFunctionT) → slice_get is_built.of.program.functions n ≡ Some f → IsLoopFree is_built.of.program depth f
+      → slice_get bounds n ≡ Some Unbounded → ⊥
   pub told : put ≡ putting (bound_lines (function_names built.map) bounds) before
   pub cartridge : Cartridge
   pub cartridge_is : cart_of built.cart ≡ Ok cartridge
-  pub stay : StayWithin (global_addresses built.map) (c_runs is_built.of.program (frame_sizes built.map)) cartridge.program (function_addresses built.map) bounds
+  pub stay : StayWithin (global_addresses built.map) (c_runs is_built.of.program (frame_sizes built.map)) cartridge.program
+      (function_addresses built.map) bounds
 
 -- where the words are `bounds`, it was carried out
 abbrev pub BoundsStand : List (List ℕ) → Held → Option Held → (before put : Option (List ℕ)) → Type 0
 BoundsStand words held after before put =
-    (project cart map_name text_name : List ℕ) → command_of words ≡ Some (Bounds project cart map_name text_name) → IsBoundedInto project cart map_name text_name held after before put
+    (project cart map_name text_name : List ℕ) → command_of words ≡ Some (Bounds project cart map_name text_name)
+    → IsBoundedInto project cart map_name text_name held after before put

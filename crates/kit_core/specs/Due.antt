@@ -130,7 +130,8 @@ pub record IsWatch (text : List ℕ) (words : WatchWords) (held : Held) (work : 
   pub cart_is : cart_of built.cart ≡ Ok cart
   pub settings : Settings
   pub settings_are : watch_settings_due words held ≡ Ok settings
-  pub work_is : watch_work words built (verdict_at is_built.of.parsed.places (watched_in is_built.of.program (frame_sizes built.map) (console_of cart settings) settings.count)) ≡ work
+  pub work_is : watch_work words built (verdict_at is_built.of.parsed.places
+      (watched_in is_built.of.program (frame_sizes built.map) (console_of cart settings) settings.count)) ≡ work
 
 abbrev pub text_watch_due : (text : List ℕ) → WatchWords → Held → Result Work DueRefusal → Type 0
 text_watch_due text words held (Ok work) = IsWatch text words held work
@@ -198,7 +199,11 @@ check_due project held d = read_check_due project held (due held project) d
 -- its cartridge of at most 60 frames.
 abbrev pub gen_work : (functions : ℕ) → (cart map_name : List ℕ) → Built → Cartridge → Work
 gen_work functions cart map_name built cartridge =
-    record { effects = outputs_of cart map_name built; text = summary_text functions built.tokens (color_after (plain_setup cartridge) most_frames); status = 0 }
+    record {
+      effects = outputs_of cart map_name built;
+      text = summary_text functions built.tokens (color_after (plain_setup cartridge) most_frames);
+      status = 0;
+    }
 
 -- what was built, from the files that are held with the project and the source among them, and the cartridge that its bytes are
 pub record IsGenerated (functions : ℕ) (cart map_name : List ℕ) (held : Held) (work : Work) : Type 0 where
@@ -210,7 +215,8 @@ pub record IsGenerated (functions : ℕ) (cart map_name : List ℕ) (held : Held
 
 abbrev pub functions_gen_due : (functions : ℕ) → (project cart map_name : List ℕ) → Held → Result Work DueRefusal → Type 0
 functions_gen_due functions project cart map_name held (Ok work) = IsGenerated functions cart map_name held work
-functions_gen_due functions project cart map_name held (Err refusal) = (e : BuildErr) × IsUnbuilt held project_text e × (unbuilt project e ≡ refusals.Due refusal)
+functions_gen_due functions project cart map_name held (Err refusal) = (e : BuildErr) × IsUnbuilt held project_text e
+    × (unbuilt project e ≡ refusals.Due refusal)
 
 abbrev pub number_gen_due : Result ℕ DueRefusal → (project cart map_name : List ℕ) → Held → Result Work DueRefusal → Type 0
 number_gen_due (Ok functions) project cart map_name held d = functions_gen_due functions project cart map_name held d

@@ -48,7 +48,8 @@ BuildStands words held after =
 -- The project was held, and this was built of it. The files hold its cartridge and its map, and the bytes of the frames, of the sound and of the card
 -- of the console's run on the cartridge that those bytes are, with that script and that card; every other file is as before. That run is what the
 -- project's source means. The status is 3 exactly where it ended by a fault or at an undecodable word, and the line of that was put.
-pub record IsPlayedInto (project map_name : List ℕ) (words : RunWords) (held : Held) (status : ℕ) (after : Option Held) (before put : Option (List ℕ)) : Type 0 where
+pub record IsPlayedInto (project map_name : List ℕ) (words : RunWords) (held : Held) (status : ℕ) (after : Option Held)
+    (before put : Option (List ℕ)) : Type 0 where
   pub text : List ℕ
   pub built : Built
   pub project_is : due held project ≡ Ok text
@@ -66,7 +67,8 @@ pub record IsPlayedInto (project map_name : List ℕ) (words : RunWords) (held :
 -- where the words are a play, it was carried out
 abbrev pub PlayStands : List (List ℕ) → Held → ℕ → Option Held → (before put : Option (List ℕ)) → Type 0
 PlayStands words held status after before put =
-    (project map_name : List ℕ) (run : RunWords) → command_of words ≡ Some (Play project map_name run) → IsPlayedInto project map_name run held status after before put
+    (project map_name : List ℕ) (run : RunWords) → command_of words ≡ Some (Play project map_name run)
+    → IsPlayedInto project map_name run held status after before put
 
 -- The number is in its range. The project's file has the project's text, and `gen.c` the source of so many functions; the files `cart` and `map_name` have
 -- the cartridge and the map of what was built of these; every other file is as before. A run of that cartridge of at most 60 frames is what the source
@@ -91,4 +93,5 @@ pub record IsGeneratedInto (number project cart map_name : List ℕ) (held : Hel
 -- where the words are a `gen`, it was carried out
 abbrev pub GenStands : List (List ℕ) → Held → Option Held → (before put : Option (List ℕ)) → Type 0
 GenStands words held after before put =
-    (number project cart map_name : List ℕ) → command_of words ≡ Some (Gen number project cart map_name) → IsGeneratedInto number project cart map_name held after before put
+    (number project cart map_name : List ℕ) → command_of words ≡ Some (Gen number project cart map_name)
+    → IsGeneratedInto number project cart map_name held after before put

@@ -31,7 +31,8 @@ pub record PlayFilesStand (map_name : List ℕ) (words : RunWords) (built : Buil
   pub map_stands : get after map_name ≡ Some (map_text built.map)
   pub frames : get after words.frames ≡ Some (frames_bytes game.setup game.count)
   pub samples : get after words.samples ≡ Some (samples_bytes game.setup game.count)
-  pub card : (name : List ℕ) → words.card ≡ Some name → (last_moment game.setup game.count).state.has_card ≡ true → get after name ≡ Some (card_bytes game.setup game.count)
+  pub card : (name : List ℕ) → words.card ≡ Some name → (last_moment game.setup game.count).state.has_card ≡ true
+      → get after name ≡ Some (card_bytes game.setup game.count)
   pub no_card : (name : List ℕ) → words.card ≡ Some name → (last_moment game.setup game.count).state.has_card ≡ false → get after name ≡ get before name
   pub others : (name : List ℕ) → AreOther name words.cart → AreOther name map_name → IsNone (names_in words) name → get after name ≡ get before name
 

@@ -86,4 +86,6 @@ pub record GeneratesOver (words : List (List ℕ)) : Type 0 where
   pub over : IsGenOver number
 
 abbrev pub IsOver : List (List ℕ) → Option Held → Type 0
-IsOver words held = MigratesLong words held ⊎ (BuildsLarge words held ⊎ (TracesTooFar words ⊎ (RunsOutOfRange words ⊎ (PlaysOver words held ⊎ (WatchesOver words held ⊎ (GeneratesOver words ⊎ BoundsLarge words held))))))
+IsOver words held = MigratesLong words held
+    ⊎ (BuildsLarge words held ⊎ (TracesTooFar words
+    ⊎ (RunsOutOfRange words ⊎ (PlaysOver words held ⊎ (WatchesOver words held ⊎ (GeneratesOver words ⊎ BoundsLarge words held))))))

@@ -33,7 +33,8 @@ pub record IsRefused (Due : Result Work DueRefusal → Type 0) (held : Held) (st
   pub text : put ≡ putting (due_line refusal) before
 
 -- Status 5: a call on the file of that name failed, a read or an output, and its line is put.
-pub record HasFileFault (Due : Result Work DueRefusal → Type 0) (Reads : List ℕ → Type 0) (held : Held) (status : ℕ) (after : Option Held) (before put : Option (List ℕ)) : Type 0 where
+pub record HasFileFault (Due : Result Work DueRefusal → Type 0) (Reads : List ℕ
+    → Type 0) (held : Held) (status : ℕ) (after : Option Held) (before put : Option (List ℕ)) : Type 0 where
   pub name : List ℕ
   pub files : ComesBy (refusals.Failed name) Due Reads held after
   pub status_is : status ≡ 5
@@ -48,14 +49,16 @@ IsShown text Due Reads held after =
 
 -- Status 8, where memory ran out, and 9, where the sink failed: a front of the text or of the
 -- refusal's line was put, and then a front of the line of 8.
-pub record IsCutOff (Due : Result Work DueRefusal → Type 0) (Reads : List ℕ → Type 0) (held : Held) (after : Option Held) (before put : Option (List ℕ)) : Type 0 where
+pub record IsCutOff (Due : Result Work DueRefusal → Type 0) (Reads : List ℕ
+    → Type 0) (held : Held) (after : Option Held) (before put : Option (List ℕ)) : Type 0 where
   pub whole : List ℕ
   pub shown : IsShown whole Due Reads held after
   pub count : ℕ
   pub line_count : ℕ
   pub text : put ≡ putting (take count whole ++ take line_count (line_of refusals.Memory)) before
 
-pub data EndsAs (Due : Result Work DueRefusal → Type 0) (Reads : List ℕ → Type 0) (held : Held) (status : ℕ) (after : Option Held) (before put : Option (List ℕ)) : Type 0 where
+pub data EndsAs (Due : Result Work DueRefusal → Type 0) (Reads : List ℕ
+    → Type 0) (held : Held) (status : ℕ) (after : Option Held) (before put : Option (List ℕ)) : Type 0 where
   Done : IsDone Due held status after before put → EndsAs Due Reads held status after before put
   Refused : IsRefused Due held status after before put → EndsAs Due Reads held status after before put
   FileFault : HasFileFault Due Reads held status after before put → EndsAs Due Reads held status after before put
@@ -70,19 +73,22 @@ ComesInFront refusals.Memory front held after = (after ≡ Some held) ⊎ ((name
 
 -- Then its line is put at status 5, or a front of that line at 8 or 9, and then a front of the line of 8.
 pub data StopsInFront (front : List Effect) (held : Held) (status : ℕ) (after : Option Held) (before put : Option (List ℕ)) : Type 0 where
-  FrontFault : (name : List ℕ) → CutShort name front (Some held) after → status ≡ 5 → put ≡ putting (line_of (refusals.Failed name)) before → StopsInFront front held status after before put
+  FrontFault : (name : List ℕ) → CutShort name front (Some held) after → status ≡ 5 → put ≡ putting (line_of (refusals.Failed name)) before
+      → StopsInFront front held status after before put
   FrontCutOff : (refusal : Refusal) → ComesInFront refusal front held after → (status ≡ 8) ⊎ (status ≡ 9) → (count line_count : ℕ)
       → put ≡ putting (take count (line_of refusal) ++ take line_count (line_of refusals.Memory)) before → StopsInFront front held status after before put
 
 -- The front is done, and the command ended among the files that are held then.
-pub record EndsBehind (front : List Effect) (Due : Held → Result Work DueRefusal → Type 0) (Reads : Held → List ℕ → Type 0) (held : Held) (status : ℕ) (after : Option Held) (before put : Option (List ℕ)) : Type 0 where
+pub record EndsBehind (front : List Effect) (Due : Held → Result Work DueRefusal → Type 0) (Reads : Held → List ℕ
+    → Type 0) (held : Held) (status : ℕ) (after : Option Held) (before put : Option (List ℕ)) : Type 0 where
   pub made : Held
   pub made_is : all_done front (Some held) ≡ Some made
   pub ends : EndsAs (Due made) (Reads made) made status after before put
 
 abbrev pub FormEnds : Option Command → Held → ℕ → Option Held → Option (List ℕ) → Option (List ℕ) → Type 0
 FormEnds command held status after before put =
-    EndsBehind (front_of command) (form_due command) (command_reads command) held status after before put ⊎ StopsInFront (front_of command) held status after before put
+    EndsBehind (front_of command) (form_due command) (command_reads command) held status after before put
+    ⊎ StopsInFront (front_of command) held status after before put
 
 -- the command of these words, among the files held, ended with that status, left these files and
 -- put what is put now behind what was put before

@@ -54,7 +54,7 @@ fn write_three<F: Files>(
     write_named(files, text_name, text, built.asm.as_slice())
 }
 
-/// `bounds project cart map text`. The lines of the functions are put after it.
+/// `bounds project cart map text`. The lines of the functions are printed after it.
 #[tactic(auto, using(kit_tools::proofs::Own::wider_causes))]
 pub fn bounds_command<F: Files>(
     alloc: Global,
@@ -64,8 +64,10 @@ pub fn bounds_command<F: Files>(
     map: &str,
     text: &str,
 ) -> Result<Shown, Refusal>
-    ensures told { IfSome (F.held files.old) (λ m. LeavesBy result (bounds_due project.now cart.now map.now text.now m) (build_reads project.now m) m (F.held files.new)) }
-    ensures causes { HasCausesOr (IsLarge project.now (F.held files.old)) result (counts F.faults F.misses F.overs files.old) (counts F.faults F.misses F.overs files.new) }
+    ensures told { IfSome (F.held files.old) (λ m. LeavesBy result (bounds_due project.now cart.now map.now text.now m) (build_reads project.now m) m
+        (F.held files.new)) }
+    ensures causes { HasCausesOr (IsLarge project.now (F.held files.old)) result (counts F.faults F.misses F.overs files.old)
+        (counts F.faults F.misses F.overs files.new) }
 {
     let source = read_file(alloc, files, project)?;
     let built = build_text(alloc, files, project, &source)?;

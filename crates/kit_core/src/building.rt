@@ -117,8 +117,10 @@ pub fn build_command<F: Files>(
     cart: &str,
     map: &str,
 ) -> Result<Shown, Refusal>
-    ensures told { IfSome (F.held files.old) (λ m. LeavesBy result (build_due project.now cart.now map.now m) (build_reads project.now m) m (F.held files.new)) }
-    ensures causes { HasCausesOr (IsLarge project.now (F.held files.old)) result (counts F.faults F.misses F.overs files.old) (counts F.faults F.misses F.overs files.new) }
+    ensures told { IfSome (F.held files.old) (λ m. LeavesBy result (build_due project.now cart.now map.now m) (build_reads project.now m) m
+        (F.held files.new)) }
+    ensures causes { HasCausesOr (IsLarge project.now (F.held files.old)) result (counts F.faults F.misses F.overs files.old)
+        (counts F.faults F.misses F.overs files.new) }
 {
     let text = read_file(alloc, files, project)?;
     let built = build_text(alloc, files, project, &text)?;

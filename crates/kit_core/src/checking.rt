@@ -35,7 +35,7 @@ fn check_text<F: Files>(
     }
 }
 
-/// `check project`. Nothing is created, and `ok` is put after it.
+/// `check project`. Nothing is created, and `ok` is printed after it.
 pub fn check_command<F: Files>(
     alloc: Global,
     files: &mut F,

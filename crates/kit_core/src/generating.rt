@@ -59,14 +59,15 @@ fn write_both<F: Files>(
     requires project { project_name ≡ project.now }
     requires source { source_file ≡ source_name }
     ensures ok { OnOk result (F.held files.new ≡ all_done (written_file project.now project_text ++ written_file source_name source.now) (F.held files.old)) }
-    ensures err { IfErr result (λ e. IsCut e (written_file project.now project_text ++ written_file source_name source.now) (F.held files.old) (F.held files.new)) }
+    ensures err { IfErr result (λ e. IsCut e (written_file project.now project_text ++ written_file source_name source.now) (F.held files.old)
+        (F.held files.new)) }
     ensures causes { HasCauses result (counts F.faults F.misses F.overs files.old) (counts F.faults F.misses F.overs files.new) }
 {
     write_named(files, project_name, project, project_text())?;
     write_named(files, source_file, SOURCE_NAME, source)
 }
 
-/// Makes up the project and its source of so many functions, and writes them.
+/// Makes up the project and its source of `functions` functions, and writes them.
 fn write_sources<F: Files>(
     alloc: Global,
     files: &mut F,
@@ -133,15 +134,17 @@ fn build_made<F: Files>(
     cart: &str,
     map: &str,
 ) -> Result<Shown, Refusal>
-    ensures told { IfSome (F.held files.old) (λ m. LeavesBy result (functions_gen_due functions project.now cart.now map.now m) (IsReadToBuild m project_text) m (F.held files.new)) }
-    ensures causes { HasCausesOr (CanBeTooLarge project_text) result (counts F.faults F.misses F.overs files.old) (counts F.faults F.misses F.overs files.new) }
+    ensures told { IfSome (F.held files.old) (λ m. LeavesBy result (functions_gen_due functions project.now cart.now map.now m)
+        (IsReadToBuild m project_text) m (F.held files.new)) }
+    ensures causes { HasCausesOr (CanBeTooLarge project_text) result (counts F.faults F.misses F.overs files.old)
+        (counts F.faults F.misses F.overs files.new) }
 {
     let built = build_text(alloc, files, project, project_text())?;
     let cartridge = built_cart(alloc, &built)?;
     generate(alloc, files, functions, cart, map, &built, cartridge)
 }
 
-/// `gen number project cart map`. The line is put later.
+/// `gen number project cart map`. The line is printed later.
 #[tactic(auto, using(kit_tools::proofs::Own::wider_causes, kit_tools::proofs::Own::own_cause))]
 pub fn gen_command<F: Files>(
     alloc: Global,

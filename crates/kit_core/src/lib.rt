@@ -1,5 +1,5 @@
 //! The top call of the kit: the command of the words, its refusals in their one order, its outputs
-//! and the line that is put.
+//! and the line that is printed.
 //!
 //! It promises that status, files and text are those of the command, that each refusal by the
 //! outside has its cause, and that a build or a play that ends well stands and does what its source means, that a watch

@@ -95,7 +95,7 @@ fn write_play<F: Files>(
     write_opened(files, built, outputs, opened, map, words)
 }
 
-/// `play project cart map pads frames samples count card`. The line of a fault is put later.
+/// `play project cart map pads frames samples count card`. The line of a fault is printed later.
 #[tactic(auto, using(kit_tools::proofs::Own::wider_causes))]
 pub fn play_command<F: Files>(
     alloc: Global,
@@ -104,8 +104,10 @@ pub fn play_command<F: Files>(
     map: &str,
     words: &RunWords<'_>,
 ) -> Result<Shown, Refusal>
-    ensures told { IfSome (F.held files.old) (λ m. LeavesBy result (play_due project.now map.now (run_words_from words.now) m) (play_reads project.now (run_words_from words.now) m) m (F.held files.new)) }
-    ensures causes { HasCausesOr (IsLarge project.now (F.held files.old) ⊎ (is_count (number_of words.now.count.now) ≡ false)) result (counts F.faults F.misses F.overs files.old) (counts F.faults F.misses F.overs files.new) }
+    ensures told { IfSome (F.held files.old) (λ m. LeavesBy result (play_due project.now map.now (run_words_from words.now) m)
+        (play_reads project.now (run_words_from words.now) m) m (F.held files.new)) }
+    ensures causes { HasCausesOr (IsLarge project.now (F.held files.old) ⊎ (is_count (number_of words.now.count.now) ≡ false)) result
+        (counts F.faults F.misses F.overs files.old) (counts F.faults F.misses F.overs files.new) }
 {
     let text = read_file(alloc, files, project)?;
     let built = build_text(alloc, files, project, &text)?;

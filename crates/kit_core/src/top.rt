@@ -179,7 +179,8 @@ fn finish<S: Sink>(out: &mut S, shown: Shown) -> u8
 fn carry_out<F: Files>(alloc: Global, words: &[String], files: &mut F) -> Result<Shown, Refusal>
     ensures told { IfSome (F.held files.old) (λ m. Carries result (command_of (texts words.now)) m (F.held files.new)) }
     ensures usage { command_of (texts words.now) ≡ None → IsUsage result }
-    ensures causes { HasReasons (texts words.now) (F.held files.old) result (counts F.faults F.misses F.overs files.old) (counts F.faults F.misses F.overs files.new) }
+    ensures causes { HasReasons (texts words.now) (F.held files.old) result (counts F.faults F.misses F.overs files.old)
+        (counts F.faults F.misses F.overs files.new) }
 {
     match command_of(alloc, words)? {
         None => Err(Refusal::Due(DueRefusal::Usage)),
@@ -235,13 +236,15 @@ fn status_for<F: Files, S: Sink>(alloc: Global, words: &[String], files: &mut F,
     ensures told { IfSome (F.held files.old) (λ m. IsOutcome (texts words.now) m result (F.held files.new) (S.written out.old) (S.written out.new)) }
     ensures usage { result ≡ 1 → command_of (texts words.now) ≡ None }
     ensures no_form { command_of (texts words.now) ≡ None → (result ≡ 1) ⊎ ((result ≡ 8) ⊎ (result ≡ 9)) }
-    ensures sources { result ≡ 2 → PutsSource (counts F.faults F.misses F.overs files.old) (counts F.faults F.misses F.overs files.new) (S.written out.old) (S.written out.new) }
+    ensures sources { result ≡ 2 → PutsSource (counts F.faults F.misses F.overs files.old) (counts F.faults F.misses F.overs files.new)
+        (S.written out.old) (S.written out.new) }
     ensures line { IsPut result (S.written out.old) (S.written out.new) }
     ensures missing { result ≡ 4 → Rose (F.misses files.old) (F.misses files.new) }
     ensures failed { result ≡ 5 → Rose (F.faults files.old) (F.faults files.new) }
     ensures limit { result ≡ 7 → Rose (F.overs files.old) (F.overs files.new) ⊎ IsOver (texts words.now) (F.held files.old) }
     ensures unput { result ≡ 9 → Rose (S.faults out.old) (S.faults out.new) }
-    ensures later { HasOnlyRisen (counts F.faults F.misses F.overs files.old) (counts F.faults F.misses F.overs files.new) (S.faults out.old) (S.faults out.new) }
+    ensures later { HasOnlyRisen (counts F.faults F.misses F.overs files.old) (counts F.faults F.misses F.overs files.new) (S.faults out.old)
+        (S.faults out.new) }
     ensures status { IsStatus result }
 {
     match carry_out(alloc, words, files) {
@@ -255,7 +258,7 @@ fn status_for<F: Files, S: Sink>(alloc: Global, words: &[String], files: &mut F,
 /// a console ended by a fault or at an undecodable word, 4 a file is missing, 5 a call of the files
 /// failed, 6 a file is not of its grammar, 7 a file, or a cartridge that is to be written, is over
 /// 268,435,456 bytes, or a number of steps, frames or functions is out of its range, 8 memory ran out, 9 the
-/// sink failed. On 1 to 8 a line is put that says so.
+/// sink failed. On 1 to 8 a line is printed that says so.
 pub fn kit<F: Files, S: Sink>(alloc: Global, words: &[String], files: &mut F, out: &mut S) -> u8
     // Where it is told what is held, the status, what is held after and what was put are those of
     // the command.
@@ -265,23 +268,28 @@ pub fn kit<F: Files, S: Sink>(alloc: Global, words: &[String], files: &mut F, ou
     // At 0 the text of a trace was put, and no file was changed.
     ensures traces { IfSome (F.held files.old) (λ m. result ≡ 0 → TraceStands (texts words.now) m (F.held files.new) (S.written out.old) (S.written out.new)) }
     // At 0 and 3 the outputs of a run are those of the console's run, and the line of its fault was put.
-    ensures runs { IfSome (F.held files.old) (λ m. (result ≡ 0) ⊎ (result ≡ 3) → RunStands (texts words.now) m result (F.held files.new) (S.written out.old) (S.written out.new)) }
+    ensures runs { IfSome (F.held files.old) (λ m. (result ≡ 0) ⊎ (result ≡ 3)
+        → RunStands (texts words.now) m result (F.held files.new) (S.written out.old) (S.written out.new)) }
     // At 0 and 3 the files of a play hold what was built and the bytes of its frames, of its sound and of its card; its console's run is what the source
     // of what was built means, and the line of its fault was put.
-    ensures plays { IfSome (F.held files.old) (λ m. (result ≡ 0) ⊎ (result ≡ 3) → PlayStands (texts words.now) m result (F.held files.new) (S.written out.old) (S.written out.new)) }
+    ensures plays { IfSome (F.held files.old) (λ m. (result ≡ 0) ⊎ (result ≡ 3)
+        → PlayStands (texts words.now) m result (F.held files.new) (S.written out.old) (S.written out.new)) }
     // At 0 and 3 the files of a run hold the bytes of its frames, of its sound and of its card.
     ensures holds { IfSome (F.held files.old) (λ m. (result ≡ 0) ⊎ (result ≡ 3) → FilesHold (texts words.now) m (F.held files.new)) }
     // At 0 the outputs of a watch are what was built, and the line of its verdict was put, which tells exactly whether the source strays, or lacks room for
     // a frame, before the run is over.
-    ensures watches { IfSome (F.held files.old) (λ m. result ≡ 0 → WatchStands (texts words.now) m (F.held files.new) (S.written out.old) (S.written out.new)) }
+    ensures watches { IfSome (F.held files.old) (λ m. result ≡ 0
+        → WatchStands (texts words.now) m (F.held files.new) (S.written out.old) (S.written out.new)) }
     // At 0 the outputs of `bounds` stand, with the assembly text, and for each function of the map the line of its bound was put, within which its calls
     // stay in each run of the cartridge, as far as the run does what the source means; a function that takes no turns has a number.
-    ensures bounded { IfSome (F.held files.old) (λ m. result ≡ 0 → BoundsStand (texts words.now) m (F.held files.new) (S.written out.old) (S.written out.new)) }
+    ensures bounded { IfSome (F.held files.old) (λ m. result ≡ 0
+        → BoundsStand (texts words.now) m (F.held files.new) (S.written out.old) (S.written out.new)) }
     // At any status each file that a command creates is as before or holds a front of its bytes, and every other file is as before.
     ensures fronts { IfSome (F.held files.old) (λ m. LeavesFronts (texts words.now) m (F.held files.new)) }
     // At 0 the files of a `gen` are the project and the source that are made up and what was built of them; its run is what that source means, and its
     // line was put.
-    ensures generates { IfSome (F.held files.old) (λ m. result ≡ 0 → GenStands (texts words.now) m (F.held files.new) (S.written out.old) (S.written out.new)) }
+    ensures generates { IfSome (F.held files.old) (λ m. result ≡ 0
+        → GenStands (texts words.now) m (F.held files.new) (S.written out.old) (S.written out.new)) }
     // A command whose words or input are refused changes no file, whatever its status.
     ensures untouched { IfSome (F.held files.old) (λ m. (e : DueRefusal) → command_refused (texts words.now) m e → F.held files.new ≡ F.held files.old) }
     // Where no call failed, the status is one that is due, or 8.
@@ -294,14 +302,16 @@ pub fn kit<F: Files, S: Sink>(alloc: Global, words: &[String], files: &mut F, ou
     ensures usage { result ≡ 1 → command_of (texts words.now) ≡ None }
     ensures no_form { command_of (texts words.now) ≡ None → (result ≡ 1) ⊎ ((result ≡ 8) ⊎ (result ≡ 9)) }
     // and at 2 the code is one of the listed codes of a source, and is 21 only where a name was missing.
-    ensures sources { result ≡ 2 → PutsSource (counts F.faults F.misses F.overs files.old) (counts F.faults F.misses F.overs files.new) (S.written out.old) (S.written out.new) }
+    ensures sources { result ≡ 2 → PutsSource (counts F.faults F.misses F.overs files.old) (counts F.faults F.misses F.overs files.new)
+        (S.written out.old) (S.written out.new) }
     // Refusals by the outside come only where a count rose, one of a limit also where the command
     // itself is over it.
     ensures missing { result ≡ 4 → Rose (F.misses files.old) (F.misses files.new) }
     ensures failed { result ≡ 5 → Rose (F.faults files.old) (F.faults files.new) }
     ensures limit { result ≡ 7 → Rose (F.overs files.old) (F.overs files.new) ⊎ IsOver (texts words.now) (F.held files.old) }
     ensures unput { result ≡ 9 → Rose (S.faults out.old) (S.faults out.new) }
-    ensures later { HasOnlyRisen (counts F.faults F.misses F.overs files.old) (counts F.faults F.misses F.overs files.new) (S.faults out.old) (S.faults out.new) }
+    ensures later { HasOnlyRisen (counts F.faults F.misses F.overs files.old) (counts F.faults F.misses F.overs files.new) (S.faults out.old)
+        (S.faults out.new) }
     ensures status { IsStatus result }
 {
     builds_are_due_or_refused();

@@ -168,7 +168,7 @@ fn judge(alloc: Global, checked: &Checked, opened: Opened) -> Result<Verdict, Ou
     verdict_of(checked.places(), watched)
 }
 
-/// What is put of a verdict.
+/// What is printed of a verdict.
 fn shown_by(verdict: Result<Verdict, OutOfMemory>) -> Result<Shown, Refusal>
     ensures { result ≡ shown_by verdict }
 {
@@ -190,7 +190,8 @@ fn write_opened<F: Files>(
     requires outputs { AreOutputs words.now.cart.now words.now.map.now made.now.built outputs }
     requires few { opened.run.count ≤ 600 }
     ensures written { (u : Setup) (count : ℕ) (frames : List ℕ) → IsOpened u count frames opened
-        → IsCarried (watch_work (watch_words_from words.now) made.now.built (verdict_at made.now.checked.places (watched_in (program made.now.checked.program) frames u count)))
+        → IsCarried (watch_work (watch_words_from words.now) made.now.built
+        (verdict_at made.now.checked.places (watched_in (program made.now.checked.program) frames u count)))
         result (F.held files.old) (F.held files.new) }
     ensures causes { HasCauses result (counts F.faults F.misses F.overs files.old) (counts F.faults F.misses F.overs files.new) }
 {
@@ -211,7 +212,8 @@ fn write_watch<F: Files>(
 ) -> Result<Shown, Refusal>
     requires room { ForSome settings.card (λ v. length v.items ≡ 0x40000) }
     requires few { settings.count ≤ 600 }
-    ensures written { IsCarried (watch_work (watch_words_from words.now) made.now.built (verdict_at made.now.checked.places (watched_in (program made.now.checked.program)
+    ensures written { IsCarried (watch_work (watch_words_from words.now) made.now.built
+        (verdict_at made.now.checked.places (watched_in (program made.now.checked.program)
         (frame_sizes made.now.built.map) (console_of cart (settings_of settings)) settings.count))) result (F.held files.old) (F.held files.new) }
     ensures causes { HasCauses result (counts F.faults F.misses F.overs files.old) (counts F.faults F.misses F.overs files.new) }
 {
@@ -220,15 +222,17 @@ fn write_watch<F: Files>(
     write_opened(alloc, files, made, outputs, opened, words)
 }
 
-/// `watch project cart map pads count card`. The line of the verdict is put later.
+/// `watch project cart map pads count card`. The line of the verdict is printed later.
 #[tactic(auto, using(kit_tools::proofs::Own::wider_causes))]
 pub fn watch_command<F: Files>(
     alloc: Global,
     files: &mut F,
     words: &WatchWords<'_>,
 ) -> Result<Shown, Refusal>
-    ensures told { IfSome (F.held files.old) (λ m. LeavesBy result (watch_due (watch_words_from words.now) m) (watch_reads (watch_words_from words.now) m) m (F.held files.new)) }
-    ensures causes { HasCausesOr (IsLarge words.now.project.now (F.held files.old) ⊎ (is_watch_count (number_of words.now.count.now) ≡ false)) result (counts F.faults F.misses F.overs files.old) (counts F.faults F.misses F.overs files.new) }
+    ensures told { IfSome (F.held files.old)
+        (λ m. LeavesBy result (watch_due (watch_words_from words.now) m) (watch_reads (watch_words_from words.now) m) m (F.held files.new)) }
+    ensures causes { HasCausesOr (IsLarge words.now.project.now (F.held files.old) ⊎ (is_watch_count (number_of words.now.count.now) ≡ false)) result
+        (counts F.faults F.misses F.overs files.old) (counts F.faults F.misses F.overs files.new) }
 {
     let text = read_file(alloc, files, words.project)?;
     let made = build_watchable(alloc, files, words.project, &text)?;

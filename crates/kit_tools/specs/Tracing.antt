@@ -44,7 +44,8 @@ trace_due cart answers card steps held = do
 
 -- All files were as they should, no file was changed, and the text of the run was put: a line for
 -- each port operation and one for the end.
-pub record IsTraced (cart answers : List ℕ) (card : Option (List ℕ)) (steps : List ℕ) (held : Held) (after : Option Held) (before put : Option (List ℕ)) : Type 0 where
+pub record IsTraced (cart answers : List ℕ) (card : Option (List ℕ)) (steps : List ℕ) (held : Held) (after : Option Held)
+    (before put : Option (List ℕ)) : Type 0 where
   pub value : Cartridge
   pub list : List ℕ
   pub words : Option (List ℕ)

@@ -7,7 +7,8 @@ ghost use Rattle.assembler.specs.Faults.{fault_of};
 ghost use Rattle.cart_format.specs.Cartridge.{is_cart, total};
 ghost use Rattle.kit_tools.specs.Carrying.{FailsAt, GivesBy, Leaves};
 ghost use Rattle.kit_tools.specs.Causes.{HasCauses, HasCausesOr, IsOwn, counts};
-ghost use Rattle.kit_tools.specs.Converting.{assembled_due, disassembled_due, made_due, migrated_due, no_items, no_words, placed_unless, convert_due, ConvertsLong};
+ghost use Rattle.kit_tools.specs.Converting.{assembled_due, disassembled_due, made_due, migrated_due, no_items, no_words, placed_unless, convert_due};
+ghost use Rattle.kit_tools.specs.Converting.{ConvertsLong};
 ghost use Rattle.kit_tools.specs.Inputs.{or_refused};
 ghost use Rattle.kit_tools.specs.Migration.{IsLong, in_second, second_due};
 
@@ -52,7 +53,8 @@ fn migrated<F: Files>(alloc: Global, files: &mut F, cart: &str) -> Result<Vec<u8
     ensures held { F.held files.new ≡ F.held files.old }
     ensures told { IfSome (F.held files.old) (λ m. GivesBy (λ v. v.items) result (migrated_due cart.now m)) }
     ensures fails { IfErr result (FailsAt (cart.now ∷ [])) }
-    ensures causes { HasCausesOr (IsLong cart.now (F.held files.old)) result (counts F.faults F.misses F.overs files.old) (counts F.faults F.misses F.overs files.new) }
+    ensures causes { HasCausesOr (IsLong cart.now (F.held files.old)) result (counts F.faults F.misses F.overs files.old)
+        (counts F.faults F.misses F.overs files.new) }
 {
     let read = read_cart_file(alloc, files, cart)?;
     let second = in_second(alloc, read)?;
@@ -159,7 +161,8 @@ fn made<F: Files>(
     ensures held { F.held files.new ≡ F.held files.old }
     ensures told { IfSome (F.held files.old) (λ m. GivesBy (λ v. v.items) result (made_due conversion source.now m)) }
     ensures fails { IfErr result (FailsAt (source.now ∷ [])) }
-    ensures causes { HasCausesOr (ConvertsLong conversion source.now (F.held files.old)) result (counts F.faults F.misses F.overs files.old) (counts F.faults F.misses F.overs files.new) }
+    ensures causes { HasCausesOr (ConvertsLong conversion source.now (F.held files.old)) result (counts F.faults F.misses F.overs files.old)
+        (counts F.faults F.misses F.overs files.new) }
 {
     match conversion {
         Conversion::Migrate => migrated(alloc, files, source),
@@ -177,8 +180,10 @@ pub fn convert_command<F: Files>(
     source: &str,
     target: &str,
 ) -> Result<Shown, Refusal>
-    ensures told { IfSome (F.held files.old) (λ m. Leaves result (convert_due conversion source.now target.now m) (Contains (source.now ∷ [])) m (F.held files.new)) }
-    ensures causes { HasCausesOr (ConvertsLong conversion source.now (F.held files.old)) result (counts F.faults F.misses F.overs files.old) (counts F.faults F.misses F.overs files.new) }
+    ensures told { IfSome (F.held files.old) (λ m. Leaves result (convert_due conversion source.now target.now m) (Contains (source.now ∷ [])) m
+        (F.held files.new)) }
+    ensures causes { HasCausesOr (ConvertsLong conversion source.now (F.held files.old)) result (counts F.faults F.misses F.overs files.old)
+        (counts F.faults F.misses F.overs files.new) }
 {
     let bytes = made(alloc, files, conversion, source)?;
     write_output(alloc, files, target, &bytes)?;

@@ -147,7 +147,7 @@ fn due_line(alloc: Global, refusal: &DueRefusal) -> Result<Vec<u8>, AllocError>
     }
 }
 
-/// The line that is put, with its LF.
+/// The line that is printed, with its LF.
 pub fn line_of(alloc: Global, refusal: &Refusal) -> Result<Vec<u8>, AllocError>
     ensures { IfOk result (λ v. v.items ≡ line_of refusal.now) }
 {

@@ -10,7 +10,8 @@ ghost use Rattle.run_core.specs.Stands.{RunStands};
 ghost use Rattle.run_core.specs.Writing.{HasRisen, IsCut as IsCutAt, IsNamed};
 ghost use Rattle.kit_tools.specs.Carrying.{FailsAt, FailsIn, GivesBy, IsCut, Leaves};
 ghost use Rattle.kit_tools.specs.Causes.{HasCause, HasCauses, HasCausesOr, IsOwn, Counts, counts};
-ghost use Rattle.kit_tools.specs.Running.{run_due, Game, count_up_to, game_due, is_count, is_up_to, names_in, no_pads, pads_due, settings_due, settings_up_to, IsReadToSetBy, IsReadToSet, IsReadToRun};
+ghost use Rattle.kit_tools.specs.Running.{run_due, Game, count_up_to, game_due, is_count, is_up_to, names_in, no_pads, pads_due, settings_due};
+ghost use Rattle.kit_tools.specs.Running.{settings_up_to, IsReadToSetBy, IsReadToSet, IsReadToRun};
 ghost use Rattle.kit_tools.specs.Watching.{is_watch_count, watch_settings_due, IsReadToSetWatch};
 ghost use Rattle.kit_tools.specs.Inputs.{or_refused};
 ghost use Rattle.kit_words.specs.Parsed.{run_words_from, watch_words_from};
@@ -51,7 +52,7 @@ pub struct LoadedSettings {
     pub count: u32,
 }
 
-/// The frames of a number word, at most so many.
+/// The number of frames that a word gives, at most `greatest`.
 fn count_up_to(alloc: Global, greatest: u32, word: &str) -> Result<u32, Refusal>
     requires { greatest ≤ 3600 }
     ensures given { GivesBy (λ n. n) result (count_up_to greatest word.now) }
@@ -97,7 +98,7 @@ fn read_pads_file<F: Files>(alloc: Global, files: &mut F, name: &str) -> Result<
     pads_of_text(alloc, name, &text)
 }
 
-/// What these words run beside a cartridge, for at most so many frames.
+/// What these words run beside a cartridge, for at most `greatest` frames.
 fn settings_up_to<F: Files>(
     alloc: Global,
     files: &mut F,
@@ -108,9 +109,11 @@ fn settings_up_to<F: Files>(
 ) -> Result<LoadedSettings, Refusal>
     requires { greatest ≤ 3600 }
     ensures held { F.held files.new ≡ F.held files.old }
-    ensures told { IfSome (F.held files.old) (λ m. GivesBy settings_of result (settings_up_to greatest pads.now (option_map (λ word. word.now) card.entry) count.now m)) }
+    ensures told { IfSome (F.held files.old)
+        (λ m. GivesBy settings_of result (settings_up_to greatest pads.now (option_map (λ word. word.now) card.entry) count.now m)) }
     ensures fails { IfSome (F.held files.old) (λ m. IfErr result (FailsIn (IsReadToSetBy pads.now (option_map (λ word. word.now) card.entry) m))) }
-    ensures causes { HasCausesOr (is_up_to greatest (number_of count.now) ≡ false) result (counts F.faults F.misses F.overs files.old) (counts F.faults F.misses F.overs files.new) }
+    ensures causes { HasCausesOr (is_up_to greatest (number_of count.now) ≡ false) result (counts F.faults F.misses F.overs files.old)
+        (counts F.faults F.misses F.overs files.new) }
     ensures room { IfOk result (λ s. ForSome s.card (λ v. length v.items ≡ 0x40000)) }
     ensures few { IfOk result (λ s. s.count ≤ greatest) }
 {
@@ -129,7 +132,8 @@ pub fn read_settings<F: Files>(
     ensures held { F.held files.new ≡ F.held files.old }
     ensures told { IfSome (F.held files.old) (λ m. GivesBy settings_of result (settings_due (run_words_from words.now) m)) }
     ensures fails { IfSome (F.held files.old) (λ m. IfErr result (FailsIn (IsReadToSet (run_words_from words.now) m))) }
-    ensures causes { HasCausesOr (is_count (number_of words.now.count.now) ≡ false) result (counts F.faults F.misses F.overs files.old) (counts F.faults F.misses F.overs files.new) }
+    ensures causes { HasCausesOr (is_count (number_of words.now.count.now) ≡ false) result (counts F.faults F.misses F.overs files.old)
+        (counts F.faults F.misses F.overs files.new) }
     ensures room { IfOk result (λ s. ForSome s.card (λ v. length v.items ≡ 0x40000)) }
     ensures few { IfOk result (λ s. s.count ≤ 3600) }
 {
@@ -152,7 +156,8 @@ pub fn read_watch_settings<F: Files>(
     ensures held { F.held files.new ≡ F.held files.old }
     ensures told { IfSome (F.held files.old) (λ m. GivesBy settings_of result (watch_settings_due (watch_words_from words.now) m)) }
     ensures fails { IfSome (F.held files.old) (λ m. IfErr result (FailsIn (IsReadToSetWatch (watch_words_from words.now) m))) }
-    ensures causes { HasCausesOr (is_watch_count (number_of words.now.count.now) ≡ false) result (counts F.faults F.misses F.overs files.old) (counts F.faults F.misses F.overs files.new) }
+    ensures causes { HasCausesOr (is_watch_count (number_of words.now.count.now) ≡ false) result (counts F.faults F.misses F.overs files.old)
+        (counts F.faults F.misses F.overs files.new) }
     ensures room { IfOk result (λ s. ForSome s.card (λ v. length v.items ≡ 0x40000)) }
     ensures few { IfOk result (λ s. s.count ≤ 600) }
 {
@@ -175,7 +180,8 @@ fn read_game<F: Files>(
     ensures held { F.held files.new ≡ F.held files.old }
     ensures told { IfSome (F.held files.old) (λ m. GivesBy game_of result (game_due (run_words_from words.now) m)) }
     ensures fails { IfSome (F.held files.old) (λ m. IfErr result (FailsIn (IsReadToRun (run_words_from words.now) m))) }
-    ensures causes { HasCausesOr (is_count (number_of words.now.count.now) ≡ false) result (counts F.faults F.misses F.overs files.old) (counts F.faults F.misses F.overs files.new) }
+    ensures causes { HasCausesOr (is_count (number_of words.now.count.now) ≡ false) result (counts F.faults F.misses F.overs files.old)
+        (counts F.faults F.misses F.overs files.new) }
     ensures room { IfOk result (λ g. ForSome g.card (λ v. length v.items ≡ 0x40000)) }
     ensures few { IfOk result (λ g. g.count ≤ 3600) }
 {
@@ -309,15 +315,17 @@ fn write_game<F: Files>(
     write_outputs(files, opened.run, opened.ending, opened.own, words)
 }
 
-/// `run cart pads frames samples count card`. The line of a fault is put later.
+/// `run cart pads frames samples count card`. The line of a fault is printed later.
 #[tactic(auto, using(crate::proofs::Own::wider_causes))]
 pub fn run_command<F: Files>(
     alloc: Global,
     files: &mut F,
     words: &RunWords<'_>,
 ) -> Result<Shown, Refusal>
-    ensures told { IfSome (F.held files.old) (λ m. Leaves result (run_due (run_words_from words.now) m) (IsReadToRun (run_words_from words.now) m) m (F.held files.new)) }
-    ensures causes { HasCausesOr (is_count (number_of words.now.count.now) ≡ false) result (counts F.faults F.misses F.overs files.old) (counts F.faults F.misses F.overs files.new) }
+    ensures told { IfSome (F.held files.old) (λ m. Leaves result (run_due (run_words_from words.now) m) (IsReadToRun (run_words_from words.now) m) m
+        (F.held files.new)) }
+    ensures causes { HasCausesOr (is_count (number_of words.now.count.now) ≡ false) result (counts F.faults F.misses F.overs files.old)
+        (counts F.faults F.misses F.overs files.new) }
 {
     let game = read_game(alloc, files, words)?;
     write_game(alloc, files, game, words)

@@ -41,9 +41,11 @@ fn open_trace<F: Files>(
     steps: &str,
 ) -> Result<Trace, Refusal>
     ensures held { F.held files.new ≡ F.held files.old }
-    ensures told { IfSome (F.held files.old) (λ m. GivesBy trace_text result (traced_due cart.now answers.now (option_map (λ word. word.now) card.entry) steps.now m)) }
+    ensures told { IfSome (F.held files.old)
+        (λ m. GivesBy trace_text result (traced_due cart.now answers.now (option_map (λ word. word.now) card.entry) steps.now m)) }
     ensures fails { IfSome (F.held files.old) (λ m. IfErr result (FailsIn (IsReadToTrace cart.now answers.now (option_map (λ word. word.now) card.entry) m))) }
-    ensures causes { HasCausesOr (10000000 < number_of steps.now) result (counts F.faults F.misses F.overs files.old) (counts F.faults F.misses F.overs files.new) }
+    ensures causes { HasCausesOr (10000000 < number_of steps.now) result (counts F.faults F.misses F.overs files.old)
+        (counts F.faults F.misses F.overs files.new) }
 {
     let read = read_cart_file(alloc, files, cart)?;
     let answers = read_answers_file(alloc, files, answers)?;
@@ -57,7 +59,7 @@ fn open_trace<F: Files>(
     })
 }
 
-/// `trace cart answers card steps`. Nothing is created, and its text is put later.
+/// `trace cart answers card steps`. Nothing is created, and its text is printed later.
 pub fn trace_command<F: Files>(
     alloc: Global,
     files: &mut F,
@@ -68,7 +70,8 @@ pub fn trace_command<F: Files>(
 ) -> Result<Shown, Refusal>
     ensures told { IfSome (F.held files.old) (λ m. Leaves result (trace_due cart.now answers.now (option_map (λ word. word.now) card.entry) steps.now m)
         (IsReadToTrace cart.now answers.now (option_map (λ word. word.now) card.entry) m) m (F.held files.new)) }
-    ensures causes { HasCausesOr (10000000 < number_of steps.now) result (counts F.faults F.misses F.overs files.old) (counts F.faults F.misses F.overs files.new) }
+    ensures causes { HasCausesOr (10000000 < number_of steps.now) result (counts F.faults F.misses F.overs files.old)
+        (counts F.faults F.misses F.overs files.new) }
 {
     let trace = open_trace(alloc, files, cart, answers, card, steps)?;
     Ok(Shown::Run(trace))

@@ -3,7 +3,8 @@ use Rattle.std.specs.Prelude.{ℕ, Bool, true, ◌&&◌, List, [], ◌∷◌, ma
 use Rattle.std.specs.List.{list_all}
 use Rattle.std.specs.declared.alloc.Global.{Global}
 use Rattle.kit_words.specs.declared.conversion.Conversion.{Conversion}
-use Rattle.kit_words.specs.Forms.{Form, Builds, Checks, Converts, Runs, Plays, Watches, TellsBounds, Traces, Generates, are_as_many, are_different, card_of, created_by, form_named, is_number, is_word, number_in, words_of}
+use Rattle.kit_words.specs.Forms.{Form, Builds, Checks, Converts, Runs, Plays, Watches, TellsBounds, Traces, Generates, are_as_many, are_different}
+use Rattle.kit_words.specs.Forms.{card_of, created_by, form_named, is_number, is_word, number_in, words_of}
 
 -- the words of a run; its card is `none` or a file's name
 pub record RunWords : Type 0 where

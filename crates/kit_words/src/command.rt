@@ -5,7 +5,8 @@ ghost use Rattle.std.specs.Str.{bytes_eq};
 ghost use Rattle.clap.specs.Words.{found_of, rows_of, subcommand_rows_of};
 ghost use Rattle.clap.specs.Walk.{first_of};
 ghost use Rattle.clap.specs.declared.error.kind.ErrorKind.TheVariants.{OutOfMemory};
-ghost use Rattle.kit_words.specs.Forms.{Builds, Checks, Converts, Generates, Plays, Runs, TellsBounds, Traces, Watches, are_different, card_of, is_number, is_word, source_name};
+ghost use Rattle.kit_words.specs.Forms.{Builds, Checks, Converts, Generates, Plays, Runs, TellsBounds, Traces, Watches, are_different, card_of};
+ghost use Rattle.kit_words.specs.Forms.{is_number, is_word, source_name};
 ghost use Rattle.kit_words.specs.Command.{command_of, is_number_if_there, texts};
 ghost use Rattle.kit_words.specs.inner.CommandLine.{checked, command_in, form_in, given_to, texts_of};
 ghost use Rattle.kit_words.specs.Created.{created_names, number_word, run_names};
@@ -368,7 +369,7 @@ fn gen_in<'a>(given: &ArgMatches<'a>) -> Option<Command<'a>>
     })
 }
 
-#[tactic(auto, unfolding(crate::specs::CommandLine::form_in, crate::specs::Forms::form_named))]
+#[tactic(auto, unfolding(crate::specs::inner::CommandLine::form_in, crate::specs::Forms::form_named))]
 fn form_in<'a>(name: &str, given: &ArgMatches<'a>) -> Option<Command<'a>>
     ensures { option_map command_from result ≡ form_in name.now (rows_of (found_of given.now)) }
 {
@@ -407,7 +408,7 @@ fn command_in<'a>(matches: &ArgMatches<'a>) -> Option<Command<'a>>
     form_in(name, given)
 }
 
-/// What a refusal of that kind comes to: want of memory stays one, and any other says that the words
+/// What a refusal of that kind becomes: want of memory stays one, and any other says that the words
 /// are no listed form.
 fn refused<'a>(kind: ErrorKind) -> Result<Option<Command<'a>>, Memory>
     ensures { IfOk result (λ command. (command ≡ None) × (kind ≡ OutOfMemory → ⊥)) }

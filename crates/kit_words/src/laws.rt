@@ -12,8 +12,10 @@ pub fn commands_are_tested()
 
 /// The files that a command creates and reads are those that the table lists for its form.
 pub fn commands_are_listed()
-    ensures created { (name : List ℕ) (arguments : List (List ℕ)) (command : Command) → command_of (name ∷ arguments) ≡ Some command → option_map (λ form. created_by form arguments) (form_named name) ≡ Some (created_names command) }
-    ensures read { (name : List ℕ) (arguments : List (List ℕ)) (command : Command) → command_of (name ∷ arguments) ≡ Some command → option_map (λ form. read_in (words_of form) arguments) (form_named name) ≡ Some (read_names command) }
+    ensures created { (name : List ℕ) (arguments : List (List ℕ)) (command : Command) → command_of (name ∷ arguments) ≡ Some command
+        → option_map (λ form. created_by form arguments) (form_named name) ≡ Some (created_names command) }
+    ensures read { (name : List ℕ) (arguments : List (List ℕ)) (command : Command) → command_of (name ∷ arguments) ≡ Some command
+        → option_map (λ form. read_in (words_of form) arguments) (form_named name) ≡ Some (read_names command) }
 {}
 
 /// Each form of the table is found by its name, and as many words as it lists make a command.

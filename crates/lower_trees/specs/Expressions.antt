@@ -8,7 +8,8 @@ use Rattle.c_tree.specs.declared.operator.BinOp.TheVariants.{AndAlso, OrElse}
 use Rattle.c_tree.specs.declared.operator.StepOp.{StepOp}
 use Rattle.c_tree.specs.declared.operator.StepOp.TheVariants.{PreUp, PreDown, PostUp, PostDown}
 use Rattle.c_types.specs.Types.{Ty, VoidY, ArrayY}
-use Rattle.c_types.specs.Typed.{TExprT, Typed, TKindT, NumberK, NullK, LiteralK, GlobalK, LocalK, UnaryK, BinaryK, AssignK, StepK, IndexK, MemberK, ArrowK, CastK, CallK, InK, OutK, WaitK, HaltK, CardK, TExprTs, NoX, MoreX}
+use Rattle.c_types.specs.Typed.{TExprT, Typed, TKindT, NumberK, NullK, LiteralK, GlobalK, LocalK, UnaryK, BinaryK, AssignK, StepK, IndexK, MemberK}
+use Rattle.c_types.specs.Typed.{ArrowK, CastK, CallK, InK, OutK, WaitK, HaltK, CardK, TExprTs, NoX, MoreX}
 use Rattle.c_exprs.specs.Nodes.{is_place}
 use Rattle.c_meaning.specs.Kinds.{type_of, is_structure, decayed, pointed}
 use Rattle.v32_isa.specs.declared.instruction.One.TheVariants.{ISGN, NOT}
@@ -100,7 +101,8 @@ step_taken h PostDown x place t n m c = place n (n + 2) m (stepped_to h PostDown
 -- ---- elements and members
 
 abbrev pub index : Shape → Ty → (x y : TExprT) → (first last : Low) → Low
-index h ty x y first last t n m c = value h x first n (n + 1) m (value h y last (second x n) (second x n + 1) (beyond h x m) (stepped (words h ty) t n (second x n) c))
+index h ty x y first last t n m c = value h x first n (n + 1) m
+    (value h y last (second x n) (second x n + 1) (beyond h x m) (stepped (words h ty) t n (second x n) c))
 
 -- a scalar member of a structure that is a value, and no place, is read
 abbrev pub member_of : (place : Bool) → Ty → (t : ℕ) → Nodes → Nodes

@@ -7,7 +7,8 @@ use Rattle.c_tree.specs.declared.operator.BinOp.TheVariants.{AndAlso, OrElse}
 use Rattle.c_tree.specs.declared.operator.StepOp.{StepOp}
 use Rattle.c_tree.specs.declared.operator.StepOp.TheVariants.{PreUp, PreDown, PostUp, PostDown}
 use Rattle.c_types.specs.Types.{Ty, ArrayY}
-use Rattle.c_types.specs.Typed.{TExprT, Typed, TKindT, NumberK, NullK, LiteralK, GlobalK, LocalK, UnaryK, BinaryK, AssignK, StepK, IndexK, MemberK, ArrowK, CastK, CallK, InK, OutK, WaitK, HaltK, CardK, TExprTs, NoX, MoreX}
+use Rattle.c_types.specs.Typed.{TExprT, Typed, TKindT, NumberK, NullK, LiteralK, GlobalK, LocalK, UnaryK, BinaryK, AssignK, StepK, IndexK, MemberK}
+use Rattle.c_types.specs.Typed.{ArrowK, CastK, CallK, InK, OutK, WaitK, HaltK, CardK, TExprTs, NoX, MoreX}
 use Rattle.c_exprs.specs.Nodes.{is_place}
 use Rattle.c_meaning.specs.Kinds.{type_of, is_structure, decayed, pointed}
 use Rattle.v32_isa.specs.declared.instruction.One.TheVariants.{ISGN, NOT}
@@ -17,7 +18,8 @@ use Rattle.lower_trees.specs.Shape.{Shape, words, params_of, result_of}
 use Rattle.lower_trees.specs.Flags.{is_flag, tests_flag}
 use Rattle.lower_trees.specs.Counts.{temps, sizes, sizes_all}
 use Rattle.lower_trees.specs.Expressions.{is_void, second, beyond, behind_place, spots, later_types}
-use Rattle.lower_trees.specs.ListedParts.{Listing, moved_by, structure_read, as_flag, converted, stored, stepped, operated, one_more, one_less, tested_as, negated_as}
+use Rattle.lower_trees.specs.ListedParts.{Listing, moved_by, structure_read, as_flag, converted, stored, stepped, operated, one_more, one_less}
+use Rattle.lower_trees.specs.ListedParts.{tested_as, negated_as}
 
 abbrev pub Lists : Type 0
 Lists = (t n m : ℕ) → Listing

@@ -1,7 +1,8 @@
 -- Lowered statements as lists of nodes.
 use Rattle.std.specs.Prelude.{ℕ, suc, ◌+◌, Bool, true, false, is_some, List, [], ◌∷◌, ◌++◌, length, Option, Some, None, if◌then◌else◌}
 use Rattle.c_types.specs.Types.{Ty}
-use Rattle.c_types.specs.Typed.{TExprT, TStmtT, BlockZ, EmptyZ, VarsZ, DoZ, IfZ, WhileZ, DoWhileZ, ForZ, SwitchZ, ReturnZ, BreakZ, ContinueZ, MaybeZ, NoneZ, SomeZ, TStmtTs, NoZ, MoreZ, TArmT, CaseB, DefaultB, StmtB, TArmTs, NoB, MoreB}
+use Rattle.c_types.specs.Typed.{TExprT, TStmtT, BlockZ, EmptyZ, VarsZ, DoZ, IfZ, WhileZ, DoWhileZ, ForZ, SwitchZ, ReturnZ, BreakZ, ContinueZ, MaybeZ}
+use Rattle.c_types.specs.Typed.{NoneZ, SomeZ, TStmtTs, NoZ, MoreZ, TArmT, CaseB, DefaultB, StmtB, TArmTs, NoB, MoreB}
 use Rattle.c_meaning.specs.Kinds.{is_structure}
 use Rattle.v32_isa.specs.declared.instruction.Two.TheVariants.{IEQ, ISUB}
 use Rattle.mid_code.specs.declared.node.Op.TheVariants as o
@@ -59,7 +60,8 @@ turns h test step a body n m =
 abbrev pub low_match : (t i default : ℕ) → TArmTs → Listing
 low_match t i d NoB = DoN (o.Const t d) ∷ []
 low_match t i d (MoreB (CaseB label) rest) =
-    (DoN (o.Const other label) ∷ DoN (o.Two IEQ other t other) ∷ ChooseN other (listed (DoN (o.Const t i) ∷ LeaveN 0 ∷ [])) (listed []) ∷ []) ++ low_match t (suc i) d rest
+    (DoN (o.Const other label) ∷ DoN (o.Two IEQ other t other) ∷ ChooseN other (listed (DoN (o.Const t i) ∷ LeaveN 0 ∷ [])) (listed []) ∷ [])
+    ++ low_match t (suc i) d rest
 low_match t i d (MoreB DefaultB rest) = low_match t (suc i) d rest
 low_match t i d (MoreB (StmtB a) rest) = low_match t i d rest
 

@@ -36,7 +36,8 @@ first_of tys = first_param + length tys
 
 -- The body stands in a block, which a `break` outside of loops leaves.
 abbrev pub low_body : Shape → TFunctionT → Nodes
-low_body h f = made f.made (all_received h f.params 0 first_param (Block (low_stmts h f.gives f.body (first_of f.params) (length f.locals) 0 (ToEnd 0) Stop) Stop))
+low_body h f = made f.made (all_received h f.params 0 first_param
+    (Block (low_stmts h f.gives f.body (first_of f.params) (length f.locals) 0 (ToEnd 0) Stop) Stop))
 
 abbrev pub low_function : Shape → TFunctionT → FunctionT ℕ
 low_function h f = record {

@@ -6,7 +6,8 @@ use Rattle.c_types.specs.Types.{Ty, BoolY, PointerY}
 use Rattle.c_meaning.specs.Kinds.{decayed, pointed, is_pointer, is_structure}
 use Rattle.v32_isa.specs.declared.instruction.One.TheVariants.{CIB, ISGN, BNOT}
 use Rattle.v32_isa.specs.declared.instruction.Two.TheVariants.{IEQ, INE, IGT, IGE, ILT, ILE, AND, OR, XOR, SHL, IADD, ISUB, IMUL, IDIV, IMOD}
-use Rattle.mid_code.specs.Code.{ConstO, NullO, MoveO, OneO, TwoO, LocalO, StepO, ApartO, PtrTestO, LoadO, StoreO, FreshO, NodesT, Stop, Do, Choose, Loop, Again}
+use Rattle.mid_code.specs.Code.{ConstO, NullO, MoveO, OneO, TwoO, LocalO, StepO, ApartO, PtrTestO, LoadO, StoreO, FreshO, NodesT, Stop, Do, Choose}
+use Rattle.mid_code.specs.Code.{Loop, Again}
 use Rattle.lower_trees.specs.Shape.{Shape, words}
 
 abbrev pub Nodes : Type 0
@@ -58,7 +59,8 @@ first_param = 16
 
 -- One turn per cell. The pointers stand in `from` and `to`.
 abbrev pub copy_turn : Nodes
-copy_turn = Do (LoadO cell from) (Do (StoreO to cell) (Do (TwoO ISUB count count one) (Choose count (Do (StepO from from one) (Do (StepO to to one) (Again 0 Stop))) Stop Stop)))
+copy_turn = Do (LoadO cell from) (Do (StoreO to cell)
+    (Do (TwoO ISUB count count one) (Choose count (Do (StepO from from one) (Do (StepO to to one) (Again 0 Stop))) Stop Stop)))
 
 abbrev pub zero_turn : Nodes
 zero_turn = Do (StoreO to cell) (Do (TwoO ISUB count count one) (Choose count (Do (StepO to to one) (Again 0 Stop)) Stop Stop))

@@ -1,7 +1,8 @@
 -- Statements lowered to mid code. Their temporaries are those from n on, the locals of the structures that they make those from m on.
 use Rattle.std.specs.Prelude.{ℕ, suc, ◌+◌, length, Option, Some, None, if◌then◌else◌}
 use Rattle.c_types.specs.Types.{Ty}
-use Rattle.c_types.specs.Typed.{TExprT, TStmtT, BlockZ, EmptyZ, VarsZ, DoZ, IfZ, WhileZ, DoWhileZ, ForZ, SwitchZ, ReturnZ, BreakZ, ContinueZ, MaybeZ, NoneZ, SomeZ, TStmtTs, NoZ, MoreZ, CaseB, DefaultB, StmtB, TArmTs, NoB, MoreB}
+use Rattle.c_types.specs.Typed.{TExprT, TStmtT, BlockZ, EmptyZ, VarsZ, DoZ, IfZ, WhileZ, DoWhileZ, ForZ, SwitchZ, ReturnZ, BreakZ, ContinueZ, MaybeZ}
+use Rattle.c_types.specs.Typed.{NoneZ, SomeZ, TStmtTs, NoZ, MoreZ, CaseB, DefaultB, StmtB, TArmTs, NoB, MoreB}
 use Rattle.c_meaning.specs.Kinds.{is_structure}
 use Rattle.v32_isa.specs.declared.instruction.Two.TheVariants.{IEQ, ISUB}
 use Rattle.mid_code.specs.Code.{ConstO, MoveO, TwoO, Stop, Do, Choose, Block, Loop, Leave, Again, Return}

@@ -81,7 +81,7 @@ fn zero_turn(alloc: Global) -> Result<Vec<Node<u32>>, Memory>
     Ok(turn)
 }
 
-/// Copies so many cells.
+/// Copies `size` cells.
 pub(crate) fn copy_cells(alloc: Global, out: &mut Vec<Node<u32>>, size: u32) -> Result<(), Memory>
     ensures { OnOk result (map node out.new.items ≡ map node out.old.items ++ copied size) }
 {
@@ -95,7 +95,7 @@ pub(crate) fn copy_cells(alloc: Global, out: &mut Vec<Node<u32>>, size: u32) -> 
     Ok(())
 }
 
-/// Sets so many cells to 0.
+/// Sets `size` cells to 0.
 pub(crate) fn zero_cells(alloc: Global, out: &mut Vec<Node<u32>>, size: u32) -> Result<(), Memory>
     ensures { OnOk result (map node out.new.items ≡ map node out.old.items ++ zeroed size) }
 {
@@ -107,7 +107,7 @@ pub(crate) fn zero_cells(alloc: Global, out: &mut Vec<Node<u32>>, size: u32) -> 
     Ok(())
 }
 
-/// A pointer so many words behind that in p comes to t.
+/// Puts the pointer in `p`, moved on by `offset` words, into `t`.
 pub(crate) fn move_by(out: &mut Vec<Node<u32>>, t: u32, p: u32, offset: u32) -> Result<(), Memory>
     ensures { OnOk result (map node out.new.items ≡ map node out.old.items ++ moved_by t p offset) }
 {
@@ -115,7 +115,7 @@ pub(crate) fn move_by(out: &mut Vec<Node<u32>>, t: u32, p: u32, offset: u32) -> 
     put(out, Op::Step(t, p, t))
 }
 
-/// Copies the structure at the place in t to a local, a pointer to which comes to t.
+/// Copies the structure at the place in `t` to a local, and puts a pointer to that into `t`.
 pub(crate) fn read_structure(
     alloc: Global,
     out: &mut Vec<Node<u32>>,

@@ -28,7 +28,7 @@ use kit_base::Memory;
 use mid_code::{Node, Op};
 use v32_isa::One;
 
-/// What an expression comes to, its place or its value, comes to t.
+/// Computes an expression's place or value into temporary `t`.
 #[cycle(lower)]
 #[tactic(auto, using(crate::proofs::Joins::length_both))]
 pub(crate) fn low(
@@ -49,7 +49,7 @@ pub(crate) fn low(
     kind(s, &x.kind, &x.ty, t, at, out, structures)
 }
 
-/// The value of an expression comes to t.
+/// Computes an expression's value into temporary `t`.
 #[cycle(lower)]
 #[tactic(auto, using(crate::proofs::Joins::length_both))]
 pub(crate) fn value(
@@ -93,10 +93,14 @@ fn structure(
 ) -> Result<At, Memory>
     requires temps { at.next + (temps (texpr x.now) + 1) ≤ 1000000 }
     requires locals { at.local + length (sizes (shape_of s.now) (texpr x.now) ++ words (shape_of s.now) (type_of (texpr x.now)) ∷ []) ≤ 1000000 }
-    ensures nodes { OnOk result (map node out.new.items ≡ map node out.old.items ++ (low (shape_of s.now) (texpr x.now) t (at.next + 1) at.local ++ structure_read (words (shape_of s.now) (type_of (texpr x.now))) (at.local + length (sizes (shape_of s.now) (texpr x.now))) t)) }
-    ensures sizes { OnOk result (structures.new.items ≡ structures.old.items ++ sizes (shape_of s.now) (texpr x.now) ++ words (shape_of s.now) (type_of (texpr x.now)) ∷ []) }
+    ensures nodes { OnOk result (map node out.new.items ≡ map node out.old.items
+        ++ (low (shape_of s.now) (texpr x.now) t (at.next + 1) at.local
+        ++ structure_read (words (shape_of s.now) (type_of (texpr x.now))) (at.local + length (sizes (shape_of s.now) (texpr x.now))) t)) }
+    ensures sizes { OnOk result (structures.new.items ≡ structures.old.items ++ sizes (shape_of s.now) (texpr x.now)
+        ++ words (shape_of s.now) (type_of (texpr x.now)) ∷ []) }
     ensures next { IfOk result (λ r. r.next ≡ at.next + (temps (texpr x.now) + 1)) }
-    ensures local { IfOk result (λ r. r.local ≡ at.local + length (sizes (shape_of s.now) (texpr x.now) ++ words (shape_of s.now) (type_of (texpr x.now)) ∷ [])) }
+    ensures local { IfOk result (λ r. r.local ≡ at.local + length (sizes (shape_of s.now) (texpr x.now)
+        ++ words (shape_of s.now) (type_of (texpr x.now)) ∷ [])) }
 {
     let done = low(s, x, t, from(at.next + 1, at.local), out, structures)?;
     take_structure(s, out, structures, &x.ty, t, done)
@@ -115,7 +119,8 @@ fn cell(
 ) -> Result<At, Memory>
     requires temps { at.next + (temps (texpr x.now) + 1) ≤ 1000000 }
     requires locals { at.local + length (sizes (shape_of s.now) (texpr x.now)) ≤ 1000000 }
-    ensures nodes { OnOk result (map node out.new.items ≡ map node out.old.items ++ (low (shape_of s.now) (texpr x.now) at.next (at.next + 1) at.local ++ (DoN (Op.Load t at.next) ∷ []))) }
+    ensures nodes { OnOk result (map node out.new.items ≡ map node out.old.items
+        ++ (low (shape_of s.now) (texpr x.now) at.next (at.next + 1) at.local ++ (DoN (Op.Load t at.next) ∷ []))) }
     ensures sizes { OnOk result (structures.new.items ≡ structures.old.items ++ sizes (shape_of s.now) (texpr x.now)) }
     ensures next { IfOk result (λ r. r.next ≡ at.next + (temps (texpr x.now) + 1)) }
     ensures local { IfOk result (λ r. r.local ≡ at.local + length (sizes (shape_of s.now) (texpr x.now))) }
@@ -124,7 +129,7 @@ fn cell(
     put_last(out, Op::Load(t, at.next), done)
 }
 
-/// What an expression of this kind and type comes to comes to t.
+/// Computes an expression of this kind and type into temporary `t`.
 #[cycle(lower)]
 #[tactic(auto, using(crate::proofs::Joins::length_both))]
 fn kind(
@@ -138,7 +143,8 @@ fn kind(
 ) -> Result<At, Memory>
     requires temps { at.next + temps_of (tkind of.now) ≤ 1000000 }
     requires locals { at.local + length (sizes_of (shape_of s.now) (tkind of.now)) ≤ 1000000 }
-    ensures nodes { OnOk result (map node out.new.items ≡ map node out.old.items ++ low_kind (shape_of s.now) (tkind of.now) (ctype ty.now) t at.next at.local) }
+    ensures nodes { OnOk result (map node out.new.items ≡ map node out.old.items
+        ++ low_kind (shape_of s.now) (tkind of.now) (ctype ty.now) t at.next at.local) }
     ensures sizes { OnOk result (structures.new.items ≡ structures.old.items ++ sizes_of (shape_of s.now) (tkind of.now)) }
     ensures next { IfOk result (λ r. r.next ≡ at.next + temps_of (tkind of.now)) }
     ensures local { IfOk result (λ r. r.local ≡ at.local + length (sizes_of (shape_of s.now) (tkind of.now))) }
@@ -192,7 +198,7 @@ fn kind(
     }
 }
 
-/// The value of an expression comes to t, and then comes this operation.
+/// Computes an expression's value into temporary `t`, and then does this operation.
 #[cycle(lower)]
 #[tactic(auto, using(crate::proofs::Joins::length_both))]
 fn value_then(
@@ -206,7 +212,8 @@ fn value_then(
 ) -> Result<At, Memory>
     requires temps { at.next + value_temps (texpr x.now) ≤ 1000000 }
     requires locals { at.local + length (value_sizes (shape_of s.now) (texpr x.now)) ≤ 1000000 }
-    ensures nodes { OnOk result (map node out.new.items ≡ map node out.old.items ++ (low_value (shape_of s.now) (texpr x.now) t at.next at.local ++ (DoN o ∷ []))) }
+    ensures nodes { OnOk result (map node out.new.items ≡ map node out.old.items
+        ++ (low_value (shape_of s.now) (texpr x.now) t at.next at.local ++ (DoN o ∷ []))) }
     ensures sizes { OnOk result (structures.new.items ≡ structures.old.items ++ value_sizes (shape_of s.now) (texpr x.now)) }
     ensures next { IfOk result (λ r. r.next ≡ at.next + value_temps (texpr x.now)) }
     ensures local { IfOk result (λ r. r.local ≡ at.local + length (value_sizes (shape_of s.now) (texpr x.now))) }
@@ -228,7 +235,8 @@ fn negation(
 ) -> Result<At, Memory>
     requires temps { at.next + value_temps (texpr x.now) ≤ 1000000 }
     requires locals { at.local + length (value_sizes (shape_of s.now) (texpr x.now)) ≤ 1000000 }
-    ensures nodes { OnOk result (map node out.new.items ≡ map node out.old.items ++ (low_value (shape_of s.now) (texpr x.now) t at.next at.local ++ negated_as (decayed (type_of (texpr x.now))) t)) }
+    ensures nodes { OnOk result (map node out.new.items ≡ map node out.old.items
+        ++ (low_value (shape_of s.now) (texpr x.now) t at.next at.local ++ negated_as (decayed (type_of (texpr x.now))) t)) }
     ensures sizes { OnOk result (structures.new.items ≡ structures.old.items ++ value_sizes (shape_of s.now) (texpr x.now)) }
     ensures next { IfOk result (λ r. r.next ≡ at.next + value_temps (texpr x.now)) }
     ensures local { IfOk result (λ r. r.local ≡ at.local + length (value_sizes (shape_of s.now) (texpr x.now))) }
@@ -275,7 +283,9 @@ fn operation(
 ) -> Result<At, Memory>
     requires temps { at.next + (value_temps (texpr y.now) + 1) ≤ 1000000 }
     requires locals { at.local + length (value_sizes (shape_of s.now) (texpr y.now)) ≤ 1000000 }
-    ensures nodes { OnOk result (map node out.new.items ≡ map node out.old.items ++ low_value (shape_of s.now) (texpr y.now) at.next (at.next + 1) at.local ++ operated (shape_of s.now) op (ctype ty.now) (type_of (texpr y.now)) t a at.next) }
+    ensures nodes { OnOk result (map node out.new.items ≡ map node out.old.items
+        ++ low_value (shape_of s.now) (texpr y.now) at.next (at.next + 1) at.local
+        ++ operated (shape_of s.now) op (ctype ty.now) (type_of (texpr y.now)) t a at.next) }
     ensures sizes { OnOk result (structures.new.items ≡ structures.old.items ++ value_sizes (shape_of s.now) (texpr y.now)) }
     ensures next { IfOk result (λ r. r.next ≡ at.next + (value_temps (texpr y.now) + 1)) }
     ensures local { IfOk result (λ r. r.local ≡ at.local + length (value_sizes (shape_of s.now) (texpr y.now))) }
@@ -298,7 +308,8 @@ fn choice(
 ) -> Result<At, Memory>
     requires temps { at.next + (value_temps (texpr y.now) + 2) ≤ 1000000 }
     requires locals { at.local + length (value_sizes (shape_of s.now) (texpr y.now)) ≤ 1000000 }
-    ensures nodes { OnOk result (map node out.new.items ≡ map node out.old.items ++ (lazy_choice and t (low_test (shape_of s.now) (texpr y.now) t (at.next + 1) at.local ++ as_flag (tests_flag (texpr y.now)) t) ∷ [])) }
+    ensures nodes { OnOk result (map node out.new.items ≡ map node out.old.items
+        ++ (lazy_choice and t (low_test (shape_of s.now) (texpr y.now) t (at.next + 1) at.local ++ as_flag (tests_flag (texpr y.now)) t) ∷ [])) }
     ensures sizes { OnOk result (structures.new.items ≡ structures.old.items ++ value_sizes (shape_of s.now) (texpr y.now)) }
     ensures next { IfOk result (λ r. r.next ≡ at.next + (value_temps (texpr y.now) + 2)) }
     ensures local { IfOk result (λ r. r.local ≡ at.local + length (value_sizes (shape_of s.now) (texpr y.now))) }
@@ -331,7 +342,8 @@ fn assignment(
 ) -> Result<At, Memory>
     requires temps { at.next + (value_temps (texpr y.now) + 2) ≤ 1000000 }
     requires locals { at.local + length (value_sizes (shape_of s.now) (texpr y.now)) ≤ 1000000 }
-    ensures nodes { OnOk result (map node out.new.items ≡ map node out.old.items ++ low_value (shape_of s.now) (texpr y.now) t (at.next + 2) at.local ++ converted (ctype ty.now) (is_flag (texpr y.now)) t ++ stored (shape_of s.now) (ctype ty.now) p t) }
+    ensures nodes { OnOk result (map node out.new.items ≡ map node out.old.items ++ low_value (shape_of s.now) (texpr y.now) t (at.next + 2) at.local
+        ++ converted (ctype ty.now) (is_flag (texpr y.now)) t ++ stored (shape_of s.now) (ctype ty.now) p t) }
     ensures sizes { OnOk result (structures.new.items ≡ structures.old.items ++ value_sizes (shape_of s.now) (texpr y.now)) }
     ensures next { IfOk result (λ r. r.next ≡ at.next + (value_temps (texpr y.now) + 2)) }
     ensures local { IfOk result (λ r. r.local ≡ at.local + length (value_sizes (shape_of s.now) (texpr y.now))) }
@@ -356,7 +368,10 @@ fn compound_assignment(
 ) -> Result<At, Memory>
     requires temps { at.next + (value_temps (texpr y.now) + 2) ≤ 1000000 }
     requires locals { at.local + length (value_sizes (shape_of s.now) (texpr y.now)) ≤ 1000000 }
-    ensures nodes { OnOk result (map node out.new.items ≡ map node out.old.items ++ low_value (shape_of s.now) (texpr y.now) at.next (at.next + 2) at.local ++ (DoN (Op.Load (at.next + 1) p) ∷ []) ++ operated (shape_of s.now) op (ctype ty.now) (type_of (texpr y.now)) t (at.next + 1) at.next ++ converted (ctype ty.now) false t ++ (DoN (Op.Store p t) ∷ [])) }
+    ensures nodes { OnOk result (map node out.new.items ≡ map node out.old.items
+        ++ low_value (shape_of s.now) (texpr y.now) at.next (at.next + 2) at.local ++ (DoN (Op.Load (at.next + 1) p) ∷ [])
+        ++ operated (shape_of s.now) op (ctype ty.now) (type_of (texpr y.now)) t (at.next + 1) at.next ++ converted (ctype ty.now) false t
+        ++ (DoN (Op.Store p t) ∷ [])) }
     ensures sizes { OnOk result (structures.new.items ≡ structures.old.items ++ value_sizes (shape_of s.now) (texpr y.now)) }
     ensures next { IfOk result (λ r. r.next ≡ at.next + (value_temps (texpr y.now) + 2)) }
     ensures local { IfOk result (λ r. r.local ≡ at.local + length (value_sizes (shape_of s.now) (texpr y.now))) }
@@ -379,7 +394,8 @@ fn step_of(
 ) -> Result<At, Memory>
     requires temps { at.next + (temps (texpr x.now) + 2) ≤ 1000000 }
     requires locals { at.local + length (sizes (shape_of s.now) (texpr x.now)) ≤ 1000000 }
-    ensures nodes { OnOk result (map node out.new.items ≡ map node out.old.items ++ (step_taken (shape_of s.now) op (texpr x.now) (low (shape_of s.now) (texpr x.now)) t at.next at.local)) }
+    ensures nodes { OnOk result (map node out.new.items ≡ map node out.old.items
+        ++ (step_taken (shape_of s.now) op (texpr x.now) (low (shape_of s.now) (texpr x.now)) t at.next at.local)) }
     ensures sizes { OnOk result (structures.new.items ≡ structures.old.items ++ sizes (shape_of s.now) (texpr x.now)) }
     ensures next { IfOk result (λ r. r.next ≡ at.next + (temps (texpr x.now) + 2)) }
     ensures local { IfOk result (λ r. r.local ≡ at.local + length (sizes (shape_of s.now) (texpr x.now))) }
@@ -412,7 +428,8 @@ fn element(
 ) -> Result<At, Memory>
     requires temps { at.next + (value_temps (texpr y.now) + 1) ≤ 1000000 }
     requires locals { at.local + length (value_sizes (shape_of s.now) (texpr y.now)) ≤ 1000000 }
-    ensures nodes { OnOk result (map node out.new.items ≡ map node out.old.items ++ low_value (shape_of s.now) (texpr y.now) at.next (at.next + 1) at.local ++ stepped size t a at.next) }
+    ensures nodes { OnOk result (map node out.new.items ≡ map node out.old.items
+        ++ low_value (shape_of s.now) (texpr y.now) at.next (at.next + 1) at.local ++ stepped size t a at.next) }
     ensures sizes { OnOk result (structures.new.items ≡ structures.old.items ++ value_sizes (shape_of s.now) (texpr y.now)) }
     ensures next { IfOk result (λ r. r.next ≡ at.next + (value_temps (texpr y.now) + 1)) }
     ensures local { IfOk result (λ r. r.local ≡ at.local + length (value_sizes (shape_of s.now) (texpr y.now))) }
@@ -421,7 +438,7 @@ fn element(
     step_last(out, size, t, a, at.next, last)
 }
 
-/// The member of this type so many words behind a structure.
+/// The member of this type `offset` words behind the start of a structure.
 #[cycle(lower)]
 #[tactic(auto, using(crate::proofs::Joins::length_both))]
 fn member_at(
@@ -436,7 +453,9 @@ fn member_at(
 ) -> Result<At, Memory>
     requires temps { at.next + (temps (texpr x.now) + 1) ≤ 1000000 }
     requires locals { at.local + length (sizes (shape_of s.now) (texpr x.now)) ≤ 1000000 }
-    ensures nodes { OnOk result (map node out.new.items ≡ map node out.old.items ++ (low (shape_of s.now) (texpr x.now) at.next (at.next + 1) at.local ++ moved_by t at.next offset ++ member_of (is_place (texpr x.now)) (ctype ty.now) t)) }
+    ensures nodes { OnOk result (map node out.new.items ≡ map node out.old.items
+        ++ (low (shape_of s.now) (texpr x.now) at.next (at.next + 1) at.local ++ moved_by t at.next offset
+        ++ member_of (is_place (texpr x.now)) (ctype ty.now) t)) }
     ensures sizes { OnOk result (structures.new.items ≡ structures.old.items ++ sizes (shape_of s.now) (texpr x.now)) }
     ensures next { IfOk result (λ r. r.next ≡ at.next + (temps (texpr x.now) + 1)) }
     ensures local { IfOk result (λ r. r.local ≡ at.local + length (sizes (shape_of s.now) (texpr x.now))) }
@@ -445,7 +464,7 @@ fn member_at(
     member(out, is_place(x), ty, t, at.next, offset, done)
 }
 
-/// The member so many words behind where a pointer leads.
+/// The member `offset` words behind where a pointer leads.
 #[cycle(lower)]
 #[tactic(auto, using(crate::proofs::Joins::length_both))]
 fn arrow(
@@ -459,7 +478,8 @@ fn arrow(
 ) -> Result<At, Memory>
     requires temps { at.next + (value_temps (texpr x.now) + 1) ≤ 1000000 }
     requires locals { at.local + length (value_sizes (shape_of s.now) (texpr x.now)) ≤ 1000000 }
-    ensures nodes { OnOk result (map node out.new.items ≡ map node out.old.items ++ (low_value (shape_of s.now) (texpr x.now) at.next (at.next + 1) at.local ++ moved_by t at.next offset)) }
+    ensures nodes { OnOk result (map node out.new.items ≡ map node out.old.items
+        ++ (low_value (shape_of s.now) (texpr x.now) at.next (at.next + 1) at.local ++ moved_by t at.next offset)) }
     ensures sizes { OnOk result (structures.new.items ≡ structures.old.items ++ value_sizes (shape_of s.now) (texpr x.now)) }
     ensures next { IfOk result (λ r. r.next ≡ at.next + (value_temps (texpr x.now) + 1)) }
     ensures local { IfOk result (λ r. r.local ≡ at.local + length (value_sizes (shape_of s.now) (texpr x.now))) }
@@ -482,7 +502,8 @@ fn cast(
 ) -> Result<At, Memory>
     requires temps { at.next + value_temps (texpr x.now) ≤ 1000000 }
     requires locals { at.local + length (value_sizes (shape_of s.now) (texpr x.now)) ≤ 1000000 }
-    ensures nodes { OnOk result (map node out.new.items ≡ map node out.old.items ++ (low_value (shape_of s.now) (texpr x.now) t at.next at.local ++ converted (ctype ty.now) (is_flag (texpr x.now)) t)) }
+    ensures nodes { OnOk result (map node out.new.items ≡ map node out.old.items
+        ++ (low_value (shape_of s.now) (texpr x.now) t at.next at.local ++ converted (ctype ty.now) (is_flag (texpr x.now)) t)) }
     ensures sizes { OnOk result (structures.new.items ≡ structures.old.items ++ value_sizes (shape_of s.now) (texpr x.now)) }
     ensures next { IfOk result (λ r. r.next ≡ at.next + value_temps (texpr x.now)) }
     ensures local { IfOk result (λ r. r.local ≡ at.local + length (value_sizes (shape_of s.now) (texpr x.now))) }
@@ -504,11 +525,17 @@ fn call_of(
     structures: &mut Vec<u32>,
 ) -> Result<At, Memory>
     requires temps { at.next + temps_all (texprs (map texpr xs.now)) ≤ 1000000 }
-    requires locals { at.local + length (sizes_all (shape_of s.now) (texprs (map texpr xs.now)) ++ one_size (shape_of s.now) (result_of (shape_of s.now) f)) ≤ 1000000 }
-    ensures nodes { OnOk result (map node out.new.items ≡ map node out.old.items ++ (low_args (shape_of s.now) (params_of (shape_of s.now) f) (texprs (map texpr xs.now)) at.next at.local ++ called (result_of (shape_of s.now) f) f (at.local + length (sizes_all (shape_of s.now) (texprs (map texpr xs.now)))) t (spots (texprs (map texpr xs.now)) at.next))) }
-    ensures sizes { OnOk result (structures.new.items ≡ structures.old.items ++ sizes_all (shape_of s.now) (texprs (map texpr xs.now)) ++ one_size (shape_of s.now) (result_of (shape_of s.now) f)) }
+    requires locals { at.local + length (sizes_all (shape_of s.now) (texprs (map texpr xs.now))
+        ++ one_size (shape_of s.now) (result_of (shape_of s.now) f)) ≤ 1000000 }
+    ensures nodes { OnOk result (map node out.new.items ≡ map node out.old.items
+        ++ (low_args (shape_of s.now) (params_of (shape_of s.now) f) (texprs (map texpr xs.now)) at.next at.local
+        ++ called (result_of (shape_of s.now) f) f (at.local + length (sizes_all (shape_of s.now) (texprs (map texpr xs.now)))) t
+        (spots (texprs (map texpr xs.now)) at.next))) }
+    ensures sizes { OnOk result (structures.new.items ≡ structures.old.items ++ sizes_all (shape_of s.now) (texprs (map texpr xs.now))
+        ++ one_size (shape_of s.now) (result_of (shape_of s.now) f)) }
     ensures next { IfOk result (λ r. r.next ≡ at.next + temps_all (texprs (map texpr xs.now))) }
-    ensures local { IfOk result (λ r. r.local ≡ at.local + length (sizes_all (shape_of s.now) (texprs (map texpr xs.now)) ++ one_size (shape_of s.now) (result_of (shape_of s.now) f))) }
+    ensures local { IfOk result (λ r. r.local ≡ at.local + length (sizes_all (shape_of s.now) (texprs (map texpr xs.now))
+        ++ one_size (shape_of s.now) (result_of (shape_of s.now) f))) }
 {
     let mut places = lead(s.alloc, s.result(f), t)?;
     let done = args(s, f, xs, at, &mut places, out, structures);
@@ -530,7 +557,8 @@ fn args(
 ) -> Result<At, Memory>
     requires temps { at.next + temps_all (texprs (map texpr xs.now)) ≤ 1000000 }
     requires locals { at.local + length (sizes_all (shape_of s.now) (texprs (map texpr xs.now))) ≤ 1000000 }
-    ensures nodes { OnOk result (map node out.new.items ≡ map node out.old.items ++ low_args (shape_of s.now) (params_of (shape_of s.now) f) (texprs (map texpr xs.now)) at.next at.local) }
+    ensures nodes { OnOk result (map node out.new.items ≡ map node out.old.items
+        ++ low_args (shape_of s.now) (params_of (shape_of s.now) f) (texprs (map texpr xs.now)) at.next at.local) }
     ensures spots { OnOk result (places.new.items ≡ places.old.items ++ spots (texprs (map texpr xs.now)) at.next) }
     ensures sizes { OnOk result (structures.new.items ≡ structures.old.items ++ sizes_all (shape_of s.now) (texprs (map texpr xs.now))) }
     ensures next { IfOk result (λ r. r.next ≡ at.next + temps_all (texprs (map texpr xs.now))) }

@@ -100,7 +100,8 @@ pub(crate) fn assign(
     t: u32,
     at: At,
 ) -> Result<At, Memory>
-    ensures nodes { OnOk result (map node out.new.items ≡ map node out.old.items ++ converted (ctype ty.now) known t ++ stored (shape_of s.now) (ctype ty.now) p t) }
+    ensures nodes { OnOk result (map node out.new.items ≡ map node out.old.items ++ converted (ctype ty.now) known t
+        ++ stored (shape_of s.now) (ctype ty.now) p t) }
     ensures at { IfOk result (λ r. r ≡ at) }
 {
     convert(out, ty, known, t)?;
@@ -121,7 +122,8 @@ pub(crate) fn compound(
     p: u32,
     at: At,
 ) -> Result<At, Memory>
-    ensures nodes { OnOk result (map node out.new.items ≡ map node out.old.items ++ DoN (Op.Load a p) ∷ [] ++ operated (shape_of s.now) op (ctype ty.now) (ctype other.now) t a b ++ converted (ctype ty.now) false t ++ DoN (Op.Store p t) ∷ []) }
+    ensures nodes { OnOk result (map node out.new.items ≡ map node out.old.items ++ DoN (Op.Load a p) ∷ []
+        ++ operated (shape_of s.now) op (ctype ty.now) (ctype other.now) t a b ++ converted (ctype ty.now) false t ++ DoN (Op.Store p t) ∷ []) }
     ensures at { IfOk result (λ r. r ≡ at) }
 {
     put(out, Op::Load(a, p))?;
@@ -184,7 +186,7 @@ fn load_member(out: &mut Vec<Node<u32>>, place: bool, ty: &CType, t: u32) -> Res
     }
 }
 
-/// The member so many words behind the structure in p comes to t; a scalar of a structure that is no place is read.
+/// Puts the member `offset` words behind the structure in `p` into `t`; a scalar of a structure that is no place is read.
 pub(crate) fn member(
     out: &mut Vec<Node<u32>>,
     place: bool,

@@ -4,7 +4,8 @@ ghost use Rattle.c_types.specs.View.{ctype, tinit, tinits, tvar};
 ghost use Rattle.mid_code.specs.Functions.{node};
 ghost use Rattle.lower_trees.specs.Counts.{init_temps, inits_temps, init_sizes, inits_sizes, vars_temps, vars_sizes, behind_address};
 ghost use Rattle.lower_trees.specs.Initialisers.{address_of};
-ghost use Rattle.lower_trees.specs.ListedInitialisers.{part_at, cell_filled, part_filled, part_zeroed, low_text, low_rest, low_init, low_inits, object_to, low_vars};
+ghost use Rattle.lower_trees.specs.ListedInitialisers.{part_at, cell_filled, part_filled, part_zeroed, low_text, low_rest, low_init, low_inits};
+ghost use Rattle.lower_trees.specs.ListedInitialisers.{object_to, low_vars};
 ghost use Rattle.lower_trees.specs.ListedParts.{converted};
 ghost use Rattle.lower_trees.specs.inner.MaybeTypes.{or_void};
 ghost use Rattle.lower_trees.specs.View.{shape_of};
@@ -20,7 +21,7 @@ use kit_base::Memory;
 use mid_code::{Node, Op};
 use std::alloc::Global;
 
-/// A pointer to the part comes to the place that is written.
+/// Makes a pointer to the part that is written.
 fn point(out: &mut Vec<Node<u32>>, p: u32, offset: u32) -> Result<(), Memory>
     ensures { OnOk result (map node out.new.items ≡ map node out.old.items ++ part_at p offset) }
 {
@@ -69,7 +70,8 @@ fn fill(
     p: u32,
     offset: u32,
 ) -> Result<(), Memory>
-    ensures { OnOk result (map node out.new.items ≡ map node out.old.items ++ converted (or_void ty.entry) known ITEM ++ part_filled (shape_of s.now) (or_void ty.entry) p offset) }
+    ensures { OnOk result (map node out.new.items ≡ map node out.old.items ++ converted (or_void ty.entry) known ITEM
+        ++ part_filled (shape_of s.now) (or_void ty.entry) p offset) }
 {
     match ty {
         None => fill_cell(out, p, offset),
@@ -80,7 +82,7 @@ fn fill(
     }
 }
 
-/// Sets so many cells of the part to 0.
+/// Sets `size` cells of the part to 0.
 fn zero_part(
     alloc: Global,
     out: &mut Vec<Node<u32>>,
@@ -121,7 +123,7 @@ fn fill_text(
     )
 }
 
-/// How many elements are left of so many.
+/// The number of elements left of `length` after the first `k`.
 fn left(length: u32, k: usize) -> u32
     ensures { result ≡ length - k }
 {
@@ -155,7 +157,7 @@ fn fill_rest(
     }
 }
 
-/// An initialiser fills the part of this type that begins so many words behind the object to which p points.
+/// Fills, by an initialiser, the part of this type that begins `offset` words behind the start of the object to which `p` points.
 #[cycle(initialise)]
 #[tactic(auto, using(crate::proofs::Joins::length_both))]
 fn initialise<'x>(
@@ -170,7 +172,8 @@ fn initialise<'x>(
 ) -> Result<At, Memory>
     requires temps { at.next + init_temps (tinit of.now) ≤ 1000000 }
     requires locals { at.local + length (init_sizes (shape_of s.now) (tinit of.now)) ≤ 1000000 }
-    ensures nodes { OnOk result (map node out.new.items ≡ map node out.old.items ++ low_init (shape_of s.now) (tinit of.now) (or_void ty.entry) p offset at.next at.local) }
+    ensures nodes { OnOk result (map node out.new.items ≡ map node out.old.items
+        ++ low_init (shape_of s.now) (tinit of.now) (or_void ty.entry) p offset at.next at.local) }
     ensures sizes { OnOk result (structures.new.items ≡ structures.old.items ++ init_sizes (shape_of s.now) (tinit of.now)) }
     ensures next { IfOk result (λ r. r.next ≡ at.next + init_temps (tinit of.now)) }
     ensures local { IfOk result (λ r. r.local ≡ at.local + length (init_sizes (shape_of s.now) (tinit of.now))) }
@@ -206,7 +209,8 @@ fn initialise_all<'x>(
 ) -> Result<At, Memory>
     requires temps { at.next + inits_temps (tinits (map tinit items.now)) ≤ 1000000 }
     requires locals { at.local + length (inits_sizes (shape_of s.now) (tinits (map tinit items.now))) ≤ 1000000 }
-    ensures nodes { OnOk result (map node out.new.items ≡ map node out.old.items ++ low_inits (shape_of s.now) (tinits (map tinit items.now)) (or_void ty.entry) 0 p offset at.next at.local) }
+    ensures nodes { OnOk result (map node out.new.items ≡ map node out.old.items
+        ++ low_inits (shape_of s.now) (tinits (map tinit items.now)) (or_void ty.entry) 0 p offset at.next at.local) }
     ensures sizes { OnOk result (structures.new.items ≡ structures.old.items ++ inits_sizes (shape_of s.now) (tinits (map tinit items.now))) }
     ensures next { IfOk result (λ r. r.next ≡ at.next + inits_temps (tinits (map tinit items.now))) }
     ensures local { IfOk result (λ r. r.local ≡ at.local + length (inits_sizes (shape_of s.now) (tinits (map tinit items.now)))) }

@@ -85,7 +85,7 @@ pub(crate) fn is_pointer(ty: &CType) -> bool
     }
 }
 
-/// Whether an expression comes to a place.
+/// Whether an expression is computed as a place.
 pub(crate) fn is_place(x: &TExpr) -> bool
     ensures { result ≡ is_place (texpr x.now) }
 {
@@ -155,7 +155,7 @@ fn is_comparison(op: BinOp) -> bool
     }
 }
 
-/// Whether an expression comes to 0 or 1.
+/// Whether an expression's value is always 0 or 1.
 pub(crate) fn is_flag(x: &TExpr) -> bool
     ensures { result ≡ is_flag (texpr x.now) }
 {

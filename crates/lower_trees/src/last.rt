@@ -62,7 +62,7 @@ pub(crate) fn convert_last(
     Ok(at)
 }
 
-/// A pointer so many words behind that in p comes to t.
+/// Puts the pointer in `p`, moved on by `offset` words, into `t`.
 pub(crate) fn move_last(
     out: &mut Vec<Node<u32>>,
     t: u32,
@@ -77,7 +77,7 @@ pub(crate) fn move_last(
     Ok(at)
 }
 
-/// A pointer stepped by so many elements of a size comes to t.
+/// Puts the pointer in `a`, moved on by the number of elements in `b`, each of `size` words, into `t`.
 pub(crate) fn step_last(
     out: &mut Vec<Node<u32>>,
     size: u32,

@@ -78,13 +78,14 @@ pub(crate) fn put_choice(
     first: Vec<Node<u32>>,
     second: Vec<Node<u32>>,
 ) -> Result<(), Memory>
-    ensures { OnOk result (map node out.new.items ≡ map node out.old.items ++ ChooseN t (listed (map node first.items)) (listed (map node second.items)) ∷ []) }
+    ensures { OnOk result (map node out.new.items ≡ map node out.old.items
+        ++ ChooseN t (listed (map node first.items)) (listed (map node second.items)) ∷ []) }
 {
     out.push(Node::Choose(t, Seq::from_vec(first), Seq::from_vec(second)))?;
     Ok(())
 }
 
-/// A condition comes to the first free temporary.
+/// Computes a condition into the first free temporary.
 pub(crate) fn condition(
     s: &Reading<'_>,
     x: &TExpr,
@@ -104,7 +105,7 @@ pub(crate) fn condition(
     Ok(done)
 }
 
-/// The condition of a turn, where there is one, comes to the first free temporary.
+/// Computes the condition of a turn, where there is one, into the first free temporary.
 fn test_first(
     s: &Reading<'_>,
     test: Option<&TExpr>,
@@ -114,7 +115,8 @@ fn test_first(
 ) -> Result<At, Memory>
     requires temps { at.next + maybe_temps (option_map (λ x. texpr x.now) test) ≤ 1000000 }
     requires locals { at.local + length (maybe_sizes (shape_of s.now) (option_map (λ x. texpr x.now) test)) ≤ 1000000 }
-    ensures nodes { OnOk result (map node out.new.items ≡ map node out.old.items ++ tested_first (shape_of s.now) (option_map (λ x. texpr x.now) test.entry) at.next at.local) }
+    ensures nodes { OnOk result (map node out.new.items ≡ map node out.old.items
+        ++ tested_first (shape_of s.now) (option_map (λ x. texpr x.now) test.entry) at.next at.local) }
     ensures sizes { OnOk result (structures.new.items ≡ structures.old.items ++ maybe_sizes (shape_of s.now) (option_map (λ x. texpr x.now) test.entry)) }
     ensures next { IfOk result (λ r. r.next ≡ at.next + maybe_temps (option_map (λ x. texpr x.now) test.entry)) }
     ensures local { IfOk result (λ r. r.local ≡ at.local + length (maybe_sizes (shape_of s.now) (option_map (λ x. texpr x.now) test.entry))) }
@@ -144,7 +146,7 @@ pub(crate) fn begin_turn(
     Ok((turn, tested))
 }
 
-/// The value of a step, where there is one, comes to the first free temporary and is dropped.
+/// Computes the value of a step, where there is one, into the first free temporary, and drops it.
 fn drop_value(
     s: &Reading<'_>,
     step: Option<&TExpr>,
@@ -154,7 +156,8 @@ fn drop_value(
 ) -> Result<At, Memory>
     requires temps { at.next + maybe_temps (option_map (λ x. texpr x.now) step) ≤ 1000000 }
     requires locals { at.local + length (maybe_sizes (shape_of s.now) (option_map (λ x. texpr x.now) step)) ≤ 1000000 }
-    ensures nodes { OnOk result (map node out.new.items ≡ map node out.old.items ++ low_dropped (shape_of s.now) (option_map (λ x. texpr x.now) step.entry) at.next at.local) }
+    ensures nodes { OnOk result (map node out.new.items ≡ map node out.old.items
+        ++ low_dropped (shape_of s.now) (option_map (λ x. texpr x.now) step.entry) at.next at.local) }
     ensures sizes { OnOk result (structures.new.items ≡ structures.old.items ++ maybe_sizes (shape_of s.now) (option_map (λ x. texpr x.now) step.entry)) }
     ensures next { IfOk result (λ r. r.next ≡ at.next + maybe_temps (option_map (λ x. texpr x.now) step.entry)) }
     ensures local { IfOk result (λ r. r.local ≡ at.local + length (maybe_sizes (shape_of s.now) (option_map (λ x. texpr x.now) step.entry))) }
@@ -190,7 +193,8 @@ pub(crate) fn close_while(
     inside: Vec<Node<u32>>,
     out: &mut Vec<Node<u32>>,
 ) -> Result<(), Memory>
-    ensures { OnOk result (map node out.new.items ≡ map node out.old.items ++ LoopN (listed (map node turn.items ++ ChooseN t (listed (map node inside.items ++ AgainN 0 ∷ [])) (listed []) ∷ [])) ∷ []) }
+    ensures { OnOk result (map node out.new.items ≡ map node out.old.items
+        ++ LoopN (listed (map node turn.items ++ ChooseN t (listed (map node inside.items ++ AgainN 0 ∷ [])) (listed []) ∷ [])) ∷ []) }
 {
     let (turn, inside) = keeping(turn, with_next(inside))?;
     let mut turn = turn;
@@ -209,7 +213,9 @@ pub(crate) fn close_do_while(
 ) -> Result<At, Memory>
     requires temps { at.next + (value_temps (texpr x.now) + 1) ≤ 1000000 }
     requires locals { at.local + length (value_sizes (shape_of s.now) (texpr x.now)) ≤ 1000000 }
-    ensures nodes { OnOk result (map node out.new.items ≡ map node out.old.items ++ LoopN (listed ((BlockN (listed (map node inside.items)) ∷ []) ++ low_test (shape_of s.now) (texpr x.now) at.next (at.next + 1) at.local ++ (ChooseN at.next (listed (AgainN 0 ∷ [])) (listed []) ∷ []))) ∷ []) }
+    ensures nodes { OnOk result (map node out.new.items ≡ map node out.old.items
+        ++ LoopN (listed ((BlockN (listed (map node inside.items)) ∷ []) ++ low_test (shape_of s.now) (texpr x.now) at.next (at.next + 1) at.local
+        ++ (ChooseN at.next (listed (AgainN 0 ∷ [])) (listed []) ∷ []))) ∷ []) }
     ensures sizes { OnOk result (structures.new.items ≡ structures.old.items ++ value_sizes (shape_of s.now) (texpr x.now)) }
     ensures next { IfOk result (λ r. r.next ≡ second (texpr x.now) at.next) }
     ensures local { IfOk result (λ r. r.local ≡ beyond (shape_of s.now) (texpr x.now) at.local) }
@@ -239,7 +245,10 @@ pub(crate) fn close_turn(
 ) -> Result<At, Memory>
     requires temps { at.next + maybe_temps (option_map (λ x. texpr x.now) step) ≤ 1000000 }
     requires locals { at.local + length (maybe_sizes (shape_of s.now) (option_map (λ x. texpr x.now) step)) ≤ 1000000 }
-    ensures nodes { OnOk result (map node out.new.items ≡ map node out.old.items ++ LoopN (listed (map node turn.items ++ chosen_by tests n (turn_of (map node inside.items) (low_dropped (shape_of s.now) (option_map (λ x. texpr x.now) step.entry) at.next at.local)))) ∷ []) }
+    ensures nodes { OnOk result (map node out.new.items ≡ map node out.old.items
+        ++ LoopN (listed (map node turn.items
+        ++ chosen_by tests n (turn_of (map node inside.items)
+        (low_dropped (shape_of s.now) (option_map (λ x. texpr x.now) step.entry) at.next at.local)))) ∷ []) }
     ensures sizes { OnOk result (structures.new.items ≡ structures.old.items ++ maybe_sizes (shape_of s.now) (option_map (λ x. texpr x.now) step.entry)) }
     ensures next { IfOk result (λ r. r.next ≡ at.next + maybe_temps (option_map (λ x. texpr x.now) step.entry)) }
     ensures local { IfOk result (λ r. r.local ≡ at.local + length (maybe_sizes (shape_of s.now) (option_map (λ x. texpr x.now) step.entry))) }
@@ -286,7 +295,8 @@ fn match_label(
     i: u32,
     label: u32,
 ) -> Result<(), Memory>
-    ensures { OnOk result (map node out.new.items ≡ map node out.old.items ++ (DoN (Op.Const OTHER label) ∷ DoN (Op.Two Two.IEQ OTHER t OTHER) ∷ ChooseN OTHER (listed (DoN (Op.Const t i) ∷ LeaveN 0 ∷ [])) (listed []) ∷ [])) }
+    ensures { OnOk result (map node out.new.items ≡ map node out.old.items
+        ++ (DoN (Op.Const OTHER label) ∷ DoN (Op.Two Two.IEQ OTHER t OTHER) ∷ ChooseN OTHER (listed (DoN (Op.Const t i) ∷ LeaveN 0 ∷ [])) (listed []) ∷ [])) }
 {
     let mut found = Vec::new(alloc);
     put(&mut found, Op::Const(t, i))?;
@@ -326,14 +336,15 @@ pub(crate) fn put_tests(
     out: &mut Vec<Node<u32>>,
 ) -> Result<(), Memory>
     requires { length arms.now ≤ 1000000 }
-    ensures { OnOk result (map node out.new.items ≡ map node out.old.items ++ (BlockN (listed (low_match t 0 (labels_before_default (tarms (map tarm arms.now))) (tarms (map tarm arms.now)))) ∷ DoN (Op.Const one 1) ∷ [])) }
+    ensures { OnOk result (map node out.new.items ≡ map node out.old.items
+        ++ (BlockN (listed (low_match t 0 (labels_before_default (tarms (map tarm arms.now))) (tarms (map tarm arms.now)))) ∷ DoN (Op.Const one 1) ∷ [])) }
 {
     let tests = match_arms(alloc, t, arms)?;
     put_block(out, tests)?;
     put(out, Op::Const(ONE, 1))
 }
 
-/// What stands behind a label, where one was met, is passed over while labels come before the one that is chosen.
+/// The statements after a label, where one was met, are passed over until the chosen label.
 pub(crate) fn close_label(
     alloc: Global,
     out: &mut Vec<Node<u32>>,

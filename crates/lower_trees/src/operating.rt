@@ -4,7 +4,8 @@ ghost use Rattle.std.specs.Borrow.{Bor};
 ghost use Rattle.c_types.specs.View.{ctype};
 ghost use Rattle.c_meaning.specs.Kinds.{decayed, pointed};
 ghost use Rattle.mid_code.specs.Functions.{node};
-ghost use Rattle.lower_trees.specs.ListedParts.{two, compared, as_flag, converted, with_word, stepped, stepped_back, distant, with_pointer, operated, one_more, one_less, tested_as, negated_as};
+ghost use Rattle.lower_trees.specs.ListedParts.{two, compared, as_flag, converted, with_word, stepped, stepped_back, distant, with_pointer, operated};
+ghost use Rattle.lower_trees.specs.ListedParts.{one_more, one_less, tested_as, negated_as};
 ghost use Rattle.lower_trees.specs.ListedExpressions.{step_made};
 ghost use Rattle.lower_trees.specs.View.{shape_of};
 
@@ -90,7 +91,7 @@ fn with_word(out: &mut Vec<Node<u32>>, op: BinOp, t: u32, a: u32, b: u32) -> Res
     }
 }
 
-/// A pointer stepped by so many elements.
+/// A pointer moved on by a number of elements.
 pub(crate) fn step_by(
     out: &mut Vec<Node<u32>>,
     size: u32,
@@ -238,7 +239,7 @@ fn count_down(
     }
 }
 
-/// One more, or one less, than the cell in `old` comes to `new`.
+/// Puts one more, or one less, than the cell in `old` into `new`.
 pub(crate) fn step_one(
     s: &Reading<'_>,
     out: &mut Vec<Node<u32>>,

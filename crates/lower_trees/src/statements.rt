@@ -44,7 +44,8 @@ fn statement<'x>(
     requires locals { at.local + length (stmt_sizes (shape_of s.now) (tstmt a.now)) ≤ 1000000 }
     requires few { statement_nodes (tstmt a.now) ≤ 1000000 }
     requires jump { depth (jump_of j) ≤ at.next }
-    ensures nodes { OnOk result (map node out.new.items ≡ map node out.old.items ++ low_stmt (shape_of s.now) (ctype gives.now) (tstmt a.now) at.next at.local b (jump_of j)) }
+    ensures nodes { OnOk result (map node out.new.items ≡ map node out.old.items
+        ++ low_stmt (shape_of s.now) (ctype gives.now) (tstmt a.now) at.next at.local b (jump_of j)) }
     ensures sizes { OnOk result (structures.new.items ≡ structures.old.items ++ stmt_sizes (shape_of s.now) (tstmt a.now)) }
     ensures next { IfOk result (λ r. r.next ≡ at.next + stmt_temps (tstmt a.now)) }
     ensures local { IfOk result (λ r. r.local ≡ at.local + length (stmt_sizes (shape_of s.now) (tstmt a.now))) }
@@ -176,7 +177,8 @@ fn other<'x>(
     requires locals { at.local + length (other_sizes (shape_of s.now) (other_of a)) ≤ 1000000 }
     requires few { maybe_statement_nodes (other_of a) ≤ 1000000 }
     requires jump { depth (jump_of j) ≤ at.next }
-    ensures nodes { OnOk result (map node out.new.items ≡ map node out.old.items ++ low_other (shape_of s.now) (ctype gives.now) (other_of a.entry) at.next at.local b (jump_of j)) }
+    ensures nodes { OnOk result (map node out.new.items ≡ map node out.old.items
+        ++ low_other (shape_of s.now) (ctype gives.now) (other_of a.entry) at.next at.local b (jump_of j)) }
     ensures sizes { OnOk result (structures.new.items ≡ structures.old.items ++ other_sizes (shape_of s.now) (other_of a.entry)) }
     ensures next { IfOk result (λ r. r.next ≡ at.next + other_temps (other_of a.entry)) }
     ensures local { IfOk result (λ r. r.local ≡ at.local + length (other_sizes (shape_of s.now) (other_of a.entry))) }
@@ -205,7 +207,8 @@ fn block<'x>(
     requires locals { at.local + length (stmt_sizes (shape_of s.now) (BlockZ made.now (tstmts (map tstmt body.now)))) ≤ 1000000 }
     requires few { statement_nodes (BlockZ made.now (tstmts (map tstmt body.now))) ≤ 1000000 }
     requires jump { depth (jump_of j) ≤ at.next }
-    ensures nodes { OnOk result (map node out.new.items ≡ map node out.old.items ++ low_stmt (shape_of s.now) (ctype gives.now) (BlockZ made.now (tstmts (map tstmt body.now))) at.next at.local b (jump_of j)) }
+    ensures nodes { OnOk result (map node out.new.items ≡ map node out.old.items
+        ++ low_stmt (shape_of s.now) (ctype gives.now) (BlockZ made.now (tstmts (map tstmt body.now))) at.next at.local b (jump_of j)) }
     ensures sizes { OnOk result (structures.new.items ≡ structures.old.items ++ stmt_sizes (shape_of s.now) (BlockZ made.now (tstmts (map tstmt body.now)))) }
     ensures next { IfOk result (λ r. r.next ≡ at.next + stmt_temps (BlockZ made.now (tstmts (map tstmt body.now)))) }
     ensures local { IfOk result (λ r. r.local ≡ at.local + length (stmt_sizes (shape_of s.now) (BlockZ made.now (tstmts (map tstmt body.now))))) }
@@ -233,10 +236,13 @@ fn choice<'x>(
     requires locals { at.local + length (stmt_sizes (shape_of s.now) (IfZ (texpr x.now) (tstmt first.now) (other_of second))) ≤ 1000000 }
     requires few { statement_nodes (IfZ (texpr x.now) (tstmt first.now) (other_of second)) ≤ 1000000 }
     requires jump { depth (jump_of j) ≤ at.next }
-    ensures nodes { OnOk result (map node out.new.items ≡ map node out.old.items ++ low_stmt (shape_of s.now) (ctype gives.now) (IfZ (texpr x.now) (tstmt first.now) (other_of second.entry)) at.next at.local b (jump_of j)) }
-    ensures sizes { OnOk result (structures.new.items ≡ structures.old.items ++ stmt_sizes (shape_of s.now) (IfZ (texpr x.now) (tstmt first.now) (other_of second.entry))) }
+    ensures nodes { OnOk result (map node out.new.items ≡ map node out.old.items
+        ++ low_stmt (shape_of s.now) (ctype gives.now) (IfZ (texpr x.now) (tstmt first.now) (other_of second.entry)) at.next at.local b (jump_of j)) }
+    ensures sizes { OnOk result (structures.new.items ≡ structures.old.items
+        ++ stmt_sizes (shape_of s.now) (IfZ (texpr x.now) (tstmt first.now) (other_of second.entry))) }
     ensures next { IfOk result (λ r. r.next ≡ at.next + stmt_temps (IfZ (texpr x.now) (tstmt first.now) (other_of second.entry))) }
-    ensures local { IfOk result (λ r. r.local ≡ at.local + length (stmt_sizes (shape_of s.now) (IfZ (texpr x.now) (tstmt first.now) (other_of second.entry)))) }
+    ensures local { IfOk result (λ r. r.local
+        ≡ at.local + length (stmt_sizes (shape_of s.now) (IfZ (texpr x.now) (tstmt first.now) (other_of second.entry)))) }
 {
     let tested = condition(s, x, at, out, structures)?;
     let (inside, done) = nested(s, gives, first, tested, b, j, structures)?;
@@ -262,7 +268,8 @@ fn while_loop<'x>(
     requires temps { at.next + stmt_temps (WhileZ (texpr x.now) (tstmt body.now)) ≤ 1000000 }
     requires locals { at.local + length (stmt_sizes (shape_of s.now) (WhileZ (texpr x.now) (tstmt body.now))) ≤ 1000000 }
     requires few { statement_nodes (WhileZ (texpr x.now) (tstmt body.now)) ≤ 1000000 }
-    ensures nodes { OnOk result (map node out.new.items ≡ map node out.old.items ++ low_stmt (shape_of s.now) (ctype gives.now) (WhileZ (texpr x.now) (tstmt body.now)) at.next at.local 0 (ToEnd 0)) }
+    ensures nodes { OnOk result (map node out.new.items ≡ map node out.old.items
+        ++ low_stmt (shape_of s.now) (ctype gives.now) (WhileZ (texpr x.now) (tstmt body.now)) at.next at.local 0 (ToEnd 0)) }
     ensures sizes { OnOk result (structures.new.items ≡ structures.old.items ++ stmt_sizes (shape_of s.now) (WhileZ (texpr x.now) (tstmt body.now))) }
     ensures next { IfOk result (λ r. r.next ≡ at.next + stmt_temps (WhileZ (texpr x.now) (tstmt body.now))) }
     ensures local { IfOk result (λ r. r.local ≡ at.local + length (stmt_sizes (shape_of s.now) (WhileZ (texpr x.now) (tstmt body.now)))) }
@@ -289,7 +296,8 @@ fn do_while_loop<'x>(
     requires temps { at.next + stmt_temps (DoWhileZ (tstmt body.now) (texpr x.now)) ≤ 1000000 }
     requires locals { at.local + length (stmt_sizes (shape_of s.now) (DoWhileZ (tstmt body.now) (texpr x.now))) ≤ 1000000 }
     requires few { statement_nodes (DoWhileZ (tstmt body.now) (texpr x.now)) ≤ 1000000 }
-    ensures nodes { OnOk result (map node out.new.items ≡ map node out.old.items ++ low_stmt (shape_of s.now) (ctype gives.now) (DoWhileZ (tstmt body.now) (texpr x.now)) at.next at.local 0 (ToEnd 0)) }
+    ensures nodes { OnOk result (map node out.new.items ≡ map node out.old.items
+        ++ low_stmt (shape_of s.now) (ctype gives.now) (DoWhileZ (tstmt body.now) (texpr x.now)) at.next at.local 0 (ToEnd 0)) }
     ensures sizes { OnOk result (structures.new.items ≡ structures.old.items ++ stmt_sizes (shape_of s.now) (DoWhileZ (tstmt body.now) (texpr x.now))) }
     ensures next { IfOk result (λ r. r.next ≡ at.next + stmt_temps (DoWhileZ (tstmt body.now) (texpr x.now))) }
     ensures local { IfOk result (λ r. r.local ≡ at.local + length (stmt_sizes (shape_of s.now) (DoWhileZ (tstmt body.now) (texpr x.now)))) }
@@ -315,14 +323,25 @@ fn for_loop<'x>(
     out: &mut Vec<Node<u32>>,
     structures: &mut Vec<u32>,
 ) -> Result<At, Memory>
-    requires temps { at.next + stmt_temps (ForZ made.now (other_of first) (option_map (λ x. texpr x.now) test) (option_map (λ x. texpr x.now) step) (tstmt body.now)) ≤ 1000000 }
-    requires locals { at.local + length (stmt_sizes (shape_of s.now) (ForZ made.now (other_of first) (option_map (λ x. texpr x.now) test) (option_map (λ x. texpr x.now) step) (tstmt body.now))) ≤ 1000000 }
-    requires few { statement_nodes (ForZ made.now (other_of first) (option_map (λ x. texpr x.now) test) (option_map (λ x. texpr x.now) step) (tstmt body.now)) ≤ 1000000 }
+    requires temps { at.next + stmt_temps (ForZ made.now (other_of first) (option_map (λ x. texpr x.now) test) (option_map (λ x. texpr x.now) step)
+        (tstmt body.now)) ≤ 1000000 }
+    requires locals { at.local + length (stmt_sizes (shape_of s.now)
+        (ForZ made.now (other_of first) (option_map (λ x. texpr x.now) test) (option_map (λ x. texpr x.now) step) (tstmt body.now))) ≤ 1000000 }
+    requires few { statement_nodes (ForZ made.now (other_of first) (option_map (λ x. texpr x.now) test) (option_map (λ x. texpr x.now) step)
+        (tstmt body.now)) ≤ 1000000 }
     requires jump { depth (jump_of j) ≤ at.next }
-    ensures nodes { OnOk result (map node out.new.items ≡ map node out.old.items ++ low_stmt (shape_of s.now) (ctype gives.now) (ForZ made.now (other_of first.entry) (option_map (λ x. texpr x.now) test.entry) (option_map (λ x. texpr x.now) step.entry) (tstmt body.now)) at.next at.local b (jump_of j)) }
-    ensures sizes { OnOk result (structures.new.items ≡ structures.old.items ++ stmt_sizes (shape_of s.now) (ForZ made.now (other_of first.entry) (option_map (λ x. texpr x.now) test.entry) (option_map (λ x. texpr x.now) step.entry) (tstmt body.now))) }
-    ensures next { IfOk result (λ r. r.next ≡ at.next + stmt_temps (ForZ made.now (other_of first.entry) (option_map (λ x. texpr x.now) test.entry) (option_map (λ x. texpr x.now) step.entry) (tstmt body.now))) }
-    ensures local { IfOk result (λ r. r.local ≡ at.local + length (stmt_sizes (shape_of s.now) (ForZ made.now (other_of first.entry) (option_map (λ x. texpr x.now) test.entry) (option_map (λ x. texpr x.now) step.entry) (tstmt body.now)))) }
+    ensures nodes { OnOk result (map node out.new.items ≡ map node out.old.items
+        ++ low_stmt (shape_of s.now) (ctype gives.now) (ForZ made.now (other_of first.entry) (option_map (λ x. texpr x.now) test.entry)
+        (option_map (λ x. texpr x.now) step.entry) (tstmt body.now)) at.next at.local b (jump_of j)) }
+    ensures sizes { OnOk result (structures.new.items ≡ structures.old.items
+        ++ stmt_sizes (shape_of s.now) (ForZ made.now (other_of first.entry) (option_map (λ x. texpr x.now) test.entry)
+        (option_map (λ x. texpr x.now) step.entry) (tstmt body.now))) }
+    ensures next { IfOk result (λ r. r.next
+        ≡ at.next + stmt_temps (ForZ made.now (other_of first.entry) (option_map (λ x. texpr x.now) test.entry)
+        (option_map (λ x. texpr x.now) step.entry) (tstmt body.now))) }
+    ensures local { IfOk result (λ r. r.local
+        ≡ at.local + length (stmt_sizes (shape_of s.now) (ForZ made.now (other_of first.entry) (option_map (λ x. texpr x.now) test.entry)
+        (option_map (λ x. texpr x.now) step.entry) (tstmt body.now)))) }
 {
     make(out, made)?;
     let begun = other(s, gives, first, at, b, j, out, structures)?;
@@ -360,8 +379,10 @@ fn switch<'x>(
     requires locals { at.local + length (stmt_sizes (shape_of s.now) (SwitchZ (texpr x.now) made.now (tarms (map tarm arms.now)))) ≤ 1000000 }
     requires few { statement_nodes (SwitchZ (texpr x.now) made.now (tarms (map tarm arms.now))) ≤ 1000000 }
     requires jump { depth (jump_of j) ≤ at.next }
-    ensures nodes { OnOk result (map node out.new.items ≡ map node out.old.items ++ low_stmt (shape_of s.now) (ctype gives.now) (SwitchZ (texpr x.now) made.now (tarms (map tarm arms.now))) at.next at.local 0 (jump_of j)) }
-    ensures sizes { OnOk result (structures.new.items ≡ structures.old.items ++ stmt_sizes (shape_of s.now) (SwitchZ (texpr x.now) made.now (tarms (map tarm arms.now)))) }
+    ensures nodes { OnOk result (map node out.new.items ≡ map node out.old.items
+        ++ low_stmt (shape_of s.now) (ctype gives.now) (SwitchZ (texpr x.now) made.now (tarms (map tarm arms.now))) at.next at.local 0 (jump_of j)) }
+    ensures sizes { OnOk result (structures.new.items ≡ structures.old.items
+        ++ stmt_sizes (shape_of s.now) (SwitchZ (texpr x.now) made.now (tarms (map tarm arms.now)))) }
     ensures next { IfOk result (λ r. r.next ≡ at.next + stmt_temps (SwitchZ (texpr x.now) made.now (tarms (map tarm arms.now)))) }
     ensures local { IfOk result (λ r. r.local ≡ at.local + length (stmt_sizes (shape_of s.now) (SwitchZ (texpr x.now) made.now (tarms (map tarm arms.now))))) }
 {
@@ -401,7 +422,8 @@ pub(crate) fn statements<'x>(
     requires locals { at.local + length (stmts_sizes (shape_of s.now) (tstmts (map tstmt body.now))) ≤ 1000000 }
     requires few { statements_nodes (tstmts (map tstmt body.now)) ≤ 1000000 }
     requires jump { depth (jump_of j) ≤ at.next }
-    ensures nodes { OnOk result (map node out.new.items ≡ map node out.old.items ++ low_stmts (shape_of s.now) (ctype gives.now) (tstmts (map tstmt body.now)) at.next at.local b (jump_of j)) }
+    ensures nodes { OnOk result (map node out.new.items ≡ map node out.old.items
+        ++ low_stmts (shape_of s.now) (ctype gives.now) (tstmts (map tstmt body.now)) at.next at.local b (jump_of j)) }
     ensures sizes { OnOk result (structures.new.items ≡ structures.old.items ++ stmts_sizes (shape_of s.now) (tstmts (map tstmt body.now))) }
     ensures next { IfOk result (λ r. r.next ≡ at.next + stmts_temps (tstmts (map tstmt body.now))) }
     ensures local { IfOk result (λ r. r.local ≡ at.local + length (stmts_sizes (shape_of s.now) (tstmts (map tstmt body.now)))) }
@@ -430,7 +452,8 @@ fn labelled<'x>(
     requires locals { at.local + length (arms_sizes (shape_of s.now) (tarms (map tarm arms.now))) ≤ 1000000 }
     requires few { arms_nodes (tarms (map tarm arms.now)) ≤ 1000000 }
     requires jump { depth (jump_of j) ≤ at.next }
-    ensures nodes { OnOk result (map node out.new.items ≡ map node out.old.items ++ low_arms (shape_of s.now) (ctype gives.now) t (tarms (map tarm arms.now)) at.next at.local 0 (jump_of j)) }
+    ensures nodes { OnOk result (map node out.new.items ≡ map node out.old.items
+        ++ low_arms (shape_of s.now) (ctype gives.now) t (tarms (map tarm arms.now)) at.next at.local 0 (jump_of j)) }
     ensures sizes { OnOk result (structures.new.items ≡ structures.old.items ++ arms_sizes (shape_of s.now) (tarms (map tarm arms.now))) }
     ensures next { IfOk result (λ r. r.next ≡ at.next + arms_temps (tarms (map tarm arms.now))) }
     ensures local { IfOk result (λ r. r.local ≡ at.local + length (arms_sizes (shape_of s.now) (tarms (map tarm arms.now)))) }

@@ -7,7 +7,8 @@ use Rattle.v32_isa.specs.declared.instruction.Two.TheVariants.{IEQ, INE, IGT, IG
 use Rattle.v32_isa.specs.Ports.{is_readable, is_writable}
 use Rattle.mid_code.specs.declared.placed.Where.{Where}
 use Rattle.mid_code.specs.declared.placed.Where.TheVariants.{Reg, Slot}
-use Rattle.mid_code.specs.Code.{OpT, ConstO, OneO, GlobalO, LocalO, LiteralO, PtrTestO, FreshO, EndO, InO, OutO, NodesT, Stop, Do, Call, Choose, Block, Loop, Leave, Again, Return, FunctionT, CodeT, node_uses, node_target, maybe}
+use Rattle.mid_code.specs.Code.{OpT, ConstO, OneO, GlobalO, LocalO, LiteralO, PtrTestO, FreshO, EndO, InO, OutO, NodesT, Stop, Do, Call, Choose}
+use Rattle.mid_code.specs.Code.{Block, Loop, Leave, Again, Return, FunctionT, CodeT, node_uses, node_target, maybe}
 use Rattle.mid_code.specs.Placed.{SpotsT, PlacedT, start_frame}
 
 -- ---- operations

@@ -157,7 +157,8 @@ pub(crate) fn enter<'a>(
     args: &[u32],
 ) -> Result<Caller, Stop>
     ensures caller { IfOk result (λ c. caller c ≡ caller_of (state_of m.old)) }
-    ensures enters { Does result (state_of m.new) (if_room (has_room (sizes s.now) f (state_of m.old).world.store) (state_of m.old) (begun temporaries (sizes s.now) (function_at (code_of s.now) f).params f args.now (state_of m.old))) }
+    ensures enters { Does result (state_of m.new) (if_room (has_room (sizes s.now) f (state_of m.old).world.store) (state_of m.old)
+        (begun temporaries (sizes s.now) (function_at (code_of s.now) f).params f args.now (state_of m.old))) }
 {
     if !s.has_room(f, m.world.store.used) {
         return Err(Stop::Ends(Ending::Deep));
@@ -195,7 +196,7 @@ fn back<'a>(m: &mut State<'a>, c: Caller, t: Option<u32>) -> Result<(), Memory>
     put_in_maybe(m, t, result)
 }
 
-/// What a call comes to, whose body went on so.
+/// How a call ends, whose body ended so.
 pub(crate) fn leave<'a>(
     m: &mut State<'a>,
     c: Caller,

@@ -92,7 +92,7 @@ impl<'a> Setting<'a> {
         pointer(globals + self.of.literals.as_slice().len() as u64)
     }
 
-    /// Whether there is room for one more frame beside so many words of frames.
+    /// Whether there is room for one more frame beside `used` words of frames.
     pub(crate) fn has_room(&self, f: u32, used: u32) -> bool
         ensures { result ≡ leb (used + ((sizes self.now).frame f + 2) + (sizes self.now).globals) ram_words }
     {

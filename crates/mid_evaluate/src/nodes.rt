@@ -27,7 +27,7 @@ fn taken(c: Cell) -> Option<bool>
     }
 }
 
-/// What a block comes to, whose body went on so.
+/// How a block ends, whose body ended so.
 fn leave_block<'a>(m: &State<'a>, flow: Flow) -> Result<Flow, Stop>
     ensures { Leads result (state_of m.now) (block_done (went flow (state_of m.now))) }
 {

@@ -14,7 +14,7 @@ use mid_code::Code;
 use obj_mem::{Cell, ObjectKind, Objects};
 use std::alloc::Global;
 
-/// The words of the globals. Where they are no word it is told as want of memory.
+/// The words of the globals. Where they are no word the answer is want of memory.
 pub(crate) fn global_words(globals: &[u32]) -> Result<u32, Memory>
     ensures { IfOk result (λ w. w ≡ sum globals.now) }
 {

@@ -66,7 +66,7 @@ pub(crate) fn write(os: &mut Objects, p: Cell, c: Cell) -> Result<(), Refusal>
     }
 }
 
-/// A pointer so many words on.
+/// The pointer `n` words further on.
 #[inline(always)]
 pub(crate) fn step(p: Cell, n: u32) -> Result<Cell, Refusal>
     ensures { result ≡ step p n }
@@ -142,7 +142,7 @@ pub(crate) fn offsets(os: &Objects, p: Cell, q: Cell) -> Result<(u32, u32), Refu
     }
 }
 
-/// How many words the first stands behind the second.
+/// The distance in words from the second pointer to the first.
 pub(crate) fn apart(os: &Objects, p: Cell, q: Cell) -> Result<u32, Refusal>
     ensures { result ≡ apart (objects os.now) p q }
 {

@@ -36,7 +36,8 @@ fn run_main<'a>(s: &Setting<'a>, m: &mut State<'a>, n: u32) -> Result<Ending, Me
 
 /// Fills the globals, and calls main.
 fn run_whole<'a>(s: &Setting<'a>, m: &mut State<'a>, n: u32) -> Result<Ending, Memory>
-    ensures { IfOk result (λ end. start_done (ran (code_of s.now) s.now.frames.now n (code_of s.now).start.body (state_of m.old)) (main_called temporaries (code_of s.now) s.now.frames.now n) ≡ final (ending end) (state_of m.new).world) }
+    ensures { IfOk result (λ end. start_done (ran (code_of s.now) s.now.frames.now n (code_of s.now).start.body (state_of m.old))
+        (main_called temporaries (code_of s.now) s.now.frames.now n) ≡ final (ending end) (state_of m.new).world) }
 {
     match run_nodes(s, m, n, s.of.start.body.as_slice()) {
         Ok(Flow::Next) => run_main(s, m, n),

@@ -112,7 +112,7 @@ pub(crate) fn give<'a>(m: &mut State<'a>, p: Option<u32>)
 
 // ---- the past
 
-/// Counts work. Where the sum has no word of 64 bits it is told as want of memory.
+/// Counts work. Where the sum has no word of 64 bits the answer is want of memory.
 fn count(work: u64, more: u64) -> Result<u64, Memory>
     ensures { IfOk result (λ w. w ≡ work + more) }
 {
@@ -165,7 +165,7 @@ fn set_local(locals: &mut Vec<Option<u64>>, k: u32, o: u64)
     }
 }
 
-/// Makes an object of so many unwritten cells.
+/// Makes an object of `words` unwritten cells.
 fn make(alloc: Global, os: &mut Objects, words: u32) -> Result<(), Memory>
     ensures { OnOk result (objects os.new ≡ made (objects os.old) Local (unwritten words)) }
 {

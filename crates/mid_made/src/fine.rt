@@ -91,7 +91,7 @@ fn node_fine(n: &Node<u32>, of: &Code<u32>, temps: u32, locals: u32) -> bool
     }
 }
 
-/// Whether these are nodes without blocks and loops of a function with so many temporaries and locals of this code.
+/// Whether these are nodes without blocks and loops of a function with `temps` temporaries and `locals` locals of this code.
 #[cycle(fine)]
 pub fn is_fine(ns: &[Node<u32>], of: &Code<u32>, temps: u32, locals: u32) -> bool
     ensures { OnTrue result (Fine (code of.now) temps locals (nodes ns.now)) }

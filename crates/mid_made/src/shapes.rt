@@ -12,7 +12,7 @@ pub enum Shape {
     Chain,
     /// One function, all of whose temporaries are live before they are added.
     Wide,
-    /// One function with so many locals, each of which takes the value of the one before it.
+    /// One function of locals, each of which takes the value of the one before it.
     Locals,
     /// So many functions with a local each, of which each calls the one before it.
     Calls,
@@ -82,7 +82,7 @@ fn caller(alloc: Global, before: Option<u32>) -> Result<Vec<Node<u32>>, Memory> 
     Ok(nodes)
 }
 
-/// A function without parameters that gives a result, with so many locals of one word.
+/// A function without parameters that gives a result, with `locals` locals of one word.
 pub fn function_of(
     alloc: Global,
     temps: u32,
@@ -135,7 +135,7 @@ fn single(alloc: Global, f: Function<u32>) -> Result<Vec<Function<u32>>, Memory>
     Ok(functions)
 }
 
-/// A program of a shape with so many temporaries, locals or functions; none where there are none or too many.
+/// A program of a shape with `count` temporaries, locals or functions; none where there are none or too many.
 pub fn shaped(alloc: Global, shape: Shape, count: u32) -> Result<Option<Mid>, Memory> {
     let functions = match shape {
         Shape::Chain => single(alloc, function_of(alloc, count, 0, chain(alloc, count)?)?)?,

@@ -68,7 +68,8 @@ fn local_flags(plain: &mut [bool], roles: &[Role], t: u32, local: u32)
 #[tactic(auto, using(crate::proofs::Flagging::and_unit, crate::proofs::Flagging::and_units))]
 fn op_flags(plain: &mut [bool], roles: &[Role], o: &Op<u32>)
     ensures len { length plain.new ≡ length plain.old }
-    ensures is { (k : ℕ) → k < length plain.old → flag_at plain.new k ≡ (flag_at plain.old k && all_nodes (takes_by (role_at roles.now) k) (op_before o.now Stop)) }
+    ensures is { (k : ℕ) → k < length plain.old
+        → flag_at plain.new k ≡ (flag_at plain.old k && all_nodes (takes_by (role_at roles.now) k) (op_before o.now Stop)) }
 {
     if let Op::Local(t, local) = o {
         local_flags(plain, roles, *t, *local);
@@ -79,7 +80,8 @@ fn op_flags(plain: &mut [bool], roles: &[Role], o: &Op<u32>)
 #[tactic(auto, using(crate::proofs::Flagging::and_unit, crate::proofs::Flagging::and_two))]
 fn node_flags(plain: &mut [bool], roles: &[Role], n: &Node<u32>)
     ensures len { length plain.new ≡ length plain.old }
-    ensures is { (k : ℕ) → k < length plain.old → flag_at plain.new k ≡ (flag_at plain.old k && all_nodes (takes_by (role_at roles.now) k) (before (node n.now) Stop)) }
+    ensures is { (k : ℕ) → k < length plain.old
+        → flag_at plain.new k ≡ (flag_at plain.old k && all_nodes (takes_by (role_at roles.now) k) (before (node n.now) Stop)) }
 {
     match n {
         Node::Do(o) => op_flags(plain, roles, o),

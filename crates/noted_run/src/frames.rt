@@ -21,13 +21,14 @@ fn goes_on(end: FrameEnd) -> bool
     }
 }
 
-/// Does at most so many frames, up to a halt, a fault or an undecodable word, notes each, and answers how the last one ended. The error is want of
+/// Does at most `count` frames, up to a halt, a fault or an undecodable word, notes each, and answers how the last one ended. The error is want of
 /// memory.
 pub fn note_frames(console: &mut Console, notes: &mut Notes, count: u32) -> Result<FrameEnd, Memory>
     requires few { frames_in console.old + count ≤ 1000000000 }
     requires instructions { 250000 * count ≤ 1000000000 }
     requires empty { AreNotes none notes.old }
-    ensures noted { (u : Setup) → ConsoleStands u (opening_moment u) console.old → IfOk result (λ _. AreNotes (run_operations count u (opening_moment u)) notes.new) }
+    ensures noted { (u : Setup) → ConsoleStands u (opening_moment u) console.old
+        → IfOk result (λ _. AreNotes (run_operations count u (opening_moment u)) notes.new) }
     ensures ended { (u : Setup) → ConsoleStands u (opening_moment u) console.old → IfOk result (λ end. end ≡ run_end u count) }
     ensures within { IfOk result (λ _. notes.new.instructions ≤ 250000 * count) }
 {

@@ -46,7 +46,7 @@ pub struct Noted {
 }
 
 impl NotedRun {
-    /// A run of this cartridge of at most so many frames, with this script of the gamepads and this memory card of 262,144 words, where one is
+    /// A run of this cartridge of at most `count` frames, with this script of the gamepads and this memory card of 262,144 words, where one is
     /// connected. The error is want of memory.
     pub fn open(
         alloc: Global,

@@ -5,7 +5,8 @@ use Rattle.std.specs.List.{range_with_len}
 use Rattle.obj_mem.specs.declared.cell.Cell.{Cell}
 use Rattle.obj_mem.specs.declared.cell.ObjectKind.{ObjectKind}
 use Rattle.obj_mem.specs.declared.cell.ObjectKind.TheVariants.{Local}
-use Rattle.obj_mem.specs.Objects.{ObjectT, object, ended, cell_at, read_refused, write_refused, unless_refused, cell_read, cell_written, made, end_object, end_from}
+use Rattle.obj_mem.specs.Objects.{ObjectT, object, ended, cell_at, read_refused, write_refused, unless_refused, cell_read, cell_written, made}
+use Rattle.obj_mem.specs.Objects.{end_object, end_from}
 
 -- an object that lives
 pub record LiveT : Type 0 where
@@ -75,7 +76,8 @@ live_below n (x ∷ xs) = cond (ltb x.number n) (x ∷ live_below n xs) []
 pub record ActsOnLiving (live : List LiveT) (next : ℕ) : Type 0 where
   pub counts : length (objects_of live next) ≡ next
   pub reads : (o i : ℕ) → cell_read (objects_of live next) o i ≡ unless_refused (read_refused (found live o) i) (cell_at (found live o) i)
-  pub writes : (o i : ℕ) (c : Cell) → cell_written (objects_of live next) o i c ≡ unless_refused (write_refused (found live o) i) (objects_of (live_written o i c live) next)
+  pub writes : (o i : ℕ) (c : Cell) → cell_written (objects_of live next) o i c ≡ unless_refused (write_refused (found live o) i)
+      (objects_of (live_written o i c live) next)
   pub makes : (kind : ObjectKind) (cells : List Cell) → made (objects_of live next) kind cells ≡ objects_of (live_made live next kind cells) (next + 1)
   pub ends : (o : ℕ) → end_object (objects_of live next) o ≡ objects_of (live_without o live) next
   pub ends_from : (n : ℕ) → end_from n (objects_of live next) ≡ objects_of (live_below n live) next

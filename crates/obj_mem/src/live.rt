@@ -130,7 +130,8 @@ pub(crate) fn cut_off(live: &mut Vec<Object>, number: u64)
 #[tactic(auto, using(crate::proofs::InMemory::read_here, crate::proofs::InMemory::read_ended))]
 pub(crate) fn read(live: &[Object], number: u64, offset: u32) -> Result<Cell, Access>
     requires rises { (next : ℕ) × Rises 0 next (map live_object live.now) }
-    ensures { result ≡ unless_refused (read_refused (found (map live_object live.now) number) offset) (cell_at (found (map live_object live.now) number) offset) }
+    ensures { result ≡ unless_refused (read_refused (found (map live_object live.now) number) offset)
+        (cell_at (found (map live_object live.now) number) offset) }
 {
     match place(live, number) {
         None => Err(Access::Dead),
@@ -142,7 +143,8 @@ pub(crate) fn read(live: &[Object], number: u64, offset: u32) -> Result<Cell, Ac
 #[inline(always)]
 fn read_at(live: &[Object], at: usize, offset: u32) -> Result<Cell, Access>
     requires { at < length live.now }
-    ensures { result ≡ unless_refused (read_refused (as_object (live_at (map live_object live.now) at)) offset) (cell_at (as_object (live_at (map live_object live.now) at)) offset) }
+    ensures { result ≡ unless_refused (read_refused (as_object (live_at (map live_object live.now) at)) offset)
+        (cell_at (as_object (live_at (map live_object live.now) at)) offset) }
 {
     let x = &live[at];
     read_cell(x.kind, &x.cells, offset)

@@ -27,7 +27,7 @@ impl Objects {
     ghost use Rattle.obj_mem.specs.inner.View.{objects};
 
     /// No objects.
-    #[tactic(auto, unfolding(crate::specs::View::objects))]
+    #[tactic(auto, unfolding(crate::specs::inner::View::objects))]
     pub fn new(alloc: Global) -> Objects
         ensures { objects result ≡ [] }
     {

@@ -22,7 +22,7 @@ fn blend_eight(dst: &mut [u32], src: &[u32], at: usize, multiply: u32, mode: Ble
     store(dst, at, drawn);
 }
 
-/// Draws the first texture points of a row, so many eights of them.
+/// Draws the first texture points of a row, `count` eights of them.
 #[inline(always)]
 fn blend_eights(dst: &mut [u32], src: &[u32], count: usize, multiply: u32, mode: Blend)
     requires lengths { length dst.old ≡ length src.now }

@@ -51,7 +51,7 @@ fn goes_on(end: FrameEnd) -> bool
     }
 }
 
-/// Does at most so many frames, up to a halt, a fault or an undecodable word, and answers how the last one ended.
+/// Does at most `count` frames, up to a halt, a fault or an undecodable word, and answers how the last one ended.
 fn run_frames(console: &mut Console, count: u32) -> FrameEnd
     requires few { frames_in console.old + count ≤ 1000000000 }
     ensures stands { (u : Setup) → ConsoleStands u (opening_moment u) console.old → ConsoleStands u (last_moment u count) console.new }
@@ -70,7 +70,7 @@ fn run_frames(console: &mut Console, count: u32) -> FrameEnd
 }
 
 impl PlainRun {
-    /// A run of this cartridge of at most so many frames, with the script of the pads file `pads 0 0 0` and no memory card. The
+    /// A run of this cartridge of at most `count` frames, with the script of the pads file `pads 0 0 0` and no memory card. The
     /// error is want of memory; doing the run takes none.
     pub fn open(alloc: Global, cart: Cart, count: u32) -> Result<PlainRun, Memory>
         requires few { count ≤ 3600 }

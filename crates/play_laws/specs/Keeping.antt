@@ -85,5 +85,6 @@ EndedRunsAreWhole =
     → (pads : Script) (card : Option (List ℕ)) → IsCard card → (k : ℕ)
     → KeepsAt built.of.program (frame_sizes built.of.image.map) (setup_of cart pads card) k
     → has_ended (console_at (setup_of cart pads card) k).phase ≡ true
-    → IsWhole (meant_at built.of.program (frame_sizes built.of.image.map) ((operations_at (setup_of cart pads card) k).instructions + 1) (setup_of cart pads card) k)
+    → IsWhole (meant_at built.of.program (frame_sizes built.of.image.map) ((operations_at (setup_of cart pads card) k).instructions + 1)
+    (setup_of cart pads card) k)
     (played (setup_of cart pads card) k)

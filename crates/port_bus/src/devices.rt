@@ -76,7 +76,7 @@ impl Devices {
     ghost use Rattle.port_bus.specs.Answers.{timer_answer, pad_answer, cartridge_answer, answer_of, small_answer};
     ghost use Rattle.port_bus.specs.Stand.{DevicesStand};
 
-    /// The devices of a cartridge with so many program words, textures and sounds, before the first frame.
+    /// The devices of a cartridge with `program` program words, `textures` textures and `sounds` sounds, before the first frame.
     pub fn open(pads: Pads, program: u32, textures: u32, sounds: u32, card: bool) -> Devices
         ensures stands { DevicesStand pads (record { program = program; textures = textures; sounds = sounds; card = card }) [] result }
     {
@@ -116,7 +116,7 @@ impl Devices {
         self.frames += 1;
     }
 
-    /// The word that a readable port of these devices answers, so many instructions after the frame's beginning. A
+    /// The word that a readable port of these devices answers, `cycles` instructions after the frame's beginning. A
     /// frame was begun. A read of the random value moves it on.
     pub fn answer(&mut self, port: Port, cycles: u32) -> u32
         requires port { Answers port }

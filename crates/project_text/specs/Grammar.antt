@@ -1,7 +1,8 @@
 -- The grammar of a project's lines: an empty line and one that begins with # say nothing; the others
 -- are a key, one space, and printable ASCII, 1 to 63 bytes for a title and 1 to 255 for a file's name.
 -- Hold it against the kit's page on project files.
-use Rattle.std.specs.Prelude.{◌≡◌, ℕ, ◌≤◌, List, [], ◌∷◌, ◌++◌, length, take, drop, codes, bytes_eq, Bool, true, false, ◌&&◌, ◌⊎◌, ◌==◌, nat_le, if◌then◌else◌, Option, Some, None}
+use Rattle.std.specs.Prelude.{◌≡◌, ℕ, ◌≤◌, List, [], ◌∷◌, ◌++◌, length, take, drop, codes, bytes_eq, Bool, true, false, ◌&&◌, ◌⊎◌, ◌==◌, nat_le}
+use Rattle.std.specs.Prelude.{if◌then◌else◌, Option, Some, None}
 use Rattle.std.specs.List.{list_all}
 use Rattle.project_text.specs.Entries.{Entry, Nothing, Title, Source, Texture, Sound}
 

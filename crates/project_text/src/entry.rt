@@ -19,7 +19,7 @@ fn all_printable(text: &[u8]) -> bool
     text.iter().all(|b| 0x20 <= *b && *b <= 0x7e)
 }
 
-/// Whether it is 1 to so many bytes of printable ASCII.
+/// Whether it is 1 to `most` bytes of printable ASCII.
 #[tactic(auto, unfolding(crate::specs::Grammar::is_text))]
 fn is_text(most: usize, text: &[u8]) -> bool
     ensures { result ≡ is_text most text.now }
@@ -37,7 +37,7 @@ fn is_passed_over(line: &[u8]) -> bool
     }
 }
 
-/// What stands behind that key, where it does and is a text.
+/// The text after that key and a space, where the line has one.
 #[tactic(auto, using(crate::proofs::Keys::short_key), unfolding(crate::specs::Grammar::value_of))]
 fn value_of<'a>(key: &[u8], most: usize, line: &'a [u8]) -> Option<&'a [u8]>
     ensures { option_map (λ x. x.now) result ≡ value_of key.now most line.now }

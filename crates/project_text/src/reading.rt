@@ -40,7 +40,7 @@ fn name_of(alloc: Global, text: &[u8]) -> Result<Name, ProjectErr>
     }
 }
 
-/// Adds the name, where there are fewer than so many.
+/// Adds the name, where there are fewer than `most`.
 fn push_name(
     alloc: Global,
     names: &mut Vec<Name>,

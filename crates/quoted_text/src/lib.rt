@@ -1,4 +1,4 @@
-//! Texts and characters between quotes: the bytes that they stand for, with escapes, and what stands behind them.
+//! Texts and characters between quotes: the bytes that they stand for, with escapes, and the rest of the line after them.
 //!
 //! C texts and assembly texts are both read by it. It stands on kit_base.
 #![tactic(auto)]

@@ -81,7 +81,8 @@ fn is_number(ns: &[Node<u32>], i: usize, b: u32) -> bool {
     }
 }
 
-/// Whether the emitter works with the second operand as a number, where that is put into the target's register right before, and the first one stands in another.
+/// Whether the emitter works with the second operand as a number, where that is put into the target's register right before, and the first one stands
+/// in another.
 fn takes_number(at: &[Where], ns: &[Node<u32>], i: usize, o: &Op<u32>) -> bool {
     match o {
         Op::Two(_, _, a, b) => is_in_register(at, *a) && is_number(ns, i, *b),
@@ -89,7 +90,8 @@ fn takes_number(at: &[Where], ns: &[Node<u32>], i: usize, o: &Op<u32>) -> bool {
     }
 }
 
-/// The operand of an operation that takes the target's place: the first one, also of a load, or the second one where the operation works as well on its operands the
+/// The operand of an operation that takes the target's place: the first one, also of a load, or the second one where the operation works as well on
+/// its operands the
 /// other way round, or with that one as a number.
 fn move_of(
     single: &[bool],

@@ -142,7 +142,8 @@ fn share_each(
 }
 
 /// The choices for a program, that of the start first, in which operands share the places of targets. A temporary goes to the place of an operation's target
-/// where that operation is the only one that uses it, as its first operand, and works on its target or is a load; where one operation alone makes it, in the same list
+/// where that operation is the only one that uses it, as its first operand, and works on its target or is a load; where one operation alone makes it,
+/// in the same list
 /// and at most 64 nodes before; and where nothing that either of them uses beside stands in the way at that place, nor is named in between. Both places are
 /// registers, or both are slots. Of each function the given choice stays where the other one would not be safe. The error is want of memory, and then the
 /// choices given are dropped.

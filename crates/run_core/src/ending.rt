@@ -92,7 +92,7 @@ fn file_named(files: &[Name], file: u32) -> &[u8]
     }
 }
 
-/// Whether the address lies in the program of so many words.
+/// Whether the address lies in a program of `words` words.
 fn is_in_program(words: u32, address: u32) -> bool
     ensures { result ≡ is_in_program words address }
 {
@@ -178,7 +178,8 @@ fn put_file_line<S: Sink>(out: &mut S, file: &[u8], line: u32) -> Result<(), Sin
 
 /// Puts that function, that file and that line.
 fn put_lines<S: Sink>(out: &mut S, function: &[u8], file: &[u8], line: u32) -> Result<(), SinkErr>
-    ensures puts { PutsText (codes " in " ++ function.now ++ (codes " at " ++ file.now ++ (codes ":" ++ decimal line))) result (S.written out.old) (S.written out.new) }
+    ensures puts { PutsText (codes " in " ++ function.now ++ (codes " at " ++ file.now ++ (codes ":" ++ decimal line))) result (S.written out.old)
+        (S.written out.new) }
     ensures faults { HasSinkCause (S.faults out.old) (S.faults out.new) result }
 {
     put_function(out, function)?;
@@ -201,7 +202,8 @@ fn put_place<S: Sink>(
     rows: &[LineRow],
     address: u32,
 ) -> Result<(), SinkErr>
-    ensures puts { PutsText (place_text (record { words = words; files = files.now; rows = rows.now }) address) result (S.written out.old) (S.written out.new) }
+    ensures puts { PutsText (place_text (record { words = words; files = files.now; rows = rows.now }) address) result (S.written out.old)
+        (S.written out.new) }
     ensures faults { HasSinkCause (S.faults out.old) (S.faults out.new) result }
 {
     if !is_in_program(words, address) {
@@ -222,7 +224,8 @@ fn put_start<S: Sink>(
     rows: &[LineRow],
     address: u32,
 ) -> Result<(), SinkErr>
-    ensures puts { PutsText (start.now ++ place_text (record { words = words; files = files.now; rows = rows.now }) address) result (S.written out.old) (S.written out.new) }
+    ensures puts { PutsText (start.now ++ place_text (record { words = words; files = files.now; rows = rows.now }) address) result
+        (S.written out.old) (S.written out.new) }
     ensures faults { HasSinkCause (S.faults out.old) (S.faults out.new) result }
 {
     put_piece(out, start)?;
@@ -238,7 +241,8 @@ fn put_line<S: Sink>(
     rows: &[LineRow],
     address: u32,
 ) -> Result<(), SinkErr>
-    ensures puts { PutsText (start.now ++ place_text (record { words = words; files = files.now; rows = rows.now }) address ++ 10 ∷ []) result (S.written out.old) (S.written out.new) }
+    ensures puts { PutsText (start.now ++ place_text (record { words = words; files = files.now; rows = rows.now }) address ++ 10 ∷ []) result
+        (S.written out.old) (S.written out.new) }
     ensures faults { HasSinkCause (S.faults out.old) (S.faults out.new) result }
 {
     put_start(out, start, words, files, rows, address)?;
@@ -281,7 +285,7 @@ impl Ending {
     }
 
     /// Puts the line of an end: of a fault or of an undecodable word, with the function, the file and the line where the address
-    /// lies in the program and has a row. Nothing is put for the other ends. After a refusal a front of the line was put.
+    /// lies in the program and has a row. Nothing is printed for the other ends. After a refusal a prefix of the line was printed.
     pub fn put_end<S: Sink>(&self, end: FrameEnd, out: &mut S) -> Result<(), SinkErr>
         ensures puts { PutsText (end_text self.now end) result (S.written out.old) (S.written out.new) }
         ensures faults { HasSinkCause (S.faults out.old) (S.faults out.new) result }

@@ -42,7 +42,8 @@ fn write_frame<F: Files>(
     ensures there { (name : List ℕ) → IsThere name (F.held files.old) → IfOk result (λ _. IsThere name (F.held files.new)) }
     ensures frames { frames_in console.new ≡ frames_in console.old + 1 }
     ensures kinds { IfErr result (λ e. IsOfWriting e.error) }
-    ensures causes { HasCauses result (F.faults files.old) (F.faults files.new) (F.misses files.old) (F.misses files.new) (F.overs files.old) (F.overs files.new) }
+    ensures causes { HasCauses result (F.faults files.old) (F.faults files.new) (F.misses files.old) (F.misses files.new) (F.overs files.old)
+        (F.overs files.new) }
 {
     let end = console.frame();
     append_words(
@@ -62,7 +63,7 @@ fn write_frame<F: Files>(
     Ok(end)
 }
 
-/// Does at most so many frames, up to a halt, a fault or an undecodable word, and adds the screen and the samples of each.
+/// Does at most `count` frames, up to a halt, a fault or an undecodable word, and adds the screen and the samples of each.
 pub fn write_frames<F: Files>(
     console: &mut Console,
     buffer: &mut [u8],
@@ -75,11 +76,13 @@ pub fn write_frames<F: Files>(
     requires frames { IsThere names.now.frames.now (F.held files.old) }
     requires samples { IsThere names.now.samples.now (F.held files.old) }
     ensures written { (u : Setup) → ConsoleStands u (opening_moment u) console.old
-        → Writes (names_of names.now) (flat_map (frame_outputs (names_of names.now) u) (frames_of count u (opening_moment u))) result (F.held files.old) (F.held files.new) }
+        → Writes (names_of names.now) (flat_map (frame_outputs (names_of names.now) u) (frames_of count u (opening_moment u))) result
+        (F.held files.old) (F.held files.new) }
     ensures stands { (u : Setup) → ConsoleStands u (opening_moment u) console.old → IfOk result (λ _. ConsoleStands u (last_moment u count) console.new) }
     ensures ended { (u : Setup) → ConsoleStands u (opening_moment u) console.old → IfOk result (λ end. end_of (last_moment u count).phase ≡ end) }
     ensures kinds { IfErr result (λ e. IsOfWriting e.error) }
-    ensures causes { HasCauses result (F.faults files.old) (F.faults files.new) (F.misses files.old) (F.misses files.new) (F.overs files.old) (F.overs files.new) }
+    ensures causes { HasCauses result (F.faults files.old) (F.faults files.new) (F.misses files.old) (F.misses files.new) (F.overs files.old)
+        (F.overs files.new) }
 {
     let mut end = FrameEnd::Full;
     let mut left = count;

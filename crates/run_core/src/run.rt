@@ -55,7 +55,8 @@ fn zeros(alloc: Global, count: usize) -> Result<Vec<u8>, Memory>
 fn write_heads<F: Files>(files: &mut F, names: &RunNames<'_>) -> Result<(), Unwritten>
     ensures written { Writes (names_of names.now) (heads (names_of names.now)) result (F.held files.old) (F.held files.new) }
     ensures kinds { IfErr result (λ e. IsOfWriting e.error) }
-    ensures causes { HasCauses result (F.faults files.old) (F.faults files.new) (F.misses files.old) (F.misses files.new) (F.overs files.old) (F.overs files.new) }
+    ensures causes { HasCauses result (F.faults files.old) (F.faults files.new) (F.misses files.old) (F.misses files.new) (F.overs files.old)
+        (F.overs files.new) }
 {
     write_bytes(files, Output::Frames, names.frames, &frames_header())?;
     write_bytes(files, Output::Samples, names.samples, &samples_header())
@@ -72,7 +73,8 @@ fn write_card<F: Files>(
     ensures written { (u : Setup) (m : Moment) → ConsoleStands u m console.now
         → Writes (names_of names.now) (card_outputs (names_of names.now).card m.state) result (F.held files.old) (F.held files.new) }
     ensures kinds { IfErr result (λ e. IsOfWriting e.error) }
-    ensures causes { HasCauses result (F.faults files.old) (F.faults files.new) (F.misses files.old) (F.misses files.new) (F.overs files.old) (F.overs files.new) }
+    ensures causes { HasCauses result (F.faults files.old) (F.faults files.new) (F.misses files.old) (F.misses files.new) (F.overs files.old)
+        (F.overs files.new) }
 {
     let Some(name) = names.card else {
         return Ok(());
@@ -97,7 +99,8 @@ fn write_run<F: Files>(
         → Writes (names_of names.now) (run_outputs (names_of names.now) u count) result (F.held files.old) (F.held files.new) }
     ensures ended { (u : Setup) → ConsoleStands u (opening_moment u) console.old → IfOk result (λ end. end ≡ run_end u count) }
     ensures kinds { IfErr result (λ e. IsOfWriting e.error) }
-    ensures causes { HasCauses result (F.faults files.old) (F.faults files.new) (F.misses files.old) (F.misses files.new) (F.overs files.old) (F.overs files.new) }
+    ensures causes { HasCauses result (F.faults files.old) (F.faults files.new) (F.misses files.old) (F.misses files.new) (F.overs files.old)
+        (F.overs files.new) }
 {
     write_heads(files, names)?;
     let end = write_frames(console, buffer, count, files, names)?;
@@ -107,7 +110,7 @@ fn write_run<F: Files>(
 
 impl Run {
     /// A run of this cartridge with this script of the gamepads and this memory card of 262,144 words, where one is connected,
-    /// of at most so many frames. The error is want of memory; writing the run takes none.
+    /// of at most `count` frames. The error is want of memory; writing the run takes none.
     pub fn open(
         alloc: Global,
         cart: Cart,
@@ -133,13 +136,16 @@ impl Run {
     /// `Failed` or `Memory`.
     pub fn write<F: Files>(self, files: &mut F, names: &RunNames<'_>) -> Result<FrameEnd, Unwritten>
         // Of what the run was opened with, the outputs are all done.
-        ensures done { (u : Setup) (count : ℕ) → RunStands u count self → OnOk result (F.held files.new ≡ all_done (run_outputs (names_of names.now) u count) (F.held files.old)) }
+        ensures done { (u : Setup) (count : ℕ) → RunStands u count self
+            → OnOk result (F.held files.new ≡ all_done (run_outputs (names_of names.now) u count) (F.held files.old)) }
         ensures ended { (u : Setup) (count : ℕ) → RunStands u count self → IfOk result (λ end. end ≡ run_end u count) }
         // Those before the refused output are done in full, that one in part, and none after it was begun.
-        ensures cut { (u : Setup) (count : ℕ) → RunStands u count self → IfErr result (λ e. IsCut (names_of names.now) e.output (run_outputs (names_of names.now) u count) (F.held files.old) (F.held files.new)) }
+        ensures cut { (u : Setup) (count : ℕ) → RunStands u count self
+            → IfErr result (λ e. IsCut (names_of names.now) e.output (run_outputs (names_of names.now) u count) (F.held files.old) (F.held files.new)) }
         ensures kinds { IfErr result (λ e. IsOfWriting e.error) }
         // No count falls, and `Failed` comes only where the faults rose.
-        ensures causes { HasCauses result (F.faults files.old) (F.faults files.new) (F.misses files.old) (F.misses files.new) (F.overs files.old) (F.overs files.new) }
+        ensures causes { HasCauses result (F.faults files.old) (F.faults files.new) (F.misses files.old) (F.misses files.new) (F.overs files.old)
+            (F.overs files.new) }
     {
         let Run {
             mut console,

@@ -15,7 +15,8 @@ fn create_output<F: Files>(files: &mut F, output: Output, name: &str) -> Result<
     ensures written { (names : Names) → IsNamed names output name.now → Writes names (Creates name.now ∷ []) result (F.held files.old) (F.held files.new) }
     ensures made { OnOk result (IsThere name.now (F.held files.new)) }
     ensures kinds { IfErr result (λ e. IsOfWriting e.error) }
-    ensures causes { HasCauses result (F.faults files.old) (F.faults files.new) (F.misses files.old) (F.misses files.new) (F.overs files.old) (F.overs files.new) }
+    ensures causes { HasCauses result (F.faults files.old) (F.faults files.new) (F.misses files.old) (F.misses files.new) (F.overs files.old)
+        (F.overs files.new) }
 {
     match files.create(name) {
         Ok(()) => Ok(()),
@@ -31,9 +32,11 @@ fn append_bytes<F: Files>(
     bytes: &[u8],
 ) -> Result<(), Unwritten>
     requires { IsThere name.now (F.held files.old) }
-    ensures written { (names : Names) → IsNamed names output name.now → Writes names (Appends name.now bytes.now ∷ []) result (F.held files.old) (F.held files.new) }
+    ensures written { (names : Names) → IsNamed names output name.now
+        → Writes names (Appends name.now bytes.now ∷ []) result (F.held files.old) (F.held files.new) }
     ensures kinds { IfErr result (λ e. IsOfWriting e.error) }
-    ensures causes { HasCauses result (F.faults files.old) (F.faults files.new) (F.misses files.old) (F.misses files.new) (F.overs files.old) (F.overs files.new) }
+    ensures causes { HasCauses result (F.faults files.old) (F.faults files.new) (F.misses files.old) (F.misses files.new) (F.overs files.old)
+        (F.overs files.new) }
 {
     match files.append(name, bytes) {
         Ok(()) => Ok(()),
@@ -51,9 +54,11 @@ pub fn append_words<F: Files>(
 ) -> Result<(), Unwritten>
     requires there { IsThere name.now (F.held files.old) }
     requires room { 4 * length words.now ≤ length buffer.old }
-    ensures written { (names : Names) → IsNamed names output name.now → Writes names (Appends name.now (words_text words.now) ∷ []) result (F.held files.old) (F.held files.new) }
+    ensures written { (names : Names) → IsNamed names output name.now
+        → Writes names (Appends name.now (words_text words.now) ∷ []) result (F.held files.old) (F.held files.new) }
     ensures kinds { IfErr result (λ e. IsOfWriting e.error) }
-    ensures causes { HasCauses result (F.faults files.old) (F.faults files.new) (F.misses files.old) (F.misses files.new) (F.overs files.old) (F.overs files.new) }
+    ensures causes { HasCauses result (F.faults files.old) (F.faults files.new) (F.misses files.old) (F.misses files.new) (F.overs files.old)
+        (F.overs files.new) }
 {
     let bytes = &mut buffer[..4 * words.len()];
     put_words(words, bytes);
@@ -67,9 +72,11 @@ pub fn write_bytes<F: Files>(
     name: &str,
     bytes: &[u8],
 ) -> Result<(), Unwritten>
-    ensures written { (names : Names) → IsNamed names output name.now → Writes names (written_file name.now bytes.now) result (F.held files.old) (F.held files.new) }
+    ensures written { (names : Names) → IsNamed names output name.now
+        → Writes names (written_file name.now bytes.now) result (F.held files.old) (F.held files.new) }
     ensures kinds { IfErr result (λ e. IsOfWriting e.error) }
-    ensures causes { HasCauses result (F.faults files.old) (F.faults files.new) (F.misses files.old) (F.misses files.new) (F.overs files.old) (F.overs files.new) }
+    ensures causes { HasCauses result (F.faults files.old) (F.faults files.new) (F.misses files.old) (F.misses files.new) (F.overs files.old)
+        (F.overs files.new) }
 {
     create_output(files, output, name)?;
     append_bytes(files, output, name, bytes)
@@ -84,9 +91,11 @@ pub fn write_words<F: Files>(
     buffer: &mut [u8],
 ) -> Result<(), Unwritten>
     requires room { 4 * length words.now ≤ length buffer.old }
-    ensures written { (names : Names) → IsNamed names output name.now → Writes names (written_file name.now (words_text words.now)) result (F.held files.old) (F.held files.new) }
+    ensures written { (names : Names) → IsNamed names output name.now
+        → Writes names (written_file name.now (words_text words.now)) result (F.held files.old) (F.held files.new) }
     ensures kinds { IfErr result (λ e. IsOfWriting e.error) }
-    ensures causes { HasCauses result (F.faults files.old) (F.faults files.new) (F.misses files.old) (F.misses files.new) (F.overs files.old) (F.overs files.new) }
+    ensures causes { HasCauses result (F.faults files.old) (F.faults files.new) (F.misses files.old) (F.misses files.new) (F.overs files.old)
+        (F.overs files.new) }
 {
     create_output(files, output, name)?;
     append_words(files, output, name, words, buffer)

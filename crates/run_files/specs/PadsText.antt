@@ -1,6 +1,7 @@
 -- The lines of a pads file. The first is `pads DATE TIME MASK`; each other is `FRAME PAD press CONTROL` or
 -- `FRAME PAD release CONTROL`: four fields, with one space between. Hold it against the kit's page on files.
-use Rattle.std.specs.Prelude.{◌≡◌, ℕ, ◌≤◌, List, [], ◌∷◌, ◌++◌, codes, bytes_eq, Bool, true, false, ◌&&◌, not, nat_le, if◌then◌else◌, Option, Some, None, option_and_then}
+use Rattle.std.specs.Prelude.{◌≡◌, ℕ, ◌≤◌, List, [], ◌∷◌, ◌++◌, codes, bytes_eq, Bool, true, false, ◌&&◌, not, nat_le, if◌then◌else◌, Option, Some}
+use Rattle.std.specs.Prelude.{None, option_and_then}
 use Rattle.std.specs.List.{list_all}
 use Rattle.line_text.specs.Fields.{field_at, is_space}
 use Rattle.line_text.specs.Numbers.{decimal_word}

@@ -32,5 +32,6 @@ pub fn answers_say_what_the_grammar_gives()
 /// Answers are read exactly where each line writes one, and are those; else exactly the first line that writes none is refused, with code 111.
 pub fn answers_are_what_the_lines_write()
     ensures answers { (bytes words : List ℕ) → (read_from answer_step 1 [] (lines_of bytes) ≡ Ok words) ↔ IsAnswersFile bytes words }
-    ensures refused { (bytes : List ℕ) (code line : ℕ) → (read_from answer_step 1 [] (lines_of bytes) ≡ Err (code, line)) ↔ ((code ≡ 111) × IsFirstFaulty bytes line) }
+    ensures refused { (bytes : List ℕ) (code line : ℕ)
+        → (read_from answer_step 1 [] (lines_of bytes) ≡ Err (code, line)) ↔ ((code ≡ 111) × IsFirstFaulty bytes line) }
 {}

@@ -1,5 +1,6 @@
 -- The sixteen channels, by commands and ports (the system specification, sound chip, commands and ports of channels).
-use Rattle.std.specs.Prelude.{◌≡◌, ℕ, zero, suc, ◌<◌, ◌==◌, ◌&&◌, nat_le, nat_lt, Bool, false, List, [], ◌∷◌, Option, Some, None, length, slice_get, map, if◌then◌else◌}
+use Rattle.std.specs.Prelude.{◌≡◌, ℕ, zero, suc, ◌<◌, ◌==◌, ◌&&◌, nat_le, nat_lt, Bool, false, List, [], ◌∷◌, Option, Some, None, length, slice_get}
+use Rattle.std.specs.Prelude.{map, if◌then◌else◌}
 use Rattle.spu_mix.specs.Sounds.{SoundState}
 use Rattle.spu_mix.specs.declared.channel.Channel.{Channel}
 use Rattle.spu_mix.specs.declared.channel.ChannelState.{ChannelState}

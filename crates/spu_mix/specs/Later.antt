@@ -1,6 +1,7 @@
 -- A channel, and the samples that it adds, after words that concern neither it nor the loop of its sound, in closed form (the system specification, sound
 -- chip, on commands and loops).
-use Rattle.std.specs.Prelude.{◌≡◌, ℕ, ◌<◌, ◌≤◌, ◌+◌, ◌-◌, ◌%◌, ◌==◌, ◌&&◌, ◌||◌, Bool, true, false, List, [], ◌∷◌, ◌++◌, length, slice_get, All, Option, Some, None}
+use Rattle.std.specs.Prelude.{◌≡◌, ℕ, ◌<◌, ◌≤◌, ◌+◌, ◌-◌, ◌%◌, ◌==◌, ◌&&◌, ◌||◌, Bool, true, false, List, [], ◌∷◌, ◌++◌, length, slice_get, All}
+use Rattle.std.specs.Prelude.{Option, Some, None}
 use Rattle.port_history.specs.Past.{Happening, Began, Asked, Told, Mixed, is_sound_port}
 use Rattle.spu_mix.specs.Sounds.{SoundState}
 use Rattle.spu_mix.specs.Channels.{assigned, is_for_all}

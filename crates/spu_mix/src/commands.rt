@@ -1,7 +1,8 @@
 // What a word at a port does to the sounds and the channels.
 ghost use Rattle.std.specs.Prelude.{◌≡◌, map};
 ghost use Rattle.spu_mix.specs.Sounds.{sound_told};
-ghost use Rattle.spu_mix.specs.Channels.{assigned, start_over, play, pause, resume, stop, commanded, commanded_all, is_for_all, assign, place, channel_told, changed_at, channels_told};
+ghost use Rattle.spu_mix.specs.Channels.{assigned, start_over, play, pause, resume, stop, commanded, commanded_all, is_for_all, assign, place};
+ghost use Rattle.spu_mix.specs.Channels.{channel_told, changed_at, channels_told};
 
 use crate::channel::{Channel, ChannelState};
 use crate::looped_sound::{LoopedSound, assigned};

@@ -17,7 +17,8 @@ pub fn positions_go_step_by_step()
     ensures first { (looping : Bool) (loop_start loop_end count p : ℕ) → loop_start ≤ loop_end → loop_end < count → p < count →
         position_after looping loop_start loop_end count p 0 ≡ Some p }
     ensures next { (looping : Bool) (loop_start loop_end count p j : ℕ) → loop_start ≤ loop_end → loop_end < count → p < count →
-        position_after looping loop_start loop_end count p (j + 1) ≡ next_position looping loop_start loop_end count (position_after looping loop_start loop_end count p j) }
+        position_after looping loop_start loop_end count p (j + 1) ≡ next_position looping loop_start loop_end count
+        (position_after looping loop_start loop_end count p j) }
 {}
 
 /// A channel after j samples and then k is the channel after j + k, and what it adds to sample j + k is
@@ -68,8 +69,10 @@ pub fn what_is_selected_exists()
 /// What other devices are told or asked is nothing to sound: who stands for the part of a history that
 /// concerns sound stands for all of it, and the reverse.
 pub fn others_are_nothing_to_sound()
-    ensures all { (sounds : List (List ℕ)) (past : List Happening) (unit : SoundUnit) → SoundStands sounds (sound_past past) unit → SoundStands sounds past unit }
-    ensures ours { (sounds : List (List ℕ)) (past : List Happening) (unit : SoundUnit) → SoundStands sounds past unit → SoundStands sounds (sound_past past) unit }
+    ensures all { (sounds : List (List ℕ)) (past : List Happening) (unit : SoundUnit) → SoundStands sounds (sound_past past) unit
+        → SoundStands sounds past unit }
+    ensures ours { (sounds : List (List ℕ)) (past : List Happening) (unit : SoundUnit) → SoundStands sounds past unit
+        → SoundStands sounds (sound_past past) unit }
 {}
 
 /// A side of a word is a signed number of 16 bits, raised by 32,768. A sum of sixteen raised sides is

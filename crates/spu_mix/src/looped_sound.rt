@@ -97,8 +97,11 @@ impl LoopedSound {
         requires lengths { (length left.old ≡ 735) × (length right.old ≡ 735) }
         requires small { (k : ℕ) → (slice_index left.old k < 1048576) × (slice_index right.old k < 1048576) }
         ensures position { result ≡ position_after looping self.now.loop_start self.now.loop_end (length self.now.samples) from 735 }
-        ensures left { (k : ℕ) → k < 735 → slice_index left.new k ≡ slice_index left.old k + left_at self.now.samples (position_after looping self.now.loop_start self.now.loop_end (length self.now.samples) from k) }
-        ensures right { (k : ℕ) → k < 735 → slice_index right.new k ≡ slice_index right.old k + right_at self.now.samples (position_after looping self.now.loop_start self.now.loop_end (length self.now.samples) from k) }
+        ensures left { (k : ℕ) → k < 735 → slice_index left.new k ≡ slice_index left.old k + left_at self.now.samples
+            (position_after looping self.now.loop_start self.now.loop_end (length self.now.samples) from k) }
+        ensures right { (k : ℕ) → k < 735
+            → slice_index right.new k ≡ slice_index right.old k + right_at self.now.samples
+            (position_after looping self.now.loop_start self.now.loop_end (length self.now.samples) from k) }
     {
         play(
             left,

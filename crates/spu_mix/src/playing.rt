@@ -46,8 +46,10 @@ pub(crate) fn play(
     requires small { (k : ℕ) → (slice_index left.old k < 1048576) × (slice_index right.old k < 1048576) }
     requires sound { (loop_start ≤ loop_end) × (loop_end < length samples.now) × (length samples.now ≤ 33554432) }
     ensures position { result ≡ position_after looping loop_start loop_end (length samples.now) from 735 }
-    ensures left { (k : ℕ) → k < 735 → slice_index left.new k ≡ slice_index left.old k + left_at samples.now (position_after looping loop_start loop_end (length samples.now) from k) }
-    ensures right { (k : ℕ) → k < 735 → slice_index right.new k ≡ slice_index right.old k + right_at samples.now (position_after looping loop_start loop_end (length samples.now) from k) }
+    ensures left { (k : ℕ) → k < 735 → slice_index left.new k ≡ slice_index left.old k + left_at samples.now
+        (position_after looping loop_start loop_end (length samples.now) from k) }
+    ensures right { (k : ℕ) → k < 735 → slice_index right.new k ≡ slice_index right.old k + right_at samples.now
+        (position_after looping loop_start loop_end (length samples.now) from k) }
 {
     let mut position = from as usize;
     let mut done = 0;

@@ -23,7 +23,7 @@ fn add_eight(left: &mut [u32], right: &mut [u32], samples: &[u32], at: usize)
     store(right, at, sums);
 }
 
-/// Adds the first samples to the sums of both sides, so many eights of them.
+/// Adds the first samples to the sums of both sides, `count` eights of them.
 #[inline(always)]
 fn add_eights(left: &mut [u32], right: &mut [u32], samples: &[u32], count: usize)
     requires lengths { (length left.old ≡ length samples.now) × (length right.old ≡ length samples.now) }
@@ -44,7 +44,8 @@ fn add_rest(left: &mut [u32], right: &mut [u32], samples: &[u32], from: usize)
     requires lengths { (length left.old ≡ length samples.now) × (length right.old ≡ length samples.now) }
     requires small { (k : ℕ) → from ≤ k → (slice_index left.old k < 1048576) × (slice_index right.old k < 1048576) }
     ensures left { (k : ℕ) → from ≤ k → k < length samples.now → slice_index left.new k ≡ slice_index left.old k + raised_left (slice_index samples.now k) }
-    ensures right { (k : ℕ) → from ≤ k → k < length samples.now → slice_index right.new k ≡ slice_index right.old k + raised_right (slice_index samples.now k) }
+    ensures right { (k : ℕ) → from ≤ k → k < length samples.now
+        → slice_index right.new k ≡ slice_index right.old k + raised_right (slice_index samples.now k) }
     ensures before { (k : ℕ) → k < from → (slice_index left.new k ≡ slice_index left.old k) × (slice_index right.new k ≡ slice_index right.old k) }
 {
     for i in from..samples.len() {
@@ -70,9 +71,12 @@ fn add_samples(left: &mut [u32], right: &mut [u32], samples: &[u32])
 pub(crate) fn add_samples_at(left: &mut [u32], right: &mut [u32], at: usize, samples: &[u32])
     requires lengths { (at + length samples.now ≤ length left.old) × (length right.old ≡ length left.old) }
     requires small { (k : ℕ) → at ≤ k → (slice_index left.old k < 1048576) × (slice_index right.old k < 1048576) }
-    ensures left { (k : ℕ) → at ≤ k → k < at + length samples.now → slice_index left.new k ≡ slice_index left.old k + raised_left (slice_index samples.now (k - at)) }
-    ensures right { (k : ℕ) → at ≤ k → k < at + length samples.now → slice_index right.new k ≡ slice_index right.old k + raised_right (slice_index samples.now (k - at)) }
-    ensures rest { (k : ℕ) → (k < at) ⊎ (at + length samples.now ≤ k) → (slice_index left.new k ≡ slice_index left.old k) × (slice_index right.new k ≡ slice_index right.old k) }
+    ensures left { (k : ℕ) → at ≤ k → k < at + length samples.now
+        → slice_index left.new k ≡ slice_index left.old k + raised_left (slice_index samples.now (k - at)) }
+    ensures right { (k : ℕ) → at ≤ k → k < at + length samples.now
+        → slice_index right.new k ≡ slice_index right.old k + raised_right (slice_index samples.now (k - at)) }
+    ensures rest { (k : ℕ) → (k < at) ⊎ (at + length samples.now ≤ k) → (slice_index left.new k ≡ slice_index left.old k)
+        × (slice_index right.new k ≡ slice_index right.old k) }
 {
     let end = at + samples.len();
     add_samples(&mut left[at..end], &mut right[at..end], samples);
@@ -82,7 +86,8 @@ pub(crate) fn add_samples_at(left: &mut [u32], right: &mut [u32], at: usize, sam
 pub(crate) fn add_silence_from(left: &mut [u32], right: &mut [u32], at: usize)
     requires lengths { length right.old ≡ length left.old }
     requires small { (k : ℕ) → at ≤ k → (slice_index left.old k < 1048576) × (slice_index right.old k < 1048576) }
-    ensures silent { (k : ℕ) → at ≤ k → k < length left.old → (slice_index left.new k ≡ slice_index left.old k + 32768) × (slice_index right.new k ≡ slice_index right.old k + 32768) }
+    ensures silent { (k : ℕ) → at ≤ k → k < length left.old → (slice_index left.new k ≡ slice_index left.old k + 32768)
+        × (slice_index right.new k ≡ slice_index right.old k + 32768) }
     ensures before { (k : ℕ) → k < at → (slice_index left.new k ≡ slice_index left.old k) × (slice_index right.new k ≡ slice_index right.old k) }
 {
     for i in at..left.len() {
@@ -127,7 +132,7 @@ fn mix_eight(samples: &mut [u32], left: &[u32], right: &[u32], at: usize)
     store(samples, at, words);
 }
 
-/// Writes the words of the first sums of both sides, so many eights of them.
+/// Writes the words of the first sums of both sides, `count` eights of them.
 #[inline(always)]
 fn mix_eights(samples: &mut [u32], left: &[u32], right: &[u32], count: usize)
     requires lengths { (length left.now ≡ length samples.old) × (length right.now ≡ length samples.old) }

@@ -35,7 +35,13 @@ impl Model for Spu {
 
     ghost Value = { SoundUnit };
 
-    ghost view = { λ s. record { sounds = s.sounds.items; channels = s.channels; selected_sound = s.selected_sound; selected_channel = s.selected_channel; samples = s.samples } };
+    ghost view = { λ s. record {
+      sounds = s.sounds.items;
+      channels = s.channels;
+      selected_sound = s.selected_sound;
+      selected_channel = s.selected_channel;
+      samples = s.samples;
+    } };
 }
 
 /// The sounds with their first settings.
@@ -49,7 +55,7 @@ fn looped(alloc: Global, sounds: Vec<Sound>) -> Result<Vec<LoopedSound>, Memory>
     Ok(made)
 }
 
-/// The selected sound after a word, among so many.
+/// The selected sound after a word, among `count` sounds.
 fn sound_chosen(port: u32, word: u32, count: usize, before: u32) -> u32
     ensures value { result ≡ (if port == 0x302 && nat_lt word count then word else before) }
 {
@@ -60,7 +66,7 @@ fn sound_chosen(port: u32, word: u32, count: usize, before: u32) -> u32
     }
 }
 
-/// The selected channel after a word, with so many sounds.
+/// The selected channel after a word, with `count` sounds.
 fn channel_chosen(port: u32, word: u32, count: usize, before: u32) -> u32
     ensures value { result ≡ (if port == 0x303 && (nat_lt 0 count && nat_lt word 16) then word else before) }
 {
@@ -96,7 +102,8 @@ impl Spu {
         ensures sounds { self.new.sounds ≡ changed_at self.old.selected_sound (sound_told port word) self.old.sounds }
         ensures channels { self.new.channels ≡ channels_told self.old.sounds self.old.selected_channel port word self.old.channels }
         ensures selected_sound { self.new.selected_sound ≡ (if port == 0x302 && nat_lt word (length self.old.sounds) then word else self.old.selected_sound) }
-        ensures selected_channel { self.new.selected_channel ≡ (if port == 0x303 && (nat_lt 0 (length self.old.sounds) && nat_lt word 16) then word else self.old.selected_channel) }
+        ensures selected_channel { self.new.selected_channel
+            ≡ (if port == 0x303 && (nat_lt 0 (length self.old.sounds) && nat_lt word 16) then word else self.old.selected_channel) }
         ensures samples { self.new.samples ≡ self.old.samples }
     {
         let count = self.sounds.len();
@@ -117,7 +124,8 @@ impl Spu {
     #[tactic(auto, using(crate::proofs::Standing::as_many_sounds))]
     pub fn out(&mut self, port: Port, word: u32)
         requires listed { (is_sound_port port ≡ true) × (is_writable port ≡ true) }
-        ensures told { (sounds : List (List ℕ)) (past : List Happening) → SoundStands sounds past self.old → SoundStands sounds (Told port word ∷ past) self.new }
+        ensures told { (sounds : List (List ℕ)) (past : List Happening) → SoundStands sounds past self.old
+            → SoundStands sounds (Told port word ∷ past) self.new }
     {
         self.tell(port.number(), word);
     }
@@ -147,7 +155,8 @@ impl Spu {
     /// in its low 16 bits, right in its high 16, both signed.
     pub fn samples(&self) -> &[u32]
         ensures all { length result.now ≡ 735 }
-        ensures exact { (sounds : List (List ℕ)) (past : List Happening) → SoundStands sounds past self.now → (k : ℕ) → k < 735 → slice_index result.now k ≡ last_sample sounds past k }
+        ensures exact { (sounds : List (List ℕ)) (past : List Happening) → SoundStands sounds past self.now → (k : ℕ) → k < 735
+            → slice_index result.now k ≡ last_sample sounds past k }
     {
         &self.samples
     }

@@ -23,7 +23,9 @@ pub data AreLines : List ℕ → List (List ℕ) → Type 0 where
   -- no byte is left, and no line
   ended : {bytes : List ℕ} {lines : List (List ℕ)} → bytes ≡ [] → lines ≡ [] → AreLines bytes lines
   -- a last line without an end: it is kept as it is
-  last : {bytes : List ℕ} {lines : List (List ℕ)} (first : ℕ) (more : List ℕ) → bytes ≡ first ∷ more → is_free bytes ≡ true → lines ≡ bytes ∷ [] → AreLines bytes lines
+  last : {bytes : List ℕ} {lines : List (List ℕ)} (first : ℕ) (more : List ℕ) → bytes ≡ first ∷ more → is_free bytes ≡ true → lines ≡ bytes ∷ []
+      → AreLines bytes lines
   -- a line, its end, and what stands behind it
-  line : {bytes : List ℕ} {lines : List (List ℕ)} (text own rest : List ℕ) (others : List (List ℕ)) → bytes ≡ text ++ 10 ∷ rest → is_free text ≡ true → IsEnded text own
+  line : {bytes : List ℕ} {lines : List (List ℕ)} (text own rest : List ℕ) (others : List (List ℕ)) → bytes ≡ text ++ 10 ∷ rest → is_free text ≡ true
+      → IsEnded text own
       → lines ≡ own ∷ others → AreLines rest others → AreLines bytes lines

@@ -53,7 +53,8 @@ fn put_event<S: Sink>(out: &mut S, event: Option<Event>) -> Result<(), SinkErr>
 /// Does a step and puts the line of its port operation.
 fn put_step<S: Sink>(cpu: &mut Cpu, bus: &mut AnswerBus, out: &mut S) -> Result<Stepped, SinkErr>
     requires { bus.old.made ≡ None }
-    ensures puts { (n : ℕ) → StepPuts (run_text (run (suc n) (state_of cpu.old) bus.old.left)) result n (state_of cpu.new) bus.new.left (S.written out.old) (S.written out.new) }
+    ensures puts { (n : ℕ) → StepPuts (run_text (run (suc n) (state_of cpu.old) bus.old.left)) result n (state_of cpu.new) bus.new.left
+        (S.written out.old) (S.written out.new) }
     ensures taken { bus.new.made ≡ None }
     ensures faults { HasSinkCause (S.faults out.old) (S.faults out.new) result }
 {

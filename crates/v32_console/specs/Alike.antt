@@ -27,4 +27,5 @@ SameSectionsRunAlike =
 -- So the line table is nothing to a run, nor the revision, which is whether there is one.
 abbrev pub TablesAreNothing : Type 0
 TablesAreNothing =
-    (cart : Cartridge) (table : Option LineTable) (pads : Script) (card : Option (List ℕ)) → RunsAlike (setup_of cart pads card) (setup_of (record cart { table = table }) pads card)
+    (cart : Cartridge) (table : Option LineTable) (pads : Script) (card : Option (List ℕ))
+    → RunsAlike (setup_of cart pads card) (setup_of (record cart { table = table }) pads card)

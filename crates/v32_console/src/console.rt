@@ -84,9 +84,11 @@ impl Console {
     pub fn frame(&mut self) -> FrameEnd
         requires few { frames_in self.old < 1000000000 }
         // What the console stands for goes on to the end of the definition's next frame.
-        ensures frame { (u : Setup) (m : Moment) → ConsoleStands u m self.old → IsAtRest m.phase → ConsoleStands u (frame_of u m) self.new × ((frame_of u m).phase ≡ Left result) }
+        ensures frame { (u : Setup) (m : Moment) → ConsoleStands u m self.old → IsAtRest m.phase → ConsoleStands u (frame_of u m) self.new
+            × ((frame_of u m).phase ≡ Left result) }
         // In numbers of instructions and frame edges: from the one that the console stands for to the frame's end.
-        ensures edges { (u : Setup) (k : ℕ) → StandsAt u k self.old → IsAtRest (console_at u k).phase → (j : ℕ) × (IsFrame u k j result × StandsAt u (k + j) self.new) }
+        ensures edges { (u : Setup) (k : ℕ) → StandsAt u k self.old → IsAtRest (console_at u k).phase
+            → (j : ℕ) × (IsFrame u k j result × StandsAt u (k + j) self.new) }
         ensures frames { frames_in self.new ≡ frames_in self.old + 1 }
     {
         self.do_frame()
@@ -98,12 +100,15 @@ impl Console {
         requires room { 250000 ≤ notes.old.spare }
         requires instructions { notes.old.instructions ≤ 1000000000 }
         // What the console stands for goes on to the end of the definition's next frame.
-        ensures frame { (u : Setup) (m : Moment) → ConsoleStands u m self.old → IsAtRest m.phase → ConsoleStands u (frame_of u m) self.new × ((frame_of u m).phase ≡ Left result) }
+        ensures frame { (u : Setup) (m : Moment) → ConsoleStands u m self.old → IsAtRest m.phase → ConsoleStands u (frame_of u m) self.new
+            × ((frame_of u m).phase ≡ Left result) }
         // In numbers of instructions and frame edges: from the one that the console stands for to the frame's end.
-        ensures edges { (u : Setup) (k : ℕ) → StandsAt u k self.old → IsAtRest (console_at u k).phase → (j : ℕ) × (IsFrame u k j result × StandsAt u (k + j) self.new) }
+        ensures edges { (u : Setup) (k : ℕ) → StandsAt u k self.old → IsAtRest (console_at u k).phase
+            → (j : ℕ) × (IsFrame u k j result × StandsAt u (k + j) self.new) }
         ensures frames { frames_in self.new ≡ frames_in self.old + 1 }
         // The notes go on by the operations of the definition's next frame.
-        ensures noted { (u : Setup) (m : Moment) → ConsoleStands u m self.old → IsAtRest m.phase → notes.new ≡ with_operations (frame_operations u m) notes.old }
+        ensures noted { (u : Setup) (m : Moment) → ConsoleStands u m self.old → IsAtRest m.phase
+            → notes.new ≡ with_operations (frame_operations u m) notes.old }
         ensures within { notes.new.instructions ≤ notes.old.instructions + 250000 }
     {
         mem::swap(&mut self.board.tape, &mut notes.tape);
@@ -118,9 +123,11 @@ impl Console {
     // The tape takes the frame's operations, and the board counts its instructions.
     fn do_frame(&mut self) -> FrameEnd
         requires few { frames_in self.old < 1000000000 }
-        ensures frame { (u : Setup) (m : Moment) → ConsoleStands u m self.old → IsAtRest m.phase → ConsoleStands u (frame_of u m) self.new × ((frame_of u m).phase ≡ Left result) }
+        ensures frame { (u : Setup) (m : Moment) → ConsoleStands u m self.old → IsAtRest m.phase → ConsoleStands u (frame_of u m) self.new
+            × ((frame_of u m).phase ≡ Left result) }
         ensures frames { frames_in self.new ≡ frames_in self.old + 1 }
-        ensures noted { (u : Setup) (m : Moment) → ConsoleStands u m self.old → IsAtRest m.phase → IsNoted (frame_operations u m) self.old.board.tape self.new.board }
+        ensures noted { (u : Setup) (m : Moment) → ConsoleStands u m self.old → IsAtRest m.phase
+            → IsNoted (frame_operations u m) self.old.board.tape self.new.board }
         ensures within { self.new.board.cycles ≤ 250000 }
         ensures events { self.new.board.tape.events ≤ self.old.board.tape.events + self.new.board.cycles }
     {

@@ -11,7 +11,8 @@ ghost use Rattle.v32_console.specs.Alike.{SameSectionsRunAlike, TablesAreNothing
 /// The console is the machine on a list of port answers: after k instructions and frame edges, with the answers that the
 /// devices gave up to there, the machine has after as many instructions the same port operations, end and state.
 pub fn operations_are_the_machines()
-    ensures machine { (u : Setup) (k : ℕ) → machine_runs u.program (operations_of u k (opening_moment u)).answers u.card (operations_of u k (opening_moment u)).instructions
+    ensures machine { (u : Setup) (k : ℕ)
+        → machine_runs u.program (operations_of u k (opening_moment u)).answers u.card (operations_of u k (opening_moment u)).instructions
         ≡ record { events = (operations_of u k (opening_moment u)).events; end = end_of (console_at u k).phase; state = (console_at u k).state } }
 {}
 
@@ -30,7 +31,7 @@ pub fn cartridges_run_alike()
     ensures tables { TablesAreNothing }
 {}
 
-/// A run of at most so many frames is so many instructions and frame edges, and the operations of its frames are those of these.
+/// A run of at most a number of frames is a number of instructions and frame edges, and the operations of its frames are those of these.
 pub fn runs_are_of_instructions()
     ensures runs { RunsAreOfInstructions }
 {}

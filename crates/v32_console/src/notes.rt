@@ -73,11 +73,16 @@ impl Notes {
         self.tape.answers()
     }
 
-    /// A frame had so many instructions, and not more port operations.
+    /// A frame had `instructions` instructions, and not more port operations.
     pub(crate) fn count(&mut self, events: u32, instructions: u32)
         requires few { events ≤ instructions }
         requires room { self.old.instructions ≤ 1000000000 }
-        ensures { self.new ≡ record { answers = self.old.answers; events = self.old.events + events; instructions = self.old.instructions + instructions; spare = self.old.spare } }
+        ensures { self.new ≡ record {
+          answers = self.old.answers;
+          events = self.old.events + events;
+          instructions = self.old.instructions + instructions;
+          spare = self.old.spare;
+        } }
     {
         self.events += events as u64;
         self.instructions += instructions as u64;

@@ -20,7 +20,8 @@ pub fn run_frame(cpu: &mut Cpu, board: &mut Board) -> FrameEnd
         × ((left_within 250000 u (moment (state_of cpu.old) past (Running 0)) ≡ left_by result (state_of cpu.new) after) × BoardStands u after board.new) }
     ensures frames { board.new.devices.frames ≡ board.old.devices.frames }
     // The tape has the frame's operations, and the board counts its instructions.
-    ensures noted { (u : Setup) (past : List Happening) → BoardStands u past board.old → IsNoted (operations_within 250000 u (moment (state_of cpu.old) past (Running 0))) board.old.tape board.new }
+    ensures noted { (u : Setup) (past : List Happening) → BoardStands u past board.old
+        → IsNoted (operations_within 250000 u (moment (state_of cpu.old) past (Running 0))) board.old.tape board.new }
     ensures few { board.new.cycles ≤ 250000 }
     ensures events { board.new.tape.events ≤ board.old.tape.events + board.new.cycles }
 {

@@ -91,7 +91,8 @@ InCall (suc n) d s answers = InCallOn (turn s) d (stepped_on s answers) (InCall 
 -- Within so many steps of a run each call of the function at an address has done fewer than N instructions where it is still in progress.
 abbrev pub CallsTakeAtMost : (words answers : List ℕ) (card : Option (List ℕ)) (within address N : ℕ) → Type 0
 CallsTakeAtMost words answers card within address N =
-    (k j back : ℕ) (s t : State) (xs ys : List ℕ) → k + (1 + j) ≤ within → after_steps k (opening words card) answers ≡ Some (s, xs) → turn s ≡ Enters address back → stepped_on s xs ≡ Some (t, ys) → InCall j 0 t ys → j < N
+    (k j back : ℕ) (s t : State) (xs ys : List ℕ) → k + (1 + j) ≤ within → after_steps k (opening words card) answers ≡ Some (s, xs)
+    → turn s ≡ Enters address back → stepped_on s xs ≡ Some (t, ys) → InCall j 0 t ys → j < N
 
 -- ---- nested runs
 

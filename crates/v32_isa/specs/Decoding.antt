@@ -19,10 +19,12 @@ abbrev pub operations : List Operation
 operations =
     operation.Plain HLT ∷ operation.Plain WAIT ∷ operation.Go JMP ∷ operation.Go CALL ∷ operation.Plain RET ∷ operation.Branch JT ∷ operation.Branch JF ∷
     operation.Two IEQ ∷ operation.Two INE ∷ operation.Two IGT ∷ operation.Two IGE ∷ operation.Two ILT ∷ operation.Two ILE ∷
-    operation.Mov ∷ operation.Lea ∷ operation.One PUSH ∷ operation.One POP ∷ operation.In ∷ operation.Out ∷ operation.Plain MOVS ∷ operation.Plain SETS ∷ operation.One CMPS ∷
+    operation.Mov ∷ operation.Lea ∷ operation.One PUSH ∷ operation.One POP ∷ operation.In ∷ operation.Out ∷ operation.Plain MOVS
+    ∷ operation.Plain SETS ∷ operation.One CMPS ∷
     operation.One CIB ∷
     operation.One NOT ∷ operation.Two AND ∷ operation.Two OR ∷ operation.Two XOR ∷ operation.One BNOT ∷ operation.Two SHL ∷
-    operation.Two IADD ∷ operation.Two ISUB ∷ operation.Two IMUL ∷ operation.Two IDIV ∷ operation.Two IMOD ∷ operation.One ISGN ∷ operation.Two IMIN ∷ operation.Two IMAX ∷ operation.One IABS ∷ []
+    operation.Two IADD ∷ operation.Two ISUB ∷ operation.Two IMUL ∷ operation.Two IDIV ∷ operation.Two IMOD ∷ operation.One ISGN ∷ operation.Two IMIN
+    ∷ operation.Two IMAX ∷ operation.One IABS ∷ []
 
 abbrev pub operation_opcode : Operation → ℕ
 operation_opcode (operation.Plain p) = plain_opcode p

@@ -1,6 +1,7 @@
 // The words of instructions.
 ghost use Rattle.std.specs.Prelude.{◌≡◌, ◌<◌, ◌∷◌, option_to_list};
-ghost use Rattle.v32_isa.specs.Table.{spelling, plain_opcode, go_opcode, branch_opcode, two_opcode, one_opcode, row_of, row, words_of, mov_row, src_register, src_immediate};
+ghost use Rattle.v32_isa.specs.Table.{spelling, plain_opcode, go_opcode, branch_opcode, two_opcode, one_opcode, row_of, row, words_of, mov_row};
+ghost use Rattle.v32_isa.specs.Table.{src_register, src_immediate};
 
 use crate::fields::{Fields, join_fields};
 use crate::instruction::{Branch, Go, Instr, Mov, One, Plain, Src, Two};

@@ -97,7 +97,8 @@ module _ (W : Whole) (F : Frame) (out : ℕ) where
     pub node_items : (last : Bool) → List ℕ → ℕ → NodeT Where → List AsmItem
     node_items last ls n (DoN o) = do_items W F o
     node_items last ls n (ChooseN p a b) =
-        cond (is_none b) (alone F p n (left_in ls a) (list_past last ls (n + 1) a 0)) (choice F p n (n + 1 + list_labels a) (list_past false ls (n + 1) a 0) (list_past last ls (n + 1 + list_labels a + 1) b 0))
+        cond (is_none b) (alone F p n (left_in ls a) (list_past last ls (n + 1) a 0))
+        (choice F p n (n + 1 + list_labels a) (list_past false ls (n + 1) a 0) (list_past last ls (n + 1 + list_labels a + 1) b 0))
     node_items last ls n (BlockN b) = enclosed n (list_past last (ls ++ n ∷ []) (n + 2) b 0)
     node_items last ls n (LoopN b) = enclosed n (list_past last (ls ++ n ∷ []) (n + 2) b 0)
     node_items last ls n (LeaveN k) = jump (add (enclosing ls k) 1) ∷ []
@@ -108,7 +109,8 @@ module _ (W : Whole) (F : Frame) (out : ℕ) where
     pub list_past : (last : Bool) → List ℕ → ℕ → ListT Where → (done : ℕ) → List AsmItem
     list_past last ls n NoN k = []
     list_past last ls n (MoreN x rest) k =
-        front_items W (before x (joined rest)) k ++ onward (front_more W (before x (joined rest)) k) (node_items (ends_in last rest) ls n x) (list_past last ls n rest) (list_past last ls (n + node_labels x) rest 0)
+        front_items W (before x (joined rest)) k ++ onward (front_more W (before x (joined rest)) k) (node_items (ends_in last rest) ls n x)
+        (list_past last ls n rest) (list_past last ls (n + node_labels x) rest 0)
 
   abbrev pub list_items : List ℕ → ℕ → ListT Where → List AsmItem
   list_items ls n xs = list_past true ls n xs 0

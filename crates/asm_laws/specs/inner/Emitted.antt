@@ -85,7 +85,8 @@ abbrev pub returning : Frame → Option Where → ℕ → (last : Bool) → List
 returning F p out last = giving F p ++ cond last [] (jump out ∷ [])
 
 module _ (W : Whole) (F : Frame) (out : ℕ) where
-  -- the items of nodes whose labels begin at n, inside blocks and loops with these labels; so many operations in front are done already. Whether the function's end comes
+  -- the items of nodes whose labels begin at n, inside blocks and loops with these labels; so many operations in front are done already. Whether the
+  -- function's end comes
   -- right behind them.
   abbrev pub items_past : (last : Bool) → List ℕ → ℕ → NodesT Where → (done : ℕ) → List AsmItem
   items_past last ls n Stop k = []
@@ -93,7 +94,8 @@ module _ (W : Whole) (F : Frame) (out : ℕ) where
   items_past last ls n (Do o c) (suc k) = items_past last ls n c k
   items_past last ls n (Call t g args c) k = call_items W F t g args ++ items_past last ls n c 0
   items_past last ls n (Choose p a b c) k =
-      cond (is_stop b) (alone F p n (left_to ls a) (items_past (ends last c) ls (n + 1) a 0)) (choice F p n (n + 1 + labels a) (items_past false ls (n + 1) a 0) (items_past (ends last c) ls (n + 1 + labels a + 1) b 0))
+      cond (is_stop b) (alone F p n (left_to ls a) (items_past (ends last c) ls (n + 1) a 0))
+      (choice F p n (n + 1 + labels a) (items_past false ls (n + 1) a 0) (items_past (ends last c) ls (n + 1 + labels a + 1) b 0))
       ++ items_past last ls (n + (2 + labels a + labels b)) c 0
   items_past last ls n (Block b c) k = enclosed n (items_past (ends last c) (ls ++ n ∷ []) (n + 2) b 0) ++ items_past last ls (n + (2 + labels b)) c 0
   items_past last ls n (Loop b c) k = enclosed n (items_past (ends last c) (ls ++ n ∷ []) (n + 2) b 0) ++ items_past last ls (n + (2 + labels b)) c 0

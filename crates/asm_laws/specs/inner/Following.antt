@@ -39,7 +39,8 @@ abbrev pub spare : ℕ → Begin → Begin
 spare k b = record b { work = b.work + k }
 
 -- the machine comes to an address and the state t, in at least so many steps and at most the work between and `more`
-pub record CameBy {L : Lang Where} (ins outs : List Link) (X : Holder L) (m : State) (b : Begin) (t : L.S) (pc least more : ℕ) (R : State → Type 0) : Type 0 where
+pub record CameBy {L : Lang Where} (ins outs : List Link) (X : Holder L) (m : State) (b : Begin) (t : L.S) (pc least more : ℕ) (R : State
+    → Type 0) : Type 0 where
   pub steps : ℕ
   pub made : List Event
   pub to : State
@@ -100,7 +101,8 @@ pub record Enters {L : Lang Where} (X : Holder L) (H : Shapes) (κ : X.K) (p : �
   pub link : Link
   pub placed : At H (X.fn inner) [] (X.entry f) (L.body f) (X.way_out (X.fn inner))
   pub goes : CameBy [] (link ∷ []) X m (spare 8 b) s0 (X.entry f) 1 0 (X.M inner s0)
-  pub back : (s1 : L.S) (m1 : State) → X.G inner s1 m1 → m1.counter ≡ X.way_out (X.fn inner) → CameBy (link ∷ []) [] X m1 (begin X s1) (L.back t u s1) p 0 8 (X.M κ (L.back t u s1))
+  pub back : (s1 : L.S) (m1 : State) → X.G inner s1 m1 → m1.counter ≡ X.way_out (X.fn inner)
+      → CameBy (link ∷ []) [] X m1 (begin X s1) (L.back t u s1) p 0 8 (X.M κ (L.back t u s1))
 
 abbrev pub CallSim : {L : Lang Where} → (X : Holder L) → Shapes → X.K → ℕ → Option Where → ℕ → L.S → State → Begin → Did L.S → Type 0
 CallSim X H κ p t f u m b (On s0) = Enters X H κ p t f u s0 m b
@@ -136,14 +138,18 @@ pub record Parts (L : Lang Where) (X : Holder L) (H : Shapes) : Type 0 where
   pub tick_events : (n : ℕ) (s : L.S) → X.events (L.tick n s) ≡ X.events s
   pub tick_work : (n : ℕ) (s : L.S) → X.work (L.tick n s) ≡ X.work s + n
   pub ticks : (κ : X.K) (n : ℕ) (s : L.S) (m : State) → X.M κ s m → X.M κ (L.tick n s) m
-  pub jump : (κ : X.K) (s : L.S) (m : State) (pc to : ℕ) → X.M κ s m → m.counter ≡ pc → Jumps H.words pc to → Reaches 1 m (X.answers s) [] (going_to to m) (X.answers s) × X.M κ s (going_to to m)
+  pub jump : (κ : X.K) (s : L.S) (m : State) (pc to : ℕ) → X.M κ s m → m.counter ≡ pc → Jumps H.words pc to
+      → Reaches 1 m (X.answers s) [] (going_to to m) (X.answers s) × X.M κ s (going_to to m)
   pub none : (κ : X.K) (s : L.S) (m : State) → X.M κ s m → X.G κ (L.none s) m
   pub none_answers : (s : L.S) → X.answers (L.none s) ≡ X.answers s
   pub none_events : (s : L.S) → X.events (L.none s) ≡ X.events s
   pub none_work : (s : L.S) → X.work (L.none s) ≡ X.work s
-  pub op : (κ : X.K) (pc p more : ℕ) (o : OpT Where) (c : NodesT Where) (s : L.S) (m : State) → H.op (X.fn κ) pc o c more p → m.counter ≡ pc → X.M κ s m → DidSim X κ m (begin X s) p (did_then (L.act o s) (front_acts L c more))
-  pub test : (κ : X.K) (pc py px : ℕ) (w : Where) (s : L.S) (m : State) → H.test (X.fn κ) pc w py px → m.counter ≡ pc → X.M κ s m → TestSim X κ py px m (begin X s) (L.tick node_weight s) (L.test w s)
+  pub op : (κ : X.K) (pc p more : ℕ) (o : OpT Where) (c : NodesT Where) (s : L.S) (m : State) → H.op (X.fn κ) pc o c more p → m.counter ≡ pc
+      → X.M κ s m → DidSim X κ m (begin X s) p (did_then (L.act o s) (front_acts L c more))
+  pub test : (κ : X.K) (pc py px : ℕ) (w : Where) (s : L.S) (m : State) → H.test (X.fn κ) pc w py px → m.counter ≡ pc → X.M κ s m
+      → TestSim X κ py px m (begin X s) (L.tick node_weight s) (L.test w s)
   pub give : (κ : X.K) (pc : ℕ) (w : Option Where) (s : L.S) (m : State) → H.giving (X.fn κ) pc w → m.counter ≡ pc → X.M κ s m →
       Came X m (begin X s) (L.give w (L.tick node_weight s)) (X.way_out (X.fn κ)) 0 0 (X.G κ (L.give w (L.tick node_weight s)))
-  pub call : (κ : X.K) (pc p : ℕ) (t : Option Where) (f : ℕ) (args : List Where) (s : L.S) (m : State) → H.call (X.fn κ) pc t f args p → m.counter ≡ pc → X.M κ s m →
+  pub call : (κ : X.K) (pc p : ℕ) (t : Option Where) (f : ℕ) (args : List Where) (s : L.S) (m : State) → H.call (X.fn κ) pc t f args p
+      → m.counter ≡ pc → X.M κ s m →
       CallSim X H κ p t f (L.tick (call_weight args) s) m (begin X s) (L.enter f args (L.tick (call_weight args) s))

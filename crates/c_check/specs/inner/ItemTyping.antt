@@ -12,7 +12,9 @@ use Rattle.c_exprs.specs.Env as env
 use Rattle.c_exprs.specs.Faults.{FaultT, ◌>>=◌, placed, known, demanded}
 use Rattle.c_exprs.specs.Nodes.{span_of, constant}
 use Rattle.c_stmts.specs.State.{filled_var}
-use Rattle.c_check.specs.Reading.{Un, under, function_under, state_in, with_state, with_texts, is_free, named, record_entered, record_number, member_size, members_declared, with_layout, enum_entered, global_size, with_global, with_init, begun, parameter_size, with_parameter, function_rules, with_function}
+use Rattle.c_check.specs.Reading.{Un, under, function_under, state_in, with_state, with_texts, is_free, named, record_entered, record_number}
+use Rattle.c_check.specs.Reading.{member_size, members_declared, with_layout, enum_entered, global_size, with_global, with_init, begun}
+use Rattle.c_check.specs.Reading.{parameter_size, with_parameter, function_rules, with_function}
 use Rattle.c_exprs.specs.Typing.{as_value, typed, type_of}
 use Rattle.c_stmts.specs.InitTyping.{filled_by}
 use Rattle.c_stmts.specs.StatementTyping.{statements}

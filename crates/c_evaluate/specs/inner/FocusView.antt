@@ -13,7 +13,8 @@ use Rattle.c_evaluate.specs.declared.frame.Frame.{Frame}
 use Rattle.c_evaluate.specs.declared.frame.Frame.TheVariants as f
 use Rattle.c_evaluate.specs.inner.SettingView.{or_void}
 use Rattle.c_evaluate.specs.inner.StoreView.{caller}
-use Rattle.c_evaluate.specs.inner.Machine.{EvalF, FillF, DoF, CameF, MadeF, LeftF, FullF, FrameT, FirstW, SecondW, ArgumentW, BackW, ValueW, StepW, BodyW, BeginW, RestW, ArmsW, EndW, SwitchW, OneW, ItemsW, VarsW, FilledW, MainW, Config, Going, Over}
+use Rattle.c_evaluate.specs.inner.Machine.{EvalF, FillF, DoF, CameF, MadeF, LeftF, FullF, FrameT, FirstW, SecondW, ArgumentW, BackW, ValueW, StepW}
+use Rattle.c_evaluate.specs.inner.Machine.{BodyW, BeginW, RestW, ArmsW, EndW, SwitchW, OneW, ItemsW, VarsW, FilledW, MainW, Config, Going, Over}
 
 abbrev pub at : Focus → List FrameT → Store → Config
 at (o.Eval n x) k u = Going (EvalF n (texpr x.now)) k u

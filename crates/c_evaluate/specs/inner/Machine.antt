@@ -4,7 +4,8 @@ use Rattle.kit_base.specs.declared.event.Event.{Event}
 use Rattle.c_tree.specs.declared.span.Span.{Span}
 use Rattle.c_tree.specs.declared.operator.BinOp.TheVariants.{AndAlso, OrElse}
 use Rattle.c_types.specs.Types.{Ty}
-use Rattle.c_types.specs.Typed.{TExprT, Typed, TKindT, UnaryK, BinaryK, AssignK, StepK, IndexK, MemberK, ArrowK, CastK, OutK, TExprTs, NoX, MoreX, TInitT, TInitTs, TVarT, TStmtT, DoZ, IfZ, WhileZ, DoWhileZ, ForZ, SwitchZ, ReturnZ, TStmtTs, TArmTs}
+use Rattle.c_types.specs.Typed.{TExprT, Typed, TKindT, UnaryK, BinaryK, AssignK, StepK, IndexK, MemberK, ArrowK, CastK, OutK, TExprTs, NoX, MoreX}
+use Rattle.c_types.specs.Typed.{TInitT, TInitTs, TVarT, TStmtT, DoZ, IfZ, WhileZ, DoWhileZ, ForZ, SwitchZ, ReturnZ, TStmtTs, TArmTs}
 use Rattle.obj_mem.specs.declared.cell.Cell.{Cell}
 use Rattle.obj_mem.specs.Objects.{end_from}
 use Rattle.obj_mem.specs.Stores.{Store, fresh_all}
@@ -12,13 +13,17 @@ use Rattle.obj_mem.specs.Worlds.{World, on_store, spend, happened, bare}
 use Rattle.c_meaning.specs.declared.end.End.{End}
 use Rattle.c_meaning.specs.declared.end.End.TheVariants.{Stray}
 use Rattle.c_meaning.specs.Outcomes as out
-use Rattle.c_meaning.specs.Outcomes.{Val, Stops, Vals, Values, Short, Went, Through, CutOff, Done, Goes, Breaks, Continues, Returns, Ended, Turn, DoTurn, nowhere, asked, then_went, then_values, then_done}
+use Rattle.c_meaning.specs.Outcomes.{Val, Stops, Vals, Values, Short, Went, Through, CutOff, Done, Goes, Breaks, Continues, Returns, Ended, Turn}
+use Rattle.c_meaning.specs.Outcomes.{DoTurn, nowhere, asked, then_went, then_values, then_done}
 use Rattle.c_meaning.specs.Setting.{Setting}
 use Rattle.c_meaning.specs.Operators.{converted}
 use Rattle.c_meaning.specs.Cells.{end_temporary}
-use Rattle.c_meaning.specs.Expressions.{with_value, tested, dropped, truth_of, unary, binary, second_operated, assign, second_assigned, step_taken, index, second_indexed, member_at, arrow, output, call, params_of, next_argument, all_released, evaluated, evaluated_all}
+use Rattle.c_meaning.specs.Expressions.{with_value, tested, dropped, truth_of, unary, binary, second_operated, assign, second_assigned, step_taken}
+use Rattle.c_meaning.specs.Expressions.{index, second_indexed, member_at, arrow, output, call, params_of, next_argument, all_released, evaluated}
+use Rattle.c_meaning.specs.Expressions.{evaluated_all}
 use Rattle.c_meaning.specs.Initialisers.{one_filled, filled, all_filled, variables_filled}
-use Rattle.c_meaning.specs.Statements.{left, body_done, step_done, turn, arms_before, labels, switch_done, switched, returned, does, does_maybe, does_all, does_arms, below}
+use Rattle.c_meaning.specs.Statements.{left, body_done, step_done, turn, arms_before, labels, switch_done, switched, returned, does, does_maybe}
+use Rattle.c_meaning.specs.Statements.{does_all, does_arms, below}
 use Rattle.c_meaning.specs.Runs.{Final, main_done}
 use Rattle.c_evaluate.specs.Evaluation.{Left, left_of}
 use Rattle.c_evaluate.specs.declared.frame.Came.{Came}
@@ -139,7 +144,8 @@ types_left s f vs = drop (length vs) (params_of (slice_get s.functions f))
 abbrev pub argument_came : Setting → (bound function : ℕ) → Span → (args : List Cell) → TExprTs → Val → Val
 argument_came s n f span vs NoX v = v
 argument_came s n f span vs (MoreX x xs) v =
-    then_values (behind vs (next_argument s n (types_left s f vs) x v (λ tys w. evaluated_all s n (below s n) tys xs w))) (λ us w. call s n (below s n) f us span w)
+    then_values (behind vs (next_argument s n (types_left s f vs) x v (λ tys w. evaluated_all s n (below s n) tys xs w)))
+    (λ us w. call s n (below s n) f us span w)
 
 abbrev pub caller_of : Store → CallerT
 caller_of u = record { objects = length u.objects; function = u.function; locals = u.locals; used = u.used }
@@ -163,9 +169,12 @@ value_came s n r (DoZ x) v = dropped Ended s n x v (λ w. Goes w)
 value_came s n r (IfZ x a b) v = tested Ended s n x v (does s n (below s n) r a) (does_maybe s n (below s n) r b)
 value_came s n r (WhileZ x a) v = tested Ended s n x v (λ w. body_done (does s n (below s n) r a w) (below s n (Turn r (Some x) None a))) (λ w. Goes w)
 value_came s n r (DoWhileZ a x) v = tested Ended s n x v (below s n (DoTurn r a x)) (λ w. Goes w)
-value_came s n r (ForZ made first (Some x) step a) v = tested Ended s n x v (λ w. body_done (does s n (below s n) r a w) (λ u. step_done s n (below s n) step u (below s n (Turn r (Some x) step a)))) (λ w. Goes w)
+value_came s n r (ForZ made first (Some x) step a) v =
+    tested Ended s n x v (λ w. body_done (does s n (below s n) r a w) (λ u. step_done s n (below s n) step u (below s n (Turn r (Some x) step a))))
+    (λ w. Goes w)
 value_came s n r (SwitchZ x made arms) v =
-    switched s n x v (λ z w. left made (switch_done (does_arms s n (below s n) r (arms_before z arms) arms (on_store (fresh_all s.sizes made) (spend (labels arms) w)))))
+    switched s n x v (λ z w. left made (switch_done
+    (does_arms s n (below s n) r (arms_before z arms) arms (on_store (fresh_all s.sizes made) (spend (labels arms) w)))))
 value_came s n r (ReturnZ (Some x)) v = returned s n r x v
 value_came s n r a v = stopped Ended (V v)
 

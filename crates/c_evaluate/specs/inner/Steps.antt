@@ -7,7 +7,10 @@ use Rattle.c_tree.specs.declared.operator.UnOp.TheVariants as un
 use Rattle.c_tree.specs.declared.operator.BinOp.{BinOp}
 use Rattle.c_tree.specs.declared.operator.BinOp.TheVariants.{AndAlso, OrElse}
 use Rattle.c_types.specs.Types.{Ty}
-use Rattle.c_types.specs.Typed.{TExprT, Typed, TKindT, NumberK, NullK, LiteralK, GlobalK, LocalK, UnaryK, BinaryK, AssignK, StepK, IndexK, MemberK, ArrowK, CastK, CallK, InK, OutK, WaitK, HaltK, CardK, TExprTs, NoX, MoreX, TInitT, OneI, TextI, ListI, TInitTs, NoI, MoreI, TVarT, TStmtT, BlockZ, EmptyZ, VarsZ, DoZ, IfZ, WhileZ, DoWhileZ, ForZ, SwitchZ, ReturnZ, BreakZ, ContinueZ, MaybeZ, NoneZ, SomeZ, TStmtTs, NoZ, MoreZ, TArmTs, NoB, MoreB, CaseB, DefaultB, StmtB}
+use Rattle.c_types.specs.Typed.{TExprT, Typed, TKindT, NumberK, NullK, LiteralK, GlobalK, LocalK, UnaryK, BinaryK, AssignK, StepK, IndexK, MemberK}
+use Rattle.c_types.specs.Typed.{ArrowK, CastK, CallK, InK, OutK, WaitK, HaltK, CardK, TExprTs, NoX, MoreX, TInitT, OneI, TextI, ListI, TInitTs, NoI}
+use Rattle.c_types.specs.Typed.{MoreI, TVarT, TStmtT, BlockZ, EmptyZ, VarsZ, DoZ, IfZ, WhileZ, DoWhileZ, ForZ, SwitchZ, ReturnZ, BreakZ, ContinueZ}
+use Rattle.c_types.specs.Typed.{MaybeZ, NoneZ, SomeZ, TStmtTs, NoZ, MoreZ, TArmTs, NoB, MoreB, CaseB, DefaultB, StmtB}
 use Rattle.c_types.specs.Programs.{TFunctionT}
 use Rattle.obj_mem.specs.declared.cell.Cell.{Cell}
 use Rattle.obj_mem.specs.declared.cell.Cell.TheVariants.{Unwritten, Num, Null}
@@ -28,8 +31,11 @@ use Rattle.c_evaluate.specs.declared.frame.Came.{Came}
 use Rattle.c_evaluate.specs.declared.frame.Came.TheVariants.{Value, Place, Nothing}
 use Rattle.c_evaluate.specs.declared.frame.How.{How}
 use Rattle.c_evaluate.specs.declared.frame.How.TheVariants.{On, Break, Continue, Return}
-use Rattle.c_evaluate.specs.inner.Storing.{Kept, With, at_span, taken, tested_in, dropped_in, placed_in, operated_in, stepped_in, second_assigned_in, member_in, one_in, text_in, rest_in, params_in, returned_in}
-use Rattle.c_evaluate.specs.inner.Machine.{FocusT, EvalF, FillF, DoF, CameF, MadeF, LeftF, FullF, CallerT, FrameT, FirstW, SecondW, ArgumentW, BackW, ValueW, StepW, BodyW, BeginW, RestW, ArmsW, EndW, SwitchW, OneW, ItemsW, VarsW, FilledW, MainW, Config, Going, Over, caller_of, back_in}
+use Rattle.c_evaluate.specs.inner.Storing.{Kept, With, at_span, taken, tested_in, dropped_in, placed_in, operated_in, stepped_in, second_assigned_in}
+use Rattle.c_evaluate.specs.inner.Storing.{member_in, one_in, text_in, rest_in, params_in, returned_in}
+use Rattle.c_evaluate.specs.inner.Machine.{FocusT, EvalF, FillF, DoF, CameF, MadeF, LeftF, FullF, CallerT, FrameT, FirstW, SecondW, ArgumentW, BackW}
+use Rattle.c_evaluate.specs.inner.Machine.{ValueW, StepW, BodyW, BeginW, RestW, ArmsW, EndW, SwitchW, OneW, ItemsW, VarsW, FilledW, MainW, Config}
+use Rattle.c_evaluate.specs.inner.Machine.{Going, Over, caller_of, back_in}
 
 -- ---- on from a result; where there is none the run is over
 
@@ -297,7 +303,8 @@ value_step s n r (SwitchZ x made arms) v k u = value_switched s n r x made arms 
 value_step s n r (ReturnZ (Some x)) v k u = value_returned s n r x v k u
 value_step s n r a v k u = Over (Stray nowhere)
 
-abbrev pub step_dropped : Setting → (bound : ℕ) → (result : Cell) → (loop : TStmtT) → (test : Option TExprT) → (step : TExprT) → (body : TStmtT) → Came → List FrameT → Store → Config
+abbrev pub step_dropped : Setting → (bound : ℕ) → (result : Cell) → (loop : TStmtT) → (test : Option TExprT) → (step : TExprT) → (body : TStmtT)
+    → Came → List FrameT → Store → Config
 step_dropped s n r a test y body v k u = on (dropped_in s n y v u) (λ t. again n r a test body k t)
 
 unfoldable pub step_step : Setting → (bound : ℕ) → (result : Cell) → TStmtT → Came → List FrameT → Store → Config

@@ -1,6 +1,7 @@
 -- Several steps at once: an operand comes without waiting in a frame where it is a number, NULL, a text, a global, a local that was made, or made of
 -- such by operators, accesses and casts to a small depth, and nothing refuses.
-use Rattle.std.specs.Prelude.{ℕ, zero, suc, ◌+◌, Bool, true, false, not, ◌&&◌, ◌==◌, eqb, ltb, List, [], ◌∷◌, ◌++◌, length, slice_get, Option, Some, None, Result, Ok, Err}
+use Rattle.std.specs.Prelude.{ℕ, zero, suc, ◌+◌, Bool, true, false, not, ◌&&◌, ◌==◌, eqb, ltb, List, [], ◌∷◌, ◌++◌, length, slice_get, Option, Some}
+use Rattle.std.specs.Prelude.{None, Result, Ok, Err}
 use Rattle.c_tree.specs.declared.span.Span.{Span}
 use Rattle.c_tree.specs.declared.operator.UnOp.{UnOp}
 use Rattle.c_tree.specs.declared.operator.UnOp.TheVariants as un
@@ -8,7 +9,8 @@ use Rattle.c_tree.specs.declared.operator.StepOp.{StepOp}
 use Rattle.c_tree.specs.declared.operator.BinOp.{BinOp}
 use Rattle.c_tree.specs.declared.operator.BinOp.TheVariants.{AndAlso, OrElse}
 use Rattle.c_types.specs.Types.{Ty, VoidY, IntY, BoolY, EnumY, StructY, UnionY, PointerY, ArrayY}
-use Rattle.c_types.specs.Typed.{TExprT, Typed, TKindT, NumberK, NullK, LiteralK, GlobalK, LocalK, UnaryK, BinaryK, AssignK, StepK, IndexK, MemberK, ArrowK, CastK, CallK, OutK, TExprTs, NoX, MoreX, TStmtT, DoZ, IfZ, WhileZ, SwitchZ, ReturnZ, TStmtTs, NoZ, MoreZ}
+use Rattle.c_types.specs.Typed.{TExprT, Typed, TKindT, NumberK, NullK, LiteralK, GlobalK, LocalK, UnaryK, BinaryK, AssignK, StepK, IndexK, MemberK}
+use Rattle.c_types.specs.Typed.{ArrowK, CastK, CallK, OutK, TExprTs, NoX, MoreX, TStmtT, DoZ, IfZ, WhileZ, SwitchZ, ReturnZ, TStmtTs, NoZ, MoreZ}
 use Rattle.c_types.specs.Programs.{TFunctionT}
 use Rattle.obj_mem.specs.declared.cell.Cell.{Cell}
 use Rattle.obj_mem.specs.declared.cell.Cell.TheVariants.{Unwritten, Num, Null, Ptr}
@@ -30,7 +32,8 @@ use Rattle.c_evaluate.specs.declared.frame.How.{How}
 use Rattle.c_evaluate.specs.declared.frame.How.TheVariants.{On}
 use Rattle.c_evaluate.specs.inner.Storing.{then_ok, taken, tested_in, placed_in, stepped_in, second_assigned_in}
 use Rattle.c_evaluate.specs.inner.Machine.{FocusT, EvalF, DoF, CameF, LeftF, FrameT, FirstW, SecondW, ArgumentW, ValueW, BodyW, Config, Going, Over}
-use Rattle.c_evaluate.specs.inner.Steps.{on, came, left, either_of, call, argument_in, eval, first_step, second_of, exec, value_step, after_body, body_step, give, leave, step}
+use Rattle.c_evaluate.specs.inner.Steps.{on, came, left, either_of, call, argument_in, eval, first_step, second_of, exec, value_step, after_body}
+use Rattle.c_evaluate.specs.inner.Steps.{body_step, give, leave, step}
 
 -- ---- what comes at once
 
@@ -122,8 +125,11 @@ comes s n (Typed (LiteralK number) ty span) u = Some (Place (literal_at s number
 comes s n (Typed (GlobalK number) ty span) u = Some (Place (global_at number))
 comes s n (Typed (LocalK number) ty span) u = local_at_once (local_object u.locals number)
 comes s n (Typed (UnaryK op x) ty span) u = deeper n (λ d. with_some (comes s d x u) (λ v. unary_at_once op (type_of x) v u))
-comes s n (Typed (BinaryK op x y) ty span) u = deeper n (λ d. strict_at_once (is_strict op) (with_some (comes s d x u) (λ v. with_some (comes s d y u) (λ w. binary_at_once s op (type_of x) (type_of y) v w u))))
-comes s n (Typed (IndexK x y) ty span) u = deeper n (λ d. with_some (comes s d x u) (λ v. with_some (comes s d y u) (λ w. index_at_once s ty (type_of x) (type_of y) v w u)))
+comes s n (Typed (BinaryK op x y) ty span) u =
+    deeper n (λ d. strict_at_once (is_strict op)
+    (with_some (comes s d x u) (λ v. with_some (comes s d y u) (λ w. binary_at_once s op (type_of x) (type_of y) v w u))))
+comes s n (Typed (IndexK x y) ty span) u =
+    deeper n (λ d. with_some (comes s d x u) (λ v. with_some (comes s d y u) (λ w. index_at_once s ty (type_of x) (type_of y) v w u)))
 comes s n (Typed (MemberK x offset) ty span) u = deeper n (λ d. with_some (comes s d x u) (λ v. member_at_once offset v))
 comes s n (Typed (ArrowK x offset) ty span) u = deeper n (λ d. with_some (comes s d x u) (λ v. arrow_at_once (type_of x) offset v u))
 comes s n (Typed (CastK x) ty span) u = deeper n (λ d. with_some (comes s d x u) (λ v. cast_at_once ty (type_of x) v u))
@@ -185,7 +191,8 @@ unfoldable pub worth : (depth : ℕ) → (args : List Cell) → TExprT → Optio
 worth n vs (Typed (NumberK x) ty span) = Some x
 worth n vs (Typed (LocalK number) ty span) = when (is_word ty) (word_held (slice_get vs number))
 worth n vs (Typed (UnaryK op x) ty span) = lower n (λ d. with_some (worth d vs x) (λ a. unary_worth op a))
-worth n vs (Typed (BinaryK op x y) ty span) = lower n (λ d. when (is_strict op) (when (is_word (type_of x)) (with_some (worth d vs x) (λ a. with_some (worth d vs y) (λ b. binary_worth op a b)))))
+worth n vs (Typed (BinaryK op x y) ty span) =
+    lower n (λ d. when (is_strict op) (when (is_word (type_of x)) (with_some (worth d vs x) (λ a. with_some (worth d vs y) (λ b. binary_worth op a b)))))
 worth n vs (Typed (CastK x) ty span) = lower n (λ d. with_some (worth d vs x) (λ a. Some (word_at ty a)))
 worth n vs (Typed kind ty span) = None
 
@@ -206,7 +213,8 @@ returned_by (MoreZ a rest) = returned_of a
 
 unfoldable pub quick_of : (sizes : List ℕ) → TFunctionT → (args : List Cell) → Option ℕ
 quick_of sizes g vs =
-    with_some (returned_by g.body) (λ x. when (is_word g.gives) (when (are_words 0 g.params g.made sizes vs) (with_some (worth 6 vs x) (λ a. Some (word_at g.gives a)))))
+    with_some (returned_by g.body) (λ x. when (is_word g.gives)
+    (when (are_words 0 g.params g.made sizes vs) (with_some (worth 6 vs x) (λ a. Some (word_at g.gives a)))))
 
 -- the value of a call, where there is bound and room for it
 unfoldable pub quick : Setting → (bound function : ℕ) → (args : List Cell) → Store → Option ℕ
@@ -228,13 +236,15 @@ call_on s n f vs span k u = word_or (quick s n f vs u) (call s n f vs span k u) 
 
 -- one more argument is there
 abbrev pub took : Setting → (bound function : ℕ) → TExprT → Came → (args : List Cell) → Store → Result (List Cell × Store) End
-took s n f x v vs u = then_ok (taken s n x v u) (λ t. then_ok (argument_in (slice_get (params_of (slice_get s.functions f)) (length vs)) x t.0) (λ z. Ok (vs ++ z ∷ [], t.1)))
+took s n f x v vs u = then_ok (taken s n x v u) (λ t. then_ok (argument_in (slice_get (params_of (slice_get s.functions f)) (length vs)) x t.0)
+    (λ z. Ok (vs ++ z ∷ [], t.1)))
 
 -- those that come at once are taken one after another
 abbrev pub args_on : Setting → (bound function : ℕ) → Span → (args : List Cell) → TExprTs → List FrameT → Store → Config
 args_on s n f span vs NoX k u = call_on s n f vs span k u
 args_on s n f span vs (MoreX x xs) k u =
-    handed (at_once s x u) (Going (EvalF n x) (ArgumentW n f span vs (MoreX x xs) ∷ k) u) (λ v. on (took s n f x v vs u) (λ t. args_on s n f span t.0 xs k t.1))
+    handed (at_once s x u) (Going (EvalF n x) (ArgumentW n f span vs (MoreX x xs) ∷ k) u)
+    (λ v. on (took s n f x v vs u) (λ t. args_on s n f span t.0 xs k t.1))
 
 abbrev pub argument_on : Setting → (bound function : ℕ) → Span → (args : List Cell) → TExprTs → Came → List FrameT → Store → Config
 argument_on s n f span vs NoX v k u = came v k u
@@ -291,13 +301,15 @@ asks_on s n r a x k u = handed (at_once s x u) (Going (EvalF n x) (ValueW n r a 
 -- an assignment whose place and value came at once is done, and its value dropped
 abbrev pub assigned_on : Setting → (bound : ℕ) → (node : TExprT) → Option BinOp → (x y : TExprT) → (place value : Came) → List FrameT → Store → Config
 assigned_on s n e op x y v w k u =
-    on (placed_in (span_of e) v) (λ p. on (taken s n y w u) (λ t. on (second_assigned_in s n op x y (span_of e) p t.0 t.1) (λ z. left On k (released (type_of e) z.0 z.1))))
+    on (placed_in (span_of e) v) (λ p. on (taken s n y w u)
+    (λ t. on (second_assigned_in s n op x y (span_of e) p t.0 t.1) (λ z. left On k (released (type_of e) z.0 z.1))))
 
 -- an assignment whose place and value may come at once
 abbrev pub assigns_on : Setting → (bound : ℕ) → (result : Cell) → TStmtT → (node : TExprT) → Option BinOp → (x y : TExprT) → List FrameT → Store → Config
 assigns_on s n r a e op x y k u =
     handed (at_once s x u) (Going (EvalF n e) (ValueW n r a ∷ k) u) (λ v.
-    handed (at_once s y u) (on (placed_in (span_of e) v) (λ p. Going (EvalF n y) (SecondW n e p ∷ (ValueW n r a ∷ k)) u)) (λ w. assigned_on s n e op x y v w k u))
+    handed (at_once s y u) (on (placed_in (span_of e) v) (λ p. Going (EvalF n y) (SecondW n e p ∷ (ValueW n r a ∷ k)) u))
+    (λ w. assigned_on s n e op x y v w k u))
 
 abbrev pub steps_on : Setting → (bound : ℕ) → (result : Cell) → TStmtT → (node : TExprT) → StepOp → (x : TExprT) → List FrameT → Store → Config
 steps_on s n r a e op x k u =

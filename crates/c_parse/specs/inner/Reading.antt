@@ -2,7 +2,8 @@
 use Rattle.std.specs.Prelude.{ℕ, zero, suc, Bool, true, false, List, [], ◌∷◌, ◌++◌, Option, Some, None, Result, Ok, ◌==◌, if◌then◌else◌}
 use Rattle.c_tree.specs.declared.operator.BinOp.{BinOp}
 use Rattle.c_tree.specs.declared.span.Span.{Span}
-use Rattle.c_tree.specs.Tree.{ExprT, NameE, NumberE, TextE, NullE, ParenE, UnaryE, BinaryE, AssignE, StepE, IndexE, MemberE, ArrowE, CallE, CastE, SizeOfE, TypeT, IntY, BoolY, VoidY, NamedY, PointerY, ArrayY}
+use Rattle.c_tree.specs.Tree.{ExprT, NameE, NumberE, TextE, NullE, ParenE, UnaryE, BinaryE, AssignE, StepE, IndexE, MemberE, ArrowE, CallE, CastE}
+use Rattle.c_tree.specs.Tree.{SizeOfE, TypeT, IntY, BoolY, VoidY, NamedY, PointerY, ArrayY}
 use Rattle.c_tree.specs.View.{exprs}
 use Rattle.c_tree.specs.Depth.{expr_depth, type_depth}
 use Rattle.c_parse.specs.declared.fault.Fault.{Fault}
@@ -19,7 +20,8 @@ use Rattle.c_parse.specs.declared.lead.TypeMark.TheVariants as type_mark
 use Rattle.c_parse.specs.Tok.{Tok}
 use Rattle.c_parse.specs.Scope.{Context, span}
 use Rattle.c_parse.specs.Marks.{binary, assigner}
-use Rattle.c_parse.specs.inner.Reader.{◌>>=◌, Got, Reader, bad, deep, no_room, above, Turn, loop, behind, bytes_at, open_paren, at_open_paren, close_paren, at_close_paren, at_open_bracket, close_bracket, at_comma, at_star, name}
+use Rattle.c_parse.specs.inner.Reader.{◌>>=◌, Got, Reader, bad, deep, no_room, above, Turn, loop, behind, bytes_at, open_paren, at_open_paren}
+use Rattle.c_parse.specs.inner.Reader.{close_paren, at_close_paren, at_open_bracket, close_bracket, at_comma, at_star, name}
 use Rattle.c_parse.specs.inner.Leads.{type_at, begins_type, type_mark_at, start_at, lead_at, begins_expr, suffix_at}
 
 -- the readers at one less room

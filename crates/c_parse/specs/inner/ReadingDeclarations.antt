@@ -5,7 +5,8 @@ use Rattle.c_tree.specs.View.{inits}
 use Rattle.c_parse.specs.declared.fault.Fault.{Fault}
 use Rattle.c_parse.specs.Tok.{Tok}
 use Rattle.c_parse.specs.Scope.{Context, span}
-use Rattle.c_parse.specs.inner.Reader.{◌>>=◌, Got, Reader, no_room, Turn, loop, behind, name, at_open_brace, at_close_brace, at_assign, at_close_paren, at_void_word, semicolon, end_list}
+use Rattle.c_parse.specs.inner.Reader.{◌>>=◌, Got, Reader, no_room, Turn, loop, behind, name, at_open_brace, at_close_brace, at_assign}
+use Rattle.c_parse.specs.inner.Reader.{at_close_paren, at_void_word, semicolon, end_list}
 use Rattle.c_parse.specs.inner.Leads.{begins_expr, begins_type}
 use Rattle.c_parse.specs.inner.Reading.{level_at, expr_at, type_read}
 use Rattle.c_parse.specs.inner.ReadingLists.{separated, listed}

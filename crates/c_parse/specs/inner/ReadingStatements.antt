@@ -1,6 +1,7 @@
 -- Reading statements.
 use Rattle.std.specs.Prelude.{ℕ, zero, suc, Bool, true, false, List, Option, Some, None, Result, Ok, ◌||◌, if◌then◌else◌}
-use Rattle.c_tree.specs.Tree.{ExprT, StmtT, BlockS, EmptyS, VarsS, DoS, IfS, WhileS, DoWhileS, ForS, SwitchS, ReturnS, BreakS, ContinueS, MaybeS, NoneS, SomeS, ArmT, CaseA, DefaultA, StmtA}
+use Rattle.c_tree.specs.Tree.{ExprT, StmtT, BlockS, EmptyS, VarsS, DoS, IfS, WhileS, DoWhileS, ForS, SwitchS, ReturnS, BreakS, ContinueS, MaybeS}
+use Rattle.c_tree.specs.Tree.{NoneS, SomeS, ArmT, CaseA, DefaultA, StmtA}
 use Rattle.c_tree.specs.View.{stmts, arms}
 use Rattle.c_parse.specs.declared.fault.Fault.{Fault}
 use Rattle.c_parse.specs.declared.lead.StmtLead.{StmtLead}
@@ -9,7 +10,8 @@ use Rattle.c_parse.specs.declared.lead.ArmLead.{ArmLead}
 use Rattle.c_parse.specs.declared.lead.ArmLead.TheVariants as arm
 use Rattle.c_parse.specs.Tok.{Tok}
 use Rattle.c_parse.specs.Scope.{Context, span}
-use Rattle.c_parse.specs.inner.Reader.{◌>>=◌, Got, Reader, no_room, behind, open_paren, close_paren, open_brace, close_brace, semicolon, colon, while_word, at_else_word}
+use Rattle.c_parse.specs.inner.Reader.{◌>>=◌, Got, Reader, no_room, behind, open_paren, close_paren, open_brace, close_brace, semicolon, colon}
+use Rattle.c_parse.specs.inner.Reader.{while_word, at_else_word}
 use Rattle.c_parse.specs.inner.Leads.{begins_expr, begins_type, begins_stmt, stmt_at, arm_at, is_some_arm}
 use Rattle.c_parse.specs.inner.Reading.{level_at, expr_at}
 use Rattle.c_parse.specs.inner.ReadingLists.{braced}

@@ -9,7 +9,8 @@ use Rattle.c_parse.specs.declared.lead.ItemLead.TheVariants as item
 use Rattle.c_parse.specs.Tok.{Tok}
 use Rattle.c_parse.specs.Scope.{Context, declare, span}
 use Rattle.c_parse.specs.Units.{behind_item}
-use Rattle.c_parse.specs.inner.Reader.{◌>>=◌, Got, Reader, no_room, Turn, loop, behind, name, new, at_open_paren, open_paren, close_paren, open_brace, close_brace, at_semicolon, semicolon, at_assign, at_comma, end_list}
+use Rattle.c_parse.specs.inner.Reader.{◌>>=◌, Got, Reader, no_room, Turn, loop, behind, name, new, at_open_paren, open_paren, close_paren}
+use Rattle.c_parse.specs.inner.Reader.{open_brace, close_brace, at_semicolon, semicolon, at_assign, at_comma, end_list}
 use Rattle.c_parse.specs.inner.Leads.{item_at}
 use Rattle.c_parse.specs.inner.Reading.{type_read}
 use Rattle.c_parse.specs.inner.ReadingLists.{listed, braced}

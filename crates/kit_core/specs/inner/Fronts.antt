@@ -14,7 +14,8 @@ use Rattle.kit_core.specs.Generating.{front_of}
 use Rattle.kit_core.specs.Outcome.{ComesInFront}
 
 -- the front is done, and what the command leaves is due among the files that are held then
-pub record LeavesBehind (front : List Effect) (Due : Held → Result Work DueRefusal → Type 0) (Reads : Held → List ℕ → Type 0) (result : Result Shown Refusal) (held : Held) (after : Option Held) : Type 0 where
+pub record LeavesBehind (front : List Effect) (Due : Held → Result Work DueRefusal → Type 0) (Reads : Held → List ℕ
+    → Type 0) (result : Result Shown Refusal) (held : Held) (after : Option Held) : Type 0 where
   pub made : Held
   pub made_is : all_done front (Some held) ≡ Some made
   pub leaves : LeavesBy result (Due made) (Reads made) made after
@@ -25,7 +26,8 @@ StopsBy (Ok shown) front held after = ⊥
 StopsBy (Err refusal) front held after = ComesInFront refusal front held after
 
 abbrev pub Carries : Result Shown Refusal → Option Command → Held → Option Held → Type 0
-Carries result command held after = LeavesBehind (front_of command) (form_due command) (command_reads command) result held after ⊎ StopsBy result (front_of command) held after
+Carries result command held after = LeavesBehind (front_of command) (form_due command) (command_reads command) result held after
+    ⊎ StopsBy result (front_of command) held after
 
 -- the number of a word, unless memory ran out
 abbrev pub GivesNumber : Result ℕ Refusal → Result ℕ DueRefusal → Type 0

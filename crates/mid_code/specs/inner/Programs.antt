@@ -25,7 +25,8 @@ pub record KeptWorlds (globals card : ℕ) (v w : World) : Type 0 where
   pub of_globals : (o : ℕ) → o < globals → KeepsObject v.store.objects w.store.objects o
   pub of_card : KeepsObject v.store.objects w.store.objects card
 
-pub record Program {P P' : Type 0} (k : Places P) (k' : Places P') (x : CodeT P) (x' : CodeT P') (frames frames' : List ℕ) (X : Pass (over_worlds k x frames) (over_worlds k' x' frames')) : Type 0 where
+pub record Program {P P' : Type 0} (k : Places P) (k' : Places P') (x : CodeT P) (x' : CodeT P') (frames frames' : List ℕ)
+    (X : Pass (over_worlds k x frames) (over_worlds k' x' frames')) : Type 0 where
   pub keeps : Keeps (over_worlds k x frames) (over_worlds k' x' frames') X
   pub ev : (s : State P) → X.ev s ≡ s.world.events
   pub ev' : (t : State P') → X.ev' t ≡ t.world.events

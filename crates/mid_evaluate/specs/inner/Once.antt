@@ -7,7 +7,8 @@ use Rattle.obj_mem.specs.Objects.{end_from}
 use Rattle.obj_mem.specs.Worlds.{on_store}
 use Rattle.obj_mem.specs.Runs.{Stray}
 use Rattle.obj_mem.specs.Stores.{Sizes}
-use Rattle.mid_code.specs.Code.{ConstO, NullO, MoveO, OneO, TwoO, GlobalO, LocalO, LiteralO, CardO, StepO, ApartO, PtrTestO, LoadO, StoreO, FreshO, EndO, InO, OutO, WaitO, HaltO, CodeT, NodesT, Loop, Stop}
+use Rattle.mid_code.specs.Code.{ConstO, NullO, MoveO, OneO, TwoO, GlobalO, LocalO, LiteralO, CardO, StepO, ApartO, PtrTestO, LoadO, StoreO, FreshO}
+use Rattle.mid_code.specs.Code.{EndO, InO, OutO, WaitO, HaltO, CodeT, NodesT, Loop, Stop}
 use Rattle.mid_code.specs.Functions.{NodeT, DoN, ChooseN, BlockN, LoopN, LeaveN, AgainN, ReturnN, joined}
 use Rattle.mid_code.specs.Meaning.{Did, Ends, Res, Next, Leaves, Repeats, Returns, Over, did, block_done, called, runs, below, node_weight, call_weight}
 use Rattle.mid_code.specs.States.{temporaries, acted, cell_of, put_in_maybe, over_worlds, sizes_of, spent, word_tested}
@@ -91,7 +92,8 @@ call_parts op.Halt = None
 
 abbrev pub op_once : CodeT ℕ → (frames : List ℕ) → (bound : ℕ) → Op ℕ → Option CallT → S → Res S
 op_once x frames n o None s = did (performed (sizes_of x frames) o (spent (weight_of o) s)) Next
-op_once x frames n o (Some c) s = called (over_worlds temporaries x frames) n (below (over_worlds temporaries x frames) n) c.target c.function c.args (spent (call_weight c.args) s)
+op_once x frames n o (Some c) s = called (over_worlds temporaries x frames) n (below (over_worlds temporaries x frames) n) c.target c.function c.args
+    (spent (call_weight c.args) s)
 
 -- ---- nodes
 
@@ -143,7 +145,14 @@ node_once x frames n (ReturnN p) s = Returns (given p (spent node_weight s))
 
 -- what is kept of a state at a call
 abbrev pub caller_of : S → CallerT
-caller_of s = record { objects = length s.world.store.objects; function = s.world.store.function; locals = s.world.store.locals; used = s.world.store.used; cells = s.cells; given = s.given }
+caller_of s = record {
+  objects = length s.world.store.objects;
+  function = s.world.store.function;
+  locals = s.world.store.locals;
+  used = s.world.store.used;
+  cells = s.cells;
+  given = s.given;
+}
 
 -- the caller's part of the state again
 abbrev pub restored : CallerT → S → S

@@ -85,9 +85,11 @@ pub record Fits (X : Plan) (x y : CodeT ℕ) (frames : List ℕ) : Type 0 where
   pub params_own : (g q : ℕ) → is_among (function_at x g).params q ≡ true → X.kind (Some g) q ≡ Own
   pub in_range : (f : Option ℕ) (k : ℕ) → X.promoted f k ≡ true → k < count_of (sizes_of x frames) f
   pub one_word : (f : Option ℕ) (k : ℕ) → X.promoted f k ≡ true → words_here (sizes_of x frames) f k ≡ 1
-  pub words : (f : Option ℕ) (k : ℕ) → k < count_of (sizes_of x frames) f → X.promoted f k ≡ false → words_here (sizes_of y frames) f (X.moved f k) ≡ words_here (sizes_of x frames) f k
+  pub words : (f : Option ℕ) (k : ℕ) → k < count_of (sizes_of x frames) f → X.promoted f k ≡ false
+      → words_here (sizes_of y frames) f (X.moved f k) ≡ words_here (sizes_of x frames) f k
   pub moved_in : (f : Option ℕ) (k : ℕ) → k < count_of (sizes_of x frames) f → X.promoted f k ≡ false → X.moved f k < count_of (sizes_of y frames) f
-  pub moved_apart : (f : Option ℕ) (k l : ℕ) → k < count_of (sizes_of x frames) f → l < count_of (sizes_of x frames) f → X.promoted f k ≡ false → X.promoted f l ≡ false → X.moved f k ≡ X.moved f l → k ≡ l
+  pub moved_apart : (f : Option ℕ) (k l : ℕ) → k < count_of (sizes_of x frames) f → l < count_of (sizes_of x frames) f → X.promoted f k ≡ false
+      → X.promoted f l ≡ false → X.moved f k ≡ X.moved f l → k ≡ l
   pub address_is : (f : Option ℕ) (q k : ℕ) → X.kind f q ≡ Address k → X.promoted f k ≡ true
   pub variable_is : (f : Option ℕ) (k : ℕ) → X.promoted f k ≡ true → X.kind f (X.variable f k) ≡ Variable k
 
@@ -105,8 +107,10 @@ pub record Alive (X : Plan) (x y : CodeT ℕ) (frames : List ℕ) (κ : Begun) (
   pub own : (q : ℕ) → X.kind κ.fn q ≡ Own → Known (IsHere names) (s.cells q) (t.cells q)
   pub address : (q k : ℕ) → X.kind κ.fn q ≡ Address k → Points names s.world k (s.cells q)
   pub hidden : (k o : ℕ) → X.promoted κ.fn k ≡ true → local_object s.world.store.locals k ≡ Some o → (name_at names o ≡ Away k) × (length κ.names ≤ o)
-  pub variable : (k o : ℕ) → X.promoted κ.fn k ≡ true → local_object s.world.store.locals k ≡ Some o → (object_at s.world.store.objects o).lives ≡ true → Holds names (object_at s.world.store.objects o) (t.cells (X.variable κ.fn k))
-  pub locals : (k : ℕ) → k < count_of (sizes_of x frames) κ.fn → X.promoted κ.fn k ≡ false → LocalKnown names (local_object s.world.store.locals k) (local_object t.world.store.locals (X.moved κ.fn k))
+  pub variable : (k o : ℕ) → X.promoted κ.fn k ≡ true → local_object s.world.store.locals k ≡ Some o
+      → (object_at s.world.store.objects o).lives ≡ true → Holds names (object_at s.world.store.objects o) (t.cells (X.variable κ.fn k))
+  pub locals : (k : ℕ) → k < count_of (sizes_of x frames) κ.fn → X.promoted κ.fn k ≡ false
+      → LocalKnown names (local_object s.world.store.locals k) (local_object t.world.store.locals (X.moved κ.fn k))
 
 -- behind a return, also the result is known
 pub record Given (X : Plan) (x y : CodeT ℕ) (frames : List ℕ) (κ : Begun) (s t : State ℕ) : Type 0 where

@@ -1,6 +1,7 @@
 -- A plan of promotion, and the code by it.
 use Rattle.std.specs.Prelude.{◌≡◌, ℕ, suc, ◌<◌, Bool, true, false, cond, List, [], ◌∷◌, Option}
-use Rattle.mid_code.specs.Code.{OpT, MoveO, GlobalO, LocalO, LiteralO, LoadO, StoreO, FreshO, EndO, NodesT, Stop, Do, Call, Choose, Block, Loop, Leave, Again, Return, maybe, uses, target}
+use Rattle.mid_code.specs.Code.{OpT, MoveO, GlobalO, LocalO, LiteralO, LoadO, StoreO, FreshO, EndO, NodesT, Stop, Do, Call, Choose, Block, Loop}
+use Rattle.mid_code.specs.Code.{Leave, Again, Return, maybe, uses, target}
 use Rattle.mid_code.specs.inner.Passing.{doing}
 
 -- What a temporary is: its own, the address of a promoted local, or the cell of one.

@@ -138,7 +138,13 @@ abbrev pub plan_of : CodeT ℕ → Plan
 plan_of x = record { promoted = is_promoted x; variable = variable_of x; kind = kind_of x; moved = moved_to x }
 
 abbrev pub promoted_function : Plan → Option ℕ → FunctionT ℕ → FunctionT ℕ
-promoted_function X h f = record { temps = f.temps + trues (flags f); params = f.params; locals = kept (flags f) f.locals; gives = f.gives; body = promoted_nodes X h f.body }
+promoted_function X h f = record {
+  temps = f.temps + trues (flags f);
+  params = f.params;
+  locals = kept (flags f) f.locals;
+  gives = f.gives;
+  body = promoted_nodes X h f.body;
+}
 
 abbrev pub promoted_functions : Plan → ℕ → List (FunctionT ℕ) → List (FunctionT ℕ)
 promoted_functions X n [] = []

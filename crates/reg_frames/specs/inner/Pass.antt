@@ -50,7 +50,8 @@ abbrev pub Stays : (ℕ → Where) → Option ℕ → LiveSet → Type 0
 Stays w t live = (y : ℕ) → live y ≡ true → t ≢ Some y → IsSlot (w y)
 
 -- the pass, by the places of each function's temporaries
-abbrev pub places_pass : (w : Option ℕ → ℕ → Where) → (x : CodeT ℕ) → (y : CodeT Where) → (frames frames' : List ℕ) → Pass (over_worlds temporaries x frames) (over_worlds registers_and_slots y frames')
+abbrev pub places_pass : (w : Option ℕ → ℕ → Where) → (x : CodeT ℕ) → (y : CodeT Where) → (frames frames' : List ℕ)
+    → Pass (over_worlds temporaries x frames) (over_worlds registers_and_slots y frames')
 places_pass w x y frames frames' = record {
   K = Option ℕ;
   I = LiveSet;

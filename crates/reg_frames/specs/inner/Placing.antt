@@ -2,7 +2,9 @@
 use Rattle.std.specs.Prelude.{ℕ, zero, suc, ◌+◌, ◌-◌, cond, eqb, List, [], ◌∷◌, map, sum, Option, Some, None}
 use Rattle.mid_code.specs.declared.placed.Where.{Where}
 use Rattle.mid_code.specs.declared.placed.Where.TheVariants.{Reg, Slot}
-use Rattle.mid_code.specs.Code.{OpT, ConstO, NullO, MoveO, OneO, TwoO, GlobalO, LocalO, LiteralO, CardO, StepO, ApartO, PtrTestO, LoadO, StoreO, FreshO, EndO, InO, OutO, WaitO, HaltO, NodesT, Stop, Do, Call, Choose, Block, Loop, Leave, Again, Return, FunctionT, CodeT}
+use Rattle.mid_code.specs.Code.{OpT, ConstO, NullO, MoveO, OneO, TwoO, GlobalO, LocalO, LiteralO, CardO, StepO, ApartO, PtrTestO, LoadO, StoreO}
+use Rattle.mid_code.specs.Code.{FreshO, EndO, InO, OutO, WaitO, HaltO, NodesT, Stop, Do, Call, Choose, Block, Loop, Leave, Again, Return, FunctionT}
+use Rattle.mid_code.specs.Code.{CodeT}
 use Rattle.mid_code.specs.Placed.{SpotsT, PlacedT}
 use Rattle.mid_code.specs.Invariants.{in_registers}
 use Rattle.mid_code.specs.Safe.{place_of}
@@ -119,7 +121,13 @@ all_spots [] (f ∷ fs) = spots_of [] f ∷ all_spots [] fs
 all_spots (ws ∷ wss) (f ∷ fs) = spots_of ws f ∷ all_spots wss fs
 
 abbrev pub placed_code : (start : List Where) → List (List Where) → CodeT ℕ → CodeT Where
-placed_code start wss x = record { start = placed_function (placing start) x.start; functions = placed_functions wss x.functions; globals = x.globals; literals = x.literals; main = x.main }
+placed_code start wss x = record {
+  start = placed_function (placing start) x.start;
+  functions = placed_functions wss x.functions;
+  globals = x.globals;
+  literals = x.literals;
+  main = x.main;
+}
 
 abbrev pub placed : (start : List Where) → List (List Where) → CodeT ℕ → PlacedT
 placed start wss x = record { code = placed_code start wss x; frames = frame_sizes wss x.functions; spots = all_spots wss x.functions }

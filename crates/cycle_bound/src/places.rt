@@ -23,7 +23,7 @@ fn note<'a>(labels: &mut Labels<'a>, item: &'a AsmItem, place: u64) -> Result<()
     }
 }
 
-/// The labels with the places behind them.
+/// The labels with the places behind them. The count is taken for its bound alone, which keeps the places within a word.
 #[tactic(auto, using(crate::proofs::Nodes::gather_on, crate::proofs::Nodes::gather_done))]
 pub fn labels_of<'a>(alloc: Global, items: &'a [AsmItem]) -> Result<Labels<'a>, Memory>
     ensures { IfOk result (λ l. l ≡ gathered 0 [] items.now) }

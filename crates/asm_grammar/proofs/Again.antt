@@ -1,4 +1,4 @@
--- What a line spells is what is read.
+-- A token that is spelled is what is read.
 use Rattle.std.proofs.Common.{◌≡◌, ℕ, ◌<◌, ◌+◌, ◌-◌, ◌==◌, Bool, true, false, cond, ◌&&◌, eqb, List, [], ◌∷◌, ◌++◌, length, drop, refl, sym, ap, subst, ◌∙◌, arith, inl, inr, lt-ltb, append_assoc}
 use Rattle.std.specs.Prelude.{Option, Some, None, nat_lt}
 use Rattle.std.specs.Char.{is_ascii_digit, is_ascii_hexdigit}
@@ -13,9 +13,9 @@ use Rattle.asm_reader.specs.declared.token.Token.TheVariants as t
 use Rattle.asm_reader.specs.Numbers.{limited, hexadecimal_digits, number_token}
 use Rattle.quoted_text.specs.Quoted.{quoted_at}
 use Rattle.asm_reader.specs.Tokens.{begins, is_blank, kind_token, run_token, mark_token, text_token, token_at, tokens_from, tokens_of}
-use Rattle.asm_reader.proofs.TokenLaws.{both_true, runs, blanks, comments, token_first}
+use Rattle.asm_reader.proofs.TokenLaws.{both_true, runs, token_first}
 use Rattle.c_lex.specs.Grammar.{IsDecimal, IsHexadecimal, IsContent}
-use Rattle.asm_grammar.specs.Spelled.{IsNumber, IsParted, mark_of, IsSpelled, word, number, negative, quoted, mark, minus, IsLineText, ends, comment, blank, token}
+use Rattle.asm_grammar.specs.Spelled.{IsNumber, IsParted, mark_of, IsSpelled, word, number, negative, quoted, mark, minus}
 use Rattle.asm_grammar.proofs.Quotes.{quoted_read}
 
 -- ---- words and numbers
@@ -40,11 +40,11 @@ all_within p so [] all = refl
 all_within p so (c ∷ cs) all = let h = both_true (p c) (list_all p cs) all in rw (so c h.0, all_within p so cs h.1) refl
 
 -- letters, digits and `_` that begin with a digit and are one number
-record Digits (sign : Bool) (text : List ℕ) (n : ℕ) : Type 0 where
-  some : 0 < length text
-  first : begins is_ascii_digit text ≡ true
-  all : list_all is_word_byte text ≡ true
-  read : number_token sign text ≡ t.Number sign (limited n)
+pub record Digits (sign : Bool) (text : List ℕ) (n : ℕ) : Type 0 where
+  pub some : 0 < length text
+  pub first : begins is_ascii_digit text ≡ true
+  pub all : list_all is_word_byte text ≡ true
+  pub read : number_token sign text ≡ t.Number sign (limited n)
 
 begins_some : (p : ℕ → Bool) (text : List ℕ) → begins p text ≡ true → 0 < length text
 begins_some p [] h = absurd cc
@@ -90,7 +90,7 @@ hexadecimal_number sign text n d = subst (λ (l : List ℕ). Digits sign l n) (s
   read = rw (hexadecimal_read d.digits d.some d.all) (ap (λ (v : ℕ). t.Number sign (limited v)) (sym d.value));
 })
 
-number_digits : (sign : Bool) (text : List ℕ) (n : ℕ) → IsNumber text n → Digits sign text n
+pub number_digits : (sign : Bool) (text : List ℕ) (n : ℕ) → IsNumber text n → Digits sign text n
 number_digits sign text n d = elim d [ inl x ↦ decimal_digits sign text n x | inr x ↦ hexadecimal_number sign text n x ]
 
 number_run : (text : List ℕ) (n : ℕ) → Digits false text n → run_token text ≡ t.Number false (limited n)
@@ -106,7 +106,7 @@ word_run (b ∷ bs) h =
 
 -- ---- the token at the front
 
-dropped : (xs ys : List ℕ) → drop (length xs) (xs ++ ys) ≡ ys
+pub dropped : (xs ys : List ℕ) → drop (length xs) (xs ++ ys) ≡ ys
 dropped [] ys = refl
 dropped (x ∷ xs) ys = dropped xs ys
 
@@ -114,13 +114,13 @@ not_taken : (p : ℕ → Bool) (rest : List ℕ) → begins p rest ≡ false →
 not_taken p [] h = refl
 not_taken p (x ∷ xs) h = take_while-cons p x xs ∙ rw h refl
 
-run_taken : (p : ℕ → Bool) (run rest : List ℕ) → list_all p run ≡ true → begins p rest ≡ false → take_while p (run ++ rest) ≡ run
+pub run_taken : (p : ℕ → Bool) (run rest : List ℕ) → list_all p run ≡ true → begins p rest ≡ false → take_while p (run ++ rest) ≡ run
 run_taken p [] rest all ended = not_taken p rest ended
 run_taken p (x ∷ xs) rest all ended =
     let h = both_true (p x) (list_all p xs) all in
     take_while-cons p x (xs ++ rest) ∙ rw h.0 (ap (λ (ys : List ℕ). x ∷ ys) (run_taken p xs rest h.1 ended))
 
-begins_more : (p : ℕ → Bool) (a r : List ℕ) → begins p a ≡ true → begins p (a ++ r) ≡ true
+pub begins_more : (p : ℕ → Bool) (a r : List ℕ) → begins p a ≡ true → begins p (a ++ r) ≡ true
 begins_more p [] r h = absurd cc
 begins_more p (b ∷ bs) r h = h
 
@@ -197,7 +197,7 @@ unfolding token_at mark_token
 minus_at bs h = rw h refl
 
 -- a token and what stands behind it
-front_read : (text rest : List ℕ) (x : Token) → IsSpelled text rest x → tokens_of (text ++ rest) ≡ x ∷ tokens_of rest
+pub front_read : (text rest : List ℕ) (x : Token) → IsSpelled text rest x → tokens_of (text ++ rest) ≡ x ∷ tokens_of rest
 front_read text rest x (word is ended e) =
     let r = word_run text is in
     runs text rest r.0 r.1 ended ∙ ap (λ (y : Token). y ∷ tokens_of rest) (r.2 ∙ sym e)
@@ -221,12 +221,6 @@ front_read text rest x (mark b spelled is) =
 front_read text rest x (minus spelled ended e) =
     ap (λ (l : List ℕ). tokens_of (l ++ rest)) spelled ∙ token_first 45 0 rest rest t.Minus refl refl (minus_at rest ended) refl ∙ ap (λ (y : Token). y ∷ tokens_of rest) (sym e)
 
-nothing_read : tokens_of [] ≡ []
+pub nothing_read : tokens_of [] ≡ []
 unfolding tokens_of tokens_from
 nothing_read = refl
-
-pub line_read : {line : List ℕ} {tokens : List Token} → IsLineText line tokens → tokens_of line ≡ tokens
-line_read (ends e f) = ap tokens_of e ∙ nothing_read ∙ sym f
-line_read (comment said e f) = ap tokens_of e ∙ comments said ∙ sym f
-line_read (blank b rest e is more) = ap tokens_of e ∙ blanks b rest is ∙ line_read more
-line_read (token text rest first more e f is others) = ap tokens_of e ∙ front_read text rest first is ∙ ap (λ (ts : List Token). first ∷ ts) (line_read others) ∙ sym f

@@ -255,3 +255,18 @@ module _ (k : Operation) (xs : List Written) where
   pub forms_both : (instruction k xs ≡ Err NoSuchForm) ↔ IsNoForm k xs
   unfolding instruction
   forms_both = (no_form (formed k xs) refl (formed_alike k xs), is_no_form (formed k xs) refl (formed_alike k xs))
+
+  not_judged_float : (r : Found) → Alike r (formed k (map zeroed xs)) → judged xs r ≡ Err FloatInstruction → ⊥
+  not_judged_float (Ok i) a h = absurd cc
+  not_judged_float (Err NumberTooLarge) a h = absurd cc
+  not_judged_float (Err NoSuchForm) a h = go (list_all fits_some xs) h
+    where
+      go : (b : Bool) → (let r : Found = cond b (Err NoSuchForm) (Err BadLine) in r ≡ Err FloatInstruction) → ⊥
+      go true e = absurd cc
+      go false e = absurd cc
+  not_judged_float (Err BadLine) a h = a
+  not_judged_float (Err FloatInstruction) a h = a
+
+  pub no_float : instruction k xs ≡ Err FloatInstruction → ⊥
+  unfolding instruction
+  no_float e = not_judged_float (formed k xs) (formed_alike k xs) e

@@ -1,6 +1,8 @@
 pub mod Quotes
 pub mod Spelling
 pub mod Again
+pub mod Strays
 pub mod Lines
-pub mod Whole
 pub mod Classes
+pub mod Refused
+pub mod Whole

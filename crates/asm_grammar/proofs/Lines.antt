@@ -2,7 +2,6 @@
 use Rattle.std.proofs.Common.{◌≡◌, ℕ, suc, ◌<◌, Bool, true, false, cond, ◌&&◌, List, [], ◌∷◌, ◌++◌, length, map, refl, sym, ap, subst, ◌∙◌, arith, inl, inr, lt-ltb, ltb}
 use Rattle.std.specs.Prelude.{Option, Some, None, is_some, Result, Ok, Err}
 use Rattle.std.specs.List.{list_all, AllZip}
-use Rattle.std.proofs.lemmas.List.Folds.{list_all-append}
 use Rattle.v32_isa.specs.declared.instruction.Instr.{Instr}
 use Rattle.asm_items.specs.Items.{Imm}
 use Rattle.asm_items.specs.declared.item.AsmItem.{AsmItem}
@@ -14,13 +13,12 @@ use Rattle.asm_reader.specs.declared.fault.LineFault.{LineFault}
 use Rattle.asm_reader.specs.declared.fault.LineFault.TheVariants.{BadLine, FloatInstruction, NumberTooLarge, NoSuchForm}
 use Rattle.asm_reader.specs.declared.token.Token.{Token}
 use Rattle.asm_reader.specs.declared.token.Token.TheVariants as t
-use Rattle.asm_reader.specs.declared.value.Value.{Value}
 use Rattle.asm_reader.specs.declared.value.Value.TheVariants.{Number, Label}
 use Rattle.asm_reader.specs.declared.value.Written.{Written}
 use Rattle.asm_reader.specs.declared.value.Written.TheVariants as w
 use Rattle.asm_reader.specs.Faults.{◌>>=◌}
 use Rattle.asm_reader.specs.Forms.{fits_some, formed, instruction, judged, word_of}
-use Rattle.asm_reader.specs.Grammar.{IsForm, IsOperand, IsTaken, joined, value_token}
+use Rattle.asm_reader.specs.Grammar.{IsForm, IsOperand}
 use Rattle.asm_reader.specs.Lines.{is_number, word_or_zero, integer_of, integers as integers_of, is_name, pointer_of, pointers as pointers_of, text_items, data_items, instruction_of, statement_items, is_colon, has_label, label_items, begins_float, both, parts_items, line_items}
 use Rattle.asm_reader.specs.Operands.{is_comma, plain, operand, operands_in, operands_of}
 use Rattle.asm_reader.specs.Parted.{parted, with_first}
@@ -29,7 +27,6 @@ use Rattle.asm_reader.proofs.OperandLaws.{operands_both_ways}
 use Rattle.asm_reader.proofs.PartLaws.{operands_apart_both_ways}
 use Rattle.asm_reader.proofs.TokenLaws.{both_true}
 use Rattle.asm_grammar.specs.Statements.{AreParted, AreOperands, none, some, IsWordOf, IsNameOf, IsStatement, nothing, operation, integers, pointers, text, IsLine, alone, labelled}
-use Rattle.asm_grammar.proofs.Spelling.{is_token}
 
 -- ---- operands
 
@@ -49,7 +46,7 @@ each_read [] (x ∷ xs) h = absurd h
 each_read (part ∷ parts) [] h = absurd h
 each_read (part ∷ parts) (x ∷ xs) h = rw ((operands_both_ways part x).1 h.0, each_read parts xs h.1) refl
 
-operands_are : (tokens : List Token) (xs : List Written) → operands_of tokens ≡ Ok xs → AreOperands tokens xs
+pub operands_are : (tokens : List Token) (xs : List Written) → operands_of tokens ≡ Ok xs → AreOperands tokens xs
 unfolding operands_of
 operands_are [] xs e = none refl (sym (ok_is e))
 operands_are (x ∷ more) xs e = some (record {
@@ -74,7 +71,7 @@ no_parts : (parts : List (List Token)) (xs : List Written) → parts ≡ [] ∷ 
 no_parts parts [] e h = let P : List (List Token) → Type 0 = λ ps. AllZip IsOperand ps [] in subst P e h
 no_parts parts (x ∷ xs) e h = let P : List (List Token) → Type 0 = λ ps. AllZip IsOperand ps (x ∷ xs) in no_operand x ((subst P e h).0)
 
-parted_read : (tokens : List Token) (xs : List Written) → AreParted tokens xs → operands_of tokens ≡ Ok xs
+pub parted_read : (tokens : List Token) (xs : List Written) → AreParted tokens xs → operands_of tokens ≡ Ok xs
 unfolding operands_of parted
 parted_read [] xs h = absurd (no_parts h.parts xs (sym ((operands_apart_both_ways [] h.parts).1 h.parted)) h.each)
 parted_read (x ∷ more) xs h = ap operands_in ((operands_apart_both_ways (x ∷ more) h.parts).1 h.parted) ∙ each_read h.parts xs h.each
@@ -83,11 +80,11 @@ none_read : operands_of [] ≡ Ok []
 unfolding operands_of
 none_read = refl
 
-operands_read : (tokens : List Token) (xs : List Written) → AreOperands tokens xs → operands_of tokens ≡ Ok xs
+pub operands_read : (tokens : List Token) (xs : List Written) → AreOperands tokens xs → operands_of tokens ≡ Ok xs
 operands_read tokens xs (none e f) = ap operands_of e ∙ none_read ∙ ap Ok (sym f)
 operands_read tokens xs (some h) = parted_read tokens xs h
 
-some_parted : (tokens : List Token) (xs : List Written) → AreOperands tokens xs → 0 < length xs → AreParted tokens xs
+pub some_parted : (tokens : List Token) (xs : List Written) → AreOperands tokens xs → 0 < length xs → AreParted tokens xs
 some_parted tokens xs (none e f) lt = let z : length xs ≡ 0 = ap length f in absurd (omega (arith, lt, z))
 some_parted tokens xs (some h) lt = h
 
@@ -97,7 +94,7 @@ same_length [] (x ∷ xs) h = absurd h
 same_length (p ∷ ps) [] h = absurd h
 same_length (p ∷ ps) (x ∷ xs) h = ap suc (same_length ps xs h.1)
 
-parted_some : (tokens : List Token) (xs : List Written) → AreParted tokens xs → 0 < length xs
+pub parted_some : (tokens : List Token) (xs : List Written) → AreParted tokens xs → 0 < length xs
 parted_some tokens xs h = let e = same_length h.parts xs h.each in let lt = h.parted.some in omega (arith, lt, e)
 
 -- ---- instructions
@@ -123,16 +120,16 @@ instruction_read o xs i f = ap (judged xs) ((forms_both_ways o xs i).1 f)
 
 -- ---- data
 
-record Words (xs : List Written) : Type 0 where
-  words : List ℕ
-  each : AllZip IsWordOf xs words
-  whole : map integer_of xs ≡ map item.Integer words
+pub record Words (xs : List Written) : Type 0 where
+  pub words : List ℕ
+  pub each : AllZip IsWordOf xs words
+  pub whole : map integer_of xs ≡ map item.Integer words
 
 word_some : (o : Option ℕ) → is_some o ≡ true → (n : ℕ) × (o ≡ Some n)
 word_some (Some n) h = (n, refl)
 word_some None h = absurd cc
 
-words_are : (xs : List Written) → list_all is_number xs ≡ true → list_all fits_some xs ≡ true → Words xs
+pub words_are : (xs : List Written) → list_all is_number xs ≡ true → list_all fits_some xs ≡ true → Words xs
 words_are [] n f = record { words = []; each = tt; whole = refl }
 words_are (w.Value (Number s m) ∷ xs) n f =
     let g = both_true (is_some (word_of s m)) (list_all fits_some xs) f in
@@ -146,12 +143,12 @@ words_are (w.AtRegister a ∷ xs) n f = absurd cc
 words_are (w.AtValue a ∷ xs) n f = absurd cc
 words_are (w.AtOffset a b ∷ xs) n f = absurd cc
 
-record Read (xs : List Written) (words : List ℕ) : Type 0 where
-  numbers : list_all is_number xs ≡ true
-  fit : list_all fits_some xs ≡ true
-  whole : map integer_of xs ≡ map item.Integer words
+pub record Read (xs : List Written) (words : List ℕ) : Type 0 where
+  pub numbers : list_all is_number xs ≡ true
+  pub fit : list_all fits_some xs ≡ true
+  pub whole : map integer_of xs ≡ map item.Integer words
 
-words_read : (xs : List Written) (words : List ℕ) → AllZip IsWordOf xs words → Read xs words
+pub words_read : (xs : List Written) (words : List ℕ) → AllZip IsWordOf xs words → Read xs words
 words_read [] [] h = record { numbers = refl; fit = refl; whole = refl }
 words_read [] (n ∷ ns) h = absurd h
 words_read (x ∷ xs) [] h = absurd h
@@ -170,7 +167,7 @@ record Integers (xs : List Written) (items : List AsmItem) : Type 0 where
   words : Words xs
   are : items ≡ map integer_of xs
 
-some_of : (n : ℕ) → ltb 0 n ≡ true → 0 < n
+pub some_of : (n : ℕ) → ltb 0 n ≡ true → 0 < n
 some_of n e = grind (arith, e)
 
 integers_are : (xs : List Written) (items : List AsmItem) → integers_of xs ≡ Ok items → Integers xs items
@@ -320,7 +317,7 @@ unfolding operand plain
 colon_bad [] = refl
 colon_bad (y ∷ more) = refl
 
-no_colon_operands : (more : List Token) (xs : List Written) → operands_of (t.Colon ∷ more) ≡ Ok xs → ⊥
+pub no_colon_operands : (more : List Token) (xs : List Written) → operands_of (t.Colon ∷ more) ≡ Ok xs → ⊥
 unfolding operands_of parted
 no_colon_operands more xs e = first_of t.Colon (parted is_comma more) xs colon_bad e
 
@@ -333,7 +330,7 @@ no_colon x more items (integers rest xs words e ops each f) = let tail : t.Colon
 no_colon x more items (pointers rest xs names e ops each f) = let tail : t.Colon ∷ more ≡ rest = cc in no_colon_operands more xs (ap operands_of tail ∙ parted_read rest xs ops)
 no_colon x more items (text content e f) = absurd cc
 
-colon_is : (x : Token) → is_colon x ≡ true → x ≡ t.Colon
+pub colon_is : (x : Token) → is_colon x ≡ true → x ≡ t.Colon
 colon_is t.Colon h = refl
 colon_is _ h = absurd cc
 
@@ -418,51 +415,3 @@ line_is (x ∷ y ∷ more) items e = go (is_colon y) refl e
     go : (b : Bool) → is_colon y ≡ b → parts_items b (x ∷ y ∷ more) ≡ Ok items → IsLine (x ∷ y ∷ more) items
     go true c h = labelled_is x y more items c (not_float (begins_float more) (both (label_items (x ∷ y ∷ more)) (statement_items more)) items h)
     go false c h = alone_is (x ∷ y ∷ more) items (not_float (begins_float (x ∷ y ∷ more)) (both (Ok []) (statement_items (x ∷ y ∷ more))) items h)
-
--- ---- no token of a line with items is stray
-
-value_token_is : (v : Value) → is_token (value_token v) ≡ true
-value_token_is (Number s m) = refl
-value_token_is (Label n) = refl
-
-abbrev AllTokens : List Token → Type 0
-AllTokens ts = list_all is_token ts ≡ true
-
-at_offset : (tokens : List Token) (b : ℕ) (v : Value) → IsTaken tokens b v → AllTokens tokens
-at_offset tokens b (Number s m) (inl e) = ap (list_all is_token) e
-at_offset tokens b (Number s m) (inr h) = ap (list_all is_token) h.1
-at_offset tokens b (Label n) h = absurd h
-
-operand_tokens : (tokens : List Token) (x : Written) → IsOperand tokens x → AllTokens tokens
-operand_tokens tokens (w.Register a) h = ap (list_all is_token) h
-operand_tokens tokens (w.Port p) h = ap (list_all is_token) h
-operand_tokens tokens (w.Value v) h = ap (list_all is_token) h ∙ rw (value_token_is v) refl
-operand_tokens tokens (w.AtRegister b) h = ap (list_all is_token) h
-operand_tokens tokens (w.AtValue v) h = ap (list_all is_token) h ∙ rw (value_token_is v) refl
-operand_tokens tokens (w.AtOffset b v) (inl h) = ap (list_all is_token) h ∙ rw (value_token_is v) refl
-operand_tokens tokens (w.AtOffset b v) (inr h) = at_offset tokens b v h
-
-joined_tokens : (parts : List (List Token)) (xs : List Written) → AllZip IsOperand parts xs → AllTokens (joined t.Comma parts)
-joined_tokens [] xs h = refl
-joined_tokens (p ∷ ps) [] h = absurd h
-joined_tokens (p ∷ []) (x ∷ xs) h = operand_tokens p x h.0
-joined_tokens (p ∷ q ∷ ps) (x ∷ xs) h =
-    list_all-append is_token p (t.Comma ∷ joined t.Comma (q ∷ ps)) ∙ rw (operand_tokens p x h.0, joined_tokens (q ∷ ps) xs h.1) refl
-
-parted_tokens : (tokens : List Token) (xs : List Written) → AreParted tokens xs → AllTokens tokens
-parted_tokens tokens xs h = ap (list_all is_token) h.parted.whole ∙ joined_tokens h.parts xs h.each
-
-operands_tokens : (tokens : List Token) (xs : List Written) → AreOperands tokens xs → AllTokens tokens
-operands_tokens tokens xs (none e f) = ap (list_all is_token) e
-operands_tokens tokens xs (some h) = parted_tokens tokens xs h
-
-statement_tokens : (tokens : List Token) (items : List AsmItem) → IsStatement tokens items → AllTokens tokens
-statement_tokens tokens items (nothing e f) = ap (list_all is_token) e
-statement_tokens tokens items (operation o rest xs i e ops form f) = ap (list_all is_token) e ∙ operands_tokens rest xs ops
-statement_tokens tokens items (integers rest xs words e ops each f) = ap (list_all is_token) e ∙ parted_tokens rest xs ops
-statement_tokens tokens items (pointers rest xs names e ops each f) = ap (list_all is_token) e ∙ parted_tokens rest xs ops
-statement_tokens tokens items (text content e f) = ap (list_all is_token) e
-
-pub line_tokens : (tokens : List Token) (items : List AsmItem) → IsLine tokens items → AllTokens tokens
-line_tokens tokens items (alone s) = statement_tokens tokens items s
-line_tokens tokens items (labelled name rest more e f s) = ap (list_all is_token) e ∙ statement_tokens rest more s

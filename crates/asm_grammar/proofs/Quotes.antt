@@ -4,7 +4,7 @@ use Rattle.std.specs.Prelude.{◌↔◌, Some}
 use Rattle.quoted_text.specs.declared.quoted.Within.TheVariants.{Plain}
 use Rattle.quoted_text.specs.Quoted.{quoted_at}
 use Rattle.c_lex.proofs.Contents.{content_read, read_inside}
-use Rattle.asm_grammar.specs.Texts.{IsQuotedBy}
+use Rattle.asm_grammar.specs.Spelled.{IsQuotedBy}
 
 pub quoted_is : (bytes content after : List ℕ) → quoted_at 34 Plain bytes ≡ Some (content, after) → IsQuotedBy bytes content after
 quoted_is bytes content after e = let r = read_inside 34 bytes content after e in record { inner = r.text; whole = r.whole; spelled = r.spelled }

@@ -1,5 +1,5 @@
--- The tokens of a line are those that it spells.
-use Rattle.std.proofs.Common.{◌≡◌, ℕ, zero, suc, ◌<◌, ◌≤◌, ◌+◌, ◌-◌, Bool, true, false, cond, ◌&&◌, eqb, List, [], ◌∷◌, ◌++◌, length, take, drop, refl, sym, ap, subst, ◌∙◌, arith, inl, inr, ltb-true, append_assoc}
+-- A token that is read is spelled.
+use Rattle.std.proofs.Common.{◌≡◌, ℕ, ◌<◌, ◌+◌, ◌-◌, Bool, true, false, cond, ◌&&◌, eqb, List, [], ◌∷◌, ◌++◌, length, take, drop, refl, sym, ap, subst, ◌∙◌, arith, inl, inr, ltb-true, append_assoc}
 use Rattle.std.specs.Prelude.{Option, Some, None, nat_lt}
 use Rattle.std.specs.Char.{is_ascii_digit, is_ascii_hexdigit}
 use Rattle.std.specs.List.{list_all, take_while}
@@ -13,11 +13,10 @@ use Rattle.asm_reader.specs.declared.token.Token.TheVariants as t
 use Rattle.kit_base.specs.Digits.{value_in}
 use Rattle.asm_reader.specs.Numbers.{limited, hexadecimal_digits, number_by, number_token}
 use Rattle.quoted_text.specs.Quoted.{quoted_at}
-use Rattle.asm_reader.specs.Tokens.{begins, is_blank, run_token, mark_token, text_token, token_at, tokens_from, tokens_of}
-use Rattle.asm_reader.proofs.Lexing.{passed}
+use Rattle.asm_reader.specs.Tokens.{begins, run_token, mark_token, text_token, token_at}
 use Rattle.asm_reader.proofs.TokenLaws.{both_true}
 use Rattle.c_lex.specs.Grammar.{IsHexadecimal}
-use Rattle.asm_grammar.specs.Spelled.{IsNumber, IsSpelled, word, number, negative, quoted, mark, minus, IsLineText, ends, comment, blank, token}
+use Rattle.asm_grammar.specs.Spelled.{IsNumber, IsSpelled, word, number, negative, quoted, mark, minus}
 use Rattle.asm_grammar.proofs.Quotes.{quoted_is}
 
 -- what is read is a token
@@ -27,10 +26,10 @@ is_token _ = true
 
 -- ---- a run of bytes that pass a test, at the front
 
-record Run (p : ℕ → Bool) (bytes : List ℕ) : Type 0 where
-  front : take (length (take_while p bytes)) bytes ≡ take_while p bytes
-  all : list_all p (take_while p bytes) ≡ true
-  ended : begins p (drop (length (take_while p bytes)) bytes) ≡ false
+pub record Run (p : ℕ → Bool) (bytes : List ℕ) : Type 0 where
+  pub front : take (length (take_while p bytes)) bytes ≡ take_while p bytes
+  pub all : list_all p (take_while p bytes) ≡ true
+  pub ended : begins p (drop (length (take_while p bytes)) bytes) ≡ false
 
 run_step : (p : ℕ → Bool) (b : ℕ) (bs : List ℕ) (x : Bool) → p b ≡ x → Run p bs → Run p (b ∷ bs)
 run_step p b bs true e r =
@@ -48,7 +47,7 @@ run_step p b bs false e r =
       ended = ap (λ (l : List ℕ). begins p (drop (length l) (b ∷ bs))) none ∙ e;
     }
 
-run_of : (p : ℕ → Bool) (bytes : List ℕ) → Run p bytes
+pub run_of : (p : ℕ → Bool) (bytes : List ℕ) → Run p bytes
 run_of p [] = record { front = refl; all = refl; ended = refl }
 run_of p (b ∷ bs) = run_step p b bs (p b) refl (run_of p bs)
 
@@ -66,7 +65,7 @@ record Number (sign : Bool) (text : List ℕ) : Type 0 where
 some_is : {A : Type 0} {x y : A} → (let o : Option A = Some x in o ≡ Some y) → x ≡ y
 some_is h = cc
 
-hexadecimal_is : (text digits : List ℕ) → hexadecimal_digits text ≡ Some digits → IsHexadecimal text (value_in 16 digits)
+pub hexadecimal_is : (text digits : List ℕ) → hexadecimal_digits text ≡ Some digits → IsHexadecimal text (value_in 16 digits)
 unfolding hexadecimal_digits
 hexadecimal_is [] digits e = absurd cc
 hexadecimal_is (a ∷ []) digits e = absurd cc
@@ -211,43 +210,3 @@ front_spelled b bs ok = by_word (is_word_byte b) refl ok
         (ap (λ (l : List ℕ). (run_token l, length (take_while is_word_byte bs))) one)
         (record { spelled = subst (λ (l : List ℕ). IsSpelled (b ∷ l) (drop (length (take_while is_word_byte bs)) bs) (run_token (b ∷ take_while is_word_byte bs))) (sym r.front) read })
     by_word false e h = by_minus (eqb b 45 && begins is_ascii_digit bs) refl h
-
--- ---- the whole line
-
-cut_whole : (n : ℕ) (bs : List ℕ) → bs ≡ take n bs ++ drop n bs
-cut_whole zero bs = refl
-cut_whole (suc n) [] = refl
-cut_whole (suc n) (b ∷ bs) = ap (λ (l : List ℕ). b ∷ l) (cut_whole n bs)
-
-shorter : (n : ℕ) (bs : List ℕ) → length (drop n bs) ≤ length bs
-shorter zero bs = omega arith
-shorter (suc n) [] = omega arith
-shorter (suc n) (b ∷ bs) = let s = shorter n bs in omega (arith, s)
-
-abbrev AllTokens : List Token → Type 0
-AllTokens ts = list_all is_token ts ≡ true
-
-line_step : (b : ℕ) (bs : List ℕ) (x y : Bool) → is_blank b ≡ x → eqb b 59 ≡ y
-    → ((rest : List ℕ) → length rest ≤ length bs → AllTokens (tokens_of rest) → IsLineText rest (tokens_of rest)) → AllTokens (tokens_of (b ∷ bs)) → IsLineText (b ∷ bs) (tokens_of (b ∷ bs))
-unfolding tokens_of tokens_from
-line_step b bs true y e f more ok =
-    let one : tokens_of (b ∷ bs) ≡ tokens_of bs = rw e refl in
-    blank b bs refl e (subst (IsLineText bs) (sym one) (more bs (omega arith) (ap (list_all is_token) (sym one) ∙ ok)))
-line_step b bs false true e f more ok =
-    let none : tokens_of (b ∷ bs) ≡ [] = rw (e, f) refl in
-    comment bs (ap (λ (n : ℕ). n ∷ bs) (eqb-true b 59 f)) none
-line_step b bs false false e f more ok =
-    let k = (token_at (b ∷ bs)).1 in
-    let one : tokens_of (b ∷ bs) ≡ (token_at (b ∷ bs)).0 ∷ tokens_from k bs = rw (e, f) refl in
-    let two : tokens_of (b ∷ bs) ≡ (token_at (b ∷ bs)).0 ∷ tokens_of (drop k bs) = one ∙ ap (λ (ts : List Token). (token_at (b ∷ bs)).0 ∷ ts) (passed k bs) in
-    let good = both_true (is_token (token_at (b ∷ bs)).0) (list_all is_token (tokens_of (drop k bs))) (ap (list_all is_token) (sym two) ∙ ok) in
-    token (b ∷ take k bs) (drop k bs) (token_at (b ∷ bs)).0 (tokens_of (drop k bs)) (ap (λ (l : List ℕ). b ∷ l) (cut_whole k bs)) two (front_spelled b bs good.0).spelled (more (drop k bs) (shorter k bs) good.1)
-
-within : (n : ℕ) (line : List ℕ) → length line ≤ n → AllTokens (tokens_of line) → IsLineText line (tokens_of line)
-unfolding tokens_of tokens_from
-within n [] le ok = ends refl refl
-within zero (b ∷ bs) le ok = absurd (omega (arith, le))
-within (suc n) (b ∷ bs) le ok = line_step b bs (is_blank b) (eqb b 59) refl refl (λ rest shorter ok'. within n rest (omega (arith, le, shorter)) ok') ok
-
-pub line_spelled : (line : List ℕ) → AllTokens (tokens_of line) → IsLineText line (tokens_of line)
-line_spelled line ok = within (length line) line (omega arith) ok

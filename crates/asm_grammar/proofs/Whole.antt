@@ -1,23 +1,23 @@
 -- Lines and texts, both ways.
-use Rattle.std.proofs.Common.{◌≡◌, ℕ, ◌+◌, List, [], ◌∷◌, ◌++◌, refl, sym, ap, ◌∙◌}
+use Rattle.std.proofs.Common.{◌≡◌, ℕ, ◌+◌, List, [], ◌∷◌, ◌++◌, length, refl, sym, ap, ◌∙◌, arith}
 use Rattle.std.specs.Prelude.{◌↔◌, Result, Ok, Err}
 use Rattle.std.specs.List.{AllZip, flat_map}
 use Rattle.asm_items.specs.declared.item.AsmItem.{AsmItem}
 use Rattle.asm_reader.specs.declared.fault.LineFault.{LineFault}
+use Rattle.asm_reader.specs.Faults.{code_of}
 use Rattle.asm_reader.specs.Lines.{line_items}
 use Rattle.asm_reader.specs.Parted.{parted}
 use Rattle.asm_reader.specs.Reading.{is_newline, Text, at_line, read_from, read}
 use Rattle.asm_reader.specs.Tokens.{tokens_of}
 use Rattle.asm_reader.proofs.PartLaws.{lines_both_ways}
+use Rattle.asm_grammar.specs.Refused.{HasFault, IsRefused}
 use Rattle.asm_grammar.specs.Texts.{SpellsItems, IsText}
-use Rattle.asm_grammar.proofs.Spelling.{line_spelled}
-use Rattle.asm_grammar.proofs.Again.{line_read as tokens_read}
-use Rattle.asm_grammar.proofs.Lines.{line_is, line_read, line_tokens}
+use Rattle.asm_grammar.proofs.Strays.{line_read as tokens_read, line_spelled}
+use Rattle.asm_grammar.proofs.Lines.{line_is, line_read}
+use Rattle.asm_grammar.proofs.Refused.{class_is, class_refused}
 
 to_items : (line : List ℕ) (items : List AsmItem) → line_items (tokens_of line) ≡ Ok items → SpellsItems line items
-to_items line items e =
-    let are = line_is (tokens_of line) items e in
-    record { tokens = tokens_of line; spelled = line_spelled line (line_tokens (tokens_of line) items are); are = are }
+to_items line items e = record { tokens = tokens_of line; spelled = line_spelled line; are = line_is (tokens_of line) items e }
 
 of_items : (line : List ℕ) (items : List AsmItem) → SpellsItems line items → line_items (tokens_of line) ≡ Ok items
 of_items line items s = ap line_items (tokens_read s.spelled) ∙ line_read s.tokens items s.are
@@ -66,3 +66,108 @@ of_text bytes items x = ap (read_from 1) ((lines_both_ways bytes x.lines).1 x.pa
 
 pub texts_both : (bytes : List ℕ) (items : List AsmItem) → (read bytes ≡ Ok items) ↔ IsText bytes items
 texts_both bytes items = (to_text bytes items, of_text bytes items)
+
+-- ---- refusals
+
+to_fault : (line : List ℕ) (fault : LineFault) → line_items (tokens_of line) ≡ Err fault → HasFault line fault
+to_fault line fault e = record { tokens = tokens_of line; spelled = line_spelled line; are = class_is (tokens_of line) fault e }
+
+of_fault : (line : List ℕ) (fault : LineFault) → HasFault line fault → line_items (tokens_of line) ≡ Err fault
+of_fault line fault h = ap line_items (tokens_read h.spelled) ∙ class_refused h.tokens fault h.are
+
+pub faults_both : (line : List ℕ) (fault : LineFault) → (line_items (tokens_of line) ≡ Err fault) ↔ HasFault line fault
+faults_both line fault = (to_fault line fault, of_fault line fault)
+
+-- the first of these lines has that number
+record Faulty (number : ℕ) (lines : List (List ℕ)) (code at : ℕ) : Type 0 where
+  before : List (List ℕ)
+  line : List ℕ
+  after : List (List ℕ)
+  whole : lines ≡ before ++ line ∷ after
+  parts : List (List AsmItem)
+  right : AllZip SpellsItems before parts
+  counted : at ≡ length before + number
+  fault : LineFault
+  faulty : HasFault line fault
+  class : code ≡ code_of fault
+
+error_is : {x y : ℕ × ℕ} → (let r : Text = Err x in r ≡ Err y) → x ≡ y
+error_is e = cc
+
+refused_step : (number : ℕ) (line : List ℕ) (lines : List (List ℕ)) (code at : ℕ) (r : Result (List AsmItem) LineFault) (rest : Text) → line_items (tokens_of line) ≡ r
+    → (rest ≡ Err (code, at) → Faulty (number + 1) lines code at) → at_line number r rest ≡ Err (code, at) → Faulty number (line ∷ lines) code at
+refused_step number line lines code at (Err f) rest e others h =
+    let same = error_is h in
+    record {
+      before = [];
+      line = line;
+      after = lines;
+      whole = refl;
+      parts = [];
+      right = tt;
+      counted = let s : number ≡ at = ap (λ (p : ℕ × ℕ). p.1) same in omega (arith, s);
+      fault = f;
+      faulty = to_fault line f e;
+      class = sym (ap (λ (p : ℕ × ℕ). p.0) same);
+    }
+refused_step number line lines code at (Ok xs) (Ok more) e others h = absurd cc
+refused_step number line lines code at (Ok xs) (Err f) e others h =
+    let o = others h in
+    record {
+      before = line ∷ o.before;
+      line = o.line;
+      after = o.after;
+      whole = ap (λ (ls : List (List ℕ)). line ∷ ls) o.whole;
+      parts = xs ∷ o.parts;
+      right = (to_items line xs e, o.right);
+      counted = let s = o.counted in omega (arith, s);
+      fault = o.fault;
+      faulty = o.faulty;
+      class = o.class;
+    }
+
+to_faulty : (number : ℕ) (lines : List (List ℕ)) (code at : ℕ) → read_from number lines ≡ Err (code, at) → Faulty number lines code at
+unfolding read_from
+to_faulty number [] code at e = absurd cc
+to_faulty number (line ∷ lines) code at e =
+    refused_step number line lines code at (line_items (tokens_of line)) (read_from (number + 1) lines) refl (λ h. to_faulty (number + 1) lines code at h) e
+
+of_faulty : (number : ℕ) (before : List (List ℕ)) (line : List ℕ) (after : List (List ℕ)) (parts : List (List AsmItem)) (fault : LineFault) → AllZip SpellsItems before parts → HasFault line fault
+    → read_from number (before ++ line ∷ after) ≡ Err (code_of fault, length before + number)
+unfolding read_from
+of_faulty number [] line after parts fault right h =
+    let one : read_from number (line ∷ after) ≡ Err (code_of fault, number) = rw (of_fault line fault h) refl in
+    let n : number ≡ 0 + number = omega arith in
+    one ∙ ap (λ (k : ℕ). let whole : Text = Err (code_of fault, k) in whole) n
+of_faulty number (b ∷ bs) line after [] fault right h = absurd right
+of_faulty number (b ∷ bs) line after (p ∷ ps) fault right h =
+    let r = of_faulty (number + 1) bs line after ps fault right.1 h in
+    let n : length bs + (number + 1) ≡ length (b ∷ bs) + number = omega arith in
+    let one : read_from number (b ∷ (bs ++ line ∷ after)) ≡ Err (code_of fault, length bs + (number + 1)) = rw (of_items b p right.0, r) refl in
+    one ∙ ap (λ (k : ℕ). let whole : Text = Err (code_of fault, k) in whole) n
+
+to_refused : (bytes : List ℕ) (code at : ℕ) → read bytes ≡ Err (code, at) → IsRefused bytes code at
+unfolding read
+to_refused bytes code at e =
+    let f = to_faulty 1 (parted is_newline bytes) code at e in
+    record {
+      before = f.before;
+      line = f.line;
+      after = f.after;
+      parted = (lines_both_ways bytes (f.before ++ f.line ∷ f.after)).0 f.whole;
+      parts = f.parts;
+      right = f.right;
+      number = f.counted;
+      fault = f.fault;
+      faulty = f.faulty;
+      class = f.class;
+    }
+
+of_refused : (bytes : List ℕ) (code at : ℕ) → IsRefused bytes code at → read bytes ≡ Err (code, at)
+unfolding read
+of_refused bytes code at x =
+    ap (read_from 1) ((lines_both_ways bytes (x.before ++ x.line ∷ x.after)).1 x.parted)
+    ∙ of_faulty 1 x.before x.line x.after x.parts x.fault x.right x.faulty ∙ λ i. Err (sym x.class i, sym x.number i)
+
+pub refusals_both : (bytes : List ℕ) (code at : ℕ) → (read bytes ≡ Err (code, at)) ↔ IsRefused bytes code at
+refusals_both bytes code at = (to_refused bytes code at, of_refused bytes code at)

@@ -2,3 +2,4 @@ pub mod Spelled
 pub mod Statements
 pub mod Texts
 pub mod Classes
+pub mod Refused

@@ -1,19 +1,12 @@
 -- A whole text: lines between which LF stands, each with its items, in their order.
-use Rattle.std.specs.Prelude.{◌≡◌, ℕ, List, ◌∷◌, ◌++◌}
+use Rattle.std.specs.Prelude.{◌≡◌, ℕ, List}
 use Rattle.std.specs.List.{AllZip, flat_map}
 use Rattle.asm_items.specs.declared.item.AsmItem.{AsmItem}
 use Rattle.asm_reader.specs.declared.token.Token.{Token}
 use Rattle.asm_reader.specs.Grammar.{IsParted}
 use Rattle.asm_reader.specs.Reading.{is_newline}
-use Rattle.c_lex.specs.Grammar.{IsContent}
 use Rattle.asm_grammar.specs.Spelled.{IsLineText}
 use Rattle.asm_grammar.specs.Statements.{IsLine}
-
--- so far the bytes spell the content of a text, behind which its quote stands
-pub record IsQuotedBy (bytes content after : List ℕ) : Type 0 where
-  pub inner : List ℕ
-  pub whole : bytes ≡ inner ++ 34 ∷ after
-  pub spelled : IsContent 34 inner content
 
 -- the line spells tokens that are these items
 pub record SpellsItems (line : List ℕ) (items : List AsmItem) : Type 0 where

@@ -56,7 +56,7 @@ fn put_meaning(rt: &HostRuntime, words: &[String]) -> io::Result<()> {
 fn put_passes(rt: &HostRuntime, words: &[String]) -> io::Result<()> {
     let Some(work) = passes::words_of(words) else {
         return println!(rt;
-            "usage: bench_compiler passes chain|wide|locals|calls COUNT none|promote|choose|safe|place TIMES"
+            "usage: bench_compiler passes chain|wide|locals|calls COUNT none|promote|choose|safe|shared|place TIMES"
         );
     };
     println!(rt; "{}", passes::repeated(rt.alloc(), work))

@@ -1,7 +1,7 @@
 // A pass over a made-up program.
-use kit_base::Memory;
+use kit_base::{Memory, Seq};
 use line_text::decimal_word;
-use mid_code::{Choice, Mid};
+use mid_code::{Choice, Mid, Where};
 use mid_made::{Shape, is_safe_at, shaped};
 use mid_scalars::promote;
 use reg_choose::choose_all;
@@ -15,6 +15,7 @@ pub enum Pass {
     Promote,
     Choose,
     Safe,
+    Shared,
     Place,
 }
 
@@ -43,6 +44,7 @@ fn pass_of(word: &str) -> Option<Pass> {
         "promote" => Some(Pass::Promote),
         "choose" => Some(Pass::Choose),
         "safe" => Some(Pass::Safe),
+        "shared" => Some(Pass::Shared),
         "place" => Some(Pass::Place),
         _ => None,
     }
@@ -78,6 +80,21 @@ fn all_safe(alloc: Global, m: &Mid, choices: &[Choice]) -> Result<bool, Memory> 
     Ok(all)
 }
 
+/// Whether it is safe for each function that all its temporaries share one register.
+fn all_shared(alloc: Global, m: &Mid) -> Result<bool, Memory> {
+    let mut all = true;
+    let mut k: usize = 0;
+    for f in m.code().functions.as_slice() {
+        let at = Vec::from_elem(alloc, Where::Reg(0), f.temps as usize)?;
+        let choice = Choice {
+            at: Seq::from_vec(at),
+        };
+        all = all && is_safe_at(alloc, m, k, &choice)?;
+        k = k.wrapping_add(1);
+    }
+    Ok(all)
+}
+
 /// What came of a pass over the program.
 fn done(alloc: Global, m: Mid, pass: Pass) -> Result<bool, Memory> {
     match pass {
@@ -91,6 +108,7 @@ fn done(alloc: Global, m: Mid, pass: Pass) -> Result<bool, Memory> {
             let choices = choose_all(alloc, &m)?;
             all_safe(alloc, &m, choices.as_slice())
         }
+        Pass::Shared => all_shared(alloc, &m),
         Pass::Place => {
             let choices = choose_all(alloc, &m)?;
             let placed = place(alloc, &m, choices.as_slice())?;

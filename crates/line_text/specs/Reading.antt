@@ -1,5 +1,5 @@
 -- A text read line by line, up to the first faulty line.
-use Rattle.std.specs.Prelude.{◌≡◌, ℕ, ◌+◌, List, [], ◌∷◌, Result, Ok, Err}
+use Rattle.std.specs.Prelude.{◌≡◌, ℕ, ◌+◌, List, [], ◌∷◌, ◌++◌, length, Result, Ok, Err}
 use Rattle.line_text.specs.declared.reader.LineErr.{LineErr}
 use Rattle.line_text.specs.declared.reader.LineErr.TheVariants as l
 use Rattle.line_text.specs.declared.reader.LinesErr.{LinesErr}
@@ -35,3 +35,17 @@ abbrev pub Reads : {S : Type 0} → S → Result (Unit {0}) LinesErr → Reading
 Reads new (Ok x) reading = reading ≡ Ok new
 Reads new (Err (e.At code line)) reading = reading ≡ Err (code, line)
 Reads new (Err e.Memory) reading = Unit {0}
+
+-- the value refuses the line of that number so
+abbrev pub Refuses : {S : Type 0} → (S → List ℕ → Step S) → S → List ℕ → ℕ → LinesErr → Type 0
+Refuses step s line number (e.At code at) = (step s line ≡ Err code) × (at ≡ number)
+Refuses step s line number e.Memory = Unit {0}
+
+-- What is left where a text was refused: the value is what the lines before one of them made of it, and refuses that one.
+pub record Leaves {S : Type 0} (step : S → List ℕ → Step S) (old : S) (lines : List (List ℕ)) (new : S) (failure : LinesErr) : Type 0 where
+  pub before : List (List ℕ)
+  pub line : List ℕ
+  pub after : List (List ℕ)
+  pub whole : lines ≡ before ++ line ∷ after
+  pub taken : read_from step 1 old before ≡ Ok new
+  pub refused : Refuses step new line (length before + 1) failure

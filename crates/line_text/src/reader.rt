@@ -1,6 +1,6 @@
 // A loop over the lines of a text.
-ghost use Rattle.std.specs.Prelude.{◌≡◌, ◌≤◌, List, ℕ, length};
-ghost use Rattle.line_text.specs.Reading.{Step, Steps, Reads, placed, read_from};
+ghost use Rattle.std.specs.Prelude.{◌≡◌, ◌≤◌, IfErr, OnErr, List, ℕ, length};
+ghost use Rattle.line_text.specs.Reading.{Leaves, Step, Steps, Reads, placed, read_from};
 ghost use Rattle.line_text.specs.Lines.{lines_of};
 
 use crate::line::first_line;
@@ -25,13 +25,14 @@ pub enum LinesErr {
     Memory,
 }
 
-/// What takes the lines of a text one after another.
+/// What takes the lines of a text one after another. A line that it refuses leaves it as it was.
 pub trait LineReader {
     /// What a line makes of the value, or the code of its fault.
     ghost step: { Self → List ℕ → Step Self };
 
     fn line(&mut self, alloc: Global, line: &[u8]) -> Result<(), LineErr>
-        ensures { Steps self.new result (step self.old line.now) };
+        ensures made { Steps self.new result (step self.old line.now) }
+        ensures kept { OnErr result (self.new ≡ self.old) };
 }
 
 fn placed(e: LineErr, line: u32) -> LinesErr
@@ -43,15 +44,18 @@ fn placed(e: LineErr, line: u32) -> LinesErr
     }
 }
 
-/// Gives the lines of the text to the reader in order, up to the first that it refuses. The reader is
-/// then what the lines before it made of it. The text has at most 268,435,456 bytes.
+/// Gives the lines of the text to the reader in order, up to the first that it refuses, for a fault or
+/// want of memory. The reader is then what the lines before that one made of it. The text has at most
+/// 268,435,456 bytes.
 pub fn read_lines<R: LineReader>(
     alloc: Global,
     reader: &mut R,
     bytes: &[u8],
 ) -> Result<(), LinesErr>
     requires { length bytes.now ≤ 268435456 }
-    ensures { Reads reader.new result (read_from R.step 1 reader.old (lines_of bytes.now)) }
+    ensures read { Reads reader.new result (read_from R.step 1 reader.old (lines_of bytes.now)) }
+    // Where a line was refused, the reader is what the lines before it made of it.
+    ensures left { IfErr result (Leaves R.step reader.old (lines_of bytes.now) reader.new) }
 {
     let mut number = 1;
     let mut rest = bytes;

@@ -1,5 +1,5 @@
 // Pads files: the date, the time, the connected pads, and when their controls go down and up.
-ghost use Rattle.std.specs.Prelude.{◌≡◌, ◌≤◌, ◌++◌, ◌∷◌, [], ◌⊎◌, length, OnOk, IfOk, IfErr, Ok};
+ghost use Rattle.std.specs.Prelude.{◌≡◌, ◌≤◌, ◌++◌, ◌∷◌, [], ◌⊎◌, length, OnOk, OnErr, IfOk, IfErr, Ok};
 ghost use Rattle.run_files.specs.Script.{Script};
 ghost use Rattle.run_files.specs.PadsFile.{IsPadsFile};
 ghost use Rattle.line_text.specs.declared.reader.LineErr.TheVariants.{Memory};
@@ -97,7 +97,7 @@ impl Pads {
 
 impl Pads {
     ghost use Rattle.run_files.specs.PadsText.{event_of};
-    ghost use Rattle.std.specs.Prelude.{Ok};
+    ghost use Rattle.std.specs.Prelude.{◌≡◌, OnErr, Ok};
     ghost use Rattle.run_files.specs.Script.{IsEvent};
     ghost use Rattle.run_files.specs.PadsReading.{said_step, last_frame, with_event};
     ghost use Rattle.run_files.specs.inner.PadsViews.{header_view};
@@ -126,9 +126,10 @@ impl Pads {
         }
     }
 
-    /// Takes a line after the first.
+    /// Takes a line after the first; one that it refuses changes nothing.
     fn put_line(&mut self, line: &[u8]) -> Result<(), LineErr>
-        ensures { Steps self.new result (said_step self.old (event_of self.old.connected line.now)) }
+        ensures made { Steps self.new result (said_step self.old (event_of self.old.connected line.now)) }
+        ensures kept { OnErr result (self.new ≡ self.old) }
     {
         let Some(said) = event_of(self.connected, line) else {
             return Err(LineErr::Code(100));
@@ -153,7 +154,8 @@ impl Pads {
     fn put_event(&mut self, event: PadEvent) -> Result<(), LineErr>
         requires event { IsEvent self.old.connected event }
         requires order { last_frame 0 self.old.events ≤ event.frame }
-        ensures { Steps self.new result (Ok (with_event self.old event)) }
+        ensures made { Steps self.new result (Ok (with_event self.old event)) }
+        ensures kept { OnErr result (self.new ≡ self.old) }
     {
         push_event(&mut self.events, event)
     }
@@ -162,6 +164,7 @@ impl Pads {
 /// Adds an event to the list.
 fn push_event(events: &mut Vec<PadEvent>, event: PadEvent) -> Result<(), LineErr>
     ensures pushed { OnOk result (events.new.items ≡ events.old.items ++ event ∷ []) }
+    ensures kept { OnErr result (events.new.items ≡ events.old.items) }
     ensures either { (events.new.items ≡ events.old.items) ⊎ (events.new.items ≡ events.old.items ++ event ∷ []) }
     ensures memory { IfErr result (λ e. e ≡ Memory) }
 {
@@ -195,17 +198,18 @@ impl LineReader for PadsReader {
         match self.pads.take() {
             Some(pads) => {
                 let mut pads = pads;
-                pads.put_line(line)?;
+                let taken = pads.put_line(line);
                 self.pads = Some(pads);
+                taken
             }
             None => {
                 let Some(header) = header_of(line) else {
                     return Err(LineErr::Code(103));
                 };
                 self.pads = Some(Pads::of_header(alloc, header));
+                Ok(())
             }
         }
-        Ok(())
     }
 }
 

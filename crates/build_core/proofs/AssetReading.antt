@@ -8,7 +8,7 @@ use Rattle.build_core.specs.declared.error.BuildErr.{BuildErr}
 use Rattle.build_core.specs.declared.error.BuildErr.TheVariants as errors
 use Rattle.build_core.specs.Due.{◌>>=◌, all_of, asset_of}
 use Rattle.build_core.specs.Causes.{IsOfAsset, IsOfAssets}
-use Rattle.build_core.specs.Inner.{GivesBy, Gives}
+use Rattle.build_core.specs.Gathered.{GivesBy, Gives}
 use Rattle.build_core.specs.Reached.{FailsAt, IsOneRead}
 
 -- a refusal that is handed on is the one due for what begins with the refused part

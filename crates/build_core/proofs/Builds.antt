@@ -21,7 +21,7 @@ use Rattle.build_core.specs.Build.{HasImage, IsBuilt, cartridge_of}
 use Rattle.build_core.specs.BuiltFrom.{IsImageFrom, IsBuiltFrom, IsUnbuiltFrom, no_assets, too_large, BuildsFrom}
 use Rattle.build_core.specs.Causes.{IsOfContent, IsOfPacking}
 use Rattle.build_core.specs.Fronts.{IsFrontOf}
-use Rattle.build_core.specs.Inner.{GivesBy, Gives, IsSourceOf}
+use Rattle.build_core.specs.Gathered.{GivesBy, Gives, IsSourceOf}
 use Rattle.build_core.specs.inner.Packing.{IsPackedFrom}
 use Rattle.build_core.proofs.AssetFiles.{textures_are_files, sounds_are_files, no_textures, no_sounds, all_assets}
 use Rattle.build_core.proofs.Checks.{same_parts}

@@ -35,7 +35,7 @@ use Rattle.build_core.specs.declared.error.BuildErr.{BuildErr}
 use Rattle.build_core.specs.declared.error.BuildErr.TheVariants as errors
 use Rattle.build_core.specs.Due.{project_due}
 use Rattle.build_core.specs.Causes.{CanCome, Cause, HasReadCauses, IsOfContent}
-use Rattle.build_core.specs.Inner as build
+use Rattle.build_core.specs.Gathered as build
 use Rattle.build_core.specs.Checked.{unread, broken, no_unit, breaks, no_project, no_program, Checks, IsProgramOf, Accepts, CanBeRefused, ChecksSource, Tells, Breaks, Types, IsOfRules, MissesOnly}
 use Rattle.build_core.proofs.Listing.{front_cause, rule_cause}
 

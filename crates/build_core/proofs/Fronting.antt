@@ -19,7 +19,7 @@ use Rattle.build_core.specs.declared.error.BuildErr.TheVariants as errors
 use Rattle.build_core.specs.Due.{project_due}
 use Rattle.build_core.specs.Checked.{Accepts, CanBeRefused, Checks, IsProgramOf, MissesOnly, unread}
 use Rattle.build_core.specs.Fronts.{AcceptsFront, AcceptsSource, Fronts, IsCheckedOf}
-use Rattle.build_core.specs.Inner.{Gives, ReadsSource}
+use Rattle.build_core.specs.Gathered.{Gives, ReadsSource}
 use Rattle.build_core.proofs.Checks.{Derived, source_not_derived, project_checks, project_refused, same_parts, refused_accepts, source_kinds}
 
 as_checked : (e : BuildErr) (p : ProgramT) → IsProgramOf p (Err e) → IsCheckedOf p (Err e)

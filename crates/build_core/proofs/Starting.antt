@@ -26,7 +26,7 @@ use Rattle.c_front.specs.Over.{over}
 use Rattle.build_core.specs.Checkable.{AreOfOneUnit, IsCheckable}
 use Rattle.build_core.specs.declared.error.BuildErr.{BuildErr}
 use Rattle.build_core.specs.declared.checked.Checked.{Checked}
-use Rattle.build_core.specs.Inner.{IsRead, IsOfUnit, TypesSource, ReadsSource}
+use Rattle.build_core.specs.Gathered.{IsRead, IsOfUnit, TypesSource, ReadsSource}
 use Rattle.build_core.specs.Starts.{starts_of}
 use Rattle.build_core.proofs.Checks.{source_typed}
 

@@ -15,7 +15,7 @@ use Rattle.build_core.specs.declared.checked.Checked.{Checked}
 use Rattle.build_core.specs.declared.error.BuildErr.{BuildErr}
 use Rattle.build_core.specs.declared.error.BuildErr.TheVariants as errors
 use Rattle.build_core.specs.Checked.{Checks}
-use Rattle.build_core.specs.Inner.{IsSourceOf}
+use Rattle.build_core.specs.Gathered.{IsSourceOf}
 
 -- The project's text is of its grammar, and its source was read and typed.
 pub record IsFrontOf (m : Held) (project : List ℕ) (c : Checked) : Type 0 where

@@ -6,7 +6,7 @@ pub mod Checkable
 pub mod Build
 pub mod Causes
 pub mod Reached
-pub mod Inner
+pub mod Gathered
 pub mod Fronts
 pub mod BuiltFrom
 pub mod inner

@@ -5,7 +5,7 @@ ghost use Rattle.asset_pack.specs.declared.error.AssetErr.{AssetErr};
 ghost use Rattle.asset_pack.specs.Reading.{Gives as GivesAsset};
 ghost use Rattle.build_core.specs.Due.{all_of, asset_due, asset_of};
 ghost use Rattle.build_core.specs.Causes.{HasReadCauses, IsOfAssets, IsOfTesting, IsOfAsset, IsOfContent};
-ghost use Rattle.build_core.specs.Inner.{Gives, GivesBy};
+ghost use Rattle.build_core.specs.Gathered.{Gives, GivesBy};
 ghost use Rattle.build_core.specs.Reached.{FailsAt, IsOneRead};
 
 use crate::error::BuildErr;

@@ -4,7 +4,7 @@ ghost use Rattle.project_text.specs.ProjectText.{IsProject};
 ghost use Rattle.project_text.specs.Reading.{project_of};
 ghost use Rattle.build_core.specs.Due.{project_due, read_of};
 ghost use Rattle.build_core.specs.Causes.{CanCome, IsOfReading, IsOfContent, HasReadCauses};
-ghost use Rattle.build_core.specs.Inner.{Gives, GivesBy};
+ghost use Rattle.build_core.specs.Gathered.{Gives, GivesBy};
 
 use crate::error::BuildErr;
 use kit_base::{FileErr, Files, Name};

@@ -6,7 +6,7 @@ ghost use Rattle.c_types.specs.Programs.{ProgramT};
 ghost use Rattle.build_core.specs.Fronts.{AcceptsSource, IsCheckedOf};
 ghost use Rattle.build_core.specs.Causes.{HasReadCauses};
 ghost use Rattle.build_core.specs.Checked.{IsOfRules, MissesOnly};
-ghost use Rattle.build_core.specs.Inner.{IsRead, ReadsSource, TypesSource};
+ghost use Rattle.build_core.specs.Gathered.{IsRead, ReadsSource, TypesSource};
 ghost use Rattle.build_core.specs.Reached.{FailsAt};
 ghost use Rattle.build_core.specs.Starts.{starts_of};
 ghost use Rattle.c_front.specs.Causes.{IsWithin};

@@ -1,4 +1,4 @@
--- What private clauses cite.
+-- What the parts of a build answer, each by itself, and a source that is read and checked.
 use Rattle.std.specs.Prelude.{ℕ, ◌≡◌, ◌≤◌, List, length, Result, Ok, Err}
 use Rattle.std.specs.List.{AllByRecursion, list_all}
 use Rattle.std.specs.Str.{is_utf8}

@@ -10,7 +10,7 @@ use Rattle.mid_code.specs.Meaning.{Next, Lang, did}
 use Rattle.mid_code.specs.States.{State, temporaries, received, cell_of, word_tested, begun, if_room, back, entry_weight, over_worlds, sizes_of, function_at}
 use Rattle.mid_code.specs.inner.Passing.{acts, Pass, Like, CallAlike, DidAlike, TestAlike, Keeps}
 use Rattle.mid_code.proofs.More.{act_more, enter_more, back_more}
-use Rattle.mid_copies.specs.inner.Copying.{Copies, origin, behind_maybe, used_up, Gone, with_use, known_behind, serves, takes, op_serves}
+use Rattle.mid_copies.specs.inner.Copying.{Copies, none_known, origin, behind_maybe, used_up, Gone, with_use, known_behind, serves, takes, op_serves}
 use Rattle.mid_copies.proofs.KnownCells.{both, served, all_served}
 use Rattle.mid_copies.proofs.OnePass.{worlds_spend, worlds_store, Agree, spent_agrees, used_agrees, put_agrees, ops_of, AsksLess, sparing}
 use Rattle.mid_copies.proofs.EachOp.{did_less, each}
@@ -58,15 +58,15 @@ module _ (g : Option ℕ → Gone) (x y : CodeT ℕ) (frames : List ℕ) (sizes 
       abbrev t0 : State ℕ
       t0 = begun temporaries z' (function_at y h).params h brgs t
 
-      begins : Agree (g (Some h)) [] s0 t0
+      begins : Agree (g (Some h)) none_known s0 t0
       begins = record {
         worlds = worlds_store (spend entry_weight s.world) (spend entry_weight t.world) (entered z h) (entered z' h) (sym (ap (λ u. entered u h) sizes)) (worlds_spend s.world t.world entry_weight entry_weight (omega arith) A.worlds);
         given = refl;
         cells = λ r n. (let p = sym (params h) in λ j. received temporaries (p j) (cells j) r);
-        held = tt;
+        held = λ q. tt;
       }
 
-    module _ (h : ℕ) (v w : State ℕ) (B : Agree (g (Some h)) [] v w) where
+    module _ (h : ℕ) (v w : State ℕ) (B : Agree (g (Some h)) none_known v w) where
       abbrev s1 : State ℕ
       s1 = record { world = on_store (returned_to s.world.store) v.world; cells = s.cells; given = s.given }
 
@@ -96,7 +96,7 @@ module _ (g : Option ℕ → Gone) (x y : CodeT ℕ) (frames : List ℕ) (sizes 
     abbrev begun_there : State ℕ
     begun_there = begun temporaries z' (function_at y h).params h (map (origin i) args) t
 
-    comes_back : (v w : State ℕ) → Agree (g (Some h)) [] v w → Agree (g f) k (back temporaries u s v) (back temporaries u t w)
+    comes_back : (v w : State ℕ) → Agree (g (Some h)) none_known v w → Agree (g f) k (back temporaries u s v) (back temporaries u t w)
     comes_back v w B = less_agrees (g f) (behind_maybe (used_up args i) u) k (back temporaries u s v) (back temporaries u t w) less (returns f (used_up args i) s t (used_agrees (g f) i s t A args) h v w B u)
 
     entered_alike : (b b' : Bool) → b' ≡ b → CallAlike PP f k u u h s t (if_room b s begun_here) (if_room b' t begun_there)
@@ -125,10 +125,10 @@ module _ (g : Option ℕ → Gone) (x y : CodeT ℕ) (frames : List ℕ) (sizes 
   call_kept : (f : Option ℕ) (i k : Copies) (t u : Option ℕ) (h : ℕ) (args brgs : List ℕ) (s s' : State ℕ) → (u ≡ t) × (brgs ≡ map (origin i) args) × (list_all (serves (g f) i) args ≡ true) × (takes (g f) t ≡ true) × AsksLess (behind_maybe (used_up args i) t) k → Agree (g f) i s s' → CallAlike PP f k t u h s s' (L.enter h args s) (L'.enter h brgs s')
   call_kept f i k t u h args brgs s s' c A = subst (λ v. CallAlike PP f k t v h s s' (L.enter h args s) (L'.enter h brgs s')) (sym c.0) (subst (λ cs. CallAlike PP f k t t h s s' (L.enter h args s) (L'.enter h cs s')) (sym c.1) (calls f i k s s' A t h args c.2 c.4))
 
-  given_agrees : (f : Option ℕ) (i : Copies) (s t : State ℕ) (c d : Cell) → c ≡ d → Agree (g f) i s t → Agree (g f) [] (record s { given = c }) (record t { given = d })
-  given_agrees f i s t c d e A = record { worlds = A.worlds; given = e; cells = A.cells; held = tt }
+  given_agrees : (f : Option ℕ) (i : Copies) (s t : State ℕ) (c d : Cell) → c ≡ d → Agree (g f) i s t → Agree (g f) none_known (record s { given = c }) (record t { given = d })
+  given_agrees f i s t c d e A = record { worlds = A.worlds; given = e; cells = A.cells; held = λ q. tt }
 
-  module _ (bodies : (h : ℕ) → Like PP (Some h) [] [] (function_at x h).body (function_at y h).body []) where
+  module _ (bodies : (h : ℕ) → Like PP (Some h) [] none_known (function_at x h).body (function_at y h).body none_known) where
     pub keeps : Keeps L L' PP
     keeps = record {
       events = λ f i s t A. sym A.worlds.events;
@@ -140,7 +140,7 @@ module _ (g : Option ℕ → Gone) (x y : CodeT ℕ) (frames : List ℕ) (sizes 
       op = λ f i k o ps s t h A. op_kept f i k o ps s t h A;
       test = λ f i a b s t h A. subst (λ q. TestAlike (word_tested (s.cells a)) (word_tested (t.cells q))) (sym h.0) (test_same (s.cells a) (t.cells (origin i a)) (served (g f) i s.cells t.cells a A.held A.cells h.1));
       give = λ f i a b s t h A. given_agrees f i s t (cell_of s.cells a) (cell_of t.cells b) (gives_same f i a b s t h A) A;
-      none = λ f s t A. given_agrees f [] s t Unwritten Unwritten refl A;
+      none = λ f s t A. given_agrees f none_known s t Unwritten Unwritten refl A;
       call = λ f i k t u h args brgs s s' c A. call_kept f i k t u h args brgs s s' c A;
       bodies = bodies;
       act_more = λ o t. act_more temporaries y frames o t;

@@ -16,7 +16,7 @@ use Rattle.mid_code.specs.Meaning.{Did, On, Ends, Lang}
 use Rattle.mid_code.specs.States.{State, temporaries, put_in, one_word, two_words, stepped, distance, pointers_tested, to, in_world, to_objects, input, output, spent, over_worlds, sizes_of}
 use Rattle.mid_code.specs.inner.Passing.{then_act, acts, Prefix, Pass, DidAlike}
 use Rattle.mid_code.proofs.More.{all_of}
-use Rattle.mid_copies.specs.inner.Copying.{Copies, origin, behind, behind_maybe, used_up, Gone, with_uses, known_behind, serves, takes, op_serves}
+use Rattle.mid_copies.specs.inner.Copying.{Copies, origin, with_copy, behind, behind_maybe, used_up, Gone, with_uses, known_behind, serves, takes, op_serves}
 use Rattle.mid_copies.proofs.KnownCells.{both, served}
 use Rattle.mid_copies.proofs.OnePass.{SameWorlds, worlds_spend, worlds_spend_first, worlds_store, worlds_happened, Agree, world_agrees, spent_agrees, used_agrees, put_agrees, copy_agrees, gone_agrees, ops_of, AsksLess, sparing}
 
@@ -137,7 +137,7 @@ module _ (g : Option ℕ → Gone) (x y : CodeT ℕ) (frames : List ℕ) (sizes 
     plain o h = alike_by f (used_up (uses o) i) s t (used_agrees (g f) i s t A (uses o)) (origin i) o (all_cells (uses o) (both (list_all (serves (g f) i) (uses o)) (takes (g f) (target o)) h).0)
 
     -- a copy is made, or not
-    moves : (q a : ℕ) → s.cells a ≡ t.cells (origin i a) → (b : Bool) → g f q ≡ b → DidAlike PP f (cond b ((q, origin i a) ∷ behind (used_up (a ∷ []) i) q) (behind (used_up (a ∷ []) i) q)) (L.act (MoveO q a) s) (acts L' (cond b [] (MoveO q (origin i a) ∷ [])) t)
+    moves : (q a : ℕ) → s.cells a ≡ t.cells (origin i a) → (b : Bool) → g f q ≡ b → DidAlike PP f (cond b (with_copy q (origin i a) (behind (used_up (a ∷ []) i) q)) (behind (used_up (a ∷ []) i) q)) (L.act (MoveO q a) s) (acts L' (cond b [] (MoveO q (origin i a) ∷ [])) t)
     moves q a e true h =
         let u = used_agrees (g f) i s t A (a ∷ []) in
         (t, refl, copy_agrees (g f) (used_up (a ∷ []) i) (spent 8 s) t (record { worlds = worlds_spend_first s.world t.world 8 A.worlds; given = A.given; cells = A.cells; held = u.held }) q (origin i a) (s.cells a) h e)

@@ -10,7 +10,7 @@ use Rattle.mid_code.specs.inner.Passing.{doing}
 use Rattle.mid_code.specs.Code.{OpT, ConstO, NullO, MoveO, OneO, TwoO, GlobalO, LocalO, LiteralO, CardO, StepO, ApartO, PtrTestO, LoadO, StoreO, FreshO, EndO, InO, OutO, WaitO, HaltO, NodesT, Do, Call, Choose, Block, Loop, Leave, Again, Return, FunctionT}
 use Rattle.mid_code.specs.declared.function.Function.{Function}
 use Rattle.mid_code.specs.Functions.{function, op_before, NodeT, DoN, ChooseN, BlockN, LoopN, LeaveN, AgainN, ReturnN, ListT, NoN, MoreN, listed, node, before, joined, nodes}
-use Rattle.mid_copies.specs.inner.Copying.{Gone, Copies, origin, with_use, spared, serves, takes, all_serve, is_right, spared_function}
+use Rattle.mid_copies.specs.inner.Copying.{Gone, Copies, none_known, origin, with_use, spared, serves, takes, all_serve, is_right, spared_function}
 use Rattle.mid_copies.specs.inner.Sinking.{Held, held_ops, is_free, is_apart, ops_at, held_behind, sunk, sunk_function, IsTidiedBy, AreTidiedBy}
 use Rattle.mid_copies.specs.inner.Listed.{op_known, op_spared, op_right, some_node, node_known, op_of, node_op, held_nodes, nodes_at, held_at, list_sunk, node_spared, list_spared, node_right, list_right}
 
@@ -143,20 +143,20 @@ module _ (g : Gone) where
     node_is : (es : Copies) (x : NodeT ℕ) (zs : List (NodeT ℕ)) (c : NodesT ℕ) → Stands zs (λ h. sunk h (spared g (node_known g es x) c)) → Stands (node_spared g es x ++ zs) (λ h. sunk h (spared g es (before x c)))
     node_is es (DoN o) zs c r = λ h. some_sunk (op_spared g es o) zs (spared g (op_known g es o) c) r h ∙ ap (sunk h) (op_is g es o c)
     node_is es (ChooseN p a b) zs c r =
-        let one = list_is [] a None in
-        let two = list_is [] b None in
-        let x = ChooseN (origin es p) (listed (list_sunk None (list_spared g [] a))) (listed (list_sunk None (list_spared g [] b))) in
-        other_sunk x (Choose (origin es p) (sunk None (spared g [] (joined a))) (sunk None (spared g [] (joined b))) (sunk None (spared g [] c))) zs (spared g [] c) refl
-        (λ i. Choose (origin es p) (one i) (two i) (sunk None (spared g [] c))) r
+        let one = list_is none_known a None in
+        let two = list_is none_known b None in
+        let x = ChooseN (origin es p) (listed (list_sunk None (list_spared g none_known a))) (listed (list_sunk None (list_spared g none_known b))) in
+        other_sunk x (Choose (origin es p) (sunk None (spared g none_known (joined a))) (sunk None (spared g none_known (joined b))) (sunk None (spared g none_known c))) zs (spared g none_known c) refl
+        (λ i. Choose (origin es p) (one i) (two i) (sunk None (spared g none_known c))) r
     node_is es (BlockN b) zs c r =
-        let one = list_is [] b None in
-        other_sunk (BlockN (listed (list_sunk None (list_spared g [] b)))) (Block (sunk None (spared g [] (joined b))) (sunk None (spared g [] c))) zs (spared g [] c) refl (λ i. Block (one i) (sunk None (spared g [] c))) r
+        let one = list_is none_known b None in
+        other_sunk (BlockN (listed (list_sunk None (list_spared g none_known b)))) (Block (sunk None (spared g none_known (joined b))) (sunk None (spared g none_known c))) zs (spared g none_known c) refl (λ i. Block (one i) (sunk None (spared g none_known c))) r
     node_is es (LoopN b) zs c r =
-        let one = list_is [] b None in
-        other_sunk (LoopN (listed (list_sunk None (list_spared g [] b)))) (Loop (sunk None (spared g [] (joined b))) (sunk None (spared g [] c))) zs (spared g [] c) refl (λ i. Loop (one i) (sunk None (spared g [] c))) r
-    node_is es (LeaveN k) zs c r = other_sunk (LeaveN k) (Leave k (sunk None (spared g [] c))) zs (spared g [] c) refl refl r
-    node_is es (AgainN k) zs c r = other_sunk (AgainN k) (Again k (sunk None (spared g [] c))) zs (spared g [] c) refl refl r
-    node_is es (ReturnN p) zs c r = other_sunk (ReturnN (with_use (origin es) p)) (Return (with_use (origin es) p) (sunk None (spared g [] c))) zs (spared g [] c) refl refl r
+        let one = list_is none_known b None in
+        other_sunk (LoopN (listed (list_sunk None (list_spared g none_known b)))) (Loop (sunk None (spared g none_known (joined b))) (sunk None (spared g none_known c))) zs (spared g none_known c) refl (λ i. Loop (one i) (sunk None (spared g none_known c))) r
+    node_is es (LeaveN k) zs c r = other_sunk (LeaveN k) (Leave k (sunk None (spared g none_known c))) zs (spared g none_known c) refl refl r
+    node_is es (AgainN k) zs c r = other_sunk (AgainN k) (Again k (sunk None (spared g none_known c))) zs (spared g none_known c) refl refl r
+    node_is es (ReturnN p) zs c r = other_sunk (ReturnN (with_use (origin es) p)) (Return (with_use (origin es) p) (sunk None (spared g none_known c))) zs (spared g none_known c) refl refl r
 
     pub list_is : (es : Copies) (xs : ListT ℕ) → Stands (list_spared g es xs) (λ h. sunk h (spared g es (joined xs)))
     list_is es NoN h = ap (λ zs. joined (listed zs)) (sym (append-nil (held_nodes h))) ∙ held_first h []
@@ -200,9 +200,9 @@ module _ (g : Gone) where
   mutual
     node_right_is : (es : Copies) (x : NodeT ℕ) (c : NodesT ℕ) → (node_right g es x && all_serve g (node_known g es x) c) ≡ all_serve g es (before x c)
     node_right_is es (DoN o) c = op_right_is es o c
-    node_right_is es (ChooseN p a b) c = four (serves g es p) (list_right g [] a) (list_right g [] b) (all_serve g [] c) ∙ (λ i. serves g es p && (list_right_is [] a i && (list_right_is [] b i && all_serve g [] c)))
-    node_right_is es (BlockN b) c = ap (λ r. r && all_serve g [] c) (list_right_is [] b)
-    node_right_is es (LoopN b) c = ap (λ r. r && all_serve g [] c) (list_right_is [] b)
+    node_right_is es (ChooseN p a b) c = four (serves g es p) (list_right g none_known a) (list_right g none_known b) (all_serve g none_known c) ∙ (λ i. serves g es p && (list_right_is none_known a i && (list_right_is none_known b i && all_serve g none_known c)))
+    node_right_is es (BlockN b) c = ap (λ r. r && all_serve g none_known c) (list_right_is none_known b)
+    node_right_is es (LoopN b) c = ap (λ r. r && all_serve g none_known c) (list_right_is none_known b)
     node_right_is es (LeaveN k) c = refl
     node_right_is es (AgainN k) c = refl
     node_right_is es (ReturnN p) c = refl
@@ -212,19 +212,19 @@ module _ (g : Gone) where
     list_right_is es (MoreN x rest) = ap (λ r. node_right g es x && r) (list_right_is (node_known g es x) rest) ∙ node_right_is es x (joined rest)
 
 -- the nodes of a body
-pub right_joined : (g : Gone) (ns : List (Node ℕ)) → list_right g [] (listed (map node ns)) ≡ all_serve g [] (nodes ns)
-right_joined g ns = list_right_is g [] (listed (map node ns))
+pub right_joined : (g : Gone) (ns : List (Node ℕ)) → list_right g none_known (listed (map node ns)) ≡ all_serve g none_known (nodes ns)
+right_joined g ns = list_right_is g none_known (listed (map node ns))
 
-pub spared_joined : (g : Gone) (ns ms : List (Node ℕ)) → map node ms ≡ list_sunk None (list_spared g [] (listed (map node ns))) → nodes ms ≡ sunk None (spared g [] (nodes ns))
-spared_joined g ns ms e = ap (λ xs. joined (listed xs)) e ∙ list_is g [] (listed (map node ns)) None
+pub spared_joined : (g : Gone) (ns ms : List (Node ℕ)) → map node ms ≡ list_sunk None (list_spared g none_known (listed (map node ns))) → nodes ms ≡ sunk None (spared g none_known (nodes ns))
+spared_joined g ns ms e = ap (λ xs. joined (listed xs)) e ∙ list_is g none_known (listed (map node ns)) None
 
 -- ---- functions
 
-pub function_is : (g : Gone) (f : FunctionT ℕ) (params locals : List ℕ) (body : NodesT ℕ) → params ≡ f.params → locals ≡ f.locals → body ≡ sunk None (spared g [] f.body)
+pub function_is : (g : Gone) (f : FunctionT ℕ) (params locals : List ℕ) (body : NodesT ℕ) → params ≡ f.params → locals ≡ f.locals → body ≡ sunk None (spared g none_known f.body)
     → record { temps = f.temps; params = params; locals = locals; gives = f.gives; body = body } ≡ sunk_function (spared_function g f)
 function_is g f params locals body p l b = λ i. record { temps = f.temps; params = p i; locals = l i; gives = f.gives; body = b i }
 
-pub right_is : (g : Gone) (f : Function ℕ) (params body : Bool) → params ≡ list_all (λ p. not (g p)) f.params → body ≡ list_right g [] (listed (map node f.body)) → (params && body) ≡ is_right g (function f)
+pub right_is : (g : Gone) (f : Function ℕ) (params body : Bool) → params ≡ list_all (λ p. not (g p)) f.params → body ≡ list_right g none_known (listed (map node f.body)) → (params && body) ≡ is_right g (function f)
 right_is g f params body p b = λ i. p i && (b ∙ right_joined g f.body) i
 
 -- a function without copies, by marks that are right, with known words where they are used

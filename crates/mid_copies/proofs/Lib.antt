@@ -1,4 +1,6 @@
 pub mod KnownCells
+pub mod Slotted
+pub mod Tabled
 pub mod OnePass
 pub mod EachOp
 pub mod AlikeCode

@@ -5,7 +5,7 @@ use Rattle.mid_code.specs.Code.{OpT, ConstO, NullO, MoveO, OneO, TwoO, GlobalO, 
 use Rattle.mid_code.specs.Invariants.{IsLoop, AreNodes}
 use Rattle.mid_code.specs.States.{temporaries, over_worlds}
 use Rattle.mid_code.specs.inner.Passing.{doing, Pass, Points, end_at, begin_at, Like}
-use Rattle.mid_copies.specs.inner.Copying.{Copies, origin, behind_maybe, used_up, Gone, with_use, op_then, known_behind, spared, serves, takes, op_serves, all_serve}
+use Rattle.mid_copies.specs.inner.Copying.{Copies, none_known, origin, behind_maybe, used_up, Gone, with_use, op_then, known_behind, spared, serves, takes, op_serves, all_serve}
 use Rattle.mid_copies.proofs.KnownCells.{both}
 use Rattle.mid_copies.proofs.OnePass.{ops_of, AsksLess, sparing}
 
@@ -46,42 +46,42 @@ op_then_is g es HaltO c = refl
 -- nothing is known where a block or loop begins anew, and where it ends
 abbrev pub points : List Bool → List (Points Copies)
 points [] = []
-points (b ∷ bs) = record { begins = []; ends = [] } ∷ points bs
+points (b ∷ bs) = record { begins = none_known; ends = none_known } ∷ points bs
 
-end_in : (bs : List Bool) (k : ℕ) → k < length bs → end_at (points bs) k []
+end_in : (bs : List Bool) (k : ℕ) → k < length bs → end_at (points bs) k none_known
 end_in [] k h = absurd (omega (arith, h))
 end_in (b ∷ bs) zero h = refl
 end_in (b ∷ bs) (suc k) h = end_in bs k (omega (arith, h))
 
-begin_in : (bs : List Bool) (k : ℕ) → IsLoop bs k → begin_at (points bs) k []
+begin_in : (bs : List Bool) (k : ℕ) → IsLoop bs k → begin_at (points bs) k none_known
 begin_in [] k h = absurd h
 begin_in (b ∷ bs) zero h = refl
 begin_in (b ∷ bs) (suc k) h = begin_in bs k h
 
 -- what is still known where these nodes begin: nothing at the end of a list, and before a block
 abbrev pub before : NodesT ℕ → Copies → Copies
-before Stop es = []
+before Stop es = none_known
 before (Do o c) es = es
 before (Call t f args c) es = es
 before (Choose p a b c) es = es
-before (Block b c) es = []
+before (Block b c) es = none_known
 before (Loop b c) es = es
 before (Leave k c) es = es
 before (Again k c) es = es
 before (Return p c) es = es
 
 before_less : (c : NodesT ℕ) (es : Copies) → AsksLess es (before c es)
-before_less Stop es a b h = tt
+before_less Stop es a b h = λ q. tt
 before_less (Do o c) es a b h = h
 before_less (Call t f args c) es a b h = h
 before_less (Choose p d e c) es a b h = h
-before_less (Block d c) es a b h = tt
+before_less (Block d c) es a b h = λ q. tt
 before_less (Loop d c) es a b h = h
 before_less (Leave k c) es a b h = h
 before_less (Again k c) es a b h = h
 before_less (Return p c) es a b h = h
 
-before_none : (c : NodesT ℕ) → before c [] ≡ []
+before_none : (c : NodesT ℕ) → before c none_known ≡ none_known
 before_none Stop = refl
 before_none (Do o c) = refl
 before_none (Call t f args c) = refl
@@ -98,10 +98,10 @@ module _ (g : Option ℕ → Gone) (x y : CodeT ℕ) (frames : List ℕ) where
 
   module _ (m : ℕ) (f : Option ℕ) where
     -- from a beginning where nothing is known
-    begun : (bs : List Bool) (c : NodesT ℕ) → Like PP f (points bs) (before c []) c (spared (g f) [] c) [] → Like PP f (points bs) [] c (spared (g f) [] c) []
-    begun bs c l = subst (λ i. Like PP f (points bs) i c (spared (g f) [] c) []) (before_none c) l
+    begun : (bs : List Bool) (c : NodesT ℕ) → Like PP f (points bs) (before c none_known) c (spared (g f) none_known c) none_known → Like PP f (points bs) none_known c (spared (g f) none_known c) none_known
+    begun bs c l = subst (λ i. Like PP f (points bs) i c (spared (g f) none_known c) none_known) (before_none c) l
 
-    like_from : (bs : List Bool) (c : NodesT ℕ) (es : Copies) → AreNodes x m bs c → all_serve (g f) es c ≡ true → Like PP f (points bs) (before c es) c (spared (g f) es c) []
+    like_from : (bs : List Bool) (c : NodesT ℕ) (es : Copies) → AreNodes x m bs c → all_serve (g f) es c ≡ true → Like PP f (points bs) (before c es) c (spared (g f) es c) none_known
     like_from bs Stop es n h = (refl, refl)
     like_from bs (Do o c) es n h =
         let k = known_behind (g f) es o in
@@ -113,19 +113,19 @@ module _ (g : Option ℕ → Gone) (x y : CodeT ℕ) (frames : List ℕ) where
         let b = both (takes (g f) t) (all_serve (g f) k c) a.1 in
         (t, map (origin es) args, spared (g f) k c, before c k, refl, map_length (origin es) args, (refl, refl, a.0, b.0, before_less c k), like_from bs c k n.1 b.1)
     like_from bs (Choose p a b c) es n h =
-        let d = both (serves (g f) es p) (all_serve (g f) [] a && (all_serve (g f) [] b && all_serve (g f) [] c)) h in
-        let e = both (all_serve (g f) [] a) (all_serve (g f) [] b && all_serve (g f) [] c) d.1 in
-        let r = both (all_serve (g f) [] b) (all_serve (g f) [] c) e.1 in
-        (origin es p, spared (g f) [] a, spared (g f) [] b, spared (g f) [] c, [], refl, (refl, d.0), [], [], (λ u v w. tt), (λ u v w. tt), begun bs a (like_from bs a [] n.0 e.0), begun bs b (like_from bs b [] n.1 r.0), begun bs c (like_from bs c [] n.2 r.1))
+        let d = both (serves (g f) es p) (all_serve (g f) none_known a && (all_serve (g f) none_known b && all_serve (g f) none_known c)) h in
+        let e = both (all_serve (g f) none_known a) (all_serve (g f) none_known b && all_serve (g f) none_known c) d.1 in
+        let r = both (all_serve (g f) none_known b) (all_serve (g f) none_known c) e.1 in
+        (origin es p, spared (g f) none_known a, spared (g f) none_known b, spared (g f) none_known c, none_known, refl, (refl, d.0), none_known, none_known, (λ u v w q. tt), (λ u v w q. tt), begun bs a (like_from bs a none_known n.0 e.0), begun bs b (like_from bs b none_known n.1 r.0), begun bs c (like_from bs c none_known n.2 r.1))
     like_from bs (Block b c) es n h =
-        let d = both (all_serve (g f) [] b) (all_serve (g f) [] c) h in
-        (spared (g f) [] b, spared (g f) [] c, [], [], refl, begun (false ∷ bs) b (like_from (false ∷ bs) b [] n.0 d.0), begun bs c (like_from bs c [] n.1 d.1))
+        let d = both (all_serve (g f) none_known b) (all_serve (g f) none_known c) h in
+        (spared (g f) none_known b, spared (g f) none_known c, none_known, none_known, refl, begun (false ∷ bs) b (like_from (false ∷ bs) b none_known n.0 d.0), begun bs c (like_from bs c none_known n.1 d.1))
     like_from bs (Loop b c) es n h =
-        let d = both (all_serve (g f) [] b) (all_serve (g f) [] c) h in
-        (spared (g f) [] b, spared (g f) [] c, [], [], refl, (λ u v w. tt), begun (true ∷ bs) b (like_from (true ∷ bs) b [] n.0 d.0), begun bs c (like_from bs c [] n.1 d.1))
-    like_from bs (Leave k c) es n h = (spared (g f) [] c, [], refl, end_in bs k n.0, (λ u v w. tt))
-    like_from bs (Again k c) es n h = (spared (g f) [] c, [], refl, begin_in bs k n.0, (λ u v w. tt))
-    like_from bs (Return p c) es n h = (with_use (origin es) p, spared (g f) [] c, refl, (refl, (both (list_all (serves (g f) es) (maybe p)) (all_serve (g f) [] c) h).0))
+        let d = both (all_serve (g f) none_known b) (all_serve (g f) none_known c) h in
+        (spared (g f) none_known b, spared (g f) none_known c, none_known, none_known, refl, (λ u v w q. tt), begun (true ∷ bs) b (like_from (true ∷ bs) b none_known n.0 d.0), begun bs c (like_from bs c none_known n.1 d.1))
+    like_from bs (Leave k c) es n h = (spared (g f) none_known c, none_known, refl, end_in bs k n.0, (λ u v w q. tt))
+    like_from bs (Again k c) es n h = (spared (g f) none_known c, none_known, refl, begin_in bs k n.0, (λ u v w q. tt))
+    like_from bs (Return p c) es n h = (with_use (origin es) p, spared (g f) none_known c, refl, (refl, (both (list_all (serves (g f) es) (maybe p)) (all_serve (g f) none_known c) h).0))
 
-    pub like : (c : NodesT ℕ) → AreNodes x m [] c → all_serve (g f) [] c ≡ true → Like PP f [] [] c (spared (g f) [] c) []
-    like c n h = begun [] c (like_from [] c [] n h)
+    pub like : (c : NodesT ℕ) → AreNodes x m [] c → all_serve (g f) none_known c ≡ true → Like PP f [] none_known c (spared (g f) none_known c) none_known
+    like c n h = begun [] c (like_from [] c none_known n h)

@@ -1,9 +1,8 @@
 -- Code without copies is mid code.
 use Rattle.std.proofs.Common.{◌≡◌, ℕ, zero, suc, ◌<◌, inl, inr, Bool, true, false, cond, ◌||◌, eqb, List, [], ◌∷◌, map, length, sum, ◌≤◌, option_map, slice_get, Option, Some, None, refl, sym, ap, ◌∙◌, subst}
 use Rattle.mid_code.specs.Code.{OpT, ConstO, NullO, MoveO, OneO, TwoO, GlobalO, LocalO, LiteralO, CardO, StepO, ApartO, PtrTestO, LoadO, StoreO, FreshO, EndO, InO, OutO, WaitO, HaltO, NodesT, Stop, Do, Call, Choose, Block, Loop, Leave, Again, Return, FunctionT, CodeT, maybe, uses, target}
-use Rattle.mid_code.specs.Live.{is_among}
 use Rattle.mid_code.specs.Invariants.{IsOp, parameter_count, AreNodes, AllOf, NodeNames, Names, CallsNone, IsFunction, IsStart, IsTemporary, IsMid}
-use Rattle.mid_copies.specs.inner.Copying.{Copies, origin, behind, behind_maybe, used_up, Gone, with_uses, with_use, op_then, known_behind, spared, spared_function, AreSparedBy, IsSparedCode}
+use Rattle.mid_copies.specs.inner.Copying.{Copies, none_known, this_or, origin, with_copy, unless_is, without, behind, behind_maybe, used_up, Gone, with_uses, with_use, op_then, known_behind, spared, spared_function, AreSparedBy, IsSparedCode}
 use Rattle.mid_copies.proofs.WithUses.{op_either, uses_with, target_with}
 
 pub map_length : {A B : Type 0} (f : A → B) (xs : List A) → length (map f xs) ≡ length xs
@@ -14,49 +13,57 @@ map_length f (x ∷ xs) = ap suc (map_length f xs)
 
 module _ (Q : ℕ → Type 0) where
   -- each copy that is known has an origin that is named so
+  abbrev Source : Option ℕ → Type 0
+  Source None = Unit {0}
+  Source (Some p) = Q p
+
   abbrev Sources : Copies → Type 0
-  Sources [] = Unit {0}
-  Sources (e ∷ es) = Q e.1 × Sources es
+  Sources es = (q : ℕ) → Source (es q)
+
+  source_named : (q : ℕ) (o : Option ℕ) → Source o → Q q → Q (this_or q o)
+  source_named q None s h = h
+  source_named q (Some p) s h = s
 
   origin_named : (es : Copies) (q : ℕ) → Sources es → Q q → Q (origin es q)
-  origin_named [] q s h = h
-  origin_named (e ∷ es) q s h = go (origin_named es q s.1 h) (eqb e.0 q)
-    where
-      go : Q (origin es q) → (b : Bool) → Q (cond b e.1 (origin es q))
-      go r true = s.0
-      go r false = r
+  origin_named es q s h = source_named q (es q) (s q) h
 
   all_named : (es : Copies) (qs : List ℕ) → Sources es → AllOf Q qs → AllOf Q (map (origin es) qs)
   all_named es [] s h = tt
   all_named es (q ∷ qs) s h = (origin_named es q s h.0, all_named es qs s h.1)
 
+  none_source : (b : Bool) (o : Option ℕ) → Source o → Source (cond b None o)
+  none_source true o s = tt
+  none_source false o s = s
+
+  some_source : (b : Bool) (p : ℕ) (o : Option ℕ) → Q p → Source o → Source (cond b (Some p) o)
+  some_source true p o h s = h
+  some_source false p o h s = s
+
+  unless_source : (t : ℕ) (o : Option ℕ) → Source o → Source (unless_is t o)
+  unless_source t None s = tt
+  unless_source t (Some p) s = none_source (eqb p t) (Some p) s
+
   behind_named : (es : Copies) (t : ℕ) → Sources es → Sources (behind es t)
-  behind_named [] t s = tt
-  behind_named (e ∷ es) t s = go (behind_named es t s.1) (eqb e.0 t || eqb e.1 t)
-    where
-      go : Sources (behind es t) → (b : Bool) → Sources (cond b (behind es t) (e ∷ behind es t))
-      go r true = r
-      go r false = (s.0, r)
+  behind_named es t s q = none_source (eqb q t) (unless_is t (es q)) (unless_source t (es q) (s q))
+
+  copy_named : (es : Copies) (t p : ℕ) → Q p → Sources es → Sources (with_copy t p es)
+  copy_named es t p h s q = some_source (eqb q t) p (es q) h (s q)
 
   maybe_named : (es : Copies) (t : Option ℕ) → Sources es → Sources (behind_maybe es t)
   maybe_named es None s = s
   maybe_named es (Some t) s = behind_named es t s
 
   used_named : (qs : List ℕ) (es : Copies) → Sources es → Sources (used_up qs es)
-  used_named qs [] s = tt
-  used_named qs (e ∷ es) s = go (used_named qs es s.1) (is_among qs e.0)
-    where
-      go : Sources (used_up qs es) → (b : Bool) → Sources (cond b (used_up qs es) (e ∷ used_up qs es))
-      go r true = r
-      go r false = (s.0, r)
+  used_named [] es s = s
+  used_named (p ∷ qs) es s = used_named qs (without es p) (λ q. none_source (eqb q p) (es q) (s q))
 
   known_named : (g : Gone) (es : Copies) (o : OpT ℕ) → Sources es → AllOf Q (uses o) → Sources (known_behind g es o)
   known_named g es (ConstO q n) s h = maybe_named (used_up (uses (ConstO q n)) es) (target (ConstO q n)) (used_named (uses (ConstO q n)) es s)
   known_named g es (NullO q) s h = maybe_named (used_up (uses (NullO q)) es) (target (NullO q)) (used_named (uses (NullO q)) es s)
   known_named g es (MoveO q a) s h = go (g q)
     where
-      go : (b : Bool) → Sources (cond b ((q, origin es a) ∷ behind (used_up (a ∷ []) es) q) (behind (used_up (a ∷ []) es) q))
-      go true = (origin_named es a s h.0, behind_named (used_up (a ∷ []) es) q (used_named (a ∷ []) es s))
+      go : (b : Bool) → Sources (cond b (with_copy q (origin es a) (behind (used_up (a ∷ []) es) q)) (behind (used_up (a ∷ []) es) q))
+      go true = copy_named (behind (used_up (a ∷ []) es) q) q (origin es a) (origin_named es a s h.0) (behind_named (used_up (a ∷ []) es) q (used_named (a ∷ []) es s))
       go false = behind_named (used_up (a ∷ []) es) q (used_named (a ∷ []) es s)
   known_named g es (OneO o q a) s h = maybe_named (used_up (uses (OneO o q a)) es) (target (OneO o q a)) (used_named (uses (OneO o q a)) es s)
   known_named g es (TwoO o q a b) s h = maybe_named (used_up (uses (TwoO o q a b)) es) (target (TwoO o q a b)) (used_named (uses (TwoO o q a b)) es s)
@@ -90,12 +97,12 @@ module _ (Q : ℕ → Type 0) where
   names_ok g es Stop s n = tt
   names_ok g es (Do o c) s n = op_named g es o (spared g (known_behind g es o) c) c s n.0 (names_ok g (known_behind g es o) c (known_named g es o s n.0.0) n.1)
   names_ok g es (Call t f args c) s n = ((all_named es args s n.0.0, n.0.1), names_ok g (behind_maybe (used_up args es) t) c (maybe_named (used_up args es) t (used_named args es s)) n.1)
-  names_ok g es (Choose p a b c) s n = (((origin_named es p s n.0.0.0, tt), tt), names_ok g [] a tt n.1, names_ok g [] b tt n.2, names_ok g [] c tt n.3)
-  names_ok g es (Block b c) s n = (names_ok g [] b tt n.0, names_ok g [] c tt n.1)
-  names_ok g es (Loop b c) s n = (names_ok g [] b tt n.0, names_ok g [] c tt n.1)
-  names_ok g es (Leave k c) s n = names_ok g [] c tt n
-  names_ok g es (Again k c) s n = names_ok g [] c tt n
-  names_ok g es (Return p c) s n = ((return_named es p s n.0.0, tt), names_ok g [] c tt n.1)
+  names_ok g es (Choose p a b c) s n = (((origin_named es p s n.0.0.0, tt), tt), names_ok g none_known a (λ q. tt) n.1, names_ok g none_known b (λ q. tt) n.2, names_ok g none_known c (λ q. tt) n.3)
+  names_ok g es (Block b c) s n = (names_ok g none_known b (λ q. tt) n.0, names_ok g none_known c (λ q. tt) n.1)
+  names_ok g es (Loop b c) s n = (names_ok g none_known b (λ q. tt) n.0, names_ok g none_known c (λ q. tt) n.1)
+  names_ok g es (Leave k c) s n = names_ok g none_known c (λ q. tt) n
+  names_ok g es (Again k c) s n = names_ok g none_known c (λ q. tt) n
+  names_ok g es (Return p c) s n = ((return_named es p s n.0.0, tt), names_ok g none_known c (λ q. tt) n.1)
 
 -- ---- nodes
 
@@ -106,12 +113,12 @@ calls_none g es (Do o c) n = elim (op_either g es o (spared g (known_behind g es
   | inr e ↦ subst CallsNone (sym e) (calls_none g (known_behind g es o) c n)
 ]
 calls_none g es (Call t f args c) n = absurd n
-calls_none g es (Choose p a b c) n = (calls_none g [] a n.0, calls_none g [] b n.1, calls_none g [] c n.2)
-calls_none g es (Block b c) n = (calls_none g [] b n.0, calls_none g [] c n.1)
-calls_none g es (Loop b c) n = (calls_none g [] b n.0, calls_none g [] c n.1)
-calls_none g es (Leave k c) n = calls_none g [] c n
-calls_none g es (Again k c) n = calls_none g [] c n
-calls_none g es (Return p c) n = calls_none g [] c n
+calls_none g es (Choose p a b c) n = (calls_none g none_known a n.0, calls_none g none_known b n.1, calls_none g none_known c n.2)
+calls_none g es (Block b c) n = (calls_none g none_known b n.0, calls_none g none_known c n.1)
+calls_none g es (Loop b c) n = (calls_none g none_known b n.0, calls_none g none_known c n.1)
+calls_none g es (Leave k c) n = calls_none g none_known c n
+calls_none g es (Again k c) n = calls_none g none_known c n
+calls_none g es (Return p c) n = calls_none g none_known c n
 
 module _ (x y : CodeT ℕ) (globals : y.globals ≡ x.globals) (literals : y.literals ≡ x.literals) (counts : (f : ℕ) → parameter_count y f ≡ parameter_count x f) where
   op_ok : (m : ℕ) (w : ℕ → ℕ) (o : OpT ℕ) → IsOp x m o → IsOp y m (with_uses w o)
@@ -143,17 +150,17 @@ module _ (x y : CodeT ℕ) (globals : y.globals ≡ x.globals) (literals : y.lit
     | inr e ↦ subst (AreNodes y m bs) (sym e) (op_ok m (origin es) o n.0, nodes_ok m bs g (known_behind g es o) c n.1)
   ]
   nodes_ok m bs g es (Call t f args c) n = (counts f ∙ n.0 ∙ ap Some (sym (map_length (origin es) args)), nodes_ok m bs g (behind_maybe (used_up args es) t) c n.1)
-  nodes_ok m bs g es (Choose p a b c) n = (nodes_ok m bs g [] a n.0, nodes_ok m bs g [] b n.1, nodes_ok m bs g [] c n.2)
-  nodes_ok m bs g es (Block b c) n = (nodes_ok m (false ∷ bs) g [] b n.0, nodes_ok m bs g [] c n.1)
-  nodes_ok m bs g es (Loop b c) n = (nodes_ok m (true ∷ bs) g [] b n.0, nodes_ok m bs g [] c n.1)
-  nodes_ok m bs g es (Leave k c) n = (n.0, nodes_ok m bs g [] c n.1)
-  nodes_ok m bs g es (Again k c) n = (n.0, nodes_ok m bs g [] c n.1)
-  nodes_ok m bs g es (Return p c) n = nodes_ok m bs g [] c n
+  nodes_ok m bs g es (Choose p a b c) n = (nodes_ok m bs g none_known a n.0, nodes_ok m bs g none_known b n.1, nodes_ok m bs g none_known c n.2)
+  nodes_ok m bs g es (Block b c) n = (nodes_ok m (false ∷ bs) g none_known b n.0, nodes_ok m bs g none_known c n.1)
+  nodes_ok m bs g es (Loop b c) n = (nodes_ok m (true ∷ bs) g none_known b n.0, nodes_ok m bs g none_known c n.1)
+  nodes_ok m bs g es (Leave k c) n = (n.0, nodes_ok m bs g none_known c n.1)
+  nodes_ok m bs g es (Again k c) n = (n.0, nodes_ok m bs g none_known c n.1)
+  nodes_ok m bs g es (Return p c) n = nodes_ok m bs g none_known c n
 
   function_ok : (g : Gone) (f : FunctionT ℕ) → IsFunction IsTemporary x f → IsFunction IsTemporary y (spared_function g f)
   function_ok g f ok = record {
-    nodes = nodes_ok (length f.locals) [] g [] f.body ok.nodes;
-    names = names_ok (λ t. t < f.temps) g [] f.body tt ok.names;
+    nodes = nodes_ok (length f.locals) [] g none_known f.body ok.nodes;
+    names = names_ok (λ t. t < f.temps) g none_known f.body (λ q. tt) ok.names;
     params_named = ok.params_named;
     params_differ = ok.params_differ;
     count = ok.count;
@@ -162,7 +169,7 @@ module _ (x y : CodeT ℕ) (globals : y.globals ≡ x.globals) (literals : y.lit
   }
 
   start_ok : (g : Gone) (f : FunctionT ℕ) → IsStart IsTemporary x f → IsStart IsTemporary y (spared_function g f)
-  start_ok g f ok = record { function = function_ok g f ok.function; params = ok.params; locals = ok.locals; gives = ok.gives; calls = calls_none g [] f.body ok.calls }
+  start_ok g f ok = record { function = function_ok g f ok.function; params = ok.params; locals = ok.locals; gives = ok.gives; calls = calls_none g none_known f.body ok.calls }
 
   functions_ok : (fs gs : List (FunctionT ℕ)) → AreSparedBy fs gs → AllOf (IsFunction IsTemporary x) fs → AllOf (IsFunction IsTemporary y) gs
   functions_ok [] [] a ok = tt

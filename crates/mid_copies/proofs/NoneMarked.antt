@@ -3,7 +3,7 @@ use Rattle.std.proofs.Common.{◌≡◌, ℕ, zero, suc, true, false, not, ◌&&
 use Rattle.std.proofs.lemmas.Bool.{and_from}
 use Rattle.std.specs.List.{list_all}
 use Rattle.mid_code.specs.Code.{OpT, ConstO, NullO, MoveO, OneO, TwoO, GlobalO, LocalO, LiteralO, CardO, StepO, ApartO, PtrTestO, LoadO, StoreO, FreshO, EndO, InO, OutO, WaitO, HaltO, NodesT, Stop, Do, Call, Choose, Block, Loop, Leave, Again, Return, FunctionT, maybe}
-use Rattle.mid_copies.specs.inner.Copying.{Copies, behind_maybe, used_up, known_behind, serves, takes, op_serves, all_serve, none_gone, marked, is_right}
+use Rattle.mid_copies.specs.inner.Copying.{Copies, none_known, behind_maybe, used_up, known_behind, serves, takes, op_serves, all_serve, none_gone, marked, is_right}
 
 uses_serve : (es : Copies) (qs : List ℕ) → list_all (serves none_gone es) qs ≡ true
 uses_serve es [] = refl
@@ -41,12 +41,12 @@ nodes_serve es (Do o c) = let k = known_behind none_gone es o in and_from (op_se
 nodes_serve es (Call t f args c) =
     let k = behind_maybe (used_up args es) t in
     and_from (list_all (serves none_gone es) args) (takes none_gone t && all_serve none_gone k c) (uses_serve es args) (and_from (takes none_gone t) (all_serve none_gone k c) (target_takes t) (nodes_serve k c))
-nodes_serve es (Choose p a b c) = and_from (all_serve none_gone [] a) (all_serve none_gone [] b && all_serve none_gone [] c) (nodes_serve [] a) (and_from (all_serve none_gone [] b) (all_serve none_gone [] c) (nodes_serve [] b) (nodes_serve [] c))
-nodes_serve es (Block b c) = and_from (all_serve none_gone [] b) (all_serve none_gone [] c) (nodes_serve [] b) (nodes_serve [] c)
-nodes_serve es (Loop b c) = and_from (all_serve none_gone [] b) (all_serve none_gone [] c) (nodes_serve [] b) (nodes_serve [] c)
-nodes_serve es (Leave k c) = nodes_serve [] c
-nodes_serve es (Again k c) = nodes_serve [] c
-nodes_serve es (Return p c) = and_from (list_all (serves none_gone es) (maybe p)) (all_serve none_gone [] c) (uses_serve es (maybe p)) (nodes_serve [] c)
+nodes_serve es (Choose p a b c) = and_from (all_serve none_gone none_known a) (all_serve none_gone none_known b && all_serve none_gone none_known c) (nodes_serve none_known a) (and_from (all_serve none_gone none_known b) (all_serve none_gone none_known c) (nodes_serve none_known b) (nodes_serve none_known c))
+nodes_serve es (Block b c) = and_from (all_serve none_gone none_known b) (all_serve none_gone none_known c) (nodes_serve none_known b) (nodes_serve none_known c)
+nodes_serve es (Loop b c) = and_from (all_serve none_gone none_known b) (all_serve none_gone none_known c) (nodes_serve none_known b) (nodes_serve none_known c)
+nodes_serve es (Leave k c) = nodes_serve none_known c
+nodes_serve es (Again k c) = nodes_serve none_known c
+nodes_serve es (Return p c) = and_from (list_all (serves none_gone es) (maybe p)) (all_serve none_gone none_known c) (uses_serve es (maybe p)) (nodes_serve none_known c)
 
 params_stay : (ps : List ℕ) → list_all (λ p. not (none_gone p)) ps ≡ true
 params_stay [] = refl
@@ -54,7 +54,7 @@ params_stay (p ∷ ps) = params_stay ps
 
 -- nothing is gone
 pub none_right : (f : FunctionT ℕ) → is_right none_gone f ≡ true
-none_right f = and_from (list_all (λ p. not (none_gone p)) f.params) (all_serve none_gone [] f.body) (params_stay f.params) (nodes_serve [] f.body)
+none_right f = and_from (list_all (λ p. not (none_gone p)) f.params) (all_serve none_gone none_known f.body) (params_stay f.params) (nodes_serve none_known f.body)
 
 -- no marks
 pub unmarked_right : (f : FunctionT ℕ) → is_right (marked []) f ≡ true

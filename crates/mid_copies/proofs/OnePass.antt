@@ -9,8 +9,8 @@ use Rattle.obj_mem.specs.Worlds.{World, on_store, spend, happened}
 use Rattle.mid_code.specs.Code.{OpT, ConstO, MoveO, CodeT, maybe}
 use Rattle.mid_code.specs.States.{State, temporaries, put, put_in, in_world, spent, over_worlds}
 use Rattle.mid_code.specs.inner.Passing.{Pass}
-use Rattle.mid_copies.specs.inner.Copying.{Copies, origin, behind, behind_maybe, used_up, Gone, with_uses, with_use, known_behind, serves, takes, op_serves}
-use Rattle.mid_copies.proofs.KnownCells.{put_off, put_on, put_same, AllHeld, still_held, left_held}
+use Rattle.mid_copies.specs.inner.Copying.{Copies, none_known, origin, with_copy, behind, behind_maybe, used_up, Gone, with_uses, with_use, known_behind, serves, takes, op_serves}
+use Rattle.mid_copies.proofs.KnownCells.{put_off, put_on, put_same, AllHeld, still_held, copy_held, left_held}
 
 -- ---- worlds
 
@@ -61,12 +61,12 @@ module _ (g : Gone) (es : Copies) (s t : State ℕ) (a : Agree g es s t) where
   }
 
   -- a copy is made on the first side alone
-  pub copy_agrees : (q p : ℕ) (c : Cell) → g q ≡ true → c ≡ t.cells p → Agree g ((q, p) ∷ behind es q) (put_in temporaries q c s) t
+  pub copy_agrees : (q p : ℕ) (c : Cell) → g q ≡ true → c ≡ t.cells p → Agree g (with_copy q p (behind es q)) (put_in temporaries q c s) t
   copy_agrees q p c gone e = record {
     worlds = a.worlds;
     given = a.given;
     cells = λ r n. put_off s.cells q c r (off r n (eqb r q) refl) ∙ a.cells r n;
-    held = (put_on s.cells q c ∙ e, still_held es q s.cells t.cells (put temporaries s.cells q c) t.cells (λ r n. put_off s.cells q c r n) (λ r n. refl) a.held);
+    held = copy_held q p (behind es q) (put temporaries s.cells q c) t.cells (put_on s.cells q c ∙ e) (still_held es q s.cells t.cells (put temporaries s.cells q c) t.cells (λ r n. put_off s.cells q c r n) (λ r n. refl) a.held);
   }
     where
       off : (r : ℕ) → g r ≡ false → (x : Bool) → eqb r q ≡ x → eqb r q ≡ false
@@ -103,10 +103,10 @@ sparing g x y frames = record {
   K = Option ℕ;
   I = Copies;
   fn = λ f. f;
-  opens = λ f. [];
-  closes = λ f. [];
+  opens = λ f. none_known;
+  closes = λ f. none_known;
   R = λ f i s t. Agree (g f) i s t;
-  G = λ f s t. Agree (g f) [] s t;
+  G = λ f s t. Agree (g f) none_known s t;
   E = λ s t. SameWorlds s.world t.world;
   O = λ s t. SameWorlds s.world t.world;
   D = λ s t. SameWorlds s.world t.world;

@@ -13,7 +13,7 @@ use Rattle.mid_code.specs.Keeps.{KeepsRuns, WorksAtMost}
 use Rattle.mid_code.specs.inner.Passing.{Pass, Like}
 use Rattle.mid_code.specs.inner.Programs.{KeptWorlds, Program}
 use Rattle.mid_code.proofs.Programs.{program_keeps, program_works}
-use Rattle.mid_copies.specs.inner.Copying.{Gone, all_serve, none_gone, is_right, spared_function, AreSparedBy, IsSparedCode}
+use Rattle.mid_copies.specs.inner.Copying.{Gone, none_known, all_serve, none_gone, is_right, spared_function, AreSparedBy, IsSparedCode}
 use Rattle.mid_copies.proofs.KnownCells.{both}
 use Rattle.mid_copies.proofs.OnePass.{SameWorlds, sparing}
 use Rattle.mid_copies.proofs.AlikeCode.{keeps}
@@ -34,8 +34,8 @@ pub record Fits (g : Option ℕ → Gone) (x y : CodeT ℕ) : Type 0 where
   pub main : y.main ≡ x.main
   pub functions : (h : ℕ) → function_at y h ≡ spared_function (g (Some h)) (function_at x h)
   pub start : y.start ≡ spared_function (g None) x.start
-  pub serve : (h : ℕ) → all_serve (g (Some h)) [] (function_at x h).body ≡ true
-  pub start_serves : all_serve (g None) [] x.start.body ≡ true
+  pub serve : (h : ℕ) → all_serve (g (Some h)) none_known (function_at x h).body ≡ true
+  pub start_serves : all_serve (g None) none_known x.start.body ≡ true
   pub nodes : (h : ℕ) → (m : ℕ) × AreNodes x m [] (function_at x h).body
   pub start_nodes : (m : ℕ) × AreNodes x m [] x.start.body
 
@@ -50,11 +50,11 @@ module _ (g : Option ℕ → Gone) (x y : CodeT ℕ) (frames : List ℕ) (F : Fi
       let ls = F.literals in
       λ i. record { frame = λ h. get_or frames h 0; locals = λ h. (fs h i).locals; globals = sum (gs i); first_literal = length (gs i); card = length (gs i) + length (ls i) }
 
-  body_like : (h : ℕ) → Like PP (Some h) [] [] (function_at x h).body (function_at y h).body []
-  body_like h = let n = F.nodes h in subst (λ f. Like PP (Some h) [] [] (function_at x h).body f.body []) (sym (F.functions h)) (like g x y frames n.0 (Some h) (function_at x h).body n.1 (F.serve h))
+  body_like : (h : ℕ) → Like PP (Some h) [] none_known (function_at x h).body (function_at y h).body none_known
+  body_like h = let n = F.nodes h in subst (λ f. Like PP (Some h) [] none_known (function_at x h).body f.body none_known) (sym (F.functions h)) (like g x y frames n.0 (Some h) (function_at x h).body n.1 (F.serve h))
 
-  start_like : Like PP None [] [] x.start.body y.start.body []
-  start_like = let n = F.start_nodes in subst (λ f. Like PP None [] [] x.start.body f.body []) (sym F.start) (like g x y frames n.0 None x.start.body n.1 F.start_serves)
+  start_like : Like PP None [] none_known x.start.body y.start.body none_known
+  start_like = let n = F.start_nodes in subst (λ f. Like PP None [] none_known x.start.body f.body none_known) (sym F.start) (like g x y frames n.0 None x.start.body n.1 F.start_serves)
 
   opened : (answers : List ℕ) (card : Option (List ℕ)) → SameWorlds (opening_world x.globals x.literals answers card) (opening_world y.globals y.literals answers card)
   opened answers card = record {
@@ -74,7 +74,7 @@ module _ (g : Option ℕ → Gone) (x y : CodeT ℕ) (frames : List ℕ) (F : Fi
     begun = None;
     of_start = refl;
     start = start_like;
-    opening = λ answers card is. record { worlds = opened answers card; given = refl; cells = λ r n. refl; held = tt };
+    opening = λ answers card is. record { worlds = opened answers card; given = refl; cells = λ r n. refl; held = λ q. tt };
     goes = λ s t A. A;
     call = (refl, refl, refl, refl, λ a b h. h);
     ended = λ s t a. worlds_ended (length x.globals) (length x.globals + length x.literals) s.world t.world a;
@@ -104,10 +104,10 @@ spared_at (f ∷ fs) [] a h = absurd a
 spared_at (f ∷ fs) (g ∷ gs) a zero = a.0.is
 spared_at (f ∷ fs) (g ∷ gs) a (suc h) = spared_at fs gs a.1 h
 
-right_serves : (g : Gone) (f : FunctionT ℕ) → is_right g f ≡ true → all_serve g [] f.body ≡ true
-right_serves g f r = (both (list_all (λ p. not (g p)) f.params) (all_serve g [] f.body) r).1
+right_serves : (g : Gone) (f : FunctionT ℕ) → is_right g f ≡ true → all_serve g none_known f.body ≡ true
+right_serves g f r = (both (list_all (λ p. not (g p)) f.params) (all_serve g none_known f.body) r).1
 
-serve_at : (fs gs : List (FunctionT ℕ)) (a : AreSparedBy fs gs) (h : ℕ) → all_serve (gone_at fs gs a h) [] (get_or fs h no_function).body ≡ true
+serve_at : (fs gs : List (FunctionT ℕ)) (a : AreSparedBy fs gs) (h : ℕ) → all_serve (gone_at fs gs a h) none_known (get_or fs h no_function).body ≡ true
 serve_at [] [] a h = refl
 serve_at [] (g ∷ gs) a h = absurd a
 serve_at (f ∷ fs) [] a h = absurd a

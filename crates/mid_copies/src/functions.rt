@@ -9,6 +9,7 @@ use crate::known::is_gone;
 use crate::marks::marks_of;
 use crate::rewrite::spare_nodes;
 use crate::right::are_nodes_right;
+use crate::table::Table;
 use kit_base::{Memory, Seq};
 use mid_code::Function;
 use std::alloc::Global;
@@ -29,7 +30,8 @@ fn is_function_right(alloc: Global, gone: &[bool], f: &Function<u32>) -> Result<
     ensures { IfOk result (λ b. b ≡ is_right (marked gone.now) (function f.now)) }
 {
     let params = are_params_right(gone, f.params.as_slice());
-    let body = are_nodes_right(alloc, gone, f.body.as_slice())?;
+    let mut table = Table::none(alloc);
+    let body = are_nodes_right(gone, &mut table, f.body.as_slice())?;
     Ok(both(params, body))
 }
 
@@ -60,7 +62,8 @@ fn copy_words(alloc: Global, words: &[u32]) -> Result<Vec<u32>, Memory>
 fn without(alloc: Global, gone: &[bool], f: &Function<u32>) -> Result<Function<u32>, Memory>
     ensures { IfOk result (λ r. function r ≡ sunk_function (spared_function (marked gone.now) (function f.now))) }
 {
-    let body = spare_nodes(alloc, gone, f.body.as_slice())?;
+    let mut table = Table::none(alloc);
+    let body = spare_nodes(alloc, gone, &mut table, f.body.as_slice())?;
     let params = copy_words(alloc, f.params.as_slice())?;
     let locals = copy_words(alloc, f.locals.as_slice())?;
     Ok(Function {

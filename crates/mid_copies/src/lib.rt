@@ -11,6 +11,8 @@ mod marks;
 mod rewrite;
 mod right;
 mod sinking;
+mod slots;
 mod sparing;
+mod table;
 
 pub use sparing::spare_copies;

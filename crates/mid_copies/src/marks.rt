@@ -1,21 +1,22 @@
 // Which copies are not made: those of temporaries that are used once, where the copy is known, and which constants: those that are used nowhere.
 use crate::counts::{Uses, uses_of};
 use crate::known::{is_copy, know_node};
+use crate::table::Table;
 use kit_base::Memory;
 use mid_code::{Function, Node, Op};
 use std::alloc::Global;
 
 /// A temporary that is used while its copy is known takes no cell.
-fn mark(gone: &mut [bool], copies: &[(u32, u32)], q: u32) {
+fn mark(gone: &mut [bool], table: &Table, q: u32) {
     let i = q as usize;
-    if i < gone.len() && is_copy(copies, q) {
+    if i < gone.len() && is_copy(table, q) {
         gone[i] = true;
     }
 }
 
-fn mark_all(gone: &mut [bool], copies: &[(u32, u32)], qs: &[u32]) {
+fn mark_all(gone: &mut [bool], table: &Table, qs: &[u32]) {
     for q in qs {
-        mark(gone, copies, *q);
+        mark(gone, table, *q);
     }
 }
 
@@ -27,32 +28,32 @@ fn mark_unused(unused: &[bool], gone: &mut [bool], t: u32) {
     }
 }
 
-fn mark_move(unused: &[bool], gone: &mut [bool], copies: &[(u32, u32)], t: u32, a: u32) {
-    mark(gone, copies, a);
+fn mark_move(unused: &[bool], gone: &mut [bool], table: &Table, t: u32, a: u32) {
+    mark(gone, table, a);
     mark_unused(unused, gone, t);
 }
 
-fn mark_op(unused: &[bool], gone: &mut [bool], copies: &[(u32, u32)], o: &Op<u32>) {
+fn mark_op(unused: &[bool], gone: &mut [bool], table: &Table, o: &Op<u32>) {
     match o {
         Op::Const(t, _) => mark_unused(unused, gone, *t),
         Op::Null(_) => {}
-        Op::Move(t, a) => mark_move(unused, gone, copies, *t, *a),
-        Op::One(_, _, a) => mark(gone, copies, *a),
-        Op::Two(_, _, a, b) => mark_all(gone, copies, &[*a, *b]),
+        Op::Move(t, a) => mark_move(unused, gone, table, *t, *a),
+        Op::One(_, _, a) => mark(gone, table, *a),
+        Op::Two(_, _, a, b) => mark_all(gone, table, &[*a, *b]),
         Op::Global(_, _) => {}
         Op::Local(_, _) => {}
         Op::Literal(_, _) => {}
         Op::Card(_) => {}
-        Op::Step(_, p, n) => mark_all(gone, copies, &[*p, *n]),
-        Op::Apart(_, p, q) => mark_all(gone, copies, &[*p, *q]),
-        Op::PtrTest(_, _, p, q) => mark_all(gone, copies, &[*p, *q]),
-        Op::Load(_, p) => mark(gone, copies, *p),
-        Op::Store(p, a) => mark_all(gone, copies, &[*p, *a]),
+        Op::Step(_, p, n) => mark_all(gone, table, &[*p, *n]),
+        Op::Apart(_, p, q) => mark_all(gone, table, &[*p, *q]),
+        Op::PtrTest(_, _, p, q) => mark_all(gone, table, &[*p, *q]),
+        Op::Load(_, p) => mark(gone, table, *p),
+        Op::Store(p, a) => mark_all(gone, table, &[*p, *a]),
         Op::Fresh(_) => {}
         Op::End(_) => {}
-        Op::Call(_, _, arguments) => mark_all(gone, copies, arguments.as_slice()),
+        Op::Call(_, _, arguments) => mark_all(gone, table, arguments.as_slice()),
         Op::In(_, _) => {}
-        Op::Out(_, a) => mark(gone, copies, *a),
+        Op::Out(_, a) => mark(gone, table, *a),
         Op::Wait => {}
         Op::Halt => {}
     }
@@ -60,30 +61,29 @@ fn mark_op(unused: &[bool], gone: &mut [bool], copies: &[(u32, u32)], o: &Op<u32
 
 #[cycle(mark)]
 fn mark_node(
-    alloc: Global,
     single: &[bool],
     unused: &[bool],
     gone: &mut [bool],
-    copies: &[(u32, u32)],
+    table: &mut Table,
     n: &Node<u32>,
 ) -> Result<(), Memory> {
     match n {
         Node::Do(o) => {
-            mark_op(unused, gone, copies, o);
+            mark_op(unused, gone, table, o);
             Ok(())
         }
         Node::Choose(p, a, b) => {
-            mark(gone, copies, *p);
-            mark_nodes(alloc, single, unused, gone, a.as_slice())?;
-            mark_nodes(alloc, single, unused, gone, b.as_slice())
+            mark(gone, table, *p);
+            mark_nodes(single, unused, gone, table, a.as_slice())?;
+            mark_nodes(single, unused, gone, table, b.as_slice())
         }
-        Node::Block(b) => mark_nodes(alloc, single, unused, gone, b.as_slice()),
-        Node::Loop(b) => mark_nodes(alloc, single, unused, gone, b.as_slice()),
+        Node::Block(b) => mark_nodes(single, unused, gone, table, b.as_slice()),
+        Node::Loop(b) => mark_nodes(single, unused, gone, table, b.as_slice()),
         Node::Leave(_) => Ok(()),
         Node::Again(_) => Ok(()),
         Node::Return(p) => {
             if let Some(p) = p {
-                mark(gone, copies, *p);
+                mark(gone, table, *p);
             }
             Ok(())
         }
@@ -92,16 +92,16 @@ fn mark_node(
 
 #[cycle(mark)]
 fn mark_nodes(
-    alloc: Global,
     single: &[bool],
     unused: &[bool],
     gone: &mut [bool],
+    table: &mut Table,
     ns: &[Node<u32>],
 ) -> Result<(), Memory> {
-    let mut copies = Vec::new(alloc);
+    table.clear()?;
     for n in ns {
-        mark_node(alloc, single, unused, gone, copies.as_slice(), n)?;
-        copies = know_node(alloc, single, copies.as_slice(), n)?;
+        mark_node(single, unused, gone, table, n)?;
+        know_node(single, table, n)?;
     }
     Ok(())
 }
@@ -111,11 +111,12 @@ fn mark_nodes(
 pub(crate) fn marks_of(alloc: Global, f: &Function<u32>) -> Result<Vec<bool>, Memory> {
     let Uses { single, unused } = uses_of(alloc, f)?;
     let mut gone = Vec::from_elem(alloc, false, f.temps as usize)?;
+    let mut table = Table::none(alloc);
     mark_nodes(
-        alloc,
         single.as_slice(),
         unused.as_slice(),
         gone.as_mut_slice(),
+        &mut table,
         f.body.as_slice(),
     )?;
     Ok(gone)

@@ -1,38 +1,54 @@
 -- Copies that are not made: where a temporary takes nothing but the cell of another one, and is used only while that one keeps its cell, the
 -- other one serves in its place. So is a constant that is used nowhere.
-use Rattle.std.specs.Prelude.{ℕ, ◌≡◌, Bool, true, not, eqb, cond, ◌&&◌, ◌||◌, List, [], ◌∷◌, map, get_or, false, Option, Some, None}
+use Rattle.std.specs.Prelude.{ℕ, ◌≡◌, Bool, true, not, eqb, cond, ◌&&◌, ◌||◌, List, [], ◌∷◌, map, get_or, false, is_some, Option, Some, None}
 use Rattle.std.specs.List.{list_all}
-use Rattle.mid_code.specs.Code.{OpT, ConstO, NullO, MoveO, OneO, TwoO, GlobalO, LocalO, LiteralO, CardO, StepO, ApartO, PtrTestO, LoadO, StoreO, FreshO, EndO, InO, OutO, WaitO, HaltO, NodesT, Stop, Do, Call, Choose, Block, Loop, Leave, Again, Return, FunctionT, CodeT, uses, target, maybe}
-use Rattle.mid_code.specs.Live.{is_among}
+use Rattle.mid_code.specs.Code.{OpT, ConstO, NullO, MoveO, OneO, TwoO, GlobalO, LocalO, LiteralO, CardO, StepO, ApartO, PtrTestO, LoadO, StoreO, FreshO, EndO}
+use Rattle.mid_code.specs.Code.{InO, OutO, WaitO, HaltO, NodesT, Stop, Do, Call, Choose, Block, Loop, Leave, Again, Return, FunctionT, CodeT, uses, target}
+use Rattle.mid_code.specs.Code.{maybe}
 
 -- ---- what is known at a point
 
--- temporaries that take no cell, each with the one that has its cell
+-- of each temporary that takes no cell, the one that has its cell
 abbrev pub Copies : Type 0
-Copies = List (ℕ × ℕ)
+Copies = ℕ → Option ℕ
 
--- the temporary that has the cell of this one
+abbrev pub none_known : Copies
+none_known q = None
+
+-- the temporary that has the cell of this one: itself, where no other is known
+abbrev pub this_or : ℕ → Option ℕ → ℕ
+this_or q None = q
+this_or q (Some p) = p
+
 abbrev pub origin : Copies → ℕ → ℕ
-origin [] q = q
-origin (e ∷ es) q = cond (eqb e.0 q) e.1 (origin es q)
+origin es q = this_or q (es q)
 
 abbrev pub is_copy : Copies → ℕ → Bool
-is_copy [] q = false
-is_copy (e ∷ es) q = eqb e.0 q || is_copy es q
+is_copy es q = is_some (es q)
+
+-- one copy more
+abbrev pub with_copy : ℕ → ℕ → Copies → Copies
+with_copy t p es q = cond (eqb q t) (Some p) (es q)
 
 -- what is still known where t takes another cell
+abbrev pub unless_is : ℕ → Option ℕ → Option ℕ
+unless_is t None = None
+unless_is t (Some p) = cond (eqb p t) None (Some p)
+
 abbrev pub behind : Copies → ℕ → Copies
-behind [] t = []
-behind (e ∷ es) t = cond (eqb e.0 t || eqb e.1 t) (behind es t) (e ∷ behind es t)
+behind es t q = cond (eqb q t) None (unless_is t (es q))
 
 abbrev pub behind_maybe : Copies → Option ℕ → Copies
 behind_maybe es None = es
 behind_maybe es (Some t) = behind es t
 
 -- what is still known where these are used: a copy serves once
+abbrev pub without : Copies → ℕ → Copies
+without es p q = cond (eqb q p) None (es q)
+
 abbrev pub used_up : List ℕ → Copies → Copies
-used_up qs [] = []
-used_up qs (e ∷ es) = cond (is_among qs e.0) (used_up qs es) (e ∷ used_up qs es)
+used_up [] es = es
+used_up (q ∷ qs) es = used_up qs (without es q)
 
 -- ---- code
 
@@ -75,7 +91,7 @@ op_then g es o c = Do (with_uses (origin es) o) c
 
 -- what is known behind it
 abbrev pub known_behind : Gone → Copies → OpT ℕ → Copies
-known_behind g es (MoveO t a) = cond (g t) ((t, origin es a) ∷ behind (used_up (a ∷ []) es) t) (behind (used_up (a ∷ []) es) t)
+known_behind g es (MoveO t a) = cond (g t) (with_copy t (origin es a) (behind (used_up (a ∷ []) es) t)) (behind (used_up (a ∷ []) es) t)
 known_behind g es o = behind_maybe (used_up (uses o) es) (target o)
 
 -- Nodes without copies. A node that chooses, a block and a loop begin and end with nothing known.
@@ -83,12 +99,12 @@ abbrev pub spared : Gone → Copies → NodesT ℕ → NodesT ℕ
 spared g es Stop = Stop
 spared g es (Do o c) = op_then g es o (spared g (known_behind g es o) c)
 spared g es (Call t f args c) = Call t f (map (origin es) args) (spared g (behind_maybe (used_up args es) t) c)
-spared g es (Choose p a b c) = Choose (origin es p) (spared g [] a) (spared g [] b) (spared g [] c)
-spared g es (Block b c) = Block (spared g [] b) (spared g [] c)
-spared g es (Loop b c) = Loop (spared g [] b) (spared g [] c)
-spared g es (Leave k c) = Leave k (spared g [] c)
-spared g es (Again k c) = Again k (spared g [] c)
-spared g es (Return p c) = Return (with_use (origin es) p) (spared g [] c)
+spared g es (Choose p a b c) = Choose (origin es p) (spared g none_known a) (spared g none_known b) (spared g none_known c)
+spared g es (Block b c) = Block (spared g none_known b) (spared g none_known c)
+spared g es (Loop b c) = Loop (spared g none_known b) (spared g none_known c)
+spared g es (Leave k c) = Leave k (spared g none_known c)
+spared g es (Again k c) = Again k (spared g none_known c)
+spared g es (Return p c) = Return (with_use (origin es) p) (spared g none_known c)
 
 -- ---- where that is right
 
@@ -111,12 +127,12 @@ abbrev pub all_serve : Gone → Copies → NodesT ℕ → Bool
 all_serve g es Stop = true
 all_serve g es (Do o c) = op_serves g es o && all_serve g (known_behind g es o) c
 all_serve g es (Call t f args c) = list_all (serves g es) args && (takes g t && all_serve g (behind_maybe (used_up args es) t) c)
-all_serve g es (Choose p a b c) = serves g es p && (all_serve g [] a && (all_serve g [] b && all_serve g [] c))
-all_serve g es (Block b c) = all_serve g [] b && all_serve g [] c
-all_serve g es (Loop b c) = all_serve g [] b && all_serve g [] c
-all_serve g es (Leave k c) = all_serve g [] c
-all_serve g es (Again k c) = all_serve g [] c
-all_serve g es (Return p c) = list_all (serves g es) (maybe p) && all_serve g [] c
+all_serve g es (Choose p a b c) = serves g es p && (all_serve g none_known a && (all_serve g none_known b && all_serve g none_known c))
+all_serve g es (Block b c) = all_serve g none_known b && all_serve g none_known c
+all_serve g es (Loop b c) = all_serve g none_known b && all_serve g none_known c
+all_serve g es (Leave k c) = all_serve g none_known c
+all_serve g es (Again k c) = all_serve g none_known c
+all_serve g es (Return p c) = list_all (serves g es) (maybe p) && all_serve g none_known c
 
 -- ---- functions
 
@@ -128,10 +144,10 @@ abbrev pub marked : List Bool → Gone
 marked marks q = get_or marks q false
 
 abbrev pub is_right : Gone → FunctionT ℕ → Bool
-is_right g f = list_all (λ p. not (g p)) f.params && all_serve g [] f.body
+is_right g f = list_all (λ p. not (g p)) f.params && all_serve g none_known f.body
 
 abbrev pub spared_function : Gone → FunctionT ℕ → FunctionT ℕ
-spared_function g f = record f { body = spared g [] f.body }
+spared_function g f = record f { body = spared g none_known f.body }
 
 -- a function without copies, by some marks for which that is right
 pub record IsSparedBy (f g : FunctionT ℕ) : Type 0 where

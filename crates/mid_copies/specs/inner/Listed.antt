@@ -4,9 +4,10 @@ use Rattle.std.specs.Prelude.{ℕ, Bool, true, cond, ◌&&◌, List, [], ◌∷�
 use Rattle.std.specs.List.{list_all}
 use Rattle.mid_code.specs.declared.node.Op.{Op}
 use Rattle.mid_code.specs.declared.node.Op.TheVariants as op
-use Rattle.mid_code.specs.Code.{OpT, ConstO, NullO, MoveO, OneO, TwoO, GlobalO, LocalO, LiteralO, CardO, StepO, ApartO, PtrTestO, LoadO, StoreO, FreshO, EndO, InO, OutO, WaitO, HaltO, maybe}
+use Rattle.mid_code.specs.Code.{OpT, ConstO, NullO, MoveO, OneO, TwoO, GlobalO, LocalO, LiteralO, CardO, StepO, ApartO, PtrTestO, LoadO, StoreO, FreshO, EndO}
+use Rattle.mid_code.specs.Code.{InO, OutO, WaitO, HaltO, maybe}
 use Rattle.mid_code.specs.Functions.{NodeT, DoN, ChooseN, BlockN, LoopN, LeaveN, AgainN, ReturnN, ListT, NoN, MoreN, listed}
-use Rattle.mid_copies.specs.inner.Copying.{Copies, Gone, origin, behind_maybe, used_up, serves, takes, with_use}
+use Rattle.mid_copies.specs.inner.Copying.{Copies, Gone, none_known, origin, with_copy, behind_maybe, used_up, serves, takes, with_use}
 use Rattle.mid_copies.specs.inner.Sinking.{Held, is_free, is_apart, held_behind}
 
 -- ---- operations
@@ -18,7 +19,7 @@ known es qs t = behind_maybe (used_up qs es) t
 abbrev pub op_known : Gone → Copies → Op ℕ → Copies
 op_known g es (op.Const t word) = known es [] (Some t)
 op_known g es (op.Null t) = known es [] (Some t)
-op_known g es (op.Move t a) = cond (g t) ((t, origin es a) ∷ known es (a ∷ []) (Some t)) (known es (a ∷ []) (Some t))
+op_known g es (op.Move t a) = cond (g t) (with_copy t (origin es a) (known es (a ∷ []) (Some t))) (known es (a ∷ []) (Some t))
 op_known g es (op.One o t a) = known es (a ∷ []) (Some t)
 op_known g es (op.Two o t a b) = known es (a ∷ b ∷ []) (Some t)
 op_known g es (op.Global t number) = known es [] (Some t)
@@ -92,12 +93,12 @@ op_right g es op.Halt = all_right g es [] None
 
 abbrev pub node_known : Gone → Copies → NodeT ℕ → Copies
 node_known g es (DoN o) = op_known g es o
-node_known g es (ChooseN p a b) = []
-node_known g es (BlockN b) = []
-node_known g es (LoopN b) = []
-node_known g es (LeaveN k) = []
-node_known g es (AgainN k) = []
-node_known g es (ReturnN p) = []
+node_known g es (ChooseN p a b) = none_known
+node_known g es (BlockN b) = none_known
+node_known g es (LoopN b) = none_known
+node_known g es (LeaveN k) = none_known
+node_known g es (AgainN k) = none_known
+node_known g es (ReturnN p) = none_known
 
 abbrev pub some_node : Option (Op ℕ) → List (NodeT ℕ)
 some_node None = []
@@ -184,9 +185,10 @@ list_sunk h (x ∷ xs) = nodes_at h (node_op x) x ++ list_sunk (held_at h (node_
 abbrev mutual
   pub node_spared : Gone → Copies → NodeT ℕ → List (NodeT ℕ)
   node_spared g es (DoN o) = some_node (op_spared g es o)
-  node_spared g es (ChooseN p a b) = ChooseN (origin es p) (listed (list_sunk None (list_spared g [] a))) (listed (list_sunk None (list_spared g [] b))) ∷ []
-  node_spared g es (BlockN b) = BlockN (listed (list_sunk None (list_spared g [] b))) ∷ []
-  node_spared g es (LoopN b) = LoopN (listed (list_sunk None (list_spared g [] b))) ∷ []
+  node_spared g es (ChooseN p a b) =
+      ChooseN (origin es p) (listed (list_sunk None (list_spared g none_known a))) (listed (list_sunk None (list_spared g none_known b))) ∷ []
+  node_spared g es (BlockN b) = BlockN (listed (list_sunk None (list_spared g none_known b))) ∷ []
+  node_spared g es (LoopN b) = LoopN (listed (list_sunk None (list_spared g none_known b))) ∷ []
   node_spared g es (LeaveN k) = LeaveN k ∷ []
   node_spared g es (AgainN k) = AgainN k ∷ []
   node_spared g es (ReturnN p) = ReturnN (with_use (origin es) p) ∷ []
@@ -198,9 +200,9 @@ abbrev mutual
 abbrev mutual
   pub node_right : Gone → Copies → NodeT ℕ → Bool
   node_right g es (DoN o) = op_right g es o
-  node_right g es (ChooseN p a b) = serves g es p && (list_right g [] a && list_right g [] b)
-  node_right g es (BlockN b) = list_right g [] b
-  node_right g es (LoopN b) = list_right g [] b
+  node_right g es (ChooseN p a b) = serves g es p && (list_right g none_known a && list_right g none_known b)
+  node_right g es (BlockN b) = list_right g none_known b
+  node_right g es (LoopN b) = list_right g none_known b
   node_right g es (LeaveN k) = true
   node_right g es (AgainN k) = true
   node_right g es (ReturnN p) = list_all (serves g es) (maybe p)

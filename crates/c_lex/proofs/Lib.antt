@@ -8,7 +8,7 @@ pub mod Numbers
 pub mod Texts
 pub mod Quotes
 pub mod Signs
-pub mod Tokens
+pub mod OneToken
 pub mod Steps
 pub mod Readings
 pub mod Files

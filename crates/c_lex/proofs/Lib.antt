@@ -2,6 +2,7 @@ pub mod Closing
 pub mod Runs
 pub mod NumberRuns
 pub mod Rows
+pub mod Seconds
 pub mod Stands
 pub mod Words
 pub mod Numbers

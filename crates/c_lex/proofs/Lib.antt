@@ -2,13 +2,14 @@ pub mod Closing
 pub mod Runs
 pub mod NumberRuns
 pub mod Rows
+pub mod Seconds
 pub mod Stands
 pub mod Words
 pub mod Numbers
 pub mod Texts
 pub mod Quotes
 pub mod Signs
-pub mod Tokens
+pub mod OneToken
 pub mod Steps
 pub mod Readings
 pub mod Files

@@ -13,7 +13,7 @@ use Rattle.c_lex.specs.Reading.{Reading, found, stuck, Lexes, nothing, gap, toke
 use Rattle.c_lex.specs.Found.{Found, token_at, reading_of}
 use Rattle.c_lex.specs.Places.{line_at, IsPlaced, IsReason, IsRefused}
 use Rattle.c_lex.proofs.Stands.{token_some}
-use Rattle.c_lex.proofs.Tokens.{stands}
+use Rattle.c_lex.proofs.OneToken.{stands}
 use Rattle.c_lex.proofs.Spellings.{spelled_so}
 use Rattle.c_lex.proofs.Lines.{lines_in, lines_append, none_counted, spelled_other}
 use Rattle.c_lex.proofs.Reasons.{reason_fits}

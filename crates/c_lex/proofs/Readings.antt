@@ -9,7 +9,7 @@ use Rattle.c_lex.specs.Gaps.{gap_len}
 use Rattle.c_lex.specs.Spelling.{IsToken, reason_of}
 use Rattle.c_lex.specs.Reading.{Reading, stuck, Lexes, nothing, gap, token, none, Reads, with_front, past_gap, past_token, token_of, opening}
 use Rattle.c_lex.specs.Found.{Found, token_at, reading_from, reading_of}
-use Rattle.c_lex.proofs.Tokens.{stands, complete}
+use Rattle.c_lex.proofs.OneToken.{stands, complete}
 use Rattle.c_lex.proofs.Steps.{at_nothing, at_gap, at_token, at_none}
 
 -- where none is found none stands

@@ -7,3 +7,4 @@ pub mod Reading
 pub mod Found
 pub mod Grammar
 pub mod Places
+pub mod inner

@@ -1,7 +1,6 @@
 -- A text as gaps and tokens.
-use Rattle.std.specs.Prelude.{◌≡◌, ◌≢◌, ◌<◌, ℕ, ◌+◌, List, [], ◌∷◌, ◌++◌, length, take, drop, count_by, true, false, ◌||◌, ◌==◌, Vec, Result, Ok, Err}
+use Rattle.std.specs.Prelude.{◌≡◌, ◌≢◌, ◌<◌, ℕ, ◌+◌, List, [], ◌∷◌, ◌++◌, length, take, drop, count_by, Bool, true, false, not, ◌||◌, ◌==◌, Result, Ok, Err}
 use Rattle.std.specs.Str.{bytes_eq}
-use Rattle.std.specs.declared.alloc.Global.{Global}
 use Rattle.c_lex.specs.declared.token.Kind.{Kind}
 use Rattle.c_lex.specs.declared.token.Token.{Token}
 use Rattle.c_lex.specs.declared.place.Place.{Place}
@@ -33,6 +32,11 @@ abbrev pub with_front : List Token → Reading → Reading
 with_front ts (found more) = found (ts ++ more)
 with_front ts (stuck code line byte) = stuck code line byte
 
+-- the next token stands on the line of the one before it
+abbrev pub goes_on : List Token → Bool
+goes_on [] = false
+goes_on (t ∷ ts) = not t.first
+
 -- what the bytes from that place on read
 pub data Lexes : Place → List ℕ → Reading → Type 0 where
   nothing : {p : Place} {bytes : List ℕ} {r : Reading} → bytes ≡ [] → r ≡ found [] → Lexes p bytes r
@@ -55,7 +59,7 @@ IsRefusal file bytes (e.At code line byte) = Reads file bytes (stuck code line b
 IsRefusal file bytes e.Memory = Unit {0}
 
 -- what was answered is that reading, unless memory ran out
-abbrev pub Gives : Result (Vec Token Global) LexErr → Reading → Type 0
-Gives (Ok v) r = r ≡ found v.items
+abbrev pub Gives : Result (List Token) LexErr → Reading → Type 0
+Gives (Ok tokens) r = r ≡ found tokens
 Gives (Err (e.At code line byte)) r = r ≡ stuck code line byte
 Gives (Err e.Memory) r = Unit {0}

@@ -159,6 +159,41 @@ pub fn token_at(alloc: Global, bytes: &[u8]) -> Result<Option<(usize, Kind)>, Me
     Ok(mark_found(bytes))
 }
 
+fn number_size(found: Option<(usize, u32)>) -> Option<usize>
+    ensures { result ≡ option_map (λ x. x.0) found }
+{
+    match found {
+        Some((len, _)) => Some(len),
+        None => None,
+    }
+}
+
+fn size(found: Option<(usize, Kind)>) -> Option<usize>
+    ensures { result ≡ option_map (λ x. x.0) found }
+{
+    match found {
+        Some((len, _)) => Some(len),
+        None => None,
+    }
+}
+
+/// The length of the token at the front, of which nothing is kept.
+#[tactic(auto, unfolding(crate::specs::Found::token_at, crate::specs::Found::word_found))]
+pub fn len_at(alloc: Global, bytes: &[u8]) -> Result<Option<usize>, Memory>
+    ensures { IfOk result (λ o. o ≡ option_map (λ x. x.0) (token_at bytes.now)) }
+{
+    if begins_letter(bytes) {
+        return Ok(Some(word_len(bytes)));
+    }
+    if begins_digit(bytes) {
+        return Ok(number_size(number_found(bytes)));
+    }
+    if begins_quote(bytes) {
+        return Ok(size(quoted_found(alloc, bytes)?));
+    }
+    Ok(size(mark_found(bytes)))
+}
+
 fn is_mark(b: u8) -> bool
     ensures { result ≡ is_some (mark_of (b ∷ [])) }
 {

@@ -1,6 +1,7 @@
 // Marks.
 ghost use Rattle.std.specs.Prelude.{◌≡◌, ◌≤◌, length, map, take, option_map, IfSome};
 ghost use Rattle.c_lex.specs.Marks.{listed, marks, mark_at, mark_of, mark_of_len, spelled_in};
+ghost use Rattle.c_lex.specs.inner.Seconds.{goes_on, is_second};
 
 use crate::token::Punct;
 
@@ -84,9 +85,8 @@ fn mark_of_len(len: usize, bytes: &[u8]) -> Option<(usize, Punct)>
     Some((len, mark))
 }
 
-/// The longest mark at the front, and its length.
 #[tactic(auto, unfolding(crate::specs::Marks::mark_at, crate::specs::Marks::mark_up_to))]
-pub fn mark_at(bytes: &[u8]) -> Option<(usize, Punct)>
+fn longest_at(bytes: &[u8]) -> Option<(usize, Punct)>
     ensures value { result ≡ mark_at bytes.now }
     ensures within { IfSome result (λ x. x.0 ≤ length bytes.now) }
 {
@@ -97,4 +97,33 @@ pub fn mark_at(bytes: &[u8]) -> Option<(usize, Punct)>
         return Some(found);
     }
     mark_of_len(1, bytes)
+}
+
+fn is_second(b: u8) -> bool
+    ensures { result ≡ is_second b }
+{
+    b == b'=' || b == b'>' || b == b'<' || b == b'|' || b == b'&' || b == b'+' || b == b'-'
+}
+
+/// Whether a mark of several bytes may stand at the front.
+fn goes_on(bytes: &[u8]) -> bool
+    ensures { result ≡ goes_on bytes.now }
+{
+    match bytes {
+        [_, b, ..] => is_second(*b),
+        _ => false,
+    }
+}
+
+/// The longest mark at the front, and its length.
+#[tactic(auto, using(crate::proofs::Seconds::short_mark))]
+pub fn mark_at(bytes: &[u8]) -> Option<(usize, Punct)>
+    ensures value { result ≡ mark_at bytes.now }
+    ensures within { IfSome result (λ x. x.0 ≤ length bytes.now) }
+{
+    if goes_on(bytes) {
+        longest_at(bytes)
+    } else {
+        mark_of_len(1, bytes)
+    }
 }

@@ -1,11 +1,10 @@
--- Lines of tokens, and the words of directives.
+-- Lines that are directives, and the words of directives.
 use Rattle.std.proofs.Common.{◌≡◌, ℕ, suc, ◌+◌, List, [], ◌∷◌, length, take, drop, map, Bool, true, false, not, ◌||◌, cond, refl, sym, ap, ◌∙◌, add-one, arith}
 use Rattle.std.specs.Prelude.{bytes_eq, IsUtf8, take_while, Some, None}
 use Rattle.std.specs.Str.{is_utf8}
 use Rattle.std.proofs.lemmas.Str.{IsUtf8-from_is_utf8, is_utf8-from_IsUtf8}
 use Rattle.std.proofs.lemmas.List.{nil_from_length}
 use Rattle.std.specs.List.{list_any, prefix_len}
-use Rattle.std.proofs.lemmas.List.Folds.{length-prefix_len}
 use Rattle.std.specs.Borrow.{Bor}
 use Rattle.c_lex.specs.declared.token.Token.{Token}
 use Rattle.c_lex.specs.declared.token.Kind.{Kind}
@@ -17,34 +16,6 @@ use Rattle.c_prep.specs.Lines.{before, lines_of, begins_directive}
 pub any_keyword : (word : List ℕ) (keywords : List (Bor (List ℕ))) → list_any (λ k. bytes_eq word k.now) keywords ≡ list_any (bytes_eq word) (map (λ k. k.now) keywords)
 any_keyword word [] = refl
 any_keyword word (k ∷ ks) = ap (λ b. bytes_eq word k.now || b) (any_keyword word ks)
-
-abbrev goes_on : Token → Bool
-goes_on t = not t.first
-
-abbrev ahead : List Token → ℕ
-ahead ts = prefix_len goes_on ts
-
-abbrev Parted : Token → Token → List Token → Bool → Type 0
-Parted t u us b =
-    let n = cond (not b) (1 + ahead us) 0 in
-    cond b ((t ∷ []) ∷ (u ∷ take (ahead us) us) ∷ lines_of (drop (ahead us) us)) ((t ∷ u ∷ take (ahead us) us) ∷ lines_of (drop (ahead us) us)) ≡ (t ∷ take n (u ∷ us)) ∷ lines_of (drop n (u ∷ us))
-
-by_first : (t u : Token) (us : List Token) (b : Bool) → lines_of (u ∷ us) ≡ (u ∷ take (ahead us) us) ∷ lines_of (drop (ahead us) us) → Parted t u us b
-by_first t u us true first = ap (λ (ls : List (List Token)). (t ∷ []) ∷ ls) (sym first)
-by_first t u us false first = let h : 1 + ahead us ≡ suc (ahead us) = omega arith in rw h refl
-
--- the first line is the first token with those before the next that begins a line
-first_of_lines : (t : Token) (us : List Token) → lines_of (t ∷ us) ≡ (t ∷ take (ahead us) us) ∷ lines_of (drop (ahead us) us)
-unfolding lines_of
-first_of_lines t [] = refl
-first_of_lines t (u ∷ us) = ap (before t) (first_of_lines u us) ∙ by_first t u us u.first (first_of_lines u us)
-
-pub line_parts : (all : List Token) (t : Token) (us : List Token) (n : ℕ) → all ≡ t ∷ us → n ≡ length (take_while goes_on us) → lines_of all ≡ take (n + 1) all ∷ lines_of (drop (n + 1) all)
-line_parts all t us n whole len = let h : n ≡ ahead us = len ∙ length-prefix_len goes_on us in rw (whole, h, add-one) (first_of_lines t us)
-
-pub no_lines : (all : List Token) → length all ≡ 0 → lines_of all ≡ []
-unfolding lines_of
-no_lines all empty = ap lines_of (nil_from_length all empty)
 
 pub is_text : (kind : Kind) (name : List ℕ) → kind ≡ k.Text name → IsUtf8 name → text_in kind ≡ Some name
 is_text kind name is utf8 = rw (is, is_utf8-from_IsUtf8 name utf8) refl

@@ -1,5 +1,6 @@
 pub mod Comparing
 pub mod Directing
+pub mod Taking
 pub mod Lookups
 pub mod Unwinding
 pub mod LexCodes

@@ -177,16 +177,6 @@ is_below_more n n' e.Memory le h = tt
 pub one_longer : (names old : List (List ℕ)) (name : List ℕ) → names ≡ old ++ name ∷ [] → length names ≡ length old + 1
 one_longer names old name is = ap length is ∙ omega (arith, length-append old (name ∷ []))
 
-pub placed_take : (n k : ℕ) (xs : List Token) → ArePlaced n xs → ArePlaced n (take k xs)
-placed_take n zero xs a = tt
-placed_take n (suc k) [] a = tt
-placed_take n (suc k) (x ∷ xs) a = (a.0, placed_take n k xs a.1)
-
-pub placed_drop : (n k : ℕ) (xs : List Token) → ArePlaced n xs → ArePlaced n (drop k xs)
-placed_drop n zero xs a = a
-placed_drop n (suc k) [] a = a
-placed_drop n (suc k) (x ∷ xs) a = placed_drop n k xs a.1
-
 pub first_below : (n : ℕ) (line : List Token) (t : Token) (ts : List Token) → line ≡ t ∷ ts → ArePlaced n line → t.file < n
 first_below n line t ts is h = let all : ArePlaced n (t ∷ ts) = subst (ArePlaced n) is h in all.0.file
 

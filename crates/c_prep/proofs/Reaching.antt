@@ -110,6 +110,13 @@ includes_grow m (suc room) i p =
 
 -- ---- refusals
 
+pub text_failed : (file : ℕ) (x : PrepErr) → IsOfText x → IsFailedAt file x
+text_failed file (e.At code at line) h = tt
+text_failed file e.NoSource h = tt
+text_failed file (e.Failed at) h = absurd h
+text_failed file (e.TooLong at) h = tt
+text_failed file e.Memory h = tt
+
 -- one of what a file says, or of memory
 pub text_reached : (x : PrepErr) (ns : Names) (total : Result Progress Stop) → IsOfText x → AreFirst ns (read_by so_far total) → Reaches {T = Unit {0}} so_far (Err x) ns total
 text_reached (e.At code file line) ns total h f = tt

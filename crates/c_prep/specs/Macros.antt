@@ -36,7 +36,8 @@ pub record Put : Type 0 where
 
 -- one token more, at that place; a call puts at most 200,000
 abbrev pub emitted : Token → Kind → Put → Result Put FaultAt
-emitted at kind o = if nat_lt (length o.tokens) 200000 then Ok (record o { tokens = o.tokens ++ (record at { kind = kind }) ∷ [] }) else Err (fault_at TooManyTokens at)
+emitted at kind o =
+    if nat_lt (length o.tokens) 200000 then Ok (record o { tokens = o.tokens ++ (record at { kind = kind }) ∷ [] }) else Err (fault_at TooManyTokens at)
 
 -- one name more is replaced; a call replaces at most 1,000,000
 abbrev pub counted : Token → Put → Result Put FaultAt

@@ -8,9 +8,11 @@ use Rattle.c_prep.specs.Macros.{Table, Macro, macro_of}
 
 pub data Stand (table : Table) : List (List ℕ) → List Kind → List Kind → Type 0 where
   nothing : {inside : List (List ℕ)} {kinds result : List Kind} → kinds ≡ [] → result ≡ [] → Stand table inside kinds result
-  itself : {inside : List (List ℕ)} {kinds result : List Kind} → (kind : Kind) (rest others : List Kind) → kinds ≡ kind ∷ rest → macro_of table inside kind ≡ None
+  itself : {inside : List (List ℕ)} {kinds result : List Kind} → (kind : Kind) (rest others : List Kind)
+      → kinds ≡ kind ∷ rest → macro_of table inside kind ≡ None
       → Stand table inside rest others → result ≡ kind ∷ others → Stand table inside kinds result
-  expanded : {inside : List (List ℕ)} {kinds result : List Kind} → (kind : Kind) (m : Macro) (rest own others : List Kind) → kinds ≡ kind ∷ rest → macro_of table inside kind ≡ Some m
+  expanded : {inside : List (List ℕ)} {kinds result : List Kind} → (kind : Kind) (m : Macro) (rest own others : List Kind)
+      → kinds ≡ kind ∷ rest → macro_of table inside kind ≡ Some m
       → Stand table (inside ++ m.name ∷ []) m.body own → Stand table inside rest others → result ≡ own ++ others → Stand table inside kinds result
 
 -- What was put of a token of the text: what it stands for, each at its place.

@@ -1,8 +1,8 @@
-// The lines of a file's tokens and the directives among them.
-ghost use Rattle.std.specs.Prelude.{◌≡◌, ◌≤◌, ◌<◌, ◌∷◌, ℕ, [], not, length, map, take_while, option_copied, option_map, IfSome, IfNone, bytes_eq};
+// Directives.
+ghost use Rattle.std.specs.Prelude.{◌≡◌, ◌<◌, ℕ, map, option_copied, IfSome, bytes_eq};
 ghost use Rattle.std.specs.List.{list_any};
 ghost use Rattle.c_prep.specs.Kinds.{kinds_of};
-ghost use Rattle.c_prep.specs.Lines.{begins_directive, is_hash, lines_of};
+ghost use Rattle.c_prep.specs.Lines.{begins_directive};
 ghost use Rattle.c_prep.specs.Directives.{class_in, class_of, define_of, directive_in, directive_of, is_keyword, lone, name_in, of_class, text_in};
 ghost use Rattle.c_prep.specs.inner.Inner.{ArePlaced, listed, shown, shown_in};
 
@@ -59,30 +59,6 @@ const CLASSES: [(&str, Class); 8] = [
     ("endif", Class::EndIf),
     ("error", Class::Error),
 ];
-
-/// How many tokens stand before the next that begins its line.
-fn line_len(tokens: &[Token]) -> usize
-    ensures value { result ≡ length (take_while (λ t. not t.first) tokens.now) }
-    ensures within { result ≤ length tokens.now }
-{
-    tokens.iter().take_while(|t| !t.first).count()
-}
-
-/// The first line of these tokens, and the others.
-#[tactic(auto, using(crate::proofs::Directing::no_lines))]
-pub fn first_line(tokens: &[Token]) -> Option<(&[Token], &[Token])>
-    ensures some { IfSome result (λ p. lines_of tokens.now ≡ p.0.now ∷ lines_of p.1.now) }
-    ensures less { IfSome result (λ p. length p.1.now < length tokens.now) }
-    ensures line { (n : ℕ) → ArePlaced n tokens.now → IfSome result (λ p. ArePlaced n p.0.now) }
-    ensures others { (n : ℕ) → ArePlaced n tokens.now → IfSome result (λ p. ArePlaced n p.1.now) }
-    ensures none { IfNone result (lines_of tokens.now ≡ []) }
-{
-    let Some((_, others)) = tokens.split_first() else {
-        return None;
-    };
-    let len = line_len(others);
-    Some(tokens.split_at(len + 1))
-}
 
 fn is_keyword_among(keywords: &[&'static str], word: &[u8]) -> bool
     ensures { result ≡ list_any (λ k. bytes_eq word.now k.now) keywords.now }
@@ -227,7 +203,8 @@ fn directive_of<'a>(tokens: &'a [Token]) -> Directive<'a>
     }
 }
 
-fn begins_directive(token: &Token) -> bool
+/// Whether the line that this token begins is a directive.
+pub fn begins_directive(token: &Token) -> bool
     ensures { result ≡ begins_directive token.now }
 {
     token.first && matches!(token.kind, Kind::Punct(Punct::Hash))

@@ -1,5 +1,6 @@
 // Why a text does not expand.
 ghost use Rattle.std.specs.Prelude.{◌≡◌};
+ghost use Rattle.c_prep.specs.declared.error.PrepErr.TheVariants as errors;
 ghost use Rattle.c_prep.specs.declared.error.StepErr.TheVariants as steps;
 ghost use Rattle.c_prep.specs.Faults.{fault_at};
 
@@ -64,6 +65,14 @@ pub fn fault_at(fault: Fault, at: &Token) -> FaultAt
         fault,
         file: at.file,
         line: at.line,
+    }
+}
+
+impl From<Memory> for PrepErr {
+    ghost from_gives = { λ _ e. e ≡ errors.Memory };
+
+    fn from(_: Memory) -> PrepErr {
+        PrepErr::Memory
     }
 }
 

@@ -1,5 +1,6 @@
 // A file with the files that it includes.
-ghost use Rattle.std.specs.Prelude.{◌≡◌, ◌≢◌, ◌<◌, ◌≤◌, ◌++◌, ◌∷◌, [], ◌&&◌, false, nat_lt, length, Some, Ok, Err, List, ℕ, IfOk, IfErr, IfSome, OnOk, OnErr, true};
+ghost use Rattle.std.specs.Prelude.{◌≡◌, ◌≢◌, ◌<◌, ◌≤◌, ◌++◌, ◌∷◌, [], ◌&&◌, true, false, nat_lt, length, Some, Ok, Err, List, ℕ};
+ghost use Rattle.std.specs.Prelude.{IfOk, IfErr, IfSome, OnOk, OnErr};
 ghost use Rattle.std.specs.List.{list_all};
 ghost use Rattle.std.specs.Str.{is_utf8};
 ghost use Rattle.kit_base.specs.Held.{Held};
@@ -9,7 +10,7 @@ ghost use Rattle.c_prep.specs.declared.error.Fault.TheVariants.{TooDeep};
 ghost use Rattle.c_prep.specs.Faults.{fault_at};
 ghost use Rattle.c_prep.specs.Conditions.{closed};
 ghost use Rattle.c_prep.specs.Steps.{step_at};
-ghost use Rattle.c_prep.specs.Files.{bytes_of, code_of, file_at, include_at, include_in, lexed, missing_at, refusal, refusing, stopping, tokens_of};
+ghost use Rattle.c_prep.specs.Files.{bytes_of, code_of, file_at, include_at, include_in, lexed, missing_at, refusal, refusing, stopping};
 ghost use Rattle.c_prep.specs.inner.Inner.{ArePlaced, GivesAs, GivesOut, IsFailedAt, IsOfText, PlacedIn, PlacedPut, SaysMissing, included, refused, so_far};
 ghost use Rattle.c_prep.specs.Causes.{HasCauses};
 ghost use Rattle.c_prep.specs.Codes.{HasReadingCode};
@@ -17,10 +18,11 @@ ghost use Rattle.c_prep.specs.Numbers.{IsBelow};
 ghost use Rattle.c_prep.specs.Reached.{Reaches};
 
 use crate::conditions::Conditions;
-use crate::directive::{Directive, directive_in, first_line};
+use crate::directive::{Directive, directive_in};
 use crate::error::{Fault, FaultAt, PrepErr, StepErr, fault_at};
+use crate::lines::next_line;
 use crate::work::{Work, step_at};
-use c_lex::{LexErr, Token, lex};
+use c_lex::{LexErr, Token, Tokens, lex};
 use kit_base::{FileErr, Memory, Name, Reads};
 use std::alloc::Global;
 
@@ -100,7 +102,8 @@ fn read_file<F: Reads>(
     ensures numbers { (n : ℕ) → file < n → IsBelow n missing → IfErr result (IsBelow n) }
     ensures failed { IfErr result (IsFailedAt file) }
     ensures codes { IfErr result HasReadingCode }
-    ensures causes { HasCauses result (F.faults files.old) (F.faults files.new) (F.misses files.old) (F.misses files.new) (F.overs files.old) (F.overs files.new) }
+    ensures causes { HasCauses result (F.faults files.old) (F.faults files.new) (F.misses files.old) (F.misses files.new)
+        (F.overs files.old) (F.overs files.new) }
 {
     match files.read(alloc, name) {
         Ok(bytes) => Ok(bytes),
@@ -111,9 +114,10 @@ fn read_file<F: Reads>(
     }
 }
 
-fn lex_file(alloc: Global, bytes: &[u8], file: u32) -> Result<Vec<Token>, PrepErr>
+/// The tokens of a file that is read.
+fn lex_file<'a>(alloc: Global, bytes: &'a [u8], file: u32) -> Result<Tokens<'a>, PrepErr>
     requires { length bytes.now ≤ 268435456 }
-    ensures told { GivesAs (λ v. v.items) result (lexed file (reading_of file bytes.now)) }
+    ensures told { GivesAs (λ ts. ts) result (lexed file (reading_of file bytes.now)) }
     ensures text { IfErr result IsOfText }
     ensures codes { IfErr result HasReadingCode }
     ensures numbers { (n : ℕ) → file < n → PlacedIn n result }
@@ -129,29 +133,6 @@ fn lex_file(alloc: Global, bytes: &[u8], file: u32) -> Result<Vec<Token>, PrepEr
         ) => Err(PrepErr::At { code, file, line }),
         Err(LexErr::Memory) => Err(PrepErr::Memory),
     }
-}
-
-/// The tokens of a file that is read.
-fn tokens_of<F: Reads>(
-    alloc: Global,
-    files: &mut F,
-    missing: PrepErr,
-    name: &str,
-    file: u32,
-) -> Result<Vec<Token>, PrepErr>
-    requires { SaysMissing missing }
-    ensures held { F.held files.new ≡ F.held files.old }
-    ensures told { (m : Held) → F.held files.old ≡ Some m → GivesAs (λ v. v.items) result (tokens_of m missing name.now file) }
-    ensures numbers { (n : ℕ) → file < n → IsBelow n missing → PlacedIn n result }
-    ensures failed { IfErr result (IsFailedAt file) }
-    ensures codes { IfErr result HasReadingCode }
-    ensures causes { HasCauses result (F.faults files.old) (F.faults files.new) (F.misses files.old) (F.misses files.new) (F.overs files.old) (F.overs files.new) }
-{
-    let bytes = match read_file(alloc, files, missing, name, file) {
-        Ok(bytes) => bytes,
-        Err(x) => return Err(x),
-    };
-    lex_file(alloc, bytes.as_slice(), file)
 }
 
 /// The include that a line is.
@@ -243,30 +224,33 @@ pub fn expand_file<F: Reads>(
     requires put { ArePlaced (length names.old.items) work.old.out.tokens }
     requires lacking { IsBelow (length names.old.items) missing }
     ensures held { F.held files.new ≡ F.held files.old }
-    ensures told { (m : Held) → F.held files.old ≡ Some m → GivesOut (record { work = work.new; names = names.new.items }) names.new.items result (file_at m (include_at m room) missing name.now (record { work = work.old; names = names.old.items })) }
-    ensures reached { (m : Held) → F.held files.old ≡ Some m → Reaches so_far result names.new.items (file_at m (include_at m room) missing name.now (record { work = work.old; names = names.old.items })) }
+    ensures told { (m : Held) → F.held files.old ≡ Some m → GivesOut (record { work = work.new; names = names.new.items }) names.new.items result
+        (file_at m (include_at m room) missing name.now (record { work = work.old; names = names.old.items })) }
+    ensures reached { (m : Held) → F.held files.old ≡ Some m → Reaches so_far result names.new.items
+        (file_at m (include_at m room) missing name.now (record { work = work.old; names = names.old.items })) }
     ensures texts { list_all is_utf8 names.new.items ≡ true }
     ensures more { OnOk result (length names.old.items ≤ length names.new.items) }
     ensures numbers { PlacedPut (length names.new.items) work.new.out.tokens result }
     ensures codes { IfErr result HasReadingCode }
-    ensures causes { HasCauses result (F.faults files.old) (F.faults files.new) (F.misses files.old) (F.misses files.new) (F.overs files.old) (F.overs files.new) }
+    ensures causes { HasCauses result (F.faults files.old) (F.faults files.new) (F.misses files.old) (F.misses files.new)
+        (F.overs files.old) (F.overs files.new) }
 {
     let Ok(file) = name_file(alloc, names, name) else {
         return Err(PrepErr::Memory);
     };
-    let tokens = tokens_of(alloc, files, missing, name, file)?;
+    let bytes = read_file(alloc, files, missing, name, file)?;
+    let mut tokens = lex_file(alloc, bytes.as_slice(), file)?;
     let mut conds = Conditions::new(alloc);
-    let mut rest = tokens.as_slice();
-    'each: while let Some((line, after)) = first_line(rest) {
-        match include_in(line, &conds) {
+    'each: while let Some(line) = next_line(alloc, &mut tokens, conds.skips())? {
+        let text = line.as_slice();
+        match include_in(text, &conds) {
             Some(found) => {
                 may_include(room, names, found.hash)?;
                 let lacking = missing_at(found.hash);
                 expand_file(alloc, files, room - 1, lacking, found.name, work, names)?;
             }
-            None => step_line(alloc, line, work, &mut conds)?,
+            None => step_line(alloc, text, work, &mut conds)?,
         }
-        rest = after;
     }
     close(&conds, file)
 }

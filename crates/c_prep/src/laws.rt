@@ -17,7 +17,8 @@ pub fn tokens_are_put_as_what_they_stand_for()
 /// The limit on names that are replaced leaves room enough for names inside one another: more room
 /// changes nothing.
 pub fn room_for_names_is_never_short()
-    ensures { (room more : ℕ) (table : Table) (t : Token) (inside : List (List ℕ)) (kind : Kind) (o : Put) → 1000000 ≤ room + o.replaced → room ≤ more → stands more table t inside kind o ≡ stands room table t inside kind o }
+    ensures { (room more : ℕ) (table : Table) (t : Token) (inside : List (List ℕ)) (kind : Kind) (o : Put)
+        → 1000000 ≤ room + o.replaced → room ≤ more → stands more table t inside kind o ≡ stands room table t inside kind o }
 {}
 
 /// The lines are the tokens in their order, each line goes up to the next token that begins one, and

@@ -11,6 +11,7 @@ mod expansion;
 mod files;
 mod kinds;
 mod laws;
+mod lines;
 mod output;
 mod replace;
 mod table;

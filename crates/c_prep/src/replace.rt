@@ -87,7 +87,8 @@ fn place<'a>(
 ) -> Result<(), StepErr>
     requires counts { length frames.old.items ≤ out.old.replaced }
     requires inside { map (λ k. k.now) inside.old.keys ≡ names frames.old.items }
-    ensures goes { Goes result (unwound_after macros.now at.now frames.old.items (at_place macros.now at.now (names frames.old.items) kind.now out.old)) (unwound macros.now at.now [] frames.new.items out.new) }
+    ensures goes { Goes result (unwound_after macros.now at.now frames.old.items (at_place macros.now at.now (names frames.old.items) kind.now out.old))
+        (unwound macros.now at.now [] frames.new.items out.new) }
     ensures counts { OnOk result (length frames.new.items ≤ out.new.replaced) }
     ensures inside { OnOk result (map (λ k. k.now) inside.new.keys ≡ names frames.new.items) }
     ensures ends { OnOk result (work out.new frames.new.items < work out.old frames.old.items) }

@@ -1,5 +1,5 @@
 -- What the program's private clauses cite: its own types seen as those of the definitions, and the answers of its parts.
-use Rattle.std.specs.Prelude.{◌≡◌, ◌≢◌, ◌<◌, ◌≤◌, ℕ, List, Option, Some, None, Result, Ok, Err, Vec}
+use Rattle.std.specs.Prelude.{◌≡◌, ◌≢◌, ◌<◌, ◌≤◌, ℕ, List, [], ◌∷◌, Option, Some, None, Result, Ok, Err, Vec}
 use Rattle.std.specs.List.{AllByRecursion}
 use Rattle.std.specs.Borrow.{Bor}
 use Rattle.std.specs.declared.alloc.Global.{Global}
@@ -14,6 +14,7 @@ use Rattle.c_prep.specs.declared.error.StepErr.{StepErr}
 use Rattle.c_prep.specs.declared.error.StepErr.TheVariants as steps
 use Rattle.c_prep.specs.declared.files.Included.{Included}
 use Rattle.c_prep.specs.Kinds.{kinds_of}
+use Rattle.c_prep.specs.Lines.{lines_of}
 use Rattle.c_prep.specs.Directives.{Directive, Include, Define, Undef, IfDef, IfNotDef, Else, EndIf, Error, Bad, Directed}
 use Rattle.c_prep.specs.Files.{Inclusion, Progress, Stop, refusal}
 use Rattle.c_prep.specs.Numbers.{IsBelow}
@@ -84,8 +85,8 @@ abbrev pub ArePlaced : ℕ → List Token → Type 0
 ArePlaced n tokens = AllByRecursion (IsPlaced n) tokens
 
 -- tokens that were read, or a refusal, are of files below n
-abbrev pub PlacedIn : ℕ → Result (Vec Token Global) PrepErr → Type 0
-PlacedIn n (Ok v) = ArePlaced n v.items
+abbrev pub PlacedIn : ℕ → Result (List Token) PrepErr → Type 0
+PlacedIn n (Ok tokens) = ArePlaced n tokens
 PlacedIn n (Err x) = IsBelow n x
 
 -- tokens that were put, or a refusal, are of files below n
@@ -97,6 +98,11 @@ PlacedPut n tokens (Err x) = IsBelow n x
 abbrev pub IsFailedAt : ℕ → PrepErr → Type 0
 IsFailedAt file (e.Failed at) = at ≡ file
 IsFailedAt file _ = Unit {0}
+
+-- the lines of a file from that one on, which is taken from its tokens already
+abbrev pub lines_left : Option (Vec Token Global) → List Token → List (List Token)
+lines_left None tokens = []
+lines_left (Some line) tokens = line.items ∷ lines_of tokens
 
 -- the names of the files so far
 abbrev pub so_far : Progress → List (List ℕ)

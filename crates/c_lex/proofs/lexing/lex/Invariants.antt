@@ -7,7 +7,7 @@ abbrev pub invariant-each : goal.invariant-each
 invariant-each l = record {
   byte : l.place.byte + length l.rest ≡ length l.bytes;
   line : l.place.line ≤ l.place.byte + 1;
-  reads : Continues l.out.items l.place l.rest (reading_of l.file l.bytes);
+  reads : Continues l.place l.rest (reading_of l.file l.bytes);
 }
 
 abbrev pub decreases-each : goal.decreases-each

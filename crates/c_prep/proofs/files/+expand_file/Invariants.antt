@@ -21,10 +21,10 @@ invariant-each g l = record {
   more : length l.fn.names.items ≤ length l.names.items;
   texts : list_all is_utf8 l.names.items ≡ true;
   put : ArePlaced (length l.names.items) l.work.out.tokens;
-  left : ArePlaced (length l.names.items) l.rest;
+  left : ArePlaced (length l.names.items) l.tokens;
   overs : g.F.Reads.overs l.fn.files ≤ g.F.Reads.overs l.files;
-  reads : (m : Held) → g.F.Reads.held l.fn.files ≡ Some m → (lines_at (include_at m l.room) (lines_of l.rest) (record { work = l.work; names = l.names.items }) l.conds >>= ended l.file) ≡ file_at m (include_at m l.room) l.fn.missing l.name (record { work = l.fn.work; names = l.fn.names.items });
+  reads : (m : Held) → g.F.Reads.held l.fn.files ≡ Some m → (lines_at (include_at m l.room) (lines_of l.tokens) (record { work = l.work; names = l.names.items }) l.conds >>= ended l.file) ≡ file_at m (include_at m l.room) l.fn.missing l.name (record { work = l.fn.work; names = l.fn.names.items });
 }
 
 abbrev pub decreases-each : goal.decreases-each
-decreases-each g l = length l.rest
+decreases-each g l = length l.tokens

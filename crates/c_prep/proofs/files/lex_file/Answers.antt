@@ -12,4 +12,4 @@ pub returns-in-Err-At-clause-codes : goal.returns-in-Err-At-clause-codes
 returns-in-Err-At-clause-codes c = text_code (opening c.args.file) c.args.bytes.now _ _ _ (subst (λ (x : LexErr). IsRefusal c.args.file c.args.bytes.now x) c.in-Err-At.field-0-is c.in-Err-At.ensures.refused)
 
 pub returns-in-Ok-clause-numbers : goal.returns-in-Ok-clause-numbers
-returns-in-Ok-clause-numbers c = λ n lt. lexed_numbers n c.args.file c.args.bytes.now c.in-Ok.tokens.items c.in-Ok.ensures.reading lt
+returns-in-Ok-clause-numbers c = λ n lt. lexed_numbers n c.args.file c.args.bytes.now c.in-Ok.tokens c.in-Ok.ensures.reading lt

@@ -1,14 +1,10 @@
-use Rattle.std.proofs.Common.{◌≡◌, ◌≤◌, ◌+◌, length}
-use Rattle.c_lex.specs.Found.{reading_of}
-use Rattle.c_lex.proofs.Steps.{Continues}
+use Rattle.std.proofs.Common.{◌≡◌, ◌++◌, length}
+use Rattle.c_lex.specs.Reading.{Reads, found}
 use Rattle.c_lex.proofs.lexing.lex.Given as goal
 
+-- the list so far and the tokens left are those of the text
 abbrev pub invariant-each : goal.invariant-each
-invariant-each l = record {
-  byte : l.place.byte + length l.rest ≡ length l.bytes;
-  line : l.place.line ≤ l.place.byte + 1;
-  reads : Continues l.place l.rest (reading_of l.file l.bytes);
-}
+invariant-each l = Reads l.file l.bytes (found (l.list.items ++ l.left))
 
 abbrev pub decreases-each : goal.decreases-each
-decreases-each l = length l.rest
+decreases-each l = length l.left

@@ -5,3 +5,6 @@ mod Whole
 pub mod Standing
 mod Again
 pub mod ReadingAgain
+mod Parted
+mod Known
+mod Pieces

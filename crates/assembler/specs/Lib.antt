@@ -4,4 +4,5 @@ pub mod Placed
 pub mod Sizes
 pub mod Faults
 pub mod Standing
+pub mod Texts
 pub mod inner

@@ -8,10 +8,12 @@ mod assembling;
 mod labels;
 mod laws;
 mod naming;
+mod parts;
 mod placement;
 mod resolving;
 mod sizes;
 mod survey;
+mod texts;
 
 pub use asm_reader::{AsmErr, read_asm};
 pub use assembling::assemble;
@@ -21,3 +23,4 @@ pub use laws::{
     words_stand_at_the_sizes_before,
 };
 pub use placement::Placement;
+pub use texts::assemble_text;

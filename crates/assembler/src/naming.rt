@@ -32,7 +32,7 @@ fn mov_immediate(m: &Mov<Imm>) -> Option<&Imm>
 }
 
 /// The immediate of an instruction, where it has one.
-fn immediate(i: &Instr<Imm>) -> Option<&Imm>
+pub fn immediate(i: &Instr<Imm>) -> Option<&Imm>
     ensures { option_map (λ i. i.now) result ≡ immediate i.now }
 {
     match i {

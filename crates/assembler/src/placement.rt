@@ -17,7 +17,7 @@ pub struct Placement {
 }
 
 /// Adds the label that an item is, with its address.
-fn put_label(labels: &mut Vec<(Name, u32)>, item: &AsmItem, address: u32) -> Result<(), Memory>
+pub fn put_label(labels: &mut Vec<(Name, u32)>, item: &AsmItem, address: u32) -> Result<(), Memory>
     ensures { OnOk result (labels.new.items ≡ labels.old.items ++ label_at address item.now) }
 {
     match item {

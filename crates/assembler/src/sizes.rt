@@ -11,7 +11,7 @@ use asm_items::{AsmItem, Imm};
 use v32_isa::Instr;
 
 /// The greatest number of words of a program.
-const MOST_WORDS: u64 = 33_554_432;
+pub const MOST_WORDS: u64 = 33_554_432;
 
 /// The number of an instruction's words.
 #[tactic(auto, using(crate::proofs::ItemSizes::op_size))]

@@ -21,7 +21,7 @@ use Rattle.assembler.specs.Placed.{labels_of, Placed}
 use Rattle.assembler.proofs.ReadingAgain.{reads_again, assembles_again}
 use Rattle.kit_tools.specs.declared.refusal.Refusal.{Refusal}
 use Rattle.kit_tools.specs.Inputs.{◌>>=◌, or_refused, bytes_due}
-use Rattle.kit_tools.specs.Converting.{no_items, no_words, placed_unless, assembled_due, disassembled_due}
+use Rattle.kit_tools.specs.Converting.{no_words, text_words_due, assembled_due, disassembled_due}
 
 each_word : (ws : List ℕ) → AreWords ws → All (λ w. w < 2 ^ 32) ws
 each_word [] h = All-nil (λ w. w < 2 ^ 32)
@@ -36,8 +36,7 @@ listed words (Err e) listing h = absurd cc
 -- the words file of what a text reads as
 abbrev made_of : List ℕ → List ℕ → Result (List ℕ) Refusal
 made_of text bytes = do
-  items ← or_refused (no_items text) (read bytes)
-  words ← placed_unless text items (fault_of items)
+  words ← text_words_due text bytes
   Ok (words_file_text words)
 
 made : (text ws : List ℕ) → All (λ w. w < 2 ^ 32) ws → length ws ≤ 33554432 → made_of text (written (disassembled ws)) ≡ Ok (words_file_text ws)

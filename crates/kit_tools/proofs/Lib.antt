@@ -6,3 +6,4 @@ pub mod Own
 pub mod Conversions
 pub mod Games
 pub mod Again
+pub mod Texts

@@ -41,12 +41,17 @@ abbrev pub placed_unless : List ℕ → List AsmItem → Option Fault → Result
 placed_unless text items None = Ok (words_of_items (address_in (labels_of items)) items)
 placed_unless text items (Some (code, item)) = Err (refusals.Due (dues.Bad code text (Some item)))
 
+-- the words of an assembly text of that name
+abbrev pub text_words_due : List ℕ → (bytes : List ℕ) → Result (List ℕ) Refusal
+text_words_due text bytes = do
+  items ← or_refused (no_items text) (read bytes)
+  placed_unless text items (fault_of items)
+
 -- the words file of what the text's items are placed as
 abbrev pub assembled_due : List ℕ → Held → Result (List ℕ) Refusal
 assembled_due text held = do
   bytes ← bytes_due text held
-  items ← or_refused (no_items text) (read bytes)
-  words ← placed_unless text items (fault_of items)
+  words ← text_words_due text bytes
   Ok (words_file_text words)
 
 -- the refusal of a file that is no words file

@@ -2,8 +2,6 @@
 ghost use Rattle.std.specs.Prelude.{◌≡◌, ◌<◌, ◌≤◌, true, IfSome, IfErr, IfOk, [], ◌∷◌, length, Contains};
 ghost use Rattle.asset_pack.specs.declared.kind.Kind.TheVariants as kinds;
 ghost use Rattle.asset_pack.specs.Reading.{words_in};
-ghost use Rattle.asm_reader.specs.Reading.{read};
-ghost use Rattle.assembler.specs.Faults.{fault_of};
 ghost use Rattle.cart_format.specs.Cartridge.{is_cart, total};
 ghost use Rattle.kit_tools.specs.Carrying.{FailsAt, GivesBy, Leaves};
 ghost use Rattle.kit_tools.specs.Causes.{HasCauses, HasCausesOr, IsOwn, counts};
@@ -16,12 +14,12 @@ use crate::reading::{read_cart_file, read_file};
 use crate::refusal::{DueRefusal, Refusal};
 use crate::shown::Shown;
 use crate::writing::write_output;
-use asm_items::{AsmItem, disassemble, write_asm};
-use asm_reader::{AsmErr, read_asm};
-use assembler::{Placement, assemble};
+use asm_items::{disassemble, write_asm};
+use asm_reader::AsmErr;
+use assembler::assemble_text;
 use asset_pack::{AssetErr, read_words, write_words};
 use cart_format::{Cart, CartParts, write_cart};
-use kit_base::{Files, Name};
+use kit_base::{Files, Name, Seq};
 use kit_words::Conversion;
 use std::alloc::Global;
 
@@ -62,33 +60,15 @@ fn migrated<F: Files>(alloc: Global, files: &mut F, cart: &str) -> Result<Vec<u8
     Ok(bytes)
 }
 
-/// The items of that text.
-fn items_of_text(alloc: Global, name: &str, text: &[u8]) -> Result<Vec<AsmItem>, Refusal>
-    ensures given { GivesBy (λ v. v.items) result (or_refused (no_items name.now) (read text.now)) }
+/// The words of an assembly text of that name.
+#[tactic(auto, using(crate::proofs::Texts::text_words, crate::proofs::Texts::text_refused))]
+fn words_of_text(alloc: Global, name: &str, text: &[u8]) -> Result<Seq<u32>, Refusal>
+    ensures given { GivesBy (λ w. w) result (text_words_due name.now text.now) }
     ensures own { IfErr result (IsOwn ⊥) }
+    ensures few { IfOk result (λ w. length w ≤ 33554432) }
 {
-    match read_asm(alloc, text) {
-        Ok(items) => Ok(items),
-        Err(AsmErr::At { code, at }) => {
-            let name = Name::new(alloc, name)?;
-            Err(Refusal::Due(DueRefusal::Bad {
-                code,
-                name,
-                line: Some(at),
-            }))
-        }
-        Err(AsmErr::Memory) => Err(Refusal::Memory),
-    }
-}
-
-/// The words of the items, of a text of that name.
-fn placed(alloc: Global, name: &str, items: &[AsmItem]) -> Result<Placement, Refusal>
-    ensures given { GivesBy (λ p. p.words) result (placed_unless name.now items.now (fault_of items.now)) }
-    ensures own { IfErr result (IsOwn ⊥) }
-    ensures few { IfOk result (λ p. length p.words ≤ 33554432) }
-{
-    match assemble(alloc, items) {
-        Ok(placement) => Ok(placement),
+    match assemble_text(alloc, text) {
+        Ok(words) => Ok(words),
         Err(AsmErr::At { code, at }) => {
             let name = Name::new(alloc, name)?;
             Err(Refusal::Due(DueRefusal::Bad {
@@ -110,10 +90,9 @@ fn assembled<F: Files>(alloc: Global, files: &mut F, text: &str) -> Result<Vec<u
     ensures causes { HasCauses result (counts F.faults F.misses F.overs files.old) (counts F.faults F.misses F.overs files.new) }
 {
     let bytes = read_file(alloc, files, text)?;
-    let items = items_of_text(alloc, text, &bytes)?;
-    let placement = placed(alloc, text, &items)?;
-    let words = write_words(alloc, placement.words.as_slice())?;
-    Ok(words)
+    let words = words_of_text(alloc, text, &bytes)?;
+    let file = write_words(alloc, words.as_slice())?;
+    Ok(file)
 }
 
 /// The words of that words file.

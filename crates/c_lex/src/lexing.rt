@@ -98,7 +98,7 @@ impl<'a> Tokens<'a> {
 ///
 /// The error tells the first place where neither a gap nor a token stands, and why; or memory ran out.
 /// The text is gone through once before its first token is given.
-pub fn tokens<'a>(alloc: Global, bytes: &'a [u8], file: u32) -> Result<Tokens<'a>, LexErr>
+pub fn read_tokens<'a>(alloc: Global, bytes: &'a [u8], file: u32) -> Result<Tokens<'a>, LexErr>
     requires fits { length bytes.now ≤ 268435456 }
     ensures tokens { IfOk result (λ ts. Reads file bytes.now (found ts)) }
     ensures refused { IfErr result (λ e. IsRefusal file bytes.now e) }
@@ -147,7 +147,7 @@ pub fn lex(alloc: Global, bytes: &[u8], file: u32) -> Result<Vec<Token>, LexErr>
     ensures tokens { IfOk result (λ v. Reads file bytes.now (found v.items)) }
     ensures refused { IfErr result (λ e. IsRefusal file bytes.now e) }
 {
-    let mut left = tokens(alloc, bytes, file)?;
+    let mut left = read_tokens(alloc, bytes, file)?;
     let mut list = Vec::new(alloc);
     'each: while let Some(token) = left.next(alloc)? {
         list.push(token)?;

@@ -20,5 +20,5 @@ pub use laws::{
     gaps_and_tokens_are_apart, gaps_are_what_is_spelled, places_are_told, texts_read_one_way,
     tokens_are_of_their_file, tokens_are_what_is_spelled,
 };
-pub use lexing::{Tokens, lex, tokens};
+pub use lexing::{Tokens, lex, read_tokens};
 pub use token::{Kind, Punct, Token};

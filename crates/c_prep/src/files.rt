@@ -22,7 +22,7 @@ use crate::directive::{Directive, directive_in};
 use crate::error::{Fault, FaultAt, PrepErr, StepErr, fault_at};
 use crate::lines::next_line;
 use crate::work::{Work, step_at};
-use c_lex::{LexErr, Token, Tokens, tokens};
+use c_lex::{LexErr, Token, Tokens, read_tokens};
 use kit_base::{FileErr, Memory, Name, Reads};
 use std::alloc::Global;
 
@@ -122,7 +122,7 @@ fn lex_file<'a>(alloc: Global, bytes: &'a [u8], file: u32) -> Result<Tokens<'a>,
     ensures codes { IfErr result HasReadingCode }
     ensures numbers { (n : ℕ) → file < n → PlacedIn n result }
 {
-    match tokens(alloc, bytes, file) {
+    match read_tokens(alloc, bytes, file) {
         Ok(tokens) => Ok(tokens),
         Err(
             LexErr::At {

@@ -28,7 +28,8 @@ abbrev pub parts_of : List AsmItem → List Imm
 parts_of items = flat_map item_parts items
 
 -- with the items of a piece more
-pub record AreMore (words : List Imm) (labels : List (List ℕ × ℕ)) (items : List AsmItem) (new_words : List Imm) (new_labels : List (List ℕ × ℕ)) : Type 0 where
+pub record AreMore (words : List Imm) (labels : List (List ℕ × ℕ)) (items : List AsmItem) (new_words : List Imm)
+    (new_labels : List (List ℕ × ℕ)) : Type 0 where
   pub words_are : new_words ≡ words ++ parts_of items
   pub labels_are : new_labels ≡ labels ++ labels_from (0x20000000 + length words) items
   pub few : length new_words ≤ 33554432

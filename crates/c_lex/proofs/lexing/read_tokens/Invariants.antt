@@ -1,7 +1,7 @@
 use Rattle.std.proofs.Common.{◌≡◌, ◌≤◌, ◌+◌, length}
 use Rattle.c_lex.specs.Found.{reading_of}
 use Rattle.c_lex.proofs.Steps.{Continues}
-use Rattle.c_lex.proofs.lexing.tokens.Given as goal
+use Rattle.c_lex.proofs.lexing.read_tokens.Given as goal
 
 abbrev pub invariant-each : goal.invariant-each
 invariant-each l = record {

@@ -8,7 +8,7 @@ use Rattle.c_lex.specs.Found.{token_at, reading_of}
 use Rattle.c_lex.proofs.OneToken.{stands}
 use Rattle.c_lex.proofs.Steps.{Continues, sized, none_of, from_start, past_a_gap, past_a_token, refused, ended, ended_left, whole_left, within}
 use Rattle.c_lex.proofs.Readings.{reads_so}
-use Rattle.c_lex.proofs.lexing.tokens.Goals as goal
+use Rattle.c_lex.proofs.lexing.read_tokens.Goals as goal
 
 pub each-init : goal.each-init
 each-init c = record {

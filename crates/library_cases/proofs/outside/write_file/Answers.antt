@@ -1,5 +1,0 @@
-use Rattle.kit_base.proofs.Holdings.{holds_emptied}
-use Rattle.library_cases.proofs.outside.write_file.Goals as goal
-
-pub append-requires : goal.append-requires
-append-requires g c = holds_emptied _ _ _ c.in_ok-create.ensures.ok

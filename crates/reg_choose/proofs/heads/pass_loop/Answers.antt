@@ -1,6 +1,6 @@
-use Rattle.std.proofs.Common.{rules, arith, ◌≡◌, ◌+◌, suc, length, map, refl, sym, subst}
+use Rattle.std.proofs.Common.{arith, length, map, refl, sym, subst}
 use Rattle.mid_code.specs.Functions.{node, listed}
-use Rattle.reg_choose.specs.inner.Heads.{IsHead, list_loops}
+use Rattle.reg_choose.specs.inner.Heads.{IsHead}
 use Rattle.reg_choose.proofs.Named.{passed_live}
 use Rattle.reg_choose.proofs.heads.pass_loop.Goals as goal
 

@@ -1,9 +1,9 @@
-use Rattle.std.proofs.Common.{rules, arith, ◌≡◌, ◌-◌, max, leb, true, suc, length, drop, map, set, sym, ap, subst, ◌∙◌}
+use Rattle.std.proofs.Common.{rules, arith, ◌≡◌, ◌-◌, max, suc, length, drop, map, set, sym, ap, subst, ◌∙◌}
 use Rattle.std.proofs.lemmas.Bool.{leb-true}
 use Rattle.mid_code.specs.Code.{Stop}
 use Rattle.mid_code.specs.Functions.{ChooseN, BlockN, LoopN, node, nodes, listed, before, joined}
 use Rattle.mid_code.specs.declared.node.Node.{the_lemmas}
-use Rattle.reg_choose.specs.inner.Heads.{Inside, list_loops, IsHead, NodeTold, ListTold}
+use Rattle.reg_choose.specs.inner.Heads.{Inside, IsHead, NodeTold, ListTold}
 use Rattle.reg_choose.proofs.Facts.{nodes_drop}
 use Rattle.reg_choose.proofs.Learned.{longer, list_more, loop_told, choose_inside, body_inside, node_inside, loops_turn, wide}
 use Rattle.reg_choose.proofs.learn.+learn.Goals as goal

@@ -1,5 +1,5 @@
-use Rattle.std.proofs.Common.{rules, arith, ◌≡◌, ◌-◌, ◌+◌, suc, length, drop, map, sym, ap, subst, ◌∙◌}
-use Rattle.mid_code.specs.Functions.{node, nodes, listed, before, joined, ChooseN}
+use Rattle.std.proofs.Common.{rules, arith, ◌≡◌, ◌-◌, ◌+◌, suc, drop, map, sym, ap, subst, ◌∙◌}
+use Rattle.mid_code.specs.Functions.{node, nodes, listed, joined, ChooseN}
 use Rattle.mid_code.specs.declared.node.Node.{the_lemmas}
 use Rattle.mid_live.specs.Sets.{on}
 use Rattle.reg_choose.specs.inner.Heads.{list_loops, ListTold}

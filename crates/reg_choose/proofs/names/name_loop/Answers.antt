@@ -1,4 +1,4 @@
-use Rattle.std.proofs.Common.{rules, arith, ◌≡◌, length, map, refl, sym, subst}
+use Rattle.std.proofs.Common.{arith, length, map, refl, sym, subst}
 use Rattle.mid_code.specs.Functions.{node, listed}
 use Rattle.reg_choose.specs.inner.Heads.{IsHead}
 use Rattle.reg_choose.proofs.Named.{named_loop}

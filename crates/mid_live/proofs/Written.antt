@@ -183,6 +183,21 @@ pub or_both : (a b c : Bool) → ((a || b) || c) ≡ (a || (b || c))
 or_both true b c = refl
 or_both false b c = refl
 
+pub left_off : (ws new : List ℕ) (i w y : ℕ) → w < 2 ^ 64 → get_or new (y / 64) 0 ≡ cond (eqb (y / 64) i) (bit_and (get_or ws i 0) (bit_not w64 w)) (get_or ws (y / 64) 0) → on new y ≡ (on ws y && not (eqb i (y / 64) && bit w (y % 64)))
+left_off ws new i w y fits e = elim (eq_or i (y / 64)) [
+  | inl q ↦ sym (bit_on new (y / 64) y refl) ∙ ap (λ z. bit z (y % 64)) (e ∙ ap (λ b. cond b (bit_and (get_or ws i 0) (bit_not w64 w)) (get_or ws (y / 64) 0)) (eq-eqb (y / 64) i (sym q))) ∙ less_bit (get_or ws i 0) w (y % 64) fits (small y) ∙ ap (λ z. z && not (bit w (y % 64))) (bit_on ws i y q) ∙ ap (λ b. on ws y && not (b && bit w (y % 64))) (sym (eq-eqb i (y / 64) q))
+  | inr d ↦ sym (bit_on new (y / 64) y refl) ∙ ap (λ z. bit z (y % 64)) (e ∙ ap (λ b. cond b (bit_and (get_or ws i 0) (bit_not w64 w)) (get_or ws (y / 64) 0)) (ne_eqb (y / 64) i (λ q. d (sym q)))) ∙ bit_on ws (y / 64) y refl ∙ sym (and_true (on ws y)) ∙ ap (λ b. on ws y && not (b && bit w (y % 64))) (sym (ne_eqb i (y / 64) d))
+]
+  where
+    and_true : (a : Bool) → (a && true) ≡ a
+    and_true true = refl
+    and_true false = refl
+
+pub neither : (a b c : Bool) → ((a && not b) && not c) ≡ (a && not (b || c))
+neither true true c = refl
+neither true false c = refl
+neither false b c = refl
+
 pub fresh_on : (ws : List ℕ) (es : List Held) (y : ℕ) → FreshIn ws es → on (spread ws es) y ≡ (on ws y || some es y)
 fresh_on ws [] y f = sym (or_none (on ws y))
   where

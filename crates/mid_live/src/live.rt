@@ -1,6 +1,7 @@
 // A set of temporaries that is changed in place, and what it was at some point.
 use crate::words::{
-    Held, clear_words, copied, gone_from, has_bit, join_words, put_in, restore_words, strike_from,
+    Held, clear_words, copied, gone_from, has_bit, join_words, leave_words, put_in, restore_words,
+    strike_from,
 };
 use kit_base::Memory;
 use std::alloc::Global;
@@ -101,6 +102,14 @@ impl Live {
         ensures is { (y : ℕ) → y < room self.old → on self.new y ≡ (on self.old y || on other.now y) }
     {
         join_words(&mut self.words, &mut self.held, other.words.as_slice());
+    }
+
+    /// Takes out what another set had.
+    pub fn leave(&mut self, other: &Kept)
+        ensures len { length self.new ≡ length self.old }
+        ensures is { (y : ℕ) → y < room self.old → on self.new y ≡ (on self.old y && not (on other.now y)) }
+    {
+        leave_words(&mut self.words, &mut self.held, other.words.as_slice());
     }
 
     /// Makes it what another set was, which may have room for fewer or for more.

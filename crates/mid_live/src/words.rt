@@ -1,5 +1,6 @@
 // Words of bits, and which of them may be other than 0.
-ghost use Rattle.std.specs.Prelude.{◌≡◌, ◌≢◌, ℕ, ◌+◌, ◌*◌, ◌/◌, ◌%◌, ◌<◌, ◌≤◌, ◌||◌, ◌&&◌, not, false, cond, eqb, length, get_or, replicate, slice_set, All, IfOk, OnOk};
+ghost use Rattle.std.specs.Prelude.{◌≡◌, ◌≢◌, ℕ, ◌+◌, ◌*◌, ◌/◌, ◌%◌, ◌<◌, ◌≤◌, ◌||◌, ◌&&◌, not, false, cond, eqb, length, get_or, replicate};
+ghost use Rattle.std.specs.Prelude.{slice_set, All, IfOk, OnOk};
 ghost use Rattle.mid_code.specs.Live.{is_among};
 ghost use Rattle.mid_live.specs.Sets.{on, room};
 ghost use Rattle.mid_live.specs.inner.Words.{bit, some, IsHeld, FreshIn, spread};
@@ -187,6 +188,32 @@ pub(crate) fn join_words(words: &mut Vec<u64>, held: &mut Vec<u64>, es: &[Held])
     }
 }
 
+/// The bits of a word taken out.
+#[tactic(auto, using(crate::proofs::Written::put_held, crate::proofs::Written::written_other))]
+fn leave_word(words: &mut Vec<u64>, held: &mut Vec<u64>, e: Held)
+    requires held { IsHeld words.old.items held.old.items }
+    ensures held { IsHeld words.new.items held.new.items }
+    ensures len { length words.new.items ≡ length words.old.items }
+    ensures is { (y : ℕ) → y < room words.old.items → on words.new.items y ≡ (on words.old.items y && not (eqb e.at (y / 64) && bit e.word (y % 64))) }
+{
+    let rest = word(words.as_slice(), e.at) & !e.word;
+    write(words, e.at, rest);
+    put_bit(held, e.at);
+}
+
+/// The bits of words taken out.
+#[tactic(auto, using(crate::proofs::Written::neither))]
+pub(crate) fn leave_words(words: &mut Vec<u64>, held: &mut Vec<u64>, es: &[Held])
+    requires held { IsHeld words.old.items held.old.items }
+    ensures held { IsHeld words.new.items held.new.items }
+    ensures len { length words.new.items ≡ length words.old.items }
+    ensures is { (y : ℕ) → y < room words.old.items → on words.new.items y ≡ (on words.old.items y && not (some es.now y)) }
+{
+    for e in es {
+        leave_word(words, held, *e);
+    }
+}
+
 /// A word in place of another.
 #[tactic(auto, using(crate::proofs::Written::put_held, crate::proofs::Written::written_other))]
 fn write_word(words: &mut Vec<u64>, held: &mut Vec<u64>, e: Held)
@@ -239,7 +266,8 @@ fn push_bits(found: &mut Vec<u32>, at: usize, w: u64) -> Result<(), Memory>
 #[tactic(auto, using(crate::proofs::Written::push_none, crate::proofs::Written::push_some))]
 fn push_left(found: &mut Vec<u32>, e: Held, words: &[u64]) -> Result<(), Memory>
     requires few { e.at < 0x400_0000 }
-    ensures { OnOk result ((y : ℕ) → is_among found.new.items y ≡ (is_among found.old.items y || ((eqb e.at (y / 64) && bit e.word (y % 64)) && not (on words.now y)))) }
+    ensures { OnOk result ((y : ℕ) → is_among found.new.items y
+        ≡ (is_among found.old.items y || ((eqb e.at (y / 64) && bit e.word (y % 64)) && not (on words.now y)))) }
 {
     let left = e.word & !word(words, e.at);
     if left == 0 {

@@ -23,3 +23,6 @@ pub mod Collected
 pub mod Numbered
 pub mod Chooser
 pub mod Program
+pub mod Raised
+pub mod Learned
+pub mod Named

@@ -100,33 +100,36 @@ slot_nine at s t r e f y h o d l = f y h o d (omega (arith, e, l))
 -- ---- other nodes
 
 module _ (at : List Where) (ls : Labels) (x : NodeT ℕ) (s new hs : List ℕ) where
-  pub choose_no_a : (p : ℕ) (a b : ListT ℕ) (mid ks : List ℕ) → x ≡ ChooseN p a b → ListTried at ls a s mid ks false → NodeTried at ls x s new hs false
-  choose_no_a p a b mid ks e l = λ n. l (subst (λ z. InsideChecked (length at) at ls z (on s)) e n.1).0
+  pub choose_no_b : (p : ℕ) (a b : ListT ℕ) (mid ks : List ℕ) → x ≡ ChooseN p a b → ListTried at ls b s mid ks false → NodeTried at ls x s new hs false
+  choose_no_b p a b mid ks e l = λ n. l (subst (λ z. InsideChecked (length at) at ls z (on s)) e n.1).1
 
   pub never_behind : (gs t mid ks : List ℕ) → Stands at s gs → t ≡ s → Made at t mid ks false → NodeTried at ls x s new hs false
   never_behind gs t mid ks g e l = λ n. l (subst (λ z. ApartIn (length at) at (on z)) (sym e) (stands_apart at s gs g))
 
-  pub choose_no_b : (p : ℕ) (a b : ListT ℕ) (t old mid ks : List ℕ) → x ≡ ChooseN p a b → t ≡ s → Like (length at) (on old) (on t) → ListTried at ls b old mid ks false → NodeTried at ls x s new hs false
-  choose_no_b p a b t old mid ks e f k l = λ n. l (list_like (length at) at ls ls b (on s) (on old) (λ y h. refl) (λ y h. sym (k y h ∙ ap (λ z. on z y) f)) (subst (λ z. InsideChecked (length at) at ls z (on s)) e n.1).1)
+  pub choose_no_a : (p : ℕ) (a b : ListT ℕ) (t old mid ks : List ℕ) → x ≡ ChooseN p a b → t ≡ s → Like (length at) (on old) (on t) → ListTried at ls a old mid ks false → NodeTried at ls x s new hs false
+  choose_no_a p a b t old mid ks e f k l = λ n. l (list_like (length at) at ls ls a (on s) (on old) (λ y h. refl) (λ y h. sym (k y h ∙ ap (λ z. on z y) f)) (subst (λ z. InsideChecked (length at) at ls z (on s)) e n.1).0)
 
-  choose_set : (p : ℕ) (a b : ListT ℕ) (t first old third : List ℕ) → x ≡ ChooseN p a b → t ≡ s → Like (length at) (on first) (live_set ls (joined a) (on s)) → Like (length at) (on old) (on t) → Like (length at) (on third) (live_set ls (joined b) (on old)) → (y : ℕ) → y < length at → (((eqb p y || false) || on first y) || on third y) ≡ live_set ls (before x Stop) (on s) y
-  choose_set p a b t first old third e f i k l y h =
+  choose_set : (p : ℕ) (a b : ListT ℕ) (t other old third : List ℕ) → x ≡ ChooseN p a b → t ≡ s → Like (length at) (on other) (live_set ls (joined b) (on s)) → Like (length at) (on old) (on t) → Like (length at) (on third) (live_set ls (joined a) (on old)) → (y : ℕ) → y < length at → (((eqb p y || false) || on other y) || on third y) ≡ live_set ls (before x Stop) (on s) y
+  choose_set p a b t other old third e f i k l y h =
       ap (λ z. ((eqb p y || false) || z) || on third y) (i y h)
-      ∙ ap (λ z. ((eqb p y || false) || is_live y (ls y) (joined a) (on s y)) || z) (l y h ∙ ap (is_live y (ls y) (joined b)) (k y h ∙ ap (λ z. on z y) f))
+      ∙ ap (λ z. ((eqb p y || false) || is_live y (ls y) (joined b) (on s y)) || z) (l y h ∙ ap (is_live y (ls y) (joined a)) (k y h ∙ ap (λ z. on z y) f))
       ∙ used_or (eqb p y || false) (is_live y (ls y) (joined a) (on s y)) (is_live y (ls y) (joined b) (on s y))
       ∙ ap (λ z. live_set ls (before z Stop) (on s) y) (sym e)
     where
-      used_or : (u v w : Bool) → ((u || v) || w) ≡ live_before u false (v || w)
+      used_or : (u v w : Bool) → ((u || w) || v) ≡ live_before u false (v || w)
       used_or true v w = refl
-      used_or false v w = refl
+      used_or false true true = refl
+      used_or false true false = refl
+      used_or false false true = refl
+      used_or false false false = refl
 
-  pub choose_join : (p : ℕ) (a b : ListT ℕ) (t mid ks first old third js : List ℕ) (r : Bool) → x ≡ ChooseN p a b → t ≡ s → first ≡ mid → ListTried at ls a s mid ks true → Like (length at) (on old) (on t) → ListTried at ls b old third js true → Laid at (λ y. (eqb p y || false) || on first y) third new hs r → NodeTried at ls x s new hs r
-  choose_join p a b t mid ks first old third js true e f g l k m o =
-      let i : Like (length at) (on first) (live_set ls (joined a) (on s)) = λ y h. ap (λ z. on z y) g ∙ l.0 y h in
-      ((λ y h. o.0 y h ∙ choose_set p a b t first old third e f i k m.0 y h), o.1, subst (λ z. InsideChecked (length at) at ls z (on s)) (sym e) (l.2, list_like (length at) at ls ls b (on old) (on s) (λ y h. refl) (λ y h. k y h ∙ ap (λ z. on z y) f) m.2))
-  choose_join p a b t mid ks first old third js false e f g l k m o =
-      let i : Like (length at) (on first) (live_set ls (joined a) (on s)) = λ y h. ap (λ z. on z y) g ∙ l.0 y h in
-      λ n. o (apart_like (length at) at (live_set ls (before x Stop) (on s)) (λ y. ((eqb p y || false) || on first y) || on third y) (λ y h. sym (choose_set p a b t first old third e f i k m.0 y h)) n.0)
+  pub choose_join : (p : ℕ) (a b : ListT ℕ) (t mid ks other old third js : List ℕ) (r : Bool) → x ≡ ChooseN p a b → t ≡ s → other ≡ mid → ListTried at ls b s mid ks true → Like (length at) (on old) (on t) → ListTried at ls a old third js true → Laid at (λ y. (eqb p y || false) || on other y) third new hs r → NodeTried at ls x s new hs r
+  choose_join p a b t mid ks other old third js true e f g l k m o =
+      let i : Like (length at) (on other) (live_set ls (joined b) (on s)) = λ y h. ap (λ z. on z y) g ∙ l.0 y h in
+      ((λ y h. o.0 y h ∙ choose_set p a b t other old third e f i k m.0 y h), o.1, subst (λ z. InsideChecked (length at) at ls z (on s)) (sym e) (list_like (length at) at ls ls a (on old) (on s) (λ y h. refl) (λ y h. k y h ∙ ap (λ z. on z y) f) m.2, l.2))
+  choose_join p a b t mid ks other old third js false e f g l k m o =
+      let i : Like (length at) (on other) (live_set ls (joined b) (on s)) = λ y h. ap (λ z. on z y) g ∙ l.0 y h in
+      λ n. o (apart_like (length at) at (live_set ls (before x Stop) (on s)) (λ y. ((eqb p y || false) || on other y) || on third y) (λ y h. sym (choose_set p a b t other old third e f i k m.0 y h)) n.0)
 
   pub block_tried : (b : ListT ℕ) (ms : Labels) (r : Bool) → x ≡ BlockN b → Like (length at) ms (in_block (on s) ls) → ListTried at ms b s new hs r → NodeTried at ls x s new hs r
   block_tried b ms true e k l = ((λ y h. l.0 y h ∙ ap (λ z. is_live y z (joined b) (on s y)) (k y h) ∙ ap (λ z. live_set ls (before z Stop) (on s) y) (sym e)), l.1, (block_whole (length at) at ls (on s) x b ms e k).1 l.2)

@@ -6,3 +6,4 @@ pub mod Sparse
 pub mod Seen
 pub mod Scan
 pub mod Handing
+pub mod Heads

@@ -1,14 +1,17 @@
 // The spans of a function's temporaries, and what crosses calls.
-ghost use Rattle.std.specs.Prelude.{◌≡◌, ℕ, ◌+◌, ◌<◌, ◌≤◌, ◌&&◌, ◌^◌, [], length, IfOk, OnOk, Bool, false};
+ghost use Rattle.std.specs.Prelude.{◌≡◌, ℕ, ◌+◌, ◌<◌, ◌≤◌, ◌&&◌, ◌^◌, [], length, IfOk, OnOk, Bool, false, map};
 ghost use Rattle.mid_code.specs.Code.{Stop};
-ghost use Rattle.mid_code.specs.Functions.{node, nodes, before, function};
+ghost use Rattle.mid_code.specs.Functions.{node, nodes, before, listed, function};
 ghost use Rattle.mid_code.specs.Live.{is_live};
 ghost use Rattle.mid_code.specs.Spans.{places};
 ghost use Rattle.mid_live.specs.Sets.{on, room};
 ghost use Rattle.reg_choose.specs.inner.Trails.{stood, crossing, no_trail, trail_at, trail_of};
 ghost use Rattle.reg_choose.specs.inner.Sparse.{sparse, follows};
 ghost use Rattle.reg_choose.specs.inner.Seen.{seen};
+ghost use Rattle.reg_choose.specs.inner.Heads.{ListTold};
 
+use crate::heads::Head;
+use crate::learn::heads_in;
 use crate::live::outside;
 use crate::spans::{more_from, walk_nodes};
 use crate::stands::stand_all;
@@ -64,7 +67,8 @@ fn behind_nodes(ns: &[Node<u32>], first: u64) -> Result<u64, Memory>
 #[tactic(auto, using(crate::proofs::Gathered::begun, crate::proofs::Gathered::not_begun))]
 fn begin(alloc: Global, trails: &mut [Trail], live: &Kept, ns: &[Node<u32>]) -> Result<(), Memory>
     ensures len { OnOk result (length trails.new ≡ length trails.old) }
-    ensures is { OnOk result ((y : ℕ) → y < length trails.old → trail_at trails.new y ≡ stood (on live.now y && follows (nodes ns.now)) 1 (trail_at trails.old y)) }
+    ensures is { OnOk result ((y : ℕ) → y < length trails.old → trail_at trails.new y
+        ≡ stood (on live.now y && follows (nodes ns.now)) 1 (trail_at trails.old y)) }
 {
     if more_from(ns, 0) {
         let nothing = Live::none(alloc, 0)?;
@@ -81,16 +85,31 @@ fn walk_body(
     s: &mut Live,
     trails: &mut [Trail],
     crossed: &mut Live,
+    heads: &[Head],
 ) -> Result<(), Memory>
+    requires told { ListTold (length s.old) heads.now 0 (listed (map node ns.now)) }
     requires sizes { length trails.old ≤ room s.old }
     requires crossed_sizes { length trails.old ≤ room crossed.old }
     requires nothing { (y : ℕ) → on s.old y ≡ false }
     ensures trails_len { OnOk result (length trails.new ≡ length trails.old) }
     ensures crossed_len { OnOk result (length crossed.new ≡ length crossed.old) }
-    ensures is { OnOk result ((y : ℕ) → y < length trails.old → seen trails.new crossed.new y ≡ stood (is_live y [] (nodes ns.now) false && follows (nodes ns.now)) 1 (sparse y [] (nodes ns.now) false false 1 (seen trails.old crossed.old y))) }
+    ensures is { OnOk result ((y : ℕ) → y < length trails.old → seen trails.new crossed.new y
+        ≡ stood (is_live y [] (nodes ns.now) false && follows (nodes ns.now)) 1
+        (sparse y [] (nodes ns.now) false false 1 (seen trails.old crossed.old y))) }
 {
     let end = behind_nodes(ns, 1)?;
-    walk_nodes(alloc, ns, &outside(), s, trails, crossed, end)?;
+    let mut next = 0;
+    walk_nodes(
+        alloc,
+        ns,
+        &outside(),
+        s,
+        trails,
+        crossed,
+        end,
+        heads,
+        &mut next,
+    )?;
     let live = s.kept(alloc)?;
     begin(alloc, trails, &live, ns)?;
     Ok(())
@@ -124,9 +143,18 @@ fn walk_function(alloc: Global, f: &Function<u32>, trails: &mut [Trail]) -> Resu
     ensures len { OnOk result (length trails.new ≡ length trails.old) }
     ensures is { OnOk result ((y : ℕ) → y < length trails.old → trail_at trails.new y ≡ trail_of (function f.now) y) }
 {
-    let mut live = Live::none(alloc, trails.len())?;
+    let count = trails.len();
+    let mut live = Live::none(alloc, count + 1)?;
     let mut crossed = Live::none(alloc, trails.len())?;
-    walk_body(alloc, f.body.as_slice(), &mut live, trails, &mut crossed)?;
+    let heads = heads_in(alloc, f.body.as_slice(), &mut live, count)?;
+    walk_body(
+        alloc,
+        f.body.as_slice(),
+        &mut live,
+        trails,
+        &mut crossed,
+        heads.as_slice(),
+    )?;
     stand_all(trails, f.params.as_slice(), 0);
     tell_crossing(trails, &crossed);
     Ok(())

@@ -130,7 +130,8 @@ fn meet(tenants: &mut [Option<Interval>], out: &mut [bool], s: Interval)
     ensures len { length tenants.new ≡ 9 }
     ensures out_len { length out.new ≡ length out.old }
     ensures out { (x : ℕ) → flag out.old x ≡ true → flag out.new x ≡ true }
-    ensures spared { (r : ℕ) → free (freed_at tenants.old) s.first 9 ≡ Some r → (out.new ≡ out.old) × (freed_at tenants.new ≡ taking (freed_at tenants.old) (span s) (Some r)) }
+    ensures spared { (r : ℕ) → free (freed_at tenants.old) s.first 9 ≡ Some r
+        → (out.new ≡ out.old) × (freed_at tenants.new ≡ taking (freed_at tenants.old) (span s) (Some r)) }
 {
     match free(tenants, s.first) {
         Some(r) => settle(tenants, s, Some(r)),

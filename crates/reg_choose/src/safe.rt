@@ -10,6 +10,7 @@ ghost use Rattle.reg_choose.specs.inner.Holding.{IsPlan, Stands};
 
 use crate::checks::try_nodes;
 use crate::hold::lay_all;
+use crate::learn::heads_in;
 use crate::live::outside;
 use crate::plan::plan;
 use kit_base::Memory;
@@ -77,7 +78,9 @@ pub fn is_safe(alloc: Global, f: &Function<u32>, c: &Choice) -> Result<bool, Mem
     if !apart(alloc, at, numbers.as_slice(), f.params.as_slice())? {
         return Ok(false);
     }
-    let mut behind = Live::none(alloc, at.len())?;
+    let mut behind = Live::none(alloc, at.len() + 1)?;
+    let heads = heads_in(alloc, f.body.as_slice(), &mut behind, at.len())?;
+    let mut next = 0;
     let mut held = no_holders(alloc, at, &behind)?;
     let safe = try_nodes(
         alloc,
@@ -87,6 +90,8 @@ pub fn is_safe(alloc: Global, f: &Function<u32>, c: &Choice) -> Result<bool, Mem
         &outside(),
         &mut behind,
         held.as_mut_slice(),
+        heads.as_slice(),
+        &mut next,
     )?;
     Ok(safe)
 }

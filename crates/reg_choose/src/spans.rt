@@ -1,14 +1,16 @@
 // The spans of temporaries, found in one walk from the end.
-ghost use Rattle.std.specs.Prelude.{◌≡◌, ◌∷◌, ℕ, ◌+◌, ◌<◌, ◌≤◌, ◌&&◌, ◌||◌, ◌^◌, not, length, drop, IfOk, OnOk, false, true};
+ghost use Rattle.std.specs.Prelude.{◌≡◌, ◌∷◌, ℕ, ◌+◌, ◌<◌, ◌≤◌, ◌&&◌, ◌||◌, ◌^◌, not, length, drop, map, IfOk, OnOk, false, true};
 ghost use Rattle.mid_code.specs.Code.{Stop};
-ghost use Rattle.mid_code.specs.Functions.{op_before, node, nodes, before};
+ghost use Rattle.mid_code.specs.Functions.{LoopN, op_before, node, nodes, before, listed};
 ghost use Rattle.mid_code.specs.Live.{label, is_live};
 ghost use Rattle.mid_code.specs.Spans.{places};
 ghost use Rattle.mid_live.specs.Sets.{on, room};
 ghost use Rattle.reg_choose.specs.inner.Marked.{marks};
+ghost use Rattle.reg_choose.specs.inner.Heads.{node_loops, list_loops, NodeTold, ListTold};
 ghost use Rattle.reg_choose.specs.inner.Sparse.{sparse, follows};
 ghost use Rattle.reg_choose.specs.inner.Seen.{seen, calls};
 
+use crate::heads::{Head, one_further, pass_loop, told_each};
 use crate::live::{
     Marks, at_begin, at_end, before_nodes, begin_less, nested, put_uses, strike_target,
 };
@@ -86,13 +88,45 @@ fn walk_op(
     ensures trails_len { OnOk result (length trails.new ≡ length trails.old) }
     ensures crossed_len { OnOk result (length crossed.new ≡ length crossed.old) }
     ensures live { OnOk result ((y : ℕ) → y < room s.old → on s.new y ≡ is_live y (marks y m.now) (op_before o.now Stop) (on s.old y)) }
-    ensures trails { OnOk result ((y : ℕ) → y < length trails.old → seen trails.new crossed.new y ≡ sparse y (marks y m.now) (op_before o.now Stop) (on s.old y) more place (seen trails.old crossed.old y)) }
+    ensures trails { OnOk result ((y : ℕ) → y < length trails.old → seen trails.new crossed.new y
+        ≡ sparse y (marks y m.now) (op_before o.now Stop) (on s.old y) more place (seen trails.old crossed.old y)) }
 {
     strike_target(s, o);
     cross(alloc, crossed, s, o)?;
     put_uses(s, o);
     stand_uses(trails, o, place);
     stand_target(trails, o, place);
+    Ok(())
+}
+
+/// Makes the set what is live at the head of a loop.
+fn to_head(
+    alloc: Global,
+    b: &[Node<u32>],
+    m: &Marks,
+    s: &mut Live,
+    ends: &Kept,
+    heads: &[Head],
+    at: usize,
+) -> Result<(), Memory>
+    requires behind { ends.now ≡ s.old }
+    requires told { NodeTold (length s.old) heads.now at (LoopN (listed (map node b.now))) }
+    ensures len { OnOk result (length s.new ≡ length s.old) }
+    ensures is { OnOk result ((y : ℕ) → y < room s.old → on s.new y ≡ is_live y (label false (on s.old y) ∷ marks y m.now) (nodes b.now) (on s.old y)) }
+{
+    if let Some(_) = pass_loop(b, s, heads, at)? {
+        return Ok(());
+    }
+    let first = one_further(at)?;
+    let begins = Kept::none(alloc);
+    before_nodes(
+        alloc,
+        b,
+        &Marks::Inside(&begins, ends, &*m),
+        s,
+        heads,
+        first,
+    )?;
     Ok(())
 }
 
@@ -103,14 +137,16 @@ pub(crate) fn head_of(
     m: &Marks,
     s: &mut Live,
     ends: &Kept,
+    heads: &[Head],
+    at: usize,
 ) -> Result<Kept, Memory>
     requires behind { ends.now ≡ s.old }
+    requires told { NodeTold (length s.old) heads.now at (LoopN (listed (map node b.now))) }
     ensures kept { OnOk result (s.new ≡ s.old) }
     ensures head_len { IfOk result (λ v. length v ≡ length s.old) }
     ensures is { IfOk result (λ v. (y : ℕ) → y < room s.old → on v y ≡ is_live y (label false (on s.old y) ∷ marks y m.now) (nodes b.now) (on s.old y)) }
 {
-    let begins = Kept::none(alloc);
-    before_nodes(alloc, b, &Marks::Inside(&begins, ends, &*m), s)?;
+    to_head(alloc, b, m, s, ends, heads, at)?;
     let head = s.kept(alloc)?;
     s.restore(ends);
     Ok(head)
@@ -125,6 +161,7 @@ pub(crate) fn more_from(ns: &[Node<u32>], i: usize) -> bool
 
 /// What a node adds to the trails, and what is live before it. The answer is its place; the one behind it is given, and whether more nodes follow.
 #[cycle(walk)]
+#[tactic(auto, using(crate::proofs::Named::told_second, crate::proofs::Named::told_first, crate::proofs::Named::told_block, crate::proofs::Named::told_loop, crate::proofs::Named::told_whole))]
 fn walk_node(
     alloc: Global,
     x: &Node<u32>,
@@ -134,15 +171,20 @@ fn walk_node(
     crossed: &mut Live,
     place: u64,
     more: bool,
+    heads: &[Head],
+    next: &mut usize,
 ) -> Result<u64, Memory>
     requires sizes { length trails.old ≤ room s.old }
     requires crossed_sizes { length trails.old ≤ room crossed.old }
+    requires told { NodeTold (length s.old) heads.now next.old (node x.now) }
+    ensures next { OnOk result (next.new ≡ node_loops (node x.now) + next.old) }
     ensures len { OnOk result (length s.new ≡ length s.old) }
     ensures trails_len { OnOk result (length trails.new ≡ length trails.old) }
     ensures crossed_len { OnOk result (length crossed.new ≡ length crossed.old) }
     ensures live { OnOk result ((y : ℕ) → y < room s.old → on s.new y ≡ is_live y (marks y m.now) (before (node x.now) Stop) (on s.old y)) }
     ensures place { IfOk result (λ n. n + places (before (node x.now) Stop) ≡ place) }
-    ensures trails { IfOk result (λ n. (y : ℕ) → y < length trails.old → seen trails.new crossed.new y ≡ sparse y (marks y m.now) (before (node x.now) Stop) (on s.old y) more n (seen trails.old crossed.old y)) }
+    ensures trails { IfOk result (λ n. (y : ℕ) → y < length trails.old → seen trails.new crossed.new y
+        ≡ sparse y (marks y m.now) (before (node x.now) Stop) (on s.old y) more n (seen trails.old crossed.old y)) }
 {
     match x {
         Node::Do(o) => {
@@ -152,10 +194,30 @@ fn walk_node(
         }
         Node::Choose(p, a, b) => {
             let behind = s.kept(alloc)?;
-            let between = walk_nodes(alloc, b.as_slice(), &*m, s, trails, crossed, place)?;
+            let between = walk_nodes(
+                alloc,
+                b.as_slice(),
+                &*m,
+                s,
+                trails,
+                crossed,
+                place,
+                heads,
+                next,
+            )?;
             let other = s.kept(alloc)?;
             s.restore(&behind);
-            let inside = walk_nodes(alloc, a.as_slice(), &*m, s, trails, crossed, between)?;
+            let inside = walk_nodes(
+                alloc,
+                a.as_slice(),
+                &*m,
+                s,
+                trails,
+                crossed,
+                between,
+                heads,
+                next,
+            )?;
             s.join(&other);
             s.put(*p as usize);
             cease(alloc, trails, &behind, s, place, more)?;
@@ -174,6 +236,8 @@ fn walk_node(
                 trails,
                 crossed,
                 place,
+                heads,
+                next,
             )?;
             cease(alloc, trails, &ends, s, place, more)?;
             let first = one_less(inside)?;
@@ -181,7 +245,8 @@ fn walk_node(
         }
         Node::Loop(b) => {
             let ends = s.kept(alloc)?;
-            let head = head_of(alloc, b.as_slice(), &*m, s, &ends)?;
+            let head = head_of(alloc, b.as_slice(), &*m, s, &ends, heads, *next)?;
+            *next = one_further(*next)?;
             let inside = walk_nodes(
                 alloc,
                 b.as_slice(),
@@ -190,6 +255,8 @@ fn walk_node(
                 trails,
                 crossed,
                 place,
+                heads,
+                next,
             )?;
             s.restore(&head);
             cease(alloc, trails, &ends, s, place, more)?;
@@ -236,22 +303,31 @@ pub(crate) fn walk_nodes(
     trails: &mut [Trail],
     crossed: &mut Live,
     place: u64,
+    heads: &[Head],
+    next: &mut usize,
 ) -> Result<u64, Memory>
     requires sizes { length trails.old ≤ room s.old }
     requires crossed_sizes { length trails.old ≤ room crossed.old }
+    requires told { ListTold (length s.old) heads.now next.old (listed (map node ns.now)) }
+    ensures next { OnOk result (next.new ≡ list_loops (listed (map node ns.now)) + next.old) }
     ensures len { OnOk result (length s.new ≡ length s.old) }
     ensures trails_len { OnOk result (length trails.new ≡ length trails.old) }
     ensures crossed_len { OnOk result (length crossed.new ≡ length crossed.old) }
     ensures live { OnOk result ((y : ℕ) → y < room s.old → on s.new y ≡ is_live y (marks y m.now) (nodes ns.now) (on s.old y)) }
     ensures place { IfOk result (λ n. n + places (nodes ns.now) ≡ place) }
-    ensures trails { IfOk result (λ n. (y : ℕ) → y < length trails.old → seen trails.new crossed.new y ≡ sparse y (marks y m.now) (nodes ns.now) (on s.old y) false n (seen trails.old crossed.old y)) }
+    ensures trails { IfOk result (λ n. (y : ℕ) → y < length trails.old → seen trails.new crossed.new y
+        ≡ sparse y (marks y m.now) (nodes ns.now) (on s.old y) false n (seen trails.old crossed.old y)) }
 {
+    let start = *next;
     let mut first = place;
     let mut i = ns.len();
     while i > 0 {
         let more = more_from(ns, i);
         i -= 1;
-        first = walk_node(alloc, &ns[i], &*m, s, trails, crossed, first, more)?;
+        told_each(ns, i, s, heads, start, *next);
+        first = walk_node(
+            alloc, &ns[i], &*m, s, trails, crossed, first, more, heads, next,
+        )?;
     }
     Ok(first)
 }

@@ -44,7 +44,8 @@ pub(crate) fn cease(
     more: bool,
 ) -> Result<(), Memory>
     ensures len { OnOk result (length trails.new ≡ length trails.old) }
-    ensures is { OnOk result ((y : ℕ) → y < length trails.old → trail_at trails.new y ≡ stood (ceases (on before.now y) (on behind.now y) more) place (trail_at trails.old y)) }
+    ensures is { OnOk result ((y : ℕ) → y < length trails.old → trail_at trails.new y
+        ≡ stood (ceases (on before.now y) (on behind.now y) more) place (trail_at trails.old y)) }
 {
     if more {
         let gone = behind.less(alloc, before)?;

@@ -59,9 +59,13 @@ Made at other new hs false = ApartIn (length at) at (on other) → ⊥
 
 -- what came of the check of a node, and of nodes
 abbrev pub NodeTried : List Where → Labels → NodeT ℕ → (old new hs : List ℕ) → Bool → Type 0
-NodeTried at ls x old new hs true = ((y : ℕ) → y < length at → on new y ≡ live_set ls (before x Stop) (on old) y) × Stands at new hs × InsideChecked (length at) at ls x (on old)
+NodeTried at ls x old new hs true =
+    ((y : ℕ) → y < length at → on new y ≡ live_set ls (before x Stop) (on old) y) × Stands at new hs
+    × InsideChecked (length at) at ls x (on old)
 NodeTried at ls x old new hs false = NodeChecked (length at) at ls x (on old) → ⊥
 
 abbrev pub ListTried : List Where → Labels → ListT ℕ → (old new hs : List ℕ) → Bool → Type 0
-ListTried at ls x old new hs true = ((y : ℕ) → y < length at → on new y ≡ live_set ls (joined x) (on old) y) × Stands at new hs × ListChecked (length at) at ls x (on old)
+ListTried at ls x old new hs true =
+    ((y : ℕ) → y < length at → on new y ≡ live_set ls (joined x) (on old) y) × Stands at new hs
+    × ListChecked (length at) at ls x (on old)
 ListTried at ls x old new hs false = ListChecked (length at) at ls x (on old) → ⊥

@@ -32,10 +32,19 @@ called _ x j r = r
 abbrev pub trailed : (x : ℕ) → List Label → NodesT ℕ → (behind : Bool) → (n : ℕ) → Trail → Trail
 trailed x ls Stop j n r = r
 trailed x ls (Do o c) j n r = stood (is_target (Do o c) x) n (stood (is_live x ls (Do o c) j) n (trailed x ls c j (suc n) r))
-trailed x ls (Call t f args c) j n r = stood (is_target (Call t f args c) x) n (stood (is_live x ls (Call t f args c) j) n (called (Call t f args c) x (is_live x ls c j) (trailed x ls c j (suc n) r)))
-trailed x ls (Choose p a b c) j n r = stood (is_live x ls (Choose p a b c) j) n (trailed x ls a (is_live x ls c j) (suc n) (trailed x ls b (is_live x ls c j) (suc (places a + n)) (trailed x ls c j (suc (places a + (places b + n))) r)))
-trailed x ls (Block b c) j n r = stood (is_live x ls (Block b c) j) n (trailed x (label false (is_live x ls c j) ∷ ls) b (is_live x ls c j) (suc n) (trailed x ls c j (suc (places b + n)) r))
-trailed x ls (Loop b c) j n r = stood (is_live x ls (Loop b c) j) n (trailed x (label (is_live x ls (Loop b c) j) (is_live x ls c j) ∷ ls) b (is_live x ls c j) (suc n) (trailed x ls c j (suc (places b + n)) r))
+trailed x ls (Call t f args c) j n r =
+    stood (is_target (Call t f args c) x) n (stood (is_live x ls (Call t f args c) j) n
+    (called (Call t f args c) x (is_live x ls c j) (trailed x ls c j (suc n) r)))
+trailed x ls (Choose p a b c) j n r =
+    stood (is_live x ls (Choose p a b c) j) n
+    (trailed x ls a (is_live x ls c j) (suc n)
+    (trailed x ls b (is_live x ls c j) (suc (places a + n)) (trailed x ls c j (suc (places a + (places b + n))) r)))
+trailed x ls (Block b c) j n r =
+    stood (is_live x ls (Block b c) j) n
+    (trailed x (label false (is_live x ls c j) ∷ ls) b (is_live x ls c j) (suc n) (trailed x ls c j (suc (places b + n)) r))
+trailed x ls (Loop b c) j n r =
+    stood (is_live x ls (Loop b c) j) n
+    (trailed x (label (is_live x ls (Loop b c) j) (is_live x ls c j) ∷ ls) b (is_live x ls c j) (suc n) (trailed x ls c j (suc (places b + n)) r))
 trailed x ls (Leave k c) j n r = stood (is_live x ls (Leave k c) j) n (trailed x ls c j (suc n) r)
 trailed x ls (Again k c) j n r = stood (is_live x ls (Again k c) j) n (trailed x ls c j (suc n) r)
 trailed x ls (Return p c) j n r = stood (is_live x ls (Return p c) j) n (trailed x ls c j (suc n) r)

@@ -1,10 +1,11 @@
-use Rattle.std.proofs.Common.{rules, arith, ◌≡◌, ◌<◌, ◌-◌, ◌||◌, Bool, false, List, ◌∷◌, map, eqb, length, drop, sym, ap, ◌∙◌}
+use Rattle.std.proofs.Common.{rules, arith, ◌≡◌, ◌<◌, ◌-◌, ◌+◌, ◌||◌, suc, Bool, false, List, ◌∷◌, map, eqb, length, drop, sym, ap, subst, ◌∙◌}
 use Rattle.mid_code.specs.Code.{Stop}
 use Rattle.mid_code.specs.Live.{Label, label, is_live}
 use Rattle.mid_code.specs.Spans.{places}
 use Rattle.mid_code.specs.Functions.{node, nodes, listed, before, joined, ChooseN, BlockN, LoopN}
 use Rattle.mid_code.specs.declared.node.Node.{the_lemmas}
 use Rattle.mid_live.specs.Sets.{on, room}
+use Rattle.reg_choose.specs.inner.Heads.{list_loops, ListTold}
 use Rattle.reg_choose.specs.inner.Marked.{marks}
 use Rattle.reg_choose.specs.inner.Trails.{stood}
 use Rattle.reg_choose.specs.inner.Sparse.{ceases, sparse}
@@ -12,6 +13,7 @@ use Rattle.reg_choose.specs.inner.Seen.{seen}
 use Rattle.reg_choose.proofs.Facts.{nodes_drop, live_node}
 use Rattle.reg_choose.proofs.Trailed.{choose_live, places_node}
 use Rattle.reg_choose.proofs.Walked.{seen_stood, seen_step, choose_seen, block_seen, loop_seen}
+use Rattle.reg_choose.proofs.Learned.{loops_turn}
 use Rattle.reg_choose.proofs.spans.+walk.Goals as goal
 
 pub walk_node-returns-in_ok-first-in-Choose-clause-trails : goal.walk_node-returns-in_ok-first-in-Choose-clause-trails
@@ -119,6 +121,7 @@ walk_nodes-loop-i-preserved t c =
       trails_len = e.trails_len ∙ i.trails_len;
       crossed_len = e.crossed_len ∙ i.crossed_len;
       live = λ y h. (let l = e.len in e.live y (omega (arith, h, l)) ∙ ap (λ z. is_live y (marks y c.args.m.now) (before x Stop) z) (i.live y (omega (arith, h, l))) ∙ sym (live_node x y (marks y c.args.m.now) d (on c.args.s.now y)) ∙ ap (λ z. is_live y (marks y c.args.m.now) z (on c.args.s.now y)) (sym j));
+      next = loops_turn c.args.ns.now c.loop-i.i c.args.next.now c.loop-i.next c.walk_node.new.next c.index-ns-i.result (nodes_drop c.args.ns.now c.loop-i.i c.index-ns-i.result (omega (arith, c.loop-i-test.true)) (let p = c.loop-i-test.true in let r = i.bound in omega (arith, p, r)) c.index-ns-i.is) i.next e.next;
       place = (let p = e.place in let q = i.place in omega (arith, k, m, p, q));
       trails = λ y h. (
           let l = e.trails_len in
@@ -129,3 +132,12 @@ walk_nodes-loop-i-preserved t c =
           let g = i.live y (omega (arith, h', a, b, q)) in
           seen_step x y (marks y c.args.m.now) d (nodes (drop (c.loop-i.i - 1) c.args.ns.now)) (on c.args.s.now y) (on c.loop-i.s y) c.more_from-more.result c.in_ok-first.first c.loop-i.first (seen c.args.trails.now c.args.crossed.now y) (seen c.loop-i.trails c.loop-i.crossed y) (seen c.walk_node.new.trails c.walk_node.new.crossed y) j e.place g c.more_from-more.ensures (i.trails y h') (e.trails y h'));
     }
+
+pub walk_nodes-told_each-requires-clause-told : goal.walk_nodes-told_each-requires-clause-told
+walk_nodes-told_each-requires-clause-told t c = λ w e. subst (λ z. ListTold z c.args.heads.now c.args.next.now (listed (map node c.args.ns.now))) (sym (e ∙ c.loop-i.invariant.len)) c.requires.told
+
+pub walk_nodes-told_each-requires-clause-after : goal.walk_nodes-told_each-requires-clause-after
+walk_nodes-told_each-requires-clause-after t c =
+    let h = c.loop-i-test.true in
+    let j : c.loop-i.i ≡ suc (c.loop-i.i - 1) = omega (arith, h) in
+    c.loop-i.invariant.next ∙ ap (λ z. list_loops (listed (map node (drop z c.args.ns.now))) + c.args.next.now) j

@@ -1,0 +1,24 @@
+use Rattle.std.proofs.Common.{arith, length, map, refl, sym, subst}
+use Rattle.mid_code.specs.Functions.{node, listed}
+use Rattle.reg_choose.specs.inner.Heads.{IsHead}
+use Rattle.reg_choose.proofs.Named.{named_loop}
+use Rattle.reg_choose.proofs.names.name_loop.Goals as goal
+
+pub returns-clause-next : goal.returns-clause-next
+returns-clause-next c =
+    let w = length c.args.s.now in
+    let b = listed (map node c.args.b.now) in
+    let h = c.index-heads-at.result in
+    let is : IsHead w h b = subst (λ z. IsHead w z b) (sym c.index-heads-at.is) (c.requires.told.1 h) in
+    let count = is.inside in
+    let first = c.in_ok-first.ensures in
+    let behind = c.in_ok-behind.ensures in
+    omega (arith, count, first, behind)
+
+pub returns-clause-is : goal.returns-clause-is
+returns-clause-is c =
+    let w = length c.args.s.now in
+    let b = listed (map node c.args.b.now) in
+    let h = c.index-heads-at.result in
+    let is : IsHead w h b = subst (λ z. IsHead w z b) (sym c.index-heads-at.is) (c.requires.told.1 h) in
+    named_loop w h b c.args.s.now c.join.new.self is refl c.join.ensures.is

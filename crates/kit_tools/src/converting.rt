@@ -5,7 +5,7 @@ ghost use Rattle.asset_pack.specs.Reading.{words_in};
 ghost use Rattle.cart_format.specs.Cartridge.{is_cart, total};
 ghost use Rattle.kit_tools.specs.Carrying.{FailsAt, GivesBy, Leaves};
 ghost use Rattle.kit_tools.specs.Causes.{HasCauses, HasCausesOr, IsOwn, counts};
-ghost use Rattle.kit_tools.specs.Converting.{assembled_due, disassembled_due, made_due, migrated_due, no_items, no_words, placed_unless, convert_due};
+ghost use Rattle.kit_tools.specs.Converting.{assembled_due, disassembled_due, made_due, migrated_due, no_words, text_words_due, convert_due};
 ghost use Rattle.kit_tools.specs.Converting.{ConvertsLong};
 ghost use Rattle.kit_tools.specs.Inputs.{or_refused};
 ghost use Rattle.kit_tools.specs.Migration.{IsLong, in_second, second_due};

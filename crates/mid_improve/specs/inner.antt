@@ -1,0 +1,4 @@
+pub mod Facts
+pub mod Slots
+pub mod Tables
+pub mod Listed

@@ -99,7 +99,7 @@ fn are_no_copies(table: &Table, qs: &[u32]) -> bool
     qs.iter().all(|q| is_no_copy(table, *q))
 }
 
-fn divides(o: Two) -> bool
+pub(crate) fn divides(o: Two) -> bool
     ensures { result ≡ divides o }
 {
     match o {
@@ -218,7 +218,7 @@ fn are_nodes_settled(table: &mut Table, ns: &[Node<u32>]) -> Result<bool, Memory
 
 /// Whether in the runs of a function's nodes no operator is left whose words are known, and no operand that is a copy. The error is want of memory.
 #[tactic(auto, using(crate::proofs::Joined::settled_joined))]
-pub fn are_runs_settled(alloc: Global, f: &Function<u32>) -> Result<bool, Memory>
+pub(crate) fn are_runs_settled(alloc: Global, f: &Function<u32>) -> Result<bool, Memory>
     ensures { IfOk result (λ b. b ≡ nodes_settled [] (function f.now).body) }
 {
     let mut table = Table::none(alloc);

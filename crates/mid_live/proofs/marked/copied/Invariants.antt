@@ -1,6 +1,6 @@
 use Rattle.std.proofs.Common.{length, ◌-◌}
 use Rattle.mid_live.proofs.Written.{Copied}
-use Rattle.mid_live.proofs.words.copied.Given as goal
+use Rattle.mid_live.proofs.marked.copied.Given as goal
 
 abbrev pub invariant-words : goal.invariant-words
 invariant-words l = Copied l.words l.i l.found.items

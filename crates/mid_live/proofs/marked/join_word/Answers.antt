@@ -1,6 +1,6 @@
 use Rattle.std.proofs.Common.{rules, arith, ◌≡◌, ◌/◌, get_or, bit_or, cond, eqb, ap, ◌∙◌}
 use Rattle.mid_live.proofs.Written.{joined_on}
-use Rattle.mid_live.proofs.words.join_word.Goals as goal
+use Rattle.mid_live.proofs.marked.join_word.Goals as goal
 
 pub returns-clause-is : goal.returns-clause-is
 returns-clause-is c = λ y h.

@@ -1,7 +1,7 @@
 use Rattle.std.proofs.Common.{rules, arith, ◌≡◌, ◌/◌, ◌^◌, ◌<◌, get_or, bit_and, cond, eqb, ap, ◌∙◌, w64}
 use Rattle.std.specs.Int.{bit_not}
 use Rattle.mid_live.proofs.Written.{left_off}
-use Rattle.mid_live.proofs.words.leave_word.Goals as goal
+use Rattle.mid_live.proofs.marked.leave_word.Goals as goal
 
 pub returns-clause-is : goal.returns-clause-is
 returns-clause-is c = λ y h.

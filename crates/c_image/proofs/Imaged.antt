@@ -89,9 +89,8 @@ module _ (p : ProgramT) (places : Places) (starts : List ℕ) (c : CompiledT) (w
     globals_are = ap global_addresses map_is ∙ addresses_are p.globals 0 (let total = sound.globals in omega (arith, total))
 
     pub is_image : (text : List ℕ) (table : LineTable) → text ≡ written c.items → read text ≡ Ok c.items → table ≡ table_of (address_in labels) p.functions os → length words ≤ 33554432
-        → IsImageOf p places starts (record { words = words; map = m; text = text; mid = c.mid; choices = c.choices; table = table })
+        → IsImageOf p places starts (record { words = words; map = m; text = text; items = c.items; mid = c.mid; choices = c.choices; table = table })
     is_image text table spelled reads table_is short = record {
-      items = c.items;
       spelled = spelled;
       reads = reads;
       faultless = compiled.emitted.faultless;

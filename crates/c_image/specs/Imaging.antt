@@ -34,6 +34,7 @@ use Rattle.asm_laws.specs.Labelled.{label_of_function}
 use Rattle.asm_laws.specs.Numbers.{behind}
 use Rattle.cycle_bound.specs.Forward.{HasNumber}
 use Rattle.c_image.specs.LoopFree.{IsLoopFree}
+use Rattle.c_image.specs.Ordered.{LabelsInOrder}
 use Rattle.c_image.specs.Mapping.{map_of}
 use Rattle.c_image.specs.Lines.{table_of}
 use Rattle.c_image.specs.declared.imaging.Image.{Image}
@@ -107,6 +108,8 @@ pub record IsImageOf (p : ProgramT) (places : Places) (starts : List ℕ) (i : I
   pub readable : AreReadable i.items
   pub labels : List (List ℕ × ℕ)
   pub words : Placed i.items i.words labels
+  -- the functions stand in their order, each with an instruction behind its label
+  pub ordered : LabelsInOrder (map (λ f. f.name) p.functions) i.items
   -- calls of a function that takes no turns, and calls only such functions, take at most a number of instructions
   pub numbered : (depth n : ℕ) (f : TFunctionT) → slice_get p.functions n ≡ Some f → IsLoopFree p depth f
       → HasNumber i.items (behind i.items (label_of_function f.name))

@@ -8,7 +8,7 @@ use Rattle.asm_items.specs.declared.item.AsmItem.TheVariants.{Label, Op, Integer
 use Rattle.asm_items.specs.Items.{Imm}
 use Rattle.assembler.specs.Faults.{fault_of}
 use Rattle.assembler.specs.Labels.{address_in}
-use Rattle.assembler.specs.Placed.{Placed}
+use Rattle.assembler.specs.Placed.{item_size, Placed}
 use Rattle.assembler.specs.Sizes.{total_size}
 use Rattle.c_types.specs.Programs.{TFunctionT, ProgramT}
 use Rattle.c_front.specs.declared.places.Places.{Places}
@@ -52,9 +52,15 @@ module _ (names : List (List ℕ)) where
 
 -- ---- the rows of a map
 
+label_more : (l : List ℕ) (items : List AsmItem) → total_size (Label l ∷ items) ≡ total_size items
+label_more l items =
+    let none : item_size (Label l) ≡ 0 = refl in
+    let more = total_more (Label l) items in
+    omega (arith, none, more)
+
 labels_size : (marks : List AsmItem) → AreLabels marks → total_size marks ≡ 0
 labels_size [] h = total_none
-labels_size (Label l ∷ marks) h = total_more (Label l) marks ∙ labels_size marks h
+labels_size (Label l ∷ marks) h = label_more l marks ∙ labels_size marks h
 labels_size (Op i ∷ marks) h = absurd h
 labels_size (Integer w ∷ marks) h = absurd h
 labels_size (Pointer l ∷ marks) h = absurd h
@@ -73,7 +79,7 @@ module _ (items : List AsmItem) (words : List ℕ) (labels : List (List ℕ × �
       let next : items ≡ ((front ++ marked) ++ Op h.3 ∷ []) ++ h.2 = there ∙ sym (append_assoc (front ++ marked) (Op h.3 ∷ []) h.2) in
       let at : address_in labels name ≡ 0x20000000 + total_size front = stands_at items words labels faultless placed front (h.1 ++ Op h.3 ∷ h.2) name whole in
       let sum = total_append before h.0 in
-      let none : total_size marked ≡ 0 = total_more (Label name) h.1 ∙ labels_size h.1 h.5 in
+      let none : total_size marked ≡ 0 = label_more name h.1 ∙ labels_size h.1 h.5 in
       let upto = total_append front marked in
       let past = total_append (front ++ marked) (Op h.3 ∷ []) in
       let one = total_more (Op h.3) [] in

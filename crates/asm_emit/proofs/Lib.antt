@@ -1,6 +1,7 @@
 pub mod Calling
 pub mod InMemory
 pub mod Fronts
+pub mod Coded
 pub mod Forward
 pub mod Agreeing
 pub mod ReadableLabels

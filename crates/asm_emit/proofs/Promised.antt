@@ -28,6 +28,7 @@ use Rattle.asm_emit.specs.inner.Words.{AreWords, TextsAreWords}
 use Rattle.asm_emit.specs.EmittedFrom.{CanBeEmitted, HasInstruction, AreData, IsCalled, AreItemsOf, AreFunctions, IsEmitted}
 use Rattle.asm_laws.proofs.Sizes.{program_size}
 use Rattle.asm_laws.proofs.Known.{no_fault}
+use Rattle.asm_emit.proofs.Coded.{own_code}
 use Rattle.asm_emit.proofs.Forward.{own_go_on}
 use Rattle.asm_emit.proofs.Readable.{program_readable}
 use Rattle.asm_emit.proofs.Agreeing.{sound, few_labels, words_agree}
@@ -79,6 +80,7 @@ module _ (x : CodeT Where) (W : Whole) (count : length W.names ≡ length x.func
       let away = mark n ∷ gone.0 in
       record {
         some = some_later (frame_made F.size) (items ++ exit_items n F) (some_later items (exit_items n F) (subst HasInstruction (sym gone.1) (some_later gone.0 (item.Op (instr.Plain RET) ∷ []) tt)));
+        code = own_code W f n g.body;
         ends = (
           frame_made F.size ++ (items ++ away),
           ap (λ z. frame_made F.size ++ (items ++ mark n ∷ z)) gone.1 ∙ ap (λ z. frame_made F.size ++ z) (sym (append_assoc items away (item.Op (instr.Plain RET) ∷ []))) ∙ sym (append_assoc (frame_made F.size) (items ++ away) (item.Op (instr.Plain RET) ∷ [])),

@@ -1,6 +1,6 @@
 -- What `emit` promises: assembly items of placed code.
 use Rattle.std.specs.Prelude.{ℕ, ◌≡◌, ◌≤◌, ◌+◌, List, [], ◌∷◌, ◌++◌, length, sum_by, slice_get, Some, None, true}
-use Rattle.std.specs.List.{list_all}
+use Rattle.std.specs.List.{AllByRecursion, list_all}
 use Rattle.either.specs.declared.Either.TheVariants.{Right}
 use Rattle.v32_isa.specs.declared.instruction.Plain.TheVariants.{RET, MOVS, SETS}
 use Rattle.v32_isa.specs.declared.instruction.Go.TheVariants.{JMP, CALL}
@@ -43,6 +43,13 @@ HasInstruction [] = ⊥
 HasInstruction (Op i ∷ items) = Unit {0}
 HasInstruction (_ ∷ items) = HasInstruction items
 
+-- a label or an instruction, and no datum
+abbrev pub IsCode : AsmItem → Type 0
+IsCode (Label l) = Unit {0}
+IsCode (Op i) = Unit {0}
+IsCode (Integer w) = ⊥
+IsCode (Pointer l) = ⊥
+
 -- labels and words, as literals are
 abbrev pub AreData : List AsmItem → Type 0
 AreData [] = Unit {0}
@@ -73,9 +80,10 @@ abbrev pub AllGoOn : (names : List (List ℕ)) → NodesT Where → List AsmItem
 AllGoOn names body [] = Unit {0}
 AllGoOn names body (item ∷ items) = GoesOn names body item items × AllGoOn names body items
 
--- The items of a function: they end with its return. Where it has no loop, each goes on.
+-- The items of a function: no datum stands among them, and they end with its return. Where it has no loop, each goes on.
 pub record AreItemsOf (names : List (List ℕ)) (f : FunctionT Where) (items : List AsmItem) : Type 0 where
   pub some : HasInstruction items
+  pub code : AllByRecursion IsCode items
   pub ends : (before : List AsmItem) × (items ≡ before ++ Op (instr.Plain RET) ∷ [])
   pub straight : loops f.body ≡ 0 → AllGoOn names f.body items
 

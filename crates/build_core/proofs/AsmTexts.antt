@@ -1,5 +1,6 @@
--- The assembly text of what was packed reads as items.
-use Rattle.std.proofs.Common.{ℕ, List, ap, ◌∙◌}
+-- The assembly text of what was packed reads as its items.
+use Rattle.std.proofs.Common.{ℕ, List, sym, ap, ◌∙◌}
+use Rattle.std.specs.Prelude.{Ok}
 use Rattle.asm_reader.specs.Reading.{read}
 use Rattle.c_types.specs.Programs.{ProgramT}
 use Rattle.c_front.specs.declared.places.Places.{Places}
@@ -10,5 +11,5 @@ use Rattle.build_core.specs.Build.{IsAsmText}
 use Rattle.build_core.specs.inner.Packing.{IsPackedFrom}
 
 module _ (p : ProgramT) (places : Places) (starts : List ℕ) (i : ImageT) (of : IsImageOf p places starts i) (title : List ℕ) (a : Assets) (tokens : ℕ) where
-  pub text_reads : (b : Built) → IsPackedFrom title i a tokens b → IsAsmText b.asm
-  text_reads b h = (of.items, ap read h.asm_is ∙ of.reads)
+  pub text_reads : (b : Built) → IsPackedFrom title i a tokens b → IsAsmText b
+  text_reads b h = ap read h.asm_is ∙ of.reads ∙ ap Ok (sym h.items_are)

@@ -120,6 +120,7 @@ module _ (text : List ℕ) (p : Project) (is : IsProject text p) (s : Checked) w
               cart_is = h.cart_is;
               map_is = h.map_is;
               asm_is = h.asm_is;
+              items_are = h.items_are;
               mid_is = h.mid_is;
               choices_is = h.choices_is;
               tokens_are = h.tokens_are ∙ ap (λ (places : Places). length places.tokens) source.of_unit.places;

@@ -15,19 +15,21 @@ use crate::fronts::front;
 use crate::packing::packed;
 use crate::reading::project_in;
 use crate::sources::token_count;
+use asm_items::AsmItem;
 use c_image::image_of;
 use kit_base::{Files, Seq};
 use mid_code::{Choice, Mid};
 use project_text::Map;
 use std::alloc::Global;
 
-/// The bytes of a cartridge, the map of its program, the program's assembly text, the mid code for which places were chosen, its choices, that of
-/// the start first, and the number of tokens that its source stands for, with all that it includes, at most 200,000.
+/// The bytes of a cartridge, the map of its program, the program's assembly text, the items that this reads as, the mid code for which places were
+/// chosen, its choices, that of the start first, and the number of tokens that its source stands for, with all that it includes, at most 200,000.
 #[derive(Drop)]
 pub struct Built {
     pub cart: Seq<u8>,
     pub map: Map,
     pub asm: Seq<u8>,
+    pub items: Seq<AsmItem>,
     pub mid: Mid,
     pub choices: Seq<Choice>,
     pub tokens: u32,
@@ -51,8 +53,8 @@ pub fn build_from<F: Files>(
     ensures reached { IfSome (F.held files.old) (λ m. FailsAt (IsReadBeside m project.now) result) }
     // The cartridge is one that is read again.
     ensures cartridge { IfOk result (λ b. IsCartText b.cart) }
-    // The assembly text is one that reads as items.
-    ensures asm { IfOk result (λ b. IsAsmText b.asm) }
+    // The assembly text reads as the items.
+    ensures asm { IfOk result IsAsmText }
     ensures kinds { IfErr result (IsOfBuilding project.now) }
     ensures causes { HasCauses project.now result (F.faults files.old) (F.faults files.new)
         (F.misses files.old) (F.misses files.new) (F.overs files.old) (F.overs files.new) }
@@ -91,8 +93,8 @@ pub fn build<F: Files>(alloc: Global, files: &mut F, project: &[u8]) -> Result<B
     ensures reached { IfSome (F.held files.old) (λ m. FailsAt (IsReadToBuild m project.now) result) }
     // The cartridge is one that is read again.
     ensures cartridge { IfOk result (λ b. IsCartText b.cart) }
-    // The assembly text is one that reads as items.
-    ensures asm { IfOk result (λ b. IsAsmText b.asm) }
+    // The assembly text reads as the items.
+    ensures asm { IfOk result IsAsmText }
     ensures kinds { IfErr result (CanCome project.now) }
     ensures causes { HasCauses project.now result (F.faults files.old) (F.faults files.new)
         (F.misses files.old) (F.misses files.new) (F.overs files.old) (F.overs files.new) }

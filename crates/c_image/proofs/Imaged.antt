@@ -32,12 +32,14 @@ use Rattle.asm_laws.specs.Tables.{addresses}
 use Rattle.asm_emit.specs.EmittedFrom.{AreFunctions}
 use Rattle.c_compile.specs.Compiling.{CompiledT, IsCompiled, names_of}
 use Rattle.c_image.specs.Mapping.{map_of}
+use Rattle.c_image.specs.Ordered.{LabelsInOrder}
 use Rattle.c_image.specs.Lines.{files_behind, rows_of, table_of}
 use Rattle.c_image.specs.Imaging.{AreStarts, IsImageOf, frame_sizes, global_addresses}
 use Rattle.c_image.proofs.LoopFree.{numbered}
 use Rattle.c_image.proofs.Files.{few_files, all_texts, texts_at, lines_at, told_behind}
 use Rattle.c_image.proofs.Mapped.{sizes_are, addresses_are}
 use Rattle.c_image.proofs.Named.{names_are}
+use Rattle.c_image.proofs.Ordered.{in_order}
 use Rattle.c_image.proofs.Rising.{count, rise, some_words}
 
 few_rows : (address : List ℕ → ℕ) (files : List (List ℕ)) (fs : List TFunctionT) (os : List Place) → length (rows_of address files fs os) ≤ length os
@@ -89,15 +91,15 @@ module _ (p : ProgramT) (places : Places) (starts : List ℕ) (c : CompiledT) (w
     globals_are = ap global_addresses map_is ∙ addresses_are p.globals 0 (let total = sound.globals in omega (arith, total))
 
     pub is_image : (text : List ℕ) (table : LineTable) → text ≡ written c.items → read text ≡ Ok c.items → table ≡ table_of (address_in labels) p.functions os → length words ≤ 33554432
-        → IsImageOf p places starts (record { words = words; map = m; text = text; mid = c.mid; choices = c.choices; table = table })
+        → IsImageOf p places starts (record { words = words; map = m; text = text; items = c.items; mid = c.mid; choices = c.choices; table = table })
     is_image text table spelled reads table_is short = record {
-      items = c.items;
       spelled = spelled;
       reads = reads;
       faultless = compiled.emitted.faultless;
       readable = compiled.emitted.readable;
       labels = labels;
       words = placed;
+      ordered = let f = compiled.emitted.functions in subst (λ (is : List AsmItem). LabelsInOrder (names_of p) is) (sym f.2) (in_order (names_of p) (names_of p) c.placed.code.functions f.0 f.1 f.3);
       numbered = let f = compiled.emitted.functions in numbered p c.items compiled.emitted.faultless (names_of p) f.0 f.1 c.placed.code.functions f.2 refl f.3 compiled.straight;
       map_is = map_is ∙ ap (λ sizes. map_of p sizes (length words) (address_in labels)) (sym frames_are);
       table_is = table_is;

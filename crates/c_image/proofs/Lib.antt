@@ -5,4 +5,5 @@ mod Mapped
 mod Named
 mod Told
 mod LoopFree
+mod Ordered
 mod Imaged

@@ -23,7 +23,7 @@ use Rattle.c_image.specs.Lines.{number_of, rows_of}
 
 -- ---- sizes
 
-op_has_words : (item : AsmItem) → HasInstruction (item ∷ []) → 1 ≤ item_size item
+pub op_has_words : (item : AsmItem) → HasInstruction (item ∷ []) → 1 ≤ item_size item
 op_has_words (Op i) h = omega arith
 op_has_words (Label name) h = absurd h
 op_has_words (Integer w) h = absurd h
@@ -62,7 +62,7 @@ module _ (items : List AsmItem) (words : List ℕ) (labels : List (List ℕ × �
   pub count : length words ≡ total_size items
   count = ap length placed.words_are ∙ words_length (address_in labels) items
 
-  stands_at : (before after : List AsmItem) (name : List ℕ) → items ≡ before ++ Label name ∷ after → address_in labels name ≡ 0x20000000 + total_size before
+  pub stands_at : (before after : List AsmItem) (name : List ℕ) → items ≡ before ++ Label name ∷ after → address_in labels name ≡ 0x20000000 + total_size before
   stands_at before after name e =
       let none : fault_of (before ++ Label name ∷ after) ≡ None = subst (λ (is : List AsmItem). fault_of is ≡ None) e faultless in
       let there : Placed (before ++ Label name ∷ after) words labels = subst (λ (is : List AsmItem). Placed is words labels) e placed in

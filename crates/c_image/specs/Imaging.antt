@@ -34,16 +34,18 @@ use Rattle.asm_laws.specs.Labelled.{label_of_function}
 use Rattle.asm_laws.specs.Numbers.{behind}
 use Rattle.cycle_bound.specs.Forward.{HasNumber}
 use Rattle.c_image.specs.LoopFree.{IsLoopFree}
+use Rattle.c_image.specs.Ordered.{LabelsInOrder}
 use Rattle.c_image.specs.Mapping.{map_of}
 use Rattle.c_image.specs.Lines.{table_of}
 use Rattle.c_image.specs.declared.imaging.Image.{Image}
 
--- The words of a program, its map, its assembly text, the mid code for which places were chosen, the choices, that of the start first, and its
--- line table.
+-- The words of a program, its map, its assembly text, the items that this is written from, the mid code for which places were chosen, the choices,
+-- that of the start first, and its line table.
 pub record ImageT : Type 0 where
   pub words : List ℕ
   pub map : Map
   pub text : List ℕ
+  pub items : List AsmItem
   pub mid : CodeT ℕ
   pub choices : List (List Where)
   pub table : LineTable
@@ -53,6 +55,7 @@ image i = record {
   words = i.words.items;
   map = i.map;
   text = i.text.items;
+  items = i.items.items;
   mid = mid i.mid;
   choices = places_of i.choices.items;
   table = record { files = i.files.items; rows = i.rows.items };
@@ -97,18 +100,19 @@ pub record IsMidOf (p : ProgramT) (i : ImageT) : Type 0 where
 
 -- The image of a program whose functions begin at these tokens.
 pub record IsImageOf (p : ProgramT) (places : Places) (starts : List ℕ) (i : ImageT) : Type 0 where
-  -- the text is the written form of items and reads as them, and the words are those that these are placed as
-  pub items : List AsmItem
-  pub spelled : i.text ≡ written items
-  pub reads : read i.text ≡ Ok items
+  -- the text is the written form of the items and reads as them, and the words are those that these are placed as
+  pub spelled : i.text ≡ written i.items
+  pub reads : read i.text ≡ Ok i.items
   -- labels are distinct and all there; registers, ports and numbers are in their ranges
-  pub faultless : fault_of items ≡ None
-  pub readable : AreReadable items
+  pub faultless : fault_of i.items ≡ None
+  pub readable : AreReadable i.items
   pub labels : List (List ℕ × ℕ)
-  pub words : Placed items i.words labels
+  pub words : Placed i.items i.words labels
+  -- the functions stand in their order, each with an instruction behind its label
+  pub ordered : LabelsInOrder (map (λ f. f.name) p.functions) i.items
   -- calls of a function that takes no turns, and calls only such functions, take at most a number of instructions
   pub numbered : (depth n : ℕ) (f : TFunctionT) → slice_get p.functions n ≡ Some f → IsLoopFree p depth f
-      → HasNumber items (behind items (label_of_function f.name))
+      → HasNumber i.items (behind i.items (label_of_function f.name))
   -- the map and the line table tell of them
   pub map_is : i.map ≡ map_of p (frame_sizes i.map) (length i.words) (address_in labels)
   pub table_is : i.table ≡ table_of (address_in labels) p.functions (map (place_at places) starts)

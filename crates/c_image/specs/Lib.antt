@@ -1,5 +1,6 @@
 pub mod Mapping
 pub mod Lines
 pub mod LoopFree
+pub mod Ordered
 pub mod Imaging
 pub mod inner

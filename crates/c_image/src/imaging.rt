@@ -12,6 +12,7 @@ use crate::assembling::{Assembled, assemble_items};
 use crate::lines::{files_of, rows_of};
 use crate::mapping::map_of;
 use crate::naming::labels_in;
+use asm_items::AsmItem;
 use assembler::Placement;
 use c_check::Program;
 use c_compile::{Compiled, compile};
@@ -23,13 +24,14 @@ use mid_code::{Choice, Mid};
 use project_text::Map;
 use std::alloc::Global;
 
-/// The words of a program, its map, its assembly text, the mid code for which places were chosen, the choices, that of the start first; and the
-/// files and rows of its line table.
+/// The words of a program, its map, its assembly text, the items that this is the written form of, the mid code for which places were chosen, the
+/// choices, that of the start first; and the files and rows of its line table.
 #[derive(Drop)]
 pub struct Image {
     pub words: Vec<u32>,
     pub map: Map,
     pub text: Vec<u8>,
+    pub items: Vec<AsmItem>,
     pub mid: Mid,
     pub choices: Vec<Choice>,
     pub files: Vec<Name>,
@@ -93,11 +95,17 @@ fn image_compiled(
         places,
         starts,
     )?;
-    let Compiled { mid, choices, .. } = made;
+    let Compiled {
+        mid,
+        choices,
+        items,
+        ..
+    } = made;
     Ok(Image {
         words,
         map,
         text,
+        items,
         mid,
         choices,
         files,

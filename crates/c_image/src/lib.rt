@@ -2,13 +2,16 @@
 //!
 //! It promises that the text reads as the items that the compiler made of the program, that the words are those that these items are placed as,
 //! and that the map and the table tell of these words: where functions and globals stand, how large frames are, and at which line of which file
-//! each function is defined. It stands on the compiler, the assembler, and the forms of maps and cartridges.
+//! each function is defined. Functions stand in their order, each with an instruction behind its label. It stands on the compiler, the
+//! assembler, and the forms of maps and cartridges.
 #![tactic(auto)]
 
 mod assembling;
 mod imaging;
+mod laws;
 mod lines;
 mod mapping;
 mod naming;
 
 pub use imaging::{Image, image_of};
+pub use laws::functions_stand_at_instructions;

@@ -1,9 +1,8 @@
 -- The lines that tell of functions (the kit's page on commands, the lines of `bounds`).
-use Rattle.std.specs.Prelude.{ℕ, ◌≡◌, List, [], ◌∷◌, ◌++◌, Ok, codes}
+use Rattle.std.specs.Prelude.{ℕ, ◌≡◌, List, [], ◌∷◌, ◌++◌, codes}
 use Rattle.std.specs.Fmt.{decimal}
 use Rattle.std.specs.List.{AllZip, flat_map}
 use Rattle.asm_items.specs.declared.item.AsmItem.{AsmItem}
-use Rattle.asm_reader.specs.Reading.{read}
 use Rattle.cycle_bound.specs.declared.bound.Bound.{Bound}
 use Rattle.cycle_bound.specs.declared.bound.Bound.TheVariants.{Most, Over, Unbounded}
 use Rattle.cycle_bound.specs.Told.{IsBoundOf}
@@ -22,10 +21,8 @@ bound_lines (name ∷ names) (b ∷ bs) = bound_line name b ++ bound_lines names
 bound_lines [] bs = []
 bound_lines (name ∷ names) [] = []
 
--- The text reads as items, and each function has among them the bound that its line tells.
-pub record IsTold (asm : List ℕ) (names : List (List ℕ)) (lines : List ℕ) : Type 0 where
-  pub items : List AsmItem
-  pub reads : read asm ≡ Ok items
+-- Each function has among these items the bound that its line tells.
+pub record IsTold (items : List AsmItem) (names : List (List ℕ)) (lines : List ℕ) : Type 0 where
   pub bounds : List Bound
   pub exact : AllZip (IsBoundOf items) names bounds
   pub lines_are : lines ≡ bound_lines names bounds

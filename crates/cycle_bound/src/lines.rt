@@ -1,12 +1,9 @@
 // The lines that tell of functions.
-ghost use Rattle.std.specs.Prelude.{List, ◌≡◌, IfOk, Ok};
-ghost use Rattle.asm_items.specs.declared.item.AsmItem.{AsmItem};
-ghost use Rattle.asm_reader.specs.Reading.{read};
+ghost use Rattle.std.specs.Prelude.{◌≡◌, IfOk};
 ghost use Rattle.cycle_bound.specs.Lines.{IsTold, bound_line, bound_lines};
 
 use crate::bound::{Bound, bounds};
 use asm_items::AsmItem;
-use asm_reader::{AsmErr, read_asm};
 use kit_base::{Memory, Name, join_pieces};
 use std::alloc::Global;
 
@@ -47,25 +44,11 @@ fn bound_lines(alloc: Global, names: &[Name], bounds: &[Bound]) -> Result<Vec<u8
     Ok(lines)
 }
 
-/// The items of a text that reads as such.
-fn read_again(alloc: Global, asm: &[u8]) -> Result<Vec<AsmItem>, Memory>
-    requires { (items : List AsmItem) × (read asm.now ≡ Ok items) }
-    ensures { IfOk result (λ v. read asm.now ≡ Ok v.items) }
+/// A line for each of these functions of the program of these items, in their order: `bound NAME N`, `bound NAME over` or `bound NAME none`, each
+/// with LF. The bounds are those of `bounds`. The error is want of memory.
+pub fn tell_bounds(alloc: Global, items: &[AsmItem], names: &[Name]) -> Result<Vec<u8>, Memory>
+    ensures told { IfOk result (λ v. IsTold items.now names.now v.items) }
 {
-    match read_asm(alloc, asm) {
-        Ok(items) => Ok(items),
-        Err(AsmErr::At { .. }) => unreachable!(),
-        Err(AsmErr::Memory) => Err(Memory),
-    }
-}
-
-/// A line for each of these functions of the program of an assembly text, in their order: `bound NAME N`, `bound NAME over` or `bound NAME none`.
-/// The error is want of memory.
-pub fn tell_bounds(alloc: Global, asm: &[u8], names: &[Name]) -> Result<Vec<u8>, Memory>
-    requires { (items : List AsmItem) × (read asm.now ≡ Ok items) }
-    ensures told { IfOk result (λ v. IsTold asm.now names.now v.items) }
-{
-    let items = read_again(alloc, asm)?;
-    let told = bounds(alloc, &items, names)?;
+    let told = bounds(alloc, items, names)?;
     bound_lines(alloc, names, &told)
 }

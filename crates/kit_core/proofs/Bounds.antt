@@ -51,7 +51,7 @@ pub nothing : (held : Option Held) → IfSome held (λ m. Unit {0})
 nothing None = tt
 nothing (Some m) = tt
 
-pub bounds_of : (project text cart map_name text_name : List ℕ) (b : Built) (lines : List ℕ) (held : Option Held) → IfSome held (λ m. IsBuilt m text b) → IsTold b.asm (function_names b.map) lines
+pub bounds_of : (project text cart map_name text_name : List ℕ) (b : Built) (lines : List ℕ) (held : Option Held) → IfSome held (λ m. IsBuilt m text b) → IsTold b.items (function_names b.map) lines
     → IfSome held (λ m. read_bounds_due project cart map_name text_name m (Ok text) (Ok (bounds_work cart map_name text_name b lines)))
 bounds_of project text cart map_name text_name b lines None h told = tt
 bounds_of project text cart map_name text_name b lines (Some m) h told = record { built = b; is_built = h; lines = lines; told = told; work_is = refl }
@@ -107,33 +107,31 @@ StayingLaw =
     → (times : ℕ) (globals : List ℕ) (meaning : Meaning) → AgreesWithin times globals meaning words → (names : List (List ℕ)) (bounds : List Bound) → AllZip (IsBoundOf items) names bounds
     → StayWithin globals meaning words (map (λ name. address_in labels (label_of_function name)) names) bounds
 
-same_items : {A E : Type 0} (x y : A) (r : Result A E) → r ≡ Ok x → r ≡ Ok y → x ≡ y
-same_items x y r e f = let g : Ok x ≡ Ok y = sym e ∙ f in cc
+text_reads : (m : Held) (text : List ℕ) (b : Built) → IsBuilt m text b → read b.asm ≡ Ok b.items
+text_reads m text b built = ap read built.asm_is ∙ built.of.image_is.reads ∙ ap Ok (sym built.items_are)
 
 module _ (stay : StayingLaw) (back : ReadBack) where
-  stays : (m : Held) (text : List ℕ) (b : Built) (built : IsBuilt m text b) (items : List AsmItem) → read b.asm ≡ Ok items → (bounds : List Bound) → AllZip (IsBoundOf items) (function_names b.map) bounds
+  stays : (m : Held) (text : List ℕ) (b : Built) (built : IsBuilt m text b) (bounds : List Bound) → AllZip (IsBoundOf b.items) (function_names b.map) bounds
       → StayWithin (global_addresses b.map) (c_runs built.of.program (frame_sizes b.map)) built.of.image.words (function_addresses b.map) bounds
-  stays m text b built items reads bounds exact =
+  stays m text b built bounds exact =
       let image = built.of.image_is in
-      let same : items ≡ image.items = same_items items image.items (read b.asm) reads (ap read built.asm_is ∙ image.reads) in
       let map_is = built.map_is in
       let at : map (λ name. address_in image.labels (label_of_function name)) (function_names b.map) ≡ function_addresses b.map =
       at_rows b.map built.of.program (frame_sizes built.of.image.map) _ (address_in image.labels) (map_is ∙ image.map_is) in
       subst (λ addresses. StayWithin (global_addresses b.map) (c_runs built.of.program (frame_sizes b.map)) built.of.image.words addresses bounds) at
-      (stay image.items built.of.image.words image.labels image.faultless image.readable image.words image.few 64 (global_addresses b.map) (c_runs built.of.program (frame_sizes b.map)) (words_agree m text b built)
-      (function_names b.map) bounds (subst (λ is. AllZip (IsBoundOf is) (function_names b.map) bounds) same exact))
+      (stay built.of.image.items built.of.image.words image.labels image.faultless image.readable image.words image.few 64 (global_addresses b.map) (c_runs built.of.program (frame_sizes b.map)) (words_agree m text b built)
+      (function_names b.map) bounds (subst (λ is. AllZip (IsBoundOf is) (function_names b.map) bounds) built.items_are exact))
 
-  numbered : (m : Held) (text : List ℕ) (b : Built) (built : IsBuilt m text b) (items : List AsmItem) → read b.asm ≡ Ok items → (bounds : List Bound) → AllZip (IsBoundOf items) (function_names b.map) bounds
+  numbered : (m : Held) (text : List ℕ) (b : Built) (built : IsBuilt m text b) (bounds : List Bound) → AllZip (IsBoundOf b.items) (function_names b.map) bounds
       → (depth n : ℕ) (f : TFunctionT) → slice_get built.of.program.functions n ≡ Some f → IsLoopFree built.of.program depth f → slice_get bounds n ≡ Some Unbounded → ⊥
-  numbered m text b built items reads bounds exact depth n f at free none =
+  numbered m text b built bounds exact depth n f at free none =
       let image = built.of.image_is in
-      let same : items ≡ image.items = same_items items image.items (read b.asm) reads (ap read built.asm_is ∙ image.reads) in
-      let x = beside (IsBoundOf items) (function_names b.map) bounds n Unbounded exact none in
+      let x = beside (IsBoundOf b.items) (function_names b.map) bounds n Unbounded exact none in
       let named : slice_get (map (λ row. row.0) (frames_at (address_in image.labels) built.of.program.functions (frame_sizes built.of.image.map))) n ≡ Some x.0 =
       ap (λ (k : Map). slice_get (function_names k) n) (sym (built.map_is ∙ image.map_is)) ∙ x.1 in
       let name : x.0 ≡ f.name = name_at (address_in image.labels) built.of.program.functions (frame_sizes built.of.image.map) n x.0 f named at in
-      let forbids : Forbids image.items (behind image.items (label_of_function f.name)) =
-      subst (λ is. Forbids is (behind is (label_of_function f.name))) same (subst (λ k. Forbids items (behind items (label_of_function k))) name (forbidden items x.0 x.2)) in
+      let forbids : Forbids built.of.image.items (behind built.of.image.items (label_of_function f.name)) =
+      subst (λ is. Forbids is (behind is (label_of_function f.name))) built.items_are (subst (λ k. Forbids b.items (behind b.items (label_of_function k))) name (forbidden b.items x.0 x.2)) in
       (image.numbered depth n f at free).1.allowed forbids
 
   bounded_into : (project cart map_name text_name : List ℕ) (m : Held) (after : Option Held) (before put : Option (List ℕ)) (w : Work) (r : Result (List ℕ) FileErr) → AreThree cart map_name text_name
@@ -149,15 +147,14 @@ module _ (stay : StayingLaw) (back : ReadBack) where
         cart_stands = cart_there m cart map_name text_name d.built after three stands;
         map_stands = map_there m cart map_name text_name d.built after three stands;
         text_stands = text_there m cart map_name text_name d.built after three stands;
-        items = d.told.items;
-        reads = d.told.reads;
+        reads = text_reads m text d.built d.is_built;
         bounds = d.told.bounds;
         exact = d.told.exact;
-        numbered = numbered m text d.built d.is_built d.told.items d.told.reads d.told.bounds d.told.exact;
+        numbered = numbered m text d.built d.is_built d.told.bounds d.told.exact;
         told = p ∙ ap (λ (v : Work). putting v.text before) (sym d.work_is) ∙ ap (λ lines. putting lines before) d.told.lines_are;
         cartridge = cartridge_of d.is_built.of.parts.title d.is_built.of.image (assets d.is_built.textures d.is_built.sounds);
         cartridge_is = back m text d.built d.is_built;
-        stay = stays m text d.built d.is_built d.told.items d.told.reads d.told.bounds d.told.exact;
+        stay = stays m text d.built d.is_built d.told.bounds d.told.exact;
       }
   bounded_into project cart map_name text_name m after before put w (Err f) three read d e p = absurd cc
 

@@ -5,7 +5,6 @@ use Rattle.std.specs.List.{AllZip}
 use Rattle.kit_base.specs.Held.{Held}
 use Rattle.kit_base.specs.Effects.{all_done}
 use Rattle.kit_base.specs.Outside.{due}
-use Rattle.asm_items.specs.declared.item.AsmItem.{AsmItem}
 use Rattle.asm_reader.specs.Reading.{read}
 use Rattle.cart_format.specs.Cartridge.{Cartridge}
 use Rattle.cart_format.specs.Reading.{cart_of}
@@ -43,10 +42,9 @@ pub record IsBoundedInto (project cart map_name text_name : List ℕ) (held : He
   pub cart_stands : IsSomeAnd after (λ files. get files cart ≡ Some built.cart)
   pub map_stands : IsSomeAnd after (λ files. get files map_name ≡ Some (map_text built.map))
   pub text_stands : IsSomeAnd after (λ files. get files text_name ≡ Some built.asm)
-  pub items : List AsmItem
-  pub reads : read built.asm ≡ Ok items
+  pub reads : read built.asm ≡ Ok built.items
   pub bounds : List Bound
-  pub exact : AllZip (IsBoundOf items) (function_names built.map) bounds
+  pub exact : AllZip (IsBoundOf built.items) (function_names built.map) bounds
   pub numbered : (depth n : ℕ) (f : TFunctionT) → slice_get is_built.of.program.functions n ≡ Some f → IsLoopFree is_built.of.program depth f
       → slice_get bounds n ≡ Some Unbounded → ⊥
   pub told : put ≡ putting (bound_lines (function_names built.map) bounds) before

@@ -162,12 +162,12 @@ bounds_effects cart map_name text_name built = outputs_of cart map_name built ++
 abbrev pub bounds_work : (cart map_name text_name : List ℕ) → Built → (lines : List ℕ) → Work
 bounds_work cart map_name text_name built lines = record { effects = bounds_effects cart map_name text_name built; text = lines; status = 0 }
 
--- what was built of the project's text, and the lines of its functions, by the assembly text that is written
+-- what was built of the project's text, and the lines of its functions, by the items that the assembly text that is written reads as
 pub record IsBounds (text cart map_name text_name : List ℕ) (held : Held) (work : Work) : Type 0 where
   pub built : Built
   pub is_built : IsBuilt held text built
   pub lines : List ℕ
-  pub told : IsTold built.asm (function_names built.map) lines
+  pub told : IsTold built.items (function_names built.map) lines
   pub work_is : bounds_work cart map_name text_name built lines ≡ work
 
 abbrev pub text_bounds_due : (project text cart map_name text_name : List ℕ) → Held → Result Work DueRefusal → Type 0

@@ -1,7 +1,6 @@
 // The command `bounds`.
 ghost use Rattle.std.specs.Prelude.{◌≡◌, IfSome, IfOk, OnOk, IfErr, map};
 ghost use Rattle.kit_base.specs.Effects.{all_done};
-ghost use Rattle.build_core.specs.Build.{IsAsmText};
 ghost use Rattle.cycle_bound.specs.Lines.{IsTold};
 ghost use Rattle.kit_tools.specs.Carrying.{IsCut, LeavesBy};
 ghost use Rattle.kit_tools.specs.Causes.{HasCauses, HasCausesOr, counts};
@@ -26,13 +25,12 @@ fn names_of(alloc: Global, rows: &[(Name, u32, u32)]) -> Result<Vec<Name>, OutOf
     Ok(names)
 }
 
-/// The lines of the functions of what was built, by its assembly text.
+/// The lines of the functions of what was built, by the items of its assembly text.
 fn lines_of(alloc: Global, built: &Built) -> Result<Vec<u8>, OutOfMemory>
-    requires { IsAsmText built.now.asm }
-    ensures { IfOk result (λ v. IsTold built.now.asm (function_names built.now.map) v.items) }
+    ensures { IfOk result (λ v. IsTold built.now.items (function_names built.now.map) v.items) }
 {
     let names = names_of(alloc, built.map.frames.as_slice())?;
-    tell_bounds(alloc, built.asm.as_slice(), &names)
+    tell_bounds(alloc, built.items.as_slice(), &names)
 }
 
 /// Makes what the writing takes, then writes the cartridge, the map and the assembly text.

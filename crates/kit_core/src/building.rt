@@ -1,7 +1,7 @@
 // The command `build`.
 ghost use Rattle.std.specs.Prelude.{◌≡◌, ◌≤◌, IfSome, IfOk, OnOk, IfErr, length};
 ghost use Rattle.kit_base.specs.Effects.{all_done};
-ghost use Rattle.build_core.specs.Build.{IsAsmText, IsCartText};
+ghost use Rattle.build_core.specs.Build.{IsCartText};
 ghost use Rattle.build_core.specs.Causes.{CanBeTooLarge};
 ghost use Rattle.build_core.specs.Reached.{IsReadToBuild};
 ghost use Rattle.kit_tools.specs.Carrying.{FailsIn, IsCut, LeavesBy};
@@ -31,7 +31,6 @@ pub fn build_text<F: Files>(
     // A call that failed was at a file that is read to build the project.
     ensures reached { IfSome (F.held files.old) (λ m. IfErr result (FailsIn (IsReadToBuild m text.now))) }
     ensures cartridge { IfOk result (λ b. IsCartText b.cart) }
-    ensures asm { IfOk result (λ b. IsAsmText b.asm) }
     ensures causes { HasCausesOr (CanBeTooLarge text.now) result (counts F.faults F.misses F.overs files.old) (counts F.faults F.misses F.overs files.new) }
 {
     match build(alloc, files, text) {

@@ -13,6 +13,7 @@ pub record IsPackedFrom (title : List ℕ) (i : ImageT) (a : Assets) (tokens : �
   pub cart_is : b.cart ≡ cart_text (cartridge_of title i a)
   pub map_is : b.map ≡ i.map
   pub asm_is : b.asm ≡ i.text
+  pub items_are : b.items ≡ i.items
   pub mid_is : mid b.mid ≡ i.mid
   pub choices_is : places_of b.choices ≡ i.choices
   pub tokens_are : b.tokens ≡ tokens

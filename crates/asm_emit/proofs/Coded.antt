@@ -1,0 +1,213 @@
+-- No datum stands among the items of a function.
+use Rattle.std.proofs.Common.{ℕ, zero, suc, ◌+◌, Bool, true, false, List, [], ◌∷◌, ◌++◌, Option, Some, None}
+use Rattle.std.specs.Prelude.{◌==◌, cond}
+use Rattle.std.specs.List.{AllByRecursion}
+use Rattle.kit_base.specs.Word.{add}
+use Rattle.either.specs.declared.Either.TheVariants.{Left}
+use Rattle.v32_isa.specs.declared.instruction.Plain.TheVariants.{RET}
+use Rattle.v32_isa.specs.declared.instruction.One.{One}
+use Rattle.v32_isa.specs.declared.instruction.One.TheVariants.{PUSH, POP}
+use Rattle.v32_isa.specs.declared.instruction.Mov.TheVariants.{RegReg}
+use Rattle.v32_isa.specs.declared.instruction.Two.{Two}
+use Rattle.v32_isa.specs.declared.instruction.Two.TheVariants.{IADD, ISUB}
+use Rattle.v32_isa.specs.declared.instruction.Src.TheVariants as src
+use Rattle.v32_isa.specs.declared.instruction.Instr.TheVariants as instr
+use Rattle.asm_items.specs.declared.item.AsmItem.{AsmItem}
+use Rattle.asm_items.specs.declared.item.AsmItem.TheVariants as item
+use Rattle.mid_code.specs.declared.placed.Where.{Where}
+use Rattle.mid_code.specs.declared.placed.Where.TheVariants.{Reg, Slot}
+use Rattle.mid_code.specs.Code.{OpT, ConstO, NullO, MoveO, OneO, TwoO, GlobalO, LocalO, LiteralO, CardO, StepO, ApartO, PtrTestO, LoadO, StoreO, FreshO, EndO, InO, OutO, WaitO, HaltO, NodesT, Stop, Do, Call, Choose, Block, Loop, Leave, Again, Return}
+use Rattle.asm_laws.specs.Operations.{Frame, Whole, register, keep, fetches, keeps, keeps_some, is_in, hand, brings, takes, aim, lays, moves, changes, is_direct, in_place, apart, turned, is_turned, turned_or_apart, computes, slot_arg, slot_args, pushed_arg, pushed_args, popped_arg, popped_args, args_items, call_items, op_items, in_one, one_or_more, more_of, giving}
+use Rattle.asm_laws.specs.Framing.{frame_made, frame_gone}
+use Rattle.asm_laws.specs.inner.Emitted.{labels, enclosing, jump, jump_unless, mark, first_part, second_part, choice, one_way, alone, left_to, ends, jump_when, is_stop, enclosed, returning, items_past, code_items, call_item, own_items, exit_items}
+use Rattle.asm_emit.specs.EmittedFrom.{IsCode}
+use Rattle.asm_laws.proofs.InOne.{one_or_more_is}
+
+abbrev AreCode : List AsmItem → Type 0
+AreCode items = AllByRecursion IsCode items
+
+joined : (xs ys : List AsmItem) → AreCode xs → AreCode ys → AreCode (xs ++ ys)
+joined [] ys h g = g
+joined (x ∷ xs) ys h g = (h.0, joined xs ys h.1 g)
+
+either : (b : Bool) (xs ys : List AsmItem) → AreCode xs → AreCode ys → AreCode (cond b xs ys)
+either true xs ys h g = h
+either false xs ys h g = g
+
+-- ---- operations
+
+fetch_code : (F : Frame) (p : Where) (r : ℕ) → IsCode (fetches F p r)
+fetch_code F (Reg q) r = tt
+fetch_code F (Slot k) r = tt
+
+keep_code : (F : Frame) (t : Where) → IsCode (keeps F t)
+keep_code F (Reg q) = tt
+keep_code F (Slot k) = tt
+
+some_code : (F : Frame) (t : Option Where) → AreCode (keeps_some F t)
+some_code F None = tt
+some_code F (Some t) = (keep_code F t, tt)
+
+brought_code : (F : Frame) (p : Where) (r : ℕ) (xs : List AsmItem) → AreCode xs → AreCode (brings F p r ++ xs)
+brought_code F (Reg q) r xs h = h
+brought_code F (Slot k) r xs h = (tt, h)
+
+takes_code : (F : Frame) (p : Where) (m : ℕ) → AreCode (takes F p m)
+takes_code F p m = either (is_in p m) [] (fetches F p m ∷ []) tt (fetch_code F p m, tt)
+
+lays_code : (F : Frame) (t : Where) → AreCode (lays F t)
+lays_code F (Reg q) = tt
+lays_code F (Slot k) = (tt, tt)
+
+keep_from_code : (F : Frame) (t : Where) (r : ℕ) → IsCode (item.Op (keep F t r))
+keep_from_code F (Reg q) r = tt
+keep_from_code F (Slot k) r = tt
+
+moves_code : (F : Frame) (t a : Where) → AreCode (moves F t a)
+moves_code F t (Reg q) = either (is_in t (register q)) [] (item.Op (keep F t (register q)) ∷ []) tt (keep_from_code F t (register q), tt)
+moves_code F t (Slot k) = (tt, lays_code F t)
+
+changes_code : (F : Frame) (o : One) (t a : Where) → AreCode (changes F o t a)
+changes_code F o t a = joined (takes F a (aim t)) (item.Op (instr.One o (aim t)) ∷ lays F t) (takes_code F a (aim t)) (tt, lays_code F t)
+
+in_place_code : (F : Frame) (o : Two) (m : ℕ) (a b : Where) → AreCode (in_place F o m a b)
+in_place_code F o m a b = joined (takes F a m) (brings F b 10 ++ item.Op (instr.Two o m (src.Reg (hand b 10))) ∷ []) (takes_code F a m) (brought_code F b 10 _ (tt, tt))
+
+apart_code : (F : Frame) (o : Two) (t a b : Where) → AreCode (apart F o t a b)
+apart_code F o t a b = (fetch_code F a 9, brought_code F b 10 _ (tt, (keep_code F t, tt)))
+
+turned_code : (F : Frame) (o : Two) (u : Option Two) (t a b : Where) → AreCode (turned_or_apart F o u t a b)
+turned_code F o None t a b = apart_code F o t a b
+turned_code F o (Some u) t a b = either (is_turned t a b) (in_place F u (aim t) b a) (apart F o t a b) (in_place_code F u (aim t) b a) (apart_code F o t a b)
+
+computes_code : (F : Frame) (o : Two) (t a b : Where) → AreCode (computes F o t a b)
+computes_code F o t a b =
+    either (is_direct t b) (in_place F o (aim t) a b) (turned_or_apart F o (turned o) t a b) (in_place_code F o (aim t) a b) (turned_code F o (turned o) t a b)
+
+slot_code : (F G : Frame) (p a : Where) → AreCode (slot_arg F G p a)
+slot_code F G (Reg q) a = tt
+slot_code F G (Slot k) a = brought_code F a 9 _ (tt, tt)
+
+pushed_code : (F : Frame) (p a : Where) → AreCode (pushed_arg F p a)
+pushed_code F (Reg q) a = brought_code F a 9 _ (tt, tt)
+pushed_code F (Slot k) a = tt
+
+popped_code : (p : Where) → AreCode (popped_arg p)
+popped_code (Reg q) = (tt, tt)
+popped_code (Slot k) = tt
+
+slots_code : (F G : Frame) (ps args : List Where) → AreCode (slot_args F G ps args)
+slots_code F G [] args = tt
+slots_code F G (p ∷ ps) [] = tt
+slots_code F G (p ∷ ps) (a ∷ args) = joined (slot_arg F G p a) (slot_args F G ps args) (slot_code F G p a) (slots_code F G ps args)
+
+pushes_code : (F : Frame) (ps args : List Where) → AreCode (pushed_args F ps args)
+pushes_code F [] args = tt
+pushes_code F (p ∷ ps) [] = tt
+pushes_code F (p ∷ ps) (a ∷ args) = joined (pushed_arg F p a) (pushed_args F ps args) (pushed_code F p a) (pushes_code F ps args)
+
+pops_code : (ps : List Where) → AreCode (popped_args ps)
+pops_code [] = tt
+pops_code (p ∷ ps) = joined (popped_args ps) (popped_arg p) (pops_code ps) (popped_code p)
+
+args_code : (F G : Frame) (ps args : List Where) → AreCode (args_items F G ps args)
+args_code F G ps args =
+    joined (slot_args F G ps args) (pushed_args F ps args ++ popped_args ps) (slots_code F G ps args)
+    (joined (pushed_args F ps args) (popped_args ps) (pushes_code F ps args) (pops_code ps))
+
+module _ (W : Whole) (F : Frame) where
+  op_code : (o : OpT Where) → AreCode (op_items W F o)
+  unfolding op_items
+  op_code (ConstO t n) = (tt, lays_code F t)
+  op_code (NullO t) = (tt, lays_code F t)
+  op_code (MoveO t a) = moves_code F t a
+  op_code (OneO o t a) = changes_code F o t a
+  op_code (TwoO o t a b) = computes_code F o t a b
+  op_code (GlobalO t k) = (tt, lays_code F t)
+  op_code (LocalO t k) = (tt, lays_code F t)
+  op_code (LiteralO t k) = (tt, lays_code F t)
+  op_code (CardO t) = (tt, lays_code F t)
+  op_code (StepO t p n) = computes_code F IADD t p n
+  op_code (ApartO t p q) = computes_code F ISUB t p q
+  op_code (PtrTestO o t p q) = computes_code F o t p q
+  op_code (LoadO t p) = brought_code F p 9 _ (tt, lays_code F t)
+  op_code (StoreO p a) = brought_code F p 9 _ (brought_code F a 10 _ (tt, tt))
+  op_code (FreshO k) = tt
+  op_code (EndO k) = tt
+  op_code (InO t port) = (tt, lays_code F t)
+  op_code (OutO port a) = brought_code F a 9 _ (tt, tt)
+  op_code WaitO = (tt, tt)
+  op_code HaltO = (tt, tt)
+
+  one_or_more_code : (o : OpT Where) (c : NodesT Where) → AreCode (one_or_more W F o (in_one W o c))
+  one_or_more_code o c =
+      one_or_more_is W F AreCode (λ v. Unit {0}) o c (λ t n e. (tt, tt)) (λ t k e. (tt, tt)) (op_code o) (λ r q v lr lq h. (tt, tt)) (λ r q v lr lq h. (tt, tt)) (λ u r q v lr lq h. (tt, (tt, tt)))
+
+  call_code : (t : Option Where) (g : ℕ) (args : List Where) → AreCode (call_items W F t g args)
+  call_code t g args =
+      joined (args_items F (W.frames g) (W.params g) args) (call_item W g ∷ keeps_some F t) (args_code F (W.frames g) (W.params g) args) (tt, some_code F t)
+
+  giving_code : (p : Option Where) → AreCode (giving F p)
+  giving_code None = tt
+  giving_code (Some p) = (fetch_code F p 9, tt)
+
+  -- ---- nodes
+
+  choice_code : (p : Where) (n w : ℕ) (a b : List AsmItem) → AreCode a → AreCode b → AreCode (choice F p n w a b)
+  choice_code p n w a b ha hb =
+      joined (first_part F p n w a) (second_part w b)
+      (brought_code F p 9 (jump_unless (hand p 9) n ∷ (a ++ jump w ∷ mark n ∷ [])) (tt, joined a (jump w ∷ mark n ∷ []) ha (tt, (tt, tt))))
+      (joined b (mark w ∷ []) hb (tt, tt))
+
+  alone_code : (p : Where) (n : ℕ) (to : Option ℕ) (a : List AsmItem) → AreCode a → AreCode (alone F p n to a)
+  alone_code p n None a ha = brought_code F p 9 (jump_unless (hand p 9) n ∷ (a ++ mark n ∷ [])) (tt, joined a (mark n ∷ []) ha (tt, tt))
+  alone_code p n (Some l) a ha = brought_code F p 9 (jump_when (hand p 9) l ∷ mark n ∷ []) (tt, (tt, tt))
+
+  enclosed_code : (n : ℕ) (a : List AsmItem) → AreCode a → AreCode (enclosed n a)
+  enclosed_code n a ha = (tt, joined a (mark (n + 1) ∷ []) ha (tt, tt))
+
+  module _ (out : ℕ) where
+    pub past_code : (c : NodesT Where) (done : ℕ) (last : Bool) (ls : List ℕ) (n : ℕ) → AreCode (items_past W F out last ls n c done)
+    past_code Stop done last ls n = tt
+    past_code (Do o c) zero last ls n =
+        let more = more_of (in_one W o c) in
+        joined (one_or_more W F o (in_one W o c)) (items_past W F out last ls n c more) (one_or_more_code o c) (past_code c more last ls n)
+    past_code (Do o c) (suc done) last ls n = past_code c done last ls n
+    past_code (Call t g args c) done last ls n = joined (call_items W F t g args) (items_past W F out last ls n c 0) (call_code t g args) (past_code c 0 last ls n)
+    past_code (Choose p a b c) done last ls n =
+        let w = n + 1 + labels a in
+        let one = items_past W F out (ends last c) ls (n + 1) a 0 in
+        let first = items_past W F out false ls (n + 1) a 0 in
+        let two = items_past W F out (ends last c) ls (w + 1) b 0 in
+        let rest = items_past W F out last ls (n + (2 + labels a + labels b)) c 0 in
+        joined (cond (is_stop b) (alone F p n (left_to ls a) one) (choice F p n w first two)) rest
+        (either (is_stop b) (alone F p n (left_to ls a) one) (choice F p n w first two)
+        (alone_code p n (left_to ls a) one (past_code a 0 (ends last c) ls (n + 1)))
+        (choice_code p n w first two (past_code a 0 false ls (n + 1)) (past_code b 0 (ends last c) ls (w + 1))))
+        (past_code c 0 last ls (n + (2 + labels a + labels b)))
+    past_code (Block b c) done last ls n =
+        let one = items_past W F out (ends last c) (ls ++ n ∷ []) (n + 2) b 0 in
+        joined (enclosed n one) (items_past W F out last ls (n + (2 + labels b)) c 0) (enclosed_code n one (past_code b 0 (ends last c) (ls ++ n ∷ []) (n + 2))) (past_code c 0 last ls (n + (2 + labels b)))
+    past_code (Loop b c) done last ls n =
+        let one = items_past W F out (ends last c) (ls ++ n ∷ []) (n + 2) b 0 in
+        joined (enclosed n one) (items_past W F out last ls (n + (2 + labels b)) c 0) (enclosed_code n one (past_code b 0 (ends last c) (ls ++ n ∷ []) (n + 2))) (past_code c 0 last ls (n + (2 + labels b)))
+    past_code (Leave k c) done last ls n = (tt, past_code c 0 last ls n)
+    past_code (Again k c) done last ls n = (tt, past_code c 0 last ls n)
+    past_code (Return p c) done last ls n =
+        joined (returning F p out (ends last c)) (items_past W F out last ls n c 0)
+        (joined (giving F p) (cond (ends last c) [] (jump out ∷ [])) (giving_code p) (either (ends last c) [] (jump out ∷ []) tt (tt, tt)))
+        (past_code c 0 last ls n)
+
+-- ---- functions
+
+made_code : (size : ℕ) → AreCode (frame_made size)
+made_code size = either (size == 0) [] (item.Op (instr.One PUSH 14) ∷ item.Op (instr.Mov (RegReg 14 15)) ∷ item.Op (instr.Two ISUB 15 (src.Imm (Left size))) ∷ []) tt (tt, (tt, (tt, tt)))
+
+gone_code : (size : ℕ) → AreCode (frame_gone size)
+gone_code size = either (size == 0) (item.Op (instr.Plain RET) ∷ []) (item.Op (instr.Mov (RegReg 15 14)) ∷ item.Op (instr.One POP 14) ∷ item.Op (instr.Plain RET) ∷ []) (tt, tt) (tt, (tt, (tt, tt)))
+
+pub own_code : (W : Whole) (f n : ℕ) (body : NodesT Where) → AreCode (own_items W f n body)
+own_code W f n body =
+    let F = W.frames f in
+    let items = code_items W F n [] (n + 1) body in
+    joined (frame_made F.size) (items ++ exit_items n F) (made_code F.size) (joined items (exit_items n F) (past_code W F n body 0 true [] (n + 1)) (tt, gone_code F.size))

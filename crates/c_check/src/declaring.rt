@@ -9,7 +9,7 @@ ghost use Rattle.c_check.specs.View.{un};
 
 use crate::reading::Reading;
 use c_exprs::{Decl, Globals, is_intrinsic};
-use c_rules::Code;
+use c_rules::{Code, with_elements};
 use c_types::{CType, Layout};
 use kit_base::{Memory, Name};
 use std::alloc::Global;
@@ -79,7 +79,7 @@ pub(crate) fn enter_record(
     let key = Vec::from_slice(alloc, name)?;
     reading
         .globals
-        .declare(key, Decl::Alias(record_type(is_union, number)))
+        .declare(key, Decl::Alias(with_elements(record_type(is_union, number))))
 }
 
 /// Makes the name that of the next enumeration, where it is free. The error is want of memory.
@@ -95,7 +95,7 @@ pub(crate) fn enter_enum(alloc: Global, reading: &mut Reading, name: &[u8]) -> R
     let key = Vec::from_slice(alloc, name)?;
     reading
         .globals
-        .declare(key, Decl::Alias(CType::Enum(number)))?;
+        .declare(key, Decl::Alias(with_elements(CType::Enum(number))))?;
     reading.enums = number + 1;
     Ok(())
 }
@@ -145,7 +145,9 @@ pub(crate) fn record_number(reading: &Reading, is_union: bool, name: &[u8]) -> R
     ensures number { result ≡ record_number is_union name.now (un reading.now) }
 {
     match reading.globals.find(name) {
-        Some(Decl::Alias(ty)) => own_number(name, &reading.records, number_as(is_union, ty)),
+        Some(Decl::Alias(counted)) => {
+            own_number(name, &reading.records, number_as(is_union, &counted.ty))
+        }
         Some(Decl::Constant(_)) => Err(Code::Twice),
         Some(Decl::Object(_, _)) => Err(Code::Twice),
         Some(Decl::Function(_, _)) => Err(Code::Twice),

@@ -13,7 +13,7 @@ use crate::enumerators::read_enumerators;
 use crate::functions::read_function;
 use crate::globals::read_objects;
 use crate::members::{members_declared, read_members, set_layout};
-use crate::parts::type_at;
+use crate::parts::counted_at;
 use crate::reading::Reading;
 use c_exprs::{CheckErr, Decl, demanded, placed};
 use c_rules::Code;
@@ -104,9 +104,9 @@ fn read_typedef(
     ensures { Gives (λ r. (r, un reading.new)) result (read_by (un reading.old) (TypedefD (type ty.now) name.now span)) }
 {
     let fresh = is_free(&reading.globals, name.bytes());
-    let ty = type_at(alloc, reading, span, ty)?;
+    let counted = counted_at(alloc, reading, span, ty)?;
     demanded(span, Code::Twice, fresh)?;
-    declare(alloc, reading, name.bytes(), Decl::Alias(ty))?;
+    declare(alloc, reading, name.bytes(), Decl::Alias(counted))?;
     Ok(())
 }
 

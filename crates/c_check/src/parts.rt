@@ -9,6 +9,7 @@ ghost use Rattle.c_check.specs.View.{un};
 
 use crate::reading::Reading;
 use c_exprs::{CheckErr, type_of_tree, type_value};
+use c_rules::Counted;
 use c_stmts::{fill, type_statements};
 use c_tree::{Expr, Init, Span, Stmt, TypeTree};
 use c_types::{CType, TExpr, TInit, TStmt};
@@ -29,15 +30,15 @@ pub(crate) fn value_at(alloc: Global, reading: &mut Reading, e: &Expr) -> Result
     )
 }
 
-/// The type that a type tree names, at a node of this span.
+/// The type that a type tree names, at a node of this span, with its elements.
 #[tactic(auto, unfolding(crate::specs::inner::ItemTyping::type_at))]
-pub(crate) fn type_at(
+pub(crate) fn counted_at(
     alloc: Global,
     reading: &mut Reading,
     span: Span,
     ty: &TypeTree,
-) -> Result<CType, CheckErr>
-    ensures gives { Gives (λ r. (ctype r, un reading.new)) result (type_at (un reading.old) span (type ty.now)) }
+) -> Result<Counted, CheckErr>
+    ensures gives { Gives (λ r. (ctype r.ty, un reading.new)) result (type_at (un reading.old) span (type ty.now)) }
     ensures objects { (un reading.new).globals ≡ (un reading.old).globals }
     ensures sizes { (un reading.new).sizes ≡ (un reading.old).sizes }
 {
@@ -49,6 +50,21 @@ pub(crate) fn type_at(
         span,
         ty,
     )
+}
+
+/// The type that a type tree names, at a node of this span.
+pub(crate) fn type_at(
+    alloc: Global,
+    reading: &mut Reading,
+    span: Span,
+    ty: &TypeTree,
+) -> Result<CType, CheckErr>
+    ensures gives { Gives (λ r. (ctype r, un reading.new)) result (type_at (un reading.old) span (type ty.now)) }
+    ensures objects { (un reading.new).globals ≡ (un reading.old).globals }
+    ensures sizes { (un reading.new).sizes ≡ (un reading.old).sizes }
+{
+    let counted = counted_at(alloc, reading, span, ty)?;
+    Ok(counted.ty)
 }
 
 /// What a global of this type is filled with.

@@ -6,6 +6,7 @@ ghost use Rattle.mid_lower.specs.LoweredFrom.{IsLoweredFrom};
 ghost use Rattle.c_compile.specs.Compiling.{compiled, IsCompiled};
 
 use crate::naming::names_of;
+use crate::sharing::share_all;
 use asm_emit::emit;
 use asm_items::AsmItem;
 use c_check::Program;
@@ -18,7 +19,6 @@ use mid_scalars::promote;
 use pass_laws::passes_meet;
 use reg_choose::choose_all;
 use reg_frames::place;
-use reg_share::share_all;
 use std::alloc::Global;
 
 /// What is made of a program: mid code without locals that need no address, the choice of a register or slot for each temporary, that of the start

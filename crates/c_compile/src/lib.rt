@@ -7,5 +7,6 @@
 
 mod compiling;
 mod naming;
+mod sharing;
 
 pub use compiling::{Compiled, compile, compile_lowered};

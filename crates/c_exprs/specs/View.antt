@@ -16,7 +16,7 @@ abbrev pub local : Local → LocalD
 local l = record { number = l.number; ty = ctype l.ty }
 
 abbrev pub decl : Decl → DeclT
-decl (Alias ty) = TypeD (ctype ty)
+decl (Alias counted) = TypeD (ctype counted.ty)
 decl (Constant n) = ConstantD n
 decl (Object number ty) = GlobalD number (ctype ty)
 decl (Function params gives) = FunctionD (map ctype params) (ctype gives)

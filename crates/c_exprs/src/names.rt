@@ -4,6 +4,7 @@ ghost use Rattle.indexmap.specs.IndexMap.{values};
 ghost use Rattle.c_exprs.specs.Env.{find, find_in};
 ghost use Rattle.c_exprs.specs.View.{local, decl, scope, names, bodies};
 
+use c_rules::Counted;
 use c_types::{CType, Layout};
 use indexmap::IndexMap;
 use kit_base::{Memory, Seq};
@@ -16,10 +17,10 @@ pub struct Local {
     pub ty: CType,
 }
 
-/// What a name of the unit is declared as: a type, an enumerator, an object with its number, a function.
+/// What a name of the unit is declared as: a type, with its elements, an enumerator, an object with its number, a function.
 #[derive(Drop)]
 pub enum Decl {
-    Alias(CType),
+    Alias(Counted),
     Constant(u32),
     Object(u32, CType),
     Function(Seq<CType>, CType),

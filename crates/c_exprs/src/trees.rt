@@ -14,7 +14,7 @@ use crate::error::{CheckErr, keeping};
 use crate::intrinsics::is_intrinsic;
 use crate::names::{Decl, Globals, Scope, find_local};
 use crate::nodes::is_place;
-use c_rules::{Code, copy_type, is_array};
+use c_rules::{Code, Counted, copy_counted, copy_type, is_array};
 use c_tree::Span;
 use c_types::{CType, Layout, Member, TExpr, TKind};
 use kit_base::Name;
@@ -70,11 +70,11 @@ pub(crate) fn named_type(
     scopes: &[Scope],
     name: &Name,
     span: Span,
-) -> Result<CType, CheckErr>
-    ensures { Gives ctype result (placed span (named_type (ctx globals.now scopes.now) name.now)) }
+) -> Result<Counted, CheckErr>
+    ensures { Gives (λ r. ctype r.ty) result (placed span (named_type (ctx globals.now scopes.now) name.now)) }
 {
     match globals.find(name.bytes()) {
-        Some(Decl::Alias(ty)) => Ok(copy_type(ty)?),
+        Some(Decl::Alias(counted)) => Ok(copy_counted(counted)?),
         Some(Decl::Constant(_)) => Err(refused(span, Code::Twice)),
         Some(Decl::Object(_, _)) => Err(refused(span, Code::Twice)),
         Some(Decl::Function(_, _)) => Err(refused(span, Code::Twice)),

@@ -196,7 +196,7 @@ fn counted_pointer(alloc: Global, to: Counted) -> Result<Counted, Memory>
     Ok(with_elements(CType::Pointer(Rc::new(alloc, to.ty)?)))
 }
 
-/// The type that a type tree names, with its elements: an array of it then needs no walk down the type.
+/// The type that a type tree names, with its elements: no array of it, and no use of a type's name, needs a walk down the type.
 #[cycle(typing)]
 #[tactic(auto, unfolding(crate::specs::Typing::as_value))]
 fn counted_type(
@@ -213,7 +213,7 @@ fn counted_type(
         TypeTree::Int => Ok(with_elements(CType::Int)),
         TypeTree::Bool => Ok(with_elements(CType::Bool)),
         TypeTree::Void => Ok(with_elements(CType::Void)),
-        TypeTree::Named(name) => Ok(with_elements(named_type(globals, scopes, name, span)?)),
+        TypeTree::Named(name) => named_type(globals, scopes, name, span),
         TypeTree::Pointer(to) => {
             let to = counted_type(alloc, globals, scopes, texts, span, to)?;
             Ok(counted_pointer(alloc, to)?)
@@ -225,20 +225,6 @@ fn counted_type(
             Ok(array_at(alloc, globals, span_of(n), of, count)?)
         }
     }
-}
-
-fn type_of(
-    alloc: Global,
-    globals: &Globals,
-    scopes: &[Scope],
-    texts: &mut Texts,
-    span: Span,
-    ty: &TypeTree,
-) -> Result<CType, CheckErr>
-    ensures { Gives (λ r. (ctype r, texts.new)) result (type_of (ctx globals.now scopes.now) texts.old span (type ty.now)) }
-{
-    let found = counted_type(alloc, globals, scopes, texts, span, ty)?;
-    Ok(found.ty)
 }
 
 /// The typed tree of an expression. Its texts are added to those so far; after a refusal there are none.
@@ -285,8 +271,8 @@ pub fn type_value(
     kept_texts(alloc, texts, answer)
 }
 
-/// The type that a type tree names, in a node of this span. The texts of its counts are added to those so far; after a
-/// refusal there are none.
+/// The type that a type tree names, in a node of this span, with its elements. The texts of its counts are added to those so far;
+/// after a refusal there are none.
 pub fn type_of_tree(
     alloc: Global,
     globals: &Globals,
@@ -294,15 +280,15 @@ pub fn type_of_tree(
     texts: &mut Texts,
     span: Span,
     ty: &TypeTree,
-) -> Result<CType, CheckErr>
-    ensures gives { Gives (λ r. (ctype r, texts.new)) result (type_of (ctx globals.now scopes.now) texts.old span (type ty.now)) }
-    ensures types { IfOk result (λ r. Names (ctx globals.now scopes.now) texts.old span (type ty.now) (ctype r) texts.new) }
+) -> Result<Counted, CheckErr>
+    ensures gives { Gives (λ r. (ctype r.ty, texts.new)) result (type_of (ctx globals.now scopes.now) texts.old span (type ty.now)) }
+    ensures types { IfOk result (λ r. Names (ctx globals.now scopes.now) texts.old span (type ty.now) (ctype r.ty) texts.new) }
     ensures only { (t : Ty) (us : List Text) → Names (ctx globals.now scopes.now) texts.old span (type ty.now) t us
-        → Gives (λ r. (ctype r, texts.new)) result (read t us) }
+        → Gives (λ r. (ctype r.ty, texts.new)) result (read t us) }
     ensures first { (k : Code) (s : Span) → result ≡ Err (At k s) → NoName (ctx globals.now scopes.now) texts.old span (type ty.now) (at s k) }
     // After a refusal there are no texts: the unit is read no further.
     ensures refused { OnErr result (texts.new ≡ []) }
 {
-    let answer = type_of(alloc, globals, scopes, texts, span, ty);
+    let answer = counted_type(alloc, globals, scopes, texts, span, ty);
     kept_texts(alloc, texts, answer)
 }

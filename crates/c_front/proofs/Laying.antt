@@ -12,7 +12,7 @@ use Rattle.kit_base.specs.Held.{Held}
 use Rattle.kit_base.specs.Outside.{Answers, due, due_of}
 use Rattle.kit_base.specs.declared.outside.FileErr.{FileErr}
 use Rattle.kit_base.specs.declared.outside.FileErr.TheVariants as errors
-use Rattle.c_headers.specs.Headers.{headers, text_of}
+use Rattle.c_front.specs.Headers.{headers, text_of}
 use Rattle.c_front.specs.Over.{laid, over}
 
 abbrev Entry : Type 0

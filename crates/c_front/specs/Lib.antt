@@ -7,3 +7,4 @@ pub mod Codes
 pub mod Causes
 pub mod Reached
 pub mod inner
+pub mod Headers

@@ -3,7 +3,7 @@ use Rattle.std.specs.Prelude.{ℕ, ◌≡◌, List, [], ◌∷◌, Option}
 use Rattle.std.specs.Coded.{Coded, Coded-set, coded_ℕ, coded_list, coded_option}
 use Rattle.std.specs.FinMap.{insert, code}
 use Rattle.kit_base.specs.Held.{Held}
-use Rattle.c_headers.specs.Headers.{headers}
+use Rattle.c_front.specs.Headers.{headers}
 
 -- these entries laid over the files, the first of each name uppermost
 abbrev pub laid : List (List ℕ × List ℕ) → Held → Held

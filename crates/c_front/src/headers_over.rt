@@ -10,7 +10,7 @@ ghost use Rattle.c_prep.specs.Codes.{HasReadingCode};
 ghost use Rattle.c_prep.specs.Causes.{Caused, HasFailed, IsOver, Lacks};
 ghost use Rattle.c_front.specs.Over.{held_set, over};
 
-use c_headers::header;
+use crate::headers::header;
 use c_lex::Token;
 use c_prep::{PrepErr, expand};
 use kit_base::{FileErr, Name, Reads};

@@ -6,6 +6,7 @@ ghost use Rattle.c_types.specs.View.{ctype, layout};
 ghost use Rattle.c_rules.specs.Elements.{element_of, elements_in};
 ghost use Rattle.c_rules.specs.Sizes.{fits, is_whole};
 
+use crate::building::copy_type;
 use crate::elements::{Elements, at_most, elements_of, is_element_whole, words_in};
 use c_types::{CType, Layout};
 use kit_base::Memory;
@@ -27,6 +28,16 @@ pub fn with_elements(ty: CType) -> Counted
 {
     let elements = elements_of(&ty);
     Counted { ty, elements }
+}
+
+/// The same type once more with its elements, in constant time: what is below it is shared. The error is that of `copy_type`.
+pub fn copy_counted(of: &Counted) -> Result<Counted, Memory>
+    ensures same { IfOk result (λ r. ctype r.ty ≡ ctype of.now.ty) }
+{
+    Ok(Counted {
+        ty: copy_type(&of.ty)?,
+        elements: of.elements,
+    })
 }
 
 /// The array of `len` elements of a type, without regard to any rule. The error is want of memory.

@@ -18,7 +18,7 @@ mod sizes;
 pub use building::{array_of, copy_type, decayed, pointer_to};
 pub use code::{Code, RuleErr, code_number};
 pub use constants::{constant_binary, constant_unary};
-pub use counted::{Counted, with_elements};
+pub use counted::{Counted, copy_counted, with_elements};
 pub use elements::{Element, Elements};
 pub use kinds::{
     can_cast, converts, is_array, is_condition, is_number, is_structure, is_void, same_type, target,

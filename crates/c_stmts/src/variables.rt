@@ -69,8 +69,8 @@ fn type_in(
     ensures sizes { (st state.new).sizes ≡ (st state.old).sizes }
     ensures used { (st state.new).used ≡ (st state.old).used }
 {
-    let ty = type_of_tree(alloc, globals, &state.scopes, &mut state.texts, span, of)?;
-    Ok(ty)
+    let counted = type_of_tree(alloc, globals, &state.scopes, &mut state.texts, span, of)?;
+    Ok(counted.ty)
 }
 
 #[tactic(auto, unfolding(crate::specs::StatementTyping::fill_in))]

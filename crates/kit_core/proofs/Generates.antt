@@ -11,7 +11,7 @@ use Rattle.kit_base.proofs.Cuts.{all_done-append}
 use Rattle.cart_format.specs.Cartridge.{Cartridge}
 use Rattle.v32_console.specs.Setup.{Setup}
 use Rattle.run_core.specs.Stands.{RunParts, RunStands}
-use Rattle.plain_run.specs.Plain.{color_after, plain_pads, plain_setup}
+use Rattle.kit_core.specs.Plain.{color_after, plain_pads, plain_setup}
 use Rattle.play_laws.specs.Played.{PlayedRunsAreTheSources, PlayedRunsComeToAll}
 use Rattle.gen_source.specs.Source.{project_text, source_text}
 use Rattle.gen_source.specs.Summary.{summary_end, summary_front}

@@ -24,3 +24,5 @@ pub mod Meanings
 pub mod Watches
 pub mod Bounds
 pub mod WatchedRuns
+pub mod PlainFollowing
+pub mod PlainTold

@@ -31,7 +31,7 @@ use Rattle.kit_tools.specs.Watching.{watch_line, watch_settings_due, IsReadToSet
 use Rattle.kit_tools.specs.declared.verdict.Verdict.{Verdict}
 use Rattle.run_core.specs.Ending.{end_text}
 use Rattle.run_core.specs.Outputs.{run_outputs}
-use Rattle.plain_run.specs.Plain.{color_after, plain_setup}
+use Rattle.kit_core.specs.Plain.{color_after, plain_setup}
 use Rattle.gen_source.specs.Source.{project_text}
 use Rattle.gen_source.specs.Summary.{summary_text}
 use Rattle.kit_core.specs.Generating.{functions_due, most_frames}

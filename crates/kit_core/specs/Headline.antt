@@ -14,7 +14,7 @@ use Rattle.kit_words.specs.Command.{RunWords, Build, Play, Gen, command_of}
 use Rattle.kit_words.specs.Forms.{source_name}
 use Rattle.gen_source.specs.Source.{project_text, source_text}
 use Rattle.gen_source.specs.Summary.{summary_text}
-use Rattle.plain_run.specs.Plain.{color_after, plain_setup}
+use Rattle.kit_core.specs.Plain.{color_after, plain_setup}
 use Rattle.kit_core.specs.Due.{outputs_of, play_effects}
 use Rattle.kit_core.specs.Generating.{functions_due, most_frames, sources_of}
 use Rattle.kit_core.specs.Holding.{PlayFilesStand}

@@ -10,4 +10,5 @@ pub mod Leaving
 pub mod Meaning
 pub mod Watched
 pub mod Bounded
+pub mod Plain
 pub mod inner

@@ -4,3 +4,4 @@ pub mod Checking
 pub mod Playing
 pub mod Fronts
 pub mod Following
+pub mod Fresh

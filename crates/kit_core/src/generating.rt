@@ -5,7 +5,7 @@ ghost use Rattle.build_core.specs.Causes.{CanBeTooLarge};
 ghost use Rattle.build_core.specs.Reached.{IsReadToBuild};
 ghost use Rattle.cart_format.specs.Cartridge.{Cartridge};
 ghost use Rattle.run_core.specs.Stands.{RunStands};
-ghost use Rattle.plain_run.specs.Plain.{plain_setup};
+ghost use Rattle.kit_core.specs.Plain.{plain_setup};
 ghost use Rattle.gen_source.specs.Source.{project_text};
 ghost use Rattle.gen_source.specs.Summary.{summary_front};
 ghost use Rattle.kit_words.specs.Command.{Gen};
@@ -20,6 +20,7 @@ ghost use Rattle.kit_core.specs.Limits.{IsGenOver};
 ghost use Rattle.kit_core.specs.inner.Playing.{AreOutputs, IsCarried};
 
 use crate::building::{Outputs, build_text, made_outputs, write_made};
+use crate::plain::PlainRun;
 use crate::playing::built_cart;
 use build_core::Built;
 use cart_format::Cart;
@@ -27,7 +28,6 @@ use gen_source::{project_text, source_text, summary_front};
 use kit_base::{Files, Name};
 use kit_tools::{DueRefusal, Refusal, Shown, write_named};
 use kit_words::{SOURCE_NAME, number_of};
-use plain_run::PlainRun;
 use std::alloc::Global;
 
 /// The most functions of a source that is made up.

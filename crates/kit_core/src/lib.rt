@@ -14,9 +14,11 @@ mod checking;
 mod following;
 mod generating;
 mod laws;
+mod plain;
 mod playing;
 mod top;
 mod watching;
 
 pub use laws::runs_leave_fronts;
+pub use plain::plain_pads_are_of_their_text;
 pub use top::kit;

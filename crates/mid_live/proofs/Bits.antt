@@ -38,7 +38,7 @@ same_number x y d m = omega (arith, d, m)
 pub small : (x : ℕ) → x % 64 < 64
 small x = omega arith
 
-within : (n k : ℕ) → k < 64 * n → k / 64 < n
+pub within : (n k : ℕ) → k < 64 * n → k / 64 < n
 within n k h = omega (arith, h)
 
 put_bit : (n x y : ℕ) → x / 64 ≡ y / 64 → eqb (bit_at (bit_or n (1 * 2 ^ (x % 64) % 2 ^ 64)) (y % 64)) 1 ≡ (eqb x y || eqb (bit_at n (y % 64)) 1)

@@ -7,7 +7,7 @@ use Rattle.mid_live.specs.declared.words.Held.{Held}
 use Rattle.mid_code.specs.Live.{is_among}
 use Rattle.mid_live.specs.Sets.{on, room}
 use Rattle.mid_live.specs.inner.Words.{bit, some, IsHeld, FreshIn, spread}
-use Rattle.mid_live.proofs.Bits.{eq_or, lt_or, small, zeros, get_set, no_bit, bit_on, or_bit, less_bit}
+use Rattle.mid_live.proofs.Bits.{eq_or, lt_or, small, within, zeros, get_set, no_bit, bit_on, or_bit, less_bit, none_left}
 
 -- ---- held words
 
@@ -63,6 +63,13 @@ zero_on ws y e = sym (bit_on ws (y / 64) y refl) ∙ ap (λ z. bit z (y % 64)) e
 
 zero_by : (ws hs : List ℕ) (j : ℕ) → IsHeld ws hs → on hs j ≡ false → get_or ws j 0 ≡ 0
 zero_by ws hs j g e = elim (eq_or (get_or ws j 0) 0) [ inl z ↦ z | inr n ↦ absurd (false≢true (sym e ∙ g.held j n)) ]
+
+-- No bit of words is on from one of a word that has none behind it to the next word that is held.
+pub none_held : (ws hs : List ℕ) (i n j : ℕ) → IsHeld ws hs → get_or ws (i / 64) 0 / 2 ^ (i % 64) ≡ 0 → ((k : ℕ) → i / 64 + 1 ≤ k → k < n → on hs k ≡ false) → i ≤ j → j < 64 * n → on ws j ≡ false
+none_held ws hs i n j g z none from below = elim (lt_or j (64 * (i / 64 + 1))) [
+  | inl l ↦ none_left ws i j z from l
+  | inr m ↦ zero_on ws j (zero_by ws hs (j / 64) g (none (j / 64) (omega (arith, m)) (within n j below)))
+]
 
 -- ---- words written down
 

@@ -2,6 +2,8 @@
 #![tactic(auto)]
 
 mod live;
+mod marked;
+mod marks;
 mod words;
 
 pub use live::{Kept, Live};

@@ -1,8 +1,9 @@
 // A set of temporaries that is changed in place, and what it was at some point.
-use crate::words::{
-    Held, clear_words, copied, gone_from, has_bit, join_words, leave_words, put_in, restore_words,
-    strike_from,
+use crate::marked::{
+    clear_marked, copied, join_words, leave_words, put_marked, restore_words, strike_marked,
 };
+use crate::marks::Marks;
+use crate::words::{Held, gone_from, has_bit};
 use kit_base::Memory;
 use std::alloc::Global;
 use std::marker::Model;
@@ -11,7 +12,7 @@ use std::marker::Model;
 #[derive(Drop)]
 pub struct Live {
     words: Vec<u64>,
-    held: Vec<u64>,
+    marks: Marks,
 }
 
 impl Model for Live {
@@ -23,7 +24,7 @@ impl Model for Live {
 
     ghost view = { λ s. s.words.items };
 
-    ghost invariant = { λ s. IsHeld s.words.items s.held.items };
+    ghost invariant = { λ s. IsHeld s.words.items s.marks };
 }
 
 /// What a set was.
@@ -60,9 +61,8 @@ impl Live {
         }
         let mut words = Vec::new(alloc);
         words.resize(count / 64 + 1, 0)?;
-        let mut held = Vec::new(alloc);
-        held.resize(count / 4096 + 1, 0)?;
-        Ok(Live { words, held })
+        let marks = Marks::none(alloc, words.len())?;
+        Ok(Live { words, marks })
     }
 
     /// Whether a temporary is in the set.
@@ -77,7 +77,7 @@ impl Live {
         ensures len { length self.new ≡ length self.old }
         ensures is { (y : ℕ) → y < room self.old → on self.new y ≡ (eqb x y || on self.old y) }
     {
-        put_in(&mut self.words, &mut self.held, x);
+        put_marked(&mut self.words, &mut self.marks, x);
     }
 
     /// Takes a temporary out.
@@ -85,7 +85,7 @@ impl Live {
         ensures len { length self.new ≡ length self.old }
         ensures is { (y : ℕ) → y < room self.old → on self.new y ≡ cond (eqb x y) false (on self.old y) }
     {
-        strike_from(&mut self.words, &mut self.held, x);
+        strike_marked(&mut self.words, &mut self.marks, x);
     }
 
     /// Takes all out.
@@ -93,7 +93,7 @@ impl Live {
         ensures len { length self.new ≡ length self.old }
         ensures is { (y : ℕ) → on self.new y ≡ false }
     {
-        clear_words(&mut self.words, &mut self.held);
+        clear_marked(&mut self.words, &mut self.marks);
     }
 
     /// Puts in what another set had.
@@ -101,7 +101,7 @@ impl Live {
         ensures len { length self.new ≡ length self.old }
         ensures is { (y : ℕ) → y < room self.old → on self.new y ≡ (on self.old y || on other.now y) }
     {
-        join_words(&mut self.words, &mut self.held, other.words.as_slice());
+        join_words(&mut self.words, &mut self.marks, other.words.as_slice());
     }
 
     /// Takes out what another set had.
@@ -109,7 +109,7 @@ impl Live {
         ensures len { length self.new ≡ length self.old }
         ensures is { (y : ℕ) → y < room self.old → on self.new y ≡ (on self.old y && not (on other.now y)) }
     {
-        leave_words(&mut self.words, &mut self.held, other.words.as_slice());
+        leave_words(&mut self.words, &mut self.marks, other.words.as_slice());
     }
 
     /// Makes it what another set was, which may have room for fewer or for more.
@@ -126,7 +126,7 @@ impl Live {
         requires len { length self.old ≡ length was.now }
         ensures { self.new ≡ was.now }
     {
-        restore_words(&mut self.words, &mut self.held, was.words.as_slice());
+        restore_words(&mut self.words, &mut self.marks, was.words.as_slice());
     }
 
     /// What the set is now.
@@ -134,7 +134,7 @@ impl Live {
         ensures { IfOk result (λ k. k ≡ self.now) }
     {
         let len = self.words.len();
-        let words = copied(alloc, self.words.as_slice(), self.held.as_slice())?;
+        let words = copied(alloc, self.words.as_slice(), &self.marks)?;
         Ok(Kept { len, words })
     }
 }

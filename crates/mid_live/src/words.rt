@@ -31,7 +31,7 @@ pub(crate) fn has_bit(ws: &[u64], x: usize) -> bool
 
 /// A word, written where it is there.
 #[tactic(auto, using(crate::proofs::Written::written_in, crate::proofs::Written::written_past, crate::proofs::Written::set_past))]
-fn write(ws: &mut Vec<u64>, i: usize, w: u64)
+pub(crate) fn write(ws: &mut Vec<u64>, i: usize, w: u64)
     ensures len { length ws.new.items ≡ length ws.old.items }
     ensures list { ws.new.items ≡ slice_set ws.old.items i w }
     ensures is { (j : ℕ) → j < length ws.old.items → get_or ws.new.items j 0 ≡ cond (eqb j i) w (get_or ws.old.items j 0) }
@@ -41,7 +41,7 @@ fn write(ws: &mut Vec<u64>, i: usize, w: u64)
     }
 }
 
-fn put_bit(ws: &mut Vec<u64>, x: usize)
+pub(crate) fn put_bit(ws: &mut Vec<u64>, x: usize)
     ensures len { length ws.new.items ≡ length ws.old.items }
     ensures is { (y : ℕ) → y < room ws.old.items → on ws.new.items y ≡ (eqb x y || on ws.old.items y) }
     ensures others { (j : ℕ) → j ≢ x / 64 → get_or ws.new.items j 0 ≡ get_or ws.old.items j 0 }
@@ -51,7 +51,7 @@ fn put_bit(ws: &mut Vec<u64>, x: usize)
     }
 }
 
-fn strike_bit(ws: &mut Vec<u64>, x: usize)
+pub(crate) fn strike_bit(ws: &mut Vec<u64>, x: usize)
     ensures len { length ws.new.items ≡ length ws.old.items }
     ensures is { (y : ℕ) → y < room ws.old.items → on ws.new.items y ≡ cond (eqb x y) false (on ws.old.items y) }
     ensures others { (j : ℕ) → j ≢ x / 64 → get_or ws.new.items j 0 ≡ get_or ws.old.items j 0 }
@@ -61,7 +61,7 @@ fn strike_bit(ws: &mut Vec<u64>, x: usize)
     }
 }
 
-/// A temporary put in.
+/// A bit put in.
 #[tactic(auto, using(crate::proofs::Written::put_held))]
 pub(crate) fn put_in(words: &mut Vec<u64>, held: &mut Vec<u64>, x: usize)
     requires held { IsHeld words.old.items held.old.items }
@@ -73,7 +73,7 @@ pub(crate) fn put_in(words: &mut Vec<u64>, held: &mut Vec<u64>, x: usize)
     put_bit(held, x / 64);
 }
 
-/// A temporary taken out.
+/// A bit taken out.
 #[tactic(auto, using(crate::proofs::Written::put_held, crate::proofs::Written::strike_held))]
 pub(crate) fn strike_from(words: &mut Vec<u64>, held: &mut Vec<u64>, x: usize)
     requires held { IsHeld words.old.items held.old.items }
@@ -104,26 +104,20 @@ fn next_bit(held: &[u64], i: usize) -> usize
     }
 }
 
-/// The words that are not 0, in ascending order.
-#[tactic(auto, using(crate::proofs::Written::copied_none, crate::proofs::Written::copied_same, crate::proofs::Written::copied_more, crate::proofs::Written::copied_all))]
-pub(crate) fn copied(alloc: Global, words: &[u64], held: &[u64]) -> Result<Vec<Held>, Memory>
+/// No bit of words with bits for them stands from this one on and below the answer.
+pub(crate) fn next_held(words: &[u64], held: &[u64], i: usize) -> usize
     requires held { IsHeld words.now held.now }
-    ensures fresh { IfOk result (λ v. FreshIn (replicate (length words.now) 0) v.items) }
-    ensures is { IfOk result (λ v. spread (replicate (length words.now) 0) v.items ≡ words.now) }
+    requires few { i ≤ 0x800_0000 }
+    ensures from { i ≤ result }
+    ensures few { result ≤ i + 4160 }
+    ensures none { (j : ℕ) → i ≤ j → j < result → on words.now j ≡ false }
 {
-    let mut found = Vec::new(alloc);
-    let mut i = next_bit(held, 0);
-    'words: while i < words.len() {
-        let at = i;
-        i = next_bit(held, at + 1);
-        if words[at] != 0 {
-            found.push(Held {
-                at,
-                word: words[at],
-            })?;
-        }
+    let w = word(words, i / 64) >> (i % 64);
+    if w == 0 {
+        64 * next_bit(held, i / 64 + 1)
+    } else {
+        i + w.trailing_zeros() as usize
     }
-    Ok(found)
 }
 
 #[tactic(auto, using(crate::proofs::Written::zeroed_none, crate::proofs::Written::zeroed_more, crate::proofs::Written::zeroed_all))]
@@ -149,7 +143,7 @@ fn zero_all(ws: &mut Vec<u64>)
     }
 }
 
-/// All temporaries taken out.
+/// All bits taken out.
 #[tactic(auto, using(crate::proofs::Written::zero_held, crate::proofs::Written::zero_on, crate::proofs::Written::zero_list))]
 pub(crate) fn clear_words(words: &mut Vec<u64>, held: &mut Vec<u64>)
     requires held { IsHeld words.old.items held.old.items }
@@ -160,81 +154,6 @@ pub(crate) fn clear_words(words: &mut Vec<u64>, held: &mut Vec<u64>)
 {
     zero_words(words, held.as_slice());
     zero_all(held);
-}
-
-/// The bits of a word put in.
-#[tactic(auto, using(crate::proofs::Written::put_held, crate::proofs::Written::written_other))]
-fn join_word(words: &mut Vec<u64>, held: &mut Vec<u64>, e: Held)
-    requires held { IsHeld words.old.items held.old.items }
-    ensures held { IsHeld words.new.items held.new.items }
-    ensures len { length words.new.items ≡ length words.old.items }
-    ensures is { (y : ℕ) → y < room words.old.items → on words.new.items y ≡ (on words.old.items y || (eqb e.at (y / 64) && bit e.word (y % 64))) }
-{
-    let joint = word(words.as_slice(), e.at) | e.word;
-    write(words, e.at, joint);
-    put_bit(held, e.at);
-}
-
-/// The bits of words put in.
-#[tactic(auto, using(crate::proofs::Written::or_both))]
-pub(crate) fn join_words(words: &mut Vec<u64>, held: &mut Vec<u64>, es: &[Held])
-    requires held { IsHeld words.old.items held.old.items }
-    ensures held { IsHeld words.new.items held.new.items }
-    ensures len { length words.new.items ≡ length words.old.items }
-    ensures is { (y : ℕ) → y < room words.old.items → on words.new.items y ≡ (on words.old.items y || some es.now y) }
-{
-    for e in es {
-        join_word(words, held, *e);
-    }
-}
-
-/// The bits of a word taken out.
-#[tactic(auto, using(crate::proofs::Written::put_held, crate::proofs::Written::written_other))]
-fn leave_word(words: &mut Vec<u64>, held: &mut Vec<u64>, e: Held)
-    requires held { IsHeld words.old.items held.old.items }
-    ensures held { IsHeld words.new.items held.new.items }
-    ensures len { length words.new.items ≡ length words.old.items }
-    ensures is { (y : ℕ) → y < room words.old.items → on words.new.items y ≡ (on words.old.items y && not (eqb e.at (y / 64) && bit e.word (y % 64))) }
-{
-    let rest = word(words.as_slice(), e.at) & !e.word;
-    write(words, e.at, rest);
-    put_bit(held, e.at);
-}
-
-/// The bits of words taken out.
-#[tactic(auto, using(crate::proofs::Written::neither))]
-pub(crate) fn leave_words(words: &mut Vec<u64>, held: &mut Vec<u64>, es: &[Held])
-    requires held { IsHeld words.old.items held.old.items }
-    ensures held { IsHeld words.new.items held.new.items }
-    ensures len { length words.new.items ≡ length words.old.items }
-    ensures is { (y : ℕ) → y < room words.old.items → on words.new.items y ≡ (on words.old.items y && not (some es.now y)) }
-{
-    for e in es {
-        leave_word(words, held, *e);
-    }
-}
-
-/// A word in place of another.
-#[tactic(auto, using(crate::proofs::Written::put_held, crate::proofs::Written::written_other))]
-fn write_word(words: &mut Vec<u64>, held: &mut Vec<u64>, e: Held)
-    requires held { IsHeld words.old.items held.old.items }
-    ensures held { IsHeld words.new.items held.new.items }
-    ensures is { words.new.items ≡ slice_set words.old.items e.at e.word }
-{
-    write(words, e.at, e.word);
-    put_bit(held, e.at);
-}
-
-/// These words in their places, and 0 elsewhere.
-pub(crate) fn restore_words(words: &mut Vec<u64>, held: &mut Vec<u64>, es: &[Held])
-    requires held { IsHeld words.old.items held.old.items }
-    ensures held { IsHeld words.new.items held.new.items }
-    ensures is { words.new.items ≡ spread (replicate (length words.old.items) 0) es.now }
-{
-    clear_words(words, held);
-    for e in es {
-        write_word(words, held, *e);
-    }
 }
 
 #[tactic(auto, using(crate::proofs::Bits::is_bit_is))]

@@ -1,7 +1,7 @@
 use Rattle.std.proofs.Common.{rules, ◌≡◌}
 use Rattle.std.specs.Prelude.{Err}
 use Rattle.gen_source.specs.Summary.{summary_front}
-use Rattle.plain_run.specs.Plain.{plain_setup}
+use Rattle.kit_core.specs.Plain.{plain_setup}
 use Rattle.kit_tools.specs.declared.refusal.Refusal.TheVariants as refusals
 use Rattle.kit_core.proofs.Generates.{all_frames, outputs_not_begun}
 use Rattle.kit_core.proofs.generating.generate.Goals as goal

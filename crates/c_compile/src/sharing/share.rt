@@ -1,0 +1,164 @@
+// Choices whose operands share the places of targets.
+ghost use Rattle.std.specs.Prelude.{◌≡◌, ◌∷◌, [], IfOk, IfSome, IfNone, true, map};
+ghost use Rattle.mid_code.specs.Functions.{function};
+ghost use Rattle.mid_code.specs.Invariants.{AllOf};
+ghost use Rattle.mid_code.specs.Choices.{AreSafe, EachSafe};
+ghost use Rattle.mid_code.specs.Whole.{mid};
+ghost use Rattle.mid_code.specs.Safe.{IsSafe, SparesSlots, IsRegister, AllPlaces};
+ghost use Rattle.reg_choose.specs.Each.{EachSpares, AllSpare, places_in, IsNamed};
+
+use crate::sharing::entry::merge_params;
+use crate::sharing::merge::merge_nodes;
+use crate::sharing::registers::adds_no_slot;
+use crate::sharing::singles::singles;
+use kit_base::{Memory, Seq};
+use mid_code::laws::mid_code_is_sound;
+use mid_code::{Choice, Function, Mid, Where};
+use reg_choose::is_safe;
+use std::alloc::Global;
+
+fn copy(alloc: Global, at: &[Where]) -> Result<Choice, Memory>
+    ensures { IfOk result (λ c. c.at ≡ at.now) }
+{
+    Ok(Choice {
+        at: Seq::from_vec(at.to_vec(alloc)?),
+    })
+}
+
+/// The choice in which first operands stand at the places of targets. Nothing rests on it: it is tested.
+fn merged(alloc: Global, f: &Function<u32>, given: &[Where]) -> Result<Choice, Memory> {
+    let single = singles(alloc, f)?;
+    let mut at = given.to_vec(alloc)?;
+    merge_nodes(single.as_slice(), at.as_mut_slice(), f.body.as_slice());
+    Ok(Choice {
+        at: Seq::from_vec(at),
+    })
+}
+
+/// The choice in which parameters, too, stand at the places of the locals that take them. It is tested as well.
+fn entered(alloc: Global, f: &Function<u32>, given: &[Where]) -> Result<Choice, Memory> {
+    let single = singles(alloc, f)?;
+    let mut at = given.to_vec(alloc)?;
+    merge_params(
+        single.as_slice(),
+        at.as_mut_slice(),
+        f.params.as_slice(),
+        f.body.as_slice(),
+    );
+    Ok(Choice {
+        at: Seq::from_vec(at),
+    })
+}
+
+/// Whether another choice may be taken in the place of the given one: it is safe, and has no slot where that has none.
+fn serves(alloc: Global, f: &Function<u32>, given: &[Where], other: &Choice) -> Result<bool, Memory>
+    requires named { IsNamed (function f.now) }
+    ensures safe { IfOk result (λ b. b ≡ true → IsSafe (function f.now) other.now.at) }
+    ensures slots { IfOk result (λ b. b ≡ true → AllPlaces IsRegister given.now → AllPlaces IsRegister other.now.at) }
+{
+    if !adds_no_slot(given, other.at.as_slice()) {
+        return Ok(false);
+    }
+    is_safe(alloc, f, other)
+}
+
+/// The choice in which parameters share places too, where it serves, else the one given.
+fn share_entry(alloc: Global, f: &Function<u32>, given: Choice) -> Result<Choice, Memory>
+    requires named { IsNamed (function f.now) }
+    requires safe { IsSafe (function f.now) given.at }
+    requires spares { SparesSlots (function f.now) given.at }
+    ensures safe { IfOk result (λ c. IsSafe (function f.now) c.at) }
+    ensures spares { IfOk result (λ c. SparesSlots (function f.now) c.at) }
+{
+    let other = entered(alloc, f, given.at.as_slice())?;
+    if serves(alloc, f, given.at.as_slice(), &other)? {
+        Ok(other)
+    } else {
+        Ok(given)
+    }
+}
+
+/// The choice for one function: the one in which operands share places where it serves, else the given one; then the same of parameters.
+fn share(alloc: Global, f: &Function<u32>, given: &[Where]) -> Result<Choice, Memory>
+    requires named { IsNamed (function f.now) }
+    requires safe { IsSafe (function f.now) given.now }
+    requires spares { SparesSlots (function f.now) given.now }
+    ensures safe { IfOk result (λ c. IsSafe (function f.now) c.at) }
+    ensures spares { IfOk result (λ c. SparesSlots (function f.now) c.at) }
+{
+    let other = merged(alloc, f, given)?;
+    if serves(alloc, f, given, &other)? {
+        share_entry(alloc, f, other)
+    } else {
+        share_entry(alloc, f, copy(alloc, given)?)
+    }
+}
+
+/// The first function and those behind it.
+fn next(fs: &[Function<u32>]) -> Option<(&Function<u32>, &[Function<u32>])>
+    ensures some { IfSome result (λ x. fs.now ≡ x.0.now ∷ x.1.now) }
+    ensures none { IfNone result (fs.now ≡ []) }
+{
+    fs.split_first()
+}
+
+/// The first choice and those behind it.
+fn next_choice(cs: &[Choice]) -> Option<(&Choice, &[Choice])>
+    ensures some { IfSome result (λ x. cs.now ≡ x.0.now ∷ x.1.now) }
+    ensures none { IfNone result (cs.now ≡ []) }
+{
+    cs.split_first()
+}
+
+fn share_each(
+    alloc: Global,
+    start: &Function<u32>,
+    fs: &[Function<u32>],
+    choices: &[Choice],
+) -> Result<Vec<Choice>, Memory>
+    requires start { IsNamed (function start.now) }
+    requires named { AllOf IsNamed (map function fs.now) }
+    requires safe { EachSafe (function start.now ∷ map function fs.now) (places_in choices.now) }
+    requires spares { EachSpares (function start.now ∷ map function fs.now) (places_in choices.now) }
+    ensures safe { IfOk result (λ v. EachSafe (function start.now ∷ map function fs.now) (places_in v.items)) }
+    ensures spares { IfOk result (λ v. EachSpares (function start.now ∷ map function fs.now) (places_in v.items)) }
+{
+    let mut found = Vec::new(alloc);
+    let Some((first, others)) = next_choice(choices) else {
+        return Ok(found);
+    };
+    found.push(share(alloc, start, first.at.as_slice())?)?;
+    let mut rest = fs;
+    let mut given = others;
+    'functions: while let Some((f, after)) = next(rest) {
+        let Some((choice, behind)) = next_choice(given) else {
+            break;
+        };
+        found.push(share(alloc, f, choice.at.as_slice())?)?;
+        rest = after;
+        given = behind;
+    }
+    Ok(found)
+}
+
+/// The choices for a program, that of the start first, in which operands share the places of targets. A temporary goes to the place of an operation's target
+/// where that operation is the only one that uses it, as its first operand, and works on its target or is a load; where one operation alone makes it,
+/// in the same list
+/// and at most 64 nodes before; and where nothing that either of them uses beside stands in the way at that place, nor is named in between. Both places are
+/// registers, or both are slots. Of each function the given choice stays where the other one would not be safe. The error is want of memory, and then the
+/// choices given are dropped.
+pub fn share_all(alloc: Global, m: &Mid, choices: Vec<Choice>) -> Result<Vec<Choice>, Memory>
+    requires safe { AreSafe (mid m.now) (places_in choices.items) }
+    requires spares { AllSpare (mid m.now) (places_in choices.items) }
+    ensures safe { IfOk result (λ v. AreSafe (mid m.now) (places_in v.items)) }
+    ensures spares { IfOk result (λ v. AllSpare (mid m.now) (places_in v.items)) }
+{
+    mid_code_is_sound(m);
+    let of = m.code();
+    share_each(
+        alloc,
+        &of.start,
+        of.functions.as_slice(),
+        choices.as_slice(),
+    )
+}

@@ -1,0 +1,161 @@
+// Words of bits, with marks of those that may be other than 0.
+ghost use Rattle.std.specs.Prelude.{◌≡◌, ℕ, ◌*◌, ◌/◌, ◌%◌, ◌<◌, ◌||◌, ◌&&◌, not, false, cond, eqb, length, get_or, replicate};
+ghost use Rattle.std.specs.Prelude.{slice_set, IfOk};
+ghost use Rattle.mid_live.specs.Sets.{on, room};
+ghost use Rattle.mid_live.specs.inner.Words.{bit, some, IsHeld, FreshIn, spread};
+
+use crate::marks::Marks;
+use crate::words::{Held, put_bit, strike_bit, word, write};
+use kit_base::Memory;
+use std::alloc::Global;
+
+/// A temporary put in.
+#[tactic(auto, using(crate::proofs::Written::put_held))]
+pub(crate) fn put_marked(words: &mut Vec<u64>, marks: &mut Marks, x: usize)
+    requires held { IsHeld words.old.items marks.old }
+    ensures held { IsHeld words.new.items marks.new }
+    ensures len { length words.new.items ≡ length words.old.items }
+    ensures is { (y : ℕ) → y < room words.old.items → on words.new.items y ≡ (eqb x y || on words.old.items y) }
+{
+    put_bit(words, x);
+    marks.put(x / 64);
+}
+
+/// A temporary taken out.
+#[tactic(auto, using(crate::proofs::Written::put_held, crate::proofs::Written::strike_held))]
+pub(crate) fn strike_marked(words: &mut Vec<u64>, marks: &mut Marks, x: usize)
+    requires held { IsHeld words.old.items marks.old }
+    ensures held { IsHeld words.new.items marks.new }
+    ensures len { length words.new.items ≡ length words.old.items }
+    ensures is { (y : ℕ) → y < room words.old.items → on words.new.items y ≡ cond (eqb x y) false (on words.old.items y) }
+{
+    strike_bit(words, x);
+    if word(words.as_slice(), x / 64) == 0 {
+        marks.strike(x / 64);
+    } else {
+        marks.put(x / 64);
+    }
+}
+
+/// The words that are not 0, in ascending order.
+#[tactic(auto, using(crate::proofs::Written::copied_none, crate::proofs::Written::copied_same, crate::proofs::Written::copied_more, crate::proofs::Written::copied_all))]
+pub(crate) fn copied(alloc: Global, words: &[u64], marks: &Marks) -> Result<Vec<Held>, Memory>
+    requires held { IsHeld words.now marks.now }
+    ensures fresh { IfOk result (λ v. FreshIn (replicate (length words.now) 0) v.items) }
+    ensures is { IfOk result (λ v. spread (replicate (length words.now) 0) v.items ≡ words.now) }
+{
+    let mut found = Vec::new(alloc);
+    let mut i = marks.next(0);
+    'words: while i < words.len() {
+        let at = i;
+        i = marks.next(at + 1);
+        if words[at] != 0 {
+            found.push(Held {
+                at,
+                word: words[at],
+            })?;
+        }
+    }
+    Ok(found)
+}
+
+#[tactic(auto, using(crate::proofs::Written::zeroed_none, crate::proofs::Written::zeroed_more, crate::proofs::Written::zeroed_all))]
+fn zero_marked(words: &mut Vec<u64>, marks: &Marks)
+    requires held { IsHeld words.old.items marks.now }
+    ensures len { length words.new.items ≡ length words.old.items }
+    ensures none { (j : ℕ) → get_or words.new.items j 0 ≡ 0 }
+{
+    let mut i = marks.next(0);
+    'words: while i < words.len() {
+        words[i] = 0;
+        i = marks.next(i + 1);
+    }
+}
+
+/// All temporaries taken out.
+#[tactic(auto, using(crate::proofs::Written::zero_held, crate::proofs::Written::zero_on, crate::proofs::Written::zero_list))]
+pub(crate) fn clear_marked(words: &mut Vec<u64>, marks: &mut Marks)
+    requires held { IsHeld words.old.items marks.old }
+    ensures held { IsHeld words.new.items marks.new }
+    ensures len { length words.new.items ≡ length words.old.items }
+    ensures none { (y : ℕ) → on words.new.items y ≡ false }
+    ensures list { words.new.items ≡ replicate (length words.old.items) 0 }
+{
+    zero_marked(words, marks);
+    marks.clear();
+}
+
+/// The bits of a word put in.
+#[tactic(auto, using(crate::proofs::Written::put_held, crate::proofs::Written::written_other))]
+fn join_word(words: &mut Vec<u64>, marks: &mut Marks, e: Held)
+    requires held { IsHeld words.old.items marks.old }
+    ensures held { IsHeld words.new.items marks.new }
+    ensures len { length words.new.items ≡ length words.old.items }
+    ensures is { (y : ℕ) → y < room words.old.items → on words.new.items y ≡ (on words.old.items y || (eqb e.at (y / 64) && bit e.word (y % 64))) }
+{
+    let joint = word(words.as_slice(), e.at) | e.word;
+    write(words, e.at, joint);
+    marks.put(e.at);
+}
+
+/// The bits of words put in.
+#[tactic(auto, using(crate::proofs::Written::or_both))]
+pub(crate) fn join_words(words: &mut Vec<u64>, marks: &mut Marks, es: &[Held])
+    requires held { IsHeld words.old.items marks.old }
+    ensures held { IsHeld words.new.items marks.new }
+    ensures len { length words.new.items ≡ length words.old.items }
+    ensures is { (y : ℕ) → y < room words.old.items → on words.new.items y ≡ (on words.old.items y || some es.now y) }
+{
+    for e in es {
+        join_word(words, marks, *e);
+    }
+}
+
+/// The bits of a word taken out.
+#[tactic(auto, using(crate::proofs::Written::put_held, crate::proofs::Written::written_other))]
+fn leave_word(words: &mut Vec<u64>, marks: &mut Marks, e: Held)
+    requires held { IsHeld words.old.items marks.old }
+    ensures held { IsHeld words.new.items marks.new }
+    ensures len { length words.new.items ≡ length words.old.items }
+    ensures is { (y : ℕ) → y < room words.old.items → on words.new.items y ≡ (on words.old.items y && not (eqb e.at (y / 64) && bit e.word (y % 64))) }
+{
+    let rest = word(words.as_slice(), e.at) & !e.word;
+    write(words, e.at, rest);
+    marks.put(e.at);
+}
+
+/// The bits of words taken out.
+#[tactic(auto, using(crate::proofs::Written::neither))]
+pub(crate) fn leave_words(words: &mut Vec<u64>, marks: &mut Marks, es: &[Held])
+    requires held { IsHeld words.old.items marks.old }
+    ensures held { IsHeld words.new.items marks.new }
+    ensures len { length words.new.items ≡ length words.old.items }
+    ensures is { (y : ℕ) → y < room words.old.items → on words.new.items y ≡ (on words.old.items y && not (some es.now y)) }
+{
+    for e in es {
+        leave_word(words, marks, *e);
+    }
+}
+
+/// A word in place of another.
+#[tactic(auto, using(crate::proofs::Written::put_held, crate::proofs::Written::written_other))]
+fn write_word(words: &mut Vec<u64>, marks: &mut Marks, e: Held)
+    requires held { IsHeld words.old.items marks.old }
+    ensures held { IsHeld words.new.items marks.new }
+    ensures is { words.new.items ≡ slice_set words.old.items e.at e.word }
+{
+    write(words, e.at, e.word);
+    marks.put(e.at);
+}
+
+/// These words in their places, and 0 elsewhere.
+pub(crate) fn restore_words(words: &mut Vec<u64>, marks: &mut Marks, es: &[Held])
+    requires held { IsHeld words.old.items marks.old }
+    ensures held { IsHeld words.new.items marks.new }
+    ensures is { words.new.items ≡ spread (replicate (length words.old.items) 0) es.now }
+{
+    clear_marked(words, marks);
+    for e in es {
+        write_word(words, marks, *e);
+    }
+}

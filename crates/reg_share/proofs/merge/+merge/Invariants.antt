@@ -1,8 +1,0 @@
-use Rattle.std.proofs.Common.{◌≤◌, length}
-use Rattle.reg_share.proofs.merge.+merge.Given as goal
-
-abbrev pub invariant-merge_nodes-loop-i : goal.invariant-merge_nodes-loop-i
-invariant-merge_nodes-loop-i l = l.i ≤ length l.ns
-
-abbrev pub decreases-merge_nodes-loop-i : goal.decreases-merge_nodes-loop-i
-decreases-merge_nodes-loop-i l = l.i

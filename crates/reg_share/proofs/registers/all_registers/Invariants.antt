@@ -1,6 +1,0 @@
-use Rattle.std.proofs.Common.{◌↔◌, drop}
-use Rattle.mid_code.specs.Safe.{IsRegister, AllPlaces}
-use Rattle.reg_share.proofs.registers.all_registers.Given as goal
-
-abbrev pub invariant-loop-w : goal.invariant-loop-w
-invariant-loop-w l = AllPlaces IsRegister l.at ↔ AllPlaces IsRegister (drop l.w-index l.at)

@@ -1,4 +1,0 @@
-use Rattle.reg_share.proofs.upwards.may_stand.Given as goal
-
-abbrev pub decreases-loop-j : goal.decreases-loop-j
-decreases-loop-j l = l.j

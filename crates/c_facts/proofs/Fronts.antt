@@ -13,7 +13,7 @@ pub begins_through : {A : Type 0} (xs ys zs : List A) → Begins xs ys → Begin
 begins_through xs ys zs h k = (h.0 ++ k.0, k.1 ∙ ap (λ us. us ++ k.0) h.1 ∙ append_assoc xs h.0 k.0)
 
 -- what stands at the end of a beginning stands there in the whole
-after_front : {A : Type 0} (ts : List A) (t : A) (more : List A) → slice_get (ts ++ t ∷ more) (length ts) ≡ Some t
+pub after_front : {A : Type 0} (ts : List A) (t : A) (more : List A) → slice_get (ts ++ t ∷ more) (length ts) ≡ Some t
 after_front [] t more = refl
 after_front (x ∷ ts) t more = after_front ts t more
 

@@ -1,10 +1,12 @@
 -- What the rules of items tell.
-use Rattle.std.proofs.Common.{◌≡◌, ℕ, ◌+◌, ◌==◌, ◌≤◌, Bool, true, false, ◌&&◌, not, List, Option, Some, None, Result, Ok, Err, is_some, length, ap, subst, eqb-true}
+use Rattle.std.proofs.Common.{◌≡◌, ℕ, ◌+◌, ◌==◌, ◌≤◌, Bool, true, false, ◌&&◌, not, List, Option, Some, None, Result, Ok, Err, is_some, length, refl, sym, ap, subst, eqb-true}
 use Rattle.std.proofs.lemmas.Bool.{and_parts, leb-true, not-true}
-use Rattle.std.specs.Prelude.{nat_le}
+use Rattle.std.proofs.lemmas.Slice.Eq.{bytes_eq-Decides}
+use Rattle.std.specs.Prelude.{nat_le, slice_get}
+use Rattle.std.specs.Str.{bytes_eq}
 use Rattle.c_tree.specs.declared.span.Span.{Span}
 use Rattle.c_tree.specs.Tree.{StmtTs}
-use Rattle.c_types.specs.Types.{Ty, LayoutT}
+use Rattle.c_types.specs.Types.{Ty, VoidY, IntY, BoolY, EnumY, StructY, UnionY, PointerY, ArrayY, LayoutT}
 use Rattle.c_rules.specs.declared.code.Code.{Code}
 use Rattle.c_rules.specs.declared.code.Code.TheVariants.{Twice, WrongType, TooLarge}
 use Rattle.c_rules.specs.Kinds.{holds, same_type}
@@ -17,7 +19,8 @@ use Rattle.c_exprs.specs.Calls.{ensured}
 use Rattle.c_types.specs.Sizes.{member_named}
 use Rattle.c_stmts.specs.State.{innermost, object_rule, object_size}
 use Rattle.c_check.specs.Words.{is_word}
-use Rattle.c_check.specs.Reading.{Un, record_number, has_members, whole_record, member_size, members_declared, global_words, globals_limit, global_size, parameter_rule, parameter_size, same_types, is_function, agrees, is_own_body, result_rule, function_rules}
+use Rattle.c_check.specs.Reading as reading
+use Rattle.c_check.specs.Reading.{Un, record_type, number_as, declared_record, record_number, has_members, whole_record, member_size, members_declared, global_words, globals_limit, global_size, parameter_rule, parameter_size, same_types, is_function, agrees, is_own_body, result_rule, function_rules}
 use Rattle.c_facts.proofs.Holds.{placed_gives, ensured_gives}
 use Rattle.c_facts.proofs.Stays.{HasWords, size_facts, object_facts}
 use Rattle.c_facts.proofs.Equal.{types_equal, all_types_equal}
@@ -49,6 +52,67 @@ whole_by un l (Ok number) n h =
 pub members_whole : (s : Span) (is_union : Bool) (name : Text) (un : Un) (l : LayoutT) (n : ℕ) → placed s (members_declared is_union name un l) ≡ Ok n → BecomesWhole un l n
 unfolding members_declared
 members_whole s is_union name un l n h = whole_by un l (record_number is_union name un) n (placed_gives s (members_declared is_union name un l) n h)
+
+-- the structure or union whose members are declared: its number is that of its name, which means it
+pub record IsRecord (is_union : Bool) (name : Text) (un : Un) (n : ℕ) : Type 0 where
+  pub declared : find name un.names ≡ Some (TypeD (record_type is_union n))
+  pub named : slice_get un.records n ≡ Some name
+
+name_there : (name : Text) (o : Option Text) → holds (bytes_eq name) o ≡ true → o ≡ Some name
+name_there name None h = absurd cc
+name_there name (Some m) h = ap Some (sym ((bytes_eq-Decides name m).0 h))
+
+one_record : (is_union : Bool) (ty : Ty) (k : ℕ) → number_as is_union ty ≡ Some k → ty ≡ record_type is_union k
+one_record true (UnionY j) k h = ap UnionY (cc)
+one_record true VoidY k h = absurd cc
+one_record true IntY k h = absurd cc
+one_record true BoolY k h = absurd cc
+one_record true (EnumY j) k h = absurd cc
+one_record true (StructY j) k h = absurd cc
+one_record true (PointerY to) k h = absurd cc
+one_record true (ArrayY of count) k h = absurd cc
+one_record false (StructY j) k h = ap StructY (cc)
+one_record false VoidY k h = absurd cc
+one_record false IntY k h = absurd cc
+one_record false BoolY k h = absurd cc
+one_record false (EnumY j) k h = absurd cc
+one_record false (UnionY j) k h = absurd cc
+one_record false (PointerY to) k h = absurd cc
+one_record false (ArrayY of count) k h = absurd cc
+
+own_record : (name : Text) (records : List Text) (o : Option ℕ) (n : ℕ) → reading.own_number name records o ≡ Ok n → (o ≡ Some n) × (slice_get records n ≡ Some name)
+own_record name records None n h = absurd cc
+own_record name records (Some k) n h =
+    let e = ensured_gives Twice (holds (bytes_eq name) (slice_get records k)) (Ok k) n h in
+    let same : k ≡ n = same_number k n e.1 in
+    (ap Some same, subst (λ j. slice_get records j ≡ Some name) same (name_there name (slice_get records k) e.0))
+  where
+    same_number : (a b : ℕ) → ◌≡◌ {A = Result ℕ Code} (Ok a) (Ok b) → a ≡ b
+    same_number a b e = cc
+
+declared_as : (is_union : Bool) (name : Text) (records : List Text) (o : Option Decl) (n : ℕ) → declared_record is_union name records o ≡ Ok n → (o ≡ Some (TypeD (record_type is_union n))) × (slice_get records n ≡ Some name)
+declared_as is_union name records None n h = absurd cc
+declared_as is_union name records (Some (TypeD ty)) n h =
+    let own = own_record name records (number_as is_union ty) n h in
+    (ap (λ (t : Ty). Some (TypeD t)) (one_record is_union ty n own.0), own.1)
+declared_as is_union name records (Some (ConstantD k)) n h = absurd cc
+declared_as is_union name records (Some (GlobalD number ty)) n h = absurd cc
+declared_as is_union name records (Some (FunctionD params gives)) n h = absurd cc
+
+record_is : (is_union : Bool) (name : Text) (un : Un) (n : ℕ) → record_number is_union name un ≡ Ok n → IsRecord is_union name un n
+unfolding record_number
+record_is is_union name un n h = let d = declared_as is_union name un.records (find name un.names) n h in record { declared = d.0; named = d.1 }
+
+found_by : (un : Un) (l : LayoutT) (r : Result ℕ Code) (n : ℕ) → whole_record un l r ≡ Ok n → r ≡ Ok n
+found_by un l (Err k) n h = absurd cc
+found_by un l (Ok number) n h =
+    let e = ensured_gives Twice (not (is_declared un.whole number)) (ensured WrongType (has_members l) (ensured TooLarge (nat_le l.size type_limit) (Ok number))) n h in
+    let d = ensured_gives WrongType (has_members l) (ensured TooLarge (nat_le l.size type_limit) (Ok number)) n e.1 in
+    (ensured_gives TooLarge (nat_le l.size type_limit) (Ok number) n d.1).1
+
+pub members_named : (s : Span) (is_union : Bool) (name : Text) (un : Un) (l : LayoutT) (n : ℕ) → placed s (members_declared is_union name un l) ≡ Ok n → IsRecord is_union name un n
+unfolding members_declared
+members_named s is_union name un l n h = record_is is_union name un n (found_by un l (record_number is_union name un) n (placed_gives s (members_declared is_union name un l) n h))
 
 -- a global
 pub record HasRoom (un : Un) (fresh : Bool) (ty : Ty) (n : ℕ) : Type 0 where

@@ -16,6 +16,7 @@ use Rattle.c_facts.specs.Sound.{IsKnown, IsLaidOut, IsDeclaredAs, AreDeclaredAs,
 use Rattle.c_facts.specs.Known.{SizedHaveSizes, KnownAreNumbered, KeepsItself, AssignedAreStored}
 use Rattle.c_facts.proofs.Equal.{types_equal}
 use Rattle.c_facts.proofs.Fronts.{within_at}
+use Rattle.c_facts.proofs.LayoutKinds.{kind_within}
 use Rattle.c_facts.proofs.Growth.{judged_holds, given_is, given_holds}
 use Rattle.c_facts.proofs.Positive.{HaveWords, has_words}
 
@@ -24,8 +25,8 @@ numbered layouts whole VoidY h = tt
 numbered layouts whole IntY h = tt
 numbered layouts whole BoolY h = tt
 numbered layouts whole (EnumY number) h = tt
-numbered layouts whole (StructY number) h = h
-numbered layouts whole (UnionY number) h = h
+numbered layouts whole (StructY number) h = kind_within layouts number false h
+numbered layouts whole (UnionY number) h = kind_within layouts number true h
 numbered layouts whole (PointerY to) h = tt
 numbered layouts whole (ArrayY of count) h = numbered layouts whole of h.0
 
@@ -67,8 +68,8 @@ module _ (p : ProgramT) (sound : IsSound p) where
   few IntY known w = omega arith
   few BoolY known w = omega arith
   few (EnumY number) known w = omega arith
-  few (StructY number) known w = layout_few number known w
-  few (UnionY number) known w = layout_few number known w
+  few (StructY number) known w = layout_few number (kind_within p.layouts number false known) w
+  few (UnionY number) known w = layout_few number (kind_within p.layouts number true known) w
   few (PointerY to) known w = omega arith
   few (ArrayY of count) known w = known.3
 

@@ -11,6 +11,8 @@ use Rattle.c_exprs.specs.Env.{Text}
 use Rattle.c_check.specs.Reading.{has_members}
 use Rattle.c_facts.proofs.Within.{Grows, AllWhole}
 use Rattle.c_facts.proofs.Fronts.{begins_more, begins_at, last_or_before, within_at, others_stay, replaced_there}
+use Rattle.c_facts.specs.Sound.{kind_at}
+use Rattle.c_facts.proofs.LayoutKinds.{kind_more, kind_replaced}
 use Rattle.c_facts.proofs.Growth.{whole_later, words_later}
 
 -- a structure or union that is declared whole
@@ -71,6 +73,7 @@ record_grows u layouts whole a = record {
   kept = λ k l e. inr (begins_at layouts (layouts ++ no_layout u ∷ []) k l (begins_more layouts (no_layout u ∷ [])) e);
   fixed = λ k h. (more k h, there k (within_at layouts k (omega (arith, a.equal, slice_get_within whole k true (declared_there whole k h)))));
   few = omega (arith, length-append layouts (no_layout u ∷ []));
+  kinds = λ k v e. kind_more layouts (no_layout u ∷ []) k v e;
 }
   where
     more : (k : ℕ) → is_declared whole k ≡ true → is_declared (whole ++ false ∷ []) k ≡ true
@@ -113,26 +116,27 @@ record_declared u layouts whole a = record {
 not_both : (whole : List Bool) (n k : ℕ) → is_declared whole n ≡ false → is_declared whole k ≡ true → k ≡ n → ⊥
 not_both whole n k h g e = let f : is_declared whole n ≡ true = subst (λ j. is_declared whole j ≡ true) e g in absurd cc
 
-pub layout_grows : (layouts : List LayoutT) (whole : List Bool) (n : ℕ) (l : LayoutT) → AreDeclared layouts whole → is_declared whole n ≡ false → Grows layouts whole (slice_set layouts n l) (slice_set whole n true)
-layout_grows layouts whole n l a h = record {
+pub layout_grows : (layouts : List LayoutT) (whole : List Bool) (n : ℕ) (l : LayoutT) → AreDeclared layouts whole → is_declared whole n ≡ false → kind_at layouts n ≡ Some l.is_union → Grows layouts whole (slice_set layouts n l) (slice_set whole n true)
+layout_grows layouts whole n l a h kind = record {
   kept = λ k m e. kept_by k m e (cases_eq k n);
   fixed = λ k g. (ap (λ o. holds (λ (declared : Bool). declared) o) (others_stay whole n true k (not_both whole n k h g)) ∙ g, sym (others_stay layouts n l k (not_both whole n k h g)));
   few = omega (arith, length-set layouts n l);
+  kinds = λ k u e. kind_replaced layouts n l kind k u e;
 }
   where
     kept_by : (k : ℕ) (m : LayoutT) → slice_get layouts k ≡ Some m → (k ≡ n) ⊎ (k ≡ n → ⊥) → (m ≡ no_layout m.is_union) ⊎ (slice_get (slice_set layouts n l) k ≡ Some m)
     kept_by k m e (inl s) = inl (a.empty n m h (subst (λ j. slice_get layouts j ≡ Some m) s e))
     kept_by k m e (inr s) = inr (others_stay layouts n l k s ∙ e)
 
-pub layout_declared : (layouts : List LayoutT) (whole : List Bool) (n : ℕ) (l : LayoutT) → AreDeclared layouts whole → is_declared whole n ≡ false → AreLaid layouts whole l → AreDeclared (slice_set layouts n l) (slice_set whole n true)
-layout_declared layouts whole n l a h r = record {
+pub layout_declared : (layouts : List LayoutT) (whole : List Bool) (n : ℕ) (l : LayoutT) → AreDeclared layouts whole → is_declared whole n ≡ false → kind_at layouts n ≡ Some l.is_union → AreLaid layouts whole l → AreDeclared (slice_set layouts n l) (slice_set whole n true)
+layout_declared layouts whole n l a h kind r = record {
   equal = length-set whole n true ∙ a.equal ∙ sym (length-set layouts n l);
   empty = λ k m d e. empty_by k m d e (cases_eq k n);
   laid = λ k m d e. laid_by k m d e (cases_eq k n);
 }
   where
     grown : Grows layouts whole (slice_set layouts n l) (slice_set whole n true)
-    grown = layout_grows layouts whole n l a h
+    grown = layout_grows layouts whole n l a h kind
 
     inside : (k : ℕ) (m : LayoutT) → slice_get (slice_set layouts n l) k ≡ Some m → k < length layouts
     inside k m e = omega (arith, length-set layouts n l, slice_get_within (slice_set layouts n l) k m e)

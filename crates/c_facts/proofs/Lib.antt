@@ -1,5 +1,6 @@
 pub mod Within
 pub mod Fronts
+pub mod LayoutKinds
 pub mod Growth
 pub mod Known
 pub mod Beginnings
@@ -10,6 +11,7 @@ pub mod Holds
 pub mod Scopes
 pub mod Initialisers
 pub mod Spending
+pub mod ObjectTypes
 pub mod Statements
 pub mod Making
 pub mod ExpressionNodes

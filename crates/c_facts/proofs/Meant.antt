@@ -7,26 +7,31 @@ use Rattle.c_types.specs.Types.{Ty, EnumY, MemberT, LayoutT}
 use Rattle.c_types.specs.Typed.{TInitT, TVarT}
 use Rattle.c_types.specs.Sizes.{words_of, next_offset, with_member}
 use Rattle.c_rules.specs.Sizes.{is_whole}
-use Rattle.c_exprs.specs.Env.{Text, Decl, TypeD, ConstantD, GlobalD}
+use Rattle.c_exprs.specs.Env.{Text, find, Decl, TypeD, ConstantD, GlobalD}
 use Rattle.c_stmts.specs.State.{filled_var}
 use Rattle.c_check.specs.Reading.{Un, under, with_texts, is_free, named, enum_entered}
 use Rattle.c_check.specs.ItemTypes as item
 use Rattle.c_check.specs.ItemTypes.{ValueAt, TypeAt, FillsAt, Members, Enumerator, NamedEnumerator, Enumerators, MaybeFillsAt, Global, Globals}
-use Rattle.c_facts.specs.Sound.{Scene, IsKnown, IsSized, IsGlobal, AreFilled, FillsAs}
+use Rattle.c_facts.specs.Sound.{Scene, IsKnown, IsSized, IsOfType, IsGlobal, AreFilled, FillsAs}
 use Rattle.c_facts.proofs.Within.{Begins, Grows, IsMeant, AreMeant, InScopes, AllMembersKnown, Within, MembersWhole, MembersKnown}
 use Rattle.c_facts.proofs.Told.{name_is, fills_are}
 use Rattle.c_facts.proofs.Fronts.{begins_at, last_at}
 use Rattle.c_facts.proofs.ItemRules.{global_room}
 use Rattle.c_facts.proofs.Readings.{Later, later_through, Keeps, keeps_through, kept_later, by_named, by_enum, named_keeps, type_keeps, fill_keeps, maybe_fill_keeps, members_keep}
-use Rattle.c_facts.proofs.Sane.{Sane, kept_sane, with_global_later, global_keeps, global_follows, globals_follow}
+use Rattle.c_facts.proofs.Sane.{Sane, kept_sane, with_global_later, global_keeps, new_global, type_names, global_follows, globals_follow}
 use Rattle.c_facts.proofs.Counts.{HaveNumbers, numbers_then}
 use Rattle.c_facts.proofs.Growth.{whole_later, words_later}
+
+-- where types are told, each global has the one that its name is declared with
+abbrev pub AreTold : Un → Option (List Ty) → Type 0
+AreTold fin o = (k : ℕ) (g : Text × ℕ) (ty : Ty) → slice_get fin.globals k ≡ Some g → find g.0 fin.names ≡ Some (GlobalD k ty) → IsOfType o k ty
 
 -- a scene of the unit that ends so
 pub record Ends (s : Scene) (fin : Un) : Type 0 where
   pub numbers : HaveNumbers fin
   pub functions : s.functions ≡ fin.functions
   pub globals : s.globals ≡ fin.globals
+  pub types : AreTold fin s.global_types
   pub literals : s.literals ≡ fin.texts
   pub members : MembersKnown s
 
@@ -129,12 +134,13 @@ maybe_filled number e h (item.is_filled g0) later m w sized object =
     let f = fill_known e h g0 later m w sized in
     record { filled = (record { kind = refl; object = object; sized = sized; filled = f.0 }, tt); meant = f.1 }
 
--- the object of a global, with the words of its type
-object_there : {s : Scene} {fin : Un} (name : Text) (n number : ℕ) (t : Ty) (gs : List (Text × ℕ)) → Ends s fin → Begins (gs ++ (name, n) ∷ []) fin.globals → number ≡ length gs → n ≡ words_of s.layouts t → IsGlobal s number t
-object_there {s = s} {fin = fin} name n number t gs e b same words =
+-- the object of a global, with the words of its type, and the type of its name
+object_there : {s : Scene} {fin : Un} (name : Text) (n number : ℕ) (t : Ty) (gs : List (Text × ℕ)) → Ends s fin → Begins (gs ++ (name, n) ∷ []) fin.globals → number ≡ length gs → n ≡ words_of s.layouts t → find name fin.names ≡ Some (GlobalD number t) → IsGlobal s number t
+object_there {s = s} {fin = fin} name n number t gs e b same words named =
     let entry : Text × ℕ = (name, n) in
     let here : slice_get fin.globals (length gs) ≡ Some entry = begins_at (gs ++ entry ∷ []) fin.globals (length gs) entry b (last_at gs entry) in
-    ap (option_map (λ (g : Text × ℕ). g.1)) (subst₂ (λ (xs : List (Text × ℕ)) (k : ℕ). slice_get xs k ≡ Some entry) (sym e.globals) (sym same) here) ∙ ap Some words
+    let at : slice_get fin.globals number ≡ Some entry = subst (λ (k : ℕ). slice_get fin.globals k ≡ Some entry) (sym same) here in
+    (ap (option_map (λ (g : Text × ℕ). g.1)) (subst (λ (xs : List (Text × ℕ)). slice_get xs number ≡ Some entry) (sym e.globals) at) ∙ ap Some words, e.types number entry t at named)
 
 pub global_known : {s : Scene} {fin un : Un} {v : VarT} {xs : List TVarT} {up : Un} → Ends s fin → Sane un → Global un v xs up → Later up fin → Meant s un → VariablesRead s xs up
 global_known {s = s} {fin = fin} e h (item.global {un = un} {up = up} {uq = uq} {v = v} {t = t} {i = i} {n = n} g0 g1 g2) later m =
@@ -149,7 +155,8 @@ global_known {s = s} {fin = fin} e h (item.global {un = un} {up = up} {uq = uq} 
     let to_named : Keeps up named_state = named_keeps v.name (GlobalD number t) up in
     let after : Later uq fin = later_through (with_global_later v.name n uq) later in
     let ty = type_known e g0 (later_through (kept_later (keeps_through to_named from_named)) after) m in
-    let object : IsGlobal s number t = object_there v.name n number t uq.globals e later.globals (sym (ap length keeps.globals)) (sym words ∙ words_later m.grows t whole) in
+    let declared : find v.name fin.names ≡ Some (GlobalD number t) = after.names v.name (GlobalD number t) (from_named.names v.name (GlobalD number t) (new_global v un t up (type_names g0) r.new)) in
+    let object : IsGlobal s number t = object_there v.name n number t uq.globals e later.globals (sym (ap length keeps.globals)) (sym words ∙ words_later m.grows t whole) declared in
     let sized : IsSized s.layouts s.whole t = record { known = ty.known; sized = whole_later m.grows t whole } in
     let filled = maybe_filled number e (kept_sane (keeps_through from_type to_named) h) g1 after (named_meant v.name (GlobalD number t) ty.meant (ty.known, object)) (subst (λ w. is_whole w t ≡ true) (sym (keeps_through from_type to_named).whole) whole) sized object in
     record { filled = filled.filled; meant = record { grows = filled.meant.grows; names = filled.meant.names; scopes = filled.meant.scopes } }

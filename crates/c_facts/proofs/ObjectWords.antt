@@ -25,6 +25,7 @@ use Rattle.c_facts.proofs.Scopes.{in_opened}
 use Rattle.c_facts.proofs.Stays.{two_demands}
 use Rattle.c_facts.proofs.Positive.{HaveWords, size_there, layout_has_words}
 use Rattle.c_facts.proofs.Spending.{Keeps, Spends, entered_keeps, type_keeps, maybe_fill_keeps, has_size, value_keeps, maybe_value_keeps, variables_spend, statement_spends, maybe_statement_spends, statements_spend, arms_spend}
+use Rattle.c_facts.proofs.ObjectTypes.{VariablesTold, StatementTold, MaybeTold, StatementsTold, ArmTold, ArmsTold}
 use Rattle.c_facts.proofs.Statements.{WithinFunction, Reaches, reaches_before, reaches_kept, reaches_in, value_sound, type_sound, variable_sound, statement_sound, maybe_statement_sound}
 
 -- ---- types, while a unit is read
@@ -86,78 +87,78 @@ variable_words s {f = f} w wd (good.variable {sp = sp} {sq = sq} {sr = sr} {v = 
     let words = size_known.words in
     all_push sr.sizes n (subst AllHaveWords (sym same) all) (omega (arith, some, words))
 
-variables_words : (s : Scene) {f : Fn} {sp sq : St} {vs : List VarT} {xs : List TVarT} → WithinFunction f s → Worded f → AllDeclare f sp vs xs sq → InScopes s sp.scopes → Reaches sq s → AllHaveWords sp.sizes → AllHaveWords sq.sizes
-variables_words s w wd good.no_variables i r all = all
-variables_words s w wd (good.more_variables {sq = sq} {sr = sr} h k) i r all =
+variables_words : (s : Scene) {f : Fn} {sp sq : St} {vs : List VarT} {xs : List TVarT} → WithinFunction f s → Worded f → (h : AllDeclare f sp vs xs sq) → VariablesTold s.local_types h → InScopes s sp.scopes → Reaches sq s → AllHaveWords sp.sizes → AllHaveWords sq.sizes
+variables_words s w wd good.no_variables t i r all = all
+variables_words s w wd (good.more_variables {sq = sq} {sr = sr} h k) t i r all =
     let here_ends = reaches_before s sq sr (variables_spend k) r in
-    variables_words s w wd k (variable_sound s w h i here_ends).1 r (variable_words s w wd h i here_ends all)
+    variables_words s w wd k t.1 (variable_sound s w h t.0 i here_ends).1 r (variable_words s w wd h i here_ends all)
 
 -- the scopes behind an arm
-arm_scopes : (s : Scene) {f : Fn} {sp sq : St} {breaks continues : Bool} {seen : Labels} {a : ArmT} {x : TArmT} → WithinFunction f s → ArmOf f sp breaks continues seen a x sq → InScopes s sp.scopes → Reaches sq s → InScopes s sq.scopes
-arm_scopes s w (good.case h c test) i r = (value_sound s w h i r.texts).1
-arm_scopes s w (good.default test) i r = i
-arm_scopes s w (good.arm_statement h) i r = (statement_sound s w h i r).1
+arm_scopes : (s : Scene) {f : Fn} {sp sq : St} {breaks continues : Bool} {seen : Labels} {a : ArmT} {x : TArmT} → WithinFunction f s → (h : ArmOf f sp breaks continues seen a x sq) → ArmTold s.local_types h → InScopes s sp.scopes → Reaches sq s → InScopes s sq.scopes
+arm_scopes s w (good.case h c test) t i r = (value_sound s w h i r.texts).1
+arm_scopes s w (good.default test) t i r = i
+arm_scopes s w (good.arm_statement h) t i r = (statement_sound s w h t i r).1
 
 mutual
-  pub statement_words : (s : Scene) {f : Fn} {sp sq : St} {breaks continues : Bool} {a : StmtT} {x : TStmtT} → WithinFunction f s → Worded f → Statement f sp breaks continues a x sq → InScopes s sp.scopes → Reaches sq s → AllHaveWords sp.sizes → AllHaveWords sq.sizes
-  statement_words s w wd (good.block {sp = sp} {sq = sq} h) i r all = statements_words s w wd h (in_opened s sp.scopes i) (reaches_in s sq r) all
-  statement_words s w wd good.empty i r all = all
-  statement_words s w wd (good.variables h) i r all = variables_words s w wd h i r all
-  statement_words s w wd (good.expression h) i r all = value_words h all
-  statement_words s w wd (good.if_else {sq = sq} {sr = sr} {ss = ss} h k l test) i r all =
+  pub statement_words : (s : Scene) {f : Fn} {sp sq : St} {breaks continues : Bool} {a : StmtT} {x : TStmtT} → WithinFunction f s → Worded f → (h : Statement f sp breaks continues a x sq) → StatementTold s.local_types h → InScopes s sp.scopes → Reaches sq s → AllHaveWords sp.sizes → AllHaveWords sq.sizes
+  statement_words s w wd (good.block {sp = sp} {sq = sq} h) t i r all = statements_words s w wd h t (in_opened s sp.scopes i) (reaches_in s sq r) all
+  statement_words s w wd good.empty t i r all = all
+  statement_words s w wd (good.variables h) t i r all = variables_words s w wd h t i r all
+  statement_words s w wd (good.expression h) t i r all = value_words h all
+  statement_words s w wd (good.if_else {sq = sq} {sr = sr} {ss = ss} h k l test) t i r all =
       let then_ends = reaches_before s sr ss (maybe_statement_spends l) r in
       let test_ends = reaches_before s sq sr (statement_spends k) then_ends in
       let on = (value_sound s w h i test_ends.texts).1 in
-      maybe_statement_words s w wd l (statement_sound s w k on then_ends).1 r (statement_words s w wd k on then_ends (value_words h all))
-  statement_words s w wd (good.while {sq = sq} {sr = sr} h k test) i r all =
+      maybe_statement_words s w wd l t.1 (statement_sound s w k t.0 on then_ends).1 r (statement_words s w wd k t.0 on then_ends (value_words h all))
+  statement_words s w wd (good.while {sq = sq} {sr = sr} h k test) t i r all =
       let on = (value_sound s w h i (reaches_before s sq sr (statement_spends k) r).texts).1 in
-      statement_words s w wd k on r (value_words h all)
-  statement_words s w wd (good.do_while {sq = sq} {sr = sr} h k test) i r all =
-      value_words k (statement_words s w wd h i (reaches_kept s sq sr (value_keeps k) r) all)
-  statement_words s w wd (good.for {sp = sp} {sq = sq} {sr = sr} {ss = ss} {su = su} h k l m test) i r all =
+      statement_words s w wd k t on r (value_words h all)
+  statement_words s w wd (good.do_while {sq = sq} {sr = sr} h k test) t i r all =
+      value_words k (statement_words s w wd h t i (reaches_kept s sq sr (value_keeps k) r) all)
+  statement_words s w wd (good.for {sp = sp} {sq = sq} {sr = sr} {ss = ss} {su = su} h k l m test) t i r all =
       let all_ends = reaches_in s su r in
       let step_ends = reaches_before s ss su (statement_spends m) all_ends in
       let test_ends = reaches_kept s sr ss (maybe_value_keeps l) step_ends in
       let first_ends = reaches_kept s sq sr (maybe_value_keeps k) test_ends in
-      let first = (maybe_statement_sound s w h (in_opened s sp.scopes i) first_ends).1 in
+      let first = (maybe_statement_sound s w h t.0 (in_opened s sp.scopes i) first_ends).1 in
       let on = maybe_value_scopes s w k first test_ends.texts in
       let step = maybe_value_scopes s w l on step_ends.texts in
-      statement_words s w wd m step all_ends (maybe_value_words l (maybe_value_words k (maybe_statement_words s w wd h (in_opened s sp.scopes i) first_ends all)))
-  statement_words s w wd (good.switch {sq = sq} {sr = sr} h k test) i r all =
+      statement_words s w wd m t.1 step all_ends (maybe_value_words l (maybe_value_words k (maybe_statement_words s w wd h t.0 (in_opened s sp.scopes i) first_ends all)))
+  statement_words s w wd (good.switch {sq = sq} {sr = sr} h k test) t i r all =
       let all_ends = reaches_in s sr r in
       let on = (value_sound s w h i (reaches_before s (opened sq) sr (arms_spend k) all_ends).texts).1 in
-      arms_words s w wd k (in_opened s sq.scopes on) all_ends (value_words h all)
-  statement_words s w wd good.return_nothing i r all = all
-  statement_words s w wd (good.return_value h test) i r all = value_words h all
-  statement_words s w wd (good.break test) i r all = all
-  statement_words s w wd (good.continue test) i r all = all
+      arms_words s w wd k t (in_opened s sq.scopes on) all_ends (value_words h all)
+  statement_words s w wd good.return_nothing t i r all = all
+  statement_words s w wd (good.return_value h test) t i r all = value_words h all
+  statement_words s w wd (good.break test) t i r all = all
+  statement_words s w wd (good.continue test) t i r all = all
 
-  pub maybe_statement_words : (s : Scene) {f : Fn} {sp sq : St} {breaks continues : Bool} {a : MaybeS} {x : MaybeZ} → WithinFunction f s → Worded f → MaybeStatement f sp breaks continues a x sq → InScopes s sp.scopes → Reaches sq s → AllHaveWords sp.sizes → AllHaveWords sq.sizes
-  maybe_statement_words s w wd good.nothing i r all = all
-  maybe_statement_words s w wd (good.something h) i r all = statement_words s w wd h i r all
+  pub maybe_statement_words : (s : Scene) {f : Fn} {sp sq : St} {breaks continues : Bool} {a : MaybeS} {x : MaybeZ} → WithinFunction f s → Worded f → (h : MaybeStatement f sp breaks continues a x sq) → MaybeTold s.local_types h → InScopes s sp.scopes → Reaches sq s → AllHaveWords sp.sizes → AllHaveWords sq.sizes
+  maybe_statement_words s w wd good.nothing t i r all = all
+  maybe_statement_words s w wd (good.something h) t i r all = statement_words s w wd h t i r all
 
-  pub statements_words : (s : Scene) {f : Fn} {sp sq : St} {breaks continues : Bool} {a : StmtTs} {x : TStmtTs} → WithinFunction f s → Worded f → Statements f sp breaks continues a x sq → InScopes s sp.scopes → Reaches sq s → AllHaveWords sp.sizes → AllHaveWords sq.sizes
-  statements_words s w wd good.no_statements i r all = all
-  statements_words s w wd (good.more_statements {sq = sq} {sr = sr} h k) i r all =
+  pub statements_words : (s : Scene) {f : Fn} {sp sq : St} {breaks continues : Bool} {a : StmtTs} {x : TStmtTs} → WithinFunction f s → Worded f → (h : Statements f sp breaks continues a x sq) → StatementsTold s.local_types h → InScopes s sp.scopes → Reaches sq s → AllHaveWords sp.sizes → AllHaveWords sq.sizes
+  statements_words s w wd good.no_statements t i r all = all
+  statements_words s w wd (good.more_statements {sq = sq} {sr = sr} h k) t i r all =
       let here_ends = reaches_before s sq sr (statements_spend k) r in
-      statements_words s w wd k (statement_sound s w h i here_ends).1 r (statement_words s w wd h i here_ends all)
+      statements_words s w wd k t.1 (statement_sound s w h t.0 i here_ends).1 r (statement_words s w wd h t.0 i here_ends all)
 
-  pub arm_words : (s : Scene) {f : Fn} {sp sq : St} {breaks continues : Bool} {seen : Labels} {a : ArmT} {x : TArmT} → WithinFunction f s → Worded f → ArmOf f sp breaks continues seen a x sq → InScopes s sp.scopes → Reaches sq s → AllHaveWords sp.sizes → AllHaveWords sq.sizes
-  arm_words s w wd (good.case h c test) i r all = value_words h all
-  arm_words s w wd (good.default test) i r all = all
-  arm_words s w wd (good.arm_statement h) i r all = statement_words s w wd h i r all
+  pub arm_words : (s : Scene) {f : Fn} {sp sq : St} {breaks continues : Bool} {seen : Labels} {a : ArmT} {x : TArmT} → WithinFunction f s → Worded f → (h : ArmOf f sp breaks continues seen a x sq) → ArmTold s.local_types h → InScopes s sp.scopes → Reaches sq s → AllHaveWords sp.sizes → AllHaveWords sq.sizes
+  arm_words s w wd (good.case h c test) t i r all = value_words h all
+  arm_words s w wd (good.default test) t i r all = all
+  arm_words s w wd (good.arm_statement h) t i r all = statement_words s w wd h t i r all
 
-  pub arms_words : (s : Scene) {f : Fn} {sp sq : St} {breaks continues : Bool} {seen : Labels} {a : ArmTs} {x : TArmTs} → WithinFunction f s → Worded f → ArmsOf f sp breaks continues seen a x sq → InScopes s sp.scopes → Reaches sq s → AllHaveWords sp.sizes → AllHaveWords sq.sizes
-  arms_words s w wd good.no_arms i r all = all
-  arms_words s w wd (good.more_arms {sq = sq} {sr = sr} h k) i r all =
+  pub arms_words : (s : Scene) {f : Fn} {sp sq : St} {breaks continues : Bool} {seen : Labels} {a : ArmTs} {x : TArmTs} → WithinFunction f s → Worded f → (h : ArmsOf f sp breaks continues seen a x sq) → ArmsTold s.local_types h → InScopes s sp.scopes → Reaches sq s → AllHaveWords sp.sizes → AllHaveWords sq.sizes
+  arms_words s w wd good.no_arms t i r all = all
+  arms_words s w wd (good.more_arms {sq = sq} {sr = sr} h k) t i r all =
       let here_ends = reaches_before s sq sr (arms_spend k) r in
-      arms_words s w wd k (arm_scopes s w h i here_ends) r (arm_words s w wd h i here_ends all)
+      arms_words s w wd k t.1 (arm_scopes s w h t.0 i here_ends) r (arm_words s w wd h t.0 i here_ends all)
 
 -- the objects of a body
 pub body_words_are : (s : Scene) (f : Fn) (sp sq : St) (body : StmtTs) (x : TStmtTs) → Grows f.layouts f.whole s.layouts s.whole → AreMeant s f.names → AreBodies s f.names f.bodies → MembersKnown s → MembersWhole f.layouts f.whole
-    → HaveWords f.layouts f.whole → length f.whole ≡ length f.layouts → InScopes s sp.scopes → Statements f sp false false body x sq → Begins sq.sizes s.locals → Begins sq.texts s.literals → AllHaveWords sp.sizes → AllHaveWords sq.sizes
-body_words_are s f sp sq body x grows names bodies members whole words equal scopes g sizes texts all =
-    statements_words s (record { grows = grows; names = names; bodies = bodies; members = members; whole = whole }) (record { words = words; equal = equal }) g scopes (record { sizes = sizes; texts = texts }) all
+    → HaveWords f.layouts f.whole → length f.whole ≡ length f.layouts → InScopes s sp.scopes → (g : Statements f sp false false body x sq) → StatementsTold s.local_types g → Begins sq.sizes s.locals → Begins sq.texts s.literals → AllHaveWords sp.sizes → AllHaveWords sq.sizes
+body_words_are s f sp sq body x grows names bodies members whole words equal scopes g told sizes texts all =
+    statements_words s (record { grows = grows; names = names; bodies = bodies; members = members; whole = whole }) (record { words = words; equal = equal }) g told scopes (record { sizes = sizes; texts = texts }) all
 
 -- ---- parameters
 

@@ -14,7 +14,8 @@ use Rattle.c_exprs.specs.Nodes.{type_of_typed}
 use Rattle.c_stmts.specs.Slots.{Slots, NoSlots, Elements, Members, slots_of, next_slot, later_slots}
 use Rattle.c_stmts.specs.State.{Labels, no_labels, with_label}
 use Rattle.c_check.specs.Reading.{has_members}
-use Rattle.c_facts.specs.Sound.{Scene, IsKnown, IsSized, IsValue, IsUsed, Calls, IsTyped, IsKind, AreValues, IsTypedValue, HasPlaces, FillsAs, FillEach, IsObject, IsFilled, AreFilled, AreObjects, IsTest, MayTest, MayValue, Returns, IsLabel, IsStatement, MayState, AreStatements, AreArms, IsArm, AreSized, IsLaidOut, IsDeclaredAs, AreDeclaredAs, AreCallObjects, AllHaveWords, in_call, IsFunction, AreFunctions, FillsGlobals, FillGlobals, wholes, scene, IsSound}
+use Rattle.std.proofs.Math.Logic.{∥∥₁_prop}
+use Rattle.c_facts.specs.Sound.{Scene, IsKnown, IsOfType, IsSized, IsValue, IsUsed, Calls, IsTyped, IsKind, AreValues, IsTypedValue, HasPlaces, FillsAs, FillEach, IsObject, IsFilled, AreFilled, AreObjects, IsTest, MayTest, MayValue, Returns, IsLabel, IsStatement, MayState, AreStatements, AreArms, IsArm, AreSized, IsLaidOut, IsDeclaredAs, AreDeclaredAs, AreCallObjects, AllHaveWords, in_call, IsFunction, AreFunctions, FillsGlobals, FillGlobals, wholes, scene, IsSound}
 use Rattle.c_facts.proofs.Equal.{types_equal}
 use Rattle.c_facts.proofs.Lookups.{same_itself}
 
@@ -47,6 +48,10 @@ known_one layouts whole (ArrayY of count) = hlevel (props, known_one layouts who
 
 -- ---- expressions
 
+of_type_one : (o : Option (List Ty)) (number : ℕ) (ty : Ty) → IsProp (IsOfType o number ty)
+of_type_one None number ty = hlevel props
+of_type_one (Some types) number ty = hlevel (props, ty_set)
+
 value_one : (s : Scene) (ty : Ty) → IsProp (IsValue s ty)
 value_one s ty = hlevel (props, code_set)
 
@@ -66,8 +71,8 @@ mutual
   kind_one s (NumberK n) ty = hlevel (props, ty_set)
   kind_one s NullK ty = hlevel (props, ty_set)
   kind_one s (LiteralK number) ty = hlevel (props, ty_set)
-  kind_one s (GlobalK number) ty = hlevel props
-  kind_one s (LocalK number) ty = hlevel props
+  kind_one s (GlobalK number) ty = hlevel (props, of_type_one s.global_types number ty)
+  kind_one s (LocalK number) ty = hlevel (props, of_type_one s.local_types number ty)
   kind_one s (UnaryK op x) ty = hlevel (props, typed_one s x, used_one s (needs_place op) (type_of_typed x), answer_one)
   kind_one s (BinaryK op x y) ty = hlevel (props, typed_one s x, typed_one s y, value_one s, answer_one)
   kind_one s (AssignK None x y) ty = hlevel (props, typed_one s x, typed_one s y, value_one s, answer_one)
@@ -112,8 +117,8 @@ mutual
   fill_each_one s global (MoreI i rest) slots = hlevel (props, fills_one s global i (next_slot slots), fill_each_one s global rest (later_slots slots))
 
 object_one : (s : Scene) (global : Bool) (number : ℕ) (ty : Ty) → IsProp (IsObject s global number ty)
-object_one s true number ty = hlevel props
-object_one s false number ty = hlevel props
+object_one s true number ty = hlevel (props, of_type_one s.global_types number ty)
+object_one s false number ty = hlevel (props, of_type_one s.local_types number ty)
 
 sized_one : (layouts : List LayoutT) (whole : List Bool) (ty : Ty) → IsProp (IsSized layouts whole ty)
 sized_one layouts whole ty = hlevel (props, known_one layouts whole ty)
@@ -237,4 +242,4 @@ inits_one s [] = hlevel props
 inits_one s (x ∷ xs) = hlevel (props, init_one s x, inits_one s xs)
 
 pub sound_one : (p : ProgramT) → IsProp (IsSound p)
-sound_one p = hlevel (props, all_declared_one p.layouts (wholes p.layouts) p.layouts, inits_one (scene p) p.inits, functions_one (scene p) p.functions)
+sound_one p = hlevel (props, ∥∥₁_prop, all_declared_one p.layouts (wholes p.layouts) p.layouts, inits_one (scene p) p.inits, functions_one (scene p) p.functions)

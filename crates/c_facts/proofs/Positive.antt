@@ -10,6 +10,7 @@ use Rattle.c_check.specs.Reading.{has_members}
 use Rattle.c_facts.specs.Sound.{Scene, IsKnown}
 use Rattle.c_facts.proofs.Within.{AllMembersKnown, AllWhole}
 use Rattle.c_facts.proofs.Fronts.{within_at}
+use Rattle.c_facts.proofs.LayoutKinds.{kind_within}
 
 -- what is declared whole has words
 abbrev pub HaveWords : List LayoutT → List Bool → Type 0
@@ -30,8 +31,8 @@ has_words layouts whole h VoidY known w = absurd cc
 has_words layouts whole h IntY known w = omega arith
 has_words layouts whole h BoolY known w = omega arith
 has_words layouts whole h (EnumY number) known w = omega arith
-has_words layouts whole h (StructY number) known w = layout_has_words layouts whole h number known w
-has_words layouts whole h (UnionY number) known w = layout_has_words layouts whole h number known w
+has_words layouts whole h (StructY number) known w = layout_has_words layouts whole h number (kind_within layouts number false known) w
+has_words layouts whole h (UnionY number) known w = layout_has_words layouts whole h number (kind_within layouts number true known) w
 has_words layouts whole h (PointerY to) known w = omega arith
 has_words layouts whole h (ArrayY of count) known w = product (words_of layouts of) count (has_words layouts whole h of known.0 w) known.2
 

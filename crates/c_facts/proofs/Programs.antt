@@ -2,7 +2,7 @@
 use Rattle.std.proofs.Common.{◌≡◌, ◌⊎◌, ℕ, zero, suc, ◌<◌, Bool, true, false, List, [], ◌∷◌, ◌++◌, map, length, Option, Some, None, refl, sym, ap, ap₂, ◌∙◌, subst, subst₂, inl, inr, arith, length-append, length-set}
 use Rattle.std.proofs.lemmas.Option.{slice_get_within}
 use Rattle.std.proofs.lemmas.Bool.{cases_eq}
-use Rattle.std.specs.Prelude.{slice_get, slice_set, codes, if◌then◌else◌}
+use Rattle.std.specs.Prelude.{slice_get, slice_set, option_map, codes, if◌then◌else◌}
 use Rattle.c_tree.specs.declared.span.Span.{Span}
 use Rattle.c_tree.specs.Tree.{TypeT, VarT, StmtTs, ItemT}
 use Rattle.c_types.specs.Types.{Ty, MemberT, LayoutT}
@@ -11,31 +11,38 @@ use Rattle.c_rules.specs.Kinds.{holds}
 use Rattle.c_rules.specs.Sizes.{is_declared}
 use Rattle.c_exprs.specs.Env.{Text, find, Decl, TypeD, GlobalD, FunctionD}
 use Rattle.c_check.specs.Reading.{Un, has_members, opening, bodies_of, state_in, named, record_type, new_record, record_entered, with_layout, with_init, begun, ended, with_function}
-use Rattle.c_types.specs.Sizes.{no_layout}
+use Rattle.c_types.specs.Sizes.{words_of, no_layout}
 use Rattle.c_stmts.specs.State.{made}
 use Rattle.c_types.specs.Programs.{TFunctionT, ProgramT}
 use Rattle.c_check.specs.ItemTypes as item
 use Rattle.c_check.specs.ItemTypes.{TypeAt, Globals, Parameters, BodyAt, MaybeBody, Item, Items}
 use Rattle.c_check.specs.Whole as check
 use Rattle.c_check.specs.Whole.{is_plain, plain_number, main_of, program_of, WellTyped}
-use Rattle.c_facts.specs.Sound.{Scene, IsKnown, AreSized, IsLaidOut, IsDeclaredAs, AreDeclaredAs, AreApart, wholes, in_call, IsFunction, AreFunctions, FillGlobals, AreFilled, IsSound}
-use Rattle.c_facts.proofs.Within.{Grows, AreMeant, AllMembersKnown, MembersKnown, AllWhole}
+use Rattle.c_facts.specs.Sound.{Scene, kind_at, IsKnown, AreSized, IsLaidOut, IsDeclaredAs, AreDeclaredAs, AreApart, wholes, calling, in_call, IsFunction, AreFunctions, HasTypedObjects, HaveTypedObjects, with_types, FillGlobals, AreFilled, IsSound}
+use Rattle.c_facts.proofs.Lookups.{name_meant}
+use Rattle.c_facts.proofs.ObjectTypes.{none_told}
+use Rattle.c_facts.proofs.Within.{Grows, IsMeant, AreMeant, AllMembersKnown, MembersKnown, AllWhole}
 use Rattle.c_facts.proofs.Fronts.{begins_itself, last_or_before, replaced_at, replaced_there, others_stay}
+use Rattle.c_facts.proofs.LayoutKinds.{kind_last}
 use Rattle.c_facts.proofs.Stays.{grows_itself, grows_through, known_stays}
 use Rattle.c_facts.proofs.Positive.{HaveWords, placed_has_words}
 use Rattle.c_facts.proofs.Laid.{AreLaid, AreMembers, no_members_yet, declared_before, declared_there, record_grows, layout_grows}
 use Rattle.c_facts.proofs.ItemRules.{members_whole, IsRuled, function_ruled}
 use Rattle.c_facts.proofs.Readings.{Later, later_itself, later_through, Keeps, keeps_through, kept_later, by_record, named_keeps, enum_keeps, type_keeps, maybe_body_keeps, enumerators_keep, members_keep}
-use Rattle.c_facts.proofs.Sane.{AreNamed, AreOwn, Sane, members_so_far, opening_sane, kept_sane, record_follows, global_keeps, function_keeps, with_layout_later, with_init_later, with_function_later, item_follows, items_follow}
+use Rattle.c_facts.proofs.Sane.{AreNamed, AreOwn, Sane, members_so_far, completed_kind, opening_sane, kept_sane, record_follows, global_keeps, function_keeps, with_layout_later, with_init_later, with_function_later, item_follows, items_follow}
 use Rattle.c_facts.proofs.Counts.{HaveNumbers, unit_numbers}
-use Rattle.c_facts.proofs.Meant.{Ends, Meant, meant_more, named_meant, type_known, members_known, enumeration_meant, globals_known}
-use Rattle.c_facts.proofs.Functions.{head_known, ends_call, function_sound}
+use Rattle.c_facts.proofs.Meant.{AreTold, Ends, Meant, meant_more, named_meant, type_known, members_known, enumeration_meant, globals_known}
+use Rattle.c_facts.proofs.Functions.{head_known, ends_call, function_sound, function_typed}
 
 -- ---- what is shown of each state
 
 -- the scene of the unit that ends so, with the structures and unions of the time
 abbrev pub seen : Un → Un → Scene
-seen fin un = record { layouts = un.layouts; whole = un.whole; globals = fin.globals; literals = fin.texts; functions = fin.functions; locals = [] }
+seen fin un = record { layouts = un.layouts; whole = un.whole; globals = fin.globals; global_types = None; literals = fin.texts; functions = fin.functions; locals = []; local_types = None }
+
+-- functions, with the types of their objects
+abbrev pub AreAll : Scene → List TFunctionT → Type 0
+AreAll s fs = AreFunctions s fs × HaveTypedObjects s fs
 
 -- What is read so far is sound in each scene of the unit that is not behind. Members are known in the scene of the time: that those of the whole
 -- program are known is not shown yet while it is read.
@@ -44,7 +51,7 @@ pub record Proved (fin un : Un) : Type 0 where
   pub members : MembersKnown (seen fin un)
   pub words : HaveWords un.layouts un.whole
   pub inits : (s : Scene) → Ends s fin → Grows un.layouts un.whole s.layouts s.whole → FillGlobals s un.inits
-  pub functions : (s : Scene) → Ends s fin → Grows un.layouts un.whole s.layouts s.whole → AreFunctions s un.functions
+  pub functions : (s : Scene) → Ends s fin → Grows un.layouts un.whole s.layouts s.whole → AreAll s un.functions
 
 opening_proved : (fin : Un) (b : List (Text × ℕ)) → Proved fin (opening b)
 opening_proved fin b = record {
@@ -52,11 +59,11 @@ opening_proved fin b = record {
   members = λ k l e. absurd cc;
   words = λ k l d e. absurd cc;
   inits = λ s e g. tt;
-  functions = λ s e g. tt;
+  functions = λ s e g. (tt, tt);
 }
 
 seen_ends : (fin un : Un) → HaveNumbers fin → MembersKnown (seen fin un) → Ends (seen fin un) fin
-seen_ends fin un numbers members = record { numbers = numbers; functions = refl; globals = refl; literals = refl; members = members }
+seen_ends fin un numbers members = record { numbers = numbers; functions = refl; globals = refl; types = λ k g ty at named. tt; literals = refl; members = members }
 
 -- ---- members of what is whole later
 
@@ -88,7 +95,7 @@ grows_back : {un up : Un} → Stays un up → (layouts : List LayoutT) (whole : 
 grows_back g layouts whole h = subst₂ (λ ls ws. Grows ls ws layouts whole) g.layouts g.whole h
 
 members_stay : {un up : Un} (fin : Un) → Stays un up → MembersKnown (seen fin un) → MembersKnown (seen fin up)
-members_stay {un = un} {up = up} fin g h = subst₂ (λ ls ws. MembersKnown (record { layouts = ls; whole = ws; globals = fin.globals; literals = fin.texts; functions = fin.functions; locals = [] })) (sym g.layouts) (sym g.whole) h
+members_stay {un = un} {up = up} fin g h = subst₂ (λ ls ws. MembersKnown (record { layouts = ls; whole = ws; globals = fin.globals; global_types = None; literals = fin.texts; functions = fin.functions; locals = []; local_types = None })) (sym g.layouts) (sym g.whole) h
 
 words_stay : {un up : Un} → Stays un up → HaveWords un.layouts un.whole → HaveWords up.layouts up.whole
 words_stay g h = subst₂ HaveWords (sym g.layouts) (sym g.whole) h
@@ -99,12 +106,12 @@ stays_proved {fin = fin} g p meant = record {
   members = members_stay fin g p.members;
   words = words_stay g p.words;
   inits = λ s e h. subst (λ xs. FillGlobals s xs) (sym g.inits) (p.inits s e (grows_back g s.layouts s.whole h));
-  functions = λ s e h. subst (λ fs. AreFunctions s fs) (sym g.functions) (p.functions s e (grows_back g s.layouts s.whole h));
+  functions = λ s e h. subst (λ fs. AreAll s fs) (sym g.functions) (p.functions s e (grows_back g s.layouts s.whole h));
 }
 
 -- ---- structures and unions
 
-record_known : (s : Scene) (is_union : Bool) (k : ℕ) → k < length s.layouts → IsKnown s.layouts s.whole (record_type is_union k)
+record_known : (s : Scene) (is_union : Bool) (k : ℕ) → kind_at s.layouts k ≡ Some is_union → IsKnown s.layouts s.whole (record_type is_union k)
 record_known s true k h = h
 record_known s false k h = h
 
@@ -112,7 +119,7 @@ new_record_proved : {fin un : Un} (is_union : Bool) (n : Text) → Sane un → P
 new_record_proved {fin = fin} {un = un} is_union n h p = record {
   meant = λ s e later.
       let m = p.meant s e (grows_through g later) in
-      record { grows = later; names = meant_more s un.names n (TypeD (record_type is_union (length un.layouts))) m.names (record_known s is_union (length un.layouts) (omega (arith, later.few, length-append un.layouts (no_layout is_union ∷ [])))); scopes = m.scopes };
+      record { grows = later; names = meant_more s un.names n (TypeD (record_type is_union (length un.layouts))) m.names (record_known s is_union (length un.layouts) (later.kinds (length un.layouts) is_union (kind_last un.layouts (no_layout is_union)))); scopes = m.scopes };
   members = λ k l e. by k l (last_or_before un.layouts (no_layout is_union) k l e);
   words = λ k l d e. words_by k l d (last_or_before un.layouts (no_layout is_union) k l e);
   inits = λ s e later. p.inits s e (grows_through g later);
@@ -136,8 +143,8 @@ record_proved : {fin un : Un} (is_union : Bool) (n : Text) → Sane un → Prove
 record_proved {fin = fin} {un = un} is_union n h p = by_record (λ up. Proved fin up) is_union n un p (new_record_proved is_union n h p)
 
 -- one that is declared whole
-layout_proved : {fin un : Un} (n : ℕ) (l : LayoutT) → Sane un → is_declared un.whole n ≡ false → Proved fin un → AllMembersKnown (seen fin un) l.members → 0 < l.size → Proved fin (with_layout n l un)
-layout_proved {fin = fin} {un = un} n l h new p known words = record {
+layout_proved : {fin un : Un} (n : ℕ) (l : LayoutT) → Sane un → is_declared un.whole n ≡ false → kind_at un.layouts n ≡ Some l.is_union → Proved fin un → AllMembersKnown (seen fin un) l.members → 0 < l.size → Proved fin (with_layout n l un)
+layout_proved {fin = fin} {un = un} n l h new kind p known words = record {
   meant = λ s e later. let m = p.meant s e (grows_through g later) in record { grows = later; names = m.names; scopes = m.scopes };
   members = λ k m e. by k m (replaced_at un.layouts n l k m e);
   words = λ k m d e. words_by k m d e (cases_eq k n);
@@ -146,7 +153,7 @@ layout_proved {fin = fin} {un = un} n l h new p known words = record {
 }
   where
     g : Grows un.layouts un.whole (slice_set un.layouts n l) (slice_set un.whole n true)
-    g = layout_grows un.layouts un.whole n l h.declared new
+    g = layout_grows un.layouts un.whole n l h.declared new kind
 
     by : (k : ℕ) (m : LayoutT) → ((k ≡ n) × (l ≡ m)) ⊎ (slice_get un.layouts k ≡ Some m) → AllMembersKnown (seen fin (with_layout n l un)) m.members
     by k m (inl e) = subst (λ (x : LayoutT). AllMembersKnown (seen fin (with_layout n l un)) x.members) e.1 (all_members_stay (seen fin un) (seen fin (with_layout n l un)) g l.members known)
@@ -179,13 +186,20 @@ functions_more : (s : Scene) (fs : List TFunctionT) (f : TFunctionT) → AreFunc
 functions_more s [] f h k = (k, tt)
 functions_more s (g ∷ fs) f h k = (h.0, functions_more s fs f h.1 k)
 
+typed_more : (s : Scene) (fs : List TFunctionT) (f : TFunctionT) → HaveTypedObjects s fs → HasTypedObjects s f → HaveTypedObjects s (fs ++ f ∷ [])
+typed_more s [] f h k = (k, tt)
+typed_more s (g ∷ fs) f h k = (h.0, typed_more s fs f h.1 k)
+
+all_more : (s : Scene) (fs : List TFunctionT) (f : TFunctionT) → AreAll s fs → IsFunction s f × HasTypedObjects s f → AreAll s (fs ++ f ∷ [])
+all_more s fs f h k = (functions_more s fs f h.0 k.0, typed_more s fs f h.1 k.1)
+
 -- what is shown inside a function, where scopes are open
 record InFunction (fin un : Un) : Type 0 where
   names : (s : Scene) → Ends s fin → Grows un.layouts un.whole s.layouts s.whole → AreMeant s un.names
   members : MembersKnown (seen fin un)
   words : HaveWords un.layouts un.whole
   inits : (s : Scene) → Ends s fin → Grows un.layouts un.whole s.layouts s.whole → FillGlobals s un.inits
-  functions : (s : Scene) → Ends s fin → Grows un.layouts un.whole s.layouts s.whole → AreFunctions s un.functions
+  functions : (s : Scene) → Ends s fin → Grows un.layouts un.whole s.layouts s.whole → AreAll s un.functions
 
 in_function : {fin un up : Un} → Stays un up → Proved fin un → ((s : Scene) → Ends s fin → Grows up.layouts up.whole s.layouts s.whole → AreMeant s up.names) → InFunction fin up
 in_function {fin = fin} g p names = record {
@@ -193,7 +207,7 @@ in_function {fin = fin} g p names = record {
   members = members_stay fin g p.members;
   words = words_stay g p.words;
   inits = λ s e h. subst (λ xs. FillGlobals s xs) (sym g.inits) (p.inits s e (grows_back g s.layouts s.whole h));
-  functions = λ s e h. subst (λ fs. AreFunctions s fs) (sym g.functions) (p.functions s e (grows_back g s.layouts s.whole h));
+  functions = λ s e h. subst (λ fs. AreAll s fs) (sym g.functions) (p.functions s e (grows_back g s.layouts s.whole h));
 }
 
 -- a function is left
@@ -206,13 +220,13 @@ ended_proved p = record {
   functions = p.functions;
 }
 
-with_body_proved : {fin un : Un} (name : Text) (ps : List Ty) (t : Ty) (x : TStmtTs) → InFunction fin un → ((s : Scene) → Ends s fin → Grows un.layouts un.whole s.layouts s.whole → IsFunction s (record { name = name; params = ps; locals = un.sizes; made = made (state_in un); gives = t; body = x })) → Proved fin (with_function name ps t (Some x) un)
+with_body_proved : {fin un : Un} (name : Text) (ps : List Ty) (t : Ty) (x : TStmtTs) → InFunction fin un → ((s : Scene) → Ends s fin → Grows un.layouts un.whole s.layouts s.whole → IsFunction s (record { name = name; params = ps; locals = un.sizes; made = made (state_in un); gives = t; body = x }) × HasTypedObjects s (record { name = name; params = ps; locals = un.sizes; made = made (state_in un); gives = t; body = x })) → Proved fin (with_function name ps t (Some x) un)
 with_body_proved {un = un} name ps t x p sound = record {
   meant = λ s e g. record { grows = g; names = p.names s e g; scopes = tt };
   members = p.members;
   words = p.words;
   inits = p.inits;
-  functions = λ s e g. functions_more s un.functions (record { name = name; params = ps; locals = un.sizes; made = made (state_in un); gives = t; body = x }) (p.functions s e g) (sound s e g);
+  functions = λ s e g. all_more s un.functions (record { name = name; params = ps; locals = un.sizes; made = made (state_in un); gives = t; body = x }) (p.functions s e g) (sound s e g);
 }
 
 body_names : {un : Un} {t : Ty} {o : Option StmtTs} {x : Option TStmtTs} {ur : Un} → MaybeBody un t o x ur → ur.names ≡ un.names
@@ -224,7 +238,7 @@ function_names : (name : Text) {fin un : Un} {p : Span} {of : TypeT} {t : Ty} {v
 function_names name {t = t} {ps = ps} {uq = uq} q g0 g1 g2 later s e h =
     let after = keeps_through (named_keeps name (FunctionD ps t) uq) (maybe_body_keeps g2) in
     let back = grows_back (kept_stay (function_keeps name g0 g1 g2)) s.layouts s.whole h in
-    let head = head_known name (ends_call uq.sizes e) g0 g1 (later_through (kept_later after) later) (begins_itself uq.sizes) (q.meant (in_call s uq.sizes) (ends_call uq.sizes e) back) in
+    let head = head_known name (ends_call uq.sizes None e) g0 g1 (later_through (kept_later after) later) (begins_itself uq.sizes) (none_told 0 ps) (q.meant (in_call s uq.sizes) (ends_call uq.sizes None e) back) in
     subst (λ names. AreMeant s names) (sym (body_names g2)) head.meant.names
 
 function_proved : (name : Text) {fin un : Un} {p : Span} {of : TypeT} {vs : List VarT} {ps : List Ty} {up uq start : Un} {t : Ty} {o : Option StmtTs} {x : Option TStmtTs} {ur : Un} → Sane un → Proved fin un → TypeAt un p of t up → Parameters (begun up) vs ps uq → start ≡ named name (FunctionD ps t) uq → MaybeBody start t o x ur → InFunction fin ur → IsRuled ur name ps t o → Later ur fin
@@ -233,7 +247,9 @@ function_proved name h q g0 g1 e (item.no_body) inside r later = ended_proved in
 function_proved name {ps = ps} h q g0 g1 e (item.has_body {up = up} {gives = t} {body = body} {x = x} g2) inside r later =
     with_body_proved name ps t x inside (λ s ends g.
     let g3 = subst (λ u. BodyAt u t body x up) e g2 in
-    function_sound name ends (λ sizes. q.meant (in_call s sizes) (ends_call sizes ends) (grows_back (kept_stay (function_keeps name g0 g1 (item.has_body g3))) s.layouts s.whole g)) h q.words g0 g1 g3 r later)
+    let before = grows_back (kept_stay (function_keeps name g0 g1 (item.has_body g3))) s.layouts s.whole g in
+    let called = λ (sizes : List ℕ) (types : Option (List Ty)). q.meant (calling s sizes types) (ends_call sizes types ends) before in
+    (function_sound name ends called h q.words g0 g1 g3 r later, function_typed name ends called h g0 g1 g3 later))
 
 -- ---- items
 
@@ -248,14 +264,15 @@ item_proved {fin = fin} numbers h p (item.record_members {un = un} {up = up} {is
     let q = record_proved is_union name h p in
     let g : Keeps entered up = members_keep g0 in
     let whole = members_whole span is_union name up l n g1 in
-    let after : Later up fin = later_through (with_layout_later n l up (kept_sane g sane) whole.new) later in
+    let kind : kind_at up.layouts n ≡ Some l.is_union = completed_kind span is_union name n g0 (kept_sane g sane) g1 in
+    let after : Later up fin = later_through (with_layout_later n l up (kept_sane g sane) whole.new kind) later in
     let up_proved : Proved fin up = stays_proved (kept_stay g) q (λ s e k m. (members_known e g0 after m tt).meant) in
     let before = seen fin entered in
     let known = members_known (seen_ends fin entered numbers q.members) g0 after (q.meant before (seen_ends fin entered numbers q.members) (grows_itself entered.layouts entered.whole)) tt in
     let members_now = all_members_stay before (seen fin up) (kept_later g).grows l.members known.known in
     let so_far = members_so_far g0 (no_members_yet entered.layouts entered.whole is_union) in
     let placed = subst₂ (λ ls ws. AreMembers ls ws l) (sym g.layouts) (sym g.whole) so_far in
-    layout_proved n l (kept_sane g sane) whole.new up_proved members_now (placed_has_words (seen fin up) l up_proved.words placed.places whole.members members_now placed.members)
+    layout_proved n l (kept_sane g sane) whole.new kind up_proved members_now (placed_has_words (seen fin up) l up_proved.words placed.places whole.members members_now placed.members)
 item_proved numbers h p (item.enumeration {un = un} {name = name} g0 g1) later = stays_proved (kept_stay (keeps_through (enum_keeps name un) (enumerators_keep g0))) p (λ s e g m. enumeration_meant name g0 m)
 item_proved numbers h p (item.type_name {up = up} {name = name} {t = t} g0 g1) later =
     let after = named_keeps name (TypeD t) up in
@@ -337,6 +354,50 @@ functions_apart functions names bodies h i j n e f =
     let q : find n bodies ≡ Some j = subst (λ m. find m bodies ≡ Some j) b.2 (h j b.0 b.1).0 in
     one_number i j (sym p ∙ q)
 
+-- the types of the globals, each that its name is declared with
+record GlobalTypes (fin : Un) : Type 0 where
+  types : List Ty
+  told : AreTold fin (Some types)
+  sizes : map (λ g. g.1) fin.globals ≡ map (words_of fin.layouts) types
+
+record Chosen (IsIts : ℕ → Text × ℕ → Ty → Type 0) (layouts : List LayoutT) (globals : List (Text × ℕ)) : Type 0 where
+  types : List Ty
+  told : (k : ℕ) (g : Text × ℕ) (t : Ty) → slice_get globals k ≡ Some g → IsIts k g t → slice_get types k ≡ Some t
+  sizes : map (λ g. g.1) globals ≡ map (words_of layouts) types
+
+first_told : (IsIts : ℕ → Text × ℕ → Ty → Type 0) (g : Text × ℕ) (gs : List (Text × ℕ)) (t : Ty) (ts : List Ty) → IsIts 0 g t → ((k : ℕ) (x : Text × ℕ) (u v : Ty) → IsIts k x u → IsIts k x v → u ≡ v)
+    → ((k : ℕ) (x : Text × ℕ) (u : Ty) → slice_get gs k ≡ Some x → IsIts (suc k) x u → slice_get ts k ≡ Some u)
+    → (k : ℕ) (x : Text × ℕ) (u : Ty) → slice_get (g ∷ gs) k ≡ Some x → IsIts k x u → slice_get (t ∷ ts) k ≡ Some u
+first_told IsIts g gs t ts its one rest zero x u e h =
+    let same : g ≡ x = cc in
+    ap Some (one 0 x t u (subst (λ y. IsIts 0 y t) same its) h)
+first_told IsIts g gs t ts its one rest (suc k) x u e h = rest k x u e h
+
+choose : (IsIts : ℕ → Text × ℕ → Ty → Type 0) (layouts : List LayoutT) (globals : List (Text × ℕ)) → ((k : ℕ) (g : Text × ℕ) → slice_get globals k ≡ Some g → (t : Ty) × IsIts k g t)
+    → ((k : ℕ) (g : Text × ℕ) (t u : Ty) → IsIts k g t → IsIts k g u → t ≡ u) → ((k : ℕ) (g : Text × ℕ) (t : Ty) → slice_get globals k ≡ Some g → IsIts k g t → g.1 ≡ words_of layouts t) → Chosen IsIts layouts globals
+choose IsIts layouts [] its one words = record { types = []; told = λ k g t e h. absurd cc; sizes = refl }
+choose IsIts layouts (g ∷ gs) its one words =
+    let first = its 0 g refl in
+    let rest = choose (λ k. IsIts (suc k)) layouts gs (λ k. its (suc k)) (λ k. one (suc k)) (λ k. words (suc k)) in
+    record {
+      types = first.0 ∷ rest.types;
+      told = first_told IsIts g gs first.0 rest.types first.1 one rest.told;
+      sizes = ap₂ (λ n ns. n ∷ ns) (words 0 g first.0 refl first.1) rest.sizes;
+    }
+
+one_type : (i j : ℕ) (t u : Ty) → Some (GlobalD i t) ≡ Some (GlobalD j u) → t ≡ u
+one_type i j t u e = cc
+
+global_types : (fin : Un) → AreNamed fin.names fin.globals → AreMeant (seen fin fin) fin.names → GlobalTypes fin
+global_types fin named meant =
+    let chosen = choose (λ k g t. find g.0 fin.names ≡ Some (GlobalD k t)) fin.layouts fin.globals named (λ k g t u e f. one_type k k t u (sym e ∙ f)) (λ k g t e f. words k g t e (name_meant (seen fin fin) g.0 fin.names (GlobalD k t) meant f)) in
+    record { types = chosen.types; told = chosen.told; sizes = chosen.sizes }
+  where
+    words : (k : ℕ) (g : Text × ℕ) (t : Ty) → slice_get fin.globals k ≡ Some g → IsMeant (seen fin fin) (GlobalD k t) → g.1 ≡ words_of fin.layouts t
+    words k g t e h =
+        let at : option_map (λ (x : Text × ℕ). x.1) (slice_get fin.globals k) ≡ Some g.1 = ap (option_map (λ (x : Text × ℕ). x.1)) e in
+        one_number g.1 (words_of fin.layouts t) (sym at ∙ h.1.0)
+
 -- the function `main`
 main_there : (fs : List TFunctionT) (o : Option ℕ) (k : ℕ) → plain_number fs o ≡ Some k → holds is_plain (slice_get fs k) ≡ true
 main_there fs None k e = absurd cc
@@ -348,12 +409,14 @@ main_there fs (Some j) k e = by (holds is_plain (slice_get fs j)) refl e
 
 -- a scene of the whole program, under the structures and unions that are declared whole
 abbrev scene_with : Un → List Bool → Scene
-scene_with fin whole = record { layouts = fin.layouts; whole = whole; globals = fin.globals; literals = fin.texts; functions = fin.functions; locals = [] }
+scene_with fin whole = record { layouts = fin.layouts; whole = whole; globals = fin.globals; global_types = None; literals = fin.texts; functions = fin.functions; locals = []; local_types = None }
 
-record Parts (fin : Un) (whole : List Bool) : Type 0 where
+record Parts (fin : Un) (types : List Ty) (whole : List Bool) : Type 0 where
   layouts : AreDeclaredAs fin.layouts whole fin.layouts
   inits : FillGlobals (scene_with fin whole) fin.inits
   functions : AreFunctions (scene_with fin whole) fin.functions
+  typed_inits : FillGlobals (with_types (scene_with fin whole) types) fin.inits
+  typed_functions : HaveTypedObjects (with_types (scene_with fin whole) types) fin.functions
 
 unit_sound : (all : List ItemT) (fin : Un) (k : ℕ) → Items (opening (bodies_of all)) all tt fin → main_of fin ≡ Some k → IsSound (program_of fin k)
 unit_sound units fin k g m =
@@ -362,15 +425,24 @@ unit_sound units fin k g m =
     let p = items_proved numbers (opening_sane (bodies_of units)) (opening_proved fin (bodies_of units)) g (later_itself fin) in
     let e = seen_ends fin fin numbers p.members in
     let same = grows_itself fin.layouts fin.whole in
+    let types = global_types fin sane.named (p.meant (seen fin fin) e same).names in
+    let told : Ends (with_types (seen fin fin) types.types) fin = record { numbers = numbers; functions = refl; globals = refl; types = types.told; literals = refl; members = p.members } in
     let declared = declared_as fin.layouts fin.whole fin.layouts fin.whole sane.declared.equal (λ j l d f. let a = sane.declared.laid j l d f in (laid_out fin l a (p.members j l f) (p.words j l d f), a.some)) sane.declared.empty in
-    let parts : Parts fin fin.whole = record { layouts = declared.0; inits = p.inits (seen fin fin) e same; functions = p.functions (seen fin fin) e same } in
-    let all : Parts fin (wholes fin.layouts) = subst (Parts fin) declared.1 parts in
+    let parts : Parts fin types.types fin.whole = record {
+      layouts = declared.0;
+      inits = p.inits (seen fin fin) e same;
+      functions = (p.functions (seen fin fin) e same).0;
+      typed_inits = p.inits (with_types (seen fin fin) types.types) told same;
+      typed_functions = (p.functions (with_types (seen fin fin) types.types) told same).1;
+    } in
+    let all : Parts fin types.types (wholes fin.layouts) = subst (Parts fin types.types) declared.1 parts in
     record {
       layouts = all.layouts;
       globals = sane.globals;
       literals = sane.texts.words;
       inits = all.inits;
       functions = all.functions;
+      types = ∣ record { globals = types.types; sizes = types.sizes; inits = all.typed_inits; functions = all.typed_functions } ∣₁;
       global_names = globals_apart fin.globals fin.names sane.named;
       function_names = functions_apart fin.functions fin.names fin.bodies sane.functions;
       main = main_there fin.functions (find (codes "main") fin.bodies) k m;

@@ -54,6 +54,7 @@ later_through {un = un} {up = up} {uq = uq} g h = record {
 pub record Keeps (un up : Un) : Type 0 where
   pub layouts : up.layouts ≡ un.layouts
   pub whole : up.whole ≡ un.whole
+  pub records : up.records ≡ un.records
   pub globals : up.globals ≡ un.globals
   pub inits : up.inits ≡ un.inits
   pub functions : up.functions ≡ un.functions
@@ -63,12 +64,13 @@ pub record Keeps (un up : Un) : Type 0 where
   pub short : AreShort un.texts → AreShort up.texts
 
 pub keeps_itself : (un : Un) → Keeps un un
-keeps_itself un = record { layouts = refl; whole = refl; globals = refl; inits = refl; functions = refl; bodies = refl; names = λ n d h. h; texts = begins_itself un.texts; short = λ h. h }
+keeps_itself un = record { layouts = refl; whole = refl; records = refl; globals = refl; inits = refl; functions = refl; bodies = refl; names = λ n d h. h; texts = begins_itself un.texts; short = λ h. h }
 
 pub keeps_through : {un up uq : Un} → Keeps un up → Keeps up uq → Keeps un uq
 keeps_through {un = un} {up = up} {uq = uq} g h = record {
   layouts = h.layouts ∙ g.layouts;
   whole = h.whole ∙ g.whole;
+  records = h.records ∙ g.records;
   globals = h.globals ∙ g.globals;
   inits = h.inits ∙ g.inits;
   functions = h.functions ∙ g.functions;
@@ -96,7 +98,7 @@ kept_later {un = un} {up = up} g = record {
 }
 
 pub names_more : (un : Un) (n : Text) (d : Decl) → Keeps un (with_names un (un.names ++ (n, d) ∷ []))
-names_more un n d = record { layouts = refl; whole = refl; globals = refl; inits = refl; functions = refl; bodies = refl; names = λ m e h. still_found m un.names ((n, d) ∷ []) e h; texts = begins_itself un.texts; short = λ h. h }
+names_more un n d = record { layouts = refl; whole = refl; records = refl; globals = refl; inits = refl; functions = refl; bodies = refl; names = λ m e h. still_found m un.names ((n, d) ∷ []) e h; texts = begins_itself un.texts; short = λ h. h }
 
 -- a name that is free is entered, and one that is not keeps its meaning
 pub by_named : (P : Un → Type 0) (n : Text) (d : Decl) (un : Un) → P un → P (with_names un (un.names ++ (n, d) ∷ [])) → P (named n d un)
@@ -111,6 +113,15 @@ pub by_record : (P : Un → Type 0) (is_union : Bool) (n : Text) (un : Un) → P
 unfolding record_entered
 by_record P is_union n un h k = elim (is_free n un) as (λ b. P (if b then new_record is_union n un else un)) [ true ↦ k | false ↦ h ]
 
+-- the same, where the name was free for a new one
+pub by_new_record : (P : Un → Type 0) (is_union : Bool) (n : Text) (un : Un) → P un → (is_free n un ≡ true → P (new_record is_union n un)) → P (record_entered is_union n un)
+unfolding record_entered
+by_new_record P is_union n un h k = by (is_free n un) refl
+  where
+    by : (b : Bool) → is_free n un ≡ b → P (if b then new_record is_union n un else un)
+    by true e = k e
+    by false e = h
+
 pub by_enum : (P : Un → Type 0) (n : Text) (un : Un) → P un → P (new_enum n un) → P (enum_entered n un)
 unfolding enum_entered
 by_enum P n un h k = elim (is_free n un) as (λ b. P (if b then new_enum n un else un)) [ true ↦ k | false ↦ h ]
@@ -120,10 +131,10 @@ named_keeps n d un = by_named (λ up. Keeps un up) n d un (keeps_itself un) (nam
 
 pub enum_keeps : (n : Text) (un : Un) → Keeps un (enum_entered n un)
 enum_keeps n un = by_enum (λ up. Keeps un up) n un (keeps_itself un)
-    (record { layouts = refl; whole = refl; globals = refl; inits = refl; functions = refl; bodies = refl; names = λ m e h. still_found m un.names ((n, TypeD (EnumY un.enums)) ∷ []) e h; texts = begins_itself un.texts; short = λ h. h })
+    (record { layouts = refl; whole = refl; records = refl; globals = refl; inits = refl; functions = refl; bodies = refl; names = λ m e h. still_found m un.names ((n, TypeD (EnumY un.enums)) ∷ []) e h; texts = begins_itself un.texts; short = λ h. h })
 
 texts_keep : (un : Un) (us : List Text) → Begins un.texts us → (AreShort un.texts → AreShort us) → Keeps un (with_texts un us)
-texts_keep un us b s = record { layouts = refl; whole = refl; globals = refl; inits = refl; functions = refl; bodies = refl; names = λ n d h. h; texts = b; short = s }
+texts_keep un us b s = record { layouts = refl; whole = refl; records = refl; globals = refl; inits = refl; functions = refl; bodies = refl; names = λ n d h. h; texts = b; short = s }
 
 pub value_keeps : {un up : Un} {e : ExprT} {x : TExprT} → ValueAt un e x up → Keeps un up
 value_keeps {e = e} {x = x} (item.value_at {un = un} {us = us} g0) = texts_keep un us (value_texts (under un) un.texts us e x g0) (value_short g0)
@@ -142,6 +153,7 @@ pub body_keeps : {un up : Un} {gives : Ty} {body : StmtTs} {x : TStmtTs} → Bod
 body_keeps {gives = gives} {body = body} {x = x} (item.body_at {un = un} {us = us} g0) = record {
   layouts = refl;
   whole = refl;
+  records = refl;
   globals = refl;
   inits = refl;
   functions = refl;
@@ -169,14 +181,14 @@ enumerators_keep (item.no_enumerators {un = un}) = keeps_itself un
 enumerators_keep (item.more_enumerators g0 g1) = keeps_through (named_enumerator_keeps g0) (enumerators_keep g1)
 
 pub begun_keeps : (un : Un) → Keeps un (begun un)
-begun_keeps un = record { layouts = refl; whole = refl; globals = refl; inits = refl; functions = refl; bodies = refl; names = λ n d h. h; texts = begins_itself un.texts; short = λ h. h }
+begun_keeps un = record { layouts = refl; whole = refl; records = refl; globals = refl; inits = refl; functions = refl; bodies = refl; names = λ n d h. h; texts = begins_itself un.texts; short = λ h. h }
 
 pub ended_keeps : (un : Un) → Keeps un (ended un)
-ended_keeps un = record { layouts = refl; whole = refl; globals = refl; inits = refl; functions = refl; bodies = refl; names = λ n d h. h; texts = begins_itself un.texts; short = λ h. h }
+ended_keeps un = record { layouts = refl; whole = refl; records = refl; globals = refl; inits = refl; functions = refl; bodies = refl; names = λ n d h. h; texts = begins_itself un.texts; short = λ h. h }
 
 pub with_parameter_keeps : (n : Text) (ty : Ty) (words : ℕ) (un : Un) → Keeps un (with_parameter n ty words un)
 unfolding with_parameter
-with_parameter_keeps n ty words un = record { layouts = refl; whole = refl; globals = refl; inits = refl; functions = refl; bodies = refl; names = λ m d h. h; texts = begins_itself un.texts; short = λ h. h }
+with_parameter_keeps n ty words un = record { layouts = refl; whole = refl; records = refl; globals = refl; inits = refl; functions = refl; bodies = refl; names = λ m d h. h; texts = begins_itself un.texts; short = λ h. h }
 
 pub parameter_keeps : {un : Un} {v : VarT} {t : Ty} {up : Un} → Parameter un v t up → Keeps un up
 parameter_keeps (item.parameter {up = up} {v = v} {t = t} {n = n} g0 g1) = keeps_through (type_keeps g0) (with_parameter_keeps v.name t n up)

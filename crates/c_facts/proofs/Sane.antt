@@ -1,26 +1,30 @@
 -- What holds of each state of the reading of a unit, and that it only grows.
-use Rattle.std.proofs.Common.{◌≡◌, ◌⊎◌, ℕ, ◌+◌, ◌≤◌, Bool, true, false, ◌&&◌, not, List, [], ◌∷◌, ◌++◌, length, Option, Some, None, refl, sym, subst, subst₂, sum_by, arith, inl, inr}
+use Rattle.std.proofs.Common.{◌≡◌, ◌⊎◌, ℕ, ◌+◌, ◌≤◌, Bool, true, false, ◌&&◌, not, List, [], ◌∷◌, ◌++◌, length, length-append, length-set, Option, Some, None, Ok, refl, sym, ap, ◌∙◌, subst, subst₂, sum_by, arith, inl, inr}
 use Rattle.std.specs.Prelude.{slice_get, is_some}
 use Rattle.std.proofs.lemmas.List.Sums.{sum_by_push}
 use Rattle.c_tree.specs.declared.span.Span.{Span}
 use Rattle.c_tree.specs.Tree.{TypeT, InitT, VarT, StmtTs, ItemT}
 use Rattle.c_types.specs.Types.{Ty, LayoutT}
+use Rattle.c_types.specs.Sizes.{no_layout}
 use Rattle.c_types.specs.Typed.{TInitT, TVarT, VarsZ, TStmtTs}
 use Rattle.c_rules.specs.Sizes.{is_declared}
 use Rattle.c_exprs.specs.Env.{Text, find, Decl, TypeD, GlobalD, FunctionD}
+use Rattle.c_exprs.specs.Faults.{placed}
 use Rattle.c_exprs.specs.Intrinsics.{intrinsic}
 use Rattle.c_stmts.specs.State.{made}
-use Rattle.c_check.specs.Reading.{Un, opening, state_in, is_free, names_free, named, record_type, new_record, record_entered, with_layout, global_words, globals_limit, with_global, with_init, begun, with_function}
+use Rattle.c_check.specs.Reading.{Un, opening, state_in, is_free, names_free, named, record_type, new_record, members_declared, record_entered, with_layout, global_words, globals_limit, with_global, with_init, begun, with_function}
 use Rattle.c_types.specs.Programs.{TFunctionT}
 use Rattle.c_check.specs.ItemTypes as item
 use Rattle.c_check.specs.ItemTypes.{TypeAt, Members, MaybeFillsAt, Global, Globals, Parameters, MaybeBody, Item, Items}
+use Rattle.c_facts.specs.Sound.{kind_at}
+use Rattle.c_facts.proofs.LayoutKinds.{kind_more, kind_last, kind_replaced}
 use Rattle.c_facts.proofs.Fronts.{begins_itself, begins_more, last_or_before}
 use Rattle.c_facts.proofs.Finds.{still_found, new_found}
 use Rattle.c_facts.proofs.Short.{AreShort, none_short}
 use Rattle.c_facts.proofs.Stays.{grows_itself}
 use Rattle.c_facts.proofs.Laid.{AreDeclared, none_declared, record_grows, record_declared, layout_grows, layout_declared, AreMembers, no_members_yet, one_member_more, members_laid}
-use Rattle.c_facts.proofs.ItemRules.{member_words, BecomesWhole, members_whole, global_room, IsRuled, function_ruled, own_number}
-use Rattle.c_facts.proofs.Readings.{Later, later_itself, later_through, Keeps, keeps_through, kept_later, by_record, named_free, named_keeps, enum_keeps, type_keeps, maybe_fill_keeps, maybe_body_keeps, enumerators_keep, begun_keeps, ended_keeps, parameters_keep, members_keep}
+use Rattle.c_facts.proofs.ItemRules.{member_words, BecomesWhole, members_whole, global_room, IsRuled, function_ruled, own_number, members_named}
+use Rattle.c_facts.proofs.Readings.{Later, later_itself, later_through, Keeps, keeps_through, kept_later, by_new_record, named_free, named_keeps, enum_keeps, type_keeps, maybe_fill_keeps, maybe_body_keeps, enumerators_keep, begun_keeps, ended_keeps, parameters_keep, members_keep}
 
 -- each function has the number of its name, and the types that its name is declared with
 abbrev pub AreOwn : List (Text × Decl) → List (Text × ℕ) → List TFunctionT → Type 0
@@ -30,24 +34,40 @@ AreOwn names bodies functions = (k : ℕ) (f : TFunctionT) → slice_get functio
 abbrev pub AreNamed : List (Text × Decl) → List (Text × ℕ) → Type 0
 AreNamed names globals = (k : ℕ) (g : Text × ℕ) → slice_get globals k ≡ Some g → (ty : Ty) × (find g.0 names ≡ Some (GlobalD k ty))
 
+-- each structure or union has the number of its name, and is of the two what its name means
+abbrev pub IsRecordOf : List (Text × Decl) → List LayoutT → ℕ → Text → Type 0
+IsRecordOf names layouts k n = (u : Bool) × (kind_at layouts k ≡ Some u) × (find n names ≡ Some (TypeD (record_type u k)))
+
+abbrev pub AreRecords : List (Text × Decl) → List Text → List LayoutT → Type 0
+AreRecords names records layouts = (k : ℕ) (n : Text) → slice_get records k ≡ Some n → IsRecordOf names layouts k n
+
 pub record Sane (un : Un) : Type 0 where
   pub declared : AreDeclared un.layouts un.whole
+  pub recorded : length un.records ≡ length un.layouts
+  pub records : AreRecords un.names un.records un.layouts
   pub globals : global_words un ≤ globals_limit
   pub named : AreNamed un.names un.globals
   pub texts : AreShort un.texts
   pub functions : AreOwn un.names un.bodies un.functions
 
 pub opening_sane : (b : List (Text × ℕ)) → Sane (opening b)
-opening_sane b = record { declared = none_declared; globals = omega arith; named = λ k g e. absurd cc; texts = none_short; functions = λ k f e. absurd cc }
+opening_sane b = record { declared = none_declared; recorded = refl; records = λ k n e. absurd cc; globals = omega arith; named = λ k g e. absurd cc; texts = none_short; functions = λ k f e. absurd cc }
 
 own_kept : (un up : Un) → Keeps un up → AreOwn un.names un.bodies un.functions → AreOwn up.names up.bodies up.functions
 own_kept un up g h k f e =
     let own = h k f (subst (λ fs. slice_get fs k ≡ Some f) g.functions e) in
     (subst (λ b. find f.name b ≡ Some k) (sym g.bodies) own.0, g.names f.name (FunctionD f.params f.gives) own.1)
 
+records_kept : (un up : Un) → Keeps un up → AreRecords un.names un.records un.layouts → AreRecords up.names up.records up.layouts
+records_kept un up g h k n e =
+    let own = h k n (subst (λ rs. slice_get rs k ≡ Some n) g.records e) in
+    (own.0, subst (λ ls. kind_at ls k ≡ Some own.0) (sym g.layouts) own.1, g.names n (TypeD (record_type own.0 k)) own.2)
+
 pub kept_sane : {un up : Un} → Keeps un up → Sane un → Sane up
 kept_sane {un = un} {up = up} g h = record {
   declared = subst₂ AreDeclared (sym g.layouts) (sym g.whole) h.declared;
+  recorded = ap length g.records ∙ h.recorded ∙ ap length (sym g.layouts);
+  records = records_kept un up g h.records;
   globals = subst (λ gs. sum_by (λ x. x.1) gs ≤ globals_limit) (sym g.globals) h.globals;
   named = λ k x e. let own = h.named k x (subst (λ gs. slice_get gs k ≡ Some x) g.globals e) in (own.0, g.names x.0 (GlobalD k own.0) own.1);
   texts = g.short h.texts;
@@ -67,8 +87,26 @@ kept_follows g h = record { later = kept_later g; sane = kept_sane g h }
 
 -- ---- structures and unions
 
-new_record_follows : (is_union : Bool) (n : Text) (un : Un) → Sane un → Follows un (new_record is_union n un)
-new_record_follows is_union n un h = record {
+not_there : {A : Type 0} (o : Option A) (b : Bool) → (not (is_some o) && b) ≡ true → o ≡ None
+not_there None b h = refl
+not_there (Some x) b h = absurd cc
+
+-- one more, under a name that is free
+records_more : (is_union : Bool) (n : Text) (names : List (Text × Decl)) (records : List Text) (layouts : List LayoutT) → find n names ≡ None → length records ≡ length layouts → AreRecords names records layouts
+    → AreRecords (names ++ (n, TypeD (record_type is_union (length layouts))) ∷ []) (records ++ n ∷ []) (layouts ++ no_layout is_union ∷ [])
+records_more is_union n names records layouts free same h k m e = by (last_or_before records n k m e)
+  where
+    by : (slice_get records k ≡ Some m) ⊎ ((k ≡ length records) × (n ≡ m)) → IsRecordOf (names ++ (n, TypeD (record_type is_union (length layouts))) ∷ []) (layouts ++ no_layout is_union ∷ []) k m
+    by (inl f) =
+        let own = h k m f in
+        (own.0, kind_more layouts (no_layout is_union ∷ []) k own.0 own.1, still_found m names ((n, TypeD (record_type is_union (length layouts))) ∷ []) (TypeD (record_type own.0 k)) own.2)
+    by (inr f) =
+        let last : IsRecordOf (names ++ (n, TypeD (record_type is_union (length layouts))) ∷ []) (layouts ++ no_layout is_union ∷ []) (length layouts) n =
+            (is_union, kind_last layouts (no_layout is_union), new_found n names (TypeD (record_type is_union (length layouts))) free) in
+        subst₂ (IsRecordOf (names ++ (n, TypeD (record_type is_union (length layouts))) ∷ []) (layouts ++ no_layout is_union ∷ [])) (sym (f.0 ∙ same)) f.1 last
+
+new_record_follows : (is_union : Bool) (n : Text) (un : Un) → Sane un → is_free n un ≡ true → Follows un (new_record is_union n un)
+new_record_follows is_union n un h free = record {
   later = record {
     grows = record_grows is_union un.layouts un.whole h.declared;
     globals = begins_itself un.globals;
@@ -80,6 +118,8 @@ new_record_follows is_union n un h = record {
   };
   sane = record {
     declared = record_declared is_union un.layouts un.whole h.declared;
+    recorded = omega (arith, h.recorded, length-append un.records (n ∷ []), length-append un.layouts (no_layout is_union ∷ []));
+    records = records_more is_union n un.names un.records un.layouts (not_there (find n un.names) (not (is_some (intrinsic n))) free) h.recorded h.records;
     globals = h.globals;
     named = λ k g e. let own = h.named k g e in (own.0, still_found g.0 un.names ((n, TypeD (record_type is_union (length un.layouts))) ∷ []) (GlobalD k own.0) own.1);
     texts = h.texts;
@@ -88,11 +128,11 @@ new_record_follows is_union n un h = record {
 }
 
 pub record_follows : (is_union : Bool) (n : Text) (un : Un) → Sane un → Follows un (record_entered is_union n un)
-record_follows is_union n un h = by_record (λ up. Follows un up) is_union n un (record { later = later_itself un; sane = h }) (new_record_follows is_union n un h)
+record_follows is_union n un h = by_new_record (λ up. Follows un up) is_union n un (record { later = later_itself un; sane = h }) (new_record_follows is_union n un h)
 
-pub with_layout_later : (n : ℕ) (l : LayoutT) (un : Un) → Sane un → is_declared un.whole n ≡ false → Later un (with_layout n l un)
-with_layout_later n l un h new = record {
-  grows = layout_grows un.layouts un.whole n l h.declared new;
+pub with_layout_later : (n : ℕ) (l : LayoutT) (un : Un) → Sane un → is_declared un.whole n ≡ false → kind_at un.layouts n ≡ Some l.is_union → Later un (with_layout n l un)
+with_layout_later n l un h new kind = record {
+  grows = layout_grows un.layouts un.whole n l h.declared new kind;
   globals = begins_itself un.globals;
   inits = begins_itself un.inits;
   functions = begins_itself un.functions;
@@ -101,11 +141,13 @@ with_layout_later n l un h new = record {
   bodies = refl;
 }
 
-layout_follows : (n : ℕ) (l : LayoutT) (un : Un) → Sane un → AreMembers un.layouts un.whole l → BecomesWhole un l n → Follows un (with_layout n l un)
-layout_follows n l un h m b = record {
-  later = with_layout_later n l un h b.new;
+layout_follows : (n : ℕ) (l : LayoutT) (un : Un) → Sane un → AreMembers un.layouts un.whole l → BecomesWhole un l n → kind_at un.layouts n ≡ Some l.is_union → Follows un (with_layout n l un)
+layout_follows n l un h m b kind = record {
+  later = with_layout_later n l un h b.new kind;
   sane = record {
-    declared = layout_declared un.layouts un.whole n l h.declared b.new (members_laid un.layouts un.whole l m b.members b.size);
+    recorded = h.recorded ∙ sym (length-set un.layouts n l);
+    records = λ k x e. let own = h.records k x e in (own.0, kind_replaced un.layouts n l kind k own.0 own.1, own.2);
+    declared = layout_declared un.layouts un.whole n l h.declared b.new kind (members_laid un.layouts un.whole l m b.members b.size);
     globals = h.globals;
     named = h.named;
     texts = h.texts;
@@ -118,6 +160,25 @@ members_so_far (item.no_members) a = a
 members_so_far {seen = seen} (item.more_members (item.member {un = un} {up = up} {v = v} {t = t} {n = n} (item.type_at g0) g1) rest) a =
     let words = member_words v.span up seen v.name t n g1 in
     members_so_far rest (one_member_more un.layouts un.whole seen v.name t n a words.sized words.words)
+
+-- members make neither of the two the other
+members_kind : {un : Un} {seen l : LayoutT} {vs : List VarT} {up : Un} → Members un seen vs l up → l.is_union ≡ seen.is_union
+members_kind (item.no_members) = refl
+members_kind (item.more_members (item.member g0 g1) rest) = members_kind rest
+
+same_kind : (u v : Bool) (k : ℕ) → Some (TypeD (record_type u k)) ≡ Some (TypeD (record_type v k)) → u ≡ v
+same_kind true true k e = refl
+same_kind false false k e = refl
+same_kind true false k e = absurd cc
+same_kind false true k e = absurd cc
+
+-- The layout that is declared whole is of the kind that was declared.
+pub completed_kind : (s : Span) (is_union : Bool) (name : Text) {un : Un} {vs : List VarT} {l : LayoutT} {up : Un} (n : ℕ) → Members un (no_layout is_union) vs l up → Sane up → placed s (members_declared is_union name up l) ≡ Ok n → kind_at up.layouts n ≡ Some l.is_union
+completed_kind s is_union name {l = l} {up = up} n g h e =
+    let r = members_named s is_union name up l n e in
+    let own = h.records n name r.named in
+    let same : own.0 ≡ is_union = same_kind own.0 is_union n (sym own.2 ∙ r.declared) in
+    own.1 ∙ ap Some (same ∙ sym (members_kind g))
 
 -- ---- globals
 
@@ -143,6 +204,8 @@ named_more names globals n words ty h d k g e = by (last_or_before globals (n, w
 with_global_sane : (n : Text) (words : ℕ) (ty : Ty) (un : Un) → Sane un → find n un.names ≡ Some (GlobalD (length un.globals) ty) → global_words un + words ≤ globals_limit → Sane (with_global n words un)
 with_global_sane n words ty un h d room = record {
   declared = h.declared;
+  recorded = h.recorded;
+  records = h.records;
   named = named_more un.names un.globals n words ty h.named d;
   globals = subst (λ k. k ≤ globals_limit) (sym (sum_by_push (λ (g : Text × ℕ). g.1) un.globals (n, words))) room;
   texts = h.texts;
@@ -152,15 +215,11 @@ with_global_sane n words ty un h d room = record {
 pub global_keeps : (v : VarT) {un up uq : Un} {t : Ty} {i : Option InitT} {x : Option TInitT} → TypeAt un v.span v.ty t up → MaybeFillsAt (named v.name (GlobalD (length un.globals) t) up) t i x uq → Keeps un uq
 global_keeps v {un = un} {up = up} {t = t} g0 g1 = keeps_through (type_keeps g0) (keeps_through (named_keeps v.name (GlobalD (length un.globals) t) up) (maybe_fill_keeps g1))
 
-type_names : {un : Un} {s : Span} {of : TypeT} {t : Ty} {up : Un} → TypeAt un s of t up → up.names ≡ un.names
+pub type_names : {un : Un} {s : Span} {of : TypeT} {t : Ty} {up : Un} → TypeAt un s of t up → up.names ≡ un.names
 type_names (item.type_at g0) = refl
 
-not_there : {A : Type 0} (o : Option A) (b : Bool) → (not (is_some o) && b) ≡ true → o ≡ None
-not_there None b h = refl
-not_there (Some x) b h = absurd cc
-
 -- a name that is free means the global from then on
-new_global : (v : VarT) (un : Un) (t : Ty) (up : Un) → up.names ≡ un.names → is_free v.name un ≡ true → find v.name (named v.name (GlobalD (length un.globals) t) up).names ≡ Some (GlobalD (length un.globals) t)
+pub new_global : (v : VarT) (un : Un) (t : Ty) (up : Un) → up.names ≡ un.names → is_free v.name un ≡ true → find v.name (named v.name (GlobalD (length un.globals) t) up).names ≡ Some (GlobalD (length un.globals) t)
 new_global v un t up same free =
     let free_then : is_free v.name up ≡ true = subst (λ names. names_free v.name names ≡ true) (sym same) free in
     let none : find v.name up.names ≡ None = not_there (find v.name up.names) (not (is_some (intrinsic v.name))) free_then in
@@ -195,7 +254,7 @@ with_init_later xs un = record {
 init_follows : (xs : List TVarT) (un : Un) → Sane un → Follows un (with_init xs un)
 init_follows xs un h = record {
   later = with_init_later xs un;
-  sane = record { declared = h.declared; globals = h.globals; named = h.named; texts = h.texts; functions = h.functions };
+  sane = record { declared = h.declared; recorded = h.recorded; records = h.records; globals = h.globals; named = h.named; texts = h.texts; functions = h.functions };
 }
 
 -- ---- functions
@@ -224,6 +283,8 @@ own_more names bodies functions f h b d k g e = by (last_or_before functions f k
 with_body_sane : (name : Text) (ps : List Ty) (t : Ty) (body : StmtTs) (x : TStmtTs) (un : Un) → Sane un → IsRuled un name ps t (Some body) → Sane (with_function name ps t (Some x) un)
 with_body_sane name ps t body x un h r = record {
   declared = h.declared;
+  recorded = h.recorded;
+  records = h.records;
   globals = h.globals;
   named = h.named;
   texts = h.texts;
@@ -249,7 +310,7 @@ item_follows h (item.record_members {un = un} {up = up} {is_union = is_union} {n
     let begun = record_follows is_union name un h in
     let g = members_keep g0 in
     let ms = kept_members l g (members_so_far g0 (no_members_yet (record_entered is_union name un).layouts (record_entered is_union name un).whole is_union)) in
-    follows_by (later_through begun.later (kept_later g)) (layout_follows n l up (kept_sane g begun.sane) ms (members_whole s is_union name up l n g1))
+    follows_by (later_through begun.later (kept_later g)) (layout_follows n l up (kept_sane g begun.sane) ms (members_whole s is_union name up l n g1) (completed_kind s is_union name n g0 (kept_sane g begun.sane) g1))
 item_follows h (item.enumeration {un = un} {name = name} g0 g1) = kept_follows (keeps_through (enum_keeps name un) (enumerators_keep g0)) h
 item_follows h (item.type_name {up = up} {name = name} {t = t} g0 g1) = kept_follows (keeps_through (type_keeps g0) (named_keeps name (TypeD t) up)) h
 item_follows h (item.objects {up = up} {xs = xs} g0) =

@@ -15,7 +15,7 @@ use Rattle.c_exprs.specs.Nodes.{type_of_typed}
 use Rattle.c_stmts.specs.State.{Scope, Fn, St, under, opened, left, declare, is_new, entered, locals_limit, filled_var, is_condition_of, is_test, Labels, is_case}
 use Rattle.c_stmts.specs.StatementTypes as good
 use Rattle.c_stmts.specs.StatementTypes.{ValueIn, TypeIn, FillsIn, MaybeFills, Declares, AllDeclare, MaybeValue, Statement, MaybeStatement, Statements, ArmOf, ArmsOf}
-use Rattle.c_facts.specs.Sound.{Scene, IsKnown, IsLocal, IsTypedValue, FillsAs, AreFilled, IsTest, MayTest, MayValue, IsStatement, MayState, AreStatements, AreArms, IsLabel, IsArm}
+use Rattle.c_facts.specs.Sound.{Scene, IsKnown, IsOfType, IsLocal, IsTypedValue, FillsAs, AreFilled, IsTest, MayTest, MayValue, IsStatement, MayState, AreStatements, AreArms, IsLabel, IsArm}
 use Rattle.c_facts.proofs.Expressions.{value_sound as value_read, type_sound as type_known}
 use Rattle.c_facts.proofs.Within.{Begins, Grows, AreMeant, AreBodies, InScopes, AllMembersKnown, Within, MembersWhole}
 use Rattle.c_facts.proofs.Growth.{whole_later, words_later}
@@ -24,6 +24,7 @@ use Rattle.c_facts.specs.Made.{made_in, maybe_made_in, all_made_in, arms_made_in
 use Rattle.c_facts.proofs.Making.{statement_makes, maybe_statement_makes, statements_make, arms_make, for_makes}
 use Rattle.c_facts.proofs.Initialisers.{init_sound}
 use Rattle.c_facts.proofs.Spending.{Keeps, Spends, spends_kept, entered_keeps, type_keeps, maybe_fill_keeps, has_size, value_keeps, maybe_value_keeps, variables_spend, statement_spends, maybe_statement_spends, statements_spend, arms_spend}
+use Rattle.c_facts.proofs.ObjectTypes.{VariableTold, VariablesTold, StatementTold, MaybeTold, StatementsTold, ArmTold, ArmsTold}
 use Rattle.c_facts.proofs.Fronts.{begins_through, begins_end}
 use Rattle.c_facts.proofs.Holds.{demanded_gives}
 
@@ -102,8 +103,8 @@ filled_var_sound s object ty (Some i) local known sized h = (record { kind = ref
 local_at : (s : Scene) (sizes : List ℕ) (n words : ℕ) → Begins (sizes ++ n ∷ []) s.locals → n ≡ words → slice_get s.locals (length sizes) ≡ Some words
 local_at s sizes n words b e = begins_end sizes s.locals n b ∙ ap Some e
 
-pub variable_sound : (s : Scene) {f : Fn} {sp sq : St} {v : VarT} {xs : List TVarT} → WithinFunction f s → Declares f sp v xs sq → InScopes s sp.scopes → Reaches sq s → AreFilled s false xs × InScopes s sq.scopes
-variable_sound s {f = f} w (good.variable {sp = sp} {sq = sq} {sr = sr} {v = v} {t = t} {i = init} {n = n} h k size) i r =
+pub variable_sound : (s : Scene) {f : Fn} {sp sq : St} {v : VarT} {xs : List TVarT} → WithinFunction f s → (h : Declares f sp v xs sq) → VariableTold s.local_types h → InScopes s sp.scopes → Reaches sq s → AreFilled s false xs × InScopes s sq.scopes
+variable_sound s {f = f} w (good.variable {sp = sp} {sq = sq} {sr = sr} {v = v} {t = t} {i = init} {n = n} h k size) told i r =
     let type_kept = type_keeps h in
     let fill_kept = maybe_fill_keeps k in
     let name_kept = entered_keeps v.name t sq in
@@ -111,7 +112,8 @@ variable_sound s {f = f} w (good.variable {sp = sp} {sq = sq} {sr = sr} {v = v} 
     let size_known = has_size v.span f.layouts f.whole locals_limit sp.used _ t n size in
     let same : sr.sizes ≡ sq.sizes = fill_kept.sizes ∙ name_kept.sizes in
     let words : n ≡ words_of s.layouts t = sym size_known.words ∙ words_later w.grows t size_known.sized in
-    let here : IsLocal s (length sq.sizes) t = local_at s sq.sizes n (words_of s.layouts t) (subst (λ (ns : List ℕ). Begins (ns ++ n ∷ []) s.locals) same r.sizes) words in
+    let told_here : IsOfType s.local_types (length sq.sizes) t = subst (λ (ns : List ℕ). IsOfType s.local_types (length ns) t) (sym type_kept.sizes) told in
+    let here : IsLocal s (length sq.sizes) t = (local_at s sq.sizes n (words_of s.layouts t) (subst (λ (ns : List ℕ). Begins (ns ++ n ∷ []) s.locals) same r.sizes) words, told_here) in
     let local : IsLocal s (length sp.sizes) t = subst (λ (ns : List ℕ). IsLocal s (length ns) t) type_kept.sizes here in
     let texts : Begins sq.texts s.literals = begins_through sq.texts named.texts s.literals name_kept.texts (begins_through named.texts sr.texts s.literals fill_kept.texts r.texts) in
     let typed = type_sound s w h i texts in
@@ -122,11 +124,11 @@ all_filled : (s : Scene) (xs ys : List TVarT) → AreFilled s false xs → AreFi
 all_filled s [] ys h k = k
 all_filled s (x ∷ xs) ys h k = (h.0, all_filled s xs ys h.1 k)
 
-pub variables_sound : (s : Scene) {f : Fn} {sp sq : St} {vs : List VarT} {xs : List TVarT} → WithinFunction f s → AllDeclare f sp vs xs sq → InScopes s sp.scopes → Reaches sq s → AreFilled s false xs × InScopes s sq.scopes
-variables_sound s w good.no_variables i r = (tt, i)
-variables_sound s w (good.more_variables {sq = sq} {sr = sr} {x = x} {xs = xs} h k) i r =
-    let here = variable_sound s w h i (reaches_before s sq sr (variables_spend k) r) in
-    let later = variables_sound s w k here.1 r in
+pub variables_sound : (s : Scene) {f : Fn} {sp sq : St} {vs : List VarT} {xs : List TVarT} → WithinFunction f s → (h : AllDeclare f sp vs xs sq) → VariablesTold s.local_types h → InScopes s sp.scopes → Reaches sq s → AreFilled s false xs × InScopes s sq.scopes
+variables_sound s w good.no_variables t i r = (tt, i)
+variables_sound s w (good.more_variables {sq = sq} {sr = sr} {x = x} {xs = xs} h k) t i r =
+    let here = variable_sound s w h t.0 i (reaches_before s sq sr (variables_spend k) r) in
+    let later = variables_sound s w k t.1 here.1 r in
     (all_filled s x xs here.0 later.0, later.1)
 
 -- ---- statements
@@ -139,77 +141,77 @@ is_tested : (s : Scene) (p : Span) (x : TExprT) → IsTypedValue s x → demande
 is_tested s p x v h = (v, demanded_gives p WrongType (is_condition_of x) h)
 
 mutual
-  pub statement_sound : (s : Scene) {f : Fn} {sp sq : St} {breaks continues : Bool} {a : StmtT} {x : TStmtT} → WithinFunction f s → Statement f sp breaks continues a x sq → InScopes s sp.scopes → Reaches sq s → IsStatement s x f.gives breaks continues × InScopes s sq.scopes
-  statement_sound s w (good.block {sp = sp} {sq = sq} {xs = xs} h) i r =
+  pub statement_sound : (s : Scene) {f : Fn} {sp sq : St} {breaks continues : Bool} {a : StmtT} {x : TStmtT} → WithinFunction f s → (h : Statement f sp breaks continues a x sq) → StatementTold s.local_types h → InScopes s sp.scopes → Reaches sq s → IsStatement s x f.gives breaks continues × InScopes s sq.scopes
+  statement_sound s w (good.block {sp = sp} {sq = sq} {xs = xs} h) t i r =
       let ends = reaches_in s sq r in
-      let body = statements_sound s w h (in_opened s sp.scopes i) ends in
+      let body = statements_sound s w h t (in_opened s sp.scopes i) ends in
       ((made_are_objects s sp sq (all_made_in xs) (statements_make h) ends.sizes, body.0), in_closed s sq.scopes body.1)
-  statement_sound s w good.empty i r = (tt, i)
-  statement_sound s w (good.variables h) i r = variables_sound s w h i r
-  statement_sound s w (good.expression h) i r = value_sound s w h i r.texts
-  statement_sound s w (good.if_else {sq = sq} {sr = sr} {ss = ss} {s = p} {x = x} h k l test) i r =
+  statement_sound s w good.empty t i r = (tt, i)
+  statement_sound s w (good.variables h) t i r = variables_sound s w h t i r
+  statement_sound s w (good.expression h) t i r = value_sound s w h i r.texts
+  statement_sound s w (good.if_else {sq = sq} {sr = sr} {ss = ss} {s = p} {x = x} h k l test) t i r =
       let then_ends = reaches_before s sr ss (maybe_statement_spends l) r in
       let test_ends = reaches_before s sq sr (statement_spends k) then_ends in
       let on = value_sound s w h i test_ends.texts in
-      let taken = statement_sound s w k on.1 then_ends in
-      let other = maybe_statement_sound s w l taken.1 r in
+      let taken = statement_sound s w k t.0 on.1 then_ends in
+      let other = maybe_statement_sound s w l t.1 taken.1 r in
       ((is_tested s p x on.0 test, taken.0, other.0), other.1)
-  statement_sound s w (good.while {sq = sq} {sr = sr} {s = p} {x = x} h k test) i r =
+  statement_sound s w (good.while {sq = sq} {sr = sr} {s = p} {x = x} h k test) t i r =
       let on = value_sound s w h i (reaches_before s sq sr (statement_spends k) r).texts in
-      let body = statement_sound s w k on.1 r in
+      let body = statement_sound s w k t on.1 r in
       ((is_tested s p x on.0 test, body.0), body.1)
-  statement_sound s w (good.do_while {sq = sq} {sr = sr} {s = p} {x = x} h k test) i r =
-      let body = statement_sound s w h i (reaches_kept s sq sr (value_keeps k) r) in
+  statement_sound s w (good.do_while {sq = sq} {sr = sr} {s = p} {x = x} h k test) t i r =
+      let body = statement_sound s w h t i (reaches_kept s sq sr (value_keeps k) r) in
       let on = value_sound s w k body.1 r.texts in
       ((body.0, is_tested s p x on.0 test), on.1)
-  statement_sound s w (good.for {sp = sp} {sq = sq} {sr = sr} {ss = ss} {su = su} {s = p} {x = x} {y = y} {w = z} h k l m test) i r =
+  statement_sound s w (good.for {sp = sp} {sq = sq} {sr = sr} {ss = ss} {su = su} {s = p} {x = x} {y = y} {w = z} h k l m test) t i r =
       let all_ends = reaches_in s su r in
       let step_ends = reaches_before s ss su (statement_spends m) all_ends in
       let test_ends = reaches_kept s sr ss (maybe_value_keeps l) step_ends in
       let first_ends = reaches_kept s sq sr (maybe_value_keeps k) test_ends in
-      let first = maybe_statement_sound s w h (in_opened s sp.scopes i) first_ends in
+      let first = maybe_statement_sound s w h t.0 (in_opened s sp.scopes i) first_ends in
       let on = maybe_value_sound s w k first.1 test_ends.texts in
       let step = maybe_value_sound s w l on.1 step_ends.texts in
-      let body = statement_sound s w m step.1 all_ends in
+      let body = statement_sound s w m t.1 step.1 all_ends in
       ((made_are_objects s sp su (maybe_made_in x ++ made_in z) (for_makes (maybe_statement_makes h) k l (statement_makes m)) all_ends.sizes, first.0, may_test s y on.0 (demanded_gives p WrongType (is_test y) test), step.0, body.0), in_closed s su.scopes body.1)
-  statement_sound s w (good.switch {sq = sq} {sr = sr} {s = p} {x = x} {xs = xs} h k test) i r =
+  statement_sound s w (good.switch {sq = sq} {sr = sr} {s = p} {x = x} {xs = xs} h k test) t i r =
       let all_ends = reaches_in s sr r in
       let on = value_sound s w h i (reaches_before s (opened sq) sr (arms_spend k) all_ends).texts in
-      let arms = arms_sound s w refl k (in_opened s sq.scopes on.1) all_ends in
+      let arms = arms_sound s w refl k t (in_opened s sq.scopes on.1) all_ends in
       ((on.0, demanded_gives p WrongType (is_number (type_of_typed x)) test, made_are_objects s sq sr (arms_made_in xs) (arms_make k) all_ends.sizes, arms.0), in_closed s sr.scopes arms.1)
-  statement_sound s w good.return_nothing i r = (tt, i)
-  statement_sound s {f = f} w (good.return_value {s = p} {x = x} h test) i r =
+  statement_sound s w good.return_nothing t i r = (tt, i)
+  statement_sound s {f = f} w (good.return_value {s = p} {x = x} h test) t i r =
       let on = value_sound s w h i r.texts in
       ((on.0, demanded_gives p WrongType (converts (type_of_typed x) f.gives) test), on.1)
-  statement_sound s w (good.break {breaks = breaks} {s = p} test) i r = (demanded_gives p BreakOutside breaks test, i)
-  statement_sound s w (good.continue {continues = continues} {s = p} test) i r = (demanded_gives p BreakOutside continues test, i)
+  statement_sound s w (good.break {breaks = breaks} {s = p} test) t i r = (demanded_gives p BreakOutside breaks test, i)
+  statement_sound s w (good.continue {continues = continues} {s = p} test) t i r = (demanded_gives p BreakOutside continues test, i)
 
-  pub maybe_statement_sound : (s : Scene) {f : Fn} {sp sq : St} {breaks continues : Bool} {a : MaybeS} {x : MaybeZ} → WithinFunction f s → MaybeStatement f sp breaks continues a x sq → InScopes s sp.scopes → Reaches sq s → MayState s x f.gives breaks continues × InScopes s sq.scopes
-  maybe_statement_sound s w good.nothing i r = (tt, i)
-  maybe_statement_sound s w (good.something h) i r = statement_sound s w h i r
+  pub maybe_statement_sound : (s : Scene) {f : Fn} {sp sq : St} {breaks continues : Bool} {a : MaybeS} {x : MaybeZ} → WithinFunction f s → (h : MaybeStatement f sp breaks continues a x sq) → MaybeTold s.local_types h → InScopes s sp.scopes → Reaches sq s → MayState s x f.gives breaks continues × InScopes s sq.scopes
+  maybe_statement_sound s w good.nothing t i r = (tt, i)
+  maybe_statement_sound s w (good.something h) t i r = statement_sound s w h t i r
 
-  pub statements_sound : (s : Scene) {f : Fn} {sp sq : St} {breaks continues : Bool} {a : StmtTs} {x : TStmtTs} → WithinFunction f s → Statements f sp breaks continues a x sq → InScopes s sp.scopes → Reaches sq s → AreStatements s x f.gives breaks continues × InScopes s sq.scopes
-  statements_sound s w good.no_statements i r = (tt, i)
-  statements_sound s w (good.more_statements {sq = sq} {sr = sr} h k) i r =
-      let here = statement_sound s w h i (reaches_before s sq sr (statements_spend k) r) in
-      let later = statements_sound s w k here.1 r in
+  pub statements_sound : (s : Scene) {f : Fn} {sp sq : St} {breaks continues : Bool} {a : StmtTs} {x : TStmtTs} → WithinFunction f s → (h : Statements f sp breaks continues a x sq) → StatementsTold s.local_types h → InScopes s sp.scopes → Reaches sq s → AreStatements s x f.gives breaks continues × InScopes s sq.scopes
+  statements_sound s w good.no_statements t i r = (tt, i)
+  statements_sound s w (good.more_statements {sq = sq} {sr = sr} h k) t i r =
+      let here = statement_sound s w h t.0 i (reaches_before s sq sr (statements_spend k) r) in
+      let later = statements_sound s w k t.1 here.1 r in
       ((here.0, later.0), later.1)
 
   -- `break` may stand in an arm of a switch
-  arm_sound : (s : Scene) {f : Fn} {sp sq : St} {breaks continues : Bool} {seen : Labels} {a : ArmT} {x : TArmT} → WithinFunction f s → breaks ≡ true → ArmOf f sp breaks continues seen a x sq → InScopes s sp.scopes → Reaches sq s → IsLabel seen x × IsArm s x f.gives continues × InScopes s sq.scopes
-  arm_sound s w e (good.case {seen = seen} {s = p} {k = k} h c test) i r = (not_so (is_case k seen) (demanded_gives p Twice (not (is_case k seen)) test), tt, (value_sound s w h i r.texts).1)
-  arm_sound s w e (good.default {seen = seen} {s = p} test) i r = (not_so seen.has_default (demanded_gives p Twice (not seen.has_default) test), tt, i)
-  arm_sound s {f = f} w e (good.arm_statement {continues = continues} {x = x} h) i r =
-      let here = statement_sound s w h i r in
+  arm_sound : (s : Scene) {f : Fn} {sp sq : St} {breaks continues : Bool} {seen : Labels} {a : ArmT} {x : TArmT} → WithinFunction f s → breaks ≡ true → (h : ArmOf f sp breaks continues seen a x sq) → ArmTold s.local_types h → InScopes s sp.scopes → Reaches sq s → IsLabel seen x × IsArm s x f.gives continues × InScopes s sq.scopes
+  arm_sound s w e (good.case {seen = seen} {s = p} {k = k} h c test) t i r = (not_so (is_case k seen) (demanded_gives p Twice (not (is_case k seen)) test), tt, (value_sound s w h i r.texts).1)
+  arm_sound s w e (good.default {seen = seen} {s = p} test) t i r = (not_so seen.has_default (demanded_gives p Twice (not seen.has_default) test), tt, i)
+  arm_sound s {f = f} w e (good.arm_statement {continues = continues} {x = x} h) t i r =
+      let here = statement_sound s w h t i r in
       (tt, subst (λ b. IsStatement s x f.gives b continues) e here.0, here.1)
 
-  arms_sound : (s : Scene) {f : Fn} {sp sq : St} {breaks continues : Bool} {seen : Labels} {a : ArmTs} {x : TArmTs} → WithinFunction f s → breaks ≡ true → ArmsOf f sp breaks continues seen a x sq → InScopes s sp.scopes → Reaches sq s → AreArms s x f.gives continues seen × InScopes s sq.scopes
-  arms_sound s w e good.no_arms i r = (tt, i)
-  arms_sound s w e (good.more_arms {sq = sq} {sr = sr} h k) i r =
-      let here = arm_sound s w e h i (reaches_before s sq sr (arms_spend k) r) in
-      let later = arms_sound s w e k here.2 r in
+  arms_sound : (s : Scene) {f : Fn} {sp sq : St} {breaks continues : Bool} {seen : Labels} {a : ArmTs} {x : TArmTs} → WithinFunction f s → breaks ≡ true → (h : ArmsOf f sp breaks continues seen a x sq) → ArmsTold s.local_types h → InScopes s sp.scopes → Reaches sq s → AreArms s x f.gives continues seen × InScopes s sq.scopes
+  arms_sound s w e good.no_arms t i r = (tt, i)
+  arms_sound s w e (good.more_arms {sq = sq} {sr = sr} h k) t i r =
+      let here = arm_sound s w e h t.0 i (reaches_before s sq sr (arms_spend k) r) in
+      let later = arms_sound s w e k t.1 here.2 r in
       ((here.0, here.1, later.0), later.1)
 
 -- The body of a function, where the objects of the call and the texts of the program begin with those that stand after it.
-pub body_sound : (s : Scene) {f : Fn} {sp sq : St} {body : StmtTs} {x : TStmtTs} → WithinFunction f s → Statements f sp false false body x sq → InScopes s sp.scopes → Begins sq.sizes s.locals → Begins sq.texts s.literals → AreStatements s x f.gives false false
-body_sound s w h i sizes texts = (statements_sound s w h i (record { sizes = sizes; texts = texts })).0
+pub body_sound : (s : Scene) {f : Fn} {sp sq : St} {body : StmtTs} {x : TStmtTs} → WithinFunction f s → (h : Statements f sp false false body x sq) → StatementsTold s.local_types h → InScopes s sp.scopes → Begins sq.sizes s.locals → Begins sq.texts s.literals → AreStatements s x f.gives false false
+body_sound s w h t i sizes texts = (statements_sound s w h t i (record { sizes = sizes; texts = texts })).0

@@ -17,13 +17,14 @@ use Rattle.c_facts.proofs.Within.{Grows}
 use Rattle.c_facts.proofs.Growth.{whole_later, words_later}
 
 pub grows_itself : (layouts : List LayoutT) (whole : List Bool) → Grows layouts whole layouts whole
-grows_itself layouts whole = record { kept = λ k l e. inr e; fixed = λ k h. (h, refl); few = omega arith }
+grows_itself layouts whole = record { kept = λ k l e. inr e; fixed = λ k h. (h, refl); few = omega arith; kinds = λ k u e. e }
 
 pub grows_through : {layouts middle later : List LayoutT} {whole half all : List Bool} → Grows layouts whole middle half → Grows middle half later all → Grows layouts whole later all
 grows_through g h = record {
   kept = λ k l e. elim (g.kept k l e) [ inl n ↦ inl n | inr f ↦ h.kept k l f ];
   fixed = λ k w. let a = g.fixed k w in let b = h.fixed k a.0 in (b.0, a.1 ∙ b.1);
   few = omega (arith, g.few, h.few);
+  kinds = λ k u e. h.kinds k u (g.kinds k u e);
 }
 
 -- ---- types
@@ -33,8 +34,8 @@ known_stays g VoidY h = tt
 known_stays g IntY h = tt
 known_stays g BoolY h = tt
 known_stays g (EnumY number) h = tt
-known_stays g (StructY number) h = omega (arith, h, g.few)
-known_stays g (UnionY number) h = omega (arith, h, g.few)
+known_stays g (StructY number) h = g.kinds number false h
+known_stays g (UnionY number) h = g.kinds number true h
 known_stays g (PointerY to) h = known_stays g to h
 known_stays g (ArrayY of count) h = (known_stays g of h.0, whole_later g of h.1, h.2, subst (λ n. n ≤ type_limit) (words_later g (ArrayY of count) h.1) h.3)
 

@@ -15,6 +15,7 @@ use Rattle.c_facts.proofs.Within.{Begins, Grows, AreMeant, AreBodies, InScopes, 
 use Rattle.c_facts.proofs.Beginnings.{value_begins, name_begins}
 use Rattle.c_facts.proofs.Expressions.{value_sound, type_sound}
 use Rattle.c_facts.proofs.Initialisers.{fills_texts, init_sound}
+use Rattle.c_facts.proofs.ObjectTypes.{StatementsTold}
 use Rattle.c_facts.proofs.Spending.{Spends, statements_spend}
 use Rattle.c_facts.proofs.Statements.{body_sound}
 
@@ -41,8 +42,8 @@ pub filled_texts : (c : Ctx) (ts us : List Text) (global : Bool) (target : Optio
 filled_texts c ts us global target i x g = fills_texts g
 
 pub body_is : (s : Scene) (f : Fn) (sp sq : St) (body : StmtTs) (x : TStmtTs) → Grows f.layouts f.whole s.layouts s.whole → AreMeant s f.names → AreBodies s f.names f.bodies → MembersKnown s → MembersWhole f.layouts f.whole → InScopes s sp.scopes
-    → Statements f sp false false body x sq → Begins sq.sizes s.locals → Begins sq.texts s.literals → AreStatements s x f.gives false false
-body_is s f sp sq body x grows names bodies members whole scopes g sizes texts = body_sound s (record { grows = grows; names = names; bodies = bodies; members = members; whole = whole }) g scopes sizes texts
+    → (g : Statements f sp false false body x sq) → StatementsTold s.local_types g → Begins sq.sizes s.locals → Begins sq.texts s.literals → AreStatements s x f.gives false false
+body_is s f sp sq body x grows names bodies members whole scopes g told sizes texts = body_sound s (record { grows = grows; names = names; bodies = bodies; members = members; whole = whole }) g told scopes sizes texts
 
 pub spends_are : (f : Fn) (sp sq : St) (breaks continues : Bool) (body : StmtTs) (x : TStmtTs) → Statements f sp breaks continues body x sq → Spends sp sq
 spends_are f sp sq breaks continues body x g = statements_spend g

@@ -6,17 +6,19 @@ use Rattle.c_rules.specs.Sizes.{is_declared, is_whole}
 use Rattle.c_exprs.specs.Env.{Text, find, LocalD, Decl, TypeD, ConstantD, GlobalD, FunctionD, Ctx}
 use Rattle.c_types.specs.Sizes.{no_layout}
 use Rattle.c_types.specs.Programs.{TFunctionT}
-use Rattle.c_facts.specs.Sound.{Scene, IsKnown, IsGlobal, IsLocal}
+use Rattle.c_facts.specs.Sound.{Scene, kind_at, IsKnown, IsGlobal, IsLocal}
 
 -- a list that begins another
 abbrev pub Begins : {A : Type 0} → List A → List A → Type 0
 Begins xs all = (more : List _) × (all ≡ xs ++ more)
 
--- Structures and unions may still be declared whole; one that is whole stays as it is, and one that is not has no members.
+-- Structures and unions may still be declared whole; one that is whole stays as it is, one that is not has no members, and each stays what it is
+-- of the two.
 pub record Grows (layouts : List LayoutT) (whole : List Bool) (later : List LayoutT) (all : List Bool) : Type 0 where
   pub kept : (k : ℕ) (l : LayoutT) → slice_get layouts k ≡ Some l → (l ≡ no_layout l.is_union) ⊎ (slice_get later k ≡ Some l)
   pub fixed : (k : ℕ) → is_declared whole k ≡ true → (is_declared all k ≡ true) × (slice_get layouts k ≡ slice_get later k)
   pub few : length layouts ≤ length later
+  pub kinds : (k : ℕ) (u : Bool) → kind_at layouts k ≡ Some u → kind_at later k ≡ Some u
 
 -- what a name of the unit means
 abbrev pub AllKnown : Scene → List Ty → Type 0

@@ -1,5 +1,5 @@
 -- What every checked program is: its numbers are in range, its trees are typed by the rules, its limits are kept.
-use Rattle.std.specs.Prelude.{◌≡◌, ℕ, ◌+◌, ◌==◌, ◌<◌, ◌≤◌, Bool, true, false, ◌&&◌, ◌||◌, not, List, [], ◌∷◌, length, map, sum, sum_by, nat_le}
+use Rattle.std.specs.Prelude.{◌≡◌, ℕ, ◌+◌, ◌==◌, ◌<◌, ◌≤◌, Bool, true, false, ◌&&◌, ◌||◌, not, List, [], ◌∷◌, ◌++◌, length, map, sum, sum_by, nat_le}
 use Rattle.std.specs.Prelude.{slice_get, Option, Some, None, option_map, Ok}
 use Rattle.std.specs.List.{list_any}
 use Rattle.v32_isa.specs.Ports.{is_readable, is_writable}
@@ -27,25 +27,33 @@ use Rattle.c_check.specs.Whole.{is_plain}
 use Rattle.c_facts.specs.Made.{IsMadeOnce}
 
 -- What the trees of a function, or those that fill the globals, name. `whole` tells by their numbers which structures and unions are
--- declared whole; `locals` are the sizes of the objects of a call.
+-- declared whole; `locals` are the sizes of the objects of a call. The types of the globals, and those of the objects of the call, are told by
+-- their numbers, or not told.
 pub record Scene : Type 0 where
   pub layouts : List LayoutT
   pub whole : List Bool
   pub globals : List (Text × ℕ)
+  pub global_types : Option (List Ty)
   pub literals : List Text
   pub functions : List TFunctionT
   pub locals : List ℕ
+  pub local_types : Option (List Ty)
 
 -- ---- types
 
--- The structures and unions that a type names are there; an array has elements, whose size is known, and is no larger than a type may be.
+-- whether the layout of that number is a union's, where there is one
+abbrev pub kind_at : List LayoutT → ℕ → Option Bool
+kind_at layouts number = option_map (λ (l : LayoutT). l.is_union) (slice_get layouts number)
+
+-- The structures and unions that a type names are there, and are that; an array has elements, whose size is known, and is no larger than a
+-- type may be.
 abbrev pub IsKnown : List LayoutT → List Bool → Ty → Type 0
 IsKnown layouts whole VoidY = Unit {0}
 IsKnown layouts whole IntY = Unit {0}
 IsKnown layouts whole BoolY = Unit {0}
 IsKnown layouts whole (EnumY number) = Unit {0}
-IsKnown layouts whole (StructY number) = number < length layouts
-IsKnown layouts whole (UnionY number) = number < length layouts
+IsKnown layouts whole (StructY number) = kind_at layouts number ≡ Some false
+IsKnown layouts whole (UnionY number) = kind_at layouts number ≡ Some true
 IsKnown layouts whole (PointerY to) = IsKnown layouts whole to
 IsKnown layouts whole (ArrayY of count) =
     IsKnown layouts whole of × (is_whole whole of ≡ true) × (0 < count) × (words_of layouts (ArrayY of count) ≤ type_limit)
@@ -79,12 +87,17 @@ text_type t = ArrayY IntY (length t + 1)
 abbrev pub IsLiteral : Scene → ℕ → Ty → Type 0
 IsLiteral s number ty = option_map text_type (slice_get s.literals number) ≡ Some ty
 
--- An object has as many words as its type.
+-- Where types of objects are told, the one of that number has this type.
+abbrev pub IsOfType : Option (List Ty) → ℕ → Ty → Type 0
+IsOfType None number ty = Unit {0}
+IsOfType (Some types) number ty = slice_get types number ≡ Some ty
+
+-- An object has as many words as its type, which is the one that is told of it.
 abbrev pub IsGlobal : Scene → ℕ → Ty → Type 0
-IsGlobal s number ty = option_map (λ (g : Text × ℕ). g.1) (slice_get s.globals number) ≡ Some (words_of s.layouts ty)
+IsGlobal s number ty = (option_map (λ (g : Text × ℕ). g.1) (slice_get s.globals number) ≡ Some (words_of s.layouts ty)) × IsOfType s.global_types number ty
 
 abbrev pub IsLocal : Scene → ℕ → Ty → Type 0
-IsLocal s number ty = slice_get s.locals number ≡ Some (words_of s.layouts ty)
+IsLocal s number ty = (slice_get s.locals number ≡ Some (words_of s.layouts ty)) × IsOfType s.local_types number ty
 
 -- The arguments of a call of that function become its parameters, one by one.
 pub record IsCall (f : TFunctionT) (xs : TExprTs) (ty : Ty) : Type 0 where
@@ -274,8 +287,12 @@ AreCallObjects layouts whole (ty ∷ tys) [] = ⊥
 AreCallObjects layouts whole (ty ∷ tys) (n ∷ ns) =
     IsKnown layouts whole ty × (judged (parameter_rule layouts whole ty) ≡ Ok n) × AreCallObjects layouts whole tys ns
 
+-- inside a call whose objects have these sizes, and these types where they are told
+abbrev pub calling : Scene → List ℕ → Option (List Ty) → Scene
+calling s sizes types = record s { locals = sizes; local_types = types }
+
 abbrev pub in_call : Scene → List ℕ → Scene
-in_call s sizes = record { layouts = s.layouts; whole = s.whole; globals = s.globals; literals = s.literals; functions = s.functions; locals = sizes }
+in_call s sizes = calling s sizes None
 
 -- each has a word at least
 abbrev pub AllHaveWords : List ℕ → Type 0
@@ -311,7 +328,40 @@ wholes layouts = map has_members layouts
 
 -- what the trees of a program name outside functions
 abbrev pub scene : ProgramT → Scene
-scene p = record { layouts = p.layouts; whole = wholes p.layouts; globals = p.globals; literals = p.literals; functions = p.functions; locals = [] }
+scene p = record {
+  layouts = p.layouts;
+  whole = wholes p.layouts;
+  globals = p.globals;
+  global_types = None;
+  literals = p.literals;
+  functions = p.functions;
+  locals = [];
+  local_types = None;
+}
+
+-- ---- the types of objects
+
+-- The objects of a call have types: its parameters first, with their own, then its variables with these. Their sizes are the words of their
+-- types, and the body is typed where they are told: each mention of an object has the type of its number.
+pub record HasTypedObjects (s : Scene) (f : TFunctionT) : Type 0 where
+  pub variables : List Ty
+  pub sizes : f.locals ≡ map (words_of s.layouts) (f.params ++ variables)
+  pub body : AreStatements (calling s f.locals (Some (f.params ++ variables))) f.body f.gives false false
+
+abbrev pub HaveTypedObjects : Scene → List TFunctionT → Type 0
+HaveTypedObjects s [] = Unit {0}
+HaveTypedObjects s (f ∷ fs) = HasTypedObjects s f × HaveTypedObjects s fs
+
+abbrev pub with_types : Scene → List Ty → Scene
+with_types s types = record s { global_types = Some types }
+
+-- So have the globals: all trees of the program are typed where the types of globals are told, and in each function those of the objects of
+-- its call too.
+pub record HasObjectTypes (p : ProgramT) : Type 0 where
+  pub globals : List Ty
+  pub sizes : map (λ g. g.1) p.globals ≡ map (words_of p.layouts) globals
+  pub inits : FillGlobals (with_types (scene p) globals) p.inits
+  pub functions : HaveTypedObjects (with_types (scene p) globals) p.functions
 
 -- no two names are equal
 abbrev pub AreApart : List Text → Type 0
@@ -323,6 +373,7 @@ pub record IsSound (p : ProgramT) : Type 0 where
   pub literals : text_words p.literals ≤ text_limit
   pub inits : FillGlobals (scene p) p.inits
   pub functions : AreFunctions (scene p) p.functions
+  pub types : ∥ HasObjectTypes p ∥₁
   pub global_names : AreApart (map (λ g. g.0) p.globals)
   pub function_names : AreApart (map (λ f. f.name) p.functions)
   pub main : holds is_plain (slice_get p.functions p.main) ≡ true

@@ -14,11 +14,7 @@ use mid_code::laws::mid_code_is_sound;
 use mid_code::{Function, Mid};
 use std::alloc::Global;
 
-fn is_function_settled(
-    alloc: Global,
-    table: &mut Table,
-    f: &Function<u32>,
-) -> Result<bool, Memory>
+fn is_function_settled(alloc: Global, table: &mut Table, f: &Function<u32>) -> Result<bool, Memory>
     requires named { IsNamed (function f.now) }
     ensures { IfOk result (λ b. (b ≡ true) ↔ IsSettledFunction (function f.now)) }
 {

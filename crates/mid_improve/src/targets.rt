@@ -149,12 +149,6 @@ pub(crate) fn are_targets_live(alloc: Global, f: &Function<u32>) -> Result<bool,
     ensures { IfOk result (λ b. (b ≡ true) ↔ Each IsWanted [] (function f.now).body) }
 {
     let mut behind = Live::none(alloc, f.temps as usize)?;
-    let fine = walk_nodes(
-        alloc,
-        f.temps,
-        f.body.as_slice(),
-        &outside(),
-        &mut behind,
-    )?;
+    let fine = walk_nodes(alloc, f.temps, f.body.as_slice(), &outside(), &mut behind)?;
     Ok(fine)
 }

@@ -25,9 +25,9 @@ walk_node-returns-in_ok-fine-in-Loop-clause-wanted t c =
     let g = c.in_ok-head-in-Loop.head in
     let w : n ≤ room s = c.requires.fits in
     let k : (y : ℕ) → nat_lt y n ≡ true → ms y ≡ label (live_set ls (before (LoopN b) Stop) (on s) y) (on s y) ∷ ls y = λ y h.
-        let lt : y < n = ltb-true y n h in
-        let at : on g y ≡ is_live y (label false (on s y) ∷ ls y) (joined b) (on s y) = c.in_ok-head-in-Loop.ensures.is y (omega (arith, lt, w)) ∙ ap (λ z. is_live y (label false (on s y) ∷ ls y) z (on s y)) same in
-        c.nested-in-Loop.ensures y ∙ ap (λ z. label z (on c.in_ok-ends-in-Loop.ends y) ∷ ls y) at ∙ ap (λ z. label (live_set ls (before (LoopN b) Stop) (on s) y) (on z y) ∷ ls y) ends in
+    let lt : y < n = ltb-true y n h in
+    let at : on g y ≡ is_live y (label false (on s y) ∷ ls y) (joined b) (on s y) = c.in_ok-head-in-Loop.ensures.is y (omega (arith, lt, w)) ∙ ap (λ z. is_live y (label false (on s y) ∷ ls y) z (on s y)) same in
+    c.nested-in-Loop.ensures y ∙ ap (λ z. label z (on c.in_ok-ends-in-Loop.ends y) ∷ ls y) at ∙ ap (λ z. label (live_set ls (before (LoopN b) Stop) (on s) y) (on z y) ∷ ls y) ends in
     loop_wanted n ls ms x b (on s) (on c.head_of.new.s) c.in_ok-fine-in-Loop.fine e k (ap on again) c.in_ok-fine-in-Loop.ensures.wanted
 
 pub walk_nodes-loop-i-preserved : goal.walk_nodes-loop-i-preserved

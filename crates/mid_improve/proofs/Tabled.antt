@@ -5,8 +5,8 @@ use Rattle.mid_improve.specs.declared.slots.Held.{Held}
 use Rattle.mid_improve.specs.declared.slots.Held.TheVariants.{Nothing, Word, Copy}
 use Rattle.mid_improve.specs.declared.slots.Slot.{Slot}
 use Rattle.mid_improve.specs.declared.table.Table.{Table}
-use Rattle.mid_improve.specs.inner.Facts.{Fact, IsWord, IsCopy, Known, none_known, unless_copy, behind, with_fact, fact_word}
-use Rattle.mid_improve.specs.inner.Slots.{no_slot, slot_at, with_slot, fact_in, facts_in, changed, holding, held_past, is_past}
+use Rattle.mid_improve.specs.inner.Facts.{Fact, IsWord, IsCopy, none_known, unless_copy, behind, with_fact, fact_word}
+use Rattle.mid_improve.specs.inner.Slots.{slot_at, with_slot, fact_in, facts_in, changed, holding, held_past, is_past}
 use Rattle.mid_improve.specs.inner.Tables.{facts}
 use Rattle.mid_improve.proofs.Slotted.{none_there}
 

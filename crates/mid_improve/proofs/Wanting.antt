@@ -1,13 +1,13 @@
 -- Targets are wanted as it is computed exactly where they are live behind their operations, by paths.
-use Rattle.std.proofs.Common.{◌≡◌, ◌↔◌, ℕ, ◌<◌, Bool, true, false, not, nat_lt, is_some, lt-ltb, ◌&&◌, ◌||◌, List, [], ◌∷◌, map, Option, Some, None, refl, ap, sym, ◌∙◌, subst}
+use Rattle.std.proofs.Common.{◌≡◌, ◌↔◌, ℕ, ◌<◌, Bool, true, false, not, nat_lt, is_some, lt-ltb, ◌&&◌, ◌||◌, List, [], ◌∷◌, Option, Some, None, refl, ap, sym, ◌∙◌, subst}
 use Rattle.std.proofs.lemmas.Bool.{and_from, false≢true}
 use Rattle.mid_code.specs.declared.node.Op.{Op}
 use Rattle.mid_code.specs.declared.node.Op.TheVariants as op
-use Rattle.mid_code.specs.Code.{OpT, target, maybe, NodesT, Stop, Do, Call, Choose, Block, Loop, Leave, Again, Return}
+use Rattle.mid_code.specs.Code.{target, maybe, NodesT, Stop, Do, Call, Choose, Block, Loop, Leave, Again, Return}
 use Rattle.mid_code.specs.Functions.{op_before, NodeT, DoN, ChooseN, BlockN, LoopN, LeaveN, AgainN, ReturnN, ListT, NoN, MoreN, before, joined}
 use Rattle.mid_code.specs.Invariants.{AllOf, Names}
 use Rattle.mid_code.specs.Paths.{Frame, Branched, Blocked, Looped, Each}
-use Rattle.mid_code.specs.Live.{Live, label, is_live, labels, live_behind, is_live_at}
+use Rattle.mid_code.specs.Live.{label, is_live, labels, live_behind, is_live_at}
 use Rattle.mid_code.proofs.Liveness.{computed_path, path_computed}
 use Rattle.mid_improve.specs.Settled.{only_puts, IsWanted}
 use Rattle.mid_improve.specs.inner.Wanted.{Labels, Set, live_set, in_block, in_loop, is_wanted, maybe_wanted, all_wanted, op_wanted, node_wanted, list_wanted}

@@ -1,7 +1,6 @@
 -- The functions of mid code are named; a program is settled where its start and its functions are.
-use Rattle.std.proofs.Common.{◌≡◌, ◌↔◌, ℕ, ◌+◌, ◌<◌, ◌≤◌, suc, add-one, Bool, true, false, List, [], ◌∷◌, map, drop, drop-cons, get_or, length, refl, ap, sym, ◌∙◌, subst}
+use Rattle.std.proofs.Common.{◌≡◌, ◌↔◌, ℕ, ◌+◌, ◌<◌, suc, add-one, Bool, true, false, List, [], ◌∷◌, map, drop, drop-cons, get_or, length, ap, sym, ◌∙◌, subst}
 use Rattle.std.proofs.lemmas.Bool.{false≢true}
-use Rattle.std.proofs.lemmas.List.{drop_all}
 use Rattle.mid_code.specs.declared.function.Function.{Function}
 use Rattle.mid_code.specs.Code.{FunctionT, CodeT}
 use Rattle.mid_code.specs.Functions.{function}
@@ -45,9 +44,6 @@ module _ (fs : List (Function ℕ)) (i : ℕ) where
 
   pub one_then : (f : Function ℕ) (b : Bool) → from fs i ≡ function f ∷ from fs (i + 1) → (b ≡ true) ↔ IsSettledFunction (function f) → b ≡ true → Stands → AllOf IsSettledFunction (from fs (i + 1)) ↔ AllOf IsSettledFunction (map function fs)
   one_then f b e x t k = ((λ a. k.0 (subst (AllOf IsSettledFunction) (sym e) (x.0 t, a))), (λ a. (subst (AllOf IsSettledFunction) e (k.1 a)).1))
-
-  pub all_then : length fs ≤ i → Stands → (true ≡ true) ↔ AllOf IsSettledFunction (map function fs)
-  all_then l k = ((λ h. k.0 (subst (AllOf IsSettledFunction) (sym (ap (map function) (drop_all i fs l))) tt)), (λ a. refl))
 
 -- ---- a program
 

@@ -1,5 +1,5 @@
 -- What is known of temporaries at a point of a run, and whether the nodes from there on are settled, by that alone.
-use Rattle.std.specs.Prelude.{ℕ, Bool, true, false, not, eqb, cond, ◌&&◌, List, [], ◌∷◌, is_some, Option, Some, None}
+use Rattle.std.specs.Prelude.{ℕ, Bool, true, false, not, eqb, cond, ◌&&◌, is_some, Option, Some, None}
 use Rattle.std.specs.List.{list_all}
 use Rattle.mid_code.specs.Code.{OpT, ConstO, MoveO, OneO, TwoO, uses, target}
 use Rattle.mid_code.specs.Code.{NodesT, Stop, Do, Call, Choose, Block, Loop, Leave, Again, Return}

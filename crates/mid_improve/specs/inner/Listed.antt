@@ -1,5 +1,5 @@
 -- The same as code in memory has it: what is known behind a node, and whether nodes are settled by it.
-use Rattle.std.specs.Prelude.{ℕ, Bool, true, not, eqb, cond, ◌&&◌, List, [], ◌∷◌, is_some, Option, Some, None}
+use Rattle.std.specs.Prelude.{ℕ, Bool, true, not, eqb, cond, ◌&&◌, [], ◌∷◌, is_some, Option}
 use Rattle.std.specs.List.{list_all}
 use Rattle.mid_code.specs.declared.node.Op.{Op}
 use Rattle.mid_code.specs.declared.node.Op.TheVariants as op

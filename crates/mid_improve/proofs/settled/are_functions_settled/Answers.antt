@@ -1,8 +1,7 @@
-use Rattle.std.proofs.Common.{rules, arith, ◌≤◌, length, subst}
-use Rattle.mid_code.specs.Functions.{function}
+use Rattle.std.proofs.Common.{subst}
 use Rattle.mid_code.specs.Invariants.{AllOf}
 use Rattle.mid_improve.specs.inner.Named.{IsNamed}
-use Rattle.mid_improve.proofs.Whole.{from_one, one_not, one_then, all_then}
+use Rattle.mid_improve.proofs.Whole.{from_one, one_not, one_then}
 use Rattle.mid_improve.proofs.settled.are_functions_settled.Goals as goal
 
 pub is_function_settled-requires : goal.is_function_settled-requires

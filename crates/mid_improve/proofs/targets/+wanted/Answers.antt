@@ -1,11 +1,11 @@
-use Rattle.std.proofs.Common.{rules, arith, ◌≡◌, ℕ, Bool, true, false, ◌<◌, ◌≤◌, nat_lt, ltb-true, ◌-◌, ◌∷◌, length, drop, map, sym, ap, ◌∙◌}
+use Rattle.std.proofs.Common.{rules, arith, ◌≡◌, ℕ, true, false, ◌<◌, ◌≤◌, nat_lt, ltb-true, ◌-◌, ◌∷◌, drop, map, sym, ap, ◌∙◌}
 use Rattle.mid_code.specs.Code.{Stop}
 use Rattle.mid_code.specs.Live.{label, is_live}
-use Rattle.mid_code.specs.Functions.{LoopN, MoreN, ListT, node, nodes, listed, before, joined}
+use Rattle.mid_code.specs.Functions.{LoopN, MoreN, node, nodes, listed, before, joined}
 use Rattle.mid_code.specs.declared.node.Node.{the_lemmas}
 use Rattle.mid_live.specs.Sets.{on, room}
 use Rattle.mid_improve.specs.inner.Marked.{marks}
-use Rattle.mid_improve.specs.inner.Wanted.{Labels, Set, live_set, list_wanted}
+use Rattle.mid_improve.specs.inner.Wanted.{Labels, live_set, list_wanted}
 use Rattle.mid_improve.proofs.Lived.{nodes_drop, live_node}
 use Rattle.mid_improve.proofs.Wanting.{list_step, loop_wanted}
 use Rattle.mid_improve.proofs.targets.+wanted.Goals as goal

@@ -1,0 +1,61 @@
+// Whether programs are settled.
+ghost use Rattle.std.specs.Prelude.{◌≡◌, ◌&&◌, ◌↔◌, IfOk, map, true};
+ghost use Rattle.mid_code.specs.Functions.{function};
+ghost use Rattle.mid_code.specs.Invariants.{AllOf};
+ghost use Rattle.mid_code.specs.Whole.{mid};
+ghost use Rattle.mid_improve.specs.Settled.{IsSettled, IsSettledFunction};
+ghost use Rattle.mid_improve.specs.inner.Named.{IsNamed};
+
+use crate::runs::are_runs_settled;
+use crate::table::Table;
+use crate::targets::are_targets_live;
+use kit_base::Memory;
+use mid_code::laws::mid_code_is_sound;
+use mid_code::{Function, Mid};
+use std::alloc::Global;
+
+fn is_function_settled(alloc: Global, table: &mut Table, f: &Function<u32>) -> Result<bool, Memory>
+    requires named { IsNamed (function f.now) }
+    ensures { IfOk result (λ b. (b ≡ true) ↔ IsSettledFunction (function f.now)) }
+{
+    let runs = are_runs_settled(table, f)?;
+    if !runs {
+        return Ok(false);
+    }
+    let targets = are_targets_live(alloc, f)?;
+    Ok(targets)
+}
+
+fn are_functions_settled(
+    alloc: Global,
+    table: &mut Table,
+    fs: &[Function<u32>],
+) -> Result<bool, Memory>
+    requires named { AllOf IsNamed (map function fs.now) }
+    ensures { IfOk result (λ b. (b ≡ true) ↔ AllOf IsSettledFunction (map function fs.now)) }
+{
+    for f in fs {
+        let settled = is_function_settled(alloc, table, f)?;
+        if !settled {
+            return Ok(false);
+        }
+    }
+    Ok(true)
+}
+
+/// Whether the code is settled: in no function an operator whose words are known is left, or an operand that is a copy, or an operation that only puts
+/// something where nothing reads it. The error is want of memory.
+#[tactic(auto, using(crate::proofs::Whole::start_named, crate::proofs::Whole::functions_named))]
+pub fn is_settled(alloc: Global, m: &Mid) -> Result<bool, Memory>
+    ensures exact { IfOk result (λ b. (b ≡ true) ↔ IsSettled (mid m.now)) }
+{
+    mid_code_is_sound(m);
+    let of = m.code();
+    let mut table = Table::none(alloc);
+    let start = is_function_settled(alloc, &mut table, &of.start)?;
+    if !start {
+        return Ok(false);
+    }
+    let functions = are_functions_settled(alloc, &mut table, of.functions.as_slice())?;
+    Ok(functions)
+}

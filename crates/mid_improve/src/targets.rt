@@ -1,0 +1,154 @@
+// Whether targets are live behind their operations.
+ghost use Rattle.std.specs.Prelude.{◌≡◌, ℕ, ◌<◌, ◌≤◌, ◌||◌, ◌&&◌, not, nat_lt, length, map, IfOk, OnOk, ◌↔◌, [], true};
+ghost use Rattle.mid_code.specs.Code.{Stop};
+ghost use Rattle.mid_code.specs.Functions.{function, node, nodes, before, listed};
+ghost use Rattle.mid_code.specs.Paths.{Each};
+ghost use Rattle.mid_code.specs.Live.{is_live};
+ghost use Rattle.mid_live.specs.Sets.{on, room};
+ghost use Rattle.mid_improve.specs.Settled.{IsWanted};
+ghost use Rattle.mid_improve.specs.inner.Marked.{marks};
+ghost use Rattle.mid_improve.specs.inner.Named.{IsNamed};
+ghost use Rattle.mid_improve.specs.inner.Wanted.{is_wanted, op_wanted, node_wanted, list_wanted};
+
+use crate::live::{Marks, at_begin, at_end, before_op, head_of, nested, outside};
+use crate::runs::divides;
+use kit_base::Memory;
+use mid_code::{Function, Node, Op};
+use mid_live::{Kept, Live};
+use std::alloc::Global;
+
+/// Whether a target of which a temporary has room is in the set, where its operation only puts something there.
+fn is_wanted(count: u32, only: bool, t: u32, s: &Live) -> bool
+    ensures { result ≡ is_wanted count only t (on s.now) }
+{
+    !only || (!(t < count) || s.has(t as usize))
+}
+
+fn is_op_wanted(count: u32, o: &Op<u32>, s: &Live) -> bool
+    ensures { result ≡ op_wanted count o.now (on s.now) }
+{
+    match o {
+        Op::Const(t, _) => is_wanted(count, true, *t, s),
+        Op::Null(t) => is_wanted(count, true, *t, s),
+        Op::Move(t, _) => is_wanted(count, true, *t, s),
+        Op::One(_, t, _) => is_wanted(count, true, *t, s),
+        Op::Two(o, t, _, _) => is_wanted(count, !divides(*o), *t, s),
+        Op::Global(t, _) => is_wanted(count, true, *t, s),
+        Op::Local(t, _) => is_wanted(count, true, *t, s),
+        Op::Literal(t, _) => is_wanted(count, true, *t, s),
+        Op::Card(t) => is_wanted(count, true, *t, s),
+        Op::Step(_, _, _) => true,
+        Op::Apart(_, _, _) => true,
+        Op::PtrTest(_, _, _, _) => true,
+        Op::Load(_, _) => true,
+        Op::Store(_, _) => true,
+        Op::Fresh(_) => true,
+        Op::End(_) => true,
+        Op::Call(_, _, _) => true,
+        Op::In(_, _) => true,
+        Op::Out(_, _) => true,
+        Op::Wait => true,
+        Op::Halt => true,
+    }
+}
+
+fn both(a: bool, b: bool) -> bool
+    ensures { result ≡ (a && b) }
+{
+    a && b
+}
+
+/// Makes the set what is live before a node; whether the targets there are wanted.
+#[cycle(wanted)]
+fn walk_node(
+    alloc: Global,
+    count: u32,
+    n: &Node<u32>,
+    m: &Marks,
+    s: &mut Live,
+) -> Result<bool, Memory>
+    requires fits { count ≤ room s.old }
+    ensures len { OnOk result (length s.new ≡ length s.old) }
+    ensures is { OnOk result ((y : ℕ) → y < room s.old → on s.new y ≡ is_live y (marks y m.now) (before (node n.now) Stop) (on s.old y)) }
+    ensures wanted { IfOk result (λ b. b ≡ node_wanted count (λ y. marks y m.now) (node n.now) (on s.old)) }
+{
+    match n {
+        Node::Do(o) => {
+            let fine = is_op_wanted(count, o, &*s);
+            before_op(o, m, s);
+            Ok(fine)
+        }
+        Node::Choose(p, a, b) => {
+            let behind = s.kept(alloc)?;
+            let second = walk_nodes(alloc, count, b.as_slice(), &*m, s)?;
+            let other = s.kept(alloc)?;
+            s.restore(&behind);
+            let first = walk_nodes(alloc, count, a.as_slice(), &*m, s)?;
+            s.join(&other);
+            s.put(*p as usize);
+            Ok(both(first, second))
+        }
+        Node::Block(b) => {
+            let ends = s.kept(alloc)?;
+            let begins = Kept::none(alloc);
+            let fine = walk_nodes(alloc, count, b.as_slice(), &nested(&begins, &ends, &*m), s)?;
+            Ok(fine)
+        }
+        Node::Loop(b) => {
+            let ends = s.kept(alloc)?;
+            let head = head_of(alloc, b.as_slice(), &*m, s, &ends)?;
+            let fine = walk_nodes(alloc, count, b.as_slice(), &nested(&head, &ends, &*m), s)?;
+            s.restore(&head);
+            Ok(fine)
+        }
+        Node::Leave(k) => {
+            at_end(m, *k, s);
+            Ok(true)
+        }
+        Node::Again(k) => {
+            at_begin(m, *k, s);
+            Ok(true)
+        }
+        Node::Return(p) => {
+            s.clear();
+            if let Some(p) = p {
+                s.put(*p as usize);
+            }
+            Ok(true)
+        }
+    }
+}
+
+/// Makes the set what is live before nodes; whether the targets there are wanted.
+#[cycle(wanted)]
+pub(crate) fn walk_nodes(
+    alloc: Global,
+    count: u32,
+    ns: &[Node<u32>],
+    m: &Marks,
+    s: &mut Live,
+) -> Result<bool, Memory>
+    requires fits { count ≤ room s.old }
+    ensures len { OnOk result (length s.new ≡ length s.old) }
+    ensures is { OnOk result ((y : ℕ) → y < room s.old → on s.new y ≡ is_live y (marks y m.now) (nodes ns.now) (on s.old y)) }
+    ensures wanted { IfOk result (λ b. b ≡ list_wanted count (λ y. marks y m.now) (listed (map node ns.now)) (on s.old)) }
+{
+    let mut fine = true;
+    let mut i = ns.len();
+    while i > 0 {
+        i -= 1;
+        let here = walk_node(alloc, count, &ns[i], &*m, s)?;
+        fine = both(here, fine);
+    }
+    Ok(fine)
+}
+
+/// Whether each target of an operation that only puts something into it is live behind the operation.
+pub(crate) fn are_targets_live(alloc: Global, f: &Function<u32>) -> Result<bool, Memory>
+    requires named { IsNamed (function f.now) }
+    ensures { IfOk result (λ b. (b ≡ true) ↔ Each IsWanted [] (function f.now).body) }
+{
+    let mut behind = Live::none(alloc, f.temps as usize)?;
+    let fine = walk_nodes(alloc, f.temps, f.body.as_slice(), &outside(), &mut behind)?;
+    Ok(fine)
+}

@@ -304,7 +304,7 @@ function_typed name {s = s} {un = un} {t = t} {ps = ps} {up = up} {uq = uq} {ur 
     let count : length (named name (FunctionD ps t) uq).sizes ≡ length ps = ap length (same.0 ∙ given) ∙ map_count s.layouts ps in
     let all_told = subst (λ us. AreOfTypes (Some (ps ++ us)) (length ps) declared.types) (append-nil declared.types) (part_told ps declared.types []) in
     let told = declared.told (Some (ps ++ declared.types)) (subst (λ n. AreOfTypes (Some (ps ++ declared.types)) n declared.types) (sym count) all_told) in
-    let stay = words_stay head.meant.grows declared.types declared.whole in
+    let stay = words_stay head.meant.grows declared.types declared.complete in
     record {
       variables = declared.types;
       sizes = declared.sizes ∙ ap (λ ns. ns ++ map (words_of (named name (FunctionD ps t) uq).layouts) declared.types) (same.0 ∙ given) ∙ ap (λ ns. map (words_of s.layouts) ps ++ ns) stay ∙ map_both s.layouts ps declared.types;

@@ -35,10 +35,13 @@ part_told front (t ∷ ts) back =
     (after_front front t (ts ++ back), subst₂ (λ us n. AreOfTypes (Some us) n ts) all count (part_told (front ++ t ∷ []) ts back))
 
 pub both_told : (o : Option (List Ty)) (n : ℕ) (ts us : List Ty) → AreOfTypes o n (ts ++ us) → AreOfTypes o n ts × AreOfTypes o (n + length ts) us
-both_told o n [] us h = (tt, subst (λ k. AreOfTypes o k us) (omega arith) h)
+both_told o n [] us h =
+    let there : n ≡ n + 0 = omega arith in
+    (tt, subst (λ k. AreOfTypes o k us) there h)
 both_told o n (t ∷ ts) us h =
     let rest = both_told o (suc n) ts us h.1 in
-    ((h.0, rest.0), subst (λ k. AreOfTypes o k us) (omega arith) rest.1)
+    let there : suc n + length ts ≡ n + suc (length ts) = omega arith in
+    ((h.0, rest.0), subst (λ k. AreOfTypes o k us) there rest.1)
 
 -- ---- what a function declares
 
@@ -94,14 +97,14 @@ AllTypesWhole whole (t ∷ ts) = (is_whole whole t ≡ true) × AllTypesWhole wh
 pub record Declared (layouts : List LayoutT) (whole : List Bool) (before after : List ℕ) (IsTold : Option (List Ty) → Type 0) : Type 0 where
   pub types : List Ty
   pub sizes : after ≡ before ++ map (words_of layouts) types
-  pub whole : AllTypesWhole whole types
+  pub complete : AllTypesWhole whole types
   pub told : (o : Option (List Ty)) → AreOfTypes o (length before) types → IsTold o
 
 abbrev NoneTold : Option (List Ty) → Type 0
 NoneTold o = Unit {0}
 
 declares_none : (layouts : List LayoutT) (whole : List Bool) (before after : List ℕ) → after ≡ before → Declared layouts whole before after NoneTold
-declares_none layouts whole before after e = record { types = []; sizes = e ∙ sym (append-nil before); whole = tt; told = λ o h. tt }
+declares_none layouts whole before after e = record { types = []; sizes = e ∙ sym (append-nil before); complete = tt; told = λ o h. tt }
 
 all_whole : (whole : List Bool) (ts us : List Ty) → AllTypesWhole whole ts → AllTypesWhole whole us → AllTypesWhole whole (ts ++ us)
 all_whole whole [] us h k = k
@@ -120,7 +123,7 @@ declares_both layouts whole before middle after A B h k = record {
   types = h.types ++ k.types;
   sizes = k.sizes ∙ ap (λ ns. ns ++ map (words_of layouts) k.types) h.sizes ∙ append_assoc before (map (words_of layouts) h.types) (map (words_of layouts) k.types)
       ∙ ap (λ ns. before ++ ns) (sym (map_both layouts h.types k.types));
-  whole = all_whole whole h.types k.types h.whole k.whole;
+  complete = all_whole whole h.types k.types h.complete k.complete;
   told = λ o all.
       let parts = both_told o (length before) h.types k.types all in
       (h.told o parts.0, k.told o (subst (λ n. AreOfTypes o n k.types) (sym there) parts.1));
@@ -143,7 +146,7 @@ variable_declares {f = f} (good.variable {sp = sp} {sq = sq} {sr = sr} {v = v} {
     record {
       types = t ∷ [];
       sizes = ap (λ ns. ns ++ n ∷ []) same ∙ ap (λ m. sp.sizes ++ m ∷ []) (sym known.words);
-      whole = (known.sized, tt);
+      complete = (known.sized, tt);
       told = λ o all. all.0;
     }
 

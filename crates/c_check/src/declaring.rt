@@ -77,9 +77,10 @@ pub(crate) fn enter_record(
     reading.globals.whole.push(false)?;
     reading.records.push(Name::from_bytes(alloc, name)?)?;
     let key = Vec::from_slice(alloc, name)?;
-    reading
-        .globals
-        .declare(key, Decl::Alias(with_elements(record_type(is_union, number))))
+    reading.globals.declare(
+        key,
+        Decl::Alias(with_elements(record_type(is_union, number))),
+    )
 }
 
 /// Makes the name that of the next enumeration, where it is free. The error is want of memory.

@@ -1,6 +1,5 @@
 -- The types that a function declares for the objects of a call.
 use Rattle.std.proofs.Common.{◌≡◌, ℕ, suc, ◌+◌, Bool, true, List, [], ◌∷◌, ◌++◌, length, map, Option, Some, None, refl, sym, ap, ◌∙◌, subst, subst₂, append_assoc, append-nil, length-append, arith}
-use Rattle.std.specs.Prelude.{slice_get}
 use Rattle.c_tree.specs.Tree.{VarT, StmtT, MaybeS, StmtTs, ArmT, ArmTs}
 use Rattle.c_types.specs.Types.{Ty, LayoutT}
 use Rattle.c_types.specs.Typed.{TVarT, TStmtT, MaybeZ, TStmtTs, TArmT, TArmTs}
@@ -110,11 +109,11 @@ all_whole : (whole : List Bool) (ts us : List Ty) → AllTypesWhole whole ts →
 all_whole whole [] us h k = k
 all_whole whole (t ∷ ts) us h k = (h.0, all_whole whole ts us h.1 k)
 
-map_both : (layouts : List LayoutT) (ts us : List Ty) → map (words_of layouts) (ts ++ us) ≡ map (words_of layouts) ts ++ map (words_of layouts) us
+pub map_both : (layouts : List LayoutT) (ts us : List Ty) → map (words_of layouts) (ts ++ us) ≡ map (words_of layouts) ts ++ map (words_of layouts) us
 map_both layouts [] us = refl
 map_both layouts (t ∷ ts) us = ap (λ ns. words_of layouts t ∷ ns) (map_both layouts ts us)
 
-map_count : (layouts : List LayoutT) (ts : List Ty) → length (map (words_of layouts) ts) ≡ length ts
+pub map_count : (layouts : List LayoutT) (ts : List Ty) → length (map (words_of layouts) ts) ≡ length ts
 map_count layouts [] = refl
 map_count layouts (t ∷ ts) = ap suc (map_count layouts ts)
 
@@ -162,12 +161,12 @@ mutual
   statement_declares {f = f} (good.expression {sp = sp} {sq = sq} h) = declares_none f.layouts f.whole sp.sizes sq.sizes (value_keeps h).sizes
   statement_declares {f = f} (good.if_else {sp = sp} {sq = sq} {sr = sr} {ss = ss} h k l test) =
       behind f.layouts f.whole sp.sizes sq.sizes ss.sizes (λ o. StatementTold o k × MaybeTold o l) (value_keeps h).sizes
-          (declares_both f.layouts f.whole sq.sizes sr.sizes ss.sizes (λ o. StatementTold o k) (λ o. MaybeTold o l) (statement_declares k) (maybe_statement_declares l))
+      (declares_both f.layouts f.whole sq.sizes sr.sizes ss.sizes (λ o. StatementTold o k) (λ o. MaybeTold o l) (statement_declares k) (maybe_statement_declares l))
   statement_declares {f = f} (good.while {sp = sp} {sq = sq} {sr = sr} h k test) = behind f.layouts f.whole sp.sizes sq.sizes sr.sizes (λ o. StatementTold o k) (value_keeps h).sizes (statement_declares k)
   statement_declares {f = f} (good.do_while {sp = sp} {sq = sq} {sr = sr} h k test) = ahead f.layouts f.whole sp.sizes sq.sizes sr.sizes (λ o. StatementTold o h) (statement_declares h) (value_keeps k).sizes
   statement_declares {f = f} (good.for {sp = sp} {sq = sq} {sr = sr} {ss = ss} {su = su} h k l m test) =
       declares_both f.layouts f.whole sp.sizes sq.sizes su.sizes (λ o. MaybeTold o h) (λ o. StatementTold o m) (maybe_statement_declares h)
-          (behind f.layouts f.whole sq.sizes ss.sizes su.sizes (λ o. StatementTold o m) ((maybe_value_keeps l).sizes ∙ (maybe_value_keeps k).sizes) (statement_declares m))
+      (behind f.layouts f.whole sq.sizes ss.sizes su.sizes (λ o. StatementTold o m) ((maybe_value_keeps l).sizes ∙ (maybe_value_keeps k).sizes) (statement_declares m))
   statement_declares {f = f} (good.switch {sp = sp} {sq = sq} {sr = sr} h k test) = behind f.layouts f.whole sp.sizes sq.sizes sr.sizes (λ o. ArmsTold o k) (value_keeps h).sizes (arms_declare k)
   statement_declares {f = f} (good.return_nothing {sp = sp}) = declares_none f.layouts f.whole sp.sizes sp.sizes refl
   statement_declares {f = f} (good.return_value {sp = sp} {sq = sq} h test) = declares_none f.layouts f.whole sp.sizes sq.sizes (value_keeps h).sizes

@@ -15,7 +15,7 @@ use Rattle.c_facts.specs.Made.{all_made_in, IsMadeOnce}
 use Rattle.c_facts.specs.Sound.{Scene, IsKnown, IsOfType, IsLocal, AreStatements, AreCallObjects, AllHaveWords, calling, in_call, IsFunction, HasTypedObjects}
 use Rattle.c_facts.proofs.Within.{Begins, AllKnown}
 use Rattle.c_facts.proofs.Told.{body_is, spends_are}
-use Rattle.c_facts.proofs.ObjectTypes.{AreOfTypes, none_told, part_told, StatementsTold, Declared, statements_declare, words_stay}
+use Rattle.c_facts.proofs.ObjectTypes.{AreOfTypes, none_told, part_told, StatementsTold, Declared, statements_declare, map_both, map_count, words_stay}
 use Rattle.c_facts.proofs.ObjectWords.{plain_words, all_push, body_words_are}
 use Rattle.c_facts.proofs.Positive.{HaveWords}
 use Rattle.c_facts.proofs.Fronts.{begins_itself, begins_through, begins_at, last_at}
@@ -278,14 +278,6 @@ parameter_sizes layouts whole (p ∷ ps) [] h = absurd h
 parameter_sizes layouts whole (p ∷ ps) (n ∷ ns) h =
     ap (λ m. m ∷ ns) (sym (parameter_facts layouts whole p n h.1).words) ∙ ap (λ ms. words_of layouts p ∷ ms) (parameter_sizes layouts whole ps ns h.2)
 
-map_both : (layouts : List LayoutT) (ps ts : List Ty) → map (words_of layouts) ps ++ map (words_of layouts) ts ≡ map (words_of layouts) (ps ++ ts)
-map_both layouts [] ts = refl
-map_both layouts (p ∷ ps) ts = ap (λ ns. words_of layouts p ∷ ns) (map_both layouts ps ts)
-
-map_count : (layouts : List LayoutT) (ps : List Ty) → length (map (words_of layouts) ps) ≡ length ps
-map_count layouts [] = refl
-map_count layouts (p ∷ ps) = ap suc (map_count layouts ps)
-
 -- the types of the parameters and of what the body declares
 pub function_typed : (name : Text) {s : Scene} {fin un : Un} {p : Span} {of : TypeT} {t : Ty} {vs : List VarT} {ps : List Ty} {up uq : Un} {body : StmtTs} {x : TStmtTs} {ur : Un} → Ends s fin → ((sizes : List ℕ) (types : Option (List Ty)) → Meant (calling s sizes types) un) → Sane un
     → TypeAt un p of t up → Parameters (begun up) vs ps uq → BodyAt (named name (FunctionD ps t) uq) t body x ur → Later ur fin → HasTypedObjects s (record { name = name; params = ps; locals = ur.sizes; made = made (state_in ur); gives = t; body = x })
@@ -304,9 +296,9 @@ function_typed name {s = s} {un = un} {t = t} {ps = ps} {up = up} {uq = uq} {ur 
     let count : length (named name (FunctionD ps t) uq).sizes ≡ length ps = ap length (same.0 ∙ given) ∙ map_count s.layouts ps in
     let all_told = subst (λ us. AreOfTypes (Some (ps ++ us)) (length ps) declared.types) (append-nil declared.types) (part_told ps declared.types []) in
     let told = declared.told (Some (ps ++ declared.types)) (subst (λ n. AreOfTypes (Some (ps ++ declared.types)) n declared.types) (sym count) all_told) in
-    let stay = words_stay head.meant.grows declared.types declared.whole in
+    let stay = words_stay head.meant.grows declared.types declared.complete in
     record {
       variables = declared.types;
-      sizes = declared.sizes ∙ ap (λ ns. ns ++ map (words_of (named name (FunctionD ps t) uq).layouts) declared.types) (same.0 ∙ given) ∙ ap (λ ns. map (words_of s.layouts) ps ++ ns) stay ∙ map_both s.layouts ps declared.types;
+      sizes = declared.sizes ∙ ap (λ ns. ns ++ map (words_of (named name (FunctionD ps t) uq).layouts) declared.types) (same.0 ∙ given) ∙ ap (λ ns. map (words_of s.layouts) ps ++ ns) stay ∙ sym (map_both s.layouts ps declared.types);
       body = body_known call (kept_sane (keeps_through before from_names) h) g2 told later (begins_itself ur.sizes) head.meant;
     }

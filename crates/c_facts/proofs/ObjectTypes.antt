@@ -1,6 +1,5 @@
 -- The types that a function declares for the objects of a call.
 use Rattle.std.proofs.Common.{◌≡◌, ℕ, suc, ◌+◌, Bool, true, List, [], ◌∷◌, ◌++◌, length, map, Option, Some, None, refl, sym, ap, ◌∙◌, subst, subst₂, append_assoc, append-nil, length-append, arith}
-use Rattle.std.specs.Prelude.{slice_get}
 use Rattle.c_tree.specs.Tree.{VarT, StmtT, MaybeS, StmtTs, ArmT, ArmTs}
 use Rattle.c_types.specs.Types.{Ty, LayoutT}
 use Rattle.c_types.specs.Typed.{TVarT, TStmtT, MaybeZ, TStmtTs, TArmT, TArmTs}
@@ -35,10 +34,13 @@ part_told front (t ∷ ts) back =
     (after_front front t (ts ++ back), subst₂ (λ us n. AreOfTypes (Some us) n ts) all count (part_told (front ++ t ∷ []) ts back))
 
 pub both_told : (o : Option (List Ty)) (n : ℕ) (ts us : List Ty) → AreOfTypes o n (ts ++ us) → AreOfTypes o n ts × AreOfTypes o (n + length ts) us
-both_told o n [] us h = (tt, subst (λ k. AreOfTypes o k us) (omega arith) h)
+both_told o n [] us h =
+    let there : n ≡ n + 0 = omega arith in
+    (tt, subst (λ k. AreOfTypes o k us) there h)
 both_told o n (t ∷ ts) us h =
     let rest = both_told o (suc n) ts us h.1 in
-    ((h.0, rest.0), subst (λ k. AreOfTypes o k us) (omega arith) rest.1)
+    let there : suc n + length ts ≡ n + suc (length ts) = omega arith in
+    ((h.0, rest.0), subst (λ k. AreOfTypes o k us) there rest.1)
 
 -- ---- what a function declares
 
@@ -94,24 +96,24 @@ AllTypesWhole whole (t ∷ ts) = (is_whole whole t ≡ true) × AllTypesWhole wh
 pub record Declared (layouts : List LayoutT) (whole : List Bool) (before after : List ℕ) (IsTold : Option (List Ty) → Type 0) : Type 0 where
   pub types : List Ty
   pub sizes : after ≡ before ++ map (words_of layouts) types
-  pub whole : AllTypesWhole whole types
+  pub complete : AllTypesWhole whole types
   pub told : (o : Option (List Ty)) → AreOfTypes o (length before) types → IsTold o
 
 abbrev NoneTold : Option (List Ty) → Type 0
 NoneTold o = Unit {0}
 
 declares_none : (layouts : List LayoutT) (whole : List Bool) (before after : List ℕ) → after ≡ before → Declared layouts whole before after NoneTold
-declares_none layouts whole before after e = record { types = []; sizes = e ∙ sym (append-nil before); whole = tt; told = λ o h. tt }
+declares_none layouts whole before after e = record { types = []; sizes = e ∙ sym (append-nil before); complete = tt; told = λ o h. tt }
 
 all_whole : (whole : List Bool) (ts us : List Ty) → AllTypesWhole whole ts → AllTypesWhole whole us → AllTypesWhole whole (ts ++ us)
 all_whole whole [] us h k = k
 all_whole whole (t ∷ ts) us h k = (h.0, all_whole whole ts us h.1 k)
 
-map_both : (layouts : List LayoutT) (ts us : List Ty) → map (words_of layouts) (ts ++ us) ≡ map (words_of layouts) ts ++ map (words_of layouts) us
+pub map_both : (layouts : List LayoutT) (ts us : List Ty) → map (words_of layouts) (ts ++ us) ≡ map (words_of layouts) ts ++ map (words_of layouts) us
 map_both layouts [] us = refl
 map_both layouts (t ∷ ts) us = ap (λ ns. words_of layouts t ∷ ns) (map_both layouts ts us)
 
-map_count : (layouts : List LayoutT) (ts : List Ty) → length (map (words_of layouts) ts) ≡ length ts
+pub map_count : (layouts : List LayoutT) (ts : List Ty) → length (map (words_of layouts) ts) ≡ length ts
 map_count layouts [] = refl
 map_count layouts (t ∷ ts) = ap suc (map_count layouts ts)
 
@@ -120,7 +122,7 @@ declares_both layouts whole before middle after A B h k = record {
   types = h.types ++ k.types;
   sizes = k.sizes ∙ ap (λ ns. ns ++ map (words_of layouts) k.types) h.sizes ∙ append_assoc before (map (words_of layouts) h.types) (map (words_of layouts) k.types)
       ∙ ap (λ ns. before ++ ns) (sym (map_both layouts h.types k.types));
-  whole = all_whole whole h.types k.types h.whole k.whole;
+  complete = all_whole whole h.types k.types h.complete k.complete;
   told = λ o all.
       let parts = both_told o (length before) h.types k.types all in
       (h.told o parts.0, k.told o (subst (λ n. AreOfTypes o n k.types) (sym there) parts.1));
@@ -143,7 +145,7 @@ variable_declares {f = f} (good.variable {sp = sp} {sq = sq} {sr = sr} {v = v} {
     record {
       types = t ∷ [];
       sizes = ap (λ ns. ns ++ n ∷ []) same ∙ ap (λ m. sp.sizes ++ m ∷ []) (sym known.words);
-      whole = (known.sized, tt);
+      complete = (known.sized, tt);
       told = λ o all. all.0;
     }
 
@@ -159,12 +161,12 @@ mutual
   statement_declares {f = f} (good.expression {sp = sp} {sq = sq} h) = declares_none f.layouts f.whole sp.sizes sq.sizes (value_keeps h).sizes
   statement_declares {f = f} (good.if_else {sp = sp} {sq = sq} {sr = sr} {ss = ss} h k l test) =
       behind f.layouts f.whole sp.sizes sq.sizes ss.sizes (λ o. StatementTold o k × MaybeTold o l) (value_keeps h).sizes
-          (declares_both f.layouts f.whole sq.sizes sr.sizes ss.sizes (λ o. StatementTold o k) (λ o. MaybeTold o l) (statement_declares k) (maybe_statement_declares l))
+      (declares_both f.layouts f.whole sq.sizes sr.sizes ss.sizes (λ o. StatementTold o k) (λ o. MaybeTold o l) (statement_declares k) (maybe_statement_declares l))
   statement_declares {f = f} (good.while {sp = sp} {sq = sq} {sr = sr} h k test) = behind f.layouts f.whole sp.sizes sq.sizes sr.sizes (λ o. StatementTold o k) (value_keeps h).sizes (statement_declares k)
   statement_declares {f = f} (good.do_while {sp = sp} {sq = sq} {sr = sr} h k test) = ahead f.layouts f.whole sp.sizes sq.sizes sr.sizes (λ o. StatementTold o h) (statement_declares h) (value_keeps k).sizes
   statement_declares {f = f} (good.for {sp = sp} {sq = sq} {sr = sr} {ss = ss} {su = su} h k l m test) =
       declares_both f.layouts f.whole sp.sizes sq.sizes su.sizes (λ o. MaybeTold o h) (λ o. StatementTold o m) (maybe_statement_declares h)
-          (behind f.layouts f.whole sq.sizes ss.sizes su.sizes (λ o. StatementTold o m) ((maybe_value_keeps l).sizes ∙ (maybe_value_keeps k).sizes) (statement_declares m))
+      (behind f.layouts f.whole sq.sizes ss.sizes su.sizes (λ o. StatementTold o m) ((maybe_value_keeps l).sizes ∙ (maybe_value_keeps k).sizes) (statement_declares m))
   statement_declares {f = f} (good.switch {sp = sp} {sq = sq} {sr = sr} h k test) = behind f.layouts f.whole sp.sizes sq.sizes sr.sizes (λ o. ArmsTold o k) (value_keeps h).sizes (arms_declare k)
   statement_declares {f = f} (good.return_nothing {sp = sp}) = declares_none f.layouts f.whole sp.sizes sp.sizes refl
   statement_declares {f = f} (good.return_value {sp = sp} {sq = sq} h test) = declares_none f.layouts f.whole sp.sizes sq.sizes (value_keeps h).sizes

@@ -102,7 +102,7 @@ records_more is_union n names records layouts free same h k m e = by (last_or_be
         (own.0, kind_more layouts (no_layout is_union ∷ []) k own.0 own.1, still_found m names ((n, TypeD (record_type is_union (length layouts))) ∷ []) (TypeD (record_type own.0 k)) own.2)
     by (inr f) =
         let last : IsRecordOf (names ++ (n, TypeD (record_type is_union (length layouts))) ∷ []) (layouts ++ no_layout is_union ∷ []) (length layouts) n =
-            (is_union, kind_last layouts (no_layout is_union), new_found n names (TypeD (record_type is_union (length layouts))) free) in
+        (is_union, kind_last layouts (no_layout is_union), new_found n names (TypeD (record_type is_union (length layouts))) free) in
         subst₂ (IsRecordOf (names ++ (n, TypeD (record_type is_union (length layouts))) ∷ []) (layouts ++ no_layout is_union ∷ [])) (sym (f.0 ∙ same)) f.1 last
 
 new_record_follows : (is_union : Bool) (n : Text) (un : Un) → Sane un → is_free n un ≡ true → Follows un (new_record is_union n un)

@@ -14,12 +14,12 @@ ghost use Rattle.c_facts.specs.Start.{StartsAreGiven};
 use c_check::Program;
 
 /// Every number of a program names what is there: a structure or union, a global, a text, a function, an object of the call, a port of the
-/// table; every tree is typed by the rule of its node from the types of its parts; structures and unions are laid out, and what is complete has
-/// words; each object of a call has a word at least, and is made in one list of a block, `for` or `switch`, or with the call, and each list rises;
-/// names of functions are
-/// words and differ, those of globals differ; and the limits are kept: 4,194,304 words of a type, 3,145,728 of all globals, 4,000,000 of all texts,
-/// 1,000,000 of the variables
-/// of a function, 4,096 of a structure or union that is a value.
+/// table; the type of a structure names a structure, that of a union a union; every tree is typed by the rule of its node from the types of its
+/// parts; structures and unions are laid out, and what is complete has words; globals and the objects of each call have types, parameters
+/// their own, each mention of an object has the type of its number, and the object's size is the words of that type; each object of a call has a word
+/// at least, and is made in one list of a block, `for` or `switch`, or with the call, and each list rises; names of functions are words and
+/// differ, those of globals differ; and the limits are kept: 4,194,304 words of a type, 3,145,728 of all globals, 4,000,000 of all texts,
+/// 1,000,000 of the variables of a function, 4,096 of a structure or union that is a value.
 pub fn programs_are_sound(checked: &Program)
     ensures sound { IsSound (program checked.now) }
 {}

@@ -234,9 +234,9 @@ mutual
   kind_kept s z h link (LiteralK number) ty is w ls t n m lt ln lm =
       let below = there text_type z.literals number ty is in op_kept (LiteralO t number) (omega (arith, below, link.literals)) tt (lt, tt)
   kind_kept s z h link (GlobalK number) ty is w ls t n m lt ln lm =
-      let below = there (λ g. g.1) z.globals number _ is in op_kept (GlobalO t number) (omega (arith, below, link.globals)) tt (lt, tt)
+      let below = there (λ g. g.1) z.globals number _ is.0 in op_kept (GlobalO t number) (omega (arith, below, link.globals)) tt (lt, tt)
   kind_kept s z h link (LocalK number) ty is w ls t n m lt ln lm =
-      let below = there (λ k. k) z.locals number _ (same_option (slice_get z.locals number) ∙ is) in k_local t number lt (omega (arith, below, link.locals))
+      let below = there (λ k. k) z.locals number _ (same_option (slice_get z.locals number) ∙ is.0) in k_local t number lt (omega (arith, below, link.locals))
   kind_kept s z h link (UnaryK op x) ty is w ls t n m lt ln lm = let p = unary_kept s h op x (low_kept s z h link x is.0 w) in p.at ls t n m lt ln lm
   kind_kept s z h link (BinaryK op x y) ty is w ls t n m lt ln lm = binary_at s h op x y (low_kept s z h link x is.0 w.0) (low_kept s z h link y is.2 w.1) ls t n m lt ln lm
   kind_kept s z h link (AssignK None x y) ty is w ls t n m lt ln lm = assign_at s h None x y (low_kept s z h link x is.0 w.0) (low_kept s z h link y is.1 w.1) ls t n m lt ln lm

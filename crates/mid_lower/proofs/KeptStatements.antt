@@ -108,8 +108,8 @@ address_small s (TextI number) n ln = fixed s 7 (omega arith)
 address_small s (ListI items) n ln = fixed s 7 (omega arith)
 
 object_kept : {ls : List Bool} (s : Site) (z : Scene) (h : Shape) → Linked s z h → (b g : Bool) (number t : ℕ) (ty : Ty) → b ≡ g → IsObject z g number ty → t < s.temps → Keeps s ls (object_to b number t)
-object_kept s z h link true true number t ty e is lt = let below = there (λ g. g.1) z.globals number _ is in op_kept (GlobalO t number) (omega (arith, below, link.globals)) tt (lt, tt)
-object_kept s z h link false false number t ty e is lt = let below = there (λ k. k) z.locals number _ (same_option (slice_get z.locals number) ∙ is) in k_local t number lt (omega (arith, below, link.locals))
+object_kept s z h link true true number t ty e is lt = let below = there (λ g. g.1) z.globals number _ is.0 in op_kept (GlobalO t number) (omega (arith, below, link.globals)) tt (lt, tt)
+object_kept s z h link false false number t ty e is lt = let below = there (λ k. k) z.locals number _ (same_option (slice_get z.locals number) ∙ is.0) in k_local t number lt (omega (arith, below, link.locals))
 object_kept s z h link true false number t ty e is lt = absurd (cc)
 object_kept s z h link false true number t ty e is lt = absurd (cc)
 

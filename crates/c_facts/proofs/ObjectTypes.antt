@@ -5,7 +5,7 @@ use Rattle.c_types.specs.Types.{Ty, LayoutT}
 use Rattle.c_types.specs.Typed.{TVarT, TStmtT, MaybeZ, TStmtTs, TArmT, TArmTs}
 use Rattle.c_types.specs.Sizes.{words_of}
 use Rattle.c_rules.specs.Sizes.{is_whole}
-use Rattle.c_stmts.specs.State.{Fn, St, entered, locals_limit, Labels}
+use Rattle.c_stmts.specs.State.{Fn, St, locals_limit, Labels}
 use Rattle.c_stmts.specs.StatementTypes as good
 use Rattle.c_stmts.specs.StatementTypes.{Declares, AllDeclare, Statement, MaybeStatement, Statements, ArmOf, ArmsOf}
 use Rattle.c_facts.specs.Sound.{IsOfType}

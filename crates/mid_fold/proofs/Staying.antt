@@ -1,16 +1,15 @@
 -- Folded code is mid code, weighs the same, and has the same loops, calls and locals that live at once.
-use Rattle.std.proofs.Common.{◌≡◌, ℕ, zero, suc, ◌+◌, ◌<◌, ◌^◌, ◌≤◌, inl, inr, ◌⊎◌, Bool, true, false, nat_lt, List, [], ◌∷◌, map, length, sum, sum_by, option_map, slice_get, Option, Some, None, refl, sym, ap, ◌∙◌, subst, arith}
+use Rattle.std.proofs.Common.{◌≡◌, ℕ, zero, suc, ◌+◌, ◌<◌, ◌^◌, Bool, true, false, nat_lt, List, [], ◌∷◌, map, length, sum_by, option_map, slice_get, None, refl, ap, ◌∙◌, arith}
 use Rattle.std.proofs.lemmas.List.Sums.{sum_by-cons}
 use Rattle.mid_code.specs.Code.{OpT, ConstO, NullO, MoveO, OneO, TwoO, GlobalO, LocalO, LiteralO, CardO, StepO, ApartO, PtrTestO, LoadO, StoreO, FreshO, EndO, InO, OutO, WaitO, HaltO, NodesT, Stop, Do, Call, Choose, Block, Loop, Leave, Again, Return, FunctionT, CodeT, maybe, uses, target}
 use Rattle.mid_code.specs.Calls.{AddsNone, NoneAdd}
-use Rattle.mid_code.specs.Invariants.{IsOp, parameter_count, AreNodes, AllOf, NodeNames, Names, CallsNone, IsFunction, IsStart, IsTemporary, IsMid}
-use Rattle.mid_code.specs.States.{op_weight}
+use Rattle.mid_code.specs.Invariants.{IsOp, AreNodes, AllOf, Names, CallsNone, IsFunction, IsTemporary, IsMid}
 use Rattle.mid_code.specs.Runs.{nodes_weight, function_weight, weight}
 use Rattle.mid_code.specs.inner.Skeleton as shape
 use Rattle.mid_code.specs.inner.Skeleton.{some_before, some_place, skeleton, SameShape}
 use Rattle.mid_code.proofs.Skeletons.{same_shape}
 use Rattle.mid_fold.specs.inner.Folding.{Words, word_in, one_known, two_known, known_behind, folded_op, folded, folded_function, folded_code}
-use Rattle.mid_fold.specs.FoldedFrom.{IsFoldedFunction, EachFolded}
+use Rattle.mid_fold.specs.FoldedFrom.{EachFolded}
 use Rattle.mid_fold.proofs.Acting.{stays, weight_same}
 
 below_limit : (w : ℕ) → nat_lt w (2 ^ 32) ≡ true → w < 2 ^ 32

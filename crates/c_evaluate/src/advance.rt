@@ -18,6 +18,7 @@ use crate::frame::Focus;
 use crate::machine::Machine;
 use crate::stack::pop;
 use crate::stop::Stop;
+use crate::store::spend;
 use c_meaning::End;
 use kit_base::Memory;
 
@@ -31,17 +32,26 @@ impl<'a> Machine<'a> {
             (stepped_on (setting_of self.old) (config_of self.old)) }
     {
         match self.focus {
-            Focus::Eval(n, e) => eval(&self.setting, n, e, &mut self.stack, &mut self.store),
-            Focus::Fill(n, i, ty, p) => fill(
-                &self.setting,
-                n,
-                i,
-                ty,
-                p,
-                &mut self.stack,
-                &mut self.store,
-            ),
-            Focus::Do(n, r, a) => exec(&self.setting, n, r, a, &mut self.stack, &mut self.store),
+            Focus::Eval(n, e) => {
+                spend(&mut self.store, 1);
+                eval(&self.setting, n, e, &mut self.stack, &mut self.store)
+            }
+            Focus::Fill(n, i, ty, p) => {
+                spend(&mut self.store, 1);
+                fill(
+                    &self.setting,
+                    n,
+                    i,
+                    ty,
+                    p,
+                    &mut self.stack,
+                    &mut self.store,
+                )
+            }
+            Focus::Do(n, r, a) => {
+                spend(&mut self.store, 1);
+                exec(&self.setting, n, r, a, &mut self.stack, &mut self.store)
+            }
             Focus::Came(v) => match pop(&mut self.stack) {
                 None => Err(Stop::Ends(End::Halted)),
                 Some(f) => give(&self.setting, f, v, &mut self.stack, &mut self.store),

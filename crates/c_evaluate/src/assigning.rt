@@ -31,7 +31,7 @@ pub(crate) fn assigned<'a>(
     ensures { Gives (λ z. (z, store_of store.new)) result (assigned_in (setting_of s.now) n (texpr x.now) span p c (store_of store.old)) }
 {
     let z = located(span, converted(&x.ty, c))?;
-    stored(s, n, &x.ty, x.span, p, z, store)?;
+    stored(s, n, 0, &x.ty, x.span, p, z, store)?;
     Ok(z)
 }
 

@@ -16,15 +16,15 @@ use crate::cells::{located, stored};
 use crate::exec::rest;
 use crate::filling::nowhere;
 use crate::frame::{Caller, Came, Focus, Frame, How};
-use crate::leaf::at_once;
+use crate::leaf::{at_once, nodes};
 use crate::operators::converted;
-use crate::quick::quick;
+use crate::quick::{quick, quick_work};
 use crate::setting::Setting;
 use crate::stack::{next, push};
 use crate::stop::Stop;
 use crate::store::{
     Store, back, end_temporary, enter as enter_function, fresh_all, keep_arguments, local_cell,
-    passed, released, temporary,
+    passed, released, spend, temporary,
 };
 use crate::types::is_structure;
 use crate::using::taken;
@@ -52,7 +52,7 @@ fn params<'a>(
             return Err(Stop::Ends(End::Stray(nowhere())));
         };
         let p = located(nowhere(), local_cell(&store.locals, k))?;
-        stored(s, n, ty, nowhere(), p, *c, store)?;
+        stored(s, n, 0, ty, nowhere(), p, *c, store)?;
         types = later;
         cells = after;
         k += 1;
@@ -179,6 +179,7 @@ fn called<'a>(
     match quick(s, n, f, &values, store) {
         None => call(s, n, f, values, span, stack, store),
         Some(z) => {
+            spend(store, quick_work(s, f));
             passed(s, store, &values)?;
             keep_arguments(store, values);
             Ok(Focus::Came(Came::Value(Cell::Num(z))))
@@ -237,6 +238,7 @@ pub(crate) fn arguments<'a>(
             push(stack, Frame::Argument(n, f, span, given, left))?;
             return Ok(Focus::Eval(n, x));
         };
+        spend(store, nodes(x));
         took(s, n, f, x, v, &mut given, store)?;
         left = later;
     }

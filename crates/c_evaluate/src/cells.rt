@@ -14,7 +14,7 @@ use crate::operators::read_as;
 use crate::queries::{further, read as read_cell, write};
 use crate::setting::Setting;
 use crate::stop::Stop;
-use crate::store::{Store, temporary};
+use crate::store::{Store, spend, temporary};
 use crate::types::is_structure;
 use c_meaning::End;
 use c_tree::Span;
@@ -87,9 +87,10 @@ fn turn<'a>(
     Ok(n - 1)
 }
 
-/// Sets `count` cells to those from a pointer on, or to 0, one per turn.
+/// Sets `count` cells to those from a pointer on, or to 0, one per turn, each for `cost` of work.
 pub(crate) fn cells<'a>(
     span: Span,
+    cost: u64,
     n: u32,
     count: u64,
     from: Option<Cell>,
@@ -103,6 +104,7 @@ pub(crate) fn cells<'a>(
     let mut read = from;
     let mut place = to;
     'cells: while left > 0 {
+        spend(store, cost);
         bound = turn(span, bound, left, read, place, store)?;
         left -= 1;
         read = behind(read);
@@ -123,7 +125,7 @@ fn structure<'a>(
     ensures { Gives (λ c. (c, store_of store.new)) result (structure_in span n size p (store_of store.old)) }
 {
     let place = temporary(s, store, size)?;
-    cells(span, n, u64::from(size), Some(p), place, store)?;
+    cells(span, 1, n, u64::from(size), Some(p), place, store)?;
     Ok(place)
 }
 
@@ -151,11 +153,12 @@ pub(crate) fn fetched<'a>(
     }
 }
 
-/// Stores a value of a type at a place.
+/// Stores a value of a type at a place. Each cell costs `extra` work, and one more where it is a structure's.
 #[inline(always)]
 pub(crate) fn stored<'a>(
     s: &Setting<'a>,
     n: u32,
+    extra: u64,
     ty: &CType,
     span: Span,
     p: Cell,
@@ -165,7 +168,9 @@ pub(crate) fn stored<'a>(
     ensures { Gives (λ _. store_of store.new) result (stored_in (setting_of s.now) n (ctype ty.now) span p c (store_of store.old)) }
 {
     if is_structure(ty) {
-        return cells(span, n, u64::from(s.words(ty)), Some(c), p, store);
+        let cost = extra.saturating_add(1);
+        return cells(span, cost, n, u64::from(s.words(ty)), Some(c), p, store);
     }
+    spend(store, extra);
     located(span, write(&mut store.objects, p, c))
 }

@@ -21,7 +21,7 @@ use crate::operands::{first, second_came};
 use crate::setting::Setting;
 use crate::statements::{begin_left, body_left, step_came, value_came};
 use crate::stop::Stop;
-use crate::store::{Store, end_all};
+use crate::store::{Store, end_all, spend};
 use crate::using::taken;
 use c_meaning::End;
 use c_types::{CType, TExpr, TStmt};
@@ -161,7 +161,10 @@ fn main_called<'a>(
         (main_step (setting_of s.now) n main h (stack_of stack.old.items) (store_of store.old)) }
 {
     match h {
-        How::On => call(s, n, main, Vec::new(s.alloc), nowhere(), stack, store),
+        How::On => {
+            spend(store, 1);
+            call(s, n, main, Vec::new(s.alloc), nowhere(), stack, store)
+        }
         How::Break => strays(),
         How::Continue => strays(),
         How::Return(_) => strays(),

@@ -12,12 +12,12 @@ ghost use Rattle.c_evaluate.specs.inner.Swift.{eval_of_on, operand_on};
 use crate::calls::arguments;
 use crate::cells::located;
 use crate::frame::{Came, Focus, Frame};
-use crate::leaf::{at_once, global_at};
+use crate::leaf::{at_once, global_at, nodes};
 use crate::operands::first;
 use crate::setting::Setting;
 use crate::stack::{next, push};
 use crate::stop::Stop;
-use crate::store::{Store, local_cell, no_arguments};
+use crate::store::{Store, local_cell, no_arguments, spend};
 use c_meaning::End;
 use c_types::{TExpr, TKind};
 use kit_base::Event;
@@ -36,7 +36,10 @@ fn operand<'a>(
         (operand_on (setting_of s.now) n (texpr e.now) (texpr x.now) (stack_of stack.old.items) (store_of store.old)) }
 {
     match at_once(s, x, store) {
-        Some(v) => first(s, n, e, v, stack, store),
+        Some(v) => {
+            spend(store, nodes(x));
+            first(s, n, e, v, stack, store)
+        }
         None => {
             push(stack, Frame::First(n, e))?;
             Ok(Focus::Eval(n, x))

@@ -15,12 +15,12 @@ ghost use Rattle.c_meaning.specs.Kinds.{span_of};
 use crate::assigning::{second_assigned, stepped_place};
 use crate::filling::vars;
 use crate::frame::{Came, Focus, Frame, How, Stage};
-use crate::leaf::at_once;
+use crate::leaf::{at_once, nodes};
 use crate::setting::Setting;
 use crate::stack::{next, push};
 use crate::statements::value_came;
 use crate::stop::Stop;
-use crate::store::{Store, fresh_all, released};
+use crate::store::{Store, fresh_all, released, spend};
 use crate::using::{placed, taken};
 use c_tree::{BinOp, StepOp};
 use c_types::{TArm, TExpr, TKind, TStmt};
@@ -127,7 +127,10 @@ pub(crate) fn asked<'a>(
         (asks_on (setting_of s.now) n r (tstmt a.now) (texpr x.now) (stack_of stack.old.items) (store_of store.old)) }
 {
     match at_once(s, x, store) {
-        Some(v) => value_came(s, n, r, a, v, stack, store),
+        Some(v) => {
+            spend(store, nodes(x));
+            value_came(s, n, r, a, v, stack, store)
+        }
         None => ask(n, r, a, x, stack),
     }
 }
@@ -171,6 +174,7 @@ fn assigned_at_once<'a>(
         (assigned_on (setting_of s.now) n (texpr e.now) op (texpr x.now) (texpr y.now) v w (stack_of stack.now.items) (store_of store.old)) }
 {
     let p = placed(e.span, v)?;
+    spend(store, nodes(y));
     let d = taken(s, n, y, w, store)?;
     let z = second_assigned(s, n, op, x, y, e.span, p, d, store)?;
     released(store, &e.ty, z);
@@ -195,10 +199,13 @@ fn assigns<'a>(
 {
     match at_once(s, x, store) {
         None => ask(n, r, a, e, stack),
-        Some(v) => match at_once(s, y, store) {
-            None => assigned_behind(n, r, a, e, v, y, stack, store),
-            Some(w) => assigned_at_once(s, n, e, op, x, y, v, w, stack, store),
-        },
+        Some(v) => {
+            spend(store, nodes(x).saturating_add(1));
+            match at_once(s, y, store) {
+                None => assigned_behind(n, r, a, e, v, y, stack, store),
+                Some(w) => assigned_at_once(s, n, e, op, x, y, v, w, stack, store),
+            }
+        }
     }
 }
 
@@ -220,6 +227,7 @@ fn steps<'a>(
     let Some(v) = at_once(s, x, store) else {
         return ask(n, r, a, e, stack);
     };
+    spend(store, nodes(x).saturating_add(1));
     let p = placed(e.span, v)?;
     let z = stepped_place(s, n, op, x, e.span, p, store)?;
     released(store, &e.ty, z);

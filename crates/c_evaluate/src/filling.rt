@@ -21,7 +21,7 @@ use crate::queries::further;
 use crate::setting::Setting;
 use crate::stack::{next, push};
 use crate::stop::Stop;
-use crate::store::{Store, local_cell, released};
+use crate::store::{Store, local_cell, released, spend};
 use c_tree::Span;
 use c_types::{CType, TInit, TVar};
 use obj_mem::{Cell, Refusal};
@@ -44,7 +44,7 @@ pub(crate) fn one<'a>(
     ensures { Gives (λ _. store_of store.new) result (one_in (setting_of s.now) n (ctype ty.now) p c (store_of store.old)) }
 {
     let z = located(nowhere(), converted(ty, c))?;
-    stored(s, n, ty, nowhere(), p, z, store)?;
+    stored(s, n, 1, ty, nowhere(), p, z, store)?;
     released(store, ty, z);
     Ok(())
 }
@@ -61,9 +61,10 @@ fn text<'a>(
     ensures { Gives (λ _. store_of store.new) result (text_in (setting_of s.now) n number size p (store_of store.old)) }
 {
     let words = s.literal_words(number) as u64;
-    cells(nowhere(), n, words, Some(s.literal_at(number)), p, store)?;
+    cells(nowhere(), 1, n, words, Some(s.literal_at(number)), p, store)?;
     cells(
         nowhere(),
+        1,
         n,
         u64::from(size).saturating_sub(words),
         None,
@@ -103,7 +104,7 @@ fn rest<'a>(
         return Ok(());
     };
     match one {
-        CType::Array(of, len) => cells(nowhere(), n, words_left(s, of, *len, k), None, p, store),
+        CType::Array(of, len) => cells(nowhere(), 1, n, words_left(s, of, *len, k), None, p, store),
         CType::Void | CType::Int | CType::Bool | CType::Enum(_) => Ok(()),
         CType::Struct(_) | CType::Union(_) | CType::Pointer(_) => Ok(()),
     }
@@ -127,15 +128,16 @@ pub(crate) fn vars<'a>(
     n: u32,
     vs: &'a [TVar],
     stack: &mut Vec<Frame<'a>>,
-    store: &Store<'a>,
+    store: &mut Store<'a>,
 ) -> Result<Focus<'a>, Stop>
-    ensures { Leads (λ x. at x (stack_of stack.new.items) (store_of store.now)) result
-        (vars_of n (map tvar vs.now) (stack_of stack.old.items) (store_of store.now)) }
+    ensures { Leads (λ x. at x (stack_of stack.new.items) (store_of store.new)) result
+        (vars_of n (map tvar vs.now) (stack_of stack.old.items) (store_of store.old)) }
 {
     match next(vs) {
         None => Ok(Focus::Full),
         Some((v, rest)) => {
             let p = located(nowhere(), object_of(v.global, v.object, store))?;
+            spend(store, 1);
             push(stack, Frame::Vars(n, rest))?;
             Ok(Focus::Fill(n, &v.init, Some(&v.ty), p))
         }

@@ -380,3 +380,19 @@ pub(crate) fn at_once<'a>(s: &Setting<'a>, x: &TExpr, store: &Store<'a>) -> Opti
 {
     comes(s, DEPTH, x, store)
 }
+
+/// How many nodes an expression has that came at once: each was evaluated once.
+pub(crate) fn nodes(x: &TExpr) -> u64 {
+    match &x.kind {
+        TKind::Unary(_, a) => nodes(a).saturating_add(1),
+        TKind::Member(a, _) => nodes(a).saturating_add(1),
+        TKind::Arrow(a, _) => nodes(a).saturating_add(1),
+        TKind::Cast(a) => nodes(a).saturating_add(1),
+        TKind::Binary(_, a, b) => nodes(a).saturating_add(nodes(b)).saturating_add(1),
+        TKind::Index(a, b) => nodes(a).saturating_add(nodes(b)).saturating_add(1),
+        TKind::Number(_) | TKind::Null | TKind::Literal(_) | TKind::Global(_) | TKind::Local(_) => 1,
+        TKind::Assign(_, _, _) | TKind::Step(_, _) => 1,
+        TKind::Call(_, _) | TKind::In(_) | TKind::Out(_, _) => 1,
+        TKind::Wait | TKind::Halt | TKind::Card => 1,
+    }
+}

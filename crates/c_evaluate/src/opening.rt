@@ -130,6 +130,7 @@ fn opening<'a>(
         locals: Vec::new(alloc),
         used: 0,
         spare: Vec::new(alloc),
+        work: 0,
     })
 }
 

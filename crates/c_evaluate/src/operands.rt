@@ -16,13 +16,13 @@ ghost use Rattle.c_evaluate.specs.inner.Swift.{binary_on, first_of_on, second_on
 use crate::assigning::{member, second_assigned, second_operated, stepped_place};
 use crate::cells::located;
 use crate::frame::{Came, Focus, Frame};
-use crate::leaf::at_once;
+use crate::leaf::{at_once, nodes};
 use crate::operators::{cell_unary, converted, stepped, truth};
 use crate::queries::{further, step, word_of};
 use crate::setting::Setting;
 use crate::stack::push;
 use crate::stop::Stop;
-use crate::store::Store;
+use crate::store::{Store, spend};
 use crate::using::{placed, taken, tested};
 use c_meaning::End;
 use c_tree::{BinOp, Span, UnOp};
@@ -80,7 +80,10 @@ fn second<'a>(
         (second_on (setting_of s.now) n (texpr e.now) (texpr y.now) c (stack_of stack.old.items) (store_of store.old)) }
 {
     match at_once(s, y, store) {
-        Some(v) => second_came(s, n, e, c, v, stack, store),
+        Some(v) => {
+            spend(store, nodes(y));
+            second_came(s, n, e, c, v, stack, store)
+        }
         None => {
             push(stack, Frame::Second(n, e, c))?;
             Ok(Focus::Eval(n, y))

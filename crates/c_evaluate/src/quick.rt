@@ -6,7 +6,7 @@ ghost use Rattle.c_evaluate.specs.inner.StoreView.{store_of};
 ghost use Rattle.c_evaluate.specs.inner.Swift.{answered, unary_worth, binary_worth, with_some, when, is_word, word_held, word_at, worth, are_words};
 ghost use Rattle.c_evaluate.specs.inner.Swift.{returned_of, returned_by, quick_of, quick};
 
-use crate::leaf::is_strict;
+use crate::leaf::{is_strict, nodes};
 use crate::operators::{bool_word, word_binary, word_unary};
 use crate::setting::Setting;
 use crate::stack::next;
@@ -251,5 +251,16 @@ pub(crate) fn quick<'a>(
     match s.function(f) {
         None => None,
         Some(g) => quick_of(s.locals(f), g, args),
+    }
+}
+
+/// The work of a call that came at once: its `return`, and the nodes of what is returned.
+pub(crate) fn quick_work<'a>(s: &Setting<'a>, f: u32) -> u64 {
+    let Some(g) = s.function(f) else {
+        return 0;
+    };
+    match returned_by(g.body.as_slice()) {
+        None => 0,
+        Some(x) => nodes(x).saturating_add(1),
     }
 }

@@ -52,6 +52,12 @@ impl<'a> Runner<'a> {
         })
     }
 
+    /// The work of the run up to what `advance` answered last, as `c_meaning` defines it, and at most 2^64 - 1. It is counted beside the run, wherever the
+    /// definitions spend some: that is not proved, but tested against a count apart.
+    pub fn work(&self) -> u64 {
+        self.machine.store.work
+    }
+
     /// The next port operation of the run, or its end where none is left. The error is want of memory, and from then on every answer is.
     pub fn advance(&mut self) -> Result<Advanced, Memory>
         ensures advances { IfOk result (λ a. Gives a self.old.left self.new.left) }

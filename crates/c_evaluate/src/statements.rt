@@ -21,7 +21,7 @@ use crate::queries::word_of;
 use crate::setting::Setting;
 use crate::stack::{next, push};
 use crate::stop::Stop;
-use crate::store::{Store, fresh_all, released};
+use crate::store::{Store, fresh_all, released, spend};
 use crate::types::is_structure;
 use crate::using::{dropped, taken, tested};
 use c_meaning::End;
@@ -69,6 +69,18 @@ fn before(word: u32, xs: &[TArm]) -> usize
         Some(count) => count,
         None => before_default(xs),
     }
+}
+
+/// How many labels there are.
+fn labels(xs: &[TArm]) -> u64 {
+    let mut count: u64 = 0;
+    for z in xs {
+        match z {
+            TArm::Case(_) | TArm::Default => count = count.saturating_add(1),
+            TArm::Stmt(_) => {}
+        }
+    }
+    count
 }
 
 /// A further turn of a `while` or a `for`.
@@ -145,7 +157,7 @@ fn returned<'a>(
     ensures { Gives (λ z. (z, store_of store.new)) result (returned_in (setting_of s.now) n (ctype ty.now) r c (store_of store.old)) }
 {
     if is_structure(ty) {
-        cells(nowhere(), n, u64::from(s.words(ty)), Some(c), r, store)?;
+        cells(nowhere(), 1, n, u64::from(s.words(ty)), Some(c), r, store)?;
         released(store, ty, c);
         return Ok(r);
     }
@@ -193,6 +205,7 @@ fn switches<'a>(
 {
     let c = taken(s, n, x, v, store)?;
     let word = located(x.span, word_of(c))?;
+    spend(store, labels(xs));
     fresh_all(s, store, made)?;
     push(stack, Frame::End(made))?;
     push(stack, Frame::Switch)?;

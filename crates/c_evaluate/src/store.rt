@@ -23,7 +23,7 @@ use obj_mem::{Cell, ObjectKind, Objects, Refusal};
 use std::alloc::Global;
 
 /// The objects, the answers left, the function that is called, the objects of its locals, and the words of the frames in use; and a vector that
-/// the next call can put its arguments into.
+/// the next call can put its arguments into. Beside them the work so far, which no clause tells: it is counted where the definitions spend, and tested.
 #[derive(Drop)]
 pub(crate) struct Store<'a> {
     pub(crate) objects: Objects,
@@ -32,6 +32,15 @@ pub(crate) struct Store<'a> {
     pub(crate) locals: Vec<Option<u64>>,
     pub(crate) used: u32,
     pub(crate) spare: Vec<Cell>,
+    pub(crate) work: u64,
+}
+
+/// Counts so much work more.
+#[inline(always)]
+pub(crate) fn spend<'a>(store: &mut Store<'a>, units: u64)
+    ensures same { store_of store.new ≡ store_of store.old }
+{
+    store.work = store.work.saturating_add(units);
 }
 
 /// The object of a local, where it was made.

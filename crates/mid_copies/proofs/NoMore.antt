@@ -1,11 +1,13 @@
--- Code without copies weighs no more, and has no loop and no call more.
-use Rattle.std.proofs.Common.{◌≡◌, ℕ, ◌+◌, ◌≤◌, inl, inr, List, [], ◌∷◌, sum_by, refl, sym, ap, ◌∙◌, subst, arith}
+-- Code without copies weighs no more, and has the same loops, calls and locals that live at once.
+use Rattle.std.proofs.Common.{◌≡◌, ℕ, ◌+◌, ◌≤◌, inl, inr, Bool, true, false, cond, List, [], ◌∷◌, map, sum_by, Option, Some, None, refl, ap, ◌∙◌, arith}
 use Rattle.std.proofs.lemmas.List.Sums.{sum_by-cons}
-use Rattle.mid_code.specs.Code.{OpT, NodesT, Stop, Do, Call, Choose, Block, Loop, Leave, Again, Return, FunctionT, CodeT}
+use Rattle.mid_code.specs.Code.{OpT, ConstO, MoveO, NodesT, Stop, Do, Call, Choose, Block, Loop, Leave, Again, Return, FunctionT, CodeT}
 use Rattle.mid_code.specs.States.{op_weight}
 use Rattle.mid_code.specs.Runs.{nodes_weight, function_weight, weight}
-use Rattle.mid_code.specs.Calls.{loops, CallsTo, AddsNone, NoneAdd}
-use Rattle.mid_copies.specs.inner.Copying.{Copies, none_known, origin, behind_maybe, used_up, Gone, op_then, known_behind, spared, spared_function, IsSparedBy, AreSparedBy, IsSparedCode}
+use Rattle.mid_code.specs.Calls.{NoneAdd}
+use Rattle.mid_code.specs.inner.Skeleton.{stays, some_before, some_place, skeleton, SameShape}
+use Rattle.mid_code.proofs.Skeletons.{same_shape}
+use Rattle.mid_copies.specs.inner.Copying.{Copies, none_known, origin, behind_maybe, used_up, Gone, with_use, op_then, known_behind, spared, spared_function, IsSparedBy, AreSparedBy, IsSparedCode}
 use Rattle.mid_copies.proofs.WithUses.{op_either, weight_with}
 use Rattle.mid_copies.proofs.MidStill.{map_length}
 
@@ -27,47 +29,49 @@ module _ (g : Gone) where
   lighter es (Again k c) = let h = lighter none_known c in omega (arith, h)
   lighter es (Return p c) = let h = lighter none_known c in omega (arith, h)
 
-  loops_same : (es : Copies) (c : NodesT ℕ) → loops (spared g es c) ≡ loops c
-  loops_same es Stop = refl
-  loops_same es (Do o c) = elim (op_either g es o (spared g (known_behind g es o) c)) [
-    | inl e ↦ ap loops e ∙ loops_same (known_behind g es o) c
-    | inr e ↦ ap loops e ∙ loops_same (known_behind g es o) c
-  ]
-  loops_same es (Call t f args c) = loops_same (behind_maybe (used_up args es) t) c
-  loops_same es (Choose p a b c) = let e = loops_same none_known a in let f = loops_same none_known b in let h = loops_same none_known c in omega (arith, e, f, h)
-  loops_same es (Block b c) = let e = loops_same none_known b in let f = loops_same none_known c in omega (arith, e, f)
-  loops_same es (Loop b c) = let e = loops_same none_known b in let f = loops_same none_known c in omega (arith, e, f)
-  loops_same es (Leave k c) = loops_same none_known c
-  loops_same es (Again k c) = loops_same none_known c
-  loops_same es (Return p c) = loops_same none_known c
+  -- what stands for an operation has its skeleton
+  op_skeleton : (es : Copies) (o : OpT ℕ) (c : NodesT ℕ) → skeleton (op_then g es o c) ≡ some_before (stays o) (skeleton c)
+  op_skeleton es (ConstO t word) c = go (g t)
+    where
+      go : (b : Bool) → skeleton (cond b c (Do (ConstO t word) c)) ≡ skeleton c
+      go true = refl
+      go false = refl
+  op_skeleton es (MoveO t a) c = go (g t)
+    where
+      go : (b : Bool) → skeleton (cond b c (Do (MoveO t (origin es a)) c)) ≡ skeleton c
+      go true = refl
+      go false = refl
+  op_skeleton es o c = refl
 
-  calls_before : (h : ℕ) (es : Copies) (c : NodesT ℕ) → CallsTo h (spared g es c) → CallsTo h c
-  calls_before h es Stop r = r
-  calls_before h es (Do o c) r = elim (op_either g es o (spared g (known_behind g es o) c)) [
-    | inl e ↦ calls_before h (known_behind g es o) c (subst (CallsTo h) e r)
-    | inr e ↦ calls_before h (known_behind g es o) c (subst (CallsTo h) e r)
-  ]
-  calls_before h es (Call t f args c) r = elim r [ inl e ↦ inl e | inr q ↦ inr (calls_before h (behind_maybe (used_up args es) t) c q) ]
-  calls_before h es (Choose p a b c) r = elim r [ inl q ↦ inl (calls_before h none_known a q) | inr u ↦ elim u [ inl q ↦ inr (inl (calls_before h none_known b q)) | inr q ↦ inr (inr (calls_before h none_known c q)) ] ]
-  calls_before h es (Block b c) r = elim r [ inl q ↦ inl (calls_before h none_known b q) | inr q ↦ inr (calls_before h none_known c q) ]
-  calls_before h es (Loop b c) r = elim r [ inl q ↦ inl (calls_before h none_known b q) | inr q ↦ inr (calls_before h none_known c q) ]
-  calls_before h es (Leave k c) r = calls_before h none_known c r
-  calls_before h es (Again k c) r = calls_before h none_known c r
-  calls_before h es (Return p c) r = calls_before h none_known c r
+  same_arguments : (w : ℕ → ℕ) (args : List ℕ) → map (λ a. tt) (map w args) ≡ map (λ a. tt) args
+  same_arguments w [] = refl
+  same_arguments w (a ∷ args) = ap (λ us. tt ∷ us) (same_arguments w args)
 
-  adds_none : (f : FunctionT ℕ) → AddsNone f.body (spared_function g f).body
-  adds_none f = record { loop_count = let e = loops_same none_known f.body in omega (arith, e); calls = λ h. calls_before h none_known f.body }
+  same_place : (w : ℕ → ℕ) (p : Option ℕ) → some_place (with_use w p) ≡ some_place p
+  same_place w None = refl
+  same_place w (Some p) = refl
+
+  same_skeleton : (es : Copies) (c : NodesT ℕ) → skeleton (spared g es c) ≡ skeleton c
+  same_skeleton es Stop = refl
+  same_skeleton es (Do o c) = op_skeleton es o (spared g (known_behind g es o) c) ∙ ap (some_before (stays o)) (same_skeleton (known_behind g es o) c)
+  same_skeleton es (Call t f args c) = λ i. Call (some_place t) f (same_arguments (origin es) args i) (same_skeleton (behind_maybe (used_up args es) t) c i)
+  same_skeleton es (Choose p a b c) = λ i. Choose tt (same_skeleton none_known a i) (same_skeleton none_known b i) (same_skeleton none_known c i)
+  same_skeleton es (Block b c) = λ i. Block (same_skeleton none_known b i) (same_skeleton none_known c i)
+  same_skeleton es (Loop b c) = λ i. Loop (same_skeleton none_known b i) (same_skeleton none_known c i)
+  same_skeleton es (Leave k c) = ap (Leave k) (same_skeleton none_known c)
+  same_skeleton es (Again k c) = ap (Again k) (same_skeleton none_known c)
+  same_skeleton es (Return p c) = λ i. Return (same_place (origin es) p i) (same_skeleton none_known c i)
 
 -- ---- programs
 
-pub by_function : (f h : FunctionT ℕ) → IsSparedBy f h → AddsNone f.body h.body
-by_function f h s = subst (λ k. AddsNone f.body k.body) (sym s.is) (adds_none s.gone f)
+pub spared_shape : (f h : FunctionT ℕ) → IsSparedBy f h → SameShape f.body h.body
+spared_shape f h s = same_shape f.body h.body (ap (λ k. skeleton k.body) s.is ∙ same_skeleton s.gone none_known f.body)
 
 pub none_add : (fs gs : List (FunctionT ℕ)) → AreSparedBy fs gs → NoneAdd fs gs
 none_add [] [] a = tt
 none_add [] (g ∷ gs) a = absurd a
 none_add (f ∷ fs) [] a = absurd a
-none_add (f ∷ fs) (g ∷ gs) a = (by_function f g a.0, none_add fs gs a.1)
+none_add (f ∷ fs) (g ∷ gs) a = ((spared_shape f g a.0).adds_none, none_add fs gs a.1)
 
 function_lighter : (f h : FunctionT ℕ) → IsSparedBy f h → function_weight h ≤ function_weight f
 function_lighter f h s = let e = ap function_weight s.is in let l = lighter s.gone none_known f.body in omega (arith, e, l)

@@ -1,12 +1,15 @@
--- Code with known words where they are used is mid code, weighs the same, and has no loop and no call more.
-use Rattle.std.proofs.Common.{◌≡◌, ℕ, zero, suc, ◌+◌, ◌≤◌, ◌<◌, inl, inr, Bool, true, false, cond, List, [], ◌∷◌, length, sum, sum_by, option_map, slice_get, Some, None, refl, sym, ap, ◌∙◌, subst, arith}
+-- Code with known words where they are used is mid code, weighs the same, and has the same loops, calls and locals that live at once.
+use Rattle.std.proofs.Common.{◌≡◌, ℕ, zero, suc, ◌+◌, ◌≤◌, ◌<◌, inl, inr, Bool, true, false, cond, List, [], ◌∷◌, map, length, sum, sum_by, option_map, slice_get, Some, None, refl, sym, ap, ◌∙◌, subst, arith}
+use Rattle.std.proofs.lemmas.Bool.{true≢false}
 use Rattle.std.proofs.lemmas.List.Sums.{sum_by-cons}
 use Rattle.mid_code.specs.Code.{OpT, ConstO, NullO, MoveO, OneO, TwoO, GlobalO, LocalO, LiteralO, CardO, StepO, ApartO, PtrTestO, LoadO, StoreO, FreshO, EndO, InO, OutO, WaitO, HaltO, NodesT, Stop, Do, Call, Choose, Block, Loop, Leave, Again, Return, FunctionT, CodeT, maybe, uses, target}
 use Rattle.mid_code.specs.Invariants.{IsOp, parameter_count, AreNodes, AllOf, Names, CallsNone, IsFunction, IsStart, IsTemporary, IsMid}
 use Rattle.mid_code.specs.inner.Passing.{doing}
 use Rattle.mid_code.specs.States.{op_weight}
 use Rattle.mid_code.specs.Runs.{nodes_weight, function_weight, weight}
-use Rattle.mid_code.specs.Calls.{loops, CallsTo, AddsNone, NoneAdd}
+use Rattle.mid_code.specs.Calls.{NoneAdd}
+use Rattle.mid_code.specs.inner.Skeleton.{stays, some_before, some_place, skeleton, SameShape}
+use Rattle.mid_code.proofs.Skeletons.{same_shape}
 use Rattle.mid_copies.specs.inner.Sinking.{is_free, Held, held_ops, is_apart, ops_at, held_behind, sunk, sunk_function, AreSunk, IsSunkCode}
 
 -- ---- operations
@@ -46,7 +49,7 @@ module _ (N : ℕ → Type 0) where
   names_ok h (Again j c) k n = doing_named (held_ops h) (Again j (sunk None c)) k (names_ok None c tt n)
   names_ok h (Return p c) k n = doing_named (held_ops h) (Return p (sunk None c)) k (n.0, names_ok None c tt n.1)
 
--- ---- calls and loops
+-- ---- calls
 
 doing_none : (ps : List (OpT ℕ)) (c : NodesT ℕ) → CallsNone c → CallsNone (doing ps c)
 doing_none [] c n = n
@@ -63,42 +66,47 @@ calls_none h (Leave k c) n = doing_none (held_ops h) (Leave k (sunk None c)) (ca
 calls_none h (Again k c) n = doing_none (held_ops h) (Again k (sunk None c)) (calls_none None c n)
 calls_none h (Return p c) n = doing_none (held_ops h) (Return p (sunk None c)) (calls_none None c n)
 
-doing_loops : (ps : List (OpT ℕ)) (c : NodesT ℕ) → loops (doing ps c) ≡ loops c
-doing_loops [] c = refl
-doing_loops (p ∷ ps) c = doing_loops ps c
+-- ---- shape
 
-loops_same : (h : Held) (c : NodesT ℕ) → loops (sunk h c) ≡ loops c
-loops_same h Stop = doing_loops (held_ops h) Stop
-loops_same h (Do o c) = doing_loops (ops_at h o) (sunk (held_behind h o) c) ∙ loops_same (held_behind h o) c
-loops_same h (Call t f args c) = doing_loops (held_ops h) (Call t f args (sunk None c)) ∙ loops_same None c
-loops_same h (Choose p a b c) = let i = doing_loops (held_ops h) (Choose p (sunk None a) (sunk None b) (sunk None c)) in let e = loops_same None a in let f = loops_same None b in let g = loops_same None c in omega (arith, i, e, f, g)
-loops_same h (Block b c) = let i = doing_loops (held_ops h) (Block (sunk None b) (sunk None c)) in let e = loops_same None b in let f = loops_same None c in omega (arith, i, e, f)
-loops_same h (Loop b c) = let i = doing_loops (held_ops h) (Loop (sunk None b) (sunk None c)) in let e = loops_same None b in let f = loops_same None c in omega (arith, i, e, f)
-loops_same h (Leave k c) = doing_loops (held_ops h) (Leave k (sunk None c)) ∙ loops_same None c
-loops_same h (Again k c) = doing_loops (held_ops h) (Again k (sunk None c)) ∙ loops_same None c
-loops_same h (Return p c) = doing_loops (held_ops h) (Return p (sunk None c)) ∙ loops_same None c
+-- What is held back has no skeleton.
+abbrev Left : OpT ℕ → Type 0
+Left p = stays p ≡ None
 
-doing_calls : (g : ℕ) (ps : List (OpT ℕ)) (c : NodesT ℕ) → CallsTo g (doing ps c) → CallsTo g c
-doing_calls g [] c r = r
-doing_calls g (p ∷ ps) c r = doing_calls g ps c r
+abbrev IsLeft : Held → Type 0
+IsLeft None = Unit {0}
+IsLeft (Some p) = Left p
 
-calls_before : (g : ℕ) (h : Held) (c : NodesT ℕ) → CallsTo g (sunk h c) → CallsTo g c
-calls_before g h Stop r = doing_calls g (held_ops h) Stop r
-calls_before g h (Do o c) r = calls_before g (held_behind h o) c (doing_calls g (ops_at h o) (sunk (held_behind h o) c) r)
-calls_before g h (Call t f args c) r = elim (doing_calls g (held_ops h) (Call t f args (sunk None c)) r) [ inl e ↦ inl e | inr q ↦ inr (calls_before g None c q) ]
-calls_before g h (Choose p a b c) r =
-    elim (doing_calls g (held_ops h) (Choose p (sunk None a) (sunk None b) (sunk None c)) r) [
-      | inl q ↦ inl (calls_before g None a q)
-      | inr u ↦ elim u [ inl q ↦ inr (inl (calls_before g None b q)) | inr q ↦ inr (inr (calls_before g None c q)) ]
-    ]
-calls_before g h (Block b c) r = elim (doing_calls g (held_ops h) (Block (sunk None b) (sunk None c)) r) [ inl q ↦ inl (calls_before g None b q) | inr q ↦ inr (calls_before g None c q) ]
-calls_before g h (Loop b c) r = elim (doing_calls g (held_ops h) (Loop (sunk None b) (sunk None c)) r) [ inl q ↦ inl (calls_before g None b q) | inr q ↦ inr (calls_before g None c q) ]
-calls_before g h (Leave k c) r = calls_before g None c (doing_calls g (held_ops h) (Leave k (sunk None c)) r)
-calls_before g h (Again k c) r = calls_before g None c (doing_calls g (held_ops h) (Again k (sunk None c)) r)
-calls_before g h (Return p c) r = calls_before g None c (doing_calls g (held_ops h) (Return p (sunk None c)) r)
+held_skeleton : (h : Held) (c : NodesT ℕ) → IsLeft h → skeleton (doing (held_ops h) c) ≡ skeleton c
+held_skeleton None c l = refl
+held_skeleton (Some p) c l = ap (λ o. some_before o (skeleton c)) l
 
-adds_none : (f : FunctionT ℕ) → AddsNone f.body (sunk_function f).body
-adds_none f = record { loop_count = let e = loops_same None f.body in omega (arith, e); calls = λ g. calls_before g None f.body }
+free_left : (o : OpT ℕ) → is_free o ≡ true → Left o
+free_left (ConstO t word) e = refl
+free_left (GlobalO t number) e = refl
+free_left _ e = absurd (true≢false (sym e))
+
+free_skeleton : (o : OpT ℕ) (c : NodesT ℕ) (b : Bool) → is_free o ≡ b → (skeleton (doing (cond b [] (o ∷ [])) c) ≡ some_before (stays o) (skeleton c)) × IsLeft (cond b (Some o) None)
+free_skeleton o c true e = (ap (λ p. some_before p (skeleton c)) (sym (free_left o e)), free_left o e)
+free_skeleton o c false e = (refl, tt)
+
+apart_skeleton : (p o : OpT ℕ) (c : NodesT ℕ) (b : Bool) → Left p → (skeleton (doing (cond b (o ∷ []) (p ∷ o ∷ [])) c) ≡ some_before (stays o) (skeleton c)) × IsLeft (cond b (Some p) None)
+apart_skeleton p o c true l = (refl, l)
+apart_skeleton p o c false l = (ap (λ q. some_before q (some_before (stays o) (skeleton c))) l, tt)
+
+op_skeleton : (h : Held) (o : OpT ℕ) (c : NodesT ℕ) → IsLeft h → (skeleton (doing (ops_at h o) c) ≡ some_before (stays o) (skeleton c)) × IsLeft (held_behind h o)
+op_skeleton None o c l = free_skeleton o c (is_free o) refl
+op_skeleton (Some p) o c l = apart_skeleton p o c (is_apart (Some p) o) l
+
+same_skeleton : (h : Held) (c : NodesT ℕ) → IsLeft h → skeleton (sunk h c) ≡ skeleton c
+same_skeleton h Stop l = held_skeleton h Stop l
+same_skeleton h (Do o c) l = let s = op_skeleton h o (sunk (held_behind h o) c) l in s.0 ∙ ap (some_before (stays o)) (same_skeleton (held_behind h o) c s.1)
+same_skeleton h (Call t f args c) l = held_skeleton h (Call t f args (sunk None c)) l ∙ ap (Call (some_place t) f (map (λ a. tt) args)) (same_skeleton None c tt)
+same_skeleton h (Choose p a b c) l = held_skeleton h (Choose p (sunk None a) (sunk None b) (sunk None c)) l ∙ (λ i. Choose tt (same_skeleton None a tt i) (same_skeleton None b tt i) (same_skeleton None c tt i))
+same_skeleton h (Block b c) l = held_skeleton h (Block (sunk None b) (sunk None c)) l ∙ (λ i. Block (same_skeleton None b tt i) (same_skeleton None c tt i))
+same_skeleton h (Loop b c) l = held_skeleton h (Loop (sunk None b) (sunk None c)) l ∙ (λ i. Loop (same_skeleton None b tt i) (same_skeleton None c tt i))
+same_skeleton h (Leave k c) l = held_skeleton h (Leave k (sunk None c)) l ∙ ap (Leave k) (same_skeleton None c tt)
+same_skeleton h (Again k c) l = held_skeleton h (Again k (sunk None c)) l ∙ ap (Again k) (same_skeleton None c tt)
+same_skeleton h (Return p c) l = held_skeleton h (Return p (sunk None c)) l ∙ ap (Return (some_place p)) (same_skeleton None c tt)
 
 -- ---- weight
 
@@ -147,14 +155,14 @@ sunk_weighs x y s = let a = function_same x.start y.start s.start in let b = fun
 
 -- ---- programs
 
-pub start_adds_none : (f g : FunctionT ℕ) → g ≡ sunk_function f → AddsNone f.body g.body
-start_adds_none f g is = subst (λ k. AddsNone f.body k.body) (sym is) (adds_none f)
+pub sunk_shape : (f g : FunctionT ℕ) → g ≡ sunk_function f → SameShape f.body g.body
+sunk_shape f g is = same_shape f.body g.body (ap (λ k. skeleton k.body) is ∙ same_skeleton None f.body tt)
 
 pub none_add : (fs gs : List (FunctionT ℕ)) → AreSunk fs gs → NoneAdd fs gs
 none_add [] [] a = tt
 none_add [] (g ∷ gs) a = absurd a
 none_add (f ∷ fs) [] a = absurd a
-none_add (f ∷ fs) (g ∷ gs) a = (start_adds_none f g a.0, none_add fs gs a.1)
+none_add (f ∷ fs) (g ∷ gs) a = ((sunk_shape f g a.0).adds_none, none_add fs gs a.1)
 
 module _ (x y : CodeT ℕ) (globals : y.globals ≡ x.globals) (literals : y.literals ≡ x.literals) (counts : (f : ℕ) → parameter_count y f ≡ parameter_count x f) where
   op_ok : (m : ℕ) (o : OpT ℕ) → IsOp x m o → IsOp y m o

@@ -1,15 +1,21 @@
 -- What the pass promises: code without copies, where that is right, is spared from the code.
-use Rattle.std.proofs.Common.{ℕ, List, [], ◌∷◌, refl, sym, subst}
+use Rattle.std.proofs.Common.{ℕ, List, [], ◌∷◌, ap}
 use Rattle.mid_code.specs.Code.{FunctionT, CodeT}
 use Rattle.mid_code.specs.Invariants.{IsMid}
 use Rattle.mid_copies.specs.inner.Copying.{IsSparedBy, AreSparedBy, IsSparedCode}
 use Rattle.mid_copies.specs.SparedFrom.{IsSparedFunction, EachSpared, IsSparedFrom}
 use Rattle.mid_copies.proofs.WholeProgram.{spared_keeps, spared_works}
 use Rattle.mid_copies.proofs.MidStill.{spared_mid}
-use Rattle.mid_copies.proofs.NoMore.{by_function, none_add, spared_lighter}
+use Rattle.mid_copies.proofs.NoMore.{spared_shape, none_add, spared_lighter}
 
 function_spared : (f h : FunctionT ℕ) → IsSparedBy f h → IsSparedFunction f h
-function_spared f h s = subst (IsSparedFunction f) (sym s.is) (record { temporaries = refl; params = refl; locals = refl; gives = refl })
+function_spared f h s = record {
+  temporaries = ap (λ k. k.temps) s.is;
+  params = ap (λ k. k.params) s.is;
+  locals = ap (λ k. k.locals) s.is;
+  gives = ap (λ k. k.gives) s.is;
+  together = (spared_shape f h s).at_once;
+}
 
 each_spared : (fs gs : List (FunctionT ℕ)) → AreSparedBy fs gs → EachSpared fs gs
 each_spared [] [] a = tt
@@ -26,7 +32,7 @@ spared_from x y mid s = record {
   weighs = spared_lighter x y s;
   functions = each_spared x.functions y.functions s.functions;
   adds_none = none_add x.functions y.functions s.functions;
-  start_adds_none = by_function x.start y.start s.start;
+  start_adds_none = (spared_shape x.start y.start s.start).adds_none;
   globals = s.globals;
   literals = s.literals;
   main = s.main;

@@ -16,7 +16,7 @@ use Rattle.mid_copies.specs.SparedFrom.{IsSparedFunction, EachSpared, IsSparedFr
 use Rattle.mid_copies.proofs.Spares.{spared_from}
 use Rattle.mid_copies.proofs.Programs.{with_functions}
 use Rattle.mid_copies.proofs.SinkProgram.{sunk_keeps, sunk_works}
-use Rattle.mid_copies.proofs.SinkMid.{sunk_mid, sunk_weighs, start_adds_none, none_add}
+use Rattle.mid_copies.proofs.SinkMid.{sunk_mid, sunk_weighs, sunk_shape, none_add}
 
 -- ---- one after another
 
@@ -32,7 +32,7 @@ none_through (f ∷ fs) (g ∷ gs) [] p q = absurd q
 none_through (f ∷ fs) (g ∷ gs) (h ∷ hs) p q = (adds_through f.body g.body h.body p.0 q.0, none_through fs gs hs p.1 q.1)
 
 function_through : (f g h : FunctionT ℕ) → IsSparedFunction f g → IsSparedFunction g h → IsSparedFunction f h
-function_through f g h p q = record { temporaries = q.temporaries ∙ p.temporaries; params = q.params ∙ p.params; locals = q.locals ∙ p.locals; gives = q.gives ∙ p.gives }
+function_through f g h p q = record { temporaries = q.temporaries ∙ p.temporaries; params = q.params ∙ p.params; locals = q.locals ∙ p.locals; gives = q.gives ∙ p.gives; together = λ ks l. q.together ks (p.together ks l) }
 
 each_through : (fs gs hs : List (FunctionT ℕ)) → EachSpared fs gs → EachSpared gs hs → EachSpared fs hs
 each_through [] [] [] p q = tt
@@ -45,7 +45,13 @@ each_through (f ∷ fs) (g ∷ gs) (h ∷ hs) p q = (function_through f g h p.0 
 -- ---- known words where they are used
 
 function_sunk : (f g : FunctionT ℕ) → g ≡ sunk_function f → IsSparedFunction f g
-function_sunk f g is = subst (IsSparedFunction f) (sym is) (record { temporaries = refl; params = refl; locals = refl; gives = refl })
+function_sunk f g is = record {
+  temporaries = ap (λ k. k.temps) is;
+  params = ap (λ k. k.params) is;
+  locals = ap (λ k. k.locals) is;
+  gives = ap (λ k. k.gives) is;
+  together = (sunk_shape f g is).at_once;
+}
 
 each_sunk : (fs gs : List (FunctionT ℕ)) → AreSunk fs gs → EachSpared fs gs
 each_sunk [] [] a = tt
@@ -61,7 +67,7 @@ sunk_after x z y a s = record {
   weighs = let h = a.weighs in let k = sunk_weighs z y s in omega (arith, h, k);
   functions = each_through x.functions z.functions y.functions a.functions (each_sunk z.functions y.functions s.functions);
   adds_none = none_through x.functions z.functions y.functions a.adds_none (none_add z.functions y.functions s.functions);
-  start_adds_none = adds_through x.start.body z.start.body y.start.body a.start_adds_none (start_adds_none z.start y.start s.start);
+  start_adds_none = adds_through x.start.body z.start.body y.start.body a.start_adds_none (sunk_shape z.start y.start s.start).adds_none;
   globals = s.globals ∙ a.globals;
   literals = s.literals ∙ a.literals;
   main = s.main ∙ a.main;
@@ -116,7 +122,7 @@ same_run : (a b : Run) → b ≡ a → KeepsRun a.end a b
 same_run a b e = subst (KeepsRun a.end a) (sym e) (itself a.end a refl)
 
 function_folded : (f g : FunctionT ℕ) → IsFoldedFunction f g → IsSparedFunction f g
-function_folded f g h = record { temporaries = h.temporaries; params = h.params; locals = h.locals; gives = h.gives }
+function_folded f g h = record { temporaries = h.temporaries; params = h.params; locals = h.locals; gives = h.gives; together = h.together }
 
 each_is_folded : (fs gs : List (FunctionT ℕ)) → EachFolded fs gs → EachSpared fs gs
 each_is_folded [] [] a = tt

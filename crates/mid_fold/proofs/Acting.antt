@@ -1,5 +1,5 @@
 -- A folded operation does what the operation does, where the words are known.
-use Rattle.std.proofs.Common.{◌≡◌, ℕ, ◌+◌, ◌^◌, Bool, true, false, cond, eqb, nat_lt, List, [], ◌∷◌, Option, Some, None, refl, sym, ap, subst, ◌∙◌}
+use Rattle.std.proofs.Common.{◌≡◌, ℕ, ◌+◌, ◌^◌, Bool, true, false, cond, nat_lt, List, [], ◌∷◌, Option, Some, None, refl, sym, ap, subst, ◌∙◌}
 use Rattle.std.specs.Prelude.{Ok, Err}
 use Rattle.v32_isa.specs.declared.instruction.One.{One}
 use Rattle.v32_isa.specs.declared.instruction.Two.{Two}
@@ -12,8 +12,8 @@ use Rattle.obj_mem.specs.Queries.{Answer, word_or_fault}
 use Rattle.obj_mem.specs.Stores.{Sizes}
 use Rattle.mid_code.specs.Code.{OpT, ConstO, NullO, MoveO, OneO, TwoO, GlobalO, LocalO, LiteralO, CardO, StepO, ApartO, PtrTestO, LoadO, StoreO, FreshO, EndO, InO, OutO, WaitO, HaltO}
 use Rattle.mid_code.specs.Meaning.{Did, On, Ends}
-use Rattle.mid_code.specs.States.{State, temporaries, put, put_in, to, to_objects, input, output, acted, op_weight, one_word, two_words, word_or_stray}
-use Rattle.mid_fold.specs.inner.Folding.{Words, word_in, behind, few, known_behind, word_or, one_known, two_known, folded_op}
+use Rattle.mid_code.specs.States.{State, temporaries, put_in, to, to_objects, input, output, acted, op_weight, one_word, two_words, word_or_stray}
+use Rattle.mid_fold.specs.inner.Folding.{Words, word_in, behind, known_behind, word_or, one_known, two_known, folded_op}
 use Rattle.mid_fold.proofs.Knowing.{Knows, word_is, still_known, few_known, put_off, put_on}
 
 -- ---- the same is done

@@ -1,11 +1,10 @@
 -- What code in memory has is the folded code.
-use Rattle.std.proofs.Common.{◌≡◌, ℕ, ◌^◌, Bool, true, false, cond, nat_lt, List, [], ◌∷◌, map, Option, Some, None, refl, sym, ap, ◌∙◌}
+use Rattle.std.proofs.Common.{◌≡◌, ℕ, ◌^◌, Bool, true, false, cond, nat_lt, List, [], map, Option, Some, None, refl, ap, ◌∙◌}
 use Rattle.mid_code.specs.declared.node.Op.{Op}
 use Rattle.mid_code.specs.declared.node.Op.TheVariants as op
 use Rattle.mid_code.specs.declared.node.Node.{Node}
-use Rattle.mid_code.specs.declared.function.Function.{Function}
-use Rattle.mid_code.specs.Code.{OpT, ConstO, MoveO, OneO, TwoO, NodesT, Do, Call, Choose, Block, Loop, Leave, Again, Return, FunctionT}
-use Rattle.mid_code.specs.Functions.{NodeT, DoN, ChooseN, BlockN, LoopN, LeaveN, AgainN, ReturnN, ListT, NoN, MoreN, op_before, listed, node, before, joined, nodes, function}
+use Rattle.mid_code.specs.Code.{OpT, ConstO, MoveO, OneO, TwoO, NodesT, Do, Choose, Block, Loop, Leave, Again, Return, FunctionT}
+use Rattle.mid_code.specs.Functions.{NodeT, DoN, ChooseN, BlockN, LoopN, LeaveN, AgainN, ReturnN, ListT, NoN, MoreN, op_before, listed, node, before, joined, nodes}
 use Rattle.mid_fold.specs.inner.Folding.{Words, word_in, one_known, two_known, word_or, known_behind, folded, folded_function}
 use Rattle.mid_fold.specs.inner.Listed.{or_word, op_folded, op_known, node_known, node_folded, list_folded}
 

@@ -1,11 +1,10 @@
 -- Folded code runs as the code does.
-use Rattle.std.proofs.Common.{◌≡◌, ℕ, zero, suc, ◌+◌, List, [], ◌∷◌, map, get_or, sum, length, Option, Some, None, refl, sym, ap, ◌∙◌}
-use Rattle.obj_mem.specs.Stores.{Sizes, has_room}
-use Rattle.obj_mem.specs.Runs.{Run}
+use Rattle.std.proofs.Common.{◌≡◌, ℕ, zero, suc, ◌+◌, List, [], ◌∷◌, map, get_or, sum, length, Option, Some, None, refl, ap, ◌∙◌}
+use Rattle.obj_mem.specs.Stores.{has_room}
 use Rattle.mid_code.specs.Code.{OpT, NodesT, Stop, Do, Call, Choose, Block, Loop, Leave, Again, Return, FunctionT, CodeT}
-use Rattle.mid_code.specs.Meaning.{Did, On, Ends, Res, Lang, node_weight, call_weight, then_next, did, block_done, turn_done, choose, ask, call_done, called, does, below, runs}
+use Rattle.mid_code.specs.Meaning.{Did, On, Ends, Res, Lang, node_weight, call_weight, then_next, did, block_done, turn_done, choose, ask, call_done, called, does, below}
 use Rattle.mid_code.specs.States.{State, temporaries, sizes_of, function_at, no_function, over_worlds, acted, op_weight, spent, if_room, begun}
-use Rattle.mid_code.specs.Runs.{Final, opening, start_done, main_done, main_called, final_of, run_of, mid_runs}
+use Rattle.mid_code.specs.Runs.{opening, start_done, main_done, final_of, run_of, mid_runs}
 use Rattle.mid_fold.specs.inner.Folding.{Words, known_behind, folded_op, folded, folded_function, folded_code}
 use Rattle.mid_fold.proofs.Knowing.{Knows}
 use Rattle.mid_fold.proofs.Acting.{op_same, weight_same, known_after}

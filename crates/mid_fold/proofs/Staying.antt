@@ -1,19 +1,21 @@
--- Folded code is mid code, weighs the same, and has the same loops and calls.
-use Rattle.std.proofs.Common.{◌≡◌, ℕ, zero, suc, ◌+◌, ◌<◌, ◌^◌, ◌≤◌, inl, inr, ◌⊎◌, Bool, true, false, nat_lt, List, [], ◌∷◌, map, length, sum, sum_by, option_map, slice_get, Option, Some, None, refl, sym, ap, ◌∙◌, subst, arith}
+-- Folded code is mid code, weighs the same, and has the same loops, calls and locals that live at once.
+use Rattle.std.proofs.Common.{◌≡◌, ℕ, zero, suc, ◌+◌, ◌<◌, ◌^◌, Bool, true, false, nat_lt, List, [], ◌∷◌, map, length, sum_by, option_map, slice_get, None, refl, ap, ◌∙◌, arith}
 use Rattle.std.proofs.lemmas.List.Sums.{sum_by-cons}
 use Rattle.mid_code.specs.Code.{OpT, ConstO, NullO, MoveO, OneO, TwoO, GlobalO, LocalO, LiteralO, CardO, StepO, ApartO, PtrTestO, LoadO, StoreO, FreshO, EndO, InO, OutO, WaitO, HaltO, NodesT, Stop, Do, Call, Choose, Block, Loop, Leave, Again, Return, FunctionT, CodeT, maybe, uses, target}
-use Rattle.mid_code.specs.Calls.{loops, CallsTo, AddsNone, NoneAdd}
-use Rattle.mid_code.specs.Invariants.{IsOp, parameter_count, AreNodes, AllOf, NodeNames, Names, CallsNone, IsFunction, IsStart, IsTemporary, IsMid}
-use Rattle.mid_code.specs.States.{op_weight}
+use Rattle.mid_code.specs.Calls.{AddsNone, NoneAdd}
+use Rattle.mid_code.specs.Invariants.{IsOp, AreNodes, AllOf, Names, CallsNone, IsFunction, IsTemporary, IsMid}
 use Rattle.mid_code.specs.Runs.{nodes_weight, function_weight, weight}
+use Rattle.mid_code.specs.inner.Skeleton as shape
+use Rattle.mid_code.specs.inner.Skeleton.{some_before, some_place, skeleton, SameShape}
+use Rattle.mid_code.proofs.Skeletons.{same_shape}
 use Rattle.mid_fold.specs.inner.Folding.{Words, word_in, one_known, two_known, known_behind, folded_op, folded, folded_function, folded_code}
-use Rattle.mid_fold.specs.FoldedFrom.{IsFoldedFunction, EachFolded}
+use Rattle.mid_fold.specs.FoldedFrom.{EachFolded}
 use Rattle.mid_fold.proofs.Acting.{stays, weight_same}
 
 below_limit : (w : ℕ) → nat_lt w (2 ^ 32) ≡ true → w < 2 ^ 32
 below_limit w e = grind (arith, e)
 
--- ---- weight, loops and calls
+-- ---- weight and shape
 
 pub weighs_same : (es : Words) (c : NodesT ℕ) → nodes_weight (folded es c) ≡ nodes_weight c
 weighs_same es Stop = refl
@@ -26,35 +28,29 @@ weighs_same es (Leave k c) = let h = weighs_same [] c in omega (arith, h)
 weighs_same es (Again k c) = let h = weighs_same [] c in omega (arith, h)
 weighs_same es (Return p c) = let h = weighs_same [] c in omega (arith, h)
 
-loops_same : (es : Words) (c : NodesT ℕ) → loops (folded es c) ≡ loops c
-loops_same es Stop = refl
-loops_same es (Do o c) = loops_same (known_behind es (folded_op es o)) c
-loops_same es (Call t f args c) = loops_same [] c
-loops_same es (Choose p a b c) = λ i. loops_same es a i + (loops_same es b i + loops_same [] c i)
-loops_same es (Block b c) = λ i. loops_same es b i + loops_same [] c i
-loops_same es (Loop b c) = λ i. suc (loops_same [] b i + loops_same [] c i)
-loops_same es (Leave k c) = loops_same [] c
-loops_same es (Again k c) = loops_same [] c
-loops_same es (Return p c) = loops_same [] c
+-- loads, stores, locals that are made or ended, and what ports do stay
+kept_op : (es : Words) (o : OpT ℕ) → shape.stays (folded_op es o) ≡ shape.stays o
+kept_op es (MoveO t a) = stays (λ p. shape.stays p ≡ None) t (MoveO t a) (word_in es a) refl (λ w f. refl)
+kept_op es (OneO o t a) = stays (λ p. shape.stays p ≡ None) t (OneO o t a) (one_known o (word_in es a)) refl (λ w f. refl)
+kept_op es (TwoO o t a b) = stays (λ p. shape.stays p ≡ None) t (TwoO o t a b) (two_known o (word_in es a) (word_in es b)) refl (λ w f. refl)
+kept_op es o = refl
 
-calls_same : (g : ℕ) (es : Words) (c : NodesT ℕ) → CallsTo g (folded es c) → CallsTo g c
-calls_same g es Stop h = h
-calls_same g es (Do o c) h = calls_same g (known_behind es (folded_op es o)) c h
-calls_same g es (Call t f args c) (inl e) = inl e
-calls_same g es (Call t f args c) (inr h) = inr (calls_same g [] c h)
-calls_same g es (Choose p a b c) (inl h) = inl (calls_same g es a h)
-calls_same g es (Choose p a b c) (inr (inl h)) = inr (inl (calls_same g es b h))
-calls_same g es (Choose p a b c) (inr (inr h)) = inr (inr (calls_same g [] c h))
-calls_same g es (Block b c) (inl h) = inl (calls_same g es b h)
-calls_same g es (Block b c) (inr h) = inr (calls_same g [] c h)
-calls_same g es (Loop b c) (inl h) = inl (calls_same g [] b h)
-calls_same g es (Loop b c) (inr h) = inr (calls_same g [] c h)
-calls_same g es (Leave k c) h = calls_same g [] c h
-calls_same g es (Again k c) h = calls_same g [] c h
-calls_same g es (Return p c) h = calls_same g [] c h
+same_skeleton : (es : Words) (c : NodesT ℕ) → skeleton (folded es c) ≡ skeleton c
+same_skeleton es Stop = refl
+same_skeleton es (Do o c) = λ i. some_before (kept_op es o i) (same_skeleton (known_behind es (folded_op es o)) c i)
+same_skeleton es (Call t f args c) = λ i. Call (some_place t) f (map (λ a. tt) args) (same_skeleton [] c i)
+same_skeleton es (Choose p a b c) = λ i. Choose tt (same_skeleton es a i) (same_skeleton es b i) (same_skeleton [] c i)
+same_skeleton es (Block b c) = λ i. Block (same_skeleton es b i) (same_skeleton [] c i)
+same_skeleton es (Loop b c) = λ i. Loop (same_skeleton [] b i) (same_skeleton [] c i)
+same_skeleton es (Leave k c) = ap (Leave k) (same_skeleton [] c)
+same_skeleton es (Again k c) = ap (Again k) (same_skeleton [] c)
+same_skeleton es (Return p c) = ap (Return (some_place p)) (same_skeleton [] c)
+
+folded_shape : (c : NodesT ℕ) → SameShape c (folded [] c)
+folded_shape c = same_shape c (folded [] c) (same_skeleton [] c)
 
 pub adds_none : (c : NodesT ℕ) → AddsNone c (folded [] c)
-adds_none c = record { loop_count = (let e = loops_same [] c in omega (arith, e)); calls = λ g h. calls_same g [] c h }
+adds_none c = (folded_shape c).adds_none
 
 pub none_add : (fs : List (FunctionT ℕ)) → NoneAdd fs (map folded_function fs)
 none_add [] = tt
@@ -74,7 +70,7 @@ code_weighs x = λ i. weighs_same [] x.start.body i + functions_weigh x.function
 
 pub each_folded : (fs : List (FunctionT ℕ)) → EachFolded fs (map folded_function fs)
 each_folded [] = tt
-each_folded (f ∷ fs) = (record { temporaries = refl; params = refl; locals = refl; gives = refl }, each_folded fs)
+each_folded (f ∷ fs) = (record { temporaries = refl; params = refl; locals = refl; gives = refl; together = (folded_shape f.body).at_once }, each_folded fs)
 
 -- ---- names
 

@@ -3,14 +3,16 @@ use Rattle.std.specs.Prelude.{ℕ, ◌≡◌, List, [], ◌∷◌, Option}
 use Rattle.mid_code.specs.Code.{FunctionT, CodeT}
 use Rattle.mid_code.specs.Runs.{mid_runs, weight}
 use Rattle.mid_code.specs.Invariants.{IsMid}
+use Rattle.mid_code.specs.Open.{LiveAtOnce}
 use Rattle.mid_code.specs.Calls.{AddsNone, NoneAdd}
 
--- A function keeps its temporaries, parameters and locals.
+-- A function keeps its temporaries, parameters and locals; locals that lived at once still do.
 pub record IsFoldedFunction (f g : FunctionT ℕ) : Type 0 where
   pub temporaries : g.temps ≡ f.temps
   pub params : g.params ≡ f.params
   pub locals : g.locals ≡ f.locals
   pub gives : g.gives ≡ f.gives
+  pub together : (ks : List ℕ) → LiveAtOnce f.body ks → LiveAtOnce g.body ks
 
 abbrev pub EachFolded : List (FunctionT ℕ) → List (FunctionT ℕ) → Type 0
 EachFolded [] [] = Unit {0}

@@ -12,10 +12,10 @@ use Rattle.mid_code.specs.Code.{FunctionT, CodeT}
 use Rattle.mid_code.specs.Placed.{PlacedT}
 use Rattle.mid_code.specs.Invariants.{DifferFrom, AreDifferent}
 use Rattle.mid_code.specs.Safe.{IsSafe}
+use Rattle.mid_code.specs.Together.{WordsAtOnce}
 use Rattle.mid_lower.specs.LoweredFrom.{IsLoweredFunction, EachLowered, IsLoweredFrom}
 use Rattle.mid_scalars.specs.PromotedFrom.{Renumbered, IsPromotedFunction, EachPromoted, IsPromotedFrom}
 use Rattle.mid_copies.specs.SparedFrom.{IsSparedFunction, EachSpared, IsSparedFrom}
-use Rattle.reg_frames.proofs.AtOnce.{different_words}
 use Rattle.reg_frames.specs.PlacedFrom.{IsFrameOf, AreFrames, IsPlacedFrom}
 use Rattle.mid_code.specs.Live.{is_among}
 use Rattle.mid_code.specs.Choices.{with_slot, slots_from, slot_count, EachSafe, AreSafe}
@@ -46,12 +46,6 @@ slot_few ns (Slot number) = cond_few (is_among ns number) ns number
 slots_few_from : (ns : List ℕ) (at : List Where) → length (slots_from ns at) ≤ length ns + length at
 slots_few_from ns [] = omega arith
 slots_few_from ns (w ∷ ws) = omega (arith, slot_few ns w, slots_few_from (with_slot ns w) ws)
-
--- the words of different locals
-record AreWords (f : FunctionT ℕ) (sizes : List ℕ) : Type 0 where
-  locals : List ℕ
-  different : AreDifferent locals
-  words : sizes ≡ map (λ k. get_or f.locals k 0) locals
 
 slots_few : (at : List Where) → slot_count at ≤ length at
 slots_few at = omega (arith, slots_few_from [] at)
@@ -98,24 +92,26 @@ module _ (g h : FunctionT ℕ) (b : IsPromotedFunction g h) where
   different (k ∷ ks) [] d r = absurd r
   different (k ∷ ks) (j ∷ js) d r = (differs k j ks js r.0 d.0 r.1, different ks js d.1 r.1)
 
-  large_stay : (sizes : List ℕ) → AllTwo sizes → AreWords g sizes → AreWords h sizes
+  large_stay : (sizes : List ℕ) → AllTwo sizes → WordsAtOnce g sizes → WordsAtOnce h sizes
   large_stay sizes t w =
       let r = numbers w.locals (subst AllTwo w.words t) in
       record {
         locals = r.0;
         different = different w.locals r.0 w.different r.1;
+        together = b.together w.locals r.0 r.1 w.together;
         words = w.words ∙ same_words w.locals r.0 r.1;
       }
 
 -- ---- the frame
 
--- code without copies keeps the locals
-same_stay : (g h : FunctionT ℕ) → IsSparedFunction g h → (sizes : List ℕ) → AreWords g sizes → AreWords h sizes
-same_stay g h r sizes w = record { locals = w.locals; different = w.different; words = w.words ∙ ap (λ locals. map (λ k. get_or locals k 0) w.locals) (sym r.locals) }
-
--- a frame with words for each local holds these
-holds : (h : FunctionT ℕ) (size : ℕ) (sizes : List ℕ) → sum h.locals ≤ size → AreWords h sizes → sum sizes ≤ size
-holds h size sizes all w = let words = ap sum w.words in omega (arith, different_words w.locals h.locals w.different, words, all)
+-- code without copies keeps the locals, and what lives at once
+same_stay : (g h : FunctionT ℕ) → IsSparedFunction g h → (sizes : List ℕ) → WordsAtOnce g sizes → WordsAtOnce h sizes
+same_stay g h r sizes w = record {
+  locals = w.locals;
+  different = w.different;
+  together = r.together w.locals w.together;
+  words = w.words ∙ ap (λ locals. map (λ k. get_or locals k 0) w.locals) (sym r.locals);
+}
 
 -- a function, promoted, without copies, and promoted again
 pub fits : (s : Setting) (f : TFunctionT) (g h i j : FunctionT ℕ) (at : List Where) (size : ℕ)
@@ -124,8 +120,7 @@ fits s f g h i j at size a b r q safe c = record {
   at_most = let locals = ap sum r.locals in omega (arith, c.at_most, slots_few at, safe.count, q.frame_words, r.temporaries, locals, b.frame_words, a.local_words, a.temporaries);
   at_least = λ sizes l.
       let two = subst AllTwo (sym l.words) (large_two f l.objects l.large) in
-      let w = a.together sizes l in
-      holds j size sizes c.holds_all (large_stay i j q sizes two (same_stay h i r sizes (large_stay g h b sizes two (record { locals = w.locals; different = w.different; words = w.words }))));
+      c.at_least sizes (large_stay i j q sizes two (same_stay h i r sizes (large_stay g h b sizes two (a.together sizes l))));
 }
 
 pub all_fit : (s : Setting) (fs : List TFunctionT) (gs hs is js : List (FunctionT ℕ)) (cs : List (List Where)) (sizes : List ℕ)

@@ -1,7 +1,7 @@
 //! A C source run by the definitions: by its meaning, or by its mid code as it is lowered, promoted, or spared of copies; and that code as a text.
 //!
 //! `tool_source SOURCE ANSWERS none|zeros BOUND meaning|lowered|promoted|spared SIZE ..` reads a source that includes no files but the headers and a
-//! file of port answers; it prints each port operation and the end, and of mid code what the run keeps and how large the code is.
+//! file of port answers; it prints each port operation, the end and the work, and of mid code what the run keeps and how large the code is.
 //! `tool_source SOURCE text lowered|promoted|spared` prints the mid code. It promises nothing beyond safety; what the runs give is promised by
 //! `c_evaluate` and `mid_evaluate`, and what the text says by `mid_text`.
 #![tactic(auto)]

@@ -18,12 +18,15 @@ fn put_end(rt: &HostRuntime, end: End) -> io::Result<()> {
     }
 }
 
-/// Puts each port operation of a run when it is made, and the end.
+/// Puts each port operation of a run when it is made, the end, and the work that the run took.
 fn put_run(rt: &HostRuntime, mut runner: Runner<'_>) -> io::Result<()> {
     'events: loop {
         match runner.advance() {
             Ok(Advanced::Made(event)) => put_event(rt, event)?,
-            Ok(Advanced::Ended(end)) => return put_end(rt, end),
+            Ok(Advanced::Ended(end)) => {
+                put_end(rt, end)?;
+                return println!(rt; "work {}", runner.work());
+            }
             Err(_) => return println!(rt; "no memory"),
         }
     }

@@ -1,9 +1,9 @@
 -- Constant folding: an operator whose words are known puts the word that it makes of them, and a move of a known word puts that word.
-use Rattle.std.specs.Prelude.{ℕ, ◌^◌, Bool, eqb, nat_lt, cond, min, take, length, List, [], ◌∷◌, map, Option, Some, None}
+use Rattle.std.specs.Prelude.{ℕ, ◌^◌, eqb, nat_lt, cond, min, take, length, List, [], ◌∷◌, map, Option, Some, None}
 use Rattle.v32_isa.specs.declared.instruction.One.{One}
 use Rattle.v32_isa.specs.declared.instruction.Two.{Two}
 use Rattle.v32_isa.specs.Arithmetic.{one_of, two_of}
-use Rattle.mid_code.specs.Code.{OpT, ConstO, NullO, MoveO, OneO, TwoO, GlobalO, LocalO, LiteralO, CardO, StepO, ApartO, PtrTestO, LoadO, StoreO, FreshO, EndO, InO, OutO, WaitO, HaltO, NodesT, Stop, Do, Call, Choose, Block, Loop, Leave, Again, Return, FunctionT, CodeT, target}
+use Rattle.mid_code.specs.Code.{OpT, ConstO, MoveO, OneO, TwoO, NodesT, Stop, Do, Call, Choose, Block, Loop, Leave, Again, Return, FunctionT, CodeT, target}
 
 -- ---- what is known at a point
 

@@ -1,5 +1,5 @@
 -- Code without copies is mid code.
-use Rattle.std.proofs.Common.{◌≡◌, ℕ, zero, suc, ◌<◌, inl, inr, Bool, true, false, cond, ◌||◌, eqb, List, [], ◌∷◌, map, length, sum, ◌≤◌, option_map, slice_get, Option, Some, None, refl, sym, ap, ◌∙◌, subst}
+use Rattle.std.proofs.Common.{◌≡◌, ℕ, zero, suc, ◌<◌, inl, inr, Bool, true, false, cond, eqb, List, [], ◌∷◌, map, length, sum, ◌≤◌, option_map, slice_get, Option, Some, None, refl, sym, ap, ◌∙◌, subst}
 use Rattle.mid_code.specs.Code.{OpT, ConstO, NullO, MoveO, OneO, TwoO, GlobalO, LocalO, LiteralO, CardO, StepO, ApartO, PtrTestO, LoadO, StoreO, FreshO, EndO, InO, OutO, WaitO, HaltO, NodesT, Stop, Do, Call, Choose, Block, Loop, Leave, Again, Return, FunctionT, CodeT, maybe, uses, target}
 use Rattle.mid_code.specs.Invariants.{IsOp, parameter_count, AreNodes, AllOf, NodeNames, Names, CallsNone, IsFunction, IsStart, IsTemporary, IsMid}
 use Rattle.mid_copies.specs.inner.Copying.{Copies, none_known, this_or, origin, with_copy, unless_is, without, behind, behind_maybe, used_up, Gone, with_uses, with_use, op_then, known_behind, spared, spared_function, AreSparedBy, IsSparedCode}

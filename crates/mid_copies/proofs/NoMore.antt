@@ -7,9 +7,21 @@ use Rattle.mid_code.specs.Runs.{nodes_weight, function_weight, weight}
 use Rattle.mid_code.specs.Calls.{NoneAdd}
 use Rattle.mid_code.specs.inner.Skeleton.{stays, some_before, some_place, skeleton, SameShape}
 use Rattle.mid_code.proofs.Skeletons.{same_shape}
-use Rattle.mid_copies.specs.inner.Copying.{Copies, none_known, origin, behind_maybe, used_up, Gone, with_use, op_then, known_behind, spared, spared_function, IsSparedBy, AreSparedBy, IsSparedCode}
+use Rattle.mid_copies.specs.inner.Copying.{Copies, none_known, origin, behind_maybe, used_up, Gone, with_use, op_then, known_behind, spared, IsSparedBy, AreSparedBy, IsSparedCode}
 use Rattle.mid_copies.proofs.WithUses.{op_either, weight_with}
 use Rattle.mid_copies.proofs.MidStill.{map_length}
+
+-- names that a skeleton does not have
+abbrev without_names : List ℕ → List (Unit {0})
+without_names args = map (λ a. tt) args
+
+same_arguments : (w : ℕ → ℕ) (args : List ℕ) → without_names (map w args) ≡ without_names args
+same_arguments w [] = refl
+same_arguments w (a ∷ args) = ap (λ (us : List (Unit {0})). tt ∷ us) (same_arguments w args)
+
+same_place : (w : ℕ → ℕ) (p : Option ℕ) → some_place (with_use w p) ≡ some_place p
+same_place w None = refl
+same_place w (Some p) = refl
 
 module _ (g : Gone) where
   op_lighter : (es : Copies) (o : OpT ℕ) (c : NodesT ℕ) (n : ℕ) → nodes_weight c ≤ n → nodes_weight (op_then g es o c) ≤ op_weight o + n
@@ -42,14 +54,6 @@ module _ (g : Gone) where
       go true = refl
       go false = refl
   op_skeleton es o c = refl
-
-  same_arguments : (w : ℕ → ℕ) (args : List ℕ) → map (λ a. tt) (map w args) ≡ map (λ a. tt) args
-  same_arguments w [] = refl
-  same_arguments w (a ∷ args) = ap (λ us. tt ∷ us) (same_arguments w args)
-
-  same_place : (w : ℕ → ℕ) (p : Option ℕ) → some_place (with_use w p) ≡ some_place p
-  same_place w None = refl
-  same_place w (Some p) = refl
 
   same_skeleton : (es : Copies) (c : NodesT ℕ) → skeleton (spared g es c) ≡ skeleton c
   same_skeleton es Stop = refl

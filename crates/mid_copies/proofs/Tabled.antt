@@ -1,10 +1,10 @@
 -- What is done to a table is done to its copies, and no slot gets later than it.
-use Rattle.std.proofs.Common.{◌≡◌, ℕ, suc, ◌+◌, ◌<◌, ◌≤◌, arith, Bool, true, false, ◌&&◌, cond, eqb, nat_le, List, [], Option, Some, None, refl, sym, ap, subst, ◌∙◌, leb-true, le-leb, eqb-true, eq-eqb}
-use Rattle.std.proofs.lemmas.Bool.{and_from, false≢true}
+use Rattle.std.proofs.Common.{◌≡◌, ℕ, ◌+◌, ◌<◌, ◌≤◌, arith, Bool, true, false, ◌&&◌, cond, eqb, nat_le, List, [], Some, None, refl, sym, ap, ◌∙◌, leb-true, le-leb, eqb-true, eq-eqb}
+use Rattle.std.proofs.lemmas.Bool.{and_from}
 use Rattle.mid_copies.specs.declared.slots.Slot.{Slot}
 use Rattle.mid_copies.specs.declared.table.Table.{Table}
-use Rattle.mid_copies.specs.inner.Copying.{Copies, none_known, without, unless_is, behind, with_copy}
-use Rattle.mid_copies.specs.inner.Slots.{no_slot, slot_at, with_slot, unknown, changed, holding, is_known, copies_in, is_past}
+use Rattle.mid_copies.specs.inner.Copying.{none_known, without, unless_is, behind, with_copy}
+use Rattle.mid_copies.specs.inner.Slots.{slot_at, with_slot, unknown, changed, holding, is_known, copies_in, is_past}
 use Rattle.mid_copies.specs.inner.Tables.{copies}
 use Rattle.mid_copies.proofs.KnownCells.{both}
 use Rattle.mid_copies.proofs.Slotted.{none_there}

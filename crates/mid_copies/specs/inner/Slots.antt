@@ -1,6 +1,6 @@
 -- Copies as a table has them: of each temporary which one had its cell, in which stretch of nodes and at which count of that one's cells, and how many
 -- cells it took itself.
-use Rattle.std.specs.Prelude.{ℕ, Bool, true, false, ◌&&◌, eqb, cond, nat_le, List, Option, Some, None, get_or}
+use Rattle.std.specs.Prelude.{ℕ, Bool, true, false, ◌&&◌, eqb, cond, nat_le, List, Some, None, get_or}
 use Rattle.mid_copies.specs.declared.slots.Slot.{Slot}
 use Rattle.mid_copies.specs.inner.Copying.{Copies}
 

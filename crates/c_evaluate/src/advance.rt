@@ -38,15 +38,7 @@ impl<'a> Machine<'a> {
             }
             Focus::Fill(n, i, ty, p) => {
                 spend(&mut self.store, 1);
-                fill(
-                    &self.setting,
-                    n,
-                    i,
-                    ty,
-                    p,
-                    &mut self.stack,
-                    &mut self.store,
-                )
+                fill(&self.setting, n, i, ty, p, &mut self.stack, &mut self.store)
             }
             Focus::Do(n, r, a) => {
                 spend(&mut self.store, 1);

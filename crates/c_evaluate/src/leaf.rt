@@ -390,7 +390,8 @@ pub(crate) fn nodes(x: &TExpr) -> u64 {
         TKind::Cast(a) => nodes(a).saturating_add(1),
         TKind::Binary(_, a, b) => nodes(a).saturating_add(nodes(b)).saturating_add(1),
         TKind::Index(a, b) => nodes(a).saturating_add(nodes(b)).saturating_add(1),
-        TKind::Number(_) | TKind::Null | TKind::Literal(_) | TKind::Global(_) | TKind::Local(_) => 1,
+        TKind::Number(_) | TKind::Null | TKind::Literal(_) | TKind::Global(_) | TKind::Local(_) =>
+            1,
         TKind::Assign(_, _, _) | TKind::Step(_, _) => 1,
         TKind::Call(_, _) | TKind::In(_) | TKind::Out(_, _) => 1,
         TKind::Wait | TKind::Halt | TKind::Card => 1,

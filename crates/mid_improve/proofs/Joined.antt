@@ -14,11 +14,11 @@ use Rattle.mid_improve.specs.inner.Listed.{op_known, op_settled, node_known, nod
 -- ---- what is known
 
 -- by the nodes before a point, and node by node
-record Tells (xs : Before) (k : Known) : Type 0 where
-  words : (q : ℕ) → word_of xs q ≡ fact_word (k q)
-  sources : (q : ℕ) → source_of xs q ≡ fact_source (k q)
+pub record Tells (xs : Before) (k : Known) : Type 0 where
+  pub words : (q : ℕ) → word_of xs q ≡ fact_word (k q)
+  pub sources : (q : ℕ) → source_of xs q ≡ fact_source (k q)
 
-none_tells : Tells [] none_known
+pub none_tells : Tells [] none_known
 none_tells = record { words = λ q. refl; sources = λ q. refl }
 
 -- behind a node that makes this temporary, of which nothing is known then
@@ -144,7 +144,7 @@ folds_by xs k (OutO port a) h = refl
 folds_by xs k WaitO h = refl
 folds_by xs k HaltO h = refl
 
-settled_by : (xs : Before) (k : Known) (c : NodesT ℕ) → Tells xs k → nodes_settled xs c ≡ all_settled k c
+pub settled_by : (xs : Before) (k : Known) (c : NodesT ℕ) → Tells xs k → nodes_settled xs c ≡ all_settled k c
 settled_by xs k Stop h = refl
 settled_by xs k (Do o c) h =
     let f = folds_by xs k o h in

@@ -61,10 +61,10 @@ module _ (n : ℕ) where
 
   -- ---- only the temporaries below the number count
 
-  abbrev Agree : Set → Set → Type 0
+  abbrev pub Agree : Set → Set → Type 0
   Agree s u = (y : ℕ) → nat_lt y n ≡ true → s y ≡ u y
 
-  abbrev AgreeIn : Labels → Labels → Type 0
+  abbrev pub AgreeIn : Labels → Labels → Type 0
   AgreeIn ls ks = (y : ℕ) → nat_lt y n ≡ true → ls y ≡ ks y
 
   wanted_same : (only : Bool) (t : ℕ) (s u : Set) → Agree s u → is_wanted n only t s ≡ is_wanted n only t u
@@ -75,11 +75,11 @@ module _ (n : ℕ) where
       go true e = a t e
       go false e = refl
 
-  maybe_same : (only : Bool) (t : Option ℕ) (s u : Set) → Agree s u → maybe_wanted n only t s ≡ maybe_wanted n only t u
+  pub maybe_same : (only : Bool) (t : Option ℕ) (s u : Set) → Agree s u → maybe_wanted n only t s ≡ maybe_wanted n only t u
   maybe_same only None s u a = refl
   maybe_same only (Some t) s u a = wanted_same only t s u a
 
-  live_same : (ls ks : Labels) (c : NodesT ℕ) (s u : Set) → AgreeIn ls ks → Agree s u → Agree (live_set ls c s) (live_set ks c u)
+  pub live_same : (ls ks : Labels) (c : NodesT ℕ) (s u : Set) → AgreeIn ls ks → Agree s u → Agree (live_set ls c s) (live_set ks c u)
   live_same ls ks c s u l a y h = λ i. is_live y (l y h i) c (a y h i)
 
   pub all_same : (ls ks : Labels) (c : NodesT ℕ) (s u : Set) → AgreeIn ls ks → Agree s u → all_wanted n ls c s ≡ all_wanted n ks c u
@@ -107,7 +107,7 @@ module _ (n : ℕ) where
   node_plain : (ls : Labels) (x : NodeT ℕ) (s : Set) → node_wanted n ls x s ≡ all_wanted n ls (before x Stop) s
   node_plain ls x s = sym (and_true (node_wanted n ls x s)) ∙ node_is ls x Stop s
 
-  node_same : (ls : Labels) (x : NodeT ℕ) (s u : Set) → Agree s u → node_wanted n ls x s ≡ node_wanted n ls x u
+  pub node_same : (ls : Labels) (x : NodeT ℕ) (s u : Set) → Agree s u → node_wanted n ls x s ≡ node_wanted n ls x u
   node_same ls x s u a = node_plain ls x s ∙ all_same ls ls (before x Stop) s u (λ y h. refl) a ∙ sym (node_plain ls x u)
 
   list_same : (ls ks : Labels) (xs : ListT ℕ) (s u : Set) → AgreeIn ls ks → Agree s u → list_wanted n ls xs s ≡ list_wanted n ks xs u

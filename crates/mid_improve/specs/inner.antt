@@ -5,3 +5,10 @@ pub mod Listed
 pub mod Marked
 pub mod Wanted
 pub mod Named
+pub mod Forward
+pub mod ForwardListed
+pub mod ForwardedFrom
+pub mod Sweep
+pub mod SweepListed
+pub mod SweptFrom
+pub mod Rounds

@@ -1,14 +1,18 @@
-//! Whether mid code is settled: in no function an operator whose words are known is left, or an operand that is a copy, or an operation that only puts
-//! something where nothing reads it.
+//! Settles mid code, and tells whether it is settled: in no function an operator whose words are known is left, or an operand that is a copy, or an operation
+//! that only puts something where nothing reads it.
 //!
-//! It promises that its answer is exact. It stands on mid_code and mid_live.
+//! It promises that what it gives is settled and does the same, and that its answer is exact. It stands on mid_code, mid_fold and mid_live.
 #![tactic(auto)]
 
+mod forward;
 mod live;
 mod runs;
 mod settled;
 mod slots;
+mod sweep;
 mod table;
 mod targets;
+mod turns;
 
 pub use settled::is_settled;
+pub use turns::improve;

@@ -70,7 +70,7 @@ fn know_op(table: &mut Table, o: &Op<u32>) -> Result<(), Memory>
 }
 
 /// Now the table has what is known behind a node.
-fn know_node(table: &mut Table, n: &Node<u32>) -> Result<(), Memory>
+pub(crate) fn know_node(table: &mut Table, n: &Node<u32>) -> Result<(), Memory>
     ensures { OnOk result (facts table.new ≡ node_known (facts table.old) (node n.now)) }
 {
     match n {

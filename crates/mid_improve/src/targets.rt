@@ -24,7 +24,7 @@ fn is_wanted(count: u32, only: bool, t: u32, s: &Live) -> bool
     !only || (!(t < count) || s.has(t as usize))
 }
 
-fn is_op_wanted(count: u32, o: &Op<u32>, s: &Live) -> bool
+pub(crate) fn is_op_wanted(count: u32, o: &Op<u32>, s: &Live) -> bool
     ensures { result ≡ op_wanted count o.now (on s.now) }
 {
     match o {

@@ -7,6 +7,7 @@ use kit_base::Memory;
 use mid_code::Mid;
 use mid_copies::spare_copies;
 use mid_evaluate::evaluate_mid;
+use mid_improve::{improve, is_settled};
 use mid_lower::lower;
 use mid_scalars::promote;
 use mid_text::write_mid;
@@ -24,6 +25,11 @@ fn code_of(alloc: Global, program: &Program, stage: Stage) -> Result<Mid, Memory
             let spared = spare_copies(alloc, first)?;
             promote(alloc, spared)
         }
+        Stage::Improved => {
+            let first = promote(alloc, code)?;
+            let improved = improve(alloc, first)?;
+            improve(alloc, promote(alloc, improved)?)
+        }
     }
 }
 
@@ -38,7 +44,17 @@ pub fn put_text(rt: &HostRuntime, program: &Program, stage: Stage) -> io::Result
     }
 }
 
-/// Runs a program by its mid code at a stage, and puts what it does and keeps and how large its code is.
+/// Puts whether code is settled.
+fn put_settled(rt: &HostRuntime, code: &Mid) -> io::Result<()> {
+    match is_settled(rt.alloc(), code) {
+        Ok(true) => println!(rt; "settled"),
+        Ok(false) => println!(rt; "not settled"),
+        Err(_) => println!(rt; "no memory"),
+    }
+}
+
+/// Runs a program by its mid code at a stage, and puts what it does and keeps and how large its code is, and whether improved code
+/// is settled.
 pub fn put_mid(
     rt: &HostRuntime,
     program: &Program,
@@ -52,7 +68,11 @@ pub fn put_mid(
         return println!(rt; "no memory");
     };
     match evaluate_mid(rt.alloc(), &code, frames, bound, answers, card) {
-        Ok(run) => put(rt, &run, size_of(code.code())),
-        Err(_) => println!(rt; "no memory"),
+        Ok(run) => put(rt, &run, size_of(code.code()))?,
+        Err(_) => println!(rt; "no memory")?,
+    }
+    match stage {
+        Stage::Improved => put_settled(rt, &code),
+        Stage::Lowered | Stage::Promoted | Stage::Spared => Ok(()),
     }
 }

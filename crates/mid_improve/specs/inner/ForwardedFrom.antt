@@ -1,0 +1,36 @@
+-- What forward propagation promises.
+use Rattle.std.specs.Prelude.{ℕ, ◌≡◌, true, List, [], ◌∷◌, Option}
+use Rattle.mid_code.specs.Code.{FunctionT, CodeT}
+use Rattle.mid_code.specs.Runs.{mid_runs, weight}
+use Rattle.mid_code.specs.Invariants.{IsMid}
+use Rattle.mid_code.specs.Calls.{AddsNone, NoneAdd}
+use Rattle.mid_code.specs.inner.Skeleton.{skeleton}
+use Rattle.mid_improve.specs.Settled.{nodes_settled}
+
+-- A function keeps its temporaries, parameters, locals and skeleton, and its runs are settled.
+pub record IsForwardedFunction (f g : FunctionT ℕ) : Type 0 where
+  pub temporaries : g.temps ≡ f.temps
+  pub params : g.params ≡ f.params
+  pub locals : g.locals ≡ f.locals
+  pub gives : g.gives ≡ f.gives
+  pub stays : skeleton g.body ≡ skeleton f.body
+  pub settled : nodes_settled [] g.body ≡ true
+
+abbrev pub EachForwarded : List (FunctionT ℕ) → List (FunctionT ℕ) → Type 0
+EachForwarded [] [] = Unit {0}
+EachForwarded (f ∷ fs) (g ∷ gs) = IsForwardedFunction f g × EachForwarded fs gs
+EachForwarded _ _ = ⊥
+
+pub record IsForwardedFrom (before after : CodeT ℕ) : Type 0 where
+  pub is_mid : IsMid after
+  -- each run is the same: its port operations, its end, the words that it keeps, and its work
+  pub runs : (frames : List ℕ) (n : ℕ) (answers : List ℕ) (card : Option (List ℕ))
+      → mid_runs after frames n answers card ≡ mid_runs before frames n answers card
+  pub weighs : weight after ≡ weight before
+  pub start : IsForwardedFunction before.start after.start
+  pub functions : EachForwarded before.functions after.functions
+  pub adds_none : NoneAdd before.functions after.functions
+  pub start_adds_none : AddsNone before.start.body after.start.body
+  pub globals : after.globals ≡ before.globals
+  pub literals : after.literals ≡ before.literals
+  pub main : after.main ≡ before.main

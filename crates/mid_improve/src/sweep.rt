@@ -1,0 +1,216 @@
+// The sweep: operations that only put something where nothing reads it are taken out.
+ghost use Rattle.std.specs.Prelude.{◌≡◌, ℕ, ◌<◌, ◌≤◌, ◌++◌, length, map, option_map, reverse, option_to_list, IfOk, OnOk, []};
+ghost use Rattle.mid_code.specs.Functions.{function, listed, node};
+ghost use Rattle.mid_code.specs.Whole.{mid};
+ghost use Rattle.mid_live.specs.Sets.{on, room};
+ghost use Rattle.mid_improve.specs.inner.Marked.{marks};
+ghost use Rattle.mid_improve.specs.inner.Sweep.{swept_function};
+ghost use Rattle.mid_improve.specs.inner.SweepListed.{node_left, list_left, node_swept, list_swept};
+ghost use Rattle.mid_improve.specs.inner.SweptFrom.{IsSweptFrom};
+
+use crate::live::{Marks, at_begin, at_end, before_op, head_of, nested, outside};
+use crate::targets::is_op_wanted;
+use kit_base::{Memory, Seq};
+use mid_code::laws::mid_code_is_sound;
+use mid_code::{Code, Function, Mid, Node, Op};
+use mid_live::{Kept, Live};
+use std::alloc::Global;
+
+fn copy_words(alloc: Global, words: &[u32]) -> Result<Vec<u32>, Memory>
+    ensures { IfOk result (λ r. r.items ≡ words.now) }
+{
+    Ok(words.to_vec(alloc)?)
+}
+
+fn copy_call(
+    alloc: Global,
+    target: Option<u32>,
+    function: u32,
+    arguments: &[u32],
+) -> Result<Op<u32>, Memory>
+    ensures { IfOk result (λ r. r ≡ Op.Call target function arguments.now) }
+{
+    let arguments = copy_words(alloc, arguments)?;
+    Ok(Op::Call(target, function, Seq::from_vec(arguments)))
+}
+
+fn copy_op(alloc: Global, o: &Op<u32>) -> Result<Op<u32>, Memory>
+    ensures { IfOk result (λ r. r ≡ o.now) }
+{
+    Ok(match o {
+        Op::Const(t, word) => Op::Const(*t, *word),
+        Op::Null(t) => Op::Null(*t),
+        Op::Move(t, a) => Op::Move(*t, *a),
+        Op::One(o, t, a) => Op::One(*o, *t, *a),
+        Op::Two(o, t, a, b) => Op::Two(*o, *t, *a, *b),
+        Op::Global(t, number) => Op::Global(*t, *number),
+        Op::Local(t, k) => Op::Local(*t, *k),
+        Op::Literal(t, number) => Op::Literal(*t, *number),
+        Op::Card(t) => Op::Card(*t),
+        Op::Step(t, p, n) => Op::Step(*t, *p, *n),
+        Op::Apart(t, p, q) => Op::Apart(*t, *p, *q),
+        Op::PtrTest(o, t, p, q) => Op::PtrTest(*o, *t, *p, *q),
+        Op::Load(t, p) => Op::Load(*t, *p),
+        Op::Store(p, a) => Op::Store(*p, *a),
+        Op::Fresh(k) => Op::Fresh(*k),
+        Op::End(k) => Op::End(*k),
+        Op::Call(t, f, arguments) => copy_call(alloc, *t, *f, arguments.as_slice())?,
+        Op::In(t, port) => Op::In(*t, *port),
+        Op::Out(port, a) => Op::Out(*port, *a),
+        Op::Wait => Op::Wait,
+        Op::Halt => Op::Halt,
+    })
+}
+
+/// The operation, where it is wanted; and then the set becomes what is live before it.
+fn sweep_op(
+    alloc: Global,
+    count: u32,
+    o: &Op<u32>,
+    m: &Marks,
+    s: &mut Live,
+) -> Result<Option<Node<u32>>, Memory>
+    ensures len { OnOk result (length s.new ≡ length s.old) }
+    ensures is { OnOk result ((y : ℕ) → y < room s.old → on s.new y ≡ node_left count (λ y. marks y m.now) (node (Node.Do o.now)) (on s.old) y) }
+    ensures nodes { IfOk result (λ r. option_map node r ≡ node_swept count (λ y. marks y m.now) (node (Node.Do o.now)) (on s.old)) }
+{
+    if !is_op_wanted(count, o, &*s) {
+        return Ok(None);
+    }
+    before_op(o, m, s);
+    Ok(Some(Node::Do(copy_op(alloc, o)?)))
+}
+
+/// Makes the set what is live before a node, without what is taken out; the node, where it stays.
+#[cycle(sweep)]
+fn sweep_node(
+    alloc: Global,
+    count: u32,
+    n: &Node<u32>,
+    m: &Marks,
+    s: &mut Live,
+) -> Result<Option<Node<u32>>, Memory>
+    requires fits { count ≤ room s.old }
+    ensures len { OnOk result (length s.new ≡ length s.old) }
+    ensures is { OnOk result ((y : ℕ) → y < count → on s.new y ≡ node_left count (λ y. marks y m.now) (node n.now) (on s.old) y) }
+    ensures nodes { IfOk result (λ r. option_map node r ≡ node_swept count (λ y. marks y m.now) (node n.now) (on s.old)) }
+{
+    match n {
+        Node::Do(o) => sweep_op(alloc, count, o, m, s),
+        Node::Choose(p, a, b) => {
+            let behind = s.kept(alloc)?;
+            let second = sweep_nodes(alloc, count, b.as_slice(), &*m, s)?;
+            let other = s.kept(alloc)?;
+            s.restore(&behind);
+            let first = sweep_nodes(alloc, count, a.as_slice(), &*m, s)?;
+            s.join(&other);
+            s.put(*p as usize);
+            Ok(Some(Node::Choose(*p, Seq::from_vec(first), Seq::from_vec(second))))
+        }
+        Node::Block(b) => {
+            let ends = s.kept(alloc)?;
+            let begins = Kept::none(alloc);
+            let inside = sweep_nodes(alloc, count, b.as_slice(), &nested(&begins, &ends, &*m), s)?;
+            Ok(Some(Node::Block(Seq::from_vec(inside))))
+        }
+        Node::Loop(b) => {
+            let ends = s.kept(alloc)?;
+            let head = head_of(alloc, b.as_slice(), &*m, s, &ends)?;
+            let inside = sweep_nodes(alloc, count, b.as_slice(), &nested(&head, &ends, &*m), s)?;
+            Ok(Some(Node::Loop(Seq::from_vec(inside))))
+        }
+        Node::Leave(k) => {
+            at_end(m, *k, s);
+            Ok(Some(Node::Leave(*k)))
+        }
+        Node::Again(k) => {
+            at_begin(m, *k, s);
+            Ok(Some(Node::Again(*k)))
+        }
+        Node::Return(p) => {
+            s.clear();
+            if let Some(p) = p {
+                s.put(*p as usize);
+            }
+            Ok(Some(Node::Return(*p)))
+        }
+    }
+}
+
+fn add(found: &mut Vec<Node<u32>>, kept: Option<Node<u32>>) -> Result<(), Memory>
+    ensures { OnOk result (found.new.items ≡ found.old.items ++ option_to_list kept) }
+{
+    if let Some(n) = kept {
+        found.push(n)?;
+    }
+    Ok(())
+}
+
+/// Makes the set what is live before nodes, without what is taken out; the nodes that stay.
+#[cycle(sweep)]
+fn sweep_nodes(
+    alloc: Global,
+    count: u32,
+    ns: &[Node<u32>],
+    m: &Marks,
+    s: &mut Live,
+) -> Result<Vec<Node<u32>>, Memory>
+    requires fits { count ≤ room s.old }
+    ensures len { OnOk result (length s.new ≡ length s.old) }
+    ensures is { OnOk result ((y : ℕ) → y < count → on s.new y ≡ list_left count (λ y. marks y m.now) (listed (map node ns.now)) (on s.old) y) }
+    ensures nodes { IfOk result (λ r. map node r.items ≡ list_swept count (λ y. marks y m.now) (listed (map node ns.now)) (on s.old)) }
+{
+    let mut found = Vec::new(alloc);
+    let mut i = ns.len();
+    while i > 0 {
+        i -= 1;
+        let kept = sweep_node(alloc, count, &ns[i], &*m, s)?;
+        add(&mut found, kept)?;
+    }
+    found.reverse();
+    Ok(found)
+}
+
+/// The function without the operations that only put something where nothing reads it. The error is want of memory.
+fn sweep_function(alloc: Global, f: &Function<u32>) -> Result<Function<u32>, Memory>
+    ensures { IfOk result (λ r. function r ≡ swept_function (function f.now)) }
+{
+    let mut behind = Live::none(alloc, f.temps as usize)?;
+    let body = sweep_nodes(alloc, f.temps, f.body.as_slice(), &outside(), &mut behind)?;
+    let params = copy_words(alloc, f.params.as_slice())?;
+    let locals = copy_words(alloc, f.locals.as_slice())?;
+    Ok(Function {
+        temps: f.temps,
+        params: Seq::from_vec(params),
+        locals: Seq::from_vec(locals),
+        result: f.result,
+        body: Seq::from_vec(body),
+    })
+}
+
+fn sweep_functions(alloc: Global, fs: &[Function<u32>]) -> Result<Vec<Function<u32>>, Memory>
+    ensures { IfOk result (λ r. map function r.items ≡ map swept_function (map function fs.now)) }
+{
+    let mut found = Vec::new(alloc);
+    for f in fs {
+        found.push(sweep_function(alloc, f)?)?;
+    }
+    Ok(found)
+}
+
+/// The code without the operations that only put something where nothing reads it. The error is want of memory, and then the code given is dropped.
+pub(crate) fn sweep_dead(alloc: Global, m: Mid) -> Result<Mid, Memory>
+    ensures swept { IfOk result (λ r. IsSweptFrom (mid m) (mid r)) }
+{
+    mid_code_is_sound(&m);
+    let of = m.into_code();
+    let start = sweep_function(alloc, &of.start)?;
+    let functions = sweep_functions(alloc, of.functions.as_slice())?;
+    Ok(Mid::new(Code {
+        start,
+        functions: Seq::from_vec(functions),
+        globals: of.globals,
+        literals: of.literals,
+        main: of.main,
+    }))
+}

@@ -1,0 +1,47 @@
+// Rounds of what settles code.
+ghost use Rattle.std.specs.Prelude.{IfOk};
+ghost use Rattle.mid_code.specs.Whole.{mid};
+ghost use Rattle.mid_improve.specs.ImprovedFrom.{IsImprovedFrom};
+ghost use Rattle.mid_improve.specs.inner.Rounds.{IsForwarded, IsRoundFrom};
+
+use crate::forward::forward_words;
+use crate::settled::is_settled;
+use crate::sweep::sweep_dead;
+use kit_base::Memory;
+use mid_code::Mid;
+use mid_fold::fold_words;
+use std::alloc::Global;
+
+/// The code with its known words worked out, in which no operand in a run is a copy.
+fn fold_and_forward(alloc: Global, m: Mid) -> Result<Mid, Memory>
+    ensures { IfOk result (λ r. IsForwarded (mid m) (mid r)) }
+{
+    let folded = fold_words(alloc, m)?;
+    let forward = forward_words(alloc, folded)?;
+    Ok(forward)
+}
+
+/// The code without what only puts something where nothing reads it, in which no operand in a run is a copy then.
+fn sweep_and_forward(alloc: Global, m: Mid) -> Result<Mid, Memory>
+    ensures { IfOk result (λ r. IsRoundFrom (mid m) (mid r)) }
+{
+    let swept = sweep_dead(alloc, m)?;
+    let forward = forward_words(alloc, swept)?;
+    Ok(forward)
+}
+
+/// The settled code: operators on known words are worked out, copies are used as what they are copies of, and what only puts something where nothing reads
+/// it is taken out, in rounds. Runs are kept, in no more work; one that strays may go on. Loads, stores, calls, loops, port operations and what makes or ends
+/// a local stay. The error is want of memory, and then the code given is dropped.
+#[tactic(auto, using(crate::proofs::Improving::round_falls, crate::proofs::Improving::improved))]
+pub fn improve(alloc: Global, m: Mid) -> Result<Mid, Memory>
+    ensures improved { IfOk result (λ r. IsImprovedFrom (mid m) (mid r)) }
+{
+    let mut now = fold_and_forward(alloc, m)?;
+    let mut settled = is_settled(alloc, &now)?;
+    'rounds: while !settled {
+        now = sweep_and_forward(alloc, now)?;
+        settled = is_settled(alloc, &now)?;
+    }
+    Ok(now)
+}

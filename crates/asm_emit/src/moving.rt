@@ -98,11 +98,7 @@ fn source_of(r: u32, moves: &[Move]) -> Where
 fn away(r: u32, p: Where) -> Where
     ensures { result ≡ away r p }
 {
-    if is_register(p, r) {
-        Where::Reg(10)
-    } else {
-        p
-    }
+    if is_register(p, r) { Where::Reg(10) } else { p }
 }
 
 /// Adds a move as it is left when register r is written.
@@ -129,12 +125,7 @@ fn left(alloc: Global, r: u32, moves: &[Move]) -> Result<Vec<Move>, Memory>
 }
 
 /// A register is written. Where a move takes its word, that goes to register 10 first.
-fn put_turn(
-    out: &mut Vec<AsmItem>,
-    s: &Scope<'_>,
-    r: u32,
-    moves: &[Move],
-) -> Result<(), Memory>
+fn put_turn(out: &mut Vec<AsmItem>, s: &Scope<'_>, r: u32, moves: &[Move]) -> Result<(), Memory>
     ensures { OnOk result (out.new.items ≡ out.old.items ++ moved_items (frame s.now) (turn r moves.now)) }
 {
     if is_taken(r, moves) {

@@ -4,7 +4,6 @@ use Rattle.std.specs.Prelude.{sum_by}
 use Rattle.std.specs.List.{fold}
 use Rattle.std.proofs.lemmas.List.Sums.{sum_by-cons}
 use Rattle.std.proofs.lemmas.Bool.{eqb-true, eq-eqb}
-use Rattle.mid_code.specs.declared.placed.Where.TheVariants.{Reg, Slot}
 use Rattle.mid_code.specs.Live.{is_among}
 use Rattle.mid_code.specs.declared.placed.Where.{Where}
 use Rattle.mid_code.specs.Code.{OpT, ConstO, NullO, MoveO, OneO, TwoO, GlobalO, LocalO, LiteralO, CardO, StepO, ApartO, PtrTestO, LoadO, StoreO, FreshO, EndO, InO, OutO, WaitO, HaltO, NodesT, Stop, Do, Call, Choose, Block, Loop, Leave, Again, Return, FunctionT, CodeT}
@@ -12,7 +11,7 @@ use Rattle.mid_code.specs.Meaning.{node_weight}
 use Rattle.mid_code.specs.States.{op_weight}
 use Rattle.mid_code.specs.Runs.{nodes_weight, function_weight, weight}
 use Rattle.mid_code.specs.Calls.{loops, CallsTo, AddsNone, NoneAdd}
-use Rattle.mid_code.specs.Invariants.{SpotWord, OfSlot, OfLocal, OfEmitter, StandsAt, slot, local, emitter, AreSpots, IsPlace, AllOf, DifferFrom, AreDifferent}
+use Rattle.mid_code.specs.Invariants.{SpotWord, OfSlot, OfLocal, OfEmitter, StandsAt, slot, local, emitter, AreSpots, AllOf, DifferFrom, AreDifferent}
 use Rattle.reg_frames.specs.inner.Placing.{placed_op, placed_nodes, placed_function, placing, frame_size, rising, begins_from, spots_of, placed_functions, placed}
 use Rattle.mid_code.specs.Choices.{slot_count}
 

@@ -1,7 +1,6 @@
 -- What `place` promises holds of the code by the choices.
-use Rattle.std.proofs.Common.{◌≡◌, ℕ, suc, ◌≤◌, List, [], ◌∷◌, map, length, refl, ap, arith}
+use Rattle.std.proofs.Common.{◌≡◌, ℕ, List, [], ◌∷◌, refl, arith}
 use Rattle.mid_code.specs.declared.placed.Where.{Where}
-use Rattle.mid_code.specs.declared.placed.Where.TheVariants.{Reg, Slot}
 use Rattle.mid_code.specs.Code.{FunctionT, CodeT}
 use Rattle.mid_code.specs.Placed.{SpotsT, PlacedT}
 use Rattle.mid_code.specs.Safe.{IsSafe}
@@ -13,7 +12,7 @@ use Rattle.reg_frames.specs.PlacedFrom.{AreFrames, IsPlacedFrom}
 use Rattle.reg_frames.proofs.Slots.{named_count}
 use Rattle.reg_frames.proofs.Frames.{weight_same, adds_none, none_added, numbers_few, size_at_most, size_at_least}
 use Rattle.reg_frames.proofs.AtOnce.{frame_holds}
-use Rattle.reg_frames.proofs.Invariants.{placed_is, function_placed}
+use Rattle.reg_frames.proofs.Invariants.{placed_is}
 use Rattle.reg_frames.proofs.Placed.{placed_keeps, placed_works}
 
 placeable : (x : CodeT ℕ) (f : FunctionT ℕ) (ws : List Where) → IsFunction IsTemporary x f → IsSafe f ws → IsPlaceable f ws

@@ -1,12 +1,11 @@
 -- Code over registers and slots, and the layout of frames.
-use Rattle.std.specs.Prelude.{ℕ, zero, suc, ◌+◌, ◌-◌, cond, eqb, List, [], ◌∷◌, map, sum, Option, Some, None}
+use Rattle.std.specs.Prelude.{ℕ, zero, suc, ◌+◌, cond, eqb, List, [], ◌∷◌, map, sum, Option, Some, None}
 use Rattle.mid_code.specs.declared.placed.Where.{Where}
 use Rattle.mid_code.specs.declared.placed.Where.TheVariants.{Reg, Slot}
 use Rattle.mid_code.specs.Code.{OpT, ConstO, NullO, MoveO, OneO, TwoO, GlobalO, LocalO, LiteralO, CardO, StepO, ApartO, PtrTestO, LoadO, StoreO}
 use Rattle.mid_code.specs.Code.{FreshO, EndO, InO, OutO, WaitO, HaltO, NodesT, Stop, Do, Call, Choose, Block, Loop, Leave, Again, Return, FunctionT}
 use Rattle.mid_code.specs.Code.{CodeT}
 use Rattle.mid_code.specs.Placed.{SpotsT, PlacedT}
-use Rattle.mid_code.specs.Invariants.{in_registers}
 use Rattle.mid_code.specs.Safe.{place_of}
 use Rattle.mid_code.specs.Choices.{slots_named, slot_count}
 

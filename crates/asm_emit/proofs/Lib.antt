@@ -1,5 +1,4 @@
 pub mod Calling
-pub mod Ordered
 pub mod InMemory
 pub mod Fronts
 pub mod Coded

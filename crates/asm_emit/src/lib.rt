@@ -8,7 +8,6 @@
 mod ahead;
 mod calls;
 mod hands;
-mod moving;
 mod names;
 mod nodes;
 mod operations;

@@ -1,5 +1,4 @@
 pub mod Names
-pub mod Moves
 pub mod Operations
 pub mod Framing
 pub mod Placing

@@ -64,8 +64,8 @@ fn read_enumerator(
     demanded(
         span,
         Code::Twice,
-        is_free(&reading.globals, value.0.bytes()),
+        is_free(&reading.globals, &value.0),
     )?;
-    declare(alloc, reading, value.0.bytes(), Decl::Constant(number))?;
+    declare(reading, &value.0, Decl::Constant(number))?;
     Ok(wrap_add(number, 1))
 }

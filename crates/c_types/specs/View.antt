@@ -55,7 +55,7 @@ abbrev pub named : List ℕ → Member → MemberT
 named name m = record { name = name; offset = m.offset; ty = ctype m.ty }
 
 abbrev pub layout : Layout → LayoutT
-layout l = record { is_union = l.is_union; members = map (λ e. named e.0.items e.1) l.members.entries; size = l.size }
+layout l = record { is_union = l.is_union; members = map (λ e. named e.0 e.1) l.members.entries; size = l.size }
 
 abbrev pub kind_layer : TKind-F TKindT TExprT → TKindT
 kind_layer (k.Number n) = NumberK n

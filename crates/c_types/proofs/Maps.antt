@@ -2,12 +2,12 @@
 use Rattle.std.specs.Option.{option_copied}
 use Rattle.std.specs.Str.{bytes_eq}
 use Rattle.std.specs.Map.{lookup}
-use Rattle.std.proofs.Common.{◌≡◌, ◌^◌, ◌-◌, min, ℕ, Bool, true, false, cond, List, [], ◌∷◌, ◌++◌, map, Option, Some, None, is_some, option_map, Bor, refl, sym, ap, ◌∙◌}
+use Rattle.std.proofs.Common.{◌≡◌, ◌^◌, ◌-◌, min, ℕ, Bool, true, false, cond, List, [], ◌∷◌, ◌++◌, map, Option, Some, None, is_some, option_map, Bor, refl, ap, ◌∙◌}
 use Rattle.std.proofs.lemmas.Slice.Eq.{bytes_eq-Decides}
 use Rattle.indexmap.specs.IndexMap.{insert_entry}
-use Rattle.c_types.specs.Types.{MemberT, LayoutT, Ty}
+use Rattle.c_types.specs.Types.{MemberT, LayoutT}
 use Rattle.c_types.specs.declared.layout.Member.{Member}
-use Rattle.c_types.specs.Sizes.{member_named, offset_of, next_offset, size_with, with_member, capped}
+use Rattle.c_types.specs.Sizes.{member_named, next_offset, size_with, with_member, capped}
 use Rattle.c_types.specs.View.{named, ctype}
 
 abbrev pub Key : Type 0
@@ -48,14 +48,3 @@ inserted key x (e ∷ es) absent = elim (bytes_eq key e.0) as (λ b. is_some (co
 pub laid : (l : LayoutT) (key : Key) (x : Member) (words size : ℕ) (ms : List MemberT) → ms ≡ l.members ++ entry (key, x) ∷ [] → x.offset ≡ next_offset l → size ≡ min (size_with l words) (2 ^ 32 - 1)
     → record { is_union = l.is_union; members = ms; size = size } ≡ capped (with_member l key (ctype x.ty) words)
 laid l key x words size ms p q r = rw p (rw r (ap (λ (o : ℕ). record { is_union = l.is_union; members = l.members ++ record { name = key; offset = o; ty = ctype x.ty } ∷ []; size = min (size_with l words) (2 ^ 32 - 1) }) q))
-
-module _ (name : List ℕ) (es rest : List (Key × Member)) (k : Key) (m : Member) (is : es ≡ (k, m) ∷ rest) where
-  -- the first member has the name, or those behind it are asked
-  split : offset_of (map entry es) name ≡ option_map (λ m. m.offset) (cond (bytes_eq name k) (Some (named k m)) (member_named name (map entry rest)))
-  split = ap (λ (fs : List (Key × Member)). offset_of (map entry fs) name) is
-
-  pub here : bytes_eq name k ≡ true → Some m.offset ≡ offset_of (map entry es) name
-  here h = rw h at (sym split)
-
-  pub behind : bytes_eq name k ≡ false → offset_of (map entry rest) name ≡ offset_of (map entry es) name
-  behind h = rw h at (sym split)

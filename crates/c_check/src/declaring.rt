@@ -23,11 +23,7 @@ pub(crate) fn is_free(globals: &Globals, name: &Name) -> bool
 
 /// Gives the name this meaning, where it is free. The error is want of memory.
 #[tactic(auto, unfolding(crate::specs::Reading::named))]
-pub(crate) fn declare(
-    reading: &mut Reading,
-    name: &Name,
-    meaning: Decl,
-) -> Result<(), Memory>
+pub(crate) fn declare(reading: &mut Reading, name: &Name, meaning: Decl) -> Result<(), Memory>
     ensures named { OnOk result (un reading.new ≡ named name.now (decl meaning) (un reading.old)) }
     ensures objects { (un reading.new).globals ≡ (un reading.old).globals }
 {

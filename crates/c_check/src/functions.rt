@@ -55,9 +55,7 @@ fn read_parameter(alloc: Global, reading: &mut Reading, v: &Var) -> Result<CType
     let size = parameter_words(&reading.globals.layouts, &reading.globals.whole, &ty);
     let words = placed(v.span, size)?;
     let kept = copy_type(&ty)?;
-    reading
-        .state
-        .add_object(alloc, &v.name, words, kept)?;
+    reading.state.add_object(alloc, &v.name, words, kept)?;
     Ok(ty)
 }
 

@@ -6,4 +6,3 @@ pub mod Counts
 pub mod Outside
 pub mod Effects
 pub mod Store
-pub mod Spread

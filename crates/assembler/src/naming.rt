@@ -7,6 +7,7 @@ ghost use Rattle.assembler.specs.Faults.{unknown_from};
 use crate::labels::Labels;
 use asm_items::{AsmItem, Imm};
 use either::Either;
+use kit_base::Name;
 use v32_isa::{Instr, Mov, Src};
 
 fn src_immediate(s: &Src<Imm>) -> Option<&Imm>
@@ -53,22 +54,22 @@ pub fn has_immediate(i: &Instr<Imm>) -> bool
 }
 
 /// The label that an immediate names.
-fn name_in(imm: &Imm) -> Option<&[u8]>
+fn name_in(imm: &Imm) -> Option<&Name>
     ensures { option_map (λ n. n.now) result ≡ right imm.now }
 {
     match imm {
         Either::Left(_) => None,
-        Either::Right(name) => Some(name.bytes()),
+        Either::Right(name) => Some(name),
     }
 }
 
 /// The label whose address an item takes.
-fn named_in(item: &AsmItem) -> Option<&[u8]>
+fn named_in(item: &AsmItem) -> Option<&Name>
     ensures { option_map (λ n. n.now) result ≡ named_in item.now }
 {
     match item {
         AsmItem::Op(i) => name_in(immediate(i)?),
-        AsmItem::Pointer(name) => Some(name.bytes()),
+        AsmItem::Pointer(name) => Some(name),
         AsmItem::Label(_) | AsmItem::Integer(_) => None,
     }
 }

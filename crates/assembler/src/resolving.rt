@@ -24,7 +24,7 @@ impl<'a> Immediates<Imm, u32> for Labels<'a> {
     fn placed(&self, imm: &Imm) -> u32 {
         match imm {
             Either::Left(word) => *word,
-            Either::Right(name) => self.word_of(name.bytes()),
+            Either::Right(name) => self.word_of(name),
         }
     }
 }
@@ -54,7 +54,7 @@ fn put_item(words: &mut Vec<u32>, labels: &Labels<'_>, item: &AsmItem) -> Result
             Ok(())
         }
         AsmItem::Pointer(name) => {
-            words.push(labels.word_of(name.bytes()))?;
+            words.push(labels.word_of(name))?;
             Ok(())
         }
     }

@@ -25,7 +25,7 @@ impl<'a> Survey<'a> {
     {
         match item {
             AsmItem::Label(name) => {
-                let added = self.labels.add(name.bytes(), address)?;
+                let added = self.labels.add(name, address)?;
                 if !added && self.twice.is_none() {
                     self.twice = Some(number);
                 }

@@ -127,7 +127,7 @@ fn table_of<'a>(alloc: Global, labels: &'a [(Name, u32)]) -> Result<Option<Label
     let mut table = Labels::new(alloc);
     let mut rest = labels;
     'each: while let Some(((name, address), after)) = rest.split_first() {
-        if !table.add(name.bytes(), *address as u64)? {
+        if !table.add(name, *address as u64)? {
             return Ok(None);
         }
         rest = after;
@@ -143,7 +143,7 @@ fn part_word(labels: &Labels<'_>, part: &Imm) -> Option<u32>
 {
     match part {
         Either::Left(word) => Some(*word),
-        Either::Right(name) => Some(labels.address_of(name.bytes())? as u32),
+        Either::Right(name) => Some(labels.address_of(name)? as u32),
     }
 }
 

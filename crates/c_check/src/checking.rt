@@ -7,13 +7,14 @@ ghost use Rattle.c_tree.specs.View.{item, unit};
 ghost use Rattle.c_rules.specs.declared.code.Code.{Code};
 ghost use Rattle.c_exprs.specs.declared.error.CheckErr.TheVariants.{At};
 ghost use Rattle.c_exprs.specs.Faults.{at};
+ghost use Rattle.c_exprs.specs.Env.{find};
 ghost use Rattle.c_exprs.specs.Gives.{Gives};
 ghost use Rattle.c_exprs.specs.View.{bodies, names};
 ghost use Rattle.c_types.specs.View.{ctype, function};
 ghost use Rattle.c_rules.specs.Kinds.{holds};
 ghost use Rattle.c_check.specs.Reading.{bodies_of, body_name, numbered, same_types};
 ghost use Rattle.c_check.specs.View.{program, un};
-ghost use Rattle.c_check.specs.Whole.{WellTyped, IsProgram, FirstBroken, checked, is_plain, last_token, item_span, main_of, program_of};
+ghost use Rattle.c_check.specs.Whole.{WellTyped, IsProgram, FirstBroken, checked, is_plain, last_token, item_span, main_of, plain_number, program_of};
 ghost use Rattle.c_types.specs.Programs.{ProgramT};
 
 use crate::access::of_parts;
@@ -47,16 +48,24 @@ fn has_no_types(types: &[CType]) -> bool
     }
 }
 
-/// The number of `void main()`.
-fn main_number(reading: &Reading) -> Option<u32>
-    ensures { result ≡ main_of (un reading.now) }
+/// The number of a function of that name that has a body, no parameters and no result.
+fn plain_number(reading: &Reading, name: &Name) -> Option<u32>
+    ensures { result ≡ plain_number (un reading.now).functions (find name.now (un reading.now).bodies) }
 {
-    let number = reading.globals.body("main".as_bytes())?;
+    let number = reading.globals.body(name)?;
     if is_plain(reading.functions.get(number as usize)) {
         Some(number)
     } else {
         None
     }
+}
+
+/// The number of `void main()`. The error is want of memory.
+fn main_number(alloc: Global, reading: &Reading) -> Result<Option<u32>, Memory>
+    ensures number { IfOk result (λ r. r ≡ main_of (un reading.now)) }
+{
+    let name = Name::new(alloc, "main")?;
+    Ok(plain_number(reading, &name))
 }
 
 fn item_span(one: &Item) -> Span
@@ -101,7 +110,7 @@ fn body_name(one: &Item) -> Option<&Name>
 }
 
 /// Gives a function the number, where it has none. The error is want of memory.
-fn number_body(alloc: Global, globals: &mut Globals, name: &[u8], number: u32) -> Result<(), Memory>
+fn number_body(globals: &mut Globals, name: &Name, number: u32) -> Result<(), Memory>
     ensures numbered { OnOk result (bodies globals.new ≡ numbered name.now number (bodies globals.old)) }
     ensures names { OnOk result (names globals.new ≡ names globals.old) }
     ensures layouts { OnOk result (globals.new.layouts ≡ globals.old.layouts) }
@@ -110,8 +119,8 @@ fn number_body(alloc: Global, globals: &mut Globals, name: &[u8], number: u32) -
     if globals.body(name).is_some() {
         return Ok(());
     }
-    let name = Vec::from_slice(alloc, name)?;
-    globals.set_body(name, number)
+    let key = name.copy()?;
+    globals.set_body(key, number)
 }
 
 /// The numbers of the functions with a body, where nothing is declared yet. The error is want of memory.
@@ -126,7 +135,7 @@ fn number_bodies(alloc: Global, items: &[Item]) -> Result<Globals, Memory>
     let mut number = 0u32;
     for one in items {
         if let Some(name) = body_name(one) {
-            number_body(alloc, &mut globals, name.bytes(), number)?;
+            number_body(&mut globals, name, number)?;
             number += 1;
         }
     }
@@ -156,7 +165,8 @@ fn checked(alloc: Global, items: &[Item]) -> Result<Program, CheckErr>
     let globals = number_bodies(alloc, items)?;
     let mut reading = Reading::new(alloc, globals);
     read_items(alloc, &mut reading, items)?;
-    let main = known(last_token(items), Code::NoMain, main_number(&reading))?;
+    let number = main_number(alloc, &reading)?;
+    let main = known(last_token(items), Code::NoMain, number)?;
     Ok(program_of(reading, main))
 }
 

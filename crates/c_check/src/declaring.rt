@@ -15,28 +15,23 @@ use kit_base::{Memory, Name};
 use std::alloc::Global;
 
 /// Whether a name of the unit is declared nowhere so far.
-pub(crate) fn is_free(globals: &Globals, name: &[u8]) -> bool
+pub(crate) fn is_free(globals: &Globals, name: &Name) -> bool
     ensures free { result ≡ names_free name.now (names globals.now) }
 {
-    globals.find(name).is_none() && !is_intrinsic(name)
+    globals.find(name).is_none() && !is_intrinsic(name.bytes())
 }
 
 /// Gives the name this meaning, where it is free. The error is want of memory.
 #[tactic(auto, unfolding(crate::specs::Reading::named))]
-pub(crate) fn declare(
-    alloc: Global,
-    reading: &mut Reading,
-    name: &[u8],
-    meaning: Decl,
-) -> Result<(), Memory>
+pub(crate) fn declare(reading: &mut Reading, name: &Name, meaning: Decl) -> Result<(), Memory>
     ensures named { OnOk result (un reading.new ≡ named name.now (decl meaning) (un reading.old)) }
     ensures objects { (un reading.new).globals ≡ (un reading.old).globals }
 {
     if !is_free(&reading.globals, name) {
         return Ok(());
     }
-    let name = Vec::from_slice(alloc, name)?;
-    reading.globals.declare(name, meaning)
+    let key = name.copy()?;
+    reading.globals.declare(key, meaning)
 }
 
 /// The type of the structure, or of the union, of that number.
@@ -64,7 +59,7 @@ pub(crate) fn enter_record(
     alloc: Global,
     reading: &mut Reading,
     is_union: bool,
-    name: &[u8],
+    name: &Name,
 ) -> Result<(), Memory>
     requires few { length (un reading.old).layouts ≤ 200000 }
     ensures entered { OnOk result (un reading.new ≡ record_entered is_union name.now (un reading.old)) }
@@ -75,8 +70,8 @@ pub(crate) fn enter_record(
     let number = next_number(&reading.globals);
     reading.globals.layouts.push(Layout::new(alloc, is_union))?;
     reading.globals.whole.push(false)?;
-    reading.records.push(Name::from_bytes(alloc, name)?)?;
-    let key = Vec::from_slice(alloc, name)?;
+    reading.records.push(name.copy()?)?;
+    let key = name.copy()?;
     reading.globals.declare(
         key,
         Decl::Alias(with_elements(record_type(is_union, number))),
@@ -85,7 +80,7 @@ pub(crate) fn enter_record(
 
 /// Makes the name that of the next enumeration, where it is free. The error is want of memory.
 #[tactic(auto, unfolding(crate::specs::Reading::enum_entered))]
-pub(crate) fn enter_enum(alloc: Global, reading: &mut Reading, name: &[u8]) -> Result<(), Memory>
+pub(crate) fn enter_enum(reading: &mut Reading, name: &Name) -> Result<(), Memory>
     requires few { (un reading.old).enums ≤ 200000 }
     ensures entered { OnOk result (un reading.new ≡ enum_entered name.now (un reading.old)) }
 {
@@ -93,7 +88,7 @@ pub(crate) fn enter_enum(alloc: Global, reading: &mut Reading, name: &[u8]) -> R
         return Ok(());
     }
     let number = reading.enums;
-    let key = Vec::from_slice(alloc, name)?;
+    let key = name.copy()?;
     reading
         .globals
         .declare(key, Decl::Alias(with_elements(CType::Enum(number))))?;
@@ -116,16 +111,16 @@ fn number_as(is_union: bool, ty: &CType) -> Option<u32>
     }
 }
 
-fn is_own(name: &[u8], records: &[Name], number: u32) -> bool
+fn is_own(name: &Name, records: &[Name], number: u32) -> bool
     ensures { result ≡ holds (bytes_eq name.now) (slice_get records.now number) }
 {
     match records.get(number as usize) {
-        Some(own) => name == own.bytes(),
+        Some(own) => name == own,
         None => false,
     }
 }
 
-fn own_number(name: &[u8], records: &[Name], number: Option<u32>) -> Result<u32, Code>
+fn own_number(name: &Name, records: &[Name], number: Option<u32>) -> Result<u32, Code>
     ensures { result ≡ own_number name.now records.now number }
 {
     match number {
@@ -142,7 +137,7 @@ fn own_number(name: &[u8], records: &[Name], number: Option<u32>) -> Result<u32,
 
 /// The number of the structure, or of the union, that has this name; Twice for a name of anything else.
 #[tactic(auto, unfolding(crate::specs::Reading::record_number))]
-pub(crate) fn record_number(reading: &Reading, is_union: bool, name: &[u8]) -> Result<u32, Code>
+pub(crate) fn record_number(reading: &Reading, is_union: bool, name: &Name) -> Result<u32, Code>
     ensures number { result ≡ record_number is_union name.now (un reading.now) }
 {
     match reading.globals.find(name) {

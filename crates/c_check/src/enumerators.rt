@@ -61,11 +61,7 @@ fn read_enumerator(
     ensures { Gives (λ r. (r, un reading.new)) result (named_enumerator (un reading.old) span next (value.now.0, option_map expr value.now.1)) }
 {
     let number = read_number(alloc, reading, next, &value.1)?;
-    demanded(
-        span,
-        Code::Twice,
-        is_free(&reading.globals, value.0.bytes()),
-    )?;
-    declare(alloc, reading, value.0.bytes(), Decl::Constant(number))?;
+    demanded(span, Code::Twice, is_free(&reading.globals, &value.0))?;
+    declare(reading, &value.0, Decl::Constant(number))?;
     Ok(wrap_add(number, 1))
 }

@@ -46,7 +46,7 @@ fn read_parameter(alloc: Global, reading: &mut Reading, v: &Var) -> Result<CType
     ensures { Gives (λ r. (ctype r, un reading.new)) result (parameter (un reading.old) (var v.now)) }
 {
     let ty = type_at(alloc, reading, v.span, &v.ty)?;
-    if !reading.state.is_new(v.name.bytes()) {
+    if !reading.state.is_new(&v.name) {
         return Err(CheckErr::At {
             code: Code::Twice,
             span: v.span,
@@ -55,9 +55,7 @@ fn read_parameter(alloc: Global, reading: &mut Reading, v: &Var) -> Result<CType
     let size = parameter_words(&reading.globals.layouts, &reading.globals.whole, &ty);
     let words = placed(v.span, size)?;
     let kept = copy_type(&ty)?;
-    reading
-        .state
-        .add_object(alloc, v.name.bytes(), words, kept)?;
+    reading.state.add_object(alloc, &v.name, words, kept)?;
     Ok(ty)
 }
 
@@ -150,7 +148,7 @@ fn is_number(number: Option<u32>, count: usize) -> bool
 }
 
 /// Whether a body is the one that its function's number stands for.
-fn is_own_body(reading: &Reading, name: &[u8], body: &Option<Seq<Stmt>>) -> bool
+fn is_own_body(reading: &Reading, name: &Name, body: &Option<Seq<Stmt>>) -> bool
     ensures { result ≡ is_own_body name.now (un reading.now) (option_map (λ b. stmts (map stmt b)) body.now) }
 {
     match body {
@@ -179,7 +177,7 @@ fn check_result(layouts: &[Layout], whole: &[bool], gives: &CType) -> Result<(),
 #[tactic(auto, unfolding(crate::specs::Reading::function_rules))]
 fn check_function(
     reading: &Reading,
-    name: &[u8],
+    name: &Name,
     params: &[CType],
     gives: &CType,
     body: &Option<Seq<Stmt>>,
@@ -190,7 +188,7 @@ fn check_function(
     if !is_function(found) || !is_own_body(reading, name, body) {
         return Err(Code::Twice);
     }
-    if !is_word(name) || !agrees(params, gives, found) {
+    if !is_word(name.bytes()) || !agrees(params, gives, found) {
         return Err(Code::WrongType);
     }
     check_result(&reading.globals.layouts, &reading.globals.whole, gives)
@@ -208,7 +206,7 @@ fn declare_function(
 {
     let params = Seq::from_vec(copy_types(alloc, params)?);
     let gives = copy_type(gives)?;
-    declare(alloc, reading, name.bytes(), Decl::Function(params, gives))
+    declare(reading, name, Decl::Function(params, gives))
 }
 
 /// Leaves a function, and keeps it where it has a body. The error is want of memory.
@@ -258,7 +256,7 @@ pub(crate) fn read_function(
     let types = read_parameters(alloc, reading, params.as_slice())?;
     declare_function(alloc, reading, name, &types, &gives)?;
     let typed = maybe_body(alloc, reading, &gives, body)?;
-    let checked = check_function(reading, name.bytes(), &types, &gives, body);
+    let checked = check_function(reading, name, &types, &gives, body);
     placed(span, checked)?;
     keep_function(alloc, reading, name, types, gives, typed)?;
     Ok(())

@@ -71,10 +71,10 @@ fn read_global(
     ensures count { OnOk result (length (un reading.new).globals ≡ length (un reading.old).globals + 1) }
 {
     let object = reading.objects.next();
-    let fresh = is_free(&reading.globals, v.name.bytes());
+    let fresh = is_free(&reading.globals, &v.name);
     let ty = type_at(alloc, reading, v.span, &v.ty)?;
     let named = copy_type(&ty)?;
-    declare(alloc, reading, v.name.bytes(), Decl::Object(object, named))?;
+    declare(reading, &v.name, Decl::Object(object, named))?;
     let init = maybe_fill_at(alloc, reading, &ty, &v.init)?;
     let size = global_size(reading, fresh, &ty);
     let words = placed(v.span, size)?;

@@ -33,8 +33,8 @@ fn read_record_name(
     requires few { spent (un reading.old) ≤ 200000 }
     ensures { Gives (λ r. (r, un reading.new)) result (read_by (un reading.old) (RecordD is_union name.now None span)) }
 {
-    enter_record(alloc, reading, is_union, name.bytes())?;
-    let number = record_number(reading, is_union, name.bytes());
+    enter_record(alloc, reading, is_union, name)?;
+    let number = record_number(reading, is_union, name);
     placed(span, number)?;
     Ok(())
 }
@@ -52,9 +52,9 @@ fn read_counted(
     requires few { spent (un reading.old) ≤ 200000 }
     ensures { Gives (λ r. (r, un reading.new)) result (counted_record (un reading.old) is_union name.now (map var all.now) span) }
 {
-    enter_record(alloc, reading, is_union, name.bytes())?;
+    enter_record(alloc, reading, is_union, name)?;
     let members = read_members(alloc, reading, is_union, all)?;
-    let declared = members_declared(reading, is_union, name.bytes(), &members);
+    let declared = members_declared(reading, is_union, name, &members);
     let number = placed(span, declared)?;
     set_layout(reading, number, members);
     Ok(())
@@ -87,8 +87,8 @@ fn read_enum(
     requires few { spent (un reading.old) ≤ 200000 }
     ensures { Gives (λ r. (r, un reading.new)) result (read_by (un reading.old) (EnumD name.now (map (λ v. (v.0, option_map expr v.1)) values.now) span)) }
 {
-    let fresh = is_free(&reading.globals, name.bytes());
-    enter_enum(alloc, reading, name.bytes())?;
+    let fresh = is_free(&reading.globals, name);
+    enter_enum(reading, name)?;
     read_enumerators(alloc, reading, span, values)?;
     demanded(span, Code::Twice, fresh)
 }
@@ -103,10 +103,10 @@ fn read_typedef(
 ) -> Result<(), CheckErr>
     ensures { Gives (λ r. (r, un reading.new)) result (read_by (un reading.old) (TypedefD (type ty.now) name.now span)) }
 {
-    let fresh = is_free(&reading.globals, name.bytes());
+    let fresh = is_free(&reading.globals, name);
     let counted = counted_at(alloc, reading, span, ty)?;
     demanded(span, Code::Twice, fresh)?;
-    declare(alloc, reading, name.bytes(), Decl::Alias(counted))?;
+    declare(reading, name, Decl::Alias(counted))?;
     Ok(())
 }
 

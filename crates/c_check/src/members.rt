@@ -20,24 +20,18 @@ use c_types::{CType, Layout};
 use kit_base::{Memory, Name};
 use std::alloc::Global;
 
-fn has_member(seen: &Layout, name: &[u8]) -> bool
+fn has_member(seen: &Layout, name: &Name) -> bool
     ensures { result ≡ is_some (member_named name.now (layout seen.now).members) }
 {
     seen.member(name).is_some()
 }
 
 /// Adds a member of size `words`. The error is want of memory.
-fn add_member(
-    alloc: Global,
-    seen: &mut Layout,
-    name: &Name,
-    ty: CType,
-    words: u32,
-) -> Result<(), Memory>
+fn add_member(seen: &mut Layout, name: &Name, ty: CType, words: u32) -> Result<(), Memory>
     requires new { is_some (member_named name.now (layout seen.old).members) ≡ false }
     ensures added { OnOk result (layout seen.new ≡ capped (with_member (layout seen.old) name.now (ctype ty) words)) }
 {
-    let key = Vec::from_slice(alloc, name.bytes())?;
+    let key = name.copy()?;
     seen.add(key, ty, words)?;
     Ok(())
 }
@@ -53,7 +47,7 @@ fn read_member(
     ensures { Gives (λ _. (layout seen.new, un reading.new)) result (counted (the_member (un reading.old) (layout seen.old) (var v.now))) }
 {
     let ty = type_at(alloc, reading, v.span, &v.ty)?;
-    if has_member(seen, v.name.bytes()) {
+    if has_member(seen, &v.name) {
         return Err(CheckErr::At {
             code: Code::Twice,
             span: v.span,
@@ -61,7 +55,7 @@ fn read_member(
     }
     let size = type_size(&reading.globals.layouts, &reading.globals.whole, &ty);
     let words = placed(v.span, size)?;
-    add_member(alloc, seen, &v.name, ty, words)?;
+    add_member(seen, &v.name, ty, words)?;
     Ok(())
 }
 
@@ -86,7 +80,7 @@ pub(crate) fn read_members(
 pub(crate) fn members_declared(
     reading: &Reading,
     is_union: bool,
-    name: &[u8],
+    name: &Name,
     members: &Layout,
 ) -> Result<u32, Code>
     ensures number { result ≡ members_declared is_union name.now (un reading.now) (layout members.now) }

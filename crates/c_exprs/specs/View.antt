@@ -22,13 +22,13 @@ decl (Object number ty) = GlobalD number (ctype ty)
 decl (Function params gives) = FunctionD (map ctype params) (ctype gives)
 
 abbrev pub scope : Scope → List (Text × LocalD)
-scope s = map (λ e. (e.0.items, local e.1)) s.names.entries
+scope s = map (λ e. (e.0, local e.1)) s.names.entries
 
 abbrev pub names : Globals → List (Text × DeclT)
-names g = map (λ e. (e.0.items, decl e.1)) g.names.entries
+names g = map (λ e. (e.0, decl e.1)) g.names.entries
 
 abbrev pub bodies : Globals → List (Text × ℕ)
-bodies g = map (λ e. (e.0.items, e.1)) g.bodies.entries
+bodies g = map (λ e. (e.0, e.1)) g.bodies.entries
 
 abbrev pub ctx : Globals → List Scope → Ctx
 ctx g ss = record { layouts = map layout g.layouts.items; whole = g.whole.items; names = names g; bodies = bodies g; scopes = map scope ss }

@@ -38,10 +38,10 @@ fn takes_port(intrinsic: Intrinsic) -> bool
 pub(crate) fn names_port(globals: &Globals, scopes: &[Scope], name: &Name) -> bool
     ensures { result ≡ names_port (ctx globals.now scopes.now) name.now }
 {
-    if find_local(name.bytes(), scopes).is_some() {
+    if find_local(name, scopes).is_some() {
         return false;
     }
-    if globals.find(name.bytes()).is_some() {
+    if globals.find(name).is_some() {
         return false;
     }
     match intrinsic_of(name.bytes()) {
@@ -244,15 +244,15 @@ pub(crate) fn call_node(
 ) -> Result<(TKind, CType), CheckErr>
     ensures { Gives called result (placed span (call_node (ctx globals.now scopes.now) name.now (exprs (map expr args.now)) (texprs (map texpr xs.items)))) }
 {
-    if find_local(name.bytes(), scopes).is_some() {
+    if find_local(name, scopes).is_some() {
         return Err(refused(span, Code::WrongType));
     }
-    match globals.find(name.bytes()) {
+    match globals.find(name) {
         Some(Decl::Alias(_)) => Err(refused(span, Code::Twice)),
         Some(Decl::Constant(_)) => Err(refused(span, Code::WrongType)),
         Some(Decl::Object(_, _)) => Err(refused(span, Code::WrongType)),
         Some(Decl::Function(params, gives)) => {
-            let number = globals.body(name.bytes());
+            let number = globals.body(name);
             function_call(params.as_slice(), gives, number, xs, span)
         }
         None => match intrinsic_of(name.bytes()) {

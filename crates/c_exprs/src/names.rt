@@ -7,7 +7,7 @@ ghost use Rattle.c_exprs.specs.View.{local, decl, scope, names, bodies};
 use c_rules::Counted;
 use c_types::{CType, Layout};
 use indexmap::IndexMap;
-use kit_base::{Memory, Seq};
+use kit_base::{Memory, Name, Seq};
 use std::alloc::{AllocError, Global};
 
 /// An object of a function's call: its number there, and its type.
@@ -32,14 +32,14 @@ pub enum Decl {
 pub struct Globals {
     pub layouts: Vec<Layout>,
     pub whole: Vec<bool>,
-    names: IndexMap<Vec<u8>, Decl>,
-    bodies: IndexMap<Vec<u8>, u32>,
+    names: IndexMap<Name, Decl>,
+    bodies: IndexMap<Name, u32>,
 }
 
 /// The objects that one scope declares, in the order of their declarations.
 #[derive(Drop)]
 pub struct Scope {
-    names: IndexMap<Vec<u8>, Local>,
+    names: IndexMap<Name, Local>,
 }
 
 impl Globals {
@@ -59,23 +59,23 @@ impl Globals {
     }
 
     /// What a name is declared as.
-    pub fn find(&self, name: &[u8]) -> Option<&Decl>
+    pub fn find(&self, name: &Name) -> Option<&Decl>
         ensures found { option_map (λ d. decl d.now) result ≡ find name.now (names self.now) }
     {
         self.names.get(name)
     }
 
     /// The number of a function that has a body.
-    pub fn body(&self, name: &[u8]) -> Option<u32>
+    pub fn body(&self, name: &Name) -> Option<u32>
         ensures found { result ≡ find name.now (bodies self.now) }
     {
         self.bodies.get(name).copied()
     }
 
     /// Declares a name that is not declared yet; it goes last. The error is want of memory.
-    pub fn declare(&mut self, name: Vec<u8>, meaning: Decl) -> Result<(), Memory>
-        requires new { find name.items (names self.old) ≡ None }
-        ensures declared { OnOk result (names self.new ≡ names self.old ++ (name.items, decl meaning) ∷ []) }
+    pub fn declare(&mut self, name: Name, meaning: Decl) -> Result<(), Memory>
+        requires new { find name (names self.old) ≡ None }
+        ensures declared { OnOk result (names self.new ≡ names self.old ++ (name, decl meaning) ∷ []) }
         ensures refused { OnErr result (names self.new ≡ names self.old) }
         ensures layouts { self.new.layouts ≡ self.old.layouts }
         ensures whole { self.new.whole ≡ self.old.whole }
@@ -86,9 +86,9 @@ impl Globals {
     }
 
     /// Numbers a function with a body that has no number yet; it goes last. The error is want of memory.
-    pub fn set_body(&mut self, name: Vec<u8>, number: u32) -> Result<(), Memory>
-        requires new { find name.items (bodies self.old) ≡ None }
-        ensures numbered { OnOk result (bodies self.new ≡ bodies self.old ++ (name.items, number) ∷ []) }
+    pub fn set_body(&mut self, name: Name, number: u32) -> Result<(), Memory>
+        requires new { find name (bodies self.old) ≡ None }
+        ensures numbered { OnOk result (bodies self.new ≡ bodies self.old ++ (name, number) ∷ []) }
         ensures refused { OnErr result (bodies self.new ≡ bodies self.old) }
         ensures layouts { self.new.layouts ≡ self.old.layouts }
         ensures whole { self.new.whole ≡ self.old.whole }
@@ -110,16 +110,16 @@ impl Scope {
     }
 
     /// The object of that name.
-    pub fn find(&self, name: &[u8]) -> Option<&Local>
+    pub fn find(&self, name: &Name) -> Option<&Local>
         ensures found { option_map (λ l. local l.now) result ≡ find name.now (scope self.now) }
     {
         self.names.get(name)
     }
 
     /// Declares an object under a name that the scope does not have yet; it goes last. The error is want of memory.
-    pub fn add(&mut self, name: Vec<u8>, object: Local) -> Result<(), Memory>
-        requires new { find name.items (scope self.old) ≡ None }
-        ensures added { OnOk result (scope self.new ≡ scope self.old ++ (name.items, local object) ∷ []) }
+    pub fn add(&mut self, name: Name, object: Local) -> Result<(), Memory>
+        requires new { find name (scope self.old) ≡ None }
+        ensures added { OnOk result (scope self.new ≡ scope self.old ++ (name, local object) ∷ []) }
         ensures refused { OnErr result (scope self.new ≡ scope self.old) }
     {
         self.names.insert(name, object)?;
@@ -142,15 +142,15 @@ impl Scope {
 }
 
 /// The object of that name in the innermost scope that has it; the innermost scope comes last.
-#[tactic(auto, using(crate::proofs::Maps::or_else_assoc))]
-pub fn find_local<'a>(name: &[u8], scopes: &'a [Scope]) -> Option<&'a Local>
+pub fn find_local<'a>(name: &Name, scopes: &'a [Scope]) -> Option<&'a Local>
     ensures found { option_map (λ l. local l.now) result ≡ find_in name.now (map scope scopes.now) }
 {
-    let mut found = None;
-    for scope in scopes {
+    let mut rest = scopes;
+    'out: while let Some((scope, around)) = rest.split_last() {
         if let Some(local) = scope.find(name) {
-            found = Some(local);
+            return Some(local);
         }
+        rest = around;
     }
-    found
+    None
 }

@@ -42,11 +42,11 @@ pub(crate) fn name_tree(
 ) -> Result<TExpr, CheckErr>
     ensures { Gives texpr result (placed span (name_tree (ctx globals.now scopes.now) name.now span)) }
 {
-    if let Some(local) = find_local(name.bytes(), scopes) {
+    if let Some(local) = find_local(name, scopes) {
         let ty = copy_type(&local.ty)?;
         return Ok(node(TKind::Local(local.number), ty, span));
     }
-    match globals.find(name.bytes()) {
+    match globals.find(name) {
         Some(Decl::Alias(_)) => Err(refused(span, Code::Twice)),
         Some(Decl::Constant(n)) => Ok(node(TKind::Number(*n), CType::Int, span)),
         Some(Decl::Object(number, ty)) => {
@@ -73,7 +73,7 @@ pub(crate) fn named_type(
 ) -> Result<Counted, CheckErr>
     ensures { Gives (λ r. ctype r.ty) result (placed span (named_type (ctx globals.now scopes.now) name.now)) }
 {
-    match globals.find(name.bytes()) {
+    match globals.find(name) {
         Some(Decl::Alias(counted)) => Ok(copy_counted(counted)?),
         Some(Decl::Constant(_)) => Err(refused(span, Code::Twice)),
         Some(Decl::Object(_, _)) => Err(refused(span, Code::Twice)),
@@ -126,7 +126,7 @@ fn member_in<'a>(found: Option<&'a Layout>, name: &Name, span: Span) -> Result<&
     let Some(one) = found else {
         return Err(refused(span, Code::WrongType));
     };
-    match one.member(name.bytes()) {
+    match one.member(name) {
         Some(member) => Ok(member),
         None => Err(refused(span, Code::UnknownName)),
     }

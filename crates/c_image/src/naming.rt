@@ -15,7 +15,7 @@ pub fn labels_in<'a>(alloc: Global, labels: &'a [(Name, u32)]) -> Result<Labels<
 {
     let mut table = Labels::new(alloc);
     'each: for label in labels {
-        table.add(label.0.bytes(), u64::from(label.1))?;
+        table.add(&label.0, u64::from(label.1))?;
     }
     Ok(table)
 }
@@ -26,5 +26,6 @@ pub fn address_of_function(alloc: Global, labels: &Labels<'_>, name: &Name) -> R
     ensures { IfOk result (λ a. a ≡ address_in labels.now (label_of_function name.now)) }
 {
     let label = join_pieces(alloc, &[b"f_", name.bytes()])?;
+    let label = Name::from_bytes(alloc, &label)?;
     Ok(labels.word_of(&label))
 }

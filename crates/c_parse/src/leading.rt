@@ -9,7 +9,7 @@ ghost use Rattle.c_tree.specs.View.{expr};
 
 use crate::class::{Class, Key, next};
 use crate::lead::{ArmLead, ItemLead, Lead, Start, StmtLead, Suffix, TypeLead, TypeMark};
-use crate::scope::{Scope, bytes_of, is_type};
+use crate::scope::{Scope, is_type};
 use crate::tokens::at;
 use c_lex::{Punct, Token};
 use c_tree::{BinOp, Expr, StepOp, UnOp};
@@ -22,7 +22,7 @@ pub(crate) fn type_at(scope: &Scope, tokens: &[Token]) -> TypeLead
         Some((Class::Key(Key::Bool), _, _)) => TypeLead::Bool,
         Some((Class::Key(Key::Void), _, _)) => TypeLead::Void,
         Some((Class::Word, token, _)) => {
-            if is_type(scope, bytes_of(token)) {
+            if is_type(scope, token) {
                 TypeLead::Named
             } else {
                 TypeLead::Other
@@ -117,7 +117,7 @@ pub(crate) fn lead_at(scope: &Scope, tokens: &[Token]) -> Lead
 {
     match next(tokens) {
         Some((Class::Word, token, _)) => {
-            if is_type(scope, bytes_of(token)) {
+            if is_type(scope, token) {
                 Lead::Other
             } else {
                 Lead::Name
@@ -203,7 +203,7 @@ pub(crate) fn stmt_at(scope: &Scope, tokens: &[Token]) -> StmtLead
     match next(tokens) {
         Some((Class::Key(key), _, _)) => key_stmt(key),
         Some((Class::Word, token, _)) => {
-            if is_type(scope, bytes_of(token)) {
+            if is_type(scope, token) {
                 StmtLead::Vars
             } else {
                 StmtLead::Expr

@@ -15,21 +15,15 @@ pub(crate) struct Scope {
     pub(crate) types: Types,
 }
 
-/// The bytes of a word or a text.
-pub(crate) fn bytes_of(token: &Token) -> &[u8]
-    ensures { result.now ≡ bytes_of token.now.kind }
+/// Whether the bytes of a word or a text are the name of a type.
+pub(crate) fn is_type(scope: &Scope, token: &Token) -> bool
+    ensures { result ≡ is_type (context scope.now) (bytes_of token.now.kind) }
 {
     match &token.kind {
-        Kind::Word(word) => word.bytes(),
-        Kind::Text(text) => text.bytes(),
-        _ => &[],
+        Kind::Word(word) => scope.types.has(word),
+        Kind::Text(text) => scope.types.has(text),
+        _ => scope.types.has_bytes(&[]),
     }
-}
-
-pub(crate) fn is_type(scope: &Scope, word: &[u8]) -> bool
-    ensures { result ≡ is_type (context scope.now) word.now }
-{
-    scope.types.has(word)
 }
 
 fn place(total: u32, left: usize) -> u32

@@ -9,7 +9,7 @@ ghost use Rattle.c_parse.specs.inner.View.{Gives, context};
 
 use crate::class::{Class, Key, next};
 use crate::fault::{Fault, ReadErr};
-use crate::scope::{Scope, bytes_of, is_type};
+use crate::scope::{Scope, is_type};
 use c_lex::{Kind, Punct, Token};
 use kit_base::{Memory, Name};
 use std::alloc::Global;
@@ -152,7 +152,7 @@ fn at_name(scope: &Scope, tokens: &[Token]) -> bool
     ensures { result ≡ reader.at_name (context scope.now) (toks tokens.now) }
 {
     match next(tokens) {
-        Some((Class::Word, token, _)) => !is_type(scope, bytes_of(token)),
+        Some((Class::Word, token, _)) => !is_type(scope, token),
         _ => false,
     }
 }

@@ -12,8 +12,8 @@ use std::marker::Model;
 #[derive(Drop)]
 pub(crate) struct Types {
     names: Vec<Name>,
-    table: IndexSet<Vec<u8>>,
-    ghost found: { (word : List ℕ) → list_any (λ k. bytes_eq word k.items) table.keys ≡ list_any (λ n. bytes_eq n word) names.items },
+    table: IndexSet<Name>,
+    ghost found: { (word : List ℕ) → list_any (bytes_eq word) table.keys ≡ list_any (λ n. bytes_eq n word) names.items },
 }
 
 impl Model for Types {
@@ -35,17 +35,24 @@ impl Types {
         }
     }
 
-    pub(crate) fn has(&self, word: &[u8]) -> bool
+    pub(crate) fn has(&self, word: &Name) -> bool
         ensures has { result ≡ list_any (λ n. bytes_eq n word.now) self.now }
     {
         self.table.contains(word)
     }
 
+    /// The same of bytes for which there is no name, looked for one after another.
+    pub(crate) fn has_bytes(&self, word: &[u8]) -> bool
+        ensures has { result ≡ list_any (λ n. bytes_eq n word.now) self.now }
+    {
+        self.names.iter().any(|n| n.bytes() == word)
+    }
+
     /// Adds a name, which may be there already. The error is want of memory.
-    pub(crate) fn add(&mut self, alloc: Global, name: &Name) -> Result<(), Memory>
+    pub(crate) fn add(&mut self, name: &Name) -> Result<(), Memory>
         ensures added { OnOk result (self.new ≡ self.old ++ name.now ∷ []) }
     {
-        let key = Vec::from_slice(alloc, name.bytes())?;
+        let key = name.copy()?;
         self.names.push(name.copy()?)?;
         match self.table.insert(key) {
             Ok(_) => Ok(()),

@@ -30,11 +30,11 @@ use kit_base::{Name, Seq};
 use std::alloc::Global;
 
 /// The name is a type from here on.
-fn declare(alloc: Global, scope: &mut Scope, name: &Name) -> Result<(), ReadErr>
+fn declare(scope: &mut Scope, name: &Name) -> Result<(), ReadErr>
     ensures declared { IfOk result (λ x. context scope.new ≡ declare name.now (context scope.old)) }
     ensures memory { IfErr result (λ e. e ≡ errors.Memory) }
 {
-    scope.types.add(alloc, name)?;
+    scope.types.add(name)?;
     Ok(())
 }
 
@@ -50,7 +50,7 @@ fn structure<'a>(
     ensures declared { IfOk result (λ x. context scope.new ≡ behind_item (item x.0) (context scope.old)) }
 {
     let (name, rest) = new(alloc, behind(tokens))?;
-    declare(alloc, scope, &name)?;
+    declare(scope, &name)?;
     if at(Punct::Semicolon, rest) {
         let rest = behind(rest);
         let span = span(scope, tokens, rest);
@@ -95,7 +95,7 @@ fn enumeration<'a>(
     let (values, rest) = keeping(values, end_list(rest))?;
     let (values, rest) = keeping(values, semicolon(rest))?;
     let span = span(scope, tokens, rest);
-    let declared = declare(alloc, scope, &name);
+    let declared = declare(scope, &name);
     let ((name, values), _) = keeping((name, values), declared)?;
     Ok((Item::Enum { name, values, span }, rest))
 }
@@ -113,7 +113,7 @@ fn type_name<'a>(
     let (ty, (name, rest)) = keeping(ty, new(alloc, rest))?;
     let ((ty, name), rest) = keeping((ty, name), semicolon(rest))?;
     let span = span(scope, tokens, rest);
-    let declared = declare(alloc, scope, &name);
+    let declared = declare(scope, &name);
     let ((ty, name), _) = keeping((ty, name), declared)?;
     Ok((Item::Typedef(ty, name, span), rest))
 }

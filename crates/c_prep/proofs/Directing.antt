@@ -1,17 +1,17 @@
 -- Lines that are directives, and the words of directives.
-use Rattle.std.proofs.Common.{◌≡◌, ℕ, suc, ◌+◌, List, [], ◌∷◌, length, take, drop, map, Bool, true, false, not, ◌||◌, cond, refl, sym, ap, ◌∙◌, add-one, arith}
-use Rattle.std.specs.Prelude.{bytes_eq, IsUtf8, take_while, Some, None}
+use Rattle.std.proofs.Common.{◌≡◌, ℕ, List, [], ◌∷◌, length, map, true, false, ◌||◌, refl, ap, ◌∙◌}
+use Rattle.std.specs.Prelude.{bytes_eq, IsUtf8, Some, None}
 use Rattle.std.specs.Str.{is_utf8}
 use Rattle.std.proofs.lemmas.Str.{IsUtf8-from_is_utf8, is_utf8-from_IsUtf8}
 use Rattle.std.proofs.lemmas.List.{nil_from_length}
-use Rattle.std.specs.List.{list_any, prefix_len}
+use Rattle.std.specs.List.{list_any}
 use Rattle.std.specs.Borrow.{Bor}
 use Rattle.c_lex.specs.declared.token.Token.{Token}
 use Rattle.c_lex.specs.declared.token.Kind.{Kind}
 use Rattle.c_lex.specs.declared.token.Kind.TheVariants as k
 use Rattle.c_prep.specs.Kinds.{kinds_of}
 use Rattle.c_prep.specs.Directives.{text_in, directive_in, directive_of}
-use Rattle.c_prep.specs.Lines.{before, lines_of, begins_directive}
+use Rattle.c_prep.specs.Lines.{begins_directive}
 
 pub any_keyword : (word : List ℕ) (keywords : List (Bor (List ℕ))) → list_any (λ k. bytes_eq word k.now) keywords ≡ list_any (bytes_eq word) (map (λ k. k.now) keywords)
 any_keyword word [] = refl

@@ -1,5 +1,5 @@
 -- Tokens and faults are of files that have names, and tokens have lines.
-use Rattle.std.proofs.Common.{◌≡◌, ℕ, zero, suc, ◌<◌, ◌≤◌, ◌+◌, List, [], ◌∷◌, ◌++◌, length, take, drop, true, false, cond, ltb, ◌&&◌, not, refl, ap, ◌∙◌, subst, arith}
+use Rattle.std.proofs.Common.{◌≡◌, ℕ, zero, suc, ◌<◌, ◌≤◌, ◌+◌, List, [], ◌∷◌, ◌++◌, length, true, false, cond, ltb, ◌&&◌, not, refl, ap, ◌∙◌, subst, arith}
 use Rattle.std.specs.Prelude.{Option, Some, None, Result, Ok, Err, IfErr, IsUtf8}
 use Rattle.std.specs.List.{All, list_all}
 use Rattle.std.specs.Str.{is_utf8}

@@ -1,12 +1,11 @@
 -- Lines taken from tokens that are still to be read.
-use Rattle.std.proofs.Common.{◌≡◌, ℕ, Bool, true, false, not, ◌||◌, cond, List, [], ◌∷◌, ◌++◌, length, refl, sym, ap, subst, append_assoc, ◌∙◌}
+use Rattle.std.proofs.Common.{◌≡◌, ℕ, Bool, true, false, not, ◌||◌, cond, List, [], ◌∷◌, ◌++◌, refl, sym, ap, subst, append_assoc, ◌∙◌}
 use Rattle.std.specs.Prelude.{Option, Some, None, IfNone, IfSome, Result, Ok, Vec}
 use Rattle.std.specs.declared.alloc.Global.{Global}
 use Rattle.std.specs.List.{AllByRecursion}
 use Rattle.c_lex.specs.declared.token.Token.{Token}
 use Rattle.c_lex.specs.Reading.{goes_on}
 use Rattle.c_prep.specs.declared.conditions.Condition.{Condition}
-use Rattle.c_prep.specs.declared.work.Work.{Work}
 use Rattle.c_prep.specs.Faults.{◌>>=◌}
 use Rattle.c_prep.specs.Conditions.{skips}
 use Rattle.c_prep.specs.Lines.{IsLine, before, begins, begins_directive, lines_of}

@@ -8,6 +8,7 @@ ghost use Rattle.c_prep.specs.inner.Inner.{ArePlaced, listed, shown, shown_in};
 
 use crate::kinds::word_in;
 use c_lex::{Kind, Punct, Token};
+use kit_base::Name;
 
 /// The classes of directives.
 #[derive(Clone, Copy, Debug, PartialEq, Eq)]
@@ -26,10 +27,10 @@ pub enum Class {
 #[derive(Clone, Copy)]
 pub enum Directive<'a> {
     Include(&'a str),
-    Define(&'a [u8], &'a [Token]),
-    Undef(&'a [u8]),
-    IfDef(&'a [u8]),
-    IfNotDef(&'a [u8]),
+    Define(&'a Name, &'a [Token]),
+    Undef(&'a Name),
+    IfDef(&'a Name),
+    IfNotDef(&'a Name),
     Else,
     EndIf,
     Error,
@@ -92,7 +93,7 @@ fn class_of(word: &[u8]) -> Option<Class>
 }
 
 /// The name of a macro.
-fn name_in(kind: &Kind) -> Option<&[u8]>
+fn name_in(kind: &Kind) -> Option<&Name>
     ensures { option_copied result ≡ name_in kind.now }
 {
     match kind {
@@ -100,7 +101,7 @@ fn name_in(kind: &Kind) -> Option<&[u8]>
             if is_keyword(word.bytes()) {
                 None
             } else {
-                Some(word.bytes())
+                Some(word)
             }
         }
         _ => None,
@@ -134,7 +135,7 @@ fn lone_text(tokens: &[Token]) -> Option<&str>
 }
 
 /// The name of a macro that these tokens are.
-fn lone_name(tokens: &[Token]) -> Option<&[u8]>
+fn lone_name(tokens: &[Token]) -> Option<&Name>
     ensures { option_copied result ≡ lone name_in (kinds_of tokens.now) }
 {
     let [token] = tokens else {
@@ -198,7 +199,7 @@ fn directive_of<'a>(tokens: &'a [Token]) -> Directive<'a>
         return Directive::Bad;
     };
     match word_in(&token.kind) {
-        Some(word) => of_class(class_of(word), others),
+        Some(word) => of_class(class_of(word.bytes()), others),
         None => Directive::Bad,
     }
 }

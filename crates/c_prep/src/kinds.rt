@@ -3,7 +3,7 @@ ghost use Rattle.std.specs.Prelude.{◌≡◌, ◌++◌, IfOk, OnOk, option_copi
 ghost use Rattle.c_prep.specs.Kinds.{kinds_of, same_kind, same_kinds, same_punct, word_in};
 
 use c_lex::{Kind, Punct, Token};
-use kit_base::Memory;
+use kit_base::{Memory, Name};
 use std::alloc::Global;
 
 #[tactic(auto, unfolding(crate::specs::Kinds::same_punct))]
@@ -17,10 +17,10 @@ fn same_kind(a: &Kind, b: &Kind) -> bool
     ensures { result ≡ same_kind a.now b.now }
 {
     match (a, b) {
-        (Kind::Word(a), Kind::Word(b)) => a.bytes() == b.bytes(),
+        (Kind::Word(a), Kind::Word(b)) => a == b,
         (Kind::Number(a), Kind::Number(b)) => a == b,
         (Kind::Char(a), Kind::Char(b)) => a == b,
-        (Kind::Text(a), Kind::Text(b)) => a.bytes() == b.bytes(),
+        (Kind::Text(a), Kind::Text(b)) => a == b,
         (Kind::Punct(a), Kind::Punct(b)) => same_punct(*a, *b),
         _ => false,
     }
@@ -74,11 +74,11 @@ pub fn copied_kinds(alloc: Global, tokens: &[Token]) -> Result<Vec<Kind>, Memory
 }
 
 /// The word that a kind is.
-pub fn word_in(kind: &Kind) -> Option<&[u8]>
+pub fn word_in(kind: &Kind) -> Option<&Name>
     ensures { option_copied result ≡ word_in kind.now }
 {
     match kind {
-        Kind::Word(name) => Some(name.bytes()),
+        Kind::Word(name) => Some(name),
         _ => None,
     }
 }

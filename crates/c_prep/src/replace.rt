@@ -12,24 +12,25 @@ use crate::output::Output;
 use crate::table::Macros;
 use c_lex::{Kind, Token};
 use indexmap::IndexSet;
+use kit_base::Name;
 use std::alloc::Global;
 
 /// The expansion of a name, as far as it is not yet put.
 #[derive(Clone, Copy)]
 pub struct Frame<'a> {
-    pub name: &'a [u8],
+    pub name: &'a Name,
     pub rest: &'a [Kind],
 }
 
 /// Whether a name is one of the expansions that are begun.
-fn is_inside(inside: &IndexSet<&[u8]>, name: &[u8]) -> bool
+fn is_inside(inside: &IndexSet<&Name>, name: &Name) -> bool
     ensures { result ≡ list_any (bytes_eq name.now) (map (λ k. k.now) inside.now.keys) }
 {
-    inside.contains(name)
+    inside.contains(&name)
 }
 
 /// One name more, which is not there yet.
-fn enter<'a>(inside: &mut IndexSet<&'a [u8]>, name: &'a [u8]) -> Result<(), StepErr>
+fn enter<'a>(inside: &mut IndexSet<&'a Name>, name: &'a Name) -> Result<(), StepErr>
     requires new { list_any (bytes_eq name.now) (map (λ k. k.now) inside.old.keys) ≡ false }
     ensures names { OnOk result (map (λ k. k.now) inside.new.keys ≡ map (λ k. k.now) inside.old.keys ++ name.now ∷ []) }
     ensures memory { IfErr result (λ e. e ≡ steps.Memory) }
@@ -39,14 +40,14 @@ fn enter<'a>(inside: &mut IndexSet<&'a [u8]>, name: &'a [u8]) -> Result<(), Step
 }
 
 /// The last name is gone.
-fn leave(inside: &mut IndexSet<&[u8]>)
+fn leave(inside: &mut IndexSet<&Name>)
     ensures { (ks : List (List ℕ)) (k : List ℕ) → map (λ k. k.now) inside.old.keys ≡ ks ++ k ∷ [] → map (λ k. k.now) inside.new.keys ≡ ks }
 {
     let _gone = inside.pop();
 }
 
 /// The macro of that name, unless it is inside its own expansion.
-fn visible<'a>(macros: &'a Macros, inside: &IndexSet<&'a [u8]>, name: &'a [u8]) -> Option<Frame<'a>>
+fn visible<'a>(macros: &'a Macros, inside: &IndexSet<&'a Name>, name: &'a Name) -> Option<Frame<'a>>
     ensures { option_map macro_in result ≡ visible (body_of macros.now name.now) (map (λ k. k.now) inside.now.keys) name.now }
 {
     match macros.body_of(name) {
@@ -65,7 +66,7 @@ fn visible<'a>(macros: &'a Macros, inside: &IndexSet<&'a [u8]>, name: &'a [u8]) 
 #[tactic(auto, unfolding(crate::specs::Macros::macro_of))]
 fn macro_of<'a>(
     macros: &'a Macros,
-    inside: &IndexSet<&'a [u8]>,
+    inside: &IndexSet<&'a Name>,
     kind: &'a Kind,
 ) -> Option<Frame<'a>>
     ensures { option_map macro_in result ≡ macro_of macros.now (map (λ k. k.now) inside.now.keys) kind.now }
@@ -80,7 +81,7 @@ fn macro_of<'a>(
 fn place<'a>(
     macros: &'a Macros,
     frames: &mut Vec<Frame<'a>>,
-    inside: &mut IndexSet<&'a [u8]>,
+    inside: &mut IndexSet<&'a Name>,
     at: &Token,
     kind: &'a Kind,
     out: &mut Output,

@@ -8,23 +8,23 @@ use crate::error::{Fault, StepErr, fault_at};
 use crate::kinds::{copied_kinds, same_kinds};
 use c_lex::{Kind, Token};
 use indexmap::IndexMap;
-use kit_base::Seq;
+use kit_base::{Name, Seq};
 use std::alloc::Global;
 use std::marker::Model;
 
 /// Macros with the kinds of their tokens, in the order of their definitions.
 #[derive(Drop)]
 pub struct Macros {
-    table: IndexMap<Vec<u8>, Seq<Kind>>,
+    table: IndexMap<Name, Seq<Kind>>,
 }
 
 impl Model for Macros {
-    ghost use Rattle.std.specs.Prelude.{ℕ, List, map};
+    ghost use Rattle.std.specs.Prelude.{ℕ, List};
     ghost use Rattle.c_lex.specs.declared.token.Kind.{Kind};
 
     ghost Value = { List (List ℕ × List Kind) };
 
-    ghost view = { λ m. map (λ e. (e.0.items, e.1)) m.table.entries };
+    ghost view = { λ m. m.table.entries };
 }
 
 impl Macros {
@@ -37,7 +37,7 @@ impl Macros {
     }
 
     /// What a macro of that name stands for.
-    pub fn body_of(&self, name: &[u8]) -> Option<&[Kind]>
+    pub fn body_of(&self, name: &Name) -> Option<&[Kind]>
         ensures { option_copied result ≡ body_of self.now name.now }
     {
         match self.table.get(name) {
@@ -46,18 +46,18 @@ impl Macros {
         }
     }
 
-    pub fn is_defined(&self, name: &[u8]) -> bool
+    pub fn is_defined(&self, name: &Name) -> bool
         ensures { result ≡ is_some (body_of self.now name.now) }
     {
         self.body_of(name).is_some()
     }
 
     /// Adds a macro that there is not yet.
-    fn add(&mut self, alloc: Global, name: &[u8], body: &[Token]) -> Result<(), StepErr>
+    fn add(&mut self, alloc: Global, name: &Name, body: &[Token]) -> Result<(), StepErr>
         requires { is_some (body_of self.old name.now) ≡ false }
         ensures { Gives self.new result (Ok (self.old ++ (name.now, kinds_of body.now) ∷ [])) }
     {
-        let key = Vec::from_slice(alloc, name)?;
+        let key = name.copy()?;
         let kinds = copied_kinds(alloc, body)?;
         self.table.insert(key, Seq::from_vec(kinds))?;
         Ok(())
@@ -68,7 +68,7 @@ impl Macros {
         &mut self,
         alloc: Global,
         hash: &Token,
-        name: &[u8],
+        name: &Name,
         body: &[Token],
     ) -> Result<(), StepErr>
         ensures { Gives self.new result (defined hash.now name.now (kinds_of body.now) self.old) }
@@ -85,7 +85,7 @@ impl Macros {
         }
     }
 
-    pub fn undefine(&mut self, name: &[u8])
+    pub fn undefine(&mut self, name: &Name)
         ensures { self.new ≡ undefined name.now self.old }
     {
         let _taken = self.table.shift_remove(name);

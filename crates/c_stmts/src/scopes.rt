@@ -7,7 +7,7 @@ ghost use Rattle.c_stmts.specs.State.{innermost, closed, declare};
 
 use c_exprs::{Local, Scope};
 use c_types::CType;
-use kit_base::Memory;
+use kit_base::{Memory, Name};
 use std::alloc::Global;
 
 /// The innermost scope, taken out; an empty one where none is open.
@@ -32,7 +32,7 @@ pub(crate) fn close(alloc: Global, scopes: &mut Vec<Scope>) -> Result<Vec<u32>, 
 }
 
 /// Whether the innermost scope does not have the name.
-pub(crate) fn is_new(name: &[u8], scopes: &[Scope]) -> bool
+pub(crate) fn is_new(name: &Name, scopes: &[Scope]) -> bool
     ensures new { result ≡ not (is_some (find name.now (innermost (map scope scopes.now)))) }
 {
     match scopes.last() {
@@ -45,14 +45,14 @@ pub(crate) fn is_new(name: &[u8], scopes: &[Scope]) -> bool
 pub(crate) fn declare(
     alloc: Global,
     scopes: &mut Vec<Scope>,
-    name: &[u8],
+    name: &Name,
     number: u32,
     ty: CType,
 ) -> Result<(), Memory>
     requires new { not (is_some (find name.now (innermost (map scope scopes.old.items)))) ≡ true }
     ensures declared { OnOk result (map scope scopes.new.items ≡ declare name.now (record { number = number; ty = ctype ty }) (map scope scopes.old.items)) }
 {
-    let name = Vec::from_slice(alloc, name)?;
+    let name = name.copy()?;
     let mut inner = take_inner(alloc, scopes);
     inner.add(name, Local { number, ty })?;
     scopes.push(inner)?;

@@ -8,7 +8,7 @@ use crate::scopes::{close, declare, is_new};
 use crate::sizes::Sizes;
 use c_exprs::{CheckErr, Scope, Texts};
 use c_types::CType;
-use kit_base::Memory;
+use kit_base::{Memory, Name};
 use std::alloc::Global;
 
 /// The open scopes, the innermost last; the sizes of the call's objects, by their numbers; the words of those that are variables, not
@@ -43,7 +43,7 @@ impl State {
     }
 
     /// Whether the innermost scope does not have the name.
-    pub fn is_new(&self, name: &[u8]) -> bool
+    pub fn is_new(&self, name: &Name) -> bool
         ensures new { result ≡ is_new name.now (st self.now) }
     {
         is_new(name, &self.scopes)
@@ -54,7 +54,7 @@ impl State {
     pub fn add_object(
         &mut self,
         alloc: Global,
-        name: &[u8],
+        name: &Name,
         size: u32,
         ty: CType,
     ) -> Result<(), Memory>

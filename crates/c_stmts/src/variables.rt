@@ -16,7 +16,7 @@ use c_exprs::{CheckErr, Globals, placed, type_of_tree, type_value};
 use c_rules::copy_type;
 use c_tree::{Expr, Init, Span, TypeTree, Var};
 use c_types::{CType, TExpr, TInit, TVar};
-use kit_base::Memory;
+use kit_base::{Memory, Name};
 use std::alloc::Global;
 
 /// The value of an expression in a statement.
@@ -127,7 +127,7 @@ fn maybe_filled(
 /// Makes a name that is new the next object from here on, and gives that object's number, where there are fewer than 2^32. The error is
 /// want of memory.
 #[tactic(auto, unfolding(crate::specs::State::entered))]
-fn enter(alloc: Global, state: &mut State, name: &[u8], ty: &CType) -> Result<u32, Memory>
+fn enter(alloc: Global, state: &mut State, name: &Name, ty: &CType) -> Result<u32, Memory>
     requires room { length (st state.old).sizes < 2 ^ 32 }
     ensures number { IfOk result (λ number. number ≡ length (st state.old).sizes) }
     ensures entered { OnOk result (st state.new ≡ entered name.now (ctype ty.now) (st state.old)) }
@@ -171,9 +171,9 @@ fn declared(
     ensures { Gives (λ r. (lone (option_map tvar r), st state.new)) result (declared (fn_of globals.now gives.now) (st state.old) (var v.now)) }
 {
     let used = state.used;
-    let fresh = is_new(v.name.bytes(), &state.scopes);
+    let fresh = is_new(&v.name, &state.scopes);
     let ty = type_in(alloc, globals, state, gives, v.span, &v.ty)?;
-    let number = enter(alloc, state, v.name.bytes(), &ty)?;
+    let number = enter(alloc, state, &v.name, &ty)?;
     let init = maybe_filled(alloc, globals, state, gives, &ty, &v.init)?;
     let size = object_size(
         &globals.layouts,

@@ -1,11 +1,11 @@
 -- The plain data that types, layouts and typed trees in memory stand for.
-use Rattle.std.specs.Prelude.{ℕ, List, [], ◌∷◌, Option, Some, None, map, option_map}
+use Rattle.std.specs.Prelude.{ℕ, List, [], ◌∷◌, Some, None, map, option_map}
 use Rattle.c_types.specs.declared.ctype.CType.{CType, CType-F, fold-CType}
 use Rattle.c_types.specs.declared.ctype.CType.TheOpen as c
 use Rattle.c_types.specs.declared.layout.Member.{Member}
 use Rattle.c_types.specs.declared.layout.Layout.{Layout}
 use Rattle.c_types.specs.declared.typed.TExpr.{TExpr, TExpr-F, fold-TExpr}
-use Rattle.c_types.specs.declared.typed.TKind.{TKind, TKind-F}
+use Rattle.c_types.specs.declared.typed.TKind.{TKind-F}
 use Rattle.c_types.specs.declared.typed.TKind.TheOpen as k
 use Rattle.c_types.specs.declared.typed.TInit.{TInit, TInit-F, fold-TInit}
 use Rattle.c_types.specs.declared.typed.TInit.TheOpen as i
@@ -19,7 +19,7 @@ use Rattle.c_types.specs.Types.{Ty, VoidY, IntY, BoolY, EnumY, StructY, UnionY, 
 use Rattle.c_types.specs.Typed.{TExprT, Typed, TKindT, NumberK, NullK, LiteralK, GlobalK, LocalK, UnaryK, BinaryK, AssignK, StepK, IndexK, MemberK}
 use Rattle.c_types.specs.Typed.{ArrowK, CastK, CallK, InK, OutK, WaitK, HaltK, CardK, TExprTs, NoX, MoreX, TInitT, OneI, TextI, ListI, TInitTs, NoI}
 use Rattle.c_types.specs.Typed.{MoreI, TVarT, TStmtT, BlockZ, EmptyZ, VarsZ, DoZ, IfZ, WhileZ, DoWhileZ, ForZ, SwitchZ, ReturnZ, BreakZ, ContinueZ}
-use Rattle.c_types.specs.Typed.{MaybeZ, NoneZ, SomeZ, TStmtTs, NoZ, MoreZ, TArmT, CaseB, DefaultB, StmtB, TArmTs, NoB, MoreB}
+use Rattle.c_types.specs.Typed.{NoneZ, SomeZ, TStmtTs, NoZ, MoreZ, TArmT, CaseB, DefaultB, StmtB, TArmTs, NoB, MoreB}
 
 abbrev pub texprs : List TExprT → TExprTs
 texprs [] = NoX
@@ -55,7 +55,7 @@ abbrev pub named : List ℕ → Member → MemberT
 named name m = record { name = name; offset = m.offset; ty = ctype m.ty }
 
 abbrev pub layout : Layout → LayoutT
-layout l = record { is_union = l.is_union; members = map (λ e. named e.0.items e.1) l.members.entries; size = l.size }
+layout l = record { is_union = l.is_union; members = map (λ e. named e.0 e.1) l.members.entries; size = l.size }
 
 abbrev pub kind_layer : TKind-F TKindT TExprT → TKindT
 kind_layer (k.Number n) = NumberK n

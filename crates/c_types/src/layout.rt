@@ -5,6 +5,7 @@ ghost use Rattle.c_types.specs.Sizes.{no_layout, next_offset, size_with, with_me
 
 use crate::ctype::CType;
 use indexmap::IndexMap;
+use kit_base::Name;
 use std::alloc::{AllocError, Global};
 
 /// A member of a structure or union: its first word counted from the structure's, and its type.
@@ -18,7 +19,7 @@ pub struct Member {
 #[derive(Drop)]
 pub struct Layout {
     is_union: bool,
-    members: IndexMap<Vec<u8>, Member>,
+    members: IndexMap<Name, Member>,
     size: u32,
 }
 
@@ -56,7 +57,7 @@ impl Layout {
     }
 
     /// The member of that name.
-    pub fn member(&self, name: &[u8]) -> Option<&Member>
+    pub fn member(&self, name: &Name) -> Option<&Member>
         ensures found { option_map (λ m. named name.now m.now) result ≡ member_named name.now (layout self.now).members }
     {
         self.members.get(name)
@@ -67,7 +68,7 @@ impl Layout {
         ensures member { option_map (λ e. named e.0.now e.1.now) result ≡ slice_get (layout self.now).members index }
     {
         match self.members.get_index(index) {
-            Some((name, member)) => Some((name.as_slice(), member)),
+            Some((name, member)) => Some((name.bytes(), member)),
             None => None,
         }
     }
@@ -100,9 +101,9 @@ impl Layout {
 
     /// Adds a member of size `words` under a name that no member has yet. It goes last, behind those before it in a structure, at word 0 in
     /// a union. More than 2^32 - 1 words are counted as 2^32 - 1. The error is want of memory, and then the layout stays.
-    pub fn add(&mut self, name: Vec<u8>, ty: CType, words: u32) -> Result<(), AllocError>
-        requires new { is_some (member_named name.items (layout self.old).members) ≡ false }
-        ensures added { OnOk result (layout self.new ≡ capped (with_member (layout self.old) name.items (ctype ty) words)) }
+    pub fn add(&mut self, name: Name, ty: CType, words: u32) -> Result<(), AllocError>
+        requires new { is_some (member_named name (layout self.old).members) ≡ false }
+        ensures added { OnOk result (layout self.new ≡ capped (with_member (layout self.old) name (ctype ty) words)) }
         ensures refused { OnErr result (layout self.new ≡ layout self.old) }
     {
         let offset = self.next_offset();
@@ -156,8 +157,10 @@ pub fn size_of(layouts: &[Layout], ty: &CType) -> u32
 pub fn member_offset(structure: &Layout, name: &str) -> Option<u32>
     ensures offset { result ≡ offset_of (layout structure.now).members name.now }
 {
-    match structure.member(name.as_bytes()) {
-        Some(member) => Some(member.offset),
-        None => None,
+    for (key, member) in structure.members.iter() {
+        if name.as_bytes() == key.bytes() {
+            return Some(member.offset);
+        }
     }
+    None
 }

@@ -39,14 +39,15 @@ fn bound_by(value: Option<u64>) -> Bound
 }
 
 /// The label of a function: `f_` and its name.
-fn function_label(alloc: Global, name: &Name) -> Result<Vec<u8>, Memory>
-    ensures { IfOk result (λ v. v.items ≡ label_of_function name.now) }
+fn function_label(alloc: Global, name: &Name) -> Result<Name, Memory>
+    ensures { IfOk result (λ label. label ≡ label_of_function name.now) }
 {
-    Ok(join_pieces(alloc, &[b"f_", name.bytes()])?)
+    let label = join_pieces(alloc, &[b"f_", name.bytes()])?;
+    Name::from_bytes(alloc, &label)
 }
 
 /// What is told of the place behind a label.
-fn told_at(labels: &Labels<'_>, end: u64, values: &[Option<u64>], label: &[u8]) -> Bound
+fn told_at(labels: &Labels<'_>, end: u64, values: &[Option<u64>], label: &Name) -> Bound
     ensures { result ≡ told (known values.now (place_in labels.now end label.now)) }
 {
     bound_by(known(values, place_at(labels, end, label)))
@@ -65,7 +66,7 @@ pub fn bounds(alloc: Global, items: &[AsmItem], names: &[Name]) -> Result<Vec<Bo
     let mut bounds = Vec::new(alloc);
     for name in names {
         let label = function_label(alloc, name)?;
-        bounds.push(told_at(&labels, end, values.as_slice(), label.as_slice()))?;
+        bounds.push(told_at(&labels, end, values.as_slice(), &label))?;
     }
     Ok(bounds)
 }

@@ -7,6 +7,7 @@ ghost use Rattle.cycle_bound.specs.inner.Places.{branch_node, go_node, kind_node
 use asm_items::{AsmItem, Imm};
 use assembler::Labels;
 use either::Either;
+use kit_base::Name;
 use v32_isa::{Go, Instr, One, Plain, Src};
 
 /// What an item does to a path: a label that stands there, an instruction that goes on behind it, one that goes to a place or one of two, a call of
@@ -23,7 +24,7 @@ pub enum Node {
 }
 
 /// The place behind a label; the end where there is none.
-pub fn place_at(labels: &Labels<'_>, end: u64, name: &[u8]) -> u64
+pub fn place_at(labels: &Labels<'_>, end: u64, name: &Name) -> u64
     ensures { result ≡ place_in labels.now end name.now }
 {
     labels.address_of(name).unwrap_or(end)
@@ -34,7 +35,7 @@ fn target(labels: &Labels<'_>, end: u64, s: &Src<Imm>) -> Option<u64>
     ensures { result ≡ option_map (place_in labels.now end) (label_of s.now) }
 {
     match s {
-        Src::Imm(Either::Right(name)) => Some(place_at(labels, end, name.bytes())),
+        Src::Imm(Either::Right(name)) => Some(place_at(labels, end, name)),
         Src::Imm(Either::Left(_)) | Src::Reg(_) => None,
     }
 }

@@ -16,7 +16,7 @@ fn note<'a>(labels: &mut Labels<'a>, item: &'a AsmItem, place: u64) -> Result<()
 {
     match item {
         AsmItem::Label(name) => {
-            labels.add(name.bytes(), place)?;
+            labels.add(name, place)?;
             Ok(())
         }
         AsmItem::Op(_) | AsmItem::Integer(_) | AsmItem::Pointer(_) => Ok(()),

@@ -6,3 +6,4 @@ pub mod Counts
 pub mod Outside
 pub mod Effects
 pub mod Store
+pub mod Spread

@@ -1,7 +1,11 @@
-use Rattle.std.proofs.Common.{◌≡◌, drop, map, option_map}
-use Rattle.c_exprs.specs.Env.{find_in, or_else}
-use Rattle.c_exprs.specs.View.{scope, local}
+use Rattle.std.proofs.Common.{◌≡◌, length, map}
+use Rattle.c_exprs.specs.Env.{find_in}
+use Rattle.c_exprs.specs.View.{scope}
 use Rattle.c_exprs.proofs.names.find_local.Given as goal
 
-abbrev pub invariant-loop-scope : goal.invariant-loop-scope
-invariant-loop-scope l = or_else (find_in l.name (map scope (drop l.scope-index l.scopes))) (option_map (λ x. local x.now) l.found) ≡ find_in l.name (map scope l.scopes)
+-- what the scopes left say is what all say
+abbrev pub invariant-out : goal.invariant-out
+invariant-out l = find_in l.name (map scope l.rest) ≡ find_in l.name (map scope l.scopes)
+
+abbrev pub decreases-out : goal.decreases-out
+decreases-out l = length l.rest

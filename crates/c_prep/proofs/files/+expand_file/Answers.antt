@@ -12,7 +12,7 @@ use Rattle.c_prep.specs.inner.Inner.{ArePlaced, GivesAs, GivesOut, included, so_
 use Rattle.c_prep.specs.declared.error.Fault.TheVariants.{TooDeep}
 use Rattle.c_prep.specs.Faults.{fault_at}
 use Rattle.c_prep.specs.Numbers.{IsBelow}
-use Rattle.c_prep.proofs.Numbering.{placed_more, is_below_more, one_longer}
+use Rattle.c_prep.proofs.Numbering.{placed_more, one_longer}
 use Rattle.c_lex.specs.Found.{reading_of}
 use Rattle.c_prep.proofs.Taking.{placed_line, placed_rest, taken, all_taken}
 use Rattle.c_prep.proofs.Including.{tokens_refused, tokens_read, not_read_at, begun_at, deeper, deep, include_next, include_refused, line_next, line_refused, at_end}

@@ -2,7 +2,6 @@
 use Rattle.std.proofs.Common.{ℕ, zero, suc, ◌+◌, Bool, true, false, List, [], ◌∷◌, ◌++◌, Option, Some, None}
 use Rattle.std.specs.Prelude.{◌==◌, cond}
 use Rattle.std.specs.List.{AllByRecursion}
-use Rattle.kit_base.specs.Word.{add}
 use Rattle.either.specs.declared.Either.TheVariants.{Left}
 use Rattle.v32_isa.specs.declared.instruction.Plain.TheVariants.{RET}
 use Rattle.v32_isa.specs.declared.instruction.One.{One}
@@ -17,9 +16,10 @@ use Rattle.asm_items.specs.declared.item.AsmItem.TheVariants as item
 use Rattle.mid_code.specs.declared.placed.Where.{Where}
 use Rattle.mid_code.specs.declared.placed.Where.TheVariants.{Reg, Slot}
 use Rattle.mid_code.specs.Code.{OpT, ConstO, NullO, MoveO, OneO, TwoO, GlobalO, LocalO, LiteralO, CardO, StepO, ApartO, PtrTestO, LoadO, StoreO, FreshO, EndO, InO, OutO, WaitO, HaltO, NodesT, Stop, Do, Call, Choose, Block, Loop, Leave, Again, Return}
-use Rattle.asm_laws.specs.Operations.{Frame, Whole, register, keep, fetches, keeps, keeps_some, is_in, hand, brings, takes, aim, lays, moves, changes, is_direct, in_place, apart, turned, is_turned, turned_or_apart, computes, slot_arg, slot_args, pushed_arg, pushed_args, popped_arg, popped_args, args_items, call_items, op_items, in_one, one_or_more, more_of, giving}
+use Rattle.asm_laws.specs.Moves.{Move, in_order}
+use Rattle.asm_laws.specs.Operations.{Frame, Whole, register, keep, fetches, keeps, keeps_some, is_in, hand, brings, takes, aim, lays, moves, changes, is_direct, in_place, apart, turned, is_turned, turned_or_apart, computes, slot_arg, slot_args, moved_items, args_items, call_items, op_items, in_one, one_or_more, more_of, giving}
 use Rattle.asm_laws.specs.Framing.{frame_made, frame_gone}
-use Rattle.asm_laws.specs.inner.Emitted.{labels, enclosing, jump, jump_unless, mark, first_part, second_part, choice, one_way, alone, left_to, ends, jump_when, is_stop, enclosed, returning, items_past, code_items, call_item, own_items, exit_items}
+use Rattle.asm_laws.specs.inner.Emitted.{labels, jump, jump_unless, mark, first_part, second_part, choice, alone, left_to, ends, jump_when, is_stop, enclosed, returning, items_past, code_items, call_item, own_items, exit_items}
 use Rattle.asm_emit.specs.EmittedFrom.{IsCode}
 use Rattle.asm_laws.proofs.InOne.{one_or_more_is}
 
@@ -88,32 +88,17 @@ slot_code : (F G : Frame) (p a : Where) → AreCode (slot_arg F G p a)
 slot_code F G (Reg q) a = tt
 slot_code F G (Slot k) a = brought_code F a 9 _ (tt, tt)
 
-pushed_code : (F : Frame) (p a : Where) → AreCode (pushed_arg F p a)
-pushed_code F (Reg q) a = brought_code F a 9 _ (tt, tt)
-pushed_code F (Slot k) a = tt
-
-popped_code : (p : Where) → AreCode (popped_arg p)
-popped_code (Reg q) = (tt, tt)
-popped_code (Slot k) = tt
-
 slots_code : (F G : Frame) (ps args : List Where) → AreCode (slot_args F G ps args)
 slots_code F G [] args = tt
 slots_code F G (p ∷ ps) [] = tt
 slots_code F G (p ∷ ps) (a ∷ args) = joined (slot_arg F G p a) (slot_args F G ps args) (slot_code F G p a) (slots_code F G ps args)
 
-pushes_code : (F : Frame) (ps args : List Where) → AreCode (pushed_args F ps args)
-pushes_code F [] args = tt
-pushes_code F (p ∷ ps) [] = tt
-pushes_code F (p ∷ ps) (a ∷ args) = joined (pushed_arg F p a) (pushed_args F ps args) (pushed_code F p a) (pushes_code F ps args)
-
-pops_code : (ps : List Where) → AreCode (popped_args ps)
-pops_code [] = tt
-pops_code (p ∷ ps) = joined (popped_args ps) (popped_arg p) (pops_code ps) (popped_code p)
+moved_code : (F : Frame) (ms : List Move) → AreCode (moved_items F ms)
+moved_code F [] = tt
+moved_code F ((t, s) ∷ ms) = (fetch_code F s (register t), moved_code F ms)
 
 args_code : (F G : Frame) (ps args : List Where) → AreCode (args_items F G ps args)
-args_code F G ps args =
-    joined (slot_args F G ps args) (pushed_args F ps args ++ popped_args ps) (slots_code F G ps args)
-    (joined (pushed_args F ps args) (popped_args ps) (pushes_code F ps args) (pops_code ps))
+args_code F G ps args = joined (slot_args F G ps args) (moved_items F (in_order ps args)) (slots_code F G ps args) (moved_code F (in_order ps args))
 
 module _ (W : Whole) (F : Frame) where
   op_code : (o : OpT Where) → AreCode (op_items W F o)

@@ -20,7 +20,8 @@ use Rattle.mid_code.specs.Invariants.{IsOne, IsOp, IsLoop, AreNodes}
 use Rattle.mid_code.specs.Calls.{loops, CallsTo}
 use Rattle.asm_laws.specs.Names.{jump_label, function_label}
 use Rattle.asm_laws.specs.Labelled.{HasLabel}
-use Rattle.asm_laws.specs.Operations.{Frame, Whole, register, keep, fetches, keeps, keeps_some, is_in, hand, brings, takes, aim, lays, moves, changes, is_direct, in_place, apart, turned, is_turned, turned_or_apart, computes, slot_arg, slot_args, pushed_arg, pushed_args, popped_arg, popped_args, args_items, call_items, op_items, in_one, one_or_more, more_of, giving}
+use Rattle.asm_laws.specs.Moves.{Move, in_order}
+use Rattle.asm_laws.specs.Operations.{Frame, Whole, register, keep, fetches, keeps, keeps_some, is_in, hand, brings, takes, aim, lays, moves, changes, is_direct, in_place, apart, turned, is_turned, turned_or_apart, computes, slot_arg, slot_args, moved_items, args_items, call_items, op_items, in_one, one_or_more, more_of, giving}
 use Rattle.asm_laws.specs.Framing.{frame_made, frame_gone}
 use Rattle.asm_laws.specs.inner.Emitted.{labels, enclosing, jump, jump_unless, mark, first_part, second_part, choice, one_way, alone, left_to, ends, jump_when, is_stop, enclosed, returning, items_past, code_items, call_item, own_items, exit_items}
 use Rattle.asm_emit.specs.EmittedFrom.{IsCalled, GoesOn, AllGoOn}
@@ -109,32 +110,17 @@ module _ (names : List (List ℕ)) (body : NodesT Where) where
   slot_ahead F G (Reg q) a later = tt
   slot_ahead F G (Slot k) a later = brought_ahead F a 9 _ later (tt, tt)
 
-  pushed_ahead : (F : Frame) (p a : Where) (later : List AsmItem) → Ahead (pushed_arg F p a) later
-  pushed_ahead F (Reg q) a later = brought_ahead F a 9 _ later (tt, tt)
-  pushed_ahead F (Slot k) a later = tt
-
-  popped_ahead : (p : Where) (later : List AsmItem) → Ahead (popped_arg p) later
-  popped_ahead (Reg q) later = (tt, tt)
-  popped_ahead (Slot k) later = tt
-
   slots_ahead : (F G : Frame) (ps args : List Where) (later : List AsmItem) → Ahead (slot_args F G ps args) later
   slots_ahead F G [] args later = tt
   slots_ahead F G (p ∷ ps) [] later = tt
   slots_ahead F G (p ∷ ps) (a ∷ args) later = ahead_append (slot_arg F G p a) (slot_args F G ps args) later (slot_ahead F G p a _) (slots_ahead F G ps args later)
 
-  pushes_ahead : (F : Frame) (ps args : List Where) (later : List AsmItem) → Ahead (pushed_args F ps args) later
-  pushes_ahead F [] args later = tt
-  pushes_ahead F (p ∷ ps) [] later = tt
-  pushes_ahead F (p ∷ ps) (a ∷ args) later = ahead_append (pushed_arg F p a) (pushed_args F ps args) later (pushed_ahead F p a _) (pushes_ahead F ps args later)
-
-  pops_ahead : (ps : List Where) (later : List AsmItem) → Ahead (popped_args ps) later
-  pops_ahead [] later = tt
-  pops_ahead (p ∷ ps) later = ahead_append (popped_args ps) (popped_arg p) later (pops_ahead ps _) (popped_ahead p later)
+  moved_ahead : (F : Frame) (ms : List Move) (later : List AsmItem) → Ahead (moved_items F ms) later
+  moved_ahead F [] later = tt
+  moved_ahead F ((t, s) ∷ ms) later = (fetch_ahead F s (register t) _, moved_ahead F ms later)
 
   args_ahead : (F G : Frame) (ps args : List Where) (later : List AsmItem) → Ahead (args_items F G ps args) later
-  args_ahead F G ps args later =
-      ahead_append (slot_args F G ps args) (pushed_args F ps args ++ popped_args ps) later (slots_ahead F G ps args _)
-      (ahead_append (pushed_args F ps args) (popped_args ps) later (pushes_ahead F ps args _) (pops_ahead ps later))
+  args_ahead F G ps args later = ahead_append (slot_args F G ps args) (moved_items F (in_order ps args)) later (slots_ahead F G ps args _) (moved_ahead F (in_order ps args) later)
 
   module _ (x : CodeT Where) (W : Whole) (named : (g : ℕ) → g < length x.functions → CallsTo g body → IsCalled names body (function_label W.names g)) (m : ℕ) (F : Frame) where
     op_ahead : (o : OpT Where) (later : List AsmItem) → IsOp x m o → Ahead (op_items W F o) later

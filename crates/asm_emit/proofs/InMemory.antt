@@ -13,7 +13,7 @@ use Rattle.mid_code.specs.Code.{OpT, ConstO, NullO, MoveO, OneO, TwoO, GlobalO, 
 use Rattle.mid_code.specs.Functions.{op_before, NodeT, DoN, ChooseN, BlockN, LoopN, LeaveN, AgainN, ReturnN, ListT, NoN, MoreN, before, joined}
 use Rattle.asm_laws.specs.Operations.{Frame, Whole, op_items, in_one, one_or_more, more_of, call_items}
 use Rattle.asm_laws.specs.inner.Emitted.{labels, enclosing, jump, alone, left_to, ends, is_stop, choice, enclosed, returning, items_past, code_items}
-use Rattle.asm_emit.specs.inner.Listed.{left_in, ends_in, node_labels, list_labels, is_none, do_items, ahead_items, ahead_more, front_items, front_more, onward, node_items, list_past, list_items}
+use Rattle.asm_emit.specs.inner.Listed.{left_in, node_labels, list_labels, is_none, do_items, ahead_items, ahead_more, front_items, front_more, onward, node_items, list_past, list_items}
 
 -- an operation before nodes is a node of its own, or a call
 op_parts : (Q : NodesT Where → NodesT Where → Type 0) → ((o : OpT Where) (c : NodesT Where) → Q c (Do o c)) → ((t : Option Where) (f : ℕ) (args : List Where) (c : NodesT Where) → Q c (Call t f args c)) → (o : Op Where) (c : NodesT Where) → Q c (op_before o c)

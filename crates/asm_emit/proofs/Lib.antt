@@ -1,4 +1,5 @@
 pub mod Calling
+pub mod Ordered
 pub mod InMemory
 pub mod Fronts
 pub mod Coded

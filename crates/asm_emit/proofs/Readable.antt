@@ -22,9 +22,10 @@ use Rattle.mid_code.specs.declared.placed.Where.{Where}
 use Rattle.mid_code.specs.declared.placed.Where.TheVariants.{Reg, Slot}
 use Rattle.mid_code.specs.Code.{OpT, ConstO, NullO, MoveO, OneO, TwoO, GlobalO, LocalO, LiteralO, CardO, StepO, ApartO, PtrTestO, LoadO, StoreO, FreshO, EndO, InO, OutO, WaitO, HaltO, NodesT, Stop, Do, Call, Choose, Block, Loop, Leave, Again, Return, FunctionT, CodeT}
 use Rattle.mid_code.specs.Invariants.{AllOf, IsOp, AreNodes}
-use Rattle.asm_laws.specs.Operations.{Frame, Whole, register, keep, fetches, keeps, keeps_some, is_in, hand, brings, takes, aim, lays, moves, changes, is_direct, in_place, apart, turned, is_turned, turned_or_apart, computes, slot_arg, slot_args, pushed_arg, pushed_args, popped_arg, popped_args, args_items, call_items, op_items, in_one, one_or_more, more_of, giving, start_frame, opening_items, literal_items, literals_items}
+use Rattle.asm_laws.specs.Moves.{Move, in_order}
+use Rattle.asm_laws.specs.Operations.{Frame, Whole, register, keep, fetches, keeps, keeps_some, is_in, hand, brings, takes, aim, lays, moves, changes, is_direct, in_place, apart, turned, is_turned, turned_or_apart, computes, slot_arg, slot_args, moved_items, args_items, call_items, op_items, in_one, one_or_more, more_of, giving, start_frame, opening_items, literal_items, literals_items}
 use Rattle.asm_laws.specs.Framing.{frame_made, frame_gone}
-use Rattle.asm_laws.specs.inner.Emitted.{labels, enclosing, jump, jump_unless, mark, first_part, second_part, choice, one_way, alone, left_to, ends, jump_when, is_stop, enclosed, returning, items_past, code_items, exit_items, function_items, functions_items, closing_items, start_items, program_items}
+use Rattle.asm_laws.specs.inner.Emitted.{labels, enclosing, jump, jump_unless, mark, first_part, second_part, choice, alone, left_to, ends, jump_when, is_stop, enclosed, returning, items_past, code_items, exit_items, function_items, functions_items, closing_items, start_items, program_items}
 use Rattle.asm_laws.proofs.InOne.{one_or_more_is}
 use Rattle.asm_emit.specs.inner.Words.{AreWords, TextsAreWords}
 use Rattle.asm_emit.proofs.ReadableLabels.{jump_named, literal_named, function_named}
@@ -139,30 +140,17 @@ slot_fine : (F G : Frame) (p a : Where) → AllFine (slot_arg F G p a)
 slot_fine F G (Reg q) a = tt
 slot_fine F G (Slot k) a = join (brings F a 9) _ (brings_fine F a 9 (omega arith)) (((omega arith, in_words _ 2), (hand_fine a 9 (omega arith), tt)), tt)
 
-pushed_fine : (F : Frame) (p a : Where) → AllFine (pushed_arg F p a)
-pushed_fine F (Reg q) a = join (brings F a 9) _ (brings_fine F a 9 (omega arith)) ((hand_fine a 9 (omega arith), tt), tt)
-pushed_fine F (Slot k) a = tt
-
-popped_fine : (p : Where) → AllFine (popped_arg p)
-popped_fine (Reg q) = ((in_registers q, tt), tt)
-popped_fine (Slot k) = tt
-
 slots_fine : (F G : Frame) (ps args : List Where) → AllFine (slot_args F G ps args)
 slots_fine F G [] args = tt
 slots_fine F G (p ∷ ps) [] = tt
 slots_fine F G (p ∷ ps) (a ∷ args) = join (slot_arg F G p a) (slot_args F G ps args) (slot_fine F G p a) (slots_fine F G ps args)
 
-pushes_fine : (F : Frame) (ps args : List Where) → AllFine (pushed_args F ps args)
-pushes_fine F [] args = tt
-pushes_fine F (p ∷ ps) [] = tt
-pushes_fine F (p ∷ ps) (a ∷ args) = join (pushed_arg F p a) (pushed_args F ps args) (pushed_fine F p a) (pushes_fine F ps args)
-
-pops_fine : (ps : List Where) → AllFine (popped_args ps)
-pops_fine [] = tt
-pops_fine (p ∷ ps) = join (popped_args ps) (popped_arg p) (pops_fine ps) (popped_fine p)
+moved_fine : (F : Frame) (ms : List Move) → AllFine (moved_items F ms)
+moved_fine F [] = tt
+moved_fine F ((t, s) ∷ ms) = (fetch_fine F s (register t) (in_registers t), moved_fine F ms)
 
 args_fine : (F G : Frame) (ps args : List Where) → AllFine (args_items F G ps args)
-args_fine F G ps args = join (slot_args F G ps args) (pushed_args F ps args ++ popped_args ps) (slots_fine F G ps args) (join (pushed_args F ps args) (popped_args ps) (pushes_fine F ps args) (pops_fine ps))
+args_fine F G ps args = join (slot_args F G ps args) (moved_items F (in_order ps args)) (slots_fine F G ps args) (moved_fine F (in_order ps args))
 
 giving_fine : (F : Frame) (p : Option Where) → AllFine (giving F p)
 giving_fine F None = tt

@@ -1,9 +1,10 @@
 // Calls.
 ghost use Rattle.std.specs.Prelude.{◌≡◌, ◌++◌, ◌∷◌, [], OnOk, IfOk};
-ghost use Rattle.asm_laws.specs.Operations.{slot_arg, slot_args, pushed_arg, pushed_args, popped_arg, popped_args, args_items, call_items};
+ghost use Rattle.asm_laws.specs.Operations.{slot_arg, slot_args, args_items, call_items};
 ghost use Rattle.asm_emit.specs.inner.View.{frame, whole};
 
-use crate::hands::{brings, hand, keeps_some, op, register};
+use crate::hands::{brings, hand, keeps_some, op};
+use crate::moving::put_in_order;
 use crate::names::function_label;
 use crate::scope::{Around, Scope, params_at, scope_at, slot_word};
 use asm_items::AsmItem;
@@ -11,7 +12,7 @@ use either::Either;
 use kit_base::Memory;
 use mid_code::Where;
 use std::alloc::Global;
-use v32_isa::{Go, Instr, Mov, One, Reg, Src};
+use v32_isa::{Go, Instr, Mov, Reg, Src};
 
 fn put_slot_arg(
     out: &mut Vec<AsmItem>,
@@ -35,27 +36,6 @@ fn put_slot_arg(
     }
 }
 
-fn push_arg(out: &mut Vec<AsmItem>, s: &Scope<'_>, p: Where, a: Where) -> Result<(), Memory>
-    ensures { OnOk result (out.new.items ≡ out.old.items ++ pushed_arg (frame s.now) p a) }
-{
-    match p {
-        Where::Reg(_) => {
-            brings(out, s, a, 9)?;
-            op(out, Instr::One(One::PUSH, hand(a, 9)))
-        }
-        Where::Slot(_) => Ok(()),
-    }
-}
-
-fn pop_arg(out: &mut Vec<AsmItem>, p: Where) -> Result<(), Memory>
-    ensures { OnOk result (out.new.items ≡ out.old.items ++ popped_arg p) }
-{
-    match p {
-        Where::Reg(q) => op(out, Instr::One(One::POP, register(q))),
-        Where::Slot(_) => Ok(()),
-    }
-}
-
 fn put_slot_args(
     out: &mut Vec<AsmItem>,
     s: &Scope<'_>,
@@ -76,38 +56,8 @@ fn put_slot_args(
     Ok(())
 }
 
-fn push_args(
-    out: &mut Vec<AsmItem>,
-    s: &Scope<'_>,
-    ps: &[Where],
-    args: &[Where],
-) -> Result<(), Memory>
-    ensures { OnOk result (out.new.items ≡ out.old.items ++ pushed_args (frame s.now) ps.now args.now) }
-{
-    let mut rest = args;
-    for p in ps {
-        let Some((a, after)) = rest.split_first() else {
-            return Ok(());
-        };
-        push_arg(out, s, *p, *a)?;
-        rest = after;
-    }
-    Ok(())
-}
-
-#[tactic(auto, using(crate::proofs::Calling::pops_done))]
-fn pop_args(out: &mut Vec<AsmItem>, ps: &[Where]) -> Result<(), Memory>
-    ensures { OnOk result (out.new.items ≡ out.old.items ++ popped_args ps.now) }
-{
-    let mut rest = ps;
-    'each: while let Some((p, before)) = rest.split_last() {
-        pop_arg(out, *p)?;
-        rest = before;
-    }
-    Ok(())
-}
-
 fn put_args(
+    alloc: Global,
     out: &mut Vec<AsmItem>,
     s: &Scope<'_>,
     callee: &Scope<'_>,
@@ -117,8 +67,7 @@ fn put_args(
     ensures { OnOk result (out.new.items ≡ out.old.items ++ args_items (frame s.now) (frame callee.now) ps.now args.now) }
 {
     put_slot_args(out, s, callee, ps, args)?;
-    push_args(out, s, ps, args)?;
-    pop_args(out, ps)
+    put_in_order(alloc, out, s, ps, args)
 }
 
 /// The instruction that calls a function.
@@ -134,7 +83,7 @@ pub(crate) fn put_call(
     ensures { OnOk result (out.new.items ≡ out.old.items ++ call_items (whole w.now) (frame s.now) t g args.now) }
 {
     let callee = scope_at(w, g);
-    put_args(out, s, &callee, params_at(w.functions, g), args)?;
+    put_args(alloc, out, s, &callee, params_at(w.functions, g), args)?;
     let label = function_label(alloc, w.names, g)?;
     op(out, Instr::Go(Go::CALL, Src::Imm(Either::Right(label))))?;
     keeps_some(out, s, t)

@@ -8,6 +8,7 @@
 mod ahead;
 mod calls;
 mod hands;
+mod moving;
 mod names;
 mod nodes;
 mod operations;

@@ -1,65 +1,20 @@
 -- The arguments of a call, in slots and registers.
-use Rattle.std.proofs.Common.{◌≡◌, ◌≢◌, ℕ, ◌+◌, ◌-◌, ◌<◌, ◌≤◌, ◌⊎◌, inl, inr, true, false, List, [], ◌∷◌, length, refl, sym, ap, ◌∙◌, subst, arith}
+use Rattle.std.proofs.Common.{◌≡◌, ◌≢◌, ℕ, ◌+◌, ◌<◌, ◌≤◌, ◌⊎◌, inl, inr, Bool, true, false, List, [], ◌∷◌, length, refl, sym, ap, ◌∙◌, subst, arith}
 use Rattle.std.specs.Prelude.{map, cond, eqb, ◌==◌}
-use Rattle.v32_isa.specs.State.{written}
 use Rattle.obj_mem.specs.declared.cell.Cell.{Cell}
 use Rattle.obj_mem.specs.Stores.{Store}
 use Rattle.mid_code.specs.declared.placed.Where.{Where}
 use Rattle.mid_code.specs.declared.placed.Where.TheVariants.{Reg, Slot}
 use Rattle.mid_code.specs.States.{registers_and_slots, received}
-use Rattle.mid_code.specs.Invariants.{AllOf, DifferFrom, AreDifferent, in_registers}
+use Rattle.mid_code.specs.Invariants.{AllOf, DifferFrom, AreDifferent}
 use Rattle.asm_laws.specs.Operations.{Frame}
 use Rattle.asm_laws.specs.Addresses.{Addr, word_of, store}
-use Rattle.asm_laws.specs.inner.Links.{new_slot, all_passed, push, all_pushed, all_popped}
+use Rattle.asm_laws.specs.inner.Links.{new_slot, all_passed, arrived}
 use Rattle.asm_laws.proofs.Stepping.{same_or_not, written_same, written_other}
 use Rattle.asm_laws.specs.Holds.{Setting, sizes, slot_offset, Named, Fits, Ctx, Stands, HoldsAt}
 use Rattle.asm_laws.proofs.First.{word_stands}
 use Rattle.asm_laws.specs.Calling.{Callable}
 use Rattle.asm_laws.proofs.Frames.{top_of, low_write}
-
-word_top : (F : Frame) (x : Where) (b : Addr) (t : ℕ) → word_of F x (record b { top = t }) ≡ word_of F x b
-word_top F (Reg r) b t = refl
-word_top F (Slot k) b t = refl
-
-module _ (F : Frame) where
-  pushed_above : (ps args : List Where) (b : Addr) (q : ℕ) → in_registers ps ≤ b.top → b.top ≤ q → (all_pushed F ps args b).memory q ≡ b.memory q
-  pushed_above [] args b q le h = refl
-  pushed_above (p ∷ ps) [] b q le h = refl
-  pushed_above (Slot k ∷ ps) (x ∷ args) b q le h = pushed_above ps args b q le h
-  pushed_above (Reg r ∷ ps) (x ∷ args) b q le h = pushed_above ps args (push (word_of F x b) b) q (omega (arith, le)) (omega (arith, h)) ∙ written_other b.memory (b.top - 1) (word_of F x b) q (omega (arith, h, le))
-
-  pub pushed_under : (ps args : List Where) (b : Addr) (q : ℕ) → q + in_registers ps < b.top → (all_pushed F ps args b).memory q ≡ b.memory q
-  pushed_under [] args b q lt = refl
-  pushed_under (p ∷ ps) [] b q lt = refl
-  pushed_under (Slot k ∷ ps) (x ∷ args) b q lt = pushed_under ps args b q lt
-  pushed_under (Reg r ∷ ps) (x ∷ args) b q lt = pushed_under ps args (push (word_of F x b) b) q (omega (arith, lt)) ∙ written_other b.memory (b.top - 1) (word_of F x b) q (omega (arith, lt))
-
-  pub pushed_top : (ps args : List Where) (b : Addr) → length args ≡ length ps → in_registers ps ≤ b.top → (all_pushed F ps args b).top + in_registers ps ≡ b.top
-  pushed_top [] args b n le = omega arith
-  pushed_top (p ∷ ps) [] b n le = absurd (omega (arith, n))
-  pushed_top (Reg q ∷ ps) (x ∷ args) b n le = let r = pushed_top ps args (push (word_of F x b) b) (omega (arith, n)) (omega (arith, le)) in omega (arith, r, le)
-  pushed_top (Slot k ∷ ps) (x ∷ args) b n le = pushed_top ps args b (omega (arith, n)) le
-
-  pub pushed_base : (ps args : List Where) (b : Addr) → (all_pushed F ps args b).base ≡ b.base
-  pushed_base [] args b = refl
-  pushed_base (p ∷ ps) [] b = refl
-  pushed_base (Reg q ∷ ps) (x ∷ args) b = pushed_base ps args (push (word_of F x b) b)
-  pushed_base (Slot k ∷ ps) (x ∷ args) b = pushed_base ps args b
-
-pub popped_memory : (ps : List Where) (b : Addr) → (all_popped ps b).memory ≡ b.memory
-popped_memory [] b = refl
-popped_memory (Reg q ∷ ps) b = popped_memory ps b
-popped_memory (Slot k ∷ ps) b = popped_memory ps b
-
-pub popped_base : (ps : List Where) (b : Addr) → (all_popped ps b).base ≡ b.base
-popped_base [] b = refl
-popped_base (Reg q ∷ ps) b = popped_base ps b
-popped_base (Slot k ∷ ps) b = popped_base ps b
-
-pub popped_tops : (ps : List Where) (b : Addr) → (all_popped ps b).top ≡ b.top + in_registers ps
-popped_tops [] b = omega arith
-popped_tops (Reg q ∷ ps) b = let r = popped_tops ps b in omega (arith, r)
-popped_tops (Slot k ∷ ps) b = popped_tops ps b
 
 module _ (S : Setting) (fits : Fits S) (κ : Ctx) (s : Store) (cells : Where → Cell) (place : ℕ → ℕ) (f : ℕ) (c : Callable S f) (dk : S.depth κ.fn ≡ (S.whole.frames κ.fn).size) (room : (sizes S).globals + (S.whole.frames f).size + 2 ≤ top_of S κ) where
   abbrev F : Frame
@@ -116,36 +71,15 @@ module _ (S : Setting) (fits : Fits S) (κ : Ctx) (s : Store) (cells : Where →
 
   -- ---- arguments in registers
 
-  abbrev T : ℕ
-  T = top_of S κ
-
-  push_holds : (b : Addr) (v : ℕ) → b.top ≤ T → (sizes S).globals + 1 ≤ b.top → HoldsAt S κ s cells place (record b { top = T }) → HoldsAt S κ s cells place (record (push v b) { top = T })
-  push_holds b v hi lo h = low_write S fits κ s cells place (record b { top = T }) (b.top - 1) v (omega (arith, lo)) (omega (arith, lo, hi)) dk h
-
-  pub all_pushed_holds : (ps args : List Where) (b : Addr) → b.top ≤ T → (sizes S).globals + in_registers ps ≤ b.top → HoldsAt S κ s cells place (record b { top = T }) → HoldsAt S κ s cells place (record (all_pushed F ps args b) { top = T })
-  all_pushed_holds [] args b hi lo h = h
-  all_pushed_holds (p ∷ ps) [] b hi lo h = h
-  all_pushed_holds (Slot k ∷ ps) (x ∷ args) b hi lo h = all_pushed_holds ps args b hi lo h
-  all_pushed_holds (Reg r ∷ ps) (x ∷ args) b hi lo h = all_pushed_holds ps args (push (word_of F x b) b) (omega (arith, hi)) (omega (arith, lo)) (push_holds b (word_of F x b) hi (omega (arith, lo)) h)
-
-  pub regs_popped : (ps args : List Where) (b : Addr) → AllOf (Named S κ.fn) args → length args ≡ length ps → b.top ≤ T → (sizes S).globals + in_registers ps ≤ b.top → HoldsAt S κ s cells place (record b { top = T }) → (q : ℕ) → Stands N place (received registers_and_slots ps (map cells args) (Reg q)) ((all_popped ps (all_pushed F ps args b)).regs q)
-  regs_popped [] args b good n hi lo h q = tt
-  regs_popped (p ∷ ps) [] b good n hi lo h q = absurd (omega (arith, n))
-  regs_popped (Slot k ∷ ps) (x ∷ args) b good n hi lo h q = regs_popped ps args b good.1 (omega (arith, n)) hi lo h q
-  regs_popped (Reg r ∷ ps) (x ∷ args) b good n hi lo h q = go (same_or_not q r) (λ z. regs_popped ps args (push (word_of F x b) b) good.1 (omega (arith, n)) (omega (arith, hi)) (omega (arith, lo)) (push_holds b (word_of F x b) hi (omega (arith, lo)) h) q)
+  pub regs_arrived : (ps args : List Where) (a : Addr) → AllOf (Named S κ.fn) args → HoldsAt S κ s cells place a → (q : ℕ) → Stands N place (received registers_and_slots ps (map cells args) (Reg q)) (arrived F ps args a q)
+  regs_arrived [] args a good h q = tt
+  regs_arrived (p ∷ ps) [] a good h q = tt
+  regs_arrived (Slot k ∷ ps) (x ∷ args) a good h q = regs_arrived ps args a good.1 h q
+  regs_arrived (Reg r ∷ ps) (x ∷ args) a good h q = go (same_or_not q r) (regs_arrived ps args a good.1 h q)
     where
-      go : ((q ≡ r) × ((q == r) ≡ true)) ⊎ ((q ≢ r) × ((q == r) ≡ false)) → (Unit {0} → Stands N place (received registers_and_slots ps (map cells args) (Reg q)) ((all_popped ps (all_pushed F ps args (push (word_of F x b) b))).regs q)) → Stands N place (cond (eqb q r) (cells x) (received registers_and_slots ps (map cells args) (Reg q))) ((all_popped (Reg r ∷ ps) (all_pushed F ps args (push (word_of F x b) b))).regs q)
-      go (inl e) more =
-          let v = word_of F x b in
-          let b2 = push v b in
-          let Z = all_popped ps (all_pushed F ps args b2) in
-          let t1 = pushed_top F ps args b2 (omega (arith, n)) (omega (arith, lo)) in
-          let t2 = popped_tops ps (all_pushed F ps args b2) in
-          let t3 : Z.top ≡ b.top - 1 = omega (arith, t1, t2) in
-          let w : Z.memory Z.top ≡ v = ap (λ m. m Z.top) (popped_memory ps (all_pushed F ps args b2)) ∙ ap (all_pushed F ps args b2).memory t3 ∙ pushed_above F ps args b2 (b.top - 1) (omega (arith, lo)) (omega arith) ∙ written_same b.memory (b.top - 1) v (b.top - 1) refl in
-          let u : written Z.regs r (Z.memory Z.top) q ≡ v = written_same Z.regs r (Z.memory Z.top) q e.0 ∙ w in
-          subst (λ z. Stands N place (cond z (cells x) (received registers_and_slots ps (map cells args) (Reg q))) (written Z.regs r (Z.memory Z.top) q)) (sym e.1) (subst (λ z. Stands N place (cells x) z) (sym u) (subst (λ z. Stands N place (cells x) z) (word_top F x b T) (word_stands S fits κ s cells place (record b { top = T }) x good.0 h)))
-      go (inr e) more =
-          let b2 = push (word_of F x b) b in
-          let Z = all_popped ps (all_pushed F ps args b2) in
-          subst (λ z. Stands N place (cond z (cells x) (received registers_and_slots ps (map cells args) (Reg q))) (written Z.regs r (Z.memory Z.top) q)) (sym e.1) (subst (λ z. Stands N place (received registers_and_slots ps (map cells args) (Reg q)) z) (sym (written_other Z.regs r (Z.memory Z.top) q e.0)) (more tt))
+      Both : Bool → Type 0
+      Both b = Stands N place (cond b (cells x) (received registers_and_slots ps (map cells args) (Reg q))) (cond b (word_of F x a) (arrived F ps args a q))
+
+      go : ((q ≡ r) × ((q == r) ≡ true)) ⊎ ((q ≢ r) × ((q == r) ≡ false)) → Stands N place (received registers_and_slots ps (map cells args) (Reg q)) (arrived F ps args a q) → Both (q == r)
+      go (inl e) more = subst Both (sym e.1) (word_stands S fits κ s cells place a x good.0 h)
+      go (inr e) more = subst Both (sym e.1) more

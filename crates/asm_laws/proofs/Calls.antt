@@ -22,7 +22,7 @@ use Rattle.mid_code.specs.declared.placed.Where.{Where}
 use Rattle.mid_code.specs.declared.placed.Where.TheVariants.{Reg, Slot}
 use Rattle.mid_code.specs.Code.{maybe}
 use Rattle.mid_code.specs.States.{State, spent, registers_and_slots, function_at, received, after_call, begun, back, if_room}
-use Rattle.mid_code.specs.Invariants.{AllOf, in_registers}
+use Rattle.mid_code.specs.Invariants.{AllOf}
 use Rattle.asm_laws.specs.Names.{function_label}
 use Rattle.asm_laws.specs.Operations.{Frame, args_items, keeps_some}
 use Rattle.asm_laws.specs.Placing.{Line}
@@ -30,7 +30,7 @@ use Rattle.asm_laws.specs.inner.Following.{begin, spare, CameBy, Enters, CallSim
 use Rattle.asm_laws.specs.Standing.{Stand}
 use Rattle.asm_laws.specs.Addresses.{Addr, Console, store, put, Good, Held, ArrivesBy}
 use Rattle.asm_laws.specs.Framing.{frame_gone}
-use Rattle.asm_laws.specs.inner.Links.{all_passed, all_pushed, all_popped, new_slot, called, way_back, gone_back}
+use Rattle.asm_laws.specs.inner.Links.{all_passed, all_arrived, new_slot, called, way_back, gone_back}
 use Rattle.asm_laws.proofs.Stepping.{line_effect, line_turn, reg_other, moved, keeps_so, written_same, written_other}
 use Rattle.asm_laws.proofs.LinksStep.{link_bare, link_framed, framed_link, link_range, Roomy, calls, part, top_held, base_held, copy_act, popbase_act, ret_act, returns_by, link_at, passed_same}
 use Rattle.asm_laws.proofs.LinksStep as emitted_calls
@@ -39,7 +39,7 @@ use Rattle.asm_laws.specs.Calling.{Callable, Mach, Given, lang, holder, CallAt, 
 use Rattle.asm_laws.proofs.Lists.{length_end_from}
 use Rattle.asm_laws.proofs.First.{stands_more, room, set_target}
 use Rattle.asm_laws.proofs.Frames.{top_of, below, pointer_in, inner, room_of, low_write, enter_holds, link_stays, back_holds}
-use Rattle.asm_laws.proofs.Args.{pushed_under, pushed_top, pushed_base, popped_memory, popped_base, popped_tops, all_passed_holds, slots_passed, all_pushed_holds, regs_popped}
+use Rattle.asm_laws.proofs.Args.{all_passed_holds, slots_passed, regs_arrived}
 
 -- steps that change something are some
 reaches_same : (is js : List Link) (s t : machine.State) (xs : List ℕ) → Moves is js 0 s xs [] t xs → s ≡ t
@@ -160,14 +160,11 @@ module _ (S : Setting) (fits : Fits S) where
     abbrev a1 : Addr
     a1 = all_passed F G ps args a
 
-    abbrev a2 : Addr
-    a2 = all_pushed F ps args a1
-
     abbrev P : Addr
-    P = all_popped ps a2
+    P = all_arrived F ps args a1
 
     abbrev aT : Addr
-    aT = record a2 { top = T }
+    aT = record a1 { top = T }
 
     -- whether the frame of the call has no words
     abbrev bare : Bool
@@ -185,14 +182,8 @@ module _ (S : Setting) (fits : Fits S) where
     top_1 : a1.top ≡ T
     top_1 = let e = h1.stack.top_is in omega (arith, e)
 
-    h1T : HoldsAt S κ st s.cells h.place (record a1 { top = T })
-    h1T = subst (λ q. HoldsAt S κ st s.cells h.place (record a1 { top = q })) top_1 h1
-
-    room_1 : (sizes S).globals + in_registers ps ≤ a1.top
-    room_1 = let r = at.callable.registers_in in omega (arith, r, big, top_1)
-
     hT : HoldsAt S κ st s.cells h.place aT
-    hT = all_pushed_holds S fits κ st s.cells h.place g at.callable at.depth big ps args a1 (omega (arith, top_1)) room_1 h1T
+    hT = subst (λ q. HoldsAt S κ st s.cells h.place (record a1 { top = q })) top_1 h1
 
     h3 : HoldsAt S κ st s.cells h.place a3
     h3 = go bare
@@ -209,30 +200,27 @@ module _ (S : Setting) (fits : Fits S) where
     link_next = go bare
       where
         go : (b : Bool) → (linked b).memory (T - 1) ≡ next
-        go true = written_same a2.memory (T - 1) next (T - 1) refl
-        go false = written_other (store (T - 1) next aT).memory (T - 2) a.base (T - 1) (omega (arith, big)) ∙ written_same a2.memory (T - 1) next (T - 1) refl
+        go true = written_same a1.memory (T - 1) next (T - 1) refl
+        go false = written_other (store (T - 1) next aT).memory (T - 2) a.base (T - 1) (omega (arith, big)) ∙ written_same a1.memory (T - 1) next (T - 1) refl
 
-    link_under : (q : ℕ) → q < T - 2 → a3.memory q ≡ a2.memory q
+    link_under : (q : ℕ) → q < T - 2 → a3.memory q ≡ a1.memory q
     link_under q lt = go bare
       where
-        go : (b : Bool) → (linked b).memory q ≡ a2.memory q
-        go true = written_other a2.memory (T - 1) next q (omega (arith, lt))
-        go false = written_other (store (T - 1) next aT).memory (T - 2) a.base q (omega (arith, lt)) ∙ written_other a2.memory (T - 1) next q (omega (arith, lt))
-
-    top_2 : a2.top + in_registers ps ≡ T
-    top_2 = pushed_top F ps args a1 at.count (omega (arith, room_1)) ∙ top_1
+        go : (b : Bool) → (linked b).memory q ≡ a1.memory q
+        go true = written_other a1.memory (T - 1) next q (omega (arith, lt))
+        go false = written_other (store (T - 1) next aT).memory (T - 2) a.base q (omega (arith, lt)) ∙ written_other a1.memory (T - 1) next q (omega (arith, lt))
 
     P_top : P.top ≡ T
-    P_top = popped_tops ps a2 ∙ top_2
+    P_top = top_1
 
     P_base : P.base ≡ a.base
-    P_base = popped_base ps a2 ∙ pushed_base F ps args a1 ∙ (passed_same C S.address F G ps args a).0
+    P_base = (passed_same C S.address F G ps args a).0
 
     abbrev b : Addr
     b = called F G ps args next a
 
     memory_is : b.memory ≡ a3.memory
-    memory_is = entered_memory bare P a2.memory T a.base next P_top (popped_memory ps a2) P_base
+    memory_is = entered_memory bare P a1.memory T a.base next P_top refl P_base
 
     abbrev κ2 : Ctx
     κ2 = inner S κ g st.objects h.place a3.memory
@@ -240,17 +228,16 @@ module _ (S : Setting) (fits : Fits S) where
     slot_at : (k : ℕ) → S.has_slot g k → Stands N h.place (received registers_and_slots ps (map s.cells args) (Slot k)) (b.memory (slot_place S κ2 k))
     slot_at k has =
         let u = fits.slot_in g k has in
-        let o = at.callable.own_in k has in
         let q = slot_place S κ2 k in
         let w = framed_link G.size (omega (arith, u)) in
         let e1 : q ≡ new_slot G k a = omega (arith, top_a, w) in
         let wq : b.memory q ≡ a1.memory (new_slot G k a) =
-        ap (λ f. f q) memory_is ∙ link_under q (omega (arith, u, w, big)) ∙ pushed_under F ps args a1 q (omega (arith, u, w, big, o, top_1)) ∙ ap a1.memory e1 in
+        ap (λ f. f q) memory_is ∙ link_under q (omega (arith, u, w, big)) ∙ ap a1.memory e1 in
         subst (λ z. Stands N h.place (received registers_and_slots ps (map s.cells args) (Slot k)) z) (sym wq) (slots_passed S fits κ st s.cells h.place g at.callable at.depth big ps args a at.callable.params_named at.callable.params_differ at.args_named h.at k has)
 
     temps : Temps S κ2 N h.place (received registers_and_slots ps (map s.cells args)) b.regs b.memory
     temps = record {
-      in_regs = λ r lt. regs_popped S fits κ st s.cells h.place g at.callable at.depth big ps args a1 at.args_named at.count (omega (arith, top_1)) room_1 h1T r;
+      in_regs = λ r lt. regs_arrived S fits κ st s.cells h.place g at.callable at.depth big ps args a1 at.args_named h1 r;
       in_slots = slot_at;
     }
 
@@ -272,16 +259,13 @@ module _ (S : Setting) (fits : Fits S) where
     roomy : Roomy C S.address F G a
     roomy = record { room = room S fits κ st s.cells h.place a h.at; below = omega (arith, big, top_a); above = omega (arith, low_t, top_a) }
 
-    registers_fit : in_registers ps ≤ a.top
-    registers_fit = let r = at.callable.registers_in in omega (arith, r, big, top_a)
-
     -- the link
     abbrev link : Link
     link = link_at C S.address F G P next
 
     -- the machine is at the body
     comes : (fn : FunctionAt S g) → ArrivesBy [] (link ∷ []) C (3 * length args + 4) m xs (S.enters g) [] xs b
-    comes fn = calls C S.address F G a m xs pc split.0 next fn.begins (S.enters g) ps args roomy at.count registers_fit (all_good g F G ps (good_at g) at.callable.params_named) (all_good κ.fn F G args (good_at κ.fn) at.args_named) h.held epc split.1
+    comes fn = calls C S.address F G a m xs pc split.0 next fn.begins (S.enters g) ps args roomy at.count (all_good g F G ps (good_at g) at.callable.params_named) at.callable.params_differ (all_good κ.fn F G args (good_at κ.fn) at.args_named) h.held epc split.1
         (subst (λ z. Line C.words split.0 (instr.Go CALL (src.Imm z)) next) fn.label split.2.1) fn.entry
 
     goes : FunctionAt S g → CameBy [] (link ∷ []) (holder S) m (spare 8 (begin (holder S) s)) (begun registers_and_slots (sizes S) (function_at S.code g).params g args (spent w s)) (S.enters g) 1 0 (Mach S κ2 (begun registers_and_slots (sizes S) (function_at S.code g).params g args (spent w s)))

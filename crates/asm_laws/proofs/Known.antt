@@ -29,7 +29,8 @@ use Rattle.mid_code.specs.Invariants.{IsOp, IsLoop, parameter_count, AreNodes, A
 use Rattle.mid_code.specs.Runs.{weight}
 use Rattle.asm_laws.specs.Labelled.{HasLabel}
 use Rattle.asm_laws.specs.Names.{jump_label, literal_label, function_label}
-use Rattle.asm_laws.specs.Operations.{Frame, Whole, register, keep, fetches, keeps, keeps_some, is_in, hand, brings, takes, aim, lays, moves, changes, is_direct, in_place, apart, turned, is_turned, turned_or_apart, computes, slot_arg, slot_args, pushed_arg, pushed_args, popped_arg, popped_args, args_items, call_items, op_items, in_one, one_or_more, more_of, giving, start_frame, opening_items, literal_items, literals_items}
+use Rattle.asm_laws.specs.Moves.{Move, in_order}
+use Rattle.asm_laws.specs.Operations.{Frame, Whole, register, keep, fetches, keeps, keeps_some, is_in, hand, brings, takes, aim, lays, moves, changes, is_direct, in_place, apart, turned, is_turned, turned_or_apart, computes, slot_arg, slot_args, moved_items, args_items, call_items, op_items, in_one, one_or_more, more_of, giving, start_frame, opening_items, literal_items, literals_items}
 use Rattle.asm_laws.specs.Framing.{frame_made, frame_gone}
 use Rattle.asm_laws.proofs.Leaving.{left_is}
 use Rattle.asm_laws.specs.inner.Emitted.{labels, functions_labels, enclosing, jump, jump_unless, mark, first_part, second_part, choice, one_way, alone, left_to, ends, jump_when, is_stop, enclosed, returning, items_past, code_items, entry_items, exit_items, function_items, functions_items, closing_items, start_items, program_items}
@@ -167,30 +168,17 @@ module _ (x : CodeT Where) (W : Whole) (Q : List ℕ → Type 0) (of_function : 
   slot_uses F G (Reg q) a = tt
   slot_uses F G (Slot k) a = brought_uses F a 9 _ (tt, tt)
 
-  pushed_uses : (F : Frame) (p a : Where) → Uses Q (pushed_arg F p a)
-  pushed_uses F (Reg q) a = brought_uses F a 9 _ (tt, tt)
-  pushed_uses F (Slot k) a = tt
-
-  popped_uses : (p : Where) → Uses Q (popped_arg p)
-  popped_uses (Reg q) = (tt, tt)
-  popped_uses (Slot k) = tt
-
   slots_uses : (F G : Frame) (ps args : List Where) → Uses Q (slot_args F G ps args)
   slots_uses F G [] args = tt
   slots_uses F G (p ∷ ps) [] = tt
   slots_uses F G (p ∷ ps) (a ∷ args) = uses_append Q (slot_arg F G p a) (slot_args F G ps args) (slot_uses F G p a) (slots_uses F G ps args)
 
-  pushes_uses : (F : Frame) (ps args : List Where) → Uses Q (pushed_args F ps args)
-  pushes_uses F [] args = tt
-  pushes_uses F (p ∷ ps) [] = tt
-  pushes_uses F (p ∷ ps) (a ∷ args) = uses_append Q (pushed_arg F p a) (pushed_args F ps args) (pushed_uses F p a) (pushes_uses F ps args)
-
-  pops_uses : (ps : List Where) → Uses Q (popped_args ps)
-  pops_uses [] = tt
-  pops_uses (p ∷ ps) = uses_append Q (popped_args ps) (popped_arg p) (pops_uses ps) (popped_uses p)
+  moved_uses : (F : Frame) (ms : List Move) → Uses Q (moved_items F ms)
+  moved_uses F [] = tt
+  moved_uses F ((t, s) ∷ ms) = (fetch_uses F s (register t), moved_uses F ms)
 
   args_uses : (F G : Frame) (ps args : List Where) → Uses Q (args_items F G ps args)
-  args_uses F G ps args = uses_append Q (slot_args F G ps args) (pushed_args F ps args ++ popped_args ps) (slots_uses F G ps args) (uses_append Q (pushed_args F ps args) (popped_args ps) (pushes_uses F ps args) (pops_uses ps))
+  args_uses F G ps args = uses_append Q (slot_args F G ps args) (moved_items F (in_order ps args)) (slots_uses F G ps args) (moved_uses F (in_order ps args))
 
   op_uses : (m : ℕ) (F : Frame) (o : OpT Where) → IsOp x m o → Uses Q (op_items W F o)
   unfolding op_items

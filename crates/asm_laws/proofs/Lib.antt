@@ -2,6 +2,7 @@ pub mod Control
 pub mod Split
 pub mod Stepping
 pub mod Hands
+pub mod Ordering
 pub mod LinksStep
 pub mod OperationsStep
 pub mod InOneStep

@@ -1,7 +1,7 @@
 -- The machine's steps of a call up to the body of the function, and of the way back.
 use Rattle.std.proofs.lemmas.Bool.{eqb-true}
 use Rattle.std.specs.Prelude.{◌==◌}
-use Rattle.std.proofs.Common.{◌≡◌, ℕ, ◌+◌, ◌-◌, ◌*◌, ◌<◌, ◌≤◌, true, List, [], ◌∷◌, ◌++◌, length, Some, refl, ap, ◌∙◌, subst, arith, Bool, false, cond}
+use Rattle.std.proofs.Common.{◌≡◌, ℕ, ◌+◌, ◌-◌, ◌*◌, ◌<◌, ◌≤◌, true, List, [], ◌∷◌, ◌++◌, length, Some, inl, inr, refl, sym, ap, ◌∙◌, subst, arith, Bool, false, cond}
 use Rattle.std.specs.Prelude.{get_or}
 use Rattle.std.proofs.lemmas.List.{length-set}
 use Rattle.kit_base.specs.Word.{add, sub}
@@ -20,21 +20,26 @@ use Rattle.v32_isa.specs.Machine.{act}
 use Rattle.v32_isa.specs.Machine.Effect.{Ends as EndsIn}
 use Rattle.v32_isa.specs.Calls.{turn_of, Link}
 use Rattle.v32_isa.specs.Calls.Turn.{Other}
-use Rattle.v32_isa.proofs.Steps.{Moves, reaches_here, reaches_in, moves_on, reaches_on, reaches_went, moves_entered, moves_returned}
+use Rattle.v32_isa.proofs.Steps.{Moves, Reaches, reaches_here, reaches_in, moves_on, reaches_on, reaches_went, moves_entered, moves_returned}
 use Rattle.either.specs.declared.Either.TheVariants.{Left}
+use Rattle.asm_items.specs.Items.{instr_with}
+use Rattle.asm_items.specs.Words.{imm_word}
 use Rattle.asm_items.specs.declared.item.AsmItem.{AsmItem}
 use Rattle.asm_items.specs.declared.item.AsmItem.TheVariants as item
 use Rattle.mid_code.specs.declared.placed.Where.{Where}
 use Rattle.mid_code.specs.declared.placed.Where.TheVariants.{Reg, Slot}
-use Rattle.mid_code.specs.Invariants.{in_registers}
-use Rattle.asm_laws.specs.Operations.{Frame, slot_word, hand, brings, slot_arg, slot_args, pushed_arg, pushed_args, popped_arg, popped_args, args_items}
+use Rattle.mid_code.specs.Invariants.{in_registers, AreDifferent}
+use Rattle.asm_laws.specs.Operations.{Frame, register, slot_word, fetch, hand, brings, slot_arg, slot_args, moved_items, args_items}
+use Rattle.asm_laws.specs.Moves.{Move, in_order}
 use Rattle.asm_laws.specs.Placing.{Line}
 use Rattle.asm_laws.specs.Standing.{Stand}
 use Rattle.asm_laws.specs.Addresses.{Addr, Console, word_of, store, Room, Good, Held, ArrivesBy, Arrives}
 use Rattle.asm_laws.specs.Framing.{frame_made, link_words}
-use Rattle.asm_laws.specs.inner.Links.{new_slot, passed, all_passed, push, pushed, all_pushed, popped, all_popped, entered, slot_steps, called}
-use Rattle.asm_laws.proofs.Stepping.{readable_word, ram_readable, ram_writable, writes_at, line_effect, line_turn, reg_same, reg_other, moved, kept, stores, reg_number}
-use Rattle.asm_laws.proofs.Hands.{held_alike, hand_fits, brings_at}
+use Rattle.asm_laws.specs.inner.Links.{new_slot, passed, all_passed, push, all_arrived, moved as moved_by, entered, slot_steps, called}
+use Rattle.asm_laws.proofs.Stepping.{same_or_not, written_same, written_other, readable_word, ram_readable, ram_writable, writes_at, line_effect, line_turn, reg_same, reg_other, took, moved, kept, stores, fetches_so}
+use Rattle.asm_laws.proofs.Hands.{with_reg, held_alike, hand_fits, brings_at}
+use Rattle.asm_laws.proofs.Ordering.{Every, moved_same, in_order_is, in_order_fine, in_order_few}
+use Rattle.asm_laws.proofs.Ordering as ordering
 
 -- how many words a link has
 pub link_bare : (size : ℕ) → (size == 0) ≡ true → link_words size ≡ 1
@@ -128,19 +133,6 @@ module _ (C : Console) where
   pushes : (a : Addr) (s : State) (xs : List ℕ) (pc r v next : ℕ) → r < 16 → 1 ≤ a.top → a.top ≤ 0x400000 → register_of s r ≡ v → Held C a s → s.counter ≡ pc → Line C.words pc (instr.One PUSH r) next → Arrives C 1 s xs next [] xs (push v a)
   pushes a s xs pc r v next lt lo hi is h e l = one a (push v a) s (going_to next (with_register 15 (a.top - 1) (stored s (a.top - 1) v))) xs pc (instr.One PUSH r) next h e l (lt, omega arith, omega arith) (push_act a s r v next lo hi is h) refl (push_held a s v next lo hi h)
 
-  -- a word is popped into a register
-  pop_act : (a : Addr) (s : State) (r next : ℕ) → a.top < 0x400000 → Held C a s → act (instr.One POP r) next s ≡ EndsIn stepped.Went (going_to next (with_register r (a.memory a.top) (with_register 15 (a.top + 1) s)))
-  unfolding act
-  pop_act a s r next hi h =
-      let w = readable_word C a s a.top h (ram_readable C a.top hi) in
-      let u : add a.top 1 ≡ a.top + 1 = omega (arith, hi) in
-      rw (h.top, w, u) refl
-
-  pops : (a : Addr) (s : State) (xs : List ℕ) (pc q next : ℕ) → q < 9 → a.top < 0x400000 → Held C a s → s.counter ≡ pc → Line C.words pc (instr.One POP q) next → Arrives C 1 s xs next [] xs (popped (Reg q) a)
-  pops a s xs pc q next lt hi h e l =
-      one a (popped (Reg q) a) s (going_to next (with_register q (a.memory a.top) (with_register 15 (a.top + 1) s))) xs pc (instr.One POP q) next h e l (omega arith, omega arith, omega arith) (pop_act a s q next hi h) refl
-      (kept C (record a { top = a.top + 1 }) (with_register 15 (a.top + 1) s) next q (a.memory a.top) (omega (arith, lt)) (top_held a s (a.top + 1) h))
-
   -- ---- arguments
 
   module _ (address : List ℕ → ℕ) (F G : Frame) where
@@ -199,68 +191,79 @@ module _ (C : Console) where
     roomy : (a b : Addr) → b.base ≡ a.base → Room F a → Room F b
     roomy a b e r = record { low = omega (arith, e, r.low); high = omega (arith, e, r.high) }
 
-    -- register parameters are pushed
-    pushes_one : (a : Addr) (s : State) (xs : List ℕ) (pc e : ℕ) (p x : Where) → Room F a → 1 ≤ a.top → a.top ≤ 0x400000 → Good F x → Held C a s → s.counter ≡ pc → Here pc (pushed_arg F p x) e → Arrives C 2 s xs e [] xs (pushed F p x a)
-    pushes_one a s xs pc e (Slot i) x room lo hi gx h c k = let n = nothing s xs pc e a h c k in record { steps = n.steps; to = n.to; by = n.by; at = n.at; held = n.held; few = omega (arith, n.few) }
-    pushes_one a s xs pc e (Reg q) x room lo hi gx h c k =
+    -- ---- moves
+
+    -- a place whose word a move takes: of a register of temporaries or of the emitter's own, or of a slot inside the frame
+    abbrev pub Source : Where → Type 0
+    Source (Reg r) = r < 11
+    Source (Slot k) = get_or F.slots k k < F.size
+
+    low_number : (r : ℕ) → r < 11 → register r ≡ r
+    low_number r lt = omega arith
+
+    pub copy_act : (s : State) (r q next : ℕ) → act (instr.Mov (RegReg r q)) next s ≡ EndsIn stepped.Went (going_to next (with_register r (register_of s q) s))
+    unfolding act
+    copy_act s r q next = refl
+
+    -- the emitter's own registers are held too
+    abbrev Alike : Addr → State → Type 0
+    Alike a s = (r : ℕ) → r < 11 → register_of s r ≡ a.regs r
+
+    move_so : (a : Addr) (s : State) (xs : List ℕ) (pc t : ℕ) (x : Where) (next : ℕ) → Room F a → Source x → t < 11 → Held C a s → Alike a s → s.counter ≡ pc → Line C.words pc (instr_with (imm_word address) (fetch F x (register t))) next → Reaches 1 s xs [] (took C next t (word_of F x a) s) xs
+    move_so a s xs pc t (Slot k) next room good lt h like e l =
+        subst (λ r. Reaches 1 s xs [] (took C next r (word_of F (Slot k) a) s) xs) (low_number t lt) (fetches_so C F address a s xs pc (Slot k) (register t) next room good (omega arith) h e l)
+    move_so a s xs pc t (Reg q) next room good lt h like e l =
+        let same : register_of s (register q) ≡ a.regs q = ap (λ r. register_of s r) (low_number q good) ∙ like q good in
+        let is : act (instr.Mov (RegReg (register t) (register q))) next s ≡ EndsIn stepped.Went (took C next t (a.regs q) s) =
+        copy_act s (register t) (register q) next ∙ (λ i. EndsIn stepped.Went (took C next (low_number t lt i) (same i) s)) in
+        reaches_went s (took C next t (a.regs q) s) xs (line_effect C a s pc (instr.Mov (RegReg (register t) (register q))) next h e l (omega arith, omega arith, omega arith) ∙ is) (line_turn C a s pc (instr.Mov (RegReg (register t) (register q))) next h e l (omega arith, omega arith, omega arith))
+
+    alike_on : (a : Addr) (s : State) (next t v : ℕ) → t < 11 → Held C a s → Alike a s → Alike (with_reg t v a) (took C next t v s)
+    alike_on a s next t v lt h like r low = elim (same_or_not r t) [
+      | inl x ↦ ap (λ k. register_of (with_register t v s) k) x.0 ∙ reg_same C s t v (let n = h.sixteen in omega (arith, n, lt)) ∙ sym (written_same a.regs t v r x.0)
+      | inr x ↦ reg_other C s t v r x.0 ∙ like r low ∙ sym (written_other a.regs t v r x.0)
+    ]
+
+    moves_so : (ms : List Move) (a : Addr) (s : State) (xs : List ℕ) (pc e : ℕ) → Every (λ m. (m.0 < 11) × Source m.1) ms → Room F a → Held C a s → Alike a s → s.counter ≡ pc → Here pc (moved_items F ms) e → Arrives C (length ms) s xs e [] xs (moved_by F ms a)
+    moves_so [] a s xs pc e good room h like c k = let n = nothing s xs pc e a h c k in record { steps = n.steps; to = n.to; by = n.by; at = n.at; held = n.held; few = omega (arith, n.few) }
+    moves_so ((t, x) ∷ ms) a s xs pc e good room h like c k =
         let v = word_of F x a in
-        let d = part (brings F x 9) (item.Op (instr.One PUSH (hand x 9)) ∷ []) pc e k in
-        let b = brings_at C F address a s xs pc d.0 x 9 room gx (omega arith) (omega arith) h c d.1 in
-        let t = b.to in
-        let l = d.2 in
-        let f = pushes a t xs d.0 (hand x 9) v l.0 (hand_fits x 9 (omega arith)) lo hi b.is b.held b.at l.1 in
-        subst (λ q1. Arrives C 2 s xs q1 [] xs (push v a)) l.2
-        (record { steps = b.steps + f.steps; to = f.to; by = reaches_on b.steps f.steps s t f.to xs xs xs [] [] b.by f.by; at = f.at; held = f.held; few = let n = f.few in let m = b.few in omega (arith, n, m) })
+        let u = took C k.0 t v s in
+        let m = move_so a s xs pc t x k.0 room good.0.1 good.0.0 h like c k.1 in
+        let f = moves_so ms (with_reg t v a) u xs k.0 e good.1 (record { low = room.low; high = room.high }) (kept C a s k.0 t v good.0.0 h) (alike_on a s k.0 t v good.0.0 h like) refl k.2 in
+        record { steps = 1 + f.steps; to = f.to; by = reaches_on 1 f.steps s u f.to xs xs xs [] [] m f.by; at = f.at; held = f.held; few = omega (arith, f.few) }
 
-    pushed_base : (p x : Where) (a : Addr) → (pushed F p x a).base ≡ a.base
-    pushed_base (Reg q) x a = refl
-    pushed_base (Slot k) x a = refl
+    params_low : (ps : List Where) → AllOf (Good G) ps → ordering.AllOf F (ordering.Low F) ps
+    params_low [] g = tt
+    params_low (Reg q ∷ ps) g = (g.0, params_low ps g.1)
+    params_low (Slot k ∷ ps) g = (tt, params_low ps g.1)
 
-    pushed_top : (p x : Where) (ps : List Where) (a : Addr) → in_registers (p ∷ ps) ≤ a.top → in_registers ps ≤ (pushed F p x a).top
-    pushed_top (Reg q) x ps a le = omega (arith, le)
-    pushed_top (Slot k) x ps a le = le
+    sources : (args : List Where) → AllOf (Good F) args → ordering.AllOf F Source args
+    sources [] g = tt
+    sources (Reg q ∷ args) g = (omega (arith, g.0), sources args g.1)
+    sources (Slot k ∷ args) g = (g.0, sources args g.1)
 
-    pushed_high : (p x : Where) (a : Addr) → a.top ≤ 0x400000 → (pushed F p x a).top ≤ 0x400000
-    pushed_high (Reg q) x a le = omega (arith, le)
-    pushed_high (Slot k) x a le = le
+    same_words : (a : Addr) (s : State) (args : List Where) → AllOf (Good F) args → Held C a s → ordering.AllOf F (λ x. word_of F x (record a { regs = register_of s }) ≡ word_of F x a) args
+    same_words a s [] g h = tt
+    same_words a s (Reg q ∷ args) g h = (h.regs q g.0, same_words a s args g.1 h)
+    same_words a s (Slot k ∷ args) g h = (refl, same_words a s args g.1 h)
 
-    all_pushes : (a : Addr) (s : State) (xs : List ℕ) (pc e : ℕ) (ps args : List Where) → Room F a → in_registers ps ≤ a.top → a.top ≤ 0x400000 → AllOf (Good F) args → Held C a s → s.counter ≡ pc → Here pc (pushed_args F ps args) e → Arrives C (2 * in_registers ps) s xs e [] xs (all_pushed F ps args a)
-    all_pushes a s xs pc e [] args room lo hi gx h c k = let n = nothing s xs pc e a h c k in record { steps = n.steps; to = n.to; by = n.by; at = n.at; held = n.held; few = omega (arith, n.few) }
-    all_pushes a s xs pc e (p ∷ ps) [] room lo hi gx h c k = let n = nothing s xs pc e a h c k in record { steps = n.steps; to = n.to; by = n.by; at = n.at; held = n.held; few = omega (arith, n.few) }
-    all_pushes a s xs pc e (Slot i ∷ ps) (x ∷ args) room lo hi gx h c k = all_pushes a s xs pc e ps args room lo hi gx.1 h c k
-    all_pushes a s xs pc e (Reg q ∷ ps) (x ∷ args) room lo hi gx h c k =
-        let d = part (pushed_arg F (Reg q) x) (pushed_args F ps args) pc e k in
-        let b = pushed F (Reg q) x a in
-        let f = chain 2 (2 * in_registers ps) s xs d.0 e b (all_pushed F ps args b) (pushes_one a s xs pc d.0 (Reg q) x room (omega (arith, lo)) hi gx.0 h c d.1)
-        (λ t c1 h1. all_pushes b t xs d.0 e ps args (roomy a b (pushed_base (Reg q) x a) room) (pushed_top (Reg q) x ps a lo) (pushed_high (Reg q) x a hi) gx.1 h1 c1 d.2) in
-        record { steps = f.steps; to = f.to; by = f.by; at = f.at; held = f.held; few = omega (arith, f.few) }
-
-    -- and popped in the opposite order
-    pub popped_top : (ps : List Where) (a : Addr) → (all_popped ps a).top ≡ a.top + in_registers ps
-    popped_top [] a = omega arith
-    popped_top (Reg q ∷ ps) a = let r = popped_top ps a in omega (arith, r)
-    popped_top (Slot k ∷ ps) a = popped_top ps a
-
-    pops_one : (a : Addr) (s : State) (xs : List ℕ) (pc e : ℕ) (p : Where) (ps : List Where) → Good G p → a.top + in_registers (p ∷ ps) ≤ 0x400000 → Held C (all_popped ps a) s → s.counter ≡ pc → Here pc (popped_arg p) e → Arrives C 1 s xs e [] xs (popped p (all_popped ps a))
-    pops_one a s xs pc e (Slot k) ps gp hi h c st = let n = nothing s xs pc e (all_popped ps a) h c st in record { steps = n.steps; to = n.to; by = n.by; at = n.at; held = n.held; few = omega (arith, n.few) }
-    pops_one a s xs pc e (Reg q) ps gp hi h c st =
-        let l = subst (λ r. Line C.words pc (instr.One POP r) st.0) (reg_number C F address q gp) st.1 in
-        subst (λ q1. Arrives C 1 s xs q1 [] xs (popped (Reg q) (all_popped ps a))) st.2 (pops (all_popped ps a) s xs pc q st.0 gp (omega (arith, popped_top ps a, hi)) h c l)
-
-    fewer_pops : (p : Where) (ps : List Where) (n : ℕ) → n + in_registers (p ∷ ps) ≤ 0x400000 → n + in_registers ps ≤ 0x400000
-    fewer_pops (Reg q) ps n le = omega (arith, le)
-    fewer_pops (Slot k) ps n le = le
-
-    all_pops : (a : Addr) (s : State) (xs : List ℕ) (pc e : ℕ) (ps : List Where) → AllOf (Good G) ps → a.top + in_registers ps ≤ 0x400000 → Held C a s → s.counter ≡ pc → Here pc (popped_args ps) e → Arrives C (in_registers ps) s xs e [] xs (all_popped ps a)
-    all_pops a s xs pc e [] gp hi h c k = nothing s xs pc e a h c k
-    all_pops a s xs pc e (Slot i ∷ ps) gp hi h c k =
-        let d = part (popped_args ps) (popped_arg (Slot i)) pc e k in
-        subst (λ q. Arrives C (in_registers ps) s xs q [] xs (all_popped ps a)) d.2 (all_pops a s xs pc d.0 ps gp.1 hi h c d.1)
-    all_pops a s xs pc e (Reg q ∷ ps) gp hi h c k =
-        let d = part (popped_args ps) (popped_arg (Reg q)) pc e k in
-        let f = chain (in_registers ps) 1 s xs d.0 e (all_popped ps a) (popped (Reg q) (all_popped ps a)) (all_pops a s xs pc d.0 ps gp.1 (fewer_pops (Reg q) ps a.top hi) h c d.1)
-        (λ t c1 h1. pops_one a t xs d.0 e (Reg q) ps gp.0 hi h1 c1 d.2) in
-        record { steps = f.steps; to = f.to; by = f.by; at = f.at; held = f.held; few = omega (arith, f.few) }
+    -- the arguments that go into registers come there
+    all_moves : (a : Addr) (s : State) (xs : List ℕ) (pc e : ℕ) (ps args : List Where) → Room F a → AllOf (Good G) ps → AreDifferent ps → AllOf (Good F) args → Held C a s → s.counter ≡ pc → Here pc (moved_items F (in_order ps args)) e → Arrives C (2 * in_registers ps) s xs e [] xs (all_arrived F ps args a)
+    all_moves a s xs pc e ps args room gp differ gx h c k =
+        let b = record a { regs = register_of s } in
+        let ms = in_order ps args in
+        let fine = in_order_fine Source (λ r lt. lt) F ps args (params_low ps gp) differ (sources args gx) in
+        let f = moves_so ms b s xs pc e fine (record { low = room.low; high = room.high }) (held_alike C a b s (λ r lt. sym (h.regs r lt)) (λ q. refl) refl refl h) (λ r lt. refl) c k in
+        let same = moved_same F ms b in
+        record {
+          steps = f.steps;
+          to = f.to;
+          by = f.by;
+          at = f.at;
+          held = held_alike C (moved_by F ms b) (all_arrived F ps args a) f.to (λ r lt. in_order_is F ps args a b (params_low ps gp) differ (same_words a s args gx h) r lt (h.regs r lt)) (λ q. ap (λ m. m q) same.0) same.1 same.2 f.held;
+          few = omega (arith, f.few, in_order_few ps args);
+        }
 
     -- ---- the call, and the new frame
 
@@ -270,10 +273,6 @@ module _ (C : Console) where
         let d : sub (register_of s 15) 1 ≡ a.top - 1 = omega (arith, h.top, lo, hi) in
         let w : is_writable_at s (a.top - 1) ≡ true = writes_at C a s (a.top - 1) h ∙ ram_writable C (a.top - 1) (omega (arith, lo, hi)) in
         rw (d, w) refl
-
-    pub copy_act : (s : State) (r q next : ℕ) → act (instr.Mov (RegReg r q)) next s ≡ EndsIn stepped.Went (going_to next (with_register r (register_of s q) s))
-    unfolding act
-    copy_act s r q next = refl
 
     less_act : (a : Addr) (s : State) (n next : ℕ) → n ≤ a.top → a.top ≤ 0x400000 → Held C a s → act (instr.Two ISUB 15 (src.Imm n)) next s ≡ EndsIn stepped.Went (going_to next (with_register 15 (a.top - n) s))
     unfolding act
@@ -356,32 +355,21 @@ module _ (C : Console) where
     passed_same (Reg q ∷ ps) (x ∷ args) a = passed_same ps args a
     passed_same (Slot k ∷ ps) (x ∷ args) a = passed_same ps args (passed F G (Slot k) x a)
 
-    pub all_pushed_top : (ps args : List Where) (a : Addr) → length args ≡ length ps → in_registers ps ≤ a.top → (all_pushed F ps args a).top + in_registers ps ≡ a.top
-    all_pushed_top [] args a n le = omega arith
-    all_pushed_top (p ∷ ps) [] a n le = absurd (omega (arith, n))
-    all_pushed_top (Reg q ∷ ps) (x ∷ args) a n le = let r = all_pushed_top ps args (pushed F (Reg q) x a) (omega (arith, n)) (omega (arith, le)) in omega (arith, r, le)
-    all_pushed_top (Slot k ∷ ps) (x ∷ args) a n le = all_pushed_top ps args a (omega (arith, n)) le
-
-    few_steps : (ps : List Where) → slot_steps ps + (2 * in_registers ps + in_registers ps) ≤ 3 * length ps
+    few_steps : (ps : List Where) → slot_steps ps + 2 * in_registers ps ≤ 3 * length ps
     few_steps [] = omega arith
     few_steps (Reg q ∷ ps) = let r = few_steps ps in omega (arith, r)
     few_steps (Slot k ∷ ps) = let r = few_steps ps in omega (arith, r)
 
     -- from a call to the body of its function, in at most three steps for each argument and four more
-    pub calls : (a : Addr) (s : State) (xs : List ℕ) (pc call next begins body : ℕ) (ps args : List Where) → Roomy a → length args ≡ length ps → in_registers ps ≤ a.top → AllOf (Good G) ps → AllOf (Good F) args → Held C a s → s.counter ≡ pc →
-        Here pc (args_items F G ps args) call → Line C.words call (instr.Go CALL (src.Imm begins)) next → Here begins (frame_made G.size) body → ArrivesBy [] (link_at (all_popped ps (all_pushed F ps args (all_passed F G ps args a))) next ∷ []) C (3 * length args + 4) s xs body [] xs (called F G ps args next a)
-    calls a s xs pc call next begins body ps args r n le gp gx h c k l m =
-        let d1 = part (slot_args F G ps args) (pushed_args F ps args ++ popped_args ps) pc call k in
-        let d2 = part (pushed_args F ps args) (popped_args ps) d1.0 call d1.2 in
+    pub calls : (a : Addr) (s : State) (xs : List ℕ) (pc call next begins body : ℕ) (ps args : List Where) → Roomy a → length args ≡ length ps → AllOf (Good G) ps → AreDifferent ps → AllOf (Good F) args → Held C a s → s.counter ≡ pc →
+        Here pc (args_items F G ps args) call → Line C.words call (instr.Go CALL (src.Imm begins)) next → Here begins (frame_made G.size) body → ArrivesBy [] (link_at (all_arrived F ps args (all_passed F G ps args a)) next ∷ []) C (3 * length args + 4) s xs body [] xs (called F G ps args next a)
+    calls a s xs pc call next begins body ps args r n gp differ gx h c k l m =
+        let d = part (slot_args F G ps args) (moved_items F (in_order ps args)) pc call k in
         let a1 = all_passed F G ps args a in
-        let a2 = all_pushed F ps args a1 in
-        let a3 = all_popped ps a2 in
+        let a2 = all_arrived F ps args a1 in
         let same = passed_same ps args a in
-        let t2 = all_pushed_top ps args a1 n (omega (arith, le, same.1)) in
-        let t3 = popped_top ps a2 in
-        let ls = link_at a3 next ∷ [] in
-        let f = chain_by [] [] ls (slot_steps ps) (2 * in_registers ps + (in_registers ps + 4)) s xs d1.0 body a1 (entered G next a3) (all_passes a s xs pc d1.0 ps args r gp gx h c d1.1) (λ s1 c1 h1.
-        chain_by [] [] ls (2 * in_registers ps) (in_registers ps + 4) s1 xs d2.0 body a2 (entered G next a3) (all_pushes a1 s1 xs d1.0 d2.0 ps args (roomy a a1 same.0 r.room) (omega (arith, le, same.1)) (omega (arith, same.1, r.above)) gx h1 c1 d2.1) (λ s2 c2 h2.
-        chain_by [] [] ls (in_registers ps) 4 s2 xs call body a3 (entered G next a3) (all_pops a2 s2 xs d2.0 call ps gp (omega (arith, t2, same.1, r.above)) h2 c2 d2.2) (λ s3 c3 h3.
-        enters a3 s3 xs call next begins body (omega (arith, t3, t2, same.1, r.below)) (omega (arith, t3, t2, same.1, r.above)) h3 c3 l m))) in
+        let ls = link_at a2 next ∷ [] in
+        let f = chain_by [] [] ls (slot_steps ps) (2 * in_registers ps + 4) s xs d.0 body a1 (entered G next a2) (all_passes a s xs pc d.0 ps args r gp gx h c d.1) (λ s1 c1 h1.
+        chain_by [] [] ls (2 * in_registers ps) 4 s1 xs call body a2 (entered G next a2) (all_moves a1 s1 xs d.0 call ps args (roomy a a1 same.0 r.room) gp differ gx h1 c1 d.2) (λ s2 c2 h2.
+        enters a2 s2 xs call next begins body (omega (arith, same.1, r.below)) (omega (arith, same.1, r.above)) h2 c2 l m)) in
         record { steps = f.steps; to = f.to; by = f.by; at = f.at; held = f.held; few = omega (arith, f.few, few_steps ps, n) }

@@ -16,7 +16,8 @@ use Rattle.mid_code.specs.declared.placed.Where.{Where}
 use Rattle.mid_code.specs.declared.placed.Where.TheVariants.{Reg, Slot}
 use Rattle.mid_code.specs.Code.{OpT, ConstO, NullO, MoveO, OneO, TwoO, GlobalO, LocalO, LiteralO, CardO, StepO, ApartO, PtrTestO, LoadO, StoreO, FreshO, EndO, InO, OutO, WaitO, HaltO, NodesT, Stop, Do, Call, Choose, Block, Loop, Leave, Again, Return, FunctionT, CodeT}
 use Rattle.asm_laws.specs.Names.{function_label, literal_label}
-use Rattle.asm_laws.specs.Operations.{Frame, Whole, register, keep, fetches, keeps_some, is_in, hand, brings, takes, aim, lays, moves, changes, is_direct, in_place, apart, turned, is_turned, turned_or_apart, computes, slot_arg, slot_args, pushed_arg, pushed_args, popped_arg, popped_args, args_items, call_items, op_items, in_one, one_or_more, more_of, giving, start_frame, opening_items, literal_items, literals_items}
+use Rattle.asm_laws.specs.Moves.{Move, in_order}
+use Rattle.asm_laws.specs.Operations.{Frame, Whole, register, keep, fetches, keeps_some, is_in, hand, brings, takes, aim, lays, moves, changes, is_direct, in_place, apart, turned, is_turned, turned_or_apart, computes, slot_arg, slot_args, moved_items, args_items, call_items, op_items, in_one, one_or_more, more_of, giving, start_frame, opening_items, literal_items, literals_items}
 use Rattle.asm_laws.specs.Framing.{frame_made, frame_gone}
 use Rattle.asm_laws.specs.inner.Emitted.{labels, functions_labels, enclosing, jump, jump_unless, mark, choice, one_way, alone, left_to, ends, jump_when, is_stop, enclosed, returning, items_past, code_items, entry_items, exit_items, function_items, functions_items, closing_items, start_items, program_items, labels_of}
 use Rattle.asm_laws.proofs.InOne.{one_or_more_is}
@@ -156,30 +157,17 @@ module _ (W : Whole) (differ : Differ W.names) where
   slot_bare F G (Reg q) a = tt
   slot_bare F G (Slot k) a = brought_bare F a 9 _ tt
 
-  pushed_bare : (F : Frame) (p a : Where) → Bare (pushed_arg F p a)
-  pushed_bare F (Reg q) a = brought_bare F a 9 _ tt
-  pushed_bare F (Slot k) a = tt
-
-  popped_bare : (p : Where) → Bare (popped_arg p)
-  popped_bare (Reg q) = tt
-  popped_bare (Slot k) = tt
-
   slots_bare : (F G : Frame) (ps args : List Where) → Bare (slot_args F G ps args)
   slots_bare F G [] args = tt
   slots_bare F G (p ∷ ps) [] = tt
   slots_bare F G (p ∷ ps) (a ∷ args) = names_append (λ m. ⊥) (slot_arg F G p a) (slot_args F G ps args) (slot_bare F G p a) (slots_bare F G ps args)
 
-  pushes_bare : (F : Frame) (ps args : List Where) → Bare (pushed_args F ps args)
-  pushes_bare F [] args = tt
-  pushes_bare F (p ∷ ps) [] = tt
-  pushes_bare F (p ∷ ps) (a ∷ args) = names_append (λ m. ⊥) (pushed_arg F p a) (pushed_args F ps args) (pushed_bare F p a) (pushes_bare F ps args)
-
-  pops_bare : (ps : List Where) → Bare (popped_args ps)
-  pops_bare [] = tt
-  pops_bare (p ∷ ps) = names_append (λ m. ⊥) (popped_args ps) (popped_arg p) (pops_bare ps) (popped_bare p)
+  moved_bare : (F : Frame) (ms : List Move) → Bare (moved_items F ms)
+  moved_bare F [] = tt
+  moved_bare F ((t, s) ∷ ms) = moved_bare F ms
 
   args_bare : (F G : Frame) (ps args : List Where) → Bare (args_items F G ps args)
-  args_bare F G ps args = names_append (λ m. ⊥) (slot_args F G ps args) (pushed_args F ps args ++ popped_args ps) (slots_bare F G ps args) (names_append (λ m. ⊥) (pushed_args F ps args) (popped_args ps) (pushes_bare F ps args) (pops_bare ps))
+  args_bare F G ps args = names_append (λ m. ⊥) (slot_args F G ps args) (moved_items F (in_order ps args)) (slots_bare F G ps args) (moved_bare F (in_order ps args))
 
   op_bare : (F : Frame) (o : OpT Where) → Bare (op_items W F o)
   unfolding op_items

@@ -120,12 +120,6 @@ module _ (x : PlacedT) (names : List (List ℕ)) (address : List ℕ → ℕ) (e
         params = refl;
         params_named = all_both (IsPlace (function_at x.code g)) (HasSlot (spots_at x g)) (Named S g) (named g lt) (function_at x.code g).params (fn g lt).params_named sp.2;
         params_differ = (fn g lt).params_differ;
-        own_in = λ k has.
-            let h = subst (λ n. slot_for x n g k) (N g lt) has in
-            let o = (conventions x p.placed).own_in g k lt h in
-            let e : get_or (frame_for x (number_of F g) g).slots k k ≡ get_or (spots_at x g).slots k k = ap (λ n. get_or (frame_for x n g).slots k k) (N g lt) in
-            omega (arith, o, e, sz);
-        registers_in = let o = (conventions x p.placed).registers_in g lt in omega (arith, o, sz);
       }
 
   program : Program S (count_of x) (count_of x + 1) card

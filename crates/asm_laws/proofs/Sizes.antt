@@ -20,14 +20,16 @@ use Rattle.mid_code.specs.declared.placed.Where.TheVariants.{Reg, Slot}
 use Rattle.mid_code.specs.Code.{OpT, ConstO, NullO, MoveO, OneO, TwoO, GlobalO, LocalO, LiteralO, CardO, StepO, ApartO, PtrTestO, LoadO, StoreO, FreshO, EndO, InO, OutO, WaitO, HaltO, NodesT, Stop, Do, Call, Choose, Block, Loop, Leave, Again, Return, FunctionT, CodeT}
 use Rattle.mid_code.specs.Meaning.{call_weight}
 use Rattle.mid_code.specs.States.{op_weight}
-use Rattle.mid_code.specs.Invariants.{AreNodes, AllOf, parameter_count}
+use Rattle.mid_code.specs.Invariants.{AreNodes, AllOf, in_registers, parameter_count}
 use Rattle.mid_code.specs.Runs.{nodes_weight, function_weight, weight}
 use Rattle.asm_laws.specs.Names.{literal_label, function_label}
 use Rattle.kit_base.specs.Word.{add, sub}
 use Rattle.asm_laws.specs.Operations as operations
-use Rattle.asm_laws.specs.Operations.{Frame, Whole, register, slot_word, local_word, fetches, keeps, keeps_some, is_in, hand, brings, takes, aim, lays, moves, changes, is_direct, in_place, apart, turned, is_turned, turned_or_apart, computes, slot_arg, slot_args, pushed_arg, pushed_args, popped_arg, popped_args, args_items, call_items, op_items, in_one, one_or_more, more_of, giving, start_frame, opening_items, literal_items, literals_items}
+use Rattle.asm_laws.specs.Moves.{Move, in_order}
+use Rattle.asm_laws.specs.Operations.{Frame, Whole, register, slot_word, local_word, fetches, keeps, keeps_some, is_in, hand, brings, takes, aim, lays, moves, changes, is_direct, in_place, apart, turned, is_turned, turned_or_apart, computes, slot_arg, slot_args, moved_items, args_items, call_items, op_items, in_one, one_or_more, more_of, giving, start_frame, opening_items, literal_items, literals_items}
 use Rattle.asm_laws.specs.Framing.{frame_made, frame_gone}
 use Rattle.asm_laws.specs.inner.Emitted.{labels, enclosing, jump, jump_unless, mark, choice, one_way, alone, left_to, ends, jump_when, is_stop, enclosed, returning, items_past, code_items, entry_items, exit_items, function_items, functions_items, functions_labels, call_item, closing_items, start_items, program_items, labels_of}
+use Rattle.asm_laws.proofs.Ordering.{in_order_few}
 use Rattle.asm_laws.proofs.InOne.{one_or_more_is}
 use Rattle.asm_laws.proofs.Walked.{total_append, total_one, total_none, total_more}
 
@@ -74,22 +76,22 @@ lays_size F (Slot k) = one_item (keeps F (Slot k)) 2 (keep_size F (Slot k))
 brought_size : (F : Frame) (p : Where) (r n : ℕ) (xs : List AsmItem) → size xs ≤ n → size (brings F p r ++ xs) ≤ 2 + n
 brought_size F p r n xs le = omega (arith, total_append (brings F p r) xs, brings_size F p r, le)
 
-arg_size : (F G : Frame) (p a : Where) → size (slot_arg F G p a) + size (pushed_arg F p a) + size (popped_arg p) ≤ 4
-arg_size F G (Reg q) a =
-    let x : size (pushed_arg F (Reg q) a) ≤ 2 + 1 = brought_size F a 9 1 (item.Op (instr.One PUSH (hand a 9)) ∷ []) (one_item (item.Op (instr.One PUSH (hand a 9))) 1 (omega arith)) in
-    let y : size (popped_arg (Reg q)) ≤ 1 = one_item (item.Op (instr.One POP (register q))) 1 (omega arith) in
-    omega (arith, total_none, x, y)
-arg_size F G (Slot k) a =
+slots_size : (F G : Frame) (ps args : List Where) → length args ≡ length ps → size (slot_args F G ps args) + 4 * in_registers ps ≤ 4 * length args
+slots_size F G [] args e = omega (arith, total_none)
+slots_size F G (p ∷ ps) [] e = absurd (omega arith)
+slots_size F G (Reg q ∷ ps) (a ∷ args) e = let r = slots_size F G ps args (omega arith) in omega (arith, r)
+slots_size F G (Slot k ∷ ps) (a ∷ args) e =
     let o = item.Op (instr.Mov (AtOffReg 15 (Left (sub (slot_word G k) 2)) (hand a 9))) in
     let x : size (slot_arg F G (Slot k) a) ≤ 2 + 2 = brought_size F a 9 2 (o ∷ []) (one_item o 2 (omega arith)) in
-    omega (arith, total_none, x)
+    let r = slots_size F G ps args (omega arith) in
+    omega (arith, r, x, total_append (slot_arg F G (Slot k) a) (slot_args F G ps args))
 
-args_size : (F G : Frame) (ps args : List Where) → length args ≡ length ps → size (slot_args F G ps args) + size (pushed_args F ps args) + size (popped_args ps) ≤ 4 * length args
-args_size F G [] args e = omega (arith, total_none)
-args_size F G (p ∷ ps) [] e = absurd (omega arith)
-args_size F G (p ∷ ps) (a ∷ args) e =
-    let r = args_size F G ps args (omega arith) in
-    omega (arith, r, arg_size F G p a, total_append (slot_arg F G p a) (slot_args F G ps args), total_append (pushed_arg F p a) (pushed_args F ps args), total_append (popped_args ps) (popped_arg p))
+moved_size : (F : Frame) (ms : List Move) → size (moved_items F ms) ≤ 2 * length ms
+moved_size F [] = omega (arith, total_none)
+moved_size F ((t, s) ∷ ms) = let r = moved_size F ms in omega (arith, r, total_more (fetches F s (register t)) (moved_items F ms), fetch_size F s (register t))
+
+args_size : (F G : Frame) (ps args : List Where) → length args ≡ length ps → size (args_items F G ps args) ≤ 4 * length args
+args_size F G ps args e = omega (arith, slots_size F G ps args e, moved_size F (in_order ps args), in_order_few ps args, total_append (slot_args F G ps args) (moved_items F (in_order ps args)))
 
 laid_size : (F : Frame) (t : Where) (x : AsmItem) (n : ℕ) → item_size x ≤ n → size (x ∷ lays F t) ≤ n + 2
 laid_size F t x n le = omega (arith, total_more x (lays F t), lays_size F t, le)
@@ -171,10 +173,8 @@ call_size W F t g args ok =
     let G = W.frames g in
     let r = args_size F G ps args ok in
     let c = total_append (args_items F G ps args) (call_item W g ∷ keeps_some F t) in
-    let d = total_append (slot_args F G ps args) (pushed_args F ps args ++ popped_args ps) in
-    let e = total_append (pushed_args F ps args) (popped_args ps) in
     let b = total_more (call_item W g) (keeps_some F t) in
-    omega (arith, r, c, d, e, b, some_size F t)
+    omega (arith, r, c, b, some_size F t)
 
 giving_size : (F : Frame) (p : Option Where) → size (giving F p) ≤ 2
 giving_size F None = omega (arith, total_none)

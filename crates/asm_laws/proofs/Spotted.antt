@@ -1,15 +1,14 @@
 -- What the spots of placed code give: each local has a word, and no two words of a frame share an offset; the words of the emitter's own are the
 -- frame's last ones.
-use Rattle.std.proofs.Common.{◌≡◌, ℕ, zero, suc, ◌+◌, ◌-◌, ◌<◌, ◌≤◌, inl, inr, List, [], ◌∷◌, length, sym, subst, arith}
+use Rattle.std.proofs.Common.{◌≡◌, ℕ, zero, suc, ◌+◌, ◌<◌, ◌≤◌, List, [], ◌∷◌, length, sym, subst, arith}
 use Rattle.std.specs.Prelude.{get_or}
 use Rattle.std.proofs.lemmas.Option.{slice_get-get_or}
 use Rattle.mid_code.specs.declared.placed.Where.{Where}
 use Rattle.mid_code.specs.Placed.{SpotsT, PlacedT}
 use Rattle.mid_code.specs.Code.{FunctionT, CodeT}
 use Rattle.mid_code.specs.States.{no_function, function_at}
-use Rattle.mid_code.specs.Invariants.{in_registers, AreSpots, AllSpots, HasSlot, AllOf, Names, StandsAt, slot, local, emitter, OfSlot, OfLocal, OfEmitter, IsFunction, IsPlace, IsPlaced}
+use Rattle.mid_code.specs.Invariants.{AreSpots, AllSpots, HasSlot, AllOf, Names, StandsAt, slot, local, OfSlot, OfLocal, IsFunction, IsPlace, IsPlaced}
 use Rattle.asm_laws.specs.Tables.{spots_at, count_of}
-use Rattle.asm_laws.proofs.Lists.{below_or_not}
 
 pub spots_of : (sizes : List ℕ) (fs : List (FunctionT Where)) (ss : List SpotsT) (f : ℕ) (d : SpotsT) → AllSpots sizes fs ss → f < length fs →
     AreSpots (get_or sizes f 0) (get_or fs f no_function) (get_or ss f d) × Names (HasSlot (get_or ss f d)) (get_or fs f no_function).body × AllOf (HasSlot (get_or ss f d)) (get_or fs f no_function).params
@@ -34,8 +33,6 @@ some_words (n ∷ ns) (suc k) h lt = some_words ns k h.1 (omega (arith, lt))
 pub record Conventions (x : PlacedT) : Type 0 where
   pub locals_some : (f k : ℕ) → f < count_of x → k < length (function_at x.code f).locals → 0 < get_or (function_at x.code f).locals k 0
   pub locals_apart : (f j k i h : ℕ) → f < count_of x → j < length (function_at x.code f).locals → k < length (function_at x.code f).locals → i < get_or (function_at x.code f).locals j 0 → h < get_or (function_at x.code f).locals k 0 → get_or (spots_at x f).locals j 0 + i ≡ get_or (spots_at x f).locals k 0 + h → j ≡ k
-  pub own_in : (f k : ℕ) → f < count_of x → k < length (spots_at x f).slots → get_or (spots_at x f).slots k k + in_registers (function_at x.code f).params < get_or x.frames f 0 + 2
-  pub registers_in : (f : ℕ) → f < count_of x → in_registers (function_at x.code f).params ≤ get_or x.frames f 0 + 2
 
 module _ (x : PlacedT) (placed : IsPlaced x) where
   pub spots_here : (f : ℕ) → f < count_of x → AreSpots (get_or x.frames f 0) (function_at x.code f) (spots_at x f)
@@ -51,33 +48,8 @@ module _ (x : PlacedT) (placed : IsPlaced x) where
   locals_apart f j k i h lf lj lk li lh e =
       let m : OfLocal j i ≡ OfLocal k h = (spots_here f lf).apart (local_stands f j i lf lj li) (subst (λ q. StandsAt (spots_at x f) (function_at x.code f) (OfLocal k h) q) (sym e) (local_stands f k h lf lk lh)) in cc
 
-  own_at : (f j : ℕ) → f < count_of x → j < length (spots_at x f).own → get_or (spots_at x f).own j 0 + (j + 1) ≡ get_or x.frames f 0
-  own_at f j lf lt = (spots_here f lf).last j (get_or (spots_at x f).own j 0) (slice_get-get_or (spots_at x f).own j 0 lt)
-
-  -- a slot stands below the words of the emitter's own
-  slot_below : (f k : ℕ) → f < count_of x → k < length (spots_at x f).slots → get_or (spots_at x f).slots k k + length (spots_at x f).own < get_or x.frames f 0
-  slot_below f k lf lt = elim (below_or_not (get_or (spots_at x f).slots k k + length (spots_at x f).own) (get_or x.frames f 0)) [ inl b ↦ b | inr n ↦ absurd (shared n) ]
-    where
-      shared : get_or x.frames f 0 ≤ get_or (spots_at x f).slots k k + length (spots_at x f).own → ⊥
-      shared n =
-          let low = (spots_here f lf).below (slot_stands f k lt) in
-          let j = get_or x.frames f 0 - 1 - get_or (spots_at x f).slots k k in
-          let jl : j < length (spots_at x f).own = omega (arith, n, low) in
-          let at = own_at f j lf jl in
-          let e : get_or (spots_at x f).own j 0 ≡ get_or (spots_at x f).slots k k = omega (arith, at, low) in
-          let stands = subst (λ q. StandsAt (spots_at x f) (function_at x.code f) (OfEmitter j) q) e (emitter (slice_get-get_or (spots_at x f).own j 0 jl)) in
-          let m : OfSlot k ≡ OfEmitter j = (spots_here f lf).apart (slot_stands f k lt) stands in cc
-
-  own_fits : (f : ℕ) → f < count_of x → length (spots_at x f).own ≤ get_or x.frames f 0
-  own_fits f lf = elim (below_or_not 0 (length (spots_at x f).own)) [
-    | inl b ↦ let at = own_at f (length (spots_at x f).own - 1) lf (omega (arith, b)) in omega (arith, at, b)
-    | inr n ↦ omega (arith, n)
-  ]
-
   pub conventions : Conventions x
   conventions = record {
     locals_some = λ f k lf lt. some_words (function_at x.code f).locals k (function_is IsPlace x.code x.code.functions f placed.code.functions lf).sizes lt;
     locals_apart = λ f j k i h lf lj lk li lh e. locals_apart f j k i h lf lj lk li lh e;
-    own_in = λ f k lf lt. let b = slot_below f k lf lt in let e = (spots_here f lf).enough in omega (arith, b, e);
-    registers_in = λ f lf. let b = own_fits f lf in let e = (spots_here f lf).enough in omega (arith, b, e);
   }

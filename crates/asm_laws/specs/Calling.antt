@@ -1,12 +1,12 @@
 -- How the machine holds the states of placed code, and where its parts stand.
-use Rattle.std.specs.Prelude.{◌≡◌, ℕ, ◌+◌, ◌<◌, ◌≤◌, List, [], length, get_or, Option, Some}
+use Rattle.std.specs.Prelude.{◌≡◌, ℕ, List, [], length, get_or, Option, Some}
 use Rattle.v32_isa.specs.State.{register_of, word_at}
 use Rattle.v32_isa.specs.State as machine
 use Rattle.mid_code.specs.declared.placed.Where.{Where}
 use Rattle.mid_code.specs.Code.{maybe}
 use Rattle.mid_code.specs.Meaning.{Lang}
 use Rattle.mid_code.specs.States.{State, registers_and_slots, function_at, over_worlds}
-use Rattle.mid_code.specs.Invariants.{AllOf, AreDifferent, in_registers}
+use Rattle.mid_code.specs.Invariants.{AllOf, AreDifferent}
 use Rattle.asm_laws.specs.Placing.{Shapes, Passes, At}
 use Rattle.asm_laws.specs.inner.Following.{Holder}
 use Rattle.asm_laws.specs.Names.{function_label}
@@ -15,7 +15,7 @@ use Rattle.asm_laws.specs.Standing.{Stand}
 use Rattle.asm_laws.specs.Tests.{Tests}
 use Rattle.asm_laws.specs.Addresses.{Addr, Held}
 use Rattle.asm_laws.specs.Framing.{frame_made, frame_gone}
-use Rattle.asm_laws.specs.Holds.{Setting, slot_offset, Named, Ctx, Stands, HoldsAt}
+use Rattle.asm_laws.specs.Holds.{Setting, Named, Ctx, Stands, HoldsAt}
 use Rattle.asm_laws.specs.Acting.{Fitting, FrontFits}
 
 -- a function that can be called
@@ -26,9 +26,6 @@ pub record Callable (S : Setting) (f : ℕ) : Type 0 where
   pub params : S.whole.params f ≡ (function_at S.code f).params
   pub params_named : AllOf (Named S f) (S.whole.params f)
   pub params_differ : AreDifferent (S.whole.params f)
-  -- arguments of registers are pushed where the link and words of the emitter's own will stand
-  pub own_in : (k : ℕ) → S.has_slot f k → slot_offset S f k + in_registers (S.whole.params f) < (S.whole.frames f).size + 2
-  pub registers_in : in_registers (S.whole.params f) ≤ (S.whole.frames f).size + 2
 
 -- the machine holds a state
 pub record Mach (S : Setting) (κ : Ctx) (s : State Where) (m : machine.State) : Type 0 where

@@ -1,4 +1,5 @@
 pub mod Names
+pub mod Moves
 pub mod Operations
 pub mod Framing
 pub mod Placing

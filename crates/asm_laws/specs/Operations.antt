@@ -5,7 +5,6 @@ use Rattle.kit_base.specs.Word.{sub}
 use Rattle.v32_isa.specs.declared.instruction.Plain.TheVariants.{HLT, WAIT}
 use Rattle.v32_isa.specs.declared.instruction.Go.TheVariants.{CALL}
 use Rattle.v32_isa.specs.declared.instruction.One.{One as OneOf}
-use Rattle.v32_isa.specs.declared.instruction.One.TheVariants.{PUSH, POP}
 use Rattle.v32_isa.specs.declared.instruction.Two.{Two as TwoOf}
 use Rattle.v32_isa.specs.declared.instruction.Two.TheVariants.{IEQ, INE, IGT, IGE, ILT, ILE, AND, OR, XOR, IADD, ISUB, IMUL}
 use Rattle.v32_isa.specs.declared.instruction.Src.TheVariants as src
@@ -20,6 +19,7 @@ use Rattle.mid_code.specs.declared.placed.Where.TheVariants.{Reg, Slot}
 use Rattle.mid_code.specs.Code.{NodesT, Do, OpT, ConstO, NullO, MoveO, OneO, TwoO, GlobalO, LocalO, LiteralO, CardO, StepO, ApartO, PtrTestO, LoadO}
 use Rattle.mid_code.specs.Code.{StoreO, FreshO, EndO, InO, OutO, WaitO, HaltO}
 use Rattle.asm_laws.specs.Names.{literal_label, function_label}
+use Rattle.asm_laws.specs.Moves.{Move, in_order}
 
 -- the frame of a function: its size, and the offsets of its slots and of its locals' first words. Offset 0 is the
 -- frame's lowest word. A slot that is not listed has its number as its offset
@@ -167,26 +167,13 @@ slot_args F G [] args = []
 slot_args F G (p ∷ ps) [] = []
 slot_args F G (p ∷ ps) (a ∷ args) = slot_arg F G p a ++ slot_args F G ps args
 
--- the arguments that go into registers are pushed, and popped in the opposite order
-abbrev pub pushed_arg : Frame → Where → Where → List AsmItem
-pushed_arg F (Reg q) a = brings F a 9 ++ item.Op (instr.One PUSH (hand a 9)) ∷ []
-pushed_arg F (Slot k) a = []
-
-abbrev pub pushed_args : Frame → List Where → List Where → List AsmItem
-pushed_args F [] args = []
-pushed_args F (p ∷ ps) [] = []
-pushed_args F (p ∷ ps) (a ∷ args) = pushed_arg F p a ++ pushed_args F ps args
-
-abbrev pub popped_arg : Where → List AsmItem
-popped_arg (Reg q) = item.Op (instr.One POP (register q)) ∷ []
-popped_arg (Slot k) = []
-
-abbrev pub popped_args : List Where → List AsmItem
-popped_args [] = []
-popped_args (p ∷ ps) = popped_args ps ++ popped_arg p
+-- the registers take the words of places one after another
+abbrev pub moved_items : Frame → List Move → List AsmItem
+moved_items F [] = []
+moved_items F ((t, s) ∷ ms) = fetches F s (register t) ∷ moved_items F ms
 
 abbrev pub args_items : Frame → Frame → List Where → List Where → List AsmItem
-args_items F G ps args = slot_args F G ps args ++ (pushed_args F ps args ++ popped_args ps)
+args_items F G ps args = slot_args F G ps args ++ moved_items F (in_order ps args)
 
 abbrev pub call_items : Whole → Frame → Option Where → ℕ → List Where → List AsmItem
 call_items W F t g args =

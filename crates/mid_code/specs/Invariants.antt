@@ -175,14 +175,12 @@ in_registers [] = 0
 in_registers (Reg number ∷ ps) = suc (in_registers ps)
 in_registers (Slot number ∷ ps) = in_registers ps
 
--- The spots of a function with a frame of this size: an offset for each local and for each slot that is named. The emitter's words are the
--- last ones of the frame, from its end. A caller stores arguments for registers there, and two words behind the frame. No two words share
--- an offset.
+-- The spots of a function with a frame of this size: an offset for each local and for each slot that is named. The emitter's words, where it
+-- wants any, are the last ones of the frame, from its end. No two words share an offset.
 pub record AreSpots (size : ℕ) (f : FunctionT Where) (s : SpotsT) : Type 0 where
   pub locals : length s.locals ≡ length f.locals
   pub own : length s.own ≤ 16
   pub last : (k offset : ℕ) → slice_get s.own k ≡ Some offset → offset + (k + 1) ≡ size
-  pub enough : in_registers f.params ≤ length s.own + 2
   pub below : {a : SpotWord} {offset : ℕ} → StandsAt s f a offset → offset < size
   pub apart : {a b : SpotWord} {offset : ℕ} → StandsAt s f a offset → StandsAt s f b offset → a ≡ b
 

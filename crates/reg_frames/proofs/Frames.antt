@@ -4,7 +4,6 @@ use Rattle.std.specs.Prelude.{sum_by}
 use Rattle.std.specs.List.{fold}
 use Rattle.std.proofs.lemmas.List.Sums.{sum_by-cons}
 use Rattle.std.proofs.lemmas.Bool.{eqb-true, eq-eqb}
-use Rattle.mid_code.specs.declared.placed.Where.TheVariants.{Reg, Slot}
 use Rattle.mid_code.specs.Live.{is_among}
 use Rattle.mid_code.specs.declared.placed.Where.{Where}
 use Rattle.mid_code.specs.Code.{OpT, ConstO, NullO, MoveO, OneO, TwoO, GlobalO, LocalO, LiteralO, CardO, StepO, ApartO, PtrTestO, LoadO, StoreO, FreshO, EndO, InO, OutO, WaitO, HaltO, NodesT, Stop, Do, Call, Choose, Block, Loop, Leave, Again, Return, FunctionT, CodeT}
@@ -12,8 +11,8 @@ use Rattle.mid_code.specs.Meaning.{node_weight}
 use Rattle.mid_code.specs.States.{op_weight}
 use Rattle.mid_code.specs.Runs.{nodes_weight, function_weight, weight}
 use Rattle.mid_code.specs.Calls.{loops, CallsTo, AddsNone, NoneAdd}
-use Rattle.mid_code.specs.Invariants.{SpotWord, OfSlot, OfLocal, OfEmitter, StandsAt, slot, local, emitter, AreSpots, in_registers, IsPlace, AllOf, DifferFrom, AreDifferent}
-use Rattle.reg_frames.specs.inner.Placing.{placed_op, placed_nodes, placed_function, placing, own_words, frame_size, rising, begins_from, falling, spots_of, placed_functions, placed}
+use Rattle.mid_code.specs.Invariants.{SpotWord, OfSlot, OfLocal, OfEmitter, StandsAt, slot, local, emitter, AreSpots, AllOf, DifferFrom, AreDifferent}
+use Rattle.reg_frames.specs.inner.Placing.{placed_op, placed_nodes, placed_function, placing, frame_size, rising, begins_from, spots_of, placed_functions, placed}
 use Rattle.mid_code.specs.Choices.{slot_count}
 
 map_length : {A B : Type 0} (f : A → B) (xs : List A) → length (map f xs) ≡ length xs
@@ -110,20 +109,6 @@ rising_at n (suc k) (suc i) o e = let h = rising_at (suc n) k i o e in (omega (a
 pub rising_length : (n k : ℕ) → length (rising n k) ≡ k
 rising_length n zero = refl
 rising_length n (suc k) = ap suc (rising_length (suc n) k)
-
-falling_at : (n k i o : ℕ) → slice_get (falling n k) i ≡ Some o → (o + suc i ≡ n) × (i < k)
-falling_at n zero i o e = absurd (cc)
-falling_at zero (suc k) i o e = absurd (cc)
-falling_at (suc n) (suc k) zero o e = (go (cc), omega arith)
-  where
-    go : n ≡ o → o + 1 ≡ suc n
-    go h = omega (arith, h)
-falling_at (suc n) (suc k) (suc i) o e = let h = falling_at n k i o e in (omega (arith, h.0), omega (arith, h.1))
-
-falling_length : (n k : ℕ) → length (falling n k) ≤ k
-falling_length n zero = omega arith
-falling_length zero (suc k) = omega arith
-falling_length (suc n) (suc k) = let h = falling_length n k in omega (arith, h)
 
 begins_length : (n : ℕ) (sizes : List ℕ) → length (begins_from n sizes) ≡ length sizes
 begins_length n [] = refl
@@ -237,40 +222,6 @@ numbers_below n (p ∷ ps) h = (h.0, numbers_below n ps h.1)
 pub numbers_few : (n : ℕ) (ps : List ℕ) → AllOf (λ t. t < n) ps → AreDifferent ps → length ps ≤ n
 numbers_few n ps h d = few n ps (numbers_distinct ps d) (numbers_below n ps h)
 
-abbrev registers : List Where → List ℕ
-registers [] = []
-registers (Reg n ∷ ps) = n ∷ registers ps
-registers (Slot n ∷ ps) = registers ps
-
-registers_count : (ps : List Where) → in_registers ps ≡ length (registers ps)
-registers_count [] = refl
-registers_count (Reg n ∷ ps) = ap suc (registers_count ps)
-registers_count (Slot n ∷ ps) = registers_count ps
-
-register_off : (n : ℕ) (ps : List Where) → DifferFrom (Reg n) ps → is_among (registers ps) n ≡ false
-register_off n [] d = refl
-register_off n (Reg m ∷ ps) d = ap (λ b. b || is_among (registers ps) n) (off_false m n (λ e. d.0 (ap Reg (sym e)))) ∙ register_off n ps d.1
-register_off n (Slot m ∷ ps) d = register_off n ps d.1
-
-registers_distinct : (ps : List Where) → AreDifferent ps → Distinct (registers ps)
-registers_distinct [] d = tt
-registers_distinct (Reg n ∷ ps) d = (register_off n ps d.0, registers_distinct ps d.1)
-registers_distinct (Slot n ∷ ps) d = registers_distinct ps d.1
-
-registers_below : (f : FunctionT Where) (ps : List Where) → AllOf (IsPlace f) ps → AllBelow 9 (registers ps)
-registers_below f [] h = tt
-registers_below f (Reg n ∷ ps) h = (h.0, registers_below f ps h.1)
-registers_below f (Slot n ∷ ps) h = registers_below f ps h.1
-
--- at most nine
-nine : (f : FunctionT Where) (ps : List Where) → AllOf (IsPlace f) ps → AreDifferent ps → in_registers ps ≤ 9
-nine f ps h d = let a = few 9 (registers ps) (registers_distinct ps d) (registers_below f ps h) in let b = registers_count ps in omega (arith, a, b)
-
-falling_full : (n k : ℕ) → k ≤ n → length (falling n k) ≡ k
-falling_full n zero le = refl
-falling_full zero (suc k) le = absurd (omega (arith, le))
-falling_full (suc n) (suc k) le = ap suc (falling_full n k (omega (arith, le)))
-
 module _ (ws : List Where) (f : FunctionT ℕ) where
   abbrev g : FunctionT Where
   g = placed_function (placing ws) f
@@ -279,17 +230,17 @@ module _ (ws : List Where) (f : FunctionT ℕ) where
   abbrev Stands : SpotWord → ℕ → Type 0
   Stands (OfSlot n) o = (o ≡ n) × (n < slot_count ws)
   Stands (OfLocal j i) o = (b : ℕ) × (size : ℕ) × (slice_get (begins_from (slot_count ws) f.locals) j ≡ Some b) × (slice_get f.locals j ≡ Some size) × (i < size) × (o ≡ b + i)
-  Stands (OfEmitter n) o = (o + suc n ≡ frame_size ws f) × (n < own_words ws f)
+  Stands (OfEmitter n) o = ⊥
 
   at : {a : SpotWord} {o : ℕ} → StandsAt (spots_of ws f) g a o → Stands a o
   at (slot {number} {offset} e) = let h = rising_at 0 (slot_count ws) number offset e in (omega (arith, h.0), h.1)
   at (local {number} {i} {offset} {size} e h lt) = (offset, size, e, h, lt, refl)
-  at (emitter {number} {offset} e) = falling_at (frame_size ws f) (own_words ws f) number offset e
+  at (emitter {number} {offset} e) = absurd cc
 
   below : (a : SpotWord) (o : ℕ) → Stands a o → o < frame_size ws f
   below (OfSlot n) o h = omega (arith, h.0, h.1)
   below (OfLocal j i) o h = let r = begins_at (slot_count ws) f.locals j h.0 h.1 h.2 h.3 in omega (arith, r.1, h.4, h.5)
-  below (OfEmitter n) o h = omega (arith, h.0)
+  below (OfEmitter n) o h = absurd h
 
   locals_apart : (j i k l o : ℕ) → Stands (OfLocal j i) o → Stands (OfLocal k l) o → (j ≡ k) ⊎ (j < k) ⊎ (k < j) → OfLocal j i ≡ OfLocal k l
   locals_apart j i k l o a b (inl e) =
@@ -302,27 +253,24 @@ module _ (ws : List Where) (f : FunctionT ℕ) where
   apart : (a b : SpotWord) (o : ℕ) → Stands a o → Stands b o → a ≡ b
   apart (OfSlot n) (OfSlot m) o h k = ap OfSlot (sym h.0 ∙ k.0)
   apart (OfSlot n) (OfLocal j i) o h k = let r = begins_at (slot_count ws) f.locals j k.0 k.1 k.2 k.3 in absurd (omega (arith, r.0, h.0, h.1, k.5))
-  apart (OfSlot n) (OfEmitter m) o h k = absurd (omega (arith, h.0, h.1, k.0, k.1))
+  apart (OfSlot n) (OfEmitter m) o h k = absurd k
   apart (OfLocal j i) (OfSlot m) o h k = let r = begins_at (slot_count ws) f.locals j h.0 h.1 h.2 h.3 in absurd (omega (arith, r.0, k.0, k.1, h.5))
   apart (OfLocal j i) (OfLocal m l) o h k = locals_apart j i m l o h k (compare_all j m)
-  apart (OfLocal j i) (OfEmitter m) o h k = let r = begins_at (slot_count ws) f.locals j h.0 h.1 h.2 h.3 in absurd (omega (arith, r.1, h.4, h.5, k.0, k.1))
-  apart (OfEmitter n) (OfSlot m) o h k = absurd (omega (arith, k.0, k.1, h.0, h.1))
-  apart (OfEmitter n) (OfLocal j i) o h k = let r = begins_at (slot_count ws) f.locals j k.0 k.1 k.2 k.3 in absurd (omega (arith, r.1, k.4, k.5, h.0, h.1))
-  apart (OfEmitter n) (OfEmitter m) o h k = ap OfEmitter (omega (arith, h.0, k.0))
+  apart (OfLocal j i) (OfEmitter m) o h k = absurd k
+  apart (OfEmitter n) b o h k = absurd h
 
-  pub are_spots : AllOf (IsPlace g) g.params → AreDifferent g.params → AreSpots (frame_size ws f) g (spots_of ws f)
-  are_spots named differ = record {
-    last = λ k offset e. (let h = falling_at (frame_size ws f) (own_words ws f) k offset e in omega (arith, h.0));
-    enough = let b = falling_full (frame_size ws f) (own_words ws f) (omega arith) in omega (arith, b);
+  pub are_spots : AreSpots (frame_size ws f) g (spots_of ws f)
+  are_spots = record {
+    last = λ k offset e. absurd cc;
     locals = begins_length (slot_count ws) f.locals;
-    own = let a = nine g g.params named differ in let b = falling_full (frame_size ws f) (own_words ws f) (omega arith) in omega (arith, a, b);
+    own = omega arith;
     below = λ {a} {offset} h. below a offset (at h);
     apart = λ {a} {b} {offset} h k. apart a b offset (at h) (at k);
   }
 
--- A size is at most the words of the locals, the slots that the choice names, and 7; and at least the words of all locals.
-pub size_at_most : (ws : List Where) (f : FunctionT ℕ) → AllOf (IsPlace (placed_function (placing ws) f)) (map (placing ws) f.params) → AreDifferent (map (placing ws) f.params) → frame_size ws f ≤ sum f.locals + slot_count ws + 7
-size_at_most ws f named differ = let a = nine (placed_function (placing ws) f) (map (placing ws) f.params) named differ in omega (arith, a)
+-- A size is the words of the locals and the slots that the choice names.
+pub size_at_most : (ws : List Where) (f : FunctionT ℕ) → frame_size ws f ≤ sum f.locals + slot_count ws
+size_at_most ws f = omega arith
 
 pub size_at_least : (ws : List Where) (f : FunctionT ℕ) → sum f.locals ≤ frame_size ws f
 size_at_least ws f = omega arith

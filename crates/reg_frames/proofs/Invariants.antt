@@ -203,7 +203,7 @@ module _ (x : CodeT ℕ) (start : List Where) (wss : List (List Where)) where
   spots_placed [] (v ∷ vs) s i = absurd s
   spots_placed (f ∷ fs) [] s i = absurd s
   spots_placed (f ∷ fs) (v ∷ vs) s i = (
-    are_spots v f (function_placed v f s.0 i.0).params_named (function_placed v f s.0 i.0).params_differ,
+    are_spots v f,
     names_placed (placing v) (IsTemporary f) (HasSlot (spots_of v f)) (λ t lt. has_slot v f t (subst (λ n. t < n) (sym s.0.count) lt)) f.body i.0.names,
     all_placed (placing v) (IsTemporary f) (HasSlot (spots_of v f)) (λ t lt. has_slot v f t (subst (λ n. t < n) (sym s.0.count) lt)) f.params i.0.params_named,
     spots_placed fs vs s.1 i.1,

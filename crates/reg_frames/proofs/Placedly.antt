@@ -1,5 +1,5 @@
 -- Functions by the places of their choices.
-use Rattle.std.proofs.Common.{◌≡◌, ℕ, ◌-◌, List, [], ◌∷◌, ◌++◌, map, refl, sym, ap, subst, ◌∙◌}
+use Rattle.std.proofs.Common.{◌≡◌, ℕ, List, [], ◌∷◌, ◌++◌, map, refl, sym, ap, subst, ◌∙◌}
 use Rattle.mid_code.specs.declared.placed.Where.{Where}
 use Rattle.mid_code.specs.declared.placed.Spots.{Spots}
 use Rattle.mid_code.specs.declared.function.Function.{Function}
@@ -7,15 +7,11 @@ use Rattle.mid_code.specs.Code.{NodesT, FunctionT}
 use Rattle.mid_code.specs.Functions.{function}
 use Rattle.mid_code.specs.Placed.{SpotsT}
 use Rattle.mid_code.specs.View.{spots}
-use Rattle.mid_code.specs.Invariants.{in_registers}
-use Rattle.reg_frames.specs.inner.Placing.{placing, placed_nodes, placed_function, placed_functions, own_words, frame_size, frame_sizes, spots_of, all_spots}
+use Rattle.reg_frames.specs.inner.Placing.{placing, placed_nodes, placed_function, placed_functions, frame_size, frame_sizes, spots_of, all_spots}
 use Rattle.reg_frames.specs.Placeable.{first_of, later, ArePlaceable}
 
 pub function_by : (w : ℕ → Where) (ws : List Where) (f : FunctionT ℕ) (g : FunctionT Where) → g ≡ placed_function w f → ((x : ℕ) → w x ≡ placing ws x) → g ≡ placed_function (placing ws) f
 function_by w ws f g e h = e ∙ ap (λ v. placed_function v f) (λ i x. h x i)
-
-pub own_by : (ws : List Where) (f : FunctionT ℕ) (g : FunctionT Where) → g ≡ placed_function (placing ws) f → in_registers g.params - 2 ≡ own_words ws f
-own_by ws f g e = ap (λ k. in_registers k.params - 2) e
 
 pub function_made : (w : ℕ → Where) (f : FunctionT ℕ) (ps : List Where) (ls : List ℕ) (b : NodesT Where) → ps ≡ map w f.params → ls ≡ f.locals → b ≡ placed_nodes w f.body → record { temps = f.temps; params = ps; locals = ls; gives = f.gives; body = b } ≡ placed_function w f
 function_made w f ps ls b e g h = ap (λ qs. made qs ls b) e ∙ ap (λ ks. made (map w f.params) ks b) g ∙ ap (made (map w f.params) f.locals) h

@@ -1,35 +1,23 @@
 -- What `place` promises holds of the code by the choices.
-use Rattle.std.proofs.Common.{◌≡◌, ℕ, suc, ◌≤◌, List, [], ◌∷◌, map, length, refl, ap, arith}
+use Rattle.std.proofs.Common.{◌≡◌, ℕ, List, [], ◌∷◌, refl, arith}
 use Rattle.mid_code.specs.declared.placed.Where.{Where}
-use Rattle.mid_code.specs.declared.placed.Where.TheVariants.{Reg, Slot}
 use Rattle.mid_code.specs.Code.{FunctionT, CodeT}
 use Rattle.mid_code.specs.Placed.{SpotsT, PlacedT}
 use Rattle.mid_code.specs.Safe.{IsSafe}
 use Rattle.mid_code.specs.Choices.{EachSafe, AreSafe}
-use Rattle.mid_code.specs.Invariants.{AllOf, IsFunction, IsTemporary, IsMid, IsPlaced, in_registers}
+use Rattle.mid_code.specs.Invariants.{AllOf, IsFunction, IsTemporary, IsMid, IsPlaced}
 use Rattle.reg_frames.specs.inner.Placing.{placing, placed_function, frame_sizes, placed_functions, all_spots, placed}
 use Rattle.reg_frames.specs.Placeable.{first_of, later, IsPlaceable, ArePlaceable}
 use Rattle.reg_frames.specs.PlacedFrom.{AreFrames, IsPlacedFrom}
 use Rattle.reg_frames.proofs.Slots.{named_count}
 use Rattle.reg_frames.proofs.Frames.{weight_same, adds_none, none_added, numbers_few, size_at_most, size_at_least}
 use Rattle.reg_frames.proofs.AtOnce.{frame_holds}
-use Rattle.reg_frames.proofs.Invariants.{placed_is, function_placed}
+use Rattle.reg_frames.proofs.Invariants.{placed_is}
 use Rattle.reg_frames.proofs.Placed.{placed_keeps, placed_works}
-
-few_registers : (ps : List Where) → in_registers ps ≤ length ps
-few_registers [] = omega arith
-few_registers (Reg n ∷ ps) = let h = few_registers ps in omega (arith, h)
-few_registers (Slot n ∷ ps) = let h = few_registers ps in omega (arith, h)
-
-as_long : (w : ℕ → Where) (ps : List ℕ) → length (map w ps) ≡ length ps
-as_long w [] = refl
-as_long w (p ∷ ps) = ap suc (as_long w ps)
 
 placeable : (x : CodeT ℕ) (f : FunctionT ℕ) (ws : List Where) → IsFunction IsTemporary x f → IsSafe f ws → IsPlaceable f ws
 placeable x f ws i s =
     let params = numbers_few f.temps f.params i.params_named i.params_differ in
-    let registers = few_registers (map (placing ws) f.params) in
-    let long = as_long (placing ws) f.params in
     let slots = named_count ws in
     let count = i.count in
     let words = i.words in
@@ -37,7 +25,7 @@ placeable x f ws i s =
     record {
       few = omega (arith, count, temps);
       params = omega (arith, params, count);
-      fits = omega (arith, slots, temps, count, words, registers, long, params);
+      fits = omega (arith, slots, temps, count, words);
     }
 
 each_placeable : (x : CodeT ℕ) (fs : List (FunctionT ℕ)) (wss : List (List Where)) → AllOf (IsFunction IsTemporary x) fs → EachSafe fs wss → ArePlaceable fs wss
@@ -58,8 +46,7 @@ frames_are x start [] all [] i s = tt
 frames_are x start (ws ∷ wss) all [] i s = absurd s
 frames_are x start [] all (f ∷ fs) i s = absurd s
 frames_are x start (ws ∷ wss) all (f ∷ fs) i s =
-    let g = function_placed x start all ws f s.0 i.0 in
-    let le = size_at_most ws f g.params_named g.params_differ in
+    let le = size_at_most ws f in
     (record { at_most = omega (arith, le); holds_all = size_at_least ws f; at_least = frame_holds ws f }, frames_are x start wss all fs i.1 s.1)
 
 pub is_placed : (x : CodeT ℕ) (wss : List (List Where)) → IsMid x → AreSafe x wss → IsPlaced (placed (first_of wss) (later wss) x)

@@ -4,7 +4,7 @@ use Rattle.mid_code.specs.declared.placed.Where.{Where}
 use Rattle.mid_code.specs.declared.placed.Where.TheVariants.{Reg, Slot}
 use Rattle.mid_code.specs.Live.{is_among}
 use Rattle.mid_code.specs.Choices.{with_slot, slots_from, slots_named}
-use Rattle.reg_frames.specs.inner.Placing.{index_in, renumbered, placing, rising, falling}
+use Rattle.reg_frames.specs.inner.Placing.{index_in, renumbered, placing, rising}
 use Rattle.reg_frames.proofs.Slots.{with_here, with_count}
 use Rattle.reg_frames.proofs.Named.{index_kept}
 use Rattle.reg_frames.proofs.Moving.{true_false}
@@ -13,20 +13,12 @@ pub rising_step : (n k : ℕ) → 0 < k → rising n k ≡ n ∷ rising (n + 1) 
 rising_step n zero lt = absurd (omega (arith, lt))
 rising_step n (suc k) lt = let a : suc n ≡ n + 1 = omega arith in let b : k ≡ suc k - 1 = omega arith in ap (λ m. n ∷ rising m k) a ∙ ap (λ j. n ∷ rising (n + 1) j) b
 
-pub falling_step : (n k : ℕ) → 0 < n → 0 < k → falling n k ≡ (n - 1) ∷ falling (n - 1) (k - 1)
-falling_step n zero a b = absurd (omega (arith, b))
-falling_step zero (suc k) a b = absurd (omega (arith, a))
-falling_step (suc n) (suc k) a b = let e : n ≡ suc n - 1 = omega arith in let f : k ≡ suc k - 1 = omega arith in ap (λ m. m ∷ falling m k) e ∙ ap (λ j. (suc n - 1) ∷ falling (suc n - 1) j) f
-
 push_more : (xs zs : List ℕ) (y : ℕ) → (xs ++ y ∷ []) ++ zs ≡ xs ++ y ∷ zs
 push_more [] zs y = refl
 push_more (x ∷ xs) zs y = ap (λ ws. x ∷ ws) (push_more xs zs y)
 
 pub rising_turn : (xs ys all : List ℕ) (from left : ℕ) → 0 < left → ys ≡ xs ++ from ∷ [] → xs ++ rising from left ≡ all → ys ++ rising (from + 1) (left - 1) ≡ all
 rising_turn xs ys all from left lt e f = ap (λ zs. zs ++ rising (from + 1) (left - 1)) e ∙ push_more xs (rising (from + 1) (left - 1)) from ∙ ap (λ zs. xs ++ zs) (sym (rising_step from left lt)) ∙ f
-
-pub falling_turn : (xs ys all : List ℕ) (below left : ℕ) → 0 < below → 0 < left → ys ≡ xs ++ (below - 1) ∷ [] → xs ++ falling below left ≡ all → ys ++ falling (below - 1) (left - 1) ≡ all
-falling_turn xs ys all below left a b e f = ap (λ zs. zs ++ falling (below - 1) (left - 1)) e ∙ push_more xs (falling (below - 1) (left - 1)) (below - 1) ∙ ap (λ zs. xs ++ zs) (sym (falling_step below left a b)) ∙ f
 
 -- ---- slots
 

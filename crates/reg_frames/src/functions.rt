@@ -7,7 +7,7 @@ ghost use Rattle.reg_frames.specs.Placeable.{places_of, first_of, later, IsPlace
 ghost use Rattle.reg_frames.specs.inner.Moved.{stands};
 
 use crate::code::{place_all, place_nodes};
-use crate::layout::{begins, falling, in_registers, rising, total};
+use crate::layout::{begins, rising, total};
 use crate::places::Places;
 use crate::renumber::renumber;
 use crate::slices::{copy_words, next};
@@ -40,7 +40,7 @@ fn place_code(alloc: Global, f: &Function<u32>, p: &Places) -> Result<Function<W
 }
 
 /// The function by the choice.
-#[tactic(auto, using(crate::proofs::Placedly::function_by, crate::proofs::Placedly::own_by))]
+#[tactic(auto, using(crate::proofs::Placedly::function_by))]
 pub(crate) fn place_function(
     alloc: Global,
     f: &Function<u32>,
@@ -53,12 +53,11 @@ pub(crate) fn place_function(
 {
     let (p, slots) = renumber(alloc, at)?;
     let function = place_code(alloc, f, &p)?;
-    let own = in_registers(function.params.as_slice()).saturating_sub(2);
-    let size = slots + total(f.locals.as_slice()) + own;
+    let size = slots + total(f.locals.as_slice());
     let spots = Spots {
         slots: Seq::from_vec(rising(alloc, slots)?),
         locals: Seq::from_vec(begins(alloc, slots, f.locals.as_slice())?),
-        own: Seq::from_vec(falling(alloc, size, own)?),
+        own: Seq::from_vec(Vec::new(alloc)),
     };
     Ok(PlacedFunction {
         function,

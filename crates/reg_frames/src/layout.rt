@@ -1,28 +1,10 @@
 // The layout of a frame.
-ghost use Rattle.std.specs.Prelude.{◌≡◌, ◌+◌, ◌<◌, ◌^◌, IfOk, length, sum};
-ghost use Rattle.mid_code.specs.Invariants.{in_registers};
-ghost use Rattle.reg_frames.specs.inner.Placing.{rising, begins_from, falling};
+ghost use Rattle.std.specs.Prelude.{◌≡◌, ◌+◌, ◌<◌, ◌^◌, IfOk, sum};
+ghost use Rattle.reg_frames.specs.inner.Placing.{rising, begins_from};
 
 use crate::slices::next;
 use kit_base::Memory;
-use mid_code::Where;
 use std::alloc::Global;
-
-/// How many of the places are registers.
-pub(crate) fn in_registers(places: &[Where]) -> u32
-    requires few { length places.now < 2 ^ 31 }
-    ensures { result ≡ in_registers places.now }
-{
-    let mut count: u32 = 0;
-    let mut rest = places;
-    while let Some((place, after)) = next(rest) {
-        if let Where::Reg(_) = *place {
-            count += 1;
-        }
-        rest = after;
-    }
-    count
-}
 
 /// So many offsets from 0 on.
 #[tactic(auto, using(crate::proofs::Steps::rising_turn))]
@@ -52,22 +34,6 @@ pub(crate) fn begins(alloc: Global, first: u32, sizes: &[u32]) -> Result<Vec<u32
         found.push(from)?;
         from += *size;
         rest = after;
-    }
-    Ok(found)
-}
-
-/// So many offsets below the end, the highest first.
-#[tactic(auto, using(crate::proofs::Steps::falling_turn))]
-pub(crate) fn falling(alloc: Global, end: u32, count: u32) -> Result<Vec<u32>, Memory>
-    ensures { IfOk result (λ r. r.items ≡ falling end count) }
-{
-    let mut found = Vec::new(alloc);
-    let mut below = end;
-    let mut left = count;
-    while left > 0 && below > 0 {
-        below -= 1;
-        left -= 1;
-        found.push(below)?;
     }
     Ok(found)
 }

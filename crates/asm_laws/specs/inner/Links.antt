@@ -4,6 +4,7 @@ use Rattle.v32_isa.specs.State.{written}
 use Rattle.mid_code.specs.declared.placed.Where.{Where}
 use Rattle.mid_code.specs.declared.placed.Where.TheVariants.{Reg, Slot}
 use Rattle.asm_laws.specs.Operations.{Frame}
+use Rattle.asm_laws.specs.Moves.{Move}
 use Rattle.asm_laws.specs.Framing.{link_words}
 use Rattle.asm_laws.specs.Addresses.{Addr, word_of, store}
 
@@ -23,22 +24,24 @@ all_passed F G (p ∷ ps) (x ∷ args) a = all_passed F G ps args (passed F G p 
 abbrev pub push : ℕ → Addr → Addr
 push v a = record a { memory = written a.memory (a.top - 1) v; top = a.top - 1 }
 
-abbrev pub pushed : Frame → Where → Where → Addr → Addr
-pushed F (Reg q) x a = push (word_of F x a) a
-pushed F (Slot k) x a = a
+-- the words of registers once the arguments that go into registers are there, all at once
+abbrev pub arrived : Frame → List Where → List Where → Addr → ℕ → ℕ
+arrived F [] args a q = a.regs q
+arrived F (p ∷ ps) [] a q = a.regs q
+arrived F (Slot k ∷ ps) (x ∷ args) a q = arrived F ps args a q
+arrived F (Reg r ∷ ps) (x ∷ args) a q = cond (q == r) (word_of F x a) (arrived F ps args a q)
 
-abbrev pub all_pushed : Frame → List Where → List Where → Addr → Addr
-all_pushed F [] args a = a
-all_pushed F (p ∷ ps) [] a = a
-all_pushed F (p ∷ ps) (x ∷ args) a = all_pushed F ps args (pushed F p x a)
+abbrev pub all_arrived : Frame → List Where → List Where → Addr → Addr
+all_arrived F ps args a = record a { regs = arrived F ps args a }
 
-abbrev pub popped : Where → Addr → Addr
-popped (Reg q) a = record a { regs = written a.regs q (a.memory a.top); top = a.top + 1 }
-popped (Slot k) a = a
+-- moves one after another, and what they do all at once
+abbrev pub moved : Frame → List Move → Addr → Addr
+moved F [] a = a
+moved F ((t, s) ∷ ms) a = moved F ms (record a { regs = written a.regs t (word_of F s a) })
 
-abbrev pub all_popped : List Where → Addr → Addr
-all_popped [] a = a
-all_popped (p ∷ ps) a = popped p (all_popped ps a)
+abbrev pub at_once : Frame → List Move → Addr → ℕ → ℕ
+at_once F [] a q = a.regs q
+at_once F ((t, s) ∷ ms) a q = cond (q == t) (word_of F s a) (at_once F ms a q)
 
 -- the address after the call is pushed; where the new frame has words, BP is pushed, and the frame is made
 abbrev pub entered : Frame → ℕ → Addr → Addr
@@ -64,4 +67,4 @@ slot_steps (Slot k ∷ ps) = 2 + slot_steps ps
 
 -- the words when a call comes to the function's body
 abbrev pub called : Frame → Frame → List Where → List Where → (next : ℕ) → Addr → Addr
-called F G ps args next a = entered G next (all_popped ps (all_pushed F ps args (all_passed F G ps args a)))
+called F G ps args next a = entered G next (all_arrived F ps args (all_passed F G ps args a))

@@ -1,12 +1,11 @@
 -- Code over registers and slots, and the layout of frames.
-use Rattle.std.specs.Prelude.{ℕ, zero, suc, ◌+◌, ◌-◌, cond, eqb, List, [], ◌∷◌, map, sum, Option, Some, None}
+use Rattle.std.specs.Prelude.{ℕ, zero, suc, ◌+◌, cond, eqb, List, [], ◌∷◌, map, sum, Option, Some, None}
 use Rattle.mid_code.specs.declared.placed.Where.{Where}
 use Rattle.mid_code.specs.declared.placed.Where.TheVariants.{Reg, Slot}
 use Rattle.mid_code.specs.Code.{OpT, ConstO, NullO, MoveO, OneO, TwoO, GlobalO, LocalO, LiteralO, CardO, StepO, ApartO, PtrTestO, LoadO, StoreO}
 use Rattle.mid_code.specs.Code.{FreshO, EndO, InO, OutO, WaitO, HaltO, NodesT, Stop, Do, Call, Choose, Block, Loop, Leave, Again, Return, FunctionT}
 use Rattle.mid_code.specs.Code.{CodeT}
 use Rattle.mid_code.specs.Placed.{SpotsT, PlacedT}
-use Rattle.mid_code.specs.Invariants.{in_registers}
 use Rattle.mid_code.specs.Safe.{place_of}
 use Rattle.mid_code.specs.Choices.{slots_named, slot_count}
 
@@ -70,13 +69,9 @@ placing ws x = renumbered (slots_named ws) (place_of ws x)
 
 -- ---- frames
 
--- Callers store the arguments for registers behind the frame, all but two, before the function takes them: as many further words.
-abbrev pub own_words : List Where → FunctionT ℕ → ℕ
-own_words ws f = in_registers (map (placing ws) f.params) - 2
-
--- Slots, then locals, each behind the one before, then the further words, which end with the frame.
+-- Slots, then locals, each behind the one before.
 abbrev pub frame_size : List Where → FunctionT ℕ → ℕ
-frame_size ws f = slot_count ws + sum f.locals + own_words ws f
+frame_size ws f = slot_count ws + sum f.locals
 
 -- so many numbers from one on
 abbrev pub rising : (from count : ℕ) → List ℕ
@@ -88,14 +83,8 @@ abbrev pub begins_from : ℕ → List ℕ → List ℕ
 begins_from n [] = []
 begins_from n (size ∷ sizes) = n ∷ begins_from (n + size) sizes
 
--- so many numbers below one, the highest first
-abbrev pub falling : (end count : ℕ) → List ℕ
-falling end zero = []
-falling zero (suc k) = []
-falling (suc n) (suc k) = n ∷ falling n k
-
 abbrev pub spots_of : List Where → FunctionT ℕ → SpotsT
-spots_of ws f = record { slots = rising 0 (slot_count ws); locals = begins_from (slot_count ws) f.locals; own = falling (frame_size ws f) (own_words ws f) }
+spots_of ws f = record { slots = rising 0 (slot_count ws); locals = begins_from (slot_count ws) f.locals; own = [] }
 
 -- ---- programs
 

@@ -4,7 +4,7 @@ use Rattle.mid_code.specs.Code.{OpT, LoadO, StoreO, FreshO, EndO, InO, OutO, Wai
 use Rattle.mid_code.specs.Paths.{Frame, Branched, Blocked, Looped, Point, at, behind, leaving, repeating, next_points, SomePoint}
 use Rattle.mid_code.specs.Calls.{loops, nesting, CallsTo, AddsNone}
 use Rattle.mid_code.specs.Open.{open_behind, Comes, LiveAtOnce}
-use Rattle.mid_code.specs.inner.Skeleton.{stays, some_before, skeleton, SameShape}
+use Rattle.mid_code.specs.Skeleton.{stays, some_before, skeleton, SameShape}
 use Rattle.mid_code.proofs.Opened.{some_long}
 
 -- some path from a point of a skeleton comes to where these are open

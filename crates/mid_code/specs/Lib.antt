@@ -13,6 +13,7 @@ pub mod Spans
 pub mod Safe
 pub mod Together
 pub mod Open
+pub mod Skeleton
 pub mod Invariants
 pub mod Plain
 pub mod Calls

@@ -1,4 +1,3 @@
 pub mod Passing
 pub mod Alike
 pub mod Programs
-pub mod Skeleton

@@ -5,7 +5,7 @@ use Rattle.mid_code.specs.Code.{OpT, ConstO, MoveO, NodesT, Stop, Do, Call, Choo
 use Rattle.mid_code.specs.States.{op_weight}
 use Rattle.mid_code.specs.Runs.{nodes_weight, function_weight, weight}
 use Rattle.mid_code.specs.Calls.{NoneAdd}
-use Rattle.mid_code.specs.inner.Skeleton.{stays, some_before, some_place, skeleton, SameShape}
+use Rattle.mid_code.specs.Skeleton.{stays, some_before, some_place, skeleton, SameShape}
 use Rattle.mid_code.proofs.Skeletons.{same_shape}
 use Rattle.mid_copies.specs.inner.Copying.{Copies, none_known, origin, behind_maybe, used_up, Gone, with_use, op_then, known_behind, spared, IsSparedBy, AreSparedBy, IsSparedCode}
 use Rattle.mid_copies.proofs.WithUses.{op_either, weight_with}

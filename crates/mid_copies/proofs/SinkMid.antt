@@ -8,7 +8,7 @@ use Rattle.mid_code.specs.inner.Passing.{doing}
 use Rattle.mid_code.specs.States.{op_weight}
 use Rattle.mid_code.specs.Runs.{nodes_weight, function_weight, weight}
 use Rattle.mid_code.specs.Calls.{NoneAdd}
-use Rattle.mid_code.specs.inner.Skeleton.{stays, some_before, some_place, skeleton, SameShape}
+use Rattle.mid_code.specs.Skeleton.{stays, some_before, some_place, skeleton, SameShape}
 use Rattle.mid_code.proofs.Skeletons.{same_shape}
 use Rattle.mid_copies.specs.inner.Sinking.{is_free, Held, held_ops, is_apart, ops_at, held_behind, sunk, sunk_function, AreSunk, IsSunkCode}
 

@@ -9,6 +9,7 @@ use Rattle.mid_code.specs.Keeps.{SameRun, KeepsRun, KeepsRuns, WorksAtMost}
 use Rattle.mid_code.specs.Runs.{mid_runs}
 use Rattle.mid_fold.specs.FoldedFrom.{IsFoldedFunction, EachFolded, IsFoldedFrom}
 use Rattle.mid_code.proofs.Keeping.{keeps_through}
+use Rattle.mid_code.proofs.Skeletons.{same_shape}
 use Rattle.mid_code.proofs.Agreeing.{works_through}
 use Rattle.mid_copies.specs.inner.Copying.{AreSparedBy}
 use Rattle.mid_copies.specs.inner.Sinking.{sunk_function, IsTidiedBy, AreTidiedBy, AreSunk, IsSunkCode}
@@ -122,7 +123,7 @@ same_run : (a b : Run) → b ≡ a → KeepsRun a.end a b
 same_run a b e = subst (KeepsRun a.end a) (sym e) (itself a.end a refl)
 
 function_folded : (f g : FunctionT ℕ) → IsFoldedFunction f g → IsSparedFunction f g
-function_folded f g h = record { temporaries = h.temporaries; params = h.params; locals = h.locals; gives = h.gives; together = h.together }
+function_folded f g h = record { temporaries = h.temporaries; params = h.params; locals = h.locals; gives = h.gives; together = (same_shape f.body g.body h.stays).at_once }
 
 each_is_folded : (fs gs : List (FunctionT ℕ)) → EachFolded fs gs → EachSpared fs gs
 each_is_folded [] [] a = tt

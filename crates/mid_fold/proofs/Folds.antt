@@ -5,13 +5,14 @@ use Rattle.mid_code.specs.Invariants.{IsMid}
 use Rattle.mid_fold.specs.inner.Folding.{folded_function, folded_code}
 use Rattle.mid_fold.specs.FoldedFrom.{IsFoldedFrom}
 use Rattle.mid_fold.proofs.Running.{run_same}
-use Rattle.mid_fold.proofs.Staying.{code_weighs, each_folded, none_add, adds_none, folded_mid}
+use Rattle.mid_fold.proofs.Staying.{code_weighs, function_stays, each_folded, none_add, adds_none, folded_mid}
 
 folded_from : (x : CodeT ℕ) → IsMid x → IsFoldedFrom x (folded_code x)
 folded_from x mid = record {
   is_mid = folded_mid x mid;
   runs = λ frames n answers card. run_same x frames n answers card;
   weighs = code_weighs x;
+  start = function_stays x.start;
   functions = each_folded x.functions;
   adds_none = none_add x.functions;
   start_adds_none = adds_none x.start.body;

@@ -5,11 +5,11 @@ use Rattle.mid_code.specs.Code.{OpT, ConstO, NullO, MoveO, OneO, TwoO, GlobalO, 
 use Rattle.mid_code.specs.Calls.{AddsNone, NoneAdd}
 use Rattle.mid_code.specs.Invariants.{IsOp, AreNodes, AllOf, Names, CallsNone, IsFunction, IsTemporary, IsMid}
 use Rattle.mid_code.specs.Runs.{nodes_weight, function_weight, weight}
-use Rattle.mid_code.specs.inner.Skeleton as shape
-use Rattle.mid_code.specs.inner.Skeleton.{some_before, some_place, skeleton, SameShape}
+use Rattle.mid_code.specs.Skeleton as shape
+use Rattle.mid_code.specs.Skeleton.{some_before, some_place, skeleton, SameShape}
 use Rattle.mid_code.proofs.Skeletons.{same_shape}
 use Rattle.mid_fold.specs.inner.Folding.{Words, word_in, one_known, two_known, known_behind, folded_op, folded, folded_function, folded_code}
-use Rattle.mid_fold.specs.FoldedFrom.{EachFolded}
+use Rattle.mid_fold.specs.FoldedFrom.{IsFoldedFunction, EachFolded}
 use Rattle.mid_fold.proofs.Acting.{stays, weight_same}
 
 below_limit : (w : ℕ) → nat_lt w (2 ^ 32) ≡ true → w < 2 ^ 32
@@ -68,9 +68,12 @@ functions_weigh (f ∷ fs) =
 pub code_weighs : (x : CodeT ℕ) → weight (folded_code x) ≡ weight x
 code_weighs x = λ i. weighs_same [] x.start.body i + functions_weigh x.functions i
 
+pub function_stays : (f : FunctionT ℕ) → IsFoldedFunction f (folded_function f)
+function_stays f = record { temporaries = refl; params = refl; locals = refl; gives = refl; stays = same_skeleton [] f.body }
+
 pub each_folded : (fs : List (FunctionT ℕ)) → EachFolded fs (map folded_function fs)
 each_folded [] = tt
-each_folded (f ∷ fs) = (record { temporaries = refl; params = refl; locals = refl; gives = refl; together = (folded_shape f.body).at_once }, each_folded fs)
+each_folded (f ∷ fs) = (function_stays f, each_folded fs)
 
 -- ---- names
 

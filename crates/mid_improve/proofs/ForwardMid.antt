@@ -5,7 +5,7 @@ use Rattle.mid_code.specs.Code.{OpT, ConstO, NullO, MoveO, OneO, TwoO, GlobalO, 
 use Rattle.mid_code.specs.Calls.{loops, CallsTo, AddsNone, NoneAdd}
 use Rattle.mid_code.specs.Invariants.{IsOp, AreNodes, AllOf, Names, CallsNone, IsFunction, IsTemporary, IsMid}
 use Rattle.mid_code.specs.Runs.{nodes_weight, function_weight, weight}
-use Rattle.mid_code.specs.inner.Skeleton.{stays as bones, some_before, some_place, skeleton}
+use Rattle.mid_code.specs.Skeleton.{stays as bones, some_before, some_place, skeleton}
 use Rattle.mid_improve.specs.inner.Facts.{Fact, IsWord, IsCopy, Known, none_known, fact_word, fact_source, unless_copy, behind, behind_maybe, with_fact, known_behind}
 use Rattle.mid_improve.specs.inner.Forward.{or_itself, serves, word_or, one_known, two_known, forwarded_op, forwarded, forwarded_function, forwarded_code}
 use Rattle.mid_improve.proofs.Holding.{as_many}

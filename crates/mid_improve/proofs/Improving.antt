@@ -31,7 +31,7 @@ none_through (f ∷ fs) (g ∷ gs) [] p q = absurd q
 none_through (f ∷ fs) (g ∷ gs) (h ∷ hs) p q = (adds_through f.body g.body h.body p.0 q.0, none_through fs gs hs p.1 q.1)
 
 function_through : (f g h : FunctionT ℕ) → IsImprovedFunction f g → IsImprovedFunction g h → IsImprovedFunction f h
-function_through f g h p q = record { temporaries = q.temporaries ∙ p.temporaries; params = q.params ∙ p.params; locals = q.locals ∙ p.locals; gives = q.gives ∙ p.gives; together = λ ks l. q.together ks (p.together ks l) }
+function_through f g h p q = record { temporaries = q.temporaries ∙ p.temporaries; params = q.params ∙ p.params; locals = q.locals ∙ p.locals; gives = q.gives ∙ p.gives; stays = q.stays ∙ p.stays; together = λ ks l. q.together ks (p.together ks l) }
 
 each_through : (fs gs hs : List (FunctionT ℕ)) → EachImproved fs gs → EachImproved gs hs → EachImproved fs hs
 each_through [] [] [] p q = tt
@@ -47,6 +47,7 @@ no_worse_through x y z p q = record {
   keeps = λ frames. keeps_through (mid_runs x frames) (mid_runs y frames) (mid_runs z frames) (p.keeps frames) (q.keeps frames);
   works = λ frames. works_through 1 (mid_runs x frames) (mid_runs y frames) (mid_runs z frames) (p.keeps frames) (p.works frames) (q.works frames);
   weighs = let h = p.weighs in let k = q.weighs in omega (arith, h, k);
+  start = function_through x.start y.start z.start p.start q.start;
   functions = each_through x.functions y.functions z.functions p.functions q.functions;
   adds_none = none_through x.functions y.functions z.functions p.adds_none q.adds_none;
   start_adds_none = adds_through x.start.body y.start.body z.start.body p.start_adds_none q.start_adds_none;
@@ -72,7 +73,7 @@ same_run : (a b : Run) → b ≡ a → KeepsRun a.end a b
 same_run a b e = subst (KeepsRun a.end a) (sym e) (itself a.end a refl)
 
 function_folded : (f g : FunctionT ℕ) → IsFoldedFunction f g → IsImprovedFunction f g
-function_folded f g h = record { temporaries = h.temporaries; params = h.params; locals = h.locals; gives = h.gives; together = h.together }
+function_folded f g h = record { temporaries = h.temporaries; params = h.params; locals = h.locals; gives = h.gives; stays = h.stays; together = (same_shape f.body g.body h.stays).at_once }
 
 each_folded : (fs gs : List (FunctionT ℕ)) → EachFolded fs gs → EachImproved fs gs
 each_folded [] [] a = tt
@@ -86,6 +87,7 @@ folded x y h = record {
   keeps = λ frames n answers card is. same_run (mid_runs x frames n answers card) (mid_runs y frames n answers card) (h.runs frames n answers card);
   works = λ frames n answers card is strays. (let e = ap (λ r. r.work) (h.runs frames n answers card) in omega (arith, e));
   weighs = let e = h.weighs in omega (arith, e);
+  start = function_folded x.start y.start h.start;
   functions = each_folded x.functions y.functions h.functions;
   adds_none = h.adds_none;
   start_adds_none = h.start_adds_none;
@@ -95,7 +97,7 @@ folded x y h = record {
 }
 
 function_forwarded : (f g : FunctionT ℕ) → IsForwardedFunction f g → IsImprovedFunction f g
-function_forwarded f g h = record { temporaries = h.temporaries; params = h.params; locals = h.locals; gives = h.gives; together = (same_shape f.body g.body h.stays).at_once }
+function_forwarded f g h = record { temporaries = h.temporaries; params = h.params; locals = h.locals; gives = h.gives; stays = h.stays; together = (same_shape f.body g.body h.stays).at_once }
 
 each_forwarded : (fs gs : List (FunctionT ℕ)) → EachForwarded fs gs → EachImproved fs gs
 each_forwarded [] [] a = tt
@@ -116,6 +118,7 @@ forwards x y h = record {
     keeps = λ frames n answers card is. same_run (mid_runs x frames n answers card) (mid_runs y frames n answers card) (h.runs frames n answers card);
     works = λ frames n answers card is strays. (let e = ap (λ r. r.work) (h.runs frames n answers card) in omega (arith, e));
     weighs = let e = h.weighs in omega (arith, e);
+    start = function_forwarded x.start y.start h.start;
     functions = each_forwarded x.functions y.functions h.functions;
     adds_none = h.adds_none;
     start_adds_none = h.start_adds_none;
@@ -130,7 +133,7 @@ forwards x y h = record {
 -- ---- the sweep
 
 function_swept : (f g : FunctionT ℕ) → IsSweptFunction f g → IsImprovedFunction f g
-function_swept f g h = record { temporaries = h.temporaries; params = h.params; locals = h.locals; gives = h.gives; together = (same_shape f.body g.body h.stays).at_once }
+function_swept f g h = record { temporaries = h.temporaries; params = h.params; locals = h.locals; gives = h.gives; stays = h.stays; together = (same_shape f.body g.body h.stays).at_once }
 
 each_swept : (fs gs : List (FunctionT ℕ)) → EachSwept fs gs → EachImproved fs gs
 each_swept [] [] a = tt
@@ -154,6 +157,7 @@ swept x y h = record {
   keeps = h.keeps;
   works = h.works;
   weighs = no_heavier x y h.weighs;
+  start = function_swept x.start y.start h.start;
   functions = each_swept x.functions y.functions h.functions;
   adds_none = swept_none x.functions y.functions h.functions;
   start_adds_none = (same_shape x.start.body y.start.body h.start.stays).adds_none;

@@ -7,8 +7,8 @@ use Rattle.mid_code.specs.Invariants.{IsOp, AreNodes, AllOf, Names, CallsNone, I
 use Rattle.mid_code.specs.Live.{live_before, is_used, is_target}
 use Rattle.mid_code.specs.Runs.{nodes_weight, function_weight, weight}
 use Rattle.mid_code.specs.States.{op_weight}
-use Rattle.mid_code.specs.inner.Skeleton.{skeleton, some_before, some_place}
-use Rattle.mid_code.specs.inner.Skeleton as bones
+use Rattle.mid_code.specs.Skeleton.{skeleton, some_before, some_place}
+use Rattle.mid_code.specs.Skeleton as bones
 use Rattle.mid_improve.specs.Settled.{only_puts}
 use Rattle.mid_improve.specs.inner.Wanted.{Labels, Set, live_set, in_block, in_loop, maybe_wanted, all_wanted}
 use Rattle.mid_improve.specs.inner.Sweep.{left, swept, no_labels, none_live, swept_function, swept_code}

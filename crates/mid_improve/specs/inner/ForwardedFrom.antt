@@ -4,7 +4,7 @@ use Rattle.mid_code.specs.Code.{FunctionT, CodeT}
 use Rattle.mid_code.specs.Runs.{mid_runs, weight}
 use Rattle.mid_code.specs.Invariants.{IsMid}
 use Rattle.mid_code.specs.Calls.{AddsNone, NoneAdd}
-use Rattle.mid_code.specs.inner.Skeleton.{skeleton}
+use Rattle.mid_code.specs.Skeleton.{skeleton}
 use Rattle.mid_improve.specs.Settled.{nodes_settled}
 
 -- A function keeps its temporaries, parameters, locals and skeleton, and its runs are settled.

@@ -5,7 +5,7 @@ use Rattle.mid_code.specs.Runs.{mid_runs, weight}
 use Rattle.mid_code.specs.Invariants.{AllOf, IsMid}
 use Rattle.mid_code.specs.Keeps.{KeepsRuns, WorksAtMost}
 use Rattle.mid_code.specs.Paths.{Each}
-use Rattle.mid_code.specs.inner.Skeleton.{skeleton}
+use Rattle.mid_code.specs.Skeleton.{skeleton}
 use Rattle.mid_improve.specs.Settled.{IsWanted}
 
 -- A function keeps its temporaries, parameters and locals, and all but operations that put something into a temporary.

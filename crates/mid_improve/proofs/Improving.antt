@@ -175,10 +175,10 @@ settled_already x y r rs a = record { start = record { runs = r; targets = a.sta
 
 -- ---- rounds
 
-pub fold_and_forward : (x y z : CodeT ℕ) → IsFoldedFrom x y → IsForwardedFrom y z → IsForwarded x z
-fold_and_forward x y z a b =
-    let h = forwards y z b in
-    record { no_worse = no_worse_through x y z (folded x y a) h.no_worse; start = h.start; functions = h.functions }
+pub fold_and_forward : (x y u z : CodeT ℕ) → IsFoldedFrom x y → IsNoWorseFrom y u → IsForwardedFrom u z → IsForwarded x z
+fold_and_forward x y u z a k b =
+    let h = forwards u z b in
+    record { no_worse = no_worse_through x u z (no_worse_through x y u (folded x y a) k) h.no_worse; start = h.start; functions = h.functions }
 
 pub sweep_and_forward : (x y z : CodeT ℕ) → IsSweptFrom x y → IsForwardedFrom y z → IsRoundFrom x z
 sweep_and_forward x y z a b =

@@ -20,4 +20,12 @@ pub mod SweepLike
 pub mod SweepProgram
 pub mod SweepMid
 pub mod SweepJoined
+pub mod SinkPass
+pub mod SinkOps
+pub mod SinkKeeps
+pub mod SinkLike
+pub mod SinkProgram
+pub mod SinkMid
+pub mod SinkJoined
+pub mod Sinks
 pub mod Improving

@@ -12,3 +12,5 @@ pub mod Sweep
 pub mod SweepListed
 pub mod SweptFrom
 pub mod Rounds
+pub mod Sinking
+pub mod SinkListed

@@ -8,6 +8,7 @@ mod forward;
 mod live;
 mod runs;
 mod settled;
+mod sinking;
 mod slots;
 mod sweep;
 mod table;

@@ -6,18 +6,20 @@ ghost use Rattle.mid_improve.specs.inner.Rounds.{IsForwarded, IsRoundFrom};
 
 use crate::forward::forward_words;
 use crate::settled::is_settled;
+use crate::sinking::sink_words;
 use crate::sweep::sweep_dead;
 use kit_base::Memory;
 use mid_code::Mid;
 use mid_fold::fold_words;
 use std::alloc::Global;
 
-/// The code with its known words worked out, in which no operand in a run is a copy.
+/// The code with its known words worked out, and where they are used, in which no operand in a run is a copy.
 fn fold_and_forward(alloc: Global, m: Mid) -> Result<Mid, Memory>
     ensures { IfOk result (λ r. IsForwarded (mid m) (mid r)) }
 {
     let folded = fold_words(alloc, m)?;
-    let forward = forward_words(alloc, folded)?;
+    let sunk = sink_words(alloc, folded)?;
+    let forward = forward_words(alloc, sunk)?;
     Ok(forward)
 }
 

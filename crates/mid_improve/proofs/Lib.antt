@@ -21,3 +21,4 @@ pub mod SweepProgram
 pub mod SweepMid
 pub mod SweepJoined
 pub mod Improving
+pub mod Made

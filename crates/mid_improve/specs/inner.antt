@@ -12,3 +12,4 @@ pub mod Sweep
 pub mod SweepListed
 pub mod SweptFrom
 pub mod Rounds
+pub mod Counted

@@ -19,7 +19,7 @@ use Rattle.mid_improve.specs.inner.Rounds.{HasSettledRuns, IsForwarded, IsRoundF
 
 -- ---- one after another
 
-adds_through : (a b c : NodesT ℕ) → AddsNone a b → AddsNone b c → AddsNone a c
+pub adds_through : (a b c : NodesT ℕ) → AddsNone a b → AddsNone b c → AddsNone a c
 adds_through a b c p q = record { loop_count = let h = p.loop_count in let k = q.loop_count in omega (arith, h, k); calls = λ f r. p.calls f (q.calls f r) }
 
 none_through : (fs gs hs : List (FunctionT ℕ)) → NoneAdd fs gs → NoneAdd gs hs → NoneAdd fs hs
@@ -69,7 +69,7 @@ itself OutOfBound a h = same_as_itself a
 itself Deep a h = (h, refl)
 itself Stray a h = ([], sym (append-nil a.events))
 
-same_run : (a b : Run) → b ≡ a → KeepsRun a.end a b
+pub same_run : (a b : Run) → b ≡ a → KeepsRun a.end a b
 same_run a b e = subst (KeepsRun a.end a) (sym e) (itself a.end a refl)
 
 function_folded : (f g : FunctionT ℕ) → IsFoldedFunction f g → IsImprovedFunction f g

@@ -29,3 +29,4 @@ pub mod SinkMid
 pub mod SinkJoined
 pub mod Sinks
 pub mod Improving
+pub mod Made

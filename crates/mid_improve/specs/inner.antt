@@ -14,3 +14,4 @@ pub mod SweptFrom
 pub mod Rounds
 pub mod Sinking
 pub mod SinkListed
+pub mod Counted

@@ -41,7 +41,7 @@ each_through (f ∷ fs) [] hs p q = absurd p
 each_through (f ∷ fs) (g ∷ gs) [] p q = absurd q
 each_through (f ∷ fs) (g ∷ gs) (h ∷ hs) p q = (function_through f g h p.0 q.0, each_through fs gs hs p.1 q.1)
 
-no_worse_through : (x y z : CodeT ℕ) → IsNoWorseFrom x y → IsNoWorseFrom y z → IsNoWorseFrom x z
+pub no_worse_through : (x y z : CodeT ℕ) → IsNoWorseFrom x y → IsNoWorseFrom y z → IsNoWorseFrom x z
 no_worse_through x y z p q = record {
   is_mid = q.is_mid;
   keeps = λ frames. keeps_through (mid_runs x frames) (mid_runs y frames) (mid_runs z frames) (p.keeps frames) (q.keeps frames);

@@ -28,5 +28,12 @@ pub mod SinkProgram
 pub mod SinkMid
 pub mod SinkJoined
 pub mod Sinks
+pub mod RetargetPass
+pub mod RetargetOps
+pub mod RetargetKeeps
+pub mod RetargetLike
+pub mod RetargetProgram
+pub mod RetargetMid
+pub mod RetargetJoined
 pub mod Improving
 pub mod Made

@@ -15,3 +15,5 @@ pub mod Rounds
 pub mod Sinking
 pub mod SinkListed
 pub mod Counted
+pub mod Retarget
+pub mod RetargetListed

@@ -7,6 +7,7 @@
 mod fixpoint;
 mod forward;
 mod live;
+mod retarget;
 mod runs;
 mod settled;
 mod sinking;

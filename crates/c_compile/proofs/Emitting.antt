@@ -16,8 +16,7 @@ use Rattle.mid_code.specs.Calls.{NoneAdd}
 use Rattle.mid_code.specs.Placed.{PlacedT}
 use Rattle.mid_code.specs.Choices.{AreSafe}
 use Rattle.mid_lower.specs.LoweredFrom.{EachLowered, IsLoweredFrom}
-use Rattle.mid_scalars.specs.PromotedFrom.{EachPromoted, IsPromotedFrom}
-use Rattle.mid_copies.specs.SparedFrom.{EachSpared, IsSparedFrom}
+use Rattle.mid_improve.specs.MadeFrom.{EachMade, IsSettledFrom}
 use Rattle.reg_frames.specs.PlacedFrom.{IsPlacedFrom}
 use Rattle.asm_emit.specs.EmittedFrom.{CanBeEmitted, IsEmitted, literal_words}
 use Rattle.pass_laws.specs.Meeting.{PassesMeet, DoesAsMeant}
@@ -56,17 +55,17 @@ as_lowered s [] (g ∷ gs) h = absurd h
 as_lowered s (f ∷ fs) [] h = absurd h
 as_lowered s (f ∷ fs) (g ∷ gs) h = ap suc (as_lowered s fs gs h.1)
 
-as_promoted : (fs gs : List (FunctionT ℕ)) → EachPromoted fs gs → length fs ≡ length gs
-as_promoted [] [] h = refl
-as_promoted [] (g ∷ gs) h = absurd h
-as_promoted (f ∷ fs) [] h = absurd h
-as_promoted (f ∷ fs) (g ∷ gs) h = ap suc (as_promoted fs gs h.1)
+as_made : (fs gs : List (FunctionT ℕ)) → EachMade fs gs → length fs ≡ length gs
+as_made [] [] h = refl
+as_made [] (g ∷ gs) h = absurd h
+as_made (f ∷ fs) [] h = absurd h
+as_made (f ∷ fs) (g ∷ gs) h = ap suc (as_made fs gs h.1)
 
-as_spared : (fs gs : List (FunctionT ℕ)) → EachSpared fs gs → length fs ≡ length gs
-as_spared [] [] h = refl
-as_spared [] (g ∷ gs) h = absurd h
-as_spared (f ∷ fs) [] h = absurd h
-as_spared (f ∷ fs) (g ∷ gs) h = ap suc (as_spared fs gs h.1)
+made_adds_none : (fs gs : List (FunctionT ℕ)) → EachMade fs gs → NoneAdd fs gs
+made_adds_none [] [] h = tt
+made_adds_none [] (g ∷ gs) h = absurd h
+made_adds_none (f ∷ fs) [] h = absurd h
+made_adds_none (f ∷ fs) (g ∷ gs) h = (h.0.adds_none, made_adds_none fs gs h.1)
 
 as_placed : (fs : List (FunctionT ℕ)) (gs : List (FunctionT Where)) → NoneAdd fs gs → length fs ≡ length gs
 as_placed [] [] h = refl
@@ -74,26 +73,27 @@ as_placed [] (g ∷ gs) h = absurd h
 as_placed (f ∷ fs) [] h = absurd h
 as_placed (f ∷ fs) (g ∷ gs) h = ap suc (as_placed fs gs h.1)
 
-module _ (p : ProgramT) (m first spared promoted : CodeT ℕ) (cs : List (List Where)) (x : PlacedT) (l : IsLoweredFrom p m) (o : IsPromotedFrom m first) (r : IsSparedFrom first spared) (q : IsPromotedFrom spared promoted) (c : IsPlacedFrom promoted cs x) where
+module _ (p : ProgramT) (m settled : CodeT ℕ) (cs : List (List Where)) (x : PlacedT) (l : IsLoweredFrom p m) (o : IsSettledFrom m settled) (c : IsPlacedFrom settled cs x) where
   pub can_be_emitted : (names : List (List ℕ)) → names ≡ names_of p → IsSound p → program_nodes p ≤ 200000 → CanBeEmitted x names
   can_be_emitted names e sound few =
-      let literals : x.code.literals ≡ p.literals = c.literals ∙ q.literals ∙ r.literals ∙ o.literals ∙ l.literals in
+      let literals : x.code.literals ≡ p.literals = c.literals ∙ o.made.literals ∙ l.literals in
       let words : literal_words x ≤ 4000000 = subst (λ (ts : List (List ℕ)). sum_by (λ t. length t + 1) ts ≤ 4000000) (sym literals) sound.literals in
       record {
-        named = ap length e ∙ length-map p.functions (λ f. f.name) ∙ as_lowered (setting p []) p.functions m.functions l.functions ∙ as_promoted m.functions first.functions o.functions ∙ as_spared first.functions spared.functions r.functions ∙ as_promoted spared.functions promoted.functions q.functions ∙ as_placed promoted.functions x.code.functions c.adds_none;
+        named = ap length e ∙ length-map p.functions (λ f. f.name) ∙ as_lowered (setting p []) p.functions m.functions l.functions ∙ as_made m.functions settled.functions o.made.functions ∙ as_placed settled.functions x.code.functions c.adds_none;
         differ = subst AreDifferent (sym e) (different (names_of p) sound.function_names);
         words = ap (list_all is_word) e ∙ names_are_words (scene p) p.functions sound.functions;
-        room = omega (arith, words, few, l.weighs, o.weighs, r.weighs, q.weighs, c.weighs);
+        room = omega (arith, words, few, l.weighs, o.made.weighs, c.weighs);
       }
 
-  pub is_compiled : (items : List AsmItem) → AreSafe promoted cs → AllSpare promoted cs → IsEmitted x (names_of p) items → PassesMeet → IsCompiled p (record { mid = promoted; choices = cs; placed = x; items = items })
+  pub is_compiled : (items : List AsmItem) → AreSafe settled cs → AllSpare settled cs → IsEmitted x (names_of p) items → PassesMeet → IsCompiled p (record { mid = settled; choices = cs; placed = x; items = items })
   is_compiled items safe spares emitted meet = record {
-    promoted = q.promoted;
+    promoted = o.promoted;
+    settled = o.settled;
     safe = safe;
     spares = spares;
     placed = c;
     emitted = emitted;
     straight = each_straight (setting p []) p.functions m.functions x.code.functions l.functions
-        (none_add m.functions first.functions x.code.functions o.adds_none (none_add first.functions spared.functions x.code.functions r.adds_none (none_add spared.functions promoted.functions x.code.functions q.adds_none c.adds_none)));
-    does = meet p m first spared promoted cs x (names_of p) items l o r q safe c emitted;
+        (none_add m.functions settled.functions x.code.functions (made_adds_none m.functions settled.functions o.made.functions) c.adds_none);
+    does = meet p m settled cs x (names_of p) items l o safe c emitted;
   }

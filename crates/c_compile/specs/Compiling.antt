@@ -9,6 +9,7 @@ use Rattle.mid_code.specs.Plain.{IsPromoted}
 use Rattle.mid_code.specs.Placed.{PlacedT}
 use Rattle.mid_code.specs.Choices.{AreSafe}
 use Rattle.mid_code.specs.Whole.{mid, placed}
+use Rattle.mid_improve.specs.Settled.{IsSettled}
 use Rattle.reg_choose.specs.Each.{AllSpare}
 use Rattle.reg_frames.specs.Placeable.{places_of}
 use Rattle.reg_frames.specs.PlacedFrom.{IsPlacedFrom}
@@ -17,7 +18,7 @@ use Rattle.pass_laws.specs.Meeting.{DoesAsMeant}
 use Rattle.c_compile.specs.Straight.{EachStraight}
 use Rattle.c_compile.specs.declared.compiling.Compiled.{Compiled}
 
--- Mid code without plain locals, where its temporaries stand, the code over these places, and its items.
+-- Settled mid code without plain locals, where its temporaries stand, the code over these places, and its items.
 pub record CompiledT : Type 0 where
   pub mid : CodeT ℕ
   pub choices : List (List Where)
@@ -31,7 +32,9 @@ abbrev pub names_of : ProgramT → List (List ℕ)
 names_of p = map (λ f. f.name) p.functions
 
 pub record IsCompiled (p : ProgramT) (c : CompiledT) : Type 0 where
+  -- no local of one word whose address is never taken, no operator whose words are known, no copy as an operand, and nothing that only puts what nothing reads
   pub promoted : IsPromoted c.mid
+  pub settled : IsSettled c.mid
   pub safe : AreSafe c.mid c.choices
   -- no choice has a slot where it needs none
   pub spares : AllSpare c.mid c.choices

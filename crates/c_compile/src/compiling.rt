@@ -13,15 +13,14 @@ use c_check::Program;
 use c_facts::laws::{programs_are_sound, programs_have_few_nodes};
 use kit_base::Memory;
 use mid_code::{Choice, Mid, Placed};
-use mid_copies::spare_copies;
+use mid_improve::settle;
 use mid_lower::lower;
-use mid_scalars::promote;
 use pass_laws::passes_meet;
 use reg_choose::choose_all;
 use reg_frames::place;
 use std::alloc::Global;
 
-/// What is made of a program: mid code without locals that need no address, the choice of a register or slot for each temporary, that of the start
+/// What is made of a program: settled mid code without locals that need no address, the choice of a register or slot for each temporary, that of the start
 /// first, the code over these places, and its assembly items.
 #[derive(Drop)]
 pub struct Compiled {
@@ -40,9 +39,7 @@ pub fn compile_lowered(alloc: Global, checked: &Program, lowered: Mid) -> Result
     programs_are_sound(checked);
     programs_have_few_nodes(checked);
     passes_meet();
-    let first = promote(alloc, lowered)?;
-    let spared = spare_copies(alloc, first)?;
-    let mid = promote(alloc, spared)?;
+    let mid = settle(alloc, lowered)?;
     let chosen = choose_all(alloc, &mid)?;
     let choices = share_all(alloc, &mid, chosen)?;
     let placed = place(alloc, &mid, &choices)?;
@@ -56,10 +53,9 @@ pub fn compile_lowered(alloc: Global, checked: &Program, lowered: Mid) -> Result
     })
 }
 
-/// What is made of a program: it is lowered to mid code, from which local places that need no address are taken, and copies that need not be made,
-/// and then places whose
-/// address was only copied; a register or slot is chosen for each temporary, which operands share with
-/// targets; and the code over these places becomes assembly items. The error is want of memory.
+/// What is made of a program: it is lowered to mid code, which is settled by promotion of locals to temporaries (mem2reg), constant folding, copy propagation
+/// and dead code elimination, in rounds; a register or slot is chosen for each temporary, which operands share with targets; and the code over these places
+/// becomes assembly items. The error is want of memory.
 pub fn compile(alloc: Global, checked: &Program) -> Result<Compiled, Memory>
     ensures compiled { IfOk result (λ c. IsCompiled (program checked.now) (compiled c)) }
 {

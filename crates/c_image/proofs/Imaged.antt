@@ -111,6 +111,7 @@ module _ (p : ProgramT) (places : Places) (starts : List ℕ) (c : CompiledT) (w
       is_mid = record {
         keeps = subst (λ sizes. KeepsRuns (c_runs p sizes) (mid_runs c.mid sizes)) (sym frames_are) compiled.does.keeps;
         promoted = compiled.promoted;
+        settled = compiled.settled;
         follows = subst₂ (λ at sizes. AgreesWithin 1 at (mid_runs c.mid sizes) words) (sym globals_are) (sym frames_are) (compiled.does.follows words labels placed);
         safe = compiled.safe;
         spares = compiled.spares;

@@ -26,6 +26,7 @@ use Rattle.mid_code.specs.Keeps.{KeepsRuns}
 use Rattle.mid_code.specs.Plain.{IsPromoted}
 use Rattle.mid_code.specs.Runs.{mid_runs}
 use Rattle.mid_code.specs.Whole.{mid}
+use Rattle.mid_improve.specs.Settled.{IsSettled}
 use Rattle.project_text.specs.declared.map.Map.{Map}
 use Rattle.reg_choose.specs.Each.{AllSpare}
 use Rattle.reg_frames.specs.Placeable.{places_of}
@@ -91,6 +92,8 @@ pub record IsMidOf (p : ProgramT) (i : ImageT) : Type 0 where
   -- it has the runs of the program, and no local of one word whose address is never taken
   pub keeps : KeepsRuns (c_runs p (frame_sizes i.map)) (mid_runs i.mid (frame_sizes i.map))
   pub promoted : IsPromoted i.mid
+  -- it has no operator whose words are known, no copy as an operand, and nothing that only puts what nothing reads
+  pub settled : IsSettled i.mid
   -- the words do what it means, in at most as many instructions as its work, and 64, where it does not stray
   pub follows : AgreesWithin 1 (global_addresses i.map) (mid_runs i.mid (frame_sizes i.map)) i.words
   -- the choices are safe, and have no slot where they need none; the frames are at most the words of the locals, the slots and 16

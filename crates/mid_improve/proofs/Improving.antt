@@ -19,7 +19,7 @@ use Rattle.mid_improve.specs.inner.Rounds.{HasSettledRuns, IsForwarded, IsRoundF
 
 -- ---- one after another
 
-adds_through : (a b c : NodesT ℕ) → AddsNone a b → AddsNone b c → AddsNone a c
+pub adds_through : (a b c : NodesT ℕ) → AddsNone a b → AddsNone b c → AddsNone a c
 adds_through a b c p q = record { loop_count = let h = p.loop_count in let k = q.loop_count in omega (arith, h, k); calls = λ f r. p.calls f (q.calls f r) }
 
 none_through : (fs gs hs : List (FunctionT ℕ)) → NoneAdd fs gs → NoneAdd gs hs → NoneAdd fs hs
@@ -41,7 +41,7 @@ each_through (f ∷ fs) [] hs p q = absurd p
 each_through (f ∷ fs) (g ∷ gs) [] p q = absurd q
 each_through (f ∷ fs) (g ∷ gs) (h ∷ hs) p q = (function_through f g h p.0 q.0, each_through fs gs hs p.1 q.1)
 
-no_worse_through : (x y z : CodeT ℕ) → IsNoWorseFrom x y → IsNoWorseFrom y z → IsNoWorseFrom x z
+pub no_worse_through : (x y z : CodeT ℕ) → IsNoWorseFrom x y → IsNoWorseFrom y z → IsNoWorseFrom x z
 no_worse_through x y z p q = record {
   is_mid = q.is_mid;
   keeps = λ frames. keeps_through (mid_runs x frames) (mid_runs y frames) (mid_runs z frames) (p.keeps frames) (q.keeps frames);
@@ -69,7 +69,7 @@ itself OutOfBound a h = same_as_itself a
 itself Deep a h = (h, refl)
 itself Stray a h = ([], sym (append-nil a.events))
 
-same_run : (a b : Run) → b ≡ a → KeepsRun a.end a b
+pub same_run : (a b : Run) → b ≡ a → KeepsRun a.end a b
 same_run a b e = subst (KeepsRun a.end a) (sym e) (itself a.end a refl)
 
 function_folded : (f g : FunctionT ℕ) → IsFoldedFunction f g → IsImprovedFunction f g
@@ -175,10 +175,10 @@ settled_already x y r rs a = record { start = record { runs = r; targets = a.sta
 
 -- ---- rounds
 
-pub fold_and_forward : (x y z : CodeT ℕ) → IsFoldedFrom x y → IsForwardedFrom y z → IsForwarded x z
-fold_and_forward x y z a b =
-    let h = forwards y z b in
-    record { no_worse = no_worse_through x y z (folded x y a) h.no_worse; start = h.start; functions = h.functions }
+pub fold_and_forward : (x y u z : CodeT ℕ) → IsFoldedFrom x y → IsNoWorseFrom y u → IsForwardedFrom u z → IsForwarded x z
+fold_and_forward x y u z a k b =
+    let h = forwards u z b in
+    record { no_worse = no_worse_through x u z (no_worse_through x y u (folded x y a) k) h.no_worse; start = h.start; functions = h.functions }
 
 pub sweep_and_forward : (x y z : CodeT ℕ) → IsSweptFrom x y → IsForwardedFrom y z → IsRoundFrom x z
 sweep_and_forward x y z a b =

@@ -15,7 +15,7 @@ use Rattle.mid_improve.specs.inner.Sweep.{none_live}
 use Rattle.mid_improve.proofs.SweepPass.{worlds_spend, worlds_store, Agree, Through, Uses, less_agrees, spent_agrees, put_agrees, opened, sweeping}
 use Rattle.mid_improve.proofs.SweepOps.{each}
 
-test_same : (c d : Cell) → c ≡ d → TestAlike (word_tested c) (word_tested d)
+pub test_same : (c d : Cell) → c ≡ d → TestAlike (word_tested c) (word_tested d)
 test_same c d e = subst (λ b. TestAlike (word_tested c) (word_tested b)) e (go (word_tested c))
   where
     go : (o : Option ℕ) → TestAlike o o

@@ -23,7 +23,7 @@ use Rattle.mid_improve.specs.Settled.{divides, only_puts}
 use Rattle.mid_improve.specs.inner.Wanted.{Set}
 use Rattle.mid_improve.proofs.SweepPass.{SameWorlds, worlds_spend, worlds_store, worlds_happened, Agree, Less, Through, Uses, less_agrees, world_agrees, spent_agrees, put_agrees, dead_agrees, Sweeps, stays, goes, sweeping}
 
-then_on : (d : Did (State ℕ)) → then_act d (λ s. On s) ≡ d
+pub then_on : (d : Did (State ℕ)) → then_act d (λ s. On s) ≡ d
 then_on (On s) = refl
 then_on (Ends f s) = refl
 

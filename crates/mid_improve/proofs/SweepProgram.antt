@@ -16,7 +16,7 @@ use Rattle.mid_improve.proofs.SweepPass.{SameWorlds, opened, sweeping}
 use Rattle.mid_improve.proofs.SweepKeeps.{keeps}
 use Rattle.mid_improve.proofs.SweepLike.{like}
 
-worlds_ended : (globals card : ℕ) (v w : World) → SameWorlds v w → KeptWorlds globals card v w
+pub worlds_ended : (globals card : ℕ) (v w : World) → SameWorlds v w → KeptWorlds globals card v w
 worlds_ended globals card v w a = record {
   so_far = record { events = a.events; work = a.work };
   there = λ o lt h. subst (λ u. o < length u.objects) (sym a.store) h;
@@ -24,7 +24,7 @@ worlds_ended globals card v w a = record {
   of_card = λ i n e. subst (λ u. slice_get (object_at u.objects card).cells i ≡ Some (Num n)) (sym a.store) e;
 }
 
-nodes_at : (x : CodeT ℕ) (fs : List (FunctionT ℕ)) → AllOf (IsFunction IsTemporary x) fs → (h : ℕ) → (m : ℕ) × AreNodes x m [] (get_or fs h no_function).body
+pub nodes_at : (x : CodeT ℕ) (fs : List (FunctionT ℕ)) → AllOf (IsFunction IsTemporary x) fs → (h : ℕ) → (m : ℕ) × AreNodes x m [] (get_or fs h no_function).body
 nodes_at x [] a h = (0, tt)
 nodes_at x (f ∷ fs) a zero = (length f.locals, a.0.nodes)
 nodes_at x (f ∷ fs) a (suc h) = nodes_at x fs a.1 h

@@ -1,3 +1,4 @@
 pub mod Settled
 pub mod ImprovedFrom
+pub mod MadeFrom
 pub mod inner

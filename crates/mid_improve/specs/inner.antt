@@ -12,3 +12,8 @@ pub mod Sweep
 pub mod SweepListed
 pub mod SweptFrom
 pub mod Rounds
+pub mod Sinking
+pub mod SinkListed
+pub mod Counted
+pub mod Retarget
+pub mod RetargetListed

@@ -20,67 +20,54 @@ use Rattle.mid_code.proofs.Keeping.{keeps_through}
 use Rattle.mid_code.proofs.Agreeing.{within_through, works_through}
 use Rattle.mid_lower.specs.LoweredFrom.{IsLoweredFunction, IsLoweredFrom}
 use Rattle.mid_lower.specs.SourceLoops.{HasNoLoops, TreeCalls}
-use Rattle.mid_scalars.specs.PromotedFrom.{IsPromotedFrom}
-use Rattle.mid_copies.specs.SparedFrom.{IsSparedFrom}
+use Rattle.mid_improve.specs.MadeFrom.{IsSettledFrom}
 use Rattle.reg_frames.specs.PlacedFrom.{IsPlacedFrom}
 use Rattle.asm_emit.specs.EmittedFrom.{IsEmitted, literal_words}
 use Rattle.asm_laws.specs.Tables.{addresses}
 
-module _ (p : ProgramT) (m first spared promoted : CodeT ℕ) (cs : List (List Where)) (x : PlacedT) (names : List (List ℕ)) (items : List AsmItem)
-    (l : IsLoweredFrom p m) (o : IsPromotedFrom m first) (r : IsSparedFrom first spared) (q : IsPromotedFrom spared promoted) (c : IsPlacedFrom promoted cs x) (e : IsEmitted x names items) where
+module _ (p : ProgramT) (m settled : CodeT ℕ) (cs : List (List Where)) (x : PlacedT) (names : List (List ℕ)) (items : List AsmItem)
+    (l : IsLoweredFrom p m) (o : IsSettledFrom m settled) (c : IsPlacedFrom settled cs x) (e : IsEmitted x names items) where
   abbrev source : Meaning
   source = c_runs p x.frames
 
-  first_keeps : KeepsRuns source (mid_runs first x.frames)
-  first_keeps = keeps_through source (mid_runs m x.frames) (mid_runs first x.frames) (l.keeps x.frames) (o.keeps x.frames)
+  pub settled_keeps : KeepsRuns source (mid_runs settled x.frames)
+  settled_keeps = keeps_through source (mid_runs m x.frames) (mid_runs settled x.frames) (l.keeps x.frames) (o.made.keeps x.frames)
 
-  first_works : WorksAtMost 64 source (mid_runs first x.frames)
-  first_works = works_through 64 source (mid_runs m x.frames) (mid_runs first x.frames) (l.keeps x.frames) (l.works x.frames) (o.works x.frames)
-
-  spared_keeps : KeepsRuns source (mid_runs spared x.frames)
-  spared_keeps = keeps_through source (mid_runs first x.frames) (mid_runs spared x.frames) first_keeps (r.keeps x.frames)
-
-  spared_works : WorksAtMost 64 source (mid_runs spared x.frames)
-  spared_works = works_through 64 source (mid_runs first x.frames) (mid_runs spared x.frames) first_keeps first_works (r.works x.frames)
-
-  pub promoted_keeps : KeepsRuns source (mid_runs promoted x.frames)
-  promoted_keeps = keeps_through source (mid_runs spared x.frames) (mid_runs promoted x.frames) spared_keeps (q.keeps x.frames)
-
-  promoted_works : WorksAtMost 64 source (mid_runs promoted x.frames)
-  promoted_works = works_through 64 source (mid_runs spared x.frames) (mid_runs promoted x.frames) spared_keeps spared_works (q.works x.frames)
+  settled_works : WorksAtMost 64 source (mid_runs settled x.frames)
+  settled_works = works_through 64 source (mid_runs m x.frames) (mid_runs settled x.frames) (l.keeps x.frames) (l.works x.frames) (o.made.works x.frames)
 
   pub keeps : KeepsRuns source (placed_runs x)
-  keeps = keeps_through source (mid_runs promoted x.frames) (placed_runs x) promoted_keeps c.keeps
+  keeps = keeps_through source (mid_runs settled x.frames) (placed_runs x) settled_keeps c.keeps
 
   pub works : WorksAtMost 64 source (placed_runs x)
-  works = works_through 64 source (mid_runs promoted x.frames) (placed_runs x) promoted_keeps promoted_works c.works
+  works = works_through 64 source (mid_runs settled x.frames) (placed_runs x) settled_keeps settled_works c.works
 
   same_globals : x.code.globals ≡ map (λ g. g.1) p.globals
-  same_globals = c.globals ∙ q.globals ∙ r.globals ∙ o.globals ∙ l.globals
+  same_globals = c.globals ∙ o.made.globals ∙ l.globals
 
   pub agrees : (words : List ℕ) (labels : List (List ℕ × ℕ)) → asm.Placed items words labels → AgreesWithin 64 (addresses 0 (map (λ g. g.1) p.globals)) source words
   agrees words labels stands =
       subst (λ globals. AgreesWithin 64 (addresses 0 globals) source words) same_globals
       (within_through 64 (addresses 0 x.code.globals) source (placed_runs x) words keeps works (e.agrees words labels stands))
 
-  -- the words do what promoted code means
-  pub follows : (words : List ℕ) (labels : List (List ℕ × ℕ)) → asm.Placed items words labels → AgreesWithin 1 (addresses 0 (map (λ g. g.1) p.globals)) (mid_runs promoted x.frames) words
+  -- the words do what settled code means
+  pub follows : (words : List ℕ) (labels : List (List ℕ × ℕ)) → asm.Placed items words labels → AgreesWithin 1 (addresses 0 (map (λ g. g.1) p.globals)) (mid_runs settled x.frames) words
   follows words labels stands =
-      subst (λ globals. AgreesWithin 1 (addresses 0 globals) (mid_runs promoted x.frames) words) same_globals
-      (within_through 1 (addresses 0 x.code.globals) (mid_runs promoted x.frames) (placed_runs x) words c.keeps c.works (e.agrees words labels stands))
+      subst (λ globals. AgreesWithin 1 (addresses 0 globals) (mid_runs settled x.frames) words) same_globals
+      (within_through 1 (addresses 0 x.code.globals) (mid_runs settled x.frames) (placed_runs x) words c.keeps c.works (e.agrees words labels stands))
 
   same_literals : x.code.literals ≡ p.literals
-  same_literals = c.literals ∙ q.literals ∙ r.literals ∙ o.literals ∙ l.literals
+  same_literals = c.literals ∙ o.made.literals ∙ l.literals
 
   placed_small : total_size items ≤ 128 * program_nodes p + literal_words x + 64
-  placed_small = omega (arith, e.small, c.weighs, q.weighs, r.weighs, o.weighs, l.weighs)
+  placed_small = omega (arith, e.small, c.weighs, o.made.weighs, l.weighs)
 
   pub small : total_size items ≤ 128 * program_nodes p + sum_by (λ text. length text + 1) p.literals + 64
   small = subst (λ (texts : List (List ℕ)). total_size items ≤ 128 * program_nodes p + sum_by (λ text. length text + 1) texts + 64) same_literals placed_small
 
 -- A function without loops has none in placed code, and calls there only what its tree calls.
-pub straight : {P Q R S : Type 0} (s : Setting) (f : TFunctionT) (g : FunctionT ℕ) (h : FunctionT P) (i : FunctionT Q) (j : FunctionT R) (k : FunctionT S)
-    → IsLoweredFunction s f g → AddsNone g.body h.body → AddsNone h.body i.body → AddsNone i.body j.body → AddsNone j.body k.body → HasNoLoops s f
+pub straight : {P Q : Type 0} (s : Setting) (f : TFunctionT) (g : FunctionT ℕ) (h : FunctionT P) (k : FunctionT Q)
+    → IsLoweredFunction s f g → AddsNone g.body h.body → AddsNone h.body k.body → HasNoLoops s f
     → (loops k.body ≡ 0) × ((n : ℕ) → CallsTo n k.body → TreeCalls n f)
-straight s f g h i j k a b c d e none =
-    (omega (arith, e.loop_count, d.loop_count, c.loop_count, b.loop_count, (a.straight none).loop_count), λ n calls. (a.straight none).calls n (b.calls n (c.calls n (d.calls n (e.calls n calls)))))
+straight s f g h k a b c none =
+    (omega (arith, c.loop_count, b.loop_count, (a.straight none).loop_count), λ n calls. (a.straight none).calls n (b.calls n (c.calls n calls)))

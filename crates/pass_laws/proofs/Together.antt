@@ -4,13 +4,13 @@ use Rattle.pass_laws.proofs.Chain as chain
 use Rattle.pass_laws.proofs.FrameChain.{frames_fit}
 
 pub meet : PassesMeet
-meet p m first spared promoted cs x names items l o r q a c e = record {
-  keeps = chain.promoted_keeps p m first spared promoted cs x names items l o r q c e;
-  follows = chain.follows p m first spared promoted cs x names items l o r q c e;
-  agrees = chain.agrees p m first spared promoted cs x names items l o r q c e;
-  small = chain.small p m first spared promoted cs x names items l o r q c e;
-  frames = frames_fit p m first spared promoted cs x l o r q a c;
+meet p m settled cs x names items l o a c e = record {
+  keeps = chain.settled_keeps p m settled cs x names items l o c e;
+  follows = chain.follows p m settled cs x names items l o c e;
+  agrees = chain.agrees p m settled cs x names items l o c e;
+  small = chain.small p m settled cs x names items l o c e;
+  frames = frames_fit p m settled cs x l o a c;
 }
 
 pub stays : StraightStays
-stays s f g h i j k a b c d e none = chain.straight s f g h i j k a b c d e none
+stays s f g h k a b c none = chain.straight s f g h k a b c none

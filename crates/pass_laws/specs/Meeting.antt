@@ -18,19 +18,18 @@ use Rattle.mid_code.specs.Keeps.{KeepsRuns}
 use Rattle.mid_code.specs.Runs.{mid_runs}
 use Rattle.mid_lower.specs.LoweredFrom.{IsLoweredFunction, IsLoweredFrom}
 use Rattle.mid_lower.specs.SourceLoops.{HasNoLoops, TreeCalls}
-use Rattle.mid_scalars.specs.PromotedFrom.{IsPromotedFrom}
-use Rattle.mid_copies.specs.SparedFrom.{IsSparedFrom}
+use Rattle.mid_improve.specs.MadeFrom.{IsSettledFrom}
 use Rattle.reg_frames.specs.PlacedFrom.{IsPlacedFrom}
 use Rattle.asm_laws.specs.Tables.{addresses}
 use Rattle.asm_emit.specs.EmittedFrom.{IsEmitted}
 
--- Items of a program, by way of promoted code and of code whose frames have these sizes: the words that they are placed as do what it means, each
+-- Items of a program, by way of settled code and of code whose frames have these sizes: the words that they are placed as do what it means, each
 -- global at the sum of the sizes before it.
-pub record DoesAsMeant (p : ProgramT) (promoted : CodeT ℕ) (x : PlacedT) (items : List AsmItem) : Type 0 where
-  -- the promoted code has the program's runs, and the words do what it means in at most as many steps as its work, and 64
-  pub keeps : KeepsRuns (c_runs p x.frames) (mid_runs promoted x.frames)
+pub record DoesAsMeant (p : ProgramT) (settled : CodeT ℕ) (x : PlacedT) (items : List AsmItem) : Type 0 where
+  -- the settled code has the program's runs, and the words do what it means in at most as many steps as its work, and 64
+  pub keeps : KeepsRuns (c_runs p x.frames) (mid_runs settled x.frames)
   pub follows : (words : List ℕ) (labels : List (List ℕ × ℕ)) → asm.Placed items words labels
-      → AgreesWithin 1 (addresses 0 (map (λ g. g.1) p.globals)) (mid_runs promoted x.frames) words
+      → AgreesWithin 1 (addresses 0 (map (λ g. g.1) p.globals)) (mid_runs settled x.frames) words
   pub agrees : (words : List ℕ) (labels : List (List ℕ × ℕ)) → asm.Placed items words labels
       → AgreesWithin 64 (addresses 0 (map (λ g. g.1) p.globals)) (c_runs p x.frames) words
   pub small : total_size items ≤ 128 * program_nodes p + sum_by (λ text. length text + 1) p.literals + 64
@@ -38,14 +37,13 @@ pub record DoesAsMeant (p : ProgramT) (promoted : CodeT ℕ) (x : PlacedT) (item
 
 abbrev pub PassesMeet : Type 0
 PassesMeet =
-    (p : ProgramT) (m first spared promoted : CodeT ℕ) (cs : List (List Where)) (x : PlacedT) (names : List (List ℕ)) (items : List AsmItem)
-    → IsLoweredFrom p m → IsPromotedFrom m first → IsSparedFrom first spared → IsPromotedFrom spared promoted → AreSafe promoted cs
-    → IsPlacedFrom promoted cs x
-    → IsEmitted x names items → DoesAsMeant p promoted x items
+    (p : ProgramT) (m settled : CodeT ℕ) (cs : List (List Where)) (x : PlacedT) (names : List (List ℕ)) (items : List AsmItem)
+    → IsLoweredFrom p m → IsSettledFrom m settled → AreSafe settled cs → IsPlacedFrom settled cs x
+    → IsEmitted x names items → DoesAsMeant p settled x items
 
--- a function in the tree, lowered, promoted, without copies, promoted again, and placed
+-- a function in the tree, lowered, settled, and placed
 abbrev pub StraightStays : Type 0
 StraightStays =
-    (s : Setting) (f : TFunctionT) (g h i j : FunctionT ℕ) (k : FunctionT Where)
-    → IsLoweredFunction s f g → AddsNone g.body h.body → AddsNone h.body i.body → AddsNone i.body j.body → AddsNone j.body k.body → HasNoLoops s f
+    (s : Setting) (f : TFunctionT) (g h : FunctionT ℕ) (k : FunctionT Where)
+    → IsLoweredFunction s f g → AddsNone g.body h.body → AddsNone h.body k.body → HasNoLoops s f
     → (loops k.body ≡ 0) × ((n : ℕ) → CallsTo n k.body → TreeCalls n f)

@@ -1,8 +1,8 @@
-//! A C source run by the definitions: by its meaning, or by its mid code as it is lowered, promoted, spared of copies, or settled; and that code as a text.
+//! A C source run by the definitions: by its meaning, or by its mid code as it is lowered, promoted, or settled; and that code as a text.
 //!
-//! `tool_source SOURCE ANSWERS none|zeros BOUND meaning|lowered|promoted|spared|improved SIZE ..` reads a source that includes no files but the headers and a
+//! `tool_source SOURCE ANSWERS none|zeros BOUND meaning|lowered|promoted|settled SIZE ..` reads a source that includes no files but the headers and a
 //! file of port answers; it prints each port operation, the end and the work, and of mid code what the run keeps and how large the code is.
-//! `tool_source SOURCE text lowered|promoted|spared|improved` prints the mid code. It promises nothing beyond safety; what the runs give is promised by
+//! `tool_source SOURCE text lowered|promoted|settled` prints the mid code. It promises nothing beyond safety; what the runs give is promised by
 //! `c_evaluate` and `mid_evaluate`, and what the text says by `mid_text`.
 #![tactic(auto)]
 
@@ -81,7 +81,7 @@ fn main(rt: HostRuntime) -> io::Result<()> {
     match work_of(rt.alloc(), &words) {
         Some(work) => run_file(&rt, &work),
         None => println!(rt;
-            "usage: tool_source SOURCE ANSWERS none|zeros BOUND meaning|lowered|promoted|spared|improved SIZE .., or tool_source SOURCE text lowered|promoted|spared|improved"
+            "usage: tool_source SOURCE ANSWERS none|zeros BOUND meaning|lowered|promoted|settled SIZE .., or tool_source SOURCE text lowered|promoted|settled"
         ),
     }
 }

@@ -5,9 +5,8 @@ use crate::work::Stage;
 use c_check::Program;
 use kit_base::Memory;
 use mid_code::Mid;
-use mid_copies::spare_copies;
 use mid_evaluate::evaluate_mid;
-use mid_improve::{improve, is_settled};
+use mid_improve::{is_settled, settle};
 use mid_lower::lower;
 use mid_scalars::promote;
 use mid_text::write_mid;
@@ -20,16 +19,7 @@ fn code_of(alloc: Global, program: &Program, stage: Stage) -> Result<Mid, Memory
     match stage {
         Stage::Lowered => Ok(code),
         Stage::Promoted => promote(alloc, code),
-        Stage::Spared => {
-            let first = promote(alloc, code)?;
-            let spared = spare_copies(alloc, first)?;
-            promote(alloc, spared)
-        }
-        Stage::Improved => {
-            let first = promote(alloc, code)?;
-            let improved = improve(alloc, first)?;
-            improve(alloc, promote(alloc, improved)?)
-        }
+        Stage::Settled => settle(alloc, code),
     }
 }
 
@@ -53,8 +43,8 @@ fn put_settled(rt: &HostRuntime, code: &Mid) -> io::Result<()> {
     }
 }
 
-/// Runs a program by its mid code at a stage, and puts what it does and keeps and how large its code is, and whether improved code
-/// is settled.
+/// Runs a program by its mid code at a stage, and puts what it does and keeps and how large its code is, and whether settled code
+/// is so.
 pub fn put_mid(
     rt: &HostRuntime,
     program: &Program,
@@ -72,7 +62,7 @@ pub fn put_mid(
         Err(_) => println!(rt; "no memory")?,
     }
     match stage {
-        Stage::Improved => put_settled(rt, &code),
-        Stage::Lowered | Stage::Promoted | Stage::Spared => Ok(()),
+        Stage::Settled => put_settled(rt, &code),
+        Stage::Lowered | Stage::Promoted => Ok(()),
     }
 }

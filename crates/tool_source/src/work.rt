@@ -2,14 +2,12 @@
 use line_text::decimal_word;
 use std::alloc::Global;
 
-/// Mid code as it is lowered; with scalars promoted; with copies spared and scalars promoted once more, as places are chosen for; and settled
-/// after scalars are promoted, and once more after those that are promoted then.
+/// Mid code as it is lowered; with scalars promoted; and settled, with all scalars promoted, as places are chosen for.
 #[derive(Clone, Copy, Drop)]
 pub enum Stage {
     Lowered,
     Promoted,
-    Spared,
-    Improved,
+    Settled,
 }
 
 /// How a source is run: by its meaning, or by its mid code.
@@ -35,8 +33,7 @@ fn stage_of(word: &str) -> Option<Stage> {
     match word {
         "lowered" => Some(Stage::Lowered),
         "promoted" => Some(Stage::Promoted),
-        "spared" => Some(Stage::Spared),
-        "improved" => Some(Stage::Improved),
+        "settled" => Some(Stage::Settled),
         _ => None,
     }
 }
@@ -49,7 +46,7 @@ fn how_of(word: &str) -> Option<How> {
     }
 }
 
-/// The source and the stage whose mid code `SOURCE text lowered|promoted|spared|improved` asks for; none where the words are no such ones.
+/// The source and the stage whose mid code `SOURCE text lowered|promoted|settled` asks for; none where the words are no such ones.
 pub fn text_of(words: &[String]) -> Option<(&str, Stage)> {
     let [source, text, stage] = words else {
         return None;
@@ -60,7 +57,7 @@ pub fn text_of(words: &[String]) -> Option<(&str, Stage)> {
     Some((source.as_str(), stage_of(stage.as_str())?))
 }
 
-/// What `SOURCE ANSWERS none|zeros BOUND meaning|lowered|promoted|spared|improved SIZE ..` ask for; none where they are no such words, or memory ran out.
+/// What `SOURCE ANSWERS none|zeros BOUND meaning|lowered|promoted|settled SIZE ..` ask for; none where they are no such words, or memory ran out.
 pub fn work_of(alloc: Global, words: &[String]) -> Option<Work<'_>> {
     let [source, answers, card, bound, how, rest @ ..] = words else {
         return None;

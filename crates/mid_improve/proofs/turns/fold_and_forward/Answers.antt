@@ -1,6 +1,12 @@
 use Rattle.mid_code.specs.Whole.{mid}
-use Rattle.mid_improve.proofs.Improving.{fold_and_forward}
+use Rattle.mid_improve.specs.ImprovedFrom.{IsNoWorseFrom}
+use Rattle.mid_improve.proofs.Improving.{no_worse_through, fold_and_forward}
 use Rattle.mid_improve.proofs.turns.fold_and_forward.Goals as goal
 
 pub returns : goal.returns
-returns c = fold_and_forward (mid c.args.m) (mid c.in_ok-folded.folded) (mid c.in_ok-forward.forward) c.in_ok-folded.ensures.folded c.in_ok-forward.ensures.forwarded
+returns c =
+    let folded = mid c.in_ok-folded.folded in
+    let sunk = mid c.in_ok-sunk.sunk in
+    let moved = mid c.in_ok-moved.moved in
+    let between : IsNoWorseFrom folded moved = no_worse_through folded sunk moved c.in_ok-sunk.ensures.sunk c.in_ok-moved.ensures.retargeted in
+    fold_and_forward (mid c.args.m) folded moved (mid c.in_ok-forward.forward) c.in_ok-folded.ensures.folded between c.in_ok-forward.ensures.forwarded

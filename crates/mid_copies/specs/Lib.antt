@@ -1,2 +1,0 @@
-pub mod SparedFrom
-pub mod inner

@@ -1,0 +1,89 @@
+-- The same as code in memory has it.
+use Rattle.std.specs.Prelude.{ℕ, eqb, cond, List, [], ◌∷◌, Option, Some, None}
+use Rattle.mid_code.specs.declared.node.Op.{Op}
+use Rattle.mid_code.specs.declared.node.Op.TheVariants as op
+use Rattle.mid_code.specs.Functions.{NodeT, DoN, ChooseN, BlockN, LoopN, LeaveN, AgainN, ReturnN, ListT, NoN, MoreN, listed}
+use Rattle.mid_improve.specs.inner.Retarget.{Turn, turn_of, or_else}
+
+-- the target of an operation or a call
+abbrev pub op_target : Op ℕ → Option ℕ
+op_target (op.Const t n) = Some t
+op_target (op.Null t) = Some t
+op_target (op.Move t a) = Some t
+op_target (op.One o t a) = Some t
+op_target (op.Two o t a b) = Some t
+op_target (op.Global t n) = Some t
+op_target (op.Local t n) = Some t
+op_target (op.Literal t n) = Some t
+op_target (op.Card t) = Some t
+op_target (op.Step t a b) = Some t
+op_target (op.Apart t a b) = Some t
+op_target (op.PtrTest o t a b) = Some t
+op_target (op.Load t p) = Some t
+op_target (op.In t port) = Some t
+op_target (op.Call t f args) = t
+op_target _ = None
+
+abbrev pub op_into : ℕ → Op ℕ → Op ℕ
+op_into x (op.Const t n) = op.Const x n
+op_into x (op.Null t) = op.Null x
+op_into x (op.Move t a) = op.Move x a
+op_into x (op.One o t a) = op.One o x a
+op_into x (op.Two o t a b) = op.Two o x a b
+op_into x (op.Global t n) = op.Global x n
+op_into x (op.Local t n) = op.Local x n
+op_into x (op.Literal t n) = op.Literal x n
+op_into x (op.Card t) = op.Card x
+op_into x (op.Step t a b) = op.Step x a b
+op_into x (op.Apart t a b) = op.Apart x a b
+op_into x (op.PtrTest o t a b) = op.PtrTest o x a b
+op_into x (op.Load t p) = op.Load x p
+op_into x (op.In t port) = op.In x port
+op_into x (op.Call t f args) = op.Call (Some x) f args
+op_into x o = o
+
+abbrev pub op_to : Option ℕ → Op ℕ → Op ℕ
+op_to None o = o
+op_to (Some x) o = op_into x o
+
+abbrev pub op_landing : ℕ → Op ℕ → ℕ
+op_landing t (op.Move x a) = cond (eqb a t) x t
+op_landing t o = t
+
+abbrev pub node_landing : ℕ → NodeT ℕ → ℕ
+node_landing t (DoN o) = op_landing t o
+node_landing t _ = t
+
+abbrev pub list_landing : ℕ → ListT ℕ → ℕ
+list_landing t NoN = t
+list_landing t (MoreN x rest) = node_landing t x
+
+abbrev pub list_lands : Option ℕ → ListT ℕ → Option ℕ
+list_lands None rest = None
+list_lands (Some t) rest = Some (list_landing t rest)
+
+abbrev pub turned_move : Turn → Op ℕ → Option (Op ℕ)
+turned_move (Some p) (op.Move x a) = Some (op.Move p.0 p.1)
+turned_move h o = None
+
+abbrev pub unless_turned : Option (Op ℕ) → Turn → Turn
+unless_turned None h = h
+unless_turned (Some o) h = None
+
+abbrev pub node_turn : Turn → NodeT ℕ → ListT ℕ → Turn
+node_turn h (DoN o) rest = unless_turned (turned_move h o) (turn_of (op_target o) (list_lands (op_target o) rest))
+node_turn h _ rest = None
+
+abbrev mutual
+  pub node_retargeted : Turn → NodeT ℕ → ListT ℕ → NodeT ℕ
+  node_retargeted h (DoN o) rest = DoN (or_else (turned_move h o) (op_to (list_lands (op_target o) rest) o))
+  node_retargeted h (ChooseN p a b) rest = ChooseN p (listed (list_retargeted None a)) (listed (list_retargeted None b))
+  node_retargeted h (BlockN b) rest = BlockN (listed (list_retargeted None b))
+  node_retargeted h (LoopN b) rest = LoopN (listed (list_retargeted None b))
+  node_retargeted h (LeaveN k) rest = LeaveN k
+  node_retargeted h (AgainN k) rest = AgainN k
+  node_retargeted h (ReturnN p) rest = ReturnN p
+
+  pub list_retargeted : Turn → ListT ℕ → List (NodeT ℕ)
+  list_retargeted h NoN = []
+  list_retargeted h (MoreN x rest) = node_retargeted h x rest ∷ list_retargeted (node_turn h x rest) rest

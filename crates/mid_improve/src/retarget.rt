@@ -4,7 +4,8 @@ ghost use Rattle.mid_code.specs.Functions.{function, listed, node};
 ghost use Rattle.mid_code.specs.Whole.{mid};
 ghost use Rattle.mid_improve.specs.ImprovedFrom.{IsNoWorseFrom};
 ghost use Rattle.mid_improve.specs.inner.Retarget.{turn_of, retargeted_function};
-ghost use Rattle.mid_improve.specs.inner.RetargetListed.{op_target, op_into, op_to, op_landing, list_landing, list_lands, turned_move, unless_turned, node_turn, node_retargeted, list_retargeted};
+ghost use Rattle.mid_improve.specs.inner.RetargetListed.{op_target, op_into, op_to, op_landing, list_landing, list_lands};
+ghost use Rattle.mid_improve.specs.inner.RetargetListed.{turned_move, unless_turned, node_turn, node_retargeted, list_retargeted};
 
 use crate::sweep::{copy_op, copy_words};
 use kit_base::{Memory, Seq};

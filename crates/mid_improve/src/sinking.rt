@@ -6,7 +6,8 @@ ghost use Rattle.mid_code.specs.Functions.{function, listed, node};
 ghost use Rattle.mid_code.specs.Whole.{mid};
 ghost use Rattle.mid_improve.specs.ImprovedFrom.{IsNoWorseFrom};
 ghost use Rattle.mid_improve.specs.inner.Sinking.{hides, sunk_function};
-ghost use Rattle.mid_improve.specs.inner.SinkListed.{free_op, held_of, free_in, apart_in, node_op, plain_op, held_nodes, nodes_at, held_at, node_sunk, list_sunk};
+ghost use Rattle.mid_improve.specs.inner.SinkListed.{free_op, held_of, free_in, apart_in, node_op, plain_op};
+ghost use Rattle.mid_improve.specs.inner.SinkListed.{held_nodes, nodes_at, held_at, node_sunk, list_sunk};
 
 use crate::sweep::{copy_op, copy_words};
 use kit_base::{Memory, Seq};

@@ -124,9 +124,9 @@ module _ (W : Whole) (F : Frame) where
   op_code WaitO = (tt, tt)
   op_code HaltO = (tt, tt)
 
-  one_or_more_code : (o : OpT Where) (c : NodesT Where) → AreCode (one_or_more W F o (in_one W o c))
+  one_or_more_code : (o : OpT Where) (c : NodesT Where) → AreCode (one_or_more W F o (in_one W F o c))
   one_or_more_code o c =
-      one_or_more_is W F AreCode (λ v. Unit {0}) o c (λ t n e. (tt, tt)) (λ t k e. (tt, tt)) (op_code o) (λ r q v lr lq h. (tt, tt)) (λ r q v lr lq h. (tt, tt)) (λ u r q v lr lq h. (tt, (tt, tt)))
+      one_or_more_is W F AreCode (λ v. Unit {0}) o c (λ t n e. (tt, tt)) (λ t k e. (tt, tt)) (op_code o) (λ r q v lr lq h. (tt, tt)) (λ r q v lr lq h. (tt, tt)) (λ u p r v lr h. (fetch_code F p r, (tt, tt))) (λ p r v lr h. (fetch_code F p r, (tt, tt)))
 
   call_code : (t : Option Where) (g : ℕ) (args : List Where) → AreCode (call_items W F t g args)
   call_code t g args =
@@ -155,8 +155,8 @@ module _ (W : Whole) (F : Frame) where
     pub past_code : (c : NodesT Where) (done : ℕ) (last : Bool) (ls : List ℕ) (n : ℕ) → AreCode (items_past W F out last ls n c done)
     past_code Stop done last ls n = tt
     past_code (Do o c) zero last ls n =
-        let more = more_of (in_one W o c) in
-        joined (one_or_more W F o (in_one W o c)) (items_past W F out last ls n c more) (one_or_more_code o c) (past_code c more last ls n)
+        let more = more_of (in_one W F o c) in
+        joined (one_or_more W F o (in_one W F o c)) (items_past W F out last ls n c more) (one_or_more_code o c) (past_code c more last ls n)
     past_code (Do o c) (suc done) last ls n = past_code c done last ls n
     past_code (Call t g args c) done last ls n = joined (call_items W F t g args) (items_past W F out last ls n c 0) (call_code t g args) (past_code c 0 last ls n)
     past_code (Choose p a b c) done last ls n =

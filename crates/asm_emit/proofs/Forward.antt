@@ -146,9 +146,9 @@ module _ (names : List (List ℕ)) (body : NodesT Where) where
     op_ahead WaitO later ok = (tt, tt)
     op_ahead HaltO later ok = (tt, tt)
 
-    one_or_more_ahead : (o : OpT Where) (c : NodesT Where) (later : List AsmItem) → IsOp x m o → Ahead (one_or_more W F o (in_one W o c)) later
+    one_or_more_ahead : (o : OpT Where) (c : NodesT Where) (later : List AsmItem) → IsOp x m o → Ahead (one_or_more W F o (in_one W F o c)) later
     one_or_more_ahead o c later ok =
-        one_or_more_is W F (λ xs. Ahead xs later) (λ v. Unit {0}) o c (λ t n e. (tt, tt)) (λ t k e. (tt, tt)) (op_ahead o later ok) (λ r q v lr lq h. (tt, tt)) (λ r q v lr lq h. (tt, tt)) (λ u r q v lr lq h. (tt, (tt, tt)))
+        one_or_more_is W F (λ xs. Ahead xs later) (λ v. Unit {0}) o c (λ t n e. (tt, tt)) (λ t k e. (tt, tt)) (op_ahead o later ok) (λ r q v lr lq h. (tt, tt)) (λ r q v lr lq h. (tt, tt)) (λ u p r v lr h. (fetch_ahead F p r _, (tt, tt))) (λ p r v lr h. (fetch_ahead F p r _, (tt, tt)))
 
     call_ahead : (t : Option Where) (g : ℕ) (args : List Where) (later : List AsmItem) → g < length x.functions → CallsTo g body → Ahead (call_items W F t g args) later
     call_ahead t g args later lt calls =
@@ -222,8 +222,8 @@ module _ (names : List (List ℕ)) (body : NodesT Where) where
           ((g : ℕ) → CallsTo g c → CallsTo g body) → Ends ls later → HasLabel later (jump_label out) → Ahead (items_past W F out last ls n c done) later
       past_ahead Stop done last bs ls n later ok same nl none few calls on over = tt
       past_ahead (Do o c) zero last bs ls n later ok same nl none few calls on over =
-          let more = more_of (in_one W o c) in
-          ahead_append (one_or_more W F o (in_one W o c)) (items_past W F out last ls n c more) later (one_or_more_ahead o c _ ok.0) (past_ahead c more last bs ls n later ok.1 same nl none few calls on over)
+          let more = more_of (in_one W F o c) in
+          ahead_append (one_or_more W F o (in_one W F o c)) (items_past W F out last ls n c more) later (one_or_more_ahead o c _ ok.0) (past_ahead c more last bs ls n later ok.1 same nl none few calls on over)
       past_ahead (Do o c) (suc done) last bs ls n later ok same nl none few calls on over = past_ahead c done last bs ls n later ok.1 same nl none few calls on over
       past_ahead (Call t g args c) done last bs ls n later ok same nl none few calls on over =
           ahead_append (call_items W F t g args) (items_past W F out last ls n c 0) later (call_ahead t g args _ (function_there x g (length args) ok.0) (calls g (inl refl)))

@@ -6,30 +6,30 @@ use Rattle.mid_code.specs.declared.node.Op.{Op}
 use Rattle.mid_code.specs.declared.node.Op.TheVariants as op
 use Rattle.mid_code.specs.Code.{OpT, ConstO, NullO, MoveO, OneO, TwoO, GlobalO, LocalO, LiteralO, CardO, StepO, ApartO, PtrTestO, LoadO, StoreO, FreshO, EndO, InO, OutO, WaitO, HaltO, NodesT, Stop, Do, Call}
 use Rattle.mid_code.specs.Functions.{op_before}
-use Rattle.asm_laws.specs.Operations.{Whole, word_put, in_one}
+use Rattle.asm_laws.specs.Operations.{Frame, Whole, word_put, in_one}
 use Rattle.asm_emit.specs.inner.Listed.{front_put, front_summed, ahead_items, ahead_more, is_call, front_items, front_more, labels_due}
 
 pub none_due : (k : Option ℕ) → labels_due k 0 ≡ 0
 none_due None = refl
 none_due (Some k) = refl
 
-pub none_summed : (c : NodesT Where) → front_summed None c ≡ None
-none_summed (Do p c) = refl
-none_summed _ = refl
+pub none_summed : (F : Frame) (c : NodesT Where) → front_summed F None c ≡ None
+none_summed F (Do p c) = refl
+none_summed F _ = refl
 
 both : {A : Type 0} (b : Bool) (x : A) → x ≡ cond b x x
 both true x = refl
 both false x = refl
 
-module _ (W : Whole) where
-  summed : (o : OpT Where) (c : NodesT Where) → in_one W o c ≡ front_summed (word_put W o) c
+module _ (W : Whole) (F : Frame) where
+  summed : (o : OpT Where) (c : NodesT Where) → in_one W F o c ≡ front_summed F (word_put W o) c
   unfolding in_one
   summed o (Do p c) = refl
   summed o _ = refl
 
   record Fronts (first : NodesT Where) (put : Option (ℕ × ℕ)) (call : Bool) (c : NodesT Where) : Type 0 where
-    items : (k : ℕ) → front_items W first k ≡ cond (k == 0) (ahead_items (front_summed put c)) []
-    more : (k : ℕ) → front_more W first k ≡ cond (k == 0) (ahead_more (front_summed put c)) (cond call None (Some (k - 1)))
+    items : (k : ℕ) → front_items W F first k ≡ cond (k == 0) (ahead_items (front_summed F put c)) []
+    more : (k : ℕ) → front_more W F first k ≡ cond (k == 0) (ahead_more (front_summed F put c)) (cond call None (Some (k - 1)))
 
   plain_fronts : (o : OpT Where) (c : NodesT Where) → Fronts (Do o c) (word_put W o) false c
   plain_fronts o c = record {
@@ -39,8 +39,8 @@ module _ (W : Whole) where
 
   call_fronts : {t : Option Where} {f : ℕ} {args : List Where} (c : NodesT Where) → Fronts (Call t f args c) None true c
   call_fronts c = record {
-    items = λ k. both (k == 0) [] ∙ ap (λ r. cond (k == 0) (ahead_items r) []) (sym (none_summed c));
-    more = λ k. both (k == 0) None ∙ ap (λ r. cond (k == 0) (ahead_more r) None) (sym (none_summed c));
+    items = λ k. both (k == 0) [] ∙ ap (λ r. cond (k == 0) (ahead_items r) []) (sym (none_summed F c));
+    more = λ k. both (k == 0) None ∙ ap (λ r. cond (k == 0) (ahead_more r) None) (sym (none_summed F c));
   }
 
   fronts : (o : Op Where) (c : NodesT Where) → Fronts (op_before o c) (front_put W (op_before o Stop)) (is_call o) c
@@ -66,8 +66,8 @@ module _ (W : Whole) where
   fronts op.Wait c = plain_fronts WaitO c
   fronts op.Halt c = plain_fronts HaltO c
 
-  pub items_of_front : (o : Op Where) (c : NodesT Where) (k : ℕ) → front_items W (op_before o c) k ≡ cond (k == 0) (ahead_items (front_summed (front_put W (op_before o Stop)) c)) []
+  pub items_of_front : (o : Op Where) (c : NodesT Where) (k : ℕ) → front_items W F (op_before o c) k ≡ cond (k == 0) (ahead_items (front_summed F (front_put W (op_before o Stop)) c)) []
   items_of_front o c k = (fronts o c).items k
 
-  pub more_of_front : (o : Op Where) (c : NodesT Where) (k : ℕ) → front_more W (op_before o c) k ≡ cond (k == 0) (ahead_more (front_summed (front_put W (op_before o Stop)) c)) (cond (is_call o) None (Some (k - 1)))
+  pub more_of_front : (o : Op Where) (c : NodesT Where) (k : ℕ) → front_more W F (op_before o c) k ≡ cond (k == 0) (ahead_more (front_summed F (front_put W (op_before o Stop)) c)) (cond (is_call o) None (Some (k - 1)))
   more_of_front o c k = (fronts o c).more k

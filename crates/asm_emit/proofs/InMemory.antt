@@ -101,18 +101,18 @@ module _ (W : Whole) (F : Frame) (out : ℕ) where
 
   -- what comes of nodes whose first is a node with these items and so many labels
   abbrev On : (last : Bool) → NodesT Where → ℕ → List AsmItem → List ℕ → ℕ → ℕ → NodesT Where → List AsmItem
-  On last first k own ls n m c = front_items W first k ++ onward (front_more W first k) own (items last ls n c) (items last ls (n + m) c 0)
+  On last first k own ls n m c = front_items W F first k ++ onward (front_more W F first k) own (items last ls n c) (items last ls (n + m) c 0)
 
   done_are : (o : OpT Where) (r : Option (ℕ × Option (Instr Imm) × Instr Imm)) (last : Bool) (ls : List ℕ) (n : ℕ) (c : NodesT Where) → one_or_more W F o r ++ items last ls n c (more_of r) ≡ ahead_items r ++ onward (ahead_more r) (op_items W F o) (items last ls n c) (items last ls (n + 0) c 0)
   done_are o None last ls n c = ap (λ xs. op_items W F o ++ xs) (nothing last ls n c)
   done_are o (Some (more, first, i)) last ls n c = refl
 
   plain_are : (o : OpT Where) (last : Bool) (ls : List ℕ) (n : ℕ) (c : NodesT Where) (k : ℕ) → items last ls n (Do o c) k ≡ On last (Do o c) k (op_items W F o) ls n 0 c
-  plain_are o last ls n c zero = done_are o (in_one W o c) last ls n c
+  plain_are o last ls n c zero = done_are o (in_one W F o c) last ls n c
   plain_are o last ls n c (suc k) =
       let e : k ≡ suc k - 1 = omega arith in
       let b = not_zero k in
-      let r = in_one W o c in
+      let r = in_one W F o c in
       ap (items last ls n c) e ∙ (λ i. cond (sym b i) (ahead_items r) [] ++ onward (cond (sym b i) (ahead_more r) (Some (suc k - 1))) (op_items W F o) (items last ls n c) (items last ls (n + 0) c 0))
 
   op_are : (o : Op Where) (last : Bool) (ls : List ℕ) (n : ℕ) (c : NodesT Where) (k : ℕ) → items last ls n (op_before o c) k ≡ On last (op_before o c) k (do_items W F o) ls n 0 c
@@ -170,7 +170,7 @@ module _ (W : Whole) (F : Frame) (out : ℕ) where
         let on : (j : ℕ) → items last ls n (joined rest) j ≡ list_past W F out last ls n rest j = past_are rest last ls n in
         let anew = past_are rest last ls (n + node_labels x) 0 in
         let st = stops_alike rest in
-        node_are x last ls n (joined rest) k ∙ (λ i. front_items W first k ++ onward (front_more W first k) (node_items W F out (st i && last) ls n x) (λ j. on j i) (anew i))
+        node_are x last ls n (joined rest) k ∙ (λ i. front_items W F first k ++ onward (front_more W F first k) (node_items W F out (st i && last) ls n x) (λ j. on j i) (anew i))
 
   pub list_are : (xs : ListT Where) (ls : List ℕ) (n : ℕ) → code_items W F out ls n (joined xs) ≡ list_items W F out ls n xs
   list_are xs ls n = past_are xs true ls n 0

@@ -193,10 +193,10 @@ module _ (x : CodeT Where) (W : Whole) (words : list_all is_word W.names ≡ tru
     op_fine WaitO ok = (tt, tt)
     op_fine HaltO ok = (tt, tt)
 
-    one_or_more_fine : (o : OpT Where) (c : NodesT Where) → IsOp x m o → AllFine (one_or_more W F o (in_one W o c))
+    one_or_more_fine : (o : OpT Where) (c : NodesT Where) → IsOp x m o → AllFine (one_or_more W F o (in_one W F o c))
     one_or_more_fine o c ok =
         one_or_more_is W F AllFine (λ v. v < 2 ^ 32) o c (λ t n e. (subst (IsOp x m) e ok, in_words 0 n)) (λ t k e. (addresses k, in_words 0 (get_or W.globals k 0))) (op_fine o ok)
-        (λ r q v lr lq h. ((lr, ((lq, h), tt)), tt)) (λ r q v lr lq h. ((lr, ((lq, h), tt)), tt)) (λ u r q v lr lq h. ((lr, (lq, tt)), ((lr, (h, tt)), tt)))
+        (λ r q v lr lq h. ((lr, ((lq, h), tt)), tt)) (λ r q v lr lq h. ((lr, ((lq, h), tt)), tt)) (λ u p r v lr h. (fetch_fine F p r lr, ((lr, (h, tt)), tt))) (λ p r v lr h. (fetch_fine F p r lr, ((lr, ((lr, h), tt)), tt)))
 
     call_fine : (t : Option Where) (g : ℕ) (args : List Where) → AllFine (call_items W F t g args)
     call_fine t g args = join (args_items F (W.frames g) (W.params g) args) _ (args_fine F (W.frames g) (W.params g) args) ((function_named W.names g words, tt), some_fine F t)
@@ -220,7 +220,7 @@ module _ (x : CodeT Where) (W : Whole) (words : list_all is_word W.names ≡ tru
     module _ (out : ℕ) where
       past_fine : (c : NodesT Where) (done : ℕ) (last : Bool) (bs : List Bool) (ls : List ℕ) (n : ℕ) → AreNodes x m bs c → AllFine (items_past W F out last ls n c done)
       past_fine Stop done last bs ls n ok = tt
-      past_fine (Do o c) zero last bs ls n ok = join (one_or_more W F o (in_one W o c)) _ (one_or_more_fine o c ok.0) (past_fine c (more_of (in_one W o c)) last bs ls n ok.1)
+      past_fine (Do o c) zero last bs ls n ok = join (one_or_more W F o (in_one W F o c)) _ (one_or_more_fine o c ok.0) (past_fine c (more_of (in_one W F o c)) last bs ls n ok.1)
       past_fine (Do o c) (suc done) last bs ls n ok = past_fine c done last bs ls n ok.1
       past_fine (Call t g args c) done last bs ls n ok = join (call_items W F t g args) _ (call_fine t g args) (past_fine c 0 last bs ls n ok.1)
       past_fine (Choose p a b c) done last bs ls n ok =

@@ -2,13 +2,14 @@
 ghost use Rattle.std.specs.Prelude.{◌≡◌, ◌++◌, OnOk, IfOk, Some, map, drop};
 ghost use Rattle.mid_code.specs.Code.{Stop};
 ghost use Rattle.mid_code.specs.Functions.{op_before, node, before, nodes};
-ghost use Rattle.asm_laws.specs.Operations.{turned, other_word, first_word, sum_of, loads_there, unturned, copied, with_sum, before_it};
+ghost use Rattle.asm_laws.specs.Operations.{turned, other_word, first_word, sum_of, loads_there, first_place, in_slot, unturned, copied, copied_address};
+ghost use Rattle.asm_laws.specs.Operations.{with_sum, before_it};
 ghost use Rattle.asm_emit.specs.inner.Listed.{front_put, front_summed, ahead_items, ahead_more, is_call, front_items, front_more, labels_due, node_labels};
-ghost use Rattle.asm_emit.specs.inner.View.{whole};
+ghost use Rattle.asm_emit.specs.inner.View.{frame, whole};
 
-use crate::hands::{is_in, op, register};
+use crate::hands::{fetch, is_in, op, register};
 use crate::pieces::turned;
-use crate::scope::{Around, at_or};
+use crate::scope::{Around, Scope, at_or};
 use asm_items::{AsmItem, Imm};
 use either::Either;
 use kit_base::Memory;
@@ -90,27 +91,78 @@ fn loads_there(r: Reg, rest: &[Node<Where>]) -> bool
     }
 }
 
-/// The register whose word an operator that can't be turned round works on in register r, where its second word stands.
-fn unturned(r: Reg, o: Two, t: Where, a: Where, b: Where) -> Option<Reg>
-    ensures { result ≡ unturned (turned o) (first_word r t a b) }
+/// The place of the first word, where a target and the second word stand in register r, and the first one does not.
+fn first_place(r: Reg, t: Where, a: Where, b: Where) -> Option<Where>
+    ensures { result ≡ first_place r t a b }
 {
-    match turned(o) {
-        None => first_word(r, t, a, b),
-        Some(_) => None,
+    if is_in(t, r) && is_in(b, r) && !is_in(a, r) {
+        Some(a)
+    } else {
+        None
     }
 }
 
-/// The copy of that word to register r, and the operator on it and a known word; both are one operation.
-fn with_copy(r: Reg, word: u32, o: Two, q: Option<Reg>) -> Option<Together>
-    ensures { result ≡ copied r word o q }
+fn in_slot(p: Where) -> Option<Where>
+    ensures { result ≡ in_slot p }
 {
-    match q {
+    match p {
+        Where::Reg(_) => None,
+        Where::Slot(_) => Some(p),
+    }
+}
+
+/// The same, where it is worth a copy: not where a register has the word, and an operator can be turned round.
+fn unturned(turned: Option<Two>, first: Option<Where>) -> Option<Where>
+    ensures { result ≡ unturned turned first }
+{
+    let p = first?;
+    match turned {
+        None => Some(p),
+        Some(_) => in_slot(p),
+    }
+}
+
+/// The copy of the first word to register r, and the operator on it and a known word; both are one operation.
+fn copied(s: &Scope<'_>, r: Reg, word: u32, o: Two, first: Option<Where>) -> Option<Together>
+    ensures { result ≡ copied (frame s.now) r word o first }
+{
+    match first {
         None => None,
-        Some(q) => Some((
+        Some(p) => Some((
             1,
-            Some(Instr::Mov(Mov::RegReg(r, q))),
+            Some(fetch(s, p, r)),
             Instr::Two(o, r, Src::Imm(Either::Left(word))),
         )),
+    }
+}
+
+/// The same of an address and what is added to it, and of a load from there where that comes next.
+fn copied_address(
+    s: &Scope<'_>,
+    r: Reg,
+    word: u32,
+    first: Option<Where>,
+    rest: &[Node<Where>],
+) -> Option<Together>
+    ensures { result ≡ copied_address (frame s.now) r word first (nodes rest.now) }
+{
+    match first {
+        None => None,
+        Some(p) => {
+            if loads_there(r, rest) {
+                Some((
+                    2,
+                    Some(fetch(s, p, r)),
+                    Instr::Mov(Mov::RegAtOff(r, r, Either::Left(word))),
+                ))
+            } else {
+                Some((
+                    1,
+                    Some(fetch(s, p, r)),
+                    Instr::Two(Two::IADD, r, Src::Imm(Either::Left(word))),
+                ))
+            }
+        }
     }
 }
 
@@ -137,16 +189,26 @@ fn with_sum(
 }
 
 /// The same for an operation, where a known word was put into register r.
-fn with_op(r: Reg, word: u32, o: &Op<Where>, rest: &[Node<Where>]) -> Option<Together>
-    ensures { result ≡ front_summed (Some (r, word)) (op_before o.now (nodes rest.now)) }
+fn with_op(
+    s: &Scope<'_>,
+    r: Reg,
+    word: u32,
+    o: &Op<Where>,
+    rest: &[Node<Where>],
+) -> Option<Together>
+    ensures { result ≡ front_summed (frame s.now) (Some (r, word)) (op_before o.now (nodes rest.now)) }
 {
     match o {
         Op::Two(o, t, a, b) => {
             let sum = sum_of(*o, r, word, *t, *a, *b);
-            let other = with_copy(r, word, *o, unturned(r, *o, *t, *a, *b));
-            with_sum(r, sum, other, rest)
+            let first = unturned(turned(*o), first_place(r, *t, *a, *b));
+            with_sum(r, sum, copied(s, r, word, *o, first), rest)
         }
-        Op::Step(t, p, n) => with_sum(r, sum_of(Two::IADD, r, word, *t, *p, *n), None, rest),
+        Op::Step(t, p, n) => {
+            let sum = sum_of(Two::IADD, r, word, *t, *p, *n);
+            let first = unturned(Some(Two::IADD), first_place(r, *t, *p, *n));
+            with_sum(r, sum, copied_address(s, r, word, first, rest), rest)
+        }
         _ => None,
     }
 }
@@ -164,13 +226,13 @@ fn word_put(w: &Around<'_>, o: &Op<Where>) -> Option<(Reg, u32)>
 
 /// What does an operation together with some of those behind it, where there is something.
 #[tactic(auto, using(crate::proofs::Fronts::none_summed))]
-fn in_one(w: &Around<'_>, o: &Op<Where>, rest: &[Node<Where>]) -> Option<Together>
-    ensures { result ≡ front_summed (front_put (whole w.now) (op_before o.now Stop)) (nodes rest.now) }
+fn in_one(w: &Around<'_>, s: &Scope<'_>, o: &Op<Where>, rest: &[Node<Where>]) -> Option<Together>
+    ensures { result ≡ front_summed (frame s.now) (front_put (whole w.now) (op_before o.now Stop)) (nodes rest.now) }
 {
     let (r, word) = word_put(w, o)?;
     let (x, after) = rest.split_first()?;
     match x {
-        Node::Do(p) => with_op(r, word, p, after),
+        Node::Do(p) => with_op(s, r, word, p, after),
         _ => None,
     }
 }
@@ -198,14 +260,15 @@ fn put_before(out: &mut Vec<AsmItem>, first: Option<Instr<Imm>>) -> Result<(), M
 fn put_in_one(
     out: &mut Vec<AsmItem>,
     w: &Around<'_>,
+    s: &Scope<'_>,
     o: &Op<Where>,
     rest: &[Node<Where>],
 ) -> Result<Option<u32>, Memory>
     ensures items { OnOk result (out.new.items ≡ out.old.items
-        ++ ahead_items (front_summed (front_put (whole w.now) (op_before o.now Stop)) (nodes rest.now))) }
-    ensures more { IfOk result (λ k. k ≡ ahead_more (front_summed (front_put (whole w.now) (op_before o.now Stop)) (nodes rest.now))) }
+        ++ ahead_items (front_summed (frame s.now) (front_put (whole w.now) (op_before o.now Stop)) (nodes rest.now))) }
+    ensures more { IfOk result (λ k. k ≡ ahead_more (front_summed (frame s.now) (front_put (whole w.now) (op_before o.now Stop)) (nodes rest.now))) }
 {
-    match in_one(w, o, rest) {
+    match in_one(w, s, o, rest) {
         Some((more, first, i)) => {
             put_before(out, first)?;
             op(out, i)?;
@@ -220,16 +283,17 @@ fn put_in_one(
 fn put_op_ahead(
     out: &mut Vec<AsmItem>,
     w: &Around<'_>,
+    s: &Scope<'_>,
     o: &Op<Where>,
     rest: &[Node<Where>],
     done: u32,
 ) -> Result<Option<u32>, Memory>
-    ensures items { OnOk result (out.new.items ≡ out.old.items ++ front_items (whole w.now) (op_before o.now (nodes rest.now)) done) }
-    ensures more { IfOk result (λ k. k ≡ front_more (whole w.now) (op_before o.now (nodes rest.now)) done) }
+    ensures items { OnOk result (out.new.items ≡ out.old.items ++ front_items (whole w.now) (frame s.now) (op_before o.now (nodes rest.now)) done) }
+    ensures more { IfOk result (λ k. k ≡ front_more (whole w.now) (frame s.now) (op_before o.now (nodes rest.now)) done) }
     ensures labels { IfOk result (λ k. labels_due k 0 ≡ 0) }
 {
     if done == 0 {
-        put_in_one(out, w, o, rest)
+        put_in_one(out, w, s, o, rest)
     } else {
         Ok(if is_call(o) { None } else { Some(done - 1) })
     }
@@ -239,16 +303,17 @@ fn put_op_ahead(
 pub(crate) fn put_ahead(
     out: &mut Vec<AsmItem>,
     w: &Around<'_>,
+    s: &Scope<'_>,
     x: &Node<Where>,
     rest: &[Node<Where>],
     done: u32,
 ) -> Result<Option<u32>, Memory>
-    ensures items { OnOk result (out.new.items ≡ out.old.items ++ front_items (whole w.now) (before (node x.now) (nodes rest.now)) done) }
-    ensures more { IfOk result (λ k. k ≡ front_more (whole w.now) (before (node x.now) (nodes rest.now)) done) }
+    ensures items { OnOk result (out.new.items ≡ out.old.items ++ front_items (whole w.now) (frame s.now) (before (node x.now) (nodes rest.now)) done) }
+    ensures more { IfOk result (λ k. k ≡ front_more (whole w.now) (frame s.now) (before (node x.now) (nodes rest.now)) done) }
     ensures labels { IfOk result (λ k. labels_due k (node_labels (node x.now)) ≡ node_labels (node x.now)) }
 {
     match x {
-        Node::Do(o) => put_op_ahead(out, w, o, rest, done),
+        Node::Do(o) => put_op_ahead(out, w, s, o, rest, done),
         _ => Ok(None),
     }
 }

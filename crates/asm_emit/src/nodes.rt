@@ -357,7 +357,7 @@ fn put_nodes(
     let mut rest = xs;
     for x in xs {
         rest = behind(rest);
-        match put_ahead(out, w, x, rest, done)? {
+        match put_ahead(out, w, s, x, rest, done)? {
             Some(more) => done = more,
             None => {
                 next = put_node(alloc, out, w, s, end, ends_in(last, rest), ls, next, x)?;

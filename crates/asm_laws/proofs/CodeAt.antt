@@ -205,7 +205,7 @@ module _ (S : Setting) (f out : ℕ) (leave : S.address (jump_label out) ≡ S.l
     pub code_at : (c : NodesT Where) (done : ℕ) (last : Bool) (bs : List Bool) (ls : List ℕ) (es : List Bounds) (n pc e : ℕ) → AreNodes x m bs c → length ls ≡ length bs → Few (n + labels c) → Enclose ls es → Over last e → Here pc (past last ls n c done) e → Past (items_at S) f es pc c done e
     code_at Stop done last bs ls es n pc e ok same few en over h = h
     code_at (Do o c) zero last bs ls es n pc e ok same few en over h =
-        let one = in_one S.whole o c in
+        let one = in_one S.whole F o c in
         let s = parts (one_or_more S.whole F o one) (past last ls n c (more_of one)) pc e h in
         (more_of one, s.0, (s.1, refl), code_at c (more_of one) last bs ls es n s.0 e ok.1 same few en over s.2)
     code_at (Do o c) (suc j) last bs ls es n pc e ok same few en over h = code_at c j last bs ls es n pc e ok.1 same few en over h

@@ -6,7 +6,7 @@ use Rattle.either.specs.declared.Either.TheVariants.{Left}
 use Rattle.v32_isa.specs.declared.instruction.Two.{Two as TwoOf}
 use Rattle.v32_isa.specs.declared.instruction.Two.TheVariants.{IADD, ISUB}
 use Rattle.v32_isa.specs.declared.instruction.Src.TheVariants as src
-use Rattle.v32_isa.specs.declared.instruction.Mov.TheVariants.{RegReg, RegAtOff}
+use Rattle.v32_isa.specs.declared.instruction.Mov.TheVariants.{RegAtOff}
 use Rattle.v32_isa.specs.declared.instruction.Instr.{Instr}
 use Rattle.v32_isa.specs.declared.instruction.Instr.TheVariants as instr
 use Rattle.asm_items.specs.declared.item.AsmItem.{AsmItem}
@@ -15,7 +15,7 @@ use Rattle.asm_items.specs.Items.{Imm}
 use Rattle.mid_code.specs.declared.placed.Where.{Where}
 use Rattle.mid_code.specs.declared.placed.Where.TheVariants.{Reg}
 use Rattle.mid_code.specs.Code.{OpT, ConstO, TwoO, GlobalO, StepO, NodesT, Do}
-use Rattle.asm_laws.specs.Operations.{Frame, Whole, register, op_items, word_put, other_word, first_word, turned, summed, loads_there, unturned, copied, with_copy, with_sum, with_word, in_one, one_or_more}
+use Rattle.asm_laws.specs.Operations.{Frame, Whole, register, fetch, fetches, op_items, word_put, other_word, first_word, turned, summed, loads_there, first_place, unturned, copied, copied_address, with_copy, with_sum, with_word, in_one, one_or_more}
 
 module _ (V : ℕ → Type 0) where
   -- a register, and a word of which V holds
@@ -60,21 +60,6 @@ module _ (V : ℕ → Type 0) where
   summed_fits r w (StepO t p n) h g = other_fits r w t p n h
   summed_fits r w _ h g = tt
 
-Low : Option ℕ → Type 0
-Low None = Unit {0}
-Low (Some q) = q < 16
-
-first_low : (r : ℕ) (t a b : Where) → Low (first_word r t a b)
-unfolding Low
-first_low r (Reg t) (Reg a) (Reg b) = go (register t == r) (register b == r) (register a == r)
-  where
-    go : (x y z : Bool) → Low (cond x (cond y (cond z None (Some (register a))) None) None)
-    go false y z = tt
-    go true false z = tt
-    go true true true = tt
-    go true true false = omega arith
-first_low r _ _ _ = tt
-
 module _ (W : Whole) (F : Frame) (P : List AsmItem → Type 0) (V : ℕ → Type 0) where
   abbrev Lea : Type 0
   Lea = (r q v : ℕ) → r < 16 → q < 16 → V v → P (item.Op (instr.Lea r q (Some (Left v))) ∷ [])
@@ -83,17 +68,27 @@ module _ (W : Whole) (F : Frame) (P : List AsmItem → Type 0) (V : ℕ → Type
   Mov = (r q v : ℕ) → r < 16 → q < 16 → V v → P (item.Op (instr.Mov (RegAtOff r q (Left v))) ∷ [])
 
   abbrev Copy : Type 0
-  Copy = (u : TwoOf) (r q v : ℕ) → r < 16 → q < 16 → V v → P (item.Op (instr.Mov (RegReg r q)) ∷ item.Op (instr.Two u r (src.Imm (Left v))) ∷ [])
+  Copy = (u : TwoOf) (p : Where) (r v : ℕ) → r < 16 → V v → P (fetches F p r ∷ item.Op (instr.Two u r (src.Imm (Left v))) ∷ [])
 
-  copy_is : (o : OpT Where) (r w : ℕ) (p : OpT Where) → r < 16 → V w → P (op_items W F o) → Copy → P (one_or_more W F o (with_copy r w p))
-  unfolding Low
-  copy_is o r w (TwoO u t a b) lt fit h copy = go (turned u) (first_word r t a b) (first_low r t a b)
+  abbrev Load : Type 0
+  Load = (p : Where) (r v : ℕ) → r < 16 → V v → P (fetches F p r ∷ item.Op (instr.Mov (RegAtOff r r (Left v))) ∷ [])
+
+  copy_is : (o : OpT Where) (r w : ℕ) (p : OpT Where) (c : NodesT Where) → r < 16 → V w → P (op_items W F o) → Copy → Load → P (one_or_more W F o (with_copy F r w p c))
+  copy_is o r w (TwoO u t a b) c lt fit h copy load = go (unturned (turned u) (first_place r t a b))
     where
-      go : (x : Option TwoOf) (y : Option ℕ) → Low y → P (one_or_more W F o (copied r w u (unturned x y)))
-      go (Some x) y l = h
-      go None None l = h
-      go None (Some q) l = copy u r q w lt l fit
-  copy_is o r w _ lt fit h copy = h
+      go : (x : Option Where) → P (one_or_more W F o (copied F r w u x))
+      go None = h
+      go (Some p) = copy u p r w lt fit
+  copy_is o r w (StepO t p n) c lt fit h copy load = go (unturned (Some IADD) (first_place r t p n))
+    where
+      loads : (p : Where) (b : Bool) → P (one_or_more W F o (Some (cond b (2, Some (fetch F p r), instr.Mov (RegAtOff r r (Left w))) (1, Some (fetch F p r), instr.Two IADD r (src.Imm (Left w))))))
+      loads p true = load p r w lt fit
+      loads p false = copy IADD p r w lt fit
+
+      go : (x : Option Where) → P (one_or_more W F o (copied_address F r w x c))
+      go None = h
+      go (Some p) = loads p (loads_there r c)
+  copy_is o r w _ c lt fit h copy load = h
 
   sum_is : (o : OpT Where) (r : ℕ) (s : Option (ℕ × ℕ)) (other : Option (ℕ × Option (Instr Imm) × Instr Imm)) (c : NodesT Where) → r < 16 → Fits V s → P (one_or_more W F o other) → Lea → Mov → P (one_or_more W F o (with_sum r s other c))
   sum_is o r None other c lt fit h lea mov = h
@@ -103,12 +98,12 @@ module _ (W : Whole) (F : Frame) (P : List AsmItem → Type 0) (V : ℕ → Type
       go true = mov r q v lt fit.0 fit.1
       go false = lea r q v lt fit.0 fit.1
 
-  word_is : (o : OpT Where) (s : Option (ℕ × ℕ)) (p : OpT Where) (c : NodesT Where) → Puts V s → P (op_items W F o) → Lea → Mov → Copy → P (one_or_more W F o (with_word s p c))
-  word_is o None p c fit h lea mov copy = h
-  word_is o (Some (r, w)) p c fit h lea mov copy = sum_is o r (summed r w p) (with_copy r w p) c fit.0 (summed_fits V r w p fit.1 fit.2) (copy_is o r w p fit.0 fit.1 h copy) lea mov
+  word_is : (o : OpT Where) (s : Option (ℕ × ℕ)) (p : OpT Where) (c : NodesT Where) → Puts V s → P (op_items W F o) → Lea → Mov → Copy → Load → P (one_or_more W F o (with_word F s p c))
+  word_is o None p c fit h lea mov copy load = h
+  word_is o (Some (r, w)) p c fit h lea mov copy load = sum_is o r (summed r w p) (with_copy F r w p c) c fit.0 (summed_fits V r w p fit.1 fit.2) (copy_is o r w p c fit.0 fit.1 h copy load) lea mov
 
   -- what holds of the items of an operation, and of each such instruction, holds of what is done
-  pub one_or_more_is : (o : OpT Where) (c : NodesT Where) → ((t : Where) (n : ℕ) → o ≡ ConstO t n → V n × V (sub 0 n)) → ((t : Where) (k : ℕ) → o ≡ GlobalO t k → V (get_or W.globals k 0) × V (sub 0 (get_or W.globals k 0))) → P (op_items W F o) → Lea → Mov → Copy → P (one_or_more W F o (in_one W o c))
+  pub one_or_more_is : (o : OpT Where) (c : NodesT Where) → ((t : Where) (n : ℕ) → o ≡ ConstO t n → V n × V (sub 0 n)) → ((t : Where) (k : ℕ) → o ≡ GlobalO t k → V (get_or W.globals k 0) × V (sub 0 (get_or W.globals k 0))) → P (op_items W F o) → Lea → Mov → Copy → Load → P (one_or_more W F o (in_one W F o c))
   unfolding in_one
-  one_or_more_is o (Do p c) f g h lea mov copy = word_is o (word_put W o) p c (put_is V W o f g) h lea mov copy
-  one_or_more_is o _ f g h lea mov copy = h
+  one_or_more_is o (Do p c) f g h lea mov copy load = word_is o (word_put W o) p c (put_is V W o f g) h lea mov copy load
+  one_or_more_is o _ f g h lea mov copy load = h

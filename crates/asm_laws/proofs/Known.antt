@@ -203,8 +203,8 @@ module _ (x : CodeT Where) (W : Whole) (Q : List ℕ → Type 0) (of_function : 
   op_uses m F WaitO ok = (tt, tt)
   op_uses m F HaltO ok = (tt, tt)
 
-  one_uses : (m : ℕ) (F : Frame) (o : OpT Where) (c : NodesT Where) → IsOp x m o → Uses Q (one_or_more W F o (in_one W o c))
-  one_uses m F o c ok = one_or_more_is W F (Uses Q) (λ v. Unit {0}) o c (λ t n e. (tt, tt)) (λ t k e. (tt, tt)) (op_uses m F o ok) (λ r q v lr lq h. (tt, tt)) (λ r q v lr lq h. (tt, tt)) (λ u r q v lr lq h. (tt, (tt, tt)))
+  one_uses : (m : ℕ) (F : Frame) (o : OpT Where) (c : NodesT Where) → IsOp x m o → Uses Q (one_or_more W F o (in_one W F o c))
+  one_uses m F o c ok = one_or_more_is W F (Uses Q) (λ v. Unit {0}) o c (λ t n e. (tt, tt)) (λ t k e. (tt, tt)) (op_uses m F o ok) (λ r q v lr lq h. (tt, tt)) (λ r q v lr lq h. (tt, tt)) (λ u p r v lr h. (fetch_uses F p r, (tt, tt))) (λ p r v lr h. (fetch_uses F p r, (tt, tt)))
 
   call_uses : (F : Frame) (t : Option Where) (g : ℕ) (args : List Where) → g < length x.functions → Uses Q (call_items W F t g args)
   call_uses F t g args ok = uses_append Q (args_items F (W.frames g) (W.params g) args) _ (args_uses F (W.frames g) (W.params g) args) (of_function g ok, some_uses F t)
@@ -278,9 +278,9 @@ module _ (x : CodeT Where) (W : Whole) (Q : List ℕ → Type 0) (of_function : 
     past_uses : (m : ℕ) (c : NodesT Where) (done : ℕ) (last : Bool) (bs : List Bool) (ls : List ℕ) (n : ℕ) → length ls ≡ length bs → AreNodes x m bs c → n + labels c < 2 ^ 32 - 1 → Jumpable ls → Knows (items_past W F out last ls n c done) → Uses Q (items_past W F out last ls n c done)
     past_uses m Stop done last bs ls n same ok few j k = tt
     past_uses m (Do o c) zero last bs ls n same ok few j k =
-        let a = one_or_more W F o (in_one W o c) in
-        let b = items_past W F out last ls n c (more_of (in_one W o c)) in
-        uses_append Q a b (one_uses m F o c ok.0) (past_uses m c (more_of (in_one W o c)) last bs ls n same ok.1 few j (λ w h. k w (marked_right a b w h)))
+        let a = one_or_more W F o (in_one W F o c) in
+        let b = items_past W F out last ls n c (more_of (in_one W F o c)) in
+        uses_append Q a b (one_uses m F o c ok.0) (past_uses m c (more_of (in_one W F o c)) last bs ls n same ok.1 few j (λ w h. k w (marked_right a b w h)))
     past_uses m (Do o c) (suc done) last bs ls n same ok few j k = past_uses m c done last bs ls n same ok.1 few j k
     past_uses m (Call t g args c) done last bs ls n same ok few j k =
         let a = call_items W F t g args in

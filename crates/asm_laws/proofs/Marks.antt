@@ -192,8 +192,8 @@ module _ (W : Whole) (differ : Differ W.names) where
   op_bare F WaitO = tt
   op_bare F HaltO = tt
 
-  one_bare : (F : Frame) (o : OpT Where) (c : NodesT Where) → Bare (one_or_more W F o (in_one W o c))
-  one_bare F o c = one_or_more_is W F (λ xs. Bare xs) (λ v. Unit {0}) o c (λ t n e. (tt, tt)) (λ t k e. (tt, tt)) (op_bare F o) (λ r q v lr lq h. tt) (λ r q v lr lq h. tt) (λ u r q v lr lq h. tt)
+  one_bare : (F : Frame) (o : OpT Where) (c : NodesT Where) → Bare (one_or_more W F o (in_one W F o c))
+  one_bare F o c = one_or_more_is W F (λ xs. Bare xs) (λ v. Unit {0}) o c (λ t n e. (tt, tt)) (λ t k e. (tt, tt)) (op_bare F o) (λ r q v lr lq h. tt) (λ r q v lr lq h. tt) (λ u p r v lr h. tt) (λ p r v lr h. tt)
 
   call_bare : (F : Frame) (t : Option Where) (g : ℕ) (args : List Where) → Bare (call_items W F t g args)
   call_bare F t g args = names_append (λ m. ⊥) (args_items F (W.frames g) (W.params g) args) _ (args_bare F (W.frames g) (W.params g) args) (some_bare F t)
@@ -239,8 +239,8 @@ module _ (W : Whole) (differ : Differ W.names) where
     past_marks : (c : NodesT Where) (done : ℕ) (last : Bool) (ls : List ℕ) (n e : ℕ) → n + labels c ≡ e → e ≤ 2 ^ 32 → Marks (jumps n e) (items_past W F out last ls n c done)
     past_marks Stop done last ls n e is few = marks_bare (jumps n e) [] tt
     past_marks (Do o c) zero last ls n e is few =
-        let more = more_of (in_one W o c) in
-        bare_then (jumps n e) (one_or_more W F o (in_one W o c)) (items_past W F out last ls n c more) (one_bare F o c) (past_marks c more last ls n e is few)
+        let more = more_of (in_one W F o c) in
+        bare_then (jumps n e) (one_or_more W F o (in_one W F o c)) (items_past W F out last ls n c more) (one_bare F o c) (past_marks c more last ls n e is few)
     past_marks (Do o c) (suc done) last ls n e is few = past_marks c done last ls n e is few
     past_marks (Call t g args c) done last ls n e is few = bare_then (jumps n e) (call_items W F t g args) (items_past W F out last ls n c 0) (call_bare F t g args) (past_marks c 0 last ls n e is few)
     past_marks (Choose p a b c) done last ls n e is few =

@@ -8,7 +8,7 @@ use Rattle.v32_isa.specs.declared.instruction.Branch.TheVariants.{JT, JF}
 use Rattle.v32_isa.specs.declared.instruction.Src.TheVariants as src
 use Rattle.v32_isa.specs.declared.instruction.Mov.TheVariants.{RegAtOff}
 use Rattle.v32_isa.specs.declared.instruction.Instr.{Instr}
-use Rattle.v32_isa.specs.declared.instruction.Two.{Two as TwoOf}
+use Rattle.v32_isa.specs.declared.instruction.Two.TheVariants.{IADD}
 use Rattle.v32_isa.specs.declared.instruction.Instr.TheVariants as instr
 use Rattle.v32_isa.specs.declared.stepped.Stepped.TheVariants as stepped
 use Rattle.v32_isa.specs.State.{register_of, going_to}
@@ -29,18 +29,18 @@ use Rattle.mid_code.specs.declared.placed.Where.TheVariants.{Reg}
 use Rattle.mid_code.specs.Code.{NodesT, Stop, Do, Call, Choose, Block, Loop, Leave, Again, Return, OpT, ConstO, NullO, MoveO, OneO, TwoO, GlobalO, LocalO, LiteralO, CardO, StepO, ApartO, PtrTestO, LoadO, StoreO, FreshO, EndO, InO, OutO, WaitO, HaltO}
 use Rattle.mid_code.specs.Meaning.{Did, On, Ends, node_weight}
 use Rattle.mid_code.specs.States.{State, spent, op_weight, word_tested, registers_and_slots, acted}
-use Rattle.asm_laws.specs.Operations.{Frame, register, hand, turned, word_put, first_word, summed, loads_there, unturned, copied, with_copy, with_sum, with_word, in_one, one_or_more, more_of}
+use Rattle.asm_laws.specs.Operations.{Frame, register, fetch, hand, turned, word_put, summed, loads_there, first_place, unturned, copied, copied_address, with_copy, with_sum, with_word, in_one, one_or_more, more_of}
 use Rattle.asm_laws.specs.Placing.{Line, Jumps, Passes}
 use Rattle.asm_laws.specs.inner.Following.{Begin, begin, spare, Came, Stopped, DidSim, TestSim, did_then, front_acts}
 use Rattle.asm_laws.specs.Standing.{Stand}
 use Rattle.asm_laws.specs.Tests.{Tests}
-use Rattle.asm_laws.specs.Addresses.{Addr, Does, Console, word_of, GoodOp, Held, Follows, does}
+use Rattle.asm_laws.specs.Addresses.{Addr, Does, Console, word_of, Room, Good, GoodOp, Held, Follows, does}
 use Rattle.asm_laws.specs.Addresses as words
 use Rattle.asm_laws.proofs.Stepping.{same_or_not, line_effect, line_turn, took, scratch, moved, reg_same, fetches_so}
 use Rattle.asm_laws.proofs.Control.{earlier_did}
 use Rattle.asm_laws.proofs.Hands.{with_reg, hand_fits, brings_at}
 use Rattle.asm_laws.proofs.OperationsStep.{op_follows}
-use Rattle.asm_laws.proofs.InOneStep.{Sums, sums, lea_follows, load_follows, copy_follows}
+use Rattle.asm_laws.proofs.InOneStep.{Sums, sums, lea_follows, load_follows, Copies, copies, Stepped, step_is, two_copied, step_copied, load_copied}
 use Rattle.asm_laws.specs.Holds.{Setting, sizes, Named, Fits, Ctx, Stands}
 use Rattle.asm_laws.specs.Acting.{Holds, DoesAs, Fitting, FrontFits}
 use Rattle.asm_laws.specs.Calling.{Mach, Given, lang, holder, GivingAt, shapes}
@@ -223,40 +223,79 @@ module _ (S : Setting) (fits : Fits S) where
         passes κ s1 m (with_reg k w a) (with_reg k (add (a.regs q) v) (with_reg k w a)) (op_weight u) p (acted registers_and_slots (sizes S) u s2) (front_acts (lang S) (Do (LoadO (Reg t) (Reg x)) c) 1)
         (subst (λ d. DoesAs S κ s2 (with_reg k w a) (acted registers_and_slots (sizes S) u s2) d) (r.so s1.world.store.answers) (acts S fits κ s2 h1.place (with_reg k w a) h1.at u ff.0))
         (λ s3 h3. alone κ m (begin (holder S) s3) p c ((lang S).act (LoadO (Reg t) (Reg x)) s3)
-        (last_sim κ p (LoadO (Reg t) (Reg x)) s3 m (with_reg k (add (a.regs q) v) (with_reg k w a)) h3 ff.1.0 (load_follows C S.address S.whole (Of κ) a k w t x q v m s3.world.store.answers pc p lt r.low ff.1.0.0 ff.1.0.1 there h.held e st))))
+        (last_sim κ p (LoadO (Reg t) (Reg x)) s3 m (with_reg k (add (a.regs q) v) (with_reg k w a)) h3 ff.1.0 (load_follows C S.address S.whole (Of κ) a 8 k w t x q v m s3.world.store.answers pc p (omega arith) lt r.low ff.1.0.0 ff.1.0.1 there h.held e st))))
     three_done o u _ k w q v lt fit puts is there ff st = absurd cc
 
-    copy_done : (o u : OpT Where) (c : NodesT Where) (k w : ℕ) → k < 9 → Fitting S κ.fn o → Puts o k w → Done o (Do u c) (with_copy (register k) w u)
-    copy_done o (TwoO i t x y) c k w lt fit puts = go (turned i) (first_word (register k) t x y) refl
+    -- the words of the address at hand
+    roomy : Room (Of κ) a
+    roomy = room S fits κ s.world.store s.cells h.place a h.at
+
+    good_place : (k w : ℕ) (t x y q : Where) → Good (Of κ) x → Copies C S.address S.whole (Of κ) a k w t x y q → Good (Of κ) q
+    good_place k w t x y q g is = subst (λ z. Good (Of κ) z) (sym is.place) g
+
+    load_done : (o : OpT Where) (t x y : Where) (c : NodesT Where) (k w : ℕ) (q : Where) → k < 9 → Fitting S κ.fn o → Puts o k w → unturned (Some IADD) (first_place (register k) t x y) ≡ Some q → loads_there (register k) c ≡ true →
+        Done o (Do (StepO t x y) c) (Some (2, Some (fetch (Of κ) q (register k)), instr.Mov (RegAtOff (register k) (register k) (Left w))))
+    load_done o t x y (Do (LoadO (Reg d) (Reg z)) c) k w q lt fit puts is there ff st =
+        let u = StepO t x y in
+        let g = good_op κ u ff.0 in
+        let r = copies C S.address S.whole (Of κ) a k w (Some IADD) t x y q lt g.0 g.1 g.2 is in
+        put_done o k w (front_acts (lang S) (Do u (Do (LoadO (Reg d) (Reg z)) c)) 2) fit puts (λ s1 h1.
+        let s2 = spent (op_weight u) s1 in
+        passes κ s1 m (with_reg k w a) (Stepped C S.address S.whole (Of κ) a k w q) (op_weight u) p (acted registers_and_slots (sizes S) u s2) (front_acts (lang S) (Do (LoadO (Reg d) (Reg z)) c) 1)
+        (subst (λ d. DoesAs S κ s2 (with_reg k w a) (acted registers_and_slots (sizes S) u s2) d) (step_is C S.address S.whole (Of κ) a k w t x y q s1.world.store.answers r) (acts S fits κ s2 h1.place (with_reg k w a) h1.at u ff.0))
+        (λ s3 h3. alone κ m (begin (holder S) s3) p c ((lang S).act (LoadO (Reg d) (Reg z)) s3)
+        (last_sim κ p (LoadO (Reg d) (Reg z)) s3 m (Stepped C S.address S.whole (Of κ) a k w q) h3 ff.1.0 (load_copied C S.address S.whole (Of κ) a k w d z q m s3.world.store.answers pc p lt ff.1.0.0 ff.1.0.1 roomy (good_place k w t x y q g.1 r) there h.held e st))))
+    load_done o t x y _ k w q lt fit puts is there ff st = absurd cc
+
+    copy_done : (o u : OpT Where) (c : NodesT Where) (k w : ℕ) → k < 9 → Fitting S κ.fn o → Puts o k w → Done o (Do u c) (with_copy (Of κ) (register k) w u c)
+    copy_done o (TwoO i t x y) c k w lt fit puts = go (unturned (turned i) (first_place (register k) t x y)) refl
       where
-        go : (j : Option TwoOf) (q : Option ℕ) → first_word (register k) t x y ≡ q → Done o (Do (TwoO i t x y) c) (copied (register k) w i (unturned j q))
-        go (Some j) q is ff st = one_done o (Do (TwoO i t x y) c) fit ff st
-        go None None is ff st = one_done o (Do (TwoO i t x y) c) fit ff st
-        go None (Some q) is ff st =
+        go : (q : Option Where) → unturned (turned i) (first_place (register k) t x y) ≡ q → Done o (Do (TwoO i t x y) c) (copied (Of κ) (register k) w i q)
+        go None is ff st = one_done o (Do (TwoO i t x y) c) fit ff st
+        go (Some q) is ff st =
             let g = good_op κ (TwoO i t x y) ff.0 in
+            let r = copies C S.address S.whole (Of κ) a k w (turned i) t x y q lt g.0 g.1 g.2 is in
             put_done o k w (front_acts (lang S) (Do (TwoO i t x y) c) 1) fit puts
             (λ s1 h1. alone κ m (begin (holder S) s1) p c ((lang S).act (TwoO i t x y) s1)
-            (last_sim κ p (TwoO i t x y) s1 m (with_reg k w a) h1 ff.0 (copy_follows C S.address S.whole (Of κ) a k w i t x y q m s1.world.store.answers pc p lt g.0 g.1 g.2 is h.held e st)))
+            (last_sim κ p (TwoO i t x y) s1 m (with_reg k w a) h1 ff.0 (two_copied C S.address S.whole (Of κ) a k w i t x y q m s1.world.store.answers pc p lt roomy (good_place k w t x y q g.1 r) r h.held e st)))
+    copy_done o (StepO t x y) c k w lt fit puts = go (unturned (Some IADD) (first_place (register k) t x y)) refl
+      where
+        step_done : (q : Where) → unturned (Some IADD) (first_place (register k) t x y) ≡ Some q → Done o (Do (StepO t x y) c) (Some (1, Some (fetch (Of κ) q (register k)), instr.Two IADD (register k) (src.Imm (Left w))))
+        step_done q is ff st =
+            let g = good_op κ (StepO t x y) ff.0 in
+            let r = copies C S.address S.whole (Of κ) a k w (Some IADD) t x y q lt g.0 g.1 g.2 is in
+            put_done o k w (front_acts (lang S) (Do (StepO t x y) c) 1) fit puts
+            (λ s1 h1. alone κ m (begin (holder S) s1) p c ((lang S).act (StepO t x y) s1)
+            (last_sim κ p (StepO t x y) s1 m (with_reg k w a) h1 ff.0 (step_copied C S.address S.whole (Of κ) a k w t x y q m s1.world.store.answers pc p lt roomy (good_place k w t x y q g.1 r) r h.held e st)))
+
+        load_or_not : (q : Where) → unturned (Some IADD) (first_place (register k) t x y) ≡ Some q → (b : Bool) → loads_there (register k) c ≡ b →
+            Done o (Do (StepO t x y) c) (Some (cond b (2, Some (fetch (Of κ) q (register k)), instr.Mov (RegAtOff (register k) (register k) (Left w))) (1, Some (fetch (Of κ) q (register k)), instr.Two IADD (register k) (src.Imm (Left w)))))
+        load_or_not q is true there = load_done o t x y c k w q lt fit puts is there
+        load_or_not q is false there = step_done q is
+
+        go : (q : Option Where) → unturned (Some IADD) (first_place (register k) t x y) ≡ q → Done o (Do (StepO t x y) c) (copied_address (Of κ) (register k) w q c)
+        go None is ff st = one_done o (Do (StepO t x y) c) fit ff st
+        go (Some q) is ff st = load_or_not q is (loads_there (register k) c) refl ff st
     copy_done o u c k w lt fit puts = one_done o (Do u c) fit
 
-    sum_done : (o u : OpT Where) (c : NodesT Where) (k w : ℕ) → k < 9 → Fitting S κ.fn o → Puts o k w → Done o (Do u c) (with_sum (register k) (summed (register k) w u) (with_copy (register k) w u) c)
+    sum_done : (o u : OpT Where) (c : NodesT Where) (k w : ℕ) → k < 9 → Fitting S κ.fn o → Puts o k w → Done o (Do u c) (with_sum (register k) (summed (register k) w u) (with_copy (Of κ) (register k) w u c) c)
     sum_done o u c k w lt fit puts = go (summed (register k) w u) refl
       where
         load_or_not : (q v : ℕ) (is : Fitting S κ.fn u → Sums C S.address S.whole (Of κ) a k w u q v) (b : Bool) → loads_there (register k) c ≡ b → Done o (Do u c) (Some (cond b (2, None, instr.Mov (RegAtOff (register k) q (Left v))) (1, None, instr.Lea (register k) q (Some (Left v)))))
         load_or_not q v is true there = three_done o u c k w q v lt fit puts is there
         load_or_not q v is false there = two_done o u c k w q v lt fit puts is
 
-        go : (x : Option (ℕ × ℕ)) → summed (register k) w u ≡ x → Done o (Do u c) (with_sum (register k) x (with_copy (register k) w u) c)
+        go : (x : Option (ℕ × ℕ)) → summed (register k) w u ≡ x → Done o (Do u c) (with_sum (register k) x (with_copy (Of κ) (register k) w u c) c)
         go None is = copy_done o u c k w lt fit puts
         go (Some (q, v)) is = load_or_not q v (λ ff. sums C S.address S.whole (Of κ) a k w u q v lt (good_op κ u ff) is) (loads_there (register k) c) refl
 
-    word_done : (o u : OpT Where) (c : NodesT Where) → Fitting S κ.fn o → Done o (Do u c) (with_word (word_put S.whole o) u c)
+    word_done : (o u : OpT Where) (c : NodesT Where) → Fitting S κ.fn o → Done o (Do u c) (with_word (Of κ) (word_put S.whole o) u c)
     unfolding does
     word_done (ConstO (Reg k) n) u c fit = sum_done (ConstO (Reg k) n) u c k n fit fit (λ ys. refl)
     word_done (GlobalO (Reg k) j) u c fit = sum_done (GlobalO (Reg k) j) u c k (get_or S.whole.globals j 0) fit.0 fit (λ ys. refl)
     word_done o u c fit = one_done o (Do u c) fit
 
-    done : (o : OpT Where) (c : NodesT Where) → Fitting S κ.fn o → Done o c (in_one S.whole o c)
+    done : (o : OpT Where) (c : NodesT Where) → Fitting S κ.fn o → Done o c (in_one S.whole (Of κ) o c)
     unfolding in_one
     done o (Do u c) fit = word_done o u c fit
     done o c fit = one_done o c fit

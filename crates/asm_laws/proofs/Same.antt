@@ -47,10 +47,10 @@ put_same W fr (ConstO (Reg r) n) = refl
 put_same W fr (GlobalO (Reg r) k) = refl
 put_same W fr _ = refl
 
-in_one_same : (W : Whole) (fr : ℕ → Frame) (o : OpT Where) (c : NodesT Where) → in_one (framed W fr) o c ≡ in_one W o c
+in_one_same : (W : Whole) (fr : ℕ → Frame) (F : Frame) (o : OpT Where) (c : NodesT Where) → in_one (framed W fr) F o c ≡ in_one W F o c
 unfolding in_one
-in_one_same W fr o (Do p c) = ap (λ s. with_word s p c) (put_same W fr o)
-in_one_same W fr o _ = refl
+in_one_same W fr F o (Do p c) = ap (λ s. with_word F s p c) (put_same W fr o)
+in_one_same W fr F o _ = refl
 
 one_same : (W : Whole) (fr : ℕ → Frame) (F : Frame) (o : OpT Where) (r : Option (ℕ × Option (Instr Imm) × Instr Imm)) → one_or_more (framed W fr) F o r ≡ one_or_more W F o r
 one_same W fr F o None = op_same W fr F o
@@ -63,9 +63,9 @@ module _ (x : CodeT Where) (W : Whole) (fr : ℕ → Frame) (same : (g : ℕ) �
   past_same : (m : ℕ) (F : Frame) (out : ℕ) (c : NodesT Where) (done : ℕ) (last : Bool) (bs : List Bool) (ls : List ℕ) (n : ℕ) → AreNodes x m bs c → items_past (framed W fr) F out last ls n c done ≡ items_past W F out last ls n c done
   past_same m F out Stop done last bs ls n ok = refl
   past_same m F out (Do o c) zero last bs ls n ok =
-      let r = in_one_same W fr o c in
-      let one = one_same W fr F o (in_one W o c) in
-      let rest = past_same m F out c (more_of (in_one W o c)) last bs ls n ok.1 in
+      let r = in_one_same W fr F o c in
+      let one = one_same W fr F o (in_one W F o c) in
+      let rest = past_same m F out c (more_of (in_one W F o c)) last bs ls n ok.1 in
       (λ i. one_or_more (framed W fr) F o (r i) ++ items_past (framed W fr) F out last ls n c (more_of (r i))) ∙ (λ i. one i ++ rest i)
   past_same m F out (Do o c) (suc done) last bs ls n ok = past_same m F out c done last bs ls n ok.1
   past_same m F out (Call t g args c) done last bs ls n ok = let p = call_same F t g args (function_there x g (length args) ok.0) in let q = past_same m F out c 0 last bs ls n ok.1 in λ i. p i ++ q i

@@ -160,12 +160,13 @@ op_size W F (OutO p a) = let x = item.Op (instr.Out (operations.port p) (src.Reg
 op_size W F WaitO = let r = one_item (item.Op (instr.Plain WAIT)) 1 (omega arith) in omega (arith, r)
 op_size W F HaltO = let r = one_item (item.Op (instr.Plain HLT)) 1 (omega arith) in omega (arith, r)
 
-one_size : (W : Whole) (F : Frame) (o : OpT Where) (c : NodesT Where) → size (one_or_more W F o (in_one W o c)) ≤ op_weight o
+one_size : (W : Whole) (F : Frame) (o : OpT Where) (c : NodesT Where) → size (one_or_more W F o (in_one W F o c)) ≤ op_weight o
 one_size W F o c =
     one_or_more_is W F (λ xs. size xs ≤ op_weight o) (λ v. op_weight o ≡ 8) o c (λ t n e. (ap op_weight e, ap op_weight e)) (λ t k e. (ap op_weight e, ap op_weight e)) (op_size W F o)
     (λ r q v lr lq h. let z = one_item (item.Op (instr.Lea r q (Some (Left v)))) 2 (omega arith) in omega (arith, z, h))
     (λ r q v lr lq h. let z = one_item (item.Op (instr.Mov (RegAtOff r q (Left v)))) 2 (omega arith) in omega (arith, z, h))
-    (λ u r q v lr lq h. let z = two_items (item.Op (instr.Mov (RegReg r q))) (item.Op (instr.Two u r (src.Imm (Left v)))) 1 2 (omega arith) (omega arith) in omega (arith, z, h))
+    (λ u p r v lr h. let z = two_items (fetches F p r) (item.Op (instr.Two u r (src.Imm (Left v)))) 2 2 (fetch_size F p r) (omega arith) in omega (arith, z, h))
+    (λ p r v lr h. let z = two_items (fetches F p r) (item.Op (instr.Mov (RegAtOff r r (Left v)))) 2 2 (fetch_size F p r) (omega arith) in omega (arith, z, h))
 
 pub call_size : (W : Whole) (F : Frame) (t : Option Where) (g : ℕ) (args : List Where) → length args ≡ length (W.params g) → size (call_items W F t g args) ≤ call_weight args
 call_size W F t g args ok =
@@ -238,8 +239,8 @@ module _ (x : CodeT Where) (W : Whole) (counts : Counts x W) (m : ℕ) (F : Fram
   past_size : (c : NodesT Where) (done : ℕ) (last : Bool) (bs : List Bool) (ls : List ℕ) (n : ℕ) → AreNodes x m bs c → size (items_past W F out last ls n c done) ≤ nodes_weight c
   past_size Stop done last bs ls n ok = omega (arith, total_none)
   past_size (Do o c) zero last bs ls n ok =
-      let more = more_of (in_one W o c) in
-      let t = total_append (one_or_more W F o (in_one W o c)) (items_past W F out last ls n c more) in
+      let more = more_of (in_one W F o c) in
+      let t = total_append (one_or_more W F o (in_one W F o c)) (items_past W F out last ls n c more) in
       omega (arith, t, one_size W F o c, past_size c more last bs ls n ok.1)
   past_size (Do o c) (suc done) last bs ls n ok = let r = past_size c done last bs ls n ok.1 in omega (arith, r)
   past_size (Call t g args c) done last bs ls n ok = let s = total_append (call_items W F t g args) (items_past W F out last ls n c 0) in omega (arith, s, call_size W F t g args (counts g (length args) ok.0), past_size c 0 last bs ls n ok.1)

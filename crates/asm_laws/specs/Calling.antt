@@ -86,7 +86,8 @@ abbrev pub shapes : Setting → Shapes
 shapes S = record {
   words = S.console.words;
   op = λ f pc o c more p. Fitting S f o × FrontFits S f c more
-      × Stand S.console.words S.address pc (one_or_more S.whole (S.whole.frames f) o (in_one S.whole o c)) p × (more ≡ more_of (in_one S.whole o c));
+      × Stand S.console.words S.address pc (one_or_more S.whole (S.whole.frames f) o (in_one S.whole (S.whole.frames f) o c)) p
+      × (more ≡ more_of (in_one S.whole (S.whole.frames f) o c));
   call = CallAt S;
   test = λ f pc w other next. Named S f w × Tests S.console.words S.address (S.whole.frames f) pc w other next;
   giving = GivingAt S;

@@ -239,19 +239,35 @@ abbrev pub loads_there : ℕ → NodesT Where → Bool
 loads_there r (Do (LoadO (Reg t) (Reg p)) c) = (register t == r) && (register p == r)
 loads_there r _ = false
 
--- An operator that can't be turned round works on its first word, which another register has, and on a second one that was put into register r, where
--- it puts what it makes: that register's word is copied there, and the known one stands in the instruction.
-abbrev pub unturned : Option TwoOf → Option ℕ → Option ℕ
-unturned None q = q
-unturned (Some u) q = None
+-- the place of the first word, where a target and the second word stand in register r, and the first one does not
+abbrev pub first_place : ℕ → (target first second : Where) → Option Where
+first_place r t a b = cond (is_in t r && (is_in b r && not (is_in a r))) (Some a) None
 
-abbrev pub copied : ℕ → ℕ → TwoOf → Option ℕ → Option (ℕ × Option (Instr Imm) × Instr Imm)
-copied r w o None = None
-copied r w o (Some q) = Some (1, Some (instr.Mov (RegReg r q)), instr.Two o r (src.Imm (Left w)))
+abbrev pub in_slot : Where → Option Where
+in_slot (Reg q) = None
+in_slot (Slot k) = Some (Slot k)
 
-abbrev pub with_copy : ℕ → ℕ → OpT Where → Option (ℕ × Option (Instr Imm) × Instr Imm)
-with_copy r w (TwoO o t a b) = copied r w o (unturned (turned o) (first_word r t a b))
-with_copy r w _ = None
+-- An operator works on its first word, which stands at such a place, and on a second one that was put into register r, where it puts what it makes: the first
+-- word is copied there, and the known one stands in the instruction. An operator that can be turned round needs no copy of a word that stands in a register.
+abbrev pub unturned : Option TwoOf → Option Where → Option Where
+unturned None p = p
+unturned (Some u) None = None
+unturned (Some u) (Some p) = in_slot p
+
+abbrev pub copied : Frame → ℕ → ℕ → TwoOf → Option Where → Option (ℕ × Option (Instr Imm) × Instr Imm)
+copied F r w o None = None
+copied F r w o (Some p) = Some (1, Some (fetch F p r), instr.Two o r (src.Imm (Left w)))
+
+-- the same of an address and what is added to it, and of a load from there into register r, where that comes next
+abbrev pub copied_address : Frame → ℕ → ℕ → Option Where → NodesT Where → Option (ℕ × Option (Instr Imm) × Instr Imm)
+copied_address F r w None c = None
+copied_address F r w (Some p) c =
+    Some (cond (loads_there r c) (2, Some (fetch F p r), instr.Mov (RegAtOff r r (Left w))) (1, Some (fetch F p r), instr.Two IADD r (src.Imm (Left w))))
+
+abbrev pub with_copy : Frame → ℕ → ℕ → OpT Where → NodesT Where → Option (ℕ × Option (Instr Imm) × Instr Imm)
+with_copy F r w (TwoO o t a b) c = copied F r w o (unturned (turned o) (first_place r t a b))
+with_copy F r w (StepO t p n) c = copied_address F r w (unturned (Some IADD) (first_place r t p n)) c
+with_copy F r w _ c = None
 
 -- The operations behind a first one that are done together with it, how many they are, and the instruction that does all, with one before it where
 -- there is one. A known word is put into a register, and then another register's is added to it there: a `LEA` does both. Where that is the address of a
@@ -260,13 +276,13 @@ abbrev pub with_sum : ℕ → Option (ℕ × ℕ) → (other : Option (ℕ × Op
 with_sum r None other c = other
 with_sum r (Some (q, v)) other c = Some (cond (loads_there r c) (2, None, instr.Mov (RegAtOff r q (Left v))) (1, None, instr.Lea r q (Some (Left v))))
 
-abbrev pub with_word : Option (ℕ × ℕ) → OpT Where → NodesT Where → Option (ℕ × Option (Instr Imm) × Instr Imm)
-with_word None p c = None
-with_word (Some (r, w)) p c = with_sum r (summed r w p) (with_copy r w p) c
+abbrev pub with_word : Frame → Option (ℕ × ℕ) → OpT Where → NodesT Where → Option (ℕ × Option (Instr Imm) × Instr Imm)
+with_word F None p c = None
+with_word F (Some (r, w)) p c = with_sum r (summed r w p) (with_copy F r w p c) c
 
-unfoldable pub in_one : Whole → OpT Where → NodesT Where → Option (ℕ × Option (Instr Imm) × Instr Imm)
-in_one W o (Do p c) = with_word (word_put W o) p c
-in_one W o _ = None
+unfoldable pub in_one : Whole → Frame → OpT Where → NodesT Where → Option (ℕ × Option (Instr Imm) × Instr Imm)
+in_one W F o (Do p c) = with_word F (word_put W o) p c
+in_one W F o _ = None
 
 -- the items of an operation, and of those that are done together with it; how many these are
 abbrev pub before_it : Option (Instr Imm) → List AsmItem

@@ -25,8 +25,8 @@ use Rattle.asm_laws.specs.Laid.{Laid}
 abbrev pub items_at : Setting → Shapes
 items_at S = record {
   words = S.console.words;
-  op = λ f pc o c more p. Stand S.console.words S.address pc (one_or_more S.whole (S.whole.frames f) o (in_one S.whole o c)) p
-      × (more ≡ more_of (in_one S.whole o c));
+  op = λ f pc o c more p. Stand S.console.words S.address pc (one_or_more S.whole (S.whole.frames f) o (in_one S.whole (S.whole.frames f) o c)) p
+      × (more ≡ more_of (in_one S.whole (S.whole.frames f) o c));
   call = λ f pc t g args p. Stand S.console.words S.address pc (call_items S.whole (S.whole.frames f) t g args) p;
   test = λ f pc w other next. Tests S.console.words S.address (S.whole.frames f) pc w other next;
   giving = λ f pc w. (q : ℕ) × Stand S.console.words S.address pc (giving (S.whole.frames f) w) q × Passes S.console.words q (S.leaves f);

@@ -47,9 +47,9 @@ front_put W (Do o c) = word_put W o
 front_put W _ = None
 
 -- what is done in one go where a word was put into a register before
-abbrev pub front_summed : (put : Option (ℕ × ℕ)) → NodesT Where → Option (ℕ × Option (Instr Imm) × Instr Imm)
-front_summed put (Do o c) = with_word put o c
-front_summed put _ = None
+abbrev pub front_summed : Frame → (put : Option (ℕ × ℕ)) → NodesT Where → Option (ℕ × Option (Instr Imm) × Instr Imm)
+front_summed F put (Do o c) = with_word F put o c
+front_summed F put _ = None
 
 abbrev pub ahead_items : Option (ℕ × Option (Instr Imm) × Instr Imm) → List AsmItem
 ahead_items None = []
@@ -64,14 +64,14 @@ is_call (op.Call t f args) = true
 is_call _ = false
 
 -- the items of an operation that stands first and is done in one go with others, where it is not done already
-abbrev pub front_items : Whole → NodesT Where → (done : ℕ) → List AsmItem
-front_items W (Do o c) k = cond (k == 0) (ahead_items (in_one W o c)) []
-front_items W _ k = []
+abbrev pub front_items : Whole → Frame → NodesT Where → (done : ℕ) → List AsmItem
+front_items W F (Do o c) k = cond (k == 0) (ahead_items (in_one W F o c)) []
+front_items W F _ k = []
 
 -- how many behind it are done then; none is said where its own items are due
-abbrev pub front_more : Whole → NodesT Where → (done : ℕ) → Option ℕ
-front_more W (Do o c) k = cond (k == 0) (ahead_more (in_one W o c)) (Some (k - 1))
-front_more W _ k = None
+abbrev pub front_more : Whole → Frame → NodesT Where → (done : ℕ) → Option ℕ
+front_more W F (Do o c) k = cond (k == 0) (ahead_more (in_one W F o c)) (Some (k - 1))
+front_more W F _ k = None
 
 -- the labels of a node whose own items are due
 abbrev pub labels_due : Option ℕ → ℕ → ℕ
@@ -109,7 +109,7 @@ module _ (W : Whole) (F : Frame) (out : ℕ) where
     pub list_past : (last : Bool) → List ℕ → ℕ → ListT Where → (done : ℕ) → List AsmItem
     list_past last ls n NoN k = []
     list_past last ls n (MoreN x rest) k =
-        front_items W (before x (joined rest)) k ++ onward (front_more W (before x (joined rest)) k) (node_items (ends_in last rest) ls n x)
+        front_items W F (before x (joined rest)) k ++ onward (front_more W F (before x (joined rest)) k) (node_items (ends_in last rest) ls n x)
         (list_past last ls n rest) (list_past last ls (n + node_labels x) rest 0)
 
   abbrev pub list_items : List ℕ → ℕ → ListT Where → List AsmItem

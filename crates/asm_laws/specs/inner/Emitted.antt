@@ -90,7 +90,7 @@ module _ (W : Whole) (F : Frame) (out : ℕ) where
   -- right behind them.
   abbrev pub items_past : (last : Bool) → List ℕ → ℕ → NodesT Where → (done : ℕ) → List AsmItem
   items_past last ls n Stop k = []
-  items_past last ls n (Do o c) zero = one_or_more W F o (in_one W o c) ++ items_past last ls n c (more_of (in_one W o c))
+  items_past last ls n (Do o c) zero = one_or_more W F o (in_one W F o c) ++ items_past last ls n c (more_of (in_one W F o c))
   items_past last ls n (Do o c) (suc k) = items_past last ls n c k
   items_past last ls n (Call t g args c) k = call_items W F t g args ++ items_past last ls n c 0
   items_past last ls n (Choose p a b c) k =

@@ -11,11 +11,12 @@ use Rattle.mid_code.specs.Invariants.{AreNodes}
 use Rattle.asm_laws.specs.Names.{jump_label}
 use Rattle.asm_laws.specs.Operations.{Frame, hand, brings, giving, in_one, one_or_more, more_of, call_items}
 use Rattle.asm_laws.specs.inner.Emitted.{labels, enclosing, jump, jump_unless, mark, jump_when, choice, first_part, second_part, left_to, alone, ends, is_stop, enclosed, returning, items_past, code_items}
-use Rattle.asm_laws.specs.Placing.{Line, Bounds, end_of, begin_of, Jumps, Passes, Past, At}
+use Rattle.asm_laws.specs.Placing.{Line, Bounds, end_of, begin_of, paid, Jumps, Passes, Past, At}
 use Rattle.asm_laws.specs.Standing.{Stand}
 use Rattle.asm_laws.specs.Holds.{Setting}
 use Rattle.asm_laws.specs.Program.{items_at}
 use Rattle.asm_laws.proofs.Split.{split}
+use Rattle.asm_laws.proofs.Control.{end_paid, begin_paid}
 use Rattle.asm_laws.proofs.Enclosing.{innermost, further}
 use Rattle.asm_laws.proofs.Known.{loop_there}
 use Rattle.asm_laws.proofs.Leaving.{left_is}
@@ -62,7 +63,7 @@ module _ (S : Setting) (f out : ℕ) (leave : S.address (jump_label out) ≡ S.l
     pub ends : (k : ℕ) → k < length ls → end_of es k ≡ label (enclosing ls k + 1)
     pub begins : (k : ℕ) → k < length ls → begin_of es k ≡ label (enclosing ls k)
 
-  enter : (ls : List ℕ) (es : List Bounds) (n : ℕ) → Few n → Enclose ls es → Enclose (ls ++ n ∷ []) (record { begins = label n; ends = label (n + 1) } ∷ es)
+  enter : (ls : List ℕ) (es : List Bounds) (n : ℕ) → Few n → Enclose ls es → Enclose (ls ++ n ∷ []) (record { begins = label n; ends = label (n + 1); owes = true } ∷ es)
   enter ls es n few en = record {
     few = few_of;
     ends = ends_of;
@@ -76,13 +77,16 @@ module _ (S : Setting) (f out : ℕ) (leave : S.address (jump_label out) ≡ S.l
       few_of zero lt = omega (arith, innermost ls n)
       few_of (suc k) lt = omega (arith, further ls n k lt, en.few k (below k lt))
 
-      ends_of : (k : ℕ) → k < length (ls ++ n ∷ []) → end_of (record { begins = label n; ends = label (n + 1) } ∷ es) k ≡ label (enclosing (ls ++ n ∷ []) k + 1)
+      ends_of : (k : ℕ) → k < length (ls ++ n ∷ []) → end_of (record { begins = label n; ends = label (n + 1); owes = true } ∷ es) k ≡ label (enclosing (ls ++ n ∷ []) k + 1)
       ends_of zero lt = ap (λ m. label (m + 1)) (sym (innermost ls n))
       ends_of (suc k) lt = en.ends k (below k lt) ∙ ap (λ m. label (m + 1)) (sym (further ls n k lt))
 
-      begins_of : (k : ℕ) → k < length (ls ++ n ∷ []) → begin_of (record { begins = label n; ends = label (n + 1) } ∷ es) k ≡ label (enclosing (ls ++ n ∷ []) k)
+      begins_of : (k : ℕ) → k < length (ls ++ n ∷ []) → begin_of (record { begins = label n; ends = label (n + 1); owes = true } ∷ es) k ≡ label (enclosing (ls ++ n ∷ []) k)
       begins_of zero lt = ap label (sym (innermost ls n))
       begins_of (suc k) lt = en.begins k (below k lt) ∙ ap label (sym (further ls n k lt))
+
+  paid_for : (ls : List ℕ) (es : List Bounds) → Enclose ls es → Enclose ls (paid es)
+  paid_for ls es en = record { few = en.few; ends = λ k lt. end_paid es k ∙ en.ends k lt; begins = λ k lt. begin_paid es k ∙ en.begins k lt }
 
   jumps_to : (pc next a b : ℕ) → Line S.console.words pc (instr.Go JMP (src.Imm a)) next → a ≡ b → Jumps S.console.words pc b
   jumps_to pc next a b h e = (next, subst (λ t. Line S.console.words pc (instr.Go JMP (src.Imm t)) next) e h)
@@ -116,8 +120,8 @@ module _ (S : Setting) (f out : ℕ) (leave : S.address (jump_label out) ≡ S.l
 
   -- a choice, with nothing in its second part or something
   chosen : (w : Where) (a b c : NodesT Where) (es : List Bounds) (n m pc e : ℕ) (last : Bool) (to : Option ℕ) (one first two rest : List AsmItem) (t : Bool) → is_stop b ≡ t → ((q : ℕ) → Here q rest e → Over last q) →
-      ((l : ℕ) → to ≡ Some l → (k : ℕ) × (a ≡ Leave k Stop) × (end_of es k ≡ label l)) →
-      ((p q : ℕ) → Over last q → Here p one q → CodeAt es p a q) → ((p q : ℕ) → Here p first q → CodeAt es p a q) → ((p q : ℕ) → Over last q → Here p two q → CodeAt es p b q) → ((q : ℕ) → Here q rest e → CodeAt es q c e) →
+      ((l : ℕ) → to ≡ Some l → (k : ℕ) × (a ≡ Leave k Stop) × (end_of (paid es) k ≡ label l)) →
+      ((p q : ℕ) → Over last q → Here p one q → CodeAt (paid es) p a q) → ((p q : ℕ) → Here p first q → CodeAt (paid es) p a q) → ((p q : ℕ) → Over last q → Here p two q → CodeAt (paid es) p b q) → ((q : ℕ) → Here q rest e → CodeAt es q c e) →
       (q : ℕ) × Here pc (cond t (alone F w n to one) (choice F w n m first two)) q × Here q rest e → CodeAt es pc (Choose w a b c) e
   chosen w a b c es n m pc e last None one first two rest true is over left one_at first_at two_at behind h0 =
       let t = parts (brings F w 9) (jump_unless (hand w 9) n ∷ (one ++ mark n ∷ [])) pc h0.0 h0.1 in
@@ -132,7 +136,7 @@ module _ (S : Setting) (f out : ℕ) (leave : S.address (jump_label out) ≡ S.l
         (t.0, t.1, inl u.1),
         one_at u.0 h2.0 (moved last h2.0 h0.0 (sym l.1.1 ∙ l.2) (over h0.0 h0.2)) h2.1,
         inr (sym l.1.0),
-        subst (λ y. CodeAt es (label n) y (label n)) (sym (stops b is)) refl,
+        subst (λ y. CodeAt (paid es) (label n) y (label n)) (sym (stops b is)) refl,
         from es h0.0 (label n) e c q_n (behind h0.0 h0.2),
       )
   chosen w a b c es n m pc e last (Some to) one first two rest true is over left one_at first_at two_at behind h0 =
@@ -147,9 +151,9 @@ module _ (S : Setting) (f out : ℕ) (leave : S.address (jump_label out) ≡ S.l
         u.0,
         u.0,
         (t.0, t.1, inr u.1),
-        subst (λ z. CodeAt es (label to) z u.0) (sym r.1) (inr (sym r.2), (u.0, refl)),
+        subst (λ z. CodeAt (paid es) (label to) z u.0) (sym r.1) (inr (sym r.2), (u.0, refl)),
         inr refl,
-        subst (λ y. CodeAt es u.0 y u.0) (sym (stops b is)) refl,
+        subst (λ y. CodeAt (paid es) u.0 y u.0) (sym (stops b is)) refl,
         from es h0.0 u.0 e c q_n (behind h0.0 h0.2),
       )
   chosen w a b c es n m pc e last to one first two rest false is over left one_at first_at two_at behind h0 =
@@ -169,22 +173,22 @@ module _ (S : Setting) (f out : ℕ) (leave : S.address (jump_label out) ≡ S.l
         (t.0, t.1, inl u.1),
         first_at u.0 h2.0 h2.1,
         inl (j.0, j.1),
-        from es h1.0 (label n) (label m) b (sym at_n) (upto es h1.0 h3.0 (label m) b at_m (two_at h1.0 h3.0 (moved last h3.0 h0.0 (sym h3.2.1.1 ∙ h3.2.2) (over h0.0 h0.2)) h3.1)),
+        from (paid es) h1.0 (label n) (label m) b (sym at_n) (upto (paid es) h1.0 h3.0 (label m) b at_m (two_at h1.0 h3.0 (moved last h3.0 h0.0 (sym h3.2.1.1 ∙ h3.2.2) (over h0.0 h0.2)) h3.1)),
         from es h0.0 (label m) e c q_m (behind h0.0 h0.2),
       )
 
   -- a block or loop stands between its labels
-  enclosed_at : (b : NodesT Where) (a : List AsmItem) (es : List Bounds) (n pc q : ℕ) (last : Bool) → Over last q → ((p e : ℕ) → Over last e → Here p a e → CodeAt (record { begins = label n; ends = label (n + 1) } ∷ es) p b e) → Here pc (enclosed n a) q →
-      (p : ℕ) × CodeAt (record { begins = pc; ends = p } ∷ es) pc b p × (q ≡ p)
+  enclosed_at : (b : NodesT Where) (a : List AsmItem) (es : List Bounds) (n pc q : ℕ) (last : Bool) → Over last q → ((p e : ℕ) → Over last e → Here p a e → CodeAt (record { begins = label n; ends = label (n + 1); owes = true } ∷ es) p b e) → Here pc (enclosed n a) q →
+      (p : ℕ) × CodeAt (record { begins = pc; ends = p; owes = true } ∷ es) pc b p × (q ≡ p)
   enclosed_at b a es n pc q last over go h =
       let s = parts a (mark (n + 1) ∷ []) h.0 q h.2 in
       let at_n : h.0 ≡ label n = h.1.1 ∙ sym h.1.0 in
       let pc_n : label n ≡ pc = h.1.0 in
       let at_e : s.0 ≡ label (n + 1) = sym s.2.1.0 in
       let q_e : q ≡ label (n + 1) = sym s.2.2 ∙ s.2.1.1 ∙ at_e in
-      let around = record { begins = label n; ends = label (n + 1) } ∷ es in
+      let around = record { begins = label n; ends = label (n + 1); owes = true } ∷ es in
       let inner = from around h.0 pc (label (n + 1)) b (at_n ∙ pc_n) (upto around h.0 s.0 (label (n + 1)) b at_e (go h.0 s.0 (moved last s.0 q (sym s.2.1.1 ∙ s.2.2) over) s.1)) in
-      (label (n + 1), subst (λ m. CodeAt (record { begins = m; ends = label (n + 1) } ∷ es) pc b (label (n + 1))) pc_n inner, q_e)
+      (label (n + 1), subst (λ m. CodeAt (record { begins = m; ends = label (n + 1); owes = true } ∷ es) pc b (label (n + 1))) pc_n inner, q_e)
 
   deeper : (ls : List ℕ) (n : ℕ) (bs : List Bool) (b : Bool) → length ls ≡ length bs → length (ls ++ n ∷ []) ≡ length (b ∷ bs)
   deeper ls n bs b same = let h = length-append ls (n ∷ []) in omega (arith, h, same)
@@ -214,25 +218,26 @@ module _ (S : Setting) (f out : ℕ) (leave : S.address (jump_label out) ≡ S.l
         (s.0, s.1, code_at c zero last bs ls es n s.0 e ok.1 same few en over s.2)
     code_at (Choose w a b c) done last bs ls es n pc e ok same few en over h =
         let here = ends last c in
+        let pe = paid_for ls es en in
         let one = past here ls (n + 1) a zero in
         let first = past false ls (n + 1) a zero in
         let two = past here ls (n + 1 + labels a + 1) b zero in
         let rest = past last ls (n + (2 + labels a + labels b)) c zero in
-        chosen w a b c es n (n + 1 + labels a) pc e here (left_to ls a) one first two rest (is_stop b) refl (λ q k. shut c last ls (n + (2 + labels a + labels b)) q e over k) (left_at a bs ls es ok.0 same en)
-        (λ p q o k. code_at a zero here bs ls es (n + 1) p q ok.0 same (omega (arith, few)) en o k) (λ p q k. code_at a zero false bs ls es (n + 1) p q ok.0 same (omega (arith, few)) en (not_over q) k) (λ p q o k. code_at b zero here bs ls es (n + 1 + labels a + 1) p q ok.1 same (omega (arith, few)) en o k) (λ q k. code_at c zero last bs ls es (n + (2 + labels a + labels b)) q e ok.2 same (omega (arith, few)) en over k)
+        chosen w a b c es n (n + 1 + labels a) pc e here (left_to ls a) one first two rest (is_stop b) refl (λ q k. shut c last ls (n + (2 + labels a + labels b)) q e over k) (left_at a bs ls (paid es) ok.0 same pe)
+        (λ p q o k. code_at a zero here bs ls (paid es) (n + 1) p q ok.0 same (omega (arith, few)) pe o k) (λ p q k. code_at a zero false bs ls (paid es) (n + 1) p q ok.0 same (omega (arith, few)) pe (not_over q) k) (λ p q o k. code_at b zero here bs ls (paid es) (n + 1 + labels a + 1) p q ok.1 same (omega (arith, few)) pe o k) (λ q k. code_at c zero last bs ls es (n + (2 + labels a + labels b)) q e ok.2 same (omega (arith, few)) en over k)
         (parts (cond (is_stop b) (alone F w n (left_to ls a) one) (choice F w n (n + 1 + labels a) first two)) rest pc e h)
     code_at (Block b c) done last bs ls es n pc e ok same few en over h =
         let one = past (ends last c) (ls ++ n ∷ []) (n + 2) b zero in
         let s = parts (enclosed n one) (past last ls (n + (2 + labels b)) c zero) pc e h in
-        let around = record { begins = label n; ends = label (n + 1) } ∷ es in
+        let around = record { begins = label n; ends = label (n + 1); owes = true } ∷ es in
         let r = enclosed_at b one es n pc s.0 (ends last c) (shut c last ls (n + (2 + labels b)) s.0 e over s.2) (λ p q o k. code_at b zero (ends last c) (false ∷ bs) (ls ++ n ∷ []) around (n + 2) p q ok.0 (deeper ls n bs false same) (omega (arith, few)) (enter ls es n (omega (arith, few)) en) o k) s.1 in
         (r.0, r.1, from es s.0 r.0 e c r.2 (code_at c zero last bs ls es (n + (2 + labels b)) s.0 e ok.1 same (omega (arith, few)) en over s.2))
     code_at (Loop b c) done last bs ls es n pc e ok same few en over h =
         let one = past (ends last c) (ls ++ n ∷ []) (n + 2) b zero in
         let s = parts (enclosed n one) (past last ls (n + (2 + labels b)) c zero) pc e h in
-        let around = record { begins = label n; ends = label (n + 1) } ∷ es in
+        let around = record { begins = label n; ends = label (n + 1); owes = true } ∷ es in
         let r = enclosed_at b one es n pc s.0 (ends last c) (shut c last ls (n + (2 + labels b)) s.0 e over s.2) (λ p q o k. code_at b zero (ends last c) (true ∷ bs) (ls ++ n ∷ []) around (n + 2) p q ok.0 (deeper ls n bs true same) (omega (arith, few)) (enter ls es n (omega (arith, few)) en) o k) s.1 in
-        (r.0, r.1, from es s.0 r.0 e c r.2 (code_at c zero last bs ls es (n + (2 + labels b)) s.0 e ok.1 same (omega (arith, few)) en over s.2))
+        (pc, r.0, inr refl, r.1, from es s.0 r.0 e c r.2 (code_at c zero last bs ls es (n + (2 + labels b)) s.0 e ok.1 same (omega (arith, few)) en over s.2))
     code_at (Leave k c) done last bs ls es n pc e ok same few en over h =
         let l = ok.0 in
         let lt : k < length ls = omega (arith, l, same) in
@@ -241,7 +246,7 @@ module _ (S : Setting) (f out : ℕ) (leave : S.address (jump_label out) ≡ S.l
     code_at (Again k c) done last bs ls es n pc e ok same few en over h =
         let l = loop_there bs k ok.0 in
         let lt : k < length ls = omega (arith, l, same) in
-        (jumps_to pc h.0 _ (begin_of es k) h.1 (sym (en.begins k lt)), (h.0, code_at c zero last bs ls es n h.0 e ok.1 same few en over h.2))
+        (inl (jumps_to pc h.0 _ (begin_of es k) h.1 (sym (en.begins k lt))), (h.0, code_at c zero last bs ls es n h.0 e ok.1 same few en over h.2))
     code_at (Return w c) done last bs ls es n pc e ok same few en over h =
         let s = parts (returning F w out (ends last c)) (past last ls n c zero) pc e h in
         let t = parts (giving F w) (cond (ends last c) [] (jump out ∷ [])) pc s.0 s.1 in

@@ -365,13 +365,14 @@ module _ (S : Setting) (f out : ℕ) (leave : S.address (jump_label out) ≡ S.l
       test_at (Do o c) (suc k) ls es bs n pc e is ok same few en t h = test_at c k ls es bs n pc e is ok.1 same few en (behind ls es n o c t) h
       test_at (Choose w a b c) done ls es bs n pc e is ok same few en t h =
           let i = tests b c a is in
-          let s = parts (brings F w 9) (jump_when (hand w 9) n ∷ []) pc e h in
+          let s = parts (brings F w 9) (jump_when (hand w 9) n ∷ test_items S.whole F out n c zero) pc e h in
+          let z : s.2.0 ≡ e = subst (λ y. Here s.2.0 (test_items S.whole F out n y zero) e) (stops c i.1) s.2.2 in
           let first = code_at a zero Turn bs ls (paid es) (n + 1) (label n) t.end ok.0 same (omega (arith, few)) (paid_for ls es en) (t.owes, t.begins) t.here in (
             label n,
             e,
             e,
             e,
-            (s.0, s.1, inr (subst (λ z. Line S.console.words s.0 (instr.Branch JT (hand w 9) (src.Imm (label n))) z) s.2.2 s.2.1)),
+            (s.0, s.1, inr (subst (λ q. Line S.console.words s.0 (instr.Branch JT (hand w 9) (src.Imm (label n))) q) z s.2.1)),
             anywhere (paid es) a zero (label n) t.end e i.2 first,
             inr refl,
             subst (λ y. CodeAt (paid es) e y e) (sym (stops b i.0)) refl,

@@ -295,14 +295,14 @@ module _ (x : CodeT Where) (W : Whole) (Q : List ℕ → Type 0) (of_function : 
     test_uses : (m : ℕ) (to : ℕ) (c : NodesT Where) (done : ℕ) (bs : List Bool) → AreNodes x m bs c → Q (jump_label to) → Uses Q (test_items W F out to c done)
     test_uses m to (Do o c) zero bs ok q = let more = more_of (in_one W F o c) in uses_append Q (one_or_more W F o (in_one W F o c)) (test_items W F out to c more) (one_uses m F o c ok.0) (test_uses m to c more bs ok.1 q)
     test_uses m to (Do o c) (suc done) bs ok q = test_uses m to c done bs ok.1 q
-    test_uses m to (Choose p a b c) done bs ok q = brought_uses F p 9 (jump_when (hand p 9) to ∷ []) (q, tt)
+    test_uses m to (Choose p a b c) done bs ok q = brought_uses F p 9 (jump_when (hand p 9) to ∷ test_items W F out to c 0) (q, test_uses m to c 0 bs ok.2 q)
     test_uses m to Stop done bs ok q = tt
-    test_uses m to (Call t g args c) done bs ok q = tt
-    test_uses m to (Block b c) done bs ok q = tt
-    test_uses m to (Loop b c) done bs ok q = tt
-    test_uses m to (Leave k c) done bs ok q = tt
-    test_uses m to (Again k c) done bs ok q = tt
-    test_uses m to (Return p c) done bs ok q = tt
+    test_uses m to (Call t g args c) done bs ok q = uses_append Q (call_items W F t g args) (test_items W F out to c 0) (call_uses F t g args (function_there x g (length args) ok.0)) (test_uses m to c 0 bs ok.1 q)
+    test_uses m to (Block b c) done bs ok q = test_uses m to c 0 bs ok.1 q
+    test_uses m to (Loop b c) done bs ok q = test_uses m to c 0 bs ok.1 q
+    test_uses m to (Leave k c) done bs ok q = test_uses m to c 0 bs ok.1 q
+    test_uses m to (Again k c) done bs ok q = test_uses m to c 0 bs ok.1 q
+    test_uses m to (Return p c) done bs ok q = test_uses m to c 0 bs ok q
 
     mutual
       past_uses : (m : ℕ) (c : NodesT Where) (done : ℕ) (last : Behind) (bs : List Bool) (ls : List ℕ) (n : ℕ) → length ls ≡ length bs → AreNodes x m bs c → n + labels c < 2 ^ 32 - 1 → Jumpable ls → Knows (items_past W F out last ls n c done) → Uses Q (items_past W F out last ls n c done)
@@ -356,7 +356,7 @@ module _ (x : CodeT Where) (W : Whole) (Q : List ℕ → Type 0) (of_function : 
       part_uses m (Do o c) bs ls n same ok few j k = part_uses m c bs ls n same ok.1 few j k
       part_uses m (Choose p a b c) bs ls n same ok few j k = past_uses m a 0 Turn bs ls (n + 1) same ok.0 (omega (arith, few)) j k
       part_uses m Stop bs ls n same ok few j k = tt
-      part_uses m (Call t g args c) bs ls n same ok few j k = tt
+      part_uses m (Call t g args c) bs ls n same ok few j k = part_uses m c bs ls n same ok.1 few j k
       part_uses m (Block b c) bs ls n same ok few j k = tt
       part_uses m (Loop b c) bs ls n same ok few j k = tt
       part_uses m (Leave i c) bs ls n same ok few j k = tt

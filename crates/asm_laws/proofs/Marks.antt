@@ -258,14 +258,14 @@ module _ (W : Whole) (differ : Differ W.names) where
     test_bare : (to : ℕ) (c : NodesT Where) (done : ℕ) → Bare (test_items W F out to c done)
     test_bare to (Do o c) zero = let more = more_of (in_one W F o c) in names_append (λ m. ⊥) (one_or_more W F o (in_one W F o c)) (test_items W F out to c more) (one_bare F o c) (test_bare to c more)
     test_bare to (Do o c) (suc done) = test_bare to c done
-    test_bare to (Choose p a b c) done = names_append (λ m. ⊥) (brings F p 9) (jump_when (hand p 9) to ∷ []) (brings_bare F p 9) tt
+    test_bare to (Choose p a b c) done = names_append (λ m. ⊥) (brings F p 9) (jump_when (hand p 9) to ∷ test_items W F out to c 0) (brings_bare F p 9) (test_bare to c 0)
     test_bare to Stop done = tt
-    test_bare to (Call t g args c) done = tt
-    test_bare to (Block b c) done = tt
-    test_bare to (Loop b c) done = tt
-    test_bare to (Leave k c) done = tt
-    test_bare to (Again k c) done = tt
-    test_bare to (Return p c) done = tt
+    test_bare to (Call t g args c) done = names_append (λ m. ⊥) (call_items W F t g args) (test_items W F out to c 0) (call_bare F t g args) (test_bare to c 0)
+    test_bare to (Block b c) done = test_bare to c 0
+    test_bare to (Loop b c) done = test_bare to c 0
+    test_bare to (Leave k c) done = test_bare to c 0
+    test_bare to (Again k c) done = test_bare to c 0
+    test_bare to (Return p c) done = test_bare to c 0
 
     some_label : (c : NodesT Where) → is_tested c ≡ true → 1 ≤ labels c
     some_label (Do o c) e = some_label c e
@@ -318,7 +318,7 @@ module _ (W : Whole) (differ : Differ W.names) where
           let m = n + 1 + labels a in
           marks_more (jumps (n + 1) m) (jumps (n + 1) e) (items_past W F out Turn ls (n + 1) a 0) (jumps_within (n + 1) m (n + 1) e (omega arith) (omega (arith, is))) (past_marks a 0 Turn ls (n + 1) m (omega arith) (omega (arith, is, few)))
       part_marks Stop ls n e is few = marks_bare (jumps (n + 1) e) [] tt
-      part_marks (Call t g args c) ls n e is few = marks_bare (jumps (n + 1) e) [] tt
+      part_marks (Call t g args c) ls n e is few = part_marks c ls n e is few
       part_marks (Block b c) ls n e is few = marks_bare (jumps (n + 1) e) [] tt
       part_marks (Loop b c) ls n e is few = marks_bare (jumps (n + 1) e) [] tt
       part_marks (Leave k c) ls n e is few = marks_bare (jumps (n + 1) e) [] tt

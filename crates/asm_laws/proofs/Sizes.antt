@@ -256,10 +256,10 @@ looped_size : (t : Bool) (n w : ℕ) (all part test : List AsmItem) → size all
 looped_size true n w all part test la le = rotated_size n w part test le
 looped_size false n w all part test la le = enclosed_size n w all la
 
-test_size : (F : Frame) (p : Where) (to : ℕ) → size (brings F p 9 ++ jump_when (hand p 9) to ∷ []) ≤ 8
-test_size F p to =
-    let x1 = total_append (brings F p 9) (jump_when (hand p 9) to ∷ []) in
-    let x2 = one_item (jump_when (hand p 9) to) 2 (omega arith) in
+test_size : (F : Frame) (p : Where) (to : ℕ) (xs : List AsmItem) → size (brings F p 9 ++ jump_when (hand p 9) to ∷ xs) ≤ 8 + size xs
+test_size F p to xs =
+    let x1 = total_append (brings F p 9) (jump_when (hand p 9) to ∷ xs) in
+    let x2 = total_more (jump_when (hand p 9) to) xs in
     omega (arith, x1, x2, brings_size F p 9)
 
 -- the parameters of functions are those of the program
@@ -267,6 +267,23 @@ abbrev pub Counts : CodeT Where → Whole → Type 0
 Counts x W = (g n : ℕ) → parameter_count x g ≡ Some n → n ≡ length (W.params g)
 
 module _ (x : CodeT Where) (W : Whole) (counts : Counts x W) (m : ℕ) (F : Frame) (out : ℕ) where
+  tests_size : (c : NodesT Where) (done : ℕ) (bs : List Bool) (to : ℕ) → AreNodes x m bs c → size (test_items W F out to c done) ≤ nodes_weight c
+  tests_size Stop done bs to ok = omega (arith, total_none)
+  tests_size (Do o c) zero bs to ok =
+      let more = more_of (in_one W F o c) in
+      let t = total_append (one_or_more W F o (in_one W F o c)) (test_items W F out to c more) in
+      omega (arith, t, one_size W F o c, tests_size c more bs to ok.1)
+  tests_size (Do o c) (suc done) bs to ok = let r = tests_size c done bs to ok.1 in omega (arith, r)
+  tests_size (Call t g args c) done bs to ok =
+      let s = total_append (call_items W F t g args) (test_items W F out to c 0) in
+      omega (arith, s, call_size W F t g args (counts g (length args) ok.0), tests_size c 0 bs to ok.1)
+  tests_size (Choose p a b c) done bs to ok = let r = tests_size c 0 bs to ok.2 in omega (arith, r, test_size F p to (test_items W F out to c 0))
+  tests_size (Block b c) done bs to ok = let r = tests_size c 0 bs to ok.1 in omega (arith, r)
+  tests_size (Loop b c) done bs to ok = let r = tests_size c 0 bs to ok.1 in omega (arith, r)
+  tests_size (Leave k c) done bs to ok = let r = tests_size c 0 bs to ok.1 in omega (arith, r)
+  tests_size (Again k c) done bs to ok = let r = tests_size c 0 bs to ok.1 in omega (arith, r)
+  tests_size (Return p c) done bs to ok = let r = tests_size c 0 bs to ok in omega (arith, r)
+
   mutual
     past_size : (c : NodesT Where) (done : ℕ) (last : Behind) (bs : List Bool) (ls : List ℕ) (n : ℕ) → AreNodes x m bs c → size (items_past W F out last ls n c done) ≤ nodes_weight c
     past_size Stop done last bs ls n ok = omega (arith, total_none)
@@ -302,14 +319,19 @@ module _ (x : CodeT Where) (W : Whole) (counts : Counts x W) (m : ℕ) (F : Fram
         let t = total_append (one_or_more W F o (in_one W F o c)) (test_items W F out to c more) in
         omega (arith, t, one_size W F o c, parts_size c more bs ls n to ok.1)
     parts_size (Do o c) (suc done) bs ls n to ok = let r = parts_size c done bs ls n to ok.1 in omega (arith, r)
-    parts_size (Choose p a b c) done bs ls n to ok = let r = past_size a 0 Turn bs ls (n + 1) ok.0 in omega (arith, r, test_size F p to)
+    parts_size (Choose p a b c) done bs ls n to ok =
+        let r = past_size a 0 Turn bs ls (n + 1) ok.0 in
+        let t = tests_size c 0 bs to ok.2 in
+        omega (arith, r, t, test_size F p to (test_items W F out to c 0))
     parts_size Stop done bs ls n to ok = omega (arith, total_none)
-    parts_size (Call t g args c) done bs ls n to ok = omega (arith, total_none)
-    parts_size (Block b c) done bs ls n to ok = omega (arith, total_none)
-    parts_size (Loop b c) done bs ls n to ok = omega (arith, total_none)
-    parts_size (Leave k c) done bs ls n to ok = omega (arith, total_none)
-    parts_size (Again k c) done bs ls n to ok = omega (arith, total_none)
-    parts_size (Return p c) done bs ls n to ok = omega (arith, total_none)
+    parts_size (Call t g args c) done bs ls n to ok =
+        let s = total_append (call_items W F t g args) (test_items W F out to c 0) in
+        omega (arith, s, call_size W F t g args (counts g (length args) ok.0), parts_size c 0 bs ls n to ok.1)
+    parts_size (Block b c) done bs ls n to ok = let r = tests_size c 0 bs to ok.1 in omega (arith, total_none, r)
+    parts_size (Loop b c) done bs ls n to ok = let r = tests_size c 0 bs to ok.1 in omega (arith, total_none, r)
+    parts_size (Leave k c) done bs ls n to ok = let r = tests_size c 0 bs to ok.1 in omega (arith, total_none, r)
+    parts_size (Again k c) done bs ls n to ok = let r = tests_size c 0 bs to ok.1 in omega (arith, total_none, r)
+    parts_size (Return p c) done bs ls n to ok = let r = tests_size c 0 bs to ok in omega (arith, total_none, r)
 
   pub code_size : (c : NodesT Where) (bs : List Bool) (ls : List ℕ) (n : ℕ) → AreNodes x m bs c → size (code_items W F out ls n c) ≤ nodes_weight c
   code_size c bs ls n ok = past_size c 0 End bs ls n ok

@@ -136,8 +136,14 @@ module _ (W : Whole) (F : Frame) (out : ℕ) where
   abbrev pub test_items : (to : ℕ) → NodesT Where → (done : ℕ) → List AsmItem
   test_items to (Do o c) zero = one_or_more W F o (in_one W F o c) ++ test_items to c (more_of (in_one W F o c))
   test_items to (Do o c) (suc k) = test_items to c k
-  test_items to (Choose p a b c) k = brings F p 9 ++ jump_when (hand p 9) to ∷ []
-  test_items to _ k = []
+  test_items to Stop k = []
+  test_items to (Choose p a b c) k = brings F p 9 ++ jump_when (hand p 9) to ∷ test_items to c 0
+  test_items to (Call t g args c) k = call_items W F t g args ++ test_items to c 0
+  test_items to (Block b c) k = test_items to c 0
+  test_items to (Loop b c) k = test_items to c 0
+  test_items to (Leave j c) k = test_items to c 0
+  test_items to (Again j c) k = test_items to c 0
+  test_items to (Return p c) k = test_items to c 0
 
   abbrev mutual
     -- the items of nodes whose labels begin at n, inside blocks and loops with these labels; so many operations in front are done already. What comes
@@ -163,6 +169,7 @@ module _ (W : Whole) (F : Frame) (out : ℕ) where
     -- what is done in a turn of such a loop
     pub part_items : List ℕ → ℕ → NodesT Where → List AsmItem
     part_items ls n (Do o c) = part_items ls n c
+    part_items ls n (Call t g args c) = part_items ls n c
     part_items ls n (Choose p a b c) = items_past Turn ls (n + 1) a 0
     part_items ls n _ = []
 

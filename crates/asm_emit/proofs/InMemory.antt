@@ -135,7 +135,7 @@ no_labels (MoreN x rest) e = absurd cc
 
 pub tested_labels : (xs : ListT Where) → tested_in xs ≡ true → list_labels xs ≡ 2 + part_labels xs
 tested_labels NoN e = absurd cc
-tested_labels (MoreN (DoN o) rest) e = tested_labels rest (behind_op (is_call o) (tested_in rest) e)
+tested_labels (MoreN (DoN o) rest) e = let r = tested_labels rest (behind_op (is_call o) (tested_in rest) e) in omega (arith, r)
   where
     behind_op : (b c : Bool) → cond b false c ≡ true → c ≡ true
     behind_op true c e = absurd cc
@@ -245,17 +245,17 @@ module _ (W : Whole) (F : Frame) (out : ℕ) where
   test_op (op.Move t a) to c k = plain_test (MoveO t a) to c k
   test_op (op.One o t a) to c k = plain_test (OneO o t a) to c k
   test_op (op.Two o t a b) to c k = plain_test (TwoO o t a b) to c k
-  test_op (op.Global t k) to c k = plain_test (GlobalO t k) to c k
-  test_op (op.Local t k) to c k = plain_test (LocalO t k) to c k
-  test_op (op.Literal t k) to c k = plain_test (LiteralO t k) to c k
+  test_op (op.Global t i) to c k = plain_test (GlobalO t i) to c k
+  test_op (op.Local t i) to c k = plain_test (LocalO t i) to c k
+  test_op (op.Literal t i) to c k = plain_test (LiteralO t i) to c k
   test_op (op.Card t) to c k = plain_test (CardO t) to c k
   test_op (op.Step t p s) to c k = plain_test (StepO t p s) to c k
   test_op (op.Apart t p q) to c k = plain_test (ApartO t p q) to c k
   test_op (op.PtrTest o t p q) to c k = plain_test (PtrTestO o t p q) to c k
   test_op (op.Load t p) to c k = plain_test (LoadO t p) to c k
   test_op (op.Store p a) to c k = plain_test (StoreO p a) to c k
-  test_op (op.Fresh k) to c k = plain_test (FreshO k) to c k
-  test_op (op.End k) to c k = plain_test (EndO k) to c k
+  test_op (op.Fresh i) to c k = plain_test (FreshO i) to c k
+  test_op (op.End i) to c k = plain_test (EndO i) to c k
   test_op (op.Call t f args) to c k = refl
   test_op (op.In t p) to c k = plain_test (InO t p) to c k
   test_op (op.Out p a) to c k = plain_test (OutO p a) to c k

@@ -1,7 +1,7 @@
 // Nodes.
-ghost use Rattle.std.specs.Prelude.{◌≡◌, ◌+◌, ◌-◌, ◌<◌, ◌^◌, ◌++◌, ◌∷◌, [], false, map, suc, length, get_or, OnOk, IfOk};
+ghost use Rattle.std.specs.Prelude.{◌≡◌, ◌+◌, ◌-◌, ◌<◌, ◌^◌, ◌++◌, ◌∷◌, [], true, map, suc, length, get_or, OnOk, IfOk};
 ghost use Rattle.kit_base.specs.Word.{add};
-ghost use Rattle.mid_code.specs.Functions.{node, nodes, listed, BlockN};
+ghost use Rattle.mid_code.specs.Functions.{node, nodes, listed, BlockN, LoopN};
 ghost use Rattle.asm_laws.specs.Operations.{giving, hand, brings};
 ghost use Rattle.asm_laws.specs.declared.behind.Behind.TheVariants.{Other, End, Turn};
 ghost use Rattle.asm_laws.specs.inner.Emitted.{labels, enclosing, jump, jump_unless, jump_when, mark, first_part, second_part, one_way, alone};
@@ -417,7 +417,11 @@ fn put_part(
             Node::Choose(_, a, _) => {
                 return put_nodes(alloc, out, w, s, end, Behind::Turn, ls, n + 1, a.as_slice());
             }
-            _ => return Ok(n + 1),
+            Node::Block(_) => return Ok(n + 1),
+            Node::Loop(_) => return Ok(n + 1),
+            Node::Leave(_) => return Ok(n + 1),
+            Node::Again(_) => return Ok(n + 1),
+            Node::Return(_) => return Ok(n + 1),
         }
     }
     Ok(n + 1)

@@ -118,7 +118,11 @@ abbrev pub part_labels : ListT Where → ℕ
 part_labels NoN = 0
 part_labels (MoreN (DoN o) rest) = part_labels rest
 part_labels (MoreN (ChooseN p a b) rest) = list_labels a
-part_labels (MoreN _ rest) = 0
+part_labels (MoreN (BlockN b) rest) = 0
+part_labels (MoreN (LoopN b) rest) = 0
+part_labels (MoreN (LeaveN k) rest) = 0
+part_labels (MoreN (AgainN k) rest) = 0
+part_labels (MoreN (ReturnN p) rest) = 0
 
 module _ (W : Whole) (F : Frame) where
   -- the items of a node of such a list
@@ -159,7 +163,11 @@ module _ (W : Whole) (F : Frame) (out : ℕ) where
     list_part ls n NoN = []
     list_part ls n (MoreN (DoN o) rest) = list_part ls n rest
     list_part ls n (MoreN (ChooseN p a b) rest) = list_past Turn ls (n + 1) a 0
-    list_part ls n (MoreN _ rest) = []
+    list_part ls n (MoreN (BlockN b) rest) = []
+    list_part ls n (MoreN (LoopN b) rest) = []
+    list_part ls n (MoreN (LeaveN k) rest) = []
+    list_part ls n (MoreN (AgainN k) rest) = []
+    list_part ls n (MoreN (ReturnN p) rest) = []
 
   abbrev pub list_items : List ℕ → ℕ → ListT Where → List AsmItem
   list_items ls n xs = list_past End ls n xs 0

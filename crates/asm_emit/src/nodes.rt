@@ -7,7 +7,7 @@ ghost use Rattle.asm_laws.specs.declared.behind.Behind.TheVariants.{Other, End, 
 ghost use Rattle.asm_laws.specs.inner.Emitted.{labels, enclosing, jump, jump_unless, jump_when, mark, first_part, second_part, one_way, alone};
 ghost use Rattle.asm_laws.specs.inner.Emitted.{returning, code_items, inside, is_end, is_turn, again, rotated};
 ghost use Rattle.asm_emit.specs.inner.Listed.{left_in, ends_in, node_labels, list_labels, node_items, list_past};
-ghost use Rattle.asm_emit.specs.inner.Listed.{is_none, is_again, round_in, tested_in, part_labels, own_test, list_test, list_part};
+ghost use Rattle.asm_emit.specs.inner.Listed.{is_none, is_again, round_in, tested_in, is_operation, turn_labels, part_labels, own_test, list_test, list_part, turn_items};
 ghost use Rattle.asm_emit.specs.inner.View.{frame, whole};
 
 use crate::ahead::{behind, is_call, put_ahead};
@@ -393,6 +393,40 @@ fn put_test(
     Ok(())
 }
 
+fn is_operation(x: &Node<Where>) -> bool
+    ensures { result ≡ is_operation (node x.now) }
+{
+    match x {
+        Node::Do(_) => true,
+        _ => false,
+    }
+}
+
+/// Adds the first part of a choice, at whose end the next turn begins; the number of the next label.
+#[cycle(items)]
+fn put_turn(
+    alloc: Global,
+    out: &mut Vec<AsmItem>,
+    w: &Around<'_>,
+    s: &Scope<'_>,
+    end: u32,
+    ls: &mut Vec<u32>,
+    n: u32,
+    x: &Node<Where>,
+) -> Result<u32, Memory>
+    requires fits { n + 1 + turn_labels (node x.now) < 2 ^ 32 - 1 }
+    ensures items { OnOk result (out.new.items ≡ out.old.items ++ turn_items (whole w.now) (frame s.now) end ls.old.items n (node x.now)) }
+    ensures labels { OnOk result (ls.new.items ≡ ls.old.items) }
+    ensures next { IfOk result (λ m. m ≡ n + 1 + turn_labels (node x.now)) }
+{
+    match x {
+        Node::Choose(_, a, _) => {
+            put_nodes(alloc, out, w, s, end, Behind::Turn, ls, n + 1, a.as_slice())
+        }
+        _ => Ok(n + 1),
+    }
+}
+
 /// Adds what is done in a turn of a loop whose test stands behind it; the number of the next label.
 #[cycle(items)]
 fn put_part(
@@ -412,16 +446,8 @@ fn put_part(
     ensures next { IfOk result (λ m. m ≡ n + 1 + part_labels (listed (map node xs.now))) }
 {
     for x in xs {
-        match x {
-            Node::Do(_) => {}
-            Node::Choose(_, a, _) => {
-                return put_nodes(alloc, out, w, s, end, Behind::Turn, ls, n + 1, a.as_slice());
-            }
-            Node::Block(_) => return Ok(n + 1),
-            Node::Loop(_) => return Ok(n + 1),
-            Node::Leave(_) => return Ok(n + 1),
-            Node::Again(_) => return Ok(n + 1),
-            Node::Return(_) => return Ok(n + 1),
+        if !is_operation(x) {
+            return put_turn(alloc, out, w, s, end, ls, n, x);
         }
     }
     Ok(n + 1)

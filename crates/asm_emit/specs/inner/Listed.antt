@@ -114,15 +114,17 @@ tested_in NoN = false
 tested_in (MoreN x rest) = is_test x rest (tested_in rest)
 
 -- the labels of what is done in a turn then
+abbrev pub is_operation : NodeT Where → Bool
+is_operation (DoN o) = true
+is_operation _ = false
+
+abbrev pub turn_labels : NodeT Where → ℕ
+turn_labels (ChooseN p a b) = list_labels a
+turn_labels _ = 0
+
 abbrev pub part_labels : ListT Where → ℕ
 part_labels NoN = 0
-part_labels (MoreN (DoN o) rest) = part_labels rest
-part_labels (MoreN (ChooseN p a b) rest) = list_labels a
-part_labels (MoreN (BlockN b) rest) = 0
-part_labels (MoreN (LoopN b) rest) = 0
-part_labels (MoreN (LeaveN k) rest) = 0
-part_labels (MoreN (AgainN k) rest) = 0
-part_labels (MoreN (ReturnN p) rest) = 0
+part_labels (MoreN x rest) = cond (is_operation x) (part_labels rest) (turn_labels x)
 
 module _ (W : Whole) (F : Frame) where
   -- the items of a node of such a list
@@ -161,13 +163,11 @@ module _ (W : Whole) (F : Frame) (out : ℕ) where
     -- what is done in a turn of a rotated loop
     pub list_part : List ℕ → ℕ → ListT Where → List AsmItem
     list_part ls n NoN = []
-    list_part ls n (MoreN (DoN o) rest) = list_part ls n rest
-    list_part ls n (MoreN (ChooseN p a b) rest) = list_past Turn ls (n + 1) a 0
-    list_part ls n (MoreN (BlockN b) rest) = []
-    list_part ls n (MoreN (LoopN b) rest) = []
-    list_part ls n (MoreN (LeaveN k) rest) = []
-    list_part ls n (MoreN (AgainN k) rest) = []
-    list_part ls n (MoreN (ReturnN p) rest) = []
+    list_part ls n (MoreN x rest) = cond (is_operation x) (list_part ls n rest) (turn_items ls n x)
+
+    pub turn_items : List ℕ → ℕ → NodeT Where → List AsmItem
+    turn_items ls n (ChooseN p a b) = list_past Turn ls (n + 1) a 0
+    turn_items ls n _ = []
 
   abbrev pub list_items : List ℕ → ℕ → ListT Where → List AsmItem
   list_items ls n xs = list_past End ls n xs 0

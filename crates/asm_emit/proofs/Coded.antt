@@ -1,6 +1,6 @@
 -- No datum stands among the items of a function.
 use Rattle.std.proofs.Common.{ℕ, zero, suc, ◌+◌, Bool, true, false, List, [], ◌∷◌, ◌++◌, Option, Some, None}
-use Rattle.std.specs.Prelude.{◌==◌, cond}
+use Rattle.std.specs.Prelude.{◌==◌, cond, ◌&&◌}
 use Rattle.std.specs.List.{AllByRecursion}
 use Rattle.either.specs.declared.Either.TheVariants.{Left}
 use Rattle.v32_isa.specs.declared.instruction.Plain.TheVariants.{RET}
@@ -19,7 +19,9 @@ use Rattle.mid_code.specs.Code.{OpT, ConstO, NullO, MoveO, OneO, TwoO, GlobalO, 
 use Rattle.asm_laws.specs.Moves.{Move, in_order}
 use Rattle.asm_laws.specs.Operations.{Frame, Whole, register, keep, fetches, keeps, keeps_some, is_in, hand, brings, takes, aim, lays, moves, changes, is_direct, in_place, apart, turned, is_turned, turned_or_apart, computes, slot_arg, slot_args, moved_items, args_items, call_items, op_items, in_one, one_or_more, more_of, giving}
 use Rattle.asm_laws.specs.Framing.{frame_made, frame_gone}
-use Rattle.asm_laws.specs.inner.Emitted.{labels, jump, jump_unless, mark, first_part, second_part, choice, alone, left_to, ends, jump_when, is_stop, enclosed, returning, items_past, code_items, call_item, own_items, exit_items}
+use Rattle.asm_laws.specs.declared.behind.Behind.{Behind}
+use Rattle.asm_laws.specs.declared.behind.Behind.TheVariants.{Other, End, Turn}
+use Rattle.asm_laws.specs.inner.Emitted.{labels, jump, jump_unless, mark, first_part, second_part, choice, alone, left_to, ends, jump_when, is_stop, enclosed, returning, items_past, code_items, call_item, own_items, exit_items, inside, is_end, is_turn, again, rotated, looped, is_tested, part_items, test_items, enclosing}
 use Rattle.asm_emit.specs.EmittedFrom.{IsCode}
 use Rattle.asm_laws.proofs.InOne.{one_or_more_is}
 
@@ -151,37 +153,71 @@ module _ (W : Whole) (F : Frame) where
   enclosed_code : (n : ℕ) (a : List AsmItem) → AreCode a → AreCode (enclosed n a)
   enclosed_code n a ha = (tt, joined a (mark (n + 1) ∷ []) ha (tt, tt))
 
+  rotated_code : (n : ℕ) (part test : List AsmItem) → AreCode part → AreCode test → AreCode (rotated n part test)
+  rotated_code n part test hp ht = (tt, (tt, joined part (mark n ∷ (test ++ mark (n + 1) ∷ [])) hp (tt, joined test (mark (n + 1) ∷ []) ht (tt, tt))))
+
   module _ (out : ℕ) where
-    pub past_code : (c : NodesT Where) (done : ℕ) (last : Bool) (ls : List ℕ) (n : ℕ) → AreCode (items_past W F out last ls n c done)
-    past_code Stop done last ls n = tt
-    past_code (Do o c) zero last ls n =
+    test_code : (to : ℕ) (c : NodesT Where) (done : ℕ) → AreCode (test_items W F out to c done)
+    test_code to Stop done = tt
+    test_code to (Do o c) zero =
         let more = more_of (in_one W F o c) in
-        joined (one_or_more W F o (in_one W F o c)) (items_past W F out last ls n c more) (one_or_more_code o c) (past_code c more last ls n)
-    past_code (Do o c) (suc done) last ls n = past_code c done last ls n
-    past_code (Call t g args c) done last ls n = joined (call_items W F t g args) (items_past W F out last ls n c 0) (call_code t g args) (past_code c 0 last ls n)
-    past_code (Choose p a b c) done last ls n =
-        let w = n + 1 + labels a in
-        let one = items_past W F out (ends last c) ls (n + 1) a 0 in
-        let first = items_past W F out false ls (n + 1) a 0 in
-        let two = items_past W F out (ends last c) ls (w + 1) b 0 in
-        let rest = items_past W F out last ls (n + (2 + labels a + labels b)) c 0 in
-        joined (cond (is_stop b) (alone F p n (left_to ls a) one) (choice F p n w first two)) rest
-        (either (is_stop b) (alone F p n (left_to ls a) one) (choice F p n w first two)
-        (alone_code p n (left_to ls a) one (past_code a 0 (ends last c) ls (n + 1)))
-        (choice_code p n w first two (past_code a 0 false ls (n + 1)) (past_code b 0 (ends last c) ls (w + 1))))
-        (past_code c 0 last ls (n + (2 + labels a + labels b)))
-    past_code (Block b c) done last ls n =
-        let one = items_past W F out (ends last c) (ls ++ n ∷ []) (n + 2) b 0 in
-        joined (enclosed n one) (items_past W F out last ls (n + (2 + labels b)) c 0) (enclosed_code n one (past_code b 0 (ends last c) (ls ++ n ∷ []) (n + 2))) (past_code c 0 last ls (n + (2 + labels b)))
-    past_code (Loop b c) done last ls n =
-        let one = items_past W F out (ends last c) (ls ++ n ∷ []) (n + 2) b 0 in
-        joined (enclosed n one) (items_past W F out last ls (n + (2 + labels b)) c 0) (enclosed_code n one (past_code b 0 (ends last c) (ls ++ n ∷ []) (n + 2))) (past_code c 0 last ls (n + (2 + labels b)))
-    past_code (Leave k c) done last ls n = (tt, past_code c 0 last ls n)
-    past_code (Again k c) done last ls n = (tt, past_code c 0 last ls n)
-    past_code (Return p c) done last ls n =
-        joined (returning F p out (ends last c)) (items_past W F out last ls n c 0)
-        (joined (giving F p) (cond (ends last c) [] (jump out ∷ [])) (giving_code p) (either (ends last c) [] (jump out ∷ []) tt (tt, tt)))
-        (past_code c 0 last ls n)
+        joined (one_or_more W F o (in_one W F o c)) (test_items W F out to c more) (one_or_more_code o c) (test_code to c more)
+    test_code to (Do o c) (suc done) = test_code to c done
+    test_code to (Call t g args c) done = joined (call_items W F t g args) (test_items W F out to c 0) (call_code t g args) (test_code to c 0)
+    test_code to (Choose p a b c) done = brought_code F p 9 (jump_when (hand p 9) to ∷ test_items W F out to c 0) (tt, test_code to c 0)
+    test_code to (Block b c) done = test_code to c 0
+    test_code to (Loop b c) done = test_code to c 0
+    test_code to (Leave k c) done = test_code to c 0
+    test_code to (Again k c) done = test_code to c 0
+    test_code to (Return p c) done = test_code to c 0
+
+    mutual
+      pub past_code : (c : NodesT Where) (done : ℕ) (last : Behind) (ls : List ℕ) (n : ℕ) → AreCode (items_past W F out last ls n c done)
+      past_code Stop done last ls n = tt
+      past_code (Do o c) zero last ls n =
+          let more = more_of (in_one W F o c) in
+          joined (one_or_more W F o (in_one W F o c)) (items_past W F out last ls n c more) (one_or_more_code o c) (past_code c more last ls n)
+      past_code (Do o c) (suc done) last ls n = past_code c done last ls n
+      past_code (Call t g args c) done last ls n = joined (call_items W F t g args) (items_past W F out last ls n c 0) (call_code t g args) (past_code c 0 last ls n)
+      past_code (Choose p a b c) done last ls n =
+          let w = n + 1 + labels a in
+          let one = items_past W F out (ends last c) ls (n + 1) a 0 in
+          let first = items_past W F out Other ls (n + 1) a 0 in
+          let two = items_past W F out (ends last c) ls (w + 1) b 0 in
+          let rest = items_past W F out last ls (n + (2 + labels a + labels b)) c 0 in
+          joined (cond (is_stop b) (alone F p n (left_to ls a) one) (choice F p n w first two)) rest
+          (either (is_stop b) (alone F p n (left_to ls a) one) (choice F p n w first two)
+          (alone_code p n (left_to ls a) one (past_code a 0 (ends last c) ls (n + 1)))
+          (choice_code p n w first two (past_code a 0 Other ls (n + 1)) (past_code b 0 (ends last c) ls (w + 1))))
+          (past_code c 0 last ls (n + (2 + labels a + labels b)))
+      past_code (Block b c) done last ls n =
+          let one = items_past W F out (inside (ends last c)) (ls ++ n ∷ []) (n + 2) b 0 in
+          joined (enclosed n one) (items_past W F out last ls (n + (2 + labels b)) c 0) (enclosed_code n one (past_code b 0 (inside (ends last c)) (ls ++ n ∷ []) (n + 2))) (past_code c 0 last ls (n + (2 + labels b)))
+      past_code (Loop b c) done last ls n =
+          let all = items_past W F out (inside (ends last c)) (ls ++ n ∷ []) (n + 2) b 0 in
+          let part = part_items W F out (ls ++ n ∷ []) (n + 2) b in
+          let test = test_items W F out (n + 2) b 0 in
+          joined (looped (is_tested b) n all part test) (items_past W F out last ls (n + (2 + labels b)) c 0)
+          (either (is_tested b) (rotated n part test) (enclosed n all) (rotated_code n part test (part_code b (ls ++ n ∷ []) (n + 2)) (test_code (n + 2) b 0)) (enclosed_code n all (past_code b 0 (inside (ends last c)) (ls ++ n ∷ []) (n + 2))))
+          (past_code c 0 last ls (n + (2 + labels b)))
+      past_code (Leave k c) done last ls n = (tt, past_code c 0 last ls n)
+      past_code (Again k c) done last ls n =
+          joined (again ls k (ends last c)) (items_past W F out last ls n c 0) (either ((k == 0) && is_turn (ends last c)) [] (jump (enclosing ls k) ∷ []) tt (tt, tt)) (past_code c 0 last ls n)
+      past_code (Return p c) done last ls n =
+          joined (returning F p out (is_end (ends last c))) (items_past W F out last ls n c 0)
+          (joined (giving F p) (cond (is_end (ends last c)) [] (jump out ∷ [])) (giving_code p) (either (is_end (ends last c)) [] (jump out ∷ []) tt (tt, tt)))
+          (past_code c 0 last ls n)
+
+      part_code : (c : NodesT Where) (ls : List ℕ) (n : ℕ) → AreCode (part_items W F out ls n c)
+      part_code Stop ls n = tt
+      part_code (Do o c) ls n = part_code c ls n
+      part_code (Call t g args c) ls n = part_code c ls n
+      part_code (Choose p a b c) ls n = past_code a 0 Turn ls (n + 1)
+      part_code (Block b c) ls n = tt
+      part_code (Loop b c) ls n = tt
+      part_code (Leave k c) ls n = tt
+      part_code (Again k c) ls n = tt
+      part_code (Return p c) ls n = tt
 
 -- ---- functions
 
@@ -195,4 +231,4 @@ pub own_code : (W : Whole) (f n : ℕ) (body : NodesT Where) → AreCode (own_it
 own_code W f n body =
     let F = W.frames f in
     let items = code_items W F n [] (n + 1) body in
-    joined (frame_made F.size) (items ++ exit_items n F) (made_code F.size) (joined items (exit_items n F) (past_code W F n body 0 true [] (n + 1)) (tt, gone_code F.size))
+    joined (frame_made F.size) (items ++ exit_items n F) (made_code F.size) (joined items (exit_items n F) (past_code W F n body 0 End [] (n + 1)) (tt, gone_code F.size))

@@ -23,7 +23,9 @@ use Rattle.asm_laws.specs.Labelled.{HasLabel}
 use Rattle.asm_laws.specs.Moves.{Move, in_order}
 use Rattle.asm_laws.specs.Operations.{Frame, Whole, register, keep, fetches, keeps, keeps_some, is_in, hand, brings, takes, aim, lays, moves, changes, is_direct, in_place, apart, turned, is_turned, turned_or_apart, computes, slot_arg, slot_args, moved_items, args_items, call_items, op_items, in_one, one_or_more, more_of, giving}
 use Rattle.asm_laws.specs.Framing.{frame_made, frame_gone}
-use Rattle.asm_laws.specs.inner.Emitted.{labels, enclosing, jump, jump_unless, mark, first_part, second_part, choice, one_way, alone, left_to, ends, jump_when, is_stop, enclosed, returning, items_past, code_items, call_item, own_items, exit_items}
+use Rattle.asm_laws.specs.declared.behind.Behind.{Behind}
+use Rattle.asm_laws.specs.declared.behind.Behind.TheVariants.{Other, End}
+use Rattle.asm_laws.specs.inner.Emitted.{labels, enclosing, jump, jump_unless, mark, first_part, second_part, choice, one_way, alone, left_to, ends, jump_when, is_stop, enclosed, returning, items_past, code_items, call_item, own_items, exit_items, inside, is_end}
 use Rattle.asm_emit.specs.EmittedFrom.{IsCalled, GoesOn, AllGoOn}
 use Rattle.asm_laws.proofs.Enclosing.{innermost, further}
 use Rattle.asm_laws.proofs.InOne.{one_or_more_is}
@@ -218,7 +220,7 @@ module _ (names : List (List ℕ)) (body : NodesT Where) where
     deeper ls n bs b same = let h = length-append ls (n ∷ []) in omega (arith, h, same)
 
     module _ (out : ℕ) where
-      past_ahead : (c : NodesT Where) (done : ℕ) (last : Bool) (bs : List Bool) (ls : List ℕ) (n : ℕ) (later : List AsmItem) → AreNodes x m bs c → length ls ≡ length bs → NoLoop bs → loops c ≡ 0 → n + labels c < 2 ^ 32 - 1 →
+      past_ahead : (c : NodesT Where) (done : ℕ) (last : Behind) (bs : List Bool) (ls : List ℕ) (n : ℕ) (later : List AsmItem) → AreNodes x m bs c → length ls ≡ length bs → NoLoop bs → loops c ≡ 0 → n + labels c < 2 ^ 32 - 1 →
           ((g : ℕ) → CallsTo g c → CallsTo g body) → Ends ls later → HasLabel later (jump_label out) → Ahead (items_past W F out last ls n c done) later
       past_ahead Stop done last bs ls n later ok same nl none few calls on over = tt
       past_ahead (Do o c) zero last bs ls n later ok same nl none few calls on over =
@@ -231,7 +233,7 @@ module _ (names : List (List ℕ)) (body : NodesT Where) where
       past_ahead (Choose p a b c) done last bs ls n later ok same nl none few calls on over =
           let w = n + 1 + labels a in
           let one = items_past W F out (ends last c) ls (n + 1) a 0 in
-          let first = items_past W F out false ls (n + 1) a 0 in
+          let first = items_past W F out Other ls (n + 1) a 0 in
           let two = items_past W F out (ends last c) ls (w + 1) b 0 in
           let rest = items_past W F out last ls (n + (2 + labels a + labels b)) c 0 in
           let after = rest ++ later in
@@ -240,19 +242,19 @@ module _ (names : List (List ℕ)) (body : NodesT Where) where
           ahead_append (cond (is_stop b) (alone F p n (left_to ls a) one) (choice F p n w first two)) rest later
           (chosen_ahead p n w (is_stop b) (left_to ls a) one first two after (left_ahead a bs ls after ok.0 same ends1)
           (λ is. past_ahead a 0 (ends last c) bs ls (n + 1) ((mark n ∷ []) ++ after) ok.0 same nl (omega (arith, none)) (omega (arith, few)) (λ h k. calls h (inl k)) (ends_later ls (mark n ∷ []) after ends1) (marked_right (mark n ∷ []) after (jump_label out) over1))
-          (past_ahead a 0 false bs ls (n + 1) ((jump w ∷ mark n ∷ []) ++ (second_part w two ++ after)) ok.0 same nl (omega (arith, none)) (omega (arith, few)) (λ h k. calls h (inl k))
+          (past_ahead a 0 Other bs ls (n + 1) ((jump w ∷ mark n ∷ []) ++ (second_part w two ++ after)) ok.0 same nl (omega (arith, none)) (omega (arith, few)) (λ h k. calls h (inl k))
           (ends_later ls (jump w ∷ mark n ∷ []) (second_part w two ++ after) (ends_later ls (second_part w two) after ends1))
           (marked_right (jump w ∷ mark n ∷ []) (second_part w two ++ after) (jump_label out) (marked_right (second_part w two) after (jump_label out) over1)))
           (past_ahead b 0 (ends last c) bs ls (w + 1) ((mark w ∷ []) ++ after) ok.1 same nl (omega (arith, none)) (omega (arith, few)) (λ h k. calls h (inr (inl k))) (ends_later ls (mark w ∷ []) after ends1) (marked_right (mark w ∷ []) after (jump_label out) over1)))
           (past_ahead c 0 last bs ls (n + (2 + labels a + labels b)) later ok.2 same nl (omega (arith, none)) (omega (arith, few)) (λ h k. calls h (inr (inr k))) on over)
       past_ahead (Block b c) done last bs ls n later ok same nl none few calls on over =
-          let one = items_past W F out (ends last c) (ls ++ n ∷ []) (n + 2) b 0 in
+          let one = items_past W F out (inside (ends last c)) (ls ++ n ∷ []) (n + 2) b 0 in
           let rest = items_past W F out last ls (n + (2 + labels b)) c 0 in
           let after = rest ++ later in
           let ends1 = ends_later ls (mark (n + 1) ∷ []) after (ends_later ls rest later on) in
-          let inside = past_ahead b 0 (ends last c) (false ∷ bs) (ls ++ n ∷ []) (n + 2) ((mark (n + 1) ∷ []) ++ after) ok.0 (deeper ls n bs false same) (no_loop bs nl) (omega (arith, none)) (omega (arith, few)) (λ h k. calls h (inl k))
+          let within = past_ahead b 0 (inside (ends last c)) (false ∷ bs) (ls ++ n ∷ []) (n + 2) ((mark (n + 1) ∷ []) ++ after) ok.0 (deeper ls n bs false same) (no_loop bs nl) (omega (arith, none)) (omega (arith, few)) (λ h k. calls h (inl k))
           (ends_inside ls n ((mark (n + 1) ∷ []) ++ after) (omega (arith, few)) ends1 (inl refl)) (marked_right (mark (n + 1) ∷ []) after (jump_label out) (marked_right rest later (jump_label out) over)) in
-          ahead_append (enclosed n one) rest later (tt, ahead_append one (mark (n + 1) ∷ []) after inside (tt, tt))
+          ahead_append (enclosed n one) rest later (tt, ahead_append one (mark (n + 1) ∷ []) after within (tt, tt))
           (past_ahead c 0 last bs ls (n + (2 + labels b)) later ok.1 same nl (omega (arith, none)) (omega (arith, few)) (λ h k. calls h (inr k)) on over)
       past_ahead (Loop b c) done last bs ls n later ok same nl none few calls on over = absurd (omega (arith, none))
       past_ahead (Leave k c) done last bs ls n later ok same nl none few calls on over =
@@ -261,12 +263,12 @@ module _ (names : List (List ℕ)) (body : NodesT Where) where
       past_ahead (Again k c) done last bs ls n later ok same nl none few calls on over = absurd (nl k ok.0)
       past_ahead (Return p c) done last bs ls n later ok same nl none few calls on over =
           let rest = items_past W F out last ls n c 0 in
-          ahead_append (returning F p out (ends last c)) rest later (ahead_append (giving F p) (cond (ends last c) [] (jump out ∷ [])) (rest ++ later) (giving_ahead p _) (one_of_both (ends last c) [] (jump out ∷ []) (rest ++ later) tt (marked_right rest later (jump_label out) over, tt)))
+          ahead_append (returning F p out (is_end (ends last c))) rest later (ahead_append (giving F p) (cond (is_end (ends last c)) [] (jump out ∷ [])) (rest ++ later) (giving_ahead p _) (one_of_both (is_end (ends last c)) [] (jump out ∷ []) (rest ++ later) tt (marked_right rest later (jump_label out) over, tt)))
           (past_ahead c 0 last bs ls n later ok same nl none few calls on over)
 
       pub code_ahead : (c : NodesT Where) (bs : List Bool) (ls : List ℕ) (n : ℕ) (later : List AsmItem) → AreNodes x m bs c → length ls ≡ length bs → NoLoop bs → loops c ≡ 0 → n + labels c < 2 ^ 32 - 1 →
           ((g : ℕ) → CallsTo g c → CallsTo g body) → Ends ls later → HasLabel later (jump_label out) → Ahead (code_items W F out ls n c) later
-      code_ahead c bs ls n later ok same nl none few calls on over = past_ahead c 0 true bs ls n later ok same nl none few calls on over
+      code_ahead c bs ls n later ok same nl none few calls on over = past_ahead c 0 End bs ls n later ok same nl none few calls on over
 
   made_ahead : (size : ℕ) (later : List AsmItem) → Ahead (frame_made size) later
   made_ahead size later = one_of_both (size == 0) [] (item.Op (instr.One PUSH 14) ∷ item.Op (instr.Mov (RegReg 14 15)) ∷ item.Op (instr.Two ISUB 15 (src.Imm (Left size))) ∷ []) later tt (tt, (tt, (tt, tt)))

@@ -1,5 +1,5 @@
 -- The items of nodes in memory are those of the plain nodes.
-use Rattle.std.proofs.Common.{◌≡◌, ℕ, zero, suc, ◌+◌, ◌-◌, List, [], ◌∷◌, ◌++◌, refl, sym, ap, ◌∙◌, arith, Bool, true, false, cond, Option, Some, None}
+use Rattle.std.proofs.Common.{◌≡◌, ℕ, zero, suc, ◌+◌, ◌-◌, List, [], ◌∷◌, ◌++◌, refl, sym, ap, ◌∙◌, arith, Bool, true, false, cond, Option, Some, None, append_assoc}
 use Rattle.std.specs.Prelude.{◌==◌, ◌&&◌}
 use Rattle.std.proofs.lemmas.Bool.Decides.{nat_tests}
 use Rattle.kit_base.specs.Word.{add}
@@ -9,11 +9,13 @@ use Rattle.asm_items.specs.Items.{Imm}
 use Rattle.mid_code.specs.declared.placed.Where.{Where}
 use Rattle.mid_code.specs.declared.node.Op.{Op}
 use Rattle.mid_code.specs.declared.node.Op.TheVariants as op
-use Rattle.mid_code.specs.Code.{OpT, ConstO, NullO, MoveO, OneO, TwoO, GlobalO, LocalO, LiteralO, CardO, StepO, ApartO, PtrTestO, LoadO, StoreO, FreshO, EndO, InO, OutO, WaitO, HaltO, NodesT, Do, Call, Leave}
+use Rattle.mid_code.specs.Code.{OpT, ConstO, NullO, MoveO, OneO, TwoO, GlobalO, LocalO, LiteralO, CardO, StepO, ApartO, PtrTestO, LoadO, StoreO, FreshO, EndO, InO, OutO, WaitO, HaltO, NodesT, Do, Call, Leave, Stop}
 use Rattle.mid_code.specs.Functions.{op_before, NodeT, DoN, ChooseN, BlockN, LoopN, LeaveN, AgainN, ReturnN, ListT, NoN, MoreN, before, joined}
-use Rattle.asm_laws.specs.Operations.{Frame, Whole, op_items, in_one, one_or_more, more_of, call_items}
-use Rattle.asm_laws.specs.inner.Emitted.{labels, enclosing, jump, alone, left_to, ends, is_stop, choice, enclosed, returning, items_past, code_items}
-use Rattle.asm_emit.specs.inner.Listed.{left_in, node_labels, list_labels, is_none, do_items, ahead_items, ahead_more, front_items, front_more, onward, node_items, list_past, list_items}
+use Rattle.asm_laws.specs.Operations.{Frame, Whole, op_items, in_one, one_or_more, more_of, call_items, hand, brings}
+use Rattle.asm_laws.specs.declared.behind.Behind.{Behind}
+use Rattle.asm_laws.specs.declared.behind.Behind.TheVariants.{Other, End, Turn}
+use Rattle.asm_laws.specs.inner.Emitted.{labels, enclosing, jump, alone, left_to, ends, is_stop, choice, enclosed, returning, items_past, code_items, inside, is_end, again, looped, is_round, is_tested, part_items, test_items, jump_when}
+use Rattle.asm_emit.specs.inner.Listed.{left_in, node_labels, list_labels, is_none, do_items, ahead_items, ahead_more, front_items, front_more, onward, node_items, list_past, list_items, is_call, is_again, round_in, is_test, tested_in, part_labels, own_test, list_test, list_part}
 
 -- an operation before nodes is a node of its own, or a call
 op_parts : (Q : NodesT Where → NodesT Where → Type 0) → ((o : OpT Where) (c : NodesT Where) → Q c (Do o c)) → ((t : Option Where) (f : ℕ) (args : List Where) (c : NodesT Where) → Q c (Call t f args c)) → (o : Op Where) (c : NodesT Where) → Q c (op_before o c)
@@ -75,6 +77,86 @@ left_alike ls (MoreN (LeaveN k) (MoreN x rest)) = left_none ls k x (joined rest)
 left_alike ls (MoreN (AgainN k) rest) = refl
 left_alike ls (MoreN (ReturnN p) rest) = refl
 
+-- ---- loops that are rotated
+
+tested_op : (o : Op Where) (c : NodesT Where) → is_tested (op_before o c) ≡ cond (is_call o) false (is_tested c)
+tested_op (op.Const t word) c = refl
+tested_op (op.Null t) c = refl
+tested_op (op.Move t a) c = refl
+tested_op (op.One o t a) c = refl
+tested_op (op.Two o t a b) c = refl
+tested_op (op.Global t k) c = refl
+tested_op (op.Local t k) c = refl
+tested_op (op.Literal t k) c = refl
+tested_op (op.Card t) c = refl
+tested_op (op.Step t p s) c = refl
+tested_op (op.Apart t p q) c = refl
+tested_op (op.PtrTest o t p q) c = refl
+tested_op (op.Load t p) c = refl
+tested_op (op.Store p a) c = refl
+tested_op (op.Fresh k) c = refl
+tested_op (op.End k) c = refl
+tested_op (op.Call t f args) c = refl
+tested_op (op.In t p) c = refl
+tested_op (op.Out p a) c = refl
+tested_op op.Wait c = refl
+tested_op op.Halt c = refl
+
+none_round : (xs : ListT Where) → round_in xs ≡ cond (is_none xs) false (round_in xs)
+none_round NoN = refl
+none_round (MoreN x rest) = refl
+
+round_op : (o : Op Where) (c : NodesT Where) → is_round (op_before o c) ≡ is_round c
+round_op o c = op_parts (λ c n. is_round n ≡ is_round c) (λ o c. refl) (λ t f args c. refl) o c
+
+round_alike : (xs : ListT Where) → is_round (joined xs) ≡ round_in xs
+round_alike NoN = refl
+round_alike (MoreN (DoN o) rest) = round_op o (joined rest) ∙ round_alike rest ∙ none_round rest
+round_alike (MoreN (ChooseN p a b) rest) = round_alike rest ∙ none_round rest
+round_alike (MoreN (BlockN b) rest) = round_alike rest ∙ none_round rest
+round_alike (MoreN (LoopN b) rest) = round_alike rest ∙ none_round rest
+round_alike (MoreN (LeaveN k) rest) = round_alike rest ∙ none_round rest
+round_alike (MoreN (AgainN k) rest) = let st = stops_alike rest in let r = round_alike rest in λ i. cond (st i) (k == 0) (r i)
+round_alike (MoreN (ReturnN p) rest) = round_alike rest ∙ none_round rest
+
+tested_alike : (xs : ListT Where) → is_tested (joined xs) ≡ tested_in xs
+tested_alike NoN = refl
+tested_alike (MoreN (DoN o) rest) = tested_op o (joined rest) ∙ ap (λ b. cond (is_call o) false b) (tested_alike rest)
+tested_alike (MoreN (ChooseN p a b) rest) = let sb = stops_alike b in let st = stops_alike rest in let r = round_alike a in λ i. sb i && (st i && r i)
+tested_alike (MoreN (BlockN b) rest) = refl
+tested_alike (MoreN (LoopN b) rest) = refl
+tested_alike (MoreN (LeaveN k) rest) = refl
+tested_alike (MoreN (AgainN k) rest) = refl
+tested_alike (MoreN (ReturnN p) rest) = refl
+
+no_labels : (xs : ListT Where) → is_none xs ≡ true → list_labels xs ≡ 0
+no_labels NoN e = refl
+no_labels (MoreN x rest) e = absurd cc
+
+pub tested_labels : (xs : ListT Where) → tested_in xs ≡ true → list_labels xs ≡ 2 + part_labels xs
+tested_labels NoN e = absurd cc
+tested_labels (MoreN (DoN o) rest) e = let r = tested_labels rest (behind_op (is_call o) (tested_in rest) e) in omega (arith, r)
+  where
+    behind_op : (b c : Bool) → cond b false c ≡ true → c ≡ true
+    behind_op true c e = absurd cc
+    behind_op false c e = e
+tested_labels (MoreN (ChooseN p a b) rest) e =
+    let x = both (is_none b) (is_none rest && round_in a) e in
+    let y = both (is_none rest) (round_in a) x.1 in
+    let lb = no_labels b x.0 in
+    let lr = no_labels rest y.0 in
+    omega (arith, lb, lr)
+  where
+    both : (p q : Bool) → p && q ≡ true → (p ≡ true) × (q ≡ true)
+    both true true e = (refl, refl)
+    both true false e = absurd cc
+    both false q e = absurd cc
+tested_labels (MoreN (BlockN b) rest) e = absurd cc
+tested_labels (MoreN (LoopN b) rest) e = absurd cc
+tested_labels (MoreN (LeaveN k) rest) e = absurd cc
+tested_labels (MoreN (AgainN k) rest) e = absurd cc
+tested_labels (MoreN (ReturnN p) rest) e = absurd cc
+
 mutual
   node_counts : (x : NodeT Where) (c : NodesT Where) → labels (before x c) ≡ node_labels x + labels c
   node_counts (DoN o) c = let e = op_labels o c in omega (arith, e)
@@ -93,21 +175,21 @@ not_zero : (k : ℕ) → (suc k == 0) ≡ false
 not_zero k = grind (arith, nat_tests)
 
 module _ (W : Whole) (F : Frame) (out : ℕ) where
-  abbrev items : (last : Bool) → List ℕ → ℕ → NodesT Where → (done : ℕ) → List AsmItem
+  abbrev items : (last : Behind) → List ℕ → ℕ → NodesT Where → (done : ℕ) → List AsmItem
   items = items_past W F out
 
-  nothing : (last : Bool) (ls : List ℕ) (n : ℕ) (c : NodesT Where) → items last ls n c 0 ≡ items last ls (n + 0) c 0
+  nothing : (last : Behind) (ls : List ℕ) (n : ℕ) (c : NodesT Where) → items last ls n c 0 ≡ items last ls (n + 0) c 0
   nothing last ls n c = let z : n ≡ n + 0 = omega arith in ap (λ k. items last ls k c 0) z
 
   -- what comes of nodes whose first is a node with these items and so many labels
-  abbrev On : (last : Bool) → NodesT Where → ℕ → List AsmItem → List ℕ → ℕ → ℕ → NodesT Where → List AsmItem
+  abbrev On : (last : Behind) → NodesT Where → ℕ → List AsmItem → List ℕ → ℕ → ℕ → NodesT Where → List AsmItem
   On last first k own ls n m c = front_items W F first k ++ onward (front_more W F first k) own (items last ls n c) (items last ls (n + m) c 0)
 
-  done_are : (o : OpT Where) (r : Option (ℕ × Option (Instr Imm) × Instr Imm)) (last : Bool) (ls : List ℕ) (n : ℕ) (c : NodesT Where) → one_or_more W F o r ++ items last ls n c (more_of r) ≡ ahead_items r ++ onward (ahead_more r) (op_items W F o) (items last ls n c) (items last ls (n + 0) c 0)
+  done_are : (o : OpT Where) (r : Option (ℕ × Option (Instr Imm) × Instr Imm)) (last : Behind) (ls : List ℕ) (n : ℕ) (c : NodesT Where) → one_or_more W F o r ++ items last ls n c (more_of r) ≡ ahead_items r ++ onward (ahead_more r) (op_items W F o) (items last ls n c) (items last ls (n + 0) c 0)
   done_are o None last ls n c = ap (λ xs. op_items W F o ++ xs) (nothing last ls n c)
   done_are o (Some (more, first, i)) last ls n c = refl
 
-  plain_are : (o : OpT Where) (last : Bool) (ls : List ℕ) (n : ℕ) (c : NodesT Where) (k : ℕ) → items last ls n (Do o c) k ≡ On last (Do o c) k (op_items W F o) ls n 0 c
+  plain_are : (o : OpT Where) (last : Behind) (ls : List ℕ) (n : ℕ) (c : NodesT Where) (k : ℕ) → items last ls n (Do o c) k ≡ On last (Do o c) k (op_items W F o) ls n 0 c
   plain_are o last ls n c zero = done_are o (in_one W F o c) last ls n c
   plain_are o last ls n c (suc k) =
       let e : k ≡ suc k - 1 = omega arith in
@@ -115,7 +197,7 @@ module _ (W : Whole) (F : Frame) (out : ℕ) where
       let r = in_one W F o c in
       ap (items last ls n c) e ∙ (λ i. cond (sym b i) (ahead_items r) [] ++ onward (cond (sym b i) (ahead_more r) (Some (suc k - 1))) (op_items W F o) (items last ls n c) (items last ls (n + 0) c 0))
 
-  op_are : (o : Op Where) (last : Bool) (ls : List ℕ) (n : ℕ) (c : NodesT Where) (k : ℕ) → items last ls n (op_before o c) k ≡ On last (op_before o c) k (do_items W F o) ls n 0 c
+  op_are : (o : Op Where) (last : Behind) (ls : List ℕ) (n : ℕ) (c : NodesT Where) (k : ℕ) → items last ls n (op_before o c) k ≡ On last (op_before o c) k (do_items W F o) ls n 0 c
   op_are (op.Const t word) last ls n c k = plain_are (ConstO t word) last ls n c k
   op_are (op.Null t) last ls n c k = plain_are (NullO t) last ls n c k
   op_are (op.Move t a) last ls n c k = plain_are (MoveO t a) last ls n c k
@@ -138,42 +220,116 @@ module _ (W : Whole) (F : Frame) (out : ℕ) where
   op_are op.Wait last ls n c k = plain_are WaitO last ls n c k
   op_are op.Halt last ls n c k = plain_are HaltO last ls n c k
 
+  abbrev tests : (to : ℕ) → NodesT Where → (done : ℕ) → List AsmItem
+  tests = test_items W F out
+
+  done_test : (o : OpT Where) (r : Option (ℕ × Option (Instr Imm) × Instr Imm)) (to : ℕ) (c : NodesT Where) → one_or_more W F o r ++ tests to c (more_of r) ≡ ahead_items r ++ onward (ahead_more r) (op_items W F o) (tests to c) (tests to c 0)
+  done_test o None to c = refl
+  done_test o (Some (more, first, i)) to c = refl
+
+  -- what comes of nodes whose first is a node with these items
+  abbrev Tests : NodesT Where → ℕ → List AsmItem → ℕ → NodesT Where → List AsmItem
+  Tests first k own to c = front_items W F first k ++ onward (front_more W F first k) own (tests to c) (tests to c 0)
+
+  plain_test : (o : OpT Where) (to : ℕ) (c : NodesT Where) (k : ℕ) → tests to (Do o c) k ≡ Tests (Do o c) k (op_items W F o) to c
+  plain_test o to c zero = done_test o (in_one W F o c) to c
+  plain_test o to c (suc k) =
+      let e : k ≡ suc k - 1 = omega arith in
+      let b = not_zero k in
+      let r = in_one W F o c in
+      ap (tests to c) e ∙ (λ i. cond (sym b i) (ahead_items r) [] ++ onward (cond (sym b i) (ahead_more r) (Some (suc k - 1))) (op_items W F o) (tests to c) (tests to c 0))
+
+  test_op : (o : Op Where) (to : ℕ) (c : NodesT Where) (k : ℕ) → tests to (op_before o c) k ≡ Tests (op_before o c) k (do_items W F o) to c
+  test_op (op.Const t word) to c k = plain_test (ConstO t word) to c k
+  test_op (op.Null t) to c k = plain_test (NullO t) to c k
+  test_op (op.Move t a) to c k = plain_test (MoveO t a) to c k
+  test_op (op.One o t a) to c k = plain_test (OneO o t a) to c k
+  test_op (op.Two o t a b) to c k = plain_test (TwoO o t a b) to c k
+  test_op (op.Global t i) to c k = plain_test (GlobalO t i) to c k
+  test_op (op.Local t i) to c k = plain_test (LocalO t i) to c k
+  test_op (op.Literal t i) to c k = plain_test (LiteralO t i) to c k
+  test_op (op.Card t) to c k = plain_test (CardO t) to c k
+  test_op (op.Step t p s) to c k = plain_test (StepO t p s) to c k
+  test_op (op.Apart t p q) to c k = plain_test (ApartO t p q) to c k
+  test_op (op.PtrTest o t p q) to c k = plain_test (PtrTestO o t p q) to c k
+  test_op (op.Load t p) to c k = plain_test (LoadO t p) to c k
+  test_op (op.Store p a) to c k = plain_test (StoreO p a) to c k
+  test_op (op.Fresh i) to c k = plain_test (FreshO i) to c k
+  test_op (op.End i) to c k = plain_test (EndO i) to c k
+  test_op (op.Call t f args) to c k = refl
+  test_op (op.In t p) to c k = plain_test (InO t p) to c k
+  test_op (op.Out p a) to c k = plain_test (OutO p a) to c k
+  test_op op.Wait to c k = plain_test WaitO to c k
+  test_op op.Halt to c k = plain_test HaltO to c k
+
+  node_test : (x : NodeT Where) (to : ℕ) (c : NodesT Where) (k : ℕ) → tests to (before x c) k ≡ Tests (before x c) k (own_test W F to x) to c
+  node_test (DoN o) to c k = test_op o to c k
+  node_test (ChooseN p a b) to c k = sym (append_assoc (brings F p 9) (jump_when (hand p 9) to ∷ []) (tests to c 0))
+  node_test (BlockN b) to c k = refl
+  node_test (LoopN b) to c k = refl
+  node_test (LeaveN j) to c k = refl
+  node_test (AgainN j) to c k = refl
+  node_test (ReturnN p) to c k = refl
+
+  test_are : (to : ℕ) (xs : ListT Where) (k : ℕ) → tests to (joined xs) k ≡ list_test W F to xs k
+  test_are to NoN k = refl
+  test_are to (MoreN x rest) k =
+      let first = before x (joined rest) in
+      let on : (j : ℕ) → tests to (joined rest) j ≡ list_test W F to rest j = test_are to rest in
+      node_test x to (joined rest) k ∙ (λ i. front_items W F first k ++ onward (front_more W F first k) (own_test W F to x) (λ j. on j i) (on 0 i))
+
+  part_op : (o : Op Where) (ls : List ℕ) (n : ℕ) (c : NodesT Where) → part_items W F out ls n (op_before o c) ≡ part_items W F out ls n c
+  part_op o ls n c = op_parts (λ c m. part_items W F out ls n m ≡ part_items W F out ls n c) (λ o c. refl) (λ t f args c. refl) o c
+
   mutual
-    node_are : (x : NodeT Where) (last : Bool) (ls : List ℕ) (n : ℕ) (c : NodesT Where) (k : ℕ) → items last ls n (before x c) k ≡ On last (before x c) k (node_items W F out (ends last c) ls n x) ls n (node_labels x) c
+    node_are : (x : NodeT Where) (last : Behind) (ls : List ℕ) (n : ℕ) (c : NodesT Where) (k : ℕ) → items last ls n (before x c) k ≡ On last (before x c) k (node_items W F out (ends last c) ls n x) ls n (node_labels x) c
     node_are (DoN o) last ls n c k = op_are o last ls n c k
     node_are (ChooseN p a b) last ls n c k =
         let la = list_counts a in
         let lb = list_counts b in
         let one = past_are a (ends last c) ls (n + 1) 0 in
-        let first = past_are a false ls (n + 1) 0 in
+        let first = past_are a Other ls (n + 1) 0 in
         let le = left_alike ls a in
         let two = past_are b (ends last c) ls (n + 1 + list_labels a + 1) 0 in
         let st = stops_alike b in
-        (λ i. cond (st i) (alone F p n (le i) (items (ends last c) ls (n + 1) (joined a) 0)) (choice F p n (n + 1 + la i) (items false ls (n + 1) (joined a) 0) (items (ends last c) ls (n + 1 + la i + 1) (joined b) 0)) ++ items last ls (n + (2 + la i + lb i)) c 0)
+        (λ i. cond (st i) (alone F p n (le i) (items (ends last c) ls (n + 1) (joined a) 0)) (choice F p n (n + 1 + la i) (items Other ls (n + 1) (joined a) 0) (items (ends last c) ls (n + 1 + la i + 1) (joined b) 0)) ++ items last ls (n + (2 + la i + lb i)) c 0)
         ∙ (λ i. cond (is_none b) (alone F p n (left_in ls a) (one i)) (choice F p n (n + 1 + list_labels a) (first i) (two i)) ++ items last ls (n + (2 + list_labels a + list_labels b)) c 0)
     node_are (BlockN b) last ls n c k =
         let lb = list_counts b in
-        let one = past_are b (ends last c) (ls ++ n ∷ []) (n + 2) 0 in
+        let one = past_are b (inside (ends last c)) (ls ++ n ∷ []) (n + 2) 0 in
         λ i. enclosed n (one i) ++ items last ls (n + (2 + lb i)) c 0
     node_are (LoopN b) last ls n c k =
         let lb = list_counts b in
-        let one = past_are b (ends last c) (ls ++ n ∷ []) (n + 2) 0 in
-        λ i. enclosed n (one i) ++ items last ls (n + (2 + lb i)) c 0
+        let te = tested_alike b in
+        let all = past_are b (inside (ends last c)) (ls ++ n ∷ []) (n + 2) 0 in
+        let part = part_are b (ls ++ n ∷ []) (n + 2) in
+        let test = test_are (n + 2) b 0 in
+        λ i. looped (te i) n (all i) (part i) (test i) ++ items last ls (n + (2 + lb i)) c 0
     node_are (LeaveN j) last ls n c k = ap (λ xs. jump (add (enclosing ls j) 1) ∷ xs) (nothing last ls n c)
-    node_are (AgainN j) last ls n c k = ap (λ xs. jump (enclosing ls j) ∷ xs) (nothing last ls n c)
-    node_are (ReturnN p) last ls n c k = ap (λ xs. returning F p out (ends last c) ++ xs) (nothing last ls n c)
+    node_are (AgainN j) last ls n c k = ap (λ xs. again ls j (ends last c) ++ xs) (nothing last ls n c)
+    node_are (ReturnN p) last ls n c k = ap (λ xs. returning F p out (is_end (ends last c)) ++ xs) (nothing last ls n c)
 
-    past_are : (xs : ListT Where) (last : Bool) (ls : List ℕ) (n k : ℕ) → items last ls n (joined xs) k ≡ list_past W F out last ls n xs k
+    past_are : (xs : ListT Where) (last : Behind) (ls : List ℕ) (n k : ℕ) → items last ls n (joined xs) k ≡ list_past W F out last ls n xs k
     past_are NoN last ls n k = refl
     past_are (MoreN x rest) last ls n k =
         let first = before x (joined rest) in
         let on : (j : ℕ) → items last ls n (joined rest) j ≡ list_past W F out last ls n rest j = past_are rest last ls n in
         let anew = past_are rest last ls (n + node_labels x) 0 in
         let st = stops_alike rest in
-        node_are x last ls n (joined rest) k ∙ (λ i. front_items W F first k ++ onward (front_more W F first k) (node_items W F out (st i && last) ls n x) (λ j. on j i) (anew i))
+        node_are x last ls n (joined rest) k ∙ (λ i. front_items W F first k ++ onward (front_more W F first k) (node_items W F out (cond (st i) last Other) ls n x) (λ j. on j i) (anew i))
+
+    part_are : (xs : ListT Where) (ls : List ℕ) (n : ℕ) → part_items W F out ls n (joined xs) ≡ list_part W F out ls n xs
+    part_are NoN ls n = refl
+    part_are (MoreN (DoN o) rest) ls n = part_op o ls n (joined rest) ∙ part_are rest ls n
+    part_are (MoreN (ChooseN p a b) rest) ls n = past_are a Turn ls (n + 1) 0
+    part_are (MoreN (BlockN b) rest) ls n = refl
+    part_are (MoreN (LoopN b) rest) ls n = refl
+    part_are (MoreN (LeaveN k) rest) ls n = refl
+    part_are (MoreN (AgainN k) rest) ls n = refl
+    part_are (MoreN (ReturnN p) rest) ls n = refl
 
   pub list_are : (xs : ListT Where) (ls : List ℕ) (n : ℕ) → code_items W F out ls n (joined xs) ≡ list_items W F out ls n xs
-  list_are xs ls n = past_are xs true ls n 0
+  list_are xs ls n = past_are xs End ls n 0
 
 -- nodes that only leave a block or loop take no labels
 pub left_labels : (ls : List ℕ) (xs : ListT Where) (l : ℕ) → left_in ls xs ≡ Some l → list_labels xs ≡ 0

@@ -1,6 +1,6 @@
 -- The items of placed code can be written as text and read again.
 use Rattle.std.proofs.Common.{◌≡◌, ℕ, zero, suc, ◌+◌, ◌%◌, ◌^◌, ◌<◌, Bool, true, false, List, [], ◌∷◌, ◌++◌, map, length, Option, Some, None, subst, arith}
-use Rattle.std.specs.Prelude.{◌==◌, cond, get_or, All}
+use Rattle.std.specs.Prelude.{◌==◌, ◌&&◌, cond, get_or, All}
 use Rattle.std.specs.List.{list_all}
 use Rattle.std.proofs.lemmas.List.Elements.{All-nil, All-cons}
 use Rattle.kit_base.specs.Word.{add, sub}
@@ -25,7 +25,9 @@ use Rattle.mid_code.specs.Invariants.{AllOf, IsOp, AreNodes}
 use Rattle.asm_laws.specs.Moves.{Move, in_order}
 use Rattle.asm_laws.specs.Operations.{Frame, Whole, register, keep, fetches, keeps, keeps_some, is_in, hand, brings, takes, aim, lays, moves, changes, is_direct, in_place, apart, turned, is_turned, turned_or_apart, computes, slot_arg, slot_args, moved_items, args_items, call_items, op_items, in_one, one_or_more, more_of, giving, start_frame, opening_items, literal_items, literals_items}
 use Rattle.asm_laws.specs.Framing.{frame_made, frame_gone}
-use Rattle.asm_laws.specs.inner.Emitted.{labels, enclosing, jump, jump_unless, mark, first_part, second_part, choice, alone, left_to, ends, jump_when, is_stop, enclosed, returning, items_past, code_items, exit_items, function_items, functions_items, closing_items, start_items, program_items}
+use Rattle.asm_laws.specs.declared.behind.Behind.{Behind}
+use Rattle.asm_laws.specs.declared.behind.Behind.TheVariants.{Other, End, Turn}
+use Rattle.asm_laws.specs.inner.Emitted.{labels, enclosing, jump, jump_unless, mark, first_part, second_part, choice, alone, left_to, ends, jump_when, is_stop, enclosed, returning, items_past, code_items, exit_items, function_items, functions_items, closing_items, start_items, program_items, inside, is_end, is_turn, again, rotated, looped, is_tested, part_items, test_items}
 use Rattle.asm_laws.proofs.InOne.{one_or_more_is}
 use Rattle.asm_emit.specs.inner.Words.{AreWords, TextsAreWords}
 use Rattle.asm_emit.proofs.ReadableLabels.{jump_named, literal_named, function_named}
@@ -217,24 +219,57 @@ module _ (x : CodeT Where) (W : Whole) (words : list_all is_word W.names ≡ tru
     enclosed_fine : (n : ℕ) (b : List AsmItem) → AllFine b → AllFine (enclosed n b)
     enclosed_fine n b h = (jump_named n, join b (mark (n + 1) ∷ []) h (jump_named (n + 1), tt))
 
+    rotated_fine : (n : ℕ) (part test : List AsmItem) → AllFine part → AllFine test → AllFine (rotated n part test)
+    rotated_fine n part test hp ht = ((jump_named n, tt), (jump_named (n + 2), join part (mark n ∷ (test ++ mark (n + 1) ∷ [])) hp (jump_named n, join test (mark (n + 1) ∷ []) ht (jump_named (n + 1), tt))))
+
     module _ (out : ℕ) where
-      past_fine : (c : NodesT Where) (done : ℕ) (last : Bool) (bs : List Bool) (ls : List ℕ) (n : ℕ) → AreNodes x m bs c → AllFine (items_past W F out last ls n c done)
-      past_fine Stop done last bs ls n ok = tt
-      past_fine (Do o c) zero last bs ls n ok = join (one_or_more W F o (in_one W F o c)) _ (one_or_more_fine o c ok.0) (past_fine c (more_of (in_one W F o c)) last bs ls n ok.1)
-      past_fine (Do o c) (suc done) last bs ls n ok = past_fine c done last bs ls n ok.1
-      past_fine (Call t g args c) done last bs ls n ok = join (call_items W F t g args) _ (call_fine t g args) (past_fine c 0 last bs ls n ok.1)
-      past_fine (Choose p a b c) done last bs ls n ok =
-          join (cond (is_stop b) (alone F p n (left_to ls a) (items_past W F out (ends last c) ls (n + 1) a 0)) (choice F p n (n + 1 + labels a) (items_past W F out false ls (n + 1) a 0) (items_past W F out (ends last c) ls (n + 1 + labels a + 1) b 0))) _
-          (chosen_fine p n (n + 1 + labels a) (is_stop b) (left_to ls a) (items_past W F out (ends last c) ls (n + 1) a 0) (items_past W F out false ls (n + 1) a 0) (items_past W F out (ends last c) ls (n + 1 + labels a + 1) b 0) (past_fine a 0 (ends last c) bs ls (n + 1) ok.0) (past_fine a 0 false bs ls (n + 1) ok.0) (past_fine b 0 (ends last c) bs ls (n + 1 + labels a + 1) ok.1))
-          (past_fine c 0 last bs ls (n + (2 + labels a + labels b)) ok.2)
-      past_fine (Block b c) done last bs ls n ok = join (enclosed n (items_past W F out (ends last c) (ls ++ n ∷ []) (n + 2) b 0)) _ (enclosed_fine n _ (past_fine b 0 (ends last c) (false ∷ bs) (ls ++ n ∷ []) (n + 2) ok.0)) (past_fine c 0 last bs ls (n + (2 + labels b)) ok.1)
-      past_fine (Loop b c) done last bs ls n ok = join (enclosed n (items_past W F out (ends last c) (ls ++ n ∷ []) (n + 2) b 0)) _ (enclosed_fine n _ (past_fine b 0 (ends last c) (true ∷ bs) (ls ++ n ∷ []) (n + 2) ok.0)) (past_fine c 0 last bs ls (n + (2 + labels b)) ok.1)
-      past_fine (Leave k c) done last bs ls n ok = ((jump_named (add (enclosing ls k) 1), tt), past_fine c 0 last bs ls n ok.1)
-      past_fine (Again k c) done last bs ls n ok = ((jump_named (enclosing ls k), tt), past_fine c 0 last bs ls n ok.1)
-      past_fine (Return p c) done last bs ls n ok = join (returning F p out (ends last c)) _ (join (giving F p) (cond (ends last c) [] (jump out ∷ [])) (giving_fine F p) (either (ends last c) [] (jump out ∷ []) tt ((jump_named out, tt), tt))) (past_fine c 0 last bs ls n ok)
+      test_fine : (to : ℕ) (c : NodesT Where) (done : ℕ) (bs : List Bool) → AreNodes x m bs c → AllFine (test_items W F out to c done)
+      test_fine to Stop done bs ok = tt
+      test_fine to (Do o c) zero bs ok = join (one_or_more W F o (in_one W F o c)) _ (one_or_more_fine o c ok.0) (test_fine to c (more_of (in_one W F o c)) bs ok.1)
+      test_fine to (Do o c) (suc done) bs ok = test_fine to c done bs ok.1
+      test_fine to (Call t g args c) done bs ok = join (call_items W F t g args) _ (call_fine t g args) (test_fine to c 0 bs ok.1)
+      test_fine to (Choose p a b c) done bs ok = join (brings F p 9) (jump_when (hand p 9) to ∷ test_items W F out to c 0) (brings_fine F p 9 (omega arith)) ((hand_fine p 9 (omega arith), (jump_named to, tt)), test_fine to c 0 bs ok.2)
+      test_fine to (Block b c) done bs ok = test_fine to c 0 bs ok.1
+      test_fine to (Loop b c) done bs ok = test_fine to c 0 bs ok.1
+      test_fine to (Leave k c) done bs ok = test_fine to c 0 bs ok.1
+      test_fine to (Again k c) done bs ok = test_fine to c 0 bs ok.1
+      test_fine to (Return p c) done bs ok = test_fine to c 0 bs ok
+
+      mutual
+        past_fine : (c : NodesT Where) (done : ℕ) (last : Behind) (bs : List Bool) (ls : List ℕ) (n : ℕ) → AreNodes x m bs c → AllFine (items_past W F out last ls n c done)
+        past_fine Stop done last bs ls n ok = tt
+        past_fine (Do o c) zero last bs ls n ok = join (one_or_more W F o (in_one W F o c)) _ (one_or_more_fine o c ok.0) (past_fine c (more_of (in_one W F o c)) last bs ls n ok.1)
+        past_fine (Do o c) (suc done) last bs ls n ok = past_fine c done last bs ls n ok.1
+        past_fine (Call t g args c) done last bs ls n ok = join (call_items W F t g args) _ (call_fine t g args) (past_fine c 0 last bs ls n ok.1)
+        past_fine (Choose p a b c) done last bs ls n ok =
+            join (cond (is_stop b) (alone F p n (left_to ls a) (items_past W F out (ends last c) ls (n + 1) a 0)) (choice F p n (n + 1 + labels a) (items_past W F out Other ls (n + 1) a 0) (items_past W F out (ends last c) ls (n + 1 + labels a + 1) b 0))) _
+            (chosen_fine p n (n + 1 + labels a) (is_stop b) (left_to ls a) (items_past W F out (ends last c) ls (n + 1) a 0) (items_past W F out Other ls (n + 1) a 0) (items_past W F out (ends last c) ls (n + 1 + labels a + 1) b 0) (past_fine a 0 (ends last c) bs ls (n + 1) ok.0) (past_fine a 0 Other bs ls (n + 1) ok.0) (past_fine b 0 (ends last c) bs ls (n + 1 + labels a + 1) ok.1))
+            (past_fine c 0 last bs ls (n + (2 + labels a + labels b)) ok.2)
+        past_fine (Block b c) done last bs ls n ok = join (enclosed n (items_past W F out (inside (ends last c)) (ls ++ n ∷ []) (n + 2) b 0)) _ (enclosed_fine n _ (past_fine b 0 (inside (ends last c)) (false ∷ bs) (ls ++ n ∷ []) (n + 2) ok.0)) (past_fine c 0 last bs ls (n + (2 + labels b)) ok.1)
+        past_fine (Loop b c) done last bs ls n ok =
+            let all = items_past W F out (inside (ends last c)) (ls ++ n ∷ []) (n + 2) b 0 in
+            let part = part_items W F out (ls ++ n ∷ []) (n + 2) b in
+            let test = test_items W F out (n + 2) b 0 in
+            join (looped (is_tested b) n all part test) _
+            (either (is_tested b) (rotated n part test) (enclosed n all) (rotated_fine n part test (part_fine b (true ∷ bs) (ls ++ n ∷ []) (n + 2) ok.0) (test_fine (n + 2) b 0 (true ∷ bs) ok.0)) (enclosed_fine n all (past_fine b 0 (inside (ends last c)) (true ∷ bs) (ls ++ n ∷ []) (n + 2) ok.0)))
+            (past_fine c 0 last bs ls (n + (2 + labels b)) ok.1)
+        past_fine (Leave k c) done last bs ls n ok = ((jump_named (add (enclosing ls k) 1), tt), past_fine c 0 last bs ls n ok.1)
+        past_fine (Again k c) done last bs ls n ok = join (again ls k (ends last c)) _ (either ((k == 0) && is_turn (ends last c)) [] (jump (enclosing ls k) ∷ []) tt ((jump_named (enclosing ls k), tt), tt)) (past_fine c 0 last bs ls n ok.1)
+        past_fine (Return p c) done last bs ls n ok = join (returning F p out (is_end (ends last c))) _ (join (giving F p) (cond (is_end (ends last c)) [] (jump out ∷ [])) (giving_fine F p) (either (is_end (ends last c)) [] (jump out ∷ []) tt ((jump_named out, tt), tt))) (past_fine c 0 last bs ls n ok)
+
+        part_fine : (c : NodesT Where) (bs : List Bool) (ls : List ℕ) (n : ℕ) → AreNodes x m bs c → AllFine (part_items W F out ls n c)
+        part_fine Stop bs ls n ok = tt
+        part_fine (Do o c) bs ls n ok = part_fine c bs ls n ok.1
+        part_fine (Call t g args c) bs ls n ok = part_fine c bs ls n ok.1
+        part_fine (Choose p a b c) bs ls n ok = past_fine a 0 Turn bs ls (n + 1) ok.0
+        part_fine (Block b c) bs ls n ok = tt
+        part_fine (Loop b c) bs ls n ok = tt
+        part_fine (Leave k c) bs ls n ok = tt
+        part_fine (Again k c) bs ls n ok = tt
+        part_fine (Return p c) bs ls n ok = tt
 
       code_fine : (c : NodesT Where) (bs : List Bool) (ls : List ℕ) (n : ℕ) → AreNodes x m bs c → AllFine (code_items W F out ls n c)
-      code_fine c bs ls n ok = past_fine c 0 true bs ls n ok
+      code_fine c bs ls n ok = past_fine c 0 End bs ls n ok
 
   function_fine : (f n : ℕ) (g : FunctionT Where) → (W.frames f).size < 2 ^ 32 → AreNodes x (length g.locals) [] g.body → AllFine (function_items W f n g.body)
   function_fine f n g small ok =

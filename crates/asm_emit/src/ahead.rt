@@ -237,7 +237,8 @@ fn in_one(w: &Around<'_>, s: &Scope<'_>, o: &Op<Where>, rest: &[Node<Where>]) ->
     }
 }
 
-fn is_call(o: &Op<Where>) -> bool
+/// Whether it is a call.
+pub(crate) fn is_call(o: &Op<Where>) -> bool
     ensures { result ≡ is_call o.now }
 {
     match o {

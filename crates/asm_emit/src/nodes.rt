@@ -1,19 +1,22 @@
 // Nodes.
-ghost use Rattle.std.specs.Prelude.{◌≡◌, ◌+◌, ◌-◌, ◌<◌, ◌^◌, ◌++◌, ◌∷◌, [], false, map, suc, length, get_or, OnOk, IfOk};
+ghost use Rattle.std.specs.Prelude.{◌≡◌, ◌+◌, ◌-◌, ◌<◌, ◌^◌, ◌++◌, ◌∷◌, [], true, map, suc, length, get_or, OnOk, IfOk};
 ghost use Rattle.kit_base.specs.Word.{add};
-ghost use Rattle.mid_code.specs.Functions.{node, nodes, listed, BlockN};
+ghost use Rattle.mid_code.specs.Functions.{node, nodes, listed, BlockN, LoopN};
 ghost use Rattle.asm_laws.specs.Operations.{giving, hand, brings};
+ghost use Rattle.asm_laws.specs.declared.behind.Behind.TheVariants.{Other, End, Turn};
 ghost use Rattle.asm_laws.specs.inner.Emitted.{labels, enclosing, jump, jump_unless, jump_when, mark, first_part, second_part, one_way, alone};
-ghost use Rattle.asm_laws.specs.inner.Emitted.{returning, code_items};
+ghost use Rattle.asm_laws.specs.inner.Emitted.{returning, code_items, inside, is_end, is_turn, again, rotated};
 ghost use Rattle.asm_emit.specs.inner.Listed.{left_in, ends_in, node_labels, list_labels, node_items, list_past};
+ghost use Rattle.asm_emit.specs.inner.Listed.{is_none, is_again, round_in, tested_in, is_operation, turn_labels, part_labels, own_test, list_test, list_part, turn_items};
 ghost use Rattle.asm_emit.specs.inner.View.{frame, whole};
 
-use crate::ahead::{behind, put_ahead};
+use crate::ahead::{behind, is_call, put_ahead};
 use crate::hands::{brings, fetches, hand, op};
 use crate::names::jump_label;
 use crate::operations::put_op;
 use crate::scope::{Around, Scope};
 use asm_items::AsmItem;
+use asm_laws::Behind;
 use either::Either;
 use kit_base::Memory;
 use mid_code::{Node, Where};
@@ -86,14 +89,90 @@ fn left_in(ls: &[u32], a: &[Node<Where>]) -> Option<u32>
     }
 }
 
-/// Whether the function's end comes right behind a node, with these nodes behind it.
-fn ends_in(last: bool, rest: &[Node<Where>]) -> bool
+/// What comes right behind a node, with these nodes behind it.
+fn ends_in(last: Behind, rest: &[Node<Where>]) -> Behind
     ensures { result ≡ ends_in last (listed (map node rest.now)) }
 {
     match rest.split_first() {
         None => last,
+        Some(_) => Behind::Other,
+    }
+}
+
+/// What comes right behind the nodes inside of a block or loop.
+fn inside(last: Behind) -> Behind
+    ensures { result ≡ inside last }
+{
+    match last {
+        Behind::Other => Behind::Other,
+        Behind::End => Behind::End,
+        Behind::Turn => Behind::Other,
+    }
+}
+
+fn is_turn(last: Behind) -> bool
+    ensures { result ≡ is_turn last }
+{
+    match last {
+        Behind::Other => false,
+        Behind::End => false,
+        Behind::Turn => true,
+    }
+}
+
+fn is_none(xs: &[Node<Where>]) -> bool
+    ensures { result ≡ is_none (listed (map node xs.now)) }
+{
+    match xs.split_first() {
+        None => true,
         Some(_) => false,
     }
+}
+
+/// Whether a node begins the next turn of the innermost loop.
+fn is_again(x: &Node<Where>) -> bool
+    ensures { result ≡ is_again (node x.now) }
+{
+    match x {
+        Node::Again(k) => *k == 0,
+        _ => false,
+    }
+}
+
+/// Whether the last node does.
+fn is_round(xs: &[Node<Where>]) -> bool
+    ensures { result ≡ round_in (listed (map node xs.now)) }
+{
+    let mut rest = xs;
+    for x in xs {
+        rest = behind(rest);
+        if is_none(rest) {
+            return is_again(x);
+        }
+    }
+    false
+}
+
+/// Whether nodes are operations and then a test, behind which a turn of the loop around them is done or nothing.
+fn is_tested(xs: &[Node<Where>]) -> bool
+    ensures { result ≡ tested_in (listed (map node xs.now)) }
+{
+    let mut rest = xs;
+    for x in xs {
+        rest = behind(rest);
+        match x {
+            Node::Do(o) => {
+                if is_call(o) {
+                    return false;
+                }
+            }
+            Node::Choose(_, a, b) => {
+                return is_none(b.as_slice()) && is_none(rest) && is_round(a.as_slice());
+            }
+            _ => return false,
+        }
+    }
+    false
 }
 
 /// Puts the word that a function gives back into register 9.
@@ -130,13 +209,13 @@ fn put_first(
     requires fits { n + 1 + list_labels (listed (map node a.now)) < 2 ^ 32 - 1 }
     ensures items { OnOk result (out.new.items ≡ out.old.items
         ++ first_part (frame s.now) p n (n + 1 + list_labels (listed (map node a.now)))
-        (list_past (whole w.now) (frame s.now) end false ls.old.items (n + 1) (listed (map node a.now)) 0)) }
+        (list_past (whole w.now) (frame s.now) end Other ls.old.items (n + 1) (listed (map node a.now)) 0)) }
     ensures labels { OnOk result (ls.new.items ≡ ls.old.items) }
     ensures next { IfOk result (λ m. m ≡ n + 1 + list_labels (listed (map node a.now))) }
 {
     brings(out, s, p, 9)?;
     put_jump_unless(alloc, out, hand(p, 9), n)?;
-    let m = put_nodes(alloc, out, w, s, end, false, ls, n + 1, a)?;
+    let m = put_nodes(alloc, out, w, s, end, Behind::Other, ls, n + 1, a)?;
     put_jump(alloc, out, m)?;
     put_mark(alloc, out, n)?;
     Ok(m)
@@ -150,7 +229,7 @@ fn put_second(
     w: &Around<'_>,
     s: &Scope<'_>,
     end: u32,
-    last: bool,
+    last: Behind,
     ls: &mut Vec<u32>,
     m: u32,
     b: &[Node<Where>],
@@ -174,7 +253,7 @@ fn put_one_way(
     w: &Around<'_>,
     s: &Scope<'_>,
     end: u32,
-    last: bool,
+    last: Behind,
     ls: &mut Vec<u32>,
     n: u32,
     p: Where,
@@ -218,7 +297,7 @@ fn put_alone(
     w: &Around<'_>,
     s: &Scope<'_>,
     end: u32,
-    last: bool,
+    last: Behind,
     ls: &mut Vec<u32>,
     n: u32,
     p: Where,
@@ -240,7 +319,7 @@ fn put_alone(
     }
 }
 
-/// Adds a block or loop.
+/// Adds a block, or a loop that begins with its nodes in their order.
 #[cycle(items)]
 fn put_enclosed(
     alloc: Global,
@@ -248,7 +327,7 @@ fn put_enclosed(
     w: &Around<'_>,
     s: &Scope<'_>,
     end: u32,
-    last: bool,
+    last: Behind,
     ls: &mut Vec<u32>,
     n: u32,
     b: &[Node<Where>],
@@ -261,10 +340,192 @@ fn put_enclosed(
 {
     put_mark(alloc, out, n)?;
     open(ls, n)?;
-    let next = put_nodes(alloc, out, w, s, end, last, ls, n + 2, b)?;
+    let next = put_nodes(alloc, out, w, s, end, inside(last), ls, n + 2, b)?;
     ls.pop();
     put_mark(alloc, out, n + 1)?;
     Ok(next)
+}
+
+/// Adds the own items of a node of a list that is operations and a test, which goes to a label.
+fn put_own_test(
+    alloc: Global,
+    out: &mut Vec<AsmItem>,
+    w: &Around<'_>,
+    s: &Scope<'_>,
+    to: u32,
+    x: &Node<Where>,
+) -> Result<(), Memory>
+    ensures { OnOk result (out.new.items ≡ out.old.items ++ own_test (whole w.now) (frame s.now) to (node x.now)) }
+{
+    match x {
+        Node::Do(o) => put_op(alloc, out, w, s, o),
+        Node::Choose(p, _, _) => {
+            brings(out, s, *p, 9)?;
+            put_jump_when(alloc, out, hand(*p, 9), to)
+        }
+        _ => Ok(()),
+    }
+}
+
+/// Adds operations and a test that goes to a label.
+fn put_test(
+    alloc: Global,
+    out: &mut Vec<AsmItem>,
+    w: &Around<'_>,
+    s: &Scope<'_>,
+    to: u32,
+    xs: &[Node<Where>],
+) -> Result<(), Memory>
+    ensures { OnOk result (out.new.items ≡ out.old.items ++ list_test (whole w.now) (frame s.now) to (listed (map node xs.now)) 0) }
+{
+    let mut done: u32 = 0;
+    let mut rest = xs;
+    for x in xs {
+        rest = behind(rest);
+        match put_ahead(out, w, s, x, rest, done)? {
+            Some(more) => done = more,
+            None => {
+                put_own_test(alloc, out, w, s, to, x)?;
+                done = 0;
+            }
+        }
+    }
+    Ok(())
+}
+
+fn is_operation(x: &Node<Where>) -> bool
+    ensures { result ≡ is_operation (node x.now) }
+{
+    match x {
+        Node::Do(_) => true,
+        _ => false,
+    }
+}
+
+/// Adds the first part of a choice, at whose end the next turn begins; the number of the next label.
+#[cycle(items)]
+fn put_turn(
+    alloc: Global,
+    out: &mut Vec<AsmItem>,
+    w: &Around<'_>,
+    s: &Scope<'_>,
+    end: u32,
+    ls: &mut Vec<u32>,
+    n: u32,
+    x: &Node<Where>,
+) -> Result<u32, Memory>
+    requires fits { n + 1 + turn_labels (node x.now) < 2 ^ 32 - 1 }
+    ensures items { OnOk result (out.new.items ≡ out.old.items ++ turn_items (whole w.now) (frame s.now) end ls.old.items n (node x.now)) }
+    ensures labels { OnOk result (ls.new.items ≡ ls.old.items) }
+    ensures next { IfOk result (λ m. m ≡ n + 1 + turn_labels (node x.now)) }
+{
+    match x {
+        Node::Choose(_, a, _) => {
+            put_nodes(alloc, out, w, s, end, Behind::Turn, ls, n + 1, a.as_slice())
+        }
+        _ => Ok(n + 1),
+    }
+}
+
+/// Adds what is done in a turn of a loop whose test stands behind it; the number of the next label.
+#[cycle(items)]
+fn put_part(
+    alloc: Global,
+    out: &mut Vec<AsmItem>,
+    w: &Around<'_>,
+    s: &Scope<'_>,
+    end: u32,
+    ls: &mut Vec<u32>,
+    n: u32,
+    xs: &[Node<Where>],
+) -> Result<u32, Memory>
+    requires fits { n + 1 + part_labels (listed (map node xs.now)) < 2 ^ 32 - 1 }
+    ensures items { OnOk result (out.new.items ≡ out.old.items
+        ++ list_part (whole w.now) (frame s.now) end ls.old.items n (listed (map node xs.now))) }
+    ensures labels { OnOk result (ls.new.items ≡ ls.old.items) }
+    ensures next { IfOk result (λ m. m ≡ n + 1 + part_labels (listed (map node xs.now))) }
+{
+    for x in xs {
+        if !is_operation(x) {
+            return put_turn(alloc, out, w, s, end, ls, n, x);
+        }
+    }
+    Ok(n + 1)
+}
+
+/// Adds a loop whose test stands behind what is done in a turn.
+#[cycle(items)]
+#[tactic(auto, using(crate::proofs::InMemory::tested_labels))]
+fn put_rotated(
+    alloc: Global,
+    out: &mut Vec<AsmItem>,
+    w: &Around<'_>,
+    s: &Scope<'_>,
+    end: u32,
+    ls: &mut Vec<u32>,
+    n: u32,
+    b: &[Node<Where>],
+) -> Result<u32, Memory>
+    requires tested { tested_in (listed (map node b.now)) ≡ true }
+    requires fits { n + 2 + list_labels (listed (map node b.now)) < 2 ^ 32 - 1 }
+    ensures items { OnOk result (out.new.items ≡ out.old.items
+        ++ rotated n (list_part (whole w.now) (frame s.now) end (ls.old.items ++ n ∷ []) (n + 2) (listed (map node b.now)))
+        (list_test (whole w.now) (frame s.now) (n + 2) (listed (map node b.now)) 0)) }
+    ensures labels { OnOk result (ls.new.items ≡ ls.old.items) }
+    ensures next { IfOk result (λ m. m ≡ n + 2 + list_labels (listed (map node b.now))) }
+{
+    put_jump(alloc, out, n)?;
+    put_mark(alloc, out, n + 2)?;
+    open(ls, n)?;
+    let next = put_part(alloc, out, w, s, end, ls, n + 2, b)?;
+    ls.pop();
+    put_mark(alloc, out, n)?;
+    put_test(alloc, out, w, s, n + 2, b)?;
+    put_mark(alloc, out, n + 1)?;
+    Ok(next + 1)
+}
+
+/// Adds a loop.
+#[cycle(items)]
+fn put_loop(
+    alloc: Global,
+    out: &mut Vec<AsmItem>,
+    w: &Around<'_>,
+    s: &Scope<'_>,
+    end: u32,
+    last: Behind,
+    ls: &mut Vec<u32>,
+    n: u32,
+    b: &[Node<Where>],
+) -> Result<u32, Memory>
+    requires fits { n + node_labels (LoopN (listed (map node b.now))) < 2 ^ 32 - 1 }
+    ensures items { OnOk result (out.new.items ≡ out.old.items
+        ++ node_items (whole w.now) (frame s.now) end last ls.old.items n (LoopN (listed (map node b.now)))) }
+    ensures labels { OnOk result (ls.new.items ≡ ls.old.items) }
+    ensures next { IfOk result (λ m. m ≡ n + node_labels (LoopN (listed (map node b.now)))) }
+{
+    if is_tested(b) {
+        put_rotated(alloc, out, w, s, end, ls, n, b)
+    } else {
+        put_enclosed(alloc, out, w, s, end, last, ls, n, b)
+    }
+}
+
+/// Adds a jump to the next turn of the k-th enclosing loop, where that does not come next.
+fn put_again(
+    alloc: Global,
+    out: &mut Vec<AsmItem>,
+    ls: &[u32],
+    k: u32,
+    last: Behind,
+) -> Result<(), Memory>
+    ensures { OnOk result (out.new.items ≡ out.old.items ++ again ls.now k last) }
+{
+    if k == 0 && is_turn(last) {
+        Ok(())
+    } else {
+        put_jump(alloc, out, enclosing(ls, k))
+    }
 }
 
 /// Adds a jump behind the word that is given back.
@@ -273,16 +534,16 @@ fn put_return(
     out: &mut Vec<AsmItem>,
     s: &Scope<'_>,
     end: u32,
-    last: bool,
+    last: Behind,
     p: Option<Where>,
 ) -> Result<(), Memory>
-    ensures { OnOk result (out.new.items ≡ out.old.items ++ returning (frame s.now) p end last) }
+    ensures { OnOk result (out.new.items ≡ out.old.items ++ returning (frame s.now) p end (is_end last)) }
 {
     put_giving(out, s, p)?;
-    if last {
-        Ok(())
-    } else {
-        put_jump(alloc, out, end)
+    match last {
+        Behind::End => Ok(()),
+        Behind::Other => put_jump(alloc, out, end),
+        Behind::Turn => put_jump(alloc, out, end),
     }
 }
 
@@ -295,7 +556,7 @@ fn put_node(
     w: &Around<'_>,
     s: &Scope<'_>,
     end: u32,
-    last: bool,
+    last: Behind,
     ls: &mut Vec<u32>,
     n: u32,
     x: &Node<Where>,
@@ -318,13 +579,13 @@ fn put_node(
             }
         },
         Node::Block(b) => put_enclosed(alloc, out, w, s, end, last, ls, n, b.as_slice()),
-        Node::Loop(b) => put_enclosed(alloc, out, w, s, end, last, ls, n, b.as_slice()),
+        Node::Loop(b) => put_loop(alloc, out, w, s, end, last, ls, n, b.as_slice()),
         Node::Leave(k) => {
             put_jump(alloc, out, enclosing(ls, *k).wrapping_add(1))?;
             Ok(n)
         }
         Node::Again(k) => {
-            put_jump(alloc, out, enclosing(ls, *k))?;
+            put_again(alloc, out, ls, *k, last)?;
             Ok(n)
         }
         Node::Return(p) => {
@@ -342,7 +603,7 @@ fn put_nodes(
     w: &Around<'_>,
     s: &Scope<'_>,
     end: u32,
-    last: bool,
+    last: Behind,
     ls: &mut Vec<u32>,
     n: u32,
     xs: &[Node<Where>],
@@ -384,5 +645,5 @@ pub(crate) fn put_body(
     ensures next { IfOk result (λ m. m ≡ n + labels (nodes body.now)) }
 {
     let mut ls = Vec::new(alloc);
-    put_nodes(alloc, out, w, s, end, true, &mut ls, n, body)
+    put_nodes(alloc, out, w, s, end, Behind::End, &mut ls, n, body)
 }

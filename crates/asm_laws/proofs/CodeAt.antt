@@ -1,4 +1,7 @@
 -- Items of structured code that stand among the words are code that stands there.
+use Rattle.v32_isa.specs.declared.instruction.Branch.TheVariants.{JT}
+use Rattle.std.proofs.lemmas.Bool.Decides.{nat_tests}
+use Rattle.std.specs.Prelude.{◌&&◌, ◌==◌}
 use Rattle.std.proofs.Common.{◌≡◌, ℕ, zero, suc, ◌+◌, ◌-◌, ◌^◌, ◌<◌, inl, inr, Bool, true, false, cond, List, [], ◌∷◌, ◌++◌, length, Option, Some, None, refl, sym, ap, ◌∙◌, subst, arith, length-append}
 use Rattle.kit_base.specs.Word.{add}
 use Rattle.v32_isa.specs.declared.instruction.Go.TheVariants.{JMP}
@@ -6,16 +9,19 @@ use Rattle.v32_isa.specs.declared.instruction.Src.TheVariants as src
 use Rattle.v32_isa.specs.declared.instruction.Instr.TheVariants as instr
 use Rattle.asm_items.specs.declared.item.AsmItem.{AsmItem}
 use Rattle.mid_code.specs.declared.placed.Where.{Where}
-use Rattle.mid_code.specs.Code.{NodesT, Stop, Do, Call, Choose, Block, Loop, Leave, Again, Return, CodeT}
+use Rattle.mid_code.specs.Code.{OpT, NodesT, Stop, Do, Call, Choose, Block, Loop, Leave, Again, Return, CodeT}
 use Rattle.mid_code.specs.Invariants.{AreNodes}
 use Rattle.asm_laws.specs.Names.{jump_label}
 use Rattle.asm_laws.specs.Operations.{Frame, hand, brings, giving, in_one, one_or_more, more_of, call_items}
-use Rattle.asm_laws.specs.inner.Emitted.{labels, enclosing, jump, jump_unless, mark, jump_when, choice, first_part, second_part, left_to, alone, ends, is_stop, enclosed, returning, items_past, code_items}
-use Rattle.asm_laws.specs.Placing.{Line, Bounds, end_of, begin_of, Jumps, Passes, Past, At}
+use Rattle.asm_laws.specs.declared.behind.Behind.{Behind}
+use Rattle.asm_laws.specs.declared.behind.Behind.TheVariants.{Other, End, Turn}
+use Rattle.asm_laws.specs.inner.Emitted.{labels, enclosing, jump, jump_unless, mark, jump_when, choice, first_part, second_part, left_to, alone, ends, is_stop, enclosed, returning, items_past, code_items, inside, is_end, is_turn, again, rotated, looped, is_tested, is_round, part_items, test_items}
+use Rattle.asm_laws.specs.Placing.{Line, Bounds, end_of, begin_of, owed, paid, Jumps, Passes, Begins, Past, At}
 use Rattle.asm_laws.specs.Standing.{Stand}
 use Rattle.asm_laws.specs.Holds.{Setting}
 use Rattle.asm_laws.specs.Program.{items_at}
 use Rattle.asm_laws.proofs.Split.{split}
+use Rattle.asm_laws.proofs.Control.{end_paid, begin_paid}
 use Rattle.asm_laws.proofs.Enclosing.{innermost, further}
 use Rattle.asm_laws.proofs.Known.{loop_there}
 use Rattle.asm_laws.proofs.Leaving.{left_is}
@@ -34,6 +40,9 @@ stops (Leave k c) e = absurd cc
 stops (Again k c) e = absurd cc
 stops (Return p c) e = absurd cc
 
+not_zero : (k : ℕ) → (suc k == 0) ≡ false
+not_zero k = grind (arith, nat_tests)
+
 module _ (S : Setting) (f out : ℕ) (leave : S.address (jump_label out) ≡ S.leaves f) where
   abbrev label : ℕ → ℕ
   label n = S.address (jump_label n)
@@ -44,7 +53,7 @@ module _ (S : Setting) (f out : ℕ) (leave : S.address (jump_label out) ≡ S.l
   abbrev items : List ℕ → ℕ → NodesT Where → List AsmItem
   items = code_items S.whole (S.whole.frames f) out
 
-  abbrev past : (last : Bool) → List ℕ → ℕ → NodesT Where → (done : ℕ) → List AsmItem
+  abbrev past : (last : Behind) → List ℕ → ℕ → NodesT Where → (done : ℕ) → List AsmItem
   past = items_past S.whole (S.whole.frames f) out
 
   abbrev CodeAt : List Bounds → ℕ → NodesT Where → ℕ → Type 0
@@ -62,7 +71,7 @@ module _ (S : Setting) (f out : ℕ) (leave : S.address (jump_label out) ≡ S.l
     pub ends : (k : ℕ) → k < length ls → end_of es k ≡ label (enclosing ls k + 1)
     pub begins : (k : ℕ) → k < length ls → begin_of es k ≡ label (enclosing ls k)
 
-  enter : (ls : List ℕ) (es : List Bounds) (n : ℕ) → Few n → Enclose ls es → Enclose (ls ++ n ∷ []) (record { begins = label n; ends = label (n + 1) } ∷ es)
+  enter : (ls : List ℕ) (es : List Bounds) (n : ℕ) → Few n → Enclose ls es → Enclose (ls ++ n ∷ []) (record { begins = label n; ends = label (n + 1); owes = true } ∷ es)
   enter ls es n few en = record {
     few = few_of;
     ends = ends_of;
@@ -76,13 +85,16 @@ module _ (S : Setting) (f out : ℕ) (leave : S.address (jump_label out) ≡ S.l
       few_of zero lt = omega (arith, innermost ls n)
       few_of (suc k) lt = omega (arith, further ls n k lt, en.few k (below k lt))
 
-      ends_of : (k : ℕ) → k < length (ls ++ n ∷ []) → end_of (record { begins = label n; ends = label (n + 1) } ∷ es) k ≡ label (enclosing (ls ++ n ∷ []) k + 1)
+      ends_of : (k : ℕ) → k < length (ls ++ n ∷ []) → end_of (record { begins = label n; ends = label (n + 1); owes = true } ∷ es) k ≡ label (enclosing (ls ++ n ∷ []) k + 1)
       ends_of zero lt = ap (λ m. label (m + 1)) (sym (innermost ls n))
       ends_of (suc k) lt = en.ends k (below k lt) ∙ ap (λ m. label (m + 1)) (sym (further ls n k lt))
 
-      begins_of : (k : ℕ) → k < length (ls ++ n ∷ []) → begin_of (record { begins = label n; ends = label (n + 1) } ∷ es) k ≡ label (enclosing (ls ++ n ∷ []) k)
+      begins_of : (k : ℕ) → k < length (ls ++ n ∷ []) → begin_of (record { begins = label n; ends = label (n + 1); owes = true } ∷ es) k ≡ label (enclosing (ls ++ n ∷ []) k)
       begins_of zero lt = ap label (sym (innermost ls n))
       begins_of (suc k) lt = en.begins k (below k lt) ∙ ap label (sym (further ls n k lt))
+
+  paid_for : (ls : List ℕ) (es : List Bounds) → Enclose ls es → Enclose ls (paid es)
+  paid_for ls es en = record { few = en.few; ends = λ k lt. end_paid es k ∙ en.ends k lt; begins = λ k lt. begin_paid es k ∙ en.begins k lt }
 
   jumps_to : (pc next a b : ℕ) → Line S.console.words pc (instr.Go JMP (src.Imm a)) next → a ≡ b → Jumps S.console.words pc b
   jumps_to pc next a b h e = (next, subst (λ t. Line S.console.words pc (instr.Go JMP (src.Imm t)) next) e h)
@@ -93,31 +105,45 @@ module _ (S : Setting) (f out : ℕ) (leave : S.address (jump_label out) ≡ S.l
   upto : (es : List Bounds) (pc e q : ℕ) (c : NodesT Where) → e ≡ q → CodeAt es pc c e → CodeAt es pc c q
   upto es pc e q c same h = subst (λ n. CodeAt es pc c n) same h
 
-  -- what the ends of nodes are known of
-  abbrev Over : Bool → ℕ → Type 0
-  Over last e = last ≡ true → e ≡ S.leaves f
+  -- what is known of the ends of nodes
+  abbrev Over : List Bounds → Behind → ℕ → Type 0
+  Over es Other e = Unit {0}
+  Over es End e = e ≡ S.leaves f
+  Over es Turn e = (owed es 0 ≡ false) × (e ≡ begin_of es 0)
 
-  shut : (c : NodesT Where) (last : Bool) (ls : List ℕ) (n q e : ℕ) → Over last e → Here q (past last ls n c zero) e → Over (ends last c) q
-  shut Stop last ls n q e over h is = h ∙ over is
-  shut (Do o c) last ls n q e over h is = absurd cc
-  shut (Call t g args c) last ls n q e over h is = absurd cc
-  shut (Choose p a b c) last ls n q e over h is = absurd cc
-  shut (Block b c) last ls n q e over h is = absurd cc
-  shut (Loop b c) last ls n q e over h is = absurd cc
-  shut (Leave k c) last ls n q e over h is = absurd cc
-  shut (Again k c) last ls n q e over h is = absurd cc
-  shut (Return p c) last ls n q e over h is = absurd cc
+  moved : (es : List Bounds) (last : Behind) (p q : ℕ) → p ≡ q → Over es last q → Over es last p
+  moved es last p q same over = subst (λ z. Over es last z) (sym same) over
 
-  moved : (last : Bool) (p q : ℕ) → p ≡ q → Over last q → Over last p
-  moved last p q same over is = same ∙ over is
+  shut : (es : List Bounds) (c : NodesT Where) (last : Behind) (ls : List ℕ) (n q e : ℕ) → Over es last e → Here q (past last ls n c zero) e → Over es (ends last c) q
+  shut es Stop last ls n q e over h = moved es last q e h over
+  shut es (Do o c) last ls n q e over h = tt
+  shut es (Call t g args c) last ls n q e over h = tt
+  shut es (Choose p a b c) last ls n q e over h = tt
+  shut es (Block b c) last ls n q e over h = tt
+  shut es (Loop b c) last ls n q e over h = tt
+  shut es (Leave k c) last ls n q e over h = tt
+  shut es (Again k c) last ls n q e over h = tt
+  shut es (Return p c) last ls n q e over h = tt
 
-  not_over : (q : ℕ) → Over false q
-  not_over q e = absurd cc
+  -- in a part of a choice, and inside of a block or loop
+  still_paid : (es : List Bounds) → owed es 0 ≡ false → owed (paid es) 0 ≡ false
+  still_paid [] e = e
+  still_paid (l ∷ es) e = refl
+
+  in_part : (es : List Bounds) (last : Behind) (e : ℕ) → Over es last e → Over (paid es) last e
+  in_part es Other e over = tt
+  in_part es End e over = over
+  in_part es Turn e over = (still_paid es over.0, over.1 ∙ sym (begin_paid es 0))
+
+  in_body : (es around : List Bounds) (last : Behind) (e : ℕ) → Over es last e → Over around (inside last) e
+  in_body es around Other e over = tt
+  in_body es around End e over = over
+  in_body es around Turn e over = tt
 
   -- a choice, with nothing in its second part or something
-  chosen : (w : Where) (a b c : NodesT Where) (es : List Bounds) (n m pc e : ℕ) (last : Bool) (to : Option ℕ) (one first two rest : List AsmItem) (t : Bool) → is_stop b ≡ t → ((q : ℕ) → Here q rest e → Over last q) →
-      ((l : ℕ) → to ≡ Some l → (k : ℕ) × (a ≡ Leave k Stop) × (end_of es k ≡ label l)) →
-      ((p q : ℕ) → Over last q → Here p one q → CodeAt es p a q) → ((p q : ℕ) → Here p first q → CodeAt es p a q) → ((p q : ℕ) → Over last q → Here p two q → CodeAt es p b q) → ((q : ℕ) → Here q rest e → CodeAt es q c e) →
+  chosen : (w : Where) (a b c : NodesT Where) (es : List Bounds) (n m pc e : ℕ) (last : Behind) (to : Option ℕ) (one first two rest : List AsmItem) (t : Bool) → is_stop b ≡ t → ((q : ℕ) → Here q rest e → Over (paid es) last q) →
+      ((l : ℕ) → to ≡ Some l → (k : ℕ) × (a ≡ Leave k Stop) × (end_of (paid es) k ≡ label l)) →
+      ((p q : ℕ) → Over (paid es) last q → Here p one q → CodeAt (paid es) p a q) → ((p q : ℕ) → Here p first q → CodeAt (paid es) p a q) → ((p q : ℕ) → Over (paid es) last q → Here p two q → CodeAt (paid es) p b q) → ((q : ℕ) → Here q rest e → CodeAt es q c e) →
       (q : ℕ) × Here pc (cond t (alone F w n to one) (choice F w n m first two)) q × Here q rest e → CodeAt es pc (Choose w a b c) e
   chosen w a b c es n m pc e last None one first two rest true is over left one_at first_at two_at behind h0 =
       let t = parts (brings F w 9) (jump_unless (hand w 9) n ∷ (one ++ mark n ∷ [])) pc h0.0 h0.1 in
@@ -130,9 +156,9 @@ module _ (S : Setting) (f out : ℕ) (leave : S.address (jump_label out) ≡ S.l
         label n,
         label n,
         (t.0, t.1, inl u.1),
-        one_at u.0 h2.0 (moved last h2.0 h0.0 (sym l.1.1 ∙ l.2) (over h0.0 h0.2)) h2.1,
+        one_at u.0 h2.0 (moved (paid es) last h2.0 h0.0 (sym l.1.1 ∙ l.2) (over h0.0 h0.2)) h2.1,
         inr (sym l.1.0),
-        subst (λ y. CodeAt es (label n) y (label n)) (sym (stops b is)) refl,
+        subst (λ y. CodeAt (paid es) (label n) y (label n)) (sym (stops b is)) refl,
         from es h0.0 (label n) e c q_n (behind h0.0 h0.2),
       )
   chosen w a b c es n m pc e last (Some to) one first two rest true is over left one_at first_at two_at behind h0 =
@@ -147,9 +173,9 @@ module _ (S : Setting) (f out : ℕ) (leave : S.address (jump_label out) ≡ S.l
         u.0,
         u.0,
         (t.0, t.1, inr u.1),
-        subst (λ z. CodeAt es (label to) z u.0) (sym r.1) (inr (sym r.2), (u.0, refl)),
+        subst (λ z. CodeAt (paid es) (label to) z u.0) (sym r.1) (inr (sym r.2), (u.0, refl)),
         inr refl,
-        subst (λ y. CodeAt es u.0 y u.0) (sym (stops b is)) refl,
+        subst (λ y. CodeAt (paid es) u.0 y u.0) (sym (stops b is)) refl,
         from es h0.0 u.0 e c q_n (behind h0.0 h0.2),
       )
   chosen w a b c es n m pc e last to one first two rest false is over left one_at first_at two_at behind h0 =
@@ -169,30 +195,64 @@ module _ (S : Setting) (f out : ℕ) (leave : S.address (jump_label out) ≡ S.l
         (t.0, t.1, inl u.1),
         first_at u.0 h2.0 h2.1,
         inl (j.0, j.1),
-        from es h1.0 (label n) (label m) b (sym at_n) (upto es h1.0 h3.0 (label m) b at_m (two_at h1.0 h3.0 (moved last h3.0 h0.0 (sym h3.2.1.1 ∙ h3.2.2) (over h0.0 h0.2)) h3.1)),
+        from (paid es) h1.0 (label n) (label m) b (sym at_n) (upto (paid es) h1.0 h3.0 (label m) b at_m (two_at h1.0 h3.0 (moved (paid es) last h3.0 h0.0 (sym h3.2.1.1 ∙ h3.2.2) (over h0.0 h0.2)) h3.1)),
         from es h0.0 (label m) e c q_m (behind h0.0 h0.2),
       )
 
   -- a block or loop stands between its labels
-  enclosed_at : (b : NodesT Where) (a : List AsmItem) (es : List Bounds) (n pc q : ℕ) (last : Bool) → Over last q → ((p e : ℕ) → Over last e → Here p a e → CodeAt (record { begins = label n; ends = label (n + 1) } ∷ es) p b e) → Here pc (enclosed n a) q →
-      (p : ℕ) × CodeAt (record { begins = pc; ends = p } ∷ es) pc b p × (q ≡ p)
+  enclosed_at : (b : NodesT Where) (a : List AsmItem) (es : List Bounds) (n pc q : ℕ) (last : Behind) → Over (record { begins = label n; ends = label (n + 1); owes = true } ∷ es) last q → ((p e : ℕ) → Over (record { begins = label n; ends = label (n + 1); owes = true } ∷ es) last e → Here p a e → CodeAt (record { begins = label n; ends = label (n + 1); owes = true } ∷ es) p b e) → Here pc (enclosed n a) q →
+      (p : ℕ) × CodeAt (record { begins = pc; ends = p; owes = true } ∷ es) pc b p × (q ≡ p)
   enclosed_at b a es n pc q last over go h =
       let s = parts a (mark (n + 1) ∷ []) h.0 q h.2 in
       let at_n : h.0 ≡ label n = h.1.1 ∙ sym h.1.0 in
       let pc_n : label n ≡ pc = h.1.0 in
       let at_e : s.0 ≡ label (n + 1) = sym s.2.1.0 in
       let q_e : q ≡ label (n + 1) = sym s.2.2 ∙ s.2.1.1 ∙ at_e in
-      let around = record { begins = label n; ends = label (n + 1) } ∷ es in
-      let inner = from around h.0 pc (label (n + 1)) b (at_n ∙ pc_n) (upto around h.0 s.0 (label (n + 1)) b at_e (go h.0 s.0 (moved last s.0 q (sym s.2.1.1 ∙ s.2.2) over) s.1)) in
-      (label (n + 1), subst (λ m. CodeAt (record { begins = m; ends = label (n + 1) } ∷ es) pc b (label (n + 1))) pc_n inner, q_e)
+      let around = record { begins = label n; ends = label (n + 1); owes = true } ∷ es in
+      let inner = from around h.0 pc (label (n + 1)) b (at_n ∙ pc_n) (upto around h.0 s.0 (label (n + 1)) b at_e (go h.0 s.0 (moved around last s.0 q (sym s.2.1.1 ∙ s.2.2) over) s.1)) in
+      (label (n + 1), subst (λ m. CodeAt (record { begins = m; ends = label (n + 1); owes = true } ∷ es) pc b (label (n + 1))) pc_n inner, q_e)
 
   deeper : (ls : List ℕ) (n : ℕ) (bs : List Bool) (b : Bool) → length ls ≡ length bs → length (ls ++ n ∷ []) ≡ length (b ∷ bs)
   deeper ls n bs b same = let h = length-append ls (n ∷ []) in omega (arith, h, same)
 
   module _ (x : CodeT Where) (m : ℕ) where
-    given : (last : Bool) (p q : ℕ) → Over last q → Here p (cond last [] (jump out ∷ [])) q → Passes S.console.words p (S.leaves f)
-    given true p q over h = inr (h ∙ over refl)
-    given false p q over h = inl (jumps_to p h.0 (label out) (S.leaves f) h.1 leave)
+    given : (es : List Bounds) (last : Behind) (p q : ℕ) → Over es last q → Here p (cond (is_end last) [] (jump out ∷ [])) q → Passes S.console.words p (S.leaves f)
+    given es End p q over h = inr (h ∙ over)
+    given es Other p q over h = inl (jumps_to p h.0 (label out) (S.leaves f) h.1 leave)
+    given es Turn p q over h = inl (jumps_to p h.0 (label out) (S.leaves f) h.1 leave)
+
+    -- the next turn begins
+    begun : (ls : List ℕ) (es : List Bounds) (k : ℕ) (last : Behind) (p q : ℕ) → Enclose ls es → k < length ls → Over es last q → Here p (again ls k last) q → Begins S.console.words (owed es k) p (begin_of es k)
+    begun ls es zero Turn p q en lt over h = inr (over.0, h ∙ over.1)
+    begun ls es zero Other p q en lt over h = inl (jumps_to p h.0 _ (begin_of es zero) h.1 (sym (en.begins zero lt)))
+    begun ls es zero End p q en lt over h = inl (jumps_to p h.0 _ (begin_of es zero) h.1 (sym (en.begins zero lt)))
+    begun ls es (suc k) last p q en lt over h =
+        let g = subst (λ b. Here p (cond (b && is_turn last) [] (jump (enclosing ls (suc k)) ∷ [])) q) (not_zero k) h in
+        inl (jumps_to p g.0 _ (begin_of es (suc k)) g.1 (sym (en.begins (suc k) lt)))
+
+    -- nodes that end with the next turn have no end of their own
+    anywhere : (es : List Bounds) (c : NodesT Where) (done pc e q : ℕ) → is_round c ≡ true → Past (items_at S) f es pc c done e → Past (items_at S) f es pc c done q
+    anywhere es Stop done pc e q is at = absurd cc
+    anywhere es (Do o c) zero pc e q is at = (at.0, at.1, at.2, anywhere es c at.0 at.1 e q is at.3)
+    anywhere es (Do o c) (suc k) pc e q is at = anywhere es c k pc e q is at
+    anywhere es (Call t g args c) done pc e q is at = (at.0, at.1, anywhere es c zero at.0 e q is at.2)
+    anywhere es (Choose w a b c) done pc e q is at = (at.0, at.1, at.2, at.3, at.4, at.5, at.6, at.7, anywhere es c zero at.3 e q is at.8)
+    anywhere es (Block b c) done pc e q is at = (at.0, at.1, anywhere es c zero at.0 e q is at.2)
+    anywhere es (Loop b c) done pc e q is at = (at.0, at.1, at.2, at.3, anywhere es c zero at.1 e q is at.4)
+    anywhere es (Leave k c) done pc e q is at = (at.0, (at.1.0, anywhere es c zero at.1.0 e q is at.1.1))
+    anywhere es (Again k c) done pc e q is at = (at.0, last c (λ t. anywhere es c zero at.1.0 e q t at.1.1) is)
+      where
+        last : (c : NodesT Where) → (is_round c ≡ true → CodeAt es at.1.0 c q) → cond (is_stop c) (k == 0) (is_round c) ≡ true → (p : ℕ) × CodeAt es p c q
+        last Stop r t = (q, refl)
+        last (Do o c) r t = (at.1.0, r t)
+        last (Call g f args c) r t = (at.1.0, r t)
+        last (Choose w a b c) r t = (at.1.0, r t)
+        last (Block b c) r t = (at.1.0, r t)
+        last (Loop b c) r t = (at.1.0, r t)
+        last (Leave j c) r t = (at.1.0, r t)
+        last (Again j c) r t = (at.1.0, r t)
+        last (Return p c) r t = (at.1.0, r t)
+    anywhere es (Return w c) done pc e q is at = (at.0, (at.1.0, anywhere es c zero at.1.0 e q is at.1.1))
 
     left_at : (a : NodesT Where) (bs : List Bool) (ls : List ℕ) (es : List Bounds) → AreNodes x m bs a → length ls ≡ length bs → Enclose ls es → (l : ℕ) → left_to ls a ≡ Some l → (k : ℕ) × (a ≡ Leave k Stop) × (end_of es k ≡ label l)
     left_at a bs ls es ok same en l e =
@@ -202,51 +262,130 @@ module _ (S : Setting) (f out : ℕ) (leave : S.address (jump_label out) ≡ S.l
         let w : add (enclosing ls r.0) 1 ≡ enclosing ls r.0 + 1 = omega (arith, en.few r.0 lt) in
         (r.0, r.1, en.ends r.0 lt ∙ ap label (sym w ∙ sym r.2))
 
-    pub code_at : (c : NodesT Where) (done : ℕ) (last : Bool) (bs : List Bool) (ls : List ℕ) (es : List Bounds) (n pc e : ℕ) → AreNodes x m bs c → length ls ≡ length bs → Few (n + labels c) → Enclose ls es → Over last e → Here pc (past last ls n c done) e → Past (items_at S) f es pc c done e
-    code_at Stop done last bs ls es n pc e ok same few en over h = h
-    code_at (Do o c) zero last bs ls es n pc e ok same few en over h =
-        let one = in_one S.whole F o c in
-        let s = parts (one_or_more S.whole F o one) (past last ls n c (more_of one)) pc e h in
-        (more_of one, s.0, (s.1, refl), code_at c (more_of one) last bs ls es n s.0 e ok.1 same few en over s.2)
-    code_at (Do o c) (suc j) last bs ls es n pc e ok same few en over h = code_at c j last bs ls es n pc e ok.1 same few en over h
-    code_at (Call t g args c) done last bs ls es n pc e ok same few en over h =
-        let s = parts (call_items S.whole F t g args) (past last ls n c zero) pc e h in
-        (s.0, s.1, code_at c zero last bs ls es n s.0 e ok.1 same few en over s.2)
-    code_at (Choose w a b c) done last bs ls es n pc e ok same few en over h =
-        let here = ends last c in
-        let one = past here ls (n + 1) a zero in
-        let first = past false ls (n + 1) a zero in
-        let two = past here ls (n + 1 + labels a + 1) b zero in
-        let rest = past last ls (n + (2 + labels a + labels b)) c zero in
-        chosen w a b c es n (n + 1 + labels a) pc e here (left_to ls a) one first two rest (is_stop b) refl (λ q k. shut c last ls (n + (2 + labels a + labels b)) q e over k) (left_at a bs ls es ok.0 same en)
-        (λ p q o k. code_at a zero here bs ls es (n + 1) p q ok.0 same (omega (arith, few)) en o k) (λ p q k. code_at a zero false bs ls es (n + 1) p q ok.0 same (omega (arith, few)) en (not_over q) k) (λ p q o k. code_at b zero here bs ls es (n + 1 + labels a + 1) p q ok.1 same (omega (arith, few)) en o k) (λ q k. code_at c zero last bs ls es (n + (2 + labels a + labels b)) q e ok.2 same (omega (arith, few)) en over k)
-        (parts (cond (is_stop b) (alone F w n (left_to ls a) one) (choice F w n (n + 1 + labels a) first two)) rest pc e h)
-    code_at (Block b c) done last bs ls es n pc e ok same few en over h =
-        let one = past (ends last c) (ls ++ n ∷ []) (n + 2) b zero in
-        let s = parts (enclosed n one) (past last ls (n + (2 + labels b)) c zero) pc e h in
-        let around = record { begins = label n; ends = label (n + 1) } ∷ es in
-        let r = enclosed_at b one es n pc s.0 (ends last c) (shut c last ls (n + (2 + labels b)) s.0 e over s.2) (λ p q o k. code_at b zero (ends last c) (false ∷ bs) (ls ++ n ∷ []) around (n + 2) p q ok.0 (deeper ls n bs false same) (omega (arith, few)) (enter ls es n (omega (arith, few)) en) o k) s.1 in
-        (r.0, r.1, from es s.0 r.0 e c r.2 (code_at c zero last bs ls es (n + (2 + labels b)) s.0 e ok.1 same (omega (arith, few)) en over s.2))
-    code_at (Loop b c) done last bs ls es n pc e ok same few en over h =
-        let one = past (ends last c) (ls ++ n ∷ []) (n + 2) b zero in
-        let s = parts (enclosed n one) (past last ls (n + (2 + labels b)) c zero) pc e h in
-        let around = record { begins = label n; ends = label (n + 1) } ∷ es in
-        let r = enclosed_at b one es n pc s.0 (ends last c) (shut c last ls (n + (2 + labels b)) s.0 e over s.2) (λ p q o k. code_at b zero (ends last c) (true ∷ bs) (ls ++ n ∷ []) around (n + 2) p q ok.0 (deeper ls n bs true same) (omega (arith, few)) (enter ls es n (omega (arith, few)) en) o k) s.1 in
-        (r.0, r.1, from es s.0 r.0 e c r.2 (code_at c zero last bs ls es (n + (2 + labels b)) s.0 e ok.1 same (omega (arith, few)) en over s.2))
-    code_at (Leave k c) done last bs ls es n pc e ok same few en over h =
-        let l = ok.0 in
-        let lt : k < length ls = omega (arith, l, same) in
-        let w : add (enclosing ls k) 1 ≡ enclosing ls k + 1 = omega (arith, en.few k lt) in
-        (inl (jumps_to pc h.0 _ (end_of es k) h.1 (ap label w ∙ sym (en.ends k lt))), (h.0, code_at c zero last bs ls es n h.0 e ok.1 same few en over h.2))
-    code_at (Again k c) done last bs ls es n pc e ok same few en over h =
-        let l = loop_there bs k ok.0 in
-        let lt : k < length ls = omega (arith, l, same) in
-        (jumps_to pc h.0 _ (begin_of es k) h.1 (sym (en.begins k lt)), (h.0, code_at c zero last bs ls es n h.0 e ok.1 same few en over h.2))
-    code_at (Return w c) done last bs ls es n pc e ok same few en over h =
-        let s = parts (returning F w out (ends last c)) (past last ls n c zero) pc e h in
-        let t = parts (giving F w) (cond (ends last c) [] (jump out ∷ [])) pc s.0 s.1 in
-        ((t.0, t.1, given (ends last c) t.0 s.0 (shut c last ls n s.0 e over s.2) t.2), (s.0, code_at c zero last bs ls es n s.0 e ok same few en over s.2))
+    both : (p q : Bool) → p && q ≡ true → (p ≡ true) × (q ≡ true)
+    both true true e = (refl, refl)
+    both true false e = absurd cc
+    both false q e = absurd cc
+
+    tests : (b c a : NodesT Where) → is_stop b && (is_stop c && is_round a) ≡ true → (is_stop b ≡ true) × (is_stop c ≡ true) × (is_round a ≡ true)
+    tests b c a e =
+        let r = both (is_stop b) (is_stop c && is_round a) e in
+        let s = both (is_stop c) (is_round a) r.1 in
+        (r.0, s.0, s.1)
+
+    -- what is done in a turn stands from a label to the loop's beginning
+    record Turns (ls : List ℕ) (es : List Bounds) (n : ℕ) (c : NodesT Where) : Type 0 where
+      end : ℕ
+      owes : owed (paid es) 0 ≡ false
+      begins : end ≡ begin_of (paid es) 0
+      here : Here (label n) (part_items S.whole F out ls n c) end
+
+    behind : (ls : List ℕ) (es : List Bounds) (n : ℕ) (o : OpT Where) (c : NodesT Where) → Turns ls es n (Do o c) → Turns ls es n c
+    behind ls es n o c t = record { end = t.end; owes = t.owes; begins = t.begins; here = t.here }
+
+    looped_at : (b : NodesT Where) (all part test : List AsmItem) (es : List Bounds) (n pc q : ℕ) (last : Behind) (t : Bool) → is_tested b ≡ t → Over (record { begins = label n; ends = label (n + 1); owes = true } ∷ es) last q →
+        ((p e : ℕ) → Over (record { begins = label n; ends = label (n + 1); owes = true } ∷ es) last e → Here p all e → CodeAt (record { begins = label n; ends = label (n + 1); owes = true } ∷ es) p b e) →
+        ((p e : ℕ) → is_tested b ≡ true → Here (label (n + 2)) part (label n) → Here p test e → CodeAt (record { begins = label n; ends = label (n + 1); owes = true } ∷ es) p b e) → Here pc (looped t n all part test) q →
+        (r : ℕ) × (p : ℕ) × Passes S.console.words pc r × CodeAt (record { begins = r; ends = p; owes = true } ∷ es) r b p × (q ≡ p)
+    looped_at b all part test es n pc q last false is over go turns h = let r = enclosed_at b all es n pc q last over go h in (pc, r.0, inr refl, r.1, r.2)
+    looped_at b all part test es n pc q last true is over go turns h =
+        let k = h.2 in
+        let s = parts part (mark n ∷ (test ++ mark (n + 1) ∷ [])) k.0 q k.2 in
+        let u = parts test (mark (n + 1) ∷ []) s.2.0 q s.2.2 in
+        let at_two : k.0 ≡ label (n + 2) = k.1.1 ∙ sym k.1.0 in
+        let at_n : s.0 ≡ label n = sym s.2.1.0 in
+        let on_n : s.2.0 ≡ label n = s.2.1.1 ∙ at_n in
+        let at_e : u.0 ≡ label (n + 1) = sym u.2.1.0 in
+        let q_e : q ≡ label (n + 1) = sym u.2.2 ∙ u.2.1.1 ∙ at_e in
+        let one = subst (λ z. Here (label (n + 2)) part z) at_n (subst (λ z. Here z part s.0) at_two s.1) in
+        let two = subst (λ z. Here (label n) test z) at_e (subst (λ z. Here z test u.0) on_n u.1) in
+        (label n, label (n + 1), inl (h.0, h.1), turns (label n) (label (n + 1)) is one two, q_e)
+
+    mutual
+      pub code_at : (c : NodesT Where) (done : ℕ) (last : Behind) (bs : List Bool) (ls : List ℕ) (es : List Bounds) (n pc e : ℕ) → AreNodes x m bs c → length ls ≡ length bs → Few (n + labels c) → Enclose ls es → Over es last e → Here pc (past last ls n c done) e → Past (items_at S) f es pc c done e
+      code_at Stop done last bs ls es n pc e ok same few en over h = h
+      code_at (Do o c) zero last bs ls es n pc e ok same few en over h =
+          let one = in_one S.whole F o c in
+          let s = parts (one_or_more S.whole F o one) (past last ls n c (more_of one)) pc e h in
+          (more_of one, s.0, (s.1, refl), code_at c (more_of one) last bs ls es n s.0 e ok.1 same few en over s.2)
+      code_at (Do o c) (suc j) last bs ls es n pc e ok same few en over h = code_at c j last bs ls es n pc e ok.1 same few en over h
+      code_at (Call t g args c) done last bs ls es n pc e ok same few en over h =
+          let s = parts (call_items S.whole F t g args) (past last ls n c zero) pc e h in
+          (s.0, s.1, code_at c zero last bs ls es n s.0 e ok.1 same few en over s.2)
+      code_at (Choose w a b c) done last bs ls es n pc e ok same few en over h =
+          let here = ends last c in
+          let pe = paid_for ls es en in
+          let one = past here ls (n + 1) a zero in
+          let first = past Other ls (n + 1) a zero in
+          let two = past here ls (n + 1 + labels a + 1) b zero in
+          let rest = past last ls (n + (2 + labels a + labels b)) c zero in
+          chosen w a b c es n (n + 1 + labels a) pc e here (left_to ls a) one first two rest (is_stop b) refl (λ q k. in_part es (ends last c) q (shut es c last ls (n + (2 + labels a + labels b)) q e over k)) (left_at a bs ls (paid es) ok.0 same pe)
+          (λ p q o k. code_at a zero here bs ls (paid es) (n + 1) p q ok.0 same (omega (arith, few)) pe o k) (λ p q k. code_at a zero Other bs ls (paid es) (n + 1) p q ok.0 same (omega (arith, few)) pe tt k) (λ p q o k. code_at b zero here bs ls (paid es) (n + 1 + labels a + 1) p q ok.1 same (omega (arith, few)) pe o k) (λ q k. code_at c zero last bs ls es (n + (2 + labels a + labels b)) q e ok.2 same (omega (arith, few)) en over k)
+          (parts (cond (is_stop b) (alone F w n (left_to ls a) one) (choice F w n (n + 1 + labels a) first two)) rest pc e h)
+      code_at (Block b c) done last bs ls es n pc e ok same few en over h =
+          let one = past (inside (ends last c)) (ls ++ n ∷ []) (n + 2) b zero in
+          let s = parts (enclosed n one) (past last ls (n + (2 + labels b)) c zero) pc e h in
+          let around = record { begins = label n; ends = label (n + 1); owes = true } ∷ es in
+          let r = enclosed_at b one es n pc s.0 (inside (ends last c)) (in_body es around (ends last c) s.0 (shut es c last ls (n + (2 + labels b)) s.0 e over s.2))
+          (λ p q o k. code_at b zero (inside (ends last c)) (false ∷ bs) (ls ++ n ∷ []) around (n + 2) p q ok.0 (deeper ls n bs false same) (omega (arith, few)) (enter ls es n (omega (arith, few)) en) o k) s.1 in
+          (r.0, r.1, from es s.0 r.0 e c r.2 (code_at c zero last bs ls es (n + (2 + labels b)) s.0 e ok.1 same (omega (arith, few)) en over s.2))
+      code_at (Loop b c) done last bs ls es n pc e ok same few en over h =
+          let around = record { begins = label n; ends = label (n + 1); owes = true } ∷ es in
+          let inner = ls ++ n ∷ [] in
+          let all = past (inside (ends last c)) inner (n + 2) b zero in
+          let part = part_items S.whole F out inner (n + 2) b in
+          let test = test_items S.whole F out (n + 2) b zero in
+          let s = parts (looped (is_tested b) n all part test) (past last ls (n + (2 + labels b)) c zero) pc e h in
+          let closed = enter ls es n (omega (arith, few)) en in
+          let r = looped_at b all part test es n pc s.0 (inside (ends last c)) (is_tested b) refl (in_body es around (ends last c) s.0 (shut es c last ls (n + (2 + labels b)) s.0 e over s.2))
+          (λ p q o k. code_at b zero (inside (ends last c)) (true ∷ bs) inner around (n + 2) p q ok.0 (deeper ls n bs true same) (omega (arith, few)) closed o k)
+          (λ p q t g k. test_at b zero inner around (true ∷ bs) (n + 2) p q t ok.0 (deeper ls n bs true same) (omega (arith, few)) closed (record { end = label n; owes = refl; begins = refl; here = g }) k) s.1 in
+          (r.0, r.1, r.2, r.3, from es s.0 r.1 e c r.4 (code_at c zero last bs ls es (n + (2 + labels b)) s.0 e ok.1 same (omega (arith, few)) en over s.2))
+      code_at (Leave k c) done last bs ls es n pc e ok same few en over h =
+          let l = ok.0 in
+          let lt : k < length ls = omega (arith, l, same) in
+          let w : add (enclosing ls k) 1 ≡ enclosing ls k + 1 = omega (arith, en.few k lt) in
+          (inl (jumps_to pc h.0 _ (end_of es k) h.1 (ap label w ∙ sym (en.ends k lt))), (h.0, code_at c zero last bs ls es n h.0 e ok.1 same few en over h.2))
+      code_at (Again k c) done last bs ls es n pc e ok same few en over h =
+          let l = loop_there bs k ok.0 in
+          let s = parts (again ls k (ends last c)) (past last ls n c zero) pc e h in
+          (begun ls es k (ends last c) pc s.0 en (omega (arith, l, same)) (shut es c last ls n s.0 e over s.2) s.1, (s.0, code_at c zero last bs ls es n s.0 e ok.1 same few en over s.2))
+      code_at (Return w c) done last bs ls es n pc e ok same few en over h =
+          let s = parts (returning F w out (is_end (ends last c))) (past last ls n c zero) pc e h in
+          let t = parts (giving F w) (cond (is_end (ends last c)) [] (jump out ∷ [])) pc s.0 s.1 in
+          ((t.0, t.1, given es (ends last c) t.0 s.0 (shut es c last ls n s.0 e over s.2) t.2), (s.0, code_at c zero last bs ls es n s.0 e ok same few en over s.2))
+
+      -- The operations and the test of a loop that is only that, where what is done in a turn stands from the test's label to the loop's beginning.
+      test_at : (c : NodesT Where) (done : ℕ) (ls : List ℕ) (es : List Bounds) (bs : List Bool) (n pc e : ℕ) → is_tested c ≡ true → AreNodes x m bs c → length ls ≡ length bs → Few (n + labels c) → Enclose ls es →
+          Turns ls es n c → Here pc (test_items S.whole F out n c done) e → Past (items_at S) f es pc c done e
+      test_at (Do o c) zero ls es bs n pc e is ok same few en t h =
+          let one = in_one S.whole F o c in
+          let s = parts (one_or_more S.whole F o one) (test_items S.whole F out n c (more_of one)) pc e h in
+          (more_of one, s.0, (s.1, refl), test_at c (more_of one) ls es bs n s.0 e is ok.1 same few en (behind ls es n o c t) s.2)
+      test_at (Do o c) (suc k) ls es bs n pc e is ok same few en t h = test_at c k ls es bs n pc e is ok.1 same few en (behind ls es n o c t) h
+      test_at (Choose w a b c) done ls es bs n pc e is ok same few en t h =
+          let i = tests b c a is in
+          let s = parts (brings F w 9) (jump_when (hand w 9) n ∷ test_items S.whole F out n c zero) pc e h in
+          let z : s.2.0 ≡ e = subst (λ y. Here s.2.0 (test_items S.whole F out n y zero) e) (stops c i.1) s.2.2 in
+          let first = code_at a zero Turn bs ls (paid es) (n + 1) (label n) t.end ok.0 same (omega (arith, few)) (paid_for ls es en) (t.owes, t.begins) t.here in (
+            label n,
+            e,
+            e,
+            e,
+            (s.0, s.1, inr (subst (λ q. Line S.console.words s.0 (instr.Branch JT (hand w 9) (src.Imm (label n))) q) z s.2.1)),
+            anywhere (paid es) a zero (label n) t.end e i.2 first,
+            inr refl,
+            subst (λ y. CodeAt (paid es) e y e) (sym (stops b i.0)) refl,
+            subst (λ y. CodeAt es e y e) (sym (stops c i.1)) refl,
+          )
+      test_at Stop done ls es bs n pc e is ok same few en t h = absurd cc
+      test_at (Call r g args c) done ls es bs n pc e is ok same few en t h = absurd cc
+      test_at (Block b c) done ls es bs n pc e is ok same few en t h = absurd cc
+      test_at (Loop b c) done ls es bs n pc e is ok same few en t h = absurd cc
+      test_at (Leave k c) done ls es bs n pc e is ok same few en t h = absurd cc
+      test_at (Again k c) done ls es bs n pc e is ok same few en t h = absurd cc
+      test_at (Return w c) done ls es bs n pc e is ok same few en t h = absurd cc
 
     -- the body of a function stands where its items do
     pub body_at : (c : NodesT Where) (n pc e : ℕ) → AreNodes x m [] c → Few (n + labels c) → e ≡ S.leaves f → Here pc (items [] n c) e → CodeAt [] pc c e
-    body_at c n pc e ok few over h = code_at c zero true [] [] [] n pc e ok refl few (record { few = λ k lt. absurd (omega arith); ends = λ k lt. absurd (omega arith); begins = λ k lt. absurd (omega arith) }) (λ z. over) h
+    body_at c n pc e ok few over h = code_at c zero End [] [] [] n pc e ok refl few (record { few = λ k lt. absurd (omega arith); ends = λ k lt. absurd (omega arith); begins = λ k lt. absurd (omega arith) }) over h

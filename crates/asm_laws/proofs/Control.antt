@@ -1,5 +1,5 @@
 -- Structured code that stands among the words is followed by the machine, whatever the states are.
-use Rattle.std.proofs.Common.{◌≡◌, ℕ, zero, suc, ◌+◌, ◌≤◌, inl, inr, List, [], ◌∷◌, ◌++◌, Option, Some, None, refl, sym, ap, ◌∙◌, subst, arith, append_assoc, append-nil}
+use Rattle.std.proofs.Common.{◌≡◌, ℕ, zero, suc, ◌+◌, ◌≤◌, inl, inr, Bool, true, false, List, [], ◌∷◌, ◌++◌, Option, Some, None, refl, sym, ap, ◌∙◌, subst, arith, append_assoc, append-nil}
 use Rattle.v32_isa.specs.State.{State, going_to}
 use Rattle.v32_isa.specs.Runs.{Run, run}
 use Rattle.v32_isa.specs.Runs as machine
@@ -9,8 +9,26 @@ use Rattle.obj_mem.specs.Runs.{Ending, Halted, Fault, Starved, Stray, Deep, OutO
 use Rattle.mid_code.specs.declared.placed.Where.{Where}
 use Rattle.mid_code.specs.Code.{NodesT, Stop, Do, Call, Choose, Block, Loop, Leave, Again, Return}
 use Rattle.mid_code.specs.Meaning.{Did, On, Ends, Res, Next, Leaves, Repeats, Returns, Over, Lang, node_weight, call_weight, then_next, did, block_done, turn_done, choose, call_done, called, does, below, runs}
-use Rattle.asm_laws.specs.Placing.{Shapes, Bounds, end_of, begin_of, Jumps, Passes, Past, At}
+use Rattle.asm_laws.specs.Placing.{Shapes, Bounds, end_of, begin_of, owed, due, paid, Jumps, Passes, Begins, Past, At}
 use Rattle.asm_laws.specs.inner.Following.{Holder, Begin, begin, spare, CameBy, Came, Stopped, Going, Final, Sim, DidSim, Enters, CallSim, TestSim, did_then, front_acts, Parts}
+
+pub end_paid : (ls : List Bounds) (k : ℕ) → end_of (paid ls) k ≡ end_of ls k
+end_paid [] k = refl
+end_paid (l ∷ ls) zero = refl
+end_paid (l ∷ ls) (suc k) = end_paid ls k
+
+pub begin_paid : (ls : List Bounds) (k : ℕ) → begin_of (paid ls) k ≡ begin_of ls k
+begin_paid [] k = refl
+begin_paid (l ∷ ls) zero = refl
+begin_paid (l ∷ ls) (suc k) = begin_paid ls k
+
+one_due : (owes : Bool) (x : ℕ) → due owes ≤ 1 + x
+one_due true x = omega arith
+one_due false x = omega arith
+
+none_due : (owes : Bool) → owes ≡ false → due owes ≤ 0
+none_due true e = absurd cc
+none_due false e = omega arith
 
 module _ (L : Lang Where) (X : Holder L) where
   came_by : (is js ks : List Link) (m : State) (b : Begin) (t u : L.S) (pc q i j k x : ℕ) (R Q : State → Type 0) → (f : CameBy is js X m b t pc i 0 R) → (g : CameBy js ks X f.to (begin X t) u q j x Q) → k ≤ i + j → CameBy is ks X m b u q k x Q
@@ -83,7 +101,7 @@ module _ (L : Lang Where) (X : Holder L) where
   after : (κ : X.K) (m : State) (b : Begin) (t : L.S) (pc i n k e : ℕ) (ls : List Bounds) (R : State → Type 0) (r : Res L.S) → n ≤ i + k → (f : Came X m b t pc i 0 R) → Sim X κ f.to (begin X t) e k ls r → Sim X κ m b e n ls r
   after κ m b t pc i n k e ls R (Next u) le f g = came_came m b t u pc e i 0 0 0 R (X.M κ u) f g (omega arith)
   after κ m b t pc i n k e ls R (Leaves j u) le f g = came_came m b t u pc (end_of ls j) i 0 0 0 R (X.M κ u) f g (omega arith)
-  after κ m b t pc i n k e ls R (Repeats j u) le f g = came_came m b t u pc (begin_of ls j) i 1 1 0 R (X.M κ u) f g (omega arith)
+  after κ m b t pc i n k e ls R (Repeats j u) le f g = came_came m b t u pc (begin_of ls j) i (due (owed ls j)) (due (owed ls j)) 0 R (X.M κ u) f g (omega arith)
   after κ m b t pc i n k e ls R (Returns u) le f g = came_came m b t u pc (X.way_out (X.fn κ)) i 0 0 0 R (X.G κ u) f g (omega arith)
   after κ m b t pc i n k e ls R (Over h u) le f g = came_final [] m b t u pc i n k R h le f g
 
@@ -112,9 +130,18 @@ module _ (L : Lang Where) (X : Holder L) where
   earlier : (κ : X.K) (m : State) (b d : Begin) (e n : ℕ) (ls : List Bounds) (r : Res L.S) → d.answers ≡ b.answers → d.events ≡ b.events → b.work ≤ d.work → Sim X κ m d e n ls r → Sim X κ m b e n ls r
   earlier κ m b d e n ls (Next t) ea ee le f = earlier_came m b d t e 0 0 (X.M κ t) ea ee le f
   earlier κ m b d e n ls (Leaves k t) ea ee le f = earlier_came m b d t (end_of ls k) 0 0 (X.M κ t) ea ee le f
-  earlier κ m b d e n ls (Repeats k t) ea ee le f = earlier_came m b d t (begin_of ls k) 1 0 (X.M κ t) ea ee le f
+  earlier κ m b d e n ls (Repeats k t) ea ee le f = earlier_came m b d t (begin_of ls k) (due (owed ls k)) 0 (X.M κ t) ea ee le f
   earlier κ m b d e n ls (Returns t) ea ee le f = earlier_came m b d t (X.way_out (X.fn κ)) 0 0 (X.G κ t) ea ee le f
   earlier κ m b d e n ls (Over g t) ea ee le f = earlier_final m b d t n g ea ee le f
+
+  -- the same behind a step, which no turn owes any more
+  stepped : (κ : X.K) (m : State) (b : Begin) (t : L.S) (pc n e : ℕ) (ls : List Bounds) (R : State → Type 0) (r : Res L.S) → (f : Came X m b t pc 1 0 R) → Sim X κ f.to (begin X t) e n (paid ls) r → Sim X κ m b e n ls r
+  stepped κ m b t pc n e ls R (Next u) f g = came_came m b t u pc e 1 0 0 0 R (X.M κ u) f g (omega arith)
+  stepped κ m b t pc n e ls R (Leaves j u) f g = subst (λ q. Came X m b u q 0 0 (X.M κ u)) (end_paid ls j) (came_came m b t u pc (end_of (paid ls) j) 1 0 0 0 R (X.M κ u) f g (omega arith))
+  stepped κ m b t pc n e ls R (Repeats j u) f g =
+      subst (λ q. Came X m b u q (due (owed ls j)) 0 (X.M κ u)) (begin_paid ls j) (came_came m b t u pc (begin_of (paid ls) j) 1 (due (owed (paid ls) j)) (due (owed ls j)) 0 R (X.M κ u) f g (one_due (owed ls j) (due (owed (paid ls) j))))
+  stepped κ m b t pc n e ls R (Returns u) f g = came_came m b t u pc (X.way_out (X.fn κ)) 1 0 0 0 R (X.G κ u) f g (omega arith)
+  stepped κ m b t pc n e ls R (Over h u) f g = came_final [] m b t u pc 1 n n R h (omega arith) f g
 
   here : (κ : X.K) (m : State) (s : L.S) (pc : ℕ) → m.counter ≡ pc → X.M κ s m → Came X m (begin X s) s pc 0 0 (X.M κ s)
   here κ m s pc e h = record { steps = 0; made = []; to = m; by = reaches_here m (X.answers s); at = e; held = h; events = sym (append-nil (X.events s)); cost = omega arith; many = omega arith }
@@ -131,7 +158,7 @@ module _ (L : Lang Where) (X : Holder L) where
   done_sim κ m b p e n ls (On t) more go a f = f t a
   done_sim κ m b p e n ls (Ends g t) more go a f = a n
 
-  block_sim : (κ : X.K) (m : State) (b : Begin) (e n pc : ℕ) (ls : List Bounds) (r : Res L.S) → Sim X κ m b e n (record { begins = pc; ends = e } ∷ ls) r → Sim X κ m b e n ls (block_done r)
+  block_sim : (κ : X.K) (m : State) (b : Begin) (e n pc : ℕ) (ls : List Bounds) (r : Res L.S) → Sim X κ m b e n (record { begins = pc; ends = e; owes = true } ∷ ls) r → Sim X κ m b e n ls (block_done r)
   block_sim κ m b e n pc ls (Next t) a = a
   block_sim κ m b e n pc ls (Leaves zero t) a = a
   block_sim κ m b e n pc ls (Leaves (suc k) t) a = a
@@ -140,7 +167,7 @@ module _ (L : Lang Where) (X : Holder L) where
   block_sim κ m b e n pc ls (Returns t) a = a
   block_sim κ m b e n pc ls (Over g t) a = a
 
-  turn_sim : (κ : X.K) (m : State) (b : Begin) (e n k pc : ℕ) (ls : List Bounds) (r : Res L.S) (again : L.S → Res L.S) → n ≤ suc k → Sim X κ m b e n (record { begins = pc; ends = e } ∷ ls) r →
+  turn_sim : (κ : X.K) (m : State) (b : Begin) (e n k pc : ℕ) (ls : List Bounds) (r : Res L.S) (again : L.S → Res L.S) → n ≤ suc k → Sim X κ m b e n (record { begins = pc; ends = e; owes = true } ∷ ls) r →
       ((t : L.S) (m1 : State) → m1.counter ≡ pc → X.M κ t m1 → Sim X κ m1 (begin X t) e k ls (again t)) → Sim X κ m b e n ls (turn_done r again)
   turn_sim κ m b e n k pc ls (Next t) again le a f = a
   turn_sim κ m b e n k pc ls (Leaves zero t) again le a f = a
@@ -207,13 +234,18 @@ module _ (L : Lang Where) (X : Holder L) where
       many = omega arith;
     }
 
+    -- a jump to the next turn, or none where no step is owed
+    begin_node : (κ : X.K) (pc to : ℕ) (owes : Bool) (s : L.S) (m : State) → Begins H.words owes pc to → m.counter ≡ pc → X.M κ s m → Came X m (begin X s) (L.tick node_weight s) to (due owes) 0 (X.M κ (L.tick node_weight s))
+    begin_node κ pc to owes s m (inl j) e h = let f = jump_node κ pc to s m j e h in record { steps = f.steps; made = f.made; to = f.to; by = f.by; at = f.at; held = f.held; events = f.events; cost = f.cost; many = omega (arith, f.many, one_due owes 0) }
+    begin_node κ pc to owes s m (inr q) e h = let f = pass_node κ pc to s m (inr q.1) e h in record { steps = f.steps; made = f.made; to = f.to; by = f.by; at = f.at; held = f.held; events = f.events; cost = f.cost; many = omega (arith, none_due owes q.0) }
+
     choose_sim : (κ : X.K) (m : State) (b : Begin) (px py pe pz n : ℕ) (ls : List Bounds) (s : L.S) (o : Option ℕ) (go other : L.S → Res L.S) → Going X m b s 0 → Passes H.words pe pz → TestSim X κ py px m b s o →
-        ((m1 : State) → m1.counter ≡ px → X.M κ s m1 → Sim X κ m1 (begin X s) pe n ls (go s)) → ((m1 : State) → m1.counter ≡ py → X.M κ s m1 → Sim X κ m1 (begin X s) pz n ls (other s)) → Sim X κ m b pz n ls (choose o s go other)
+        ((m1 : State) → m1.counter ≡ px → X.M κ s m1 → Sim X κ m1 (begin X s) pe n (paid ls) (go s)) → ((m1 : State) → m1.counter ≡ py → X.M κ s m1 → Sim X κ m1 (begin X s) pz n (paid ls) (other s)) → Sim X κ m b pz n ls (choose o s go other)
     choose_sim κ m b px py pe pz n ls s None go other st j t gx gy = st
     choose_sim κ m b px py pe pz n ls s (Some zero) go other st j t gx gy =
-        earlier κ m b (spare 1 b) pz n ls (other s) refl refl (omega arith) (after κ m (spare 1 b) s py 0 n n pz ls (X.M κ s) (other s) (omega arith) t (gy t.to t.at t.held))
+        earlier κ m b (spare 1 b) pz n ls (other s) refl refl (omega arith) (stepped κ m (spare 1 b) s py n pz ls (X.M κ s) (other s) t (gy t.to t.at t.held))
     choose_sim κ m b px py pe pz n ls s (Some (suc v)) go other st j t gx gy =
-        pass_end κ m b pe pz n ls (go s) j (after κ m (spare 1 b) s px 0 n n pe ls (X.M κ s) (go s) (omega arith) t (gx t.to t.at t.held))
+        pass_end κ m b pe pz n ls (go s) j (stepped κ m (spare 1 b) s px n pe ls (X.M κ s) (go s) t (gx t.to t.at t.held))
 
     -- what is assumed of the meaning at one less
     abbrev pub Before : ℕ → (NodesT Where → L.S → Res L.S) → Type 0
@@ -295,13 +327,13 @@ module _ (L : Lang Where) (X : Holder L) where
         after κ m0 b0 s pc 0 n n e ls (X.M κ s) (does L n prev (Choose p x y c) s) (omega arith) d
         (then_sim κ m (begin X s) at.3 e n ls (choose (L.test p s) (L.tick node_weight s) (does L n prev x) (does L n prev y)) (does L n prev c)
         (choose_sim κ m (begin X s) at.0 at.2 at.1 at.3 n ls (L.tick node_weight s) (L.test p s) (does L n prev x) (does L n prev y) (going_here κ m s node_weight) at.6 (parts.test κ pc at.2 at.0 p s m at.4 d.at d.held)
-        (λ m1 e1 h1. nodes n k prev le bef κ at.0 at.1 ls x zero (begin X (L.tick node_weight s)) (L.tick node_weight s) m1 at.5 (fresh κ x (L.tick node_weight s) m1 at.0 e1 h1))
-        (λ m1 e1 h1. nodes n k prev le bef κ at.2 at.3 ls y zero (begin X (L.tick node_weight s)) (L.tick node_weight s) m1 at.7 (fresh κ y (L.tick node_weight s) m1 at.2 e1 h1)))
+        (λ m1 e1 h1. nodes n k prev le bef κ at.0 at.1 (paid ls) x zero (begin X (L.tick node_weight s)) (L.tick node_weight s) m1 at.5 (fresh κ x (L.tick node_weight s) m1 at.0 e1 h1))
+        (λ m1 e1 h1. nodes n k prev le bef κ at.2 at.3 (paid ls) y zero (begin X (L.tick node_weight s)) (L.tick node_weight s) m1 at.7 (fresh κ y (L.tick node_weight s) m1 at.2 e1 h1)))
         (λ t m1 e1 h1. nodes n k prev le bef κ at.3 e ls c zero (begin X t) t m1 at.8 (fresh κ c t m1 at.3 e1 h1)))
     nodes n k prev le bef κ pc e ls (Block b c) j b0 s m0 at d =
         let m = d.to in
         let u = L.tick node_weight s in
-        let around = record { begins = pc; ends = at.0 } ∷ ls in
+        let around = record { begins = pc; ends = at.0; owes = true } ∷ ls in
         after κ m0 b0 s pc 0 n n e ls (X.M κ s) (does L n prev (Block b c) s) (omega arith) d
         (then_sim κ m (begin X s) at.0 e n ls (block_done (does L n prev b u)) (does L n prev c)
         (block_sim κ m (begin X s) at.0 n pc ls (does L n prev b u) (ticked κ node_weight s m at.0 n around (does L n prev b u)
@@ -310,19 +342,20 @@ module _ (L : Lang Where) (X : Holder L) where
     nodes n k prev le bef κ pc e ls (Loop b c) j b0 s m0 at d =
         let m = d.to in
         let u = L.tick node_weight s in
-        let around = record { begins = pc; ends = at.0 } ∷ ls in
+        let around = record { begins = at.0; ends = at.1; owes = true } ∷ ls in
+        let g = pass_node κ pc at.0 s m at.2 d.at d.held in
         after κ m0 b0 s pc 0 n n e ls (X.M κ s) (does L n prev (Loop b c) s) (omega arith) d
-        (then_sim κ m (begin X s) at.0 e n ls (turn_done (does L n prev b u) (prev (Loop b Stop))) (does L n prev c)
-        (turn_sim κ m (begin X s) at.0 n k pc ls (does L n prev b u) (prev (Loop b Stop)) le (ticked κ node_weight s m at.0 n around (does L n prev b u)
-        (nodes n k prev le bef κ pc at.0 around b zero (begin X u) u m at.1 (fresh κ b u m pc d.at (parts.ticks κ node_weight s m d.held))))
-        (λ t m1 e1 h1. bef κ pc at.0 ls (Loop b Stop) t m1 (at.0, at.1, refl) e1 h1))
-        (λ t m1 e1 h1. nodes n k prev le bef κ at.0 e ls c zero (begin X t) t m1 at.2 (fresh κ c t m1 at.0 e1 h1)))
+        (then_sim κ m (begin X s) at.1 e n ls (turn_done (does L n prev b u) (prev (Loop b Stop))) (does L n prev c)
+        (turn_sim κ m (begin X s) at.1 n k at.0 ls (does L n prev b u) (prev (Loop b Stop)) le
+        (after κ m (begin X s) u at.0 0 n n at.1 around (X.M κ u) (does L n prev b u) (omega arith) g (nodes n k prev le bef κ at.0 at.1 around b zero (begin X u) u g.to at.3 (fresh κ b u g.to at.0 g.at g.held)))
+        (λ t m1 e1 h1. bef κ at.0 at.1 ls (Loop b Stop) t m1 (at.0, at.1, inr refl, at.3, refl) e1 h1))
+        (λ t m1 e1 h1. nodes n k prev le bef κ at.1 e ls c zero (begin X t) t m1 at.4 (fresh κ c t m1 at.1 e1 h1)))
     nodes n k prev le bef κ pc e ls (Leave i c) j b s m at d =
         let f = pass_node κ pc (end_of ls i) s d.to at.0 d.at d.held in
         came_came m b s (L.tick node_weight s) pc (end_of ls i) 0 0 0 0 (X.M κ s) (X.M κ (L.tick node_weight s)) d f (omega arith)
     nodes n k prev le bef κ pc e ls (Again i c) j b s m at d =
-        let f = jump_node κ pc (begin_of ls i) s d.to at.0 d.at d.held in
-        came_came m b s (L.tick node_weight s) pc (begin_of ls i) 0 1 1 0 (X.M κ s) (X.M κ (L.tick node_weight s)) d f (omega arith)
+        let f = begin_node κ pc (begin_of ls i) (owed ls i) s d.to at.0 d.at d.held in
+        came_came m b s (L.tick node_weight s) pc (begin_of ls i) 0 (due (owed ls i)) (due (owed ls i)) 0 (X.M κ s) (X.M κ (L.tick node_weight s)) d f (omega arith)
     nodes n k prev le bef κ pc e ls (Return w c) j b s m at d =
         after κ m b s pc 0 n n e ls (X.M κ s) (does L n prev (Return w c) s) (omega arith) d (parts.give κ pc w s d.to at.0 d.at d.held)
 

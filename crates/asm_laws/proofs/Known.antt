@@ -1,6 +1,6 @@
 -- Each label that emitted items use is one of theirs, so they have no fault.
 use Rattle.std.proofs.Common.{◌≡◌, ℕ, zero, suc, ◌+◌, ◌-◌, ◌^◌, ◌<◌, ◌≤◌, ◌⊎◌, inl, inr, Bool, true, false, cond, List, [], ◌∷◌, ◌++◌, length, map, Option, Some, None, refl, sym, ap, ◌∙◌, subst, arith, length-append}
-use Rattle.std.specs.Prelude.{◌==◌, is_some, bytes_eq, sum_by, slice_get}
+use Rattle.std.specs.Prelude.{◌==◌, is_some, bytes_eq, sum_by, slice_get, ◌&&◌}
 use Rattle.std.proofs.lemmas.Option.{slice_get_within}
 use Rattle.std.proofs.lemmas.Slice.Eq.{bytes_eq-Decides}
 use Rattle.std.proofs.lemmas.Bool.{le-ltb}
@@ -33,7 +33,9 @@ use Rattle.asm_laws.specs.Moves.{Move, in_order}
 use Rattle.asm_laws.specs.Operations.{Frame, Whole, register, keep, fetches, keeps, keeps_some, is_in, hand, brings, takes, aim, lays, moves, changes, is_direct, in_place, apart, turned, is_turned, turned_or_apart, computes, slot_arg, slot_args, moved_items, args_items, call_items, op_items, in_one, one_or_more, more_of, giving, start_frame, opening_items, literal_items, literals_items}
 use Rattle.asm_laws.specs.Framing.{frame_made, frame_gone}
 use Rattle.asm_laws.proofs.Leaving.{left_is}
-use Rattle.asm_laws.specs.inner.Emitted.{labels, functions_labels, enclosing, jump, jump_unless, mark, first_part, second_part, choice, one_way, alone, left_to, ends, jump_when, is_stop, enclosed, returning, items_past, code_items, entry_items, exit_items, function_items, functions_items, closing_items, start_items, program_items}
+use Rattle.asm_laws.specs.declared.behind.Behind.{Behind}
+use Rattle.asm_laws.specs.declared.behind.Behind.TheVariants.{Other, End, Turn}
+use Rattle.asm_laws.specs.inner.Emitted.{labels, functions_labels, enclosing, jump, jump_unless, mark, first_part, second_part, choice, one_way, alone, left_to, ends, jump_when, is_stop, enclosed, returning, items_past, code_items, entry_items, exit_items, function_items, functions_items, closing_items, start_items, program_items, inside, is_end, is_turn, again, rotated, looped, is_tested, is_round, part_items, test_items}
 use Rattle.asm_laws.proofs.Programs.{mapped_from}
 use Rattle.asm_laws.proofs.Walked.{total_more}
 use Rattle.asm_laws.proofs.InOne.{one_or_more_is}
@@ -275,49 +277,94 @@ module _ (x : CodeT Where) (W : Whole) (Q : List ℕ → Type 0) (of_function : 
         let q1 : Q (jump_label (n + 1)) = k (jump_label (n + 1)) (inr (marked_right a (mark (n + 1) ∷ []) (jump_label (n + 1)) (inl refl))) in
         (tt, uses_append Q a (mark (n + 1) ∷ []) (ua (enter ls n few qn q1 j) (λ x h. k x (inr (marked_left a (mark (n + 1) ∷ []) x h)))) (tt, tt))
 
-    past_uses : (m : ℕ) (c : NodesT Where) (done : ℕ) (last : Bool) (bs : List Bool) (ls : List ℕ) (n : ℕ) → length ls ≡ length bs → AreNodes x m bs c → n + labels c < 2 ^ 32 - 1 → Jumpable ls → Knows (items_past W F out last ls n c done) → Uses Q (items_past W F out last ls n c done)
-    past_uses m Stop done last bs ls n same ok few j k = tt
-    past_uses m (Do o c) zero last bs ls n same ok few j k =
-        let a = one_or_more W F o (in_one W F o c) in
-        let b = items_past W F out last ls n c (more_of (in_one W F o c)) in
-        uses_append Q a b (one_uses m F o c ok.0) (past_uses m c (more_of (in_one W F o c)) last bs ls n same ok.1 few j (λ w h. k w (marked_right a b w h)))
-    past_uses m (Do o c) (suc done) last bs ls n same ok few j k = past_uses m c done last bs ls n same ok.1 few j k
-    past_uses m (Call t g args c) done last bs ls n same ok few j k =
-        let a = call_items W F t g args in
-        let b = items_past W F out last ls n c 0 in
-        uses_append Q a b (call_uses F t g args (function_there x g (length args) ok.0)) (past_uses m c 0 last bs ls n same ok.1 few j (λ w h. k w (marked_right a b w h)))
-    past_uses m (Choose p a b c) done last bs ls n same ok few j k =
-        let one = items_past W F out (ends last c) ls (n + 1) a 0 in
-        let first = items_past W F out false ls (n + 1) a 0 in
-        let two = items_past W F out (ends last c) ls (n + 1 + labels a + 1) b 0 in
-        let xs = cond (is_stop b) (alone F p n (left_to ls a) one) (choice F p n (n + 1 + labels a) first two) in
-        let ys = items_past W F out last ls (n + (2 + labels a + labels b)) c 0 in
-        uses_append Q xs ys
-        (chosen_uses p n (n + 1 + labels a) (is_stop b) (left_to ls a) one first two (left_known m a bs ls same ok.0 j) (λ w h. k w (marked_left xs ys w h)) (λ h. past_uses m a 0 (ends last c) bs ls (n + 1) same ok.0 (omega (arith, few)) j h) (λ h. past_uses m a 0 false bs ls (n + 1) same ok.0 (omega (arith, few)) j h) (λ h. past_uses m b 0 (ends last c) bs ls (n + 1 + labels a + 1) same ok.1 (omega (arith, few)) j h))
-        (past_uses m c 0 last bs ls (n + (2 + labels a + labels b)) same ok.2 (omega (arith, few)) j (λ w h. k w (marked_right xs ys w h)))
-    past_uses m (Block b c) done last bs ls n same ok few j k =
-        let one = items_past W F out (ends last c) (ls ++ n ∷ []) (n + 2) b 0 in
-        let xs = enclosed n one in
-        let ys = items_past W F out last ls (n + (2 + labels b)) c 0 in
-        uses_append Q xs ys
-        (enclosed_uses n one ls (omega (arith, few)) j (λ w h. k w (marked_left xs ys w h)) (λ i h. past_uses m b 0 (ends last c) (false ∷ bs) (ls ++ n ∷ []) (n + 2) (deeper ls n bs false same) ok.0 (omega (arith, few)) i h))
-        (past_uses m c 0 last bs ls (n + (2 + labels b)) same ok.1 (omega (arith, few)) j (λ w h. k w (marked_right xs ys w h)))
-    past_uses m (Loop b c) done last bs ls n same ok few j k =
-        let one = items_past W F out (ends last c) (ls ++ n ∷ []) (n + 2) b 0 in
-        let xs = enclosed n one in
-        let ys = items_past W F out last ls (n + (2 + labels b)) c 0 in
-        uses_append Q xs ys
-        (enclosed_uses n one ls (omega (arith, few)) j (λ w h. k w (marked_left xs ys w h)) (λ i h. past_uses m b 0 (ends last c) (true ∷ bs) (ls ++ n ∷ []) (n + 2) (deeper ls n bs true same) ok.0 (omega (arith, few)) i h))
-        (past_uses m c 0 last bs ls (n + (2 + labels b)) same ok.1 (omega (arith, few)) j (λ w h. k w (marked_right xs ys w h)))
-    past_uses m (Leave i c) done last bs ls n same ok few j k = ((j i (let l = ok.0 in omega (arith, l, same))).1, past_uses m c 0 last bs ls n same ok.1 few j k)
-    past_uses m (Again i c) done last bs ls n same ok few j k = ((j i (let l = loop_there bs i ok.0 in omega (arith, l, same))).0, past_uses m c 0 last bs ls n same ok.1 few j k)
-    past_uses m (Return p c) done last bs ls n same ok few j k =
-        let a = returning F p out (ends last c) in
-        let b = items_past W F out last ls n c 0 in
-        uses_append Q a b (uses_append Q (giving F p) (cond (ends last c) [] (jump out ∷ [])) (giving_uses F p) (one_of_both (ends last c) [] (jump out ∷ []) tt (at_end, tt))) (past_uses m c 0 last bs ls n same ok few j (λ w h. k w (marked_right a b w h)))
+    rotated_uses : (n : ℕ) (part test : List AsmItem) (ls : List ℕ) → n < 2 ^ 32 - 1 → Jumpable ls → Knows (rotated n part test) → (Jumpable (ls ++ n ∷ []) → Knows part → Uses Q part) → (Q (jump_label (n + 2)) → Uses Q test) → Uses Q (rotated n part test)
+    rotated_uses n part test ls few j k up ut =
+        let last = test ++ mark (n + 1) ∷ [] in
+        let qn : Q (jump_label n) = k (jump_label n) (inr (marked_right part (mark n ∷ last) (jump_label n) (inl refl))) in
+        let q1 : Q (jump_label (n + 1)) = k (jump_label (n + 1)) (inr (marked_right part (mark n ∷ last) (jump_label (n + 1)) (inr (marked_right test (mark (n + 1) ∷ []) (jump_label (n + 1)) (inl refl))))) in
+        let q2 : Q (jump_label (n + 2)) = k (jump_label (n + 2)) (inl refl) in
+        (qn, (tt, uses_append Q part (mark n ∷ last) (up (enter ls n few qn q1 j) (λ x h. k x (inr (marked_left part (mark n ∷ last) x h)))) (tt, uses_append Q test (mark (n + 1) ∷ []) (ut q2) (tt, tt))))
+
+    looped_uses : (t : Bool) (n : ℕ) (all part test : List AsmItem) (ls : List ℕ) → n < 2 ^ 32 - 1 → Jumpable ls → Knows (looped t n all part test) → (Jumpable (ls ++ n ∷ []) → Knows all → Uses Q all) → (Jumpable (ls ++ n ∷ []) → Knows part → Uses Q part) → (Q (jump_label (n + 2)) → Uses Q test) → Uses Q (looped t n all part test)
+    looped_uses true n all part test ls few j k ua up ut = rotated_uses n part test ls few j k up ut
+    looped_uses false n all part test ls few j k ua up ut = enclosed_uses n all ls few j k ua
+
+    again_uses : (ls : List ℕ) (k : ℕ) (last : Behind) → Q (jump_label (enclosing ls k)) → Uses Q (again ls k last)
+    again_uses ls k last q = one_of_both ((k == 0) && is_turn last) [] (jump (enclosing ls k) ∷ []) tt (q, tt)
+
+    test_uses : (m : ℕ) (to : ℕ) (c : NodesT Where) (done : ℕ) (bs : List Bool) → AreNodes x m bs c → Q (jump_label to) → Uses Q (test_items W F out to c done)
+    test_uses m to (Do o c) zero bs ok q = let more = more_of (in_one W F o c) in uses_append Q (one_or_more W F o (in_one W F o c)) (test_items W F out to c more) (one_uses m F o c ok.0) (test_uses m to c more bs ok.1 q)
+    test_uses m to (Do o c) (suc done) bs ok q = test_uses m to c done bs ok.1 q
+    test_uses m to (Choose p a b c) done bs ok q = brought_uses F p 9 (jump_when (hand p 9) to ∷ test_items W F out to c 0) (q, test_uses m to c 0 bs ok.2 q)
+    test_uses m to Stop done bs ok q = tt
+    test_uses m to (Call t g args c) done bs ok q = uses_append Q (call_items W F t g args) (test_items W F out to c 0) (call_uses F t g args (function_there x g (length args) ok.0)) (test_uses m to c 0 bs ok.1 q)
+    test_uses m to (Block b c) done bs ok q = test_uses m to c 0 bs ok.1 q
+    test_uses m to (Loop b c) done bs ok q = test_uses m to c 0 bs ok.1 q
+    test_uses m to (Leave k c) done bs ok q = test_uses m to c 0 bs ok.1 q
+    test_uses m to (Again k c) done bs ok q = test_uses m to c 0 bs ok.1 q
+    test_uses m to (Return p c) done bs ok q = test_uses m to c 0 bs ok q
+
+    mutual
+      past_uses : (m : ℕ) (c : NodesT Where) (done : ℕ) (last : Behind) (bs : List Bool) (ls : List ℕ) (n : ℕ) → length ls ≡ length bs → AreNodes x m bs c → n + labels c < 2 ^ 32 - 1 → Jumpable ls → Knows (items_past W F out last ls n c done) → Uses Q (items_past W F out last ls n c done)
+      past_uses m Stop done last bs ls n same ok few j k = tt
+      past_uses m (Do o c) zero last bs ls n same ok few j k =
+          let a = one_or_more W F o (in_one W F o c) in
+          let b = items_past W F out last ls n c (more_of (in_one W F o c)) in
+          uses_append Q a b (one_uses m F o c ok.0) (past_uses m c (more_of (in_one W F o c)) last bs ls n same ok.1 few j (λ w h. k w (marked_right a b w h)))
+      past_uses m (Do o c) (suc done) last bs ls n same ok few j k = past_uses m c done last bs ls n same ok.1 few j k
+      past_uses m (Call t g args c) done last bs ls n same ok few j k =
+          let a = call_items W F t g args in
+          let b = items_past W F out last ls n c 0 in
+          uses_append Q a b (call_uses F t g args (function_there x g (length args) ok.0)) (past_uses m c 0 last bs ls n same ok.1 few j (λ w h. k w (marked_right a b w h)))
+      past_uses m (Choose p a b c) done last bs ls n same ok few j k =
+          let one = items_past W F out (ends last c) ls (n + 1) a 0 in
+          let first = items_past W F out Other ls (n + 1) a 0 in
+          let two = items_past W F out (ends last c) ls (n + 1 + labels a + 1) b 0 in
+          let xs = cond (is_stop b) (alone F p n (left_to ls a) one) (choice F p n (n + 1 + labels a) first two) in
+          let ys = items_past W F out last ls (n + (2 + labels a + labels b)) c 0 in
+          uses_append Q xs ys
+          (chosen_uses p n (n + 1 + labels a) (is_stop b) (left_to ls a) one first two (left_known m a bs ls same ok.0 j) (λ w h. k w (marked_left xs ys w h)) (λ h. past_uses m a 0 (ends last c) bs ls (n + 1) same ok.0 (omega (arith, few)) j h) (λ h. past_uses m a 0 Other bs ls (n + 1) same ok.0 (omega (arith, few)) j h) (λ h. past_uses m b 0 (ends last c) bs ls (n + 1 + labels a + 1) same ok.1 (omega (arith, few)) j h))
+          (past_uses m c 0 last bs ls (n + (2 + labels a + labels b)) same ok.2 (omega (arith, few)) j (λ w h. k w (marked_right xs ys w h)))
+      past_uses m (Block b c) done last bs ls n same ok few j k =
+          let one = items_past W F out (inside (ends last c)) (ls ++ n ∷ []) (n + 2) b 0 in
+          let xs = enclosed n one in
+          let ys = items_past W F out last ls (n + (2 + labels b)) c 0 in
+          uses_append Q xs ys
+          (enclosed_uses n one ls (omega (arith, few)) j (λ w h. k w (marked_left xs ys w h)) (λ i h. past_uses m b 0 (inside (ends last c)) (false ∷ bs) (ls ++ n ∷ []) (n + 2) (deeper ls n bs false same) ok.0 (omega (arith, few)) i h))
+          (past_uses m c 0 last bs ls (n + (2 + labels b)) same ok.1 (omega (arith, few)) j (λ w h. k w (marked_right xs ys w h)))
+      past_uses m (Loop b c) done last bs ls n same ok few j k =
+          let all = items_past W F out (inside (ends last c)) (ls ++ n ∷ []) (n + 2) b 0 in
+          let part = part_items W F out (ls ++ n ∷ []) (n + 2) b in
+          let test = test_items W F out (n + 2) b 0 in
+          let xs = looped (is_tested b) n all part test in
+          let ys = items_past W F out last ls (n + (2 + labels b)) c 0 in
+          uses_append Q xs ys
+          (looped_uses (is_tested b) n all part test ls (omega (arith, few)) j (λ w h. k w (marked_left xs ys w h)) (λ i h. past_uses m b 0 (inside (ends last c)) (true ∷ bs) (ls ++ n ∷ []) (n + 2) (deeper ls n bs true same) ok.0 (omega (arith, few)) i h)
+          (λ i h. part_uses m b (true ∷ bs) (ls ++ n ∷ []) (n + 2) (deeper ls n bs true same) ok.0 (omega (arith, few)) i h) (λ q. test_uses m (n + 2) b 0 (true ∷ bs) ok.0 q))
+          (past_uses m c 0 last bs ls (n + (2 + labels b)) same ok.1 (omega (arith, few)) j (λ w h. k w (marked_right xs ys w h)))
+      past_uses m (Leave i c) done last bs ls n same ok few j k = ((j i (let l = ok.0 in omega (arith, l, same))).1, past_uses m c 0 last bs ls n same ok.1 few j k)
+      past_uses m (Again i c) done last bs ls n same ok few j k =
+          let a = again ls i (ends last c) in
+          let b = items_past W F out last ls n c 0 in
+          uses_append Q a b (again_uses ls i (ends last c) (j i (let l = loop_there bs i ok.0 in omega (arith, l, same))).0) (past_uses m c 0 last bs ls n same ok.1 few j (λ w h. k w (marked_right a b w h)))
+      past_uses m (Return p c) done last bs ls n same ok few j k =
+          let a = returning F p out (is_end (ends last c)) in
+          let b = items_past W F out last ls n c 0 in
+          uses_append Q a b (uses_append Q (giving F p) (cond (is_end (ends last c)) [] (jump out ∷ [])) (giving_uses F p) (one_of_both (is_end (ends last c)) [] (jump out ∷ []) tt (at_end, tt))) (past_uses m c 0 last bs ls n same ok few j (λ w h. k w (marked_right a b w h)))
+
+      part_uses : (m : ℕ) (c : NodesT Where) (bs : List Bool) (ls : List ℕ) (n : ℕ) → length ls ≡ length bs → AreNodes x m bs c → n + labels c < 2 ^ 32 - 1 → Jumpable ls → Knows (part_items W F out ls n c) → Uses Q (part_items W F out ls n c)
+      part_uses m (Do o c) bs ls n same ok few j k = part_uses m c bs ls n same ok.1 few j k
+      part_uses m (Choose p a b c) bs ls n same ok few j k = past_uses m a 0 Turn bs ls (n + 1) same ok.0 (omega (arith, few)) j k
+      part_uses m Stop bs ls n same ok few j k = tt
+      part_uses m (Call t g args c) bs ls n same ok few j k = part_uses m c bs ls n same ok.1 few j k
+      part_uses m (Block b c) bs ls n same ok few j k = tt
+      part_uses m (Loop b c) bs ls n same ok few j k = tt
+      part_uses m (Leave i c) bs ls n same ok few j k = tt
+      part_uses m (Again i c) bs ls n same ok few j k = tt
+      part_uses m (Return p c) bs ls n same ok few j k = tt
 
     pub code_uses : (m : ℕ) (c : NodesT Where) (bs : List Bool) (ls : List ℕ) (n : ℕ) → length ls ≡ length bs → AreNodes x m bs c → n + labels c < 2 ^ 32 - 1 → Jumpable ls → Knows (code_items W F out ls n c) → Uses Q (code_items W F out ls n c)
-    code_uses m c bs ls n same ok few j k = past_uses m c 0 true bs ls n same ok few j k
+    code_uses m c bs ls n same ok few j k = past_uses m c 0 End bs ls n same ok few j k
 
   -- ---- the whole program
 

@@ -1,6 +1,6 @@
 -- The labels of emitted items differ.
 use Rattle.std.proofs.Common.{◌≡◌, ◌≢◌, ℕ, zero, suc, ◌+◌, ◌^◌, ◌<◌, ◌≤◌, Bool, true, false, cond, List, [], ◌∷◌, ◌++◌, length, map, Option, Some, None, refl, sym, ◌∙◌, subst, arith, append_assoc}
-use Rattle.std.specs.Prelude.{◌==◌}
+use Rattle.std.specs.Prelude.{◌==◌, ◌&&◌}
 use Rattle.either.specs.declared.Either.TheVariants.{Left}
 use Rattle.v32_isa.specs.declared.instruction.Plain.TheVariants.{RET}
 use Rattle.v32_isa.specs.declared.instruction.One.{One as OneOf}
@@ -19,7 +19,9 @@ use Rattle.asm_laws.specs.Names.{function_label, literal_label}
 use Rattle.asm_laws.specs.Moves.{Move, in_order}
 use Rattle.asm_laws.specs.Operations.{Frame, Whole, register, keep, fetches, keeps_some, is_in, hand, brings, takes, aim, lays, moves, changes, is_direct, in_place, apart, turned, is_turned, turned_or_apart, computes, slot_arg, slot_args, moved_items, args_items, call_items, op_items, in_one, one_or_more, more_of, giving, start_frame, opening_items, literal_items, literals_items}
 use Rattle.asm_laws.specs.Framing.{frame_made, frame_gone}
-use Rattle.asm_laws.specs.inner.Emitted.{labels, functions_labels, enclosing, jump, jump_unless, mark, choice, one_way, alone, left_to, ends, jump_when, is_stop, enclosed, returning, items_past, code_items, entry_items, exit_items, function_items, functions_items, closing_items, start_items, program_items, labels_of}
+use Rattle.asm_laws.specs.declared.behind.Behind.{Behind}
+use Rattle.asm_laws.specs.declared.behind.Behind.TheVariants.{Other, End, Turn}
+use Rattle.asm_laws.specs.inner.Emitted.{labels, functions_labels, enclosing, jump, jump_unless, mark, choice, one_way, alone, left_to, ends, jump_when, is_stop, enclosed, returning, items_past, code_items, entry_items, exit_items, function_items, functions_items, closing_items, start_items, program_items, labels_of, inside, is_end, is_turn, again, rotated, looped, is_tested, is_round, part_items, test_items}
 use Rattle.asm_laws.proofs.InOne.{one_or_more_is}
 use Rattle.asm_laws.proofs.LabelKinds.{Differ, Kind, Jump, Fun, Text, name_of, Valid, kind_same, Range, Box, Within, Aside, jumps, jumps_within, jumps_below, jumps_above}
 
@@ -235,37 +237,96 @@ module _ (W : Whole) (differ : Differ W.names) where
       let last = subst (λ h. Marks (jumps (n + 1) h) (mark (n + 1) ∷ [])) here (mark_one (n + 1) (omega arith)) in
       rising n (n + 1) e (mark n ∷ []) (a ++ mark (n + 1) ∷ []) (omega arith) (omega arith) (mark_one n (omega arith)) (falling (n + 1) (n + 2) e a (mark (n + 1) ∷ []) (omega arith) x ma last)
 
+  rotated_marks : (n e : ℕ) (part test : List AsmItem) → n + 3 ≤ e → e ≤ 2 ^ 32 → Marks (jumps (n + 3) e) part → Bare test → Marks (jumps n e) (rotated n part test)
+  rotated_marks n e part test x few mp bt =
+      let here : n + 1 + 1 ≡ n + 2 = omega arith in
+      let there : n + 2 + 1 ≡ n + 3 = omega arith in
+      let last = subst (λ h. Marks (jumps (n + 1) h) (mark (n + 1) ∷ [])) here (mark_one (n + 1) (omega (arith, x, few))) in
+      let first = subst (λ h. Marks (jumps (n + 2) h) (mark (n + 2) ∷ [])) there (mark_one (n + 2) (omega (arith, x, few))) in
+      let one = rising (n + 2) (n + 3) e (mark (n + 2) ∷ []) part (omega arith) (omega (arith, x)) first mp in
+      let two = rising n (n + 1) (n + 2) (mark n ∷ []) (test ++ mark (n + 1) ∷ []) (omega arith) (omega arith) (mark_one n (omega (arith, x, few))) (bare_then (jumps (n + 1) (n + 2)) test (mark (n + 1) ∷ []) bt last) in
+      bare_then (jumps n e) (jump n ∷ []) ((mark (n + 2) ∷ part) ++ (mark n ∷ (test ++ mark (n + 1) ∷ []))) tt (falling n (n + 2) e (mark (n + 2) ∷ part) (mark n ∷ (test ++ mark (n + 1) ∷ [])) (omega arith) (omega (arith, x)) one two)
+
+  looped_marks : (t : Bool) (n e : ℕ) (all part test : List AsmItem) → n + 2 ≤ e → e ≤ 2 ^ 32 → Marks (jumps (n + 2) e) all → (t ≡ true → (n + 3 ≤ e) × Marks (jumps (n + 3) e) part) → Bare test → Marks (jumps n e) (looped t n all part test)
+  looped_marks true n e all part test x few ma mp bt = let r = mp refl in rotated_marks n e part test r.0 few r.1 bt
+  looped_marks false n e all part test x few ma mp bt = enclosed_marks n e all x few ma
+
+  again_bare : (ls : List ℕ) (k : ℕ) (last : Behind) → Bare (again ls k last)
+  again_bare ls k last = one_of_both ((k == 0) && is_turn last) [] (jump (enclosing ls k) ∷ []) tt tt
+
   module _ (F : Frame) (out : ℕ) where
-    past_marks : (c : NodesT Where) (done : ℕ) (last : Bool) (ls : List ℕ) (n e : ℕ) → n + labels c ≡ e → e ≤ 2 ^ 32 → Marks (jumps n e) (items_past W F out last ls n c done)
-    past_marks Stop done last ls n e is few = marks_bare (jumps n e) [] tt
-    past_marks (Do o c) zero last ls n e is few =
-        let more = more_of (in_one W F o c) in
-        bare_then (jumps n e) (one_or_more W F o (in_one W F o c)) (items_past W F out last ls n c more) (one_bare F o c) (past_marks c more last ls n e is few)
-    past_marks (Do o c) (suc done) last ls n e is few = past_marks c done last ls n e is few
-    past_marks (Call t g args c) done last ls n e is few = bare_then (jumps n e) (call_items W F t g args) (items_past W F out last ls n c 0) (call_bare F t g args) (past_marks c 0 last ls n e is few)
-    past_marks (Choose p a b c) done last ls n e is few =
-        let m = n + 1 + labels a in
-        let k = n + (2 + labels a + labels b) in
-        rising n k e (cond (is_stop b) (alone F p n (left_to ls a) (items_past W F out (ends last c) ls (n + 1) a 0)) (choice F p n m (items_past W F out false ls (n + 1) a 0) (items_past W F out (ends last c) ls (m + 1) b 0))) (items_past W F out last ls k c 0) (omega arith) (omega (arith, is))
-        (chosen_marks F p n m k (is_stop b) (left_to ls a) (items_past W F out (ends last c) ls (n + 1) a 0) (items_past W F out false ls (n + 1) a 0) (items_past W F out (ends last c) ls (m + 1) b 0) (omega arith) (omega arith) (omega (arith, is, few))
-        (past_marks a 0 (ends last c) ls (n + 1) m (omega arith) (omega (arith, is, few))) (past_marks a 0 false ls (n + 1) m (omega arith) (omega (arith, is, few))) (past_marks b 0 (ends last c) ls (m + 1) k (omega arith) (omega (arith, is, few))))
-        (past_marks c 0 last ls k e (omega (arith, is)) few)
-    past_marks (Block b c) done last ls n e is few =
-        let k = n + (2 + labels b) in
-        rising n k e (enclosed n (items_past W F out (ends last c) (ls ++ n ∷ []) (n + 2) b 0)) (items_past W F out last ls k c 0) (omega arith) (omega (arith, is))
-        (enclosed_marks n k (items_past W F out (ends last c) (ls ++ n ∷ []) (n + 2) b 0) (omega arith) (omega (arith, is, few)) (past_marks b 0 (ends last c) (ls ++ n ∷ []) (n + 2) k (omega arith) (omega (arith, is, few))))
-        (past_marks c 0 last ls k e (omega (arith, is)) few)
-    past_marks (Loop b c) done last ls n e is few =
-        let k = n + (2 + labels b) in
-        rising n k e (enclosed n (items_past W F out (ends last c) (ls ++ n ∷ []) (n + 2) b 0)) (items_past W F out last ls k c 0) (omega arith) (omega (arith, is))
-        (enclosed_marks n k (items_past W F out (ends last c) (ls ++ n ∷ []) (n + 2) b 0) (omega arith) (omega (arith, is, few)) (past_marks b 0 (ends last c) (ls ++ n ∷ []) (n + 2) k (omega arith) (omega (arith, is, few))))
-        (past_marks c 0 last ls k e (omega (arith, is)) few)
-    past_marks (Leave k c) done last ls n e is few = bare_then (jumps n e) (jump _ ∷ []) (items_past W F out last ls n c 0) tt (past_marks c 0 last ls n e is few)
-    past_marks (Again k c) done last ls n e is few = bare_then (jumps n e) (jump (enclosing ls k) ∷ []) (items_past W F out last ls n c 0) tt (past_marks c 0 last ls n e is few)
-    past_marks (Return p c) done last ls n e is few = bare_then (jumps n e) (returning F p out (ends last c)) (items_past W F out last ls n c 0) (names_append (λ m. ⊥) (giving F p) (cond (ends last c) [] (jump out ∷ [])) (giving_bare F p) (one_of_both (ends last c) [] (jump out ∷ []) tt tt)) (past_marks c 0 last ls n e is few)
+    test_bare : (to : ℕ) (c : NodesT Where) (done : ℕ) → Bare (test_items W F out to c done)
+    test_bare to (Do o c) zero = let more = more_of (in_one W F o c) in names_append (λ m. ⊥) (one_or_more W F o (in_one W F o c)) (test_items W F out to c more) (one_bare F o c) (test_bare to c more)
+    test_bare to (Do o c) (suc done) = test_bare to c done
+    test_bare to (Choose p a b c) done = names_append (λ m. ⊥) (brings F p 9) (jump_when (hand p 9) to ∷ test_items W F out to c 0) (brings_bare F p 9) (test_bare to c 0)
+    test_bare to Stop done = tt
+    test_bare to (Call t g args c) done = names_append (λ m. ⊥) (call_items W F t g args) (test_items W F out to c 0) (call_bare F t g args) (test_bare to c 0)
+    test_bare to (Block b c) done = test_bare to c 0
+    test_bare to (Loop b c) done = test_bare to c 0
+    test_bare to (Leave k c) done = test_bare to c 0
+    test_bare to (Again k c) done = test_bare to c 0
+    test_bare to (Return p c) done = test_bare to c 0
+
+    some_label : (c : NodesT Where) → is_tested c ≡ true → 1 ≤ labels c
+    some_label (Do o c) e = some_label c e
+    some_label (Choose p a b c) e = omega arith
+    some_label Stop e = absurd cc
+    some_label (Call t g args c) e = absurd cc
+    some_label (Block b c) e = absurd cc
+    some_label (Loop b c) e = absurd cc
+    some_label (Leave k c) e = absurd cc
+    some_label (Again k c) e = absurd cc
+    some_label (Return p c) e = absurd cc
+
+    mutual
+      past_marks : (c : NodesT Where) (done : ℕ) (last : Behind) (ls : List ℕ) (n e : ℕ) → n + labels c ≡ e → e ≤ 2 ^ 32 → Marks (jumps n e) (items_past W F out last ls n c done)
+      past_marks Stop done last ls n e is few = marks_bare (jumps n e) [] tt
+      past_marks (Do o c) zero last ls n e is few =
+          let more = more_of (in_one W F o c) in
+          bare_then (jumps n e) (one_or_more W F o (in_one W F o c)) (items_past W F out last ls n c more) (one_bare F o c) (past_marks c more last ls n e is few)
+      past_marks (Do o c) (suc done) last ls n e is few = past_marks c done last ls n e is few
+      past_marks (Call t g args c) done last ls n e is few = bare_then (jumps n e) (call_items W F t g args) (items_past W F out last ls n c 0) (call_bare F t g args) (past_marks c 0 last ls n e is few)
+      past_marks (Choose p a b c) done last ls n e is few =
+          let m = n + 1 + labels a in
+          let k = n + (2 + labels a + labels b) in
+          rising n k e (cond (is_stop b) (alone F p n (left_to ls a) (items_past W F out (ends last c) ls (n + 1) a 0)) (choice F p n m (items_past W F out Other ls (n + 1) a 0) (items_past W F out (ends last c) ls (m + 1) b 0))) (items_past W F out last ls k c 0) (omega arith) (omega (arith, is))
+          (chosen_marks F p n m k (is_stop b) (left_to ls a) (items_past W F out (ends last c) ls (n + 1) a 0) (items_past W F out Other ls (n + 1) a 0) (items_past W F out (ends last c) ls (m + 1) b 0) (omega arith) (omega arith) (omega (arith, is, few))
+          (past_marks a 0 (ends last c) ls (n + 1) m (omega arith) (omega (arith, is, few))) (past_marks a 0 Other ls (n + 1) m (omega arith) (omega (arith, is, few))) (past_marks b 0 (ends last c) ls (m + 1) k (omega arith) (omega (arith, is, few))))
+          (past_marks c 0 last ls k e (omega (arith, is)) few)
+      past_marks (Block b c) done last ls n e is few =
+          let k = n + (2 + labels b) in
+          rising n k e (enclosed n (items_past W F out (inside (ends last c)) (ls ++ n ∷ []) (n + 2) b 0)) (items_past W F out last ls k c 0) (omega arith) (omega (arith, is))
+          (enclosed_marks n k (items_past W F out (inside (ends last c)) (ls ++ n ∷ []) (n + 2) b 0) (omega arith) (omega (arith, is, few)) (past_marks b 0 (inside (ends last c)) (ls ++ n ∷ []) (n + 2) k (omega arith) (omega (arith, is, few))))
+          (past_marks c 0 last ls k e (omega (arith, is)) few)
+      past_marks (Loop b c) done last ls n e is few =
+          let k = n + (2 + labels b) in
+          let all = items_past W F out (inside (ends last c)) (ls ++ n ∷ []) (n + 2) b 0 in
+          let part = part_items W F out (ls ++ n ∷ []) (n + 2) b in
+          let test = test_items W F out (n + 2) b 0 in
+          let up : n + 2 + 1 ≡ n + 3 = omega arith in
+          rising n k e (looped (is_tested b) n all part test) (items_past W F out last ls k c 0) (omega arith) (omega (arith, is))
+          (looped_marks (is_tested b) n k all part test (omega arith) (omega (arith, is, few)) (past_marks b 0 (inside (ends last c)) (ls ++ n ∷ []) (n + 2) k (omega arith) (omega (arith, is, few)))
+          (λ t. let r = some_label b t in (omega (arith, r), subst (λ h. Marks (jumps h k) part) up (part_marks b (ls ++ n ∷ []) (n + 2) k (omega arith) (omega (arith, is, few))))) (test_bare (n + 2) b 0))
+          (past_marks c 0 last ls k e (omega (arith, is)) few)
+      past_marks (Leave k c) done last ls n e is few = bare_then (jumps n e) (jump _ ∷ []) (items_past W F out last ls n c 0) tt (past_marks c 0 last ls n e is few)
+      past_marks (Again k c) done last ls n e is few = bare_then (jumps n e) (again ls k (ends last c)) (items_past W F out last ls n c 0) (again_bare ls k (ends last c)) (past_marks c 0 last ls n e is few)
+      past_marks (Return p c) done last ls n e is few = bare_then (jumps n e) (returning F p out (is_end (ends last c))) (items_past W F out last ls n c 0) (names_append (λ m. ⊥) (giving F p) (cond (is_end (ends last c)) [] (jump out ∷ [])) (giving_bare F p) (one_of_both (is_end (ends last c)) [] (jump out ∷ []) tt tt)) (past_marks c 0 last ls n e is few)
+
+      part_marks : (c : NodesT Where) (ls : List ℕ) (n e : ℕ) → n + labels c ≡ e → e ≤ 2 ^ 32 → Marks (jumps (n + 1) e) (part_items W F out ls n c)
+      part_marks (Do o c) ls n e is few = part_marks c ls n e is few
+      part_marks (Choose p a b c) ls n e is few =
+          let m = n + 1 + labels a in
+          marks_more (jumps (n + 1) m) (jumps (n + 1) e) (items_past W F out Turn ls (n + 1) a 0) (jumps_within (n + 1) m (n + 1) e (omega arith) (omega (arith, is))) (past_marks a 0 Turn ls (n + 1) m (omega arith) (omega (arith, is, few)))
+      part_marks Stop ls n e is few = marks_bare (jumps (n + 1) e) [] tt
+      part_marks (Call t g args c) ls n e is few = part_marks c ls n e is few
+      part_marks (Block b c) ls n e is few = marks_bare (jumps (n + 1) e) [] tt
+      part_marks (Loop b c) ls n e is few = marks_bare (jumps (n + 1) e) [] tt
+      part_marks (Leave k c) ls n e is few = marks_bare (jumps (n + 1) e) [] tt
+      part_marks (Again k c) ls n e is few = marks_bare (jumps (n + 1) e) [] tt
+      part_marks (Return p c) ls n e is few = marks_bare (jumps (n + 1) e) [] tt
 
     pub code_marks : (c : NodesT Where) (ls : List ℕ) (n e : ℕ) → n + labels c ≡ e → e ≤ 2 ^ 32 → Marks (jumps n e) (code_items W F out ls n c)
-    code_marks c ls n e is few = past_marks c 0 true ls n e is few
+    code_marks c ls n e is few = past_marks c 0 End ls n e is few
 
   -- ---- the whole program
 

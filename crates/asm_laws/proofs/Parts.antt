@@ -318,7 +318,7 @@ module _ (S : Setting) (fits : Fits S) where
   branch_turn u at r to next a h e (inl l) lt = line_turn C a u at (instr.Branch JF r (src.Imm to)) next h e l (lt, omega arith, omega arith)
   branch_turn u at r to next a h e (inr l) lt = line_turn C a u at (instr.Branch JT r (src.Imm next)) to h e l (lt, omega arith, omega arith)
 
-  tested : (κ : Ctx) (s : State Where) (m : machine.State) (pc to next : ℕ) (p : Where) (q : ℕ) → Named S κ.fn p → (h : Mach S κ s m) → m.counter ≡ pc → Tests C.words S.address (Of κ) pc p to next → (if word_of (Of κ) p h.words == 0 then to else next) ≡ q → Came (holder S) m (spare 1 (begin (holder S) s)) (spent node_weight s) q 0 0 (Mach S κ (spent node_weight s))
+  tested : (κ : Ctx) (s : State Where) (m : machine.State) (pc to next : ℕ) (p : Where) (q : ℕ) → Named S κ.fn p → (h : Mach S κ s m) → m.counter ≡ pc → Tests C.words S.address (Of κ) pc p to next → (if word_of (Of κ) p h.words == 0 then to else next) ≡ q → Came (holder S) m (spare 1 (begin (holder S) s)) (spent node_weight s) q 1 0 (Mach S κ (spent node_weight s))
   tested κ s m pc to next p q named h e t is =
       let F = Of κ in
       let xs = s.world.store.answers in

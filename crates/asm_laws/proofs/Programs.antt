@@ -16,7 +16,7 @@ use Rattle.v32_isa.specs.declared.instruction.Mov.TheVariants.{RegReg}
 use Rattle.v32_isa.specs.declared.instruction.Instr.TheVariants as instr
 use Rattle.asm_items.specs.declared.item.AsmItem.TheVariants as item
 use Rattle.asm_laws.specs.Names.{function_label}
-use Rattle.asm_laws.specs.Placing.{Line, Bounds, Past}
+use Rattle.asm_laws.specs.Placing.{Line, Bounds, paid, Past}
 use Rattle.asm_laws.specs.Operations.{args_items}
 use Rattle.asm_laws.specs.Addresses.{IsPlainOne}
 use Rattle.asm_laws.specs.Standing.{Stand}
@@ -87,9 +87,9 @@ module _ (S : Setting) (boot rest : ℕ) (card : Option (List ℕ)) (ok : IsCard
       let s = cs g i.0 i.1 in
       (at.0, record { depth = s.0; callable = s.1; target = m.0.1; args_named = m.0.0; count = sym i.2 ∙ ap length (sym s.2); stands = at.1 }, at_of f so cs ls bs c zero at.0 e n.1 m.1 at.2)
   at_of f so cs ls bs (Choose w x y c) done pc e n m at =
-      (at.0, at.1, at.2, at.3, (m.0.0.0, at.4), at_of f so cs ls bs x zero at.0 at.1 n.0 m.1 at.5, at.6, at_of f so cs ls bs y zero at.2 at.3 n.1 m.2 at.7, at_of f so cs ls bs c zero at.3 e n.2 m.3 at.8)
-  at_of f so cs ls bs (Block b c) done pc e n m at = (at.0, at_of f so cs (record { begins = pc; ends = at.0 } ∷ ls) (false ∷ bs) b zero pc at.0 n.0 m.0 at.1, at_of f so cs ls bs c zero at.0 e n.1 m.1 at.2)
-  at_of f so cs ls bs (Loop b c) done pc e n m at = (at.0, at_of f so cs (record { begins = pc; ends = at.0 } ∷ ls) (true ∷ bs) b zero pc at.0 n.0 m.0 at.1, at_of f so cs ls bs c zero at.0 e n.1 m.1 at.2)
+      (at.0, at.1, at.2, at.3, (m.0.0.0, at.4), at_of f so cs (paid ls) bs x zero at.0 at.1 n.0 m.1 at.5, at.6, at_of f so cs (paid ls) bs y zero at.2 at.3 n.1 m.2 at.7, at_of f so cs ls bs c zero at.3 e n.2 m.3 at.8)
+  at_of f so cs ls bs (Block b c) done pc e n m at = (at.0, at_of f so cs (record { begins = pc; ends = at.0; owes = true } ∷ ls) (false ∷ bs) b zero pc at.0 n.0 m.0 at.1, at_of f so cs ls bs c zero at.0 e n.1 m.1 at.2)
+  at_of f so cs ls bs (Loop b c) done pc e n m at = (at.0, at.1, at.2, at_of f so cs (record { begins = at.0; ends = at.1; owes = true } ∷ ls) (true ∷ bs) b zero at.0 at.1 n.0 m.0 at.3, at_of f so cs ls bs c zero at.1 e n.1 m.1 at.4)
   at_of f so cs ls bs (Leave k c) done pc e n m at = (at.0, (at.1.0, at_of f so cs ls bs c zero at.1.0 e n.1 m at.1.1))
   at_of f so cs ls bs (Again k c) done pc e n m at = (at.0, (at.1.0, at_of f so cs ls bs c zero at.1.0 e n.1 m at.1.1))
   at_of f so cs ls bs (Return w c) done pc e n m at = (record { named = m.0.0; then = at.0.0; stands = at.0.1; passes = at.0.2 }, (at.1.0, at_of f so cs ls bs c zero at.1.0 e n m.1 at.1.1))
@@ -101,9 +101,9 @@ module _ (S : Setting) (boot rest : ℕ) (card : Option (List ℕ)) (ok : IsCard
   at_quiet f so ls bs (Do o c) (suc k) pc e n m q at = at_quiet f so ls bs c k pc e n.1 m.1 q at
   at_quiet f so ls bs (Call t g args c) done pc e n m q at = absurd q
   at_quiet f so ls bs (Choose w x y c) done pc e n m q at =
-      (at.0, at.1, at.2, at.3, (m.0.0.0, at.4), at_quiet f so ls bs x zero at.0 at.1 n.0 m.1 q.0 at.5, at.6, at_quiet f so ls bs y zero at.2 at.3 n.1 m.2 q.1 at.7, at_quiet f so ls bs c zero at.3 e n.2 m.3 q.2 at.8)
-  at_quiet f so ls bs (Block b c) done pc e n m q at = (at.0, at_quiet f so (record { begins = pc; ends = at.0 } ∷ ls) (false ∷ bs) b zero pc at.0 n.0 m.0 q.0 at.1, at_quiet f so ls bs c zero at.0 e n.1 m.1 q.1 at.2)
-  at_quiet f so ls bs (Loop b c) done pc e n m q at = (at.0, at_quiet f so (record { begins = pc; ends = at.0 } ∷ ls) (true ∷ bs) b zero pc at.0 n.0 m.0 q.0 at.1, at_quiet f so ls bs c zero at.0 e n.1 m.1 q.1 at.2)
+      (at.0, at.1, at.2, at.3, (m.0.0.0, at.4), at_quiet f so (paid ls) bs x zero at.0 at.1 n.0 m.1 q.0 at.5, at.6, at_quiet f so (paid ls) bs y zero at.2 at.3 n.1 m.2 q.1 at.7, at_quiet f so ls bs c zero at.3 e n.2 m.3 q.2 at.8)
+  at_quiet f so ls bs (Block b c) done pc e n m q at = (at.0, at_quiet f so (record { begins = pc; ends = at.0; owes = true } ∷ ls) (false ∷ bs) b zero pc at.0 n.0 m.0 q.0 at.1, at_quiet f so ls bs c zero at.0 e n.1 m.1 q.1 at.2)
+  at_quiet f so ls bs (Loop b c) done pc e n m q at = (at.0, at.1, at.2, at_quiet f so (record { begins = at.0; ends = at.1; owes = true } ∷ ls) (true ∷ bs) b zero at.0 at.1 n.0 m.0 q.0 at.3, at_quiet f so ls bs c zero at.1 e n.1 m.1 q.1 at.4)
   at_quiet f so ls bs (Leave k c) done pc e n m q at = (at.0, (at.1.0, at_quiet f so ls bs c zero at.1.0 e n.1 m q at.1.1))
   at_quiet f so ls bs (Again k c) done pc e n m q at = (at.0, (at.1.0, at_quiet f so ls bs c zero at.1.0 e n.1 m q at.1.1))
   at_quiet f so ls bs (Return w c) done pc e n m q at = (record { named = m.0.0; then = at.0.0; stands = at.0.1; passes = at.0.2 }, (at.1.0, at_quiet f so ls bs c zero at.1.0 e n m.1 q at.1.1))

@@ -1,4 +1,5 @@
 -- Items do not depend on the frames of functions that are not there.
+use Rattle.std.specs.Prelude.{◌&&◌, ◌==◌}
 use Rattle.std.proofs.Common.{◌≡◌, ℕ, zero, suc, ◌+◌, ◌<◌, Bool, true, false, cond, List, [], ◌∷◌, ◌++◌, length, Option, Some, None, refl, ap, ◌∙◌, arith}
 use Rattle.kit_base.specs.Word.{add}
 use Rattle.v32_isa.specs.declared.instruction.Instr.{Instr}
@@ -10,8 +11,10 @@ use Rattle.mid_code.specs.declared.placed.Where.TheVariants.{Reg}
 use Rattle.mid_code.specs.Code.{OpT, ConstO, NullO, MoveO, OneO, TwoO, GlobalO, LocalO, LiteralO, CardO, StepO, ApartO, PtrTestO, LoadO, StoreO, FreshO, EndO, InO, OutO, WaitO, HaltO, NodesT, Stop, Do, Call, Choose, Block, Loop, Leave, Again, Return, FunctionT, CodeT}
 use Rattle.mid_code.specs.Invariants.{AreNodes, AllOf}
 use Rattle.asm_laws.specs.Names.{function_label}
-use Rattle.asm_laws.specs.Operations.{Frame, Whole, op_items, word_put, with_word, in_one, one_or_more, more_of, call_items, args_items, keeps_some, start_frame, opening_items, literals_items}
-use Rattle.asm_laws.specs.inner.Emitted.{labels, enclosing, jump, choice, alone, left_to, ends, is_stop, enclosed, returning, items_past, code_items, function_items, functions_items, call_item, exit_items, closing_items, program_items}
+use Rattle.asm_laws.specs.Operations.{Frame, Whole, hand, brings, op_items, word_put, with_word, in_one, one_or_more, more_of, call_items, args_items, keeps_some, start_frame, opening_items, literals_items}
+use Rattle.asm_laws.specs.declared.behind.Behind.{Behind}
+use Rattle.asm_laws.specs.declared.behind.Behind.TheVariants.{Other, End, Turn}
+use Rattle.asm_laws.specs.inner.Emitted.{labels, enclosing, jump, choice, alone, left_to, ends, is_stop, enclosed, returning, items_past, code_items, function_items, functions_items, call_item, exit_items, closing_items, program_items, inside, is_end, is_turn, again, rotated, looped, is_tested, is_round, part_items, test_items, jump_when}
 use Rattle.asm_laws.specs.Framing.{frame_made}
 use Rattle.asm_laws.proofs.Known.{function_there}
 
@@ -60,29 +63,62 @@ module _ (x : CodeT Where) (W : Whole) (fr : ℕ → Frame) (same : (g : ℕ) �
   call_same : (F : Frame) (t : Option Where) (g : ℕ) (args : List Where) → g < length x.functions → call_items (framed W fr) F t g args ≡ call_items W F t g args
   call_same F t g args lt = ap (λ G. args_items F G (W.params g) args ++ call_item W g ∷ keeps_some F t) (same g lt)
 
-  past_same : (m : ℕ) (F : Frame) (out : ℕ) (c : NodesT Where) (done : ℕ) (last : Bool) (bs : List Bool) (ls : List ℕ) (n : ℕ) → AreNodes x m bs c → items_past (framed W fr) F out last ls n c done ≡ items_past W F out last ls n c done
-  past_same m F out Stop done last bs ls n ok = refl
-  past_same m F out (Do o c) zero last bs ls n ok =
+  test_same : (m : ℕ) (F : Frame) (out to : ℕ) (c : NodesT Where) (done : ℕ) (bs : List Bool) → AreNodes x m bs c → test_items (framed W fr) F out to c done ≡ test_items W F out to c done
+  test_same m F out to (Do o c) zero bs ok =
       let r = in_one_same W fr F o c in
       let one = one_same W fr F o (in_one W F o c) in
-      let rest = past_same m F out c (more_of (in_one W F o c)) last bs ls n ok.1 in
-      (λ i. one_or_more (framed W fr) F o (r i) ++ items_past (framed W fr) F out last ls n c (more_of (r i))) ∙ (λ i. one i ++ rest i)
-  past_same m F out (Do o c) (suc done) last bs ls n ok = past_same m F out c done last bs ls n ok.1
-  past_same m F out (Call t g args c) done last bs ls n ok = let p = call_same F t g args (function_there x g (length args) ok.0) in let q = past_same m F out c 0 last bs ls n ok.1 in λ i. p i ++ q i
-  past_same m F out (Choose p a b c) done last bs ls n ok =
-      let one = past_same m F out a 0 (ends last c) bs ls (n + 1) ok.0 in
-      let first = past_same m F out a 0 false bs ls (n + 1) ok.0 in
-      let two = past_same m F out b 0 (ends last c) bs ls (n + 1 + labels a + 1) ok.1 in
-      let rest = past_same m F out c 0 last bs ls (n + (2 + labels a + labels b)) ok.2 in
-      λ i. cond (is_stop b) (alone F p n (left_to ls a) (one i)) (choice F p n (n + 1 + labels a) (first i) (two i)) ++ rest i
-  past_same m F out (Block b c) done last bs ls n ok = let p = past_same m F out b 0 (ends last c) (false ∷ bs) (ls ++ n ∷ []) (n + 2) ok.0 in let q = past_same m F out c 0 last bs ls (n + (2 + labels b)) ok.1 in λ i. enclosed n (p i) ++ q i
-  past_same m F out (Loop b c) done last bs ls n ok = let p = past_same m F out b 0 (ends last c) (true ∷ bs) (ls ++ n ∷ []) (n + 2) ok.0 in let q = past_same m F out c 0 last bs ls (n + (2 + labels b)) ok.1 in λ i. enclosed n (p i) ++ q i
-  past_same m F out (Leave k c) done last bs ls n ok = ap (λ y. jump (add (enclosing ls k) 1) ∷ y) (past_same m F out c 0 last bs ls n ok.1)
-  past_same m F out (Again k c) done last bs ls n ok = ap (λ y. jump (enclosing ls k) ∷ y) (past_same m F out c 0 last bs ls n ok.1)
-  past_same m F out (Return p c) done last bs ls n ok = ap (λ y. returning F p out (ends last c) ++ y) (past_same m F out c 0 last bs ls n ok)
+      let rest = test_same m F out to c (more_of (in_one W F o c)) bs ok.1 in
+      (λ i. one_or_more (framed W fr) F o (r i) ++ test_items (framed W fr) F out to c (more_of (r i))) ∙ (λ i. one i ++ rest i)
+  test_same m F out to (Do o c) (suc done) bs ok = test_same m F out to c done bs ok.1
+  test_same m F out to (Choose p a b c) done bs ok = ap (λ y. brings F p 9 ++ jump_when (hand p 9) to ∷ y) (test_same m F out to c 0 bs ok.2)
+  test_same m F out to Stop done bs ok = refl
+  test_same m F out to (Call t g args c) done bs ok = let p = call_same F t g args (function_there x g (length args) ok.0) in let q = test_same m F out to c 0 bs ok.1 in λ i. p i ++ q i
+  test_same m F out to (Block b c) done bs ok = test_same m F out to c 0 bs ok.1
+  test_same m F out to (Loop b c) done bs ok = test_same m F out to c 0 bs ok.1
+  test_same m F out to (Leave k c) done bs ok = test_same m F out to c 0 bs ok.1
+  test_same m F out to (Again k c) done bs ok = test_same m F out to c 0 bs ok.1
+  test_same m F out to (Return p c) done bs ok = test_same m F out to c 0 bs ok
+
+  mutual
+    past_same : (m : ℕ) (F : Frame) (out : ℕ) (c : NodesT Where) (done : ℕ) (last : Behind) (bs : List Bool) (ls : List ℕ) (n : ℕ) → AreNodes x m bs c → items_past (framed W fr) F out last ls n c done ≡ items_past W F out last ls n c done
+    past_same m F out Stop done last bs ls n ok = refl
+    past_same m F out (Do o c) zero last bs ls n ok =
+        let r = in_one_same W fr F o c in
+        let one = one_same W fr F o (in_one W F o c) in
+        let rest = past_same m F out c (more_of (in_one W F o c)) last bs ls n ok.1 in
+        (λ i. one_or_more (framed W fr) F o (r i) ++ items_past (framed W fr) F out last ls n c (more_of (r i))) ∙ (λ i. one i ++ rest i)
+    past_same m F out (Do o c) (suc done) last bs ls n ok = past_same m F out c done last bs ls n ok.1
+    past_same m F out (Call t g args c) done last bs ls n ok = let p = call_same F t g args (function_there x g (length args) ok.0) in let q = past_same m F out c 0 last bs ls n ok.1 in λ i. p i ++ q i
+    past_same m F out (Choose p a b c) done last bs ls n ok =
+        let one = past_same m F out a 0 (ends last c) bs ls (n + 1) ok.0 in
+        let first = past_same m F out a 0 Other bs ls (n + 1) ok.0 in
+        let two = past_same m F out b 0 (ends last c) bs ls (n + 1 + labels a + 1) ok.1 in
+        let rest = past_same m F out c 0 last bs ls (n + (2 + labels a + labels b)) ok.2 in
+        λ i. cond (is_stop b) (alone F p n (left_to ls a) (one i)) (choice F p n (n + 1 + labels a) (first i) (two i)) ++ rest i
+    past_same m F out (Block b c) done last bs ls n ok = let p = past_same m F out b 0 (inside (ends last c)) (false ∷ bs) (ls ++ n ∷ []) (n + 2) ok.0 in let q = past_same m F out c 0 last bs ls (n + (2 + labels b)) ok.1 in λ i. enclosed n (p i) ++ q i
+    past_same m F out (Loop b c) done last bs ls n ok =
+        let p = past_same m F out b 0 (inside (ends last c)) (true ∷ bs) (ls ++ n ∷ []) (n + 2) ok.0 in
+        let part = part_same m F out b (true ∷ bs) (ls ++ n ∷ []) (n + 2) ok.0 in
+        let test = test_same m F out (n + 2) b 0 (true ∷ bs) ok.0 in
+        let q = past_same m F out c 0 last bs ls (n + (2 + labels b)) ok.1 in
+        λ i. looped (is_tested b) n (p i) (part i) (test i) ++ q i
+    past_same m F out (Leave k c) done last bs ls n ok = ap (λ y. jump (add (enclosing ls k) 1) ∷ y) (past_same m F out c 0 last bs ls n ok.1)
+    past_same m F out (Again k c) done last bs ls n ok = ap (λ y. again ls k (ends last c) ++ y) (past_same m F out c 0 last bs ls n ok.1)
+    past_same m F out (Return p c) done last bs ls n ok = ap (λ y. returning F p out (is_end (ends last c)) ++ y) (past_same m F out c 0 last bs ls n ok)
+
+    part_same : (m : ℕ) (F : Frame) (out : ℕ) (c : NodesT Where) (bs : List Bool) (ls : List ℕ) (n : ℕ) → AreNodes x m bs c → part_items (framed W fr) F out ls n c ≡ part_items W F out ls n c
+    part_same m F out (Do o c) bs ls n ok = part_same m F out c bs ls n ok.1
+    part_same m F out (Choose p a b c) bs ls n ok = past_same m F out a 0 Turn bs ls (n + 1) ok.0
+    part_same m F out Stop bs ls n ok = refl
+    part_same m F out (Call t g args c) bs ls n ok = part_same m F out c bs ls n ok.1
+    part_same m F out (Block b c) bs ls n ok = refl
+    part_same m F out (Loop b c) bs ls n ok = refl
+    part_same m F out (Leave k c) bs ls n ok = refl
+    part_same m F out (Again k c) bs ls n ok = refl
+    part_same m F out (Return p c) bs ls n ok = refl
 
   pub code_same : (m : ℕ) (F : Frame) (out : ℕ) (c : NodesT Where) (bs : List Bool) (ls : List ℕ) (n : ℕ) → AreNodes x m bs c → code_items (framed W fr) F out ls n c ≡ code_items W F out ls n c
-  code_same m F out c bs ls n ok = past_same m F out c 0 true bs ls n ok
+  code_same m F out c bs ls n ok = past_same m F out c 0 End bs ls n ok
 
   abbrev own_of : (f n : ℕ) → Frame → List AsmItem → List AsmItem
   own_of f n F body = item.Label (function_label W.names f) ∷ (frame_made F.size ++ (body ++ exit_items n F))

@@ -1,6 +1,6 @@
 -- Items have at most as many words as their code weighs.
 use Rattle.std.proofs.Common.{◌≡◌, ℕ, zero, suc, ◌+◌, ◌*◌, ◌≤◌, List, [], ◌∷◌, ◌++◌, length, map, Option, Some, None, ap, arith}
-use Rattle.std.specs.Prelude.{◌==◌, cond, Bool, true, false, get_or, sum_by}
+use Rattle.std.specs.Prelude.{◌==◌, cond, Bool, true, false, get_or, sum_by, ◌&&◌}
 use Rattle.std.proofs.lemmas.List.Sums.{sum_by-cons}
 use Rattle.either.specs.declared.Either.TheVariants.{Left, Right}
 use Rattle.v32_isa.specs.declared.instruction.Plain.TheVariants.{HLT, WAIT, RET}
@@ -28,7 +28,9 @@ use Rattle.asm_laws.specs.Operations as operations
 use Rattle.asm_laws.specs.Moves.{Move, in_order}
 use Rattle.asm_laws.specs.Operations.{Frame, Whole, register, slot_word, local_word, fetches, keeps, keeps_some, is_in, hand, brings, takes, aim, lays, moves, changes, is_direct, in_place, apart, turned, is_turned, turned_or_apart, computes, slot_arg, slot_args, moved_items, args_items, call_items, op_items, in_one, one_or_more, more_of, giving, start_frame, opening_items, literal_items, literals_items}
 use Rattle.asm_laws.specs.Framing.{frame_made, frame_gone}
-use Rattle.asm_laws.specs.inner.Emitted.{labels, enclosing, jump, jump_unless, mark, choice, one_way, alone, left_to, ends, jump_when, is_stop, enclosed, returning, items_past, code_items, entry_items, exit_items, function_items, functions_items, functions_labels, call_item, closing_items, start_items, program_items, labels_of}
+use Rattle.asm_laws.specs.declared.behind.Behind.{Behind}
+use Rattle.asm_laws.specs.declared.behind.Behind.TheVariants.{Other, End, Turn}
+use Rattle.asm_laws.specs.inner.Emitted.{labels, enclosing, jump, jump_unless, mark, choice, one_way, alone, left_to, ends, jump_when, is_stop, enclosed, returning, items_past, code_items, entry_items, exit_items, function_items, functions_items, functions_labels, call_item, closing_items, start_items, program_items, labels_of, inside, is_end, is_turn, again, rotated, looped, is_tested, is_round, part_items, test_items}
 use Rattle.asm_laws.proofs.Ordering.{in_order_few}
 use Rattle.asm_laws.proofs.InOne.{one_or_more_is}
 use Rattle.asm_laws.proofs.Walked.{total_append, total_one, total_none, total_more}
@@ -231,38 +233,108 @@ returning_size F p out false = let x = total_append (giving F p) (jump out ∷ [
 jump_size : (n : ℕ) → item_size (jump n) ≤ 2
 jump_size n = omega arith
 
+again_size : (ls : List ℕ) (k : ℕ) (last : Behind) → size (again ls k last) ≤ 8
+again_size ls k last = go ((k == 0) && is_turn last)
+  where
+    go : (b : Bool) → size (cond b [] (jump (enclosing ls k) ∷ [])) ≤ 8
+    go true = omega (arith, total_none)
+    go false = one_item (jump (enclosing ls k)) 8 (omega arith)
+
+rotated_size : (n w : ℕ) (part test : List AsmItem) → size part + size test ≤ w → size (rotated n part test) ≤ w + 8
+rotated_size n w part test le =
+    let last = mark (n + 1) ∷ [] in
+    let x1 = total_more (jump n) (mark (n + 2) ∷ (part ++ mark n ∷ (test ++ last))) in
+    let x2 = total_more (mark (n + 2)) (part ++ mark n ∷ (test ++ last)) in
+    let x3 = total_append part (mark n ∷ (test ++ last)) in
+    let x4 = total_more (mark n) (test ++ last) in
+    let x5 = total_append test last in
+    let x6 = one_item (mark (n + 1)) 0 (omega arith) in
+    let j = jump_size n in
+    omega (arith, x1, x2, x3, x4, x5, x6, j, le)
+
+looped_size : (t : Bool) (n w : ℕ) (all part test : List AsmItem) → size all ≤ w → size part + size test ≤ w → size (looped t n all part test) ≤ w + 8
+looped_size true n w all part test la le = rotated_size n w part test le
+looped_size false n w all part test la le = enclosed_size n w all la
+
+test_size : (F : Frame) (p : Where) (to : ℕ) (xs : List AsmItem) → size (brings F p 9 ++ jump_when (hand p 9) to ∷ xs) ≤ 8 + size xs
+test_size F p to xs =
+    let x1 = total_append (brings F p 9) (jump_when (hand p 9) to ∷ xs) in
+    let x2 = total_more (jump_when (hand p 9) to) xs in
+    omega (arith, x1, x2, brings_size F p 9)
+
 -- the parameters of functions are those of the program
 abbrev pub Counts : CodeT Where → Whole → Type 0
 Counts x W = (g n : ℕ) → parameter_count x g ≡ Some n → n ≡ length (W.params g)
 
 module _ (x : CodeT Where) (W : Whole) (counts : Counts x W) (m : ℕ) (F : Frame) (out : ℕ) where
-  past_size : (c : NodesT Where) (done : ℕ) (last : Bool) (bs : List Bool) (ls : List ℕ) (n : ℕ) → AreNodes x m bs c → size (items_past W F out last ls n c done) ≤ nodes_weight c
-  past_size Stop done last bs ls n ok = omega (arith, total_none)
-  past_size (Do o c) zero last bs ls n ok =
+  tests_size : (c : NodesT Where) (done : ℕ) (bs : List Bool) (to : ℕ) → AreNodes x m bs c → size (test_items W F out to c done) ≤ nodes_weight c
+  tests_size Stop done bs to ok = omega (arith, total_none)
+  tests_size (Do o c) zero bs to ok =
       let more = more_of (in_one W F o c) in
-      let t = total_append (one_or_more W F o (in_one W F o c)) (items_past W F out last ls n c more) in
-      omega (arith, t, one_size W F o c, past_size c more last bs ls n ok.1)
-  past_size (Do o c) (suc done) last bs ls n ok = let r = past_size c done last bs ls n ok.1 in omega (arith, r)
-  past_size (Call t g args c) done last bs ls n ok = let s = total_append (call_items W F t g args) (items_past W F out last ls n c 0) in omega (arith, s, call_size W F t g args (counts g (length args) ok.0), past_size c 0 last bs ls n ok.1)
-  past_size (Choose p a b c) done last bs ls n ok =
-      let xs = cond (is_stop b) (alone F p n (left_to ls a) (items_past W F out (ends last c) ls (n + 1) a 0)) (choice F p n (n + 1 + labels a) (items_past W F out false ls (n + 1) a 0) (items_past W F out (ends last c) ls (n + 1 + labels a + 1) b 0)) in
-      let s = total_append xs (items_past W F out last ls (n + (2 + labels a + labels b)) c 0) in
-      let h = chosen_size F p n (n + 1 + labels a) (nodes_weight a) (nodes_weight b) (is_stop b) (left_to ls a) _ _ _ (past_size a 0 (ends last c) bs ls (n + 1) ok.0) (past_size a 0 false bs ls (n + 1) ok.0) (past_size b 0 (ends last c) bs ls (n + 1 + labels a + 1) ok.1) in
-      omega (arith, s, h, past_size c 0 last bs ls (n + (2 + labels a + labels b)) ok.2)
-  past_size (Block b c) done last bs ls n ok =
-      let s = total_append (enclosed n (items_past W F out (ends last c) (ls ++ n ∷ []) (n + 2) b 0)) (items_past W F out last ls (n + (2 + labels b)) c 0) in
-      let h = enclosed_size n (nodes_weight b) _ (past_size b 0 (ends last c) (false ∷ bs) (ls ++ n ∷ []) (n + 2) ok.0) in
-      omega (arith, s, h, past_size c 0 last bs ls (n + (2 + labels b)) ok.1)
-  past_size (Loop b c) done last bs ls n ok =
-      let s = total_append (enclosed n (items_past W F out (ends last c) (ls ++ n ∷ []) (n + 2) b 0)) (items_past W F out last ls (n + (2 + labels b)) c 0) in
-      let h = enclosed_size n (nodes_weight b) _ (past_size b 0 (ends last c) (true ∷ bs) (ls ++ n ∷ []) (n + 2) ok.0) in
-      omega (arith, s, h, past_size c 0 last bs ls (n + (2 + labels b)) ok.1)
-  past_size (Leave k c) done last bs ls n ok = let j = jump_size (add (enclosing ls k) 1) in let s = total_more (jump (add (enclosing ls k) 1)) (items_past W F out last ls n c 0) in omega (arith, s, j, past_size c 0 last bs ls n ok.1)
-  past_size (Again k c) done last bs ls n ok = let j = jump_size (enclosing ls k) in let s = total_more (jump (enclosing ls k)) (items_past W F out last ls n c 0) in omega (arith, s, j, past_size c 0 last bs ls n ok.1)
-  past_size (Return p c) done last bs ls n ok = let s = total_append (returning F p out (ends last c)) (items_past W F out last ls n c 0) in omega (arith, s, returning_size F p out (ends last c), past_size c 0 last bs ls n ok)
+      let t = total_append (one_or_more W F o (in_one W F o c)) (test_items W F out to c more) in
+      omega (arith, t, one_size W F o c, tests_size c more bs to ok.1)
+  tests_size (Do o c) (suc done) bs to ok = let r = tests_size c done bs to ok.1 in omega (arith, r)
+  tests_size (Call t g args c) done bs to ok =
+      let s = total_append (call_items W F t g args) (test_items W F out to c 0) in
+      omega (arith, s, call_size W F t g args (counts g (length args) ok.0), tests_size c 0 bs to ok.1)
+  tests_size (Choose p a b c) done bs to ok = let r = tests_size c 0 bs to ok.2 in omega (arith, r, test_size F p to (test_items W F out to c 0))
+  tests_size (Block b c) done bs to ok = let r = tests_size c 0 bs to ok.1 in omega (arith, r)
+  tests_size (Loop b c) done bs to ok = let r = tests_size c 0 bs to ok.1 in omega (arith, r)
+  tests_size (Leave k c) done bs to ok = let r = tests_size c 0 bs to ok.1 in omega (arith, r)
+  tests_size (Again k c) done bs to ok = let r = tests_size c 0 bs to ok.1 in omega (arith, r)
+  tests_size (Return p c) done bs to ok = let r = tests_size c 0 bs to ok in omega (arith, r)
+
+  mutual
+    past_size : (c : NodesT Where) (done : ℕ) (last : Behind) (bs : List Bool) (ls : List ℕ) (n : ℕ) → AreNodes x m bs c → size (items_past W F out last ls n c done) ≤ nodes_weight c
+    past_size Stop done last bs ls n ok = omega (arith, total_none)
+    past_size (Do o c) zero last bs ls n ok =
+        let more = more_of (in_one W F o c) in
+        let t = total_append (one_or_more W F o (in_one W F o c)) (items_past W F out last ls n c more) in
+        omega (arith, t, one_size W F o c, past_size c more last bs ls n ok.1)
+    past_size (Do o c) (suc done) last bs ls n ok = let r = past_size c done last bs ls n ok.1 in omega (arith, r)
+    past_size (Call t g args c) done last bs ls n ok = let s = total_append (call_items W F t g args) (items_past W F out last ls n c 0) in omega (arith, s, call_size W F t g args (counts g (length args) ok.0), past_size c 0 last bs ls n ok.1)
+    past_size (Choose p a b c) done last bs ls n ok =
+        let xs = cond (is_stop b) (alone F p n (left_to ls a) (items_past W F out (ends last c) ls (n + 1) a 0)) (choice F p n (n + 1 + labels a) (items_past W F out Other ls (n + 1) a 0) (items_past W F out (ends last c) ls (n + 1 + labels a + 1) b 0)) in
+        let s = total_append xs (items_past W F out last ls (n + (2 + labels a + labels b)) c 0) in
+        let h = chosen_size F p n (n + 1 + labels a) (nodes_weight a) (nodes_weight b) (is_stop b) (left_to ls a) _ _ _ (past_size a 0 (ends last c) bs ls (n + 1) ok.0) (past_size a 0 Other bs ls (n + 1) ok.0) (past_size b 0 (ends last c) bs ls (n + 1 + labels a + 1) ok.1) in
+        omega (arith, s, h, past_size c 0 last bs ls (n + (2 + labels a + labels b)) ok.2)
+    past_size (Block b c) done last bs ls n ok =
+        let s = total_append (enclosed n (items_past W F out (inside (ends last c)) (ls ++ n ∷ []) (n + 2) b 0)) (items_past W F out last ls (n + (2 + labels b)) c 0) in
+        let h = enclosed_size n (nodes_weight b) _ (past_size b 0 (inside (ends last c)) (false ∷ bs) (ls ++ n ∷ []) (n + 2) ok.0) in
+        omega (arith, s, h, past_size c 0 last bs ls (n + (2 + labels b)) ok.1)
+    past_size (Loop b c) done last bs ls n ok =
+        let all = items_past W F out (inside (ends last c)) (ls ++ n ∷ []) (n + 2) b 0 in
+        let part = part_items W F out (ls ++ n ∷ []) (n + 2) b in
+        let test = test_items W F out (n + 2) b 0 in
+        let s = total_append (looped (is_tested b) n all part test) (items_past W F out last ls (n + (2 + labels b)) c 0) in
+        let h = looped_size (is_tested b) n (nodes_weight b) all part test (past_size b 0 (inside (ends last c)) (true ∷ bs) (ls ++ n ∷ []) (n + 2) ok.0) (parts_size b 0 (true ∷ bs) (ls ++ n ∷ []) (n + 2) (n + 2) ok.0) in
+        omega (arith, s, h, past_size c 0 last bs ls (n + (2 + labels b)) ok.1)
+    past_size (Leave k c) done last bs ls n ok = let j = jump_size (add (enclosing ls k) 1) in let s = total_more (jump (add (enclosing ls k) 1)) (items_past W F out last ls n c 0) in omega (arith, s, j, past_size c 0 last bs ls n ok.1)
+    past_size (Again k c) done last bs ls n ok = let s = total_append (again ls k (ends last c)) (items_past W F out last ls n c 0) in omega (arith, s, again_size ls k (ends last c), past_size c 0 last bs ls n ok.1)
+    past_size (Return p c) done last bs ls n ok = let s = total_append (returning F p out (is_end (ends last c))) (items_past W F out last ls n c 0) in omega (arith, s, returning_size F p out (is_end (ends last c)), past_size c 0 last bs ls n ok)
+
+    parts_size : (c : NodesT Where) (done : ℕ) (bs : List Bool) (ls : List ℕ) (n to : ℕ) → AreNodes x m bs c → size (part_items W F out ls n c) + size (test_items W F out to c done) ≤ nodes_weight c
+    parts_size (Do o c) zero bs ls n to ok =
+        let more = more_of (in_one W F o c) in
+        let t = total_append (one_or_more W F o (in_one W F o c)) (test_items W F out to c more) in
+        omega (arith, t, one_size W F o c, parts_size c more bs ls n to ok.1)
+    parts_size (Do o c) (suc done) bs ls n to ok = let r = parts_size c done bs ls n to ok.1 in omega (arith, r)
+    parts_size (Choose p a b c) done bs ls n to ok =
+        let r = past_size a 0 Turn bs ls (n + 1) ok.0 in
+        let t = tests_size c 0 bs to ok.2 in
+        omega (arith, r, t, test_size F p to (test_items W F out to c 0))
+    parts_size Stop done bs ls n to ok = omega (arith, total_none)
+    parts_size (Call t g args c) done bs ls n to ok =
+        let s = total_append (call_items W F t g args) (test_items W F out to c 0) in
+        omega (arith, s, call_size W F t g args (counts g (length args) ok.0), parts_size c 0 bs ls n to ok.1)
+    parts_size (Block b c) done bs ls n to ok = let r = tests_size c 0 bs to ok.1 in omega (arith, total_none, r)
+    parts_size (Loop b c) done bs ls n to ok = let r = tests_size c 0 bs to ok.1 in omega (arith, total_none, r)
+    parts_size (Leave k c) done bs ls n to ok = let r = tests_size c 0 bs to ok.1 in omega (arith, total_none, r)
+    parts_size (Again k c) done bs ls n to ok = let r = tests_size c 0 bs to ok.1 in omega (arith, total_none, r)
+    parts_size (Return p c) done bs ls n to ok = let r = tests_size c 0 bs to ok in omega (arith, total_none, r)
 
   pub code_size : (c : NodesT Where) (bs : List Bool) (ls : List ℕ) (n : ℕ) → AreNodes x m bs c → size (code_items W F out ls n c) ≤ nodes_weight c
-  code_size c bs ls n ok = past_size c 0 true bs ls n ok
+  code_size c bs ls n ok = past_size c 0 End bs ls n ok
 
 -- ---- the whole program
 

@@ -1,8 +1,10 @@
 //! What the items of placed code do where they stand among the words of a program.
 #![tactic(auto)]
 
+mod behind;
 mod laws;
 
+pub use behind::Behind;
 pub use laws::{
     calls_stay_within_numbers, placed_code_agrees, places_have_numbers_or_are_forbidden,
 };

@@ -10,8 +10,10 @@ use Rattle.mid_code.specs.declared.node.Op.{Op}
 use Rattle.mid_code.specs.declared.node.Op.TheVariants as op
 use Rattle.mid_code.specs.Code.{NodesT, Do, Call, Stop}
 use Rattle.mid_code.specs.Functions.{op_before, NodeT, DoN, ChooseN, BlockN, LoopN, LeaveN, AgainN, ReturnN, ListT, NoN, MoreN, before, joined}
-use Rattle.asm_laws.specs.Operations.{Frame, Whole, op_items, word_put, with_word, in_one, before_it, call_items}
-use Rattle.asm_laws.specs.inner.Emitted.{enclosing, jump, alone, choice, enclosed, returning}
+use Rattle.asm_laws.specs.Operations.{Frame, Whole, op_items, word_put, with_word, in_one, before_it, call_items, hand, brings}
+use Rattle.asm_laws.specs.declared.behind.Behind.{Behind}
+use Rattle.asm_laws.specs.declared.behind.Behind.TheVariants.{Other, End, Turn}
+use Rattle.asm_laws.specs.inner.Emitted.{enclosing, jump, alone, choice, enclosed, returning, inside, is_end, again, looped, jump_when}
 
 -- how many labels nodes take
 abbrev mutual
@@ -88,29 +90,84 @@ abbrev pub left_in : List ℕ → ListT Where → Option ℕ
 left_in ls (MoreN (LeaveN k) NoN) = Some (add (enclosing ls k) 1)
 left_in ls _ = None
 
--- whether the function's end comes right behind a node, where it comes behind the list
-abbrev pub ends_in : (last : Bool) → ListT Where → Bool
-ends_in last rest = is_none rest && last
+-- what comes right behind a node with these behind it, where this comes behind the list
+abbrev pub ends_in : Behind → ListT Where → Behind
+ends_in last rest = cond (is_none rest) last Other
+
+-- whether a node begins the next turn of the innermost loop, and whether the last one of a list does
+abbrev pub is_again : NodeT Where → Bool
+is_again (AgainN k) = k == 0
+is_again _ = false
+
+abbrev pub round_in : ListT Where → Bool
+round_in NoN = false
+round_in (MoreN x rest) = cond (is_none rest) (is_again x) (round_in rest)
+
+-- whether a list is operations and then such a test as rotated loops have
+abbrev pub is_test : NodeT Where → ListT Where → (rest_is : Bool) → Bool
+is_test (DoN o) rest so = cond (is_call o) false so
+is_test (ChooseN p a b) rest so = is_none b && (is_none rest && round_in a)
+is_test _ rest so = false
+
+abbrev pub tested_in : ListT Where → Bool
+tested_in NoN = false
+tested_in (MoreN x rest) = is_test x rest (tested_in rest)
+
+-- the labels of what is done in a turn then
+abbrev pub is_operation : NodeT Where → Bool
+is_operation (DoN o) = true
+is_operation _ = false
+
+abbrev pub turn_labels : NodeT Where → ℕ
+turn_labels (ChooseN p a b) = list_labels a
+turn_labels _ = 0
+
+abbrev pub part_labels : ListT Where → ℕ
+part_labels NoN = 0
+part_labels (MoreN x rest) = cond (is_operation x) (part_labels rest) (turn_labels x)
+
+module _ (W : Whole) (F : Frame) where
+  -- the items of a node of such a list
+  abbrev pub own_test : (to : ℕ) → NodeT Where → List AsmItem
+  own_test to (DoN o) = do_items W F o
+  own_test to (ChooseN p a b) = brings F p 9 ++ jump_when (hand p 9) to ∷ []
+  own_test to _ = []
+
+  abbrev pub list_test : (to : ℕ) → ListT Where → (done : ℕ) → List AsmItem
+  list_test to NoN k = []
+  list_test to (MoreN x rest) k =
+      front_items W F (before x (joined rest)) k
+      ++ onward (front_more W F (before x (joined rest)) k) (own_test to x) (list_test to rest) (list_test to rest 0)
 
 module _ (W : Whole) (F : Frame) (out : ℕ) where
   abbrev mutual
-    pub node_items : (last : Bool) → List ℕ → ℕ → NodeT Where → List AsmItem
+    pub node_items : (last : Behind) → List ℕ → ℕ → NodeT Where → List AsmItem
     node_items last ls n (DoN o) = do_items W F o
     node_items last ls n (ChooseN p a b) =
         cond (is_none b) (alone F p n (left_in ls a) (list_past last ls (n + 1) a 0))
-        (choice F p n (n + 1 + list_labels a) (list_past false ls (n + 1) a 0) (list_past last ls (n + 1 + list_labels a + 1) b 0))
-    node_items last ls n (BlockN b) = enclosed n (list_past last (ls ++ n ∷ []) (n + 2) b 0)
-    node_items last ls n (LoopN b) = enclosed n (list_past last (ls ++ n ∷ []) (n + 2) b 0)
+        (choice F p n (n + 1 + list_labels a) (list_past Other ls (n + 1) a 0) (list_past last ls (n + 1 + list_labels a + 1) b 0))
+    node_items last ls n (BlockN b) = enclosed n (list_past (inside last) (ls ++ n ∷ []) (n + 2) b 0)
+    node_items last ls n (LoopN b) =
+        looped (tested_in b) n (list_past (inside last) (ls ++ n ∷ []) (n + 2) b 0) (list_part (ls ++ n ∷ []) (n + 2) b) (list_test W F (n + 2) b 0)
     node_items last ls n (LeaveN k) = jump (add (enclosing ls k) 1) ∷ []
-    node_items last ls n (AgainN k) = jump (enclosing ls k) ∷ []
-    node_items last ls n (ReturnN p) = returning F p out last
+    node_items last ls n (AgainN k) = again ls k last
+    node_items last ls n (ReturnN p) = returning F p out (is_end last)
 
     -- so many operations in front are done already
-    pub list_past : (last : Bool) → List ℕ → ℕ → ListT Where → (done : ℕ) → List AsmItem
+    pub list_past : (last : Behind) → List ℕ → ℕ → ListT Where → (done : ℕ) → List AsmItem
     list_past last ls n NoN k = []
     list_past last ls n (MoreN x rest) k =
         front_items W F (before x (joined rest)) k ++ onward (front_more W F (before x (joined rest)) k) (node_items (ends_in last rest) ls n x)
         (list_past last ls n rest) (list_past last ls (n + node_labels x) rest 0)
 
+    -- what is done in a turn of a rotated loop
+    pub list_part : List ℕ → ℕ → ListT Where → List AsmItem
+    list_part ls n NoN = []
+    list_part ls n (MoreN x rest) = cond (is_operation x) (list_part ls n rest) (turn_items ls n x)
+
+    pub turn_items : List ℕ → ℕ → NodeT Where → List AsmItem
+    turn_items ls n (ChooseN p a b) = list_past Turn ls (n + 1) a 0
+    turn_items ls n _ = []
+
   abbrev pub list_items : List ℕ → ℕ → ListT Where → List AsmItem
-  list_items ls n xs = list_past true ls n xs 0
+  list_items ls n xs = list_past End ls n xs 0

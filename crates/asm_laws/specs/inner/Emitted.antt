@@ -1,5 +1,5 @@
 -- The items of placed code: its instructions one after another, with labels where jumps go.
-use Rattle.std.specs.Prelude.{ℕ, zero, suc, Bool, true, false, cond, ◌&&◌, ◌+◌, ◌-◌, List, [], ◌∷◌, ◌++◌, length, Option, Some, None, get_or}
+use Rattle.std.specs.Prelude.{ℕ, zero, suc, Bool, true, false, cond, ◌&&◌, ◌+◌, ◌-◌, ◌==◌, List, [], ◌∷◌, ◌++◌, length, Option, Some, None, get_or}
 use Rattle.either.specs.declared.Either.TheVariants.{Right}
 use Rattle.v32_isa.specs.declared.instruction.Plain.TheVariants.{HLT}
 use Rattle.v32_isa.specs.declared.instruction.Go.TheVariants.{JMP, CALL}
@@ -11,6 +11,8 @@ use Rattle.asm_items.specs.declared.item.AsmItem.{AsmItem}
 use Rattle.asm_items.specs.declared.item.AsmItem.TheVariants as items
 use Rattle.mid_code.specs.declared.placed.Where.{Where}
 use Rattle.mid_code.specs.Code.{NodesT, Stop, Do, Call, Choose, Block, Loop, Leave, Again, Return, FunctionT, CodeT}
+use Rattle.asm_laws.specs.declared.behind.Behind.{Behind}
+use Rattle.asm_laws.specs.declared.behind.Behind.TheVariants.{Other, End, Turn}
 use Rattle.asm_laws.specs.Names.{jump_label, function_label}
 use Rattle.asm_laws.specs.Operations.{Frame, Whole, hand, brings, giving, in_one, one_or_more, more_of, call_items, start_frame, opening_items, literals_items}
 use Rattle.asm_laws.specs.Framing.{frame_made, frame_gone}
@@ -76,35 +78,103 @@ is_stop _ = false
 abbrev pub enclosed : ℕ → List AsmItem → List AsmItem
 enclosed n a = mark n ∷ (a ++ mark (n + 1) ∷ [])
 
--- whether the function's end comes right behind a node, where it comes behind those that the node stands before
-abbrev pub ends : (last : Bool) → NodesT Where → Bool
-ends last c = is_stop c && last
+-- what comes right behind a node that stands before others, behind which this comes
+abbrev pub ends : Behind → NodesT Where → Behind
+ends last c = cond (is_stop c) last Other
+
+-- and behind the nodes inside of a block or loop, whose turns are not those of the loop around it
+abbrev pub inside : Behind → Behind
+inside Other = Other
+inside End = End
+inside Turn = Other
+
+abbrev pub is_end : Behind → Bool
+is_end Other = false
+is_end End = true
+is_end Turn = false
+
+abbrev pub is_turn : Behind → Bool
+is_turn Other = false
+is_turn End = false
+is_turn Turn = true
+
+-- the next turn of the k-th enclosing loop begins: by a jump, where it does not come next
+abbrev pub again : List ℕ → ℕ → Behind → List AsmItem
+again ls k last = cond ((k == 0) && is_turn last) [] (jump (enclosing ls k) ∷ [])
+
+-- A loop that is only a test behind operations, and turns where it goes the first way: the test stands behind what is done in a turn, at the label n, and goes
+-- back to the label n + 2. The first turn begins with a jump.
+abbrev pub rotated : ℕ → (part test : List AsmItem) → List AsmItem
+rotated n part test = jump n ∷ mark (n + 2) ∷ (part ++ mark n ∷ (test ++ mark (n + 1) ∷ []))
+
+abbrev pub looped : Bool → ℕ → (all part test : List AsmItem) → List AsmItem
+looped t n all part test = cond t (rotated n part test) (enclosed n all)
+
+-- nodes that end with the next turn of the innermost loop
+abbrev pub is_round : NodesT Where → Bool
+is_round Stop = false
+is_round (Do o c) = is_round c
+is_round (Call t g args c) = is_round c
+is_round (Choose p a b c) = is_round c
+is_round (Block b c) = is_round c
+is_round (Loop b c) = is_round c
+is_round (Leave k c) = is_round c
+is_round (Again k c) = cond (is_stop c) (k == 0) (is_round c)
+is_round (Return p c) = is_round c
+
+abbrev pub is_tested : NodesT Where → Bool
+is_tested (Do o c) = is_tested c
+is_tested (Choose p a b c) = is_stop b && (is_stop c && is_round a)
+is_tested _ = false
 
 -- a result is given back in register 9, by a jump to the function's end where that does not come next
 abbrev pub returning : Frame → Option Where → ℕ → (last : Bool) → List AsmItem
 returning F p out last = giving F p ++ cond last [] (jump out ∷ [])
 
 module _ (W : Whole) (F : Frame) (out : ℕ) where
-  -- the items of nodes whose labels begin at n, inside blocks and loops with these labels; so many operations in front are done already. Whether the
-  -- function's end comes
-  -- right behind them.
-  abbrev pub items_past : (last : Bool) → List ℕ → ℕ → NodesT Where → (done : ℕ) → List AsmItem
-  items_past last ls n Stop k = []
-  items_past last ls n (Do o c) zero = one_or_more W F o (in_one W F o c) ++ items_past last ls n c (more_of (in_one W F o c))
-  items_past last ls n (Do o c) (suc k) = items_past last ls n c k
-  items_past last ls n (Call t g args c) k = call_items W F t g args ++ items_past last ls n c 0
-  items_past last ls n (Choose p a b c) k =
-      cond (is_stop b) (alone F p n (left_to ls a) (items_past (ends last c) ls (n + 1) a 0))
-      (choice F p n (n + 1 + labels a) (items_past false ls (n + 1) a 0) (items_past (ends last c) ls (n + 1 + labels a + 1) b 0))
-      ++ items_past last ls (n + (2 + labels a + labels b)) c 0
-  items_past last ls n (Block b c) k = enclosed n (items_past (ends last c) (ls ++ n ∷ []) (n + 2) b 0) ++ items_past last ls (n + (2 + labels b)) c 0
-  items_past last ls n (Loop b c) k = enclosed n (items_past (ends last c) (ls ++ n ∷ []) (n + 2) b 0) ++ items_past last ls (n + (2 + labels b)) c 0
-  items_past last ls n (Leave j c) k = jump (add (enclosing ls j) 1) ∷ items_past last ls n c 0
-  items_past last ls n (Again j c) k = jump (enclosing ls j) ∷ items_past last ls n c 0
-  items_past last ls n (Return p c) k = returning F p out (ends last c) ++ items_past last ls n c 0
+  -- the operations and the test of such a loop, which goes to a label; so many operations in front are done already
+  abbrev pub test_items : (to : ℕ) → NodesT Where → (done : ℕ) → List AsmItem
+  test_items to (Do o c) zero = one_or_more W F o (in_one W F o c) ++ test_items to c (more_of (in_one W F o c))
+  test_items to (Do o c) (suc k) = test_items to c k
+  test_items to Stop k = []
+  test_items to (Choose p a b c) k = brings F p 9 ++ jump_when (hand p 9) to ∷ test_items to c 0
+  test_items to (Call t g args c) k = call_items W F t g args ++ test_items to c 0
+  test_items to (Block b c) k = test_items to c 0
+  test_items to (Loop b c) k = test_items to c 0
+  test_items to (Leave j c) k = test_items to c 0
+  test_items to (Again j c) k = test_items to c 0
+  test_items to (Return p c) k = test_items to c 0
+
+  abbrev mutual
+    -- the items of nodes whose labels begin at n, inside blocks and loops with these labels; so many operations in front are done already. What comes
+    -- right behind them.
+    pub items_past : (last : Behind) → List ℕ → ℕ → NodesT Where → (done : ℕ) → List AsmItem
+    items_past last ls n Stop k = []
+    items_past last ls n (Do o c) zero = one_or_more W F o (in_one W F o c) ++ items_past last ls n c (more_of (in_one W F o c))
+    items_past last ls n (Do o c) (suc k) = items_past last ls n c k
+    items_past last ls n (Call t g args c) k = call_items W F t g args ++ items_past last ls n c 0
+    items_past last ls n (Choose p a b c) k =
+        cond (is_stop b) (alone F p n (left_to ls a) (items_past (ends last c) ls (n + 1) a 0))
+        (choice F p n (n + 1 + labels a) (items_past Other ls (n + 1) a 0) (items_past (ends last c) ls (n + 1 + labels a + 1) b 0))
+        ++ items_past last ls (n + (2 + labels a + labels b)) c 0
+    items_past last ls n (Block b c) k =
+        enclosed n (items_past (inside (ends last c)) (ls ++ n ∷ []) (n + 2) b 0) ++ items_past last ls (n + (2 + labels b)) c 0
+    items_past last ls n (Loop b c) k =
+        looped (is_tested b) n (items_past (inside (ends last c)) (ls ++ n ∷ []) (n + 2) b 0) (part_items (ls ++ n ∷ []) (n + 2) b)
+        (test_items (n + 2) b 0) ++ items_past last ls (n + (2 + labels b)) c 0
+    items_past last ls n (Leave j c) k = jump (add (enclosing ls j) 1) ∷ items_past last ls n c 0
+    items_past last ls n (Again j c) k = again ls j (ends last c) ++ items_past last ls n c 0
+    items_past last ls n (Return p c) k = returning F p out (is_end (ends last c)) ++ items_past last ls n c 0
+
+    -- what is done in a turn of such a loop
+    pub part_items : List ℕ → ℕ → NodesT Where → List AsmItem
+    part_items ls n (Do o c) = part_items ls n c
+    part_items ls n (Call t g args c) = part_items ls n c
+    part_items ls n (Choose p a b c) = items_past Turn ls (n + 1) a 0
+    part_items ls n _ = []
 
   abbrev pub code_items : List ℕ → ℕ → NodesT Where → List AsmItem
-  code_items ls n c = items_past true ls n c 0
+  code_items ls n c = items_past End ls n c 0
 
 -- a function begins with its label and makes its frame; at its end it takes the frame away and goes back
 abbrev pub entry_items : Whole → ℕ → Frame → List AsmItem

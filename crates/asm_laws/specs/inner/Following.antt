@@ -10,7 +10,7 @@ use Rattle.obj_mem.specs.Runs.{Ending, Halted, Fault, Starved, Stray, Deep, OutO
 use Rattle.mid_code.specs.declared.placed.Where.{Where}
 use Rattle.mid_code.specs.Code.{OpT, NodesT, Stop, Do, Call, Choose, Block, Loop, Leave, Again, Return}
 use Rattle.mid_code.specs.Meaning.{Did, On, Ends, Res, Next, Leaves, Repeats, Returns, Over, Lang, node_weight, call_weight}
-use Rattle.asm_laws.specs.Placing.{Shapes, Bounds, end_of, begin_of, Jumps, At}
+use Rattle.asm_laws.specs.Placing.{Shapes, Bounds, end_of, begin_of, owed, due, Jumps, At}
 
 -- how the machine holds a state: inside a function, at its end with the result, and where the run has ended
 pub record Holder (L : Lang Where) : Type 1 where
@@ -87,7 +87,7 @@ Final X n m b OutOfBound t = Going X m b t n
 abbrev pub Sim : {L : Lang Where} → (X : Holder L) → X.K → State → Begin → (e n : ℕ) → List Bounds → Res L.S → Type 0
 Sim X κ m b e n ls (Next t) = Came X m b t e 0 0 (X.M κ t)
 Sim X κ m b e n ls (Leaves k t) = Came X m b t (end_of ls k) 0 0 (X.M κ t)
-Sim X κ m b e n ls (Repeats k t) = Came X m b t (begin_of ls k) 1 0 (X.M κ t)
+Sim X κ m b e n ls (Repeats k t) = Came X m b t (begin_of ls k) (due (owed ls k)) 0 (X.M κ t)
 Sim X κ m b e n ls (Returns t) = Came X m b t (X.way_out (X.fn κ)) 0 0 (X.G κ t)
 Sim X κ m b e n ls (Over f t) = Final X n m b f t
 
@@ -108,11 +108,11 @@ abbrev pub CallSim : {L : Lang Where} → (X : Holder L) → Shapes → X.K → 
 CallSim X H κ p t f u m b (On s0) = Enters X H κ p t f u s0 m b
 CallSim X H κ p t f u m b (Ends g s0) = (n : ℕ) → Final X n m b g s0
 
--- a choice has gone its way, with 1 spare for the jump behind its first part
+-- a choice has gone its way, in a step at least, with 1 spare for the jump behind its first part
 abbrev pub TestSim : {L : Lang Where} → (X : Holder L) → X.K → (other next : ℕ) → State → Begin → L.S → Option ℕ → Type 0
 TestSim X κ py px m b s None = Unit {0}
-TestSim X κ py px m b s (Some zero) = Came X m (spare 1 b) s py 0 0 (X.M κ s)
-TestSim X κ py px m b s (Some (suc v)) = Came X m (spare 1 b) s px 0 0 (X.M κ s)
+TestSim X κ py px m b s (Some zero) = Came X m (spare 1 b) s py 1 0 (X.M κ s)
+TestSim X κ py px m b s (Some (suc v)) = Came X m (spare 1 b) s px 1 0 (X.M κ s)
 
 -- what is done where a first part goes on
 abbrev pub did_then : {S : Type 0} → Did S → (S → Did S) → Did S

@@ -1,6 +1,7 @@
 pub mod Calling
 pub mod Ordered
 pub mod InMemory
+pub mod Joining
 pub mod Fronts
 pub mod Coded
 pub mod Forward

@@ -7,7 +7,8 @@ ghost use Rattle.asm_laws.specs.declared.behind.Behind.TheVariants.{Other, End, 
 ghost use Rattle.asm_laws.specs.inner.Emitted.{labels, enclosing, jump, jump_unless, jump_when, mark, first_part, second_part, one_way, alone};
 ghost use Rattle.asm_laws.specs.inner.Emitted.{returning, code_items, inside, is_end, is_turn, again, rotated};
 ghost use Rattle.asm_emit.specs.inner.Listed.{left_in, ends_in, node_labels, list_labels, node_items, list_past};
-ghost use Rattle.asm_emit.specs.inner.Listed.{is_none, is_again, round_in, tested_in, is_operation, turn_labels, part_labels, own_test, list_test, list_part, turn_items};
+ghost use Rattle.asm_emit.specs.inner.Listed.{is_none, is_again, round_in, tested_in, is_operation, turn_labels, part_labels};
+ghost use Rattle.asm_emit.specs.inner.Listed.{own_test, list_test, list_part, turn_items};
 ghost use Rattle.asm_emit.specs.inner.View.{frame, whole};
 
 use crate::ahead::{behind, is_call, put_ahead};

@@ -2,6 +2,7 @@
 use kit_base::{Memory, Seq};
 use line_text::decimal_word;
 use mid_code::{Choice, Mid, Where};
+use mid_improve::{improve, is_settled};
 use mid_scalars::promote;
 use reg_choose::choose_all;
 use reg_frames::place;
@@ -13,6 +14,8 @@ use tool_mid_code::{Shape, is_safe_at, shaped};
 pub enum Pass {
     None,
     Promote,
+    Improve,
+    Settled,
     Choose,
     Safe,
     Shared,
@@ -42,6 +45,8 @@ fn pass_of(word: &str) -> Option<Pass> {
     match word {
         "none" => Some(Pass::None),
         "promote" => Some(Pass::Promote),
+        "improve" => Some(Pass::Improve),
+        "settled" => Some(Pass::Settled),
         "choose" => Some(Pass::Choose),
         "safe" => Some(Pass::Safe),
         "shared" => Some(Pass::Shared),
@@ -103,6 +108,11 @@ fn done(alloc: Global, m: Mid, pass: Pass) -> Result<bool, Memory> {
             let promoted = promote(alloc, m)?;
             Ok(promoted.code().functions.as_slice().len() > 0)
         }
+        Pass::Improve => {
+            let improved = improve(alloc, m)?;
+            Ok(improved.code().functions.as_slice().len() > 0)
+        }
+        Pass::Settled => is_settled(alloc, &m),
         Pass::Choose => Ok(choose_all(alloc, &m)?.len() > 1),
         Pass::Safe => {
             let choices = choose_all(alloc, &m)?;

@@ -5,7 +5,6 @@ use Rattle.std.proofs.lemmas.Option.{slice_get_within, get_or_from_slice_get}
 use Rattle.std.proofs.lemmas.Bool.Decides.{nat_tests}
 use Rattle.kit_base.specs.declared.event.Event.{Event}
 use Rattle.v32_isa.specs.declared.instruction.Plain.TheVariants.{HLT}
-use Rattle.v32_isa.specs.declared.instruction.Mov.TheVariants.{RegReg}
 use Rattle.v32_isa.specs.declared.instruction.Instr.TheVariants as instr
 use Rattle.v32_isa.specs.declared.stepped.Stepped.TheVariants as stepped
 use Rattle.v32_isa.specs.State.{word_at, register_of, with_register, going_to}
@@ -15,7 +14,7 @@ use Rattle.v32_isa.specs.Machine.Effect.{Ends as EndsIn}
 use Rattle.v32_isa.specs.Runs.{run, ended, opening_memory, opening_registers}
 use Rattle.v32_isa.specs.Runs as runs
 use Rattle.v32_isa.specs.Calls.{Nested}
-use Rattle.v32_isa.proofs.Steps.{before, Reaches, reaches_here, reaches_on, reaches_went, run-halted, nested_none, nested_stopped}
+use Rattle.v32_isa.proofs.Steps.{before, Reaches, reaches_here, reaches_on, run-halted, nested_none, nested_stopped}
 use Rattle.obj_mem.specs.declared.cell.Cell.{Cell}
 use Rattle.obj_mem.specs.declared.cell.Cell.TheVariants.{Unwritten, Num}
 use Rattle.obj_mem.specs.Objects.{ObjectT, object_at, cell_at}
@@ -30,9 +29,8 @@ use Rattle.mid_code.specs.Agrees.{KeepsWords, Matches}
 use Rattle.asm_laws.specs.inner.Following.{Begin, begin, Came, Stopped, Going, Sim, CallSim}
 use Rattle.asm_laws.specs.inner.Following as follow
 use Rattle.asm_laws.proofs.Control.{still, entered_sim}
-use Rattle.asm_laws.specs.Addresses.{Addr, Held}
-use Rattle.asm_laws.proofs.Stepping.{line_effect, line_turn, moved, readable_word}
-use Rattle.asm_laws.proofs.LinksStep.{base_held, copy_act}
+use Rattle.asm_laws.specs.Addresses.{Held}
+use Rattle.asm_laws.proofs.Stepping.{line_effect, readable_word}
 use Rattle.asm_laws.specs.Holds.{Setting, Fits, Ctx, Lives, Stands}
 use Rattle.asm_laws.specs.Calling.{Mach, Given, EndedIn, lang, holder, shapes}
 use Rattle.asm_laws.specs.Linked.{Linked, first_context, first_words}
@@ -204,8 +202,6 @@ module _ (S : Setting) (card : Option (List ℕ)) (boot rest : ℕ) (l : Linked 
             called_as = h.at.stack.called_as ∙ sym l.rest_as;
             locals_are = none0 ∙ sym none1;
             base_is = h.at.stack.base_is;
-            framed = λ le. absurd (omega (arith, le, l.rest_size));
-            pointer_high = h.at.stack.pointer_high;
             top_is = let q = h.at.stack.top_is in omega (arith, q, l.boot_depth, l.rest_depth);
             low = let q = h.at.stack.low in omega (arith, q, l.rest_size);
             high = h.at.stack.high;
@@ -284,10 +280,10 @@ module _ (S : Setting) (card : Option (List ℕ)) (boot rest : ℕ) (l : Linked 
   zeros (suc (suc (suc (suc (suc (suc (suc (suc zero)))))))) lt = refl
   zeros (suc (suc (suc (suc (suc (suc (suc (suc (suc r))))))))) lt = absurd (omega (arith, lt))
 
-  abbrev raw : Addr
-  raw = record { regs = λ r. 0; memory = opening_memory S.console.words card; base = 0; top = 0x400000 }
+  abbrev m1 : machine.State
+  m1 = runs.opening S.console.words card
 
-  held_first : Held S.console raw (runs.opening S.console.words card)
+  held_first : Held S.console (first_words S card) m1
   held_first = record {
     program_length = refl;
     card = sym l.has_card;
@@ -295,26 +291,14 @@ module _ (S : Setting) (card : Option (List ℕ)) (boot rest : ℕ) (l : Linked 
     text = λ j lt. text_there j lt l.fits.short;
     sixteen = refl;
     regs = zeros;
-    base = refl;
     top = refl;
     memory = λ q. refl;
   }
-
-  abbrev m1 : machine.State
-  m1 = going_to (S.enters boot) (with_register 14 0x400000 (runs.opening S.console.words card))
-
-  held_after : Held S.console (first_words S card) m1
-  held_after = moved S.console (first_words S card) (with_register 14 0x400000 (runs.opening S.console.words card)) (S.enters boot) (base_held S.console raw (runs.opening S.console.words card) 0x400000 held_first)
-
-  first_step : (answers : List ℕ) → Reaches 1 (runs.opening S.console.words card) answers [] m1 answers
-  first_step answers = reaches_went (runs.opening S.console.words card) m1 answers
-      (line_effect S.console raw (runs.opening S.console.words card) 0x20000000 (instr.Mov (RegReg 14 15)) (S.enters boot) held_first refl l.opening (omega arith, omega arith, omega arith) ∙ copy_act S.console S.address (S.whole.frames boot) (S.whole.frames boot) (runs.opening S.console.words card) 14 15 (S.enters boot))
-      (line_turn S.console raw (runs.opening S.console.words card) 0x20000000 (instr.Mov (RegReg 14 15)) (S.enters boot) held_first refl l.opening (omega arith, omega arith, omega arith))
 
   -- the words do what the code means, in at most as many steps as its work and 64
   pub row : (n : ℕ) (answers : List ℕ) → Shown S l.fits (runs.opening S.console.words card) answers n (final_of registers_and_slots S.code S.frames n answers card)
   row n answers =
       let s0 = opening S.code answers card in
-      let p : Pre S l.fits (runs.opening S.console.words card) answers (begin (holder S) s0) m1 = record { steps = 1; made = []; by = first_step answers; events = refl; cost = omega arith } in
+      let p : Pre S l.fits (runs.opening S.console.words card) answers (begin (holder S) s0) m1 = record { steps = 0; made = []; by = reaches_here m1 answers; events = refl; cost = omega arith } in
       start_row (runs.opening S.console.words card) answers n (begin (holder S) s0) m1 (meaning.runs (lang S) n S.code.start.body s0) p
-      (follows S l.fits l.functions n κ0 (S.enters boot) (S.leaves boot) [] S.code.start.body s0 m1 l.start refl (record { place = S.fixed; words = first_words S card; at = l.opens answers; held = held_after }))
+      (follows S l.fits l.functions n κ0 (S.enters boot) (S.leaves boot) [] S.code.start.body s0 m1 l.start (sym l.opening) (record { place = S.fixed; words = first_words S card; at = l.opens answers; held = held_first }))

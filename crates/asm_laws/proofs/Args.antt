@@ -11,12 +11,12 @@ use Rattle.asm_laws.specs.Operations.{Frame}
 use Rattle.asm_laws.specs.Addresses.{Addr, word_of, store}
 use Rattle.asm_laws.specs.inner.Links.{new_slot, all_passed, arrived}
 use Rattle.asm_laws.proofs.Stepping.{same_or_not, written_same, written_other}
-use Rattle.asm_laws.specs.Holds.{Setting, sizes, slot_offset, Named, Fits, Ctx, Stands, HoldsAt}
+use Rattle.asm_laws.specs.Holds.{Setting, sizes, slot_offset, Named, Fits, Ctx, Stands, HoldsAt, depth_of}
 use Rattle.asm_laws.proofs.First.{word_stands}
 use Rattle.asm_laws.specs.Calling.{Callable}
 use Rattle.asm_laws.proofs.Frames.{top_of, low_write}
 
-module _ (S : Setting) (fits : Fits S) (κ : Ctx) (s : Store) (cells : Where → Cell) (place : ℕ → ℕ) (f : ℕ) (c : Callable S f) (dk : S.depth κ.fn ≡ (S.whole.frames κ.fn).size) (room : (sizes S).globals + (S.whole.frames f).size + 2 ≤ top_of S κ) where
+module _ (S : Setting) (fits : Fits S) (κ : Ctx) (s : Store) (cells : Where → Cell) (place : ℕ → ℕ) (f : ℕ) (c : Callable S f) (dk : depth_of S κ.fn ≡ (S.whole.frames κ.fn).size) (room : (sizes S).globals + (S.whole.frames f).size + 2 ≤ top_of S κ) where
   abbrev F : Frame
   F = S.whole.frames κ.fn
 

@@ -4,19 +4,16 @@ use Rattle.std.specs.Prelude.{map, leb, cond, ◌==◌}
 use Rattle.std.proofs.lemmas.Bool.{leb-true, eqb-true}
 use Rattle.v32_isa.specs.declared.instruction.Plain.TheVariants.{RET}
 use Rattle.v32_isa.specs.declared.instruction.Go.TheVariants.{CALL}
-use Rattle.v32_isa.specs.declared.instruction.One.TheVariants.{POP}
+use Rattle.v32_isa.specs.declared.instruction.Two.TheVariants.{IADD}
 use Rattle.v32_isa.specs.declared.instruction.Src.TheVariants as src
-use Rattle.v32_isa.specs.declared.instruction.Mov.TheVariants.{RegReg}
 use Rattle.v32_isa.specs.declared.instruction.Instr.TheVariants as instr
-use Rattle.v32_isa.specs.declared.stepped.Stepped.TheVariants as stepped
 use Rattle.v32_isa.specs.State.{register_of, with_register, going_to, written}
 use Rattle.v32_isa.specs.State as machine
-use Rattle.v32_isa.specs.Machine.Effect.{Ends as EndsIn}
 use Rattle.v32_isa.specs.Runs.{run}
 use Rattle.v32_isa.specs.Calls.{Link}
-use Rattle.v32_isa.proofs.Steps.{Moves, reaches_here, reaches_in, reaches_on, reaches_went, moves_on, nested_none}
+use Rattle.v32_isa.proofs.Steps.{Moves, reaches_here, reaches_in, reaches_went, moves_on, nested_none}
 use Rattle.asm_items.specs.declared.item.AsmItem.TheVariants as item
-use Rattle.either.specs.declared.Either.TheVariants.{Right}
+use Rattle.either.specs.declared.Either.TheVariants.{Left, Right}
 use Rattle.obj_mem.specs.Stores.{Store, entered, returned_to}
 use Rattle.mid_code.specs.declared.placed.Where.{Where}
 use Rattle.mid_code.specs.declared.placed.Where.TheVariants.{Reg, Slot}
@@ -32,13 +29,13 @@ use Rattle.asm_laws.specs.Addresses.{Addr, Console, store, put, Good, Held, Arri
 use Rattle.asm_laws.specs.Framing.{frame_gone}
 use Rattle.asm_laws.specs.inner.Links.{all_passed, all_arrived, new_slot, called, way_back, gone_back}
 use Rattle.asm_laws.proofs.Stepping.{line_effect, line_turn, reg_other, moved, keeps_so, written_same, written_other}
-use Rattle.asm_laws.proofs.LinksStep.{link_bare, link_framed, framed_link, link_range, Roomy, calls, part, top_held, base_held, copy_act, popbase_act, ret_act, returns_by, link_at, passed_same}
+use Rattle.asm_laws.proofs.LinksStep.{Roomy, calls, part, top_held, based, more_act, ret_act, returns_by, link_at}
 use Rattle.asm_laws.proofs.LinksStep as emitted_calls
 use Rattle.asm_laws.specs.Holds.{Setting, sizes, Named, Fits, Ctx, slot_place, Stands, Temps, HoldsAt}
 use Rattle.asm_laws.specs.Calling.{Callable, Mach, Given, lang, holder, CallAt, shapes, FunctionAt}
 use Rattle.asm_laws.proofs.Lists.{length_end_from}
 use Rattle.asm_laws.proofs.First.{stands_more, room, set_target}
-use Rattle.asm_laws.proofs.Frames.{top_of, below, pointer_in, inner, room_of, low_write, enter_holds, link_stays, back_holds}
+use Rattle.asm_laws.proofs.Frames.{top_of, below, inner, room_of, low_write, enter_holds, link_stays, back_holds}
 use Rattle.asm_laws.proofs.Args.{all_passed_holds, slots_passed, regs_arrived}
 
 -- steps that change something are some
@@ -50,58 +47,50 @@ some_steps : (is js : List Link) (steps : ℕ) (s t : machine.State) (xs : List 
 some_steps is js zero s t xs r n = absurd (n (ap (λ x. register_of x 15) (reaches_same is js s t xs r)))
 some_steps is js (suc k) s t xs r n = omega arith
 
--- From a function's end to the address that its call left, with register 9 as it was. Where its frame has words, BP is popped before.
-record Returned (C : Console) (l : Link) (bare : Bool) (a : Addr) (s : machine.State) (xs : List ℕ) : Type 0 where
+-- From a function's end to the address that its call left, with register 9 as it was. Where its frame has words, it is taken away before.
+record Returned (C : Console) (l : Link) (base size : ℕ) (a : Addr) (s : machine.State) (xs : List ℕ) : Type 0 where
   to : machine.State
   steps : ℕ
-  few : steps ≤ 3
+  few : steps ≤ 2
   by : Moves (l ∷ []) [] steps s xs [] to xs
-  at : to.counter ≡ a.memory (cond bare a.top (a.base + 1))
-  held : Held C (record a { base = cond bare a.base (a.memory a.base); top = cond bare a.top (a.base + 1) + 1 }) to
+  at : to.counter ≡ a.memory (way_back size a)
+  held : Held C (gone_back size base a) to
   nine : register_of to 9 ≡ register_of s 9
 
-returns : (C : Console) (l : Link) (address : List ℕ → ℕ) (F : Frame) (a : Addr) (s : machine.State) (xs : List ℕ) (size pc e : ℕ) → way_back size a < 0x400000 → way_back size a ≡ l.top → a.memory (way_back size a) ≡ l.back → Held C a s → s.counter ≡ pc → Stand C.words address pc (frame_gone size) e → Returned C l (size == 0) a s xs
-returns C l address F a s xs size pc e hi top back h c k = go (size == 0) hi top back k
+returns : (C : Console) (l : Link) (base : ℕ) (address : List ℕ → ℕ) (F : Frame) (a : Addr) (s : machine.State) (xs : List ℕ) (size pc e : ℕ) → way_back size a < 0x400000 → way_back size a ≡ l.top → a.memory (way_back size a) ≡ l.back → Held C a s → s.counter ≡ pc → Stand C.words address pc (frame_gone size) e → Returned C l base size a s xs
+returns C l base address F a s xs size pc e hi top back h c k = go (size == 0) refl k
   where
-    go : (b : Bool) → cond b a.top (a.base + 1) < 0x400000 → cond b a.top (a.base + 1) ≡ l.top → a.memory (cond b a.top (a.base + 1)) ≡ l.back → Stand C.words address pc (cond b (item.Op (instr.Plain RET) ∷ []) (item.Op (instr.Mov (RegReg 15 14)) ∷ item.Op (instr.One POP 14) ∷ item.Op (instr.Plain RET) ∷ [])) e → Returned C l b a s xs
-    go true hi top back k =
+    go : (b : Bool) → (size == 0) ≡ b → Stand C.words address pc (cond b (item.Op (instr.Plain RET) ∷ []) (item.Op (instr.Two IADD 15 (src.Imm (Left size))) ∷ item.Op (instr.Plain RET) ∷ [])) e → Returned C l base size a s xs
+    go true is k =
+        let z : size ≡ 0 = eqb-true size 0 is in
+        let d : a.top ≡ way_back size a = omega (arith, z) in
         let u = going_to (a.memory a.top) (with_register 15 (a.top + 1) s) in
         record {
           to = u;
           steps = 1;
           few = omega arith;
-          by = returns_by C a s u xs pc k.0 l h c k.1 (ret_act C address F F a s k.0 hi h) hi top back;
-          at = refl;
-          held = moved C (record a { top = a.top + 1 }) (with_register 15 (a.top + 1) s) (a.memory a.top) (top_held C a s (a.top + 1) h);
+          by = returns_by C a s u xs pc k.0 l h c k.1 (ret_act C address F F a s k.0 (omega (arith, hi, z)) h) (omega (arith, hi, z)) (d ∙ top) (ap a.memory d ∙ back);
+          at = ap a.memory d;
+          held = based C (record a { top = way_back size a + 1 }) u base (subst (λ q. Held C (record a { top = q + 1 }) u) d (moved C (record a { top = a.top + 1 }) (with_register 15 (a.top + 1) s) (a.memory a.top) (top_held C a s (a.top + 1) h)));
           nine = reg_other C s 15 (a.top + 1) 9 (omega arith);
         }
-    go false hi top back k =
-        let a1 = record a { top = a.base } in
-        let a2 = record a { top = a.base + 1; base = a.memory a.base } in
-        let u1 = going_to k.0 (with_register 15 a.base s) in
-        let h1 : Held C a1 u1 = moved C a1 (with_register 15 a.base s) k.0 (top_held C a s a.base h) in
-        let e1 = line_effect C a s pc (instr.Mov (RegReg 15 14)) k.0 h c k.1 (omega arith, omega arith, omega arith) ∙ copy_act C address F F s 15 14 k.0 ∙ ap (λ x. EndsIn stepped.Went (going_to k.0 (with_register 15 x s))) h.base in
-        let u2 = going_to k.2.0 (with_register 14 (a.memory a.base) (with_register 15 (a.base + 1) u1)) in
-        let h2 : Held C a2 u2 = moved C a2 (with_register 14 (a.memory a.base) (with_register 15 (a.base + 1) u1)) k.2.0 (base_held C (record a1 { top = a.base + 1 }) (with_register 15 (a.base + 1) u1) (a.memory a.base) (top_held C a1 u1 (a.base + 1) h1)) in
-        let e2 = line_effect C a1 u1 k.0 (instr.One POP 14) k.2.0 h1 refl k.2.1 (omega arith, omega arith, omega arith) ∙ popbase_act C address F F a1 u1 k.2.0 (omega (arith, hi)) h1 in
-        let u3 = going_to (a.memory (a.base + 1)) (with_register 15 (a.base + 1 + 1) u2) in
+    go false is k =
+        let w = way_back size a in
+        let a1 = record a { top = w } in
+        let u1 = going_to k.0 (with_register 15 w s) in
+        let h1 : Held C a1 u1 = moved C a1 (with_register 15 w s) k.0 (top_held C a s w h) in
+        let e1 = line_effect C a s pc (instr.Two IADD 15 (src.Imm size)) k.0 h c k.1 (omega arith, omega arith, omega arith) ∙ more_act C address F F a s size k.0 (omega (arith, hi)) h in
+        let u2 = going_to (a.memory w) (with_register 15 (w + 1) u1) in
         record {
-          to = u3;
-          steps = 3;
+          to = u2;
+          steps = 2;
           few = omega arith;
-          by = moves_on (l ∷ []) (l ∷ []) [] 2 1 s u2 u3 xs xs xs [] [] (reaches_in l 2 s u2 xs xs [] (reaches_on 1 1 s u1 u2 xs xs xs [] [] (reaches_went s u1 xs e1 (line_turn C a s pc (instr.Mov (RegReg 15 14)) k.0 h c k.1 (omega arith, omega arith, omega arith))) (reaches_went u1 u2 xs e2 (line_turn C a1 u1 k.0 (instr.One POP 14) k.2.0 h1 refl k.2.1 (omega arith, omega arith, omega arith)))))
-              (returns_by C a2 u2 u3 xs k.2.0 k.2.2.0 l h2 refl k.2.2.1 (ret_act C address F F a2 u2 k.2.2.0 (omega (arith, hi)) h2) (omega (arith, hi)) top back);
+          by = moves_on (l ∷ []) (l ∷ []) [] 1 1 s u1 u2 xs xs xs [] [] (reaches_in l 1 s u1 xs xs [] (reaches_went s u1 xs e1 (line_turn C a s pc (instr.Two IADD 15 (src.Imm size)) k.0 h c k.1 (omega arith, omega arith, omega arith))))
+              (returns_by C a1 u1 u2 xs k.0 k.2.0 l h1 refl k.2.1 (ret_act C address F F a1 u1 k.2.0 hi h1) hi top back);
           at = refl;
-          held = moved C (record a2 { top = a.base + 1 + 1 }) (with_register 15 (a.base + 1 + 1) u2) (a.memory (a.base + 1)) (top_held C a2 u2 (a.base + 1 + 1) h2);
-          nine = reg_other C u2 15 (a.base + 1 + 1) 9 (omega arith) ∙ reg_other C (with_register 15 (a.base + 1) u1) 14 (a.memory a.base) 9 (omega arith) ∙ reg_other C u1 15 (a.base + 1) 9 (omega arith) ∙ reg_other C s 15 a.base 9 (omega arith);
+          held = based C (record a { top = w + 1 }) u2 base (moved C (record a1 { top = w + 1 }) (with_register 15 (w + 1) u1) (a.memory w) (top_held C a1 u1 (w + 1) h1));
+          nine = reg_other C u1 15 (w + 1) 9 (omega arith) ∙ reg_other C s 15 w 9 (omega arith);
         }
-
-entered_memory : (bare : Bool) (P : Addr) (m : ℕ → ℕ) (t b next : ℕ) → P.top ≡ t → P.memory ≡ m → P.base ≡ b →
-    cond bare (written P.memory (P.top - 1) next) (written (written P.memory (P.top - 1) next) (P.top - 1 - 1) P.base) ≡ cond bare (written m (t - 1) next) (written (written m (t - 1) next) (t - 2) b)
-entered_memory true P m t b next et em eb = ap (λ x. written x (P.top - 1) next) em ∙ ap (λ x. written m (x - 1) next) et
-entered_memory false P m t b next et em eb =
-    let d : P.top - 1 - 1 ≡ t - 2 = omega (arith, et) in
-    ap (λ x. written (written x (P.top - 1) next) (P.top - 1 - 1) P.base) em ∙ ap (λ x. written (written m (x - 1) next) (P.top - 1 - 1) P.base) et ∙ ap (λ x. written (written m (t - 1) next) x P.base) d ∙ ap (λ x. written (written m (t - 1) next) (t - 2) x) eb
 
 module _ (S : Setting) (fits : Fits S) where
   abbrev C : Console
@@ -166,15 +155,8 @@ module _ (S : Setting) (fits : Fits S) where
     abbrev aT : Addr
     aT = record a1 { top = T }
 
-    -- whether the frame of the call has no words
-    abbrev bare : Bool
-    bare = G.size == 0
-
-    abbrev linked : Bool → Addr
-    linked b = record aT { memory = cond b (store (T - 1) next aT).memory (store (T - 2) a.base (store (T - 1) next aT)).memory }
-
     abbrev a3 : Addr
-    a3 = linked bare
+    a3 = store (T - 1) next aT
 
     h1 : HoldsAt S κ st s.cells h.place a1
     h1 = all_passed_holds S fits κ st s.cells h.place g at.callable at.depth big ps args a at.callable.params_named h.at
@@ -186,41 +168,23 @@ module _ (S : Setting) (fits : Fits S) where
     hT = subst (λ q. HoldsAt S κ st s.cells h.place (record a1 { top = q })) top_1 h1
 
     h3 : HoldsAt S κ st s.cells h.place a3
-    h3 = go bare
-      where
-        h2 : HoldsAt S κ st s.cells h.place (store (T - 1) next aT)
-        h2 = low_write S fits κ st s.cells h.place aT (T - 1) next (omega (arith, big)) (omega (arith, big)) at.depth hT
-
-        go : (b : Bool) → HoldsAt S κ st s.cells h.place (linked b)
-        go true = h2
-        go false = low_write S fits κ st s.cells h.place (store (T - 1) next aT) (T - 2) a.base (omega (arith, big)) (omega (arith, big)) at.depth h2
+    h3 = low_write S fits κ st s.cells h.place aT (T - 1) next (omega (arith, big)) (omega (arith, big)) at.depth hT
 
     -- the link
     link_next : a3.memory (T - 1) ≡ next
-    link_next = go bare
-      where
-        go : (b : Bool) → (linked b).memory (T - 1) ≡ next
-        go true = written_same a1.memory (T - 1) next (T - 1) refl
-        go false = written_other (store (T - 1) next aT).memory (T - 2) a.base (T - 1) (omega (arith, big)) ∙ written_same a1.memory (T - 1) next (T - 1) refl
+    link_next = written_same a1.memory (T - 1) next (T - 1) refl
 
-    link_under : (q : ℕ) → q < T - 2 → a3.memory q ≡ a1.memory q
-    link_under q lt = go bare
-      where
-        go : (b : Bool) → (linked b).memory q ≡ a1.memory q
-        go true = written_other a1.memory (T - 1) next q (omega (arith, lt))
-        go false = written_other (store (T - 1) next aT).memory (T - 2) a.base q (omega (arith, lt)) ∙ written_other a1.memory (T - 1) next q (omega (arith, lt))
+    link_under : (q : ℕ) → q < T - 1 → a3.memory q ≡ a1.memory q
+    link_under q lt = written_other a1.memory (T - 1) next q (omega (arith, lt))
 
     P_top : P.top ≡ T
     P_top = top_1
-
-    P_base : P.base ≡ a.base
-    P_base = (passed_same C S.address F G ps args a).0
 
     abbrev b : Addr
     b = called F G ps args next a
 
     memory_is : b.memory ≡ a3.memory
-    memory_is = entered_memory bare P a1.memory T a.base next P_top refl P_base
+    memory_is = ap (λ x. written a1.memory (x - 1) next) P_top
 
     abbrev κ2 : Ctx
     κ2 = inner S κ g st.objects h.place a3.memory
@@ -229,10 +193,9 @@ module _ (S : Setting) (fits : Fits S) where
     slot_at k has =
         let u = fits.slot_in g k has in
         let q = slot_place S κ2 k in
-        let w = framed_link G.size (omega (arith, u)) in
-        let e1 : q ≡ new_slot G k a = omega (arith, top_a, w) in
+        let e1 : q ≡ new_slot G k a = omega (arith, top_a) in
         let wq : b.memory q ≡ a1.memory (new_slot G k a) =
-        ap (λ f. f q) memory_is ∙ link_under q (omega (arith, u, w, big)) ∙ ap a1.memory e1 in
+        ap (λ f. f q) memory_is ∙ link_under q (omega (arith, u, big)) ∙ ap a1.memory e1 in
         subst (λ z. Stands N h.place (received registers_and_slots ps (map s.cells args) (Slot k)) z) (sym wq) (slots_passed S fits κ st s.cells h.place g at.callable at.depth big ps args a at.callable.params_named at.callable.params_differ at.args_named h.at k has)
 
     temps : Temps S κ2 N h.place (received registers_and_slots ps (map s.cells args)) b.regs b.memory
@@ -241,20 +204,16 @@ module _ (S : Setting) (fits : Fits S) where
       in_slots = slot_at;
     }
 
-    -- BP, and the top of the stack, in the call
-    pointer_b : b.base ≡ pointer_in S κ g
-    pointer_b = go bare refl
-      where
-        go : (x : Bool) → (G.size == 0) ≡ x → cond x P.base (P.top - 2) ≡ cond x κ.pointer (below S κ g)
-        go true e = P_base ∙ h.at.stack.base_is
-        go false e = let w = link_framed G.size e in omega (arith, P_top, w)
+    -- the end of the frame, and the top of the stack, in the call
+    base_b : b.base ≡ below S κ g
+    base_b = ap (λ x. x - 1) P_top
 
     top_b : b.top + G.size ≡ below S κ g
-    top_b = let w = link_range G.size in omega (arith, P_top, big, w)
+    top_b = omega (arith, P_top, big)
 
     inside : HoldsAt S κ2 (entered (sizes S) g st) (received registers_and_slots (function_at S.code g).params (map s.cells args)) h.place b
     inside = subst (λ qs. HoldsAt S κ2 (entered (sizes S) g st) (received registers_and_slots qs (map s.cells args)) h.place b) at.callable.params
-        (enter_holds S fits κ st s.cells h.place a3 b g ps (map s.cells args) at.callable h3 at.depth fit memory_is pointer_b top_b temps)
+        (enter_holds S fits κ st s.cells h.place a3 b g ps (map s.cells args) at.callable h3 at.depth fit memory_is base_b top_b temps)
 
     roomy : Roomy C S.address F G a
     roomy = record { room = room S fits κ st s.cells h.place a h.at; below = omega (arith, big, top_a); above = omega (arith, low_t, top_a) }
@@ -264,7 +223,7 @@ module _ (S : Setting) (fits : Fits S) where
     link = link_at C S.address F G P next
 
     -- the machine is at the body
-    comes : (fn : FunctionAt S g) → ArrivesBy [] (link ∷ []) C (3 * length args + 4) m xs (S.enters g) [] xs b
+    comes : (fn : FunctionAt S g) → ArrivesBy [] (link ∷ []) C (3 * length args + 2) m xs (S.enters g) [] xs b
     comes fn = calls C S.address F G a m xs pc split.0 next fn.begins (S.enters g) ps args roomy at.count (all_good g F G ps (good_at g) at.callable.params_named) at.callable.params_differ (all_good κ.fn F G args (good_at κ.fn) at.args_named) h.held epc split.1
         (subst (λ z. Line C.words split.0 (instr.Go CALL (src.Imm z)) next) fn.label split.2.1) fn.entry
 
@@ -273,7 +232,6 @@ module _ (S : Setting) (fits : Fits S) where
         let r = comes fn in
         let top_m : register_of m 15 ≡ T = h.held.top ∙ top_a in
         let top_t : register_of r.to 15 ≡ b.top = r.held.top in
-        let w = link_range G.size in
         record {
           steps = r.steps;
           made = [];
@@ -283,7 +241,7 @@ module _ (S : Setting) (fits : Fits S) where
           held = record { place = h.place; words = b; at = inside; held = r.held };
           events = sym (append-nil s.world.events);
           cost = let f = r.few in omega (arith, f, paid);
-          many = some_steps [] (link ∷ []) r.steps m r.to xs r.by (λ e. omega (arith, e, top_m, top_t, top_b, big, w));
+          many = some_steps [] (link ∷ []) r.steps m r.to xs r.by (λ e. omega (arith, e, top_m, top_t, top_b, big));
         }
 
     -- ---- the way back
@@ -296,35 +254,20 @@ module _ (S : Setting) (fits : Fits S) where
 
         -- where the way back stands
         back_v : way_back G.size gv.words ≡ T - 1
-        back_v = go bare refl gv.at.stack.base_is
-          where
-            go : (x : Bool) → (G.size == 0) ≡ x → gv.words.base ≡ cond x κ.pointer (below S κ g) → cond x gv.words.top (gv.words.base + 1) ≡ T - 1
-            go true e v = let z = eqb-true G.size 0 e in let w = link_bare G.size e in omega (arith, top_v, z, w)
-            go false e v = let w = link_framed G.size e in omega (arith, v, w, big)
+        back_v = top_v
 
         link_same : (q : ℕ) → below S κ g ≤ q → q < T → gv.words.memory q ≡ a3.memory q
-        link_same q le lt = let w = link_range G.size in link_stays S fits κ st s1.world.store s.cells s1.cells h.place a3.memory gv.place a3 gv.words g q h3 gv.at (omega (arith, le, big, w)) le lt
-
-        -- BP as it was before the call
-        link_1 : cond bare gv.words.base (gv.words.memory gv.words.base) ≡ κ.pointer
-        link_1 = go bare refl gv.at.stack.base_is (link_same (T - 2))
-          where
-            go : (x : Bool) → (G.size == 0) ≡ x → gv.words.base ≡ cond x κ.pointer (below S κ g) → (below S κ g ≤ T - 2 → T - 2 < T → gv.words.memory (T - 2) ≡ (linked x).memory (T - 2)) → cond x gv.words.base (gv.words.memory gv.words.base) ≡ κ.pointer
-            go true e v same = v
-            go false e v same =
-                let w = link_framed G.size e in
-                let d : gv.words.base ≡ T - 2 = omega (arith, v, w) in
-                ap gv.words.memory d ∙ same (omega (arith, w)) (omega (arith, big)) ∙ written_same (store (T - 1) next aT).memory (T - 2) a.base (T - 2) refl ∙ h.at.stack.base_is
+        link_same q le lt = link_stays S fits κ st s1.world.store s.cells s1.cells h.place a3.memory gv.place a3 gv.words g q h3 gv.at (omega (arith, le, big)) le lt
 
         -- and the way back
         link_2 : gv.words.memory (way_back G.size gv.words) ≡ next
-        link_2 = let w = link_range G.size in ap gv.words.memory back_v ∙ link_same (T - 1) (omega (arith, w)) (omega (arith, big)) ∙ link_next
+        link_2 = ap gv.words.memory back_v ∙ link_same (T - 1) (omega arith) (omega (arith, big)) ∙ link_next
 
-        home : Returned C link bare gv.words m1 s1.world.store.answers
-        home = returns C link S.address F gv.words m1 s1.world.store.answers G.size (S.leaves g) fn.ends (omega (arith, back_v, low_t, big)) (omega (arith, back_v, P_top)) link_2 gv.held e1 fn.exit
+        home : Returned C link κ.base G.size gv.words m1 s1.world.store.answers
+        home = returns C link κ.base S.address F gv.words m1 s1.world.store.answers G.size (S.leaves g) fn.ends (omega (arith, back_v, low_t, big)) (omega (arith, back_v, P_top)) link_2 gv.held e1 fn.exit
 
-        holds : HoldsAt S κ (returned_to st s1.world.store) (after_call registers_and_slots s.cells) gv.place (gone_back G.size gv.words)
-        holds = back_holds S fits κ st s1.world.store s.cells s1.cells h.place gv.place a3 gv.words (gone_back G.size gv.words) g h3 at.depth gv.at refl link_1 (let q = h.at.stack.top_is in omega (arith, back_v, q, big, top_a))
+        holds : HoldsAt S κ (returned_to st s1.world.store) (after_call registers_and_slots s.cells) gv.place (gone_back G.size κ.base gv.words)
+        holds = back_holds S fits κ st s1.world.store s.cells s1.cells h.place gv.place a3 gv.words (gone_back G.size κ.base gv.words) g h3 at.depth gv.at refl refl (let q = h.at.stack.top_is in omega (arith, back_v, q, big, top_a))
 
         given : Stands (length (returned_to st s1.world.store).objects) gv.place s1.given (register_of m1 9)
         given = stands_more (length s1.world.store.objects) (length (returned_to st s1.world.store).objects) gv.place gv.place s1.given (register_of m1 9) (let l = length_end_from (length st.objects) s1.world.store.objects in omega (arith, l)) (λ o q. refl) gv.given
@@ -336,21 +279,21 @@ module _ (S : Setting) (fits : Fits S) where
           to = home.to;
           by = home.by;
           at = home.at ∙ link_2 ∙ k;
-          held = record { place = gv.place; words = gone_back G.size gv.words; at = holds; held = home.held };
+          held = record { place = gv.place; words = gone_back G.size κ.base gv.words; at = holds; held = home.held };
           events = sym (append-nil s1.world.events);
           cost = omega (arith, home.few);
           many = omega arith;
         }
         go (Some q) named k =
             let ys = s1.world.store.answers in
-            let r = keeps_so C F S.address (gone_back G.size gv.words) home.to ys next q 9 (register_of m1 9) k.0 (omega arith) (room S fits κ (returned_to st s1.world.store) (after_call registers_and_slots s.cells) gv.place (gone_back G.size gv.words) holds) (good_at κ.fn q named.0) home.held (home.at ∙ link_2) home.nine k.1 in
+            let r = keeps_so C F S.address (gone_back G.size κ.base gv.words) home.to ys next q 9 (register_of m1 9) k.0 (omega arith) (room S fits κ (returned_to st s1.world.store) (after_call registers_and_slots s.cells) gv.place (gone_back G.size κ.base gv.words) holds) (good_at κ.fn q named.0) home.held (home.at ∙ link_2) home.nine k.1 in
             record {
               steps = home.steps + r.steps;
               made = [];
               to = r.to;
               by = moves_on (link ∷ []) [] [] home.steps r.steps m1 home.to r.to ys ys ys [] [] home.by r.by;
               at = r.at ∙ k.2;
-              held = record { place = gv.place; words = put F q (register_of m1 9) (gone_back G.size gv.words); at = set_target S fits κ (returned_to st s1.world.store) (after_call registers_and_slots s.cells) gv.place (gone_back G.size gv.words) q s1.given (register_of m1 9) named.0 holds given; held = r.held };
+              held = record { place = gv.place; words = put F q (register_of m1 9) (gone_back G.size κ.base gv.words); at = set_target S fits κ (returned_to st s1.world.store) (after_call registers_and_slots s.cells) gv.place (gone_back G.size κ.base gv.words) q s1.given (register_of m1 9) named.0 holds given; held = r.held };
               events = sym (append-nil s1.world.events);
               cost = let f = r.few in omega (arith, f, home.few);
               many = omega arith;

@@ -43,14 +43,10 @@ module _ (S : Setting) (fits : Fits S) where
   good κ (Slot k) n = fits.slot_in κ.fn k n
 
   pub room : (κ : Ctx) (s : Store) (cells : Where → Cell) (place : ℕ → ℕ) (a : Addr) → HoldsAt S κ s cells place a → Room (Of κ) a
-  room κ s cells place a h = record { low = go (below_or_not 0 (Of κ).size); high = omega (arith, h.stack.pointer_high, h.stack.base_is) }
-    where
-      go : (0 < (Of κ).size) ⊎ ((Of κ).size ≤ 0) → (Of κ).size ≤ a.base
-      go (inl lt) = let p = h.stack.framed (omega (arith, lt)) in omega (arith, h.stack.low, h.stack.base_is, p)
-      go (inr le) = omega (arith, le)
+  room κ s cells place a h = record { top = h.stack.top_is ∙ sym h.stack.base_is; low = omega (arith, h.stack.low, h.stack.base_is); high = omega (arith, h.stack.high, h.stack.base_is) }
 
   pub slot_is : (κ : Ctx) (s : Store) (cells : Where → Cell) (place : ℕ → ℕ) (a : Addr) (k : ℕ) → S.has_slot κ.fn k → HoldsAt S κ s cells place a → slot_address (Of κ) k a ≡ slot_place S κ k
-  slot_is κ s cells place a k has h = let i = fits.slot_in κ.fn k has in ap (λ b. b - ((Of κ).size - slot_offset S κ.fn k)) (h.stack.base_is ∙ h.stack.framed (omega (arith, i)))
+  slot_is κ s cells place a k has h = ap (λ b. b - ((Of κ).size - slot_offset S κ.fn k)) h.stack.base_is
 
   pub word_stands : (κ : Ctx) (s : Store) (cells : Where → Cell) (place : ℕ → ℕ) (a : Addr) (t : Where) → Named S κ.fn t → HoldsAt S κ s cells place a → Stands (length s.objects) place (cells t) (word_of (Of κ) t a)
   word_stands κ s cells place a (Reg r) n h = h.temps.in_regs r n

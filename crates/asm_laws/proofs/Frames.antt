@@ -1,7 +1,5 @@
 -- Calls: a new frame below, and the way back.
-use Rattle.std.proofs.Common.{◌≡◌, ◌≢◌, ℕ, ◌+◌, ◌-◌, ◌<◌, ◌≤◌, ◌⊎◌, inl, inr, Bool, true, false, cond, List, length, None, refl, sym, ap, ◌∙◌, subst, arith}
-use Rattle.std.specs.Prelude.{◌==◌}
-use Rattle.std.proofs.lemmas.Bool.{eqb-true}
+use Rattle.std.proofs.Common.{◌≡◌, ◌≢◌, ℕ, ◌+◌, ◌-◌, ◌<◌, ◌≤◌, ◌⊎◌, inl, inr, List, length, None, refl, sym, ap, ◌∙◌, subst, arith}
 use Rattle.std.proofs.lemmas.List.{length-replicate}
 use Rattle.obj_mem.specs.declared.cell.Cell.{Cell}
 use Rattle.obj_mem.specs.Objects.{ObjectT, object_at, cell_at, end_from}
@@ -10,10 +8,8 @@ use Rattle.mid_code.specs.declared.placed.Where.{Where}
 use Rattle.mid_code.specs.declared.placed.Where.TheVariants.{Slot}
 use Rattle.mid_code.specs.States.{registers_and_slots, received, after_call}
 use Rattle.asm_laws.specs.Addresses.{Addr, store}
-use Rattle.asm_laws.specs.Framing.{link_words}
-use Rattle.asm_laws.proofs.LinksStep.{link_range}
 use Rattle.asm_laws.proofs.Stepping.{written_other}
-use Rattle.asm_laws.specs.Holds.{Setting, sizes, local_offset, local_words, Fits, Ctx, slot_place, Lives, wide, Stands, InRegion, Temps, Cells, HoldsAt}
+use Rattle.asm_laws.specs.Holds.{Setting, sizes, local_offset, local_words, Fits, Ctx, slot_place, Lives, wide, Stands, InRegion, Temps, Cells, HoldsAt, depth_of}
 use Rattle.asm_laws.specs.Calling.{Callable}
 use Rattle.asm_laws.proofs.Lists.{below_or_not, lives_below, length_end_from, end_from_lives, end_from_living, nones}
 use Rattle.asm_laws.proofs.First.{stands_more, cell_wide, slot_free}
@@ -22,20 +18,15 @@ use Rattle.asm_laws.proofs.Covered.{uncovered, uncovered_from, uncovered_not, un
 
 -- the top of the stack in a call
 abbrev pub top_of : Setting → Ctx → ℕ
-top_of S κ = κ.base - S.depth κ.fn
+top_of S κ = κ.base - depth_of S κ.fn
 
 -- the end of the frame of a function that is called
 abbrev pub below : Setting → Ctx → ℕ → ℕ
-below S κ f = top_of S κ - link_words (S.whole.frames f).size
-
--- and BP in it
-abbrev pub pointer_in : Setting → Ctx → ℕ → ℕ
-pointer_in S κ f = cond ((S.whole.frames f).size == 0) κ.pointer (below S κ f)
+below S κ f = top_of S κ - 1
 
 abbrev pub inner : Setting → Ctx → ℕ → List ObjectT → (ℕ → ℕ) → (ℕ → ℕ) → Ctx
 inner S κ f os place memory = record {
   fn = f;
-  pointer = pointer_in S κ f;
   base = below S κ f;
   first = length os;
   keep = uncovered (below S κ f) os place;
@@ -61,7 +52,7 @@ module _ (S : Setting) (fits : Fits S) where
   ]
 
   -- a write between the globals and the top of the stack
-  pub low_write : (κ : Ctx) (s : Store) (cells : Where → Cell) (place : ℕ → ℕ) (a : Addr) (x v : ℕ) → (sizes S).globals ≤ x → x < top_of S κ → S.depth κ.fn ≡ (S.whole.frames κ.fn).size → HoldsAt S κ s cells place a → HoldsAt S κ s cells place (store x v a)
+  pub low_write : (κ : Ctx) (s : Store) (cells : Where → Cell) (place : ℕ → ℕ) (a : Addr) (x v : ℕ) → (sizes S).globals ≤ x → x < top_of S κ → depth_of S κ.fn ≡ (S.whole.frames κ.fn).size → HoldsAt S κ s cells place a → HoldsAt S κ s cells place (store x v a)
   low_write κ s cells place a x v lo hi d h = record {
     temps = record {
       in_regs = h.temps.in_regs;
@@ -80,26 +71,10 @@ module _ (S : Setting) (fits : Fits S) where
   pub room_of : (κ : Ctx) (s : Store) (cells : Where → Cell) (place : ℕ → ℕ) (a : Addr) (f : ℕ) → Callable S f → HoldsAt S κ s cells place a → s.used + ((sizes S).frame f + 2) + (sizes S).globals ≤ 4194304 → (sizes S).globals + (S.whole.frames f).size + 2 ≤ top_of S κ
   room_of κ s cells place a f c h le = let d = fits.depth_in κ.fn in omega (arith, h.stack.used_is, h.stack.low, h.stack.high, c.frame, le, d)
 
-  -- BP in the call
-  pointer_framed : (κ : Ctx) (f : ℕ) → 1 ≤ (S.whole.frames f).size → pointer_in S κ f ≡ below S κ f
-  pointer_framed κ f le = go ((S.whole.frames f).size == 0) refl
-    where
-      go : (b : Bool) → ((S.whole.frames f).size == 0) ≡ b → cond b κ.pointer (below S κ f) ≡ below S κ f
-      go true e = let z = eqb-true (S.whole.frames f).size 0 e in absurd (omega (arith, z, le))
-      go false e = refl
-
-  pointer_high : (κ : Ctx) (f : ℕ) → κ.pointer ≤ 0x400000 → below S κ f ≤ 0x400000 → pointer_in S κ f ≤ 0x400000
-  pointer_high κ f le le' = go ((S.whole.frames f).size == 0)
-    where
-      go : (b : Bool) → cond b κ.pointer (below S κ f) ≤ 0x400000
-      go true = le
-      go false = le'
-
-  pub enter_holds : (κ : Ctx) (s : Store) (cells : Where → Cell) (place : ℕ → ℕ) (a b : Addr) (f : ℕ) (params : List Where) (args : List Cell) → Callable S f → HoldsAt S κ s cells place a → S.depth κ.fn ≡ (S.whole.frames κ.fn).size → s.used + ((sizes S).frame f + 2) + (sizes S).globals ≤ 4194304 → b.memory ≡ a.memory → b.base ≡ pointer_in S κ f → b.top + (S.whole.frames f).size ≡ below S κ f →
+  pub enter_holds : (κ : Ctx) (s : Store) (cells : Where → Cell) (place : ℕ → ℕ) (a b : Addr) (f : ℕ) (params : List Where) (args : List Cell) → Callable S f → HoldsAt S κ s cells place a → depth_of S κ.fn ≡ (S.whole.frames κ.fn).size → s.used + ((sizes S).frame f + 2) + (sizes S).globals ≤ 4194304 → b.memory ≡ a.memory → b.base ≡ below S κ f → b.top + (S.whole.frames f).size ≡ below S κ f →
       Temps S (inner S κ f s.objects place a.memory) (length s.objects) place (received registers_and_slots params args) b.regs b.memory → HoldsAt S (inner S κ f s.objects place a.memory) (entered (sizes S) f s) (received registers_and_slots params args) place b
   enter_holds κ s cells place a b f params args c h dk fit em eb et temps =
       let room = room_of κ s cells place a f c h fit in
-      let link = link_range (S.whole.frames f).size in
       let high : below S κ f ≤ 0x400000 = omega (arith, h.stack.high) in
       record {
         temps = temps;
@@ -127,12 +102,10 @@ module _ (S : Setting) (fits : Fits S) where
           called_as = sym c.called_as;
           locals_are = length-replicate (length ((sizes S).locals f)) None ∙ ap length (sym (fits.locals_are f f c.called_as));
           base_is = eb;
-          framed = λ le. pointer_framed κ f le;
-          pointer_high = pointer_high κ f h.stack.pointer_high high;
           top_is = omega (arith, et, c.depth);
-          low = omega (arith, room, link);
+          low = omega (arith, room);
           high = high;
-          used_is = omega (arith, h.stack.used_is, room, link, h.stack.low, c.frame, c.depth, dk);
+          used_is = omega (arith, h.stack.used_is, room, h.stack.low, c.frame, c.depth, dk);
         };
       }
 
@@ -144,7 +117,7 @@ module _ (S : Setting) (fits : Fits S) where
   pub link_stays : (κ : Ctx) (s v : Store) (cells cells' : Where → Cell) (place memory place' : ℕ → ℕ) (a b : Addr) (f q : ℕ) → HoldsAt S κ s cells place a → HoldsAt S (inner S κ f s.objects place memory) v cells' place' b → (sizes S).globals ≤ q → below S κ f ≤ q → q < top_of S κ → b.memory q ≡ memory q
   link_stays κ s v cells cells' place memory place' a b f q h h' g le hi = stays κ s v cells' place memory place' b f q h' le (λ o i l lt e. elim (low_free κ s cells place a o i h l lt) [ inl x ↦ omega (arith, x, e, g) | inr x ↦ omega (arith, x, e, hi) ])
 
-  pub back_holds : (κ : Ctx) (s v : Store) (cells cells' : Where → Cell) (place place' : ℕ → ℕ) (a b c : Addr) (f : ℕ) → HoldsAt S κ s cells place a → S.depth κ.fn ≡ (S.whole.frames κ.fn).size → HoldsAt S (inner S κ f s.objects place a.memory) v cells' place' b → c.memory ≡ b.memory → c.base ≡ κ.pointer → c.top + S.depth κ.fn ≡ κ.base → HoldsAt S κ (returned_to s v) (after_call registers_and_slots cells) place' c
+  pub back_holds : (κ : Ctx) (s v : Store) (cells cells' : Where → Cell) (place place' : ℕ → ℕ) (a b c : Addr) (f : ℕ) → HoldsAt S κ s cells place a → depth_of S κ.fn ≡ (S.whole.frames κ.fn).size → HoldsAt S (inner S κ f s.objects place a.memory) v cells' place' b → c.memory ≡ b.memory → c.base ≡ κ.base → c.top + depth_of S κ.fn ≡ κ.base → HoldsAt S κ (returned_to s v) (after_call registers_and_slots cells) place' c
   back_holds κ s v cells cells' place place' a b c f h dk h' em eb et = record {
     temps = record {
       in_regs = λ r lt. tt;
@@ -174,7 +147,7 @@ module _ (S : Setting) (fits : Fits S) where
       same = λ q e. let up = h.kept.above q e in ap (λ m. m q) em ∙ stays κ s v cells' place a.memory place' b f q h' (omega (arith, up)) (λ o i l lt z. not_false (κ.keep q) e (ap κ.keep z ∙ h.ranges.kept_apart o i l lt)) ∙ h.kept.same q e;
       above = h.kept.above;
     };
-    stack = record { called_as = h.stack.called_as; locals_are = h.stack.locals_are; base_is = eb; framed = h.stack.framed; pointer_high = h.stack.pointer_high; top_is = et; low = h.stack.low; high = h.stack.high; used_is = h.stack.used_is };
+    stack = record { called_as = h.stack.called_as; locals_are = h.stack.locals_are; base_is = eb; top_is = et; low = h.stack.low; high = h.stack.high; used_is = h.stack.used_is };
   }
     where
       was : (o : ℕ) → Lives (end_from (length s.objects) v.objects) o → Lives v.objects o × Alike S.console (object_at (end_from (length s.objects) v.objects) o) (object_at v.objects o)

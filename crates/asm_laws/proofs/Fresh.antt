@@ -171,8 +171,6 @@ module _ (S : Setting) (fits : Fits S) where
       called_as = h.stack.called_as;
       locals_are = length-set s.locals k (Some (length s.objects)) ∙ h.stack.locals_are;
       base_is = h.stack.base_is;
-      framed = h.stack.framed;
-      pointer_high = h.stack.pointer_high;
       top_is = h.stack.top_is;
       low = h.stack.low;
       high = h.stack.high;

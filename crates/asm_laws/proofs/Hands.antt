@@ -58,7 +58,6 @@ module _ (C : Console) where
     text = h.text;
     sixteen = h.sixteen;
     regs = λ r lt. h.regs r lt ∙ regs r lt;
-    base = h.base ∙ base;
     top = h.top ∙ top;
     memory = λ q. h.memory q ∙ memory q;
   }

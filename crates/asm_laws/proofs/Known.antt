@@ -9,8 +9,6 @@ use Rattle.kit_base.specs.Word.{add}
 use Rattle.either.specs.declared.Either.TheVariants.{Left}
 use Rattle.v32_isa.specs.declared.instruction.Plain.TheVariants.{RET}
 use Rattle.v32_isa.specs.declared.instruction.One.{One as OneOf}
-use Rattle.v32_isa.specs.declared.instruction.One.TheVariants.{PUSH, POP}
-use Rattle.v32_isa.specs.declared.instruction.Mov.TheVariants.{RegReg}
 use Rattle.v32_isa.specs.declared.instruction.Two.{Two as TwoOf}
 use Rattle.v32_isa.specs.declared.instruction.Two.TheVariants.{IADD, ISUB}
 use Rattle.v32_isa.specs.declared.instruction.Src.TheVariants as src
@@ -30,12 +28,12 @@ use Rattle.mid_code.specs.Runs.{weight}
 use Rattle.asm_laws.specs.Labelled.{HasLabel}
 use Rattle.asm_laws.specs.Names.{jump_label, literal_label, function_label}
 use Rattle.asm_laws.specs.Moves.{Move, in_order}
-use Rattle.asm_laws.specs.Operations.{Frame, Whole, register, keep, fetches, keeps, keeps_some, is_in, hand, brings, takes, aim, lays, moves, changes, is_direct, in_place, apart, turned, is_turned, turned_or_apart, computes, slot_arg, slot_args, moved_items, args_items, call_items, op_items, in_one, one_or_more, more_of, giving, start_frame, opening_items, literal_items, literals_items}
+use Rattle.asm_laws.specs.Operations.{Frame, Whole, register, keep, fetches, keeps, keeps_some, is_in, hand, brings, takes, aim, lays, moves, changes, is_direct, in_place, apart, turned, is_turned, turned_or_apart, computes, slot_arg, slot_args, moved_items, args_items, call_items, op_items, in_one, one_or_more, more_of, giving, start_frame, literal_items, literals_items}
 use Rattle.asm_laws.specs.Framing.{frame_made, frame_gone}
 use Rattle.asm_laws.proofs.Leaving.{left_is}
 use Rattle.asm_laws.specs.declared.behind.Behind.{Behind}
 use Rattle.asm_laws.specs.declared.behind.Behind.TheVariants.{Other, End, Turn}
-use Rattle.asm_laws.specs.inner.Emitted.{labels, functions_labels, enclosing, jump, jump_unless, mark, first_part, second_part, choice, one_way, alone, left_to, ends, jump_when, is_stop, enclosed, returning, items_past, code_items, entry_items, exit_items, function_items, functions_items, closing_items, start_items, program_items, inside, is_end, is_turn, again, rotated, looped, is_tested, is_round, part_items, test_items}
+use Rattle.asm_laws.specs.inner.Emitted.{labels, functions_labels, enclosing, jump, jump_unless, mark, first_part, second_part, choice, one_way, alone, left_to, ends, jump_when, is_stop, enclosed, returning, items_past, code_items, entry_items, exit_items, function_items, functions_items, closing_items, start_items, program_items, inside, is_end, is_turn, again, rotated, looped, is_tested, part_items, test_items}
 use Rattle.asm_laws.proofs.Programs.{mapped_from}
 use Rattle.asm_laws.proofs.Walked.{total_more}
 use Rattle.asm_laws.proofs.InOne.{one_or_more_is}
@@ -369,10 +367,10 @@ module _ (x : CodeT Where) (W : Whole) (Q : List ℕ → Type 0) (of_function : 
   -- ---- the whole program
 
   made_uses : (n : ℕ) → Uses Q (frame_made n)
-  made_uses n = one_of_both (n == 0) [] (item.Op (instr.One PUSH 14) ∷ item.Op (instr.Mov (RegReg 14 15)) ∷ item.Op (instr.Two ISUB 15 (src.Imm (Left n))) ∷ []) tt (tt, (tt, (tt, tt)))
+  made_uses n = one_of_both (n == 0) [] (item.Op (instr.Two ISUB 15 (src.Imm (Left n))) ∷ []) tt (tt, tt)
 
   gone_uses : (n : ℕ) → Uses Q (frame_gone n)
-  gone_uses n = one_of_both (n == 0) (item.Op (instr.Plain RET) ∷ []) (item.Op (instr.Mov (RegReg 15 14)) ∷ item.Op (instr.One POP 14) ∷ item.Op (instr.Plain RET) ∷ []) (tt, tt) (tt, (tt, (tt, tt)))
+  gone_uses n = one_of_both (n == 0) (item.Op (instr.Plain RET) ∷ []) (item.Op (instr.Two IADD 15 (src.Imm (Left n))) ∷ item.Op (instr.Plain RET) ∷ []) (tt, tt) (tt, (tt, tt))
 
   outermost : Jumpable []
   outermost k lt = absurd (omega arith)
@@ -399,9 +397,9 @@ module _ (x : CodeT Where) (W : Whole) (Q : List ℕ → Type 0) (of_function : 
   start_uses main lt ok few k =
       let F = start_frame in
       let b = code_items W F 0 [] 1 x.start.body in
-      let more : Knows (b ++ closing_items W main) = λ m h. k m (marked_right opening_items (b ++ closing_items W main) m h) in
+      let more : Knows (b ++ closing_items W main) = k in
       let end : Q (jump_label 0) = more (jump_label 0) (marked_right b (closing_items W main) (jump_label 0) (inl refl)) in
-      uses_append Q opening_items (b ++ closing_items W main) (tt, tt) (uses_append Q b (closing_items W main) (code_uses F 0 end (length x.start.locals) x.start.body [] [] 1 refl ok few outermost (λ m h. more m (marked_left b (closing_items W main) m h))) (tt, (of_function main lt, (tt, tt))))
+      uses_append Q b (closing_items W main) (code_uses F 0 end (length x.start.locals) x.start.body [] [] 1 refl ok few outermost (λ m h. more m (marked_left b (closing_items W main) m h))) (tt, (of_function main lt, (tt, tt)))
 
   integers_uses : (bytes : List ℕ) → Uses Q (map item.Integer bytes)
   integers_uses [] = tt

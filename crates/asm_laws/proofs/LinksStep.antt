@@ -7,8 +7,7 @@ use Rattle.std.proofs.lemmas.List.{length-set}
 use Rattle.kit_base.specs.Word.{add, sub}
 use Rattle.v32_isa.specs.declared.instruction.Plain.TheVariants.{RET}
 use Rattle.v32_isa.specs.declared.instruction.Go.TheVariants.{CALL}
-use Rattle.v32_isa.specs.declared.instruction.One.TheVariants.{PUSH, POP}
-use Rattle.v32_isa.specs.declared.instruction.Two.TheVariants.{ISUB}
+use Rattle.v32_isa.specs.declared.instruction.Two.TheVariants.{IADD, ISUB}
 use Rattle.v32_isa.specs.declared.instruction.Src.TheVariants as src
 use Rattle.v32_isa.specs.declared.instruction.Mov.TheVariants.{RegReg, AtOffReg}
 use Rattle.v32_isa.specs.declared.instruction.Instr.{Instr}
@@ -29,44 +28,20 @@ use Rattle.asm_items.specs.declared.item.AsmItem.TheVariants as item
 use Rattle.mid_code.specs.declared.placed.Where.{Where}
 use Rattle.mid_code.specs.declared.placed.Where.TheVariants.{Reg, Slot}
 use Rattle.mid_code.specs.Invariants.{in_registers, AreDifferent}
-use Rattle.asm_laws.specs.Operations.{Frame, register, slot_word, fetch, hand, brings, slot_arg, slot_args, moved_items, args_items}
+use Rattle.asm_laws.specs.Operations.{Frame, register, arg_word, fetch, hand, brings, slot_arg, slot_args, moved_items, args_items}
 use Rattle.asm_laws.specs.Moves.{Move, in_order}
 use Rattle.asm_laws.specs.Placing.{Line}
 use Rattle.asm_laws.specs.Standing.{Stand}
 use Rattle.asm_laws.specs.Addresses.{Addr, Console, word_of, store, Room, Good, Held, ArrivesBy, Arrives}
-use Rattle.asm_laws.specs.Framing.{frame_made, link_words}
+use Rattle.asm_laws.specs.Framing.{frame_made}
 use Rattle.asm_laws.specs.inner.Links.{new_slot, passed, all_passed, push, all_arrived, moved as moved_by, entered, slot_steps, called}
 use Rattle.asm_laws.proofs.Stepping.{same_or_not, written_same, written_other, readable_word, ram_readable, ram_writable, writes_at, line_effect, line_turn, reg_same, reg_other, took, moved, kept, stores, fetches_so}
 use Rattle.asm_laws.proofs.Hands.{with_reg, held_alike, hand_fits, brings_at}
 use Rattle.asm_laws.proofs.Ordering.{Every, moved_same, in_order_is, in_order_fine, in_order_few}
 use Rattle.asm_laws.proofs.Ordering as ordering
 
--- how many words a link has
-pub link_bare : (size : ℕ) → (size == 0) ≡ true → link_words size ≡ 1
-unfolding link_words
-link_bare size is = ap (λ b. cond b 1 2) is
-
-pub link_framed : (size : ℕ) → (size == 0) ≡ false → link_words size ≡ 2
-unfolding link_words
-link_framed size is = ap (λ b. cond b 1 2) is
-
-pub framed_link : (size : ℕ) → 1 ≤ size → link_words size ≡ 2
-framed_link size le = go (size == 0) refl
-  where
-    go : (b : Bool) → (size == 0) ≡ b → link_words size ≡ 2
-    go true e = let z = eqb-true size 0 e in absurd (omega (arith, z, le))
-    go false e = link_framed size e
-
-pub link_range : (size : ℕ) → (1 ≤ link_words size) × (link_words size ≤ 2)
-unfolding link_words
-link_range size = go (size == 0)
-  where
-    go : (b : Bool) → (1 ≤ cond b 1 2) × (cond b 1 2 ≤ 2)
-    go true = (omega arith, omega arith)
-    go false = (omega arith, omega arith)
-
 module _ (C : Console) where
-  -- the top of the stack, and the end of the frame, are other addresses
+  -- the top of the stack is another address
   pub top_held : (a : Addr) (s : State) (x : ℕ) → Held C a s → Held C (record a { top = x }) (with_register 15 x s)
   top_held a s x h = record {
     program_length = h.program_length;
@@ -75,23 +50,13 @@ module _ (C : Console) where
     text = h.text;
     sixteen = length-set s.registers 15 x ∙ h.sixteen;
     regs = λ q lt. reg_other C s 15 x q (omega arith) ∙ h.regs q lt;
-    base = reg_other C s 15 x 14 (omega arith) ∙ h.base;
     top = reg_same C s 15 x (omega (arith, h.sixteen));
     memory = h.memory;
   }
 
-  pub base_held : (a : Addr) (s : State) (x : ℕ) → Held C a s → Held C (record a { base = x }) (with_register 14 x s)
-  base_held a s x h = record {
-    program_length = h.program_length;
-    card = h.card;
-    short = h.short;
-    text = h.text;
-    sixteen = length-set s.registers 14 x ∙ h.sixteen;
-    regs = λ q lt. reg_other C s 14 x q (omega arith) ∙ h.regs q lt;
-    base = reg_same C s 14 x (omega (arith, h.sixteen));
-    top = reg_other C s 14 x 15 (omega arith) ∙ h.top;
-    memory = h.memory;
-  }
+  -- no register has the end of the frame
+  pub based : (a : Addr) (s : State) (x : ℕ) → Held C a s → Held C (record a { base = x }) s
+  based a s x h = record { program_length = h.program_length; card = h.card; short = h.short; text = h.text; sixteen = h.sixteen; regs = h.regs; top = h.top; memory = h.memory }
 
   chain_by : (is js ks : List Link) (i j : ℕ) (s : State) (xs : List ℕ) (p q : ℕ) (a b : Addr) → ArrivesBy is js C i s xs p [] xs a → ((t : State) → t.counter ≡ p → Held C a t → ArrivesBy js ks C j t xs q [] xs b) → ArrivesBy is ks C (i + j) s xs q [] xs b
   chain_by is js ks i j s xs p q a b f g =
@@ -118,20 +83,10 @@ module _ (C : Console) where
   nothing s xs pc p a h e k = record { steps = 0; to = s; by = reaches_here s xs; at = e ∙ k; held = h; few = omega arith }
 
   -- a word is pushed
-  push_act : (a : Addr) (s : State) (r v next : ℕ) → 1 ≤ a.top → a.top ≤ 0x400000 → register_of s r ≡ v → Held C a s → act (instr.One PUSH r) next s ≡ EndsIn stepped.Went (going_to next (with_register 15 (a.top - 1) (stored s (a.top - 1) v)))
-  unfolding act
-  push_act a s r v next lo hi is h =
-      let d : sub (register_of s 15) 1 ≡ a.top - 1 = omega (arith, h.top, lo, hi) in
-      let w : is_writable_at s (a.top - 1) ≡ true = writes_at C a s (a.top - 1) h ∙ ram_writable C (a.top - 1) (omega (arith, lo, hi)) in
-      rw (d, w, is) refl
-
   push_held : (a : Addr) (s : State) (v next : ℕ) → 1 ≤ a.top → a.top ≤ 0x400000 → Held C a s → Held C (push v a) (going_to next (with_register 15 (a.top - 1) (stored s (a.top - 1) v)))
   push_held a s v next lo hi h =
       moved C (push v a) (with_register 15 (a.top - 1) (stored s (a.top - 1) v)) next
       (top_held (store (a.top - 1) v a) (stored s (a.top - 1) v) (a.top - 1) (moved C (store (a.top - 1) v a) (going_to s.counter (stored s (a.top - 1) v)) s.counter (stores C a s s.counter (a.top - 1) v (ram_writable C (a.top - 1) (omega (arith, lo, hi))) h)))
-
-  pushes : (a : Addr) (s : State) (xs : List ℕ) (pc r v next : ℕ) → r < 16 → 1 ≤ a.top → a.top ≤ 0x400000 → register_of s r ≡ v → Held C a s → s.counter ≡ pc → Line C.words pc (instr.One PUSH r) next → Arrives C 1 s xs next [] xs (push v a)
-  pushes a s xs pc r v next lt lo hi is h e l = one a (push v a) s (going_to next (with_register 15 (a.top - 1) (stored s (a.top - 1) v))) xs pc (instr.One PUSH r) next h e l (lt, omega arith, omega arith) (push_act a s r v next lo hi is h) refl (push_held a s v next lo hi h)
 
   -- ---- arguments
 
@@ -146,13 +101,13 @@ module _ (C : Console) where
     -- the frame lies in RAM, and so will the next one
     pub record Roomy (a : Addr) : Type 0 where
       pub room : Room F a
-      pub below : G.size + 2 ≤ a.top
+      pub below : G.size + 1 ≤ a.top
       pub above : a.top ≤ 0x400000
 
-    store_act : (a : Addr) (s : State) (k m v next : ℕ) → Roomy a → get_or G.slots k k < G.size → register_of s m ≡ v → Held C a s → act (instr.Mov (AtOffReg 15 (sub (slot_word G k) 2) m)) next s ≡ EndsIn stepped.Went (going_to next (stored s (new_slot G k a) v))
+    store_act : (a : Addr) (s : State) (k m v next : ℕ) → Roomy a → get_or G.slots k k < G.size → register_of s m ≡ v → Held C a s → act (instr.Mov (AtOffReg 15 (arg_word G k) m)) next s ≡ EndsIn stepped.Went (going_to next (stored s (new_slot G k a) v))
     unfolding act
     store_act a s k m v next r good is h =
-        let d : add (register_of s 15) (sub (slot_word G k) 2) ≡ new_slot G k a = omega (arith, h.top, r.below, r.above, good) in
+        let d : add (register_of s 15) (arg_word G k) ≡ new_slot G k a = omega (arith, h.top, r.below, r.above, good) in
         let w : is_writable_at s (new_slot G k a) ≡ true = writes_at C a s (new_slot G k a) h ∙ ram_writable C (new_slot G k a) (omega (arith, r.below, r.above)) in
         rw (d, w, is) refl
 
@@ -160,8 +115,8 @@ module _ (C : Console) where
     passes a s xs pc e (Reg q) x r gp gx h c k = let n = nothing s xs pc e a h c k in record { steps = n.steps; to = n.to; by = n.by; at = n.at; held = n.held; few = omega (arith, n.few) }
     passes a s xs pc e (Slot i) x r gp gx h c k =
         let v = word_of F x a in
-        let o = instr.Mov (AtOffReg 15 (sub (slot_word G i) 2) (hand x 9)) in
-        let d = part (brings F x 9) (item.Op (instr.Mov (AtOffReg 15 (Left (sub (slot_word G i) 2)) (hand x 9))) ∷ []) pc e k in
+        let o = instr.Mov (AtOffReg 15 (arg_word G i) (hand x 9)) in
+        let d = part (brings F x 9) (item.Op (instr.Mov (AtOffReg 15 (Left (arg_word G i)) (hand x 9))) ∷ []) pc e k in
         let b = brings_at C F address a s xs pc d.0 x 9 r.room gx (omega arith) (omega arith) h c d.1 in
         let t = b.to in
         let l = d.2 in
@@ -177,7 +132,7 @@ module _ (C : Console) where
 
     roomy_passed : (p x : Where) (a : Addr) → Roomy a → Roomy (passed F G p x a)
     roomy_passed (Reg q) x a r = r
-    roomy_passed (Slot k) x a r = record { room = record { low = r.room.low; high = r.room.high }; below = r.below; above = r.above }
+    roomy_passed (Slot k) x a r = record { room = record { top = r.room.top; low = r.room.low; high = r.room.high }; below = r.below; above = r.above }
 
     all_passes : (a : Addr) (s : State) (xs : List ℕ) (pc e : ℕ) (ps args : List Where) → Roomy a → AllOf (Good G) ps → AllOf (Good F) args → Held C a s → s.counter ≡ pc → Here pc (slot_args F G ps args) e → Arrives C (slot_steps ps) s xs e [] xs (all_passed F G ps args a)
     all_passes a s xs pc e [] args r gp gx h c k = let n = nothing s xs pc e a h c k in record { steps = n.steps; to = n.to; by = n.by; at = n.at; held = n.held; few = omega (arith, n.few) }
@@ -188,8 +143,8 @@ module _ (C : Console) where
         chain 2 (slot_steps ps) s xs d.0 e (passed F G (Slot i) x a) (all_passed F G ps args (passed F G (Slot i) x a)) (passes a s xs pc d.0 (Slot i) x r gp.0 gx.0 h c d.1)
         (λ t c1 h1. all_passes (passed F G (Slot i) x a) t xs d.0 e ps args (roomy_passed (Slot i) x a r) gp.1 gx.1 h1 c1 d.2)
 
-    roomy : (a b : Addr) → b.base ≡ a.base → Room F a → Room F b
-    roomy a b e r = record { low = omega (arith, e, r.low); high = omega (arith, e, r.high) }
+    roomy : (a b : Addr) → b.base ≡ a.base → b.top ≡ a.top → Room F a → Room F b
+    roomy a b e t r = record { top = omega (arith, e, t, r.top); low = omega (arith, e, r.low); high = omega (arith, e, r.high) }
 
     -- ---- moves
 
@@ -230,7 +185,7 @@ module _ (C : Console) where
         let v = word_of F x a in
         let u = took C k.0 t v s in
         let m = move_so a s xs pc t x k.0 room good.0.1 good.0.0 h like c k.1 in
-        let f = moves_so ms (with_reg t v a) u xs k.0 e good.1 (record { low = room.low; high = room.high }) (kept C a s k.0 t v good.0.0 h) (alike_on a s k.0 t v good.0.0 h like) refl k.2 in
+        let f = moves_so ms (with_reg t v a) u xs k.0 e good.1 (record { top = room.top; low = room.low; high = room.high }) (kept C a s k.0 t v good.0.0 h) (alike_on a s k.0 t v good.0.0 h like) refl k.2 in
         record { steps = 1 + f.steps; to = f.to; by = reaches_on 1 f.steps s u f.to xs xs xs [] [] m f.by; at = f.at; held = f.held; few = omega (arith, f.few) }
 
     params_low : (ps : List Where) → AllOf (Good G) ps → ordering.AllOf F (ordering.Low F) ps
@@ -254,7 +209,7 @@ module _ (C : Console) where
         let b = record a { regs = register_of s } in
         let ms = in_order ps args in
         let fine = in_order_fine Source (λ r lt. lt) F ps args (params_low ps gp) differ (sources args gx) in
-        let f = moves_so ms b s xs pc e fine (record { low = room.low; high = room.high }) (held_alike C a b s (λ r lt. sym (h.regs r lt)) (λ q. refl) refl refl h) (λ r lt. refl) c k in
+        let f = moves_so ms b s xs pc e fine (record { top = room.top; low = room.low; high = room.high }) (held_alike C a b s (λ r lt. sym (h.regs r lt)) (λ q. refl) refl refl h) (λ r lt. refl) c k in
         let same = moved_same F ms b in
         record {
           steps = f.steps;
@@ -282,11 +237,12 @@ module _ (C : Console) where
     abbrev pub link_at : Addr → ℕ → Link
     link_at a next = record { top = a.top - 1; back = next }
 
-    abbrev entered_as : Bool → ℕ → Addr → Addr
-    entered_as bare next a = record a { memory = cond bare (push next a).memory (push a.base (push next a)).memory; base = cond bare a.base (a.top - 2); top = a.top - link_words G.size - G.size }
+    pub more_act : (a : Addr) (s : State) (n next : ℕ) → a.top + n ≤ 0x400000 → Held C a s → act (instr.Two IADD 15 (src.Imm n)) next s ≡ EndsIn stepped.Went (going_to next (with_register 15 (a.top + n) s))
+    unfolding act
+    more_act a s n next hi h = let d : add (register_of s 15) n ≡ a.top + n = omega (arith, h.top, hi) in rw d refl
 
-    -- from the call to the function's body: where its frame has words, BP is pushed, and room is made for them
-    pub enters : (a : Addr) (s : State) (xs : List ℕ) (pc next begins body : ℕ) → G.size + 2 ≤ a.top → a.top ≤ 0x400000 → Held C a s → s.counter ≡ pc → Line C.words pc (instr.Go CALL (src.Imm begins)) next → Here begins (frame_made G.size) body → ArrivesBy [] (link_at a next ∷ []) C 4 s xs body [] xs (entered G next a)
+    -- from the call to the function's body: where its frame has words, room is made for them
+    pub enters : (a : Addr) (s : State) (xs : List ℕ) (pc next begins body : ℕ) → G.size + 1 ≤ a.top → a.top ≤ 0x400000 → Held C a s → s.counter ≡ pc → Line C.words pc (instr.Go CALL (src.Imm begins)) next → Here begins (frame_made G.size) body → ArrivesBy [] (link_at a next ∷ []) C 2 s xs body [] xs (entered G next a)
     enters a s xs pc next begins body lo hi h e l k = go (G.size == 0) refl k
       where
         a1 : Addr
@@ -308,37 +264,22 @@ module _ (C : Console) where
               few = omega arith;
             }
 
-        go : (b : Bool) → (G.size == 0) ≡ b → Here begins (cond b [] (item.Op (instr.One PUSH 14) ∷ item.Op (instr.Mov (RegReg 14 15)) ∷ item.Op (instr.Two ISUB 15 (src.Imm (Left G.size))) ∷ [])) body → ArrivesBy [] (link_at a next ∷ []) C 4 s xs body [] xs (entered_as b next a)
+        go : (b : Bool) → (G.size == 0) ≡ b → Here begins (cond b [] (item.Op (instr.Two ISUB 15 (src.Imm (Left G.size))) ∷ [])) body → ArrivesBy [] (link_at a next ∷ []) C 2 s xs body [] xs (entered G next a)
         go true is k =
             let z : G.size ≡ 0 = eqb-true G.size 0 is in
-            let w = link_bare G.size is in
-            let d : a1.top ≡ a.top - link_words G.size - G.size = omega (arith, z, w) in
-            record { steps = f1.steps; to = f1.to; by = f1.by; at = f1.at ∙ k; held = held_alike C a1 (entered_as true next a) f1.to (λ r lt. refl) (λ q. refl) refl d f1.held; few = omega (arith, f1.few) }
+            let d : a1.top ≡ a.top - 1 - G.size = omega (arith, z) in
+            record { steps = f1.steps; to = f1.to; by = f1.by; at = f1.at ∙ k; held = held_alike C (record a1 { base = a.top - 1 }) (entered G next a) f1.to (λ r lt. refl) (λ q. refl) refl d (based a1 f1.to (a.top - 1) f1.held); few = omega (arith, f1.few) }
         go false is k =
-            let w = link_framed G.size is in
-            let a2 = push a.base a1 in
-            let a3 = record a2 { base = a.top - 2 } in
-            let same : a1.top - 1 ≡ a.top - 2 = omega arith in
-            chain_by [] (link_at a next ∷ []) (link_at a next ∷ []) 1 3 s xs begins body a1 (entered_as false next a) f1 (λ t1 e1 h1.
-            arrives_in (link_at a next) 3 t1 xs body (entered_as false next a) (chain 1 2 t1 xs k.0 body a2 (entered_as false next a) (pushes a1 t1 xs begins 14 a.base k.0 (omega arith) (omega (arith, lo)) (omega (arith, hi)) h1.base h1 e1 k.1) (λ t2 e2 h2.
-            let v : register_of t2 15 ≡ a.top - 2 = h2.top ∙ same in
-            let u2 = going_to k.2.0 (with_register 14 (a.top - 2) t2) in
-            let f3 : Arrives C 1 t2 xs k.2.0 [] xs a3 = one a2 a3 t2 u2 xs k.0 (instr.Mov (RegReg 14 15)) k.2.0 h2 e2 k.2.1 (omega arith, omega arith, omega arith) (copy_act t2 14 15 k.2.0 ∙ ap (λ x. EndsIn stepped.Went (going_to k.2.0 (with_register 14 x t2))) v) refl (moved C a3 (with_register 14 (a.top - 2) t2) k.2.0 (base_held a2 t2 (a.top - 2) h2)) in
-            chain 1 1 t2 xs k.2.0 body a3 (entered_as false next a) f3 (λ t3 e3 h3.
-            let d : a3.top - G.size ≡ a.top - link_words G.size - G.size = omega (arith, w) in
-            let u4 = going_to k.2.2.0 (with_register 15 (a3.top - G.size) t3) in
-            subst (λ q. Arrives C 1 t3 xs q [] xs (entered_as false next a)) k.2.2.2
-            (one a3 (entered_as false next a) t3 u4 xs k.2.0 (instr.Two ISUB 15 (src.Imm G.size)) k.2.2.0 h3 e3 k.2.2.1 (omega arith, omega arith, omega arith) (less_act a3 t3 G.size k.2.2.0 (omega (arith, lo)) (omega (arith, hi)) h3) refl
-            (held_alike C (record a3 { top = a3.top - G.size }) (entered_as false next a) u4 (λ r lt. refl) (λ q. refl) refl d (moved C (record a3 { top = a3.top - G.size }) (with_register 15 (a3.top - G.size) t3) k.2.2.0 (top_held a3 t3 (a3.top - G.size) h3))))))))
+            let a3 = record a1 { base = a.top - 1 } in
+            chain_by [] (link_at a next ∷ []) (link_at a next ∷ []) 1 1 s xs begins body a1 (entered G next a) f1 (λ t1 e1 h1.
+            arrives_in (link_at a next) 1 t1 xs body (entered G next a)
+            (let h3 = based a1 t1 (a.top - 1) h1 in
+            let u4 = going_to k.0 (with_register 15 (a3.top - G.size) t1) in
+            subst (λ q. Arrives C 1 t1 xs q [] xs (entered G next a)) k.2
+            (one a3 (entered G next a) t1 u4 xs begins (instr.Two ISUB 15 (src.Imm G.size)) k.0 h3 e1 k.1 (omega arith, omega arith, omega arith) (less_act a3 t1 G.size k.0 (omega (arith, lo)) (omega (arith, hi)) h3) refl
+            (moved C (record a3 { top = a3.top - G.size }) (with_register 15 (a3.top - G.size) t1) k.0 (top_held a3 t1 (a3.top - G.size) h3)))))
 
     -- ---- the way back
-
-    pub popbase_act : (a : Addr) (s : State) (next : ℕ) → a.top < 0x400000 → Held C a s → act (instr.One POP 14) next s ≡ EndsIn stepped.Went (going_to next (with_register 14 (a.memory a.top) (with_register 15 (a.top + 1) s)))
-    unfolding act
-    popbase_act a s next hi h =
-        let w = readable_word C a s a.top h (ram_readable C a.top hi) in
-        let u : add a.top 1 ≡ a.top + 1 = omega (arith, hi) in
-        rw (h.top, w, u) refl
 
     pub ret_act : (a : Addr) (s : State) (next : ℕ) → a.top < 0x400000 → Held C a s → act (instr.Plain RET) next s ≡ EndsIn stepped.Went (going_to (a.memory a.top) (with_register 15 (a.top + 1) s))
     unfolding act
@@ -360,16 +301,16 @@ module _ (C : Console) where
     few_steps (Reg q ∷ ps) = let r = few_steps ps in omega (arith, r)
     few_steps (Slot k ∷ ps) = let r = few_steps ps in omega (arith, r)
 
-    -- from a call to the body of its function, in at most three steps for each argument and four more
+    -- from a call to the body of its function, in at most three steps for each argument and two more
     pub calls : (a : Addr) (s : State) (xs : List ℕ) (pc call next begins body : ℕ) (ps args : List Where) → Roomy a → length args ≡ length ps → AllOf (Good G) ps → AreDifferent ps → AllOf (Good F) args → Held C a s → s.counter ≡ pc →
-        Here pc (args_items F G ps args) call → Line C.words call (instr.Go CALL (src.Imm begins)) next → Here begins (frame_made G.size) body → ArrivesBy [] (link_at (all_arrived F ps args (all_passed F G ps args a)) next ∷ []) C (3 * length args + 4) s xs body [] xs (called F G ps args next a)
+        Here pc (args_items F G ps args) call → Line C.words call (instr.Go CALL (src.Imm begins)) next → Here begins (frame_made G.size) body → ArrivesBy [] (link_at (all_arrived F ps args (all_passed F G ps args a)) next ∷ []) C (3 * length args + 2) s xs body [] xs (called F G ps args next a)
     calls a s xs pc call next begins body ps args r n gp differ gx h c k l m =
         let d = part (slot_args F G ps args) (moved_items F (in_order ps args)) pc call k in
         let a1 = all_passed F G ps args a in
         let a2 = all_arrived F ps args a1 in
         let same = passed_same ps args a in
         let ls = link_at a2 next ∷ [] in
-        let f = chain_by [] [] ls (slot_steps ps) (2 * in_registers ps + 4) s xs d.0 body a1 (entered G next a2) (all_passes a s xs pc d.0 ps args r gp gx h c d.1) (λ s1 c1 h1.
-        chain_by [] [] ls (2 * in_registers ps) 4 s1 xs call body a2 (entered G next a2) (all_moves a1 s1 xs d.0 call ps args (roomy a a1 same.0 r.room) gp differ gx h1 c1 d.2) (λ s2 c2 h2.
+        let f = chain_by [] [] ls (slot_steps ps) (2 * in_registers ps + 2) s xs d.0 body a1 (entered G next a2) (all_passes a s xs pc d.0 ps args r gp gx h c d.1) (λ s1 c1 h1.
+        chain_by [] [] ls (2 * in_registers ps) 2 s1 xs call body a2 (entered G next a2) (all_moves a1 s1 xs d.0 call ps args (roomy a a1 same.0 same.1 r.room) gp differ gx h1 c1 d.2) (λ s2 c2 h2.
         enters a2 s2 xs call next begins body (omega (arith, same.1, r.below)) (omega (arith, same.1, r.above)) h2 c2 l m)) in
         record { steps = f.steps; to = f.to; by = f.by; at = f.at; held = f.held; few = omega (arith, f.few, few_steps ps, n) }

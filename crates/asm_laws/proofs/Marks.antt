@@ -4,8 +4,6 @@ use Rattle.std.specs.Prelude.{◌==◌, ◌&&◌}
 use Rattle.either.specs.declared.Either.TheVariants.{Left}
 use Rattle.v32_isa.specs.declared.instruction.Plain.TheVariants.{RET}
 use Rattle.v32_isa.specs.declared.instruction.One.{One as OneOf}
-use Rattle.v32_isa.specs.declared.instruction.One.TheVariants.{PUSH, POP}
-use Rattle.v32_isa.specs.declared.instruction.Mov.TheVariants.{RegReg}
 use Rattle.v32_isa.specs.declared.instruction.Two.{Two as TwoOf}
 use Rattle.v32_isa.specs.declared.instruction.Two.TheVariants.{IADD, ISUB}
 use Rattle.v32_isa.specs.declared.instruction.Src.TheVariants as src
@@ -17,11 +15,11 @@ use Rattle.mid_code.specs.declared.placed.Where.TheVariants.{Reg, Slot}
 use Rattle.mid_code.specs.Code.{OpT, ConstO, NullO, MoveO, OneO, TwoO, GlobalO, LocalO, LiteralO, CardO, StepO, ApartO, PtrTestO, LoadO, StoreO, FreshO, EndO, InO, OutO, WaitO, HaltO, NodesT, Stop, Do, Call, Choose, Block, Loop, Leave, Again, Return, FunctionT, CodeT}
 use Rattle.asm_laws.specs.Names.{function_label, literal_label}
 use Rattle.asm_laws.specs.Moves.{Move, in_order}
-use Rattle.asm_laws.specs.Operations.{Frame, Whole, register, keep, fetches, keeps_some, is_in, hand, brings, takes, aim, lays, moves, changes, is_direct, in_place, apart, turned, is_turned, turned_or_apart, computes, slot_arg, slot_args, moved_items, args_items, call_items, op_items, in_one, one_or_more, more_of, giving, start_frame, opening_items, literal_items, literals_items}
+use Rattle.asm_laws.specs.Operations.{Frame, Whole, register, keep, fetches, keeps_some, is_in, hand, brings, takes, aim, lays, moves, changes, is_direct, in_place, apart, turned, is_turned, turned_or_apart, computes, slot_arg, slot_args, moved_items, args_items, call_items, op_items, in_one, one_or_more, more_of, giving, start_frame, literal_items, literals_items}
 use Rattle.asm_laws.specs.Framing.{frame_made, frame_gone}
 use Rattle.asm_laws.specs.declared.behind.Behind.{Behind}
 use Rattle.asm_laws.specs.declared.behind.Behind.TheVariants.{Other, End, Turn}
-use Rattle.asm_laws.specs.inner.Emitted.{labels, functions_labels, enclosing, jump, jump_unless, mark, choice, one_way, alone, left_to, ends, jump_when, is_stop, enclosed, returning, items_past, code_items, entry_items, exit_items, function_items, functions_items, closing_items, start_items, program_items, labels_of, inside, is_end, is_turn, again, rotated, looped, is_tested, is_round, part_items, test_items}
+use Rattle.asm_laws.specs.inner.Emitted.{labels, functions_labels, enclosing, jump, jump_unless, mark, choice, one_way, alone, left_to, ends, jump_when, is_stop, enclosed, returning, items_past, code_items, entry_items, exit_items, function_items, functions_items, closing_items, start_items, program_items, labels_of, inside, is_end, is_turn, again, rotated, looped, is_tested, part_items, test_items}
 use Rattle.asm_laws.proofs.InOne.{one_or_more_is}
 use Rattle.asm_laws.proofs.LabelKinds.{Differ, Kind, Jump, Fun, Text, name_of, Valid, kind_same, Range, Box, Within, Aside, jumps, jumps_within, jumps_below, jumps_above}
 
@@ -338,19 +336,18 @@ module _ (W : Whole) (differ : Differ W.names) where
 
   start_marks : (main : ℕ) (body : NodesT Where) (e : ℕ) → 1 + labels body ≡ e → e ≤ 2 ^ 32 → Marks (jumps 0 e) (start_items W main body)
   start_marks main body e is few =
-      bare_then (jumps 0 e) opening_items (code_items W start_frame 0 [] 1 body ++ closing_items W main) tt
-      (falling 0 1 e (code_items W start_frame 0 [] 1 body) (closing_items W main) (omega arith) (omega (arith, is)) (code_marks start_frame 0 body [] 1 e is few) (closing_marks main))
+      falling 0 1 e (code_items W start_frame 0 [] 1 body) (closing_items W main) (omega arith) (omega (arith, is)) (code_marks start_frame 0 body [] 1 e is few) (closing_marks main)
 
   entry_marks : (f : ℕ) → f < length W.names → Marks (span 0 0 f (f + 1) 0 0) (entry_items W f (W.frames f))
   entry_marks f lt =
       let label = item.Label (function_label W.names f) in
       then_bare (span 0 0 f (f + 1) 0 0) (label ∷ []) (frame_made (W.frames f).size) (record { names = ((Fun f, lt, refl, (omega arith, omega arith)), tt); distinct = (tt, tt) })
-      (one_of_both ((W.frames f).size == 0) [] (item.Op (instr.One PUSH 14) ∷ item.Op (instr.Mov (RegReg 14 15)) ∷ item.Op (instr.Two ISUB 15 (src.Imm (Left (W.frames f).size))) ∷ []) tt tt)
+      (one_of_both ((W.frames f).size == 0) [] (item.Op (instr.Two ISUB 15 (src.Imm (Left (W.frames f).size))) ∷ []) tt tt)
 
   exit_marks : (n : ℕ) (F : Frame) → n < 2 ^ 32 → Marks (jumps n (n + 1)) (exit_items n F)
   exit_marks n F lt =
       then_bare (jumps n (n + 1)) (mark n ∷ []) (frame_gone F.size) (mark_one n lt)
-      (one_of_both (F.size == 0) (item.Op (instr.Plain RET) ∷ []) (item.Op (instr.Mov (RegReg 15 14)) ∷ item.Op (instr.One POP 14) ∷ item.Op (instr.Plain RET) ∷ []) tt tt)
+      (one_of_both (F.size == 0) (item.Op (instr.Plain RET) ∷ []) (item.Op (instr.Two IADD 15 (src.Imm (Left F.size))) ∷ item.Op (instr.Plain RET) ∷ []) tt tt)
 
   function_marks : (f n e : ℕ) (body : NodesT Where) → f < length W.names → n + 1 + labels body ≡ e → e ≤ 2 ^ 32 → Marks (span n e f (f + 1) 0 0) (function_items W f n body)
   function_marks f n e body lt is few =

@@ -263,8 +263,6 @@ module _ (S : Setting) (boot : ℕ) (card : Option (List ℕ)) (ok : IsCard card
       called_as = sym laid.called_as;
       locals_are = sym (ap length laid.locals);
       base_is = refl;
-      framed = λ le. refl;
-      pointer_high = omega arith;
       top_is = let d = laid.depth in omega (arith, d);
       low = let u = laid.few_globals in let z = laid.size in omega (arith, u, z);
       high = omega arith;

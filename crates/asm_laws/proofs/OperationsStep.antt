@@ -243,7 +243,7 @@ module _ (C : Console) (address : List ℕ → ℕ) (W : Whole) (F : Frame) (a :
       let f = takes_at C F address a s xs pc d.0 q m room gq (omega (arith, lt)) h e d.1 in
       let g = parts (brings F r 10) (item.Op (instr.Two o m (src.Reg (hand r 10))) ∷ []) d.0 p d.2 in
       let same : word_of F r b ≡ w = word_other C F address a r m v gr off.0 in
-      let i = brings_at C F address b f.to xs d.0 g.0 r 10 (record { low = room.low; high = room.high }) gr (omega arith) (omega arith) f.held f.at g.1 in
+      let i = brings_at C F address b f.to xs d.0 g.0 r 10 (record { top = room.top; low = room.low; high = room.high }) gr (omega arith) (omega arith) f.held f.at g.1 in
       let u = i.to in
       let l = g.2 in
       let first : register_of u m ≡ v = i.others m (λ z. omega (arith, lt, z)) ∙ f.is in
@@ -412,10 +412,10 @@ module _ (C : Console) (address : List ℕ → ℕ) (W : Whole) (F : Frame) (a :
         few = let n = i.few in omega (arith, n);
       }
 
-  local_is : (s : State) (k : ℕ) → get_or F.locals k 0 < F.size → Held C a s → add (register_of s 14) (local_word F k) ≡ local_address F k a
-  local_is s k good h = omega (arith, room.low, room.high, h.base)
+  local_is : (s : State) (k : ℕ) → get_or F.locals k 0 < F.size → Held C a s → add (register_of s 15) (local_word F k) ≡ local_address F k a
+  local_is s k good h = omega (arith, room.low, room.high, room.top, h.top)
 
-  local_effect : (s : State) (m k next : ℕ) → get_or F.locals k 0 < F.size → Held C a s → act (with (instr.Lea m 14 (Some (Left (local_word F k))))) next s ≡ EndsIn stepped.Went (took C next m (local_address F k a) s)
+  local_effect : (s : State) (m k next : ℕ) → get_or F.locals k 0 < F.size → Held C a s → act (with (instr.Lea m 15 (Some (Left (local_word F k))))) next s ≡ EndsIn stepped.Went (took C next m (local_address F k a) s)
   unfolding act
   local_effect s m k next good h = ap (λ v. EndsIn stepped.Went (took C next m v s)) (local_is s k good h)
 
@@ -445,8 +445,8 @@ module _ (C : Console) (address : List ℕ → ℕ) (W : Whole) (F : Frame) (a :
   op_follows (GlobalO t j) s xs pc p good h e k = few_more 2 8 s xs p (Goes [] xs (put F t (get_or W.globals j 0) a)) (omega arith) (sets_at s xs pc p t (Left (get_or W.globals j 0)) good h e k)
   op_follows (LocalO t j) s xs pc p good h e k =
       let v = local_address F j a in
-      let eff = line_effect C a s pc (with (instr.Lea (aim t) 14 (Some (Left (local_word F j))))) k.0 h e k.1 (aim_fits t, omega arith, omega arith) ∙ local_effect s (aim t) j k.0 good.1 h in
-      few_more 2 8 s xs p (Goes [] xs (put F t v a)) (omega arith) (laid s xs k.0 p v t good.0 h eff (line_turn C a s pc (with (instr.Lea (aim t) 14 (Some (Left (local_word F j))))) k.0 h e k.1 (aim_fits t, omega arith, omega arith)) k.2)
+      let eff = line_effect C a s pc (with (instr.Lea (aim t) 15 (Some (Left (local_word F j))))) k.0 h e k.1 (aim_fits t, omega arith, omega arith) ∙ local_effect s (aim t) j k.0 good.1 h in
+      few_more 2 8 s xs p (Goes [] xs (put F t v a)) (omega arith) (laid s xs k.0 p v t good.0 h eff (line_turn C a s pc (with (instr.Lea (aim t) 15 (Some (Left (local_word F j))))) k.0 h e k.1 (aim_fits t, omega arith, omega arith)) k.2)
   op_follows (LiteralO t j) s xs pc p good h e k = few_more 2 8 s xs p (Goes [] xs (put F t (address (literal_label j)) a)) (omega arith) (sets_at s xs pc p t (Right (literal_label j)) good h e k)
   op_follows (CardO t) s xs pc p good h e k = few_more 2 8 s xs p (Goes [] xs (put F t 0x30000000 a)) (omega arith) (sets_at s xs pc p t (Left 0x30000000) good h e k)
   op_follows (StepO t q r) s xs pc p good h e k = few_more 4 8 s xs p (computed F t (two_of IADD (word_of F q a) (word_of F r a)) xs a) (omega arith) (computes_at s xs pc p IADD t q r good.0 good.1 good.2 h e k)

@@ -104,7 +104,7 @@ module _ (S : Setting) (fits : Fits S) (κ : Ctx) (s : State Where) (place : ℕ
   local_at t j (Some o) n lt some e =
       let l = h.ranges.local j o (omega (arith, lt, h.stack.locals_are)) e in
       let f = fits.local_in κ.fn j lt in
-      let b : a.base ≡ κ.base = h.stack.base_is ∙ h.stack.framed (omega (arith, some)) in
+      let b : a.base ≡ κ.base = h.stack.base_is in
       let p : local_address F j a ≡ place o = omega (arith, l.2, f, b, h.stack.low) in
       keeps t (Ptr o 0) (local_address F j a) n (l.1, p ∙ add_zero (place o) (omega (arith, l.2, h.stack.high)), omega arith)
 

@@ -19,7 +19,7 @@ use Rattle.asm_laws.specs.Calling.{Callable}
 use Rattle.asm_laws.specs.Laid.{Laid}
 use Rattle.asm_laws.specs.Linked.{setting}
 use Rattle.asm_laws.specs.Program.{Program}
-use Rattle.asm_laws.specs.Tables.{Number, OfFunction, OfStart, OfRest, number_of, spots_at, frame_for, depth_for, slot_for, called_for, locals_for, addresses, count_of, plan_of}
+use Rattle.asm_laws.specs.Tables.{Number, OfFunction, OfStart, OfRest, number_of, spots_at, frame_for, slot_for, called_for, locals_for, addresses, count_of, plan_of}
 use Rattle.asm_laws.specs.PlacedAt.{PlacedAt}
 use Rattle.asm_laws.proofs.Spotted.{function_is, spots_of, conventions}
 use Rattle.asm_laws.proofs.Words.{below_not}
@@ -84,7 +84,7 @@ module _ (x : PlacedT) (names : List (List ℕ)) (address : List ℕ → ℕ) (e
     has_card = refl;
     called_as = ap (λ n. called_for n (count_of x)) (start_number (count_of x));
     locals = ap (λ n. locals_for x n (count_of x)) (start_number (count_of x));
-    depth = ap (λ n. depth_for x n (count_of x)) (start_number (count_of x));
+    depth = ap (λ n. (frame_for x n (count_of x)).depth) (start_number (count_of x));
     size = let e = ap (λ n. (frame_for x n (count_of x)).size) (start_number (count_of x)) in omega (arith, e);
   }
 
@@ -115,7 +115,7 @@ module _ (x : PlacedT) (names : List (List ℕ)) (address : List ℕ → ℕ) (e
       let sz : (frame_for x (number_of F g) g).size ≡ get_or x.frames g 0 = ap (λ n. (frame_for x n g).size) (N g lt) in
       record {
         called_as = ap (λ n. called_for n g) (N g lt);
-        depth = ap (λ n. depth_for x n g) (N g lt) ∙ sym sz;
+        depth = ap (λ n. (frame_for x n g).depth) (N g lt) ∙ sym sz;
         frame = sym sz;
         params = refl;
         params_named = all_both (IsPlace (function_at x.code g)) (HasSlot (spots_at x g)) (Named S g) (named g lt) (function_at x.code g).params (fn g lt).params_named sp.2;
@@ -145,7 +145,7 @@ module _ (x : PlacedT) (names : List (List ℕ)) (address : List ℕ → ℕ) (e
     main = callable x.code.main main_lt;
     main_params = no_length (function_at x.code x.code.main).params (ap (λ z. length z.params) (get_or_from_slice_get x.code.functions x.code.main main_is.0 no_function main_is.1) ∙ main_is.2);
     rest_as = ap (λ n. called_for n (count_of x + 1)) (rest_number (count_of x)) ∙ sym (ap (λ n. called_for n (count_of x)) (start_number (count_of x)));
-    rest_depth = ap (λ n. depth_for x n (count_of x + 1)) (rest_number (count_of x));
+    rest_depth = ap (λ n. (frame_for x n (count_of x + 1)).depth) (rest_number (count_of x));
     rest_size = ap (λ n. (frame_for x n (count_of x + 1)).size) (rest_number (count_of x));
     rest_slots = λ k has. subst (λ n. slot_for x n (count_of x + 1) k) (rest_number (count_of x)) has;
   }

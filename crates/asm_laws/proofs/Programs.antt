@@ -12,15 +12,14 @@ use Rattle.mid_code.specs.Agrees.{AgreesWithin}
 use Rattle.either.specs.declared.Either.TheVariants.{Right}
 use Rattle.v32_isa.specs.declared.instruction.Go.TheVariants.{CALL}
 use Rattle.v32_isa.specs.declared.instruction.Src.TheVariants as src
-use Rattle.v32_isa.specs.declared.instruction.Mov.TheVariants.{RegReg}
 use Rattle.v32_isa.specs.declared.instruction.Instr.TheVariants as instr
 use Rattle.asm_items.specs.declared.item.AsmItem.TheVariants as item
 use Rattle.asm_laws.specs.Names.{function_label}
-use Rattle.asm_laws.specs.Placing.{Line, Bounds, paid, Past}
+use Rattle.asm_laws.specs.Placing.{Bounds, paid, Past}
 use Rattle.asm_laws.specs.Operations.{args_items}
 use Rattle.asm_laws.specs.Addresses.{IsPlainOne}
 use Rattle.asm_laws.specs.Standing.{Stand}
-use Rattle.asm_laws.specs.Holds.{Setting, Named}
+use Rattle.asm_laws.specs.Holds.{Setting, Named, depth_of}
 use Rattle.asm_laws.specs.Acting.{Fitting, FrontFits}
 use Rattle.asm_laws.specs.Calling.{Callable, shapes}
 use Rattle.asm_laws.specs.Linked.{Linked, Plan, setting}
@@ -64,7 +63,7 @@ module _ (S : Setting) (boot rest : ℕ) (card : Option (List ℕ)) (ok : IsCard
   fitting f so HaltO c i m = tt
 
   abbrev Calls : ℕ → Type 0
-  Calls f = (g : ℕ) (fn : FunctionT Where) → slice_get S.code.functions g ≡ Some fn → (S.depth f ≡ (S.whole.frames f).size) × Callable S g × (S.whole.params g ≡ fn.params)
+  Calls f = (g : ℕ) (fn : FunctionT Where) → slice_get S.code.functions g ≡ Some fn → (depth_of S f ≡ (S.whole.frames f).size) × Callable S g × (S.whole.params g ≡ fn.params)
 
   front_fits : (f : ℕ) → Sound S f → (bs : List Bool) (c : NodesT Where) (k : ℕ) → AreNodes S.code (length (S.locals f)) bs c → Names (Named S f) c → FrontFits S f c k
   front_fits f so bs (Do o c) zero n m = tt
@@ -113,7 +112,7 @@ module _ (S : Setting) (boot rest : ℕ) (card : Option (List ℕ)) (ok : IsCard
     fits = P.fits;
     functions = λ g c. let b = at.functions g c in record { begins = b.begins; label = b.label; entry = b.entry; body = at_of g (P.sound g c) (P.calls g c) [] [] _ zero (S.enters g) (S.leaves g) (P.nodes g c) (P.names g c) b.body; ends = b.ends; exit = b.exit };
     has_card = P.laid.has_card;
-    opening = subst (λ z. Line S.console.words 0x20000000 (instr.Mov (RegReg 14 15)) z) at.opening.2 at.opening.1;
+    opening = at.opening;
     start = at_quiet boot P.start_sound [] [] S.code.start.body zero (S.enters boot) (S.leaves boot) P.start_nodes P.start_names P.start_quiet at.start;
     rest_as = P.rest_as;
     boot_as = P.laid.called_as;

@@ -1,5 +1,4 @@
 -- Items do not depend on the frames of functions that are not there.
-use Rattle.std.specs.Prelude.{◌&&◌, ◌==◌}
 use Rattle.std.proofs.Common.{◌≡◌, ℕ, zero, suc, ◌+◌, ◌<◌, Bool, true, false, cond, List, [], ◌∷◌, ◌++◌, length, Option, Some, None, refl, ap, ◌∙◌, arith}
 use Rattle.kit_base.specs.Word.{add}
 use Rattle.v32_isa.specs.declared.instruction.Instr.{Instr}
@@ -11,10 +10,10 @@ use Rattle.mid_code.specs.declared.placed.Where.TheVariants.{Reg}
 use Rattle.mid_code.specs.Code.{OpT, ConstO, NullO, MoveO, OneO, TwoO, GlobalO, LocalO, LiteralO, CardO, StepO, ApartO, PtrTestO, LoadO, StoreO, FreshO, EndO, InO, OutO, WaitO, HaltO, NodesT, Stop, Do, Call, Choose, Block, Loop, Leave, Again, Return, FunctionT, CodeT}
 use Rattle.mid_code.specs.Invariants.{AreNodes, AllOf}
 use Rattle.asm_laws.specs.Names.{function_label}
-use Rattle.asm_laws.specs.Operations.{Frame, Whole, hand, brings, op_items, word_put, with_word, in_one, one_or_more, more_of, call_items, args_items, keeps_some, start_frame, opening_items, literals_items}
+use Rattle.asm_laws.specs.Operations.{Frame, Whole, hand, brings, op_items, word_put, with_word, in_one, one_or_more, more_of, call_items, args_items, keeps_some, start_frame, literals_items}
 use Rattle.asm_laws.specs.declared.behind.Behind.{Behind}
 use Rattle.asm_laws.specs.declared.behind.Behind.TheVariants.{Other, End, Turn}
-use Rattle.asm_laws.specs.inner.Emitted.{labels, enclosing, jump, choice, alone, left_to, ends, is_stop, enclosed, returning, items_past, code_items, function_items, functions_items, call_item, exit_items, closing_items, program_items, inside, is_end, is_turn, again, rotated, looped, is_tested, is_round, part_items, test_items, jump_when}
+use Rattle.asm_laws.specs.inner.Emitted.{labels, enclosing, jump, choice, alone, left_to, ends, is_stop, enclosed, returning, items_past, code_items, function_items, functions_items, call_item, exit_items, closing_items, program_items, inside, is_end, again, looped, is_tested, part_items, test_items, jump_when}
 use Rattle.asm_laws.specs.Framing.{frame_made}
 use Rattle.asm_laws.proofs.Known.{function_there}
 
@@ -136,4 +135,4 @@ module _ (x : CodeT Where) (W : Whole) (fr : ℕ → Frame) (same : (g : ℕ) �
   program_same ok each =
       let p = code_same (length x.start.locals) start_frame 0 x.start.body [] [] 1 ok in
       let q = functions_same 0 (1 + labels x.start.body) x.functions (omega arith) each in
-      λ i. (opening_items ++ (p i ++ closing_items W x.main)) ++ (q i ++ literals_items 0 x.literals)
+      λ i. (p i ++ closing_items W x.main) ++ (q i ++ literals_items 0 x.literals)

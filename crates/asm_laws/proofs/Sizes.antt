@@ -5,10 +5,9 @@ use Rattle.std.proofs.lemmas.List.Sums.{sum_by-cons}
 use Rattle.either.specs.declared.Either.TheVariants.{Left, Right}
 use Rattle.v32_isa.specs.declared.instruction.Plain.TheVariants.{HLT, WAIT, RET}
 use Rattle.v32_isa.specs.declared.instruction.One.{One as OneOf}
-use Rattle.v32_isa.specs.declared.instruction.One.TheVariants.{PUSH, POP}
 use Rattle.v32_isa.specs.declared.instruction.Two.{Two as TwoOf}
 use Rattle.v32_isa.specs.declared.instruction.Two.TheVariants.{IADD, ISUB}
-use Rattle.v32_isa.specs.declared.instruction.Mov.TheVariants.{RegImm, RegReg, RegAtReg, RegAtOff, AtRegReg, AtOffReg}
+use Rattle.v32_isa.specs.declared.instruction.Mov.TheVariants.{RegImm, RegAtReg, RegAtOff, AtRegReg, AtOffReg}
 use Rattle.v32_isa.specs.declared.instruction.Src.TheVariants as src
 use Rattle.v32_isa.specs.declared.instruction.Instr.TheVariants as instr
 use Rattle.asm_items.specs.declared.item.AsmItem.{AsmItem}
@@ -23,14 +22,14 @@ use Rattle.mid_code.specs.States.{op_weight}
 use Rattle.mid_code.specs.Invariants.{AreNodes, AllOf, in_registers, parameter_count}
 use Rattle.mid_code.specs.Runs.{nodes_weight, function_weight, weight}
 use Rattle.asm_laws.specs.Names.{literal_label, function_label}
-use Rattle.kit_base.specs.Word.{add, sub}
+use Rattle.kit_base.specs.Word.{add}
 use Rattle.asm_laws.specs.Operations as operations
 use Rattle.asm_laws.specs.Moves.{Move, in_order}
-use Rattle.asm_laws.specs.Operations.{Frame, Whole, register, slot_word, local_word, fetches, keeps, keeps_some, is_in, hand, brings, takes, aim, lays, moves, changes, is_direct, in_place, apart, turned, is_turned, turned_or_apart, computes, slot_arg, slot_args, moved_items, args_items, call_items, op_items, in_one, one_or_more, more_of, giving, start_frame, opening_items, literal_items, literals_items}
+use Rattle.asm_laws.specs.Operations.{Frame, Whole, register, arg_word, slot_word, local_word, fetches, keeps, keeps_some, is_in, hand, brings, takes, aim, lays, moves, changes, is_direct, in_place, apart, turned, is_turned, turned_or_apart, computes, slot_arg, slot_args, moved_items, args_items, call_items, op_items, in_one, one_or_more, more_of, giving, start_frame, literal_items, literals_items}
 use Rattle.asm_laws.specs.Framing.{frame_made, frame_gone}
 use Rattle.asm_laws.specs.declared.behind.Behind.{Behind}
 use Rattle.asm_laws.specs.declared.behind.Behind.TheVariants.{Other, End, Turn}
-use Rattle.asm_laws.specs.inner.Emitted.{labels, enclosing, jump, jump_unless, mark, choice, one_way, alone, left_to, ends, jump_when, is_stop, enclosed, returning, items_past, code_items, entry_items, exit_items, function_items, functions_items, functions_labels, call_item, closing_items, start_items, program_items, labels_of, inside, is_end, is_turn, again, rotated, looped, is_tested, is_round, part_items, test_items}
+use Rattle.asm_laws.specs.inner.Emitted.{labels, enclosing, jump, jump_unless, mark, choice, one_way, alone, left_to, ends, jump_when, is_stop, enclosed, returning, items_past, code_items, entry_items, exit_items, function_items, functions_items, functions_labels, call_item, closing_items, start_items, program_items, labels_of, inside, is_end, is_turn, again, rotated, looped, is_tested, part_items, test_items}
 use Rattle.asm_laws.proofs.Ordering.{in_order_few}
 use Rattle.asm_laws.proofs.InOne.{one_or_more_is}
 use Rattle.asm_laws.proofs.Walked.{total_append, total_one, total_none, total_more}
@@ -83,7 +82,7 @@ slots_size F G [] args e = omega (arith, total_none)
 slots_size F G (p ∷ ps) [] e = absurd (omega arith)
 slots_size F G (Reg q ∷ ps) (a ∷ args) e = let r = slots_size F G ps args (omega arith) in omega (arith, r)
 slots_size F G (Slot k ∷ ps) (a ∷ args) e =
-    let o = item.Op (instr.Mov (AtOffReg 15 (Left (sub (slot_word G k) 2)) (hand a 9))) in
+    let o = item.Op (instr.Mov (AtOffReg 15 (Left (arg_word G k)) (hand a 9))) in
     let x : size (slot_arg F G (Slot k) a) ≤ 2 + 2 = brought_size F a 9 2 (o ∷ []) (one_item o 2 (omega arith)) in
     let r = slots_size F G ps args (omega arith) in
     omega (arith, r, x, total_append (slot_arg F G (Slot k) a) (slot_args F G ps args))
@@ -144,7 +143,7 @@ op_size W F (MoveO t a) = let r = moves_size F t a in omega (arith, r)
 op_size W F (OneO o t a) = let r = changes_size F o t a in omega (arith, r)
 op_size W F (TwoO o t a b) = let r = computes_size F o t a b in omega (arith, r)
 op_size W F (GlobalO t k) = let r = laid_size F t (item.Op (instr.Mov (RegImm (aim t) (Left (get_or W.globals k 0))))) 2 (omega arith) in omega (arith, r)
-op_size W F (LocalO t k) = let r = laid_size F t (item.Op (instr.Lea (aim t) 14 (Some (Left (local_word F k))))) 2 (omega arith) in omega (arith, r)
+op_size W F (LocalO t k) = let r = laid_size F t (item.Op (instr.Lea (aim t) 15 (Some (Left (local_word F k))))) 2 (omega arith) in omega (arith, r)
 op_size W F (LiteralO t k) = let r = laid_size F t (item.Op (instr.Mov (RegImm (aim t) (Right (literal_label k))))) 2 (omega arith) in omega (arith, r)
 op_size W F (CardO t) = let r = laid_size F t (item.Op (instr.Mov (RegImm (aim t) (Left 0x30000000)))) 2 (omega arith) in omega (arith, r)
 op_size W F (StepO t p n) = let r = computes_size F IADD t p n in omega (arith, r)
@@ -341,16 +340,16 @@ module _ (x : CodeT Where) (W : Whole) (counts : Counts x W) (m : ℕ) (F : Fram
 made_size : (n : ℕ) → size (frame_made n) ≤ 4
 made_size n = go (n == 0)
   where
-    go : (b : Bool) → size (cond b [] (item.Op (instr.One PUSH 14) ∷ item.Op (instr.Mov (RegReg 14 15)) ∷ item.Op (instr.Two ISUB 15 (src.Imm (Left n))) ∷ [])) ≤ 4
+    go : (b : Bool) → size (cond b [] (item.Op (instr.Two ISUB 15 (src.Imm (Left n))) ∷ [])) ≤ 4
     go true = omega (arith, total_none)
-    go false = three_items (item.Op (instr.One PUSH 14)) (item.Op (instr.Mov (RegReg 14 15))) (item.Op (instr.Two ISUB 15 (src.Imm (Left n)))) 1 1 2 (omega arith) (omega arith) (omega arith)
+    go false = one_item (item.Op (instr.Two ISUB 15 (src.Imm (Left n)))) 4 (omega arith)
 
 gone_size : (n : ℕ) → size (frame_gone n) ≤ 3
 gone_size n = go (n == 0)
   where
-    go : (b : Bool) → size (cond b (item.Op (instr.Plain RET) ∷ []) (item.Op (instr.Mov (RegReg 15 14)) ∷ item.Op (instr.One POP 14) ∷ item.Op (instr.Plain RET) ∷ [])) ≤ 3
+    go : (b : Bool) → size (cond b (item.Op (instr.Plain RET) ∷ []) (item.Op (instr.Two IADD 15 (src.Imm (Left n))) ∷ item.Op (instr.Plain RET) ∷ [])) ≤ 3
     go true = one_item (item.Op (instr.Plain RET)) 3 (omega arith)
-    go false = three_items (item.Op (instr.Mov (RegReg 15 14))) (item.Op (instr.One POP 14)) (item.Op (instr.Plain RET)) 1 1 1 (omega arith) (omega arith) (omega arith)
+    go false = two_items (item.Op (instr.Two IADD 15 (src.Imm (Left n)))) (item.Op (instr.Plain RET)) 2 1 (omega arith) (omega arith)
 
 module _ (x : CodeT Where) (W : Whole) (counts : Counts x W) where
   abbrev Sound : FunctionT Where → Type 0
@@ -375,11 +374,9 @@ module _ (x : CodeT Where) (W : Whole) (counts : Counts x W) where
 
   start_size : (main : ℕ) (g : FunctionT Where) → Sound g → size (start_items W main g.body) ≤ nodes_weight g.body + 4
   start_size main g ok =
-      let x0 = total_append opening_items (code_items W start_frame 0 [] 1 g.body ++ closing_items W main) in
       let y = total_append (code_items W start_frame 0 [] 1 g.body) (closing_items W main) in
-      let o = one_item (item.Op (instr.Mov (RegReg 14 15))) 1 (omega arith) in
       let c = three_items (mark 0) (call_item W main) (item.Op (instr.Plain HLT)) 0 2 1 (omega arith) (omega arith) (omega arith) in
-      omega (arith, x0, y, o, c, code_size x W counts (length g.locals) start_frame 0 g.body [] [] 1 ok)
+      omega (arith, y, c, code_size x W counts (length g.locals) start_frame 0 g.body [] [] 1 ok)
 
 integers_size : (bytes : List ℕ) → size (map item.Integer bytes) ≡ length bytes
 integers_size [] = total_none

@@ -133,7 +133,6 @@ module _ (C : Console) where
     text = h.text;
     sixteen = length-set s.registers r v ∙ h.sixteen;
     regs = λ q lt. reg_other s r v q (omega arith) ∙ h.regs q lt;
-    base = reg_other s r v 14 (omega arith) ∙ h.base;
     top = reg_other s r v 15 (omega arith) ∙ h.top;
     memory = h.memory;
   }
@@ -146,7 +145,6 @@ module _ (C : Console) where
     text = h.text;
     sixteen = h.sixteen;
     regs = h.regs;
-    base = h.base;
     top = h.top;
     memory = h.memory;
   }
@@ -163,7 +161,6 @@ module _ (C : Console) where
       | inl x ↦ ap (λ k. register_of (with_register r v s) k) x.0 ∙ reg_same s r v (omega (arith, h.sixteen)) ∙ sym (written_same a.regs r v q x.0)
       | inr x ↦ reg_other s r v q x.0 ∙ h.regs q b ∙ sym (written_other a.regs r v q x.0)
     ];
-    base = reg_other s r v 14 (omega arith) ∙ h.base;
     top = reg_other s r v 15 (omega arith) ∙ h.top;
     memory = h.memory;
   }
@@ -181,7 +178,6 @@ module _ (C : Console) where
     text = λ j lt. written_other s.memory q v (0x20000000 + j) (not_text q j w lt h.short) ∙ h.text j lt;
     sixteen = h.sixteen;
     regs = h.regs;
-    base = h.base;
     top = h.top;
     memory = written_alike s.memory a.memory q v h.memory;
   }
@@ -189,8 +185,8 @@ module _ (C : Console) where
   -- ---- copies between places and registers
 
   module _ (F : Frame) (address : List ℕ → ℕ) where
-    slot_is : (a : Addr) (s : State) (k : ℕ) → Room F a → get_or F.slots k k < F.size → Held C a s → add (register_of s 14) (slot_word F k) ≡ slot_address F k a
-    slot_is a s k room good h = omega (arith, room.low, room.high, h.base)
+    slot_is : (a : Addr) (s : State) (k : ℕ) → Room F a → get_or F.slots k k < F.size → Held C a s → add (register_of s 15) (slot_word F k) ≡ slot_address F k a
+    slot_is a s k room good h = omega (arith, room.low, room.high, room.top, h.top)
 
     slot_low : (a : Addr) (k : ℕ) → Room F a → get_or F.slots k k < F.size → slot_address F k a < 0x400000
     slot_low a k room good = omega (arith, room.low, room.high)

@@ -10,7 +10,7 @@ use Rattle.asm_laws.specs.Names.{literal_label}
 use Rattle.asm_laws.specs.Holds.{Setting, Fits}
 use Rattle.asm_laws.specs.Laid.{spread, literal_sizes}
 use Rattle.asm_laws.specs.Linked.{setting}
-use Rattle.asm_laws.specs.Tables.{Number, OfFunction, OfStart, OfRest, number_of, spots_at, frame_for, depth_for, slot_for, called_for, locals_for, addresses, fixed_for, count_of, plan_of}
+use Rattle.asm_laws.specs.Tables.{Number, OfFunction, OfStart, OfRest, number_of, spots_at, frame_for, slot_for, called_for, locals_for, addresses, fixed_for, count_of, plan_of}
 use Rattle.asm_laws.proofs.Spotted.{Conventions, conventions, spots_here, slot_stands, local_stands}
 use Rattle.asm_laws.proofs.Words.{below_not}
 use Rattle.asm_laws.proofs.Lists.{below_or_not}
@@ -80,12 +80,12 @@ module _ (x : PlacedT) (placed : IsPlaced x) (names : List (List ℕ)) (address 
   local_apart OfStart f j k i h is a b c d e = absurd (omega (arith, a))
   local_apart OfRest f j k i h is a b c d e = absurd (omega (arith, a))
 
-  depth_in : (n : Number) (f : ℕ) → depth_for x n f ≤ (frame_for x n f).size
+  depth_in : (n : Number) (f : ℕ) → (frame_for x n f).depth ≤ (frame_for x n f).size
   depth_in OfFunction f = omega arith
   depth_in OfStart f = omega arith
   depth_in OfRest f = omega arith
 
-  depth_is : (n : Number) (f j : ℕ) → j < length (locals_for x n f) → depth_for x n f ≡ (frame_for x n f).size
+  depth_is : (n : Number) (f j : ℕ) → j < length (locals_for x n f) → (frame_for x n f).depth ≡ (frame_for x n f).size
   depth_is OfFunction f j lt = refl
   depth_is OfStart f j lt = absurd (omega (arith, lt))
   depth_is OfRest f j lt = absurd (omega (arith, lt))

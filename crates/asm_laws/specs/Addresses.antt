@@ -21,7 +21,7 @@ use Rattle.asm_laws.specs.Operations.{Frame, Whole}
 use Rattle.v32_isa.specs.Calls.{Link, Nested}
 use Rattle.v32_isa.proofs.Steps.{Moves}
 
--- the registers that temporaries stand in, the word at each address, BP, which is the end of the frame where there is one, the top of the stack
+-- the registers that temporaries stand in, the word at each address, the end of the frame, the top of the stack
 pub record Addr : Type 0 where
   pub regs : ℕ → ℕ
   pub memory : ℕ → ℕ
@@ -60,8 +60,9 @@ abbrev pub put : Frame → Where → ℕ → Addr → Addr
 put F (Reg r) v a = record a { regs = written a.regs r v }
 put F (Slot k) v a = store (slot_address F k a) v a
 
--- the frame lies in RAM
+-- the frame lies in RAM, on the stack
 pub record Room (F : Frame) (a : Addr) : Type 0 where
+  pub top : a.top + F.depth ≡ a.base
   pub low : F.size ≤ a.base
   pub high : a.base ≤ 0x400000
 
@@ -159,7 +160,6 @@ pub record Held (C : Console) (a : Addr) (s : State) : Type 0 where
   pub text : (j : ℕ) → j < length C.words → s.memory (0x20000000 + j) ≡ slice_index C.words j
   pub sixteen : length s.registers ≡ 16
   pub regs : (r : ℕ) → r < 9 → register_of s r ≡ a.regs r
-  pub base : register_of s 14 ≡ a.base
   pub top : register_of s 15 ≡ a.top
   pub memory : (q : ℕ) → s.memory q ≡ a.memory q
 

@@ -15,13 +15,13 @@ use Rattle.asm_laws.specs.Standing.{Stand}
 use Rattle.asm_laws.specs.Tests.{Tests}
 use Rattle.asm_laws.specs.Addresses.{Addr, Held}
 use Rattle.asm_laws.specs.Framing.{frame_made, frame_gone}
-use Rattle.asm_laws.specs.Holds.{Setting, Named, Ctx, Stands, HoldsAt}
+use Rattle.asm_laws.specs.Holds.{Setting, Named, Ctx, Stands, HoldsAt, depth_of}
 use Rattle.asm_laws.specs.Acting.{Fitting, FrontFits}
 
 -- a function that can be called
 pub record Callable (S : Setting) (f : ℕ) : Type 0 where
   pub called_as : S.called_as f ≡ Some f
-  pub depth : S.depth f ≡ (S.whole.frames f).size
+  pub depth : depth_of S f ≡ (S.whole.frames f).size
   pub frame : get_or S.frames f 0 ≡ (S.whole.frames f).size
   pub params : S.whole.params f ≡ (function_at S.code f).params
   pub params_named : AllOf (Named S f) (S.whole.params f)
@@ -68,7 +68,7 @@ holder S = record {
 
 -- a call of a function
 pub record CallAt (S : Setting) (f pc : ℕ) (t : Option Where) (g : ℕ) (args : List Where) (p : ℕ) : Type 0 where
-  pub depth : S.depth f ≡ (S.whole.frames f).size
+  pub depth : depth_of S f ≡ (S.whole.frames f).size
   pub callable : Callable S g
   pub target : AllOf (Named S f) (maybe t)
   pub args_named : AllOf (Named S f) args

@@ -16,15 +16,14 @@ use Rattle.asm_laws.specs.Names.{literal_label}
 use Rattle.asm_laws.specs.Addresses.{Addr, Console}
 
 -- Where a program stands: the console, the code with its printed frames, the frames and addresses that the emitter goes by, the address of
--- each label; and for each number of a function, and of the start, how many words of its frame stand below its end at the stack's top, which
--- slots are named in it, the number that the store knows it by, and the words of its locals.
+-- each label; and for each number of a function, and of the start, which slots are named in it, the number that the store knows it by, and
+-- the words of its locals.
 pub record Setting : Type 1 where
   pub console : Console
   pub code : CodeT Where
   pub frames : List ℕ
   pub whole : Whole
   pub address : List ℕ → ℕ
-  pub depth : ℕ → ℕ
   pub has_slot : (function number : ℕ) → Type 0
   pub called_as : ℕ → Option ℕ
   pub locals : ℕ → List ℕ
@@ -40,6 +39,10 @@ sizes S = sizes_of S.code S.frames
 
 abbrev pub frame_of : Setting → ℕ → Frame
 frame_of S f = S.whole.frames f
+
+-- how many words of its frame are on the stack
+abbrev pub depth_of : Setting → ℕ → ℕ
+depth_of S f = (S.whole.frames f).depth
 
 abbrev pub slot_offset : Setting → (f k : ℕ) → ℕ
 slot_offset S f k = get_or (S.whole.frames f).slots k k
@@ -63,9 +66,9 @@ pub record Fits (S : Setting) : Type 0 where
   pub local_in : (f j : ℕ) → j < length (S.locals f) → local_offset S f j + local_words S f j ≤ (S.whole.frames f).size
   pub local_apart : (f j k i h : ℕ) → j < length (S.locals f) → k < length (S.locals f) → i < local_words S f j → h < local_words S f k
       → local_offset S f j + i ≡ local_offset S f k + h → j ≡ k
-  pub depth_in : (f : ℕ) → S.depth f ≤ (S.whole.frames f).size
+  pub depth_in : (f : ℕ) → depth_of S f ≤ (S.whole.frames f).size
   -- a function, or the start, which has no locals
-  pub depth_is : (f j : ℕ) → j < length (S.locals f) → S.depth f ≡ (S.whole.frames f).size
+  pub depth_is : (f j : ℕ) → j < length (S.locals f) → depth_of S f ≡ (S.whole.frames f).size
   pub locals_are : (f g : ℕ) → S.called_as f ≡ Some g → S.locals f ≡ (function_at S.code g).locals
   pub locals_none : (f : ℕ) → S.called_as f ≡ None → S.locals f ≡ []
   -- the addresses in the code
@@ -77,11 +80,10 @@ pub record Fits (S : Setting) : Type 0 where
   -- the program ends below the card
   pub short : length S.console.words < 0x10000000
 
--- What a call keeps of its callers: its number, BP, the end of its frame, how many objects were there and what they were and where, and words that
+-- What a call keeps of its callers: its number, the end of its frame, how many objects were there and what they were and where, and words that
 -- stay.
 pub record Ctx : Type 0 where
   pub fn : ℕ
-  pub pointer : ℕ
   pub base : ℕ
   pub first : ℕ
   pub keep : ℕ → Bool
@@ -153,18 +155,16 @@ pub record Kept (S : Setting) (κ : Ctx) (memory : ℕ → ℕ) : Type 0 where
   pub same : (a : ℕ) → κ.keep a ≡ true → memory a ≡ κ.old a
   pub above : (a : ℕ) → κ.keep a ≡ true → κ.base ≤ a
 
--- The frame. Where it has words, BP is its end; else it is that of a caller.
+-- the frame
 pub record Stack (S : Setting) (κ : Ctx) (function : Option ℕ) (locals used base top : ℕ) : Type 0 where
   pub called_as : function ≡ S.called_as κ.fn
   pub locals_are : locals ≡ length (S.locals κ.fn)
-  pub base_is : base ≡ κ.pointer
-  pub framed : 1 ≤ (S.whole.frames κ.fn).size → κ.pointer ≡ κ.base
-  pub pointer_high : κ.pointer ≤ 0x400000
-  pub top_is : top + S.depth κ.fn ≡ κ.base
+  pub base_is : base ≡ κ.base
+  pub top_is : top + depth_of S κ.fn ≡ κ.base
   pub low : (sizes S).globals + (S.whole.frames κ.fn).size ≤ κ.base
   pub high : κ.base ≤ 0x400000
   -- no more words are in use than the printed frames, and two for each call, have
-  pub used_is : 0x400000 + S.depth κ.fn ≤ κ.base + used
+  pub used_is : 0x400000 + depth_of S κ.fn ≤ κ.base + used
 
 pub record HoldsAt (S : Setting) (κ : Ctx) (s : Store) (cells : Where → Cell) (place : ℕ → ℕ) (a : Addr) : Type 0 where
   pub temps : Temps S κ (length s.objects) place cells a.regs a.memory

@@ -1,6 +1,6 @@
 -- Where globals, literals and the card stand at the opening.
 use Rattle.std.specs.Prelude.{◌≡◌, ℕ, zero, suc, ◌+◌, ◌<◌, ◌≤◌, List, [], ◌∷◌, ◌++◌, map, length, sum, get_or, Option, None, slice_index, is_some}
-use Rattle.asm_laws.specs.Holds.{Setting}
+use Rattle.asm_laws.specs.Holds.{Setting, depth_of}
 
 -- the first address of each of these pieces, which stand one after another
 abbrev pub spread : List ℕ → ℕ → ℕ → ℕ
@@ -27,5 +27,5 @@ pub record Laid (S : Setting) (boot : ℕ) (card : Option (List ℕ)) : Type 0 w
   pub has_card : S.console.has_card ≡ is_some card
   pub called_as : S.called_as boot ≡ None
   pub locals : S.locals boot ≡ []
-  pub depth : S.depth boot ≡ 0
+  pub depth : depth_of S boot ≡ 0
   pub size : (S.whole.frames boot).size ≤ 1000000

@@ -1,7 +1,6 @@
 -- A whole program among its words.
 use Rattle.std.specs.Prelude.{◌≡◌, ℕ, List, [], length, Option, None, is_some, Bool, false}
 use Rattle.v32_isa.specs.declared.instruction.Plain.TheVariants.{HLT}
-use Rattle.v32_isa.specs.declared.instruction.Mov.TheVariants.{RegReg}
 use Rattle.v32_isa.specs.declared.instruction.Instr.TheVariants as instr
 use Rattle.v32_isa.specs.Runs.{opening_memory}
 use Rattle.obj_mem.specs.declared.cell.Cell.TheVariants.{Unwritten}
@@ -11,14 +10,13 @@ use Rattle.asm_laws.specs.Placing.{Line, At}
 use Rattle.asm_laws.specs.Addresses.{Addr}
 use Rattle.mid_code.specs.Placed.{PlacedT}
 use Rattle.asm_laws.specs.Operations.{Whole}
-use Rattle.asm_laws.specs.Holds.{Setting, Fits, Ctx, HoldsAt}
+use Rattle.asm_laws.specs.Holds.{Setting, Fits, Ctx, HoldsAt, depth_of}
 use Rattle.asm_laws.specs.Calling.{Callable, CallAt, FunctionAt, shapes}
 
 -- where a program begins
 abbrev pub first_context : (S : Setting) → ℕ → Option (List ℕ) → Ctx
 first_context S boot card = record {
   fn = boot;
-  pointer = 0x400000;
   base = 0x400000;
   first = length (opening_objects S.code.globals S.code.literals card);
   keep = λ a. false;
@@ -36,12 +34,12 @@ pub record Linked (S : Setting) (card : Option (List ℕ)) (boot rest : ℕ) : T
   pub fits : Fits S
   pub functions : (g : ℕ) → Callable S g → FunctionAt S g
   pub has_card : S.console.has_card ≡ is_some card
-  pub opening : Line S.console.words 0x20000000 (instr.Mov (RegReg 14 15)) (S.enters boot)
+  pub opening : S.enters boot ≡ 0x20000000
   pub start : At (shapes S) boot [] (S.enters boot) S.code.start.body (S.leaves boot)
   pub rest_as : S.called_as rest ≡ S.called_as boot
   pub boot_as : S.called_as boot ≡ None
-  pub boot_depth : S.depth boot ≡ 0
-  pub rest_depth : S.depth rest ≡ 0
+  pub boot_depth : depth_of S boot ≡ 0
+  pub rest_depth : depth_of S rest ≡ 0
   pub rest_size : (S.whole.frames rest).size ≡ 0
   pub rest_slots : (k : ℕ) → S.has_slot rest k → ⊥
   pub after : ℕ
@@ -56,7 +54,6 @@ pub record Plan : Type 1 where
   pub placed : PlacedT
   pub whole : Whole
   pub address : List ℕ → ℕ
-  pub depth : ℕ → ℕ
   pub has_slot : (function number : ℕ) → Type 0
   pub called_as : ℕ → Option ℕ
   pub locals : ℕ → List ℕ
@@ -72,7 +69,6 @@ setting A words has_card = record {
   frames = A.placed.frames;
   whole = A.whole;
   address = A.address;
-  depth = A.depth;
   has_slot = A.has_slot;
   called_as = A.called_as;
   locals = A.locals;

@@ -1,7 +1,7 @@
 -- The instructions of each operation of placed code.
 use Rattle.std.specs.Prelude.{ℕ, ◌+◌, ◌%◌, ◌==◌, ◌&&◌, not, cond, Bool, false, List, [], ◌∷◌, ◌++◌, map, Option, Some, None, get_or, option_map}
 use Rattle.either.specs.declared.Either.TheVariants.{Left, Right}
-use Rattle.kit_base.specs.Word.{sub}
+use Rattle.kit_base.specs.Word.{add, sub}
 use Rattle.v32_isa.specs.declared.instruction.Plain.TheVariants.{HLT, WAIT}
 use Rattle.v32_isa.specs.declared.instruction.Go.TheVariants.{CALL}
 use Rattle.v32_isa.specs.declared.instruction.One.{One as OneOf}
@@ -22,11 +22,12 @@ use Rattle.asm_laws.specs.Names.{literal_label, function_label}
 use Rattle.asm_laws.specs.Moves.{Move, in_order}
 
 -- the frame of a function: its size, and the offsets of its slots and of its locals' first words. Offset 0 is the
--- frame's lowest word. A slot that is not listed has its number as its offset
+-- frame's lowest word. A slot that is not listed has its number as its offset. So many of its words are on the stack: all, but none of the start's
 pub record Frame : Type 0 where
   pub slots : List ℕ
   pub locals : List ℕ
   pub size : ℕ
+  pub depth : ℕ
 
 -- the frame of each function, the places that take its arguments, its name, the addresses of the globals
 pub record Whole : Type 0 where
@@ -35,9 +36,9 @@ pub record Whole : Type 0 where
   pub names : List (List ℕ)
   pub globals : List ℕ
 
--- what is added to the end of a frame for the word at an offset
+-- what is added to the stack's top for the word at an offset
 abbrev pub word_at : Frame → ℕ → ℕ
-word_at F offset = sub offset F.size
+word_at F offset = sub (add offset F.depth) F.size
 
 abbrev pub slot_word : Frame → ℕ → ℕ
 slot_word F k = word_at F (get_or F.slots k k)
@@ -52,14 +53,14 @@ register r = r % 16
 abbrev pub port : ℕ → ℕ
 port p = p % 16384
 
--- register r takes the word of a place, or a place takes the word of register r; BP, which is 14, is the frame's end
+-- register r takes the word of a place, or a place takes the word of register r; SP, which is 15, is the stack's top
 abbrev pub fetch : Frame → Where → ℕ → Instr Imm
 fetch F (Reg q) r = instr.Mov (RegReg r (register q))
-fetch F (Slot k) r = instr.Mov (RegAtOff r 14 (Left (slot_word F k)))
+fetch F (Slot k) r = instr.Mov (RegAtOff r 15 (Left (slot_word F k)))
 
 abbrev pub keep : Frame → Where → ℕ → Instr Imm
 keep F (Reg q) r = instr.Mov (RegReg (register q) r)
-keep F (Slot k) r = instr.Mov (AtOffReg 14 (Left (slot_word F k)) r)
+keep F (Slot k) r = instr.Mov (AtOffReg 15 (Left (slot_word F k)) r)
 
 -- an item that is an instruction, and one that copies a word from a place to a place
 abbrev pub fetches : Frame → Where → ℕ → AsmItem
@@ -157,10 +158,13 @@ computes F o t a b = cond (is_direct t b) (in_place F o (aim t) a b) (turned_or_
 
 -- ---- calls
 
--- the arguments that go into slots stand in the frame that the call will have, below the two words of its link
+-- the arguments that go into slots stand in the frame that the call will have, below the address that it leaves
+abbrev pub arg_word : Frame → ℕ → ℕ
+arg_word G k = sub (sub (get_or G.slots k k) G.size) 1
+
 abbrev pub slot_arg : Frame → Frame → Where → Where → List AsmItem
 slot_arg F G (Reg q) a = []
-slot_arg F G (Slot k) a = brings F a 9 ++ item.Op (instr.Mov (AtOffReg 15 (Left (sub (slot_word G k) 2)) (hand a 9))) ∷ []
+slot_arg F G (Slot k) a = brings F a 9 ++ item.Op (instr.Mov (AtOffReg 15 (Left (arg_word G k)) (hand a 9))) ∷ []
 
 abbrev pub slot_args : Frame → Frame → List Where → List Where → List AsmItem
 slot_args F G [] args = []
@@ -189,7 +193,7 @@ op_items W F (MoveO t a) = moves F t a
 op_items W F (OneO o t a) = changes F o t a
 op_items W F (TwoO o t a b) = computes F o t a b
 op_items W F (GlobalO t k) = sets F t (Left (get_or W.globals k 0))
-op_items W F (LocalO t k) = item.Op (instr.Lea (aim t) 14 (Some (Left (local_word F k)))) ∷ lays F t
+op_items W F (LocalO t k) = item.Op (instr.Lea (aim t) 15 (Some (Left (local_word F k)))) ∷ lays F t
 op_items W F (LiteralO t k) = sets F t (Right (literal_label k))
 op_items W F (CardO t) = sets F t (Left 0x30000000)
 op_items W F (StepO t p n) = computes F IADD t p n
@@ -304,10 +308,7 @@ giving F (Some p) = fetches F p 9 ∷ []
 
 -- the start's slots lie where the frame of main comes to stand
 abbrev pub start_frame : Frame
-start_frame = record { slots = []; locals = []; size = 1000000 }
-
-abbrev pub opening_items : List AsmItem
-opening_items = item.Op (instr.Mov (RegReg 14 15)) ∷ []
+start_frame = record { slots = []; locals = []; size = 1000000; depth = 0 }
 
 -- a literal: its label, its words and a zero
 abbrev pub literal_items : ℕ → List ℕ → List AsmItem

@@ -13,11 +13,11 @@ use Rattle.mid_code.specs.States.{function_at}
 use Rattle.mid_code.specs.Invariants.{AreNodes, Names, CallsNone}
 use Rattle.asm_laws.specs.Placing.{Shapes, Passes, At}
 use Rattle.asm_laws.specs.Names.{function_label}
-use Rattle.asm_laws.specs.Operations.{in_one, one_or_more, more_of, call_items, giving, opening_items}
+use Rattle.asm_laws.specs.Operations.{in_one, one_or_more, more_of, call_items, giving}
 use Rattle.asm_laws.specs.Standing.{Stand}
 use Rattle.asm_laws.specs.Tests.{Tests}
 use Rattle.asm_laws.specs.Framing.{frame_made, frame_gone}
-use Rattle.asm_laws.specs.Holds.{Setting, local_offset, Named, Fits}
+use Rattle.asm_laws.specs.Holds.{Setting, local_offset, Named, Fits, depth_of}
 use Rattle.asm_laws.specs.Calling.{Callable}
 use Rattle.asm_laws.specs.Laid.{Laid}
 
@@ -42,7 +42,7 @@ pub record BodyAt (S : Setting) (f : ℕ) : Type 0 where
   pub exit : Stand S.console.words S.address (S.leaves f) (frame_gone (S.whole.frames f).size) ends
 
 pub record ProgramAt (S : Setting) (boot : ℕ) : Type 0 where
-  pub opening : Stand S.console.words S.address 0x20000000 opening_items (S.enters boot)
+  pub opening : S.enters boot ≡ 0x20000000
   pub start : At (items_at S) boot [] (S.enters boot) S.code.start.body (S.leaves boot)
   pub last : ℕ
   pub closing : Stand S.console.words S.address (S.leaves boot) (item.Op (instr.Go CALL (src.Imm (Right (function_label S.whole.names S.code.main))))
@@ -66,10 +66,10 @@ pub record Program (S : Setting) (boot rest : ℕ) (card : Option (List ℕ)) : 
   pub names : (g : ℕ) → Callable S g → Names (Named S g) (function_at S.code g).body
   pub sound : (g : ℕ) → Callable S g → Sound S g
   pub calls : (f : ℕ) → Callable S f → (g : ℕ) (fn : FunctionT Where) → slice_get S.code.functions g ≡ Some fn
-      → (S.depth f ≡ (S.whole.frames f).size) × Callable S g × (S.whole.params g ≡ fn.params)
+      → (depth_of S f ≡ (S.whole.frames f).size) × Callable S g × (S.whole.params g ≡ fn.params)
   pub main : Callable S S.code.main
   pub main_params : S.whole.params S.code.main ≡ []
   pub rest_as : S.called_as rest ≡ S.called_as boot
-  pub rest_depth : S.depth rest ≡ 0
+  pub rest_depth : depth_of S rest ≡ 0
   pub rest_size : (S.whole.frames rest).size ≡ 0
   pub rest_slots : (k : ℕ) → S.has_slot rest k → ⊥

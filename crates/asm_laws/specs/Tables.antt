@@ -19,14 +19,9 @@ abbrev pub spots_at : PlacedT → ℕ → SpotsT
 spots_at x f = get_or x.spots f (record { slots = []; locals = []; own = [] })
 
 abbrev pub frame_for : PlacedT → Number → ℕ → Frame
-frame_for x OfFunction f = record { slots = (spots_at x f).slots; locals = (spots_at x f).locals; size = get_or x.frames f 0 }
+frame_for x OfFunction f = record { slots = (spots_at x f).slots; locals = (spots_at x f).locals; size = get_or x.frames f 0; depth = get_or x.frames f 0 }
 frame_for x OfStart f = start_frame
-frame_for x OfRest f = record { slots = []; locals = []; size = 0 }
-
-abbrev pub depth_for : PlacedT → Number → ℕ → ℕ
-depth_for x OfFunction f = get_or x.frames f 0
-depth_for x OfStart f = 0
-depth_for x OfRest f = 0
+frame_for x OfRest f = record { slots = []; locals = []; size = 0; depth = 0 }
 
 abbrev pub slot_for : PlacedT → Number → (f k : ℕ) → Type 0
 slot_for x OfFunction f k = k < length (spots_at x f).slots
@@ -69,7 +64,6 @@ plan_of x names address enters leaves first = record {
   placed = x;
   whole = record (whole_of x names) { frames = λ f. frame_for x (number_of (count_of x) f) f };
   address = address;
-  depth = λ f. depth_for x (number_of (count_of x) f) f;
   has_slot = λ f k. slot_for x (number_of (count_of x) f) f k;
   called_as = λ f. called_for (number_of (count_of x) f) f;
   locals = λ f. locals_for x (number_of (count_of x) f) f;

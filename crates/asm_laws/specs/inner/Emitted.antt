@@ -14,7 +14,7 @@ use Rattle.mid_code.specs.Code.{NodesT, Stop, Do, Call, Choose, Block, Loop, Lea
 use Rattle.asm_laws.specs.declared.behind.Behind.{Behind}
 use Rattle.asm_laws.specs.declared.behind.Behind.TheVariants.{Other, End, Turn}
 use Rattle.asm_laws.specs.Names.{jump_label, function_label}
-use Rattle.asm_laws.specs.Operations.{Frame, Whole, hand, brings, giving, in_one, one_or_more, more_of, call_items, start_frame, opening_items, literals_items}
+use Rattle.asm_laws.specs.Operations.{Frame, Whole, hand, brings, giving, in_one, one_or_more, more_of, call_items, start_frame, literals_items}
 use Rattle.asm_laws.specs.Framing.{frame_made, frame_gone}
 
 -- how many labels nodes take
@@ -207,7 +207,7 @@ abbrev pub closing_items : Whole → ℕ → List AsmItem
 closing_items W main = mark 0 ∷ call_item W main ∷ items.Op (instr.Plain HLT) ∷ []
 
 abbrev pub start_items : Whole → ℕ → NodesT Where → List AsmItem
-start_items W main body = opening_items ++ (code_items W start_frame 0 [] 1 body ++ closing_items W main)
+start_items W main body = code_items W start_frame 0 [] 1 body ++ closing_items W main
 
 -- the whole program: the start, the functions in order, the literals
 abbrev pub program_items : Whole → CodeT Where → List AsmItem

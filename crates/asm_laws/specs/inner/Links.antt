@@ -5,12 +5,11 @@ use Rattle.mid_code.specs.declared.placed.Where.{Where}
 use Rattle.mid_code.specs.declared.placed.Where.TheVariants.{Reg, Slot}
 use Rattle.asm_laws.specs.Operations.{Frame}
 use Rattle.asm_laws.specs.Moves.{Move}
-use Rattle.asm_laws.specs.Framing.{link_words}
 use Rattle.asm_laws.specs.Addresses.{Addr, word_of, store}
 
--- a slot of the frame that the call will have stands below the two words of its link
+-- a slot of the frame that the call will have stands below the address that it leaves
 abbrev pub new_slot : Frame → ℕ → Addr → ℕ
-new_slot G k a = a.top - 2 - (G.size - get_or G.slots k k)
+new_slot G k a = a.top - 1 - (G.size - get_or G.slots k k)
 
 abbrev pub passed : Frame → Frame → Where → Where → Addr → Addr
 passed F G (Reg q) x a = a
@@ -43,21 +42,17 @@ abbrev pub at_once : Frame → List Move → Addr → ℕ → ℕ
 at_once F [] a q = a.regs q
 at_once F ((t, s) ∷ ms) a q = cond (q == t) (word_of F s a) (at_once F ms a q)
 
--- the address after the call is pushed; where the new frame has words, BP is pushed, and the frame is made
+-- the address after the call is pushed, and the frame is made below it
 abbrev pub entered : Frame → ℕ → Addr → Addr
-entered G next a = record a {
-  memory = cond (G.size == 0) (push next a).memory (push a.base (push next a)).memory;
-  base = cond (G.size == 0) a.base (a.top - 2);
-  top = a.top - link_words G.size - G.size;
-}
+entered G next a = record a { memory = (push next a).memory; base = a.top - 1; top = a.top - 1 - G.size }
 
 -- where the address after the call stands at a function's end, once the frame is taken away
 abbrev pub way_back : ℕ → Addr → ℕ
-way_back size a = cond (size == 0) a.top (a.base + 1)
+way_back size a = a.top + size
 
--- the frame is taken away, where it has words: BP is what it was before; and that address is popped
-abbrev pub gone_back : ℕ → Addr → Addr
-gone_back size a = record a { base = cond (size == 0) a.base (a.memory a.base); top = way_back size a + 1 }
+-- the frame is taken away, that address is popped, and the frame ends where that of the caller does
+abbrev pub gone_back : (size base : ℕ) → Addr → Addr
+gone_back size base a = record a { base = base; top = a.top + size + 1 }
 
 -- the instructions that each argument takes
 abbrev pub slot_steps : List Where → ℕ

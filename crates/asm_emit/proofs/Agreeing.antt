@@ -18,7 +18,7 @@ use Rattle.mid_code.specs.States.{no_function, function_at}
 use Rattle.mid_code.specs.Invariants.{AllOf, AreNodes, DifferFrom, AreDifferent, IsFunction, IsPlace, IsPlaced}
 use Rattle.mid_code.specs.Runs.{placed_runs}
 use Rattle.mid_code.specs.Agrees.{AgreesWithin}
-use Rattle.asm_laws.specs.Operations.{Frame, Whole, start_frame, opening_items, literals_items}
+use Rattle.asm_laws.specs.Operations.{Frame, Whole, start_frame, literals_items}
 use Rattle.asm_laws.specs.inner.Emitted.{labels, labels_of, code_items, functions_items, call_item, closing_items, start_items, program_items}
 use Rattle.asm_laws.specs.Standing.{Stand}
 use Rattle.asm_laws.specs.Holds.{Setting}
@@ -118,17 +118,14 @@ module _ (x : PlacedT) (names : List (List ℕ)) (placed : IsPlaced x) (can : Ca
     abbrev a : (q : ℕ) × Stand words address 0x20000000 (start_items V x.code.main x.code.start.body) q × Stand words address q rest e
     a = split words address (start_items V x.code.main x.code.start.body) rest 0x20000000 e h
 
-    abbrev b : (q : ℕ) × Stand words address 0x20000000 opening_items q × Stand words address q (code_items V start_frame 0 [] 1 x.code.start.body ++ closing_items V x.code.main) a.0
-    b = split words address opening_items (code_items V start_frame 0 [] 1 x.code.start.body ++ closing_items V x.code.main) 0x20000000 a.0 a.1
-
-    abbrev c : (q : ℕ) × Stand words address b.0 (code_items V start_frame 0 [] 1 x.code.start.body) q × Stand words address q (closing_items V x.code.main) a.0
-    c = split words address (code_items V start_frame 0 [] 1 x.code.start.body) (closing_items V x.code.main) b.0 a.0 b.2
+    abbrev c : (q : ℕ) × Stand words address 0x20000000 (code_items V start_frame 0 [] 1 x.code.start.body) q × Stand words address q (closing_items V x.code.main) a.0
+    c = split words address (code_items V start_frame 0 [] 1 x.code.start.body) (closing_items V x.code.main) 0x20000000 a.0 a.1
 
     abbrev d : (q : ℕ) × Stand words address a.0 (functions_items V 0 (1 + labels x.code.start.body) x.code.functions) q × Stand words address q (literals_items 0 x.code.literals) e
     d = split words address (functions_items V 0 (1 + labels x.code.start.body) x.code.functions) (literals_items 0 x.code.literals) a.0 e a.2
 
     pub enters : ℕ → ℕ
-    enters g = cond (ltb g (count_of x)) (enters_of words address V 0 (1 + labels x.code.start.body) x.code.functions a.0 d.0 d.1 g) b.0
+    enters g = cond (ltb g (count_of x)) (enters_of words address V 0 (1 + labels x.code.start.body) x.code.functions a.0 d.0 d.1 g) 0x20000000
 
     pub leaves : ℕ → ℕ
     leaves g = cond (ltb g (count_of x)) (leaves_of words address V 0 (1 + labels x.code.start.body) x.code.functions a.0 d.0 d.1 g) c.0
@@ -142,9 +139,9 @@ module _ (x : PlacedT) (names : List (List ℕ)) (placed : IsPlaced x) (can : Ca
     not_below : ltb (count_of x) (count_of x) ≡ false
     not_below = elim (below_not (count_of x) (count_of x)) [ inl q ↦ absurd (let z = q.0 in omega (arith, z)) | inr q ↦ q ]
 
-    enters_boot : enters (count_of x) ≡ b.0
+    enters_boot : enters (count_of x) ≡ 0x20000000
     unfolding enters
-    enters_boot = ap (λ t. cond t (enters_of words address V 0 (1 + labels x.code.start.body) x.code.functions a.0 d.0 d.1 (count_of x)) b.0) not_below
+    enters_boot = ap (λ t. cond t (enters_of words address V 0 (1 + labels x.code.start.body) x.code.functions a.0 d.0 d.1 (count_of x)) 0x20000000) not_below
 
     leaves_boot : leaves (count_of x) ≡ c.0
     unfolding leaves
@@ -152,7 +149,7 @@ module _ (x : PlacedT) (names : List (List ℕ)) (placed : IsPlaced x) (can : Ca
 
     enters_at : (g : ℕ) → g < count_of x → enters g ≡ enters_of words address V 0 (1 + labels x.code.start.body) x.code.functions a.0 d.0 d.1 g
     unfolding enters
-    enters_at g lt = ap (λ t. cond t (enters_of words address V 0 (1 + labels x.code.start.body) x.code.functions a.0 d.0 d.1 g) b.0) (lt-ltb g (count_of x) lt)
+    enters_at g lt = ap (λ t. cond t (enters_of words address V 0 (1 + labels x.code.start.body) x.code.functions a.0 d.0 d.1 g) 0x20000000) (lt-ltb g (count_of x) lt)
 
     leaves_at : (g : ℕ) → g < count_of x → leaves g ≡ leaves_of words address V 0 (1 + labels x.code.start.body) x.code.functions a.0 d.0 d.1 g
     unfolding leaves
@@ -186,11 +183,11 @@ module _ (x : PlacedT) (names : List (List ℕ)) (placed : IsPlaced x) (can : Ca
     program_at has_card =
         let body = x.code.start.body in
         let few = few_labels in
-        let here0 = subst (λ F. Stand words address b.0 (code_items V F 0 [] 1 body) c.0) (sym (ap (λ n. frame_for x n (count_of x)) (start_number (count_of x)))) c.1 in
+        let here0 = subst (λ F. Stand words address 0x20000000 (code_items V F 0 [] 1 body) c.0) (sym (ap (λ n. frame_for x n (count_of x)) (start_number (count_of x)))) c.1 in
         let here1 = subst (λ q. Stand words address q (code_items V (frames (count_of x)) 0 [] 1 body) c.0) (sym enters_boot) here0 in
         let here = subst (λ q. Stand words address (enters (count_of x)) (code_items V (frames (count_of x)) 0 [] 1 body) q) (sym leaves_boot) here1 in
         record {
-          opening = subst (λ q. Stand words address 0x20000000 opening_items q) (sym enters_boot) b.1;
+          opening = enters_boot;
           start = body_at (S has_card) (count_of x) 0 (c.2.1.0 ∙ sym leaves_boot) x.code (length x.code.start.locals) body 1 (enters (count_of x)) (leaves (count_of x)) placed.code.start.function.nodes (omega (arith, few)) refl here;
           last = a.0;
           closing = subst (λ q. Stand words address q (call_item V x.code.main ∷ item.Op (instr.Plain HLT) ∷ []) a.0) (c.2.1.1 ∙ sym leaves_boot) c.2.2;

@@ -222,10 +222,10 @@ module _ (W : Whole) (F : Frame) where
 -- ---- functions
 
 made_code : (size : ℕ) → AreCode (frame_made size)
-made_code size = either (size == 0) [] (item.Op (instr.One PUSH 14) ∷ item.Op (instr.Mov (RegReg 14 15)) ∷ item.Op (instr.Two ISUB 15 (src.Imm (Left size))) ∷ []) tt (tt, (tt, (tt, tt)))
+made_code size = either (size == 0) [] (item.Op (instr.Two ISUB 15 (src.Imm (Left size))) ∷ []) tt (tt, tt)
 
 gone_code : (size : ℕ) → AreCode (frame_gone size)
-gone_code size = either (size == 0) (item.Op (instr.Plain RET) ∷ []) (item.Op (instr.Mov (RegReg 15 14)) ∷ item.Op (instr.One POP 14) ∷ item.Op (instr.Plain RET) ∷ []) (tt, tt) (tt, (tt, (tt, tt)))
+gone_code size = either (size == 0) (item.Op (instr.Plain RET) ∷ []) (item.Op (instr.Two IADD 15 (src.Imm (Left size))) ∷ item.Op (instr.Plain RET) ∷ []) (tt, tt) (tt, (tt, tt))
 
 pub own_code : (W : Whole) (f n : ℕ) (body : NodesT Where) → AreCode (own_items W f n body)
 own_code W f n body =

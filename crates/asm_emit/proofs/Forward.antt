@@ -271,14 +271,14 @@ module _ (names : List (List ℕ)) (body : NodesT Where) where
       code_ahead c bs ls n later ok same nl none few calls on over = past_ahead c 0 End bs ls n later ok same nl none few calls on over
 
   made_ahead : (size : ℕ) (later : List AsmItem) → Ahead (frame_made size) later
-  made_ahead size later = one_of_both (size == 0) [] (item.Op (instr.One PUSH 14) ∷ item.Op (instr.Mov (RegReg 14 15)) ∷ item.Op (instr.Two ISUB 15 (src.Imm (Left size))) ∷ []) later tt (tt, (tt, (tt, tt)))
+  made_ahead size later = one_of_both (size == 0) [] (item.Op (instr.Two ISUB 15 (src.Imm (Left size))) ∷ []) later tt (tt, tt)
 
   gone_on : (size : ℕ) → AllGoOn names body (frame_gone size)
   gone_on size = go (size == 0)
     where
-      go : (b : Bool) → AllGoOn names body (cond b (item.Op (instr.Plain RET) ∷ []) (item.Op (instr.Mov (RegReg 15 14)) ∷ item.Op (instr.One POP 14) ∷ item.Op (instr.Plain RET) ∷ []))
+      go : (b : Bool) → AllGoOn names body (cond b (item.Op (instr.Plain RET) ∷ []) (item.Op (instr.Two IADD 15 (src.Imm (Left size))) ∷ item.Op (instr.Plain RET) ∷ []))
       go true = (tt, tt)
-      go false = (tt, (tt, (tt, tt)))
+      go false = (tt, (tt, tt))
 
   -- the items of a function without a loop
   pub own_go_on : (x : CodeT Where) (W : Whole) → ((g : ℕ) → g < length x.functions → CallsTo g body → IsCalled names body (function_label W.names g)) → (m f n : ℕ) → AreNodes x m [] body → loops body ≡ 0 → n + 1 + labels body < 2 ^ 32 - 1 → AllGoOn names body (own_items W f n body)

@@ -64,9 +64,9 @@ some_later (item.Pointer l ∷ xs) ys h = some_later xs ys h
 gone_ends : (size : ℕ) → (before : List AsmItem) × (frame_gone size ≡ before ++ item.Op (instr.Plain RET) ∷ [])
 gone_ends size = go (size == 0)
   where
-    go : (b : Bool) → (before : List AsmItem) × (cond b (item.Op (instr.Plain RET) ∷ []) (item.Op (instr.Mov (RegReg 15 14)) ∷ item.Op (instr.One POP 14) ∷ item.Op (instr.Plain RET) ∷ []) ≡ before ++ item.Op (instr.Plain RET) ∷ [])
+    go : (b : Bool) → (before : List AsmItem) × (cond b (item.Op (instr.Plain RET) ∷ []) (item.Op (instr.Two IADD 15 (src.Imm (Left size))) ∷ item.Op (instr.Plain RET) ∷ []) ≡ before ++ item.Op (instr.Plain RET) ∷ [])
     go true = ([], refl)
-    go false = (item.Op (instr.Mov (RegReg 15 14)) ∷ item.Op (instr.One POP 14) ∷ [], refl)
+    go false = (item.Op (instr.Two IADD 15 (src.Imm (Left size))) ∷ [], refl)
 
 module _ (x : CodeT Where) (W : Whole) (count : length W.names ≡ length x.functions) where
   called : (body : NodesT Where) (g : ℕ) → g < length x.functions → CallsTo g body → IsCalled W.names body (function_label W.names g)

@@ -23,7 +23,7 @@ use Rattle.mid_code.specs.declared.placed.Where.TheVariants.{Reg, Slot}
 use Rattle.mid_code.specs.Code.{OpT, ConstO, NullO, MoveO, OneO, TwoO, GlobalO, LocalO, LiteralO, CardO, StepO, ApartO, PtrTestO, LoadO, StoreO, FreshO, EndO, InO, OutO, WaitO, HaltO, NodesT, Stop, Do, Call, Choose, Block, Loop, Leave, Again, Return, FunctionT, CodeT}
 use Rattle.mid_code.specs.Invariants.{AllOf, IsOp, AreNodes}
 use Rattle.asm_laws.specs.Moves.{Move, in_order}
-use Rattle.asm_laws.specs.Operations.{Frame, Whole, register, keep, fetches, keeps, keeps_some, is_in, hand, brings, takes, aim, lays, moves, changes, is_direct, in_place, apart, turned, is_turned, turned_or_apart, computes, slot_arg, slot_args, moved_items, args_items, call_items, op_items, in_one, one_or_more, more_of, giving, start_frame, opening_items, literal_items, literals_items}
+use Rattle.asm_laws.specs.Operations.{Frame, Whole, register, keep, fetches, keeps, keeps_some, is_in, hand, brings, takes, aim, lays, moves, changes, is_direct, in_place, apart, turned, is_turned, turned_or_apart, computes, slot_arg, slot_args, moved_items, args_items, call_items, op_items, in_one, one_or_more, more_of, giving, start_frame, literal_items, literals_items}
 use Rattle.asm_laws.specs.Framing.{frame_made, frame_gone}
 use Rattle.asm_laws.specs.declared.behind.Behind.{Behind}
 use Rattle.asm_laws.specs.declared.behind.Behind.TheVariants.{Other, End, Turn}
@@ -160,13 +160,13 @@ giving_fine F (Some p) = (fetch_fine F p 9 (omega arith), tt)
 
 made_fine : (size : ℕ) → size < 2 ^ 32 → AllFine (frame_made size)
 made_fine size lt =
-    either (size == 0) [] (item.Op (instr.One PUSH 14) ∷ item.Op (instr.Mov (RegReg 14 15)) ∷ item.Op (instr.Two ISUB 15 (src.Imm (Left size))) ∷ []) tt
-    ((omega arith, tt), ((omega arith, (omega arith, tt)), ((omega arith, (lt, tt)), tt)))
+    either (size == 0) [] (item.Op (instr.Two ISUB 15 (src.Imm (Left size))) ∷ []) tt
+    ((omega arith, (lt, tt)), tt)
 
-gone_fine : (size : ℕ) → AllFine (frame_gone size)
-gone_fine size =
-    either (size == 0) (item.Op (instr.Plain RET) ∷ []) (item.Op (instr.Mov (RegReg 15 14)) ∷ item.Op (instr.One POP 14) ∷ item.Op (instr.Plain RET) ∷ []) (tt, tt)
-    ((omega arith, (omega arith, tt)), ((omega arith, tt), (tt, tt)))
+gone_fine : (size : ℕ) → size < 2 ^ 32 → AllFine (frame_gone size)
+gone_fine size lt =
+    either (size == 0) (item.Op (instr.Plain RET) ∷ []) (item.Op (instr.Two IADD 15 (src.Imm (Left size))) ∷ item.Op (instr.Plain RET) ∷ []) (tt, tt)
+    ((omega arith, (lt, tt)), (tt, tt))
 
 -- ---- nodes and functions, where names are words, and addresses and sizes of frames are below 2^32
 
@@ -276,7 +276,7 @@ module _ (x : CodeT Where) (W : Whole) (words : list_all is_word W.names ≡ tru
       let F = W.frames f in
       let items = code_items W F n [] (n + 1) g.body in (
         function_named W.names f words,
-        join (frame_made F.size) (items ++ exit_items n F) (made_fine F.size small) (join items (exit_items n F) (code_fine (length g.locals) F n g.body [] [] (n + 1) ok) (jump_named n, gone_fine F.size)),
+        join (frame_made F.size) (items ++ exit_items n F) (made_fine F.size small) (join items (exit_items n F) (code_fine (length g.locals) F n g.body [] [] (n + 1) ok) (jump_named n, gone_fine F.size small)),
       )
 
   functions_fine : (f n : ℕ) (gs : List (FunctionT Where)) → ((k : ℕ) → (W.frames k).size < 2 ^ 32) → AllOf (λ g. AreNodes x (length g.locals) [] g.body) gs → AllFine (functions_items W f n gs)
@@ -297,6 +297,5 @@ module _ (x : CodeT Where) (W : Whole) (words : list_all is_word W.names ≡ tru
       let body = code_items W start_frame 0 [] 1 x.start.body in
       all_read (program_items W x)
       (join (start_items W x.main x.start.body) _
-      (join opening_items (body ++ closing_items W x.main) ((omega arith, (omega arith, tt)), tt)
-      (join body (closing_items W x.main) (code_fine (length x.start.locals) start_frame 0 x.start.body [] [] 1 start) (jump_named 0, ((function_named W.names x.main words, tt), (tt, tt)))))
+      (join body (closing_items W x.main) (code_fine (length x.start.locals) start_frame 0 x.start.body [] [] 1 start) (jump_named 0, ((function_named W.names x.main words, tt), (tt, tt))))
       (join (functions_items W 0 (1 + labels x.start.body) x.functions) (literals_items 0 x.literals) (functions_fine 0 (1 + labels x.start.body) x.functions small each) (literals_fine 0 x.literals texts)))

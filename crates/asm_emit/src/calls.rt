@@ -6,7 +6,7 @@ ghost use Rattle.asm_emit.specs.inner.View.{frame, whole};
 use crate::hands::{brings, hand, keeps_some, op};
 use crate::moving::put_in_order;
 use crate::names::function_label;
-use crate::scope::{Around, Scope, params_at, scope_at, slot_word};
+use crate::scope::{Around, Scope, arg_word, params_at, scope_at};
 use asm_items::AsmItem;
 use either::Either;
 use kit_base::Memory;
@@ -26,7 +26,7 @@ fn put_slot_arg(
     match p {
         Where::Reg(_) => Ok(()),
         Where::Slot(k) => {
-            let word = slot_word(callee, k).wrapping_sub(2);
+            let word = arg_word(callee, k);
             brings(out, s, a, 9)?;
             op(
                 out,

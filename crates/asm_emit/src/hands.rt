@@ -31,7 +31,7 @@ pub(crate) fn fetch(s: &Scope<'_>, p: Where, r: Reg) -> Instr<Imm>
 {
     match p {
         Where::Reg(q) => Instr::Mov(Mov::RegReg(r, register(q))),
-        Where::Slot(k) => Instr::Mov(Mov::RegAtOff(r, Reg::at(14), Either::Left(slot_word(s, k)))),
+        Where::Slot(k) => Instr::Mov(Mov::RegAtOff(r, Reg::at(15), Either::Left(slot_word(s, k)))),
     }
 }
 
@@ -40,7 +40,7 @@ pub(crate) fn keep(s: &Scope<'_>, p: Where, r: Reg) -> Instr<Imm>
 {
     match p {
         Where::Reg(q) => Instr::Mov(Mov::RegReg(register(q), r)),
-        Where::Slot(k) => Instr::Mov(Mov::AtOffReg(Reg::at(14), Either::Left(slot_word(s, k)), r)),
+        Where::Slot(k) => Instr::Mov(Mov::AtOffReg(Reg::at(15), Either::Left(slot_word(s, k)), r)),
     }
 }
 

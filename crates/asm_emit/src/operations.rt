@@ -35,7 +35,7 @@ pub(crate) fn put_op(
         Op::Global(t, k) => sets(out, s, *t, Either::Left(at_or(w.globals, *k, 0))),
         Op::Local(t, k) => {
             let word = Some(Either::Left(local_word(s, *k)));
-            op(out, Instr::Lea(aim(*t), Reg::at(14), word))?;
+            op(out, Instr::Lea(aim(*t), Reg::at(15), word))?;
             lays(out, s, *t)
         }
         Op::Literal(t, k) => sets(out, s, *t, Either::Right(literal_label(alloc, *k)?)),

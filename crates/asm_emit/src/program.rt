@@ -22,7 +22,7 @@ use kit_base::{Memory, Name};
 use mid_code::laws::placed_code_is_sound;
 use mid_code::{Code, Function, Node, Placed, Spots, Where};
 use std::alloc::Global;
-use v32_isa::{Go, Instr, Mov, One, Plain, Reg, Src, Two};
+use v32_isa::{Go, Instr, Plain, Reg, Src, Two};
 
 /// Adds what makes a frame of `size` words, where it has any.
 fn put_frame_made(out: &mut Vec<AsmItem>, size: u32) -> Result<(), Memory>
@@ -31,8 +31,6 @@ fn put_frame_made(out: &mut Vec<AsmItem>, size: u32) -> Result<(), Memory>
     if size == 0 {
         Ok(())
     } else {
-        op(out, Instr::One(One::PUSH, Reg::at(14)))?;
-        op(out, Instr::Mov(Mov::RegReg(Reg::at(14), Reg::at(15))))?;
         op(
             out,
             Instr::Two(Two::ISUB, Reg::at(15), Src::Imm(Either::Left(size))),
@@ -47,8 +45,10 @@ fn put_frame_gone(out: &mut Vec<AsmItem>, size: u32) -> Result<(), Memory>
     if size == 0 {
         op(out, Instr::Plain(Plain::RET))
     } else {
-        op(out, Instr::Mov(Mov::RegReg(Reg::at(15), Reg::at(14))))?;
-        op(out, Instr::One(One::POP, Reg::at(14)))?;
+        op(
+            out,
+            Instr::Two(Two::IADD, Reg::at(15), Src::Imm(Either::Left(size))),
+        )?;
         op(out, Instr::Plain(Plain::RET))
     }
 }
@@ -150,8 +150,8 @@ fn put_start(
         slots: &[],
         locals: &[],
         size: 1_000_000,
+        depth: 0,
     };
-    op(out, Instr::Mov(Mov::RegReg(Reg::at(14), Reg::at(15))))?;
     let next = put_body(alloc, out, w, &s, 0, 1, body)?;
     put_closing(alloc, out, w, main)?;
     Ok(next)

@@ -1,7 +1,7 @@
 // What the emitter knows of the code around an operation.
 ghost use Rattle.std.specs.Prelude.{◌≡◌, get_or, map, []};
 ghost use Rattle.kit_base.specs.Word.{sub};
-ghost use Rattle.asm_laws.specs.Operations.{word_at, slot_word, local_word};
+ghost use Rattle.asm_laws.specs.Operations.{word_at, slot_word, local_word, arg_word};
 ghost use Rattle.mid_code.specs.Functions.{function};
 ghost use Rattle.mid_code.specs.View.{spots};
 ghost use Rattle.mid_code.specs.States.{no_function};
@@ -10,13 +10,14 @@ ghost use Rattle.asm_emit.specs.inner.View.{frame, no_spots, whole};
 use kit_base::Name;
 use mid_code::{Function, Spots, Where};
 
-/// The frame of the function whose code is written: its size, and the offsets of its slots and of its locals. A slot
-/// past the last of the list has its number as its offset.
+/// The frame of the function whose code is written: its size, how many of its words are on the stack, and the offsets of its slots and of its locals.
+/// A slot past the last of the list has its number as its offset.
 #[derive(Clone, Copy)]
 pub struct Scope<'a> {
     pub slots: &'a [u32],
     pub locals: &'a [u32],
     pub size: u32,
+    pub depth: u32,
 }
 
 /// The functions of the program with their frames and names, and the addresses of the globals.
@@ -39,17 +40,24 @@ pub(crate) fn at_or(list: &[u32], k: u32, other: u32) -> u32
     }
 }
 
-/// What is added to the end of the frame for the word at an offset.
+/// What is added to the stack's top for the word at an offset.
 fn word_at(s: &Scope<'_>, offset: u32) -> u32
     ensures { result ≡ word_at (frame s.now) offset }
 {
-    offset.wrapping_sub(s.size)
+    offset.wrapping_add(s.depth).wrapping_sub(s.size)
 }
 
 pub(crate) fn slot_word(s: &Scope<'_>, k: u32) -> u32
     ensures { result ≡ slot_word (frame s.now) k }
 {
     word_at(s, at_or(s.slots, k, k))
+}
+
+/// What is added to the stack's top, before a call of the function, for a slot of the frame that it will have.
+pub(crate) fn arg_word(s: &Scope<'_>, k: u32) -> u32
+    ensures { result ≡ arg_word (frame s.now) k }
+{
+    at_or(s.slots, k, k).wrapping_sub(s.size).wrapping_sub(1)
 }
 
 pub(crate) fn local_word(s: &Scope<'_>, k: u32) -> u32
@@ -80,10 +88,12 @@ fn locals_at(all: &[Spots], g: u32) -> &[u32]
 pub(crate) fn scope_at<'a>(w: &Around<'a>, g: u32) -> Scope<'a>
     ensures { frame result ≡ (whole w.now).frames g }
 {
+    let size = at_or(w.sizes, g, 0);
     Scope {
         slots: slots_at(w.spots, g),
         locals: locals_at(w.spots, g),
-        size: at_or(w.sizes, g, 0),
+        size,
+        depth: size,
     }
 }
 

@@ -15,11 +15,11 @@ abbrev pub no_spots : SpotsT
 no_spots = record { slots = []; locals = []; own = [] }
 
 abbrev pub frame : Scope → Frame
-frame s = record { slots = s.slots.now; locals = s.locals.now; size = s.size }
+frame s = record { slots = s.slots.now; locals = s.locals.now; size = s.size; depth = s.depth }
 
 -- the frame of a function
 abbrev pub frame_at : List SpotsT → List ℕ → ℕ → Frame
-frame_at at sizes g = record { slots = (get_or at g no_spots).slots; locals = (get_or at g no_spots).locals; size = get_or sizes g 0 }
+frame_at at sizes g = record { slots = (get_or at g no_spots).slots; locals = (get_or at g no_spots).locals; size = get_or sizes g 0; depth = get_or sizes g 0 }
 
 abbrev pub whole_of_parts : List (FunctionT Where) → List SpotsT → (sizes : List ℕ) → (names : List (List ℕ)) → (globals : List ℕ) → Whole
 whole_of_parts functions at sizes names globals = record {

@@ -4,9 +4,10 @@ use Rattle.std.specs.Prelude.{◌==◌, cond, Bool, true, false, get_or, slice_g
 use Rattle.std.proofs.lemmas.List.Sums.{sum_by-cons}
 use Rattle.std.proofs.lemmas.Option.{get_or_from_slice_get, slice_get-get_or}
 use Rattle.v32_isa.specs.declared.instruction.Plain.TheVariants.{RET}
-use Rattle.v32_isa.specs.declared.instruction.One.TheVariants.{POP}
-use Rattle.v32_isa.specs.declared.instruction.Mov.TheVariants.{RegReg}
+use Rattle.v32_isa.specs.declared.instruction.Two.TheVariants.{IADD}
+use Rattle.v32_isa.specs.declared.instruction.Src.TheVariants as src
 use Rattle.v32_isa.specs.declared.instruction.Instr.TheVariants as instr
+use Rattle.either.specs.declared.Either.TheVariants as either
 use Rattle.asm_items.specs.declared.item.AsmItem.{AsmItem}
 use Rattle.asm_items.specs.declared.item.AsmItem.TheVariants as item
 use Rattle.assembler.specs.Faults.{fault_of}
@@ -64,9 +65,9 @@ some_later (item.Pointer l ∷ xs) ys h = some_later xs ys h
 gone_ends : (size : ℕ) → (before : List AsmItem) × (frame_gone size ≡ before ++ item.Op (instr.Plain RET) ∷ [])
 gone_ends size = go (size == 0)
   where
-    go : (b : Bool) → (before : List AsmItem) × (cond b (item.Op (instr.Plain RET) ∷ []) (item.Op (instr.Two IADD 15 (src.Imm (Left size))) ∷ item.Op (instr.Plain RET) ∷ []) ≡ before ++ item.Op (instr.Plain RET) ∷ [])
+    go : (b : Bool) → (before : List AsmItem) × (cond b (item.Op (instr.Plain RET) ∷ []) (item.Op (instr.Two IADD 15 (src.Imm (either.Left size))) ∷ item.Op (instr.Plain RET) ∷ []) ≡ before ++ item.Op (instr.Plain RET) ∷ [])
     go true = ([], refl)
-    go false = (item.Op (instr.Two IADD 15 (src.Imm (Left size))) ∷ [], refl)
+    go false = (item.Op (instr.Two IADD 15 (src.Imm (either.Left size))) ∷ [], refl)
 
 module _ (x : CodeT Where) (W : Whole) (count : length W.names ≡ length x.functions) where
   called : (body : NodesT Where) (g : ℕ) → g < length x.functions → CallsTo g body → IsCalled W.names body (function_label W.names g)

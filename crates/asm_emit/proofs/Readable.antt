@@ -7,8 +7,6 @@ use Rattle.kit_base.specs.Word.{add, sub}
 use Rattle.either.specs.declared.Either.TheVariants.{Left}
 use Rattle.v32_isa.specs.declared.instruction.Plain.TheVariants.{RET}
 use Rattle.v32_isa.specs.declared.instruction.One.{One}
-use Rattle.v32_isa.specs.declared.instruction.One.TheVariants.{PUSH, POP}
-use Rattle.v32_isa.specs.declared.instruction.Mov.TheVariants.{RegReg}
 use Rattle.v32_isa.specs.declared.instruction.Two.{Two}
 use Rattle.v32_isa.specs.declared.instruction.Two.TheVariants.{IADD, ISUB}
 use Rattle.v32_isa.specs.declared.instruction.Src.TheVariants as src
@@ -140,7 +138,7 @@ computes_fine F o t a b = either (is_direct t b) (in_place F o (aim t) a b) (tur
 
 slot_fine : (F G : Frame) (p a : Where) → AllFine (slot_arg F G p a)
 slot_fine F G (Reg q) a = tt
-slot_fine F G (Slot k) a = join (brings F a 9) _ (brings_fine F a 9 (omega arith)) (((omega arith, in_words _ 2), (hand_fine a 9 (omega arith), tt)), tt)
+slot_fine F G (Slot k) a = join (brings F a 9) _ (brings_fine F a 9 (omega arith)) (((omega arith, in_words _ 1), (hand_fine a 9 (omega arith), tt)), tt)
 
 slots_fine : (F G : Frame) (ps args : List Where) → AllFine (slot_args F G ps args)
 slots_fine F G [] args = tt

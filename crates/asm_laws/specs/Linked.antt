@@ -42,6 +42,7 @@ pub record Linked (S : Setting) (card : Option (List ℕ)) (boot rest : ℕ) : T
   pub boot_as : S.called_as boot ≡ None
   pub boot_depth : S.depth boot ≡ 0
   pub rest_depth : S.depth rest ≡ 0
+  pub rest_registers : (S.whole.frames rest).registers ≡ (S.whole.frames boot).registers
   pub rest_size : (S.whole.frames rest).size ≡ 0
   pub rest_slots : (k : ℕ) → S.has_slot rest k → ⊥
   pub after : ℕ

@@ -29,7 +29,7 @@ use Rattle.mid_code.specs.Agrees.{KeepsWords, Matches}
 use Rattle.asm_laws.specs.inner.Following.{Begin, begin, Came, Stopped, Going, Sim, CallSim}
 use Rattle.asm_laws.specs.inner.Following as follow
 use Rattle.asm_laws.proofs.Control.{still, entered_sim}
-use Rattle.asm_laws.specs.Addresses.{Held}
+use Rattle.asm_laws.specs.Addresses.{having, Held}
 use Rattle.asm_laws.proofs.Stepping.{line_effect, readable_word}
 use Rattle.asm_laws.specs.Holds.{Setting, Fits, Ctx, Lives, Stands}
 use Rattle.asm_laws.specs.Calling.{Mach, Given, EndedIn, lang, holder, shapes}
@@ -93,7 +93,7 @@ module _ (S : Setting) (fits : Fits S) where
       let w = cell_wide S fits κ t.world.store place o i h.ranges l il in
       let r : en.mach.words.memory (place o + i) ≡ x = subst (λ c. Stands (length os) place c (en.mach.words.memory (place o + i))) e (h.objects.at o i l il) in
       let q = readable_in S.console (object_at os o).kind (object_at os o).cells (place o + i) i fits.short (h.ranges.cards o l) il (h.ranges.inside o i l w) in
-      ap (λ z. word_at m (z + i)) (sym p) ∙ en.memory (place o + i) ∙ readable_word S.console en.mach.words en.shown (place o + i) en.mach.held q ∙ ap Some r
+      ap (λ z. word_at m (z + i)) (sym p) ∙ en.memory (place o + i) ∙ readable_word S.console (having en.mach.registers en.mach.words) en.shown (place o + i) en.mach.held q ∙ ap Some r
 
   keeps : (t : State Where) (f : Ending) (r : runs.Run) (m : machine.State) → r.state ≡ m → EndedIn S t m → KeepsWords S.whole.globals (run_of S.code (final f t.world)) r
   keeps t f r m e en = record {
@@ -208,11 +208,13 @@ module _ (S : Setting) (card : Option (List ℕ)) (boot rest : ℕ) (l : Linked 
             used_is = let q = h.at.stack.used_is in omega (arith, q, l.boot_depth, l.rest_depth);
           };
         };
+        registers = h.registers;
+        like = λ r lt. h.like r (omega (arith, lt, l.rest_registers));
         held = h.held;
       }
 
   left_given : (t : State Where) (m : machine.State) → Given S κ0 t m → Mach S κ1 t m
-  left_given t m g = left t m (record { place = g.place; words = g.words; at = g.at; held = g.held })
+  left_given t m g = left t m (record { place = g.place; words = g.words; at = g.at; registers = g.registers; like = g.like; held = g.held })
 
   module _ (m0 : machine.State) (answers : List ℕ) (n : ℕ) where
     abbrev Here : Final → Type 0
@@ -222,7 +224,7 @@ module _ (S : Setting) (card : Option (List ℕ)) (boot rest : ℕ) (l : Linked 
     halts : (t : State Where) (m1 : machine.State) → Pre S l.fits m0 answers (begin (holder S) t) m1 → Mach S κ1 t m1 → m1.counter ≡ l.after → Here (final Halted t.world)
     halts t m1 p h e =
         let xs = t.world.store.answers in
-        let eff = line_effect S.console h.words m1 l.after (instr.Plain HLT) l.last h.held e l.halt (omega arith, omega arith, omega arith) ∙ halt_effect m1 l.last in
+        let eff = line_effect S.console (having h.registers h.words) m1 l.after (instr.Plain HLT) l.last h.held e l.halt (omega arith, omega arith, omega arith) ∙ halt_effect m1 l.last in
         let r : run (p.steps + 1) m0 answers ≡ record { events = p.made ++ []; end = runs.Halted; state = m1 } = p.by.runs 1 ∙ ap (before p.made) (run-halted 0 m1 m1 xs eff) in (
           p.steps + 1,
           record {
@@ -301,4 +303,4 @@ module _ (S : Setting) (card : Option (List ℕ)) (boot rest : ℕ) (l : Linked 
       let s0 = opening S.code answers card in
       let p : Pre S l.fits (runs.opening S.console.words card) answers (begin (holder S) s0) m1 = record { steps = 0; made = []; by = reaches_here m1 answers; events = refl; cost = omega arith } in
       start_row (runs.opening S.console.words card) answers n (begin (holder S) s0) m1 (meaning.runs (lang S) n S.code.start.body s0) p
-      (follows S l.fits l.functions n κ0 (S.enters boot) (S.leaves boot) [] S.code.start.body s0 m1 l.start (sym l.opening) (record { place = S.fixed; words = first_words S card; at = l.opens answers; held = held_first }))
+      (follows S l.fits l.functions n κ0 (S.enters boot) (S.leaves boot) [] S.code.start.body s0 m1 l.start (sym l.opening) (record { place = S.fixed; words = first_words S card; at = l.opens answers; registers = λ r. 0; like = λ r lt. refl; held = held_first }))

@@ -1,7 +1,7 @@
 -- Calls of placed code are followed.
-use Rattle.std.proofs.Common.{◌≡◌, ◌≢◌, ℕ, zero, suc, ◌+◌, ◌-◌, ◌*◌, ◌<◌, ◌≤◌, Bool, true, false, List, [], ◌∷◌, length, Option, Some, None, refl, sym, ap, ◌∙◌, subst, arith, append-nil}
-use Rattle.std.specs.Prelude.{map, leb, cond, ◌==◌}
-use Rattle.std.proofs.lemmas.Bool.{leb-true, eqb-true}
+use Rattle.std.proofs.Common.{◌≡◌, ◌≢◌, ℕ, zero, suc, ◌+◌, ◌-◌, ◌*◌, ◌<◌, ◌≤◌, ◌⊎◌, inl, inr, Bool, true, false, List, [], ◌∷◌, length, Option, Some, None, refl, sym, ap, ◌∙◌, subst, arith, append-nil}
+use Rattle.std.specs.Prelude.{map, leb, ltb, cond, ◌==◌}
+use Rattle.std.proofs.lemmas.Bool.{leb-true, lt-ltb, eqb-true}
 use Rattle.v32_isa.specs.declared.instruction.Plain.TheVariants.{RET}
 use Rattle.v32_isa.specs.declared.instruction.Go.TheVariants.{CALL}
 use Rattle.v32_isa.specs.declared.instruction.Two.TheVariants.{IADD}
@@ -25,7 +25,11 @@ use Rattle.asm_laws.specs.Operations.{Frame, args_items, keeps_some}
 use Rattle.asm_laws.specs.Placing.{Line}
 use Rattle.asm_laws.specs.inner.Following.{begin, spare, CameBy, Enters, CallSim}
 use Rattle.asm_laws.specs.Standing.{Stand}
-use Rattle.asm_laws.specs.Addresses.{Addr, Console, store, put, Good, Held, ArrivesBy}
+use Rattle.asm_laws.specs.Addresses.{Addr, Console, store, put, having, Good, Held, ArrivesBy}
+use Rattle.asm_laws.specs.Spare.{Stays}
+use Rattle.asm_laws.proofs.Words.{below_not}
+use Rattle.obj_mem.specs.declared.cell.Cell.{Cell}
+use Rattle.obj_mem.specs.declared.cell.Cell.TheVariants.{Unwritten}
 use Rattle.asm_laws.specs.Framing.{frame_gone}
 use Rattle.asm_laws.specs.inner.Links.{all_passed, all_arrived, new_slot, called, way_back, gone_back}
 use Rattle.asm_laws.proofs.Stepping.{line_effect, line_turn, reg_other, moved, keeps_so, written_same, written_other}
@@ -92,6 +96,47 @@ returns C l base address F a s xs size pc e hi top back h c k = go (size == 0) r
           nine = reg_other C u1 15 (w + 1) 9 (omega arith) ∙ reg_other C s 15 w 9 (omega arith);
         }
 
+-- the cells of places that stay, the others unwritten
+held_cells : ℕ → (Where → Cell) → Where → Cell
+held_cells n cells (Reg r) = cond (ltb r n) (cells (Reg r)) Unwritten
+held_cells n cells (Slot k) = cells (Slot k)
+
+held_cell : (n : ℕ) (cells : Where → Cell) (p : Where) → Stays n p → held_cells n cells p ≡ cells p
+unfolding held_cells
+held_cell n cells (Reg r) lt = ap (λ b. cond b (cells (Reg r)) Unwritten) (lt-ltb r n lt)
+held_cell n cells (Slot k) h = refl
+
+held_args : (n : ℕ) (cells : Where → Cell) (args : List Where) → AllOf (Stays n) args → map (held_cells n cells) args ≡ map cells args
+held_args n cells [] h = refl
+held_args n cells (p ∷ ps) h = λ i. held_cell n cells p h.0 i ∷ held_args n cells ps h.1 i
+
+-- the words of the machine hold them
+really_held : (S : Setting) (κ : Ctx) (s : State Where) (m : machine.State) (h : Mach S κ s m) → HoldsAt S κ s.world.store (held_cells (S.whole.frames κ.fn).registers s.cells) h.place (having h.registers h.words)
+unfolding held_cells
+really_held S κ s m h = record {
+  temps = record { in_regs = λ r lt. go r lt (below_not r (S.whole.frames κ.fn).registers); in_slots = h.at.temps.in_slots };
+  ranges = h.at.ranges;
+  objects = h.at.objects;
+  kept = h.at.kept;
+  stack = h.at.stack;
+}
+  where
+    Here : ℕ → Bool → Type 0
+    Here r b = Stands (length s.world.store.objects) h.place (cond b (s.cells (Reg r)) Unwritten) (h.registers r)
+
+    go : (r : ℕ) → r < 9 → ((r < (S.whole.frames κ.fn).registers) × (ltb r (S.whole.frames κ.fn).registers ≡ true)) ⊎ (ltb r (S.whole.frames κ.fn).registers ≡ false) → Here r (ltb r (S.whole.frames κ.fn).registers)
+    go r lt (inl b) = subst (Here r) (sym b.1) (subst (λ v. Stands (length s.world.store.objects) h.place (s.cells (Reg r)) v) (sym (h.like r b.0)) (h.at.temps.in_regs r lt))
+    go r lt (inr b) = subst (Here r) (sym b) tt
+
+-- after a call registers hold none
+after_held : (S : Setting) (κ : Ctx) (st : Store) (n : ℕ) (cells : Where → Cell) (place : ℕ → ℕ) (a : Addr) → HoldsAt S κ st (after_call registers_and_slots (held_cells n cells)) place a → HoldsAt S κ st (after_call registers_and_slots cells) place a
+unfolding held_cells
+after_held S κ st n cells place a h = record { temps = record { in_regs = h.temps.in_regs; in_slots = h.temps.in_slots }; ranges = h.ranges; objects = h.objects; kept = h.kept; stack = h.stack }
+
+itself : (F : Frame) (t : Where) (v : ℕ) (a : Addr) (C : Console) (m : machine.State) → Held C (put F t v a) m → Held C (having (put F t v a).regs (put F t v a)) m
+itself F (Reg r) v a C m h = h
+itself F (Slot k) v a C m h = h
+
 module _ (S : Setting) (fits : Fits S) where
   abbrev C : Console
   C = S.console
@@ -115,8 +160,18 @@ module _ (S : Setting) (fits : Fits S) where
     abbrev ps : List Where
     ps = S.whole.params g
 
+    -- the words of the machine, and the cells that they hold
     abbrev a : Addr
-    a = h.words
+    a = having h.registers h.words
+
+    abbrev cells : Where → Cell
+    cells = held_cells (S.whole.frames κ.fn).registers s.cells
+
+    abbrev at_a : HoldsAt S κ s.world.store cells h.place a
+    at_a = really_held S κ s m h
+
+    same_args : map cells args ≡ map s.cells args
+    same_args = held_args (S.whole.frames κ.fn).registers s.cells args at.args_stay
 
     abbrev T : ℕ
     T = top_of S κ
@@ -131,13 +186,13 @@ module _ (S : Setting) (fits : Fits S) where
     xs = st.answers
 
     big : (sizes S).globals + G.size + 2 ≤ T
-    big = room_of S fits κ st s.cells h.place a g at.callable h.at fit
+    big = room_of S fits κ st cells h.place a g at.callable at_a fit
 
     top_a : a.top ≡ T
-    top_a = let e = h.at.stack.top_is in omega (arith, e)
+    top_a = let e = at_a.stack.top_is in omega (arith, e)
 
     low_t : T ≤ 0x400000
-    low_t = let e = h.at.stack.high in omega (arith, e)
+    low_t = let e = at_a.stack.high in omega (arith, e)
 
     abbrev split : (q : ℕ) × Stand C.words S.address pc (args_items F G ps args) q × Stand C.words S.address q (item.Op (instr.Go CALL (src.Imm (Right (function_label S.whole.names g)))) ∷ keeps_some F t) p
     split = part C S.address F G (args_items F G ps args) (item.Op (instr.Go CALL (src.Imm (Right (function_label S.whole.names g)))) ∷ keeps_some F t) pc p at.stands
@@ -158,17 +213,17 @@ module _ (S : Setting) (fits : Fits S) where
     abbrev a3 : Addr
     a3 = store (T - 1) next aT
 
-    h1 : HoldsAt S κ st s.cells h.place a1
-    h1 = all_passed_holds S fits κ st s.cells h.place g at.callable at.depth big ps args a at.callable.params_named h.at
+    h1 : HoldsAt S κ st cells h.place a1
+    h1 = all_passed_holds S fits κ st cells h.place g at.callable at.depth big ps args a at.callable.params_named at_a
 
     top_1 : a1.top ≡ T
     top_1 = let e = h1.stack.top_is in omega (arith, e)
 
-    hT : HoldsAt S κ st s.cells h.place aT
-    hT = subst (λ q. HoldsAt S κ st s.cells h.place (record a1 { top = q })) top_1 h1
+    hT : HoldsAt S κ st cells h.place aT
+    hT = subst (λ q. HoldsAt S κ st cells h.place (record a1 { top = q })) top_1 h1
 
-    h3 : HoldsAt S κ st s.cells h.place a3
-    h3 = low_write S fits κ st s.cells h.place aT (T - 1) next (omega (arith, big)) (omega (arith, big)) at.depth hT
+    h3 : HoldsAt S κ st cells h.place a3
+    h3 = low_write S fits κ st cells h.place aT (T - 1) next (omega (arith, big)) (omega (arith, big)) at.depth hT
 
     -- the link
     link_next : a3.memory (T - 1) ≡ next
@@ -189,18 +244,18 @@ module _ (S : Setting) (fits : Fits S) where
     abbrev κ2 : Ctx
     κ2 = inner S κ g st.objects h.place a3.memory
 
-    slot_at : (k : ℕ) → S.has_slot g k → Stands N h.place (received registers_and_slots ps (map s.cells args) (Slot k)) (b.memory (slot_place S κ2 k))
+    slot_at : (k : ℕ) → S.has_slot g k → Stands N h.place (received registers_and_slots ps (map cells args) (Slot k)) (b.memory (slot_place S κ2 k))
     slot_at k has =
         let u = fits.slot_in g k has in
         let q = slot_place S κ2 k in
         let e1 : q ≡ new_slot G k a = omega (arith, top_a) in
         let wq : b.memory q ≡ a1.memory (new_slot G k a) =
         ap (λ f. f q) memory_is ∙ link_under q (omega (arith, u, big)) ∙ ap a1.memory e1 in
-        subst (λ z. Stands N h.place (received registers_and_slots ps (map s.cells args) (Slot k)) z) (sym wq) (slots_passed S fits κ st s.cells h.place g at.callable at.depth big ps args a at.callable.params_named at.callable.params_differ at.args_named h.at k has)
+        subst (λ z. Stands N h.place (received registers_and_slots ps (map cells args) (Slot k)) z) (sym wq) (slots_passed S fits κ st cells h.place g at.callable at.depth big ps args a at.callable.params_named at.callable.params_differ at.args_named at_a k has)
 
-    temps : Temps S κ2 N h.place (received registers_and_slots ps (map s.cells args)) b.regs b.memory
+    temps : Temps S κ2 N h.place (received registers_and_slots ps (map cells args)) b.regs b.memory
     temps = record {
-      in_regs = λ r lt. regs_arrived S fits κ st s.cells h.place g at.callable at.depth big ps args a1 at.args_named h1 r;
+      in_regs = λ r lt. regs_arrived S fits κ st cells h.place g at.callable at.depth big ps args a1 at.args_named h1 r;
       in_slots = slot_at;
     }
 
@@ -212,11 +267,12 @@ module _ (S : Setting) (fits : Fits S) where
     top_b = omega (arith, P_top, big)
 
     inside : HoldsAt S κ2 (entered (sizes S) g st) (received registers_and_slots (function_at S.code g).params (map s.cells args)) h.place b
-    inside = subst (λ qs. HoldsAt S κ2 (entered (sizes S) g st) (received registers_and_slots qs (map s.cells args)) h.place b) at.callable.params
-        (enter_holds S fits κ st s.cells h.place a3 b g ps (map s.cells args) at.callable h3 at.depth fit memory_is base_b top_b temps)
+    inside = subst (λ cs. HoldsAt S κ2 (entered (sizes S) g st) (received registers_and_slots (function_at S.code g).params cs) h.place b) same_args
+        (subst (λ qs. HoldsAt S κ2 (entered (sizes S) g st) (received registers_and_slots qs (map cells args)) h.place b) at.callable.params
+        (enter_holds S fits κ st cells h.place a3 b g ps (map cells args) at.callable h3 at.depth fit memory_is base_b top_b temps))
 
     roomy : Roomy C S.address F G a
-    roomy = record { room = room S fits κ st s.cells h.place a h.at; below = omega (arith, big, top_a); above = omega (arith, low_t, top_a) }
+    roomy = record { room = room S fits κ st cells h.place a at_a; below = omega (arith, big, top_a); above = omega (arith, low_t, top_a) }
 
     -- the link
     abbrev link : Link
@@ -238,7 +294,7 @@ module _ (S : Setting) (fits : Fits S) where
           to = r.to;
           by = r.by;
           at = r.at;
-          held = record { place = h.place; words = b; at = inside; held = r.held };
+          held = record { place = h.place; words = b; at = inside; registers = b.regs; like = λ q lt. refl; held = r.held };
           events = sym (append-nil s.world.events);
           cost = let f = r.few in omega (arith, f, paid);
           many = some_steps [] (link ∷ []) r.steps m r.to xs r.by (λ e. omega (arith, e, top_m, top_t, top_b, big));
@@ -257,17 +313,20 @@ module _ (S : Setting) (fits : Fits S) where
         back_v = top_v
 
         link_same : (q : ℕ) → below S κ g ≤ q → q < T → gv.words.memory q ≡ a3.memory q
-        link_same q le lt = link_stays S fits κ st s1.world.store s.cells s1.cells h.place a3.memory gv.place a3 gv.words g q h3 gv.at (omega (arith, le, big)) le lt
+        link_same q le lt = link_stays S fits κ st s1.world.store cells s1.cells h.place a3.memory gv.place a3 gv.words g q h3 gv.at (omega (arith, le, big)) le lt
 
         -- and the way back
         link_2 : gv.words.memory (way_back G.size gv.words) ≡ next
         link_2 = ap gv.words.memory back_v ∙ link_same (T - 1) (omega arith) (omega (arith, big)) ∙ link_next
 
-        home : Returned C link κ.base G.size gv.words m1 s1.world.store.answers
-        home = returns C link κ.base S.address F gv.words m1 s1.world.store.answers G.size (S.leaves g) fn.ends (omega (arith, back_v, low_t, big)) (omega (arith, back_v, P_top)) link_2 gv.held e1 fn.exit
+        home : Returned C link κ.base G.size (having gv.registers gv.words) m1 s1.world.store.answers
+        home = returns C link κ.base S.address F (having gv.registers gv.words) m1 s1.world.store.answers G.size (S.leaves g) fn.ends (omega (arith, back_v, low_t, big)) (omega (arith, back_v, P_top)) link_2 gv.held e1 fn.exit
 
-        holds : HoldsAt S κ (returned_to st s1.world.store) (after_call registers_and_slots s.cells) gv.place (gone_back G.size κ.base gv.words)
-        holds = back_holds S fits κ st s1.world.store s.cells s1.cells h.place gv.place a3 gv.words (gone_back G.size κ.base gv.words) g h3 at.depth gv.at refl refl (let q = h.at.stack.top_is in omega (arith, back_v, q, big, top_a))
+        back_real : HoldsAt S κ (returned_to st s1.world.store) (after_call registers_and_slots cells) gv.place (gone_back G.size κ.base (having gv.registers gv.words))
+        back_real = back_holds S fits κ st s1.world.store cells s1.cells h.place gv.place a3 gv.words (gone_back G.size κ.base (having gv.registers gv.words)) g h3 at.depth gv.at refl refl (let q = at_a.stack.top_is in omega (arith, back_v, q, big, top_a))
+
+        holds : HoldsAt S κ (returned_to st s1.world.store) (after_call registers_and_slots s.cells) gv.place (gone_back G.size κ.base (having gv.registers gv.words))
+        holds = after_held S κ (returned_to st s1.world.store) (S.whole.frames κ.fn).registers s.cells gv.place (gone_back G.size κ.base (having gv.registers gv.words)) back_real
 
         given : Stands (length (returned_to st s1.world.store).objects) gv.place s1.given (register_of m1 9)
         given = stands_more (length s1.world.store.objects) (length (returned_to st s1.world.store).objects) gv.place gv.place s1.given (register_of m1 9) (let l = length_end_from (length st.objects) s1.world.store.objects in omega (arith, l)) (λ o q. refl) gv.given
@@ -279,21 +338,21 @@ module _ (S : Setting) (fits : Fits S) where
           to = home.to;
           by = home.by;
           at = home.at ∙ link_2 ∙ k;
-          held = record { place = gv.place; words = gone_back G.size κ.base gv.words; at = holds; held = home.held };
+          held = record { place = gv.place; words = gone_back G.size κ.base (having gv.registers gv.words); at = holds; registers = (gone_back G.size κ.base (having gv.registers gv.words)).regs; like = λ r lt. refl; held = home.held };
           events = sym (append-nil s1.world.events);
           cost = omega (arith, home.few);
           many = omega arith;
         }
         go (Some q) named k =
             let ys = s1.world.store.answers in
-            let r = keeps_so C F S.address (gone_back G.size κ.base gv.words) home.to ys next q 9 (register_of m1 9) k.0 (omega arith) (room S fits κ (returned_to st s1.world.store) (after_call registers_and_slots s.cells) gv.place (gone_back G.size κ.base gv.words) holds) (good_at κ.fn q named.0) home.held (home.at ∙ link_2) home.nine k.1 in
+            let r = keeps_so C F S.address (gone_back G.size κ.base (having gv.registers gv.words)) home.to ys next q 9 (register_of m1 9) k.0 (omega arith) (room S fits κ (returned_to st s1.world.store) (after_call registers_and_slots s.cells) gv.place (gone_back G.size κ.base (having gv.registers gv.words)) holds) (good_at κ.fn q named.0) home.held (home.at ∙ link_2) home.nine k.1 in
             record {
               steps = home.steps + r.steps;
               made = [];
               to = r.to;
               by = moves_on (link ∷ []) [] [] home.steps r.steps m1 home.to r.to ys ys ys [] [] home.by r.by;
               at = r.at ∙ k.2;
-              held = record { place = gv.place; words = put F q (register_of m1 9) (gone_back G.size κ.base gv.words); at = set_target S fits κ (returned_to st s1.world.store) (after_call registers_and_slots s.cells) gv.place (gone_back G.size κ.base gv.words) q s1.given (register_of m1 9) named.0 holds given; held = r.held };
+              held = record { place = gv.place; words = put F q (register_of m1 9) (gone_back G.size κ.base (having gv.registers gv.words)); at = set_target S fits κ (returned_to st s1.world.store) (after_call registers_and_slots s.cells) gv.place (gone_back G.size κ.base (having gv.registers gv.words)) q s1.given (register_of m1 9) named.0 holds given; registers = (put F q (register_of m1 9) (gone_back G.size κ.base (having gv.registers gv.words))).regs; like = λ i lt. refl; held = itself F q (register_of m1 9) (gone_back G.size κ.base (having gv.registers gv.words)) C r.to r.held };
               events = sym (append-nil s1.world.events);
               cost = let f = r.few in omega (arith, f, home.few);
               many = omega arith;

@@ -12,7 +12,8 @@ use Rattle.asm_items.specs.declared.item.AsmItem.{AsmItem}
 use Rattle.asm_items.specs.declared.item.AsmItem.TheVariants as item
 use Rattle.mid_code.specs.declared.placed.Where.{Where}
 use Rattle.mid_code.specs.declared.placed.Where.TheVariants.{Reg, Slot}
-use Rattle.asm_laws.specs.Operations.{Frame, register, keep, fetches, is_in, hand, brings, takes, aim, lays}
+use Rattle.asm_laws.specs.Operations.{Frame, keep, fetches, hand, brings, takes, aim, lays}
+use Rattle.asm_laws.specs.Pieces.{register, is_in}
 use Rattle.asm_laws.specs.Standing.{Stand}
 use Rattle.asm_laws.specs.Addresses.{Addr, Console, word_of, put, Room, Good, Held, Arrives}
 use Rattle.asm_laws.proofs.Stepping.{same_or_not, written_same, written_other, reg_same, reg_other, took, scratch, kept, reg_number, fetches_so, keeps_so}

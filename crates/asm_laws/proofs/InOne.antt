@@ -1,21 +1,27 @@
 -- Operations that are done in one go: a `LEA` or a `MOV` of a register and a word, or a copy and an operator with a word.
-use Rattle.std.proofs.Common.{◌≡◌, ℕ, ◌<◌, Bool, true, false, cond, List, [], ◌∷◌, Option, Some, None, refl, arith}
-use Rattle.std.specs.Prelude.{◌==◌, get_or, option_map}
+use Rattle.std.proofs.Common.{◌≡◌, ℕ, ◌<◌, Bool, true, false, cond, List, [], ◌∷◌, ◌++◌, Option, Some, None, refl, subst, arith}
+use Rattle.std.specs.Prelude.{◌==◌, ◌&&◌, not, get_or, option_map}
 use Rattle.kit_base.specs.Word.{sub}
 use Rattle.either.specs.declared.Either.TheVariants.{Left}
 use Rattle.v32_isa.specs.declared.instruction.Two.{Two as TwoOf}
 use Rattle.v32_isa.specs.declared.instruction.Two.TheVariants.{IADD, ISUB}
 use Rattle.v32_isa.specs.declared.instruction.Src.TheVariants as src
-use Rattle.v32_isa.specs.declared.instruction.Mov.TheVariants.{RegAtOff}
+use Rattle.v32_isa.specs.declared.instruction.Mov.TheVariants.{RegAt, RegAtOff, AtReg, AtOffReg}
 use Rattle.v32_isa.specs.declared.instruction.Instr.{Instr}
 use Rattle.v32_isa.specs.declared.instruction.Instr.TheVariants as instr
 use Rattle.asm_items.specs.declared.item.AsmItem.{AsmItem}
 use Rattle.asm_items.specs.declared.item.AsmItem.TheVariants as item
 use Rattle.asm_items.specs.Items.{Imm}
 use Rattle.mid_code.specs.declared.placed.Where.{Where}
-use Rattle.mid_code.specs.declared.placed.Where.TheVariants.{Reg}
-use Rattle.mid_code.specs.Code.{OpT, ConstO, TwoO, GlobalO, StepO, NodesT, Do}
-use Rattle.asm_laws.specs.Operations.{Frame, Whole, register, fetch, fetches, op_items, word_put, other_word, first_word, turned, summed, loads_there, first_place, unturned, copied, copied_address, with_copy, with_sum, with_word, in_one, one_or_more}
+use Rattle.mid_code.specs.declared.placed.Where.TheVariants.{Reg, Slot}
+use Rattle.mid_code.specs.Code.{OpT, ConstO, TwoO, GlobalO, StepO, LoadO, StoreO, OutO, NodesT, Do}
+use Rattle.asm_laws.specs.declared.used.Used.{Used}
+use Rattle.asm_laws.specs.declared.used.Used.TheVariants.{Computed, Loaded, Stored, Sent}
+use Rattle.asm_laws.specs.Pieces.{register, is_in, turned}
+use Rattle.asm_laws.specs.Spare.{beside, operand, in_slots, at_address, at_sum, used_by}
+use Rattle.asm_laws.specs.Spare as spare
+use Rattle.asm_laws.specs.Operations.{Frame, Whole, fetch, fetches, hand, op_items, word_put, other_word, first_word, summed, loads_there, first_place, unturned, copied, copied_address, with_copy, with_sum, with_word, taken, brought, either, added, known, using_it, is_spared, with_known, with_more, in_one, before_it, one_or_more}
+use Rattle.asm_laws.specs.Operations as emitted
 
 module _ (V : ℕ → Type 0) where
   -- a register, and a word of which V holds
@@ -60,50 +66,152 @@ module _ (V : ℕ → Type 0) where
   summed_fits r w (StepO t p n) h g = other_fits r w t p n h
   summed_fits r w _ h g = tt
 
+-- an instruction that takes a word of which V holds
+abbrev pub TakesWord : (ℕ → Type 0) → Instr Imm → Type 0
+TakesWord V (instr.Lea r q (Some (Left v))) = (r < 16) × (q < 16) × V v
+TakesWord V (instr.Two o r (src.Imm (Left v))) = (r < 16) × V v
+TakesWord V (instr.Mov (RegAt r (Left v))) = (r < 16) × V v
+TakesWord V (instr.Mov (RegAtOff r q (Left v))) = (r < 16) × (q < 16) × V v
+TakesWord V (instr.Mov (AtReg (Left v) r)) = (r < 16) × V v
+TakesWord V (instr.Mov (AtOffReg q (Left v) r)) = (q < 16) × (r < 16) × V v
+TakesWord V (instr.Out port (src.Imm (Left v))) = (port < 16384) × V v
+TakesWord V _ = ⊥
+
 module _ (W : Whole) (F : Frame) (P : List AsmItem → Type 0) (V : ℕ → Type 0) where
-  abbrev Lea : Type 0
-  Lea = (r q v : ℕ) → r < 16 → q < 16 → V v → P (item.Op (instr.Lea r q (Some (Left v))) ∷ [])
+  abbrev One : Type 0
+  One = (i : Instr Imm) → TakesWord V i → P (item.Op i ∷ [])
 
-  abbrev Mov : Type 0
-  Mov = (r q v : ℕ) → r < 16 → q < 16 → V v → P (item.Op (instr.Mov (RegAtOff r q (Left v))) ∷ [])
+  abbrev Fetched : Type 0
+  Fetched = (p : Where) (r : ℕ) (i : Instr Imm) → r < 16 → TakesWord V i → P (fetches F p r ∷ item.Op i ∷ [])
 
-  abbrev Copy : Type 0
-  Copy = (u : TwoOf) (p : Where) (r v : ℕ) → r < 16 → V v → P (fetches F p r ∷ item.Op (instr.Two u r (src.Imm (Left v))) ∷ [])
-
-  abbrev Load : Type 0
-  Load = (p : Where) (r v : ℕ) → r < 16 → V v → P (fetches F p r ∷ item.Op (instr.Mov (RegAtOff r r (Left v))) ∷ [])
-
-  copy_is : (o : OpT Where) (r w : ℕ) (p : OpT Where) (c : NodesT Where) → r < 16 → V w → P (op_items W F o) → Copy → Load → P (one_or_more W F o (with_copy F r w p c))
-  copy_is o r w (TwoO u t a b) c lt fit h copy load = go (unturned (turned u) (first_place r t a b))
+  copy_is : (o : OpT Where) (r w : ℕ) (p : OpT Where) (c : NodesT Where) → r < 16 → V w → P (op_items W F o) → One → Fetched → P (one_or_more W F o (with_copy F r w p c))
+  copy_is o r w (TwoO u t a b) c lt fit h one two = go (unturned (turned u) (first_place r t a b))
     where
       go : (x : Option Where) → P (one_or_more W F o (copied F r w u x))
       go None = h
-      go (Some p) = copy u p r w lt fit
-  copy_is o r w (StepO t p n) c lt fit h copy load = go (unturned (Some IADD) (first_place r t p n))
+      go (Some p) = two p r (instr.Two u r (src.Imm (Left w))) lt (lt, fit)
+  copy_is o r w (StepO t p n) c lt fit h one two = go (unturned (Some IADD) (first_place r t p n))
     where
       loads : (p : Where) (b : Bool) → P (one_or_more W F o (Some (cond b (2, Some (fetch F p r), instr.Mov (RegAtOff r r (Left w))) (1, Some (fetch F p r), instr.Two IADD r (src.Imm (Left w))))))
-      loads p true = load p r w lt fit
-      loads p false = copy IADD p r w lt fit
+      loads p true = two p r (instr.Mov (RegAtOff r r (Left w))) lt (lt, lt, fit)
+      loads p false = two p r (instr.Two IADD r (src.Imm (Left w))) lt (lt, fit)
 
       go : (x : Option Where) → P (one_or_more W F o (copied_address F r w x c))
       go None = h
       go (Some p) = loads p (loads_there r c)
-  copy_is o r w _ c lt fit h copy load = h
+  copy_is o r w _ c lt fit h one two = h
 
-  sum_is : (o : OpT Where) (r : ℕ) (s : Option (ℕ × ℕ)) (other : Option (ℕ × Option (Instr Imm) × Instr Imm)) (c : NodesT Where) → r < 16 → Fits V s → P (one_or_more W F o other) → Lea → Mov → P (one_or_more W F o (with_sum r s other c))
-  sum_is o r None other c lt fit h lea mov = h
-  sum_is o r (Some (q, v)) other c lt fit h lea mov = go (loads_there r c)
+  sum_is : (o : OpT Where) (r : ℕ) (s : Option (ℕ × ℕ)) (other : Option (ℕ × Option (Instr Imm) × Instr Imm)) (c : NodesT Where) → r < 16 → Fits V s → P (one_or_more W F o other) → One → P (one_or_more W F o (with_sum r s other c))
+  sum_is o r None other c lt fit h one = h
+  sum_is o r (Some (q, v)) other c lt fit h one = go (loads_there r c)
     where
       go : (b : Bool) → P (one_or_more W F o (Some (cond b (2, None, instr.Mov (RegAtOff r q (Left v))) (1, None, instr.Lea r q (Some (Left v))))))
-      go true = mov r q v lt fit.0 fit.1
-      go false = lea r q v lt fit.0 fit.1
+      go true = one (instr.Mov (RegAtOff r q (Left v))) (lt, fit.0, fit.1)
+      go false = one (instr.Lea r q (Some (Left v))) (lt, fit.0, fit.1)
 
-  word_is : (o : OpT Where) (s : Option (ℕ × ℕ)) (p : OpT Where) (c : NodesT Where) → Puts V s → P (op_items W F o) → Lea → Mov → Copy → Load → P (one_or_more W F o (with_word F s p c))
-  word_is o None p c fit h lea mov copy load = h
-  word_is o (Some (r, w)) p c fit h lea mov copy load = sum_is o r (summed r w p) (with_copy F r w p c) c fit.0 (summed_fits V r w p fit.1 fit.2) (copy_is o r w p c fit.0 fit.1 h copy load) lea mov
+  word_is : (o : OpT Where) (s : Option (ℕ × ℕ)) (p : OpT Where) (c : NodesT Where) → Puts V s → P (op_items W F o) → One → Fetched → P (one_or_more W F o (with_word F s p c))
+  word_is o None p c fit h one two = h
+  word_is o (Some (r, w)) p c fit h one two = sum_is o r (summed r w p) (with_copy F r w p c) c fit.0 (summed_fits V r w p fit.1 fit.2) (copy_is o r w p c fit.0 fit.1 h one two) one
 
-  -- what holds of the items of an operation, and of each such instruction, holds of what is done
-  pub one_or_more_is : (o : OpT Where) (c : NodesT Where) → ((t : Where) (n : ℕ) → o ≡ ConstO t n → V n × V (sub 0 n)) → ((t : Where) (k : ℕ) → o ≡ GlobalO t k → V (get_or W.globals k 0) × V (sub 0 (get_or W.globals k 0))) → P (op_items W F o) → Lea → Mov → Copy → Load → P (one_or_more W F o (in_one W F o c))
+  -- ---- a known word in a register that is spare
+
+  -- behind what comes first, where there is something
+  brought_is : (p : Where) (r : ℕ) (i : Instr Imm) → r < 16 → TakesWord V i → One → Fetched → P (before_it (brought F p r) ++ item.Op i ∷ [])
+  brought_is (Reg q) r i lt t one two = one i t
+  brought_is (Slot k) r i lt t one two = two (Slot k) r i lt t
+
+  either_is : (p a : Where) (i : Instr Imm) → TakesWord V i → One → Fetched → P (before_it (either (brought F p 9) (brought F a 10)) ++ item.Op i ∷ [])
+  either_is (Reg q) a i t one two = brought_is a 10 i (omega arith) t one two
+  either_is (Slot k) a i t one two = two (Slot k) 9 i (omega arith) t
+
+  taken_is : (p : Where) (r : ℕ) (i : Instr Imm) → r < 16 → TakesWord V i → One → Fetched → P (before_it (taken F p r) ++ item.Op i ∷ [])
+  taken_is p r i lt t one two = go (is_in p r)
+    where
+      go : (b : Bool) → P (before_it (cond b None (Some (fetch F p r))) ++ item.Op i ∷ [])
+      go true = one i t
+      go false = two p r i lt t
+
+  hand_low : (p : Where) (r : ℕ) → r < 16 → hand p r < 16
+  hand_low (Reg q) r lt = omega arith
+  hand_low (Slot k) r lt = lt
+
+  added_is : (o : TwoOf) (w : ℕ) → V w → V (sub 0 w) → (v : ℕ) → added o w ≡ Some v → V v
+  added_is IADD w h g v e = let n : w ≡ v = cc in subst V n h
+  added_is ISUB w h g v e = let n : sub 0 w ≡ v = cc in subst V n g
+  added_is _ w h g v e = absurd cc
+
+  known_is : (o : TwoOf) (t : ℕ) (p : Where) (w : ℕ) (z : Option ℕ) → t < 16 → V w → ((v : ℕ) → z ≡ Some v → V v) → One → Fetched → P (before_it (known F o t p w z).0 ++ item.Op (known F o t p w z).1 ∷ [])
+  known_is o t (Reg q) w (Some v) lt h g one two = one (instr.Lea t (register q) (Some (Left v))) (lt, omega arith, g v refl)
+  known_is o t (Reg q) w None lt h g one two = taken_is (Reg q) t (instr.Two o t (src.Imm (Left w))) lt (lt, h) one two
+  known_is o t (Slot k) w (Some v) lt h g one two = taken_is (Slot k) t (instr.Two o t (src.Imm (Left w))) lt (lt, h) one two
+  known_is o t (Slot k) w None lt h g one two = taken_is (Slot k) t (instr.Two o t (src.Imm (Left w))) lt (lt, h) one two
+
+  -- the registers of what is done with it
+  abbrev Low : Used → Type 0
+  Low (Computed o t p) = t < 16
+  Low (Loaded t p) = t < 16
+  Low (Stored p a) = Unit {0}
+  Low (Sent port) = Unit {0}
+
+  used_is : (w : ℕ) (u : Used) → Low u → V w → V (sub 0 w) → One → Fetched → P (before_it (using_it F w u).0 ++ item.Op (using_it F w u).1 ∷ [])
+  used_is w (Computed o t p) lt h g one two = known_is o t p w (added o w) lt h (added_is o w h g) one two
+  used_is w (Loaded t None) lt h g one two = one (instr.Mov (RegAt t (Left w))) (lt, h)
+  used_is w (Loaded t (Some p)) lt h g one two = brought_is p 9 (instr.Mov (RegAtOff t (hand p 9) (Left w))) (omega arith) (lt, hand_low p 9 (omega arith), h) one two
+  used_is w (Stored None a) lt h g one two = brought_is a 10 (instr.Mov (AtReg (Left w) (hand a 10))) (omega arith) (hand_low a 10 (omega arith), h) one two
+  used_is w (Stored (Some p) a) lt h g one two = either_is p a (instr.Mov (AtOffReg (hand p 9) (Left w) (hand a 10))) (hand_low p 9 (omega arith), hand_low a 10 (omega arith), h) one two
+  used_is w (Sent port) lt h g one two = one (instr.Out (emitted.port port) (src.Imm (Left w))) (omega arith, h)
+
+  -- they are below 16
+  abbrev AllLow : Option (ℕ × Used) → Type 0
+  AllLow None = Unit {0}
+  AllLow (Some (k, u)) = Low u
+
+  if_low : (b : Bool) (x : Option (ℕ × Used)) → AllLow x → AllLow (cond b None x)
+  if_low true x h = tt
+  if_low false x h = h
+
+  when_low : (b : Bool) (x : Option (ℕ × Used)) → AllLow x → AllLow (cond b x None)
+  when_low true x h = h
+  when_low false x h = tt
+
+  computed_low : (t : Where) (x : Option (TwoOf × Where)) → AllLow (spare.computed t x)
+  computed_low (Reg t) (Some (o, p)) = if_low (register t == 8) (Some (1, Computed o (register t) p)) (omega arith)
+  computed_low (Reg t) None = tt
+  computed_low (Slot k) x = tt
+
+  address_low : (k : ℕ) (p : Option Where) (c : NodesT Where) → AllLow (at_address k p c)
+  address_low k p (Do (LoadO (Reg t) q) c) = when_low (is_in q 8 && not (register t == 8)) (Some (k, Loaded (register t) p)) (omega arith)
+  address_low k p (Do (StoreO q a) c) = when_low (is_in q 8 && not (is_in a 8)) (cond (in_slots p a) None (Some (k, Stored p a))) (if_low (in_slots p a) (Some (k, Stored p a)) tt)
+  address_low k p _ = tt
+
+  sum_low : (p : Option Where) (c : NodesT Where) → AllLow (at_sum p c)
+  sum_low None c = tt
+  sum_low (Some p) c = address_low 2 (Some p) c
+
+  pub used_low : (c : NodesT Where) → AllLow (used_by c)
+  used_low (Do (TwoO o t p q) c) = computed_low t (operand o p q)
+  used_low (Do (StepO t p q) c) = go (is_in t 8)
+    where
+      go : (b : Bool) → AllLow (cond b (at_sum (beside p q) c) (spare.computed t (operand IADD p q)))
+      go true = sum_low (beside p q) c
+      go false = computed_low t (operand IADD p q)
+  used_low (Do (OutO port p) c) = when_low (is_in p 8) (Some (1, Sent port)) tt
+  used_low c = address_low 1 None c
+
+  with_known_is : (o : OpT Where) (s : Option (ℕ × ℕ)) (x : Option (ℕ × Used)) → AllLow x → Puts V s → P (op_items W F o) → One → Fetched → P (one_or_more W F o (with_known F s x))
+  with_known_is o None x low fit h one two = h
+  with_known_is o (Some (r, w)) None low fit h one two = h
+  with_known_is o (Some (r, w)) (Some (k, u)) low fit h one two = used_is w u low fit.1 fit.2 one two
+
+  more_is : (o : OpT Where) (s : Option (ℕ × ℕ)) (p : OpT Where) (c : NodesT Where) → Puts V s → P (op_items W F o) → One → Fetched → P (one_or_more W F o (with_more F s p c))
+  more_is o s p c fit h one two = go (is_spared F s)
+    where
+      go : (b : Bool) → P (one_or_more W F o (cond b (with_known F s (used_by (Do p c))) (with_word F s p c)))
+      go true = with_known_is o s (used_by (Do p c)) (used_low (Do p c)) fit h one two
+      go false = word_is o s p c fit h one two
+
+  -- what holds of the items of an operation, and of each such instruction, alone and behind one that fetches a word, holds of what is done
+  pub one_or_more_is : (o : OpT Where) (c : NodesT Where) → ((t : Where) (n : ℕ) → o ≡ ConstO t n → V n × V (sub 0 n)) → ((t : Where) (k : ℕ) → o ≡ GlobalO t k → V (get_or W.globals k 0) × V (sub 0 (get_or W.globals k 0))) → P (op_items W F o) → One → Fetched → P (one_or_more W F o (in_one W F o c))
   unfolding in_one
-  one_or_more_is o (Do p c) f g h lea mov copy load = word_is o (word_put W o) p c (put_is V W o f g) h lea mov copy load
-  one_or_more_is o _ f g h lea mov copy load = h
+  one_or_more_is o (Do p c) f g h one two = more_is o (word_put W o) p c (put_is V W o f g) h one two
+  one_or_more_is o _ f g h one two = h

@@ -25,7 +25,8 @@ use Rattle.mid_code.specs.declared.placed.Where.{Where}
 use Rattle.mid_code.specs.declared.placed.Where.TheVariants.{Reg, Slot}
 use Rattle.mid_code.specs.Code.{OpT, TwoO, StepO, LoadO}
 use Rattle.mid_code.specs.States.{op_weight}
-use Rattle.asm_laws.specs.Operations.{Frame, Whole, register, fetch, fetches, is_in, other_word, first_word, summed, first_place, unturned}
+use Rattle.asm_laws.specs.Operations.{Frame, Whole, fetch, fetches, other_word, first_word, summed, first_place, unturned}
+use Rattle.asm_laws.specs.Pieces.{register, is_in}
 use Rattle.asm_laws.specs.Placing.{Line}
 use Rattle.asm_laws.specs.Standing.{Stand}
 use Rattle.asm_laws.specs.Addresses.{Addr, Console, readable, word_of, put, Room, Good, GoodOp, Goes, computed, loaded, does, Held, Follows}
@@ -76,7 +77,7 @@ thrice k x y z a = λ i. record a { regs = λ q. written_thrice i q }
     written_thrice : written (written (written a.regs k z) k y) k x ≡ written (written a.regs k y) k x
     written_thrice = λ i q. (sym (twice (written a.regs k z) k x y q) ∙ sym (twice a.regs k x z q) ∙ twice a.regs k x y q) i
 
-less_is : (x w : ℕ) → sub x w ≡ add x (sub 0 w)
+pub less_is : (x w : ℕ) → sub x w ≡ add x (sub 0 w)
 less_is x w = omega arith
 
 module _ (C : Console) (address : List ℕ → ℕ) (W : Whole) (F : Frame) (a : Addr) where

@@ -9,10 +9,13 @@ use Rattle.kit_base.specs.Word.{add}
 use Rattle.either.specs.declared.Either.TheVariants.{Left}
 use Rattle.v32_isa.specs.declared.instruction.Plain.TheVariants.{RET}
 use Rattle.v32_isa.specs.declared.instruction.One.{One as OneOf}
+use Rattle.v32_isa.specs.declared.instruction.Mov.TheVariants.{RegAt, RegAtOff, AtReg, AtOffReg}
 use Rattle.v32_isa.specs.declared.instruction.Two.{Two as TwoOf}
 use Rattle.v32_isa.specs.declared.instruction.Two.TheVariants.{IADD, ISUB}
 use Rattle.v32_isa.specs.declared.instruction.Src.TheVariants as src
+use Rattle.v32_isa.specs.declared.instruction.Instr.{Instr}
 use Rattle.v32_isa.specs.declared.instruction.Instr.TheVariants as instr
+use Rattle.asm_items.specs.Items.{Imm}
 use Rattle.asm_items.specs.declared.item.AsmItem.{AsmItem}
 use Rattle.asm_items.specs.declared.item.AsmItem.TheVariants as item
 use Rattle.assembler.specs.Faults.{twice_from, unknown_from, past_from, fault_of}
@@ -28,7 +31,8 @@ use Rattle.mid_code.specs.Runs.{weight}
 use Rattle.asm_laws.specs.Labelled.{HasLabel}
 use Rattle.asm_laws.specs.Names.{jump_label, literal_label, function_label}
 use Rattle.asm_laws.specs.Moves.{Move, in_order}
-use Rattle.asm_laws.specs.Operations.{Frame, Whole, register, keep, fetches, keeps, keeps_some, is_in, hand, brings, takes, aim, lays, moves, changes, is_direct, in_place, apart, turned, is_turned, turned_or_apart, computes, slot_arg, slot_args, moved_items, args_items, call_items, op_items, in_one, one_or_more, more_of, giving, start_frame, literal_items, literals_items}
+use Rattle.asm_laws.specs.Operations.{Frame, Whole, keep, fetches, keeps, keeps_some, hand, brings, takes, aim, lays, moves, changes, is_direct, in_place, apart, is_turned, turned_or_apart, computes, slot_arg, slot_args, moved_items, args_items, call_items, op_items, in_one, one_or_more, more_of, giving, start_frame, literal_items, literals_items}
+use Rattle.asm_laws.specs.Pieces.{register, is_in, turned}
 use Rattle.asm_laws.specs.Framing.{frame_made, frame_gone}
 use Rattle.asm_laws.proofs.Leaving.{left_is}
 use Rattle.asm_laws.specs.declared.behind.Behind.{Behind}
@@ -36,7 +40,7 @@ use Rattle.asm_laws.specs.declared.behind.Behind.TheVariants.{Other, End, Turn}
 use Rattle.asm_laws.specs.inner.Emitted.{labels, functions_labels, enclosing, jump, jump_unless, mark, first_part, second_part, choice, one_way, alone, left_to, ends, jump_when, is_stop, enclosed, returning, items_past, code_items, entry_items, exit_items, function_items, functions_items, closing_items, start_items, program_items, inside, is_end, is_turn, again, rotated, looped, is_tested, part_items, test_items}
 use Rattle.asm_laws.proofs.Programs.{mapped_from}
 use Rattle.asm_laws.proofs.Walked.{total_more}
-use Rattle.asm_laws.proofs.InOne.{one_or_more_is}
+use Rattle.asm_laws.proofs.InOne.{TakesWord, one_or_more_is}
 use Rattle.asm_laws.proofs.Enclosing.{innermost, further}
 use Rattle.asm_laws.proofs.LabelKinds.{Differ}
 use Rattle.asm_laws.proofs.Sizes.{text_words, Counts, program_size, program_few, few_texts}
@@ -203,8 +207,18 @@ module _ (x : CodeT Where) (W : Whole) (Q : List ℕ → Type 0) (of_function : 
   op_uses m F WaitO ok = (tt, tt)
   op_uses m F HaltO ok = (tt, tt)
 
+  taking_uses : (i : Instr Imm) → TakesWord (λ v. Unit {0}) i → Uses Q (item.Op i ∷ [])
+  taking_uses (instr.Lea r q (Some (Left v))) h = (tt, tt)
+  taking_uses (instr.Two o r (src.Imm (Left v))) h = (tt, tt)
+  taking_uses (instr.Mov (RegAt r (Left v))) h = (tt, tt)
+  taking_uses (instr.Mov (RegAtOff r q (Left v))) h = (tt, tt)
+  taking_uses (instr.Mov (AtReg (Left v) r)) h = (tt, tt)
+  taking_uses (instr.Mov (AtOffReg q (Left v) r)) h = (tt, tt)
+  taking_uses (instr.Out port (src.Imm (Left v))) h = (tt, tt)
+  taking_uses _ h = absurd h
+
   one_uses : (m : ℕ) (F : Frame) (o : OpT Where) (c : NodesT Where) → IsOp x m o → Uses Q (one_or_more W F o (in_one W F o c))
-  one_uses m F o c ok = one_or_more_is W F (Uses Q) (λ v. Unit {0}) o c (λ t n e. (tt, tt)) (λ t k e. (tt, tt)) (op_uses m F o ok) (λ r q v lr lq h. (tt, tt)) (λ r q v lr lq h. (tt, tt)) (λ u p r v lr h. (fetch_uses F p r, (tt, tt))) (λ p r v lr h. (fetch_uses F p r, (tt, tt)))
+  one_uses m F o c ok = one_or_more_is W F (Uses Q) (λ v. Unit {0}) o c (λ t n e. (tt, tt)) (λ t k e. (tt, tt)) (op_uses m F o ok) taking_uses (λ p r i lt h. (fetch_uses F p r, taking_uses i h))
 
   call_uses : (F : Frame) (t : Option Where) (g : ℕ) (args : List Where) → g < length x.functions → Uses Q (call_items W F t g args)
   call_uses F t g args ok = uses_append Q (args_items F (W.frames g) (W.params g) args) _ (args_uses F (W.frames g) (W.params g) args) (of_function g ok, some_uses F t)

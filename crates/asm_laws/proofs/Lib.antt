@@ -8,6 +8,9 @@ pub mod OperationsStep
 pub mod InOneStep
 pub mod Lists
 pub mod First
+pub mod Alongside
+pub mod Spared
+pub mod UsedStep
 pub mod Change
 pub mod Covered
 pub mod Fresh

@@ -28,7 +28,8 @@ use Rattle.asm_items.specs.declared.item.AsmItem.TheVariants as item
 use Rattle.mid_code.specs.declared.placed.Where.{Where}
 use Rattle.mid_code.specs.declared.placed.Where.TheVariants.{Reg, Slot}
 use Rattle.mid_code.specs.Invariants.{in_registers, AreDifferent}
-use Rattle.asm_laws.specs.Operations.{Frame, register, arg_word, fetch, hand, brings, slot_arg, slot_args, moved_items, args_items}
+use Rattle.asm_laws.specs.Operations.{Frame, arg_word, fetch, hand, brings, slot_arg, slot_args, moved_items, args_items}
+use Rattle.asm_laws.specs.Pieces.{register}
 use Rattle.asm_laws.specs.Moves.{Move, in_order}
 use Rattle.asm_laws.specs.Placing.{Line}
 use Rattle.asm_laws.specs.Standing.{Stand}

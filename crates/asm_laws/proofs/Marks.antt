@@ -15,7 +15,8 @@ use Rattle.mid_code.specs.declared.placed.Where.TheVariants.{Reg, Slot}
 use Rattle.mid_code.specs.Code.{OpT, ConstO, NullO, MoveO, OneO, TwoO, GlobalO, LocalO, LiteralO, CardO, StepO, ApartO, PtrTestO, LoadO, StoreO, FreshO, EndO, InO, OutO, WaitO, HaltO, NodesT, Stop, Do, Call, Choose, Block, Loop, Leave, Again, Return, FunctionT, CodeT}
 use Rattle.asm_laws.specs.Names.{function_label, literal_label}
 use Rattle.asm_laws.specs.Moves.{Move, in_order}
-use Rattle.asm_laws.specs.Operations.{Frame, Whole, register, keep, fetches, keeps_some, is_in, hand, brings, takes, aim, lays, moves, changes, is_direct, in_place, apart, turned, is_turned, turned_or_apart, computes, slot_arg, slot_args, moved_items, args_items, call_items, op_items, in_one, one_or_more, more_of, giving, start_frame, literal_items, literals_items}
+use Rattle.asm_laws.specs.Operations.{Frame, Whole, keep, fetches, keeps_some, hand, brings, takes, aim, lays, moves, changes, is_direct, in_place, apart, is_turned, turned_or_apart, computes, slot_arg, slot_args, moved_items, args_items, call_items, op_items, in_one, one_or_more, more_of, giving, start_frame, literal_items, literals_items}
+use Rattle.asm_laws.specs.Pieces.{register, is_in, turned}
 use Rattle.asm_laws.specs.Framing.{frame_made, frame_gone}
 use Rattle.asm_laws.specs.declared.behind.Behind.{Behind}
 use Rattle.asm_laws.specs.declared.behind.Behind.TheVariants.{Other, End, Turn}
@@ -193,7 +194,7 @@ module _ (W : Whole) (differ : Differ W.names) where
   op_bare F HaltO = tt
 
   one_bare : (F : Frame) (o : OpT Where) (c : NodesT Where) → Bare (one_or_more W F o (in_one W F o c))
-  one_bare F o c = one_or_more_is W F (λ xs. Bare xs) (λ v. Unit {0}) o c (λ t n e. (tt, tt)) (λ t k e. (tt, tt)) (op_bare F o) (λ r q v lr lq h. tt) (λ r q v lr lq h. tt) (λ u p r v lr h. tt) (λ p r v lr h. tt)
+  one_bare F o c = one_or_more_is W F (λ xs. Bare xs) (λ v. Unit {0}) o c (λ t n e. (tt, tt)) (λ t k e. (tt, tt)) (op_bare F o) (λ i h. tt) (λ p r i lt h. tt)
 
   call_bare : (F : Frame) (t : Option Where) (g : ℕ) (args : List Where) → Bare (call_items W F t g args)
   call_bare F t g args = names_append (λ m. ⊥) (args_items F (W.frames g) (W.params g) args) _ (args_bare F (W.frames g) (W.params g) args) (some_bare F t)

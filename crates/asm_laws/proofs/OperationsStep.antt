@@ -37,7 +37,8 @@ use Rattle.mid_code.specs.declared.placed.Where.TheVariants.{Reg, Slot}
 use Rattle.mid_code.specs.Code.{OpT, ConstO, NullO, MoveO, OneO, TwoO, GlobalO, LocalO, LiteralO, CardO, StepO, ApartO, PtrTestO, LoadO, StoreO, FreshO, EndO, InO, OutO, WaitO, HaltO}
 use Rattle.mid_code.specs.States.{op_weight}
 use Rattle.asm_laws.specs.Names.{literal_label}
-use Rattle.asm_laws.specs.Operations.{Frame, Whole, register, local_word, fetch, keep, fetches, keeps, is_in, hand, brings, takes, aim, lays, sets, moves, changes, is_direct, in_place, apart, turned, is_turned, turned_or_apart, computes, op_items}
+use Rattle.asm_laws.specs.Operations.{Frame, Whole, local_word, fetch, keep, fetches, keeps, hand, brings, takes, aim, lays, sets, moves, changes, is_direct, in_place, apart, is_turned, turned_or_apart, computes, op_items}
+use Rattle.asm_laws.specs.Pieces.{register, is_in, turned}
 use Rattle.asm_laws.specs.Operations as emitted
 use Rattle.asm_laws.specs.Placing.{Line}
 use Rattle.asm_laws.specs.Standing.{Stand}
@@ -104,7 +105,7 @@ direct (Slot k) b e = absurd cc
 -- ---- operators with their words the other way round
 
 -- such an operator makes the same of them
-abbrev TurnsTo : TwoOf → Option TwoOf → Type 0
+abbrev pub TurnsTo : TwoOf → Option TwoOf → Type 0
 TurnsTo o None = Unit {0}
 TurnsTo o (Some u) = (x y : ℕ) → two_of u y x ≡ two_of o x y
 
@@ -126,7 +127,7 @@ equal_turned x y = elim (same_or_not y x) [
   ]
 ]
 
-turns : (o : TwoOf) → TurnsTo o (turned o)
+pub turns : (o : TwoOf) → TurnsTo o (turned o)
 turns IEQ = λ x y. ap (λ b. Some (bool_word b)) (equal_turned x y)
 turns INE = λ x y. ap (λ b. Some (bool_word (not b))) (equal_turned x y)
 turns IGT = λ x y. refl

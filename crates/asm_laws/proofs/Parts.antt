@@ -1,6 +1,6 @@
 -- The parts of placed code but calls are followed.
-use Rattle.std.proofs.Common.{◌≡◌, ℕ, zero, suc, ◌+◌, ◌<◌, ◌≤◌, ◌⊎◌, inl, inr, Bool, true, false, cond, List, [], length, Option, Some, None, refl, sym, ap, ◌∙◌, subst, arith, append-nil}
-use Rattle.std.specs.Prelude.{if◌then◌else◌, ◌==◌, get_or}
+use Rattle.std.proofs.Common.{◌≡◌, ℕ, zero, suc, ◌+◌, ◌<◌, ◌≤◌, ◌⊎◌, inl, inr, Bool, true, false, cond, List, [], ◌∷◌, ◌++◌, length, Option, Some, None, refl, sym, ap, ◌∙◌, subst, arith, append-nil}
+use Rattle.std.specs.Prelude.{if◌then◌else◌, ◌==◌, ◌&&◌, not, get_or, option_map}
 use Rattle.either.specs.declared.Either.TheVariants.{Left}
 use Rattle.kit_base.specs.Word.{add}
 use Rattle.v32_isa.specs.declared.instruction.Go.TheVariants.{JMP}
@@ -11,7 +11,14 @@ use Rattle.v32_isa.specs.declared.instruction.Instr.{Instr}
 use Rattle.v32_isa.specs.declared.instruction.Two.TheVariants.{IADD}
 use Rattle.v32_isa.specs.declared.instruction.Instr.TheVariants as instr
 use Rattle.v32_isa.specs.declared.stepped.Stepped.TheVariants as stepped
-use Rattle.v32_isa.specs.State.{register_of, going_to}
+use Rattle.v32_isa.specs.State.{register_of, going_to, written}
+use Rattle.v32_isa.specs.Arithmetic.{two_of}
+use Rattle.v32_isa.specs.declared.instruction.Two.{Two as TwoOf}
+use Rattle.kit_base.specs.declared.event.Event.TheVariants as event
+use Rattle.std.proofs.lemmas.Bool.{eqb-true}
+use Rattle.asm_items.specs.declared.item.AsmItem.TheVariants as item
+use Rattle.mid_code.specs.Code.{uses, maybe}
+use Rattle.mid_code.specs.Invariants.{AllOf}
 use Rattle.v32_isa.specs.State as machine
 use Rattle.v32_isa.specs.Machine.{act, effect_of}
 use Rattle.v32_isa.specs.Machine.Effect.{Ends as EndsIn}
@@ -25,21 +32,29 @@ use Rattle.obj_mem.specs.declared.cell.Cell.TheVariants.{Unwritten, Num, Ptr, Nu
 use Rattle.obj_mem.specs.Runs.{Ending, Halted, Fault, Starved, Stray, Deep, OutOfBound}
 use Rattle.asm_items.specs.Items.{Imm}
 use Rattle.mid_code.specs.declared.placed.Where.{Where}
-use Rattle.mid_code.specs.declared.placed.Where.TheVariants.{Reg}
+use Rattle.mid_code.specs.declared.placed.Where.TheVariants.{Reg, Slot}
 use Rattle.mid_code.specs.Code.{NodesT, Stop, Do, Call, Choose, Block, Loop, Leave, Again, Return, OpT, ConstO, NullO, MoveO, OneO, TwoO, GlobalO, LocalO, LiteralO, CardO, StepO, ApartO, PtrTestO, LoadO, StoreO, FreshO, EndO, InO, OutO, WaitO, HaltO}
 use Rattle.mid_code.specs.Meaning.{Did, On, Ends, node_weight}
 use Rattle.mid_code.specs.States.{State, spent, op_weight, word_tested, registers_and_slots, acted}
-use Rattle.asm_laws.specs.Operations.{Frame, register, fetch, hand, turned, word_put, summed, loads_there, first_place, unturned, copied, copied_address, with_copy, with_sum, with_word, in_one, one_or_more, more_of}
+use Rattle.asm_laws.specs.Operations.{Frame, fetch, hand, word_put, summed, loads_there, first_place, unturned, copied, copied_address, with_copy, with_sum, with_word, using_it, is_spared, with_known, with_more, in_one, before_it, one_or_more, more_of}
+use Rattle.asm_laws.specs.declared.used.Used.{Used}
+use Rattle.asm_laws.specs.declared.used.Used.TheVariants.{Computed, Loaded, Stored, Sent}
+use Rattle.asm_laws.specs.Spare.{beside, operand, in_slots, at_address, at_sum, used_by, puts, Stays, Sparing}
+use Rattle.asm_laws.specs.Spare as groups
+use Rattle.asm_laws.specs.Pieces.{register, is_in, turned}
 use Rattle.asm_laws.specs.Placing.{Line, Jumps, Passes}
 use Rattle.asm_laws.specs.inner.Following.{Begin, begin, spare, Came, Stopped, DidSim, TestSim, did_then, front_acts}
 use Rattle.asm_laws.specs.Standing.{Stand}
 use Rattle.asm_laws.specs.Tests.{Tests}
-use Rattle.asm_laws.specs.Addresses.{Addr, Does, Console, word_of, Room, Good, GoodOp, Held, Follows, does}
+use Rattle.asm_laws.specs.Addresses.{Addr, Does, Console, readable, writable, word_of, put, having, Room, Good, GoodOp, computed, loaded, saved, Held, Follows, does}
 use Rattle.asm_laws.specs.Addresses as words
-use Rattle.asm_laws.proofs.Stepping.{same_or_not, line_effect, line_turn, took, scratch, moved, reg_same, fetches_so}
+use Rattle.asm_laws.proofs.Stepping.{same_or_not, written_same, written_other, line_effect, line_turn, took, scratch, moved, reg_same, fetches_so}
 use Rattle.asm_laws.proofs.Control.{earlier_did}
 use Rattle.asm_laws.proofs.Hands.{with_reg, hand_fits, brings_at}
-use Rattle.asm_laws.proofs.OperationsStep.{op_follows}
+use Rattle.asm_laws.proofs.OperationsStep.{op_follows, sum_turned, TurnsTo, turns}
+use Rattle.asm_laws.proofs.Alongside.{Alongside, word_alike, written_alike, computed_alike, loaded_alike, saved_alike, does_alongside}
+use Rattle.asm_laws.proofs.Spared.{FrontStays, other_stays, uses_stay, old_stays, spared_is}
+use Rattle.asm_laws.proofs.UsedStep.{address_with, computed_follows, loaded_follows, stored_follows, sent_follows}
 use Rattle.asm_laws.proofs.InOneStep.{Sums, sums, lea_follows, load_follows, Copies, copies, Stepped, step_is, two_copied, step_copied, load_copied}
 use Rattle.asm_laws.specs.Holds.{Setting, sizes, Named, Fits, Ctx, Stands}
 use Rattle.asm_laws.specs.Acting.{Holds, DoesAs, Fitting, FrontFits}
@@ -114,43 +129,53 @@ module _ (S : Setting) (fits : Fits S) where
   good_op κ WaitO g = tt
   good_op κ HaltO g = tt
 
-  stopped : (κ : Ctx) (s t : State Where) (m : machine.State) (a : Addr) (w : ℕ) (f : Ending) (how end : runs.End) → how ≡ end → Holds S κ t a → t.world.events ≡ s.world.events → t.world.work ≡ s.world.work + w → words.HasEnded C w m s.world.store.answers how a → Stopped (holder S) m (begin (holder S) s) t end
-  stopped κ s t m a w f how end e h ev wk f1 = record {
+  abbrev Number : Ctx → ℕ
+  Number κ = (S.whole.frames κ.fn).registers
+
+  abbrev AreLike : Ctx → (ℕ → ℕ) → Addr → Type 0
+  AreLike κ registers a = (r : ℕ) → r < (S.whole.frames κ.fn).registers → registers r ≡ a.regs r
+
+  stopped : (κ : Ctx) (s t : State Where) (m : machine.State) (a : Addr) (registers : ℕ → ℕ) (w : ℕ) (f : Ending) (how end : runs.End) → AreLike κ registers a → how ≡ end → Holds S κ t a → t.world.events ≡ s.world.events → t.world.work ≡ s.world.work + w → words.HasEnded C w m s.world.store.answers how (having registers a) → Stopped (holder S) m (begin (holder S) s) t end
+  stopped κ s t m a registers w f how end like e h ev wk f1 = record {
     steps = f1.steps;
     made = [];
     to = f1.to;
     nested = f1.nested;
     by = λ n. f1.by n ∙ ap (λ x. record { events = []; end = x; state = f1.to }) e;
-    held = record { context = κ; shown = f1.shown; mach = record { place = h.place; words = a; at = h.at; held = f1.held }; memory = f1.memory };
+    held = record { context = κ; shown = f1.shown; mach = record { place = h.place; words = a; at = h.at; registers = registers; like = like; held = f1.held }; memory = f1.memory };
     events = ev ∙ sym (append-nil s.world.events);
     cost = omega (arith, f1.few, wk);
   }
 
-  -- what the words do is what is done to the state
-  join : (κ : Ctx) (s : State Where) (m : machine.State) (a : Addr) (w p : ℕ) (d : Did (State Where)) (e : Does) → DoesAs S κ (spent w s) a d e → Follows C w m s.world.store.answers p a e → DidSim (holder S) κ m (begin (holder S) s) p d
-  join κ s m a w p (On t) (words.Goes es ys b) g f = record {
+  -- what the words do is what is done to the state, where the machine's words do the same
+  join : (κ : Ctx) (s : State Where) (m : machine.State) (a : Addr) (registers : ℕ → ℕ) (w p : ℕ) (d : Did (State Where)) (e g : Does) → AreLike κ registers a → DoesAs S κ (spent w s) a d e → Alongside (Number κ) e g → Follows C w m s.world.store.answers p (having registers a) g → DidSim (holder S) κ m (begin (holder S) s) p d
+  join κ s m a registers w p (On t) (words.Goes es ys b) (words.Goes fs zs c) like g al f = record {
     steps = f.steps;
-    made = es;
+    made = fs;
     to = f.to;
-    by = subst (λ xs. Reaches f.steps m s.world.store.answers es f.to xs) g.answers f.by;
+    by = subst (λ xs. Reaches f.steps m s.world.store.answers fs f.to xs) (al.1 ∙ g.answers) f.by;
     at = f.at;
-    held = record { place = g.holds.place; words = b; at = g.holds.at; held = f.held };
-    events = g.events;
+    held = record { place = g.holds.place; words = b; at = g.holds.at; registers = c.regs; like = al.2.regs; held = subst (λ z. Held C z f.to) al.2.same f.held };
+    events = g.events ∙ ap (λ z. s.world.events ++ z) (sym al.0);
     cost = omega (arith, f.few, g.work);
     many = omega arith;
   }
-  join κ s m a w p (On t) (words.Ends how) g f = absurd g
-  join κ s m a w p (Ends Stray t) e g f = λ n. record { steps = 0; made = []; to = m; left = s.world.store.answers; by = (reaches_here m s.world.store.answers).runs; nested = λ ls. nested_none ls m s.world.store.answers; events = g.0 ∙ sym (append-nil s.world.events); cost = omega (arith, g.1); many = omega arith }
-  join κ s m a w p (Ends Halted t) (words.Goes es ys b) g f = absurd g
-  join κ s m a w p (Ends Halted t) (words.Ends how) g f = λ n. stopped κ s t m a w Halted how runs.Halted g.same g.holds g.events g.work f
-  join κ s m a w p (Ends (Fault k) t) (words.Goes es ys b) g f = absurd g
-  join κ s m a w p (Ends (Fault k) t) (words.Ends how) g f = λ n. stopped κ s t m a w (Fault k) how (runs.Fault k) g.same g.holds g.events g.work f
-  join κ s m a w p (Ends Starved t) (words.Goes es ys b) g f = absurd g
-  join κ s m a w p (Ends Starved t) (words.Ends how) g f = λ n. stopped κ s t m a w Starved how runs.Starved g.same g.holds g.events g.work f
-  join κ s m a w p (Ends Deep t) (words.Goes es ys b) g f = absurd g
-  join κ s m a w p (Ends Deep t) (words.Ends how) g f = absurd g.same
-  join κ s m a w p (Ends OutOfBound t) (words.Goes es ys b) g f = absurd g
-  join κ s m a w p (Ends OutOfBound t) (words.Ends how) g f = absurd g.same
+  join κ s m a registers w p (On t) (words.Goes es ys b) (words.Ends how) like g al f = absurd al
+  join κ s m a registers w p (On t) (words.Ends how) e like g al f = absurd g
+  join κ s m a registers w p (Ends Stray t) d e like g al f = λ n. record { steps = 0; made = []; to = m; left = s.world.store.answers; by = (reaches_here m s.world.store.answers).runs; nested = λ ls. nested_none ls m s.world.store.answers; events = g.0 ∙ sym (append-nil s.world.events); cost = omega (arith, g.1); many = omega arith }
+  join κ s m a registers w p (Ends Halted t) (words.Goes es ys b) e like g al f = absurd g
+  join κ s m a registers w p (Ends Halted t) (words.Ends how) (words.Goes fs zs c) like g al f = absurd al
+  join κ s m a registers w p (Ends Halted t) (words.Ends how) (words.Ends end) like g al f = λ n. stopped κ s t m a registers w Halted end runs.Halted like (al ∙ g.same) g.holds g.events g.work f
+  join κ s m a registers w p (Ends (Fault k) t) (words.Goes es ys b) e like g al f = absurd g
+  join κ s m a registers w p (Ends (Fault k) t) (words.Ends how) (words.Goes fs zs c) like g al f = absurd al
+  join κ s m a registers w p (Ends (Fault k) t) (words.Ends how) (words.Ends end) like g al f = λ n. stopped κ s t m a registers w (Fault k) end (runs.Fault k) like (al ∙ g.same) g.holds g.events g.work f
+  join κ s m a registers w p (Ends Starved t) (words.Goes es ys b) e like g al f = absurd g
+  join κ s m a registers w p (Ends Starved t) (words.Ends how) (words.Goes fs zs c) like g al f = absurd al
+  join κ s m a registers w p (Ends Starved t) (words.Ends how) (words.Ends end) like g al f = λ n. stopped κ s t m a registers w Starved end runs.Starved like (al ∙ g.same) g.holds g.events g.work f
+  join κ s m a registers w p (Ends Deep t) (words.Goes es ys b) e like g al f = absurd g
+  join κ s m a registers w p (Ends Deep t) (words.Ends how) e like g al f = absurd g.same
+  join κ s m a registers w p (Ends OutOfBound t) (words.Goes es ys b) e like g al f = absurd g
+  join κ s m a registers w p (Ends OutOfBound t) (words.Ends how) e like g al f = absurd g.same
 
   -- an operation whose words come first, and then those of the operations behind it, where the machine has not gone on yet
   passes : (κ : Ctx) (s : State Where) (m : machine.State) (a b : Addr) (w p : ℕ) (d : Did (State Where)) (go : State Where → Did (State Where)) → DoesAs S κ (spent w s) a d (words.Goes [] s.world.store.answers b) →
@@ -163,11 +188,17 @@ module _ (S : Setting) (fits : Fits S) where
   passes κ s m a b w p (Ends Deep t) go g f = absurd g
   passes κ s m a b w p (Ends OutOfBound t) go g f = absurd g
 
-  -- the last one
-  last_sim : (κ : Ctx) (p : ℕ) (o : OpT Where) (s : State Where) (m : machine.State) (a : Addr) (h : Holds S κ s a) → Fitting S κ.fn o → Follows C (op_weight o) m s.world.store.answers p a (does C S.address S.whole (Of κ) o s.world.store.answers a) → DidSim (holder S) κ m (begin (holder S) s) p ((lang S).act o s)
-  last_sim κ p o s m a h fit f =
+  -- the last one, whose words the machine makes in such a way
+  last_by : (κ : Ctx) (p : ℕ) (o : OpT Where) (s : State Where) (m : machine.State) (a : Addr) (registers : ℕ → ℕ) (e : Does) → AreLike κ registers a → (h : Holds S κ s a) → Fitting S κ.fn o →
+      Alongside (Number κ) (does C S.address S.whole (Of κ) o s.world.store.answers a) e → Follows C (op_weight o) m s.world.store.answers p (having registers a) e → DidSim (holder S) κ m (begin (holder S) s) p ((lang S).act o s)
+  last_by κ p o s m a registers e like h fit al f =
       let s1 = spent (op_weight o) s in
-      join κ s m a (op_weight o) p (acted registers_and_slots (sizes S) o s1) (does C S.address S.whole (Of κ) o s.world.store.answers a) (acts S fits κ s1 h.place a h.at o fit) f
+      join κ s m a registers (op_weight o) p (acted registers_and_slots (sizes S) o s1) (does C S.address S.whole (Of κ) o s.world.store.answers a) e like (acts S fits κ s1 h.place a h.at o fit) al f
+
+  last_sim : (κ : Ctx) (p : ℕ) (o : OpT Where) (s : State Where) (m : machine.State) (a : Addr) (registers : ℕ → ℕ) → AreLike κ registers a → (h : Holds S κ s a) → Fitting S κ.fn o → AllOf (Stays (Number κ)) (uses o) →
+      Follows C (op_weight o) m s.world.store.answers p (having registers a) (does C S.address S.whole (Of κ) o s.world.store.answers (having registers a)) → DidSim (holder S) κ m (begin (holder S) s) p ((lang S).act o s)
+  last_sim κ p o s m a registers like h fit stays f =
+      last_by κ p o s m a registers (does C S.address S.whole (Of κ) o s.world.store.answers (having registers a)) like h fit (does_alongside C S.address S.whole (Of κ) (Number κ) a registers like o s.world.store.answers stays) f
 
   none_more : (c : NodesT Where) (t : State Where) → front_acts (lang S) c zero t ≡ On t
   none_more Stop t = refl
@@ -188,6 +219,10 @@ module _ (S : Setting) (fits : Fits S) where
     abbrev a : Addr
     a = h.words
 
+    -- the words of the machine
+    abbrev b : Addr
+    b = having h.registers h.words
+
     abbrev xs : List ℕ
     xs = s.world.store.answers
 
@@ -195,10 +230,18 @@ module _ (S : Setting) (fits : Fits S) where
     abbrev Done : OpT Where → NodesT Where → Option (ℕ × Option (Instr Imm) × Instr Imm) → Type 0
     Done o c x = FrontFits S κ.fn c (more_of x) → Stand C.words S.address pc (one_or_more S.whole (Of κ) o x) p → DidSim (holder S) κ m (begin (holder S) s) p (did_then ((lang S).act o s) (front_acts (lang S) c (more_of x)))
 
-    one_done : (o : OpT Where) (c : NodesT Where) → Fitting S κ.fn o → Done o c None
-    one_done o c fit ff st =
+    -- and where the words that they read stay
+    abbrev Ready : OpT Where → NodesT Where → Option (ℕ × Option (Instr Imm) × Instr Imm) → Type 0
+    Ready o c x = FrontStays (Number κ) (Do o c) (suc (more_of x)) → Done o c x
+
+    -- the words of the address at hand
+    roomy : Room (Of κ) b
+    roomy = let r = room S fits κ s.world.store s.cells h.place h.words h.at in record { top = r.top; low = r.low; high = r.high }
+
+    one_done : (o : OpT Where) (c : NodesT Where) → Fitting S κ.fn o → AllOf (Stays (Number κ)) (uses o) → Done o c None
+    one_done o c fit stays ff st =
         alone κ m (begin (holder S) s) p c ((lang S).act o s)
-        (last_sim κ p o s m a (record { place = h.place; at = h.at }) fit (op_follows C S.address S.whole (Of κ) a (room S fits κ s.world.store s.cells h.place a h.at) o m xs pc p (good_op κ o fit) h.held e st))
+        (last_sim κ p o s m a h.registers h.like (record { place = h.place; at = h.at }) fit stays (op_follows C S.address S.whole (Of κ) b roomy o m xs pc p (good_op κ o fit) h.held e st))
 
     -- the first operation puts a word into a register
     abbrev Puts : OpT Where → (k w : ℕ) → Type 0
@@ -210,104 +253,319 @@ module _ (S : Setting) (fits : Fits S) where
         let s1 = spent (op_weight o) s in
         passes κ s m a (with_reg k w a) (op_weight o) p (acted registers_and_slots (sizes S) o s1) go (subst (λ d. DoesAs S κ s1 a (acted registers_and_slots (sizes S) o s1) d) (puts xs) (acts S fits κ s1 h.place a h.at o fit)) f
 
-    two_done : (o u : OpT Where) (c : NodesT Where) (k w q v : ℕ) → k < 9 → Fitting S κ.fn o → Puts o k w → (Fitting S κ.fn u → Sums C S.address S.whole (Of κ) a k w u q v) → Done o (Do u c) (Some (1, None, instr.Lea (register k) q (Some (Left v))))
-    two_done o u c k w q v lt fit puts is ff st =
-        put_done o k w (front_acts (lang S) (Do u c) 1) fit puts (λ t ht. alone κ m (begin (holder S) t) p c ((lang S).act u t)
-        (last_sim κ p u t m (with_reg k w a) ht ff.0 (lea_follows C S.address S.whole (Of κ) a k w u q v m t.world.store.answers pc p lt (is ff.0) h.held e st)))
+    -- the words are alike then
+    put_like : (k w : ℕ) → AreLike κ (written h.registers k w) (with_reg k w a)
+    put_like k w r lt = written_alike C S.address S.whole (Of κ) (Number κ) a h.registers h.like k w r lt
 
-    three_done : (o u : OpT Where) (c : NodesT Where) (k w q v : ℕ) → k < 9 → Fitting S κ.fn o → Puts o k w → (Fitting S κ.fn u → Sums C S.address S.whole (Of κ) a k w u q v) → loads_there (register k) c ≡ true → Done o (Do u c) (Some (2, None, instr.Mov (RegAtOff (register k) q (Left v))))
-    three_done o u (Do (LoadO (Reg t) (Reg x)) c) k w q v lt fit puts is there ff st =
-        let r = is ff.0 in
+    next_like : (k w : ℕ) (u : OpT Where) (ys : List ℕ) (c d : Addr) → AllOf (Stays (Number κ)) (uses u) → does C S.address S.whole (Of κ) u ys (with_reg k w a) ≡ words.Goes [] ys c → does C S.address S.whole (Of κ) u ys (with_reg k w b) ≡ words.Goes [] ys d → AreLike κ d.regs c
+    next_like k w u ys c d stays ec ed =
+        let al = does_alongside C S.address S.whole (Of κ) (Number κ) (with_reg k w a) (written h.registers k w) (put_like k w) u ys stays in
+        (subst (λ z. Alongside (Number κ) z (words.Goes [] ys d)) ec (subst (λ z. Alongside (Number κ) (does C S.address S.whole (Of κ) u ys (with_reg k w a)) z) ed al)).2.regs
+
+    -- a sum that an operation makes of the word put before
+    abbrev MakesSum : OpT Where → (k w q v : ℕ) → Type 0
+    MakesSum u k w q v = (c : Addr) → Fitting S κ.fn u → Sums C S.address S.whole (Of κ) c k w u q v
+
+    two_done : (o u : OpT Where) (c : NodesT Where) (k w q v : ℕ) → k < 9 → Fitting S κ.fn o → Puts o k w → MakesSum u k w q v → Ready o (Do u c) (Some (1, None, instr.Lea (register k) q (Some (Left v))))
+    two_done o u c k w q v lt fit puts is stays ff st =
+        put_done o k w (front_acts (lang S) (Do u c) 1) fit puts (λ t ht. alone κ m (begin (holder S) t) p c ((lang S).act u t)
+        (last_sim κ p u t m (with_reg k w a) (written h.registers k w) (put_like k w) ht ff.0 stays.1.0 (lea_follows C S.address S.whole (Of κ) b k w u q v m t.world.store.answers pc p lt (is b ff.0) h.held e st)))
+
+    three_done : (o u : OpT Where) (c : NodesT Where) (k w q v : ℕ) → k < 9 → Fitting S κ.fn o → Puts o k w → MakesSum u k w q v → loads_there (register k) c ≡ true → Ready o (Do u c) (Some (2, None, instr.Mov (RegAtOff (register k) q (Left v))))
+    three_done o u (Do (LoadO (Reg t) (Reg x)) c) k w q v lt fit puts is there stays ff st =
+        let r = is a ff.0 in
+        let rb = is b ff.0 in
         put_done o k w (front_acts (lang S) (Do u (Do (LoadO (Reg t) (Reg x)) c)) 2) fit puts (λ s1 h1.
         let s2 = spent (op_weight u) s1 in
         passes κ s1 m (with_reg k w a) (with_reg k (add (a.regs q) v) (with_reg k w a)) (op_weight u) p (acted registers_and_slots (sizes S) u s2) (front_acts (lang S) (Do (LoadO (Reg t) (Reg x)) c) 1)
         (subst (λ d. DoesAs S κ s2 (with_reg k w a) (acted registers_and_slots (sizes S) u s2) d) (r.so s1.world.store.answers) (acts S fits κ s2 h1.place (with_reg k w a) h1.at u ff.0))
         (λ s3 h3. alone κ m (begin (holder S) s3) p c ((lang S).act (LoadO (Reg t) (Reg x)) s3)
-        (last_sim κ p (LoadO (Reg t) (Reg x)) s3 m (with_reg k (add (a.regs q) v) (with_reg k w a)) h3 ff.1.0 (load_follows C S.address S.whole (Of κ) a 8 k w t x q v m s3.world.store.answers pc p (omega arith) lt r.low ff.1.0.0 ff.1.0.1 there h.held e st))))
-    three_done o u _ k w q v lt fit puts is there ff st = absurd cc
+        (last_sim κ p (LoadO (Reg t) (Reg x)) s3 m (with_reg k (add (a.regs q) v) (with_reg k w a)) (written (written h.registers k w) k (add (h.registers q) v))
+        (next_like k w u xs (with_reg k (add (a.regs q) v) (with_reg k w a)) (with_reg k (add (b.regs q) v) (with_reg k w b)) stays.1.0 (r.so xs) (rb.so xs)) h3 ff.1.0 stays.1.1.0
+        (load_follows C S.address S.whole (Of κ) b 8 k w t x q v m s3.world.store.answers pc p (omega arith) lt rb.low ff.1.0.0 ff.1.0.1 there h.held e st))))
+    three_done o u _ k w q v lt fit puts is there stays ff st = absurd cc
 
-    -- the words of the address at hand
-    roomy : Room (Of κ) a
-    roomy = room S fits κ s.world.store s.cells h.place a h.at
-
-    good_place : (k w : ℕ) (t x y q : Where) → Good (Of κ) x → Copies C S.address S.whole (Of κ) a k w t x y q → Good (Of κ) q
-    good_place k w t x y q g is = subst (λ z. Good (Of κ) z) (sym is.place) g
+    good_place : (c : Addr) (k w : ℕ) (t x y q : Where) → Good (Of κ) x → Copies C S.address S.whole (Of κ) c k w t x y q → Good (Of κ) q
+    good_place c k w t x y q g is = subst (λ z. Good (Of κ) z) (sym is.place) g
 
     load_done : (o : OpT Where) (t x y : Where) (c : NodesT Where) (k w : ℕ) (q : Where) → k < 9 → Fitting S κ.fn o → Puts o k w → unturned (Some IADD) (first_place (register k) t x y) ≡ Some q → loads_there (register k) c ≡ true →
-        Done o (Do (StepO t x y) c) (Some (2, Some (fetch (Of κ) q (register k)), instr.Mov (RegAtOff (register k) (register k) (Left w))))
-    load_done o t x y (Do (LoadO (Reg d) (Reg z)) c) k w q lt fit puts is there ff st =
+        Ready o (Do (StepO t x y) c) (Some (2, Some (fetch (Of κ) q (register k)), instr.Mov (RegAtOff (register k) (register k) (Left w))))
+    load_done o t x y (Do (LoadO (Reg d) (Reg z)) c) k w q lt fit puts is there stays ff st =
         let u = StepO t x y in
         let g = good_op κ u ff.0 in
         let r = copies C S.address S.whole (Of κ) a k w (Some IADD) t x y q lt g.0 g.1 g.2 is in
+        let rb = copies C S.address S.whole (Of κ) b k w (Some IADD) t x y q lt g.0 g.1 g.2 is in
         put_done o k w (front_acts (lang S) (Do u (Do (LoadO (Reg d) (Reg z)) c)) 2) fit puts (λ s1 h1.
         let s2 = spent (op_weight u) s1 in
         passes κ s1 m (with_reg k w a) (Stepped C S.address S.whole (Of κ) a k w q) (op_weight u) p (acted registers_and_slots (sizes S) u s2) (front_acts (lang S) (Do (LoadO (Reg d) (Reg z)) c) 1)
         (subst (λ d. DoesAs S κ s2 (with_reg k w a) (acted registers_and_slots (sizes S) u s2) d) (step_is C S.address S.whole (Of κ) a k w t x y q s1.world.store.answers r) (acts S fits κ s2 h1.place (with_reg k w a) h1.at u ff.0))
         (λ s3 h3. alone κ m (begin (holder S) s3) p c ((lang S).act (LoadO (Reg d) (Reg z)) s3)
-        (last_sim κ p (LoadO (Reg d) (Reg z)) s3 m (Stepped C S.address S.whole (Of κ) a k w q) h3 ff.1.0 (load_copied C S.address S.whole (Of κ) a k w d z q m s3.world.store.answers pc p lt ff.1.0.0 ff.1.0.1 roomy (good_place k w t x y q g.1 r) there h.held e st))))
-    load_done o t x y _ k w q lt fit puts is there ff st = absurd cc
+        (last_sim κ p (LoadO (Reg d) (Reg z)) s3 m (Stepped C S.address S.whole (Of κ) a k w q) (written (written h.registers k w) k (add (word_of (Of κ) q b) w))
+        (next_like k w u xs (Stepped C S.address S.whole (Of κ) a k w q) (Stepped C S.address S.whole (Of κ) b k w q) stays.1.0 (step_is C S.address S.whole (Of κ) a k w t x y q xs r) (step_is C S.address S.whole (Of κ) b k w t x y q xs rb)) h3 ff.1.0 stays.1.1.0
+        (load_copied C S.address S.whole (Of κ) b k w d z q m s3.world.store.answers pc p lt ff.1.0.0 ff.1.0.1 roomy (good_place b k w t x y q g.1 rb) there h.held e st))))
+    load_done o t x y _ k w q lt fit puts is there stays ff st = absurd cc
 
-    copy_done : (o u : OpT Where) (c : NodesT Where) (k w : ℕ) → k < 9 → Fitting S κ.fn o → Puts o k w → Done o (Do u c) (with_copy (Of κ) (register k) w u c)
+    copy_done : (o u : OpT Where) (c : NodesT Where) (k w : ℕ) → k < 9 → Fitting S κ.fn o → Puts o k w → Ready o (Do u c) (with_copy (Of κ) (register k) w u c)
     copy_done o (TwoO i t x y) c k w lt fit puts = go (unturned (turned i) (first_place (register k) t x y)) refl
       where
-        go : (q : Option Where) → unturned (turned i) (first_place (register k) t x y) ≡ q → Done o (Do (TwoO i t x y) c) (copied (Of κ) (register k) w i q)
-        go None is ff st = one_done o (Do (TwoO i t x y) c) fit ff st
-        go (Some q) is ff st =
+        go : (q : Option Where) → unturned (turned i) (first_place (register k) t x y) ≡ q → Ready o (Do (TwoO i t x y) c) (copied (Of κ) (register k) w i q)
+        go None is stays ff st = one_done o (Do (TwoO i t x y) c) fit stays.0 ff st
+        go (Some q) is stays ff st =
             let g = good_op κ (TwoO i t x y) ff.0 in
-            let r = copies C S.address S.whole (Of κ) a k w (turned i) t x y q lt g.0 g.1 g.2 is in
+            let r = copies C S.address S.whole (Of κ) b k w (turned i) t x y q lt g.0 g.1 g.2 is in
             put_done o k w (front_acts (lang S) (Do (TwoO i t x y) c) 1) fit puts
             (λ s1 h1. alone κ m (begin (holder S) s1) p c ((lang S).act (TwoO i t x y) s1)
-            (last_sim κ p (TwoO i t x y) s1 m (with_reg k w a) h1 ff.0 (two_copied C S.address S.whole (Of κ) a k w i t x y q m s1.world.store.answers pc p lt roomy (good_place k w t x y q g.1 r) r h.held e st)))
+            (last_sim κ p (TwoO i t x y) s1 m (with_reg k w a) (written h.registers k w) (put_like k w) h1 ff.0 stays.1.0 (two_copied C S.address S.whole (Of κ) b k w i t x y q m s1.world.store.answers pc p lt roomy (good_place b k w t x y q g.1 r) r h.held e st)))
     copy_done o (StepO t x y) c k w lt fit puts = go (unturned (Some IADD) (first_place (register k) t x y)) refl
       where
-        step_done : (q : Where) → unturned (Some IADD) (first_place (register k) t x y) ≡ Some q → Done o (Do (StepO t x y) c) (Some (1, Some (fetch (Of κ) q (register k)), instr.Two IADD (register k) (src.Imm (Left w))))
-        step_done q is ff st =
+        step_done : (q : Where) → unturned (Some IADD) (first_place (register k) t x y) ≡ Some q → Ready o (Do (StepO t x y) c) (Some (1, Some (fetch (Of κ) q (register k)), instr.Two IADD (register k) (src.Imm (Left w))))
+        step_done q is stays ff st =
             let g = good_op κ (StepO t x y) ff.0 in
-            let r = copies C S.address S.whole (Of κ) a k w (Some IADD) t x y q lt g.0 g.1 g.2 is in
+            let r = copies C S.address S.whole (Of κ) b k w (Some IADD) t x y q lt g.0 g.1 g.2 is in
             put_done o k w (front_acts (lang S) (Do (StepO t x y) c) 1) fit puts
             (λ s1 h1. alone κ m (begin (holder S) s1) p c ((lang S).act (StepO t x y) s1)
-            (last_sim κ p (StepO t x y) s1 m (with_reg k w a) h1 ff.0 (step_copied C S.address S.whole (Of κ) a k w t x y q m s1.world.store.answers pc p lt roomy (good_place k w t x y q g.1 r) r h.held e st)))
+            (last_sim κ p (StepO t x y) s1 m (with_reg k w a) (written h.registers k w) (put_like k w) h1 ff.0 stays.1.0 (step_copied C S.address S.whole (Of κ) b k w t x y q m s1.world.store.answers pc p lt roomy (good_place b k w t x y q g.1 r) r h.held e st)))
 
-        load_or_not : (q : Where) → unturned (Some IADD) (first_place (register k) t x y) ≡ Some q → (b : Bool) → loads_there (register k) c ≡ b →
-            Done o (Do (StepO t x y) c) (Some (cond b (2, Some (fetch (Of κ) q (register k)), instr.Mov (RegAtOff (register k) (register k) (Left w))) (1, Some (fetch (Of κ) q (register k)), instr.Two IADD (register k) (src.Imm (Left w)))))
+        load_or_not : (q : Where) → unturned (Some IADD) (first_place (register k) t x y) ≡ Some q → (there : Bool) → loads_there (register k) c ≡ there →
+            Ready o (Do (StepO t x y) c) (Some (cond there (2, Some (fetch (Of κ) q (register k)), instr.Mov (RegAtOff (register k) (register k) (Left w))) (1, Some (fetch (Of κ) q (register k)), instr.Two IADD (register k) (src.Imm (Left w)))))
         load_or_not q is true there = load_done o t x y c k w q lt fit puts is there
         load_or_not q is false there = step_done q is
 
-        go : (q : Option Where) → unturned (Some IADD) (first_place (register k) t x y) ≡ q → Done o (Do (StepO t x y) c) (copied_address (Of κ) (register k) w q c)
-        go None is ff st = one_done o (Do (StepO t x y) c) fit ff st
-        go (Some q) is ff st = load_or_not q is (loads_there (register k) c) refl ff st
-    copy_done o u c k w lt fit puts = one_done o (Do u c) fit
+        go : (q : Option Where) → unturned (Some IADD) (first_place (register k) t x y) ≡ q → Ready o (Do (StepO t x y) c) (copied_address (Of κ) (register k) w q c)
+        go None is stays ff st = one_done o (Do (StepO t x y) c) fit stays.0 ff st
+        go (Some q) is stays ff st = load_or_not q is (loads_there (register k) c) refl stays ff st
+    copy_done o u c k w lt fit puts = λ stays. one_done o (Do u c) fit stays.0
 
-    sum_done : (o u : OpT Where) (c : NodesT Where) (k w : ℕ) → k < 9 → Fitting S κ.fn o → Puts o k w → Done o (Do u c) (with_sum (register k) (summed (register k) w u) (with_copy (Of κ) (register k) w u c) c)
+    sum_done : (o u : OpT Where) (c : NodesT Where) (k w : ℕ) → k < 9 → Fitting S κ.fn o → Puts o k w → Ready o (Do u c) (with_sum (register k) (summed (register k) w u) (with_copy (Of κ) (register k) w u c) c)
     sum_done o u c k w lt fit puts = go (summed (register k) w u) refl
       where
-        load_or_not : (q v : ℕ) (is : Fitting S κ.fn u → Sums C S.address S.whole (Of κ) a k w u q v) (b : Bool) → loads_there (register k) c ≡ b → Done o (Do u c) (Some (cond b (2, None, instr.Mov (RegAtOff (register k) q (Left v))) (1, None, instr.Lea (register k) q (Some (Left v)))))
+        load_or_not : (q v : ℕ) → MakesSum u k w q v → (there : Bool) → loads_there (register k) c ≡ there → Ready o (Do u c) (Some (cond there (2, None, instr.Mov (RegAtOff (register k) q (Left v))) (1, None, instr.Lea (register k) q (Some (Left v)))))
         load_or_not q v is true there = three_done o u c k w q v lt fit puts is there
         load_or_not q v is false there = two_done o u c k w q v lt fit puts is
 
-        go : (x : Option (ℕ × ℕ)) → summed (register k) w u ≡ x → Done o (Do u c) (with_sum (register k) x (with_copy (Of κ) (register k) w u c) c)
+        go : (x : Option (ℕ × ℕ)) → summed (register k) w u ≡ x → Ready o (Do u c) (with_sum (register k) x (with_copy (Of κ) (register k) w u c) c)
         go None is = copy_done o u c k w lt fit puts
-        go (Some (q, v)) is = load_or_not q v (λ ff. sums C S.address S.whole (Of κ) a k w u q v lt (good_op κ u ff) is) (loads_there (register k) c) refl
+        go (Some (q, v)) is = load_or_not q v (λ d ff. sums C S.address S.whole (Of κ) d k w u q v lt (good_op κ u ff) is) (loads_there (register k) c) refl
 
-    word_done : (o u : OpT Where) (c : NodesT Where) → Fitting S κ.fn o → Done o (Do u c) (with_word (Of κ) (word_put S.whole o) u c)
+    word_done : (o u : OpT Where) (c : NodesT Where) → Fitting S κ.fn o → Ready o (Do u c) (with_word (Of κ) (word_put S.whole o) u c)
     unfolding does
     word_done (ConstO (Reg k) n) u c fit = sum_done (ConstO (Reg k) n) u c k n fit fit (λ ys. refl)
     word_done (GlobalO (Reg k) j) u c fit = sum_done (GlobalO (Reg k) j) u c k (get_or S.whole.globals j 0) fit.0 fit (λ ys. refl)
-    word_done o u c fit = one_done o (Do u c) fit
+    word_done o u c fit = λ stays. one_done o (Do u c) fit stays.0
 
-    done : (o : OpT Where) (c : NodesT Where) → Fitting S κ.fn o → Done o c (in_one S.whole (Of κ) o c)
+    -- ---- a known word in register 8, where that is spare
+
+    module _ (eight : (Of κ).registers ≡ 8) (o : OpT Where) (w : ℕ) (fit : Fitting S κ.fn o) (stays : AllOf (Stays (Number κ)) (uses o)) (puts : Puts o 8 w) where
+      -- the words behind operations that put words there
+      spared_like : (v : ℕ) → AreLike κ h.registers (with_reg 8 v a)
+      spared_like v r lt = h.like r lt ∙ sym (written_other a.regs 8 v r (λ z. omega (arith, lt, eight, z)))
+
+      twice_like : (v : ℕ) → AreLike κ h.registers (with_reg 8 v (with_reg 8 w a))
+      twice_like v r lt = spared_like w r lt ∙ sym (written_other (with_reg 8 w a).regs 8 v r (λ z. omega (arith, lt, eight, z)))
+
+      -- a place that is register 8, and another one
+      there : (q : Where) (v : ℕ) (c : Addr) → Named S κ.fn q → is_in q 8 ≡ true → word_of (Of κ) q (with_reg 8 v c) ≡ v
+      there (Reg r) v c n is = let z = eqb-true (register r) 8 is in written_same c.regs 8 v r (omega (arith, n, z))
+      there (Slot k) v c n is = absurd cc
+
+      elsewhere : (q : Where) → Named S κ.fn q → is_in q 8 ≡ false → word_of (Of κ) q (with_reg 8 w a) ≡ word_of (Of κ) q b
+      elsewhere q n is = sym (word_alike C S.address S.whole (Of κ) (Number κ) (with_reg 8 w a) h.registers (spared_like w) q (other_stays S κ.fn (Number κ) q eight n is))
+
+      -- what an operator makes of the word of a place and the known one
+      record Makes (u : OpT Where) (i : TwoOf) (t : ℕ) (x : Where) : Type 0 where
+        low : t < 9
+        good : Good (Of κ) x
+        so : (ys : List ℕ) → does C S.address S.whole (Of κ) u ys (with_reg 8 w a) ≡ computed (Of κ) (Reg t) (two_of i (word_of (Of κ) x b) w) ys (with_reg 8 w a)
+
+      computed_done : (u : OpT Where) (c : NodesT Where) (i : TwoOf) (t : ℕ) (x : Where) → op_weight u ≡ 8 → (Fitting S κ.fn u → Makes u i t x) → Done o (Do u c) (Some (1, (using_it (Of κ) w (Computed i (register t) x)).0, (using_it (Of κ) w (Computed i (register t) x)).1))
+      computed_done u c i t x heavy makes ff st =
+          let is = makes ff.0 in
+          put_done o 8 w (front_acts (lang S) (Do u c) 1) fit puts (λ s1 h1. alone κ m (begin (holder S) s1) p c ((lang S).act u s1)
+          (let ys = s1.world.store.answers in
+          last_by κ p u s1 m (with_reg 8 w a) h.registers (computed (Of κ) (Reg t) (two_of i (word_of (Of κ) x b) w) ys b) (spared_like w) h1 ff.0
+          (subst (λ z. Alongside (Number κ) z (computed (Of κ) (Reg t) (two_of i (word_of (Of κ) x b) w) ys b)) (sym (is.so ys))
+          (computed_alike C S.address S.whole (Of κ) (Number κ) (with_reg 8 w a) h.registers (spared_like w) (Reg t) (two_of i (word_of (Of κ) x b) w) (two_of i (word_of (Of κ) x b) w) ys refl))
+          (subst (λ n. Follows C n m ys p b (computed (Of κ) (Reg t) (two_of i (word_of (Of κ) x b) w) ys b)) (sym heavy) (computed_follows C S.address (Of κ) b roomy t i x w m ys pc p is.low is.good h.held e st))))
+
+      -- an operator, where just one of its places is register 8
+      module _ (u : OpT Where) (c : NodesT Where) (i : TwoOf) (x y : Where) (heavy : op_weight u ≡ 8) where
+        made_done : (t : ℕ) (j : TwoOf) (z : Where) → (Fitting S κ.fn u → Makes u j t z) → Done o (Do u c) (with_known (Of κ) (Some (8, w)) (groups.computed (Reg t) (Some (j, z))))
+        made_done t j z makes = go (register t == 8)
+          where
+            go : (f : Bool) → Done o (Do u c) (with_known (Of κ) (Some (8, w)) (cond f None (Some (1, Computed j (register t) z))))
+            go true = one_done o (Do u c) fit stays
+            go false = computed_done u c j t z heavy makes
+
+        operand_done : (t : Where) → (Fitting S κ.fn u → Named S κ.fn t × Named S κ.fn x × Named S κ.fn y) → ((ys : List ℕ) (d : Addr) → does C S.address S.whole (Of κ) u ys d ≡ computed (Of κ) t (two_of i (word_of (Of κ) x d) (word_of (Of κ) y d)) ys d) →
+            Done o (Do u c) (with_known (Of κ) (Some (8, w)) (groups.computed t (operand i x y)))
+        operand_done (Slot k) names is = one_done o (Do u c) fit stays
+        operand_done (Reg t) names is = go (is_in x 8) refl (is_in y 8) refl (turned i) (turns i)
+          where
+            go : (f : Bool) → is_in x 8 ≡ f → (g : Bool) → is_in y 8 ≡ g → (z : Option TwoOf) → TurnsTo i z →
+                Done o (Do u c) (with_known (Of κ) (Some (8, w)) (groups.computed (Reg t) (cond f (cond g None (option_map (λ j. (j, y)) z)) (cond g (Some (i, x)) None))))
+            go true ex true ey z turns = one_done o (Do u c) fit stays
+            go false ex false ey z turns = one_done o (Do u c) fit stays
+            go false ex true ey z turns = made_done t i x (λ ff. let n = names ff in record {
+              low = n.0;
+              good = good S fits κ x n.1;
+              so = λ ys. is ys (with_reg 8 w a) ∙ (λ f. computed (Of κ) (Reg t) (two_of i (elsewhere x n.1 ex f) (there y w a n.2 ey f)) ys (with_reg 8 w a));
+            })
+            go true ex false ey None turns = one_done o (Do u c) fit stays
+            go true ex false ey (Some j) turns = made_done t j y (λ ff. let n = names ff in record {
+              low = n.0;
+              good = good S fits κ y n.2;
+              so = λ ys. is ys (with_reg 8 w a) ∙ (λ f. computed (Of κ) (Reg t) (two_of i (there x w a n.1 ex f) (elsewhere y n.2 ey f)) ys (with_reg 8 w a)) ∙ ap (λ z. computed (Of κ) (Reg t) z ys (with_reg 8 w a)) (sym (turns w (word_of (Of κ) y b)));
+            })
+
+      -- a load or a store as the last operation, at an address in register 8
+      module _ (x : Option Where) (inner : ℕ → ℕ) (like : AreLike κ h.registers (having inner h.words)) (at : (q : Where) → Named S κ.fn q → is_in q 8 ≡ true → address_with (Of κ) x w b ≡ word_of (Of κ) q (having inner h.words)) where
+        abbrev z : Addr
+        z = having inner h.words
+
+        abbrev n : ℕ
+        n = address_with (Of κ) x w b
+
+        -- what is done by an instruction that uses the known word
+        abbrev Finish : NodesT Where → Used → Type 0
+        Finish c u = (s1 : State Where) → Holds S κ s1 (having inner h.words) → AllOf (Good (Of κ)) (maybe x) → FrontFits S κ.fn c 1 → Stand C.words S.address pc (before_it (using_it (Of κ) w u).0 ++ item.Op (using_it (Of κ) w u).1 ∷ []) p → DidSim (holder S) κ m (begin (holder S) s1) p (front_acts (lang S) c 1 s1)
+
+        loaded_last : (t : ℕ) (q : Where) (c : NodesT Where) → is_in q 8 ≡ true → Finish (Do (LoadO (Reg t) q) c) (Loaded (register t) x)
+        unfolding does
+        loaded_last t q c is s1 h1 good ff st =
+            let ys = s1.world.store.answers in
+            alone κ m (begin (holder S) s1) p c ((lang S).act (LoadO (Reg t) q) s1)
+            (last_by κ p (LoadO (Reg t) q) s1 m z h.registers (loaded (readable C n) (Of κ) (Reg t) (h.words.memory n) ys b) like h1 ff.0
+            (loaded_alike C S.address S.whole (Of κ) (Number κ) z h.registers like (Reg t) (word_of (Of κ) q z) n ys (at q ff.0.1 is))
+            (loaded_follows C S.address (Of κ) b roomy t x w m ys pc p ff.0.0 good h.held e st))
+
+        stored_last : (q y : Where) (c : NodesT Where) → is_in q 8 ≡ true → is_in y 8 ≡ false → in_slots x y ≡ false → Finish (Do (StoreO q y) c) (Stored x y)
+        unfolding does
+        stored_last q y c is other apart s1 h1 fine ff st =
+            let ys = s1.world.store.answers in
+            alone κ m (begin (holder S) s1) p c ((lang S).act (StoreO q y) s1)
+            (last_by κ p (StoreO q y) s1 m z h.registers (saved (writable C n) n (word_of (Of κ) y b) ys b) like h1 ff.0
+            (saved_alike C S.address S.whole (Of κ) (Number κ) z h.registers like (word_of (Of κ) q z) n (word_of (Of κ) y z) (word_of (Of κ) y b) ys (at q ff.0.0 is)
+            (word_alike C S.address S.whole (Of κ) (Number κ) z h.registers like y (other_stays S κ.fn (Number κ) y eight ff.0.1 other)))
+            (stored_follows C S.address (Of κ) b roomy x y w m ys pc p fine (good S fits κ y ff.0.1) apart h.held e st))
+
+        address_case : (k : ℕ) (c : NodesT Where) (Q : Option (ℕ × Used) → Type 0) → Q None → ((u : Used) → Finish c u → Q (Some (k, u))) → Q (at_address k x c)
+        address_case k (Do (LoadO (Reg t) q) c) Q none some = go (is_in q 8) refl (register t == 8)
+          where
+            go : (f : Bool) → is_in q 8 ≡ f → (g : Bool) → Q (cond (f && not g) (Some (k, Loaded (register t) x)) None)
+            go true is false = some (Loaded (register t) x) (loaded_last t q c is)
+            go true is true = none
+            go false is g = none
+        address_case k (Do (StoreO q y) c) Q none some = go (is_in q 8) refl (is_in y 8) refl (in_slots x y) refl
+          where
+            go : (f : Bool) → is_in q 8 ≡ f → (g : Bool) → is_in y 8 ≡ g → (i : Bool) → in_slots x y ≡ i → Q (cond (f && not g) (cond i None (Some (k, Stored x y))) None)
+            go true is false other false apart = some (Stored x y) (stored_last q y c is other apart)
+            go true is false other true apart = none
+            go true is true other i apart = none
+            go false is g other i apart = none
+        address_case k _ Q none some = none
+
+      -- behind a sum in register 8
+      sum_at : (t : Where) (v : ℕ) → Named S κ.fn t → is_in t 8 ≡ true → put (Of κ) t v (with_reg 8 w a) ≡ with_reg 8 v (with_reg 8 w a)
+      sum_at (Reg r) v named is = let n = eqb-true (register r) 8 is in let same : r ≡ 8 = omega (arith, named, n) in ap (λ k. with_reg k v (with_reg 8 w a)) same
+      sum_at (Slot k) v named is = absurd cc
+
+      summed_done : (t x y z : Where) (c : NodesT Where) → is_in t 8 ≡ true → (Fitting S κ.fn (StepO t x y) → Named S κ.fn z × (add (word_of (Of κ) x (with_reg 8 w a)) (word_of (Of κ) y (with_reg 8 w a)) ≡ add (word_of (Of κ) z b) w)) →
+          Done o (Do (StepO t x y) c) (with_known (Of κ) (Some (8, w)) (at_address 2 (Some z) c))
+      unfolding does
+      summed_done t x y z c is facts =
+          let v = add (word_of (Of κ) z b) w in
+          let u = StepO t x y in
+          address_case (Some z) (written (written a.regs 8 w) 8 v) (twice_like v) (λ q named there_is. sym (there q v (with_reg 8 w a) named there_is)) 2 c (λ k. Done o (Do u c) (with_known (Of κ) (Some (8, w)) k)) (one_done o (Do u c) fit stays)
+          (λ k ends ff st.
+          let f = facts ff.0 in
+          put_done o 8 w (front_acts (lang S) (Do u c) 2) fit puts (λ s1 h1.
+          let ys = s1.world.store.answers in
+          let s2 = spent (op_weight u) s1 in
+          let so : does C S.address S.whole (Of κ) u ys (with_reg 8 w a) ≡ words.Goes [] ys (with_reg 8 v (with_reg 8 w a)) = ap (λ q. words.Goes [] ys (put (Of κ) t q (with_reg 8 w a))) f.1 ∙ ap (λ q. words.Goes [] ys q) (sum_at t v ff.0.0 is) in
+          passes κ s1 m (with_reg 8 w a) (with_reg 8 v (with_reg 8 w a)) (op_weight u) p (acted registers_and_slots (sizes S) u s2) (front_acts (lang S) c 1) (subst (λ d. DoesAs S κ s2 (with_reg 8 w a) (acted registers_and_slots (sizes S) u s2) d) so (acts S fits κ s2 h1.place (with_reg 8 w a) h1.at u ff.0))
+          (λ s3 h3. ends s3 h3 (good S fits κ z f.0, tt) ff.1 st)))
+
+      sum_behind : (t x y : Where) (c : NodesT Where) → is_in t 8 ≡ true → Done o (Do (StepO t x y) c) (with_known (Of κ) (Some (8, w)) (at_sum (beside x y) c))
+      sum_behind t x y c is = go (is_in x 8) refl (is_in y 8) refl
+        where
+          go : (f : Bool) → is_in x 8 ≡ f → (g : Bool) → is_in y 8 ≡ g → Done o (Do (StepO t x y) c) (with_known (Of κ) (Some (8, w)) (at_sum (cond f (cond g None (Some y)) (cond g (Some x) None)) c))
+          go true ex true ey = one_done o (Do (StepO t x y) c) fit stays
+          go false ex false ey = one_done o (Do (StepO t x y) c) fit stays
+          go true ex false ey = summed_done t x y y c is (λ n. (n.2, (λ i. add (there x w a n.1 ex i) (elsewhere y n.2 ey i)) ∙ sum_turned (word_of (Of κ) y b) w))
+          go false ex true ey = summed_done t x y x c is (λ n. (n.1, λ i. add (elsewhere x n.1 ex i) (there y w a n.2 ey i)))
+
+      sent_done : (port : ℕ) (q : Where) (c : NodesT Where) → Done o (Do (OutO port q) c) (with_known (Of κ) (Some (8, w)) (cond (is_in q 8) (Some (1, Sent port)) None))
+      unfolding does
+      sent_done port q c = go (is_in q 8) refl
+        where
+          go : (f : Bool) → is_in q 8 ≡ f → Done o (Do (OutO port q) c) (with_known (Of κ) (Some (8, w)) (cond f (Some (1, Sent port)) None))
+          go false is = one_done o (Do (OutO port q) c) fit stays
+          go true is = λ ff st.
+              put_done o 8 w (front_acts (lang S) (Do (OutO port q) c) 1) fit puts (λ s1 h1. alone κ m (begin (holder S) s1) p c ((lang S).act (OutO port q) s1)
+              (last_by κ p (OutO port q) s1 m (with_reg 8 w a) h.registers (words.Goes (event.Out port w ∷ []) s1.world.store.answers b) (spared_like w) h1 ff.0
+              (ap (λ v. event.Out port v ∷ []) (sym (there q w a ff.0.0 is)), refl, record { same = refl; regs = spared_like w })
+              (sent_follows C S.address (Of κ) b roomy port w m s1.world.store.answers pc p ff.0.1 ff.0.2 h.held e st)))
+
+      address_done : (u : OpT Where) (c : NodesT Where) → Done o (Do u c) (with_known (Of κ) (Some (8, w)) (at_address 1 None (Do u c)))
+      address_done u c =
+          address_case None (written a.regs 8 w) (spared_like w) (λ q named is. sym (there q w a named is)) 1 (Do u c) (λ k. Done o (Do u c) (with_known (Of κ) (Some (8, w)) k)) (one_done o (Do u c) fit stays)
+          (λ k ends ff st. put_done o 8 w (front_acts (lang S) (Do u c) 1) fit puts (λ s1 h1. ends s1 h1 tt ff st))
+
+      used_done : (u : OpT Where) (c : NodesT Where) → Done o (Do u c) (with_known (Of κ) (Some (8, w)) (used_by (Do u c)))
+      unfolding does
+      used_done (TwoO i t x y) c = operand_done (TwoO i t x y) c i x y refl t (λ n. n) (λ ys d. refl)
+      used_done (StepO t x y) c = go (is_in t 8) refl
+        where
+          go : (f : Bool) → is_in t 8 ≡ f → Done o (Do (StepO t x y) c) (with_known (Of κ) (Some (8, w)) (cond f (at_sum (beside x y) c) (groups.computed t (operand IADD x y))))
+          go true is = sum_behind t x y c is
+          go false is = operand_done (StepO t x y) c IADD x y refl t (λ n. n) (λ ys d. refl)
+      used_done (OutO port q) c = sent_done port q c
+      used_done (LoadO t q) c = address_done (LoadO t q) c
+      used_done (StoreO q y) c = address_done (StoreO q y) c
+      used_done u c = one_done o (Do u c) fit stays
+
+    -- ---- all of them
+
+    known_done : (o u : OpT Where) (c : NodesT Where) → (Of κ).registers ≡ 8 → puts o ≡ true → Fitting S κ.fn o → Done o (Do u c) (with_known (Of κ) (word_put S.whole o) (used_by (Do u c)))
+    unfolding does
+    known_done (ConstO (Reg k) n) u c eight is fit =
+        let q = eqb-true (register k) 8 is in
+        let same : k ≡ 8 = omega (arith, fit, q) in
+        subst (λ r. Done (ConstO (Reg k) n) (Do u c) (with_known (Of κ) (Some (r, n)) (used_by (Do u c)))) (sym q) (used_done eight (ConstO (Reg k) n) n fit tt (λ ys. ap (λ r. words.Goes [] ys (with_reg r n a)) same) u c)
+    known_done (GlobalO (Reg k) j) u c eight is fit =
+        let q = eqb-true (register k) 8 is in
+        let named = fit.0 in
+        let same : k ≡ 8 = omega (arith, named, q) in
+        let w = get_or S.whole.globals j 0 in
+        subst (λ r. Done (GlobalO (Reg k) j) (Do u c) (with_known (Of κ) (Some (r, w)) (used_by (Do u c)))) (sym q) (used_done eight (GlobalO (Reg k) j) w fit tt (λ ys. ap (λ r. words.Goes [] ys (with_reg r w a)) same) u c)
+    known_done _ u c eight is fit = absurd cc
+
+    more_done : (o u : OpT Where) (c : NodesT Where) → Fitting S κ.fn o → Sparing (Number κ) (Do o (Do u c)) zero → Done o (Do u c) (with_more (Of κ) (word_put S.whole o) u c)
+    more_done o u c fit sp = go (is_spared (Of κ) (word_put S.whole o)) refl
+      where
+        go : (f : Bool) → is_spared (Of κ) (word_put S.whole o) ≡ f → Done o (Do u c) (cond f (with_known (Of κ) (word_put S.whole o) (used_by (Do u c))) (with_word (Of κ) (word_put S.whole o) u c))
+        go true is = let d = spared_is S κ.fn S.whole (Of κ) o (Do u c) sp is in known_done o u c d.0 d.1 fit
+        go false is = λ ff st. word_done o u c fit (old_stays S κ.fn S.whole (Of κ) o u c sp is (fit, ff)) ff st
+
+    done : (o : OpT Where) (c : NodesT Where) → Fitting S κ.fn o → Sparing (Number κ) (Do o c) zero → Done o c (in_one S.whole (Of κ) o c)
     unfolding in_one
-    done o (Do u c) fit = word_done o u c fit
-    done o c fit = one_done o c fit
+    done o (Do u c) fit sp = more_done o u c fit sp
+    done o c fit sp = one_done o c fit (uses_stay S κ.fn (Number κ) o c sp fit)
 
   pub op_sim : (κ : Ctx) (pc p more : ℕ) (o : OpT Where) (c : NodesT Where) (s : State Where) (m : machine.State) → (shapes S).op κ.fn pc o c more p → m.counter ≡ pc → Mach S κ s m → DidSim (holder S) κ m (begin (holder S) s) p (did_then ((lang S).act o s) (front_acts (lang S) c more))
   op_sim κ pc p more o c s m st e h =
-      subst (λ n. DidSim (holder S) κ m (begin (holder S) s) p (did_then ((lang S).act o s) (front_acts (lang S) c n))) (sym st.3) (done κ pc p s m e h o c st.0 (subst (λ n. FrontFits S κ.fn c n) st.3 st.1) st.2)
+      subst (λ n. DidSim (holder S) κ m (begin (holder S) s) p (did_then ((lang S).act o s) (front_acts (lang S) c n))) (sym st.3) (done κ pc p s m e h o c st.0 st.4 (subst (λ n. FrontFits S κ.fn c n) st.3 st.1) st.2)
 
   -- ---- jumps, tests, results
 
   pub jump_sim : (κ : Ctx) (s : State Where) (m : machine.State) (pc to : ℕ) → Mach S κ s m → m.counter ≡ pc → Jumps C.words pc to → Reaches 1 m s.world.store.answers [] (going_to to m) s.world.store.answers × Mach S κ s (going_to to m)
-  jump_sim κ s m pc to h e j = (jump_reaches C h.words m s.world.store.answers pc to h.held e j, record { place = h.place; words = h.words; at = h.at; held = moved C h.words m to h.held })
+  jump_sim κ s m pc to h e j = (jump_reaches C (having h.registers h.words) m s.world.store.answers pc to h.held e j, record { place = h.place; words = h.words; at = h.at; registers = h.registers; like = h.like; held = moved C (having h.registers h.words) m to h.held })
+
+  real_room : (κ : Ctx) (s : State Where) (m : machine.State) (h : Mach S κ s m) → Room (Of κ) (having h.registers h.words)
+  real_room κ s m h = let r = room S fits κ s.world.store s.cells h.place h.words h.at in record { top = r.top; low = r.low; high = r.high }
+
+  same_word : (κ : Ctx) (s : State Where) (m : machine.State) (h : Mach S κ s m) (p : Where) → Stays (Number κ) p → word_of (Of κ) p (having h.registers h.words) ≡ word_of (Of κ) p h.words
+  same_word κ s m h p stays = word_alike C S.address S.whole (Of κ) (Number κ) h.words h.registers h.like p stays
 
   branched : (u : machine.State) (at r to next v : ℕ) (p : Where) (a : Addr) → Held C a u → u.counter ≡ at → Line C.words at (instr.Branch JF r (src.Imm to)) next ⊎ Line C.words at (instr.Branch JT r (src.Imm next)) to → r < 16 → register_of u r ≡ v →
       effect_of u ≡ EndsIn stepped.Went (going_to (if v == 0 then to else next) u)
@@ -318,22 +576,23 @@ module _ (S : Setting) (fits : Fits S) where
   branch_turn u at r to next a h e (inl l) lt = line_turn C a u at (instr.Branch JF r (src.Imm to)) next h e l (lt, omega arith, omega arith)
   branch_turn u at r to next a h e (inr l) lt = line_turn C a u at (instr.Branch JT r (src.Imm next)) to h e l (lt, omega arith, omega arith)
 
-  tested : (κ : Ctx) (s : State Where) (m : machine.State) (pc to next : ℕ) (p : Where) (q : ℕ) → Named S κ.fn p → (h : Mach S κ s m) → m.counter ≡ pc → Tests C.words S.address (Of κ) pc p to next → (if word_of (Of κ) p h.words == 0 then to else next) ≡ q → Came (holder S) m (spare 1 (begin (holder S) s)) (spent node_weight s) q 1 0 (Mach S κ (spent node_weight s))
-  tested κ s m pc to next p q named h e t is =
+  tested : (κ : Ctx) (s : State Where) (m : machine.State) (pc to next : ℕ) (p : Where) (q : ℕ) → Named S κ.fn p → Stays (Number κ) p → (h : Mach S κ s m) → m.counter ≡ pc → Tests C.words S.address (Of κ) pc p to next → (if word_of (Of κ) p h.words == 0 then to else next) ≡ q → Came (holder S) m (spare 1 (begin (holder S) s)) (spent node_weight s) q 1 0 (Mach S κ (spent node_weight s))
+  tested κ s m pc to next p q named stays h e t is =
       let F = Of κ in
       let xs = s.world.store.answers in
       let v = word_of F p h.words in
-      let b = brings_at C F S.address h.words m xs pc t.0 p 9 (room S fits κ s.world.store s.cells h.place h.words h.at) (good S fits κ p named) (omega arith) (omega arith) h.held e t.1 in
+      let real = having h.registers h.words in
+      let b = brings_at C F S.address real m xs pc t.0 p 9 (real_room κ s m h) (good S fits κ p named) (omega arith) (omega arith) h.held e t.1 in
       let r = hand p 9 in
       let u = b.to in
-      let eff = branched u t.0 r to next v p h.words b.held b.at t.2 (hand_fits p 9 (omega arith)) b.is in
+      let eff = branched u t.0 r to next v p real b.held b.at t.2 (hand_fits p 9 (omega arith)) (b.is ∙ same_word κ s m h p stays) in
       record {
         steps = b.steps + 1;
         made = [];
         to = going_to (if v == 0 then to else next) u;
-        by = reaches_on b.steps 1 m u (going_to (if v == 0 then to else next) u) xs xs xs [] [] b.by (reaches_went u (going_to (if v == 0 then to else next) u) xs eff (branch_turn u t.0 r to next h.words b.held b.at t.2 (hand_fits p 9 (omega arith))));
+        by = reaches_on b.steps 1 m u (going_to (if v == 0 then to else next) u) xs xs xs [] [] b.by (reaches_went u (going_to (if v == 0 then to else next) u) xs eff (branch_turn u t.0 r to next real b.held b.at t.2 (hand_fits p 9 (omega arith))));
         at = is;
-        held = record { place = h.place; words = h.words; at = h.at; held = moved C h.words u (if v == 0 then to else next) b.held };
+        held = record { place = h.place; words = h.words; at = h.at; registers = h.registers; like = h.like; held = moved C real u (if v == 0 then to else next) b.held };
         events = sym (append-nil s.world.events);
         cost = let n = b.few in omega (arith, n);
         many = omega arith;
@@ -346,20 +605,20 @@ module _ (S : Setting) (fits : Fits S) where
       go Unwritten r = tt
       go (Ptr o i) r = tt
       go Null r = tt
-      go (Num zero) r = tested κ s m pc py px w py st.0 h e st.1 (ap (λ v. if v == 0 then py else px) r)
-      go (Num (suc v)) r = tested κ s m pc py px w px st.0 h e st.1 (ap (λ z. if z == 0 then py else px) r ∙ not_zero v py px)
+      go (Num zero) r = tested κ s m pc py px w py st.0 st.2 h e st.1 (ap (λ v. if v == 0 then py else px) r)
+      go (Num (suc v)) r = tested κ s m pc py px w px st.0 st.2 h e st.1 (ap (λ z. if z == 0 then py else px) r ∙ not_zero v py px)
 
   pub give_sim : (κ : Ctx) (pc : ℕ) (w : Option Where) (s : State Where) (m : machine.State) → GivingAt S κ.fn pc w → m.counter ≡ pc → Mach S κ s m → Came (holder S) m (begin (holder S) s) ((lang S).give w (spent node_weight s)) (S.leaves κ.fn) 0 0 (Given S κ ((lang S).give w (spent node_weight s)))
   give_sim κ pc None s m st e h =
       let xs = s.world.store.answers in
-      let g = gone C h.words m xs pc (S.leaves κ.fn) h.held e (subst (λ z. Passes C.words z (S.leaves κ.fn)) (sym st.stands) st.passes) in
+      let g = gone C (having h.registers h.words) m xs pc (S.leaves κ.fn) h.held e (subst (λ z. Passes C.words z (S.leaves κ.fn)) (sym st.stands) st.passes) in
       record {
         steps = g.steps;
         made = [];
         to = g.there;
         by = g.by;
         at = g.at;
-        held = record { place = h.place; words = h.words; at = h.at; held = g.held; given = tt };
+        held = record { place = h.place; words = h.words; at = h.at; registers = h.registers; like = h.like; held = g.held; given = tt };
         events = sym (append-nil s.world.events);
         cost = let n = g.few in omega (arith, n);
         many = omega arith;
@@ -369,18 +628,19 @@ module _ (S : Setting) (fits : Fits S) where
       let xs = s.world.store.answers in
       let out = S.leaves κ.fn in
       let g = st.stands in
-      let v = word_of F p h.words in
+      let real = having h.registers h.words in
+      let v = word_of F p real in
       let u = took C g.0 9 v m in
-      let hu = scratch C h.words m g.0 9 v (omega arith) (omega arith) h.held in
-      let on = gone C h.words u xs g.0 out hu refl (subst (λ z. Passes C.words z out) (sym g.2) st.passes) in
+      let hu = scratch C real m g.0 9 v (omega arith) (omega arith) h.held in
+      let on = gone C real u xs g.0 out hu refl (subst (λ z. Passes C.words z out) (sym g.2) st.passes) in
       let nine : register_of on.there 9 ≡ v = on.nine ∙ reg_same C m 9 v (omega (arith, h.held.sixteen)) in
       record {
         steps = 1 + on.steps;
         made = [];
         to = on.there;
-        by = reaches_on 1 on.steps m u on.there xs xs xs [] [] (fetches_so C F S.address h.words m xs pc p 9 g.0 (room S fits κ s.world.store s.cells h.place h.words h.at) (good S fits κ p st.named.0) (omega arith) h.held e g.1) on.by;
+        by = reaches_on 1 on.steps m u on.there xs xs xs [] [] (fetches_so C F S.address real m xs pc p 9 g.0 (real_room κ s m h) (good S fits κ p st.named.0) (omega arith) h.held e g.1) on.by;
         at = on.at;
-        held = record { place = h.place; words = h.words; at = h.at; held = on.held; given = subst (λ z. Stands (length s.world.store.objects) h.place (s.cells p) z) (sym nine) (word_stands S fits κ s.world.store s.cells h.place h.words p st.named.0 h.at) };
+        held = record { place = h.place; words = h.words; at = h.at; registers = h.registers; like = h.like; held = on.held; given = subst (λ z. Stands (length s.world.store.objects) h.place (s.cells p) z) (sym (nine ∙ same_word κ s m h p st.stays.0)) (word_stands S fits κ s.world.store s.cells h.place h.words p st.named.0 h.at) };
         events = sym (append-nil s.world.events);
         cost = let n = on.few in omega (arith, n);
         many = omega arith;

@@ -21,6 +21,8 @@ use Rattle.asm_laws.specs.Linked.{setting}
 use Rattle.asm_laws.specs.Program.{Program}
 use Rattle.asm_laws.specs.Tables.{Number, OfFunction, OfStart, OfRest, number_of, spots_at, frame_for, slot_for, called_for, locals_for, addresses, count_of, plan_of}
 use Rattle.asm_laws.specs.PlacedAt.{PlacedAt}
+use Rattle.asm_laws.specs.Spare.{Sparing}
+use Rattle.asm_laws.proofs.Spared.{held_is}
 use Rattle.asm_laws.proofs.Spotted.{function_is, spots_of, conventions}
 use Rattle.asm_laws.proofs.Words.{below_not}
 use Rattle.asm_laws.proofs.Tables.{number_function, function_number, fixed_global, fixed_literal, fixed_card, fits}
@@ -131,6 +133,7 @@ module _ (x : PlacedT) (names : List (List ℕ)) (address : List ℕ → ℕ) (e
     start_nodes = subst (λ n. AreNodes x.code n [] x.code.start.body) (ap length p.placed.code.start.locals ∙ sym (ap (λ n. length (locals_for x n (count_of x))) (start_number (count_of x)))) p.placed.code.start.function.nodes;
     start_names = names_both (IsPlace x.code.start) IsStartPlace (Named S (count_of x)) start_named x.code.start.body p.placed.code.start.function.names p.placed.start;
     start_sound = record { local_there = λ k lt. let e = ap (λ n. length (locals_for x n (count_of x))) (start_number (count_of x)) in absurd (omega (arith, lt, e)) };
+    start_spares = inl (ap (λ n. (frame_for x n (count_of x)).registers) (start_number (count_of x)));
     start_quiet = p.placed.code.start.calls;
     nodes = λ g c. let lt = number_lt g c in subst (λ ls. AreNodes x.code (length ls) [] (function_at x.code g).body) (sym (ap (λ n. locals_for x n g) (N g lt))) (fn g lt).nodes;
     names = λ g c.
@@ -138,6 +141,7 @@ module _ (x : PlacedT) (names : List (List ℕ)) (address : List ℕ → ℕ) (e
         let sp = spots_of x.frames x.code.functions x.spots g (record { slots = []; locals = []; own = [] }) p.placed.spots lt in
         names_both (IsPlace (function_at x.code g)) (HasSlot (spots_at x g)) (Named S g) (named g lt) (function_at x.code g).body (fn g lt).names sp.1;
     sound = λ g c. let lt = number_lt g c in record { local_there = λ k kl. there g lt k kl };
+    spares = λ g c. let lt = number_lt g c in subst (λ n. Sparing n (function_at x.code g).body 0) (sym (ap (λ n. (frame_for x n g).registers) (N g lt))) (held_is (function_at x.code g).body);
     calls = λ f c g h e.
         let lf = number_lt f c in
         let lg = slice_get_within x.code.functions g h e in
@@ -146,6 +150,7 @@ module _ (x : PlacedT) (names : List (List ℕ)) (address : List ℕ → ℕ) (e
     main_params = no_length (function_at x.code x.code.main).params (ap (λ z. length z.params) (get_or_from_slice_get x.code.functions x.code.main main_is.0 no_function main_is.1) ∙ main_is.2);
     rest_as = ap (λ n. called_for n (count_of x + 1)) (rest_number (count_of x)) ∙ sym (ap (λ n. called_for n (count_of x)) (start_number (count_of x)));
     rest_depth = ap (λ n. (frame_for x n (count_of x + 1)).depth) (rest_number (count_of x));
+    rest_registers = ap (λ n. (frame_for x n (count_of x + 1)).registers) (rest_number (count_of x)) ∙ sym (ap (λ n. (frame_for x n (count_of x)).registers) (start_number (count_of x)));
     rest_size = ap (λ n. (frame_for x n (count_of x + 1)).size) (rest_number (count_of x));
     rest_slots = λ k has. subst (λ n. slot_for x n (count_of x + 1) k) (rest_number (count_of x)) has;
   }

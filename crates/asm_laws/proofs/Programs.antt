@@ -1,11 +1,11 @@
 -- A program that stands among the words is linked.
 use Rattle.std.proofs.Common.{◌≡◌, ℕ, zero, suc, Bool, true, false, List, [], ◌∷◌, ◌++◌, length, Option, Some, None, refl, sym, ap, ◌∙◌, subst}
-use Rattle.std.specs.Prelude.{is_some, slice_get, option_map}
+use Rattle.std.specs.Prelude.{is_some, slice_get, option_map, ◌&&◌, not}
 use Rattle.v32_isa.specs.declared.instruction.One.{One}
 use Rattle.v32_isa.specs.declared.instruction.One.TheVariants.{CIB, NOT, BNOT, ISGN, IABS}
 use Rattle.obj_mem.specs.Runs.{IsCard}
 use Rattle.mid_code.specs.declared.placed.Where.{Where}
-use Rattle.mid_code.specs.Code.{OpT, ConstO, NullO, MoveO, OneO, TwoO, GlobalO, LocalO, LiteralO, CardO, StepO, ApartO, PtrTestO, LoadO, StoreO, FreshO, EndO, InO, OutO, WaitO, HaltO, FunctionT, NodesT, Stop, Do, Call, Choose, Block, Loop, Leave, Again, Return}
+use Rattle.mid_code.specs.Code.{OpT, ConstO, NullO, MoveO, OneO, TwoO, GlobalO, LocalO, LiteralO, CardO, StepO, ApartO, PtrTestO, LoadO, StoreO, FreshO, EndO, InO, OutO, WaitO, HaltO, FunctionT, NodesT, Stop, Do, Call, Choose, Block, Loop, Leave, Again, Return, maybe}
 use Rattle.mid_code.specs.Invariants.{IsOne, IsOp, AreNodes, NodeNames, Names, CallsNone}
 use Rattle.mid_code.specs.Runs.{placed_runs}
 use Rattle.mid_code.specs.Agrees.{AgreesWithin}
@@ -16,7 +16,9 @@ use Rattle.v32_isa.specs.declared.instruction.Instr.TheVariants as instr
 use Rattle.asm_items.specs.declared.item.AsmItem.TheVariants as item
 use Rattle.asm_laws.specs.Names.{function_label}
 use Rattle.asm_laws.specs.Placing.{Bounds, paid, Past}
-use Rattle.asm_laws.specs.Operations.{args_items}
+use Rattle.asm_laws.specs.Operations.{args_items, in_one, more_of}
+use Rattle.asm_laws.specs.Pieces.{is_in}
+use Rattle.asm_laws.specs.Spare.{are_others, spares, Sparing}
 use Rattle.asm_laws.specs.Addresses.{IsPlainOne}
 use Rattle.asm_laws.specs.Standing.{Stand}
 use Rattle.asm_laws.specs.Holds.{Setting, Named, depth_of}
@@ -25,6 +27,7 @@ use Rattle.asm_laws.specs.Calling.{Callable, shapes}
 use Rattle.asm_laws.specs.Linked.{Linked, Plan, setting}
 use Rattle.asm_laws.specs.Program.{items_at, ProgramAt, Sound, Program}
 use Rattle.asm_laws.proofs.Opening.{opens}
+use Rattle.asm_laws.proofs.Spared.{halves, all_stay, one_stays, spares_on}
 use Rattle.asm_laws.proofs.Agrees.{agrees}
 
 plain_one : (o : One) → IsOne o → IsPlainOne o
@@ -77,47 +80,74 @@ module _ (S : Setting) (boot rest : ℕ) (card : Option (List ℕ)) (ok : IsCard
   front_fits f so bs (Again j c) k n m = tt
   front_fits f so bs (Return w c) k n m = tt
 
-  at_of : (f : ℕ) → Sound S f → Calls f → (ls : List Bounds) (bs : List Bool) (c : NodesT Where) (done pc e : ℕ) → AreNodes S.code (length (S.locals f)) bs c → Names (Named S f) c → Past (items_at S) f ls pc c done e → Past (shapes S) f ls pc c done e
-  at_of f so cs ls bs Stop done pc e n m at = at
-  at_of f so cs ls bs (Do o c) zero pc e n m at = (at.0, at.1, (fitting f so o c n.0 m.0, front_fits f so bs c at.0 n.1 m.1, at.2.0, at.2.1), at_of f so cs ls bs c at.0 at.1 e n.1 m.1 at.3)
-  at_of f so cs ls bs (Do o c) (suc k) pc e n m at = at_of f so cs ls bs c k pc e n.1 m.1 at
-  at_of f so cs ls bs (Call t g args c) done pc e n m at =
+  abbrev Number : ℕ → ℕ
+  Number f = (S.whole.frames f).registers
+
+  -- an operation, and what comes behind those that are done with it
+  onward : (f : ℕ) (o : OpT Where) (c : NodesT Where) (more : ℕ) → more ≡ more_of (in_one S.whole (S.whole.frames f) o c) → Sparing (Number f) (Do o c) zero → Sparing (Number f) c more
+  onward f o c more e sp = subst (λ k. Sparing (Number f) c k) (sym e) (spares_on S f S.whole (S.whole.frames f) o c sp)
+
+  at_of : (f : ℕ) → Sound S f → Calls f → (ls : List Bounds) (bs : List Bool) (c : NodesT Where) (done pc e : ℕ) → AreNodes S.code (length (S.locals f)) bs c → Names (Named S f) c → Sparing (Number f) c done → Past (items_at S) f ls pc c done e → Past (shapes S) f ls pc c done e
+  at_of f so cs ls bs Stop done pc e n m sp at = at
+  at_of f so cs ls bs (Do o c) zero pc e n m sp at = (at.0, at.1, (fitting f so o c n.0 m.0, front_fits f so bs c at.0 n.1 m.1, at.2.0, at.2.1, sp), at_of f so cs ls bs c at.0 at.1 e n.1 m.1 (onward f o c at.0 at.2.1 sp) at.3)
+  at_of f so cs ls bs (Do o c) (suc k) pc e n m sp at = at_of f so cs ls bs c k pc e n.1 m.1 sp at
+  at_of f so cs ls bs (Call t g args c) done pc e n m sp at =
       let i = mapped_from (λ h. length h.params) (slice_get S.code.functions g) (length args) n.0 in
       let s = cs g i.0 i.1 in
-      (at.0, record { depth = s.0; callable = s.1; target = m.0.1; args_named = m.0.0; count = sym i.2 ∙ ap length (sym s.2); stands = at.1 }, at_of f so cs ls bs c zero at.0 e n.1 m.1 at.2)
-  at_of f so cs ls bs (Choose w x y c) done pc e n m at =
-      (at.0, at.1, at.2, at.3, (m.0.0.0, at.4), at_of f so cs (paid ls) bs x zero at.0 at.1 n.0 m.1 at.5, at.6, at_of f so cs (paid ls) bs y zero at.2 at.3 n.1 m.2 at.7, at_of f so cs ls bs c zero at.3 e n.2 m.3 at.8)
-  at_of f so cs ls bs (Block b c) done pc e n m at = (at.0, at_of f so cs (record { begins = pc; ends = at.0; owes = true } ∷ ls) (false ∷ bs) b zero pc at.0 n.0 m.0 at.1, at_of f so cs ls bs c zero at.0 e n.1 m.1 at.2)
-  at_of f so cs ls bs (Loop b c) done pc e n m at = (at.0, at.1, at.2, at_of f so cs (record { begins = at.0; ends = at.1; owes = true } ∷ ls) (true ∷ bs) b zero at.0 at.1 n.0 m.0 at.3, at_of f so cs ls bs c zero at.1 e n.1 m.1 at.4)
-  at_of f so cs ls bs (Leave k c) done pc e n m at = (at.0, (at.1.0, at_of f so cs ls bs c zero at.1.0 e n.1 m at.1.1))
-  at_of f so cs ls bs (Again k c) done pc e n m at = (at.0, (at.1.0, at_of f so cs ls bs c zero at.1.0 e n.1 m at.1.1))
-  at_of f so cs ls bs (Return w c) done pc e n m at = (record { named = m.0.0; then = at.0.0; stands = at.0.1; passes = at.0.2 }, (at.1.0, at_of f so cs ls bs c zero at.1.0 e n m.1 at.1.1))
+      let d = halves (Number f) (are_others args) (spares c zero) sp in
+      (at.0, record { depth = s.0; callable = s.1; target = m.0.1; args_named = m.0.0; args_stay = all_stay S f (Number f) args d.0 m.0.0; count = sym i.2 ∙ ap length (sym s.2); stands = at.1 }, at_of f so cs ls bs c zero at.0 e n.1 m.1 d.1 at.2)
+  at_of f so cs ls bs (Choose w x y c) done pc e n m sp at =
+      let d = halves (Number f) (not (is_in w 8)) (spares x zero && (spares y zero && spares c zero)) sp in
+      let h = halves (Number f) (spares x zero) (spares y zero && spares c zero) d.1 in
+      let i = halves (Number f) (spares y zero) (spares c zero) h.1 in
+      (at.0, at.1, at.2, at.3, (m.0.0.0, at.4, one_stays S f (Number f) w d.0 m.0.0.0), at_of f so cs (paid ls) bs x zero at.0 at.1 n.0 m.1 h.0 at.5, at.6, at_of f so cs (paid ls) bs y zero at.2 at.3 n.1 m.2 i.0 at.7, at_of f so cs ls bs c zero at.3 e n.2 m.3 i.1 at.8)
+  at_of f so cs ls bs (Block b c) done pc e n m sp at =
+      let d = halves (Number f) (spares b zero) (spares c zero) sp in
+      (at.0, at_of f so cs (record { begins = pc; ends = at.0; owes = true } ∷ ls) (false ∷ bs) b zero pc at.0 n.0 m.0 d.0 at.1, at_of f so cs ls bs c zero at.0 e n.1 m.1 d.1 at.2)
+  at_of f so cs ls bs (Loop b c) done pc e n m sp at =
+      let d = halves (Number f) (spares b zero) (spares c zero) sp in
+      (at.0, at.1, at.2, at_of f so cs (record { begins = at.0; ends = at.1; owes = true } ∷ ls) (true ∷ bs) b zero at.0 at.1 n.0 m.0 d.0 at.3, at_of f so cs ls bs c zero at.1 e n.1 m.1 d.1 at.4)
+  at_of f so cs ls bs (Leave k c) done pc e n m sp at = (at.0, (at.1.0, at_of f so cs ls bs c zero at.1.0 e n.1 m sp at.1.1))
+  at_of f so cs ls bs (Again k c) done pc e n m sp at = (at.0, (at.1.0, at_of f so cs ls bs c zero at.1.0 e n.1 m sp at.1.1))
+  at_of f so cs ls bs (Return w c) done pc e n m sp at =
+      let d = halves (Number f) (are_others (maybe w)) (spares c zero) sp in
+      (record { named = m.0.0; stays = all_stay S f (Number f) (maybe w) d.0 m.0.0; then = at.0.0; stands = at.0.1; passes = at.0.2 }, (at.1.0, at_of f so cs ls bs c zero at.1.0 e n m.1 d.1 at.1.1))
 
   -- the start calls none
-  at_quiet : (f : ℕ) → Sound S f → (ls : List Bounds) (bs : List Bool) (c : NodesT Where) (done pc e : ℕ) → AreNodes S.code (length (S.locals f)) bs c → Names (Named S f) c → CallsNone c → Past (items_at S) f ls pc c done e → Past (shapes S) f ls pc c done e
-  at_quiet f so ls bs Stop done pc e n m q at = at
-  at_quiet f so ls bs (Do o c) zero pc e n m q at = (at.0, at.1, (fitting f so o c n.0 m.0, front_fits f so bs c at.0 n.1 m.1, at.2.0, at.2.1), at_quiet f so ls bs c at.0 at.1 e n.1 m.1 q at.3)
-  at_quiet f so ls bs (Do o c) (suc k) pc e n m q at = at_quiet f so ls bs c k pc e n.1 m.1 q at
-  at_quiet f so ls bs (Call t g args c) done pc e n m q at = absurd q
-  at_quiet f so ls bs (Choose w x y c) done pc e n m q at =
-      (at.0, at.1, at.2, at.3, (m.0.0.0, at.4), at_quiet f so (paid ls) bs x zero at.0 at.1 n.0 m.1 q.0 at.5, at.6, at_quiet f so (paid ls) bs y zero at.2 at.3 n.1 m.2 q.1 at.7, at_quiet f so ls bs c zero at.3 e n.2 m.3 q.2 at.8)
-  at_quiet f so ls bs (Block b c) done pc e n m q at = (at.0, at_quiet f so (record { begins = pc; ends = at.0; owes = true } ∷ ls) (false ∷ bs) b zero pc at.0 n.0 m.0 q.0 at.1, at_quiet f so ls bs c zero at.0 e n.1 m.1 q.1 at.2)
-  at_quiet f so ls bs (Loop b c) done pc e n m q at = (at.0, at.1, at.2, at_quiet f so (record { begins = at.0; ends = at.1; owes = true } ∷ ls) (true ∷ bs) b zero at.0 at.1 n.0 m.0 q.0 at.3, at_quiet f so ls bs c zero at.1 e n.1 m.1 q.1 at.4)
-  at_quiet f so ls bs (Leave k c) done pc e n m q at = (at.0, (at.1.0, at_quiet f so ls bs c zero at.1.0 e n.1 m q at.1.1))
-  at_quiet f so ls bs (Again k c) done pc e n m q at = (at.0, (at.1.0, at_quiet f so ls bs c zero at.1.0 e n.1 m q at.1.1))
-  at_quiet f so ls bs (Return w c) done pc e n m q at = (record { named = m.0.0; then = at.0.0; stands = at.0.1; passes = at.0.2 }, (at.1.0, at_quiet f so ls bs c zero at.1.0 e n m.1 q at.1.1))
+  at_quiet : (f : ℕ) → Sound S f → (ls : List Bounds) (bs : List Bool) (c : NodesT Where) (done pc e : ℕ) → AreNodes S.code (length (S.locals f)) bs c → Names (Named S f) c → CallsNone c → Sparing (Number f) c done → Past (items_at S) f ls pc c done e → Past (shapes S) f ls pc c done e
+  at_quiet f so ls bs Stop done pc e n m q sp at = at
+  at_quiet f so ls bs (Do o c) zero pc e n m q sp at = (at.0, at.1, (fitting f so o c n.0 m.0, front_fits f so bs c at.0 n.1 m.1, at.2.0, at.2.1, sp), at_quiet f so ls bs c at.0 at.1 e n.1 m.1 q (onward f o c at.0 at.2.1 sp) at.3)
+  at_quiet f so ls bs (Do o c) (suc k) pc e n m q sp at = at_quiet f so ls bs c k pc e n.1 m.1 q sp at
+  at_quiet f so ls bs (Call t g args c) done pc e n m q sp at = absurd q
+  at_quiet f so ls bs (Choose w x y c) done pc e n m q sp at =
+      let d = halves (Number f) (not (is_in w 8)) (spares x zero && (spares y zero && spares c zero)) sp in
+      let h = halves (Number f) (spares x zero) (spares y zero && spares c zero) d.1 in
+      let i = halves (Number f) (spares y zero) (spares c zero) h.1 in
+      (at.0, at.1, at.2, at.3, (m.0.0.0, at.4, one_stays S f (Number f) w d.0 m.0.0.0), at_quiet f so (paid ls) bs x zero at.0 at.1 n.0 m.1 q.0 h.0 at.5, at.6, at_quiet f so (paid ls) bs y zero at.2 at.3 n.1 m.2 q.1 i.0 at.7, at_quiet f so ls bs c zero at.3 e n.2 m.3 q.2 i.1 at.8)
+  at_quiet f so ls bs (Block b c) done pc e n m q sp at =
+      let d = halves (Number f) (spares b zero) (spares c zero) sp in
+      (at.0, at_quiet f so (record { begins = pc; ends = at.0; owes = true } ∷ ls) (false ∷ bs) b zero pc at.0 n.0 m.0 q.0 d.0 at.1, at_quiet f so ls bs c zero at.0 e n.1 m.1 q.1 d.1 at.2)
+  at_quiet f so ls bs (Loop b c) done pc e n m q sp at =
+      let d = halves (Number f) (spares b zero) (spares c zero) sp in
+      (at.0, at.1, at.2, at_quiet f so (record { begins = at.0; ends = at.1; owes = true } ∷ ls) (true ∷ bs) b zero at.0 at.1 n.0 m.0 q.0 d.0 at.3, at_quiet f so ls bs c zero at.1 e n.1 m.1 q.1 d.1 at.4)
+  at_quiet f so ls bs (Leave k c) done pc e n m q sp at = (at.0, (at.1.0, at_quiet f so ls bs c zero at.1.0 e n.1 m q sp at.1.1))
+  at_quiet f so ls bs (Again k c) done pc e n m q sp at = (at.0, (at.1.0, at_quiet f so ls bs c zero at.1.0 e n.1 m q sp at.1.1))
+  at_quiet f so ls bs (Return w c) done pc e n m q sp at =
+      let d = halves (Number f) (are_others (maybe w)) (spares c zero) sp in
+      (record { named = m.0.0; stays = all_stay S f (Number f) (maybe w) d.0 m.0.0; then = at.0.0; stands = at.0.1; passes = at.0.2 }, (at.1.0, at_quiet f so ls bs c zero at.1.0 e n m.1 q d.1 at.1.1))
 
   pub linked : ProgramAt S boot → Linked S card boot rest
   linked at = record {
     fits = P.fits;
-    functions = λ g c. let b = at.functions g c in record { begins = b.begins; label = b.label; entry = b.entry; body = at_of g (P.sound g c) (P.calls g c) [] [] _ zero (S.enters g) (S.leaves g) (P.nodes g c) (P.names g c) b.body; ends = b.ends; exit = b.exit };
+    functions = λ g c. let b = at.functions g c in record { begins = b.begins; label = b.label; entry = b.entry; body = at_of g (P.sound g c) (P.calls g c) [] [] _ zero (S.enters g) (S.leaves g) (P.nodes g c) (P.names g c) (P.spares g c) b.body; ends = b.ends; exit = b.exit };
     has_card = P.laid.has_card;
     opening = at.opening;
-    start = at_quiet boot P.start_sound [] [] S.code.start.body zero (S.enters boot) (S.leaves boot) P.start_nodes P.start_names P.start_quiet at.start;
+    start = at_quiet boot P.start_sound [] [] S.code.start.body zero (S.enters boot) (S.leaves boot) P.start_nodes P.start_names P.start_quiet P.start_spares at.start;
     rest_as = P.rest_as;
     boot_as = P.laid.called_as;
     boot_depth = P.laid.depth;
     rest_depth = P.rest_depth;
+    rest_registers = P.rest_registers;
     rest_size = P.rest_size;
     rest_slots = P.rest_slots;
     after = at.closing.0;
@@ -126,6 +156,7 @@ module _ (S : Setting) (boot rest : ℕ) (card : Option (List ℕ)) (ok : IsCard
       callable = P.main;
       target = tt;
       args_named = tt;
+      args_stay = tt;
       count = ap length (sym P.main_params);
       stands = subst (λ ps. Stand S.console.words S.address (S.leaves boot) (args_items (S.whole.frames rest) (S.whole.frames S.code.main) ps [] ++ item.Op (instr.Go CALL (src.Imm (Right (function_label S.whole.names S.code.main)))) ∷ []) at.closing.0) (sym P.main_params) (at.closing.0, at.closing.1, refl);
     };

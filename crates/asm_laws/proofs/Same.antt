@@ -10,7 +10,7 @@ use Rattle.mid_code.specs.declared.placed.Where.TheVariants.{Reg}
 use Rattle.mid_code.specs.Code.{OpT, ConstO, NullO, MoveO, OneO, TwoO, GlobalO, LocalO, LiteralO, CardO, StepO, ApartO, PtrTestO, LoadO, StoreO, FreshO, EndO, InO, OutO, WaitO, HaltO, NodesT, Stop, Do, Call, Choose, Block, Loop, Leave, Again, Return, FunctionT, CodeT}
 use Rattle.mid_code.specs.Invariants.{AreNodes, AllOf}
 use Rattle.asm_laws.specs.Names.{function_label}
-use Rattle.asm_laws.specs.Operations.{Frame, Whole, hand, brings, op_items, word_put, with_word, in_one, one_or_more, more_of, call_items, args_items, keeps_some, start_frame, literals_items}
+use Rattle.asm_laws.specs.Operations.{Frame, Whole, hand, brings, op_items, word_put, with_more, in_one, one_or_more, more_of, call_items, args_items, keeps_some, start_frame, literals_items}
 use Rattle.asm_laws.specs.declared.behind.Behind.{Behind}
 use Rattle.asm_laws.specs.declared.behind.Behind.TheVariants.{Other, End, Turn}
 use Rattle.asm_laws.specs.inner.Emitted.{labels, enclosing, jump, choice, alone, left_to, ends, is_stop, enclosed, returning, items_past, code_items, function_items, functions_items, call_item, exit_items, closing_items, program_items, inside, is_end, again, looped, is_tested, part_items, test_items, jump_when}
@@ -51,7 +51,7 @@ put_same W fr _ = refl
 
 in_one_same : (W : Whole) (fr : ℕ → Frame) (F : Frame) (o : OpT Where) (c : NodesT Where) → in_one (framed W fr) F o c ≡ in_one W F o c
 unfolding in_one
-in_one_same W fr F o (Do p c) = ap (λ s. with_word F s p c) (put_same W fr o)
+in_one_same W fr F o (Do p c) = ap (λ s. with_more F s p c) (put_same W fr o)
 in_one_same W fr F o _ = refl
 
 one_same : (W : Whole) (fr : ℕ → Frame) (F : Frame) (o : OpT Where) (r : Option (ℕ × Option (Instr Imm) × Instr Imm)) → one_or_more (framed W fr) F o r ≡ one_or_more W F o r

@@ -7,9 +7,11 @@ use Rattle.v32_isa.specs.declared.instruction.Plain.TheVariants.{HLT, WAIT, RET}
 use Rattle.v32_isa.specs.declared.instruction.One.{One as OneOf}
 use Rattle.v32_isa.specs.declared.instruction.Two.{Two as TwoOf}
 use Rattle.v32_isa.specs.declared.instruction.Two.TheVariants.{IADD, ISUB}
-use Rattle.v32_isa.specs.declared.instruction.Mov.TheVariants.{RegImm, RegAtReg, RegAtOff, AtRegReg, AtOffReg}
+use Rattle.v32_isa.specs.declared.instruction.Mov.TheVariants.{RegImm, RegAt, RegAtReg, RegAtOff, AtReg, AtRegReg, AtOffReg}
 use Rattle.v32_isa.specs.declared.instruction.Src.TheVariants as src
+use Rattle.v32_isa.specs.declared.instruction.Instr.{Instr}
 use Rattle.v32_isa.specs.declared.instruction.Instr.TheVariants as instr
+use Rattle.asm_items.specs.Items.{Imm}
 use Rattle.asm_items.specs.declared.item.AsmItem.{AsmItem}
 use Rattle.asm_items.specs.declared.item.AsmItem.TheVariants as item
 use Rattle.assembler.specs.Placed.{item_size}
@@ -25,13 +27,14 @@ use Rattle.asm_laws.specs.Names.{literal_label, function_label}
 use Rattle.kit_base.specs.Word.{add}
 use Rattle.asm_laws.specs.Operations as operations
 use Rattle.asm_laws.specs.Moves.{Move, in_order}
-use Rattle.asm_laws.specs.Operations.{Frame, Whole, register, arg_word, slot_word, local_word, fetches, keeps, keeps_some, is_in, hand, brings, takes, aim, lays, moves, changes, is_direct, in_place, apart, turned, is_turned, turned_or_apart, computes, slot_arg, slot_args, moved_items, args_items, call_items, op_items, in_one, one_or_more, more_of, giving, start_frame, literal_items, literals_items}
+use Rattle.asm_laws.specs.Operations.{Frame, Whole, arg_word, slot_word, local_word, fetches, keeps, keeps_some, hand, brings, takes, aim, lays, moves, changes, is_direct, in_place, apart, is_turned, turned_or_apart, computes, slot_arg, slot_args, moved_items, args_items, call_items, op_items, in_one, one_or_more, more_of, giving, start_frame, literal_items, literals_items}
+use Rattle.asm_laws.specs.Pieces.{register, is_in, turned}
 use Rattle.asm_laws.specs.Framing.{frame_made, frame_gone}
 use Rattle.asm_laws.specs.declared.behind.Behind.{Behind}
 use Rattle.asm_laws.specs.declared.behind.Behind.TheVariants.{Other, End, Turn}
 use Rattle.asm_laws.specs.inner.Emitted.{labels, enclosing, jump, jump_unless, mark, choice, one_way, alone, left_to, ends, jump_when, is_stop, enclosed, returning, items_past, code_items, entry_items, exit_items, function_items, functions_items, functions_labels, call_item, closing_items, start_items, program_items, labels_of, inside, is_end, is_turn, again, rotated, looped, is_tested, part_items, test_items}
 use Rattle.asm_laws.proofs.Ordering.{in_order_few}
-use Rattle.asm_laws.proofs.InOne.{one_or_more_is}
+use Rattle.asm_laws.proofs.InOne.{TakesWord, one_or_more_is}
 use Rattle.asm_laws.proofs.Walked.{total_append, total_one, total_none, total_more}
 
 abbrev size : List AsmItem → ℕ
@@ -161,13 +164,21 @@ op_size W F (OutO p a) = let x = item.Op (instr.Out (operations.port p) (src.Reg
 op_size W F WaitO = let r = one_item (item.Op (instr.Plain WAIT)) 1 (omega arith) in omega (arith, r)
 op_size W F HaltO = let r = one_item (item.Op (instr.Plain HLT)) 1 (omega arith) in omega (arith, r)
 
+taking_size : (n : ℕ) (i : Instr Imm) → TakesWord (λ v. n ≡ 8) i → (n ≡ 8) × (item_size (item.Op i) ≤ 2)
+taking_size n (instr.Lea r q (Some (Left v))) h = (h.2, omega arith)
+taking_size n (instr.Two o r (src.Imm (Left v))) h = (h.1, omega arith)
+taking_size n (instr.Mov (RegAt r (Left v))) h = (h.1, omega arith)
+taking_size n (instr.Mov (RegAtOff r q (Left v))) h = (h.2, omega arith)
+taking_size n (instr.Mov (AtReg (Left v) r)) h = (h.1, omega arith)
+taking_size n (instr.Mov (AtOffReg q (Left v) r)) h = (h.2, omega arith)
+taking_size n (instr.Out port (src.Imm (Left v))) h = (h.1, omega arith)
+taking_size n _ h = absurd h
+
 one_size : (W : Whole) (F : Frame) (o : OpT Where) (c : NodesT Where) → size (one_or_more W F o (in_one W F o c)) ≤ op_weight o
 one_size W F o c =
     one_or_more_is W F (λ xs. size xs ≤ op_weight o) (λ v. op_weight o ≡ 8) o c (λ t n e. (ap op_weight e, ap op_weight e)) (λ t k e. (ap op_weight e, ap op_weight e)) (op_size W F o)
-    (λ r q v lr lq h. let z = one_item (item.Op (instr.Lea r q (Some (Left v)))) 2 (omega arith) in omega (arith, z, h))
-    (λ r q v lr lq h. let z = one_item (item.Op (instr.Mov (RegAtOff r q (Left v)))) 2 (omega arith) in omega (arith, z, h))
-    (λ u p r v lr h. let z = two_items (fetches F p r) (item.Op (instr.Two u r (src.Imm (Left v)))) 2 2 (fetch_size F p r) (omega arith) in omega (arith, z, h))
-    (λ p r v lr h. let z = two_items (fetches F p r) (item.Op (instr.Mov (RegAtOff r r (Left v)))) 2 2 (fetch_size F p r) (omega arith) in omega (arith, z, h))
+    (λ i h. let t = taking_size (op_weight o) i h in let z = one_item (item.Op i) 2 t.1 in omega (arith, z, t.0))
+    (λ p r i lt h. let t = taking_size (op_weight o) i h in let z = two_items (fetches F p r) (item.Op i) 2 2 (fetch_size F p r) t.1 in omega (arith, z, t.0))
 
 pub call_size : (W : Whole) (F : Frame) (t : Option Where) (g : ℕ) (args : List Where) → length args ≡ length (W.params g) → size (call_items W F t g args) ≤ call_weight args
 call_size W F t g args ok =

@@ -19,7 +19,8 @@ use Rattle.asm_items.specs.Items.{instr_with}
 use Rattle.asm_items.specs.Words.{imm_word}
 use Rattle.mid_code.specs.declared.placed.Where.{Where}
 use Rattle.mid_code.specs.declared.placed.Where.TheVariants.{Reg, Slot}
-use Rattle.asm_laws.specs.Operations.{Frame, slot_word, register, fetch, keep}
+use Rattle.asm_laws.specs.Operations.{Frame, slot_word, fetch, keep}
+use Rattle.asm_laws.specs.Pieces.{register}
 use Rattle.asm_laws.specs.Placing.{Line}
 use Rattle.asm_laws.specs.Addresses.{Addr, Console, readable, writable, slot_address, word_of, store, put, Room, Good, Held, Arrives}
 

@@ -19,9 +19,9 @@ module _ (S : Setting) (fits : Fits S) (functions : (g : ℕ) → Callable S g �
     tick_answers = λ n s. refl;
     tick_events = λ n s. refl;
     tick_work = λ n s. omega arith;
-    ticks = λ κ n s m h. record { place = h.place; words = h.words; at = h.at; held = h.held };
+    ticks = λ κ n s m h. record { place = h.place; words = h.words; at = h.at; registers = h.registers; like = h.like; held = h.held };
     jump = jump_sim S fits;
-    none = λ κ s m h. record { place = h.place; words = h.words; at = h.at; held = h.held; given = tt };
+    none = λ κ s m h. record { place = h.place; words = h.words; at = h.at; registers = h.registers; like = h.like; held = h.held; given = tt };
     none_answers = λ s. refl;
     none_events = λ s. refl;
     none_work = λ s. refl;

@@ -60,6 +60,10 @@ abbrev pub put : Frame → Where → ℕ → Addr → Addr
 put F (Reg r) v a = record a { regs = written a.regs r v }
 put F (Slot k) v a = store (slot_address F k a) v a
 
+-- the same words with others in registers
+abbrev pub having : (ℕ → ℕ) → Addr → Addr
+having registers a = record a { regs = registers }
+
 -- the frame lies in RAM, on the stack
 pub record Room (F : Frame) (a : Addr) : Type 0 where
   pub top : a.top + F.depth ≡ a.base

@@ -1,9 +1,9 @@
 -- How the machine holds the states of placed code, and where its parts stand.
-use Rattle.std.specs.Prelude.{◌≡◌, ℕ, List, [], length, get_or, Option, Some}
+use Rattle.std.specs.Prelude.{◌≡◌, ℕ, ◌<◌, List, [], length, get_or, Option, Some}
 use Rattle.v32_isa.specs.State.{register_of, word_at}
 use Rattle.v32_isa.specs.State as machine
 use Rattle.mid_code.specs.declared.placed.Where.{Where}
-use Rattle.mid_code.specs.Code.{maybe}
+use Rattle.mid_code.specs.Code.{Do, maybe}
 use Rattle.mid_code.specs.Meaning.{Lang}
 use Rattle.mid_code.specs.States.{State, registers_and_slots, function_at, over_worlds}
 use Rattle.mid_code.specs.Invariants.{AllOf, AreDifferent}
@@ -13,7 +13,8 @@ use Rattle.asm_laws.specs.Names.{function_label}
 use Rattle.asm_laws.specs.Operations.{in_one, one_or_more, more_of, call_items, giving}
 use Rattle.asm_laws.specs.Standing.{Stand}
 use Rattle.asm_laws.specs.Tests.{Tests}
-use Rattle.asm_laws.specs.Addresses.{Addr, Held}
+use Rattle.asm_laws.specs.Addresses.{Addr, having, Held}
+use Rattle.asm_laws.specs.Spare.{Stays, Sparing}
 use Rattle.asm_laws.specs.Framing.{frame_made, frame_gone}
 use Rattle.asm_laws.specs.Holds.{Setting, Named, Ctx, Stands, HoldsAt, depth_of}
 use Rattle.asm_laws.specs.Acting.{Fitting, FrontFits}
@@ -27,19 +28,23 @@ pub record Callable (S : Setting) (f : ℕ) : Type 0 where
   pub params_named : AllOf (Named S f) (S.whole.params f)
   pub params_differ : AreDifferent (S.whole.params f)
 
--- the machine holds a state
+-- the machine holds a state; in registers that hold no places it may have other words
 pub record Mach (S : Setting) (κ : Ctx) (s : State Where) (m : machine.State) : Type 0 where
   pub place : ℕ → ℕ
   pub words : Addr
   pub at : HoldsAt S κ s.world.store s.cells place words
-  pub held : Held S.console words m
+  pub registers : ℕ → ℕ
+  pub like : (r : ℕ) → r < (S.whole.frames κ.fn).registers → registers r ≡ words.regs r
+  pub held : Held S.console (having registers words) m
 
 -- at a function's end, with the result in register 9
 pub record Given (S : Setting) (κ : Ctx) (s : State Where) (m : machine.State) : Type 0 where
   pub place : ℕ → ℕ
   pub words : Addr
   pub at : HoldsAt S κ s.world.store s.cells place words
-  pub held : Held S.console words m
+  pub registers : ℕ → ℕ
+  pub like : (r : ℕ) → r < (S.whole.frames κ.fn).registers → registers r ≡ words.regs r
+  pub held : Held S.console (having registers words) m
   pub given : Stands (length s.world.store.objects) place s.given (register_of m 9)
 
 -- Where the run has ended, memory is as a machine reads it that holds the state.
@@ -72,12 +77,14 @@ pub record CallAt (S : Setting) (f pc : ℕ) (t : Option Where) (g : ℕ) (args 
   pub callable : Callable S g
   pub target : AllOf (Named S f) (maybe t)
   pub args_named : AllOf (Named S f) args
+  pub args_stay : AllOf (Stays (S.whole.frames f).registers) args
   pub count : length args ≡ length (S.whole.params g)
   pub stands : Stand S.console.words S.address pc (call_items S.whole (S.whole.frames f) t g args) p
 
 -- a result is given, and the function's end comes next
 pub record GivingAt (S : Setting) (f pc : ℕ) (w : Option Where) : Type 0 where
   pub named : AllOf (Named S f) (maybe w)
+  pub stays : AllOf (Stays (S.whole.frames f).registers) (maybe w)
   pub then : ℕ
   pub stands : Stand S.console.words S.address pc (giving (S.whole.frames f) w) then
   pub passes : Passes S.console.words then (S.leaves f)
@@ -87,9 +94,10 @@ shapes S = record {
   words = S.console.words;
   op = λ f pc o c more p. Fitting S f o × FrontFits S f c more
       × Stand S.console.words S.address pc (one_or_more S.whole (S.whole.frames f) o (in_one S.whole (S.whole.frames f) o c)) p
-      × (more ≡ more_of (in_one S.whole (S.whole.frames f) o c));
+      × (more ≡ more_of (in_one S.whole (S.whole.frames f) o c)) × Sparing (S.whole.frames f).registers (Do o c) 0;
   call = CallAt S;
-  test = λ f pc w other next. Named S f w × Tests S.console.words S.address (S.whole.frames f) pc w other next;
+  test = λ f pc w other next. Named S f w × Tests S.console.words S.address (S.whole.frames f) pc w other next
+      × Stays (S.whole.frames f).registers w;
   giving = GivingAt S;
 }
 

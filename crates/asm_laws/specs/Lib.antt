@@ -1,5 +1,7 @@
 pub mod Names
 pub mod Moves
+pub mod Pieces
+pub mod Spare
 pub mod Operations
 pub mod Framing
 pub mod Placing

@@ -40,6 +40,7 @@ pub record Linked (S : Setting) (card : Option (List ℕ)) (boot rest : ℕ) : T
   pub boot_as : S.called_as boot ≡ None
   pub boot_depth : depth_of S boot ≡ 0
   pub rest_depth : depth_of S rest ≡ 0
+  pub rest_registers : (S.whole.frames rest).registers ≡ (S.whole.frames boot).registers
   pub rest_size : (S.whole.frames rest).size ≡ 0
   pub rest_slots : (k : ℕ) → S.has_slot rest k → ⊥
   pub after : ℕ

@@ -6,9 +6,9 @@ use Rattle.v32_isa.specs.declared.instruction.Plain.TheVariants.{HLT, WAIT}
 use Rattle.v32_isa.specs.declared.instruction.Go.TheVariants.{CALL}
 use Rattle.v32_isa.specs.declared.instruction.One.{One as OneOf}
 use Rattle.v32_isa.specs.declared.instruction.Two.{Two as TwoOf}
-use Rattle.v32_isa.specs.declared.instruction.Two.TheVariants.{IEQ, INE, IGT, IGE, ILT, ILE, AND, OR, XOR, IADD, ISUB, IMUL}
+use Rattle.v32_isa.specs.declared.instruction.Two.TheVariants.{IADD, ISUB}
 use Rattle.v32_isa.specs.declared.instruction.Src.TheVariants as src
-use Rattle.v32_isa.specs.declared.instruction.Mov.TheVariants.{RegImm, RegReg, RegAtReg, RegAtOff, AtRegReg, AtOffReg}
+use Rattle.v32_isa.specs.declared.instruction.Mov.TheVariants.{RegImm, RegReg, RegAt, RegAtReg, RegAtOff, AtReg, AtRegReg, AtOffReg}
 use Rattle.v32_isa.specs.declared.instruction.Instr.{Instr}
 use Rattle.v32_isa.specs.declared.instruction.Instr.TheVariants as instr
 use Rattle.asm_items.specs.declared.item.AsmItem.{AsmItem}
@@ -20,6 +20,10 @@ use Rattle.mid_code.specs.Code.{NodesT, Do, OpT, ConstO, NullO, MoveO, OneO, Two
 use Rattle.mid_code.specs.Code.{StoreO, FreshO, EndO, InO, OutO, WaitO, HaltO}
 use Rattle.asm_laws.specs.Names.{literal_label, function_label}
 use Rattle.asm_laws.specs.Moves.{Move, in_order}
+use Rattle.asm_laws.specs.declared.used.Used.{Used}
+use Rattle.asm_laws.specs.declared.used.Used.TheVariants.{Computed, Loaded, Stored, Sent}
+use Rattle.asm_laws.specs.Pieces.{register, is_in, turned}
+use Rattle.asm_laws.specs.Spare.{used_by}
 
 -- the frame of a function: its size, and the offsets of its slots and of its locals' first words. Offset 0 is the
 -- frame's lowest word. A slot that is not listed has its number as its offset. So many of its words are on the stack: all, but none of the start's
@@ -28,6 +32,8 @@ pub record Frame : Type 0 where
   pub locals : List ℕ
   pub size : ℕ
   pub depth : ℕ
+  -- how many registers, from the first one on, hold places between operations: 9, or 8 where register 8 is spare
+  pub registers : ℕ
 
 -- the frame of each function, the places that take its arguments, its name, the addresses of the globals
 pub record Whole : Type 0 where
@@ -46,10 +52,7 @@ slot_word F k = word_at F (get_or F.slots k k)
 abbrev pub local_word : Frame → ℕ → ℕ
 local_word F k = word_at F (get_or F.locals k 0)
 
--- a number as that of a register or of a port
-abbrev pub register : ℕ → ℕ
-register r = r % 16
-
+-- a number as that of a port
 abbrev pub port : ℕ → ℕ
 port p = p % 16384
 
@@ -74,11 +77,6 @@ keeps_some F None = []
 keeps_some F (Some t) = keeps F t ∷ []
 
 -- ---- words where they stand
-
--- whether a place is a register of this number
-abbrev pub is_in : Where → ℕ → Bool
-is_in (Reg q) r = register q == r
-is_in (Slot k) r = false
 
 -- The word of a place is brought into a register: its own, else the one that is given.
 abbrev pub hand : Where → ℕ → ℕ
@@ -127,21 +125,6 @@ in_place F o m a b = takes F a m ++ (brings F b 10 ++ item.Op (instr.Two o m (sr
 
 abbrev pub apart : Frame → TwoOf → Where → Where → Where → List AsmItem
 apart F o t a b = fetches F a 9 ∷ (brings F b 10 ++ item.Op (instr.Two o 9 (src.Reg (hand b 10))) ∷ keeps F t ∷ [])
-
--- the operator that makes the same of its two words the other way round, where there is one
-abbrev pub turned : TwoOf → Option TwoOf
-turned IEQ = Some IEQ
-turned INE = Some INE
-turned IGT = Some ILT
-turned IGE = Some ILE
-turned ILT = Some IGT
-turned ILE = Some IGE
-turned AND = Some AND
-turned OR = Some OR
-turned XOR = Some XOR
-turned IADD = Some IADD
-turned IMUL = Some IMUL
-turned _ = None
 
 -- Where the second word stands in the register of the target, and the first one does not, such an operator works there with its words the other way round.
 abbrev pub is_turned : Where → Where → Where → Bool
@@ -284,8 +267,53 @@ abbrev pub with_word : Frame → Option (ℕ × ℕ) → OpT Where → NodesT Wh
 with_word F None p c = None
 with_word F (Some (r, w)) p c = with_sum r (summed r w p) (with_copy F r w p c) c
 
+-- ---- a known word in a register that is spare
+
+-- the instruction that comes first where a register takes the word of a place, or the word of a place is brought there
+abbrev pub taken : Frame → Where → ℕ → Option (Instr Imm)
+taken F p r = cond (is_in p r) None (Some (fetch F p r))
+
+abbrev pub brought : Frame → Where → ℕ → Option (Instr Imm)
+brought F (Reg q) r = None
+brought F (Slot k) r = Some (fetch F (Slot k) r)
+
+abbrev pub either : Option (Instr Imm) → Option (Instr Imm) → Option (Instr Imm)
+either None i = i
+either (Some i) _ = Some i
+
+-- what is added where an operator works on a word and a known one
+abbrev pub added : TwoOf → ℕ → Option ℕ
+added IADD w = Some w
+added ISUB w = Some (sub 0 w)
+added _ w = None
+
+abbrev pub known : Frame → TwoOf → ℕ → Where → ℕ → Option ℕ → Option (Instr Imm) × Instr Imm
+known F o t (Reg q) w (Some v) = (None, instr.Lea t (register q) (Some (Left v)))
+known F o t p w _ = (taken F p t, instr.Two o t (src.Imm (Left w)))
+
+-- the instruction that uses a known word, behind one where there is one
+abbrev pub using_it : Frame → ℕ → Used → Option (Instr Imm) × Instr Imm
+using_it F w (Computed o t p) = known F o t p w (added o w)
+using_it F w (Loaded t None) = (None, instr.Mov (RegAt t (Left w)))
+using_it F w (Loaded t (Some p)) = (brought F p 9, instr.Mov (RegAtOff t (hand p 9) (Left w)))
+using_it F w (Stored None a) = (brought F a 10, instr.Mov (AtReg (Left w) (hand a 10)))
+using_it F w (Stored (Some p) a) = (either (brought F p 9) (brought F a 10), instr.Mov (AtOffReg (hand p 9) (Left w) (hand a 10)))
+using_it F w (Sent p) = (None, instr.Out (port p) (src.Imm (Left w)))
+
+abbrev pub is_spared : Frame → Option (ℕ × ℕ) → Bool
+is_spared F None = false
+is_spared F (Some (r, w)) = (F.registers == 8) && (r == 8)
+
+abbrev pub with_known : Frame → Option (ℕ × ℕ) → Option (ℕ × Used) → Option (ℕ × Option (Instr Imm) × Instr Imm)
+with_known F (Some (r, w)) (Some (k, u)) = Some (k, (using_it F w u).0, (using_it F w u).1)
+with_known F _ _ = None
+
+-- the operations behind a first one, which may put a known word there
+abbrev pub with_more : Frame → Option (ℕ × ℕ) → OpT Where → NodesT Where → Option (ℕ × Option (Instr Imm) × Instr Imm)
+with_more F put p c = cond (is_spared F put) (with_known F put (used_by (Do p c))) (with_word F put p c)
+
 unfoldable pub in_one : Whole → Frame → OpT Where → NodesT Where → Option (ℕ × Option (Instr Imm) × Instr Imm)
-in_one W F o (Do p c) = with_word F (word_put W o) p c
+in_one W F o (Do p c) = with_more F (word_put W o) p c
 in_one W F o _ = None
 
 -- the items of an operation, and of those that are done together with it; how many these are
@@ -308,7 +336,7 @@ giving F (Some p) = fetches F p 9 ∷ []
 
 -- the start's slots lie where the frame of main comes to stand
 abbrev pub start_frame : Frame
-start_frame = record { slots = []; locals = []; size = 1000000; depth = 0 }
+start_frame = record { slots = []; locals = []; size = 1000000; depth = 0; registers = 9 }
 
 -- a literal: its label, its words and a zero
 abbrev pub literal_items : ℕ → List ℕ → List AsmItem

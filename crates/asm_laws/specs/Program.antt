@@ -15,6 +15,7 @@ use Rattle.asm_laws.specs.Placing.{Shapes, Passes, At}
 use Rattle.asm_laws.specs.Names.{function_label}
 use Rattle.asm_laws.specs.Operations.{in_one, one_or_more, more_of, call_items, giving}
 use Rattle.asm_laws.specs.Standing.{Stand}
+use Rattle.asm_laws.specs.Spare.{Sparing}
 use Rattle.asm_laws.specs.Tests.{Tests}
 use Rattle.asm_laws.specs.Framing.{frame_made, frame_gone}
 use Rattle.asm_laws.specs.Holds.{Setting, local_offset, Named, Fits, depth_of}
@@ -61,15 +62,18 @@ pub record Program (S : Setting) (boot rest : ℕ) (card : Option (List ℕ)) : 
   pub start_nodes : AreNodes S.code (length (S.locals boot)) [] S.code.start.body
   pub start_names : Names (Named S boot) S.code.start.body
   pub start_sound : Sound S boot
+  pub start_spares : Sparing (S.whole.frames boot).registers S.code.start.body 0
   pub start_quiet : CallsNone S.code.start.body
   pub nodes : (g : ℕ) → Callable S g → AreNodes S.code (length (S.locals g)) [] (function_at S.code g).body
   pub names : (g : ℕ) → Callable S g → Names (Named S g) (function_at S.code g).body
   pub sound : (g : ℕ) → Callable S g → Sound S g
+  pub spares : (g : ℕ) → Callable S g → Sparing (S.whole.frames g).registers (function_at S.code g).body 0
   pub calls : (f : ℕ) → Callable S f → (g : ℕ) (fn : FunctionT Where) → slice_get S.code.functions g ≡ Some fn
       → (depth_of S f ≡ (S.whole.frames f).size) × Callable S g × (S.whole.params g ≡ fn.params)
   pub main : Callable S S.code.main
   pub main_params : S.whole.params S.code.main ≡ []
   pub rest_as : S.called_as rest ≡ S.called_as boot
   pub rest_depth : depth_of S rest ≡ 0
+  pub rest_registers : (S.whole.frames rest).registers ≡ (S.whole.frames boot).registers
   pub rest_size : (S.whole.frames rest).size ≡ 0
   pub rest_slots : (k : ℕ) → S.has_slot rest k → ⊥

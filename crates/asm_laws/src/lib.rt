@@ -3,8 +3,10 @@
 
 mod behind;
 mod laws;
+mod used;
 
 pub use behind::Behind;
 pub use laws::{
     calls_stay_within_numbers, placed_code_agrees, places_have_numbers_or_are_forbidden,
 };
+pub use used::Used;

@@ -3,12 +3,14 @@
 // A choice of places is made better: where a temporary is made only to be the first operand of one operation, it stands at that operation's
 // target, so no instruction moves it there. What is made is taken only where `is_safe` of reg_choose says that it is safe, so safe choices stay safe.
 mod entry;
+mod immediates;
 mod merge;
 mod operands;
 mod places;
 mod registers;
 mod share;
 mod singles;
+mod spare;
 mod upwards;
 
 pub(crate) use share::share_all;

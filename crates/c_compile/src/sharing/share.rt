@@ -10,7 +10,8 @@ ghost use Rattle.reg_choose.specs.Each.{EachSpares, AllSpare, places_in, IsNamed
 use crate::sharing::entry::merge_params;
 use crate::sharing::merge::merge_nodes;
 use crate::sharing::registers::adds_no_slot;
-use crate::sharing::singles::singles;
+use crate::sharing::singles::{counts, singles};
+use crate::sharing::spare::leave_register;
 use kit_base::{Memory, Seq};
 use mid_code::laws::mid_code_is_sound;
 use mid_code::{Choice, Function, Mid, Where};
@@ -25,10 +26,18 @@ fn copy(alloc: Global, at: &[Where]) -> Result<Choice, Memory>
     })
 }
 
-/// The choice in which first operands stand at the places of targets. Nothing rests on it: it is tested.
+/// The choice in which immediate operands stand in register 8 alone, and first operands at the places of targets. Nothing rests on it: it is tested.
 fn merged(alloc: Global, f: &Function<u32>, given: &[Where]) -> Result<Choice, Memory> {
-    let single = singles(alloc, f)?;
+    let counts = counts(alloc, f)?;
+    let mut single = singles(alloc, counts.as_slice())?;
     let mut at = given.to_vec(alloc)?;
+    leave_register(
+        alloc,
+        f.body.as_slice(),
+        counts.as_slice(),
+        single.as_mut_slice(),
+        at.as_mut_slice(),
+    )?;
     merge_nodes(single.as_slice(), at.as_mut_slice(), f.body.as_slice());
     Ok(Choice {
         at: Seq::from_vec(at),
@@ -37,7 +46,8 @@ fn merged(alloc: Global, f: &Function<u32>, given: &[Where]) -> Result<Choice, M
 
 /// The choice in which parameters, too, stand at the places of the locals that take them. It is tested as well.
 fn entered(alloc: Global, f: &Function<u32>, given: &[Where]) -> Result<Choice, Memory> {
-    let single = singles(alloc, f)?;
+    let counts = counts(alloc, f)?;
+    let single = singles(alloc, counts.as_slice())?;
     let mut at = given.to_vec(alloc)?;
     merge_params(
         single.as_slice(),

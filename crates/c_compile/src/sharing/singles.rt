@@ -6,9 +6,9 @@ use std::alloc::Global;
 
 /// How often a temporary is a target or a parameter, and how often it is used; a count stands still at its type's end.
 #[derive(Clone, Copy)]
-struct Count {
-    made: u32,
-    used: u32,
+pub(crate) struct Count {
+    pub(crate) made: u32,
+    pub(crate) used: u32,
 }
 
 fn make(counts: &mut [Count], t: u32) {
@@ -83,13 +83,18 @@ fn count_nodes(counts: &mut [Count], ns: &[Node<u32>]) {
     }
 }
 
-/// Of each temporary whether it is single: a target once and used once, and no parameter.
-pub(crate) fn singles(alloc: Global, f: &Function<u32>) -> Result<Vec<bool>, Memory> {
+/// Of each temporary how often it is a target or a parameter, and how often it is used.
+pub(crate) fn counts(alloc: Global, f: &Function<u32>) -> Result<Vec<Count>, Memory> {
     let mut counts = Vec::from_elem(alloc, Count { made: 0, used: 0 }, f.temps as usize)?;
     make_all(counts.as_mut_slice(), f.params.as_slice());
     count_nodes(counts.as_mut_slice(), f.body.as_slice());
+    Ok(counts)
+}
+
+/// Of each temporary whether it is single: a target once and used once, and no parameter.
+pub(crate) fn singles(alloc: Global, counts: &[Count]) -> Result<Vec<bool>, Memory> {
     let mut found = Vec::new(alloc);
-    for count in counts.as_slice() {
+    for count in counts {
         found.push(count.made == 1 && count.used == 1)?;
     }
     Ok(found)

@@ -13,15 +13,45 @@ bool card_is_connected()
 void card_read_data(int* to, int offset, int count)
 {
     int* from = card_memory() + offset;
-    for (int i = 0; i < count; i++)
-        to[i] = from[i];
+    while (count >= 4)
+    {
+        to[0] = from[0];
+        to[1] = from[1];
+        to[2] = from[2];
+        to[3] = from[3];
+        to += 4;
+        from += 4;
+        count -= 4;
+    }
+    while (count > 0)
+    {
+        *to = *from;
+        to++;
+        from++;
+        count--;
+    }
 }
 
 void card_write_data(int* from, int offset, int count)
 {
     int* to = card_memory() + offset;
-    for (int i = 0; i < count; i++)
-        to[i] = from[i];
+    while (count >= 4)
+    {
+        to[0] = from[0];
+        to[1] = from[1];
+        to[2] = from[2];
+        to[3] = from[3];
+        to += 4;
+        from += 4;
+        count -= 4;
+    }
+    while (count > 0)
+    {
+        *to = *from;
+        to++;
+        from++;
+        count--;
+    }
 }
 
 #endif

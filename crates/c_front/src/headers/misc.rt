@@ -17,15 +17,43 @@ void srand(int seed)
 
 void memset(int* to, int word, int count)
 {
-    for (int i = 0; i < count; i++)
-        to[i] = word;
+    while (count >= 4)
+    {
+        to[0] = word;
+        to[1] = word;
+        to[2] = word;
+        to[3] = word;
+        to += 4;
+        count -= 4;
+    }
+    while (count > 0)
+    {
+        *to = word;
+        to++;
+        count--;
+    }
 }
 
 // words in ascending order
 void memcpy(int* to, int* from, int count)
 {
-    for (int i = 0; i < count; i++)
-        to[i] = from[i];
+    while (count >= 4)
+    {
+        to[0] = from[0];
+        to[1] = from[1];
+        to[2] = from[2];
+        to[3] = from[3];
+        to += 4;
+        from += 4;
+        count -= 4;
+    }
+    while (count > 0)
+    {
+        *to = *from;
+        to++;
+        from++;
+        count--;
+    }
 }
 
 // the difference of the first words that differ, else 0

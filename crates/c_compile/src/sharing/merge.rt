@@ -1,4 +1,5 @@
-// Operands moved to the places of targets, from the last node of each list to the first.
+// Operands moved to the places of targets and parameters, from the last node of each list to the first.
+use crate::sharing::arguments::{Callees, merge_arguments};
 use crate::sharing::operands::{can_turn, names_of, takes_place};
 use crate::sharing::places::{maybe_stands, place};
 use crate::sharing::upwards::{may_stand, op_at};
@@ -116,37 +117,43 @@ fn move_of(
     }
 }
 
-fn merge_at(single: &[bool], at: &mut [Where], ns: &[Node<u32>], i: usize) {
+fn merge_at(single: &[bool], at: &mut [Where], ns: &[Node<u32>], i: usize, callees: Callees) {
     if let Some(o) = op_at(ns, i) {
         if let Some((a, to)) = move_of(single, at, ns, i, o) {
             put(at, a, to);
         }
+        merge_arguments(single, at, ns, i, o, callees);
     }
 }
 
 #[cycle(merge)]
-fn merge_inside(single: &[bool], at: &mut [Where], n: &Node<u32>) {
+fn merge_inside(single: &[bool], at: &mut [Where], n: &Node<u32>, callees: Callees) {
     match n {
         Node::Do(_) => {}
         Node::Choose(_, a, b) => {
-            merge_nodes(single, at, a.as_slice());
-            merge_nodes(single, at, b.as_slice());
+            merge_nodes(single, at, a.as_slice(), callees);
+            merge_nodes(single, at, b.as_slice(), callees);
         }
-        Node::Block(b) => merge_nodes(single, at, b.as_slice()),
-        Node::Loop(b) => merge_nodes(single, at, b.as_slice()),
+        Node::Block(b) => merge_nodes(single, at, b.as_slice(), callees),
+        Node::Loop(b) => merge_nodes(single, at, b.as_slice(), callees),
         Node::Leave(_) => {}
         Node::Again(_) => {}
         Node::Return(_) => {}
     }
 }
 
-/// Moves first operands to the places of targets, in the nodes and in those inside them.
+/// Moves first operands to the places of targets, and arguments to those of parameters, in the nodes and in those inside them.
 #[cycle(merge)]
-pub(crate) fn merge_nodes(single: &[bool], at: &mut [Where], ns: &[Node<u32>]) {
+pub(crate) fn merge_nodes(
+    single: &[bool],
+    at: &mut [Where],
+    ns: &[Node<u32>],
+    callees: Callees,
+) {
     let mut i = ns.len();
     while i > 0 {
         i -= 1;
-        merge_at(single, at, ns, i);
-        merge_inside(single, at, &ns[i]);
+        merge_at(single, at, ns, i, callees);
+        merge_inside(single, at, &ns[i], callees);
     }
 }

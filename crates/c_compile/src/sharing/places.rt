@@ -32,7 +32,8 @@ fn one_stands(at: &[Where], ts: &[u32], r: Where) -> bool {
     false
 }
 
-fn argument_stands(at: &[Where], o: &Op<u32>, r: Where) -> bool {
+/// Whether an argument of a call stands at the place.
+pub(crate) fn argument_stands(at: &[Where], o: &Op<u32>, r: Where) -> bool {
     if let Op::Call(_, _, arguments) = o {
         one_stands(at, arguments.as_slice(), r)
     } else {

@@ -7,6 +7,7 @@ ghost use Rattle.mid_code.specs.Whole.{mid};
 ghost use Rattle.mid_code.specs.Safe.{IsSafe, SparesSlots, IsRegister, AllPlaces};
 ghost use Rattle.reg_choose.specs.Each.{EachSpares, AllSpare, places_in, IsNamed};
 
+use crate::sharing::arguments::Callees;
 use crate::sharing::entry::merge_params;
 use crate::sharing::merge::merge_nodes;
 use crate::sharing::registers::adds_no_slot;
@@ -27,18 +28,34 @@ fn copy(alloc: Global, at: &[Where]) -> Result<Choice, Memory>
 }
 
 /// The choice in which immediate operands stand in register 8 alone, and first operands at the places of targets. Nothing rests on it: it is tested.
-fn merged(alloc: Global, f: &Function<u32>, given: &[Where]) -> Result<Choice, Memory> {
+fn merged(
+    alloc: Global,
+    f: &Function<u32>,
+    given: &[Where],
+    functions: &[Function<u32>],
+    choices: &[Choice],
+) -> Result<Choice, Memory> {
     let counts = counts(alloc, f)?;
     let mut single = singles(alloc, counts.as_slice())?;
     let mut at = given.to_vec(alloc)?;
-    leave_register(
+    let spares = leave_register(
         alloc,
         f.body.as_slice(),
         counts.as_slice(),
         single.as_mut_slice(),
         at.as_mut_slice(),
     )?;
-    merge_nodes(single.as_slice(), at.as_mut_slice(), f.body.as_slice());
+    let callees = Callees {
+        functions,
+        choices,
+        spares,
+    };
+    merge_nodes(
+        single.as_slice(),
+        at.as_mut_slice(),
+        f.body.as_slice(),
+        callees,
+    );
     Ok(Choice {
         at: Seq::from_vec(at),
     })
@@ -89,14 +106,20 @@ fn share_entry(alloc: Global, f: &Function<u32>, given: Choice) -> Result<Choice
 }
 
 /// The choice for one function: the one in which operands share places where it serves, else the given one; then the same of parameters.
-fn share(alloc: Global, f: &Function<u32>, given: &[Where]) -> Result<Choice, Memory>
+fn share(
+    alloc: Global,
+    f: &Function<u32>,
+    given: &[Where],
+    functions: &[Function<u32>],
+    choices: &[Choice],
+) -> Result<Choice, Memory>
     requires named { IsNamed (function f.now) }
     requires safe { IsSafe (function f.now) given.now }
     requires spares { SparesSlots (function f.now) given.now }
     ensures safe { IfOk result (λ c. IsSafe (function f.now) c.at) }
     ensures spares { IfOk result (λ c. SparesSlots (function f.now) c.at) }
 {
-    let other = merged(alloc, f, given)?;
+    let other = merged(alloc, f, given, functions, choices)?;
     if serves(alloc, f, given, &other)? {
         share_entry(alloc, f, other)
     } else {
@@ -137,14 +160,15 @@ fn share_each(
     let Some((first, others)) = next_choice(choices) else {
         return Ok(found);
     };
-    found.push(share(alloc, start, first.at.as_slice())?)?;
+    found.push(share(alloc, start, first.at.as_slice(), fs, &[])?)?;
     let mut rest = fs;
     let mut given = others;
     'functions: while let Some((f, after)) = next(rest) {
         let Some((choice, behind)) = next_choice(given) else {
             break;
         };
-        found.push(share(alloc, f, choice.at.as_slice())?)?;
+        let next = share(alloc, f, choice.at.as_slice(), fs, found.as_slice())?;
+        found.push(next)?;
         rest = after;
         given = behind;
     }

@@ -112,22 +112,21 @@ fn strike_all(single: &mut [bool], immediate: &[bool]) {
 }
 
 /// Puts immediate operands into register 8, where another one is unused for what stood there; the emitter has them inside instructions then, and none puts
-/// them anywhere. They, and what they are made of, are single no more.
+/// them anywhere. They, and what they are made of, are single no more. Whether register 8 is left to them.
 pub(crate) fn leave_register(
     alloc: Global,
     ns: &[Node<u32>],
     counts: &[Count],
     single: &mut [bool],
     at: &mut [Where],
-) -> Result<(), Memory> {
+) -> Result<bool, Memory> {
     let found = immediates(alloc, counts, at, ns)?;
     let immediate = found.as_slice();
-    if is_any(immediate) {
-        if let Some(other) = unused(at, counts, immediate) {
-            spread(at, immediate, other);
-            strike_all(single, immediate);
-            strike_nodes(single, immediate, ns);
-        }
-    }
-    Ok(())
+    let Some(other) = unused(at, counts, immediate) else {
+        return Ok(false);
+    };
+    spread(at, immediate, other);
+    strike_all(single, immediate);
+    strike_nodes(single, immediate, ns);
+    Ok(is_any(immediate))
 }

@@ -1,7 +1,7 @@
 -- How many temporaries trees have of their own, beside the one that takes what they come to; and the words of the locals in which their structures
 -- stand, in order.
 use Rattle.std.specs.Prelude.{ℕ, ◌+◌, Bool, true, false, List, [], ◌∷◌, ◌++◌, Option, Some, None, if◌then◌else◌}
-use Rattle.c_types.specs.Types.{Ty}
+use Rattle.c_types.specs.Types.{Ty, VoidY, StructY, UnionY, ArrayY}
 use Rattle.c_types.specs.Typed.{TExprT, Typed, TKindT, UnaryK, BinaryK, AssignK, StepK, IndexK, MemberK, ArrowK, CastK, CallK, OutK, TExprTs, NoX}
 use Rattle.c_types.specs.Typed.{MoreX, TInitT, OneI, TextI, ListI, TInitTs, NoI, MoreI, TVarT, TStmtT, BlockZ, EmptyZ, VarsZ, DoZ, IfZ, WhileZ}
 use Rattle.c_types.specs.Typed.{DoWhileZ, ForZ, SwitchZ, ReturnZ, BreakZ, ContinueZ, MaybeZ, NoneZ, SomeZ, TStmtTs, NoZ, MoreZ, TArmT, CaseB}
@@ -14,40 +14,52 @@ use Rattle.lower_trees.specs.Shape.{Shape, words, result_of}
 
 -- ---- temporaries
 
--- the value of an expression, which has so many of its own: a place stands in one more before it is read
-abbrev pub with_place : (place : Bool) → ℕ → ℕ
-with_place true n = n + 1
-with_place false n = n
+-- whether a value of a type is one cell that is read from its place
+abbrev pub is_scalar : Ty → Bool
+is_scalar VoidY = false
+is_scalar (StructY number) = false
+is_scalar (UnionY number) = false
+is_scalar (ArrayY of len) = false
+is_scalar _ = true
+
+-- the value of an expression of this type, which has so many of its own: a scalar's place stands in one more before it is read
+abbrev pub with_place : (place : Bool) → Ty → ℕ → ℕ
+with_place true ty n = if is_scalar ty then n + 1 else n
+with_place false ty n = n
 
 -- `&` leaves a place as it is
 abbrev pub unary_temps : UnOp → TExprT → ℕ → ℕ
 unary_temps Address x n = n
-unary_temps _ x n = with_place (is_place x) n
+unary_temps _ x n = with_place (is_place x) (type_of x) n
+
+-- the size of an element of this type; a scalar has one word
+abbrev pub size_temps : Ty → ℕ
+size_temps ty = if is_scalar ty then 0 else 1
 
 abbrev mutual
   pub temps : TExprT → ℕ
-  temps (Typed kind ty span) = temps_of kind
+  temps (Typed kind ty span) = temps_of kind ty
 
-  pub temps_of : TKindT → ℕ
-  temps_of (UnaryK op x) = unary_temps op x (temps x)
-  temps_of (BinaryK op x y) = with_place (is_place x) (temps x) + with_place (is_place y) (temps y) + 2
-  temps_of (AssignK op x y) = temps x + with_place (is_place y) (temps y) + 3
-  temps_of (StepK op x) = temps x + 2
-  temps_of (IndexK x y) = with_place (is_place x) (temps x) + with_place (is_place y) (temps y) + 2
-  temps_of (MemberK x offset) = temps x + 1
-  temps_of (ArrowK x offset) = with_place (is_place x) (temps x) + 1
-  temps_of (CastK x) = with_place (is_place x) (temps x)
-  temps_of (CallK f xs) = temps_all xs
-  temps_of (OutK port x) = with_place (is_place x) (temps x)
-  temps_of _ = 0
+  pub temps_of : TKindT → Ty → ℕ
+  temps_of (UnaryK op x) ty = unary_temps op x (temps x)
+  temps_of (BinaryK op x y) ty = with_place (is_place x) (type_of x) (temps x) + with_place (is_place y) (type_of y) (temps y) + 3
+  temps_of (AssignK op x y) ty = temps x + with_place (is_place y) (type_of y) (temps y) + 3
+  temps_of (StepK op x) ty = temps x + 2
+  temps_of (IndexK x y) ty = with_place (is_place x) (type_of x) (temps x) + with_place (is_place y) (type_of y) (temps y) + (2 + size_temps ty)
+  temps_of (MemberK x offset) ty = temps x + 1
+  temps_of (ArrowK x offset) ty = with_place (is_place x) (type_of x) (temps x) + 1
+  temps_of (CastK x) ty = with_place (is_place x) (type_of x) (temps x)
+  temps_of (CallK f xs) ty = temps_all xs
+  temps_of (OutK port x) ty = with_place (is_place x) (type_of x) (temps x)
+  temps_of _ ty = 0
 
   -- an argument comes to one
   pub temps_all : TExprTs → ℕ
   temps_all NoX = 0
-  temps_all (MoreX x xs) = with_place (is_place x) (temps x) + 1 + temps_all xs
+  temps_all (MoreX x xs) = with_place (is_place x) (type_of x) (temps x) + 1 + temps_all xs
 
 abbrev pub value_temps : TExprT → ℕ
-value_temps x = with_place (is_place x) (temps x)
+value_temps x = with_place (is_place x) (type_of x) (temps x)
 
 abbrev mutual
   pub init_temps : TInitT → ℕ

@@ -25,11 +25,12 @@ Low = (t n m : ℕ) → Nodes → Nodes
 
 -- ---- values
 
--- The value of a place of this type: of a scalar its cell, of a structure a pointer to a copy in the local k, of an array the place itself. A
--- scalar's place stands in a temporary of its own.
+-- The value of a place of this type: of a scalar its cell, of a structure a pointer to a copy in the local k, of an array the place itself, of
+-- void nothing. A scalar's place stands in a temporary of its own.
 abbrev pub read : Shape → Ty → (k : ℕ) → Low → Low
-read h (ArrayY of len) k place t n m c = place t (n + 1) m c
-read h ty k place t n m c = if is_structure ty then place t (n + 1) m (structure_read (words h ty) k t c) else place n (n + 1) m (Do (LoadO t n) c)
+read h (ArrayY of len) k place t n m c = place t n m c
+read h VoidY k place t n m c = place t n m c
+read h ty k place t n m c = if is_structure ty then place t n m (structure_read (words h ty) k t c) else place n (n + 1) m (Do (LoadO t n) c)
 
 abbrev pub value_of : Shape → (place : Bool) → Ty → (k : ℕ) → Low → Low
 value_of h true ty k part t n m c = read h ty k part t n m c
@@ -59,13 +60,18 @@ second x n = n + 1 + value_temps x
 abbrev pub beyond : Shape → TExprT → (m : ℕ) → ℕ
 beyond h x m = m + length (value_sizes h x)
 
+-- the size of an element, behind both
+abbrev pub size_at : (x y : TExprT) → (n : ℕ) → ℕ
+size_at x y n = second y (second x n)
+
 abbrev pub binary : Shape → BinOp → (x y : TExprT) → (first last : Low) → Low
 binary h AndAlso x y first last t n m c =
     test h x first t n m (Choose t (test h y last t (second x n) (beyond h x m) (as_flag (tests_flag y) t Stop)) (Do (ConstO t 0) Stop) c)
 binary h OrElse x y first last t n m c =
     test h x first t n m (Choose t (Do (ConstO t 1) Stop) (test h y last t (second x n) (beyond h x m) (as_flag (tests_flag y) t Stop)) c)
 binary h op x y first last t n m c =
-    value h x first n (n + 1) m (value h y last (second x n) (second x n + 1) (beyond h x m) (operated h op (type_of x) (type_of y) t n (second x n) c))
+    value h x first n (n + 1) m (value h y last (second x n) (second x n + 1) (beyond h x m)
+    (operated h op (type_of x) (type_of y) t n (second x n) (size_at x y n) c))
 
 -- ---- assignments and steps: the place comes to n
 
@@ -73,28 +79,29 @@ binary h op x y first last t n m c =
 abbrev pub behind_place : TExprT → (n : ℕ) → ℕ
 behind_place x n = n + 1 + temps x
 
--- A compound assignment reads the old cell after the value.
+-- A compound assignment reads the old cell after the value, and operates on it where it stands.
 abbrev pub assign : Shape → Option BinOp → (x y : TExprT) → (first last : Low) → Low
 assign h None x y first last t n m c =
     first n (n + 1) m (value h y last t (behind_place x n + 2) (m + length (sizes h x)) (converted (type_of x) (is_flag y) t (stored h (type_of x) n t c)))
 assign h (Some op) x y first last t n m c =
     first n (n + 1) m (value h y last (behind_place x n) (behind_place x n + 2) (m + length (sizes h x))
-    (Do (LoadO (behind_place x n + 1) n) (operated h op (type_of x) (type_of y) t (behind_place x n + 1) (behind_place x n)
+    (Do (LoadO t n) (operated h op (type_of x) (type_of y) t t (behind_place x n) (behind_place x n + 1)
     (converted (type_of x) false t (Do (StoreO n t) c)))))
 
-abbrev pub step_made : Shape → StepOp → Ty → (new old : ℕ) → Nodes → Nodes
-step_made h PreUp ty new old c = one_more h (pointed (decayed ty)) new old c
-step_made h PostUp ty new old c = one_more h (pointed (decayed ty)) new old c
-step_made h PreDown ty new old c = one_less h (pointed (decayed ty)) new old c
-step_made h PostDown ty new old c = one_less h (pointed (decayed ty)) new old c
+-- by how much comes to n + 1
+abbrev pub step_made : Shape → StepOp → Ty → (new old by : ℕ) → Nodes → Nodes
+step_made h PreUp ty new old by c = one_more h (pointed (decayed ty)) new old by c
+step_made h PostUp ty new old by c = one_more h (pointed (decayed ty)) new old by c
+step_made h PreDown ty new old by c = one_less h (pointed (decayed ty)) new old by c
+step_made h PostDown ty new old by c = one_less h (pointed (decayed ty)) new old by c
 
-abbrev pub stepped_to : Shape → StepOp → TExprT → (new old place : ℕ) → Nodes → Nodes
-stepped_to h op x new old p c = Do (LoadO old p) (step_made h op (type_of x) new old (converted (type_of x) false new (Do (StoreO p new) c)))
+abbrev pub stepped_to : Shape → StepOp → TExprT → (new old n : ℕ) → Nodes → Nodes
+stepped_to h op x new old n c = Do (LoadO old n) (step_made h op (type_of x) new old (n + 1) (converted (type_of x) false new (Do (StoreO n new) c)))
 
 -- a prefix step gives the new cell, a postfix step the old one
 abbrev pub step_taken : Shape → StepOp → TExprT → Low → Low
-step_taken h PreUp x place t n m c = place n (n + 2) m (stepped_to h PreUp x t (n + 1) n c)
-step_taken h PreDown x place t n m c = place n (n + 2) m (stepped_to h PreDown x t (n + 1) n c)
+step_taken h PreUp x place t n m c = place n (n + 2) m (stepped_to h PreUp x t t n c)
+step_taken h PreDown x place t n m c = place n (n + 2) m (stepped_to h PreDown x t t n c)
 step_taken h PostUp x place t n m c = place n (n + 2) m (stepped_to h PostUp x (n + 1) t n c)
 step_taken h PostDown x place t n m c = place n (n + 2) m (stepped_to h PostDown x (n + 1) t n c)
 
@@ -102,7 +109,7 @@ step_taken h PostDown x place t n m c = place n (n + 2) m (stepped_to h PostDown
 
 abbrev pub index : Shape → Ty → (x y : TExprT) → (first last : Low) → Low
 index h ty x y first last t n m c = value h x first n (n + 1) m
-    (value h y last (second x n) (second x n + 1) (beyond h x m) (stepped (words h ty) t n (second x n) c))
+    (value h y last (second x n) (second x n + 1) (beyond h x m) (stepped (words h ty) t n (second x n) (size_at x y n) c))
 
 -- a scalar member of a structure that is a value, and no place, is read
 abbrev pub member_of : (place : Bool) → Ty → (t : ℕ) → Nodes → Nodes

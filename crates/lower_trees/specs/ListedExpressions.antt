@@ -6,7 +6,7 @@ use Rattle.c_tree.specs.declared.operator.BinOp.{BinOp}
 use Rattle.c_tree.specs.declared.operator.BinOp.TheVariants.{AndAlso, OrElse}
 use Rattle.c_tree.specs.declared.operator.StepOp.{StepOp}
 use Rattle.c_tree.specs.declared.operator.StepOp.TheVariants.{PreUp, PreDown, PostUp, PostDown}
-use Rattle.c_types.specs.Types.{Ty, ArrayY}
+use Rattle.c_types.specs.Types.{Ty, VoidY, ArrayY}
 use Rattle.c_types.specs.Typed.{TExprT, Typed, TKindT, NumberK, NullK, LiteralK, GlobalK, LocalK, UnaryK, BinaryK, AssignK, StepK, IndexK, MemberK}
 use Rattle.c_types.specs.Typed.{ArrowK, CastK, CallK, InK, OutK, WaitK, HaltK, CardK, TExprTs, NoX, MoreX}
 use Rattle.c_exprs.specs.Nodes.{is_place}
@@ -17,7 +17,7 @@ use Rattle.mid_code.specs.Functions.{NodeT, DoN, ChooseN, listed}
 use Rattle.lower_trees.specs.Shape.{Shape, words, params_of, result_of}
 use Rattle.lower_trees.specs.Flags.{is_flag, tests_flag}
 use Rattle.lower_trees.specs.Counts.{temps, sizes, sizes_all}
-use Rattle.lower_trees.specs.Expressions.{is_void, second, beyond, behind_place, spots, later_types}
+use Rattle.lower_trees.specs.Expressions.{is_void, second, beyond, size_at, behind_place, spots, later_types}
 use Rattle.lower_trees.specs.ListedParts.{Listing, moved_by, structure_read, as_flag, converted, stored, stepped, operated, one_more, one_less}
 use Rattle.lower_trees.specs.ListedParts.{tested_as, negated_as}
 
@@ -27,9 +27,10 @@ Lists = (t n m : ℕ) → Listing
 -- ---- values
 
 abbrev pub read_place : Shape → Ty → (k : ℕ) → Lists → Lists
-read_place h (ArrayY of len) k place t n m = place t (n + 1) m
+read_place h (ArrayY of len) k place t n m = place t n m
+read_place h VoidY k place t n m = place t n m
 read_place h ty k place t n m =
-    if is_structure ty then place t (n + 1) m ++ structure_read (words h ty) k t else place n (n + 1) m ++ (DoN (o.Load t n) ∷ [])
+    if is_structure ty then place t n m ++ structure_read (words h ty) k t else place n (n + 1) m ++ (DoN (o.Load t n) ∷ [])
 
 abbrev pub value_of : Shape → (place : Bool) → Ty → (k : ℕ) → Lists → Lists
 value_of h true ty k part t n m = read_place h ty k part t n m
@@ -68,7 +69,8 @@ lazy_choice false t last = ChooseN t (listed (DoN (o.Const t 1) ∷ [])) (listed
 abbrev pub binary_by : Option Bool → Shape → BinOp → (x y : TExprT) → (first last : Lists) → Lists
 binary_by (Some and) h op x y first last t n m = test h x first t n m ++ (lazy_choice and t (second_test h x y last t n m) ∷ [])
 binary_by None h op x y first last t n m =
-    value h x first n (n + 1) m ++ value h y last (second x n) (second x n + 1) (beyond h x m) ++ operated h op (type_of x) (type_of y) t n (second x n)
+    value h x first n (n + 1) m ++ value h y last (second x n) (second x n + 1) (beyond h x m)
+    ++ operated h op (type_of x) (type_of y) t n (second x n) (size_at x y n)
 
 abbrev pub binary : Shape → BinOp → (x y : TExprT) → (first last : Lists) → Lists
 binary h op x y first last t n m = binary_by (lazy_of op) h op x y first last t n m
@@ -80,7 +82,7 @@ assign h None x y first last t n m =
     first n (n + 1) m ++ value h y last t (behind_place x n + 2) (m + length (sizes h x)) ++ converted (type_of x) (is_flag y) t ++ stored h (type_of x) n t
 assign h (Some op) x y first last t n m =
     first n (n + 1) m ++ value h y last (behind_place x n) (behind_place x n + 2) (m + length (sizes h x))
-    ++ (DoN (o.Load (behind_place x n + 1) n) ∷ []) ++ operated h op (type_of x) (type_of y) t (behind_place x n + 1) (behind_place x n)
+    ++ (DoN (o.Load t n) ∷ []) ++ operated h op (type_of x) (type_of y) t t (behind_place x n) (behind_place x n + 1)
     ++ converted (type_of x) false t ++ (DoN (o.Store n t) ∷ [])
 
 -- whether a step gives the cell before it, and whether it counts up
@@ -96,16 +98,16 @@ counts_up PreDown = false
 counts_up PostUp = true
 counts_up PostDown = false
 
-abbrev pub step_made : Shape → (up : Bool) → Ty → (new old : ℕ) → Listing
-step_made h true ty new old = one_more h (pointed (decayed ty)) new old
-step_made h false ty new old = one_less h (pointed (decayed ty)) new old
+abbrev pub step_made : Shape → (up : Bool) → Ty → (new old by : ℕ) → Listing
+step_made h true ty new old by = one_more h (pointed (decayed ty)) new old by
+step_made h false ty new old by = one_less h (pointed (decayed ty)) new old by
 
-abbrev pub stepped_to : Shape → (up : Bool) → Ty → (new old place : ℕ) → Listing
-stepped_to h up ty new old p = (DoN (o.Load old p) ∷ []) ++ step_made h up ty new old ++ converted ty false new ++ (DoN (o.Store p new) ∷ [])
+abbrev pub stepped_to : Shape → (up : Bool) → Ty → (new old n : ℕ) → Listing
+stepped_to h up ty new old n = (DoN (o.Load old n) ∷ []) ++ step_made h up ty new old (n + 1) ++ converted ty false new ++ (DoN (o.Store n new) ∷ [])
 
 abbrev pub step_by : Shape → (old up : Bool) → Ty → (t n : ℕ) → Listing
 step_by h true up ty t n = stepped_to h up ty (n + 1) t n
-step_by h false up ty t n = stepped_to h up ty t (n + 1) n
+step_by h false up ty t n = stepped_to h up ty t t n
 
 abbrev pub step_taken : Shape → StepOp → TExprT → Lists → Lists
 step_taken h op x place t n m = place n (n + 2) m ++ step_by h (gives_old op) (counts_up op) (type_of x) t n
@@ -114,7 +116,7 @@ step_taken h op x place t n m = place n (n + 2) m ++ step_by h (gives_old op) (c
 
 abbrev pub index : Shape → Ty → (x y : TExprT) → (first last : Lists) → Lists
 index h ty x y first last t n m =
-    value h x first n (n + 1) m ++ value h y last (second x n) (second x n + 1) (beyond h x m) ++ stepped (words h ty) t n (second x n)
+    value h x first n (n + 1) m ++ value h y last (second x n) (second x n + 1) (beyond h x m) ++ stepped (words h ty) t n (second x n) (size_at x y n)
 
 abbrev pub member_of : (place : Bool) → Ty → (t : ℕ) → Listing
 member_of true ty t = []

@@ -76,47 +76,47 @@ with_word bin.BitOr t a b = two OR t a b
 with_word bin.AndAlso t a b = []
 with_word bin.OrElse t a b = []
 
-abbrev pub stepped : (size t a b : ℕ) → Listing
-stepped size t a b =
-    if size == 1 then DoN (o.Step t a b) ∷ [] else DoN (o.Const t size) ∷ DoN (o.Two IMUL b b t) ∷ DoN (o.Step t a b) ∷ []
+abbrev pub stepped : (size t a b s : ℕ) → Listing
+stepped size t a b s =
+    if size == 1 then DoN (o.Step t a b) ∷ [] else DoN (o.Const s size) ∷ DoN (o.Two IMUL b b s) ∷ DoN (o.Step t a b) ∷ []
 
-abbrev pub stepped_back : (size t a b : ℕ) → Listing
-stepped_back size t a b = (DoN (o.One ISGN b b) ∷ []) ++ stepped size t a b
+abbrev pub stepped_back : (size t a b s : ℕ) → Listing
+stepped_back size t a b s = (DoN (o.One ISGN b b) ∷ []) ++ stepped size t a b s
 
-abbrev pub distant : (size t a b : ℕ) → Listing
-distant size t a b = DoN (o.Apart t a b) ∷ DoN (o.Const b size) ∷ DoN (o.Two IDIV t t b) ∷ []
+abbrev pub distant : (size t a b s : ℕ) → Listing
+distant size t a b s = DoN (o.Apart t a b) ∷ DoN (o.Const s size) ∷ DoN (o.Two IDIV t t s) ∷ []
 
 abbrev pub compared : Two → (t a b : ℕ) → Listing
 compared op t a b = DoN (o.PtrTest op t a b) ∷ []
 
-abbrev pub with_pointer : BinOp → (size : ℕ) → (pointers : Bool) → (t a b : ℕ) → Listing
-with_pointer bin.Add size pointers t a b = stepped size t a b
-with_pointer bin.Sub size true t a b = distant size t a b
-with_pointer bin.Sub size false t a b = stepped_back size t a b
-with_pointer bin.Equal size pointers t a b = compared IEQ t a b
-with_pointer bin.NotEqual size pointers t a b = compared INE t a b
-with_pointer bin.Less size pointers t a b = compared ILT t a b
-with_pointer bin.LessEq size pointers t a b = compared ILE t a b
-with_pointer bin.More size pointers t a b = compared IGT t a b
-with_pointer bin.MoreEq size pointers t a b = compared IGE t a b
-with_pointer _ size pointers t a b = []
+abbrev pub with_pointer : BinOp → (size : ℕ) → (pointers : Bool) → (t a b s : ℕ) → Listing
+with_pointer bin.Add size pointers t a b s = stepped size t a b s
+with_pointer bin.Sub size true t a b s = distant size t a b s
+with_pointer bin.Sub size false t a b s = stepped_back size t a b s
+with_pointer bin.Equal size pointers t a b s = compared IEQ t a b
+with_pointer bin.NotEqual size pointers t a b s = compared INE t a b
+with_pointer bin.Less size pointers t a b s = compared ILT t a b
+with_pointer bin.LessEq size pointers t a b s = compared ILE t a b
+with_pointer bin.More size pointers t a b s = compared IGT t a b
+with_pointer bin.MoreEq size pointers t a b s = compared IGE t a b
+with_pointer _ size pointers t a b s = []
 
-abbrev pub operated_on : Shape → BinOp → Option Ty → (pointers : Bool) → (t a b : ℕ) → Listing
-operated_on h op None pointers t a b = with_word op t a b
-operated_on h op (Some to_type) pointers t a b = with_pointer op (words h to_type) pointers t a b
+abbrev pub operated_on : Shape → BinOp → Option Ty → (pointers : Bool) → (t a b s : ℕ) → Listing
+operated_on h op None pointers t a b s = with_word op t a b
+operated_on h op (Some to_type) pointers t a b s = with_pointer op (words h to_type) pointers t a b s
 
-abbrev pub operated : Shape → BinOp → (ta tb : Ty) → (t a b : ℕ) → Listing
-operated h op ta tb t a b = operated_on h op (pointed (decayed ta)) (is_pointer (decayed tb)) t a b
+abbrev pub operated : Shape → BinOp → (ta tb : Ty) → (t a b s : ℕ) → Listing
+operated h op ta tb t a b s = operated_on h op (pointed (decayed ta)) (is_pointer (decayed tb)) t a b s
 
 -- ---- steps of one
 
-abbrev pub one_more : Shape → Option Ty → (t a : ℕ) → Listing
-one_more h None t a = DoN (o.Const t 1) ∷ DoN (o.Two IADD t a t) ∷ []
-one_more h (Some to_type) t a = DoN (o.Const t (words h to_type)) ∷ DoN (o.Step t a t) ∷ []
+abbrev pub one_more : Shape → Option Ty → (t a s : ℕ) → Listing
+one_more h None t a s = DoN (o.Const s 1) ∷ DoN (o.Two IADD t a s) ∷ []
+one_more h (Some to_type) t a s = DoN (o.Const s (words h to_type)) ∷ DoN (o.Step t a s) ∷ []
 
-abbrev pub one_less : Shape → Option Ty → (t a : ℕ) → Listing
-one_less h None t a = DoN (o.Const t 1) ∷ DoN (o.Two ISUB t a t) ∷ []
-one_less h (Some to_type) t a = DoN (o.Const t (words h to_type)) ∷ DoN (o.One ISGN t t) ∷ DoN (o.Step t a t) ∷ []
+abbrev pub one_less : Shape → Option Ty → (t a s : ℕ) → Listing
+one_less h None t a s = DoN (o.Const s 1) ∷ DoN (o.Two ISUB t a s) ∷ []
+one_less h (Some to_type) t a s = DoN (o.Const s (words h to_type)) ∷ DoN (o.One ISGN s s) ∷ DoN (o.Step t a s) ∷ []
 
 -- ---- conditions
 

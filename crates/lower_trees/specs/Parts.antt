@@ -96,7 +96,7 @@ converted ty known t c = c
 abbrev pub stored : Shape → Ty → (p a : ℕ) → Nodes → Nodes
 stored h ty p a c = if is_structure ty then Do (MoveO from a) (Do (MoveO to p) (copied (words h ty) c)) else Do (StoreO p a) c
 
--- ---- operators: t takes what they come to, a and b are the operands, and b is used up; these are three temporaries
+-- ---- operators: t takes what they come to, a and b are the operands, and b is used up; t may be a
 
 abbrev pub with_word : BinOp → (t a b : ℕ) → Nodes → Nodes
 with_word bin.Mul t a b c = Do (TwoO IMUL t a b) c
@@ -118,45 +118,45 @@ with_word bin.BitOr t a b c = Do (TwoO OR t a b) c
 with_word bin.AndAlso t a b c = c
 with_word bin.OrElse t a b c = c
 
--- a pointer stepped by so many elements of a size
-abbrev pub stepped : (size t a b : ℕ) → Nodes → Nodes
-stepped size t a b c = if size == 1 then Do (StepO t a b) c else Do (ConstO t size) (Do (TwoO IMUL b b t) (Do (StepO t a b) c))
+-- a pointer stepped by so many elements of a size, which comes to s
+abbrev pub stepped : (size t a b s : ℕ) → Nodes → Nodes
+stepped size t a b s c = if size == 1 then Do (StepO t a b) c else Do (ConstO s size) (Do (TwoO IMUL b b s) (Do (StepO t a b) c))
 
-abbrev pub stepped_back : (size t a b : ℕ) → Nodes → Nodes
-stepped_back size t a b c = Do (OneO ISGN b b) (stepped size t a b c)
+abbrev pub stepped_back : (size t a b s : ℕ) → Nodes → Nodes
+stepped_back size t a b s c = Do (OneO ISGN b b) (stepped size t a b s c)
 
-abbrev pub distant : (size t a b : ℕ) → Nodes → Nodes
-distant size t a b c = Do (ApartO t a b) (Do (ConstO b size) (Do (TwoO IDIV t t b) c))
+abbrev pub distant : (size t a b s : ℕ) → Nodes → Nodes
+distant size t a b s c = Do (ApartO t a b) (Do (ConstO s size) (Do (TwoO IDIV t t s) c))
 
-abbrev pub with_pointer : BinOp → (size : ℕ) → (pointers : Bool) → (t a b : ℕ) → Nodes → Nodes
-with_pointer bin.Add size pointers t a b c = stepped size t a b c
-with_pointer bin.Sub size true t a b c = distant size t a b c
-with_pointer bin.Sub size false t a b c = stepped_back size t a b c
-with_pointer bin.Equal size pointers t a b c = Do (PtrTestO IEQ t a b) c
-with_pointer bin.NotEqual size pointers t a b c = Do (PtrTestO INE t a b) c
-with_pointer bin.Less size pointers t a b c = Do (PtrTestO ILT t a b) c
-with_pointer bin.LessEq size pointers t a b c = Do (PtrTestO ILE t a b) c
-with_pointer bin.More size pointers t a b c = Do (PtrTestO IGT t a b) c
-with_pointer bin.MoreEq size pointers t a b c = Do (PtrTestO IGE t a b) c
-with_pointer _ size pointers t a b c = c
+abbrev pub with_pointer : BinOp → (size : ℕ) → (pointers : Bool) → (t a b s : ℕ) → Nodes → Nodes
+with_pointer bin.Add size pointers t a b s c = stepped size t a b s c
+with_pointer bin.Sub size true t a b s c = distant size t a b s c
+with_pointer bin.Sub size false t a b s c = stepped_back size t a b s c
+with_pointer bin.Equal size pointers t a b s c = Do (PtrTestO IEQ t a b) c
+with_pointer bin.NotEqual size pointers t a b s c = Do (PtrTestO INE t a b) c
+with_pointer bin.Less size pointers t a b s c = Do (PtrTestO ILT t a b) c
+with_pointer bin.LessEq size pointers t a b s c = Do (PtrTestO ILE t a b) c
+with_pointer bin.More size pointers t a b s c = Do (PtrTestO IGT t a b) c
+with_pointer bin.MoreEq size pointers t a b s c = Do (PtrTestO IGE t a b) c
+with_pointer _ size pointers t a b s c = c
 
-abbrev pub operated_on : Shape → BinOp → Option Ty → (pointers : Bool) → (t a b : ℕ) → Nodes → Nodes
-operated_on h op None pointers t a b c = with_word op t a b c
-operated_on h op (Some to_type) pointers t a b c = with_pointer op (words h to_type) pointers t a b c
+abbrev pub operated_on : Shape → BinOp → Option Ty → (pointers : Bool) → (t a b s : ℕ) → Nodes → Nodes
+operated_on h op None pointers t a b s c = with_word op t a b c
+operated_on h op (Some to_type) pointers t a b s c = with_pointer op (words h to_type) pointers t a b s c
 
 -- by the static types of the operands
-abbrev pub operated : Shape → BinOp → (ta tb : Ty) → (t a b : ℕ) → Nodes → Nodes
-operated h op ta tb t a b c = operated_on h op (pointed (decayed ta)) (is_pointer (decayed tb)) t a b c
+abbrev pub operated : Shape → BinOp → (ta tb : Ty) → (t a b s : ℕ) → Nodes → Nodes
+operated h op ta tb t a b s c = operated_on h op (pointed (decayed ta)) (is_pointer (decayed tb)) t a b s c
 
--- ---- steps of one: t takes the cell in a, one more or one less; these are two temporaries
+-- ---- steps of one: t takes the cell in a, one more or one less; by how much comes to s; t may be a or s
 
-abbrev pub one_more : Shape → Option Ty → (t a : ℕ) → Nodes → Nodes
-one_more h None t a c = Do (ConstO t 1) (Do (TwoO IADD t a t) c)
-one_more h (Some to_type) t a c = Do (ConstO t (words h to_type)) (Do (StepO t a t) c)
+abbrev pub one_more : Shape → Option Ty → (t a s : ℕ) → Nodes → Nodes
+one_more h None t a s c = Do (ConstO s 1) (Do (TwoO IADD t a s) c)
+one_more h (Some to_type) t a s c = Do (ConstO s (words h to_type)) (Do (StepO t a s) c)
 
-abbrev pub one_less : Shape → Option Ty → (t a : ℕ) → Nodes → Nodes
-one_less h None t a c = Do (ConstO t 1) (Do (TwoO ISUB t a t) c)
-one_less h (Some to_type) t a c = Do (ConstO t (words h to_type)) (Do (OneO ISGN t t) (Do (StepO t a t) c))
+abbrev pub one_less : Shape → Option Ty → (t a s : ℕ) → Nodes → Nodes
+one_less h None t a s c = Do (ConstO s 1) (Do (TwoO ISUB t a s) c)
+one_less h (Some to_type) t a s c = Do (ConstO s (words h to_type)) (Do (OneO ISGN s s) (Do (StepO t a s) c))
 
 -- ---- conditions
 

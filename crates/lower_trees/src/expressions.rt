@@ -6,8 +6,8 @@ ghost use Rattle.c_meaning.specs.Kinds.{type_of, decayed};
 ghost use Rattle.mid_code.specs.Functions.{DoN, node};
 ghost use Rattle.lower_trees.specs.Shape.{words, params_of, result_of};
 ghost use Rattle.lower_trees.specs.Flags.{is_flag, tests_flag};
-ghost use Rattle.lower_trees.specs.Counts.{temps, temps_of, temps_all, value_temps, sizes, sizes_of, sizes_all, value_sizes, one_size};
-ghost use Rattle.lower_trees.specs.Expressions.{spots};
+ghost use Rattle.lower_trees.specs.Counts.{size_temps, temps, temps_of, temps_all, value_temps, sizes, sizes_of, sizes_all, value_sizes, one_size};
+ghost use Rattle.lower_trees.specs.Expressions.{second, spots};
 ghost use Rattle.lower_trees.specs.ListedParts.{moved_by, structure_read, as_flag, converted, stored, stepped, operated, negated_as};
 ghost use Rattle.lower_trees.specs.ListedExpressions.{low, low_kind, low_value, low_test, low_args, lazy_choice, step_taken, member_of, called};
 ghost use Rattle.lower_trees.specs.View.{shape_of, tkind};
@@ -18,8 +18,10 @@ use crate::finishing::{
 };
 use crate::kinds::{counts_up, gives_old, is_flag, is_place, lazy_of, tests_flag};
 use crate::last::{
-    convert_last, move_last, negate_last, operate_last, put_last, step_last, test_last,
+    convert_last, move_last, negate_last, put_last, step_last, test_last,
 };
+use crate::operands::Operands;
+use crate::operating::operate;
 use crate::reading::Reading;
 use c_exprs::keeping;
 use c_tree::{BinOp, StepOp, UnOp};
@@ -71,10 +73,10 @@ pub(crate) fn value(
         return kind(s, &x.kind, &x.ty, t, at, out, structures);
     }
     match &x.ty {
-        CType::Array(_, _) => low(s, x, t, from(at.next + 1, at.local), out, structures),
+        CType::Array(_, _) | CType::Void => low(s, x, t, at, out, structures),
         CType::Struct(_) => structure(s, x, t, at, out, structures),
         CType::Union(_) => structure(s, x, t, at, out, structures),
-        CType::Void | CType::Int | CType::Bool | CType::Enum(_) | CType::Pointer(_) => {
+        CType::Int | CType::Bool | CType::Enum(_) | CType::Pointer(_) => {
             cell(s, x, t, at, out, structures)
         }
     }
@@ -91,18 +93,18 @@ fn structure(
     out: &mut Vec<Node<u32>>,
     structures: &mut Vec<u32>,
 ) -> Result<At, Memory>
-    requires temps { at.next + (temps (texpr x.now) + 1) ≤ 1000000 }
+    requires temps { at.next + temps (texpr x.now) ≤ 1000000 }
     requires locals { at.local + length (sizes (shape_of s.now) (texpr x.now) ++ words (shape_of s.now) (type_of (texpr x.now)) ∷ []) ≤ 1000000 }
     ensures nodes { OnOk result (map node out.new.items ≡ map node out.old.items
-        ++ (low (shape_of s.now) (texpr x.now) t (at.next + 1) at.local
+        ++ (low (shape_of s.now) (texpr x.now) t at.next at.local
         ++ structure_read (words (shape_of s.now) (type_of (texpr x.now))) (at.local + length (sizes (shape_of s.now) (texpr x.now))) t)) }
     ensures sizes { OnOk result (structures.new.items ≡ structures.old.items ++ sizes (shape_of s.now) (texpr x.now)
         ++ words (shape_of s.now) (type_of (texpr x.now)) ∷ []) }
-    ensures next { IfOk result (λ r. r.next ≡ at.next + (temps (texpr x.now) + 1)) }
+    ensures next { IfOk result (λ r. r.next ≡ at.next + temps (texpr x.now)) }
     ensures local { IfOk result (λ r. r.local ≡ at.local + length (sizes (shape_of s.now) (texpr x.now)
         ++ words (shape_of s.now) (type_of (texpr x.now)) ∷ [])) }
 {
-    let done = low(s, x, t, from(at.next + 1, at.local), out, structures)?;
+    let done = low(s, x, t, at, out, structures)?;
     take_structure(s, out, structures, &x.ty, t, done)
 }
 
@@ -141,12 +143,12 @@ fn kind(
     out: &mut Vec<Node<u32>>,
     structures: &mut Vec<u32>,
 ) -> Result<At, Memory>
-    requires temps { at.next + temps_of (tkind of.now) ≤ 1000000 }
+    requires temps { at.next + temps_of (tkind of.now) (ctype ty.now) ≤ 1000000 }
     requires locals { at.local + length (sizes_of (shape_of s.now) (tkind of.now)) ≤ 1000000 }
     ensures nodes { OnOk result (map node out.new.items ≡ map node out.old.items
         ++ low_kind (shape_of s.now) (tkind of.now) (ctype ty.now) t at.next at.local) }
     ensures sizes { OnOk result (structures.new.items ≡ structures.old.items ++ sizes_of (shape_of s.now) (tkind of.now)) }
-    ensures next { IfOk result (λ r. r.next ≡ at.next + temps_of (tkind of.now)) }
+    ensures next { IfOk result (λ r. r.next ≡ at.next + temps_of (tkind of.now) (ctype ty.now)) }
     ensures local { IfOk result (λ r. r.local ≡ at.local + length (sizes_of (shape_of s.now) (tkind of.now))) }
 {
     match of {
@@ -184,7 +186,7 @@ fn kind(
         TKind::Step(op, x) => step_of(s, *op, x, t, at, out, structures),
         TKind::Index(x, y) => {
             let first = value(s, x, at.next, from(at.next + 1, at.local), out, structures)?;
-            element(s, y, s.words(ty), t, at.next, first, out, structures)
+            element(s, y, ty, t, at.next, first, out, structures)
         }
         TKind::Member(x, offset) => member_at(s, x, *offset, ty, t, at, out, structures),
         TKind::Arrow(x, offset) => arrow(s, x, *offset, t, at, out, structures),
@@ -281,17 +283,24 @@ fn operation(
     out: &mut Vec<Node<u32>>,
     structures: &mut Vec<u32>,
 ) -> Result<At, Memory>
-    requires temps { at.next + (value_temps (texpr y.now) + 1) ≤ 1000000 }
+    requires temps { at.next + (value_temps (texpr y.now) + 2) ≤ 1000000 }
     requires locals { at.local + length (value_sizes (shape_of s.now) (texpr y.now)) ≤ 1000000 }
     ensures nodes { OnOk result (map node out.new.items ≡ map node out.old.items
         ++ low_value (shape_of s.now) (texpr y.now) at.next (at.next + 1) at.local
-        ++ operated (shape_of s.now) op (ctype ty.now) (type_of (texpr y.now)) t a at.next) }
+        ++ operated (shape_of s.now) op (ctype ty.now) (type_of (texpr y.now)) t a at.next (second (texpr y.now) at.next)) }
     ensures sizes { OnOk result (structures.new.items ≡ structures.old.items ++ value_sizes (shape_of s.now) (texpr y.now)) }
-    ensures next { IfOk result (λ r. r.next ≡ at.next + (value_temps (texpr y.now) + 1)) }
+    ensures next { IfOk result (λ r. r.next ≡ at.next + (value_temps (texpr y.now) + 2)) }
     ensures local { IfOk result (λ r. r.local ≡ at.local + length (value_sizes (shape_of s.now) (texpr y.now))) }
 {
     let last = value(s, y, at.next, from(at.next + 1, at.local), out, structures)?;
-    operate_last(s, out, op, ty, &y.ty, t, a, at.next, last)
+    let k = Operands {
+        target: t,
+        first: a,
+        second: at.next,
+        scale: last.next,
+    };
+    operate(s, out, op, ty, &y.ty, k)?;
+    Ok(from(last.next + 1, last.local))
 }
 
 /// The second operand of `&&` or `||`, which is run where the word in t asks for it.
@@ -306,12 +315,12 @@ fn choice(
     out: &mut Vec<Node<u32>>,
     structures: &mut Vec<u32>,
 ) -> Result<At, Memory>
-    requires temps { at.next + (value_temps (texpr y.now) + 2) ≤ 1000000 }
+    requires temps { at.next + (value_temps (texpr y.now) + 3) ≤ 1000000 }
     requires locals { at.local + length (value_sizes (shape_of s.now) (texpr y.now)) ≤ 1000000 }
     ensures nodes { OnOk result (map node out.new.items ≡ map node out.old.items
         ++ (lazy_choice and t (low_test (shape_of s.now) (texpr y.now) t (at.next + 1) at.local ++ as_flag (tests_flag (texpr y.now)) t) ∷ [])) }
     ensures sizes { OnOk result (structures.new.items ≡ structures.old.items ++ value_sizes (shape_of s.now) (texpr y.now)) }
-    ensures next { IfOk result (λ r. r.next ≡ at.next + (value_temps (texpr y.now) + 2)) }
+    ensures next { IfOk result (λ r. r.next ≡ at.next + (value_temps (texpr y.now) + 3)) }
     ensures local { IfOk result (λ r. r.local ≡ at.local + length (value_sizes (shape_of s.now) (texpr y.now))) }
 {
     let mut inside = Vec::new(s.alloc);
@@ -369,15 +378,22 @@ fn compound_assignment(
     requires temps { at.next + (value_temps (texpr y.now) + 2) ≤ 1000000 }
     requires locals { at.local + length (value_sizes (shape_of s.now) (texpr y.now)) ≤ 1000000 }
     ensures nodes { OnOk result (map node out.new.items ≡ map node out.old.items
-        ++ low_value (shape_of s.now) (texpr y.now) at.next (at.next + 2) at.local ++ (DoN (Op.Load (at.next + 1) p) ∷ [])
-        ++ operated (shape_of s.now) op (ctype ty.now) (type_of (texpr y.now)) t (at.next + 1) at.next ++ converted (ctype ty.now) false t
+        ++ low_value (shape_of s.now) (texpr y.now) at.next (at.next + 2) at.local ++ (DoN (Op.Load t p) ∷ [])
+        ++ operated (shape_of s.now) op (ctype ty.now) (type_of (texpr y.now)) t t at.next (at.next + 1) ++ converted (ctype ty.now) false t
         ++ (DoN (Op.Store p t) ∷ [])) }
     ensures sizes { OnOk result (structures.new.items ≡ structures.old.items ++ value_sizes (shape_of s.now) (texpr y.now)) }
     ensures next { IfOk result (λ r. r.next ≡ at.next + (value_temps (texpr y.now) + 2)) }
     ensures local { IfOk result (λ r. r.local ≡ at.local + length (value_sizes (shape_of s.now) (texpr y.now))) }
 {
     let last = value(s, y, at.next, from(at.next + 2, at.local), out, structures)?;
-    compound(s, out, op, ty, &y.ty, t, at.next + 1, at.next, p, last)
+    let k = Operands {
+        target: t,
+        first: t,
+        second: at.next,
+        scale: at.next + 1,
+    };
+    compound(s, out, op, ty, &y.ty, k, p)?;
+    Ok(last)
 }
 
 /// A step of the cell to whose place an expression comes.
@@ -401,41 +417,34 @@ fn step_of(
     ensures local { IfOk result (λ r. r.local ≡ at.local + length (sizes (shape_of s.now) (texpr x.now))) }
 {
     let done = low(s, x, at.next, from(at.next + 2, at.local), out, structures)?;
-    step(
-        s,
-        out,
-        gives_old(op),
-        counts_up(op),
-        &x.ty,
-        t,
-        at.next,
-        done,
-    )
+    step(s, out, gives_old(op), counts_up(op), &x.ty, t, at.next)?;
+    Ok(done)
 }
 
-/// The number of an element of this size, and then its place; a pointer to the first element stands in a.
+/// The number of an element of this type, and then its place; a pointer to the first element stands in a.
 #[cycle(lower)]
 #[tactic(auto, using(crate::proofs::Joins::length_both))]
 fn element(
     s: &Reading<'_>,
     y: &TExpr,
-    size: u32,
+    ty: &CType,
     t: u32,
     a: u32,
     at: At,
     out: &mut Vec<Node<u32>>,
     structures: &mut Vec<u32>,
 ) -> Result<At, Memory>
-    requires temps { at.next + (value_temps (texpr y.now) + 1) ≤ 1000000 }
+    requires temps { at.next + (value_temps (texpr y.now) + 1 + size_temps (ctype ty.now)) ≤ 1000000 }
     requires locals { at.local + length (value_sizes (shape_of s.now) (texpr y.now)) ≤ 1000000 }
     ensures nodes { OnOk result (map node out.new.items ≡ map node out.old.items
-        ++ low_value (shape_of s.now) (texpr y.now) at.next (at.next + 1) at.local ++ stepped size t a at.next) }
+        ++ low_value (shape_of s.now) (texpr y.now) at.next (at.next + 1) at.local
+        ++ stepped (words (shape_of s.now) (ctype ty.now)) t a at.next (second (texpr y.now) at.next)) }
     ensures sizes { OnOk result (structures.new.items ≡ structures.old.items ++ value_sizes (shape_of s.now) (texpr y.now)) }
-    ensures next { IfOk result (λ r. r.next ≡ at.next + (value_temps (texpr y.now) + 1)) }
+    ensures next { IfOk result (λ r. r.next ≡ at.next + (value_temps (texpr y.now) + 1 + size_temps (ctype ty.now))) }
     ensures local { IfOk result (λ r. r.local ≡ at.local + length (value_sizes (shape_of s.now) (texpr y.now))) }
 {
     let last = value(s, y, at.next, from(at.next + 1, at.local), out, structures)?;
-    step_last(out, size, t, a, at.next, last)
+    step_last(s, out, ty, t, a, at.next, last)
 }
 
 /// The member of this type `offset` words behind the start of a structure.

@@ -13,6 +13,7 @@ ghost use Rattle.lower_trees.specs.View.{shape_of};
 use crate::at::At;
 use crate::cells::{move_by, put, read_structure, store};
 use crate::kinds::{is_structure, is_void};
+use crate::operands::Operands;
 use crate::operating::{convert, operate, put_flag, step_one};
 use crate::reading::Reading;
 use c_tree::BinOp;
@@ -76,16 +77,16 @@ pub(crate) fn choose_lazy(
     last: Vec<Node<u32>>,
     at: At,
 ) -> Result<At, Memory>
-    requires next { at.next + 1 ≤ 1000000 }
+    requires next { at.next + 2 ≤ 1000000 }
     ensures nodes { OnOk result (map node out.new.items ≡ map node out.old.items ++ lazy_choice and t (map node last.items ++ as_flag flag t) ∷ []) }
-    ensures next { IfOk result (λ r. r.next ≡ at.next + 1) }
+    ensures next { IfOk result (λ r. r.next ≡ at.next + 2) }
     ensures local { IfOk result (λ r. r.local ≡ at.local) }
 {
     let mut last = last;
     put_flag(&mut last, flag, t)?;
     put_lazy(alloc, out, and, t, last)?;
     Ok(At {
-        next: at.next + 1,
+        next: at.next + 2,
         local: at.local,
     })
 }
@@ -109,28 +110,24 @@ pub(crate) fn assign(
     Ok(at)
 }
 
-/// The cell at the place in p and the value in b are operated on, and the place takes what they come to; a takes the old cell.
+/// The cell at the place in p is loaded, operated on and stored there again.
 pub(crate) fn compound(
     s: &Reading<'_>,
     out: &mut Vec<Node<u32>>,
     op: BinOp,
     ty: &CType,
     other: &CType,
-    t: u32,
-    a: u32,
-    b: u32,
+    k: Operands,
     p: u32,
-    at: At,
-) -> Result<At, Memory>
-    ensures nodes { OnOk result (map node out.new.items ≡ map node out.old.items ++ DoN (Op.Load a p) ∷ []
-        ++ operated (shape_of s.now) op (ctype ty.now) (ctype other.now) t a b ++ converted (ctype ty.now) false t ++ DoN (Op.Store p t) ∷ []) }
-    ensures at { IfOk result (λ r. r ≡ at) }
+) -> Result<(), Memory>
+    ensures { OnOk result (map node out.new.items ≡ map node out.old.items ++ DoN (Op.Load k.first p) ∷ []
+        ++ operated (shape_of s.now) op (ctype ty.now) (ctype other.now) k.target k.first k.second k.scale
+        ++ converted (ctype ty.now) false k.target ++ DoN (Op.Store p k.target) ∷ []) }
 {
-    put(out, Op::Load(a, p))?;
-    operate(s, out, op, ty, other, t, a, b)?;
-    convert(out, ty, false, t)?;
-    put(out, Op::Store(p, t))?;
-    Ok(at)
+    put(out, Op::Load(k.first, p))?;
+    operate(s, out, op, ty, other, k)?;
+    convert(out, ty, false, k.target)?;
+    put(out, Op::Store(p, k.target))
 }
 
 fn step_to(
@@ -142,15 +139,17 @@ fn step_to(
     old: u32,
     p: u32,
 ) -> Result<(), Memory>
-    ensures { OnOk result (map node out.new.items ≡ map node out.old.items ++ stepped_to (shape_of s.now) up (ctype ty.now) new old p) }
+    requires next { p + 1 ≤ 1000000 }
+    ensures nodes { OnOk result (map node out.new.items ≡ map node out.old.items ++ stepped_to (shape_of s.now) up (ctype ty.now) new old p) }
 {
     put(out, Op::Load(old, p))?;
-    step_one(s, out, up, ty, new, old)?;
+    step_one(s, out, up, ty, new, old, p + 1)?;
     convert(out, ty, false, new)?;
     put(out, Op::Store(p, new))
 }
 
-/// The cell at the place in p goes one up or down; t takes the new cell, or the old one, and the temporary behind p the other.
+/// The cell at the place in p goes one up or down; t takes the new cell, or the old one. The temporary behind p takes the difference, and then the
+/// new cell where t takes the old one.
 pub(crate) fn step(
     s: &Reading<'_>,
     out: &mut Vec<Node<u32>>,
@@ -159,18 +158,15 @@ pub(crate) fn step(
     ty: &CType,
     t: u32,
     p: u32,
-    at: At,
-) -> Result<At, Memory>
+) -> Result<(), Memory>
     requires next { p + 1 ≤ 1000000 }
     ensures nodes { OnOk result (map node out.new.items ≡ map node out.old.items ++ step_by (shape_of s.now) old up (ctype ty.now) t p) }
-    ensures at { IfOk result (λ r. r ≡ at) }
 {
     if old {
-        step_to(s, out, up, ty, p + 1, t, p)?;
+        step_to(s, out, up, ty, p + 1, t, p)
     } else {
-        step_to(s, out, up, ty, t, p + 1, p)?;
+        step_to(s, out, up, ty, t, t, p)
     }
-    Ok(at)
 }
 
 fn load_member(out: &mut Vec<Node<u32>>, place: bool, ty: &CType, t: u32) -> Result<(), Memory>

@@ -3,6 +3,7 @@ ghost use Rattle.std.specs.Prelude.{◌≡◌, ◌||◌, option_map};
 ghost use Rattle.c_types.specs.View.{ctype, texpr};
 ghost use Rattle.c_meaning.specs.Kinds.{is_structure, decayed, pointed, is_pointer};
 ghost use Rattle.c_exprs.specs.Nodes.{is_place};
+ghost use Rattle.lower_trees.specs.Counts.{is_scalar};
 ghost use Rattle.lower_trees.specs.Flags.{is_bool, is_not, is_comparison, is_flag, tests_flag};
 ghost use Rattle.lower_trees.specs.Expressions.{is_void};
 ghost use Rattle.lower_trees.specs.ListedExpressions.{lazy_of, gives_old, counts_up};
@@ -82,6 +83,16 @@ pub(crate) fn is_pointer(ty: &CType) -> bool
         | CType::Enum(_)
         | CType::Struct(_)
         | CType::Union(_) => false,
+    }
+}
+
+/// Whether a value of a type is one cell that is read from its place.
+pub(crate) fn is_scalar(ty: &CType) -> bool
+    ensures { result ≡ is_scalar (ctype ty.now) }
+{
+    match ty {
+        CType::Int | CType::Bool | CType::Enum(_) | CType::Pointer(_) => true,
+        CType::Void | CType::Struct(_) | CType::Union(_) | CType::Array(_, _) => false,
     }
 }
 

@@ -1,16 +1,19 @@
 // The last code of an expression, behind which `at` is still free.
-ghost use Rattle.std.specs.Prelude.{◌≡◌, ◌++◌, ◌∷◌, [], map, IfOk, OnOk};
+ghost use Rattle.std.specs.Prelude.{◌≡◌, ◌≤◌, ◌+◌, ◌++◌, ◌∷◌, [], map, IfOk, OnOk};
 ghost use Rattle.c_types.specs.View.{ctype};
 ghost use Rattle.c_meaning.specs.Kinds.{decayed};
 ghost use Rattle.mid_code.specs.Functions.{DoN, node};
-ghost use Rattle.lower_trees.specs.ListedParts.{converted, operated, stepped, moved_by, tested_as, negated_as};
+ghost use Rattle.lower_trees.specs.Shape.{words};
+ghost use Rattle.lower_trees.specs.Counts.{size_temps};
+ghost use Rattle.lower_trees.specs.ListedParts.{converted, stepped, moved_by, tested_as, negated_as};
 ghost use Rattle.lower_trees.specs.View.{shape_of};
 
-use crate::at::At;
+use crate::at::{At, from};
 use crate::cells::{move_by, put};
-use crate::operating::{convert, negate_as, operate, step_by, test_as};
+use crate::kinds::is_scalar;
+use crate::operands::Operands;
+use crate::operating::{convert, negate_as, step_by, test_as};
 use crate::reading::Reading;
-use c_tree::BinOp;
 use c_types::CType;
 use kit_base::Memory;
 use mid_code::{Node, Op};
@@ -77,37 +80,31 @@ pub(crate) fn move_last(
     Ok(at)
 }
 
-/// Puts the pointer in `a`, moved on by the number of elements in `b`, each of `size` words, into `t`.
+/// Puts the pointer in `a`, moved on by the number of elements of a type in `b`, into `t`. The size of an element comes to the next temporary.
 pub(crate) fn step_last(
-    out: &mut Vec<Node<u32>>,
-    size: u32,
-    t: u32,
-    a: u32,
-    b: u32,
-    at: At,
-) -> Result<At, Memory>
-    ensures nodes { OnOk result (map node out.new.items ≡ map node out.old.items ++ stepped size t a b) }
-    ensures at { IfOk result (λ r. r ≡ at) }
-{
-    step_by(out, size, t, a, b)?;
-    Ok(at)
-}
-
-/// An operator by the types of its operands; t takes what they come to.
-pub(crate) fn operate_last(
     s: &Reading<'_>,
     out: &mut Vec<Node<u32>>,
-    op: BinOp,
-    first: &CType,
-    second: &CType,
+    ty: &CType,
     t: u32,
     a: u32,
     b: u32,
     at: At,
 ) -> Result<At, Memory>
-    ensures nodes { OnOk result (map node out.new.items ≡ map node out.old.items ++ operated (shape_of s.now) op (ctype first.now) (ctype second.now) t a b) }
-    ensures at { IfOk result (λ r. r ≡ at) }
+    requires next { at.next + size_temps (ctype ty.now) ≤ 1000000 }
+    ensures nodes { OnOk result (map node out.new.items ≡ map node out.old.items ++ stepped (words (shape_of s.now) (ctype ty.now)) t a b at.next) }
+    ensures next { IfOk result (λ r. r.next ≡ at.next + size_temps (ctype ty.now)) }
+    ensures local { IfOk result (λ r. r.local ≡ at.local) }
 {
-    operate(s, out, op, first, second, t, a, b)?;
-    Ok(at)
+    let k = Operands {
+        target: t,
+        first: a,
+        second: b,
+        scale: at.next,
+    };
+    step_by(out, s.words(ty), k)?;
+    if is_scalar(ty) {
+        Ok(at)
+    } else {
+        Ok(from(at.next + 1, at.local))
+    }
 }

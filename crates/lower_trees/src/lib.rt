@@ -14,6 +14,7 @@ mod jump;
 mod kinds;
 mod last;
 mod looping;
+mod operands;
 mod operating;
 mod reading;
 mod statements;

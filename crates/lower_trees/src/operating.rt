@@ -11,6 +11,7 @@ ghost use Rattle.lower_trees.specs.View.{shape_of};
 
 use crate::cells::{OTHER, put};
 use crate::kinds::{is_pointer, target};
+use crate::operands::Operands;
 use crate::reading::Reading;
 use c_tree::BinOp;
 use c_types::CType;
@@ -91,55 +92,48 @@ fn with_word(out: &mut Vec<Node<u32>>, op: BinOp, t: u32, a: u32, b: u32) -> Res
     }
 }
 
-/// A pointer moved on by a number of elements.
-pub(crate) fn step_by(
-    out: &mut Vec<Node<u32>>,
-    size: u32,
-    t: u32,
-    a: u32,
-    b: u32,
-) -> Result<(), Memory>
-    ensures { OnOk result (map node out.new.items ≡ map node out.old.items ++ stepped size t a b) }
+/// Moves a pointer on by a number of elements.
+pub(crate) fn step_by(out: &mut Vec<Node<u32>>, size: u32, k: Operands) -> Result<(), Memory>
+    ensures { OnOk result (map node out.new.items ≡ map node out.old.items ++ stepped size k.target k.first k.second k.scale) }
 {
     if size == 1 {
-        put(out, Op::Step(t, a, b))
+        put(out, Op::Step(k.target, k.first, k.second))
     } else {
-        put(out, Op::Const(t, size))?;
-        put(out, Op::Two(Two::IMUL, b, b, t))?;
-        put(out, Op::Step(t, a, b))
+        put(out, Op::Const(k.scale, size))?;
+        put(out, Op::Two(Two::IMUL, k.second, k.second, k.scale))?;
+        put(out, Op::Step(k.target, k.first, k.second))
     }
 }
 
-fn step_back(out: &mut Vec<Node<u32>>, size: u32, t: u32, a: u32, b: u32) -> Result<(), Memory>
-    ensures { OnOk result (map node out.new.items ≡ map node out.old.items ++ stepped_back size t a b) }
+fn step_back(out: &mut Vec<Node<u32>>, size: u32, k: Operands) -> Result<(), Memory>
+    ensures { OnOk result (map node out.new.items ≡ map node out.old.items ++ stepped_back size k.target k.first k.second k.scale) }
 {
-    put(out, Op::One(One::ISGN, b, b))?;
-    step_by(out, size, t, a, b)
+    put(out, Op::One(One::ISGN, k.second, k.second))?;
+    step_by(out, size, k)
 }
 
 /// How many elements lie between two pointers.
-fn distance(out: &mut Vec<Node<u32>>, size: u32, t: u32, a: u32, b: u32) -> Result<(), Memory>
-    ensures { OnOk result (map node out.new.items ≡ map node out.old.items ++ distant size t a b) }
+fn distance(out: &mut Vec<Node<u32>>, size: u32, k: Operands) -> Result<(), Memory>
+    ensures { OnOk result (map node out.new.items ≡ map node out.old.items ++ distant size k.target k.first k.second k.scale) }
 {
-    put(out, Op::Apart(t, a, b))?;
-    put(out, Op::Const(b, size))?;
-    put(out, Op::Two(Two::IDIV, t, t, b))
+    put(out, Op::Apart(k.target, k.first, k.second))?;
+    put(out, Op::Const(k.scale, size))?;
+    put(out, Op::Two(Two::IDIV, k.target, k.target, k.scale))
 }
 
 fn subtract(
     out: &mut Vec<Node<u32>>,
     size: u32,
     pointers: bool,
-    t: u32,
-    a: u32,
-    b: u32,
+    k: Operands,
 ) -> Result<(), Memory>
-    ensures { OnOk result (map node out.new.items ≡ map node out.old.items ++ with_pointer BinOp.Sub size pointers t a b) }
+    ensures { OnOk result (map node out.new.items ≡ map node out.old.items
+        ++ with_pointer BinOp.Sub size pointers k.target k.first k.second k.scale) }
 {
     if pointers {
-        distance(out, size, t, a, b)
+        distance(out, size, k)
     } else {
-        step_back(out, size, t, a, b)
+        step_back(out, size, k)
     }
 }
 
@@ -149,21 +143,19 @@ fn with_pointer(
     op: BinOp,
     size: u32,
     pointers: bool,
-    t: u32,
-    a: u32,
-    b: u32,
+    k: Operands,
 ) -> Result<(), Memory>
-    ensures { OnOk result (map node out.new.items ≡ map node out.old.items ++ with_pointer op size pointers t a b) }
+    ensures { OnOk result (map node out.new.items ≡ map node out.old.items ++ with_pointer op size pointers k.target k.first k.second k.scale) }
 {
     match op {
-        BinOp::Add => step_by(out, size, t, a, b),
-        BinOp::Sub => subtract(out, size, pointers, t, a, b),
-        BinOp::Equal => compare(out, Two::IEQ, t, a, b),
-        BinOp::NotEqual => compare(out, Two::INE, t, a, b),
-        BinOp::Less => compare(out, Two::ILT, t, a, b),
-        BinOp::LessEq => compare(out, Two::ILE, t, a, b),
-        BinOp::More => compare(out, Two::IGT, t, a, b),
-        BinOp::MoreEq => compare(out, Two::IGE, t, a, b),
+        BinOp::Add => step_by(out, size, k),
+        BinOp::Sub => subtract(out, size, pointers, k),
+        BinOp::Equal => compare(out, Two::IEQ, k.target, k.first, k.second),
+        BinOp::NotEqual => compare(out, Two::INE, k.target, k.first, k.second),
+        BinOp::Less => compare(out, Two::ILT, k.target, k.first, k.second),
+        BinOp::LessEq => compare(out, Two::ILE, k.target, k.first, k.second),
+        BinOp::More => compare(out, Two::IGT, k.target, k.first, k.second),
+        BinOp::MoreEq => compare(out, Two::IGE, k.target, k.first, k.second),
         BinOp::Mul => Ok(()),
         BinOp::Div => Ok(()),
         BinOp::Mod => Ok(()),
@@ -177,22 +169,21 @@ fn with_pointer(
     }
 }
 
-/// An operator by the types of its operands; t takes what they come to.
+/// An operator by the types of its operands.
 pub(crate) fn operate(
     s: &Reading<'_>,
     out: &mut Vec<Node<u32>>,
     op: BinOp,
     first: &CType,
     second: &CType,
-    t: u32,
-    a: u32,
-    b: u32,
+    k: Operands,
 ) -> Result<(), Memory>
-    ensures { OnOk result (map node out.new.items ≡ map node out.old.items ++ operated (shape_of s.now) op (ctype first.now) (ctype second.now) t a b) }
+    ensures { OnOk result (map node out.new.items ≡ map node out.old.items
+        ++ operated (shape_of s.now) op (ctype first.now) (ctype second.now) k.target k.first k.second k.scale) }
 {
     match target(first) {
-        None => with_word(out, op, t, a, b),
-        Some(to) => with_pointer(out, op, s.words(to), is_pointer(second), t, a, b),
+        None => with_word(out, op, k.target, k.first, k.second),
+        Some(to) => with_pointer(out, op, s.words(to), is_pointer(second), k),
     }
 }
 
@@ -202,17 +193,18 @@ fn count_up(
     to: Option<&CType>,
     t: u32,
     a: u32,
+    by: u32,
 ) -> Result<(), Memory>
-    ensures { OnOk result (map node out.new.items ≡ map node out.old.items ++ one_more (shape_of s.now) (option_map (λ x. ctype x.now) to.entry) t a) }
+    ensures { OnOk result (map node out.new.items ≡ map node out.old.items ++ one_more (shape_of s.now) (option_map (λ x. ctype x.now) to.entry) t a by) }
 {
     match to {
         None => {
-            put(out, Op::Const(t, 1))?;
-            put(out, Op::Two(Two::IADD, t, a, t))
+            put(out, Op::Const(by, 1))?;
+            put(out, Op::Two(Two::IADD, t, a, by))
         }
         Some(to) => {
-            put(out, Op::Const(t, s.words(to)))?;
-            put(out, Op::Step(t, a, t))
+            put(out, Op::Const(by, s.words(to)))?;
+            put(out, Op::Step(t, a, by))
         }
     }
 }
@@ -223,23 +215,24 @@ fn count_down(
     to: Option<&CType>,
     t: u32,
     a: u32,
+    by: u32,
 ) -> Result<(), Memory>
-    ensures { OnOk result (map node out.new.items ≡ map node out.old.items ++ one_less (shape_of s.now) (option_map (λ x. ctype x.now) to.entry) t a) }
+    ensures { OnOk result (map node out.new.items ≡ map node out.old.items ++ one_less (shape_of s.now) (option_map (λ x. ctype x.now) to.entry) t a by) }
 {
     match to {
         None => {
-            put(out, Op::Const(t, 1))?;
-            put(out, Op::Two(Two::ISUB, t, a, t))
+            put(out, Op::Const(by, 1))?;
+            put(out, Op::Two(Two::ISUB, t, a, by))
         }
         Some(to) => {
-            put(out, Op::Const(t, s.words(to)))?;
-            put(out, Op::One(One::ISGN, t, t))?;
-            put(out, Op::Step(t, a, t))
+            put(out, Op::Const(by, s.words(to)))?;
+            put(out, Op::One(One::ISGN, by, by))?;
+            put(out, Op::Step(t, a, by))
         }
     }
 }
 
-/// Puts one more, or one less, than the cell in `old` into `new`.
+/// Puts one more, or one less, than the cell in `old` into `new`; `by` takes the difference.
 pub(crate) fn step_one(
     s: &Reading<'_>,
     out: &mut Vec<Node<u32>>,
@@ -247,13 +240,14 @@ pub(crate) fn step_one(
     ty: &CType,
     new: u32,
     old: u32,
+    by: u32,
 ) -> Result<(), Memory>
-    ensures { OnOk result (map node out.new.items ≡ map node out.old.items ++ step_made (shape_of s.now) up (ctype ty.now) new old) }
+    ensures { OnOk result (map node out.new.items ≡ map node out.old.items ++ step_made (shape_of s.now) up (ctype ty.now) new old by) }
 {
     if up {
-        count_up(s, out, target(ty), new, old)
+        count_up(s, out, target(ty), new, old, by)
     } else {
-        count_down(s, out, target(ty), new, old)
+        count_down(s, out, target(ty), new, old, by)
     }
 }
 

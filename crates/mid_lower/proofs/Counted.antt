@@ -8,51 +8,63 @@ use Rattle.c_types.specs.Nodes.{typed_nodes, kind_nodes, all_typed_nodes, filled
 use Rattle.c_exprs.specs.Nodes.{is_place, is_place_kind}
 use Rattle.c_meaning.specs.Kinds.{type_of, is_structure}
 use Rattle.lower_trees.specs.Shape.{Shape, words, result_of}
-use Rattle.lower_trees.specs.Counts.{with_place, unary_temps, temps, temps_of, temps_all, value_temps, init_temps, inits_temps, behind_address, vars_temps, maybe_temps, stmt_temps, other_temps, stmts_temps, arm_temps, arms_temps, one_size, read_sizes, with_read, unary_sizes, sizes, sizes_of, sizes_all, value_sizes, init_sizes, inits_sizes, vars_sizes, maybe_sizes, stmt_sizes, other_sizes, stmts_sizes, arm_sizes, arms_sizes}
+use Rattle.lower_trees.specs.Counts.{is_scalar, with_place, unary_temps, size_temps, temps, temps_of, temps_all, value_temps, init_temps, inits_temps, behind_address, vars_temps, maybe_temps, stmt_temps, other_temps, stmts_temps, arm_temps, arms_temps, one_size, read_sizes, with_read, unary_sizes, sizes, sizes_of, sizes_all, value_sizes, init_sizes, inits_sizes, vars_sizes, maybe_sizes, stmt_sizes, other_sizes, stmts_sizes, arm_sizes, arms_sizes}
 
 -- ---- temporaries: with the one that takes what it comes to, at most two a node
 
-place_least : (b : Bool) (n : ℕ) → n ≤ with_place b n
-place_least true n = omega arith
-place_least false n = omega arith
+pub place_least : (b : Bool) (ty : Ty) (n : ℕ) → n ≤ with_place b ty n
+place_least true ty n = go (is_scalar ty)
+  where
+    go : (c : Bool) → n ≤ (if c then n + 1 else n)
+    go true = omega arith
+    go false = omega arith
+place_least false ty n = omega arith
 
-place_most : (b : Bool) (n : ℕ) → with_place b n ≤ n + 1
-place_most true n = omega arith
-place_most false n = omega arith
+pub place_most : (b : Bool) (ty : Ty) (n : ℕ) → with_place b ty n ≤ n + 1
+place_most true ty n = go (is_scalar ty)
+  where
+    go : (c : Bool) → (if c then n + 1 else n) ≤ n + 1
+    go true = omega arith
+    go false = omega arith
+place_most false ty n = omega arith
 
-place_more : (b : Bool) (n : ℕ) → with_place b (n + 1) ≡ with_place b n + 1
-place_more true n = refl
-place_more false n = refl
+-- an element has a temporary for its place or for its size
+pub element_most : (ty : Ty) (n : ℕ) → with_place true ty (n + (2 + size_temps ty)) ≡ n + 3
+element_most ty n = go (is_scalar ty)
+  where
+    go : (c : Bool) → (if c then n + (2 + (if c then 0 else 1)) + 1 else n + (2 + (if c then 0 else 1))) ≡ n + 3
+    go true = omega arith
+    go false = omega arith
 
 mutual
   pub value_few : (x : TExprT) → value_temps x + 1 ≤ 2 * typed_nodes x
-  value_few (Typed kind ty span) = kind_few kind
+  value_few (Typed kind ty span) = kind_few kind ty
 
-  kind_few : (k : TKindT) → with_place (is_place_kind k) (temps_of k) + 1 ≤ 2 * (kind_nodes k + 1)
-  kind_few (NumberK x) = omega arith
-  kind_few NullK = omega arith
-  kind_few (LiteralK number) = omega arith
-  kind_few (GlobalK number) = omega arith
-  kind_few (LocalK number) = omega arith
-  kind_few (UnaryK un.Deref x) = omega (arith, value_few x)
-  kind_few (UnaryK un.Address x) = omega (arith, value_few x, place_least (is_place x) (temps x))
-  kind_few (UnaryK un.Not x) = omega (arith, value_few x)
-  kind_few (UnaryK un.Minus x) = omega (arith, value_few x)
-  kind_few (UnaryK un.Plus x) = omega (arith, value_few x)
-  kind_few (UnaryK un.Flip x) = omega (arith, value_few x)
-  kind_few (BinaryK op x y) = omega (arith, value_few x, value_few y)
-  kind_few (AssignK op x y) = omega (arith, value_few x, value_few y, place_least (is_place x) (temps x))
-  kind_few (StepK op x) = omega (arith, value_few x, place_least (is_place x) (temps x))
-  kind_few (IndexK x y) = omega (arith, value_few x, value_few y)
-  kind_few (MemberK (Typed kind ty span) offset) = omega (arith, kind_few kind, place_more (is_place_kind kind) (temps_of kind))
-  kind_few (ArrowK x offset) = omega (arith, value_few x)
-  kind_few (CastK x) = omega (arith, value_few x)
-  kind_few (CallK f xs) = omega (arith, all_few xs)
-  kind_few (InK port) = omega arith
-  kind_few (OutK port x) = omega (arith, value_few x)
-  kind_few WaitK = omega arith
-  kind_few HaltK = omega arith
-  kind_few CardK = omega arith
+  kind_few : (k : TKindT) (ty : Ty) → with_place (is_place_kind k) ty (temps_of k ty) + 1 ≤ 2 * (kind_nodes k + 1)
+  kind_few (NumberK x) ty = omega arith
+  kind_few NullK ty = omega arith
+  kind_few (LiteralK number) ty = omega (arith, place_most true ty 0)
+  kind_few (GlobalK number) ty = omega (arith, place_most true ty 0)
+  kind_few (LocalK number) ty = omega (arith, place_most true ty 0)
+  kind_few (UnaryK un.Deref x) ty = omega (arith, value_few x, place_most true ty (value_temps x))
+  kind_few (UnaryK un.Address x) ty = omega (arith, value_few x, place_least (is_place x) (type_of x) (temps x))
+  kind_few (UnaryK un.Not x) ty = omega (arith, value_few x)
+  kind_few (UnaryK un.Minus x) ty = omega (arith, value_few x)
+  kind_few (UnaryK un.Plus x) ty = omega (arith, value_few x)
+  kind_few (UnaryK un.Flip x) ty = omega (arith, value_few x)
+  kind_few (BinaryK op x y) ty = omega (arith, value_few x, value_few y)
+  kind_few (AssignK op x y) ty = omega (arith, value_few x, value_few y, place_least (is_place x) (type_of x) (temps x))
+  kind_few (StepK op x) ty = omega (arith, value_few x, place_least (is_place x) (type_of x) (temps x))
+  kind_few (IndexK x y) ty = omega (arith, value_few x, value_few y, element_most ty (value_temps x + value_temps y))
+  kind_few (MemberK (Typed kind of span) offset) ty = omega (arith, kind_few kind of, place_most (is_place_kind kind) ty (temps_of kind of + 1), place_least (is_place_kind kind) of (temps_of kind of))
+  kind_few (ArrowK x offset) ty = omega (arith, value_few x, place_most true ty (value_temps x + 1))
+  kind_few (CastK x) ty = omega (arith, value_few x)
+  kind_few (CallK f xs) ty = omega (arith, all_few xs)
+  kind_few (InK port) ty = omega arith
+  kind_few (OutK port x) ty = omega (arith, value_few x)
+  kind_few WaitK ty = omega arith
+  kind_few HaltK ty = omega arith
+  kind_few CardK ty = omega arith
 
   all_few : (xs : TExprTs) → temps_all xs ≤ 2 * all_typed_nodes xs
   all_few NoX = omega arith

@@ -30,13 +30,13 @@ pub record Same (part : l.Lists) (of : c.Low) : Type 0 where
 -- ---- values
 
 read_is : {part : l.Lists} {of : c.Low} (h : Shape) (ty : Ty) (k : ℕ) → Same part of → (t n m : ℕ) → Is (l.read_place h ty k part t n m) (c.read h ty k of t n m)
-read_is h (ArrayY of len) k p t n m = p.at t (n + 1) m
-read_is h VoidY k p t n m = seq (p.at n (n + 1) m) (plain (DoN (o.Load t n) ∷ []))
+read_is h (ArrayY of len) k p t n m = p.at t n m
+read_is h VoidY k p t n m = p.at t n m
 read_is h IntY k p t n m = seq (p.at n (n + 1) m) (plain (DoN (o.Load t n) ∷ []))
 read_is h BoolY k p t n m = seq (p.at n (n + 1) m) (plain (DoN (o.Load t n) ∷ []))
 read_is h (EnumY e) k p t n m = seq (p.at n (n + 1) m) (plain (DoN (o.Load t n) ∷ []))
-read_is h (StructY e) k p t n m = seq (p.at t (n + 1) m) (structure_read_is (words h (StructY e)) k t)
-read_is h (UnionY e) k p t n m = seq (p.at t (n + 1) m) (structure_read_is (words h (UnionY e)) k t)
+read_is h (StructY e) k p t n m = seq (p.at t n m) (structure_read_is (words h (StructY e)) k t)
+read_is h (UnionY e) k p t n m = seq (p.at t n m) (structure_read_is (words h (UnionY e)) k t)
 read_is h (PointerY to) k p t n m = seq (p.at n (n + 1) m) (plain (DoN (o.Load t n) ∷ []))
 
 value_of_is : {part : l.Lists} {of : c.Low} (h : Shape) (place : Bool) (ty : Ty) (k : ℕ) → Same part of → (t n m : ℕ) → Is (l.value_of h place ty k part t n m) (c.value_of h place ty k of t n m)
@@ -65,9 +65,9 @@ last_is h x y q t n m = whole (seq (test_is h y q t (c.second x n) (c.beyond h x
 
 both_is : {first last : l.Lists} {f g : c.Low} (h : Shape) (op : BinOp) (x y : TExprT) → Same first f → Same last g → (t n m : ℕ)
     → Is (l.binary_by None h op x y first last t n m)
-    (λ d. c.value h x f n (n + 1) m (c.value h y g (c.second x n) (c.second x n + 1) (c.beyond h x m) (operated h op (type_of x) (type_of y) t n (c.second x n) d)))
+    (λ d. c.value h x f n (n + 1) m (c.value h y g (c.second x n) (c.second x n + 1) (c.beyond h x m) (operated h op (type_of x) (type_of y) t n (c.second x n) (c.size_at x y n) d)))
 both_is h op x y p q t n m =
-    seq (seq (value_is h x p n (n + 1) m) (value_is h y q (c.second x n) (c.second x n + 1) (c.beyond h x m))) (operated_is h op (type_of x) (type_of y) t n (c.second x n))
+    seq (seq (value_is h x p n (n + 1) m) (value_is h y q (c.second x n) (c.second x n + 1) (c.beyond h x m))) (operated_is h op (type_of x) (type_of y) t n (c.second x n) (c.size_at x y n))
 
 binary_is : {first last : l.Lists} {f g : c.Low} (h : Shape) (op : BinOp) (x y : TExprT) → Same first f → Same last g → (t n m : ℕ) → Is (l.binary h op x y first last t n m) (c.binary h op x y f g t n m)
 binary_is {first} {last} h bin.AndAlso x y p q t n m =
@@ -98,20 +98,20 @@ assign_is h None x y p q t n m =
     seq (seq (seq (p.at n (n + 1) m) (value_is h y q t (c.behind_place x n + 2) (m + length (sizes h x)))) (converted_is (type_of x) (is_flag y) t)) (stored_is h (type_of x) n t)
 assign_is h (Some op) x y p q t n m =
     seq (seq (seq (seq (seq (p.at n (n + 1) m) (value_is h y q (c.behind_place x n) (c.behind_place x n + 2) (m + length (sizes h x))))
-    (plain (DoN (o.Load (c.behind_place x n + 1) n) ∷ []))) (operated_is h op (type_of x) (type_of y) t (c.behind_place x n + 1) (c.behind_place x n)))
+    (plain (DoN (o.Load t n) ∷ []))) (operated_is h op (type_of x) (type_of y) t t (c.behind_place x n) (c.behind_place x n + 1)))
     (converted_is (type_of x) false t)) (plain (DoN (o.Store n t) ∷ []))
 
 up_is : (h : Shape) (x : TExprT) (new old p : ℕ) → Is (l.stepped_to h true (type_of x) new old p) (c.stepped_to h PreUp x new old p)
 up_is h x new old p =
-    seq (seq (seq (plain (DoN (o.Load old p) ∷ [])) (one_more_is h (pointed (decayed (type_of x))) new old)) (converted_is (type_of x) false new)) (plain (DoN (o.Store p new) ∷ []))
+    seq (seq (seq (plain (DoN (o.Load old p) ∷ [])) (one_more_is h (pointed (decayed (type_of x))) new old (p + 1))) (converted_is (type_of x) false new)) (plain (DoN (o.Store p new) ∷ []))
 
 down_is : (h : Shape) (x : TExprT) (new old p : ℕ) → Is (l.stepped_to h false (type_of x) new old p) (c.stepped_to h PreDown x new old p)
 down_is h x new old p =
-    seq (seq (seq (plain (DoN (o.Load old p) ∷ [])) (one_less_is h (pointed (decayed (type_of x))) new old)) (converted_is (type_of x) false new)) (plain (DoN (o.Store p new) ∷ []))
+    seq (seq (seq (plain (DoN (o.Load old p) ∷ [])) (one_less_is h (pointed (decayed (type_of x))) new old (p + 1))) (converted_is (type_of x) false new)) (plain (DoN (o.Store p new) ∷ []))
 
 step_is : {place : l.Lists} {f : c.Low} (h : Shape) (op : StepOp) (x : TExprT) → Same place f → (t n m : ℕ) → Is (l.step_taken h op x place t n m) (c.step_taken h op x f t n m)
-step_is h PreUp x p t n m = seq (p.at n (n + 2) m) (up_is h x t (n + 1) n)
-step_is h PreDown x p t n m = seq (p.at n (n + 2) m) (down_is h x t (n + 1) n)
+step_is h PreUp x p t n m = seq (p.at n (n + 2) m) (up_is h x t t n)
+step_is h PreDown x p t n m = seq (p.at n (n + 2) m) (down_is h x t t n)
 step_is h PostUp x p t n m = seq (p.at n (n + 2) m) (up_is h x (n + 1) t n)
 step_is h PostDown x p t n m = seq (p.at n (n + 2) m) (down_is h x (n + 1) t n)
 
@@ -152,7 +152,7 @@ mutual
   kind_is h (AssignK op x y) ty t n m = assign_is h op x y (low_is h x) (low_is h y) t n m
   kind_is h (StepK op x) ty t n m = step_is h op x (low_is h x) t n m
   kind_is h (IndexK x y) ty t n m =
-      seq (seq (value_is h x (low_is h x) n (n + 1) m) (value_is h y (low_is h y) (c.second x n) (c.second x n + 1) (c.beyond h x m))) (stepped_is (words h ty) t n (c.second x n))
+      seq (seq (value_is h x (low_is h x) n (n + 1) m) (value_is h y (low_is h y) (c.second x n) (c.second x n + 1) (c.beyond h x m))) (stepped_is (words h ty) t n (c.second x n) (c.size_at x y n))
   kind_is h (MemberK x offset) ty t n m =
       let p = low_is h x in seq (seq (p.at n (n + 1) m) (moved_by_is t n offset)) (member_of_is (is_place x) ty t)
   kind_is h (ArrowK x offset) ty t n m = seq (value_is h x (low_is h x) n (n + 1) m) (moved_by_is t n offset)

@@ -192,46 +192,46 @@ with_word_kept bin.BitOr t a b lt la lb = k_two OR t a b lt la lb
 with_word_kept bin.AndAlso t a b lt la lb = none
 with_word_kept bin.OrElse t a b lt la lb = none
 
-pub stepped_kept : {s : Site} {ls : List Bool} (size t a b : ℕ) → size < 2 ^ 32 → t < s.temps → a < s.temps → b < s.temps → Keeps s ls (stepped size t a b)
-stepped_kept size t a b small lt la lb =
-    either_kept (size == 1) (k_step t a b lt la lb) (both (k_const t size lt small) (both (k_two IMUL b b t lb lb lt) (k_step t a b lt la lb)))
+pub stepped_kept : {s : Site} {ls : List Bool} (size t a b u : ℕ) → size < 2 ^ 32 → t < s.temps → a < s.temps → b < s.temps → u < s.temps → Keeps s ls (stepped size t a b u)
+stepped_kept size t a b u small lt la lb lu =
+    either_kept (size == 1) (k_step t a b lt la lb) (both (k_const u size lu small) (both (k_two IMUL b b u lb lb lu) (k_step t a b lt la lb)))
 
-with_pointer_kept : {s : Site} {ls : List Bool} (op : BinOp) (size : ℕ) (pointers : Bool) (t a b : ℕ) → size < 2 ^ 32 → t < s.temps → a < s.temps → b < s.temps → Keeps s ls (with_pointer op size pointers t a b)
-with_pointer_kept bin.Mul size ps t a b small lt la lb = none
-with_pointer_kept bin.Div size ps t a b small lt la lb = none
-with_pointer_kept bin.Mod size ps t a b small lt la lb = none
-with_pointer_kept bin.Add size ps t a b small lt la lb = stepped_kept size t a b small lt la lb
-with_pointer_kept bin.Sub size true t a b small lt la lb =
-    both (op_kept (ApartO t a b) tt (la, (lb, tt)) (lt, tt)) (both (k_const b size lb small) (k_two IDIV t t b lt lt lb))
-with_pointer_kept bin.Sub size false t a b small lt la lb = both (k_one ISGN b b tt lb lb) (stepped_kept size t a b small lt la lb)
-with_pointer_kept bin.Shl size ps t a b small lt la lb = none
-with_pointer_kept bin.Shr size ps t a b small lt la lb = none
-with_pointer_kept bin.Less size ps t a b small lt la lb = k_test ILT t a b tt lt la lb
-with_pointer_kept bin.LessEq size ps t a b small lt la lb = k_test ILE t a b tt lt la lb
-with_pointer_kept bin.More size ps t a b small lt la lb = k_test IGT t a b tt lt la lb
-with_pointer_kept bin.MoreEq size ps t a b small lt la lb = k_test IGE t a b tt lt la lb
-with_pointer_kept bin.Equal size ps t a b small lt la lb = k_test IEQ t a b tt lt la lb
-with_pointer_kept bin.NotEqual size ps t a b small lt la lb = k_test INE t a b tt lt la lb
-with_pointer_kept bin.BitAnd size ps t a b small lt la lb = none
-with_pointer_kept bin.BitXor size ps t a b small lt la lb = none
-with_pointer_kept bin.BitOr size ps t a b small lt la lb = none
-with_pointer_kept bin.AndAlso size ps t a b small lt la lb = none
-with_pointer_kept bin.OrElse size ps t a b small lt la lb = none
+with_pointer_kept : {s : Site} {ls : List Bool} (op : BinOp) (size : ℕ) (pointers : Bool) (t a b u : ℕ) → size < 2 ^ 32 → t < s.temps → a < s.temps → b < s.temps → u < s.temps → Keeps s ls (with_pointer op size pointers t a b u)
+with_pointer_kept bin.Mul size ps t a b u small lt la lb lu = none
+with_pointer_kept bin.Div size ps t a b u small lt la lb lu = none
+with_pointer_kept bin.Mod size ps t a b u small lt la lb lu = none
+with_pointer_kept bin.Add size ps t a b u small lt la lb lu = stepped_kept size t a b u small lt la lb lu
+with_pointer_kept bin.Sub size true t a b u small lt la lb lu =
+    both (op_kept (ApartO t a b) tt (la, (lb, tt)) (lt, tt)) (both (k_const u size lu small) (k_two IDIV t t u lt lt lu))
+with_pointer_kept bin.Sub size false t a b u small lt la lb lu = both (k_one ISGN b b tt lb lb) (stepped_kept size t a b u small lt la lb lu)
+with_pointer_kept bin.Shl size ps t a b u small lt la lb lu = none
+with_pointer_kept bin.Shr size ps t a b u small lt la lb lu = none
+with_pointer_kept bin.Less size ps t a b u small lt la lb lu = k_test ILT t a b tt lt la lb
+with_pointer_kept bin.LessEq size ps t a b u small lt la lb lu = k_test ILE t a b tt lt la lb
+with_pointer_kept bin.More size ps t a b u small lt la lb lu = k_test IGT t a b tt lt la lb
+with_pointer_kept bin.MoreEq size ps t a b u small lt la lb lu = k_test IGE t a b tt lt la lb
+with_pointer_kept bin.Equal size ps t a b u small lt la lb lu = k_test IEQ t a b tt lt la lb
+with_pointer_kept bin.NotEqual size ps t a b u small lt la lb lu = k_test INE t a b tt lt la lb
+with_pointer_kept bin.BitAnd size ps t a b u small lt la lb lu = none
+with_pointer_kept bin.BitXor size ps t a b u small lt la lb lu = none
+with_pointer_kept bin.BitOr size ps t a b u small lt la lb lu = none
+with_pointer_kept bin.AndAlso size ps t a b u small lt la lb lu = none
+with_pointer_kept bin.OrElse size ps t a b u small lt la lb lu = none
 
-operated_on_kept : {s : Site} {ls : List Bool} (h : Shape) (op : BinOp) (ty : Option Ty) (ps : Bool) (t a b : ℕ) → t < s.temps → a < s.temps → b < s.temps → Keeps s ls (operated_on h op ty ps t a b)
-operated_on_kept h op None ps t a b lt la lb = with_word_kept op t a b lt la lb
-operated_on_kept h op (Some ty) ps t a b lt la lb = with_pointer_kept op (words h ty) ps t a b (words_small h ty) lt la lb
+operated_on_kept : {s : Site} {ls : List Bool} (h : Shape) (op : BinOp) (ty : Option Ty) (ps : Bool) (t a b u : ℕ) → t < s.temps → a < s.temps → b < s.temps → u < s.temps → Keeps s ls (operated_on h op ty ps t a b u)
+operated_on_kept h op None ps t a b u lt la lb lu = with_word_kept op t a b lt la lb
+operated_on_kept h op (Some ty) ps t a b u lt la lb lu = with_pointer_kept op (words h ty) ps t a b u (words_small h ty) lt la lb lu
 
-pub operated_kept : {s : Site} {ls : List Bool} (h : Shape) (op : BinOp) (ta tb : Ty) (t a b : ℕ) → t < s.temps → a < s.temps → b < s.temps → Keeps s ls (operated h op ta tb t a b)
-operated_kept h op ta tb t a b lt la lb = operated_on_kept h op (pointed (decayed ta)) (is_pointer (decayed tb)) t a b lt la lb
+pub operated_kept : {s : Site} {ls : List Bool} (h : Shape) (op : BinOp) (ta tb : Ty) (t a b u : ℕ) → t < s.temps → a < s.temps → b < s.temps → u < s.temps → Keeps s ls (operated h op ta tb t a b u)
+operated_kept h op ta tb t a b u lt la lb lu = operated_on_kept h op (pointed (decayed ta)) (is_pointer (decayed tb)) t a b u lt la lb lu
 
-pub one_more_kept : {s : Site} {ls : List Bool} (h : Shape) (ty : Option Ty) (t a : ℕ) → t < s.temps → a < s.temps → Keeps s ls (one_more h ty t a)
-one_more_kept h None t a lt la = both (k_const t 1 lt (omega arith)) (k_two IADD t a t lt la lt)
-one_more_kept h (Some ty) t a lt la = both (k_const t (words h ty) lt (words_small h ty)) (k_step t a t lt la lt)
+pub one_more_kept : {s : Site} {ls : List Bool} (h : Shape) (ty : Option Ty) (t a u : ℕ) → t < s.temps → a < s.temps → u < s.temps → Keeps s ls (one_more h ty t a u)
+one_more_kept h None t a u lt la lu = both (k_const u 1 lu (omega arith)) (k_two IADD t a u lt la lu)
+one_more_kept h (Some ty) t a u lt la lu = both (k_const u (words h ty) lu (words_small h ty)) (k_step t a u lt la lu)
 
-pub one_less_kept : {s : Site} {ls : List Bool} (h : Shape) (ty : Option Ty) (t a : ℕ) → t < s.temps → a < s.temps → Keeps s ls (one_less h ty t a)
-one_less_kept h None t a lt la = both (k_const t 1 lt (omega arith)) (k_two ISUB t a t lt la lt)
-one_less_kept h (Some ty) t a lt la = both (k_const t (words h ty) lt (words_small h ty)) (both (k_one ISGN t t tt lt lt) (k_step t a t lt la lt))
+pub one_less_kept : {s : Site} {ls : List Bool} (h : Shape) (ty : Option Ty) (t a u : ℕ) → t < s.temps → a < s.temps → u < s.temps → Keeps s ls (one_less h ty t a u)
+one_less_kept h None t a u lt la lu = both (k_const u 1 lu (omega arith)) (k_two ISUB t a u lt la lu)
+one_less_kept h (Some ty) t a u lt la lu = both (k_const u (words h ty) lu (words_small h ty)) (both (k_one ISGN u u tt lu lu) (k_step t a u lt la lu))
 
 -- ---- conditions and locals
 

@@ -20,11 +20,11 @@ use Rattle.mid_code.specs.Code.{LiteralO, GlobalO, InO, OutO, WaitO, HaltO, Card
 use Rattle.mid_code.specs.Invariants.{AllOf, parameter_count}
 use Rattle.lower_trees.specs.Shape.{Shape, words, literal_words, params_of, result_of}
 use Rattle.lower_trees.specs.Flags.{is_flag, tests_flag}
-use Rattle.lower_trees.specs.Parts.{as_flag, operated, result_at, first_param}
-use Rattle.lower_trees.specs.Counts.{with_place, unary_temps, temps, temps_of, temps_all, value_temps, one_size, read_sizes, with_read, unary_sizes, sizes, sizes_of, sizes_all, value_sizes}
-use Rattle.lower_trees.specs.Expressions.{Low, read, value_of, value, test, unary, binary, assign, step_made, stepped_to, step_taken, index, member_of, called, spots, converted_to, later_types, second, beyond, behind_place, is_void, low, low_kind, low_args, low_value, low_test}
+use Rattle.lower_trees.specs.Parts.{as_flag, stepped, operated, result_at, first_param}
+use Rattle.lower_trees.specs.Counts.{with_place, unary_temps, size_temps, temps, temps_of, temps_all, value_temps, one_size, read_sizes, with_read, unary_sizes, sizes, sizes_of, sizes_all, value_sizes}
+use Rattle.lower_trees.specs.Expressions.{Low, read, value_of, value, test, unary, binary, assign, step_made, stepped_to, step_taken, index, member_of, called, spots, converted_to, later_types, second, beyond, size_at, behind_place, is_void, low, low_kind, low_args, low_value, low_test}
 use Rattle.lower_trees.specs.Lowered.{args_from, with_result}
-use Rattle.mid_lower.proofs.Kept.{Site, Good, Keeps, good_stop, both, alone, none, either_kept, op_kept, call_kept, choose_kept, k_const, k_null, k_one, k_local, k_fresh, k_load, k_store, words_small, moved_by_kept, structure_read_kept, as_flag_kept, converted_kept, stored_kept, stepped_kept, operated_kept, one_more_kept, one_less_kept, tested_as_kept, negated_as_kept}
+use Rattle.mid_lower.proofs.Kept.{Site, Good, Keeps, good_stop, both, alone, none, either_kept, op_kept, call_kept, choose_kept, k_const, k_null, k_one, k_local, k_fresh, k_load, k_step, k_store, words_small, moved_by_kept, structure_read_kept, as_flag_kept, converted_kept, stored_kept, stepped_kept, operated_kept, one_more_kept, one_less_kept, tested_as_kept, negated_as_kept}
 
 -- the code of a program, and what its trees name
 pub record Linked (s : Site) (z : Scene) (h : Shape) : Type 0 where
@@ -51,20 +51,20 @@ same_option (Some k) = refl
 -- ---- values
 
 value_of_kept : {of : Low} {own : ℕ} (s : Site) (h : Shape) (place : Bool) (ty : Ty) (ws : List ℕ) → Part s of own (length ws) → (ls : List Bool) (t n m : ℕ)
-    → t < s.temps → n + with_place place own ≤ s.temps → m + length (ws ++ read_sizes h place ty) ≤ s.locals → Keeps s ls (value_of h place ty (m + length ws) of t n m)
+    → t < s.temps → n + with_place place ty own ≤ s.temps → m + length (ws ++ read_sizes h place ty) ≤ s.locals → Keeps s ls (value_of h place ty (m + length ws) of t n m)
 value_of_kept s h false ty ws p ls t n m lt ln lm = p.at ls t n m lt ln (omega (arith, length-append ws []))
-value_of_kept s h true VoidY ws p ls t n m lt ln lm = both (p.at ls n (n + 1) m (omega arith) (omega arith) (omega (arith, length-append ws []))) (k_load t n lt (omega arith))
+value_of_kept s h true VoidY ws p ls t n m lt ln lm = p.at ls t n m lt ln (omega (arith, length-append ws []))
 value_of_kept s h true IntY ws p ls t n m lt ln lm = both (p.at ls n (n + 1) m (omega arith) (omega arith) (omega (arith, length-append ws []))) (k_load t n lt (omega arith))
 value_of_kept s h true BoolY ws p ls t n m lt ln lm = both (p.at ls n (n + 1) m (omega arith) (omega arith) (omega (arith, length-append ws []))) (k_load t n lt (omega arith))
 value_of_kept s h true (EnumY e) ws p ls t n m lt ln lm = both (p.at ls n (n + 1) m (omega arith) (omega arith) (omega (arith, length-append ws []))) (k_load t n lt (omega arith))
 value_of_kept s h true (PointerY e) ws p ls t n m lt ln lm = both (p.at ls n (n + 1) m (omega arith) (omega arith) (omega (arith, length-append ws []))) (k_load t n lt (omega arith))
-value_of_kept s h true (ArrayY of len) ws p ls t n m lt ln lm = p.at ls t (n + 1) m lt (omega arith) (omega (arith, length-append ws []))
+value_of_kept s h true (ArrayY of len) ws p ls t n m lt ln lm = p.at ls t n m lt ln (omega (arith, length-append ws []))
 value_of_kept s h true (StructY e) ws p ls t n m lt ln lm =
     let more = length-append ws (words h (StructY e) ∷ []) in
-    both (p.at ls t (n + 1) m lt (omega arith) (omega (arith, more))) (structure_read_kept s (words h (StructY e)) (m + length ws) t (words_small h (StructY e)) (omega (arith, more)) lt)
+    both (p.at ls t n m lt ln (omega (arith, more))) (structure_read_kept s (words h (StructY e)) (m + length ws) t (words_small h (StructY e)) (omega (arith, more)) lt)
 value_of_kept s h true (UnionY e) ws p ls t n m lt ln lm =
     let more = length-append ws (words h (UnionY e) ∷ []) in
-    both (p.at ls t (n + 1) m lt (omega arith) (omega (arith, more))) (structure_read_kept s (words h (UnionY e)) (m + length ws) t (words_small h (UnionY e)) (omega (arith, more)) lt)
+    both (p.at ls t n m lt ln (omega (arith, more))) (structure_read_kept s (words h (UnionY e)) (m + length ws) t (words_small h (UnionY e)) (omega (arith, more)) lt)
 
 pub value_kept : {of : Low} (s : Site) (h : Shape) (x : TExprT) → Part s of (temps x) (length (sizes h x)) → Part s (value h x of) (value_temps x) (length (value_sizes h x))
 value_kept s h x p = record { at = λ ls t n m lt ln lm. value_of_kept s h (is_place x) (type_of x) (sizes h x) p ls t n m lt ln lm }
@@ -85,7 +85,7 @@ unary_kept s h un.Flip x p = let v = value_kept s h x p in record { at = λ ls t
 abbrev two_sizes : Shape → TExprT → TExprT → List ℕ
 two_sizes h x y = with_read h x (sizes h x) ++ with_read h y (sizes h y)
 
-last_good : {of : Low} (s : Site) (h : Shape) (x y : TExprT) → Part s of (temps y) (length (sizes h y)) → (ls : List Bool) (t n m : ℕ) → t < s.temps → n + (value_temps x + value_temps y + 2) ≤ s.temps
+last_good : {of : Low} (s : Site) (h : Shape) (x y : TExprT) → Part s of (temps y) (length (sizes h y)) → (ls : List Bool) (t n m : ℕ) → t < s.temps → n + (value_temps x + value_temps y + 3) ≤ s.temps
     → m + length (two_sizes h x y) ≤ s.locals → Good s ls (test h y of t (second x n) (beyond h x m) (as_flag (tests_flag y) t Stop))
 last_good s h x y q ls t n m lt ln lm =
     let v = test_kept s h y q in
@@ -93,18 +93,18 @@ last_good s h x y q ls t n m lt ln lm =
     alone (both (v.at ls t (second x n) (beyond h x m) lt (omega arith) (omega (arith, more))) (as_flag_kept (tests_flag y) t lt))
 
 both_kept : {f g : Low} (s : Site) (h : Shape) (op : BinOp) (x y : TExprT) → Part s f (temps x) (length (sizes h x)) → Part s g (temps y) (length (sizes h y)) → (ls : List Bool) (t n m : ℕ)
-    → t < s.temps → n + (value_temps x + value_temps y + 2) ≤ s.temps → m + length (two_sizes h x y) ≤ s.locals
-    → Keeps s ls (λ c. value h x f n (n + 1) m (value h y g (second x n) (second x n + 1) (beyond h x m) (operated h op (type_of x) (type_of y) t n (second x n) c)))
+    → t < s.temps → n + (value_temps x + value_temps y + 3) ≤ s.temps → m + length (two_sizes h x y) ≤ s.locals
+    → Keeps s ls (λ c. value h x f n (n + 1) m (value h y g (second x n) (second x n + 1) (beyond h x m) (operated h op (type_of x) (type_of y) t n (second x n) (size_at x y n) c)))
 both_kept s h op x y p q ls t n m lt ln lm =
     let v = value_kept s h x p in
     let w = value_kept s h y q in
     let more = length-append (value_sizes h x) (value_sizes h y) in
     both (v.at ls n (n + 1) m (omega arith) (omega arith) (omega (arith, more)))
     (both (w.at ls (second x n) (second x n + 1) (beyond h x m) (omega arith) (omega arith) (omega (arith, more)))
-    (operated_kept h op (type_of x) (type_of y) t n (second x n) lt (omega arith) (omega arith)))
+    (operated_kept h op (type_of x) (type_of y) t n (second x n) (size_at x y n) lt (omega arith) (omega arith) (omega arith)))
 
 binary_at : {f g : Low} (s : Site) (h : Shape) (op : BinOp) (x y : TExprT) → Part s f (temps x) (length (sizes h x)) → Part s g (temps y) (length (sizes h y)) → (ls : List Bool) (t n m : ℕ)
-    → t < s.temps → n + (value_temps x + value_temps y + 2) ≤ s.temps → m + length (two_sizes h x y) ≤ s.locals → Keeps s ls (binary h op x y f g t n m)
+    → t < s.temps → n + (value_temps x + value_temps y + 3) ≤ s.temps → m + length (two_sizes h x y) ≤ s.locals → Keeps s ls (binary h op x y f g t n m)
 binary_at s h bin.AndAlso x y p q ls t n m lt ln lm =
     let v = test_kept s h x p in
     let more = length-append (value_sizes h x) (value_sizes h y) in
@@ -145,27 +145,39 @@ assign_at s h (Some op) x y p q ls t n m lt ln lm =
     let more = length-append (sizes h x) (value_sizes h y) in
     both (p.at ls n (n + 1) m (omega arith) (omega arith) (omega (arith, more)))
     (both (w.at ls (behind_place x n) (behind_place x n + 2) (m + length (sizes h x)) (omega arith) (omega arith) (omega (arith, more)))
-    (both (k_load (behind_place x n + 1) n (omega arith) (omega arith))
-    (both (operated_kept h op (type_of x) (type_of y) t (behind_place x n + 1) (behind_place x n) lt (omega arith) (omega arith))
+    (both (k_load t n lt (omega arith))
+    (both (operated_kept h op (type_of x) (type_of y) t t (behind_place x n) (behind_place x n + 1) lt lt (omega arith) (omega arith))
     (both (converted_kept (type_of x) false t lt) (k_store n t (omega arith) lt)))))
 
-made_step : {s : Site} {ls : List Bool} (h : Shape) (op : StepOp) (ty : Ty) (new old : ℕ) → new < s.temps → old < s.temps → Keeps s ls (step_made h op ty new old)
-made_step h PreUp ty new old ln lo = one_more_kept h (pointed (decayed ty)) new old ln lo
-made_step h PostUp ty new old ln lo = one_more_kept h (pointed (decayed ty)) new old ln lo
-made_step h PreDown ty new old ln lo = one_less_kept h (pointed (decayed ty)) new old ln lo
-made_step h PostDown ty new old ln lo = one_less_kept h (pointed (decayed ty)) new old ln lo
+made_step : {s : Site} {ls : List Bool} (h : Shape) (op : StepOp) (ty : Ty) (new old by : ℕ) → new < s.temps → old < s.temps → by < s.temps → Keeps s ls (step_made h op ty new old by)
+made_step h PreUp ty new old by ln lo lb = one_more_kept h (pointed (decayed ty)) new old by ln lo lb
+made_step h PostUp ty new old by ln lo lb = one_more_kept h (pointed (decayed ty)) new old by ln lo lb
+made_step h PreDown ty new old by ln lo lb = one_less_kept h (pointed (decayed ty)) new old by ln lo lb
+made_step h PostDown ty new old by ln lo lb = one_less_kept h (pointed (decayed ty)) new old by ln lo lb
 
-step_to : {s : Site} {ls : List Bool} (h : Shape) (op : StepOp) (x : TExprT) (new old p : ℕ) → new < s.temps → old < s.temps → p < s.temps → Keeps s ls (stepped_to h op x new old p)
-step_to h op x new old p ln lo lp = both (k_load old p lo lp) (both (made_step h op (type_of x) new old ln lo) (both (converted_kept (type_of x) false new ln) (k_store p new lp ln)))
+step_to : {s : Site} {ls : List Bool} (h : Shape) (op : StepOp) (x : TExprT) (new old n : ℕ) → new < s.temps → old < s.temps → n + 1 < s.temps → Keeps s ls (stepped_to h op x new old n)
+step_to h op x new old n ln lo lb = both (k_load old n lo (omega (arith, lb))) (both (made_step h op (type_of x) new old (n + 1) ln lo lb) (both (converted_kept (type_of x) false new ln) (k_store n new (omega (arith, lb)) ln)))
 
 step_at : {f : Low} (s : Site) (h : Shape) (op : StepOp) (x : TExprT) → Part s f (temps x) (length (sizes h x)) → (ls : List Bool) (t n m : ℕ)
     → t < s.temps → n + (temps x + 2) ≤ s.temps → m + length (sizes h x) ≤ s.locals → Keeps s ls (step_taken h op x f t n m)
-step_at s h PreUp x p ls t n m lt ln lm = both (p.at ls n (n + 2) m (omega arith) (omega arith) lm) (step_to h PreUp x t (n + 1) n lt (omega arith) (omega arith))
-step_at s h PreDown x p ls t n m lt ln lm = both (p.at ls n (n + 2) m (omega arith) (omega arith) lm) (step_to h PreDown x t (n + 1) n lt (omega arith) (omega arith))
+step_at s h PreUp x p ls t n m lt ln lm = both (p.at ls n (n + 2) m (omega arith) (omega arith) lm) (step_to h PreUp x t t n lt lt (omega arith))
+step_at s h PreDown x p ls t n m lt ln lm = both (p.at ls n (n + 2) m (omega arith) (omega arith) lm) (step_to h PreDown x t t n lt lt (omega arith))
 step_at s h PostUp x p ls t n m lt ln lm = both (p.at ls n (n + 2) m (omega arith) (omega arith) lm) (step_to h PostUp x (n + 1) t n (omega arith) lt (omega arith))
 step_at s h PostDown x p ls t n m lt ln lm = both (p.at ls n (n + 2) m (omega arith) (omega arith) lm) (step_to h PostDown x (n + 1) t n (omega arith) lt (omega arith))
 
--- ---- members and calls
+-- ---- elements, members and calls
+
+-- the size of an element comes to a temporary that is there unless it is a scalar
+element_kept : {s : Site} {ls : List Bool} (h : Shape) (ty : Ty) (t a b u : ℕ) → t < s.temps → a < s.temps → b < s.temps → u + size_temps ty ≤ s.temps → Keeps s ls (stepped (words h ty) t a b u)
+element_kept h IntY t a b u lt la lb lu = k_step t a b lt la lb
+element_kept h BoolY t a b u lt la lb lu = k_step t a b lt la lb
+element_kept h (EnumY e) t a b u lt la lb lu = k_step t a b lt la lb
+element_kept h (PointerY to) t a b u lt la lb lu = k_step t a b lt la lb
+element_kept h VoidY t a b u lt la lb lu = stepped_kept (words h VoidY) t a b u (words_small h VoidY) lt la lb (omega (arith, lu))
+element_kept h (StructY e) t a b u lt la lb lu = stepped_kept (words h (StructY e)) t a b u (words_small h (StructY e)) lt la lb (omega (arith, lu))
+element_kept h (UnionY e) t a b u lt la lb lu = stepped_kept (words h (UnionY e)) t a b u (words_small h (UnionY e)) lt la lb (omega (arith, lu))
+element_kept h (ArrayY of len) t a b u lt la lb lu = stepped_kept (words h (ArrayY of len)) t a b u (words_small h (ArrayY of len)) lt la lb (omega (arith, lu))
+
 
 member_of_kept : {s : Site} {ls : List Bool} (place : Bool) (ty : Ty) (t : ℕ) → t < s.temps → Keeps s ls (member_of place ty t)
 member_of_kept true ty t lt = none
@@ -228,7 +240,7 @@ mutual
   low_kept s z h link (Typed kind ty span) typed words = record { at = λ ls t n m lt ln lm. kind_kept s z h link kind ty typed.1 words.0 ls t n m lt ln lm }
 
   kind_kept : (s : Site) (z : Scene) (h : Shape) → Linked s z h → (k : TKindT) (ty : Ty) → IsKind z k ty → KindInWords k → (ls : List Bool) (t n m : ℕ)
-      → t < s.temps → n + temps_of k ≤ s.temps → m + length (sizes_of h k) ≤ s.locals → Keeps s ls (low_kind h k ty t n m)
+      → t < s.temps → n + temps_of k ty ≤ s.temps → m + length (sizes_of h k) ≤ s.locals → Keeps s ls (low_kind h k ty t n m)
   kind_kept s z h link (NumberK x) ty is w ls t n m lt ln lm = k_const t x lt w
   kind_kept s z h link NullK ty is w ls t n m lt ln lm = k_null t lt
   kind_kept s z h link (LiteralK number) ty is w ls t n m lt ln lm =
@@ -248,7 +260,7 @@ mutual
       let more = length-append (value_sizes h x) (value_sizes h y) in
       both (v.at ls n (n + 1) m (omega arith) (omega arith) (omega (arith, more)))
       (both (u.at ls (second x n) (second x n + 1) (beyond h x m) (omega arith) (omega arith) (omega (arith, more)))
-      (stepped_kept (words h ty) t n (second x n) (words_small h ty) lt (omega arith) (omega arith)))
+      (element_kept h ty t n (second x n) (size_at x y n) lt (omega arith) (omega arith) (omega arith)))
   kind_kept s z h link (MemberK x offset) ty is w ls t n m lt ln lm =
       let p = low_kept s z h link x is.0 w.0 in
       both (p.at ls n (n + 1) m (omega arith) (omega arith) lm) (both (moved_by_kept t n offset lt (omega arith) w.1) (member_of_kept (is_place x) ty t lt))

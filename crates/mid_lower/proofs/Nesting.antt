@@ -15,7 +15,7 @@ use Rattle.mid_code.specs.Calls.{nesting}
 use Rattle.lower_trees.specs.Shape.{Shape, words, params_of, result_of}
 use Rattle.lower_trees.specs.Flags.{is_flag, tests_flag}
 use Rattle.lower_trees.specs.Parts.{Nodes, copy_turn, zero_turn, copied, zeroed, as_flag, converted, stored, with_word, stepped, with_pointer, operated_on, operated, one_more, one_less, tested_as, negated_as}
-use Rattle.lower_trees.specs.Expressions.{Low, read, value_of, value, test, unary, second, beyond, binary, behind_place, assign, step_made, stepped_to, step_taken, index, member_of, called, spots, converted_to, later_types, low, low_args, low_value, low_test}
+use Rattle.lower_trees.specs.Expressions.{Low, read, value_of, value, test, unary, second, beyond, size_at, binary, behind_place, assign, step_made, stepped_to, step_taken, index, member_of, called, spots, converted_to, later_types, low, low_args, low_value, low_test}
 use Rattle.mid_lower.specs.Levels.{expression_levels, all_levels}
 
 pub max_within : (a b k : ℕ) → a ≤ k → b ≤ k → max a b ≤ k
@@ -81,44 +81,44 @@ pub either_nests : (b : Bool) (x y : Nodes) (k : ℕ) → nesting x ≤ k → ne
 either_nests true x y k p q = p
 either_nests false x y k p q = q
 
-stepped_nests : (size t a b : ℕ) (c : Nodes) (k : ℕ) → nesting c ≤ k → nesting (stepped size t a b c) ≤ k
-stepped_nests size t a b c k h = either_nests (size == 1) _ _ k h h
+stepped_nests : (size t a b u : ℕ) (c : Nodes) (k : ℕ) → nesting c ≤ k → nesting (stepped size t a b u c) ≤ k
+stepped_nests size t a b u c k h = either_nests (size == 1) _ _ k h h
 
-pointer_nests : (op : BinOp) (size : ℕ) (pointers : Bool) (t a b : ℕ) (c : Nodes) (k : ℕ) → nesting c ≤ k → nesting (with_pointer op size pointers t a b c) ≤ k
-pointer_nests bin.Add size pointers t a b c k h = stepped_nests size t a b c k h
-pointer_nests bin.Sub size true t a b c k h = h
-pointer_nests bin.Sub size false t a b c k h = stepped_nests size t a b c k h
-pointer_nests bin.Equal size pointers t a b c k h = h
-pointer_nests bin.NotEqual size pointers t a b c k h = h
-pointer_nests bin.Less size pointers t a b c k h = h
-pointer_nests bin.LessEq size pointers t a b c k h = h
-pointer_nests bin.More size pointers t a b c k h = h
-pointer_nests bin.MoreEq size pointers t a b c k h = h
-pointer_nests bin.Mul size pointers t a b c k h = h
-pointer_nests bin.Div size pointers t a b c k h = h
-pointer_nests bin.Mod size pointers t a b c k h = h
-pointer_nests bin.Shl size pointers t a b c k h = h
-pointer_nests bin.Shr size pointers t a b c k h = h
-pointer_nests bin.BitAnd size pointers t a b c k h = h
-pointer_nests bin.BitXor size pointers t a b c k h = h
-pointer_nests bin.BitOr size pointers t a b c k h = h
-pointer_nests bin.AndAlso size pointers t a b c k h = h
-pointer_nests bin.OrElse size pointers t a b c k h = h
+pointer_nests : (op : BinOp) (size : ℕ) (pointers : Bool) (t a b u : ℕ) (c : Nodes) (k : ℕ) → nesting c ≤ k → nesting (with_pointer op size pointers t a b u c) ≤ k
+pointer_nests bin.Add size pointers t a b u c k h = stepped_nests size t a b u c k h
+pointer_nests bin.Sub size true t a b u c k h = h
+pointer_nests bin.Sub size false t a b u c k h = stepped_nests size t a b u c k h
+pointer_nests bin.Equal size pointers t a b u c k h = h
+pointer_nests bin.NotEqual size pointers t a b u c k h = h
+pointer_nests bin.Less size pointers t a b u c k h = h
+pointer_nests bin.LessEq size pointers t a b u c k h = h
+pointer_nests bin.More size pointers t a b u c k h = h
+pointer_nests bin.MoreEq size pointers t a b u c k h = h
+pointer_nests bin.Mul size pointers t a b u c k h = h
+pointer_nests bin.Div size pointers t a b u c k h = h
+pointer_nests bin.Mod size pointers t a b u c k h = h
+pointer_nests bin.Shl size pointers t a b u c k h = h
+pointer_nests bin.Shr size pointers t a b u c k h = h
+pointer_nests bin.BitAnd size pointers t a b u c k h = h
+pointer_nests bin.BitXor size pointers t a b u c k h = h
+pointer_nests bin.BitOr size pointers t a b u c k h = h
+pointer_nests bin.AndAlso size pointers t a b u c k h = h
+pointer_nests bin.OrElse size pointers t a b u c k h = h
 
-on_nests : (h : Shape) (op : BinOp) (to : Option Ty) (pointers : Bool) (t a b : ℕ) (c : Nodes) (k : ℕ) → nesting c ≤ k → nesting (operated_on h op to pointers t a b c) ≤ k
-on_nests h op None pointers t a b c k l = rw (word_nests op t a b c) l
-on_nests h op (Some ty) pointers t a b c k l = pointer_nests op (words h ty) pointers t a b c k l
+on_nests : (h : Shape) (op : BinOp) (to : Option Ty) (pointers : Bool) (t a b u : ℕ) (c : Nodes) (k : ℕ) → nesting c ≤ k → nesting (operated_on h op to pointers t a b u c) ≤ k
+on_nests h op None pointers t a b u c k l = rw (word_nests op t a b c) l
+on_nests h op (Some ty) pointers t a b u c k l = pointer_nests op (words h ty) pointers t a b u c k l
 
-operated_nests : (h : Shape) (op : BinOp) (ta tb : Ty) (t a b : ℕ) (c : Nodes) (k : ℕ) → nesting c ≤ k → nesting (operated h op ta tb t a b c) ≤ k
-operated_nests h op ta tb t a b c k l = on_nests h op (pointed (decayed ta)) (is_pointer (decayed tb)) t a b c k l
+operated_nests : (h : Shape) (op : BinOp) (ta tb : Ty) (t a b u : ℕ) (c : Nodes) (k : ℕ) → nesting c ≤ k → nesting (operated h op ta tb t a b u c) ≤ k
+operated_nests h op ta tb t a b u c k l = on_nests h op (pointed (decayed ta)) (is_pointer (decayed tb)) t a b u c k l
 
-more_nests : (h : Shape) (to : Option Ty) (t a : ℕ) (c : Nodes) → nesting (one_more h to t a c) ≡ nesting c
-more_nests h None t a c = refl
-more_nests h (Some ty) t a c = refl
+more_nests : (h : Shape) (to : Option Ty) (t a u : ℕ) (c : Nodes) → nesting (one_more h to t a u c) ≡ nesting c
+more_nests h None t a u c = refl
+more_nests h (Some ty) t a u c = refl
 
-less_nests : (h : Shape) (to : Option Ty) (t a : ℕ) (c : Nodes) → nesting (one_less h to t a c) ≡ nesting c
-less_nests h None t a c = refl
-less_nests h (Some ty) t a c = refl
+less_nests : (h : Shape) (to : Option Ty) (t a u : ℕ) (c : Nodes) → nesting (one_less h to t a u c) ≡ nesting c
+less_nests h None t a u c = refl
+less_nests h (Some ty) t a u c = refl
 
 tested_nests : (ty : Ty) (t : ℕ) (c : Nodes) → nesting (tested_as ty t c) ≡ nesting c
 tested_nests VoidY t c = refl
@@ -150,14 +150,14 @@ abbrev pub Nests : Low → ℕ → Type 0
 Nests part d = (t n m : ℕ) (c : Nodes) (k : ℕ) → d ≤ k → nesting c ≤ k → nesting (part t n m c) ≤ k
 
 read_nests : (h : Shape) (ty : Ty) (local : ℕ) (part : Low) (d : ℕ) → 2 ≤ d → Nests part d → Nests (read h ty local part) d
-read_nests h (ArrayY of len) local part d e p t n m c k le l = p t (n + 1) m c k le l
-read_nests h VoidY local part d e p t n m c k le l = p n (n + 1) m (Do (LoadO t n) c) k le l
+read_nests h (ArrayY of len) local part d e p t n m c k le l = p t n m c k le l
+read_nests h VoidY local part d e p t n m c k le l = p t n m c k le l
 read_nests h IntY local part d e p t n m c k le l = p n (n + 1) m (Do (LoadO t n) c) k le l
 read_nests h BoolY local part d e p t n m c k le l = p n (n + 1) m (Do (LoadO t n) c) k le l
 read_nests h (EnumY number) local part d e p t n m c k le l = p n (n + 1) m (Do (LoadO t n) c) k le l
 read_nests h (PointerY of) local part d e p t n m c k le l = p n (n + 1) m (Do (LoadO t n) c) k le l
-read_nests h (StructY number) local part d e p t n m c k le l = p t (n + 1) m _ k le (copied_nests (words h (StructY number)) _ k (omega (arith, e, le)) l)
-read_nests h (UnionY number) local part d e p t n m c k le l = p t (n + 1) m _ k le (copied_nests (words h (UnionY number)) _ k (omega (arith, e, le)) l)
+read_nests h (StructY number) local part d e p t n m c k le l = p t n m _ k le (copied_nests (words h (StructY number)) _ k (omega (arith, e, le)) l)
+read_nests h (UnionY number) local part d e p t n m c k le l = p t n m _ k le (copied_nests (words h (UnionY number)) _ k (omega (arith, e, le)) l)
 
 value_of_nests : (h : Shape) (place : Bool) (ty : Ty) (local : ℕ) (part : Low) (d : ℕ) → 2 ≤ d → Nests part d → Nests (value_of h place ty local part) d
 value_of_nests h true ty local part d e p t n m c k le l = read_nests h ty local part d e p t n m c k le l
@@ -183,9 +183,9 @@ unary_nests h un.Plus x part d e p t n m c k le l = value_nests h x part d e p t
 unary_nests h un.Flip x part d e p t n m c k le l = value_nests h x part d e p t n m _ k le l
 
 plain_nests : (h : Shape) (op : BinOp) (x y : TExprT) (first last : Low) (d : ℕ) → 2 ≤ d → Nests first d → Nests last d → (t n m : ℕ) (c : Nodes) (k : ℕ) → d + 1 ≤ k → nesting c ≤ k
-    → nesting (value h x first n (n + 1) m (value h y last (second x n) (second x n + 1) (beyond h x m) (operated h op (type_of x) (type_of y) t n (second x n) c))) ≤ k
+    → nesting (value h x first n (n + 1) m (value h y last (second x n) (second x n + 1) (beyond h x m) (operated h op (type_of x) (type_of y) t n (second x n) (size_at x y n) c))) ≤ k
 plain_nests h op x y first last d e p q t n m c k le l =
-    value_nests h x first d e p n (n + 1) m _ k (omega (arith, le)) (value_nests h y last d e q (second x n) (second x n + 1) (beyond h x m) _ k (omega (arith, le)) (operated_nests h op (type_of x) (type_of y) t n (second x n) c k l))
+    value_nests h x first d e p n (n + 1) m _ k (omega (arith, le)) (value_nests h y last d e q (second x n) (second x n + 1) (beyond h x m) _ k (omega (arith, le)) (operated_nests h op (type_of x) (type_of y) t n (second x n) (size_at x y n) c k l))
 
 -- the second operand of `&&` and `||`
 inner_nests : (h : Shape) (y : TExprT) (last : Low) (d : ℕ) → 2 ≤ d → Nests last d → (t n m : ℕ) → nesting (test h y last t n m (as_flag (tests_flag y) t Stop)) ≤ d
@@ -219,27 +219,27 @@ assign_nests h None x y first last d e p q t n m c k le l =
     (rw (converted_nests (type_of x) (is_flag y) t (stored h (type_of x) n t c)) (stored_nests h (type_of x) n t c k (omega (arith, e, le)) l)))
 assign_nests h (Some op) x y first last d e p q t n m c k le l =
     p n (n + 1) m _ k le (value_nests h y last d e q (behind_place x n) (behind_place x n + 2) _ _ k le
-    (operated_nests h op (type_of x) (type_of y) t (behind_place x n + 1) (behind_place x n) _ k
+    (operated_nests h op (type_of x) (type_of y) t t (behind_place x n) (behind_place x n + 1) _ k
     (rw (converted_nests (type_of x) false t _) l)))
 
-made_nests : (h : Shape) (op : StepOp) (ty : Ty) (new old : ℕ) (c : Nodes) → nesting (step_made h op ty new old c) ≡ nesting c
-made_nests h PreUp ty new old c = more_nests h (pointed (decayed ty)) new old c
-made_nests h PostUp ty new old c = more_nests h (pointed (decayed ty)) new old c
-made_nests h PreDown ty new old c = less_nests h (pointed (decayed ty)) new old c
-made_nests h PostDown ty new old c = less_nests h (pointed (decayed ty)) new old c
+made_nests : (h : Shape) (op : StepOp) (ty : Ty) (new old by : ℕ) (c : Nodes) → nesting (step_made h op ty new old by c) ≡ nesting c
+made_nests h PreUp ty new old by c = more_nests h (pointed (decayed ty)) new old by c
+made_nests h PostUp ty new old by c = more_nests h (pointed (decayed ty)) new old by c
+made_nests h PreDown ty new old by c = less_nests h (pointed (decayed ty)) new old by c
+made_nests h PostDown ty new old by c = less_nests h (pointed (decayed ty)) new old by c
 
 to_nests : (h : Shape) (op : StepOp) (x : TExprT) (new old place : ℕ) (c : Nodes) (k : ℕ) → nesting c ≤ k → nesting (stepped_to h op x new old place c) ≤ k
-to_nests h op x new old place c k l = rw (made_nests h op (type_of x) new old _, converted_nests (type_of x) false new _) l
+to_nests h op x new old place c k l = rw (made_nests h op (type_of x) new old (place + 1) _, converted_nests (type_of x) false new _) l
 
 step_nests : (h : Shape) (op : StepOp) (x : TExprT) (part : Low) (d : ℕ) → Nests part d → Nests (step_taken h op x part) d
-step_nests h PreUp x part d p t n m c k le l = p n (n + 2) m _ k le (to_nests h PreUp x t (n + 1) n c k l)
-step_nests h PreDown x part d p t n m c k le l = p n (n + 2) m _ k le (to_nests h PreDown x t (n + 1) n c k l)
+step_nests h PreUp x part d p t n m c k le l = p n (n + 2) m _ k le (to_nests h PreUp x t t n c k l)
+step_nests h PreDown x part d p t n m c k le l = p n (n + 2) m _ k le (to_nests h PreDown x t t n c k l)
 step_nests h PostUp x part d p t n m c k le l = p n (n + 2) m _ k le (to_nests h PostUp x (n + 1) t n c k l)
 step_nests h PostDown x part d p t n m c k le l = p n (n + 2) m _ k le (to_nests h PostDown x (n + 1) t n c k l)
 
 index_nests : (h : Shape) (ty : Ty) (x y : TExprT) (first last : Low) (d : ℕ) → 2 ≤ d → Nests first d → Nests last d → Nests (index h ty x y first last) d
 index_nests h ty x y first last d e p q t n m c k le l =
-    value_nests h x first d e p n (n + 1) m _ k le (value_nests h y last d e q (second x n) (second x n + 1) (beyond h x m) _ k le (stepped_nests (words h ty) t n (second x n) c k l))
+    value_nests h x first d e p n (n + 1) m _ k le (value_nests h y last d e q (second x n) (second x n + 1) (beyond h x m) _ k le (stepped_nests (words h ty) t n (second x n) (size_at x y n) c k l))
 
 member_nests : (place : Bool) (ty : Ty) (t : ℕ) (c : Nodes) (k : ℕ) → nesting c ≤ k → nesting (member_of place ty t c) ≤ k
 member_nests true ty t c k l = l

@@ -36,7 +36,7 @@ use Rattle.mid_lower.proofs.Flagged.{IsFlag}
 use Rattle.mid_lower.proofs.Fits.{Site}
 use Rattle.mid_lower.proofs.Room.{Room, room_first, room_second}
 use Rattle.mid_lower.proofs.Following.{Fit, Side, mk, Goal, goal, base_of, restay, stays_here, Now, SimV, way_v, scratch, paid, paid_now, less_now, spare, bind_place, kept_through, at_free, above_free, low_free, eqb_less, eqb_more, L, M, M_grows, op, sets}
-use Rattle.mid_lower.proofs.Instructions.{Three, operates, word, from_eq, tested_eq}
+use Rattle.mid_lower.proofs.Instructions.{Four, operates, word, from_eq, tested_eq}
 use Rattle.mid_lower.proofs.Values.{Follow, uses}
 use Rattle.mid_lower.proofs.Choices.{tests, chooses}
 
@@ -52,9 +52,18 @@ abbrev cell_in : Answer Cell → Cell
 cell_in (Ok c) = c
 cell_in (Err r) = Null
 
--- the three temporaries of a node whose operands stand in n and behind
-pub three : (b : Bool) (t n n2 : ℕ) (w : World) (x : Side) → t < n → n < n2 → Three (goal b t n w x) t n n2
-three b t n n2 w x tn nn = record { free_t = at_free (goal b t n w x); free_b = above_free (goal b t n w x) n2 (omega (arith, nn)); a_t = eqb_more n t tn; b_t = eqb_more n2 t (omega (arith, tn, nn)); t_b = eqb_less t n2 (omega (arith, tn, nn)); a_b = eqb_less n n2 nn }
+-- the temporaries of a node whose operands stand in n and behind, and behind both the size of an element
+pub four : (b : Bool) (t n n2 u : ℕ) (w : World) (x : Side) → t < n → n < n2 → n2 < u → Four (goal b t n w x) t n n2 u
+four b t n n2 u w x tn nn nu = record {
+  free_t = at_free (goal b t n w x);
+  free_b = above_free (goal b t n w x) n2 (omega (arith, nn));
+  free_u = above_free (goal b t n w x) u (omega (arith, nn, nu));
+  a_b = eqb_less n n2 nn;
+  a_u = eqb_less n u (omega (arith, nn, nu));
+  b_u = eqb_less n2 u nu;
+  u_b = eqb_more u n2 nu;
+  t_u = eqb_less t u (omega (arith, tn, nn, nu));
+}
 
 module _ (S : Site) where
   abbrev R : NodesT ℕ → Mid → Res Mid
@@ -167,18 +176,19 @@ module _ (S : Site) where
   -- ---- operators on two values
 
   both_sim : (o : BinOp) (a b : TExprT) → Follow S a → Follow S b → is_structure (type_of a) ≡ false → is_structure (type_of b) ≡ false → (span : Span) (t n m : ℕ) (c : NodesT ℕ) (w : World) (y : Side) → scratch ≤ t → t < n → Fit w y → Room S (base_of w y) m (value_sizes h a ++ value_sizes h b)
-      → SimV (goal false t n w y) (R c) false (src.both_operated S.s S.bound o a b span (evaluated S.s S.bound S.prev a (tick w)) (evaluated S.s S.bound S.prev b)) (R (low.value h a (low.low h a) n (n + 1) m (low.value h b (low.low h b) (low.second a n) (low.second a n + 1) (low.beyond h a m) (part.operated h o (type_of a) (type_of b) t n (low.second a n) c))) (mk w y))
+      → SimV (goal false t n w y) (R c) false (src.both_operated S.s S.bound o a b span (evaluated S.s S.bound S.prev a (tick w)) (evaluated S.s S.bound S.prev b)) (R (low.value h a (low.low h a) n (n + 1) m (low.value h b (low.low h b) (low.second a n) (low.second a n + 1) (low.beyond h a m) (part.operated h o (type_of a) (type_of b) t n (low.second a n) (low.size_at a b n) c))) (mk w y))
   both_sim o a b sima simb nsa nsb span t n m c w y st tn u room =
       let γ = goal false t n w y in
       let σ = way_v γ (R c) false in
       let n2 : ℕ = low.second a n in
       let m2 : ℕ = low.beyond h a m in
-      let c1 : NodesT ℕ = part.operated h o (type_of a) (type_of b) t n n2 c in
+      let n3 : ℕ = low.size_at a b n in
+      let c1 : NodesT ℕ = part.operated h o (type_of a) (type_of b) t n n2 n3 c in
       uses S γ σ 36 n (n + 1) m (tick w) y (low.value h b (low.low h b) n2 (n2 + 1) m2 c1) (begin_value t n w y u) (above_free γ n (omega arith)) (omega arith) (omega (arith, st, tn)) (omega arith) a nsa (room_first S γ.base m (value_sizes h a) (value_sizes h b) room)
       (λ v wa. src.with_value Stops S.s S.bound b (evaluated S.s S.bound S.prev b wa) (λ d wb. asked Stops span wb (operated S.s o (type_of a) (type_of b) wb.store.objects v d) (λ z. Value z wb))) sima
       (λ v wa xa flag ha at below.
       uses S γ σ 64 n2 (n2 + 1) m2 wa xa c1 ha (above_free γ n2 (omega arith)) (omega arith) (omega (arith, st, tn)) (omega arith) b nsb (room_second S γ.base m (value_sizes h a) (value_sizes h b) room) (λ d wb. asked Stops span wb (operated S.s o (type_of a) (type_of b) wb.store.objects v d) (λ z. Value z wb)) simb
-      (λ d wb xb flag2 hb at2 below2. operates S γ σ span wb 60 xb o (type_of a) (type_of b) t n n2 v d c hb (three false t n n2 w y tn (omega arith)) (below2 n (omega (arith, st, tn)) (omega arith) (eqb_less n n2 (omega arith)) ∙ at) at2 (λ z. Value z wb) (λ z xc hc at3 rest. to_value t n w y c 60 z wb xc hc at3)))
+      (λ d wb xb flag2 hb at2 below2. operates S γ σ span wb 60 xb o (type_of a) (type_of b) t n n2 n3 v d c hb (four false t n n2 n3 w y tn (omega arith) (omega arith)) (below2 n (omega (arith, st, tn)) (omega arith) (eqb_less n n2 (omega arith)) ∙ at) at2 (λ z. Value z wb) (λ z xc hc at3 rest. to_value t n w y c 60 z wb xc hc at3)))
 
   abbrev k_next : Mid → Res Mid
   k_next t = Next t

@@ -67,47 +67,47 @@ with_word_is bin.BitOr t a b = record { same = λ c. refl }
 with_word_is bin.AndAlso t a b = record { same = λ c. refl }
 with_word_is bin.OrElse t a b = record { same = λ c. refl }
 
-pub stepped_is : (size t a b : ℕ) → Is (l.stepped size t a b) (c.stepped size t a b)
-stepped_is size t a b = pick (size == 1) (plain (DoN (o.Step t a b) ∷ [])) (plain (DoN (o.Const t size) ∷ DoN (o.Two IMUL b b t) ∷ DoN (o.Step t a b) ∷ []))
+pub stepped_is : (size t a b s : ℕ) → Is (l.stepped size t a b s) (c.stepped size t a b s)
+stepped_is size t a b s = pick (size == 1) (plain (DoN (o.Step t a b) ∷ [])) (plain (DoN (o.Const s size) ∷ DoN (o.Two IMUL b b s) ∷ DoN (o.Step t a b) ∷ []))
 
-pub stepped_back_is : (size t a b : ℕ) → Is (l.stepped_back size t a b) (c.stepped_back size t a b)
-stepped_back_is size t a b = seq (plain (DoN (o.One ISGN b b) ∷ [])) (stepped_is size t a b)
+pub stepped_back_is : (size t a b s : ℕ) → Is (l.stepped_back size t a b s) (c.stepped_back size t a b s)
+stepped_back_is size t a b s = seq (plain (DoN (o.One ISGN b b) ∷ [])) (stepped_is size t a b s)
 
-pub with_pointer_is : (op : BinOp) (size : ℕ) (pointers : Bool) (t a b : ℕ) → Is (l.with_pointer op size pointers t a b) (c.with_pointer op size pointers t a b)
-with_pointer_is bin.Mul size pointers t a b = record { same = λ c. refl }
-with_pointer_is bin.Div size pointers t a b = record { same = λ c. refl }
-with_pointer_is bin.Mod size pointers t a b = record { same = λ c. refl }
-with_pointer_is bin.Add size pointers t a b = stepped_is size t a b
-with_pointer_is bin.Sub size true t a b = record { same = λ c. refl }
-with_pointer_is bin.Sub size false t a b = stepped_back_is size t a b
-with_pointer_is bin.Shl size pointers t a b = record { same = λ c. refl }
-with_pointer_is bin.Shr size pointers t a b = record { same = λ c. refl }
-with_pointer_is bin.Less size pointers t a b = record { same = λ c. refl }
-with_pointer_is bin.LessEq size pointers t a b = record { same = λ c. refl }
-with_pointer_is bin.More size pointers t a b = record { same = λ c. refl }
-with_pointer_is bin.MoreEq size pointers t a b = record { same = λ c. refl }
-with_pointer_is bin.Equal size pointers t a b = record { same = λ c. refl }
-with_pointer_is bin.NotEqual size pointers t a b = record { same = λ c. refl }
-with_pointer_is bin.BitAnd size pointers t a b = record { same = λ c. refl }
-with_pointer_is bin.BitXor size pointers t a b = record { same = λ c. refl }
-with_pointer_is bin.BitOr size pointers t a b = record { same = λ c. refl }
-with_pointer_is bin.AndAlso size pointers t a b = record { same = λ c. refl }
-with_pointer_is bin.OrElse size pointers t a b = record { same = λ c. refl }
+pub with_pointer_is : (op : BinOp) (size : ℕ) (pointers : Bool) (t a b s : ℕ) → Is (l.with_pointer op size pointers t a b s) (c.with_pointer op size pointers t a b s)
+with_pointer_is bin.Mul size pointers t a b s = record { same = λ c. refl }
+with_pointer_is bin.Div size pointers t a b s = record { same = λ c. refl }
+with_pointer_is bin.Mod size pointers t a b s = record { same = λ c. refl }
+with_pointer_is bin.Add size pointers t a b s = stepped_is size t a b s
+with_pointer_is bin.Sub size true t a b s = record { same = λ c. refl }
+with_pointer_is bin.Sub size false t a b s = stepped_back_is size t a b s
+with_pointer_is bin.Shl size pointers t a b s = record { same = λ c. refl }
+with_pointer_is bin.Shr size pointers t a b s = record { same = λ c. refl }
+with_pointer_is bin.Less size pointers t a b s = record { same = λ c. refl }
+with_pointer_is bin.LessEq size pointers t a b s = record { same = λ c. refl }
+with_pointer_is bin.More size pointers t a b s = record { same = λ c. refl }
+with_pointer_is bin.MoreEq size pointers t a b s = record { same = λ c. refl }
+with_pointer_is bin.Equal size pointers t a b s = record { same = λ c. refl }
+with_pointer_is bin.NotEqual size pointers t a b s = record { same = λ c. refl }
+with_pointer_is bin.BitAnd size pointers t a b s = record { same = λ c. refl }
+with_pointer_is bin.BitXor size pointers t a b s = record { same = λ c. refl }
+with_pointer_is bin.BitOr size pointers t a b s = record { same = λ c. refl }
+with_pointer_is bin.AndAlso size pointers t a b s = record { same = λ c. refl }
+with_pointer_is bin.OrElse size pointers t a b s = record { same = λ c. refl }
 
-operated_on_is : (h : Shape) (op : BinOp) (to : Option Ty) (pointers : Bool) (t a b : ℕ) → Is (l.operated_on h op to pointers t a b) (c.operated_on h op to pointers t a b)
-operated_on_is h op None pointers t a b = with_word_is op t a b
-operated_on_is h op (Some ty) pointers t a b = with_pointer_is op (words h ty) pointers t a b
+operated_on_is : (h : Shape) (op : BinOp) (to : Option Ty) (pointers : Bool) (t a b s : ℕ) → Is (l.operated_on h op to pointers t a b s) (c.operated_on h op to pointers t a b s)
+operated_on_is h op None pointers t a b s = with_word_is op t a b
+operated_on_is h op (Some ty) pointers t a b s = with_pointer_is op (words h ty) pointers t a b s
 
-pub operated_is : (h : Shape) (op : BinOp) (ta tb : Ty) (t a b : ℕ) → Is (l.operated h op ta tb t a b) (c.operated h op ta tb t a b)
-operated_is h op ta tb t a b = operated_on_is h op (pointed (decayed ta)) (is_pointer (decayed tb)) t a b
+pub operated_is : (h : Shape) (op : BinOp) (ta tb : Ty) (t a b s : ℕ) → Is (l.operated h op ta tb t a b s) (c.operated h op ta tb t a b s)
+operated_is h op ta tb t a b s = operated_on_is h op (pointed (decayed ta)) (is_pointer (decayed tb)) t a b s
 
-pub one_more_is : (h : Shape) (to : Option Ty) (t a : ℕ) → Is (l.one_more h to t a) (c.one_more h to t a)
-one_more_is h None t a = record { same = λ c. refl }
-one_more_is h (Some ty) t a = record { same = λ c. refl }
+pub one_more_is : (h : Shape) (to : Option Ty) (t a s : ℕ) → Is (l.one_more h to t a s) (c.one_more h to t a s)
+one_more_is h None t a s = record { same = λ c. refl }
+one_more_is h (Some ty) t a s = record { same = λ c. refl }
 
-pub one_less_is : (h : Shape) (to : Option Ty) (t a : ℕ) → Is (l.one_less h to t a) (c.one_less h to t a)
-one_less_is h None t a = record { same = λ c. refl }
-one_less_is h (Some ty) t a = record { same = λ c. refl }
+pub one_less_is : (h : Shape) (to : Option Ty) (t a s : ℕ) → Is (l.one_less h to t a s) (c.one_less h to t a s)
+one_less_is h None t a s = record { same = λ c. refl }
+one_less_is h (Some ty) t a s = record { same = λ c. refl }
 
 -- ---- conditions and locals
 

@@ -35,12 +35,12 @@ use Rattle.mid_lower.proofs.Under.{Under, same}
 use Rattle.mid_lower.proofs.Lives.{Later, later_same}
 use Rattle.mid_lower.proofs.Fits.{Site}
 use Rattle.mid_lower.proofs.Room.{Room, room_first, room_second}
-use Rattle.mid_lower.proofs.Following.{base_of, Fit, Side, mk, Goal, goal, stays_later, Now, SimV, Way, way_v, scratch, set, paid, paid_now, set_now, less_now, fin_now, stopped, spare, now_work, bind_place, at_free, above_free, eqb_less, eqb_more, putting, put_at, M, M_grows, op, sets}
-use Rattle.mid_lower.proofs.Instructions.{Three, Sets, operates, steps, step_eq}
-use Rattle.mid_lower.proofs.Storing.{loads, converts, ups, downs}
+use Rattle.mid_lower.proofs.Following.{base_of, Fit, Free, Side, mk, Goal, goal, stays_later, Now, SimV, Way, way_v, scratch, set, paid, paid_now, set_now, less_now, fin_now, stopped, spare, now_work, bind_place, at_free, above_free, eqb_less, eqb_more, putting, put_at, M, M_grows, op, sets}
+use Rattle.mid_lower.proofs.Instructions.{Four, Sets, operates, steps, step_eq}
+use Rattle.mid_lower.proofs.Storing.{Further, loads, converts, ups, downs}
 use Rattle.mid_lower.proofs.Values.{Follow, uses}
 use Rattle.mid_lower.proofs.Choices.{assigns}
-use Rattle.mid_lower.proofs.OperatorForms.{three, begin_place, begin_value, to_value, to_place}
+use Rattle.mid_lower.proofs.OperatorForms.{four, begin_place, begin_value, to_value, to_place}
 
 unknown : {A : Type 0} → false ≡ true → A
 unknown e = absurd (false≢true e)
@@ -87,31 +87,31 @@ module _ (S : Site) where
       let nb : ℕ = low.behind_place a n in
       let m2 : ℕ = m + length (sizes h a) in
       let c3 : NodesT ℕ = part.converted (type_of a) false t (Do (StoreO n t) c) in
-      let c2 : NodesT ℕ = part.operated h o (type_of a) (type_of b) t (nb + 1) nb c3 in
-      let c1 : NodesT ℕ = Do (LoadO (nb + 1) n) c2 in
+      let c2 : NodesT ℕ = part.operated h o (type_of a) (type_of b) t t nb (nb + 1) c3 in
+      let c1 : NodesT ℕ = Do (LoadO t n) c2 in
       let c0 : NodesT ℕ = low.value h b (low.low h b) nb (nb + 2) m2 c1 in
-      let three : Three γ t (nb + 1) nb = record { free_t = at_free γ; free_b = above_free γ nb (omega arith); a_t = eqb_more (nb + 1) t (omega (arith, tn)); b_t = eqb_more nb t (omega (arith, tn)); t_b = eqb_less t nb (omega (arith, tn)); a_b = eqb_more (nb + 1) nb (omega arith) } in
+      let four : Four γ t t nb (nb + 1) = record { free_t = at_free γ; free_b = above_free γ nb (omega arith); free_u = above_free γ (nb + 1) (omega arith); a_b = eqb_less t nb (omega (arith, tn)); a_u = eqb_less t (nb + 1) (omega (arith, tn)); b_u = eqb_less nb (nb + 1) (omega arith); u_b = eqb_more (nb + 1) nb (omega arith); t_u = eqb_less t (nb + 1) (omega (arith, tn)) } in
       bind_place γ (R c) false 36 n (n + 1) (tick w) y (R c0) (begin_value S t n w y u) (above_free γ n (omega arith)) (omega arith) (R_grows c0) (is_place a) span (evaluated S.s S.bound S.prev a (tick w)) (R (low.low h a n (n + 1) m c0) (mk w y)) (sima n (n + 1) m c0 (tick w) y (omega (arith, st, tn)) (omega arith) u (room_first S γ.base m (sizes h a) (value_sizes h b) room))
       (λ p wa. src.with_value Stops S.s S.bound b (evaluated S.s S.bound S.prev b wa) (λ d wb. asked Stops (span_of a) wb (read_as (type_of a) wb.store.objects p) (λ old. asked Stops span wb (operated S.s o (type_of a) (type_of b) wb.store.objects old d) (λ z. src.assigned S.s S.bound a span p z wb))))
       (λ p wa xa er ha at below.
       uses S γ σ 88 nb (nb + 2) m2 wa xa c1 ha (above_free γ nb (omega arith)) (omega arith) (omega (arith, st, tn)) (omega arith) b nsb (room_second S γ.base m (sizes h a) (value_sizes h b) room) (λ d wb. asked Stops (span_of a) wb (read_as (type_of a) wb.store.objects p) (λ old. asked Stops span wb (operated S.s o (type_of a) (type_of b) wb.store.objects old d) (λ z. src.assigned S.s S.bound a span p z wb))) simb
       (λ d wb xb flag hb at2 below2.
       let placed : xb.temps n ≡ p = below2 n (omega (arith, st, tn)) (omega arith) (eqb_less n nb (omega arith)) ∙ at in
-      loads S γ σ (span_of a) wb 108 xb (type_of a) (nb + 1) n p c2 hb (above_free γ (nb + 1) (omega arith)) placed (λ old. asked Stops span wb (operated S.s o (type_of a) (type_of b) wb.store.objects old d) (λ z. src.assigned S.s S.bound a span p z wb))
-      (λ old xc hc at3 rest3. operates S γ σ span wb 76 xc o (type_of a) (type_of b) t (nb + 1) nb old d c3 hc three at3 (rest3 nb (eqb_less nb (nb + 1) (omega arith)) ∙ at2) (λ z. src.assigned S.s S.bound a span p z wb)
+      loads S γ σ (span_of a) wb 108 xb (type_of a) t n p c2 hb (at_free γ) placed (λ old. asked Stops span wb (operated S.s o (type_of a) (type_of b) wb.store.objects old d) (λ z. src.assigned S.s S.bound a span p z wb))
+      (λ old xc hc at3 rest3. operates S γ σ span wb 76 xc o (type_of a) (type_of b) t t nb (nb + 1) old d c3 hc four at3 (rest3 nb (eqb_more nb t (omega (arith, tn))) ∙ at2) (λ z. src.assigned S.s S.bound a span p z wb)
       (λ z xd hd at4 rest4. assigns S γ (SimV γ (R c) false) (λ f w m q. q) 60 span wb xd a false n t p z c nsa hd (at_free γ) (eqb_more n t tn)
-      (rest4 n (eqb_more n t tn) (eqb_less n nb (omega arith)) ∙ rest3 n (eqb_less n (nb + 1) (omega arith)) ∙ placed) at4 (λ e. unknown e)
+      (rest4 n (eqb_more n t tn) (eqb_less n nb (omega arith)) (eqb_less n (nb + 1) (omega arith)) ∙ rest3 n (eqb_more n t tn) ∙ placed) at4 (λ e. unknown e)
       (λ v u2 xe he at5 rest5. to_value S t n w y c 60 v u2 xe he at5)))))
 
   -- ---- steps
 
   -- one more or one less than the cell in a
-  made : (o : StepOp) (γ : Goal) (σ : Way γ) (span : Span) (w : World) (s0 : ℕ) (x : Side) (ty : Ty) (t a : ℕ) (va : Cell) (c : NodesT ℕ) → Now γ (s0 + 24) w x → ((j : ℕ) → scratch + γ.skip ≤ j → j < γ.first → eqb j γ.at ≡ false → eqb j t ≡ false) → eqb a t ≡ false → x.temps a ≡ va → (go : Cell → σ.R) → Sets S γ σ s0 w x t c go
-      → σ.T (asked σ.stop span w (operated S.s (src.step_operator o) ty IntY w.store.objects va (Num 1)) go) (R (low.step_made h o ty t a c) (mk w x))
-  made stepping.PreUp γ σ span w s0 x ty t a va c h0 free ne e go f = ups S γ σ span w s0 x ty t a va c h0 free ne e go f
-  made stepping.PostUp γ σ span w s0 x ty t a va c h0 free ne e go f = ups S γ σ span w s0 x ty t a va c h0 free ne e go f
-  made stepping.PreDown γ σ span w s0 x ty t a va c h0 free ne e go f = downs S γ σ span w s0 x ty t a va c h0 free ne e go f
-  made stepping.PostDown γ σ span w s0 x ty t a va c h0 free ne e go f = downs S γ σ span w s0 x ty t a va c h0 free ne e go f
+  made : (o : StepOp) (γ : Goal) (σ : Way γ) (span : Span) (w : World) (s0 : ℕ) (x : Side) (ty : Ty) (t a u : ℕ) (va : Cell) (c : NodesT ℕ) → Now γ (s0 + 24) w x → Free γ t → Free γ u → eqb a u ≡ false → x.temps a ≡ va → (go : Cell → σ.R) → Further S γ σ span w s0 x t u c go
+      → σ.T (asked σ.stop span w (operated S.s (src.step_operator o) ty IntY w.store.objects va (Num 1)) go) (R (low.step_made h o ty t a u c) (mk w x))
+  made stepping.PreUp γ σ span w s0 x ty t a u va c h0 free free_u ne e go f = ups S γ σ span w s0 x ty t a u va c h0 free free_u ne e go f
+  made stepping.PostUp γ σ span w s0 x ty t a u va c h0 free free_u ne e go f = ups S γ σ span w s0 x ty t a u va c h0 free free_u ne e go f
+  made stepping.PreDown γ σ span w s0 x ty t a u va c h0 free free_u ne e go f = downs S γ σ span w s0 x ty t a u va c h0 free free_u ne e go f
+  made stepping.PostDown γ σ span w s0 x ty t a u va c h0 free free_u ne e go f = downs S γ σ span w s0 x ty t a u va c h0 free free_u ne e go f
 
   module _ (a : TExprT) (sima : Follow S a) (nsa : is_structure (type_of a) ≡ false) (o : StepOp) (span : Span) (t n m : ℕ) (c : NodesT ℕ) (w : World) (y : Side) (st : scratch ≤ t) (tn : t < n) (u : Fit w y) (room : Room S (base_of w y) m (sizes h a)) where
     abbrev γ : Goal
@@ -119,17 +119,17 @@ module _ (S : Site) where
 
     -- the new cell is given
     fore : SimV γ (R c) false (then_place span (evaluated S.s S.bound S.prev a (tick w)) (λ p wa. asked Stops (span_of a) wa (read_as (type_of a) wa.store.objects p) (λ old. asked Stops span wa (operated S.s (src.step_operator o) (type_of a) IntY wa.store.objects old (Num 1)) (λ z. old_or_new false old (src.assigned S.s S.bound a span p z wa)))))
-        (R (low.low h a n (n + 2) m (low.stepped_to h o a t (n + 1) n c)) (mk w y))
+        (R (low.low h a n (n + 2) m (low.stepped_to h o a t t n c)) (mk w y))
     fore =
         let σ = way_v γ (R c) false in
         let c2 : NodesT ℕ = part.converted (type_of a) false t (Do (StoreO n t) c) in
-        let c1 : NodesT ℕ = low.step_made h o (type_of a) t (n + 1) c2 in
-        let c0 : NodesT ℕ = Do (LoadO (n + 1) n) c1 in
+        let c1 : NodesT ℕ = low.step_made h o (type_of a) t t (n + 1) c2 in
+        let c0 : NodesT ℕ = Do (LoadO t n) c1 in
         bind_place γ (R c) false 36 n (n + 2) (tick w) y (R c0) (begin_value S t n w y u) (above_free γ n (omega arith)) (omega arith) (R_grows c0) (is_place a) span (evaluated S.s S.bound S.prev a (tick w)) (R (low.low h a n (n + 2) m c0) (mk w y)) (sima n (n + 2) m c0 (tick w) y (omega (arith, st, tn)) (omega arith) u room)
         (λ p wa. asked Stops (span_of a) wa (read_as (type_of a) wa.store.objects p) (λ old. asked Stops span wa (operated S.s (src.step_operator o) (type_of a) IntY wa.store.objects old (Num 1)) (λ z. old_or_new false old (src.assigned S.s S.bound a span p z wa))))
-        (λ p wa xa er ha at below. loads S γ σ (span_of a) wa 80 xa (type_of a) (n + 1) n p c1 ha (above_free γ (n + 1) (omega arith)) at (λ old. asked Stops span wa (operated S.s (src.step_operator o) (type_of a) IntY wa.store.objects old (Num 1)) (λ z. old_or_new false old (src.assigned S.s S.bound a span p z wa)))
-        (λ old xb hb at2 rest2. made o γ σ span wa 56 xb (type_of a) t (n + 1) old c2 hb (at_free γ) (eqb_more (n + 1) t (omega (arith, tn))) at2 (λ z. old_or_new false old (src.assigned S.s S.bound a span p z wa))
-        (λ z xc hc at3 rest3. assigns S γ (λ v q. SimV γ (R c) false (old_or_new false old v) q) (λ f w m q. q) 40 span wa xc a false n t p z c nsa hc (at_free γ) (eqb_more n t tn) (rest3 n (eqb_more n t tn) ∙ rest2 n (eqb_less n (n + 1) (omega arith)) ∙ at) at3 (λ e. unknown e)
+        (λ p wa xa er ha at below. loads S γ σ (span_of a) wa 80 xa (type_of a) t n p c1 ha (at_free γ) at (λ old. asked Stops span wa (operated S.s (src.step_operator o) (type_of a) IntY wa.store.objects old (Num 1)) (λ z. old_or_new false old (src.assigned S.s S.bound a span p z wa)))
+        (λ old xb hb at2 rest2. made o γ σ span wa 56 xb (type_of a) t t (n + 1) old c2 hb (at_free γ) (above_free γ (n + 1) (omega arith)) (eqb_less t (n + 1) (omega (arith, tn))) at2 (λ z. old_or_new false old (src.assigned S.s S.bound a span p z wa))
+        (λ z xc hc at3 rest3. assigns S γ (λ v q. SimV γ (R c) false (old_or_new false old v) q) (λ f w m q. q) 40 span wa xc a false n t p z c nsa hc (at_free γ) (eqb_more n t tn) (rest3 n (eqb_more n t tn) (eqb_less n (n + 1) (omega arith)) ∙ rest2 n (eqb_more n t tn) ∙ at) at3 (λ e. unknown e)
         (λ v u2 xd hd at4 rest4. to_value S t n w y c 40 v u2 xd hd at4))))
 
     -- the old cell is given
@@ -138,14 +138,14 @@ module _ (S : Site) where
     back =
         let σ = way_v γ (R c) false in
         let c2 : NodesT ℕ = part.converted (type_of a) false (n + 1) (Do (StoreO n (n + 1)) c) in
-        let c1 : NodesT ℕ = low.step_made h o (type_of a) (n + 1) t c2 in
+        let c1 : NodesT ℕ = low.step_made h o (type_of a) (n + 1) t (n + 1) c2 in
         let c0 : NodesT ℕ = Do (LoadO t n) c1 in
         bind_place γ (R c) false 36 n (n + 2) (tick w) y (R c0) (begin_value S t n w y u) (above_free γ n (omega arith)) (omega arith) (R_grows c0) (is_place a) span (evaluated S.s S.bound S.prev a (tick w)) (R (low.low h a n (n + 2) m c0) (mk w y)) (sima n (n + 2) m c0 (tick w) y (omega (arith, st, tn)) (omega arith) u room)
         (λ p wa. asked Stops (span_of a) wa (read_as (type_of a) wa.store.objects p) (λ old. asked Stops span wa (operated S.s (src.step_operator o) (type_of a) IntY wa.store.objects old (Num 1)) (λ z. old_or_new true old (src.assigned S.s S.bound a span p z wa))))
         (λ p wa xa er ha at below. loads S γ σ (span_of a) wa 80 xa (type_of a) t n p c1 ha (at_free γ) at (λ old. asked Stops span wa (operated S.s (src.step_operator o) (type_of a) IntY wa.store.objects old (Num 1)) (λ z. old_or_new true old (src.assigned S.s S.bound a span p z wa)))
-        (λ old xb hb at2 rest2. made o γ σ span wa 56 xb (type_of a) (n + 1) t old c2 hb (above_free γ (n + 1) (omega arith)) (eqb_less t (n + 1) (omega (arith, tn))) at2 (λ z. old_or_new true old (src.assigned S.s S.bound a span p z wa))
-        (λ z xc hc at3 rest3. assigns S γ (λ v q. SimV γ (R c) false (old_or_new true old v) q) (λ f w m q. q) 40 span wa xc a false n (n + 1) p z c nsa hc (above_free γ (n + 1) (omega arith)) (eqb_less n (n + 1) (omega arith)) (rest3 n (eqb_less n (n + 1) (omega arith)) ∙ rest2 n (eqb_more n t tn) ∙ at) at3 (λ e. unknown e)
-        (λ v u2 xd hd at4 rest4. to_value S t n w y c 40 old u2 xd hd (rest4 t (eqb_less t (n + 1) (omega (arith, tn))) ∙ rest3 t (eqb_less t (n + 1) (omega (arith, tn))) ∙ at2)))))
+        (λ old xb hb at2 rest2. made o γ σ span wa 56 xb (type_of a) (n + 1) t (n + 1) old c2 hb (above_free γ (n + 1) (omega arith)) (above_free γ (n + 1) (omega arith)) (eqb_less t (n + 1) (omega (arith, tn))) at2 (λ z. old_or_new true old (src.assigned S.s S.bound a span p z wa))
+        (λ z xc hc at3 rest3. assigns S γ (λ v q. SimV γ (R c) false (old_or_new true old v) q) (λ f w m q. q) 40 span wa xc a false n (n + 1) p z c nsa hc (above_free γ (n + 1) (omega arith)) (eqb_less n (n + 1) (omega arith)) (rest3 n (eqb_less n (n + 1) (omega arith)) (eqb_less n (n + 1) (omega arith)) ∙ rest2 n (eqb_more n t tn) ∙ at) at3 (λ e. unknown e)
+        (λ v u2 xd hd at4 rest4. to_value S t n w y c 40 old u2 xd hd (rest4 t (eqb_less t (n + 1) (omega (arith, tn))) ∙ rest3 t (eqb_less t (n + 1) (omega (arith, tn))) (eqb_less t (n + 1) (omega (arith, tn))) ∙ at2)))))
 
   pub step_sim : (o : StepOp) (a : TExprT) → Follow S a → is_structure (type_of a) ≡ false → (span : Span) (t n m : ℕ) (c : NodesT ℕ) (w : World) (y : Side) → scratch ≤ t → t < n → Fit w y → Room S (base_of w y) m (sizes h a)
       → SimV (goal false t n w y) (R c) false (src.step_taken S.s S.bound o a span (evaluated S.s S.bound S.prev a (tick w))) (R (low.step_taken h o a (low.low h a) t n m c) (mk w y))
@@ -163,12 +163,13 @@ module _ (S : Site) where
       let σ = way_v γ (R c) true in
       let n2 : ℕ = low.second a n in
       let m2 : ℕ = low.beyond h a m in
-      let c1 : NodesT ℕ = part.stepped (words S.s ty) t n n2 c in
+      let n3 : ℕ = low.size_at a b n in
+      let c1 : NodesT ℕ = part.stepped (words S.s ty) t n n2 n3 c in
       uses S γ σ 12 n (n + 1) m (tick w) y (low.value h b (low.low h b) n2 (n2 + 1) m2 c1) (begin_place S t n w y u) (above_free γ n (omega arith)) (omega arith) (omega (arith, st, tn)) (omega arith) a nsa (room_first S γ.base m (value_sizes h a) (value_sizes h b) room)
       (λ v wa. src.with_value Stops S.s S.bound b (evaluated S.s S.bound S.prev b wa) (λ d wb. asked Stops span wb (stepped (words S.s ty) v d) (λ q. Place q wb))) sima
       (λ v wa xa flag ha at below.
       uses S γ σ 40 n2 (n2 + 1) m2 wa xa c1 ha (above_free γ n2 (omega arith)) (omega arith) (omega (arith, st, tn)) (omega arith) b nsb (room_second S γ.base m (value_sizes h a) (value_sizes h b) room) (λ d wb. asked Stops span wb (stepped (words S.s ty) v d) (λ q. Place q wb)) simb
-      (λ d wb xb flag2 hb at2 below2. steps S γ σ span wb 36 xb (words S.s ty) t n n2 v d c hb (three true t n n2 w y tn (omega arith)) (below2 n (omega (arith, st, tn)) (omega arith) (eqb_less n n2 (omega arith)) ∙ at) at2 (λ q. Place q wb) (λ q xc hc at3 rest. to_place S t n w y c 36 q wb xc hc at3)))
+      (λ d wb xb flag2 hb at2 below2. steps S γ σ span wb 36 xb (words S.s ty) t n n2 n3 v d c hb (four true t n n2 n3 w y tn (omega arith) (omega arith)) (below2 n (omega (arith, st, tn)) (omega arith) (eqb_less n n2 (omega arith)) ∙ at) at2 (λ q. Place q wb) (λ q xc hc at3 rest. to_place S t n w y c 36 q wb xc hc at3)))
 
   -- a pointer so many words behind that in n comes to t
   pub behind_sim : (γ : Goal) (σ : Way γ) (s0 : ℕ) (span : Span) (t n offset : ℕ) (p : Cell) (wa : World) (xa : Side) (c : NodesT ℕ) → Now γ (s0 + 16) wa xa → ((j : ℕ) → scratch + γ.skip ≤ j → j < γ.first → eqb j γ.at ≡ false → eqb j t ≡ false) → eqb n t ≡ false → xa.temps n ≡ p → (go : Cell → σ.R) → Sets S γ σ s0 wa xa t c go

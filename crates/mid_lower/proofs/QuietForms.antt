@@ -15,7 +15,7 @@ use Rattle.mid_code.specs.Code.{ConstO, LoadO, LocalO, Stop, Do, Choose, Block}
 use Rattle.lower_trees.specs.Shape.{Shape, words}
 use Rattle.lower_trees.specs.Flags.{is_flag, tests_flag}
 use Rattle.lower_trees.specs.Parts.{Nodes, as_flag, stored, operated}
-use Rattle.lower_trees.specs.Expressions.{Low, read, value_of, value, test, unary, second, beyond, binary, behind_place, assign, step_made, stepped_to, step_taken, index, member_of, called, converted_to}
+use Rattle.lower_trees.specs.Expressions.{Low, read, value_of, value, test, unary, second, beyond, size_at, binary, behind_place, assign, step_made, stepped_to, step_taken, index, member_of, called, converted_to}
 use Rattle.mid_lower.specs.SourceLoops.{reads}
 use Rattle.mid_lower.proofs.Tallies.{Counting, tally, one_is, Spared, either_tally, copied_tally, flag_tally, converted_tally, stepped_tally, operated_tally, more_tally, less_tally, tested_tally, negated_tally, stored_tally}
 
@@ -34,15 +34,15 @@ module _ (k : Counting) where
   -- ---- values
 
   read_quiet : (h : Shape) (ty : Ty) (local : ℕ) (part : Low) → Spared k (is_structure ty) → Quiet part → Quiet (read h ty local part)
-  read_quiet h (ArrayY of len) local part s p t n m c = p t (n + 1) m c
-  read_quiet h VoidY local part s p t n m c = p n (n + 1) m (Do (LoadO t n) c)
+  read_quiet h (ArrayY of len) local part s p t n m c = p t n m c
+  read_quiet h VoidY local part s p t n m c = p t n m c
   read_quiet h IntY local part s p t n m c = p n (n + 1) m (Do (LoadO t n) c)
   read_quiet h BoolY local part s p t n m c = p n (n + 1) m (Do (LoadO t n) c)
   read_quiet h (EnumY number) local part s p t n m c = p n (n + 1) m (Do (LoadO t n) c)
   read_quiet h (PointerY of) local part s p t n m c = p n (n + 1) m (Do (LoadO t n) c)
-  read_quiet h (StructY number) local part (inl e) p t n m c = p t (n + 1) m _ ∙ copied_tally k (words h (StructY number)) (Do (LocalO t local) c) e
+  read_quiet h (StructY number) local part (inl e) p t n m c = p t n m _ ∙ copied_tally k (words h (StructY number)) (Do (LocalO t local) c) e
   read_quiet h (StructY number) local part (inr s) p t n m c = cc
-  read_quiet h (UnionY number) local part (inl e) p t n m c = p t (n + 1) m _ ∙ copied_tally k (words h (UnionY number)) (Do (LocalO t local) c) e
+  read_quiet h (UnionY number) local part (inl e) p t n m c = p t n m _ ∙ copied_tally k (words h (UnionY number)) (Do (LocalO t local) c) e
   read_quiet h (UnionY number) local part (inr s) p t n m c = cc
 
   and_true : (a : Bool) → Spared k (a && true) → Spared k a
@@ -72,9 +72,9 @@ module _ (k : Counting) where
   unary_quiet h un.Flip x part u p t n m c = value_quiet h x part (u refl) p t n m _
 
   plain_quiet : (h : Shape) (op : BinOp) (x y : TExprT) (first last : Low) → Unread x → Unread y → Quiet first → Quiet last → (t n m : ℕ) (c : Nodes)
-      → tally k (value h x first n (n + 1) m (value h y last (second x n) (second x n + 1) (beyond h x m) (operated h op (type_of x) (type_of y) t n (second x n) c))) ≡ tally k c
+      → tally k (value h x first n (n + 1) m (value h y last (second x n) (second x n + 1) (beyond h x m) (operated h op (type_of x) (type_of y) t n (second x n) (size_at x y n) c))) ≡ tally k c
   plain_quiet h op x y first last u v p q t n m c =
-      value_quiet h x first u p n (n + 1) m _ ∙ (value_quiet h y last v q (second x n) (second x n + 1) (beyond h x m) _ ∙ operated_tally k h op (type_of x) (type_of y) t n (second x n) c)
+      value_quiet h x first u p n (n + 1) m _ ∙ (value_quiet h y last v q (second x n) (second x n + 1) (beyond h x m) _ ∙ operated_tally k h op (type_of x) (type_of y) t n (second x n) (size_at x y n) c)
 
   inner_quiet : (h : Shape) (y : TExprT) (last : Low) → Unread y → Quiet last → (t n m : ℕ) → tally k (test h y last t n m (as_flag (tests_flag y) t Stop)) ≡ zero
   inner_quiet h y last v q t n m = test_quiet h y last v q t n m _ ∙ flag_tally k (tests_flag y) t Stop
@@ -111,20 +111,20 @@ module _ (k : Counting) where
   assign_quiet h None x y first last s v p q t n m c =
       p n (n + 1) m _ ∙ (value_quiet h y last v q t (behind_place x n + 2) _ _ ∙ (converted_tally k (type_of x) (is_flag y) t (stored h (type_of x) n t c) ∙ stored_tally k h (type_of x) n t c s))
   assign_quiet h (Some op) x y first last s v p q t n m c =
-      p n (n + 1) m _ ∙ (value_quiet h y last v q (behind_place x n) (behind_place x n + 2) _ _ ∙ (operated_tally k h op (type_of x) (type_of y) t (behind_place x n + 1) (behind_place x n) _ ∙ converted_tally k (type_of x) false t _))
+      p n (n + 1) m _ ∙ (value_quiet h y last v q (behind_place x n) (behind_place x n + 2) _ _ ∙ (operated_tally k h op (type_of x) (type_of y) t t (behind_place x n) (behind_place x n + 1) _ ∙ converted_tally k (type_of x) false t _))
 
-  step_made_tally : (h : Shape) (op : StepOp) (ty : Ty) (new old : ℕ) (c : Nodes) → tally k (step_made h op ty new old c) ≡ tally k c
-  step_made_tally h PreUp ty new old c = more_tally k h (pointed (decayed ty)) new old c
-  step_made_tally h PostUp ty new old c = more_tally k h (pointed (decayed ty)) new old c
-  step_made_tally h PreDown ty new old c = less_tally k h (pointed (decayed ty)) new old c
-  step_made_tally h PostDown ty new old c = less_tally k h (pointed (decayed ty)) new old c
+  step_made_tally : (h : Shape) (op : StepOp) (ty : Ty) (new old by : ℕ) (c : Nodes) → tally k (step_made h op ty new old by c) ≡ tally k c
+  step_made_tally h PreUp ty new old by c = more_tally k h (pointed (decayed ty)) new old by c
+  step_made_tally h PostUp ty new old by c = more_tally k h (pointed (decayed ty)) new old by c
+  step_made_tally h PreDown ty new old by c = less_tally k h (pointed (decayed ty)) new old by c
+  step_made_tally h PostDown ty new old by c = less_tally k h (pointed (decayed ty)) new old by c
 
   stepped_to_tally : (h : Shape) (op : StepOp) (x : TExprT) (new old place : ℕ) (c : Nodes) → tally k (stepped_to h op x new old place c) ≡ tally k c
-  stepped_to_tally h op x new old place c = step_made_tally h op (type_of x) new old _ ∙ converted_tally k (type_of x) false new _
+  stepped_to_tally h op x new old place c = step_made_tally h op (type_of x) new old (place + 1) _ ∙ converted_tally k (type_of x) false new _
 
   pub step_quiet : (h : Shape) (op : StepOp) (x : TExprT) (part : Low) → Quiet part → Quiet (step_taken h op x part)
-  step_quiet h PreUp x part p t n m c = p n (n + 2) m _ ∙ stepped_to_tally h PreUp x t (n + 1) n c
-  step_quiet h PreDown x part p t n m c = p n (n + 2) m _ ∙ stepped_to_tally h PreDown x t (n + 1) n c
+  step_quiet h PreUp x part p t n m c = p n (n + 2) m _ ∙ stepped_to_tally h PreUp x t t n c
+  step_quiet h PreDown x part p t n m c = p n (n + 2) m _ ∙ stepped_to_tally h PreDown x t t n c
   step_quiet h PostUp x part p t n m c = p n (n + 2) m _ ∙ stepped_to_tally h PostUp x (n + 1) t n c
   step_quiet h PostDown x part p t n m c = p n (n + 2) m _ ∙ stepped_to_tally h PostDown x (n + 1) t n c
 
@@ -132,7 +132,7 @@ module _ (k : Counting) where
 
   pub index_quiet : (h : Shape) (ty : Ty) (x y : TExprT) (first last : Low) → Unread x → Unread y → Quiet first → Quiet last → Quiet (index h ty x y first last)
   index_quiet h ty x y first last u v p q t n m c =
-      value_quiet h x first u p n (n + 1) m _ ∙ (value_quiet h y last v q (second x n) (second x n + 1) (beyond h x m) _ ∙ stepped_tally k (words h ty) t n (second x n) c)
+      value_quiet h x first u p n (n + 1) m _ ∙ (value_quiet h y last v q (second x n) (second x n + 1) (beyond h x m) _ ∙ stepped_tally k (words h ty) t n (second x n) (size_at x y n) c)
 
   pub member_tally : (place : Bool) (ty : Ty) (t : ℕ) (c : Nodes) → tally k (member_of place ty t c) ≡ tally k c
   member_tally true ty t c = refl

@@ -20,7 +20,7 @@ use Rattle.lower_trees.specs.Shape.{Shape, words, literal_words}
 use Rattle.lower_trees.specs.Flags.{is_flag, tests_flag}
 use Rattle.lower_trees.specs.Parts.{Nodes, item, copied, zeroed, moved_by, as_flag, converted, with_word, stepped, with_pointer, operated_on, operated, tested_as, negated_as}
 use Rattle.lower_trees.specs.Counts.{read_sizes, unary_sizes, sizes, value_sizes, init_temps, init_sizes, inits_sizes, vars_sizes, behind_address}
-use Rattle.lower_trees.specs.Expressions.{value_of, value, test, unary, binary, second, beyond, low, low_kind, low_value}
+use Rattle.lower_trees.specs.Expressions.{value_of, value, test, unary, binary, second, beyond, size_at, low, low_kind, low_value}
 use Rattle.lower_trees.specs.Initialisers.{part_at, cell_filled, part_filled, part_zeroed, low_text, low_rest, low_init, low_inits, address_of, object_to, low_vars}
 
 -- ---- a part that calls nothing
@@ -100,33 +100,33 @@ word_quiet bin.BitOr t a b = record { quiet = λ c z. z }
 word_quiet bin.AndAlso t a b = record { quiet = λ c z. z }
 word_quiet bin.OrElse t a b = record { quiet = λ c z. z }
 
-stepped_quiet : (size t a b : ℕ) → Quiet (stepped size t a b)
-stepped_quiet size t a b = hush_either (size == 1) (record { quiet = λ c z. z }) (record { quiet = λ c z. z })
+stepped_quiet : (size t a b u : ℕ) → Quiet (stepped size t a b u)
+stepped_quiet size t a b u = hush_either (size == 1) (record { quiet = λ c z. z }) (record { quiet = λ c z. z })
 
-pointer_quiet : (op : BinOp) (size : ℕ) (ps : Bool) (t a b : ℕ) → Quiet (with_pointer op size ps t a b)
-pointer_quiet bin.Mul size ps t a b = record { quiet = λ c z. z }
-pointer_quiet bin.Div size ps t a b = record { quiet = λ c z. z }
-pointer_quiet bin.Mod size ps t a b = record { quiet = λ c z. z }
-pointer_quiet bin.Add size ps t a b = stepped_quiet size t a b
-pointer_quiet bin.Sub size true t a b = record { quiet = λ c z. z }
-pointer_quiet bin.Sub size false t a b = let p = stepped_quiet size t a b in record { quiet = λ c z. p.quiet c z }
-pointer_quiet bin.Shl size ps t a b = record { quiet = λ c z. z }
-pointer_quiet bin.Shr size ps t a b = record { quiet = λ c z. z }
-pointer_quiet bin.Less size ps t a b = record { quiet = λ c z. z }
-pointer_quiet bin.LessEq size ps t a b = record { quiet = λ c z. z }
-pointer_quiet bin.More size ps t a b = record { quiet = λ c z. z }
-pointer_quiet bin.MoreEq size ps t a b = record { quiet = λ c z. z }
-pointer_quiet bin.Equal size ps t a b = record { quiet = λ c z. z }
-pointer_quiet bin.NotEqual size ps t a b = record { quiet = λ c z. z }
-pointer_quiet bin.BitAnd size ps t a b = record { quiet = λ c z. z }
-pointer_quiet bin.BitXor size ps t a b = record { quiet = λ c z. z }
-pointer_quiet bin.BitOr size ps t a b = record { quiet = λ c z. z }
-pointer_quiet bin.AndAlso size ps t a b = record { quiet = λ c z. z }
-pointer_quiet bin.OrElse size ps t a b = record { quiet = λ c z. z }
+pointer_quiet : (op : BinOp) (size : ℕ) (ps : Bool) (t a b u : ℕ) → Quiet (with_pointer op size ps t a b u)
+pointer_quiet bin.Mul size ps t a b u = record { quiet = λ c z. z }
+pointer_quiet bin.Div size ps t a b u = record { quiet = λ c z. z }
+pointer_quiet bin.Mod size ps t a b u = record { quiet = λ c z. z }
+pointer_quiet bin.Add size ps t a b u = stepped_quiet size t a b u
+pointer_quiet bin.Sub size true t a b u = record { quiet = λ c z. z }
+pointer_quiet bin.Sub size false t a b u = let p = stepped_quiet size t a b u in record { quiet = λ c z. p.quiet c z }
+pointer_quiet bin.Shl size ps t a b u = record { quiet = λ c z. z }
+pointer_quiet bin.Shr size ps t a b u = record { quiet = λ c z. z }
+pointer_quiet bin.Less size ps t a b u = record { quiet = λ c z. z }
+pointer_quiet bin.LessEq size ps t a b u = record { quiet = λ c z. z }
+pointer_quiet bin.More size ps t a b u = record { quiet = λ c z. z }
+pointer_quiet bin.MoreEq size ps t a b u = record { quiet = λ c z. z }
+pointer_quiet bin.Equal size ps t a b u = record { quiet = λ c z. z }
+pointer_quiet bin.NotEqual size ps t a b u = record { quiet = λ c z. z }
+pointer_quiet bin.BitAnd size ps t a b u = record { quiet = λ c z. z }
+pointer_quiet bin.BitXor size ps t a b u = record { quiet = λ c z. z }
+pointer_quiet bin.BitOr size ps t a b u = record { quiet = λ c z. z }
+pointer_quiet bin.AndAlso size ps t a b u = record { quiet = λ c z. z }
+pointer_quiet bin.OrElse size ps t a b u = record { quiet = λ c z. z }
 
-on_quiet : (h : Shape) (op : BinOp) (ty : Option Ty) (ps : Bool) (t a b : ℕ) → Quiet (operated_on h op ty ps t a b)
-on_quiet h op None ps t a b = word_quiet op t a b
-on_quiet h op (Some ty) ps t a b = pointer_quiet op (words h ty) ps t a b
+on_quiet : (h : Shape) (op : BinOp) (ty : Option Ty) (ps : Bool) (t a b u : ℕ) → Quiet (operated_on h op ty ps t a b u)
+on_quiet h op None ps t a b u = word_quiet op t a b
+on_quiet h op (Some ty) ps t a b u = pointer_quiet op (words h ty) ps t a b u
 
 -- ---- what is reckoned is no place, has no structures, and calls nothing
 
@@ -169,9 +169,9 @@ unary_low h un.Deref x b e t n m = cc
 unary_low h un.Address x b e t n m = cc
 
 both_quiet : (h : Shape) (op : BinOp) (x y : TExprT) → Bare h x → Bare h y → (t n m : ℕ)
-    → Quiet (λ c. value h x (low h x) n (n + 1) m (value h y (low h y) (second x n) (second x n + 1) (beyond h x m) (operated h op (type_of x) (type_of y) t n (second x n) c)))
+    → Quiet (λ c. value h x (low h x) n (n + 1) m (value h y (low h y) (second x n) (second x n + 1) (beyond h x m) (operated h op (type_of x) (type_of y) t n (second x n) (size_at x y n) c)))
 both_quiet h op x y b d t n m =
-    hushed (bare_value h x b n (n + 1) m) (hushed (bare_value h y d (second x n) (second x n + 1) (beyond h x m)) (on_quiet h op (pointed (decayed (type_of x))) (is_pointer (decayed (type_of y))) t n (second x n)))
+    hushed (bare_value h x b n (n + 1) m) (hushed (bare_value h y d (second x n) (second x n + 1) (beyond h x m)) (on_quiet h op (pointed (decayed (type_of x))) (is_pointer (decayed (type_of y))) t n (second x n) (size_at x y n)))
 
 last_silent : (h : Shape) (x y : TExprT) → Bare h y → (t n m : ℕ) → CallsNone (test h y (low h y) t (second x n) (beyond h x m) (as_flag (tests_flag y) t Stop))
 last_silent h x y d t n m = silent (hushed (bare_test h y d t (second x n) (beyond h x m)) (as_flag_quiet (tests_flag y) t))

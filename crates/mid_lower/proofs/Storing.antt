@@ -69,49 +69,52 @@ module _ (S : Site) where
     converts x (PointerY ty) known a va c h0 free e flag go f = f va x (spare γ (s0 + 8) s0 w x (omega arith) h0) e (λ j ne. refl)
     converts x (ArrayY ty k) known a va c h0 free e flag go f = f va x (spare γ (s0 + 8) s0 w x (omega arith) h0) e (λ j ne. refl)
 
-    -- one more, or one less, than the cell in a comes to t
-    one_further : (x : Side) (t a : ℕ) (va : Cell) (c : NodesT ℕ) → Now γ (s0 + 24) w x → Free γ t → eqb a t ≡ false → x.temps a ≡ va → (go : Cell → σ.R) → Sets S γ σ s0 w x t c go
-        → σ.T (asked σ.stop span w (cell_binary bin.Add va (Num 1)) go) (R (Do (ConstO t 1) (Do (TwoO IADD t a t) c)) (mk w x))
-    one_further x t a va c h0 free ne e go f =
-        sets S σ.T γ (s0 + 8) w x t (Num 1) (ConstO t 1) (Do (TwoO IADD t a t) c) (spare γ (s0 + 24) (s0 + 8 + 8) w x (omega arith) h0) free refl (asked σ.stop span w (cell_binary bin.Add va (Num 1)) go) (λ y hy at rest.
-        op S γ σ s0 span w y t (cell_binary bin.Add va (Num 1)) (two_words IADD (y.temps a) (y.temps t)) (TwoO IADD t a t) c hy free (same (cell_binary bin.Add va (Num 1)) (two_words IADD (y.temps a) (y.temps t)) (two_eq IADD va (Num 1) (y.temps a) (y.temps t) (rest a ne ∙ e) at ∙ same_words bin.Add IADD (λ i j. refl) va (Num 1))) refl go
-        (λ v z hz at2 rest2. f v z hz at2 (λ j nj. rest2 j nj ∙ rest j nj)))
+    -- one more, or one less, than the cell in a comes to t; by how much comes to u
+    abbrev pub Further : (x : Side) (t u : ℕ) (c : NodesT ℕ) (go : Cell → σ.R) → Type 0
+    Further x t u c go = (v : Cell) (y : Side) → Now γ s0 w y → y.temps t ≡ v → ((j : ℕ) → eqb j t ≡ false → eqb j u ≡ false → y.temps j ≡ x.temps j) → σ.T (go v) (R c (mk w y))
 
-    one_up : (x : Side) (size t a : ℕ) (va : Cell) (c : NodesT ℕ) → Now γ (s0 + 24) w x → Free γ t → eqb a t ≡ false → x.temps a ≡ va → (go : Cell → σ.R) → Sets S γ σ s0 w x t c go → σ.T (asked σ.stop span w (step va (mul 1 size)) go) (R (Do (ConstO t size) (Do (StepO t a t) c)) (mk w x))
-    one_up x size t a va c h0 free ne e go f =
-        subst (λ q. σ.T (asked σ.stop span w q go) (R (Do (ConstO t size) (Do (StepO t a t) c)) (mk w x))) (sym (step_once va size))
-        (sets S σ.T γ (s0 + 8) w x t (Num size) (ConstO t size) (Do (StepO t a t) c) (spare γ (s0 + 24) (s0 + 8 + 8) w x (omega arith) h0) free refl (asked σ.stop span w (step va size) go) (λ y hy at rest.
-        op S γ σ s0 span w y t (step va size) (mid.stepped (y.temps a) (y.temps t)) (StepO t a t) c hy free (same (step va size) (mid.stepped (y.temps a) (y.temps t)) (step_eq va (Num size) (y.temps a) (y.temps t) (rest a ne ∙ e) at)) refl go
-        (λ v z hz at2 rest2. f v z hz at2 (λ j nj. rest2 j nj ∙ rest j nj))))
+    one_further : (x : Side) (t a u : ℕ) (va : Cell) (c : NodesT ℕ) → Now γ (s0 + 24) w x → Free γ t → Free γ u → eqb a u ≡ false → x.temps a ≡ va → (go : Cell → σ.R) → Further x t u c go
+        → σ.T (asked σ.stop span w (cell_binary bin.Add va (Num 1)) go) (R (Do (ConstO u 1) (Do (TwoO IADD t a u) c)) (mk w x))
+    one_further x t a u va c h0 free free_u ne e go f =
+        sets S σ.T γ (s0 + 8) w x u (Num 1) (ConstO u 1) (Do (TwoO IADD t a u) c) (spare γ (s0 + 24) (s0 + 8 + 8) w x (omega arith) h0) free_u refl (asked σ.stop span w (cell_binary bin.Add va (Num 1)) go) (λ y hy at rest.
+        op S γ σ s0 span w y t (cell_binary bin.Add va (Num 1)) (two_words IADD (y.temps a) (y.temps u)) (TwoO IADD t a u) c hy free (same (cell_binary bin.Add va (Num 1)) (two_words IADD (y.temps a) (y.temps u)) (two_eq IADD va (Num 1) (y.temps a) (y.temps u) (rest a ne ∙ e) at ∙ same_words bin.Add IADD (λ i j. refl) va (Num 1))) refl go
+        (λ v z hz at2 rest2. f v z hz at2 (λ j nj nu. rest2 j nj ∙ rest j nu)))
 
-    one_down : (x : Side) (size t a : ℕ) (va : Cell) (c : NodesT ℕ) → size < 2 ^ 32 → Now γ (s0 + 24) w x → Free γ t → eqb a t ≡ false → x.temps a ≡ va → (go : Cell → σ.R) → Sets S γ σ s0 w x t c go → σ.T (asked σ.stop span w (step va (mul (negated 1) size)) go) (R (Do (ConstO t size) (Do (OneO ISGN t t) (Do (StepO t a t) c))) (mk w x))
-    one_down x size t a va c lt h0 free ne e go f =
-        subst (λ q. σ.T (asked σ.stop span w (step va q) go) (R (Do (ConstO t size) (Do (OneO ISGN t t) (Do (StepO t a t) c))) (mk w x))) (sym (negated_once size lt))
-        (sets S σ.T γ (s0 + 16) w x t (Num size) (ConstO t size) (Do (OneO ISGN t t) (Do (StepO t a t) c)) (spare γ (s0 + 24) (s0 + 16 + 8) w x (omega arith) h0) free refl (asked σ.stop span w (step va (negated size)) go) (λ y hy at rest.
-        sets S σ.T γ (s0 + 8) w y t (Num (negated size)) (OneO ISGN t t) (Do (StepO t a t) c) (spare γ (s0 + 16) (s0 + 8 + 8) w y (omega arith) hy) free (ap (λ u. to temporaries t (one_word ISGN u) (spent 8 (mk w y))) at) (asked σ.stop span w (step va (negated size)) go) (λ z hz at2 rest2.
-        op S γ σ s0 span w z t (step va (negated size)) (mid.stepped (z.temps a) (z.temps t)) (StepO t a t) c hz free (same (step va (negated size)) (mid.stepped (z.temps a) (z.temps t)) (step_eq va (Num (negated size)) (z.temps a) (z.temps t) (rest2 a ne ∙ rest a ne ∙ e) at2)) refl go
-        (λ v u hu at3 rest3. f v u hu at3 (λ j nj. rest3 j nj ∙ rest2 j nj ∙ rest j nj)))))
+    one_up : (x : Side) (size t a u : ℕ) (va : Cell) (c : NodesT ℕ) → Now γ (s0 + 24) w x → Free γ t → Free γ u → eqb a u ≡ false → x.temps a ≡ va → (go : Cell → σ.R) → Further x t u c go → σ.T (asked σ.stop span w (step va (mul 1 size)) go) (R (Do (ConstO u size) (Do (StepO t a u) c)) (mk w x))
+    one_up x size t a u va c h0 free free_u ne e go f =
+        subst (λ q. σ.T (asked σ.stop span w q go) (R (Do (ConstO u size) (Do (StepO t a u) c)) (mk w x))) (sym (step_once va size))
+        (sets S σ.T γ (s0 + 8) w x u (Num size) (ConstO u size) (Do (StepO t a u) c) (spare γ (s0 + 24) (s0 + 8 + 8) w x (omega arith) h0) free_u refl (asked σ.stop span w (step va size) go) (λ y hy at rest.
+        op S γ σ s0 span w y t (step va size) (mid.stepped (y.temps a) (y.temps u)) (StepO t a u) c hy free (same (step va size) (mid.stepped (y.temps a) (y.temps u)) (step_eq va (Num size) (y.temps a) (y.temps u) (rest a ne ∙ e) at)) refl go
+        (λ v z hz at2 rest2. f v z hz at2 (λ j nj nu. rest2 j nj ∙ rest j nu))))
 
-    one_fewer : (x : Side) (t a : ℕ) (va : Cell) (c : NodesT ℕ) → Now γ (s0 + 24) w x → Free γ t → eqb a t ≡ false → x.temps a ≡ va → (go : Cell → σ.R) → Sets S γ σ s0 w x t c go
-        → σ.T (asked σ.stop span w (cell_binary bin.Sub va (Num 1)) go) (R (Do (ConstO t 1) (Do (TwoO ISUB t a t) c)) (mk w x))
-    one_fewer x t a va c h0 free ne e go f =
-        sets S σ.T γ (s0 + 8) w x t (Num 1) (ConstO t 1) (Do (TwoO ISUB t a t) c) (spare γ (s0 + 24) (s0 + 8 + 8) w x (omega arith) h0) free refl (asked σ.stop span w (cell_binary bin.Sub va (Num 1)) go) (λ y hy at rest.
-        op S γ σ s0 span w y t (cell_binary bin.Sub va (Num 1)) (two_words ISUB (y.temps a) (y.temps t)) (TwoO ISUB t a t) c hy free (same (cell_binary bin.Sub va (Num 1)) (two_words ISUB (y.temps a) (y.temps t)) (two_eq ISUB va (Num 1) (y.temps a) (y.temps t) (rest a ne ∙ e) at ∙ same_words bin.Sub ISUB (λ i j. refl) va (Num 1))) refl go
-        (λ v z hz at2 rest2. f v z hz at2 (λ j nj. rest2 j nj ∙ rest j nj)))
+    one_down : (x : Side) (size t a u : ℕ) (va : Cell) (c : NodesT ℕ) → size < 2 ^ 32 → Now γ (s0 + 24) w x → Free γ t → Free γ u → eqb a u ≡ false → x.temps a ≡ va → (go : Cell → σ.R) → Further x t u c go → σ.T (asked σ.stop span w (step va (mul (negated 1) size)) go) (R (Do (ConstO u size) (Do (OneO ISGN u u) (Do (StepO t a u) c))) (mk w x))
+    one_down x size t a u va c lt h0 free free_u ne e go f =
+        subst (λ q. σ.T (asked σ.stop span w (step va q) go) (R (Do (ConstO u size) (Do (OneO ISGN u u) (Do (StepO t a u) c))) (mk w x))) (sym (negated_once size lt))
+        (sets S σ.T γ (s0 + 16) w x u (Num size) (ConstO u size) (Do (OneO ISGN u u) (Do (StepO t a u) c)) (spare γ (s0 + 24) (s0 + 16 + 8) w x (omega arith) h0) free_u refl (asked σ.stop span w (step va (negated size)) go) (λ y hy at rest.
+        sets S σ.T γ (s0 + 8) w y u (Num (negated size)) (OneO ISGN u u) (Do (StepO t a u) c) (spare γ (s0 + 16) (s0 + 8 + 8) w y (omega arith) hy) free_u (ap (λ d. to temporaries u (one_word ISGN d) (spent 8 (mk w y))) at) (asked σ.stop span w (step va (negated size)) go) (λ z hz at2 rest2.
+        op S γ σ s0 span w z t (step va (negated size)) (mid.stepped (z.temps a) (z.temps u)) (StepO t a u) c hz free (same (step va (negated size)) (mid.stepped (z.temps a) (z.temps u)) (step_eq va (Num (negated size)) (z.temps a) (z.temps u) (rest2 a ne ∙ rest a ne ∙ e) at2)) refl go
+        (λ v d hd at3 rest3. f v d hd at3 (λ j nj nu. rest3 j nj ∙ rest2 j nu ∙ rest j nu)))))
 
-    more_by : (x : Side) (type : Option Ty) (t a : ℕ) (va : Cell) (c : NodesT ℕ) → Now γ (s0 + 24) w x → Free γ t → eqb a t ≡ false → x.temps a ≡ va → (go : Cell → σ.R) → Sets S γ σ s0 w x t c go → σ.T (asked σ.stop span w (operated_on S.s bin.Add type false w.store.objects va (Num 1)) go) (R (low.one_more h type t a c) (mk w x))
-    more_by x None t a va c h0 free ne e go f = one_further x t a va c h0 free ne e go f
-    more_by x (Some ty) t a va c h0 free ne e go f = one_up x (words S.s ty) t a va c h0 free ne e go f
+    one_fewer : (x : Side) (t a u : ℕ) (va : Cell) (c : NodesT ℕ) → Now γ (s0 + 24) w x → Free γ t → Free γ u → eqb a u ≡ false → x.temps a ≡ va → (go : Cell → σ.R) → Further x t u c go
+        → σ.T (asked σ.stop span w (cell_binary bin.Sub va (Num 1)) go) (R (Do (ConstO u 1) (Do (TwoO ISUB t a u) c)) (mk w x))
+    one_fewer x t a u va c h0 free free_u ne e go f =
+        sets S σ.T γ (s0 + 8) w x u (Num 1) (ConstO u 1) (Do (TwoO ISUB t a u) c) (spare γ (s0 + 24) (s0 + 8 + 8) w x (omega arith) h0) free_u refl (asked σ.stop span w (cell_binary bin.Sub va (Num 1)) go) (λ y hy at rest.
+        op S γ σ s0 span w y t (cell_binary bin.Sub va (Num 1)) (two_words ISUB (y.temps a) (y.temps u)) (TwoO ISUB t a u) c hy free (same (cell_binary bin.Sub va (Num 1)) (two_words ISUB (y.temps a) (y.temps u)) (two_eq ISUB va (Num 1) (y.temps a) (y.temps u) (rest a ne ∙ e) at ∙ same_words bin.Sub ISUB (λ i j. refl) va (Num 1))) refl go
+        (λ v z hz at2 rest2. f v z hz at2 (λ j nj nu. rest2 j nj ∙ rest j nu)))
 
-    less_by : (x : Side) (type : Option Ty) (t a : ℕ) (va : Cell) (c : NodesT ℕ) → Now γ (s0 + 24) w x → Free γ t → eqb a t ≡ false → x.temps a ≡ va → (go : Cell → σ.R) → Sets S γ σ s0 w x t c go → σ.T (asked σ.stop span w (operated_on S.s bin.Sub type false w.store.objects va (Num 1)) go) (R (low.one_less h type t a c) (mk w x))
-    less_by x None t a va c h0 free ne e go f = one_fewer x t a va c h0 free ne e go f
-    less_by x (Some ty) t a va c h0 free ne e go f = one_down x (words S.s ty) t a va c (in_words (words_of S.s.layouts ty)) h0 free ne e go f
+    more_by : (x : Side) (type : Option Ty) (t a u : ℕ) (va : Cell) (c : NodesT ℕ) → Now γ (s0 + 24) w x → Free γ t → Free γ u → eqb a u ≡ false → x.temps a ≡ va → (go : Cell → σ.R) → Further x t u c go → σ.T (asked σ.stop span w (operated_on S.s bin.Add type false w.store.objects va (Num 1)) go) (R (low.one_more h type t a u c) (mk w x))
+    more_by x None t a u va c h0 free free_u ne e go f = one_further x t a u va c h0 free free_u ne e go f
+    more_by x (Some ty) t a u va c h0 free free_u ne e go f = one_up x (words S.s ty) t a u va c h0 free free_u ne e go f
 
-    pub ups : (x : Side) (ty : Ty) (t a : ℕ) (va : Cell) (c : NodesT ℕ) → Now γ (s0 + 24) w x → Free γ t → eqb a t ≡ false → x.temps a ≡ va → (go : Cell → σ.R) → Sets S γ σ s0 w x t c go → σ.T (asked σ.stop span w (operated S.s bin.Add ty IntY w.store.objects va (Num 1)) go) (R (low.one_more h (pointed (decayed ty)) t a c) (mk w x))
-    ups x ty t a va c h0 free ne e go f = more_by x (pointed (decayed ty)) t a va c h0 free ne e go f
+    less_by : (x : Side) (type : Option Ty) (t a u : ℕ) (va : Cell) (c : NodesT ℕ) → Now γ (s0 + 24) w x → Free γ t → Free γ u → eqb a u ≡ false → x.temps a ≡ va → (go : Cell → σ.R) → Further x t u c go → σ.T (asked σ.stop span w (operated_on S.s bin.Sub type false w.store.objects va (Num 1)) go) (R (low.one_less h type t a u c) (mk w x))
+    less_by x None t a u va c h0 free free_u ne e go f = one_fewer x t a u va c h0 free free_u ne e go f
+    less_by x (Some ty) t a u va c h0 free free_u ne e go f = one_down x (words S.s ty) t a u va c (in_words (words_of S.s.layouts ty)) h0 free free_u ne e go f
 
-    pub downs : (x : Side) (ty : Ty) (t a : ℕ) (va : Cell) (c : NodesT ℕ) → Now γ (s0 + 24) w x → Free γ t → eqb a t ≡ false → x.temps a ≡ va → (go : Cell → σ.R) → Sets S γ σ s0 w x t c go → σ.T (asked σ.stop span w (operated S.s bin.Sub ty IntY w.store.objects va (Num 1)) go) (R (low.one_less h (pointed (decayed ty)) t a c) (mk w x))
-    downs x ty t a va c h0 free ne e go f = less_by x (pointed (decayed ty)) t a va c h0 free ne e go f
+    pub ups : (x : Side) (ty : Ty) (t a u : ℕ) (va : Cell) (c : NodesT ℕ) → Now γ (s0 + 24) w x → Free γ t → Free γ u → eqb a u ≡ false → x.temps a ≡ va → (go : Cell → σ.R) → Further x t u c go → σ.T (asked σ.stop span w (operated S.s bin.Add ty IntY w.store.objects va (Num 1)) go) (R (low.one_more h (pointed (decayed ty)) t a u c) (mk w x))
+    ups x ty t a u va c h0 free free_u ne e go f = more_by x (pointed (decayed ty)) t a u va c h0 free free_u ne e go f
+
+    pub downs : (x : Side) (ty : Ty) (t a u : ℕ) (va : Cell) (c : NodesT ℕ) → Now γ (s0 + 24) w x → Free γ t → Free γ u → eqb a u ≡ false → x.temps a ≡ va → (go : Cell → σ.R) → Further x t u c go → σ.T (asked σ.stop span w (operated S.s bin.Sub ty IntY w.store.objects va (Num 1)) go) (R (low.one_less h (pointed (decayed ty)) t a u c) (mk w x))
+    downs x ty t a u va c h0 free free_u ne e go f = less_by x (pointed (decayed ty)) t a u va c h0 free free_u ne e go f
 
     objects_now : (x : Side) (os os' : List ObjectT) → Now γ (s0 + 8) w x → Under os os' → Later w.store.objects os → Now γ s0 (on_store (with_objects os) w) (paid (record x { objs = os' }))
     objects_now x os os' h0 u l = record { stays = stays_later γ.base w x (on_store (with_objects os) w) (paid (record x { objs = os' })) refl refl refl refl u l h0.stays; below = h0.below; cost = omega (arith, h0.cost) }

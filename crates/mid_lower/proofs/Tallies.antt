@@ -121,44 +121,44 @@ module _ (k : Counting) where
   word_tally bin.AndAlso t a b c = refl
   word_tally bin.OrElse t a b c = refl
 
-  pub stepped_tally : (size t a b : ℕ) (c : Nodes) → tally k (stepped size t a b c) ≡ tally k c
-  stepped_tally size t a b c = either_tally (size == 1) _ _ (tally k c) refl refl
+  pub stepped_tally : (size t a b u : ℕ) (c : Nodes) → tally k (stepped size t a b u c) ≡ tally k c
+  stepped_tally size t a b u c = either_tally (size == 1) _ _ (tally k c) refl refl
 
-  pointer_tally : (op : BinOp) (size : ℕ) (pointers : Bool) (t a b : ℕ) (c : Nodes) → tally k (with_pointer op size pointers t a b c) ≡ tally k c
-  pointer_tally bin.Add size pointers t a b c = stepped_tally size t a b c
-  pointer_tally bin.Sub size true t a b c = refl
-  pointer_tally bin.Sub size false t a b c = stepped_tally size t a b c
-  pointer_tally bin.Equal size pointers t a b c = refl
-  pointer_tally bin.NotEqual size pointers t a b c = refl
-  pointer_tally bin.Less size pointers t a b c = refl
-  pointer_tally bin.LessEq size pointers t a b c = refl
-  pointer_tally bin.More size pointers t a b c = refl
-  pointer_tally bin.MoreEq size pointers t a b c = refl
-  pointer_tally bin.Mul size pointers t a b c = refl
-  pointer_tally bin.Div size pointers t a b c = refl
-  pointer_tally bin.Mod size pointers t a b c = refl
-  pointer_tally bin.Shl size pointers t a b c = refl
-  pointer_tally bin.Shr size pointers t a b c = refl
-  pointer_tally bin.BitAnd size pointers t a b c = refl
-  pointer_tally bin.BitXor size pointers t a b c = refl
-  pointer_tally bin.BitOr size pointers t a b c = refl
-  pointer_tally bin.AndAlso size pointers t a b c = refl
-  pointer_tally bin.OrElse size pointers t a b c = refl
+  pointer_tally : (op : BinOp) (size : ℕ) (pointers : Bool) (t a b u : ℕ) (c : Nodes) → tally k (with_pointer op size pointers t a b u c) ≡ tally k c
+  pointer_tally bin.Add size pointers t a b u c = stepped_tally size t a b u c
+  pointer_tally bin.Sub size true t a b u c = refl
+  pointer_tally bin.Sub size false t a b u c = stepped_tally size t a b u c
+  pointer_tally bin.Equal size pointers t a b u c = refl
+  pointer_tally bin.NotEqual size pointers t a b u c = refl
+  pointer_tally bin.Less size pointers t a b u c = refl
+  pointer_tally bin.LessEq size pointers t a b u c = refl
+  pointer_tally bin.More size pointers t a b u c = refl
+  pointer_tally bin.MoreEq size pointers t a b u c = refl
+  pointer_tally bin.Mul size pointers t a b u c = refl
+  pointer_tally bin.Div size pointers t a b u c = refl
+  pointer_tally bin.Mod size pointers t a b u c = refl
+  pointer_tally bin.Shl size pointers t a b u c = refl
+  pointer_tally bin.Shr size pointers t a b u c = refl
+  pointer_tally bin.BitAnd size pointers t a b u c = refl
+  pointer_tally bin.BitXor size pointers t a b u c = refl
+  pointer_tally bin.BitOr size pointers t a b u c = refl
+  pointer_tally bin.AndAlso size pointers t a b u c = refl
+  pointer_tally bin.OrElse size pointers t a b u c = refl
 
-  on_tally : (h : Shape) (op : BinOp) (to : Option Ty) (pointers : Bool) (t a b : ℕ) (c : Nodes) → tally k (operated_on h op to pointers t a b c) ≡ tally k c
-  on_tally h op None pointers t a b c = word_tally op t a b c
-  on_tally h op (Some ty) pointers t a b c = pointer_tally op (words h ty) pointers t a b c
+  on_tally : (h : Shape) (op : BinOp) (to : Option Ty) (pointers : Bool) (t a b u : ℕ) (c : Nodes) → tally k (operated_on h op to pointers t a b u c) ≡ tally k c
+  on_tally h op None pointers t a b u c = word_tally op t a b c
+  on_tally h op (Some ty) pointers t a b u c = pointer_tally op (words h ty) pointers t a b u c
 
-  pub operated_tally : (h : Shape) (op : BinOp) (ta tb : Ty) (t a b : ℕ) (c : Nodes) → tally k (operated h op ta tb t a b c) ≡ tally k c
-  operated_tally h op ta tb t a b c = on_tally h op (pointed (decayed ta)) (is_pointer (decayed tb)) t a b c
+  pub operated_tally : (h : Shape) (op : BinOp) (ta tb : Ty) (t a b u : ℕ) (c : Nodes) → tally k (operated h op ta tb t a b u c) ≡ tally k c
+  operated_tally h op ta tb t a b u c = on_tally h op (pointed (decayed ta)) (is_pointer (decayed tb)) t a b u c
 
-  pub more_tally : (h : Shape) (to : Option Ty) (t a : ℕ) (c : Nodes) → tally k (one_more h to t a c) ≡ tally k c
-  more_tally h None t a c = refl
-  more_tally h (Some ty) t a c = refl
+  pub more_tally : (h : Shape) (to : Option Ty) (t a u : ℕ) (c : Nodes) → tally k (one_more h to t a u c) ≡ tally k c
+  more_tally h None t a u c = refl
+  more_tally h (Some ty) t a u c = refl
 
-  pub less_tally : (h : Shape) (to : Option Ty) (t a : ℕ) (c : Nodes) → tally k (one_less h to t a c) ≡ tally k c
-  less_tally h None t a c = refl
-  less_tally h (Some ty) t a c = refl
+  pub less_tally : (h : Shape) (to : Option Ty) (t a u : ℕ) (c : Nodes) → tally k (one_less h to t a u c) ≡ tally k c
+  less_tally h None t a u c = refl
+  less_tally h (Some ty) t a u c = refl
 
   pub tested_tally : (ty : Ty) (t : ℕ) (c : Nodes) → tally k (tested_as ty t c) ≡ tally k c
   tested_tally VoidY t c = refl

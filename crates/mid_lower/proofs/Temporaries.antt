@@ -7,25 +7,19 @@ use Rattle.c_types.specs.Typed.{TExprT, Typed, TKindT, NumberK, NullK, LiteralK,
 use Rattle.c_types.specs.Programs.{TFunctionT, ProgramT}
 use Rattle.c_types.specs.View.{tstmts}
 use Rattle.c_exprs.specs.Nodes.{is_place, is_place_kind}
+use Rattle.c_meaning.specs.Kinds.{type_of}
 use Rattle.c_meaning.specs.Frames.{over, over_all, over_maybe, over_init, over_inits, over_vars, over_statement, over_other, over_statements, over_arm, over_arms, expressions}
 use Rattle.lower_trees.specs.Shape.{Shape}
 use Rattle.lower_trees.specs.Counts.{with_place, unary_temps, temps, temps_all, value_temps, init_temps, inits_temps, behind_address, vars_temps, maybe_temps, stmt_temps, other_temps, stmts_temps, arm_temps, arms_temps}
 use Rattle.lower_trees.specs.Lowered.{low_function, low_start}
+use Rattle.mid_lower.proofs.Counted.{place_least, place_most, element_most}
 
 abbrev each : TKindT → Ty → ℕ
 each kind ty = 1
 
-place_most : (b : Bool) (n : ℕ) → with_place b n ≤ n + 1
-place_most true n = omega arith
-place_most false n = omega arith
-
-place_least : (b : Bool) (n : ℕ) → n ≤ with_place b n
-place_least true n = omega arith
-place_least false n = omega arith
-
-unary_most : (op : UnOp) (x : TExprT) (n : ℕ) → unary_temps op x n ≤ with_place (is_place x) n
+unary_most : (op : UnOp) (x : TExprT) (n : ℕ) → unary_temps op x n ≤ with_place (is_place x) (type_of x) n
 unary_most un.Deref x n = omega arith
-unary_most un.Address x n = place_least (is_place x) n
+unary_most un.Address x n = place_least (is_place x) (type_of x) n
 unary_most un.Minus x n = omega arith
 unary_most un.Plus x n = omega arith
 unary_most un.Not x n = omega arith
@@ -35,16 +29,16 @@ mutual
   value_few : (x : TExprT) → value_temps x + 1 ≤ 2 * over each x
   value_few (Typed (NumberK n) ty span) = omega arith
   value_few (Typed NullK ty span) = omega arith
-  value_few (Typed (LiteralK number) ty span) = omega arith
-  value_few (Typed (GlobalK number) ty span) = omega arith
-  value_few (Typed (LocalK number) ty span) = omega arith
-  value_few (Typed (UnaryK op x) ty span) = omega (arith, place_most (is_place_kind (UnaryK op x)) (unary_temps op x (temps x)), unary_most op x (temps x), value_few x)
+  value_few (Typed (LiteralK number) ty span) = omega (arith, place_most true ty 0)
+  value_few (Typed (GlobalK number) ty span) = omega (arith, place_most true ty 0)
+  value_few (Typed (LocalK number) ty span) = omega (arith, place_most true ty 0)
+  value_few (Typed (UnaryK op x) ty span) = omega (arith, place_most (is_place_kind (UnaryK op x)) ty (unary_temps op x (temps x)), unary_most op x (temps x), value_few x)
   value_few (Typed (BinaryK op x y) ty span) = omega (arith, value_few x, value_few y)
-  value_few (Typed (AssignK op x y) ty span) = omega (arith, place_least (is_place x) (temps x), value_few x, value_few y)
-  value_few (Typed (StepK op x) ty span) = omega (arith, place_least (is_place x) (temps x), value_few x)
-  value_few (Typed (IndexK x y) ty span) = omega (arith, value_few x, value_few y)
-  value_few (Typed (MemberK x offset) ty span) = omega (arith, place_most (is_place_kind (MemberK x offset)) (temps x + 1), place_least (is_place x) (temps x), value_few x)
-  value_few (Typed (ArrowK x offset) ty span) = omega (arith, value_few x)
+  value_few (Typed (AssignK op x y) ty span) = omega (arith, place_least (is_place x) (type_of x) (temps x), value_few x, value_few y)
+  value_few (Typed (StepK op x) ty span) = omega (arith, place_least (is_place x) (type_of x) (temps x), value_few x)
+  value_few (Typed (IndexK x y) ty span) = omega (arith, value_few x, value_few y, element_most ty (value_temps x + value_temps y))
+  value_few (Typed (MemberK x offset) ty span) = omega (arith, place_most (is_place_kind (MemberK x offset)) ty (temps x + 1), place_least (is_place x) (type_of x) (temps x), value_few x)
+  value_few (Typed (ArrowK x offset) ty span) = omega (arith, value_few x, place_most true ty (value_temps x + 1))
   value_few (Typed (CastK x) ty span) = omega (arith, value_few x)
   value_few (Typed (CallK f xs) ty span) = omega (arith, all_few xs)
   value_few (Typed (InK port) ty span) = omega arith

@@ -6,7 +6,7 @@ use Rattle.c_tree.specs.declared.operator.BinOp.{BinOp}
 use Rattle.c_tree.specs.declared.operator.BinOp.TheVariants as bin
 use Rattle.c_tree.specs.declared.operator.StepOp.{StepOp}
 use Rattle.c_tree.specs.declared.operator.StepOp.TheVariants.{PreUp, PreDown, PostUp, PostDown}
-use Rattle.c_types.specs.Types.{Ty, BoolY, StructY, UnionY, PointerY, ArrayY}
+use Rattle.c_types.specs.Types.{Ty, VoidY, BoolY, StructY, UnionY, PointerY, ArrayY}
 use Rattle.c_types.specs.Typed.{TExprT, Typed, NumberK, NullK, LiteralK, GlobalK, LocalK, UnaryK, BinaryK, AssignK, StepK, IndexK, MemberK, ArrowK, CastK, CallK, InK, OutK, WaitK, HaltK, CardK, TExprTs, NoX, MoreX}
 use Rattle.c_exprs.specs.Nodes.{is_place}
 use Rattle.c_meaning.specs.Kinds.{type_of, is_structure, decayed, pointed, is_pointer}
@@ -15,7 +15,7 @@ use Rattle.lower_trees.specs.Shape.{Shape, words, params_of, result_of}
 use Rattle.lower_trees.specs.Flags.{is_flag}
 use Rattle.lower_trees.specs.Parts.{Nodes, copied, zeroed, structure_read, as_flag, converted, stored, with_word, stepped, with_pointer, operated_on, operated, one_more, one_less, tested_as, negated_as}
 use Rattle.lower_trees.specs.Counts.{sizes, sizes_all}
-use Rattle.lower_trees.specs.Expressions.{Low, read, value_of, value, test, unary, second, beyond, binary, behind_place, assign, step_made, stepped_to, step_taken, index, member_of, called, spots, converted_to, later_types, low, low_args, low_value, low_test}
+use Rattle.lower_trees.specs.Expressions.{Low, read, value_of, value, test, unary, second, beyond, size_at, binary, behind_place, assign, step_made, stepped_to, step_taken, index, member_of, called, spots, converted_to, later_types, low, low_args, low_value, low_test}
 use Rattle.mid_lower.proofs.TogetherPaths.{Frames, Leads, doing, calling, first_way, second_way, into_loop, way_ends, loop_ends}
 
 -- ---- parts
@@ -46,35 +46,35 @@ word_leads bin.AndAlso t a b c fs q l = l
 word_leads bin.OrElse t a b c fs q l = l
 word_leads op t a b c fs q l = doing tt l
 
-stepped_leads : (size t a b : ℕ) (c : Nodes) (fs : Frames) (q : Point ℕ) → Leads (at fs c) q → Leads (at fs (stepped size t a b c)) q
-stepped_leads size t a b c fs q l = either_leads (size == 1) _ _ fs q (doing tt l) (doing tt (doing tt (doing tt l)))
+stepped_leads : (size t a b u : ℕ) (c : Nodes) (fs : Frames) (q : Point ℕ) → Leads (at fs c) q → Leads (at fs (stepped size t a b u c)) q
+stepped_leads size t a b u c fs q l = either_leads (size == 1) _ _ fs q (doing tt l) (doing tt (doing tt (doing tt l)))
 
-pointer_leads : (op : BinOp) (size : ℕ) (pointers : Bool) (t a b : ℕ) (c : Nodes) (fs : Frames) (q : Point ℕ) → Leads (at fs c) q → Leads (at fs (with_pointer op size pointers t a b c)) q
-pointer_leads bin.Add size pointers t a b c fs q l = stepped_leads size t a b c fs q l
-pointer_leads bin.Sub size true t a b c fs q l = doing tt (doing tt (doing tt l))
-pointer_leads bin.Sub size false t a b c fs q l = doing tt (stepped_leads size t a b c fs q l)
-pointer_leads bin.Equal size pointers t a b c fs q l = doing tt l
-pointer_leads bin.NotEqual size pointers t a b c fs q l = doing tt l
-pointer_leads bin.Less size pointers t a b c fs q l = doing tt l
-pointer_leads bin.LessEq size pointers t a b c fs q l = doing tt l
-pointer_leads bin.More size pointers t a b c fs q l = doing tt l
-pointer_leads bin.MoreEq size pointers t a b c fs q l = doing tt l
-pointer_leads op size pointers t a b c fs q l = l
+pointer_leads : (op : BinOp) (size : ℕ) (pointers : Bool) (t a b u : ℕ) (c : Nodes) (fs : Frames) (q : Point ℕ) → Leads (at fs c) q → Leads (at fs (with_pointer op size pointers t a b u c)) q
+pointer_leads bin.Add size pointers t a b u c fs q l = stepped_leads size t a b u c fs q l
+pointer_leads bin.Sub size true t a b u c fs q l = doing tt (doing tt (doing tt l))
+pointer_leads bin.Sub size false t a b u c fs q l = doing tt (stepped_leads size t a b u c fs q l)
+pointer_leads bin.Equal size pointers t a b u c fs q l = doing tt l
+pointer_leads bin.NotEqual size pointers t a b u c fs q l = doing tt l
+pointer_leads bin.Less size pointers t a b u c fs q l = doing tt l
+pointer_leads bin.LessEq size pointers t a b u c fs q l = doing tt l
+pointer_leads bin.More size pointers t a b u c fs q l = doing tt l
+pointer_leads bin.MoreEq size pointers t a b u c fs q l = doing tt l
+pointer_leads op size pointers t a b u c fs q l = l
 
-on_leads : (h : Shape) (op : BinOp) (to_type : Option Ty) (pointers : Bool) (t a b : ℕ) (c : Nodes) (fs : Frames) (q : Point ℕ) → Leads (at fs c) q → Leads (at fs (operated_on h op to_type pointers t a b c)) q
-on_leads h op None pointers t a b c fs q l = word_leads op t a b c fs q l
-on_leads h op (Some ty) pointers t a b c fs q l = pointer_leads op (words h ty) pointers t a b c fs q l
+on_leads : (h : Shape) (op : BinOp) (to_type : Option Ty) (pointers : Bool) (t a b u : ℕ) (c : Nodes) (fs : Frames) (q : Point ℕ) → Leads (at fs c) q → Leads (at fs (operated_on h op to_type pointers t a b u c)) q
+on_leads h op None pointers t a b u c fs q l = word_leads op t a b c fs q l
+on_leads h op (Some ty) pointers t a b u c fs q l = pointer_leads op (words h ty) pointers t a b u c fs q l
 
-operated_leads : (h : Shape) (op : BinOp) (ta tb : Ty) (t a b : ℕ) (c : Nodes) (fs : Frames) (q : Point ℕ) → Leads (at fs c) q → Leads (at fs (operated h op ta tb t a b c)) q
-operated_leads h op ta tb t a b c fs q l = on_leads h op (pointed (decayed ta)) (is_pointer (decayed tb)) t a b c fs q l
+operated_leads : (h : Shape) (op : BinOp) (ta tb : Ty) (t a b u : ℕ) (c : Nodes) (fs : Frames) (q : Point ℕ) → Leads (at fs c) q → Leads (at fs (operated h op ta tb t a b u c)) q
+operated_leads h op ta tb t a b u c fs q l = on_leads h op (pointed (decayed ta)) (is_pointer (decayed tb)) t a b u c fs q l
 
-more_leads : (h : Shape) (to_type : Option Ty) (t a : ℕ) (c : Nodes) (fs : Frames) (q : Point ℕ) → Leads (at fs c) q → Leads (at fs (one_more h to_type t a c)) q
-more_leads h None t a c fs q l = doing tt (doing tt l)
-more_leads h (Some ty) t a c fs q l = doing tt (doing tt l)
+more_leads : (h : Shape) (to_type : Option Ty) (t a u : ℕ) (c : Nodes) (fs : Frames) (q : Point ℕ) → Leads (at fs c) q → Leads (at fs (one_more h to_type t a u c)) q
+more_leads h None t a u c fs q l = doing tt (doing tt l)
+more_leads h (Some ty) t a u c fs q l = doing tt (doing tt l)
 
-less_leads : (h : Shape) (to_type : Option Ty) (t a : ℕ) (c : Nodes) (fs : Frames) (q : Point ℕ) → Leads (at fs c) q → Leads (at fs (one_less h to_type t a c)) q
-less_leads h None t a c fs q l = doing tt (doing tt l)
-less_leads h (Some ty) t a c fs q l = doing tt (doing tt (doing tt l))
+less_leads : (h : Shape) (to_type : Option Ty) (t a u : ℕ) (c : Nodes) (fs : Frames) (q : Point ℕ) → Leads (at fs c) q → Leads (at fs (one_less h to_type t a u c)) q
+less_leads h None t a u c fs q l = doing tt (doing tt l)
+less_leads h (Some ty) t a u c fs q l = doing tt (doing tt (doing tt l))
 
 tested_leads : (ty : Ty) (t : ℕ) (c : Nodes) (fs : Frames) (q : Point ℕ) → Leads (at fs c) q → Leads (at fs (tested_as ty t c)) q
 tested_leads (PointerY of) t c fs q l = doing tt (doing tt l)
@@ -97,9 +97,10 @@ structure_passes : (h : Shape) (ty : Ty) (local t : ℕ) (c : Nodes) (fs : Frame
 structure_passes h ty local t c fs q l = doing tt (doing tt (doing tt (copied_leads (words h ty) _ fs q (doing tt l))))
 
 read_passes : (h : Shape) (ty : Ty) (local : ℕ) (part : Low) → Passes part → Passes (read h ty local part)
-read_passes h (ArrayY of len) local part p t n m c fs q l = p t (n + 1) m c fs q l
-read_passes h (StructY number) local part p t n m c fs q l = p t (n + 1) m _ fs q (structure_passes h (StructY number) local t c fs q l)
-read_passes h (UnionY number) local part p t n m c fs q l = p t (n + 1) m _ fs q (structure_passes h (UnionY number) local t c fs q l)
+read_passes h (ArrayY of len) local part p t n m c fs q l = p t n m c fs q l
+read_passes h VoidY local part p t n m c fs q l = p t n m c fs q l
+read_passes h (StructY number) local part p t n m c fs q l = p t n m _ fs q (structure_passes h (StructY number) local t c fs q l)
+read_passes h (UnionY number) local part p t n m c fs q l = p t n m _ fs q (structure_passes h (UnionY number) local t c fs q l)
 read_passes h ty local part p t n m c fs q l = p n (n + 1) m _ fs q (doing tt l)
 
 value_of_passes : (h : Shape) (place : Bool) (ty : Ty) (local : ℕ) (part : Low) → Passes part → Passes (value_of h place ty local part)
@@ -127,7 +128,7 @@ binary_passes : (h : Shape) (op : BinOp) (x y : TExprT) (first last : Low) → P
 binary_passes h bin.AndAlso x y first last p r t n m c fs q l = test_passes h x first p t n m _ fs q (second_way (doing tt (way_ends l)))
 binary_passes h bin.OrElse x y first last p r t n m c fs q l = test_passes h x first p t n m _ fs q (first_way (doing tt (way_ends l)))
 binary_passes h op x y first last p r t n m c fs q l =
-    value_passes h x first p n (n + 1) m _ fs q (value_passes h y last r (second x n) (second x n + 1) (beyond h x m) _ fs q (operated_leads h op (type_of x) (type_of y) t n (second x n) c fs q l))
+    value_passes h x first p n (n + 1) m _ fs q (value_passes h y last r (second x n) (second x n + 1) (beyond h x m) _ fs q (operated_leads h op (type_of x) (type_of y) t n (second x n) (size_at x y n) c fs q l))
 
 assign_passes : (h : Shape) (op : Option BinOp) (x y : TExprT) (first last : Low) → Passes first → Passes last → Passes (assign h op x y first last)
 assign_passes h None x y first last p r t n m c fs q l =
@@ -135,27 +136,27 @@ assign_passes h None x y first last p r t n m c fs q l =
     (converted_leads (type_of x) (is_flag y) t _ fs q (stored_leads h (type_of x) n t c fs q l)))
 assign_passes h (Some op) x y first last p r t n m c fs q l =
     p n (n + 1) m _ fs q (value_passes h y last r (behind_place x n) (behind_place x n + 2) _ _ fs q
-    (doing tt (operated_leads h op (type_of x) (type_of y) t (behind_place x n + 1) (behind_place x n) _ fs q
+    (doing tt (operated_leads h op (type_of x) (type_of y) t t (behind_place x n) (behind_place x n + 1) _ fs q
     (converted_leads (type_of x) false t _ fs q (doing tt l)))))
 
-one_step_leads : (h : Shape) (op : StepOp) (ty : Ty) (new old : ℕ) (c : Nodes) (fs : Frames) (q : Point ℕ) → Leads (at fs c) q → Leads (at fs (step_made h op ty new old c)) q
-one_step_leads h PreUp ty new old c fs q l = more_leads h (pointed (decayed ty)) new old c fs q l
-one_step_leads h PostUp ty new old c fs q l = more_leads h (pointed (decayed ty)) new old c fs q l
-one_step_leads h PreDown ty new old c fs q l = less_leads h (pointed (decayed ty)) new old c fs q l
-one_step_leads h PostDown ty new old c fs q l = less_leads h (pointed (decayed ty)) new old c fs q l
+one_step_leads : (h : Shape) (op : StepOp) (ty : Ty) (new old by : ℕ) (c : Nodes) (fs : Frames) (q : Point ℕ) → Leads (at fs c) q → Leads (at fs (step_made h op ty new old by c)) q
+one_step_leads h PreUp ty new old by c fs q l = more_leads h (pointed (decayed ty)) new old by c fs q l
+one_step_leads h PostUp ty new old by c fs q l = more_leads h (pointed (decayed ty)) new old by c fs q l
+one_step_leads h PreDown ty new old by c fs q l = less_leads h (pointed (decayed ty)) new old by c fs q l
+one_step_leads h PostDown ty new old by c fs q l = less_leads h (pointed (decayed ty)) new old by c fs q l
 
 to_leads : (h : Shape) (op : StepOp) (x : TExprT) (new old place : ℕ) (c : Nodes) (fs : Frames) (q : Point ℕ) → Leads (at fs c) q → Leads (at fs (stepped_to h op x new old place c)) q
-to_leads h op x new old place c fs q l = doing tt (one_step_leads h op (type_of x) new old _ fs q (converted_leads (type_of x) false new _ fs q (doing tt l)))
+to_leads h op x new old place c fs q l = doing tt (one_step_leads h op (type_of x) new old (place + 1) _ fs q (converted_leads (type_of x) false new _ fs q (doing tt l)))
 
 step_passes : (h : Shape) (op : StepOp) (x : TExprT) (part : Low) → Passes part → Passes (step_taken h op x part)
-step_passes h PreUp x part p t n m c fs q l = p n (n + 2) m _ fs q (to_leads h PreUp x t (n + 1) n c fs q l)
-step_passes h PreDown x part p t n m c fs q l = p n (n + 2) m _ fs q (to_leads h PreDown x t (n + 1) n c fs q l)
+step_passes h PreUp x part p t n m c fs q l = p n (n + 2) m _ fs q (to_leads h PreUp x t t n c fs q l)
+step_passes h PreDown x part p t n m c fs q l = p n (n + 2) m _ fs q (to_leads h PreDown x t t n c fs q l)
 step_passes h PostUp x part p t n m c fs q l = p n (n + 2) m _ fs q (to_leads h PostUp x (n + 1) t n c fs q l)
 step_passes h PostDown x part p t n m c fs q l = p n (n + 2) m _ fs q (to_leads h PostDown x (n + 1) t n c fs q l)
 
 index_passes : (h : Shape) (ty : Ty) (x y : TExprT) (first last : Low) → Passes first → Passes last → Passes (index h ty x y first last)
 index_passes h ty x y first last p r t n m c fs q l =
-    value_passes h x first p n (n + 1) m _ fs q (value_passes h y last r (second x n) (second x n + 1) (beyond h x m) _ fs q (stepped_leads (words h ty) t n (second x n) c fs q l))
+    value_passes h x first p n (n + 1) m _ fs q (value_passes h y last r (second x n) (second x n + 1) (beyond h x m) _ fs q (stepped_leads (words h ty) t n (second x n) (size_at x y n) c fs q l))
 
 member_leads : (place : Bool) (ty : Ty) (t : ℕ) (c : Nodes) (fs : Frames) (q : Point ℕ) → Leads (at fs c) q → Leads (at fs (member_of place ty t c)) q
 member_leads true ty t c fs q l = l

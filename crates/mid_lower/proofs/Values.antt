@@ -119,19 +119,29 @@ module _ (S : Site) where
       placed_value na nf (Stops g wa) q a f = subst (λ r. σ.T r q) (sym (mk_is.of_stop g wa)) (σ.stops g wa q (kept_wider γ (goal true n (n + 1) w x) (omega (arith, h0.cost)) g wa q a))
 
       -- an array is its place
-      array_value : (of : Ty) (len : ℕ) → type_of e ≡ ArrayY of len → (is_flag e ≡ false) → (r : Val) (q : Res Mid) → SimV (goal true t (n + 1) w x) (R c) true r q → Uses γ σ (s0 + 28) t n x c e go → σ.T (make (value_of S.s S.bound e r)) q
+      array_value : (of : Ty) (len : ℕ) → type_of e ≡ ArrayY of len → (is_flag e ≡ false) → (r : Val) (q : Res Mid) → SimV (goal true t n w x) (R c) true r q → Uses γ σ (s0 + 28) t n x c e go → σ.T (make (value_of S.s S.bound e r)) q
       array_value of len et nf (Place p wa) q a f =
           subst (σ.T (make (fetched S.s S.bound (type_of e) (span_of e) p wa))) (sym a.2)
           (subst (λ ty. σ.T (make (fetched S.s S.bound ty (span_of e) p wa)) (R c (mk wa a.1))) (sym et)
-          (subst (λ r. σ.T r (R c (mk wa a.1))) (sym (mk_is.of_value p wa)) (f p wa a.1 (λ fl. absurd (false≢true (sym nf ∙ fl))) (spare γ (s0 + 52) (s0 + 28) wa a.1 (omega arith) (value_now γ s0 t (n + 1) true w wa x a.1 h0 free (omega (arith, le)) a.3)) a.4 (λ j d b ne. a.3.below j (omega (arith, d)) (omega (arith, b)) ne))))
+          (subst (λ r. σ.T r (R c (mk wa a.1))) (sym (mk_is.of_value p wa)) (f p wa a.1 (λ fl. absurd (false≢true (sym nf ∙ fl))) (spare γ (s0 + 52) (s0 + 28) wa a.1 (omega arith) (value_now γ s0 t n true w wa x a.1 h0 free (omega (arith, le)) a.3)) a.4 (λ j d b ne. a.3.below j (omega (arith, d)) (omega (arith, b)) ne))))
       array_value of len et nf (Value p wa) q a f = absurd (false≢true (sym a.0))
       array_value of len et nf (NoValue wa) q a f = absurd (false≢true (sym a.0))
-      array_value of len et nf (Stops g wa) q a f = subst (λ r. σ.T r q) (sym (mk_is.of_stop g wa)) (σ.stops g wa q (kept_wider γ (goal true t (n + 1) w x) (omega (arith, h0.cost)) g wa q a))
+      array_value of len et nf (Stops g wa) q a f = subst (λ r. σ.T r q) (sym (mk_is.of_stop g wa)) (σ.stops g wa q (kept_wider γ (goal true t n w x) (omega (arith, h0.cost)) g wa q a))
+
+      -- of void nothing is read
+      void_value : type_of e ≡ VoidY → (r : Val) (q : Res Mid) → SimV (goal true t n w x) (R c) true r q → σ.T (make (value_of S.s S.bound e r)) q
+      void_value et (Place p wa) q a =
+          subst (σ.T (make (fetched S.s S.bound (type_of e) (span_of e) p wa))) (sym a.2)
+          (subst (λ ty. σ.T (make (fetched S.s S.bound ty (span_of e) p wa)) (R c (mk wa a.1))) (sym et)
+          (subst (λ r. σ.T r (R c (mk wa a.1))) (sym (mk_is.of_stop (Stray (span_of e)) wa)) (σ.stops (Stray (span_of e)) wa (R c (mk wa a.1)) (R_grows c (mk wa a.1)))))
+      void_value et (Value p wa) q a = absurd (false≢true (sym a.0))
+      void_value et (NoValue wa) q a = absurd (false≢true (sym a.0))
+      void_value et (Stops g wa) q a = subst (λ r. σ.T r q) (sym (mk_is.of_stop g wa)) (σ.stops g wa q (kept_wider γ (goal true t n w x) (omega (arith, h0.cost)) g wa q a))
 
       -- the value of what came to a place or not
       by_type : (ty : Ty) → type_of e ≡ ty → (k : ℕ) (place : low.Low) (r : Val) → is_flag e ≡ false → ((u v : ℕ) (d : NodesT ℕ) → scratch ≤ u → u < v → SimV (goal true u v w x) (R d) true r (R (place u v m d) (mk w x))) → Uses γ σ (s0 + 28) t n x c e go → σ.T (make (value_of S.s S.bound e r)) (R (low.read h ty k place t n m c) (mk w x))
-      by_type (ArrayY of len) et k place r nf sim f = array_value of len et nf r (R (place t (n + 1) m c) (mk w x)) (sim t (n + 1) c st (omega (arith, tn))) f
-      by_type VoidY et k place r nf sim f = placed_value (λ of len q. (no_array VoidY of len tt (sym et ∙ q))) nf r (R (place n (n + 1) m (Do (LoadO t n) c)) (mk w x)) (sim n (n + 1) (Do (LoadO t n) c) (omega (arith, st, tn)) (omega arith)) f
+      by_type (ArrayY of len) et k place r nf sim f = array_value of len et nf r (R (place t n m c) (mk w x)) (sim t n c st tn) f
+      by_type VoidY et k place r nf sim f = void_value et r (R (place t n m c) (mk w x)) (sim t n c st tn)
       by_type IntY et k place r nf sim f = placed_value (λ of len q. (no_array IntY of len tt (sym et ∙ q))) nf r (R (place n (n + 1) m (Do (LoadO t n) c)) (mk w x)) (sim n (n + 1) (Do (LoadO t n) c) (omega (arith, st, tn)) (omega arith)) f
       by_type BoolY et k place r nf sim f = placed_value (λ of len q. (no_array BoolY of len tt (sym et ∙ q))) nf r (R (place n (n + 1) m (Do (LoadO t n) c)) (mk w x)) (sim n (n + 1) (Do (LoadO t n) c) (omega (arith, st, tn)) (omega arith)) f
       by_type (EnumY i) et k place r nf sim f = placed_value (λ of len q. (no_array (EnumY i) of len tt (sym et ∙ q))) nf r (R (place n (n + 1) m (Do (LoadO t n) c)) (mk w x)) (sim n (n + 1) (Do (LoadO t n) c) (omega (arith, st, tn)) (omega arith)) f

@@ -13,7 +13,7 @@ use Rattle.mid_code.specs.Functions.{DoN}
 use Rattle.lower_trees.specs.Shape.{Shape, words, params_of, result_of}
 use Rattle.lower_trees.specs.Flags.{is_flag, tests_flag}
 use Rattle.lower_trees.specs.Counts.{sizes, sizes_all}
-use Rattle.lower_trees.specs.Expressions.{second, beyond, behind_place, spots, later_types, is_void}
+use Rattle.lower_trees.specs.Expressions.{second, beyond, size_at, behind_place, spots, later_types, is_void}
 use Rattle.lower_trees.specs.ListedParts.{Listing, moved_by, structure_read, as_flag, converted, stored, stepped, operated, one_more, one_less, tested_as, negated_as}
 use Rattle.lower_trees.specs.ListedExpressions.{Lists, read_place, value_of, value, test, second_test, lazy_of, lazy_choice, binary_by, gives_old, counts_up, step_made, stepped_to, step_by, member_of, led, called_with, called, converted_to, low, low_kind, low_args, low_value, low_test}
 use Rattle.mid_lower.proofs.Weights.{weigh, both, three, four, moved_weighs, read_weighs, flag_weighs, converted_weighs, stored_weighs, stepped_weighs, operated_weighs, more_weighs, less_weighs, tested_weighs, negated_weighs}
@@ -30,33 +30,33 @@ scalar_place : (t n : ℕ) (part : Listing) (N : ℕ) → weigh part + 104 + 16 
 scalar_place t n part N h = let e = both part (DoN (o.Load t n) ∷ []) in omega (arith, h, e)
 
 place_read : (h : Shape) (ty : Ty) (k : ℕ) (part : Lists) (N : ℕ) → ((t n m : ℕ) → weigh (part t n m) + 104 + 16 ≤ N) → (t n m : ℕ) → weigh (read_place h ty k part t n m) + 16 ≤ N
-place_read h VoidY k part N w t n m = scalar_place t n (part n (n + 1) m) N (w n (n + 1) m)
+place_read h VoidY k part N w t n m = let e = w t n m in omega (arith, e)
 place_read h IntY k part N w t n m = scalar_place t n (part n (n + 1) m) N (w n (n + 1) m)
 place_read h BoolY k part N w t n m = scalar_place t n (part n (n + 1) m) N (w n (n + 1) m)
 place_read h (EnumY e) k part N w t n m = scalar_place t n (part n (n + 1) m) N (w n (n + 1) m)
 place_read h (PointerY to) k part N w t n m = scalar_place t n (part n (n + 1) m) N (w n (n + 1) m)
-place_read h (StructY s) k part N w t n m = structure_place (words h (StructY s)) k t (part t (n + 1) m) N (w t (n + 1) m)
-place_read h (UnionY s) k part N w t n m = structure_place (words h (UnionY s)) k t (part t (n + 1) m) N (w t (n + 1) m)
-place_read h (ArrayY of len) k part N w t n m = let e = w t (n + 1) m in omega (arith, e)
+place_read h (StructY s) k part N w t n m = structure_place (words h (StructY s)) k t (part t n m) N (w t n m)
+place_read h (UnionY s) k part N w t n m = structure_place (words h (UnionY s)) k t (part t n m) N (w t n m)
+place_read h (ArrayY of len) k part N w t n m = let e = w t n m in omega (arith, e)
 
 value_read : (h : Shape) (place : Bool) (ty : Ty) (k : ℕ) (part : Lists) (N : ℕ) → ((t n m : ℕ) → weigh (part t n m) + extra place + 16 ≤ N) → (t n m : ℕ) → weigh (value_of h place ty k part t n m) + 16 ≤ N
 value_read h true ty k part N w t n m = place_read h ty k part N w t n m
 value_read h false ty k part N w t n m = let e = w t n m in omega (arith, e)
 
-made_weighs : (h : Shape) (up : Bool) (ty : Ty) (new old : ℕ) → weigh (step_made h up ty new old) ≤ 24
-made_weighs h true ty new old = more_weighs h (pointed (decayed ty)) new old
-made_weighs h false ty new old = less_weighs h (pointed (decayed ty)) new old
+made_weighs : (h : Shape) (up : Bool) (ty : Ty) (new old by : ℕ) → weigh (step_made h up ty new old by) ≤ 24
+made_weighs h true ty new old by = more_weighs h (pointed (decayed ty)) new old by
+made_weighs h false ty new old by = less_weighs h (pointed (decayed ty)) new old by
 
 to_weighs : (h : Shape) (up : Bool) (ty : Ty) (new old p : ℕ) → weigh (stepped_to h up ty new old p) ≤ 48
 to_weighs h up ty new old p =
-    let e = four (DoN (o.Load old p) ∷ []) (step_made h up ty new old) (converted ty false new) (DoN (o.Store p new) ∷ []) in
-    let f = made_weighs h up ty new old in
+    let e = four (DoN (o.Load old p) ∷ []) (step_made h up ty new old (p + 1)) (converted ty false new) (DoN (o.Store p new) ∷ []) in
+    let f = made_weighs h up ty new old (p + 1) in
     let g = converted_weighs ty false new in
     omega (arith, e, f, g)
 
 steps_weigh : (h : Shape) (old up : Bool) (ty : Ty) (t n : ℕ) → weigh (step_by h old up ty t n) ≤ 48
 steps_weigh h true up ty t n = to_weighs h up ty (n + 1) t n
-steps_weigh h false up ty t n = to_weighs h up ty t (n + 1) n
+steps_weigh h false up ty t n = to_weighs h up ty t t n
 
 member_weighs : (place : Bool) (ty : Ty) (t : ℕ) → weigh (member_of place ty t) + extra place ≤ 104
 member_weighs true ty t = omega arith
@@ -90,10 +90,10 @@ call_weighs (ArrayY of len) f k t args = omega arith
 binary_weighs : (h : Shape) (lazy : Option Bool) (op : BinOp) (x y : TExprT) → ((t n m : ℕ) → weigh (low_value h x t n m) + 16 ≤ 128 * typed_nodes x) → ((t n m : ℕ) → weigh (low_value h y t n m) + 16 ≤ 128 * typed_nodes y) → (t n m : ℕ)
     → weigh (binary_by lazy h op x y (low h x) (low h y) t n m) + 16 ≤ 128 * (typed_nodes x + typed_nodes y + 1)
 binary_weighs h None op x y fx fy t n m =
-    let e = three (low_value h x n (n + 1) m) (low_value h y (second x n) (second x n + 1) (beyond h x m)) (operated h op (type_of x) (type_of y) t n (second x n)) in
+    let e = three (low_value h x n (n + 1) m) (low_value h y (second x n) (second x n + 1) (beyond h x m)) (operated h op (type_of x) (type_of y) t n (second x n) (size_at x y n)) in
     let f = fx n (n + 1) m in
     let g = fy (second x n) (second x n + 1) (beyond h x m) in
-    let p = operated_weighs h op (type_of x) (type_of y) t n (second x n) in
+    let p = operated_weighs h op (type_of x) (type_of y) t n (second x n) (size_at x y n) in
     omega (arith, e, f, g, p)
 binary_weighs h (Some and) op x y fx fy t n m =
     let last = second_test h x y (low h y) t n m in
@@ -147,14 +147,14 @@ mutual
       let u = behind_place x n in
       let a = low h x n (n + 1) m in
       let b = low_value h y u (u + 2) (m + length (sizes h x)) in
-      let c = (DoN (o.Load (u + 1) n) ∷ []) in
-      let d = operated h op (type_of x) (type_of y) t (u + 1) u in
+      let c = (DoN (o.Load t n) ∷ []) in
+      let d = operated h op (type_of x) (type_of y) t t u (u + 1) in
       let e = four a b c d in
       let r = three (a ++ b ++ c ++ d) (converted (type_of x) false t) (DoN (o.Store n t) ∷ []) in
       let f = place_weighs h x n (n + 1) m in
       let g = value_weighs h y u (u + 2) (m + length (sizes h x)) in
       let p = converted_weighs (type_of x) false t in
-      let q = operated_weighs h op (type_of x) (type_of y) t (u + 1) u in
+      let q = operated_weighs h op (type_of x) (type_of y) t t u (u + 1) in
       omega (arith, e, r, f, g, p, q)
   kind_weighs h (StepK op x) ty t n m =
       let e = both (low h x n (n + 2) m) (step_by h (gives_old op) (counts_up op) (type_of x) t n) in
@@ -162,10 +162,10 @@ mutual
       let g = steps_weigh h (gives_old op) (counts_up op) (type_of x) t n in
       omega (arith, e, f, g)
   kind_weighs h (IndexK x y) ty t n m =
-      let e = three (low_value h x n (n + 1) m) (low_value h y (second x n) (second x n + 1) (beyond h x m)) (stepped (words h ty) t n (second x n)) in
+      let e = three (low_value h x n (n + 1) m) (low_value h y (second x n) (second x n + 1) (beyond h x m)) (stepped (words h ty) t n (second x n) (size_at x y n)) in
       let f = value_weighs h x n (n + 1) m in
       let g = value_weighs h y (second x n) (second x n + 1) (beyond h x m) in
-      let p = stepped_weighs (words h ty) t n (second x n) in
+      let p = stepped_weighs (words h ty) t n (second x n) (size_at x y n) in
       omega (arith, e, f, g, p)
   kind_weighs h (MemberK (Typed kind of span) offset) ty t n m =
       let e = three (low h (Typed kind of span) n (n + 1) m) (moved_by t n offset) (member_of (is_place_kind kind) ty t) in

@@ -130,54 +130,54 @@ word_weighs bin.BitOr t a b = omega arith
 word_weighs bin.AndAlso t a b = omega arith
 word_weighs bin.OrElse t a b = omega arith
 
-pub stepped_weighs : (size t a b : ℕ) → weigh (stepped size t a b) ≤ 24
-stepped_weighs size t a b = by (size == 1)
+pub stepped_weighs : (size t a b u : ℕ) → weigh (stepped size t a b u) ≤ 24
+stepped_weighs size t a b u = by (size == 1)
   where
-    by : (one : Bool) → weigh (if one then DoN (o.Step t a b) ∷ [] else DoN (o.Const t size) ∷ DoN (o.Two IMUL b b t) ∷ DoN (o.Step t a b) ∷ []) ≤ 24
+    by : (one : Bool) → weigh (if one then DoN (o.Step t a b) ∷ [] else DoN (o.Const u size) ∷ DoN (o.Two IMUL b b u) ∷ DoN (o.Step t a b) ∷ []) ≤ 24
     by true = omega arith
     by false = omega arith
 
-back_weighs : (size t a b : ℕ) → weigh (stepped_back size t a b) ≤ 32
-back_weighs size t a b = let e = both (DoN (o.One ISGN b b) ∷ []) (stepped size t a b) in let f = stepped_weighs size t a b in omega (arith, e, f)
+back_weighs : (size t a b u : ℕ) → weigh (stepped_back size t a b u) ≤ 32
+back_weighs size t a b u = let e = both (DoN (o.One ISGN b b) ∷ []) (stepped size t a b u) in let f = stepped_weighs size t a b u in omega (arith, e, f)
 
-distant_weighs : (size t a b : ℕ) → weigh (distant size t a b) ≤ 32
-distant_weighs size t a b = omega arith
+distant_weighs : (size t a b u : ℕ) → weigh (distant size t a b u) ≤ 32
+distant_weighs size t a b u = omega arith
 
-pointer_weighs : (op : BinOp) (size : ℕ) (pointers : Bool) (t a b : ℕ) → weigh (with_pointer op size pointers t a b) ≤ 32
-pointer_weighs bin.Mul size pointers t a b = omega arith
-pointer_weighs bin.Div size pointers t a b = omega arith
-pointer_weighs bin.Mod size pointers t a b = omega arith
-pointer_weighs bin.Add size pointers t a b = let e = stepped_weighs size t a b in omega (arith, e)
-pointer_weighs bin.Sub size true t a b = distant_weighs size t a b
-pointer_weighs bin.Sub size false t a b = back_weighs size t a b
-pointer_weighs bin.Shl size pointers t a b = omega arith
-pointer_weighs bin.Shr size pointers t a b = omega arith
-pointer_weighs bin.Less size pointers t a b = omega arith
-pointer_weighs bin.LessEq size pointers t a b = omega arith
-pointer_weighs bin.More size pointers t a b = omega arith
-pointer_weighs bin.MoreEq size pointers t a b = omega arith
-pointer_weighs bin.Equal size pointers t a b = omega arith
-pointer_weighs bin.NotEqual size pointers t a b = omega arith
-pointer_weighs bin.BitAnd size pointers t a b = omega arith
-pointer_weighs bin.BitXor size pointers t a b = omega arith
-pointer_weighs bin.BitOr size pointers t a b = omega arith
-pointer_weighs bin.AndAlso size pointers t a b = omega arith
-pointer_weighs bin.OrElse size pointers t a b = omega arith
+pointer_weighs : (op : BinOp) (size : ℕ) (pointers : Bool) (t a b u : ℕ) → weigh (with_pointer op size pointers t a b u) ≤ 32
+pointer_weighs bin.Mul size pointers t a b u = omega arith
+pointer_weighs bin.Div size pointers t a b u = omega arith
+pointer_weighs bin.Mod size pointers t a b u = omega arith
+pointer_weighs bin.Add size pointers t a b u = let e = stepped_weighs size t a b u in omega (arith, e)
+pointer_weighs bin.Sub size true t a b u = distant_weighs size t a b u
+pointer_weighs bin.Sub size false t a b u = back_weighs size t a b u
+pointer_weighs bin.Shl size pointers t a b u = omega arith
+pointer_weighs bin.Shr size pointers t a b u = omega arith
+pointer_weighs bin.Less size pointers t a b u = omega arith
+pointer_weighs bin.LessEq size pointers t a b u = omega arith
+pointer_weighs bin.More size pointers t a b u = omega arith
+pointer_weighs bin.MoreEq size pointers t a b u = omega arith
+pointer_weighs bin.Equal size pointers t a b u = omega arith
+pointer_weighs bin.NotEqual size pointers t a b u = omega arith
+pointer_weighs bin.BitAnd size pointers t a b u = omega arith
+pointer_weighs bin.BitXor size pointers t a b u = omega arith
+pointer_weighs bin.BitOr size pointers t a b u = omega arith
+pointer_weighs bin.AndAlso size pointers t a b u = omega arith
+pointer_weighs bin.OrElse size pointers t a b u = omega arith
 
-pub operated_weighs : (h : Shape) (op : BinOp) (ta tb : Ty) (t a b : ℕ) → weigh (operated h op ta tb t a b) ≤ 32
-operated_weighs h op ta tb t a b = by (pointed (decayed ta)) (is_pointer (decayed tb))
+pub operated_weighs : (h : Shape) (op : BinOp) (ta tb : Ty) (t a b u : ℕ) → weigh (operated h op ta tb t a b u) ≤ 32
+operated_weighs h op ta tb t a b u = by (pointed (decayed ta)) (is_pointer (decayed tb))
   where
-    by : (q : Option Ty) (pointers : Bool) → weigh (operated_on h op q pointers t a b) ≤ 32
+    by : (q : Option Ty) (pointers : Bool) → weigh (operated_on h op q pointers t a b u) ≤ 32
     by None pointers = word_weighs op t a b
-    by (Some to) pointers = pointer_weighs op (words h to) pointers t a b
+    by (Some to) pointers = pointer_weighs op (words h to) pointers t a b u
 
-pub more_weighs : (h : Shape) (q : Option Ty) (t a : ℕ) → weigh (one_more h q t a) ≤ 24
-more_weighs h None t a = omega arith
-more_weighs h (Some to) t a = omega arith
+pub more_weighs : (h : Shape) (q : Option Ty) (t a u : ℕ) → weigh (one_more h q t a u) ≤ 24
+more_weighs h None t a u = omega arith
+more_weighs h (Some to) t a u = omega arith
 
-pub less_weighs : (h : Shape) (q : Option Ty) (t a : ℕ) → weigh (one_less h q t a) ≤ 24
-less_weighs h None t a = omega arith
-less_weighs h (Some to) t a = omega arith
+pub less_weighs : (h : Shape) (q : Option Ty) (t a u : ℕ) → weigh (one_less h q t a u) ≤ 24
+less_weighs h None t a u = omega arith
+less_weighs h (Some to) t a u = omega arith
 
 pub tested_weighs : (ty : Ty) (t : ℕ) → weigh (tested_as ty t) ≤ 16
 tested_weighs VoidY t = omega arith

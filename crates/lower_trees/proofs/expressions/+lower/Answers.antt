@@ -113,7 +113,7 @@ kind-returns-in_ok-first-in-Index-clause-nodes t c =
     let eu : u ≡ n + 1 + value_temps x = c.in_ok-first-in-Index.ensures.next ∙ ap (λ z. z + value_temps x) c.from-in-Index.ensures.next in
     let ev : v ≡ m + length (value_sizes h x) = c.in_ok-first-in-Index.ensures.local ∙ ap (λ z. z + length (value_sizes h x)) c.from-in-Index.ensures.local in
     let a : p ≡ l ++ low_value h x n (n + 1) m = c.in_ok-first-in-Index.ensures.nodes ∙ (λ i. l ++ low_value h x n (c.from-in-Index.ensures.next i) (c.from-in-Index.ensures.local i)) in
-    on_ok c.element.result (index_nodes h k x y (ctype c.args.ty.now) c.words.result c.args.t n m u v l p q e c.words.ensures eu ev a) c.element.ensures.nodes
+    on_ok c.element.result (index_nodes h k x y (ctype c.args.ty.now) c.args.t n m u v l p q e eu ev a) c.element.ensures.nodes
 
 pub kind-returns-in_ok-first-in-None-clause-sizes : goal.kind-returns-in_ok-first-in-None-clause-sizes
 kind-returns-in_ok-first-in-None-clause-sizes t c =

@@ -1,11 +1,11 @@
 -- What code in memory has is the folded code.
-use Rattle.std.proofs.Common.{◌≡◌, ℕ, ◌^◌, Bool, true, false, cond, nat_lt, List, [], map, Option, Some, None, refl, ap, ◌∙◌}
+use Rattle.std.proofs.Common.{◌≡◌, ℕ, ◌^◌, Bool, true, false, not, cond, eqb, filter, nat_lt, List, [], ◌∷◌, map, Option, Some, None, refl, ap, ◌∙◌}
 use Rattle.mid_code.specs.declared.node.Op.{Op}
 use Rattle.mid_code.specs.declared.node.Op.TheVariants as op
 use Rattle.mid_code.specs.declared.node.Node.{Node}
 use Rattle.mid_code.specs.Code.{OpT, ConstO, MoveO, OneO, TwoO, NodesT, Do, Choose, Block, Loop, Leave, Again, Return, FunctionT}
 use Rattle.mid_code.specs.Functions.{NodeT, DoN, ChooseN, BlockN, LoopN, LeaveN, AgainN, ReturnN, ListT, NoN, MoreN, op_before, listed, node, before, joined, nodes}
-use Rattle.mid_fold.specs.inner.Folding.{Words, word_in, one_known, two_known, word_or, known_behind, folded, folded_function}
+use Rattle.mid_fold.specs.inner.Folding.{Words, word_in, behind, one_known, two_known, word_or, known_behind, folded, folded_function}
 use Rattle.mid_fold.specs.inner.Listed.{or_word, op_folded, op_known, node_known, node_folded, list_folded}
 
 -- an operation that stays or becomes a constant for its target, in memory and as plain data
@@ -59,6 +59,14 @@ mutual
 pub folded_joined : (ns ms : List (Node ℕ)) → map node ms ≡ list_folded [] (listed (map node ns)) → nodes ms ≡ folded [] (nodes ns)
 folded_joined ns ms e = ap (λ xs. joined (listed xs)) e ∙ list_is [] (listed (map node ns))
 
-pub function_is : (f : FunctionT ℕ) (params locals : List ℕ) (body : NodesT ℕ) → params ≡ f.params → locals ≡ f.locals → body ≡ folded [] f.body
-    → record { temps = f.temps; params = params; locals = locals; gives = f.gives; body = body } ≡ folded_function f
-function_is f params locals body p l b = λ i. record { temps = f.temps; params = p i; locals = l i; gives = f.gives; body = b i }
+pub function_is : (f : FunctionT ℕ) (body : NodesT ℕ) → body ≡ folded [] f.body → record f { body = body } ≡ folded_function f
+function_is f body b = λ i. record f { body = b i }
+
+-- what is not known any more
+pub left_behind : (es : Words) (t : ℕ) → filter (λ e. not (eqb e.0 t)) es ≡ behind es t
+left_behind [] t = refl
+left_behind (e ∷ es) t = go (eqb e.0 t) (left_behind es t)
+  where
+    go : (b : Bool) → filter (λ d. not (eqb d.0 t)) es ≡ behind es t → cond (not b) (e ∷ filter (λ d. not (eqb d.0 t)) es) (filter (λ d. not (eqb d.0 t)) es) ≡ cond b (behind es t) (e ∷ behind es t)
+    go true r = r
+    go false r = ap (λ ds. e ∷ ds) r

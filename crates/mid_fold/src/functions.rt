@@ -1,45 +1,36 @@
 // Functions and programs whose known words are worked out.
-ghost use Rattle.std.specs.Prelude.{◌≡◌, IfOk, map};
+ghost use Rattle.std.specs.Prelude.{◌≡◌, OnOk, IfOk, map};
 ghost use Rattle.mid_code.specs.Functions.{function};
 ghost use Rattle.mid_code.specs.Whole.{mid};
 ghost use Rattle.mid_fold.specs.FoldedFrom.{IsFoldedFrom};
 ghost use Rattle.mid_fold.specs.inner.Folding.{folded_function};
 
-use crate::nodes::fold_nodes;
+use crate::known::Words;
+use crate::nodes::fold_inside;
 use kit_base::{Memory, Seq};
 use mid_code::laws::mid_code_is_sound;
 use mid_code::{Code, Function, Mid};
 use std::alloc::Global;
 
-fn copied(alloc: Global, words: &[u32]) -> Result<Vec<u32>, Memory>
-    ensures { IfOk result (λ r. r.items ≡ words.now) }
+fn fold_function(alloc: Global, words: &mut Words, f: &mut Function<u32>) -> Result<(), Memory>
+    ensures { OnOk result (function f.new ≡ folded_function (function f.old)) }
 {
-    Ok(words.to_vec(alloc)?)
+    words.clear();
+    fold_inside(alloc, words, &mut f.body)?;
+    Ok(())
 }
 
-fn fold_function(alloc: Global, f: &Function<u32>) -> Result<Function<u32>, Memory>
-    ensures { IfOk result (λ r. function r ≡ folded_function (function f.now)) }
+fn fold_functions(
+    alloc: Global,
+    words: &mut Words,
+    fs: &mut Vec<Function<u32>>,
+) -> Result<(), Memory>
+    ensures { OnOk result (map function fs.new.items ≡ map folded_function (map function fs.old.items)) }
 {
-    let body = fold_nodes(alloc, &[], f.body.as_slice())?;
-    let params = copied(alloc, f.params.as_slice())?;
-    let locals = copied(alloc, f.locals.as_slice())?;
-    Ok(Function {
-        temps: f.temps,
-        params: Seq::from_vec(params),
-        locals: Seq::from_vec(locals),
-        result: f.result,
-        body: Seq::from_vec(body),
-    })
-}
-
-fn fold_functions(alloc: Global, fs: &[Function<u32>]) -> Result<Vec<Function<u32>>, Memory>
-    ensures { IfOk result (λ r. map function r.items ≡ map folded_function (map function fs.now)) }
-{
-    let mut found = Vec::new(alloc);
-    for f in fs {
-        found.push(fold_function(alloc, f)?)?;
+    for f in fs.iter_mut() {
+        fold_function(alloc, words, f)?;
     }
-    Ok(found)
+    Ok(())
 }
 
 /// The code in which an operator on words that are known, in the operations right before it, is the word that it makes of them, and in which a move of
@@ -50,8 +41,11 @@ pub fn fold_words(alloc: Global, m: Mid) -> Result<Mid, Memory>
 {
     mid_code_is_sound(&m);
     let of = m.into_code();
-    let start = fold_function(alloc, &of.start)?;
-    let functions = fold_functions(alloc, of.functions.as_slice())?;
+    let mut words = Vec::new(alloc);
+    let mut start = of.start;
+    fold_function(alloc, &mut words, &mut start)?;
+    let mut functions = of.functions.into_vec();
+    fold_functions(alloc, &mut words, &mut functions)?;
     Ok(Mid::new(Code {
         start,
         functions: Seq::from_vec(functions),

@@ -1,12 +1,11 @@
 // The words that are known at a point.
-ghost use Rattle.std.specs.Prelude.{◌≡◌, ◌∷◌, [], IfOk, map};
+ghost use Rattle.std.specs.Prelude.{◌≡◌, ◌∷◌, [], IfOk, OnOk, map};
 ghost use Rattle.mid_code.specs.Functions.{node};
 ghost use Rattle.mid_fold.specs.inner.Folding.{behind, few, word_in};
 ghost use Rattle.mid_fold.specs.inner.Listed.{node_known, op_known};
 
 use kit_base::Memory;
 use mid_code::{Node, Op};
-use std::alloc::Global;
 
 /// Temporaries whose word is known, the latest first.
 pub(crate) type Words = Vec<(u32, u32)>;
@@ -23,83 +22,71 @@ pub(crate) fn word_in(words: &[(u32, u32)], q: u32) -> Option<u32>
     None
 }
 
-/// What is still known where t takes another cell.
-fn behind(alloc: Global, words: &[(u32, u32)], t: u32) -> Result<Words, Memory>
-    ensures { IfOk result (λ v. v.items ≡ behind words.now t) }
+/// Takes out what is not known any more where t takes another cell.
+fn forget(words: &mut Words, t: u32)
+    ensures { words.new.items ≡ behind words.old.items t }
 {
-    let mut found = Vec::new(alloc);
-    for known in words {
-        if known.0 != t {
-            found.push(*known)?;
-        }
-    }
-    Ok(found)
+    words.retain(|known| known.0 != t);
 }
 
-/// At most fifteen of them.
-fn few(words: &[(u32, u32)]) -> &[(u32, u32)]
-    ensures { result.now ≡ few words.now }
+/// At most fifteen of them are kept.
+fn keep_few(words: &mut Words)
+    ensures { words.new.items ≡ few words.old.items }
 {
-    let count = std::cmp::min(words.len(), 15);
-    &words[..count]
+    words.truncate(15);
 }
 
-/// What is known where t takes a word.
-fn know_word(alloc: Global, words: &[(u32, u32)], t: u32, word: u32) -> Result<Words, Memory>
-    ensures { IfOk result (λ v. v.items ≡ (t, word) ∷ few (behind words.now t)) }
+/// Adds what is known where t takes a word.
+fn know_word(words: &mut Words, t: u32, word: u32) -> Result<(), Memory>
+    ensures { OnOk result (words.new.items ≡ (t, word) ∷ few (behind words.old.items t)) }
 {
-    let left = behind(alloc, words, t)?;
-    let mut found = Vec::new(alloc);
-    found.push((t, word))?;
-    found.extend_from_slice(few(left.as_slice()))?;
-    Ok(found)
+    forget(words, t);
+    keep_few(words);
+    words.insert(0, (t, word))?;
+    Ok(())
 }
 
-fn copied(alloc: Global, words: &[(u32, u32)]) -> Result<Words, Memory>
-    ensures { IfOk result (λ v. v.items ≡ words.now) }
-{
-    Ok(words.to_vec(alloc)?)
-}
-
-fn know_op(alloc: Global, words: &[(u32, u32)], o: &Op<u32>) -> Result<Words, Memory>
-    ensures { IfOk result (λ v. v.items ≡ op_known words.now o.now) }
+fn know_op(words: &mut Words, o: &Op<u32>) -> Result<(), Memory>
+    ensures { OnOk result (words.new.items ≡ op_known words.old.items o.now) }
 {
     match o {
-        Op::Const(t, word) => know_word(alloc, words, *t, *word),
-        Op::Null(t) => behind(alloc, words, *t),
-        Op::Move(t, _) => behind(alloc, words, *t),
-        Op::One(_, t, _) => behind(alloc, words, *t),
-        Op::Two(_, t, _, _) => behind(alloc, words, *t),
-        Op::Global(t, _) => behind(alloc, words, *t),
-        Op::Local(t, _) => behind(alloc, words, *t),
-        Op::Literal(t, _) => behind(alloc, words, *t),
-        Op::Card(t) => behind(alloc, words, *t),
-        Op::Step(t, _, _) => behind(alloc, words, *t),
-        Op::Apart(t, _, _) => behind(alloc, words, *t),
-        Op::PtrTest(_, t, _, _) => behind(alloc, words, *t),
-        Op::Load(t, _) => behind(alloc, words, *t),
-        Op::Store(_, _) => copied(alloc, words),
-        Op::Fresh(_) => copied(alloc, words),
-        Op::End(_) => copied(alloc, words),
-        Op::Call(_, _, _) => Ok(Vec::new(alloc)),
-        Op::In(t, _) => behind(alloc, words, *t),
-        Op::Out(_, _) => copied(alloc, words),
-        Op::Wait => copied(alloc, words),
-        Op::Halt => copied(alloc, words),
+        Op::Const(t, word) => know_word(words, *t, *word)?,
+        Op::Null(t) => forget(words, *t),
+        Op::Move(t, _) => forget(words, *t),
+        Op::One(_, t, _) => forget(words, *t),
+        Op::Two(_, t, _, _) => forget(words, *t),
+        Op::Global(t, _) => forget(words, *t),
+        Op::Local(t, _) => forget(words, *t),
+        Op::Literal(t, _) => forget(words, *t),
+        Op::Card(t) => forget(words, *t),
+        Op::Step(t, _, _) => forget(words, *t),
+        Op::Apart(t, _, _) => forget(words, *t),
+        Op::PtrTest(_, t, _, _) => forget(words, *t),
+        Op::Load(t, _) => forget(words, *t),
+        Op::Store(_, _) => {}
+        Op::Fresh(_) => {}
+        Op::End(_) => {}
+        Op::Call(_, _, _) => words.clear(),
+        Op::In(t, _) => forget(words, *t),
+        Op::Out(_, _) => {}
+        Op::Wait => {}
+        Op::Halt => {}
     }
+    Ok(())
 }
 
-/// What is known behind a node.
-pub(crate) fn know_node(alloc: Global, words: &[(u32, u32)], n: &Node<u32>) -> Result<Words, Memory>
-    ensures { IfOk result (λ v. v.items ≡ node_known words.now (node n.now)) }
+/// Makes it what is known behind a node.
+pub(crate) fn know_node(words: &mut Words, n: &Node<u32>) -> Result<(), Memory>
+    ensures { OnOk result (words.new.items ≡ node_known words.old.items (node n.now)) }
 {
     match n {
-        Node::Do(o) => know_op(alloc, words, o),
-        Node::Choose(_, _, _) => Ok(Vec::new(alloc)),
-        Node::Block(_) => Ok(Vec::new(alloc)),
-        Node::Loop(_) => Ok(Vec::new(alloc)),
-        Node::Leave(_) => Ok(Vec::new(alloc)),
-        Node::Again(_) => Ok(Vec::new(alloc)),
-        Node::Return(_) => Ok(Vec::new(alloc)),
+        Node::Do(o) => know_op(words, o)?,
+        Node::Choose(_, _, _) => words.clear(),
+        Node::Block(_) => words.clear(),
+        Node::Loop(_) => words.clear(),
+        Node::Leave(_) => words.clear(),
+        Node::Again(_) => words.clear(),
+        Node::Return(_) => words.clear(),
     }
+    Ok(())
 }

@@ -1,54 +1,65 @@
 // Nodes whose words are known.
-ghost use Rattle.std.specs.Prelude.{◌≡◌, IfOk, map};
+ghost use Rattle.std.specs.Prelude.{◌≡◌, [], OnOk, map};
 ghost use Rattle.mid_code.specs.Functions.{listed, node};
-ghost use Rattle.mid_fold.specs.inner.Listed.{list_folded, node_folded};
+ghost use Rattle.mid_fold.specs.inner.Listed.{list_folded, node_folded, node_known};
 
 use crate::folding::fold_op;
 use crate::known::{Words, know_node};
 use kit_base::{Memory, Seq};
 use mid_code::Node;
 use std::alloc::Global;
+use std::mem;
 
+/// Puts in the place of a node the one that stands for it. What was known before it is gone, unless it is an operation.
 #[cycle(fold)]
-fn fold_node(alloc: Global, words: &[(u32, u32)], n: &Node<u32>) -> Result<Node<u32>, Memory>
-    ensures { IfOk result (λ r. node r ≡ node_folded words.now (node n.now)) }
+fn fold_node(alloc: Global, words: &mut Words, n: &mut Node<u32>) -> Result<(), Memory>
+    ensures node { OnOk result (node n.new ≡ node_folded words.old.items (node n.old)) }
+    ensures known { OnOk result (node_known words.new.items (node n.new) ≡ node_known words.old.items (node n.new)) }
 {
     match n {
-        Node::Do(o) => Ok(Node::Do(fold_op(alloc, words, o)?)),
-        Node::Choose(p, a, b) => {
-            let first = fold_nodes(alloc, words, a.as_slice())?;
-            let second = fold_nodes(alloc, words, b.as_slice())?;
-            Ok(Node::Choose(*p, Seq::from_vec(first), Seq::from_vec(second)))
+        Node::Do(o) => {
+            fold_op(words.as_slice(), o);
+            Ok(())
         }
-        Node::Block(b) => {
-            let inside = fold_nodes(alloc, words, b.as_slice())?;
-            Ok(Node::Block(Seq::from_vec(inside)))
+        Node::Choose(_, a, b) => {
+            let mut first = words.as_slice().to_vec(alloc)?;
+            fold_inside(alloc, &mut first, a)?;
+            fold_inside(alloc, words, b)
         }
+        Node::Block(b) => fold_inside(alloc, words, b),
         Node::Loop(b) => {
-            let inside = fold_nodes(alloc, &[], b.as_slice())?;
-            Ok(Node::Loop(Seq::from_vec(inside)))
+            words.clear();
+            fold_inside(alloc, words, b)
         }
-        Node::Leave(k) => Ok(Node::Leave(*k)),
-        Node::Again(k) => Ok(Node::Again(*k)),
-        Node::Return(p) => Ok(Node::Return(*p)),
+        Node::Leave(_) => Ok(()),
+        Node::Again(_) => Ok(()),
+        Node::Return(_) => Ok(()),
     }
 }
 
-/// The nodes that stand for these, where some words are known before them.
+/// Puts in the place of nodes those that stand for them, where some words are known before them.
 #[cycle(fold)]
-pub(crate) fn fold_nodes(
-    alloc: Global,
-    words: &[(u32, u32)],
-    ns: &[Node<u32>],
-) -> Result<Vec<Node<u32>>, Memory>
-    ensures { IfOk result (λ r. map node r.items ≡ list_folded words.now (listed (map node ns.now))) }
+fn fold_nodes(alloc: Global, words: &mut Words, ns: &mut [Node<u32>]) -> Result<(), Memory>
+    ensures { OnOk result (map node ns.new ≡ list_folded words.old.items (listed (map node ns.old))) }
 {
-    let mut found = Vec::new(alloc);
-    let mut known: Words = words.to_vec(alloc)?;
-    for n in ns {
-        let folded = fold_node(alloc, known.as_slice(), n)?;
-        known = know_node(alloc, known.as_slice(), &folded)?;
-        found.push(folded)?;
+    for i in 0..ns.len() {
+        fold_node(alloc, words, &mut ns[i])?;
+        know_node(words, &ns[i])?;
     }
-    Ok(found)
+    Ok(())
+}
+
+/// The same of nodes inside of a node.
+#[cycle(fold)]
+pub(crate) fn fold_inside(
+    alloc: Global,
+    words: &mut Words,
+    b: &mut Seq<Node<u32>>,
+) -> Result<(), Memory>
+    ensures { OnOk result (map node b.new ≡ list_folded words.old.items (listed (map node b.old))) }
+{
+    let mut ns = mem::replace(b, Seq::from_vec(Vec::new(alloc))).into_vec();
+    fold_nodes(alloc, words, &mut ns)?;
+    *b = Seq::from_vec(ns);
+    Ok(())
 }

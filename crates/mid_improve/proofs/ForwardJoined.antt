@@ -61,6 +61,5 @@ mutual
 pub forward_joined : (ns ms : List (Node ℕ)) → map node ms ≡ list_forwarded none_known (listed (map node ns)) → nodes ms ≡ forwarded none_known (nodes ns)
 forward_joined ns ms e = ap (λ xs. joined (listed xs)) e ∙ list_is none_known (listed (map node ns))
 
-pub function_is : (f : FunctionT ℕ) (params locals : List ℕ) (body : NodesT ℕ) → params ≡ f.params → locals ≡ f.locals → body ≡ forwarded none_known f.body
-    → record { temps = f.temps; params = params; locals = locals; gives = f.gives; body = body } ≡ forwarded_function f
-function_is f params locals body p l b = λ i. record { temps = f.temps; params = p i; locals = l i; gives = f.gives; body = b i }
+pub function_is : (f : FunctionT ℕ) (body : NodesT ℕ) → body ≡ forwarded none_known f.body → record f { body = body } ≡ forwarded_function f
+function_is f body b = λ i. record f { body = b i }

@@ -21,6 +21,7 @@ pub mod SweepProgram
 pub mod SweepMid
 pub mod SweepJoined
 pub mod SinkPass
+pub mod SinkPlaced
 pub mod SinkOps
 pub mod SinkKeeps
 pub mod SinkLike

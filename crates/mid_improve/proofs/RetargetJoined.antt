@@ -1,13 +1,12 @@
 -- Nodes in memory whose targets are moved at once are what is said of them.
-use Rattle.std.proofs.Common.{◌≡◌, ℕ, Bool, eqb, cond, List, [], ◌∷◌, ◌++◌, map, Option, Some, None, refl, ap, sym, ◌∙◌}
-use Rattle.std.proofs.lemmas.List.{map-append, append_assoc}
+use Rattle.std.proofs.Common.{◌≡◌, ℕ, List, map, Option, Some, None, refl, ap, ◌∙◌}
 use Rattle.mid_code.specs.declared.node.Op.{Op}
 use Rattle.mid_code.specs.declared.node.Op.TheVariants as op
 use Rattle.mid_code.specs.declared.node.Node.{Node}
-use Rattle.mid_code.specs.Code.{OpT, ConstO, NullO, MoveO, OneO, TwoO, GlobalO, LocalO, LiteralO, CardO, StepO, ApartO, PtrTestO, LoadO, StoreO, FreshO, EndO, InO, OutO, WaitO, HaltO, target, NodesT, Stop, Do, Call, Choose, Block, Loop, Leave, Again, Return, FunctionT}
+use Rattle.mid_code.specs.Code.{ConstO, NullO, MoveO, OneO, TwoO, GlobalO, LocalO, LiteralO, CardO, StepO, ApartO, PtrTestO, LoadO, StoreO, FreshO, EndO, InO, OutO, WaitO, HaltO, NodesT, Do, Call, Choose, Block, Loop, Leave, Again, Return, FunctionT}
 use Rattle.mid_code.specs.Functions.{op_before, NodeT, DoN, ChooseN, BlockN, LoopN, LeaveN, AgainN, ReturnN, ListT, NoN, MoreN, listed, node, before, joined, nodes}
 use Rattle.mid_improve.specs.inner.Retarget.{landing, lands, Turn, turn_of, or_else, retargeted, retargeted_function}
-use Rattle.mid_improve.specs.inner.RetargetListed.{op_target, op_to, op_landing, list_landing, list_lands, turned_move, unless_turned, node_turn, node_retargeted, list_retargeted}
+use Rattle.mid_improve.specs.inner.RetargetListed.{op_target, op_to, op_landing, list_landing, list_lands, turned_move, unless_turned, node_target, node_turn, node_retargeted, list_retargeted}
 
 -- ---- where targets land
 
@@ -103,7 +102,8 @@ op_is (Some p) (op.Call None f args) c d e = ap (Call None f args) e
 op_is (Some p) (op.Call (Some t) f args) c d e = ap (Call (Some (landing t c)) f args) e
 
 mutual
-  node_is : (h : Turn) (x : NodeT ℕ) (rest : ListT ℕ) (zs : List (NodeT ℕ)) → joined (listed zs) ≡ retargeted (node_turn h x rest) (joined rest) → before (node_retargeted h x rest) (joined (listed zs)) ≡ retargeted h (before x (joined rest))
+  node_is : (h : Turn) (x : NodeT ℕ) (rest : ListT ℕ) (zs : List (NodeT ℕ)) → joined (listed zs) ≡ retargeted (node_turn h x (list_lands (node_target x) rest)) (joined rest)
+      → before (node_retargeted h x (list_lands (node_target x) rest)) (joined (listed zs)) ≡ retargeted h (before x (joined rest))
   node_is h (DoN o) rest zs e =
       (λ i. put_there h o (lands_is (op_target o) rest i) (joined (listed zs)))
       ∙ op_is h o (joined rest) (joined (listed zs)) (e ∙ (λ i. retargeted (turn_there h o (lands_is (op_target o) rest i)) (joined rest)))
@@ -116,21 +116,13 @@ mutual
 
   list_is : (xs : ListT ℕ) (h : Turn) → joined (listed (list_retargeted h xs)) ≡ retargeted h (joined xs)
   list_is NoN h = refl
-  list_is (MoreN x rest) h = node_is h x rest (list_retargeted (node_turn h x rest) rest) (list_is rest (node_turn h x rest))
+  list_is (MoreN x rest) h =
+      let k = node_turn h x (list_lands (node_target x) rest) in
+      node_is h x rest (list_retargeted k rest) (list_is rest k)
 
 -- the nodes of a body
 pub retargeted_joined : (ns ms : List (Node ℕ)) → map node ms ≡ list_retargeted None (listed (map node ns)) → nodes ms ≡ retargeted None (nodes ns)
 retargeted_joined ns ms e = ap (λ xs. joined (listed xs)) e ∙ list_is (listed (map node ns)) None
 
-pub function_is : (f : FunctionT ℕ) (params locals : List ℕ) (body : NodesT ℕ) → params ≡ f.params → locals ≡ f.locals → body ≡ retargeted None f.body
-    → record { temps = f.temps; params = params; locals = locals; gives = f.gives; body = body } ≡ retargeted_function f
-function_is f params locals body p l b = λ i. record { temps = f.temps; params = p i; locals = l i; gives = f.gives; body = b i }
-
--- one node more
-pub one_more : (found : List (Node ℕ)) (r : Node ℕ) (h k : Turn) (x : NodeT ℕ) (xs rest : ListT ℕ) → xs ≡ MoreN x rest → node r ≡ node_retargeted h x rest → k ≡ node_turn h x rest
-    → map node (found ++ r ∷ []) ++ list_retargeted k rest ≡ map node found ++ list_retargeted h xs
-one_more found r h k x xs rest e n t =
-    ap (λ ys. ys ++ list_retargeted k rest) (map-append node found (r ∷ []))
-    ∙ append_assoc (map node found) (node r ∷ []) (list_retargeted k rest)
-    ∙ (λ i. map node found ++ n i ∷ list_retargeted (t i) rest)
-    ∙ ap (λ ys. map node found ++ list_retargeted h ys) (sym e)
+pub function_is : (f : FunctionT ℕ) (body : NodesT ℕ) → body ≡ retargeted None f.body → record f { body = body } ≡ retargeted_function f
+function_is f body b = λ i. record f { body = b i }

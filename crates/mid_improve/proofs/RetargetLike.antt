@@ -1,11 +1,11 @@
 -- Nodes whose targets are moved at once are like the nodes.
-use Rattle.std.proofs.Common.{◌≡◌, ℕ, zero, suc, ◌<◌, Bool, true, false, ◌&&◌, cond, eqb, List, [], ◌∷◌, length, Option, Some, None, refl, sym, ap, subst, arith}
+use Rattle.std.proofs.Common.{◌≡◌, ℕ, zero, suc, ◌<◌, Bool, true, false, cond, eqb, List, [], ◌∷◌, length, Option, Some, None, refl, sym, subst, arith}
 use Rattle.std.proofs.lemmas.Bool.{eqb-true, eq-eqb}
 use Rattle.mid_code.specs.Code.{OpT, ConstO, NullO, MoveO, OneO, TwoO, GlobalO, LocalO, LiteralO, CardO, StepO, ApartO, PtrTestO, LoadO, StoreO, FreshO, EndO, InO, OutO, WaitO, HaltO, target, NodesT, Stop, Do, Call, Choose, Block, Loop, Leave, Again, Return, CodeT}
 use Rattle.mid_code.specs.Invariants.{IsLoop, AreNodes}
 use Rattle.mid_code.specs.States.{temporaries, over_worlds}
 use Rattle.mid_code.specs.inner.Passing.{Pass, Points, end_at, begin_at, Like}
-use Rattle.mid_improve.specs.inner.Retarget.{landing, lands as landed, Turn, turn_of, turned_move, op_retargeted, op_turn, retargeted}
+use Rattle.mid_improve.specs.inner.Retarget.{landing, lands as landed, Turn, turn_of, op_retargeted, op_turn, retargeted}
 use Rattle.mid_improve.proofs.RetargetPass.{LandsAt, here, there, Lands, Turns, lands, turns, retargeting}
 
 -- ---- points

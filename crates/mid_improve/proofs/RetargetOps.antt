@@ -9,9 +9,9 @@ use Rattle.obj_mem.specs.Stores.{Sizes, with_objects, with_answers, local_object
 use Rattle.obj_mem.specs.Worlds.{World, on_store, spend, happened, answered}
 use Rattle.obj_mem.specs.Queries.{Answer, word_of, read, write, first_cell}
 use Rattle.obj_mem.specs.Runs.{Halted}
-use Rattle.mid_code.specs.Code.{OpT, ConstO, NullO, MoveO, OneO, TwoO, GlobalO, LocalO, LiteralO, CardO, StepO, ApartO, PtrTestO, LoadO, StoreO, FreshO, EndO, InO, OutO, WaitO, HaltO, CodeT, uses, target, maybe}
+use Rattle.mid_code.specs.Code.{OpT, ConstO, NullO, MoveO, OneO, TwoO, GlobalO, LocalO, LiteralO, CardO, StepO, ApartO, PtrTestO, LoadO, StoreO, FreshO, EndO, InO, OutO, WaitO, HaltO, CodeT, target}
 use Rattle.mid_code.specs.Meaning.{Did, On, Ends, Lang}
-use Rattle.mid_code.specs.States.{State, temporaries, put, put_in, one_word, two_words, stepped, distance, pointers_tested, to, in_world, to_objects, input, output, spent, over_worlds, sizes_of}
+use Rattle.mid_code.specs.States.{State, temporaries, put_in, one_word, two_words, stepped, distance, pointers_tested, to, in_world, to_objects, input, output, spent, over_worlds, sizes_of}
 use Rattle.mid_code.specs.inner.Passing.{acts, Prefix, Pass, DidAlike}
 use Rattle.mid_code.proofs.More.{all_of}
 use Rattle.mid_improve.specs.inner.Retarget.{Turn, op_to}

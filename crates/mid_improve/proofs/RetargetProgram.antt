@@ -1,5 +1,5 @@
 -- The pass over a whole program: code whose targets are moved at once keeps the runs, and does no more work.
-use Rattle.std.proofs.Common.{◌≡◌, ℕ, zero, suc, ◌+◌, List, [], ◌∷◌, map, length, sum, get_or, Option, Some, None, refl, sym, ap, subst, arith}
+use Rattle.std.proofs.Common.{◌≡◌, ℕ, zero, suc, ◌+◌, List, [], ◌∷◌, map, length, sum, get_or, Some, None, refl, sym, ap, subst, arith}
 use Rattle.mid_code.specs.Code.{FunctionT, CodeT}
 use Rattle.mid_code.specs.Invariants.{AreNodes, IsMid}
 use Rattle.mid_code.specs.States.{temporaries, over_worlds, sizes_of, function_at, no_function}

@@ -115,6 +115,5 @@ mutual
 pub sunk_joined : (ns ms : List (Node ℕ)) → map node ms ≡ list_sunk None (listed (map node ns)) → nodes ms ≡ sunk None (nodes ns)
 sunk_joined ns ms e = ap (λ xs. joined (listed xs)) e ∙ list_is (listed (map node ns)) None
 
-pub function_is : (f : FunctionT ℕ) (params locals : List ℕ) (body : NodesT ℕ) → params ≡ f.params → locals ≡ f.locals → body ≡ sunk None f.body
-    → record { temps = f.temps; params = params; locals = locals; gives = f.gives; body = body } ≡ sunk_function f
-function_is f params locals body p l b = λ i. record { temps = f.temps; params = p i; locals = l i; gives = f.gives; body = b i }
+pub function_is : (f : FunctionT ℕ) (body : NodesT ℕ) → body ≡ sunk None f.body → record f { body = body } ≡ sunk_function f
+function_is f body b = λ i. record f { body = b i }

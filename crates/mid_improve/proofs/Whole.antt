@@ -8,6 +8,7 @@ use Rattle.mid_code.specs.Invariants.{AllOf, IsFunction, IsTemporary, IsMid}
 use Rattle.mid_code.specs.Paths.{Each}
 use Rattle.mid_improve.specs.Settled.{nodes_settled, IsWanted, IsSettledFunction, IsSettled}
 use Rattle.mid_improve.specs.inner.Named.{IsNamed}
+use Rattle.mid_improve.specs.inner.Rounds.{HasSettledRuns}
 
 pub start_named : (x : CodeT ℕ) → IsMid x → IsNamed x.start
 start_named x m = m.start.function.names
@@ -26,6 +27,9 @@ runs_not f r e n = ((λ h. absurd (false≢true h)), (λ s. absurd (false≢true
 
 pub targets_then : (f : FunctionT ℕ) (r b : Bool) → r ≡ nodes_settled [] f.body → r ≡ true → (b ≡ true) ↔ Each IsWanted [] f.body → (b ≡ true) ↔ IsSettledFunction f
 targets_then f r b e t w = ((λ h. record { runs = sym e ∙ t; targets = w.0 h }), (λ s. w.1 s.targets))
+
+pub targets_only : (f : FunctionT ℕ) (b : Bool) → HasSettledRuns f → (b ≡ true) ↔ Each IsWanted [] f.body → (b ≡ true) ↔ IsSettledFunction f
+targets_only f b r w = ((λ h. record { runs = r; targets = w.0 h }), (λ s. w.1 s.targets))
 
 -- ---- a list of functions, from one of them on
 

@@ -15,6 +15,7 @@ use kit_base::{Memory, Seq};
 use mid_code::laws::mid_code_is_sound;
 use mid_code::{Code, Function, Mid, Node, Op};
 use std::alloc::Global;
+use std::mem;
 use v32_isa::{One, Two, one_word, two_word};
 
 // ---- operands
@@ -37,10 +38,20 @@ fn serves_maybe(table: &Table, q: Option<u32>) -> Option<u32>
     }
 }
 
-fn serve_all(alloc: Global, table: &Table, qs: &[u32]) -> Result<Vec<u32>, Memory>
-    ensures { IfOk result (λ v. v.items ≡ map (serves (facts table.now)) qs.now) }
+fn serve_each(table: &Table, qs: &mut Vec<u32>)
+    ensures { qs.new.items ≡ map (serves (facts table.now)) qs.old.items }
 {
-    Ok(qs.iter().map(|q| serves(table, *q)).collect(alloc)?)
+    for i in 0..qs.len() {
+        qs[i] = serves(table, qs[i]);
+    }
+}
+
+fn serve_all(alloc: Global, table: &Table, qs: &mut Seq<u32>)
+    ensures { qs.new ≡ map (serves (facts table.now)) qs.old }
+{
+    let mut served = mem::replace(qs, Seq::from_vec(Vec::new(alloc))).into_vec();
+    serve_each(table, &mut served);
+    *qs = Seq::from_vec(served);
 }
 
 // ---- operations
@@ -66,158 +77,145 @@ fn two_known(o: Two, x: Option<u32>, y: Option<u32>) -> Option<u32>
     }
 }
 
-/// A constant in the place of an operation, where there is a word for it.
-fn or_word(t: u32, o: Op<u32>, word: Option<u32>) -> Op<u32>
-    ensures { result ≡ or_word t o word }
+/// Puts a constant in the place of an operation, where there is a word for it.
+fn put_word(t: u32, o: &mut Op<u32>, word: Option<u32>)
+    ensures { o.new ≡ or_word t o.old word }
 {
-    match word {
-        None => o,
-        Some(word) => Op::Const(t, word),
+    if let Some(word) = word {
+        *o = Op::Const(t, word);
     }
 }
 
-fn forward_call(
-    alloc: Global,
-    table: &Table,
-    target: Option<u32>,
-    function: u32,
-    arguments: &[u32],
-) -> Result<Op<u32>, Memory>
-    ensures { IfOk result (λ r. r ≡ Op.Call target function (map (serves (facts table.now)) arguments.now)) }
+/// Puts in the place of an operation the one that stands for it.
+fn forward_op(alloc: Global, table: &Table, o: &mut Op<u32>)
+    ensures { o.new ≡ op_forwarded (facts table.now) o.old }
 {
-    let arguments = serve_all(alloc, table, arguments)?;
-    Ok(Op::Call(target, function, Seq::from_vec(arguments)))
-}
-
-fn forward_move(table: &Table, t: u32, a: u32) -> Op<u32>
-    ensures { result ≡ op_forwarded (facts table.now) (Op.Move t a) }
-{
-    or_word(t, Op::Move(t, serves(table, a)), table.word(a))
-}
-
-fn forward_one(table: &Table, o: One, t: u32, a: u32) -> Op<u32>
-    ensures { result ≡ op_forwarded (facts table.now) (Op.One o t a) }
-{
-    let word = one_known(o, table.word(a));
-    or_word(t, Op::One(o, t, serves(table, a)), word)
-}
-
-fn forward_two(table: &Table, o: Two, t: u32, a: u32, b: u32) -> Op<u32>
-    ensures { result ≡ op_forwarded (facts table.now) (Op.Two o t a b) }
-{
-    let word = two_known(o, table.word(a), table.word(b));
-    or_word(t, Op::Two(o, t, serves(table, a), serves(table, b)), word)
-}
-
-/// The operation that stands for one.
-fn forward_op(alloc: Global, table: &Table, o: &Op<u32>) -> Result<Op<u32>, Memory>
-    ensures { IfOk result (λ r. r ≡ op_forwarded (facts table.now) o.now) }
-{
-    Ok(match o {
-        Op::Const(t, word) => Op::Const(*t, *word),
-        Op::Null(t) => Op::Null(*t),
-        Op::Move(t, a) => forward_move(table, *t, *a),
-        Op::One(o, t, a) => forward_one(table, *o, *t, *a),
-        Op::Two(o, t, a, b) => forward_two(table, *o, *t, *a, *b),
-        Op::Global(t, number) => Op::Global(*t, *number),
-        Op::Local(t, k) => Op::Local(*t, *k),
-        Op::Literal(t, number) => Op::Literal(*t, *number),
-        Op::Card(t) => Op::Card(*t),
-        Op::Step(t, p, n) => Op::Step(*t, serves(table, *p), serves(table, *n)),
-        Op::Apart(t, p, q) => Op::Apart(*t, serves(table, *p), serves(table, *q)),
-        Op::PtrTest(o, t, p, q) => Op::PtrTest(*o, *t, serves(table, *p), serves(table, *q)),
-        Op::Load(t, p) => Op::Load(*t, serves(table, *p)),
-        Op::Store(p, a) => Op::Store(serves(table, *p), serves(table, *a)),
-        Op::Fresh(k) => Op::Fresh(*k),
-        Op::End(k) => Op::End(*k),
-        Op::Call(t, f, arguments) => forward_call(alloc, table, *t, *f, arguments.as_slice())?,
-        Op::In(t, port) => Op::In(*t, *port),
-        Op::Out(port, a) => Op::Out(*port, serves(table, *a)),
-        Op::Wait => Op::Wait,
-        Op::Halt => Op::Halt,
-    })
+    match o {
+        Op::Const(_, _) => {}
+        Op::Null(_) => {}
+        Op::Move(t, a) => {
+            let t = *t;
+            let word = table.word(*a);
+            *a = serves(table, *a);
+            put_word(t, o, word);
+        }
+        Op::One(by, t, a) => {
+            let t = *t;
+            let word = one_known(*by, table.word(*a));
+            *a = serves(table, *a);
+            put_word(t, o, word);
+        }
+        Op::Two(by, t, a, b) => {
+            let t = *t;
+            let word = two_known(*by, table.word(*a), table.word(*b));
+            *a = serves(table, *a);
+            *b = serves(table, *b);
+            put_word(t, o, word);
+        }
+        Op::Global(_, _) => {}
+        Op::Local(_, _) => {}
+        Op::Literal(_, _) => {}
+        Op::Card(_) => {}
+        Op::Step(_, p, n) => {
+            *p = serves(table, *p);
+            *n = serves(table, *n);
+        }
+        Op::Apart(_, p, q) => {
+            *p = serves(table, *p);
+            *q = serves(table, *q);
+        }
+        Op::PtrTest(_, _, p, q) => {
+            *p = serves(table, *p);
+            *q = serves(table, *q);
+        }
+        Op::Load(_, p) => *p = serves(table, *p),
+        Op::Store(p, a) => {
+            *p = serves(table, *p);
+            *a = serves(table, *a);
+        }
+        Op::Fresh(_) => {}
+        Op::End(_) => {}
+        Op::Call(_, _, arguments) => serve_all(alloc, table, arguments),
+        Op::In(_, _) => {}
+        Op::Out(_, a) => *a = serves(table, *a),
+        Op::Wait => {}
+        Op::Halt => {}
+    }
 }
 
 // ---- nodes
 
+/// Puts in the place of a node the one that stands for it.
 #[cycle(forward)]
-fn forward_node(alloc: Global, table: &mut Table, n: &Node<u32>) -> Result<Node<u32>, Memory>
-    ensures node { IfOk result (λ r. node r ≡ node_forwarded (facts table.old) (node n.now)) }
-    ensures known { IfOk result (λ r. node_known (facts table.new) (node r) ≡ node_known (facts table.old) (node r)) }
+fn forward_node(alloc: Global, table: &mut Table, n: &mut Node<u32>) -> Result<(), Memory>
+    ensures node { OnOk result (node n.new ≡ node_forwarded (facts table.old) (node n.old)) }
+    ensures known { OnOk result (node_known (facts table.new) (node n.new) ≡ node_known (facts table.old) (node n.new)) }
 {
     match n {
-        Node::Do(o) => Ok(Node::Do(forward_op(alloc, table, o)?)),
+        Node::Do(o) => {
+            forward_op(alloc, &*table, o);
+            Ok(())
+        }
         Node::Choose(p, a, b) => {
-            let by = serves(table, *p);
-            let first = forward_nodes(alloc, table, a.as_slice())?;
-            let second = forward_nodes(alloc, table, b.as_slice())?;
-            Ok(Node::Choose(by, Seq::from_vec(first), Seq::from_vec(second)))
+            *p = serves(&*table, *p);
+            forward_inside(alloc, table, a)?;
+            forward_inside(alloc, table, b)
         }
-        Node::Block(b) => {
-            let inside = forward_nodes(alloc, table, b.as_slice())?;
-            Ok(Node::Block(Seq::from_vec(inside)))
+        Node::Block(b) => forward_inside(alloc, table, b),
+        Node::Loop(b) => forward_inside(alloc, table, b),
+        Node::Leave(_) => Ok(()),
+        Node::Again(_) => Ok(()),
+        Node::Return(p) => {
+            *p = serves_maybe(&*table, *p);
+            Ok(())
         }
-        Node::Loop(b) => {
-            let inside = forward_nodes(alloc, table, b.as_slice())?;
-            Ok(Node::Loop(Seq::from_vec(inside)))
-        }
-        Node::Leave(k) => Ok(Node::Leave(*k)),
-        Node::Again(k) => Ok(Node::Again(*k)),
-        Node::Return(p) => Ok(Node::Return(serves_maybe(table, *p))),
     }
 }
 
-/// The nodes that stand for these. What the table had is gone.
+/// Puts in the place of nodes those that stand for them. What the table had is gone.
 #[cycle(forward)]
-fn forward_nodes(
-    alloc: Global,
-    table: &mut Table,
-    ns: &[Node<u32>],
-) -> Result<Vec<Node<u32>>, Memory>
-    ensures { IfOk result (λ r. map node r.items ≡ list_forwarded none_known (listed (map node ns.now))) }
+fn forward_nodes(alloc: Global, table: &mut Table, ns: &mut [Node<u32>]) -> Result<(), Memory>
+    ensures { OnOk result (map node ns.new ≡ list_forwarded none_known (listed (map node ns.old))) }
 {
     table.clear()?;
-    let mut found = Vec::new(alloc);
-    for n in ns {
-        let forward = forward_node(alloc, table, n)?;
-        know_node(table, &forward)?;
-        found.push(forward)?;
+    for i in 0..ns.len() {
+        forward_node(alloc, table, &mut ns[i])?;
+        know_node(table, &ns[i])?;
     }
-    Ok(found)
+    Ok(())
 }
 
-/// The function in which no operator is left whose words are known, and no operand that is a copy. What the table had is gone. The error is want of memory.
-pub(crate) fn forward_function(
-    alloc: Global,
-    table: &mut Table,
-    f: &Function<u32>,
-) -> Result<Function<u32>, Memory>
-    ensures { IfOk result (λ r. function r ≡ forwarded_function (function f.now)) }
+/// The same of the nodes inside of a node, or of a function.
+#[cycle(forward)]
+fn forward_inside(alloc: Global, table: &mut Table, b: &mut Seq<Node<u32>>) -> Result<(), Memory>
+    ensures { OnOk result (map node b.new ≡ list_forwarded none_known (listed (map node b.old))) }
 {
-    let body = forward_nodes(alloc, table, f.body.as_slice())?;
-    let params = f.params.as_slice().to_vec(alloc)?;
-    let locals = f.locals.as_slice().to_vec(alloc)?;
-    Ok(Function {
-        temps: f.temps,
-        params: Seq::from_vec(params),
-        locals: Seq::from_vec(locals),
-        result: f.result,
-        body: Seq::from_vec(body),
-    })
+    let mut ns = mem::replace(b, Seq::from_vec(Vec::new(alloc))).into_vec();
+    forward_nodes(alloc, table, &mut ns)?;
+    *b = Seq::from_vec(ns);
+    Ok(())
+}
+
+/// Makes the function one in which no operator is left whose words are known, and no operand that is a copy. What the table had is gone. The error is want
+/// of memory.
+fn forward_function(alloc: Global, table: &mut Table, f: &mut Function<u32>) -> Result<(), Memory>
+    ensures { OnOk result (function f.new ≡ forwarded_function (function f.old)) }
+{
+    forward_inside(alloc, table, &mut f.body)?;
+    Ok(())
 }
 
 fn forward_functions(
     alloc: Global,
     table: &mut Table,
-    fs: &[Function<u32>],
-) -> Result<Vec<Function<u32>>, Memory>
-    ensures { IfOk result (λ r. map function r.items ≡ map forwarded_function (map function fs.now)) }
+    fs: &mut Vec<Function<u32>>,
+) -> Result<(), Memory>
+    ensures { OnOk result (map function fs.new.items ≡ map forwarded_function (map function fs.old.items)) }
 {
-    let mut found = Vec::new(alloc);
-    for f in fs {
-        found.push(forward_function(alloc, table, f)?)?;
+    for f in fs.iter_mut() {
+        forward_function(alloc, table, f)?;
     }
-    Ok(found)
+    Ok(())
 }
 
 /// The code in which no operator is left whose words are known, and no operand that is a copy; each run is the same. The error is want of memory, and then
@@ -228,8 +226,10 @@ pub(crate) fn forward_words(alloc: Global, m: Mid) -> Result<Mid, Memory>
     mid_code_is_sound(&m);
     let of = m.into_code();
     let mut table = Table::none(alloc);
-    let start = forward_function(alloc, &mut table, &of.start)?;
-    let functions = forward_functions(alloc, &mut table, of.functions.as_slice())?;
+    let mut start = of.start;
+    forward_function(alloc, &mut table, &mut start)?;
+    let mut functions = of.functions.into_vec();
+    forward_functions(alloc, &mut table, &mut functions)?;
     Ok(Mid::new(Code {
         start,
         functions: Seq::from_vec(functions),

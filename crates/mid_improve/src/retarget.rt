@@ -1,17 +1,18 @@
 // Targets that are moved at once.
-ghost use Rattle.std.specs.Prelude.{◌≡◌, ◌++◌, ◌∷◌, [], None, Some, cond, eqb, IfOk, OnOk, map, option_map};
+ghost use Rattle.std.specs.Prelude.{◌≡◌, ℕ, ◌+◌, ◌<◌, None, Some, cond, eqb, map, length, drop, get_or};
+ghost use Rattle.mid_code.specs.declared.node.Node.{Node};
 ghost use Rattle.mid_code.specs.Functions.{function, listed, node};
 ghost use Rattle.mid_code.specs.Whole.{mid};
 ghost use Rattle.mid_improve.specs.ImprovedFrom.{IsNoWorseFrom};
-ghost use Rattle.mid_improve.specs.inner.Retarget.{turn_of, retargeted_function};
+ghost use Rattle.mid_improve.specs.inner.Retarget.{or_else, turn_of, retargeted_function};
 ghost use Rattle.mid_improve.specs.inner.RetargetListed.{op_target, op_into, op_to, op_landing, list_landing, list_lands};
-ghost use Rattle.mid_improve.specs.inner.RetargetListed.{turned_move, unless_turned, node_turn, node_retargeted, list_retargeted};
+ghost use Rattle.mid_improve.specs.inner.RetargetListed.{turned_move, unless_turned, node_target, node_turn, node_retargeted, list_retargeted};
 
-use crate::sweep::{copy_op, copy_words};
-use kit_base::{Memory, Seq};
+use kit_base::Seq;
 use mid_code::laws::mid_code_is_sound;
 use mid_code::{Code, Function, Mid, Node, Op};
 use std::alloc::Global;
+use std::mem;
 
 // ---- where targets go
 
@@ -80,40 +81,40 @@ fn lands(t: Option<u32>, after: &[Node<u32>]) -> Option<u32>
     }
 }
 
-/// The operation with another target, where it has one.
-fn into_target(x: u32, o: Op<u32>) -> Op<u32>
-    ensures { result ≡ op_into x o }
+/// Gives the operation another target, where it has one.
+fn into_target(x: u32, o: &mut Op<u32>)
+    ensures { o.new ≡ op_into x o.old }
 {
     match o {
-        Op::Const(_, word) => Op::Const(x, word),
-        Op::Null(_) => Op::Null(x),
-        Op::Move(_, a) => Op::Move(x, a),
-        Op::One(o, _, a) => Op::One(o, x, a),
-        Op::Two(o, _, a, b) => Op::Two(o, x, a, b),
-        Op::Global(_, number) => Op::Global(x, number),
-        Op::Local(_, k) => Op::Local(x, k),
-        Op::Literal(_, number) => Op::Literal(x, number),
-        Op::Card(_) => Op::Card(x),
-        Op::Step(_, p, n) => Op::Step(x, p, n),
-        Op::Apart(_, p, q) => Op::Apart(x, p, q),
-        Op::PtrTest(o, _, p, q) => Op::PtrTest(o, x, p, q),
-        Op::Load(_, p) => Op::Load(x, p),
-        Op::Store(p, a) => Op::Store(p, a),
-        Op::Fresh(k) => Op::Fresh(k),
-        Op::End(k) => Op::End(k),
-        Op::Call(_, f, arguments) => Op::Call(Some(x), f, arguments),
-        Op::In(_, port) => Op::In(x, port),
-        Op::Out(port, a) => Op::Out(port, a),
-        Op::Wait => Op::Wait,
-        Op::Halt => Op::Halt,
+        Op::Const(t, _) => *t = x,
+        Op::Null(t) => *t = x,
+        Op::Move(t, _) => *t = x,
+        Op::One(_, t, _) => *t = x,
+        Op::Two(_, t, _, _) => *t = x,
+        Op::Global(t, _) => *t = x,
+        Op::Local(t, _) => *t = x,
+        Op::Literal(t, _) => *t = x,
+        Op::Card(t) => *t = x,
+        Op::Step(t, _, _) => *t = x,
+        Op::Apart(t, _, _) => *t = x,
+        Op::PtrTest(_, t, _, _) => *t = x,
+        Op::Load(t, _) => *t = x,
+        Op::Store(_, _) => {}
+        Op::Fresh(_) => {}
+        Op::End(_) => {}
+        Op::Call(t, _, _) => *t = Some(x),
+        Op::In(t, _) => *t = x,
+        Op::Out(_, _) => {}
+        Op::Wait => {}
+        Op::Halt => {}
     }
 }
 
-fn to_target(x: Option<u32>, o: Op<u32>) -> Op<u32>
-    ensures { result ≡ op_to x o }
+fn to_target(x: Option<u32>, o: &mut Op<u32>)
+    ensures { o.new ≡ op_to x o.old }
 {
     match x {
-        None => o,
+        None => {}
         Some(x) => into_target(x, o),
     }
 }
@@ -144,38 +145,39 @@ fn turned_move(turn: Option<(u32, u32)>, o: &Op<u32>) -> Option<Op<u32>>
     }
 }
 
+fn unless_turned(other: Option<Op<u32>>, turn: Option<(u32, u32)>) -> Option<(u32, u32)>
+    ensures { result ≡ unless_turned other turn }
+{
+    match other {
+        None => turn,
+        Some(_) => None,
+    }
+}
+
 // ---- nodes
 
-/// What stands for an operation before these nodes.
-fn retarget_op(
-    alloc: Global,
-    turn: Option<(u32, u32)>,
-    o: &Op<u32>,
-    after: &[Node<u32>],
-) -> Result<Node<u32>, Memory>
-    ensures { IfOk result (λ r. node r ≡ node_retargeted turn (node (Node.Do o.now)) (listed (map node after.now))) }
+/// Puts in the place of an operation what stands for it, where its target goes to a temporary.
+fn retarget_op(turn: Option<(u32, u32)>, to: Option<u32>, o: &mut Op<u32>)
+    ensures { o.new ≡ or_else (turned_move turn o.old) (op_to to o.old) }
 {
-    match turned_move(turn, o) {
-        Some(other) => Ok(Node::Do(other)),
-        None => Ok(Node::Do(to_target(lands(target_of(o), after), copy_op(alloc, o)?))),
+    match turned_move(turn, &*o) {
+        Some(other) => *o = other,
+        None => to_target(to, o),
     }
 }
 
-/// What has its cell elsewhere behind an operation before these nodes.
-fn op_turn(turn: Option<(u32, u32)>, o: &Op<u32>, after: &[Node<u32>]) -> Option<(u32, u32)>
-    ensures { result ≡ node_turn turn (node (Node.Do o.now)) (listed (map node after.now)) }
+/// What has its cell elsewhere behind an operation whose target goes to a temporary.
+fn op_turn(turn: Option<(u32, u32)>, to: Option<u32>, o: &Op<u32>) -> Option<(u32, u32)>
+    ensures { result ≡ unless_turned (turned_move turn o.now) (turn_of (op_target o.now) to) }
 {
-    match turned_move(turn, o) {
-        Some(_) => None,
-        None => turn_of(target_of(o), lands(target_of(o), after)),
-    }
+    unless_turned(turned_move(turn, o), turn_of(target_of(o), to))
 }
 
-fn next_turn(turn: Option<(u32, u32)>, n: &Node<u32>, after: &[Node<u32>]) -> Option<(u32, u32)>
-    ensures { result ≡ node_turn turn (node n.now) (listed (map node after.now)) }
+fn next_turn(turn: Option<(u32, u32)>, to: Option<u32>, n: &Node<u32>) -> Option<(u32, u32)>
+    ensures { result ≡ node_turn turn (node n.now) to }
 {
     match n {
-        Node::Do(o) => op_turn(turn, o, after),
+        Node::Do(o) => op_turn(turn, to, o),
         Node::Choose(_, _, _) => None,
         Node::Block(_) => None,
         Node::Loop(_) => None,
@@ -185,91 +187,101 @@ fn next_turn(turn: Option<(u32, u32)>, n: &Node<u32>, after: &[Node<u32>]) -> Op
     }
 }
 
-#[cycle(retargeting)]
-fn retarget_node(
-    alloc: Global,
-    turn: Option<(u32, u32)>,
-    n: &Node<u32>,
-    after: &[Node<u32>],
-) -> Result<Node<u32>, Memory>
-    ensures { IfOk result (λ r. node r ≡ node_retargeted turn (node n.now) (listed (map node after.now))) }
+fn node_target(n: &Node<u32>) -> Option<u32>
+    ensures { result ≡ node_target (node n.now) }
 {
     match n {
-        Node::Do(o) => retarget_op(alloc, turn, o, after),
-        Node::Choose(p, a, b) => {
-            let first = retarget_nodes(alloc, a.as_slice())?;
-            let second = retarget_nodes(alloc, b.as_slice())?;
-            Ok(Node::Choose(*p, Seq::from_vec(first), Seq::from_vec(second)))
-        }
-        Node::Block(b) => {
-            let inside = retarget_nodes(alloc, b.as_slice())?;
-            Ok(Node::Block(Seq::from_vec(inside)))
-        }
-        Node::Loop(b) => {
-            let inside = retarget_nodes(alloc, b.as_slice())?;
-            Ok(Node::Loop(Seq::from_vec(inside)))
-        }
-        Node::Leave(k) => Ok(Node::Leave(*k)),
-        Node::Again(k) => Ok(Node::Again(*k)),
-        Node::Return(p) => Ok(Node::Return(*p)),
+        Node::Do(o) => target_of(o),
+        Node::Choose(_, _, _) => None,
+        Node::Block(_) => None,
+        Node::Loop(_) => None,
+        Node::Leave(_) => None,
+        Node::Again(_) => None,
+        Node::Return(_) => None,
     }
 }
 
+/// Where the target of the node at a place goes.
+fn lands_at(ns: &[Node<u32>], i: usize) -> Option<u32>
+    requires there { i < length ns.now }
+    ensures { (d : Node ℕ) → result ≡ list_lands (node_target (node (get_or ns.now i d))) (listed (map node (drop (i + 1) ns.now))) }
+{
+    lands(node_target(&ns[i]), &ns[i + 1..])
+}
+
+/// Puts in the place of a node what stands for it, where its target goes to a temporary.
 #[cycle(retargeting)]
-fn retarget_nodes(alloc: Global, ns: &[Node<u32>]) -> Result<Vec<Node<u32>>, Memory>
-    ensures { IfOk result (λ r. map node r.items ≡ list_retargeted None (listed (map node ns.now))) }
+fn retarget_node(alloc: Global, turn: Option<(u32, u32)>, to: Option<u32>, n: &mut Node<u32>)
+    ensures { node n.new ≡ node_retargeted turn (node n.old) to }
 {
-    let mut found = Vec::new(alloc);
+    match n {
+        Node::Do(o) => retarget_op(turn, to, o),
+        Node::Choose(_, a, b) => {
+            retarget_inside(alloc, a);
+            retarget_inside(alloc, b);
+        }
+        Node::Block(b) => retarget_inside(alloc, b),
+        Node::Loop(b) => retarget_inside(alloc, b),
+        Node::Leave(_) => {}
+        Node::Again(_) => {}
+        Node::Return(_) => {}
+    }
+}
+
+/// Puts in the place of nodes what stands for them.
+#[cycle(retargeting)]
+fn retarget_nodes(alloc: Global, ns: &mut [Node<u32>])
+    ensures { map node ns.new ≡ list_retargeted None (listed (map node ns.old)) }
+{
     let mut turn = None;
-    let mut i = 0;
-    while i < ns.len() {
-        let after = &ns[i + 1..];
-        found.push(retarget_node(alloc, turn, &ns[i], after)?)?;
-        turn = next_turn(turn, &ns[i], after);
-        i += 1;
+    for i in 0..ns.len() {
+        let to = lands_at(&*ns, i);
+        let next = next_turn(turn, to, &ns[i]);
+        retarget_node(alloc, turn, to, &mut ns[i]);
+        turn = next;
     }
-    Ok(found)
 }
 
-fn retarget_function(alloc: Global, f: &Function<u32>) -> Result<Function<u32>, Memory>
-    ensures { IfOk result (λ r. function r ≡ retargeted_function (function f.now)) }
+/// The same of the nodes inside of a node, or of a function.
+#[cycle(retargeting)]
+fn retarget_inside(alloc: Global, b: &mut Seq<Node<u32>>)
+    ensures { map node b.new ≡ list_retargeted None (listed (map node b.old)) }
 {
-    let body = retarget_nodes(alloc, f.body.as_slice())?;
-    let params = copy_words(alloc, f.params.as_slice())?;
-    let locals = copy_words(alloc, f.locals.as_slice())?;
-    Ok(Function {
-        temps: f.temps,
-        params: Seq::from_vec(params),
-        locals: Seq::from_vec(locals),
-        result: f.result,
-        body: Seq::from_vec(body),
-    })
+    let mut ns = mem::replace(b, Seq::from_vec(Vec::new(alloc))).into_vec();
+    retarget_nodes(alloc, &mut ns);
+    *b = Seq::from_vec(ns);
 }
 
-fn retarget_functions(alloc: Global, fs: &[Function<u32>]) -> Result<Vec<Function<u32>>, Memory>
-    ensures { IfOk result (λ r. map function r.items ≡ map retargeted_function (map function fs.now)) }
+fn retarget_function(alloc: Global, f: &mut Function<u32>)
+    ensures { function f.new ≡ retargeted_function (function f.old) }
 {
-    let mut found = Vec::new(alloc);
-    for f in fs {
-        found.push(retarget_function(alloc, f)?)?;
+    retarget_inside(alloc, &mut f.body);
+}
+
+fn retarget_functions(alloc: Global, fs: &mut Vec<Function<u32>>)
+    ensures { map function fs.new.items ≡ map retargeted_function (map function fs.old.items) }
+{
+    for f in fs.iter_mut() {
+        retarget_function(alloc, f);
     }
-    Ok(found)
 }
 
 /// The code in which an operation or a call whose target the next node moves to another temporary puts into that one; the move goes the other way, and is
-/// dead where nothing reads its target. The error is want of memory, and then the code given is dropped.
-pub(crate) fn retarget_moves(alloc: Global, m: Mid) -> Result<Mid, Memory>
-    ensures retargeted { IfOk result (λ r. IsNoWorseFrom (mid m) (mid r)) }
+/// dead where nothing reads its target.
+pub(crate) fn retarget_moves(alloc: Global, m: Mid) -> Mid
+    ensures retargeted { IsNoWorseFrom (mid m) (mid result) }
 {
     mid_code_is_sound(&m);
     let of = m.into_code();
-    let start = retarget_function(alloc, &of.start)?;
-    let functions = retarget_functions(alloc, of.functions.as_slice())?;
-    Ok(Mid::new(Code {
+    let mut start = of.start;
+    retarget_function(alloc, &mut start);
+    let mut functions = of.functions.into_vec();
+    retarget_functions(alloc, &mut functions);
+    Mid::new(Code {
         start,
         functions: Seq::from_vec(functions),
         globals: of.globals,
         literals: of.literals,
         main: of.main,
-    }))
+    })
 }

@@ -5,6 +5,7 @@ ghost use Rattle.mid_code.specs.Invariants.{AllOf};
 ghost use Rattle.mid_code.specs.Whole.{mid};
 ghost use Rattle.mid_improve.specs.Settled.{IsSettled, IsSettledFunction};
 ghost use Rattle.mid_improve.specs.inner.Named.{IsNamed};
+ghost use Rattle.mid_improve.specs.inner.Rounds.{HasSettledRuns};
 
 use crate::runs::are_runs_settled;
 use crate::table::Table;
@@ -41,6 +42,37 @@ fn are_functions_settled(
         }
     }
     Ok(true)
+}
+
+fn are_functions_swept(alloc: Global, fs: &[Function<u32>]) -> Result<bool, Memory>
+    requires named { AllOf IsNamed (map function fs.now) }
+    requires runs { AllOf HasSettledRuns (map function fs.now) }
+    ensures { IfOk result (λ b. (b ≡ true) ↔ AllOf IsSettledFunction (map function fs.now)) }
+{
+    for f in fs {
+        let swept = are_targets_live(alloc, f)?;
+        if !swept {
+            return Ok(false);
+        }
+    }
+    Ok(true)
+}
+
+/// Whether code whose runs are settled is settled: whether no operation is left that only puts something where nothing reads it. The error is want of memory.
+#[tactic(auto, using(crate::proofs::Whole::start_named, crate::proofs::Whole::functions_named))]
+pub(crate) fn is_swept(alloc: Global, m: &Mid) -> Result<bool, Memory>
+    requires start { HasSettledRuns (mid m.now).start }
+    requires functions { AllOf HasSettledRuns (mid m.now).functions }
+    ensures exact { IfOk result (λ b. (b ≡ true) ↔ IsSettled (mid m.now)) }
+{
+    mid_code_is_sound(m);
+    let of = m.code();
+    let start = are_targets_live(alloc, &of.start)?;
+    if !start {
+        return Ok(false);
+    }
+    let functions = are_functions_swept(alloc, of.functions.as_slice())?;
+    Ok(functions)
 }
 
 /// Whether the code is settled: in no function an operator whose words are known is left, or an operand that is a copy, or an operation that only puts

@@ -1,19 +1,20 @@
 // Known words where they are used: an operation that puts a word, or the address of a global, into a temporary is held back, past operations that do
 // not touch the temporary.
-ghost use Rattle.std.specs.Prelude.{◌≡◌, ◌++◌, ◌&&◌, ◌∷◌, [], not, None, Some, IfOk, OnOk, map};
-ghost use Rattle.std.specs.List.{list_all};
+ghost use Rattle.std.specs.Prelude.{◌≡◌, ℕ, ◌<◌, ◌-◌, ◌&&◌, not, cond, None, Some, IfSome, map, length, get_or};
+ghost use Rattle.std.specs.List.{list_all, swap};
+ghost use Rattle.mid_code.specs.declared.node.Node.{Node};
 ghost use Rattle.mid_code.specs.Functions.{function, listed, node};
 ghost use Rattle.mid_code.specs.Whole.{mid};
 ghost use Rattle.mid_improve.specs.ImprovedFrom.{IsNoWorseFrom};
 ghost use Rattle.mid_improve.specs.inner.Sinking.{hides, sunk_function};
 ghost use Rattle.mid_improve.specs.inner.SinkListed.{free_op, held_of, free_in, apart_in, node_op, plain_op};
-ghost use Rattle.mid_improve.specs.inner.SinkListed.{held_nodes, nodes_at, held_at, node_sunk, list_sunk};
+ghost use Rattle.mid_improve.specs.inner.SinkListed.{passes, held_at, node_sunk, list_sunk};
 
-use crate::sweep::{copy_op, copy_words};
-use kit_base::{Memory, Seq};
+use kit_base::Seq;
 use mid_code::laws::mid_code_is_sound;
 use mid_code::{Code, Function, Mid, Node, Op};
 use std::alloc::Global;
+use std::mem;
 
 /// An operation that does the same whatever the state is: it puts a word into a temporary, or the address of a global.
 #[derive(Clone, Copy)]
@@ -131,147 +132,97 @@ fn free_of(n: &Node<u32>) -> Option<Free>
     }
 }
 
-fn push(out: &mut Vec<Node<u32>>, n: Node<u32>) -> Result<(), Memory>
-    ensures { OnOk result (map node out.new.items ≡ map node out.old.items ++ node n ∷ []) }
-{
-    out.push(n)?;
-    Ok(())
-}
-
-/// Adds what was held back.
-fn put_held(out: &mut Vec<Node<u32>>, held: Option<Free>) -> Result<(), Memory>
-    ensures { OnOk result (map node out.new.items ≡ map node out.old.items ++ held_nodes (held_of held)) }
+/// What is held back behind the node at a place. Where one is held before it, that one stands before it; now it stands behind it, if it is still held.
+fn pass(ns: &mut [Node<u32>], i: usize, held: Option<Free>) -> Option<Free>
+    requires there { i < length ns.old }
+    requires behind { IfSome held (λ f. 0 < i) }
+    ensures nodes { (d : Node ℕ) → ns.new ≡ cond (passes (held_of held) (node_op (node (get_or ns.old i d)))) (swap ns.old (i - 1) i) ns.old }
+    ensures held { (d : Node ℕ) → held_of result ≡ held_at (held_of held) (node_op (node (get_or ns.old i d))) }
 {
     match held {
-        None => Ok(()),
-        Some(Free::Const(t, word)) => push(out, Node::Do(Op::Const(t, word))),
-        Some(Free::Global(t, number)) => push(out, Node::Do(Op::Global(t, number))),
-    }
-}
-
-/// Adds a node behind nothing that is held back, or holds it back; what is held then.
-fn put_free(out: &mut Vec<Node<u32>>, n: Node<u32>) -> Result<Option<Free>, Memory>
-    ensures nodes { OnOk result (map node out.new.items ≡ map node out.old.items ++ nodes_at None (node_op (node n)) (node n)) }
-    ensures held { IfOk result (λ k. held_of k ≡ held_at None (node_op (node n))) }
-{
-    match free_of(&n) {
-        Some(f) => Ok(Some(f)),
-        None => {
-            push(out, n)?;
-            Ok(None)
+        None => free_of(&ns[i]),
+        Some(f) => {
+            if is_apart(f, &ns[i]) {
+                ns.swap(i - 1, i);
+                Some(f)
+            } else {
+                None
+            }
         }
     }
 }
 
-/// Adds a node before or behind what is held back; what is held then.
-fn put_behind(out: &mut Vec<Node<u32>>, f: Free, n: Node<u32>) -> Result<Option<Free>, Memory>
-    ensures nodes { OnOk result (map node out.new.items ≡ map node out.old.items ++ nodes_at (Some (free_op f)) (node_op (node n)) (node n)) }
-    ensures held { IfOk result (λ k. held_of k ≡ held_at (Some (free_op f)) (node_op (node n))) }
-{
-    if is_apart(f, &n) {
-        push(out, n)?;
-        return Ok(Some(f));
-    }
-    put_held(out, Some(f))?;
-    push(out, n)?;
-    Ok(None)
-}
-
-fn sink_node(
-    out: &mut Vec<Node<u32>>,
-    held: Option<Free>,
-    n: Node<u32>,
-) -> Result<Option<Free>, Memory>
-    ensures nodes { OnOk result (map node out.new.items ≡ map node out.old.items ++ nodes_at (held_of held) (node_op (node n)) (node n)) }
-    ensures held { IfOk result (λ k. held_of k ≡ held_at (held_of held) (node_op (node n))) }
-{
-    match held {
-        None => put_free(out, n),
-        Some(f) => put_behind(out, f, n),
-    }
-}
-
-/// The node, with known words where they are used inside of it.
+/// Puts known words where they are used inside of the node.
 #[cycle(sink)]
-fn sink_inside(alloc: Global, n: &Node<u32>) -> Result<Node<u32>, Memory>
-    ensures node { IfOk result (λ r. node r ≡ node_sunk (node n.now)) }
-    ensures op { IfOk result (λ r. node_op (node r) ≡ node_op (node n.now)) }
+fn sink_inside(alloc: Global, n: &mut Node<u32>)
+    ensures node { node n.new ≡ node_sunk (node n.old) }
+    ensures op { node_op (node n.new) ≡ node_op (node n.old) }
 {
     match n {
-        Node::Do(o) => Ok(Node::Do(copy_op(alloc, o)?)),
-        Node::Choose(p, a, b) => {
-            let first = sink_nodes(alloc, a.as_slice())?;
-            let second = sink_nodes(alloc, b.as_slice())?;
-            Ok(Node::Choose(*p, Seq::from_vec(first), Seq::from_vec(second)))
+        Node::Do(_) => {}
+        Node::Choose(_, a, b) => {
+            sink_list(alloc, a);
+            sink_list(alloc, b);
         }
-        Node::Block(b) => {
-            let inside = sink_nodes(alloc, b.as_slice())?;
-            Ok(Node::Block(Seq::from_vec(inside)))
-        }
-        Node::Loop(b) => {
-            let inside = sink_nodes(alloc, b.as_slice())?;
-            Ok(Node::Loop(Seq::from_vec(inside)))
-        }
-        Node::Leave(k) => Ok(Node::Leave(*k)),
-        Node::Again(k) => Ok(Node::Again(*k)),
-        Node::Return(p) => Ok(Node::Return(*p)),
+        Node::Block(b) => sink_list(alloc, b),
+        Node::Loop(b) => sink_list(alloc, b),
+        Node::Leave(_) => {}
+        Node::Again(_) => {}
+        Node::Return(_) => {}
     }
 }
 
-/// The nodes with known words where they are used.
+/// Puts known words where they are used among the nodes and inside of them.
 #[cycle(sink)]
-fn sink_nodes(alloc: Global, ns: &[Node<u32>]) -> Result<Vec<Node<u32>>, Memory>
-    ensures { IfOk result (λ r. map node r.items ≡ list_sunk None (listed (map node ns.now))) }
+fn sink_nodes(alloc: Global, ns: &mut [Node<u32>])
+    ensures { map node ns.new ≡ list_sunk None (listed (map node ns.old)) }
 {
-    let mut out = Vec::new(alloc);
     let mut held = None;
-    for n in ns {
-        let inside = sink_inside(alloc, n)?;
-        held = sink_node(&mut out, held, inside)?;
+    for i in 0..ns.len() {
+        sink_inside(alloc, &mut ns[i]);
+        held = pass(ns, i, held);
     }
-    put_held(&mut out, held)?;
-    Ok(out)
 }
 
-fn sink_function(alloc: Global, f: &Function<u32>) -> Result<Function<u32>, Memory>
-    ensures { IfOk result (λ r. function r ≡ sunk_function (function f.now)) }
+#[cycle(sink)]
+fn sink_list(alloc: Global, b: &mut Seq<Node<u32>>)
+    ensures { map node b.new ≡ list_sunk None (listed (map node b.old)) }
 {
-    let body = sink_nodes(alloc, f.body.as_slice())?;
-    let params = copy_words(alloc, f.params.as_slice())?;
-    let locals = copy_words(alloc, f.locals.as_slice())?;
-    Ok(Function {
-        temps: f.temps,
-        params: Seq::from_vec(params),
-        locals: Seq::from_vec(locals),
-        result: f.result,
-        body: Seq::from_vec(body),
-    })
+    let mut ns = mem::replace(b, Seq::from_vec(Vec::new(alloc))).into_vec();
+    sink_nodes(alloc, &mut ns);
+    *b = Seq::from_vec(ns);
 }
 
-fn sink_functions(alloc: Global, fs: &[Function<u32>]) -> Result<Vec<Function<u32>>, Memory>
-    ensures { IfOk result (λ r. map function r.items ≡ map sunk_function (map function fs.now)) }
+fn sink_function(alloc: Global, f: &mut Function<u32>)
+    ensures { function f.new ≡ sunk_function (function f.old) }
 {
-    let mut found = Vec::new(alloc);
-    for f in fs {
-        found.push(sink_function(alloc, f)?)?;
+    sink_list(alloc, &mut f.body);
+}
+
+fn sink_functions(alloc: Global, fs: &mut Vec<Function<u32>>)
+    ensures { map function fs.new.items ≡ map sunk_function (map function fs.old.items) }
+{
+    for f in fs.iter_mut() {
+        sink_function(alloc, f);
     }
-    Ok(found)
 }
 
 /// The code in which an operation that puts a known word, or the address of a global, into a temporary stands behind those that do not touch the temporary,
-/// at its first use. The error is want of memory, and then the code given is dropped.
-pub(crate) fn sink_words(alloc: Global, m: Mid) -> Result<Mid, Memory>
-    ensures sunk { IfOk result (λ r. IsNoWorseFrom (mid m) (mid r)) }
+/// at its first use.
+pub(crate) fn sink_words(alloc: Global, m: Mid) -> Mid
+    ensures sunk { IsNoWorseFrom (mid m) (mid result) }
 {
     mid_code_is_sound(&m);
     let of = m.into_code();
-    let start = sink_function(alloc, &of.start)?;
-    let functions = sink_functions(alloc, of.functions.as_slice())?;
-    Ok(Mid::new(Code {
+    let mut start = of.start;
+    sink_function(alloc, &mut start);
+    let mut functions = of.functions.into_vec();
+    sink_functions(alloc, &mut functions);
+    Mid::new(Code {
         start,
         functions: Seq::from_vec(functions),
         globals: of.globals,
         literals: of.literals,
         main: of.main,
-    }))
+    })
 }

@@ -16,7 +16,7 @@ use mid_code::{Code, Function, Mid, Node, Op};
 use mid_live::{Kept, Live};
 use std::alloc::Global;
 
-pub(crate) fn copy_words(alloc: Global, words: &[u32]) -> Result<Vec<u32>, Memory>
+fn copy_words(alloc: Global, words: &[u32]) -> Result<Vec<u32>, Memory>
     ensures { IfOk result (λ r. r.items ≡ words.now) }
 {
     Ok(words.to_vec(alloc)?)
@@ -34,7 +34,7 @@ fn copy_call(
     Ok(Op::Call(target, function, Seq::from_vec(arguments)))
 }
 
-pub(crate) fn copy_op(alloc: Global, o: &Op<u32>) -> Result<Op<u32>, Memory>
+fn copy_op(alloc: Global, o: &Op<u32>) -> Result<Op<u32>, Memory>
     ensures { IfOk result (λ r. r ≡ o.now) }
 {
     Ok(match o {

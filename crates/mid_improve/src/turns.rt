@@ -6,7 +6,7 @@ ghost use Rattle.mid_improve.specs.inner.Rounds.{IsForwarded, IsRoundFrom};
 
 use crate::forward::forward_words;
 use crate::retarget::retarget_moves;
-use crate::settled::is_settled;
+use crate::settled::is_swept;
 use crate::sinking::sink_words;
 use crate::sweep::sweep_dead;
 use kit_base::Memory;
@@ -19,8 +19,8 @@ fn fold_and_forward(alloc: Global, m: Mid) -> Result<Mid, Memory>
     ensures { IfOk result (λ r. IsForwarded (mid m) (mid r)) }
 {
     let folded = fold_words(alloc, m)?;
-    let sunk = sink_words(alloc, folded)?;
-    let moved = retarget_moves(alloc, sunk)?;
+    let sunk = sink_words(alloc, folded);
+    let moved = retarget_moves(alloc, sunk);
     let forward = forward_words(alloc, moved)?;
     Ok(forward)
 }
@@ -42,10 +42,10 @@ pub fn improve(alloc: Global, m: Mid) -> Result<Mid, Memory>
     ensures improved { IfOk result (λ r. IsImprovedFrom (mid m) (mid r)) }
 {
     let mut now = fold_and_forward(alloc, m)?;
-    let mut settled = is_settled(alloc, &now)?;
+    let mut settled = is_swept(alloc, &now)?;
     'rounds: while !settled {
         now = sweep_and_forward(alloc, now)?;
-        settled = is_settled(alloc, &now)?;
+        settled = is_swept(alloc, &now)?;
     }
     Ok(now)
 }

@@ -1,6 +1,6 @@
 -- Targets that are moved at once: where the node behind an operation or a call moves its target to another temporary, the operation puts into that one, and
 -- the move goes the other way. Behind the two nodes all cells are what they were; a move to a temporary that nothing reads is dead then.
-use Rattle.std.specs.Prelude.{ℕ, Bool, eqb, cond, Option, Some, None, map}
+use Rattle.std.specs.Prelude.{ℕ, eqb, cond, Option, Some, None, map}
 use Rattle.mid_code.specs.Code.{OpT, ConstO, NullO, MoveO, OneO, TwoO, GlobalO, LocalO, LiteralO, CardO, StepO, ApartO, PtrTestO, LoadO, InO, target}
 use Rattle.mid_code.specs.Code.{NodesT, Stop, Do, Call, Choose, Block, Loop, Leave, Again, Return, FunctionT, CodeT}
 

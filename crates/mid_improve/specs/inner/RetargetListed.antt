@@ -70,20 +70,26 @@ abbrev pub unless_turned : Option (Op ℕ) → Turn → Turn
 unless_turned None h = h
 unless_turned (Some o) h = None
 
-abbrev pub node_turn : Turn → NodeT ℕ → ListT ℕ → Turn
-node_turn h (DoN o) rest = unless_turned (turned_move h o) (turn_of (op_target o) (list_lands (op_target o) rest))
-node_turn h _ rest = None
+abbrev pub node_target : NodeT ℕ → Option ℕ
+node_target (DoN o) = op_target o
+node_target _ = None
+
+-- what has its cell elsewhere behind a node, and what stands for it, by where its target goes
+abbrev pub node_turn : Turn → NodeT ℕ → Option ℕ → Turn
+node_turn h (DoN o) to = unless_turned (turned_move h o) (turn_of (op_target o) to)
+node_turn h _ to = None
 
 abbrev mutual
-  pub node_retargeted : Turn → NodeT ℕ → ListT ℕ → NodeT ℕ
-  node_retargeted h (DoN o) rest = DoN (or_else (turned_move h o) (op_to (list_lands (op_target o) rest) o))
-  node_retargeted h (ChooseN p a b) rest = ChooseN p (listed (list_retargeted None a)) (listed (list_retargeted None b))
-  node_retargeted h (BlockN b) rest = BlockN (listed (list_retargeted None b))
-  node_retargeted h (LoopN b) rest = LoopN (listed (list_retargeted None b))
-  node_retargeted h (LeaveN k) rest = LeaveN k
-  node_retargeted h (AgainN k) rest = AgainN k
-  node_retargeted h (ReturnN p) rest = ReturnN p
+  pub node_retargeted : Turn → NodeT ℕ → Option ℕ → NodeT ℕ
+  node_retargeted h (DoN o) to = DoN (or_else (turned_move h o) (op_to to o))
+  node_retargeted h (ChooseN p a b) to = ChooseN p (listed (list_retargeted None a)) (listed (list_retargeted None b))
+  node_retargeted h (BlockN b) to = BlockN (listed (list_retargeted None b))
+  node_retargeted h (LoopN b) to = LoopN (listed (list_retargeted None b))
+  node_retargeted h (LeaveN k) to = LeaveN k
+  node_retargeted h (AgainN k) to = AgainN k
+  node_retargeted h (ReturnN p) to = ReturnN p
 
   pub list_retargeted : Turn → ListT ℕ → List (NodeT ℕ)
   list_retargeted h NoN = []
-  list_retargeted h (MoreN x rest) = node_retargeted h x rest ∷ list_retargeted (node_turn h x rest) rest
+  list_retargeted h (MoreN x rest) =
+      node_retargeted h x (list_lands (node_target x) rest) ∷ list_retargeted (node_turn h x (list_lands (node_target x) rest)) rest

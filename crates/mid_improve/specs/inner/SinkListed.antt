@@ -29,6 +29,11 @@ abbrev pub apart_in : OpT ℕ → Option (OpT ℕ) → Bool
 apart_in p None = false
 apart_in p (Some o) = is_apart (Some p) o
 
+-- what is held back goes behind the operation
+abbrev pub passes : Held → Option (OpT ℕ) → Bool
+passes None o = false
+passes (Some p) o = apart_in p o
+
 -- ---- operations and nodes
 
 -- an operation in memory, and one but a call that a node in memory is

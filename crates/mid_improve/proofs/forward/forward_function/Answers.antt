@@ -7,8 +7,5 @@ use Rattle.mid_improve.proofs.forward.forward_function.Goals as goal
 
 pub returns : goal.returns
 returns c =
-    let f = function c.args.f.now in
-    let params : c.from_vec.result ≡ f.params = search rules in
-    let locals : c.from_vec-2.result ≡ f.locals = search rules in
-    let body : map node c.from_vec-3.result ≡ list_forwarded none_known (listed (map node c.args.f.now.body)) = search rules in
-    function_is f c.from_vec.result c.from_vec-2.result _ params locals (forward_joined c.args.f.now.body c.from_vec-3.result body)
+    let body : map node c.forward_inside.new.b ≡ list_forwarded none_known (listed (map node c.args.f.now.body)) = search rules in
+    function_is (function c.args.f.now) _ (forward_joined c.args.f.now.body c.forward_inside.new.b body)

@@ -1,8 +1,6 @@
-use Rattle.std.proofs.Common.{◌≡◌, ◌+◌, ◌++◌, ◌∷◌, [], ap, ◌∙◌}
-use Rattle.asm_items.specs.declared.item.AsmItem.TheVariants as item
+use Rattle.std.proofs.Common.{◌+◌, ◌++◌, [], ap, ◌∙◌}
 use Rattle.mid_code.specs.Functions.{nodes}
-use Rattle.asm_laws.specs.Framing.{frame_made}
-use Rattle.asm_laws.specs.inner.Emitted.{code_items, entry_items, exit_items, function_items}
+use Rattle.asm_laws.specs.inner.Emitted.{code_items, entry_items, exit_items}
 use Rattle.asm_emit.specs.inner.View.{frame, whole}
 use Rattle.asm_emit.proofs.Joining.{three_parts}
 use Rattle.asm_emit.proofs.program.put_function.Goals as goal

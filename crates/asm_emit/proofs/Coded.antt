@@ -5,23 +5,27 @@ use Rattle.std.specs.List.{AllByRecursion}
 use Rattle.either.specs.declared.Either.TheVariants.{Left}
 use Rattle.v32_isa.specs.declared.instruction.Plain.TheVariants.{RET}
 use Rattle.v32_isa.specs.declared.instruction.One.{One}
+use Rattle.v32_isa.specs.declared.instruction.Mov.TheVariants.{RegAt, RegAtOff, AtReg, AtOffReg, RegReg}
 use Rattle.v32_isa.specs.declared.instruction.Two.{Two}
 use Rattle.v32_isa.specs.declared.instruction.Two.TheVariants.{IADD, ISUB}
 use Rattle.v32_isa.specs.declared.instruction.Src.TheVariants as src
+use Rattle.v32_isa.specs.declared.instruction.Instr.{Instr}
 use Rattle.v32_isa.specs.declared.instruction.Instr.TheVariants as instr
+use Rattle.asm_items.specs.Items.{Imm}
 use Rattle.asm_items.specs.declared.item.AsmItem.{AsmItem}
 use Rattle.asm_items.specs.declared.item.AsmItem.TheVariants as item
 use Rattle.mid_code.specs.declared.placed.Where.{Where}
 use Rattle.mid_code.specs.declared.placed.Where.TheVariants.{Reg, Slot}
 use Rattle.mid_code.specs.Code.{OpT, ConstO, NullO, MoveO, OneO, TwoO, GlobalO, LocalO, LiteralO, CardO, StepO, ApartO, PtrTestO, LoadO, StoreO, FreshO, EndO, InO, OutO, WaitO, HaltO, NodesT, Stop, Do, Call, Choose, Block, Loop, Leave, Again, Return}
 use Rattle.asm_laws.specs.Moves.{Move, in_order}
-use Rattle.asm_laws.specs.Operations.{Frame, Whole, register, keep, fetches, keeps, keeps_some, is_in, hand, brings, takes, aim, lays, moves, changes, is_direct, in_place, apart, turned, is_turned, turned_or_apart, computes, slot_arg, slot_args, moved_items, args_items, call_items, op_items, in_one, one_or_more, more_of, giving}
+use Rattle.asm_laws.specs.Operations.{Frame, Whole, keep, fetches, keeps, keeps_some, hand, brings, takes, aim, lays, moves, changes, is_direct, in_place, apart, is_turned, turned_or_apart, computes, slot_arg, slot_args, moved_items, args_items, call_items, op_items, in_one, one_or_more, more_of, giving}
+use Rattle.asm_laws.specs.Pieces.{register, is_in, turned}
 use Rattle.asm_laws.specs.Framing.{frame_made, frame_gone}
 use Rattle.asm_laws.specs.declared.behind.Behind.{Behind}
 use Rattle.asm_laws.specs.declared.behind.Behind.TheVariants.{Other, End, Turn}
 use Rattle.asm_laws.specs.inner.Emitted.{labels, jump, jump_unless, mark, first_part, second_part, choice, alone, left_to, ends, jump_when, is_stop, enclosed, returning, items_past, code_items, call_item, own_items, exit_items, inside, is_end, is_turn, again, rotated, looped, is_tested, part_items, test_items, enclosing}
 use Rattle.asm_emit.specs.EmittedFrom.{IsCode}
-use Rattle.asm_laws.proofs.InOne.{one_or_more_is}
+use Rattle.asm_laws.proofs.InOne.{TakesWord, one_or_more_is}
 
 abbrev AreCode : List AsmItem → Type 0
 AreCode items = AllByRecursion IsCode items
@@ -124,9 +128,18 @@ module _ (W : Whole) (F : Frame) where
   op_code WaitO = (tt, tt)
   op_code HaltO = (tt, tt)
 
+  taking_code : (i : Instr Imm) → TakesWord (λ v. Unit {0}) i → AreCode (item.Op i ∷ [])
+  taking_code (instr.Lea r q (Some (Left v))) h = (tt, tt)
+  taking_code (instr.Two o r (src.Imm (Left v))) h = (tt, tt)
+  taking_code (instr.Mov (RegAt r (Left v))) h = (tt, tt)
+  taking_code (instr.Mov (RegAtOff r q (Left v))) h = (tt, tt)
+  taking_code (instr.Mov (AtReg (Left v) r)) h = (tt, tt)
+  taking_code (instr.Mov (AtOffReg q (Left v) r)) h = (tt, tt)
+  taking_code (instr.Out port (src.Imm (Left v))) h = (tt, tt)
+  taking_code _ h = absurd h
+
   one_or_more_code : (o : OpT Where) (c : NodesT Where) → AreCode (one_or_more W F o (in_one W F o c))
-  one_or_more_code o c =
-      one_or_more_is W F AreCode (λ v. Unit {0}) o c (λ t n e. (tt, tt)) (λ t k e. (tt, tt)) (op_code o) (λ r q v lr lq h. (tt, tt)) (λ r q v lr lq h. (tt, tt)) (λ u p r v lr h. (fetch_code F p r, (tt, tt))) (λ p r v lr h. (fetch_code F p r, (tt, tt)))
+  one_or_more_code o c = one_or_more_is W F AreCode (λ v. Unit {0}) o c (λ t n e. (tt, tt)) (λ t k e. (tt, tt)) (op_code o) taking_code (λ p r i lt h. (fetch_code F p r, taking_code i h))
 
   call_code : (t : Option Where) (g : ℕ) (args : List Where) → AreCode (call_items W F t g args)
   call_code t g args =

@@ -6,10 +6,13 @@ use Rattle.either.specs.declared.Either.TheVariants.{Left}
 use Rattle.v32_isa.specs.declared.instruction.Plain.TheVariants.{RET}
 use Rattle.v32_isa.specs.declared.instruction.One.{One}
 use Rattle.v32_isa.specs.declared.instruction.One.TheVariants.{CIB, NOT, BNOT, ISGN, IABS}
+use Rattle.v32_isa.specs.declared.instruction.Mov.TheVariants.{RegAt, RegAtOff, AtReg, AtOffReg, RegReg}
 use Rattle.v32_isa.specs.declared.instruction.Two.{Two}
 use Rattle.v32_isa.specs.declared.instruction.Two.TheVariants.{IADD, ISUB}
 use Rattle.v32_isa.specs.declared.instruction.Src.TheVariants as src
+use Rattle.v32_isa.specs.declared.instruction.Instr.{Instr}
 use Rattle.v32_isa.specs.declared.instruction.Instr.TheVariants as instr
+use Rattle.asm_items.specs.Items.{Imm}
 use Rattle.asm_items.specs.declared.item.AsmItem.{AsmItem}
 use Rattle.asm_items.specs.declared.item.AsmItem.TheVariants as item
 use Rattle.mid_code.specs.declared.placed.Where.{Where}
@@ -20,14 +23,15 @@ use Rattle.mid_code.specs.Calls.{loops, CallsTo}
 use Rattle.asm_laws.specs.Names.{jump_label, function_label}
 use Rattle.asm_laws.specs.Labelled.{HasLabel}
 use Rattle.asm_laws.specs.Moves.{Move, in_order}
-use Rattle.asm_laws.specs.Operations.{Frame, Whole, register, keep, fetches, keeps, keeps_some, is_in, hand, brings, takes, aim, lays, moves, changes, is_direct, in_place, apart, turned, is_turned, turned_or_apart, computes, slot_arg, slot_args, moved_items, args_items, call_items, op_items, in_one, one_or_more, more_of, giving}
+use Rattle.asm_laws.specs.Operations.{Frame, Whole, keep, fetches, keeps, keeps_some, hand, brings, takes, aim, lays, moves, changes, is_direct, in_place, apart, is_turned, turned_or_apart, computes, slot_arg, slot_args, moved_items, args_items, call_items, op_items, in_one, one_or_more, more_of, giving}
+use Rattle.asm_laws.specs.Pieces.{register, is_in, turned}
 use Rattle.asm_laws.specs.Framing.{frame_made, frame_gone}
 use Rattle.asm_laws.specs.declared.behind.Behind.{Behind}
 use Rattle.asm_laws.specs.declared.behind.Behind.TheVariants.{Other, End}
 use Rattle.asm_laws.specs.inner.Emitted.{labels, enclosing, jump, jump_unless, mark, first_part, second_part, choice, one_way, alone, left_to, ends, jump_when, is_stop, enclosed, returning, items_past, code_items, call_item, own_items, exit_items, inside, is_end}
 use Rattle.asm_emit.specs.EmittedFrom.{IsCalled, GoesOn, AllGoOn}
 use Rattle.asm_laws.proofs.Enclosing.{innermost, further}
-use Rattle.asm_laws.proofs.InOne.{one_or_more_is}
+use Rattle.asm_laws.proofs.InOne.{TakesWord, one_or_more_is}
 use Rattle.asm_laws.proofs.Leaving.{left_is}
 use Rattle.asm_laws.proofs.Known.{marked_left, marked_right, function_there}
 
@@ -147,9 +151,19 @@ module _ (names : List (List ℕ)) (body : NodesT Where) where
     op_ahead WaitO later ok = (tt, tt)
     op_ahead HaltO later ok = (tt, tt)
 
+    taking_ahead : (later : List AsmItem) (i : Instr Imm) → TakesWord (λ v. Unit {0}) i → Ahead (item.Op i ∷ []) later
+    taking_ahead later (instr.Lea r q (Some (Left v))) h = (tt, tt)
+    taking_ahead later (instr.Two o r (src.Imm (Left v))) h = (tt, tt)
+    taking_ahead later (instr.Mov (RegAt r (Left v))) h = (tt, tt)
+    taking_ahead later (instr.Mov (RegAtOff r q (Left v))) h = (tt, tt)
+    taking_ahead later (instr.Mov (AtReg (Left v) r)) h = (tt, tt)
+    taking_ahead later (instr.Mov (AtOffReg q (Left v) r)) h = (tt, tt)
+    taking_ahead later (instr.Out port (src.Imm (Left v))) h = (tt, tt)
+    taking_ahead later _ h = absurd h
+
     one_or_more_ahead : (o : OpT Where) (c : NodesT Where) (later : List AsmItem) → IsOp x m o → Ahead (one_or_more W F o (in_one W F o c)) later
     one_or_more_ahead o c later ok =
-        one_or_more_is W F (λ xs. Ahead xs later) (λ v. Unit {0}) o c (λ t n e. (tt, tt)) (λ t k e. (tt, tt)) (op_ahead o later ok) (λ r q v lr lq h. (tt, tt)) (λ r q v lr lq h. (tt, tt)) (λ u p r v lr h. (fetch_ahead F p r _, (tt, tt))) (λ p r v lr h. (fetch_ahead F p r _, (tt, tt)))
+        one_or_more_is W F (λ xs. Ahead xs later) (λ v. Unit {0}) o c (λ t n e. (tt, tt)) (λ t k e. (tt, tt)) (op_ahead o later ok) (taking_ahead later) (λ p r i lt h. (fetch_ahead F p r _, taking_ahead later i h))
 
     call_ahead : (t : Option Where) (g : ℕ) (args : List Where) (later : List AsmItem) → g < length x.functions → CallsTo g body → Ahead (call_items W F t g args) later
     call_ahead t g args later lt calls =

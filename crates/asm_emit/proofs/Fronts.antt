@@ -6,7 +6,7 @@ use Rattle.mid_code.specs.declared.node.Op.{Op}
 use Rattle.mid_code.specs.declared.node.Op.TheVariants as op
 use Rattle.mid_code.specs.Code.{OpT, ConstO, NullO, MoveO, OneO, TwoO, GlobalO, LocalO, LiteralO, CardO, StepO, ApartO, PtrTestO, LoadO, StoreO, FreshO, EndO, InO, OutO, WaitO, HaltO, NodesT, Stop, Do, Call}
 use Rattle.mid_code.specs.Functions.{op_before}
-use Rattle.asm_laws.specs.Operations.{Frame, Whole, word_put, in_one}
+use Rattle.asm_laws.specs.Operations.{Frame, Whole, word_put, is_spared, with_known, in_one}
 use Rattle.asm_emit.specs.inner.Listed.{front_put, front_summed, ahead_items, ahead_more, is_call, front_items, front_more, labels_due}
 
 pub none_due : (k : Option ℕ) → labels_due k 0 ≡ 0
@@ -21,11 +21,15 @@ both : {A : Type 0} (b : Bool) (x : A) → x ≡ cond b x x
 both true x = refl
 both false x = refl
 
+none_known : (F : Frame) (put : Option (ℕ × ℕ)) → None ≡ cond (is_spared F put) (with_known F put None) None
+none_known F None = refl
+none_known F (Some (r, w)) = both (is_spared F (Some (r, w))) None
+
 module _ (W : Whole) (F : Frame) where
   summed : (o : OpT Where) (c : NodesT Where) → in_one W F o c ≡ front_summed F (word_put W o) c
   unfolding in_one
   summed o (Do p c) = refl
-  summed o _ = refl
+  summed o _ = none_known F (word_put W o)
 
   record Fronts (first : NodesT Where) (put : Option (ℕ × ℕ)) (call : Bool) (c : NodesT Where) : Type 0 where
     items : (k : ℕ) → front_items W F first k ≡ cond (k == 0) (ahead_items (front_summed F put c)) []

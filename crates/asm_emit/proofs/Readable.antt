@@ -7,10 +7,13 @@ use Rattle.kit_base.specs.Word.{add, sub}
 use Rattle.either.specs.declared.Either.TheVariants.{Left}
 use Rattle.v32_isa.specs.declared.instruction.Plain.TheVariants.{RET}
 use Rattle.v32_isa.specs.declared.instruction.One.{One}
+use Rattle.v32_isa.specs.declared.instruction.Mov.TheVariants.{RegAt, RegAtOff, AtReg, AtOffReg, RegReg}
 use Rattle.v32_isa.specs.declared.instruction.Two.{Two}
 use Rattle.v32_isa.specs.declared.instruction.Two.TheVariants.{IADD, ISUB}
 use Rattle.v32_isa.specs.declared.instruction.Src.TheVariants as src
+use Rattle.v32_isa.specs.declared.instruction.Instr.{Instr}
 use Rattle.v32_isa.specs.declared.instruction.Instr.TheVariants as instr
+use Rattle.asm_items.specs.Items.{Imm}
 use Rattle.asm_items.specs.declared.item.AsmItem.{AsmItem}
 use Rattle.asm_items.specs.declared.item.AsmItem.TheVariants as item
 use Rattle.asm_items.specs.Operands.{Operand, operands}
@@ -21,12 +24,13 @@ use Rattle.mid_code.specs.declared.placed.Where.TheVariants.{Reg, Slot}
 use Rattle.mid_code.specs.Code.{OpT, ConstO, NullO, MoveO, OneO, TwoO, GlobalO, LocalO, LiteralO, CardO, StepO, ApartO, PtrTestO, LoadO, StoreO, FreshO, EndO, InO, OutO, WaitO, HaltO, NodesT, Stop, Do, Call, Choose, Block, Loop, Leave, Again, Return, FunctionT, CodeT}
 use Rattle.mid_code.specs.Invariants.{AllOf, IsOp, AreNodes}
 use Rattle.asm_laws.specs.Moves.{Move, in_order}
-use Rattle.asm_laws.specs.Operations.{Frame, Whole, register, keep, fetches, keeps, keeps_some, is_in, hand, brings, takes, aim, lays, moves, changes, is_direct, in_place, apart, turned, is_turned, turned_or_apart, computes, slot_arg, slot_args, moved_items, args_items, call_items, op_items, in_one, one_or_more, more_of, giving, start_frame, literal_items, literals_items}
+use Rattle.asm_laws.specs.Operations.{Frame, Whole, keep, fetches, keeps, keeps_some, hand, brings, takes, aim, lays, moves, changes, is_direct, in_place, apart, is_turned, turned_or_apart, computes, slot_arg, slot_args, moved_items, args_items, call_items, op_items, in_one, one_or_more, more_of, giving, start_frame, literal_items, literals_items}
+use Rattle.asm_laws.specs.Pieces.{register, is_in, turned}
 use Rattle.asm_laws.specs.Framing.{frame_made, frame_gone}
 use Rattle.asm_laws.specs.declared.behind.Behind.{Behind}
 use Rattle.asm_laws.specs.declared.behind.Behind.TheVariants.{Other, End, Turn}
 use Rattle.asm_laws.specs.inner.Emitted.{labels, enclosing, jump, jump_unless, mark, first_part, second_part, choice, alone, left_to, ends, jump_when, is_stop, enclosed, returning, items_past, code_items, exit_items, function_items, functions_items, closing_items, start_items, program_items, inside, is_end, is_turn, again, rotated, looped, is_tested, part_items, test_items}
-use Rattle.asm_laws.proofs.InOne.{one_or_more_is}
+use Rattle.asm_laws.proofs.InOne.{TakesWord, one_or_more_is}
 use Rattle.asm_emit.specs.inner.Words.{AreWords, TextsAreWords}
 use Rattle.asm_emit.proofs.ReadableLabels.{jump_named, literal_named, function_named}
 
@@ -193,10 +197,20 @@ module _ (x : CodeT Where) (W : Whole) (words : list_all is_word W.names ≡ tru
     op_fine WaitO ok = (tt, tt)
     op_fine HaltO ok = (tt, tt)
 
+    taking_fine : (i : Instr Imm) → TakesWord (λ v. v < 2 ^ 32) i → AllFine (item.Op i ∷ [])
+    taking_fine (instr.Lea r q (Some (Left v))) h = ((h.0, ((h.1, h.2), tt)), tt)
+    taking_fine (instr.Two o r (src.Imm (Left v))) h = ((h.0, (h.1, tt)), tt)
+    taking_fine (instr.Mov (RegAt r (Left v))) h = ((h.0, (h.1, tt)), tt)
+    taking_fine (instr.Mov (RegAtOff r q (Left v))) h = ((h.0, ((h.1, h.2), tt)), tt)
+    taking_fine (instr.Mov (AtReg (Left v) r)) h = ((h.1, (h.0, tt)), tt)
+    taking_fine (instr.Mov (AtOffReg q (Left v) r)) h = (((h.0, h.2), (h.1, tt)), tt)
+    taking_fine (instr.Out port (src.Imm (Left v))) h = ((h.0, (h.1, tt)), tt)
+    taking_fine _ h = absurd h
+
     one_or_more_fine : (o : OpT Where) (c : NodesT Where) → IsOp x m o → AllFine (one_or_more W F o (in_one W F o c))
     one_or_more_fine o c ok =
-        one_or_more_is W F AllFine (λ v. v < 2 ^ 32) o c (λ t n e. (subst (IsOp x m) e ok, in_words 0 n)) (λ t k e. (addresses k, in_words 0 (get_or W.globals k 0))) (op_fine o ok)
-        (λ r q v lr lq h. ((lr, ((lq, h), tt)), tt)) (λ r q v lr lq h. ((lr, ((lq, h), tt)), tt)) (λ u p r v lr h. (fetch_fine F p r lr, ((lr, (h, tt)), tt))) (λ p r v lr h. (fetch_fine F p r lr, ((lr, ((lr, h), tt)), tt)))
+        one_or_more_is W F AllFine (λ v. v < 2 ^ 32) o c (λ t n e. (subst (IsOp x m) e ok, in_words 0 n)) (λ t k e. (addresses k, in_words 0 (get_or W.globals k 0))) (op_fine o ok) taking_fine
+        (λ p r i lt h. (fetch_fine F p r lt, taking_fine i h))
 
     call_fine : (t : Option Where) (g : ℕ) (args : List Where) → AllFine (call_items W F t g args)
     call_fine t g args = join (args_items F (W.frames g) (W.params g) args) _ (args_fine F (W.frames g) (W.params g) args) ((function_named W.names g words, tt), some_fine F t)

@@ -1,3 +1,4 @@
 pub mod View
 pub mod Listed
+pub mod Spared
 pub mod Words

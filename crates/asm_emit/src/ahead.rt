@@ -1,16 +1,21 @@
 // Operations that are done together.
-ghost use Rattle.std.specs.Prelude.{◌≡◌, ◌++◌, OnOk, IfOk, Some, map, drop};
+ghost use Rattle.std.specs.Prelude.{◌≡◌, ◌<◌, ◌++◌, OnOk, IfOk, Some, map, drop};
 ghost use Rattle.mid_code.specs.Code.{Stop};
 ghost use Rattle.mid_code.specs.Functions.{op_before, node, before, nodes};
-ghost use Rattle.asm_laws.specs.Operations.{turned, other_word, first_word, sum_of, loads_there, first_place, in_slot, unturned, copied, copied_address};
-ghost use Rattle.asm_laws.specs.Operations.{with_sum, before_it};
-ghost use Rattle.asm_emit.specs.inner.Listed.{front_put, front_summed, ahead_items, ahead_more, is_call, front_items, front_more, labels_due, node_labels};
+ghost use Rattle.asm_laws.specs.Operations.{other_word, first_word, sum_of, loads_there, first_place, in_slot, unturned, copied, copied_address};
+ghost use Rattle.asm_laws.specs.Pieces.{turned};
+ghost use Rattle.asm_laws.specs.Operations.{with_sum};
+ghost use Rattle.asm_laws.specs.Operations.{taken, brought, either, added, known, using_it, with_known, before_it};
+ghost use Rattle.asm_emit.specs.inner.Listed.{front_put, front_word, front_summed, ahead_items, ahead_more, is_call};
+ghost use Rattle.asm_emit.specs.inner.Listed.{front_items, front_more, labels_due, node_labels};
 ghost use Rattle.asm_emit.specs.inner.View.{frame, whole};
 
-use crate::hands::{fetch, is_in, op, register};
-use crate::pieces::turned;
+use crate::hands::{fetch, hand, is_in, op, register};
+use crate::pieces::{port, turned};
 use crate::scope::{Around, Scope, at_or};
+use crate::spare::used_by_op;
 use asm_items::{AsmItem, Imm};
+use asm_laws::Used;
 use either::Either;
 use kit_base::Memory;
 use mid_code::{Node, Op, Where};
@@ -188,15 +193,15 @@ fn with_sum(
     }
 }
 
-/// The same for an operation, where a known word was put into register r.
-fn with_op(
+/// The same for an operation, where a known word was put into register r, which holds a place.
+fn with_word(
     s: &Scope<'_>,
     r: Reg,
     word: u32,
     o: &Op<Where>,
     rest: &[Node<Where>],
 ) -> Option<Together>
-    ensures { result ≡ front_summed (frame s.now) (Some (r, word)) (op_before o.now (nodes rest.now)) }
+    ensures { result ≡ front_word (frame s.now) (Some (r, word)) (op_before o.now (nodes rest.now)) }
 {
     match o {
         Op::Two(o, t, a, b) => {
@@ -210,6 +215,116 @@ fn with_op(
             with_sum(r, sum, copied_address(s, r, word, first, rest), rest)
         }
         _ => None,
+    }
+}
+
+/// The instruction by which a register takes the word of a place, where it does not stand there.
+fn taken(s: &Scope<'_>, p: Where, r: Reg) -> Option<Instr<Imm>>
+    ensures { result ≡ taken (frame s.now) p r }
+{
+    if is_in(p, r) {
+        None
+    } else {
+        Some(fetch(s, p, r))
+    }
+}
+
+/// The instruction that brings the word of a place to register r, where it stands in a slot.
+fn brought(s: &Scope<'_>, p: Where, r: u32) -> Option<Instr<Imm>>
+    requires { r < 16 }
+    ensures { result ≡ brought (frame s.now) p r }
+{
+    match p {
+        Where::Reg(_) => None,
+        Where::Slot(_) => Some(fetch(s, p, Reg::at(r))),
+    }
+}
+
+fn either(one: Option<Instr<Imm>>, other: Option<Instr<Imm>>) -> Option<Instr<Imm>>
+    ensures { result ≡ either one other }
+{
+    match one {
+        Some(i) => Some(i),
+        None => other,
+    }
+}
+
+/// What is added where an operator works on a word and a known one.
+fn added(o: Two, word: u32) -> Option<u32>
+    ensures { result ≡ added o word }
+{
+    match o {
+        Two::IADD => Some(word),
+        Two::ISUB => Some(0u32.wrapping_sub(word)),
+        _ => None,
+    }
+}
+
+/// An operator on the word of a place and a known one, with what it adds where it does.
+fn known(
+    s: &Scope<'_>,
+    o: Two,
+    t: Reg,
+    p: Where,
+    word: u32,
+    added: Option<u32>,
+) -> (Option<Instr<Imm>>, Instr<Imm>)
+    ensures { result ≡ known (frame s.now) o t p word added }
+{
+    let number = Instr::Two(o, t, Src::Imm(Either::Left(word)));
+    match p {
+        Where::Reg(q) => match added {
+            Some(v) => (None, Instr::Lea(t, register(q), Some(Either::Left(v)))),
+            None => (taken(s, p, t), number),
+        },
+        Where::Slot(_) => (taken(s, p, t), number),
+    }
+}
+
+/// The instruction that uses a known word, behind one where there is one.
+fn using_it(s: &Scope<'_>, word: u32, u: &Used) -> (Option<Instr<Imm>>, Instr<Imm>)
+    ensures { result ≡ using_it (frame s.now) word u.now }
+{
+    let w = Either::Left(word);
+    match u {
+        Used::Computed(o, t, p) => known(s, *o, *t, *p, word, added(*o, word)),
+        Used::Loaded(t, None) => (None, Instr::Mov(Mov::RegAt(*t, w))),
+        Used::Loaded(t, Some(p)) => (
+            brought(s, *p, 9),
+            Instr::Mov(Mov::RegAtOff(*t, hand(*p, 9), w)),
+        ),
+        Used::Stored(None, a) => (brought(s, *a, 10), Instr::Mov(Mov::AtReg(w, hand(*a, 10)))),
+        Used::Stored(Some(p), a) => (
+            either(brought(s, *p, 9), brought(s, *a, 10)),
+            Instr::Mov(Mov::AtOffReg(hand(*p, 9), w, hand(*a, 10))),
+        ),
+        Used::Sent(p) => (None, Instr::Out(port(*p), Src::Imm(w))),
+    }
+}
+
+/// What is done with a word that was put into register r, which is spare.
+fn with_known(s: &Scope<'_>, r: Reg, word: u32, used: Option<(u32, Used)>) -> Option<Together>
+    ensures { result ≡ with_known (frame s.now) (Some (r, word)) used }
+{
+    let (more, u) = used?;
+    let (first, i) = using_it(s, word, &u);
+    Some((more, first, i))
+}
+
+/// What is done with an operation, where a known word was put into register r.
+fn with_op(
+    s: &Scope<'_>,
+    r: Reg,
+    word: u32,
+    o: &Op<Where>,
+    rest: &[Node<Where>],
+) -> Option<Together>
+    ensures { result ≡ front_summed (frame s.now) (Some (r, word)) (op_before o.now (nodes rest.now)) }
+{
+    if s.registers == 8 && r.number() == 8 {
+        with_known(s, r, word, used_by_op(o, rest))
+    } else {
+        with_word(s, r, word, o, rest)
     }
 }
 

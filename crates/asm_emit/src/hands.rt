@@ -1,7 +1,8 @@
 // Words brought into registers, and laid at places.
 ghost use Rattle.std.specs.Prelude.{◌≡◌, ◌++◌, ◌∷◌, ◌<◌, [], OnOk};
 ghost use Rattle.asm_items.specs.declared.item.AsmItem.TheVariants as item;
-ghost use Rattle.asm_laws.specs.Operations.{register, fetch, keep, fetches, keeps, keeps_some, is_in, hand, brings, takes, aim, lays};
+ghost use Rattle.asm_laws.specs.Operations.{fetch, keep, fetches, keeps, keeps_some, hand, brings, takes, aim, lays};
+ghost use Rattle.asm_laws.specs.Pieces.{register, is_in};
 ghost use Rattle.asm_emit.specs.inner.View.{frame};
 
 use crate::scope::{Scope, slot_word};

@@ -15,6 +15,7 @@ mod operations;
 mod pieces;
 mod program;
 mod scope;
+mod spare;
 mod words;
 
 pub use program::emit;

@@ -1,6 +1,7 @@
 // Pieces of which the operations are made.
 ghost use Rattle.std.specs.Prelude.{◌≡◌, ◌++◌, ◌∷◌, [], OnOk};
-ghost use Rattle.asm_laws.specs.Operations.{port, sets, moves, changes, is_direct, in_place, apart, turned, is_turned, turned_or_apart, computes};
+ghost use Rattle.asm_laws.specs.Operations.{port, sets, moves, changes, is_direct, in_place, apart, is_turned, turned_or_apart, computes};
+ghost use Rattle.asm_laws.specs.Pieces.{turned};
 ghost use Rattle.asm_emit.specs.inner.View.{frame};
 
 use crate::hands::{

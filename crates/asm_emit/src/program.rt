@@ -9,12 +9,14 @@ ghost use Rattle.asm_laws.specs.Framing.{frame_made, frame_gone};
 ghost use Rattle.asm_laws.specs.inner.Emitted.{labels, labels_of, functions_labels, entry_items, exit_items, function_items, functions_items};
 ghost use Rattle.asm_laws.specs.inner.Emitted.{start_items, closing_items, program_items};
 ghost use Rattle.asm_emit.specs.EmittedFrom.{CanBeEmitted, IsEmitted};
+ghost use Rattle.asm_emit.specs.inner.Spared.{held_all};
 ghost use Rattle.asm_emit.specs.inner.View.{frame, whole, whole_of_parts, wrapped_addresses};
 
 use crate::hands::op;
 use crate::names::{function_label, literal_label};
 use crate::nodes::{put_body, put_mark};
 use crate::scope::{Around, Scope, scope_at};
+use crate::spare::held_by_each;
 use crate::words::{sizes_are_words, texts_are_words};
 use asm_items::AsmItem;
 use either::Either;
@@ -151,6 +153,7 @@ fn put_start(
         locals: &[],
         size: 1_000_000,
         depth: 0,
+        registers: 9,
     };
     let next = put_body(alloc, out, w, &s, 0, 1, body)?;
     put_closing(alloc, out, w, main)?;
@@ -223,13 +226,16 @@ fn items_of(
     requires few { length (code of.now).functions < 2 ^ 32 - 1 }
     requires texts { length (code of.now).literals < 2 ^ 32 - 1 }
     ensures { IfOk result (λ v. v.items ≡ program_items
-        (whole_of_parts (code of.now).functions (map spots at.now) sizes.now names.now (wrapped_addresses 0 (code of.now).globals)) (code of.now)) }
+        (whole_of_parts (code of.now).functions (map spots at.now) sizes.now (held_all (code of.now).functions) names.now
+        (wrapped_addresses 0 (code of.now).globals)) (code of.now)) }
 {
+    let registers = held_by_each(alloc, of.functions.as_slice())?;
     let globals = addresses(alloc, of.globals.as_slice())?;
     let w = Around {
         functions: of.functions.as_slice(),
         spots: at,
         sizes,
+        registers: registers.as_slice(),
         names,
         globals: globals.as_slice(),
     };

@@ -18,6 +18,8 @@ pub struct Scope<'a> {
     pub locals: &'a [u32],
     pub size: u32,
     pub depth: u32,
+    /// How many registers, from the first one on, hold places between operations: 9, or 8 where register 8 is spare.
+    pub registers: u32,
 }
 
 /// The functions of the program with their frames and names, and the addresses of the globals.
@@ -26,6 +28,7 @@ pub struct Around<'a> {
     pub functions: &'a [Function<Where>],
     pub spots: &'a [Spots],
     pub sizes: &'a [u32],
+    pub registers: &'a [u32],
     pub names: &'a [Name],
     pub globals: &'a [u32],
 }
@@ -94,6 +97,7 @@ pub(crate) fn scope_at<'a>(w: &Around<'a>, g: u32) -> Scope<'a>
         locals: locals_at(w.spots, g),
         size,
         depth: size,
+        registers: at_or(w.registers, g, 8),
     }
 }
 

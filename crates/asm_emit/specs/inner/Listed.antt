@@ -10,7 +10,8 @@ use Rattle.mid_code.specs.declared.node.Op.{Op}
 use Rattle.mid_code.specs.declared.node.Op.TheVariants as op
 use Rattle.mid_code.specs.Code.{NodesT, Do, Call, Stop}
 use Rattle.mid_code.specs.Functions.{op_before, NodeT, DoN, ChooseN, BlockN, LoopN, LeaveN, AgainN, ReturnN, ListT, NoN, MoreN, before, joined}
-use Rattle.asm_laws.specs.Operations.{Frame, Whole, op_items, word_put, with_word, in_one, before_it, call_items, hand, brings}
+use Rattle.asm_laws.specs.Operations.{Frame, Whole, op_items, word_put, with_word, is_spared, with_known, in_one, before_it, call_items, hand, brings}
+use Rattle.asm_laws.specs.Spare.{used_by}
 use Rattle.asm_laws.specs.declared.behind.Behind.{Behind}
 use Rattle.asm_laws.specs.declared.behind.Behind.TheVariants.{Other, End, Turn}
 use Rattle.asm_laws.specs.inner.Emitted.{enclosing, jump, alone, choice, enclosed, returning, inside, is_end, again, looped, jump_when}
@@ -48,10 +49,13 @@ abbrev pub front_put : Whole → NodesT Where → Option (ℕ × ℕ)
 front_put W (Do o c) = word_put W o
 front_put W _ = None
 
--- what is done in one go where a word was put into a register before
+-- what is done in one go where a word was put into a register before that holds a place, and into any register
+abbrev pub front_word : Frame → (put : Option (ℕ × ℕ)) → NodesT Where → Option (ℕ × Option (Instr Imm) × Instr Imm)
+front_word F put (Do o c) = with_word F put o c
+front_word F put _ = None
+
 abbrev pub front_summed : Frame → (put : Option (ℕ × ℕ)) → NodesT Where → Option (ℕ × Option (Instr Imm) × Instr Imm)
-front_summed F put (Do o c) = with_word F put o c
-front_summed F put _ = None
+front_summed F put c = cond (is_spared F put) (with_known F put (used_by c)) (front_word F put c)
 
 abbrev pub ahead_items : Option (ℕ × Option (Instr Imm) × Instr Imm) → List AsmItem
 ahead_items None = []

@@ -15,22 +15,28 @@ abbrev pub no_spots : SpotsT
 no_spots = record { slots = []; locals = []; own = [] }
 
 abbrev pub frame : Scope → Frame
-frame s = record { slots = s.slots.now; locals = s.locals.now; size = s.size; depth = s.depth }
+frame s = record { slots = s.slots.now; locals = s.locals.now; size = s.size; depth = s.depth; registers = s.registers }
 
 -- the frame of a function
-abbrev pub frame_at : List SpotsT → List ℕ → ℕ → Frame
-frame_at at sizes g = record { slots = (get_or at g no_spots).slots; locals = (get_or at g no_spots).locals; size = get_or sizes g 0; depth = get_or sizes g 0 }
+abbrev pub frame_at : List SpotsT → (sizes registers : List ℕ) → ℕ → Frame
+frame_at at sizes registers g = record {
+  slots = (get_or at g no_spots).slots;
+  locals = (get_or at g no_spots).locals;
+  size = get_or sizes g 0;
+  depth = get_or sizes g 0;
+  registers = get_or registers g 8;
+}
 
-abbrev pub whole_of_parts : List (FunctionT Where) → List SpotsT → (sizes : List ℕ) → (names : List (List ℕ)) → (globals : List ℕ) → Whole
-whole_of_parts functions at sizes names globals = record {
-  frames = frame_at at sizes;
+abbrev pub whole_of_parts : List (FunctionT Where) → List SpotsT → (sizes registers : List ℕ) → (names : List (List ℕ)) → (globals : List ℕ) → Whole
+whole_of_parts functions at sizes registers names globals = record {
+  frames = frame_at at sizes registers;
   params = λ g. (get_or functions g no_function).params;
   names = names;
   globals = globals;
 }
 
 abbrev pub whole : Around → Whole
-whole a = whole_of_parts (map function a.functions.now) (map spots a.spots.now) a.sizes.now a.names.now a.globals.now
+whole a = whole_of_parts (map function a.functions.now) (map spots a.spots.now) a.sizes.now a.registers.now a.names.now a.globals.now
 
 -- the addresses of globals that stand one after another, where sums wrap
 abbrev pub wrapped_addresses : ℕ → List ℕ → List ℕ

@@ -17,9 +17,7 @@ use crate::finishing::{
     assign, call, choose_lazy, compound, convert_first, later, lead, member, step, take_structure,
 };
 use crate::kinds::{counts_up, gives_old, is_flag, is_place, lazy_of, tests_flag};
-use crate::last::{
-    convert_last, move_last, negate_last, put_last, step_last, test_last,
-};
+use crate::last::{convert_last, move_last, negate_last, put_last, step_last, test_last};
 use crate::operands::Operands;
 use crate::operating::operate;
 use crate::reading::Reading;

@@ -121,12 +121,7 @@ fn distance(out: &mut Vec<Node<u32>>, size: u32, k: Operands) -> Result<(), Memo
     put(out, Op::Two(Two::IDIV, k.target, k.target, k.scale))
 }
 
-fn subtract(
-    out: &mut Vec<Node<u32>>,
-    size: u32,
-    pointers: bool,
-    k: Operands,
-) -> Result<(), Memory>
+fn subtract(out: &mut Vec<Node<u32>>, size: u32, pointers: bool, k: Operands) -> Result<(), Memory>
     ensures { OnOk result (map node out.new.items ≡ map node out.old.items
         ++ with_pointer BinOp.Sub size pointers k.target k.first k.second k.scale) }
 {

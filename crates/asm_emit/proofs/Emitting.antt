@@ -43,6 +43,7 @@ whole_same x names = λ i. record (whole_of x names) {
     slots = (get_or x.spots g no_spots).slots;
     locals = (get_or x.spots g no_spots).locals;
     size = get_or x.frames g 0;
+    depth = get_or x.frames g 0;
     registers = held_at x.code.functions g i;
   };
 }

@@ -1,5 +1,5 @@
 -- What is known of a checked program, all together.
-use Rattle.std.proofs.Common.{◌≡◌, ℕ, zero, suc, ◌≤◌, List, [], ◌∷◌, length, map, slice_get, Option, Some, sym, ◌∙◌, subst, subst₂}
+use Rattle.std.proofs.Common.{◌≡◌, ℕ, zero, suc, ◌≤◌, List, [], ◌∷◌, length, map, slice_get, Some, sym, ◌∙◌, subst, subst₂}
 use Rattle.c_types.specs.Types.{LayoutT}
 use Rattle.c_types.specs.Typed.{TStmtT}
 use Rattle.c_types.specs.View.{tstmts}
@@ -10,8 +10,8 @@ use Rattle.c_facts.specs.Words.{NumbersAreWords}
 use Rattle.c_facts.specs.Known.{SizedHaveSizes}
 use Rattle.c_facts.specs.Start.{StartsAreGiven}
 use Rattle.mid_code.specs.Invariants.{AllOf}
-use Rattle.mid_code.specs.Code.{FunctionT, CodeT}
-use Rattle.lower_trees.specs.Shape.{Shape, shape}
+use Rattle.mid_code.specs.Code.{FunctionT}
+use Rattle.lower_trees.specs.Shape.{shape}
 use Rattle.lower_trees.specs.Parts.{first_param}
 use Rattle.lower_trees.specs.Lowered.{lowered}
 use Rattle.lower_trees.specs.ListedFunctions.{low_start, low_function, IsFew, AreFew}

@@ -1,5 +1,5 @@
 -- Bodies of lowered functions, as lists and by their definitions.
-use Rattle.std.proofs.Common.{◌≡◌, ℕ, ◌+◌, List, [], ◌∷◌, ◌++◌, length}
+use Rattle.std.proofs.Common.{◌≡◌, ℕ, ◌+◌, List, [], ◌∷◌, length}
 use Rattle.c_types.specs.Types.{Ty}
 use Rattle.c_types.specs.Programs.{TFunctionT}
 use Rattle.c_meaning.specs.Kinds.{is_structure}

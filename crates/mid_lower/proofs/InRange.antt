@@ -1,27 +1,24 @@
 -- A structure of a program that is a value has a word at least, and at most 4,096.
-use Rattle.std.proofs.Common.{◌≡◌, ℕ, zero, suc, ◌+◌, ◌*◌, ◌<◌, ◌≤◌, ◌^◌, ◌%◌, Bool, true, false, not, ◌||◌, ◌&&◌, leb, nat_le, List, [], ◌∷◌, ◌++◌, length, sum, slice_get, Option, Some, None, Result, Ok, Err, refl, sym, ap, ◌∙◌, subst, arith, if◌then◌else◌}
-use Rattle.std.specs.Option.{option_map_or}
+use Rattle.std.proofs.Common.{◌≡◌, ℕ, ◌*◌, ◌≤◌, ◌^◌, ◌%◌, Bool, true, false, nat_le, List, [], ◌∷◌, ◌++◌, length, sum, Option, Some, None, Ok, refl, ap, ◌∙◌, arith}
 use Rattle.std.proofs.Math.Nat.{mod-eq_of_lt}
 use Rattle.std.proofs.lemmas.List.Sums.{sum_by-cons}
 use Rattle.std.proofs.lemmas.Bool.Decides.{nat_tests}
-use Rattle.c_tree.specs.declared.operator.UnOp.{UnOp}
 use Rattle.c_tree.specs.declared.operator.UnOp.TheVariants as un
 use Rattle.c_types.specs.Types.{Ty, VoidY, IntY, BoolY, EnumY, StructY, UnionY, PointerY, ArrayY}
 use Rattle.c_types.specs.Typed.{TExprT, Typed, TKindT, NumberK, NullK, LiteralK, GlobalK, LocalK, UnaryK, BinaryK, AssignK, StepK, IndexK, MemberK, ArrowK, CastK, CallK, InK, OutK, WaitK, HaltK, CardK, TExprTs, NoX, MoreX, TInitT, OneI, TextI, ListI, TInitTs, NoI, MoreI, TVarT, TStmtT, BlockZ, EmptyZ, VarsZ, DoZ, IfZ, WhileZ, DoWhileZ, ForZ, SwitchZ, ReturnZ, BreakZ, ContinueZ, MaybeZ, NoneZ, SomeZ, TStmtTs, NoZ, MoreZ, TArmT, CaseB, DefaultB, StmtB, TArmTs, NoB, MoreB}
 use Rattle.c_types.specs.Sizes.{words_of}
-use Rattle.c_types.specs.Programs.{TFunctionT}
 use Rattle.c_rules.specs.declared.code.Code.{Code}
 use Rattle.c_rules.specs.declared.code.Code.TheVariants.{InfiniteType, TooLarge}
 use Rattle.c_rules.specs.Rules.{judged, demand, checked}
-use Rattle.c_rules.specs.Sizes.{is_whole, fits, value_limit}
+use Rattle.c_rules.specs.Sizes.{is_whole, fits}
 use Rattle.c_exprs.specs.Nodes.{value_rule, type_of_typed, is_place}
 use Rattle.c_check.specs.Reading.{result_rule}
 use Rattle.c_stmts.specs.Slots.{Slots, next_slot, later_slots, slots_of}
 use Rattle.c_stmts.specs.State.{Labels, no_labels, with_label}
-use Rattle.c_facts.specs.Sound.{Scene, IsKnown, IsSized, IsValue, IsTyped, IsKind, AreValues, IsTypedValue, FillsAs, FillEach, AreFilled, MayTest, MayValue, Returns, IsStatement, MayState, AreStatements, AreArms, IsArm}
+use Rattle.c_facts.specs.Sound.{Scene, IsKnown, IsSized, IsValue, IsTyped, IsKind, AreValues, FillsAs, FillEach, AreFilled, MayTest, MayValue, IsStatement, MayState, AreStatements, AreArms, IsArm}
 use Rattle.mid_code.specs.Invariants.{AllOf}
 use Rattle.lower_trees.specs.Shape.{Shape, words, result_of}
-use Rattle.lower_trees.specs.Counts.{one_size, read_sizes, with_read, unary_sizes, sizes, sizes_of, sizes_all, value_sizes, init_sizes, inits_sizes, vars_sizes, maybe_sizes, stmt_sizes, other_sizes, stmts_sizes, arm_sizes, arms_sizes}
+use Rattle.lower_trees.specs.Counts.{one_size, read_sizes, sizes, sizes_of, sizes_all, value_sizes, init_sizes, inits_sizes, vars_sizes, maybe_sizes, stmt_sizes, other_sizes, stmts_sizes, arm_sizes, arms_sizes}
 
 pub record InRange (n : ℕ) : Type 0 where
   pub least : 1 ≤ n

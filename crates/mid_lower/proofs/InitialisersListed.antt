@@ -1,5 +1,5 @@
 -- Lowered initialisers, as lists and by their definitions.
-use Rattle.std.proofs.Common.{◌≡◌, ℕ, zero, suc, ◌+◌, ◌-◌, ◌*◌, ◌%◌, ◌^◌, ◌<◌, ◌==◌, Bool, true, false, List, [], ◌∷◌, length, refl, sym, ap, ◌∙◌}
+use Rattle.std.proofs.Common.{ℕ, zero, suc, ◌+◌, ◌-◌, ◌*◌, ◌%◌, ◌^◌, ◌==◌, Bool, true, false, List, [], ◌∷◌, length, refl}
 use Rattle.c_types.specs.Types.{Ty, VoidY, IntY, BoolY, EnumY, StructY, UnionY, PointerY, ArrayY}
 use Rattle.c_types.specs.Typed.{TInitT, OneI, TextI, ListI, TInitTs, NoI, MoreI, TVarT}
 use Rattle.c_meaning.specs.Kinds.{is_structure}
@@ -12,8 +12,8 @@ use Rattle.lower_trees.specs.Parts.{from, to, item}
 use Rattle.lower_trees.specs.Counts.{init_temps, init_sizes, behind_address}
 use Rattle.lower_trees.specs.Initialisers as c
 use Rattle.lower_trees.specs.ListedInitialisers as l
-use Rattle.mid_lower.proofs.Onto.{Is, onto, seq, pick, plain, leaving, not_zero}
-use Rattle.mid_lower.proofs.PartsListed.{copied_is, zeroed_is, moved_by_is, converted_is}
+use Rattle.mid_lower.proofs.Onto.{Is, seq, pick, plain, leaving, not_zero}
+use Rattle.mid_lower.proofs.PartsListed.{copied_is, zeroed_is, converted_is}
 use Rattle.mid_lower.proofs.ExpressionsListed.{low_value_is}
 
 -- ---- parts

@@ -1,5 +1,5 @@
 -- The lowered code of a program is mid code.
-use Rattle.std.proofs.Common.{◌≡◌, ◌≢◌, ℕ, zero, suc, ◌+◌, ◌*◌, ◌<◌, ◌≤◌, ◌^◌, ◌==◌, Bool, true, false, not, ◌&&◌, ◌||◌, nat_le, List, [], ◌∷◌, ◌++◌, length, length-append, map, sum, sum_by, slice_get, Option, Some, None, option_map, Ok, refl, sym, ap, ◌∙◌, subst, arith, if◌then◌else◌}
+use Rattle.std.proofs.Common.{◌≡◌, ℕ, zero, suc, ◌+◌, ◌*◌, ◌<◌, ◌≤◌, ◌^◌, Bool, true, false, not, ◌&&◌, nat_le, List, [], ◌∷◌, ◌++◌, length, length-append, map, sum, sum_by, slice_get, Option, Some, None, option_map, Ok, refl, sym, ap, ◌∙◌, subst, arith, if◌then◌else◌}
 use Rattle.std.specs.Option.{option_map_or}
 use Rattle.std.specs.List.{list_all}
 use Rattle.std.proofs.lemmas.Bool.Decides.{nat_tests}
@@ -17,28 +17,28 @@ use Rattle.c_rules.specs.Rules.{judged, demand}
 use Rattle.c_rules.specs.Nodes.{given}
 use Rattle.c_rules.specs.Sizes.{is_whole, fits}
 use Rattle.c_exprs.specs.Faults.{text_words}
-use Rattle.c_check.specs.Reading.{same_types, result_rule, parameter_rule}
+use Rattle.c_check.specs.Reading.{same_types, parameter_rule}
 use Rattle.c_check.specs.Whole.{is_plain}
 use Rattle.c_meaning.specs.Kinds.{is_structure}
-use Rattle.c_facts.specs.Sound.{Scene, IsKnown, IsSized, IsSound, IsFunction, AreFunctions, AreCallObjects, AreFilled, FillsGlobals, FillGlobals, in_call, scene, wholes}
+use Rattle.c_facts.specs.Sound.{Scene, IsSized, IsSound, IsFunction, AreFunctions, AreCallObjects, FillGlobals, in_call, scene, wholes}
 use Rattle.c_facts.specs.Known.{HasSize}
-use Rattle.c_facts.specs.Start.{fills_with_given, gives_globals}
+use Rattle.c_facts.specs.Start.{gives_globals}
 use Rattle.c_facts.specs.Words.{NumbersAreWords, FunctionsInWords, FillInWords, StatementsInWords}
-use Rattle.mid_code.specs.Code.{NodesT, Stop, Block, FunctionT, CodeT}
+use Rattle.mid_code.specs.Code.{Stop, FunctionT}
 use Rattle.mid_code.specs.Invariants as mid
 use Rattle.mid_code.specs.Invariants.{IsMid, IsTemporary, AllOf, DifferFrom, AreDifferent, CallsNone, parameter_count}
-use Rattle.lower_trees.specs.Shape.{Shape, shape, words, literal_words, result_of}
-use Rattle.lower_trees.specs.Parts.{from, to, result_at, param_at, first_param, made}
-use Rattle.lower_trees.specs.Counts.{stmt_temps, stmts_temps, vars_temps, one_size, stmt_sizes, stmts_sizes, vars_sizes}
+use Rattle.lower_trees.specs.Shape.{Shape, shape, words, literal_words}
+use Rattle.lower_trees.specs.Parts.{from, to, result_at, param_at, first_param}
+use Rattle.lower_trees.specs.Counts.{stmts_temps, vars_temps, one_size, stmts_sizes, vars_sizes}
 use Rattle.lower_trees.specs.Statements.{ToEnd, low_stmts}
-use Rattle.lower_trees.specs.Lowered.{args_from, with_result, received, all_received, first_of, low_body, low_function, low_start, lowered}
+use Rattle.lower_trees.specs.Lowered.{args_from, with_result, received, all_received, first_of, low_function, low_start, lowered}
 use Rattle.mid_lower.proofs.ProgramsListed.{inits_nodes}
 use Rattle.mid_lower.proofs.Kept.{Site, Good, Keeps, good_stop, both, alone, none, either_kept, block_kept, fixed, k_move, k_local, k_store, words_small, copied_kept, made_kept}
-use Rattle.mid_lower.proofs.KeptExpressions.{Linked, args_length}
+use Rattle.mid_lower.proofs.KeptExpressions.{Linked}
 use Rattle.mid_lower.proofs.KeptStatements.{objects_there, vars_kept, stmts_kept}
 use Rattle.mid_lower.proofs.Counted.{stmts_few, stmts_sizes_few}
 use Rattle.mid_lower.proofs.InRange.{InRange, Ranged, stmts_ranged, ranged_sum, ranged_least, result_ranged}
-use Rattle.mid_lower.proofs.StartKept.{Quiet, and_first, and_second, vars_quiet, vars_none}
+use Rattle.mid_lower.proofs.StartKept.{and_first, and_second, vars_quiet, vars_none}
 
 -- what is known of a program
 pub record Known (p : ProgramT) : Type 0 where

@@ -1,5 +1,5 @@
 -- Parts of lowered code keep code what mid code has to be: what it names is there.
-use Rattle.std.proofs.Common.{◌≡◌, ℕ, zero, suc, ◌+◌, ◌<◌, ◌≤◌, ◌^◌, ◌%◌, ◌==◌, Bool, true, false, List, [], ◌∷◌, length, Option, Some, None, refl, arith, if◌then◌else◌}
+use Rattle.std.proofs.Common.{ℕ, zero, suc, ◌<◌, ◌≤◌, ◌^◌, ◌==◌, Bool, true, false, List, [], ◌∷◌, length, Option, Some, None, refl, arith, if◌then◌else◌}
 use Rattle.std.proofs.Math.Nat.{mod-lt}
 use Rattle.c_tree.specs.declared.operator.BinOp.{BinOp}
 use Rattle.c_tree.specs.declared.operator.BinOp.TheVariants as bin
@@ -9,10 +9,10 @@ use Rattle.v32_isa.specs.declared.instruction.One.{One}
 use Rattle.v32_isa.specs.declared.instruction.One.TheVariants.{CIB, ISGN, BNOT}
 use Rattle.v32_isa.specs.declared.instruction.Two.{Two}
 use Rattle.v32_isa.specs.declared.instruction.Two.TheVariants.{IEQ, INE, IGT, IGE, ILT, ILE, AND, OR, XOR, SHL, IADD, ISUB, IMUL, IDIV, IMOD}
-use Rattle.mid_code.specs.Code.{OpT, ConstO, NullO, MoveO, OneO, TwoO, GlobalO, LocalO, LiteralO, CardO, StepO, ApartO, PtrTestO, LoadO, StoreO, FreshO, InO, OutO, WaitO, HaltO, NodesT, Stop, Do, Call, Choose, Block, Loop, Leave, Again, Return, CodeT, uses, target, maybe}
+use Rattle.mid_code.specs.Code.{OpT, ConstO, NullO, MoveO, OneO, TwoO, LocalO, StepO, ApartO, PtrTestO, LoadO, StoreO, FreshO, NodesT, Stop, Do, Call, Choose, Block, Loop, Leave, Again, Return, CodeT, uses, target, maybe}
 use Rattle.mid_code.specs.Invariants.{IsOne, IsTest, IsOp, IsCall, IsLoop, AreNodes, AllOf, Names}
 use Rattle.lower_trees.specs.Shape.{Shape, words}
-use Rattle.lower_trees.specs.Parts.{Nodes, count, one, cell, from, to, other, copy_turn, zero_turn, copied, zeroed, moved_by, structure_read, as_flag, converted, stored, with_word, stepped, stepped_back, distant, with_pointer, operated_on, operated, one_more, one_less, tested_as, negated_as, made}
+use Rattle.lower_trees.specs.Parts.{Nodes, count, one, cell, from, to, other, copy_turn, zero_turn, copied, zeroed, moved_by, structure_read, as_flag, converted, stored, with_word, stepped, with_pointer, operated_on, operated, one_more, one_less, tested_as, negated_as, made}
 
 -- a function of a program: its locals and its temporaries, which are sixteen at least
 pub record Site : Type 0 where

@@ -16,15 +16,15 @@ use Rattle.c_meaning.specs.Kinds.{type_of, is_structure, decayed, pointed}
 use Rattle.c_facts.specs.Sound.{Scene, IsTyped, IsKind, AreValues, Calls, text_type}
 use Rattle.c_facts.specs.Words.{InWords, KindInWords, AllInWords}
 use Rattle.v32_isa.specs.declared.instruction.One.TheVariants.{ISGN, NOT}
-use Rattle.mid_code.specs.Code.{LiteralO, GlobalO, InO, OutO, WaitO, HaltO, CardO, CodeT, Stop}
+use Rattle.mid_code.specs.Code.{LiteralO, GlobalO, InO, OutO, WaitO, HaltO, CardO, Stop}
 use Rattle.mid_code.specs.Invariants.{AllOf, parameter_count}
 use Rattle.lower_trees.specs.Shape.{Shape, words, literal_words, params_of, result_of}
 use Rattle.lower_trees.specs.Flags.{is_flag, tests_flag}
 use Rattle.lower_trees.specs.Parts.{as_flag, stepped, operated, result_at, first_param}
 use Rattle.lower_trees.specs.Counts.{with_place, unary_temps, size_temps, temps, temps_of, temps_all, value_temps, one_size, read_sizes, with_read, unary_sizes, sizes, sizes_of, sizes_all, value_sizes}
-use Rattle.lower_trees.specs.Expressions.{Low, read, value_of, value, test, unary, binary, assign, step_made, stepped_to, step_taken, index, member_of, called, spots, converted_to, later_types, second, beyond, size_at, behind_place, is_void, low, low_kind, low_args, low_value, low_test}
+use Rattle.lower_trees.specs.Expressions.{Low, value_of, value, test, unary, binary, assign, step_made, stepped_to, step_taken, member_of, called, spots, converted_to, later_types, second, beyond, size_at, behind_place, low, low_kind, low_args, low_value, low_test}
 use Rattle.lower_trees.specs.Lowered.{args_from, with_result}
-use Rattle.mid_lower.proofs.Kept.{Site, Good, Keeps, good_stop, both, alone, none, either_kept, op_kept, call_kept, choose_kept, k_const, k_null, k_one, k_local, k_fresh, k_load, k_step, k_store, words_small, moved_by_kept, structure_read_kept, as_flag_kept, converted_kept, stored_kept, stepped_kept, operated_kept, one_more_kept, one_less_kept, tested_as_kept, negated_as_kept}
+use Rattle.mid_lower.proofs.Kept.{Site, Good, Keeps, both, alone, none, either_kept, op_kept, call_kept, choose_kept, k_const, k_null, k_one, k_local, k_fresh, k_load, k_step, k_store, words_small, moved_by_kept, structure_read_kept, as_flag_kept, converted_kept, stored_kept, stepped_kept, operated_kept, one_more_kept, one_less_kept, tested_as_kept, negated_as_kept}
 
 -- the code of a program, and what its trees name
 pub record Linked (s : Site) (z : Scene) (h : Shape) : Type 0 where

@@ -1,26 +1,26 @@
 -- Lowered initialisers and statements of a program keep code what mid code has to be.
-use Rattle.std.proofs.Common.{◌≡◌, ℕ, zero, suc, ◌+◌, ◌-◌, ◌*◌, ◌%◌, ◌<◌, ◌≤◌, ◌^◌, Bool, true, false, ◌&&◌, List, [], ◌∷◌, ◌++◌, length, length-append, slice_get, Option, Some, None, refl, sym, ap, ◌∙◌, arith, if◌then◌else◌}
+use Rattle.std.proofs.Common.{◌≡◌, ℕ, zero, suc, ◌+◌, ◌-◌, ◌*◌, ◌%◌, ◌<◌, ◌≤◌, ◌^◌, Bool, true, false, ◌&&◌, List, [], ◌∷◌, ◌++◌, length, length-append, slice_get, Option, Some, None, refl, ◌∙◌, arith}
 use Rattle.std.proofs.Math.Nat.{mod-lt}
 use Rattle.c_types.specs.Types.{Ty, VoidY, IntY, BoolY, EnumY, StructY, UnionY, PointerY, ArrayY}
-use Rattle.c_types.specs.Typed.{TExprT, TInitT, OneI, TextI, ListI, TInitTs, NoI, MoreI, TVarT, TStmtT, BlockZ, EmptyZ, VarsZ, DoZ, IfZ, WhileZ, DoWhileZ, ForZ, SwitchZ, ReturnZ, BreakZ, ContinueZ, MaybeZ, NoneZ, SomeZ, TStmtTs, NoZ, MoreZ, TArmT, CaseB, DefaultB, StmtB, TArmTs, NoB, MoreB}
+use Rattle.c_types.specs.Typed.{TExprT, TInitT, OneI, TextI, ListI, TInitTs, NoI, MoreI, TVarT, TStmtT, BlockZ, EmptyZ, VarsZ, DoZ, IfZ, WhileZ, DoWhileZ, ForZ, SwitchZ, ReturnZ, BreakZ, ContinueZ, MaybeZ, NoneZ, SomeZ, TStmtTs, NoZ, MoreZ, CaseB, DefaultB, StmtB, TArmTs, NoB, MoreB}
 use Rattle.c_types.specs.Nodes.{statement_nodes, maybe_statement_nodes, statements_nodes, arms_nodes}
 use Rattle.c_meaning.specs.Kinds.{is_structure}
 use Rattle.c_meaning.specs.Parts.{part_type}
 use Rattle.c_stmts.specs.Slots.{Slots, next_slot, later_slots, slots_of}
 use Rattle.c_stmts.specs.State.{Labels, no_labels, with_label}
 use Rattle.c_rules.specs.Kinds.{is_int}
-use Rattle.c_facts.specs.Sound.{Scene, takes_text, FillsAs, FillEach, IsObject, AreFilled, AreObjects, IsTypedValue, IsTest, MayTest, MayValue, Returns, IsStatement, MayState, AreStatements, AreArms}
+use Rattle.c_facts.specs.Sound.{Scene, takes_text, FillsAs, FillEach, IsObject, AreFilled, AreObjects, MayTest, MayValue, IsStatement, MayState, AreStatements, AreArms}
 use Rattle.c_facts.specs.Words.{FillsInWords, AllFillInWords, VariablesInWords, MaybeInWords, StatementInWords, MaybeStatementInWords, StatementsInWords, ArmsInWords}
 use Rattle.v32_isa.specs.declared.instruction.Two.TheVariants.{IEQ, ISUB}
-use Rattle.mid_code.specs.Code.{NodesT, Stop, GlobalO, LocalO, LiteralO, Again, Choose, Block}
+use Rattle.mid_code.specs.Code.{GlobalO, LiteralO}
 use Rattle.mid_code.specs.Invariants.{IsLoop, AllOf}
 use Rattle.lower_trees.specs.Shape.{Shape, words, literal_words}
 use Rattle.lower_trees.specs.Flags.{is_flag}
-use Rattle.lower_trees.specs.Parts.{Nodes, one, from, to, other, item, object, result_at}
-use Rattle.lower_trees.specs.Counts.{value_temps, init_temps, inits_temps, behind_address, vars_temps, maybe_temps, stmt_temps, other_temps, stmts_temps, arms_temps, value_sizes, init_sizes, inits_sizes, vars_sizes, maybe_sizes, stmt_sizes, other_sizes, stmts_sizes, arms_sizes}
-use Rattle.lower_trees.specs.Expressions.{second, beyond, low_value, low_test}
+use Rattle.lower_trees.specs.Parts.{Nodes, one, from, to, other, item, result_at}
+use Rattle.lower_trees.specs.Counts.{init_temps, inits_temps, behind_address, vars_temps, maybe_temps, stmt_temps, other_temps, stmts_temps, arms_temps, value_sizes, init_sizes, inits_sizes, vars_sizes, maybe_sizes, stmt_sizes, other_sizes, stmts_sizes, arms_sizes}
+use Rattle.lower_trees.specs.Expressions.{second, beyond}
 use Rattle.lower_trees.specs.Initialisers.{part_at, cell_filled, part_filled, part_zeroed, low_text, low_rest, low_init, low_inits, address_of, object_to, low_vars}
-use Rattle.lower_trees.specs.Statements.{Jump, ToEnd, ToTurn, further, jump, low_chosen, low_dropped, turns, labels_before_default, low_match, low_label, returned, low_stmt, low_other, low_stmts, low_arms, low_group}
+use Rattle.lower_trees.specs.Statements.{Jump, ToEnd, ToTurn, further, jump, low_chosen, low_dropped, labels_before_default, low_match, low_label, returned, low_stmt, low_other, low_stmts, low_arms, low_group}
 use Rattle.mid_lower.proofs.Kept.{Site, Good, Keeps, good_stop, both, alone, none, either_kept, op_kept, choose_kept, block_kept, loop_kept, leave_kept, again_kept, return_kept, fixed, k_const, k_two, k_move, k_local, k_store, words_small, moved_by_kept, copied_kept, zeroed_kept, converted_kept, made_kept}
 use Rattle.mid_lower.proofs.KeptExpressions.{Linked, there, same_option, low_value_kept, low_test_kept}
 

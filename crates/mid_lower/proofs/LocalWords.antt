@@ -1,12 +1,12 @@
 -- The locals of a lowered function have at most the words of its objects, and those of its expressions that are structures or unions.
-use Rattle.std.proofs.Common.{◌≡◌, ℕ, ◌+◌, ◌≤◌, Bool, true, false, List, [], ◌∷◌, ◌++◌, sum, slice_get, Option, Some, None, refl, sym, ap, ◌∙◌, subst, arith, if◌then◌else◌}
+use Rattle.std.proofs.Common.{◌≡◌, ℕ, ◌+◌, ◌≤◌, Bool, true, false, List, [], ◌∷◌, ◌++◌, sum, slice_get, Option, Some, None, refl, ap, ◌∙◌, arith, if◌then◌else◌}
 use Rattle.std.specs.Option.{option_map_or}
 use Rattle.std.proofs.lemmas.List.Sums.{sum_by-cons}
 use Rattle.c_tree.specs.declared.operator.UnOp.TheVariants as un
 use Rattle.c_types.specs.Types.{Ty, VoidY}
 use Rattle.c_types.specs.Typed.{TExprT, Typed, TKindT, NumberK, NullK, LiteralK, GlobalK, LocalK, UnaryK, BinaryK, AssignK, StepK, IndexK, MemberK, ArrowK, CastK, CallK, InK, OutK, WaitK, HaltK, CardK, TExprTs, NoX, MoreX, TInitT, OneI, TextI, ListI, TInitTs, NoI, MoreI, TVarT, TStmtT, BlockZ, EmptyZ, VarsZ, DoZ, IfZ, WhileZ, DoWhileZ, ForZ, SwitchZ, ReturnZ, BreakZ, ContinueZ, MaybeZ, NoneZ, SomeZ, TStmtTs, NoZ, MoreZ, TArmT, CaseB, DefaultB, StmtB, TArmTs, NoB, MoreB}
 use Rattle.c_types.specs.Programs.{TFunctionT, ProgramT}
-use Rattle.c_exprs.specs.Nodes.{is_place_kind, is_place}
+use Rattle.c_exprs.specs.Nodes.{is_place_kind}
 use Rattle.c_meaning.specs.Kinds.{is_structure}
 use Rattle.c_meaning.specs.Setting.{setting}
 use Rattle.c_meaning.specs.Frames.{over, over_kind, over_all, over_maybe, over_init, over_inits, over_vars, over_statement, over_other, over_statements, over_arm, over_arms, structure_words}
@@ -15,7 +15,7 @@ use Rattle.c_stmts.specs.State.{Labels, no_labels, with_label}
 use Rattle.c_facts.specs.Sound.{Scene, IsTyped, IsKind, Calls, AreValues, FillsAs, FillEach, AreFilled, MayTest, MayValue, IsStatement, MayState, AreStatements, AreArms, IsArm, IsFunction, in_call, scene}
 use Rattle.lower_trees.specs.Shape.{Shape, shape, words, result_of}
 use Rattle.lower_trees.specs.Lowered.{low_function}
-use Rattle.lower_trees.specs.Counts.{one_size, read_sizes, with_read, unary_sizes, sizes, sizes_of, sizes_all, value_sizes, init_sizes, inits_sizes, vars_sizes, maybe_sizes, stmt_sizes, other_sizes, stmts_sizes, arm_sizes, arms_sizes}
+use Rattle.lower_trees.specs.Counts.{one_size, read_sizes, sizes, sizes_of, sizes_all, value_sizes, init_sizes, inits_sizes, vars_sizes, maybe_sizes, stmt_sizes, other_sizes, stmts_sizes, arm_sizes, arms_sizes}
 
 -- the words of a structure or union that an expression is
 abbrev own : Shape → TKindT → Ty → ℕ

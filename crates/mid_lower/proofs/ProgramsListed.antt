@@ -6,7 +6,7 @@ use Rattle.c_types.specs.Typed.{TStmtT, TStmtTs}
 use Rattle.c_types.specs.Programs.{TFunctionT, ProgramT}
 use Rattle.c_types.specs.Nodes.{statement_nodes, statements_nodes, function_nodes, program_nodes}
 use Rattle.c_types.specs.View.{tstmts}
-use Rattle.mid_code.specs.Code.{FunctionT, CodeT}
+use Rattle.mid_code.specs.Code.{FunctionT}
 use Rattle.lower_trees.specs.Shape.{Shape, shape}
 use Rattle.lower_trees.specs.Parts.{first_param}
 use Rattle.lower_trees.specs.Counts.{stmts_temps, stmts_sizes}

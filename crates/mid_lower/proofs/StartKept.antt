@@ -1,5 +1,5 @@
 -- The start of a program: what fills the globals makes no locals and calls nothing.
-use Rattle.std.proofs.Common.{◌≡◌, ◌⊎◌, inl, inr, ℕ, zero, suc, ◌+◌, ◌-◌, ◌*◌, ◌%◌, ◌^◌, ◌==◌, Bool, true, false, ◌&&◌, ◌||◌, not, List, [], ◌∷◌, ◌++◌, length, slice_get, Option, Some, None, option_map, is_some, refl, sym, ap, ◌∙◌, if◌then◌else◌}
+use Rattle.std.proofs.Common.{◌≡◌, ◌⊎◌, inl, inr, ℕ, zero, suc, ◌+◌, ◌-◌, ◌*◌, ◌%◌, ◌^◌, ◌==◌, Bool, true, false, ◌&&◌, ◌||◌, List, [], ◌∷◌, ◌++◌, length, slice_get, Option, Some, None, option_map, is_some, refl, ap, ◌∙◌, if◌then◌else◌}
 use Rattle.std.specs.List.{list_all}
 use Rattle.c_tree.specs.declared.span.Span.{Span}
 use Rattle.c_tree.specs.declared.operator.UnOp.{UnOp}
@@ -8,19 +8,19 @@ use Rattle.c_tree.specs.declared.operator.BinOp.{BinOp}
 use Rattle.c_tree.specs.declared.operator.BinOp.TheVariants as bin
 use Rattle.c_types.specs.Types.{Ty, VoidY, IntY, BoolY, EnumY, StructY, UnionY, PointerY, ArrayY}
 use Rattle.c_types.specs.Typed.{TExprT, Typed, TKindT, NumberK, NullK, LiteralK, GlobalK, LocalK, UnaryK, BinaryK, AssignK, StepK, IndexK, MemberK, ArrowK, CastK, CallK, InK, OutK, WaitK, HaltK, CardK, TInitT, OneI, TextI, ListI, TInitTs, NoI, MoreI, TVarT}
-use Rattle.c_exprs.specs.Nodes.{is_place, constant, kind_of_typed}
+use Rattle.c_exprs.specs.Nodes.{is_place, constant}
 use Rattle.c_meaning.specs.Kinds.{type_of, is_structure, decayed, pointed, is_pointer}
 use Rattle.c_meaning.specs.Parts.{part_type}
 use Rattle.c_stmts.specs.Slots.{Slots, next_slot, later_slots, slots_of, is_null_or_text}
-use Rattle.c_facts.specs.Sound.{Scene, IsTyped, IsKind, IsTypedValue, FillsAs, FillEach, AreFilled, text_type}
+use Rattle.c_facts.specs.Sound.{Scene, IsTyped, IsKind, FillsAs, FillEach, AreFilled, text_type}
 use Rattle.c_facts.specs.Start.{is_reckoned, is_reckoned_kind, is_given, fills_with_given, all_fill_with_given}
-use Rattle.mid_code.specs.Code.{NodesT, Stop, Do, Choose}
+use Rattle.mid_code.specs.Code.{Stop}
 use Rattle.mid_code.specs.Invariants.{CallsNone}
 use Rattle.lower_trees.specs.Shape.{Shape, words, literal_words}
 use Rattle.lower_trees.specs.Flags.{is_flag, tests_flag}
-use Rattle.lower_trees.specs.Parts.{Nodes, item, copied, zeroed, moved_by, as_flag, converted, with_word, stepped, with_pointer, operated_on, operated, tested_as, negated_as}
+use Rattle.lower_trees.specs.Parts.{Nodes, item, copied, zeroed, as_flag, converted, with_word, stepped, with_pointer, operated_on, operated, tested_as, negated_as}
 use Rattle.lower_trees.specs.Counts.{read_sizes, unary_sizes, sizes, value_sizes, init_temps, init_sizes, inits_sizes, vars_sizes, behind_address}
-use Rattle.lower_trees.specs.Expressions.{value_of, value, test, unary, binary, second, beyond, size_at, low, low_kind, low_value}
+use Rattle.lower_trees.specs.Expressions.{value_of, value, test, unary, binary, second, beyond, size_at, low, low_value}
 use Rattle.lower_trees.specs.Initialisers.{part_at, cell_filled, part_filled, part_zeroed, low_text, low_rest, low_init, low_inits, address_of, object_to, low_vars}
 
 -- ---- a part that calls nothing

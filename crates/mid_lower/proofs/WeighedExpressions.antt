@@ -1,22 +1,22 @@
 -- What lowered expressions weigh: at most 128 a node, and 16 less.
-use Rattle.std.proofs.Common.{◌≡◌, ℕ, ◌+◌, ◌*◌, ◌≤◌, Bool, true, false, List, [], ◌∷◌, ◌++◌, length, length-append, Option, Some, None, refl, arith, if◌then◌else◌}
+use Rattle.std.proofs.Common.{ℕ, ◌+◌, ◌*◌, ◌≤◌, Bool, true, false, List, [], ◌∷◌, ◌++◌, length, Option, Some, None, arith}
 use Rattle.c_tree.specs.declared.operator.UnOp.TheVariants as un
 use Rattle.c_tree.specs.declared.operator.BinOp.{BinOp}
 use Rattle.c_types.specs.Types.{Ty, VoidY, IntY, BoolY, EnumY, StructY, UnionY, PointerY, ArrayY}
 use Rattle.c_types.specs.Typed.{TExprT, Typed, TKindT, NumberK, NullK, LiteralK, GlobalK, LocalK, UnaryK, BinaryK, AssignK, StepK, IndexK, MemberK, ArrowK, CastK, CallK, InK, OutK, WaitK, HaltK, CardK, TExprTs, NoX, MoreX}
 use Rattle.c_types.specs.Nodes.{typed_nodes, kind_nodes, all_typed_nodes}
-use Rattle.c_exprs.specs.Nodes.{is_place, is_place_kind}
-use Rattle.c_meaning.specs.Kinds.{type_of, is_structure, decayed, pointed}
+use Rattle.c_exprs.specs.Nodes.{is_place_kind}
+use Rattle.c_meaning.specs.Kinds.{type_of, decayed, pointed}
 use Rattle.v32_isa.specs.declared.instruction.One.TheVariants.{ISGN, NOT}
 use Rattle.mid_code.specs.declared.node.Op.TheVariants as o
 use Rattle.mid_code.specs.Functions.{DoN}
 use Rattle.lower_trees.specs.Shape.{Shape, words, params_of, result_of}
 use Rattle.lower_trees.specs.Flags.{is_flag, tests_flag}
 use Rattle.lower_trees.specs.Counts.{sizes, sizes_all}
-use Rattle.lower_trees.specs.Expressions.{second, beyond, size_at, behind_place, spots, later_types, is_void}
-use Rattle.lower_trees.specs.ListedParts.{Listing, moved_by, structure_read, as_flag, converted, stored, stepped, operated, one_more, one_less, tested_as, negated_as}
-use Rattle.lower_trees.specs.ListedExpressions.{Lists, read_place, value_of, value, test, second_test, lazy_of, lazy_choice, binary_by, gives_old, counts_up, step_made, stepped_to, step_by, member_of, led, called_with, called, converted_to, low, low_kind, low_args, low_value, low_test}
-use Rattle.mid_lower.proofs.Weights.{weigh, both, three, four, moved_weighs, read_weighs, flag_weighs, converted_weighs, stored_weighs, stepped_weighs, operated_weighs, more_weighs, less_weighs, tested_weighs, negated_weighs}
+use Rattle.lower_trees.specs.Expressions.{second, beyond, size_at, behind_place, spots, later_types}
+use Rattle.lower_trees.specs.ListedParts.{Listing, moved_by, structure_read, as_flag, converted, stored, stepped, operated, tested_as, negated_as}
+use Rattle.lower_trees.specs.ListedExpressions.{Lists, read_place, value_of, second_test, lazy_of, lazy_choice, binary_by, gives_old, counts_up, step_made, stepped_to, step_by, member_of, called, converted_to, low, low_kind, low_args, low_value, low_test}
+use Rattle.mid_lower.proofs.Weights.{weigh, both, three, four, read_weighs, flag_weighs, converted_weighs, stored_weighs, stepped_weighs, operated_weighs, more_weighs, less_weighs, tested_weighs, negated_weighs}
 
 -- reading a place weighs so much at most
 abbrev pub extra : Bool → ℕ

@@ -1,18 +1,17 @@
 -- What lowered initialisers, statements and functions weigh: at most 128 a node.
-use Rattle.std.proofs.Common.{◌≡◌, ℕ, suc, ◌+◌, ◌*◌, ◌≤◌, ◌==◌, ◌%◌, ◌^◌, ◌-◌, Bool, true, false, is_some, List, [], ◌∷◌, ◌++◌, length, map, sum_by, Option, Some, None, refl, arith, subst, if◌then◌else◌}
+use Rattle.std.proofs.Common.{ℕ, suc, ◌+◌, ◌*◌, ◌≤◌, ◌==◌, ◌%◌, ◌^◌, ◌-◌, Bool, true, false, is_some, List, [], ◌∷◌, ◌++◌, length, map, sum_by, Option, Some, None, refl, arith, subst, if◌then◌else◌}
 use Rattle.std.proofs.lemmas.List.Sums.{sum_by-cons}
 use Rattle.c_types.specs.Types.{Ty, VoidY, IntY, BoolY, EnumY, StructY, UnionY, PointerY, ArrayY}
-use Rattle.c_types.specs.Typed.{TExprT, TInitT, OneI, TextI, ListI, TInitTs, NoI, MoreI, TVarT, TStmtT, BlockZ, EmptyZ, VarsZ, DoZ, IfZ, WhileZ, DoWhileZ, ForZ, SwitchZ, ReturnZ, BreakZ, ContinueZ, MaybeZ, NoneZ, SomeZ, TStmtTs, NoZ, MoreZ, TArmT, CaseB, DefaultB, StmtB, TArmTs, NoB, MoreB}
-use Rattle.c_types.specs.Nodes.{typed_nodes, filled_nodes, all_filled_nodes, variables_nodes, maybe_typed_nodes, statement_nodes, maybe_statement_nodes, statements_nodes, arms_nodes, function_nodes, program_nodes}
+use Rattle.c_types.specs.Typed.{TExprT, TInitT, OneI, TextI, ListI, TInitTs, NoI, MoreI, TVarT, TStmtT, BlockZ, EmptyZ, VarsZ, DoZ, IfZ, WhileZ, DoWhileZ, ForZ, SwitchZ, ReturnZ, BreakZ, ContinueZ, MaybeZ, NoneZ, SomeZ, TStmtTs, NoZ, MoreZ, CaseB, DefaultB, StmtB, TArmTs, NoB, MoreB}
+use Rattle.c_types.specs.Nodes.{filled_nodes, all_filled_nodes, variables_nodes, maybe_typed_nodes, statement_nodes, maybe_statement_nodes, statements_nodes, arms_nodes, function_nodes, program_nodes}
 use Rattle.c_types.specs.Programs.{TFunctionT, ProgramT}
 use Rattle.c_types.specs.View.{tstmts}
-use Rattle.c_meaning.specs.Kinds.{type_of, is_structure, decayed}
+use Rattle.c_meaning.specs.Kinds.{is_structure}
 use Rattle.c_meaning.specs.Parts.{part_type}
 use Rattle.v32_isa.specs.declared.instruction.Two.TheVariants.{IEQ}
-use Rattle.mid_code.specs.Code.{FunctionT}
 use Rattle.mid_code.specs.Runs.{nodes_weight, function_weight, weight}
 use Rattle.mid_code.specs.declared.node.Op.TheVariants as o
-use Rattle.mid_code.specs.Functions.{DoN, ChooseN, BlockN, LoopN, LeaveN, AgainN, ReturnN, listed}
+use Rattle.mid_code.specs.Functions.{DoN, ChooseN, BlockN, LeaveN, AgainN, ReturnN, listed}
 use Rattle.lower_trees.specs.Shape.{Shape, shape, words, literal_words}
 use Rattle.lower_trees.specs.Flags.{is_flag}
 use Rattle.lower_trees.specs.Parts.{one, from, to, item, other, result_at, param_at, first_param}
@@ -21,11 +20,11 @@ use Rattle.lower_trees.specs.Expressions.{second, beyond}
 use Rattle.lower_trees.specs.Initialisers.{address_of}
 use Rattle.lower_trees.specs.Statements.{Jump, ToEnd, ToTurn, further, labels_before_default}
 use Rattle.lower_trees.specs.Lowered.{first_of, lowered}
-use Rattle.lower_trees.specs.ListedParts.{Listing, copied, zeroed, moved_by, converted, tested_as, made}
+use Rattle.lower_trees.specs.ListedParts.{Listing, copied, zeroed, moved_by, converted, made}
 use Rattle.lower_trees.specs.ListedExpressions.{low_value, low_test}
 use Rattle.lower_trees.specs.ListedInitialisers.{part_at, cell_filled, part_filled, part_zeroed, low_text, low_rest, low_init, low_inits, object_to, low_vars}
-use Rattle.lower_trees.specs.ListedStatements.{jump, tested_first, chosen_by, low_chosen, low_dropped, turn_of, turns, low_match, low_label, returned, low_stmt, low_other, low_stmts, low_arms, low_group}
-use Rattle.lower_trees.specs.ListedFunctions.{received, all_received, low_body, low_function, low_start}
+use Rattle.lower_trees.specs.ListedStatements.{jump, tested_first, chosen_by, low_dropped, turn_of, turns, low_match, low_label, returned, low_stmt, low_other, low_stmts, low_arms, low_group}
+use Rattle.lower_trees.specs.ListedFunctions.{received, all_received, low_function, low_start}
 use Rattle.mid_lower.proofs.Weights.{weigh, both, three, four, copied_weighs, converted_weighs, made_weighs, zeroed_weighs}
 use Rattle.mid_lower.proofs.WeighedExpressions.{value_weighs, test_weighs}
 use Rattle.mid_lower.proofs.ProgramsListed.{inits_nodes, lowered_by}

@@ -1,9 +1,9 @@
 -- What the lists of lowered code weigh.
-use Rattle.std.proofs.Common.{◌≡◌, ℕ, zero, suc, ◌+◌, ◌*◌, ◌≤◌, ◌==◌, Bool, true, false, List, [], ◌∷◌, ◌++◌, length, Option, Some, None, refl, sym, ap, ◌∙◌, arith, if◌then◌else◌}
+use Rattle.std.proofs.Common.{◌≡◌, ℕ, ◌+◌, ◌≤◌, ◌==◌, Bool, true, false, List, [], ◌∷◌, ◌++◌, Option, Some, None, refl, arith, if◌then◌else◌}
 use Rattle.c_tree.specs.declared.operator.BinOp.{BinOp}
 use Rattle.c_tree.specs.declared.operator.BinOp.TheVariants as bin
 use Rattle.c_types.specs.Types.{Ty, VoidY, IntY, BoolY, EnumY, StructY, UnionY, PointerY, ArrayY}
-use Rattle.c_meaning.specs.Kinds.{is_structure, decayed, pointed, is_pointer}
+use Rattle.c_meaning.specs.Kinds.{decayed, pointed, is_pointer}
 use Rattle.mid_code.specs.Code.{NodesT, Stop}
 use Rattle.mid_code.specs.Runs.{nodes_weight}
 use Rattle.mid_code.specs.declared.node.Op.{Op}

@@ -1,5 +1,5 @@
-use Rattle.std.proofs.Common.{rules, ◌≡◌, ◌≤◌, ℕ, List, Some, length, slice_get, map, sym, ap, ◌∙◌, subst}
-use Rattle.c_types.specs.View.{layout, function, tstmt, tstmts}
+use Rattle.std.proofs.Common.{rules, ◌≡◌, ◌≤◌, ℕ, Some, length, slice_get, map, sym, ap, ◌∙◌, subst}
+use Rattle.c_types.specs.View.{layout, function, tstmt}
 use Rattle.c_types.specs.Programs.{TFunctionT}
 use Rattle.c_types.specs.Nodes.{program_nodes}
 use Rattle.c_facts.specs.Sound.{IsSound}
@@ -7,11 +7,8 @@ use Rattle.c_facts.specs.Words.{NumbersAreWords}
 use Rattle.c_facts.specs.Known.{SizedHaveSizes}
 use Rattle.c_facts.specs.Start.{StartsAreGiven}
 use Rattle.c_check.specs.View.{program}
-use Rattle.mid_code.specs.Code.{FunctionT}
 use Rattle.mid_code.specs.Functions.{function as function_of}
 use Rattle.mid_code.specs.Invariants.{IsMid}
-use Rattle.mid_code.specs.Whole.{mid}
-use Rattle.lower_trees.specs.ListedFunctions.{low_start, low_function}
 use Rattle.mid_lower.proofs.IsMidCode.{Known, lowered_is_mid}
 use Rattle.mid_lower.specs.LoweredFrom.{IsLoweredFrom}
 use Rattle.mid_lower.proofs.LoweredParts.{lowered_from}

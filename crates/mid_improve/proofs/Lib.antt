@@ -1,7 +1,6 @@
 pub mod Slotted
 pub mod Tabled
 pub mod Joined
-pub mod Lived
 pub mod Wanting
 pub mod Whole
 pub mod Holding

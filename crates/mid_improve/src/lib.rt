@@ -6,7 +6,6 @@
 
 mod fixpoint;
 mod forward;
-mod live;
 mod retarget;
 mod runs;
 mod settled;

@@ -1,19 +1,22 @@
 // The sweep: operations that only put something where nothing reads it are taken out.
-ghost use Rattle.std.specs.Prelude.{◌≡◌, ℕ, ◌<◌, ◌≤◌, ◌++◌, length, map, option_map, reverse, option_to_list, IfOk, OnOk, []};
+ghost use Rattle.std.specs.Prelude.{◌≡◌, ℕ, ◌+◌, ◌<◌, ◌≤◌, ◌++◌, length, map, option_map, reverse, option_to_list, IfOk, OnOk, []};
 ghost use Rattle.mid_code.specs.Functions.{function, listed, node};
 ghost use Rattle.mid_code.specs.Whole.{mid};
 ghost use Rattle.mid_live.specs.Sets.{on, room};
-ghost use Rattle.mid_improve.specs.inner.Marked.{marks};
+ghost use Rattle.mid_live.specs.Labels.{labels_of};
+ghost use Rattle.mid_live.specs.Heads.{node_loops, list_loops, NodeTold, ListTold};
 ghost use Rattle.mid_improve.specs.inner.Sweep.{swept_function};
 ghost use Rattle.mid_improve.specs.inner.SweepListed.{node_left, list_left, node_swept, list_swept};
 ghost use Rattle.mid_improve.specs.inner.SweptFrom.{IsSweptFrom};
 
-use crate::live::{Marks, at_begin, at_end, before_op, head_of, nested, outside};
 use crate::targets::is_op_wanted;
 use kit_base::{Memory, Seq};
 use mid_code::laws::mid_code_is_sound;
 use mid_code::{Code, Function, Mid, Node, Op};
-use mid_live::{Kept, Live};
+use mid_live::{
+    Head, Kept, Labels, Live, at_begin, at_end, at_return, before_op, head_of, heads_in, nested,
+    outside, told_each,
+};
 use std::alloc::Global;
 
 fn copy_words(alloc: Global, words: &[u32]) -> Result<Vec<u32>, Memory>
@@ -67,12 +70,12 @@ fn sweep_op(
     alloc: Global,
     count: u32,
     o: &Op<u32>,
-    m: &Marks,
+    m: &Labels,
     s: &mut Live,
 ) -> Result<Option<Node<u32>>, Memory>
     ensures len { OnOk result (length s.new ≡ length s.old) }
-    ensures is { OnOk result ((y : ℕ) → y < room s.old → on s.new y ≡ node_left count (λ y. marks y m.now) (node (Node.Do o.now)) (on s.old) y) }
-    ensures nodes { IfOk result (λ r. option_map node r ≡ node_swept count (λ y. marks y m.now) (node (Node.Do o.now)) (on s.old)) }
+    ensures is { OnOk result ((y : ℕ) → y < room s.old → on s.new y ≡ node_left count (λ y. labels_of y m.now) (node (Node.Do o.now)) (on s.old) y) }
+    ensures nodes { IfOk result (λ r. option_map node r ≡ node_swept count (λ y. labels_of y m.now) (node (Node.Do o.now)) (on s.old)) }
 {
     if !is_op_wanted(count, o, &*s) {
         return Ok(None);
@@ -83,26 +86,31 @@ fn sweep_op(
 
 /// Makes the set what is live before a node, without what is taken out; the node, where it stays.
 #[cycle(sweep)]
+#[tactic(auto, using(mid_live::proofs::Named::told_inside))]
 fn sweep_node(
     alloc: Global,
     count: u32,
     n: &Node<u32>,
-    m: &Marks,
+    m: &Labels,
     s: &mut Live,
+    heads: &[Head],
+    next: &mut usize,
 ) -> Result<Option<Node<u32>>, Memory>
     requires fits { count ≤ room s.old }
+    requires told { NodeTold (length s.old) heads.now next.old (node n.now) }
+    ensures next { OnOk result (next.new ≡ node_loops (node n.now) + next.old) }
     ensures len { OnOk result (length s.new ≡ length s.old) }
-    ensures is { OnOk result ((y : ℕ) → y < count → on s.new y ≡ node_left count (λ y. marks y m.now) (node n.now) (on s.old) y) }
-    ensures nodes { IfOk result (λ r. option_map node r ≡ node_swept count (λ y. marks y m.now) (node n.now) (on s.old)) }
+    ensures is { OnOk result ((y : ℕ) → y < count → on s.new y ≡ node_left count (λ y. labels_of y m.now) (node n.now) (on s.old) y) }
+    ensures nodes { IfOk result (λ r. option_map node r ≡ node_swept count (λ y. labels_of y m.now) (node n.now) (on s.old)) }
 {
     match n {
         Node::Do(o) => sweep_op(alloc, count, o, m, s),
         Node::Choose(p, a, b) => {
             let behind = s.kept(alloc)?;
-            let second = sweep_nodes(alloc, count, b.as_slice(), &*m, s)?;
+            let second = sweep_nodes(alloc, count, b.as_slice(), &*m, s, heads, next)?;
             let other = s.kept(alloc)?;
             s.restore(&behind);
-            let first = sweep_nodes(alloc, count, a.as_slice(), &*m, s)?;
+            let first = sweep_nodes(alloc, count, a.as_slice(), &*m, s, heads, next)?;
             s.join(&other);
             s.put(*p as usize);
             Ok(Some(Node::Choose(*p, Seq::from_vec(first), Seq::from_vec(second))))
@@ -110,13 +118,15 @@ fn sweep_node(
         Node::Block(b) => {
             let ends = s.kept(alloc)?;
             let begins = Kept::none(alloc);
-            let inside = sweep_nodes(alloc, count, b.as_slice(), &nested(&begins, &ends, &*m), s)?;
+            let around = nested(&begins, &ends, &*m);
+            let inside = sweep_nodes(alloc, count, b.as_slice(), &around, s, heads, next)?;
             Ok(Some(Node::Block(Seq::from_vec(inside))))
         }
         Node::Loop(b) => {
             let ends = s.kept(alloc)?;
-            let head = head_of(alloc, b.as_slice(), &*m, s, &ends)?;
-            let inside = sweep_nodes(alloc, count, b.as_slice(), &nested(&head, &ends, &*m), s)?;
+            let head = head_of(alloc, b.as_slice(), &*m, s, &ends, heads, next)?;
+            let around = nested(&head, &ends, &*m);
+            let inside = sweep_nodes(alloc, count, b.as_slice(), &around, s, heads, next)?;
             Ok(Some(Node::Loop(Seq::from_vec(inside))))
         }
         Node::Leave(k) => {
@@ -128,10 +138,7 @@ fn sweep_node(
             Ok(Some(Node::Again(*k)))
         }
         Node::Return(p) => {
-            s.clear();
-            if let Some(p) = p {
-                s.put(*p as usize);
-            }
+            at_return(p, s);
             Ok(Some(Node::Return(*p)))
         }
     }
@@ -152,19 +159,25 @@ fn sweep_nodes(
     alloc: Global,
     count: u32,
     ns: &[Node<u32>],
-    m: &Marks,
+    m: &Labels,
     s: &mut Live,
+    heads: &[Head],
+    next: &mut usize,
 ) -> Result<Vec<Node<u32>>, Memory>
     requires fits { count ≤ room s.old }
+    requires told { ListTold (length s.old) heads.now next.old (listed (map node ns.now)) }
+    ensures next { OnOk result (next.new ≡ list_loops (listed (map node ns.now)) + next.old) }
     ensures len { OnOk result (length s.new ≡ length s.old) }
-    ensures is { OnOk result ((y : ℕ) → y < count → on s.new y ≡ list_left count (λ y. marks y m.now) (listed (map node ns.now)) (on s.old) y) }
-    ensures nodes { IfOk result (λ r. map node r.items ≡ list_swept count (λ y. marks y m.now) (listed (map node ns.now)) (on s.old)) }
+    ensures is { OnOk result ((y : ℕ) → y < count → on s.new y ≡ list_left count (λ y. labels_of y m.now) (listed (map node ns.now)) (on s.old) y) }
+    ensures nodes { IfOk result (λ r. map node r.items ≡ list_swept count (λ y. labels_of y m.now) (listed (map node ns.now)) (on s.old)) }
 {
+    let start = *next;
     let mut found = Vec::new(alloc);
     let mut i = ns.len();
     while i > 0 {
         i -= 1;
-        let kept = sweep_node(alloc, count, &ns[i], &*m, s)?;
+        told_each(ns, i, s, heads, start, *next);
+        let kept = sweep_node(alloc, count, &ns[i], &*m, s, heads, next)?;
         add(&mut found, kept)?;
     }
     found.reverse();
@@ -175,8 +188,19 @@ fn sweep_nodes(
 fn sweep_function(alloc: Global, f: &Function<u32>) -> Result<Function<u32>, Memory>
     ensures { IfOk result (λ r. function r ≡ swept_function (function f.now)) }
 {
-    let mut behind = Live::none(alloc, f.temps as usize)?;
-    let body = sweep_nodes(alloc, f.temps, f.body.as_slice(), &outside(), &mut behind)?;
+    let spare = f.temps as usize;
+    let mut behind = Live::none(alloc, spare + 1)?;
+    let heads = heads_in(alloc, f.body.as_slice(), &mut behind, spare)?;
+    let mut next = 0;
+    let body = sweep_nodes(
+        alloc,
+        f.temps,
+        f.body.as_slice(),
+        &outside(),
+        &mut behind,
+        heads.as_slice(),
+        &mut next,
+    )?;
     let params = copy_words(alloc, f.params.as_slice())?;
     let locals = copy_words(alloc, f.locals.as_slice())?;
     Ok(Function {

@@ -1,20 +1,23 @@
 // Whether targets are live behind their operations.
-ghost use Rattle.std.specs.Prelude.{◌≡◌, ℕ, ◌<◌, ◌≤◌, ◌||◌, ◌&&◌, not, nat_lt, length, map, IfOk, OnOk, ◌↔◌, [], true};
+ghost use Rattle.std.specs.Prelude.{◌≡◌, ℕ, ◌+◌, ◌<◌, ◌≤◌, ◌||◌, ◌&&◌, not, nat_lt, length, map, IfOk, OnOk, ◌↔◌, [], true};
 ghost use Rattle.mid_code.specs.Code.{Stop};
 ghost use Rattle.mid_code.specs.Functions.{function, node, nodes, before, listed};
 ghost use Rattle.mid_code.specs.Paths.{Each};
 ghost use Rattle.mid_code.specs.Live.{is_live};
 ghost use Rattle.mid_live.specs.Sets.{on, room};
 ghost use Rattle.mid_improve.specs.Settled.{IsWanted};
-ghost use Rattle.mid_improve.specs.inner.Marked.{marks};
+ghost use Rattle.mid_live.specs.Labels.{labels_of};
+ghost use Rattle.mid_live.specs.Heads.{node_loops, list_loops, NodeTold, ListTold};
 ghost use Rattle.mid_improve.specs.inner.Named.{IsNamed};
 ghost use Rattle.mid_improve.specs.inner.Wanted.{is_wanted, op_wanted, node_wanted, list_wanted};
 
-use crate::live::{Marks, at_begin, at_end, before_op, head_of, nested, outside};
 use crate::runs::divides;
 use kit_base::Memory;
 use mid_code::{Function, Node, Op};
-use mid_live::{Kept, Live};
+use mid_live::{
+    Head, Kept, Labels, Live, at_begin, at_end, at_return, before_op, head_of, heads_in, nested,
+    outside, told_each,
+};
 use std::alloc::Global;
 
 /// Whether a target of which a temporary has room is in the set, where its operation only puts something there.
@@ -60,17 +63,22 @@ fn both(a: bool, b: bool) -> bool
 
 /// Makes the set what is live before a node; whether the targets there are wanted.
 #[cycle(wanted)]
+#[tactic(auto, using(mid_live::proofs::Named::told_inside))]
 fn walk_node(
     alloc: Global,
     count: u32,
     n: &Node<u32>,
-    m: &Marks,
+    m: &Labels,
     s: &mut Live,
+    heads: &[Head],
+    next: &mut usize,
 ) -> Result<bool, Memory>
     requires fits { count ≤ room s.old }
+    requires told { NodeTold (length s.old) heads.now next.old (node n.now) }
+    ensures next { OnOk result (next.new ≡ node_loops (node n.now) + next.old) }
     ensures len { OnOk result (length s.new ≡ length s.old) }
-    ensures is { OnOk result ((y : ℕ) → y < room s.old → on s.new y ≡ is_live y (marks y m.now) (before (node n.now) Stop) (on s.old y)) }
-    ensures wanted { IfOk result (λ b. b ≡ node_wanted count (λ y. marks y m.now) (node n.now) (on s.old)) }
+    ensures is { OnOk result ((y : ℕ) → y < room s.old → on s.new y ≡ is_live y (labels_of y m.now) (before (node n.now) Stop) (on s.old y)) }
+    ensures wanted { IfOk result (λ b. b ≡ node_wanted count (λ y. labels_of y m.now) (node n.now) (on s.old)) }
 {
     match n {
         Node::Do(o) => {
@@ -80,10 +88,10 @@ fn walk_node(
         }
         Node::Choose(p, a, b) => {
             let behind = s.kept(alloc)?;
-            let second = walk_nodes(alloc, count, b.as_slice(), &*m, s)?;
+            let second = walk_nodes(alloc, count, b.as_slice(), &*m, s, heads, next)?;
             let other = s.kept(alloc)?;
             s.restore(&behind);
-            let first = walk_nodes(alloc, count, a.as_slice(), &*m, s)?;
+            let first = walk_nodes(alloc, count, a.as_slice(), &*m, s, heads, next)?;
             s.join(&other);
             s.put(*p as usize);
             Ok(both(first, second))
@@ -91,13 +99,14 @@ fn walk_node(
         Node::Block(b) => {
             let ends = s.kept(alloc)?;
             let begins = Kept::none(alloc);
-            let fine = walk_nodes(alloc, count, b.as_slice(), &nested(&begins, &ends, &*m), s)?;
-            Ok(fine)
+            let around = nested(&begins, &ends, &*m);
+            walk_nodes(alloc, count, b.as_slice(), &around, s, heads, next)
         }
         Node::Loop(b) => {
             let ends = s.kept(alloc)?;
-            let head = head_of(alloc, b.as_slice(), &*m, s, &ends)?;
-            let fine = walk_nodes(alloc, count, b.as_slice(), &nested(&head, &ends, &*m), s)?;
+            let head = head_of(alloc, b.as_slice(), &*m, s, &ends, heads, next)?;
+            let around = nested(&head, &ends, &*m);
+            let fine = walk_nodes(alloc, count, b.as_slice(), &around, s, heads, next)?;
             s.restore(&head);
             Ok(fine)
         }
@@ -110,10 +119,7 @@ fn walk_node(
             Ok(true)
         }
         Node::Return(p) => {
-            s.clear();
-            if let Some(p) = p {
-                s.put(*p as usize);
-            }
+            at_return(p, s);
             Ok(true)
         }
     }
@@ -121,23 +127,29 @@ fn walk_node(
 
 /// Makes the set what is live before nodes; whether the targets there are wanted.
 #[cycle(wanted)]
-pub(crate) fn walk_nodes(
+fn walk_nodes(
     alloc: Global,
     count: u32,
     ns: &[Node<u32>],
-    m: &Marks,
+    m: &Labels,
     s: &mut Live,
+    heads: &[Head],
+    next: &mut usize,
 ) -> Result<bool, Memory>
     requires fits { count ≤ room s.old }
+    requires told { ListTold (length s.old) heads.now next.old (listed (map node ns.now)) }
+    ensures next { OnOk result (next.new ≡ list_loops (listed (map node ns.now)) + next.old) }
     ensures len { OnOk result (length s.new ≡ length s.old) }
-    ensures is { OnOk result ((y : ℕ) → y < room s.old → on s.new y ≡ is_live y (marks y m.now) (nodes ns.now) (on s.old y)) }
-    ensures wanted { IfOk result (λ b. b ≡ list_wanted count (λ y. marks y m.now) (listed (map node ns.now)) (on s.old)) }
+    ensures is { OnOk result ((y : ℕ) → y < room s.old → on s.new y ≡ is_live y (labels_of y m.now) (nodes ns.now) (on s.old y)) }
+    ensures wanted { IfOk result (λ b. b ≡ list_wanted count (λ y. labels_of y m.now) (listed (map node ns.now)) (on s.old)) }
 {
+    let start = *next;
     let mut fine = true;
     let mut i = ns.len();
     while i > 0 {
         i -= 1;
-        let here = walk_node(alloc, count, &ns[i], &*m, s)?;
+        told_each(ns, i, s, heads, start, *next);
+        let here = walk_node(alloc, count, &ns[i], &*m, s, heads, next)?;
         fine = both(here, fine);
     }
     Ok(fine)
@@ -148,7 +160,18 @@ pub(crate) fn are_targets_live(alloc: Global, f: &Function<u32>) -> Result<bool,
     requires named { IsNamed (function f.now) }
     ensures { IfOk result (λ b. (b ≡ true) ↔ Each IsWanted [] (function f.now).body) }
 {
-    let mut behind = Live::none(alloc, f.temps as usize)?;
-    let fine = walk_nodes(alloc, f.temps, f.body.as_slice(), &outside(), &mut behind)?;
+    let spare = f.temps as usize;
+    let mut behind = Live::none(alloc, spare + 1)?;
+    let heads = heads_in(alloc, f.body.as_slice(), &mut behind, spare)?;
+    let mut next = 0;
+    let fine = walk_nodes(
+        alloc,
+        f.temps,
+        f.body.as_slice(),
+        &outside(),
+        &mut behind,
+        heads.as_slice(),
+        &mut next,
+    )?;
     Ok(fine)
 }

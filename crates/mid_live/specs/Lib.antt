@@ -1,2 +1,4 @@
 pub mod Sets
+pub mod Labels
+pub mod Heads
 pub mod inner

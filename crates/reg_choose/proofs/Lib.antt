@@ -1,4 +1,3 @@
-pub mod Facts
 pub mod Exact
 pub mod Checking
 pub mod Planned
@@ -23,6 +22,3 @@ pub mod Collected
 pub mod Numbered
 pub mod Chooser
 pub mod Program
-pub mod Raised
-pub mod Learned
-pub mod Named

@@ -1,4 +1,3 @@
-pub mod Marked
 pub mod Checked
 pub mod Holding
 pub mod Trails
@@ -6,4 +5,3 @@ pub mod Sparse
 pub mod Seen
 pub mod Scan
 pub mod Handing
-pub mod Heads

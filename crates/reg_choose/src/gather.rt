@@ -8,17 +8,14 @@ ghost use Rattle.mid_live.specs.Sets.{on, room};
 ghost use Rattle.reg_choose.specs.inner.Trails.{stood, crossing, no_trail, trail_at, trail_of};
 ghost use Rattle.reg_choose.specs.inner.Sparse.{sparse, follows};
 ghost use Rattle.reg_choose.specs.inner.Seen.{seen};
-ghost use Rattle.reg_choose.specs.inner.Heads.{ListTold};
+ghost use Rattle.mid_live.specs.Heads.{ListTold};
 
-use crate::heads::Head;
-use crate::learn::heads_in;
-use crate::live::outside;
 use crate::spans::{more_from, walk_nodes};
 use crate::stands::stand_all;
 use crate::trail::Trail;
 use kit_base::Memory;
 use mid_code::{Function, Node};
-use mid_live::{Kept, Live};
+use mid_live::{Head, Kept, Live, heads_in, outside};
 use std::alloc::Global;
 
 fn one_more(count: u64) -> Result<u64, Memory>

@@ -10,12 +10,10 @@ ghost use Rattle.reg_choose.specs.inner.Holding.{IsPlan, Stands};
 
 use crate::checks::try_nodes;
 use crate::hold::lay_all;
-use crate::learn::heads_in;
-use crate::live::outside;
 use crate::plan::plan;
 use kit_base::Memory;
 use mid_code::{Choice, Function, Where};
-use mid_live::Live;
+use mid_live::{Live, heads_in, outside};
 use std::alloc::Global;
 
 fn is_chosen(w: Where) -> bool

@@ -1,24 +1,23 @@
 // The spans of temporaries, found in one walk from the end.
-ghost use Rattle.std.specs.Prelude.{◌≡◌, ◌∷◌, ℕ, ◌+◌, ◌<◌, ◌≤◌, ◌&&◌, ◌||◌, ◌^◌, not, length, drop, map, IfOk, OnOk, false, true};
+ghost use Rattle.std.specs.Prelude.{◌≡◌, ℕ, ◌+◌, ◌<◌, ◌≤◌, ◌&&◌, ◌||◌, ◌^◌, not, length, drop, map, IfOk, OnOk, false, true};
 ghost use Rattle.mid_code.specs.Code.{Stop};
-ghost use Rattle.mid_code.specs.Functions.{LoopN, op_before, node, nodes, before, listed};
-ghost use Rattle.mid_code.specs.Live.{label, is_live};
+ghost use Rattle.mid_code.specs.Functions.{op_before, node, nodes, before, listed};
+ghost use Rattle.mid_code.specs.Live.{is_live};
 ghost use Rattle.mid_code.specs.Spans.{places};
 ghost use Rattle.mid_live.specs.Sets.{on, room};
-ghost use Rattle.reg_choose.specs.inner.Marked.{marks};
-ghost use Rattle.reg_choose.specs.inner.Heads.{node_loops, list_loops, NodeTold, ListTold};
+ghost use Rattle.mid_live.specs.Labels.{labels_of};
+ghost use Rattle.mid_live.specs.Heads.{node_loops, list_loops, NodeTold, ListTold};
 ghost use Rattle.reg_choose.specs.inner.Sparse.{sparse, follows};
 ghost use Rattle.reg_choose.specs.inner.Seen.{seen, calls};
 
-use crate::heads::{Head, one_further, pass_loop, told_each};
-use crate::live::{
-    Marks, at_begin, at_end, before_nodes, begin_less, nested, put_uses, strike_target,
-};
 use crate::stands::{cease, stand_all, stand_maybe, stand_one, stand_target, stand_uses};
 use crate::trail::Trail;
 use kit_base::Memory;
 use mid_code::{Node, Op};
-use mid_live::{Kept, Live};
+use mid_live::{
+    Head, Kept, Labels, Live, at_begin, at_end, begin_less, head_of, nested, put_uses,
+    strike_target, told_each,
+};
 use std::alloc::Global;
 
 /// The place before one. There are no more than a word can number.
@@ -75,7 +74,7 @@ fn cross(alloc: Global, crossed: &mut Live, s: &Live, o: &Op<u32>) -> Result<(),
 fn walk_op(
     alloc: Global,
     o: &Op<u32>,
-    m: &Marks,
+    m: &Labels,
     s: &mut Live,
     trails: &mut [Trail],
     crossed: &mut Live,
@@ -87,9 +86,9 @@ fn walk_op(
     ensures len { OnOk result (length s.new ≡ length s.old) }
     ensures trails_len { OnOk result (length trails.new ≡ length trails.old) }
     ensures crossed_len { OnOk result (length crossed.new ≡ length crossed.old) }
-    ensures live { OnOk result ((y : ℕ) → y < room s.old → on s.new y ≡ is_live y (marks y m.now) (op_before o.now Stop) (on s.old y)) }
+    ensures live { OnOk result ((y : ℕ) → y < room s.old → on s.new y ≡ is_live y (labels_of y m.now) (op_before o.now Stop) (on s.old y)) }
     ensures trails { OnOk result ((y : ℕ) → y < length trails.old → seen trails.new crossed.new y
-        ≡ sparse y (marks y m.now) (op_before o.now Stop) (on s.old y) more place (seen trails.old crossed.old y)) }
+        ≡ sparse y (labels_of y m.now) (op_before o.now Stop) (on s.old y) more place (seen trails.old crossed.old y)) }
 {
     strike_target(s, o);
     cross(alloc, crossed, s, o)?;
@@ -97,59 +96,6 @@ fn walk_op(
     stand_uses(trails, o, place);
     stand_target(trails, o, place);
     Ok(())
-}
-
-/// Makes the set what is live at the head of a loop.
-fn to_head(
-    alloc: Global,
-    b: &[Node<u32>],
-    m: &Marks,
-    s: &mut Live,
-    ends: &Kept,
-    heads: &[Head],
-    at: usize,
-) -> Result<(), Memory>
-    requires behind { ends.now ≡ s.old }
-    requires told { NodeTold (length s.old) heads.now at (LoopN (listed (map node b.now))) }
-    ensures len { OnOk result (length s.new ≡ length s.old) }
-    ensures is { OnOk result ((y : ℕ) → y < room s.old → on s.new y ≡ is_live y (label false (on s.old y) ∷ marks y m.now) (nodes b.now) (on s.old y)) }
-{
-    if let Some(_) = pass_loop(b, s, heads, at)? {
-        return Ok(());
-    }
-    let first = one_further(at)?;
-    let begins = Kept::none(alloc);
-    before_nodes(
-        alloc,
-        b,
-        &Marks::Inside(&begins, ends, &*m),
-        s,
-        heads,
-        first,
-    )?;
-    Ok(())
-}
-
-/// What is live at the head of a loop, of which the set has what is live behind it.
-pub(crate) fn head_of(
-    alloc: Global,
-    b: &[Node<u32>],
-    m: &Marks,
-    s: &mut Live,
-    ends: &Kept,
-    heads: &[Head],
-    at: usize,
-) -> Result<Kept, Memory>
-    requires behind { ends.now ≡ s.old }
-    requires told { NodeTold (length s.old) heads.now at (LoopN (listed (map node b.now))) }
-    ensures kept { OnOk result (s.new ≡ s.old) }
-    ensures head_len { IfOk result (λ v. length v ≡ length s.old) }
-    ensures is { IfOk result (λ v. (y : ℕ) → y < room s.old → on v y ≡ is_live y (label false (on s.old y) ∷ marks y m.now) (nodes b.now) (on s.old y)) }
-{
-    to_head(alloc, b, m, s, ends, heads, at)?;
-    let head = s.kept(alloc)?;
-    s.restore(ends);
-    Ok(head)
 }
 
 /// Whether there are nodes from this one on.
@@ -161,11 +107,11 @@ pub(crate) fn more_from(ns: &[Node<u32>], i: usize) -> bool
 
 /// What a node adds to the trails, and what is live before it. The answer is its place; the one behind it is given, and whether more nodes follow.
 #[cycle(walk)]
-#[tactic(auto, using(crate::proofs::Named::told_second, crate::proofs::Named::told_first, crate::proofs::Named::told_block, crate::proofs::Named::told_loop, crate::proofs::Named::told_whole))]
+#[tactic(auto, using(mid_live::proofs::Named::told_inside))]
 fn walk_node(
     alloc: Global,
     x: &Node<u32>,
-    m: &Marks,
+    m: &Labels,
     s: &mut Live,
     trails: &mut [Trail],
     crossed: &mut Live,
@@ -181,10 +127,10 @@ fn walk_node(
     ensures len { OnOk result (length s.new ≡ length s.old) }
     ensures trails_len { OnOk result (length trails.new ≡ length trails.old) }
     ensures crossed_len { OnOk result (length crossed.new ≡ length crossed.old) }
-    ensures live { OnOk result ((y : ℕ) → y < room s.old → on s.new y ≡ is_live y (marks y m.now) (before (node x.now) Stop) (on s.old y)) }
+    ensures live { OnOk result ((y : ℕ) → y < room s.old → on s.new y ≡ is_live y (labels_of y m.now) (before (node x.now) Stop) (on s.old y)) }
     ensures place { IfOk result (λ n. n + places (before (node x.now) Stop) ≡ place) }
     ensures trails { IfOk result (λ n. (y : ℕ) → y < length trails.old → seen trails.new crossed.new y
-        ≡ sparse y (marks y m.now) (before (node x.now) Stop) (on s.old y) more n (seen trails.old crossed.old y)) }
+        ≡ sparse y (labels_of y m.now) (before (node x.now) Stop) (on s.old y) more n (seen trails.old crossed.old y)) }
 {
     match x {
         Node::Do(o) => {
@@ -245,8 +191,7 @@ fn walk_node(
         }
         Node::Loop(b) => {
             let ends = s.kept(alloc)?;
-            let head = head_of(alloc, b.as_slice(), &*m, s, &ends, heads, *next)?;
-            *next = one_further(*next)?;
+            let head = head_of(alloc, b.as_slice(), &*m, s, &ends, heads, next)?;
             let inside = walk_nodes(
                 alloc,
                 b.as_slice(),
@@ -298,7 +243,7 @@ fn walk_node(
 pub(crate) fn walk_nodes(
     alloc: Global,
     ns: &[Node<u32>],
-    m: &Marks,
+    m: &Labels,
     s: &mut Live,
     trails: &mut [Trail],
     crossed: &mut Live,
@@ -313,10 +258,10 @@ pub(crate) fn walk_nodes(
     ensures len { OnOk result (length s.new ≡ length s.old) }
     ensures trails_len { OnOk result (length trails.new ≡ length trails.old) }
     ensures crossed_len { OnOk result (length crossed.new ≡ length crossed.old) }
-    ensures live { OnOk result ((y : ℕ) → y < room s.old → on s.new y ≡ is_live y (marks y m.now) (nodes ns.now) (on s.old y)) }
+    ensures live { OnOk result ((y : ℕ) → y < room s.old → on s.new y ≡ is_live y (labels_of y m.now) (nodes ns.now) (on s.old y)) }
     ensures place { IfOk result (λ n. n + places (nodes ns.now) ≡ place) }
     ensures trails { IfOk result (λ n. (y : ℕ) → y < length trails.old → seen trails.new crossed.new y
-        ≡ sparse y (marks y m.now) (nodes ns.now) (on s.old y) false n (seen trails.old crossed.old y)) }
+        ≡ sparse y (labels_of y m.now) (nodes ns.now) (on s.old y) false n (seen trails.old crossed.old y)) }
 {
     let start = *next;
     let mut first = place;

@@ -6,15 +6,14 @@ ghost use Rattle.mid_code.specs.Live.{is_among, is_used, is_target};
 ghost use Rattle.mid_code.specs.declared.placed.Where.TheVariants.{Reg};
 ghost use Rattle.mid_code.specs.Safe.{place_of, IsSlot};
 ghost use Rattle.mid_live.specs.Sets.{on};
-ghost use Rattle.reg_choose.specs.inner.Marked.{marks};
+ghost use Rattle.mid_live.specs.Labels.{labels_of};
 ghost use Rattle.reg_choose.specs.inner.Checked.{FreeIn, TargetIn};
 ghost use Rattle.reg_choose.specs.inner.Holding.{IsPlan, Stands, Laid, NodeTried};
 
 use crate::hold::{lay, lay_all, lay_two, lift};
-use crate::live::Marks;
 use crate::plan::place_number;
 use mid_code::{Op, Where};
-use mid_live::Live;
+use mid_live::{Labels, Live};
 
 /// Whether no other temporary of the set stands at the place of one.
 fn free(at: &[Where], numbers: &[usize], s: &Live, hs: &[usize], t: u32) -> bool
@@ -106,7 +105,7 @@ fn lift_maybe(at: &[Where], numbers: &[usize], s: &mut Live, hs: &mut [usize], t
 }
 
 /// Takes the target out of the set.
-#[tactic(auto, using(crate::proofs::Facts::or_none))]
+#[tactic(auto, using(mid_live::proofs::Facts::or_none))]
 fn lift_target(at: &[Where], numbers: &[usize], s: &mut Live, hs: &mut [usize], o: &Op<u32>)
     requires plan { IsPlan at.now numbers.now }
     requires stands { Stands at.now s.old hs.old }
@@ -175,7 +174,7 @@ fn lay_uses(at: &[Where], numbers: &[usize], s: &mut Live, hs: &mut [usize], o: 
 pub(crate) fn try_op(
     at: &[Where],
     numbers: &[usize],
-    m: &Marks,
+    m: &Labels,
     s: &mut Live,
     hs: &mut [usize],
     o: &Op<u32>,
@@ -183,7 +182,7 @@ pub(crate) fn try_op(
     requires plan { IsPlan at.now numbers.now }
     requires stands { Stands at.now s.old hs.old }
     ensures len { length s.new ≡ length s.old }
-    ensures tried { NodeTried at.now (λ y. marks y m.now) (DoN o.now) s.old s.new hs.new result }
+    ensures tried { NodeTried at.now (λ y. labels_of y m.now) (DoN o.now) s.old s.new hs.new result }
 {
     if !target_free(at, numbers, s, hs, o) {
         return false;

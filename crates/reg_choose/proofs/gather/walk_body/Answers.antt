@@ -2,7 +2,7 @@ use Rattle.std.proofs.Common.{rules, arith, ◌≡◌, ◌+◌, ◌&&◌, ap, �
 use Rattle.mid_code.specs.Functions.{nodes}
 use Rattle.mid_code.specs.Spans.{places}
 use Rattle.mid_live.specs.Sets.{on}
-use Rattle.reg_choose.specs.inner.Marked.{marks}
+use Rattle.mid_live.specs.Labels.{labels_of}
 use Rattle.reg_choose.specs.inner.Sparse.{follows}
 use Rattle.reg_choose.specs.inner.Seen.{seen}
 use Rattle.reg_choose.proofs.Walked.{seen_stood}
@@ -21,4 +21,4 @@ returns-clause-is c = λ y h.
     let cs = c.walk_nodes.new.crossed in
     let v = on c.in_ok-live.live y in
     let live : c.in_ok-live.live ≡ c.walk_nodes.new.s = search rules in
-    body_seen y (marks y c.outside.result) b (on c.args.s.now y) v (follows b) n (seen c.args.trails.now c.args.crossed.now y) (seen c.walk_nodes.new.trails cs y) (seen c.begin.new.trails cs y) (c.outside.ensures y) (c.requires.nothing y) first (ap (λ z. on z y) live ∙ w.live y (omega (arith, h, l))) (w.trails y h) (seen_stood c.walk_nodes.new.trails c.begin.new.trails cs y (v && follows b) 1 (c.in_ok-begin.ensures.is y (omega (arith, h, m))))
+    body_seen y (labels_of y c.outside.result) b (on c.args.s.now y) v (follows b) n (seen c.args.trails.now c.args.crossed.now y) (seen c.walk_nodes.new.trails cs y) (seen c.begin.new.trails cs y) (c.outside.ensures y) (c.requires.nothing y) first (ap (λ z. on z y) live ∙ w.live y (omega (arith, h, l))) (w.trails y h) (seen_stood c.walk_nodes.new.trails c.begin.new.trails cs y (v && follows b) 1 (c.in_ok-begin.ensures.is y (omega (arith, h, m))))

@@ -3,7 +3,7 @@ use Rattle.mid_code.specs.Functions.{function, listed, joined, node}
 use Rattle.mid_code.specs.Live.{is_among}
 use Rattle.mid_code.specs.Safe.{IsSafe}
 use Rattle.mid_live.specs.Sets.{on}
-use Rattle.reg_choose.specs.inner.Marked.{marks}
+use Rattle.mid_live.specs.Labels.{labels_of}
 use Rattle.reg_choose.specs.inner.Checked.{Labels}
 use Rattle.mid_code.specs.declared.placed.Where.{Where}
 use Rattle.reg_choose.proofs.Checking.{Like}
@@ -21,7 +21,7 @@ returns c =
     let x = listed (map node ns) in
     let xs = c.as_slice-2.result.now in
     let s : List ℕ = c.heads_in.new.s in
-    let ls : Labels = λ y. marks y c.outside.result in
+    let ls : Labels = λ y. labels_of y c.outside.result in
     let body : f.body ≡ joined x = ap (λ z. joined (listed (map node z))) (search rules) in
     let same : xs ≡ f.params = search rules in
     let i : Like n (is_among xs) (is_among f.params) = λ y l. ap (λ z. is_among z y) same in

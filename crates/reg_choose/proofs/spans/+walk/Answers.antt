@@ -5,20 +5,20 @@ use Rattle.mid_code.specs.Spans.{places}
 use Rattle.mid_code.specs.Functions.{node, nodes, listed, before, joined, ChooseN, BlockN, LoopN}
 use Rattle.mid_code.specs.declared.node.Node.{the_lemmas}
 use Rattle.mid_live.specs.Sets.{on, room}
-use Rattle.reg_choose.specs.inner.Heads.{list_loops, ListTold}
-use Rattle.reg_choose.specs.inner.Marked.{marks}
+use Rattle.mid_live.specs.Heads.{list_loops, ListTold}
+use Rattle.mid_live.specs.Labels.{labels_of}
 use Rattle.reg_choose.specs.inner.Trails.{stood}
 use Rattle.reg_choose.specs.inner.Sparse.{ceases, sparse}
 use Rattle.reg_choose.specs.inner.Seen.{seen}
-use Rattle.reg_choose.proofs.Facts.{nodes_drop, live_node}
+use Rattle.mid_live.proofs.Facts.{nodes_drop, live_node}
 use Rattle.reg_choose.proofs.Trailed.{choose_live, places_node}
 use Rattle.reg_choose.proofs.Walked.{seen_stood, seen_step, choose_seen, block_seen, loop_seen}
-use Rattle.reg_choose.proofs.Learned.{loops_turn}
+use Rattle.mid_live.proofs.Learned.{loops_turn}
 use Rattle.reg_choose.proofs.spans.+walk.Goals as goal
 
 pub walk_node-returns-in_ok-first-in-Choose-clause-trails : goal.walk_node-returns-in_ok-first-in-Choose-clause-trails
 walk_node-returns-in_ok-first-in-Choose-clause-trails t c = λ y h.
-    let ls : List Label = marks y c.args.m.now in
+    let ls : List Label = labels_of y c.args.m.now in
     let j : Bool = on c.args.s.now y in
     let a = listed (map node c.as_slice-in-Choose.result.now) in
     let b = listed (map node c.as_slice.result.now) in
@@ -57,7 +57,7 @@ walk_node-returns-in_ok-first-in-Choose-clause-trails t c = λ y h.
 
 pub walk_node-returns-in_ok-first-in-Block-clause-trails : goal.walk_node-returns-in_ok-first-in-Block-clause-trails
 walk_node-returns-in_ok-first-in-Block-clause-trails t c = λ y h.
-    let ls : List Label = marks y c.args.m.now in
+    let ls : List Label = labels_of y c.args.m.now in
     let j : Bool = on c.args.s.now y in
     let b = listed (map node c.as_slice-in-Block.result.now) in
     let e : node c.args.x.now ≡ BlockN b = search (rules, the_lemmas) in
@@ -65,7 +65,7 @@ walk_node-returns-in_ok-first-in-Block-clause-trails t c = λ y h.
     let g : y < room c.args.s.now = omega (arith, h, l0) in
     let more = c.args.more in
     let ends : c.in_ok-ends-in-Block.ends ≡ c.args.s.now = search rules in
-    let i1 : marks y c.nested.result ≡ label false j ∷ ls = c.nested.ensures y ∙ ap (λ z. label z (on c.in_ok-ends-in-Block.ends y) ∷ ls) (c.none-begins.ensures y) ∙ ap (λ z. label false (on z y) ∷ ls) ends in
+    let i1 : labels_of y c.nested.result ≡ label false j ∷ ls = c.nested.ensures y ∙ ap (λ z. label z (on c.in_ok-ends-in-Block.ends y) ∷ ls) (c.none-begins.ensures y) ∙ ap (λ z. label false (on z y) ∷ ls) ends in
     let v = on c.walk_nodes-in-Block.new.s y in
     let live = c.in_ok-inside-in-Block.ensures.live y g ∙ ap (λ z. is_live y z (joined b) j) i1 ∙ ap (λ z. is_live y ls (before z Stop) j) (sym e) in
     let n = c.in_ok-first-in-Block.first in
@@ -81,7 +81,7 @@ walk_node-returns-in_ok-first-in-Block-clause-trails t c = λ y h.
 
 pub walk_node-returns-in_ok-first-in-Loop-clause-trails : goal.walk_node-returns-in_ok-first-in-Loop-clause-trails
 walk_node-returns-in_ok-first-in-Loop-clause-trails t c = λ y h.
-    let ls : List Label = marks y c.args.m.now in
+    let ls : List Label = labels_of y c.args.m.now in
     let j : Bool = on c.args.s.now y in
     let b = listed (map node c.as_slice-in-Loop-2.result.now) in
     let e : node c.args.x.now ≡ LoopN b = search (rules, the_lemmas) in
@@ -94,7 +94,7 @@ walk_node-returns-in_ok-first-in-Loop-clause-trails t c = λ y h.
     let v = on c.restore-in-Loop.new.self y in
     let is : v ≡ on c.in_ok-head-in-Loop.head y = ap (λ z. on z y) c.restore-in-Loop.ensures in
     let live = is ∙ c.in_ok-head-in-Loop.ensures.is y g ∙ ap (λ z. is_live y (label false j ∷ ls) z j) same ∙ ap (λ z. is_live y ls (before z Stop) j) (sym e) in
-    let i1 : marks y c.nested-in-Loop.result ≡ label v j ∷ ls = c.nested-in-Loop.ensures y ∙ ap (λ z. label z (on c.in_ok-ends-in-Loop.ends y) ∷ ls) (sym is) ∙ ap (λ z. label v (on z y) ∷ ls) ends in
+    let i1 : labels_of y c.nested-in-Loop.result ≡ label v j ∷ ls = c.nested-in-Loop.ensures y ∙ ap (λ z. label z (on c.in_ok-ends-in-Loop.ends y) ∷ ls) (sym is) ∙ ap (λ z. label v (on z y) ∷ ls) ends in
     let n = c.in_ok-first-in-Loop.first in
     let inside = c.in_ok-inside-in-Loop.inside in
     let r = seen c.args.trails.now c.args.crossed.now y in
@@ -102,7 +102,7 @@ walk_node-returns-in_ok-first-in-Loop-clause-trails t c = λ y h.
     let s1 = seen c.walk_nodes-in-Loop.new.trails cs y in
     let u1 = seen c.cease-in-Loop.new.trails cs y in
     let m1 = c.in_ok-inside-in-Loop.ensures.trails_len in
-    let one : s1 ≡ sparse y (label v j ∷ ls) (joined b) j false inside r = c.in_ok-inside-in-Loop.ensures.trails y h ∙ ap (λ z. sparse y (marks y c.nested-in-Loop.result) (joined b) (on z y) false inside r) again ∙ ap (λ z. sparse y z (joined b) j false inside r) i1 in
+    let one : s1 ≡ sparse y (label v j ∷ ls) (joined b) j false inside r = c.in_ok-inside-in-Loop.ensures.trails y h ∙ ap (λ z. sparse y (labels_of y c.nested-in-Loop.result) (joined b) (on z y) false inside r) again ∙ ap (λ z. sparse y z (joined b) j false inside r) i1 in
     let two : u1 ≡ stood (ceases v j more) c.args.place s1 = seen_stood c.walk_nodes-in-Loop.new.trails c.cease-in-Loop.new.trails cs y (ceases v (on c.in_ok-ends-in-Loop.ends y) more) c.args.place (c.in_ok-cease-in-Loop.ensures.is y (omega (arith, h, m1))) ∙ ap (λ z. stood (ceases v (on z y) more) c.args.place s1) ends in
     loop_seen (node c.args.x.now) y ls b j v more n inside c.args.place r s1 u1 e live c.in_ok-first-in-Loop.ensures c.in_ok-inside-in-Loop.ensures.place one two
 
@@ -120,7 +120,7 @@ walk_nodes-loop-i-preserved t c =
       len = e.len ∙ i.len;
       trails_len = e.trails_len ∙ i.trails_len;
       crossed_len = e.crossed_len ∙ i.crossed_len;
-      live = λ y h. (let l = e.len in e.live y (omega (arith, h, l)) ∙ ap (λ z. is_live y (marks y c.args.m.now) (before x Stop) z) (i.live y (omega (arith, h, l))) ∙ sym (live_node x y (marks y c.args.m.now) d (on c.args.s.now y)) ∙ ap (λ z. is_live y (marks y c.args.m.now) z (on c.args.s.now y)) (sym j));
+      live = λ y h. (let l = e.len in e.live y (omega (arith, h, l)) ∙ ap (λ z. is_live y (labels_of y c.args.m.now) (before x Stop) z) (i.live y (omega (arith, h, l))) ∙ sym (live_node x y (labels_of y c.args.m.now) d (on c.args.s.now y)) ∙ ap (λ z. is_live y (labels_of y c.args.m.now) z (on c.args.s.now y)) (sym j));
       next = loops_turn c.args.ns.now c.loop-i.i c.args.next.now c.loop-i.next c.walk_node.new.next c.index-ns-i.result (nodes_drop c.args.ns.now c.loop-i.i c.index-ns-i.result (omega (arith, c.loop-i-test.true)) (let p = c.loop-i-test.true in let r = i.bound in omega (arith, p, r)) c.index-ns-i.is) i.next e.next;
       place = (let p = e.place in let q = i.place in omega (arith, k, m, p, q));
       trails = λ y h. (
@@ -130,7 +130,7 @@ walk_nodes-loop-i-preserved t c =
           let b = i.len in
           let q = c.requires.sizes in
           let g = i.live y (omega (arith, h', a, b, q)) in
-          seen_step x y (marks y c.args.m.now) d (nodes (drop (c.loop-i.i - 1) c.args.ns.now)) (on c.args.s.now y) (on c.loop-i.s y) c.more_from-more.result c.in_ok-first.first c.loop-i.first (seen c.args.trails.now c.args.crossed.now y) (seen c.loop-i.trails c.loop-i.crossed y) (seen c.walk_node.new.trails c.walk_node.new.crossed y) j e.place g c.more_from-more.ensures (i.trails y h') (e.trails y h'));
+          seen_step x y (labels_of y c.args.m.now) d (nodes (drop (c.loop-i.i - 1) c.args.ns.now)) (on c.args.s.now y) (on c.loop-i.s y) c.more_from-more.result c.in_ok-first.first c.loop-i.first (seen c.args.trails.now c.args.crossed.now y) (seen c.loop-i.trails c.loop-i.crossed y) (seen c.walk_node.new.trails c.walk_node.new.crossed y) j e.place g c.more_from-more.ensures (i.trails y h') (e.trails y h'));
     }
 
 pub walk_nodes-told_each-requires-clause-told : goal.walk_nodes-told_each-requires-clause-told

@@ -3,8 +3,8 @@ use Rattle.mid_code.specs.Live.{is_live}
 use Rattle.mid_code.specs.Functions.{nodes, node, listed}
 use Rattle.mid_code.specs.Spans.{places}
 use Rattle.mid_live.specs.Sets.{on, room}
-use Rattle.reg_choose.specs.inner.Marked.{marks}
-use Rattle.reg_choose.specs.inner.Heads.{list_loops}
+use Rattle.mid_live.specs.Labels.{labels_of}
+use Rattle.mid_live.specs.Heads.{list_loops}
 use Rattle.reg_choose.specs.inner.Sparse.{sparse}
 use Rattle.reg_choose.specs.inner.Seen.{seen}
 use Rattle.reg_choose.proofs.spans.+walk.Given as goal
@@ -15,10 +15,10 @@ invariant-walk_nodes-loop-i l = record {
   len : length l.s ≡ length l.initial.s;
   trails_len : length l.trails ≡ length l.initial.trails;
   crossed_len : length l.crossed ≡ length l.initial.crossed;
-  live : (y : ℕ) → y < room l.s → on l.s y ≡ is_live y (marks y l.m) (nodes (drop l.i l.ns)) (on l.initial.s y);
+  live : (y : ℕ) → y < room l.s → on l.s y ≡ is_live y (labels_of y l.m) (nodes (drop l.i l.ns)) (on l.initial.s y);
   next : l.next ≡ list_loops (listed (map node (drop l.i l.ns))) + l.initial.next;
   place : l.first + places (nodes (drop l.i l.ns)) ≡ l.place;
-  trails : (y : ℕ) → y < length l.trails → seen l.trails l.crossed y ≡ sparse y (marks y l.m) (nodes (drop l.i l.ns)) (on l.initial.s y) false l.first (seen l.initial.trails l.initial.crossed y);
+  trails : (y : ℕ) → y < length l.trails → seen l.trails l.crossed y ≡ sparse y (labels_of y l.m) (nodes (drop l.i l.ns)) (on l.initial.s y) false l.first (seen l.initial.trails l.initial.crossed y);
 }
 
 abbrev pub decreases-walk_nodes-loop-i : goal.decreases-walk_nodes-loop-i

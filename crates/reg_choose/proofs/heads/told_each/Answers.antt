@@ -1,6 +1,0 @@
-use Rattle.std.proofs.Common.{length}
-use Rattle.reg_choose.proofs.Learned.{told_each}
-use Rattle.reg_choose.proofs.heads.told_each.Goals as goal
-
-pub returns : goal.returns
-returns c = λ x e. told_each (length c.args.s.now) c.args.next c.args.after c.args.i c.args.heads.now c.args.ns.now x c.requires.told c.requires.after c.requires.inside e

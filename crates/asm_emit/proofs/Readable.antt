@@ -7,7 +7,7 @@ use Rattle.kit_base.specs.Word.{add, sub}
 use Rattle.either.specs.declared.Either.TheVariants.{Left}
 use Rattle.v32_isa.specs.declared.instruction.Plain.TheVariants.{RET}
 use Rattle.v32_isa.specs.declared.instruction.One.{One}
-use Rattle.v32_isa.specs.declared.instruction.Mov.TheVariants.{RegAt, RegAtOff, AtReg, AtOffReg, RegReg}
+use Rattle.v32_isa.specs.declared.instruction.Mov.TheVariants.{RegAt, RegAtOff, AtReg, AtOffReg}
 use Rattle.v32_isa.specs.declared.instruction.Two.{Two}
 use Rattle.v32_isa.specs.declared.instruction.Two.TheVariants.{IADD, ISUB}
 use Rattle.v32_isa.specs.declared.instruction.Src.TheVariants as src

@@ -160,7 +160,7 @@ fn sweep_nodes(
     ensures is { OnOk result ((y : ℕ) → y < count → on s.new y ≡ list_left count (λ y. marks y m.now) (listed (map node ns.now)) (on s.old) y) }
     ensures nodes { IfOk result (λ r. map node r.items ≡ list_swept count (λ y. marks y m.now) (listed (map node ns.now)) (on s.old)) }
 {
-    let mut found = Vec::new(alloc);
+    let mut found = Vec::with_capacity(alloc, ns.len())?;
     let mut i = ns.len();
     while i > 0 {
         i -= 1;
@@ -171,31 +171,23 @@ fn sweep_nodes(
     Ok(found)
 }
 
-/// The function without the operations that only put something where nothing reads it. The error is want of memory.
-fn sweep_function(alloc: Global, f: &Function<u32>) -> Result<Function<u32>, Memory>
-    ensures { IfOk result (λ r. function r ≡ swept_function (function f.now)) }
+/// Takes out of the function the operations that only put something where nothing reads it. The error is want of memory.
+fn sweep_function(alloc: Global, f: &mut Function<u32>) -> Result<(), Memory>
+    ensures { OnOk result (function f.new ≡ swept_function (function f.old)) }
 {
     let mut behind = Live::none(alloc, f.temps as usize)?;
     let body = sweep_nodes(alloc, f.temps, f.body.as_slice(), &outside(), &mut behind)?;
-    let params = copy_words(alloc, f.params.as_slice())?;
-    let locals = copy_words(alloc, f.locals.as_slice())?;
-    Ok(Function {
-        temps: f.temps,
-        params: Seq::from_vec(params),
-        locals: Seq::from_vec(locals),
-        result: f.result,
-        body: Seq::from_vec(body),
-    })
+    f.body = Seq::from_vec(body);
+    Ok(())
 }
 
-fn sweep_functions(alloc: Global, fs: &[Function<u32>]) -> Result<Vec<Function<u32>>, Memory>
-    ensures { IfOk result (λ r. map function r.items ≡ map swept_function (map function fs.now)) }
+fn sweep_functions(alloc: Global, fs: &mut Vec<Function<u32>>) -> Result<(), Memory>
+    ensures { OnOk result (map function fs.new.items ≡ map swept_function (map function fs.old.items)) }
 {
-    let mut found = Vec::new(alloc);
-    for f in fs {
-        found.push(sweep_function(alloc, f)?)?;
+    for f in fs.iter_mut() {
+        sweep_function(alloc, f)?;
     }
-    Ok(found)
+    Ok(())
 }
 
 /// The code without the operations that only put something where nothing reads it. The error is want of memory, and then the code given is dropped.
@@ -204,8 +196,10 @@ pub(crate) fn sweep_dead(alloc: Global, m: Mid) -> Result<Mid, Memory>
 {
     mid_code_is_sound(&m);
     let of = m.into_code();
-    let start = sweep_function(alloc, &of.start)?;
-    let functions = sweep_functions(alloc, of.functions.as_slice())?;
+    let mut start = of.start;
+    sweep_function(alloc, &mut start)?;
+    let mut functions = of.functions.into_vec();
+    sweep_functions(alloc, &mut functions)?;
     Ok(Mid::new(Code {
         start,
         functions: Seq::from_vec(functions),

@@ -11,7 +11,5 @@ pub returns : goal.returns
 returns c =
     let f = function c.args.f.now in
     let ls : Labels = λ y. marks y c.outside.result in
-    let params : c.from_vec.result ≡ f.params = search rules in
-    let locals : c.from_vec-2.result ≡ f.locals = search rules in
-    let body : map node c.from_vec-3.result ≡ list_swept f.temps ls (listed (map node c.args.f.now.body)) (on c.in_ok-behind.behind) = search rules in
-    function_is f c.from_vec.result c.from_vec-2.result _ params locals (swept_joined f.temps c.args.f.now.body c.from_vec-3.result ls (on c.in_ok-behind.behind) (λ y. c.outside.ensures y) (λ y. c.in_ok-behind.ensures.is y) body)
+    let body : map node c.from_vec.result ≡ list_swept f.temps ls (listed (map node c.args.f.now.body)) (on c.in_ok-behind.behind) = search rules in
+    function_is f _ (swept_joined f.temps c.args.f.now.body c.from_vec.result ls (on c.in_ok-behind.behind) (λ y. c.outside.ensures y) (λ y. c.in_ok-behind.ensures.is y) body)

@@ -190,6 +190,5 @@ module _ (n : ℕ) where
 pub swept_joined : (n : ℕ) (ns ms : List (Node ℕ)) (ls : Labels) (s : Set) → ((y : ℕ) → ls y ≡ []) → ((y : ℕ) → s y ≡ false) → map node ms ≡ list_swept n ls (listed (map node ns)) s → nodes ms ≡ swept n no_labels (nodes ns) none_live
 swept_joined n ns ms ls s l a e = ap (λ xs. joined (listed xs)) e ∙ (λ i. joined (listed (list_swept n (λ y. l y i) (listed (map node ns)) (λ y. a y i)))) ∙ list_swept_is n no_labels (listed (map node ns)) none_live
 
-pub function_is : (f : FunctionT ℕ) (params locals : List ℕ) (body : NodesT ℕ) → params ≡ f.params → locals ≡ f.locals → body ≡ swept f.temps no_labels f.body none_live
-    → record { temps = f.temps; params = params; locals = locals; gives = f.gives; body = body } ≡ swept_function f
-function_is f params locals body p l b = λ i. record { temps = f.temps; params = p i; locals = l i; gives = f.gives; body = b i }
+pub function_is : (f : FunctionT ℕ) (body : NodesT ℕ) → body ≡ swept f.temps no_labels f.body none_live → record f { body = body } ≡ swept_function f
+function_is f body b = λ i. record f { body = b i }

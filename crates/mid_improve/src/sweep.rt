@@ -172,7 +172,7 @@ fn sweep_nodes(
     ensures nodes { IfOk result (λ r. map node r.items ≡ list_swept count (λ y. labels_of y m.now) (listed (map node ns.now)) (on s.old)) }
 {
     let start = *next;
-    let mut found = Vec::new(alloc);
+    let mut found = Vec::with_capacity(alloc, ns.len())?;
     let mut i = ns.len();
     while i > 0 {
         i -= 1;
@@ -184,9 +184,9 @@ fn sweep_nodes(
     Ok(found)
 }
 
-/// The function without the operations that only put something where nothing reads it. The error is want of memory.
-fn sweep_function(alloc: Global, f: &Function<u32>) -> Result<Function<u32>, Memory>
-    ensures { IfOk result (λ r. function r ≡ swept_function (function f.now)) }
+/// Takes out of the function the operations that only put something where nothing reads it. The error is want of memory.
+fn sweep_function(alloc: Global, f: &mut Function<u32>) -> Result<(), Memory>
+    ensures { OnOk result (function f.new ≡ swept_function (function f.old)) }
 {
     let spare = f.temps as usize;
     let mut behind = Live::none(alloc, spare + 1)?;
@@ -201,25 +201,17 @@ fn sweep_function(alloc: Global, f: &Function<u32>) -> Result<Function<u32>, Mem
         heads.as_slice(),
         &mut next,
     )?;
-    let params = copy_words(alloc, f.params.as_slice())?;
-    let locals = copy_words(alloc, f.locals.as_slice())?;
-    Ok(Function {
-        temps: f.temps,
-        params: Seq::from_vec(params),
-        locals: Seq::from_vec(locals),
-        result: f.result,
-        body: Seq::from_vec(body),
-    })
+    f.body = Seq::from_vec(body);
+    Ok(())
 }
 
-fn sweep_functions(alloc: Global, fs: &[Function<u32>]) -> Result<Vec<Function<u32>>, Memory>
-    ensures { IfOk result (λ r. map function r.items ≡ map swept_function (map function fs.now)) }
+fn sweep_functions(alloc: Global, fs: &mut Vec<Function<u32>>) -> Result<(), Memory>
+    ensures { OnOk result (map function fs.new.items ≡ map swept_function (map function fs.old.items)) }
 {
-    let mut found = Vec::new(alloc);
-    for f in fs {
-        found.push(sweep_function(alloc, f)?)?;
+    for f in fs.iter_mut() {
+        sweep_function(alloc, f)?;
     }
-    Ok(found)
+    Ok(())
 }
 
 /// The code without the operations that only put something where nothing reads it. The error is want of memory, and then the code given is dropped.
@@ -228,8 +220,10 @@ pub(crate) fn sweep_dead(alloc: Global, m: Mid) -> Result<Mid, Memory>
 {
     mid_code_is_sound(&m);
     let of = m.into_code();
-    let start = sweep_function(alloc, &of.start)?;
-    let functions = sweep_functions(alloc, of.functions.as_slice())?;
+    let mut start = of.start;
+    sweep_function(alloc, &mut start)?;
+    let mut functions = of.functions.into_vec();
+    sweep_functions(alloc, &mut functions)?;
     Ok(Mid::new(Code {
         start,
         functions: Seq::from_vec(functions),

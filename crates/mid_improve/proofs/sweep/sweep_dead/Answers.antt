@@ -14,9 +14,9 @@ new-requires c =
     let o = code c.into_code-of.result in
     let sound : IsMid x = search rules in
     let of : o ≡ x = search rules in
-    let start : function c.in_ok-start.start ≡ swept_function (function c.into_code-of.result.start) = search rules in
+    let start : function c.sweep_function.new.f ≡ swept_function (function c.into_code-of.result.start) = search rules in
     let functions : map function c.from_vec.result ≡ map swept_function (map function c.into_code-of.result.functions) = search rules in
-    record { is_mid = (is_swept x o (function c.in_ok-start.start) (map function c.from_vec.result) sound of start functions).is_mid }
+    record { is_mid = (is_swept x o (function c.sweep_function.new.f) (map function c.from_vec.result) sound of start functions).is_mid }
 
 pub returns : goal.returns
 returns c =
@@ -24,7 +24,7 @@ returns c =
     let o = code c.into_code-of.result in
     let sound : IsMid x = search rules in
     let of : o ≡ x = search rules in
-    let start : function c.in_ok-start.start ≡ swept_function (function c.into_code-of.result.start) = search rules in
+    let start : function c.sweep_function.new.f ≡ swept_function (function c.into_code-of.result.start) = search rules in
     let functions : map function c.from_vec.result ≡ map swept_function (map function c.into_code-of.result.functions) = search rules in
-    let new : mid c.new.result ≡ with_functions o (function c.in_ok-start.start) (map function c.from_vec.result) = search rules in
-    record { swept = subst (IsSweptFrom x) (sym new) (is_swept x o (function c.in_ok-start.start) (map function c.from_vec.result) sound of start functions) }
+    let new : mid c.new.result ≡ with_functions o (function c.sweep_function.new.f) (map function c.from_vec.result) = search rules in
+    record { swept = subst (IsSweptFrom x) (sym new) (is_swept x o (function c.sweep_function.new.f) (map function c.from_vec.result) sound of start functions) }

@@ -178,7 +178,6 @@ element_kept h (StructY e) t a b u lt la lb lu = stepped_kept (words h (StructY 
 element_kept h (UnionY e) t a b u lt la lb lu = stepped_kept (words h (UnionY e)) t a b u (words_small h (UnionY e)) lt la lb (omega (arith, lu))
 element_kept h (ArrayY of len) t a b u lt la lb lu = stepped_kept (words h (ArrayY of len)) t a b u (words_small h (ArrayY of len)) lt la lb (omega (arith, lu))
 
-
 member_of_kept : {s : Site} {ls : List Bool} (place : Bool) (ty : Ty) (t : ℕ) → t < s.temps → Keeps s ls (member_of place ty t)
 member_of_kept true ty t lt = none
 member_of_kept false ty t lt = either_kept (is_structure ty) none (k_load t t lt lt)

@@ -102,7 +102,9 @@ fn count_address(known: Known, ns: &[Node<u32>], i: usize, found: &mut [u32]) {
     let Some(Op::Step(x, p, n)) = op_at(ns, i.saturating_add(1)) else {
         return;
     };
-    let Some(q) = other_than(t, *p, *n) else { return };
+    let Some(q) = other_than(t, *p, *n) else {
+        return
+    };
     let Some(next) = op_at(ns, i.saturating_add(2)) else {
         return;
     };

@@ -144,12 +144,7 @@ fn merge_inside(single: &[bool], at: &mut [Where], n: &Node<u32>, callees: Calle
 
 /// Moves first operands to the places of targets, and arguments to those of parameters, in the nodes and in those inside them.
 #[cycle(merge)]
-pub(crate) fn merge_nodes(
-    single: &[bool],
-    at: &mut [Where],
-    ns: &[Node<u32>],
-    callees: Callees,
-) {
+pub(crate) fn merge_nodes(single: &[bool], at: &mut [Where], ns: &[Node<u32>], callees: Callees) {
     let mut i = ns.len();
     while i > 0 {
         i -= 1;

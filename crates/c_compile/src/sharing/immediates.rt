@@ -113,6 +113,14 @@ fn count_address(known: Known, ns: &[Node<u32>], i: usize, found: &mut [u32]) {
     }
 }
 
+fn count_at(known: Known, addresses: bool, ns: &[Node<u32>], i: usize, found: &mut [u32]) {
+    if addresses {
+        count_address(known, ns, i, found);
+    } else {
+        count_word(known.at, ns, i, found);
+    }
+}
+
 #[cycle(counting)]
 fn count_inside(known: Known, addresses: bool, n: &Node<u32>, found: &mut [u32]) {
     match n {
@@ -131,27 +139,22 @@ fn count_inside(known: Known, addresses: bool, n: &Node<u32>, found: &mut [u32])
 
 #[cycle(counting)]
 fn count_nodes(known: Known, addresses: bool, ns: &[Node<u32>], found: &mut [u32]) {
-    let mut i = 0;
-    while i < ns.len() {
-        if addresses {
-            count_address(known, ns, i, found);
-        } else {
-            count_word(known.at, ns, i, found);
-        }
+    let mut i = ns.len();
+    while i > 0 {
+        i -= 1;
+        count_at(known, addresses, ns, i, found);
         count_inside(known, addresses, &ns[i], found);
-        i += 1;
     }
 }
 
 /// Those that were found as often as they are made, and as often as they are used.
 fn always(alloc: Global, counts: &[Count], found: &[u32]) -> Result<Vec<bool>, Memory> {
     let mut flags = Vec::new(alloc);
-    let mut i = 0;
-    while i < counts.len() {
+    let mut i: usize = 0;
+    for count in counts {
         let often = if i < found.len() { found[i] } else { 0 };
-        let count = counts[i];
         flags.push(often > 0 && count.made == often && count.used == often)?;
-        i += 1;
+        i = i.saturating_add(1);
     }
     Ok(flags)
 }
@@ -179,13 +182,19 @@ pub(crate) fn immediates(
     Ok(all)
 }
 
+fn mark(flags: &mut [bool], i: usize) {
+    if i < flags.len() {
+        flags[i] = true;
+    }
+}
+
 /// Marks what is marked in the other list.
 fn add(flags: &mut [bool], others: &[bool]) {
-    let mut i = 0;
-    while i < flags.len() {
-        if i < others.len() && others[i] {
-            flags[i] = true;
+    let mut i: usize = 0;
+    for other in others {
+        if *other {
+            mark(flags, i);
         }
-        i += 1;
+        i = i.saturating_add(1);
     }
 }

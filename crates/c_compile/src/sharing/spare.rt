@@ -27,43 +27,58 @@ fn stays(counts: &[Count], immediate: &[bool], i: usize) -> bool {
     i < counts.len() && (counts[i].made > 0 || counts[i].used > 0) && !flag(immediate, i)
 }
 
-/// The highest register in which nothing stands but immediate operands.
-fn unused(at: &[Where], counts: &[Count], immediate: &[bool]) -> Option<u32> {
-    let mut used = [false; 9];
-    let mut i = 0;
-    while i < at.len() {
-        if let Where::Reg(r) = at[i] {
-            if r <= SPARE && stays(counts, immediate, i) {
-                used[r as usize] = true;
-            }
+/// Whether something stands in the register that is named and no immediate operand.
+fn is_used(at: &[Where], counts: &[Count], immediate: &[bool], register: u32) -> bool {
+    let mut i: usize = 0;
+    for w in at {
+        if *w == Where::Reg(register) && stays(counts, immediate, i) {
+            return true;
         }
-        i += 1;
+        i = i.saturating_add(1);
     }
-    let mut r = SPARE;
-    while r > 0 && used[r as usize] {
-        r -= 1;
-    }
-    if used[r as usize] { None } else { Some(r) }
+    false
 }
 
-/// How much all that is named of some temporaries counts: the immediate operands, once for each time they are put, or all others in a register.
-fn weight_of(at: &[Where], counts: &[Count], immediate: &[bool], register: Option<u32>) -> u32 {
-    let mut sum: u32 = 0;
-    let mut i = 0;
-    while i < at.len() && i < counts.len() {
-        match register {
-            None => {
-                if flag(immediate, i) {
-                    sum = sum.saturating_add(counts[i].weight / 2);
-                }
-            }
-            Some(r) => {
-                if at[i] == Where::Reg(r) && !flag(immediate, i) {
-                    sum = sum.saturating_add(counts[i].weight);
-                }
-            }
+/// A register in which nothing stands but immediate operands.
+fn unused(at: &[Where], counts: &[Count], immediate: &[bool]) -> Option<u32> {
+    for r in [8, 7, 6, 5, 4, 3, 2, 1, 0] {
+        if !is_used(at, counts, immediate, r) {
+            return Some(r);
         }
-        i += 1;
+    }
+    None
+}
+
+fn weight_at(counts: &[Count], i: usize) -> u32 {
+    if i < counts.len() {
+        counts[i].weight
+    } else {
+        0
+    }
+}
+
+/// How much all that is named of immediate operands counts, once for each time they are put.
+fn weight_of_immediates(counts: &[Count], immediate: &[bool]) -> u32 {
+    let mut sum: u32 = 0;
+    let mut i: usize = 0;
+    for is in immediate {
+        if *is {
+            sum = sum.saturating_add(weight_at(counts, i) / 2);
+        }
+        i = i.saturating_add(1);
+    }
+    sum
+}
+
+/// How much all that is named of others in a register counts.
+fn weight_in(at: &[Where], counts: &[Count], immediate: &[bool], register: u32) -> u32 {
+    let mut sum: u32 = 0;
+    let mut i: usize = 0;
+    for w in at {
+        if *w == Where::Reg(register) && !flag(immediate, i) {
+            sum = sum.saturating_add(weight_at(counts, i));
+        }
+        i = i.saturating_add(1);
     }
     sum
 }
@@ -71,11 +86,9 @@ fn weight_of(at: &[Where], counts: &[Count], immediate: &[bool], register: Optio
 /// The register of which least is named, but for immediate operands.
 fn least_named(at: &[Where], counts: &[Count], immediate: &[bool]) -> u32 {
     let mut best = SPARE;
-    let mut least = weight_of(at, counts, immediate, Some(best));
-    let mut r = SPARE;
-    while r > 0 {
-        r -= 1;
-        let weight = weight_of(at, counts, immediate, Some(r));
+    let mut least = weight_in(at, counts, immediate, SPARE);
+    for r in [7, 6, 5, 4, 3, 2, 1, 0] {
+        let weight = weight_in(at, counts, immediate, r);
         if weight < least {
             best = r;
             least = weight;
@@ -95,15 +108,16 @@ fn slot_behind(at: &[Where]) -> u32 {
     next
 }
 
-/// What stands in a register and is no immediate operand, to a slot of its own.
-fn put_out(at: &mut [Where], immediate: &[bool], register: u32) {
-    let slot = slot_behind(at);
-    let mut i = 0;
-    while i < at.len() {
-        if at[i] == Where::Reg(register) && !flag(immediate, i) {
-            at[i] = Where::Slot(slot);
-        }
-        i += 1;
+fn put_out_at(at: &mut [Where], immediate: &[bool], i: usize, from: Where, to: Where) {
+    if i < at.len() && at[i] == from && !flag(immediate, i) {
+        at[i] = to;
+    }
+}
+
+/// What stands at a place and is no immediate operand, to another place.
+fn put_out(at: &mut [Where], immediate: &[bool], from: Where, to: Where) {
+    for i in 0..at.len() {
+        put_out_at(at, immediate, i, from, to);
     }
 }
 
@@ -119,33 +133,41 @@ fn made_room(
         return Ok(None);
     }
     let r = least_named(at, counts, immediate);
-    let lost = weight_of(at, counts, immediate, Some(r));
+    let lost = weight_in(at, counts, immediate, r);
+    let slot = slot_behind(at);
     let mut other = at.to_vec(alloc)?;
-    put_out(other.as_mut_slice(), immediate, r);
+    put_out(
+        other.as_mut_slice(),
+        immediate,
+        Where::Reg(r),
+        Where::Slot(slot),
+    );
     let left = immediates(alloc, counts, other.as_slice(), ns)?;
-    let gained = weight_of(other.as_slice(), counts, left.as_slice(), None);
+    let gained = weight_of_immediates(counts, left.as_slice());
     Ok(if gained > lost { Some(other) } else { None })
+}
+
+fn take_spare(at: &mut [Where], i: usize) {
+    if i < at.len() {
+        at[i] = Where::Reg(SPARE);
+    }
 }
 
 /// Immediate operands to register 8, and what stood there to another one.
 fn spread(at: &mut [Where], immediate: &[bool], other: u32) {
-    let mut i = 0;
-    while i < at.len() {
-        if flag(immediate, i) {
-            at[i] = Where::Reg(SPARE);
-        } else if at[i] == Where::Reg(SPARE) {
-            at[i] = Where::Reg(other);
+    put_out(at, immediate, Where::Reg(SPARE), Where::Reg(other));
+    let mut i: usize = 0;
+    for is in immediate {
+        if *is {
+            take_spare(at, i);
         }
-        i += 1;
+        i = i.saturating_add(1);
     }
 }
 
 fn strike(single: &mut [bool], t: Option<u32>) {
     if let Some(t) = t {
-        let i = t as usize;
-        if i < single.len() {
-            single[i] = false;
-        }
+        strike_at(single, t as usize);
     }
 }
 
@@ -181,14 +203,20 @@ fn strike_nodes(single: &mut [bool], immediate: &[bool], ns: &[Node<u32>]) {
     }
 }
 
+fn strike_at(single: &mut [bool], i: usize) {
+    if i < single.len() {
+        single[i] = false;
+    }
+}
+
 /// Nor does an immediate operand.
 fn strike_all(single: &mut [bool], immediate: &[bool]) {
-    let mut i = 0;
-    while i < single.len() {
-        if flag(immediate, i) {
-            single[i] = false;
+    let mut i: usize = 0;
+    for is in immediate {
+        if *is {
+            strike_at(single, i);
         }
-        i += 1;
+        i = i.saturating_add(1);
     }
 }
 

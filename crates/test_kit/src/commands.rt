@@ -214,7 +214,7 @@ fn each_refused_put_leaves_a_front(rt: HostRuntime) -> Result<(), Fail> {
         ),
         ("check p", "ok\n", 1, 0),
         ("watch p a b pads 2 none", "met\n", 1, 0),
-        ("bounds p a b e", "bound main 3\n", 1, 0),
+        ("bounds p a b e", "bound main 2\n", 1, 0),
         ("watch v a b pads 2 none", "stray at x:1\n", 3, 0),
         (
             "gen 1 e a b",

@@ -13,7 +13,8 @@ use Rattle.obj_mem.specs.Stores.{Sizes}
 use Rattle.mid_code.specs.Code.{OpT, ConstO, NullO, MoveO, OneO, TwoO, GlobalO, LocalO, LiteralO, CardO, StepO, ApartO, PtrTestO, LoadO, StoreO, FreshO, EndO, InO, OutO, WaitO, HaltO}
 use Rattle.mid_code.specs.Meaning.{Did, On, Ends}
 use Rattle.mid_code.specs.States.{State, temporaries, put_in, to, to_objects, input, output, acted, op_weight, one_word, two_words, word_or_stray}
-use Rattle.mid_fold.specs.inner.Folding.{Words, word_in, behind, known_behind, word_or, one_known, two_known, folded_op}
+use Rattle.mid_fold.specs.Lasting.{one_known, two_known}
+use Rattle.mid_fold.specs.inner.Folding.{Words, word_in, behind, known_behind, word_or, folded_op}
 use Rattle.mid_fold.proofs.Knowing.{Knows, word_is, still_known, few_known, put_off, put_on}
 
 -- ---- the same is done

@@ -5,7 +5,8 @@ use Rattle.mid_code.specs.declared.node.Op.TheVariants as op
 use Rattle.mid_code.specs.declared.node.Node.{Node}
 use Rattle.mid_code.specs.Code.{OpT, ConstO, MoveO, OneO, TwoO, NodesT, Do, Choose, Block, Loop, Leave, Again, Return, FunctionT}
 use Rattle.mid_code.specs.Functions.{NodeT, DoN, ChooseN, BlockN, LoopN, LeaveN, AgainN, ReturnN, ListT, NoN, MoreN, op_before, listed, node, before, joined, nodes}
-use Rattle.mid_fold.specs.inner.Folding.{Words, word_in, behind, one_known, two_known, word_or, known_behind, folded, folded_function}
+use Rattle.mid_fold.specs.Lasting.{one_known, two_known}
+use Rattle.mid_fold.specs.inner.Folding.{Words, word_in, behind, word_or, known_behind, folded, folded_function}
 use Rattle.mid_fold.specs.inner.Listed.{or_word, op_folded, op_known, node_known, node_folded, list_folded}
 
 -- an operation that stays or becomes a constant for its target, in memory and as plain data

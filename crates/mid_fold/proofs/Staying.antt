@@ -8,9 +8,11 @@ use Rattle.mid_code.specs.Runs.{nodes_weight, function_weight, weight}
 use Rattle.mid_code.specs.Skeleton as shape
 use Rattle.mid_code.specs.Skeleton.{some_before, some_place, skeleton, SameShape}
 use Rattle.mid_code.proofs.Skeletons.{same_shape}
-use Rattle.mid_fold.specs.inner.Folding.{Words, word_in, one_known, two_known, known_behind, folded_op, folded, folded_function, folded_code}
+use Rattle.mid_fold.specs.Lasting.{one_known, two_known}
+use Rattle.mid_fold.specs.inner.Folding.{Words, word_in, known_behind, folded_op, folded, folded_function, folded_code}
 use Rattle.mid_fold.specs.FoldedFrom.{IsFoldedFunction, EachFolded}
 use Rattle.mid_fold.proofs.Acting.{stays, weight_same}
+use Rattle.mid_fold.proofs.Lasts.{same_divisions}
 
 below_limit : (w : ℕ) → nat_lt w (2 ^ 32) ≡ true → w < 2 ^ 32
 below_limit w e = grind (arith, e)
@@ -69,7 +71,7 @@ pub code_weighs : (x : CodeT ℕ) → weight (folded_code x) ≡ weight x
 code_weighs x = λ i. weighs_same [] x.start.body i + functions_weigh x.functions i
 
 pub function_stays : (f : FunctionT ℕ) → IsFoldedFunction f (folded_function f)
-function_stays f = record { temporaries = refl; params = refl; locals = refl; gives = refl; stays = same_skeleton [] f.body }
+function_stays f = record { temporaries = refl; params = refl; locals = refl; gives = refl; stays = same_skeleton [] f.body; divisions = same_divisions f.body }
 
 pub each_folded : (fs : List (FunctionT ℕ)) → EachFolded fs (map folded_function fs)
 each_folded [] = tt

@@ -5,14 +5,17 @@ use Rattle.mid_code.specs.Runs.{mid_runs, weight}
 use Rattle.mid_code.specs.Invariants.{IsMid}
 use Rattle.mid_code.specs.Skeleton.{skeleton}
 use Rattle.mid_code.specs.Calls.{AddsNone, NoneAdd}
+use Rattle.mid_fold.specs.Lasting.{no_words, lasting}
 
--- A function keeps its temporaries, parameters and locals, and all but operations that put something into a temporary and touch nothing else.
+-- A function keeps its temporaries, parameters and locals, and all but operations that put something into a temporary and touch nothing else; of these it
+-- keeps divisions and remainders but those by a known word other than 0.
 pub record IsFoldedFunction (f g : FunctionT ℕ) : Type 0 where
   pub temporaries : g.temps ≡ f.temps
   pub params : g.params ≡ f.params
   pub locals : g.locals ≡ f.locals
   pub gives : g.gives ≡ f.gives
   pub stays : skeleton g.body ≡ skeleton f.body
+  pub divisions : lasting no_words g.body ≡ lasting no_words f.body
 
 abbrev pub EachFolded : List (FunctionT ℕ) → List (FunctionT ℕ) → Type 0
 EachFolded [] [] = Unit {0}

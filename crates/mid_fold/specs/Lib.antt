@@ -1,2 +1,3 @@
 pub mod FoldedFrom
+pub mod Lasting
 pub mod inner

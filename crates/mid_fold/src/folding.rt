@@ -1,6 +1,6 @@
 // Operations whose words are known.
 ghost use Rattle.std.specs.Prelude.{◌≡◌};
-ghost use Rattle.mid_fold.specs.inner.Folding.{one_known, two_known};
+ghost use Rattle.mid_fold.specs.Lasting.{one_known, two_known};
 ghost use Rattle.mid_fold.specs.inner.Listed.{op_folded, or_word};
 
 use crate::known::word_in;

@@ -14,7 +14,8 @@ use Rattle.mid_code.specs.Code.{OpT, ConstO, NullO, MoveO, OneO, TwoO, GlobalO, 
 use Rattle.mid_code.specs.Meaning.{Did, On, Ends}
 use Rattle.mid_code.specs.States.{State, temporaries, put, put_in, to, to_objects, input, output, acted, op_weight, one_word, two_words, word_or_stray, stepped, distance, pointers_tested}
 use Rattle.mid_improve.specs.inner.Facts.{IsWord, IsCopy, Known, fact_word, behind, with_fact, known_behind}
-use Rattle.mid_improve.specs.inner.Forward.{serves, word_or, one_known, two_known, forwarded_op}
+use Rattle.mid_fold.specs.Lasting.{one_known, two_known}
+use Rattle.mid_improve.specs.inner.Forward.{serves, word_or, forwarded_op}
 use Rattle.mid_improve.proofs.Holding.{Cells, Knows, knows_same, serves_same, word_is, still_known, one_more_known, put_off, put_on}
 
 -- ---- the same is done

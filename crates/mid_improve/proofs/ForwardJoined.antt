@@ -7,7 +7,8 @@ use Rattle.mid_code.specs.Code.{OpT, ConstO, MoveO, OneO, TwoO, NodesT, Do, Choo
 use Rattle.mid_code.specs.Functions.{NodeT, DoN, ChooseN, BlockN, LoopN, LeaveN, AgainN, ReturnN, ListT, NoN, MoreN, op_before, listed, node, before, joined, nodes}
 use Rattle.mid_improve.specs.inner.Facts.{Known, none_known, fact_word, known_behind}
 use Rattle.mid_improve.specs.inner.Listed.{op_known, node_known}
-use Rattle.mid_improve.specs.inner.Forward.{serves, one_known, two_known, word_or, forwarded, forwarded_function}
+use Rattle.mid_fold.specs.Lasting.{one_known, two_known}
+use Rattle.mid_improve.specs.inner.Forward.{serves, word_or, forwarded, forwarded_function}
 use Rattle.mid_improve.specs.inner.ForwardListed.{or_word, op_forwarded, node_forwarded, list_forwarded}
 
 -- an operation that stays or becomes a constant for its target, in memory and as plain data

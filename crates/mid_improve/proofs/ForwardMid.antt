@@ -7,7 +7,8 @@ use Rattle.mid_code.specs.Invariants.{IsOp, AreNodes, AllOf, Names, CallsNone, I
 use Rattle.mid_code.specs.Runs.{nodes_weight, function_weight, weight}
 use Rattle.mid_code.specs.Skeleton.{stays as bones, some_before, some_place, skeleton}
 use Rattle.mid_improve.specs.inner.Facts.{Fact, IsWord, IsCopy, Known, none_known, fact_word, fact_source, unless_copy, behind, behind_maybe, with_fact, known_behind}
-use Rattle.mid_improve.specs.inner.Forward.{or_itself, serves, word_or, one_known, two_known, forwarded_op, forwarded, forwarded_function, forwarded_code}
+use Rattle.mid_fold.specs.Lasting.{one_known, two_known}
+use Rattle.mid_improve.specs.inner.Forward.{or_itself, serves, word_or, forwarded_op, forwarded, forwarded_function, forwarded_code}
 use Rattle.mid_improve.proofs.Holding.{as_many}
 use Rattle.mid_improve.proofs.Acting.{stays, weight_same}
 
@@ -97,11 +98,11 @@ bones_same k (OutO port a) = refl
 bones_same k WaitO = refl
 bones_same k HaltO = refl
 
-places_same : (k : Known) (qs : List ℕ) → map (λ q. tt) (map (serves k) qs) ≡ map {B = Unit {0}} (λ q. tt) qs
+pub places_same : (k : Known) (qs : List ℕ) → map (λ q. tt) (map (serves k) qs) ≡ map {B = Unit {0}} (λ q. tt) qs
 places_same k [] = refl
 places_same k (q ∷ qs) = ap (λ us. tt ∷ us) (places_same k qs)
 
-place_same : (k : Known) (p : Option ℕ) → some_place (option_map (serves k) p) ≡ some_place p
+pub place_same : (k : Known) (p : Option ℕ) → some_place (option_map (serves k) p) ≡ some_place p
 place_same k None = refl
 place_same k (Some q) = refl
 

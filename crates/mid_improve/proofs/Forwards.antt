@@ -8,10 +8,11 @@ use Rattle.mid_improve.proofs.Running.{run_same}
 use Rattle.mid_improve.proofs.Settling.{forward_settles}
 use Rattle.mid_improve.proofs.Fitting.{fits}
 use Rattle.mid_improve.specs.inner.Facts.{none_known}
+use Rattle.mid_improve.proofs.ForwardLasts.{forwarded_divisions}
 use Rattle.mid_improve.proofs.ForwardMid.{skeleton_same, code_weighs, none_add, adds_none, forwarded_mid}
 
 function_forwarded : (x : CodeT ℕ) (f : FunctionT ℕ) → IsFunction IsTemporary x f → IsForwardedFunction f (forwarded_function f)
-function_forwarded x f ok = record { temporaries = refl; params = refl; locals = refl; gives = refl; stays = skeleton_same none_known f.body; settled = forward_settles fits x (length f.locals) [] f.body ok.nodes }
+function_forwarded x f ok = record { temporaries = refl; params = refl; locals = refl; gives = refl; stays = skeleton_same none_known f.body; divisions = forwarded_divisions f.body; settled = forward_settles fits x (length f.locals) [] f.body ok.nodes }
 
 each_forwarded : (x : CodeT ℕ) (fs : List (FunctionT ℕ)) → AllOf (IsFunction IsTemporary x) fs → EachForwarded fs (map forwarded_function fs)
 each_forwarded x [] ok = tt

@@ -31,7 +31,7 @@ none_through (f ∷ fs) (g ∷ gs) [] p q = absurd q
 none_through (f ∷ fs) (g ∷ gs) (h ∷ hs) p q = (adds_through f.body g.body h.body p.0 q.0, none_through fs gs hs p.1 q.1)
 
 function_through : (f g h : FunctionT ℕ) → IsImprovedFunction f g → IsImprovedFunction g h → IsImprovedFunction f h
-function_through f g h p q = record { temporaries = q.temporaries ∙ p.temporaries; params = q.params ∙ p.params; locals = q.locals ∙ p.locals; gives = q.gives ∙ p.gives; stays = q.stays ∙ p.stays; together = λ ks l. q.together ks (p.together ks l) }
+function_through f g h p q = record { temporaries = q.temporaries ∙ p.temporaries; params = q.params ∙ p.params; locals = q.locals ∙ p.locals; gives = q.gives ∙ p.gives; stays = q.stays ∙ p.stays; divisions = q.divisions ∙ p.divisions; together = λ ks l. q.together ks (p.together ks l) }
 
 each_through : (fs gs hs : List (FunctionT ℕ)) → EachImproved fs gs → EachImproved gs hs → EachImproved fs hs
 each_through [] [] [] p q = tt
@@ -73,7 +73,7 @@ pub same_run : (a b : Run) → b ≡ a → KeepsRun a.end a b
 same_run a b e = subst (KeepsRun a.end a) (sym e) (itself a.end a refl)
 
 function_folded : (f g : FunctionT ℕ) → IsFoldedFunction f g → IsImprovedFunction f g
-function_folded f g h = record { temporaries = h.temporaries; params = h.params; locals = h.locals; gives = h.gives; stays = h.stays; together = (same_shape f.body g.body h.stays).at_once }
+function_folded f g h = record { temporaries = h.temporaries; params = h.params; locals = h.locals; gives = h.gives; stays = h.stays; divisions = h.divisions; together = (same_shape f.body g.body h.stays).at_once }
 
 each_folded : (fs gs : List (FunctionT ℕ)) → EachFolded fs gs → EachImproved fs gs
 each_folded [] [] a = tt
@@ -97,7 +97,7 @@ folded x y h = record {
 }
 
 function_forwarded : (f g : FunctionT ℕ) → IsForwardedFunction f g → IsImprovedFunction f g
-function_forwarded f g h = record { temporaries = h.temporaries; params = h.params; locals = h.locals; gives = h.gives; stays = h.stays; together = (same_shape f.body g.body h.stays).at_once }
+function_forwarded f g h = record { temporaries = h.temporaries; params = h.params; locals = h.locals; gives = h.gives; stays = h.stays; divisions = h.divisions; together = (same_shape f.body g.body h.stays).at_once }
 
 each_forwarded : (fs gs : List (FunctionT ℕ)) → EachForwarded fs gs → EachImproved fs gs
 each_forwarded [] [] a = tt
@@ -133,7 +133,7 @@ forwards x y h = record {
 -- ---- the sweep
 
 function_swept : (f g : FunctionT ℕ) → IsSweptFunction f g → IsImprovedFunction f g
-function_swept f g h = record { temporaries = h.temporaries; params = h.params; locals = h.locals; gives = h.gives; stays = h.stays; together = (same_shape f.body g.body h.stays).at_once }
+function_swept f g h = record { temporaries = h.temporaries; params = h.params; locals = h.locals; gives = h.gives; stays = h.stays; divisions = h.divisions; together = (same_shape f.body g.body h.stays).at_once }
 
 each_swept : (fs gs : List (FunctionT ℕ)) → EachSwept fs gs → EachImproved fs gs
 each_swept [] [] a = tt

@@ -7,7 +7,8 @@ use Rattle.mid_code.specs.declared.node.Op.TheVariants as op
 use Rattle.mid_code.specs.declared.node.Node.{Node}
 use Rattle.mid_code.specs.Code.{OpT, ConstO, NullO, MoveO, OneO, TwoO, GlobalO, LocalO, LiteralO, CardO, StepO, ApartO, PtrTestO, LoadO, StoreO, FreshO, EndO, InO, OutO, WaitO, HaltO, NodesT, Stop, Do, Call, Choose, Block, Loop, Leave, Again, Return, uses}
 use Rattle.mid_code.specs.Functions.{op_before, NodeT, DoN, ChooseN, BlockN, LoopN, LeaveN, AgainN, ReturnN, ListT, NoN, MoreN, listed, node, nodes, before, joined}
-use Rattle.mid_improve.specs.Settled.{InRun, Acts, Calls, Before, makes, word_put, moved, word_of, unless_is, unless_made, source_of, divides, is_zero, can_be_folded, are_no_copies, nodes_settled}
+use Rattle.mid_fold.specs.Lasting.{divides}
+use Rattle.mid_improve.specs.Settled.{InRun, Acts, Calls, Before, makes, word_put, moved, word_of, unless_is, unless_made, source_of, is_zero, can_be_folded, are_no_copies, nodes_settled}
 use Rattle.mid_improve.specs.inner.Facts.{Fact, IsWord, IsCopy, Known, none_known, fact_word, fact_source, unless_copy, behind, behind_maybe, with_fact, known_behind, folds, is_no_copy, all_settled}
 use Rattle.mid_improve.specs.inner.Listed.{op_known, op_settled, node_known, node_settled, list_settled}
 

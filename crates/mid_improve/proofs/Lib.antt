@@ -10,6 +10,7 @@ pub mod Settling
 pub mod ForwardJoined
 pub mod Fitting
 pub mod ForwardMid
+pub mod ForwardLasts
 pub mod Forwards
 pub mod SweepPass
 pub mod SweepOps
@@ -17,6 +18,7 @@ pub mod SweepKeeps
 pub mod SweepLive
 pub mod SweepLike
 pub mod SweepProgram
+pub mod SweepLasts
 pub mod SweepMid
 pub mod SweepJoined
 pub mod SinkPass
@@ -25,6 +27,7 @@ pub mod SinkOps
 pub mod SinkKeeps
 pub mod SinkLike
 pub mod SinkProgram
+pub mod SinkLasts
 pub mod SinkMid
 pub mod SinkJoined
 pub mod Sinks
@@ -33,6 +36,7 @@ pub mod RetargetOps
 pub mod RetargetKeeps
 pub mod RetargetLike
 pub mod RetargetProgram
+pub mod RetargetLasts
 pub mod RetargetMid
 pub mod RetargetJoined
 pub mod Improving

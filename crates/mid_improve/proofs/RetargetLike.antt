@@ -27,15 +27,15 @@ begin_in (b ∷ bs) (suc k) h = begin_in bs k h
 -- ---- what stands behind an operation whose target lands elsewhere
 
 -- the move of the target
-abbrev IsMove : ℕ × ℕ → OpT ℕ → Type 0
+abbrev pub IsMove : ℕ × ℕ → OpT ℕ → Type 0
 IsMove p (MoveO x a) = (x ≡ p.1) × (a ≡ p.0)
 IsMove p o = ⊥
 
-abbrev Begins : ℕ × ℕ → NodesT ℕ → Type 0
+abbrev pub Begins : ℕ × ℕ → NodesT ℕ → Type 0
 Begins p (Do o c) = IsMove p o
 Begins p c = ⊥
 
-abbrev Ready : Turn → NodesT ℕ → Type 0
+abbrev pub Ready : Turn → NodesT ℕ → Type 0
 Ready None c = Unit {0}
 Ready (Some p) c = Begins p c
 
@@ -72,7 +72,7 @@ op_ready t (OutO port a) c = at_itself t (Do (OutO port a) c)
 op_ready t WaitO c = at_itself t (Do WaitO c)
 op_ready t HaltO c = at_itself t (Do HaltO c)
 
-ready : (t : Option ℕ) (c : NodesT ℕ) → Ready (turn_of t (landed t c)) c
+pub ready : (t : Option ℕ) (c : NodesT ℕ) → Ready (turn_of t (landed t c)) c
 ready None c = tt
 ready (Some t) Stop = at_itself t Stop
 ready (Some t) (Do o c) = op_ready t o c
@@ -120,7 +120,7 @@ op_like (Some v) (OutO port a) c r = absurd r
 op_like (Some v) WaitO c r = absurd r
 op_like (Some v) HaltO c r = absurd r
 
-op_behind : (h : Turn) (o : OpT ℕ) (c : NodesT ℕ) → Ready (op_turn h o c) c
+pub op_behind : (h : Turn) (o : OpT ℕ) (c : NodesT ℕ) → Ready (op_turn h o c) c
 op_behind None o c = ready (target o) c
 op_behind (Some v) (MoveO x a) c = tt
 op_behind (Some v) (ConstO q n) c = ready (target (ConstO q n)) c
@@ -144,7 +144,7 @@ op_behind (Some v) WaitO c = ready (target WaitO) c
 op_behind (Some v) HaltO c = ready (target HaltO) c
 
 -- a turn is over where something else stands than an operation
-none_else : (h : Turn) (c : NodesT ℕ) → Ready h c → ((p : ℕ × ℕ) → Begins p c → ⊥) → h ≡ None
+pub none_else : (h : Turn) (c : NodesT ℕ) → Ready h c → ((p : ℕ × ℕ) → Begins p c → ⊥) → h ≡ None
 none_else None c r n = refl
 none_else (Some p) c r n = absurd (n p r)
 

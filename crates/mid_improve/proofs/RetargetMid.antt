@@ -9,6 +9,7 @@ use Rattle.mid_code.specs.Skeleton.{some_before, some_place, skeleton}
 use Rattle.mid_code.specs.Skeleton as bones
 use Rattle.mid_code.specs.States.{op_weight}
 use Rattle.mid_code.proofs.Skeletons.{same_shape}
+use Rattle.mid_improve.proofs.RetargetLasts.{place_same, retargeted_divisions}
 use Rattle.mid_improve.specs.ImprovedFrom.{IsImprovedFunction, EachImproved, IsNoWorseFrom}
 use Rattle.mid_improve.specs.inner.Retarget.{landing, lands, op_into, op_to, Turn, turn_of, op_retargeted, op_turn, retargeted, retargeted_function, retargeted_code}
 use Rattle.mid_improve.proofs.RetargetProgram.{retargeted_keeps, retargeted_works}
@@ -93,10 +94,6 @@ bones_into x HaltO = refl
 
 bones_op : (h : Turn) (o : OpT ℕ) (c : NodesT ℕ) → bones.stays (op_retargeted h o c) ≡ bones.stays o
 bones_op h o c = op_either (λ o p. bones.stays p ≡ bones.stays o) bones_into (λ o. refl) (λ x a t u. refl) h o c
-
-place_same : (t : Option ℕ) (c : NodesT ℕ) → some_place (lands t c) ≡ some_place t
-place_same None c = refl
-place_same (Some t) c = refl
 
 -- ---- weight and skeleton
 
@@ -367,7 +364,7 @@ module _ (x : CodeT ℕ) where
 function_retargeted : (f : FunctionT ℕ) → IsImprovedFunction f (retargeted_function f)
 function_retargeted f =
     let s = skeleton_same None f.body in
-    record { temporaries = refl; params = refl; locals = refl; gives = refl; stays = s; together = (same_shape f.body (retargeted None f.body) s).at_once }
+    record { temporaries = refl; params = refl; locals = refl; gives = refl; stays = s; divisions = retargeted_divisions f.body; together = (same_shape f.body (retargeted None f.body) s).at_once }
 
 each_retargeted : (fs : List (FunctionT ℕ)) → EachImproved fs (map retargeted_function fs)
 each_retargeted [] = tt

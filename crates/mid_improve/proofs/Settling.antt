@@ -12,9 +12,11 @@ use Rattle.v32_isa.specs.Arithmetic.{one_of, two_of}
 use Rattle.mid_code.specs.Code.{OpT, ConstO, NullO, MoveO, OneO, TwoO, GlobalO, LocalO, LiteralO, CardO, StepO, ApartO, PtrTestO, LoadO, StoreO, FreshO, EndO, InO, OutO, WaitO, HaltO}
 use Rattle.mid_code.specs.Code.{NodesT, Stop, Do, Call, Choose, Block, Loop, Leave, Again, Return, CodeT, uses}
 use Rattle.mid_code.specs.Invariants.{IsOne, IsOp, AreNodes}
-use Rattle.mid_improve.specs.Settled.{divides, is_zero, nodes_settled}
+use Rattle.mid_fold.specs.Lasting.{divides}
+use Rattle.mid_improve.specs.Settled.{is_zero, nodes_settled}
 use Rattle.mid_improve.specs.inner.Facts.{Fact, IsWord, IsCopy, Known, none_known, fact_word, fact_source, unless_copy, behind, behind_maybe, with_fact, known_behind, folds, is_no_copy, all_settled}
-use Rattle.mid_improve.specs.inner.Forward.{or_itself, serves, word_or, one_known, two_known, forwarded_op, forwarded}
+use Rattle.mid_fold.specs.Lasting.{one_known, two_known}
+use Rattle.mid_improve.specs.inner.Forward.{or_itself, serves, word_or, forwarded_op, forwarded}
 use Rattle.mid_improve.proofs.Holding.{turned}
 use Rattle.mid_improve.proofs.Acting.{stays}
 use Rattle.mid_improve.proofs.Joined.{settled_by, none_tells}

@@ -5,6 +5,7 @@ use Rattle.mid_code.specs.Invariants.{IsMid}
 use Rattle.mid_improve.specs.ImprovedFrom.{IsImprovedFunction, EachImproved, IsNoWorseFrom}
 use Rattle.mid_improve.specs.inner.Sinking.{sunk_function, sunk_code, AreSunk, IsSunkCode}
 use Rattle.mid_improve.proofs.SinkProgram.{sunk_keeps, sunk_works}
+use Rattle.mid_improve.proofs.SinkLasts.{sunk_divisions}
 use Rattle.mid_improve.proofs.SinkMid.{sunk_mid, sunk_weighs, sunk_stays, sunk_shape, none_add}
 
 are_sunk : (fs : List (FunctionT ℕ)) → AreSunk fs (map sunk_function fs)
@@ -15,7 +16,7 @@ is_sunk : (x : CodeT ℕ) → IsSunkCode x (sunk_code x)
 is_sunk x = record { start = refl; functions = are_sunk x.functions; globals = refl; literals = refl; main = refl }
 
 function_sunk : (f : FunctionT ℕ) → IsImprovedFunction f (sunk_function f)
-function_sunk f = record { temporaries = refl; params = refl; locals = refl; gives = refl; stays = sunk_stays f (sunk_function f) refl; together = (sunk_shape f (sunk_function f) refl).at_once }
+function_sunk f = record { temporaries = refl; params = refl; locals = refl; gives = refl; stays = sunk_stays f (sunk_function f) refl; divisions = sunk_divisions f.body; together = (sunk_shape f (sunk_function f) refl).at_once }
 
 each_sunk : (fs : List (FunctionT ℕ)) → EachImproved fs (map sunk_function fs)
 each_sunk [] = tt

@@ -13,7 +13,7 @@ use Rattle.mid_improve.specs.inner.Sweep.{left, swept}
 use Rattle.mid_improve.proofs.SweepLive.{left_of, right_of, unwanted, head_covers}
 use Rattle.mid_improve.proofs.SweepPass.{hits, Through, Uses, stays, goes, sweeping}
 
-all_among : (us : List ℕ) (Q : ℕ → Type 0) → ((q : ℕ) → is_among us q ≡ true → Q q) → AllOf Q us
+pub all_among : (us : List ℕ) (Q : ℕ → Type 0) → ((q : ℕ) → is_among us q ≡ true → Q q) → AllOf Q us
 all_among [] Q h = tt
 all_among (u ∷ us) Q h = (h u (left_of (eqb u u) (is_among us u) (eq-eqb u u refl)), all_among us Q (λ q e. h q (right_of (eqb u q) (is_among us q) e)))
 

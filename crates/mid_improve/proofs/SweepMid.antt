@@ -13,6 +13,7 @@ use Rattle.mid_improve.specs.Settled.{only_puts}
 use Rattle.mid_improve.specs.inner.Wanted.{Labels, Set, live_set, in_block, in_loop, maybe_wanted, all_wanted}
 use Rattle.mid_improve.specs.inner.Sweep.{left, swept, no_labels, none_live, swept_function, swept_code}
 use Rattle.mid_improve.specs.inner.SweptFrom.{IsSweptFunction, EachSwept, HasWanted, IsSweptAlready, IsSweptFrom}
+use Rattle.mid_improve.proofs.SweepLasts.{swept_divisions}
 use Rattle.mid_improve.proofs.SweepLive.{turn_same, unwanted}
 use Rattle.mid_improve.proofs.Wanting.{each_live}
 use Rattle.mid_improve.proofs.SweepProgram.{swept_keeps, swept_works}
@@ -324,7 +325,7 @@ code_lighter x mid = go (function_lighter x x.start mid.start.function) (functio
     go (inr v) (inl m) = let e = ap (λ g. nodes_weight g.body) v.same in inl (omega (arith, m, e))
 
 function_swept : (f : FunctionT ℕ) → IsSweptFunction f (swept_function f)
-function_swept f = record { temporaries = refl; params = refl; locals = refl; gives = refl; stays = skeleton_same f.temps no_labels f.body none_live }
+function_swept f = record { temporaries = refl; params = refl; locals = refl; gives = refl; stays = skeleton_same f.temps no_labels f.body none_live; divisions = swept_divisions f.temps f.body }
 
 each_swept : (fs : List (FunctionT ℕ)) → EachSwept fs (map swept_function fs)
 each_swept [] = tt

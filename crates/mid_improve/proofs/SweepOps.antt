@@ -19,7 +19,8 @@ use Rattle.mid_code.specs.Meaning.{Did, On, Ends, Lang}
 use Rattle.mid_code.specs.States.{State, temporaries, put_in, one_word, two_words, word_or_stray, stepped, distance, pointers_tested, to, in_world, to_objects, input, output, spent, over_worlds, sizes_of}
 use Rattle.mid_code.specs.inner.Passing.{then_act, acts, Prefix, Pass, DidAlike}
 use Rattle.mid_code.proofs.More.{all_of}
-use Rattle.mid_improve.specs.Settled.{divides, only_puts}
+use Rattle.mid_fold.specs.Lasting.{divides}
+use Rattle.mid_improve.specs.Settled.{only_puts}
 use Rattle.mid_improve.specs.inner.Wanted.{Set}
 use Rattle.mid_improve.proofs.SweepPass.{SameWorlds, worlds_spend, worlds_store, worlds_happened, Agree, Less, Through, Uses, less_agrees, world_agrees, spent_agrees, put_agrees, dead_agrees, Sweeps, stays, goes, sweeping}
 

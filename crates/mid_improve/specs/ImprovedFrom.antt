@@ -7,16 +7,19 @@ use Rattle.mid_code.specs.Keeps.{KeepsRuns, WorksAtMost}
 use Rattle.mid_code.specs.Open.{LiveAtOnce}
 use Rattle.mid_code.specs.Skeleton.{skeleton}
 use Rattle.mid_code.specs.Calls.{AddsNone, NoneAdd}
+use Rattle.mid_fold.specs.Lasting.{no_words, lasting}
 use Rattle.mid_improve.specs.Settled.{IsSettled}
 
 -- A function keeps its temporaries, parameters and locals, and all but operations that put something into a temporary and touch nothing else: blocks,
--- loops, choices, leaves, calls, loads, stores, what makes or ends a local, and port operations. So locals that lived at once still do.
+-- loops, choices, leaves, calls, loads, stores, what makes or ends a local, and port operations; and each division and remainder but those by a known word
+-- other than 0. So locals that lived at once still do.
 pub record IsImprovedFunction (f g : FunctionT ℕ) : Type 0 where
   pub temporaries : g.temps ≡ f.temps
   pub params : g.params ≡ f.params
   pub locals : g.locals ≡ f.locals
   pub gives : g.gives ≡ f.gives
   pub stays : skeleton g.body ≡ skeleton f.body
+  pub divisions : lasting no_words g.body ≡ lasting no_words f.body
   pub together : (ks : List ℕ) → LiveAtOnce f.body ks → LiveAtOnce g.body ks
 
 abbrev pub EachImproved : List (FunctionT ℕ) → List (FunctionT ℕ) → Type 0

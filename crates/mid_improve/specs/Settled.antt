@@ -1,13 +1,12 @@
 -- Settled code: no operator is left whose words are known, no operand is a copy, and no operation only puts something where nothing reads it.
 use Rattle.std.specs.Prelude.{ℕ, ◌≡◌, Bool, true, false, not, eqb, cond, ◌&&◌, List, [], ◌∷◌, is_some, Option, Some, None}
 use Rattle.std.specs.List.{list_all}
-use Rattle.v32_isa.specs.declared.instruction.Two.{Two}
-use Rattle.v32_isa.specs.declared.instruction.Two.TheVariants.{IDIV, IMOD}
 use Rattle.mid_code.specs.Code.{OpT, ConstO, NullO, MoveO, OneO, TwoO, GlobalO, LocalO, LiteralO, CardO, uses, target}
 use Rattle.mid_code.specs.Code.{NodesT, Stop, Do, Call, Choose, Block, Loop, Leave, Again, Return, FunctionT, CodeT}
 use Rattle.mid_code.specs.Invariants.{AllOf}
 use Rattle.mid_code.specs.Live.{Live}
 use Rattle.mid_code.specs.Paths.{Frame, Each}
+use Rattle.mid_fold.specs.Lasting.{divides}
 
 -- ---- what is known at a point of a run, which is a stretch of operations and calls that stand together in a list
 
@@ -54,11 +53,6 @@ source_of [] q = None
 source_of (x ∷ xs) q = cond (makes x q) (unless_is q (moved x)) (unless_made x (source_of xs q))
 
 -- ---- runs
-
-abbrev pub divides : Two → Bool
-divides IDIV = true
-divides IMOD = true
-divides _ = false
 
 abbrev pub is_zero : Option ℕ → Bool
 is_zero None = false

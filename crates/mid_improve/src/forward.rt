@@ -3,7 +3,8 @@ ghost use Rattle.std.specs.Prelude.{◌≡◌, ◌++◌, ◌∷◌, [], map, opt
 ghost use Rattle.mid_code.specs.Functions.{function, listed, node};
 ghost use Rattle.mid_code.specs.Whole.{mid};
 ghost use Rattle.mid_improve.specs.inner.ForwardedFrom.{IsForwardedFrom};
-ghost use Rattle.mid_improve.specs.inner.Forward.{serves, one_known, two_known, forwarded_function};
+ghost use Rattle.mid_fold.specs.Lasting.{one_known, two_known};
+ghost use Rattle.mid_improve.specs.inner.Forward.{serves, forwarded_function};
 ghost use Rattle.mid_improve.specs.inner.ForwardListed.{or_word, op_forwarded, node_forwarded, list_forwarded};
 ghost use Rattle.mid_improve.specs.inner.Facts.{none_known};
 ghost use Rattle.mid_improve.specs.inner.Listed.{node_known};

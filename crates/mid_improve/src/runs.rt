@@ -2,7 +2,8 @@
 ghost use Rattle.std.specs.Prelude.{◌≡◌, [], map, IfOk, OnOk};
 ghost use Rattle.std.specs.List.{list_all};
 ghost use Rattle.mid_code.specs.Functions.{function, node, listed};
-ghost use Rattle.mid_improve.specs.Settled.{divides, is_zero, nodes_settled};
+ghost use Rattle.mid_fold.specs.Lasting.{divides};
+ghost use Rattle.mid_improve.specs.Settled.{is_zero, nodes_settled};
 ghost use Rattle.mid_improve.specs.inner.Facts.{none_known, behind_maybe, is_no_copy};
 ghost use Rattle.mid_improve.specs.inner.Listed.{one_settled, two_folds, op_known, op_settled, node_known, node_settled, list_settled};
 ghost use Rattle.mid_improve.specs.inner.Tables.{facts};

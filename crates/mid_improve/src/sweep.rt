@@ -9,7 +9,7 @@ ghost use Rattle.mid_improve.specs.inner.Sweep.{swept_function};
 ghost use Rattle.mid_improve.specs.inner.SweepListed.{node_left, list_left, node_swept, list_swept};
 ghost use Rattle.mid_improve.specs.inner.SweptFrom.{IsSweptFrom};
 
-use crate::targets::is_op_wanted;
+use crate::targets::{is_op_wanted, make_room};
 use kit_base::{Memory, Seq};
 use mid_code::laws::mid_code_is_sound;
 use mid_code::{Code, Function, Mid, Node, Op};
@@ -185,19 +185,27 @@ fn sweep_nodes(
 }
 
 /// Takes out of the function the operations that only put something where nothing reads it. The error is want of memory.
-fn sweep_function(alloc: Global, f: &mut Function<u32>) -> Result<(), Memory>
-    ensures { OnOk result (function f.new ≡ swept_function (function f.old)) }
+/// The set has room for `have` temporaries.
+fn sweep_function(
+    alloc: Global,
+    f: &mut Function<u32>,
+    s: &mut Live,
+    have: &mut usize,
+) -> Result<(), Memory>
+    requires have { have.old ≤ room s.old }
+    ensures have { OnOk result (have.new ≤ room s.new) }
+    ensures swept { OnOk result (function f.new ≡ swept_function (function f.old)) }
 {
     let spare = f.temps as usize;
-    let mut behind = Live::none(alloc, spare + 1)?;
-    let heads = heads_in(alloc, f.body.as_slice(), &mut behind, spare)?;
+    make_room(alloc, s, have, spare + 1)?;
+    let heads = heads_in(alloc, f.body.as_slice(), s, spare)?;
     let mut next = 0;
     let body = sweep_nodes(
         alloc,
         f.temps,
         f.body.as_slice(),
         &outside(),
-        &mut behind,
+        s,
         heads.as_slice(),
         &mut next,
     )?;
@@ -205,11 +213,17 @@ fn sweep_function(alloc: Global, f: &mut Function<u32>) -> Result<(), Memory>
     Ok(())
 }
 
-fn sweep_functions(alloc: Global, fs: &mut Vec<Function<u32>>) -> Result<(), Memory>
+fn sweep_functions(
+    alloc: Global,
+    fs: &mut Vec<Function<u32>>,
+    s: &mut Live,
+    have: &mut usize,
+) -> Result<(), Memory>
+    requires have { have.old ≤ room s.old }
     ensures { OnOk result (map function fs.new.items ≡ map swept_function (map function fs.old.items)) }
 {
     for f in fs.iter_mut() {
-        sweep_function(alloc, f)?;
+        sweep_function(alloc, f, s, have)?;
     }
     Ok(())
 }
@@ -220,10 +234,12 @@ pub(crate) fn sweep_dead(alloc: Global, m: Mid) -> Result<Mid, Memory>
 {
     mid_code_is_sound(&m);
     let of = m.into_code();
+    let mut have = 0;
+    let mut live = Live::none(alloc, have)?;
     let mut start = of.start;
-    sweep_function(alloc, &mut start)?;
+    sweep_function(alloc, &mut start, &mut live, &mut have)?;
     let mut functions = of.functions.into_vec();
-    sweep_functions(alloc, &mut functions)?;
+    sweep_functions(alloc, &mut functions, &mut live, &mut have)?;
     Ok(Mid::new(Code {
         start,
         functions: Seq::from_vec(functions),

@@ -155,21 +155,46 @@ fn walk_nodes(
     Ok(fine)
 }
 
-/// Whether each target of an operation that only puts something into it is live behind the operation.
-pub(crate) fn are_targets_live(alloc: Global, f: &Function<u32>) -> Result<bool, Memory>
+/// Makes room for so many temporaries in a set that has room for `have`; what is in it is not told then.
+pub(crate) fn make_room(
+    alloc: Global,
+    s: &mut Live,
+    have: &mut usize,
+    count: usize,
+) -> Result<(), Memory>
+    requires have { have.old ≤ room s.old }
+    ensures room { OnOk result (count ≤ room s.new) }
+    ensures have { OnOk result (have.new ≤ room s.new) }
+{
+    if *have < count {
+        *s = Live::none(alloc, count)?;
+        *have = count;
+    }
+    Ok(())
+}
+
+/// Whether each target of an operation that only puts something into it is live behind the operation. The set has room for `have` temporaries.
+pub(crate) fn are_targets_live(
+    alloc: Global,
+    f: &Function<u32>,
+    s: &mut Live,
+    have: &mut usize,
+) -> Result<bool, Memory>
     requires named { IsNamed (function f.now) }
-    ensures { IfOk result (λ b. (b ≡ true) ↔ Each IsWanted [] (function f.now).body) }
+    requires have { have.old ≤ room s.old }
+    ensures have { OnOk result (have.new ≤ room s.new) }
+    ensures live { IfOk result (λ b. (b ≡ true) ↔ Each IsWanted [] (function f.now).body) }
 {
     let spare = f.temps as usize;
-    let mut behind = Live::none(alloc, spare + 1)?;
-    let heads = heads_in(alloc, f.body.as_slice(), &mut behind, spare)?;
+    make_room(alloc, s, have, spare + 1)?;
+    let heads = heads_in(alloc, f.body.as_slice(), s, spare)?;
     let mut next = 0;
     let fine = walk_nodes(
         alloc,
         f.temps,
         f.body.as_slice(),
         &outside(),
-        &mut behind,
+        s,
         heads.as_slice(),
         &mut next,
     )?;

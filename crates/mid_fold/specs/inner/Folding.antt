@@ -1,9 +1,7 @@
 -- Constant folding: an operator whose words are known puts the word that it makes of them, and a move of a known word puts that word.
 use Rattle.std.specs.Prelude.{ℕ, ◌^◌, eqb, nat_lt, cond, min, take, length, List, [], ◌∷◌, map, Option, Some, None}
-use Rattle.v32_isa.specs.declared.instruction.One.{One}
-use Rattle.v32_isa.specs.declared.instruction.Two.{Two}
-use Rattle.v32_isa.specs.Arithmetic.{one_of, two_of}
 use Rattle.mid_code.specs.Code.{OpT, ConstO, MoveO, OneO, TwoO, NodesT, Stop, Do, Call, Choose, Block, Loop, Leave, Again, Return, FunctionT, CodeT, target}
+use Rattle.mid_fold.specs.Lasting.{one_known, two_known}
 
 -- ---- what is known at a point
 
@@ -38,16 +36,6 @@ known_behind es o = behind_maybe es (target o)
 abbrev pub word_or : ℕ → OpT ℕ → Option ℕ → OpT ℕ
 word_or t o None = o
 word_or t o (Some word) = cond (nat_lt word (2 ^ 32)) (ConstO t word) o
-
--- what operators make of known words
-abbrev pub one_known : One → Option ℕ → Option ℕ
-one_known o None = None
-one_known o (Some x) = one_of o x
-
-abbrev pub two_known : Two → Option ℕ → Option ℕ → Option ℕ
-two_known o None b = None
-two_known o (Some x) None = None
-two_known o (Some x) (Some y) = two_of o x y
 
 -- A division by 0 makes no word, and stays.
 abbrev pub folded_op : Words → OpT ℕ → OpT ℕ

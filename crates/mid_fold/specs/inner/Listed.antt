@@ -3,7 +3,8 @@ use Rattle.std.specs.Prelude.{ℕ, ◌^◌, nat_lt, cond, List, [], ◌∷◌, O
 use Rattle.mid_code.specs.declared.node.Op.{Op}
 use Rattle.mid_code.specs.declared.node.Op.TheVariants as op
 use Rattle.mid_code.specs.Functions.{NodeT, DoN, ChooseN, BlockN, LoopN, LeaveN, AgainN, ReturnN, ListT, NoN, MoreN, listed}
-use Rattle.mid_fold.specs.inner.Folding.{Words, word_in, behind, few, one_known, two_known}
+use Rattle.mid_fold.specs.Lasting.{one_known, two_known}
+use Rattle.mid_fold.specs.inner.Folding.{Words, word_in, behind, few}
 
 abbrev pub or_word : ℕ → Op ℕ → Option ℕ → Op ℕ
 or_word t o None = o

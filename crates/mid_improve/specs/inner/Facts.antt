@@ -3,7 +3,8 @@ use Rattle.std.specs.Prelude.{ℕ, Bool, true, false, not, eqb, cond, ◌&&◌, 
 use Rattle.std.specs.List.{list_all}
 use Rattle.mid_code.specs.Code.{OpT, ConstO, MoveO, OneO, TwoO, uses, target}
 use Rattle.mid_code.specs.Code.{NodesT, Stop, Do, Call, Choose, Block, Loop, Leave, Again, Return}
-use Rattle.mid_improve.specs.Settled.{divides, is_zero}
+use Rattle.mid_fold.specs.Lasting.{divides}
+use Rattle.mid_improve.specs.Settled.{is_zero}
 
 -- it has a word, or the cell of another temporary
 pub data Fact : Type 0 where

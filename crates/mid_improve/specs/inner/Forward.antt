@@ -1,11 +1,9 @@
 -- Forward propagation: within a run a copy is used as what it is a copy of, an operator on known words is the word that it makes of them, and a move of a
 -- known word puts that word.
 use Rattle.std.specs.Prelude.{ℕ, ◌^◌, nat_lt, cond, map, option_map, Option, Some, None}
-use Rattle.v32_isa.specs.declared.instruction.One.{One}
-use Rattle.v32_isa.specs.declared.instruction.Two.{Two}
-use Rattle.v32_isa.specs.Arithmetic.{one_of, two_of}
 use Rattle.mid_code.specs.Code.{OpT, ConstO, MoveO, OneO, TwoO, StepO, ApartO, PtrTestO, LoadO, StoreO}
 use Rattle.mid_code.specs.Code.{OutO, NodesT, Stop, Do, Call, Choose, Block, Loop, Leave, Again, Return, FunctionT, CodeT}
+use Rattle.mid_fold.specs.Lasting.{one_known, two_known}
 use Rattle.mid_improve.specs.inner.Facts.{Known, none_known, fact_word, fact_source, behind_maybe, known_behind}
 
 -- the temporary that serves where one is used
@@ -22,16 +20,6 @@ serves k q = or_itself q (fact_source (k q))
 abbrev pub word_or : ℕ → OpT ℕ → Option ℕ → OpT ℕ
 word_or t o None = o
 word_or t o (Some word) = cond (nat_lt word (2 ^ 32)) (ConstO t word) o
-
--- what operators make of known words
-abbrev pub one_known : One → Option ℕ → Option ℕ
-one_known o None = None
-one_known o (Some x) = one_of o x
-
-abbrev pub two_known : Two → Option ℕ → Option ℕ → Option ℕ
-two_known o None b = None
-two_known o (Some x) None = None
-two_known o (Some x) (Some y) = two_of o x y
 
 -- A division by 0 makes no word, and stays.
 abbrev pub forwarded_op : Known → OpT ℕ → OpT ℕ

@@ -5,7 +5,8 @@ use Rattle.mid_code.specs.declared.node.Op.TheVariants as op
 use Rattle.mid_code.specs.Functions.{NodeT, DoN, ChooseN, BlockN, LoopN, LeaveN, AgainN, ReturnN, ListT, NoN, MoreN, listed}
 use Rattle.mid_improve.specs.inner.Facts.{Known, none_known, fact_word}
 use Rattle.mid_improve.specs.inner.Listed.{node_known}
-use Rattle.mid_improve.specs.inner.Forward.{serves, one_known, two_known}
+use Rattle.mid_fold.specs.Lasting.{one_known, two_known}
+use Rattle.mid_improve.specs.inner.Forward.{serves}
 
 abbrev pub or_word : ℕ → Op ℕ → Option ℕ → Op ℕ
 or_word t o None = o

@@ -5,15 +5,17 @@ use Rattle.mid_code.specs.Runs.{mid_runs, weight}
 use Rattle.mid_code.specs.Invariants.{IsMid}
 use Rattle.mid_code.specs.Calls.{AddsNone, NoneAdd}
 use Rattle.mid_code.specs.Skeleton.{skeleton}
+use Rattle.mid_fold.specs.Lasting.{no_words, lasting}
 use Rattle.mid_improve.specs.Settled.{nodes_settled}
 
--- A function keeps its temporaries, parameters, locals and skeleton, and its runs are settled.
+-- A function keeps its temporaries, parameters, locals, skeleton and divisions, and its runs are settled.
 pub record IsForwardedFunction (f g : FunctionT ℕ) : Type 0 where
   pub temporaries : g.temps ≡ f.temps
   pub params : g.params ≡ f.params
   pub locals : g.locals ≡ f.locals
   pub gives : g.gives ≡ f.gives
   pub stays : skeleton g.body ≡ skeleton f.body
+  pub divisions : lasting no_words g.body ≡ lasting no_words f.body
   pub settled : nodes_settled [] g.body ≡ true
 
 abbrev pub EachForwarded : List (FunctionT ℕ) → List (FunctionT ℕ) → Type 0

@@ -4,7 +4,8 @@ use Rattle.std.specs.List.{list_all}
 use Rattle.mid_code.specs.declared.node.Op.{Op}
 use Rattle.mid_code.specs.declared.node.Op.TheVariants as op
 use Rattle.mid_code.specs.Functions.{NodeT, DoN, ChooseN, BlockN, LoopN, LeaveN, AgainN, ReturnN, ListT, NoN, MoreN}
-use Rattle.mid_improve.specs.Settled.{divides, is_zero}
+use Rattle.mid_fold.specs.Lasting.{divides}
+use Rattle.mid_improve.specs.Settled.{is_zero}
 use Rattle.mid_improve.specs.inner.Facts.{Known, IsWord, IsCopy, none_known, behind, behind_maybe, with_fact, fact_word, is_no_copy}
 
 -- ---- operations

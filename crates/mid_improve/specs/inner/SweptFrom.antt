@@ -6,6 +6,7 @@ use Rattle.mid_code.specs.Invariants.{AllOf, IsMid}
 use Rattle.mid_code.specs.Keeps.{KeepsRuns, WorksAtMost}
 use Rattle.mid_code.specs.Paths.{Each}
 use Rattle.mid_code.specs.Skeleton.{skeleton}
+use Rattle.mid_fold.specs.Lasting.{no_words, lasting}
 use Rattle.mid_improve.specs.Settled.{IsWanted}
 
 -- A function keeps its temporaries, parameters and locals, and all but operations that put something into a temporary.
@@ -15,6 +16,7 @@ pub record IsSweptFunction (f g : FunctionT ℕ) : Type 0 where
   pub locals : g.locals ≡ f.locals
   pub gives : g.gives ≡ f.gives
   pub stays : skeleton g.body ≡ skeleton f.body
+  pub divisions : lasting no_words g.body ≡ lasting no_words f.body
 
 abbrev pub EachSwept : List (FunctionT ℕ) → List (FunctionT ℕ) → Type 0
 EachSwept [] [] = Unit {0}

@@ -5,7 +5,8 @@ use Rattle.mid_code.specs.declared.node.Op.TheVariants as op
 use Rattle.mid_code.specs.Code.{target, NodesT, Stop, Do, Call, Choose, Block, Loop, Leave, Again, Return}
 use Rattle.mid_code.specs.Functions.{NodeT, DoN, ChooseN, BlockN, LoopN, LeaveN, AgainN, ReturnN, ListT, NoN, MoreN, joined}
 use Rattle.mid_code.specs.Live.{Label, label, is_live}
-use Rattle.mid_improve.specs.Settled.{divides, only_puts}
+use Rattle.mid_fold.specs.Lasting.{divides}
+use Rattle.mid_improve.specs.Settled.{only_puts}
 
 abbrev pub Labels : Type 0
 Labels = ℕ → List Label

@@ -1,4 +1,4 @@
-use Rattle.std.proofs.Common.{rules, ◌≡◌, map, ap, ◌∙◌}
+use Rattle.std.proofs.Common.{rules, ◌≡◌, map}
 use Rattle.mid_code.specs.Functions.{function, node, listed}
 use Rattle.mid_live.specs.Sets.{on}
 use Rattle.mid_live.specs.Labels.{labels_of}
@@ -7,8 +7,8 @@ use Rattle.mid_improve.specs.inner.SweepListed.{list_swept}
 use Rattle.mid_improve.proofs.SweepJoined.{swept_joined, function_is}
 use Rattle.mid_improve.proofs.sweep.sweep_function.Goals as goal
 
-pub returns : goal.returns
-returns c =
+pub returns-clause-swept : goal.returns-clause-swept
+returns-clause-swept c =
     let f = function c.args.f.now in
     let ls : Labels = λ y. labels_of y c.outside.result in
     let body : map node c.from_vec.result ≡ list_swept f.temps ls (listed (map node c.args.f.now.body)) (on c.heads_in.new.s) = search rules in

@@ -6,8 +6,8 @@ use Rattle.mid_improve.specs.inner.Wanted.{Labels}
 use Rattle.mid_improve.proofs.Wanting.{wanted_exact}
 use Rattle.mid_improve.proofs.targets.are_targets_live.Goals as goal
 
-pub returns : goal.returns
-returns c =
+pub returns-clause-live : goal.returns-clause-live
+returns-clause-live c =
     let f = function c.args.f.now in
     let ns = c.as_slice-2.result.now in
     let same : ns ≡ c.args.f.now.body = search rules in

@@ -18,14 +18,16 @@ use Rattle.mid_code.specs.declared.placed.Where.{Where}
 use Rattle.mid_code.specs.declared.placed.Where.TheVariants.{Reg, Slot}
 use Rattle.mid_code.specs.Code.{OpT, ConstO, NullO, MoveO, OneO, TwoO, GlobalO, LocalO, LiteralO, CardO, StepO, ApartO, PtrTestO, LoadO, StoreO, FreshO, EndO, InO, OutO, WaitO, HaltO, NodesT, Stop, Do, Call, Choose, Block, Loop, Leave, Again, Return}
 use Rattle.asm_laws.specs.Moves.{Move, in_order}
-use Rattle.asm_laws.specs.Operations.{Frame, Whole, keep, fetches, keeps, keeps_some, hand, brings, takes, aim, lays, moves, changes, is_direct, in_place, apart, is_turned, turned_or_apart, computes, slot_arg, slot_args, moved_items, args_items, call_items, op_items, in_one, one_or_more, more_of, giving}
+use Rattle.asm_laws.specs.Operations.{Frame, Whole, keep, fetches, keeps, keeps_some, hand, brings, takes, aim, lays, moves, changes, is_direct, in_place, apart, is_turned, turned_or_apart, computes, slot_arg, slot_args, moved_items, args_items, call_items, op_items, in_one, one_or_more, more_of, giving, word_put, put_item, puts_items, group_items, group_more}
 use Rattle.asm_laws.specs.Pieces.{register, is_in, turned}
 use Rattle.asm_laws.specs.Framing.{frame_made, frame_gone}
 use Rattle.asm_laws.specs.declared.behind.Behind.{Behind}
 use Rattle.asm_laws.specs.declared.behind.Behind.TheVariants.{Other, End, Turn}
 use Rattle.asm_laws.specs.inner.Emitted.{labels, jump, jump_unless, mark, first_part, second_part, choice, alone, left_to, ends, jump_when, is_stop, enclosed, returning, items_past, code_items, call_item, own_items, exit_items, inside, is_end, is_turn, again, rotated, looped, is_tested, part_items, test_items, enclosing}
 use Rattle.asm_emit.specs.EmittedFrom.{IsCode}
-use Rattle.asm_laws.proofs.InOne.{TakesWord, one_or_more_is}
+use Rattle.asm_laws.specs.declared.copying.Copying.{Copying}
+use Rattle.asm_laws.specs.Copies.{copy_at, copy_or}
+use Rattle.asm_laws.proofs.InOne.{TakesWord, one_or_more_is, group_is}
 
 abbrev AreCode : List AsmItem → Type 0
 AreCode items = AllByRecursion IsCode items
@@ -141,6 +143,29 @@ module _ (W : Whole) (F : Frame) where
   one_or_more_code : (o : OpT Where) (c : NodesT Where) → AreCode (one_or_more W F o (in_one W F o c))
   one_or_more_code o c = one_or_more_is W F AreCode (λ v. Unit {0}) o c (λ t n e. (tt, tt)) (λ t k e. (tt, tt)) (op_code o) taking_code (λ p r i lt h. (fetch_code F p r, taking_code i h))
 
+  puts_code : (c : NodesT Where) (k : ℕ) → AreCode (puts_items W c k)
+  puts_code (Do o c) (suc k) = joined (put_item (word_put W o)) (puts_items W c k) (put (word_put W o)) (puts_code c k)
+    where
+      put : (x : Option (ℕ × ℕ)) → AreCode (put_item x)
+      put None = tt
+      put (Some (r, w)) = (tt, tt)
+  puts_code (Do o c) zero = tt
+  puts_code Stop k = tt
+  puts_code (Call t g args c) k = tt
+  puts_code (Choose p a b c) k = tt
+  puts_code (Block b c) k = tt
+  puts_code (Loop b c) k = tt
+  puts_code (Leave j c) k = tt
+  puts_code (Again j c) k = tt
+  puts_code (Return p c) k = tt
+
+  group_code : (o : OpT Where) (c : NodesT Where) → AreCode (group_items W F o c)
+  group_code o c = group_is W F AreCode o c (one_or_more_code o c) (λ k e. puts_code (Do o c) k)
+
+  copied_code : (y : Option Copying) (xs : List AsmItem) → AreCode xs → AreCode (copy_or y xs)
+  copied_code None xs h = h
+  copied_code (Some y) xs h = (tt, (tt, (tt, (tt, (tt, (tt, (tt, (tt, tt))))))))
+
   call_code : (t : Option Where) (g : ℕ) (args : List Where) → AreCode (call_items W F t g args)
   call_code t g args =
       joined (args_items F (W.frames g) (W.params g) args) (call_item W g ∷ keeps_some F t) (args_code F (W.frames g) (W.params g) args) (tt, some_code F t)
@@ -171,8 +196,8 @@ module _ (W : Whole) (F : Frame) where
     test_code : (to : ℕ) (c : NodesT Where) (done : ℕ) → AreCode (test_items W F out to c done)
     test_code to Stop done = tt
     test_code to (Do o c) zero =
-        let more = more_of (in_one W F o c) in
-        joined (one_or_more W F o (in_one W F o c)) (test_items W F out to c more) (one_or_more_code o c) (test_code to c more)
+        let more = group_more W F o c in
+        joined (group_items W F o c) (test_items W F out to c more) (group_code o c) (test_code to c more)
     test_code to (Do o c) (suc done) = test_code to c done
     test_code to (Call t g args c) done = joined (call_items W F t g args) (test_items W F out to c 0) (call_code t g args) (test_code to c 0)
     test_code to (Choose p a b c) done = brought_code F p 9 (jump_when (hand p 9) to ∷ test_items W F out to c 0) (tt, test_code to c 0)
@@ -186,8 +211,8 @@ module _ (W : Whole) (F : Frame) where
       pub past_code : (c : NodesT Where) (done : ℕ) (last : Behind) (ls : List ℕ) (n : ℕ) → AreCode (items_past W F out last ls n c done)
       past_code Stop done last ls n = tt
       past_code (Do o c) zero last ls n =
-          let more = more_of (in_one W F o c) in
-          joined (one_or_more W F o (in_one W F o c)) (items_past W F out last ls n c more) (one_or_more_code o c) (past_code c more last ls n)
+          let more = group_more W F o c in
+          joined (group_items W F o c) (items_past W F out last ls n c more) (group_code o c) (past_code c more last ls n)
       past_code (Do o c) (suc done) last ls n = past_code c done last ls n
       past_code (Call t g args c) done last ls n = joined (call_items W F t g args) (items_past W F out last ls n c 0) (call_code t g args) (past_code c 0 last ls n)
       past_code (Choose p a b c) done last ls n =
@@ -208,8 +233,8 @@ module _ (W : Whole) (F : Frame) where
           let all = items_past W F out (inside (ends last c)) (ls ++ n ∷ []) (n + 2) b 0 in
           let part = part_items W F out (ls ++ n ∷ []) (n + 2) b in
           let test = test_items W F out (n + 2) b 0 in
-          joined (looped (is_tested b) n all part test) (items_past W F out last ls (n + (2 + labels b)) c 0)
-          (either (is_tested b) (rotated n part test) (enclosed n all) (rotated_code n part test (part_code b (ls ++ n ∷ []) (n + 2)) (test_code (n + 2) b 0)) (enclosed_code n all (past_code b 0 (inside (ends last c)) (ls ++ n ∷ []) (n + 2))))
+          joined (copy_or (copy_at done b) (looped (is_tested b) n all part test)) (items_past W F out last ls (n + (2 + labels b)) c 0)
+          (copied_code (copy_at done b) (looped (is_tested b) n all part test) (either (is_tested b) (rotated n part test) (enclosed n all) (rotated_code n part test (part_code b (ls ++ n ∷ []) (n + 2)) (test_code (n + 2) b 0)) (enclosed_code n all (past_code b 0 (inside (ends last c)) (ls ++ n ∷ []) (n + 2)))))
           (past_code c 0 last ls (n + (2 + labels b)))
       past_code (Leave k c) done last ls n = (tt, past_code c 0 last ls n)
       past_code (Again k c) done last ls n =

@@ -23,7 +23,7 @@ use Rattle.mid_code.specs.Calls.{loops, CallsTo}
 use Rattle.asm_laws.specs.Names.{jump_label, function_label}
 use Rattle.asm_laws.specs.Labelled.{HasLabel}
 use Rattle.asm_laws.specs.Moves.{Move, in_order}
-use Rattle.asm_laws.specs.Operations.{Frame, Whole, keep, fetches, keeps, keeps_some, hand, brings, takes, aim, lays, moves, changes, is_direct, in_place, apart, is_turned, turned_or_apart, computes, slot_arg, slot_args, moved_items, args_items, call_items, op_items, in_one, one_or_more, more_of, giving}
+use Rattle.asm_laws.specs.Operations.{Frame, Whole, keep, fetches, keeps, keeps_some, hand, brings, takes, aim, lays, moves, changes, is_direct, in_place, apart, is_turned, turned_or_apart, computes, slot_arg, slot_args, moved_items, args_items, call_items, op_items, in_one, one_or_more, more_of, giving, word_put, put_item, puts_items, group_items, group_more}
 use Rattle.asm_laws.specs.Pieces.{register, is_in, turned}
 use Rattle.asm_laws.specs.Framing.{frame_made, frame_gone}
 use Rattle.asm_laws.specs.declared.behind.Behind.{Behind}
@@ -31,7 +31,7 @@ use Rattle.asm_laws.specs.declared.behind.Behind.TheVariants.{Other, End}
 use Rattle.asm_laws.specs.inner.Emitted.{labels, enclosing, jump, jump_unless, mark, first_part, second_part, choice, one_way, alone, left_to, ends, jump_when, is_stop, enclosed, returning, items_past, code_items, call_item, own_items, exit_items, inside, is_end}
 use Rattle.asm_emit.specs.EmittedFrom.{IsCalled, GoesOn, AllGoOn}
 use Rattle.asm_laws.proofs.Enclosing.{innermost, further}
-use Rattle.asm_laws.proofs.InOne.{TakesWord, one_or_more_is}
+use Rattle.asm_laws.proofs.InOne.{TakesWord, one_or_more_is, group_is}
 use Rattle.asm_laws.proofs.Leaving.{left_is}
 use Rattle.asm_laws.proofs.Known.{marked_left, marked_right, function_there}
 
@@ -165,6 +165,25 @@ module _ (names : List (List ℕ)) (body : NodesT Where) where
     one_or_more_ahead o c later ok =
         one_or_more_is W F (λ xs. Ahead xs later) (λ v. Unit {0}) o c (λ t n e. (tt, tt)) (λ t k e. (tt, tt)) (op_ahead o later ok) (taking_ahead later) (λ p r i lt h. (fetch_ahead F p r _, taking_ahead later i h))
 
+    puts_go : (c : NodesT Where) (k : ℕ) (later : List AsmItem) → Ahead (puts_items W c k) later
+    puts_go (Do o c) (suc k) later = ahead_append (put_item (word_put W o)) (puts_items W c k) later (put (word_put W o) _) (puts_go c k later)
+      where
+        put : (y : Option (ℕ × ℕ)) (later : List AsmItem) → Ahead (put_item y) later
+        put None later = tt
+        put (Some (r, w)) later = (tt, tt)
+    puts_go (Do o c) zero later = tt
+    puts_go Stop k later = tt
+    puts_go (Call t g args c) k later = tt
+    puts_go (Choose p a b c) k later = tt
+    puts_go (Block b c) k later = tt
+    puts_go (Loop b c) k later = tt
+    puts_go (Leave j c) k later = tt
+    puts_go (Again j c) k later = tt
+    puts_go (Return p c) k later = tt
+
+    group_ahead : (o : OpT Where) (c : NodesT Where) (later : List AsmItem) → IsOp x m o → Ahead (group_items W F o c) later
+    group_ahead o c later ok = group_is W F (λ xs. Ahead xs later) o c (one_or_more_ahead o c later ok) (λ k e. puts_go (Do o c) k later)
+
     call_ahead : (t : Option Where) (g : ℕ) (args : List Where) (later : List AsmItem) → g < length x.functions → CallsTo g body → Ahead (call_items W F t g args) later
     call_ahead t g args later lt calls =
         ahead_append (args_items F (W.frames g) (W.params g) args) (call_item W g ∷ keeps_some F t) later (args_ahead F (W.frames g) (W.params g) args _) (named g lt calls, some_ahead F t later)
@@ -237,8 +256,8 @@ module _ (names : List (List ℕ)) (body : NodesT Where) where
           ((g : ℕ) → CallsTo g c → CallsTo g body) → Ends ls later → HasLabel later (jump_label out) → Ahead (items_past W F out last ls n c done) later
       past_ahead Stop done last bs ls n later ok same nl none few calls on over = tt
       past_ahead (Do o c) zero last bs ls n later ok same nl none few calls on over =
-          let more = more_of (in_one W F o c) in
-          ahead_append (one_or_more W F o (in_one W F o c)) (items_past W F out last ls n c more) later (one_or_more_ahead o c _ ok.0) (past_ahead c more last bs ls n later ok.1 same nl none few calls on over)
+          let more = group_more W F o c in
+          ahead_append (group_items W F o c) (items_past W F out last ls n c more) later (group_ahead o c _ ok.0) (past_ahead c more last bs ls n later ok.1 same nl none few calls on over)
       past_ahead (Do o c) (suc done) last bs ls n later ok same nl none few calls on over = past_ahead c done last bs ls n later ok.1 same nl none few calls on over
       past_ahead (Call t g args c) done last bs ls n later ok same nl none few calls on over =
           ahead_append (call_items W F t g args) (items_past W F out last ls n c 0) later (call_ahead t g args _ (function_there x g (length args) ok.0) (calls g (inl refl)))

@@ -1,13 +1,17 @@
 -- What is done in one go with an operation that stands first.
-use Rattle.std.proofs.Common.{◌≡◌, ℕ, ◌-◌, Bool, true, false, cond, List, [], Option, Some, None, refl, sym, ap, ◌∙◌}
+use Rattle.std.proofs.Common.{◌≡◌, ℕ, zero, suc, ◌-◌, ◌++◌, arith, Bool, true, false, cond, List, [], Option, Some, None, refl, sym, ap, ◌∙◌, append_assoc}
 use Rattle.std.specs.Prelude.{◌==◌}
+use Rattle.std.proofs.lemmas.Bool.Decides.{nat_tests}
+use Rattle.asm_items.specs.declared.item.AsmItem.{AsmItem}
+use Rattle.asm_laws.specs.declared.copying.Copying.{Copying}
+use Rattle.asm_laws.specs.Copies.{lead, move_items, back_items, copy_items}
 use Rattle.mid_code.specs.declared.placed.Where.{Where}
 use Rattle.mid_code.specs.declared.node.Op.{Op}
 use Rattle.mid_code.specs.declared.node.Op.TheVariants as op
 use Rattle.mid_code.specs.Code.{OpT, ConstO, NullO, MoveO, OneO, TwoO, GlobalO, LocalO, LiteralO, CardO, StepO, ApartO, PtrTestO, LoadO, StoreO, FreshO, EndO, InO, OutO, WaitO, HaltO, NodesT, Stop, Do, Call}
-use Rattle.mid_code.specs.Functions.{op_before}
-use Rattle.asm_laws.specs.Operations.{Frame, Whole, word_put, is_spared, with_known, in_one}
-use Rattle.asm_emit.specs.inner.Listed.{front_put, front_summed, ahead_items, ahead_more, is_call, front_items, front_more, labels_due}
+use Rattle.mid_code.specs.Functions.{op_before, NodeT, DoN, ChooseN, BlockN, LoopN, LeaveN, AgainN, ReturnN, ListT, NoN, MoreN, before, joined}
+use Rattle.asm_laws.specs.Operations.{Frame, Whole, word_put, is_spared, with_known, in_one, put_item, puts_items}
+use Rattle.asm_emit.specs.inner.Listed.{front_put, front_summed, ahead_items, ahead_more, is_call, front_items, front_more, labels_due, led_ahead, led_behind, put_here, left_behind, puts_from, put_first, left_after, list_puts}
 
 pub none_due : (k : Option ℕ) → labels_due k 0 ≡ 0
 none_due None = refl
@@ -31,17 +35,35 @@ module _ (W : Whole) (F : Frame) where
   summed o (Do p c) = refl
   summed o _ = none_known F (word_put W o)
 
+  -- what stands ahead, and how much is done with it
+  abbrev pub led_front : Option (ℕ × ℕ) → NodesT Where → NodesT Where → Option ℕ → List AsmItem
+  led_front put first c None = ahead_items (front_summed F put c)
+  led_front put first c (Some j) = puts_items W first j
+
+  abbrev pub led_count : Option (ℕ × ℕ) → NodesT Where → Option ℕ → Option ℕ
+  led_count put c None = ahead_more (front_summed F put c)
+  led_count put c (Some j) = Some j
+
   record Fronts (first : NodesT Where) (put : Option (ℕ × ℕ)) (call : Bool) (c : NodesT Where) : Type 0 where
-    items : (k : ℕ) → front_items W F first k ≡ cond (k == 0) (ahead_items (front_summed F put c)) []
-    more : (k : ℕ) → front_more W F first k ≡ cond (k == 0) (ahead_more (front_summed F put c)) (cond call None (Some (k - 1)))
+    items : (k : ℕ) → front_items W F first k ≡ cond (k == 0) (led_front put first c (lead first)) []
+    more : (k : ℕ) → front_more W F first k ≡ cond (k == 0) (led_count put c (lead first)) (cond call None (Some (k - 1)))
+
+  led_same : (o : OpT Where) (c : NodesT Where) (x : Option ℕ) → led_ahead W F o c x ≡ led_front (word_put W o) (Do o c) c x
+  led_same o c None = ap ahead_items (summed o c)
+  led_same o c (Some j) = refl
+
+  count_same : (o : OpT Where) (c : NodesT Where) (x : Option ℕ) → led_behind W F o c x ≡ led_count (word_put W o) c x
+  count_same o c None = ap ahead_more (summed o c)
+  count_same o c (Some j) = refl
 
   plain_fronts : (o : OpT Where) (c : NodesT Where) → Fronts (Do o c) (word_put W o) false c
   plain_fronts o c = record {
-    items = λ k. ap (λ r. cond (k == 0) (ahead_items r) []) (summed o c);
-    more = λ k. ap (λ r. cond (k == 0) (ahead_more r) (Some (k - 1))) (summed o c);
+    items = λ k. ap (λ r. cond (k == 0) r []) (led_same o c (lead (Do o c)));
+    more = λ k. ap (λ r. cond (k == 0) r (Some (k - 1))) (count_same o c (lead (Do o c)));
   }
 
   call_fronts : {t : Option Where} {f : ℕ} {args : List Where} (c : NodesT Where) → Fronts (Call t f args c) None true c
+  unfolding lead
   call_fronts c = record {
     items = λ k. both (k == 0) [] ∙ ap (λ r. cond (k == 0) (ahead_items r) []) (sym (none_summed F c));
     more = λ k. both (k == 0) None ∙ ap (λ r. cond (k == 0) (ahead_more r) None) (sym (none_summed F c));
@@ -70,8 +92,80 @@ module _ (W : Whole) (F : Frame) where
   fronts op.Wait c = plain_fronts WaitO c
   fronts op.Halt c = plain_fronts HaltO c
 
-  pub items_of_front : (o : Op Where) (c : NodesT Where) (k : ℕ) → front_items W F (op_before o c) k ≡ cond (k == 0) (ahead_items (front_summed F (front_put W (op_before o Stop)) c)) []
+  pub items_of_front : (o : Op Where) (c : NodesT Where) (k : ℕ) → front_items W F (op_before o c) k ≡ cond (k == 0) (led_front (front_put W (op_before o Stop)) (op_before o c) c (lead (op_before o c))) []
   items_of_front o c k = (fronts o c).items k
 
-  pub more_of_front : (o : Op Where) (c : NodesT Where) (k : ℕ) → front_more W F (op_before o c) k ≡ cond (k == 0) (ahead_more (front_summed F (front_put W (op_before o Stop)) c)) (cond (is_call o) None (Some (k - 1)))
+  pub more_of_front : (o : Op Where) (c : NodesT Where) (k : ℕ) → front_more W F (op_before o c) k ≡ cond (k == 0) (led_count (front_put W (op_before o Stop)) c (lead (op_before o c))) (cond (is_call o) None (Some (k - 1)))
   more_of_front o c k = (fronts o c).more k
+
+-- ---- words that are put into registers, one after another
+
+not_zero : (k : ℕ) → (suc k == 0) ≡ false
+not_zero k = grind (arith, nat_tests)
+
+module _ (W : Whole) where
+  plain_puts : (o : OpT Where) (c : NodesT Where) (k : ℕ) → puts_items W (Do o c) k ≡ cond (k == 0) [] (put_item (word_put W o)) ++ puts_from (cond (k == 0) None (Some (k - 1))) (puts_items W c)
+  plain_puts o c zero = refl
+  plain_puts o c (suc k) =
+      let b = not_zero k in
+      let e : k ≡ suc k - 1 = omega arith in
+      ap (λ j. put_item (word_put W o) ++ puts_items W c j) e ∙ (λ i. cond (sym b i) [] (put_item (word_put W o)) ++ puts_from (cond (sym b i) None (Some (suc k - 1))) (puts_items W c))
+
+  call_puts : (c : NodesT Where) (k : ℕ) → [] ≡ cond (k == 0) [] (put_item None) ++ puts_from (cond (k == 0) None None) (puts_items W c)
+  call_puts c k = go (k == 0)
+    where
+      go : (b : Bool) → [] ≡ cond b [] (put_item None) ++ puts_from (cond b None None) (puts_items W c)
+      go true = refl
+      go false = refl
+
+  pub puts_on : (o : Op Where) (c : NodesT Where) (k : ℕ) → puts_items W (op_before o c) k ≡ put_here W o k ++ puts_from (left_behind o k) (puts_items W c)
+  puts_on (op.Const t word) c k = plain_puts (ConstO t word) c k
+  puts_on (op.Null t) c k = plain_puts (NullO t) c k
+  puts_on (op.Move t a) c k = plain_puts (MoveO t a) c k
+  puts_on (op.One o t a) c k = plain_puts (OneO o t a) c k
+  puts_on (op.Two o t a b) c k = plain_puts (TwoO o t a b) c k
+  puts_on (op.Global t j) c k = plain_puts (GlobalO t j) c k
+  puts_on (op.Local t j) c k = plain_puts (LocalO t j) c k
+  puts_on (op.Literal t j) c k = plain_puts (LiteralO t j) c k
+  puts_on (op.Card t) c k = plain_puts (CardO t) c k
+  puts_on (op.Step t p s) c k = plain_puts (StepO t p s) c k
+  puts_on (op.Apart t p q) c k = plain_puts (ApartO t p q) c k
+  puts_on (op.PtrTest o t p q) c k = plain_puts (PtrTestO o t p q) c k
+  puts_on (op.Load t p) c k = plain_puts (LoadO t p) c k
+  puts_on (op.Store p a) c k = plain_puts (StoreO p a) c k
+  puts_on (op.Fresh j) c k = plain_puts (FreshO j) c k
+  puts_on (op.End j) c k = plain_puts (EndO j) c k
+  puts_on (op.Call t f args) c k = call_puts c k
+  puts_on (op.In t p) c k = plain_puts (InO t p) c k
+  puts_on (op.Out p a) c k = plain_puts (OutO p a) c k
+  puts_on op.Wait c k = plain_puts WaitO c k
+  puts_on op.Halt c k = plain_puts HaltO c k
+
+  node_puts : (x : NodeT Where) (c : NodesT Where) (k : ℕ) → puts_items W (before x c) k ≡ put_first W x k ++ puts_from (left_after x k) (puts_items W c)
+  node_puts (DoN o) c k = puts_on o c k
+  node_puts (ChooseN p a b) c k = refl
+  node_puts (BlockN b) c k = refl
+  node_puts (LoopN b) c k = refl
+  node_puts (LeaveN j) c k = refl
+  node_puts (AgainN j) c k = refl
+  node_puts (ReturnN p) c k = refl
+
+  puts_are : (xs : ListT Where) (k : ℕ) → puts_items W (joined xs) k ≡ list_puts W xs k
+  puts_are NoN k = refl
+  puts_are (MoreN x rest) k = let on : (j : ℕ) → puts_items W (joined rest) j ≡ list_puts W rest j = puts_are rest in node_puts x (joined rest) k ∙ (λ i. put_first W x k ++ puts_from (left_after x k) (λ j. on j i))
+
+  pub led_puts : (o : Op Where) (xs : ListT Where) (k : ℕ) → puts_items W (op_before o (joined xs)) k ≡ put_here W o k ++ puts_from (left_behind o k) (list_puts W xs)
+  led_puts o xs k = let on : (j : ℕ) → puts_items W (joined xs) j ≡ list_puts W xs j = puts_are xs in puts_on o (joined xs) k ∙ (λ i. put_here W o k ++ puts_from (left_behind o k) (λ j. on j i))
+
+  -- the items of the first one are added, and then those of the others
+  pub led_all : (o : Op Where) (xs : ListT Where) (k n : ℕ) (a b d : List AsmItem) → b ≡ a ++ put_here W o k → left_behind o k ≡ Some n → d ≡ b ++ list_puts W xs n → d ≡ a ++ puts_items W (op_before o (joined xs)) k
+  led_all o xs k n a b d first left more =
+      more
+      ∙ ap (λ z. z ++ list_puts W xs n) first
+      ∙ append_assoc a (put_here W o k) (list_puts W xs n)
+      ∙ ap (λ z. a ++ (put_here W o k ++ puts_from z (list_puts W xs))) (sym left)
+      ∙ ap (λ z. a ++ z) (sym (led_puts o xs k))
+
+-- a block move and what comes behind it
+pub both_parts : (xs : List AsmItem) (y : Copying) → (xs ++ move_items y) ++ back_items y ≡ xs ++ copy_items y
+both_parts xs y = append_assoc xs (move_items y) (back_items y)

@@ -11,11 +11,14 @@ use Rattle.mid_code.specs.declared.node.Op.{Op}
 use Rattle.mid_code.specs.declared.node.Op.TheVariants as op
 use Rattle.mid_code.specs.Code.{OpT, ConstO, NullO, MoveO, OneO, TwoO, GlobalO, LocalO, LiteralO, CardO, StepO, ApartO, PtrTestO, LoadO, StoreO, FreshO, EndO, InO, OutO, WaitO, HaltO, NodesT, Do, Call, Leave}
 use Rattle.mid_code.specs.Functions.{op_before, NodeT, DoN, ChooseN, BlockN, LoopN, LeaveN, AgainN, ReturnN, ListT, NoN, MoreN, before, joined}
-use Rattle.asm_laws.specs.Operations.{Frame, Whole, op_items, in_one, one_or_more, more_of, call_items, hand, brings}
+use Rattle.asm_laws.specs.Operations.{Frame, Whole, op_items, in_one, one_or_more, more_of, call_items, hand, brings, led_items, led_more}
 use Rattle.asm_laws.specs.declared.behind.Behind.{Behind}
 use Rattle.asm_laws.specs.declared.behind.Behind.TheVariants.{Other, End, Turn}
 use Rattle.asm_laws.specs.inner.Emitted.{labels, enclosing, jump, alone, left_to, ends, is_stop, choice, enclosed, returning, items_past, code_items, inside, is_end, again, looped, is_round, is_tested, part_items, test_items, jump_when}
-use Rattle.asm_emit.specs.inner.Listed.{left_in, node_labels, list_labels, is_none, do_items, ahead_items, ahead_more, front_items, front_more, onward, node_items, list_past, list_items, is_call, round_in, tested_in, part_labels, own_test, list_test, list_part}
+use Rattle.asm_laws.specs.declared.copying.Copying.{Copying}
+use Rattle.asm_laws.specs.Copies.{ends_here, lead, copy_at, copy_or}
+use Rattle.asm_laws.proofs.Leads.{turn_of, copy_is}
+use Rattle.asm_emit.specs.inner.Listed.{left_in, node_labels, list_labels, is_none, do_items, ahead_items, ahead_more, front_items, front_more, onward, node_items, list_past, list_items, is_call, round_in, tested_in, part_labels, own_test, list_test, list_part, led_ahead, led_behind, copied_own}
 
 -- an operation before nodes is a node of its own, or a call
 op_parts : (Q : NodesT Where → NodesT Where → Type 0) → ((o : OpT Where) (c : NodesT Where) → Q c (Do o c)) → ((t : Option Where) (f : ℕ) (args : List Where) (c : NodesT Where) → Q c (Call t f args c)) → (o : Op Where) (c : NodesT Where) → Q c (op_before o c)
@@ -56,6 +59,19 @@ node_goes (ReturnN p) c = refl
 stops_alike : (xs : ListT Where) → is_stop (joined xs) ≡ is_none xs
 stops_alike NoN = refl
 stops_alike (MoreN x rest) = node_goes x (joined rest)
+
+node_on : (x : NodeT Where) (c : NodesT Where) → ends_here (before x c) ≡ false
+node_on (DoN o) c = op_parts (λ c n. ends_here n ≡ false) (λ o c. refl) (λ t f args c. refl) o c
+node_on (ChooseN p a b) c = refl
+node_on (BlockN b) c = refl
+node_on (LoopN b) c = refl
+node_on (LeaveN k) c = refl
+node_on (AgainN k) c = refl
+node_on (ReturnN p) c = refl
+
+pub ends_alike : (xs : ListT Where) → ends_here (joined xs) ≡ is_none xs
+ends_alike NoN = refl
+ends_alike (MoreN x rest) = node_on x (joined rest)
 
 left_none : (ls : List ℕ) (k : ℕ) (x : NodeT Where) (c : NodesT Where) → left_to ls (Leave k (before x c)) ≡ None
 left_none ls k (DoN o) c = op_parts (λ c n. left_to ls (Leave k n) ≡ None) (λ o c. refl) (λ t f args c. refl) o c
@@ -190,12 +206,15 @@ module _ (W : Whole) (F : Frame) (out : ℕ) where
   done_are o (Some (more, first, i)) last ls n c = refl
 
   plain_are : (o : OpT Where) (last : Behind) (ls : List ℕ) (n : ℕ) (c : NodesT Where) (k : ℕ) → items last ls n (Do o c) k ≡ On last (Do o c) k (op_items W F o) ls n 0 c
-  plain_are o last ls n c zero = done_are o (in_one W F o c) last ls n c
+  plain_are o last ls n c zero = led_are (lead (Do o c))
+    where
+      led_are : (x : Option ℕ) → led_items W F o c x ++ items last ls n c (led_more W F o c x) ≡ led_ahead W F o c x ++ onward (led_behind W F o c x) (op_items W F o) (items last ls n c) (items last ls (n + 0) c 0)
+      led_are None = done_are o (in_one W F o c) last ls n c
+      led_are (Some j) = refl
   plain_are o last ls n c (suc k) =
       let e : k ≡ suc k - 1 = omega arith in
       let b = not_zero k in
-      let r = in_one W F o c in
-      ap (items last ls n c) e ∙ (λ i. cond (sym b i) (ahead_items r) [] ++ onward (cond (sym b i) (ahead_more r) (Some (suc k - 1))) (op_items W F o) (items last ls n c) (items last ls (n + 0) c 0))
+      ap (items last ls n c) e ∙ (λ i. cond (sym b i) (led_ahead W F o c (lead (Do o c))) [] ++ onward (cond (sym b i) (led_behind W F o c (lead (Do o c))) (Some (suc k - 1))) (op_items W F o) (items last ls n c) (items last ls (n + 0) c 0))
 
   op_are : (o : Op Where) (last : Behind) (ls : List ℕ) (n : ℕ) (c : NodesT Where) (k : ℕ) → items last ls n (op_before o c) k ≡ On last (op_before o c) k (do_items W F o) ls n 0 c
   op_are (op.Const t word) last ls n c k = plain_are (ConstO t word) last ls n c k
@@ -232,12 +251,15 @@ module _ (W : Whole) (F : Frame) (out : ℕ) where
   Tests first k own to c = front_items W F first k ++ onward (front_more W F first k) own (tests to c) (tests to c 0)
 
   plain_test : (o : OpT Where) (to : ℕ) (c : NodesT Where) (k : ℕ) → tests to (Do o c) k ≡ Tests (Do o c) k (op_items W F o) to c
-  plain_test o to c zero = done_test o (in_one W F o c) to c
+  plain_test o to c zero = led_test (lead (Do o c))
+    where
+      led_test : (x : Option ℕ) → led_items W F o c x ++ tests to c (led_more W F o c x) ≡ led_ahead W F o c x ++ onward (led_behind W F o c x) (op_items W F o) (tests to c) (tests to c 0)
+      led_test None = done_test o (in_one W F o c) to c
+      led_test (Some j) = refl
   plain_test o to c (suc k) =
       let e : k ≡ suc k - 1 = omega arith in
       let b = not_zero k in
-      let r = in_one W F o c in
-      ap (tests to c) e ∙ (λ i. cond (sym b i) (ahead_items r) [] ++ onward (cond (sym b i) (ahead_more r) (Some (suc k - 1))) (op_items W F o) (tests to c) (tests to c 0))
+      ap (tests to c) e ∙ (λ i. cond (sym b i) (led_ahead W F o c (lead (Do o c))) [] ++ onward (cond (sym b i) (led_behind W F o c (lead (Do o c))) (Some (suc k - 1))) (op_items W F o) (tests to c) (tests to c 0))
 
   test_op : (o : Op Where) (to : ℕ) (c : NodesT Where) (k : ℕ) → tests to (op_before o c) k ≡ Tests (op_before o c) k (do_items W F o) to c
   test_op (op.Const t word) to c k = plain_test (ConstO t word) to c k
@@ -282,7 +304,7 @@ module _ (W : Whole) (F : Frame) (out : ℕ) where
   part_op o ls n c = op_parts (λ c m. part_items W F out ls n m ≡ part_items W F out ls n c) (λ o c. refl) (λ t f args c. refl) o c
 
   mutual
-    node_are : (x : NodeT Where) (last : Behind) (ls : List ℕ) (n : ℕ) (c : NodesT Where) (k : ℕ) → items last ls n (before x c) k ≡ On last (before x c) k (node_items W F out (ends last c) ls n x) ls n (node_labels x) c
+    node_are : (x : NodeT Where) (last : Behind) (ls : List ℕ) (n : ℕ) (c : NodesT Where) (k : ℕ) → items last ls n (before x c) k ≡ On last (before x c) k (copied_own k x (node_items W F out (ends last c) ls n x)) ls n (node_labels x) c
     node_are (DoN o) last ls n c k = op_are o last ls n c k
     node_are (ChooseN p a b) last ls n c k =
         let la = list_counts a in
@@ -304,7 +326,7 @@ module _ (W : Whole) (F : Frame) (out : ℕ) where
         let all = past_are b (inside (ends last c)) (ls ++ n ∷ []) (n + 2) 0 in
         let part = part_are b (ls ++ n ∷ []) (n + 2) in
         let test = test_are (n + 2) b 0 in
-        λ i. looped (te i) n (all i) (part i) (test i) ++ items last ls (n + (2 + lb i)) c 0
+        λ i. copy_or (copy_at k (joined b)) (looped (te i) n (all i) (part i) (test i)) ++ items last ls (n + (2 + lb i)) c 0
     node_are (LeaveN j) last ls n c k = ap (λ xs. jump (add (enclosing ls j) 1) ∷ xs) (nothing last ls n c)
     node_are (AgainN j) last ls n c k = ap (λ xs. again ls j (ends last c) ++ xs) (nothing last ls n c)
     node_are (ReturnN p) last ls n c k = ap (λ xs. returning F p out (is_end (ends last c)) ++ xs) (nothing last ls n c)
@@ -316,7 +338,7 @@ module _ (W : Whole) (F : Frame) (out : ℕ) where
         let on : (j : ℕ) → items last ls n (joined rest) j ≡ list_past W F out last ls n rest j = past_are rest last ls n in
         let anew = past_are rest last ls (n + node_labels x) 0 in
         let st = stops_alike rest in
-        node_are x last ls n (joined rest) k ∙ (λ i. front_items W F first k ++ onward (front_more W F first k) (node_items W F out (cond (st i) last Other) ls n x) (λ j. on j i) (anew i))
+        node_are x last ls n (joined rest) k ∙ (λ i. front_items W F first k ++ onward (front_more W F first k) (copied_own k x (node_items W F out (cond (st i) last Other) ls n x)) (λ j. on j i) (anew i))
 
     part_are : (xs : ListT Where) (ls : List ℕ) (n : ℕ) → part_items W F out ls n (joined xs) ≡ list_part W F out ls n xs
     part_are NoN ls n = refl
@@ -335,3 +357,14 @@ module _ (W : Whole) (F : Frame) (out : ℕ) where
 pub left_labels : (ls : List ℕ) (xs : ListT Where) (l : ℕ) → left_in ls xs ≡ Some l → list_labels xs ≡ 0
 left_labels ls (MoreN (LeaveN k) NoN) l e = refl
 left_labels ls _ l e = absurd cc
+
+-- the turns of loops that copy words have two labels
+pub copied_labels : (done : ℕ) (xs : ListT Where) (y : Copying) → copy_at done (joined xs) ≡ Some y → list_labels xs ≡ 2
+copied_labels zero xs y e = absurd cc
+copied_labels (suc done) xs y e =
+    let q : labels (joined xs) ≡ labels (turn_of y) = ap labels (copy_is (joined xs) y e).0 in
+    let r = list_counts xs in
+    omega (arith, q, r)
+
+pub loop_labels : (done : ℕ) (x : NodeT Where) (b : ListT Where) (y : Copying) → x ≡ LoopN b → copy_at done (joined b) ≡ Some y → node_labels x ≡ 4
+loop_labels done x b y e f = ap node_labels e ∙ (let r = copied_labels done b y f in omega (arith, r))

@@ -24,13 +24,15 @@ use Rattle.mid_code.specs.declared.placed.Where.TheVariants.{Reg, Slot}
 use Rattle.mid_code.specs.Code.{OpT, ConstO, NullO, MoveO, OneO, TwoO, GlobalO, LocalO, LiteralO, CardO, StepO, ApartO, PtrTestO, LoadO, StoreO, FreshO, EndO, InO, OutO, WaitO, HaltO, NodesT, Stop, Do, Call, Choose, Block, Loop, Leave, Again, Return, FunctionT, CodeT}
 use Rattle.mid_code.specs.Invariants.{AllOf, IsOp, AreNodes}
 use Rattle.asm_laws.specs.Moves.{Move, in_order}
-use Rattle.asm_laws.specs.Operations.{Frame, Whole, keep, fetches, keeps, keeps_some, hand, brings, takes, aim, lays, moves, changes, is_direct, in_place, apart, is_turned, turned_or_apart, computes, slot_arg, slot_args, moved_items, args_items, call_items, op_items, in_one, one_or_more, more_of, giving, start_frame, literal_items, literals_items}
+use Rattle.asm_laws.specs.Operations.{Frame, Whole, keep, fetches, keeps, keeps_some, hand, brings, takes, aim, lays, moves, changes, is_direct, in_place, apart, is_turned, turned_or_apart, computes, slot_arg, slot_args, moved_items, args_items, call_items, op_items, in_one, one_or_more, more_of, giving, start_frame, literal_items, literals_items, word_put, put_item, puts_items, group_items, group_more}
 use Rattle.asm_laws.specs.Pieces.{register, is_in, turned}
 use Rattle.asm_laws.specs.Framing.{frame_made, frame_gone}
 use Rattle.asm_laws.specs.declared.behind.Behind.{Behind}
 use Rattle.asm_laws.specs.declared.behind.Behind.TheVariants.{Other, End, Turn}
 use Rattle.asm_laws.specs.inner.Emitted.{labels, enclosing, jump, jump_unless, mark, first_part, second_part, choice, alone, left_to, ends, jump_when, is_stop, enclosed, returning, items_past, code_items, exit_items, function_items, functions_items, closing_items, start_items, program_items, inside, is_end, is_turn, again, rotated, looped, is_tested, part_items, test_items}
-use Rattle.asm_laws.proofs.InOne.{TakesWord, one_or_more_is}
+use Rattle.asm_laws.specs.declared.copying.Copying.{Copying}
+use Rattle.asm_laws.specs.Copies.{copy_at, copy_or}
+use Rattle.asm_laws.proofs.InOne.{TakesWord, one_or_more_is, group_is}
 use Rattle.asm_emit.specs.inner.Words.{AreWords, TextsAreWords}
 use Rattle.asm_emit.proofs.ReadableLabels.{jump_named, literal_named, function_named}
 
@@ -212,6 +214,37 @@ module _ (x : CodeT Where) (W : Whole) (words : list_all is_word W.names ≡ tru
         one_or_more_is W F AllFine (λ v. v < 2 ^ 32) o c (λ t n e. (subst (IsOp x m) e ok, in_words 0 n)) (λ t k e. (addresses k, in_words 0 (get_or W.globals k 0))) (op_fine o ok) taking_fine
         (λ p r i lt h. (fetch_fine F p r lt, taking_fine i h))
 
+    put_fine : (o : OpT Where) → IsOp x m o → AllFine (put_item (word_put W o))
+    put_fine (ConstO (Reg r) n) ok = ((in_registers r, (ok, tt)), tt)
+    put_fine (GlobalO (Reg r) k) ok = ((in_registers r, (addresses k, tt)), tt)
+    put_fine _ ok = tt
+
+    puts_fine : (c : NodesT Where) (k : ℕ) (bs : List Bool) → AreNodes x m bs c → AllFine (puts_items W c k)
+    puts_fine (Do o c) (suc k) bs ok = join (put_item (word_put W o)) (puts_items W c k) (put_fine o ok.0) (puts_fine c k bs ok.1)
+    puts_fine (Do o c) zero bs ok = tt
+    puts_fine Stop k bs ok = tt
+    puts_fine (Call t g args c) k bs ok = tt
+    puts_fine (Choose p a b c) k bs ok = tt
+    puts_fine (Block b c) k bs ok = tt
+    puts_fine (Loop b c) k bs ok = tt
+    puts_fine (Leave j c) k bs ok = tt
+    puts_fine (Again j c) k bs ok = tt
+    puts_fine (Return p c) k bs ok = tt
+
+    group_fine : (o : OpT Where) (c : NodesT Where) (bs : List Bool) → AreNodes x m bs (Do o c) → AllFine (group_items W F o c)
+    group_fine o c bs ok = group_is W F AllFine o c (one_or_more_fine o c ok.0) (λ k e. puts_fine (Do o c) k bs ok)
+
+    copied_fine : (y : Option Copying) (xs : List AsmItem) → AllFine xs → AllFine (copy_or y xs)
+    copied_fine None xs h = h
+    copied_fine (Some y) xs h =
+        let to = in_registers y.to in
+        let from = in_registers y.from in
+        let count = in_registers y.count in
+        let cell = in_registers y.cell in (
+          (omega arith, (to, tt)),
+          ((omega arith, (from, tt)), ((omega arith, (count, tt)), (tt, ((from, ((omega arith, omega arith), tt)), ((to, ((omega arith, omega arith), tt)), ((count, (omega arith, tt)), ((cell, (to, tt)), tt))))))),
+        )
+
     call_fine : (t : Option Where) (g : ℕ) (args : List Where) → AllFine (call_items W F t g args)
     call_fine t g args = join (args_items F (W.frames g) (W.params g) args) _ (args_fine F (W.frames g) (W.params g) args) ((function_named W.names g words, tt), some_fine F t)
 
@@ -237,7 +270,7 @@ module _ (x : CodeT Where) (W : Whole) (words : list_all is_word W.names ≡ tru
     module _ (out : ℕ) where
       test_fine : (to : ℕ) (c : NodesT Where) (done : ℕ) (bs : List Bool) → AreNodes x m bs c → AllFine (test_items W F out to c done)
       test_fine to Stop done bs ok = tt
-      test_fine to (Do o c) zero bs ok = join (one_or_more W F o (in_one W F o c)) _ (one_or_more_fine o c ok.0) (test_fine to c (more_of (in_one W F o c)) bs ok.1)
+      test_fine to (Do o c) zero bs ok = join (group_items W F o c) _ (group_fine o c bs ok) (test_fine to c (group_more W F o c) bs ok.1)
       test_fine to (Do o c) (suc done) bs ok = test_fine to c done bs ok.1
       test_fine to (Call t g args c) done bs ok = join (call_items W F t g args) _ (call_fine t g args) (test_fine to c 0 bs ok.1)
       test_fine to (Choose p a b c) done bs ok = join (brings F p 9) (jump_when (hand p 9) to ∷ test_items W F out to c 0) (brings_fine F p 9 (omega arith)) ((hand_fine p 9 (omega arith), (jump_named to, tt)), test_fine to c 0 bs ok.2)
@@ -250,7 +283,7 @@ module _ (x : CodeT Where) (W : Whole) (words : list_all is_word W.names ≡ tru
       mutual
         past_fine : (c : NodesT Where) (done : ℕ) (last : Behind) (bs : List Bool) (ls : List ℕ) (n : ℕ) → AreNodes x m bs c → AllFine (items_past W F out last ls n c done)
         past_fine Stop done last bs ls n ok = tt
-        past_fine (Do o c) zero last bs ls n ok = join (one_or_more W F o (in_one W F o c)) _ (one_or_more_fine o c ok.0) (past_fine c (more_of (in_one W F o c)) last bs ls n ok.1)
+        past_fine (Do o c) zero last bs ls n ok = join (group_items W F o c) _ (group_fine o c bs ok) (past_fine c (group_more W F o c) last bs ls n ok.1)
         past_fine (Do o c) (suc done) last bs ls n ok = past_fine c done last bs ls n ok.1
         past_fine (Call t g args c) done last bs ls n ok = join (call_items W F t g args) _ (call_fine t g args) (past_fine c 0 last bs ls n ok.1)
         past_fine (Choose p a b c) done last bs ls n ok =
@@ -262,8 +295,8 @@ module _ (x : CodeT Where) (W : Whole) (words : list_all is_word W.names ≡ tru
             let all = items_past W F out (inside (ends last c)) (ls ++ n ∷ []) (n + 2) b 0 in
             let part = part_items W F out (ls ++ n ∷ []) (n + 2) b in
             let test = test_items W F out (n + 2) b 0 in
-            join (looped (is_tested b) n all part test) _
-            (either (is_tested b) (rotated n part test) (enclosed n all) (rotated_fine n part test (part_fine b (true ∷ bs) (ls ++ n ∷ []) (n + 2) ok.0) (test_fine (n + 2) b 0 (true ∷ bs) ok.0)) (enclosed_fine n all (past_fine b 0 (inside (ends last c)) (true ∷ bs) (ls ++ n ∷ []) (n + 2) ok.0)))
+            join (copy_or (copy_at done b) (looped (is_tested b) n all part test)) _
+            (copied_fine (copy_at done b) (looped (is_tested b) n all part test) (either (is_tested b) (rotated n part test) (enclosed n all) (rotated_fine n part test (part_fine b (true ∷ bs) (ls ++ n ∷ []) (n + 2) ok.0) (test_fine (n + 2) b 0 (true ∷ bs) ok.0)) (enclosed_fine n all (past_fine b 0 (inside (ends last c)) (true ∷ bs) (ls ++ n ∷ []) (n + 2) ok.0))))
             (past_fine c 0 last bs ls (n + (2 + labels b)) ok.1)
         past_fine (Leave k c) done last bs ls n ok = ((jump_named (add (enclosing ls k) 1), tt), past_fine c 0 last bs ls n ok.1)
         past_fine (Again k c) done last bs ls n ok = join (again ls k (ends last c)) _ (either ((k == 0) && is_turn (ends last c)) [] (jump (enclosing ls k) ∷ []) tt ((jump_named (enclosing ls k), tt), tt)) (past_fine c 0 last bs ls n ok.1)

@@ -7,6 +7,7 @@
 
 mod ahead;
 mod calls;
+mod copies;
 mod hands;
 mod moving;
 mod names;

@@ -8,10 +8,11 @@ ghost use Rattle.asm_laws.specs.inner.Emitted.{labels, enclosing, jump, jump_unl
 ghost use Rattle.asm_laws.specs.inner.Emitted.{returning, code_items, inside, is_end, is_turn, again, rotated};
 ghost use Rattle.asm_emit.specs.inner.Listed.{left_in, ends_in, node_labels, list_labels, node_items, list_past};
 ghost use Rattle.asm_emit.specs.inner.Listed.{is_none, is_again, round_in, tested_in, is_operation, turn_labels, part_labels};
-ghost use Rattle.asm_emit.specs.inner.Listed.{own_test, list_test, list_part, turn_items};
+ghost use Rattle.asm_emit.specs.inner.Listed.{copied_own, own_test, list_test, list_part, turn_items};
 ghost use Rattle.asm_emit.specs.inner.View.{frame, whole};
 
 use crate::ahead::{behind, is_call, put_ahead};
+use crate::copies::{copy_at, put_copy};
 use crate::hands::{brings, fetches, hand, op};
 use crate::names::jump_label;
 use crate::operations::put_op;
@@ -121,7 +122,7 @@ fn is_turn(last: Behind) -> bool
     }
 }
 
-fn is_none(xs: &[Node<Where>]) -> bool
+pub(crate) fn is_none(xs: &[Node<Where>]) -> bool
     ensures { result ≡ is_none (listed (map node xs.now)) }
 {
     match xs.split_first() {
@@ -596,6 +597,39 @@ fn put_node(
     }
 }
 
+/// Adds the own items of a node, where so many operations in front are done already; the number of the next label.
+#[cycle(items)]
+#[tactic(auto, using(crate::proofs::InMemory::copied_labels))]
+fn put_own(
+    alloc: Global,
+    out: &mut Vec<AsmItem>,
+    w: &Around<'_>,
+    s: &Scope<'_>,
+    end: u32,
+    last: Behind,
+    ls: &mut Vec<u32>,
+    n: u32,
+    x: &Node<Where>,
+    done: u32,
+) -> Result<u32, Memory>
+    requires fits { n + node_labels (node x.now) < 2 ^ 32 - 1 }
+    ensures items { OnOk result (out.new.items ≡ out.old.items
+        ++ copied_own done (node x.now) (node_items (whole w.now) (frame s.now) end last ls.old.items n (node x.now))) }
+    ensures labels { OnOk result (ls.new.items ≡ ls.old.items) }
+    ensures next { IfOk result (λ m. m ≡ n + node_labels (node x.now)) }
+{
+    match x {
+        Node::Loop(b) => match copy_at(done, b.as_slice()) {
+            Some(y) => {
+                put_copy(out, y)?;
+                Ok(n + 4)
+            }
+            None => put_loop(alloc, out, w, s, end, last, ls, n, b.as_slice()),
+        },
+        _ => put_node(alloc, out, w, s, end, last, ls, n, x),
+    }
+}
+
 /// Adds the items of nodes, one after another, some operations in one instruction.
 #[cycle(items)]
 fn put_nodes(
@@ -622,7 +656,8 @@ fn put_nodes(
         match put_ahead(out, w, s, x, rest, done)? {
             Some(more) => done = more,
             None => {
-                next = put_node(alloc, out, w, s, end, ends_in(last, rest), ls, next, x)?;
+                let behind = ends_in(last, rest);
+                next = put_own(alloc, out, w, s, end, behind, ls, next, x, done)?;
                 done = 0;
             }
         }

@@ -1,4 +1,4 @@
-// Numbers and bytes in memory are words.
+// Numbers and bytes in memory are words. These walk for the proof alone, since what a number in memory is limited to is known of a number at hand.
 ghost use Rattle.mid_code.specs.Invariants.{AllOf};
 ghost use Rattle.asm_emit.specs.inner.Words.{IsWord, AreWords, TextsAreWords};
 

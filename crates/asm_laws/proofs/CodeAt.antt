@@ -2,7 +2,7 @@
 use Rattle.v32_isa.specs.declared.instruction.Branch.TheVariants.{JT}
 use Rattle.std.proofs.lemmas.Bool.Decides.{nat_tests}
 use Rattle.std.specs.Prelude.{◌&&◌, ◌==◌}
-use Rattle.std.proofs.Common.{◌≡◌, ℕ, zero, suc, ◌+◌, ◌-◌, ◌^◌, ◌<◌, inl, inr, Bool, true, false, cond, List, [], ◌∷◌, ◌++◌, length, Option, Some, None, refl, sym, ap, ◌∙◌, subst, arith, length-append}
+use Rattle.std.proofs.Common.{◌≡◌, ℕ, zero, suc, ◌+◌, ◌-◌, ◌^◌, ◌<◌, ◌⊎◌, inl, inr, Bool, true, false, cond, List, [], ◌∷◌, ◌++◌, length, Option, Some, None, refl, sym, ap, ◌∙◌, subst, arith, length-append}
 use Rattle.kit_base.specs.Word.{add}
 use Rattle.v32_isa.specs.declared.instruction.Go.TheVariants.{JMP}
 use Rattle.v32_isa.specs.declared.instruction.Src.TheVariants as src
@@ -12,12 +12,14 @@ use Rattle.mid_code.specs.declared.placed.Where.{Where}
 use Rattle.mid_code.specs.Code.{OpT, NodesT, Stop, Do, Call, Choose, Block, Loop, Leave, Again, Return, CodeT}
 use Rattle.mid_code.specs.Invariants.{AreNodes}
 use Rattle.asm_laws.specs.Names.{jump_label}
-use Rattle.asm_laws.specs.Operations.{Frame, hand, brings, giving, in_one, one_or_more, more_of, call_items}
+use Rattle.asm_laws.specs.Operations.{Frame, hand, brings, giving, call_items, group_items, group_more}
 use Rattle.asm_laws.specs.declared.behind.Behind.{Behind}
 use Rattle.asm_laws.specs.declared.behind.Behind.TheVariants.{Other, End, Turn}
 use Rattle.asm_laws.specs.inner.Emitted.{labels, enclosing, jump, jump_unless, mark, jump_when, choice, first_part, second_part, left_to, alone, ends, is_stop, enclosed, returning, items_past, code_items, inside, is_end, is_turn, again, looped, is_tested, is_round, part_items, test_items}
 use Rattle.asm_laws.specs.Placing.{Line, Bounds, end_of, begin_of, owed, paid, Jumps, Passes, Begins, Past, At}
 use Rattle.asm_laws.specs.Standing.{Stand}
+use Rattle.asm_laws.specs.declared.copying.Copying.{Copying}
+use Rattle.asm_laws.specs.Copies.{copy_at, copy_or}
 use Rattle.asm_laws.specs.Holds.{Setting}
 use Rattle.asm_laws.specs.Program.{items_at}
 use Rattle.asm_laws.proofs.Split.{split}
@@ -238,7 +240,7 @@ module _ (S : Setting) (f out : ℕ) (leave : S.address (jump_label out) ≡ S.l
     anywhere es (Call t g args c) done pc e q is at = (at.0, at.1, anywhere es c zero at.0 e q is at.2)
     anywhere es (Choose w a b c) done pc e q is at = (at.0, at.1, at.2, at.3, at.4, at.5, at.6, at.7, anywhere es c zero at.3 e q is at.8)
     anywhere es (Block b c) done pc e q is at = (at.0, at.1, anywhere es c zero at.0 e q is at.2)
-    anywhere es (Loop b c) done pc e q is at = (at.0, at.1, at.2, at.3, anywhere es c zero at.1 e q is at.4)
+    anywhere es (Loop b c) done pc e q is at = (at.0, at.1, anywhere es c zero at.0 e q is at.2)
     anywhere es (Leave k c) done pc e q is at = (at.0, (at.1.0, anywhere es c zero at.1.0 e q is at.1.1))
     anywhere es (Again k c) done pc e q is at = (at.0, last c (λ t. anywhere es c zero at.1.0 e q t at.1.1) is)
       where
@@ -301,13 +303,20 @@ module _ (S : Setting) (f out : ℕ) (leave : S.address (jump_label out) ≡ S.l
         let two = subst (λ z. Here (label n) test z) at_e (subst (λ z. Here z test u.0) on_n u.1) in
         (label n, label (n + 1), inl (h.0, h.1), turns (label n) (label (n + 1)) is one two, q_e)
 
+    -- a loop that is done by a block move, or in turns
+    copied_at : (b : NodesT Where) (xs : List AsmItem) (es : List Bounds) (done pc q : ℕ) (y : Option Copying) → copy_at done b ≡ y → Here pc (copy_or y xs) q →
+        (Here pc xs q → (r : ℕ) × (p : ℕ) × Passes S.console.words pc r × CodeAt (record { begins = r; ends = p; owes = true } ∷ es) r b p × (q ≡ p)) →
+        (p : ℕ) × ((items_at S).copy f pc b done p ⊎ ((r : ℕ) × Passes S.console.words pc r × CodeAt (record { begins = r; ends = p; owes = true } ∷ es) r b p)) × (q ≡ p)
+    copied_at b xs es done pc q None e h go = let r = go h in (r.1, inr (r.0, r.2, r.3), r.4)
+    copied_at b xs es done pc q (Some y) e h go = (q, inl (y, e, h), refl)
+
     mutual
       pub code_at : (c : NodesT Where) (done : ℕ) (last : Behind) (bs : List Bool) (ls : List ℕ) (es : List Bounds) (n pc e : ℕ) → AreNodes x m bs c → length ls ≡ length bs → Few (n + labels c) → Enclose ls es → Over es last e → Here pc (past last ls n c done) e → Past (items_at S) f es pc c done e
       code_at Stop done last bs ls es n pc e ok same few en over h = h
       code_at (Do o c) zero last bs ls es n pc e ok same few en over h =
-          let one = in_one S.whole F o c in
-          let s = parts (one_or_more S.whole F o one) (past last ls n c (more_of one)) pc e h in
-          (more_of one, s.0, (s.1, refl), code_at c (more_of one) last bs ls es n s.0 e ok.1 same few en over s.2)
+          let more = group_more S.whole F o c in
+          let s = parts (group_items S.whole F o c) (past last ls n c more) pc e h in
+          (more, s.0, (s.1, refl), code_at c more last bs ls es n s.0 e ok.1 same few en over s.2)
       code_at (Do o c) (suc j) last bs ls es n pc e ok same few en over h = code_at c j last bs ls es n pc e ok.1 same few en over h
       code_at (Call t g args c) done last bs ls es n pc e ok same few en over h =
           let s = parts (call_items S.whole F t g args) (past last ls n c zero) pc e h in
@@ -335,12 +344,12 @@ module _ (S : Setting) (f out : ℕ) (leave : S.address (jump_label out) ≡ S.l
           let all = past (inside (ends last c)) inner (n + 2) b zero in
           let part = part_items S.whole F out inner (n + 2) b in
           let test = test_items S.whole F out (n + 2) b zero in
-          let s = parts (looped (is_tested b) n all part test) (past last ls (n + (2 + labels b)) c zero) pc e h in
+          let s = parts (copy_or (copy_at done b) (looped (is_tested b) n all part test)) (past last ls (n + (2 + labels b)) c zero) pc e h in
           let closed = enter ls es n (omega (arith, few)) en in
-          let r = looped_at b all part test es n pc s.0 (inside (ends last c)) (is_tested b) refl (in_body es around (ends last c) s.0 (shut es c last ls (n + (2 + labels b)) s.0 e over s.2))
+          let r = copied_at b (looped (is_tested b) n all part test) es done pc s.0 (copy_at done b) refl s.1 (λ k. looped_at b all part test es n pc s.0 (inside (ends last c)) (is_tested b) refl (in_body es around (ends last c) s.0 (shut es c last ls (n + (2 + labels b)) s.0 e over s.2))
           (λ p q o k. code_at b zero (inside (ends last c)) (true ∷ bs) inner around (n + 2) p q ok.0 (deeper ls n bs true same) (omega (arith, few)) closed o k)
-          (λ p q t g k. test_at b zero inner around (true ∷ bs) (n + 2) p q t ok.0 (deeper ls n bs true same) (omega (arith, few)) closed (record { end = label n; owes = refl; begins = refl; here = g }) k) s.1 in
-          (r.0, r.1, r.2, r.3, from es s.0 r.1 e c r.4 (code_at c zero last bs ls es (n + (2 + labels b)) s.0 e ok.1 same (omega (arith, few)) en over s.2))
+          (λ p q t g k. test_at b zero inner around (true ∷ bs) (n + 2) p q t ok.0 (deeper ls n bs true same) (omega (arith, few)) closed (record { end = label n; owes = refl; begins = refl; here = g }) k) k) in
+          (r.0, r.1, from es s.0 r.0 e c r.2 (code_at c zero last bs ls es (n + (2 + labels b)) s.0 e ok.1 same (omega (arith, few)) en over s.2))
       code_at (Leave k c) done last bs ls es n pc e ok same few en over h =
           let l = ok.0 in
           let lt : k < length ls = omega (arith, l, same) in
@@ -359,9 +368,9 @@ module _ (S : Setting) (f out : ℕ) (leave : S.address (jump_label out) ≡ S.l
       test_at : (c : NodesT Where) (done : ℕ) (ls : List ℕ) (es : List Bounds) (bs : List Bool) (n pc e : ℕ) → is_tested c ≡ true → AreNodes x m bs c → length ls ≡ length bs → Few (n + labels c) → Enclose ls es →
           Turns ls es n c → Here pc (test_items S.whole F out n c done) e → Past (items_at S) f es pc c done e
       test_at (Do o c) zero ls es bs n pc e is ok same few en t h =
-          let one = in_one S.whole F o c in
-          let s = parts (one_or_more S.whole F o one) (test_items S.whole F out n c (more_of one)) pc e h in
-          (more_of one, s.0, (s.1, refl), test_at c (more_of one) ls es bs n s.0 e is ok.1 same few en (behind ls es n o c t) s.2)
+          let more = group_more S.whole F o c in
+          let s = parts (group_items S.whole F o c) (test_items S.whole F out n c more) pc e h in
+          (more, s.0, (s.1, refl), test_at c more ls es bs n s.0 e is ok.1 same few en (behind ls es n o c t) s.2)
       test_at (Do o c) (suc k) ls es bs n pc e is ok same few en t h = test_at c k ls es bs n pc e is ok.1 same few en (behind ls es n o c t) h
       test_at (Choose w a b c) done ls es bs n pc e is ok same few en t h =
           let i = tests b c a is in

@@ -20,8 +20,9 @@ use Rattle.asm_laws.specs.declared.used.Used.TheVariants.{Computed, Loaded, Stor
 use Rattle.asm_laws.specs.Pieces.{register, is_in, turned}
 use Rattle.asm_laws.specs.Spare.{beside, operand, in_slots, at_address, at_sum, used_by}
 use Rattle.asm_laws.specs.Spare as spare
-use Rattle.asm_laws.specs.Operations.{Frame, Whole, fetch, fetches, hand, op_items, word_put, other_word, first_word, summed, loads_there, first_place, unturned, copied, copied_address, with_copy, with_sum, with_word, taken, brought, either, added, known, using_it, is_spared, with_known, with_more, in_one, before_it, one_or_more}
+use Rattle.asm_laws.specs.Operations.{Frame, Whole, fetch, fetches, hand, op_items, word_put, other_word, first_word, summed, loads_there, first_place, unturned, copied, copied_address, with_copy, with_sum, with_word, taken, brought, either, added, known, using_it, is_spared, with_known, with_more, in_one, before_it, one_or_more, puts_items, led_items, group_items}
 use Rattle.asm_laws.specs.Operations as emitted
+use Rattle.asm_laws.specs.Copies.{lead}
 
 module _ (V : ℕ → Type 0) where
   -- a register, and a word of which V holds
@@ -215,3 +216,11 @@ module _ (W : Whole) (F : Frame) (P : List AsmItem → Type 0) (V : ℕ → Type
   unfolding in_one
   one_or_more_is o (Do p c) f g h one two = more_is o (word_put W o) p c (put_is V W o f g) h one two
   one_or_more_is o _ f g h one two = h
+
+-- the same where operations before a loop that copies words are done one after another
+pub group_is : (W : Whole) (F : Frame) (P : List AsmItem → Type 0) (o : OpT Where) (c : NodesT Where) → P (one_or_more W F o (in_one W F o c)) → ((k : ℕ) → lead (Do o c) ≡ Some k → P (puts_items W (Do o c) k)) → P (group_items W F o c)
+group_is W F P o c one puts = go (lead (Do o c)) refl
+  where
+    go : (x : Option ℕ) → lead (Do o c) ≡ x → P (led_items W F o c x)
+    go None e = one
+    go (Some k) e = puts k e

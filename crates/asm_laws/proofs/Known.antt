@@ -31,7 +31,7 @@ use Rattle.mid_code.specs.Runs.{weight}
 use Rattle.asm_laws.specs.Labelled.{HasLabel}
 use Rattle.asm_laws.specs.Names.{jump_label, literal_label, function_label}
 use Rattle.asm_laws.specs.Moves.{Move, in_order}
-use Rattle.asm_laws.specs.Operations.{Frame, Whole, keep, fetches, keeps, keeps_some, hand, brings, takes, aim, lays, moves, changes, is_direct, in_place, apart, is_turned, turned_or_apart, computes, slot_arg, slot_args, moved_items, args_items, call_items, op_items, in_one, one_or_more, more_of, giving, start_frame, literal_items, literals_items}
+use Rattle.asm_laws.specs.Operations.{Frame, Whole, keep, fetches, keeps, keeps_some, hand, brings, takes, aim, lays, moves, changes, is_direct, in_place, apart, is_turned, turned_or_apart, computes, slot_arg, slot_args, moved_items, args_items, call_items, op_items, in_one, one_or_more, giving, start_frame, literal_items, literals_items, puts_items, put_item, group_items, group_more, word_put}
 use Rattle.asm_laws.specs.Pieces.{register, is_in, turned}
 use Rattle.asm_laws.specs.Framing.{frame_made, frame_gone}
 use Rattle.asm_laws.proofs.Leaving.{left_is}
@@ -40,7 +40,9 @@ use Rattle.asm_laws.specs.declared.behind.Behind.TheVariants.{Other, End, Turn}
 use Rattle.asm_laws.specs.inner.Emitted.{labels, functions_labels, enclosing, jump, jump_unless, mark, first_part, second_part, choice, one_way, alone, left_to, ends, jump_when, is_stop, enclosed, returning, items_past, code_items, entry_items, exit_items, function_items, functions_items, closing_items, start_items, program_items, inside, is_end, is_turn, again, rotated, looped, is_tested, part_items, test_items}
 use Rattle.asm_laws.proofs.Programs.{mapped_from}
 use Rattle.asm_laws.proofs.Walked.{total_more}
-use Rattle.asm_laws.proofs.InOne.{TakesWord, one_or_more_is}
+use Rattle.asm_laws.specs.declared.copying.Copying.{Copying}
+use Rattle.asm_laws.specs.Copies.{copy_at, copy_or}
+use Rattle.asm_laws.proofs.InOne.{TakesWord, one_or_more_is, group_is}
 use Rattle.asm_laws.proofs.Enclosing.{innermost, further}
 use Rattle.asm_laws.proofs.LabelKinds.{Differ}
 use Rattle.asm_laws.proofs.Sizes.{text_words, Counts, program_size, program_few, few_texts}
@@ -220,6 +222,25 @@ module _ (x : CodeT Where) (W : Whole) (Q : List ℕ → Type 0) (of_function : 
   one_uses : (m : ℕ) (F : Frame) (o : OpT Where) (c : NodesT Where) → IsOp x m o → Uses Q (one_or_more W F o (in_one W F o c))
   one_uses m F o c ok = one_or_more_is W F (Uses Q) (λ v. Unit {0}) o c (λ t n e. (tt, tt)) (λ t k e. (tt, tt)) (op_uses m F o ok) taking_uses (λ p r i lt h. (fetch_uses F p r, taking_uses i h))
 
+  puts_uses : (c : NodesT Where) (k : ℕ) → Uses Q (puts_items W c k)
+  puts_uses (Do o c) (suc k) = uses_append Q (put_item (word_put W o)) (puts_items W c k) (put (word_put W o)) (puts_uses c k)
+    where
+      put : (x : Option (ℕ × ℕ)) → Uses Q (put_item x)
+      put None = tt
+      put (Some (r, w)) = (tt, tt)
+  puts_uses (Do o c) zero = tt
+  puts_uses Stop k = tt
+  puts_uses (Call t g args c) k = tt
+  puts_uses (Choose p a b c) k = tt
+  puts_uses (Block b c) k = tt
+  puts_uses (Loop b c) k = tt
+  puts_uses (Leave j c) k = tt
+  puts_uses (Again j c) k = tt
+  puts_uses (Return p c) k = tt
+
+  group_uses : (m : ℕ) (F : Frame) (o : OpT Where) (c : NodesT Where) → IsOp x m o → Uses Q (group_items W F o c)
+  group_uses m F o c ok = group_is W F (Uses Q) o c (one_uses m F o c ok) (λ k e. puts_uses (Do o c) k)
+
   call_uses : (F : Frame) (t : Option Where) (g : ℕ) (args : List Where) → g < length x.functions → Uses Q (call_items W F t g args)
   call_uses F t g args ok = uses_append Q (args_items F (W.frames g) (W.params g) args) _ (args_uses F (W.frames g) (W.params g) args) (of_function g ok, some_uses F t)
 
@@ -301,11 +322,15 @@ module _ (x : CodeT Where) (W : Whole) (Q : List ℕ → Type 0) (of_function : 
     looped_uses true n all part test ls few j k ua up ut = rotated_uses n part test ls few j k up ut
     looped_uses false n all part test ls few j k ua up ut = enclosed_uses n all ls few j k ua
 
+    copied_uses : (y : Option Copying) (xs : List AsmItem) → Knows (copy_or y xs) → (Knows xs → Uses Q xs) → Uses Q (copy_or y xs)
+    copied_uses None xs k go = go k
+    copied_uses (Some y) xs k go = (tt, (tt, (tt, (tt, (tt, (tt, (tt, (tt, tt))))))))
+
     again_uses : (ls : List ℕ) (k : ℕ) (last : Behind) → Q (jump_label (enclosing ls k)) → Uses Q (again ls k last)
     again_uses ls k last q = one_of_both ((k == 0) && is_turn last) [] (jump (enclosing ls k) ∷ []) tt (q, tt)
 
     test_uses : (m : ℕ) (to : ℕ) (c : NodesT Where) (done : ℕ) (bs : List Bool) → AreNodes x m bs c → Q (jump_label to) → Uses Q (test_items W F out to c done)
-    test_uses m to (Do o c) zero bs ok q = let more = more_of (in_one W F o c) in uses_append Q (one_or_more W F o (in_one W F o c)) (test_items W F out to c more) (one_uses m F o c ok.0) (test_uses m to c more bs ok.1 q)
+    test_uses m to (Do o c) zero bs ok q = let more = group_more W F o c in uses_append Q (group_items W F o c) (test_items W F out to c more) (group_uses m F o c ok.0) (test_uses m to c more bs ok.1 q)
     test_uses m to (Do o c) (suc done) bs ok q = test_uses m to c done bs ok.1 q
     test_uses m to (Choose p a b c) done bs ok q = brought_uses F p 9 (jump_when (hand p 9) to ∷ test_items W F out to c 0) (q, test_uses m to c 0 bs ok.2 q)
     test_uses m to Stop done bs ok q = tt
@@ -320,9 +345,9 @@ module _ (x : CodeT Where) (W : Whole) (Q : List ℕ → Type 0) (of_function : 
       past_uses : (m : ℕ) (c : NodesT Where) (done : ℕ) (last : Behind) (bs : List Bool) (ls : List ℕ) (n : ℕ) → length ls ≡ length bs → AreNodes x m bs c → n + labels c < 2 ^ 32 - 1 → Jumpable ls → Knows (items_past W F out last ls n c done) → Uses Q (items_past W F out last ls n c done)
       past_uses m Stop done last bs ls n same ok few j k = tt
       past_uses m (Do o c) zero last bs ls n same ok few j k =
-          let a = one_or_more W F o (in_one W F o c) in
-          let b = items_past W F out last ls n c (more_of (in_one W F o c)) in
-          uses_append Q a b (one_uses m F o c ok.0) (past_uses m c (more_of (in_one W F o c)) last bs ls n same ok.1 few j (λ w h. k w (marked_right a b w h)))
+          let a = group_items W F o c in
+          let b = items_past W F out last ls n c (group_more W F o c) in
+          uses_append Q a b (group_uses m F o c ok.0) (past_uses m c (group_more W F o c) last bs ls n same ok.1 few j (λ w h. k w (marked_right a b w h)))
       past_uses m (Do o c) (suc done) last bs ls n same ok few j k = past_uses m c done last bs ls n same ok.1 few j k
       past_uses m (Call t g args c) done last bs ls n same ok few j k =
           let a = call_items W F t g args in
@@ -348,11 +373,11 @@ module _ (x : CodeT Where) (W : Whole) (Q : List ℕ → Type 0) (of_function : 
           let all = items_past W F out (inside (ends last c)) (ls ++ n ∷ []) (n + 2) b 0 in
           let part = part_items W F out (ls ++ n ∷ []) (n + 2) b in
           let test = test_items W F out (n + 2) b 0 in
-          let xs = looped (is_tested b) n all part test in
+          let xs = copy_or (copy_at done b) (looped (is_tested b) n all part test) in
           let ys = items_past W F out last ls (n + (2 + labels b)) c 0 in
           uses_append Q xs ys
-          (looped_uses (is_tested b) n all part test ls (omega (arith, few)) j (λ w h. k w (marked_left xs ys w h)) (λ i h. past_uses m b 0 (inside (ends last c)) (true ∷ bs) (ls ++ n ∷ []) (n + 2) (deeper ls n bs true same) ok.0 (omega (arith, few)) i h)
-          (λ i h. part_uses m b (true ∷ bs) (ls ++ n ∷ []) (n + 2) (deeper ls n bs true same) ok.0 (omega (arith, few)) i h) (λ q. test_uses m (n + 2) b 0 (true ∷ bs) ok.0 q))
+          (copied_uses (copy_at done b) (looped (is_tested b) n all part test) (λ w h. k w (marked_left xs ys w h)) (λ known. looped_uses (is_tested b) n all part test ls (omega (arith, few)) j known (λ i h. past_uses m b 0 (inside (ends last c)) (true ∷ bs) (ls ++ n ∷ []) (n + 2) (deeper ls n bs true same) ok.0 (omega (arith, few)) i h)
+          (λ i h. part_uses m b (true ∷ bs) (ls ++ n ∷ []) (n + 2) (deeper ls n bs true same) ok.0 (omega (arith, few)) i h) (λ q. test_uses m (n + 2) b 0 (true ∷ bs) ok.0 q)))
           (past_uses m c 0 last bs ls (n + (2 + labels b)) same ok.1 (omega (arith, few)) j (λ w h. k w (marked_right xs ys w h)))
       past_uses m (Leave i c) done last bs ls n same ok few j k = ((j i (let l = ok.0 in omega (arith, l, same))).1, past_uses m c 0 last bs ls n same ok.1 few j k)
       past_uses m (Again i c) done last bs ls n same ok few j k =

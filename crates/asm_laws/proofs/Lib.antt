@@ -10,6 +10,12 @@ pub mod Lists
 pub mod First
 pub mod Alongside
 pub mod Spared
+pub mod Leads
+pub mod Leading
+pub mod BlockMove
+pub mod Copied
+pub mod CopyLoop
+pub mod KnownWords
 pub mod UsedStep
 pub mod Change
 pub mod Covered

@@ -15,13 +15,15 @@ use Rattle.mid_code.specs.declared.placed.Where.TheVariants.{Reg, Slot}
 use Rattle.mid_code.specs.Code.{OpT, ConstO, NullO, MoveO, OneO, TwoO, GlobalO, LocalO, LiteralO, CardO, StepO, ApartO, PtrTestO, LoadO, StoreO, FreshO, EndO, InO, OutO, WaitO, HaltO, NodesT, Stop, Do, Call, Choose, Block, Loop, Leave, Again, Return, FunctionT, CodeT}
 use Rattle.asm_laws.specs.Names.{function_label, literal_label}
 use Rattle.asm_laws.specs.Moves.{Move, in_order}
-use Rattle.asm_laws.specs.Operations.{Frame, Whole, keep, fetches, keeps_some, hand, brings, takes, aim, lays, moves, changes, is_direct, in_place, apart, is_turned, turned_or_apart, computes, slot_arg, slot_args, moved_items, args_items, call_items, op_items, in_one, one_or_more, more_of, giving, start_frame, literal_items, literals_items}
+use Rattle.asm_laws.specs.Operations.{Frame, Whole, keep, fetches, keeps_some, hand, brings, takes, aim, lays, moves, changes, is_direct, in_place, apart, is_turned, turned_or_apart, computes, slot_arg, slot_args, moved_items, args_items, call_items, op_items, in_one, one_or_more, giving, start_frame, literal_items, literals_items, puts_items, put_item, group_items, group_more, word_put}
 use Rattle.asm_laws.specs.Pieces.{register, is_in, turned}
 use Rattle.asm_laws.specs.Framing.{frame_made, frame_gone}
 use Rattle.asm_laws.specs.declared.behind.Behind.{Behind}
 use Rattle.asm_laws.specs.declared.behind.Behind.TheVariants.{Other, End, Turn}
 use Rattle.asm_laws.specs.inner.Emitted.{labels, functions_labels, enclosing, jump, jump_unless, mark, choice, one_way, alone, left_to, ends, jump_when, is_stop, enclosed, returning, items_past, code_items, entry_items, exit_items, function_items, functions_items, closing_items, start_items, program_items, labels_of, inside, is_end, is_turn, again, rotated, looped, is_tested, part_items, test_items}
-use Rattle.asm_laws.proofs.InOne.{one_or_more_is}
+use Rattle.asm_laws.specs.declared.copying.Copying.{Copying}
+use Rattle.asm_laws.specs.Copies.{copy_at, copy_or, copy_items}
+use Rattle.asm_laws.proofs.InOne.{one_or_more_is, group_is}
 use Rattle.asm_laws.proofs.LabelKinds.{Differ, Kind, Jump, Fun, Text, name_of, Valid, kind_same, Range, Box, Within, Aside, jumps, jumps_within, jumps_below, jumps_above}
 
 -- ---- labels of items
@@ -196,6 +198,25 @@ module _ (W : Whole) (differ : Differ W.names) where
   one_bare : (F : Frame) (o : OpT Where) (c : NodesT Where) → Bare (one_or_more W F o (in_one W F o c))
   one_bare F o c = one_or_more_is W F (λ xs. Bare xs) (λ v. Unit {0}) o c (λ t n e. (tt, tt)) (λ t k e. (tt, tt)) (op_bare F o) (λ i h. tt) (λ p r i lt h. tt)
 
+  puts_bare : (c : NodesT Where) (k : ℕ) → Bare (puts_items W c k)
+  puts_bare (Do o c) (suc k) = names_append (λ m. ⊥) (put_item (word_put W o)) (puts_items W c k) (put (word_put W o)) (puts_bare c k)
+    where
+      put : (x : Option (ℕ × ℕ)) → Bare (put_item x)
+      put None = tt
+      put (Some (r, w)) = tt
+  puts_bare (Do o c) zero = tt
+  puts_bare Stop k = tt
+  puts_bare (Call t g args c) k = tt
+  puts_bare (Choose p a b c) k = tt
+  puts_bare (Block b c) k = tt
+  puts_bare (Loop b c) k = tt
+  puts_bare (Leave j c) k = tt
+  puts_bare (Again j c) k = tt
+  puts_bare (Return p c) k = tt
+
+  group_bare : (F : Frame) (o : OpT Where) (c : NodesT Where) → Bare (group_items W F o c)
+  group_bare F o c = group_is W F (λ xs. Bare xs) o c (one_bare F o c) (λ k e. puts_bare (Do o c) k)
+
   call_bare : (F : Frame) (t : Option Where) (g : ℕ) (args : List Where) → Bare (call_items W F t g args)
   call_bare F t g args = names_append (λ m. ⊥) (args_items F (W.frames g) (W.params g) args) _ (args_bare F (W.frames g) (W.params g) args) (some_bare F t)
 
@@ -250,12 +271,16 @@ module _ (W : Whole) (differ : Differ W.names) where
   looped_marks true n e all part test x few ma mp bt = let r = mp refl in rotated_marks n e part test r.0 few r.1 bt
   looped_marks false n e all part test x few ma mp bt = enclosed_marks n e all x few ma
 
+  copied_marks : (y : Option Copying) (r : Range) (xs : List AsmItem) → Marks r xs → Marks r (copy_or y xs)
+  copied_marks None r xs m = m
+  copied_marks (Some y) r xs m = marks_bare r (copy_items y) tt
+
   again_bare : (ls : List ℕ) (k : ℕ) (last : Behind) → Bare (again ls k last)
   again_bare ls k last = one_of_both ((k == 0) && is_turn last) [] (jump (enclosing ls k) ∷ []) tt tt
 
   module _ (F : Frame) (out : ℕ) where
     test_bare : (to : ℕ) (c : NodesT Where) (done : ℕ) → Bare (test_items W F out to c done)
-    test_bare to (Do o c) zero = let more = more_of (in_one W F o c) in names_append (λ m. ⊥) (one_or_more W F o (in_one W F o c)) (test_items W F out to c more) (one_bare F o c) (test_bare to c more)
+    test_bare to (Do o c) zero = let more = group_more W F o c in names_append (λ m. ⊥) (group_items W F o c) (test_items W F out to c more) (group_bare F o c) (test_bare to c more)
     test_bare to (Do o c) (suc done) = test_bare to c done
     test_bare to (Choose p a b c) done = names_append (λ m. ⊥) (brings F p 9) (jump_when (hand p 9) to ∷ test_items W F out to c 0) (brings_bare F p 9) (test_bare to c 0)
     test_bare to Stop done = tt
@@ -281,8 +306,8 @@ module _ (W : Whole) (differ : Differ W.names) where
       past_marks : (c : NodesT Where) (done : ℕ) (last : Behind) (ls : List ℕ) (n e : ℕ) → n + labels c ≡ e → e ≤ 2 ^ 32 → Marks (jumps n e) (items_past W F out last ls n c done)
       past_marks Stop done last ls n e is few = marks_bare (jumps n e) [] tt
       past_marks (Do o c) zero last ls n e is few =
-          let more = more_of (in_one W F o c) in
-          bare_then (jumps n e) (one_or_more W F o (in_one W F o c)) (items_past W F out last ls n c more) (one_bare F o c) (past_marks c more last ls n e is few)
+          let more = group_more W F o c in
+          bare_then (jumps n e) (group_items W F o c) (items_past W F out last ls n c more) (group_bare F o c) (past_marks c more last ls n e is few)
       past_marks (Do o c) (suc done) last ls n e is few = past_marks c done last ls n e is few
       past_marks (Call t g args c) done last ls n e is few = bare_then (jumps n e) (call_items W F t g args) (items_past W F out last ls n c 0) (call_bare F t g args) (past_marks c 0 last ls n e is few)
       past_marks (Choose p a b c) done last ls n e is few =
@@ -303,9 +328,9 @@ module _ (W : Whole) (differ : Differ W.names) where
           let part = part_items W F out (ls ++ n ∷ []) (n + 2) b in
           let test = test_items W F out (n + 2) b 0 in
           let up : n + 2 + 1 ≡ n + 3 = omega arith in
-          rising n k e (looped (is_tested b) n all part test) (items_past W F out last ls k c 0) (omega arith) (omega (arith, is))
-          (looped_marks (is_tested b) n k all part test (omega arith) (omega (arith, is, few)) (past_marks b 0 (inside (ends last c)) (ls ++ n ∷ []) (n + 2) k (omega arith) (omega (arith, is, few)))
-          (λ t. let r = some_label b t in (omega (arith, r), subst (λ h. Marks (jumps h k) part) up (part_marks b (ls ++ n ∷ []) (n + 2) k (omega arith) (omega (arith, is, few))))) (test_bare (n + 2) b 0))
+          rising n k e (copy_or (copy_at done b) (looped (is_tested b) n all part test)) (items_past W F out last ls k c 0) (omega arith) (omega (arith, is))
+          (copied_marks (copy_at done b) (jumps n k) (looped (is_tested b) n all part test) (looped_marks (is_tested b) n k all part test (omega arith) (omega (arith, is, few)) (past_marks b 0 (inside (ends last c)) (ls ++ n ∷ []) (n + 2) k (omega arith) (omega (arith, is, few)))
+          (λ t. let r = some_label b t in (omega (arith, r), subst (λ h. Marks (jumps h k) part) up (part_marks b (ls ++ n ∷ []) (n + 2) k (omega arith) (omega (arith, is, few))))) (test_bare (n + 2) b 0)))
           (past_marks c 0 last ls k e (omega (arith, is)) few)
       past_marks (Leave k c) done last ls n e is few = bare_then (jumps n e) (jump _ ∷ []) (items_past W F out last ls n c 0) tt (past_marks c 0 last ls n e is few)
       past_marks (Again k c) done last ls n e is few = bare_then (jumps n e) (again ls k (ends last c)) (items_past W F out last ls n c 0) (again_bare ls k (ends last c)) (past_marks c 0 last ls n e is few)

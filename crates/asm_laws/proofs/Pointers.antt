@@ -31,7 +31,7 @@ less_same a b c d f g = go (nat_lt a b) refl (nat_lt c d) refl
     go true e false q = let n : a < b = grind (arith, nat_tests) in let m = f n in absurd (grind (arith, nat_tests))
     go false e true q = let n : c < d = grind (arith, nat_tests) in let m = g n in absurd (grind (arith, nat_tests))
 
-below_is : (a b : ℕ) → a < 0x80000000 → b < 0x80000000 → below a b ≡ nat_lt a b
+pub below_is : (a b : ℕ) → a < 0x80000000 → b < 0x80000000 → below a b ≡ nat_lt a b
 unfolding below
 below_is a b la lb = ap (λ z. int_lt z (signed b)) (to_z_pos w32 a la) ∙ ap (λ z. int_lt (pos a) z) (to_z_pos w32 b lb)
 

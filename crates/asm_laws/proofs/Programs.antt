@@ -1,5 +1,5 @@
 -- A program that stands among the words is linked.
-use Rattle.std.proofs.Common.{◌≡◌, ℕ, zero, suc, Bool, true, false, List, [], ◌∷◌, ◌++◌, length, Option, Some, None, refl, sym, ap, ◌∙◌, subst}
+use Rattle.std.proofs.Common.{◌≡◌, ℕ, zero, suc, inl, inr, Bool, true, false, List, [], ◌∷◌, ◌++◌, length, Option, Some, None, refl, sym, ap, ◌∙◌, subst}
 use Rattle.std.specs.Prelude.{is_some, slice_get, option_map, ◌&&◌, not}
 use Rattle.v32_isa.specs.declared.instruction.One.{One}
 use Rattle.v32_isa.specs.declared.instruction.One.TheVariants.{CIB, NOT, BNOT, ISGN, IABS}
@@ -16,7 +16,7 @@ use Rattle.v32_isa.specs.declared.instruction.Instr.TheVariants as instr
 use Rattle.asm_items.specs.declared.item.AsmItem.TheVariants as item
 use Rattle.asm_laws.specs.Names.{function_label}
 use Rattle.asm_laws.specs.Placing.{Bounds, paid, Past}
-use Rattle.asm_laws.specs.Operations.{args_items, in_one, more_of}
+use Rattle.asm_laws.specs.Operations.{args_items, group_more}
 use Rattle.asm_laws.specs.Pieces.{is_in}
 use Rattle.asm_laws.specs.Spare.{are_others, spares, Sparing}
 use Rattle.asm_laws.specs.Addresses.{IsPlainOne}
@@ -27,7 +27,8 @@ use Rattle.asm_laws.specs.Calling.{Callable, shapes}
 use Rattle.asm_laws.specs.Linked.{Linked, Plan, setting}
 use Rattle.asm_laws.specs.Program.{items_at, ProgramAt, Sound, Program}
 use Rattle.asm_laws.proofs.Opening.{opens}
-use Rattle.asm_laws.proofs.Spared.{halves, all_stay, one_stays, spares_on}
+use Rattle.asm_laws.proofs.Spared.{halves, all_stay, one_stays}
+use Rattle.asm_laws.proofs.Leading.{spares_behind}
 use Rattle.asm_laws.proofs.Agrees.{agrees}
 
 plain_one : (o : One) → IsOne o → IsPlainOne o
@@ -84,8 +85,8 @@ module _ (S : Setting) (boot rest : ℕ) (card : Option (List ℕ)) (ok : IsCard
   Number f = (S.whole.frames f).registers
 
   -- an operation, and what comes behind those that are done with it
-  onward : (f : ℕ) (o : OpT Where) (c : NodesT Where) (more : ℕ) → more ≡ more_of (in_one S.whole (S.whole.frames f) o c) → Sparing (Number f) (Do o c) zero → Sparing (Number f) c more
-  onward f o c more e sp = subst (λ k. Sparing (Number f) c k) (sym e) (spares_on S f S.whole (S.whole.frames f) o c sp)
+  onward : (f : ℕ) (o : OpT Where) (c : NodesT Where) (more : ℕ) → more ≡ group_more S.whole (S.whole.frames f) o c → Sparing (Number f) (Do o c) zero → Sparing (Number f) c more
+  onward f o c more e sp = subst (λ k. Sparing (Number f) c k) (sym e) (spares_behind S f S.whole (S.whole.frames f) o c sp)
 
   at_of : (f : ℕ) → Sound S f → Calls f → (ls : List Bounds) (bs : List Bool) (c : NodesT Where) (done pc e : ℕ) → AreNodes S.code (length (S.locals f)) bs c → Names (Named S f) c → Sparing (Number f) c done → Past (items_at S) f ls pc c done e → Past (shapes S) f ls pc c done e
   at_of f so cs ls bs Stop done pc e n m sp at = at
@@ -104,9 +105,12 @@ module _ (S : Setting) (boot rest : ℕ) (card : Option (List ℕ)) (ok : IsCard
   at_of f so cs ls bs (Block b c) done pc e n m sp at =
       let d = halves (Number f) (spares b zero) (spares c zero) sp in
       (at.0, at_of f so cs (record { begins = pc; ends = at.0; owes = true } ∷ ls) (false ∷ bs) b zero pc at.0 n.0 m.0 d.0 at.1, at_of f so cs ls bs c zero at.0 e n.1 m.1 d.1 at.2)
-  at_of f so cs ls bs (Loop b c) done pc e n m sp at =
+  at_of f so cs ls bs (Loop b c) done pc e n m sp (p, inl h, rest) =
       let d = halves (Number f) (spares b zero) (spares c zero) sp in
-      (at.0, at.1, at.2, at_of f so cs (record { begins = at.0; ends = at.1; owes = true } ∷ ls) (true ∷ bs) b zero at.0 at.1 n.0 m.0 d.0 at.3, at_of f so cs ls bs c zero at.1 e n.1 m.1 d.1 at.4)
+      (p, inl (h.0, h.1, h.2, m.0, d.0), at_of f so cs ls bs c zero p e n.1 m.1 d.1 rest)
+  at_of f so cs ls bs (Loop b c) done pc e n m sp (p, inr (q, passes, body), rest) =
+      let d = halves (Number f) (spares b zero) (spares c zero) sp in
+      (p, inr (q, passes, at_of f so cs (record { begins = q; ends = p; owes = true } ∷ ls) (true ∷ bs) b zero q p n.0 m.0 d.0 body), at_of f so cs ls bs c zero p e n.1 m.1 d.1 rest)
   at_of f so cs ls bs (Leave k c) done pc e n m sp at = (at.0, (at.1.0, at_of f so cs ls bs c zero at.1.0 e n.1 m sp at.1.1))
   at_of f so cs ls bs (Again k c) done pc e n m sp at = (at.0, (at.1.0, at_of f so cs ls bs c zero at.1.0 e n.1 m sp at.1.1))
   at_of f so cs ls bs (Return w c) done pc e n m sp at =
@@ -127,9 +131,12 @@ module _ (S : Setting) (boot rest : ℕ) (card : Option (List ℕ)) (ok : IsCard
   at_quiet f so ls bs (Block b c) done pc e n m q sp at =
       let d = halves (Number f) (spares b zero) (spares c zero) sp in
       (at.0, at_quiet f so (record { begins = pc; ends = at.0; owes = true } ∷ ls) (false ∷ bs) b zero pc at.0 n.0 m.0 q.0 d.0 at.1, at_quiet f so ls bs c zero at.0 e n.1 m.1 q.1 d.1 at.2)
-  at_quiet f so ls bs (Loop b c) done pc e n m q sp at =
+  at_quiet f so ls bs (Loop b c) done pc e n m q sp (p, inl h, rest) =
       let d = halves (Number f) (spares b zero) (spares c zero) sp in
-      (at.0, at.1, at.2, at_quiet f so (record { begins = at.0; ends = at.1; owes = true } ∷ ls) (true ∷ bs) b zero at.0 at.1 n.0 m.0 q.0 d.0 at.3, at_quiet f so ls bs c zero at.1 e n.1 m.1 q.1 d.1 at.4)
+      (p, inl (h.0, h.1, h.2, m.0, d.0), at_quiet f so ls bs c zero p e n.1 m.1 q.1 d.1 rest)
+  at_quiet f so ls bs (Loop b c) done pc e n m q sp (p, inr (r, passes, body), rest) =
+      let d = halves (Number f) (spares b zero) (spares c zero) sp in
+      (p, inr (r, passes, at_quiet f so (record { begins = r; ends = p; owes = true } ∷ ls) (true ∷ bs) b zero r p n.0 m.0 q.0 d.0 body), at_quiet f so ls bs c zero p e n.1 m.1 q.1 d.1 rest)
   at_quiet f so ls bs (Leave k c) done pc e n m q sp at = (at.0, (at.1.0, at_quiet f so ls bs c zero at.1.0 e n.1 m q sp at.1.1))
   at_quiet f so ls bs (Again k c) done pc e n m q sp at = (at.0, (at.1.0, at_quiet f so ls bs c zero at.1.0 e n.1 m q sp at.1.1))
   at_quiet f so ls bs (Return w c) done pc e n m q sp at =

@@ -1,13 +1,13 @@
 -- Items have at most as many words as their code weighs.
-use Rattle.std.proofs.Common.{◌≡◌, ℕ, zero, suc, ◌+◌, ◌*◌, ◌≤◌, List, [], ◌∷◌, ◌++◌, length, map, Option, Some, None, ap, arith}
+use Rattle.std.proofs.Common.{◌≡◌, ℕ, zero, suc, ◌+◌, ◌*◌, ◌≤◌, List, [], ◌∷◌, ◌++◌, length, map, Option, Some, None, refl, ap, arith}
 use Rattle.std.specs.Prelude.{◌==◌, cond, Bool, true, false, get_or, sum_by, ◌&&◌}
 use Rattle.std.proofs.lemmas.List.Sums.{sum_by-cons}
 use Rattle.either.specs.declared.Either.TheVariants.{Left, Right}
-use Rattle.v32_isa.specs.declared.instruction.Plain.TheVariants.{HLT, WAIT, RET}
+use Rattle.v32_isa.specs.declared.instruction.Plain.TheVariants.{HLT, WAIT, RET, MOVS}
 use Rattle.v32_isa.specs.declared.instruction.One.{One as OneOf}
 use Rattle.v32_isa.specs.declared.instruction.Two.{Two as TwoOf}
 use Rattle.v32_isa.specs.declared.instruction.Two.TheVariants.{IADD, ISUB}
-use Rattle.v32_isa.specs.declared.instruction.Mov.TheVariants.{RegImm, RegAt, RegAtReg, RegAtOff, AtReg, AtRegReg, AtOffReg}
+use Rattle.v32_isa.specs.declared.instruction.Mov.TheVariants.{RegImm, RegReg, RegAt, RegAtReg, RegAtOff, AtReg, AtRegReg, AtOffReg}
 use Rattle.v32_isa.specs.declared.instruction.Src.TheVariants as src
 use Rattle.v32_isa.specs.declared.instruction.Instr.{Instr}
 use Rattle.v32_isa.specs.declared.instruction.Instr.TheVariants as instr
@@ -27,14 +27,17 @@ use Rattle.asm_laws.specs.Names.{literal_label, function_label}
 use Rattle.kit_base.specs.Word.{add}
 use Rattle.asm_laws.specs.Operations as operations
 use Rattle.asm_laws.specs.Moves.{Move, in_order}
-use Rattle.asm_laws.specs.Operations.{Frame, Whole, arg_word, slot_word, local_word, fetches, keeps, keeps_some, hand, brings, takes, aim, lays, moves, changes, is_direct, in_place, apart, is_turned, turned_or_apart, computes, slot_arg, slot_args, moved_items, args_items, call_items, op_items, in_one, one_or_more, more_of, giving, start_frame, literal_items, literals_items}
+use Rattle.asm_laws.specs.Operations.{Frame, Whole, arg_word, slot_word, local_word, fetches, keeps, keeps_some, hand, brings, takes, aim, lays, moves, changes, is_direct, in_place, apart, is_turned, turned_or_apart, computes, slot_arg, slot_args, moved_items, args_items, call_items, op_items, in_one, one_or_more, more_of, giving, start_frame, literal_items, literals_items, puts_items, put_item, group_items, group_more, word_put}
 use Rattle.asm_laws.specs.Pieces.{register, is_in, turned}
 use Rattle.asm_laws.specs.Framing.{frame_made, frame_gone}
 use Rattle.asm_laws.specs.declared.behind.Behind.{Behind}
 use Rattle.asm_laws.specs.declared.behind.Behind.TheVariants.{Other, End, Turn}
 use Rattle.asm_laws.specs.inner.Emitted.{labels, enclosing, jump, jump_unless, mark, choice, one_way, alone, left_to, ends, jump_when, is_stop, enclosed, returning, items_past, code_items, entry_items, exit_items, function_items, functions_items, functions_labels, call_item, closing_items, start_items, program_items, labels_of, inside, is_end, is_turn, again, rotated, looped, is_tested, part_items, test_items}
 use Rattle.asm_laws.proofs.Ordering.{in_order_few}
-use Rattle.asm_laws.proofs.InOne.{TakesWord, one_or_more_is}
+use Rattle.asm_laws.specs.declared.copying.Copying.{Copying}
+use Rattle.asm_laws.specs.Copies.{copy_of, copy_at, copy_items, copy_or}
+use Rattle.asm_laws.proofs.Leads.{turn_of, copy_is, lead_is, puts_elim}
+use Rattle.asm_laws.proofs.InOne.{TakesWord, one_or_more_is, group_is}
 use Rattle.asm_laws.proofs.Walked.{total_append, total_one, total_none, total_more}
 
 abbrev size : List AsmItem → ℕ
@@ -180,6 +183,70 @@ one_size W F o c =
     (λ i h. let t = taking_size (op_weight o) i h in let z = one_item (item.Op i) 2 t.1 in omega (arith, z, t.0))
     (λ p r i lt h. let t = taking_size (op_weight o) i h in let z = two_items (fetches F p r) (item.Op i) 2 2 (fetch_size F p r) t.1 in omega (arith, z, t.0))
 
+-- so many words are put into registers
+puts_size : (W : Whole) (c : NodesT Where) (k : ℕ) → size (puts_items W c k) ≤ k + k
+puts_size W (Do o c) (suc k) =
+    let t = total_append (put_item (word_put W o)) (puts_items W c k) in
+    omega (arith, t, put (word_put W o), puts_size W c k)
+  where
+    put : (x : Option (ℕ × ℕ)) → size (put_item x) ≤ 2
+    put None = omega (arith, total_none)
+    put (Some (r, w)) = one_item (item.Op (instr.Mov (RegImm r (Left w)))) 2 (omega arith)
+puts_size W (Do o c) zero = omega (arith, total_none)
+puts_size W Stop k = omega (arith, total_none)
+puts_size W (Call t g args c) k = omega (arith, total_none)
+puts_size W (Choose p a b c) k = omega (arith, total_none)
+puts_size W (Block b c) k = omega (arith, total_none)
+puts_size W (Loop b c) k = omega (arith, total_none)
+puts_size W (Leave j c) k = omega (arith, total_none)
+puts_size W (Again j c) k = omega (arith, total_none)
+puts_size W (Return p c) k = omega (arith, total_none)
+
+abbrev Heavy : NodesT Where → Type 0
+Heavy (Do o c) = op_weight o ≡ 8
+Heavy _ = Unit {0}
+
+group_size : (W : Whole) (F : Frame) (o : OpT Where) (c : NodesT Where) → size (group_items W F o c) ≤ op_weight o
+group_size W F o c = group_is W F (λ xs. size xs ≤ op_weight o) o c (one_size W F o c) (λ k e.
+    let h = lead_is (Do o c) k e in
+    let w : op_weight o ≡ 8 = puts_elim (λ x j y. Heavy x) (λ b d y q. tt) (λ r n d j y q g. refl) (λ r n d j y q g. refl) (Do o c) k h.y h.puts in
+    let s = puts_size W (Do o c) k in
+    let few = h.few in
+    omega (arith, w, s, few))
+
+-- a block move takes fewer words than its loop weighs
+more_size : (x : AsmItem) (xs : List AsmItem) (k n : ℕ) → item_size x ≤ k → size xs ≤ n → size (x ∷ xs) ≤ k + n
+more_size x xs k n a b = omega (arith, total_more x xs, a, b)
+
+copy_size : (y : Copying) → size (copy_items y) ≤ 10
+copy_size y =
+    let from = register y.from in
+    let to = register y.to in
+    let x8 = one_item (item.Op (instr.Mov (RegAtReg (register y.cell) to))) 1 (omega arith) in
+    let x7 = more_size (item.Op (instr.Mov (RegReg (register y.count) 11))) (item.Op (instr.Mov (RegAtReg (register y.cell) to)) ∷ []) 1 1 (omega arith) x8 in
+    let l6 = item.Op (instr.Mov (RegReg (register y.count) 11)) ∷ item.Op (instr.Mov (RegAtReg (register y.cell) to)) ∷ [] in
+    let x6 = more_size (item.Op (instr.Lea to 13 (Some (Left 0xFFFFFFFF)))) l6 2 2 (omega arith) x7 in
+    let l5 = item.Op (instr.Lea to 13 (Some (Left 0xFFFFFFFF))) ∷ l6 in
+    let x5 = more_size (item.Op (instr.Lea from 12 (Some (Left 0xFFFFFFFF)))) l5 2 4 (omega arith) x6 in
+    let l4 = item.Op (instr.Lea from 12 (Some (Left 0xFFFFFFFF))) ∷ l5 in
+    let x4 = more_size (item.Op (instr.Plain MOVS)) l4 1 6 (omega arith) x5 in
+    let l3 = item.Op (instr.Plain MOVS) ∷ l4 in
+    let x3 = more_size (item.Op (instr.Mov (RegReg 11 (register y.count)))) l3 1 7 (omega arith) x4 in
+    let l2 = item.Op (instr.Mov (RegReg 11 (register y.count))) ∷ l3 in
+    let x2 = more_size (item.Op (instr.Mov (RegReg 12 from))) l2 1 8 (omega arith) x3 in
+    more_size (item.Op (instr.Mov (RegReg 13 to))) (item.Op (instr.Mov (RegReg 12 from)) ∷ l2) 1 9 (omega arith) x2
+
+copied_size : (done : ℕ) (b : NodesT Where) (xs : List AsmItem) → size xs ≤ nodes_weight b + 8 → size (copy_or (copy_at done b) xs) ≤ nodes_weight b + 8
+copied_size zero b xs le = le
+copied_size (suc done) b xs le = go (copy_of b) refl
+  where
+    go : (x : Option Copying) → copy_of b ≡ x → size (copy_or x xs) ≤ nodes_weight b + 8
+    go None e = le
+    go (Some y) e =
+        let w : nodes_weight b ≡ nodes_weight (turn_of y) = ap nodes_weight (copy_is b y e).0 in
+        let z = copy_size y in
+        omega (arith, w, z)
+
 pub call_size : (W : Whole) (F : Frame) (t : Option Where) (g : ℕ) (args : List Where) → length args ≡ length (W.params g) → size (call_items W F t g args) ≤ call_weight args
 call_size W F t g args ok =
     let ps = W.params g in
@@ -280,9 +347,9 @@ module _ (x : CodeT Where) (W : Whole) (counts : Counts x W) (m : ℕ) (F : Fram
   tests_size : (c : NodesT Where) (done : ℕ) (bs : List Bool) (to : ℕ) → AreNodes x m bs c → size (test_items W F out to c done) ≤ nodes_weight c
   tests_size Stop done bs to ok = omega (arith, total_none)
   tests_size (Do o c) zero bs to ok =
-      let more = more_of (in_one W F o c) in
-      let t = total_append (one_or_more W F o (in_one W F o c)) (test_items W F out to c more) in
-      omega (arith, t, one_size W F o c, tests_size c more bs to ok.1)
+      let more = group_more W F o c in
+      let t = total_append (group_items W F o c) (test_items W F out to c more) in
+      omega (arith, t, group_size W F o c, tests_size c more bs to ok.1)
   tests_size (Do o c) (suc done) bs to ok = let r = tests_size c done bs to ok.1 in omega (arith, r)
   tests_size (Call t g args c) done bs to ok =
       let s = total_append (call_items W F t g args) (test_items W F out to c 0) in
@@ -298,9 +365,9 @@ module _ (x : CodeT Where) (W : Whole) (counts : Counts x W) (m : ℕ) (F : Fram
     past_size : (c : NodesT Where) (done : ℕ) (last : Behind) (bs : List Bool) (ls : List ℕ) (n : ℕ) → AreNodes x m bs c → size (items_past W F out last ls n c done) ≤ nodes_weight c
     past_size Stop done last bs ls n ok = omega (arith, total_none)
     past_size (Do o c) zero last bs ls n ok =
-        let more = more_of (in_one W F o c) in
-        let t = total_append (one_or_more W F o (in_one W F o c)) (items_past W F out last ls n c more) in
-        omega (arith, t, one_size W F o c, past_size c more last bs ls n ok.1)
+        let more = group_more W F o c in
+        let t = total_append (group_items W F o c) (items_past W F out last ls n c more) in
+        omega (arith, t, group_size W F o c, past_size c more last bs ls n ok.1)
     past_size (Do o c) (suc done) last bs ls n ok = let r = past_size c done last bs ls n ok.1 in omega (arith, r)
     past_size (Call t g args c) done last bs ls n ok = let s = total_append (call_items W F t g args) (items_past W F out last ls n c 0) in omega (arith, s, call_size W F t g args (counts g (length args) ok.0), past_size c 0 last bs ls n ok.1)
     past_size (Choose p a b c) done last bs ls n ok =
@@ -316,8 +383,9 @@ module _ (x : CodeT Where) (W : Whole) (counts : Counts x W) (m : ℕ) (F : Fram
         let all = items_past W F out (inside (ends last c)) (ls ++ n ∷ []) (n + 2) b 0 in
         let part = part_items W F out (ls ++ n ∷ []) (n + 2) b in
         let test = test_items W F out (n + 2) b 0 in
-        let s = total_append (looped (is_tested b) n all part test) (items_past W F out last ls (n + (2 + labels b)) c 0) in
-        let h = looped_size (is_tested b) n (nodes_weight b) all part test (past_size b 0 (inside (ends last c)) (true ∷ bs) (ls ++ n ∷ []) (n + 2) ok.0) (parts_size b 0 (true ∷ bs) (ls ++ n ∷ []) (n + 2) (n + 2) ok.0) in
+        let s = total_append (copy_or (copy_at done b) (looped (is_tested b) n all part test)) (items_past W F out last ls (n + (2 + labels b)) c 0) in
+        let l = looped_size (is_tested b) n (nodes_weight b) all part test (past_size b 0 (inside (ends last c)) (true ∷ bs) (ls ++ n ∷ []) (n + 2) ok.0) (parts_size b 0 (true ∷ bs) (ls ++ n ∷ []) (n + 2) (n + 2) ok.0) in
+        let h = copied_size done b (looped (is_tested b) n all part test) l in
         omega (arith, s, h, past_size c 0 last bs ls (n + (2 + labels b)) ok.1)
     past_size (Leave k c) done last bs ls n ok = let j = jump_size (add (enclosing ls k) 1) in let s = total_more (jump (add (enclosing ls k) 1)) (items_past W F out last ls n c 0) in omega (arith, s, j, past_size c 0 last bs ls n ok.1)
     past_size (Again k c) done last bs ls n ok = let s = total_append (again ls k (ends last c)) (items_past W F out last ls n c 0) in omega (arith, s, again_size ls k (ends last c), past_size c 0 last bs ls n ok.1)
@@ -325,9 +393,9 @@ module _ (x : CodeT Where) (W : Whole) (counts : Counts x W) (m : ℕ) (F : Fram
 
     parts_size : (c : NodesT Where) (done : ℕ) (bs : List Bool) (ls : List ℕ) (n to : ℕ) → AreNodes x m bs c → size (part_items W F out ls n c) + size (test_items W F out to c done) ≤ nodes_weight c
     parts_size (Do o c) zero bs ls n to ok =
-        let more = more_of (in_one W F o c) in
-        let t = total_append (one_or_more W F o (in_one W F o c)) (test_items W F out to c more) in
-        omega (arith, t, one_size W F o c, parts_size c more bs ls n to ok.1)
+        let more = group_more W F o c in
+        let t = total_append (group_items W F o c) (test_items W F out to c more) in
+        omega (arith, t, group_size W F o c, parts_size c more bs ls n to ok.1)
     parts_size (Do o c) (suc done) bs ls n to ok = let r = parts_size c done bs ls n to ok.1 in omega (arith, r)
     parts_size (Choose p a b c) done bs ls n to ok =
         let r = past_size a 0 Turn bs ls (n + 1) ok.0 in

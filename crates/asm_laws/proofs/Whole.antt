@@ -12,6 +12,8 @@ use Rattle.asm_laws.specs.Holds.{Setting, Fits, Ctx}
 use Rattle.asm_laws.specs.Calling.{Callable, Mach, lang, holder, shapes, FunctionAt}
 use Rattle.asm_laws.proofs.Parts.{op_sim, jump_sim, test_sim, give_sim}
 use Rattle.asm_laws.proofs.Calls.{call_sim}
+use Rattle.asm_laws.proofs.KnownWords.{op_knows}
+use Rattle.asm_laws.proofs.CopyLoop.{copy_sim}
 
 module _ (S : Setting) (fits : Fits S) (functions : (g : ℕ) → Callable S g → FunctionAt S g) where
   pub parts : Parts (lang S) (holder S) (shapes S)
@@ -26,6 +28,8 @@ module _ (S : Setting) (fits : Fits S) (functions : (g : ℕ) → Callable S g �
     none_events = λ s. refl;
     none_work = λ s. refl;
     op = op_sim S fits;
+    knows = λ κ pc p more o c s t at e. op_knows S κ.fn pc p more o c s t at e;
+    copy = copy_sim S fits;
     test = test_sim S fits;
     give = give_sim S fits;
     call = λ κ pc p t f args s m at e h. call_sim S fits functions κ pc p t f args s m (call_weight args) (omega arith) at e h;

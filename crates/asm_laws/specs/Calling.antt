@@ -1,17 +1,21 @@
 -- How the machine holds the states of placed code, and where its parts stand.
-use Rattle.std.specs.Prelude.{◌≡◌, ℕ, ◌<◌, List, [], length, get_or, Option, Some}
+use Rattle.std.specs.Prelude.{◌≡◌, ℕ, ◌<◌, true, List, [], length, get_or, Option, Some}
 use Rattle.v32_isa.specs.State.{register_of, word_at}
 use Rattle.v32_isa.specs.State as machine
 use Rattle.mid_code.specs.declared.placed.Where.{Where}
-use Rattle.mid_code.specs.Code.{Do, maybe}
+use Rattle.mid_code.specs.declared.placed.Where.TheVariants.{Reg}
+use Rattle.mid_code.specs.Code.{NodesT, Do, maybe}
 use Rattle.mid_code.specs.Meaning.{Lang}
 use Rattle.mid_code.specs.States.{State, registers_and_slots, function_at, over_worlds}
-use Rattle.mid_code.specs.Invariants.{AllOf, AreDifferent}
+use Rattle.mid_code.specs.Invariants.{AllOf, AreDifferent, Names}
+use Rattle.obj_mem.specs.declared.cell.Cell.TheVariants.{Num}
 use Rattle.asm_laws.specs.Placing.{Shapes, Passes, At}
 use Rattle.asm_laws.specs.inner.Following.{Holder}
 use Rattle.asm_laws.specs.Names.{function_label}
-use Rattle.asm_laws.specs.Operations.{in_one, one_or_more, more_of, call_items, giving}
+use Rattle.asm_laws.specs.Operations.{group_items, group_more, call_items, giving}
 use Rattle.asm_laws.specs.Standing.{Stand}
+use Rattle.asm_laws.specs.declared.copying.Copying.{Copying}
+use Rattle.asm_laws.specs.Copies.{copy_of, copy_at, copy_items, is_count}
 use Rattle.asm_laws.specs.Tests.{Tests}
 use Rattle.asm_laws.specs.Addresses.{Addr, having, Held}
 use Rattle.asm_laws.specs.Spare.{Stays, Sparing}
@@ -54,6 +58,11 @@ pub record EndedIn (S : Setting) (s : State Where) (m : machine.State) : Type 0 
   pub mach : Mach S context s shown
   pub memory : (q : ℕ) → word_at m q ≡ word_at shown q
 
+-- A loop that copies words begins with a count of these that is known, and with a 1.
+pub record Counted (b : NodesT Where) (s : State Where) : Type 0 where
+  pub count : (y : Copying) → copy_of b ≡ Some y → (n : ℕ) × (s.cells (Reg y.count) ≡ Num n) × (is_count (Some n) ≡ true)
+  pub one : (y : Copying) → copy_of b ≡ Some y → s.cells (Reg y.one) ≡ Num 1
+
 abbrev pub lang : Setting → Lang Where
 lang S = over_worlds registers_and_slots S.code S.frames
 
@@ -69,6 +78,7 @@ holder S = record {
   fn = λ κ. κ.fn;
   entry = S.enters;
   way_out = S.leaves;
+  known = Counted;
 }
 
 -- a call of a function
@@ -93,12 +103,14 @@ abbrev pub shapes : Setting → Shapes
 shapes S = record {
   words = S.console.words;
   op = λ f pc o c more p. Fitting S f o × FrontFits S f c more
-      × Stand S.console.words S.address pc (one_or_more S.whole (S.whole.frames f) o (in_one S.whole (S.whole.frames f) o c)) p
-      × (more ≡ more_of (in_one S.whole (S.whole.frames f) o c)) × Sparing (S.whole.frames f).registers (Do o c) 0;
+      × Stand S.console.words S.address pc (group_items S.whole (S.whole.frames f) o c) p
+      × (more ≡ group_more S.whole (S.whole.frames f) o c) × Sparing (S.whole.frames f).registers (Do o c) 0;
   call = CallAt S;
   test = λ f pc w other next. Named S f w × Tests S.console.words S.address (S.whole.frames f) pc w other next
       × Stays (S.whole.frames f).registers w;
   giving = GivingAt S;
+  copy = λ f pc b k p. (y : Copying) × (copy_at k b ≡ Some y) × Stand S.console.words S.address pc (copy_items y) p × Names (Named S f) b
+      × Sparing (S.whole.frames f).registers b 0;
 }
 
 -- a function stands among the words

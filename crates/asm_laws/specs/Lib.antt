@@ -2,6 +2,7 @@ pub mod Names
 pub mod Moves
 pub mod Pieces
 pub mod Spare
+pub mod Copies
 pub mod Operations
 pub mod Framing
 pub mod Placing

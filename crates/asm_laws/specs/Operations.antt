@@ -1,5 +1,5 @@
 -- The instructions of each operation of placed code.
-use Rattle.std.specs.Prelude.{ℕ, ◌+◌, ◌%◌, ◌==◌, ◌&&◌, not, cond, Bool, false, List, [], ◌∷◌, ◌++◌, map, Option, Some, None, get_or, option_map}
+use Rattle.std.specs.Prelude.{ℕ, suc, ◌+◌, ◌%◌, ◌==◌, ◌&&◌, not, cond, Bool, false, List, [], ◌∷◌, ◌++◌, map, Option, Some, None, get_or, option_map}
 use Rattle.either.specs.declared.Either.TheVariants.{Left, Right}
 use Rattle.kit_base.specs.Word.{add, sub}
 use Rattle.v32_isa.specs.declared.instruction.Plain.TheVariants.{HLT, WAIT}
@@ -24,6 +24,7 @@ use Rattle.asm_laws.specs.declared.used.Used.{Used}
 use Rattle.asm_laws.specs.declared.used.Used.TheVariants.{Computed, Loaded, Stored, Sent}
 use Rattle.asm_laws.specs.Pieces.{register, is_in, turned}
 use Rattle.asm_laws.specs.Spare.{used_by}
+use Rattle.asm_laws.specs.Copies.{lead}
 
 -- the frame of a function: its size, and the offsets of its slots and of its locals' first words. Offset 0 is the
 -- frame's lowest word. A slot that is not listed has its number as its offset. So many of its words are on the stack: all, but none of the start's
@@ -328,6 +329,30 @@ one_or_more W F o (Some (more, first, i)) = before_it first ++ item.Op i ∷ []
 abbrev pub more_of : Option (ℕ × Option (Instr Imm) × Instr Imm) → ℕ
 more_of None = 0
 more_of (Some (more, first, i)) = more
+
+-- The operations that come first before a loop that copies words put each its word into its register, so many of them.
+abbrev pub put_item : Option (ℕ × ℕ) → List AsmItem
+put_item None = []
+put_item (Some (r, w)) = item.Op (instr.Mov (RegImm r (Left w))) ∷ []
+
+abbrev pub puts_items : Whole → NodesT Where → (count : ℕ) → List AsmItem
+puts_items W (Do o c) (suc k) = put_item (word_put W o) ++ puts_items W c k
+puts_items W _ k = []
+
+-- The items of an operation and of those that are done with it, and how many are; before such a loop that is one of these.
+abbrev pub led_items : Whole → Frame → OpT Where → NodesT Where → Option ℕ → List AsmItem
+led_items W F o c None = one_or_more W F o (in_one W F o c)
+led_items W F o c (Some k) = puts_items W (Do o c) k
+
+abbrev pub led_more : Whole → Frame → OpT Where → NodesT Where → Option ℕ → ℕ
+led_more W F o c None = more_of (in_one W F o c)
+led_more W F o c (Some k) = k
+
+abbrev pub group_items : Whole → Frame → OpT Where → NodesT Where → List AsmItem
+group_items W F o c = led_items W F o c (lead (Do o c))
+
+abbrev pub group_more : Whole → Frame → OpT Where → NodesT Where → ℕ
+group_more W F o c = led_more W F o c (lead (Do o c))
 
 -- a result is given back in register 9
 abbrev pub giving : Frame → Option Where → List AsmItem

@@ -13,8 +13,10 @@ use Rattle.mid_code.specs.States.{function_at}
 use Rattle.mid_code.specs.Invariants.{AreNodes, Names, CallsNone}
 use Rattle.asm_laws.specs.Placing.{Shapes, Passes, At}
 use Rattle.asm_laws.specs.Names.{function_label}
-use Rattle.asm_laws.specs.Operations.{in_one, one_or_more, more_of, call_items, giving}
+use Rattle.asm_laws.specs.Operations.{group_items, group_more, call_items, giving}
 use Rattle.asm_laws.specs.Standing.{Stand}
+use Rattle.asm_laws.specs.declared.copying.Copying.{Copying}
+use Rattle.asm_laws.specs.Copies.{copy_at, copy_items}
 use Rattle.asm_laws.specs.Spare.{Sparing}
 use Rattle.asm_laws.specs.Tests.{Tests}
 use Rattle.asm_laws.specs.Framing.{frame_made, frame_gone}
@@ -26,11 +28,12 @@ use Rattle.asm_laws.specs.Laid.{Laid}
 abbrev pub items_at : Setting → Shapes
 items_at S = record {
   words = S.console.words;
-  op = λ f pc o c more p. Stand S.console.words S.address pc (one_or_more S.whole (S.whole.frames f) o (in_one S.whole (S.whole.frames f) o c)) p
-      × (more ≡ more_of (in_one S.whole (S.whole.frames f) o c));
+  op = λ f pc o c more p. Stand S.console.words S.address pc (group_items S.whole (S.whole.frames f) o c) p
+      × (more ≡ group_more S.whole (S.whole.frames f) o c);
   call = λ f pc t g args p. Stand S.console.words S.address pc (call_items S.whole (S.whole.frames f) t g args) p;
   test = λ f pc w other next. Tests S.console.words S.address (S.whole.frames f) pc w other next;
   giving = λ f pc w. (q : ℕ) × Stand S.console.words S.address pc (giving (S.whole.frames f) w) q × Passes S.console.words q (S.leaves f);
+  copy = λ f pc b k p. (y : Copying) × (copy_at k b ≡ Some y) × Stand S.console.words S.address pc (copy_items y) p;
 }
 
 -- a function stands among the words

@@ -2,10 +2,12 @@
 #![tactic(auto)]
 
 mod behind;
+mod copying;
 mod laws;
 mod used;
 
 pub use behind::Behind;
+pub use copying::Copying;
 pub use laws::{
     calls_stay_within_numbers, placed_code_agrees, places_have_numbers_or_are_forbidden,
 };

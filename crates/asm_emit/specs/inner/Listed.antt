@@ -8,10 +8,11 @@ use Rattle.asm_items.specs.Items.{Imm}
 use Rattle.mid_code.specs.declared.placed.Where.{Where}
 use Rattle.mid_code.specs.declared.node.Op.{Op}
 use Rattle.mid_code.specs.declared.node.Op.TheVariants as op
-use Rattle.mid_code.specs.Code.{NodesT, Do, Call, Stop}
+use Rattle.mid_code.specs.Code.{NodesT, OpT, Do, Call, Stop}
 use Rattle.mid_code.specs.Functions.{op_before, NodeT, DoN, ChooseN, BlockN, LoopN, LeaveN, AgainN, ReturnN, ListT, NoN, MoreN, before, joined}
-use Rattle.asm_laws.specs.Operations.{Frame, Whole, op_items, word_put, with_word, is_spared, with_known, in_one, before_it, call_items, hand, brings}
+use Rattle.asm_laws.specs.Operations.{Frame, Whole, op_items, word_put, with_word, is_spared, with_known, in_one, before_it, call_items, hand, brings, puts_items, put_item}
 use Rattle.asm_laws.specs.Spare.{used_by}
+use Rattle.asm_laws.specs.Copies.{lead, copy_at, copy_or}
 use Rattle.asm_laws.specs.declared.behind.Behind.{Behind}
 use Rattle.asm_laws.specs.declared.behind.Behind.TheVariants.{Other, End, Turn}
 use Rattle.asm_laws.specs.inner.Emitted.{enclosing, jump, alone, choice, enclosed, returning, inside, is_end, again, looped, jump_when}
@@ -69,15 +70,53 @@ abbrev pub is_call : Op Where → Bool
 is_call (op.Call t f args) = true
 is_call _ = false
 
+-- what is done ahead with an operation that stands first: words that are put into registers before a loop that copies words, or what is done in one go
+abbrev pub led_ahead : Whole → Frame → OpT Where → NodesT Where → Option ℕ → List AsmItem
+led_ahead W F o c None = ahead_items (in_one W F o c)
+led_ahead W F o c (Some j) = puts_items W (Do o c) j
+
+abbrev pub led_behind : Whole → Frame → OpT Where → NodesT Where → Option ℕ → Option ℕ
+led_behind W F o c None = ahead_more (in_one W F o c)
+led_behind W F o c (Some j) = Some j
+
 -- the items of an operation that stands first and is done in one go with others, where it is not done already
 abbrev pub front_items : Whole → Frame → NodesT Where → (done : ℕ) → List AsmItem
-front_items W F (Do o c) k = cond (k == 0) (ahead_items (in_one W F o c)) []
+front_items W F (Do o c) k = cond (k == 0) (led_ahead W F o c (lead (Do o c))) []
 front_items W F _ k = []
 
 -- how many behind it are done then; none is said where its own items are due
 abbrev pub front_more : Whole → Frame → NodesT Where → (done : ℕ) → Option ℕ
-front_more W F (Do o c) k = cond (k == 0) (ahead_more (in_one W F o c)) (Some (k - 1))
+front_more W F (Do o c) k = cond (k == 0) (led_behind W F o c (lead (Do o c))) (Some (k - 1))
 front_more W F _ k = None
+
+-- a loop that copies words is done by a block move, where so many operations in front are done already
+abbrev pub copied_own : (done : ℕ) → NodeT Where → List AsmItem → List AsmItem
+copied_own k (LoopN b) own = copy_or (copy_at k (joined b)) own
+copied_own k _ own = own
+
+-- the word that an operation puts into a register, where so many are left, and how many are left behind it
+abbrev pub put_here : Whole → Op Where → (left : ℕ) → List AsmItem
+put_here W o k = cond (k == 0) [] (put_item (front_put W (op_before o Stop)))
+
+abbrev pub left_behind : Op Where → (left : ℕ) → Option ℕ
+left_behind o k = cond (k == 0) None (cond (is_call o) None (Some (k - 1)))
+
+-- and of those that come first in a list
+abbrev pub puts_from : Option ℕ → (puts : ℕ → List AsmItem) → List AsmItem
+puts_from None puts = []
+puts_from (Some k) puts = puts k
+
+abbrev pub put_first : Whole → NodeT Where → (left : ℕ) → List AsmItem
+put_first W (DoN o) k = put_here W o k
+put_first W _ k = []
+
+abbrev pub left_after : NodeT Where → (left : ℕ) → Option ℕ
+left_after (DoN o) k = left_behind o k
+left_after _ k = None
+
+abbrev pub list_puts : Whole → ListT Where → (left : ℕ) → List AsmItem
+list_puts W NoN k = []
+list_puts W (MoreN x rest) k = put_first W x k ++ puts_from (left_after x k) (list_puts W rest)
 
 -- the labels of a node whose own items are due
 abbrev pub labels_due : Option ℕ → ℕ → ℕ
@@ -161,7 +200,7 @@ module _ (W : Whole) (F : Frame) (out : ℕ) where
     pub list_past : (last : Behind) → List ℕ → ℕ → ListT Where → (done : ℕ) → List AsmItem
     list_past last ls n NoN k = []
     list_past last ls n (MoreN x rest) k =
-        front_items W F (before x (joined rest)) k ++ onward (front_more W F (before x (joined rest)) k) (node_items (ends_in last rest) ls n x)
+        front_items W F (before x (joined rest)) k ++ onward (front_more W F (before x (joined rest)) k) (copied_own k x (node_items (ends_in last rest) ls n x))
         (list_past last ls n rest) (list_past last ls (n + node_labels x) rest 0)
 
     -- what is done in a turn of a rotated loop

@@ -14,8 +14,9 @@ use Rattle.mid_code.specs.Code.{NodesT, Stop, Do, Call, Choose, Block, Loop, Lea
 use Rattle.asm_laws.specs.declared.behind.Behind.{Behind}
 use Rattle.asm_laws.specs.declared.behind.Behind.TheVariants.{Other, End, Turn}
 use Rattle.asm_laws.specs.Names.{jump_label, function_label}
-use Rattle.asm_laws.specs.Operations.{Frame, Whole, hand, brings, giving, in_one, one_or_more, more_of, call_items, start_frame, literals_items}
+use Rattle.asm_laws.specs.Operations.{Frame, Whole, hand, brings, giving, group_items, group_more, call_items, start_frame, literals_items}
 use Rattle.asm_laws.specs.Framing.{frame_made, frame_gone}
+use Rattle.asm_laws.specs.Copies.{copy_at, copy_or}
 
 -- how many labels nodes take
 abbrev pub labels : NodesT Where → ℕ
@@ -134,7 +135,7 @@ returning F p out last = giving F p ++ cond last [] (jump out ∷ [])
 module _ (W : Whole) (F : Frame) (out : ℕ) where
   -- the operations and the test of such a loop, which goes to a label; so many operations in front are done already
   abbrev pub test_items : (to : ℕ) → NodesT Where → (done : ℕ) → List AsmItem
-  test_items to (Do o c) zero = one_or_more W F o (in_one W F o c) ++ test_items to c (more_of (in_one W F o c))
+  test_items to (Do o c) zero = group_items W F o c ++ test_items to c (group_more W F o c)
   test_items to (Do o c) (suc k) = test_items to c k
   test_items to Stop k = []
   test_items to (Choose p a b c) k = brings F p 9 ++ jump_when (hand p 9) to ∷ test_items to c 0
@@ -150,7 +151,7 @@ module _ (W : Whole) (F : Frame) (out : ℕ) where
     -- right behind them.
     pub items_past : (last : Behind) → List ℕ → ℕ → NodesT Where → (done : ℕ) → List AsmItem
     items_past last ls n Stop k = []
-    items_past last ls n (Do o c) zero = one_or_more W F o (in_one W F o c) ++ items_past last ls n c (more_of (in_one W F o c))
+    items_past last ls n (Do o c) zero = group_items W F o c ++ items_past last ls n c (group_more W F o c)
     items_past last ls n (Do o c) (suc k) = items_past last ls n c k
     items_past last ls n (Call t g args c) k = call_items W F t g args ++ items_past last ls n c 0
     items_past last ls n (Choose p a b c) k =
@@ -160,8 +161,8 @@ module _ (W : Whole) (F : Frame) (out : ℕ) where
     items_past last ls n (Block b c) k =
         enclosed n (items_past (inside (ends last c)) (ls ++ n ∷ []) (n + 2) b 0) ++ items_past last ls (n + (2 + labels b)) c 0
     items_past last ls n (Loop b c) k =
-        looped (is_tested b) n (items_past (inside (ends last c)) (ls ++ n ∷ []) (n + 2) b 0) (part_items (ls ++ n ∷ []) (n + 2) b)
-        (test_items (n + 2) b 0) ++ items_past last ls (n + (2 + labels b)) c 0
+        copy_or (copy_at k b) (looped (is_tested b) n (items_past (inside (ends last c)) (ls ++ n ∷ []) (n + 2) b 0) (part_items (ls ++ n ∷ []) (n + 2) b)
+        (test_items (n + 2) b 0)) ++ items_past last ls (n + (2 + labels b)) c 0
     items_past last ls n (Leave j c) k = jump (add (enclosing ls j) 1) ∷ items_past last ls n c 0
     items_past last ls n (Again j c) k = again ls j (ends last c) ++ items_past last ls n c 0
     items_past last ls n (Return p c) k = returning F p out (is_end (ends last c)) ++ items_past last ls n c 0

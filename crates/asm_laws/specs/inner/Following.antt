@@ -9,7 +9,7 @@ use Rattle.v32_isa.proofs.Steps.{before, Reaches, Moves}
 use Rattle.obj_mem.specs.Runs.{Ending, Halted, Fault, Starved, Stray, Deep, OutOfBound}
 use Rattle.mid_code.specs.declared.placed.Where.{Where}
 use Rattle.mid_code.specs.Code.{OpT, NodesT, Stop, Do, Call, Choose, Block, Loop, Leave, Again, Return}
-use Rattle.mid_code.specs.Meaning.{Did, On, Ends, Res, Next, Leaves, Repeats, Returns, Over, Lang, node_weight, call_weight}
+use Rattle.mid_code.specs.Meaning.{Did, On, Ends, Res, Next, Leaves, Repeats, Returns, Over, Lang, node_weight, call_weight, turn_done, does, below}
 use Rattle.asm_laws.specs.Placing.{Shapes, Bounds, end_of, begin_of, owed, due, Jumps, At}
 
 -- how the machine holds a state: inside a function, at its end with the result, and where the run has ended
@@ -25,6 +25,8 @@ pub record Holder (L : Lang Where) : Type 1 where
   pub fn : K → ℕ
   pub entry : ℕ → ℕ
   pub way_out : ℕ → ℕ
+  -- what is known where a loop with such a body begins that is done by a block move
+  pub known : NodesT Where → L.S → Type 0
 
 -- what there is at the beginning of some steps: answers, events, work
 pub record Begin : Type 0 where
@@ -132,6 +134,16 @@ front_acts L (Leave j c) k s = On s
 front_acts L (Again j c) k s = On s
 front_acts L (Return w c) k s = On s
 
+-- what is known behind so many operations in front
+abbrev pub known_at : {L : Lang Where} → (X : Holder L) → NodesT Where → ℕ → L.S → Type 0
+known_at X b zero s = Unit {0}
+known_at X b (suc k) s = X.known b s
+
+abbrev pub knows : {L : Lang Where} → (X : Holder L) → NodesT Where → ℕ → L.S → Type 0
+knows {L} X (Do o c) (suc k) s = (t : L.S) → L.act o s ≡ On t → knows X c k t
+knows {L} X (Loop b c) k s = known_at X b k s
+knows {L} X _ k s = Unit {0}
+
 -- what the parts keep
 pub record Parts (L : Lang Where) (X : Holder L) (H : Shapes) : Type 0 where
   pub tick_answers : (n : ℕ) (s : L.S) → X.answers (L.tick n s) ≡ X.answers s
@@ -146,6 +158,11 @@ pub record Parts (L : Lang Where) (X : Holder L) (H : Shapes) : Type 0 where
   pub none_work : (s : L.S) → X.work (L.none s) ≡ X.work s
   pub op : (κ : X.K) (pc p more : ℕ) (o : OpT Where) (c : NodesT Where) (s : L.S) (m : State) → H.op (X.fn κ) pc o c more p → m.counter ≡ pc
       → X.M κ s m → DidSim X κ m (begin X s) p (did_then (L.act o s) (front_acts L c more))
+  pub knows : (κ : X.K) (pc p more : ℕ) (o : OpT Where) (c : NodesT Where) (s t : L.S) → H.op (X.fn κ) pc o c more p → L.act o s ≡ On t
+      → knows X c more t
+  pub copy : (κ : X.K) (pc p k : ℕ) (b : NodesT Where) (s : L.S) (m : State) → H.copy (X.fn κ) pc b k p → known_at X b k s → m.counter ≡ pc → X.M κ s m
+      → (n : ℕ) (ls : List Bounds)
+      → Sim X κ m (begin X s) p n ls (turn_done (does L n (below L n) b (L.tick node_weight s)) (below L n (Loop b Stop)))
   pub test : (κ : X.K) (pc py px : ℕ) (w : Where) (s : L.S) (m : State) → H.test (X.fn κ) pc w py px → m.counter ≡ pc → X.M κ s m
       → TestSim X κ py px m (begin X s) (L.tick node_weight s) (L.test w s)
   pub give : (κ : X.K) (pc : ℕ) (w : Option Where) (s : L.S) (m : State) → H.giving (X.fn κ) pc w → m.counter ≡ pc → X.M κ s m →

@@ -1,0 +1,313 @@
+// Loops that copy words.
+ghost use Rattle.std.specs.Prelude.{◌≡◌, ◌++◌, OnOk, cond};
+ghost use Rattle.mid_code.specs.Functions.{op_before, nodes};
+ghost use Rattle.asm_laws.specs.Copies.{steps_by, ends_here, turns_here, steps_to, steps_both, goes_round, differ, is_copy};
+ghost use Rattle.asm_laws.specs.Copies.{copy_counted, copy_stored, copy_of, copy_after, puts_ahead, last_put, is_count, is_one, leads, lead};
+ghost use Rattle.asm_laws.specs.Copies.{copy_at, move_items, back_items, copy_items};
+
+use crate::hands::{op, register};
+use crate::nodes::is_none;
+use asm_items::AsmItem;
+use asm_laws::Copying;
+use either::Either;
+use kit_base::Memory;
+use mid_code::{Node, Op, Where};
+use v32_isa::{Instr, Mov, Plain, Reg, Two};
+
+/// Whether a register takes the sum of its own address and the word in another one.
+fn steps_by(address: u32, one: u32, t: u32, p: u32, n: u32) -> bool
+    ensures { result ≡ steps_by address one t p n }
+{
+    t == address && p == address && n == one
+}
+
+#[tactic(auto, using(crate::proofs::InMemory::ends_alike))]
+fn ends_here(xs: &[Node<Where>]) -> bool
+    ensures { result ≡ ends_here (nodes xs.now) }
+{
+    is_none(xs)
+}
+
+/// Whether the next turn of the innermost loop begins, and nothing comes behind.
+fn turns_here(xs: &[Node<Where>]) -> bool
+    ensures { result ≡ turns_here (nodes xs.now) }
+{
+    let Some((x, rest)) = xs.split_first() else {
+        return false;
+    };
+    match x {
+        Node::Again(k) => *k == 0 && ends_here(rest),
+        _ => false,
+    }
+}
+
+fn steps_to(y: Copying, xs: &[Node<Where>]) -> bool
+    ensures { result ≡ steps_to y (nodes xs.now) }
+{
+    let Some((x, rest)) = xs.split_first() else {
+        return false;
+    };
+    match x {
+        Node::Do(Op::Step(Where::Reg(t), Where::Reg(p), Where::Reg(n))) => {
+            steps_by(y.to, y.one, *t, *p, *n) && turns_here(rest)
+        }
+        _ => false,
+    }
+}
+
+/// Whether both addresses go one word on, and the next turn begins.
+fn steps_both(y: Copying, xs: &[Node<Where>]) -> bool
+    ensures { result ≡ steps_both y (nodes xs.now) }
+{
+    let Some((x, rest)) = xs.split_first() else {
+        return false;
+    };
+    match x {
+        Node::Do(Op::Step(Where::Reg(t), Where::Reg(p), Where::Reg(n))) => {
+            steps_by(y.from, y.one, *t, *p, *n) && steps_to(y, rest)
+        }
+        _ => false,
+    }
+}
+
+/// Whether that is done where words are left, and nothing else.
+fn goes_round(y: Copying, xs: &[Node<Where>]) -> bool
+    ensures { result ≡ goes_round y (nodes xs.now) }
+{
+    let Some((x, rest)) = xs.split_first() else {
+        return false;
+    };
+    match x {
+        Node::Choose(Where::Reg(w), a, b) => {
+            *w == y.count
+                && steps_both(y, a.as_slice())
+                && ends_here(b.as_slice())
+                && ends_here(rest)
+        }
+        _ => false,
+    }
+}
+
+/// Whether the five registers differ from one another and from register 8.
+fn differ(y: Copying) -> bool
+    ensures { result ≡ differ y }
+{
+    (y.from != y.to && y.from != y.cell && y.from != y.count && y.from != y.one && y.from != 8)
+        && (y.to != y.cell && y.to != y.count && y.to != y.one && y.to != 8)
+        && (y.cell != y.count && y.cell != y.one && y.cell != 8)
+        && (y.count != y.one && y.count != 8)
+        && y.one != 8
+}
+
+fn is_copy(y: Copying, x: u32, rest: &[Node<Where>]) -> bool
+    ensures { result ≡ is_copy y x (nodes rest.now) }
+{
+    x == y.count && goes_round(y, rest) && differ(y)
+}
+
+fn copy_counted(from: u32, to: u32, cell: u32, xs: &[Node<Where>]) -> Option<Copying>
+    ensures { result ≡ copy_counted from to cell (nodes xs.now) }
+{
+    let (x, rest) = xs.split_first()?;
+    match x {
+        Node::Do(Op::Two(Two::ISUB, Where::Reg(t), Where::Reg(a), Where::Reg(n))) => {
+            let y = Copying {
+                from,
+                to,
+                cell,
+                count: *t,
+                one: *n,
+            };
+            if is_copy(y, *a, rest) { Some(y) } else { None }
+        }
+        _ => None,
+    }
+}
+
+fn copy_stored(from: u32, cell: u32, xs: &[Node<Where>]) -> Option<Copying>
+    ensures { result ≡ copy_stored from cell (nodes xs.now) }
+{
+    let (x, rest) = xs.split_first()?;
+    match x {
+        Node::Do(Op::Store(Where::Reg(to), Where::Reg(a))) => {
+            if *a == cell {
+                copy_counted(from, *to, cell, rest)
+            } else {
+                None
+            }
+        }
+        _ => None,
+    }
+}
+
+/// The registers of a turn of a loop that copies words.
+#[tactic(auto, unfolding(asm_laws::specs::Copies::copy_of))]
+fn copy_of(xs: &[Node<Where>]) -> Option<Copying>
+    ensures { result ≡ copy_of (nodes xs.now) }
+{
+    let (x, rest) = xs.split_first()?;
+    match x {
+        Node::Do(Op::Load(Where::Reg(cell), Where::Reg(from))) => copy_stored(*from, *cell, rest),
+        _ => None,
+    }
+}
+
+/// The registers of such a loop, where only operations that put a word into a register come before it.
+#[tactic(auto, unfolding(asm_laws::specs::Copies::copy_after))]
+fn copy_after(xs: &[Node<Where>]) -> Option<Copying>
+    ensures { result ≡ copy_after (nodes xs.now) }
+{
+    for x in xs {
+        match x {
+            Node::Do(Op::Const(Where::Reg(_), _)) => {}
+            Node::Do(Op::Global(Where::Reg(_), _)) => {}
+            Node::Loop(b) => return copy_of(b.as_slice()),
+            _ => return None,
+        }
+    }
+    None
+}
+
+/// How many these are, with one before them; at most 4.
+#[tactic(auto, unfolding(asm_laws::specs::Copies::puts_ahead))]
+fn puts_ahead(xs: &[Node<Where>]) -> Option<u32>
+    ensures { result ≡ puts_ahead 1 (nodes xs.now) }
+{
+    let mut count: u32 = 1;
+    for x in xs {
+        match x {
+            Node::Do(Op::Const(Where::Reg(_), _)) => {
+                if count == 4 {
+                    return None;
+                }
+                count += 1;
+            }
+            Node::Do(Op::Global(Where::Reg(_), _)) => {
+                if count == 4 {
+                    return None;
+                }
+                count += 1;
+            }
+            Node::Loop(_) => return Some(count),
+            _ => return None,
+        }
+    }
+    None
+}
+
+/// One of two.
+fn picked(is: bool, one: Option<u32>, other: Option<u32>) -> Option<u32>
+    ensures { result ≡ cond is one other }
+{
+    if is { one } else { other }
+}
+
+/// The word that they put into a register last, where one is known already.
+#[tactic(auto, unfolding(asm_laws::specs::Copies::last_put))]
+fn last_put(r: u32, xs: &[Node<Where>], before: Option<u32>) -> Option<u32>
+    ensures { result ≡ last_put r (nodes xs.now) before }
+{
+    let mut known = before;
+    for x in xs {
+        match x {
+            Node::Do(Op::Const(Where::Reg(q), n)) => known = picked(r == *q, Some(*n), known),
+            Node::Do(Op::Global(Where::Reg(q), _)) => known = picked(r == *q, None, known),
+            _ => return known,
+        }
+    }
+    known
+}
+
+fn is_count(n: Option<u32>) -> bool
+    ensures { result ≡ is_count n }
+{
+    match n {
+        None => false,
+        Some(n) => 0 < n && n < 0x8000_0000,
+    }
+}
+
+fn is_one(n: Option<u32>) -> bool
+    ensures { result ≡ is_one n }
+{
+    match n {
+        None => false,
+        Some(n) => n == 1,
+    }
+}
+
+/// How many operations put words into registers before such a loop whose count and 1 are known by them, where the first one puts a word into register r.
+fn leads(r: u32, word: Option<u32>, rest: &[Node<Where>]) -> Option<u32>
+    ensures { result ≡ leads r word (nodes rest.now) (copy_after (nodes rest.now)) }
+{
+    let y = copy_after(rest)?;
+    let count = if y.count == r { word } else { None };
+    let one = if y.one == r { word } else { None };
+    if is_count(last_put(y.count, rest, count)) && is_one(last_put(y.one, rest, one)) {
+        puts_ahead(rest)
+    } else {
+        None
+    }
+}
+
+/// The same of an operation and the nodes behind it.
+#[tactic(auto, unfolding(asm_laws::specs::Copies::lead))]
+pub(crate) fn lead(o: &Op<Where>, rest: &[Node<Where>]) -> Option<u32>
+    ensures { result ≡ lead (op_before o.now (nodes rest.now)) }
+{
+    match o {
+        Op::Const(Where::Reg(r), n) => leads(*r, Some(*n), rest),
+        Op::Global(Where::Reg(r), _) => leads(*r, None, rest),
+        _ => None,
+    }
+}
+
+/// The registers of a loop before which so many operations of that kind are done.
+pub(crate) fn copy_at(done: u32, b: &[Node<Where>]) -> Option<Copying>
+    ensures { result ≡ copy_at done (nodes b.now) }
+{
+    if done == 0 { None } else { copy_of(b) }
+}
+
+/// Adds a block move.
+fn put_move(out: &mut Vec<AsmItem>, y: Copying) -> Result<(), Memory>
+    ensures { OnOk result (out.new.items ≡ out.old.items ++ move_items y) }
+{
+    op(out, Instr::Mov(Mov::RegReg(Reg::at(13), register(y.to))))?;
+    op(out, Instr::Mov(Mov::RegReg(Reg::at(12), register(y.from))))?;
+    op(out, Instr::Mov(Mov::RegReg(Reg::at(11), register(y.count))))?;
+    op(out, Instr::Plain(Plain::MOVS))
+}
+
+/// Adds what puts into registers what the loop leaves in them.
+fn put_back(out: &mut Vec<AsmItem>, y: Copying) -> Result<(), Memory>
+    ensures { OnOk result (out.new.items ≡ out.old.items ++ back_items y) }
+{
+    op(
+        out,
+        Instr::Lea(
+            register(y.from),
+            Reg::at(12),
+            Some(Either::Left(0xFFFF_FFFF)),
+        ),
+    )?;
+    op(
+        out,
+        Instr::Lea(register(y.to), Reg::at(13), Some(Either::Left(0xFFFF_FFFF))),
+    )?;
+    op(out, Instr::Mov(Mov::RegReg(register(y.count), Reg::at(11))))?;
+    op(
+        out,
+        Instr::Mov(Mov::RegAtReg(register(y.cell), register(y.to))),
+    )
+}
+
+/// Adds both.
+#[tactic(auto, using(crate::proofs::Fronts::both_parts))]
+pub(crate) fn put_copy(out: &mut Vec<AsmItem>, y: Copying) -> Result<(), Memory>
+    ensures { OnOk result (out.new.items ≡ out.old.items ++ copy_items y) }
+{
+    put_move(out, y)?;
+    put_back(out, y)?;
+    Ok(())
+}

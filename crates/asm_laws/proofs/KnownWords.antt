@@ -1,0 +1,192 @@
+-- What is known before a loop that copies words.
+use Rattle.std.proofs.Common.{◌≡◌, ℕ, zero, suc, Bool, true, false, cond, Option, Some, None, refl, sym, ap, ◌∙◌, subst}
+use Rattle.std.specs.Prelude.{◌==◌, ◌&&◌, not}
+use Rattle.std.proofs.lemmas.Bool.{eqb-true}
+use Rattle.v32_isa.specs.declared.instruction.Two.{Two as TwoOf}
+use Rattle.v32_isa.specs.declared.instruction.Two.TheVariants.{IADD}
+use Rattle.v32_isa.specs.declared.instruction.Instr.{Instr}
+use Rattle.asm_items.specs.Items.{Imm}
+use Rattle.obj_mem.specs.declared.cell.Cell.TheVariants.{Num, Ptr}
+use Rattle.mid_code.specs.declared.placed.Where.{Where}
+use Rattle.mid_code.specs.declared.placed.Where.TheVariants.{Reg, Slot}
+use Rattle.mid_code.specs.Code.{NodesT, Stop, Do, Call, Choose, Block, Loop, Leave, Again, Return, OpT, ConstO, TwoO, GlobalO, StepO, LoadO, StoreO, OutO}
+use Rattle.mid_code.specs.Meaning.{Did, On, Ends}
+use Rattle.mid_code.specs.States.{State}
+use Rattle.asm_laws.specs.declared.used.Used.{Used}
+use Rattle.asm_laws.specs.declared.copying.Copying.{Copying}
+use Rattle.asm_laws.specs.Pieces.{register, is_in, turned}
+use Rattle.asm_laws.specs.Spare.{beside, operand, in_slots, at_address, at_sum, used_by}
+use Rattle.asm_laws.specs.Spare as groups
+use Rattle.asm_laws.specs.Copies.{copy_of, last_put, is_count, is_one, lead}
+use Rattle.asm_laws.specs.Operations.{Frame, Whole, word_put, summed, loads_there, first_place, unturned, copied, copied_address, with_copy, with_sum, with_word, is_spared, with_known, in_one, more_of, led_more}
+use Rattle.asm_laws.specs.inner.Following.{knows}
+use Rattle.asm_laws.specs.Holds.{Setting}
+use Rattle.asm_laws.specs.Calling.{lang, holder, shapes}
+use Rattle.asm_laws.proofs.Leads.{puts_before, puts_elim, lead_is}
+
+-- so many operations come first
+abbrev AreOps : ℕ → NodesT Where → Type 0
+AreOps zero c = Unit {0}
+AreOps (suc k) (Do o c) = AreOps k c
+AreOps (suc k) _ = ⊥
+
+abbrev AllOps : Option (ℕ × Used) → NodesT Where → Type 0
+AllOps None c = Unit {0}
+AllOps (Some (k, u)) c = AreOps k c
+
+if_ops : (b : Bool) (x : Option (ℕ × Used)) (c : NodesT Where) → AllOps x c → AllOps (cond b None x) c
+if_ops true x c h = tt
+if_ops false x c h = h
+
+when_ops : (b : Bool) (x : Option (ℕ × Used)) (c : NodesT Where) → AllOps x c → AllOps (cond b x None) c
+when_ops true x c h = h
+when_ops false x c h = tt
+
+computed_ops : (t : Where) (x : Option (TwoOf × Where)) (p : OpT Where) (c : NodesT Where) → AllOps (groups.computed t x) (Do p c)
+computed_ops (Reg t) (Some (o, q)) p c = if_ops (register t == 8) _ (Do p c) tt
+computed_ops (Reg t) None p c = tt
+computed_ops (Slot k) x p c = tt
+
+one_ops : (x : Option Where) (c : NodesT Where) → AllOps (at_address 1 x c) c
+one_ops x (Do (LoadO (Reg t) q) c) = when_ops (is_in q 8 && not (register t == 8)) _ (Do (LoadO (Reg t) q) c) tt
+one_ops x (Do (StoreO q a) c) = when_ops (is_in q 8 && not (is_in a 8)) _ (Do (StoreO q a) c) (if_ops (in_slots x a) _ (Do (StoreO q a) c) tt)
+one_ops x _ = tt
+
+two_ops : (x : Option Where) (p : OpT Where) (c : NodesT Where) → AllOps (at_address 2 x c) (Do p c)
+two_ops x p (Do (LoadO (Reg t) q) c) = when_ops (is_in q 8 && not (register t == 8)) _ (Do p (Do (LoadO (Reg t) q) c)) tt
+two_ops x p (Do (StoreO q a) c) = when_ops (is_in q 8 && not (is_in a 8)) _ (Do p (Do (StoreO q a) c)) (if_ops (in_slots x a) _ (Do p (Do (StoreO q a) c)) tt)
+two_ops x p _ = tt
+
+sum_ops : (x : Option Where) (p : OpT Where) (c : NodesT Where) → AllOps (at_sum x c) (Do p c)
+sum_ops None p c = tt
+sum_ops (Some x) p c = two_ops (Some x) p c
+
+used_ops : (c : NodesT Where) → AllOps (used_by c) c
+used_ops (Do (TwoO o t p q) c) = computed_ops t (operand o p q) (TwoO o t p q) c
+used_ops (Do (StepO t p q) c) = go (is_in t 8)
+  where
+    go : (b : Bool) → AllOps (cond b (at_sum (beside p q) c) (groups.computed t (operand IADD p q))) (Do (StepO t p q) c)
+    go true = sum_ops (beside p q) (StepO t p q) c
+    go false = computed_ops t (operand IADD p q) (StepO t p q) c
+used_ops (Do (OutO port p) c) = when_ops (is_in p 8) _ (Do (OutO port p) c) tt
+used_ops c = one_ops None c
+
+known_ops : (F : Frame) (put : Option (ℕ × ℕ)) (x : Option (ℕ × Used)) (c : NodesT Where) → AllOps x c → AreOps (more_of (with_known F put x)) c
+known_ops F None x c h = tt
+known_ops F (Some (r, w)) None c h = tt
+known_ops F (Some (r, w)) (Some (k, u)) c h = h
+
+loads_ops : (r : ℕ) (c : NodesT Where) → loads_there r c ≡ true → AreOps 1 c
+loads_ops r (Do (LoadO (Reg t) (Reg p)) c) e = tt
+loads_ops r _ e = absurd cc
+
+copy_ops : (F : Frame) (r w : ℕ) (p : OpT Where) (c : NodesT Where) → AreOps (more_of (with_copy F r w p c)) (Do p c)
+copy_ops F r w (TwoO u t a b) c = go (unturned (turned u) (first_place r t a b))
+  where
+    go : (x : Option Where) → AreOps (more_of (copied F r w u x)) (Do (TwoO u t a b) c)
+    go None = tt
+    go (Some p) = tt
+copy_ops F r w (StepO t p n) c = go (unturned (Some IADD) (first_place r t p n))
+  where
+    loads : (q : Where) (b : Bool) → loads_there r c ≡ b → (i j : Option (Instr Imm) × Instr Imm) → AreOps (more_of (Some (cond b (2, i.0, i.1) (1, j.0, j.1)))) (Do (StepO t p n) c)
+    loads q true e i j = loads_ops r c e
+    loads q false e i j = tt
+
+    go : (x : Option Where) → AreOps (more_of (copied_address F r w x c)) (Do (StepO t p n) c)
+    go None = tt
+    go (Some q) = loads q (loads_there r c) refl (_, _) (_, _)
+copy_ops F r w _ c = tt
+
+word_ops : (F : Frame) (put : Option (ℕ × ℕ)) (p : OpT Where) (c : NodesT Where) → AreOps (more_of (with_word F put p c)) (Do p c)
+word_ops F None p c = tt
+word_ops F (Some (r, w)) p c = go (summed r w p)
+  where
+    loads : (b : Bool) → loads_there r c ≡ b → (i j : Option (Instr Imm) × Instr Imm) → AreOps (more_of (Some (cond b (2, i.0, i.1) (1, j.0, j.1)))) (Do p c)
+    loads true e i j = loads_ops r c e
+    loads false e i j = tt
+
+    go : (x : Option (ℕ × ℕ)) → AreOps (more_of (with_sum r x (with_copy F r w p c) c)) (Do p c)
+    go None = copy_ops F r w p c
+    go (Some (q, v)) = loads (loads_there r c) refl (_, _) (_, _)
+
+one_is : (W : Whole) (F : Frame) (o : OpT Where) (c : NodesT Where) → AreOps (more_of (in_one W F o c)) c
+unfolding in_one
+one_is W F o (Do p c) = go (is_spared F (word_put W o))
+  where
+    go : (b : Bool) → AreOps (more_of (cond b (with_known F (word_put W o) (used_by (Do p c))) (with_word F (word_put W o) p c))) (Do p c)
+    go true = known_ops F (word_put W o) (used_by (Do p c)) (Do p c) (used_ops (Do p c))
+    go false = word_ops F (word_put W o) p c
+one_is W F o _ = tt
+
+state_of : Did (State Where) → State Where
+state_of (On t) = t
+state_of (Ends f t) = t
+
+some_is : (n m : ℕ) → Some n ≡ Some m → n ≡ m
+some_is n m e = cc
+
+module _ (S : Setting) where
+  -- nothing is known behind operations
+  none_known : (c : NodesT Where) (s : State Where) → knows (holder S) c zero s
+  none_known Stop s = tt
+  none_known (Do o c) s = tt
+  none_known (Call t f args c) s = tt
+  none_known (Choose p x y c) s = tt
+  none_known (Block b c) s = tt
+  none_known (Loop b c) s = tt
+  none_known (Leave j c) s = tt
+  none_known (Again j c) s = tt
+  none_known (Return w c) s = tt
+
+  ops_know : (k : ℕ) (c : NodesT Where) (s : State Where) → AreOps k c → knows (holder S) c k s
+  ops_know zero c s h = none_known c s
+  ops_know (suc k) (Do o c) s h = λ t q. ops_know k c t h
+  ops_know (suc k) _ s h = absurd h
+
+  -- a word that is known stands in its register
+  abbrev Stored : ℕ → Option ℕ → State Where → Type 0
+  Stored r x s = (n : ℕ) → x ≡ Some n → s.cells (Reg r) ≡ Num n
+
+  abbrev PutsKnow : NodesT Where → ℕ → Copying → Type 0
+  PutsKnow c k y = (x z : Option ℕ) (s : State Where) → Stored y.count x s → Stored y.one z s → is_count (last_put y.count c x) ≡ true → is_one (last_put y.one c z) ≡ true → knows (holder S) c (suc k) s
+
+  same_copy : (b : NodesT Where) (y z : Copying) → copy_of b ≡ Some y → copy_of b ≡ Some z → y ≡ z
+  same_copy b y z p q = let e : Some y ≡ Some z = sym p ∙ q in cc
+
+  counted : (x : Option ℕ) (r : ℕ) (s : State Where) → Stored r x s → is_count x ≡ true → (n : ℕ) × (s.cells (Reg r) ≡ Num n) × (is_count (Some n) ≡ true)
+  counted None r s h e = absurd cc
+  counted (Some n) r s h e = (n, h n refl, e)
+
+  one_is_known : (x : Option ℕ) (r : ℕ) (s : State Where) → Stored r x s → is_one x ≡ true → s.cells (Reg r) ≡ Num 1
+  one_is_known None r s h e = absurd cc
+  one_is_known (Some n) r s h e = h n refl ∙ ap Num (eqb-true n 1 e)
+
+  put_stored : (r q n : ℕ) (x : Option ℕ) (s t : State Where) → (lang S).act (ConstO (Reg q) n) s ≡ On t → Stored r x s → Stored r (cond (r == q) (Some n) x) t
+  unfolding state_of
+  put_stored r q n x s t e h = go (r == q) (ap (λ z. (state_of z).cells (Reg r)) (sym e))
+    where
+      go : (b : Bool) → t.cells (Reg r) ≡ cond b (Num n) (s.cells (Reg r)) → Stored r (cond b (Some n) x) t
+      go true f = λ m i. f ∙ ap Num (some_is n m i)
+      go false f = λ m i. f ∙ h m i
+
+  forgets : (r q n : ℕ) (x : Option ℕ) (s t : State Where) → (lang S).act (GlobalO (Reg q) n) s ≡ On t → Stored r x s → Stored r (cond (r == q) None x) t
+  unfolding state_of
+  forgets r q n x s t e h = go (r == q) (ap (λ z. (state_of z).cells (Reg r)) (sym e))
+    where
+      go : (b : Bool) → t.cells (Reg r) ≡ cond b (Ptr n 0) (s.cells (Reg r)) → Stored r (cond b None x) t
+      go true f = λ m i. absurd cc
+      go false f = λ m i. f ∙ h m i
+
+  puts_know : (c : NodesT Where) (k : ℕ) (y : Copying) → puts_before c ≡ Some (k, y) → PutsKnow c k y
+  unfolding last_put
+  puts_know c k y e = puts_elim PutsKnow
+      (λ b c y q x z s hx hz ec eo. record { count = λ w p. subst (λ v. (n : ℕ) × (s.cells (Reg v.count) ≡ Num n) × (is_count (Some n) ≡ true)) (same_copy b y w q p) (counted x y.count s hx ec); one = λ w p. subst (λ v. s.cells (Reg v.one) ≡ Num 1) (same_copy b y w q p) (one_is_known z y.one s hz eo) })
+      (λ r n c k y q know x z s hx hz ec eo t a. know (cond (y.count == r) (Some n) x) (cond (y.one == r) (Some n) z) t (put_stored y.count r n x s t a hx) (put_stored y.one r n z s t a hz) ec eo)
+      (λ r n c k y q know x z s hx hz ec eo t a. know (cond (y.count == r) None x) (cond (y.one == r) None z) t (forgets y.count r n x s t a hx) (forgets y.one r n z s t a hz) ec eo) c k y e
+
+  pub op_knows : (κ_fn pc p more : ℕ) (o : OpT Where) (c : NodesT Where) (s t : State Where) → (shapes S).op κ_fn pc o c more p → (lang S).act o s ≡ On t → knows (holder S) c more t
+  op_knows f pc p more o c s t st q = subst (λ k. knows (holder S) c k t) (sym st.3) (go (lead (Do o c)) refl)
+    where
+      go : (x : Option ℕ) → lead (Do o c) ≡ x → knows (holder S) c (led_more S.whole (S.whole.frames f) o c x) t
+      go None e = ops_know _ c t (one_is S.whole (S.whole.frames f) o c)
+      go (Some k) e = let l = lead_is (Do o c) k e in puts_know (Do o c) k l.y l.puts None None s (λ n i. absurd cc) (λ n i. absurd cc) l.count l.one t q

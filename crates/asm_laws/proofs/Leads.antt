@@ -1,0 +1,279 @@
+-- The loops that copy words, and the operations before them, as they are recognised.
+use Rattle.std.proofs.Common.{◌≡◌, ◌≢◌, ℕ, zero, suc, ◌+◌, ◌<◌, Bool, true, false, cond, Option, Some, None, refl, sym, ap, ◌∙◌, subst, arith}
+use Rattle.std.specs.Prelude.{◌==◌, ◌&&◌, not}
+use Rattle.std.proofs.lemmas.Bool.{eqb-true, eqb-false}
+use Rattle.v32_isa.specs.declared.instruction.Two.TheVariants.{ISUB}
+use Rattle.mid_code.specs.declared.placed.Where.{Where}
+use Rattle.mid_code.specs.declared.placed.Where.TheVariants.{Reg}
+use Rattle.mid_code.specs.Code.{NodesT, Stop, Do, Choose, Loop, Again, ConstO, TwoO, GlobalO, StepO, LoadO, StoreO}
+use Rattle.asm_laws.specs.declared.copying.Copying.{Copying}
+use Rattle.asm_laws.specs.Copies.{steps_by, steps_to, steps_both, goes_round, differ, is_copy, ends_here, turns_here, copy_counted, copy_stored, copy_of, copy_after, puts_ahead, last_put, is_count, is_one, leads, lead}
+
+both : (p q : Bool) → p && q ≡ true → (p ≡ true) × (q ≡ true)
+both true true e = (refl, refl)
+both true false e = absurd cc
+both false q e = absurd cc
+
+off : (p : Bool) → not p ≡ true → p ≡ false
+off false e = refl
+off true e = absurd cc
+
+-- a turn of such a loop
+abbrev pub turn_of : Copying → NodesT Where
+turn_of y = Do (LoadO (Reg y.cell) (Reg y.from)) (Do (StoreO (Reg y.to) (Reg y.cell)) (Do (TwoO ISUB (Reg y.count) (Reg y.count) (Reg y.one))
+    (Choose (Reg y.count) (Do (StepO (Reg y.from) (Reg y.from) (Reg y.one)) (Do (StepO (Reg y.to) (Reg y.to) (Reg y.one)) (Again zero Stop))) Stop Stop)))
+
+-- its registers differ, and none is register 8
+pub record Apart (y : Copying) : Type 0 where
+  pub from_to : y.from ≢ y.to
+  pub from_cell : y.from ≢ y.cell
+  pub from_count : y.from ≢ y.count
+  pub from_one : y.from ≢ y.one
+  pub from_eight : y.from ≢ 8
+  pub to_cell : y.to ≢ y.cell
+  pub to_count : y.to ≢ y.count
+  pub to_one : y.to ≢ y.one
+  pub to_eight : y.to ≢ 8
+  pub cell_count : y.cell ≢ y.count
+  pub cell_one : y.cell ≢ y.one
+  pub cell_eight : y.cell ≢ 8
+  pub count_one : y.count ≢ y.one
+  pub count_eight : y.count ≢ 8
+  pub one_eight : y.one ≢ 8
+
+unlike : (a b : ℕ) → not (a == b) ≡ true → a ≢ b
+unlike a b e = eqb-false a b (off (a == b) e)
+
+apart : (y : Copying) → differ y ≡ true → Apart y
+apart y e =
+    let h = both _ _ e in
+    let f0 = both _ _ h.0 in
+    let f1 = both _ _ f0.1 in
+    let f2 = both _ _ f1.1 in
+    let f3 = both _ _ f2.1 in
+    let i = both _ _ h.1 in
+    let t0 = both _ _ i.0 in
+    let t1 = both _ _ t0.1 in
+    let t2 = both _ _ t1.1 in
+    let j = both _ _ i.1 in
+    let c0 = both _ _ j.0 in
+    let c1 = both _ _ c0.1 in
+    let k = both _ _ j.1 in
+    let n0 = both _ _ k.0 in
+    record {
+      from_to = unlike y.from y.to f0.0;
+      from_cell = unlike y.from y.cell f1.0;
+      from_count = unlike y.from y.count f2.0;
+      from_one = unlike y.from y.one f3.0;
+      from_eight = unlike y.from 8 f3.1;
+      to_cell = unlike y.to y.cell t0.0;
+      to_count = unlike y.to y.count t1.0;
+      to_one = unlike y.to y.one t2.0;
+      to_eight = unlike y.to 8 t2.1;
+      cell_count = unlike y.cell y.count c0.0;
+      cell_one = unlike y.cell y.one c1.0;
+      cell_eight = unlike y.cell 8 c1.1;
+      count_one = unlike y.count y.one n0.0;
+      count_eight = unlike y.count 8 n0.1;
+      one_eight = unlike y.one 8 k.1;
+    }
+
+step_is : (address one t p n : ℕ) → steps_by address one t p n ≡ true → (t ≡ address) × (p ≡ address) × (n ≡ one)
+step_is address one t p n e =
+    let h = both (t == address) _ e in
+    let i = both (p == address) (n == one) h.1 in
+    (eqb-true t address h.0, eqb-true p address i.0, eqb-true n one i.1)
+
+ends_is : (c : NodesT Where) → ends_here c ≡ true → c ≡ Stop
+ends_is Stop e = refl
+ends_is _ e = absurd cc
+
+turns_is : (c : NodesT Where) → turns_here c ≡ true → c ≡ Again zero Stop
+turns_is (Again k c) e =
+    let h = both (k == 0) (ends_here c) e in
+    let q = eqb-true k 0 h.0 in
+    let r = ends_is c h.1 in
+    λ i. Again (q i) (r i)
+turns_is _ e = absurd cc
+
+to_is : (y : Copying) (c : NodesT Where) → steps_to y c ≡ true → c ≡ Do (StepO (Reg y.to) (Reg y.to) (Reg y.one)) (Again zero Stop)
+to_is y (Do (StepO (Reg t) (Reg p) (Reg n)) c) e =
+    let g = both (steps_by y.to y.one t p n) (turns_here c) e in
+    let h = step_is y.to y.one t p n g.0 in
+    let r = turns_is c g.1 in
+    λ i. Do (StepO (Reg (h.0 i)) (Reg (h.1 i)) (Reg (h.2 i))) (r i)
+to_is y _ e = absurd cc
+
+both_is : (y : Copying) (c : NodesT Where) → steps_both y c ≡ true → c ≡ Do (StepO (Reg y.from) (Reg y.from) (Reg y.one)) (Do (StepO (Reg y.to) (Reg y.to) (Reg y.one)) (Again zero Stop))
+both_is y (Do (StepO (Reg t) (Reg p) (Reg n)) c) e =
+    let h = both (steps_by y.from y.one t p n) (steps_to y c) e in
+    let s = step_is y.from y.one t p n h.0 in
+    let r = to_is y c h.1 in
+    λ i. Do (StepO (Reg (s.0 i)) (Reg (s.1 i)) (Reg (s.2 i))) (r i)
+both_is y _ e = absurd cc
+
+round_is : (y : Copying) (c : NodesT Where) → goes_round y c ≡ true →
+    c ≡ Choose (Reg y.count) (Do (StepO (Reg y.from) (Reg y.from) (Reg y.one)) (Do (StepO (Reg y.to) (Reg y.to) (Reg y.one)) (Again zero Stop))) Stop Stop
+round_is y (Choose (Reg w) a b c) e =
+    let g = both ((w == y.count) && steps_both y a) (ends_here b && ends_here c) e in
+    let h = both (w == y.count) (steps_both y a) g.0 in
+    let k = both (ends_here b) (ends_here c) g.1 in
+    let q = eqb-true w y.count h.0 in
+    let r = both_is y a h.1 in
+    let u = ends_is b k.0 in
+    let v = ends_is c k.1 in
+    λ i. Choose (Reg (q i)) (r i) (u i) (v i)
+round_is y _ e = absurd cc
+
+when_some : (b : Bool) (x y : Copying) → cond b (Some x) None ≡ Some y → (b ≡ true) × (x ≡ y)
+when_some true x y e = (refl, cc)
+when_some false x y e = absurd cc
+
+if_some : (b : Bool) (x : Option Copying) (y : Copying) → cond b x None ≡ Some y → (b ≡ true) × (x ≡ Some y)
+if_some true x y e = (refl, e)
+if_some false x y e = absurd cc
+
+counted_is : (from to cell : ℕ) (c : NodesT Where) (y : Copying) → copy_counted from to cell c ≡ Some y →
+    (Do (LoadO (Reg cell) (Reg from)) (Do (StoreO (Reg to) (Reg cell)) c) ≡ turn_of y) × (differ y ≡ true)
+counted_is from to cell (Do (TwoO ISUB (Reg t) (Reg x) (Reg n)) c) y e =
+    let z : Copying = record { from = from; to = to; cell = cell; count = t; one = n } in
+    let h = when_some (is_copy z x c) z y e in
+    let i = both (x == t) (goes_round z c && differ z) h.0 in
+    let j = both (goes_round z c) (differ z) i.1 in
+    let q = eqb-true x t i.0 in
+    let r = round_is z c j.0 in (
+      (λ k. Do (LoadO (Reg cell) (Reg from)) (Do (StoreO (Reg to) (Reg cell)) (Do (TwoO ISUB (Reg t) (Reg (q k)) (Reg n)) (r k)))) ∙ ap turn_of h.1,
+      ap differ (sym h.1) ∙ j.1,
+    )
+counted_is from to cell _ y e = absurd cc
+
+stored_is : (from cell : ℕ) (c : NodesT Where) (y : Copying) → copy_stored from cell c ≡ Some y → (Do (LoadO (Reg cell) (Reg from)) c ≡ turn_of y) × (differ y ≡ true)
+stored_is from cell (Do (StoreO (Reg to) (Reg a)) c) y e =
+    let h = if_some (a == cell) (copy_counted from to cell c) y e in
+    let q = eqb-true a cell h.0 in
+    let r = counted_is from to cell c y h.1 in
+    (ap (λ n. Do (LoadO (Reg cell) (Reg from)) (Do (StoreO (Reg to) (Reg n)) c)) q ∙ r.0, r.1)
+stored_is from cell _ y e = absurd cc
+
+pub copy_is : (b : NodesT Where) (y : Copying) → copy_of b ≡ Some y → (b ≡ turn_of y) × Apart y
+unfolding copy_of
+copy_is (Do (LoadO (Reg cell) (Reg from)) c) y e = let r = stored_is from cell c y e in (r.0, apart y r.1)
+copy_is _ y e = absurd cc
+
+-- ---- the operations before it
+
+-- how many operations that put a word into a register come before such a loop, and its registers
+abbrev pub one_more : Option (ℕ × Copying) → Option (ℕ × Copying)
+one_more None = None
+one_more (Some (k, y)) = Some (suc k, y)
+
+abbrev pub no_more : Option Copying → Option (ℕ × Copying)
+no_more None = None
+no_more (Some y) = Some (0, y)
+
+unfoldable pub puts_before : NodesT Where → Option (ℕ × Copying)
+puts_before (Do (ConstO (Reg r) n) c) = one_more (puts_before c)
+puts_before (Do (GlobalO (Reg r) k) c) = one_more (puts_before c)
+puts_before (Loop b c) = no_more (copy_of b)
+puts_before _ = None
+
+first_of : Option (ℕ × Copying) → ℕ
+first_of None = 0
+first_of (Some (k, y)) = k
+
+second_of : Copying → Option (ℕ × Copying) → Copying
+second_of z None = z
+second_of z (Some (k, y)) = y
+
+abbrev one_pair : ℕ → Copying → Option (ℕ × Copying)
+one_pair k y = Some (k, y)
+
+pair_is : (j : ℕ) (z : Copying) (k : ℕ) (y : Copying) → one_pair j z ≡ one_pair k y → (j ≡ k) × (z ≡ y)
+unfolding first_of second_of
+pair_is j z k y e = (ap first_of e, ap (second_of z) e)
+
+more_is : (x : Option (ℕ × Copying)) (k : ℕ) (y : Copying) → one_more x ≡ Some (k, y) → (j : ℕ) × (k ≡ suc j) × (x ≡ Some (j, y))
+more_is None k y e = absurd cc
+more_is (Some (j, z)) k y e = let p = pair_is (suc j) z k y e in (j, sym p.0, λ i. Some (j, p.1 i))
+
+none_is : (x : Option Copying) (k : ℕ) (y : Copying) → no_more x ≡ Some (k, y) → (k ≡ 0) × (x ≡ Some y)
+none_is None k y e = absurd cc
+none_is (Some z) k y e = let p = pair_is 0 z k y e in (sym p.0, ap Some p.1)
+
+-- what holds of the loop, and of each operation before it where it holds behind that
+pub puts_elim : (P : NodesT Where → ℕ → Copying → Type 0) → ((b c : NodesT Where) (y : Copying) → copy_of b ≡ Some y → P (Loop b c) 0 y) →
+    ((r n : ℕ) (c : NodesT Where) (k : ℕ) (y : Copying) → puts_before c ≡ Some (k, y) → P c k y → P (Do (ConstO (Reg r) n) c) (suc k) y) →
+    ((r n : ℕ) (c : NodesT Where) (k : ℕ) (y : Copying) → puts_before c ≡ Some (k, y) → P c k y → P (Do (GlobalO (Reg r) n) c) (suc k) y) →
+    (c : NodesT Where) (k : ℕ) (y : Copying) → puts_before c ≡ Some (k, y) → P c k y
+unfolding puts_before
+puts_elim P base const global (Do (ConstO (Reg r) n) c) k y e =
+    let i = more_is (puts_before c) k y e in
+    subst (λ h. P (Do (ConstO (Reg r) n) c) h y) (sym i.1) (const r n c i.0 y i.2 (puts_elim P base const global c i.0 y i.2))
+puts_elim P base const global (Do (GlobalO (Reg r) n) c) k y e =
+    let i = more_is (puts_before c) k y e in
+    subst (λ h. P (Do (GlobalO (Reg r) n) c) h y) (sym i.1) (global r n c i.0 y i.2 (puts_elim P base const global c i.0 y i.2))
+puts_elim P base const global (Loop b c) k y e =
+    let i = none_is (copy_of b) k y e in
+    subst (λ h. P (Loop b c) h y) (sym i.0) (base b c y i.1)
+puts_elim P base const global _ k y e = absurd cc
+
+-- a group of such operations, its registers, and that they are few
+pub record Leads (c : NodesT Where) (k : ℕ) : Type 0 where
+  pub y : Copying
+  pub puts : puts_before c ≡ Some (k, y)
+  pub few : k < 5
+  pub count : is_count (last_put y.count c None) ≡ true
+  pub one : is_one (last_put y.one c None) ≡ true
+
+-- so many, counted on from so many before
+record Counts (j k : ℕ) (c : NodesT Where) (y : Copying) : Type 0 where
+  more : ℕ
+  total : k ≡ j + more
+  few : k < 5
+  puts : puts_before c ≡ Some (more, y)
+
+not_four : (j : ℕ) → (j == 4) ≡ false → j < 5 → j + 1 < 5
+not_four j e lt = let ne = eqb-false j 4 e in omega (arith, lt, ne)
+
+counts_one : (j k : ℕ) (c d : NodesT Where) (y : Copying) → puts_before d ≡ one_more (puts_before c) → Counts (j + 1) k c y → Counts j k d y
+counts_one j k c d y e h = record { more = suc h.more; total = let t = h.total in omega (arith, t); few = h.few; puts = e ∙ ap one_more h.puts }
+
+some_k : (j k : ℕ) → Some j ≡ Some k → j ≡ k
+some_k j k e = cc
+
+counts : (j k : ℕ) (c : NodesT Where) (y : Copying) → j < 5 → copy_after c ≡ Some y → puts_ahead j c ≡ Some k → Counts j k c y
+unfolding copy_after puts_ahead puts_before
+counts j k (Do (ConstO (Reg r) n) c) y lt p e = go (j == 4) refl e (counts (j + 1) k c y)
+  where
+    go : (b : Bool) → (j == 4) ≡ b → cond b None (puts_ahead (j + 1) c) ≡ Some k → (j + 1 < 5 → copy_after c ≡ Some y → puts_ahead (j + 1) c ≡ Some k → Counts (j + 1) k c y) → Counts j k (Do (ConstO (Reg r) n) c) y
+    go true q e on = absurd cc
+    go false q e on = counts_one j k c (Do (ConstO (Reg r) n) c) y refl (on (not_four j q lt) p e)
+counts j k (Do (GlobalO (Reg r) n) c) y lt p e = go (j == 4) refl e (counts (j + 1) k c y)
+  where
+    go : (b : Bool) → (j == 4) ≡ b → cond b None (puts_ahead (j + 1) c) ≡ Some k → (j + 1 < 5 → copy_after c ≡ Some y → puts_ahead (j + 1) c ≡ Some k → Counts (j + 1) k c y) → Counts j k (Do (GlobalO (Reg r) n) c) y
+    go true q e on = absurd cc
+    go false q e on = counts_one j k c (Do (GlobalO (Reg r) n) c) y refl (on (not_four j q lt) p e)
+counts j k (Loop b c) y lt p e = let q = some_k j k e in record { more = 0; total = omega (arith, q); few = omega (arith, q, lt); puts = ap no_more p }
+counts j k _ y lt p e = absurd cc
+
+lead_behind : (r : ℕ) (x : Option ℕ) (c d : NodesT Where) (k : ℕ) → puts_before d ≡ one_more (puts_before c) → ((q : ℕ) → last_put q d None ≡ last_put q c (cond (q == r) x None)) → leads r x c (copy_after c) ≡ Some k → Leads d k
+lead_behind r x c d k one last e = go (copy_after c) refl e
+  where
+    some : (y : Copying) (b : Bool) → copy_after c ≡ Some y → is_count (last_put y.count c (cond (y.count == r) x None)) && is_one (last_put y.one c (cond (y.one == r) x None)) ≡ b → cond b (puts_ahead 1 c) None ≡ Some k → Leads d k
+    some y true p t q =
+        let i = both (is_count (last_put y.count c (cond (y.count == r) x None))) (is_one (last_put y.one c (cond (y.one == r) x None))) t in
+        let h = counts 1 k c y (omega arith) p q in
+        let total = h.total in
+        let same : suc h.more ≡ k = omega (arith, total) in
+        record { y = y; puts = one ∙ ap one_more h.puts ∙ ap (λ n. Some (n, y)) same; few = h.few; count = ap is_count (last y.count) ∙ i.0; one = ap is_one (last y.one) ∙ i.1 }
+    some y false p t q = absurd cc
+
+    go : (z : Option Copying) → copy_after c ≡ z → leads r x c z ≡ Some k → Leads d k
+    go None p q = absurd cc
+    go (Some y) p q = some y (is_count (last_put y.count c (cond (y.count == r) x None)) && is_one (last_put y.one c (cond (y.one == r) x None))) p refl q
+
+pub lead_is : (c : NodesT Where) (k : ℕ) → lead c ≡ Some k → Leads c k
+unfolding lead puts_before last_put
+lead_is (Do (ConstO (Reg r) n) c) k e = lead_behind r (Some n) c (Do (ConstO (Reg r) n) c) k refl (λ q. refl) e
+lead_is (Do (GlobalO (Reg r) n) c) k e = lead_behind r None c (Do (GlobalO (Reg r) n) c) k refl (λ q. refl) e
+lead_is _ k e = absurd cc

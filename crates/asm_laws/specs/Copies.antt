@@ -1,0 +1,134 @@
+-- Loops that copy words one by one, and the operations that put known words into registers before them.
+use Rattle.std.specs.Prelude.{ℕ, zero, suc, ◌+◌, ◌==◌, ◌&&◌, not, nat_lt, cond, Bool, true, false, List, [], ◌∷◌, ◌++◌, Option, Some, None}
+use Rattle.either.specs.declared.Either.TheVariants.{Left}
+use Rattle.v32_isa.specs.declared.instruction.Plain.TheVariants.{MOVS}
+use Rattle.v32_isa.specs.declared.instruction.Two.TheVariants.{ISUB}
+use Rattle.v32_isa.specs.declared.instruction.Mov.TheVariants.{RegReg, RegAtReg}
+use Rattle.v32_isa.specs.declared.instruction.Instr.TheVariants as instr
+use Rattle.asm_items.specs.declared.item.AsmItem.{AsmItem}
+use Rattle.asm_items.specs.declared.item.AsmItem.TheVariants as item
+use Rattle.mid_code.specs.declared.placed.Where.{Where}
+use Rattle.mid_code.specs.declared.placed.Where.TheVariants.{Reg}
+use Rattle.mid_code.specs.Code.{NodesT, Stop, Do, Choose, Loop, Again}
+use Rattle.mid_code.specs.Code.{ConstO, TwoO, GlobalO, StepO, LoadO, StoreO}
+use Rattle.asm_laws.specs.declared.copying.Copying.{Copying}
+use Rattle.asm_laws.specs.Pieces.{register}
+
+-- ---- the loop
+
+-- a register takes the sum of its own address and the word in another one
+abbrev pub steps_by : (address one t p n : ℕ) → Bool
+steps_by address one t p n = (t == address) && ((p == address) && (n == one))
+
+abbrev pub ends_here : NodesT Where → Bool
+ends_here Stop = true
+ends_here _ = false
+
+-- the next turn of the innermost loop begins, and nothing comes behind
+abbrev pub turns_here : NodesT Where → Bool
+turns_here (Again k c) = (k == 0) && ends_here c
+turns_here _ = false
+
+-- what is done in a turn that is not the last one: both addresses go one word on
+abbrev pub steps_to : Copying → NodesT Where → Bool
+steps_to y (Do (StepO (Reg t) (Reg p) (Reg n)) c) = steps_by y.to y.one t p n && turns_here c
+steps_to y _ = false
+
+abbrev pub steps_both : Copying → NodesT Where → Bool
+steps_both y (Do (StepO (Reg t) (Reg p) (Reg n)) c) = steps_by y.from y.one t p n && steps_to y c
+steps_both y _ = false
+
+abbrev pub goes_round : Copying → NodesT Where → Bool
+goes_round y (Choose (Reg w) a b c) = ((w == y.count) && steps_both y a) && (ends_here b && ends_here c)
+goes_round y _ = false
+
+-- five registers differ from one another and from register 8
+abbrev pub differ : Copying → Bool
+differ y = (not (y.from == y.to) && (not (y.from == y.cell) && (not (y.from == y.count) && (not (y.from == y.one) && not (y.from == 8)))))
+    && ((not (y.to == y.cell) && (not (y.to == y.count) && (not (y.to == y.one) && not (y.to == 8))))
+    && ((not (y.cell == y.count) && (not (y.cell == y.one) && not (y.cell == 8)))
+    && ((not (y.count == y.one) && not (y.count == 8)) && not (y.one == 8))))
+
+abbrev pub is_copy : Copying → (x : ℕ) → NodesT Where → Bool
+is_copy y x c = (x == y.count) && (goes_round y c && differ y)
+
+abbrev pub copy_counted : (from to cell : ℕ) → NodesT Where → Option Copying
+copy_counted from to cell (Do (TwoO ISUB (Reg t) (Reg x) (Reg n)) c) =
+    cond (is_copy (record { from = from; to = to; cell = cell; count = t; one = n }) x c)
+    (Some (record { from = from; to = to; cell = cell; count = t; one = n })) None
+copy_counted from to cell _ = None
+
+abbrev pub copy_stored : (from cell : ℕ) → NodesT Where → Option Copying
+copy_stored from cell (Do (StoreO (Reg to) (Reg a)) c) = cond (a == cell) (copy_counted from to cell c) None
+copy_stored from cell _ = None
+
+-- the registers of a turn of such a loop
+unfoldable pub copy_of : NodesT Where → Option Copying
+copy_of (Do (LoadO (Reg cell) (Reg from)) c) = copy_stored from cell c
+copy_of _ = None
+
+-- ---- the operations before it
+
+-- the registers of such a loop, where only operations that put a known word or a global's address into a register come before it
+unfoldable pub copy_after : NodesT Where → Option Copying
+copy_after (Do (ConstO (Reg r) n) c) = copy_after c
+copy_after (Do (GlobalO (Reg r) k) c) = copy_after c
+copy_after (Loop b c) = copy_of b
+copy_after _ = None
+
+-- how many these are, where so many came before; at most 4
+unfoldable pub puts_ahead : (before : ℕ) → NodesT Where → Option ℕ
+puts_ahead k (Do (ConstO (Reg r) n) c) = cond (k == 4) None (puts_ahead (k + 1) c)
+puts_ahead k (Do (GlobalO (Reg r) j) c) = cond (k == 4) None (puts_ahead (k + 1) c)
+puts_ahead k (Loop b c) = Some k
+puts_ahead k _ = None
+
+-- the word that they put into a register last, where one is known already
+unfoldable pub last_put : (register : ℕ) → NodesT Where → (known : Option ℕ) → Option ℕ
+last_put r (Do (ConstO (Reg q) n) c) x = last_put r c (cond (r == q) (Some n) x)
+last_put r (Do (GlobalO (Reg q) k) c) x = last_put r c (cond (r == q) None x)
+last_put r _ x = x
+
+-- a number of words that a block move copies
+abbrev pub is_count : Option ℕ → Bool
+is_count None = false
+is_count (Some n) = nat_lt 0 n && nat_lt n 0x80000000
+
+abbrev pub is_one : Option ℕ → Bool
+is_one None = false
+is_one (Some n) = n == 1
+
+-- behind an operation that puts a word into a register, which is known or not
+abbrev pub leads : (register : ℕ) → Option ℕ → NodesT Where → Option Copying → Option ℕ
+leads r x c None = None
+leads r x c (Some y) = cond (is_count (last_put y.count c (cond (y.count == r) x None)) && is_one (last_put y.one c (cond (y.one == r) x None))) (puts_ahead 1 c) None
+
+-- How many operations that come first put words into registers, before a loop whose count and 1 are known by them.
+unfoldable pub lead : NodesT Where → Option ℕ
+lead (Do (ConstO (Reg r) n) c) = leads r (Some n) c (copy_after c)
+lead (Do (GlobalO (Reg r) k) c) = leads r None c (copy_after c)
+lead _ = None
+
+-- the registers of a loop before which so many operations of that kind are done
+abbrev pub copy_at : (done : ℕ) → NodesT Where → Option Copying
+copy_at zero b = None
+copy_at (suc k) b = copy_of b
+
+-- ---- its instructions
+
+-- The block move takes the two addresses and the count, and copies a word in each step. Then the registers have what the loop leaves in them: the addresses of
+-- the last words, 0, and the last word.
+abbrev pub move_items : Copying → List AsmItem
+move_items y = item.Op (instr.Mov (RegReg 13 (register y.to))) ∷ item.Op (instr.Mov (RegReg 12 (register y.from)))
+    ∷ item.Op (instr.Mov (RegReg 11 (register y.count))) ∷ item.Op (instr.Plain MOVS) ∷ []
+
+abbrev pub back_items : Copying → List AsmItem
+back_items y = item.Op (instr.Lea (register y.from) 12 (Some (Left 0xFFFFFFFF))) ∷ item.Op (instr.Lea (register y.to) 13 (Some (Left 0xFFFFFFFF)))
+    ∷ item.Op (instr.Mov (RegReg (register y.count) 11)) ∷ item.Op (instr.Mov (RegAtReg (register y.cell) (register y.to))) ∷ []
+
+abbrev pub copy_items : Copying → List AsmItem
+copy_items y = move_items y ++ back_items y
+
+abbrev pub copy_or : Option Copying → (other : List AsmItem) → List AsmItem
+copy_or None other = other
+copy_or (Some y) other = copy_items y

@@ -1,5 +1,5 @@
 -- From the parts of a build of a checked source to the whole.
-use Rattle.std.proofs.Common.{ℕ, ◌≡◌, ◌≤◌, ◌⊎◌, inl, inr, List, ◌++◌, length, refl, sym, subst, ap, ◌∙◌}
+use Rattle.std.proofs.Common.{ℕ, ◌≡◌, ◌≤◌, ◌⊎◌, inl, inr, List, ◌++◌, length, refl, sym, subst, subst₂, ap, ◌∙◌}
 use Rattle.std.specs.Prelude.{Option, Some, None, Result, Ok, Err, Contains, IfOk, IfErr, IfSome, Vec}
 use Rattle.std.specs.declared.alloc.Global.{Global}
 use Rattle.kit_base.specs.Held.{Held}
@@ -11,7 +11,13 @@ use Rattle.project_text.specs.Reading.{project_of}
 use Rattle.project_text.proofs.Whole.{only}
 use Rattle.c_check.specs.View.{program}
 use Rattle.c_front.specs.declared.places.Places.{Places}
+use Rattle.c_types.specs.Programs.{ProgramT}
 use Rattle.c_image.specs.Imaging.{ImageT, IsImageOf}
+use Rattle.c_image.specs.MidImages.{IsMidOf}
+use Rattle.mid_code.specs.declared.placed.Where.{Where}
+use Rattle.mid_code.specs.Code.{CodeT}
+use Rattle.mid_code.specs.Whole.{mid}
+use Rattle.reg_frames.specs.Placeable.{places_of}
 use Rattle.build_core.specs.declared.building.Built.{Built}
 use Rattle.build_core.specs.declared.error.BuildErr.{BuildErr}
 use Rattle.build_core.specs.declared.error.BuildErr.TheVariants as errors
@@ -19,6 +25,7 @@ use Rattle.build_core.specs.declared.checked.Checked.{Checked}
 use Rattle.build_core.specs.Due.{project_due, texture_of, sound_of, all_of, assets}
 use Rattle.build_core.specs.Build.{HasImage, IsBuilt, cartridge_of}
 use Rattle.build_core.specs.BuiltFrom.{IsImageFrom, IsBuiltFrom, IsUnbuiltFrom, no_assets, too_large, BuildsFrom}
+use Rattle.build_core.specs.BuiltMid.{HasMid}
 use Rattle.build_core.specs.Causes.{IsOfContent, IsOfPacking}
 use Rattle.build_core.specs.Fronts.{IsFrontOf}
 use Rattle.build_core.specs.Gathered.{GivesBy, Gives, IsSourceOf}
@@ -37,6 +44,12 @@ none_due errors.Memory p k h = refl
 
 pub memory_alone : (text : List ℕ) → (parts : Project) × IsProject text parts → (e : BuildErr) → Gives {X = Project} (Err e) (project_due (project_of text)) → IsOfContent e → e ≡ errors.Memory
 memory_alone text grammar e h content = none_due e grammar.0 content (subst (λ r. Gives {X = Project} (Err e) (project_due r)) (only text grammar.0 grammar.1) h)
+
+-- the mid code that was packed is that of the image
+pub packed_mid : (p : ProgramT) (i : ImageT) (code : CodeT ℕ) (choices : List (List Where)) (r : Result Built BuildErr) → IsMidOf p i code choices → IfOk r (λ b. mid b.mid ≡ code) → IfOk r (λ b. places_of b.choices ≡ choices)
+    → IfOk r (λ b. IsMidOf p i (mid b.mid) (places_of b.choices))
+packed_mid p i code choices (Ok b) h e f = subst₂ (λ x ws. IsMidOf p i x ws) (sym e) (sym f) h
+packed_mid p i code choices (Err e) h k l = tt
 
 module _ (text : List ℕ) (p : Project) (is : IsProject text p) (s : Checked) where
   -- what is told of a build where this is the project's source
@@ -121,12 +134,18 @@ module _ (text : List ℕ) (p : Project) (is : IsProject text p) (s : Checked) w
               map_is = h.map_is;
               asm_is = h.asm_is;
               items_are = h.items_are;
-              mid_is = h.mid_is;
-              choices_is = h.choices_is;
               tokens_are = h.tokens_are ∙ ap (λ (places : Places). length places.tokens) source.of_unit.places;
             };
             image_is = image_from;
           }
+
+          has_mid : (b : Built) → IsPackedFrom p.title i (assets ts ss) (length s.places.tokens) b → IsMidOf (program s.program) i (mid b.mid) (places_of b.choices) → HasMid m text b
+          unfolding has_image is_built
+          has_mid b h is_mid = record { built = (is_built b h).built; is_mid = is_mid }
+
+          mids : (r : Result Built BuildErr) → IfOk r (IsPackedFrom p.title i (assets ts ss) (length s.places.tokens)) → IfOk r (λ b. IsMidOf (program s.program) i (mid b.mid) (places_of b.choices)) → IfOk r (HasMid m text)
+          mids (Ok b) h k = has_mid b h k
+          mids (Err e) h k = tt
 
           builds : (r : Result Built BuildErr) → IfOk r (IsPackedFrom p.title i (assets ts ss) (length s.places.tokens)) → IfErr r (IsOfPacking (cartridge_of p.title i (assets ts ss))) → BuildsFrom m text s r
           unfolding has_image
@@ -147,3 +166,10 @@ module _ (text : List ℕ) (p : Project) (is : IsProject text p) (s : Checked) w
         packed_told r names heard None h1 named named' textures same sounds h k = tt
         packed_told r names heard (Some m) h1 named named' textures same sounds h k = λ front.
             builds m (of_front m front) (textures_of m names named textures) (sounds_of m heard h1 named' same sounds) r h k
+
+        pub mid_told : (r : Result Built BuildErr) (names heard : List (List ℕ)) (h0 h1 : Option Held) → names ≡ p.textures → heard ≡ p.sounds → TexturesAre names h0 → h1 ≡ h0 → SoundsAre heard h1
+            → IfOk r (IsPackedFrom p.title i (assets ts ss) (length s.places.tokens)) → IfOk r (λ b. IsMidOf (program s.program) i (mid b.mid) (places_of b.choices))
+            → IfSome h0 (λ m. IsFrontOf m text s → IfOk r (HasMid m text))
+        mid_told r names heard None h1 named named' textures same sounds h k = tt
+        mid_told r names heard (Some m) h1 named named' textures same sounds h k = λ front.
+            mids m (of_front m front) (textures_of m names named textures) (sounds_of m heard h1 named' same sounds) r h k

@@ -1,6 +1,6 @@
 -- A build is the front, and then what is built of the checked source.
 use Rattle.std.proofs.Common.{ℕ, suc, ◌≡◌, List, sym, subst, arith}
-use Rattle.std.specs.Prelude.{Option, Some, None, Result, Ok, Err, Contains, IfErr, IfSome}
+use Rattle.std.specs.Prelude.{Option, Some, None, Result, Ok, Err, Contains, IfOk, IfErr, IfSome}
 use Rattle.kit_base.specs.Held.{Held}
 use Rattle.c_check.specs.View.{program}
 use Rattle.project_text.specs.declared.project.Project.{Project}
@@ -14,6 +14,7 @@ use Rattle.build_core.specs.declared.checked.Checked.{Checked}
 use Rattle.build_core.specs.Build.{Builds, IsUnbuilt, no_parts, rejected}
 use Rattle.build_core.specs.Build as build
 use Rattle.build_core.specs.BuiltFrom.{BuildsFrom, IsUnbuiltFrom, no_assets, too_large}
+use Rattle.build_core.specs.BuiltMid.{HasMid}
 use Rattle.build_core.specs.Causes.{CanCome, HasCauses, HasReadCauses, IsCartridgeTooLarge, IsOfBuilding, assets_in, files_in, assets_of}
 use Rattle.build_core.specs.Checked.{CanBeRefused, Checks, HasProgram, IsAccepted}
 use Rattle.build_core.specs.Fronts.{Fronts, IsFrontOf}
@@ -47,6 +48,11 @@ module _ (text : List ℕ) where
       → IfSome h0 (λ m. Builds m text r)
   built_told c r None h1 front same h = tt
   built_told c r (Some m) h1 front same h = of_checked m c r front (subst (λ x. IfSome x (λ m'. IsFrontOf m' text c → BuildsFrom m' text c r)) same h front)
+
+  pub built_mid : (c : Checked) (r : Result Built BuildErr) (h0 h1 : Option Held) → IfSome h0 (λ m. Fronts m text (Ok c)) → h1 ≡ h0 → IfSome h1 (λ m. IsFrontOf m text c → IfOk r (HasMid m text))
+      → IfSome h0 (λ m. IfOk r (HasMid m text))
+  built_mid c r None h1 front same h = tt
+  built_mid c r (Some m) h1 front same h = (subst (λ x. IfSome x (λ m'. IsFrontOf m' text c → IfOk r (HasMid m' text))) same h) front
 
   unchecked : (m : Held) (e : BuildErr) → Checks m text (Err e) → Builds m text (Err e)
   unchecked m (errors.Source a f l) h = no_parts (rejected h)

@@ -15,10 +15,8 @@ use Rattle.c_check.specs.Whole.{WellTyped}
 use Rattle.c_front.specs.declared.unit.Parsed.{Parsed}
 use Rattle.c_front.specs.Due.{IsUnit}
 use Rattle.c_front.specs.Over.{over}
-use Rattle.mid_code.specs.Whole.{mid}
 use Rattle.project_text.specs.declared.project.Project.{Project}
 use Rattle.project_text.specs.ProjectText.{IsProject}
-use Rattle.reg_frames.specs.Placeable.{places_of}
 use Rattle.c_image.specs.Imaging.{ImageT, IsImageOf}
 use Rattle.build_core.specs.declared.error.BuildErr.{BuildErr}
 use Rattle.build_core.specs.declared.error.BuildErr.TheVariants as errors
@@ -59,8 +57,8 @@ abbrev pub cartridge_of : (title : List ℕ) → ImageT → Assets → Cartridge
 cartridge_of title i a = record { title = title; program = i.words; textures = a.0; sounds = a.1; table = Some i.table }
 
 -- What was built of a project's text, from the files that are held: a cartridge with the project's title, an image of its program, and the textures
--- and sounds in the project's order; the map, the assembly text with its items, the mid code and the choices of this image; and how many tokens its
--- source stands for, with all that it includes.
+-- and sounds in the project's order; the map and the assembly text, with its items, of this image; and how many tokens its source stands for, with all
+-- that it includes.
 pub record IsBuilt (m : Held) (project : List ℕ) (b : Built) : Type 0 where
   pub of : HasImage m project
   pub textures : List Image
@@ -72,8 +70,6 @@ pub record IsBuilt (m : Held) (project : List ℕ) (b : Built) : Type 0 where
   pub map_is : b.map ≡ of.image.map
   pub asm_is : b.asm ≡ of.image.text
   pub items_are : b.items ≡ of.image.items
-  pub mid_is : mid b.mid ≡ of.image.mid
-  pub choices_is : places_of b.choices ≡ of.image.choices
   pub tokens_are : b.tokens ≡ length of.parsed.places.tokens
 
 -- The input of a build is refused: the project's text or its source, as by a check; or, where they are accepted, a texture or a sound.

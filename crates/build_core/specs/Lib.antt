@@ -4,6 +4,7 @@ pub mod Checked
 pub mod Starts
 pub mod Checkable
 pub mod Build
+pub mod BuiltMid
 pub mod Causes
 pub mod Reached
 pub mod Gathered

@@ -4,6 +4,7 @@ ghost use Rattle.project_text.specs.declared.project.Project.{Project};
 ghost use Rattle.project_text.specs.ProjectText.{IsProject};
 ghost use Rattle.build_core.specs.Build.{Builds, IsAsmText, IsCartText};
 ghost use Rattle.build_core.specs.BuiltFrom.{BuildsFrom};
+ghost use Rattle.build_core.specs.BuiltMid.{HasMid};
 ghost use Rattle.build_core.specs.Causes.{CanCome, HasCauses, IsOfBuilding};
 ghost use Rattle.build_core.specs.Fronts.{IsFrontOf};
 ghost use Rattle.build_core.specs.Reached.{FailsAt, IsReadBeside, IsReadToBuild};
@@ -49,6 +50,8 @@ pub fn build_from<F: Files>(
     // Where it is told what is held, and this is the project's source there, what was built is built of the project with an image of this source;
     // and a refusal is one that is due; unless a call of the files failed or memory ran out.
     ensures told { IfSome (F.held files.old) (λ m. IsFrontOf m project.now checked.now → BuildsFrom m project.now checked.now result) }
+    // The mid code and the choices are those between the program and the words.
+    ensures mid { IfSome (F.held files.old) (λ m. IsFrontOf m project.now checked.now → IfOk result (HasMid m project.now)) }
     // Where a call failed, it was at a texture or a sound of the project, and those before it were read and are of their grammar.
     ensures reached { IfSome (F.held files.old) (λ m. FailsAt (IsReadBeside m project.now) result) }
     // The cartridge is one that is read again.
@@ -89,6 +92,8 @@ pub fn build<F: Files>(alloc: Global, files: &mut F, project: &[u8]) -> Result<B
     // Where it is told what is held, what was built is an image of the source's program, whose words do what it means, with the project's textures
     // and sounds; and a refusal is one that is due; unless a call of the files failed or memory ran out.
     ensures told { IfSome (F.held files.old) (λ m. Builds m project.now result) }
+    // Of what was built, the mid code and the choices are those between the program and the words: the mid code has the program's runs and is settled.
+    ensures mid { IfSome (F.held files.old) (λ m. IfOk result (HasMid m project.now)) }
     // Where a call failed, it was at a file that is read to build the project, and those before it were read and are as they should.
     ensures reached { IfSome (F.held files.old) (λ m. FailsAt (IsReadToBuild m project.now) result) }
     // The cartridge is one that is read again.

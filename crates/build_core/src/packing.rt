@@ -4,6 +4,8 @@ ghost use Rattle.std.specs.List.{AllByRecursion};
 ghost use Rattle.asset_pack.specs.Texts.{HasSides, HasSamples};
 ghost use Rattle.project_text.specs.Grammar.{IsText};
 ghost use Rattle.cart_format.specs.Table.{is_table};
+ghost use Rattle.mid_code.specs.Whole.{mid};
+ghost use Rattle.reg_frames.specs.Placeable.{places_of};
 ghost use Rattle.c_image.specs.Imaging.{image};
 ghost use Rattle.build_core.specs.Due.{assets};
 ghost use Rattle.build_core.specs.Build.{IsCartText, cartridge_of};
@@ -18,12 +20,14 @@ use cart_format::{Cart, write_cart};
 use kit_base::{Name, Seq};
 use std::alloc::Global;
 
+/// What a texture keeps as a fact of its type. It does nothing: the proof has the fact from the call.
 fn has_sides(texture: &Texture)
     ensures { HasSides texture.now }
 {
     let _ = texture.pixels();
 }
 
+/// The same of each of them. The walk is for the proof alone.
 #[tactic(auto, using(crate::proofs::Limits::sides_more))]
 fn have_sides(textures: &[Texture])
     ensures { AllByRecursion HasSides textures.now }
@@ -33,12 +37,14 @@ fn have_sides(textures: &[Texture])
     }
 }
 
+/// What a sound keeps as a fact of its type. It does nothing: the proof has the fact from the call.
 fn has_samples(sound: &Sound)
     ensures { HasSamples sound.now }
 {
     let _ = sound.samples();
 }
 
+/// The same of each of them. The walk is for the proof alone.
 #[tactic(auto, using(crate::proofs::Limits::samples_more))]
 fn have_samples(sounds: &[Sound])
     ensures { AllByRecursion HasSamples sounds.now }
@@ -64,6 +70,8 @@ pub fn packed(
     requires textures { length textures.items ≤ 256 }
     requires sounds { length sounds.items ≤ 1024 }
     ensures packed { IfOk result (IsPackedFrom title (image made) (assets textures.items sounds.items) tokens) }
+    ensures mid { IfOk result (λ b. mid b.mid ≡ mid made.mid) }
+    ensures choices { IfOk result (λ b. places_of b.choices ≡ places_of made.choices.items) }
     ensures cartridge { IfOk result (λ b. IsCartText b.cart) }
     ensures kinds { IfErr result (IsOfPacking (cartridge_of title (image made) (assets textures.items sounds.items))) }
 {

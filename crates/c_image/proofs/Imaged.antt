@@ -35,6 +35,7 @@ use Rattle.c_image.specs.Mapping.{map_of}
 use Rattle.c_image.specs.Ordered.{LabelsInOrder}
 use Rattle.c_image.specs.Lines.{files_behind, rows_of, table_of}
 use Rattle.c_image.specs.Imaging.{AreStarts, IsImageOf, frame_sizes, global_addresses}
+use Rattle.c_image.specs.MidImages.{IsMidOf}
 use Rattle.c_image.proofs.LoopFree.{numbered}
 use Rattle.c_image.proofs.Files.{few_files, all_texts, texts_at, lines_at, told_behind}
 use Rattle.c_image.proofs.Mapped.{sizes_are, addresses_are}
@@ -91,7 +92,7 @@ module _ (p : ProgramT) (places : Places) (starts : List ℕ) (c : CompiledT) (w
     globals_are = ap global_addresses map_is ∙ addresses_are p.globals 0 (let total = sound.globals in omega (arith, total))
 
     pub is_image : (text : List ℕ) (table : LineTable) → text ≡ written c.items → read text ≡ Ok c.items → table ≡ table_of (address_in labels) p.functions os → length words ≤ 33554432
-        → IsImageOf p places starts (record { words = words; map = m; text = text; items = c.items; mid = c.mid; choices = c.choices; table = table })
+        → IsImageOf p places starts (record { words = words; map = m; text = text; items = c.items; table = table })
     is_image text table spelled reads table_is short = record {
       spelled = spelled;
       reads = reads;
@@ -108,16 +109,18 @@ module _ (p : ProgramT) (places : Places) (starts : List ℕ) (c : CompiledT) (w
         frames = subst (λ sizes. EachFits (setting p []) p.functions sizes) (sym frames_are) compiled.does.frames;
         small = let n = count c.items words labels compiled.emitted.faultless placed in let small = compiled.does.small in omega (arith, n, small);
       };
-      is_mid = record {
-        keeps = subst (λ sizes. KeepsRuns (c_runs p sizes) (mid_runs c.mid sizes)) (sym frames_are) compiled.does.keeps;
-        promoted = compiled.promoted;
-        settled = compiled.settled;
-        follows = subst₂ (λ at sizes. AgreesWithin 1 at (mid_runs c.mid sizes) words) (sym globals_are) (sym frames_are) (compiled.does.follows words labels placed);
-        safe = compiled.safe;
-        spares = compiled.spares;
-        frames = subst (λ sizes. FramesFit c.mid c.choices sizes) (sym frames_are) compiled.placed.frames;
-      };
       some = some;
       few = short;
       is_table = subst (λ t. is_table (length words) t ≡ true) (sym table_is) table_holds;
+    }
+
+    pub is_mid : (text : List ℕ) (table : LineTable) → IsMidOf p (record { words = words; map = m; text = text; items = c.items; table = table }) c.mid c.choices
+    is_mid text table = record {
+      keeps = subst (λ sizes. KeepsRuns (c_runs p sizes) (mid_runs c.mid sizes)) (sym frames_are) compiled.does.keeps;
+      promoted = compiled.promoted;
+      settled = compiled.settled;
+      follows = subst₂ (λ at sizes. AgreesWithin 1 at (mid_runs c.mid sizes) words) (sym globals_are) (sym frames_are) (compiled.does.follows words labels placed);
+      safe = compiled.safe;
+      spares = compiled.spares;
+      frames = subst (λ sizes. FramesFit c.mid c.choices sizes) (sym frames_are) compiled.placed.frames;
     }

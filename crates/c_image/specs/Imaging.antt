@@ -18,19 +18,8 @@ use Rattle.c_meaning.specs.Runs.{c_runs}
 use Rattle.c_meaning.specs.Frames.{EachFits}
 use Rattle.cart_format.specs.Table.{is_table}
 use Rattle.cart_format.specs.declared.row.LineTable.{LineTable}
-use Rattle.mid_code.specs.declared.placed.Where.{Where}
 use Rattle.mid_code.specs.Agrees.{AgreesWithin}
-use Rattle.mid_code.specs.Choices.{AreSafe}
-use Rattle.mid_code.specs.Code.{CodeT}
-use Rattle.mid_code.specs.Keeps.{KeepsRuns}
-use Rattle.mid_code.specs.Plain.{IsPromoted}
-use Rattle.mid_code.specs.Runs.{mid_runs}
-use Rattle.mid_code.specs.Whole.{mid}
-use Rattle.mid_improve.specs.Settled.{IsSettled}
 use Rattle.project_text.specs.declared.map.Map.{Map}
-use Rattle.reg_choose.specs.Each.{AllSpare}
-use Rattle.reg_frames.specs.Placeable.{places_of}
-use Rattle.reg_frames.specs.PlacedFrom.{FramesFit}
 use Rattle.asm_laws.specs.Labelled.{label_of_function}
 use Rattle.asm_laws.specs.Numbers.{behind}
 use Rattle.cycle_bound.specs.Forward.{HasNumber}
@@ -40,15 +29,12 @@ use Rattle.c_image.specs.Mapping.{map_of}
 use Rattle.c_image.specs.Lines.{table_of}
 use Rattle.c_image.specs.declared.imaging.Image.{Image}
 
--- The words of a program, its map, its assembly text, the items that this is written from, the mid code for which places were chosen, the choices,
--- that of the start first, and its line table.
+-- The words of a program, its map, its assembly text, the items that this is written from, and its line table.
 pub record ImageT : Type 0 where
   pub words : List ℕ
   pub map : Map
   pub text : List ℕ
   pub items : List AsmItem
-  pub mid : CodeT ℕ
-  pub choices : List (List Where)
   pub table : LineTable
 
 abbrev pub image : Image → ImageT
@@ -57,8 +43,6 @@ image i = record {
   map = i.map;
   text = i.text.items;
   items = i.items.items;
-  mid = mid i.mid;
-  choices = places_of i.choices.items;
   table = record { files = i.files.items; rows = i.rows.items };
 }
 
@@ -87,20 +71,6 @@ pub record DoesAsMeant (p : ProgramT) (i : ImageT) : Type 0 where
   -- the words are few
   pub small : length i.words ≤ 128 * program_nodes p + sum_by (λ text. length text + 1) p.literals + 64
 
--- The mid code of an image, and the choice of a register or slot for each of its temporaries.
-pub record IsMidOf (p : ProgramT) (i : ImageT) : Type 0 where
-  -- it has the runs of the program, and no local of one word whose address is never taken
-  pub keeps : KeepsRuns (c_runs p (frame_sizes i.map)) (mid_runs i.mid (frame_sizes i.map))
-  pub promoted : IsPromoted i.mid
-  -- it has no operator whose words are known, no copy as an operand, and nothing that only puts what nothing reads
-  pub settled : IsSettled i.mid
-  -- the words do what it means, in at most as many instructions as its work, and 64, where it does not stray
-  pub follows : AgreesWithin 1 (global_addresses i.map) (mid_runs i.mid (frame_sizes i.map)) i.words
-  -- the choices are safe, and have no slot where they need none; the frames are at most the words of the locals, the slots and 16
-  pub safe : AreSafe i.mid i.choices
-  pub spares : AllSpare i.mid i.choices
-  pub frames : FramesFit i.mid i.choices (frame_sizes i.map)
-
 -- The image of a program whose functions begin at these tokens.
 pub record IsImageOf (p : ProgramT) (places : Places) (starts : List ℕ) (i : ImageT) : Type 0 where
   -- the text is the written form of the items and reads as them, and the words are those that these are placed as
@@ -120,7 +90,6 @@ pub record IsImageOf (p : ProgramT) (places : Places) (starts : List ℕ) (i : I
   pub map_is : i.map ≡ map_of p (frame_sizes i.map) (length i.words) (address_in labels)
   pub table_is : i.table ≡ table_of (address_in labels) p.functions (map (place_at places) starts)
   pub does : DoesAsMeant p i
-  pub is_mid : IsMidOf p i
   -- a cartridge may have these words and this table
   pub some : 1 ≤ length i.words
   pub few : length i.words ≤ 33554432

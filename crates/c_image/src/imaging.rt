@@ -4,7 +4,10 @@ ghost use Rattle.c_check.specs.View.{program};
 ghost use Rattle.c_compile.specs.Compiling.{compiled, IsCompiled};
 ghost use Rattle.c_front.specs.Places.{place_at};
 ghost use Rattle.assembler.specs.Labels.{address_in};
+ghost use Rattle.mid_code.specs.Whole.{mid};
+ghost use Rattle.reg_frames.specs.Placeable.{places_of};
 ghost use Rattle.c_image.specs.Imaging.{image, AreStarts, IsImageOf};
+ghost use Rattle.c_image.specs.MidImages.{IsMidOf};
 ghost use Rattle.c_image.specs.Lines.{files_behind, rows_of};
 ghost use Rattle.c_image.specs.Mapping.{map_of};
 
@@ -80,6 +83,7 @@ fn image_compiled(
     requires compiled { IsCompiled (program checked.now) (compiled made) }
     requires starts { AreStarts (program checked.now) places.now starts.now }
     ensures image { IfOk result (λ i. IsImageOf (program checked.now) places.now starts.now (image i)) }
+    ensures mid { IfOk result (λ i. IsMidOf (program checked.now) (image i) (mid i.mid) (places_of i.choices.items)) }
 {
     programs_are_sound(checked);
     let Assembled { text, placement } = assemble_items(alloc, &made.items)?;
@@ -122,6 +126,7 @@ pub fn image_of(
 ) -> Result<Image, Memory>
     requires starts { AreStarts (program checked.now) places.now starts.now }
     ensures image { IfOk result (λ i. IsImageOf (program checked.now) places.now starts.now (image i)) }
+    ensures mid { IfOk result (λ i. IsMidOf (program checked.now) (image i) (mid i.mid) (places_of i.choices.items)) }
 {
     let compiled = compile(alloc, checked)?;
     image_compiled(alloc, checked, compiled, places, starts)

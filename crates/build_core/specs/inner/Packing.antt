@@ -1,8 +1,6 @@
 -- What is packed of an image. Only private clauses cite this.
 use Rattle.std.specs.Prelude.{ℕ, ◌≡◌, List}
 use Rattle.cart_format.specs.Cartridge.{IsCartridge, cart_text}
-use Rattle.mid_code.specs.Whole.{mid}
-use Rattle.reg_frames.specs.Placeable.{places_of}
 use Rattle.c_image.specs.Imaging.{ImageT}
 use Rattle.build_core.specs.declared.building.Built.{Built}
 use Rattle.build_core.specs.Due.{Assets}
@@ -14,6 +12,4 @@ pub record IsPackedFrom (title : List ℕ) (i : ImageT) (a : Assets) (tokens : �
   pub map_is : b.map ≡ i.map
   pub asm_is : b.asm ≡ i.text
   pub items_are : b.items ≡ i.items
-  pub mid_is : mid b.mid ≡ i.mid
-  pub choices_is : places_of b.choices ≡ i.choices
   pub tokens_are : b.tokens ≡ tokens

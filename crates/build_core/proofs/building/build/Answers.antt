@@ -1,9 +1,13 @@
-use Rattle.build_core.proofs.InOrder.{built_told, built_reached, built_kinds, built_causes, unchecked_told, unchecked_reached, unchecked_kinds}
+use Rattle.build_core.proofs.InOrder.{built_told, built_mid, built_reached, built_kinds, built_causes, unchecked_told, unchecked_reached, unchecked_kinds}
 use Rattle.build_core.proofs.building.build.Goals as goal
 
 pub returns-in-Ok-clause-told : goal.returns-in-Ok-clause-told
 returns-in-Ok-clause-told g c =
     built_told c.args.project.now c.in-Ok.checked c.build_from.result (g.F.Reads.held c.args.files.now) (g.F.Reads.held c.front.new.files) c.in-Ok.ensures.told c.in-Ok.ensures.held c.build_from.ensures.told
+
+pub returns-in-Ok-clause-mid : goal.returns-in-Ok-clause-mid
+returns-in-Ok-clause-mid g c =
+    built_mid c.args.project.now c.in-Ok.checked c.build_from.result (g.F.Reads.held c.args.files.now) (g.F.Reads.held c.front.new.files) c.in-Ok.ensures.told c.in-Ok.ensures.held c.build_from.ensures.mid
 
 pub returns-in-Ok-clause-reached : goal.returns-in-Ok-clause-reached
 returns-in-Ok-clause-reached g c =

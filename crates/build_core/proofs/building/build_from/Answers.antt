@@ -7,7 +7,7 @@ use Rattle.c_check.specs.View.{program}
 use Rattle.c_image.specs.Imaging.{IsImageOf, image}
 use Rattle.build_core.proofs.Projects.{title_is_text, textures_are_texts, sounds_are_texts}
 use Rattle.build_core.proofs.Refusals.{memory_comes, textures_come, sounds_come, packed_comes, packing_causes}
-use Rattle.build_core.proofs.Builds.{memory_alone, memory_told, textures_told, sounds_told, packed_told}
+use Rattle.build_core.proofs.Builds.{memory_alone, memory_told, textures_told, sounds_told, packed_told, packed_mid, mid_told}
 use Rattle.build_core.specs.Due.{assets}
 use Rattle.build_core.specs.inner.Packing.{IsPackedFrom}
 use Rattle.build_core.specs.declared.building.Built.{Built}
@@ -80,6 +80,18 @@ returns-clause-told g c =
     c.as_slice.ensures c.as_slice-2.ensures c.in-Ok-read_assets.ensures.told c.in-Ok-read_assets.ensures.held c.in-Ok-read_assets-2.ensures.told
     (subst (λ tokens. IfOk c.packed.result (IsPackedFrom c.in-Ok.parts.title (image c.in-Ok-image_of.made) (assets c.in-Ok-read_assets.textures.items c.in-Ok-read_assets-2.sounds.items) tokens)) c.token_count-tokens.ensures c.packed.ensures.packed)
     c.packed.ensures.kinds
+
+pub returns-clause-mid : goal.returns-clause-mid
+returns-clause-mid g c =
+    let source = c.args.checked.now in
+    let i = image c.in-Ok-image_of.made in
+    let made : IsImageOf (program source.program) source.places source.starts.items i =
+    subst (λ starts. IsImageOf (program source.program) source.places starts i) c.deref.ensures.value c.in-Ok-image_of.ensures.image in
+    mid_told c.args.project.now c.in-Ok.parts c.in-Ok.ensures.found source c.in-Ok-read_assets.textures.items c.in-Ok-read_assets-2.sounds.items i made c.packed.result
+    c.as_slice.result.now c.as_slice-2.result.now (g.F.Reads.held c.args.files.now) (g.F.Reads.held c.read_assets.new.files)
+    c.as_slice.ensures c.as_slice-2.ensures c.in-Ok-read_assets.ensures.told c.in-Ok-read_assets.ensures.held c.in-Ok-read_assets-2.ensures.told
+    (subst (λ tokens. IfOk c.packed.result (IsPackedFrom c.in-Ok.parts.title i (assets c.in-Ok-read_assets.textures.items c.in-Ok-read_assets-2.sounds.items) tokens)) c.token_count-tokens.ensures c.packed.ensures.packed)
+    (packed_mid (program source.program) i _ _ c.packed.result c.in-Ok-image_of.ensures.mid c.packed.ensures.mid c.packed.ensures.choices)
 
 pub returns-clause-asm : goal.returns-clause-asm
 returns-clause-asm g c =

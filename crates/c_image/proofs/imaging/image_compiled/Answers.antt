@@ -9,7 +9,7 @@ use Rattle.c_compile.specs.Compiling.{compiled}
 use Rattle.c_front.specs.Places.{place_at}
 use Rattle.c_image.specs.Lines.{files_behind, rows_of}
 use Rattle.c_image.specs.Mapping.{map_of}
-use Rattle.c_image.proofs.Imaged.{is_image}
+use Rattle.c_image.proofs.Imaged.{is_image, is_mid}
 use Rattle.c_image.proofs.imaging.image_compiled.Goals as goal
 
 pub returns : goal.returns
@@ -27,4 +27,6 @@ returns c =
     record {
       image = is_image (program c.args.checked.now) c.args.places.now c.args.starts.now made words labels c.requires.compiled c.requires.starts c.programs_are_sound.ensures.sound stand
           c.in_ok-map.field-0.map map_is c.in_ok-text.field-0.text.items _ spelled reads (λ i. record { files = files i; rows = rows i }) few;
+      mid = is_mid (program c.args.checked.now) c.args.places.now c.args.starts.now made words labels c.requires.compiled c.requires.starts c.programs_are_sound.ensures.sound stand
+          c.in_ok-map.field-0.map map_is c.in_ok-text.field-0.text.items _;
     }

@@ -216,8 +216,8 @@ fn functions(all: &[TFunction])
     }
 }
 
-/// The numbers of a program's nodes and labels are below 2^32, and so are those of its tokens. It walks over the program once, and takes no
-/// memory.
+/// The numbers of a program's nodes and labels are below 2^32, and so are those of its tokens. It walks over the program once, for the proof alone, since
+/// what a number in memory is limited to is known of a number at hand; it takes no memory.
 pub fn numbers_are_words(checked: &Program)
     ensures words { NumbersAreWords (program checked.now) }
 {

@@ -33,18 +33,18 @@ six l a b c d e f = ap (λ z. z ++ e ++ f) (four l a b c d) ∙ ap (λ z. z ++ f
 three : {A : Type 0} (l a b c : List A) → l ++ a ++ b ++ c ≡ l ++ (a ++ b ++ c)
 three l a b c = ap (λ z. z ++ c) (append_assoc l a b) ∙ append_assoc l (a ++ b) c
 
-pub index_nodes : (h : Shape) (k : TKindT) (x y : TExprT) (ty : Ty) (t n m u v : ℕ) (l p q : Listing) → k ≡ IndexK x y → u ≡ second x n → v ≡ beyond h x m
-    → p ≡ l ++ low_value h x n (n + 1) m → q ≡ p ++ low_value h y u (u + 1) v ++ stepped (words h ty) t n u (second y u) → q ≡ l ++ low_kind h k ty t n m
-index_nodes h k x y ty t n m u v l p q e eu ev a b =
+pub index_nodes : (h : Shape) (k : TKindT) (x y : TExprT) (ty : Ty) (t n m w u v : ℕ) (l p q : Listing) → k ≡ IndexK x y → w ≡ n → u ≡ second x n → v ≡ beyond h x m
+    → p ≡ l ++ low_value h x n (n + 1) m → q ≡ p ++ low_value h y u (u + 1) v ++ stepped (words h ty) t w u (second y u) → q ≡ l ++ low_kind h k ty t n m
+index_nodes h k x y ty t n m w u v l p q e ew eu ev a b =
     subst (λ z. q ≡ l ++ low_kind h z ty t n m) (sym e)
-    (b ∙ (λ i. a i ++ low_value h y (eu i) (eu i + 1) (ev i) ++ stepped (words h ty) t n (eu i) (second y (eu i)))
+    (b ∙ (λ i. a i ++ low_value h y (eu i) (eu i + 1) (ev i) ++ stepped (words h ty) t (ew i) (eu i) (second y (eu i)))
     ∙ three l (low_value h x n (n + 1) m) (low_value h y (second x n) (second x n + 1) (beyond h x m)) (stepped (words h ty) t n (second x n) (size_at x y n)))
 
-pub binary_nodes : (h : Shape) (k : TKindT) (op : BinOp) (x y : TExprT) (of ty : Ty) (t n m u v : ℕ) (l p q : Listing) → k ≡ BinaryK op x y → lazy_of op ≡ None → of ≡ type_of x → u ≡ second x n → v ≡ beyond h x m
-    → p ≡ l ++ low_value h x n (n + 1) m → q ≡ p ++ low_value h y u (u + 1) v ++ operated h op of (type_of y) t n u (second y u) → q ≡ l ++ low_kind h k ty t n m
-binary_nodes h k op x y of ty t n m u v l p q e none ex eu ev a b =
+pub binary_nodes : (h : Shape) (k : TKindT) (op : BinOp) (x y : TExprT) (of ty : Ty) (t n m w u v : ℕ) (l p q : Listing) → k ≡ BinaryK op x y → lazy_of op ≡ None → of ≡ type_of x → w ≡ n → u ≡ second x n → v ≡ beyond h x m
+    → p ≡ l ++ low_value h x n (n + 1) m → q ≡ p ++ low_value h y u (u + 1) v ++ operated h op of (type_of y) t w u (second y u) → q ≡ l ++ low_kind h k ty t n m
+binary_nodes h k op x y of ty t n m w u v l p q e none ex ew eu ev a b =
     let all : q ≡ l ++ binary_by None h op x y (low h x) (low h y) t n m =
-    b ∙ (λ i. a i ++ low_value h y (eu i) (eu i + 1) (ev i) ++ operated h op (ex i) (type_of y) t n (eu i) (second y (eu i)))
+    b ∙ (λ i. a i ++ low_value h y (eu i) (eu i + 1) (ev i) ++ operated h op (ex i) (type_of y) t (ew i) (eu i) (second y (eu i)))
     ∙ three l (low_value h x n (n + 1) m) (low_value h y (second x n) (second x n + 1) (beyond h x m)) (operated h op (type_of x) (type_of y) t n (second x n) (size_at x y n)) in
     subst (λ z. q ≡ l ++ low_kind h z ty t n m) (sym e) (subst (λ z. q ≡ l ++ binary_by z h op x y (low h x) (low h y) t n m) (sym none) all)
 
@@ -56,21 +56,21 @@ lazy_nodes h k op and x y ty t n m u v l p q e some eu ev a b =
     ∙ append_assoc l (low_test h x t n m) (lazy_choice and t (low_test h y t (second x n) (beyond h x m) ++ as_flag (tests_flag y) t) ∷ []) in
     subst (λ z. q ≡ l ++ low_kind h z ty t n m) (sym e) (subst (λ z. q ≡ l ++ binary_by z h op x y (low h x) (low h y) t n m) (sym some) all)
 
-pub assign_nodes : (h : Shape) (k : TKindT) (x y : TExprT) (of ty : Ty) (t n m u v : ℕ) (l p q : Listing) → k ≡ AssignK None x y → of ≡ type_of x → u ≡ behind_place x n → v ≡ m + length (sizes h x)
-    → p ≡ l ++ low h x n (n + 1) m → q ≡ p ++ low_value h y t (u + 2) v ++ converted of (is_flag y) t ++ stored h of n t → q ≡ l ++ low_kind h k ty t n m
-assign_nodes h k x y of ty t n m u v l p q e ex eu ev a b =
+pub assign_nodes : (h : Shape) (k : TKindT) (x y : TExprT) (of ty : Ty) (t n m w u v : ℕ) (l p q : Listing) → k ≡ AssignK None x y → of ≡ type_of x → w ≡ n → u ≡ behind_place x n → v ≡ m + length (sizes h x)
+    → p ≡ l ++ low h x n (n + 1) m → q ≡ p ++ low_value h y t (u + 2) v ++ converted of (is_flag y) t ++ stored h of w t → q ≡ l ++ low_kind h k ty t n m
+assign_nodes h k x y of ty t n m w u v l p q e ex ew eu ev a b =
     subst (λ z. q ≡ l ++ low_kind h z ty t n m) (sym e)
-    (b ∙ (λ i. a i ++ low_value h y t (eu i + 2) (ev i) ++ converted (ex i) (is_flag y) t ++ stored h (ex i) n t)
+    (b ∙ (λ i. a i ++ low_value h y t (eu i + 2) (ev i) ++ converted (ex i) (is_flag y) t ++ stored h (ex i) (ew i) t)
     ∙ four l (low h x n (n + 1) m) (low_value h y t (behind_place x n + 2) (m + length (sizes h x))) (converted (type_of x) (is_flag y) t) (stored h (type_of x) n t))
 
-pub compound_nodes : (h : Shape) (k : TKindT) (op : BinOp) (x y : TExprT) (of ty : Ty) (t n m u v : ℕ) (l p q : Listing) → k ≡ AssignK (Some op) x y → of ≡ type_of x → u ≡ behind_place x n → v ≡ m + length (sizes h x)
+pub compound_nodes : (h : Shape) (k : TKindT) (op : BinOp) (x y : TExprT) (of ty : Ty) (t n m w u v : ℕ) (l p q : Listing) → k ≡ AssignK (Some op) x y → of ≡ type_of x → w ≡ n → u ≡ behind_place x n → v ≡ m + length (sizes h x)
     → p ≡ l ++ low h x n (n + 1) m
-    → q ≡ p ++ low_value h y u (u + 2) v ++ (DoN (o.Load t n) ∷ []) ++ operated h op of (type_of y) t t u (u + 1) ++ converted of false t ++ (DoN (o.Store n t) ∷ []) → q ≡ l ++ low_kind h k ty t n m
-compound_nodes h k op x y of ty t n m u v l p q e ex eu ev a b =
-    let w = behind_place x n in
+    → q ≡ p ++ low_value h y u (u + 2) v ++ (DoN (o.Load t w) ∷ []) ++ operated h op of (type_of y) t t u (u + 1) ++ converted of false t ++ (DoN (o.Store w t) ∷ []) → q ≡ l ++ low_kind h k ty t n m
+compound_nodes h k op x y of ty t n m w u v l p q e ex ew eu ev a b =
+    let from = behind_place x n in
     subst (λ z. q ≡ l ++ low_kind h z ty t n m) (sym e)
-    (b ∙ (λ i. a i ++ low_value h y (eu i) (eu i + 2) (ev i) ++ (DoN (o.Load t n) ∷ []) ++ operated h op (ex i) (type_of y) t t (eu i) (eu i + 1) ++ converted (ex i) false t ++ (DoN (o.Store n t) ∷ []))
-    ∙ six l (low h x n (n + 1) m) (low_value h y w (w + 2) (m + length (sizes h x))) (DoN (o.Load t n) ∷ []) (operated h op (type_of x) (type_of y) t t w (w + 1)) (converted (type_of x) false t) (DoN (o.Store n t) ∷ []))
+    (b ∙ (λ i. a i ++ low_value h y (eu i) (eu i + 2) (ev i) ++ (DoN (o.Load t (ew i)) ∷ []) ++ operated h op (ex i) (type_of y) t t (eu i) (eu i + 1) ++ converted (ex i) false t ++ (DoN (o.Store (ew i) t) ∷ []))
+    ∙ six l (low h x n (n + 1) m) (low_value h y from (from + 2) (m + length (sizes h x))) (DoN (o.Load t n) ∷ []) (operated h op (type_of x) (type_of y) t t from (from + 1)) (converted (type_of x) false t) (DoN (o.Store n t) ∷ []))
 
 -- ---- sizes
 

@@ -1,25 +1,13 @@
 -- What is appended piece by piece for a statement is what is told of its form.
-use Rattle.std.proofs.Common.{◌≡◌, ◌≤◌, ℕ, ◌+◌, arith, List, [], ◌∷◌, ◌++◌, length, length-append, Option, Some, map, sym, ap, ◌∙◌, subst}
-use Rattle.c_types.specs.Types.{Ty}
+use Rattle.std.proofs.Common.{◌≡◌, ◌≤◌, ℕ, ◌+◌, arith, List, [], ◌∷◌, ◌++◌, length, length-append, Option, map, ap, ◌∙◌}
 use Rattle.c_types.specs.View.{tarm, tarms}
 use Rattle.c_types.specs.Nodes.{statement_nodes, arm_nodes, arms_nodes}
 use Rattle.c_types.specs.declared.typed.TArm.{TArm}
 use Rattle.c_types.specs.Typed.{TExprT, TStmtT, BlockZ, EmptyZ, VarsZ, DoZ, IfZ, WhileZ, DoWhileZ, ForZ, SwitchZ, ReturnZ, BreakZ, ContinueZ, MaybeZ, TArmT, CaseB, DefaultB, StmtB, TArmTs}
 use Rattle.lower_trees.specs.Shape.{Shape}
-use Rattle.lower_trees.specs.Flags.{is_flag}
 use Rattle.lower_trees.specs.Parts.{one}
 use Rattle.lower_trees.specs.Counts.{maybe_sizes, value_sizes, stmt_sizes, other_sizes, arms_sizes}
-use Rattle.lower_trees.specs.Statements.{Jump}
-use Rattle.lower_trees.specs.ListedParts.{Listing, converted, made}
-use Rattle.lower_trees.specs.ListedExpressions.{low_value}
-use Rattle.lower_trees.specs.ListedStatements.{returned, low_stmt}
-use Rattle.lower_trees.proofs.Joins.{joined_thrice}
-
--- ---- nodes
-
-pub return_nodes : (h : Shape) (ty : Ty) (s : TStmtT) (x : TExprT) (n m b : ℕ) (j : Jump) (l p q r : Listing) → s ≡ ReturnZ (Some x) → p ≡ l ++ low_value h x n (n + 1) m → q ≡ p ++ converted ty (is_flag x) n → r ≡ q ++ returned h ty n
-    → r ≡ l ++ low_stmt h ty s n m b j
-return_nodes h ty s x n m b j l p q r e a c d = subst (λ z. r ≡ l ++ low_stmt h ty z n m b j) (sym e) (joined_thrice l p q r (low_value h x n (n + 1) m) (converted ty (is_flag x) n) (returned h ty n) a c d)
+use Rattle.lower_trees.specs.ListedParts.{made}
 
 -- ---- how many they are
 

@@ -1,15 +1,10 @@
 -- What types and lists in memory stand for.
-use Rattle.std.proofs.Common.{◌≡◌, ◌≤◌, ℕ, zero, List, [], ◌∷◌, map, ap, sym, ◌∙◌, rules, arith, suc, ◌+◌, ◌<◌, length, drop, drop-cons, get_or}
-use Rattle.c_types.specs.View.{ctype, texpr, tstmt, tstmts, tarm, tarms}
+use Rattle.std.proofs.Common.{◌≡◌, ◌≤◌, ℕ, zero, List, [], ◌∷◌, map, ap, sym, ◌∙◌, arith, suc, ◌+◌, ◌<◌, length, drop, drop-cons, get_or}
+use Rattle.c_types.specs.View.{tstmt, tstmts, tarm, tarms}
 use Rattle.c_types.specs.Typed.{MoreZ, MoreB}
 use Rattle.c_types.specs.Nodes.{statements_nodes, arms_nodes}
 use Rattle.c_types.specs.declared.typed.TStmt.{TStmt}
 use Rattle.c_types.specs.declared.typed.TArm.{TArm}
-use Rattle.c_types.specs.declared.typed.TExpr.{TExpr, the_lemmas}
-use Rattle.c_meaning.specs.Kinds.{type_of}
-
-pub type_is : (x : TExpr) → type_of (texpr x) ≡ ctype x.ty
-type_is x = search (rules, the_lemmas)
 
 -- ---- what is left of a list
 

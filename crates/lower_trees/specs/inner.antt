@@ -1,2 +1,3 @@
 pub mod MaybeTypes
 pub mod MaybeStatements
+pub mod StatementParts

@@ -6,19 +6,22 @@ ghost use Rattle.c_meaning.specs.Kinds.{type_of, decayed};
 ghost use Rattle.mid_code.specs.Functions.{DoN, node};
 ghost use Rattle.lower_trees.specs.Shape.{words, params_of, result_of};
 ghost use Rattle.lower_trees.specs.Flags.{is_flag, tests_flag};
-ghost use Rattle.lower_trees.specs.Counts.{size_temps, temps, temps_of, temps_all, value_temps, sizes, sizes_of, sizes_all, value_sizes, one_size};
-ghost use Rattle.lower_trees.specs.Expressions.{second, spots};
+ghost use Rattle.lower_trees.specs.Counts.{size_temps, unary_temps, temps, temps_of, temps_all, value_temps};
+ghost use Rattle.lower_trees.specs.Counts.{unary_sizes, sizes, sizes_of, sizes_all, value_sizes, one_size};
+ghost use Rattle.lower_trees.specs.Expressions.{second, beyond, behind_place, spots};
 ghost use Rattle.lower_trees.specs.ListedParts.{moved_by, structure_read, as_flag, converted, stored, stepped, operated, negated_as};
-ghost use Rattle.lower_trees.specs.ListedExpressions.{low, low_kind, low_value, low_test, low_args, lazy_choice, step_taken, member_of, called};
+ghost use Rattle.lower_trees.specs.ListedExpressions.{unary, low, low_kind, low_value, low_test, low_args};
+ghost use Rattle.lower_trees.specs.ListedExpressions.{lazy_choice, step_taken, member_of, called};
 ghost use Rattle.lower_trees.specs.View.{shape_of, tkind};
 
 use crate::at::{At, from};
 use crate::finishing::{
-    assign, call, choose_lazy, compound, convert_first, later, lead, member, step, take_structure,
+    Callee, assign, call, choose_lazy, compound, convert_first, later, lead, member, step,
+    take_structure,
 };
 use crate::kinds::{counts_up, gives_old, is_flag, is_place, lazy_of, tests_flag};
 use crate::last::{convert_last, move_last, negate_last, put_last, step_last, test_last};
-use crate::operands::Operands;
+use crate::operands::{First, Member, Operands};
 use crate::operating::operate;
 use crate::reading::Reading;
 use c_exprs::keeping;
@@ -155,18 +158,11 @@ fn kind(
         TKind::Literal(number) => put_last(out, Op::Literal(t, *number), at),
         TKind::Global(number) => put_last(out, Op::Global(t, *number), at),
         TKind::Local(number) => put_last(out, Op::Local(t, *number), at),
-        TKind::Unary(op, x) => match op {
-            UnOp::Deref => value(s, x, t, at, out, structures),
-            UnOp::Address => low(s, x, t, at, out, structures),
-            UnOp::Plus => value(s, x, t, at, out, structures),
-            UnOp::Not => negation(s, x, t, at, out, structures),
-            UnOp::Minus => value_then(s, x, Op::One(One::ISGN, t, t), t, at, out, structures),
-            UnOp::Flip => value_then(s, x, Op::One(One::NOT, t, t), t, at, out, structures),
-        },
+        TKind::Unary(op, x) => unary(s, *op, x, t, at, out, structures),
         TKind::Binary(op, x, y) => match lazy_of(*op) {
             None => {
-                let first = value(s, x, at.next, from(at.next + 1, at.local), out, structures)?;
-                operation(s, y, *op, &x.ty, t, at.next, first, out, structures)
+                let first = first_value(s, x, at, out, structures)?;
+                operation(s, y, *op, first, t, out, structures)
             }
             Some(and) => {
                 let first = test(s, x, t, at, out, structures)?;
@@ -174,19 +170,22 @@ fn kind(
             }
         },
         TKind::Assign(None, x, y) => {
-            let place = low(s, x, at.next, from(at.next + 1, at.local), out, structures)?;
-            assignment(s, y, &x.ty, t, at.next, place, out, structures)
+            let place = first_place(s, x, at, out, structures)?;
+            assignment(s, y, place, t, out, structures)
         }
         TKind::Assign(Some(op), x, y) => {
-            let place = low(s, x, at.next, from(at.next + 1, at.local), out, structures)?;
-            compound_assignment(s, y, *op, &x.ty, t, at.next, place, out, structures)
+            let place = first_place(s, x, at, out, structures)?;
+            compound_assignment(s, y, *op, place, t, out, structures)
         }
         TKind::Step(op, x) => step_of(s, *op, x, t, at, out, structures),
         TKind::Index(x, y) => {
-            let first = value(s, x, at.next, from(at.next + 1, at.local), out, structures)?;
-            element(s, y, ty, t, at.next, first, out, structures)
+            let first = first_value(s, x, at, out, structures)?;
+            element(s, y, ty, first, t, out, structures)
         }
-        TKind::Member(x, offset) => member_at(s, x, *offset, ty, t, at, out, structures),
+        TKind::Member(x, offset) => {
+            let offset = *offset;
+            member_at(s, x, Member { offset, ty }, t, at, out, structures)
+        }
         TKind::Arrow(x, offset) => arrow(s, x, *offset, t, at, out, structures),
         TKind::Cast(x) => cast(s, x, ty, t, at, out, structures),
         TKind::Call(f, xs) => call_of(s, *f, xs.as_slice(), t, at, out, structures),
@@ -195,6 +194,38 @@ fn kind(
         TKind::Wait => put_last(out, Op::Wait, at),
         TKind::Halt => put_last(out, Op::Halt, at),
         TKind::Card => put_last(out, Op::Card(t), at),
+    }
+}
+
+/// The value of a unary operator.
+#[cycle(lower)]
+#[tactic(auto, using(crate::proofs::Joins::length_both))]
+fn unary(
+    s: &Reading<'_>,
+    op: UnOp,
+    x: &TExpr,
+    t: u32,
+    at: At,
+    out: &mut Vec<Node<u32>>,
+    structures: &mut Vec<u32>,
+) -> Result<At, Memory>
+    requires temps { at.next + unary_temps op (texpr x.now) (temps (texpr x.now)) ≤ 1000000 }
+    requires locals { at.local + length (unary_sizes (shape_of s.now) op (texpr x.now) (sizes (shape_of s.now) (texpr x.now))) ≤ 1000000 }
+    ensures nodes { OnOk result (map node out.new.items ≡ map node out.old.items
+        ++ unary (shape_of s.now) op (texpr x.now) (low (shape_of s.now) (texpr x.now)) t at.next at.local) }
+    ensures sizes { OnOk result (structures.new.items ≡ structures.old.items
+        ++ unary_sizes (shape_of s.now) op (texpr x.now) (sizes (shape_of s.now) (texpr x.now))) }
+    ensures next { IfOk result (λ r. r.next ≡ at.next + unary_temps op (texpr x.now) (temps (texpr x.now))) }
+    ensures local { IfOk result (λ r. r.local
+        ≡ at.local + length (unary_sizes (shape_of s.now) op (texpr x.now) (sizes (shape_of s.now) (texpr x.now)))) }
+{
+    match op {
+        UnOp::Deref => value(s, x, t, at, out, structures),
+        UnOp::Address => low(s, x, t, at, out, structures),
+        UnOp::Plus => value(s, x, t, at, out, structures),
+        UnOp::Not => negation(s, x, t, at, out, structures),
+        UnOp::Minus => value_then(s, x, Op::One(One::ISGN, t, t), t, at, out, structures),
+        UnOp::Flip => value_then(s, x, Op::One(One::NOT, t, t), t, at, out, structures),
     }
 }
 
@@ -267,37 +298,93 @@ fn test(
     test_last(out, &x.ty, t, done)
 }
 
-/// The second operand, and then the operator; the first, whose type this is, stands in a.
+/// Computes the value of the first of two operands into the first free temporary.
+#[cycle(lower)]
+#[tactic(auto, using(crate::proofs::Joins::length_both))]
+fn first_value<'x>(
+    s: &Reading<'_>,
+    x: &'x TExpr,
+    at: At,
+    out: &mut Vec<Node<u32>>,
+    structures: &mut Vec<u32>,
+) -> Result<First<'x>, Memory>
+    requires temps { at.next + (value_temps (texpr x.now) + 1) ≤ 1000000 }
+    requires locals { at.local + length (value_sizes (shape_of s.now) (texpr x.now)) ≤ 1000000 }
+    ensures nodes { OnOk result (map node out.new.items ≡ map node out.old.items
+        ++ low_value (shape_of s.now) (texpr x.now) at.next (at.next + 1) at.local) }
+    ensures sizes { OnOk result (structures.new.items ≡ structures.old.items ++ value_sizes (shape_of s.now) (texpr x.now)) }
+    ensures ty { IfOk result (λ r. ctype r.ty.now ≡ type_of (texpr x.now)) }
+    ensures temporary { IfOk result (λ r. r.temporary ≡ at.next) }
+    ensures next { IfOk result (λ r. r.free.next ≡ second (texpr x.now) at.next) }
+    ensures local { IfOk result (λ r. r.free.local ≡ beyond (shape_of s.now) (texpr x.now) at.local) }
+{
+    let free = value(s, x, at.next, from(at.next + 1, at.local), out, structures)?;
+    Ok(First {
+        ty: &x.ty,
+        temporary: at.next,
+        free,
+    })
+}
+
+/// Computes the place that is assigned to into the first free temporary.
+#[cycle(lower)]
+#[tactic(auto, using(crate::proofs::Joins::length_both))]
+fn first_place<'x>(
+    s: &Reading<'_>,
+    x: &'x TExpr,
+    at: At,
+    out: &mut Vec<Node<u32>>,
+    structures: &mut Vec<u32>,
+) -> Result<First<'x>, Memory>
+    requires temps { at.next + (temps (texpr x.now) + 1) ≤ 1000000 }
+    requires locals { at.local + length (sizes (shape_of s.now) (texpr x.now)) ≤ 1000000 }
+    ensures nodes { OnOk result (map node out.new.items ≡ map node out.old.items
+        ++ low (shape_of s.now) (texpr x.now) at.next (at.next + 1) at.local) }
+    ensures sizes { OnOk result (structures.new.items ≡ structures.old.items ++ sizes (shape_of s.now) (texpr x.now)) }
+    ensures ty { IfOk result (λ r. ctype r.ty.now ≡ type_of (texpr x.now)) }
+    ensures temporary { IfOk result (λ r. r.temporary ≡ at.next) }
+    ensures next { IfOk result (λ r. r.free.next ≡ behind_place (texpr x.now) at.next) }
+    ensures local { IfOk result (λ r. r.free.local ≡ at.local + length (sizes (shape_of s.now) (texpr x.now))) }
+{
+    let free = low(s, x, at.next, from(at.next + 1, at.local), out, structures)?;
+    Ok(First {
+        ty: &x.ty,
+        temporary: at.next,
+        free,
+    })
+}
+
+/// The second operand, and then the operator.
 #[cycle(lower)]
 #[tactic(auto, using(crate::proofs::Joins::length_both))]
 fn operation(
     s: &Reading<'_>,
     y: &TExpr,
     op: BinOp,
-    ty: &CType,
+    first: First<'_>,
     t: u32,
-    a: u32,
-    at: At,
     out: &mut Vec<Node<u32>>,
     structures: &mut Vec<u32>,
 ) -> Result<At, Memory>
-    requires temps { at.next + (value_temps (texpr y.now) + 2) ≤ 1000000 }
-    requires locals { at.local + length (value_sizes (shape_of s.now) (texpr y.now)) ≤ 1000000 }
+    requires temps { first.free.next + (value_temps (texpr y.now) + 2) ≤ 1000000 }
+    requires locals { first.free.local + length (value_sizes (shape_of s.now) (texpr y.now)) ≤ 1000000 }
     ensures nodes { OnOk result (map node out.new.items ≡ map node out.old.items
-        ++ low_value (shape_of s.now) (texpr y.now) at.next (at.next + 1) at.local
-        ++ operated (shape_of s.now) op (ctype ty.now) (type_of (texpr y.now)) t a at.next (second (texpr y.now) at.next)) }
+        ++ low_value (shape_of s.now) (texpr y.now) first.entry.free.next (first.entry.free.next + 1) first.entry.free.local
+        ++ operated (shape_of s.now) op (ctype first.entry.ty.now) (type_of (texpr y.now)) t first.entry.temporary first.entry.free.next
+        (second (texpr y.now) first.entry.free.next)) }
     ensures sizes { OnOk result (structures.new.items ≡ structures.old.items ++ value_sizes (shape_of s.now) (texpr y.now)) }
-    ensures next { IfOk result (λ r. r.next ≡ at.next + (value_temps (texpr y.now) + 2)) }
-    ensures local { IfOk result (λ r. r.local ≡ at.local + length (value_sizes (shape_of s.now) (texpr y.now))) }
+    ensures next { IfOk result (λ r. r.next ≡ first.entry.free.next + (value_temps (texpr y.now) + 2)) }
+    ensures local { IfOk result (λ r. r.local ≡ first.entry.free.local + length (value_sizes (shape_of s.now) (texpr y.now))) }
 {
+    let at = first.free;
     let last = value(s, y, at.next, from(at.next + 1, at.local), out, structures)?;
     let k = Operands {
         target: t,
-        first: a,
+        first: first.temporary,
         second: at.next,
         scale: last.next,
     };
-    operate(s, out, op, ty, &y.ty, k)?;
+    operate(s, out, op, first.ty, &y.ty, k)?;
     Ok(from(last.next + 1, last.local))
 }
 
@@ -334,55 +421,58 @@ fn choice(
     choose_lazy(s.alloc, out, and, tests_flag(y), t, inside, last)
 }
 
-/// The value that the place in p, whose type this is, takes.
+/// The value that a place takes.
 #[cycle(lower)]
 #[tactic(auto, using(crate::proofs::Joins::length_both))]
 fn assignment(
     s: &Reading<'_>,
     y: &TExpr,
-    ty: &CType,
+    place: First<'_>,
     t: u32,
-    p: u32,
-    at: At,
     out: &mut Vec<Node<u32>>,
     structures: &mut Vec<u32>,
 ) -> Result<At, Memory>
-    requires temps { at.next + (value_temps (texpr y.now) + 2) ≤ 1000000 }
-    requires locals { at.local + length (value_sizes (shape_of s.now) (texpr y.now)) ≤ 1000000 }
-    ensures nodes { OnOk result (map node out.new.items ≡ map node out.old.items ++ low_value (shape_of s.now) (texpr y.now) t (at.next + 2) at.local
-        ++ converted (ctype ty.now) (is_flag (texpr y.now)) t ++ stored (shape_of s.now) (ctype ty.now) p t) }
+    requires temps { place.free.next + (value_temps (texpr y.now) + 2) ≤ 1000000 }
+    requires locals { place.free.local + length (value_sizes (shape_of s.now) (texpr y.now)) ≤ 1000000 }
+    ensures nodes { OnOk result (map node out.new.items ≡ map node out.old.items
+        ++ low_value (shape_of s.now) (texpr y.now) t (place.entry.free.next + 2) place.entry.free.local
+        ++ converted (ctype place.entry.ty.now) (is_flag (texpr y.now)) t
+        ++ stored (shape_of s.now) (ctype place.entry.ty.now) place.entry.temporary t) }
     ensures sizes { OnOk result (structures.new.items ≡ structures.old.items ++ value_sizes (shape_of s.now) (texpr y.now)) }
-    ensures next { IfOk result (λ r. r.next ≡ at.next + (value_temps (texpr y.now) + 2)) }
-    ensures local { IfOk result (λ r. r.local ≡ at.local + length (value_sizes (shape_of s.now) (texpr y.now))) }
+    ensures next { IfOk result (λ r. r.next ≡ place.entry.free.next + (value_temps (texpr y.now) + 2)) }
+    ensures local { IfOk result (λ r. r.local ≡ place.entry.free.local + length (value_sizes (shape_of s.now) (texpr y.now))) }
 {
+    let at = place.free;
     let last = value(s, y, t, from(at.next + 2, at.local), out, structures)?;
-    assign(s, out, ty, is_flag(y), p, t, last)
+    assign(s, out, place.ty, is_flag(y), place.temporary, t, last)
 }
 
-/// The second operand of a compound assignment to the place in p, whose type this is.
+/// The second operand of a compound assignment to a place, and then the operator.
 #[cycle(lower)]
 #[tactic(auto, using(crate::proofs::Joins::length_both))]
 fn compound_assignment(
     s: &Reading<'_>,
     y: &TExpr,
     op: BinOp,
-    ty: &CType,
+    place: First<'_>,
     t: u32,
-    p: u32,
-    at: At,
     out: &mut Vec<Node<u32>>,
     structures: &mut Vec<u32>,
 ) -> Result<At, Memory>
-    requires temps { at.next + (value_temps (texpr y.now) + 2) ≤ 1000000 }
-    requires locals { at.local + length (value_sizes (shape_of s.now) (texpr y.now)) ≤ 1000000 }
+    requires temps { place.free.next + (value_temps (texpr y.now) + 2) ≤ 1000000 }
+    requires locals { place.free.local + length (value_sizes (shape_of s.now) (texpr y.now)) ≤ 1000000 }
     ensures nodes { OnOk result (map node out.new.items ≡ map node out.old.items
-        ++ low_value (shape_of s.now) (texpr y.now) at.next (at.next + 2) at.local ++ (DoN (Op.Load t p) ∷ [])
-        ++ operated (shape_of s.now) op (ctype ty.now) (type_of (texpr y.now)) t t at.next (at.next + 1) ++ converted (ctype ty.now) false t
-        ++ (DoN (Op.Store p t) ∷ [])) }
+        ++ low_value (shape_of s.now) (texpr y.now) place.entry.free.next (place.entry.free.next + 2) place.entry.free.local
+        ++ (DoN (Op.Load t place.entry.temporary) ∷ [])
+        ++ operated (shape_of s.now) op (ctype place.entry.ty.now) (type_of (texpr y.now)) t t
+        place.entry.free.next (place.entry.free.next + 1)
+        ++ converted (ctype place.entry.ty.now) false t
+        ++ (DoN (Op.Store place.entry.temporary t) ∷ [])) }
     ensures sizes { OnOk result (structures.new.items ≡ structures.old.items ++ value_sizes (shape_of s.now) (texpr y.now)) }
-    ensures next { IfOk result (λ r. r.next ≡ at.next + (value_temps (texpr y.now) + 2)) }
-    ensures local { IfOk result (λ r. r.local ≡ at.local + length (value_sizes (shape_of s.now) (texpr y.now))) }
+    ensures next { IfOk result (λ r. r.next ≡ place.entry.free.next + (value_temps (texpr y.now) + 2)) }
+    ensures local { IfOk result (λ r. r.local ≡ place.entry.free.local + length (value_sizes (shape_of s.now) (texpr y.now))) }
 {
+    let at = place.free;
     let last = value(s, y, at.next, from(at.next + 2, at.local), out, structures)?;
     let k = Operands {
         target: t,
@@ -390,7 +480,7 @@ fn compound_assignment(
         second: at.next,
         scale: at.next + 1,
     };
-    compound(s, out, op, ty, &y.ty, k, p)?;
+    compound(s, out, op, place.ty, &y.ty, k, place.temporary)?;
     Ok(last)
 }
 
@@ -419,40 +509,40 @@ fn step_of(
     Ok(done)
 }
 
-/// The number of an element of this type, and then its place; a pointer to the first element stands in a.
+/// The number of an element of this type, and then its place; a pointer to the first element came first.
 #[cycle(lower)]
 #[tactic(auto, using(crate::proofs::Joins::length_both))]
 fn element(
     s: &Reading<'_>,
     y: &TExpr,
     ty: &CType,
+    first: First<'_>,
     t: u32,
-    a: u32,
-    at: At,
     out: &mut Vec<Node<u32>>,
     structures: &mut Vec<u32>,
 ) -> Result<At, Memory>
-    requires temps { at.next + (value_temps (texpr y.now) + 1 + size_temps (ctype ty.now)) ≤ 1000000 }
-    requires locals { at.local + length (value_sizes (shape_of s.now) (texpr y.now)) ≤ 1000000 }
+    requires temps { first.free.next + (value_temps (texpr y.now) + 1 + size_temps (ctype ty.now)) ≤ 1000000 }
+    requires locals { first.free.local + length (value_sizes (shape_of s.now) (texpr y.now)) ≤ 1000000 }
     ensures nodes { OnOk result (map node out.new.items ≡ map node out.old.items
-        ++ low_value (shape_of s.now) (texpr y.now) at.next (at.next + 1) at.local
-        ++ stepped (words (shape_of s.now) (ctype ty.now)) t a at.next (second (texpr y.now) at.next)) }
+        ++ low_value (shape_of s.now) (texpr y.now) first.entry.free.next (first.entry.free.next + 1) first.entry.free.local
+        ++ stepped (words (shape_of s.now) (ctype ty.now)) t first.entry.temporary first.entry.free.next
+        (second (texpr y.now) first.entry.free.next)) }
     ensures sizes { OnOk result (structures.new.items ≡ structures.old.items ++ value_sizes (shape_of s.now) (texpr y.now)) }
-    ensures next { IfOk result (λ r. r.next ≡ at.next + (value_temps (texpr y.now) + 1 + size_temps (ctype ty.now))) }
-    ensures local { IfOk result (λ r. r.local ≡ at.local + length (value_sizes (shape_of s.now) (texpr y.now))) }
+    ensures next { IfOk result (λ r. r.next ≡ first.entry.free.next + (value_temps (texpr y.now) + 1 + size_temps (ctype ty.now))) }
+    ensures local { IfOk result (λ r. r.local ≡ first.entry.free.local + length (value_sizes (shape_of s.now) (texpr y.now))) }
 {
+    let at = first.free;
     let last = value(s, y, at.next, from(at.next + 1, at.local), out, structures)?;
-    step_last(s, out, ty, t, a, at.next, last)
+    step_last(s, out, ty, t, first.temporary, at.next, last)
 }
 
-/// The member of this type `offset` words behind the start of a structure.
+/// The member of a structure.
 #[cycle(lower)]
 #[tactic(auto, using(crate::proofs::Joins::length_both))]
 fn member_at(
     s: &Reading<'_>,
     x: &TExpr,
-    offset: u32,
-    ty: &CType,
+    of: Member<'_>,
     t: u32,
     at: At,
     out: &mut Vec<Node<u32>>,
@@ -461,14 +551,14 @@ fn member_at(
     requires temps { at.next + (temps (texpr x.now) + 1) ≤ 1000000 }
     requires locals { at.local + length (sizes (shape_of s.now) (texpr x.now)) ≤ 1000000 }
     ensures nodes { OnOk result (map node out.new.items ≡ map node out.old.items
-        ++ (low (shape_of s.now) (texpr x.now) at.next (at.next + 1) at.local ++ moved_by t at.next offset
-        ++ member_of (is_place (texpr x.now)) (ctype ty.now) t)) }
+        ++ (low (shape_of s.now) (texpr x.now) at.next (at.next + 1) at.local ++ moved_by t at.next of.entry.offset
+        ++ member_of (is_place (texpr x.now)) (ctype of.entry.ty.now) t)) }
     ensures sizes { OnOk result (structures.new.items ≡ structures.old.items ++ sizes (shape_of s.now) (texpr x.now)) }
     ensures next { IfOk result (λ r. r.next ≡ at.next + (temps (texpr x.now) + 1)) }
     ensures local { IfOk result (λ r. r.local ≡ at.local + length (sizes (shape_of s.now) (texpr x.now))) }
 {
     let done = low(s, x, at.next, from(at.next + 1, at.local), out, structures)?;
-    member(out, is_place(x), ty, t, at.next, offset, done)
+    member(out, is_place(x), of.ty, t, at.next, of.offset, done)
 }
 
 /// The member `offset` words behind where a pointer leads.
@@ -547,7 +637,11 @@ fn call_of(
     let mut places = lead(s.alloc, s.result(f), t)?;
     let done = args(s, f, xs, at, &mut places, out, structures);
     let (places, done) = keeping(places, done)?;
-    call(s, out, structures, s.result(f), f, t, places, done)
+    let to = Callee {
+        function: f,
+        target: t,
+    };
+    call(s, out, structures, s.result(f), to, places, done)
 }
 
 /// Arguments come each to a temporary of its own, converted to the types of the function's parameters.

@@ -200,6 +200,13 @@ pub(crate) fn member(
     Ok(at)
 }
 
+/// The function that is called, and the temporary that its result comes to.
+#[derive(Clone, Copy)]
+pub(crate) struct Callee {
+    pub(crate) function: u32,
+    pub(crate) target: u32,
+}
+
 /// The temporaries of a call's arguments, of which the place of a structure that is returned is the first.
 pub(crate) fn lead(alloc: Global, ty: Option<&CType>, t: u32) -> Result<Vec<u32>, Memory>
     ensures { IfOk result (λ r. r.items ≡ led (or_void ty.entry) t) }
@@ -225,13 +232,13 @@ fn call_giving(
     out: &mut Vec<Node<u32>>,
     structures: &mut Vec<u32>,
     ty: &CType,
-    f: u32,
-    t: u32,
+    to: Callee,
     args: Vec<u32>,
     at: At,
 ) -> Result<At, Memory>
     requires locals { at.local + length (one_size (shape_of s.now) (ctype ty.now)) ≤ 1000000 }
-    ensures nodes { OnOk result (map node out.new.items ≡ map node out.old.items ++ called_with (ctype ty.now) f at.local t args.items) }
+    ensures nodes { OnOk result (map node out.new.items ≡ map node out.old.items
+        ++ called_with (ctype ty.now) to.function at.local to.target args.items) }
     ensures sizes { OnOk result (structures.new.items ≡ structures.old.items ++ one_size (shape_of s.now) (ctype ty.now)) }
     ensures next { IfOk result (λ r. r.next ≡ at.next) }
     ensures local { IfOk result (λ r. r.local ≡ at.local + length (one_size (shape_of s.now) (ctype ty.now))) }
@@ -240,14 +247,14 @@ fn call_giving(
     if is_structure(ty) {
         structures.push(s.words(ty))?;
         put(out, Op::Fresh(at.local))?;
-        put(out, Op::Local(t, at.local))?;
-        put(out, Op::Call(None, f, args))?;
+        put(out, Op::Local(to.target, at.local))?;
+        put(out, Op::Call(None, to.function, args))?;
         Ok(At {
             next: at.next,
             local: at.local + 1,
         })
     } else {
-        put(out, Op::Call(target_of(ty, t), f, args))?;
+        put(out, Op::Call(target_of(ty, to.target), to.function, args))?;
         Ok(at)
     }
 }
@@ -258,23 +265,23 @@ pub(crate) fn call(
     out: &mut Vec<Node<u32>>,
     structures: &mut Vec<u32>,
     ty: Option<&CType>,
-    f: u32,
-    t: u32,
+    to: Callee,
     args: Vec<u32>,
     at: At,
 ) -> Result<At, Memory>
     requires locals { at.local + length (one_size (shape_of s.now) (or_void ty)) ≤ 1000000 }
-    ensures nodes { OnOk result (map node out.new.items ≡ map node out.old.items ++ called_with (or_void ty.entry) f at.local t args.items) }
+    ensures nodes { OnOk result (map node out.new.items ≡ map node out.old.items
+        ++ called_with (or_void ty.entry) to.function at.local to.target args.items) }
     ensures sizes { OnOk result (structures.new.items ≡ structures.old.items ++ one_size (shape_of s.now) (or_void ty.entry)) }
     ensures next { IfOk result (λ r. r.next ≡ at.next) }
     ensures local { IfOk result (λ r. r.local ≡ at.local + length (one_size (shape_of s.now) (or_void ty.entry))) }
 {
     match ty {
         None => {
-            put(out, Op::Call(None, f, Seq::from_vec(args)))?;
+            put(out, Op::Call(None, to.function, Seq::from_vec(args)))?;
             Ok(at)
         }
-        Some(ty) => call_giving(s, out, structures, ty, f, t, args, at),
+        Some(ty) => call_giving(s, out, structures, ty, to, args, at),
     }
 }
 

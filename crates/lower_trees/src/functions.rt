@@ -13,7 +13,7 @@ ghost use Rattle.lower_trees.specs.View.{shape_of};
 use crate::at::from;
 use crate::cells::{FIRST_PARAM, FROM, RESULT_AT, TO, copy_cells, make, put};
 use crate::finishing::lead;
-use crate::jump::JumpTo;
+use crate::jump::{Exits, JumpTo};
 use crate::kinds::{is_structure, is_void};
 use crate::looping::put_block;
 use crate::reading::Reading;
@@ -101,16 +101,13 @@ fn body<'x>(
     let first = FIRST_PARAM + f.params.as_slice().len() as u32;
     let own = from(first, f.locals.as_slice().len() as u32);
     let mut inside = Vec::new(s.alloc);
-    let done = statements(
-        s,
-        &f.result,
-        f.body.as_slice(),
-        own,
-        0,
-        JumpTo::End(0),
-        &mut inside,
-        structures,
-    )?;
+    let exits = Exits {
+        gives: &f.result,
+        breaks: 0,
+        continues: JumpTo::End(0),
+    };
+    let body = f.body.as_slice();
+    let done = statements(s, exits, body, own, &mut inside, structures)?;
     put_block(&mut out, inside)?;
     Ok((out, done.next))
 }
@@ -154,16 +151,13 @@ pub fn lower_start<'x>(s: &Reading<'x>, inits: &'x [TStmt]) -> Result<Function<u
 {
     let mut nodes = Vec::new(s.alloc);
     let mut locals = Vec::new(s.alloc);
-    let done = statements(
-        s,
-        &CType::Void,
-        inits,
-        from(FIRST_PARAM, 0),
-        0,
-        JumpTo::End(0),
-        &mut nodes,
-        &mut locals,
-    )?;
+    let exits = Exits {
+        gives: &CType::Void,
+        breaks: 0,
+        continues: JumpTo::End(0),
+    };
+    let free = from(FIRST_PARAM, 0);
+    let done = statements(s, exits, inits, free, &mut nodes, &mut locals)?;
     Ok(Function {
         temps: done.next,
         params: Seq::from_vec(Vec::new(s.alloc)),

@@ -157,15 +157,21 @@ fn fill_rest(
     }
 }
 
-/// Fills, by an initialiser, the part of this type that begins `offset` words behind the start of the object to which `p` points.
+/// A part of an object: its type, where it has one, and how many words it begins behind the start of the object to which `pointer` points.
+#[derive(Clone, Copy)]
+struct Part<'x> {
+    ty: Option<&'x CType>,
+    pointer: u32,
+    offset: u32,
+}
+
+/// Fills a part by an initialiser.
 #[cycle(initialise)]
 #[tactic(auto, using(crate::proofs::Joins::length_both))]
 fn initialise<'x>(
     s: &Reading<'x>,
     of: &'x TInit,
-    ty: Option<&'x CType>,
-    p: u32,
-    offset: u32,
+    part: Part<'x>,
     at: At,
     out: &mut Vec<Node<u32>>,
     structures: &mut Vec<u32>,
@@ -173,7 +179,7 @@ fn initialise<'x>(
     requires temps { at.next + init_temps (tinit of.now) ≤ 1000000 }
     requires locals { at.local + length (init_sizes (shape_of s.now) (tinit of.now)) ≤ 1000000 }
     ensures nodes { OnOk result (map node out.new.items ≡ map node out.old.items
-        ++ low_init (shape_of s.now) (tinit of.now) (or_void ty.entry) p offset at.next at.local) }
+        ++ low_init (shape_of s.now) (tinit of.now) (or_void part.entry.ty) part.entry.pointer part.entry.offset at.next at.local) }
     ensures sizes { OnOk result (structures.new.items ≡ structures.old.items ++ init_sizes (shape_of s.now) (tinit of.now)) }
     ensures next { IfOk result (λ r. r.next ≡ at.next + init_temps (tinit of.now)) }
     ensures local { IfOk result (λ r. r.local ≡ at.local + length (init_sizes (shape_of s.now) (tinit of.now))) }
@@ -181,16 +187,15 @@ fn initialise<'x>(
     match of {
         TInit::One(x) => {
             let done = value(s, x, ITEM, at, out, structures)?;
-            fill(s, out, ty, is_flag(x), p, offset)?;
+            fill(s, out, part.ty, is_flag(x), part.pointer, part.offset)?;
             Ok(done)
         }
         TInit::Text(number) => {
-            fill_text(s, out, *number, s.words_or(ty), p, offset)?;
+            let size = s.words_or(part.ty);
+            fill_text(s, out, *number, size, part.pointer, part.offset)?;
             Ok(at)
         }
-        TInit::List(items) => {
-            initialise_all(s, items.as_slice(), ty, p, offset, at, out, structures)
-        }
+        TInit::List(items) => initialise_all(s, items.as_slice(), part, at, out, structures),
     }
 }
 
@@ -200,9 +205,7 @@ fn initialise<'x>(
 fn initialise_all<'x>(
     s: &Reading<'x>,
     items: &'x [TInit],
-    ty: Option<&'x CType>,
-    p: u32,
-    offset: u32,
+    part: Part<'x>,
     at: At,
     out: &mut Vec<Node<u32>>,
     structures: &mut Vec<u32>,
@@ -210,19 +213,24 @@ fn initialise_all<'x>(
     requires temps { at.next + inits_temps (tinits (map tinit items.now)) ≤ 1000000 }
     requires locals { at.local + length (inits_sizes (shape_of s.now) (tinits (map tinit items.now))) ≤ 1000000 }
     ensures nodes { OnOk result (map node out.new.items ≡ map node out.old.items
-        ++ low_inits (shape_of s.now) (tinits (map tinit items.now)) (or_void ty.entry) 0 p offset at.next at.local) }
+        ++ low_inits (shape_of s.now) (tinits (map tinit items.now)) (or_void part.entry.ty) 0
+        part.entry.pointer part.entry.offset at.next at.local) }
     ensures sizes { OnOk result (structures.new.items ≡ structures.old.items ++ inits_sizes (shape_of s.now) (tinits (map tinit items.now))) }
     ensures next { IfOk result (λ r. r.next ≡ at.next + inits_temps (tinits (map tinit items.now))) }
     ensures local { IfOk result (λ r. r.local ≡ at.local + length (inits_sizes (shape_of s.now) (tinits (map tinit items.now)))) }
 {
     let mut here = at;
-    let mut begins = offset;
+    let mut begins = part.offset;
     for (k, i) in items.iter().enumerate() {
-        let part = s.part(ty, k);
-        here = initialise(s, i, part, p, begins, here, out, structures)?;
-        begins = begins.wrapping_add(s.words_or(part));
+        let own = Part {
+            ty: s.part(part.ty, k),
+            pointer: part.pointer,
+            offset: begins,
+        };
+        here = initialise(s, i, own, here, out, structures)?;
+        begins = begins.wrapping_add(s.words_or(own.ty));
     }
-    fill_rest(s, out, ty, items.len(), p, begins)?;
+    fill_rest(s, out, part.ty, items.len(), part.pointer, begins)?;
     Ok(here)
 }
 
@@ -278,8 +286,13 @@ pub(crate) fn variables<'x>(
     'variables: for v in vs {
         let p = address_of(&v.init, here.next);
         object_to(out, v.global, v.object, p)?;
-        let own = from(behind_address(&v.init, here.next), here.local);
-        here = initialise(s, &v.init, Some(&v.ty), p, 0, own, out, structures)?;
+        let free = from(behind_address(&v.init, here.next), here.local);
+        let whole = Part {
+            ty: Some(&v.ty),
+            pointer: p,
+            offset: 0,
+        };
+        here = initialise(s, &v.init, whole, free, out, structures)?;
     }
     Ok(here)
 }

@@ -4,7 +4,9 @@ ghost use Rattle.c_types.specs.View.{ctype, texpr, tarm, tarms};
 ghost use Rattle.mid_code.specs.Functions.{DoN, BlockN, LoopN, ChooseN, LeaveN, AgainN, ReturnN, listed, node};
 ghost use Rattle.lower_trees.specs.Counts.{maybe_temps, maybe_sizes, value_temps, value_sizes};
 ghost use Rattle.lower_trees.specs.Expressions.{second, beyond};
-ghost use Rattle.lower_trees.specs.ListedExpressions.{low_test};
+ghost use Rattle.lower_trees.specs.ListedExpressions.{low_value, low_test};
+ghost use Rattle.lower_trees.specs.ListedParts.{converted};
+ghost use Rattle.lower_trees.specs.Flags.{is_flag};
 ghost use Rattle.lower_trees.specs.Parts.{one};
 ghost use Rattle.lower_trees.specs.Statements.{further, labels_before_default};
 ghost use Rattle.lower_trees.specs.ListedStatements.{depth, jump, tested_first, chosen_by, turn_of, low_dropped, low_match, low_label, returned};
@@ -14,8 +16,8 @@ use crate::at::{At, from};
 use crate::cells::{FROM, ONE, OTHER, RESULT_AT, TO, copy_cells, put};
 use crate::expressions::value;
 use crate::jump::JumpTo;
-use crate::kinds::is_structure;
-use crate::operating::test_as;
+use crate::kinds::{is_flag, is_structure};
+use crate::operating::{convert, test_as};
 use crate::reading::Reading;
 use c_exprs::keeping;
 use c_types::{CType, TArm, TExpr};
@@ -44,14 +46,15 @@ pub(crate) fn leave(out: &mut Vec<Node<u32>>, k: u32, at: At) -> Result<At, Memo
     Ok(at)
 }
 
-pub(crate) fn jump(out: &mut Vec<Node<u32>>, j: JumpTo) -> Result<(), Memory>
-    ensures { OnOk result (map node out.new.items ≡ map node out.old.items ++ jump (jump_of j)) }
+pub(crate) fn jump(out: &mut Vec<Node<u32>>, j: JumpTo, at: At) -> Result<At, Memory>
+    ensures nodes { OnOk result (map node out.new.items ≡ map node out.old.items ++ jump (jump_of j)) }
+    ensures at { IfOk result (λ r. r ≡ at) }
 {
     match j {
         JumpTo::End(k) => out.push(Node::Leave(k))?,
         JumpTo::Turn(k) => out.push(Node::Again(k))?,
     }
-    Ok(())
+    Ok(at)
 }
 
 /// Returns nothing.
@@ -231,13 +234,19 @@ pub(crate) fn close_do_while(
     Ok(last)
 }
 
-/// Closes a turn of a `for`, of which the condition stands in `turn` and the body in `inside`.
+/// A turn of a `for`: whether it has a condition, the temporary and the nodes of that, and the nodes of the body.
+#[derive(Drop)]
+pub(crate) struct Turn {
+    pub(crate) tests: bool,
+    pub(crate) temporary: u32,
+    pub(crate) condition: Vec<Node<u32>>,
+    pub(crate) body: Vec<Node<u32>>,
+}
+
+/// Adds a loop of such turns, each of which ends with this step.
 pub(crate) fn close_turn(
     s: &Reading<'_>,
-    tests: bool,
-    n: u32,
-    turn: Vec<Node<u32>>,
-    inside: Vec<Node<u32>>,
+    turn: Turn,
     step: Option<&TExpr>,
     at: At,
     out: &mut Vec<Node<u32>>,
@@ -246,24 +255,30 @@ pub(crate) fn close_turn(
     requires temps { at.next + maybe_temps (option_map (λ x. texpr x.now) step) ≤ 1000000 }
     requires locals { at.local + length (maybe_sizes (shape_of s.now) (option_map (λ x. texpr x.now) step)) ≤ 1000000 }
     ensures nodes { OnOk result (map node out.new.items ≡ map node out.old.items
-        ++ LoopN (listed (map node turn.items
-        ++ chosen_by tests n (turn_of (map node inside.items)
+        ++ LoopN (listed (map node turn.condition.items
+        ++ chosen_by turn.tests turn.temporary (turn_of (map node turn.body.items)
         (low_dropped (shape_of s.now) (option_map (λ x. texpr x.now) step.entry) at.next at.local)))) ∷ []) }
     ensures sizes { OnOk result (structures.new.items ≡ structures.old.items ++ maybe_sizes (shape_of s.now) (option_map (λ x. texpr x.now) step.entry)) }
     ensures next { IfOk result (λ r. r.next ≡ at.next + maybe_temps (option_map (λ x. texpr x.now) step.entry)) }
     ensures local { IfOk result (λ r. r.local ≡ at.local + length (maybe_sizes (shape_of s.now) (option_map (λ x. texpr x.now) step.entry))) }
 {
-    let mut turn = turn;
+    let Turn {
+        tests,
+        temporary,
+        condition,
+        body,
+    } = turn;
+    let mut turn = condition;
     if tests {
         let mut rest = Vec::new(s.alloc);
-        put_block(&mut rest, inside)?;
+        put_block(&mut rest, body)?;
         let last = drop_value(s, step, at, &mut rest, structures)?;
         rest.push(Node::Again(0))?;
-        put_choice(&mut turn, n, rest, Vec::new(s.alloc))?;
+        put_choice(&mut turn, temporary, rest, Vec::new(s.alloc))?;
         out.push(Node::Loop(Seq::from_vec(turn)))?;
         Ok(last)
     } else {
-        put_block(&mut turn, inside)?;
+        put_block(&mut turn, body)?;
         let last = drop_value(s, step, at, &mut turn, structures)?;
         turn.push(Node::Again(0))?;
         out.push(Node::Loop(Seq::from_vec(turn)))?;
@@ -363,12 +378,7 @@ pub(crate) fn close_label(
 }
 
 /// Returns the value in t.
-pub(crate) fn give_back(
-    s: &Reading<'_>,
-    out: &mut Vec<Node<u32>>,
-    ty: &CType,
-    t: u32,
-) -> Result<(), Memory>
+fn give_back(s: &Reading<'_>, out: &mut Vec<Node<u32>>, ty: &CType, t: u32) -> Result<(), Memory>
     ensures { OnOk result (map node out.new.items ≡ map node out.old.items ++ returned (shape_of s.now) (ctype ty.now) t) }
 {
     if is_structure(ty) {
@@ -380,4 +390,28 @@ pub(crate) fn give_back(
         out.push(Node::Return(Some(t)))?;
     }
     Ok(())
+}
+
+/// Returns the value of an expression.
+pub(crate) fn return_value(
+    s: &Reading<'_>,
+    gives: &CType,
+    x: &TExpr,
+    at: At,
+    out: &mut Vec<Node<u32>>,
+    structures: &mut Vec<u32>,
+) -> Result<At, Memory>
+    requires temps { at.next + (value_temps (texpr x.now) + 1) ≤ 1000000 }
+    requires locals { at.local + length (value_sizes (shape_of s.now) (texpr x.now)) ≤ 1000000 }
+    ensures nodes { OnOk result (map node out.new.items ≡ map node out.old.items
+        ++ (low_value (shape_of s.now) (texpr x.now) at.next (at.next + 1) at.local
+        ++ converted (ctype gives.now) (is_flag (texpr x.now)) at.next ++ returned (shape_of s.now) (ctype gives.now) at.next)) }
+    ensures sizes { OnOk result (structures.new.items ≡ structures.old.items ++ value_sizes (shape_of s.now) (texpr x.now)) }
+    ensures next { IfOk result (λ r. r.next ≡ second (texpr x.now) at.next) }
+    ensures local { IfOk result (λ r. r.local ≡ beyond (shape_of s.now) (texpr x.now) at.local) }
+{
+    let done = value(s, x, at.next, from(at.next + 1, at.local), out, structures)?;
+    convert(out, gives, is_flag(x), at.next)?;
+    give_back(s, out, gives, at.next)?;
+    Ok(done)
 }

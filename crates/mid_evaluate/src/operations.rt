@@ -1,5 +1,6 @@
 // What operations do.
 ghost use Rattle.std.specs.Prelude.{◌≡◌};
+ghost use Rattle.obj_mem.specs.declared.cell.Cell.TheVariants.{Ptr};
 ghost use Rattle.obj_mem.specs.inner.View.{objects};
 ghost use Rattle.kit_base.specs.declared.event.Event.TheVariants.{Wait};
 ghost use Rattle.v32_isa.specs.declared.instruction.Two.TheVariants.{IEQ, INE};
@@ -143,6 +144,33 @@ fn local_cell(locals: &[Option<u64>], k: u32) -> Result<Cell, Refusal>
     }
 }
 
+fn global_cell(number: u32) -> Cell
+    ensures { result ≡ Ptr number 0 }
+{
+    Cell::Ptr {
+        object: u64::from(number),
+        offset: 0,
+    }
+}
+
+/// How far the pointer in p is behind that in q.
+fn put_distance<'a>(m: &mut State<'a>, t: u32, p: u32, q: u32) -> Result<(), Stop>
+    ensures { Does result (state_of m.new) (to temporaries t (distance (state_of m.old).world.store.objects ((state_of m.old).cells p) ((state_of m.old).cells q)) (state_of m.old)) }
+{
+    let objects = &m.world.store.objects;
+    let answer = distance(objects, cell(&m.cells, p), cell(&m.cells, q));
+    put_answer(m, t, answer)
+}
+
+/// Compares the pointers in p and q.
+fn put_test<'a>(m: &mut State<'a>, o: Two, t: u32, p: u32, q: u32) -> Result<(), Stop>
+    ensures { Does result (state_of m.new) (to temporaries t (pointers_tested o (state_of m.old).world.store.objects ((state_of m.old).cells p) ((state_of m.old).cells q)) (state_of m.old)) }
+{
+    let objects = &m.world.store.objects;
+    let answer = test(o, objects, cell(&m.cells, p), cell(&m.cells, q));
+    put_answer(m, t, answer)
+}
+
 // ---- operations that change the world
 
 fn store<'a>(m: &mut State<'a>, p: Cell, c: Cell) -> Result<(), Stop>
@@ -224,14 +252,7 @@ pub(crate) fn perform<'a>(s: &Setting<'a>, m: &mut State<'a>, o: &Op<u32>) -> Re
             let answer = two(*o, cell(&m.cells, *a), cell(&m.cells, *b));
             put_answer(m, *t, answer)
         }
-        Op::Global(t, number) => put_answer(
-            m,
-            *t,
-            Ok(Cell::Ptr {
-                object: u64::from(*number),
-                offset: 0,
-            }),
-        ),
+        Op::Global(t, number) => put_answer(m, *t, Ok(global_cell(*number))),
         Op::Local(t, number) => {
             let answer = local_cell(&m.world.store.locals, *number);
             put_answer(m, *t, answer)
@@ -242,23 +263,8 @@ pub(crate) fn perform<'a>(s: &Setting<'a>, m: &mut State<'a>, o: &Op<u32>) -> Re
             let answer = step_by(cell(&m.cells, *p), cell(&m.cells, *n));
             put_answer(m, *t, answer)
         }
-        Op::Apart(t, p, q) => {
-            let answer = distance(
-                &m.world.store.objects,
-                cell(&m.cells, *p),
-                cell(&m.cells, *q),
-            );
-            put_answer(m, *t, answer)
-        }
-        Op::PtrTest(o, t, p, q) => {
-            let answer = test(
-                *o,
-                &m.world.store.objects,
-                cell(&m.cells, *p),
-                cell(&m.cells, *q),
-            );
-            put_answer(m, *t, answer)
-        }
+        Op::Apart(t, p, q) => put_distance(m, *t, *p, *q),
+        Op::PtrTest(o, t, p, q) => put_test(m, *o, *t, *p, *q),
         Op::Load(t, p) => {
             let answer = read(&m.world.store.objects, cell(&m.cells, *p));
             put_answer(m, *t, answer)

@@ -10,7 +10,7 @@ use Rattle.lower_trees.proofs.statements.+execute.Given as goal
 
 abbrev pub invariant-statements-loop-a : goal.invariant-statements-loop-a
 invariant-statements-loop-a l = record {
-  nodes : map node l.out.items ++ low_stmts (shape_of l.s) (ctype l.gives) (tstmts (map tstmt (drop l.a-index l.body))) l.here.next l.here.local l.b (jump_of l.j) ≡ map node l.initial.out.items ++ low_stmts (shape_of l.s) (ctype l.gives) (tstmts (map tstmt l.body)) l.fn.at.next l.fn.at.local l.b (jump_of l.j);
+  nodes : map node l.out.items ++ low_stmts (shape_of l.s) (ctype l.exits.gives.now) (tstmts (map tstmt (drop l.a-index l.body))) l.here.next l.here.local l.exits.breaks (jump_of l.exits.continues) ≡ map node l.initial.out.items ++ low_stmts (shape_of l.s) (ctype l.exits.gives.now) (tstmts (map tstmt l.body)) l.fn.at.next l.fn.at.local l.exits.breaks (jump_of l.exits.continues);
   sizes : l.structures.items ++ stmts_sizes (shape_of l.s) (tstmts (map tstmt (drop l.a-index l.body))) ≡ l.initial.structures.items ++ stmts_sizes (shape_of l.s) (tstmts (map tstmt l.body));
   temps : l.here.next + stmts_temps (tstmts (map tstmt (drop l.a-index l.body))) ≡ l.fn.at.next + stmts_temps (tstmts (map tstmt l.body));
   local : l.here.local + length (stmts_sizes (shape_of l.s) (tstmts (map tstmt (drop l.a-index l.body)))) ≡ l.fn.at.local + length (stmts_sizes (shape_of l.s) (tstmts (map tstmt l.body)));
@@ -20,7 +20,7 @@ invariant-statements-loop-a l = record {
 
 abbrev pub invariant-labelled-loop-arm : goal.invariant-labelled-loop-arm
 invariant-labelled-loop-arm l = record {
-  nodes : map node l.out.items ++ arms_open l.met (map node l.inside.items) (shape_of l.s) (ctype l.gives) l.t (tarms (map tarm (drop l.arm-index l.arms))) l.here.next l.here.local 0 (jump_of l.j) ≡ map node l.initial.out.items ++ low_arms (shape_of l.s) (ctype l.gives) l.t (tarms (map tarm l.arms)) l.fn.at.next l.fn.at.local 0 (jump_of l.j);
+  nodes : map node l.out.items ++ arms_open l.met (map node l.inside.items) (shape_of l.s) (ctype l.exits.gives.now) l.t (tarms (map tarm (drop l.arm-index l.arms))) l.here.next l.here.local l.exits.breaks (jump_of l.exits.continues) ≡ map node l.initial.out.items ++ low_arms (shape_of l.s) (ctype l.exits.gives.now) l.t (tarms (map tarm l.arms)) l.fn.at.next l.fn.at.local l.exits.breaks (jump_of l.exits.continues);
   sizes : l.structures.items ++ arms_sizes (shape_of l.s) (tarms (map tarm (drop l.arm-index l.arms))) ≡ l.initial.structures.items ++ arms_sizes (shape_of l.s) (tarms (map tarm l.arms));
   temps : l.here.next + arms_temps (tarms (map tarm (drop l.arm-index l.arms))) ≡ l.fn.at.next + arms_temps (tarms (map tarm l.arms));
   local : l.here.local + length (arms_sizes (shape_of l.s) (tarms (map tarm (drop l.arm-index l.arms)))) ≡ l.fn.at.local + length (arms_sizes (shape_of l.s) (tarms (map tarm l.arms)));
@@ -41,7 +41,7 @@ abbrev pub decreases-block : goal.decreases-block
 decreases-block l = 4 * statements_nodes (tstmts (map tstmt l.body.now)) + 2
 
 abbrev pub decreases-choice : goal.decreases-choice
-decreases-choice l = 4 * (statement_nodes (tstmt l.first.now) + maybe_statement_nodes (other_of l.second)) + 2
+decreases-choice l = 4 * (statement_nodes (tstmt l.branches.0.now) + maybe_statement_nodes (other_of l.branches.1)) + 2
 
 abbrev pub decreases-while_loop : goal.decreases-while_loop
 decreases-while_loop l = 4 * statement_nodes (tstmt l.body.now) + 2
@@ -50,10 +50,10 @@ abbrev pub decreases-do_while_loop : goal.decreases-do_while_loop
 decreases-do_while_loop l = 4 * statement_nodes (tstmt l.body.now) + 2
 
 abbrev pub decreases-for_loop : goal.decreases-for_loop
-decreases-for_loop l = 4 * (maybe_statement_nodes (other_of l.first) + statement_nodes (tstmt l.body.now)) + 2
+decreases-for_loop l = 4 * (maybe_statement_nodes (other_of l.of.first) + statement_nodes (tstmt l.of.body.now)) + 2
 
 abbrev pub decreases-switch : goal.decreases-switch
-decreases-switch l = 4 * arms_nodes (tarms (map tarm l.arms.now)) + 2
+decreases-switch l = 4 * arms_nodes (tarms (map tarm l.of.arms.now)) + 2
 
 abbrev pub decreases-statements : goal.decreases-statements
 decreases-statements l = 4 * statements_nodes (tstmts (map tstmt l.body.now)) + 1

@@ -105,3 +105,5 @@ pub labels_done : (rest : List AsmItem) (address : ℕ) (labels total : List (Li
 unfolding labels_from
 labels_done [] address labels total empty so_far = sym (append-nil labels) ∙ so_far
 labels_done (item ∷ rest) address labels total empty so_far = absurd cc
+
+pub ruleset parting = (words_on, labels_on, words_done, labels_done)

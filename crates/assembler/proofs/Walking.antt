@@ -128,3 +128,5 @@ pub labels_done : (rest : List AsmItem) (address : ℕ) (done total : List (List
 unfolding labels_from
 labels_done [] address done total empty so_far = sym (append-nil done) ∙ so_far
 labels_done (item ∷ rest) address done total empty so_far = absurd cc
+
+pub ruleset walking = (collect_on, collect_done, twice_on, twice_done)

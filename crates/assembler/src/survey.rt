@@ -40,7 +40,7 @@ impl<'a> Survey<'a> {
 pub const BASE: u64 = 0x2000_0000;
 
 /// The survey of a program.
-#[tactic(auto, using(crate::proofs::Walking::collect_on, crate::proofs::Walking::collect_done, crate::proofs::Walking::twice_on, crate::proofs::Walking::twice_done))]
+#[tactic(auto, using(crate::proofs::Walking::walking))]
 pub fn surveyed<'a>(alloc: Global, items: &'a [AsmItem]) -> Result<Survey<'a>, Memory>
     ensures labels { IfOk result (λ s. s.labels ≡ collected 0x20000000 [] items.now) }
     ensures twice { IfOk result (λ s. s.twice ≡ twice_from 1 [] items.now) }

@@ -27,7 +27,7 @@ struct Parts {
 }
 
 /// Adds what stands for the words of items, and their labels. Whether the words are at most the greatest number.
-#[tactic(auto, using(crate::proofs::Parted::words_on, crate::proofs::Parted::labels_on, crate::proofs::Parted::words_done, crate::proofs::Parted::labels_done))]
+#[tactic(auto, using(crate::proofs::Parted::parting))]
 fn take(parts: &mut Parts, items: &[AsmItem]) -> Result<bool, Memory>
     requires { length parts.old.words.items ≤ 33554432 }
     ensures { IfOk result (λ fits. fits ≡ true

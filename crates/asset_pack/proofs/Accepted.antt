@@ -73,3 +73,5 @@ whole kind bytes e = elim (front_fault kind bytes) as (λ o. or_trailing o (ltb 
 
 pub head_long : (kind : Kind) (bytes : List ℕ) → front_fault kind bytes ≡ None → head kind ≤ length bytes
 head_long kind bytes e = (head_within kind bytes e).0
+
+pub ruleset heads = (head_within, head_long)

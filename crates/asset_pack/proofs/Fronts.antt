@@ -13,7 +13,7 @@ use Rattle.asset_pack.specs.Tests.{signature, head, in_range, count, size, front
 use Rattle.asset_pack.specs.Reading.{unless, body, words_at, texture_of, texture_at}
 use Rattle.asset_pack.proofs.Bytes.{IsBytes-take, IsBytes-drop, word_back}
 use Rattle.asset_pack.proofs.Chunks.{words_again, words_back, length-words, words_fit, length-words_text}
-use Rattle.asset_pack.proofs.Accepted.{Accepted, accepted, accepts, head_within}
+use Rattle.asset_pack.proofs.Accepted.{Accepted, accepted, accepts, head_long, head_within}
 
 abbrev done : {A : Type 0} → A → Result A AssetErr
 done x = Ok x
@@ -173,3 +173,5 @@ texture_again t rest is =
     let b = body_again kinds.Texture text t.pixels rest ok n refl is.1 in
     let same : texture_of text ≡ t = ap (λ (x : ℕ). record { width = x; height = word_at 12 text; pixels = body kinds.Texture text }) w ∙ ap (λ (x : ℕ). record { width = t.width; height = x; pixels = body kinds.Texture text }) h ∙ ap (λ (x : List ℕ). record { width = t.width; height = t.height; pixels = x }) b.1 in
     rw (b.0, same, b.2) refl
+
+pub ruleset textures = (head_long, texture_sized)

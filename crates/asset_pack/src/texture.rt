@@ -78,7 +78,7 @@ impl Texture {
 }
 
 /// The texture at the front, and the bytes after it. The error is the first test that fails.
-#[tactic(auto, using(crate::proofs::Accepted::head_long, crate::proofs::Fronts::texture_sized), unfolding(crate::specs::Reading::texture_at, crate::specs::Reading::words_at))]
+#[tactic(auto, using(crate::proofs::Fronts::textures), unfolding(crate::specs::Reading::texture_at, crate::specs::Reading::words_at))]
 pub fn texture_front(alloc: Global, bytes: &[u8]) -> Result<(Texture, &[u8]), AssetErr>
     ensures { Gives (λ x. (x.0, x.1.now)) result (texture_at bytes.now) }
 {

@@ -32,7 +32,7 @@ pub fn words_of(alloc: Global, bytes: &[u8], count: usize) -> Result<Vec<u32>, A
 }
 
 /// The words of the file of that kind at the front, and the bytes after it.
-#[tactic(auto, using(crate::proofs::Accepted::head_within, crate::proofs::Accepted::head_long), unfolding(crate::specs::Reading::words_at, crate::specs::Reading::body))]
+#[tactic(auto, using(crate::proofs::Accepted::heads), unfolding(crate::specs::Reading::words_at, crate::specs::Reading::body))]
 pub(crate) fn words_at(
     alloc: Global,
     kind: Kind,

@@ -19,9 +19,9 @@ header_names =
     codes "math.h" ∷ codes "memcard.h" ∷ codes "string.h" ∷ codes "misc.h" ∷ []
 
 -- whether no two names are equal
-unfoldable pub are_different : List (List ℕ) → Bool
-are_different [] = true
-are_different (name ∷ names) = not (list_any (bytes_eq name) names) && are_different names
+unfoldable pub differ : List (List ℕ) → Bool
+differ [] = true
+differ (name ∷ names) = not (list_any (bytes_eq name) names) && differ names
 
 -- a header: its name and its text
 abbrev Header : Type 0
@@ -48,7 +48,7 @@ abbrev pub guard_of : List ℕ → List ℕ
 guard_of name = map (λ b. if b == 0x2E then 0x5F else b - 0x20) name
 
 -- whether the text is a condition on its guard, with the guard's definition first
-unfoldable pub is_guarded : Header → Bool
-is_guarded h =
+unfoldable pub guarded : Header → Bool
+guarded h =
     starts_with nat_eq h.1 (codes "#ifndef " ++ guard_of h.0 ++ 0x0A ∷ codes "#define " ++ guard_of h.0 ++ 0x0A ∷ [])
     && ends_with nat_eq h.1 (0x0A ∷ codes "#endif" ++ 0x0A ∷ [])

@@ -25,3 +25,5 @@ module _ (left : List Kind) (right : List Token) (total : Bool) (so_far : same_k
   pub longer : (token : Token) (more : List Token) → length left ≡ 0 → right ≡ token ∷ more → false ≡ total
   unfolding same_kinds
   longer token more l r = rw (nil_from_length left l, r) at so_far
+
+pub ruleset comparing = (shorter, differs, goes_on, ends_too, longer)

@@ -27,7 +27,7 @@ fn same_kind(a: &Kind, b: &Kind) -> bool
 }
 
 /// Whether these kinds are those of the tokens.
-#[tactic(auto, using(crate::proofs::Comparing::shorter, crate::proofs::Comparing::differs, crate::proofs::Comparing::goes_on, crate::proofs::Comparing::ends_too, crate::proofs::Comparing::longer))]
+#[tactic(auto, using(crate::proofs::Comparing::comparing))]
 pub fn same_kinds(kinds: &[Kind], tokens: &[Token]) -> bool
     ensures { result ≡ same_kinds kinds.now (kinds_of tokens.now) }
 {

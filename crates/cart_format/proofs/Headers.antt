@@ -224,3 +224,5 @@ few_textures bytes e = (within bytes e).2
 
 pub few_sounds : (bytes : List ℕ) → header_fault bytes ≡ None → word_at 24 bytes ≤ 1024
 few_sounds bytes e = (within bytes e).3
+
+pub ruleset counted = (long_enough, few_words, few_textures, few_sounds)

@@ -65,3 +65,5 @@ count_files names small = let more = names_at_least names in omega arith
 
 pub count_rows : (rows : List LineRow) → length (flat_map row_text rows) < 2 ^ 32 → length rows < 2 ^ 32
 count_rows rows small = let more = rows_at_least rows in omega arith
+
+pub ruleset short = (short_title, few_textures, few_sounds, short_program)

@@ -63,7 +63,7 @@ fn title_at(alloc: Global, bytes: &[u8]) -> Result<Name, Memory>
 }
 
 /// The cartridge whose header passed its tests.
-#[tactic(auto, using(crate::proofs::Headers::long_enough, crate::proofs::Headers::few_words, crate::proofs::Headers::few_textures, crate::proofs::Headers::few_sounds), unfolding(crate::specs::Reading::sections_of))]
+#[tactic(auto, using(crate::proofs::Headers::counted), unfolding(crate::specs::Reading::sections_of))]
 fn sections_of(alloc: Global, bytes: &[u8]) -> Result<Cart, CartErr>
     requires { header_fault bytes.now ≡ None }
     ensures { Gives (λ c. c) result (sections_of bytes.now) }

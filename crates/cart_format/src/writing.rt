@@ -158,7 +158,7 @@ fn put_fields(
     Ok(())
 }
 
-#[tactic(auto, using(crate::proofs::Limits::short_title, crate::proofs::Limits::few_textures, crate::proofs::Limits::few_sounds, crate::proofs::Limits::short_program))]
+#[tactic(auto, using(crate::proofs::Limits::short))]
 fn put_header(out: &mut Vec<u8>, cart: &Cart) -> Result<(), Memory>
     ensures { OnOk result (out.new.items ≡ out.old.items ++ header_text (revision cart.now.table) (total cart.now) (length cart.now.program)
         (length cart.now.textures) (length cart.now.sounds) cart.now.title) }

@@ -69,3 +69,5 @@ last_line bytes at rest w empty some =
     let all : bytes ≡ take at bytes = w.parts ∙ ap (λ (r : List ℕ). take at bytes ++ r) e ∙ append-nil (take at bytes) in
     let one : lines_from bytes [] ≡ bytes ∷ [] = rw (ne_eqb (length bytes) 0 some) refl in
     sym w.reads ∙ ap (lines_from (take at bytes)) e ∙ ap (λ (x : List ℕ). lines_from x []) (sym all) ∙ one ∙ ap (λ (x : List ℕ). bytes ∷ lines_of x) (sym e)
+
+pub ruleset splitting = (start, goes_on, ended, no_text, last_line)

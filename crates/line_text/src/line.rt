@@ -14,7 +14,7 @@ fn without_return(line: &[u8]) -> &[u8]
 }
 
 /// The first line, less its end (LF or CR LF), and what stands after it; none at the end of the text.
-#[tactic(auto, using(crate::proofs::Splitting::start, crate::proofs::Splitting::goes_on, crate::proofs::Splitting::ended, crate::proofs::Splitting::no_text, crate::proofs::Splitting::last_line))]
+#[tactic(auto, using(crate::proofs::Splitting::splitting))]
 pub fn first_line(bytes: &[u8]) -> Option<(&[u8], &[u8])>
     ensures some { IfSome result (λ x. lines_of bytes.now ≡ x.0.now ∷ lines_of x.1.now) }
     ensures none { IfNone result (lines_of bytes.now ≡ []) }

@@ -35,3 +35,5 @@ gives q out new s rest b given after total whole pushed is so_far = ap (λ (x : 
 pub at_end : (q : ℕ) (out : List ℕ) (s : Within) (rest : List ℕ) (total : Content) → length rest ≡ 0 → with_front out (quoted_at q s rest) ≡ total → None ≡ total
 unfolding quoted_at
 at_end q out s rest total empty so_far = let e : with_front out (quoted_at q s rest) ≡ None = rw (nil_from_length rest empty) refl in sym e ∙ so_far
+
+pub ruleset quoting = (ends, fails, goes, gives, at_end)

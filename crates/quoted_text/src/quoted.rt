@@ -94,7 +94,7 @@ fn turn_of(quote: u8, within: Within, b: u8) -> Turn
 }
 
 /// The bytes that stand behind the first quote, and what stands after its end.
-#[tactic(auto, using(crate::proofs::Quoting::ends, crate::proofs::Quoting::fails, crate::proofs::Quoting::goes, crate::proofs::Quoting::gives, crate::proofs::Quoting::at_end))]
+#[tactic(auto, using(crate::proofs::Quoting::quoting))]
 pub fn quoted_at(alloc: Global, quote: u8, bytes: &[u8]) -> Result<Option<(Seq<u8>, &[u8])>, Memory>
     ensures read { IfOk result (λ o. option_map (λ r. (r.0, r.1.now)) o ≡ quoted_at quote Plain bytes.now) }
 {

@@ -76,3 +76,5 @@ pub placed_of : (x : CodeT ℕ) (start : List Where) (wss : List (List Where)) (
     → s ≡ placed_function (placing start) x.start → fs ≡ placed_functions wss x.functions → gs ≡ x.globals → ls ≡ x.literals → m ≡ x.main → zs ≡ frame_sizes wss x.functions → ss ≡ all_spots wss x.functions
     → made s fs gs ls m zs ss ≡ placed start wss x
 placed_of x start wss s fs gs ls m zs ss a b c d e f g = λ i. made (a i) (b i) (c i) (d i) (e i) (f i) (g i)
+
+pub ruleset promised = (start_placeable, functions_placeable, is_placed, is_placed_from)

@@ -29,7 +29,7 @@ fn copy_names(alloc: Global, names: &[Name]) -> Result<Vec<Name>, Memory>
 /// The code over registers and slots: mid code in which each temporary stands where the choice of its function has it, with its slots
 /// numbered anew. The frame of a function has its slots, its locals, each in words of its own, and at most seven words in which callers
 /// leave arguments for registers. The choices are safe; that of the start stands first. The error is want of memory.
-#[tactic(auto, using(crate::proofs::Promised::start_placeable, crate::proofs::Promised::functions_placeable, crate::proofs::Promised::is_placed, crate::proofs::Promised::is_placed_from))]
+#[tactic(auto, using(crate::proofs::Promised::promised))]
 pub fn place(alloc: Global, m: &Mid, choices: &[Choice]) -> Result<Placed, Memory>
     requires safe { AreSafe (mid m.now) (places_of choices.now) }
     ensures placed { IfOk result (λ x. IsPlacedFrom (mid m.now) (places_of choices.now) (placed x)) }

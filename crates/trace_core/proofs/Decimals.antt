@@ -22,3 +22,5 @@ one_length n h = ap length (one_digit n h)
 -- the last digit behind the others
 pub more_laid : (l : List ℕ) (n : ℕ) → 10 ≤ n → n < 2 ^ 32 → l ++ decimal (n / 10) ++ (48 + n % 10) ∷ [] ≡ l ++ decimal n
 more_laid l n h small = append_assoc l (decimal (n / 10)) ((48 + n % 10) ∷ []) ∙ ap (λ ds. l ++ ds) (sym (more_digits n h small))
+
+pub ruleset decimals = (one_digit, one_length, more_laid, more_length)

@@ -58,7 +58,7 @@ impl Line {
     }
 
     /// Adds a number in decimal that there is room for.
-    #[tactic(auto, using(crate::proofs::Decimals::one_digit, crate::proofs::Decimals::one_length, crate::proofs::Decimals::more_laid, crate::proofs::Decimals::more_length))]
+    #[tactic(auto, using(crate::proofs::Decimals::decimals))]
     pub fn push_decimal(&mut self, number: u32)
         requires { length self.old + length (decimal number) ≤ 32 }
         ensures text { self.new ≡ self.old ++ decimal number }

@@ -9,7 +9,8 @@ use Rattle.c_types.specs.Typed.{TVarT, TStmtT, VarsZ, TStmtTs}
 use Rattle.c_types.specs.Sizes.{words_of, no_layout, with_member, member_named}
 use Rattle.c_rules.specs.declared.code.Code.{Code}
 use Rattle.c_rules.specs.declared.code.Code.TheVariants.{Twice, WrongType, InfiniteType, TooLarge}
-use Rattle.c_rules.specs.Kinds.{is_void, is_array, struct_number, union_number, holds, same_type}
+use Rattle.c_types.specs.Kinds.{is_void}
+use Rattle.c_rules.specs.Kinds.{is_array, struct_number, union_number, holds, same_type}
 use Rattle.c_rules.specs.Sizes.{is_declared, is_whole, fits, type_limit, value_limit}
 use Rattle.c_rules.specs.Rules.{Rule, demand, judged}
 use Rattle.c_rules.specs.Nodes.{given, size_rule}

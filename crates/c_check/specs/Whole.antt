@@ -5,7 +5,8 @@ use Rattle.c_tree.specs.Tree.{ItemT, RecordD, EnumD, TypedefD, VarsD, FunctionD}
 use Rattle.c_tree.specs.Count.{unit_nodes}
 use Rattle.c_types.specs.Programs.{TFunctionT, ProgramT}
 use Rattle.c_rules.specs.declared.code.Code.TheVariants.{NoMain}
-use Rattle.c_rules.specs.Kinds.{is_void, holds}
+use Rattle.c_types.specs.Kinds.{is_void}
+use Rattle.c_rules.specs.Kinds.{holds}
 use Rattle.c_exprs.specs.Env.{Text, find}
 use Rattle.c_exprs.specs.Faults.{FaultT, at, ◌>>=◌, known}
 use Rattle.c_check.specs.Reading.{Un, opening, bodies_of, same_types}

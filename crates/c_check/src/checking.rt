@@ -23,9 +23,9 @@ use crate::items::read_items;
 use crate::program::Program;
 use crate::reading::Reading;
 use c_exprs::{CheckErr, Globals, known};
-use c_rules::{Code, is_void};
+use c_rules::Code;
 use c_tree::{Item, Span, Unit};
-use c_types::{CType, TFunction};
+use c_types::{CType, TFunction, is_void};
 use kit_base::{Memory, Name};
 use std::alloc::Global;
 

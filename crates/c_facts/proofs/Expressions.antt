@@ -11,7 +11,8 @@ use Rattle.c_types.specs.Typed.{TExprT, Typed, LiteralK, UnaryK, BinaryK, Assign
 use Rattle.c_types.specs.Sizes.{words_of}
 use Rattle.c_rules.specs.declared.code.Code.{Code}
 use Rattle.c_rules.specs.declared.code.Code.TheVariants.{NotAPlace}
-use Rattle.c_rules.specs.Kinds.{is_array, decayed, pointed}
+use Rattle.c_rules.specs.Kinds.{is_array}
+use Rattle.c_types.specs.Kinds.{decayed, pointed}
 use Rattle.c_rules.specs.Sizes.{type_limit}
 use Rattle.c_rules.specs.Rules.{judged}
 use Rattle.c_rules.specs.Nodes.{needs_place, unary_rule, binary_rule, assign_rule, compound_rule, step_rule, index_rule, cast_rule, array_rule}

@@ -11,7 +11,8 @@ use Rattle.c_tree.specs.declared.operator.BinOp.{BinOp}
 use Rattle.c_types.specs.Types.{Ty, VoidY, IntY, BoolY, EnumY, StructY, UnionY, PointerY, ArrayY, MemberT, LayoutT}
 use Rattle.c_types.specs.Sizes.{words_of, member_named, no_layout}
 use Rattle.c_rules.specs.declared.code.Code.{Code}
-use Rattle.c_rules.specs.Kinds.{is_void, is_structure, target}
+use Rattle.c_types.specs.Kinds.{is_void, is_structure}
+use Rattle.c_rules.specs.Kinds.{target}
 use Rattle.c_rules.specs.Sizes.{is_whole, fits, type_limit, value_limit}
 use Rattle.c_rules.specs.Rules.{Demand, Rule, checked, judged_by, judged}
 use Rattle.c_rules.specs.Nodes.{given, led_to_whole, count_is_known, counts_elements, step_operator, binary_rule, index_rule, assign_rule, compound_rule, step_rule, array_rule}

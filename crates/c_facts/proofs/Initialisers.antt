@@ -8,7 +8,8 @@ use Rattle.c_types.specs.Types.{Ty, VoidY, IntY, BoolY, EnumY, StructY, UnionY, 
 use Rattle.c_types.specs.Typed.{TExprT, Typed, TKindT, LiteralK, TInitT, OneI, TextI, ListI, TInitTs}
 use Rattle.c_rules.specs.declared.code.Code.{Code}
 use Rattle.c_rules.specs.declared.code.Code.TheVariants.{WrongType, NotConstant}
-use Rattle.c_rules.specs.Kinds.{is_int, is_array, is_structure, element_count, converts}
+use Rattle.c_rules.specs.Kinds.{is_int, is_array, element_count, converts}
+use Rattle.c_types.specs.Kinds.{is_structure}
 use Rattle.c_rules.specs.Sizes.{is_declared, is_whole}
 use Rattle.c_exprs.specs.Env.{Text, Ctx}
 use Rattle.c_exprs.specs.Nodes.{type_of_typed, span_of}

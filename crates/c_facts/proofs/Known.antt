@@ -7,7 +7,8 @@ use Rattle.c_tree.specs.declared.operator.StepOp.{StepOp}
 use Rattle.c_tree.specs.declared.operator.BinOp.{BinOp}
 use Rattle.c_tree.specs.declared.operator.BinOp.TheVariants.{Mul, Div, Mod, Add, Sub, Shl, Shr, Less, LessEq, More, MoreEq, Equal, NotEqual, BitAnd, BitXor, BitOr, AndAlso, OrElse}
 use Rattle.c_types.specs.Types.{Ty, VoidY, IntY, BoolY, EnumY, StructY, UnionY, PointerY, ArrayY, LayoutT}
-use Rattle.c_rules.specs.Kinds.{is_void, is_number, is_condition, decayed, pointed, if_not_void, target, same_type}
+use Rattle.c_types.specs.Kinds.{is_void, decayed, pointed}
+use Rattle.c_rules.specs.Kinds.{is_number, is_condition, if_not_void, target, same_type}
 use Rattle.c_rules.specs.Rules.{Rule, judged}
 use Rattle.c_rules.specs.Nodes.{given, unary_gives, unary_rule, are_numbers, are_comparable, moved, sum_gives, difference_gives, binary_gives, binary_rule, index_rule, assign_rule, kept_as, compound_rule, step_operator, step_rule, cast_rule}
 use Rattle.c_facts.specs.Sound.{IsKnown}

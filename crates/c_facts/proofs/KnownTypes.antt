@@ -7,7 +7,8 @@ use Rattle.std.proofs.lemmas.Option.{slice_get-map}
 use Rattle.c_types.specs.Types.{Ty, VoidY, IntY, BoolY, EnumY, StructY, UnionY, PointerY, ArrayY, LayoutT}
 use Rattle.c_types.specs.Sizes.{words_of, IsNumbered}
 use Rattle.c_types.specs.Programs.{ProgramT}
-use Rattle.c_rules.specs.Kinds.{is_number, is_array, is_structure, is_pointer, decayed, pointed, holds, leads_alike, pointers_convert, same_type, converts, can_cast}
+use Rattle.c_rules.specs.Kinds.{is_number, is_array, holds, leads_alike, pointers_convert, same_type, converts, can_cast}
+use Rattle.c_types.specs.Kinds.{is_structure, is_pointer, decayed, pointed}
 use Rattle.c_rules.specs.Sizes.{is_declared, is_whole, type_limit}
 use Rattle.c_rules.specs.Nodes.{assign_rule}
 use Rattle.c_exprs.specs.Nodes.{type_of_typed, is_place}

@@ -7,7 +7,8 @@ use Rattle.c_types.specs.Types.{Ty, VoidY, IntY, BoolY, EnumY, StructY, UnionY, 
 use Rattle.c_types.specs.Typed.{TExprT, TVarT, TStmtT, MaybeZ, TStmtTs, TArmT, TArmTs}
 use Rattle.c_types.specs.Sizes.{words_of}
 use Rattle.c_rules.specs.declared.code.Code.TheVariants.{InfiniteType, TooLarge}
-use Rattle.c_rules.specs.Kinds.{is_void, is_array}
+use Rattle.c_types.specs.Kinds.{is_void}
+use Rattle.c_rules.specs.Kinds.{is_array}
 use Rattle.c_rules.specs.Rules.{judged}
 use Rattle.c_rules.specs.Sizes.{is_declared, is_whole, fits, value_limit}
 use Rattle.c_check.specs.Reading.{Un, parameter_rule, with_parameter}

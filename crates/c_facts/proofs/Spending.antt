@@ -8,7 +8,7 @@ use Rattle.c_types.specs.Types.{Ty, LayoutT}
 use Rattle.c_types.specs.Typed.{TExprT, TInitT, TVarT, TStmtT, MaybeZ, TStmtTs, TArmT, TArmTs}
 use Rattle.c_types.specs.Sizes.{words_of}
 use Rattle.c_rules.specs.declared.code.Code.TheVariants.{Twice, InfiniteType, TooLarge}
-use Rattle.c_rules.specs.Kinds.{is_void}
+use Rattle.c_types.specs.Kinds.{is_void}
 use Rattle.c_rules.specs.Sizes.{is_whole}
 use Rattle.c_rules.specs.Rules.{demand, judged}
 use Rattle.c_rules.specs.Nodes.{given}

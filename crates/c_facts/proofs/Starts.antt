@@ -6,7 +6,8 @@ use Rattle.c_tree.specs.declared.operator.UnOp.TheVariants.{Minus, Plus, Not, Fl
 use Rattle.c_tree.specs.declared.operator.BinOp.{BinOp}
 use Rattle.c_types.specs.Types.{Ty}
 use Rattle.c_types.specs.Typed.{TExprT, Typed, TKindT, NumberK, NullK, LiteralK, GlobalK, LocalK, UnaryK, BinaryK, AssignK, StepK, IndexK, MemberK, ArrowK, CastK, CallK, InK, OutK, WaitK, HaltK, CardK, TInitT, OneI, TextI, ListI, TInitTs, NoI, MoreI, TVarT, TStmtT, BlockZ, EmptyZ, VarsZ, DoZ, IfZ, WhileZ, DoWhileZ, ForZ, SwitchZ, ReturnZ, BreakZ, ContinueZ}
-use Rattle.c_rules.specs.Kinds.{is_array, is_structure, converts}
+use Rattle.c_rules.specs.Kinds.{is_array, converts}
+use Rattle.c_types.specs.Kinds.{is_structure}
 use Rattle.c_rules.specs.Constants.{constant_unary, constant_binary}
 use Rattle.c_exprs.specs.Nodes.{type_of_typed, kind_of_typed, constant, constant_kind}
 use Rattle.c_stmts.specs.Slots.{Slots, slots_of, next_slot, later_slots, is_null_or_text, is_fixed}

@@ -6,7 +6,8 @@ use Rattle.c_types.specs.Types.{Ty, VoidY, IntY, BoolY, EnumY, StructY, UnionY, 
 use Rattle.c_types.specs.Sizes.{words_of}
 use Rattle.c_rules.specs.declared.code.Code.{Code}
 use Rattle.c_rules.specs.declared.code.Code.TheVariants.{InfiniteType, TooLarge}
-use Rattle.c_rules.specs.Kinds.{is_void, is_array}
+use Rattle.c_types.specs.Kinds.{is_void}
+use Rattle.c_rules.specs.Kinds.{is_array}
 use Rattle.c_rules.specs.Sizes.{is_whole, fits, type_limit, value_limit}
 use Rattle.c_rules.specs.Rules.{demand, judged_by, judged}
 use Rattle.c_rules.specs.Nodes.{given, size_rule}

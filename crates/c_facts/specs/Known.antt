@@ -4,7 +4,8 @@ use Rattle.c_types.specs.Types.{Ty}
 use Rattle.c_types.specs.Typed.{TExprT, AssignK}
 use Rattle.c_types.specs.Sizes.{words_of, IsNumbered}
 use Rattle.c_types.specs.Programs.{ProgramT}
-use Rattle.c_rules.specs.Kinds.{is_structure, converts, can_cast}
+use Rattle.c_types.specs.Kinds.{is_structure}
+use Rattle.c_rules.specs.Kinds.{converts, can_cast}
 use Rattle.c_rules.specs.Sizes.{type_limit}
 use Rattle.c_exprs.specs.Nodes.{type_of_typed}
 use Rattle.c_facts.specs.Sound.{Scene, IsKnown, IsSized, IsKind, wholes, IsSound}

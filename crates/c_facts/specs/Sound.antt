@@ -9,7 +9,8 @@ use Rattle.c_types.specs.Typed.{ArrowK, CastK, CallK, InK, OutK, WaitK, HaltK, C
 use Rattle.c_types.specs.Typed.{MoreI, TVarT, TStmtT, BlockZ, EmptyZ, VarsZ, DoZ, IfZ, WhileZ, DoWhileZ, ForZ, SwitchZ, ReturnZ, BreakZ, ContinueZ}
 use Rattle.c_types.specs.Typed.{MaybeZ, NoneZ, SomeZ, TStmtTs, NoZ, MoreZ, TArmT, CaseB, DefaultB, StmtB, TArmTs, NoB, MoreB}
 use Rattle.c_types.specs.Sizes.{words_of, IsPlaced}
-use Rattle.c_rules.specs.Kinds.{is_int, is_array, is_number, is_structure, decayed, pointed, holds, same_type, converts}
+use Rattle.c_rules.specs.Kinds.{is_int, is_array, is_number, holds, same_type, converts}
+use Rattle.c_types.specs.Kinds.{is_structure, decayed, pointed}
 use Rattle.c_rules.specs.Rules.{judged}
 use Rattle.c_rules.specs.Sizes.{is_whole, type_limit}
 use Rattle.c_rules.specs.Nodes.{needs_place, unary_rule, binary_rule, assign_rule, compound_rule, step_rule, index_rule, cast_rule}

@@ -9,7 +9,7 @@ use Rattle.obj_mem.specs.Stores.{Store, with_objects, with_temporary, next_objec
 use Rattle.obj_mem.specs.Worlds.{World, on_store, spend}
 use Rattle.obj_mem.specs.Queries.{Answer, then_ask, read, write, further}
 use Rattle.c_meaning.specs.declared.end.End.TheVariants.{Stray, OutOfBound}
-use Rattle.c_meaning.specs.Kinds.{is_structure}
+use Rattle.c_types.specs.Kinds.{is_structure}
 use Rattle.c_meaning.specs.Setting.{Setting, words}
 use Rattle.c_meaning.specs.Operators.{read_as}
 use Rattle.c_meaning.specs.Outcomes.{Val, Value, Stops, Went, Through, CutOff, asked, then_went}

@@ -22,7 +22,8 @@ use Rattle.c_meaning.specs.declared.end.End.{End}
 use Rattle.c_meaning.specs.declared.end.End.TheVariants.{Halted, Starved, Stray, Deep, OutOfBound}
 use Rattle.c_meaning.specs.Outcomes.{Val, Value, Place, NoValue, Stops, Vals, Values, Short, Done, Goes, Breaks, Continues, Returns, Ended, Before}
 use Rattle.c_meaning.specs.Outcomes.{Body, asked, then_value, then_place, then_went, then_values, in_front, either_way}
-use Rattle.c_meaning.specs.Kinds.{type_of, span_of, is_structure, decayed}
+use Rattle.c_meaning.specs.Kinds.{type_of, span_of}
+use Rattle.c_types.specs.Kinds.{is_structure, decayed}
 use Rattle.c_meaning.specs.Setting.{Setting, words, global_at, literal_at, card_at}
 use Rattle.c_meaning.specs.Operators.{read_as, converted, is_true, cell_unary, stepped, operated}
 use Rattle.c_meaning.specs.Cells.{end_temporary, released, fetched, stored, member_of_value}

@@ -7,7 +7,7 @@ use Rattle.obj_mem.specs.Stores.{Store, local_object}
 use Rattle.obj_mem.specs.Worlds.{World, on_store, spend}
 use Rattle.obj_mem.specs.Queries.{Answer, further, first_cell}
 use Rattle.c_meaning.specs.Outcomes.{Val, Went, Through, CutOff, Before, nowhere, asked, then_went}
-use Rattle.c_meaning.specs.Parts.{part_type}
+use Rattle.c_types.specs.Parts.{part_type}
 use Rattle.c_meaning.specs.Setting.{Setting, words, global_at, literal_at, literal_words}
 use Rattle.c_meaning.specs.Operators.{converted}
 use Rattle.c_meaning.specs.Cells.{cells_set, stored, released}

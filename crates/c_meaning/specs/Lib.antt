@@ -1,5 +1,4 @@
 pub mod Kinds
-pub mod Parts
 pub mod Outcomes
 pub mod Setting
 pub mod Operators

@@ -12,7 +12,7 @@ use Rattle.obj_mem.specs.declared.cell.Cell.TheVariants.{Num, Ptr, Null}
 use Rattle.obj_mem.specs.Objects.{ObjectT}
 use Rattle.obj_mem.specs.declared.refusal.Refusal.TheVariants.{Strays, Faults}
 use Rattle.obj_mem.specs.Queries.{Answer, then_ask, answer_if, word_of, truth, read, step, equal_pointers, offsets, apart}
-use Rattle.c_meaning.specs.Kinds.{decayed, pointed, is_pointer}
+use Rattle.c_types.specs.Kinds.{decayed, pointed, is_pointer}
 use Rattle.c_meaning.specs.Setting.{Setting, words}
 
 -- ---- reading and storing at a type

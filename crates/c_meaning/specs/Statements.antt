@@ -11,7 +11,8 @@ use Rattle.obj_mem.specs.Queries.{word_of, first_cell}
 use Rattle.c_meaning.specs.declared.end.End.TheVariants.{Stray, OutOfBound}
 use Rattle.c_meaning.specs.Outcomes.{Val, Went, Through, CutOff, Done, Goes, Breaks, Continues, Returns, Ended, Task, Turn, DoTurn, Body, Before}
 use Rattle.c_meaning.specs.Outcomes.{nowhere, asked, then_went, then_done}
-use Rattle.c_meaning.specs.Kinds.{span_of, is_structure}
+use Rattle.c_meaning.specs.Kinds.{span_of}
+use Rattle.c_types.specs.Kinds.{is_structure}
 use Rattle.c_meaning.specs.Setting.{Setting, words, result_of}
 use Rattle.c_meaning.specs.Operators.{converted}
 use Rattle.c_meaning.specs.Cells.{cells_set, stored, released}

@@ -6,7 +6,8 @@ use Rattle.c_tree.specs.declared.operator.StepOp.{StepOp}
 use Rattle.c_tree.specs.declared.operator.StepOp.TheVariants.{PreUp, PreDown, PostUp, PostDown}
 use Rattle.c_types.specs.Types.{Ty, VoidY, IntY, BoolY, EnumY, StructY, UnionY, PointerY, ArrayY, LayoutT}
 use Rattle.c_rules.specs.declared.code.Code.TheVariants.{NotAPlace, InfiniteType, TooLarge, WrongType}
-use Rattle.c_rules.specs.Kinds.{is_array, is_number, is_pointer, is_structure, converts, target, same_type}
+use Rattle.c_rules.specs.Kinds.{is_array, is_number, converts, target, same_type}
+use Rattle.c_types.specs.Kinds.{is_pointer, is_structure}
 use Rattle.c_rules.specs.Sizes.{is_whole, fits, value_limit}
 use Rattle.c_rules.specs.Rules.{demand, judged_by, judged}
 use Rattle.c_rules.specs.Lowest.{joined}

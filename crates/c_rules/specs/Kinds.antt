@@ -1,10 +1,7 @@
 -- Kinds of types, and which values become which.
 use Rattle.std.specs.Prelude.{ℕ, ◌==◌, Bool, true, false, ◌&&◌, ◌||◌, Option, Some, None, if◌then◌else◌}
 use Rattle.c_types.specs.Types.{Ty, VoidY, IntY, BoolY, EnumY, StructY, UnionY, PointerY, ArrayY}
-
-abbrev pub is_void : Ty → Bool
-is_void VoidY = true
-is_void _ = false
+use Rattle.c_types.specs.Kinds.{is_void, is_pointer, is_structure, decayed, pointed}
 
 abbrev pub is_int : Ty → Bool
 is_int IntY = true
@@ -25,20 +22,6 @@ abbrev pub is_array : Ty → Bool
 is_array (ArrayY of len) = true
 is_array _ = false
 
-abbrev pub is_pointer : Ty → Bool
-is_pointer (PointerY to) = true
-is_pointer _ = false
-
-abbrev pub is_structure : Ty → Bool
-is_structure (StructY number) = true
-is_structure (UnionY number) = true
-is_structure _ = false
-
--- The value of an array is a pointer to its first element.
-abbrev pub decayed : Ty → Ty
-decayed (ArrayY of len) = PointerY of
-decayed ty = ty
-
 -- what a value may be that is tested
 abbrev pub is_condition : Ty → Bool
 is_condition ty = is_number ty || is_pointer (decayed ty)
@@ -56,10 +39,6 @@ struct_number _ = None
 abbrev pub union_number : Ty → Option ℕ
 union_number (UnionY number) = Some number
 union_number _ = None
-
-abbrev pub pointed : Ty → Option Ty
-pointed (PointerY to) = Some to
-pointed _ = None
 
 abbrev pub element : Ty → Option Ty
 element (ArrayY of len) = Some of

@@ -11,7 +11,8 @@ use Rattle.c_tree.specs.declared.operator.BinOp.TheVariants.{BitXor, BitOr, AndA
 use Rattle.c_types.specs.Types.{Ty, IntY, BoolY, PointerY, ArrayY, LayoutT}
 use Rattle.c_types.specs.Sizes.{words_of}
 use Rattle.c_rules.specs.declared.code.Code.TheVariants.{NotAPlace, InfiniteType, TooLarge}
-use Rattle.c_rules.specs.Kinds.{is_void, is_number, is_array, is_condition, decayed, target, same_type, pointers_convert, converts, can_cast}
+use Rattle.c_types.specs.Kinds.{is_void, decayed}
+use Rattle.c_rules.specs.Kinds.{is_number, is_array, is_condition, target, same_type, pointers_convert, converts, can_cast}
 use Rattle.c_rules.specs.Sizes.{is_whole, fits, type_limit, value_limit}
 use Rattle.c_rules.specs.Rules.{Rule, demand}
 

@@ -2,7 +2,7 @@
 ghost use Rattle.std.specs.Prelude.{◌≡◌, IfOk};
 ghost use Rattle.c_types.specs.Types.{PointerY, ArrayY};
 ghost use Rattle.c_types.specs.View.{ctype};
-ghost use Rattle.c_rules.specs.Kinds.{decayed};
+ghost use Rattle.c_types.specs.Kinds.{decayed};
 
 use c_types::CType;
 use kit_base::Memory;

@@ -1,17 +1,12 @@
 // Kinds of types, and which values become which.
 ghost use Rattle.std.specs.Prelude.{◌≡◌, ◌==◌, option_map, ◌||◌};
 ghost use Rattle.c_types.specs.View.{ctype};
-ghost use Rattle.c_rules.specs.Kinds.{is_void, is_number, is_array, is_structure, is_pointer, is_condition, decayed, enum_number, struct_number};
-ghost use Rattle.c_rules.specs.Kinds.{union_number, pointed, element, element_count, holds, target, same_type, leads_alike, pointers_convert};
+ghost use Rattle.c_types.specs.Kinds.{is_void, is_structure, is_pointer, decayed, pointed};
+ghost use Rattle.c_rules.specs.Kinds.{is_number, is_array, is_condition, enum_number, struct_number};
+ghost use Rattle.c_rules.specs.Kinds.{union_number, element, element_count, holds, target, same_type, leads_alike, pointers_convert};
 ghost use Rattle.c_rules.specs.Kinds.{converts, can_cast};
 
-use c_types::CType;
-
-pub fn is_void(ty: &CType) -> bool
-    ensures void { result ≡ is_void (ctype ty.now) }
-{
-    matches!(ty, CType::Void)
-}
+use c_types::{CType, has_pointer_value, is_structure, is_void, led_to};
 
 /// Whether arithmetic takes it: int, bool and every enumeration.
 pub fn is_number(ty: &CType) -> bool
@@ -36,21 +31,6 @@ pub fn is_array(ty: &CType) -> bool
         | CType::Struct(_)
         | CType::Union(_)
         | CType::Pointer(_) => false,
-    }
-}
-
-/// A structure or a union.
-pub fn is_structure(ty: &CType) -> bool
-    ensures structure { result ≡ is_structure (ctype ty.now) }
-{
-    match ty {
-        CType::Struct(_) | CType::Union(_) => true,
-        CType::Void
-        | CType::Int
-        | CType::Bool
-        | CType::Enum(_)
-        | CType::Pointer(_)
-        | CType::Array(_, _) => false,
     }
 }
 
@@ -122,22 +102,6 @@ fn pointed(ty: &CType) -> Option<&CType>
         | CType::Struct(_)
         | CType::Union(_)
         | CType::Array(_, _) => None,
-    }
-}
-
-/// What a pointer, or an array's value, leads to.
-fn led_to(ty: &CType) -> Option<&CType>
-    ensures to { option_map (λ r. ctype r.now) result ≡ pointed (decayed (ctype ty.now)) }
-{
-    match ty {
-        CType::Pointer(to) => Some(to),
-        CType::Array(of, _) => Some(of),
-        CType::Void
-        | CType::Int
-        | CType::Bool
-        | CType::Enum(_)
-        | CType::Struct(_)
-        | CType::Union(_) => None,
     }
 }
 
@@ -253,21 +217,7 @@ pub fn converts(from: &CType, to: &CType) -> bool
 pub fn can_cast(from: &CType, to: &CType) -> bool
     ensures cast { result ≡ can_cast (ctype from.now) (ctype to.now) }
 {
-    is_number(from) && is_number(to) || is_pointer_value(from) && is_pointer(to)
-}
-
-fn is_pointer_value(ty: &CType) -> bool
-    ensures pointer { result ≡ is_pointer (decayed (ctype ty.now)) }
-{
-    match ty {
-        CType::Pointer(_) | CType::Array(_, _) => true,
-        CType::Void
-        | CType::Int
-        | CType::Bool
-        | CType::Enum(_)
-        | CType::Struct(_)
-        | CType::Union(_) => false,
-    }
+    is_number(from) && is_number(to) || has_pointer_value(from) && is_pointer(to)
 }
 
 fn is_pointer(ty: &CType) -> bool

@@ -20,9 +20,7 @@ pub use code::{Code, RuleErr, code_number};
 pub use constants::{constant_binary, constant_unary};
 pub use counted::{Counted, copy_counted, with_elements};
 pub use elements::{Element, Elements};
-pub use kinds::{
-    can_cast, converts, is_array, is_condition, is_number, is_structure, is_void, same_type, target,
-};
+pub use kinds::{can_cast, converts, is_array, is_condition, is_number, same_type, target};
 pub use nodes::{
     address_type, array_type, assign_type, binary_type, cast_type, check_store, compound_type,
     index_type, step_type, type_size, unary_type,

@@ -14,12 +14,11 @@ use crate::building::{copy_type, pointer_to};
 use crate::code::{Code, RuleErr, demand};
 use crate::counted::{Counted, counted_fits, is_counted_whole, so_many_of};
 use crate::kinds::{
-    can_cast, converts, is_array, is_condition, is_number, is_void, pointers_meet, same_type,
-    target,
+    can_cast, converts, is_array, is_condition, is_number, pointers_meet, same_type, target,
 };
 use crate::sizes::{fits, is_whole, words_within};
 use c_tree::{BinOp, StepOp, UnOp};
-use c_types::{CType, Layout};
+use c_types::{CType, Layout, is_void};
 use kit_base::Memory;
 use std::alloc::Global;
 

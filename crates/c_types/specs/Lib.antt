@@ -5,3 +5,5 @@ pub mod Nodes
 pub mod View
 pub mod Lists
 pub mod Sizes
+pub mod Kinds
+pub mod Parts

@@ -1,5 +1,6 @@
 -- The plain data that types, layouts and typed trees in memory stand for.
-use Rattle.std.specs.Prelude.{ℕ, List, [], ◌∷◌, Some, None, map, option_map}
+use Rattle.std.specs.Prelude.{ℕ, List, [], ◌∷◌, Option, Some, None, map, option_map}
+use Rattle.std.specs.Borrow.{Bor}
 use Rattle.c_types.specs.declared.ctype.CType.{CType, CType-F, fold-CType}
 use Rattle.c_types.specs.declared.ctype.CType.TheOpen as c
 use Rattle.c_types.specs.declared.layout.Member.{Member}
@@ -49,6 +50,11 @@ type_layer (c.Array t n) = ArrayY t.value n
 
 abbrev pub ctype : CType → Ty
 ctype = fold-CType Ty type_layer
+
+-- a type, or that of nothing
+abbrev pub or_void : Option (Bor CType) → Ty
+or_void None = VoidY
+or_void (Some ty) = ctype ty.now
 
 -- a member under its name
 abbrev pub named : List ℕ → Member → MemberT

@@ -7,10 +7,12 @@
 
 mod ctype;
 mod function;
+mod kinds;
 mod layout;
 mod typed;
 
 pub use ctype::CType;
 pub use function::TFunction;
+pub use kinds::{has_pointer_value, is_structure, is_void, led_to, part_type};
 pub use layout::{Layout, Member, member_offset, size_of, wrapped_size};
 pub use typed::{TArm, TExpr, TInit, TKind, TStmt, TVar};

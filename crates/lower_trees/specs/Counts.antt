@@ -9,7 +9,8 @@ use Rattle.c_types.specs.Typed.{DefaultB, StmtB, TArmTs, NoB, MoreB}
 use Rattle.c_tree.specs.declared.operator.UnOp.{UnOp}
 use Rattle.c_tree.specs.declared.operator.UnOp.TheVariants.{Address}
 use Rattle.c_exprs.specs.Nodes.{is_place}
-use Rattle.c_meaning.specs.Kinds.{type_of, is_structure}
+use Rattle.c_meaning.specs.Kinds.{type_of}
+use Rattle.c_types.specs.Kinds.{is_structure}
 use Rattle.lower_trees.specs.Shape.{Shape, words, result_of}
 
 -- ---- temporaries

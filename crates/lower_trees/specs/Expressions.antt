@@ -11,7 +11,8 @@ use Rattle.c_types.specs.Types.{Ty, VoidY, ArrayY}
 use Rattle.c_types.specs.Typed.{TExprT, Typed, TKindT, NumberK, NullK, LiteralK, GlobalK, LocalK, UnaryK, BinaryK, AssignK, StepK, IndexK, MemberK}
 use Rattle.c_types.specs.Typed.{ArrowK, CastK, CallK, InK, OutK, WaitK, HaltK, CardK, TExprTs, NoX, MoreX}
 use Rattle.c_exprs.specs.Nodes.{is_place}
-use Rattle.c_meaning.specs.Kinds.{type_of, is_structure, decayed, pointed}
+use Rattle.c_meaning.specs.Kinds.{type_of}
+use Rattle.c_types.specs.Kinds.{is_void, is_structure, decayed, pointed}
 use Rattle.v32_isa.specs.declared.instruction.One.TheVariants.{ISGN, NOT}
 use Rattle.mid_code.specs.Code.{ConstO, NullO, OneO, GlobalO, LocalO, LiteralO, CardO, LoadO, StoreO, FreshO, InO, OutO, WaitO, HaltO, Stop, Do, Call, Choose}
 use Rattle.lower_trees.specs.Shape.{Shape, words, params_of, result_of}
@@ -117,10 +118,6 @@ member_of true ty t c = c
 member_of false ty t c = if is_structure ty then c else Do (LoadO t t) c
 
 -- ---- calls
-
-abbrev pub is_void : Ty → Bool
-is_void VoidY = true
-is_void _ = false
 
 -- A structure is returned to a local that is made before the call, and passed as a pointer to it before the arguments.
 abbrev pub called : Ty → (function local t : ℕ) → (args : List ℕ) → Nodes → Nodes

@@ -7,7 +7,8 @@ use Rattle.c_tree.specs.declared.operator.BinOp.{BinOp}
 use Rattle.c_tree.specs.declared.operator.BinOp.TheVariants.{Less, LessEq, More, MoreEq, Equal, NotEqual, AndAlso, OrElse}
 use Rattle.c_types.specs.Types.{Ty, BoolY}
 use Rattle.c_types.specs.Typed.{TExprT, Typed, TKindT, NumberK, UnaryK, BinaryK, AssignK, CastK}
-use Rattle.c_meaning.specs.Kinds.{type_of, decayed, is_pointer}
+use Rattle.c_meaning.specs.Kinds.{type_of}
+use Rattle.c_types.specs.Kinds.{decayed, is_pointer}
 
 abbrev pub is_bool : Ty → Bool
 is_bool BoolY = true

@@ -3,8 +3,8 @@
 use Rattle.std.specs.Prelude.{ℕ, zero, suc, ◌+◌, ◌-◌, ◌*◌, ◌%◌, ◌^◌, Bool, true, false, List, [], ◌∷◌, length, if◌then◌else◌}
 use Rattle.c_types.specs.Types.{Ty, ArrayY}
 use Rattle.c_types.specs.Typed.{TInitT, OneI, TextI, ListI, TInitTs, NoI, MoreI, TVarT}
-use Rattle.c_meaning.specs.Kinds.{is_structure}
-use Rattle.c_meaning.specs.Parts.{part_type}
+use Rattle.c_types.specs.Kinds.{is_structure}
+use Rattle.c_types.specs.Parts.{part_type}
 use Rattle.mid_code.specs.Code.{MoveO, GlobalO, LocalO, LiteralO, StoreO, Do}
 use Rattle.lower_trees.specs.Shape.{Shape, words, literal_words}
 use Rattle.lower_trees.specs.Flags.{is_flag}

@@ -10,14 +10,15 @@ use Rattle.c_types.specs.Types.{Ty, VoidY, ArrayY}
 use Rattle.c_types.specs.Typed.{TExprT, Typed, TKindT, NumberK, NullK, LiteralK, GlobalK, LocalK, UnaryK, BinaryK, AssignK, StepK, IndexK, MemberK}
 use Rattle.c_types.specs.Typed.{ArrowK, CastK, CallK, InK, OutK, WaitK, HaltK, CardK, TExprTs, NoX, MoreX}
 use Rattle.c_exprs.specs.Nodes.{is_place}
-use Rattle.c_meaning.specs.Kinds.{type_of, is_structure, decayed, pointed}
+use Rattle.c_meaning.specs.Kinds.{type_of}
+use Rattle.c_types.specs.Kinds.{is_structure, decayed, pointed, is_void}
 use Rattle.v32_isa.specs.declared.instruction.One.TheVariants.{ISGN, NOT}
 use Rattle.mid_code.specs.declared.node.Op.TheVariants as o
 use Rattle.mid_code.specs.Functions.{NodeT, DoN, ChooseN, listed}
 use Rattle.lower_trees.specs.Shape.{Shape, words, params_of, result_of}
 use Rattle.lower_trees.specs.Flags.{is_flag, tests_flag}
 use Rattle.lower_trees.specs.Counts.{temps, sizes, sizes_all}
-use Rattle.lower_trees.specs.Expressions.{is_void, second, beyond, size_at, behind_place, spots, later_types}
+use Rattle.lower_trees.specs.Expressions.{second, beyond, size_at, behind_place, spots, later_types}
 use Rattle.lower_trees.specs.ListedParts.{Listing, moved_by, structure_read, as_flag, converted, stored, stepped, operated, one_more, one_less}
 use Rattle.lower_trees.specs.ListedParts.{tested_as, negated_as}
 

@@ -4,14 +4,13 @@ use Rattle.c_types.specs.Types.{Ty, VoidY}
 use Rattle.c_types.specs.Typed.{TStmtTs}
 use Rattle.c_types.specs.Programs.{TFunctionT}
 use Rattle.c_types.specs.Nodes.{statements_nodes}
-use Rattle.c_meaning.specs.Kinds.{is_structure}
+use Rattle.c_types.specs.Kinds.{is_structure, is_void}
 use Rattle.mid_code.specs.Code.{FunctionT}
 use Rattle.mid_code.specs.declared.node.Op.TheVariants as o
 use Rattle.mid_code.specs.Functions.{DoN, BlockN, listed, joined}
 use Rattle.lower_trees.specs.Shape.{Shape, words}
 use Rattle.lower_trees.specs.Parts.{from, to, param_at, first_param}
 use Rattle.lower_trees.specs.Counts.{stmts_temps, stmts_sizes}
-use Rattle.lower_trees.specs.Expressions.{is_void}
 use Rattle.lower_trees.specs.Statements.{ToEnd}
 use Rattle.lower_trees.specs.Lowered.{first_of, args_from, with_result}
 use Rattle.lower_trees.specs.ListedParts.{Listing, copied, made}

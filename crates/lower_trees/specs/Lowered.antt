@@ -3,12 +3,11 @@ use Rattle.std.specs.Prelude.{ℕ, ◌+◌, not, ◌||◌, List, [], ◌∷◌, 
 use Rattle.c_types.specs.Types.{Ty, VoidY}
 use Rattle.c_types.specs.View.{tstmts}
 use Rattle.c_types.specs.Programs.{TFunctionT, ProgramT}
-use Rattle.c_meaning.specs.Kinds.{is_structure}
+use Rattle.c_types.specs.Kinds.{is_structure, is_void}
 use Rattle.mid_code.specs.Code.{MoveO, LocalO, StoreO, Stop, Do, Block, FunctionT, CodeT}
 use Rattle.lower_trees.specs.Shape.{Shape, shape, words}
 use Rattle.lower_trees.specs.Parts.{Nodes, from, to, result_at, param_at, first_param, copied, made}
 use Rattle.lower_trees.specs.Counts.{stmts_temps, stmts_sizes}
-use Rattle.lower_trees.specs.Expressions.{is_void}
 use Rattle.lower_trees.specs.Statements.{ToEnd, low_stmts}
 
 -- the temporaries that receive arguments, one for each parameter

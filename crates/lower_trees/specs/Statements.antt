@@ -3,7 +3,7 @@ use Rattle.std.specs.Prelude.{ℕ, suc, ◌+◌, length, Option, Some, None, if�
 use Rattle.c_types.specs.Types.{Ty}
 use Rattle.c_types.specs.Typed.{TExprT, TStmtT, BlockZ, EmptyZ, VarsZ, DoZ, IfZ, WhileZ, DoWhileZ, ForZ, SwitchZ, ReturnZ, BreakZ, ContinueZ, MaybeZ}
 use Rattle.c_types.specs.Typed.{NoneZ, SomeZ, TStmtTs, NoZ, MoreZ, CaseB, DefaultB, StmtB, TArmTs, NoB, MoreB}
-use Rattle.c_meaning.specs.Kinds.{is_structure}
+use Rattle.c_types.specs.Kinds.{is_structure}
 use Rattle.v32_isa.specs.declared.instruction.Two.TheVariants.{IEQ, ISUB}
 use Rattle.mid_code.specs.Code.{ConstO, MoveO, TwoO, Stop, Do, Choose, Block, Loop, Leave, Again, Return}
 use Rattle.lower_trees.specs.Shape.{Shape, words}

@@ -6,9 +6,8 @@ ghost use Rattle.lower_trees.specs.ListedParts.{copy_turn, zero_turn, copied, ze
 ghost use Rattle.c_types.specs.View.{ctype};
 ghost use Rattle.lower_trees.specs.View.{shape_of};
 
-use crate::kinds::is_structure;
 use crate::reading::Reading;
-use c_types::CType;
+use c_types::{CType, is_structure};
 use kit_base::{Memory, Seq};
 use mid_code::{Node, Op};
 use std::alloc::Global;

@@ -2,7 +2,8 @@
 ghost use Rattle.std.specs.Prelude.{◌≡◌, ◌≤◌, ◌+◌, ◌++◌, ◌∷◌, [], length, map, false, IfOk, OnOk};
 ghost use Rattle.c_types.specs.View.{ctype, texpr, texprs};
 ghost use Rattle.c_exprs.specs.Nodes.{is_place};
-ghost use Rattle.c_meaning.specs.Kinds.{type_of, decayed};
+ghost use Rattle.c_meaning.specs.Kinds.{type_of};
+ghost use Rattle.c_types.specs.Kinds.{decayed};
 ghost use Rattle.mid_code.specs.Functions.{DoN, node};
 ghost use Rattle.lower_trees.specs.Shape.{words, params_of, result_of};
 ghost use Rattle.lower_trees.specs.Flags.{is_flag, tests_flag};
@@ -182,9 +183,8 @@ fn kind(
             let first = first_value(s, x, at, out, structures)?;
             element(s, y, ty, first, t, out, structures)
         }
-        TKind::Member(x, offset) => {
-            let offset = *offset;
-            member_at(s, x, Member { offset, ty }, t, at, out, structures)
+        TKind::Member(x, words) => {
+            member_at(s, x, Member { offset: *words, ty }, t, at, out, structures)
         }
         TKind::Arrow(x, offset) => arrow(s, x, *offset, t, at, out, structures),
         TKind::Cast(x) => cast(s, x, ty, t, at, out, structures),

@@ -1,11 +1,10 @@
 // Functions, lowered.
 ghost use Rattle.std.specs.Prelude.{◌≡◌, ◌≤◌, ◌+◌, ◌++◌, not, ◌||◌, length, map, IfOk, OnOk};
 ghost use Rattle.c_types.specs.View.{ctype, tstmt, tstmts, function};
-ghost use Rattle.c_meaning.specs.Kinds.{is_structure};
+ghost use Rattle.c_types.specs.Kinds.{is_structure, is_void};
 ghost use Rattle.mid_code.specs.Functions.{node, function as function_of};
 ghost use Rattle.lower_trees.specs.Parts.{param_at};
 ghost use Rattle.lower_trees.specs.Counts.{stmts_sizes};
-ghost use Rattle.lower_trees.specs.Expressions.{is_void};
 ghost use Rattle.lower_trees.specs.Lowered.{args_from, with_result};
 ghost use Rattle.lower_trees.specs.ListedFunctions.{received, all_received, low_body, low_function, low_start, IsFew, IsFewIn, AreFew};
 ghost use Rattle.lower_trees.specs.View.{shape_of};
@@ -14,11 +13,10 @@ use crate::at::from;
 use crate::cells::{FIRST_PARAM, FROM, RESULT_AT, TO, copy_cells, make, put};
 use crate::finishing::lead;
 use crate::jump::{Exits, JumpTo};
-use crate::kinds::{is_structure, is_void};
 use crate::looping::put_block;
 use crate::reading::Reading;
 use crate::statements::statements;
-use c_types::{CType, TFunction, TStmt};
+use c_types::{CType, TFunction, TStmt, is_structure, is_void};
 use kit_base::{Memory, Seq};
 use mid_code::{Function, Node, Op};
 use std::alloc::Global;

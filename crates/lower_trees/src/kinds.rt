@@ -1,44 +1,13 @@
 // Kinds of types and expressions.
-ghost use Rattle.std.specs.Prelude.{◌≡◌, ◌||◌, option_map};
+ghost use Rattle.std.specs.Prelude.{◌≡◌, ◌||◌};
 ghost use Rattle.c_types.specs.View.{ctype, texpr};
-ghost use Rattle.c_meaning.specs.Kinds.{is_structure, decayed, pointed, is_pointer};
 ghost use Rattle.c_exprs.specs.Nodes.{is_place};
 ghost use Rattle.lower_trees.specs.Counts.{is_scalar};
 ghost use Rattle.lower_trees.specs.Flags.{is_bool, is_not, is_comparison, is_flag, tests_flag};
-ghost use Rattle.lower_trees.specs.Expressions.{is_void};
 ghost use Rattle.lower_trees.specs.ListedExpressions.{lazy_of, gives_old, counts_up};
 
 use c_tree::{BinOp, StepOp, UnOp};
-use c_types::{CType, TExpr, TKind};
-
-pub(crate) fn is_structure(ty: &CType) -> bool
-    ensures { result ≡ is_structure (ctype ty.now) }
-{
-    match ty {
-        CType::Struct(_) | CType::Union(_) => true,
-        CType::Void
-        | CType::Int
-        | CType::Bool
-        | CType::Enum(_)
-        | CType::Pointer(_)
-        | CType::Array(_, _) => false,
-    }
-}
-
-pub(crate) fn is_void(ty: &CType) -> bool
-    ensures { result ≡ is_void (ctype ty.now) }
-{
-    match ty {
-        CType::Void => true,
-        CType::Int
-        | CType::Bool
-        | CType::Enum(_)
-        | CType::Struct(_)
-        | CType::Union(_)
-        | CType::Pointer(_)
-        | CType::Array(_, _) => false,
-    }
-}
+use c_types::{CType, TExpr, TKind, has_pointer_value};
 
 fn is_bool(ty: &CType) -> bool
     ensures { result ≡ is_bool (ctype ty.now) }
@@ -52,37 +21,6 @@ fn is_bool(ty: &CType) -> bool
         | CType::Union(_)
         | CType::Pointer(_)
         | CType::Array(_, _) => false,
-    }
-}
-
-/// What a pointer or an array leads to.
-pub(crate) fn target(ty: &CType) -> Option<&CType>
-    ensures { option_map (λ t. ctype t.now) result ≡ pointed (decayed (ctype ty.now)) }
-{
-    match ty {
-        CType::Pointer(to) => Some(to),
-        CType::Array(of, _) => Some(of),
-        CType::Void
-        | CType::Int
-        | CType::Bool
-        | CType::Enum(_)
-        | CType::Struct(_)
-        | CType::Union(_) => None,
-    }
-}
-
-/// Whether a value of a type is a pointer.
-pub(crate) fn is_pointer(ty: &CType) -> bool
-    ensures { result ≡ is_pointer (decayed (ctype ty.now)) }
-{
-    match ty {
-        CType::Pointer(_) | CType::Array(_, _) => true,
-        CType::Void
-        | CType::Int
-        | CType::Bool
-        | CType::Enum(_)
-        | CType::Struct(_)
-        | CType::Union(_) => false,
     }
 }
 
@@ -197,7 +135,7 @@ pub(crate) fn is_flag(x: &TExpr) -> bool
 pub(crate) fn tests_flag(x: &TExpr) -> bool
     ensures { result ≡ tests_flag (texpr x.now) }
 {
-    is_flag(x) || is_pointer(&x.ty)
+    is_flag(x) || has_pointer_value(&x.ty)
 }
 
 /// Whether an operator skips its second operand: `&&` (true) or `||` (false).

@@ -1,7 +1,7 @@
 // The last code of an expression, behind which `at` is still free.
 ghost use Rattle.std.specs.Prelude.{◌≡◌, ◌≤◌, ◌+◌, ◌++◌, ◌∷◌, [], map, IfOk, OnOk};
 ghost use Rattle.c_types.specs.View.{ctype};
-ghost use Rattle.c_meaning.specs.Kinds.{decayed};
+ghost use Rattle.c_types.specs.Kinds.{decayed};
 ghost use Rattle.mid_code.specs.Functions.{DoN, node};
 ghost use Rattle.lower_trees.specs.Shape.{words};
 ghost use Rattle.lower_trees.specs.Counts.{size_temps};

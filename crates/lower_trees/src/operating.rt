@@ -2,7 +2,7 @@
 ghost use Rattle.std.specs.Prelude.{◌≡◌, ◌++◌, map, option_map, OnOk};
 ghost use Rattle.std.specs.Borrow.{Bor};
 ghost use Rattle.c_types.specs.View.{ctype};
-ghost use Rattle.c_meaning.specs.Kinds.{decayed, pointed};
+ghost use Rattle.c_types.specs.Kinds.{decayed, pointed};
 ghost use Rattle.mid_code.specs.Functions.{node};
 ghost use Rattle.lower_trees.specs.ListedParts.{two, compared, as_flag, converted, with_word, stepped, stepped_back, distant, with_pointer, operated};
 ghost use Rattle.lower_trees.specs.ListedParts.{one_more, one_less, tested_as, negated_as};
@@ -10,11 +10,10 @@ ghost use Rattle.lower_trees.specs.ListedExpressions.{step_made};
 ghost use Rattle.lower_trees.specs.View.{shape_of};
 
 use crate::cells::{OTHER, put};
-use crate::kinds::{is_pointer, target};
 use crate::operands::Operands;
 use crate::reading::Reading;
 use c_tree::BinOp;
-use c_types::CType;
+use c_types::{CType, has_pointer_value, led_to};
 use kit_base::Memory;
 use mid_code::{Node, Op};
 use v32_isa::{One, Two};
@@ -176,9 +175,9 @@ pub(crate) fn operate(
     ensures { OnOk result (map node out.new.items ≡ map node out.old.items
         ++ operated (shape_of s.now) op (ctype first.now) (ctype second.now) k.target k.first k.second k.scale) }
 {
-    match target(first) {
+    match led_to(first) {
         None => with_word(out, op, k.target, k.first, k.second),
-        Some(to) => with_pointer(out, op, s.words(to), is_pointer(second), k),
+        Some(to) => with_pointer(out, op, s.words(to), has_pointer_value(second), k),
     }
 }
 
@@ -240,9 +239,9 @@ pub(crate) fn step_one(
     ensures { OnOk result (map node out.new.items ≡ map node out.old.items ++ step_made (shape_of s.now) up (ctype ty.now) new old by) }
 {
     if up {
-        count_up(s, out, target(ty), new, old, by)
+        count_up(s, out, led_to(ty), new, old, by)
     } else {
-        count_down(s, out, target(ty), new, old, by)
+        count_down(s, out, led_to(ty), new, old, by)
     }
 }
 
@@ -250,7 +249,7 @@ pub(crate) fn step_one(
 pub(crate) fn test_as(out: &mut Vec<Node<u32>>, ty: &CType, t: u32) -> Result<(), Memory>
     ensures { OnOk result (map node out.new.items ≡ map node out.old.items ++ tested_as (decayed (ctype ty.now)) t) }
 {
-    if is_pointer(ty) {
+    if has_pointer_value(ty) {
         put(out, Op::Null(OTHER))?;
         put(out, Op::PtrTest(Two::INE, t, t, OTHER))
     } else {
@@ -262,7 +261,7 @@ pub(crate) fn test_as(out: &mut Vec<Node<u32>>, ty: &CType, t: u32) -> Result<()
 pub(crate) fn negate_as(out: &mut Vec<Node<u32>>, ty: &CType, t: u32) -> Result<(), Memory>
     ensures { OnOk result (map node out.new.items ≡ map node out.old.items ++ negated_as (decayed (ctype ty.now)) t) }
 {
-    if is_pointer(ty) {
+    if has_pointer_value(ty) {
         put(out, Op::Null(OTHER))?;
         put(out, Op::PtrTest(Two::IEQ, t, t, OTHER))
     } else {

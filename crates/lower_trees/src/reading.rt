@@ -1,10 +1,11 @@
 // What the lowering reads of a program, beside the tree that it goes over.
-ghost use Rattle.std.specs.Prelude.{◌≡◌, ◌≤◌, ◌+◌, length, map, sum_by, option_map};
-ghost use Rattle.c_types.specs.View.{ctype, layout, function};
-ghost use Rattle.c_meaning.specs.Parts.{part_type, member_type};
-ghost use Rattle.lower_trees.specs.inner.MaybeTypes.{or_void, or_none};
+ghost use Rattle.std.specs.Prelude.{◌≡◌, ◌≤◌, ◌+◌, length, sum_by};
+ghost use Rattle.c_types.specs.View.{ctype, function};
+ghost use Rattle.c_types.specs.Parts.{part_type};
+ghost use Rattle.c_types.specs.View.{or_void};
+ghost use Rattle.lower_trees.specs.inner.MaybeTypes.{or_none};
 
-use c_types::{CType, Layout, TFunction, wrapped_size};
+use c_types::{CType, Layout, TFunction, part_type, wrapped_size};
 use kit_base::Name;
 use std::alloc::Global;
 
@@ -16,15 +17,6 @@ pub struct Reading<'a> {
     pub functions: &'a [TFunction],
     pub literals: &'a [Name],
     ghost texts: { sum_by (λ t. length t + 1) literals.now ≤ 4000000 },
-}
-
-fn member_type(layouts: &[Layout], number: u32, k: usize) -> Option<&CType>
-    ensures { or_void result ≡ member_type (map layout layouts.now) number k }
-{
-    match layouts.get(number as usize) {
-        None => None,
-        Some(l) => l.member_type(k),
-    }
 }
 
 impl<'a> Reading<'a> {
@@ -52,15 +44,8 @@ impl<'a> Reading<'a> {
         ensures { or_void result ≡ part_type (shape_of self.now).layouts (or_void ty.entry) k }
     {
         match ty {
-            Some(CType::Array(of, _)) => Some(of),
-            Some(CType::Struct(number)) => member_type(self.layouts, *number, k),
-            Some(CType::Union(number)) => member_type(self.layouts, *number, k),
-            Some(CType::Void) => None,
-            Some(CType::Int) => None,
-            Some(CType::Bool) => None,
-            Some(CType::Enum(_)) => None,
-            Some(CType::Pointer(_)) => None,
             None => None,
+            Some(ty) => part_type(self.layouts, ty, k),
         }
     }
 

@@ -2,7 +2,7 @@
 ghost use Rattle.std.specs.Prelude.{◌≡◌, ◌++◌, ◌∷◌, [], IfOk, min, take, map, length};
 ghost use Rattle.obj_mem.specs.Objects.{object_at};
 ghost use Rattle.obj_mem.specs.Runs.{global_cells};
-ghost use Rattle.obj_mem.specs.inner.View.{objects};
+ghost use Rattle.obj_mem.specs.View.{objects};
 
 use kit_base::{Memory, Seq};
 use obj_mem::{Cell, Objects};

@@ -12,7 +12,6 @@ mod lookup;
 mod nodes;
 mod opening;
 mod operations;
-mod queries;
 mod run;
 mod setting;
 mod state;

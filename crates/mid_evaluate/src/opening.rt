@@ -1,9 +1,8 @@
 // The state before the globals are filled.
-ghost use Rattle.std.specs.Prelude.{◌≡◌, ◌++◌, ◌∷◌, [], IfOk, OnOk, map, sum, option_map};
-ghost use Rattle.obj_mem.specs.declared.cell.Cell.TheVariants.{Num};
-ghost use Rattle.obj_mem.specs.Objects.{global_object, literal_object, card_object, opening_objects};
+ghost use Rattle.std.specs.Prelude.{◌≡◌, ◌++◌, IfOk, OnOk, map, sum, option_map};
+ghost use Rattle.obj_mem.specs.Objects.{global_object, opening_objects};
 ghost use Rattle.obj_mem.specs.Runs.{opening_store};
-ghost use Rattle.obj_mem.specs.inner.View.{objects};
+ghost use Rattle.obj_mem.specs.View.{objects};
 ghost use Rattle.mid_code.specs.Runs.{opening};
 ghost use Rattle.mid_code.specs.View.{code};
 ghost use Rattle.mid_evaluate.specs.View.{state_of, store_of};
@@ -11,7 +10,7 @@ ghost use Rattle.mid_evaluate.specs.View.{state_of, store_of};
 use crate::state::{State, Store, World};
 use kit_base::{Memory, Name};
 use mid_code::Code;
-use obj_mem::{Cell, ObjectKind, Objects};
+use obj_mem::{Cell, Objects, make_card, make_global, make_literals};
 use std::alloc::Global;
 
 /// The words of the globals. Where they are no word the answer is want of memory.
@@ -33,55 +32,8 @@ fn make_globals(alloc: Global, globals: &[u32], os: &mut Objects) -> Result<(), 
     ensures { OnOk result (objects os.new ≡ objects os.old ++ map global_object globals.now) }
 {
     'globals: for words in globals {
-        let cells = Vec::from_elem(alloc, Cell::Num(0), *words as usize)?;
-        os.make(ObjectKind::Global, cells)?;
+        make_global(alloc, os, *words)?;
     }
-    Ok(())
-}
-
-/// The cells of a text with its 0.
-fn text_cells(alloc: Global, text: &[u8]) -> Result<Vec<Cell>, Memory>
-    ensures { IfOk result (λ v. v.items ≡ map Num (text.now ++ 0 ∷ [])) }
-{
-    let mut cells = Vec::new(alloc);
-    'bytes: for byte in text {
-        cells.push(Cell::Num(u32::from(*byte)))?;
-    }
-    cells.push(Cell::Num(0))?;
-    Ok(cells)
-}
-
-/// The text literals.
-fn make_literals(alloc: Global, literals: &[Name], os: &mut Objects) -> Result<(), Memory>
-    ensures { OnOk result (objects os.new ≡ objects os.old ++ map literal_object literals.now) }
-{
-    'literals: for text in literals {
-        let cells = text_cells(alloc, text.bytes())?;
-        os.make(ObjectKind::Literal, cells)?;
-    }
-    Ok(())
-}
-
-/// The cells of the words of a card.
-fn word_cells(alloc: Global, words: &[u32]) -> Result<Vec<Cell>, Memory>
-    ensures { IfOk result (λ v. v.items ≡ map Num words.now) }
-{
-    let mut cells = Vec::new(alloc);
-    'words: for word in words {
-        cells.push(Cell::Num(*word))?;
-    }
-    Ok(cells)
-}
-
-/// The card; one without cells, where none is connected.
-fn make_card(alloc: Global, card: Option<&[u32]>, os: &mut Objects) -> Result<(), Memory>
-    ensures { OnOk result (objects os.new ≡ objects os.old ++ card_object (option_map (λ w. w.now) card.entry) ∷ []) }
-{
-    let cells = match card {
-        None => Vec::new(alloc),
-        Some(words) => word_cells(alloc, words)?,
-    };
-    os.make(ObjectKind::Card, cells)?;
     Ok(())
 }
 
@@ -96,8 +48,8 @@ fn opened(
 {
     let mut os = Objects::new(alloc);
     make_globals(alloc, globals, &mut os)?;
-    make_literals(alloc, literals, &mut os)?;
-    make_card(alloc, card, &mut os)?;
+    make_literals(alloc, &mut os, literals)?;
+    make_card(alloc, &mut os, card)?;
     Ok(os)
 }
 

@@ -1,27 +1,28 @@
 // What operations do.
 ghost use Rattle.std.specs.Prelude.{◌≡◌};
 ghost use Rattle.obj_mem.specs.declared.cell.Cell.TheVariants.{Ptr};
-ghost use Rattle.obj_mem.specs.inner.View.{objects};
+ghost use Rattle.obj_mem.specs.View.{objects};
 ghost use Rattle.kit_base.specs.declared.event.Event.TheVariants.{Wait};
 ghost use Rattle.v32_isa.specs.declared.instruction.Two.TheVariants.{IEQ, INE};
 ghost use Rattle.v32_isa.specs.Arithmetic.{two_of};
-ghost use Rattle.obj_mem.specs.Queries.{first_cell, then_ask, truth, offsets, word_of, word_or_fault, write};
-ghost use Rattle.obj_mem.specs.Stores.{end_one, fresh, local_object};
+ghost use Rattle.obj_mem.specs.Queries.{then_ask, truth, offsets, word_of, word_or_fault, write};
+ghost use Rattle.obj_mem.specs.Stores.{end_one, fresh};
 ghost use Rattle.obj_mem.specs.Worlds.{happened, on_store};
 ghost use Rattle.mid_code.specs.States.{distance, in_world, input, one_word, output, pointers_tested, stepped, temporaries, to, to_objects, two_words};
 ghost use Rattle.mid_code.specs.Meaning.{On};
 ghost use Rattle.mid_evaluate.specs.inner.Answers.{Does};
-ghost use Rattle.mid_evaluate.specs.inner.Once.{performed, weight_of};
+ghost use Rattle.mid_evaluate.specs.inner.Once.{asked_of, performed, weight_of};
 ghost use Rattle.mid_evaluate.specs.View.{sizes, state_of};
 
 use crate::answer::Ending;
-use crate::queries::{apart, equal_pointers, offsets, read, step, word_of, write};
 use crate::setting::Setting;
-use crate::state::{State, cell, end_one, fresh, happen, local_object, put_in};
+use crate::state::{State, cell, end_one, fresh, happen, put_in};
 use crate::stop::Stop;
 use kit_base::{Event, word_of_bool};
 use mid_code::Op;
-use obj_mem::{Cell, Objects, Refusal};
+use obj_mem::{
+    Cell, Objects, Refusal, apart, equal_pointers, local_cell, offsets, read, step, word_of, write,
+};
 use v32_isa::{One, Two, one_word, two_word};
 
 // ---- answers
@@ -135,15 +136,6 @@ fn distance(os: &Objects, p: Cell, q: Cell) -> Result<Cell, Refusal>
     Ok(Cell::Num(words))
 }
 
-fn local_cell(locals: &[Option<u64>], k: u32) -> Result<Cell, Refusal>
-    ensures { result ≡ first_cell (local_object locals.now k) }
-{
-    match local_object(locals, k) {
-        None => Err(Refusal::Strays),
-        Some(object) => Ok(Cell::Ptr { object, offset: 0 }),
-    }
-}
-
 fn global_cell(number: u32) -> Cell
     ensures { result ≡ Ptr number 0 }
 {
@@ -155,7 +147,7 @@ fn global_cell(number: u32) -> Cell
 
 /// How far the pointer in p is behind that in q.
 fn put_distance<'a>(m: &mut State<'a>, t: u32, p: u32, q: u32) -> Result<(), Stop>
-    ensures { Does result (state_of m.new) (to temporaries t (distance (state_of m.old).world.store.objects ((state_of m.old).cells p) ((state_of m.old).cells q)) (state_of m.old)) }
+    ensures { Does result (state_of m.new) (asked_of t distance p q (state_of m.old)) }
 {
     let objects = &m.world.store.objects;
     let answer = distance(objects, cell(&m.cells, p), cell(&m.cells, q));
@@ -164,7 +156,7 @@ fn put_distance<'a>(m: &mut State<'a>, t: u32, p: u32, q: u32) -> Result<(), Sto
 
 /// Compares the pointers in p and q.
 fn put_test<'a>(m: &mut State<'a>, o: Two, t: u32, p: u32, q: u32) -> Result<(), Stop>
-    ensures { Does result (state_of m.new) (to temporaries t (pointers_tested o (state_of m.old).world.store.objects ((state_of m.old).cells p) ((state_of m.old).cells q)) (state_of m.old)) }
+    ensures { Does result (state_of m.new) (asked_of t (pointers_tested o) p q (state_of m.old)) }
 {
     let objects = &m.world.store.objects;
     let answer = test(o, objects, cell(&m.cells, p), cell(&m.cells, q));
@@ -254,7 +246,7 @@ pub(crate) fn perform<'a>(s: &Setting<'a>, m: &mut State<'a>, o: &Op<u32>) -> Re
         }
         Op::Global(t, number) => put_answer(m, *t, Ok(global_cell(*number))),
         Op::Local(t, number) => {
-            let answer = local_cell(&m.world.store.locals, *number);
+            let answer = local_cell(&m.world.store.locals, *number as usize);
             put_answer(m, *t, answer)
         }
         Op::Literal(t, number) => put_answer(m, *t, Ok(s.literal_at(*number))),

@@ -1,19 +1,17 @@
 // What a run has made so far.
-ghost use Rattle.std.specs.Prelude.{◌≡◌, ◌<◌, ◌+◌, IfOk, OnOk, set, Some, length, suc};
-ghost use Rattle.obj_mem.specs.declared.cell.ObjectKind.TheVariants.{Local};
+ghost use Rattle.std.specs.Prelude.{◌≡◌, ◌<◌, ◌+◌, IfOk, OnOk, set, Some, length};
 ghost use Rattle.obj_mem.specs.Objects.{made, unwritten};
 ghost use Rattle.obj_mem.specs.Stores as stores;
-ghost use Rattle.obj_mem.specs.Stores.{local_object, end_local, end_one};
+ghost use Rattle.obj_mem.specs.Stores.{end_local, end_one};
 ghost use Rattle.obj_mem.specs.Worlds.{happened, spend};
-ghost use Rattle.obj_mem.specs.inner.View.{objects};
-ghost use Rattle.mid_code.specs.States.{put, put_in, put_in_maybe, spent, cell_of, temporaries};
+ghost use Rattle.obj_mem.specs.View.{objects};
+ghost use Rattle.mid_code.specs.States.{put, put_in, put_in_maybe, spent, temporaries};
 ghost use Rattle.mid_evaluate.specs.View.{sizes, store_of, world_of, state_of, held};
 ghost use Rattle.mid_evaluate.specs.inner.Once.{given};
 
 use crate::setting::Setting;
 use kit_base::{Event, Memory};
-use obj_mem::{Cell, ObjectKind, Objects};
-use std::alloc::Global;
+use obj_mem::{Cell, Objects, end_local, fresh_local};
 
 /// The objects, the answers left, the function that is called, the objects of its locals, and the words of the frames in use.
 #[derive(Drop)]
@@ -138,59 +136,23 @@ pub(crate) fn happen<'a>(w: &mut World<'a>, event: Event) -> Result<(), Memory>
 
 // ---- objects
 
-/// The object of a local, where it was made.
-#[inline(always)]
-pub(crate) fn local_object(locals: &[Option<u64>], k: u32) -> Option<u64>
-    ensures { result ≡ local_object locals.now k }
-{
-    match locals.get(k as usize) {
-        None => None,
-        Some(at) => *at,
-    }
-}
-
-fn end_local(os: &mut Objects, at: Option<u64>)
-    ensures { objects os.new ≡ end_local at (objects os.old) }
-{
-    if let Some(o) = at {
-        os.end(o);
-    }
-}
-
-fn set_local(locals: &mut Vec<Option<u64>>, k: u32, o: u64)
-    ensures { locals.new.items ≡ set locals.old.items k (Some o) }
-{
-    if (k as usize) < locals.len() {
-        locals[k as usize] = Some(o);
-    }
-}
-
-/// Makes an object of `words` unwritten cells.
-fn make(alloc: Global, os: &mut Objects, words: u32) -> Result<(), Memory>
-    ensures { OnOk result (objects os.new ≡ made (objects os.old) Local (unwritten words)) }
-{
-    let cells = Vec::from_elem(alloc, Cell::Unwritten, words as usize)?;
-    os.make(ObjectKind::Local, cells)?;
-    Ok(())
-}
-
 /// Makes a local anew.
 pub(crate) fn fresh<'a>(s: &Setting<'a>, store: &mut Store<'a>, k: u32) -> Result<(), Memory>
     ensures { OnOk result (store_of store.new ≡ stores.fresh (sizes s.now) k (store_of store.old)) }
 {
     let words = s.local_words(store.function, k);
-    let object = store.objects.count();
-    let at = local_object(&store.locals, k);
-    end_local(&mut store.objects, at);
-    make(s.alloc, &mut store.objects, words)?;
-    set_local(&mut store.locals, k, object);
-    Ok(())
+    fresh_local(
+        s.alloc,
+        &mut store.objects,
+        &mut store.locals,
+        k as usize,
+        words,
+    )
 }
 
 /// Ends a local.
 pub(crate) fn end_one<'a>(store: &mut Store<'a>, k: u32)
     ensures { store_of store.new ≡ end_one k (store_of store.old) }
 {
-    let at = local_object(&store.locals, k);
-    end_local(&mut store.objects, at);
+    end_local(&mut store.objects, &store.locals, k as usize);
 }

@@ -10,7 +10,8 @@ use Rattle.obj_mem.specs.declared.cell.Cell.{Cell}
 use Rattle.obj_mem.specs.declared.cell.Cell.TheVariants.{Ptr}
 use Rattle.obj_mem.specs.Worlds.{World, spend}
 use Rattle.c_meaning.specs.declared.end.End.{End}
-use Rattle.c_meaning.specs.Kinds.{span_of, is_structure}
+use Rattle.c_meaning.specs.Kinds.{span_of}
+use Rattle.c_types.specs.Kinds.{is_structure}
 use Rattle.c_meaning.specs.Operators.{converted}
 use Rattle.c_meaning.specs.Outcomes.{Val, Vals, Short, Stops, asked, then_values, in_front}
 use Rattle.c_meaning.specs.Expressions as src

@@ -8,7 +8,7 @@ use Rattle.obj_mem.specs.declared.cell.Cell.{Cell}
 use Rattle.obj_mem.specs.declared.cell.Cell.TheVariants.{Unwritten, Num, Ptr, Null}
 use Rattle.obj_mem.specs.Stores.{Store, with_objects}
 use Rattle.obj_mem.specs.Worlds.{World, on_store}
-use Rattle.c_meaning.specs.Kinds.{is_structure}
+use Rattle.c_types.specs.Kinds.{is_structure}
 use Rattle.c_meaning.specs.Outcomes.{Val, Vals, Values, Short, then_values, in_front}
 use Rattle.c_meaning.specs.Cells.{end_temporary}
 use Rattle.c_meaning.specs.Expressions.{all_released}

@@ -12,7 +12,7 @@ use Rattle.obj_mem.specs.declared.cell.Cell.{Cell}
 use Rattle.obj_mem.specs.declared.cell.Cell.TheVariants.{Unwritten, Ptr}
 use Rattle.obj_mem.specs.Stores.{has_room, entered, returned_to, next_object, with_objects, with_temporary, words_here}
 use Rattle.obj_mem.specs.Worlds.{World, on_store}
-use Rattle.c_meaning.specs.Kinds.{is_structure}
+use Rattle.c_types.specs.Kinds.{is_structure, is_void}
 use Rattle.c_meaning.specs.Outcomes.{Val, Value, NoValue, Body}
 use Rattle.c_meaning.specs.Setting.{words}
 use Rattle.c_meaning.specs.Expressions as src
@@ -22,7 +22,7 @@ use Rattle.mid_code.specs.Meaning.{Res, did, then_next, ask, call_weight}
 use Rattle.mid_code.specs.States.{temporaries, sizes_of, function_at, to, spent}
 use Rattle.lower_trees.specs.Shape.{Shape, shape_in, params_of, result_of}
 use Rattle.lower_trees.specs.Expressions as low
-use Rattle.lower_trees.specs.Expressions.{is_void, spots}
+use Rattle.lower_trees.specs.Expressions.{spots}
 use Rattle.mid_lower.proofs.Grows.{Mid, Grows}
 use Rattle.mid_lower.proofs.Fits.{Site}
 use Rattle.mid_lower.proofs.Giving.{GivesNone, GivesWord, GivesAt, Given, giving}

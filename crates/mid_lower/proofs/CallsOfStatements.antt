@@ -3,7 +3,7 @@ use Rattle.std.proofs.Common.{◌≡◌, ℕ, zero, ◌+◌, ◌%◌, ◌^◌, i
 use Rattle.c_types.specs.Types.{Ty, VoidY, IntY, BoolY, EnumY, StructY, UnionY, PointerY, ArrayY}
 use Rattle.c_types.specs.Typed.{TExprT, TInitT, OneI, TextI, ListI, TInitTs, NoI, MoreI, TVarT, TStmtT, BlockZ, EmptyZ, VarsZ, DoZ, IfZ, WhileZ, DoWhileZ, ForZ, SwitchZ, ReturnZ, BreakZ, ContinueZ, MaybeZ, NoneZ, SomeZ, TStmtTs, NoZ, MoreZ, CaseB, DefaultB, StmtB, TArmTs, NoB, MoreB}
 use Rattle.c_types.specs.Programs.{TFunctionT}
-use Rattle.c_meaning.specs.Parts.{part_type}
+use Rattle.c_types.specs.Parts.{part_type}
 use Rattle.c_meaning.specs.Frames.{over_maybe, over_init, over_inits, over_vars, over_statement, over_other, over_statements, over_arms}
 use Rattle.mid_code.specs.Code.{ConstO, Stop, Do, Choose, Block, Loop, Again}
 use Rattle.mid_code.specs.Calls.{CallsTo}

@@ -12,7 +12,8 @@ use Rattle.obj_mem.specs.Worlds.{World, on_store, spend}
 use Rattle.obj_mem.specs.Queries.{Answer, then_ask, word_of, truth, write, equal_pointers}
 use Rattle.c_meaning.specs.declared.end.End.{End}
 use Rattle.c_meaning.specs.declared.end.End.TheVariants.{Stray}
-use Rattle.c_meaning.specs.Kinds.{type_of, span_of, decayed, is_structure, is_pointer}
+use Rattle.c_meaning.specs.Kinds.{type_of, span_of}
+use Rattle.c_types.specs.Kinds.{decayed, is_structure, is_pointer}
 use Rattle.c_meaning.specs.Outcomes.{Val, Value, Stops, CutOff, Through, asked, then_went, either_way}
 use Rattle.c_meaning.specs.Operators.{is_true}
 use Rattle.c_meaning.specs.Cells.{stored, cells_set}

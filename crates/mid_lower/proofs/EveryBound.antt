@@ -10,7 +10,7 @@ use Rattle.obj_mem.specs.declared.cell.Cell.{Cell}
 use Rattle.obj_mem.specs.Stores.{with_objects, local_object, entered}
 use Rattle.obj_mem.specs.Worlds.{World, on_store, spend}
 use Rattle.obj_mem.specs.Queries.{Answer, write, first_cell}
-use Rattle.c_meaning.specs.Kinds.{is_structure}
+use Rattle.c_types.specs.Kinds.{is_structure}
 use Rattle.c_meaning.specs.Outcomes.{Went, Through, CutOff, Done, Goes, Breaks, Continues, Returns, Ended, Turn, DoTurn, nowhere, asked, then_went}
 use Rattle.c_meaning.specs.Setting.{Setting}
 use Rattle.c_meaning.specs.Cells.{cells_set, stored}

@@ -12,7 +12,8 @@ use Rattle.obj_mem.specs.Stores.{local_object}
 use Rattle.obj_mem.specs.Worlds.{World, spend, happened}
 use Rattle.obj_mem.specs.Queries.{first_cell}
 use Rattle.c_meaning.specs.declared.end.End.TheVariants.{Halted}
-use Rattle.c_meaning.specs.Kinds.{type_of, is_structure}
+use Rattle.c_meaning.specs.Kinds.{type_of}
+use Rattle.c_types.specs.Kinds.{is_structure}
 use Rattle.c_meaning.specs.Outcomes.{Place}
 use Rattle.c_meaning.specs.Expressions as src
 use Rattle.c_meaning.specs.Expressions.{evaluated, evaluated_all}

@@ -7,7 +7,8 @@ use Rattle.obj_mem.specs.declared.cell.Cell.{Cell}
 use Rattle.obj_mem.specs.declared.cell.Cell.TheVariants.{Unwritten, Ptr}
 use Rattle.obj_mem.specs.Stores.{fresh_all}
 use Rattle.obj_mem.specs.Worlds.{World, on_store, spend}
-use Rattle.c_meaning.specs.Kinds.{type_of, span_of, is_structure}
+use Rattle.c_meaning.specs.Kinds.{type_of, span_of}
+use Rattle.c_types.specs.Kinds.{is_structure, is_void}
 use Rattle.c_meaning.specs.Outcomes.{Done, Goes, Returns, Ended, Turn, DoTurn, nowhere, asked, then_went, then_done}
 use Rattle.c_meaning.specs.Setting.{result_of}
 use Rattle.c_meaning.specs.Operators.{converted}
@@ -21,7 +22,7 @@ use Rattle.lower_trees.specs.Shape.{Shape, shape_in, words}
 use Rattle.lower_trees.specs.Flags.{is_flag}
 use Rattle.lower_trees.specs.Parts as part
 use Rattle.lower_trees.specs.Counts.{stmt_temps, stmt_sizes, other_temps, other_sizes, value_sizes, maybe_sizes, stmts_sizes}
-use Rattle.lower_trees.specs.Expressions.{is_void, second, beyond, low_value}
+use Rattle.lower_trees.specs.Expressions.{second, beyond, low_value}
 use Rattle.lower_trees.specs.Statements as low
 use Rattle.lower_trees.specs.Statements.{Jump, ToEnd, ToTurn, low_stmt, low_stmts, low_other}
 use Rattle.mid_lower.proofs.Grows.{Mid}

@@ -13,7 +13,7 @@ use Rattle.c_meaning.specs.declared.end.End.{End}
 use Rattle.c_meaning.specs.declared.end.End.TheVariants.{Stray}
 use Rattle.c_meaning.specs.Outcomes.{Went, Through, CutOff, nowhere, asked, then_went}
 use Rattle.c_meaning.specs.Setting.{literal_at}
-use Rattle.c_meaning.specs.Parts.{part_type}
+use Rattle.c_types.specs.Parts.{part_type}
 use Rattle.c_meaning.specs.Operators.{converted}
 use Rattle.c_meaning.specs.Cells.{cells_set, stored, released, end_temporary}
 use Rattle.c_meaning.specs.Initialisers.{filled, all_filled, object_of, variable_filled, variables_filled}
@@ -37,7 +37,7 @@ use Rattle.mid_lower.proofs.Values.{local_front, uses}
 use Rattle.mid_lower.proofs.Calling.{BodiesFollow}
 use Rattle.mid_lower.proofs.EveryExpression.{expr_sim}
 use Rattle.mid_lower.proofs.CellLoops.{copies}
-use Rattle.c_meaning.specs.Kinds.{is_structure}
+use Rattle.c_types.specs.Kinds.{is_structure}
 use Rattle.mid_lower.proofs.FillParts.{went_went, way_went, part_of, part_further, worked, at_part, cell_sim, zeros_sim, rest_sim, Goes}
 use Rattle.mid_lower.proofs.StructureFills.{one_structure}
 use Rattle.mid_lower.proofs.EveryExpression.{value_sim}

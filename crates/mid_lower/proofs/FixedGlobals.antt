@@ -8,12 +8,12 @@ use Rattle.c_tree.specs.declared.operator.UnOp.TheVariants as un
 use Rattle.c_types.specs.Types.{Ty, VoidY, IntY, BoolY, EnumY, StructY, UnionY, PointerY, ArrayY}
 use Rattle.c_types.specs.Typed.{TExprT, Typed, TKindT, NumberK, NullK, LiteralK, GlobalK, LocalK, UnaryK, BinaryK, AssignK, StepK, IndexK, MemberK, ArrowK, CastK, CallK, InK, OutK, WaitK, HaltK, CardK, TInitT, OneI, TextI, ListI, TInitTs, NoI, MoreI, TVarT}
 use Rattle.c_rules.specs.Kinds.{is_array, converts}
-use Rattle.c_rules.specs.Kinds as rules
 use Rattle.c_rules.specs.Constants.{constant_unary, constant_binary}
 use Rattle.c_exprs.specs.Nodes.{type_of_typed, constant, constant_kind, is_place, is_place_kind}
 use Rattle.c_stmts.specs.Slots.{Slots, slots_of, next_slot, later_slots, is_null_or_text, is_fixed}
 use Rattle.c_facts.specs.Sound.{Scene, takes_value, FillsAs, FillEach, AreFilled}
-use Rattle.c_meaning.specs.Kinds.{type_of, is_structure}
+use Rattle.c_meaning.specs.Kinds.{type_of}
+use Rattle.c_types.specs.Kinds.{is_structure}
 use Rattle.lower_trees.specs.Shape.{Shape, words}
 use Rattle.lower_trees.specs.Counts.{one_size, read_sizes, sizes, sizes_of, value_sizes, init_sizes, inits_sizes, vars_sizes}
 use Rattle.mid_lower.proofs.Trees.{IsScalar}
@@ -36,21 +36,11 @@ not_true : (a : Bool) → not a ≡ true → a ≡ false
 not_true true e = cc
 not_true false e = refl
 
-structure_same : (ty : Ty) → rules.is_structure ty ≡ false → is_structure ty ≡ false
-structure_same VoidY e = refl
-structure_same IntY e = refl
-structure_same BoolY e = refl
-structure_same (EnumY number) e = refl
-structure_same (StructY number) e = cc
-structure_same (UnionY number) e = cc
-structure_same (PointerY to) e = refl
-structure_same (ArrayY of len) e = refl
-
 one_scalar : (ty : Ty) (x : TExprT) → takes_value true ty x ≡ true → IsScalar x
 one_scalar ty x e =
-    let c = both_second (not (is_array ty)) (converts (type_of_typed x) ty) (both_first (not (is_array ty) && converts (type_of_typed x) ty) (not (rules.is_structure ty) && is_fixed x) e) in
-    let f = both_second (not (is_array ty) && converts (type_of_typed x) ty) (not (rules.is_structure ty) && is_fixed x) e in
-    scalar_of x (from_scalar (type_of_typed x) ty c (structure_same ty (not_true (rules.is_structure ty) (both_first (not (rules.is_structure ty)) (is_fixed x) f))))
+    let c = both_second (not (is_array ty)) (converts (type_of_typed x) ty) (both_first (not (is_array ty) && converts (type_of_typed x) ty) (not (is_structure ty) && is_fixed x) e) in
+    let f = both_second (not (is_array ty) && converts (type_of_typed x) ty) (not (is_structure ty) && is_fixed x) e in
+    scalar_of x (from_scalar (type_of_typed x) ty c (not_true (is_structure ty) (both_first (not (is_structure ty)) (is_fixed x) f)))
 
 pub both_quiet : (xs ys : List ℕ) → xs ≡ [] → ys ≡ [] → xs ++ ys ≡ []
 both_quiet [] ys e f = f
@@ -64,7 +54,7 @@ read_quiet : (h : Shape) (x : TExprT) → (sizes h x ≡ []) × (is_place x ≡ 
 read_quiet h x e = ap (λ b. sizes h x ++ read_sizes h b (type_of x)) e.1 ∙ both_quiet (sizes h x) [] e.0 refl
 
 fixed_taken : (ty : Ty) (x : TExprT) → takes_value true ty x ≡ true → is_fixed x ≡ true
-fixed_taken ty x e = both_second (not (rules.is_structure ty)) (is_fixed x) (both_second (not (is_array ty) && converts (type_of_typed x) ty) (not (rules.is_structure ty) && is_fixed x) e)
+fixed_taken ty x e = both_second (not (is_structure ty)) (is_fixed x) (both_second (not (is_array ty) && converts (type_of_typed x) ty) (not (is_structure ty) && is_fixed x) e)
 
 null_quiet : (h : Shape) (k : TKindT) (ty : Ty) (span : Span) → is_null_or_text k ≡ true → is_structure ty ≡ false → value_sizes h (Typed k ty span) ≡ []
 null_quiet h NullK ty span e scalar = refl

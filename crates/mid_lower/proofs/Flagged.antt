@@ -16,7 +16,8 @@ use Rattle.obj_mem.specs.declared.cell.Cell.TheVariants.{Num}
 use Rattle.obj_mem.specs.declared.refusal.Refusal.TheVariants.{Strays, Faults}
 use Rattle.obj_mem.specs.Worlds.{World, spend}
 use Rattle.obj_mem.specs.Queries.{Answer, then_ask, word_of, equal_pointers, offsets}
-use Rattle.c_meaning.specs.Kinds.{type_of, span_of, decayed, pointed, is_pointer}
+use Rattle.c_meaning.specs.Kinds.{type_of, span_of}
+use Rattle.c_types.specs.Kinds.{decayed, pointed, is_pointer}
 use Rattle.c_meaning.specs.Outcomes.{Val, Value, Place, NoValue, Stops, Went, Through, CutOff, Before, asked, then_value, then_place, then_went, either_way}
 use Rattle.c_meaning.specs.Setting.{Setting, words}
 use Rattle.c_meaning.specs.Operators.{converted, is_true, cell_binary, pointer_operated, operated_on, operated, read_as}

@@ -2,7 +2,7 @@
 use Rattle.std.proofs.Common.{◌≡◌, ℕ, ◌+◌, List, [], ◌∷◌, length}
 use Rattle.c_types.specs.Types.{Ty}
 use Rattle.c_types.specs.Programs.{TFunctionT}
-use Rattle.c_meaning.specs.Kinds.{is_structure}
+use Rattle.c_types.specs.Kinds.{is_structure}
 use Rattle.mid_code.specs.declared.node.Op.TheVariants as o
 use Rattle.mid_code.specs.Functions.{DoN, listed, joined}
 use Rattle.lower_trees.specs.Shape.{Shape, words}

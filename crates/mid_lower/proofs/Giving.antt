@@ -2,8 +2,7 @@
 use Rattle.std.proofs.Common.{◌≡◌, List, ◌∷◌, if◌then◌else◌}
 use Rattle.c_types.specs.Types.{Ty}
 use Rattle.obj_mem.specs.declared.cell.Cell.{Cell}
-use Rattle.c_meaning.specs.Kinds.{is_structure}
-use Rattle.lower_trees.specs.Expressions.{is_void}
+use Rattle.c_types.specs.Kinds.{is_structure, is_void}
 use Rattle.mid_lower.proofs.Following.{Side}
 
 pub data Giving : Type 0 where

@@ -2,8 +2,8 @@
 use Rattle.std.proofs.Common.{ℕ, zero, suc, ◌+◌, ◌-◌, ◌*◌, ◌%◌, ◌^◌, ◌==◌, Bool, true, false, List, [], ◌∷◌, length, refl}
 use Rattle.c_types.specs.Types.{Ty, VoidY, IntY, BoolY, EnumY, StructY, UnionY, PointerY, ArrayY}
 use Rattle.c_types.specs.Typed.{TInitT, OneI, TextI, ListI, TInitTs, NoI, MoreI, TVarT}
-use Rattle.c_meaning.specs.Kinds.{is_structure}
-use Rattle.c_meaning.specs.Parts.{part_type}
+use Rattle.c_types.specs.Kinds.{is_structure}
+use Rattle.c_types.specs.Parts.{part_type}
 use Rattle.mid_code.specs.declared.node.Op.TheVariants as o
 use Rattle.mid_code.specs.Functions.{DoN}
 use Rattle.lower_trees.specs.Shape.{Shape, words, literal_words}

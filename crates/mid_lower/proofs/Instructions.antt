@@ -6,7 +6,7 @@ use Rattle.c_tree.specs.declared.span.Span.{Span}
 use Rattle.c_tree.specs.declared.operator.BinOp.{BinOp}
 use Rattle.c_tree.specs.declared.operator.BinOp.TheVariants as bin
 use Rattle.c_types.specs.Types.{Ty}
-use Rattle.c_meaning.specs.Kinds.{decayed, pointed, is_pointer}
+use Rattle.c_types.specs.Kinds.{decayed, pointed, is_pointer}
 use Rattle.v32_isa.specs.declared.instruction.One.TheVariants.{ISGN}
 use Rattle.v32_isa.specs.declared.instruction.Two.{Two}
 use Rattle.v32_isa.specs.declared.instruction.Two.TheVariants.{IEQ, INE, IGT, IGE, ILT, ILE, AND, OR, XOR, SHL, IADD, ISUB, IMUL, IDIV, IMOD}

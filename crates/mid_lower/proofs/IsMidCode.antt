@@ -12,14 +12,14 @@ use Rattle.c_types.specs.Nodes.{function_nodes, program_nodes}
 use Rattle.c_types.specs.Sizes.{words_of}
 use Rattle.c_types.specs.View.{tstmts}
 use Rattle.c_rules.specs.declared.code.Code.TheVariants.{InfiniteType, TooLarge}
-use Rattle.c_rules.specs.Kinds.{holds, is_void, is_array}
+use Rattle.c_rules.specs.Kinds.{holds, is_array}
+use Rattle.c_types.specs.Kinds.{is_void, is_structure}
 use Rattle.c_rules.specs.Rules.{judged, demand}
 use Rattle.c_rules.specs.Nodes.{given}
 use Rattle.c_rules.specs.Sizes.{is_whole, fits}
 use Rattle.c_exprs.specs.Faults.{text_words}
 use Rattle.c_check.specs.Reading.{same_types, parameter_rule}
 use Rattle.c_check.specs.Whole.{is_plain}
-use Rattle.c_meaning.specs.Kinds.{is_structure}
 use Rattle.c_facts.specs.Sound.{Scene, IsSized, IsSound, IsFunction, AreFunctions, AreCallObjects, FillGlobals, in_call, scene, wholes}
 use Rattle.c_facts.specs.Known.{HasSize}
 use Rattle.c_facts.specs.Start.{gives_globals}

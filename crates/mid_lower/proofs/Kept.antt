@@ -4,7 +4,7 @@ use Rattle.std.proofs.Math.Nat.{mod-lt}
 use Rattle.c_tree.specs.declared.operator.BinOp.{BinOp}
 use Rattle.c_tree.specs.declared.operator.BinOp.TheVariants as bin
 use Rattle.c_types.specs.Types.{Ty, VoidY, IntY, BoolY, EnumY, StructY, UnionY, PointerY, ArrayY}
-use Rattle.c_meaning.specs.Kinds.{decayed, pointed, is_pointer, is_structure}
+use Rattle.c_types.specs.Kinds.{decayed, pointed, is_pointer, is_structure}
 use Rattle.v32_isa.specs.declared.instruction.One.{One}
 use Rattle.v32_isa.specs.declared.instruction.One.TheVariants.{CIB, ISGN, BNOT}
 use Rattle.v32_isa.specs.declared.instruction.Two.{Two}

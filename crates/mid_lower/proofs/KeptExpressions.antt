@@ -12,7 +12,8 @@ use Rattle.c_types.specs.Typed.{TExprT, Typed, TKindT, NumberK, NullK, LiteralK,
 use Rattle.c_types.specs.Programs.{TFunctionT}
 use Rattle.c_exprs.specs.Nodes.{is_place}
 use Rattle.c_types.specs.Lists.{listed}
-use Rattle.c_meaning.specs.Kinds.{type_of, is_structure, decayed, pointed}
+use Rattle.c_meaning.specs.Kinds.{type_of}
+use Rattle.c_types.specs.Kinds.{is_structure, decayed, pointed}
 use Rattle.c_facts.specs.Sound.{Scene, IsTyped, IsKind, AreValues, Calls, text_type}
 use Rattle.c_facts.specs.Words.{InWords, KindInWords, AllInWords}
 use Rattle.v32_isa.specs.declared.instruction.One.TheVariants.{ISGN, NOT}

@@ -4,8 +4,8 @@ use Rattle.std.proofs.Math.Nat.{mod-lt}
 use Rattle.c_types.specs.Types.{Ty, VoidY, IntY, BoolY, EnumY, StructY, UnionY, PointerY, ArrayY}
 use Rattle.c_types.specs.Typed.{TExprT, TInitT, OneI, TextI, ListI, TInitTs, NoI, MoreI, TVarT, TStmtT, BlockZ, EmptyZ, VarsZ, DoZ, IfZ, WhileZ, DoWhileZ, ForZ, SwitchZ, ReturnZ, BreakZ, ContinueZ, MaybeZ, NoneZ, SomeZ, TStmtTs, NoZ, MoreZ, CaseB, DefaultB, StmtB, TArmTs, NoB, MoreB}
 use Rattle.c_types.specs.Nodes.{statement_nodes, maybe_statement_nodes, statements_nodes, arms_nodes}
-use Rattle.c_meaning.specs.Kinds.{is_structure}
-use Rattle.c_meaning.specs.Parts.{part_type}
+use Rattle.c_types.specs.Kinds.{is_structure}
+use Rattle.c_types.specs.Parts.{part_type}
 use Rattle.c_stmts.specs.Slots.{Slots, next_slot, later_slots, slots_of}
 use Rattle.c_stmts.specs.State.{Labels, no_labels, with_label}
 use Rattle.c_rules.specs.Kinds.{is_int}

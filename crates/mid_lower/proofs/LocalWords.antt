@@ -7,7 +7,7 @@ use Rattle.c_types.specs.Types.{Ty, VoidY}
 use Rattle.c_types.specs.Typed.{TExprT, Typed, TKindT, NumberK, NullK, LiteralK, GlobalK, LocalK, UnaryK, BinaryK, AssignK, StepK, IndexK, MemberK, ArrowK, CastK, CallK, InK, OutK, WaitK, HaltK, CardK, TExprTs, NoX, MoreX, TInitT, OneI, TextI, ListI, TInitTs, NoI, MoreI, TVarT, TStmtT, BlockZ, EmptyZ, VarsZ, DoZ, IfZ, WhileZ, DoWhileZ, ForZ, SwitchZ, ReturnZ, BreakZ, ContinueZ, MaybeZ, NoneZ, SomeZ, TStmtTs, NoZ, MoreZ, TArmT, CaseB, DefaultB, StmtB, TArmTs, NoB, MoreB}
 use Rattle.c_types.specs.Programs.{TFunctionT, ProgramT}
 use Rattle.c_exprs.specs.Nodes.{is_place_kind}
-use Rattle.c_meaning.specs.Kinds.{is_structure}
+use Rattle.c_types.specs.Kinds.{is_structure}
 use Rattle.c_meaning.specs.Setting.{setting}
 use Rattle.c_meaning.specs.Frames.{over, over_kind, over_all, over_maybe, over_init, over_inits, over_vars, over_statement, over_other, over_statements, over_arm, over_arms, structure_words}
 use Rattle.c_stmts.specs.Slots.{Slots, next_slot, later_slots, slots_of}

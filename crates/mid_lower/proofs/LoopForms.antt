@@ -7,7 +7,8 @@ use Rattle.obj_mem.specs.declared.cell.Cell.{Cell}
 use Rattle.obj_mem.specs.declared.refusal.Refusal.TheVariants.{Strays, Faults}
 use Rattle.obj_mem.specs.Queries.{Answer}
 use Rattle.obj_mem.specs.Worlds.{World}
-use Rattle.c_meaning.specs.Kinds.{is_structure, type_of, span_of, decayed}
+use Rattle.c_types.specs.Kinds.{is_structure, decayed}
+use Rattle.c_meaning.specs.Kinds.{type_of, span_of}
 use Rattle.c_meaning.specs.Outcomes.{Val, Value, Place, NoValue, Stops, then_value, either_way, Done, Goes, Continues, Ended, Turn, DoTurn, asked}
 use Rattle.c_meaning.specs.Operators.{is_true}
 use Rattle.c_meaning.specs.Expressions.{value_of, evaluated, tested, dropped, dropped_value}

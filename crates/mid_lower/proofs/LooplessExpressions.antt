@@ -4,7 +4,7 @@ use Rattle.c_types.specs.Types.{Ty}
 use Rattle.c_types.specs.Typed.{TExprT, Typed, NumberK, NullK, LiteralK, GlobalK, LocalK, UnaryK, BinaryK, AssignK, StepK, IndexK, MemberK, ArrowK, CastK, CallK, InK, OutK, WaitK, HaltK, CardK, TExprTs, NoX, MoreX}
 use Rattle.c_exprs.specs.Nodes.{type_of_typed, is_place}
 use Rattle.c_facts.specs.Sound.{Scene, IsTyped, AreValues}
-use Rattle.c_meaning.specs.Kinds.{is_structure}
+use Rattle.c_types.specs.Kinds.{is_structure}
 use Rattle.c_meaning.specs.Frames.{over, over_all}
 use Rattle.lower_trees.specs.Shape.{Shape, params_of, result_of}
 use Rattle.lower_trees.specs.Flags.{is_flag}

@@ -7,8 +7,9 @@ use Rattle.c_exprs.specs.Nodes.{type_of_typed}
 use Rattle.c_stmts.specs.Slots.{next_slot}
 use Rattle.c_stmts.specs.State.{Labels, no_labels, with_label}
 use Rattle.c_facts.specs.Sound.{Scene, IsSized, FillsAs, FillEach, AreFilled, IsStatement, MayState, AreStatements, AreArms, AreDeclaredAs, IsFunction, in_call, wholes, scene}
-use Rattle.c_meaning.specs.Kinds.{type_of, is_structure}
-use Rattle.c_meaning.specs.Parts.{part_type}
+use Rattle.c_meaning.specs.Kinds.{type_of}
+use Rattle.c_types.specs.Kinds.{is_structure}
+use Rattle.c_types.specs.Parts.{part_type}
 use Rattle.c_meaning.specs.Setting.{Setting, setting}
 use Rattle.mid_code.specs.Code.{ConstO, Stop, Do, Block}
 use Rattle.mid_code.specs.Calls.{loops}

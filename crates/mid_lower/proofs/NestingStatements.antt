@@ -4,8 +4,8 @@ use Rattle.c_types.specs.Types.{Ty, VoidY, IntY, BoolY, EnumY, StructY, UnionY, 
 use Rattle.c_types.specs.Typed.{TExprT, TInitT, OneI, TextI, ListI, TInitTs, NoI, MoreI, TVarT, TStmtT, BlockZ, EmptyZ, VarsZ, DoZ, IfZ, WhileZ, DoWhileZ, ForZ, SwitchZ, ReturnZ, BreakZ, ContinueZ, MaybeZ, NoneZ, SomeZ, TStmtTs, NoZ, MoreZ, CaseB, DefaultB, StmtB, TArmTs, NoB, MoreB}
 use Rattle.c_types.specs.Programs.{TFunctionT, ProgramT}
 use Rattle.c_types.specs.View.{tstmts}
-use Rattle.c_meaning.specs.Kinds.{is_structure}
-use Rattle.c_meaning.specs.Parts.{part_type}
+use Rattle.c_types.specs.Kinds.{is_structure}
+use Rattle.c_types.specs.Parts.{part_type}
 use Rattle.mid_code.specs.Code.{Stop, Choose, Block, Again, Return}
 use Rattle.mid_code.specs.Calls.{nesting}
 use Rattle.lower_trees.specs.Shape.{Shape, shape, words, literal_words}

@@ -6,12 +6,12 @@ use Rattle.c_tree.specs.declared.operator.UnOp.TheVariants as un
 use Rattle.c_tree.specs.declared.operator.BinOp.{BinOp}
 use Rattle.c_tree.specs.declared.operator.BinOp.TheVariants as bin
 use Rattle.c_types.specs.Types.{Ty, VoidY, IntY, BoolY, EnumY, StructY, UnionY, PointerY, ArrayY, LayoutT}
-use Rattle.c_rules.specs.Kinds.{is_number, is_array, is_pointer, is_condition, decayed, pointed, target, pointers_convert, converts, can_cast}
+use Rattle.c_rules.specs.Kinds.{is_number, is_array, is_condition, target, pointers_convert, converts, can_cast}
+use Rattle.c_types.specs.Kinds.{is_pointer, decayed, pointed, is_structure}
 use Rattle.c_rules.specs.Rules.{Demand, checked, judged_by, judged}
 use Rattle.c_rules.specs.Nodes.{given, needs_place, unary_gives, unary_rule, are_numbers, are_comparable, moved, apart, sum_gives, difference_gives, binary_gives, binary_rule, index_rule, assign_rule, kept_as, compound_rule, cast_rule}
 use Rattle.c_exprs.specs.Nodes.{layout_behind}
 use Rattle.c_facts.specs.Sound.{has_member}
-use Rattle.c_meaning.specs.Kinds.{is_structure}
 
 -- ---- both of two tests
 

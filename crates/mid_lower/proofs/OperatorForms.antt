@@ -17,7 +17,8 @@ use Rattle.obj_mem.specs.declared.cell.Cell.TheVariants.{Unwritten, Num, Ptr, Nu
 use Rattle.obj_mem.specs.declared.refusal.Refusal.TheVariants.{Strays, Faults}
 use Rattle.obj_mem.specs.Worlds.{World, spend}
 use Rattle.obj_mem.specs.Queries.{Answer, then_ask, word_of, truth, equal_pointers}
-use Rattle.c_meaning.specs.Kinds.{type_of, span_of, decayed, is_structure}
+use Rattle.c_meaning.specs.Kinds.{type_of, span_of}
+use Rattle.c_types.specs.Kinds.{decayed, is_structure}
 use Rattle.c_meaning.specs.Outcomes.{Val, Value, Place, NoValue, Stops, asked, either_way}
 use Rattle.c_meaning.specs.Operators.{is_true, cell_unary, operated}
 use Rattle.c_meaning.specs.Expressions as src

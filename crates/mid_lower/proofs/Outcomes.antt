@@ -6,7 +6,7 @@ use Rattle.obj_mem.specs.declared.cell.Cell.{Cell}
 use Rattle.obj_mem.specs.Worlds.{World, spend}
 use Rattle.c_meaning.specs.Outcomes.{Done, Goes, Breaks, Continues, Returns, Ended, then_done}
 use Rattle.c_meaning.specs.Statements.{body_done}
-use Rattle.c_meaning.specs.Kinds.{is_structure}
+use Rattle.c_types.specs.Kinds.{is_structure}
 use Rattle.mid_code.specs.Code.{NodesT, Stop, Again}
 use Rattle.mid_code.specs.Meaning.{Res, Next, Leaves, Repeats, Over, then_next, block_done, turn_done, did}
 use Rattle.mid_code.specs.Meaning as res

@@ -15,7 +15,8 @@ use Rattle.obj_mem.specs.Worlds.{World, spend, happened, answered}
 use Rattle.obj_mem.specs.Queries.{word_of, step}
 use Rattle.c_meaning.specs.declared.end.End.{End}
 use Rattle.c_meaning.specs.declared.end.End.TheVariants.{Starved}
-use Rattle.c_meaning.specs.Kinds.{type_of, span_of, is_structure}
+use Rattle.c_meaning.specs.Kinds.{type_of, span_of}
+use Rattle.c_types.specs.Kinds.{is_structure}
 use Rattle.c_meaning.specs.Outcomes.{Val, Value, Place, NoValue, Stops, asked, then_place}
 use Rattle.c_meaning.specs.Setting.{words}
 use Rattle.c_meaning.specs.Operators.{converted, read_as, operated, stepped}

@@ -10,7 +10,8 @@ use Rattle.c_types.specs.Types.{Ty, VoidY, IntY, BoolY, EnumY, StructY, UnionY, 
 use Rattle.c_types.specs.Typed.{TExprT}
 use Rattle.c_rules.specs.Nodes.{needs_place}
 use Rattle.c_exprs.specs.Nodes.{is_place}
-use Rattle.c_meaning.specs.Kinds.{type_of, is_structure, decayed, pointed}
+use Rattle.c_meaning.specs.Kinds.{type_of}
+use Rattle.c_types.specs.Kinds.{is_structure, decayed, pointed}
 use Rattle.mid_code.specs.Code.{ConstO, LoadO, LocalO, Stop, Do, Choose, Block}
 use Rattle.lower_trees.specs.Shape.{Shape, words}
 use Rattle.lower_trees.specs.Flags.{is_flag, tests_flag}

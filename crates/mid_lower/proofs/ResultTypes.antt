@@ -7,12 +7,12 @@ use Rattle.c_tree.specs.declared.operator.UnOp.TheVariants as un
 use Rattle.c_tree.specs.declared.operator.BinOp.{BinOp}
 use Rattle.c_tree.specs.declared.operator.BinOp.TheVariants as bin
 use Rattle.c_types.specs.Types.{Ty, VoidY, IntY, BoolY, EnumY, StructY, UnionY, PointerY, ArrayY, LayoutT}
-use Rattle.c_rules.specs.Kinds.{is_number, is_array, is_pointer, is_condition, decayed, target, converts, can_cast, same_type}
+use Rattle.c_rules.specs.Kinds.{is_number, is_array, is_condition, target, converts, can_cast, same_type}
+use Rattle.c_types.specs.Kinds.{is_pointer, decayed, is_structure}
 use Rattle.c_rules.specs.Rules.{Demand, checked, judged_by, judged}
 use Rattle.c_rules.specs.Nodes.{given, unary_gives, unary_rule, are_numbers, are_comparable, moved, apart, sum_gives, difference_gives, binary_gives, binary_rule, assign_rule, kept_as, compound_rule, cast_rule}
 use Rattle.c_exprs.specs.Nodes.{layout_of}
 use Rattle.c_facts.specs.Sound.{has_member}
-use Rattle.c_meaning.specs.Kinds.{is_structure}
 use Rattle.mid_lower.proofs.Operands.{both_second, Either, First, Second, either, judged_gives, given_holds, number_scalar, to_scalar, binary_two}
 
 -- ---- what demands a place, and what gives no structure

@@ -13,7 +13,7 @@ use Rattle.obj_mem.specs.Worlds.{World, on_store, spend}
 use Rattle.obj_mem.specs.Runs as run
 use Rattle.c_meaning.specs.declared.end.End.{End}
 use Rattle.c_meaning.specs.declared.end.End.TheVariants.{Halted, Fault, Starved, Stray, Deep, OutOfBound}
-use Rattle.c_meaning.specs.Kinds.{is_structure}
+use Rattle.c_types.specs.Kinds.{is_structure, is_void}
 use Rattle.c_meaning.specs.Outcomes.{Val, Value, Place, NoValue, Stops, Done, Goes, Breaks, Continues, Returns, Ended, nowhere}
 use Rattle.c_meaning.specs.Setting.{Setting, setting, words}
 use Rattle.c_meaning.specs.Expressions as src
@@ -28,7 +28,6 @@ use Rattle.mid_code.specs.Keeps.{WorksAtMost, KeepsRuns, KeepsRun, SameRun, glob
 use Rattle.mid_code.specs.inner.Passing.{Prefix}
 use Rattle.lower_trees.specs.Shape.{shape}
 use Rattle.lower_trees.specs.Parts.{first_param}
-use Rattle.lower_trees.specs.Expressions.{is_void}
 use Rattle.lower_trees.specs.Statements.{ToEnd, low_stmts}
 use Rattle.lower_trees.specs.Lowered.{lowered}
 use Rattle.mid_lower.proofs.Grows.{Mid, all_of, more, called_grows}

@@ -12,7 +12,8 @@ use Rattle.c_exprs.specs.Nodes.{type_of_typed, is_place, is_place_kind}
 use Rattle.c_exprs.specs.Calls.{all_convert}
 use Rattle.c_types.specs.Lists.{listed}
 use Rattle.c_facts.specs.Sound.{text_type, Scene, Calls, IsTyped, IsKind, AreValues}
-use Rattle.c_meaning.specs.Kinds.{type_of, is_structure}
+use Rattle.c_meaning.specs.Kinds.{type_of}
+use Rattle.c_types.specs.Kinds.{is_structure}
 use Rattle.lower_trees.specs.Shape.{Shape, params_of, result_of}
 use Rattle.mid_lower.proofs.Trees.{IsScalar, Plain, PlainKind, PlainAll, PlainAs, PlainStructure, StructureKind}
 use Rattle.mid_lower.proofs.Operands.{both_first, both_second, number_scalar, behind_scalar, from_scalar, unary_operand, binary_operands, index_operands, compound_operands, assigned_operands, cast_operand}

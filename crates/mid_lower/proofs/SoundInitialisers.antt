@@ -10,13 +10,13 @@ use Rattle.c_types.specs.Sizes.{words_of}
 use Rattle.c_types.specs.Typed.{TExprT, TInitT, OneI, TextI, ListI, TInitTs, NoI, MoreI, TVarT}
 use Rattle.c_types.specs.Programs.{ProgramT}
 use Rattle.c_rules.specs.Kinds.{is_array, converts}
-use Rattle.c_rules.specs.Kinds as rules
+use Rattle.c_types.specs.Kinds.{is_structure}
 use Rattle.c_exprs.specs.Faults.{text_words}
 use Rattle.c_exprs.specs.Nodes.{type_of_typed}
 use Rattle.c_stmts.specs.Slots.{Slots, NoSlots, Elements, Members, member_types, members_of, first_of, slots_of, next_slot, later_slots, is_fixed}
 use Rattle.c_check.specs.Reading.{has_members}
 use Rattle.c_facts.specs.Sound.{Scene, IsKnown, IsSized, takes_value, FillsAs, FillEach, AreFilled, AreSized, IsLaidOut, IsDeclaredAs, AreDeclaredAs, in_call, wholes, scene}
-use Rattle.c_meaning.specs.Parts.{part_type}
+use Rattle.c_types.specs.Parts.{part_type}
 use Rattle.lower_trees.specs.Shape.{Shape, shape}
 use Rattle.mid_lower.proofs.Trees.{RestFits, Fills, FillAll, FillVars}
 use Rattle.mid_lower.proofs.Operands.{both_first, both_second}
@@ -129,7 +129,7 @@ part_of ls ws is (UnionY number) sized k ty e = by (slice_get ls number) refl e
 
 pub value_taken : (global : Bool) (ty : Ty) (x : TExprT) → takes_value global ty x ≡ true → converts (type_of_typed x) ty ≡ true
 value_taken global ty x e =
-    both_second (not (is_array ty)) (converts (type_of_typed x) ty) (both_first (not (is_array ty) && converts (type_of_typed x) ty) (not global || (not (rules.is_structure ty) && is_fixed x)) e)
+    both_second (not (is_array ty)) (converts (type_of_typed x) ty) (both_first (not (is_array ty) && converts (type_of_typed x) ty) (not global || (not (is_structure ty) && is_fixed x)) e)
 
 -- the part that an item fills
 pub record Part (z : Scene) (global : Bool) (i : TInitT) (whole : Ty) (k : ℕ) : Type 0 where

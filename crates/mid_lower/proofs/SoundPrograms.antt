@@ -11,7 +11,7 @@ use Rattle.c_stmts.specs.State.{Labels, no_labels, with_label}
 use Rattle.c_facts.specs.Sound.{IsTypedValue, Scene, AreObjects, IsTest, MayTest, MayValue, IsStatement, MayState, AreStatements, AreArms, AreDeclaredAs, in_call, wholes, scene}
 use Rattle.c_meaning.specs.Statements.{labels}
 use Rattle.lower_trees.specs.Shape.{Shape, shape}
-use Rattle.lower_trees.specs.Expressions.{is_void}
+use Rattle.c_types.specs.Kinds.{is_void}
 use Rattle.mid_lower.proofs.Trees.{PlainStep, Below, PlainValue, PlainMaybe, PlainStmt, PlainOther, PlainStmts, PlainArms, PlainDropped}
 use Rattle.mid_lower.proofs.Operands.{number_scalar, condition_scalar, never_void}
 use Rattle.mid_lower.proofs.SoundExpressions.{plain, structure, plain_as, scalar_of, of_scalar, of_structure_type}

@@ -7,7 +7,6 @@ use Rattle.c_types.specs.View.{tstmts}
 use Rattle.c_types.specs.Nodes.{statements_nodes, function_nodes, program_nodes}
 use Rattle.c_types.specs.Programs.{TFunctionT, ProgramT}
 use Rattle.c_rules.specs.Kinds.{holds}
-use Rattle.c_rules.specs.Kinds as rules
 use Rattle.c_check.specs.Reading.{same_types}
 use Rattle.c_check.specs.Whole.{is_plain}
 use Rattle.c_facts.specs.Sound.{Scene, FillGlobals, IsFunction, AreFunctions, scene, IsSound}
@@ -16,7 +15,7 @@ use Rattle.mid_code.specs.Runs as mid
 use Rattle.mid_code.specs.Keeps.{WorksAtMost, KeepsRuns}
 use Rattle.lower_trees.specs.Shape.{shape}
 use Rattle.lower_trees.specs.Counts.{vars_sizes, stmts_sizes}
-use Rattle.lower_trees.specs.Expressions.{is_void}
+use Rattle.c_types.specs.Kinds.{is_void}
 use Rattle.lower_trees.specs.Lowered.{lowered}
 use Rattle.mid_lower.proofs.Trees.{Below, PlainStmts}
 use Rattle.mid_lower.proofs.Operands.{both_second}
@@ -39,19 +38,9 @@ nodes_at (f ∷ fs) zero g e =
     subst (λ q. statements_nodes q.body ≤ sum_by function_nodes (f ∷ fs)) same (omega (arith, all))
 nodes_at (f ∷ fs) (suc k) g e = let all = sum_by-cons function_nodes f fs in let l = nodes_at fs k g e in omega (arith, all, l)
 
-void_same : (ty : Ty) → rules.is_void ty ≡ true → is_void ty ≡ true
-void_same VoidY e = refl
-void_same IntY e = cc
-void_same BoolY e = cc
-void_same (EnumY number) e = cc
-void_same (StructY number) e = cc
-void_same (UnionY number) e = cc
-void_same (PointerY to) e = cc
-void_same (ArrayY of len) e = cc
-
 main_at : (o : Option TFunctionT) → holds is_plain o ≡ true → (g : TFunctionT) × (o ≡ Some g) × (is_void g.gives ≡ true)
 main_at None e = absurd cc
-main_at (Some g) e = (g, refl, void_same g.gives (both_second (same_types g.params []) (rules.is_void g.gives) e))
+main_at (Some g) e = (g, refl, both_second (same_types g.params []) (is_void g.gives) e)
 
 module _ (p : ProgramT) (sound : IsSound p) (few : program_nodes p ≤ 200000) where
   body_plain : (f : ℕ) (g : TFunctionT) → slice_get p.functions f ≡ Some g → PlainStmts (shape p) (length g.locals) g.gives g.body

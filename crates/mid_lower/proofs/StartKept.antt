@@ -9,8 +9,9 @@ use Rattle.c_tree.specs.declared.operator.BinOp.TheVariants as bin
 use Rattle.c_types.specs.Types.{Ty, VoidY, IntY, BoolY, EnumY, StructY, UnionY, PointerY, ArrayY}
 use Rattle.c_types.specs.Typed.{TExprT, Typed, TKindT, NumberK, NullK, LiteralK, GlobalK, LocalK, UnaryK, BinaryK, AssignK, StepK, IndexK, MemberK, ArrowK, CastK, CallK, InK, OutK, WaitK, HaltK, CardK, TInitT, OneI, TextI, ListI, TInitTs, NoI, MoreI, TVarT}
 use Rattle.c_exprs.specs.Nodes.{is_place, constant}
-use Rattle.c_meaning.specs.Kinds.{type_of, is_structure, decayed, pointed, is_pointer}
-use Rattle.c_meaning.specs.Parts.{part_type}
+use Rattle.c_meaning.specs.Kinds.{type_of}
+use Rattle.c_types.specs.Kinds.{is_structure, decayed, pointed, is_pointer}
+use Rattle.c_types.specs.Parts.{part_type}
 use Rattle.c_stmts.specs.Slots.{Slots, next_slot, later_slots, slots_of, is_null_or_text}
 use Rattle.c_facts.specs.Sound.{Scene, IsTyped, IsKind, FillsAs, FillEach, AreFilled, text_type}
 use Rattle.c_facts.specs.Start.{is_reckoned, is_reckoned_kind, is_given, fills_with_given, all_fill_with_given}

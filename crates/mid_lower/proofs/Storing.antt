@@ -5,7 +5,7 @@ use Rattle.c_tree.specs.declared.span.Span.{Span}
 use Rattle.c_tree.specs.declared.operator.BinOp.TheVariants as bin
 use Rattle.c_types.specs.Types.{Ty, VoidY, IntY, BoolY, EnumY, StructY, UnionY, PointerY, ArrayY}
 use Rattle.c_types.specs.Sizes.{words_of}
-use Rattle.c_meaning.specs.Kinds.{decayed, pointed}
+use Rattle.c_types.specs.Kinds.{decayed, pointed}
 use Rattle.v32_isa.specs.declared.instruction.One.TheVariants.{CIB, ISGN}
 use Rattle.v32_isa.specs.declared.instruction.Two.TheVariants.{IADD, ISUB}
 use Rattle.obj_mem.specs.Objects.{ObjectT}

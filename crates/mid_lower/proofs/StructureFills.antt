@@ -7,7 +7,8 @@ use Rattle.obj_mem.specs.declared.cell.Cell.TheVariants.{Ptr}
 use Rattle.obj_mem.specs.Stores.{with_objects}
 use Rattle.obj_mem.specs.Queries.{write}
 use Rattle.obj_mem.specs.Worlds.{World, on_store, spend}
-use Rattle.c_meaning.specs.Kinds.{span_of, is_structure}
+use Rattle.c_meaning.specs.Kinds.{span_of}
+use Rattle.c_types.specs.Kinds.{is_structure}
 use Rattle.c_meaning.specs.Outcomes.{Went, Through, CutOff, nowhere, asked, then_went}
 use Rattle.c_meaning.specs.Cells.{cells_set, stored, released, end_temporary}
 use Rattle.c_meaning.specs.Operators.{converted}

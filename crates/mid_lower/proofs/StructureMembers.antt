@@ -8,7 +8,8 @@ use Rattle.obj_mem.specs.declared.cell.Cell.{Cell}
 use Rattle.obj_mem.specs.declared.cell.Cell.TheVariants.{Num, Ptr}
 use Rattle.obj_mem.specs.Queries.{further}
 use Rattle.obj_mem.specs.Worlds.{World, on_store, spend}
-use Rattle.c_meaning.specs.Kinds.{type_of, is_structure}
+use Rattle.c_meaning.specs.Kinds.{type_of}
+use Rattle.c_types.specs.Kinds.{is_structure}
 use Rattle.c_meaning.specs.Outcomes.{Val, Value, Place, NoValue, Stops, asked}
 use Rattle.c_meaning.specs.Cells.{end_temporary}
 use Rattle.c_meaning.specs.Operators.{read_as}

@@ -13,7 +13,8 @@ use Rattle.obj_mem.specs.Queries.{write}
 use Rattle.obj_mem.specs.Worlds.{World, on_store, spend}
 use Rattle.c_meaning.specs.declared.end.End.{End}
 use Rattle.c_meaning.specs.declared.end.End.TheVariants.{Stray}
-use Rattle.c_meaning.specs.Kinds.{type_of, span_of, is_structure}
+use Rattle.c_meaning.specs.Kinds.{type_of, span_of}
+use Rattle.c_types.specs.Kinds.{is_structure}
 use Rattle.c_meaning.specs.Outcomes.{Val, Value, Place, NoValue, Stops, asked, Through, CutOff, then_value, then_place, then_went}
 use Rattle.c_meaning.specs.Cells.{end_temporary, stored, cells_set}
 use Rattle.c_meaning.specs.Operators.{converted}

@@ -10,7 +10,8 @@ use Rattle.obj_mem.specs.declared.cell.Cell.{Cell}
 use Rattle.obj_mem.specs.declared.cell.Cell.TheVariants.{Ptr}
 use Rattle.obj_mem.specs.Stores.{words_here, next_object}
 use Rattle.obj_mem.specs.Worlds.{World}
-use Rattle.c_meaning.specs.Kinds.{type_of, span_of, is_structure}
+use Rattle.c_meaning.specs.Kinds.{type_of, span_of}
+use Rattle.c_types.specs.Kinds.{is_structure}
 use Rattle.c_meaning.specs.Outcomes.{Val, Value, Place, NoValue, Stops}
 use Rattle.c_meaning.specs.Cells.{structure_read, fetched}
 use Rattle.c_meaning.specs.Expressions.{value_of, evaluated}

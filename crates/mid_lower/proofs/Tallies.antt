@@ -4,7 +4,7 @@ use Rattle.std.proofs.lemmas.Bool.Decides.{nat_tests}
 use Rattle.c_tree.specs.declared.operator.BinOp.{BinOp}
 use Rattle.c_tree.specs.declared.operator.BinOp.TheVariants as bin
 use Rattle.c_types.specs.Types.{Ty, VoidY, IntY, BoolY, EnumY, StructY, UnionY, PointerY, ArrayY}
-use Rattle.c_meaning.specs.Kinds.{is_structure, decayed, pointed, is_pointer}
+use Rattle.c_types.specs.Kinds.{is_structure, decayed, pointed, is_pointer}
 use Rattle.mid_code.specs.Code.{Stop, Do, Call, Choose, Block, Loop, Leave, Again, Return}
 use Rattle.mid_code.specs.Calls.{loops, CallsTo}
 use Rattle.lower_trees.specs.Shape.{Shape, words}

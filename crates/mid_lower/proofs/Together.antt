@@ -3,7 +3,7 @@ use Rattle.std.proofs.Common.{◌≡◌, ◌≢◌, ℕ, ◌+◌, ◌<◌, ◌�
 use Rattle.std.proofs.lemmas.List.{get_or_append_left, get_or_past}
 use Rattle.c_types.specs.Types.{Ty}
 use Rattle.c_types.specs.Programs.{TFunctionT}
-use Rattle.c_meaning.specs.Kinds.{is_structure}
+use Rattle.c_types.specs.Kinds.{is_structure}
 use Rattle.c_meaning.specs.Frames.{ReachesAll, is_among, AllAmong, AreLarge, AreDistinct, LargeAtOnce}
 use Rattle.mid_code.specs.Code.{Stop}
 use Rattle.mid_code.specs.Paths.{Blocked, Point, at, beginning}

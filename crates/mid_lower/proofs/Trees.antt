@@ -4,11 +4,11 @@ use Rattle.c_tree.specs.declared.operator.UnOp.TheVariants as un
 use Rattle.c_types.specs.Types.{Ty, ArrayY}
 use Rattle.c_types.specs.Typed.{TExprT, Typed, TKindT, UnaryK, BinaryK, AssignK, StepK, IndexK, MemberK, ArrowK, CastK, CallK, OutK, TExprTs, NoX, MoreX, TInitT, OneI, TextI, ListI, TInitTs, NoI, MoreI, TVarT, TStmtT, BlockZ, EmptyZ, VarsZ, DoZ, IfZ, WhileZ, DoWhileZ, ForZ, SwitchZ, ReturnZ, BreakZ, ContinueZ, MaybeZ, NoneZ, SomeZ, TStmtTs, NoZ, MoreZ, CaseB, DefaultB, StmtB, TArmTs, NoB, MoreB, GlobalK, LocalK}
 use Rattle.c_exprs.specs.Nodes.{is_place}
-use Rattle.c_meaning.specs.Kinds.{type_of, is_structure}
-use Rattle.c_meaning.specs.Parts.{part_type}
+use Rattle.c_meaning.specs.Kinds.{type_of}
+use Rattle.c_types.specs.Kinds.{is_structure, is_void}
+use Rattle.c_types.specs.Parts.{part_type}
 use Rattle.c_meaning.specs.Statements.{labels}
 use Rattle.lower_trees.specs.Shape.{Shape, words, literal_words, params_of, result_of}
-use Rattle.lower_trees.specs.Expressions.{is_void}
 
 -- the value of this is no structure
 abbrev pub IsScalar : TExprT → Type 0

@@ -12,7 +12,8 @@ use Rattle.obj_mem.specs.Worlds.{World}
 use Rattle.obj_mem.specs.Queries.{Answer, first_cell}
 use Rattle.c_meaning.specs.declared.end.End.{End}
 use Rattle.c_meaning.specs.declared.end.End.TheVariants.{Stray, Fault}
-use Rattle.c_meaning.specs.Kinds.{type_of, span_of, is_structure}
+use Rattle.c_meaning.specs.Kinds.{type_of, span_of}
+use Rattle.c_types.specs.Kinds.{is_structure}
 use Rattle.c_meaning.specs.Outcomes.{Val, Value, Place, NoValue, Stops, asked, then_value}
 use Rattle.c_meaning.specs.Operators.{read_as}
 use Rattle.c_meaning.specs.Cells.{fetched, end_temporary}

@@ -6,8 +6,8 @@ use Rattle.c_types.specs.Typed.{TExprT, TInitT, OneI, TextI, ListI, TInitTs, NoI
 use Rattle.c_types.specs.Nodes.{filled_nodes, all_filled_nodes, variables_nodes, maybe_typed_nodes, statement_nodes, maybe_statement_nodes, statements_nodes, arms_nodes, function_nodes, program_nodes}
 use Rattle.c_types.specs.Programs.{TFunctionT, ProgramT}
 use Rattle.c_types.specs.View.{tstmts}
-use Rattle.c_meaning.specs.Kinds.{is_structure}
-use Rattle.c_meaning.specs.Parts.{part_type}
+use Rattle.c_types.specs.Kinds.{is_structure}
+use Rattle.c_types.specs.Parts.{part_type}
 use Rattle.v32_isa.specs.declared.instruction.Two.TheVariants.{IEQ}
 use Rattle.mid_code.specs.Runs.{nodes_weight, function_weight, weight}
 use Rattle.mid_code.specs.declared.node.Op.TheVariants as o

@@ -3,7 +3,7 @@ use Rattle.std.proofs.Common.{◌≡◌, ℕ, ◌+◌, ◌≤◌, ◌==◌, Bool
 use Rattle.c_tree.specs.declared.operator.BinOp.{BinOp}
 use Rattle.c_tree.specs.declared.operator.BinOp.TheVariants as bin
 use Rattle.c_types.specs.Types.{Ty, VoidY, IntY, BoolY, EnumY, StructY, UnionY, PointerY, ArrayY}
-use Rattle.c_meaning.specs.Kinds.{decayed, pointed, is_pointer}
+use Rattle.c_types.specs.Kinds.{decayed, pointed, is_pointer}
 use Rattle.mid_code.specs.Code.{NodesT, Stop}
 use Rattle.mid_code.specs.Runs.{nodes_weight}
 use Rattle.mid_code.specs.declared.node.Op.{Op}

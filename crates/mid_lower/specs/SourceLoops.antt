@@ -6,8 +6,9 @@ use Rattle.c_types.specs.Typed.{BlockZ, EmptyZ, VarsZ, DoZ, IfZ, WhileZ, DoWhile
 use Rattle.c_types.specs.Typed.{TStmtTs, NoZ, MoreZ, TArmT, CaseB, DefaultB, StmtB, TArmTs, NoB, MoreB}
 use Rattle.c_types.specs.Programs.{TFunctionT}
 use Rattle.c_exprs.specs.Nodes.{is_place}
-use Rattle.c_meaning.specs.Kinds.{type_of, is_structure}
-use Rattle.c_meaning.specs.Parts.{part_type}
+use Rattle.c_meaning.specs.Kinds.{type_of}
+use Rattle.c_types.specs.Kinds.{is_structure}
+use Rattle.c_types.specs.Parts.{part_type}
 use Rattle.c_meaning.specs.Setting.{Setting, words}
 use Rattle.c_meaning.specs.Frames.{over, over_statements}
 

@@ -10,7 +10,7 @@ use Rattle.obj_mem.specs.Objects.{ObjectT, cell_at, cell_read, cell_written, end
 use Rattle.obj_mem.specs.Queries.{is_inside, is_within}
 use Rattle.obj_mem.specs.Living.{ActsOnLiving, KeepsRising, LiveT, Rises, found, live_below, live_made, live_without, live_written, objects_of}
 use Rattle.obj_mem.specs.LiveView.{live_object}
-use Rattle.obj_mem.specs.inner.View.{objects}
+use Rattle.obj_mem.specs.View.{objects}
 use Rattle.obj_mem.proofs.Living.{living, at}
 
 module _ (x : Objects) where
@@ -93,3 +93,7 @@ module _ (live : List LiveT) (next : ℕ) (r : Rises 0 next live) where
 -- one more is the last
 pub one_more : (xs : List Object) (y : Object) → map live_object (xs ++ y ∷ []) ≡ live_made (map live_object xs) y.number y.kind y.cells.items
 one_more xs y = map-append live_object xs (y ∷ [])
+
+pub ruleset making = (all_count, all_kept, all_made, still_made, one_more)
+
+pub ruleset writing = (rises, all_refused, all_written, all_kept, still_written, still_kept)

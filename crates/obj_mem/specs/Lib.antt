@@ -6,4 +6,4 @@ pub mod Worlds
 pub mod Queries
 pub mod Runs
 pub mod LiveView
-pub mod inner
+pub mod View

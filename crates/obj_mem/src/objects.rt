@@ -24,10 +24,10 @@ impl Objects {
     ghost use Rattle.std.specs.Prelude.{◌≡◌, [], IfErr, IfOk, OnErr, OnOk, length, Err, Ok};
     ghost use Rattle.obj_mem.specs.Objects.{ObjectT, cell_read, cell_written, end_from, end_object, made, object_at};
     ghost use Rattle.obj_mem.specs.Queries.{is_inside, is_within};
-    ghost use Rattle.obj_mem.specs.inner.View.{objects};
+    ghost use Rattle.obj_mem.specs.View.{objects};
 
     /// No objects.
-    #[tactic(auto, unfolding(crate::specs::inner::View::objects))]
+    #[tactic(auto, unfolding(crate::specs::View::objects))]
     pub fn new(alloc: Global) -> Objects
         ensures { objects result ≡ [] }
     {
@@ -49,7 +49,7 @@ impl Objects {
     /// Makes an object of these cells, and answers its number, which is that of no other object ever. Nothing changes where there is no
     /// memory for it.
     #[inline(always)]
-    #[tactic(auto, using(crate::proofs::OnAll::all_count, crate::proofs::OnAll::all_kept, crate::proofs::OnAll::all_made, crate::proofs::OnAll::still_made, crate::proofs::OnAll::one_more))]
+    #[tactic(auto, using(crate::proofs::OnAll::making))]
     pub fn make(&mut self, kind: ObjectKind, cells: Vec<Cell>) -> Result<u64, Memory>
         ensures number { IfOk result (λ number. number ≡ length (objects self.old)) }
         ensures ok { OnOk result (objects self.new ≡ made (objects self.old) kind cells.items) }
@@ -99,7 +99,7 @@ impl Objects {
     /// Writes the cell at an offset of an object. It is refused as a read is, and then as `ReadOnly` where the object is a literal; a refused
     /// write changes nothing.
     #[inline(always)]
-    #[tactic(auto, using(crate::proofs::OnAll::rises, crate::proofs::OnAll::all_refused, crate::proofs::OnAll::all_written, crate::proofs::OnAll::all_kept, crate::proofs::OnAll::still_written, crate::proofs::OnAll::still_kept))]
+    #[tactic(auto, using(crate::proofs::OnAll::writing))]
     pub fn write(&mut self, object: u64, offset: u32, cell: Cell) -> Result<(), Access>
         ensures ok { OnOk result (cell_written (objects self.old) object offset cell ≡ Ok (objects self.new)) }
         ensures err { IfErr result (λ why. cell_written (objects self.old) object offset cell ≡ Err why) }

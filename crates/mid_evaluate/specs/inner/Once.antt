@@ -2,8 +2,10 @@
 use Rattle.std.specs.Prelude.{ℕ, zero, suc, Bool, true, false, List, length, Option, Some, None}
 use Rattle.mid_code.specs.declared.node.Op.{Op}
 use Rattle.mid_code.specs.declared.node.Op.TheVariants as op
+use Rattle.obj_mem.specs.declared.cell.Cell.{Cell}
 use Rattle.obj_mem.specs.declared.cell.Cell.TheVariants.{Unwritten}
-use Rattle.obj_mem.specs.Objects.{end_from}
+use Rattle.obj_mem.specs.Objects.{ObjectT, end_from}
+use Rattle.obj_mem.specs.Queries.{Answer}
 use Rattle.obj_mem.specs.Worlds.{on_store}
 use Rattle.obj_mem.specs.Runs.{Stray}
 use Rattle.obj_mem.specs.Stores.{Sizes}
@@ -11,13 +13,17 @@ use Rattle.mid_code.specs.Code.{ConstO, NullO, MoveO, OneO, TwoO, GlobalO, Local
 use Rattle.mid_code.specs.Code.{EndO, InO, OutO, WaitO, HaltO, CodeT, NodesT, Loop, Stop}
 use Rattle.mid_code.specs.Functions.{NodeT, DoN, ChooseN, BlockN, LoopN, LeaveN, AgainN, ReturnN, joined}
 use Rattle.mid_code.specs.Meaning.{Did, Ends, Res, Next, Leaves, Repeats, Returns, Over, did, block_done, called, runs, below, node_weight, call_weight}
-use Rattle.mid_code.specs.States.{temporaries, acted, cell_of, put_in_maybe, over_worlds, sizes_of, spent, word_tested}
+use Rattle.mid_code.specs.States.{temporaries, acted, cell_of, put_in_maybe, over_worlds, sizes_of, spent, to, word_tested}
 use Rattle.mid_evaluate.specs.declared.flow.Flow.{Flow}
 use Rattle.mid_evaluate.specs.declared.flow.Flow.TheVariants as flow
 use Rattle.mid_evaluate.specs.inner.Answers.{S}
 use Rattle.mid_evaluate.specs.View.{CallT, CallerT}
 
 -- ---- operations
+
+-- temporary t takes what is asked of the pointers in p and q
+abbrev pub asked_of : (t : ℕ) → (List ObjectT → Cell → Cell → Answer Cell) → (p q : ℕ) → S → Did S
+asked_of t answer p q s = to temporaries t (answer s.world.store.objects (s.cells p) (s.cells q)) s
 
 -- what an operation in memory does; a call is none that is done so
 abbrev pub performed : Sizes → Op ℕ → S → Did S

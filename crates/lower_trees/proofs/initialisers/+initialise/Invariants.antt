@@ -3,7 +3,7 @@ use Rattle.c_types.specs.View.{tinit, tinits}
 use Rattle.mid_code.specs.Functions.{node}
 use Rattle.lower_trees.specs.Counts.{inits_temps, inits_sizes}
 use Rattle.lower_trees.specs.ListedInitialisers.{low_inits}
-use Rattle.lower_trees.specs.inner.MaybeTypes.{or_void}
+use Rattle.c_types.specs.View.{or_void}
 use Rattle.lower_trees.specs.View.{shape_of}
 use Rattle.lower_trees.proofs.initialisers.+initialise.Given as goal
 

@@ -1,6 +1,6 @@
 use Rattle.std.proofs.Common.{◌≡◌}
 use Rattle.obj_mem.specs.Runs.{global_cells}
-use Rattle.obj_mem.specs.inner.View.{objects}
+use Rattle.obj_mem.specs.View.{objects}
 use Rattle.mid_evaluate.proofs.kept.globals_of.Given as goal
 
 abbrev pub invariant-objects : goal.invariant-objects

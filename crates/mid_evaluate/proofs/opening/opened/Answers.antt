@@ -1,5 +1,5 @@
 use Rattle.std.proofs.Common.{◌≡◌, option_map}
-use Rattle.obj_mem.specs.inner.View.{objects}
+use Rattle.obj_mem.specs.View.{objects}
 use Rattle.mid_evaluate.proofs.Ends.{all_opened}
 use Rattle.mid_evaluate.proofs.opening.opened.Goals as goal
 

@@ -3,7 +3,7 @@ use Rattle.std.proofs.lemmas.Result.{IfErr-weaker}
 use Rattle.obj_mem.specs.Objects.{cell_written, write_refused}
 use Rattle.obj_mem.specs.Living.{found}
 use Rattle.obj_mem.specs.LiveView.{live_object}
-use Rattle.obj_mem.specs.inner.View.{objects}
+use Rattle.obj_mem.specs.View.{objects}
 use Rattle.obj_mem.proofs.OnAll.{all_refused}
 use Rattle.obj_mem.proofs.objects.Objects.write.Goals as goal
 

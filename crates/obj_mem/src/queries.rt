@@ -1,15 +1,17 @@
 // What is asked of cells and objects.
 ghost use Rattle.std.specs.Prelude.{◌≡◌, Ok, Err, IfErr, OnOk, OnErr};
-ghost use Rattle.obj_mem.specs.inner.View.{objects};
-ghost use Rattle.obj_mem.specs.Queries.{word_of, refused, accessed, read, write, step, equal_by_object, equal_pointers, offsets, apart, answer_if};
+ghost use Rattle.obj_mem.specs.View.{objects};
+ghost use Rattle.obj_mem.specs.Queries.{word_of, refused, read, write, step, further, equal_pointers, offsets, apart, answer_if};
 
+use crate::access::Access;
+use crate::cell::{CARD_WORDS, Cell};
+use crate::objects::Objects;
+use crate::refusal::Refusal;
 use kit_base::{wrap_add, wrap_sub};
-use obj_mem::{Access, Cell, Objects, Refusal};
 
-const CARD_WORDS: u32 = 262_144;
-
+/// The word in a cell. A cell that holds no word strays.
 #[inline(always)]
-pub(crate) fn word_of(c: Cell) -> Result<u32, Refusal>
+pub fn word_of(c: Cell) -> Result<u32, Refusal>
     ensures { result ≡ word_of c }
 {
     match c {
@@ -27,7 +29,7 @@ fn refused(fault: u32, offset: u32, access: Access) -> Refusal
         Access::Outside | Access::Dead => Refusal::Strays,
         Access::ReadOnly => Refusal::Faults(fault),
         Access::NoCard => {
-            if offset < CARD_WORDS {
+            if (offset as usize) < CARD_WORDS {
                 Refusal::Faults(fault)
             } else {
                 Refusal::Strays
@@ -36,9 +38,10 @@ fn refused(fault: u32, offset: u32, access: Access) -> Refusal
     }
 }
 
-/// The cell at a pointer.
+/// The cell at a pointer. It strays where that is no cell of an object that lives; where no card is connected, each of the 262,144 words
+/// of the card is fault 0.
 #[inline(always)]
-pub(crate) fn read(os: &Objects, p: Cell) -> Result<Cell, Refusal>
+pub fn read(os: &Objects, p: Cell) -> Result<Cell, Refusal>
     ensures { result ≡ read (objects os.now) p }
 {
     match p {
@@ -50,9 +53,10 @@ pub(crate) fn read(os: &Objects, p: Cell) -> Result<Cell, Refusal>
     }
 }
 
-/// Writes the cell at a pointer.
+/// Writes the cell at a pointer. It strays where that is no cell of an object that lives; a text literal is fault 1, as is each of the
+/// 262,144 words of the card where none is connected. A refused write changes nothing.
 #[inline(always)]
-pub(crate) fn write(os: &mut Objects, p: Cell, c: Cell) -> Result<(), Refusal>
+pub fn write(os: &mut Objects, p: Cell, c: Cell) -> Result<(), Refusal>
     ensures ok { OnOk result (write (objects os.old) p c ≡ Ok (objects os.new)) }
     ensures err { IfErr result (λ why. write (objects os.old) p c ≡ Err why) }
     ensures kept { OnErr result (objects os.new ≡ objects os.old) }
@@ -66,9 +70,9 @@ pub(crate) fn write(os: &mut Objects, p: Cell, c: Cell) -> Result<(), Refusal>
     }
 }
 
-/// The pointer `n` words further on.
+/// The pointer `n` words further on; its offset wraps at 2^32. A cell that holds no pointer strays.
 #[inline(always)]
-pub(crate) fn step(p: Cell, n: u32) -> Result<Cell, Refusal>
+pub fn step(p: Cell, n: u32) -> Result<Cell, Refusal>
     ensures { result ≡ step p n }
 {
     match p {
@@ -77,6 +81,20 @@ pub(crate) fn step(p: Cell, n: u32) -> Result<Cell, Refusal>
             offset: wrap_add(offset, n),
         }),
         Cell::Unwritten | Cell::Num(_) | Cell::Null => Err(Refusal::Strays),
+    }
+}
+
+/// The pointer `n` words further on, its offset wrapped at 2^32; a cell that holds no pointer stays as it is.
+#[inline(always)]
+pub fn further(p: Cell, n: u32) -> Cell
+    ensures { result ≡ further p n }
+{
+    match p {
+        Cell::Ptr { object, offset } => Cell::Ptr {
+            object,
+            offset: wrap_add(offset, n),
+        },
+        Cell::Unwritten | Cell::Num(_) | Cell::Null => p,
     }
 }
 
@@ -90,8 +108,9 @@ fn if_so(holds: bool, answer: bool) -> Result<bool, Refusal>
     }
 }
 
-/// Whether pointers, or NULL, are equal.
-pub(crate) fn equal_pointers(os: &Objects, p: Cell, q: Cell) -> Result<bool, Refusal>
+/// Whether two cells hold equal pointers, NULL among them. Those into one object are compared by their offsets. Pointers into two objects,
+/// or into one and NULL, differ where each is to a cell of an object that lives, and stray otherwise; so does a cell that holds no pointer.
+pub fn equal_pointers(os: &Objects, p: Cell, q: Cell) -> Result<bool, Refusal>
     ensures { result ≡ equal_pointers (objects os.now) p q }
 {
     match p {
@@ -120,8 +139,9 @@ pub(crate) fn equal_pointers(os: &Objects, p: Cell, q: Cell) -> Result<bool, Ref
     }
 }
 
-/// The offsets of two pointers into one object.
-pub(crate) fn offsets(os: &Objects, p: Cell, q: Cell) -> Result<(u32, u32), Refusal>
+/// The offsets, in words, of two pointers that can be ordered or subtracted: those to cells, or to the end, of one object that lives. All
+/// others stray.
+pub fn offsets(os: &Objects, p: Cell, q: Cell) -> Result<(u32, u32), Refusal>
     ensures { result ≡ offsets (objects os.now) p q }
 {
     match (p, q) {
@@ -142,8 +162,8 @@ pub(crate) fn offsets(os: &Objects, p: Cell, q: Cell) -> Result<(u32, u32), Refu
     }
 }
 
-/// The distance in words from the second pointer to the first.
-pub(crate) fn apart(os: &Objects, p: Cell, q: Cell) -> Result<u32, Refusal>
+/// The distance in words from the second pointer to the first, wrapped at 2^32; it strays where `offsets` does.
+pub fn apart(os: &Objects, p: Cell, q: Cell) -> Result<u32, Refusal>
     ensures { result ≡ apart (objects os.now) p q }
 {
     let (i, j) = offsets(os, p, q)?;

@@ -8,7 +8,8 @@ use Rattle.c_types.specs.Sizes.{member_named}
 use Rattle.c_types.specs.Typed.{TExprT, Typed, TKindT, NumberK, LiteralK, GlobalK, LocalK, UnaryK, BinaryK, IndexK, MemberK, ArrowK}
 use Rattle.c_rules.specs.declared.code.Code.{Code}
 use Rattle.c_rules.specs.declared.code.Code.TheVariants.{UnknownName, Twice, WrongType, NotAPlace, InfiniteType, TooLarge}
-use Rattle.c_rules.specs.Kinds.{is_array, is_structure, decayed, pointed}
+use Rattle.c_rules.specs.Kinds.{is_array}
+use Rattle.c_types.specs.Kinds.{is_structure, decayed, pointed}
 use Rattle.c_rules.specs.Sizes.{is_whole, fits, value_limit}
 use Rattle.c_rules.specs.Rules.{Rule, demand}
 use Rattle.c_rules.specs.Constants.{constant_unary, constant_binary}

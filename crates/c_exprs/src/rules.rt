@@ -11,10 +11,10 @@ use crate::error::{CheckErr, at_node, placed};
 use crate::names::Globals;
 use c_rules::{
     Code, Counted, array_type, assign_type, binary_type, cast_type, compound_type, fits,
-    index_type, is_structure, is_whole, step_type, type_size, unary_type,
+    index_type, is_whole, step_type, type_size, unary_type,
 };
 use c_tree::{BinOp, Span, StepOp, UnOp};
-use c_types::{CType, Layout};
+use c_types::{CType, Layout, is_structure};
 use std::alloc::Global;
 
 /// Whether the value of a type may be asked for: that of a structure or union where it is declared whole and has at most 4,096

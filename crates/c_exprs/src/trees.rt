@@ -3,7 +3,7 @@ ghost use Rattle.std.specs.Prelude.{◌≡◌, map, option_map, slice_get, IfOk}
 ghost use Rattle.c_types.specs.Types.{ArrayY, IntY};
 ghost use Rattle.c_types.specs.Typed.{Typed, MemberK, ArrowK};
 ghost use Rattle.c_types.specs.View.{ctype, layout, named, texpr};
-ghost use Rattle.c_rules.specs.Kinds.{decayed, pointed};
+ghost use Rattle.c_types.specs.Kinds.{decayed, pointed};
 ghost use Rattle.c_exprs.specs.declared.error.CheckErr.TheVariants as errors;
 ghost use Rattle.c_exprs.specs.Faults.{placed};
 ghost use Rattle.c_exprs.specs.Nodes.{name_tree, named_type, layout_of, layout_behind, member_in, member_at, arrow_at, type_of_typed};

@@ -1,9 +1,10 @@
 // The typing of expressions.
 ghost use Rattle.std.specs.Prelude.{◌≡◌, [], List, IfOk, OnErr, Err, map};
 ghost use Rattle.c_tree.specs.declared.span.Span.{Span};
+ghost use Rattle.c_tree.specs.Tree.{ArrowE, CallE, MemberE, SizeOfE, StepE, UnaryE};
 ghost use Rattle.c_tree.specs.View.{expr, exprs, type};
-ghost use Rattle.c_types.specs.Types.{PointerY, Ty};
-ghost use Rattle.c_types.specs.Typed.{TExprT};
+ghost use Rattle.c_types.specs.Types.{PointerY, VoidY, Ty};
+ghost use Rattle.c_types.specs.Typed.{NullK, TExprT, Typed};
 ghost use Rattle.c_types.specs.View.{ctype, texpr, texprs};
 ghost use Rattle.c_rules.specs.Nodes.{needs_place};
 ghost use Rattle.c_rules.specs.declared.code.Code.{Code};
@@ -29,7 +30,7 @@ use crate::rules::{array_at, size_at, value_at};
 use crate::texts::{Texts, kept_texts};
 use crate::trees::{arrow_tree, member_tree, name_tree, named_type, node};
 use c_rules::{Code, Counted, array_of, pointer_to, with_elements};
-use c_tree::{Expr, Span, TypeTree, UnOp};
+use c_tree::{Expr, Span, StepOp, TypeTree, UnOp};
 use c_types::{CType, TExpr, TKind};
 use kit_base::{Memory, Name};
 use std::alloc::Global;
@@ -60,8 +61,15 @@ fn needs_place(op: UnOp) -> bool
     }
 }
 
+/// The null pointer.
+fn null_tree(alloc: Global, span: Span) -> Result<TExpr, Memory>
+    ensures { IfOk result (λ r. texpr r ≡ Typed NullK (PointerY VoidY) span) }
+{
+    let ty = pointer_to(alloc, &CType::Void)?;
+    Ok(node(TKind::Null, ty, span))
+}
+
 #[cycle(typing)]
-#[tactic(auto, unfolding(crate::specs::Typing::as_used, crate::specs::Nodes::member_tree, crate::specs::Nodes::arrow_tree))]
 fn typed(
     alloc: Global,
     globals: &Globals,
@@ -75,19 +83,9 @@ fn typed(
         Expr::Name(name, span) => Ok(name_tree(globals, scopes, name, *span)?),
         Expr::Number(n, span) => Ok(node(TKind::Number(*n), CType::Int, *span)),
         Expr::Text(text, span) => text_tree(alloc, texts, text, *span),
-        Expr::Null(span) => {
-            let ty = pointer_to(alloc, &CType::Void)?;
-            Ok(node(TKind::Null, ty, *span))
-        }
+        Expr::Null(span) => Ok(null_tree(alloc, *span)?),
         Expr::Paren(a, _) => Ok(typed(alloc, globals, scopes, texts, a)?),
-        Expr::Unary(op, a, span) => {
-            let x = if needs_place(*op) {
-                typed(alloc, globals, scopes, texts, a)?
-            } else {
-                valued(alloc, globals, scopes, texts, a)?
-            };
-            Ok(unary_tree(alloc, *op, x, *span)?)
-        }
+        Expr::Unary(op, a, span) => unary(alloc, globals, scopes, texts, *op, a, *span),
         Expr::Binary(op, a, b, span) => {
             let x = valued(alloc, globals, scopes, texts, a)?;
             let y = valued(alloc, globals, scopes, texts, b);
@@ -106,29 +104,17 @@ fn typed(
             let (x, y) = keeping(x, y)?;
             Ok(compound_tree(alloc, globals, *op, x, y, *span)?)
         }
-        Expr::Step(op, a, span) => {
-            let x = typed(alloc, globals, scopes, texts, a)?;
-            Ok(step_tree(alloc, globals, *op, x, *span)?)
-        }
+        Expr::Step(op, a, span) => step(alloc, globals, scopes, texts, *op, a, *span),
         Expr::Index(a, b, span) => {
             let x = valued(alloc, globals, scopes, texts, a)?;
             let y = valued(alloc, globals, scopes, texts, b);
             let (x, y) = keeping(x, y)?;
             Ok(index_tree(alloc, globals, x, y, *span)?)
         }
-        Expr::Member(a, name, span) => {
-            let x = typed(alloc, globals, scopes, texts, a)?;
-            Ok(member_tree(alloc, &globals.layouts, x, name, *span)?)
-        }
-        Expr::Arrow(a, name, span) => {
-            let x = valued(alloc, globals, scopes, texts, a)?;
-            Ok(arrow_tree(alloc, &globals.layouts, x, name, *span)?)
-        }
+        Expr::Member(a, name, span) => member(alloc, globals, scopes, texts, a, name, *span),
+        Expr::Arrow(a, name, span) => arrow(alloc, globals, scopes, texts, a, name, *span),
         Expr::Call(name, args, span) => {
-            let named = names_port(globals, scopes, name);
-            let xs = all_valued(alloc, globals, scopes, texts, named, args.as_slice())?;
-            let (kind, ty) = call_node(alloc, globals, scopes, name, args.as_slice(), xs, *span)?;
-            Ok(node(kind, ty, *span))
+            call(alloc, globals, scopes, texts, name, args.as_slice(), *span)
         }
         Expr::Cast(to, a, span) => {
             let to = counted_type(alloc, globals, scopes, texts, *span, to)?;
@@ -136,12 +122,119 @@ fn typed(
             let (to, x) = keeping(to, x)?;
             Ok(cast_tree(alloc, to.ty, x, *span)?)
         }
-        Expr::SizeOf(of, span) => {
-            let found = counted_type(alloc, globals, scopes, texts, *span, of)?;
-            let n = size_at(globals, *span, found.ty)?;
-            Ok(node(TKind::Number(n), CType::Int, *span))
-        }
+        Expr::SizeOf(of, span) => size(alloc, globals, scopes, texts, of, *span),
     }
+}
+
+/// A unary operator and its operand.
+#[cycle(typing)]
+#[tactic(auto, unfolding(crate::specs::Typing::as_used))]
+fn unary(
+    alloc: Global,
+    globals: &Globals,
+    scopes: &[Scope],
+    texts: &mut Texts,
+    op: UnOp,
+    a: &Expr,
+    span: Span,
+) -> Result<TExpr, CheckErr>
+    ensures { Gives (λ r. (texpr r, texts.new)) result (typed (ctx globals.now scopes.now) texts.old (UnaryE op (expr a.now) span)) }
+{
+    let x = if needs_place(op) {
+        typed(alloc, globals, scopes, texts, a)?
+    } else {
+        valued(alloc, globals, scopes, texts, a)?
+    };
+    Ok(unary_tree(alloc, op, x, span)?)
+}
+
+/// A step up or down.
+#[cycle(typing)]
+fn step(
+    alloc: Global,
+    globals: &Globals,
+    scopes: &[Scope],
+    texts: &mut Texts,
+    op: StepOp,
+    a: &Expr,
+    span: Span,
+) -> Result<TExpr, CheckErr>
+    ensures { Gives (λ r. (texpr r, texts.new)) result (typed (ctx globals.now scopes.now) texts.old (StepE op (expr a.now) span)) }
+{
+    let x = typed(alloc, globals, scopes, texts, a)?;
+    Ok(step_tree(alloc, globals, op, x, span)?)
+}
+
+/// A member of a structure or union.
+#[cycle(typing)]
+#[tactic(auto, unfolding(crate::specs::Nodes::member_tree))]
+fn member(
+    alloc: Global,
+    globals: &Globals,
+    scopes: &[Scope],
+    texts: &mut Texts,
+    a: &Expr,
+    name: &Name,
+    span: Span,
+) -> Result<TExpr, CheckErr>
+    ensures { Gives (λ r. (texpr r, texts.new)) result (typed (ctx globals.now scopes.now) texts.old (MemberE (expr a.now) name.now span)) }
+{
+    let x = typed(alloc, globals, scopes, texts, a)?;
+    Ok(member_tree(alloc, &globals.layouts, x, name, span)?)
+}
+
+/// A member of the structure or union behind a pointer.
+#[cycle(typing)]
+#[tactic(auto, unfolding(crate::specs::Nodes::arrow_tree))]
+fn arrow(
+    alloc: Global,
+    globals: &Globals,
+    scopes: &[Scope],
+    texts: &mut Texts,
+    a: &Expr,
+    name: &Name,
+    span: Span,
+) -> Result<TExpr, CheckErr>
+    ensures { Gives (λ r. (texpr r, texts.new)) result (typed (ctx globals.now scopes.now) texts.old (ArrowE (expr a.now) name.now span)) }
+{
+    let x = valued(alloc, globals, scopes, texts, a)?;
+    Ok(arrow_tree(alloc, &globals.layouts, x, name, span)?)
+}
+
+/// A call.
+#[cycle(typing)]
+fn call(
+    alloc: Global,
+    globals: &Globals,
+    scopes: &[Scope],
+    texts: &mut Texts,
+    name: &Name,
+    args: &[Expr],
+    span: Span,
+) -> Result<TExpr, CheckErr>
+    ensures { Gives (λ r. (texpr r, texts.new)) result (typed (ctx globals.now scopes.now) texts.old (CallE name.now (exprs (map expr args.now)) span)) }
+{
+    let named = names_port(globals, scopes, name);
+    let xs = all_valued(alloc, globals, scopes, texts, named, args)?;
+    let (kind, ty) = call_node(alloc, globals, scopes, name, args, xs, span)?;
+    Ok(node(kind, ty, span))
+}
+
+/// The size of a type.
+#[cycle(typing)]
+fn size(
+    alloc: Global,
+    globals: &Globals,
+    scopes: &[Scope],
+    texts: &mut Texts,
+    of: &TypeTree,
+    span: Span,
+) -> Result<TExpr, CheckErr>
+    ensures { Gives (λ r. (texpr r, texts.new)) result (typed (ctx globals.now scopes.now) texts.old (SizeOfE (type of.now) span)) }
+{
+    let found = counted_type(alloc, globals, scopes, texts, span, of)?;
+    let n = size_at(globals, span, found.ty)?;
+    Ok(node(TKind::Number(n), CType::Int, span))
 }
 
 /// The typed tree of an expression whose value is asked for.

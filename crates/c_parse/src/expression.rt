@@ -19,7 +19,7 @@ use crate::leading::{
     assigner_behind, begins_expr, begins_type, is_some_suffix, lead_at, operator_at, start_at,
     suffix_at, type_at, type_mark_at,
 };
-use crate::scope::{Scope, span};
+use crate::scope::{Begun, Scope, span};
 use crate::tokens::{
     at, bad, behind, close_bracket, close_paren, name, no_room, open_paren, raised, word,
 };
@@ -50,10 +50,11 @@ pub(crate) fn expression<'a>(
     let Some(op) = assigner_behind(&left, rest) else {
         return Ok((left, depth, rest));
     };
-    assigned(alloc, scope, room, op, left, depth, tokens, rest)
+    let begun = Begun { from: tokens, rest };
+    assigned(alloc, scope, room, op, left, depth, &begun)
 }
 
-/// The assignment to `left`, which begins at `from`, with the operator before it or none.
+/// The assignment to `left`, with the operator before it or none.
 #[tactic(auto, using(crate::proofs::Steps::reader_steps))]
 #[cycle(expressions)]
 fn assigned<'a>(
@@ -63,20 +64,20 @@ fn assigned<'a>(
     op: Option<BinOp>,
     left: Expr,
     depth: u32,
-    from: &[Token],
-    tokens: &'a [Token],
+    begun: &Begun<'a>,
 ) -> Result<(Expr, u32, &'a [Token]), ReadErr>
     requires some { 0 < room }
     requires depth { depth ≡ expr_depth (expr left) }
     ensures gives { Gives (λ x. (expr x.0, toks x.2.now)) result
-        (assign_by (context scope.now) (readers (context scope.now) (room - 1)) room (toks from.now) (expr left) (toks tokens.now) (Some op)) }
+        (assign_by (context scope.now) (readers (context scope.now) (room - 1)) room (toks begun.now.from.now) (expr left)
+        (toks begun.now.rest.now) (Some op)) }
     ensures depth { IfOk result (λ x. x.1 ≡ expr_depth (expr x.0)) }
     ensures fits { IfOk result (λ x. x.1 ≤ room) }
 {
-    let (left, _) = keeping(left, raised(room, depth, tokens))?;
-    let found = expression(alloc, scope, room - 1, behind(tokens));
+    let (left, _) = keeping(left, raised(room, depth, begun.rest))?;
+    let found = expression(alloc, scope, room - 1, behind(begun.rest));
     let (left, (right, right_depth, rest)) = keeping(left, found)?;
-    let tree = assign(alloc, op, left, right, span(scope, from, rest))?;
+    let tree = assign(alloc, op, left, right, span(scope, begun.from, rest))?;
     Ok((tree, depth.max(right_depth) + 1, rest))
 }
 
@@ -100,8 +101,9 @@ pub(crate) fn level<'a>(
     let (mut left, mut depth, mut rest) = unary_expression(alloc, scope, room, tokens)?;
     let mut reached = 0;
     'levels: while reached < k {
+        let begun = Begun { from: tokens, rest };
         let (tree, tree_depth, after) = operators(
-            alloc, scope, room, reached, left, depth, tokens, rest,
+            alloc, scope, room, reached, left, depth, &begun,
         )?;
         left = tree;
         depth = tree_depth;
@@ -111,7 +113,7 @@ pub(crate) fn level<'a>(
     Ok((left, depth, rest))
 }
 
-/// The expression `left`, which begins at `from`, with the operators of level `k + 1` behind it.
+/// The expression `left` with the operators of level `k + 1` behind it.
 #[tactic(auto, using(crate::proofs::Steps::reader_steps))]
 #[cycle(expressions)]
 fn operators<'a>(
@@ -121,26 +123,26 @@ fn operators<'a>(
     k: u32,
     left: Expr,
     depth: u32,
-    from: &[Token],
-    tokens: &'a [Token],
+    begun: &Begun<'a>,
 ) -> Result<(Expr, u32, &'a [Token]), ReadErr>
     requires some { 0 < room }
     requires known { k < 10 }
     requires depth { depth ≡ expr_depth (expr left) }
     requires fits { depth ≤ room }
     ensures gives { Gives (λ x. (expr x.0, toks x.2.now)) result
-        (loop (operator_turn (context scope.now) (readers (context scope.now) (room - 1)) room k (toks from.now)) (expr left) (toks tokens.now)) }
+        (loop (operator_turn (context scope.now) (readers (context scope.now) (room - 1)) room k (toks begun.now.from.now)) (expr left)
+        (toks begun.now.rest.now)) }
     ensures depth { IfOk result (λ x. x.1 ≡ expr_depth (expr x.0)) }
     ensures fits { IfOk result (λ x. x.1 ≤ room) }
 {
     let mut left = left;
     let mut depth = depth;
-    let mut rest = tokens;
+    let mut rest = begun.rest;
     'operators: while let Some(op) = operator_at(k + 1, rest) {
         let (fitting, _) = keeping(left, raised(room, depth, rest))?;
         let found = level(alloc, scope, room - 1, k, behind(rest));
         let (kept, (right, right_depth, after)) = keeping(fitting, found)?;
-        left = binary(alloc, op, kept, right, span(scope, from, after))?;
+        left = binary(alloc, op, kept, right, span(scope, begun.from, after))?;
         depth = depth.max(right_depth) + 1;
         rest = after;
     }
@@ -238,7 +240,8 @@ fn postfix<'a>(
     let (mut left, mut depth, mut rest) = primary(alloc, scope, room, tokens)?;
     'suffixes: while is_some_suffix(suffix_at(rest)) {
         let (fitting, _) = keeping(left, raised(room, depth, rest))?;
-        let (tree, tree_depth, after) = suffixed(alloc, scope, room, fitting, depth, tokens, rest)?;
+        let begun = Begun { from: tokens, rest };
+        let (tree, tree_depth, after) = suffixed(alloc, scope, room, fitting, depth, &begun)?;
         left = tree;
         depth = tree_depth;
         rest = after;
@@ -246,7 +249,7 @@ fn postfix<'a>(
     Ok((left, depth, rest))
 }
 
-/// The expression `left`, which begins at `from`, with the suffix behind it.
+/// The expression `left` with the suffix behind it.
 #[tactic(auto, using(crate::proofs::Steps::reader_steps))]
 #[cycle(expressions)]
 fn suffixed<'a>(
@@ -255,27 +258,26 @@ fn suffixed<'a>(
     room: u32,
     left: Expr,
     depth: u32,
-    from: &[Token],
-    tokens: &'a [Token],
+    begun: &Begun<'a>,
 ) -> Result<(Expr, u32, &'a [Token]), ReadErr>
     requires depth { depth ≡ expr_depth (expr left) }
     requires some { depth < room }
     ensures gives { Gives (λ x. (expr x.0, toks x.2.now)) result
-        (suffix_by (context scope.now) (readers (context scope.now) (room - 1)) (toks from.now) (expr left) (toks tokens.now)
-        (leads.suffix_at (toks tokens.now))) }
+        (suffix_by (context scope.now) (readers (context scope.now) (room - 1)) (toks begun.now.from.now) (expr left)
+        (toks begun.now.rest.now) (leads.suffix_at (toks begun.now.rest.now))) }
     ensures depth { IfOk result (λ x. x.1 ≡ expr_depth (expr x.0)) }
     ensures fits { IfOk result (λ x. x.1 ≤ room) }
 {
-    match suffix_at(tokens) {
-        Suffix::Index => indexed(alloc, scope, room, left, depth, from, tokens),
-        Suffix::Member => selected(alloc, scope, false, left, depth, from, tokens),
-        Suffix::Arrow => selected(alloc, scope, true, left, depth, from, tokens),
+    match suffix_at(begun.rest) {
+        Suffix::Index => indexed(alloc, scope, room, left, depth, begun),
+        Suffix::Member => selected(alloc, scope, false, left, depth, begun),
+        Suffix::Arrow => selected(alloc, scope, true, left, depth, begun),
         Suffix::Step(op) => {
-            let rest = behind(tokens);
-            let tree = step(alloc, op, left, span(scope, from, rest))?;
+            let rest = behind(begun.rest);
+            let tree = step(alloc, op, left, span(scope, begun.from, rest))?;
             Ok((tree, depth + 1, rest))
         }
-        Suffix::Nothing => Err(bad(tokens)),
+        Suffix::Nothing => Err(bad(begun.rest)),
     }
 }
 
@@ -287,20 +289,20 @@ fn indexed<'a>(
     room: u32,
     left: Expr,
     depth: u32,
-    from: &[Token],
-    tokens: &'a [Token],
+    begun: &Begun<'a>,
 ) -> Result<(Expr, u32, &'a [Token]), ReadErr>
     requires depth { depth ≡ expr_depth (expr left) }
     requires some { depth < room }
     ensures gives { Gives (λ x. (expr x.0, toks x.2.now)) result
-        (suffix_by (context scope.now) (readers (context scope.now) (room - 1)) (toks from.now) (expr left) (toks tokens.now) suffixes.Index) }
+        (suffix_by (context scope.now) (readers (context scope.now) (room - 1)) (toks begun.now.from.now) (expr left)
+        (toks begun.now.rest.now) suffixes.Index) }
     ensures depth { IfOk result (λ x. x.1 ≡ expr_depth (expr x.0)) }
     ensures fits { IfOk result (λ x. x.1 ≤ room) }
 {
-    let found = expression(alloc, scope, room - 1, behind(tokens));
+    let found = expression(alloc, scope, room - 1, behind(begun.rest));
     let (left, (i, index_depth, rest)) = keeping(left, found)?;
     let ((left, i), rest) = keeping((left, i), close_bracket(rest))?;
-    let tree = index(alloc, left, i, span(scope, from, rest))?;
+    let tree = index(alloc, left, i, span(scope, begun.from, rest))?;
     Ok((tree, depth.max(index_depth) + 1, rest))
 }
 
@@ -320,25 +322,25 @@ fn selection(
     member(alloc, left, name, span)
 }
 
-/// The expression `left`, which begins at `from`, with the arrow or the dot and the member's name behind it.
+/// The expression `left` with the arrow or the dot and the member's name behind it.
 fn selected<'a>(
     alloc: Global,
     scope: &Scope,
     is_arrow: bool,
     left: Expr,
     depth: u32,
-    from: &[Token],
-    tokens: &'a [Token],
+    begun: &Begun<'a>,
 ) -> Result<(Expr, u32, &'a [Token]), ReadErr>
     requires depth { depth ≡ expr_depth (expr left) }
     requires some { depth < 2 ^ 32 - 1 }
-    ensures gives { Gives (λ x. (expr x.0, toks x.2.now)) result (selected (context scope.now) is_arrow (toks from.now) (expr left) (toks tokens.now)) }
+    ensures gives { Gives (λ x. (expr x.0, toks x.2.now)) result
+        (selected (context scope.now) is_arrow (toks begun.now.from.now) (expr left) (toks begun.now.rest.now)) }
     ensures depth { IfOk result (λ x. x.1 ≡ expr_depth (expr x.0)) }
     ensures fits { IfOk result (λ x. x.1 ≡ depth + 1) }
 {
-    let found = name(alloc, scope, behind(tokens));
+    let found = name(alloc, scope, behind(begun.rest));
     let (left, (n, rest)) = keeping(left, found)?;
-    let tree = selection(alloc, is_arrow, left, n, span(scope, from, rest))?;
+    let tree = selection(alloc, is_arrow, left, n, span(scope, begun.from, rest))?;
     Ok((tree, depth + 1, rest))
 }
 

@@ -26,6 +26,13 @@ pub(crate) fn is_type(scope: &Scope, token: &Token) -> bool
     }
 }
 
+/// What begins with the first token of `from`, and is read up to `rest`.
+#[derive(Clone, Copy)]
+pub(crate) struct Begun<'a> {
+    pub(crate) from: &'a [Token],
+    pub(crate) rest: &'a [Token],
+}
+
 fn place(total: u32, left: usize) -> u32
     ensures { result ≡ total - left }
 {

@@ -17,7 +17,7 @@ use crate::fault::ReadErr;
 use crate::keeping::keeping;
 use crate::lead::ItemLead;
 use crate::leading::item_at;
-use crate::scope::{Scope, span};
+use crate::scope::{Begun, Scope, span};
 use crate::statement::statements;
 use crate::tokens::{
     at, behind, close_brace, close_paren, end_list, name, new, no_room, open_brace, open_paren,
@@ -118,45 +118,48 @@ fn type_name<'a>(
     Ok((Item::Typedef(ty, name, span), rest))
 }
 
-/// A function that begins at `from`, from behind its name.
+/// A function, from behind its name.
 fn function<'a>(
     alloc: Global,
     scope: &Scope,
     room: u32,
-    from: &[Token],
+    begun: &Begun<'a>,
     ty: TypeTree,
     name: Name,
-    tokens: &'a [Token],
 ) -> Result<(Item, &'a [Token]), ReadErr>
     ensures gives { Gives (λ x. (item x.0, toks x.1.now)) result
-        (reading.function_at (context scope.now) room (toks from.now) (type ty) name (toks tokens.now)) }
+        (reading.function_at (context scope.now) room (toks begun.now.from.now) (type ty) name (toks begun.now.rest.now)) }
     ensures declared { IfOk result (λ x. context scope.now ≡ behind_item (item x.0) (context scope.now)) }
 {
-    let ((ty, name), rest) = keeping((ty, name), open_paren(tokens))?;
+    let ((ty, name), rest) = keeping((ty, name), open_paren(begun.rest))?;
     let ((ty, name), (params, rest)) = keeping((ty, name), parameters(alloc, scope, room, rest))?;
     let (head, rest) = keeping((ty, name, params), close_paren(rest))?;
     let (ty, name, params) = head;
-    with_body(alloc, scope, room, from, ty, name, params, rest)
+    let begun = Begun {
+        from: begun.from,
+        rest,
+    };
+    with_body(alloc, scope, room, &begun, ty, name, params)
 }
 
-/// A function that begins at `from`, from behind its parameters.
+/// A function, from behind its parameters.
 fn with_body<'a>(
     alloc: Global,
     scope: &Scope,
     room: u32,
-    from: &[Token],
+    begun: &Begun<'a>,
     ty: TypeTree,
     name: Name,
     params: Seq<Var>,
-    tokens: &'a [Token],
 ) -> Result<(Item, &'a [Token]), ReadErr>
     ensures gives { Gives (λ x. (item x.0, toks x.1.now)) result
-        (reading.body_by (context scope.now) room (toks from.now) (type ty) name (map var params) (toks tokens.now) (at_semicolon (toks tokens.now))) }
+        (reading.body_by (context scope.now) room (toks begun.now.from.now) (type ty) name (map var params) (toks begun.now.rest.now)
+        (at_semicolon (toks begun.now.rest.now))) }
     ensures declared { IfOk result (λ x. context scope.now ≡ behind_item (item x.0) (context scope.now)) }
 {
-    if at(Punct::Semicolon, tokens) {
-        let rest = behind(tokens);
-        let span = span(scope, from, rest);
+    if at(Punct::Semicolon, begun.rest) {
+        let rest = behind(begun.rest);
+        let span = span(scope, begun.from, rest);
         return Ok((
             Item::Function {
                 result: ty,
@@ -168,11 +171,11 @@ fn with_body<'a>(
             rest,
         ));
     }
-    let (head, rest) = keeping((ty, name, params), open_brace(tokens))?;
+    let (head, rest) = keeping((ty, name, params), open_brace(begun.rest))?;
     let (head, (body, rest)) = keeping(head, statements(alloc, scope, room, rest))?;
     let ((head, body), rest) = keeping((head, body), close_brace(rest))?;
     let (result, name, params) = head;
-    let span = span(scope, from, rest);
+    let span = span(scope, begun.from, rest);
     Ok((
         Item::Function {
             result,
@@ -221,7 +224,8 @@ fn typed<'a>(
     let (ty, depth, rest) = type_tree(alloc, scope, room, tokens)?;
     let (ty, (name, rest)) = keeping(ty, name(alloc, scope, rest))?;
     if at(Punct::OpenParen, rest) {
-        return function(alloc, scope, room, tokens, ty, name, rest);
+        let begun = Begun { from: tokens, rest };
+        return function(alloc, scope, room, &begun, ty, name);
     }
     globals(alloc, scope, room, tokens, depth < room, rest)
 }
@@ -241,7 +245,8 @@ fn read_item<'a>(
         ItemLead::Typedef => type_name(alloc, scope, room, tokens),
         ItemLead::Void => {
             let (name, rest) = name(alloc, scope, behind(tokens))?;
-            function(alloc, scope, room, tokens, TypeTree::Void, name, rest)
+            let begun = Begun { from: tokens, rest };
+            function(alloc, scope, room, &begun, TypeTree::Void, name)
         }
         ItemLead::Other => typed(alloc, scope, room, tokens),
     }

@@ -8,7 +8,8 @@ use Rattle.c_types.specs.Types.{Ty, VoidY, IntY, BoolY, EnumY, StructY, UnionY, 
 use Rattle.c_types.specs.Typed.{TExprT, TKindT, NullK, LiteralK, TInitT, OneI, TextI}
 use Rattle.c_rules.specs.declared.code.Code.{Code}
 use Rattle.c_rules.specs.declared.code.Code.TheVariants.{WrongType, NotConstant}
-use Rattle.c_rules.specs.Kinds.{is_int, is_structure, element_count, converts}
+use Rattle.c_rules.specs.Kinds.{is_int, element_count, converts}
+use Rattle.c_types.specs.Kinds.{is_structure}
 use Rattle.c_exprs.specs.Nodes.{type_of_typed, kind_of_typed, constant}
 use Rattle.c_exprs.specs.Calls.{ensured}
 

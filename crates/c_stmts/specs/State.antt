@@ -7,7 +7,8 @@ use Rattle.c_types.specs.Typed.{TExprT, TInitT, TVarT, TArmT, CaseB, DefaultB, S
 use Rattle.c_types.specs.Sizes.{words_of}
 use Rattle.c_rules.specs.declared.code.Code.{Code}
 use Rattle.c_rules.specs.declared.code.Code.TheVariants.{Twice, InfiniteType, TooLarge}
-use Rattle.c_rules.specs.Kinds.{is_void, is_condition}
+use Rattle.c_types.specs.Kinds.{is_void}
+use Rattle.c_rules.specs.Kinds.{is_condition}
 use Rattle.c_rules.specs.Sizes.{is_whole}
 use Rattle.c_rules.specs.Rules.{Rule, demand, judged}
 use Rattle.c_rules.specs.Nodes.{given}

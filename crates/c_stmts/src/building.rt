@@ -3,7 +3,7 @@ ghost use Rattle.std.specs.Prelude.{◌≡◌, map, option_map, IfOk, OnOk};
 ghost use Rattle.c_types.specs.Typed.{BlockZ, IfZ, WhileZ, DoWhileZ, ForZ, SwitchZ};
 ghost use Rattle.c_types.specs.View.{texpr, tarm, tarms, tstmt, tstmts};
 ghost use Rattle.c_rules.specs.Kinds.{is_number};
-ghost use Rattle.c_rules.specs.declared.code.Code.TheVariants.{NotConstant, WrongType};
+ghost use Rattle.c_rules.specs.declared.code.Code.TheVariants.{BreakOutside, NotConstant, WrongType};
 ghost use Rattle.c_exprs.specs.Faults.{demanded, known};
 ghost use Rattle.c_exprs.specs.Gives.{Gives};
 ghost use Rattle.c_exprs.specs.Nodes.{constant, type_of_typed};
@@ -164,6 +164,16 @@ pub(crate) fn switch_made(
     let (parts, _) = keeping((on, arms), holds)?;
     let ((on, arms), made) = keeping(parts, state.close(alloc))?;
     Ok(TStmt::Switch(on, Seq::from_vec(made), Seq::from_vec(arms)))
+}
+
+/// A `break` or `continue`, where it may stand, at a node of this span.
+pub(crate) fn jump_made(span: Span, stands: bool, jump: TStmt) -> Result<TStmt, CheckErr>
+    ensures rule { Gives (λ r. tt) result (demanded span BreakOutside stands) }
+    ensures tree { IfOk result (λ r. r ≡ jump) }
+{
+    let holds = demanded(span, Code::BreakOutside, stands);
+    let (jump, _) = keeping(jump, holds)?;
+    Ok(jump)
 }
 
 /// The number of a label whose value is at a node of this span.

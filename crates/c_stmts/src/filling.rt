@@ -23,9 +23,9 @@ use crate::slots::{has_room, slot_at};
 use c_exprs::{
     CheckErr, Globals, Scope, Texts, constant, demanded, kept_texts, span_of, type_value,
 };
-use c_rules::{Code, converts, is_structure};
+use c_rules::{Code, converts};
 use c_tree::{Init, Span};
-use c_types::{CType, Layout, TExpr, TInit, TKind};
+use c_types::{CType, Layout, TExpr, TInit, TKind, is_structure};
 use kit_base::Seq;
 use std::alloc::Global;
 

@@ -3,7 +3,7 @@ ghost use Rattle.std.specs.Prelude.{◌≡◌, ◌+◌, ◌≤◌, ◌^◌, ℕ,
 ghost use Rattle.c_tree.specs.declared.span.Span.{Span};
 ghost use Rattle.c_tree.specs.Count.{vars_nodes, stmt_nodes, maybe_nodes, stmts_nodes, arm_nodes, arms_nodes};
 ghost use Rattle.c_tree.specs.View.{expr, var, stmt, stmts, arm, arms};
-ghost use Rattle.c_tree.specs.Tree.{DoS, ReturnS, VarsS};
+ghost use Rattle.c_tree.specs.Tree.{DoS, DoWhileS, ReturnS, VarsS, WhileS};
 ghost use Rattle.c_types.specs.Typed.{TStmtTs};
 ghost use Rattle.c_types.specs.View.{tarm, tarms, tstmt, tstmts};
 ghost use Rattle.c_rules.specs.declared.code.Code.{Code};
@@ -17,7 +17,7 @@ ghost use Rattle.c_stmts.specs.StatementTypes.{Statements};
 ghost use Rattle.c_stmts.specs.StatementBreaks.{NotStatements};
 
 use crate::building::{
-    block_made, do_while_made, for_made, if_made, label_at, switch_made, while_made,
+    block_made, do_while_made, for_made, if_made, jump_made, label_at, switch_made, while_made,
 };
 use crate::labels::{Labels, add_case, add_default, no_labels};
 use crate::state::{State, kept_state};
@@ -28,6 +28,23 @@ use c_tree::{Arm, Expr, Span, Stmt, Var};
 use c_types::{CType, TArm, TStmt};
 use kit_base::Seq;
 use std::alloc::Global;
+
+/// Whether `break` and `continue` may stand.
+#[derive(Clone, Copy)]
+struct Jumps {
+    breaks: bool,
+    continues: bool,
+}
+
+const NEITHER: Jumps = Jumps {
+    breaks: false,
+    continues: false,
+};
+
+const BOTH: Jumps = Jumps {
+    breaks: true,
+    continues: true,
+};
 
 /// A declaration of variables.
 fn vars_of(
@@ -78,7 +95,7 @@ fn return_of(
     Ok(TStmt::Return(Some(x)))
 }
 
-/// The typed tree of a statement where `break` and `continue` may stand or may not.
+/// The typed tree of a statement.
 #[cycle(statements)]
 fn stmt_of(
     alloc: Global,
@@ -86,17 +103,16 @@ fn stmt_of(
     state: &mut State,
     s: &Stmt,
     gives: &CType,
-    breaks: bool,
-    continues: bool,
+    jumps: Jumps,
 ) -> Result<TStmt, CheckErr>
     requires room { length (st state.old).sizes + stmt_nodes (stmt s.now) ≤ 2 ^ 32 }
-    ensures { Gives (λ r. (tstmt r, st state.new)) result (typing.statement (fn_of globals.now gives.now) (st state.old) breaks continues (stmt s.now)) }
+    ensures { Gives (λ r. (tstmt r, st state.new)) result
+        (typing.statement (fn_of globals.now gives.now) (st state.old) jumps.breaks jumps.continues (stmt s.now)) }
 {
     match s {
         Stmt::Block(body, _) => {
             state.open(alloc)?;
-            let body = body.as_slice();
-            let body = stmts_of(alloc, globals, state, body, gives, breaks, continues)?;
+            let body = stmts_of(alloc, globals, state, body.as_slice(), gives, jumps)?;
             Ok(block_made(alloc, state, body)?)
         }
         Stmt::Empty(_) => Ok(TStmt::Empty),
@@ -104,32 +120,22 @@ fn stmt_of(
         Stmt::Do(e) => do_of(alloc, globals, state, gives, e),
         Stmt::If(e, a, b, span) => {
             let x = value_in(alloc, globals, state, gives, e)?;
-            let y = stmt_of(alloc, globals, state, a, gives, breaks, continues);
+            let y = stmt_of(alloc, globals, state, a, gives, jumps);
             let (x, y) = keeping(x, y)?;
-            let z = maybe_of(alloc, globals, state, b, gives, breaks, continues);
+            let z = maybe_of(alloc, globals, state, b, gives, jumps);
             let ((x, y), z) = keeping((x, y), z)?;
             Ok(if_made(alloc, *span, x, y, z)?)
         }
-        Stmt::While(e, a, span) => {
-            let x = value_in(alloc, globals, state, gives, e)?;
-            let y = stmt_of(alloc, globals, state, a, gives, true, true);
-            let (x, y) = keeping(x, y)?;
-            Ok(while_made(alloc, *span, x, y)?)
-        }
-        Stmt::DoWhile(a, e, span) => {
-            let y = stmt_of(alloc, globals, state, a, gives, true, true)?;
-            let x = value_in(alloc, globals, state, gives, e);
-            let (y, x) = keeping(y, x)?;
-            Ok(do_while_made(alloc, *span, y, x)?)
-        }
+        Stmt::While(e, a, span) => while_of(alloc, globals, state, e, a, gives, *span),
+        Stmt::DoWhile(a, e, span) => do_while_of(alloc, globals, state, a, e, gives, *span),
         Stmt::For(first, test, step, a, span) => {
             state.open(alloc)?;
-            let x = maybe_of(alloc, globals, state, first, gives, breaks, continues)?;
+            let x = maybe_of(alloc, globals, state, first, gives, jumps)?;
             let y = maybe_value(alloc, globals, state, gives, test);
             let (x, y) = keeping(x, y)?;
             let z = maybe_value(alloc, globals, state, gives, step);
             let ((x, y), z) = keeping((x, y), z)?;
-            let w = stmt_of(alloc, globals, state, a, gives, true, true);
+            let w = stmt_of(alloc, globals, state, a, gives, BOTH);
             let ((x, y, z), w) = keeping((x, y, z), w)?;
             Ok(for_made(alloc, state, *span, x, y, z, w)?)
         }
@@ -137,21 +143,61 @@ fn stmt_of(
             let x = value_in(alloc, globals, state, gives, e)?;
             let (x, _) = keeping(x, state.open(alloc))?;
             let all = all.as_slice();
-            let xs = arms_of(alloc, globals, state, all, gives, true, continues);
+            let inside = Jumps {
+                breaks: true,
+                continues: jumps.continues,
+            };
+            let xs = arms_of(alloc, globals, state, all, gives, inside);
             let (x, xs) = keeping(x, xs)?;
             Ok(switch_made(alloc, state, *span, x, xs)?)
         }
         Stmt::Return(Some(e), span) => return_of(alloc, globals, state, gives, e, *span),
         Stmt::Return(None, _) => Ok(TStmt::Return(None)),
-        Stmt::Break(span) => {
-            demanded(*span, Code::BreakOutside, breaks)?;
-            Ok(TStmt::Break)
-        }
-        Stmt::Continue(span) => {
-            demanded(*span, Code::BreakOutside, continues)?;
-            Ok(TStmt::Continue)
-        }
+        Stmt::Break(span) => Ok(jump_made(*span, jumps.breaks, TStmt::Break)?),
+        Stmt::Continue(span) => Ok(jump_made(*span, jumps.continues, TStmt::Continue)?),
     }
+}
+
+/// A `while` loop.
+#[cycle(statements)]
+fn while_of(
+    alloc: Global,
+    globals: &Globals,
+    state: &mut State,
+    e: &Expr,
+    a: &Stmt,
+    gives: &CType,
+    span: Span,
+) -> Result<TStmt, CheckErr>
+    requires room { length (st state.old).sizes + stmt_nodes (WhileS (expr e.now) (stmt a.now) span) ≤ 2 ^ 32 }
+    ensures { Gives (λ r. (tstmt r, st state.new)) result
+        (typing.statement (fn_of globals.now gives.now) (st state.old) false false (WhileS (expr e.now) (stmt a.now) span)) }
+{
+    let x = value_in(alloc, globals, state, gives, e)?;
+    let y = stmt_of(alloc, globals, state, a, gives, BOTH);
+    let (x, y) = keeping(x, y)?;
+    Ok(while_made(alloc, span, x, y)?)
+}
+
+/// A `do` loop.
+#[cycle(statements)]
+fn do_while_of(
+    alloc: Global,
+    globals: &Globals,
+    state: &mut State,
+    a: &Stmt,
+    e: &Expr,
+    gives: &CType,
+    span: Span,
+) -> Result<TStmt, CheckErr>
+    requires room { length (st state.old).sizes + stmt_nodes (DoWhileS (stmt a.now) (expr e.now) span) ≤ 2 ^ 32 }
+    ensures { Gives (λ r. (tstmt r, st state.new)) result
+        (typing.statement (fn_of globals.now gives.now) (st state.old) false false (DoWhileS (stmt a.now) (expr e.now) span)) }
+{
+    let y = stmt_of(alloc, globals, state, a, gives, BOTH)?;
+    let x = value_in(alloc, globals, state, gives, e);
+    let (y, x) = keeping(y, x)?;
+    Ok(do_while_made(alloc, span, y, x)?)
 }
 
 /// A statement that may be missing.
@@ -162,16 +208,15 @@ fn maybe_of(
     state: &mut State,
     s: &Option<Box<Stmt>>,
     gives: &CType,
-    breaks: bool,
-    continues: bool,
+    jumps: Jumps,
 ) -> Result<Option<TStmt>, CheckErr>
     requires room { length (st state.old).sizes + maybe_nodes (maybe_s s.now) ≤ 2 ^ 32 }
-    ensures { Gives (λ r. (maybe_z r, st state.new)) result (typing.maybe_statement (fn_of globals.now gives.now) (st state.old) breaks continues
-        (maybe_s s.now)) }
+    ensures { Gives (λ r. (maybe_z r, st state.new)) result
+        (typing.maybe_statement (fn_of globals.now gives.now) (st state.old) jumps.breaks jumps.continues (maybe_s s.now)) }
 {
     match s {
         Some(s) => {
-            let x = stmt_of(alloc, globals, state, s, gives, breaks, continues)?;
+            let x = stmt_of(alloc, globals, state, s, gives, jumps)?;
             Ok(Some(x))
         }
         None => Ok(None),
@@ -185,16 +230,15 @@ fn stmts_of(
     state: &mut State,
     all: &[Stmt],
     gives: &CType,
-    breaks: bool,
-    continues: bool,
+    jumps: Jumps,
 ) -> Result<Vec<TStmt>, CheckErr>
     requires room { length (st state.old).sizes + stmts_nodes (stmts (map stmt all.now)) ≤ 2 ^ 32 }
     ensures { Gives (λ r. (tstmts (map tstmt r.items), st state.new)) result
-        (typing.statements (fn_of globals.now gives.now) (st state.old) breaks continues (stmts (map stmt all.now))) }
+        (typing.statements (fn_of globals.now gives.now) (st state.old) jumps.breaks jumps.continues (stmts (map stmt all.now))) }
 {
     let mut found = Vec::new(alloc);
     for s in all {
-        let x = stmt_of(alloc, globals, state, s, gives, breaks, continues)?;
+        let x = stmt_of(alloc, globals, state, s, gives, jumps)?;
         found.push(x)?;
     }
     Ok(found)
@@ -208,13 +252,12 @@ fn arm_of(
     state: &mut State,
     a: &Arm,
     gives: &CType,
-    breaks: bool,
-    continues: bool,
+    jumps: Jumps,
     seen: &mut Labels,
 ) -> Result<TArm, CheckErr>
     requires room { length (st state.old).sizes + arm_nodes (arm a.now) ≤ 2 ^ 32 }
     ensures gives { Gives (λ r. (tarm r, st state.new)) result
-        (typing.arm (fn_of globals.now gives.now) (st state.old) breaks continues (labels seen.old) (arm a.now)) }
+        (typing.arm (fn_of globals.now gives.now) (st state.old) jumps.breaks jumps.continues (labels seen.old) (arm a.now)) }
     ensures labels { IfOk result (λ r. labels seen.new ≡ with_label (labels seen.old) (tarm r)) }
 {
     match a {
@@ -229,7 +272,7 @@ fn arm_of(
             Ok(TArm::Default)
         }
         Arm::Stmt(s) => {
-            let x = stmt_of(alloc, globals, state, s, gives, breaks, continues)?;
+            let x = stmt_of(alloc, globals, state, s, gives, jumps)?;
             Ok(TArm::Stmt(x))
         }
     }
@@ -242,19 +285,16 @@ fn arms_of(
     state: &mut State,
     all: &[Arm],
     gives: &CType,
-    breaks: bool,
-    continues: bool,
+    jumps: Jumps,
 ) -> Result<Vec<TArm>, CheckErr>
     requires room { length (st state.old).sizes + arms_nodes (arms (map arm all.now)) ≤ 2 ^ 32 }
     ensures { Gives (λ r. (tarms (map tarm r.items), st state.new)) result
-        (typing.arms (fn_of globals.now gives.now) (st state.old) breaks continues no_labels (arms (map arm all.now))) }
+        (typing.arms (fn_of globals.now gives.now) (st state.old) jumps.breaks jumps.continues no_labels (arms (map arm all.now))) }
 {
     let mut seen = no_labels(alloc);
     let mut found = Vec::new(alloc);
     for a in all {
-        let x = arm_of(
-            alloc, globals, state, a, gives, breaks, continues, &mut seen,
-        )?;
+        let x = arm_of(alloc, globals, state, a, gives, jumps, &mut seen)?;
         found.push(x)?;
     }
     Ok(found)
@@ -284,6 +324,6 @@ pub fn type_statements(
     // After a refusal nothing is left of the state: the unit is read no further.
     ensures refused { OnErr result (st state.new ≡ record { scopes = []; sizes = []; used = 0; texts = [] }) }
 {
-    let answer = stmts_of(alloc, globals, state, body, gives, false, false);
+    let answer = stmts_of(alloc, globals, state, body, gives, NEITHER);
     kept_state(alloc, state, answer)
 }

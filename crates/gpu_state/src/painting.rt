@@ -23,27 +23,26 @@ fn paint_row(screen: &mut [u32], at: usize, src: &[u32], multiply: u32, mode: Bl
 /// Draws a rectangle of texture points, all of them in the texture, on the screen.
 fn paint(
     screen: &mut [u32],
-    pixels: &[u32],
-    width: usize,
-    height: usize,
+    texture: &Texture,
     columns: Span,
     rows: Span,
     multiply: u32,
     mode: Blend,
 )
     requires screen { length screen.old ≡ 230400 }
-    requires texture { (length pixels.now ≡ height * width) × (width ≤ 1024) × (height ≤ 1024) }
-    requires columns { (columns.from ≤ columns.to) × (columns.to ≤ 640) × (columns.first + (columns.to - columns.from) ≤ width) }
-    requires rows { (rows.from ≤ rows.to) × (rows.to ≤ 360) × (rows.first + (rows.to - rows.from) ≤ height) }
+    requires columns { (columns.from ≤ columns.to) × (columns.to ≤ 640) × (columns.first + (columns.to - columns.from) ≤ texture.now.width) }
+    requires rows { (rows.from ≤ rows.to) × (rows.to ≤ 360) × (rows.first + (rows.to - rows.from) ≤ texture.now.height) }
     ensures inside { (x y : ℕ) → columns.from ≤ x → x < columns.to → rows.from ≤ y → y < rows.to →
         slice_index screen.new (place x y) ≡ drawn mode multiply
-        (slice_index pixels.now ((rows.first + (y - rows.from)) * width + (columns.first + (x - columns.from))))
+        (slice_index texture.now.pixels ((rows.first + (y - rows.from)) * texture.now.width + (columns.first + (x - columns.from))))
         (slice_index screen.old (place x y)) }
     ensures beside { (x y : ℕ) → x < 640 → (x < columns.from) ⊎ (columns.to ≤ x) →
         slice_index screen.new (place x y) ≡ slice_index screen.old (place x y) }
     ensures above { (x y : ℕ) → x < 640 → (y < rows.from) ⊎ (rows.to ≤ y) →
         slice_index screen.new (place x y) ≡ slice_index screen.old (place x y) }
 {
+    let width = texture.width() as usize;
+    let pixels = texture.pixels();
     let count = columns.to - columns.from;
     for y in rows.from..rows.to {
         let start = (rows.first + (y - rows.from)) * width + columns.first;
@@ -75,17 +74,7 @@ pub fn draw_on(
     ensures above { (x y : ℕ) → x < 640 → (y < rows.from) ⊎ (rows.to ≤ y) →
         slice_index screen.new (place x y) ≡ slice_index screen.old (place x y) }
 {
-    let width = texture.width() as usize;
-    let height = texture.height() as usize;
-    let pixels = texture.pixels();
-    paint(
-        screen,
-        pixels,
-        width,
-        height,
-        columns.cut(width),
-        rows.cut(height),
-        multiply,
-        mode,
-    );
+    let columns = columns.cut(texture.width() as usize);
+    let rows = rows.cut(texture.height() as usize);
+    paint(screen, texture, columns, rows, multiply, mode);
 }

@@ -260,8 +260,7 @@ fn status_for<F: Files, S: Sink>(alloc: Global, words: &[String], files: &mut F,
 /// 268,435,456 bytes, or a number of steps, frames or functions is out of its range, 8 memory ran out, 9 the
 /// sink failed. On 1 to 8 a line is printed that says so.
 pub fn kit<F: Files, S: Sink>(alloc: Global, words: &[String], files: &mut F, out: &mut S) -> u8
-    // Where it is told what is held, the status, what is held after and what was put are those of
-    // the command.
+    // Where it is told what is held, the status, what is held after and what was put are those of the command.
     ensures told { IfSome (F.held files.old) (λ m. IsOutcome (texts words.now) m result (F.held files.new) (S.written out.old) (S.written out.new)) }
     // At 0 the outputs of a build stand, and its cartridge does what its source means.
     ensures agrees { IfSome (F.held files.old) (λ m. result ≡ 0 → BuildStands (texts words.now) m (F.held files.new)) }
@@ -286,8 +285,7 @@ pub fn kit<F: Files, S: Sink>(alloc: Global, words: &[String], files: &mut F, ou
         → BoundsStand (texts words.now) m (F.held files.new) (S.written out.old) (S.written out.new)) }
     // At any status each file that a command creates is as before or holds a front of its bytes, and every other file is as before.
     ensures fronts { IfSome (F.held files.old) (λ m. LeavesFronts (texts words.now) m (F.held files.new)) }
-    // At 0 the files of a `gen` are the project and the source that are made up and what was built of them; its run is what that source means, and its
-    // line was put.
+    // At 0 the files of a `gen` are the project and source made up and what was built of them; its run is what that source means, its line put.
     ensures generates { IfSome (F.held files.old) (λ m. result ≡ 0
         → GenStands (texts words.now) m (F.held files.new) (S.written out.old) (S.written out.new)) }
     // A command whose words or input are refused changes no file, whatever its status.
@@ -304,8 +302,7 @@ pub fn kit<F: Files, S: Sink>(alloc: Global, words: &[String], files: &mut F, ou
     // and at 2 the code is one of the listed codes of a source, and is 21 only where a name was missing.
     ensures sources { result ≡ 2 → PutsSource (counts F.faults F.misses F.overs files.old) (counts F.faults F.misses F.overs files.new)
         (S.written out.old) (S.written out.new) }
-    // Refusals by the outside come only where a count rose, one of a limit also where the command
-    // itself is over it.
+    // Refusals by the outside come only where a count rose, one of a limit also where the command itself is over it.
     ensures missing { result ≡ 4 → Rose (F.misses files.old) (F.misses files.new) }
     ensures failed { result ≡ 5 → Rose (F.faults files.old) (F.faults files.new) }
     ensures limit { result ≡ 7 → Rose (F.overs files.old) (F.overs files.new) ⊎ IsOver (texts words.now) (F.held files.old) }

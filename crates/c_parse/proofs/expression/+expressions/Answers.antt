@@ -84,7 +84,7 @@ operators-returns-in_err-fitting-clause-gives t c =
     let found : operator_at (c.args.k + 1) (toks c.operators.rest.now) ≡ Some c.in-Some.op = grind arith in
     let deep = rw c.in_err-fitting.ensures.err at c.raised.ensures.deep in
     let full : c.args.room ≤ expr_depth (expr c.operators.left) = omega (arith, c.operators.invariant.depth, deep.0) in
-    let turned = operator_deep (context c.args.scope.now) (readers (context c.args.scope.now) (c.args.room - 1)) c.args.room c.args.k (toks c.args.from.now) (expr c.operators.left) (toks c.operators.rest.now) c.in-Some.op c.in_err-fitting.field-0.0 (at_next c.args.k (toks c.operators.rest.now) _ found) full deep.1 in
+    let turned = operator_deep (context c.args.scope.now) (readers (context c.args.scope.now) (c.args.room - 1)) c.args.room c.args.k (toks c.args.begun.now.from.now) (expr c.operators.left) (toks c.operators.rest.now) c.in-Some.op c.in_err-fitting.field-0.0 (at_next c.args.k (toks c.operators.rest.now) _ found) full deep.1 in
     let p = err_from_is_err_and c.from_residual.result c.from_residual.ensures.1 in
     rw (p.1, p.2) (goes_fail _ _ _ _ c.operators.invariant.goes c.in_err-fitting.field-0.0 turned)
 
@@ -95,7 +95,7 @@ operators-returns-in_err-kept-clause-gives t c =
     let less : expr_depth (expr c.operators.left) < c.args.room = omega (arith, c.operators.invariant.depth, fits) in
     let bad = rw c.in_err-kept.ensures.err at c.level-found.ensures.gives in
     let failed = rw c.behind.ensures at bad in
-    let turned = operator_fail (context c.args.scope.now) (readers (context c.args.scope.now) (c.args.room - 1)) c.args.room c.args.k (toks c.args.from.now) (expr c.operators.left) (toks c.operators.rest.now) c.in-Some.op c.in_err-kept.field-0.0 (at_next c.args.k (toks c.operators.rest.now) _ found) less failed in
+    let turned = operator_fail (context c.args.scope.now) (readers (context c.args.scope.now) (c.args.room - 1)) c.args.room c.args.k (toks c.args.begun.now.from.now) (expr c.operators.left) (toks c.operators.rest.now) c.in-Some.op c.in_err-kept.field-0.0 (at_next c.args.k (toks c.operators.rest.now) _ found) less failed in
     let p = err_from_is_err_and c.from_residual-in_err-kept.result c.from_residual-in_err-kept.ensures.1 in
     rw (p.1, p.2) (goes_fail _ _ _ _ c.operators.invariant.goes c.in_err-kept.field-0.0 turned)
 
@@ -116,7 +116,7 @@ operators-operators-preserved t c =
     let right_fits = rw c.in_ok-kept.ensures.ok.1 at c.level-found.ensures.fits in
     let shorter = level_shorter (level_derived _ _ _ _ _ good).derived in
     let fewer : length (toks c.in_ok-kept.after.now) < length (toks c.operators.rest.now) = omega (arith, shorter, behind_up (toks c.operators.rest.now)) in
-    let turned = operator_ok (context c.args.scope.now) (readers (context c.args.scope.now) (c.args.room - 1)) c.args.room c.args.k (toks c.args.from.now) (expr c.operators.left) (toks c.operators.rest.now) c.in-Some.op _ _ (at_next c.args.k (toks c.operators.rest.now) _ found) less good in
+    let turned = operator_ok (context c.args.scope.now) (readers (context c.args.scope.now) (c.args.room - 1)) c.args.room c.args.k (toks c.args.begun.now.from.now) (expr c.operators.left) (toks c.operators.rest.now) c.in-Some.op _ _ (at_next c.args.k (toks c.operators.rest.now) _ found) less good in
     let next = goes_turn _ _ _ _ c.operators.invariant.goes _ _ turned fewer in
     let same : c.in_ok-kept.kept ≡ c.operators.left = c.in_ok-kept.ensures.ok.0 ∙ c.in_ok-fitting.ensures.ok.0 in
     let tree = rw same at c.in_ok-left.ensures.made in
@@ -131,7 +131,7 @@ operators-operators-preserved t c =
 pub operators-returns-clause-gives : goal.operators-returns-clause-gives
 operators-returns-clause-gives t c =
     let none : operator_at (c.args.k + 1) (toks c.operators.rest.now) ≡ None = grind arith in
-    goes_end _ _ _ _ c.operators.invariant.goes (operator_end (context c.args.scope.now) (readers (context c.args.scope.now) (c.args.room - 1)) c.args.room c.args.k (toks c.args.from.now) (expr c.operators.left) (toks c.operators.rest.now) (at_next c.args.k (toks c.operators.rest.now) _ none))
+    goes_end _ _ _ _ c.operators.invariant.goes (operator_end (context c.args.scope.now) (readers (context c.args.scope.now) (c.args.room - 1)) c.args.room c.args.k (toks c.args.begun.now.from.now) (expr c.operators.left) (toks c.operators.rest.now) (at_next c.args.k (toks c.operators.rest.now) _ none))
 
 pub postfix-returns-in_err-fitting-clause-gives : goal.postfix-returns-in_err-fitting-clause-gives
 postfix-returns-in_err-fitting-clause-gives t c =

@@ -69,8 +69,8 @@ decreases-operators l = 20 * l.room + 2
 
 abbrev pub invariant-operators-operators : goal.invariant-operators-operators
 invariant-operators-operators l = record {
-  goes : Goes (operator_turn (context l.scope) (readers (context l.scope) (l.room - 1)) l.room l.k (toks l.from)) (expr l.left) (toks l.rest)
-      (loop (operator_turn (context l.scope) (readers (context l.scope) (l.room - 1)) l.room l.k (toks l.from)) (expr l.fn.left) (toks l.tokens));
+  goes : Goes (operator_turn (context l.scope) (readers (context l.scope) (l.room - 1)) l.room l.k (toks l.begun.from.now)) (expr l.left) (toks l.rest)
+      (loop (operator_turn (context l.scope) (readers (context l.scope) (l.room - 1)) l.room l.k (toks l.begun.from.now)) (expr l.fn.left) (toks l.begun.rest.now));
   depth : l.depth ≡ expr_depth (expr l.left);
   fits : l.depth ≤ l.room;
 }

@@ -28,12 +28,12 @@ stmts_of-loop-s-preserved t c =
     let here : get_or es i e ≡ e = grind arith in
     let split : drop i es ≡ e ∷ drop (i + 1) es = rw (add-one, drop-cons es i e (omega arith), here) refl in
     let pushed : map tstmt c.push.new.self.items ≡ map tstmt c.loop-s.found.items ++ tstmt c.in_ok-x.x ∷ [] = rw c.in_ok-push.ensures.items (map_push tstmt c.loop-s.found.items c.in_ok-x.x) in
-    let on = before-push (fn_of c.args.globals.now c.args.gives.now) (map tstmt c.loop-s.found.items) (st c.loop-s.state) (st c.stmt_of.new.state) c.args.breaks c.args.continues (stmt e) (stmts (map stmt (drop (i + 1) es))) (tstmt c.in_ok-x.x) c.in_ok-x.ensures in
+    let on = before-push (fn_of c.args.globals.now c.args.gives.now) (map tstmt c.loop-s.found.items) (st c.loop-s.state) (st c.stmt_of.new.state) c.args.jumps.breaks c.args.jumps.continues (stmt e) (stmts (map stmt (drop (i + 1) es))) (tstmt c.in_ok-x.x) c.in_ok-x.ensures in
     let rest = rw split at c.loop-s.invariant.typed in
     let room = rw split at c.loop-s.invariant.room in
     record {
       typed = rw pushed (on ∙ rest);
-      room = statements_left (fn_of c.args.globals.now c.args.gives.now) (st c.loop-s.state) (st c.stmt_of.new.state) c.args.breaks c.args.continues (stmt e) (stmts (map stmt (drop (i + 1) es))) (tstmt c.in_ok-x.x) _ c.in_ok-x.ensures room;
+      room = statements_left (fn_of c.args.globals.now c.args.gives.now) (st c.loop-s.state) (st c.stmt_of.new.state) c.args.jumps.breaks c.args.jumps.continues (stmt e) (stmts (map stmt (drop (i + 1) es))) (tstmt c.in_ok-x.x) _ c.in_ok-x.ensures room;
     }
 
 pub stmts_of-returns : goal.stmts_of-returns
@@ -53,12 +53,12 @@ arms_of-loop-a-preserved t c =
     let here : get_or es i e ≡ e = grind arith in
     let split : drop i es ≡ e ∷ drop (i + 1) es = rw (add-one, drop-cons es i e (omega arith), here) refl in
     let pushed : map tarm c.push.new.self.items ≡ map tarm c.loop-a.found.items ++ tarm c.in_ok-x.x ∷ [] = rw c.in_ok-push.ensures.items (map_push tarm c.loop-a.found.items c.in_ok-x.x) in
-    let on = before_arms-push (fn_of c.args.globals.now c.args.gives.now) (map tarm c.loop-a.found.items) (st c.loop-a.state) (st c.arm_of.new.state) c.args.breaks c.args.continues (labels c.loop-a.seen) (arm e) (arms (map arm (drop (i + 1) es))) (tarm c.in_ok-x.x) c.in_ok-x.ensures.gives in
+    let on = before_arms-push (fn_of c.args.globals.now c.args.gives.now) (map tarm c.loop-a.found.items) (st c.loop-a.state) (st c.arm_of.new.state) c.args.jumps.breaks c.args.jumps.continues (labels c.loop-a.seen) (arm e) (arms (map arm (drop (i + 1) es))) (tarm c.in_ok-x.x) c.in_ok-x.ensures.gives in
     let rest = rw split at c.loop-a.invariant.typed in
     let room = rw split at c.loop-a.invariant.room in
     record {
       typed = rw (pushed, c.in_ok-x.ensures.labels) (on ∙ rest);
-      room = arms_left (fn_of c.args.globals.now c.args.gives.now) (st c.loop-a.state) (st c.arm_of.new.state) c.args.breaks c.args.continues (labels c.loop-a.seen) (arm e) (arms (map arm (drop (i + 1) es))) (tarm c.in_ok-x.x) _ c.in_ok-x.ensures.gives room;
+      room = arms_left (fn_of c.args.globals.now c.args.gives.now) (st c.loop-a.state) (st c.arm_of.new.state) c.args.jumps.breaks c.args.jumps.continues (labels c.loop-a.seen) (arm e) (arms (map arm (drop (i + 1) es))) (tarm c.in_ok-x.x) _ c.in_ok-x.ensures.gives room;
     }
 
 pub arms_of-returns : goal.arms_of-returns
@@ -71,24 +71,24 @@ pub stmt_of-returns-in_ok-if_made-in-If : goal.stmt_of-returns-in_ok-if_made-in-
 stmt_of-returns-in_ok-if_made-in-If t c =
     let f = fn_of c.args.globals.now c.args.gives.now in
     let x : typing.value_in f (st c.args.state.now) (expr c.in-If.e) ≡ Ok (texpr c.in_ok-x-in-If-3.x, st c.value_in.new.state) = search rules in
-    let y : typing.statement f (st c.value_in.new.state) c.args.breaks c.args.continues (stmt c.in-If.a.value) ≡ Ok (tstmt c.in_ok-x-in-If-3.y, st c.stmt_of-y.new.state) = search rules in
-    let z : typing.maybe_statement f (st c.stmt_of-y.new.state) c.args.breaks c.args.continues (maybe_s c.in-If.b) ≡ Ok (maybe_z c.in_ok-x-in-If-3.z, st c.maybe_of-z.new.state) = search rules in
-    rw (c.in-If.is, view-if c.in-If.e c.in-If.a c.in-If.b c.in-If.span) (if_so f (st c.args.state.now) (st c.value_in.new.state) (st c.stmt_of-y.new.state) (st c.maybe_of-z.new.state) c.args.breaks c.args.continues (expr c.in-If.e) (stmt c.in-If.a.value) (maybe_s c.in-If.b) c.in-If.span (texpr c.in_ok-x-in-If-3.x) (tstmt c.in_ok-x-in-If-3.y) (maybe_z c.in_ok-x-in-If-3.z) (tstmt c.in_ok-if_made-in-If.field-0) x y z c.in_ok-if_made-in-If.ensures.rule c.in_ok-if_made-in-If.ensures.tree)
+    let y : typing.statement f (st c.value_in.new.state) c.args.jumps.breaks c.args.jumps.continues (stmt c.in-If.a.value) ≡ Ok (tstmt c.in_ok-x-in-If-3.y, st c.stmt_of-y.new.state) = search rules in
+    let z : typing.maybe_statement f (st c.stmt_of-y.new.state) c.args.jumps.breaks c.args.jumps.continues (maybe_s c.in-If.b) ≡ Ok (maybe_z c.in_ok-x-in-If-3.z, st c.maybe_of-z.new.state) = search rules in
+    rw (c.in-If.is, view-if c.in-If.e c.in-If.a c.in-If.b c.in-If.span) (if_so f (st c.args.state.now) (st c.value_in.new.state) (st c.stmt_of-y.new.state) (st c.maybe_of-z.new.state) c.args.jumps.breaks c.args.jumps.continues (expr c.in-If.e) (stmt c.in-If.a.value) (maybe_s c.in-If.b) c.in-If.span (texpr c.in_ok-x-in-If-3.x) (tstmt c.in_ok-x-in-If-3.y) (maybe_z c.in_ok-x-in-If-3.z) (tstmt c.in_ok-if_made-in-If.field-0) x y z c.in_ok-if_made-in-If.ensures.rule c.in_ok-if_made-in-If.ensures.tree)
 
 pub stmt_of-returns-in_ok-for_made-in-For : goal.stmt_of-returns-in_ok-for_made-in-For
 stmt_of-returns-in_ok-for_made-in-For t c =
     let f = fn_of c.args.globals.now c.args.gives.now in
-    let x : typing.maybe_statement f (opened (st c.args.state.now)) c.args.breaks c.args.continues (maybe_s c.in-For.first) ≡ Ok (maybe_z c.in_ok-x-in-For-4.x, st c.maybe_of.new.state) = search rules in
+    let x : typing.maybe_statement f (opened (st c.args.state.now)) c.args.jumps.breaks c.args.jumps.continues (maybe_s c.in-For.first) ≡ Ok (maybe_z c.in_ok-x-in-For-4.x, st c.maybe_of.new.state) = search rules in
     let y : typing.maybe_value f (st c.maybe_of.new.state) (option_map expr c.in-For.test) ≡ Ok (option_map texpr c.in_ok-x-in-For-4.y, st c.maybe_value-y.new.state) = search rules in
     let z : typing.maybe_value f (st c.maybe_value-y.new.state) (option_map expr c.in-For.step) ≡ Ok (option_map texpr c.in_ok-x-in-For-4.z, st c.maybe_value-z.new.state) = search rules in
     let w : typing.statement f (st c.maybe_value-z.new.state) true true (stmt c.in-For.a.value) ≡ Ok (tstmt c.in_ok-x-in-For-4.w, st c.stmt_of-w.new.state) = search rules in
-    rw (c.in-For.is, view-for c.in-For.first c.in-For.test c.in-For.step c.in-For.a c.in-For.span) (for_so f (st c.args.state.now) (st c.maybe_of.new.state) (st c.maybe_value-y.new.state) (st c.maybe_value-z.new.state) (st c.stmt_of-w.new.state) (st c.for_made.new.state) c.args.breaks c.args.continues (maybe_s c.in-For.first) (option_map expr c.in-For.test) (option_map expr c.in-For.step) (stmt c.in-For.a.value) c.in-For.span (maybe_z c.in_ok-x-in-For-4.x) (option_map texpr c.in_ok-x-in-For-4.y) (option_map texpr c.in_ok-x-in-For-4.z) (tstmt c.in_ok-x-in-For-4.w) (tstmt c.in_ok-for_made-in-For.field-0) x y z w c.in_ok-for_made-in-For.ensures.rule c.in_ok-for_made-in-For.ensures.tree c.in_ok-for_made-in-For.ensures.left)
+    rw (c.in-For.is, view-for c.in-For.first c.in-For.test c.in-For.step c.in-For.a c.in-For.span) (for_so f (st c.args.state.now) (st c.maybe_of.new.state) (st c.maybe_value-y.new.state) (st c.maybe_value-z.new.state) (st c.stmt_of-w.new.state) (st c.for_made.new.state) c.args.jumps.breaks c.args.jumps.continues (maybe_s c.in-For.first) (option_map expr c.in-For.test) (option_map expr c.in-For.step) (stmt c.in-For.a.value) c.in-For.span (maybe_z c.in_ok-x-in-For-4.x) (option_map texpr c.in_ok-x-in-For-4.y) (option_map texpr c.in_ok-x-in-For-4.z) (tstmt c.in_ok-x-in-For-4.w) (tstmt c.in_ok-for_made-in-For.field-0) x y z w c.in_ok-for_made-in-For.ensures.rule c.in_ok-for_made-in-For.ensures.tree c.in_ok-for_made-in-For.ensures.left)
 
 -- ---- room for the objects of each part, and the measure, which falls
 
 pub stmt_of-stmts_of-requires : goal.stmt_of-stmts_of-requires
 stmt_of-stmts_of-requires t c =
-    let kn : stmt_nodes (stmt c.args.s.now) ≡ stmts_nodes (stmts (map stmt c.as_slice-body.result.now)) + 1 = search (rules, tree.the_lemmas) in
+    let kn : stmt_nodes (stmt c.args.s.now) ≡ stmts_nodes (stmts (map stmt c.as_slice.result.now)) + 1 = search (rules, tree.the_lemmas) in
     let dec : 4 * stmt_nodes (stmt c.args.s.now) ≡ t = c.decreases in
     let same : length (st c.open.new.self).sizes ≡ length (st c.args.state.now).sizes = ap (λ (z : St). length z.sizes) c.in_ok-open-in-Block.ensures.opened in
     (omega (arith, kn, dec), omega (arith, kn, same, c.requires.room))
@@ -107,8 +107,8 @@ stmt_of-maybe_of-z-requires t c =
     let kn : stmt_nodes (stmt c.args.s.now) ≡ expr_nodes (expr c.in-If.e) + stmt_nodes (stmt c.in-If.a.value) + maybe_nodes (maybe_s c.in-If.b) + 1 = rw (c.in-If.is, view-if c.in-If.e c.in-If.a c.in-If.b c.in-If.span) refl in
     let dec : 4 * stmt_nodes (stmt c.args.s.now) ≡ t = c.decreases in
     let same : length (st c.value_in.new.state).sizes ≡ length (st c.args.state.now).sizes = ap (λ (ns : List ℕ). length ns) c.value_in.ensures.sizes in
-    let y : typing.statement (fn_of c.args.globals.now c.args.gives.now) (st c.value_in.new.state) c.args.breaks c.args.continues (stmt c.in-If.a.value) ≡ Ok (tstmt c.in_ok-x-in-If-2.y, st c.stmt_of-y.new.state) = search rules in
-    let most = statement_counts (fn_of c.args.globals.now c.args.gives.now) (st c.value_in.new.state) (st c.stmt_of-y.new.state) c.args.breaks c.args.continues (stmt c.in-If.a.value) (tstmt c.in_ok-x-in-If-2.y) y in
+    let y : typing.statement (fn_of c.args.globals.now c.args.gives.now) (st c.value_in.new.state) c.args.jumps.breaks c.args.jumps.continues (stmt c.in-If.a.value) ≡ Ok (tstmt c.in_ok-x-in-If-2.y, st c.stmt_of-y.new.state) = search rules in
+    let most = statement_counts (fn_of c.args.globals.now c.args.gives.now) (st c.value_in.new.state) (st c.stmt_of-y.new.state) c.args.jumps.breaks c.args.jumps.continues (stmt c.in-If.a.value) (tstmt c.in_ok-x-in-If-2.y) y in
     (omega (arith, kn, dec), omega (arith, kn, same, most, c.requires.room))
 
 pub stmts_of-stmt_of-requires : goal.stmts_of-stmt_of-requires
@@ -135,24 +135,30 @@ arms_of-arm_of-requires t c =
     let dec : 4 * arms_nodes (arms (map arm es)) + 2 ≡ t = c.decreases in
     (omega (arith, within, dec), omega (arith, room))
 
-pub stmt_of-stmt_of-y-requires-in-While : goal.stmt_of-stmt_of-y-requires-in-While
-stmt_of-stmt_of-y-requires-in-While t c =
-    let e : stmt c.args.s.now ≡ WhileS (expr c.in-While.e) (stmt c.in-While.a.value) c.in-While.span = search (rules, tree.the_lemmas) in
-    let kn : stmt_nodes (stmt c.args.s.now) ≡ expr_nodes (expr c.in-While.e) + stmt_nodes (stmt c.in-While.a.value) + 1 = ap stmt_nodes e in
-    let boxed : stmt_nodes (stmt c.deref-in-While.result.now) ≡ stmt_nodes (stmt c.in-While.a.value) = ap (λ (z : Stmt). stmt_nodes (stmt z)) c.deref-in-While.ensures in
+pub stmt_of-while_of-requires : goal.stmt_of-while_of-requires
+stmt_of-while_of-requires t c =
+    let e : stmt c.args.s.now ≡ WhileS (expr c.in-While.e) (stmt c.deref-in-While.result.now) c.in-While.span = search (rules, tree.the_lemmas) in
+    let kn : stmt_nodes (stmt c.args.s.now) ≡ expr_nodes (expr c.in-While.e) + stmt_nodes (stmt c.deref-in-While.result.now) + 1 = ap stmt_nodes e in
     let dec : 4 * stmt_nodes (stmt c.args.s.now) ≡ t = c.decreases in
-    let same : length (st c.value_in-in-While.new.state).sizes ≡ length (st c.args.state.now).sizes = ap (λ (ns : List ℕ). length ns) c.value_in-in-While.ensures.sizes in
-    let fits : length (st c.value_in-in-While.new.state).sizes + stmt_nodes (stmt c.deref-in-While.result.now) ≤ 2 ^ 32 = omega (arith, kn, boxed, same, c.requires.room) in
-    (omega (arith, kn, boxed, dec), fits)
+    (omega (arith, kn, dec), omega (arith, kn, c.requires.room))
 
-pub stmt_of-stmt_of-requires : goal.stmt_of-stmt_of-requires
-stmt_of-stmt_of-requires t c =
-    let e : stmt c.args.s.now ≡ DoWhileS (stmt c.in-DoWhile.a.value) (expr c.in-DoWhile.e) c.in-DoWhile.span = search (rules, tree.the_lemmas) in
-    let kn : stmt_nodes (stmt c.args.s.now) ≡ stmt_nodes (stmt c.in-DoWhile.a.value) + expr_nodes (expr c.in-DoWhile.e) + 1 = ap stmt_nodes e in
-    let boxed : stmt_nodes (stmt c.deref-in-DoWhile.result.now) ≡ stmt_nodes (stmt c.in-DoWhile.a.value) = ap (λ (z : Stmt). stmt_nodes (stmt z)) c.deref-in-DoWhile.ensures in
+pub while_of-stmt_of-y-requires : goal.while_of-stmt_of-y-requires
+while_of-stmt_of-y-requires t c =
+    let dec : 4 * (expr_nodes (expr c.args.e.now) + stmt_nodes (stmt c.args.a.now)) + 2 ≡ t = c.decreases in
+    let same : length (st c.value_in.new.state).sizes ≡ length (st c.args.state.now).sizes = ap (λ (ns : List ℕ). length ns) c.value_in.ensures.sizes in
+    (omega (arith, dec), omega (arith, same, c.requires.room))
+
+pub stmt_of-do_while_of-requires : goal.stmt_of-do_while_of-requires
+stmt_of-do_while_of-requires t c =
+    let e : stmt c.args.s.now ≡ DoWhileS (stmt c.deref-in-DoWhile.result.now) (expr c.in-DoWhile.e) c.in-DoWhile.span = search (rules, tree.the_lemmas) in
+    let kn : stmt_nodes (stmt c.args.s.now) ≡ stmt_nodes (stmt c.deref-in-DoWhile.result.now) + expr_nodes (expr c.in-DoWhile.e) + 1 = ap stmt_nodes e in
     let dec : 4 * stmt_nodes (stmt c.args.s.now) ≡ t = c.decreases in
-    let fits : length (st c.args.state.now).sizes + stmt_nodes (stmt c.deref-in-DoWhile.result.now) ≤ 2 ^ 32 = omega (arith, kn, boxed, c.requires.room) in
-    (omega (arith, kn, boxed, dec), fits)
+    (omega (arith, kn, dec), omega (arith, kn, c.requires.room))
+
+pub do_while_of-stmt_of-requires : goal.do_while_of-stmt_of-requires
+do_while_of-stmt_of-requires t c =
+    let dec : 4 * (stmt_nodes (stmt c.args.a.now) + expr_nodes (expr c.args.e.now)) + 2 ≡ t = c.decreases in
+    (omega (arith, dec), omega (arith, c.requires.room))
 
 pub stmt_of-maybe_of-requires : goal.stmt_of-maybe_of-requires
 stmt_of-maybe_of-requires t c =
@@ -168,8 +174,8 @@ stmt_of-stmt_of-w-requires t c =
     let kn : stmt_nodes (stmt c.args.s.now) ≡ maybe_nodes (maybe_s c.in-For.first) + maybe_expr_nodes (option_map expr c.in-For.test) + maybe_expr_nodes (option_map expr c.in-For.step) + stmt_nodes (stmt c.in-For.a.value) + 1 = rw (c.in-For.is, view-for c.in-For.first c.in-For.test c.in-For.step c.in-For.a c.in-For.span) refl in
     let boxed : stmt_nodes (stmt c.deref-in-For.result.now) ≡ stmt_nodes (stmt c.in-For.a.value) = ap (λ (z : Stmt). stmt_nodes (stmt z)) c.deref-in-For.ensures in
     let dec : 4 * stmt_nodes (stmt c.args.s.now) ≡ t = c.decreases in
-    let x : typing.maybe_statement f (opened (st c.args.state.now)) c.args.breaks c.args.continues (maybe_s c.in-For.first) ≡ Ok (maybe_z c.in_ok-x-in-For-3.x, st c.maybe_of.new.state) = search rules in
-    let most : length (st c.maybe_of.new.state).sizes ≤ length (st c.args.state.now).sizes + maybe_nodes (maybe_s c.in-For.first) = maybe_statement_counts f (opened (st c.args.state.now)) (st c.maybe_of.new.state) c.args.breaks c.args.continues (maybe_s c.in-For.first) (maybe_z c.in_ok-x-in-For-3.x) x in
+    let x : typing.maybe_statement f (opened (st c.args.state.now)) c.args.jumps.breaks c.args.jumps.continues (maybe_s c.in-For.first) ≡ Ok (maybe_z c.in_ok-x-in-For-3.x, st c.maybe_of.new.state) = search rules in
+    let most : length (st c.maybe_of.new.state).sizes ≤ length (st c.args.state.now).sizes + maybe_nodes (maybe_s c.in-For.first) = maybe_statement_counts f (opened (st c.args.state.now)) (st c.maybe_of.new.state) c.args.jumps.breaks c.args.jumps.continues (maybe_s c.in-For.first) (maybe_z c.in_ok-x-in-For-3.x) x in
     let tested : length (st c.maybe_value-y.new.state).sizes ≡ length (st c.maybe_of.new.state).sizes = ap (λ (ns : List ℕ). length ns) c.maybe_value-y.ensures.sizes in
     let stepped : length (st c.maybe_value-z.new.state).sizes ≡ length (st c.maybe_value-y.new.state).sizes = ap (λ (ns : List ℕ). length ns) c.maybe_value-z.ensures.sizes in
     let fits : length (st c.maybe_value-z.new.state).sizes + stmt_nodes (stmt c.deref-in-For.result.now) ≤ 2 ^ 32 = omega (arith, kn, boxed, most, tested, stepped, c.requires.room) in
@@ -204,6 +210,6 @@ arm_of-stmt_of-requires t c =
 
 pub stmt_of-vars_of-requires : goal.stmt_of-vars_of-requires
 stmt_of-vars_of-requires t c =
-    let e : stmt c.args.s.now ≡ VarsS (map var c.as_slice.result.now) c.in-Vars.span = search (rules, tree.the_lemmas) in
-    let kn : stmt_nodes (stmt c.args.s.now) ≡ vars_nodes (map var c.as_slice.result.now) + 1 = ap stmt_nodes e in
+    let e : stmt c.args.s.now ≡ VarsS (map var c.as_slice-in-Vars.result.now) c.in-Vars.span = search (rules, tree.the_lemmas) in
+    let kn : stmt_nodes (stmt c.args.s.now) ≡ vars_nodes (map var c.as_slice-in-Vars.result.now) + 1 = ap stmt_nodes e in
     record { room = omega (arith, kn, c.requires.room) }

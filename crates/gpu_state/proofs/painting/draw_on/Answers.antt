@@ -11,9 +11,9 @@ returns-clause-inside c x y hx kx hy ky =
     (get_or c.args.screen.now (place x y) 0) (get_or c.paint.new.screen (place x y) 0)
     (c.requires.opaque (place x y) within).0 (c.requires.opaque (place x y) within).1
     (λ a b.
-    let xw = c.cut.ensures.all x kx (rw c.width-width.ensures.width a) in
-    let yw = c.cut-2.ensures.all y ky (rw c.height-height.ensures.height b) in
-    let h = c.paint.ensures.inside x y (rw c.cut.ensures.from hx) xw (rw c.cut-2.ensures.from hy) yw in
-    grind (arith, h, c.cut.ensures.first, c.cut-2.ensures.first))
+    let xw = c.cut-columns.ensures.all x kx (rw c.width.ensures.width a) in
+    let yw = c.cut-rows.ensures.all y ky (rw c.height.ensures.height b) in
+    let h = c.paint.ensures.inside x y (rw c.cut-columns.ensures.from hx) xw (rw c.cut-rows.ensures.from hy) yw in
+    grind (arith, h, c.cut-columns.ensures.first, c.cut-rows.ensures.first))
     (λ a. c.paint.ensures.beside x y (omega arith) (inr (grind arith)))
     (λ b. c.paint.ensures.above x y (omega arith) (inr (grind arith)))

@@ -10,7 +10,7 @@ use Rattle.obj_mem.specs.Worlds.{World}
 use Rattle.obj_mem.specs.Queries.{Answer, write, further, first_cell}
 use Rattle.c_meaning.specs.Outcomes as out
 use Rattle.c_meaning.specs.Outcomes.{Val, Stops, Went, Through, CutOff, nowhere, asked, then_went}
-use Rattle.c_meaning.specs.Kinds.{is_structure}
+use Rattle.c_types.specs.Kinds.{is_structure}
 use Rattle.c_meaning.specs.Setting.{Setting, words, literal_at, literal_words}
 use Rattle.c_meaning.specs.Operators.{read_as}
 use Rattle.c_meaning.specs.Cells.{cell_set, next_turn, cells_set, structure_read, scalar_read, fetched, stored}

@@ -10,7 +10,8 @@ use Rattle.obj_mem.specs.Queries.{Answer}
 use Rattle.c_meaning.specs.declared.end.End.{End}
 use Rattle.c_meaning.specs.declared.end.End.TheVariants.{Fault, Stray}
 use Rattle.c_meaning.specs.Outcomes.{Val, Stops, Went, CutOff, Done, Ended, asked, then_value, then_place, then_went, either_way}
-use Rattle.c_meaning.specs.Kinds.{type_of, span_of, decayed}
+use Rattle.c_meaning.specs.Kinds.{type_of, span_of}
+use Rattle.c_types.specs.Kinds.{decayed}
 use Rattle.c_meaning.specs.Setting.{Setting}
 use Rattle.c_meaning.specs.Operators.{is_true}
 use Rattle.c_meaning.specs.Cells.{fetched, released}

@@ -12,7 +12,7 @@ use Rattle.obj_mem.specs.Stores.{Store, Sizes, with_objects, words_here, local_o
 use Rattle.obj_mem.specs.Queries.{write, accessed, first_cell}
 use Rattle.c_meaning.specs.Outcomes.{nowhere}
 use Rattle.c_meaning.specs.Setting.{Setting, words}
-use Rattle.c_meaning.specs.Kinds.{is_structure}
+use Rattle.c_types.specs.Kinds.{is_structure}
 use Rattle.c_meaning.specs.Cells.{end_temporary}
 use Rattle.c_meaning.specs.Expressions.{all_released}
 use Rattle.c_evaluate.specs.inner.Storing.{Kept, at_span, then_ok, cells_in, params_in}

@@ -16,7 +16,8 @@ use Rattle.obj_mem.specs.declared.cell.Cell.TheVariants.{Unwritten, Num, Ptr, Nu
 use Rattle.obj_mem.specs.Stores.{Store, local_object, has_room, fresh_all, entered, next_object, with_temporary}
 use Rattle.obj_mem.specs.Objects.{ObjectT, cell_read}
 use Rattle.obj_mem.specs.Queries.{Answer, then_ask, answer_if, accessed, truth, first_cell, step as pointer_step}
-use Rattle.c_meaning.specs.Kinds.{type_of, span_of, decayed}
+use Rattle.c_meaning.specs.Kinds.{type_of, span_of}
+use Rattle.c_types.specs.Kinds.{decayed}
 use Rattle.c_meaning.specs.Operators.{is_of, word_unary, word_binary, is_true, converted, cell_unary, stepped, operated}
 use Rattle.c_meaning.specs.declared.end.End.{End}
 use Rattle.c_meaning.specs.Outcomes.{nowhere}

@@ -22,7 +22,8 @@ use Rattle.c_meaning.specs.declared.end.End.{End}
 use Rattle.c_meaning.specs.declared.end.End.TheVariants.{Halted, Starved, Stray, Deep, OutOfBound}
 use Rattle.c_meaning.specs.Outcomes as out
 use Rattle.c_meaning.specs.Outcomes.{Val, Stops, Vals, Values, Short, Went, Through, CutOff, Done, Goes, Breaks, Continues, Returns, Ended, Turn, DoTurn, Body, nowhere, asked, then_went, then_values, in_front, then_done}
-use Rattle.c_meaning.specs.Kinds.{type_of, span_of, is_structure}
+use Rattle.c_meaning.specs.Kinds.{type_of, span_of}
+use Rattle.c_types.specs.Kinds.{is_structure}
 use Rattle.c_meaning.specs.Setting.{Setting, words, result_of}
 use Rattle.c_meaning.specs.Operators.{read_as, converted, cell_unary, stepped, operated}
 use Rattle.c_meaning.specs.Cells.{released, cells_set, stored, member_of_value}

@@ -7,31 +7,44 @@ ghost use Rattle.c_evaluate.specs.inner.SettingView.{setting_of};
 ghost use Rattle.c_evaluate.specs.inner.StoreView.{store_of};
 ghost use Rattle.c_evaluate.specs.inner.Storing.{operated_in, assigned_in, changed_in, stepped_in, second_assigned_in, member_in};
 
-use crate::cells::{located, stored};
+use crate::cells::{Destination, located, stored};
+use crate::operands::BinaryNode;
 use crate::operators::{converted, operated, read_as};
 use crate::setting::Setting;
 use crate::stop::Stop;
 use crate::store::{Store, end_temporary};
-use crate::types::is_structure;
 use c_tree::{BinOp, Span, StepOp};
-use c_types::{CType, TExpr};
+use c_types::{CType, TExpr, is_structure};
 use obj_mem::Cell;
+
+/// What is assigned to: the expression of the lvalue, the tokens of the assignment, and the place.
+#[derive(Clone, Copy)]
+pub(crate) struct Lvalue<'t> {
+    pub(crate) tree: &'t TExpr,
+    pub(crate) span: Span,
+    pub(crate) place: Cell,
+}
 
 /// Stores a value at a place of the expression's type.
 #[inline(always)]
-pub(crate) fn assigned<'a>(
+fn assigned<'a>(
     s: &Setting<'a>,
     n: u32,
-    x: &TExpr,
-    span: Span,
-    p: Cell,
+    to: &Lvalue<'_>,
     c: Cell,
     store: &mut Store<'a>,
 ) -> Result<Cell, Stop>
-    ensures { Gives (λ z. (z, store_of store.new)) result (assigned_in (setting_of s.now) n (texpr x.now) span p c (store_of store.old)) }
+    ensures { Gives (λ z. (z, store_of store.new)) result
+        (assigned_in (setting_of s.now) n (texpr to.now.tree.now) to.now.span to.now.place c (store_of store.old)) }
 {
-    let z = located(span, converted(&x.ty, c))?;
-    stored(s, n, 0, &x.ty, x.span, p, z, store)?;
+    let x = to.tree;
+    let z = located(to.span, converted(&x.ty, c))?;
+    let there = Destination {
+        ty: &x.ty,
+        span: x.span,
+        place: to.place,
+    };
+    stored(s, n, 0, &there, z, store)?;
     Ok(z)
 }
 
@@ -40,17 +53,17 @@ pub(crate) fn assigned<'a>(
 fn changed<'a>(
     s: &Setting<'a>,
     op: BinOp,
-    x: &TExpr,
+    to: &Lvalue<'_>,
     ty: &CType,
-    span: Span,
-    p: Cell,
     c: Cell,
     store: &Store<'a>,
 ) -> Result<(Cell, Cell), Stop>
-    ensures { Gives (λ z. z) result (changed_in (setting_of s.now) op (texpr x.now) (ctype ty.now) span p c (store_of store.now)) }
+    ensures { Gives (λ z. z) result
+        (changed_in (setting_of s.now) op (texpr to.now.tree.now) (ctype ty.now) to.now.span to.now.place c (store_of store.now)) }
 {
-    let old = located(x.span, read_as(&x.ty, &store.objects, p))?;
-    let new = located(span, operated(s, op, &x.ty, ty, &store.objects, old, c))?;
+    let x = to.tree;
+    let old = located(x.span, read_as(&x.ty, &store.objects, to.place))?;
+    let new = located(to.span, operated(s, op, &x.ty, ty, &store.objects, old, c))?;
     Ok((old, new))
 }
 
@@ -87,17 +100,13 @@ pub(crate) fn stepped_place<'a>(
 ) -> Result<Cell, Stop>
     ensures { Gives (λ z. (z, store_of store.new)) result (stepped_in (setting_of s.now) n op (texpr x.now) span p (store_of store.old)) }
 {
-    let (old, new) = changed(
-        s,
-        step_operator(op),
-        x,
-        &CType::Int,
+    let to = Lvalue {
+        tree: x,
         span,
-        p,
-        Cell::Num(1),
-        store,
-    )?;
-    let z = assigned(s, n, x, span, p, new, store)?;
+        place: p,
+    };
+    let (old, new) = changed(s, step_operator(op), &to, &CType::Int, Cell::Num(1), store)?;
+    let z = assigned(s, n, &to, new, store)?;
     Ok(if gives_old(op) { old } else { z })
 }
 
@@ -107,21 +116,19 @@ pub(crate) fn second_assigned<'a>(
     s: &Setting<'a>,
     n: u32,
     op: Option<BinOp>,
-    x: &TExpr,
+    to: &Lvalue<'_>,
     y: &TExpr,
-    span: Span,
-    p: Cell,
     c: Cell,
     store: &mut Store<'a>,
 ) -> Result<Cell, Stop>
-    ensures { Gives (λ z. (z, store_of store.new)) result (second_assigned_in (setting_of s.now) n op (texpr x.now) (texpr y.now) span p c
-        (store_of store.old)) }
+    ensures { Gives (λ z. (z, store_of store.new)) result (second_assigned_in (setting_of s.now) n op (texpr to.now.tree.now) (texpr y.now)
+        to.now.span to.now.place c (store_of store.old)) }
 {
     match op {
-        None => assigned(s, n, x, span, p, c, store),
+        None => assigned(s, n, to, c, store),
         Some(o) => {
-            let (_, new) = changed(s, o, x, &y.ty, span, p, c, store)?;
-            assigned(s, n, x, span, p, new, store)
+            let (_, new) = changed(s, o, to, &y.ty, c, store)?;
+            assigned(s, n, to, new, store)
         }
     }
 }
@@ -130,17 +137,20 @@ pub(crate) fn second_assigned<'a>(
 #[inline(always)]
 pub(crate) fn second_operated<'a>(
     s: &Setting<'a>,
-    op: BinOp,
-    x: &TExpr,
-    y: &TExpr,
-    span: Span,
+    of: &BinaryNode<'_>,
     c: Cell,
     d: Cell,
     store: &Store<'a>,
 ) -> Result<Cell, Stop>
-    ensures { Gives (λ z. z) result (operated_in (setting_of s.now) op (texpr x.now) (texpr y.now) span c d (store_of store.now)) }
+    ensures { Gives (λ z. z) result (operated_in (setting_of s.now) of.now.op (texpr of.now.left.now) (texpr of.now.right.now)
+        of.now.node.now.span c d (store_of store.now)) }
 {
-    located(span, operated(s, op, &x.ty, &y.ty, &store.objects, c, d))
+    let x = of.left;
+    let y = of.right;
+    located(
+        of.node.span,
+        operated(s, of.op, &x.ty, &y.ty, &store.objects, c, d),
+    )
 }
 
 /// A member of a structure that is a value.

@@ -12,7 +12,7 @@ ghost use Rattle.c_evaluate.specs.inner.Storing.{params_in};
 ghost use Rattle.c_evaluate.specs.inner.Steps.{body_of, in_room, enter, call, argument_in, back_step};
 ghost use Rattle.c_evaluate.specs.inner.Swift.{args_on, argument_on, call_on, took};
 
-use crate::cells::{located, stored};
+use crate::cells::{Destination, located, stored};
 use crate::exec::rest;
 use crate::filling::nowhere;
 use crate::frame::{Caller, Came, Focus, Frame, How};
@@ -23,16 +23,41 @@ use crate::setting::Setting;
 use crate::stack::{next, push};
 use crate::stop::Stop;
 use crate::store::{
-    Store, back, end_temporary, enter as enter_function, fresh_all, keep_arguments, local_cell,
-    passed, released, spend, temporary,
+    Store, back, end_temporary, enter as enter_function, fresh_all, keep_arguments, passed,
+    released, spend, temporary,
 };
-use crate::types::is_structure;
 use crate::using::taken;
 use c_meaning::End;
 use c_tree::Span;
-use c_types::{CType, TExpr, TFunction};
+use c_types::{CType, TExpr, TFunction, is_structure};
 use kit_base::Memory;
-use obj_mem::Cell;
+use obj_mem::{Cell, local_cell};
+
+/// A call whose arguments are evaluated: the bound, the number of the function, and the tokens of the call.
+#[derive(Clone, Copy)]
+pub(crate) struct CallSite {
+    pub(crate) bound: u32,
+    pub(crate) function: u32,
+    pub(crate) span: Span,
+}
+
+/// A function that is called: its number, its tree, the place of the structure that it gives, and the tokens of the call.
+#[derive(Clone, Copy)]
+struct Callee<'a> {
+    number: u32,
+    tree: &'a TFunction,
+    result: Cell,
+    span: Span,
+}
+
+/// A call that is left: the number of its function, its arguments, the place of the structure that it gives, and its tokens.
+#[derive(Clone, Copy)]
+pub(crate) struct Activation<'v> {
+    pub(crate) function: u32,
+    pub(crate) arguments: &'v [Cell],
+    pub(crate) result: Cell,
+    pub(crate) span: Span,
+}
 
 /// The parameters take the arguments.
 fn params<'a>(
@@ -51,8 +76,10 @@ fn params<'a>(
         let Some((c, after)) = next(cells) else {
             return Err(Stop::Ends(End::Stray(nowhere())));
         };
-        let p = located(nowhere(), local_cell(&store.locals, k))?;
-        stored(s, n, 0, ty, nowhere(), p, *c, store)?;
+        let place = located(nowhere(), local_cell(&store.locals, k))?;
+        let span = nowhere();
+        let to = Destination { ty, span, place };
+        stored(s, n, 0, &to, *c, store)?;
         types = later;
         cells = after;
         k += 1;
@@ -68,68 +95,66 @@ fn params<'a>(
 fn body<'a>(
     s: &Setting<'a>,
     m: u32,
-    f: u32,
-    g: &'a TFunction,
+    of: &Callee<'a>,
     values: Vec<Cell>,
-    r: Cell,
-    span: Span,
     frame: u32,
     stack: &mut Vec<Frame<'a>>,
     store: &mut Store<'a>,
 ) -> Result<Focus<'a>, Stop>
     requires room { store.old.used + (frame + 2) < 2 ^ 32 }
-    requires words { frame ≡ (setting_of s.now).sizes.frame f }
+    requires words { frame ≡ (setting_of s.now).sizes.frame of.now.number }
     ensures { Leads (λ x. at x (stack_of stack.new.items) (store_of store.new)) result
-        (body_of (setting_of s.now) m f (function g.now) values.items r span (stack_of stack.old.items) (store_of store.old)) }
+        (body_of (setting_of s.now) m of.now.number (function of.now.tree.now) values.items of.now.result of.now.span
+        (stack_of stack.old.items) (store_of store.old)) }
 {
-    let caller = Box::new(s.alloc, enter_function(s, store, f, frame)?)?;
+    let g = of.tree;
+    let caller = Box::new(s.alloc, enter_function(s, store, of.number, frame)?)?;
     fresh_all(s, store, g.made.as_slice())?;
     params(s, m, g.params.as_slice(), &values, store)?;
-    push(stack, Frame::Back(f, values, r, span, caller))?;
-    rest(m, r, g.body.as_slice(), stack)
+    push(
+        stack,
+        Frame::Back(of.number, values, of.result, of.span, caller),
+    )?;
+    rest(m, of.result, g.body.as_slice(), stack)
 }
 
 /// Into a function with that bound, where there is room.
 fn enter_in<'a>(
     s: &Setting<'a>,
     m: u32,
-    f: u32,
-    g: &'a TFunction,
+    of: &Callee<'a>,
     values: Vec<Cell>,
-    r: Cell,
-    span: Span,
     stack: &mut Vec<Frame<'a>>,
     store: &mut Store<'a>,
 ) -> Result<Focus<'a>, Stop>
     ensures { Leads (λ x. at x (stack_of stack.new.items) (store_of store.new)) result
-        (in_room (has_room (setting_of s.now).sizes f (store_of store.old)) span
-        (body_of (setting_of s.now) m f (function g.now) values.items r span (stack_of stack.old.items) (store_of store.old))) }
+        (in_room (has_room (setting_of s.now).sizes of.now.number (store_of store.old)) of.now.span
+        (body_of (setting_of s.now) m of.now.number (function of.now.tree.now) values.items of.now.result of.now.span
+        (stack_of stack.old.items) (store_of store.old))) }
 {
-    if !s.has_room(f, store.used) {
-        return Err(Stop::Ends(End::Deep(span)));
+    if !s.has_room(of.number, store.used) {
+        return Err(Stop::Ends(End::Deep(of.span)));
     }
-    body(s, m, f, g, values, r, span, s.frame(f), stack, store)
+    body(s, m, of, values, s.frame(of.number), stack, store)
 }
 
 /// Into a function, where the bound and the room allow it.
 fn enter<'a>(
     s: &Setting<'a>,
     n: u32,
-    f: u32,
-    g: &'a TFunction,
+    of: &Callee<'a>,
     values: Vec<Cell>,
-    r: Cell,
-    span: Span,
     stack: &mut Vec<Frame<'a>>,
     store: &mut Store<'a>,
 ) -> Result<Focus<'a>, Stop>
     ensures { Leads (λ x. at x (stack_of stack.new.items) (store_of store.new)) result
-        (enter (setting_of s.now) n f (function g.now) values.items r span (stack_of stack.old.items) (store_of store.old)) }
+        (enter (setting_of s.now) n of.now.number (function of.now.tree.now) values.items of.now.result of.now.span
+        (stack_of stack.old.items) (store_of store.old)) }
 {
     if n == 0 {
         return Err(Stop::Ends(End::OutOfBound));
     }
-    enter_in(s, n - 1, f, g, values, r, span, stack, store)
+    enter_in(s, n - 1, of, values, stack, store)
 }
 
 /// The place of a structure that a function gives.
@@ -160,7 +185,13 @@ pub(crate) fn call<'a>(
         return Err(Stop::Ends(End::Stray(span)));
     };
     let r = result_place(s, &g.result, store)?;
-    enter(s, n, f, g, values, r, span, stack, store)
+    let of = Callee {
+        number: f,
+        tree: g,
+        result: r,
+        span,
+    };
+    enter(s, n, &of, values, stack, store)
 }
 
 /// Calls a function, which may come at once.
@@ -220,37 +251,37 @@ fn took<'a>(
 /// On to the next argument that does not come at once, or into the function.
 pub(crate) fn arguments<'a>(
     s: &Setting<'a>,
-    n: u32,
-    f: u32,
-    span: Span,
+    of: &CallSite,
     values: Vec<Cell>,
     xs: &'a [TExpr],
     stack: &mut Vec<Frame<'a>>,
     store: &mut Store<'a>,
 ) -> Result<Focus<'a>, Stop>
     ensures { Leads (λ x. at x (stack_of stack.new.items) (store_of store.new)) result
-        (args_on (setting_of s.now) n f span values.items (texprs (map texpr xs.now)) (stack_of stack.old.items) (store_of store.old)) }
+        (args_on (setting_of s.now) of.now.bound of.now.function of.now.span values.items (texprs (map texpr xs.now))
+        (stack_of stack.old.items) (store_of store.old)) }
 {
     let mut given = values;
     let mut left = xs;
     'arguments: while let Some((x, later)) = next(left) {
         let Some(v) = at_once(s, x, store) else {
-            push(stack, Frame::Argument(n, f, span, given, left))?;
-            return Ok(Focus::Eval(n, x));
+            push(
+                stack,
+                Frame::Argument(of.bound, of.function, of.span, given, left),
+            )?;
+            return Ok(Focus::Eval(of.bound, x));
         };
         spend(store, nodes(x));
-        took(s, n, f, x, v, &mut given, store)?;
+        took(s, of.bound, of.function, x, v, &mut given, store)?;
         left = later;
     }
-    called(s, n, f, given, span, stack, store)
+    called(s, of.bound, of.function, given, of.span, stack, store)
 }
 
 /// An argument came.
 pub(crate) fn argument_came<'a>(
     s: &Setting<'a>,
-    n: u32,
-    f: u32,
-    span: Span,
+    of: &CallSite,
     mut values: Vec<Cell>,
     xs: &'a [TExpr],
     v: Came,
@@ -258,13 +289,14 @@ pub(crate) fn argument_came<'a>(
     store: &mut Store<'a>,
 ) -> Result<Focus<'a>, Stop>
     ensures { Leads (λ x. at x (stack_of stack.new.items) (store_of store.new)) result
-        (argument_on (setting_of s.now) n f span values.items (texprs (map texpr xs.now)) v (stack_of stack.old.items) (store_of store.old)) }
+        (argument_on (setting_of s.now) of.now.bound of.now.function of.now.span values.items (texprs (map texpr xs.now)) v
+        (stack_of stack.old.items) (store_of store.old)) }
 {
     match next(xs) {
         None => Ok(Focus::Came(v)),
         Some((x, later)) => {
-            took(s, n, f, x, v, &mut values, store)?;
-            arguments(s, n, f, span, values, later, stack, store)
+            took(s, of.bound, of.function, x, v, &mut values, store)?;
+            arguments(s, of, values, later, stack, store)
         }
     }
 }
@@ -298,29 +330,27 @@ fn released_args<'a>(s: &Setting<'a>, f: u32, values: &[Cell], store: &mut Store
 /// A function was left.
 pub(crate) fn back_from<'a>(
     s: &Setting<'a>,
-    f: u32,
-    values: &[Cell],
-    r: Cell,
-    span: Span,
+    of: &Activation<'_>,
     c: Caller,
     h: How,
     store: &mut Store<'a>,
 ) -> Result<Focus<'a>, Stop>
     ensures { (k : List FrameT) → Leads (λ x. at x k (store_of store.new)) result
-        (back_step (params_of (slice_get (setting_of s.now).functions f)) values.now r span (caller c) h k (store_of store.old)) }
+        (back_step (params_of (slice_get (setting_of s.now).functions of.now.function)) of.now.arguments.now of.now.result of.now.span
+        (caller c) h k (store_of store.old)) }
 {
     match h {
         How::On | How::Return(None) => {
             back(store, c);
-            end_temporary(store, r);
-            released_args(s, f, values, store);
+            end_temporary(store, of.result);
+            released_args(s, of.function, of.arguments, store);
             Ok(Focus::Came(Came::Nothing))
         }
         How::Return(Some(z)) => {
             back(store, c);
-            released_args(s, f, values, store);
+            released_args(s, of.function, of.arguments, store);
             Ok(Focus::Came(Came::Value(z)))
         }
-        How::Break | How::Continue => Err(Stop::Ends(End::Stray(span))),
+        How::Break | How::Continue => Err(Stop::Ends(End::Stray(of.span))),
     }
 }

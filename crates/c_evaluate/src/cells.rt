@@ -1,25 +1,31 @@
 // Loops over cells, reading and storing.
 ghost use Rattle.std.specs.Prelude.{◌≡◌, ◌<◌, ◌-◌, Ok, IfOk, IfErr, option_map};
 ghost use Rattle.c_types.specs.View.{ctype};
-ghost use Rattle.obj_mem.specs.inner.View.{objects};
+ghost use Rattle.obj_mem.specs.View.{objects};
 ghost use Rattle.obj_mem.specs.Stores.{with_objects};
 ghost use Rattle.obj_mem.specs.Queries.{further};
 ghost use Rattle.c_meaning.specs.Cells.{source, cell_set};
 ghost use Rattle.c_evaluate.specs.inner.Results.{Fails, Gives};
 ghost use Rattle.c_evaluate.specs.inner.SettingView.{setting_of};
 ghost use Rattle.c_evaluate.specs.inner.StoreView.{store_of};
-ghost use Rattle.c_evaluate.specs.inner.Storing.{at_span, then_ok, cells_in, structure_in, scalar_in, fetched_in, stored_in};
+ghost use Rattle.c_evaluate.specs.inner.Storing.{at_span, then_ok, cells_in, structure_in, fetched_in, stored_in};
 
 use crate::operators::read_as;
-use crate::queries::{further, read as read_cell, write};
 use crate::setting::Setting;
 use crate::stop::Stop;
 use crate::store::{Store, spend, temporary};
-use crate::types::is_structure;
 use c_meaning::End;
 use c_tree::Span;
-use c_types::CType;
-use obj_mem::{Cell, Objects, Refusal};
+use c_types::{CType, is_structure};
+use obj_mem::{Cell, Objects, Refusal, further, read as read_cell, write};
+
+/// Where a value is stored: the type that it is stored at, the tokens where the program strays if that is refused, and the place.
+#[derive(Clone, Copy)]
+pub(crate) struct Destination<'t> {
+    pub(crate) ty: &'t CType,
+    pub(crate) span: Span,
+    pub(crate) place: Cell,
+}
 
 /// An answer, with the tokens where the program strays.
 #[inline(always)]
@@ -153,24 +159,24 @@ pub(crate) fn fetched<'a>(
     }
 }
 
-/// Stores a value of a type at a place. Each cell costs `extra` work, and one more where it is a structure's.
+/// Stores a value. Each cell costs `extra` work, and one more where it is a structure's.
 #[inline(always)]
 pub(crate) fn stored<'a>(
     s: &Setting<'a>,
     n: u32,
     extra: u64,
-    ty: &CType,
-    span: Span,
-    p: Cell,
+    to: &Destination<'_>,
     c: Cell,
     store: &mut Store<'a>,
 ) -> Result<(), Stop>
-    ensures { Gives (λ _. store_of store.new) result (stored_in (setting_of s.now) n (ctype ty.now) span p c (store_of store.old)) }
+    ensures { Gives (λ _. store_of store.new) result
+        (stored_in (setting_of s.now) n (ctype to.now.ty.now) to.now.span to.now.place c (store_of store.old)) }
 {
-    if is_structure(ty) {
+    if is_structure(to.ty) {
         let cost = extra.saturating_add(1);
-        return cells(span, cost, n, u64::from(s.words(ty)), Some(c), p, store);
+        let words = u64::from(s.words(to.ty));
+        return cells(to.span, cost, n, words, Some(c), to.place, store);
     }
     spend(store, extra);
-    located(span, write(&mut store.objects, p, c))
+    located(to.span, write(&mut store.objects, to.place, c))
 }

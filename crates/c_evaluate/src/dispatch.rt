@@ -7,24 +7,23 @@ ghost use Rattle.c_evaluate.specs.inner.Results.{Leads};
 ghost use Rattle.c_evaluate.specs.inner.FocusView.{at, frame, stack_of, stmt_frame};
 ghost use Rattle.c_evaluate.specs.inner.SettingView.{setting_of};
 ghost use Rattle.c_evaluate.specs.inner.StoreView.{store_of};
-ghost use Rattle.c_types.specs.View.{texpr, tstmt};
-ghost use Rattle.c_evaluate.specs.inner.SettingView.{or_void};
-ghost use Rattle.c_evaluate.specs.inner.Machine.{OneW};
-ghost use Rattle.c_evaluate.specs.inner.Steps.{give, fill_up, switched, main_step};
+ghost use Rattle.c_types.specs.View.{or_void, tstmt};
+ghost use Rattle.c_evaluate.specs.inner.Steps.{full, give, fill_up, switched, main_step};
+ghost use Rattle.c_evaluate.specs.inner.Storing.{one_in};
 ghost use Rattle.c_evaluate.specs.inner.Swift.{give_on, leave_on};
 
-use crate::calls::{argument_came, back_from, call};
+use crate::calls::{Activation, CallSite, argument_came, back_from, call};
 use crate::exec::{arms, rest};
-use crate::filling::{items, nowhere, one, vars};
+use crate::filling::{ItemList, items, nowhere, one, vars};
 use crate::frame::{Came, Focus, Frame, How, Stage};
 use crate::operands::{first, second_came};
 use crate::setting::Setting;
-use crate::statements::{begin_left, body_left, step_came, value_came};
+use crate::statements::{Statement, begin_left, body_left, step_came, value_came};
 use crate::stop::Stop;
 use crate::store::{Store, end_all, spend};
 use crate::using::taken;
 use c_meaning::End;
-use c_types::{CType, TExpr, TStmt};
+use c_types::{CType, TStmt};
 use obj_mem::Cell;
 
 fn strays<'a>() -> Result<Focus<'a>, Stop>
@@ -39,40 +38,36 @@ fn strays<'a>() -> Result<Focus<'a>, Stop>
 fn give_statement<'a>(
     s: &Setting<'a>,
     stage: Stage,
-    n: u32,
-    r: Cell,
-    a: &'a TStmt,
+    of: &Statement<'a>,
     v: Came,
     stack: &mut Vec<Frame<'a>>,
     store: &mut Store<'a>,
 ) -> Result<Focus<'a>, Stop>
     ensures { Leads (λ x. at x (stack_of stack.new.items) (store_of store.new)) result
-        (give (setting_of s.now) (stmt_frame stage n r (tstmt a.now)) v (stack_of stack.old.items) (store_of store.old)) }
+        (give (setting_of s.now) (stmt_frame stage of.now.bound of.now.result (tstmt of.now.tree.now)) v
+        (stack_of stack.old.items) (store_of store.old)) }
 {
     match stage {
-        Stage::Value => value_came(s, n, r, a, v, stack, store),
-        Stage::Step => step_came(s, n, r, a, v, stack, store),
+        Stage::Value => value_came(s, of, v, stack, store),
+        Stage::Step => step_came(s, of, v, stack, store),
         Stage::Body => strays(),
         Stage::Begin => strays(),
     }
 }
 
-/// The value of an initialiser came.
-#[tactic(auto, unfolding(crate::specs::inner::Steps::give))]
+/// The value of an initialiser is stored.
 fn give_one<'a>(
     s: &Setting<'a>,
     n: u32,
     ty: Option<&'a CType>,
-    x: &'a TExpr,
     p: Cell,
-    v: Came,
+    c: Cell,
     stack: &Vec<Frame<'a>>,
     store: &mut Store<'a>,
 ) -> Result<Focus<'a>, Stop>
     ensures { Leads (λ x. at x (stack_of stack.now.items) (store_of store.new)) result
-        (give (setting_of s.now) (OneW n (or_void ty.entry) (texpr x.now) p) v (stack_of stack.now.items) (store_of store.old)) }
+        (full (one_in (setting_of s.now) n (or_void ty.entry) p c (store_of store.old)) (stack_of stack.now.items)) }
 {
-    let c = taken(s, n, x, v, store)?;
     let void = CType::Void;
     let one_type = match ty {
         None => &void,
@@ -98,11 +93,26 @@ pub(crate) fn give<'a>(
     match f {
         Frame::First(n, e) => first(s, n, e, v, stack, store),
         Frame::Second(n, e, c) => second_came(s, n, e, c, v, stack, store),
-        Frame::Argument(n, f, span, values, xs) => argument_came(
-            s, n, f, span, values, xs, v, stack, store,
-        ),
-        Frame::InStmt(stage, n, r, a) => give_statement(s, stage, n, r, a, v, stack, store),
-        Frame::One(n, ty, x, p) => give_one(s, n, ty, x, p, v, stack, store),
+        Frame::Argument(n, f, span, values, xs) => {
+            let of = CallSite {
+                bound: n,
+                function: f,
+                span,
+            };
+            argument_came(s, &of, values, xs, v, stack, store)
+        }
+        Frame::InStmt(stage, n, r, a) => {
+            let of = Statement {
+                bound: n,
+                result: r,
+                tree: a,
+            };
+            give_statement(s, stage, &of, v, stack, store)
+        }
+        Frame::One(n, ty, x, p) => {
+            let c = taken(s, n, x, v, store)?;
+            give_one(s, n, ty, p, c, stack, store)
+        }
         Frame::Back(_, _, _, _, _) | Frame::Rest(_, _, _) | Frame::Arms(_, _, _) | Frame::End(_) =>
             strays(),
         Frame::Switch
@@ -119,19 +129,18 @@ pub(crate) fn give<'a>(
 fn leave_statement<'a>(
     s: &Setting<'a>,
     stage: Stage,
-    n: u32,
-    r: Cell,
-    a: &'a TStmt,
+    of: &Statement<'a>,
     h: How,
     stack: &mut Vec<Frame<'a>>,
     store: &mut Store<'a>,
 ) -> Result<Focus<'a>, Stop>
     ensures { Leads (λ x. at x (stack_of stack.new.items) (store_of store.new)) result
-        (leave_on (setting_of s.now) (stmt_frame stage n r (tstmt a.now)) h (stack_of stack.old.items) (store_of store.old)) }
+        (leave_on (setting_of s.now) (stmt_frame stage of.now.bound of.now.result (tstmt of.now.tree.now)) h
+        (stack_of stack.old.items) (store_of store.old)) }
 {
     match stage {
-        Stage::Body => body_left(s, n, r, a, h, stack, store),
-        Stage::Begin => begin_left(n, r, a, h, stack, store),
+        Stage::Body => body_left(s, of, h, stack, store),
+        Stage::Begin => begin_left(of, h, stack, store),
         Stage::Value => strays(),
         Stage::Step => strays(),
     }
@@ -185,17 +194,23 @@ pub(crate) fn leave<'a>(
         (leave_on (setting_of s.now) (frame f.entry) h (stack_of stack.old.items) (store_of store.old)) }
 {
     match f {
-        Frame::Back(f, values, r, span, c) => back_from(
-            s,
-            f,
-            &values,
-            r,
-            span,
-            Box::into_inner(c),
-            h,
-            store,
-        ),
-        Frame::InStmt(stage, n, r, a) => leave_statement(s, stage, n, r, a, h, stack, store),
+        Frame::Back(f, values, r, span, c) => {
+            let of = Activation {
+                function: f,
+                arguments: &values,
+                result: r,
+                span,
+            };
+            back_from(s, &of, Box::into_inner(c), h, store)
+        }
+        Frame::InStmt(stage, n, r, a) => {
+            let of = Statement {
+                bound: n,
+                result: r,
+                tree: a,
+            };
+            leave_statement(s, stage, &of, h, stack, store)
+        }
         Frame::Rest(n, r, xs) => match h {
             How::On => rest(n, r, xs, stack),
             How::Break | How::Continue | How::Return(_) => Ok(Focus::Left(h)),
@@ -251,7 +266,10 @@ pub(crate) fn fill_up<'a>(
         (fill_up (setting_of s.now) (frame f.entry) (stack_of stack.old.items) (store_of store.old)) }
 {
     match f {
-        Frame::Items(n, all, ty, k, p) => items(s, n, all, ty, k, p, stack, store),
+        Frame::Items(n, all, ty, k, p) => {
+            let of = ItemList { items: all, ty };
+            items(s, n, &of, k, p, stack, store)
+        }
         Frame::Vars(n, vs) => vars(n, vs, stack, store),
         Frame::Filled => Ok(Focus::Left(How::On)),
         Frame::InStmt(stage, n, r, a) => full_statement(s, stage, n, r, a, stack, store),

@@ -9,7 +9,7 @@ ghost use Rattle.c_evaluate.specs.inner.StoreView.{store_of};
 ghost use Rattle.c_evaluate.specs.inner.Steps.{input};
 ghost use Rattle.c_evaluate.specs.inner.Swift.{eval_of_on, operand_on};
 
-use crate::calls::arguments;
+use crate::calls::{CallSite, arguments};
 use crate::cells::located;
 use crate::frame::{Came, Focus, Frame};
 use crate::leaf::{at_once, global_at, nodes};
@@ -17,11 +17,11 @@ use crate::operands::first;
 use crate::setting::Setting;
 use crate::stack::{next, push};
 use crate::stop::Stop;
-use crate::store::{Store, local_cell, no_arguments, spend};
+use crate::store::{Store, no_arguments, spend};
 use c_meaning::End;
 use c_types::{TExpr, TKind};
 use kit_base::Event;
-use obj_mem::Cell;
+use obj_mem::{Cell, local_cell};
 
 /// The first operand of an expression.
 fn operand<'a>(
@@ -93,7 +93,12 @@ pub(crate) fn eval<'a>(
         TKind::Cast(x) => operand(s, n, e, x, stack, store),
         TKind::Call(f, xs) => {
             let values = no_arguments(s, store);
-            arguments(s, n, *f, e.span, values, xs.as_slice(), stack, store)
+            let of = CallSite {
+                bound: n,
+                function: *f,
+                span: e.span,
+            };
+            arguments(s, &of, values, xs.as_slice(), stack, store)
         }
         TKind::In(port) => input(*port, store),
         TKind::Out(_, x) => operand(s, n, e, x, stack, store),

@@ -12,13 +12,13 @@ ghost use Rattle.c_evaluate.specs.inner.Machine.{DoF, EvalF, Going, SecondW, Val
 ghost use Rattle.c_evaluate.specs.inner.Storing.{placed_in};
 ghost use Rattle.c_meaning.specs.Kinds.{span_of};
 
-use crate::assigning::{second_assigned, stepped_place};
+use crate::assigning::{Lvalue, second_assigned, stepped_place};
 use crate::filling::vars;
 use crate::frame::{Came, Focus, Frame, How, Stage};
 use crate::leaf::{at_once, nodes};
 use crate::setting::Setting;
 use crate::stack::{next, push};
-use crate::statements::value_came;
+use crate::statements::{Statement, value_came};
 use crate::stop::Stop;
 use crate::store::{Store, fresh_all, released, spend};
 use crate::using::{placed, taken};
@@ -129,10 +129,32 @@ pub(crate) fn asked<'a>(
     match at_once(s, x, store) {
         Some(v) => {
             spend(store, nodes(x));
-            value_came(s, n, r, a, v, stack, store)
+            let of = Statement {
+                bound: n,
+                result: r,
+                tree: a,
+            };
+            value_came(s, &of, v, stack, store)
         }
         None => ask(n, r, a, x, stack),
     }
+}
+
+/// An assignment: the whole expression, the operator before the `=` where there is one, the lvalue and the expression that is assigned.
+#[derive(Clone, Copy)]
+struct Assignment<'a> {
+    node: &'a TExpr,
+    op: Option<BinOp>,
+    left: &'a TExpr,
+    right: &'a TExpr,
+}
+
+/// An increment or a decrement: the whole expression, the operator and the lvalue.
+#[derive(Clone, Copy)]
+struct Increment<'a> {
+    node: &'a TExpr,
+    op: StepOp,
+    operand: &'a TExpr,
 }
 
 /// An assignment whose place came at once: on to its value.
@@ -140,20 +162,20 @@ fn assigned_behind<'a>(
     n: u32,
     r: Cell,
     a: &'a TStmt,
-    e: &'a TExpr,
+    of: &Assignment<'a>,
     v: Came,
-    y: &'a TExpr,
     stack: &mut Vec<Frame<'a>>,
     store: &Store<'a>,
 ) -> Result<Focus<'a>, Stop>
     ensures { Leads (λ f. at f (stack_of stack.new.items) (store_of store.now)) result
-        (on (placed_in (span_of (texpr e.now)) v)
-        (λ p. Going (EvalF n (texpr y.now)) (SecondW n (texpr e.now) p ∷ (ValueW n r (tstmt a.now) ∷ stack_of stack.old.items)) (store_of store.now))) }
+        (on (placed_in (span_of (texpr of.now.node.now)) v)
+        (λ p. Going (EvalF n (texpr of.now.right.now)) (SecondW n (texpr of.now.node.now) p ∷ (ValueW n r (tstmt a.now) ∷ stack_of stack.old.items))
+        (store_of store.now))) }
 {
-    let p = placed(e.span, v)?;
+    let p = placed(of.node.span, v)?;
     push(stack, Frame::InStmt(Stage::Value, n, r, a))?;
-    push(stack, Frame::Second(n, e, p))?;
-    Ok(Focus::Eval(n, y))
+    push(stack, Frame::Second(n, of.node, p))?;
+    Ok(Focus::Eval(n, of.right))
 }
 
 /// An assignment whose place and value came at once is done, and its value dropped.
@@ -161,22 +183,27 @@ fn assigned_behind<'a>(
 fn assigned_at_once<'a>(
     s: &Setting<'a>,
     n: u32,
-    e: &TExpr,
-    op: Option<BinOp>,
-    x: &TExpr,
-    y: &TExpr,
+    of: &Assignment<'_>,
     v: Came,
     w: Came,
     stack: &Vec<Frame<'a>>,
     store: &mut Store<'a>,
 ) -> Result<Focus<'a>, Stop>
     ensures { Leads (λ f. at f (stack_of stack.now.items) (store_of store.new)) result
-        (assigned_on (setting_of s.now) n (texpr e.now) op (texpr x.now) (texpr y.now) v w (stack_of stack.now.items) (store_of store.old)) }
+        (assigned_on (setting_of s.now) n (texpr of.now.node.now) of.now.op (texpr of.now.left.now) (texpr of.now.right.now) v w
+        (stack_of stack.now.items) (store_of store.old)) }
 {
-    let p = placed(e.span, v)?;
+    let e = of.node;
+    let y = of.right;
+    let place = placed(e.span, v)?;
     spend(store, nodes(y));
     let d = taken(s, n, y, w, store)?;
-    let z = second_assigned(s, n, op, x, y, e.span, p, d, store)?;
+    let to = Lvalue {
+        tree: of.left,
+        span: e.span,
+        place,
+    };
+    let z = second_assigned(s, n, of.op, &to, y, d, store)?;
     released(store, &e.ty, z);
     Ok(Focus::Left(How::On))
 }
@@ -187,23 +214,21 @@ fn assigns<'a>(
     n: u32,
     r: Cell,
     a: &'a TStmt,
-    e: &'a TExpr,
-    op: Option<BinOp>,
-    x: &TExpr,
-    y: &'a TExpr,
+    of: &Assignment<'a>,
     stack: &mut Vec<Frame<'a>>,
     store: &mut Store<'a>,
 ) -> Result<Focus<'a>, Stop>
     ensures { Leads (λ f. at f (stack_of stack.new.items) (store_of store.new)) result
-        (assigns_on (setting_of s.now) n r (tstmt a.now) (texpr e.now) op (texpr x.now) (texpr y.now) (stack_of stack.old.items) (store_of store.old)) }
+        (assigns_on (setting_of s.now) n r (tstmt a.now) (texpr of.now.node.now) of.now.op (texpr of.now.left.now) (texpr of.now.right.now)
+        (stack_of stack.old.items) (store_of store.old)) }
 {
-    match at_once(s, x, store) {
-        None => ask(n, r, a, e, stack),
+    match at_once(s, of.left, store) {
+        None => ask(n, r, a, of.node, stack),
         Some(v) => {
-            spend(store, nodes(x).saturating_add(1));
-            match at_once(s, y, store) {
-                None => assigned_behind(n, r, a, e, v, y, stack, store),
-                Some(w) => assigned_at_once(s, n, e, op, x, y, v, w, stack, store),
+            spend(store, nodes(of.left).saturating_add(1));
+            match at_once(s, of.right, store) {
+                None => assigned_behind(n, r, a, of, v, stack, store),
+                Some(w) => assigned_at_once(s, n, of, v, w, stack, store),
             }
         }
     }
@@ -215,21 +240,21 @@ fn steps<'a>(
     n: u32,
     r: Cell,
     a: &'a TStmt,
-    e: &'a TExpr,
-    op: StepOp,
-    x: &TExpr,
+    of: &Increment<'a>,
     stack: &mut Vec<Frame<'a>>,
     store: &mut Store<'a>,
 ) -> Result<Focus<'a>, Stop>
     ensures { Leads (λ f. at f (stack_of stack.new.items) (store_of store.new)) result
-        (steps_on (setting_of s.now) n r (tstmt a.now) (texpr e.now) op (texpr x.now) (stack_of stack.old.items) (store_of store.old)) }
+        (steps_on (setting_of s.now) n r (tstmt a.now) (texpr of.now.node.now) of.now.op (texpr of.now.operand.now)
+        (stack_of stack.old.items) (store_of store.old)) }
 {
-    let Some(v) = at_once(s, x, store) else {
+    let e = of.node;
+    let Some(v) = at_once(s, of.operand, store) else {
         return ask(n, r, a, e, stack);
     };
-    spend(store, nodes(x).saturating_add(1));
+    spend(store, nodes(of.operand).saturating_add(1));
     let p = placed(e.span, v)?;
-    let z = stepped_place(s, n, op, x, e.span, p, store)?;
+    let z = stepped_place(s, n, of.op, of.operand, e.span, p, store)?;
     released(store, &e.ty, z);
     Ok(Focus::Left(How::On))
 }
@@ -249,8 +274,23 @@ fn does<'a>(
         (does_on (setting_of s.now) n r (tstmt a.now) (texpr e.now) (stack_of stack.old.items) (store_of store.old)) }
 {
     match &e.kind {
-        TKind::Assign(op, x, y) => assigns(s, n, r, a, e, *op, x, y, stack, store),
-        TKind::Step(op, x) => steps(s, n, r, a, e, *op, x, stack, store),
+        TKind::Assign(op, x, y) => {
+            let of = Assignment {
+                node: e,
+                op: *op,
+                left: x,
+                right: y,
+            };
+            assigns(s, n, r, a, &of, stack, store)
+        }
+        TKind::Step(op, x) => {
+            let of = Increment {
+                node: e,
+                op: *op,
+                operand: x,
+            };
+            steps(s, n, r, a, &of, stack, store)
+        }
         TKind::Number(_) | TKind::Null | TKind::Literal(_) | TKind::Global(_) | TKind::Local(_) =>
             ask(n, r, a, e, stack),
         TKind::Unary(_, _) | TKind::Binary(_, _, _) | TKind::Index(_, _) => ask(n, r, a, e, stack),

@@ -4,27 +4,27 @@ ghost use Rattle.c_types.specs.Typed.{NoI, MoreI};
 ghost use Rattle.c_types.specs.View.{ctype, tinit, tvar};
 ghost use Rattle.obj_mem.specs.Queries.{further};
 ghost use Rattle.c_meaning.specs.Outcomes.{nowhere};
-ghost use Rattle.c_meaning.specs.Parts.{part_type};
+ghost use Rattle.c_types.specs.Parts.{part_type};
 ghost use Rattle.c_meaning.specs.Setting.{words};
 ghost use Rattle.c_meaning.specs.Initialisers.{object_of};
 ghost use Rattle.c_evaluate.specs.inner.Results.{Gives, Leads};
 ghost use Rattle.c_evaluate.specs.inner.FocusView.{at, items_from, stack_of};
-ghost use Rattle.c_evaluate.specs.inner.SettingView.{setting_of, or_void};
+ghost use Rattle.c_evaluate.specs.inner.SettingView.{setting_of};
+ghost use Rattle.c_types.specs.View.{or_void};
 ghost use Rattle.c_evaluate.specs.inner.StoreView.{store_of};
 ghost use Rattle.c_evaluate.specs.inner.Storing.{one_in, text_in, rest_in};
 ghost use Rattle.c_evaluate.specs.inner.Steps.{vars_of, items_of, fill};
 
-use crate::cells::{cells, located, stored};
+use crate::cells::{Destination, cells, located, stored};
 use crate::frame::{Focus, Frame};
 use crate::operators::converted;
-use crate::queries::further;
 use crate::setting::Setting;
 use crate::stack::{next, push};
 use crate::stop::Stop;
-use crate::store::{Store, local_cell, released, spend};
+use crate::store::{Store, released, spend};
 use c_tree::Span;
 use c_types::{CType, TInit, TVar};
-use obj_mem::{Cell, Refusal};
+use obj_mem::{Cell, Refusal, further, local_cell};
 
 pub(crate) fn nowhere() -> Span
     ensures { result ≡ nowhere }
@@ -44,7 +44,12 @@ pub(crate) fn one<'a>(
     ensures { Gives (λ _. store_of store.new) result (one_in (setting_of s.now) n (ctype ty.now) p c (store_of store.old)) }
 {
     let z = located(nowhere(), converted(ty, c))?;
-    stored(s, n, 1, ty, nowhere(), p, z, store)?;
+    let to = Destination {
+        ty,
+        span: nowhere(),
+        place: p,
+    };
+    stored(s, n, 1, &to, z, store)?;
     released(store, ty, z);
     Ok(())
 }
@@ -183,29 +188,35 @@ fn item_at(all: &[TInit], k: usize) -> Option<&TInit>
     }
 }
 
+/// The items that a structure or an array of a type, where there is one, is filled in with.
+#[derive(Clone, Copy)]
+pub(crate) struct ItemList<'a> {
+    pub(crate) items: &'a [TInit],
+    pub(crate) ty: Option<&'a CType>,
+}
+
 /// On to the item of a number.
 pub(crate) fn items<'a>(
     s: &Setting<'a>,
     n: u32,
-    all: &'a [TInit],
-    ty: Option<&'a CType>,
+    of: &ItemList<'a>,
     k: usize,
     p: Cell,
     stack: &mut Vec<Frame<'a>>,
     store: &mut Store<'a>,
 ) -> Result<Focus<'a>, Stop>
     ensures { Leads (λ x. at x (stack_of stack.new.items) (store_of store.new)) result
-        (items_of (setting_of s.now) n (items_from all.now k) (or_void ty.entry) k p (stack_of stack.old.items) (store_of store.old)) }
+        (items_of (setting_of s.now) n (items_from of.now.items.now k) (or_void of.now.ty) k p (stack_of stack.old.items) (store_of store.old)) }
 {
-    match item_at(all, k) {
+    match item_at(of.items, k) {
         None => {
-            rest(s, n, ty, k, p, store)?;
+            rest(s, n, of.ty, k, p, store)?;
             Ok(Focus::Full)
         }
         Some(i) => {
-            let part = part_of(s, ty, k);
+            let part = part_of(s, of.ty, k);
             let behind = further(p, words_of(s, part));
-            push(stack, Frame::Items(n, all, ty, k + 1, behind))?;
+            push(stack, Frame::Items(n, of.items, of.ty, k + 1, behind))?;
             Ok(Focus::Fill(n, i, part, p))
         }
     }
@@ -234,6 +245,12 @@ pub(crate) fn fill<'a>(
             text(s, n, *number, words_of(s, ty), p, store)?;
             Ok(Focus::Full)
         }
-        TInit::List(all) => items(s, n, all.as_slice(), ty, 0, p, stack, store),
+        TInit::List(all) => {
+            let of = ItemList {
+                items: all.as_slice(),
+                ty,
+            };
+            items(s, n, &of, 0, p, stack, store)
+        }
     }
 }

@@ -2,24 +2,23 @@
 ghost use Rattle.std.specs.Prelude.{◌≡◌, Some, not};
 ghost use Rattle.c_types.specs.View.{ctype, texpr};
 ghost use Rattle.obj_mem.specs.Queries.{truth};
-ghost use Rattle.c_meaning.specs.Kinds.{decayed};
+ghost use Rattle.c_types.specs.Kinds.{decayed};
 ghost use Rattle.c_meaning.specs.Operators.{is_true};
 ghost use Rattle.c_meaning.specs.Setting.{global_at};
 ghost use Rattle.c_evaluate.specs.inner.SettingView.{setting_of};
 ghost use Rattle.c_evaluate.specs.inner.StoreView.{store_of};
 ghost use Rattle.c_evaluate.specs.declared.frame.Came.TheVariants.{Value};
-ghost use Rattle.c_evaluate.specs.inner.Swift.{answered, arrow_at_once, at_once, binary_at_once, cast_at_once, comes, depth_at_once, index_at_once};
+ghost use Rattle.c_evaluate.specs.inner.Swift.{answered, arrow_at_once, at_once, binary_at_once, cast_at_once, comes, index_at_once};
 ghost use Rattle.c_evaluate.specs.inner.Swift.{is_strict, local_at_once, member_at_once, place_at_once, place_of, seen, seen_at, unary_at_once};
 ghost use Rattle.c_evaluate.specs.inner.Swift.{value_at_once, with_some};
 
 use crate::frame::Came;
 use crate::operators::{cell_unary, converted, is_true, operated, read_as, stepped, truth};
-use crate::queries::step;
 use crate::setting::Setting;
-use crate::store::{Store, local_object};
+use crate::store::Store;
 use c_tree::{BinOp, UnOp};
 use c_types::{CType, TExpr, TKind};
-use obj_mem::{Cell, Refusal};
+use obj_mem::{Cell, Refusal, local_object, step};
 
 /// How deep operators may nest in what comes at once.
 const DEPTH: u32 = 6;
@@ -283,10 +282,10 @@ fn cast_at_once<'a>(to: &CType, ty: &CType, v: Came, store: &Store<'a>) -> Optio
     }
 }
 
-/// What comes of an expression whose operators nest to a depth at most; none of others, which take steps.
+/// What comes of an expression without operators; none of others.
 #[tactic(auto, unfolding(crate::specs::inner::Swift::comes))]
-fn comes<'a>(s: &Setting<'a>, depth: u32, x: &TExpr, store: &Store<'a>) -> Option<Came>
-    ensures { result ≡ comes (setting_of s.now) depth (texpr x.now) (store_of store.now) }
+fn leaf_at_once<'a>(s: &Setting<'a>, x: &TExpr, store: &Store<'a>) -> Option<Came>
+    ensures { result ≡ comes (setting_of s.now) 0 (texpr x.now) (store_of store.now) }
 {
     match &x.kind {
         TKind::Number(n) => Some(Came::Value(Cell::Num(*n))),
@@ -294,79 +293,60 @@ fn comes<'a>(s: &Setting<'a>, depth: u32, x: &TExpr, store: &Store<'a>) -> Optio
         TKind::Literal(number) => Some(Came::Place(s.literal_at(*number))),
         TKind::Global(number) => Some(Came::Place(global_at(*number))),
         TKind::Local(number) => local_at_once(local_object(&store.locals, *number as usize)),
-        TKind::Unary(op, a) => {
-            if depth == 0 {
-                return None;
-            }
-            match comes(s, depth - 1, a, store) {
-                None => None,
-                Some(v) => unary_at_once(*op, &a.ty, v, store),
-            }
-        }
+        TKind::Unary(_, _) | TKind::Binary(_, _, _) | TKind::Index(_, _) => None,
+        TKind::Member(_, _) | TKind::Arrow(_, _) | TKind::Cast(_) => None,
+        TKind::Assign(_, _, _) | TKind::Step(_, _) => None,
+        TKind::Call(_, _) | TKind::In(_) | TKind::Out(_, _) => None,
+        TKind::Wait | TKind::Halt | TKind::Card => None,
+    }
+}
+
+/// What comes of an expression whose operators nest to a depth at most; none of others, which take steps.
+#[tactic(auto, unfolding(crate::specs::inner::Swift::comes))]
+fn comes<'a>(s: &Setting<'a>, depth: u32, x: &TExpr, store: &Store<'a>) -> Option<Came>
+    ensures { result ≡ comes (setting_of s.now) depth (texpr x.now) (store_of store.now) }
+{
+    if depth == 0 {
+        return leaf_at_once(s, x, store);
+    }
+    match &x.kind {
+        TKind::Unary(op, a) => match comes(s, depth - 1, a, store) {
+            None => None,
+            Some(v) => unary_at_once(*op, &a.ty, v, store),
+        },
         TKind::Binary(op, a, b) => {
-            if depth == 0 {
-                return None;
-            }
             if !is_strict(*op) {
                 return None;
             }
             match comes(s, depth - 1, a, store) {
                 None => None,
-                Some(v) => binary_with(
-                    s,
-                    *op,
-                    &a.ty,
-                    &b.ty,
-                    v,
-                    comes(s, depth - 1, b, store),
-                    store,
-                ),
+                Some(v) => {
+                    let w = comes(s, depth - 1, b, store);
+                    binary_with(s, *op, &a.ty, &b.ty, v, w, store)
+                }
             }
         }
-        TKind::Index(a, b) => {
-            if depth == 0 {
-                return None;
+        TKind::Index(a, b) => match comes(s, depth - 1, a, store) {
+            None => None,
+            Some(v) => {
+                let w = comes(s, depth - 1, b, store);
+                index_with(s, &x.ty, &a.ty, &b.ty, v, w, store)
             }
-            match comes(s, depth - 1, a, store) {
-                None => None,
-                Some(v) => index_with(
-                    s,
-                    &x.ty,
-                    &a.ty,
-                    &b.ty,
-                    v,
-                    comes(s, depth - 1, b, store),
-                    store,
-                ),
-            }
-        }
-        TKind::Member(a, offset) => {
-            if depth == 0 {
-                return None;
-            }
-            match comes(s, depth - 1, a, store) {
-                None => None,
-                Some(v) => member_at_once(*offset, v),
-            }
-        }
-        TKind::Arrow(a, offset) => {
-            if depth == 0 {
-                return None;
-            }
-            match comes(s, depth - 1, a, store) {
-                None => None,
-                Some(v) => arrow_at_once(&a.ty, *offset, v, store),
-            }
-        }
-        TKind::Cast(a) => {
-            if depth == 0 {
-                return None;
-            }
-            match comes(s, depth - 1, a, store) {
-                None => None,
-                Some(v) => cast_at_once(&x.ty, &a.ty, v, store),
-            }
-        }
+        },
+        TKind::Member(a, offset) => match comes(s, depth - 1, a, store) {
+            None => None,
+            Some(v) => member_at_once(*offset, v),
+        },
+        TKind::Arrow(a, offset) => match comes(s, depth - 1, a, store) {
+            None => None,
+            Some(v) => arrow_at_once(&a.ty, *offset, v, store),
+        },
+        TKind::Cast(a) => match comes(s, depth - 1, a, store) {
+            None => None,
+            Some(v) => cast_at_once(&x.ty, &a.ty, v, store),
+        },
+        TKind::Number(_) | TKind::Null | TKind::Literal(_) | TKind::Global(_) | TKind::Local(_) =>
+            leaf_at_once(s, x, store),
         TKind::Assign(_, _, _) | TKind::Step(_, _) => None,
         TKind::Call(_, _) | TKind::In(_) | TKind::Out(_, _) => None,
         TKind::Wait | TKind::Halt | TKind::Card => None,

@@ -21,7 +21,6 @@ mod machine;
 mod opening;
 mod operands;
 mod operators;
-mod queries;
 mod quick;
 mod runner;
 mod setting;
@@ -29,7 +28,6 @@ mod stack;
 mod statements;
 mod stop;
 mod store;
-mod types;
 mod using;
 
 pub use answer::{Advanced, Ran};

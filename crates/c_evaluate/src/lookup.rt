@@ -1,24 +1,16 @@
 // What is read of a program and of the sizes of its frames.
-ghost use Rattle.std.specs.Prelude.{◌≡◌, map, slice_get, option_map, ◌+◌, leb, length};
-ghost use Rattle.c_types.specs.View.{layout, function, ctype};
+ghost use Rattle.std.specs.Prelude.{◌≡◌, slice_get, option_map, ◌+◌, leb, length};
+ghost use Rattle.c_types.specs.View.{function, ctype};
 ghost use Rattle.obj_mem.specs.Stores.{ram_words, words_here};
 ghost use Rattle.c_meaning.specs.Setting.{words, literal_at, literal_words, card_at, result_of};
 ghost use Rattle.c_meaning.specs.Expressions.{params_of};
-ghost use Rattle.c_meaning.specs.Parts.{part_type, member_type};
-ghost use Rattle.c_evaluate.specs.inner.SettingView.{setting_of, or_void};
+ghost use Rattle.c_types.specs.Parts.{part_type};
+ghost use Rattle.c_evaluate.specs.inner.SettingView.{setting_of};
+ghost use Rattle.c_types.specs.View.{or_void};
 
 use crate::setting::Setting;
-use c_types::{CType, Layout, TFunction, wrapped_size};
+use c_types::{CType, TFunction, part_type, wrapped_size};
 use obj_mem::Cell;
-
-fn member_type(layouts: &[Layout], number: u32, k: usize) -> Option<&CType>
-    ensures { or_void result ≡ member_type (map layout layouts.now) number k }
-{
-    match layouts.get(number as usize) {
-        None => None,
-        Some(l) => l.member_type(k),
-    }
-}
 
 impl<'a> Setting<'a> {
     /// The words of a type.
@@ -32,12 +24,7 @@ impl<'a> Setting<'a> {
     pub(crate) fn part_type(&self, ty: &'a CType, k: usize) -> Option<&'a CType>
         ensures { or_void result ≡ part_type (setting_of self.now).layouts (ctype ty.now) k }
     {
-        match ty {
-            CType::Array(of, _) => Some(of),
-            CType::Struct(number) => member_type(self.checked.layouts(), *number, k),
-            CType::Union(number) => member_type(self.checked.layouts(), *number, k),
-            CType::Void | CType::Int | CType::Bool | CType::Enum(_) | CType::Pointer(_) => None,
-        }
+        part_type(self.checked.layouts(), ty, k)
     }
 
     pub(crate) fn function(&self, f: u32) -> Option<&'a TFunction>

@@ -1,10 +1,10 @@
 // The machine before its first step.
-ghost use Rattle.std.specs.Prelude.{◌≡◌, ◌++◌, ◌∷◌, [], IfOk, OnOk, map, min, sum_by, option_map};
-ghost use Rattle.obj_mem.specs.declared.cell.Cell.TheVariants.{Num, Unwritten};
-ghost use Rattle.obj_mem.specs.Objects.{global_object, literal_object, card_object, opening_objects};
+ghost use Rattle.std.specs.Prelude.{◌≡◌, ◌++◌, ◌∷◌, IfOk, OnOk, map, min, sum_by, option_map};
+ghost use Rattle.obj_mem.specs.declared.cell.Cell.TheVariants.{Unwritten};
+ghost use Rattle.obj_mem.specs.Objects.{global_object, opening_objects};
 ghost use Rattle.obj_mem.specs.Runs.{opening_store};
 ghost use Rattle.obj_mem.specs.Stores as stores;
-ghost use Rattle.obj_mem.specs.inner.View.{objects};
+ghost use Rattle.obj_mem.specs.View.{objects};
 ghost use Rattle.c_types.specs.View.{tstmt, tstmts};
 ghost use Rattle.c_evaluate.specs.inner.FocusView.{at, stack_of};
 ghost use Rattle.c_evaluate.specs.inner.Steps.{rest_of};
@@ -24,7 +24,7 @@ use crate::store::Store;
 use c_check::Program;
 use c_types::TStmt;
 use kit_base::{Memory, Name};
-use obj_mem::{Cell, ObjectKind, Objects};
+use obj_mem::{Cell, Objects, make_card, make_global, make_literals};
 use std::alloc::Global;
 
 /// The words of the globals, where they are fewer than 4,294,967,295.
@@ -44,55 +44,8 @@ fn make_globals(alloc: Global, globals: &[(Name, u32)], os: &mut Objects) -> Res
     ensures { OnOk result (objects os.new ≡ objects os.old ++ map (λ g. global_object g.1) globals.now) }
 {
     'globals: for g in globals {
-        let cells = Vec::from_elem(alloc, Cell::Num(0), g.1 as usize)?;
-        os.make(ObjectKind::Global, cells)?;
+        make_global(alloc, os, g.1)?;
     }
-    Ok(())
-}
-
-/// The cells of a text with its 0.
-fn text_cells(alloc: Global, text: &[u8]) -> Result<Vec<Cell>, Memory>
-    ensures { IfOk result (λ v. v.items ≡ map Num (text.now ++ 0 ∷ [])) }
-{
-    let mut cells = Vec::new(alloc);
-    'bytes: for byte in text {
-        cells.push(Cell::Num(u32::from(*byte)))?;
-    }
-    cells.push(Cell::Num(0))?;
-    Ok(cells)
-}
-
-/// The text literals.
-fn make_literals(alloc: Global, literals: &[Name], os: &mut Objects) -> Result<(), Memory>
-    ensures { OnOk result (objects os.new ≡ objects os.old ++ map literal_object literals.now) }
-{
-    'literals: for text in literals {
-        let cells = text_cells(alloc, text.bytes())?;
-        os.make(ObjectKind::Literal, cells)?;
-    }
-    Ok(())
-}
-
-/// The cells of the words of a card.
-fn word_cells(alloc: Global, words: &[u32]) -> Result<Vec<Cell>, Memory>
-    ensures { IfOk result (λ v. v.items ≡ map Num words.now) }
-{
-    let mut cells = Vec::new(alloc);
-    'words: for word in words {
-        cells.push(Cell::Num(*word))?;
-    }
-    Ok(cells)
-}
-
-/// The card; one without cells, where none is connected.
-fn make_card(alloc: Global, card: Option<&[u32]>, os: &mut Objects) -> Result<(), Memory>
-    ensures { OnOk result (objects os.new ≡ objects os.old ++ card_object (option_map (λ w. w.now) card.entry) ∷ []) }
-{
-    let cells = match card {
-        None => Vec::new(alloc),
-        Some(words) => word_cells(alloc, words)?,
-    };
-    os.make(ObjectKind::Card, cells)?;
     Ok(())
 }
 
@@ -108,8 +61,8 @@ fn opened(
 {
     let mut os = Objects::new(alloc);
     make_globals(alloc, globals, &mut os)?;
-    make_literals(alloc, literals, &mut os)?;
-    make_card(alloc, card, &mut os)?;
+    make_literals(alloc, &mut os, literals)?;
+    make_card(alloc, &mut os, card)?;
     Ok(os)
 }
 

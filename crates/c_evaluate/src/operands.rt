@@ -2,23 +2,22 @@
 ghost use Rattle.std.specs.Prelude.{List};
 ghost use Rattle.c_types.specs.View.{ctype, texpr};
 ghost use Rattle.kit_base.specs.declared.event.Event.TheVariants.{Out};
-ghost use Rattle.obj_mem.specs.Queries.{word_of};
-ghost use Rattle.c_evaluate.specs.declared.frame.Came.TheVariants.{Nothing};
+ghost use Rattle.obj_mem.specs.Queries.{word_of, truth};
+ghost use Rattle.c_evaluate.specs.declared.frame.Came.TheVariants.{Nothing, Value};
 ghost use Rattle.c_evaluate.specs.inner.Machine.{FrameT, Going, MadeF};
-ghost use Rattle.c_evaluate.specs.inner.Storing.{at_span};
+ghost use Rattle.c_evaluate.specs.inner.Storing.{at_span, taken, tested_in};
 ghost use Rattle.c_evaluate.specs.inner.Results.{Leads};
 ghost use Rattle.c_evaluate.specs.inner.FocusView.{at, stack_of};
 ghost use Rattle.c_evaluate.specs.inner.SettingView.{setting_of};
 ghost use Rattle.c_evaluate.specs.inner.StoreView.{store_of};
-ghost use Rattle.c_evaluate.specs.inner.Steps.{on, combined, unary_first, member_first, binary_second, second_of};
+ghost use Rattle.c_evaluate.specs.inner.Steps.{on, came, combined, unary_first, member_first, binary_second, second_of};
 ghost use Rattle.c_evaluate.specs.inner.Swift.{binary_on, first_of_on, second_on};
 
-use crate::assigning::{member, second_assigned, second_operated, stepped_place};
+use crate::assigning::{Lvalue, member, second_assigned, second_operated, stepped_place};
 use crate::cells::located;
 use crate::frame::{Came, Focus, Frame};
 use crate::leaf::{at_once, nodes};
 use crate::operators::{cell_unary, converted, stepped, truth};
-use crate::queries::{further, step, word_of};
 use crate::setting::Setting;
 use crate::stack::push;
 use crate::stop::Stop;
@@ -28,39 +27,54 @@ use c_meaning::End;
 use c_tree::{BinOp, Span, UnOp};
 use c_types::{CType, TExpr, TKind};
 use kit_base::Event;
-use obj_mem::Cell;
+use obj_mem::{Cell, further, step, word_of};
+
+/// An expression of two operands: its operator, the whole expression, and the operands.
+#[derive(Clone, Copy)]
+pub(crate) struct BinaryNode<'a> {
+    pub(crate) op: BinOp,
+    pub(crate) node: &'a TExpr,
+    pub(crate) left: &'a TExpr,
+    pub(crate) right: &'a TExpr,
+}
+
+/// A node of a unary operator: the operator, its operand and the node's tokens.
+#[derive(Clone, Copy)]
+struct UnaryNode<'a> {
+    op: UnOp,
+    operand: &'a TExpr,
+    span: Span,
+}
 
 /// What came of the operand of a unary operator.
 #[inline(always)]
 fn unary<'a>(
     s: &Setting<'a>,
     n: u32,
-    op: UnOp,
-    x: &TExpr,
-    span: Span,
+    of: &UnaryNode<'_>,
     v: Came,
     stack: &Vec<Frame<'a>>,
     store: &mut Store<'a>,
 ) -> Result<Focus<'a>, Stop>
     ensures { Leads (λ f. at f (stack_of stack.now.items) (store_of store.new)) result
-        (unary_first (setting_of s.now) n op (texpr x.now) span v (stack_of stack.now.items) (store_of store.old)) }
+        (unary_first (setting_of s.now) n of.now.op (texpr of.now.operand.now) of.now.span v (stack_of stack.now.items) (store_of store.old)) }
 {
-    match op {
+    match of.op {
         UnOp::Deref => {
-            let p = taken(s, n, x, v, store)?;
+            let p = taken(s, n, of.operand, v, store)?;
             Ok(Focus::Came(Came::Place(p)))
         }
         UnOp::Address => {
-            let p = placed(span, v)?;
+            let p = placed(of.span, v)?;
             Ok(Focus::Came(Came::Value(p)))
         }
         UnOp::Not => {
-            let b = tested(s, n, x, v, store)?;
+            let b = tested(s, n, of.operand, v, store)?;
             Ok(Focus::Came(Came::Value(truth(!b))))
         }
         UnOp::Minus | UnOp::Plus | UnOp::Flip => {
-            let c = taken(s, n, x, v, store)?;
-            let z = located(span, cell_unary(op, c))?;
+            let c = taken(s, n, of.operand, v, store)?;
+            let z = located(of.span, cell_unary(of.op, c))?;
             Ok(Focus::Came(Came::Value(z)))
         }
     }
@@ -132,60 +146,87 @@ fn output<'a>(
     Ok(Focus::Made(Event::Out(port, word), Came::Nothing))
 }
 
-/// What came of the first operand of a binary operator.
+/// The value of the first operand of an operator other than `&&` and `||` came.
 #[inline(always)]
-fn binary<'a>(
+fn strict_first<'a>(
     s: &Setting<'a>,
     n: u32,
-    op: BinOp,
-    e: &'a TExpr,
-    x: &'a TExpr,
-    y: &'a TExpr,
+    of: &BinaryNode<'a>,
     v: Came,
     stack: &mut Vec<Frame<'a>>,
     store: &mut Store<'a>,
 ) -> Result<Focus<'a>, Stop>
     ensures { Leads (λ f. at f (stack_of stack.new.items) (store_of store.new)) result
-        (binary_on (setting_of s.now) n op (texpr e.now) (texpr x.now) (texpr y.now) v (stack_of stack.old.items) (store_of store.old)) }
+        (on (taken (setting_of s.now) n (texpr of.now.left.now) v (store_of store.old))
+        (λ t. second_on (setting_of s.now) n (texpr of.now.node.now) (texpr of.now.right.now) t.0 (stack_of stack.old.items) t.1)) }
 {
-    match op {
+    let c = taken(s, n, of.left, v, store)?;
+    second(s, n, of.node, of.right, c, stack, store)
+}
+
+/// What came of the first operand of a binary operator.
+#[inline(always)]
+fn binary<'a>(
+    s: &Setting<'a>,
+    n: u32,
+    of: &BinaryNode<'a>,
+    v: Came,
+    stack: &mut Vec<Frame<'a>>,
+    store: &mut Store<'a>,
+) -> Result<Focus<'a>, Stop>
+    ensures { Leads (λ f. at f (stack_of stack.new.items) (store_of store.new)) result
+        (binary_on (setting_of s.now) n of.now.op (texpr of.now.node.now) (texpr of.now.left.now) (texpr of.now.right.now) v
+        (stack_of stack.old.items) (store_of store.old)) }
+{
+    match of.op {
         BinOp::AndAlso => {
-            if tested(s, n, x, v, store)? {
-                second(s, n, e, y, Cell::Unwritten, stack, store)
+            if tested(s, n, of.left, v, store)? {
+                second(s, n, of.node, of.right, Cell::Unwritten, stack, store)
             } else {
                 Ok(Focus::Came(Came::Value(truth(false))))
             }
         }
         BinOp::OrElse => {
-            if tested(s, n, x, v, store)? {
+            if tested(s, n, of.left, v, store)? {
                 Ok(Focus::Came(Came::Value(truth(true))))
             } else {
-                second(s, n, e, y, Cell::Unwritten, stack, store)
+                second(s, n, of.node, of.right, Cell::Unwritten, stack, store)
             }
         }
-        BinOp::Mul
-        | BinOp::Div
-        | BinOp::Mod
-        | BinOp::Add
-        | BinOp::Sub
-        | BinOp::Shl
-        | BinOp::Shr
-        | BinOp::Less
-        | BinOp::LessEq => {
-            let c = taken(s, n, x, v, store)?;
-            second(s, n, e, y, c, stack, store)
-        }
-        BinOp::More
-        | BinOp::MoreEq
-        | BinOp::Equal
-        | BinOp::NotEqual
-        | BinOp::BitAnd
-        | BinOp::BitXor
-        | BinOp::BitOr => {
-            let c = taken(s, n, x, v, store)?;
-            second(s, n, e, y, c, stack, store)
-        }
+        BinOp::Mul => strict_first(s, n, of, v, stack, store),
+        BinOp::Div => strict_first(s, n, of, v, stack, store),
+        BinOp::Mod => strict_first(s, n, of, v, stack, store),
+        BinOp::Add => strict_first(s, n, of, v, stack, store),
+        BinOp::Sub => strict_first(s, n, of, v, stack, store),
+        BinOp::Shl => strict_first(s, n, of, v, stack, store),
+        BinOp::Shr => strict_first(s, n, of, v, stack, store),
+        BinOp::Less => strict_first(s, n, of, v, stack, store),
+        BinOp::LessEq => strict_first(s, n, of, v, stack, store),
+        BinOp::More => strict_first(s, n, of, v, stack, store),
+        BinOp::MoreEq => strict_first(s, n, of, v, stack, store),
+        BinOp::Equal => strict_first(s, n, of, v, stack, store),
+        BinOp::NotEqual => strict_first(s, n, of, v, stack, store),
+        BinOp::BitAnd => strict_first(s, n, of, v, stack, store),
+        BinOp::BitXor => strict_first(s, n, of, v, stack, store),
+        BinOp::BitOr => strict_first(s, n, of, v, stack, store),
     }
+}
+
+/// The truth of the second operand of `&&` or `||`, which came.
+#[inline(always)]
+fn truth_second<'a>(
+    s: &Setting<'a>,
+    n: u32,
+    y: &TExpr,
+    v: Came,
+    stack: &Vec<Frame<'a>>,
+    store: &mut Store<'a>,
+) -> Result<Focus<'a>, Stop>
+    ensures { Leads (λ f. at f (stack_of stack.now.items) (store_of store.new)) result
+        (on (tested_in (setting_of s.now) n (texpr y.now) v (store_of store.old)) (λ t. came (Value (truth t.0)) (stack_of stack.now.items) t.1)) }
+{
+    let b = tested(s, n, y, v, store)?;
+    Ok(Focus::Came(Came::Value(truth(b))))
 }
 
 /// The value of an operator other than `&&` and `||`, whose second operand came.
@@ -193,20 +234,18 @@ fn binary<'a>(
 fn combined<'a>(
     s: &Setting<'a>,
     n: u32,
-    op: BinOp,
-    x: &TExpr,
-    y: &TExpr,
-    span: Span,
+    of: &BinaryNode<'_>,
     c: Cell,
     v: Came,
     stack: &Vec<Frame<'a>>,
     store: &mut Store<'a>,
 ) -> Result<Focus<'a>, Stop>
     ensures { Leads (λ f. at f (stack_of stack.now.items) (store_of store.new)) result
-        (combined (setting_of s.now) n op (texpr x.now) (texpr y.now) span c v (stack_of stack.now.items) (store_of store.old)) }
+        (combined (setting_of s.now) n of.now.op (texpr of.now.left.now) (texpr of.now.right.now) of.now.node.now.span c v
+        (stack_of stack.now.items) (store_of store.old)) }
 {
-    let d = taken(s, n, y, v, store)?;
-    let z = second_operated(s, op, x, y, span, c, d, store)?;
+    let d = taken(s, n, of.right, v, store)?;
+    let z = second_operated(s, of, c, d, store)?;
     Ok(Focus::Came(Came::Value(z)))
 }
 
@@ -215,39 +254,35 @@ fn combined<'a>(
 fn binary_second<'a>(
     s: &Setting<'a>,
     n: u32,
-    op: BinOp,
-    x: &TExpr,
-    y: &TExpr,
-    span: Span,
+    of: &BinaryNode<'_>,
     c: Cell,
     v: Came,
     stack: &Vec<Frame<'a>>,
     store: &mut Store<'a>,
 ) -> Result<Focus<'a>, Stop>
     ensures { Leads (λ f. at f (stack_of stack.now.items) (store_of store.new)) result
-        (binary_second (setting_of s.now) n op (texpr x.now) (texpr y.now) span c v (stack_of stack.now.items) (store_of store.old)) }
+        (binary_second (setting_of s.now) n of.now.op (texpr of.now.left.now) (texpr of.now.right.now) of.now.node.now.span c v
+        (stack_of stack.now.items) (store_of store.old)) }
 {
-    match op {
-        BinOp::AndAlso | BinOp::OrElse => {
-            let b = tested(s, n, y, v, store)?;
-            Ok(Focus::Came(Came::Value(truth(b))))
-        }
-        BinOp::Mul => combined(s, n, op, x, y, span, c, v, stack, store),
-        BinOp::Div => combined(s, n, op, x, y, span, c, v, stack, store),
-        BinOp::Mod => combined(s, n, op, x, y, span, c, v, stack, store),
-        BinOp::Add => combined(s, n, op, x, y, span, c, v, stack, store),
-        BinOp::Sub => combined(s, n, op, x, y, span, c, v, stack, store),
-        BinOp::Shl => combined(s, n, op, x, y, span, c, v, stack, store),
-        BinOp::Shr => combined(s, n, op, x, y, span, c, v, stack, store),
-        BinOp::Less => combined(s, n, op, x, y, span, c, v, stack, store),
-        BinOp::LessEq => combined(s, n, op, x, y, span, c, v, stack, store),
-        BinOp::More => combined(s, n, op, x, y, span, c, v, stack, store),
-        BinOp::MoreEq => combined(s, n, op, x, y, span, c, v, stack, store),
-        BinOp::Equal => combined(s, n, op, x, y, span, c, v, stack, store),
-        BinOp::NotEqual => combined(s, n, op, x, y, span, c, v, stack, store),
-        BinOp::BitAnd => combined(s, n, op, x, y, span, c, v, stack, store),
-        BinOp::BitXor => combined(s, n, op, x, y, span, c, v, stack, store),
-        BinOp::BitOr => combined(s, n, op, x, y, span, c, v, stack, store),
+    match of.op {
+        BinOp::AndAlso => truth_second(s, n, of.right, v, stack, store),
+        BinOp::OrElse => truth_second(s, n, of.right, v, stack, store),
+        BinOp::Mul => combined(s, n, of, c, v, stack, store),
+        BinOp::Div => combined(s, n, of, c, v, stack, store),
+        BinOp::Mod => combined(s, n, of, c, v, stack, store),
+        BinOp::Add => combined(s, n, of, c, v, stack, store),
+        BinOp::Sub => combined(s, n, of, c, v, stack, store),
+        BinOp::Shl => combined(s, n, of, c, v, stack, store),
+        BinOp::Shr => combined(s, n, of, c, v, stack, store),
+        BinOp::Less => combined(s, n, of, c, v, stack, store),
+        BinOp::LessEq => combined(s, n, of, c, v, stack, store),
+        BinOp::More => combined(s, n, of, c, v, stack, store),
+        BinOp::MoreEq => combined(s, n, of, c, v, stack, store),
+        BinOp::Equal => combined(s, n, of, c, v, stack, store),
+        BinOp::NotEqual => combined(s, n, of, c, v, stack, store),
+        BinOp::BitAnd => combined(s, n, of, c, v, stack, store),
+        BinOp::BitXor => combined(s, n, of, c, v, stack, store),
+        BinOp::BitOr => combined(s, n, of, c, v, stack, store),
     }
 }
 
@@ -266,8 +301,23 @@ pub(crate) fn first<'a>(
         (first_of_on (setting_of s.now) n (texpr e.now) v (stack_of stack.old.items) (store_of store.old)) }
 {
     match &e.kind {
-        TKind::Unary(op, x) => unary(s, n, *op, x, e.span, v, stack, store),
-        TKind::Binary(op, x, y) => binary(s, n, *op, e, x, y, v, stack, store),
+        TKind::Unary(op, x) => {
+            let of = UnaryNode {
+                op: *op,
+                operand: x,
+                span: e.span,
+            };
+            unary(s, n, &of, v, stack, store)
+        }
+        TKind::Binary(op, x, y) => {
+            let of = BinaryNode {
+                op: *op,
+                node: e,
+                left: x,
+                right: y,
+            };
+            binary(s, n, &of, v, stack, store)
+        }
         TKind::Assign(_, _, y) => {
             let p = placed(e.span, v)?;
             second(s, n, e, y, p, stack, store)
@@ -320,10 +370,23 @@ pub(crate) fn second_came<'a>(
         (second_of (setting_of s.now) n (texpr e.now) c v (stack_of stack.now.items) (store_of store.old)) }
 {
     match &e.kind {
-        TKind::Binary(op, x, y) => binary_second(s, n, *op, x, y, e.span, c, v, stack, store),
+        TKind::Binary(op, x, y) => {
+            let of = BinaryNode {
+                op: *op,
+                node: e,
+                left: x,
+                right: y,
+            };
+            binary_second(s, n, &of, c, v, stack, store)
+        }
         TKind::Assign(op, x, y) => {
             let d = taken(s, n, y, v, store)?;
-            let z = second_assigned(s, n, *op, x, y, e.span, c, d, store)?;
+            let to = Lvalue {
+                tree: x,
+                span: e.span,
+                place: c,
+            };
+            let z = second_assigned(s, n, *op, &to, y, d, store)?;
             Ok(Focus::Came(Came::Value(z)))
         }
         TKind::Index(_, y) => {

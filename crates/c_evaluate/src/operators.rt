@@ -1,21 +1,19 @@
 // What operators make of cells.
 ghost use Rattle.std.specs.Prelude.{◌≡◌, cond, not, Ok};
 ghost use Rattle.obj_mem.specs.Queries.{then_ask, truth, equal_pointers};
-ghost use Rattle.kit_base.specs.Word.{mul, negated, below, bool_word, quotient, remainder};
+ghost use Rattle.kit_base.specs.Word.{mul, below, bool_word, quotient, remainder};
 ghost use Rattle.c_types.specs.View.{ctype};
-ghost use Rattle.obj_mem.specs.inner.View.{objects};
-ghost use Rattle.c_meaning.specs.Kinds.{decayed};
+ghost use Rattle.obj_mem.specs.View.{objects};
+ghost use Rattle.c_types.specs.Kinds.{decayed};
 ghost use Rattle.c_meaning.specs.Operators.{is_of, read_as, converted, is_true, word_unary, unless_zero, word_binary, cell_unary, cell_binary};
 ghost use Rattle.c_meaning.specs.Operators.{stepped, stepped_back, distance, ordered, pointer_operated, operated};
 ghost use Rattle.c_evaluate.specs.inner.SettingView.{setting_of};
 
-use crate::queries::{apart, equal_pointers, offsets, read, step, word_of};
 use crate::setting::Setting;
-use crate::types::{is_pointer, target};
 use c_tree::{BinOp, UnOp};
-use c_types::CType;
+use c_types::{CType, has_pointer_value, led_to};
 use kit_base::{div_word, mod_word, shift_word, signed, wrap_add, wrap_sub};
-use obj_mem::{Cell, Objects, Refusal};
+use obj_mem::{Cell, Objects, Refusal, apart, equal_pointers, offsets, read, step, word_of};
 
 #[inline(always)]
 fn is_of(ty: &CType, c: Cell) -> bool
@@ -81,7 +79,7 @@ pub(crate) fn converted(ty: &CType, c: Cell) -> Result<Cell, Refusal>
 pub(crate) fn is_true(os: &Objects, ty: &CType, c: Cell) -> Result<bool, Refusal>
     ensures { result ≡ is_true (objects os.now) (decayed (ctype ty.now)) c }
 {
-    if is_pointer(ty) {
+    if has_pointer_value(ty) {
         let b = equal_pointers(os, c, Cell::Null)?;
         return Ok(!b);
     }
@@ -264,8 +262,8 @@ pub(crate) fn operated<'a>(
 ) -> Result<Cell, Refusal>
     ensures { result ≡ operated (setting_of s.now) op (ctype ta.now) (ctype tb.now) (objects os.now) c d }
 {
-    match target(ta) {
+    match led_to(ta) {
         None => cell_binary(op, c, d),
-        Some(to) => pointer_operated(op, s.words(to), is_pointer(tb), os, c, d),
+        Some(to) => pointer_operated(op, s.words(to), has_pointer_value(tb), os, c, d),
     }
 }

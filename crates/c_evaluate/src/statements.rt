@@ -8,8 +8,8 @@ ghost use Rattle.c_evaluate.specs.inner.FocusView.{at, stack_of};
 ghost use Rattle.c_evaluate.specs.inner.SettingView.{setting_of};
 ghost use Rattle.c_evaluate.specs.inner.StoreView.{store_of};
 ghost use Rattle.c_evaluate.specs.inner.Storing.{returned_in};
-ghost use Rattle.c_evaluate.specs.inner.Steps.{after_body, after_on, again, do_again, turn_of, step_dropped, step_of, value_looped, value_switched};
-ghost use Rattle.c_evaluate.specs.inner.Steps.{value_returned, value_step, step_step, begin_step};
+ghost use Rattle.c_evaluate.specs.inner.Steps.{after_body, after_on, again, do_again, turn_of, step_of, value_looped, value_switched};
+ghost use Rattle.c_evaluate.specs.inner.Steps.{step_dropped, value_returned, value_step, step_step, begin_step};
 ghost use Rattle.c_evaluate.specs.inner.Swift.{again_on, body_on};
 
 use crate::cells::{cells, located};
@@ -17,16 +17,30 @@ use crate::exec::{arms, ask, asked, part, turn};
 use crate::filling::nowhere;
 use crate::frame::{Came, Focus, Frame, How, Stage};
 use crate::operators::converted;
-use crate::queries::word_of;
 use crate::setting::Setting;
 use crate::stack::{next, push};
 use crate::stop::Stop;
 use crate::store::{Store, fresh_all, released, spend};
-use crate::types::is_structure;
 use crate::using::{dropped, taken, tested};
 use c_meaning::End;
-use c_types::{CType, TArm, TExpr, TStmt};
-use obj_mem::Cell;
+use c_types::{CType, TArm, TExpr, TStmt, is_structure};
+use obj_mem::{Cell, word_of};
+
+/// A statement that is being done: the bound, the place of the structure that its function gives, and its tree.
+#[derive(Clone, Copy)]
+pub(crate) struct Statement<'a> {
+    pub(crate) bound: u32,
+    pub(crate) result: Cell,
+    pub(crate) tree: &'a TStmt,
+}
+
+/// The parts of a switch, which makes the locals `made` anew.
+#[derive(Clone, Copy)]
+struct SwitchParts<'a> {
+    value: &'a TExpr,
+    made: &'a [u32],
+    arms: &'a [TArm],
+}
 
 /// How many arms of a switch stand before the label of a word.
 fn before_case(word: u32, xs: &[TArm]) -> Option<usize>
@@ -193,32 +207,30 @@ fn switches<'a>(
     s: &Setting<'a>,
     n: u32,
     r: Cell,
-    x: &TExpr,
-    made: &'a [u32],
-    xs: &'a [TArm],
+    of: &SwitchParts<'a>,
     v: Came,
     stack: &mut Vec<Frame<'a>>,
     store: &mut Store<'a>,
 ) -> Result<Focus<'a>, Stop>
     ensures { Leads (λ f. at f (stack_of stack.new.items) (store_of store.new)) result
-        (value_switched (setting_of s.now) n r (texpr x.now) made.now (tarms (map tarm xs.now)) v (stack_of stack.old.items) (store_of store.old)) }
+        (value_switched (setting_of s.now) n r (texpr of.now.value.now) of.now.made.now (tarms (map tarm of.now.arms.now)) v
+        (stack_of stack.old.items) (store_of store.old)) }
 {
+    let x = of.value;
     let c = taken(s, n, x, v, store)?;
     let word = located(x.span, word_of(c))?;
-    spend(store, labels(xs));
-    fresh_all(s, store, made)?;
-    push(stack, Frame::End(made))?;
+    spend(store, labels(of.arms));
+    fresh_all(s, store, of.made)?;
+    push(stack, Frame::End(of.made))?;
     push(stack, Frame::Switch)?;
-    arms(n, r, before(word, xs), xs, stack)
+    arms(n, r, before(word, of.arms), of.arms, stack)
 }
 
 /// A condition came: the body of the loop, or on.
 #[inline(always)]
 fn loops<'a>(
     s: &Setting<'a>,
-    n: u32,
-    r: Cell,
-    a: &'a TStmt,
+    of: &Statement<'a>,
     x: &TExpr,
     body: &'a TStmt,
     v: Came,
@@ -226,10 +238,11 @@ fn loops<'a>(
     store: &mut Store<'a>,
 ) -> Result<Focus<'a>, Stop>
     ensures { Leads (λ f. at f (stack_of stack.new.items) (store_of store.new)) result
-        (value_looped (setting_of s.now) n r (tstmt a.now) (texpr x.now) (tstmt body.now) v (stack_of stack.old.items) (store_of store.old)) }
+        (value_looped (setting_of s.now) of.now.bound of.now.result (tstmt of.now.tree.now) (texpr x.now) (tstmt body.now) v
+        (stack_of stack.old.items) (store_of store.old)) }
 {
-    if tested(s, n, x, v, store)? {
-        part(Stage::Body, n, r, a, body, stack)
+    if tested(s, of.bound, x, v, store)? {
+        part(Stage::Body, of.bound, of.result, of.tree, body, stack)
     } else {
         Ok(Focus::Left(How::On))
     }
@@ -240,57 +253,52 @@ fn loops<'a>(
 #[tactic(auto, unfolding(crate::specs::inner::Steps::value_step))]
 pub(crate) fn value_came<'a>(
     s: &Setting<'a>,
-    n: u32,
-    r: Cell,
-    a: &'a TStmt,
+    of: &Statement<'a>,
     v: Came,
     stack: &mut Vec<Frame<'a>>,
     store: &mut Store<'a>,
 ) -> Result<Focus<'a>, Stop>
     ensures { Leads (λ f. at f (stack_of stack.new.items) (store_of store.new)) result
-        (value_step (setting_of s.now) n r (tstmt a.now) v (stack_of stack.old.items) (store_of store.old)) }
+        (value_step (setting_of s.now) of.now.bound of.now.result (tstmt of.now.tree.now) v (stack_of stack.old.items) (store_of store.old)) }
 {
-    match a {
+    match of.tree {
         TStmt::Do(x) => {
-            dropped(s, n, x, v, store)?;
+            dropped(s, of.bound, x, v, store)?;
             Ok(Focus::Left(How::On))
         }
         TStmt::If(x, b, None) => {
-            if tested(s, n, x, v, store)? {
-                Ok(Focus::Do(n, r, b))
+            if tested(s, of.bound, x, v, store)? {
+                Ok(Focus::Do(of.bound, of.result, b))
             } else {
                 Ok(Focus::Left(How::On))
             }
         }
         TStmt::If(x, b, Some(other)) => {
-            if tested(s, n, x, v, store)? {
-                Ok(Focus::Do(n, r, b))
+            if tested(s, of.bound, x, v, store)? {
+                Ok(Focus::Do(of.bound, of.result, b))
             } else {
-                Ok(Focus::Do(n, r, other))
+                Ok(Focus::Do(of.bound, of.result, other))
             }
         }
-        TStmt::While(x, body) => loops(s, n, r, a, x, body, v, stack, store),
+        TStmt::While(x, body) => loops(s, of, x, body, v, stack, store),
         TStmt::DoWhile(body, x) => {
-            if tested(s, n, x, v, store)? {
-                do_again(n, r, a, body, stack)
+            if tested(s, of.bound, x, v, store)? {
+                do_again(of.bound, of.result, of.tree, body, stack)
             } else {
                 Ok(Focus::Left(How::On))
             }
         }
-        TStmt::For(_, None, Some(x), _, body) => loops(s, n, r, a, x, body, v, stack, store),
-        TStmt::For(_, Some(_), Some(x), _, body) => loops(s, n, r, a, x, body, v, stack, store),
-        TStmt::Switch(x, made, xs) => switches(
-            s,
-            n,
-            r,
-            x,
-            made.as_slice(),
-            xs.as_slice(),
-            v,
-            stack,
-            store,
-        ),
-        TStmt::Return(Some(x)) => returns(s, n, r, x, v, stack, store),
+        TStmt::For(_, None, Some(x), _, body) => loops(s, of, x, body, v, stack, store),
+        TStmt::For(_, Some(_), Some(x), _, body) => loops(s, of, x, body, v, stack, store),
+        TStmt::Switch(x, made, xs) => {
+            let parts = SwitchParts {
+                value: x,
+                made: made.as_slice(),
+                arms: xs.as_slice(),
+            };
+            switches(s, of.bound, of.result, &parts, v, stack, store)
+        }
+        TStmt::Return(Some(x)) => returns(s, of.bound, of.result, x, v, stack, store),
         TStmt::For(_, None, None, _, _) | TStmt::For(_, Some(_), None, _, _) => Err(Stop::Ends(
             End::Stray(nowhere()),
         )),
@@ -301,66 +309,58 @@ pub(crate) fn value_came<'a>(
     }
 }
 
+/// The test of a `for`, if any, and its body.
+#[derive(Clone, Copy)]
+struct Turn<'a> {
+    test: Option<&'a TExpr>,
+    body: &'a TStmt,
+}
+
 /// A step is dropped, and the next turn begins.
 fn stepped<'a>(
     s: &Setting<'a>,
-    n: u32,
-    r: Cell,
-    a: &'a TStmt,
-    test: Option<&'a TExpr>,
+    of: &Statement<'a>,
+    turn: &Turn<'a>,
     y: &TExpr,
-    body: &'a TStmt,
     v: Came,
     stack: &mut Vec<Frame<'a>>,
     store: &mut Store<'a>,
 ) -> Result<Focus<'a>, Stop>
     ensures { Leads (λ f. at f (stack_of stack.new.items) (store_of store.new)) result
-        (step_dropped (setting_of s.now) n r (tstmt a.now) (option_map (λ x. texpr x.now) test.entry) (texpr y.now) (tstmt body.now) v
-        (stack_of stack.old.items) (store_of store.old)) }
+        (step_dropped (setting_of s.now) of.now.bound of.now.result (tstmt of.now.tree.now) (option_map (λ x. texpr x.now) turn.now.test)
+        (texpr y.now) (tstmt turn.now.body.now) v (stack_of stack.old.items) (store_of store.old)) }
 {
-    dropped(s, n, y, v, store)?;
-    again(n, r, a, test, body, stack)
+    dropped(s, of.bound, y, v, store)?;
+    again(of.bound, of.result, of.tree, turn.test, turn.body, stack)
 }
 
 /// The step of a `for` came.
 #[tactic(auto, unfolding(crate::specs::inner::Steps::step_step))]
 pub(crate) fn step_came<'a>(
     s: &Setting<'a>,
-    n: u32,
-    r: Cell,
-    a: &'a TStmt,
+    of: &Statement<'a>,
     v: Came,
     stack: &mut Vec<Frame<'a>>,
     store: &mut Store<'a>,
 ) -> Result<Focus<'a>, Stop>
     ensures { Leads (λ f. at f (stack_of stack.new.items) (store_of store.new)) result
-        (step_step (setting_of s.now) n r (tstmt a.now) v (stack_of stack.old.items) (store_of store.old)) }
+        (step_step (setting_of s.now) of.now.bound of.now.result (tstmt of.now.tree.now) v (stack_of stack.old.items) (store_of store.old)) }
 {
-    match a {
-        TStmt::For(_, None, test, Some(y), body) => stepped(
-            s,
-            n,
-            r,
-            a,
-            test.as_ref(),
-            y,
-            body,
-            v,
-            stack,
-            store,
-        ),
-        TStmt::For(_, Some(_), test, Some(y), body) => stepped(
-            s,
-            n,
-            r,
-            a,
-            test.as_ref(),
-            y,
-            body,
-            v,
-            stack,
-            store,
-        ),
+    match of.tree {
+        TStmt::For(_, None, test, Some(y), body) => {
+            let turn = Turn {
+                test: test.as_ref(),
+                body,
+            };
+            stepped(s, of, &turn, y, v, stack, store)
+        }
+        TStmt::For(_, Some(_), test, Some(y), body) => {
+            let turn = Turn {
+                test: test.as_ref(),
+                body,
+            };
+            stepped(s, of, &turn, y, v, stack, store)
+        }
         TStmt::For(_, None, _, None, _) | TStmt::For(_, Some(_), _, None, _) => Err(Stop::Ends(
             End::Stray(nowhere()),
         )),
@@ -376,9 +376,7 @@ pub(crate) fn step_came<'a>(
 
 /// The body of a `for` was left.
 fn for_left<'a>(
-    n: u32,
-    r: Cell,
-    a: &'a TStmt,
+    of: &Statement<'a>,
     test: Option<&'a TExpr>,
     y: Option<&'a TExpr>,
     body: &'a TStmt,
@@ -388,12 +386,12 @@ fn for_left<'a>(
 ) -> Result<Focus<'a>, Stop>
     ensures { Leads (λ f. at f (stack_of stack.new.items) (store_of store.now)) result
         (after_body h (stack_of stack.old.items) (store_of store.now)
-        (step_of n r (tstmt a.now) (option_map (λ x. texpr x.now) test.entry) (option_map (λ x. texpr x.now) y.entry) (tstmt body.now)
-        (stack_of stack.old.items) (store_of store.now))) }
+        (step_of of.now.bound of.now.result (tstmt of.now.tree.now) (option_map (λ x. texpr x.now) test.entry)
+        (option_map (λ x. texpr x.now) y.entry) (tstmt body.now) (stack_of stack.old.items) (store_of store.now))) }
 {
     match h {
-        How::On => step(n, r, a, test, y, body, stack),
-        How::Continue => step(n, r, a, test, y, body, stack),
+        How::On => step(of.bound, of.result, of.tree, test, y, body, stack),
+        How::Continue => step(of.bound, of.result, of.tree, test, y, body, stack),
         How::Break => Ok(Focus::Left(How::On)),
         How::Return(c) => Ok(Focus::Left(How::Return(c))),
     }
@@ -401,9 +399,7 @@ fn for_left<'a>(
 
 /// The first part of a `for` was left.
 fn for_begun<'a>(
-    n: u32,
-    r: Cell,
-    a: &'a TStmt,
+    of: &Statement<'a>,
     test: Option<&'a TExpr>,
     body: &'a TStmt,
     h: How,
@@ -412,10 +408,11 @@ fn for_begun<'a>(
 ) -> Result<Focus<'a>, Stop>
     ensures { Leads (λ f. at f (stack_of stack.new.items) (store_of store.now)) result
         (after_on h (stack_of stack.old.items) (store_of store.now)
-        (turn_of n r (tstmt a.now) (option_map (λ x. texpr x.now) test.entry) (tstmt body.now) (stack_of stack.old.items) (store_of store.now))) }
+        (turn_of of.now.bound of.now.result (tstmt of.now.tree.now) (option_map (λ x. texpr x.now) test.entry) (tstmt body.now)
+        (stack_of stack.old.items) (store_of store.now))) }
 {
     match h {
-        How::On => turn(n, r, a, test, body, stack),
+        How::On => turn(of.bound, of.result, of.tree, test, body, stack),
         How::Break | How::Continue | How::Return(_) => Ok(Focus::Left(h)),
     }
 }
@@ -445,51 +442,33 @@ fn while_again<'a>(
 #[tactic(auto, unfolding(crate::specs::inner::Swift::body_on, crate::specs::inner::Steps::body_step))]
 pub(crate) fn body_left<'a>(
     s: &Setting<'a>,
-    n: u32,
-    r: Cell,
-    a: &'a TStmt,
+    of: &Statement<'a>,
     h: How,
     stack: &mut Vec<Frame<'a>>,
     store: &mut Store<'a>,
 ) -> Result<Focus<'a>, Stop>
     ensures { Leads (λ f. at f (stack_of stack.new.items) (store_of store.new)) result
-        (body_on (setting_of s.now) n r (tstmt a.now) h (stack_of stack.old.items) (store_of store.old)) }
+        (body_on (setting_of s.now) of.now.bound of.now.result (tstmt of.now.tree.now) h (stack_of stack.old.items) (store_of store.old)) }
 {
-    match a {
+    match of.tree {
         TStmt::While(x, _) => match h {
-            How::On => while_again(s, n, r, a, x, stack, store),
-            How::Continue => while_again(s, n, r, a, x, stack, store),
+            How::On => while_again(s, of.bound, of.result, of.tree, x, stack, store),
+            How::Continue => while_again(s, of.bound, of.result, of.tree, x, stack, store),
             How::Break => Ok(Focus::Left(How::On)),
             How::Return(c) => Ok(Focus::Left(How::Return(c))),
         },
         TStmt::DoWhile(_, x) => match h {
-            How::On => ask(n, r, a, x, stack),
-            How::Continue => ask(n, r, a, x, stack),
+            How::On => ask(of.bound, of.result, of.tree, x, stack),
+            How::Continue => ask(of.bound, of.result, of.tree, x, stack),
             How::Break => Ok(Focus::Left(How::On)),
             How::Return(c) => Ok(Focus::Left(How::Return(c))),
         },
-        TStmt::For(_, None, test, y, body) => for_left(
-            n,
-            r,
-            a,
-            test.as_ref(),
-            y.as_ref(),
-            body,
-            h,
-            stack,
-            store,
-        ),
-        TStmt::For(_, Some(_), test, y, body) => for_left(
-            n,
-            r,
-            a,
-            test.as_ref(),
-            y.as_ref(),
-            body,
-            h,
-            stack,
-            store,
-        ),
+        TStmt::For(_, None, test, y, body) => {
+            for_left(of, test.as_ref(), y.as_ref(), body, h, stack, store)
+        }
+        TStmt::For(_, Some(_), test, y, body) => {
+            for_left(of, test.as_ref(), y.as_ref(), body, h, stack, store)
+        }
         TStmt::Block(_, _) | TStmt::Empty | TStmt::Vars(_) | TStmt::Do(_) | TStmt::If(_, _, None) =>
             Ok(Focus::Left(h)),
         TStmt::If(_, _, Some(_)) | TStmt::Switch(_, _, _) | TStmt::Return(_) => Ok(Focus::Left(h)),
@@ -500,31 +479,18 @@ pub(crate) fn body_left<'a>(
 /// The first part of a `for` was left.
 #[tactic(auto, unfolding(crate::specs::inner::Steps::begin_step))]
 pub(crate) fn begin_left<'a>(
-    n: u32,
-    r: Cell,
-    a: &'a TStmt,
+    of: &Statement<'a>,
     h: How,
     stack: &mut Vec<Frame<'a>>,
     store: &Store<'a>,
 ) -> Result<Focus<'a>, Stop>
     ensures { Leads (λ f. at f (stack_of stack.new.items) (store_of store.now)) result
-        (begin_step n r (tstmt a.now) h (stack_of stack.old.items) (store_of store.now)) }
+        (begin_step of.now.bound of.now.result (tstmt of.now.tree.now) h (stack_of stack.old.items) (store_of store.now)) }
 {
-    match a {
-        TStmt::For(_, None, test, _, body) => for_begun(
-            n,
-            r,
-            a,
-            test.as_ref(),
-            body,
-            h,
-            stack,
-            store,
-        ),
+    match of.tree {
+        TStmt::For(_, None, test, _, body) => for_begun(of, test.as_ref(), body, h, stack, store),
         TStmt::For(_, Some(_), test, _, body) => for_begun(
-            n,
-            r,
-            a,
+            of,
             test.as_ref(),
             body,
             h,

@@ -1,12 +1,10 @@
 // What a run has made so far.
-ghost use Rattle.std.specs.Prelude.{◌≡◌, IfOk, OnOk, ◌<◌, ◌+◌, ◌^◌, slice_get, set, Some, replicate, [], length};
-ghost use Rattle.std.specs.Option.{option_flatten};
+ghost use Rattle.std.specs.Prelude.{◌≡◌, IfOk, OnOk, ◌<◌, ◌+◌, ◌^◌, Some, [], length};
 ghost use Rattle.c_types.specs.View.{ctype};
 ghost use Rattle.obj_mem.specs.declared.cell.ObjectKind.TheVariants.{Local};
-ghost use Rattle.obj_mem.specs.Objects.{made, unwritten, end_object};
-ghost use Rattle.obj_mem.specs.Stores.{local_object, end_local, fresh, fresh_all, end_all, with_temporary, next_object, entered, with_objects};
-ghost use Rattle.obj_mem.specs.Queries.{first_cell};
-ghost use Rattle.obj_mem.specs.inner.View.{objects};
+ghost use Rattle.obj_mem.specs.Objects.{made, end_object};
+ghost use Rattle.obj_mem.specs.Stores.{end_local, fresh, fresh_all, end_all, with_temporary, next_object, entered, with_objects};
+ghost use Rattle.obj_mem.specs.View.{objects};
 ghost use Rattle.c_meaning.specs.Cells.{end_temporary, released};
 ghost use Rattle.c_evaluate.specs.inner.Machine.{caller_of, back_in};
 ghost use Rattle.c_evaluate.specs.inner.SettingView.{setting_of};
@@ -16,10 +14,9 @@ ghost use Rattle.c_evaluate.specs.inner.Swift.{passed};
 use crate::frame::Caller;
 use crate::setting::Setting;
 use crate::stack::next;
-use crate::types::is_structure;
-use c_types::CType;
+use c_types::{CType, is_structure};
 use kit_base::Memory;
-use obj_mem::{Cell, ObjectKind, Objects, Refusal};
+use obj_mem::{Cell, ObjectKind, Objects, end_local, fresh_local, make_unwritten};
 use std::alloc::Global;
 
 /// The objects, the answers left, the function that is called, the objects of its locals, and the words of the frames in use; and a vector that
@@ -43,42 +40,6 @@ pub(crate) fn spend<'a>(store: &mut Store<'a>, units: u64)
     store.work = store.work.saturating_add(units);
 }
 
-/// The object of a local, where it was made.
-#[inline(always)]
-pub(crate) fn local_object(locals: &[Option<u64>], k: usize) -> Option<u64>
-    ensures { result ≡ local_object locals.now k }
-{
-    match locals.get(k) {
-        None => None,
-        Some(at) => *at,
-    }
-}
-
-fn end_local(os: &mut Objects, at: Option<u64>)
-    ensures { objects os.new ≡ end_local at (objects os.old) }
-{
-    if let Some(o) = at {
-        os.end(o);
-    }
-}
-
-fn set_local(locals: &mut Vec<Option<u64>>, k: u32, o: u64)
-    ensures { locals.new.items ≡ set locals.old.items k (Some o) }
-{
-    if (k as usize) < locals.len() {
-        locals[k as usize] = Some(o);
-    }
-}
-
-/// Makes an object of `words` unwritten cells.
-fn make(alloc: Global, os: &mut Objects, words: u32) -> Result<(), Memory>
-    ensures { OnOk result (objects os.new ≡ made (objects os.old) Local (unwritten words)) }
-{
-    let cells = Vec::from_elem(alloc, Cell::Unwritten, words as usize)?;
-    os.make(ObjectKind::Local, cells)?;
-    Ok(())
-}
-
 /// Makes an object that is no local.
 pub(crate) fn temporary<'a>(
     s: &Setting<'a>,
@@ -88,8 +49,7 @@ pub(crate) fn temporary<'a>(
     ensures made { OnOk result (store_of store.new ≡ with_temporary size (store_of store.old)) }
     ensures place { IfOk result (λ p. p ≡ next_object (store_of store.old)) }
 {
-    let object = store.objects.count();
-    make(s.alloc, &mut store.objects, size)?;
+    let object = make_unwritten(s.alloc, &mut store.objects, size)?;
     Ok(Cell::Ptr { object, offset: 0 })
 }
 
@@ -98,12 +58,13 @@ fn fresh<'a>(s: &Setting<'a>, store: &mut Store<'a>, k: u32) -> Result<(), Memor
     ensures { OnOk result (store_of store.new ≡ fresh (setting_of s.now).sizes k (store_of store.old)) }
 {
     let words = s.local_words(store.function, k);
-    let object = store.objects.count();
-    let at = local_object(&store.locals, k as usize);
-    end_local(&mut store.objects, at);
-    make(s.alloc, &mut store.objects, words)?;
-    set_local(&mut store.locals, k, object);
-    Ok(())
+    fresh_local(
+        s.alloc,
+        &mut store.objects,
+        &mut store.locals,
+        k as usize,
+        words,
+    )
 }
 
 /// Makes locals anew, in order.
@@ -120,24 +81,12 @@ pub(crate) fn fresh_all<'a>(
     Ok(())
 }
 
-/// A pointer to a local, where it was made.
-#[inline(always)]
-pub(crate) fn local_cell(locals: &[Option<u64>], k: usize) -> Result<Cell, Refusal>
-    ensures { result ≡ first_cell (local_object locals.now k) }
-{
-    match local_object(locals, k) {
-        None => Err(Refusal::Strays),
-        Some(object) => Ok(Cell::Ptr { object, offset: 0 }),
-    }
-}
-
 /// Ends locals.
 pub(crate) fn end_all<'a>(store: &mut Store<'a>, ks: &[u32])
     ensures { store_of store.new ≡ end_all ks.now (store_of store.old) }
 {
     'locals: for k in ks {
-        let at = local_object(&store.locals, *k as usize);
-        end_local(&mut store.objects, at);
+        end_local(&mut store.objects, &store.locals, *k as usize);
     }
 }
 

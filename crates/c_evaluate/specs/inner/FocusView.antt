@@ -11,7 +11,7 @@ use Rattle.c_evaluate.specs.declared.frame.Stage.{Stage}
 use Rattle.c_evaluate.specs.declared.frame.Stage.TheVariants as y
 use Rattle.c_evaluate.specs.declared.frame.Frame.{Frame}
 use Rattle.c_evaluate.specs.declared.frame.Frame.TheVariants as f
-use Rattle.c_evaluate.specs.inner.SettingView.{or_void}
+use Rattle.c_types.specs.View.{or_void}
 use Rattle.c_evaluate.specs.inner.StoreView.{caller}
 use Rattle.c_evaluate.specs.inner.Machine.{EvalF, FillF, DoF, CameF, MadeF, LeftF, FullF, FrameT, FirstW, SecondW, ArgumentW, BackW, ValueW, StepW}
 use Rattle.c_evaluate.specs.inner.Machine.{BodyW, BeginW, RestW, ArmsW, EndW, SwitchW, OneW, ItemsW, VarsW, FilledW, MainW, Config, Going, Over}

@@ -20,7 +20,7 @@ use Rattle.c_meaning.specs.declared.end.End.{End}
 use Rattle.c_meaning.specs.declared.end.End.TheVariants.{Halted, Starved, Stray, Deep, OutOfBound}
 use Rattle.c_meaning.specs.Outcomes.{nowhere}
 use Rattle.c_meaning.specs.Kinds.{span_of}
-use Rattle.c_meaning.specs.Parts.{part_type}
+use Rattle.c_types.specs.Parts.{part_type}
 use Rattle.c_meaning.specs.Setting.{Setting, words, global_at, literal_at, card_at, result_of}
 use Rattle.c_meaning.specs.Operators.{converted, cell_unary, stepped}
 use Rattle.c_meaning.specs.Cells.{end_temporary}

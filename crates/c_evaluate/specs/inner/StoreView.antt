@@ -1,5 +1,5 @@
 -- The store that one in memory stands for, and what a call keeps of its caller.
-use Rattle.obj_mem.specs.inner.View.{objects}
+use Rattle.obj_mem.specs.View.{objects}
 use Rattle.obj_mem.specs.Stores as stores
 use Rattle.c_evaluate.specs.declared.store.Store.{Store}
 use Rattle.c_evaluate.specs.declared.frame.Caller.{Caller}

@@ -13,7 +13,8 @@ use Rattle.obj_mem.specs.Queries.{Answer, write, further, first_cell}
 use Rattle.c_meaning.specs.declared.end.End.{End}
 use Rattle.c_meaning.specs.declared.end.End.TheVariants.{Fault, Stray, OutOfBound}
 use Rattle.c_meaning.specs.Outcomes.{nowhere}
-use Rattle.c_meaning.specs.Kinds.{type_of, span_of, is_structure, decayed}
+use Rattle.c_meaning.specs.Kinds.{type_of, span_of}
+use Rattle.c_types.specs.Kinds.{is_structure, decayed}
 use Rattle.c_meaning.specs.Setting.{Setting, words, literal_at, literal_words}
 use Rattle.c_meaning.specs.Operators.{read_as, converted, is_true, operated}
 use Rattle.c_meaning.specs.Cells.{cell_set, end_temporary, released}

@@ -21,7 +21,8 @@ use Rattle.kit_base.specs.Word.{bool_word}
 use Rattle.obj_mem.specs.Queries.{Answer, truth, step as pointer_step}
 use Rattle.c_meaning.specs.declared.end.End.{End}
 use Rattle.c_meaning.specs.declared.end.End.TheVariants.{OutOfBound}
-use Rattle.c_meaning.specs.Kinds.{type_of, span_of, decayed}
+use Rattle.c_meaning.specs.Kinds.{type_of, span_of}
+use Rattle.c_types.specs.Kinds.{decayed}
 use Rattle.c_meaning.specs.Operators.{read_as, converted, is_true, word_unary, word_binary, cell_unary, stepped, operated}
 use Rattle.c_meaning.specs.Setting.{Setting, words, global_at, literal_at}
 use Rattle.c_meaning.specs.Cells.{released}

@@ -10,4 +10,4 @@ abbrev pub decreases-arguments : goal.decreases-arguments
 decreases-arguments l = length l.left
 
 abbrev pub invariant-arguments : goal.invariant-arguments
-invariant-arguments l = args_on (setting_of l.s) l.n l.f l.span l.given.items (texprs (map texpr l.left)) (stack_of l.stack.items) (store_of l.store) ≡ args_on (setting_of l.s) l.n l.f l.span l.fn.values.items (texprs (map texpr l.xs)) (stack_of l.fn.stack.items) (store_of l.fn.store)
+invariant-arguments l = args_on (setting_of l.s) l.of.bound l.of.function l.of.span l.given.items (texprs (map texpr l.left)) (stack_of l.stack.items) (store_of l.store) ≡ args_on (setting_of l.s) l.of.bound l.of.function l.of.span l.fn.values.items (texprs (map texpr l.xs)) (stack_of l.fn.stack.items) (store_of l.fn.store)

@@ -1,6 +1,6 @@
 use Rattle.std.proofs.Common.{◌≡◌, ◌++◌, map, drop}
 use Rattle.obj_mem.specs.Objects.{global_object}
-use Rattle.obj_mem.specs.inner.View.{objects}
+use Rattle.obj_mem.specs.View.{objects}
 use Rattle.c_evaluate.proofs.opening.make_globals.Given as goal
 
 abbrev pub invariant-globals : goal.invariant-globals

@@ -1,5 +1,5 @@
 use Rattle.std.proofs.Common.{option_map}
-use Rattle.obj_mem.specs.inner.View.{objects}
+use Rattle.obj_mem.specs.View.{objects}
 use Rattle.c_evaluate.proofs.Opened.{all_opened}
 use Rattle.c_evaluate.proofs.opening.opened.Goals as goal
 

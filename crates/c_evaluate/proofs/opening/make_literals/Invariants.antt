@@ -1,7 +1,0 @@
-use Rattle.std.proofs.Common.{◌≡◌, ◌++◌, map, drop}
-use Rattle.obj_mem.specs.Objects.{literal_object}
-use Rattle.obj_mem.specs.inner.View.{objects}
-use Rattle.c_evaluate.proofs.opening.make_literals.Given as goal
-
-abbrev pub invariant-literals : goal.invariant-literals
-invariant-literals l = objects l.os ++ map literal_object (drop l.text-index l.literals) ≡ objects l.fn.os ++ map literal_object l.literals

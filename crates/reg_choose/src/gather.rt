@@ -10,12 +10,12 @@ ghost use Rattle.reg_choose.specs.inner.Sparse.{sparse, follows};
 ghost use Rattle.reg_choose.specs.inner.Seen.{seen};
 ghost use Rattle.mid_live.specs.Heads.{ListTold};
 
-use crate::spans::{more_from, walk_nodes};
+use crate::spans::{Sets, Setting, more_from, walk_nodes};
 use crate::stands::stand_all;
 use crate::trail::Trail;
 use kit_base::Memory;
 use mid_code::{Function, Node};
-use mid_live::{Head, Kept, Live, heads_in, outside};
+use mid_live::{Kept, Live, heads_in, outside};
 use std::alloc::Global;
 
 fn one_more(count: u64) -> Result<u64, Memory>
@@ -77,38 +77,26 @@ fn begin(alloc: Global, trails: &mut [Trail], live: &Kept, ns: &[Node<u32>]) -> 
 
 /// What a function's nodes add to the trails, with what is live before them.
 fn walk_body(
-    alloc: Global,
+    by: &Setting<'_>,
     ns: &[Node<u32>],
-    s: &mut Live,
+    sets: &mut Sets,
     trails: &mut [Trail],
-    crossed: &mut Live,
-    heads: &[Head],
 ) -> Result<(), Memory>
-    requires told { ListTold (length s.old) heads.now 0 (listed (map node ns.now)) }
-    requires sizes { length trails.old ≤ room s.old }
-    requires crossed_sizes { length trails.old ≤ room crossed.old }
-    requires nothing { (y : ℕ) → on s.old y ≡ false }
+    requires told { ListTold (length sets.old.live) by.now.heads.now 0 (listed (map node ns.now)) }
+    requires sizes { length trails.old ≤ room sets.old.live }
+    requires crossed_sizes { length trails.old ≤ room sets.old.crossed }
+    requires nothing { (y : ℕ) → on sets.old.live y ≡ false }
     ensures trails_len { OnOk result (length trails.new ≡ length trails.old) }
-    ensures crossed_len { OnOk result (length crossed.new ≡ length crossed.old) }
-    ensures is { OnOk result ((y : ℕ) → y < length trails.old → seen trails.new crossed.new y
+    ensures crossed_len { OnOk result (length sets.new.crossed ≡ length sets.old.crossed) }
+    ensures is { OnOk result ((y : ℕ) → y < length trails.old → seen trails.new sets.new.crossed y
         ≡ stood (is_live y [] (nodes ns.now) false && follows (nodes ns.now)) 1
-        (sparse y [] (nodes ns.now) false false 1 (seen trails.old crossed.old y))) }
+        (sparse y [] (nodes ns.now) false false 1 (seen trails.old sets.old.crossed y))) }
 {
     let end = behind_nodes(ns, 1)?;
     let mut next = 0;
-    walk_nodes(
-        alloc,
-        ns,
-        &outside(),
-        s,
-        trails,
-        crossed,
-        end,
-        heads,
-        &mut next,
-    )?;
-    let live = s.kept(alloc)?;
-    begin(alloc, trails, &live, ns)?;
+    walk_nodes(by, ns, &outside(), sets, trails, end, &mut next)?;
+    let live = sets.live.kept(by.alloc)?;
+    begin(by.alloc, trails, &live, ns)?;
     Ok(())
 }
 
@@ -142,18 +130,16 @@ fn walk_function(alloc: Global, f: &Function<u32>, trails: &mut [Trail]) -> Resu
 {
     let count = trails.len();
     let mut live = Live::none(alloc, count + 1)?;
-    let mut crossed = Live::none(alloc, trails.len())?;
+    let crossed = Live::none(alloc, trails.len())?;
     let heads = heads_in(alloc, f.body.as_slice(), &mut live, count)?;
-    walk_body(
+    let by = Setting {
         alloc,
-        f.body.as_slice(),
-        &mut live,
-        trails,
-        &mut crossed,
-        heads.as_slice(),
-    )?;
+        heads: heads.as_slice(),
+    };
+    let mut sets = Sets { live, crossed };
+    walk_body(&by, f.body.as_slice(), &mut sets, trails)?;
     stand_all(trails, f.params.as_slice(), 0);
-    tell_crossing(trails, &crossed);
+    tell_crossing(trails, &sets.crossed);
     Ok(())
 }
 

@@ -8,7 +8,7 @@ ghost use Rattle.mid_live.specs.Sets.{on, room};
 ghost use Rattle.reg_choose.specs.inner.Checked.{ApartIn};
 ghost use Rattle.reg_choose.specs.inner.Holding.{IsPlan, Stands};
 
-use crate::checks::try_nodes;
+use crate::checks::{Check, try_nodes};
 use crate::hold::lay_all;
 use crate::plan::plan;
 use kit_base::Memory;
@@ -80,15 +80,18 @@ pub fn is_safe(alloc: Global, f: &Function<u32>, c: &Choice) -> Result<bool, Mem
     let heads = heads_in(alloc, f.body.as_slice(), &mut behind, at.len())?;
     let mut next = 0;
     let mut held = no_holders(alloc, at, &behind)?;
+    let check = Check {
+        at,
+        numbers: numbers.as_slice(),
+        heads: heads.as_slice(),
+    };
     let safe = try_nodes(
         alloc,
+        &check,
         f.body.as_slice(),
-        at,
-        numbers.as_slice(),
         &outside(),
         &mut behind,
         held.as_mut_slice(),
-        heads.as_slice(),
         &mut next,
     )?;
     Ok(safe)

@@ -18,7 +18,7 @@ returns-clause-is c = λ y h.
     let first : n ≡ 1 = (let p = w.place in omega (arith, p, end)) in
     let l = c.requires.sizes in
     let m = w.trails_len in
-    let cs = c.walk_nodes.new.crossed in
+    let cs = c.walk_nodes.new.sets.crossed in
     let v = on c.in_ok-live.live y in
-    let live : c.in_ok-live.live ≡ c.walk_nodes.new.s = search rules in
-    body_seen y (labels_of y c.outside.result) b (on c.args.s.now y) v (follows b) n (seen c.args.trails.now c.args.crossed.now y) (seen c.walk_nodes.new.trails cs y) (seen c.begin.new.trails cs y) (c.outside.ensures y) (c.requires.nothing y) first (ap (λ z. on z y) live ∙ w.live y (omega (arith, h, l))) (w.trails y h) (seen_stood c.walk_nodes.new.trails c.begin.new.trails cs y (v && follows b) 1 (c.in_ok-begin.ensures.is y (omega (arith, h, m))))
+    let live : c.in_ok-live.live ≡ c.walk_nodes.new.sets.live = search rules in
+    body_seen y (labels_of y c.outside.result) b (on c.args.sets.now.live y) v (follows b) n (seen c.args.trails.now c.args.sets.now.crossed y) (seen c.walk_nodes.new.trails cs y) (seen c.begin.new.trails cs y) (c.outside.ensures y) (c.requires.nothing y) first (ap (λ z. on z y) live ∙ w.live y (omega (arith, h, l))) (w.trails y h) (seen_stood c.walk_nodes.new.trails c.begin.new.trails cs y (v && follows b) 1 (c.in_ok-begin.ensures.is y (omega (arith, h, m))))

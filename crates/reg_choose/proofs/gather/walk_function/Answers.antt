@@ -9,10 +9,10 @@ use Rattle.reg_choose.proofs.gather.walk_function.Goals as goal
 pub returns-clause-is : goal.returns-clause-is
 returns-clause-is c = λ y h.
     let f = function c.args.f.now in
-    let b = nodes c.as_slice-2.result.now in
+    let b = nodes c.as_slice-3.result.now in
     let body : b ≡ f.body = search rules in
     let params : c.as_slice-4.result.now ≡ f.params = search rules in
-    let cs = c.walk_body.new.crossed in
+    let cs = c.walk_body.new.sets.crossed in
     let start : seen c.args.trails.now c.in_ok-crossed.crossed y ≡ no_trail = ap (λ z. crossing z (trail_at c.args.trails.now y)) (c.in_ok-crossed.ensures.is y) ∙ ap (crossing false) (c.requires.empty y) in
     let m = c.in_ok-walk_body.ensures.trails_len in
     let l = c.stand_all.ensures.len in

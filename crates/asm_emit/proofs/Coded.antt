@@ -26,7 +26,7 @@ use Rattle.asm_laws.specs.declared.behind.Behind.TheVariants.{Other, End, Turn}
 use Rattle.asm_laws.specs.inner.Emitted.{labels, jump, jump_unless, mark, first_part, second_part, choice, alone, left_to, ends, jump_when, is_stop, enclosed, returning, items_past, code_items, call_item, own_items, exit_items, inside, is_end, is_turn, again, rotated, looped, is_tested, part_items, test_items, enclosing}
 use Rattle.asm_emit.specs.EmittedFrom.{IsCode}
 use Rattle.asm_laws.specs.declared.copying.Copying.{Copying}
-use Rattle.asm_laws.specs.Copies.{copy_at, copy_or}
+use Rattle.asm_laws.specs.Copies.{copy_at, copy_or, items_from}
 use Rattle.asm_laws.proofs.InOne.{TakesWord, one_or_more_is, group_is}
 
 abbrev AreCode : List AsmItem → Type 0
@@ -162,9 +162,13 @@ module _ (W : Whole) (F : Frame) where
   group_code : (o : OpT Where) (c : NodesT Where) → AreCode (group_items W F o c)
   group_code o c = group_is W F AreCode o c (one_or_more_code o c) (λ k e. puts_code (Do o c) k)
 
+  copy_code : (f : Option ℕ) (y : Copying) → AreCode (items_from f y)
+  copy_code None y = (tt, (tt, (tt, (tt, (tt, (tt, tt))))))
+  copy_code (Some f) y = (tt, (tt, (tt, (tt, (tt, (tt, (tt, (tt, tt))))))))
+
   copied_code : (y : Option Copying) (xs : List AsmItem) → AreCode xs → AreCode (copy_or y xs)
   copied_code None xs h = h
-  copied_code (Some y) xs h = (tt, (tt, (tt, (tt, (tt, (tt, (tt, (tt, tt))))))))
+  copied_code (Some y) xs h = copy_code y.from y
 
   call_code : (t : Option Where) (g : ℕ) (args : List Where) → AreCode (call_items W F t g args)
   call_code t g args =

@@ -167,5 +167,5 @@ module _ (W : Whole) where
       ∙ ap (λ z. a ++ z) (sym (led_puts o xs k))
 
 -- a block move and what comes behind it
-pub both_parts : (xs : List AsmItem) (y : Copying) → (xs ++ move_items y) ++ back_items y ≡ xs ++ copy_items y
-both_parts xs y = append_assoc xs (move_items y) (back_items y)
+pub both_parts : (xs : List AsmItem) (y : Copying) → (xs ++ move_items y.from y) ++ back_items y.from y ≡ xs ++ copy_items y
+both_parts xs y = append_assoc xs (move_items y.from y) (back_items y.from y)

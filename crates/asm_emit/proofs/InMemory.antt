@@ -1,5 +1,5 @@
 -- The items of nodes in memory are those of the plain nodes.
-use Rattle.std.proofs.Common.{◌≡◌, ℕ, zero, suc, ◌+◌, ◌-◌, List, [], ◌∷◌, ◌++◌, refl, sym, ap, ◌∙◌, arith, Bool, true, false, cond, Option, Some, None, append_assoc}
+use Rattle.std.proofs.Common.{◌≡◌, ℕ, zero, suc, ◌+◌, ◌-◌, List, [], ◌∷◌, ◌++◌, refl, sym, ap, ◌∙◌, arith, inl, inr, Bool, true, false, cond, Option, Some, None, append_assoc}
 use Rattle.std.specs.Prelude.{◌==◌, ◌&&◌}
 use Rattle.std.proofs.lemmas.Bool.Decides.{nat_tests}
 use Rattle.kit_base.specs.Word.{add}
@@ -17,7 +17,7 @@ use Rattle.asm_laws.specs.declared.behind.Behind.TheVariants.{Other, End, Turn}
 use Rattle.asm_laws.specs.inner.Emitted.{labels, enclosing, jump, alone, left_to, ends, is_stop, choice, enclosed, returning, items_past, code_items, inside, is_end, again, looped, is_round, is_tested, part_items, test_items, jump_when}
 use Rattle.asm_laws.specs.declared.copying.Copying.{Copying}
 use Rattle.asm_laws.specs.Copies.{ends_here, lead, copy_at, copy_or}
-use Rattle.asm_laws.proofs.Leads.{turn_of, copy_is}
+use Rattle.asm_laws.proofs.Leads.{copy_turn, fill_turn, copy_is}
 use Rattle.asm_emit.specs.inner.Listed.{left_in, node_labels, list_labels, is_none, do_items, ahead_items, ahead_more, front_items, front_more, onward, node_items, list_past, list_items, is_call, round_in, tested_in, part_labels, own_test, list_test, list_part, led_ahead, led_behind, copied_own}
 
 -- an operation before nodes is a node of its own, or a call
@@ -362,9 +362,11 @@ left_labels ls _ l e = absurd cc
 pub copied_labels : (done : ℕ) (xs : ListT Where) (y : Copying) → copy_at done (joined xs) ≡ Some y → list_labels xs ≡ 2
 copied_labels zero xs y e = absurd cc
 copied_labels (suc done) xs y e =
-    let q : labels (joined xs) ≡ labels (turn_of y) = ap labels (copy_is (joined xs) y e).0 in
     let r = list_counts xs in
-    omega (arith, q, r)
+    elim (copy_is (joined xs) y e) [
+      | inl q ↦ let l : labels (joined xs) ≡ labels (copy_turn q.registers) = ap labels q.nodes in omega (arith, l, r)
+      | inr q ↦ let l : labels (joined xs) ≡ labels (fill_turn q.registers) = ap labels q.nodes in omega (arith, l, r)
+    ]
 
 pub loop_labels : (done : ℕ) (x : NodeT Where) (b : ListT Where) (y : Copying) → x ≡ LoopN b → copy_at done (joined b) ≡ Some y → node_labels x ≡ 4
 loop_labels done x b y e f = ap node_labels e ∙ (let r = copied_labels done b y f in omega (arith, r))

@@ -31,7 +31,7 @@ use Rattle.asm_laws.specs.declared.behind.Behind.{Behind}
 use Rattle.asm_laws.specs.declared.behind.Behind.TheVariants.{Other, End, Turn}
 use Rattle.asm_laws.specs.inner.Emitted.{labels, enclosing, jump, jump_unless, mark, first_part, second_part, choice, alone, left_to, ends, jump_when, is_stop, enclosed, returning, items_past, code_items, exit_items, function_items, functions_items, closing_items, start_items, program_items, inside, is_end, is_turn, again, rotated, looped, is_tested, part_items, test_items}
 use Rattle.asm_laws.specs.declared.copying.Copying.{Copying}
-use Rattle.asm_laws.specs.Copies.{copy_at, copy_or}
+use Rattle.asm_laws.specs.Copies.{copy_at, copy_or, items_from}
 use Rattle.asm_laws.proofs.InOne.{TakesWord, one_or_more_is, group_is}
 use Rattle.asm_emit.specs.inner.Words.{AreWords, TextsAreWords}
 use Rattle.asm_emit.proofs.ReadableLabels.{jump_named, literal_named, function_named}
@@ -234,16 +234,26 @@ module _ (x : CodeT Where) (W : Whole) (words : list_all is_word W.names ≡ tru
     group_fine : (o : OpT Where) (c : NodesT Where) (bs : List Bool) → AreNodes x m bs (Do o c) → AllFine (group_items W F o c)
     group_fine o c bs ok = group_is W F AllFine o c (one_or_more_fine o c ok.0) (λ k e. puts_fine (Do o c) k bs ok)
 
-    copied_fine : (y : Option Copying) (xs : List AsmItem) → AllFine xs → AllFine (copy_or y xs)
-    copied_fine None xs h = h
-    copied_fine (Some y) xs h =
+    copy_fine : (f : Option ℕ) (y : Copying) → AllFine (items_from f y)
+    copy_fine None y =
         let to = in_registers y.to in
-        let from = in_registers y.from in
+        let count = in_registers y.count in
+        let cell = in_registers y.cell in (
+          (omega arith, (to, tt)),
+          ((omega arith, (cell, tt)), ((omega arith, (count, tt)), (tt, ((to, ((omega arith, omega arith), tt)), ((count, (omega arith, tt)), tt))))),
+        )
+    copy_fine (Some f) y =
+        let to = in_registers y.to in
+        let from = in_registers f in
         let count = in_registers y.count in
         let cell = in_registers y.cell in (
           (omega arith, (to, tt)),
           ((omega arith, (from, tt)), ((omega arith, (count, tt)), (tt, ((from, ((omega arith, omega arith), tt)), ((to, ((omega arith, omega arith), tt)), ((count, (omega arith, tt)), ((cell, (to, tt)), tt))))))),
         )
+
+    copied_fine : (y : Option Copying) (xs : List AsmItem) → AllFine xs → AllFine (copy_or y xs)
+    copied_fine None xs h = h
+    copied_fine (Some y) xs h = copy_fine y.from y
 
     call_fine : (t : Option Where) (g : ℕ) (args : List Where) → AllFine (call_items W F t g args)
     call_fine t g args = join (args_items F (W.frames g) (W.params g) args) _ (args_fine F (W.frames g) (W.params g) args) ((function_named W.names g words, tt), some_fine F t)

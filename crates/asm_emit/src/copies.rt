@@ -1,9 +1,10 @@
-// Loops that copy words.
-ghost use Rattle.std.specs.Prelude.{◌≡◌, ◌++◌, OnOk, cond};
+// Loops that copy words or fill them.
+ghost use Rattle.std.specs.Prelude.{◌≡◌, ◌++◌, ◌∷◌, [], OnOk, cond};
 ghost use Rattle.mid_code.specs.Functions.{op_before, nodes};
-ghost use Rattle.asm_laws.specs.Copies.{steps_by, ends_here, turns_here, steps_to, steps_both, goes_round, differ, is_copy};
+ghost use Rattle.asm_laws.specs.Copies.{steps_by, ends_here, turns_here, steps_to, steps_both, steps_on, goes_round};
+ghost use Rattle.asm_laws.specs.Copies.{four_differ, other_differs, differ, is_copy};
 ghost use Rattle.asm_laws.specs.Copies.{copy_counted, copy_stored, copy_of, copy_after, puts_ahead, last_put, is_count, is_one, leads, lead};
-ghost use Rattle.asm_laws.specs.Copies.{copy_at, move_items, back_items, copy_items};
+ghost use Rattle.asm_laws.specs.Copies.{copy_at, block_items, last_item, move_items, back_items, copy_items};
 
 use crate::hands::{op, register};
 use crate::nodes::is_none;
@@ -56,17 +57,27 @@ fn steps_to(y: Copying, xs: &[Node<Where>]) -> bool
 }
 
 /// Whether both addresses go one word on, and the next turn begins.
-fn steps_both(y: Copying, xs: &[Node<Where>]) -> bool
-    ensures { result ≡ steps_both y (nodes xs.now) }
+fn steps_both(from: u32, y: Copying, xs: &[Node<Where>]) -> bool
+    ensures { result ≡ steps_both from y (nodes xs.now) }
 {
     let Some((x, rest)) = xs.split_first() else {
         return false;
     };
     match x {
         Node::Do(Op::Step(Where::Reg(t), Where::Reg(p), Where::Reg(n))) => {
-            steps_by(y.from, y.one, *t, *p, *n) && steps_to(y, rest)
+            steps_by(from, y.one, *t, *p, *n) && steps_to(y, rest)
         }
         _ => false,
+    }
+}
+
+/// Whether the addresses do.
+fn steps_on(y: Copying, xs: &[Node<Where>]) -> bool
+    ensures { result ≡ steps_on y.from y (nodes xs.now) }
+{
+    match y.from {
+        None => steps_to(y, xs),
+        Some(from) => steps_both(from, y, xs),
     }
 }
 
@@ -79,24 +90,36 @@ fn goes_round(y: Copying, xs: &[Node<Where>]) -> bool
     };
     match x {
         Node::Choose(Where::Reg(w), a, b) => {
-            *w == y.count
-                && steps_both(y, a.as_slice())
-                && ends_here(b.as_slice())
-                && ends_here(rest)
+            *w == y.count && steps_on(y, a.as_slice()) && ends_here(b.as_slice()) && ends_here(rest)
         }
         _ => false,
     }
 }
 
-/// Whether the five registers differ from one another and from register 8.
-fn differ(y: Copying) -> bool
-    ensures { result ≡ differ y }
+/// Whether four registers differ from one another and from register 8.
+fn four_differ(y: Copying) -> bool
+    ensures { result ≡ four_differ y }
 {
-    (y.from != y.to && y.from != y.cell && y.from != y.count && y.from != y.one && y.from != 8)
-        && (y.to != y.cell && y.to != y.count && y.to != y.one && y.to != 8)
+    (y.to != y.cell && y.to != y.count && y.to != y.one && y.to != 8)
         && (y.cell != y.count && y.cell != y.one && y.cell != 8)
         && (y.count != y.one && y.count != 8)
         && y.one != 8
+}
+
+/// Whether the register of the address that is read, where there is one, differs from them and from register 8.
+fn other_differs(y: Copying) -> bool
+    ensures { result ≡ other_differs y.from y }
+{
+    match y.from {
+        None => true,
+        Some(f) => f != y.to && f != y.cell && f != y.count && f != y.one && f != 8,
+    }
+}
+
+fn differ(y: Copying) -> bool
+    ensures { result ≡ differ y }
+{
+    other_differs(y) && four_differ(y)
 }
 
 fn is_copy(y: Copying, x: u32, rest: &[Node<Where>]) -> bool
@@ -105,7 +128,7 @@ fn is_copy(y: Copying, x: u32, rest: &[Node<Where>]) -> bool
     x == y.count && goes_round(y, rest) && differ(y)
 }
 
-fn copy_counted(from: u32, to: u32, cell: u32, xs: &[Node<Where>]) -> Option<Copying>
+fn copy_counted(from: Option<u32>, to: u32, cell: u32, xs: &[Node<Where>]) -> Option<Copying>
     ensures { result ≡ copy_counted from to cell (nodes xs.now) }
 {
     let (x, rest) = xs.split_first()?;
@@ -131,7 +154,7 @@ fn copy_stored(from: u32, cell: u32, xs: &[Node<Where>]) -> Option<Copying>
     match x {
         Node::Do(Op::Store(Where::Reg(to), Where::Reg(a))) => {
             if *a == cell {
-                copy_counted(from, *to, cell, rest)
+                copy_counted(Some(from), *to, cell, rest)
             } else {
                 None
             }
@@ -140,7 +163,7 @@ fn copy_stored(from: u32, cell: u32, xs: &[Node<Where>]) -> Option<Copying>
     }
 }
 
-/// The registers of a turn of a loop that copies words.
+/// The registers of a turn of a loop that copies words or fills them.
 #[tactic(auto, unfolding(asm_laws::specs::Copies::copy_of))]
 fn copy_of(xs: &[Node<Where>]) -> Option<Copying>
     ensures { result ≡ copy_of (nodes xs.now) }
@@ -148,6 +171,9 @@ fn copy_of(xs: &[Node<Where>]) -> Option<Copying>
     let (x, rest) = xs.split_first()?;
     match x {
         Node::Do(Op::Load(Where::Reg(cell), Where::Reg(from))) => copy_stored(*from, *cell, rest),
+        Node::Do(Op::Store(Where::Reg(to), Where::Reg(cell))) => {
+            copy_counted(None, *to, *cell, rest)
+        }
         _ => None,
     }
 }
@@ -269,37 +295,55 @@ pub(crate) fn copy_at(done: u32, b: &[Node<Where>]) -> Option<Copying>
     if done == 0 { None } else { copy_of(b) }
 }
 
-/// Adds a block move.
-fn put_move(out: &mut Vec<AsmItem>, y: Copying) -> Result<(), Memory>
-    ensures { OnOk result (out.new.items ≡ out.old.items ++ move_items y) }
+/// Adds the block move or fill, where a register has what goes into SR.
+fn put_block(out: &mut Vec<AsmItem>, y: Copying, source: u32, block: Plain) -> Result<(), Memory>
+    ensures { OnOk result (out.new.items ≡ out.old.items ++ block_items source block y) }
 {
     op(out, Instr::Mov(Mov::RegReg(Reg::at(13), register(y.to))))?;
-    op(out, Instr::Mov(Mov::RegReg(Reg::at(12), register(y.from))))?;
+    op(out, Instr::Mov(Mov::RegReg(Reg::at(12), register(source))))?;
     op(out, Instr::Mov(Mov::RegReg(Reg::at(11), register(y.count))))?;
-    op(out, Instr::Plain(Plain::MOVS))
+    op(out, Instr::Plain(block))
+}
+
+/// Adds the block move, or the block fill where no word is read.
+fn put_move(out: &mut Vec<AsmItem>, y: Copying) -> Result<(), Memory>
+    ensures { OnOk result (out.new.items ≡ out.old.items ++ move_items y.from y) }
+{
+    match y.from {
+        None => put_block(out, y, y.cell, Plain::SETS),
+        Some(from) => put_block(out, y, from, Plain::MOVS),
+    }
+}
+
+/// Adds what puts into a register the address of the last word that was read or written, which one of the emitter's registers has gone past.
+fn put_last(out: &mut Vec<AsmItem>, address: u32, past: Reg) -> Result<(), Memory>
+    ensures { OnOk result (out.new.items ≡ out.old.items ++ last_item address past ∷ []) }
+{
+    op(
+        out,
+        Instr::Lea(register(address), past, Some(Either::Left(0xFFFF_FFFF))),
+    )
 }
 
 /// Adds what puts into registers what the loop leaves in them.
 fn put_back(out: &mut Vec<AsmItem>, y: Copying) -> Result<(), Memory>
-    ensures { OnOk result (out.new.items ≡ out.old.items ++ back_items y) }
+    ensures { OnOk result (out.new.items ≡ out.old.items ++ back_items y.from y) }
 {
-    op(
-        out,
-        Instr::Lea(
-            register(y.from),
-            Reg::at(12),
-            Some(Either::Left(0xFFFF_FFFF)),
-        ),
-    )?;
-    op(
-        out,
-        Instr::Lea(register(y.to), Reg::at(13), Some(Either::Left(0xFFFF_FFFF))),
-    )?;
-    op(out, Instr::Mov(Mov::RegReg(register(y.count), Reg::at(11))))?;
-    op(
-        out,
-        Instr::Mov(Mov::RegAtReg(register(y.cell), register(y.to))),
-    )
+    match y.from {
+        None => {
+            put_last(out, y.to, Reg::at(13))?;
+            op(out, Instr::Mov(Mov::RegReg(register(y.count), Reg::at(11))))
+        }
+        Some(from) => {
+            put_last(out, from, Reg::at(12))?;
+            put_last(out, y.to, Reg::at(13))?;
+            op(out, Instr::Mov(Mov::RegReg(register(y.count), Reg::at(11))))?;
+            op(
+                out,
+                Instr::Mov(Mov::RegAtReg(register(y.cell), register(y.to))),
+            )
+        }
+    }
 }
 
 /// Adds both.

@@ -25,6 +25,15 @@ use mid_code::{Node, Where};
 use std::alloc::Global;
 use v32_isa::{Branch, Go, Instr, Reg, Src};
 
+/// A function whose nodes are added: the program around it, its frame, and the number of the label at its end.
+#[derive(Drop)]
+struct Within<'a> {
+    alloc: Global,
+    around: Around<'a>,
+    scope: Scope<'a>,
+    end: u32,
+}
+
 /// Adds a jump to a label.
 pub(crate) fn put_jump(alloc: Global, out: &mut Vec<AsmItem>, n: u32) -> Result<(), Memory>
     ensures { OnOk result (out.new.items ≡ out.old.items ++ jump n ∷ []) }
@@ -198,11 +207,8 @@ fn open(ls: &mut Vec<u32>, n: u32) -> Result<(), Memory>
 /// Adds the test and the first part of a choice, whose label behind it is the number given back.
 #[cycle(items)]
 fn put_first(
-    alloc: Global,
     out: &mut Vec<AsmItem>,
-    w: &Around<'_>,
-    s: &Scope<'_>,
-    end: u32,
+    w: &Within<'_>,
     ls: &mut Vec<u32>,
     n: u32,
     p: Where,
@@ -210,27 +216,24 @@ fn put_first(
 ) -> Result<u32, Memory>
     requires fits { n + 1 + list_labels (listed (map node a.now)) < 2 ^ 32 - 1 }
     ensures items { OnOk result (out.new.items ≡ out.old.items
-        ++ first_part (frame s.now) p n (n + 1 + list_labels (listed (map node a.now)))
-        (list_past (whole w.now) (frame s.now) end Other ls.old.items (n + 1) (listed (map node a.now)) 0)) }
+        ++ first_part (frame w.now.scope) p n (n + 1 + list_labels (listed (map node a.now)))
+        (list_past (whole w.now.around) (frame w.now.scope) w.now.end Other ls.old.items (n + 1) (listed (map node a.now)) 0)) }
     ensures labels { OnOk result (ls.new.items ≡ ls.old.items) }
     ensures next { IfOk result (λ m. m ≡ n + 1 + list_labels (listed (map node a.now))) }
 {
-    brings(out, s, p, 9)?;
-    put_jump_unless(alloc, out, hand(p, 9), n)?;
-    let m = put_nodes(alloc, out, w, s, end, Behind::Other, ls, n + 1, a)?;
-    put_jump(alloc, out, m)?;
-    put_mark(alloc, out, n)?;
+    brings(out, &w.scope, p, 9)?;
+    put_jump_unless(w.alloc, out, hand(p, 9), n)?;
+    let m = put_nodes(out, w, Behind::Other, ls, n + 1, a)?;
+    put_jump(w.alloc, out, m)?;
+    put_mark(w.alloc, out, n)?;
     Ok(m)
 }
 
 /// Adds the second part of a choice.
 #[cycle(items)]
 fn put_second(
-    alloc: Global,
     out: &mut Vec<AsmItem>,
-    w: &Around<'_>,
-    s: &Scope<'_>,
-    end: u32,
+    w: &Within<'_>,
     last: Behind,
     ls: &mut Vec<u32>,
     m: u32,
@@ -238,23 +241,20 @@ fn put_second(
 ) -> Result<u32, Memory>
     requires fits { m + 1 + list_labels (listed (map node b.now)) < 2 ^ 32 - 1 }
     ensures items { OnOk result (out.new.items ≡ out.old.items
-        ++ second_part m (list_past (whole w.now) (frame s.now) end last ls.old.items (m + 1) (listed (map node b.now)) 0)) }
+        ++ second_part m (list_past (whole w.now.around) (frame w.now.scope) w.now.end last ls.old.items (m + 1) (listed (map node b.now)) 0)) }
     ensures labels { OnOk result (ls.new.items ≡ ls.old.items) }
     ensures next { IfOk result (λ k. k ≡ m + 1 + list_labels (listed (map node b.now))) }
 {
-    let next = put_nodes(alloc, out, w, s, end, last, ls, m + 1, b)?;
-    put_mark(alloc, out, m)?;
+    let next = put_nodes(out, w, last, ls, m + 1, b)?;
+    put_mark(w.alloc, out, m)?;
     Ok(next)
 }
 
 /// Adds a choice that has nothing in its second part; the number of the next label.
 #[cycle(items)]
 fn put_one_way(
-    alloc: Global,
     out: &mut Vec<AsmItem>,
-    w: &Around<'_>,
-    s: &Scope<'_>,
-    end: u32,
+    w: &Within<'_>,
     last: Behind,
     ls: &mut Vec<u32>,
     n: u32,
@@ -263,14 +263,15 @@ fn put_one_way(
 ) -> Result<u32, Memory>
     requires fits { n + 2 + list_labels (listed (map node a.now)) < 2 ^ 32 - 1 }
     ensures items { OnOk result (out.new.items ≡ out.old.items
-        ++ one_way (frame s.now) p n (list_past (whole w.now) (frame s.now) end last ls.old.items (n + 1) (listed (map node a.now)) 0)) }
+        ++ one_way (frame w.now.scope) p n
+        (list_past (whole w.now.around) (frame w.now.scope) w.now.end last ls.old.items (n + 1) (listed (map node a.now)) 0)) }
     ensures labels { OnOk result (ls.new.items ≡ ls.old.items) }
     ensures next { IfOk result (λ m. m ≡ n + 2 + list_labels (listed (map node a.now))) }
 {
-    brings(out, s, p, 9)?;
-    put_jump_unless(alloc, out, hand(p, 9), n)?;
-    let next = put_nodes(alloc, out, w, s, end, last, ls, n + 1, a)?;
-    put_mark(alloc, out, n)?;
+    brings(out, &w.scope, p, 9)?;
+    put_jump_unless(w.alloc, out, hand(p, 9), n)?;
+    let next = put_nodes(out, w, last, ls, n + 1, a)?;
+    put_mark(w.alloc, out, n)?;
     Ok(next + 1)
 }
 
@@ -294,11 +295,8 @@ fn put_left(
 #[cycle(items)]
 #[tactic(auto, using(crate::proofs::InMemory::left_labels))]
 fn put_alone(
-    alloc: Global,
     out: &mut Vec<AsmItem>,
-    w: &Around<'_>,
-    s: &Scope<'_>,
-    end: u32,
+    w: &Within<'_>,
     last: Behind,
     ls: &mut Vec<u32>,
     n: u32,
@@ -307,28 +305,25 @@ fn put_alone(
 ) -> Result<u32, Memory>
     requires fits { n + 2 + list_labels (listed (map node a.now)) < 2 ^ 32 - 1 }
     ensures items { OnOk result (out.new.items ≡ out.old.items
-        ++ alone (frame s.now) p n (left_in ls.old.items (listed (map node a.now)))
-        (list_past (whole w.now) (frame s.now) end last ls.old.items (n + 1) (listed (map node a.now)) 0)) }
+        ++ alone (frame w.now.scope) p n (left_in ls.old.items (listed (map node a.now)))
+        (list_past (whole w.now.around) (frame w.now.scope) w.now.end last ls.old.items (n + 1) (listed (map node a.now)) 0)) }
     ensures labels { OnOk result (ls.new.items ≡ ls.old.items) }
     ensures next { IfOk result (λ m. m ≡ n + 2 + list_labels (listed (map node a.now))) }
 {
     match left_in(ls, a) {
         Some(l) => {
-            put_left(alloc, out, s, n, p, l)?;
+            put_left(w.alloc, out, &w.scope, n, p, l)?;
             Ok(n + 2)
         }
-        None => put_one_way(alloc, out, w, s, end, last, ls, n, p, a),
+        None => put_one_way(out, w, last, ls, n, p, a),
     }
 }
 
 /// Adds a block, or a loop that begins with its nodes in their order.
 #[cycle(items)]
 fn put_enclosed(
-    alloc: Global,
     out: &mut Vec<AsmItem>,
-    w: &Around<'_>,
-    s: &Scope<'_>,
-    end: u32,
+    w: &Within<'_>,
     last: Behind,
     ls: &mut Vec<u32>,
     n: u32,
@@ -336,34 +331,32 @@ fn put_enclosed(
 ) -> Result<u32, Memory>
     requires fits { n + node_labels (BlockN (listed (map node b.now))) < 2 ^ 32 - 1 }
     ensures items { OnOk result (out.new.items ≡ out.old.items
-        ++ node_items (whole w.now) (frame s.now) end last ls.old.items n (BlockN (listed (map node b.now)))) }
+        ++ node_items (whole w.now.around) (frame w.now.scope) w.now.end last ls.old.items n (BlockN (listed (map node b.now)))) }
     ensures labels { OnOk result (ls.new.items ≡ ls.old.items) }
     ensures next { IfOk result (λ m. m ≡ n + node_labels (BlockN (listed (map node b.now)))) }
 {
-    put_mark(alloc, out, n)?;
+    put_mark(w.alloc, out, n)?;
     open(ls, n)?;
-    let next = put_nodes(alloc, out, w, s, end, inside(last), ls, n + 2, b)?;
+    let next = put_nodes(out, w, inside(last), ls, n + 2, b)?;
     ls.pop();
-    put_mark(alloc, out, n + 1)?;
+    put_mark(w.alloc, out, n + 1)?;
     Ok(next)
 }
 
 /// Adds the own items of a node of a list that is operations and a test, which goes to a label.
 fn put_own_test(
-    alloc: Global,
     out: &mut Vec<AsmItem>,
-    w: &Around<'_>,
-    s: &Scope<'_>,
+    w: &Within<'_>,
     to: u32,
     x: &Node<Where>,
 ) -> Result<(), Memory>
-    ensures { OnOk result (out.new.items ≡ out.old.items ++ own_test (whole w.now) (frame s.now) to (node x.now)) }
+    ensures { OnOk result (out.new.items ≡ out.old.items ++ own_test (whole w.now.around) (frame w.now.scope) to (node x.now)) }
 {
     match x {
-        Node::Do(o) => put_op(alloc, out, w, s, o),
+        Node::Do(o) => put_op(w.alloc, out, &w.around, &w.scope, o),
         Node::Choose(p, _, _) => {
-            brings(out, s, *p, 9)?;
-            put_jump_when(alloc, out, hand(*p, 9), to)
+            brings(out, &w.scope, *p, 9)?;
+            put_jump_when(w.alloc, out, hand(*p, 9), to)
         }
         _ => Ok(()),
     }
@@ -371,23 +364,22 @@ fn put_own_test(
 
 /// Adds operations and a test that goes to a label.
 fn put_test(
-    alloc: Global,
     out: &mut Vec<AsmItem>,
-    w: &Around<'_>,
-    s: &Scope<'_>,
+    w: &Within<'_>,
     to: u32,
     xs: &[Node<Where>],
 ) -> Result<(), Memory>
-    ensures { OnOk result (out.new.items ≡ out.old.items ++ list_test (whole w.now) (frame s.now) to (listed (map node xs.now)) 0) }
+    ensures { OnOk result (out.new.items ≡ out.old.items
+        ++ list_test (whole w.now.around) (frame w.now.scope) to (listed (map node xs.now)) 0) }
 {
     let mut done: u32 = 0;
     let mut rest = xs;
     for x in xs {
         rest = behind(rest);
-        match put_ahead(out, w, s, x, rest, done)? {
+        match put_ahead(out, &w.around, &w.scope, x, rest, done)? {
             Some(more) => done = more,
             None => {
-                put_own_test(alloc, out, w, s, to, x)?;
+                put_own_test(out, w, to, x)?;
                 done = 0;
             }
         }
@@ -407,24 +399,20 @@ fn is_operation(x: &Node<Where>) -> bool
 /// Adds the first part of a choice, at whose end the next turn begins; the number of the next label.
 #[cycle(items)]
 fn put_turn(
-    alloc: Global,
     out: &mut Vec<AsmItem>,
-    w: &Around<'_>,
-    s: &Scope<'_>,
-    end: u32,
+    w: &Within<'_>,
     ls: &mut Vec<u32>,
     n: u32,
     x: &Node<Where>,
 ) -> Result<u32, Memory>
     requires fits { n + 1 + turn_labels (node x.now) < 2 ^ 32 - 1 }
-    ensures items { OnOk result (out.new.items ≡ out.old.items ++ turn_items (whole w.now) (frame s.now) end ls.old.items n (node x.now)) }
+    ensures items { OnOk result (out.new.items ≡ out.old.items
+        ++ turn_items (whole w.now.around) (frame w.now.scope) w.now.end ls.old.items n (node x.now)) }
     ensures labels { OnOk result (ls.new.items ≡ ls.old.items) }
     ensures next { IfOk result (λ m. m ≡ n + 1 + turn_labels (node x.now)) }
 {
     match x {
-        Node::Choose(_, a, _) => {
-            put_nodes(alloc, out, w, s, end, Behind::Turn, ls, n + 1, a.as_slice())
-        }
+        Node::Choose(_, a, _) => { put_nodes(out, w, Behind::Turn, ls, n + 1, a.as_slice()) }
         _ => Ok(n + 1),
     }
 }
@@ -432,24 +420,21 @@ fn put_turn(
 /// Adds what is done in a turn of a loop whose test stands behind it; the number of the next label.
 #[cycle(items)]
 fn put_part(
-    alloc: Global,
     out: &mut Vec<AsmItem>,
-    w: &Around<'_>,
-    s: &Scope<'_>,
-    end: u32,
+    w: &Within<'_>,
     ls: &mut Vec<u32>,
     n: u32,
     xs: &[Node<Where>],
 ) -> Result<u32, Memory>
     requires fits { n + 1 + part_labels (listed (map node xs.now)) < 2 ^ 32 - 1 }
     ensures items { OnOk result (out.new.items ≡ out.old.items
-        ++ list_part (whole w.now) (frame s.now) end ls.old.items n (listed (map node xs.now))) }
+        ++ list_part (whole w.now.around) (frame w.now.scope) w.now.end ls.old.items n (listed (map node xs.now))) }
     ensures labels { OnOk result (ls.new.items ≡ ls.old.items) }
     ensures next { IfOk result (λ m. m ≡ n + 1 + part_labels (listed (map node xs.now))) }
 {
     for x in xs {
         if !is_operation(x) {
-            return put_turn(alloc, out, w, s, end, ls, n, x);
+            return put_turn(out, w, ls, n, x);
         }
     }
     Ok(n + 1)
@@ -459,11 +444,8 @@ fn put_part(
 #[cycle(items)]
 #[tactic(auto, using(crate::proofs::InMemory::tested_labels))]
 fn put_rotated(
-    alloc: Global,
     out: &mut Vec<AsmItem>,
-    w: &Around<'_>,
-    s: &Scope<'_>,
-    end: u32,
+    w: &Within<'_>,
     ls: &mut Vec<u32>,
     n: u32,
     b: &[Node<Where>],
@@ -471,30 +453,27 @@ fn put_rotated(
     requires tested { tested_in (listed (map node b.now)) ≡ true }
     requires fits { n + 2 + list_labels (listed (map node b.now)) < 2 ^ 32 - 1 }
     ensures items { OnOk result (out.new.items ≡ out.old.items
-        ++ rotated n (list_part (whole w.now) (frame s.now) end (ls.old.items ++ n ∷ []) (n + 2) (listed (map node b.now)))
-        (list_test (whole w.now) (frame s.now) (n + 2) (listed (map node b.now)) 0)) }
+        ++ rotated n (list_part (whole w.now.around) (frame w.now.scope) w.now.end (ls.old.items ++ n ∷ []) (n + 2) (listed (map node b.now)))
+        (list_test (whole w.now.around) (frame w.now.scope) (n + 2) (listed (map node b.now)) 0)) }
     ensures labels { OnOk result (ls.new.items ≡ ls.old.items) }
     ensures next { IfOk result (λ m. m ≡ n + 2 + list_labels (listed (map node b.now))) }
 {
-    put_jump(alloc, out, n)?;
-    put_mark(alloc, out, n + 2)?;
+    put_jump(w.alloc, out, n)?;
+    put_mark(w.alloc, out, n + 2)?;
     open(ls, n)?;
-    let next = put_part(alloc, out, w, s, end, ls, n + 2, b)?;
+    let next = put_part(out, w, ls, n + 2, b)?;
     ls.pop();
-    put_mark(alloc, out, n)?;
-    put_test(alloc, out, w, s, n + 2, b)?;
-    put_mark(alloc, out, n + 1)?;
+    put_mark(w.alloc, out, n)?;
+    put_test(out, w, n + 2, b)?;
+    put_mark(w.alloc, out, n + 1)?;
     Ok(next + 1)
 }
 
 /// Adds a loop.
 #[cycle(items)]
 fn put_loop(
-    alloc: Global,
     out: &mut Vec<AsmItem>,
-    w: &Around<'_>,
-    s: &Scope<'_>,
-    end: u32,
+    w: &Within<'_>,
     last: Behind,
     ls: &mut Vec<u32>,
     n: u32,
@@ -502,14 +481,14 @@ fn put_loop(
 ) -> Result<u32, Memory>
     requires fits { n + node_labels (LoopN (listed (map node b.now))) < 2 ^ 32 - 1 }
     ensures items { OnOk result (out.new.items ≡ out.old.items
-        ++ node_items (whole w.now) (frame s.now) end last ls.old.items n (LoopN (listed (map node b.now)))) }
+        ++ node_items (whole w.now.around) (frame w.now.scope) w.now.end last ls.old.items n (LoopN (listed (map node b.now)))) }
     ensures labels { OnOk result (ls.new.items ≡ ls.old.items) }
     ensures next { IfOk result (λ m. m ≡ n + node_labels (LoopN (listed (map node b.now)))) }
 {
     if is_tested(b) {
-        put_rotated(alloc, out, w, s, end, ls, n, b)
+        put_rotated(out, w, ls, n, b)
     } else {
-        put_enclosed(alloc, out, w, s, end, last, ls, n, b)
+        put_enclosed(out, w, last, ls, n, b)
     }
 }
 
@@ -553,45 +532,43 @@ fn put_return(
 /// next label.
 #[cycle(items)]
 fn put_node(
-    alloc: Global,
     out: &mut Vec<AsmItem>,
-    w: &Around<'_>,
-    s: &Scope<'_>,
-    end: u32,
+    w: &Within<'_>,
     last: Behind,
     ls: &mut Vec<u32>,
     n: u32,
     x: &Node<Where>,
 ) -> Result<u32, Memory>
     requires fits { n + node_labels (node x.now) < 2 ^ 32 - 1 }
-    ensures items { OnOk result (out.new.items ≡ out.old.items ++ node_items (whole w.now) (frame s.now) end last ls.old.items n (node x.now)) }
+    ensures items { OnOk result (out.new.items ≡ out.old.items
+        ++ node_items (whole w.now.around) (frame w.now.scope) w.now.end last ls.old.items n (node x.now)) }
     ensures labels { OnOk result (ls.new.items ≡ ls.old.items) }
     ensures next { IfOk result (λ m. m ≡ n + node_labels (node x.now)) }
 {
     match x {
         Node::Do(o) => {
-            put_op(alloc, out, w, s, o)?;
+            put_op(w.alloc, out, &w.around, &w.scope, o)?;
             Ok(n)
         }
         Node::Choose(p, a, b) => match b.as_slice().split_first() {
-            None => put_alone(alloc, out, w, s, end, last, ls, n, *p, a.as_slice()),
+            None => put_alone(out, w, last, ls, n, *p, a.as_slice()),
             Some(_) => {
-                let m = put_first(alloc, out, w, s, end, ls, n, *p, a.as_slice())?;
-                put_second(alloc, out, w, s, end, last, ls, m, b.as_slice())
+                let m = put_first(out, w, ls, n, *p, a.as_slice())?;
+                put_second(out, w, last, ls, m, b.as_slice())
             }
         },
-        Node::Block(b) => put_enclosed(alloc, out, w, s, end, last, ls, n, b.as_slice()),
-        Node::Loop(b) => put_loop(alloc, out, w, s, end, last, ls, n, b.as_slice()),
+        Node::Block(b) => put_enclosed(out, w, last, ls, n, b.as_slice()),
+        Node::Loop(b) => put_loop(out, w, last, ls, n, b.as_slice()),
         Node::Leave(k) => {
-            put_jump(alloc, out, enclosing(ls, *k).wrapping_add(1))?;
+            put_jump(w.alloc, out, enclosing(ls, *k).wrapping_add(1))?;
             Ok(n)
         }
         Node::Again(k) => {
-            put_again(alloc, out, ls, *k, last)?;
+            put_again(w.alloc, out, ls, *k, last)?;
             Ok(n)
         }
         Node::Return(p) => {
-            put_return(alloc, out, s, end, last, *p)?;
+            put_return(w.alloc, out, &w.scope, w.end, last, *p)?;
             Ok(n)
         }
     }
@@ -601,11 +578,8 @@ fn put_node(
 #[cycle(items)]
 #[tactic(auto, using(crate::proofs::InMemory::copied_labels))]
 fn put_own(
-    alloc: Global,
     out: &mut Vec<AsmItem>,
-    w: &Around<'_>,
-    s: &Scope<'_>,
-    end: u32,
+    w: &Within<'_>,
     last: Behind,
     ls: &mut Vec<u32>,
     n: u32,
@@ -614,7 +588,7 @@ fn put_own(
 ) -> Result<u32, Memory>
     requires fits { n + node_labels (node x.now) < 2 ^ 32 - 1 }
     ensures items { OnOk result (out.new.items ≡ out.old.items
-        ++ copied_own done (node x.now) (node_items (whole w.now) (frame s.now) end last ls.old.items n (node x.now))) }
+        ++ copied_own done (node x.now) (node_items (whole w.now.around) (frame w.now.scope) w.now.end last ls.old.items n (node x.now))) }
     ensures labels { OnOk result (ls.new.items ≡ ls.old.items) }
     ensures next { IfOk result (λ m. m ≡ n + node_labels (node x.now)) }
 {
@@ -624,27 +598,25 @@ fn put_own(
                 put_copy(out, y)?;
                 Ok(n + 4)
             }
-            None => put_loop(alloc, out, w, s, end, last, ls, n, b.as_slice()),
+            None => put_loop(out, w, last, ls, n, b.as_slice()),
         },
-        _ => put_node(alloc, out, w, s, end, last, ls, n, x),
+        _ => put_node(out, w, last, ls, n, x),
     }
 }
 
 /// Adds the items of nodes, one after another, some operations in one instruction.
 #[cycle(items)]
 fn put_nodes(
-    alloc: Global,
     out: &mut Vec<AsmItem>,
-    w: &Around<'_>,
-    s: &Scope<'_>,
-    end: u32,
+    w: &Within<'_>,
     last: Behind,
     ls: &mut Vec<u32>,
     n: u32,
     xs: &[Node<Where>],
 ) -> Result<u32, Memory>
     requires fits { n + list_labels (listed (map node xs.now)) < 2 ^ 32 - 1 }
-    ensures items { OnOk result (out.new.items ≡ out.old.items ++ list_past (whole w.now) (frame s.now) end last ls.old.items n (listed (map node xs.now)) 0) }
+    ensures items { OnOk result (out.new.items ≡ out.old.items
+        ++ list_past (whole w.now.around) (frame w.now.scope) w.now.end last ls.old.items n (listed (map node xs.now)) 0) }
     ensures labels { OnOk result (ls.new.items ≡ ls.old.items) }
     ensures next { IfOk result (λ m. m ≡ n + list_labels (listed (map node xs.now))) }
 {
@@ -653,11 +625,11 @@ fn put_nodes(
     let mut rest = xs;
     for x in xs {
         rest = behind(rest);
-        match put_ahead(out, w, s, x, rest, done)? {
+        match put_ahead(out, &w.around, &w.scope, x, rest, done)? {
             Some(more) => done = more,
             None => {
                 let behind = ends_in(last, rest);
-                next = put_own(alloc, out, w, s, end, behind, ls, next, x, done)?;
+                next = put_own(out, w, behind, ls, next, x, done)?;
                 done = 0;
             }
         }
@@ -681,5 +653,11 @@ pub(crate) fn put_body(
     ensures next { IfOk result (λ m. m ≡ n + labels (nodes body.now)) }
 {
     let mut ls = Vec::new(alloc);
-    put_nodes(alloc, out, w, s, end, Behind::End, &mut ls, n, body)
+    let within = Within {
+        alloc,
+        around: *w,
+        scope: *s,
+        end,
+    };
+    put_nodes(out, &within, Behind::End, &mut ls, n, body)
 }

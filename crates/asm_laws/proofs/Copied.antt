@@ -2,6 +2,7 @@
 use Rattle.std.proofs.Common.{◌≡◌, ◌≢◌, ℕ, zero, suc, ◌+◌, ◌<◌, ◌≤◌, inl, inr, Bool, true, false, List, [], length, refl, sym, ap, ◌∙◌, subst, arith, append-nil}
 use Rattle.std.specs.Prelude.{if◌then◌else◌}
 use Rattle.kit_base.specs.Word.{add, sub, below}
+use Rattle.v32_isa.specs.declared.instruction.Plain.TheVariants.{MOVS}
 use Rattle.v32_isa.specs.declared.instruction.Two.TheVariants.{ISUB}
 use Rattle.v32_isa.specs.declared.stepped.Stepped.TheVariants as stepped
 use Rattle.v32_isa.specs.Arithmetic.{two_of}
@@ -21,7 +22,6 @@ use Rattle.mid_code.specs.Code.{NodesT, Stop, Do, Choose, Loop, Again, OpT, TwoO
 use Rattle.mid_code.specs.Meaning.{Did, On, Ends, Res, Next, Repeats, Over, choose, did, turn_done, then_next, node_weight}
 use Rattle.mid_code.specs.Meaning as meaning
 use Rattle.mid_code.specs.States.{State, spent, op_weight, word_tested, registers_and_slots, acted}
-use Rattle.asm_laws.specs.declared.copying.Copying.{Copying}
 use Rattle.asm_laws.specs.Operations.{Frame}
 use Rattle.asm_laws.specs.Placing.{Bounds}
 use Rattle.asm_laws.specs.inner.Following.{begin, Came, Stopped, Going, Sim}
@@ -35,7 +35,7 @@ use Rattle.asm_laws.proofs.Hands.{with_reg}
 use Rattle.asm_laws.proofs.Control.{after, earlier, here, still, then_sim}
 use Rattle.asm_laws.proofs.First.{word_stands}
 use Rattle.asm_laws.proofs.Ops.{acts}
-use Rattle.asm_laws.proofs.Leads.{Apart, turn_of}
+use Rattle.asm_laws.proofs.Leads.{Copier, Apart, copy_turn}
 use Rattle.asm_laws.proofs.BlockMove.{Copies, copies, faults_reading, faults_writing, counts_on, counts_out}
 
 -- events are as they were, and some work was done
@@ -51,7 +51,7 @@ module _ (S : Setting) (fits : Fits S) (κ : Ctx) where
   F = S.whole.frames κ.fn
 
   -- an operation whose words are put somewhere, as a part of something of which the rest follows
-  goes_on : (Q : Res (State Where) → Type 0) (s u : State Where) → Since s u → (a b : Addr) (o : OpT Where) → Holds S κ u a → Fitting S κ.fn o → ((xs : List ℕ) → does C S.address S.whole F o xs a ≡ words.Goes [] xs b) → (go : State Where → Res (State Where)) →
+  pub goes_on : (Q : Res (State Where) → Type 0) (s u : State Where) → Since s u → (a b : Addr) (o : OpT Where) → Holds S κ u a → Fitting S κ.fn o → ((xs : List ℕ) → does C S.address S.whole F o xs a ≡ words.Goes [] xs b) → (go : State Where → Res (State Where)) →
       ((t : State Where) → Since s t → Q (Over Stray t)) → ((t : State Where) → Since s t → t.world.store.answers ≡ u.world.store.answers → Holds S κ t b → Q (go t)) → Q (did ((lang S).act o u) go)
   goes_on Q s u since a b o h fit is go strays on =
       let u1 = spent (op_weight o) u in
@@ -67,7 +67,7 @@ module _ (S : Setting) (fits : Fits S) (κ : Ctx) where
       cases (Ends OutOfBound t) g = absurd g
 
   -- an operation that can't be done
-  fails : (Q : Res (State Where) → Type 0) (s u : State Where) → Since s u → (a : Addr) (k : ℕ) (o : OpT Where) → Holds S κ u a → Fitting S κ.fn o → ((xs : List ℕ) → does C S.address S.whole F o xs a ≡ words.Ends (runs.Fault k)) → (go : State Where → Res (State Where)) →
+  pub fails : (Q : Res (State Where) → Type 0) (s u : State Where) → Since s u → (a : Addr) (k : ℕ) (o : OpT Where) → Holds S κ u a → Fitting S κ.fn o → ((xs : List ℕ) → does C S.address S.whole F o xs a ≡ words.Ends (runs.Fault k)) → (go : State Where → Res (State Where)) →
       ((t : State Where) → Since s t → Q (Over Stray t)) → ((j : ℕ) (t : State Where) → Since s t → runs.Fault k ≡ runs.Fault j → Holds S κ t a → Q (Over (Fault j) t)) → Q (did ((lang S).act o u) go)
   fails Q s u since a k o h fit is go strays faulty =
       let u1 = spent (op_weight o) u in
@@ -82,7 +82,26 @@ module _ (S : Setting) (fits : Fits S) (κ : Ctx) where
       cases (Ends Deep t) g = absurd g.same
       cases (Ends OutOfBound t) g = absurd g.same
 
-  module _ (y : Copying) (apart : Apart y) where
+  -- the machine faults where the code does; a state that has the words in all registers
+  pub stopped : (s t : State Where) (m shown : machine.State) (r0 r1 : ℕ → ℕ) (a : Addr) (k j : ℕ) → Since s t → runs.Fault k ≡ runs.Fault j → Holds S κ t a → ((r : ℕ) → r < (S.whole.frames κ.fn).registers → r1 r ≡ a.regs r) → Held C (having r0 a) m → Held C (having r1 a) shown → effect_of m ≡ EndsIn (stepped.Fault k) m →
+      Stopped (holder S) m (begin (holder S) (spent 3 s)) t (runs.Fault j)
+  stopped s t m shown r0 r1 a k j since same h like hm hs eff =
+      let xs = s.world.store.answers in
+      record {
+        steps = 1;
+        made = [];
+        to = m;
+        by = λ n. (let e : 1 + n ≡ suc n = omega arith in ap (λ i. run i m xs) e) ∙ run-fault n m m k xs eff ∙ ap (λ q. record { events = []; end = q; state = m }) same;
+        nested = λ ls. nested_stopped 0 ls m m xs (stepped.Fault k) eff refl;
+        held = record { context = κ; shown = shown; mach = record { place = h.place; words = a; at = h.at; registers = r1; like = like; held = hs }; memory = same_word C (having r0 a) (having r1 a) m shown hm hs (λ q. refl) };
+        events = since.events ∙ sym (append-nil s.world.events);
+        cost = let w = since.work in omega (arith, w);
+      }
+
+  pub strays : (s t : State Where) (m : machine.State) → Since s t → Going (holder S) m (begin (holder S) (spent 3 s)) t 0
+  strays s t m since = record { steps = 0; made = []; to = m; left = s.world.store.answers; by = (reaches_here m s.world.store.answers).runs; nested = λ ls. nested_none ls m s.world.store.answers; events = since.events ∙ sym (append-nil s.world.events); cost = let w = since.work in omega (arith, w); many = omega arith }
+
+  module _ (y : Copier) (apart : Apart y) where
     -- the registers of places, with those that the loop changes as the words have them
     abbrev pub put4 : (ℕ → ℕ) → Addr → ℕ → ℕ
     put4 r0 a = written (written (written (written r0 y.from (a.regs y.from)) y.to (a.regs y.to)) y.count (a.regs y.count)) y.cell (a.regs y.cell)
@@ -135,25 +154,10 @@ module _ (S : Setting) (fits : Fits S) (κ : Ctx) where
           let m3 = took C 0 y.count (a.regs y.count) m2 in
           kept C (having f3 a) m3 0 y.cell (a.regs y.cell) (omega (arith, lo.cell)) h3
 
-      -- the machine faults where the code does
       stops : (s t : State Where) (m : machine.State) (r0 : ℕ → ℕ) (a b : Addr) (k j : ℕ) → Since s t → runs.Fault k ≡ runs.Fault j → Holds S κ t a → Others r0 a → Held C b m → b ≡ having r0 a → effect_of m ≡ EndsIn (stepped.Fault k) m → Stopped (holder S) m (begin (holder S) (spent 3 s)) t (runs.Fault j)
       stops s t m r0 a b k j since same h like held is eff =
-          let xs = s.world.store.answers in
           let hm = subst (λ z. Held C z m) is held in
-          let hs = shown_held r0 a m hm in
-          record {
-            steps = 1;
-            made = [];
-            to = m;
-            by = λ n. (let e : 1 + n ≡ suc n = omega arith in ap (λ i. run i m xs) e) ∙ run-fault n m m k xs eff ∙ ap (λ q. record { events = []; end = q; state = m }) same;
-            nested = λ ls. nested_stopped 0 ls m m xs (stepped.Fault k) eff refl;
-            held = record { context = κ; shown = shown a m; mach = record { place = h.place; words = a; at = h.at; registers = put4 r0 a; like = four_like r0 a like; held = hs }; memory = same_word C (having r0 a) (having (put4 r0 a) a) m (shown a m) hm hs (λ q. refl) };
-            events = since.events ∙ sym (append-nil s.world.events);
-            cost = let w = since.work in omega (arith, w);
-          }
-
-      pub strays : (s t : State Where) (m : machine.State) → Since s t → Going (holder S) m (begin (holder S) (spent 3 s)) t 0
-      strays s t m since = record { steps = 0; made = []; to = m; left = s.world.store.answers; by = (reaches_here m s.world.store.answers).runs; nested = λ ls. nested_none ls m s.world.store.answers; events = since.events ∙ sym (append-nil s.world.events); cost = let w = since.work in omega (arith, w); many = omega arith }
+          stopped s t m (shown a m) r0 (put4 r0 a) a k j since same h (four_like r0 a like) hm (shown_held r0 a m hm) eff
 
       -- in a turn the machine stands at the block move with the words that the turn begins with
       pub record Inside (s : State Where) (m : machine.State) (r0 : ℕ → ℕ) (pc next : ℕ) : Type 0 where
@@ -161,7 +165,7 @@ module _ (S : Setting) (fits : Fits S) (κ : Ctx) where
         pub words : Addr
         pub at : HoldsAt S κ s.world.store s.cells place words
         pub like : Others r0 words
-        pub move : Copies C (having r0 words) m pc next (words.regs y.count) (words.regs y.from) (words.regs y.to)
+        pub move : Copies C MOVS (having r0 words) m pc next (words.regs y.count) (words.regs y.from) (words.regs y.to)
         pub one : words.regs y.one ≡ 1
 
       -- behind the last word, what the registers have and where they are to be put
@@ -191,14 +195,14 @@ module _ (S : Setting) (fits : Fits S) (κ : Ctx) where
         L = lang S
 
         abbrev again : ℕ → State Where → Res (State Where)
-        again n = meaning.below (lang S) n (Loop (turn_of y) Stop)
+        again n = meaning.below (lang S) n (Loop (copy_turn y) Stop)
 
         abbrev Follows : ℕ → List Bounds → State Where → machine.State → Res (State Where) → Type 0
         Follows n ls s m r = Sim (holder S) κ m (begin (holder S) (spent 3 s)) p n ls (turn_done r (again n))
 
         -- the next turn
         abbrev Turn : ℕ → Type 0
-        Turn n = (ls : List Bounds) (s : State Where) (m : machine.State) (r0 : ℕ → ℕ) → Inside s m r0 pc next → Follows n ls s m (meaning.does (lang S) n (meaning.below (lang S) n) (turn_of y) (spent node_weight s))
+        Turn n = (ls : List Bounds) (s : State Where) (m : machine.State) (r0 : ℕ → ℕ) → Inside s m r0 pc next → Follows n ls s m (meaning.does (lang S) n (meaning.below (lang S) n) (copy_turn y) (spent node_weight s))
 
         module _ (n : ℕ) (ls : List Bounds) (s : State Where) (m : machine.State) (r0 : ℕ → ℕ) (i : Inside s m r0 pc next) (onward : (t : State Where) → Came (holder S) m (begin (holder S) (spent 3 s)) t pc 1 0 (λ u. Inside t u r0 pc next) → Sim (holder S) κ m (begin (holder S) (spent 3 s)) p n ls (again n t)) where
           abbrev a : Addr
@@ -253,7 +257,7 @@ module _ (S : Setting) (fits : Fits S) (κ : Ctx) where
           load_fails r xs = ap (λ b. loaded b F (Reg y.cell) x xs a) r
 
           to_is : a1.regs y.to ≡ w
-          to_is = one_on y.to apart.to_cell
+          to_is = one_on y.to apart.four.to_cell
 
           word_is : a1.regs y.cell ≡ x
           word_is = written_same a.regs y.cell x y.cell refl
@@ -269,22 +273,22 @@ module _ (S : Setting) (fits : Fits S) (κ : Ctx) where
           less_is : (xs : List ℕ) → does C S.address S.whole F (TwoO ISUB (Reg y.count) (Reg y.count) (Reg y.one)) xs a2 ≡ words.Goes [] xs a3
           unfolding does
           less_is xs =
-              let e = one_on y.count (λ z. apart.cell_count (sym z)) in
-              let o : a2.regs y.one ≡ 1 = one_on y.one (λ z. apart.cell_one (sym z)) ∙ i.one in
+              let e = one_on y.count (λ z. apart.four.cell_count (sym z)) in
+              let o : a2.regs y.one ≡ 1 = one_on y.one (λ z. apart.four.cell_one (sym z)) ∙ i.one in
               λ j. computed F (Reg y.count) (two_of ISUB (e j) (o j)) xs a2
 
           from_is : (xs : List ℕ) → does C S.address S.whole F (StepO (Reg y.from) (Reg y.from) (Reg y.one)) xs a3 ≡ words.Goes [] xs a4
           unfolding does
           from_is xs =
               let e = two_on y.from apart.from_cell apart.from_count in
-              let o : a3.regs y.one ≡ 1 = two_on y.one (λ z. apart.cell_one (sym z)) (λ z. apart.count_one (sym z)) ∙ i.one in
+              let o : a3.regs y.one ≡ 1 = two_on y.one (λ z. apart.four.cell_one (sym z)) (λ z. apart.four.count_one (sym z)) ∙ i.one in
               λ j. words.Goes [] xs (with_reg y.from (add (e j) (o j)) a3)
 
           to_steps : (xs : List ℕ) → does C S.address S.whole F (StepO (Reg y.to) (Reg y.to) (Reg y.one)) xs a4 ≡ words.Goes [] xs a5
           unfolding does
           to_steps xs =
-              let e = written_other a3.regs y.from (add v 1) y.to (λ z. apart.from_to (sym z)) ∙ two_on y.to apart.to_cell apart.to_count in
-              let o : a4.regs y.one ≡ 1 = written_other a3.regs y.from (add v 1) y.one (λ z. apart.from_one (sym z)) ∙ two_on y.one (λ z. apart.cell_one (sym z)) (λ z. apart.count_one (sym z)) ∙ i.one in
+              let e = written_other a3.regs y.from (add v 1) y.to (λ z. apart.from_to (sym z)) ∙ two_on y.to apart.four.to_cell apart.four.to_count in
+              let o : a4.regs y.one ≡ 1 = written_other a3.regs y.from (add v 1) y.one (λ z. apart.from_one (sym z)) ∙ two_on y.one (λ z. apart.four.cell_one (sym z)) (λ z. apart.four.count_one (sym z)) ∙ i.one in
               λ j. words.Goes [] xs (with_reg y.to (add (e j) (o j)) a4)
 
           count_is : a3.regs y.count ≡ sub c 1
@@ -316,13 +320,13 @@ module _ (S : Setting) (fits : Fits S) (κ : Ctx) where
                     held = mv.held;
                     at = mv.at ∙ ap (λ b. if b then pc else next) (ap (below 0) left ∙ counts_on (suc k) (omega arith) low);
                     line = i.move.line;
-                    count = mv.count ∙ sym (written_other a4.regs y.to (add w 1) y.count (λ z. apart.to_count (sym z)) ∙ written_other a3.regs y.from (add v 1) y.count (λ z. apart.from_count (sym z)) ∙ count_is);
+                    count = mv.count ∙ sym (written_other a4.regs y.to (add w 1) y.count (λ z. apart.four.to_count (sym z)) ∙ written_other a3.regs y.from (add v 1) y.count (λ z. apart.from_count (sym z)) ∙ count_is);
                     source = mv.source ∙ sym (written_other a4.regs y.to (add w 1) y.from apart.from_to ∙ written_same a3.regs y.from (add v 1) y.from refl);
                     target = mv.target ∙ sym (written_same a4.regs y.to (add w 1) y.to refl);
-                    some = let z = written_other a4.regs y.to (add w 1) y.count (λ z. apart.to_count (sym z)) ∙ written_other a3.regs y.from (add v 1) y.count (λ z. apart.from_count (sym z)) ∙ e in omega (arith, z);
-                    few = let z = written_other a4.regs y.to (add w 1) y.count (λ z. apart.to_count (sym z)) ∙ written_other a3.regs y.from (add v 1) y.count (λ z. apart.from_count (sym z)) ∙ e in omega (arith, z, low);
+                    some = let z = written_other a4.regs y.to (add w 1) y.count (λ z. apart.four.to_count (sym z)) ∙ written_other a3.regs y.from (add v 1) y.count (λ z. apart.from_count (sym z)) ∙ e in omega (arith, z);
+                    few = let z = written_other a4.regs y.to (add w 1) y.count (λ z. apart.four.to_count (sym z)) ∙ written_other a3.regs y.from (add v 1) y.count (λ z. apart.from_count (sym z)) ∙ e in omega (arith, z, low);
                   };
-                  one = written_other a4.regs y.to (add w 1) y.one (λ z. apart.to_one (sym z)) ∙ written_other a3.regs y.from (add v 1) y.one (λ z. apart.from_one (sym z)) ∙ two_on y.one (λ z. apart.cell_one (sym z)) (λ z. apart.count_one (sym z)) ∙ i.one;
+                  one = written_other a4.regs y.to (add w 1) y.one (λ z. apart.four.to_one (sym z)) ∙ written_other a3.regs y.from (add v 1) y.one (λ z. apart.from_one (sym z)) ∙ two_on y.one (λ z. apart.four.cell_one (sym z)) (λ z. apart.four.count_one (sym z)) ∙ i.one;
                 };
                 events = since.events ∙ sym (append-nil s.world.events);
                 cost = let g = since.work in omega (arith, g);
@@ -335,7 +339,7 @@ module _ (S : Setting) (fits : Fits S) (κ : Ctx) where
               let mv = copies C (having r0 i.words) m pc next c v w i.move s.world.store.answers r q in
               let left : sub c 1 ≡ 0 = sym count_is ∙ e in
               let from_on = two_on y.from apart.from_cell apart.from_count in
-              let to_on = two_on y.to apart.to_cell apart.to_count in
+              let to_on = two_on y.to apart.four.to_cell apart.four.to_count in
               let b = puts t mv.to s.world.store.answers (record {
                 r0 = r0;
                 words = a3;
@@ -348,7 +352,7 @@ module _ (S : Setting) (fits : Fits S) (κ : Ctx) where
                 target = mv.target ∙ ap (λ z. add z 1) (sym to_on);
                 reads = ap (readable C) from_on ∙ r;
                 writes = ap (writable C) to_on ∙ q;
-                word = ap a3.memory to_on ∙ written_same a.memory w x w refl ∙ sym (written_other a2.regs y.count (sub c 1) y.cell apart.cell_count ∙ word_is);
+                word = ap a3.memory to_on ∙ written_same a.memory w x w refl ∙ sym (written_other a2.regs y.count (sub c 1) y.cell apart.four.cell_count ∙ word_is);
               }) in
               record {
                 steps = 1 + 4;
@@ -396,7 +400,7 @@ module _ (S : Setting) (fits : Fits S) (κ : Ctx) where
           since0 : Since s (spent node_weight s)
           since0 = record { events = refl; work = omega arith }
 
-          copied_turn : Q (Doing (turn_of y) (spent node_weight s))
+          copied_turn : Q (Doing (copy_turn y) (spent node_weight s))
           copied_turn = reads (readable C v) refl
             where
               h0 : Holds S κ (spent node_weight s) i.words
@@ -415,7 +419,7 @@ module _ (S : Setting) (fits : Fits S) (κ : Ctx) where
                   fails Q s t1 s1 a1 1 (StoreO (Reg y.to) (Reg y.cell)) h1 (lo.to, lo.cell) (store_fails q) (Doing (Do (TwoO ISUB (Reg y.count) (Reg y.count) (Reg y.one)) (Choose (Reg y.count) steps Stop Stop))) astray
                   (λ j t since same h. stops s t m r0 a1 (having r0 i.words) 1 j since same h (λ z lt nf nt nn nc. i.like z lt nf nt nn nc ∙ sym (one_on z nc)) i.move.held refl (faults_writing C (having r0 i.words) m pc next c v w i.move r q))
 
-              reads : (b : Bool) → readable C v ≡ b → Q (Doing (turn_of y) (spent node_weight s))
+              reads : (b : Bool) → readable C v ≡ b → Q (Doing (copy_turn y) (spent node_weight s))
               reads true r =
                   goes_on Q s (spent node_weight s) since0 i.words a1 (LoadO (Reg y.cell) (Reg y.from)) h0 (lo.cell, lo.from) (load_is r) (Doing (Do (StoreO (Reg y.to) (Reg y.cell)) (Do (TwoO ISUB (Reg y.count) (Reg y.count) (Reg y.one)) (Choose (Reg y.count) steps Stop Stop)))) astray
                   (λ t1 s1 n1 h1. writes r (writable C w) refl t1 s1 n1 h1)
@@ -428,7 +432,7 @@ module _ (S : Setting) (fits : Fits S) (κ : Ctx) where
         turns zero ls s m r0 i = copied_turn zero ls s m r0 i (λ t f. still (lang S) (holder S) [] m (begin (holder S) (spent 3 s)) t pc 1 (λ u. Inside t u r0 pc next) f)
         turns (suc k) ls s m r0 i =
             copied_turn (suc k) ls s m r0 i (λ t f.
-            let r = turn_done (meaning.does (lang S) k (meaning.below (lang S) k) (turn_of y) (spent node_weight t)) (again k) in
+            let r = turn_done (meaning.does (lang S) k (meaning.below (lang S) k) (copy_turn y) (spent node_weight t)) (again k) in
             after (lang S) (holder S) κ m (begin (holder S) (spent 3 s)) t pc 1 (suc k) k p ls (λ u. Inside t u r0 pc next) (again (suc k) t) (omega arith) f
             (then_sim (lang S) (holder S) κ f.to (begin (holder S) t) p p k ls r (meaning.does (lang S) k (meaning.below (lang S) k) Stop)
             (earlier (lang S) (holder S) κ f.to (begin (holder S) t) (begin (holder S) (spent 3 t)) p k ls r refl refl (omega arith) (turns k ls t f.to r0 f.held)) (λ u m2 e h. here (lang S) (holder S) κ m2 u p e h)))

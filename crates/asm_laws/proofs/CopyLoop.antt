@@ -1,5 +1,5 @@
 -- The instructions of a loop that copies words do what the loop does.
-use Rattle.std.proofs.Common.{◌≡◌, ◌≢◌, ℕ, zero, suc, ◌<◌, inl, inr, Bool, true, false, List, [], ◌∷◌, length, Some, refl, sym, ap, ◌∙◌, subst, arith, append-nil}
+use Rattle.std.proofs.Common.{◌≡◌, ◌≢◌, ℕ, ◌<◌, inl, inr, Bool, true, false, List, [], ◌∷◌, length, Some, refl, sym, ap, ◌∙◌, subst, arith, append-nil}
 use Rattle.std.specs.Prelude.{◌&&◌, nat_lt}
 use Rattle.std.proofs.lemmas.Bool.Decides.{nat_tests}
 use Rattle.either.specs.declared.Either.TheVariants.{Left}
@@ -22,25 +22,23 @@ use Rattle.obj_mem.specs.declared.cell.Cell.TheVariants.{Num}
 use Rattle.mid_code.specs.declared.placed.Where.{Where}
 use Rattle.mid_code.specs.declared.placed.Where.TheVariants.{Reg}
 use Rattle.mid_code.specs.Code.{NodesT, Stop, Loop}
-use Rattle.mid_code.specs.Invariants.{Names}
 use Rattle.mid_code.specs.Meaning.{turn_done, node_weight}
 use Rattle.mid_code.specs.Meaning as meaning
 use Rattle.mid_code.specs.States.{State, spent}
-use Rattle.asm_laws.specs.declared.copying.Copying.{Copying}
 use Rattle.asm_laws.specs.Copies.{copy_items, is_count}
 use Rattle.asm_laws.specs.Pieces.{register}
 use Rattle.asm_laws.specs.Operations.{Frame}
 use Rattle.asm_laws.specs.Placing.{Line, Bounds}
 use Rattle.asm_laws.specs.Standing.{Stand}
 use Rattle.asm_laws.specs.Spare.{Sparing}
-use Rattle.asm_laws.specs.inner.Following.{begin, Sim, known_at}
+use Rattle.asm_laws.specs.inner.Following.{begin, Sim}
 use Rattle.asm_laws.specs.Addresses.{Addr, Console, readable, writable, having, Room, Held}
-use Rattle.asm_laws.specs.Holds.{Setting, Named, Fits, Ctx, Stands}
-use Rattle.asm_laws.specs.Calling.{Mach, lang, holder, shapes}
+use Rattle.asm_laws.specs.Holds.{Setting, Fits, Ctx, Stands}
+use Rattle.asm_laws.specs.Calling.{Mach, lang, holder}
 use Rattle.asm_laws.proofs.Stepping.{written_same, written_other, readable_word, line_effect, line_turn, took, kept, reg_same, reg_other, moved, fetches_so}
 use Rattle.asm_laws.proofs.Control.{after}
 use Rattle.asm_laws.proofs.First.{room}
-use Rattle.asm_laws.proofs.Leads.{Apart, turn_of as turn, copy_is}
+use Rattle.asm_laws.proofs.Leads.{Copier, Apart, copying, copy_turn}
 use Rattle.asm_laws.proofs.BlockMove.{aside}
 use Rattle.asm_laws.proofs.Copied.{put4, four_like, Low, Inside, Behind, Put, turns}
 
@@ -49,7 +47,7 @@ both true true e = (refl, refl)
 both true false e = absurd cc
 both false q e = absurd cc
 
-count_low : (n : ℕ) → is_count (Some n) ≡ true → (0 < n) × (n < 0x80000000)
+pub count_low : (n : ℕ) → is_count (Some n) ≡ true → (0 < n) × (n < 0x80000000)
 count_low n e =
     let h = both (nat_lt 0 n) (nat_lt n 0x80000000) e in
     let h0 = h.0 in
@@ -60,7 +58,7 @@ reads_low : (C : Console) (q : ℕ) → length C.words < 0x10000000 → readable
 unfolding readable
 reads_low C q short r = grind (arith, nat_tests, r)
 
-writes_low : (C : Console) (q : ℕ) → writable C q ≡ true → q < 0x40000000
+pub writes_low : (C : Console) (q : ℕ) → writable C q ≡ true → q < 0x40000000
 unfolding writable
 writes_low C q r = grind (arith, nat_tests, r)
 
@@ -68,14 +66,14 @@ reads_written : (C : Console) (q : ℕ) → writable C q ≡ true → readable C
 unfolding readable writable
 reads_written C q r = grind (arith, nat_tests, r)
 
-one_back : (v : ℕ) → v < 0x40000000 → add (add v 1) 0xFFFFFFFF ≡ v
+pub one_back : (v : ℕ) → v < 0x40000000 → add (add v 1) 0xFFFFFFFF ≡ v
 one_back v lt = omega arith
 
-lea_act : (s : machine.State) (r q i next : ℕ) → act (instr.Lea r q (Some i)) next s ≡ EndsIn stepped.Went (going_to next (with_register r (add (register_of s q) i) s))
+pub lea_act : (s : machine.State) (r q i next : ℕ) → act (instr.Lea r q (Some i)) next s ≡ EndsIn stepped.Went (going_to next (with_register r (add (register_of s q) i) s))
 unfolding act
 lea_act s r q i next = refl
 
-move_act : (s : machine.State) (r q next : ℕ) → act (instr.Mov (RegReg r q)) next s ≡ EndsIn stepped.Went (going_to next (with_register r (register_of s q) s))
+pub move_act : (s : machine.State) (r q next : ℕ) → act (instr.Mov (RegReg r q)) next s ≡ EndsIn stepped.Went (going_to next (with_register r (register_of s q) s))
 unfolding act
 move_act s r q next = refl
 
@@ -90,20 +88,61 @@ module _ (S : Setting) (fits : Fits S) (κ : Ctx) where
   abbrev F : Frame
   F = S.whole.frames κ.fn
 
-  same_register : (r : ℕ) → r < 9 → register r ≡ r
+  -- a register of places other than register 8
+  pub stays : (c : NodesT Where) → Sparing (S.whole.frames κ.fn).registers c 0 → (r : ℕ) → r < 9 → r ≢ 8 → r < (S.whole.frames κ.fn).registers
+  stays c sparing r lt ne = elim sparing [ inl z ↦ omega (arith, z, lt) | inr z ↦ let q = z.0 in omega (arith, q, lt, ne) ]
+
+  pub same_register : (r : ℕ) → r < 9 → register r ≡ r
   same_register r lt = omega arith
 
   -- an instruction that puts a word into a register of a place
-  record Puts (b : Addr) (s : machine.State) (xs : List ℕ) (next r v : ℕ) : Type 0 where
-    by : Reaches 1 s xs [] (going_to next (with_register r v s)) xs
-    held : Held C (having (written b.regs r v) b) (going_to next (with_register r v s))
+  pub record Puts (b : Addr) (s : machine.State) (xs : List ℕ) (next r v : ℕ) : Type 0 where
+    pub by : Reaches 1 s xs [] (going_to next (with_register r v s)) xs
+    pub held : Held C (having (written b.regs r v) b) (going_to next (with_register r v s))
 
-  put_at : (b : Addr) (s : machine.State) (xs : List ℕ) (pc next r v : ℕ) (i : Instr ℕ) → r < 9 → Held C b s → s.counter ≡ pc → Line S.console.words pc i next → IsInstr i → turn_of i next s ≡ Other → act i next s ≡ EndsIn stepped.Went (going_to next (with_register (register r) v s)) → Puts b s xs next r v
+  pub put_at : (b : Addr) (s : machine.State) (xs : List ℕ) (pc next r v : ℕ) (i : Instr ℕ) → r < 9 → Held C b s → s.counter ≡ pc → Line S.console.words pc i next → IsInstr i → turn_of i next s ≡ Other → act i next s ≡ EndsIn stepped.Went (going_to next (with_register (register r) v s)) → Puts b s xs next r v
   put_at b s xs pc next r v i lt h e l fit other is =
       let eff = line_effect S.console b s pc i next h e l fit ∙ is ∙ ap (λ q. EndsIn stepped.Went (going_to next (with_register q v s))) (same_register r lt) in
       record { by = reaches_went s (going_to next (with_register r v s)) xs eff (line_turn S.console b s pc i next h e l fit ∙ other); held = kept S.console b s next r v (omega (arith, lt)) h }
 
-  module _ (y : Copying) (apart : Apart y) (lo : Low S fits κ y apart) where
+  -- behind three instructions the registers of the block move have the words of three places
+  pub record Moved (s : State Where) (m : machine.State) (h : Mach S κ s m) (next w v n : ℕ) : Type 0 where
+    pub to : machine.State
+    pub by : Reaches 3 m s.world.store.answers [] to s.world.store.answers
+    pub at : to.counter ≡ next
+    pub held : Held C (having h.registers h.words) to
+    pub count : register_of to 11 ≡ h.registers n
+    pub source : register_of to 12 ≡ h.registers v
+    pub target : register_of to 13 ≡ h.registers w
+
+  pub moves_in : (s : State Where) (m : machine.State) (h : Mach S κ s m) (pc n1 n2 n3 target source count : ℕ) → target < 9 → source < 9 → count < 9 → m.counter ≡ pc → Line S.console.words pc (instr.Mov (RegReg 13 (register target))) n1 →
+      Line S.console.words n1 (instr.Mov (RegReg 12 (register source))) n2 → Line S.console.words n2 (instr.Mov (RegReg 11 (register count))) n3 → Moved s m h n3 target source count
+  moves_in s m h pc n1 n2 n3 target source count lt ls ln e l1 l2 l3 =
+      let xs = s.world.store.answers in
+      let b = having h.registers h.words in
+      let rm : Room (S.whole.frames κ.fn) b = let r = room S fits κ s.world.store s.cells h.place h.words h.at in record { top = r.top; low = r.low; high = r.high } in
+      let m1 = took S.console n1 13 (h.registers target) m in
+      let b1 = fetches_so S.console F S.address b m xs pc (Reg target) 13 n1 rm lt (omega arith) h.held e l1 in
+      let h1 = moved S.console b (with_register 13 (h.registers target) m) n1 (aside S.console b m 13 (h.registers target) (omega arith) (omega arith) h.held) in
+      let m2 = took S.console n2 12 (h.registers source) m1 in
+      let b2 = fetches_so S.console F S.address b m1 xs n1 (Reg source) 12 n2 rm ls (omega arith) h1 refl l2 in
+      let h2 = moved S.console b (with_register 12 (h.registers source) m1) n2 (aside S.console b m1 12 (h.registers source) (omega arith) (omega arith) h1) in
+      let m3 = took S.console n3 11 (h.registers count) m2 in
+      let b3 = fetches_so S.console F S.address b m2 xs n2 (Reg count) 11 n3 rm ln (omega arith) h2 refl l3 in
+      let k0 = h.held.sixteen in
+      let k1 = h1.sixteen in
+      let k2 = h2.sixteen in
+      record {
+        to = m3;
+        by = reaches_on 1 2 m m1 m3 xs xs xs [] [] b1 (reaches_on 1 1 m1 m2 m3 xs xs xs [] [] b2 b3);
+        at = refl;
+        held = moved S.console b (with_register 11 (h.registers count) m2) n3 (aside S.console b m2 11 (h.registers count) (omega arith) (omega arith) h2);
+        count = reg_same S.console m2 11 (h.registers count) (omega (arith, k2));
+        source = reg_other S.console m2 11 (h.registers count) 12 (omega arith) ∙ reg_same S.console m1 12 (h.registers source) (omega (arith, k1));
+        target = reg_other S.console m2 11 (h.registers count) 13 (omega arith) ∙ reg_other S.console m1 12 (h.registers source) 13 (omega arith) ∙ reg_same S.console m 13 (h.registers target) (omega (arith, k0));
+      }
+
+  module _ (y : Copier) (apart : Apart y) (lo : Low S fits κ y apart) where
     abbrev last_items : List AsmItem
     last_items = item.Op (instr.Lea (register y.from) 12 (Some (Left 0xFFFFFFFF))) ∷ item.Op (instr.Lea (register y.to) 13 (Some (Left 0xFFFFFFFF)))
         ∷ item.Op (instr.Mov (RegReg (register y.count) 11)) ∷ item.Op (instr.Mov (RegAtReg (register y.cell) (register y.to))) ∷ []
@@ -136,7 +175,7 @@ module _ (S : Setting) (fits : Fits S) (κ : Ctx) where
         (move_act m2 (register y.count) 11 n3 ∙ ap (λ z. EndsIn stepped.Went (going_to n3 (with_register (register y.count) z m2))) (reg_other S.console m1 y.to w 11 (λ z. omega (arith, lt, z)) ∙ reg_other S.console m y.from v 11 (λ z. omega (arith, lf, z)) ∙ b.count)) in
         let m3 = going_to n3 (with_register y.count (a.regs y.count) m2) in
         let f3 = written f2 y.count (a.regs y.count) in
-        let at_to : register_of m3 (register y.to) ≡ w = ap (register_of m3) (same_register y.to lt) ∙ s3.held.regs y.to lt ∙ written_other f2 y.count (a.regs y.count) y.to apart.to_count ∙ written_same f1 y.to w y.to refl in
+        let at_to : register_of m3 (register y.to) ≡ w = ap (register_of m3) (same_register y.to lt) ∙ s3.held.regs y.to lt ∙ written_other f2 y.count (a.regs y.count) y.to apart.four.to_count ∙ written_same f1 y.to w y.to refl in
         let s4 = put_at (having f3 a) m3 xs n3 n4 y.cell (a.regs y.cell) (instr.Mov (RegAtReg (register y.cell) (register y.to))) lc s3.held refl st.2.2.2.1 (omega arith, omega arith, omega arith) refl
         (load_act m3 (register y.cell) (register y.to) (a.regs y.cell) n4 (ap (word_at m3) at_to ∙ readable_word S.console (having f3 a) m3 w s3.held (reads_written S.console w b.writes) ∙ ap Some b.word)) in
         let m4 = going_to n4 (with_register y.cell (a.regs y.cell) m3) in
@@ -148,30 +187,17 @@ module _ (S : Setting) (fits : Fits S) (κ : Ctx) where
         }
 
     -- the whole of it
-    copy_all : (pc p : ℕ) → Sparing (S.whole.frames κ.fn).registers (turn y) 0 → Stand S.console.words S.address pc (copy_items y) p → (s : State Where) (m : machine.State) (c : ℕ) → s.cells (Reg y.count) ≡ Num c → is_count (Some c) ≡ true → s.cells (Reg y.one) ≡ Num 1 → m.counter ≡ pc → Mach S κ s m → (n : ℕ) (ls : List Bounds) →
-        Sim (holder S) κ m (begin (holder S) s) p n ls (turn_done (meaning.does (lang S) n (meaning.below (lang S) n) (turn y) (spent node_weight s)) (meaning.below (lang S) n (Loop (turn y) Stop)))
+    pub copy_all : (pc p : ℕ) → Sparing (S.whole.frames κ.fn).registers (copy_turn y) 0 → Stand S.console.words S.address pc (copy_items (copying y)) p → (s : State Where) (m : machine.State) (c : ℕ) → s.cells (Reg y.count) ≡ Num c → is_count (Some c) ≡ true → s.cells (Reg y.one) ≡ Num 1 → m.counter ≡ pc → Mach S κ s m → (n : ℕ) (ls : List Bounds) →
+        Sim (holder S) κ m (begin (holder S) s) p n ls (turn_done (meaning.does (lang S) n (meaning.below (lang S) n) (copy_turn y) (spent node_weight s)) (meaning.below (lang S) n (Loop (copy_turn y) Stop)))
     copy_all pc p sparing st s m c is_c some is_one e h n ls =
-        let xs = s.world.store.answers in
         let a = h.words in
-        let b = having h.registers h.words in
-        let rm : Room (S.whole.frames κ.fn) b = let r = room S fits κ s.world.store s.cells h.place h.words h.at in record { top = r.top; low = r.low; high = r.high } in
         let low = count_low c some in
         let n1 = st.0 in
         let n2 = st.2.0 in
         let n3 = st.2.2.0 in
         let n4 = st.2.2.2.0 in
-        let m1 = took S.console n1 13 (h.registers y.to) m in
-        let b1 = fetches_so S.console F S.address b m xs pc (Reg y.to) 13 n1 rm lo.to (omega arith) h.held e st.1 in
-        let h1 = moved S.console b (with_register 13 (h.registers y.to) m) n1 (aside S.console b m 13 (h.registers y.to) (omega arith) (omega arith) h.held) in
-        let m2 = took S.console n2 12 (h.registers y.from) m1 in
-        let b2 = fetches_so S.console F S.address b m1 xs n1 (Reg y.from) 12 n2 rm lo.from (omega arith) h1 refl st.2.1 in
-        let h2 = moved S.console b (with_register 12 (h.registers y.from) m1) n2 (aside S.console b m1 12 (h.registers y.from) (omega arith) (omega arith) h1) in
-        let m3 = took S.console n3 11 (h.registers y.count) m2 in
-        let b3 = fetches_so S.console F S.address b m2 xs n2 (Reg y.count) 11 n3 rm lo.count (omega arith) h2 refl st.2.2.1 in
-        let h3 = moved S.console b (with_register 11 (h.registers y.count) m2) n3 (aside S.console b m2 11 (h.registers y.count) (omega arith) (omega arith) h2) in
-        let k0 = h.held.sixteen in
-        let k1 = h1.sixteen in
-        let k2 = h2.sixteen in
+        let g = moves_in s m h pc n1 n2 n3 y.to y.from y.count lo.to lo.from lo.count e st.1 st.2.1 st.2.2.1 in
+        let m3 = g.to in
         let counts : a.regs y.count ≡ c = subst (λ z. Stands (length s.world.store.objects) h.place z (a.regs y.count)) is_c (h.at.temps.in_regs y.count lo.count) in
         let ones : a.regs y.one ≡ 1 = subst (λ z. Stands (length s.world.store.objects) h.place z (a.regs y.one)) is_one (h.at.temps.in_regs y.one lo.one) in
         let inside : Inside S fits κ y apart lo s m3 h.registers n3 n4 = record {
@@ -180,42 +206,26 @@ module _ (S : Setting) (fits : Fits S) (κ : Ctx) where
           at = h.at;
           like = λ r lt nf nt nn nc. h.like r lt;
           move = record {
-            held = h3;
-            at = refl;
+            held = g.held;
+            at = g.at;
             line = st.2.2.2.1;
-            count = reg_same S.console m2 11 (h.registers y.count) (omega (arith, k2)) ∙ h.like y.count (stays y.count lo.count apart.count_eight);
-            source = reg_other S.console m2 11 (h.registers y.count) 12 (omega arith) ∙ reg_same S.console m1 12 (h.registers y.from) (omega (arith, k1)) ∙ h.like y.from (stays y.from lo.from apart.from_eight);
-            target = reg_other S.console m2 11 (h.registers y.count) 13 (omega arith) ∙ reg_other S.console m1 12 (h.registers y.from) 13 (omega arith) ∙ reg_same S.console m 13 (h.registers y.to) (omega (arith, k0)) ∙ h.like y.to (stays y.to lo.to apart.to_eight);
+            count = g.count ∙ h.like y.count (stays (copy_turn y) sparing y.count lo.count apart.four.count_eight);
+            source = g.source ∙ h.like y.from (stays (copy_turn y) sparing y.from lo.from apart.from_eight);
+            target = g.target ∙ h.like y.to (stays (copy_turn y) sparing y.to lo.to apart.four.to_eight);
             some = let z = low.0 in omega (arith, z, counts);
             few = let z = low.1 in omega (arith, z, counts);
           };
           one = ones;
         } in
-        after (lang S) (holder S) κ m (begin (holder S) s) (spent 3 s) n3 3 n n p ls (λ u. Inside S fits κ y apart lo s u h.registers n3 n4) (turn_done (meaning.does (lang S) n (meaning.below (lang S) n) (turn y) (spent node_weight s)) (meaning.below (lang S) n (Loop (turn y) Stop))) (omega arith)
+        after (lang S) (holder S) κ m (begin (holder S) s) (spent 3 s) n3 3 n n p ls (λ u. Inside S fits κ y apart lo s u h.registers n3 n4) (turn_done (meaning.does (lang S) n (meaning.below (lang S) n) (copy_turn y) (spent node_weight s)) (meaning.below (lang S) n (Loop (copy_turn y) Stop))) (omega arith)
         (record {
           steps = 3;
           made = [];
           to = m3;
-          by = reaches_on 1 2 m m1 m3 xs xs xs [] [] b1 (reaches_on 1 1 m1 m2 m3 xs xs xs [] [] b2 b3);
-          at = refl;
+          by = g.by;
+          at = g.at;
           held = inside;
           events = sym (append-nil s.world.events);
           cost = omega arith;
           many = omega arith;
         }) (turns S fits κ y apart lo n3 n4 p (put_back n4 p st.2.2.2.2) n ls s m3 h.registers inside)
-      where
-        stays : (r : ℕ) → r < 9 → r ≢ 8 → r < (S.whole.frames κ.fn).registers
-        stays r lt ne = elim sparing [ inl z ↦ omega (arith, z, lt) | inr z ↦ let q = z.0 in omega (arith, q, lt, ne) ]
-
-module _ (S : Setting) (fits : Fits S) where
-  pub copy_sim : (κ : Ctx) (pc p k : ℕ) (b : NodesT Where) (s : State Where) (m : machine.State) → (shapes S).copy κ.fn pc b k p → known_at (holder S) b k s → m.counter ≡ pc → Mach S κ s m → (n : ℕ) (ls : List Bounds) →
-      Sim (holder S) κ m (begin (holder S) s) p n ls (turn_done (meaning.does (lang S) n (meaning.below (lang S) n) b (spent node_weight s)) (meaning.below (lang S) n (Loop b Stop)))
-  copy_sim κ pc p zero b s m at known e h n ls = let z = at.1 in absurd cc
-  copy_sim κ pc p (suc k) b s m at known e h n ls =
-      let y = at.0 in
-      let q = copy_is b y at.1 in
-      let names = subst (λ z. Names (Named S κ.fn) z) q.0 at.3 in
-      let count = known.count y at.1 in
-      let lo : Low S fits κ y q.1 = record { from = names.0.0.0; to = names.1.0.0.0; cell = names.0.1.0; count = names.1.1.0.1.0; one = names.1.1.0.0.1.0 } in
-      subst (λ z. Sim (holder S) κ m (begin (holder S) s) p n ls (turn_done (meaning.does (lang S) n (meaning.below (lang S) n) z (spent node_weight s)) (meaning.below (lang S) n (Loop z Stop)))) (sym q.0)
-      (copy_all S fits κ y q.1 lo pc p (subst (λ z. Sparing (S.whole.frames κ.fn).registers z 0) q.0 at.4) at.2 s m count.0 count.1 count.2 (known.one y at.1) e h n ls)

@@ -41,7 +41,7 @@ use Rattle.asm_laws.specs.inner.Emitted.{labels, functions_labels, enclosing, ju
 use Rattle.asm_laws.proofs.Programs.{mapped_from}
 use Rattle.asm_laws.proofs.Walked.{total_more}
 use Rattle.asm_laws.specs.declared.copying.Copying.{Copying}
-use Rattle.asm_laws.specs.Copies.{copy_at, copy_or}
+use Rattle.asm_laws.specs.Copies.{copy_at, copy_or, items_from}
 use Rattle.asm_laws.proofs.InOne.{TakesWord, one_or_more_is, group_is}
 use Rattle.asm_laws.proofs.Enclosing.{innermost, further}
 use Rattle.asm_laws.proofs.LabelKinds.{Differ}
@@ -322,9 +322,13 @@ module _ (x : CodeT Where) (W : Whole) (Q : List ℕ → Type 0) (of_function : 
     looped_uses true n all part test ls few j k ua up ut = rotated_uses n part test ls few j k up ut
     looped_uses false n all part test ls few j k ua up ut = enclosed_uses n all ls few j k ua
 
+    copy_uses : (f : Option ℕ) (y : Copying) → Uses Q (items_from f y)
+    copy_uses None y = (tt, (tt, (tt, (tt, (tt, (tt, tt))))))
+    copy_uses (Some f) y = (tt, (tt, (tt, (tt, (tt, (tt, (tt, (tt, tt))))))))
+
     copied_uses : (y : Option Copying) (xs : List AsmItem) → Knows (copy_or y xs) → (Knows xs → Uses Q xs) → Uses Q (copy_or y xs)
     copied_uses None xs k go = go k
-    copied_uses (Some y) xs k go = (tt, (tt, (tt, (tt, (tt, (tt, (tt, (tt, tt))))))))
+    copied_uses (Some y) xs k go = copy_uses y.from y
 
     again_uses : (ls : List ℕ) (k : ℕ) (last : Behind) → Q (jump_label (enclosing ls k)) → Uses Q (again ls k last)
     again_uses ls k last q = one_of_both ((k == 0) && is_turn last) [] (jump (enclosing ls k) ∷ []) tt (q, tt)

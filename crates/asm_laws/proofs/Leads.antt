@@ -1,5 +1,5 @@
--- The loops that copy words, and the operations before them, as they are recognised.
-use Rattle.std.proofs.Common.{◌≡◌, ◌≢◌, ℕ, zero, suc, ◌+◌, ◌<◌, Bool, true, false, cond, Option, Some, None, refl, sym, ap, ◌∙◌, subst, arith}
+-- The loops that copy words or fill them, and the operations before them, as they are recognised.
+use Rattle.std.proofs.Common.{◌≡◌, ◌≢◌, ℕ, zero, suc, ◌+◌, ◌<◌, ◌⊎◌, inl, inr, Bool, true, false, cond, Option, Some, None, refl, sym, ap, ◌∙◌, subst, arith}
 use Rattle.std.specs.Prelude.{◌==◌, ◌&&◌, not}
 use Rattle.std.proofs.lemmas.Bool.{eqb-true, eqb-false}
 use Rattle.v32_isa.specs.declared.instruction.Two.TheVariants.{ISUB}
@@ -7,7 +7,7 @@ use Rattle.mid_code.specs.declared.placed.Where.{Where}
 use Rattle.mid_code.specs.declared.placed.Where.TheVariants.{Reg}
 use Rattle.mid_code.specs.Code.{NodesT, Stop, Do, Choose, Loop, Again, ConstO, TwoO, GlobalO, StepO, LoadO, StoreO}
 use Rattle.asm_laws.specs.declared.copying.Copying.{Copying}
-use Rattle.asm_laws.specs.Copies.{steps_by, steps_to, steps_both, goes_round, differ, is_copy, ends_here, turns_here, copy_counted, copy_stored, copy_of, copy_after, puts_ahead, last_put, is_count, is_one, leads, lead}
+use Rattle.asm_laws.specs.Copies.{steps_by, steps_to, steps_on, goes_round, four_differ, differ, is_copy, ends_here, turns_here, copy_counted, copy_stored, copy_of, copy_after, puts_ahead, last_put, is_count, is_one, leads, lead}
 
 both : (p q : Bool) → p && q ≡ true → (p ≡ true) × (q ≡ true)
 both true true e = (refl, refl)
@@ -18,40 +18,62 @@ off : (p : Bool) → not p ≡ true → p ≡ false
 off false e = refl
 off true e = absurd cc
 
+-- the registers of a loop that copies words, and of one that fills them
+pub record Copier : Type 0 where
+  pub from : ℕ
+  pub to : ℕ
+  pub cell : ℕ
+  pub count : ℕ
+  pub one : ℕ
+
+pub record Filler : Type 0 where
+  pub to : ℕ
+  pub cell : ℕ
+  pub count : ℕ
+  pub one : ℕ
+
+abbrev pub copying : Copier → Copying
+copying v = record { from = Some v.from; to = v.to; cell = v.cell; count = v.count; one = v.one }
+
+abbrev pub filling : Filler → Copying
+filling v = record { from = None; to = v.to; cell = v.cell; count = v.count; one = v.one }
+
 -- a turn of such a loop
-abbrev pub turn_of : Copying → NodesT Where
-turn_of y = Do (LoadO (Reg y.cell) (Reg y.from)) (Do (StoreO (Reg y.to) (Reg y.cell)) (Do (TwoO ISUB (Reg y.count) (Reg y.count) (Reg y.one))
+abbrev pub copy_turn : Copier → NodesT Where
+copy_turn y = Do (LoadO (Reg y.cell) (Reg y.from)) (Do (StoreO (Reg y.to) (Reg y.cell)) (Do (TwoO ISUB (Reg y.count) (Reg y.count) (Reg y.one))
     (Choose (Reg y.count) (Do (StepO (Reg y.from) (Reg y.from) (Reg y.one)) (Do (StepO (Reg y.to) (Reg y.to) (Reg y.one)) (Again zero Stop))) Stop Stop)))
 
+abbrev pub fill_turn : Filler → NodesT Where
+fill_turn y = Do (StoreO (Reg y.to) (Reg y.cell)) (Do (TwoO ISUB (Reg y.count) (Reg y.count) (Reg y.one))
+    (Choose (Reg y.count) (Do (StepO (Reg y.to) (Reg y.to) (Reg y.one)) (Again zero Stop)) Stop Stop))
+
 -- its registers differ, and none is register 8
-pub record Apart (y : Copying) : Type 0 where
+pub record Four (to cell count one : ℕ) : Type 0 where
+  pub to_cell : to ≢ cell
+  pub to_count : to ≢ count
+  pub to_one : to ≢ one
+  pub to_eight : to ≢ 8
+  pub cell_count : cell ≢ count
+  pub cell_one : cell ≢ one
+  pub cell_eight : cell ≢ 8
+  pub count_one : count ≢ one
+  pub count_eight : count ≢ 8
+  pub one_eight : one ≢ 8
+
+pub record Apart (y : Copier) : Type 0 where
   pub from_to : y.from ≢ y.to
   pub from_cell : y.from ≢ y.cell
   pub from_count : y.from ≢ y.count
   pub from_one : y.from ≢ y.one
   pub from_eight : y.from ≢ 8
-  pub to_cell : y.to ≢ y.cell
-  pub to_count : y.to ≢ y.count
-  pub to_one : y.to ≢ y.one
-  pub to_eight : y.to ≢ 8
-  pub cell_count : y.cell ≢ y.count
-  pub cell_one : y.cell ≢ y.one
-  pub cell_eight : y.cell ≢ 8
-  pub count_one : y.count ≢ y.one
-  pub count_eight : y.count ≢ 8
-  pub one_eight : y.one ≢ 8
+  pub four : Four y.to y.cell y.count y.one
 
 unlike : (a b : ℕ) → not (a == b) ≡ true → a ≢ b
 unlike a b e = eqb-false a b (off (a == b) e)
 
-apart : (y : Copying) → differ y ≡ true → Apart y
-apart y e =
-    let h = both _ _ e in
-    let f0 = both _ _ h.0 in
-    let f1 = both _ _ f0.1 in
-    let f2 = both _ _ f1.1 in
-    let f3 = both _ _ f2.1 in
-    let i = both _ _ h.1 in
+four_apart : (y : Copying) → four_differ y ≡ true → Four y.to y.cell y.count y.one
+four_apart y e =
+    let i = both _ _ e in
     let t0 = both _ _ i.0 in
     let t1 = both _ _ t0.1 in
     let t2 = both _ _ t1.1 in
@@ -61,11 +83,6 @@ apart y e =
     let k = both _ _ j.1 in
     let n0 = both _ _ k.0 in
     record {
-      from_to = unlike y.from y.to f0.0;
-      from_cell = unlike y.from y.cell f1.0;
-      from_count = unlike y.from y.count f2.0;
-      from_one = unlike y.from y.one f3.0;
-      from_eight = unlike y.from 8 f3.1;
       to_cell = unlike y.to y.cell t0.0;
       to_count = unlike y.to y.count t1.0;
       to_one = unlike y.to y.one t2.0;
@@ -76,6 +93,22 @@ apart y e =
       count_one = unlike y.count y.one n0.0;
       count_eight = unlike y.count 8 n0.1;
       one_eight = unlike y.one 8 k.1;
+    }
+
+apart : (v : Copier) → differ (copying v) ≡ true → Apart v
+apart v e =
+    let h = both _ _ e in
+    let f0 = both _ _ h.0 in
+    let f1 = both _ _ f0.1 in
+    let f2 = both _ _ f1.1 in
+    let f3 = both _ _ f2.1 in
+    record {
+      from_to = unlike v.from v.to f0.0;
+      from_cell = unlike v.from v.cell f1.0;
+      from_count = unlike v.from v.count f2.0;
+      from_one = unlike v.from v.one f3.0;
+      from_eight = unlike v.from 8 f3.1;
+      four = four_apart (copying v) h.1;
     }
 
 step_is : (address one t p n : ℕ) → steps_by address one t p n ≡ true → (t ≡ address) × (p ≡ address) × (n ≡ one)
@@ -104,22 +137,27 @@ to_is y (Do (StepO (Reg t) (Reg p) (Reg n)) c) e =
     λ i. Do (StepO (Reg (h.0 i)) (Reg (h.1 i)) (Reg (h.2 i))) (r i)
 to_is y _ e = absurd cc
 
-both_is : (y : Copying) (c : NodesT Where) → steps_both y c ≡ true → c ≡ Do (StepO (Reg y.from) (Reg y.from) (Reg y.one)) (Do (StepO (Reg y.to) (Reg y.to) (Reg y.one)) (Again zero Stop))
-both_is y (Do (StepO (Reg t) (Reg p) (Reg n)) c) e =
-    let h = both (steps_by y.from y.one t p n) (steps_to y c) e in
-    let s = step_is y.from y.one t p n h.0 in
+-- what is done in a turn that is not the last one
+abbrev steps_of : Option ℕ → Copying → NodesT Where
+steps_of None y = Do (StepO (Reg y.to) (Reg y.to) (Reg y.one)) (Again zero Stop)
+steps_of (Some f) y = Do (StepO (Reg f) (Reg f) (Reg y.one)) (Do (StepO (Reg y.to) (Reg y.to) (Reg y.one)) (Again zero Stop))
+
+on_is : (f : Option ℕ) (y : Copying) (c : NodesT Where) → steps_on f y c ≡ true → c ≡ steps_of f y
+on_is None y c e = to_is y c e
+on_is (Some f) y (Do (StepO (Reg t) (Reg p) (Reg n)) c) e =
+    let h = both (steps_by f y.one t p n) (steps_to y c) e in
+    let s = step_is f y.one t p n h.0 in
     let r = to_is y c h.1 in
     λ i. Do (StepO (Reg (s.0 i)) (Reg (s.1 i)) (Reg (s.2 i))) (r i)
-both_is y _ e = absurd cc
+on_is (Some f) y _ e = absurd cc
 
-round_is : (y : Copying) (c : NodesT Where) → goes_round y c ≡ true →
-    c ≡ Choose (Reg y.count) (Do (StepO (Reg y.from) (Reg y.from) (Reg y.one)) (Do (StepO (Reg y.to) (Reg y.to) (Reg y.one)) (Again zero Stop))) Stop Stop
+round_is : (y : Copying) (c : NodesT Where) → goes_round y c ≡ true → c ≡ Choose (Reg y.count) (steps_of y.from y) Stop Stop
 round_is y (Choose (Reg w) a b c) e =
-    let g = both ((w == y.count) && steps_both y a) (ends_here b && ends_here c) e in
-    let h = both (w == y.count) (steps_both y a) g.0 in
+    let g = both ((w == y.count) && steps_on y.from y a) (ends_here b && ends_here c) e in
+    let h = both (w == y.count) (steps_on y.from y a) g.0 in
     let k = both (ends_here b) (ends_here c) g.1 in
     let q = eqb-true w y.count h.0 in
-    let r = both_is y a h.1 in
+    let r = on_is y.from y a h.1 in
     let u = ends_is b k.0 in
     let v = ends_is c k.1 in
     λ i. Choose (Reg (q i)) (r i) (u i) (v i)
@@ -133,31 +171,65 @@ if_some : (b : Bool) (x : Option Copying) (y : Copying) → cond b x None ≡ So
 if_some true x y e = (refl, e)
 if_some false x y e = absurd cc
 
-counted_is : (from to cell : ℕ) (c : NodesT Where) (y : Copying) → copy_counted from to cell c ≡ Some y →
-    (Do (LoadO (Reg cell) (Reg from)) (Do (StoreO (Reg to) (Reg cell)) c) ≡ turn_of y) × (differ y ≡ true)
+-- the count goes down, and where words are left the addresses go on
+abbrev counted_down : Copying → NodesT Where
+counted_down y = Do (TwoO ISUB (Reg y.count) (Reg y.count) (Reg y.one)) (Choose (Reg y.count) (steps_of y.from y) Stop Stop)
+
+record Counted (from : Option ℕ) (to cell : ℕ) (c : NodesT Where) (y : Copying) : Type 0 where
+  count : ℕ
+  one : ℕ
+  same : record { from = from; to = to; cell = cell; count = count; one = one } ≡ y
+  nodes : c ≡ counted_down (record { from = from; to = to; cell = cell; count = count; one = one })
+  differ : differ (record { from = from; to = to; cell = cell; count = count; one = one }) ≡ true
+
+counted_is : (from : Option ℕ) (to cell : ℕ) (c : NodesT Where) (y : Copying) → copy_counted from to cell c ≡ Some y → Counted from to cell c y
 counted_is from to cell (Do (TwoO ISUB (Reg t) (Reg x) (Reg n)) c) y e =
     let z : Copying = record { from = from; to = to; cell = cell; count = t; one = n } in
     let h = when_some (is_copy z x c) z y e in
     let i = both (x == t) (goes_round z c && differ z) h.0 in
     let j = both (goes_round z c) (differ z) i.1 in
     let q = eqb-true x t i.0 in
-    let r = round_is z c j.0 in (
-      (λ k. Do (LoadO (Reg cell) (Reg from)) (Do (StoreO (Reg to) (Reg cell)) (Do (TwoO ISUB (Reg t) (Reg (q k)) (Reg n)) (r k)))) ∙ ap turn_of h.1,
-      ap differ (sym h.1) ∙ j.1,
-    )
+    let r = round_is z c j.0 in
+    record { count = t; one = n; same = h.1; nodes = λ k. Do (TwoO ISUB (Reg t) (Reg (q k)) (Reg n)) (r k); differ = j.1 }
 counted_is from to cell _ y e = absurd cc
 
-stored_is : (from cell : ℕ) (c : NodesT Where) (y : Copying) → copy_stored from cell c ≡ Some y → (Do (LoadO (Reg cell) (Reg from)) c ≡ turn_of y) × (differ y ≡ true)
+-- a turn of a loop that copies words, or of one that fills them
+pub record CopyTurn (b : NodesT Where) (y : Copying) : Type 0 where
+  pub registers : Copier
+  pub same : copying registers ≡ y
+  pub nodes : b ≡ copy_turn registers
+  pub apart : Apart registers
+
+pub record FillTurn (b : NodesT Where) (y : Copying) : Type 0 where
+  pub registers : Filler
+  pub same : filling registers ≡ y
+  pub nodes : b ≡ fill_turn registers
+  pub apart : Four registers.to registers.cell registers.count registers.one
+
+filled_is : (to cell : ℕ) (c : NodesT Where) (y : Copying) → copy_counted None to cell c ≡ Some y → FillTurn (Do (StoreO (Reg to) (Reg cell)) c) y
+filled_is to cell c y e =
+    let h = counted_is None to cell c y e in
+    let v : Filler = record { to = to; cell = cell; count = h.count; one = h.one } in
+    record { registers = v; same = h.same; nodes = ap (λ d. Do (StoreO (Reg to) (Reg cell)) d) h.nodes; apart = four_apart (filling v) h.differ }
+
+copied_is : (from to cell : ℕ) (c : NodesT Where) (y : Copying) → copy_counted (Some from) to cell c ≡ Some y → CopyTurn (Do (LoadO (Reg cell) (Reg from)) (Do (StoreO (Reg to) (Reg cell)) c)) y
+copied_is from to cell c y e =
+    let h = counted_is (Some from) to cell c y e in
+    let v : Copier = record { from = from; to = to; cell = cell; count = h.count; one = h.one } in
+    record { registers = v; same = h.same; nodes = ap (λ d. Do (LoadO (Reg cell) (Reg from)) (Do (StoreO (Reg to) (Reg cell)) d)) h.nodes; apart = apart v h.differ }
+
+stored_is : (from cell : ℕ) (c : NodesT Where) (y : Copying) → copy_stored from cell c ≡ Some y → CopyTurn (Do (LoadO (Reg cell) (Reg from)) c) y
 stored_is from cell (Do (StoreO (Reg to) (Reg a)) c) y e =
-    let h = if_some (a == cell) (copy_counted from to cell c) y e in
+    let h = if_some (a == cell) (copy_counted (Some from) to cell c) y e in
     let q = eqb-true a cell h.0 in
-    let r = counted_is from to cell c y h.1 in
-    (ap (λ n. Do (LoadO (Reg cell) (Reg from)) (Do (StoreO (Reg to) (Reg n)) c)) q ∙ r.0, r.1)
+    let r = copied_is from to cell c y h.1 in
+    record { registers = r.registers; same = r.same; nodes = ap (λ n. Do (LoadO (Reg cell) (Reg from)) (Do (StoreO (Reg to) (Reg n)) c)) q ∙ r.nodes; apart = r.apart }
 stored_is from cell _ y e = absurd cc
 
-pub copy_is : (b : NodesT Where) (y : Copying) → copy_of b ≡ Some y → (b ≡ turn_of y) × Apart y
+pub copy_is : (b : NodesT Where) (y : Copying) → copy_of b ≡ Some y → CopyTurn b y ⊎ FillTurn b y
 unfolding copy_of
-copy_is (Do (LoadO (Reg cell) (Reg from)) c) y e = let r = stored_is from cell c y e in (r.0, apart y r.1)
+copy_is (Do (LoadO (Reg cell) (Reg from)) c) y e = inl (stored_is from cell c y e)
+copy_is (Do (StoreO (Reg to) (Reg cell)) c) y e = inr (filled_is to cell c y e)
 copy_is _ y e = absurd cc
 
 -- ---- the operations before it

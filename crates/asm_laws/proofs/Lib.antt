@@ -15,6 +15,9 @@ pub mod Leading
 pub mod BlockMove
 pub mod Copied
 pub mod CopyLoop
+pub mod Filled
+pub mod FillLoop
+pub mod BlockLoop
 pub mod KnownWords
 pub mod UsedStep
 pub mod Change

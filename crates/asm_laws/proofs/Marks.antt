@@ -22,7 +22,7 @@ use Rattle.asm_laws.specs.declared.behind.Behind.{Behind}
 use Rattle.asm_laws.specs.declared.behind.Behind.TheVariants.{Other, End, Turn}
 use Rattle.asm_laws.specs.inner.Emitted.{labels, functions_labels, enclosing, jump, jump_unless, mark, choice, one_way, alone, left_to, ends, jump_when, is_stop, enclosed, returning, items_past, code_items, entry_items, exit_items, function_items, functions_items, closing_items, start_items, program_items, labels_of, inside, is_end, is_turn, again, rotated, looped, is_tested, part_items, test_items}
 use Rattle.asm_laws.specs.declared.copying.Copying.{Copying}
-use Rattle.asm_laws.specs.Copies.{copy_at, copy_or, copy_items}
+use Rattle.asm_laws.specs.Copies.{copy_at, copy_or, items_from}
 use Rattle.asm_laws.proofs.InOne.{one_or_more_is, group_is}
 use Rattle.asm_laws.proofs.LabelKinds.{Differ, Kind, Jump, Fun, Text, name_of, Valid, kind_same, Range, Box, Within, Aside, jumps, jumps_within, jumps_below, jumps_above}
 
@@ -271,9 +271,13 @@ module _ (W : Whole) (differ : Differ W.names) where
   looped_marks true n e all part test x few ma mp bt = let r = mp refl in rotated_marks n e part test r.0 few r.1 bt
   looped_marks false n e all part test x few ma mp bt = enclosed_marks n e all x few ma
 
+  copy_bare : (f : Option ℕ) (y : Copying) → Bare (items_from f y)
+  copy_bare None y = tt
+  copy_bare (Some f) y = tt
+
   copied_marks : (y : Option Copying) (r : Range) (xs : List AsmItem) → Marks r xs → Marks r (copy_or y xs)
   copied_marks None r xs m = m
-  copied_marks (Some y) r xs m = marks_bare r (copy_items y) tt
+  copied_marks (Some y) r xs m = marks_bare r (items_from y.from y) (copy_bare y.from y)
 
   again_bare : (ls : List ℕ) (k : ℕ) (last : Behind) → Bare (again ls k last)
   again_bare ls k last = one_of_both ((k == 0) && is_turn last) [] (jump (enclosing ls k) ∷ []) tt tt

@@ -1,9 +1,9 @@
 -- Items have at most as many words as their code weighs.
-use Rattle.std.proofs.Common.{◌≡◌, ℕ, zero, suc, ◌+◌, ◌*◌, ◌≤◌, List, [], ◌∷◌, ◌++◌, length, map, Option, Some, None, refl, ap, arith}
+use Rattle.std.proofs.Common.{◌≡◌, ℕ, zero, suc, ◌+◌, ◌*◌, ◌≤◌, inl, inr, List, [], ◌∷◌, ◌++◌, length, map, Option, Some, None, refl, ap, arith}
 use Rattle.std.specs.Prelude.{◌==◌, cond, Bool, true, false, get_or, sum_by, ◌&&◌}
 use Rattle.std.proofs.lemmas.List.Sums.{sum_by-cons}
 use Rattle.either.specs.declared.Either.TheVariants.{Left, Right}
-use Rattle.v32_isa.specs.declared.instruction.Plain.TheVariants.{HLT, WAIT, RET, MOVS}
+use Rattle.v32_isa.specs.declared.instruction.Plain.TheVariants.{HLT, WAIT, RET, MOVS, SETS}
 use Rattle.v32_isa.specs.declared.instruction.One.{One as OneOf}
 use Rattle.v32_isa.specs.declared.instruction.Two.{Two as TwoOf}
 use Rattle.v32_isa.specs.declared.instruction.Two.TheVariants.{IADD, ISUB}
@@ -35,8 +35,8 @@ use Rattle.asm_laws.specs.declared.behind.Behind.TheVariants.{Other, End, Turn}
 use Rattle.asm_laws.specs.inner.Emitted.{labels, enclosing, jump, jump_unless, mark, choice, one_way, alone, left_to, ends, jump_when, is_stop, enclosed, returning, items_past, code_items, entry_items, exit_items, function_items, functions_items, functions_labels, call_item, closing_items, start_items, program_items, labels_of, inside, is_end, is_turn, again, rotated, looped, is_tested, part_items, test_items}
 use Rattle.asm_laws.proofs.Ordering.{in_order_few}
 use Rattle.asm_laws.specs.declared.copying.Copying.{Copying}
-use Rattle.asm_laws.specs.Copies.{copy_of, copy_at, copy_items, copy_or}
-use Rattle.asm_laws.proofs.Leads.{turn_of, copy_is, lead_is, puts_elim}
+use Rattle.asm_laws.specs.Copies.{copy_of, copy_at, items_from, copy_or}
+use Rattle.asm_laws.proofs.Leads.{copy_turn, fill_turn, copy_is, lead_is, puts_elim}
 use Rattle.asm_laws.proofs.InOne.{TakesWord, one_or_more_is, group_is}
 use Rattle.asm_laws.proofs.Walked.{total_append, total_one, total_none, total_more}
 
@@ -218,9 +218,22 @@ group_size W F o c = group_is W F (λ xs. size xs ≤ op_weight o) o c (one_size
 more_size : (x : AsmItem) (xs : List AsmItem) (k n : ℕ) → item_size x ≤ k → size xs ≤ n → size (x ∷ xs) ≤ k + n
 more_size x xs k n a b = omega (arith, total_more x xs, a, b)
 
-copy_size : (y : Copying) → size (copy_items y) ≤ 10
-copy_size y =
-    let from = register y.from in
+copy_size : (f : Option ℕ) (y : Copying) → size (items_from f y) ≤ 10
+copy_size None y =
+    let to = register y.to in
+    let l6 = item.Op (instr.Mov (RegReg (register y.count) 11)) ∷ [] in
+    let x6 = one_item (item.Op (instr.Mov (RegReg (register y.count) 11))) 1 (omega arith) in
+    let l5 = item.Op (instr.Lea to 13 (Some (Left 0xFFFFFFFF))) ∷ l6 in
+    let x5 = more_size (item.Op (instr.Lea to 13 (Some (Left 0xFFFFFFFF)))) l6 2 1 (omega arith) x6 in
+    let l4 = item.Op (instr.Plain SETS) ∷ l5 in
+    let x4 = more_size (item.Op (instr.Plain SETS)) l5 1 3 (omega arith) x5 in
+    let l3 = item.Op (instr.Mov (RegReg 11 (register y.count))) ∷ l4 in
+    let x3 = more_size (item.Op (instr.Mov (RegReg 11 (register y.count)))) l4 1 4 (omega arith) x4 in
+    let x2 = more_size (item.Op (instr.Mov (RegReg 12 (register y.cell)))) l3 1 5 (omega arith) x3 in
+    let x1 = more_size (item.Op (instr.Mov (RegReg 13 to))) (item.Op (instr.Mov (RegReg 12 (register y.cell))) ∷ l3) 1 6 (omega arith) x2 in
+    omega (arith, x1)
+copy_size (Some f) y =
+    let from = register f in
     let to = register y.to in
     let x8 = one_item (item.Op (instr.Mov (RegAtReg (register y.cell) to))) 1 (omega arith) in
     let x7 = more_size (item.Op (instr.Mov (RegReg (register y.count) 11))) (item.Op (instr.Mov (RegAtReg (register y.cell) to)) ∷ []) 1 1 (omega arith) x8 in
@@ -243,9 +256,11 @@ copied_size (suc done) b xs le = go (copy_of b) refl
     go : (x : Option Copying) → copy_of b ≡ x → size (copy_or x xs) ≤ nodes_weight b + 8
     go None e = le
     go (Some y) e =
-        let w : nodes_weight b ≡ nodes_weight (turn_of y) = ap nodes_weight (copy_is b y e).0 in
-        let z = copy_size y in
-        omega (arith, w, z)
+        let z = copy_size y.from y in
+        elim (copy_is b y e) [
+          | inl q ↦ let w : nodes_weight b ≡ nodes_weight (copy_turn q.registers) = ap nodes_weight q.nodes in omega (arith, w, z)
+          | inr q ↦ let w : nodes_weight b ≡ nodes_weight (fill_turn q.registers) = ap nodes_weight q.nodes in omega (arith, w, z)
+        ]
 
 pub call_size : (W : Whole) (F : Frame) (t : Option Where) (g : ℕ) (args : List Where) → length args ≡ length (W.params g) → size (call_items W F t g args) ≤ call_weight args
 call_size W F t g args ok =

@@ -13,7 +13,7 @@ use Rattle.asm_laws.specs.Calling.{Callable, Mach, lang, holder, shapes, Functio
 use Rattle.asm_laws.proofs.Parts.{op_sim, jump_sim, test_sim, give_sim}
 use Rattle.asm_laws.proofs.Calls.{call_sim}
 use Rattle.asm_laws.proofs.KnownWords.{op_knows}
-use Rattle.asm_laws.proofs.CopyLoop.{copy_sim}
+use Rattle.asm_laws.proofs.BlockLoop.{copy_sim}
 
 module _ (S : Setting) (fits : Fits S) (functions : (g : ℕ) → Callable S g → FunctionAt S g) where
   pub parts : Parts (lang S) (holder S) (shapes S)

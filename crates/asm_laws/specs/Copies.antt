@@ -1,7 +1,8 @@
--- Loops that copy words one by one, and the operations that put known words into registers before them.
+-- Loops that copy words one by one, or fill them with one word, and the operations that put known words into registers before them.
 use Rattle.std.specs.Prelude.{ℕ, zero, suc, ◌+◌, ◌==◌, ◌&&◌, not, nat_lt, cond, Bool, true, false, List, [], ◌∷◌, ◌++◌, Option, Some, None}
 use Rattle.either.specs.declared.Either.TheVariants.{Left}
-use Rattle.v32_isa.specs.declared.instruction.Plain.TheVariants.{MOVS}
+use Rattle.v32_isa.specs.declared.instruction.Plain.{Plain}
+use Rattle.v32_isa.specs.declared.instruction.Plain.TheVariants.{MOVS, SETS}
 use Rattle.v32_isa.specs.declared.instruction.Two.TheVariants.{ISUB}
 use Rattle.v32_isa.specs.declared.instruction.Mov.TheVariants.{RegReg, RegAtReg}
 use Rattle.v32_isa.specs.declared.instruction.Instr.TheVariants as instr
@@ -29,42 +30,53 @@ abbrev pub turns_here : NodesT Where → Bool
 turns_here (Again k c) = (k == 0) && ends_here c
 turns_here _ = false
 
--- what is done in a turn that is not the last one: both addresses go one word on
+-- what is done in a turn that is not the last one: the address to write to goes one word on, and before it that to read from
 abbrev pub steps_to : Copying → NodesT Where → Bool
 steps_to y (Do (StepO (Reg t) (Reg p) (Reg n)) c) = steps_by y.to y.one t p n && turns_here c
 steps_to y _ = false
 
-abbrev pub steps_both : Copying → NodesT Where → Bool
-steps_both y (Do (StepO (Reg t) (Reg p) (Reg n)) c) = steps_by y.from y.one t p n && steps_to y c
-steps_both y _ = false
+abbrev pub steps_both : (from : ℕ) → Copying → NodesT Where → Bool
+steps_both f y (Do (StepO (Reg t) (Reg p) (Reg n)) c) = steps_by f y.one t p n && steps_to y c
+steps_both f y _ = false
+
+abbrev pub steps_on : (from : Option ℕ) → Copying → NodesT Where → Bool
+steps_on None y c = steps_to y c
+steps_on (Some f) y c = steps_both f y c
 
 abbrev pub goes_round : Copying → NodesT Where → Bool
-goes_round y (Choose (Reg w) a b c) = ((w == y.count) && steps_both y a) && (ends_here b && ends_here c)
+goes_round y (Choose (Reg w) a b c) = ((w == y.count) && steps_on y.from y a) && (ends_here b && ends_here c)
 goes_round y _ = false
 
--- five registers differ from one another and from register 8
-abbrev pub differ : Copying → Bool
-differ y = (not (y.from == y.to) && (not (y.from == y.cell) && (not (y.from == y.count) && (not (y.from == y.one) && not (y.from == 8)))))
-    && ((not (y.to == y.cell) && (not (y.to == y.count) && (not (y.to == y.one) && not (y.to == 8))))
+-- the registers differ from one another and from register 8
+abbrev pub four_differ : Copying → Bool
+four_differ y = (not (y.to == y.cell) && (not (y.to == y.count) && (not (y.to == y.one) && not (y.to == 8))))
     && ((not (y.cell == y.count) && (not (y.cell == y.one) && not (y.cell == 8)))
-    && ((not (y.count == y.one) && not (y.count == 8)) && not (y.one == 8))))
+    && ((not (y.count == y.one) && not (y.count == 8)) && not (y.one == 8)))
+
+abbrev pub other_differs : (from : Option ℕ) → Copying → Bool
+other_differs None y = true
+other_differs (Some f) y = not (f == y.to) && (not (f == y.cell) && (not (f == y.count) && (not (f == y.one) && not (f == 8))))
+
+abbrev pub differ : Copying → Bool
+differ y = other_differs y.from y && four_differ y
 
 abbrev pub is_copy : Copying → (x : ℕ) → NodesT Where → Bool
 is_copy y x c = (x == y.count) && (goes_round y c && differ y)
 
-abbrev pub copy_counted : (from to cell : ℕ) → NodesT Where → Option Copying
+abbrev pub copy_counted : (from : Option ℕ) → (to cell : ℕ) → NodesT Where → Option Copying
 copy_counted from to cell (Do (TwoO ISUB (Reg t) (Reg x) (Reg n)) c) =
     cond (is_copy (record { from = from; to = to; cell = cell; count = t; one = n }) x c)
     (Some (record { from = from; to = to; cell = cell; count = t; one = n })) None
 copy_counted from to cell _ = None
 
 abbrev pub copy_stored : (from cell : ℕ) → NodesT Where → Option Copying
-copy_stored from cell (Do (StoreO (Reg to) (Reg a)) c) = cond (a == cell) (copy_counted from to cell c) None
+copy_stored from cell (Do (StoreO (Reg to) (Reg a)) c) = cond (a == cell) (copy_counted (Some from) to cell c) None
 copy_stored from cell _ = None
 
 -- the registers of a turn of such a loop
 unfoldable pub copy_of : NodesT Where → Option Copying
 copy_of (Do (LoadO (Reg cell) (Reg from)) c) = copy_stored from cell c
+copy_of (Do (StoreO (Reg to) (Reg cell)) c) = copy_counted None to cell c
 copy_of _ = None
 
 -- ---- the operations before it
@@ -101,7 +113,8 @@ is_one (Some n) = n == 1
 -- behind an operation that puts a word into a register, which is known or not
 abbrev pub leads : (register : ℕ) → Option ℕ → NodesT Where → Option Copying → Option ℕ
 leads r x c None = None
-leads r x c (Some y) = cond (is_count (last_put y.count c (cond (y.count == r) x None)) && is_one (last_put y.one c (cond (y.one == r) x None))) (puts_ahead 1 c) None
+leads r x c (Some y) =
+    cond (is_count (last_put y.count c (cond (y.count == r) x None)) && is_one (last_put y.one c (cond (y.one == r) x None))) (puts_ahead 1 c) None
 
 -- How many operations that come first put words into registers, before a loop whose count and 1 are known by them.
 unfoldable pub lead : NodesT Where → Option ℕ
@@ -116,18 +129,29 @@ copy_at (suc k) b = copy_of b
 
 -- ---- its instructions
 
--- The block move takes the two addresses and the count, and copies a word in each step. Then the registers have what the loop leaves in them: the addresses of
--- the last words, 0, and the last word.
-abbrev pub move_items : Copying → List AsmItem
-move_items y = item.Op (instr.Mov (RegReg 13 (register y.to))) ∷ item.Op (instr.Mov (RegReg 12 (register y.from)))
-    ∷ item.Op (instr.Mov (RegReg 11 (register y.count))) ∷ item.Op (instr.Plain MOVS) ∷ []
+-- The block move takes the address to write to, that to read from or the word, and the count, and writes a word in each step. Then the registers have what
+-- the loop leaves in them: the addresses of the last words, 0, and the last word that was read.
+abbrev pub block_items : (source : ℕ) → Plain → Copying → List AsmItem
+block_items source o y = item.Op (instr.Mov (RegReg 13 (register y.to))) ∷ item.Op (instr.Mov (RegReg 12 (register source)))
+    ∷ item.Op (instr.Mov (RegReg 11 (register y.count))) ∷ item.Op (instr.Plain o) ∷ []
 
-abbrev pub back_items : Copying → List AsmItem
-back_items y = item.Op (instr.Lea (register y.from) 12 (Some (Left 0xFFFFFFFF))) ∷ item.Op (instr.Lea (register y.to) 13 (Some (Left 0xFFFFFFFF)))
-    ∷ item.Op (instr.Mov (RegReg (register y.count) 11)) ∷ item.Op (instr.Mov (RegAtReg (register y.cell) (register y.to))) ∷ []
+abbrev pub move_items : (from : Option ℕ) → Copying → List AsmItem
+move_items None y = block_items y.cell SETS y
+move_items (Some f) y = block_items f MOVS y
+
+abbrev pub last_item : (address past : ℕ) → AsmItem
+last_item r q = item.Op (instr.Lea (register r) q (Some (Left 0xFFFFFFFF)))
+
+abbrev pub back_items : (from : Option ℕ) → Copying → List AsmItem
+back_items None y = last_item y.to 13 ∷ item.Op (instr.Mov (RegReg (register y.count) 11)) ∷ []
+back_items (Some f) y = last_item f 12 ∷ last_item y.to 13 ∷ item.Op (instr.Mov (RegReg (register y.count) 11))
+    ∷ item.Op (instr.Mov (RegAtReg (register y.cell) (register y.to))) ∷ []
+
+abbrev pub items_from : (from : Option ℕ) → Copying → List AsmItem
+items_from f y = move_items f y ++ back_items f y
 
 abbrev pub copy_items : Copying → List AsmItem
-copy_items y = move_items y ++ back_items y
+copy_items y = items_from y.from y
 
 abbrev pub copy_or : Option Copying → (other : List AsmItem) → List AsmItem
 copy_or None other = other

@@ -10,7 +10,8 @@ use Rattle.mid_code.specs.declared.node.Op.{Op}
 use Rattle.mid_code.specs.declared.node.Op.TheVariants as op
 use Rattle.mid_code.specs.Code.{NodesT, OpT, Do, Call, Stop}
 use Rattle.mid_code.specs.Functions.{op_before, NodeT, DoN, ChooseN, BlockN, LoopN, LeaveN, AgainN, ReturnN, ListT, NoN, MoreN, before, joined}
-use Rattle.asm_laws.specs.Operations.{Frame, Whole, op_items, word_put, with_word, is_spared, with_known, in_one, before_it, call_items, hand, brings, puts_items, put_item}
+use Rattle.asm_laws.specs.Operations.{Frame, Whole, op_items, word_put, with_word, is_spared, with_known, in_one, before_it, call_items}
+use Rattle.asm_laws.specs.Operations.{hand, brings, puts_items, put_item}
 use Rattle.asm_laws.specs.Spare.{used_by}
 use Rattle.asm_laws.specs.Copies.{lead, copy_at, copy_or}
 use Rattle.asm_laws.specs.declared.behind.Behind.{Behind}
@@ -200,8 +201,9 @@ module _ (W : Whole) (F : Frame) (out : ℕ) where
     pub list_past : (last : Behind) → List ℕ → ℕ → ListT Where → (done : ℕ) → List AsmItem
     list_past last ls n NoN k = []
     list_past last ls n (MoreN x rest) k =
-        front_items W F (before x (joined rest)) k ++ onward (front_more W F (before x (joined rest)) k) (copied_own k x (node_items (ends_in last rest) ls n x))
-        (list_past last ls n rest) (list_past last ls (n + node_labels x) rest 0)
+        front_items W F (before x (joined rest)) k
+        ++ onward (front_more W F (before x (joined rest)) k) (copied_own k x (node_items (ends_in last rest) ls n x)) (list_past last ls n rest)
+        (list_past last ls (n + node_labels x) rest 0)
 
     -- what is done in a turn of a rotated loop
     pub list_part : List ℕ → ℕ → ListT Where → List AsmItem

@@ -7,5 +7,5 @@ use Rattle.asm_emit.proofs.nodes.put_test.Given as goal
 abbrev pub invariant-loop-x : goal.invariant-loop-x
 invariant-loop-x l = record {
   behind : l.rest ≡ drop l.x-index l.xs;
-  items : l.out.items ++ list_test (whole l.w) (frame l.s) l.to (listed (map node (drop l.x-index l.xs))) l.done ≡ l.initial.out.items ++ list_test (whole l.w) (frame l.s) l.to (listed (map node l.xs)) 0;
+  items : l.out.items ++ list_test (whole l.w.around) (frame l.w.scope) l.to (listed (map node (drop l.x-index l.xs))) l.done ≡ l.initial.out.items ++ list_test (whole l.w.around) (frame l.w.scope) l.to (listed (map node l.xs)) 0;
 }

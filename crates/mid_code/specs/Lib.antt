@@ -2,6 +2,7 @@ pub mod Code
 pub mod Placed
 pub mod Functions
 pub mod View
+pub mod Operands
 pub mod Meaning
 pub mod States
 pub mod Runs

@@ -12,6 +12,7 @@ mod function;
 pub mod laws;
 mod mid;
 mod node;
+mod operands;
 mod placed;
 mod placed_code;
 
@@ -19,5 +20,6 @@ pub use code::Code;
 pub use function::Function;
 pub use mid::Mid;
 pub use node::{Node, Op};
+pub use operands::{Stands, Uses};
 pub use placed::{Choice, Spots, Where};
 pub use placed_code::Placed;

@@ -25,7 +25,8 @@ EachFolded _ _ = ⊥
 pub record IsFoldedFrom (before after : CodeT ℕ) : Type 0 where
   pub is_mid : IsMid after
   -- each run is the same: its port operations, its end, the words that it keeps, and its work
-  pub runs : (frames : List ℕ) (n : ℕ) (answers : List ℕ) (card : Option (List ℕ)) → mid_runs after frames n answers card ≡ mid_runs before frames n answers card
+  pub runs : (frames : List ℕ) (n : ℕ) (answers : List ℕ) (card : Option (List ℕ)) →
+      mid_runs after frames n answers card ≡ mid_runs before frames n answers card
   pub weighs : weight after ≡ weight before
   pub start : IsFoldedFunction before.start after.start
   pub functions : EachFolded before.functions after.functions

@@ -42,8 +42,6 @@ pub(crate) fn fold_op(words: &[(u32, u32)], o: &mut Op<u32>)
     ensures { o.new ≡ op_folded words.now o.old }
 {
     match o {
-        Op::Const(_, _) => {}
-        Op::Null(_) => {}
         Op::Move(t, a) => {
             let t = *t;
             let word = word_in(words, *a);
@@ -59,21 +57,6 @@ pub(crate) fn fold_op(words: &[(u32, u32)], o: &mut Op<u32>)
             let word = two_known(*by, word_in(words, *a), word_in(words, *b));
             put_word(t, o, word);
         }
-        Op::Global(_, _) => {}
-        Op::Local(_, _) => {}
-        Op::Literal(_, _) => {}
-        Op::Card(_) => {}
-        Op::Step(_, _, _) => {}
-        Op::Apart(_, _, _) => {}
-        Op::PtrTest(_, _, _, _) => {}
-        Op::Load(_, _) => {}
-        Op::Store(_, _) => {}
-        Op::Fresh(_) => {}
-        Op::End(_) => {}
-        Op::Call(_, _, _) => {}
-        Op::In(_, _) => {}
-        Op::Out(_, _) => {}
-        Op::Wait => {}
-        Op::Halt => {}
+        _ => {}
     }
 }

@@ -2,7 +2,7 @@
 ghost use Rattle.std.specs.Prelude.{◌≡◌, ◌∷◌, [], IfOk, OnOk, map};
 ghost use Rattle.mid_code.specs.Functions.{node};
 ghost use Rattle.mid_fold.specs.inner.Folding.{behind, few, word_in};
-ghost use Rattle.mid_fold.specs.inner.Listed.{node_known, op_known};
+ghost use Rattle.mid_fold.specs.inner.Listed.{behind_maybe, node_known, op_known};
 
 use kit_base::Memory;
 use mid_code::{Node, Op};
@@ -46,31 +46,22 @@ fn know_word(words: &mut Words, t: u32, word: u32) -> Result<(), Memory>
     Ok(())
 }
 
+/// The same where there is such a temporary.
+fn forget_maybe(words: &mut Words, t: Option<u32>)
+    ensures { words.new.items ≡ behind_maybe words.old.items t }
+{
+    if let Some(t) = t {
+        forget(words, t);
+    }
+}
+
 fn know_op(words: &mut Words, o: &Op<u32>) -> Result<(), Memory>
     ensures { OnOk result (words.new.items ≡ op_known words.old.items o.now) }
 {
     match o {
         Op::Const(t, word) => know_word(words, *t, *word)?,
-        Op::Null(t) => forget(words, *t),
-        Op::Move(t, _) => forget(words, *t),
-        Op::One(_, t, _) => forget(words, *t),
-        Op::Two(_, t, _, _) => forget(words, *t),
-        Op::Global(t, _) => forget(words, *t),
-        Op::Local(t, _) => forget(words, *t),
-        Op::Literal(t, _) => forget(words, *t),
-        Op::Card(t) => forget(words, *t),
-        Op::Step(t, _, _) => forget(words, *t),
-        Op::Apart(t, _, _) => forget(words, *t),
-        Op::PtrTest(_, t, _, _) => forget(words, *t),
-        Op::Load(t, _) => forget(words, *t),
-        Op::Store(_, _) => {}
-        Op::Fresh(_) => {}
-        Op::End(_) => {}
         Op::Call(_, _, _) => words.clear(),
-        Op::In(t, _) => forget(words, *t),
-        Op::Out(_, _) => {}
-        Op::Wait => {}
-        Op::Halt => {}
+        _ => forget_maybe(words, o.target()),
     }
     Ok(())
 }

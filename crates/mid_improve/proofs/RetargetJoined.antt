@@ -5,8 +5,9 @@ use Rattle.mid_code.specs.declared.node.Op.TheVariants as op
 use Rattle.mid_code.specs.declared.node.Node.{Node}
 use Rattle.mid_code.specs.Code.{ConstO, NullO, MoveO, OneO, TwoO, GlobalO, LocalO, LiteralO, CardO, StepO, ApartO, PtrTestO, LoadO, StoreO, FreshO, EndO, InO, OutO, WaitO, HaltO, NodesT, Do, Call, Choose, Block, Loop, Leave, Again, Return, FunctionT}
 use Rattle.mid_code.specs.Functions.{op_before, NodeT, DoN, ChooseN, BlockN, LoopN, LeaveN, AgainN, ReturnN, ListT, NoN, MoreN, listed, node, before, joined, nodes}
+use Rattle.mid_code.specs.Operands.{op_target}
 use Rattle.mid_improve.specs.inner.Retarget.{landing, lands, Turn, turn_of, or_else, retargeted, retargeted_function}
-use Rattle.mid_improve.specs.inner.RetargetListed.{op_target, op_to, op_landing, list_landing, list_lands, turned_move, unless_turned, node_target, node_turn, node_retargeted, list_retargeted}
+use Rattle.mid_improve.specs.inner.RetargetListed.{op_to, op_landing, list_landing, list_lands, turned_move, unless_turned, node_target, node_turn, node_retargeted, list_retargeted}
 
 -- ---- where targets land
 

@@ -5,7 +5,7 @@ ghost use Rattle.mid_code.specs.Whole.{mid};
 ghost use Rattle.mid_improve.specs.inner.ForwardedFrom.{IsForwardedFrom};
 ghost use Rattle.mid_fold.specs.Lasting.{one_known, two_known};
 ghost use Rattle.mid_improve.specs.inner.Forward.{serves, forwarded_function};
-ghost use Rattle.mid_improve.specs.inner.ForwardListed.{or_word, op_forwarded, node_forwarded, list_forwarded};
+ghost use Rattle.mid_improve.specs.inner.ForwardListed.{or_word, or_known, op_word, op_forwarded, node_forwarded, list_forwarded};
 ghost use Rattle.mid_improve.specs.inner.Facts.{none_known};
 ghost use Rattle.mid_improve.specs.inner.Listed.{node_known};
 ghost use Rattle.mid_improve.specs.inner.Tables.{facts};
@@ -14,7 +14,7 @@ use crate::runs::know_node;
 use crate::table::Table;
 use kit_base::{Memory, Seq};
 use mid_code::laws::mid_code_is_sound;
-use mid_code::{Code, Function, Mid, Node, Op};
+use mid_code::{Code, Function, Mid, Node, Op, Stands};
 use std::alloc::Global;
 use std::mem;
 use v32_isa::{One, Two, one_word, two_word};
@@ -39,20 +39,12 @@ fn serves_maybe(table: &Table, q: Option<u32>) -> Option<u32>
     }
 }
 
-fn serve_each(table: &Table, qs: &mut Vec<u32>)
-    ensures { qs.new.items ≡ map (serves (facts table.now)) qs.old.items }
-{
-    for i in 0..qs.len() {
-        qs[i] = serves(table, qs[i]);
-    }
-}
+impl Stands<u32> for Table {
+    ghost stands = { λ table q. serves (facts table) q };
 
-fn serve_all(alloc: Global, table: &Table, qs: &mut Seq<u32>)
-    ensures { qs.new ≡ map (serves (facts table.now)) qs.old }
-{
-    let mut served = mem::replace(qs, Seq::from_vec(Vec::new(alloc))).into_vec();
-    serve_each(table, &mut served);
-    *qs = Seq::from_vec(served);
+    fn stands(&self, p: u32) -> u32 {
+        serves(self, p)
+    }
 }
 
 // ---- operations
@@ -87,61 +79,35 @@ fn put_word(t: u32, o: &mut Op<u32>, word: Option<u32>)
     }
 }
 
+/// The same where an operation has a target and may have a word.
+fn put_known(known: Option<(u32, Option<u32>)>, o: &mut Op<u32>)
+    ensures { o.new ≡ or_known known o.old }
+{
+    match known {
+        None => {}
+        Some((t, word)) => put_word(t, o, word),
+    }
+}
+
+/// The target of an operation that can be worked out from words, and its word where those are known.
+fn word_of(table: &Table, o: &Op<u32>) -> Option<(u32, Option<u32>)>
+    ensures { result ≡ op_word (facts table.now) o.now }
+{
+    match o {
+        Op::Move(t, a) => Some((*t, table.word(*a))),
+        Op::One(by, t, a) => Some((*t, one_known(*by, table.word(*a)))),
+        Op::Two(by, t, a, b) => Some((*t, two_known(*by, table.word(*a), table.word(*b)))),
+        _ => None,
+    }
+}
+
 /// Puts in the place of an operation the one that stands for it.
 fn forward_op(alloc: Global, table: &Table, o: &mut Op<u32>)
     ensures { o.new ≡ op_forwarded (facts table.now) o.old }
 {
-    match o {
-        Op::Const(_, _) => {}
-        Op::Null(_) => {}
-        Op::Move(t, a) => {
-            let t = *t;
-            let word = table.word(*a);
-            *a = serves(table, *a);
-            put_word(t, o, word);
-        }
-        Op::One(by, t, a) => {
-            let t = *t;
-            let word = one_known(*by, table.word(*a));
-            *a = serves(table, *a);
-            put_word(t, o, word);
-        }
-        Op::Two(by, t, a, b) => {
-            let t = *t;
-            let word = two_known(*by, table.word(*a), table.word(*b));
-            *a = serves(table, *a);
-            *b = serves(table, *b);
-            put_word(t, o, word);
-        }
-        Op::Global(_, _) => {}
-        Op::Local(_, _) => {}
-        Op::Literal(_, _) => {}
-        Op::Card(_) => {}
-        Op::Step(_, p, n) => {
-            *p = serves(table, *p);
-            *n = serves(table, *n);
-        }
-        Op::Apart(_, p, q) => {
-            *p = serves(table, *p);
-            *q = serves(table, *q);
-        }
-        Op::PtrTest(_, _, p, q) => {
-            *p = serves(table, *p);
-            *q = serves(table, *q);
-        }
-        Op::Load(_, p) => *p = serves(table, *p),
-        Op::Store(p, a) => {
-            *p = serves(table, *p);
-            *a = serves(table, *a);
-        }
-        Op::Fresh(_) => {}
-        Op::End(_) => {}
-        Op::Call(_, _, arguments) => serve_all(alloc, table, arguments),
-        Op::In(_, _) => {}
-        Op::Out(_, a) => *a = serves(table, *a),
-        Op::Wait => {}
-        Op::Halt => {}
-    }
+    let known = word_of(table, &*o);
+    o.replace_uses(alloc, table);
+    put_known(known, o);
 }
 
 // ---- nodes

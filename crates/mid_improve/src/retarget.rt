@@ -2,10 +2,11 @@
 ghost use Rattle.std.specs.Prelude.{◌≡◌, ℕ, ◌+◌, ◌<◌, None, Some, cond, eqb, map, length, drop, get_or};
 ghost use Rattle.mid_code.specs.declared.node.Node.{Node};
 ghost use Rattle.mid_code.specs.Functions.{function, listed, node};
+ghost use Rattle.mid_code.specs.Operands.{op_target};
 ghost use Rattle.mid_code.specs.Whole.{mid};
 ghost use Rattle.mid_improve.specs.ImprovedFrom.{IsNoWorseFrom};
 ghost use Rattle.mid_improve.specs.inner.Retarget.{or_else, turn_of, retargeted_function};
-ghost use Rattle.mid_improve.specs.inner.RetargetListed.{op_target, op_into, op_to, op_landing, list_landing, list_lands};
+ghost use Rattle.mid_improve.specs.inner.RetargetListed.{op_to, op_landing, list_landing, list_lands};
 ghost use Rattle.mid_improve.specs.inner.RetargetListed.{turned_move, unless_turned, node_target, node_turn, node_retargeted, list_retargeted};
 
 use kit_base::Seq;
@@ -15,34 +16,6 @@ use std::alloc::Global;
 use std::mem;
 
 // ---- where targets go
-
-fn target_of(o: &Op<u32>) -> Option<u32>
-    ensures { result ≡ op_target o.now }
-{
-    match o {
-        Op::Const(t, _) => Some(*t),
-        Op::Null(t) => Some(*t),
-        Op::Move(t, _) => Some(*t),
-        Op::One(_, t, _) => Some(*t),
-        Op::Two(_, t, _, _) => Some(*t),
-        Op::Global(t, _) => Some(*t),
-        Op::Local(t, _) => Some(*t),
-        Op::Literal(t, _) => Some(*t),
-        Op::Card(t) => Some(*t),
-        Op::Step(t, _, _) => Some(*t),
-        Op::Apart(t, _, _) => Some(*t),
-        Op::PtrTest(_, t, _, _) => Some(*t),
-        Op::Load(t, _) => Some(*t),
-        Op::Store(_, _) => None,
-        Op::Fresh(_) => None,
-        Op::End(_) => None,
-        Op::Call(t, _, _) => *t,
-        Op::In(t, _) => Some(*t),
-        Op::Out(_, _) => None,
-        Op::Wait => None,
-        Op::Halt => None,
-    }
-}
 
 /// The temporary to which an operation moves a target; else the target.
 fn op_landing(t: u32, o: &Op<u32>) -> u32
@@ -81,41 +54,12 @@ fn lands(t: Option<u32>, after: &[Node<u32>]) -> Option<u32>
     }
 }
 
-/// Gives the operation another target, where it has one.
-fn into_target(x: u32, o: &mut Op<u32>)
-    ensures { o.new ≡ op_into x o.old }
-{
-    match o {
-        Op::Const(t, _) => *t = x,
-        Op::Null(t) => *t = x,
-        Op::Move(t, _) => *t = x,
-        Op::One(_, t, _) => *t = x,
-        Op::Two(_, t, _, _) => *t = x,
-        Op::Global(t, _) => *t = x,
-        Op::Local(t, _) => *t = x,
-        Op::Literal(t, _) => *t = x,
-        Op::Card(t) => *t = x,
-        Op::Step(t, _, _) => *t = x,
-        Op::Apart(t, _, _) => *t = x,
-        Op::PtrTest(_, t, _, _) => *t = x,
-        Op::Load(t, _) => *t = x,
-        Op::Store(_, _) => {}
-        Op::Fresh(_) => {}
-        Op::End(_) => {}
-        Op::Call(t, _, _) => *t = Some(x),
-        Op::In(t, _) => *t = x,
-        Op::Out(_, _) => {}
-        Op::Wait => {}
-        Op::Halt => {}
-    }
-}
-
 fn to_target(x: Option<u32>, o: &mut Op<u32>)
     ensures { o.new ≡ op_to x o.old }
 {
     match x {
         None => {}
-        Some(x) => into_target(x, o),
+        Some(x) => o.set_target(x),
     }
 }
 
@@ -170,7 +114,7 @@ fn retarget_op(turn: Option<(u32, u32)>, to: Option<u32>, o: &mut Op<u32>)
 fn op_turn(turn: Option<(u32, u32)>, to: Option<u32>, o: &Op<u32>) -> Option<(u32, u32)>
     ensures { result ≡ unless_turned (turned_move turn o.now) (turn_of (op_target o.now) to) }
 {
-    unless_turned(turned_move(turn, o), turn_of(target_of(o), to))
+    unless_turned(turned_move(turn, o), turn_of(o.target(), to))
 }
 
 fn next_turn(turn: Option<(u32, u32)>, to: Option<u32>, n: &Node<u32>) -> Option<(u32, u32)>
@@ -187,26 +131,12 @@ fn next_turn(turn: Option<(u32, u32)>, to: Option<u32>, n: &Node<u32>) -> Option
     }
 }
 
-fn node_target(n: &Node<u32>) -> Option<u32>
-    ensures { result ≡ node_target (node n.now) }
-{
-    match n {
-        Node::Do(o) => target_of(o),
-        Node::Choose(_, _, _) => None,
-        Node::Block(_) => None,
-        Node::Loop(_) => None,
-        Node::Leave(_) => None,
-        Node::Again(_) => None,
-        Node::Return(_) => None,
-    }
-}
-
 /// Where the target of the node at a place goes.
 fn lands_at(ns: &[Node<u32>], i: usize) -> Option<u32>
     requires there { i < length ns.now }
     ensures { (d : Node ℕ) → result ≡ list_lands (node_target (node (get_or ns.now i d))) (listed (map node (drop (i + 1) ns.now))) }
 {
-    lands(node_target(&ns[i]), &ns[i + 1..])
+    lands(ns[i].target(), &ns[i + 1..])
 }
 
 /// Puts in the place of a node what stands for it, where its target goes to a temporary.

@@ -2,6 +2,7 @@
 ghost use Rattle.std.specs.Prelude.{◌≡◌, [], map, IfOk, OnOk};
 ghost use Rattle.std.specs.List.{list_all};
 ghost use Rattle.mid_code.specs.Functions.{function, node, listed};
+ghost use Rattle.mid_code.specs.Operands.{listed_uses};
 ghost use Rattle.mid_fold.specs.Lasting.{divides};
 ghost use Rattle.mid_improve.specs.Settled.{is_zero, nodes_settled};
 ghost use Rattle.mid_improve.specs.inner.Facts.{none_known, behind_maybe, is_no_copy};
@@ -10,7 +11,7 @@ ghost use Rattle.mid_improve.specs.inner.Tables.{facts};
 
 use crate::table::Table;
 use kit_base::Memory;
-use mid_code::{Function, Node, Op};
+use mid_code::{Function, Node, Op, Uses};
 use v32_isa::Two;
 
 // ---- what is known behind a node
@@ -33,7 +34,7 @@ fn know_const(table: &mut Table, t: u32, word: u32) -> Result<(), Memory>
     table.hold_word(t, word)
 }
 
-fn know_call(table: &mut Table, t: Option<u32>) -> Result<(), Memory>
+fn know_target(table: &mut Table, t: Option<u32>) -> Result<(), Memory>
     ensures { OnOk result (facts table.new ≡ behind_maybe (facts table.old) t) }
 {
     match t {
@@ -47,26 +48,8 @@ fn know_op(table: &mut Table, o: &Op<u32>) -> Result<(), Memory>
 {
     match o {
         Op::Const(t, word) => know_const(table, *t, *word),
-        Op::Null(t) => table.change(*t),
         Op::Move(t, a) => know_move(table, *t, *a),
-        Op::One(_, t, _) => table.change(*t),
-        Op::Two(_, t, _, _) => table.change(*t),
-        Op::Global(t, _) => table.change(*t),
-        Op::Local(t, _) => table.change(*t),
-        Op::Literal(t, _) => table.change(*t),
-        Op::Card(t) => table.change(*t),
-        Op::Step(t, _, _) => table.change(*t),
-        Op::Apart(t, _, _) => table.change(*t),
-        Op::PtrTest(_, t, _, _) => table.change(*t),
-        Op::Load(t, _) => table.change(*t),
-        Op::Store(_, _) => Ok(()),
-        Op::Fresh(_) => Ok(()),
-        Op::End(_) => Ok(()),
-        Op::Call(t, _, _) => know_call(table, *t),
-        Op::In(t, _) => table.change(*t),
-        Op::Out(_, _) => Ok(()),
-        Op::Wait => Ok(()),
-        Op::Halt => Ok(()),
+        _ => know_target(table, o.target()),
     }
 }
 
@@ -152,31 +135,24 @@ fn is_two_settled(table: &Table, o: Two, t: u32, a: u32, b: u32) -> bool
     !two_folds(divides(o), table.word(a), table.word(b)) && are_no_copies(table, &[a, b])
 }
 
+fn reads_no_copies(table: &Table, uses: &Uses<'_, u32>) -> bool
+    ensures { result ≡ list_all (is_no_copy (facts table.now)) (listed_uses uses.now) }
+{
+    match uses {
+        Uses::Nothing => true,
+        Uses::One(a) => are_no_copies(table, &[*a]),
+        Uses::Two(a, b) => are_no_copies(table, &[*a, *b]),
+        Uses::All(arguments) => are_no_copies(table, arguments),
+    }
+}
+
 fn is_op_settled(table: &Table, o: &Op<u32>) -> bool
     ensures { result ≡ op_settled (facts table.now) o.now }
 {
     match o {
-        Op::Const(_, _) => true,
-        Op::Null(_) => true,
-        Op::Move(_, a) => are_no_copies(table, &[*a]),
         Op::One(_, _, a) => is_one_settled(table, *a),
         Op::Two(o, t, a, b) => is_two_settled(table, *o, *t, *a, *b),
-        Op::Global(_, _) => true,
-        Op::Local(_, _) => true,
-        Op::Literal(_, _) => true,
-        Op::Card(_) => true,
-        Op::Step(_, p, n) => are_no_copies(table, &[*p, *n]),
-        Op::Apart(_, p, q) => are_no_copies(table, &[*p, *q]),
-        Op::PtrTest(_, _, p, q) => are_no_copies(table, &[*p, *q]),
-        Op::Load(_, p) => are_no_copies(table, &[*p]),
-        Op::Store(p, a) => are_no_copies(table, &[*p, *a]),
-        Op::Fresh(_) => true,
-        Op::End(_) => true,
-        Op::Call(_, _, arguments) => are_no_copies(table, arguments.as_slice()),
-        Op::In(_, _) => true,
-        Op::Out(_, a) => are_no_copies(table, &[*a]),
-        Op::Wait => true,
-        Op::Halt => true,
+        _ => reads_no_copies(table, &o.uses()),
     }
 }
 

@@ -3,7 +3,9 @@
 ghost use Rattle.std.specs.Prelude.{◌≡◌, ℕ, ◌<◌, ◌-◌, ◌&&◌, not, cond, None, Some, IfSome, map, length, get_or};
 ghost use Rattle.std.specs.List.{list_all, swap};
 ghost use Rattle.mid_code.specs.declared.node.Node.{Node};
+ghost use Rattle.mid_code.specs.Code.{maybe};
 ghost use Rattle.mid_code.specs.Functions.{function, listed, node};
+ghost use Rattle.mid_code.specs.Operands.{op_uses, op_target, listed_uses};
 ghost use Rattle.mid_code.specs.Whole.{mid};
 ghost use Rattle.mid_improve.specs.ImprovedFrom.{IsNoWorseFrom};
 ghost use Rattle.mid_improve.specs.inner.Sinking.{hides, sunk_function};
@@ -12,7 +14,7 @@ ghost use Rattle.mid_improve.specs.inner.SinkListed.{passes, held_at, node_sunk,
 
 use kit_base::Seq;
 use mid_code::laws::mid_code_is_sound;
-use mid_code::{Code, Function, Mid, Node, Op};
+use mid_code::{Code, Function, Mid, Node, Op, Uses};
 use std::alloc::Global;
 use std::mem;
 
@@ -39,38 +41,40 @@ fn all_show(f: Free, qs: &[u32]) -> bool
     qs.iter().all(|q| !hides(f, *q))
 }
 
-/// Whether neither what is used nor what is a target is the temporary.
-fn apart(f: Free, used: &[u32], made: &[u32]) -> bool
-    ensures { result ≡ (list_all (λ q. not (hides (Some (free_op f)) q)) used.now && list_all (λ q. not (hides (Some (free_op f)) q)) made.now) }
+fn uses_show(f: Free, uses: &Uses<'_, u32>) -> bool
+    ensures { result ≡ list_all (λ q. not (hides (Some (free_op f)) q)) (listed_uses uses.now) }
 {
-    all_show(f, used) && all_show(f, made)
+    match uses {
+        Uses::Nothing => true,
+        Uses::One(a) => all_show(f, &[*a]),
+        Uses::Two(a, b) => all_show(f, &[*a, *b]),
+        Uses::All(arguments) => all_show(f, arguments),
+    }
+}
+
+fn target_shows(f: Free, t: Option<u32>) -> bool
+    ensures { result ≡ list_all (λ q. not (hides (Some (free_op f)) q)) (maybe t) }
+{
+    match t {
+        None => true,
+        Some(t) => all_show(f, &[t]),
+    }
+}
+
+/// Whether neither what an operation reads nor its target is the temporary.
+fn apart(f: Free, o: &Op<u32>) -> bool
+    ensures { result ≡ (list_all (λ q. not (hides (Some (free_op f)) q)) (op_uses o.now)
+        && list_all (λ q. not (hides (Some (free_op f)) q)) (maybe (op_target o.now))) }
+{
+    uses_show(f, &o.uses()) && target_shows(f, o.target())
 }
 
 fn is_op_apart(f: Free, o: &Op<u32>) -> bool
     ensures { result ≡ apart_in (free_op f) (plain_op o.now) }
 {
     match o {
-        Op::Const(t, _) => apart(f, &[], &[*t]),
-        Op::Null(t) => apart(f, &[], &[*t]),
-        Op::Move(t, a) => apart(f, &[*a], &[*t]),
-        Op::One(_, t, a) => apart(f, &[*a], &[*t]),
-        Op::Two(_, t, a, b) => apart(f, &[*a, *b], &[*t]),
-        Op::Global(t, _) => apart(f, &[], &[*t]),
-        Op::Local(t, _) => apart(f, &[], &[*t]),
-        Op::Literal(t, _) => apart(f, &[], &[*t]),
-        Op::Card(t) => apart(f, &[], &[*t]),
-        Op::Step(t, p, n) => apart(f, &[*p, *n], &[*t]),
-        Op::Apart(t, p, q) => apart(f, &[*p, *q], &[*t]),
-        Op::PtrTest(_, t, p, q) => apart(f, &[*p, *q], &[*t]),
-        Op::Load(t, p) => apart(f, &[*p], &[*t]),
-        Op::Store(p, a) => apart(f, &[*p, *a], &[]),
-        Op::Fresh(_) => apart(f, &[], &[]),
-        Op::End(_) => apart(f, &[], &[]),
         Op::Call(_, _, _) => false,
-        Op::In(t, _) => apart(f, &[], &[*t]),
-        Op::Out(_, a) => apart(f, &[*a], &[]),
-        Op::Wait => apart(f, &[], &[]),
-        Op::Halt => apart(f, &[], &[]),
+        _ => apart(f, o),
     }
 }
 
@@ -94,26 +98,8 @@ fn free_of_op(o: &Op<u32>) -> Option<Free>
 {
     match o {
         Op::Const(t, word) => Some(Free::Const(*t, *word)),
-        Op::Null(_) => None,
-        Op::Move(_, _) => None,
-        Op::One(_, _, _) => None,
-        Op::Two(_, _, _, _) => None,
         Op::Global(t, number) => Some(Free::Global(*t, *number)),
-        Op::Local(_, _) => None,
-        Op::Literal(_, _) => None,
-        Op::Card(_) => None,
-        Op::Step(_, _, _) => None,
-        Op::Apart(_, _, _) => None,
-        Op::PtrTest(_, _, _, _) => None,
-        Op::Load(_, _) => None,
-        Op::Store(_, _) => None,
-        Op::Fresh(_) => None,
-        Op::End(_) => None,
-        Op::Call(_, _, _) => None,
-        Op::In(_, _) => None,
-        Op::Out(_, _) => None,
-        Op::Wait => None,
-        Op::Halt => None,
+        _ => None,
     }
 }
 

@@ -19,52 +19,6 @@ use mid_live::{
 };
 use std::alloc::Global;
 
-fn copy_words(alloc: Global, words: &[u32]) -> Result<Vec<u32>, Memory>
-    ensures { IfOk result (λ r. r.items ≡ words.now) }
-{
-    Ok(words.to_vec(alloc)?)
-}
-
-fn copy_call(
-    alloc: Global,
-    target: Option<u32>,
-    function: u32,
-    arguments: &[u32],
-) -> Result<Op<u32>, Memory>
-    ensures { IfOk result (λ r. r ≡ Op.Call target function arguments.now) }
-{
-    let arguments = copy_words(alloc, arguments)?;
-    Ok(Op::Call(target, function, Seq::from_vec(arguments)))
-}
-
-fn copy_op(alloc: Global, o: &Op<u32>) -> Result<Op<u32>, Memory>
-    ensures { IfOk result (λ r. r ≡ o.now) }
-{
-    Ok(match o {
-        Op::Const(t, word) => Op::Const(*t, *word),
-        Op::Null(t) => Op::Null(*t),
-        Op::Move(t, a) => Op::Move(*t, *a),
-        Op::One(o, t, a) => Op::One(*o, *t, *a),
-        Op::Two(o, t, a, b) => Op::Two(*o, *t, *a, *b),
-        Op::Global(t, number) => Op::Global(*t, *number),
-        Op::Local(t, k) => Op::Local(*t, *k),
-        Op::Literal(t, number) => Op::Literal(*t, *number),
-        Op::Card(t) => Op::Card(*t),
-        Op::Step(t, p, n) => Op::Step(*t, *p, *n),
-        Op::Apart(t, p, q) => Op::Apart(*t, *p, *q),
-        Op::PtrTest(o, t, p, q) => Op::PtrTest(*o, *t, *p, *q),
-        Op::Load(t, p) => Op::Load(*t, *p),
-        Op::Store(p, a) => Op::Store(*p, *a),
-        Op::Fresh(k) => Op::Fresh(*k),
-        Op::End(k) => Op::End(*k),
-        Op::Call(t, f, arguments) => copy_call(alloc, *t, *f, arguments.as_slice())?,
-        Op::In(t, port) => Op::In(*t, *port),
-        Op::Out(port, a) => Op::Out(*port, *a),
-        Op::Wait => Op::Wait,
-        Op::Halt => Op::Halt,
-    })
-}
-
 /// The operation, where it is wanted; and then the set becomes what is live before it.
 fn sweep_op(
     alloc: Global,
@@ -81,7 +35,7 @@ fn sweep_op(
         return Ok(None);
     }
     before_op(o, m, s);
-    Ok(Some(Node::Do(copy_op(alloc, o)?)))
+    Ok(Some(Node::Do(o.copied(alloc)?)))
 }
 
 /// Makes the set what is live before a node, without what is taken out; the node, where it stays.

@@ -40,18 +40,7 @@ pub(crate) fn is_op_wanted(count: u32, o: &Op<u32>, s: &Live) -> bool
         Op::Local(t, _) => is_wanted(count, true, *t, s),
         Op::Literal(t, _) => is_wanted(count, true, *t, s),
         Op::Card(t) => is_wanted(count, true, *t, s),
-        Op::Step(_, _, _) => true,
-        Op::Apart(_, _, _) => true,
-        Op::PtrTest(_, _, _, _) => true,
-        Op::Load(_, _) => true,
-        Op::Store(_, _) => true,
-        Op::Fresh(_) => true,
-        Op::End(_) => true,
-        Op::Call(_, _, _) => true,
-        Op::In(_, _) => true,
-        Op::Out(_, _) => true,
-        Op::Wait => true,
-        Op::Halt => true,
+        _ => true,
     }
 }
 

@@ -374,3 +374,7 @@ none_held count h = record {
 
 pub restored : (n m : ℕ) (ws new : List ℕ) (es : List Held) → length ws ≡ length (spread (replicate m 0) es) → length ws ≡ n → new ≡ spread (replicate n 0) es → new ≡ spread (replicate m 0) es
 restored n m ws new es e l is = (let same : n ≡ m = sym l ∙ e ∙ spread_long (replicate m 0) es ∙ long m in is ∙ ap (λ z. spread (replicate z 0) es) same)
+
+pub ruleset copied = (copied_none, copied_same, copied_more, copied_all)
+
+pub ruleset placed_bits = (bits_none, bits_found, bits_passed, bits_all)

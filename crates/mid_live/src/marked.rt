@@ -38,7 +38,7 @@ pub(crate) fn strike_marked(words: &mut Vec<u64>, marks: &mut Marks, x: usize)
 }
 
 /// The words that are not 0, in ascending order.
-#[tactic(auto, using(crate::proofs::Written::copied_none, crate::proofs::Written::copied_same, crate::proofs::Written::copied_more, crate::proofs::Written::copied_all))]
+#[tactic(auto, using(crate::proofs::Written::copied))]
 pub(crate) fn copied(alloc: Global, words: &[u64], marks: &Marks) -> Result<Vec<Held>, Memory>
     requires held { IsHeld words.now marks.now }
     ensures fresh { IfOk result (λ v. FreshIn (replicate (length words.now) 0) v.items) }

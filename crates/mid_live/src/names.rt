@@ -1,8 +1,8 @@
 // What nodes name.
 ghost use Rattle.std.specs.Prelude.{◌≡◌, ℕ, ◌+◌, ◌<◌, ◌||◌, IfOk, OnOk, length, map};
-ghost use Rattle.mid_code.specs.Code.{Stop};
+ghost use Rattle.mid_code.specs.Code.{Stop, maybe};
 ghost use Rattle.mid_code.specs.Functions.{LoopN, op_before, node, nodes, before, listed};
-ghost use Rattle.mid_code.specs.Live.{is_target};
+ghost use Rattle.mid_code.specs.Live.{is_among, is_target};
 ghost use Rattle.mid_live.specs.Sets.{on, room};
 ghost use Rattle.mid_live.specs.Heads.{named, node_loops, list_loops, NodeTold, ListTold};
 ghost use Rattle.mid_live.specs.inner.Loops.{NamesPut};
@@ -13,38 +13,21 @@ use crate::operations::put_uses;
 use kit_base::Memory;
 use mid_code::{Node, Op};
 
-#[tactic(auto, using(crate::proofs::Facts::or_swapped))]
+/// Puts the temporary in, where there is one.
+fn put_maybe(s: &mut Live, t: Option<u32>)
+    ensures len { length s.new ≡ length s.old }
+    ensures is { (y : ℕ) → y < room s.old → on s.new y ≡ (is_among (maybe t) y || on s.old y) }
+{
+    if let Some(t) = t {
+        s.put(t as usize);
+    }
+}
+
 fn put_target(s: &mut Live, o: &Op<u32>)
     ensures len { length s.new ≡ length s.old }
     ensures is { (y : ℕ) → y < room s.old → on s.new y ≡ (is_target (op_before o.now Stop) y || on s.old y) }
 {
-    match o {
-        Op::Const(t, _) => s.put(*t as usize),
-        Op::Null(t) => s.put(*t as usize),
-        Op::Move(t, _) => s.put(*t as usize),
-        Op::One(_, t, _) => s.put(*t as usize),
-        Op::Two(_, t, _, _) => s.put(*t as usize),
-        Op::Global(t, _) => s.put(*t as usize),
-        Op::Local(t, _) => s.put(*t as usize),
-        Op::Literal(t, _) => s.put(*t as usize),
-        Op::Card(t) => s.put(*t as usize),
-        Op::Step(t, _, _) => s.put(*t as usize),
-        Op::Apart(t, _, _) => s.put(*t as usize),
-        Op::PtrTest(_, t, _, _) => s.put(*t as usize),
-        Op::Load(t, _) => s.put(*t as usize),
-        Op::Store(_, _) => {}
-        Op::Fresh(_) => {}
-        Op::End(_) => {}
-        Op::Call(t, _, _) => {
-            if let Some(t) = t {
-                s.put(*t as usize);
-            }
-        }
-        Op::In(t, _) => s.put(*t as usize),
-        Op::Out(_, _) => {}
-        Op::Wait => {}
-        Op::Halt => {}
-    }
+    put_maybe(s, o.target());
 }
 
 #[tactic(auto, using(crate::proofs::Named::op_turn))]

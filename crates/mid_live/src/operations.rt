@@ -2,13 +2,14 @@
 ghost use Rattle.std.specs.Prelude.{◌≡◌, ℕ, ◌<◌, ◌||◌, length, false, cond};
 ghost use Rattle.mid_code.specs.Code.{Stop, maybe};
 ghost use Rattle.mid_code.specs.Functions.{op_before};
+ghost use Rattle.mid_code.specs.Operands.{listed_uses};
 ghost use Rattle.mid_code.specs.Live.{is_live, is_among, is_used, is_target};
 ghost use Rattle.mid_live.specs.Sets.{on, room};
 ghost use Rattle.mid_live.specs.Labels.{labels_of};
 
 use crate::labels::Labels;
 use crate::live::Live;
-use mid_code::Op;
+use mid_code::{Op, Uses};
 
 #[tactic(auto, using(crate::proofs::Facts::or_swap))]
 fn put_all(s: &mut Live, xs: &[u32])
@@ -20,49 +21,37 @@ fn put_all(s: &mut Live, xs: &[u32])
     }
 }
 
-/// Puts in what an operation uses.
 #[tactic(auto, using(crate::proofs::Facts::or_all))]
+fn put_each(s: &mut Live, uses: &Uses<'_, u32>)
+    ensures len { length s.new ≡ length s.old }
+    ensures is { (y : ℕ) → y < room s.old → on s.new y ≡ (is_among (listed_uses uses.now) y || on s.old y) }
+{
+    match uses {
+        Uses::Nothing => {}
+        Uses::One(a) => s.put(*a as usize),
+        Uses::Two(a, b) => {
+            s.put(*b as usize);
+            s.put(*a as usize);
+        }
+        Uses::All(args) => put_all(s, args),
+    }
+}
+
+/// Puts in what an operation uses.
 pub fn put_uses(s: &mut Live, o: &Op<u32>)
     ensures len { length s.new ≡ length s.old }
     ensures is { (y : ℕ) → y < room s.old → on s.new y ≡ (is_used (op_before o.now Stop) y || on s.old y) }
 {
-    match o {
-        Op::Const(_, _) => {}
-        Op::Null(_) => {}
-        Op::Move(_, a) => s.put(*a as usize),
-        Op::One(_, _, a) => s.put(*a as usize),
-        Op::Two(_, _, a, b) => {
-            s.put(*b as usize);
-            s.put(*a as usize);
-        }
-        Op::Global(_, _) => {}
-        Op::Local(_, _) => {}
-        Op::Literal(_, _) => {}
-        Op::Card(_) => {}
-        Op::Step(_, p, n) => {
-            s.put(*n as usize);
-            s.put(*p as usize);
-        }
-        Op::Apart(_, p, q) => {
-            s.put(*q as usize);
-            s.put(*p as usize);
-        }
-        Op::PtrTest(_, _, p, q) => {
-            s.put(*q as usize);
-            s.put(*p as usize);
-        }
-        Op::Load(_, p) => s.put(*p as usize),
-        Op::Store(p, a) => {
-            s.put(*a as usize);
-            s.put(*p as usize);
-        }
-        Op::Fresh(_) => {}
-        Op::End(_) => {}
-        Op::Call(_, _, args) => put_all(s, args.as_slice()),
-        Op::In(_, _) => {}
-        Op::Out(_, a) => s.put(*a as usize),
-        Op::Wait => {}
-        Op::Halt => {}
+    put_each(s, &o.uses());
+}
+
+/// Takes the temporary out, where there is one.
+fn strike_maybe(s: &mut Live, t: Option<u32>)
+    ensures len { length s.new ≡ length s.old }
+    ensures is { (y : ℕ) → y < room s.old → on s.new y ≡ cond (is_among (maybe t) y) false (on s.old y) }
+{
+    if let Some(t) = t {
+        s.strike(t as usize);
     }
 }
 
@@ -71,33 +60,7 @@ pub fn strike_target(s: &mut Live, o: &Op<u32>)
     ensures len { length s.new ≡ length s.old }
     ensures is { (y : ℕ) → y < room s.old → on s.new y ≡ cond (is_target (op_before o.now Stop) y) false (on s.old y) }
 {
-    match o {
-        Op::Const(t, _) => s.strike(*t as usize),
-        Op::Null(t) => s.strike(*t as usize),
-        Op::Move(t, _) => s.strike(*t as usize),
-        Op::One(_, t, _) => s.strike(*t as usize),
-        Op::Two(_, t, _, _) => s.strike(*t as usize),
-        Op::Global(t, _) => s.strike(*t as usize),
-        Op::Local(t, _) => s.strike(*t as usize),
-        Op::Literal(t, _) => s.strike(*t as usize),
-        Op::Card(t) => s.strike(*t as usize),
-        Op::Step(t, _, _) => s.strike(*t as usize),
-        Op::Apart(t, _, _) => s.strike(*t as usize),
-        Op::PtrTest(_, t, _, _) => s.strike(*t as usize),
-        Op::Load(t, _) => s.strike(*t as usize),
-        Op::Store(_, _) => {}
-        Op::Fresh(_) => {}
-        Op::End(_) => {}
-        Op::Call(t, _, _) => {
-            if let Some(t) = t {
-                s.strike(*t as usize);
-            }
-        }
-        Op::In(t, _) => s.strike(*t as usize),
-        Op::Out(_, _) => {}
-        Op::Wait => {}
-        Op::Halt => {}
-    }
+    strike_maybe(s, o.target());
 }
 
 /// Makes the set, of what is live behind an operation, what is live before it.

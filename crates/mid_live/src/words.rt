@@ -165,7 +165,7 @@ fn is_bit(w: u64, b: usize) -> bool
 }
 
 /// The numbers of the bits of a word.
-#[tactic(auto, using(crate::proofs::Written::bits_none, crate::proofs::Written::bits_found, crate::proofs::Written::bits_passed, crate::proofs::Written::bits_all))]
+#[tactic(auto, using(crate::proofs::Written::placed_bits))]
 fn push_bits(found: &mut Vec<u32>, at: usize, w: u64) -> Result<(), Memory>
     requires few { at < 0x400_0000 }
     ensures { OnOk result ((y : ℕ) → is_among found.new.items y ≡ (is_among found.old.items y || (eqb at (y / 64) && bit w (y % 64)))) }

@@ -71,30 +71,12 @@ fn store(table: &Table, p: u32, a: u32) -> Op<u32>
     }
 }
 
-fn copy_call(
-    alloc: Global,
-    target: Option<u32>,
-    function: u32,
-    arguments: &[u32],
-) -> Result<Op<u32>, Memory>
-    ensures { IfOk result (λ r. r ≡ Op.Call target function arguments.now) }
-{
-    let arguments = arguments.to_vec(alloc)?;
-    Ok(Op::Call(target, function, Seq::from_vec(arguments)))
-}
-
 /// The operation that stands for one, where one does.
 fn promote_op(alloc: Global, table: &Table, o: &Op<u32>) -> Result<Option<Op<u32>>, Memory>
     requires fits { table.now.kept ≤ length table.now.numbers.items }
     ensures { IfOk result (λ r. r ≡ op_by (plan_by table.now) None o.now) }
 {
     Ok(match o {
-        Op::Const(t, word) => Some(Op::Const(*t, *word)),
-        Op::Null(t) => Some(Op::Null(*t)),
-        Op::Move(t, a) => Some(Op::Move(*t, *a)),
-        Op::One(o, t, a) => Some(Op::One(*o, *t, *a)),
-        Op::Two(o, t, a, b) => Some(Op::Two(*o, *t, *a, *b)),
-        Op::Global(t, number) => Some(Op::Global(*t, *number)),
         Op::Local(t, k) => {
             if is_plain(table, *k) {
                 None
@@ -102,11 +84,6 @@ fn promote_op(alloc: Global, table: &Table, o: &Op<u32>) -> Result<Option<Op<u32
                 Some(Op::Local(*t, number(table, *k)))
             }
         }
-        Op::Literal(t, number) => Some(Op::Literal(*t, *number)),
-        Op::Card(t) => Some(Op::Card(*t)),
-        Op::Step(t, p, n) => Some(Op::Step(*t, *p, *n)),
-        Op::Apart(t, p, q) => Some(Op::Apart(*t, *p, *q)),
-        Op::PtrTest(o, t, p, q) => Some(Op::PtrTest(*o, *t, *p, *q)),
         Op::Load(t, p) => Some(load(table, *t, *p)),
         Op::Store(p, a) => Some(store(table, *p, *a)),
         Op::Fresh(k) => {
@@ -123,11 +100,7 @@ fn promote_op(alloc: Global, table: &Table, o: &Op<u32>) -> Result<Option<Op<u32
                 Some(Op::End(number(table, *k)))
             }
         }
-        Op::Call(t, f, arguments) => Some(copy_call(alloc, *t, *f, arguments.as_slice())?),
-        Op::In(t, port) => Some(Op::In(*t, *port)),
-        Op::Out(port, a) => Some(Op::Out(*port, *a)),
-        Op::Wait => Some(Op::Wait),
-        Op::Halt => Some(Op::Halt),
+        _ => Some(o.copied(alloc)?),
     })
 }
 

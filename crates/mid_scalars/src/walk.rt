@@ -2,12 +2,13 @@
 ghost use Rattle.std.specs.Prelude.{◌≡◌, ◌<◌, ℕ, cond, eqb, length, IfOk};
 ghost use Rattle.mid_code.specs.Code.{Stop, maybe};
 ghost use Rattle.mid_code.specs.Functions.{op_before, node, before, nodes, function};
+ghost use Rattle.mid_code.specs.Operands.{listed_uses};
 ghost use Rattle.mid_scalars.specs.declared.roles.Role.TheVariants.{Open, Spoilt};
 ghost use Rattle.mid_scalars.specs.inner.Purposes.{met, spoilt, role_in, role_of, role_at};
 
 use crate::roles::Role;
 use kit_base::Memory;
-use mid_code::{Function, Node, Op};
+use mid_code::{Function, Node, Op, Uses};
 use std::alloc::Global;
 
 fn spoil(roles: &mut [Role], x: u32)
@@ -59,57 +60,37 @@ fn take(roles: &mut [Role], t: u32, local: u32)
     }
 }
 
+fn spoil_uses(roles: &mut [Role], uses: &Uses<'_, u32>)
+    ensures len { length roles.new ≡ length roles.old }
+    ensures is { (y : ℕ) → y < length roles.old → role_at roles.new y ≡ spoilt (listed_uses uses.now) y (role_at roles.old y) }
+{
+    match uses {
+        Uses::Nothing => {}
+        Uses::One(a) => spoil(roles, *a),
+        Uses::Two(a, b) => {
+            spoil(roles, *a);
+            spoil(roles, *b);
+        }
+        Uses::All(args) => spoil_all(roles, args),
+    }
+}
+
 fn op_roles(roles: &mut [Role], o: &Op<u32>)
     ensures len { length roles.new ≡ length roles.old }
     ensures is { (y : ℕ) → y < length roles.old → role_at roles.new y ≡ role_in y (op_before o.now Stop) (role_at roles.old y) }
 {
     match o {
-        Op::Const(t, _) => spoil(roles, *t),
-        Op::Null(t) => spoil(roles, *t),
-        Op::Move(t, a) => {
-            spoil(roles, *t);
-            spoil(roles, *a);
-        }
-        Op::One(_, t, a) => {
-            spoil(roles, *t);
-            spoil(roles, *a);
-        }
-        Op::Two(_, t, a, b) => {
-            spoil(roles, *t);
-            spoil(roles, *a);
-            spoil(roles, *b);
-        }
-        Op::Global(t, _) => spoil(roles, *t),
         Op::Local(t, local) => take(roles, *t, *local),
-        Op::Literal(t, _) => spoil(roles, *t),
-        Op::Card(t) => spoil(roles, *t),
-        Op::Step(t, p, n) => {
-            spoil(roles, *t);
-            spoil(roles, *p);
-            spoil(roles, *n);
-        }
-        Op::Apart(t, p, q) => {
-            spoil(roles, *t);
-            spoil(roles, *p);
-            spoil(roles, *q);
-        }
-        Op::PtrTest(_, t, p, q) => {
-            spoil(roles, *t);
-            spoil(roles, *p);
-            spoil(roles, *q);
-        }
         Op::Load(t, _) => spoil(roles, *t),
         Op::Store(_, a) => spoil(roles, *a),
-        Op::Fresh(_) => {}
-        Op::End(_) => {}
         Op::Call(t, _, arguments) => {
             spoil_all(roles, arguments.as_slice());
             spoil_maybe(roles, *t);
         }
-        Op::In(t, _) => spoil(roles, *t),
-        Op::Out(_, a) => spoil(roles, *a),
-        Op::Wait => {}
-        Op::Halt => {}
+        _ => {
+            spoil_maybe(roles, o.target());
+            spoil_uses(roles, &o.uses());
+        }
     }
 }
 

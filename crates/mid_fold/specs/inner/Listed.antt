@@ -3,6 +3,7 @@ use Rattle.std.specs.Prelude.{ℕ, ◌^◌, nat_lt, cond, List, [], ◌∷◌, O
 use Rattle.mid_code.specs.declared.node.Op.{Op}
 use Rattle.mid_code.specs.declared.node.Op.TheVariants as op
 use Rattle.mid_code.specs.Functions.{NodeT, DoN, ChooseN, BlockN, LoopN, LeaveN, AgainN, ReturnN, ListT, NoN, MoreN, listed}
+use Rattle.mid_code.specs.Operands.{op_target}
 use Rattle.mid_fold.specs.Lasting.{one_known, two_known}
 use Rattle.mid_fold.specs.inner.Folding.{Words, word_in, behind, few}
 
@@ -16,28 +17,14 @@ op_folded es (op.One o t a) = or_word t (op.One o t a) (one_known o (word_in es 
 op_folded es (op.Two o t a b) = or_word t (op.Two o t a b) (two_known o (word_in es a) (word_in es b))
 op_folded es o = o
 
+abbrev pub behind_maybe : Words → Option ℕ → Words
+behind_maybe es None = es
+behind_maybe es (Some t) = behind es t
+
 abbrev pub op_known : Words → Op ℕ → Words
 op_known es (op.Const t word) = (t, word) ∷ few (behind es t)
-op_known es (op.Null t) = behind es t
-op_known es (op.Move t a) = behind es t
-op_known es (op.One o t a) = behind es t
-op_known es (op.Two o t a b) = behind es t
-op_known es (op.Global t number) = behind es t
-op_known es (op.Local t k) = behind es t
-op_known es (op.Literal t number) = behind es t
-op_known es (op.Card t) = behind es t
-op_known es (op.Step t p n) = behind es t
-op_known es (op.Apart t p q) = behind es t
-op_known es (op.PtrTest o t p q) = behind es t
-op_known es (op.Load t p) = behind es t
-op_known es (op.Store p a) = es
-op_known es (op.Fresh k) = es
-op_known es (op.End k) = es
 op_known es (op.Call t f args) = []
-op_known es (op.In t port) = behind es t
-op_known es (op.Out port a) = es
-op_known es op.Wait = es
-op_known es op.Halt = es
+op_known es o = behind_maybe es (op_target o)
 
 abbrev pub node_known : Words → NodeT ℕ → Words
 node_known es (DoN o) = op_known es o

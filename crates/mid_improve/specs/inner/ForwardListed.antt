@@ -3,6 +3,7 @@ use Rattle.std.specs.Prelude.{ℕ, ◌^◌, nat_lt, cond, List, [], ◌∷◌, m
 use Rattle.mid_code.specs.declared.node.Op.{Op}
 use Rattle.mid_code.specs.declared.node.Op.TheVariants as op
 use Rattle.mid_code.specs.Functions.{NodeT, DoN, ChooseN, BlockN, LoopN, LeaveN, AgainN, ReturnN, ListT, NoN, MoreN, listed}
+use Rattle.mid_code.specs.Operands.{op_reading}
 use Rattle.mid_improve.specs.inner.Facts.{Known, none_known, fact_word}
 use Rattle.mid_improve.specs.inner.Listed.{node_known}
 use Rattle.mid_fold.specs.Lasting.{one_known, two_known}
@@ -12,18 +13,19 @@ abbrev pub or_word : ℕ → Op ℕ → Option ℕ → Op ℕ
 or_word t o None = o
 or_word t o (Some word) = cond (nat_lt word (2 ^ 32)) (op.Const t word) o
 
+-- the target of an operation that can be worked out from words, and its word where those are known
+abbrev pub op_word : Known → Op ℕ → Option (ℕ × Option ℕ)
+op_word k (op.Move t a) = Some (t, fact_word (k a))
+op_word k (op.One o t a) = Some (t, one_known o (fact_word (k a)))
+op_word k (op.Two o t a b) = Some (t, two_known o (fact_word (k a)) (fact_word (k b)))
+op_word k o = None
+
+abbrev pub or_known : Option (ℕ × Option ℕ) → Op ℕ → Op ℕ
+or_known None o = o
+or_known (Some p) o = or_word p.0 o p.1
+
 abbrev pub op_forwarded : Known → Op ℕ → Op ℕ
-op_forwarded k (op.Move t a) = or_word t (op.Move t (serves k a)) (fact_word (k a))
-op_forwarded k (op.One o t a) = or_word t (op.One o t (serves k a)) (one_known o (fact_word (k a)))
-op_forwarded k (op.Two o t a b) = or_word t (op.Two o t (serves k a) (serves k b)) (two_known o (fact_word (k a)) (fact_word (k b)))
-op_forwarded k (op.Step t p n) = op.Step t (serves k p) (serves k n)
-op_forwarded k (op.Apart t p q) = op.Apart t (serves k p) (serves k q)
-op_forwarded k (op.PtrTest o t p q) = op.PtrTest o t (serves k p) (serves k q)
-op_forwarded k (op.Load t p) = op.Load t (serves k p)
-op_forwarded k (op.Store p a) = op.Store (serves k p) (serves k a)
-op_forwarded k (op.Call t f args) = op.Call t f (map (serves k) args)
-op_forwarded k (op.Out port a) = op.Out port (serves k a)
-op_forwarded k o = o
+op_forwarded k o = or_known (op_word k o) (op_reading (serves k) o)
 
 abbrev mutual
   pub node_forwarded : Known → NodeT ℕ → NodeT ℕ

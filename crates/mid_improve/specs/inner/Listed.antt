@@ -4,6 +4,7 @@ use Rattle.std.specs.List.{list_all}
 use Rattle.mid_code.specs.declared.node.Op.{Op}
 use Rattle.mid_code.specs.declared.node.Op.TheVariants as op
 use Rattle.mid_code.specs.Functions.{NodeT, DoN, ChooseN, BlockN, LoopN, LeaveN, AgainN, ReturnN, ListT, NoN, MoreN}
+use Rattle.mid_code.specs.Operands.{op_target, op_uses}
 use Rattle.mid_fold.specs.Lasting.{divides}
 use Rattle.mid_improve.specs.Settled.{is_zero}
 use Rattle.mid_improve.specs.inner.Facts.{Known, IsWord, IsCopy, none_known, behind, behind_maybe, with_fact, fact_word, is_no_copy}
@@ -12,26 +13,8 @@ use Rattle.mid_improve.specs.inner.Facts.{Known, IsWord, IsCopy, none_known, beh
 
 abbrev pub op_known : Known → Op ℕ → Known
 op_known k (op.Const t word) = with_fact t (IsWord word) (behind k t)
-op_known k (op.Null t) = behind k t
 op_known k (op.Move t a) = cond (eqb a t) (behind k t) (with_fact t (IsCopy a) (behind k t))
-op_known k (op.One o t a) = behind k t
-op_known k (op.Two o t a b) = behind k t
-op_known k (op.Global t number) = behind k t
-op_known k (op.Local t local) = behind k t
-op_known k (op.Literal t number) = behind k t
-op_known k (op.Card t) = behind k t
-op_known k (op.Step t p n) = behind k t
-op_known k (op.Apart t p q) = behind k t
-op_known k (op.PtrTest o t p q) = behind k t
-op_known k (op.Load t p) = behind k t
-op_known k (op.Store p a) = k
-op_known k (op.Fresh local) = k
-op_known k (op.End local) = k
-op_known k (op.Call t f args) = behind_maybe k t
-op_known k (op.In t port) = behind k t
-op_known k (op.Out port a) = k
-op_known k op.Wait = k
-op_known k op.Halt = k
+op_known k o = behind_maybe k (op_target o)
 
 -- an operator is not to be worked out, and its operands are no copies
 abbrev pub one_settled : Known → ℕ → Bool
@@ -41,27 +24,9 @@ abbrev pub two_folds : Bool → Option ℕ → Option ℕ → Bool
 two_folds division x y = is_some x && (is_some y && not (division && is_zero y))
 
 abbrev pub op_settled : Known → Op ℕ → Bool
-op_settled k (op.Const t word) = true
-op_settled k (op.Null t) = true
-op_settled k (op.Move t a) = list_all (is_no_copy k) (a ∷ [])
 op_settled k (op.One o t a) = one_settled k a
 op_settled k (op.Two o t a b) = not (two_folds (divides o) (fact_word (k a)) (fact_word (k b))) && list_all (is_no_copy k) (a ∷ b ∷ [])
-op_settled k (op.Global t number) = true
-op_settled k (op.Local t local) = true
-op_settled k (op.Literal t number) = true
-op_settled k (op.Card t) = true
-op_settled k (op.Step t p n) = list_all (is_no_copy k) (p ∷ n ∷ [])
-op_settled k (op.Apart t p q) = list_all (is_no_copy k) (p ∷ q ∷ [])
-op_settled k (op.PtrTest o t p q) = list_all (is_no_copy k) (p ∷ q ∷ [])
-op_settled k (op.Load t p) = list_all (is_no_copy k) (p ∷ [])
-op_settled k (op.Store p a) = list_all (is_no_copy k) (p ∷ a ∷ [])
-op_settled k (op.Fresh local) = true
-op_settled k (op.End local) = true
-op_settled k (op.Call t f args) = list_all (is_no_copy k) args
-op_settled k (op.In t port) = true
-op_settled k (op.Out port a) = list_all (is_no_copy k) (a ∷ [])
-op_settled k op.Wait = true
-op_settled k op.Halt = true
+op_settled k o = list_all (is_no_copy k) (op_uses o)
 
 -- ---- nodes
 

@@ -2,45 +2,10 @@
 use Rattle.std.specs.Prelude.{ℕ, eqb, cond, List, [], ◌∷◌, Option, Some, None}
 use Rattle.mid_code.specs.declared.node.Op.{Op}
 use Rattle.mid_code.specs.declared.node.Op.TheVariants as op
-use Rattle.mid_code.specs.Functions.{NodeT, DoN, ChooseN, BlockN, LoopN, LeaveN, AgainN, ReturnN, ListT, NoN, MoreN, listed}
+use Rattle.mid_code.specs.Functions.{NodeT, DoN, ChooseN, BlockN, LoopN, LeaveN, AgainN, ReturnN, ListT, NoN, MoreN, before, listed}
+use Rattle.mid_code.specs.Code.{Stop, node_target as target_there}
+use Rattle.mid_code.specs.Operands.{op_target, op_into}
 use Rattle.mid_improve.specs.inner.Retarget.{Turn, turn_of, or_else}
-
--- the target of an operation or a call
-abbrev pub op_target : Op ℕ → Option ℕ
-op_target (op.Const t n) = Some t
-op_target (op.Null t) = Some t
-op_target (op.Move t a) = Some t
-op_target (op.One o t a) = Some t
-op_target (op.Two o t a b) = Some t
-op_target (op.Global t n) = Some t
-op_target (op.Local t n) = Some t
-op_target (op.Literal t n) = Some t
-op_target (op.Card t) = Some t
-op_target (op.Step t a b) = Some t
-op_target (op.Apart t a b) = Some t
-op_target (op.PtrTest o t a b) = Some t
-op_target (op.Load t p) = Some t
-op_target (op.In t port) = Some t
-op_target (op.Call t f args) = t
-op_target _ = None
-
-abbrev pub op_into : ℕ → Op ℕ → Op ℕ
-op_into x (op.Const t n) = op.Const x n
-op_into x (op.Null t) = op.Null x
-op_into x (op.Move t a) = op.Move x a
-op_into x (op.One o t a) = op.One o x a
-op_into x (op.Two o t a b) = op.Two o x a b
-op_into x (op.Global t n) = op.Global x n
-op_into x (op.Local t n) = op.Local x n
-op_into x (op.Literal t n) = op.Literal x n
-op_into x (op.Card t) = op.Card x
-op_into x (op.Step t a b) = op.Step x a b
-op_into x (op.Apart t a b) = op.Apart x a b
-op_into x (op.PtrTest o t a b) = op.PtrTest o x a b
-op_into x (op.Load t p) = op.Load x p
-op_into x (op.In t port) = op.In x port
-op_into x (op.Call t f args) = op.Call (Some x) f args
-op_into x o = o
 
 abbrev pub op_to : Option ℕ → Op ℕ → Op ℕ
 op_to None o = o
@@ -71,8 +36,7 @@ unless_turned None h = h
 unless_turned (Some o) h = None
 
 abbrev pub node_target : NodeT ℕ → Option ℕ
-node_target (DoN o) = op_target o
-node_target _ = None
+node_target x = target_there (before x Stop)
 
 -- what has its cell elsewhere behind a node, and what stands for it, by where its target goes
 abbrev pub node_turn : Turn → NodeT ℕ → Option ℕ → Turn

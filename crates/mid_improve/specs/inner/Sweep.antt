@@ -9,7 +9,9 @@ use Rattle.mid_improve.specs.inner.Wanted.{Labels, Set, live_set, in_block, in_l
 abbrev pub left : ℕ → Labels → NodesT ℕ → Set → Set
 left n ls Stop s = s
 left n ls (Do o c) s = λ y.
-    cond (maybe_wanted n (only_puts o) (target o) (left n ls c s)) (live_before (is_used (Do o c) y) (is_target (Do o c) y) (left n ls c s y)) (left n ls c s y)
+    cond (maybe_wanted n (only_puts o) (target o) (left n ls c s))
+    (live_before (is_used (Do o c) y) (is_target (Do o c) y) (left n ls c s y))
+    (left n ls c s y)
 left n ls (Call t f args c) s = λ y. live_before (is_used (Call t f args c) y) (is_target (Call t f args c) y) (left n ls c s y)
 left n ls (Choose p a b c) s = λ y. live_before (is_used (Choose p a b c) y) false (left n ls a (left n ls c s) y || left n ls b (left n ls c s) y)
 left n ls (Block b c) s = left n (in_block (left n ls c s) ls) b (left n ls c s)

@@ -57,18 +57,7 @@ op_wanted n (op.Global t number) s = is_wanted n true t s
 op_wanted n (op.Local t local) s = is_wanted n true t s
 op_wanted n (op.Literal t number) s = is_wanted n true t s
 op_wanted n (op.Card t) s = is_wanted n true t s
-op_wanted n (op.Step t p q) s = true
-op_wanted n (op.Apart t p q) s = true
-op_wanted n (op.PtrTest o t p q) s = true
-op_wanted n (op.Load t p) s = true
-op_wanted n (op.Store p a) s = true
-op_wanted n (op.Fresh local) s = true
-op_wanted n (op.End local) s = true
-op_wanted n (op.Call t f args) s = true
-op_wanted n (op.In t port) s = true
-op_wanted n (op.Out port a) s = true
-op_wanted n op.Wait s = true
-op_wanted n op.Halt s = true
+op_wanted n o s = true
 
 abbrev mutual
   pub node_wanted : ℕ → Labels → NodeT ℕ → Set → Bool

@@ -1,8 +1,8 @@
 -- What a temporary is used for, as it is found in one walk over the code.
-use Rattle.std.specs.Prelude.{ℕ, Bool, true, false, ◌||◌, not, cond, eqb, List, [], ◌∷◌, get_or}
+use Rattle.std.specs.Prelude.{ℕ, Bool, true, false, ◌||◌, not, cond, eqb, List, [], ◌∷◌, ◌++◌, get_or}
 use Rattle.mid_code.specs.Code.{OpT, ConstO, NullO, MoveO, OneO, TwoO, GlobalO, LocalO, LiteralO, CardO, StepO, ApartO, PtrTestO, LoadO, StoreO}
 use Rattle.mid_code.specs.Code.{FreshO, EndO, InO, OutO, WaitO, HaltO, NodesT, Stop, Do, Call, Choose, Block, Loop, Leave, Again, Return, FunctionT}
-use Rattle.mid_code.specs.Code.{maybe}
+use Rattle.mid_code.specs.Code.{maybe, uses, target}
 use Rattle.mid_scalars.specs.declared.roles.Role.{Role}
 use Rattle.mid_scalars.specs.declared.roles.Role.TheVariants.{Open, AddressOf, Spoilt}
 use Rattle.mid_scalars.specs.inner.Plan.{Kind, Own, Address}
@@ -20,26 +20,10 @@ spoilt (x ∷ xs) y r = spoilt xs y (cond (eqb x y) Spoilt r)
 
 -- the temporaries of an operation but those that it uses as addresses or makes addresses
 abbrev pub others : OpT ℕ → List ℕ
-others (ConstO t word) = t ∷ []
-others (NullO t) = t ∷ []
-others (MoveO t a) = t ∷ a ∷ []
-others (OneO o t a) = t ∷ a ∷ []
-others (TwoO o t a b) = t ∷ a ∷ b ∷ []
-others (GlobalO t number) = t ∷ []
 others (LocalO t k) = []
-others (LiteralO t number) = t ∷ []
-others (CardO t) = t ∷ []
-others (StepO t p n) = t ∷ p ∷ n ∷ []
-others (ApartO t p q) = t ∷ p ∷ q ∷ []
-others (PtrTestO o t p q) = t ∷ p ∷ q ∷ []
 others (LoadO t p) = t ∷ []
 others (StoreO p a) = a ∷ []
-others (FreshO number) = []
-others (EndO number) = []
-others (InO t port) = t ∷ []
-others (OutO port a) = a ∷ []
-others WaitO = []
-others HaltO = []
+others o = maybe (target o) ++ uses o
 
 abbrev pub role_after : ℕ → OpT ℕ → Role → Role
 role_after y (LocalO t k) r = cond (eqb t y) (met r k) r

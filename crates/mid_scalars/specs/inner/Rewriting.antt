@@ -15,27 +15,12 @@ addressed (Address k) = Some k
 addressed (Variable k) = None
 
 abbrev pub op_by : Plan → Option ℕ → Op ℕ → Option (Op ℕ)
-op_by X h (op.Const t word) = Some (op.Const t word)
-op_by X h (op.Null t) = Some (op.Null t)
-op_by X h (op.Move t a) = Some (op.Move t a)
-op_by X h (op.One o t a) = Some (op.One o t a)
-op_by X h (op.Two o t a b) = Some (op.Two o t a b)
-op_by X h (op.Global t number) = Some (op.Global t number)
 op_by X h (op.Local t k) = cond (X.promoted h k) None (Some (op.Local t (X.moved h k)))
-op_by X h (op.Literal t number) = Some (op.Literal t number)
-op_by X h (op.Card t) = Some (op.Card t)
-op_by X h (op.Step t p n) = Some (op.Step t p n)
-op_by X h (op.Apart t p q) = Some (op.Apart t p q)
-op_by X h (op.PtrTest o t p q) = Some (op.PtrTest o t p q)
 op_by X h (op.Load t p) = option_map_or (λ k. Some (op.Move t (X.variable h k))) (addressed (X.kind h p)) (Some (op.Load t p))
 op_by X h (op.Store p a) = option_map_or (λ k. Some (op.Move (X.variable h k) a)) (addressed (X.kind h p)) (Some (op.Store p a))
 op_by X h (op.Fresh k) = cond (X.promoted h k) None (Some (op.Fresh (X.moved h k)))
 op_by X h (op.End k) = cond (X.promoted h k) None (Some (op.End (X.moved h k)))
-op_by X h (op.Call t f args) = Some (op.Call t f args)
-op_by X h (op.In t port) = Some (op.In t port)
-op_by X h (op.Out port a) = Some (op.Out port a)
-op_by X h op.Wait = Some op.Wait
-op_by X h op.Halt = Some op.Halt
+op_by X h o = Some o
 
 abbrev pub some_node : Option (Op ℕ) → List (NodeT ℕ)
 some_node None = []

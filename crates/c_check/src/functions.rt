@@ -19,9 +19,9 @@ use crate::parts::{maybe_body, type_at};
 use crate::reading::{Reading, begin, end};
 use crate::words::is_word;
 use c_exprs::{CheckErr, Decl, placed};
-use c_rules::{Code, copy_type, fits, is_array, is_whole, same_type, type_size};
+use c_rules::{Code, fits, is_array, is_whole, same_type, type_size};
 use c_tree::{Span, Stmt, TypeTree, Var};
-use c_types::{CType, Layout, TFunction, TStmt, is_void};
+use c_types::{CType, Layout, TFunction, TStmt, copy_type, is_void};
 use kit_base::{Memory, Name, Seq};
 use std::alloc::Global;
 

@@ -15,10 +15,10 @@ use crate::declaring::{declare, is_free};
 use crate::parts::{maybe_fill_at, type_at};
 use crate::reading::Reading;
 use c_exprs::{CheckErr, Decl, placed};
-use c_rules::{Code, copy_type};
+use c_rules::Code;
 use c_stmts::object_size;
 use c_tree::{Span, Var};
-use c_types::{CType, TInit, TStmt, TVar};
+use c_types::{CType, TInit, TStmt, TVar, copy_type};
 use kit_base::{Memory, Seq};
 use std::alloc::{AllocError, Global};
 

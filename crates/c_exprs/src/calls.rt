@@ -18,9 +18,9 @@ use crate::intrinsics::{Intrinsic, intrinsic_of};
 use crate::names::{Decl, Globals, Scope, find_local};
 use crate::ports::named_port;
 use crate::trees::refused;
-use c_rules::{Code, converts, copy_type, is_number, pointer_to};
+use c_rules::{Code, converts, is_number, pointer_to};
 use c_tree::{Expr, Span};
-use c_types::{CType, TExpr, TKind};
+use c_types::{CType, TExpr, TKind, copy_type};
 use kit_base::{Name, Seq};
 use std::alloc::Global;
 

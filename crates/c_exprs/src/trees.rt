@@ -14,9 +14,9 @@ use crate::error::{CheckErr, keeping};
 use crate::intrinsics::is_intrinsic;
 use crate::names::{Decl, Globals, Scope, find_local};
 use crate::nodes::is_place;
-use c_rules::{Code, Counted, copy_counted, copy_type, is_array};
+use c_rules::{Code, Counted, copy_counted, is_array};
 use c_tree::Span;
-use c_types::{CType, Layout, Member, TExpr, TKind};
+use c_types::{CType, Layout, Member, TExpr, TKind, copy_type};
 use kit_base::Name;
 use std::alloc::Global;
 
@@ -108,8 +108,8 @@ fn layout_behind<'a>(layouts: &'a [Layout], ty: &CType) -> Option<&'a Layout>
     ensures { option_map (λ l. layout l.now) result ≡ layout_behind (map layout layouts.now) (pointed (decayed (ctype ty.now))) }
 {
     match ty {
-        CType::Pointer(to) => layout_of(layouts, to),
-        CType::Array(of, _) => layout_of(layouts, of),
+        CType::Pointer(to) => layout_of(layouts, to.ty()),
+        CType::Array(of, _) => layout_of(layouts, of.ty()),
         CType::Void
         | CType::Int
         | CType::Bool

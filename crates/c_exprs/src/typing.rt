@@ -31,10 +31,9 @@ use crate::texts::{Texts, kept_texts};
 use crate::trees::{arrow_tree, member_tree, name_tree, named_type, node};
 use c_rules::{Code, Counted, array_of, pointer_to, with_elements};
 use c_tree::{Expr, Span, StepOp, TypeTree, UnOp};
-use c_types::{CType, TExpr, TKind};
+use c_types::{CType, TExpr, TKind, shared};
 use kit_base::{Memory, Name};
 use std::alloc::Global;
-use std::rc::Rc;
 
 fn text_tree(alloc: Global, texts: &mut Texts, text: &Name, span: Span) -> Result<TExpr, CheckErr>
     ensures { Gives (λ r. (texpr r, texts.new)) result (text_tree span texts.old text.now) }
@@ -286,7 +285,7 @@ fn all_valued(
 fn counted_pointer(alloc: Global, to: Counted) -> Result<Counted, Memory>
     ensures { IfOk result (λ r. ctype r.ty ≡ PointerY (ctype to.ty)) }
 {
-    Ok(with_elements(CType::Pointer(Rc::new(alloc, to.ty)?)))
+    Ok(with_elements(CType::Pointer(shared(alloc, to.ty)?)))
 }
 
 /// The type that a type tree names, with its elements: no array of it, and no use of a type's name, needs a walk down the type.

@@ -1,5 +1,8 @@
 -- Steps of the walks down a type.
 use Rattle.std.proofs.Common.{◌≡◌, ◌≢◌, ◌^◌, ◌≤◌, ◌<◌, ◌⊎◌, inl, inr, ℕ, zero, suc, ◌*◌, ◌==◌, min, Bool, true, false, ◌&&◌, Some, List, arith, refl, ap, sym, ◌∙◌}
+use Rattle.c_types.specs.declared.ctype.Derivation.{Derivation}
+use Rattle.c_types.specs.declared.ctype.Derivation.TheVariants as d
+use Rattle.c_types.specs.Derivations.{derive, repeated}
 use Rattle.std.proofs.lemmas.Bool.{eq-eqb, eqb-true}
 use Rattle.std.proofs.lemmas.Bool.Decides.{leb_tells}
 use Rattle.std.proofs.Math.Dec.{leb}
@@ -38,6 +41,22 @@ arrays_alike of b other m n p q e = cc
 pub arrays_apart : (of b : Ty) (m n : ℕ) → Some n ≡ element_count b → m ≢ n → false ≡ same_type (ArrayY of m) b
 arrays_apart of (ArrayY x k) m n q d = and_false (same_type of x) (m == k) (not_equal m k (λ e. d (rw (some_is n k q) e)))
 arrays_apart of b m n q d = cc
+
+-- types made in the same way are the same where those that they are made of are
+same_derived : (derivation : Derivation) (a b : Ty) → same_type (derive derivation a) (derive derivation b) ≡ same_type a b
+same_derived d.Pointer a b = refl
+same_derived (d.Array len) a b = sym (and_true (same_type a b) (len == len) (eq-eqb len len refl))
+
+same_repeated : (times : ℕ) (derivation : Derivation) (a b : Ty) → same_type (repeated times derivation a) (repeated times derivation b) ≡ same_type a b
+same_repeated zero derivation a b = refl
+same_repeated (suc times) derivation a b = same_derived derivation (repeated times derivation a) (repeated times derivation b) ∙ same_repeated times derivation a b
+
+-- the same, where the derivations and their counts were compared
+pub same_further : (a b one other : Ty) (derivation derivation' : Derivation) (times times' : ℕ) → a ≡ repeated times derivation one → b ≡ repeated times' derivation' other
+    → derivation ≡ derivation' → times ≡ times' → same_type one other ≡ same_type a b
+same_further a b one other derivation derivation' times times' p q e n =
+    sym (same_repeated times derivation one other) ∙ ap (λ (x : Ty). same_type x (repeated times derivation other)) (sym p)
+    ∙ ap (same_type a) (ap (λ (k : ℕ). repeated k derivation other) n ∙ ap (λ (d : Derivation). repeated times' d other) e ∙ sym q)
 
 -- a factor that is cut at a limit
 capped : (w k c : ℕ) → min (w * min k c) c ≡ min (w * k) c

@@ -4,40 +4,22 @@ ghost use Rattle.c_types.specs.Types.{PointerY, ArrayY};
 ghost use Rattle.c_types.specs.View.{ctype};
 ghost use Rattle.c_types.specs.Kinds.{decayed};
 
-use c_types::CType;
+use c_types::{CType, copy_type, shared};
 use kit_base::Memory;
 use std::alloc::Global;
-use std::rc::Rc;
-
-/// The same type once more, which shares what is below it and takes no memory. The error is a type that is shared too often to be
-/// counted, which is told as want of memory.
-pub fn copy_type(ty: &CType) -> Result<CType, Memory>
-    ensures same { IfOk result (λ r. ctype r ≡ ctype ty.now) }
-{
-    match ty {
-        CType::Void => Ok(CType::Void),
-        CType::Int => Ok(CType::Int),
-        CType::Bool => Ok(CType::Bool),
-        CType::Enum(number) => Ok(CType::Enum(*number)),
-        CType::Struct(number) => Ok(CType::Struct(*number)),
-        CType::Union(number) => Ok(CType::Union(*number)),
-        CType::Pointer(to) => Ok(CType::Pointer(to.clone()?)),
-        CType::Array(of, len) => Ok(CType::Array(of.clone()?, *len)),
-    }
-}
 
 /// The type of a pointer to this one. The error is want of memory.
 pub fn pointer_to(alloc: Global, ty: &CType) -> Result<CType, Memory>
     ensures pointer { IfOk result (λ r. ctype r ≡ PointerY (ctype ty.now)) }
 {
-    Ok(CType::Pointer(Rc::new(alloc, copy_type(ty)?)?))
+    Ok(CType::Pointer(shared(alloc, copy_type(ty)?)?))
 }
 
 /// The type of an array of `len` elements of this type, without regard to any rule. The error is want of memory.
 pub fn array_of(alloc: Global, of: &CType, len: u32) -> Result<CType, Memory>
     ensures array { IfOk result (λ r. ctype r ≡ ArrayY (ctype of.now) len) }
 {
-    Ok(CType::Array(Rc::new(alloc, copy_type(of)?)?, len))
+    Ok(CType::Array(shared(alloc, copy_type(of)?)?, len))
 }
 
 /// The type of a value: an array's is a pointer to its first element. The error is that of `copy_type`.

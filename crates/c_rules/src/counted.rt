@@ -6,12 +6,10 @@ ghost use Rattle.c_types.specs.View.{ctype, layout};
 ghost use Rattle.c_rules.specs.Elements.{element_of, elements_in};
 ghost use Rattle.c_rules.specs.Sizes.{fits, is_whole};
 
-use crate::building::copy_type;
 use crate::elements::{Elements, at_most, elements_of, is_element_whole, words_in};
-use c_types::{CType, Layout};
+use c_types::{CType, Layout, copy_type, shared};
 use kit_base::Memory;
 use std::alloc::Global;
-use std::rc::Rc;
 
 /// A type, and its elements.
 #[derive(Drop)]
@@ -50,7 +48,7 @@ pub(crate) fn so_many_of(alloc: Global, of: Counted, len: u32) -> Result<Counted
         element: elements.element,
         count: at_most(len, elements.count),
     };
-    let ty = CType::Array(Rc::new(alloc, ty)?, len);
+    let ty = CType::Array(shared(alloc, ty)?, len);
     Ok(Counted { ty, elements })
 }
 

@@ -105,7 +105,7 @@ pub(crate) fn elements_of(ty: &CType) -> Elements
             CType::Union(number) => return so_many(Element::Record(*number), count),
             CType::Array(of, len) => {
                 count = at_most(*len, count);
-                at = of;
+                at = of.ty();
             }
         }
     }

@@ -1,12 +1,16 @@
 // Kinds of types, and which values become which.
-ghost use Rattle.std.specs.Prelude.{◌≡◌, ◌==◌, option_map, ◌||◌};
+ghost use Rattle.std.specs.Prelude.{◌≡◌, ◌≤◌, ◌==◌, option_map, ◌||◌};
+ghost use Rattle.std.specs.Bool.{OnTrue};
 ghost use Rattle.c_types.specs.View.{ctype};
+ghost use Rattle.c_types.specs.Ctype.{height};
 ghost use Rattle.c_types.specs.Kinds.{is_void, is_structure, is_pointer, decayed, pointed};
 ghost use Rattle.c_rules.specs.Kinds.{is_number, is_array, is_condition, enum_number, struct_number};
 ghost use Rattle.c_rules.specs.Kinds.{union_number, element, element_count, holds, target, same_type, leads_alike, pointers_convert};
 ghost use Rattle.c_rules.specs.Kinds.{converts, can_cast};
 
-use c_types::{CType, has_pointer_value, is_structure, is_void, led_to};
+use c_types::{
+    CType, Run, Underlying, has_pointer_value, is_structure, is_void, led_to, same_derivation,
+};
 
 /// Whether arithmetic takes it: int, bool and every enumeration.
 pub fn is_number(ty: &CType) -> bool
@@ -90,8 +94,8 @@ fn union_number(ty: &CType) -> Option<u32>
 }
 
 /// What a pointer leads to.
-fn pointed(ty: &CType) -> Option<&CType>
-    ensures to { option_map (λ r. ctype r.now) result ≡ pointed (ctype ty.now) }
+fn pointed(ty: &CType) -> Option<&Underlying>
+    ensures to { option_map (λ r. r.now) result ≡ pointed (ctype ty.now) }
 {
     match ty {
         CType::Pointer(to) => Some(to),
@@ -106,8 +110,8 @@ fn pointed(ty: &CType) -> Option<&CType>
 }
 
 /// The element and the count of an array.
-fn elements(ty: &CType) -> Option<(&CType, u32)>
-    ensures of { option_map (λ r. ctype r.0.now) result ≡ element (ctype ty.now) }
+fn elements(ty: &CType) -> Option<(&Underlying, u32)>
+    ensures of { option_map (λ r. r.0.now) result ≡ element (ctype ty.now) }
     ensures count { option_map (λ r. r.1) result ≡ element_count (ctype ty.now) }
 {
     match ty {
@@ -141,6 +145,32 @@ fn is_same(number: u32, other: Option<u32>) -> bool
     }
 }
 
+/// Whether types are made in the same way of those further down.
+#[inline(always)]
+fn same_run(one: Run<'_>, other: Run<'_>) -> bool
+    ensures same { OnTrue result ((one.entry.derivation ≡ other.entry.derivation) × (one.entry.times ≡ other.entry.times)) }
+{
+    one.times == other.times && same_derivation(one.derivation, other.derivation)
+}
+
+/// Two types that are the same exactly where these are: further down, where both are made in the same way.
+#[inline(always)]
+fn further<'a>(a: &'a Underlying, b: &'a Underlying) -> (&'a CType, &'a CType)
+    ensures same { same_type (ctype result.0.now) (ctype result.1.now) ≡ same_type a.now b.now }
+    ensures further { height (ctype result.0.now) ≤ height a.now }
+{
+    match (a.run(), b.run()) {
+        (Some(one), Some(other)) => {
+            if same_run(one, other) {
+                (one.to, other.to)
+            } else {
+                (a.ty(), b.ty())
+            }
+        }
+        _ => (a.ty(), b.ty()),
+    }
+}
+
 /// Whether two types are one.
 pub fn same_type(a: &CType, b: &CType) -> bool
     ensures same { result ≡ same_type (ctype a.now) (ctype b.now) }
@@ -159,8 +189,7 @@ pub fn same_type(a: &CType, b: &CType) -> bool
                 let Some(other) = pointed(right) else {
                     return false;
                 };
-                left = to;
-                right = other;
+                (left, right) = further(to, other);
             }
             CType::Array(of, len) => {
                 let Some((other, count)) = elements(right) else {
@@ -169,8 +198,7 @@ pub fn same_type(a: &CType, b: &CType) -> bool
                 if *len != count {
                     return false;
                 }
-                left = of;
-                right = other;
+                (left, right) = further(of, other);
             }
         }
     }
@@ -187,7 +215,7 @@ fn pointer_converts(from: &CType, to: &CType) -> bool
     ensures pointers { result ≡ pointers_convert (decayed (ctype from.now)) (ctype to.now) }
 {
     match (led_to(from), pointed(to)) {
-        (Some(from), Some(to)) => leads_alike(from, to),
+        (Some(from), Some(to)) => leads_alike(from, to.ty()),
         _ => false,
     }
 }

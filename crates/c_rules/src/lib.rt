@@ -15,7 +15,7 @@ pub mod laws;
 mod nodes;
 mod sizes;
 
-pub use building::{array_of, copy_type, decayed, pointer_to};
+pub use building::{array_of, decayed, pointer_to};
 pub use code::{Code, RuleErr, code_number};
 pub use constants::{constant_binary, constant_unary};
 pub use counted::{Counted, copy_counted, with_elements};

@@ -10,7 +10,7 @@ ghost use Rattle.c_rules.specs.Nodes.{given, unary_rule, are_numbers, are_compar
 ghost use Rattle.c_rules.specs.Nodes.{led_to_whole, counts_elements, count_is_known, binary_rule, index_rule, store_rule, assign_rule, kept_as};
 ghost use Rattle.c_rules.specs.Nodes.{compound_rule, step_operator, step_rule, cast_rule, size_rule, array_rule};
 
-use crate::building::{copy_type, pointer_to};
+use crate::building::pointer_to;
 use crate::code::{Code, RuleErr, demand};
 use crate::counted::{Counted, counted_fits, is_counted_whole, so_many_of};
 use crate::kinds::{
@@ -18,7 +18,7 @@ use crate::kinds::{
 };
 use crate::sizes::{fits, is_whole, words_within};
 use c_tree::{BinOp, StepOp, UnOp};
-use c_types::{CType, Layout, is_void};
+use c_types::{CType, Layout, copy_type, is_void};
 use kit_base::Memory;
 use std::alloc::Global;
 

@@ -141,7 +141,7 @@ fn fills(span: Span, global: bool, ty: &CType, x: TExpr) -> Result<TInit, CheckE
     ensures { Gives tinit result (placed span (fills global (ctype ty.now) (texpr x))) }
 {
     match ty {
-        CType::Array(of, count) => text_fills(span, of, *count, &x),
+        CType::Array(of, count) => text_fills(span, of.ty(), *count, &x),
         CType::Void | CType::Int | CType::Bool | CType::Enum(_) => value_fills(span, global, ty, x),
         CType::Struct(_) | CType::Union(_) | CType::Pointer(_) => value_fills(span, global, ty, x),
     }

@@ -57,7 +57,7 @@ fn slot_in<'a>(layouts: &'a [Layout], ty: &'a CType, index: usize) -> Option<&'a
     match ty {
         CType::Array(of, count) => {
             if index < *count as usize {
-                Some(of)
+                Some(of.ty())
             } else {
                 None
             }

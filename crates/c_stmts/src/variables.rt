@@ -13,9 +13,8 @@ use crate::objects::object_size;
 use crate::scopes::{declare, is_new};
 use crate::state::State;
 use c_exprs::{CheckErr, Globals, placed, type_of_tree, type_value};
-use c_rules::copy_type;
 use c_tree::{Expr, Init, Span, TypeTree, Var};
-use c_types::{CType, TExpr, TInit, TVar};
+use c_types::{CType, TExpr, TInit, TVar, copy_type};
 use kit_base::{Memory, Name};
 use std::alloc::Global;
 

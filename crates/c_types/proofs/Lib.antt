@@ -1,3 +1,4 @@
 pub mod Maps
 pub mod Lists
 pub mod Walks
+pub mod Leaps

@@ -2,6 +2,10 @@ pub mod Types
 pub mod Typed
 pub mod Programs
 pub mod Nodes
+pub mod TypeCodes
+pub mod Heights
+pub mod Derivations
+pub mod Ctype
 pub mod View
 pub mod Lists
 pub mod Sizes

@@ -1,8 +1,7 @@
 -- The plain data that types, layouts and typed trees in memory stand for.
 use Rattle.std.specs.Prelude.{ℕ, List, [], ◌∷◌, Option, Some, None, map, option_map}
 use Rattle.std.specs.Borrow.{Bor}
-use Rattle.c_types.specs.declared.ctype.CType.{CType, CType-F, fold-CType}
-use Rattle.c_types.specs.declared.ctype.CType.TheOpen as c
+use Rattle.c_types.specs.declared.ctype.CType.{CType}
 use Rattle.c_types.specs.declared.layout.Member.{Member}
 use Rattle.c_types.specs.declared.layout.Layout.{Layout}
 use Rattle.c_types.specs.declared.typed.TExpr.{TExpr, TExpr-F, fold-TExpr}
@@ -16,7 +15,8 @@ use Rattle.c_types.specs.declared.typed.TArm.{TArm, TArm-F, fold-TArm}
 use Rattle.c_types.specs.declared.typed.TArm.TheOpen as z
 use Rattle.c_types.specs.declared.function.TFunction.{TFunction}
 use Rattle.c_types.specs.Programs.{TFunctionT}
-use Rattle.c_types.specs.Types.{Ty, VoidY, IntY, BoolY, EnumY, StructY, UnionY, PointerY, ArrayY, MemberT, LayoutT}
+pub use Rattle.c_types.specs.Ctype.{ctype}
+use Rattle.c_types.specs.Types.{Ty, VoidY, MemberT, LayoutT}
 use Rattle.c_types.specs.Typed.{TExprT, Typed, TKindT, NumberK, NullK, LiteralK, GlobalK, LocalK, UnaryK, BinaryK, AssignK, StepK, IndexK, MemberK}
 use Rattle.c_types.specs.Typed.{ArrowK, CastK, CallK, InK, OutK, WaitK, HaltK, CardK, TExprTs, NoX, MoreX, TInitT, OneI, TextI, ListI, TInitTs, NoI}
 use Rattle.c_types.specs.Typed.{MoreI, TVarT, TStmtT, BlockZ, EmptyZ, VarsZ, DoZ, IfZ, WhileZ, DoWhileZ, ForZ, SwitchZ, ReturnZ, BreakZ, ContinueZ}
@@ -37,19 +37,6 @@ tstmts (x ∷ xs) = MoreZ x (tstmts xs)
 abbrev pub tarms : List TArmT → TArmTs
 tarms [] = NoB
 tarms (x ∷ xs) = MoreB x (tarms xs)
-
-abbrev pub type_layer : CType-F Ty → Ty
-type_layer c.Void = VoidY
-type_layer c.Int = IntY
-type_layer c.Bool = BoolY
-type_layer (c.Enum n) = EnumY n
-type_layer (c.Struct n) = StructY n
-type_layer (c.Union n) = UnionY n
-type_layer (c.Pointer t) = PointerY t.value
-type_layer (c.Array t n) = ArrayY t.value n
-
-abbrev pub ctype : CType → Ty
-ctype = fold-CType Ty type_layer
 
 -- a type, or that of nothing
 abbrev pub or_void : Option (Bor CType) → Ty

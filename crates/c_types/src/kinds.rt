@@ -62,8 +62,8 @@ pub fn led_to(ty: &CType) -> Option<&CType>
     ensures to { option_map (λ t. ctype t.now) result ≡ pointed (decayed (ctype ty.now)) }
 {
     match ty {
-        CType::Pointer(to) => Some(to),
-        CType::Array(of, _) => Some(of),
+        CType::Pointer(to) => Some(to.ty()),
+        CType::Array(of, _) => Some(of.ty()),
         CType::Void
         | CType::Int
         | CType::Bool
@@ -88,7 +88,7 @@ pub fn part_type<'a>(layouts: &'a [Layout], ty: &'a CType, k: usize) -> Option<&
     ensures part { or_void result ≡ part_type (map layout layouts.now) (ctype ty.now) k }
 {
     match ty {
-        CType::Array(of, _) => Some(of),
+        CType::Array(of, _) => Some(of.ty()),
         CType::Struct(number) => member_type(layouts, *number, k),
         CType::Union(number) => member_type(layouts, *number, k),
         CType::Void | CType::Int | CType::Bool | CType::Enum(_) | CType::Pointer(_) => None,

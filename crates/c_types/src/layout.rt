@@ -138,7 +138,7 @@ pub fn wrapped_size(layouts: &[Layout], ty: &CType) -> u32
             CType::Union(number) => return layout_size(layouts, *number).wrapping_mul(times),
             CType::Array(of, length) => {
                 times = length.wrapping_mul(times);
-                at = of;
+                at = of.ty();
             }
         }
     }

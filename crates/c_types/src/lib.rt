@@ -11,7 +11,7 @@ mod kinds;
 mod layout;
 mod typed;
 
-pub use ctype::CType;
+pub use ctype::{CType, Derivation, Run, Underlying, copy_type, same_derivation, shared};
 pub use function::TFunction;
 pub use kinds::{has_pointer_value, is_structure, is_void, led_to, part_type};
 pub use layout::{Layout, Member, member_offset, size_of, wrapped_size};

@@ -143,7 +143,7 @@ fn fill_rest(
 {
     match ty {
         Some(CType::Array(of, length)) => {
-            let size = s.words(of).wrapping_mul(left(*length, k));
+            let size = s.words(of.ty()).wrapping_mul(left(*length, k));
             zero_part(s.alloc, out, p, offset, size)
         }
         Some(CType::Void) => Ok(()),

@@ -4,7 +4,7 @@ use crate::sharing::places::{argument_stands, place};
 use crate::sharing::upwards::may_stand;
 use mid_code::{Choice, Function, Node, Op, Where};
 
-/// The functions of a program, and the choices for the start and for those of them that are made already.
+/// The functions of a program, and the choices for the start and for those of them that are made already; the next one is for the function that calls.
 #[derive(Clone, Copy)]
 pub(crate) struct Callees<'a> {
     pub(crate) functions: &'a [Function<u32>],
@@ -13,13 +13,15 @@ pub(crate) struct Callees<'a> {
     pub(crate) spares: bool,
 }
 
-/// The place of a parameter, where its function's choice is made already.
-fn place_of(callees: Callees, g: u32, k: usize) -> Option<Where> {
+/// The place of a parameter, where its function's choice is made already, or is the one that is being made.
+fn place_of(callees: Callees, at: &[Where], g: u32, k: usize) -> Option<Where> {
     let i = g as usize;
     let f = callees.functions.get(i)?;
-    let choice = callees.choices.get(i.saturating_add(1))?;
     let p = f.params.as_slice().get(k)?;
-    place(choice.at.as_slice(), *p)
+    match callees.choices.get(i.saturating_add(1)) {
+        Some(choice) => place(choice.at.as_slice(), *p),
+        None => { if callees.choices.len() == i.saturating_add(1) { place(at, *p) } else { None } }
+    }
 }
 
 /// Whether an argument may be made in the register, which the caller may use.
@@ -58,7 +60,7 @@ pub(crate) fn merge_arguments(
     };
     let mut k = 0;
     for a in arguments.as_slice() {
-        if let (Some(from), Some(to)) = (place(at, *a), place_of(callees, *g, k)) {
+        if let (Some(from), Some(to)) = (place(at, *a), place_of(callees, at, *g, k)) {
             if may_go(callees, from, to) {
                 move_argument(single, at, ns, i, o, *a, to);
             }

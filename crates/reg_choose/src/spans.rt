@@ -57,27 +57,8 @@ fn is_call(o: &Op<u32>) -> bool
     ensures { result ≡ calls (op_before o.now Stop) }
 {
     match o {
-        Op::Const(_, _) => false,
-        Op::Null(_) => false,
-        Op::Move(_, _) => false,
-        Op::One(_, _, _) => false,
-        Op::Two(_, _, _, _) => false,
-        Op::Global(_, _) => false,
-        Op::Local(_, _) => false,
-        Op::Literal(_, _) => false,
-        Op::Card(_) => false,
-        Op::Step(_, _, _) => false,
-        Op::Apart(_, _, _) => false,
-        Op::PtrTest(_, _, _, _) => false,
-        Op::Load(_, _) => false,
-        Op::Store(_, _) => false,
-        Op::Fresh(_) => false,
-        Op::End(_) => false,
         Op::Call(_, _, _) => true,
-        Op::In(_, _) => false,
-        Op::Out(_, _) => false,
-        Op::Wait => false,
-        Op::Halt => false,
+        _ => false,
     }
 }
 
@@ -218,7 +199,7 @@ fn walk_return(
     let behind = sets.live.kept(alloc)?;
     at_return(p, &mut sets.live);
     let first = cease_before(alloc, trails, &behind, &sets.live, at, at.place)?;
-    stand_maybe(trails, p, first);
+    stand_maybe(trails, *p, first);
     Ok(first)
 }
 

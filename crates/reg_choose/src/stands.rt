@@ -3,13 +3,14 @@ ghost use Rattle.std.specs.Prelude.{◌≡◌, ℕ, ◌+◌, ◌<◌, ◌&&◌, 
 ghost use Rattle.mid_code.specs.Code.{Stop, maybe};
 ghost use Rattle.mid_code.specs.Functions.{op_before};
 ghost use Rattle.mid_code.specs.Live.{is_among, is_target, is_used};
+ghost use Rattle.mid_code.specs.Operands.{listed_uses};
 ghost use Rattle.mid_live.specs.Sets.{on};
 ghost use Rattle.reg_choose.specs.inner.Trails.{longer, stood, trail_at};
 ghost use Rattle.reg_choose.specs.inner.Sparse.{ceases};
 
 use crate::trail::Trail;
 use kit_base::Memory;
-use mid_code::Op;
+use mid_code::{Op, Uses};
 use mid_live::{Kept, Live};
 use std::alloc::Global;
 
@@ -64,12 +65,12 @@ pub(crate) fn stand_all(trails: &mut [Trail], xs: &[u32], place: u64)
     }
 }
 
-pub(crate) fn stand_maybe(trails: &mut [Trail], x: &Option<u32>, place: u64)
+pub(crate) fn stand_maybe(trails: &mut [Trail], x: Option<u32>, place: u64)
     ensures len { length trails.new ≡ length trails.old }
-    ensures is { (y : ℕ) → y < length trails.old → trail_at trails.new y ≡ stood (is_among (maybe x.now) y) place (trail_at trails.old y) }
+    ensures is { (y : ℕ) → y < length trails.old → trail_at trails.new y ≡ stood (is_among (maybe x) y) place (trail_at trails.old y) }
 {
     if let Some(x) = x {
-        stand_one(trails, *x as usize, place);
+        stand_one(trails, x as usize, place);
     }
 }
 
@@ -82,60 +83,28 @@ fn stand_two(trails: &mut [Trail], a: u32, b: u32, place: u64)
     stand_one(trails, a as usize, place);
 }
 
+fn stand_each(trails: &mut [Trail], uses: &Uses<'_, u32>, place: u64)
+    ensures len { length trails.new ≡ length trails.old }
+    ensures is { (y : ℕ) → y < length trails.old → trail_at trails.new y ≡ stood (is_among (listed_uses uses.now) y) place (trail_at trails.old y) }
+{
+    match uses {
+        Uses::Nothing => {}
+        Uses::One(a) => stand_one(trails, *a as usize, place),
+        Uses::Two(a, b) => stand_two(trails, *a, *b, place),
+        Uses::All(args) => stand_all(trails, args, place),
+    }
+}
+
 pub(crate) fn stand_uses(trails: &mut [Trail], o: &Op<u32>, place: u64)
     ensures len { length trails.new ≡ length trails.old }
     ensures is { (y : ℕ) → y < length trails.old → trail_at trails.new y ≡ stood (is_used (op_before o.now Stop) y) place (trail_at trails.old y) }
 {
-    match o {
-        Op::Const(_, _) => {}
-        Op::Null(_) => {}
-        Op::Move(_, a) => stand_one(trails, *a as usize, place),
-        Op::One(_, _, a) => stand_one(trails, *a as usize, place),
-        Op::Two(_, _, a, b) => stand_two(trails, *a, *b, place),
-        Op::Global(_, _) => {}
-        Op::Local(_, _) => {}
-        Op::Literal(_, _) => {}
-        Op::Card(_) => {}
-        Op::Step(_, p, n) => stand_two(trails, *p, *n, place),
-        Op::Apart(_, p, q) => stand_two(trails, *p, *q, place),
-        Op::PtrTest(_, _, p, q) => stand_two(trails, *p, *q, place),
-        Op::Load(_, p) => stand_one(trails, *p as usize, place),
-        Op::Store(p, a) => stand_two(trails, *p, *a, place),
-        Op::Fresh(_) => {}
-        Op::End(_) => {}
-        Op::Call(_, _, args) => stand_all(trails, args.as_slice(), place),
-        Op::In(_, _) => {}
-        Op::Out(_, a) => stand_one(trails, *a as usize, place),
-        Op::Wait => {}
-        Op::Halt => {}
-    }
+    stand_each(trails, &o.uses(), place);
 }
 
 pub(crate) fn stand_target(trails: &mut [Trail], o: &Op<u32>, place: u64)
     ensures len { length trails.new ≡ length trails.old }
     ensures is { (y : ℕ) → y < length trails.old → trail_at trails.new y ≡ stood (is_target (op_before o.now Stop) y) place (trail_at trails.old y) }
 {
-    match o {
-        Op::Const(t, _) => stand_one(trails, *t as usize, place),
-        Op::Null(t) => stand_one(trails, *t as usize, place),
-        Op::Move(t, _) => stand_one(trails, *t as usize, place),
-        Op::One(_, t, _) => stand_one(trails, *t as usize, place),
-        Op::Two(_, t, _, _) => stand_one(trails, *t as usize, place),
-        Op::Global(t, _) => stand_one(trails, *t as usize, place),
-        Op::Local(t, _) => stand_one(trails, *t as usize, place),
-        Op::Literal(t, _) => stand_one(trails, *t as usize, place),
-        Op::Card(t) => stand_one(trails, *t as usize, place),
-        Op::Step(t, _, _) => stand_one(trails, *t as usize, place),
-        Op::Apart(t, _, _) => stand_one(trails, *t as usize, place),
-        Op::PtrTest(_, t, _, _) => stand_one(trails, *t as usize, place),
-        Op::Load(t, _) => stand_one(trails, *t as usize, place),
-        Op::Store(_, _) => {}
-        Op::Fresh(_) => {}
-        Op::End(_) => {}
-        Op::Call(t, _, _) => stand_maybe(trails, t, place),
-        Op::In(t, _) => stand_one(trails, *t as usize, place),
-        Op::Out(_, _) => {}
-        Op::Wait => {}
-        Op::Halt => {}
-    }
+    stand_maybe(trails, o.target(), place);
 }

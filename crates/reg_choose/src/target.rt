@@ -3,6 +3,7 @@ ghost use Rattle.std.specs.Prelude.{◌≡◌, ◌≢◌, ℕ, ◌<◌, ◌↔�
 ghost use Rattle.mid_code.specs.Code.{Stop, maybe};
 ghost use Rattle.mid_code.specs.Functions.{op_before, DoN};
 ghost use Rattle.mid_code.specs.Live.{is_among, is_used, is_target};
+ghost use Rattle.mid_code.specs.Operands.{listed_uses};
 ghost use Rattle.mid_code.specs.declared.placed.Where.TheVariants.{Reg};
 ghost use Rattle.mid_code.specs.Safe.{place_of, IsSlot};
 ghost use Rattle.mid_live.specs.Sets.{on};
@@ -12,7 +13,7 @@ ghost use Rattle.reg_choose.specs.inner.Holding.{IsPlan, Stands, Laid, NodeTried
 
 use crate::hold::{lay, lay_all, lay_two, lift};
 use crate::plan::place_number;
-use mid_code::{Op, Where};
+use mid_code::{Op, Uses, Where};
 use mid_live::{Labels, Live};
 
 /// Whether no other temporary of the set stands at the place of one.
@@ -25,13 +26,13 @@ fn free(at: &[Where], numbers: &[usize], s: &Live, hs: &[usize], t: u32) -> bool
     held == 0 || held - 1 == t as usize
 }
 
-fn free_maybe(at: &[Where], numbers: &[usize], s: &Live, hs: &[usize], t: &Option<u32>) -> bool
+fn free_maybe(at: &[Where], numbers: &[usize], s: &Live, hs: &[usize], t: Option<u32>) -> bool
     requires plan { IsPlan at.now numbers.now }
     requires stands { Stands at.now s.now hs.now }
-    ensures { (result ≡ true) ↔ FreeIn (length at.now) at.now t.now (on s.now) }
+    ensures { (result ≡ true) ↔ FreeIn (length at.now) at.now t (on s.now) }
 {
     match t {
-        Some(t) => free(at, numbers, s, hs, *t),
+        Some(t) => free(at, numbers, s, hs, t),
         None => true,
     }
 }
@@ -68,39 +69,20 @@ fn target_free(at: &[Where], numbers: &[usize], s: &Live, hs: &[usize], o: &Op<u
     ensures { (result ≡ true) ↔ TargetIn (length at.now) at.now (op_before o.now Stop) (on s.now) }
 {
     match o {
-        Op::Const(t, _) => free(at, numbers, s, hs, *t),
-        Op::Null(t) => free(at, numbers, s, hs, *t),
-        Op::Move(t, _) => free(at, numbers, s, hs, *t),
-        Op::One(_, t, _) => free(at, numbers, s, hs, *t),
-        Op::Two(_, t, _, _) => free(at, numbers, s, hs, *t),
-        Op::Global(t, _) => free(at, numbers, s, hs, *t),
-        Op::Local(t, _) => free(at, numbers, s, hs, *t),
-        Op::Literal(t, _) => free(at, numbers, s, hs, *t),
-        Op::Card(t) => free(at, numbers, s, hs, *t),
-        Op::Step(t, _, _) => free(at, numbers, s, hs, *t),
-        Op::Apart(t, _, _) => free(at, numbers, s, hs, *t),
-        Op::PtrTest(_, t, _, _) => free(at, numbers, s, hs, *t),
-        Op::Load(t, _) => free(at, numbers, s, hs, *t),
-        Op::Store(_, _) => true,
-        Op::Fresh(_) => true,
-        Op::End(_) => true,
-        Op::Call(t, _, _) => free_maybe(at, numbers, s, hs, t) && slots(at, s, hs, t),
-        Op::In(t, _) => free(at, numbers, s, hs, *t),
-        Op::Out(_, _) => true,
-        Op::Wait => true,
-        Op::Halt => true,
+        Op::Call(t, _, _) => free_maybe(at, numbers, s, hs, *t) && slots(at, s, hs, t),
+        _ => free_maybe(at, numbers, s, hs, o.target()),
     }
 }
 
-fn lift_maybe(at: &[Where], numbers: &[usize], s: &mut Live, hs: &mut [usize], t: &Option<u32>)
+fn lift_maybe(at: &[Where], numbers: &[usize], s: &mut Live, hs: &mut [usize], t: Option<u32>)
     requires plan { IsPlan at.now numbers.now }
     requires stands { Stands at.now s.old hs.old }
     ensures len { length s.new ≡ length s.old }
-    ensures is { (y : ℕ) → y < length at.now → on s.new y ≡ cond (is_among (maybe t.now) y) false (on s.old y) }
+    ensures is { (y : ℕ) → y < length at.now → on s.new y ≡ cond (is_among (maybe t) y) false (on s.old y) }
     ensures stands { Stands at.now s.new hs.new }
 {
     if let Some(t) = t {
-        lift(at, numbers, s, hs, *t as usize);
+        lift(at, numbers, s, hs, t as usize);
     }
 }
 
@@ -113,28 +95,26 @@ fn lift_target(at: &[Where], numbers: &[usize], s: &mut Live, hs: &mut [usize], 
     ensures is { (y : ℕ) → y < length at.now → on s.new y ≡ cond (is_target (op_before o.now Stop) y) false (on s.old y) }
     ensures stands { Stands at.now s.new hs.new }
 {
-    match o {
-        Op::Const(t, _) => lift(at, numbers, s, hs, *t as usize),
-        Op::Null(t) => lift(at, numbers, s, hs, *t as usize),
-        Op::Move(t, _) => lift(at, numbers, s, hs, *t as usize),
-        Op::One(_, t, _) => lift(at, numbers, s, hs, *t as usize),
-        Op::Two(_, t, _, _) => lift(at, numbers, s, hs, *t as usize),
-        Op::Global(t, _) => lift(at, numbers, s, hs, *t as usize),
-        Op::Local(t, _) => lift(at, numbers, s, hs, *t as usize),
-        Op::Literal(t, _) => lift(at, numbers, s, hs, *t as usize),
-        Op::Card(t) => lift(at, numbers, s, hs, *t as usize),
-        Op::Step(t, _, _) => lift(at, numbers, s, hs, *t as usize),
-        Op::Apart(t, _, _) => lift(at, numbers, s, hs, *t as usize),
-        Op::PtrTest(_, t, _, _) => lift(at, numbers, s, hs, *t as usize),
-        Op::Load(t, _) => lift(at, numbers, s, hs, *t as usize),
-        Op::Store(_, _) => {}
-        Op::Fresh(_) => {}
-        Op::End(_) => {}
-        Op::Call(t, _, _) => lift_maybe(at, numbers, s, hs, t),
-        Op::In(t, _) => lift(at, numbers, s, hs, *t as usize),
-        Op::Out(_, _) => {}
-        Op::Wait => {}
-        Op::Halt => {}
+    lift_maybe(at, numbers, s, hs, o.target());
+}
+
+fn lay_each(
+    at: &[Where],
+    numbers: &[usize],
+    s: &mut Live,
+    hs: &mut [usize],
+    uses: &Uses<'_, u32>,
+) -> bool
+    requires plan { IsPlan at.now numbers.now }
+    requires stands { Stands at.now s.old hs.old }
+    ensures len { length s.new ≡ length s.old }
+    ensures laid { Laid at.now (is_among (listed_uses uses.now)) s.old s.new hs.new result }
+{
+    match uses {
+        Uses::Nothing => true,
+        Uses::One(a) => lay(at, numbers, s, hs, *a as usize),
+        Uses::Two(a, b) => lay_two(at, numbers, s, hs, *a, *b),
+        Uses::All(args) => lay_all(at, numbers, s, hs, args),
     }
 }
 
@@ -145,29 +125,7 @@ fn lay_uses(at: &[Where], numbers: &[usize], s: &mut Live, hs: &mut [usize], o: 
     ensures len { length s.new ≡ length s.old }
     ensures laid { Laid at.now (λ y. is_used (op_before o.now Stop) y) s.old s.new hs.new result }
 {
-    match o {
-        Op::Const(_, _) => true,
-        Op::Null(_) => true,
-        Op::Move(_, a) => lay(at, numbers, s, hs, *a as usize),
-        Op::One(_, _, a) => lay(at, numbers, s, hs, *a as usize),
-        Op::Two(_, _, a, b) => lay_two(at, numbers, s, hs, *a, *b),
-        Op::Global(_, _) => true,
-        Op::Local(_, _) => true,
-        Op::Literal(_, _) => true,
-        Op::Card(_) => true,
-        Op::Step(_, p, n) => lay_two(at, numbers, s, hs, *p, *n),
-        Op::Apart(_, p, q) => lay_two(at, numbers, s, hs, *p, *q),
-        Op::PtrTest(_, _, p, q) => lay_two(at, numbers, s, hs, *p, *q),
-        Op::Load(_, p) => lay(at, numbers, s, hs, *p as usize),
-        Op::Store(p, a) => lay_two(at, numbers, s, hs, *p, *a),
-        Op::Fresh(_) => true,
-        Op::End(_) => true,
-        Op::Call(_, _, args) => lay_all(at, numbers, s, hs, args.as_slice()),
-        Op::In(_, _) => true,
-        Op::Out(_, a) => lay(at, numbers, s, hs, *a as usize),
-        Op::Wait => true,
-        Op::Halt => true,
-    }
+    lay_each(at, numbers, s, hs, &o.uses())
 }
 
 /// Makes the set what is live before an operation; false where its target is not free, or two share a place.

@@ -2,6 +2,7 @@
 ghost use Rattle.std.specs.Prelude.{◌≡◌, map, IfOk};
 ghost use Rattle.mid_code.specs.Code.{Stop, node_uses, maybe};
 ghost use Rattle.mid_code.specs.Functions.{op_before, node, before, nodes, function};
+ghost use Rattle.mid_code.specs.Operands.{listed_uses};
 ghost use Rattle.asm_laws.specs.Pieces.{is_in};
 ghost use Rattle.asm_laws.specs.Spare.{beside, operand, computed, loaded, in_slots, stored, at_address, at_sum, used_by};
 ghost use Rattle.asm_laws.specs.Spare.{count, are_others, spares, held_registers};
@@ -12,7 +13,7 @@ use crate::hands::{is_in, register};
 use crate::pieces::turned;
 use asm_laws::Used;
 use kit_base::Memory;
-use mid_code::{Function, Node, Op, Where};
+use mid_code::{Function, Node, Op, Uses, Where};
 use std::alloc::Global;
 use v32_isa::{Reg, Two};
 
@@ -209,33 +210,22 @@ fn is_other(p: Option<Where>) -> bool
     }
 }
 
+fn are_other_uses(uses: &Uses<'_, Where>) -> bool
+    ensures { result ≡ are_others (listed_uses uses.now) }
+{
+    match uses {
+        Uses::Nothing => true,
+        Uses::One(a) => !is_spare(*a),
+        Uses::Two(a, b) => !is_spare(*a) && !is_spare(*b),
+        Uses::All(args) => are_others(args),
+    }
+}
+
 /// Whether none of the places that an operation or a call reads is register 8.
 fn reads_others(o: &Op<Where>) -> bool
     ensures { result ≡ are_others (node_uses (op_before o.now Stop)) }
 {
-    match o {
-        Op::Const(_, _) => true,
-        Op::Null(_) => true,
-        Op::Move(_, a) => !is_spare(*a),
-        Op::One(_, _, a) => !is_spare(*a),
-        Op::Two(_, _, a, b) => !is_spare(*a) && !is_spare(*b),
-        Op::Global(_, _) => true,
-        Op::Local(_, _) => true,
-        Op::Literal(_, _) => true,
-        Op::Card(_) => true,
-        Op::Step(_, p, n) => !is_spare(*p) && !is_spare(*n),
-        Op::Apart(_, p, q) => !is_spare(*p) && !is_spare(*q),
-        Op::PtrTest(_, _, p, q) => !is_spare(*p) && !is_spare(*q),
-        Op::Load(_, p) => !is_spare(*p),
-        Op::Store(p, a) => !is_spare(*p) && !is_spare(*a),
-        Op::Fresh(_) => true,
-        Op::End(_) => true,
-        Op::Call(_, _, args) => are_others(args.as_slice()),
-        Op::In(_, _) => true,
-        Op::Out(_, a) => !is_spare(*a),
-        Op::Wait => true,
-        Op::Halt => true,
-    }
+    are_other_uses(&o.uses())
 }
 
 /// Where an operation reads no register 8, or so many operations in front are done already: how many of those behind it are done.

@@ -7,7 +7,9 @@ use crate::known::word_in;
 use mid_code::Op;
 use v32_isa::{One, Two, one_word, two_word};
 
-fn one_known(o: One, x: Option<u32>) -> Option<u32>
+/// What an operator makes of a word, where that is known and it makes one.
+#[inline]
+pub fn one_known(o: One, x: Option<u32>) -> Option<u32>
     ensures { result ≡ one_known o x }
 {
     match x {
@@ -16,7 +18,9 @@ fn one_known(o: One, x: Option<u32>) -> Option<u32>
     }
 }
 
-fn two_known(o: Two, x: Option<u32>, y: Option<u32>) -> Option<u32>
+/// What an operator makes of two words, where both are known. A division or remainder by 0 makes none.
+#[inline]
+pub fn two_known(o: Two, x: Option<u32>, y: Option<u32>) -> Option<u32>
     ensures { result ≡ two_known o x y }
 {
     match x {

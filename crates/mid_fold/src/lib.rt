@@ -1,6 +1,7 @@
 //! Constant folding: operators whose words are known are worked out, and a move of a known word puts the word itself.
 //!
-//! It promises that the code does exactly what it did, in the same work, with the same temporaries, parameters and locals. It stands on mid_code.
+//! It promises that the code does exactly what it did, in the same work, with the same temporaries, parameters and locals. What an operator makes of words
+//! that may be known is offered too. It stands on mid_code.
 #![tactic(auto)]
 
 mod folding;
@@ -8,4 +9,5 @@ mod functions;
 mod known;
 mod nodes;
 
+pub use folding::{one_known, two_known};
 pub use functions::fold_words;

@@ -30,13 +30,15 @@ use mid_code::Node;
 #[derive(Clone, Copy)]
 struct Branches<'x>(&'x TStmt, Option<&'x TStmt>);
 
+/// What stands between the parentheses of a `for`, in its order: what is done first, the condition, and the step.
+#[derive(Clone, Copy)]
+struct ForHead<'x>(Option<&'x TStmt>, Option<&'x TExpr>, Option<&'x TExpr>);
+
 /// The parts of a `for`, which makes the locals `made` anew.
 #[derive(Clone, Copy)]
 struct ForParts<'x> {
     made: &'x [u32],
-    first: Option<&'x TStmt>,
-    test: Option<&'x TExpr>,
-    step: Option<&'x TExpr>,
+    head: ForHead<'x>,
     body: &'x TStmt,
 }
 
@@ -85,31 +87,21 @@ fn statement<'x>(
         TStmt::While(x, body) => while_loop(s, exits.gives, x, body, at, out, structures),
         TStmt::DoWhile(body, x) => do_while_loop(s, exits.gives, body, x, at, out, structures),
         TStmt::For(made, None, test, step, body) => {
-            let of = ForParts {
-                made: made.as_slice(),
-                first: None,
-                test: test.as_ref(),
-                step: step.as_ref(),
-                body,
-            };
+            let made = made.as_slice();
+            let head = ForHead(None, test.as_ref(), step.as_ref());
+            let of = ForParts { made, head, body };
             for_loop(s, exits, of, at, out, structures)
         }
         TStmt::For(made, Some(first), test, step, body) => {
-            let of = ForParts {
-                made: made.as_slice(),
-                first: Some(first),
-                test: test.as_ref(),
-                step: step.as_ref(),
-                body,
-            };
+            let made = made.as_slice();
+            let head = ForHead(Some(first), test.as_ref(), step.as_ref());
+            let of = ForParts { made, head, body };
             for_loop(s, exits, of, at, out, structures)
         }
         TStmt::Switch(value, made, arms) => {
-            let of = SwitchParts {
-                value,
-                made: made.as_slice(),
-                arms: arms.as_slice(),
-            };
+            let made = made.as_slice();
+            let arms = arms.as_slice();
+            let of = SwitchParts { value, made, arms };
             switch(s, exits, of, at, out, structures)
         }
         TStmt::Return(None) => return_nothing(out, at),
@@ -318,8 +310,9 @@ fn for_loop<'x>(
     ensures local { IfOk result (λ r. r.local ≡ at.local + length (stmt_sizes (shape_of s.now) (for_of of.entry))) }
 {
     make(out, of.made)?;
-    let begun = other(s, exits, of.first, at, out, structures)?;
-    let (turn, tested) = begin_turn(s, of.test, begun, structures)?;
+    let ForHead(first, test, step) = of.head;
+    let begun = other(s, exits, first, at, out, structures)?;
+    let (turn, tested) = begin_turn(s, test, begun, structures)?;
     let own = Exits {
         gives: exits.gives,
         breaks: 1,
@@ -328,12 +321,12 @@ fn for_loop<'x>(
     let inside = nested(s, own, of.body, tested, structures);
     let (turn, (inside, done)) = keeping(turn, inside)?;
     let turn = Turn {
-        tests: of.test.is_some(),
+        tests: test.is_some(),
         temporary: begun.next,
         condition: turn,
         body: inside,
     };
-    close_turn(s, turn, of.step, done, out, structures)
+    close_turn(s, turn, step, done, out, structures)
 }
 
 /// A switch.

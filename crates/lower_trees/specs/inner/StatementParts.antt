@@ -11,7 +11,7 @@ abbrev pub choice_of : TExprT → Branches → TStmtT
 choice_of x b = IfZ x (tstmt b.0.now) (other_of b.1)
 
 abbrev pub for_of : ForParts → TStmtT
-for_of p = ForZ p.made.now (other_of p.first) (option_map (λ x. texpr x.now) p.test) (option_map (λ x. texpr x.now) p.step) (tstmt p.body.now)
+for_of p = ForZ p.made.now (other_of p.head.0) (option_map (λ x. texpr x.now) p.head.1) (option_map (λ x. texpr x.now) p.head.2) (tstmt p.body.now)
 
 abbrev pub switch_of : SwitchParts → TStmtT
 switch_of p = SwitchZ (texpr p.value.now) p.made.now (tarms (map tarm p.arms.now))

@@ -74,7 +74,7 @@ pub statement-for_loop-requires : goal.statement-for_loop-requires
 statement-for_loop-requires t c =
     let h = shape_of c.args.s.now in
     let s = tstmt c.args.a.now in
-    let z = ForZ c.as_slice-in-For-default-None-default-default-default.result.now NoneZ (option_map (λ x. texpr x.now) c.as_ref.result) (option_map (λ x. texpr x.now) c.as_ref-in-For-default-None-default-default-default.result) (tstmt c.deref-in-For-default-None-default-default-default.result.now) in
+    let z = ForZ c.as_slice-made-in-For-default-None-default-default-default.result.now NoneZ (option_map (λ x. texpr x.now) c.as_ref.result) (option_map (λ x. texpr x.now) c.as_ref-in-For-default-None-default-default-default.result) (tstmt c.deref-in-For-default-None-default-default-default.result.now) in
     let e : s ≡ z = search (rules, the_lemmas) in
     let kn : statement_nodes s ≡ statement_nodes z = ap statement_nodes e in
     let dec : 4 * statement_nodes s ≡ t = c.decreases in
@@ -85,7 +85,7 @@ pub statement-for_loop-requires-in-For-default-Some-default-default-default : go
 statement-for_loop-requires-in-For-default-Some-default-default-default t c =
     let h = shape_of c.args.s.now in
     let s = tstmt c.args.a.now in
-    let z = ForZ c.as_slice-in-For-default-Some-default-default-default.result.now (SomeZ (tstmt c.deref-in-For-default-Some-default-default-default.result.now)) (option_map (λ x. texpr x.now) c.as_ref-in-For-default-Some-default-default-default.result) (option_map (λ x. texpr x.now) c.as_ref-in-For-default-Some-default-default-default-2.result) (tstmt c.deref-in-For-default-Some-default-default-default-2.result.now) in
+    let z = ForZ c.as_slice-made-in-For-default-Some-default-default-default.result.now (SomeZ (tstmt c.deref-in-For-default-Some-default-default-default.result.now)) (option_map (λ x. texpr x.now) c.as_ref-in-For-default-Some-default-default-default.result) (option_map (λ x. texpr x.now) c.as_ref-in-For-default-Some-default-default-default-2.result) (tstmt c.deref-in-For-default-Some-default-default-default-2.result.now) in
     let e : s ≡ z = search (rules, the_lemmas) in
     let kn : statement_nodes s ≡ statement_nodes z = ap statement_nodes e in
     let dec : 4 * statement_nodes s ≡ t = c.decreases in
@@ -96,11 +96,11 @@ pub statement-switch-requires : goal.statement-switch-requires
 statement-switch-requires t c =
     let h = shape_of c.args.s.now in
     let s = tstmt c.args.a.now in
-    let z = SwitchZ (texpr c.in-Switch.value) c.as_slice-in-Switch.result.now (tarms (map tarm c.as_slice-in-Switch-2.result.now)) in
+    let z = SwitchZ (texpr c.in-Switch.value) c.as_slice-made-in-Switch.result.now (tarms (map tarm c.as_slice-arms.result.now)) in
     let e : s ≡ z = search (rules, the_lemmas) in
     let kn : statement_nodes s ≡ statement_nodes z = ap statement_nodes e in
     let dec : 4 * statement_nodes s ≡ t = c.decreases in
-    let fall : 4 * arms_nodes (tarms (map tarm c.as_slice-in-Switch-2.result.now)) + 2 < t = omega (arith, kn, dec) in
+    let fall : 4 * arms_nodes (tarms (map tarm c.as_slice-arms.result.now)) + 2 < t = omega (arith, kn, dec) in
     (fall, (subst (λ z. c.args.at.next + stmt_temps z ≤ 1000000) e c.requires.temps, (subst (λ z. c.args.at.local + length (stmt_sizes h z) ≤ 1000000) e c.requires.locals, (subst (λ z. statement_nodes z ≤ 1000000) e c.requires.few, c.requires.jump))))
 
 pub nested-statement-requires : goal.nested-statement-requires
@@ -171,9 +171,9 @@ do_while_loop-close_do_while-requires-clause-locals t c =
 pub for_loop-other-requires : goal.for_loop-other-requires
 for_loop-other-requires t c =
     let h = shape_of c.args.s.now in
-    let first = other_of c.args.of.first in
-    let test = option_map {U = TExprT} (λ x. texpr x.now) c.args.of.test in
-    let step = option_map {U = TExprT} (λ x. texpr x.now) c.args.of.step in
+    let first = other_of c.args.of.head.0 in
+    let test = option_map {U = TExprT} (λ x. texpr x.now) c.args.of.head.1 in
+    let step = option_map {U = TExprT} (λ x. texpr x.now) c.args.of.head.2 in
     let a = tstmt c.args.of.body.now in
     let z = ForZ c.args.of.made.now first test step a in
     let kl : length (stmt_sizes h z) ≡ length (other_sizes h first) + (length (maybe_sizes h test) + (length (stmt_sizes h a) + length (maybe_sizes h step))) = for_length h z c.args.of.made.now first test step a refl in
@@ -188,9 +188,9 @@ for_loop-other-requires t c =
 pub for_loop-begin_turn-requires-clause-locals : goal.for_loop-begin_turn-requires-clause-locals
 for_loop-begin_turn-requires-clause-locals t c =
     let h = shape_of c.args.s.now in
-    let first = other_of c.args.of.first in
-    let test = option_map {U = TExprT} (λ x. texpr x.now) c.args.of.test in
-    let step = option_map {U = TExprT} (λ x. texpr x.now) c.args.of.step in
+    let first = other_of c.args.of.head.0 in
+    let test = option_map {U = TExprT} (λ x. texpr x.now) c.args.of.head.1 in
+    let step = option_map {U = TExprT} (λ x. texpr x.now) c.args.of.head.2 in
     let a = tstmt c.args.of.body.now in
     let z = ForZ c.args.of.made.now first test step a in
     let kl : length (stmt_sizes h z) ≡ length (other_sizes h first) + (length (maybe_sizes h test) + (length (stmt_sizes h a) + length (maybe_sizes h step))) = for_length h z c.args.of.made.now first test step a refl in
@@ -204,9 +204,9 @@ for_loop-begin_turn-requires-clause-locals t c =
 pub for_loop-close_turn-requires-clause-locals : goal.for_loop-close_turn-requires-clause-locals
 for_loop-close_turn-requires-clause-locals t c =
     let h = shape_of c.args.s.now in
-    let first = other_of c.args.of.first in
-    let test = option_map {U = TExprT} (λ x. texpr x.now) c.args.of.test in
-    let step = option_map {U = TExprT} (λ x. texpr x.now) c.args.of.step in
+    let first = other_of c.args.of.head.0 in
+    let test = option_map {U = TExprT} (λ x. texpr x.now) c.args.of.head.1 in
+    let step = option_map {U = TExprT} (λ x. texpr x.now) c.args.of.head.2 in
     let a = tstmt c.args.of.body.now in
     let z = ForZ c.args.of.made.now first test step a in
     let kl : length (stmt_sizes h z) ≡ length (other_sizes h first) + (length (maybe_sizes h test) + (length (stmt_sizes h a) + length (maybe_sizes h step))) = for_length h z c.args.of.made.now first test step a refl in

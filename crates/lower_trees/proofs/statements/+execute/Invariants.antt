@@ -50,7 +50,7 @@ abbrev pub decreases-do_while_loop : goal.decreases-do_while_loop
 decreases-do_while_loop l = 4 * statement_nodes (tstmt l.body.now) + 2
 
 abbrev pub decreases-for_loop : goal.decreases-for_loop
-decreases-for_loop l = 4 * (maybe_statement_nodes (other_of l.of.first) + statement_nodes (tstmt l.of.body.now)) + 2
+decreases-for_loop l = 4 * (maybe_statement_nodes (other_of l.of.head.0) + statement_nodes (tstmt l.of.body.now)) + 2
 
 abbrev pub decreases-switch : goal.decreases-switch
 decreases-switch l = 4 * arms_nodes (tarms (map tarm l.of.arms.now)) + 2

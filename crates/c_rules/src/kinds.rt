@@ -2,7 +2,7 @@
 ghost use Rattle.std.specs.Prelude.{◌≡◌, ◌≤◌, ◌==◌, option_map, ◌||◌};
 ghost use Rattle.std.specs.Bool.{OnTrue};
 ghost use Rattle.c_types.specs.View.{ctype};
-ghost use Rattle.c_types.specs.Ctype.{height};
+ghost use Rattle.c_types.specs.inner.Heights.{height};
 ghost use Rattle.c_types.specs.Kinds.{is_void, is_structure, is_pointer, decayed, pointed};
 ghost use Rattle.c_rules.specs.Kinds.{is_number, is_array, is_condition, enum_number, struct_number};
 ghost use Rattle.c_rules.specs.Kinds.{union_number, element, element_count, holds, target, same_type, leads_alike, pointers_convert};

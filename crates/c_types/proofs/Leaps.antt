@@ -3,8 +3,8 @@ use Rattle.std.proofs.Common.{◌≡◌, ◌≢◌, ℕ, zero, suc, ◌+◌, inl
 use Rattle.c_types.specs.declared.ctype.Derivation.{Derivation}
 use Rattle.c_types.specs.declared.ctype.Derivation.TheVariants as d
 use Rattle.c_types.specs.Types.{Ty, VoidY}
-use Rattle.c_types.specs.Derivations.{derive, outermost, repeated}
-use Rattle.c_types.specs.Ctype.{IsRun}
+use Rattle.c_types.specs.Derivations.{derive, repeated}
+use Rattle.c_types.specs.Runs.{outermost, IsRun}
 
 outermost_of : (derivation : Derivation) (to : Ty) → outermost (derive derivation to) ≡ derivation
 outermost_of d.Pointer to = refl

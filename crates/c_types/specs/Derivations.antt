@@ -8,11 +8,6 @@ abbrev pub derive : Derivation → Ty → Ty
 derive d.Pointer t = PointerY t
 derive (d.Array len) t = ArrayY t len
 
--- the derivation by which a type is made of the one right below it, where it is made of one
-abbrev pub outermost : Ty → Derivation
-outermost (ArrayY of len) = d.Array len
-outermost _ = d.Pointer
-
 -- by so many times the same derivation
 abbrev pub repeated : (times : ℕ) → Derivation → Ty → Ty
 repeated zero derivation t = t

@@ -2,9 +2,9 @@ pub mod Types
 pub mod Typed
 pub mod Programs
 pub mod Nodes
-pub mod TypeCodes
-pub mod Heights
+pub mod inner
 pub mod Derivations
+pub mod Runs
 pub mod Ctype
 pub mod View
 pub mod Lists

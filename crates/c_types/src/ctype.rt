@@ -1,7 +1,8 @@
 // Types.
 ghost use Rattle.std.specs.Prelude.{◌≡◌, ◌<◌, IfOk, IfSome};
 ghost use Rattle.std.specs.Bool.{OnTrue};
-ghost use Rattle.c_types.specs.Ctype.{ctype, IsRun};
+ghost use Rattle.c_types.specs.Ctype.{ctype};
+ghost use Rattle.c_types.specs.Runs.{IsRun};
 ghost use Rattle.c_types.specs.Derivations.{derive, repeated};
 
 use kit_base::Memory;
@@ -51,13 +52,15 @@ pub struct Run<'a> {
 
 impl Model for Underlying {
     ghost use Rattle.c_types.specs.Types.{Ty};
-    ghost use Rattle.c_types.specs.TypeCodes.{type_code};
+    ghost use Rattle.c_types.specs.inner.TypeCodes.{type_code};
 
     ghost Value = { Ty };
 
     ghost coded = { type_code };
 
-    ghost use Rattle.c_types.specs.Ctype.{ctype, height, IsRun};
+    ghost use Rattle.c_types.specs.Ctype.{ctype};
+    ghost use Rattle.c_types.specs.Runs.{IsRun};
+    ghost use Rattle.c_types.specs.inner.Heights.{height};
 
     ghost view = { λ u. ctype u.ty };
 
@@ -65,7 +68,7 @@ impl Model for Underlying {
 
     ghost size = { height };
 
-    ghost use Rattle.c_types.specs.Heights.{falls};
+    ghost use Rattle.c_types.specs.inner.FurtherDown.{falls};
 
     ghost size_decreases = { λ u run. falls u.ty u.to u.times run };
 }

@@ -1,7 +1,8 @@
 use Rattle.std.proofs.Common.{rules, ◌≡◌, ◌≤◌}
-use Rattle.c_types.specs.Heights.{lower}
+use Rattle.c_types.specs.inner.FurtherDown.{lower}
+use Rattle.c_types.specs.inner.Heights.{height}
 use Rattle.c_types.specs.Derivations.{repeated}
-use Rattle.c_types.specs.Ctype.{ctype, height}
+use Rattle.c_types.specs.Ctype.{ctype}
 use Rattle.c_rules.proofs.Walks.{same_further}
 use Rattle.c_rules.proofs.kinds.further.Goals as goal
 

@@ -1,6 +1,6 @@
 use Rattle.std.proofs.Common.{◌≡◌}
 use Rattle.c_types.specs.View.{ctype}
-use Rattle.c_types.specs.Ctype.{height}
+use Rattle.c_types.specs.inner.Heights.{height}
 use Rattle.c_rules.specs.Kinds.{same_type}
 use Rattle.c_rules.proofs.kinds.same_type.Given as goal
 

@@ -1,7 +1,8 @@
 use Rattle.std.proofs.Common.{rules, arith, ◌≡◌, ◌≤◌, ◌<◌}
 use Rattle.c_types.specs.Types.{PointerY, ArrayY}
-use Rattle.c_types.specs.Ctype.{ctype, height}
-use Rattle.c_types.specs.Heights.{run_lower}
+use Rattle.c_types.specs.Ctype.{ctype}
+use Rattle.c_types.specs.inner.FurtherDown.{run_lower}
+use Rattle.c_types.specs.inner.Heights.{height}
 use Rattle.c_types.proofs.ctype.CType.+drop.Goals as goal
 use Rattle.c_types.proofs.ctype.CType.+drop.Goals.{in-Pointer, in-Array}
 

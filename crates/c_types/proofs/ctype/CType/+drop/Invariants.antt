@@ -1,5 +1,6 @@
 use Rattle.std.proofs.Common.{◌≤◌}
-use Rattle.c_types.specs.Ctype.{ctype, height}
+use Rattle.c_types.specs.Ctype.{ctype}
+use Rattle.c_types.specs.inner.Heights.{height}
 use Rattle.c_types.proofs.ctype.CType.+drop.Given as goal
 
 abbrev pub decreases-drop : goal.decreases-drop

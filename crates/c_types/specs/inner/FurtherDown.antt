@@ -1,4 +1,4 @@
--- Types further down are smaller.
+-- Types further down have fewer derivations.
 use Rattle.std.proofs.Common.{ℕ, zero, suc, ◌+◌, ◌≡◌, ◌≤◌, max, inl, inr, arith}
 use Rattle.c_types.specs.declared.ctype.CType.{CType}
 use Rattle.c_types.specs.declared.ctype.CType.TheVariants as c
@@ -6,8 +6,10 @@ use Rattle.c_types.specs.declared.ctype.Derivation.{Derivation}
 use Rattle.c_types.specs.declared.ctype.Derivation.TheVariants as d
 use Rattle.c_types.specs.declared.ctype.Underlying.TheDeep.{deep-CType}
 use Rattle.c_types.specs.Types.{Ty}
-use Rattle.c_types.specs.Derivations.{derive, outermost, repeated}
-use Rattle.c_types.specs.Ctype.{ctype, height, IsRun}
+use Rattle.c_types.specs.Derivations.{derive, repeated}
+use Rattle.c_types.specs.Ctype.{ctype}
+use Rattle.c_types.specs.Runs.{outermost, IsRun}
+use Rattle.c_types.specs.inner.Heights.{height}
 
 deep : (t : CType) → deep-CType t ≤ height (ctype t)
 deep c.Void = omega arith

@@ -1,0 +1,3 @@
+pub mod FurtherDown
+pub mod Heights
+pub mod TypeCodes

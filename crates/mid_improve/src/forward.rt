@@ -3,7 +3,6 @@ ghost use Rattle.std.specs.Prelude.{◌≡◌, ◌++◌, ◌∷◌, [], map, opt
 ghost use Rattle.mid_code.specs.Functions.{function, listed, node};
 ghost use Rattle.mid_code.specs.Whole.{mid};
 ghost use Rattle.mid_improve.specs.inner.ForwardedFrom.{IsForwardedFrom};
-ghost use Rattle.mid_fold.specs.Lasting.{one_known, two_known};
 ghost use Rattle.mid_improve.specs.inner.Forward.{serves, forwarded_function};
 ghost use Rattle.mid_improve.specs.inner.ForwardListed.{or_word, or_known, op_word, op_forwarded, node_forwarded, list_forwarded};
 ghost use Rattle.mid_improve.specs.inner.Facts.{none_known};
@@ -15,9 +14,9 @@ use crate::table::Table;
 use kit_base::{Memory, Seq};
 use mid_code::laws::mid_code_is_sound;
 use mid_code::{Code, Function, Mid, Node, Op, Stands};
+use mid_fold::{one_known, two_known};
 use std::alloc::Global;
 use std::mem;
-use v32_isa::{One, Two, one_word, two_word};
 
 // ---- operands
 
@@ -48,27 +47,6 @@ impl Stands<u32> for Table {
 }
 
 // ---- operations
-
-fn one_known(o: One, x: Option<u32>) -> Option<u32>
-    ensures { result ≡ one_known o x }
-{
-    match x {
-        None => None,
-        Some(x) => one_word(o, x),
-    }
-}
-
-fn two_known(o: Two, x: Option<u32>, y: Option<u32>) -> Option<u32>
-    ensures { result ≡ two_known o x y }
-{
-    match x {
-        None => None,
-        Some(x) => match y {
-            None => None,
-            Some(y) => two_word(o, x, y),
-        },
-    }
-}
 
 /// Puts a constant in the place of an operation, where there is a word for it.
 fn put_word(t: u32, o: &mut Op<u32>, word: Option<u32>)

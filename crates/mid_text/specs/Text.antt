@@ -5,7 +5,7 @@ use Rattle.std.specs.Fmt.{decimal}
 use Rattle.mid_code.specs.Code.{OpT, ConstO, NullO, MoveO, OneO, TwoO, GlobalO, LocalO, LiteralO, CardO, StepO, ApartO, PtrTestO, LoadO, StoreO}
 use Rattle.mid_code.specs.Code.{FreshO, EndO, InO, OutO, WaitO, HaltO, NodesT, Stop, Do, Call, Choose, Block, Loop, Leave, Again, Return, FunctionT}
 use Rattle.mid_code.specs.Code.{CodeT}
-use Rattle.mid_text.specs.Operators.{one_name, two_name}
+use Rattle.asm_items.specs.Mnemonics.{one_name, two_name}
 
 -- a comma and a space before each of them
 abbrev pub further : List ℕ → List ℕ

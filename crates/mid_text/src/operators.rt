@@ -1,6 +1,6 @@
 // The names of operators.
 ghost use Rattle.std.specs.Prelude.{◌≡◌};
-ghost use Rattle.mid_text.specs.Operators.{one_name, two_name};
+ghost use Rattle.asm_items.specs.Mnemonics.{one_name, two_name};
 
 use v32_isa::{One, Two};
 

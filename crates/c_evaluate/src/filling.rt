@@ -109,7 +109,15 @@ fn rest<'a>(
         return Ok(());
     };
     match one {
-        CType::Array(of, len) => cells(nowhere(), 1, n, words_left(s, of.ty(), *len, k), None, p, store),
+        CType::Array(of, len) => cells(
+            nowhere(),
+            1,
+            n,
+            words_left(s, of.ty(), *len, k),
+            None,
+            p,
+            store,
+        ),
         CType::Void | CType::Int | CType::Bool | CType::Enum(_) => Ok(()),
         CType::Struct(_) | CType::Union(_) | CType::Pointer(_) => Ok(()),
     }

@@ -3,14 +3,15 @@ ghost use Rattle.std.specs.Prelude.{List};
 ghost use Rattle.c_types.specs.View.{ctype, texpr};
 ghost use Rattle.kit_base.specs.declared.event.Event.TheVariants.{Out};
 ghost use Rattle.obj_mem.specs.Queries.{word_of, truth};
+ghost use Rattle.c_meaning.specs.Operators.{converted};
 ghost use Rattle.c_evaluate.specs.declared.frame.Came.TheVariants.{Nothing, Value};
 ghost use Rattle.c_evaluate.specs.inner.Machine.{FrameT, Going, MadeF};
-ghost use Rattle.c_evaluate.specs.inner.Storing.{at_span, taken, tested_in};
+ghost use Rattle.c_evaluate.specs.inner.Storing.{at_span, placed_in, taken, tested_in};
 ghost use Rattle.c_evaluate.specs.inner.Results.{Leads};
 ghost use Rattle.c_evaluate.specs.inner.FocusView.{at, stack_of};
 ghost use Rattle.c_evaluate.specs.inner.SettingView.{setting_of};
 ghost use Rattle.c_evaluate.specs.inner.StoreView.{store_of};
-ghost use Rattle.c_evaluate.specs.inner.Steps.{on, came, combined, unary_first, member_first, binary_second, second_of};
+ghost use Rattle.c_evaluate.specs.inner.Steps.{on, came, value_here, combined, unary_first, member_first, binary_second, second_of};
 ghost use Rattle.c_evaluate.specs.inner.Swift.{binary_on, first_of_on, second_on};
 
 use crate::assigning::{Lvalue, member, second_assigned, second_operated, stepped_place};
@@ -131,6 +132,26 @@ fn member_of<'a>(
     }
 }
 
+/// The value that is cast came.
+#[inline(always)]
+fn cast<'a>(
+    s: &Setting<'a>,
+    n: u32,
+    e: &TExpr,
+    x: &TExpr,
+    v: Came,
+    stack: &Vec<Frame<'a>>,
+    store: &mut Store<'a>,
+) -> Result<Focus<'a>, Stop>
+    ensures { Leads (λ f. at f (stack_of stack.now.items) (store_of store.new)) result
+        (on (taken (setting_of s.now) n (texpr x.now) v (store_of store.old))
+        (λ t. value_here (at_span e.now.span (converted (ctype e.now.ty) t.0)) (stack_of stack.now.items) t.1)) }
+{
+    let c = taken(s, n, x, v, store)?;
+    let z = located(e.span, converted(&e.ty, c))?;
+    Ok(Focus::Came(Came::Value(z)))
+}
+
 /// A word goes out at a port.
 fn output<'a>(
     port: u32,
@@ -144,6 +165,25 @@ fn output<'a>(
 {
     let word = located(span, word_of(c))?;
     Ok(Focus::Made(Event::Out(port, word), Came::Nothing))
+}
+
+/// The place that is assigned to came.
+#[inline(always)]
+fn assignment<'a>(
+    s: &Setting<'a>,
+    n: u32,
+    e: &'a TExpr,
+    y: &'a TExpr,
+    v: Came,
+    stack: &mut Vec<Frame<'a>>,
+    store: &mut Store<'a>,
+) -> Result<Focus<'a>, Stop>
+    ensures { Leads (λ f. at f (stack_of stack.new.items) (store_of store.new)) result
+        (on (placed_in e.now.span v)
+        (λ p. second_on (setting_of s.now) n (texpr e.now) (texpr y.now) p (stack_of stack.old.items) (store_of store.old))) }
+{
+    let p = placed(e.span, v)?;
+    second(s, n, e, y, p, stack, store)
 }
 
 /// The value of the first operand of an operator other than `&&` and `||` came.
@@ -318,10 +358,7 @@ pub(crate) fn first<'a>(
             };
             binary(s, n, &of, v, stack, store)
         }
-        TKind::Assign(_, _, y) => {
-            let p = placed(e.span, v)?;
-            second(s, n, e, y, p, stack, store)
-        }
+        TKind::Assign(_, _, y) => assignment(s, n, e, y, v, stack, store),
         TKind::Step(op, x) => {
             let p = placed(e.span, v)?;
             let z = stepped_place(s, n, *op, x, e.span, p, store)?;
@@ -337,11 +374,7 @@ pub(crate) fn first<'a>(
             let q = located(e.span, step(p, *offset))?;
             Ok(Focus::Came(Came::Place(q)))
         }
-        TKind::Cast(x) => {
-            let c = taken(s, n, x, v, store)?;
-            let z = located(e.span, converted(&e.ty, c))?;
-            Ok(Focus::Came(Came::Value(z)))
-        }
+        TKind::Cast(x) => cast(s, n, e, x, v, stack, store),
         TKind::Out(port, x) => {
             let c = taken(s, n, x, v, store)?;
             output(*port, x.span, c, stack, store)

@@ -20,7 +20,13 @@ fn place_of(callees: Callees, at: &[Where], g: u32, k: usize) -> Option<Where> {
     let p = f.params.as_slice().get(k)?;
     match callees.choices.get(i.saturating_add(1)) {
         Some(choice) => place(choice.at.as_slice(), *p),
-        None => { if callees.choices.len() == i.saturating_add(1) { place(at, *p) } else { None } }
+        None => {
+            if callees.choices.len() == i.saturating_add(1) {
+                place(at, *p)
+            } else {
+                None
+            }
+        }
     }
 }
 

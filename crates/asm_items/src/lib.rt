@@ -17,5 +17,6 @@ pub use disassembly::disassemble;
 pub use immediates::{Immediates, instr_with};
 pub use item::{AsmItem, Imm};
 pub use laws::words_are_given_again;
+pub use mnemonic::{one_name, two_name};
 pub use vocabulary::{DataWord, Operation, WordKind, is_label_word, is_word_byte, word_kind};
 pub use writing::write_asm;

@@ -35,6 +35,7 @@ pub fn branch_name(b: Branch) -> &'static str
     }
 }
 
+/// The mnemonic of an operator on two words, as `IADD`.
 pub fn two_name(t: Two) -> &'static str
     ensures { result.now ≡ two_name t }
 {
@@ -59,6 +60,7 @@ pub fn two_name(t: Two) -> &'static str
     }
 }
 
+/// The mnemonic of an operator on one word, as `NOT`.
 pub fn one_name(o: One) -> &'static str
     ensures { result.now ≡ one_name o }
 {

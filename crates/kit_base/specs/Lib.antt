@@ -7,3 +7,4 @@ pub mod Outside
 pub mod Effects
 pub mod Store
 pub mod Spread
+pub mod Gives

@@ -7,6 +7,7 @@
 
 mod digits;
 mod event;
+mod failure;
 mod files_in_memory;
 mod joined;
 mod name;
@@ -17,6 +18,7 @@ mod word;
 
 pub use digits::{digit_value, hex_digit, value_in, word_digits};
 pub use event::Event;
+pub use failure::Failure;
 pub use files_in_memory::FilesInMemory;
 pub use joined::join_pieces;
 pub use name::{Memory, Name};

@@ -6,7 +6,6 @@
 
 mod nodes;
 mod operations;
-mod operators;
 mod pieces;
 mod program;
 

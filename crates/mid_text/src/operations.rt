@@ -7,8 +7,8 @@ ghost use Rattle.mid_text.specs.Text.{call_text, commas, op_text, target_text};
 ghost use Rattle.mid_code.specs.Code.{OneO, TwoO, PtrTestO};
 ghost use Rattle.mid_text.specs.inner.Said.{said};
 
-use crate::operators::{one_name, two_name};
 use crate::pieces::{put, put_enclosed, put_number, put_one, put_three, put_two};
+use asm_items::{one_name, two_name};
 use kit_base::Memory;
 use mid_code::Op;
 use v32_isa::{One, Two};

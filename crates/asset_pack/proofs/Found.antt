@@ -1,16 +1,18 @@
 -- What was answered, by the laws of the texts.
 use Rattle.std.proofs.Common.{◌≡◌, ℕ, List, [], ◌++◌, sym, ap, ◌∙◌, append-nil}
 use Rattle.std.specs.Prelude.{Result, Ok, Err, IfOk}
+use Rattle.kit_base.specs.declared.failure.Failure.{Failure}
+use Rattle.kit_base.specs.Gives.{Gives}
 use Rattle.asset_pack.specs.declared.kind.Kind.TheVariants as kinds
-use Rattle.asset_pack.specs.declared.error.AssetErr.{AssetErr}
+use Rattle.asset_pack.specs.declared.error.AssetFault.{AssetFault}
 use Rattle.asset_pack.specs.Texts.{Image, IsTexture, IsSound, IsProgram, words_file_text, texture_text, sound_text}
-use Rattle.asset_pack.specs.Reading.{Gives, words_at, words_in, texture_at, texture_in}
+use Rattle.asset_pack.specs.Reading.{words_at, words_in, texture_at, texture_in}
 use Rattle.asset_pack.specs.Words.{IsBytes}
 use Rattle.asset_pack.proofs.Fronts.{program_takes, program_again, sound_takes, sound_again, texture_takes, texture_again}
 use Rattle.asset_pack.proofs.Wholes.{words_front_of, words_whole_of, texture_front_of, texture_whole_of}
 
 -- a law of a reading holds of what was answered
-pub if_ok : {X Y : Type 0} (view : X → Y) (P : Y → Type 0) (r : Result X AssetErr) (read : Result Y AssetErr) → ((y : Y) → read ≡ Ok y → P y) → Gives view r read → IfOk r (λ x. P (view x))
+pub if_ok : {X Y : Type 0} (view : X → Y) (P : Y → Type 0) (r : Result X (Failure AssetFault)) (read : Result Y AssetFault) → ((y : Y) → read ≡ Ok y → P y) → Gives view r read → IfOk r (λ x. P (view x))
 if_ok view P (Ok x) read law given = law (view x) given
 if_ok view P (Err e) read law given = tt
 

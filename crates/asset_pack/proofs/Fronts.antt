@@ -6,7 +6,7 @@ use Rattle.std.proofs.lemmas.List.{take_at, drop_at, take-append-drop, drop-drop
 use Rattle.std.proofs.lemmas.Nat.{from_le_bytes-to_le_bytes_4}
 use Rattle.asset_pack.specs.declared.kind.Kind.{Kind}
 use Rattle.asset_pack.specs.declared.kind.Kind.TheVariants as kinds
-use Rattle.asset_pack.specs.declared.error.AssetErr.{AssetErr}
+use Rattle.asset_pack.specs.declared.error.AssetFault.{AssetFault}
 use Rattle.asset_pack.specs.Words.{IsBytes, word_text, words_text, word_at, words_of, AreWords}
 use Rattle.asset_pack.specs.Texts.{Image, HasSides, IsTexture, HasSamples, IsSound, IsProgram, words_file_text, texture_text, sound_text}
 use Rattle.asset_pack.specs.Tests.{signature, head, in_range, count, size, front_fault}
@@ -15,10 +15,10 @@ use Rattle.asset_pack.proofs.Bytes.{IsBytes-take, IsBytes-drop, word_back}
 use Rattle.asset_pack.proofs.Chunks.{words_again, words_back, length-words, words_fit, length-words_text}
 use Rattle.asset_pack.proofs.Accepted.{Accepted, accepted, accepts, head_long, head_within}
 
-abbrev done : {A : Type 0} → A → Result A AssetErr
+abbrev done : {A : Type 0} → A → Result A AssetFault
 done x = Ok x
 
-pub unless_ok : {A : Type 0} (o : Option AssetErr) (x y : A) → unless o x ≡ Ok y → (o ≡ None) × (x ≡ y)
+pub unless_ok : {A : Type 0} (o : Option AssetFault) (x y : A) → unless o x ≡ Ok y → (o ≡ None) × (x ≡ y)
 unless_ok None x y e = (refl, cc)
 unless_ok (Some f) x y e = absurd cc
 

@@ -4,8 +4,7 @@
 use Rattle.std.specs.Prelude.{ℕ, ◌+◌, ◌*◌, List, length, take, codes, bytes_eq, Bool, ◌&&◌, not, nat_lt, nat_le, if◌then◌else◌, Option, Some, None}
 use Rattle.asset_pack.specs.declared.kind.Kind.{Kind}
 use Rattle.asset_pack.specs.declared.kind.Kind.TheVariants as kinds
-use Rattle.asset_pack.specs.declared.error.AssetErr.{AssetErr}
-use Rattle.asset_pack.specs.declared.error.AssetErr.TheVariants.{At}
+use Rattle.asset_pack.specs.declared.error.AssetFault.{AssetFault}
 use Rattle.asset_pack.specs.Words.{word_at}
 
 abbrev pub signature : Kind → List ℕ
@@ -39,19 +38,19 @@ abbrev pub size : Kind → List ℕ → ℕ
 size kind bytes = head kind + 4 * count kind bytes
 
 -- the first test that fails of those that let bytes follow
-unfoldable pub front_fault : Kind → List ℕ → Option AssetErr
+unfoldable pub front_fault : Kind → List ℕ → Option AssetFault
 front_fault kind bytes =
-    if nat_lt (length bytes) 8 then Some (At 71)
-    else (if not (bytes_eq (take 8 bytes) (signature kind)) then Some (At 70)
-    else (if nat_lt (length bytes) (head kind) then Some (At 71)
-    else (if not (in_range kind bytes) then Some (At 72)
-    else (if nat_lt (length bytes) (size kind bytes) then Some (At 71)
+    if nat_lt (length bytes) 8 then Some (record { code = 71 })
+    else (if not (bytes_eq (take 8 bytes) (signature kind)) then Some (record { code = 70 })
+    else (if nat_lt (length bytes) (head kind) then Some (record { code = 71 })
+    else (if not (in_range kind bytes) then Some (record { code = 72 })
+    else (if nat_lt (length bytes) (size kind bytes) then Some (record { code = 71 })
     else None))))
 
 -- the same, then that no byte follows
-abbrev pub or_trailing : Option AssetErr → Bool → Option AssetErr
+abbrev pub or_trailing : Option AssetFault → Bool → Option AssetFault
 or_trailing (Some e) longer = Some e
-or_trailing None longer = if longer then Some (At 73) else None
+or_trailing None longer = if longer then Some (record { code = 73 }) else None
 
-unfoldable pub file_fault : Kind → List ℕ → Option AssetErr
+unfoldable pub file_fault : Kind → List ℕ → Option AssetFault
 file_fault kind bytes = or_trailing (front_fault kind bytes) (nat_lt (size kind bytes) (length bytes))

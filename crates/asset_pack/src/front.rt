@@ -2,7 +2,7 @@
 ghost use Rattle.std.specs.Prelude.{◌≡◌, ◌≤◌, ◌<◌, ◌+◌, ◌*◌, length, nat_lt, nat_le};
 ghost use Rattle.asset_pack.specs.Tests.{is_side, in_range, count, head, front_fault, file_fault, size};
 
-use crate::error::AssetErr;
+use crate::error::AssetFault;
 use crate::kind::Kind;
 use crate::words::word_at;
 
@@ -40,37 +40,37 @@ pub(crate) fn count(kind: Kind, bytes: &[u8]) -> usize
 /// The first test that fails of those that let bytes follow; `None` where the bytes begin with a
 /// file of that kind.
 #[tactic(auto, using(crate::proofs::Accepted::few), unfolding(crate::specs::Tests::front_fault))]
-pub fn front_fault(kind: Kind, bytes: &[u8]) -> Option<AssetErr>
+pub fn front_fault(kind: Kind, bytes: &[u8]) -> Option<AssetFault>
     ensures { result ≡ front_fault kind bytes.now }
 {
     if bytes.len() < 8 {
-        return Some(AssetErr::At { code: 71 });
+        return Some(AssetFault { code: 71 });
     }
     if &bytes[..8] != kind.signature() {
-        return Some(AssetErr::At { code: 70 });
+        return Some(AssetFault { code: 70 });
     }
     if bytes.len() < kind.head() {
-        return Some(AssetErr::At { code: 71 });
+        return Some(AssetFault { code: 71 });
     }
     if !in_range(kind, bytes) {
-        return Some(AssetErr::At { code: 72 });
+        return Some(AssetFault { code: 72 });
     }
     if bytes.len() < kind.head() + 4 * count(kind, bytes) {
-        return Some(AssetErr::At { code: 71 });
+        return Some(AssetFault { code: 71 });
     }
     None
 }
 
 /// The first test that fails; `None` where the bytes are a file of that kind.
 #[tactic(auto, using(crate::proofs::Accepted::head_within, crate::proofs::Accepted::head_long), unfolding(crate::specs::Tests::file_fault))]
-pub(crate) fn file_fault(kind: Kind, bytes: &[u8]) -> Option<AssetErr>
+pub(crate) fn file_fault(kind: Kind, bytes: &[u8]) -> Option<AssetFault>
     ensures { result ≡ file_fault kind bytes.now }
 {
     if let Some(e) = front_fault(kind, bytes) {
         return Some(e);
     }
     if bytes.len() > kind.head() + 4 * count(kind, bytes) {
-        return Some(AssetErr::At { code: 73 });
+        return Some(AssetFault { code: 73 });
     }
     None
 }

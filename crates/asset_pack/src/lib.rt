@@ -12,7 +12,7 @@ mod sound;
 mod texture;
 mod words;
 
-pub use error::AssetErr;
+pub use error::{AssetErr, AssetFault};
 pub use front::front_fault;
 pub use kind::Kind;
 pub use laws::{fronts_are_texts, texts_read_again};

@@ -1,8 +1,9 @@
 // Sounds.
 ghost use Rattle.std.specs.Prelude.{◌≡◌, ◌≤◌, ◌++◌, length, IfOk, OnOk, OnErr, IfSome, IfNone, List, ℕ, Ok};
+ghost use Rattle.kit_base.specs.Gives.{Gives};
 ghost use Rattle.asset_pack.specs.Words.{AddsFront};
 ghost use Rattle.asset_pack.specs.Texts.{HasSamples, IsSound, sound_text};
-ghost use Rattle.asset_pack.specs.Reading.{Gives, words_at, words_in};
+ghost use Rattle.asset_pack.specs.Reading.{words_at, words_in};
 
 use crate::error::AssetErr;
 use crate::front::file_fault;
@@ -74,7 +75,7 @@ fn sound_in(alloc: Global, bytes: &[u8]) -> Result<Sound, AssetErr>
     ensures { Gives (λ s. s) result (words_in Kind.Sound bytes.now) }
 {
     if let Some(e) = file_fault(Kind::Sound, bytes) {
-        return Err(e);
+        return Err(AssetErr::Cause(e));
     }
     let (sound, _) = sound_front(alloc, bytes)?;
     Ok(sound)

@@ -1,8 +1,9 @@
 // Textures.
 ghost use Rattle.std.specs.Prelude.{◌≡◌, ◌≤◌, ◌+◌, ◌*◌, ◌++◌, length, IfOk, OnOk, OnErr, IfSome, IfNone, List, ℕ, Ok};
+ghost use Rattle.kit_base.specs.Gives.{Gives};
 ghost use Rattle.asset_pack.specs.Words.{AddsFront};
 ghost use Rattle.asset_pack.specs.Texts.{Image, HasSides, IsTexture, texture_text};
-ghost use Rattle.asset_pack.specs.Reading.{Gives, texture_at, texture_in};
+ghost use Rattle.asset_pack.specs.Reading.{texture_at, texture_in};
 
 use crate::error::AssetErr;
 use crate::front::file_fault;
@@ -101,7 +102,7 @@ fn texture_in(alloc: Global, bytes: &[u8]) -> Result<Texture, AssetErr>
     ensures { Gives (λ t. t) result (texture_in bytes.now) }
 {
     if let Some(e) = file_fault(Kind::Texture, bytes) {
-        return Err(e);
+        return Err(AssetErr::Cause(e));
     }
     let (texture, _) = texture_front(alloc, bytes)?;
     Ok(texture)

@@ -1,9 +1,10 @@
 // Words as bytes, and words files.
 ghost use Rattle.std.specs.Prelude.{◌≡◌, ◌≤◌, ◌+◌, ◌*◌, ◌++◌, length, IfOk, OnOk, OnErr, List, ℕ, Ok};
+ghost use Rattle.kit_base.specs.Gives.{Gives};
 ghost use Rattle.asset_pack.specs.Words.{word_text, words_text, word_at, words_of, AreWords, AddsFront};
 ghost use Rattle.asset_pack.specs.Texts.{words_file_text, IsProgram};
 ghost use Rattle.asset_pack.specs.Tests.{head};
-ghost use Rattle.asset_pack.specs.Reading.{Gives, words_at, words_in, body};
+ghost use Rattle.asset_pack.specs.Reading.{words_at, words_in, body};
 
 use crate::error::AssetErr;
 use crate::front::{count, file_fault, front_fault};
@@ -41,7 +42,7 @@ pub(crate) fn words_at(
     ensures { Gives (λ x. (x.0.items, x.1.now)) result (words_at kind bytes.now) }
 {
     if let Some(e) = front_fault(kind, bytes) {
-        return Err(e);
+        return Err(AssetErr::Cause(e));
     }
     let count = count(kind, bytes);
     let (text, rest) = bytes[kind.head()..].split_at(4 * count);
@@ -115,7 +116,7 @@ fn words_in(alloc: Global, kind: Kind, bytes: &[u8]) -> Result<Vec<u32>, AssetEr
     ensures { Gives (λ v. v.items) result (words_in kind bytes.now) }
 {
     if let Some(e) = file_fault(kind, bytes) {
-        return Err(e);
+        return Err(AssetErr::Cause(e));
     }
     let (words, _) = words_at(alloc, kind, bytes)?;
     Ok(words)

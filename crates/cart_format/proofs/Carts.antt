@@ -11,8 +11,8 @@ use Rattle.asset_pack.specs.Reading.{words_at, texture_at}
 use Rattle.asset_pack.proofs.Bytes.{IsBytes-drop}
 use Rattle.asset_pack.proofs.Fronts.{program_takes, program_again, texture_takes, texture_again, sound_takes, sound_again}
 use Rattle.cart_format.specs.declared.row.LineTable.{LineTable}
-use Rattle.cart_format.specs.declared.error.CartErr.{CartErr}
-use Rattle.cart_format.specs.declared.error.CartErr.TheVariants.{At, BadSection}
+use Rattle.cart_format.specs.declared.error.CartFault.{CartFault}
+use Rattle.cart_format.specs.declared.error.CartFault.TheVariants.{At, BadSection}
 use Rattle.cart_format.specs.Cartridge.{Cartridge, revision, tail_text, sections_text, total, cart_text, header_text, is_title, is_tail, is_cart, IsCartridge}
 use Rattle.cart_format.specs.Tests.{is_revision, title_at, header_fault}
 use Rattle.cart_format.specs.Reading.{◌>>=◌, section, counted, program_at, many, texture_section, sound_section, table_at, tail_at, parts_of, titled, sections_of, unless, cart_of}
@@ -101,7 +101,7 @@ sections_take bytes c fits none e =
     let words = word_at 16 bytes in
     let n = word_at 20 bytes in
     let m = word_at 24 bytes in
-    let last : List ℕ → List Image → List (List ℕ) → Option LineTable × List ℕ → Result (List ℕ × List Image × List (List ℕ) × Option LineTable) CartErr =
+    let last : List ℕ → List Image → List (List ℕ) → Option LineTable × List ℕ → Result (List ℕ × List Image × List (List ℕ) × Option LineTable) CartFault =
     λ p ts ss t. cond (eqb (length t.1) 0) (Ok (p, ts, ss, t.0)) (Err (At 82)) in
     let z = bind_ok (parts_of (word_at 8 bytes) words n m (drop 128 bytes)) (λ x. Ok (titled (title_at bytes) x)) c e in
     let a = bind_ok (program_at words (drop 128 bytes)) (λ p. many texture_section 1 1 n p.1 >>= λ ts. many sound_section 1 (1 + n) m ts.1 >>= λ ss. tail_at (word_at 8 bytes) (1 + n + m) words ss.1 >>= λ t. last p.0 ts.0 ss.0 t) z.0 z.1 in

@@ -8,13 +8,13 @@ use Rattle.std.proofs.lemmas.Nat.{from_le_bytes-to_le_bytes_4}
 use Rattle.std.proofs.lemmas.Slice.Eq.{bytes_eq-Decides}
 use Rattle.asset_pack.specs.Words.{IsBytes, word_at}
 use Rattle.asset_pack.proofs.Bytes.{word_back}
-use Rattle.cart_format.specs.declared.error.CartErr.{CartErr}
+use Rattle.cart_format.specs.declared.error.CartFault.{CartFault}
 use Rattle.cart_format.specs.Cartridge.{header_text, title_text, is_title, is_printable}
 use Rattle.cart_format.specs.Tests.{is_zero, until_zero, title_at, is_title_field, is_in_range, is_revision, header_fault}
 use Rattle.cart_format.proofs.Tables.{zeros_are, are_zeros}
 use Rattle.cart_format.proofs.Titles.{until_zero_within}
 
-guard_none : (b : Bool) (e : CartErr) (o : Option CartErr) → cond b (Some e) o ≡ None → (b ≡ false) × (o ≡ None)
+guard_none : (b : Bool) (e : CartFault) (o : Option CartFault) → cond b (Some e) o ≡ None → (b ≡ false) × (o ≡ None)
 guard_none true e o h = absurd cc
 guard_none false e o h = (refl, h)
 

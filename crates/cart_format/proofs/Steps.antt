@@ -4,32 +4,32 @@ use Rattle.std.specs.Prelude.{Result, Ok, Err}
 use Rattle.std.specs.List.{flat_map, AllByRecursion}
 use Rattle.std.proofs.lemmas.List.{drop_at}
 use Rattle.std.proofs.lemmas.List.Concat.{flat_map-cons}
-use Rattle.asset_pack.specs.declared.error.AssetErr.{AssetErr}
+use Rattle.asset_pack.specs.declared.error.AssetFault.{AssetFault}
 use Rattle.asset_pack.specs.Words.{IsBytes}
 use Rattle.asset_pack.proofs.Bytes.{IsBytes-drop}
-use Rattle.cart_format.specs.declared.error.CartErr.{CartErr}
+use Rattle.cart_format.specs.declared.error.CartFault.{CartFault}
 use Rattle.cart_format.specs.Reading.{◌>>=◌, section, many}
 
-abbrev pub fine : {A : Type 0} → A → Result A CartErr
+abbrev pub fine : {A : Type 0} → A → Result A CartFault
 fine x = Ok x
 
-pub bind_ok : {A B : Type 0} (r : Result A CartErr) (f : A → Result B CartErr) (y : B) → (r >>= f) ≡ Ok y → (x : A) × (r ≡ Ok x) × (f x ≡ Ok y)
+pub bind_ok : {A B : Type 0} (r : Result A CartFault) (f : A → Result B CartFault) (y : B) → (r >>= f) ≡ Ok y → (x : A) × (r ≡ Ok x) × (f x ≡ Ok y)
 bind_ok (Ok x) f y e = (x, refl, e)
 bind_ok (Err d) f y e = absurd cc
 
 -- a test that must not hold, and one that must
-pub guard_ok : {A : Type 0} (b : Bool) (d : CartErr) (x y : A) → cond b (Err d) (Ok x) ≡ Ok y → (b ≡ false) × (x ≡ y)
+pub guard_ok : {A : Type 0} (b : Bool) (d : CartFault) (x y : A) → cond b (Err d) (Ok x) ≡ Ok y → (b ≡ false) × (x ≡ y)
 guard_ok true d x y e = absurd cc
 guard_ok false d x y e = (refl, cc)
 
-pub ended_ok : {A : Type 0} (b : Bool) (d : CartErr) (x y : A) → cond b (Ok x) (Err d) ≡ Ok y → (b ≡ true) × (x ≡ y)
+pub ended_ok : {A : Type 0} (b : Bool) (d : CartFault) (x y : A) → cond b (Ok x) (Err d) ≡ Ok y → (b ≡ true) × (x ≡ y)
 ended_ok true d x y e = (refl, cc)
 ended_ok false d x y e = absurd cc
 
 pub ok_is : {A : Type 0} (x y : A) → fine x ≡ fine y → x ≡ y
 ok_is x y e = cc
 
-pub section_ok : {A : Type 0} (index : ℕ) (r : Result A AssetErr) (x : A) → section index r ≡ Ok x → r ≡ Ok x
+pub section_ok : {A : Type 0} (index : ℕ) (r : Result A AssetFault) (x : A) → section index r ≡ Ok x → r ≡ Ok x
 section_ok index (Ok y) x e = let same : y ≡ x = cc in ap (λ z. Ok z) same
 section_ok index (Err d) x e = absurd cc
 
@@ -42,7 +42,7 @@ pub joined : (bytes a b rest : List ℕ) → bytes ≡ a ++ b → (c : List ℕ)
 joined bytes a b rest e c f = e ∙ ap (λ (x : List ℕ). a ++ x) f ∙ sym (append_assoc a c rest)
 
 -- items one after another are spelled so, and read again
-module _ {X : Type 0} (item : ℕ → List ℕ → Result (X × List ℕ) CartErr) (text : X → List ℕ) (P : X → Type 0) where
+module _ {X : Type 0} (item : ℕ → List ℕ → Result (X × List ℕ) CartFault) (text : X → List ℕ) (P : X → Type 0) where
   pub many_takes : ((index : ℕ) (bytes : List ℕ) (x : X × List ℕ) → IsBytes bytes → item index bytes ≡ Ok x → P x.0 × (bytes ≡ text x.0 ++ x.1))
       → (step index n : ℕ) (bytes : List ℕ) (x : List X × List ℕ) → IsBytes bytes → many item step index n bytes ≡ Ok x → AllByRecursion P x.0 × (length x.0 ≡ n) × (bytes ≡ flat_map text x.0 ++ x.1)
   unfolding many

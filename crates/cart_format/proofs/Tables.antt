@@ -11,7 +11,7 @@ use Rattle.asset_pack.specs.Words.{IsBytes, word_text, word_at}
 use Rattle.asset_pack.proofs.Bytes.{word_back, word_below}
 use Rattle.cart_format.specs.declared.row.LineRow.{LineRow}
 use Rattle.cart_format.specs.declared.row.LineTable.{LineTable}
-use Rattle.cart_format.specs.declared.error.CartErr.TheVariants.{BadSection}
+use Rattle.cart_format.specs.declared.error.CartFault.TheVariants.{BadSection}
 use Rattle.cart_format.specs.Table.{padding, name_text, row_text, table_text, is_table}
 use Rattle.cart_format.specs.Cartridge.{IsRow, HasRows, revision, tail_text, is_tail}
 use Rattle.cart_format.specs.Tests.{is_zero}

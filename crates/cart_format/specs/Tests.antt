@@ -5,8 +5,8 @@ use Rattle.std.specs.Prelude.{ℕ, List, [], ◌∷◌, length, take, drop, code
 use Rattle.std.specs.Prelude.{Option, Some, None}
 use Rattle.std.specs.List.{list_all}
 use Rattle.asset_pack.specs.Words.{word_at}
-use Rattle.cart_format.specs.declared.error.CartErr.{CartErr}
-use Rattle.cart_format.specs.declared.error.CartErr.TheVariants.{At}
+use Rattle.cart_format.specs.declared.error.CartFault.{CartFault}
+use Rattle.cart_format.specs.declared.error.CartFault.TheVariants.{At}
 use Rattle.cart_format.specs.Cartridge.{is_title}
 
 abbrev pub is_zero : ℕ → Bool
@@ -34,7 +34,7 @@ abbrev pub is_revision : ℕ → Bool
 is_revision n = n == 1 || n == 2
 
 -- the first test of the header that fails
-unfoldable pub header_fault : List ℕ → Option CartErr
+unfoldable pub header_fault : List ℕ → Option CartFault
 header_fault bytes =
     if nat_lt 268435456 (length bytes) then Some (At 85)
     else (if nat_lt (length bytes) 128 then Some (At 81)

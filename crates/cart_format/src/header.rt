@@ -4,7 +4,7 @@ ghost use Rattle.std.specs.List.{list_all};
 ghost use Rattle.cart_format.specs.Cartridge.{is_printable, is_title};
 ghost use Rattle.cart_format.specs.Tests.{is_zero, until_zero, is_title_field, is_in_range, is_revision, header_fault};
 
-use crate::error::CartErr;
+use crate::error::CartFault;
 use asset_pack::word_at;
 
 /// The longest cartridge, in bytes.
@@ -76,30 +76,30 @@ fn is_revision(n: u32) -> bool
 
 /// The first test of the header that fails.
 #[tactic(auto, unfolding(crate::specs::Tests::header_fault))]
-pub(crate) fn header_fault(bytes: &[u8]) -> Option<CartErr>
+pub(crate) fn header_fault(bytes: &[u8]) -> Option<CartFault>
     ensures { result ≡ header_fault bytes.now }
 {
     if bytes.len() > CART_LIMIT {
-        return Some(CartErr::At { code: 85 });
+        return Some(CartFault::At { code: 85 });
     }
     if bytes.len() < 128 {
-        return Some(CartErr::At { code: 81 });
+        return Some(CartFault::At { code: 81 });
     }
     if &bytes[..8] != b"KIT-CART".as_slice() {
-        return Some(CartErr::At { code: 80 });
+        return Some(CartFault::At { code: 80 });
     }
     if !is_revision(word_at(bytes, 8)) {
-        return Some(CartErr::At { code: 86 });
+        return Some(CartFault::At { code: 86 });
     }
     if !is_in_range(bytes) {
-        return Some(CartErr::At { code: 82 });
+        return Some(CartFault::At { code: 82 });
     }
     let total = word_at(bytes, 12) as usize;
     if bytes.len() < total {
-        return Some(CartErr::At { code: 81 });
+        return Some(CartFault::At { code: 81 });
     }
     if bytes.len() > total {
-        return Some(CartErr::At { code: 84 });
+        return Some(CartFault::At { code: 84 });
     }
     None
 }

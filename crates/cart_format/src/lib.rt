@@ -17,7 +17,7 @@ mod writing;
 
 pub use asset_pack::{read_words, write_words};
 pub use cart::{Cart, CartParts};
-pub use error::CartErr;
+pub use error::{CartErr, CartFault};
 pub use laws::{cartridges_read_again, texts_are_cartridges};
 pub use reading::read_cart;
 pub use row::LineRow;

@@ -1,11 +1,12 @@
 // From bytes to a cartridge.
 ghost use Rattle.std.specs.Prelude.{◌≡◌, ◌≤◌, length, None, Ok, IfOk};
+ghost use Rattle.kit_base.specs.Gives.{Gives};
 ghost use Rattle.cart_format.specs.Cartridge.{Cartridge, IsCartridge, cart_text};
 ghost use Rattle.cart_format.specs.Tests.{header_fault, title_at};
-ghost use Rattle.cart_format.specs.Reading.{Gives, parts_of, sections_of, cart_of};
+ghost use Rattle.cart_format.specs.Reading.{parts_of, sections_of, cart_of};
 
 use crate::cart::{Cart, of_parts};
-use crate::error::CartErr;
+use crate::error::{CartErr, CartFault};
 use crate::header::{header_fault, until_zero};
 use crate::row::LineTable;
 use crate::sections::{many, program_at};
@@ -44,7 +45,7 @@ fn parts_of(
     let (samples, rest) = many::<Sound>(alloc, 1, 1 + textures, sounds, rest)?;
     let (table, rest) = tail_at(alloc, revision, last, words, rest)?;
     if !rest.is_empty() {
-        return Err(CartErr::At { code: 82 });
+        return Err(CartErr::Cause(CartFault::At { code: 82 }));
     }
     Ok(Parts {
         program,
@@ -92,7 +93,7 @@ fn cart_of(alloc: Global, bytes: &[u8]) -> Result<Cart, CartErr>
     ensures { Gives (λ c. c) result (cart_of bytes.now) }
 {
     if let Some(e) = header_fault(bytes) {
-        return Err(e);
+        return Err(CartErr::Cause(e));
     }
     sections_of(alloc, bytes)
 }

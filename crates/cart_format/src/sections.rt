@@ -1,9 +1,10 @@
 // Sections one directly after the other.
 ghost use Rattle.std.specs.Prelude.{◌≡◌, ◌≤◌, ◌<◌, ◌+◌, ◌^◌, List, ℕ, Result, length};
-ghost use Rattle.cart_format.specs.declared.error.CartErr.{CartErr};
-ghost use Rattle.cart_format.specs.Reading.{Gives, in_section, program_at, many, texture_section, sound_section};
+ghost use Rattle.kit_base.specs.Gives.{Gives};
+ghost use Rattle.cart_format.specs.declared.error.CartFault.{CartFault};
+ghost use Rattle.cart_format.specs.Reading.{in_section, program_at, many, texture_section, sound_section};
 
-use crate::error::CartErr;
+use crate::error::{CartErr, CartFault};
 use asset_pack::{AssetErr, Sound, Texture, sound_front, texture_front, words_front};
 use kit_base::Seq;
 use std::alloc::Global;
@@ -11,7 +12,7 @@ use std::alloc::Global;
 /// What stands in a row of such items, one directly after the other.
 pub(crate) trait Part: Drop {
     /// The item of that index at the front, and the bytes after it.
-    ghost at: { ℕ → List ℕ → Result (Self × List ℕ) CartErr };
+    ghost at: { ℕ → List ℕ → Result (Self × List ℕ) CartFault };
 
     fn at(alloc: Global, index: u32, bytes: &[u8]) -> Result<(Self, &[u8]), CartErr>
         ensures { Gives (λ x. (x.0, x.1.now)) result (at index bytes.now) };
@@ -23,7 +24,7 @@ fn in_section(index: u32, e: AssetErr) -> CartErr
 {
     match e {
         AssetErr::Memory => CartErr::Memory,
-        AssetErr::At { .. } => CartErr::BadSection(index),
+        AssetErr::Cause(_) => CartErr::Cause(CartFault::BadSection(index)),
     }
 }
 
@@ -63,7 +64,7 @@ pub(crate) fn program_at(
             if program.len() == words as usize {
                 Ok((program, rest))
             } else {
-                Err(CartErr::BadSection(0))
+                Err(CartErr::Cause(CartFault::BadSection(0)))
             }
         }
         Err(e) => Err(in_section(0, e)),

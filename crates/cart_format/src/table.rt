@@ -2,10 +2,11 @@
 ghost use Rattle.std.specs.Prelude.{◌≡◌, ◌≤◌, ◌<◌, ◌+◌, ◌^◌, List, ℕ, length};
 ghost use Rattle.std.specs.List.{list_all};
 ghost use Rattle.std.specs.Str.{is_utf8};
+ghost use Rattle.kit_base.specs.Gives.{Gives};
 ghost use Rattle.cart_format.specs.Table.{padding, begins_name, continues_name, is_name, is_row, are_rows, is_table};
-ghost use Rattle.cart_format.specs.Reading.{Gives, number_at, name_at, row_at, begins, table_at, tail_at};
+ghost use Rattle.cart_format.specs.Reading.{number_at, name_at, row_at, begins, table_at, tail_at};
 
-use crate::error::CartErr;
+use crate::error::{CartErr, CartFault};
 use crate::header::all_zero;
 use crate::row::{LineRow, LineTable};
 use crate::sections::{Part, many};
@@ -26,7 +27,7 @@ fn number_at(index: u32, bytes: &[u8]) -> Result<(u32, &[u8]), CartErr>
     ensures { Gives (λ x. (x.0, x.1.now)) result (number_at index bytes.now) }
 {
     if bytes.len() < 4 {
-        return Err(CartErr::BadSection(index));
+        return Err(CartErr::Cause(CartFault::BadSection(index)));
     }
     Ok((word_at(bytes, 0), &bytes[4..]))
 }
@@ -40,7 +41,7 @@ impl Part for Name {
         let len = len as usize;
         let zeros = padding(len);
         if rest.len() < len + zeros || !all_zero(&rest[len..len + zeros]) {
-            return Err(CartErr::BadSection(index));
+            return Err(CartErr::Cause(CartFault::BadSection(index)));
         }
         match Name::from_bytes(alloc, &rest[..len]) {
             Ok(name) => Ok((name, &rest[len + zeros..])),
@@ -150,7 +151,7 @@ fn begins(index: u32, bytes: &[u8]) -> Result<&[u8], CartErr>
     ensures { Gives (λ x. x.now) result (begins index bytes.now) }
 {
     if bytes.len() < 8 || &bytes[..8] != b"KIT-LINE".as_slice() {
-        return Err(CartErr::BadSection(index));
+        return Err(CartErr::Cause(CartFault::BadSection(index)));
     }
     Ok(&bytes[8..])
 }
@@ -170,13 +171,13 @@ fn table_at(
     let (file_count, rest) = number_at(index, rest)?;
     let (row_count, rest) = number_at(index, rest)?;
     if file_count > 40_000 || row_count > 40_000 {
-        return Err(CartErr::BadSection(index));
+        return Err(CartErr::Cause(CartFault::BadSection(index)));
     }
     let (files, rest) = many::<Name>(alloc, 0, index, file_count, rest)?;
     let (rows, rest) = many::<LineRow>(alloc, 0, index, row_count, rest)?;
     let table = LineTable { files, rows };
     if !is_table(words as usize, &table) {
-        return Err(CartErr::BadSection(index));
+        return Err(CartErr::Cause(CartFault::BadSection(index)));
     }
     Ok((table, rest))
 }

@@ -1,11 +1,12 @@
 -- A text as gaps and tokens.
 use Rattle.std.specs.Prelude.{◌≡◌, ◌≢◌, ◌<◌, ℕ, ◌+◌, List, [], ◌∷◌, ◌++◌, length, take, drop, count_by, Bool, true, false, not, ◌||◌, ◌==◌, Result, Ok, Err}
 use Rattle.std.specs.Str.{bytes_eq}
+use Rattle.kit_base.specs.declared.failure.Failure.{Failure}
+use Rattle.kit_base.specs.declared.failure.Failure.TheVariants as e
 use Rattle.c_lex.specs.declared.token.Kind.{Kind}
 use Rattle.c_lex.specs.declared.token.Token.{Token}
 use Rattle.c_lex.specs.declared.place.Place.{Place}
-use Rattle.c_lex.specs.declared.error.LexErr.{LexErr}
-use Rattle.c_lex.specs.declared.error.LexErr.TheVariants as e
+use Rattle.c_lex.specs.declared.error.LexFault.{LexFault}
 use Rattle.c_lex.specs.Gaps.{gap_len}
 use Rattle.c_lex.specs.Spelling.{IsToken, reason_of}
 
@@ -54,12 +55,12 @@ abbrev pub Reads : ℕ → List ℕ → Reading → Type 0
 Reads file bytes r = Lexes (opening file) bytes r
 
 -- the refusal tells the first place without a token, unless memory ran out
-abbrev pub IsRefusal : ℕ → List ℕ → LexErr → Type 0
-IsRefusal file bytes (e.At code line byte) = Reads file bytes (stuck code line byte)
+abbrev pub IsRefusal : ℕ → List ℕ → Failure LexFault → Type 0
+IsRefusal file bytes (e.Cause x) = Reads file bytes (stuck x.code x.line x.byte)
 IsRefusal file bytes e.Memory = Unit {0}
 
 -- what was answered is that reading, unless memory ran out
-abbrev pub Gives : Result (List Token) LexErr → Reading → Type 0
+abbrev pub Gives : Result (List Token) (Failure LexFault) → Reading → Type 0
 Gives (Ok tokens) r = r ≡ found tokens
-Gives (Err (e.At code line byte)) r = r ≡ stuck code line byte
+Gives (Err (e.Cause x)) r = r ≡ stuck x.code x.line x.byte
 Gives (Err e.Memory) r = Unit {0}

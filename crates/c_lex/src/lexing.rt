@@ -4,7 +4,7 @@ ghost use Rattle.c_lex.specs.Gaps.{gap_len};
 ghost use Rattle.c_lex.specs.Reading.{found, goes_on, Gives, IsRefusal, Reads};
 ghost use Rattle.c_lex.specs.Found.{reading_from, reading_of};
 
-use crate::error::LexErr;
+use crate::error::{LexErr, LexFault};
 use crate::found::{len_at, reason_of, token_at};
 use crate::gap::gap_len;
 use crate::place::Place;
@@ -121,11 +121,11 @@ pub fn read_tokens<'a>(alloc: Global, bytes: &'a [u8], file: u32) -> Result<Toke
         } else {
             match len_at(alloc, rest)? {
                 None => {
-                    return Err(LexErr::At {
+                    return Err(LexErr::Cause(LexFault {
                         code: reason_of(rest),
                         line: place.line,
                         byte: place.byte,
-                    });
+                    }));
                 }
                 Some(len) => {
                     let (_, after) = rest.split_at(len);

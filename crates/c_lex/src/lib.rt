@@ -15,7 +15,7 @@ mod place;
 mod token;
 mod word;
 
-pub use error::LexErr;
+pub use error::{LexErr, LexFault};
 pub use laws::{
     gaps_and_tokens_are_apart, gaps_are_what_is_spelled, places_are_told, texts_read_one_way,
     tokens_are_of_their_file, tokens_are_what_is_spelled,

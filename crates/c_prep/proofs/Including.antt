@@ -4,10 +4,12 @@ use Rattle.std.specs.Prelude.{Option, Some, None, Result, Ok, Err}
 use Rattle.std.proofs.lemmas.Bool.{lt-ltb}
 use Rattle.kit_base.specs.Held.{Held}
 use Rattle.kit_base.specs.Outside.{due}
+use Rattle.kit_base.specs.declared.failure.Failure.{Failure}
+use Rattle.kit_base.specs.declared.failure.Failure.TheVariants.{Memory, Cause}
 use Rattle.c_lex.specs.declared.token.Token.{Token}
 use Rattle.c_lex.specs.Found.{reading_of}
-use Rattle.c_prep.specs.declared.error.PrepErr.{PrepErr}
-use Rattle.c_prep.specs.declared.error.PrepErr.TheVariants as e
+use Rattle.c_prep.specs.declared.error.PrepFault.{PrepFault}
+use Rattle.c_prep.specs.declared.error.PrepFault.TheVariants as e
 use Rattle.c_prep.specs.declared.conditions.Condition.{Condition}
 use Rattle.c_prep.specs.declared.work.Work.{Work}
 use Rattle.c_prep.specs.Faults.{◌>>=◌}
@@ -18,32 +20,32 @@ use Rattle.c_prep.specs.Files.{Progress, Stop, InFile, Including, Inclusion, sto
 use Rattle.c_prep.specs.inner.Inner.{GivesAs, GivesOut}
 
 -- the tokens of a file
-module _ (m : Held) (missing : PrepErr) (name : List ℕ) (file : ℕ) {X Y : Type 0} (bytes_in : X → List ℕ) (tokens_in : Y → List Token) where
-  pub tokens_refused : (x : PrepErr) → GivesAs bytes_in (Err x) (bytes_of missing file (due m name)) → GivesAs tokens_in (Err x) (tokens_of m missing name file)
+module _ (m : Held) (missing : PrepFault) (name : List ℕ) (file : ℕ) {X Y : Type 0} (bytes_in : X → List ℕ) (tokens_in : Y → List Token) where
+  pub tokens_refused : (x : Failure PrepFault) → GivesAs bytes_in (Err x) (bytes_of missing file (due m name)) → GivesAs tokens_in (Err x) (tokens_of m missing name file)
   unfolding tokens_of
-  tokens_refused (e.At code at line) h = ap (λ (r : Result (List ℕ) PrepErr). r >>= λ bytes. lexed file (reading_of file bytes)) h
-  tokens_refused e.NoSource h = ap (λ (r : Result (List ℕ) PrepErr). r >>= λ bytes. lexed file (reading_of file bytes)) h
-  tokens_refused (e.Failed at) h = tt
-  tokens_refused (e.TooLong at) h = ap (λ (r : Result (List ℕ) PrepErr). r >>= λ bytes. lexed file (reading_of file bytes)) h
-  tokens_refused e.Memory h = tt
+  tokens_refused (Cause (e.At code at line)) h = ap (λ (r : Result (List ℕ) PrepFault). r >>= λ bytes. lexed file (reading_of file bytes)) h
+  tokens_refused (Cause e.NoSource) h = ap (λ (r : Result (List ℕ) PrepFault). r >>= λ bytes. lexed file (reading_of file bytes)) h
+  tokens_refused (Cause (e.Failed at)) h = tt
+  tokens_refused (Cause (e.TooLong at)) h = ap (λ (r : Result (List ℕ) PrepFault). r >>= λ bytes. lexed file (reading_of file bytes)) h
+  tokens_refused Memory h = tt
 
-  pub tokens_read : (bytes : List ℕ) (r : Result Y PrepErr) → bytes_of missing file (due m name) ≡ Ok bytes → GivesAs tokens_in r (lexed file (reading_of file bytes)) → GivesAs tokens_in r (tokens_of m missing name file)
+  pub tokens_read : (bytes : List ℕ) (r : Result Y (Failure PrepFault)) → bytes_of missing file (due m name) ≡ Ok bytes → GivesAs tokens_in r (lexed file (reading_of file bytes)) → GivesAs tokens_in r (tokens_of m missing name file)
   unfolding tokens_of
-  tokens_read bytes r one h = subst (λ (s : Result (List ℕ) PrepErr). GivesAs tokens_in r (s >>= λ bytes. lexed file (reading_of file bytes))) (sym one) h
+  tokens_read bytes r one h = subst (λ (s : Result (List ℕ) PrepFault). GivesAs tokens_in r (s >>= λ bytes. lexed file (reading_of file bytes))) (sym one) h
 
 -- a file from its beginning
-module _ (m : Held) (include : Including) (missing : PrepErr) (name : List ℕ) (p : Progress) where
-  abbrev from_tokens : Result (List Token) PrepErr → Result Progress Stop
+module _ (m : Held) (include : Including) (missing : PrepFault) (name : List ℕ) (p : Progress) where
+  abbrev from_tokens : Result (List Token) PrepFault → Result Progress Stop
   from_tokens r = stopping (p.names ++ name ∷ []) r >>= (λ tokens. lines_at include (lines_of tokens) (with_name name p) [] >>= ended (length p.names))
 
-  pub not_read : {Y : Type 0} (tokens_in : Y → List Token) (new : Progress) (x : PrepErr) → GivesAs tokens_in (Err x) (tokens_of m missing name (length p.names))
+  pub not_read : {Y : Type 0} (tokens_in : Y → List Token) (new : Progress) (x : Failure PrepFault) → GivesAs tokens_in (Err x) (tokens_of m missing name (length p.names))
       → GivesOut {X = Unit {0}} new (p.names ++ name ∷ []) (Err x) (file_at m include missing name p)
   unfolding file_at
-  not_read tokens_in new (e.At code at line) h = ap from_tokens h
-  not_read tokens_in new e.NoSource h = ap from_tokens h
-  not_read tokens_in new (e.Failed at) h = tt
-  not_read tokens_in new (e.TooLong at) h = ap from_tokens h
-  not_read tokens_in new e.Memory h = tt
+  not_read tokens_in new (Cause (e.At code at line)) h = ap from_tokens h
+  not_read tokens_in new (Cause e.NoSource) h = ap from_tokens h
+  not_read tokens_in new (Cause (e.Failed at)) h = tt
+  not_read tokens_in new (Cause (e.TooLong at)) h = ap from_tokens h
+  not_read tokens_in new Memory h = tt
 
   pub begun : (tokens : List Token) → tokens_of m missing name (length p.names) ≡ Ok tokens
       → (lines_at include (lines_of tokens) (with_name name p) [] >>= ended (length p.names)) ≡ file_at m include missing name p
@@ -52,7 +54,7 @@ module _ (m : Held) (include : Including) (missing : PrepErr) (name : List ℕ) 
 
   -- the same with the number and the names that the program has
   module _ (file : ℕ) (names : List (List ℕ)) (numbered : file ≡ length p.names) (named : names ≡ p.names ++ name ∷ []) where
-    pub not_read_at : {Y : Type 0} (tokens_in : Y → List Token) (new : Progress) (x : PrepErr) → GivesAs tokens_in (Err x) (tokens_of m missing name file)
+    pub not_read_at : {Y : Type 0} (tokens_in : Y → List Token) (new : Progress) (x : Failure PrepFault) → GivesAs tokens_in (Err x) (tokens_of m missing name file)
         → GivesOut {X = Unit {0}} new names (Err x) (file_at m include missing name p)
     not_read_at tokens_in new x h =
         subst (λ (ns : List (List ℕ)). GivesOut {X = Unit {0}} new ns (Err x) (file_at m include missing name p)) (sym named)
@@ -121,12 +123,12 @@ module _ (include : Including) (file : ℕ) (lines : List (List Token)) (line : 
   include_stops : (i : Inclusion) (stop : Stop) → include_in line cs ≡ Some i → include i p ≡ Err stop → total ≡ Err stop
   include_stops i stop here one = sym (by_include i here) ∙ ap after_include one
 
-  pub include_refused : (i : Inclusion) (new new' : Progress) (names : List (List ℕ)) (x : PrepErr) → include_in line cs ≡ Some i → GivesOut {X = Unit {0}} new names (Err x) (include i p) → GivesOut {X = Unit {0}} new' names (Err x) total
-  include_refused i new new' names (e.At code at n) here one = include_stops i _ here one
-  include_refused i new new' names e.NoSource here one = include_stops i _ here one
-  include_refused i new new' names (e.Failed at) here one = tt
-  include_refused i new new' names (e.TooLong at) here one = include_stops i _ here one
-  include_refused i new new' names e.Memory here one = tt
+  pub include_refused : (i : Inclusion) (new new' : Progress) (names : List (List ℕ)) (x : Failure PrepFault) → include_in line cs ≡ Some i → GivesOut {X = Unit {0}} new names (Err x) (include i p) → GivesOut {X = Unit {0}} new' names (Err x) total
+  include_refused i new new' names (Cause (e.At code at n)) here one = include_stops i _ here one
+  include_refused i new new' names (Cause e.NoSource) here one = include_stops i _ here one
+  include_refused i new new' names (Cause (e.Failed at)) here one = tt
+  include_refused i new new' names (Cause (e.TooLong at)) here one = include_stops i _ here one
+  include_refused i new new' names Memory here one = tt
 
   pub line_next : (w : Work) (cs' : List Condition) → include_in line cs ≡ None → stepped ≡ Ok (w, cs') → (lines_at include after (record { work = w; names = p.names }) cs' >>= ended file) ≡ total
   line_next w cs' here one = sym (ap after_step one) ∙ by_line here
@@ -134,12 +136,12 @@ module _ (include : Including) (file : ℕ) (lines : List (List Token)) (line : 
   line_stops : (stop : Stop) → include_in line cs ≡ None → stepped ≡ Err stop → total ≡ Err stop
   line_stops stop here one = sym (by_line here) ∙ ap after_step one
 
-  pub line_refused : (new : Work × List Condition) (new' : Progress) (x : PrepErr) → include_in line cs ≡ None → GivesOut {X = Unit {0}} new p.names (Err x) stepped → GivesOut {X = Unit {0}} new' p.names (Err x) total
-  line_refused new new' (e.At code at n) here one = line_stops _ here one
-  line_refused new new' e.NoSource here one = line_stops _ here one
-  line_refused new new' (e.Failed at) here one = tt
-  line_refused new new' (e.TooLong at) here one = line_stops _ here one
-  line_refused new new' e.Memory here one = tt
+  pub line_refused : (new : Work × List Condition) (new' : Progress) (x : Failure PrepFault) → include_in line cs ≡ None → GivesOut {X = Unit {0}} new p.names (Err x) stepped → GivesOut {X = Unit {0}} new' p.names (Err x) total
+  line_refused new new' (Cause (e.At code at n)) here one = line_stops _ here one
+  line_refused new new' (Cause e.NoSource) here one = line_stops _ here one
+  line_refused new new' (Cause (e.Failed at)) here one = tt
+  line_refused new new' (Cause (e.TooLong at)) here one = line_stops _ here one
+  line_refused new new' Memory here one = tt
 
 -- the end of a file
 module _ (include : Including) (file : ℕ) (lines : List (List Token)) (p : Progress) (cs : List Condition) (total : Result Progress Stop) (empty : lines ≡ []) (so_far : (lines_at include lines p cs >>= ended file) ≡ total) where
@@ -150,10 +152,10 @@ module _ (include : Including) (file : ℕ) (lines : List (List Token)) (p : Pro
   last_stops : (stop : Stop) → stopping p.names (refusing (closed file cs)) ≡ Err stop → total ≡ Err stop
   last_stops stop one = sym at_last ∙ ap (λ (r : Result (Unit {0}) Stop). r >>= (λ x. Ok p)) one
 
-  pub at_end : (r : Result (Unit {0}) PrepErr) → GivesOut tt p.names r (stopping p.names (refusing (closed file cs))) → GivesOut p p.names r total
+  pub at_end : (r : Result (Unit {0}) (Failure PrepFault)) → GivesOut tt p.names r (stopping p.names (refusing (closed file cs))) → GivesOut p p.names r total
   at_end (Ok x) h = sym at_last ∙ ap (λ (r : Result (Unit {0}) Stop). r >>= (λ x. Ok p)) h
-  at_end (Err (e.At code at line)) h = last_stops _ h
-  at_end (Err e.NoSource) h = last_stops _ h
-  at_end (Err (e.Failed at)) h = tt
-  at_end (Err (e.TooLong at)) h = last_stops _ h
-  at_end (Err e.Memory) h = tt
+  at_end (Err (Cause (e.At code at line))) h = last_stops _ h
+  at_end (Err (Cause e.NoSource)) h = last_stops _ h
+  at_end (Err (Cause (e.Failed at))) h = tt
+  at_end (Err (Cause (e.TooLong at))) h = last_stops _ h
+  at_end (Err Memory) h = tt

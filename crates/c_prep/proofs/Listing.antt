@@ -1,9 +1,10 @@
 -- The codes of directives and macros are listed.
 use Rattle.std.proofs.Common.{ℕ, ◌≡◌, true, refl, ap, ◌∙◌}
+use Rattle.kit_base.specs.declared.failure.Failure.TheVariants.{Cause}
 use Rattle.c_prep.specs.declared.error.Fault.{Fault}
 use Rattle.c_prep.specs.declared.error.Fault.TheVariants.{BadDirective, TooDeep, OpenCondition, ErrorDirective, TooManyTokens, Redefined}
-use Rattle.c_prep.specs.declared.error.PrepErr.{PrepErr}
-use Rattle.c_prep.specs.declared.error.PrepErr.TheVariants as e
+use Rattle.c_prep.specs.declared.error.PrepFault.{PrepFault}
+use Rattle.c_prep.specs.declared.error.PrepFault.TheVariants as e
 use Rattle.c_prep.specs.Codes.{is_reading_code, HasReadingCode}
 use Rattle.c_prep.specs.Files.{code_of}
 use Rattle.c_prep.specs.inner.Inner.{SaysMissing}
@@ -24,9 +25,8 @@ missing : is_reading_code 21 ≡ true
 unfolding is_reading_code
 missing = refl
 
-pub missing_code : (x : PrepErr) → SaysMissing x → HasReadingCode x
+pub missing_code : (x : PrepFault) → SaysMissing x → HasReadingCode (Cause x)
 missing_code (e.At code file line) says = ap is_reading_code says ∙ missing
 missing_code e.NoSource says = tt
 missing_code (e.Failed file) says = tt
 missing_code (e.TooLong file) says = tt
-missing_code e.Memory says = tt

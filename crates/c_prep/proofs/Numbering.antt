@@ -6,14 +6,14 @@ use Rattle.std.specs.Str.{is_utf8}
 use Rattle.std.proofs.lemmas.List.{length-append, nil_from_length}
 use Rattle.std.proofs.lemmas.List.Folds.{list_all-append}
 use Rattle.std.proofs.lemmas.Str.{is_utf8-from_IsUtf8}
-use Rattle.c_prep.specs.declared.error.PrepErr.{PrepErr}
-use Rattle.c_prep.specs.declared.error.PrepErr.TheVariants as e
+use Rattle.kit_base.specs.declared.failure.Failure.{Failure}
+use Rattle.kit_base.specs.declared.failure.Failure.TheVariants.{Memory, Cause}
+use Rattle.c_prep.specs.declared.error.PrepFault.{PrepFault}
+use Rattle.c_prep.specs.declared.error.PrepFault.TheVariants as e
 use Rattle.c_lex.specs.declared.token.Kind.{Kind}
 use Rattle.c_lex.specs.declared.token.Token.{Token}
 use Rattle.c_prep.specs.declared.error.Fault.TheVariants.{TooManyTokens, Redefined, BadDirective}
 use Rattle.c_prep.specs.declared.error.FaultAt.{FaultAt}
-use Rattle.c_prep.specs.declared.error.StepErr.{StepErr}
-use Rattle.c_prep.specs.declared.error.StepErr.TheVariants as steps
 use Rattle.c_prep.specs.declared.conditions.Condition.{Condition}
 use Rattle.c_prep.specs.declared.work.Work.{Work}
 use Rattle.c_prep.specs.Faults.{◌>>=◌, fault_at, Gives}
@@ -150,29 +150,29 @@ step_good : (n : ℕ) (line : List Token) (w : Work) (cs : List Condition) → A
 unfolding step_at
 step_good n line w cs below good = step_by_good n w good (directive_in line) line cs below (hashed_line n line below)
 
-pub step_numbers : (n : ℕ) (line : List Token) (w : Work) (cs : List Condition) (new : Moment) (r : Result (Unit {0}) StepErr) → Gives new r (step_at line w cs) → ArePlaced n line → ArePlaced n w.out.tokens → PlacedPut n new.0.out.tokens (refused r)
+pub step_numbers : (n : ℕ) (line : List Token) (w : Work) (cs : List Condition) (new : Moment) (r : Result (Unit {0}) (Failure FaultAt)) → Gives new r (step_at line w cs) → ArePlaced n line → ArePlaced n w.out.tokens → PlacedPut n new.0.out.tokens (refused r)
 step_numbers n line w cs new (Ok x) h below good = subst (Good Moment (Works n) n) h (step_good n line w cs below good)
-step_numbers n line w cs new (Err (steps.At f)) h below good = subst (Good Moment (Works n) n) h (step_good n line w cs below good)
-step_numbers n line w cs new (Err steps.Memory) h below good = tt
+step_numbers n line w cs new (Err (Cause f)) h below good = subst (Good Moment (Works n) n) h (step_good n line w cs below good)
+step_numbers n line w cs new (Err Memory) h below good = tt
 
 closed_good : (n file : ℕ) (cs : List Condition) → file < n → Good (Unit {0}) (λ x. Unit {0}) n (closed file cs)
 closed_good n file [] lt = tt
 closed_good n file (c ∷ cs) lt = lt
 
-pub close_numbers : (n file : ℕ) (cs : List Condition) (r : Result (Unit {0}) StepErr) → Gives tt r (closed file cs) → file < n → IfErr (refused r) (IsBelow n)
+pub close_numbers : (n file : ℕ) (cs : List Condition) (r : Result (Unit {0}) (Failure FaultAt)) → Gives tt r (closed file cs) → file < n → IfErr (refused r) (IsBelow n)
 close_numbers n file cs (Ok x) h lt = tt
-close_numbers n file cs (Err (steps.At f)) h lt = subst (Good (Unit {0}) (λ x. Unit {0}) n) h (closed_good n file cs lt)
-close_numbers n file cs (Err steps.Memory) h lt = tt
+close_numbers n file cs (Err (Cause f)) h lt = subst (Good (Unit {0}) (λ x. Unit {0}) n) h (closed_good n file cs lt)
+close_numbers n file cs (Err Memory) h lt = tt
 
 pub lexed_numbers : (n file : ℕ) (bytes : List ℕ) (tokens : List Token) → reading_of file bytes ≡ found tokens → file < n → ArePlaced n tokens
 lexed_numbers n file bytes tokens is lt = let all = all_placed file bytes tokens is in of_file n file tokens all.files all.lines lt
 
-pub is_below_more : (n n' : ℕ) (x : PrepErr) → n ≤ n' → IsBelow n x → IsBelow n' x
-is_below_more n n' (e.At code file line) le h = omega (arith, h)
-is_below_more n n' e.NoSource le h = tt
-is_below_more n n' (e.Failed file) le h = omega (arith, h)
-is_below_more n n' (e.TooLong file) le h = omega (arith, h)
-is_below_more n n' e.Memory le h = tt
+pub is_below_more : (n n' : ℕ) (x : Failure PrepFault) → n ≤ n' → IsBelow n x → IsBelow n' x
+is_below_more n n' (Cause (e.At code file line)) le h = omega (arith, h)
+is_below_more n n' (Cause e.NoSource) le h = tt
+is_below_more n n' (Cause (e.Failed file)) le h = omega (arith, h)
+is_below_more n n' (Cause (e.TooLong file)) le h = omega (arith, h)
+is_below_more n n' Memory le h = tt
 
 pub one_longer : (names old : List (List ℕ)) (name : List ℕ) → names ≡ old ++ name ∷ [] → length names ≡ length old + 1
 one_longer names old name is = ap length is ∙ omega (arith, length-append old (name ∷ []))

@@ -3,9 +3,11 @@ use Rattle.std.proofs.Common.{◌≡◌, ℕ, zero, suc, Bool, true, false, List
 use Rattle.std.specs.Prelude.{Option, Some, None, Result, Ok, Err, IfErr, nat_lt, if◌then◌else◌}
 use Rattle.std.proofs.lemmas.List.{append-nil}
 use Rattle.kit_base.specs.Held.{Held}
+use Rattle.kit_base.specs.declared.failure.Failure.{Failure}
+use Rattle.kit_base.specs.declared.failure.Failure.TheVariants.{Memory, Cause}
 use Rattle.c_lex.specs.declared.token.Token.{Token}
-use Rattle.c_prep.specs.declared.error.PrepErr.{PrepErr}
-use Rattle.c_prep.specs.declared.error.PrepErr.TheVariants as e
+use Rattle.c_prep.specs.declared.error.PrepFault.{PrepFault}
+use Rattle.c_prep.specs.declared.error.PrepFault.TheVariants as e
 use Rattle.c_prep.specs.declared.conditions.Condition.{Condition}
 use Rattle.c_prep.specs.declared.work.Work.{Work}
 use Rattle.c_prep.specs.Faults.{◌>>=◌}
@@ -36,7 +38,7 @@ first_of_first {a = a} f g = record { rest = f.rest ++ g.rest; is = g.is ∙ ap 
 
 -- ---- parts that go on
 
-stopped_first : {X : Type 0} (names_in : X → Names) (ns : Names) (r : Result X PrepErr) → ((x : X) → AreFirst ns (names_in x)) → AreFirst ns (read_by names_in (stopping ns r))
+stopped_first : {X : Type 0} (names_in : X → Names) (ns : Names) (r : Result X PrepFault) → ((x : X) → AreFirst ns (names_in x)) → AreFirst ns (read_by names_in (stopping ns r))
 stopped_first names_in ns (Ok x) h = h x
 stopped_first names_in ns (Err x) h = all_first ns
 
@@ -73,7 +75,7 @@ module _ (include : Including) (grows : Grows include) where
   rest_first : (file : ℕ) (lines : List (List Token)) (p : Progress) (cs : List Condition) → AreFirst p.names (read_by so_far (lines_at include lines p cs >>= ended file))
   rest_first file lines p cs = then_first in_file so_far p.names (lines_at include lines p cs) (ended file) (lines_first lines p cs) (end_first file)
 
-  file_first : (m : Held) (missing : PrepErr) (name : List ℕ) (p : Progress) → AreFirst (p.names ++ name ∷ []) (read_by so_far (file_at m include missing name p))
+  file_first : (m : Held) (missing : PrepFault) (name : List ℕ) (p : Progress) → AreFirst (p.names ++ name ∷ []) (read_by so_far (file_at m include missing name p))
   unfolding file_at
   file_first m missing name p =
       let ns = p.names ++ name ∷ [] in
@@ -110,26 +112,26 @@ includes_grow m (suc room) i p =
 
 -- ---- refusals
 
-pub text_failed : (file : ℕ) (x : PrepErr) → IsOfText x → IsFailedAt file x
-text_failed file (e.At code at line) h = tt
-text_failed file e.NoSource h = tt
-text_failed file (e.Failed at) h = absurd h
-text_failed file (e.TooLong at) h = tt
-text_failed file e.Memory h = tt
+pub text_failed : (file : ℕ) (x : Failure PrepFault) → IsOfText x → IsFailedAt file x
+text_failed file (Cause (e.At code at line)) h = tt
+text_failed file (Cause e.NoSource) h = tt
+text_failed file (Cause (e.Failed at)) h = absurd h
+text_failed file (Cause (e.TooLong at)) h = tt
+text_failed file Memory h = tt
 
 -- one of what a file says, or of memory
-pub text_reached : (x : PrepErr) (ns : Names) (total : Result Progress Stop) → IsOfText x → AreFirst ns (read_by so_far total) → Reaches {T = Unit {0}} so_far (Err x) ns total
-text_reached (e.At code file line) ns total h f = tt
-text_reached e.NoSource ns total h f = tt
-text_reached (e.Failed file) ns total h f = absurd h
-text_reached (e.TooLong file) ns total h f = tt
-text_reached e.Memory ns total h f = f
+pub text_reached : (x : Failure PrepFault) (ns : Names) (total : Result Progress Stop) → IsOfText x → AreFirst ns (read_by so_far total) → Reaches {T = Unit {0}} so_far (Err x) ns total
+text_reached (Cause (e.At code file line)) ns total h f = tt
+text_reached (Cause e.NoSource) ns total h f = tt
+text_reached (Cause (e.Failed file)) ns total h f = absurd h
+text_reached (Cause (e.TooLong file)) ns total h f = tt
+text_reached Memory ns total h f = f
 
-pub close_reached : (r : Result (Unit {0}) PrepErr) (ns : Names) (total : Result Progress Stop) → IfErr r IsOfText → AreFirst ns (read_by so_far total) → Reaches so_far r ns total
+pub close_reached : (r : Result (Unit {0}) (Failure PrepFault)) (ns : Names) (total : Result Progress Stop) → IfErr r IsOfText → AreFirst ns (read_by so_far total) → Reaches so_far r ns total
 close_reached (Ok x) ns total h f = tt
 close_reached (Err x) ns total h f = text_reached x ns total h f
 
-module _ (m : Held) (room : ℕ) (missing : PrepErr) (name : List ℕ) (p : Progress) where
+module _ (m : Held) (room : ℕ) (missing : PrepFault) (name : List ℕ) (p : Progress) where
   abbrev whole : Result Progress Stop
   whole = file_at m (include_at m room) missing name p
 
@@ -143,21 +145,21 @@ module _ (m : Held) (room : ℕ) (missing : PrepErr) (name : List ℕ) (p : Prog
     first : AreFirst ns (read_by so_far whole)
     first = subst (λ (k : Names). AreFirst k (read_by so_far whole)) (sym named) (file_first (include_at m room) (includes_grow m room) m missing name p)
 
-    pub unread : (x : PrepErr) → IsFailedAt file x → Reaches {T = Unit {0}} so_far (Err x) ns whole
-    unread (e.At code at line) h = tt
-    unread e.NoSource h = tt
-    unread (e.Failed at) h = (ap suc h ∙ numbered, first)
-    unread (e.TooLong at) h = tt
-    unread e.Memory h = first
+    pub unread : (x : Failure PrepFault) → IsFailedAt file x → Reaches {T = Unit {0}} so_far (Err x) ns whole
+    unread (Cause (e.At code at line)) h = tt
+    unread (Cause e.NoSource) h = tt
+    unread (Cause (e.Failed at)) h = (ap suc h ∙ numbered, first)
+    unread (Cause (e.TooLong at)) h = tt
+    unread Memory h = first
 
 -- A file inside another: what was reached there was reached in the whole.
 module _ (inner total : Result Progress Stop) where
-  pub inner_reached : (x : PrepErr) (ns : Names) → AreFirst (read_by so_far inner) (read_by so_far total) → Reaches {T = Unit {0}} so_far (Err x) ns inner → Reaches {T = Unit {0}} so_far (Err x) ns total
-  inner_reached (e.At code file line) ns f h = tt
-  inner_reached e.NoSource ns f h = tt
-  inner_reached (e.Failed file) ns f h = (h.0, first_of_first h.1 f)
-  inner_reached (e.TooLong file) ns f h = tt
-  inner_reached e.Memory ns f h = first_of_first h f
+  pub inner_reached : (x : Failure PrepFault) (ns : Names) → AreFirst (read_by so_far inner) (read_by so_far total) → Reaches {T = Unit {0}} so_far (Err x) ns inner → Reaches {T = Unit {0}} so_far (Err x) ns total
+  inner_reached (Cause (e.At code file line)) ns f h = tt
+  inner_reached (Cause e.NoSource) ns f h = tt
+  inner_reached (Cause (e.Failed file)) ns f h = (h.0, first_of_first h.1 f)
+  inner_reached (Cause (e.TooLong file)) ns f h = tt
+  inner_reached Memory ns f h = first_of_first h f
 
 -- ---- the whole
 
@@ -170,9 +172,9 @@ module _ (m : Held) (name : List ℕ) (p : Progress) (first : p ≡ opening) whe
   unfolding expansion_of
   same_names = shown_names (file_at m (include_at m 16) e.NoSource name opening) ∙ ap (λ (q : Progress). read_by so_far (file_at m (include_at m 16) e.NoSource name q)) (sym first)
 
-  pub source_reached : (Y : Type 0) (x : PrepErr) (ns : Names) → Reaches {T = Unit {0}} so_far (Err x) ns (file_at m (include_at m 16) e.NoSource name p) → Reaches {T = Y} names_of (Err x) ns (expansion_of m name)
-  source_reached Y (e.At code file line) ns h = tt
-  source_reached Y e.NoSource ns h = tt
-  source_reached Y (e.Failed file) ns h = (h.0, subst (AreFirst ns) (sym same_names) h.1)
-  source_reached Y (e.TooLong file) ns h = tt
-  source_reached Y e.Memory ns h = subst (AreFirst ns) (sym same_names) h
+  pub source_reached : (Y : Type 0) (x : Failure PrepFault) (ns : Names) → Reaches {T = Unit {0}} so_far (Err x) ns (file_at m (include_at m 16) e.NoSource name p) → Reaches {T = Y} names_of (Err x) ns (expansion_of m name)
+  source_reached Y (Cause (e.At code file line)) ns h = tt
+  source_reached Y (Cause e.NoSource) ns h = tt
+  source_reached Y (Cause (e.Failed file)) ns h = (h.0, subst (AreFirst ns) (sym same_names) h.1)
+  source_reached Y (Cause (e.TooLong file)) ns h = tt
+  source_reached Y Memory ns h = subst (AreFirst ns) (sym same_names) h

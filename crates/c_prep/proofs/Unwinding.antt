@@ -5,10 +5,11 @@ use Rattle.std.specs.List.{list_any}
 use Rattle.std.proofs.lemmas.Bool.{ltb-true}
 use Rattle.std.proofs.lemmas.List.{map_push, length-append, nil_from_length}
 use Rattle.indexmap.specs.IndexSet.{insert_key}
+use Rattle.kit_base.specs.declared.failure.Failure.{Failure}
+use Rattle.kit_base.specs.declared.failure.Failure.TheVariants.{Memory, Cause}
+use Rattle.kit_base.specs.Gives.{Fails}
 use Rattle.c_lex.specs.declared.token.Kind.{Kind}
 use Rattle.c_lex.specs.declared.token.Token.{Token}
-use Rattle.c_prep.specs.declared.error.StepErr.{StepErr}
-use Rattle.c_prep.specs.declared.error.StepErr.TheVariants as e
 use Rattle.c_prep.specs.declared.error.FaultAt.{FaultAt}
 use Rattle.c_prep.specs.declared.error.Fault.TheVariants.{TooManyTokens}
 use Rattle.c_prep.specs.declared.replace.Frame.{Frame}
@@ -111,16 +112,16 @@ module _ (table : Table) (at : Token) where
   emits zero inside kind o seen = rw seen refl
   emits (suc n) inside kind o seen = rw seen refl
 
-  pub count_refused : (fs : List Frame) (kind : Kind) (m : Macro) (o new : Put) (after : Result Put FaultAt) (x : StepErr) → macro_of table (names fs) kind ≡ Some m → Gives {X = Unit {0}} new (Err x) (counted at o)
-      → Goes {X = Unit {0}} (Err x) (unwound_after table at fs (at_place table at (names fs) kind o)) after
-  count_refused fs kind m o new after (e.At f) seen h = ap (unwound_after table at fs) (count_fails (1000000 - length (names fs)) (names fs) kind m o f seen h)
-  count_refused fs kind m o new after e.Memory seen h = tt
+  pub count_refused : (fs : List Frame) (kind : Kind) (m : Macro) (o : Put) (x : Failure FaultAt) → macro_of table (names fs) kind ≡ Some m → Fails x (counted at o)
+      → Fails x (unwound_after table at fs (at_place table at (names fs) kind o))
+  count_refused fs kind m o (Cause f) seen h = ap (unwound_after table at fs) (count_fails (1000000 - length (names fs)) (names fs) kind m o f seen h)
+  count_refused fs kind m o Memory seen h = tt
 
-  pub put_plain : (fs : List Frame) (kind : Kind) (o new : Put) (r : Result (Unit {0}) StepErr) → macro_of table (names fs) kind ≡ None → Gives new r (emitted at kind o)
+  pub put_plain : (fs : List Frame) (kind : Kind) (o new : Put) (r : Result (Unit {0}) (Failure FaultAt)) → macro_of table (names fs) kind ≡ None → Gives new r (emitted at kind o)
       → Goes r (unwound_after table at fs (at_place table at (names fs) kind o)) (unwound table at [] fs new)
   put_plain fs kind o new (Ok x) seen h = ap (unwound_after table at fs) (emits (1000000 - length (names fs)) (names fs) kind o seen ∙ h)
-  put_plain fs kind o new (Err (e.At f)) seen h = ap (unwound_after table at fs) (emits (1000000 - length (names fs)) (names fs) kind o seen ∙ h)
-  put_plain fs kind o new (Err e.Memory) seen h = tt
+  put_plain fs kind o new (Err (Cause f)) seen h = ap (unwound_after table at fs) (emits (1000000 - length (names fs)) (names fs) kind o seen ∙ h)
+  put_plain fs kind o new (Err Memory) seen h = tt
 
   pub no_frames : (r : Result Put FaultAt) → r ≡ unwound_after table at [] r
   unfolding unwound
@@ -147,9 +148,9 @@ module _ (table : Table) (at : Token) where
   unfolding unwound
   unwound_none fs o empty = ap (λ (gs : List Frame). unwound table at [] gs o) (nil_from_length fs empty)
 
-pub refused : (before before' after : Result Put FaultAt) (new : Put) (x : StepErr) → before' ≡ before → Goes {X = Unit {0}} (Err x) before after → Gives {X = Unit {0}} new (Err x) before'
-refused before before' after new (e.At f) same h = same ∙ h
-refused before before' after new e.Memory same h = tt
+pub refused : (before before' : Result Put FaultAt) (x : Failure FaultAt) → before' ≡ before → Fails x before → Fails x before'
+refused before before' (Cause f) same h = same ∙ h
+refused before before' Memory same h = tt
 
 module _ (table : Table) (rest : List Token) (o : Put) (total : Result Put FaultAt) (so_far : replaced_in table rest o ≡ total) where
   first_of_rest : (t : Token) (after : List Token) → rest ≡ t ∷ after → replaced_in table rest o ≡ replaced_at table t o >>= replaced_in table after
@@ -159,9 +160,9 @@ module _ (table : Table) (rest : List Token) (o : Put) (total : Result Put Fault
   pub all_next : (t : Token) (after : List Token) (o' : Put) → rest ≡ t ∷ after → replaced_at table t o ≡ Ok o' → replaced_in table after o' ≡ total
   all_next t after o' whole one = sym (ap (λ (r : Result Put FaultAt). r >>= replaced_in table after) one) ∙ sym (first_of_rest t after whole) ∙ so_far
 
-  pub all_refused : (t : Token) (after : List Token) (new : Put) (x : StepErr) → rest ≡ t ∷ after → Gives {X = Unit {0}} new (Err x) (replaced_at table t o) → Gives {X = Unit {0}} new (Err x) total
-  all_refused t after new (e.At k) whole one = sym so_far ∙ first_of_rest t after whole ∙ ap (λ (r : Result Put FaultAt). r >>= replaced_in table after) one
-  all_refused t after new e.Memory whole one = tt
+  pub all_refused : (t : Token) (after : List Token) (x : Failure FaultAt) → rest ≡ t ∷ after → Fails x (replaced_at table t o) → Fails x total
+  all_refused t after (Cause k) whole one = sym so_far ∙ first_of_rest t after whole ∙ ap (λ (r : Result Put FaultAt). r >>= replaced_in table after) one
+  all_refused t after Memory whole one = tt
 
   pub all_done : length rest ≡ 0 → total ≡ Ok o
   unfolding replaced_in

@@ -3,8 +3,10 @@ use Rattle.std.proofs.Common.{◌≡◌, ℕ, List, [], length, refl, sym, ap, �
 use Rattle.std.specs.Prelude.{Option, Some, None, Result, Ok, Err, IfSome}
 use Rattle.std.proofs.lemmas.List.{nil_from_length}
 use Rattle.kit_base.specs.Held.{Held}
-use Rattle.c_prep.specs.declared.error.PrepErr.{PrepErr}
-use Rattle.c_prep.specs.declared.error.PrepErr.TheVariants as e
+use Rattle.kit_base.specs.declared.failure.Failure.{Failure}
+use Rattle.kit_base.specs.declared.failure.Failure.TheVariants.{Memory, Cause}
+use Rattle.c_prep.specs.declared.error.PrepFault.{PrepFault}
+use Rattle.c_prep.specs.declared.error.PrepFault.TheVariants as e
 use Rattle.c_prep.specs.Faults.{◌>>=◌}
 use Rattle.c_prep.specs.Macros.{Table, Put}
 use Rattle.c_prep.specs.Files.{Progress, Stop, Expansion, file_at, include_at, opening, expansion_of, Answers}
@@ -31,9 +33,9 @@ module _ (m : Held) (name : List ℕ) (p : Progress) (first : p ≡ opening) whe
   stops : (stop : Stop) → file_at m (include_at m 16) e.NoSource name p ≡ Err stop → expansion_of m name ≡ Err stop
   stops stop one = whole ∙ ap shown one
 
-  pub stopped : (new : Progress) (names : List (List ℕ)) (x : PrepErr) → GivesOut {X = Unit {0}} new names (Err x) (file_at m (include_at m 16) e.NoSource name p) → Answers (Err x) names (expansion_of m name)
-  stopped new names (e.At code at line) one = stops _ one
-  stopped new names e.NoSource one = stops _ one
-  stopped new names (e.Failed at) one = tt
-  stopped new names (e.TooLong at) one = stops _ one
-  stopped new names e.Memory one = tt
+  pub stopped : (new : Progress) (names : List (List ℕ)) (x : Failure PrepFault) → GivesOut {X = Unit {0}} new names (Err x) (file_at m (include_at m 16) e.NoSource name p) → Answers (Err x) names (expansion_of m name)
+  stopped new names (Cause (e.At code at line)) one = stops _ one
+  stopped new names (Cause e.NoSource) one = stops _ one
+  stopped new names (Cause (e.Failed at)) one = tt
+  stopped new names (Cause (e.TooLong at)) one = stops _ one
+  stopped new names Memory one = tt

@@ -1,23 +1,25 @@
 -- Why a refusal comes that the files give.
 use Rattle.std.specs.Prelude.{◌≡◌, ◌≤◌, ℕ, Result, Err}
 use Rattle.kit_base.specs.Counts.{Rose}
-use Rattle.c_prep.specs.declared.error.PrepErr.{PrepErr}
-use Rattle.c_prep.specs.declared.error.PrepErr.TheVariants as e
+use Rattle.kit_base.specs.declared.failure.Failure.{Failure}
+use Rattle.kit_base.specs.declared.failure.Failure.TheVariants.{Cause}
+use Rattle.c_prep.specs.declared.error.PrepFault.{PrepFault}
+use Rattle.c_prep.specs.declared.error.PrepFault.TheVariants as e
 
 -- the system failed
-abbrev pub HasFailed : {T : Type 0} → Result T PrepErr → Type 0
-HasFailed (Err (e.Failed file)) = Unit {0}
+abbrev pub HasFailed : {T : Type 0} → Result T (Failure PrepFault) → Type 0
+HasFailed (Err (Cause (e.Failed file))) = Unit {0}
 HasFailed _ = ⊥
 
 -- a file is not held
-abbrev pub Lacks : {T : Type 0} → Result T PrepErr → Type 0
-Lacks (Err e.NoSource) = Unit {0}
-Lacks (Err (e.At code file line)) = code ≡ 21
+abbrev pub Lacks : {T : Type 0} → Result T (Failure PrepFault) → Type 0
+Lacks (Err (Cause e.NoSource)) = Unit {0}
+Lacks (Err (Cause (e.At code file line))) = code ≡ 21
 Lacks _ = ⊥
 
 -- a file is too long
-abbrev pub IsOver : {T : Type 0} → Result T PrepErr → Type 0
-IsOver (Err (e.TooLong file)) = Unit {0}
+abbrev pub IsOver : {T : Type 0} → Result T (Failure PrepFault) → Type 0
+IsOver (Err (Cause (e.TooLong file))) = Unit {0}
 IsOver _ = ⊥
 
 -- the count does not fall, and this comes only where it rose
@@ -25,7 +27,7 @@ pub record Caused (This : Type 0) (before now : ℕ) : Type 0 where
   pub later : before ≤ now
   pub rose : This → Rose before now
 
-pub record HasCauses {T : Type 0} (r : Result T PrepErr) (faults faults' misses misses' overs overs' : ℕ) : Type 0 where
+pub record HasCauses {T : Type 0} (r : Result T (Failure PrepFault)) (faults faults' misses misses' overs overs' : ℕ) : Type 0 where
   pub failed : Caused (HasFailed r) faults faults'
   pub lacked : Caused (Lacks r) misses misses'
   pub over : Caused (IsOver r) overs overs'

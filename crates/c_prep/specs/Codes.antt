@@ -1,7 +1,9 @@
 -- The codes of refusals. (The kit's page on refusals, the codes of status 2.)
 use Rattle.std.specs.Prelude.{◌≡◌, ℕ, Bool, true, ◌&&◌, ◌||◌, nat_le}
-use Rattle.c_prep.specs.declared.error.PrepErr.{PrepErr}
-use Rattle.c_prep.specs.declared.error.PrepErr.TheVariants as e
+use Rattle.kit_base.specs.declared.failure.Failure.{Failure}
+use Rattle.kit_base.specs.declared.failure.Failure.TheVariants.{Cause}
+use Rattle.c_prep.specs.declared.error.PrepFault.{PrepFault}
+use Rattle.c_prep.specs.declared.error.PrepFault.TheVariants as e
 
 abbrev pub between : (first last code : ℕ) → Bool
 between first last code = nat_le first code && nat_le code last
@@ -11,6 +13,6 @@ unfoldable pub is_reading_code : ℕ → Bool
 is_reading_code code = between 10 14 code || between 20 26 code
 
 -- a refusal at a place has such a code
-abbrev pub HasReadingCode : PrepErr → Type 0
-HasReadingCode (e.At code file line) = is_reading_code code ≡ true
+abbrev pub HasReadingCode : Failure PrepFault → Type 0
+HasReadingCode (Cause (e.At code file line)) = is_reading_code code ≡ true
 HasReadingCode x = Unit {0}

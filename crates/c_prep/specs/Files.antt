@@ -6,14 +6,16 @@ use Rattle.kit_base.specs.Held.{Held}
 use Rattle.kit_base.specs.Outside.{due}
 use Rattle.kit_base.specs.declared.outside.FileErr.{FileErr}
 use Rattle.kit_base.specs.declared.outside.FileErr.TheVariants as f
+use Rattle.kit_base.specs.declared.failure.Failure.{Failure}
+use Rattle.kit_base.specs.declared.failure.Failure.TheVariants.{Memory, Cause}
 use Rattle.c_lex.specs.declared.token.Token.{Token}
 use Rattle.c_lex.specs.Reading.{Reading, found, stuck}
 use Rattle.c_lex.specs.Found.{reading_of}
 use Rattle.c_prep.specs.declared.error.Fault.{Fault}
 use Rattle.c_prep.specs.declared.error.Fault.TheVariants.{BadDirective, TooDeep, OpenCondition, ErrorDirective, TooManyTokens, Redefined}
 use Rattle.c_prep.specs.declared.error.FaultAt.{FaultAt}
-use Rattle.c_prep.specs.declared.error.PrepErr.{PrepErr}
-use Rattle.c_prep.specs.declared.error.PrepErr.TheVariants as e
+use Rattle.c_prep.specs.declared.error.PrepFault.{PrepFault}
+use Rattle.c_prep.specs.declared.error.PrepFault.TheVariants as e
 use Rattle.c_prep.specs.declared.conditions.Condition.{Condition}
 use Rattle.c_prep.specs.declared.work.Work.{Work}
 use Rattle.c_prep.specs.Faults.{◌>>=◌, fault_at}
@@ -29,7 +31,7 @@ pub record Progress : Type 0 where
 
 -- The first fault, with the names of the files so far.
 pub record Stop : Type 0 where
-  pub fault : PrepErr
+  pub fault : PrepFault
   pub names : List (List ℕ)
 
 abbrev pub code_of : Fault → ℕ
@@ -40,14 +42,14 @@ code_of ErrorDirective = 24
 code_of TooManyTokens = 25
 code_of Redefined = 26
 
-abbrev pub refusal : FaultAt → PrepErr
+abbrev pub refusal : FaultAt → PrepFault
 refusal x = e.At (code_of x.fault) x.file x.line
 
-abbrev pub stopping : {X : Type 0} → List (List ℕ) → Result X PrepErr → Result X Stop
+abbrev pub stopping : {X : Type 0} → List (List ℕ) → Result X PrepFault → Result X Stop
 stopping names (Ok x) = Ok x
 stopping names (Err x) = Err (record { fault = x; names = names })
 
-abbrev pub refusing : {X : Type 0} → Result X FaultAt → Result X PrepErr
+abbrev pub refusing : {X : Type 0} → Result X FaultAt → Result X PrepFault
 refusing (Ok x) = Ok x
 refusing (Err x) = Err (refusal x)
 
@@ -82,20 +84,19 @@ unfoldable pub lines_at : Including → List (List Token) → Progress → List 
 lines_at include [] p cs = Ok (p, cs)
 lines_at include (line ∷ lines) p cs = line_by (include_in line cs) include line p cs >>= λ q. lines_at include lines q.0 q.1
 
--- the bytes of the file that has this number
-abbrev pub bytes_of : PrepErr → ℕ → Result (List ℕ) FileErr → Result (List ℕ) PrepErr
+-- the bytes of the file that has this number; no name is due a failure, or want of memory
+abbrev pub bytes_of : PrepFault → ℕ → Result (List ℕ) FileErr → Result (List ℕ) PrepFault
 bytes_of missing file (Ok bytes) = Ok bytes
 bytes_of missing file (Err f.Missing) = Err missing
 bytes_of missing file (Err f.TooLong) = Err (e.TooLong file)
-bytes_of missing file (Err f.Failed) = Err (e.Failed file)
-bytes_of missing file (Err f.Memory) = Err e.Memory
+bytes_of missing file (Err _) = Err (e.Failed file)
 
 -- A file is read as tokens whole, before its directives.
-abbrev pub lexed : ℕ → Reading → Result (List Token) PrepErr
+abbrev pub lexed : ℕ → Reading → Result (List Token) PrepFault
 lexed file (found tokens) = Ok tokens
 lexed file (stuck code line byte) = Err (e.At code file line)
 
-unfoldable pub tokens_of : Held → PrepErr → List ℕ → ℕ → Result (List Token) PrepErr
+unfoldable pub tokens_of : Held → PrepFault → List ℕ → ℕ → Result (List Token) PrepFault
 tokens_of m missing name file = bytes_of missing file (due m name) >>= λ bytes. lexed file (reading_of file bytes)
 
 abbrev pub ended : ℕ → InFile → Result Progress Stop
@@ -105,12 +106,12 @@ abbrev pub with_name : List ℕ → Progress → Progress
 with_name name p = record { work = p.work; names = p.names ++ name ∷ [] }
 
 -- a file that is read, where `missing` tells that it is not held
-unfoldable pub file_at : Held → Including → PrepErr → List ℕ → Progress → Result Progress Stop
+unfoldable pub file_at : Held → Including → PrepFault → List ℕ → Progress → Result Progress Stop
 file_at m include missing name p =
     stopping (p.names ++ name ∷ []) (tokens_of m missing name (length p.names))
     >>= (λ tokens. lines_at include (lines_of tokens) (with_name name p) [] >>= ended (length p.names))
 
-abbrev pub missing_at : Token → PrepErr
+abbrev pub missing_at : Token → PrepFault
 missing_at hash = e.At 21 hash.file hash.line
 
 abbrev pub too_deep : Inclusion → Progress → Result Progress Stop
@@ -134,8 +135,8 @@ unfoldable pub expansion_of : Held → List ℕ → Result Expansion Stop
 expansion_of m name = file_at m (include_at m 16) e.NoSource name opening >>= λ p. Ok (record { tokens = p.work.out.tokens; names = p.names })
 
 -- The answer is the one that is due, with the names of the files, unless the files failed or memory ran out.
-abbrev pub Answers : Result (Vec Token Global) PrepErr → List (List ℕ) → Result Expansion Stop → Type 0
+abbrev pub Answers : Result (Vec Token Global) (Failure PrepFault) → List (List ℕ) → Result Expansion Stop → Type 0
 Answers (Ok v) names due_one = due_one ≡ Ok (record { tokens = v.items; names = names })
-Answers (Err (e.Failed file)) names due_one = Unit {0}
-Answers (Err e.Memory) names due_one = Unit {0}
-Answers (Err x) names due_one = due_one ≡ Err (record { fault = x; names = names })
+Answers (Err Memory) names due_one = Unit {0}
+Answers (Err (Cause (e.Failed file))) names due_one = Unit {0}
+Answers (Err (Cause x)) names due_one = due_one ≡ Err (record { fault = x; names = names })

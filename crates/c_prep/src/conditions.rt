@@ -70,10 +70,10 @@ impl Conditions {
         ensures { Gives self.new result (turned hash.now self.old) }
     {
         match self.open.pop() {
-            None => Err(StepErr::At(fault_at(Fault::BadDirective, hash))),
+            None => Err(StepErr::Cause(fault_at(Fault::BadDirective, hash))),
             Some(c) => {
                 if c.turned {
-                    return Err(StepErr::At(fault_at(Fault::BadDirective, hash)));
+                    return Err(StepErr::Cause(fault_at(Fault::BadDirective, hash)));
                 }
                 self.open.push(Condition {
                     line: c.line,
@@ -90,7 +90,7 @@ impl Conditions {
         ensures { Gives self.new result (ended hash.now self.old) }
     {
         match self.open.pop() {
-            None => Err(StepErr::At(fault_at(Fault::BadDirective, hash))),
+            None => Err(StepErr::Cause(fault_at(Fault::BadDirective, hash))),
             Some(_) => Ok(()),
         }
     }
@@ -101,7 +101,7 @@ impl Conditions {
     {
         match self.open.last() {
             None => Ok(()),
-            Some(c) => Err(StepErr::At(FaultAt {
+            Some(c) => Err(StepErr::Cause(FaultAt {
                 fault: Fault::OpenCondition,
                 file,
                 line: c.line,

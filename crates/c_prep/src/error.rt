@@ -1,17 +1,14 @@
 // Why a text does not expand.
 ghost use Rattle.std.specs.Prelude.{◌≡◌};
-ghost use Rattle.c_prep.specs.declared.error.PrepErr.TheVariants as errors;
-ghost use Rattle.c_prep.specs.declared.error.StepErr.TheVariants as steps;
 ghost use Rattle.c_prep.specs.Faults.{fault_at};
 
 use c_lex::Token;
-use kit_base::Memory;
-use std::alloc::{AllocError, AllocFailed};
+use kit_base::Failure;
 use thiserror::Error;
 
 /// Why a source does not expand. Files are numbered by the reads of a call from 0, lines from 1.
 #[derive(Clone, Copy, Debug, PartialEq, Eq, Error)]
-pub enum PrepErr {
+pub enum PrepFault {
     /// The first fault. The codes are 10 to 14, those of `c_lex`, where a file is no list of tokens;
     /// 20 a bad directive, 21 an include that is not held, 22 includes that lie too deep or are too
     /// many, 23 a file that ends inside a condition, 24 `#error`, 25 too many tokens or replacements
@@ -27,9 +24,10 @@ pub enum PrepErr {
     /// This file has over 268,435,456 bytes.
     #[error("file {file} is too long")]
     TooLong { file: u32 },
-    #[error("out of memory")]
-    Memory,
 }
+
+/// Why a source does not expand: the cause, or want of memory.
+pub type PrepErr = Failure<PrepFault>;
 
 /// What is wrong with the tokens of a file.
 #[derive(Clone, Copy, Debug, PartialEq, Eq)]
@@ -50,12 +48,8 @@ pub struct FaultAt {
     pub line: u32,
 }
 
-/// Why a step that asks no file is refused.
-#[derive(Clone, Copy, Debug, PartialEq, Eq)]
-pub enum StepErr {
-    At(FaultAt),
-    Memory,
-}
+/// Why a step that asks no file is refused: its fault, or want of memory.
+pub type StepErr = Failure<FaultAt>;
 
 /// The fault at that token.
 pub fn fault_at(fault: Fault, at: &Token) -> FaultAt
@@ -65,37 +59,5 @@ pub fn fault_at(fault: Fault, at: &Token) -> FaultAt
         fault,
         file: at.file,
         line: at.line,
-    }
-}
-
-impl From<Memory> for PrepErr {
-    ghost from_gives = { λ _ e. e ≡ errors.Memory };
-
-    fn from(_: Memory) -> PrepErr {
-        PrepErr::Memory
-    }
-}
-
-impl From<Memory> for StepErr {
-    ghost from_gives = { λ _ e. e ≡ steps.Memory };
-
-    fn from(_: Memory) -> StepErr {
-        StepErr::Memory
-    }
-}
-
-impl From<AllocError> for StepErr {
-    ghost from_gives = { λ _ e. e ≡ steps.Memory };
-
-    fn from(_: AllocError) -> StepErr {
-        StepErr::Memory
-    }
-}
-
-impl<T: Drop> From<AllocFailed<T>> for StepErr {
-    ghost from_gives = { λ _ e. e ≡ steps.Memory };
-
-    fn from(_: AllocFailed<T>) -> StepErr {
-        StepErr::Memory
     }
 }

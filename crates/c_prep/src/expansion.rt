@@ -8,7 +8,7 @@ ghost use Rattle.c_prep.specs.Reached.{Reaches, names_of};
 ghost use Rattle.c_prep.specs.Codes.{HasReadingCode};
 ghost use Rattle.c_prep.specs.Causes.{Caused, HasFailed, IsOver, Lacks};
 
-use crate::error::PrepErr;
+use crate::error::{PrepErr, PrepFault};
 use crate::files::expand_file;
 use crate::output::Output;
 use crate::table::Macros;
@@ -55,7 +55,8 @@ pub fn expand<F: Reads>(
         macros: Macros::new(alloc),
         out: Output::new(alloc),
     };
-    match expand_file(alloc, files, 16, PrepErr::NoSource, name, &mut work, names) {
+    let missing = PrepFault::NoSource;
+    match expand_file(alloc, files, 16, missing, name, &mut work, names) {
         Ok(()) => Ok(work.out.into_tokens()),
         Err(x) => Err(x),
     }

@@ -5,6 +5,7 @@ ghost use Rattle.std.specs.List.{list_all};
 ghost use Rattle.std.specs.Str.{is_utf8};
 ghost use Rattle.kit_base.specs.Held.{Held};
 ghost use Rattle.kit_base.specs.Outside.{due};
+ghost use Rattle.kit_base.specs.declared.failure.Failure.TheVariants.{Cause};
 ghost use Rattle.c_lex.specs.Found.{reading_of};
 ghost use Rattle.c_prep.specs.declared.error.Fault.TheVariants.{TooDeep};
 ghost use Rattle.c_prep.specs.Faults.{fault_at};
@@ -19,7 +20,7 @@ ghost use Rattle.c_prep.specs.Reached.{Reaches};
 
 use crate::conditions::Conditions;
 use crate::directive::{Directive, directive_in};
-use crate::error::{Fault, FaultAt, PrepErr, StepErr, fault_at};
+use crate::error::{Fault, FaultAt, PrepErr, PrepFault, StepErr, fault_at};
 use crate::lines::next_line;
 use crate::work::{Work, step_at};
 use c_lex::{LexErr, Token, Tokens, read_tokens};
@@ -49,12 +50,12 @@ fn code_of(fault: Fault) -> u32
     }
 }
 
-fn refusal(x: FaultAt) -> PrepErr
+fn refusal(x: FaultAt) -> PrepFault
     ensures told { result ≡ refusal x }
-    ensures text { IsOfText result }
-    ensures codes { HasReadingCode result }
+    ensures text { IsOfText (Cause result) }
+    ensures codes { HasReadingCode (Cause result) }
 {
-    PrepErr::At {
+    PrepFault::At {
         code: code_of(x.fault),
         file: x.file,
         line: x.line,
@@ -69,7 +70,7 @@ fn refusing(result_of: Result<(), StepErr>) -> Result<(), PrepErr>
 {
     match result_of {
         Ok(()) => Ok(()),
-        Err(StepErr::At(x)) => Err(refusal(x)),
+        Err(StepErr::Cause(x)) => Err(PrepErr::Cause(refusal(x))),
         Err(StepErr::Memory) => Err(PrepErr::Memory),
     }
 }
@@ -91,7 +92,7 @@ fn name_file(alloc: Global, names: &mut Vec<Name>, name: &str) -> Result<u32, Me
 fn read_file<F: Reads>(
     alloc: Global,
     files: &mut F,
-    missing: PrepErr,
+    missing: PrepFault,
     name: &str,
     file: u32,
 ) -> Result<Vec<u8>, PrepErr>
@@ -99,7 +100,7 @@ fn read_file<F: Reads>(
     ensures held { F.held files.new ≡ F.held files.old }
     ensures told { (m : Held) → F.held files.old ≡ Some m → GivesAs (λ v. v.items) result (bytes_of missing file (due m name.now)) }
     ensures limit { IfOk result (λ v. length v.items ≤ 268435456) }
-    ensures numbers { (n : ℕ) → file < n → IsBelow n missing → IfErr result (IsBelow n) }
+    ensures numbers { (n : ℕ) → file < n → IsBelow n (Cause missing) → IfErr result (IsBelow n) }
     ensures failed { IfErr result (IsFailedAt file) }
     ensures codes { IfErr result HasReadingCode }
     ensures causes { HasCauses result (F.faults files.old) (F.faults files.new) (F.misses files.old) (F.misses files.new)
@@ -107,9 +108,9 @@ fn read_file<F: Reads>(
 {
     match files.read(alloc, name) {
         Ok(bytes) => Ok(bytes),
-        Err(FileErr::Missing) => Err(missing),
-        Err(FileErr::TooLong) => Err(PrepErr::TooLong { file }),
-        Err(FileErr::Failed) => Err(PrepErr::Failed { file }),
+        Err(FileErr::Missing) => Err(PrepErr::Cause(missing)),
+        Err(FileErr::TooLong) => Err(PrepErr::Cause(PrepFault::TooLong { file })),
+        Err(FileErr::Failed) => Err(PrepErr::Cause(PrepFault::Failed { file })),
         Err(FileErr::Memory) => Err(PrepErr::Memory),
     }
 }
@@ -124,13 +125,11 @@ fn lex_file<'a>(alloc: Global, bytes: &'a [u8], file: u32) -> Result<Tokens<'a>,
 {
     match read_tokens(alloc, bytes, file) {
         Ok(tokens) => Ok(tokens),
-        Err(
-            LexErr::At {
-                code,
-                line,
-                byte: _,
-            },
-        ) => Err(PrepErr::At { code, file, line }),
+        Err(LexErr::Cause(fault)) => Err(PrepErr::Cause(PrepFault::At {
+            code: fault.code,
+            file,
+            line: fault.line,
+        })),
         Err(LexErr::Memory) => Err(PrepErr::Memory),
     }
 }
@@ -160,23 +159,23 @@ fn include_in<'a>(line: &'a [Token], conds: &Conditions) -> Option<Included<'a>>
 fn may_include(room: u32, names: &[Name], hash: &Token) -> Result<(), PrepErr>
     ensures some { OnOk result (0 < room) }
     ensures few { OnOk result (length names.now < 10000) }
-    ensures deep { IfErr result (λ x. x ≡ refusal (fault_at TooDeep hash.now)) }
+    ensures deep { IfErr result (λ x. x ≡ Cause (refusal (fault_at TooDeep hash.now))) }
     ensures codes { IfErr result HasReadingCode }
     ensures when { OnErr result ((nat_lt 0 room && nat_lt (length names.now) 10000) ≡ false) }
 {
     if room > 0 && names.len() < FILES {
         Ok(())
     } else {
-        Err(refusal(fault_at(Fault::TooDeep, hash)))
+        Err(PrepErr::Cause(refusal(fault_at(Fault::TooDeep, hash))))
     }
 }
 
-fn missing_at(hash: &Token) -> PrepErr
+fn missing_at(hash: &Token) -> PrepFault
     ensures told { result ≡ missing_at hash.now }
     ensures says { SaysMissing result }
-    ensures numbers { (n : ℕ) → hash.now.file < n → IsBelow n result }
+    ensures numbers { (n : ℕ) → hash.now.file < n → IsBelow n (Cause result) }
 {
-    PrepErr::At {
+    PrepFault::At {
         code: 21,
         file: hash.file,
         line: hash.line,
@@ -213,7 +212,7 @@ pub fn expand_file<F: Reads>(
     alloc: Global,
     files: &mut F,
     room: u32,
-    missing: PrepErr,
+    missing: PrepFault,
     name: &str,
     work: &mut Work,
     names: &mut Vec<Name>,
@@ -222,7 +221,7 @@ pub fn expand_file<F: Reads>(
     requires few { length names.old.items < 10000 }
     requires texts { list_all is_utf8 names.old.items ≡ true }
     requires put { ArePlaced (length names.old.items) work.old.out.tokens }
-    requires lacking { IsBelow (length names.old.items) missing }
+    requires lacking { IsBelow (length names.old.items) (Cause missing) }
     ensures held { F.held files.new ≡ F.held files.old }
     ensures told { (m : Held) → F.held files.old ≡ Some m → GivesOut (record { work = work.new; names = names.new.items }) names.new.items result
         (file_at m (include_at m room) missing name.now (record { work = work.old; names = names.old.items })) }

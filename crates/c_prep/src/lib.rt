@@ -17,7 +17,7 @@ mod replace;
 mod table;
 mod work;
 
-pub use error::PrepErr;
+pub use error::{PrepErr, PrepFault};
 pub use expansion::expand;
 pub use laws::{
     lines_part_the_tokens, room_for_names_is_never_short, tokens_are_put_as_what_they_stand_for,

@@ -46,7 +46,7 @@ impl Output {
         ensures { Gives self.new result (emitted at.now kind.now self.old) }
     {
         if self.tokens.len() >= TOKENS {
-            return Err(StepErr::At(fault_at(Fault::TooManyTokens, at)));
+            return Err(StepErr::Cause(fault_at(Fault::TooManyTokens, at)));
         }
         self.tokens.push(Token {
             kind: copied_kind(kind)?,
@@ -64,7 +64,7 @@ impl Output {
         ensures { Gives self.new result (counted at.now self.old) }
     {
         if self.replaced >= REPLACED {
-            return Err(StepErr::At(fault_at(Fault::TooManyTokens, at)));
+            return Err(StepErr::Cause(fault_at(Fault::TooManyTokens, at)));
         }
         self.replaced += 1;
         Ok(())

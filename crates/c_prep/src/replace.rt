@@ -1,7 +1,7 @@
 // Macros are replaced, with no recursion: a chain of names may be long.
 ghost use Rattle.std.specs.Prelude.{◌≡◌, ◌<◌, ◌≤◌, [], ◌∷◌, ◌++◌, List, ℕ, OnOk, IfErr, length, map, option_map, option_copied, bytes_eq, false};
 ghost use Rattle.std.specs.List.{list_any};
-ghost use Rattle.c_prep.specs.declared.error.StepErr.TheVariants as steps;
+ghost use Rattle.kit_base.specs.declared.failure.Failure.TheVariants as failures;
 ghost use Rattle.c_prep.specs.Faults.{Gives};
 ghost use Rattle.c_prep.specs.Macros.{macro_of, visible, body_of, replaced_at, replaced_in};
 ghost use Rattle.c_prep.specs.inner.Frames.{names, macro_in, at_place, unwound, unwound_after, Goes, work};
@@ -33,7 +33,7 @@ fn is_inside(inside: &IndexSet<&Name>, name: &Name) -> bool
 fn enter<'a>(inside: &mut IndexSet<&'a Name>, name: &'a Name) -> Result<(), StepErr>
     requires new { list_any (bytes_eq name.now) (map (λ k. k.now) inside.old.keys) ≡ false }
     ensures names { OnOk result (map (λ k. k.now) inside.new.keys ≡ map (λ k. k.now) inside.old.keys ++ name.now ∷ []) }
-    ensures memory { IfErr result (λ e. e ≡ steps.Memory) }
+    ensures memory { IfErr result (λ e. e ≡ failures.Memory) }
 {
     inside.insert(name)?;
     Ok(())

@@ -78,7 +78,7 @@ impl Macros {
                 if same_kinds(old, body) {
                     Ok(())
                 } else {
-                    Err(StepErr::At(fault_at(Fault::Redefined, hash)))
+                    Err(StepErr::Cause(fault_at(Fault::Redefined, hash)))
                 }
             }
             None => self.add(alloc, name, body),

@@ -48,8 +48,8 @@ fn obey(
         }
         Directive::Else => conds.turn(hash),
         Directive::EndIf => conds.end(hash),
-        Directive::Error => Err(StepErr::At(fault_at(Fault::ErrorDirective, hash))),
-        Directive::Bad => Err(StepErr::At(fault_at(Fault::BadDirective, hash))),
+        Directive::Error => Err(StepErr::Cause(fault_at(Fault::ErrorDirective, hash))),
+        Directive::Bad => Err(StepErr::Cause(fault_at(Fault::BadDirective, hash))),
     }
 }
 

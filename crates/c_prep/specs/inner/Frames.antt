@@ -1,10 +1,10 @@
 -- Expansions that are begun and not yet put, the outermost first.
 use Rattle.std.specs.Prelude.{◌≡◌, ℕ, ◌+◌, ◌-◌, ◌*◌, List, [], ◌∷◌, ◌++◌, length, map, Result, Ok, Err}
+use Rattle.kit_base.specs.declared.failure.Failure.{Failure}
+use Rattle.kit_base.specs.Gives.{Fails}
 use Rattle.c_lex.specs.declared.token.Kind.{Kind}
 use Rattle.c_lex.specs.declared.token.Token.{Token}
 use Rattle.c_prep.specs.declared.error.FaultAt.{FaultAt}
-use Rattle.c_prep.specs.declared.error.StepErr.{StepErr}
-use Rattle.c_prep.specs.declared.error.StepErr.TheVariants as steps
 use Rattle.c_prep.specs.declared.replace.Frame.{Frame}
 use Rattle.c_prep.specs.Faults.{◌>>=◌}
 use Rattle.c_prep.specs.Macros.{Table, Put, each, stands, Macro}
@@ -27,10 +27,9 @@ unwound table at inside (f ∷ fs) o = unwound table at (inside ++ f.name.now �
 abbrev pub unwound_after : Table → Token → List Frame → Result Put FaultAt → Result Put FaultAt
 unwound_after table at fs given = given >>= unwound table at [] fs
 
-abbrev pub Goes : {X : Type 0} → Result X StepErr → Result Put FaultAt → Result Put FaultAt → Type 0
+abbrev pub Goes : {X : Type 0} → Result X (Failure FaultAt) → Result Put FaultAt → Result Put FaultAt → Type 0
 Goes (Ok x) before after = before ≡ after
-Goes (Err (steps.At f)) before after = before ≡ Err f
-Goes (Err steps.Memory) before after = Unit {0}
+Goes (Err failure) before after = Fails failure before
 
 -- how many steps are left at most
 abbrev pub work : Put → List Frame → ℕ

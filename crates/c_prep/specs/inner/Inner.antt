@@ -3,15 +3,16 @@ use Rattle.std.specs.Prelude.{◌≡◌, ◌≢◌, ◌<◌, ◌≤◌, ℕ, Lis
 use Rattle.std.specs.List.{AllByRecursion}
 use Rattle.std.specs.Borrow.{Bor}
 use Rattle.std.specs.declared.alloc.Global.{Global}
+use Rattle.kit_base.specs.declared.failure.Failure.{Failure}
+use Rattle.kit_base.specs.declared.failure.Failure.TheVariants.{Memory, Cause}
 use Rattle.c_lex.specs.declared.token.Token.{Token}
 use Rattle.c_prep.specs.declared.directive.Class.{Class}
 use Rattle.c_prep.specs.declared.directive.Directive.{Directive as Parsed}
 use Rattle.c_prep.specs.declared.directive.Directive.TheVariants as parsed
 use Rattle.c_prep.specs.declared.directive.Directed.{Directed as ParsedIn}
-use Rattle.c_prep.specs.declared.error.PrepErr.{PrepErr}
-use Rattle.c_prep.specs.declared.error.PrepErr.TheVariants as e
-use Rattle.c_prep.specs.declared.error.StepErr.{StepErr}
-use Rattle.c_prep.specs.declared.error.StepErr.TheVariants as steps
+use Rattle.c_prep.specs.declared.error.FaultAt.{FaultAt}
+use Rattle.c_prep.specs.declared.error.PrepFault.{PrepFault}
+use Rattle.c_prep.specs.declared.error.PrepFault.TheVariants as e
 use Rattle.c_prep.specs.declared.files.Included.{Included}
 use Rattle.c_prep.specs.Kinds.{kinds_of}
 use Rattle.c_prep.specs.Lines.{lines_of}
@@ -40,24 +41,24 @@ shown_in None = None
 shown_in (Some d) = Some (record { hash = d.hash.now; directive = shown d.directive })
 
 -- The answer of a part that goes on from a state is the one that is due, with the names of the files.
-abbrev pub GivesOut : {X S : Type 0} → S → List (List ℕ) → Result X PrepErr → Result S Stop → Type 0
+abbrev pub GivesOut : {X S : Type 0} → S → List (List ℕ) → Result X (Failure PrepFault) → Result S Stop → Type 0
 GivesOut new names (Ok x) due_one = due_one ≡ Ok new
-GivesOut new names (Err (e.Failed file)) due_one = Unit {0}
-GivesOut new names (Err e.Memory) due_one = Unit {0}
-GivesOut new names (Err x) due_one = due_one ≡ Err (record { fault = x; names = names })
+GivesOut new names (Err Memory) due_one = Unit {0}
+GivesOut new names (Err (Cause (e.Failed file))) due_one = Unit {0}
+GivesOut new names (Err (Cause x)) due_one = due_one ≡ Err (record { fault = x; names = names })
 
 -- the same of a value alone
-abbrev pub GivesAs : {X Y : Type 0} → (X → Y) → Result X PrepErr → Result Y PrepErr → Type 0
+abbrev pub GivesAs : {X Y : Type 0} → (X → Y) → Result X (Failure PrepFault) → Result Y PrepFault → Type 0
 GivesAs view (Ok x) due_one = due_one ≡ Ok (view x)
-GivesAs view (Err (e.Failed file)) due_one = Unit {0}
-GivesAs view (Err e.Memory) due_one = Unit {0}
-GivesAs view (Err x) due_one = due_one ≡ Err x
+GivesAs view (Err Memory) due_one = Unit {0}
+GivesAs view (Err (Cause (e.Failed file))) due_one = Unit {0}
+GivesAs view (Err (Cause x)) due_one = due_one ≡ Err x
 
 -- what a step's error is told as
-abbrev pub refused : {X : Type 0} → Result X StepErr → Result X PrepErr
+abbrev pub refused : {X : Type 0} → Result X (Failure FaultAt) → Result X (Failure PrepFault)
 refused (Ok x) = Ok x
-refused (Err (steps.At x)) = Err (refusal x)
-refused (Err steps.Memory) = Err e.Memory
+refused (Err Memory) = Err Memory
+refused (Err (Cause x)) = Err (Cause (refusal x))
 
 -- the include that the program sees
 abbrev pub included : Option Included → Option Inclusion
@@ -65,15 +66,15 @@ included None = None
 included (Some i) = Some (record { hash = i.hash.now; name = i.name.now })
 
 -- a refusal that says that a file is not held
-abbrev pub SaysMissing : PrepErr → Type 0
+abbrev pub SaysMissing : PrepFault → Type 0
 SaysMissing (e.At code file line) = code ≡ 21
 SaysMissing e.NoSource = Unit {0}
 SaysMissing _ = ⊥
 
 -- a refusal of what a file says, or of memory
-abbrev pub IsOfText : PrepErr → Type 0
-IsOfText (e.At code file line) = code ≢ 21
-IsOfText e.Memory = Unit {0}
+abbrev pub IsOfText : Failure PrepFault → Type 0
+IsOfText Memory = Unit {0}
+IsOfText (Cause (e.At code file line)) = code ≢ 21
 IsOfText _ = ⊥
 
 -- a token of a file below n, and its line
@@ -85,18 +86,18 @@ abbrev pub ArePlaced : ℕ → List Token → Type 0
 ArePlaced n tokens = AllByRecursion (IsPlaced n) tokens
 
 -- tokens that were read, or a refusal, are of files below n
-abbrev pub PlacedIn : ℕ → Result (List Token) PrepErr → Type 0
+abbrev pub PlacedIn : ℕ → Result (List Token) (Failure PrepFault) → Type 0
 PlacedIn n (Ok tokens) = ArePlaced n tokens
 PlacedIn n (Err x) = IsBelow n x
 
 -- tokens that were put, or a refusal, are of files below n
-abbrev pub PlacedPut : {X : Type 0} → ℕ → List Token → Result X PrepErr → Type 0
+abbrev pub PlacedPut : {X : Type 0} → ℕ → List Token → Result X (Failure PrepFault) → Type 0
 PlacedPut n tokens (Ok x) = ArePlaced n tokens
 PlacedPut n tokens (Err x) = IsBelow n x
 
 -- a failure, if it is one, is of this file
-abbrev pub IsFailedAt : ℕ → PrepErr → Type 0
-IsFailedAt file (e.Failed at) = at ≡ file
+abbrev pub IsFailedAt : ℕ → Failure PrepFault → Type 0
+IsFailedAt file (Cause (e.Failed at)) = at ≡ file
 IsFailedAt file _ = Unit {0}
 
 -- the lines of a file from that one on, which is taken from its tokens already

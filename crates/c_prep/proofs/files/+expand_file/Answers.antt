@@ -4,8 +4,9 @@ use Rattle.std.specs.List.{list_all}
 use Rattle.std.specs.Str.{is_utf8}
 use Rattle.std.proofs.lemmas.Result.{err_from_is_err_and}
 use Rattle.std.specs.declared.alloc.Global.{Global}
+use Rattle.kit_base.specs.declared.failure.Failure.TheVariants.{Cause}
 use Rattle.c_lex.specs.declared.token.Token.{Token}
-use Rattle.c_prep.specs.declared.error.PrepErr.{PrepErr}
+use Rattle.c_prep.specs.declared.error.PrepFault.{PrepFault}
 use Rattle.c_prep.specs.Lines.{lines_of}
 use Rattle.c_prep.specs.Files.{Progress, Stop, Inclusion, include_in, include_at, file_at, lexed, refusal}
 use Rattle.c_prep.specs.inner.Inner.{ArePlaced, GivesAs, GivesOut, included, so_far}
@@ -66,7 +67,7 @@ returns-in_err-may_include-in-Some-include_in-clause-told g t c = λ m h.
     let here : include_in c.as_slice-text.result.now c.each.conds ≡ Some i = sym c.include_in.ensures.told ∙ ap included c.in-Some-include_in.is in
     let now : Progress = record { work = c.each.work; names = c.each.names.items } in
     let full : ltb 0 c.args.room && ltb (length c.each.names.items) 10000 ≡ false = ap (λ (ns : List (List ℕ)). ltb 0 c.args.room && ltb (length ns) 10000) (sym c.deref.ensures.value) ∙ c.in_err-may_include-in-Some-include_in.ensures.when in
-    rw (p.1, p.2, c.in_err-may_include-in-Some-include_in.ensures.deep) (include_refused (include_at m c.args.room) c.in-Ok.file (c.as_slice-text.result.now ∷ lines_of c.next_line.new.tokens) c.as_slice-text.result.now (lines_of c.next_line.new.tokens) now c.each.conds _ refl (taken (include_at m c.args.room) c.in-Ok.file c.each.tokens c.next_line.new.tokens _ now c.each.conds _ (c.in_ok-line.ensures.told (include_at m c.args.room) now c.each.conds (sym c.skips.ensures)) (c.each.invariant.reads m h) c.in-Some.line c.as_slice-text.result.now c.in-Some.is c.as_slice-text.ensures.value) i now now c.each.names.items (refusal (fault_at TooDeep c.in-Some-include_in.found.hash.now)) here (deep m c.args.room i now full))
+    rw (p.1, p.2, c.in_err-may_include-in-Some-include_in.ensures.deep) (include_refused (include_at m c.args.room) c.in-Ok.file (c.as_slice-text.result.now ∷ lines_of c.next_line.new.tokens) c.as_slice-text.result.now (lines_of c.next_line.new.tokens) now c.each.conds _ refl (taken (include_at m c.args.room) c.in-Ok.file c.each.tokens c.next_line.new.tokens _ now c.each.conds _ (c.in_ok-line.ensures.told (include_at m c.args.room) now c.each.conds (sym c.skips.ensures)) (c.each.invariant.reads m h) c.in-Some.line c.as_slice-text.result.now c.in-Some.is c.as_slice-text.ensures.value) i now now c.each.names.items (Cause (refusal (fault_at TooDeep c.in-Some-include_in.found.hash.now))) here (deep m c.args.room i now full))
 
 pub returns-in_err-expand_file-in-Some-include_in-clause-told : goal.returns-in_err-expand_file-in-Some-include_in-clause-told
 returns-in_err-expand_file-in-Some-include_in-clause-told g t c = λ m h.
@@ -76,7 +77,7 @@ returns-in_err-expand_file-in-Some-include_in-clause-told g t c = λ m h.
     let now : Progress = record { work = c.each.work; names = c.each.names.items } in
     let new : Progress = record { work = c.expand_file.new.work; names = c.expand_file.new.names.items } in
     let few : length c.each.names.items < 10000 = subst (λ (ns : List (List ℕ)). length ns < 10000) c.deref.ensures.value c.in_ok-may_include-in-Some-include_in.ensures.few in
-    let same : include_at m c.args.room i now ≡ file_at m (include_at m (c.args.room - 1)) c.missing_at-lacking.result i.name now = deeper m c.args.room i now c.in_ok-may_include-in-Some-include_in.ensures.some few ∙ ap (λ (x : PrepErr). file_at m (include_at m (c.args.room - 1)) x i.name now) (sym c.missing_at-lacking.ensures.told) in
+    let same : include_at m c.args.room i now ≡ file_at m (include_at m (c.args.room - 1)) c.missing_at-lacking.result i.name now = deeper m c.args.room i now c.in_ok-may_include-in-Some-include_in.ensures.some few ∙ ap (λ (x : PrepFault). file_at m (include_at m (c.args.room - 1)) x i.name now) (sym c.missing_at-lacking.ensures.told) in
     let told : g.F.Reads.held c.each.files ≡ Some m = c.each.invariant.held ∙ h in
     let one = subst (λ (r : Result Progress Stop). GivesOut {X = Unit {0}} new c.expand_file.new.names.items (Err c.in_err-expand_file-in-Some-include_in.field-0.0) r) (sym same) (c.in_err-expand_file-in-Some-include_in.ensures.told m told) in
     rw (p.1, p.2) (include_refused (include_at m c.args.room) c.in-Ok.file (c.as_slice-text.result.now ∷ lines_of c.next_line.new.tokens) c.as_slice-text.result.now (lines_of c.next_line.new.tokens) now c.each.conds _ refl (taken (include_at m c.args.room) c.in-Ok.file c.each.tokens c.next_line.new.tokens _ now c.each.conds _ (c.in_ok-line.ensures.told (include_at m c.args.room) now c.each.conds (sym c.skips.ensures)) (c.each.invariant.reads m h) c.in-Some.line c.as_slice-text.result.now c.in-Some.is c.as_slice-text.ensures.value) i new new c.expand_file.new.names.items c.in_err-expand_file-in-Some-include_in.field-0.0 here one)
@@ -108,7 +109,7 @@ each-preserved g t c = elim c.match-include_in.branch [
         overs = let a = c.each.invariant.overs in let b = causes.over.later in omega (arith, a, b);
         reads = λ m h.
             let told : g.F.Reads.held c.each.files ≡ Some m = c.each.invariant.held ∙ h in
-            let same : include_at m c.args.room i now ≡ file_at m (include_at m (c.args.room - 1)) w.missing_at-lacking.result i.name now = deeper m c.args.room i now w.in_ok-may_include-in-Some-include_in.ensures.some few ∙ ap (λ (x : PrepErr). file_at m (include_at m (c.args.room - 1)) x i.name now) (sym w.missing_at-lacking.ensures.told) in
+            let same : include_at m c.args.room i now ≡ file_at m (include_at m (c.args.room - 1)) w.missing_at-lacking.result i.name now = deeper m c.args.room i now w.in_ok-may_include-in-Some-include_in.ensures.some few ∙ ap (λ (x : PrepFault). file_at m (include_at m (c.args.room - 1)) x i.name now) (sym w.missing_at-lacking.ensures.told) in
             include_next (include_at m c.args.room) c.in-Ok.file (c.as_slice-text.result.now ∷ lines_of c.next_line.new.tokens) c.as_slice-text.result.now (lines_of c.next_line.new.tokens) now c.each.conds _ refl (taken (include_at m c.args.room) c.in-Ok.file c.each.tokens c.next_line.new.tokens _ now c.each.conds _ (c.in_ok-line.ensures.told (include_at m c.args.room) now c.each.conds (sym c.skips.ensures)) (c.each.invariant.reads m h) c.in-Some.line c.as_slice-text.result.now c.in-Some.is c.as_slice-text.ensures.value) i _ here (same ∙ w.in_ok-expand_file-in-Some-include_in.ensures.told m told);
       })
   | goal.in-None+in_ok-step_line-in-None w ↦
@@ -146,7 +147,7 @@ returns-in_err-step_line-in-None-clause-numbers g t c =
 pub expand_file-requires : goal.expand_file-requires
 expand_file-requires g t c =
     let n = length c.each.names.items in
-    let lacking : IsBelow n c.missing_at-lacking.result = c.missing_at-lacking.ensures.numbers n (c.in-Some-include_in.ensures.numbers n (placed_line n c.next_line.new.tokens c.in-Some.line _ c.in-Some.is c.as_slice-text.result.now (c.in_ok-line.ensures.placed n c.each.invariant.left) c.as_slice-text.ensures.value)) in
+    let lacking : IsBelow n (Cause c.missing_at-lacking.result) = c.missing_at-lacking.ensures.numbers n (c.in-Some-include_in.ensures.numbers n (placed_line n c.next_line.new.tokens c.in-Some.line _ c.in-Some.is c.as_slice-text.result.now (c.in_ok-line.ensures.placed n c.each.invariant.left) c.as_slice-text.ensures.value)) in
     search rules
 
 -- how far the reading got
@@ -185,7 +186,7 @@ returns-in_err-expand_file-in-Some-include_in-clause-reached g t c = λ m h.
     let here : include_in c.as_slice-text.result.now c.each.conds ≡ Some i = sym c.include_in.ensures.told ∙ ap included c.in-Some-include_in.is in
     let now : Progress = record { work = c.each.work; names = c.each.names.items } in
     let few : length c.each.names.items < 10000 = subst (λ (ns : List (List ℕ)). length ns < 10000) c.deref.ensures.value c.in_ok-may_include-in-Some-include_in.ensures.few in
-    let same : include_at m c.args.room i now ≡ file_at m (include_at m (c.args.room - 1)) c.missing_at-lacking.result i.name now = deeper m c.args.room i now c.in_ok-may_include-in-Some-include_in.ensures.some few ∙ ap (λ (x : PrepErr). file_at m (include_at m (c.args.room - 1)) x i.name now) (sym c.missing_at-lacking.ensures.told) in
+    let same : include_at m c.args.room i now ≡ file_at m (include_at m (c.args.room - 1)) c.missing_at-lacking.result i.name now = deeper m c.args.room i now c.in_ok-may_include-in-Some-include_in.ensures.some few ∙ ap (λ (x : PrepFault). file_at m (include_at m (c.args.room - 1)) x i.name now) (sym c.missing_at-lacking.ensures.told) in
     let told : g.F.Reads.held c.each.files ≡ Some m = c.each.invariant.held ∙ h in
     let one = subst (λ (r : Result Progress Stop). Reaches {T = Unit {0}} so_far (Err c.in_err-expand_file-in-Some-include_in.field-0.0) c.expand_file.new.names.items r) (sym same) (c.in_err-expand_file-in-Some-include_in.ensures.reached m told) in
     let first = inner_first (include_at m c.args.room) (includes_grow m c.args.room) c.in-Ok.file (c.as_slice-text.result.now ∷ lines_of c.next_line.new.tokens) c.as_slice-text.result.now (lines_of c.next_line.new.tokens) now c.each.conds _ refl (taken (include_at m c.args.room) c.in-Ok.file c.each.tokens c.next_line.new.tokens _ now c.each.conds _ (c.in_ok-line.ensures.told (include_at m c.args.room) now c.each.conds (sym c.skips.ensures)) (c.each.invariant.reads m h) c.in-Some.line c.as_slice-text.result.now c.in-Some.is c.as_slice-text.ensures.value) i here in

@@ -10,7 +10,7 @@ pub returns-in_err-count-in-Some-clause-goes : goal.returns-in_err-count-in-Some
 returns-in_err-count-in-Some-clause-goes c =
     let p = err_from_is_err_and c.from_residual.result c.from_residual.ensures.1 in
     let seen : macro_of c.args.macros.now (names c.args.frames.now.items) c.args.kind.now ≡ Some (macro_in c.in-Some.frame) = ap (λ ns. macro_of c.args.macros.now ns c.args.kind.now) (sym c.requires.inside) ∙ sym c.macro_of.ensures ∙ ap (option_map macro_in) c.in-Some.is in
-    rw (p.1, p.2) (count_refused c.args.macros.now c.args.at.now c.args.frames.now.items c.args.kind.now (macro_in c.in-Some.frame) c.args.out.now c.count.new.self _ c.in_err-count-in-Some.field-0.0 seen c.in_err-count-in-Some.ensures)
+    rw (p.1, p.2) (count_refused c.args.macros.now c.args.at.now c.args.frames.now.items c.args.kind.now (macro_in c.in-Some.frame) c.args.out.now c.in_err-count-in-Some.field-0.0 seen c.in_err-count-in-Some.ensures)
 
 pub returns-in_ok-push-in-Some-clause-goes : goal.returns-in_ok-push-in-Some-clause-goes
 returns-in_ok-push-in-Some-clause-goes c =

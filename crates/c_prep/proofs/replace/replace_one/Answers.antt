@@ -11,7 +11,7 @@ pub returns-in_err-place : goal.returns-in_err-place
 returns-in_err-place c =
     let p = err_from_is_err_and c.from_residual.result c.from_residual.ensures.1 in
     let first : replaced_at c.args.macros.now c.args.token.now c.args.out.now ≡ unwound_after c.args.macros.now c.args.token.now c.new-frames.result.items (at_place c.args.macros.now c.args.token.now (names c.new-frames.result.items) c.args.token.now.kind c.args.out.now) = rw c.new-frames.ensures.items (no_frames c.args.macros.now c.args.token.now (replaced_at c.args.macros.now c.args.token.now c.args.out.now)) in
-    rw (p.1, p.2) (refused _ _ _ c.place.new.out c.in_err-place.field-0.0 first c.in_err-place.ensures.goes)
+    rw (p.1, p.2) (refused _ _ c.in_err-place.field-0.0 first c.in_err-place.ensures.goes)
 
 pub each-init : goal.each-init
 each-init c =
@@ -35,7 +35,7 @@ returns-in_err-place-2 c =
     let g : Frame = record { name = c.in-Some.frame.name; rest = c.in-Some-split_first.after } in
     let popped : c.each.frames.items ≡ c.pop.new.self.items ++ c.in-Some.frame ∷ [] = c.in-Some.ensures.items in
     let step = next_of_top c.args.macros.now c.args.token.now c.pop.new.self.items c.in-Some.frame g c.in-Some-split_first.next.now c.each.out c.in-Some-split_first.ensures.cases.0 refl in
-    rw (p.1, p.2) (refused _ _ _ c.place-in-Some-split_first.new.out c.in_err-place-2.field-0.0
+    rw (p.1, p.2) (refused _ _ c.in_err-place-2.field-0.0
     (c.each.invariant.goes ∙ ap (λ (fs : List Frame). unwound c.args.macros.now c.args.token.now [] fs c.each.out) popped ∙ step ∙ ap (λ (fs : List Frame). unwound_after c.args.macros.now c.args.token.now fs (at_place c.args.macros.now c.args.token.now (names fs) c.in-Some-split_first.next.now c.each.out)) (sym c.in_ok-push.ensures.items))
     c.in_err-place-2.ensures.goes)
 

@@ -5,4 +5,3 @@ pub mod Rules
 pub mod Lowest
 pub mod Nodes
 pub mod Constants
-pub mod Gives

@@ -1,9 +1,9 @@
 // Why a node has no type.
 ghost use Rattle.std.specs.Prelude.{◌≡◌, Bool, Ok, Err, if◌then◌else◌};
 ghost use Rattle.c_rules.specs.Rules.{number_of};
-ghost use Rattle.c_rules.specs.declared.code.RuleErr.TheVariants as errors;
+ghost use Rattle.kit_base.specs.declared.failure.Failure.TheVariants as failures;
 
-use kit_base::Memory;
+use kit_base::Failure;
 use thiserror::Error;
 
 /// The rules that a checked unit keeps, by the numbers that a report gives: an unknown name; a name declared twice; operands that
@@ -37,27 +37,13 @@ pub enum Code {
 }
 
 /// Why a node has no type: the lowest code that is broken there, or want of memory.
-#[derive(Clone, Copy, Debug, PartialEq, Eq, Error)]
-pub enum RuleErr {
-    #[error("{0}")]
-    Broken(Code),
-    #[error("out of memory")]
-    Memory,
-}
+pub type RuleErr = Failure<Code>;
 
-impl From<Memory> for RuleErr {
-    ghost from_gives = { λ _ e. e ≡ errors.Memory };
+impl From<Code> for Failure<Code> {
+    ghost from_gives = { λ code e. e ≡ failures.Cause code };
 
-    fn from(_: Memory) -> RuleErr {
-        RuleErr::Memory
-    }
-}
-
-impl From<Code> for RuleErr {
-    ghost from_gives = { λ code e. e ≡ errors.Broken code };
-
-    fn from(code: Code) -> RuleErr {
-        RuleErr::Broken(code)
+    fn from(code: Code) -> Failure<Code> {
+        Failure::Cause(code)
     }
 }
 

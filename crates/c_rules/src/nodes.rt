@@ -3,7 +3,7 @@ ghost use Rattle.std.specs.Prelude.{◌≡◌, IfOk, map, option_map};
 ghost use Rattle.c_tree.specs.declared.operator.UnOp.TheVariants as operators;
 ghost use Rattle.c_types.specs.Types.{IntY, BoolY};
 ghost use Rattle.c_types.specs.View.{ctype, layout};
-ghost use Rattle.c_rules.specs.Gives.{Gives};
+ghost use Rattle.kit_base.specs.Gives.{Gives};
 ghost use Rattle.c_rules.specs.Kinds.{target};
 ghost use Rattle.c_rules.specs.Rules.{judged};
 ghost use Rattle.c_rules.specs.Nodes.{given, unary_rule, are_numbers, are_comparable, moved, apart, sum_gives, difference_gives, binary_gives};
@@ -47,7 +47,7 @@ pub fn unary_type(alloc: Global, op: UnOp, ty: &CType, place: bool) -> Result<CT
         }
         UnOp::Deref => match target(ty) {
             Some(to) => Ok(copy_type(to)?),
-            None => Err(RuleErr::Broken(Code::WrongType)),
+            None => Err(RuleErr::Cause(Code::WrongType)),
         },
         UnOp::Address => address_type(alloc, ty, place),
     }
@@ -207,7 +207,7 @@ pub fn binary_type(
             demand(Code::InfiniteType, count_is_known(whole, op, a))?;
             Ok(ty)
         }
-        None => Err(RuleErr::Broken(Code::WrongType)),
+        None => Err(RuleErr::Cause(Code::WrongType)),
     }
 }
 
@@ -217,14 +217,14 @@ pub fn index_type(whole: &[bool], a: &CType, b: &CType) -> Result<CType, RuleErr
     ensures judged { Gives ctype result (judged (index_rule whole.now (ctype a.now) (ctype b.now))) }
 {
     if !is_number(b) {
-        return Err(RuleErr::Broken(Code::WrongType));
+        return Err(RuleErr::Cause(Code::WrongType));
     }
     match target(a) {
         Some(to) => {
             demand(Code::InfiniteType, is_whole(whole, to))?;
             Ok(copy_type(to)?)
         }
-        None => Err(RuleErr::Broken(Code::WrongType)),
+        None => Err(RuleErr::Cause(Code::WrongType)),
     }
 }
 

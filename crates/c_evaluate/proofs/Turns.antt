@@ -7,9 +7,9 @@ use Rattle.obj_mem.specs.Queries.{further}
 use Rattle.c_meaning.specs.declared.end.End.{End}
 use Rattle.c_meaning.specs.declared.end.End.TheVariants.{OutOfBound}
 use Rattle.c_meaning.specs.Cells.{cell_set}
-use Rattle.c_evaluate.specs.declared.stop.Stop.{Stop}
-use Rattle.c_evaluate.specs.declared.stop.Stop.TheVariants.{NoMemory, Ends}
-use Rattle.c_evaluate.specs.inner.Results.{Fails}
+use Rattle.kit_base.specs.declared.failure.Failure.TheVariants.{Memory, Cause}
+use Rattle.kit_base.specs.Gives.{Fails}
+use Rattle.c_evaluate.specs.inner.Results.{Stop}
 use Rattle.c_evaluate.specs.inner.Storing.{Kept, at_span, then_ok, next_in, cells_in}
 
 abbrev set_in : Span → Option Cell → Cell → Store → Kept
@@ -29,8 +29,8 @@ less_one n = omega arith
 module _ (span : Span) (from : Option Cell) (to : Cell) (u : Store) where
   pub turn_failed : (n left : ℕ) (e : Stop) → 0 < left → Fails e (set_in span from to u) → Fails e (cells_in span n left from to u)
   turn_failed n zero e h f = absurd (omega (arith, h))
-  turn_failed n (suc left) NoMemory h f = tt
-  turn_failed n (suc left) (Ends end) h f = err_on (at_span span (cell_set from to u.objects)) (λ os. with_objects os u) _ end f
+  turn_failed n (suc left) Memory h f = tt
+  turn_failed n (suc left) (Cause end) h f = err_on (at_span span (cell_set from to u.objects)) (λ os. with_objects os u) _ end f
 
   -- the turn with so many cells left behind it
   on_turn : (n left : ℕ) (v : Store) → set_in span from to u ≡ Ok v → cells_in span n (suc left) from to u ≡ next_in left n v (λ m. cells_in span m left (option_map (λ p. further p 1) from) (further to 1) v)

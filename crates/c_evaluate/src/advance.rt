@@ -45,15 +45,15 @@ impl<'a> Machine<'a> {
                 exec(&self.setting, n, r, a, &mut self.stack, &mut self.store)
             }
             Focus::Came(v) => match pop(&mut self.stack) {
-                None => Err(Stop::Ends(End::Halted)),
+                None => Err(Stop::Cause(End::Halted)),
                 Some(f) => give(&self.setting, f, v, &mut self.stack, &mut self.store),
             },
             Focus::Left(h) => match pop(&mut self.stack) {
-                None => Err(Stop::Ends(End::Stray(nowhere()))),
+                None => Err(Stop::Cause(End::Stray(nowhere()))),
                 Some(f) => leave(&self.setting, f, h, &mut self.stack, &mut self.store),
             },
             Focus::Full => match pop(&mut self.stack) {
-                None => Err(Stop::Ends(End::Stray(nowhere()))),
+                None => Err(Stop::Cause(End::Stray(nowhere()))),
                 Some(f) => fill_up(&self.setting, f, &mut self.stack, &mut self.store),
             },
             Focus::Made(_, _) | Focus::Over(_) => Ok(self.focus),
@@ -70,11 +70,11 @@ impl<'a> Machine<'a> {
                 self.focus = x;
                 Ok(())
             }
-            Err(Stop::Ends(end)) => {
+            Err(Stop::Cause(end)) => {
                 self.focus = Focus::Over(end);
                 Ok(())
             }
-            Err(Stop::NoMemory) => Err(Memory),
+            Err(Stop::Memory) => Err(Memory),
         }
     }
 

@@ -2,7 +2,7 @@
 ghost use Rattle.std.specs.Prelude.{◌≡◌};
 ghost use Rattle.c_types.specs.View.{ctype, texpr};
 ghost use Rattle.c_meaning.specs.Expressions.{step_operator, gives_old};
-ghost use Rattle.c_evaluate.specs.inner.Results.{Gives};
+ghost use Rattle.kit_base.specs.Gives.{Gives};
 ghost use Rattle.c_evaluate.specs.inner.SettingView.{setting_of};
 ghost use Rattle.c_evaluate.specs.inner.StoreView.{store_of};
 ghost use Rattle.c_evaluate.specs.inner.Storing.{operated_in, assigned_in, changed_in, stepped_in, second_assigned_in, member_in};

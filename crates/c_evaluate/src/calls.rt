@@ -4,7 +4,8 @@ ghost use Rattle.c_types.specs.View.{ctype, function, texpr, texprs};
 ghost use Rattle.obj_mem.specs.Stores.{has_room};
 ghost use Rattle.c_meaning.specs.Expressions.{result_place, with_result, params_of, all_released};
 ghost use Rattle.c_evaluate.specs.inner.Machine.{FrameT};
-ghost use Rattle.c_evaluate.specs.inner.Results.{Gives, Leads};
+ghost use Rattle.kit_base.specs.Gives.{Gives};
+ghost use Rattle.c_evaluate.specs.inner.Results.{Leads};
 ghost use Rattle.c_evaluate.specs.inner.FocusView.{at, stack_of};
 ghost use Rattle.c_evaluate.specs.inner.SettingView.{setting_of};
 ghost use Rattle.c_evaluate.specs.inner.StoreView.{store_of, caller};
@@ -74,7 +75,7 @@ fn params<'a>(
     let mut cells = values;
     'params: while let Some((ty, later)) = next(types) {
         let Some((c, after)) = next(cells) else {
-            return Err(Stop::Ends(End::Stray(nowhere())));
+            return Err(Stop::Cause(End::Stray(nowhere())));
         };
         let place = located(nowhere(), local_cell(&store.locals, k))?;
         let span = nowhere();
@@ -87,7 +88,7 @@ fn params<'a>(
     if cells.is_empty() {
         Ok(())
     } else {
-        Err(Stop::Ends(End::Stray(nowhere())))
+        Err(Stop::Cause(End::Stray(nowhere())))
     }
 }
 
@@ -133,7 +134,7 @@ fn enter_in<'a>(
         (stack_of stack.old.items) (store_of store.old))) }
 {
     if !s.has_room(of.number, store.used) {
-        return Err(Stop::Ends(End::Deep(of.span)));
+        return Err(Stop::Cause(End::Deep(of.span)));
     }
     body(s, m, of, values, s.frame(of.number), stack, store)
 }
@@ -152,7 +153,7 @@ fn enter<'a>(
         (stack_of stack.old.items) (store_of store.old)) }
 {
     if n == 0 {
-        return Err(Stop::Ends(End::OutOfBound));
+        return Err(Stop::Cause(End::OutOfBound));
     }
     enter_in(s, n - 1, of, values, stack, store)
 }
@@ -182,7 +183,7 @@ pub(crate) fn call<'a>(
         (call (setting_of s.now) n f values.items span (stack_of stack.old.items) (store_of store.old)) }
 {
     let Some(g) = s.function(f) else {
-        return Err(Stop::Ends(End::Stray(span)));
+        return Err(Stop::Cause(End::Stray(span)));
     };
     let r = result_place(s, &g.result, store)?;
     let of = Callee {
@@ -224,7 +225,7 @@ fn argument<'a>(s: &Setting<'a>, f: u32, k: usize, x: &TExpr, c: Cell) -> Result
     ensures { Gives (λ z. z) result (argument_in (slice_get (params_of (slice_get (setting_of s.now).functions f)) k) (texpr x.now) c) }
 {
     match s.parameter(f, k) {
-        None => Err(Stop::Ends(End::Stray(x.span))),
+        None => Err(Stop::Cause(End::Stray(x.span))),
         Some(ty) => located(x.span, converted(ty, c)),
     }
 }
@@ -351,6 +352,6 @@ pub(crate) fn back_from<'a>(
             released_args(s, of.function, of.arguments, store);
             Ok(Focus::Came(Came::Value(z)))
         }
-        How::Break | How::Continue => Err(Stop::Ends(End::Stray(of.span))),
+        How::Break | How::Continue => Err(Stop::Cause(End::Stray(of.span))),
     }
 }

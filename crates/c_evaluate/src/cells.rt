@@ -5,7 +5,7 @@ ghost use Rattle.obj_mem.specs.View.{objects};
 ghost use Rattle.obj_mem.specs.Stores.{with_objects};
 ghost use Rattle.obj_mem.specs.Queries.{further};
 ghost use Rattle.c_meaning.specs.Cells.{source, cell_set};
-ghost use Rattle.c_evaluate.specs.inner.Results.{Fails, Gives};
+ghost use Rattle.kit_base.specs.Gives.{Fails, Gives};
 ghost use Rattle.c_evaluate.specs.inner.SettingView.{setting_of};
 ghost use Rattle.c_evaluate.specs.inner.StoreView.{store_of};
 ghost use Rattle.c_evaluate.specs.inner.Storing.{at_span, then_ok, cells_in, structure_in, fetched_in, stored_in};
@@ -34,8 +34,8 @@ pub(crate) fn located<T>(span: Span, answer: Result<T, Refusal>) -> Result<T, St
 {
     match answer {
         Ok(x) => Ok(x),
-        Err(Refusal::Strays) => Err(Stop::Ends(End::Stray(span))),
-        Err(Refusal::Faults(k)) => Err(Stop::Ends(End::Fault(k))),
+        Err(Refusal::Strays) => Err(Stop::Cause(End::Stray(span))),
+        Err(Refusal::Faults(k)) => Err(Stop::Cause(End::Fault(k))),
     }
 }
 
@@ -88,7 +88,7 @@ fn turn<'a>(
         return Ok(n);
     }
     if n == 0 {
-        return Err(Stop::Ends(End::OutOfBound));
+        return Err(Stop::Cause(End::OutOfBound));
     }
     Ok(n - 1)
 }
@@ -148,7 +148,7 @@ pub(crate) fn fetched<'a>(
     ensures { Gives (λ c. (c, store_of store.new)) result (fetched_in (setting_of s.now) n (ctype ty.now) span p (store_of store.old)) }
 {
     match ty {
-        CType::Void => Err(Stop::Ends(End::Stray(span))),
+        CType::Void => Err(Stop::Cause(End::Stray(span))),
         CType::Array(_, _) => Ok(p),
         CType::Struct(_) => structure(s, span, n, s.words(ty), p, store),
         CType::Union(_) => structure(s, span, n, s.words(ty), p, store),

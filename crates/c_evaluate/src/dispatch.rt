@@ -2,7 +2,7 @@
 ghost use Rattle.std.specs.Prelude.{◌≡◌, Err};
 ghost use Rattle.c_meaning.specs.declared.end.End.TheVariants.{Stray};
 ghost use Rattle.c_meaning.specs.Outcomes.{nowhere};
-ghost use Rattle.c_evaluate.specs.declared.stop.Stop.TheVariants.{Ends};
+ghost use Rattle.kit_base.specs.declared.failure.Failure.TheVariants.{Cause};
 ghost use Rattle.c_evaluate.specs.inner.Results.{Leads};
 ghost use Rattle.c_evaluate.specs.inner.FocusView.{at, frame, stack_of, stmt_frame};
 ghost use Rattle.c_evaluate.specs.inner.SettingView.{setting_of};
@@ -27,9 +27,9 @@ use c_types::{CType, TStmt};
 use obj_mem::Cell;
 
 fn strays<'a>() -> Result<Focus<'a>, Stop>
-    ensures { result ≡ Err (Ends (Stray nowhere)) }
+    ensures { result ≡ Err (Cause (Stray nowhere)) }
 {
-    Err(Stop::Ends(End::Stray(nowhere())))
+    Err(Stop::Cause(End::Stray(nowhere())))
 }
 
 /// A value of a statement came.

@@ -52,7 +52,7 @@ fn input<'a>(port: u32, store: &mut Store<'a>) -> Result<Focus<'a>, Stop>
     ensures { (k : List FrameT) → Leads (λ f. at f k (store_of store.new)) result (input port (store_of store.old).answers k (store_of store.old)) }
 {
     match next(store.answers) {
-        None => Err(Stop::Ends(End::Starved)),
+        None => Err(Stop::Cause(End::Starved)),
         Some((x, rest)) => {
             let word = *x;
             store.answers = rest;
@@ -103,7 +103,7 @@ pub(crate) fn eval<'a>(
         TKind::In(port) => input(*port, store),
         TKind::Out(_, x) => operand(s, n, e, x, stack, store),
         TKind::Wait => Ok(Focus::Made(Event::Wait, Came::Nothing)),
-        TKind::Halt => Err(Stop::Ends(End::Halted)),
+        TKind::Halt => Err(Stop::Cause(End::Halted)),
         TKind::Card => Ok(Focus::Came(Came::Value(s.card_at()))),
     }
 }

@@ -100,8 +100,8 @@ fn first_focus<'a>(
     push(stack, Frame::Main(n, main))?;
     match rest(n, Cell::Unwritten, inits, stack) {
         Ok(x) => Ok(x),
-        Err(Stop::Ends(end)) => Ok(Focus::Over(end)),
-        Err(Stop::NoMemory) => Err(Memory),
+        Err(Stop::Cause(end)) => Ok(Focus::Over(end)),
+        Err(Stop::Memory) => Err(Memory),
     }
 }
 

@@ -128,7 +128,7 @@ fn member_of<'a>(
             let c = member(ty, span, further(p, offset), store)?;
             Ok(Focus::Came(Came::Value(c)))
         }
-        Came::Nothing => Err(Stop::Ends(End::Stray(x.span))),
+        Came::Nothing => Err(Stop::Cause(End::Stray(x.span))),
     }
 }
 

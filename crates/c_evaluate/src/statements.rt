@@ -3,7 +3,8 @@ ghost use Rattle.std.specs.Prelude.{◌≡◌, map, option_map};
 ghost use Rattle.c_types.specs.View.{ctype, texpr, tstmt, tarm, tarms};
 ghost use Rattle.obj_mem.specs.Stores as stores;
 ghost use Rattle.c_meaning.specs.Statements.{arms_before_case, arms_before_default, arms_before};
-ghost use Rattle.c_evaluate.specs.inner.Results.{Gives, Leads};
+ghost use Rattle.kit_base.specs.Gives.{Gives};
+ghost use Rattle.c_evaluate.specs.inner.Results.{Leads};
 ghost use Rattle.c_evaluate.specs.inner.FocusView.{at, stack_of};
 ghost use Rattle.c_evaluate.specs.inner.SettingView.{setting_of};
 ghost use Rattle.c_evaluate.specs.inner.StoreView.{store_of};
@@ -111,7 +112,7 @@ fn again<'a>(
         (again n r (tstmt a.now) (option_map (λ x. texpr x.now) test.entry) (tstmt body.now) (stack_of stack.old.items) u) }
 {
     if n == 0 {
-        return Err(Stop::Ends(End::OutOfBound));
+        return Err(Stop::Cause(End::OutOfBound));
     }
     turn(n - 1, r, a, test, body, stack)
 }
@@ -129,7 +130,7 @@ fn do_again<'a>(
         (do_again n r (tstmt a.now) (tstmt body.now) (stack_of stack.old.items) u) }
 {
     if n == 0 {
-        return Err(Stop::Ends(End::OutOfBound));
+        return Err(Stop::Cause(End::OutOfBound));
     }
     push(stack, Frame::InStmt(Stage::Body, n - 1, r, a))?;
     Ok(Focus::Do(n - 1, r, body))
@@ -299,13 +300,13 @@ pub(crate) fn value_came<'a>(
             switches(s, of.bound, of.result, &parts, v, stack, store)
         }
         TStmt::Return(Some(x)) => returns(s, of.bound, of.result, x, v, stack, store),
-        TStmt::For(_, None, None, _, _) | TStmt::For(_, Some(_), None, _, _) => Err(Stop::Ends(
+        TStmt::For(_, None, None, _, _) | TStmt::For(_, Some(_), None, _, _) => Err(Stop::Cause(
             End::Stray(nowhere()),
         )),
-        TStmt::Return(None) | TStmt::Block(_, _) | TStmt::Empty | TStmt::Vars(_) => Err(Stop::Ends(
+        TStmt::Return(None) | TStmt::Block(_, _) | TStmt::Empty | TStmt::Vars(_) => Err(Stop::Cause(
             End::Stray(nowhere()),
         )),
-        TStmt::Break | TStmt::Continue => Err(Stop::Ends(End::Stray(nowhere()))),
+        TStmt::Break | TStmt::Continue => Err(Stop::Cause(End::Stray(nowhere()))),
     }
 }
 
@@ -361,16 +362,18 @@ pub(crate) fn step_came<'a>(
             };
             stepped(s, of, &turn, y, v, stack, store)
         }
-        TStmt::For(_, None, _, None, _) | TStmt::For(_, Some(_), _, None, _) => Err(Stop::Ends(
+        TStmt::For(_, None, _, None, _) | TStmt::For(_, Some(_), _, None, _) => Err(Stop::Cause(
             End::Stray(nowhere()),
         )),
         TStmt::Block(_, _) | TStmt::Empty | TStmt::Vars(_) | TStmt::Do(_) | TStmt::If(_, _, None) =>
-            Err(Stop::Ends(End::Stray(nowhere()))),
+            Err(Stop::Cause(End::Stray(nowhere()))),
         TStmt::If(_, _, Some(_))
         | TStmt::While(_, _)
         | TStmt::DoWhile(_, _)
-        | TStmt::Switch(_, _, _) => Err(Stop::Ends(End::Stray(nowhere()))),
-        TStmt::Return(_) | TStmt::Break | TStmt::Continue => Err(Stop::Ends(End::Stray(nowhere()))),
+        | TStmt::Switch(_, _, _) => Err(Stop::Cause(End::Stray(nowhere()))),
+        TStmt::Return(_) | TStmt::Break | TStmt::Continue => Err(Stop::Cause(End::Stray(
+            nowhere(),
+        ))),
     }
 }
 
@@ -432,7 +435,7 @@ fn while_again<'a>(
         (again_on (setting_of s.now) n r (tstmt a.now) (texpr x.now) (stack_of stack.old.items) (store_of store.old)) }
 {
     if n == 0 {
-        return Err(Stop::Ends(End::OutOfBound));
+        return Err(Stop::Cause(End::OutOfBound));
     }
     asked(s, n - 1, r, a, x, stack, store)
 }

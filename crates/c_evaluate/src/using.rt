@@ -1,7 +1,7 @@
 // What came of an expression, used.
 ghost use Rattle.std.specs.Prelude.{◌≡◌};
 ghost use Rattle.c_types.specs.View.{texpr};
-ghost use Rattle.c_evaluate.specs.inner.Results.{Gives};
+ghost use Rattle.kit_base.specs.Gives.{Gives};
 ghost use Rattle.c_evaluate.specs.inner.SettingView.{setting_of};
 ghost use Rattle.c_evaluate.specs.inner.StoreView.{store_of};
 ghost use Rattle.c_evaluate.specs.inner.Storing.{taken, tested_in, dropped_in, placed_in};
@@ -31,7 +31,7 @@ pub(crate) fn taken<'a>(
     match v {
         Came::Value(c) => Ok(c),
         Came::Place(p) => fetched(s, n, &x.ty, x.span, p, store),
-        Came::Nothing => Err(Stop::Ends(End::Stray(x.span))),
+        Came::Nothing => Err(Stop::Cause(End::Stray(x.span))),
     }
 }
 
@@ -82,6 +82,6 @@ pub(crate) fn placed(span: Span, v: Came) -> Result<Cell, Stop>
 {
     match v {
         Came::Place(p) => Ok(p),
-        Came::Value(_) | Came::Nothing => Err(Stop::Ends(End::Stray(span))),
+        Came::Value(_) | Came::Nothing => Err(Stop::Cause(End::Stray(span))),
     }
 }

@@ -11,9 +11,9 @@ use Rattle.obj_mem.specs.Stores.{has_room}
 use Rattle.mid_code.specs.States.{temporaries, over_worlds, sizes_of, spent, function_at, if_room, begun, back}
 use Rattle.mid_evaluate.specs.declared.flow.Flow.{Flow}
 use Rattle.mid_evaluate.specs.declared.flow.Flow.TheVariants as flow
-use Rattle.mid_evaluate.specs.declared.stop.Stop as stop
-use Rattle.mid_evaluate.specs.declared.stop.Stop.TheVariants.{NoMemory, Ends}
+use Rattle.kit_base.specs.declared.failure.Failure.TheVariants.{Memory, Cause}
 use Rattle.mid_evaluate.specs.View.{CallerT, ending}
+use Rattle.mid_evaluate.specs.inner.Answers as answers
 use Rattle.mid_evaluate.specs.inner.Answers.{S, went, Leads, Stops, StopsIn}
 use Rattle.mid_evaluate.specs.inner.Once.{performed, weight_of, call_parts, op_once, ran, taken, choose_by, turn_left, looped, node_once, caller_of, returned}
 
@@ -136,16 +136,16 @@ module _ (x : CodeT ℕ) (fs : List ℕ) (n : ℕ) where
   pub list_out : (ys rest : List (NodeT ℕ)) (y : NodeT ℕ) (s : S) (due r : Res S) → (then_next r (ran x fs n (joined (listed rest))) ≡ r) → ys ≡ y ∷ rest → ran x fs n (joined (listed ys)) s ≡ due → node_once x fs n y s ≡ r → due ≡ r
   list_out ys rest y s due r same l e h = sym (sym (ap (λ z. ran x fs n (joined (listed z)) s) l) ∙ e) ∙ node_then y (joined (listed rest)) s ∙ ap (λ z. then_next z (ran x fs n (joined (listed rest)))) h ∙ same
 
-  pub list_stops : (ys rest : List (NodeT ℕ)) (y : NodeT ℕ) (s t : S) (due : Res S) (e : stop.Stop) → ys ≡ y ∷ rest → ran x fs n (joined (listed ys)) s ≡ due → Stops e t (node_once x fs n y s) → Stops e t due
-  list_stops ys rest y s t due NoMemory l e h = h
-  list_stops ys rest y s t due (Ends end) l e h = list_out ys rest y s due (Over (ending end) t) refl l e h
+  pub list_stops : (ys rest : List (NodeT ℕ)) (y : NodeT ℕ) (s t : S) (due : Res S) (e : answers.Stop) → ys ≡ y ∷ rest → ran x fs n (joined (listed ys)) s ≡ due → Stops e t (node_once x fs n y s) → Stops e t due
+  list_stops ys rest y s t due Memory l e h = h
+  list_stops ys rest y s t due (Cause end) l e h = list_out ys rest y s due (Over (ending end) t) refl l e h
 
   pub list_end : (ys : List (NodeT ℕ)) (s : S) (due : Res S) → ys ≡ [] → ran x fs n (joined (listed ys)) s ≡ due → due ≡ Next s
   list_end ys s due l e = sym e ∙ ap (λ z. ran x fs n (joined (listed z)) s) l
 
-  pub turn_stops : (b : NodesT ℕ) (s t : S) (due : Res S) (e : stop.Stop) → looped x fs n b s ≡ due → Stops e t (ran x fs n b (spent 8 s)) → Stops e t due
-  turn_stops b s t due NoMemory e h = h
-  turn_stops b s t due (Ends end) e h = turn_over b s t (ending end) due e h
+  pub turn_stops : (b : NodesT ℕ) (s t : S) (due : Res S) (e : answers.Stop) → looped x fs n b s ≡ due → Stops e t (ran x fs n b (spent 8 s)) → Stops e t due
+  turn_stops b s t due Memory e h = h
+  turn_stops b s t due (Cause end) e h = turn_over b s t (ending end) due e h
 
 -- ---- calls
 
@@ -178,15 +178,15 @@ module _ (x : CodeT ℕ) (fs : List ℕ) where
   call_ends zero m t f args s v end z e = absurd (omega (arith, z))
   call_ends (suc n) m t f args s v end z e = ap (λ d. did d (λ v. call_done (λ v. record v { given = Unwritten }) (back temporaries t s) (ran x fs n (function_at x f).body v))) e
 
-  pub call_shut : (n m : ℕ) (t : Option ℕ) (f : ℕ) (args : List ℕ) (s v : S) (e : stop.Stop) → m + 1 ≡ n → StopsIn e v (entering f args s) → Stops e v (calling n t f args s)
-  call_shut n m t f args s v NoMemory z h = h
-  call_shut n m t f args s v (Ends end) z h = call_ends n m t f args s v (ending end) z h
+  pub call_shut : (n m : ℕ) (t : Option ℕ) (f : ℕ) (args : List ℕ) (s v : S) (e : answers.Stop) → m + 1 ≡ n → StopsIn e v (entering f args s) → Stops e v (calling n t f args s)
+  call_shut n m t f args s v Memory z h = h
+  call_shut n m t f args s v (Cause end) z h = call_ends n m t f args s v (ending end) z h
 
-  pub call_stops : (n m : ℕ) (t : Option ℕ) (f : ℕ) (args : List ℕ) (s v w : S) (b : NodesT ℕ) (e : stop.Stop) → m + 1 ≡ n → entering f args s ≡ On v → b ≡ (function_at x f).body → Stops e w (ran x fs m b v) → Stops e w (calling n t f args s)
-  call_stops n m t f args s v w b NoMemory z o c h = h
-  call_stops n m t f args s v w b (Ends end) z o c h = call_on n m t f args s v (Over (ending end) w) z o (sym (ap (λ y. ran x fs m y v) c) ∙ h)
+  pub call_stops : (n m : ℕ) (t : Option ℕ) (f : ℕ) (args : List ℕ) (s v w : S) (b : NodesT ℕ) (e : answers.Stop) → m + 1 ≡ n → entering f args s ≡ On v → b ≡ (function_at x f).body → Stops e w (ran x fs m b v) → Stops e w (calling n t f args s)
+  call_stops n m t f args s v w b Memory z o c h = h
+  call_stops n m t f args s v w b (Cause end) z o c h = call_on n m t f args s v (Over (ending end) w) z o (sym (ap (λ y. ran x fs m y v) c) ∙ h)
 
-  pub call_leads : (n m : ℕ) (t : Option ℕ) (f : ℕ) (args : List ℕ) (s v w u : S) (b : NodesT ℕ) (o : Flow) (kept : CallerT) (r : Result Flow stop.Stop) → m + 1 ≡ n → entering f args s ≡ On v → b ≡ (function_at x f).body → ran x fs m b v ≡ went o w → kept ≡ caller_of s → Leads r u (returned kept t (went o w)) → Leads r u (calling n t f args s)
+  pub call_leads : (n m : ℕ) (t : Option ℕ) (f : ℕ) (args : List ℕ) (s v w u : S) (b : NodesT ℕ) (o : Flow) (kept : CallerT) (r : Result Flow answers.Stop) → m + 1 ≡ n → entering f args s ≡ On v → b ≡ (function_at x f).body → ran x fs m b v ≡ went o w → kept ≡ caller_of s → Leads r u (returned kept t (went o w)) → Leads r u (calling n t f args s)
   call_leads n m t f args s v w u b o kept r z e c h k l =
       subst (λ d. Leads r u d) (ap (λ z. returned z t (went o w)) k ∙ sym (call_on n m t f args s v (went o w) z e (sym (ap (λ y. ran x fs m y v) c) ∙ h))) l
 

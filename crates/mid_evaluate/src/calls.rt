@@ -142,7 +142,7 @@ pub(crate) fn enter<'a>(
         (begun temporaries (sizes s.now) (function_at (code_of s.now) f).params f args.now (state_of m.old))) }
 {
     if !s.has_room(f, m.world.store.used) {
-        return Err(Stop::Ends(Ending::Deep));
+        return Err(Stop::Cause(Ending::Deep));
     }
     let kept = begin(s, m, f, args)?;
     Ok(kept)
@@ -196,7 +196,7 @@ pub(crate) fn leave<'a>(
             back(m, c, t)?;
             Ok(Flow::Next)
         }
-        Flow::Leaves(_) => Err(Stop::Ends(Ending::Stray)),
-        Flow::Repeats(_) => Err(Stop::Ends(Ending::Stray)),
+        Flow::Leaves(_) => Err(Stop::Cause(Ending::Stray)),
+        Flow::Repeats(_) => Err(Stop::Cause(Ending::Stray)),
     }
 }

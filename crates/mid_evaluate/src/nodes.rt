@@ -42,7 +42,7 @@ fn leave_block<'a>(m: &State<'a>, flow: Flow) -> Result<Flow, Stop>
         }
         Flow::Repeats(k) => {
             if k == 0 {
-                Err(Stop::Ends(Ending::Stray))
+                Err(Stop::Cause(Ending::Stray))
             } else {
                 Ok(Flow::Repeats(k - 1))
             }
@@ -88,7 +88,7 @@ pub(crate) fn call<'a>(
     ensures { Leads result (state_of m.new) (called (lang s.now) n (below (lang s.now) n) t f args.now (state_of m.old)) }
 {
     if n == 0 {
-        return Err(Stop::Ends(Ending::OutOfBound));
+        return Err(Stop::Cause(Ending::OutOfBound));
     }
     let caller = enter(s, m, f, args)?;
     let flow = run_nodes(s, m, n - 1, s.body(f))?;
@@ -114,7 +114,7 @@ fn run_loop<'a>(
             None => {}
         }
         if left == 0 {
-            return Err(Stop::Ends(Ending::OutOfBound));
+            return Err(Stop::Cause(Ending::OutOfBound));
         }
         left -= 1;
     }
@@ -134,7 +134,7 @@ fn run_choice<'a>(
     let way = taken(cell(&m.cells, p));
     spend(m, 8)?;
     match way {
-        None => Err(Stop::Ends(Ending::Stray)),
+        None => Err(Stop::Cause(Ending::Stray)),
         Some(true) => run_nodes(s, m, n, a),
         Some(false) => run_nodes(s, m, n, b),
     }

@@ -36,8 +36,8 @@ fn put_answer<'a>(m: &mut State<'a>, t: u32, answer: Result<Cell, Refusal>) -> R
             put_in(m, t, c)?;
             Ok(())
         }
-        Err(Refusal::Strays) => Err(Stop::Ends(Ending::Stray)),
-        Err(Refusal::Faults(number)) => Err(Stop::Ends(Ending::Fault(number))),
+        Err(Refusal::Strays) => Err(Stop::Cause(Ending::Stray)),
+        Err(Refusal::Faults(number)) => Err(Stop::Cause(Ending::Fault(number))),
     }
 }
 
@@ -170,8 +170,8 @@ fn store<'a>(m: &mut State<'a>, p: Cell, c: Cell) -> Result<(), Stop>
 {
     match write(&mut m.world.store.objects, p, c) {
         Ok(()) => Ok(()),
-        Err(Refusal::Strays) => Err(Stop::Ends(Ending::Stray)),
-        Err(Refusal::Faults(number)) => Err(Stop::Ends(Ending::Fault(number))),
+        Err(Refusal::Strays) => Err(Stop::Cause(Ending::Stray)),
+        Err(Refusal::Faults(number)) => Err(Stop::Cause(Ending::Fault(number))),
     }
 }
 
@@ -181,7 +181,7 @@ fn input<'a>(m: &mut State<'a>, t: u32, port: u32) -> Result<(), Stop>
 {
     let answers = m.world.store.answers;
     match answers.split_first() {
-        None => Err(Stop::Ends(Ending::Starved)),
+        None => Err(Stop::Cause(Ending::Starved)),
         Some((word, rest)) => {
             m.world.store.answers = rest;
             happen(&mut m.world, Event::In(port, *word))?;
@@ -199,8 +199,8 @@ fn output<'a>(m: &mut State<'a>, port: u32, c: Cell) -> Result<(), Stop>
             happen(&mut m.world, Event::Out(port, x))?;
             Ok(())
         }
-        Err(Refusal::Strays) => Err(Stop::Ends(Ending::Stray)),
-        Err(Refusal::Faults(number)) => Err(Stop::Ends(Ending::Fault(number))),
+        Err(Refusal::Strays) => Err(Stop::Cause(Ending::Stray)),
+        Err(Refusal::Faults(number)) => Err(Stop::Cause(Ending::Fault(number))),
     }
 }
 
@@ -268,14 +268,14 @@ pub(crate) fn perform<'a>(s: &Setting<'a>, m: &mut State<'a>, o: &Op<u32>) -> Re
         }
         Op::Fresh(k) => fresh_local(s, m, *k),
         Op::End(k) => end_local(m, *k),
-        Op::Call(_, _, _) => Err(Stop::Ends(Ending::Stray)),
+        Op::Call(_, _, _) => Err(Stop::Cause(Ending::Stray)),
         Op::In(t, port) => input(m, *t, *port),
         Op::Out(port, a) => {
             let c = cell(&m.cells, *a);
             output(m, *port, c)
         }
         Op::Wait => wait(m),
-        Op::Halt => Err(Stop::Ends(Ending::Halted)),
+        Op::Halt => Err(Stop::Cause(Ending::Halted)),
     }
 }
 

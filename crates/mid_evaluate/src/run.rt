@@ -29,8 +29,8 @@ fn run_main<'a>(s: &Setting<'a>, m: &mut State<'a>, n: u32) -> Result<Ending, Me
         Ok(Flow::Returns) => Ok(Ending::Halted),
         Ok(Flow::Leaves(_)) => Ok(Ending::Stray),
         Ok(Flow::Repeats(_)) => Ok(Ending::Stray),
-        Err(Stop::Ends(end)) => Ok(end),
-        Err(Stop::NoMemory) => Err(Memory),
+        Err(Stop::Cause(end)) => Ok(end),
+        Err(Stop::Memory) => Err(Memory),
     }
 }
 
@@ -44,8 +44,8 @@ fn run_whole<'a>(s: &Setting<'a>, m: &mut State<'a>, n: u32) -> Result<Ending, M
         Ok(Flow::Returns) => run_main(s, m, n),
         Ok(Flow::Leaves(_)) => Ok(Ending::Stray),
         Ok(Flow::Repeats(_)) => Ok(Ending::Stray),
-        Err(Stop::Ends(end)) => Ok(end),
-        Err(Stop::NoMemory) => Err(Memory),
+        Err(Stop::Cause(end)) => Ok(end),
+        Err(Stop::Memory) => Err(Memory),
     }
 }
 

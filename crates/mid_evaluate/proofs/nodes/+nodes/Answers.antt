@@ -4,8 +4,7 @@ use Rattle.mid_code.specs.Functions.{NodeT, node, nodes}
 use Rattle.mid_code.specs.Meaning.{Did, On, Res, Next, Leaves, Repeats, Returns, below, called}
 use Rattle.mid_code.specs.States.{function_at, spent}
 use Rattle.mid_evaluate.specs.declared.flow.Flow.{Flow}
-use Rattle.mid_evaluate.specs.declared.stop.Stop.{Stop}
-use Rattle.mid_evaluate.specs.inner.Answers.{S, Leads, Stops, went}
+use Rattle.mid_evaluate.specs.inner.Answers.{S, Leads, Stop, Stops, went}
 use Rattle.mid_evaluate.specs.inner.Once.{caller_of, looped, node_once, ran, returned, turn_left}
 use Rattle.mid_evaluate.specs.View.{caller, code_of, state_of}
 use Rattle.mid_evaluate.proofs.Sizes.{count, count_one, most, split, node_falls, called_falls}

@@ -1,9 +1,5 @@
 // Why a build is refused.
-ghost use Rattle.std.specs.Prelude.{◌≡◌};
-ghost use Rattle.build_core.specs.declared.error.BuildErr.TheVariants.{Memory};
-
 use kit_base::Name;
-use std::alloc::{AllocError, AllocFailed};
 use std::fmt;
 use thiserror::Error;
 
@@ -45,29 +41,5 @@ pub enum BuildErr {
 impl fmt::Debug for BuildErr {
     fn fmt<W: fmt::Write>(&self, f: &mut fmt::Formatter<W>) -> fmt::Result {
         fmt::Display::fmt(self, f)
-    }
-}
-
-impl From<AllocError> for BuildErr {
-    ghost from_gives = { λ _ e. e ≡ Memory };
-
-    fn from(_: AllocError) -> Self {
-        BuildErr::Memory
-    }
-}
-
-impl<T: Drop> From<AllocFailed<T>> for BuildErr {
-    ghost from_gives = { λ _ e. e ≡ Memory };
-
-    fn from(_: AllocFailed<T>) -> Self {
-        BuildErr::Memory
-    }
-}
-
-impl From<kit_base::Memory> for BuildErr {
-    ghost from_gives = { λ _ e. e ≡ Memory };
-
-    fn from(_: kit_base::Memory) -> Self {
-        BuildErr::Memory
     }
 }

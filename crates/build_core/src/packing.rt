@@ -79,9 +79,14 @@ pub fn packed(
     have_samples(&sounds);
     let Some(cart) = Cart::with_lines(title, made.words, textures, sounds, made.files, made.rows)
     else {
-        return Err(BuildErr::Limit(Name::new(alloc, "cartridge")?));
+        let Ok(name) = Name::new(alloc, "cartridge") else {
+            return Err(BuildErr::Memory);
+        };
+        return Err(BuildErr::Limit(name));
     };
-    let bytes = write_cart(alloc, &cart)?;
+    let Ok(bytes) = write_cart(alloc, &cart) else {
+        return Err(BuildErr::Memory);
+    };
     Ok(Built {
         cart: Seq::from_vec(bytes),
         map: made.map,

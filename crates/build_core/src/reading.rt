@@ -21,11 +21,14 @@ pub fn project_in(alloc: Global, text: &[u8]) -> Result<Project, BuildErr>
 {
     match read_project(alloc, text) {
         Ok(project) => Ok(project),
-        Err(ProjectErr::At { code, line }) => Err(BuildErr::Bad {
-            code,
-            name: Name::new(alloc, "project")?,
-            line: Some(line),
-        }),
+        Err(ProjectErr::At { code, line }) => match Name::new(alloc, "project") {
+            Ok(name) => Err(BuildErr::Bad {
+                code,
+                name,
+                line: Some(line),
+            }),
+            Err(_) => Err(BuildErr::Memory),
+        },
         Err(ProjectErr::Memory) => Err(BuildErr::Memory),
     }
 }

@@ -12,7 +12,7 @@ use Rattle.build_core.proofs.packing.packed.Goals as goal
 pub returns-in_default-clause-kinds : goal.returns-in_default-clause-kinds
 returns-in_default-clause-kinds c =
     let none : is_cart (cartridge_of c.args.title (image c.args.made) (assets c.args.textures.items c.args.sounds.items)) ≡ false = search rules in
-    let named : c.in_ok-new.field-0 ≡ codes "cartridge" = search rules in (
+    let named : c.in-Ok.name ≡ codes "cartridge" = search rules in (
       named,
       record {
         sides = subst (AllByRecursion HasSides) c.deref.ensures.value c.have_sides.ensures;

@@ -1,5 +1,5 @@
 // Where a temporary is made, and whether it may be made at another place.
-use crate::sharing::operands::{names_of, works_in_place};
+use crate::sharing::operands::{can_turn, names_of, works_in_place};
 use crate::sharing::places::{maybe_stands, mentions};
 use mid_code::{Node, Op, Where};
 
@@ -23,9 +23,13 @@ fn makes(o: &Op<u32>, a: u32) -> bool {
     }
 }
 
-/// Whether the operation can make its target at the place: where it works on its target, its second operand must not stand there.
+/// Whether the operation can make its target at the place: where it works on its target, its second operand must not stand there, unless it works as well on its
+/// operands the other way round; then the first one must not.
 fn can_make_at(at: &[Where], o: &Op<u32>, r: Where) -> bool {
-    !(works_in_place(o) && maybe_stands(at, names_of(o).second, r))
+    let of = names_of(o);
+    !works_in_place(o)
+        || !maybe_stands(at, of.second, r)
+        || (can_turn(o) && !maybe_stands(at, of.first, r))
 }
 
 /// Whether a may stand at the place r from where it is made to the node i: it is made in the same list, at most 64 nodes before, only operations

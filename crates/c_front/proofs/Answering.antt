@@ -3,12 +3,13 @@ use Rattle.std.proofs.Common.{ℕ, ◌≡◌, ◌≤◌, ◌<◌, List, [], ◌�
 use Rattle.std.specs.Prelude.{Option, Some, None, Result, Ok, Err, Vec, IfSome}
 use Rattle.std.specs.declared.alloc.Global.{Global}
 use Rattle.kit_base.specs.Held.{Held}
+use Rattle.kit_base.specs.declared.failure.Failure.TheVariants.{Cause}
 use Rattle.c_lex.specs.declared.token.Token.{Token}
 use Rattle.c_tree.specs.Depth.{unit_depth}
 use Rattle.c_tree.specs.Tree.{ItemT}
 use Rattle.c_tree.specs.View.{unit}
-use Rattle.c_prep.specs.declared.error.PrepErr.{PrepErr}
-use Rattle.c_prep.specs.declared.error.PrepErr.TheVariants as prep
+use Rattle.c_prep.specs.declared.error.PrepFault.{PrepFault}
+use Rattle.c_prep.specs.declared.error.PrepFault.TheVariants as prep
 use Rattle.c_prep.specs.Files as expanding
 use Rattle.c_prep.specs.Files.{Expansion, Stop, expansion_of}
 use Rattle.c_parse.specs.Tok.{Tok, toks}
@@ -60,19 +61,11 @@ module _ (m : Held) (source : List ℕ) where
   failed name (errors.Limit other) tells = cc
   failed name errors.Memory tells = tt
 
-  out_of_memory : (e : FrontErr) → Tells e errors.Memory → Answers m source (Err e)
-  out_of_memory (errors.Source code file line) tells = cc
-  out_of_memory (errors.Missing other) tells = cc
-  out_of_memory (errors.Failed other) tells = tt
-  out_of_memory (errors.Limit other) tells = cc
-  out_of_memory errors.Memory tells = tt
-
-  refusal_due : (names : List (List ℕ)) (x : PrepErr) (e : FrontErr) → expanding.Answers (Err x) names (expansion_of m source) → Tells e (told_as source names x) → Answers m source (Err e)
+  refusal_due : (names : List (List ℕ)) (x : PrepFault) (e : FrontErr) → expanding.Answers (Err (Cause x)) names (expansion_of m source) → Tells e (told_as source names x) → Answers m source (Err e)
   refusal_due names (prep.At code file line) e due_one tells = stopped _ due_one e tells
   refusal_due names prep.NoSource e due_one tells = stopped _ due_one e tells
   refusal_due names (prep.Failed file) e due_one tells = failed _ e tells
   refusal_due names (prep.TooLong file) e due_one tells = stopped _ due_one e tells
-  refusal_due names prep.Memory e due_one tells = out_of_memory e tells
 
   module _ (x : Expansion) (is : expansion_of m source ≡ Ok x) (ds : List ItemT) (reads : Unit_ (toks x.tokens) ds) where
     same : (y : Expansion) → expansion_of m source ≡ Ok y → y ≡ x
@@ -143,8 +136,8 @@ unit_told (Some m) source named names v p r is placed parsed told =
     unit_due (over m) source p r (ap (λ (k : Places). k.source) placed ∙ is)
     (ap (expansion_of (over m)) (sym is) ∙ told ∙ ap (λ (k : Places). Ok (tokens_of k)) (sym placed)) parsed
 
-pub refusal_told : (o : Option Held) (source named : List ℕ) (names : List (List ℕ)) (x : PrepErr) (e : FrontErr)
+pub refusal_told : (o : Option Held) (source named : List ℕ) (names : List (List ℕ)) (x : PrepFault) (e : FrontErr)
     → named ≡ source → Tells e (told_as named names x)
-    → IfSome o (λ m. expanding.Answers (Err x) names (expansion_of (over m) named)) → IfSome o (λ m. Answers (over m) source (Err e))
+    → IfSome o (λ m. expanding.Answers (Err (Cause x)) names (expansion_of (over m) named)) → IfSome o (λ m. Answers (over m) source (Err e))
 refusal_told None source named names x e is tells told = tt
 refusal_told (Some m) source named names x e is tells told = subst (λ (s : List ℕ). Answers (over m) s (Err e)) is (refusal_due (over m) named names x e told tells)

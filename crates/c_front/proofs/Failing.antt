@@ -4,9 +4,10 @@ use Rattle.std.specs.Prelude.{Option, Some, None, Result, Ok, Err, Vec, IfErr, I
 use Rattle.std.specs.declared.alloc.Global.{Global}
 use Rattle.std.proofs.lemmas.List.Elements.{Contains-append_left, Contains-get_or}
 use Rattle.kit_base.specs.Held.{Held}
+use Rattle.kit_base.specs.declared.failure.Failure.TheVariants.{Cause}
 use Rattle.c_lex.specs.declared.token.Token.{Token}
-use Rattle.c_prep.specs.declared.error.PrepErr.{PrepErr}
-use Rattle.c_prep.specs.declared.error.PrepErr.TheVariants as prep
+use Rattle.c_prep.specs.declared.error.PrepFault.{PrepFault}
+use Rattle.c_prep.specs.declared.error.PrepFault.TheVariants as prep
 use Rattle.c_prep.specs.Files.{expansion_of}
 use Rattle.c_prep.specs.Reached.{AreFirst, Reaches, names_of}
 use Rattle.c_front.specs.declared.error.FrontErr.{FrontErr}
@@ -32,12 +33,11 @@ module _ (m : Held) (source : List ℕ) where
   told (errors.Limit name) d tells h = tt
   told errors.Memory d tells h = tt
 
-  due_fails : (names : List (List ℕ)) (x : PrepErr) → Reaches {T = Vec Token Global} names_of (Err x) names (expansion_of m source) → FailsAtOne m source (Err (told_as source names x))
+  due_fails : (names : List (List ℕ)) (x : PrepFault) → Reaches {T = Vec Token Global} names_of (Err (Cause x)) names (expansion_of m source) → FailsAtOne m source (Err (told_as source names x))
   due_fails names (prep.At code file line) h = tt
   due_fails names prep.NoSource h = tt
   due_fails names (prep.Failed file) h = last_contained names _ file source h.0 h.1
   due_fails names (prep.TooLong file) h = tt
-  due_fails names prep.Memory h = tt
 
   of_tokens : (r : Result Parsed FrontErr) → IfErr r IsOfTokens → FailsAtOne m source r
   of_tokens (Ok p) h = tt
@@ -53,7 +53,7 @@ pub tokens_fail : (o : Option Held) (source : List ℕ) (r : Result Parsed Front
 tokens_fail None source r h = tt
 tokens_fail (Some m) source r h = of_tokens (over m) source r h
 
-pub reading_fails : (o : Option Held) (source named : List ℕ) (names : List (List ℕ)) (x : PrepErr) (e : FrontErr) → named ≡ source → Tells e (told_as named names x)
-    → IfSome o (λ m. Reaches {T = Vec Token Global} names_of (Err x) names (expansion_of (over m) named)) → IfSome o (λ m. FailsAtOne (over m) source (Err e))
+pub reading_fails : (o : Option Held) (source named : List ℕ) (names : List (List ℕ)) (x : PrepFault) (e : FrontErr) → named ≡ source → Tells e (told_as named names x)
+    → IfSome o (λ m. Reaches {T = Vec Token Global} names_of (Err (Cause x)) names (expansion_of (over m) named)) → IfSome o (λ m. FailsAtOne (over m) source (Err e))
 reading_fails None source named names x e is tells h = tt
 reading_fails (Some m) source named names x e is tells h = subst (λ (s : List ℕ). FailsAtOne (over m) s (Err e)) is (told (over m) named e (told_as named names x) tells (due_fails (over m) named names x h))

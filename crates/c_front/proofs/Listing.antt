@@ -1,8 +1,9 @@
 -- The codes of refusals are listed.
 use Rattle.std.proofs.Common.{ℕ, ◌≡◌, List, Bool, true, ◌||◌, refl, ap, subst, sym}
+use Rattle.kit_base.specs.declared.failure.Failure.TheVariants.{Cause}
 use Rattle.c_prep.specs.Codes.{between, is_reading_code, HasReadingCode}
-use Rattle.c_prep.specs.declared.error.PrepErr.{PrepErr}
-use Rattle.c_prep.specs.declared.error.PrepErr.TheVariants as prep
+use Rattle.c_prep.specs.declared.error.PrepFault.{PrepFault}
+use Rattle.c_prep.specs.declared.error.PrepFault.TheVariants as prep
 use Rattle.c_front.specs.Codes.{is_front_code, HasFrontCode}
 use Rattle.c_front.specs.declared.error.FrontErr.{FrontErr}
 use Rattle.c_front.specs.declared.error.FrontErr.TheVariants as errors
@@ -21,15 +22,14 @@ reading_code : (code : ℕ) → is_reading_code code ≡ true → is_front_code 
 unfolding is_front_code
 reading_code code listed = ap (λ (b : Bool). b || between 30 32 code) listed
 
-due_code : (source : List ℕ) (names : List (List ℕ)) (x : PrepErr) → HasReadingCode x → HasFrontCode (told_as source names x)
+due_code : (source : List ℕ) (names : List (List ℕ)) (x : PrepFault) → HasReadingCode (Cause x) → HasFrontCode (told_as source names x)
 due_code source names (prep.At code file line) listed = reading_code code listed
 due_code source names prep.NoSource listed = tt
 due_code source names (prep.Failed file) listed = tt
 due_code source names (prep.TooLong file) listed = tt
-due_code source names prep.Memory listed = tt
 
 -- a refusal of reading
-pub read_code : (source : List ℕ) (names : List (List ℕ)) (x : PrepErr) (e : FrontErr) → HasReadingCode x → Tells e (told_as source names x) → HasFrontCode e
+pub read_code : (source : List ℕ) (names : List (List ℕ)) (x : PrepFault) (e : FrontErr) → HasReadingCode (Cause x) → Tells e (told_as source names x) → HasFrontCode e
 read_code source names x e listed tells = told_code e (told_as source names x) tells (due_code source names x listed)
 
 syntax : is_front_code 30 ≡ true

@@ -2,8 +2,8 @@
 use Rattle.std.specs.Prelude.{ℕ, ◌≡◌, List, Option, Some, None, Result, Ok, Err}
 use Rattle.kit_base.specs.Held.{Held}
 use Rattle.c_tree.specs.View.{unit}
-use Rattle.c_prep.specs.declared.error.PrepErr.{PrepErr}
-use Rattle.c_prep.specs.declared.error.PrepErr.TheVariants as prep
+use Rattle.c_prep.specs.declared.error.PrepFault.{PrepFault}
+use Rattle.c_prep.specs.declared.error.PrepFault.TheVariants as prep
 use Rattle.c_prep.specs.Files.{Expansion, Stop, expansion_of}
 use Rattle.c_parse.specs.Tok.{toks}
 use Rattle.c_parse.specs.Units.{Derives}
@@ -16,12 +16,11 @@ use Rattle.c_front.specs.Names.{name_of}
 use Rattle.c_front.specs.Places.{place_at}
 
 -- the first fault of the reading, told with the file's name
-abbrev pub told_as : List ℕ → List (List ℕ) → PrepErr → FrontErr
+abbrev pub told_as : List ℕ → List (List ℕ) → PrepFault → FrontErr
 told_as source names (prep.At code file line) = errors.Source code (name_of source names file) line
 told_as source names prep.NoSource = errors.Missing source
 told_as source names (prep.Failed file) = errors.Failed (name_of source names file)
 told_as source names (prep.TooLong file) = errors.Limit (name_of source names file)
-told_as source names prep.Memory = errors.Memory
 
 -- a code at the place of a token
 abbrev pub refusal_at : Places → ℕ → ℕ → FrontErr

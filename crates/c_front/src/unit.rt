@@ -23,7 +23,7 @@ use crate::headers_over::expand_over;
 use crate::parsing::parse_at;
 use crate::places::{Places, name_of};
 use c_parse::tokens_are_one_unit;
-use c_prep::PrepErr;
+use c_prep::{PrepErr, PrepFault};
 use c_tree::Unit;
 use kit_base::{Memory, Name, Reads, Seq};
 use std::alloc::Global;
@@ -36,28 +36,27 @@ pub struct Parsed {
 }
 
 /// What the first fault of the reading is told as.
-fn told_as(source: &Name, names: &[Name], fault: PrepErr) -> FrontErr
+fn told_as(source: &Name, names: &[Name], fault: PrepFault) -> FrontErr
     ensures { Tells result (told_as source.now names.now fault) }
 {
     let named = match fault {
-        PrepErr::At { file, .. } | PrepErr::Failed { file } | PrepErr::TooLong { file } => {
+        PrepFault::At { file, .. } | PrepFault::Failed { file } | PrepFault::TooLong { file } => {
             name_of(source, names, file)
         }
-        PrepErr::NoSource | PrepErr::Memory => source,
+        PrepFault::NoSource => source,
     };
     let Ok(name) = named.copy() else {
         return FrontErr::Memory;
     };
     match fault {
-        PrepErr::At { code, line, .. } => FrontErr::Source {
+        PrepFault::At { code, line, .. } => FrontErr::Source {
             code,
             file: name,
             line,
         },
-        PrepErr::NoSource => FrontErr::Missing(name),
-        PrepErr::Failed { .. } => FrontErr::Failed(name),
-        PrepErr::TooLong { .. } => FrontErr::Limit(name),
-        PrepErr::Memory => FrontErr::Memory,
+        PrepFault::NoSource => FrontErr::Missing(name),
+        PrepFault::Failed { .. } => FrontErr::Failed(name),
+        PrepFault::TooLong { .. } => FrontErr::Limit(name),
     }
 }
 
@@ -110,6 +109,7 @@ pub fn read_unit<F: Reads>(alloc: Global, files: &mut F, source: &str) -> Result
                 tokens: Seq::from_vec(tokens),
             },
         ),
-        Err(fault) => Err(told_as(&named, names.as_slice(), fault)),
+        Err(PrepErr::Cause(fault)) => Err(told_as(&named, names.as_slice(), fault)),
+        Err(PrepErr::Memory) => Err(FrontErr::Memory),
     }
 }

@@ -3,12 +3,10 @@ use Rattle.std.proofs.Common.{◌≡◌, ℕ, ◌+◌, List, [], ◌∷◌, ◌+
 use Rattle.std.specs.Prelude.{Result, Ok, Err}
 use Rattle.asm_items.specs.declared.item.AsmItem.{AsmItem}
 use Rattle.asm_reader.specs.declared.fault.LineFault.{LineFault}
-use Rattle.asm_reader.specs.declared.fault.LineErr.{LineErr}
-use Rattle.asm_reader.specs.declared.fault.LineErr.TheVariants as e
-use Rattle.asm_reader.specs.Faults.{code_of, onto, Puts}
+use Rattle.asm_reader.specs.Faults.{onto}
 use Rattle.asm_reader.specs.Lines.{line_items}
 use Rattle.asm_reader.specs.Tokens.{tokens_of}
-use Rattle.asm_reader.specs.Reading.{Text, before_items, at_line, read_from, read, refusal, IsRefusal, is_newline}
+use Rattle.asm_reader.specs.Reading.{Text, before_items, at_line, read_from, read, fault_at, is_newline}
 use Rattle.asm_reader.specs.Parted.{parted}
 
 pub none_before : (r : Text) → before_items [] r ≡ r
@@ -35,13 +33,8 @@ module _ (done : List AsmItem) (number : ℕ) (lines : List (List ℕ)) (line : 
   pub turn : (new : List AsmItem) → onto done (line_items (tokens_of line)) ≡ Ok new → before_items new (read_from (number + 1) others) ≡ total
   turn new is = sym (put done new number (line_items (tokens_of line)) (read_from (number + 1) others) is) ∙ of_line
 
-  fault : (f : LineFault) → line_items (tokens_of line) ≡ Err f → total ≡ Err (code_of f, number)
-  fault f is = sym of_line ∙ ap (λ (r : Result (List AsmItem) LineFault). before_items done (at_line number r (read_from (number + 1) others))) is
-
-pub refused : (done : List AsmItem) (number : ℕ) (lines : List (List ℕ)) (line : List ℕ) (others : List (List ℕ)) (bytes : List ℕ) → lines ≡ line ∷ others → before_items done (read_from number lines) ≡ read bytes
-    → (new : List AsmItem) (x : LineErr) → Puts done new (Err x) (line_items (tokens_of line)) → IsRefusal bytes (refusal x number)
-refused done number lines line others bytes whole so_far new e.Memory is = tt
-refused done number lines line others bytes whole so_far new (e.Fault f) is = fault done number lines line others (read bytes) whole so_far f is
+  pub refused : (f : LineFault) → line_items (tokens_of line) ≡ Err f → total ≡ Err (fault_at f number)
+  refused f is = sym of_line ∙ ap (λ (r : Result (List AsmItem) LineFault). before_items done (at_line number r (read_from (number + 1) others))) is
 
 pub ended : (done : List AsmItem) (number : ℕ) (total : Text) → before_items done (read_from number []) ≡ total → total ≡ Ok done
 unfolding read_from

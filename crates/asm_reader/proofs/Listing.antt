@@ -1,12 +1,13 @@
 -- A loop over the operands of a line.
 use Rattle.std.proofs.Common.{◌≡◌, List, [], ◌∷◌, ◌++◌, refl, sym, ap, ◌∙◌, append_assoc, append-nil}
 use Rattle.std.specs.Prelude.{Result, Ok, Err}
+use Rattle.kit_base.specs.declared.failure.Failure.{Failure}
+use Rattle.kit_base.specs.declared.failure.Failure.TheVariants as e
+use Rattle.kit_base.specs.Gives.{Fails}
 use Rattle.asm_reader.specs.declared.fault.LineFault.{LineFault}
 use Rattle.asm_reader.specs.declared.token.Token.{Token}
 use Rattle.asm_reader.specs.declared.value.Written.{Written}
-use Rattle.asm_reader.specs.declared.fault.LineErr.{LineErr}
-use Rattle.asm_reader.specs.declared.fault.LineErr.TheVariants as e
-use Rattle.asm_reader.specs.Faults.{◌>>=◌, Fails, onto}
+use Rattle.asm_reader.specs.Faults.{◌>>=◌, onto}
 use Rattle.asm_reader.specs.Operands.{operand, operands_in}
 
 abbrev Due : Type 0
@@ -31,9 +32,9 @@ module _ (done : List Written) (parts : List (List Token)) (part : List Token) (
   unfolding operands_in
   fault f is = let one : operands_in parts ≡ Err f = rw (whole, is) refl in sym so_far ∙ ap (onto done) one
 
-  pub fails : (x : LineErr) → Fails x (operand part) → Fails x total
+  pub fails : (x : Failure LineFault) → Fails x (operand part) → Fails x total
   fails e.Memory is = tt
-  fails (e.Fault f) is = fault f is
+  fails (e.Cause f) is = fault f is
 
 pub ended : (done : List Written) (total : Due) → onto done (operands_in []) ≡ total → total ≡ Ok done
 unfolding operands_in

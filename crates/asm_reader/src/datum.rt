@@ -59,10 +59,10 @@ fn put_integers(items: &mut Vec<AsmItem>, operands: &[Written]) -> Result<(), Li
     ensures { Puts items.old.items items.new.items result (integers operands.now) }
 {
     if !(operands.len() > 0 && all_numbers(operands)) {
-        return Err(LineErr::Fault(LineFault::BadLine));
+        return Err(LineErr::Cause(LineFault::BadLine));
     }
     if !all_fit(operands) {
-        return Err(LineErr::Fault(LineFault::NumberTooLarge));
+        return Err(LineErr::Cause(LineFault::NumberTooLarge));
     }
     put_words(items, operands)?;
     Ok(())
@@ -112,7 +112,7 @@ fn put_pointers(
     ensures { Puts items.old.items items.new.items result (pointers operands.now) }
 {
     if !(operands.len() > 0 && all_names(operands)) {
-        return Err(LineErr::Fault(LineFault::BadLine));
+        return Err(LineErr::Cause(LineFault::BadLine));
     }
     put_names(alloc, items, operands)?;
     Ok(())
@@ -143,17 +143,17 @@ fn put_string(items: &mut Vec<AsmItem>, tokens: &[Token]) -> Result<(), LineErr>
     ensures { Puts items.old.items items.new.items result (text_items tokens.now) }
 {
     let Some((first, rest)) = tokens.split_first() else {
-        return Err(LineErr::Fault(LineFault::BadLine));
+        return Err(LineErr::Cause(LineFault::BadLine));
     };
     if rest.len() > 0 {
-        return Err(LineErr::Fault(LineFault::BadLine));
+        return Err(LineErr::Cause(LineFault::BadLine));
     }
     match first {
         Token::Text(bytes) => {
             put_text(items, bytes.as_slice())?;
             Ok(())
         }
-        _ => Err(LineErr::Fault(LineFault::BadLine)),
+        _ => Err(LineErr::Cause(LineFault::BadLine)),
     }
 }
 

@@ -16,7 +16,7 @@ mod reading;
 mod token;
 mod value;
 
-pub use error::AsmErr;
+pub use error::{AsmErr, AsmFault};
 pub use laws::{
     forms_are_what_is_written, names_stand_for_what_they_name, operands_are_what_tokens_spell,
     parts_are_what_marks_part, words_and_numbers_are_runs_of_word_bytes, written_text_reads_again,

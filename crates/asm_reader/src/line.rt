@@ -1,6 +1,7 @@
 // The lines of a text.
 ghost use Rattle.std.specs.Prelude.{◌≡◌, drop};
-ghost use Rattle.asm_reader.specs.Faults.{Gives, Puts};
+ghost use Rattle.kit_base.specs.Gives.{Gives};
+ghost use Rattle.asm_reader.specs.Faults.{Puts};
 ghost use Rattle.asm_reader.specs.Lines.{begins_float, has_label, instruction_of, is_colon, label_items, label_part, line_items, parts_items};
 ghost use Rattle.asm_reader.specs.Lines.{statement_items, statement_part};
 
@@ -73,14 +74,14 @@ fn put_label(items: &mut Vec<AsmItem>, tokens: &[Token]) -> Result<(), LineErr>
     ensures { Puts items.old.items items.new.items result (label_items tokens.now) }
 {
     let Some((first, _)) = tokens.split_first() else {
-        return Err(LineErr::Fault(LineFault::BadLine));
+        return Err(LineErr::Cause(LineFault::BadLine));
     };
     match first {
         Token::Label(name) => {
             items.push(AsmItem::Label(name.copy()?))?;
             Ok(())
         }
-        _ => Err(LineErr::Fault(LineFault::BadLine)),
+        _ => Err(LineErr::Cause(LineFault::BadLine)),
     }
 }
 
@@ -99,7 +100,7 @@ fn operation_of(
     operation: Operation,
     tokens: &[Token],
 ) -> Result<Instr<Imm>, LineErr>
-    ensures { Gives result (instruction_of operation tokens.now) }
+    ensures { Gives (λ x. x) result (instruction_of operation tokens.now) }
 {
     let operands = operands_of(alloc, tokens)?;
     instruction(operation, &operands)
@@ -120,7 +121,7 @@ fn put_statement(alloc: Global, items: &mut Vec<AsmItem>, tokens: &[Token]) -> R
             Ok(())
         }
         Token::Data(word) => put_data(alloc, items, *word, rest),
-        _ => Err(LineErr::Fault(LineFault::BadLine)),
+        _ => Err(LineErr::Cause(LineFault::BadLine)),
     }
 }
 
@@ -136,7 +137,7 @@ fn put_parts(
 {
     let statement = statement_part(labelled, tokens);
     if begins_float(statement) {
-        return Err(LineErr::Fault(LineFault::FloatInstruction));
+        return Err(LineErr::Cause(LineFault::FloatInstruction));
     }
     put_label_part(items, labelled, tokens)?;
     put_statement(alloc, items, statement)

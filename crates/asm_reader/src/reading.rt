@@ -2,14 +2,15 @@
 ghost use Rattle.std.specs.Prelude.{◌≡◌, ◌≤◌, ◌<◌, ◌∷◌, [], IfErr, IfOk, IfSome, Ok, length, not};
 ghost use Rattle.std.specs.List.{take_while};
 ghost use Rattle.std.specs.Option.{option_map_or};
+ghost use Rattle.kit_base.specs.Gives.{Fails};
 ghost use Rattle.asm_reader.specs.Faults.{Puts};
 ghost use Rattle.asm_reader.specs.Lines.{line_items};
 ghost use Rattle.asm_reader.specs.Parted.{parted};
-ghost use Rattle.asm_reader.specs.Reading.{IsRefusal, is_newline, read, refusal};
+ghost use Rattle.asm_reader.specs.Reading.{fault_at, is_newline, read};
 ghost use Rattle.asm_reader.specs.Tokens.{tokens_of};
 
-use crate::error::AsmErr;
-use crate::fault::{LineErr, code_of};
+use crate::error::{AsmErr, AsmFault};
+use crate::fault::{LineErr, LineFault, code_of};
 use crate::line::put_line;
 use crate::token::tokens_of;
 use asm_items::AsmItem;
@@ -44,15 +45,12 @@ fn put_items(alloc: Global, items: &mut Vec<AsmItem>, line: &[u8]) -> Result<(),
     put_line(alloc, items, &tokens)
 }
 
-fn refusal(e: LineErr, number: u64) -> AsmErr
-    ensures { result ≡ refusal e number }
+fn fault_at(fault: LineFault, number: u64) -> AsmFault
+    ensures { result ≡ fault_at fault number }
 {
-    match e {
-        LineErr::Fault(fault) => AsmErr::At {
-            code: code_of(fault),
-            at: number,
-        },
-        LineErr::Memory => AsmErr::Memory,
+    AsmFault {
+        code: code_of(fault),
+        at: number,
     }
 }
 
@@ -63,7 +61,7 @@ fn refusal(e: LineErr, number: u64) -> AsmErr
 #[tactic(auto, using(crate::proofs::Lines::none_before, crate::proofs::Lines::turn, crate::proofs::Lines::refused, crate::proofs::Lines::ended))]
 pub fn read_asm(alloc: Global, bytes: &[u8]) -> Result<Vec<AsmItem>, AsmErr>
     ensures items { IfOk result (λ v. read bytes.now ≡ Ok v.items) }
-    ensures faulty { IfErr result (IsRefusal bytes.now) }
+    ensures faulty { IfErr result (λ e. Fails e (read bytes.now)) }
 {
     let mut items = Vec::new(alloc);
     let mut number: u64 = 1;
@@ -72,7 +70,8 @@ pub fn read_asm(alloc: Global, bytes: &[u8]) -> Result<Vec<AsmItem>, AsmErr>
         let (line, after) = first_line(rest);
         match put_items(alloc, &mut items, line) {
             Ok(()) => {}
-            Err(e) => return Err(refusal(e, number)),
+            Err(LineErr::Cause(fault)) => return Err(AsmErr::Cause(fault_at(fault, number))),
+            Err(LineErr::Memory) => return Err(AsmErr::Memory),
         }
         number += 1;
         left = after;

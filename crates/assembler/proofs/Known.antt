@@ -1,28 +1,29 @@
 -- A text whose labels are known has no fault, and the words of its parts are its words.
-use Rattle.std.proofs.Common.{◌≡◌, ℕ, ◌+◌, ◌≤◌, ◌<◌, ◌^◌, Bool, true, false, true≢false, not, cond, ltb, ◌&&◌, List, [], ◌∷◌, ◌++◌, map, length, inl, inr, refl, sym, ap, subst, ◌∙◌, append_assoc, append-nil, arith}
+use Rattle.std.proofs.Common.{◌≡◌, ℕ, ◌+◌, ◌≤◌, ◌<◌, ◌^◌, Bool, true, false, true≢false, not, cond, ltb, ◌&&◌, List, [], ◌∷◌, ◌++◌, map, length, inl, inr, refl, sym, ap, ◌∙◌, append_assoc, append-nil, arith}
 use Rattle.std.specs.Prelude.{Option, Some, None, Ok, is_some, option_and_then, option_to_list, unwrap_or}
 use Rattle.std.specs.Option.{option_map_or}
 use Rattle.std.specs.List.{list_all}
 use Rattle.std.proofs.lemmas.Bool.{and_parts, and_from, le-ltb, lt-ltb}
 use Rattle.std.proofs.lemmas.List.Folds.{list_all-append}
+use Rattle.kit_base.specs.declared.failure.Failure.{Failure}
+use Rattle.kit_base.specs.declared.failure.Failure.TheVariants as failures
+use Rattle.kit_base.specs.Gives.{Fails}
 use Rattle.either.specs.Either.{right}
 use Rattle.either.specs.declared.Either.TheVariants.{Left, Right}
 use Rattle.asm_items.specs.declared.item.AsmItem.{AsmItem}
 use Rattle.asm_items.specs.declared.item.AsmItem.TheVariants.{Label, Op, Integer, Pointer}
 use Rattle.asm_items.specs.Items.{Imm}
 use Rattle.asm_reader.specs.Reading.{read}
-use Rattle.asm_reader.specs.Reading as reading
-use Rattle.asm_reader.specs.declared.error.AsmErr.{AsmErr}
-use Rattle.asm_reader.specs.declared.error.AsmErr.TheVariants as errors
+use Rattle.asm_reader.specs.declared.error.AsmFault.{AsmFault}
 use Rattle.asm_items.specs.Words.{imm_word, words_of_items}
-use Rattle.assembler.specs.Faults.{IsRefusal, fault_of, label_in, naming_fault, or_past, past_from, twice_from, unknown_from, with_name}
+use Rattle.assembler.specs.Faults.{IfCause, IsRefusal, fault_of, past_from, twice_from, unknown_from, with_name}
 use Rattle.assembler.specs.Labels.{address_in, address_of, are_words, has_label, with_label}
 use Rattle.assembler.specs.Naming.{immediate, is_known}
 use Rattle.assembler.specs.Placed.{Placed, item_size, label_at, labels_from, labels_of}
 use Rattle.assembler.specs.Sizes.{total_size}
 use Rattle.assembler.specs.Texts.{AreWordsOf, IsTextRefusal}
 use Rattle.assembler.specs.inner.Parts.{AreOf, filled, item_parts, part_word, parts_of, words_on}
-use Rattle.assembler.specs.inner.Survey.{has_item, names_of, with_item}
+use Rattle.assembler.specs.inner.Survey.{names_of}
 use Rattle.assembler.proofs.Parted.{parts_words, total_parts}
 use Rattle.assembler.proofs.Walking.{among, names_more}
 use Rattle.assembler.proofs.Whole.{few_words, goes_last}
@@ -168,13 +169,13 @@ from_items text items words labels reads none placed =
 pub few : (text words : List ℕ) → AreWordsOf text words → length words ≤ 33554432
 few text words are = few_words are.items words (labels_of are.items) (record { labels_are = refl; words_are = are.words_are }) are.faultless
 
-pub unread : (text : List ℕ) (e : AsmErr) → reading.IsRefusal text e → IsTextRefusal text e
-unread text (errors.At code at) e = inl e
-unread text errors.Memory e = tt
+pub unread : (text : List ℕ) (e : Failure AsmFault) → Fails e (read text) → IfCause (IsTextRefusal text) e
+unread text failures.Memory is = tt
+unread text (failures.Cause fault) is = inl is
 
-pub faulty : (text : List ℕ) (items : List AsmItem) (e : AsmErr) → read text ≡ Ok items → IsRefusal items e → IsTextRefusal text e
-faulty text items (errors.At code at) reads e = inr (items, reads, e)
-faulty text items errors.Memory reads e = tt
+pub faulty : (text : List ℕ) (items : List AsmItem) (e : Failure AsmFault) → read text ≡ Ok items → IfCause (IsRefusal items) e → IfCause (IsTextRefusal text) e
+faulty text items failures.Memory reads is = tt
+faulty text items (failures.Cause fault) reads is = inr (items, reads, is)
 
 -- ---- a turn of the walk over parts
 

@@ -1,12 +1,8 @@
 -- What stands for the words of items, and the words that it becomes.
-use Rattle.std.proofs.Common.{◌≡◌, ℕ, ◌+◌, Bool, true, false, cond, ◌&&◌, List, [], ◌∷◌, ◌++◌, map, length, refl, sym, ap, ◌∙◌, append_assoc, append-nil, arith}
-use Rattle.std.specs.Prelude.{Option, Some, None, is_some, get_or, option_and_then, option_to_list}
-use Rattle.std.specs.Option.{option_map_or}
-use Rattle.std.specs.List.{list_all}
-use Rattle.std.proofs.lemmas.Bool.{and_parts, and_from}
+use Rattle.std.proofs.Common.{◌≡◌, ℕ, ◌+◌, List, [], ◌∷◌, ◌++◌, map, length, refl, sym, ap, ◌∙◌, append_assoc, append-nil, arith}
+use Rattle.std.specs.Prelude.{Option, Some, None, get_or, option_to_list}
 use Rattle.std.proofs.lemmas.List.{length-append, length-map, map-append}
-use Rattle.either.specs.Either.{right}
-use Rattle.either.specs.declared.Either.TheVariants.{Left, Right}
+use Rattle.either.specs.declared.Either.TheVariants.{Left}
 use Rattle.v32_isa.specs.Table.{spelling}
 use Rattle.v32_isa.specs.declared.instruction.Src.TheVariants as src
 use Rattle.v32_isa.specs.declared.instruction.Mov.TheVariants.{RegImm, RegReg, RegAt, RegAtReg, RegAtOff, AtReg, AtRegReg, AtOffReg}
@@ -16,9 +12,7 @@ use Rattle.asm_items.specs.declared.item.AsmItem.{AsmItem}
 use Rattle.asm_items.specs.declared.item.AsmItem.TheVariants.{Label, Op, Integer, Pointer}
 use Rattle.asm_items.specs.Items.{Imm, instr_with}
 use Rattle.asm_items.specs.Words.{imm_word, item_words, words_of_items}
-use Rattle.assembler.specs.Faults.{unknown_from}
-use Rattle.assembler.specs.Labels.{address_in, address_of, has_label}
-use Rattle.assembler.specs.Naming.{immediate, is_known}
+use Rattle.assembler.specs.Naming.{immediate}
 use Rattle.assembler.specs.Placed.{item_size, label_at, labels_from}
 use Rattle.assembler.specs.Sizes.{total_size}
 use Rattle.assembler.specs.inner.Parts.{first_word, item_parts, parts_of}

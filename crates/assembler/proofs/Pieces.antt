@@ -1,8 +1,8 @@
 -- A text in pieces that end where lines do.
-use Rattle.std.proofs.Common.{◌≡◌, ℕ, ◌+◌, ◌≤◌, ◌<◌, Bool, true, false, not, cond, List, [], ◌∷◌, ◌++◌, Bor, take, drop, length, refl, sym, ap, ◌∙◌, append_assoc, append-nil, arith}
+use Rattle.std.proofs.Common.{◌≡◌, ℕ, ◌+◌, ◌<◌, Bool, true, false, not, cond, List, [], ◌∷◌, ◌++◌, Bor, take, drop, length, refl, sym, ap, ◌∙◌, append_assoc, append-nil, arith}
 use Rattle.std.specs.Prelude.{Option, Some, None, Result, Ok, Err, option_map}
 use Rattle.std.specs.Option.{option_map_or}
-use Rattle.std.specs.List.{flat_map, take_while}
+use Rattle.std.specs.List.{take_while}
 use Rattle.std.proofs.lemmas.Grind.{flat_map-append}
 use Rattle.std.proofs.lemmas.List.{drop-drop, length-drop, length-append, nil_from_length, take-append-drop}
 use Rattle.std.proofs.lemmas.List.Sums.{take_while-cons}
@@ -15,7 +15,7 @@ use Rattle.asm_reader.specs.Reading.{Text, at_line, before_items, is_newline, re
 use Rattle.asm_reader.specs.Tokens.{tokens_of}
 use Rattle.assembler.specs.Placed.{item_size, label_at, labels_from}
 use Rattle.assembler.specs.Sizes.{total_size}
-use Rattle.assembler.specs.inner.Parts.{AreMore, AreOf, Goes, ReadsMore, item_parts, parts_of}
+use Rattle.assembler.specs.inner.Parts.{AreOf, Goes, ReadsMore, item_parts, parts_of}
 use Rattle.assembler.proofs.Parted.{total_parts}
 
 -- ---- parts of a list

@@ -8,11 +8,12 @@ use Rattle.std.proofs.lemmas.List.{length-append}
 use Rattle.asm_items.specs.declared.item.AsmItem.{AsmItem}
 use Rattle.asm_items.specs.declared.item.AsmItem.TheVariants.{Label, Op, Integer, Pointer}
 use Rattle.asm_items.specs.Words.{item_words, words_of_items}
+use Rattle.asm_reader.specs.declared.error.AsmFault.{AsmFault}
 use Rattle.assembler.specs.Labels.{address_of, address_in, has_label, are_words}
 use Rattle.assembler.specs.Naming.{is_known, named_in}
 use Rattle.assembler.specs.Placed.{item_size, label_at, labels_from, labels_of, Placed}
 use Rattle.assembler.specs.Sizes.{total_size}
-use Rattle.assembler.specs.Faults.{Fault, label_in, with_name, twice_from, past_from, unknown_from, naming_fault, or_past, fault_of}
+use Rattle.assembler.specs.Faults.{fault_at, label_in, with_name, twice_from, past_from, unknown_from, naming_fault, or_past, fault_of}
 use Rattle.assembler.specs.inner.Survey.{with_item, collected, has_item, names_of}
 use Rattle.assembler.proofs.Walking.{among, names_more}
 use Rattle.assembler.proofs.ItemSizes.{op_size}
@@ -70,7 +71,7 @@ unknown_same one two same number (item ∷ items) =
     ap (λ b. cond b (unknown_from (number + 1) one items) (Some number)) (by_name one two same (named_in item))
     ∙ ap (λ later. cond (is_known two item) later (Some number)) (unknown_same one two same (number + 1) items)
 
-pub fault_is : (items : List AsmItem) (labels : List (List ℕ × ℕ)) (twice unknown past : Option ℕ) (fault : Option Fault) →
+pub fault_is : (items : List AsmItem) (labels : List (List ℕ × ℕ)) (twice unknown past : Option ℕ) (fault : Option AsmFault) →
     labels ≡ collected 0x20000000 [] items → twice ≡ twice_from 1 [] items → unknown ≡ unknown_from 1 labels items → past ≡ past_from 1 0 items →
     fault ≡ or_past (naming_fault twice unknown) past → fault ≡ fault_of items
 unfolding fault_of
@@ -86,7 +87,7 @@ no_fault None None None e = (refl, refl)
 no_fault None None (Some p) e = absurd cc
 no_fault None (Some u) past e = absurd cc
 no_fault (Some t) None past e = absurd cc
-no_fault (Some t) (Some u) past e = elim (ltb t u) as (λ b. or_past (cond b (Some (64, t)) (Some (65, u))) past ≡ None → (Some t ≡ None) × (past ≡ None)) [
+no_fault (Some t) (Some u) past e = elim (ltb t u) as (λ b. or_past (cond b (Some (fault_at 64 t)) (Some (fault_at 65 u))) past ≡ None → (Some t ≡ None) × (past ≡ None)) [
   | true ↦ λ h. absurd cc
   | false ↦ λ h. absurd cc
 ] e

@@ -1,12 +1,13 @@
 -- The first fault of a list of items, with the item's number, counted from 1.
 use Rattle.std.specs.Prelude.{ℕ, ◌≡◌, ◌+◌, List, [], ◌∷◌, ◌++◌, Bool, false, Option, Some, None, option_map, if◌then◌else◌, nat_lt, bytes_eq}
 use Rattle.std.specs.List.{list_any}
+use Rattle.kit_base.specs.declared.failure.Failure.{Failure}
+use Rattle.kit_base.specs.declared.failure.Failure.TheVariants as failures
 use Rattle.asm_items.specs.declared.item.AsmItem.{AsmItem}
 use Rattle.asm_items.specs.declared.item.AsmItem.TheVariants.{Label, Op, Integer, Pointer}
 use Rattle.assembler.specs.Naming.{is_known}
 use Rattle.assembler.specs.Placed.{item_size, labels_of}
-use Rattle.asm_reader.specs.declared.error.AsmErr.{AsmErr}
-use Rattle.asm_reader.specs.declared.error.AsmErr.TheVariants as errors
+use Rattle.asm_reader.specs.declared.error.AsmFault.{AsmFault}
 
 -- the name of a label
 abbrev pub label_in : AsmItem → Option (List ℕ)
@@ -41,25 +42,29 @@ past_from number words (item ∷ items) =
     if nat_lt 33554432 (words + item_size item) then Some number else past_from (number + 1) (words + item_size item) items
 
 -- a code and an item's number
-abbrev pub Fault : Type 0
-Fault = ℕ × ℕ
+abbrev pub fault_at : (code item : ℕ) → AsmFault
+fault_at code item = record { code = code; at = item }
 
 -- 64 for a label that stands twice, 65 for an unknown label: the first faulty item decides
-abbrev pub naming_fault : Option ℕ → Option ℕ → Option Fault
+abbrev pub naming_fault : Option ℕ → Option ℕ → Option AsmFault
 naming_fault None None = None
-naming_fault (Some twice) None = Some (64, twice)
-naming_fault None (Some unknown) = Some (65, unknown)
-naming_fault (Some twice) (Some unknown) = if nat_lt twice unknown then Some (64, twice) else Some (65, unknown)
+naming_fault (Some twice) None = Some (fault_at 64 twice)
+naming_fault None (Some unknown) = Some (fault_at 65 unknown)
+naming_fault (Some twice) (Some unknown) = if nat_lt twice unknown then Some (fault_at 64 twice) else Some (fault_at 65 unknown)
 
 -- 66 only where there is neither
-abbrev pub or_past : Option Fault → Option ℕ → Option Fault
+abbrev pub or_past : Option AsmFault → Option ℕ → Option AsmFault
 or_past (Some fault) past = Some fault
-or_past None past = option_map (λ item. (66, item)) past
+or_past None past = option_map (λ item. fault_at 66 item) past
 
-unfoldable pub fault_of : List AsmItem → Option Fault
+unfoldable pub fault_of : List AsmItem → Option AsmFault
 fault_of items = or_past (naming_fault (twice_from 1 [] items) (unknown_from 1 (labels_of items) items)) (past_from 1 0 items)
 
--- a refusal is the first fault; want of memory says nothing
-abbrev pub IsRefusal : List AsmItem → AsmErr → Type 0
-IsRefusal items (errors.At code item) = fault_of items ≡ Some (code, item)
-IsRefusal items errors.Memory = Unit {0}
+-- of the cause, unless memory ran out
+abbrev pub IfCause : {E : Type 0} → (E → Type 0) → Failure E → Type 0
+IfCause Of failures.Memory = Unit {0}
+IfCause Of (failures.Cause cause) = Of cause
+
+-- a refusal is the first fault
+abbrev pub IsRefusal : List AsmItem → AsmFault → Type 0
+IsRefusal items fault = fault_of items ≡ Some fault

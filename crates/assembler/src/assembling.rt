@@ -1,7 +1,7 @@
 // Items to words.
 ghost use Rattle.std.specs.Prelude.{◌≡◌, ◌≤◌, IfErr, IfOk, OnOk, None, [], length};
 ghost use Rattle.assembler.specs.Placed.{Placed};
-ghost use Rattle.assembler.specs.Faults.{IsRefusal, fault_of, naming_fault, or_past, twice_from};
+ghost use Rattle.assembler.specs.Faults.{IfCause, IsRefusal, fault_at, fault_of, naming_fault, or_past, twice_from};
 ghost use Rattle.assembler.specs.inner.Survey.{collected};
 
 use crate::naming::first_unknown;
@@ -10,36 +10,42 @@ use crate::resolving::words_of_items;
 use crate::sizes::first_past;
 use crate::survey::{Survey, surveyed};
 use asm_items::AsmItem;
-use asm_reader::AsmErr;
+use asm_reader::{AsmErr, AsmFault};
 use kit_base::Seq;
 use std::alloc::Global;
 
+fn fault_at(code: u32, item: u64) -> AsmFault
+    ensures { result ≡ fault_at code item }
+{
+    AsmFault { code, at: item }
+}
+
 /// A label that stands twice or one that is unknown: the first faulty item decides.
-fn naming_fault(twice: Option<u64>, unknown: Option<u64>) -> Option<(u32, u64)>
+fn naming_fault(twice: Option<u64>, unknown: Option<u64>) -> Option<AsmFault>
     ensures { result ≡ naming_fault twice unknown }
 {
     match (twice, unknown) {
         (None, None) => None,
-        (Some(twice), None) => Some((64, twice)),
-        (None, Some(unknown)) => Some((65, unknown)),
-        (Some(twice), Some(unknown)) if twice < unknown => Some((64, twice)),
-        (Some(_), Some(unknown)) => Some((65, unknown)),
+        (Some(twice), None) => Some(fault_at(64, twice)),
+        (None, Some(unknown)) => Some(fault_at(65, unknown)),
+        (Some(twice), Some(unknown)) if twice < unknown => Some(fault_at(64, twice)),
+        (Some(_), Some(unknown)) => Some(fault_at(65, unknown)),
     }
 }
 
 /// The fault of the names, else that of the size.
-fn or_past(naming: Option<(u32, u64)>, past: Option<u64>) -> Option<(u32, u64)>
+fn or_past(naming: Option<AsmFault>, past: Option<u64>) -> Option<AsmFault>
     ensures { result ≡ or_past naming past }
 {
     match naming {
         Some(fault) => Some(fault),
-        None => Some((66, past?)),
+        None => Some(fault_at(66, past?)),
     }
 }
 
 /// The first fault of the items that were surveyed.
 #[tactic(auto, using(crate::proofs::Whole::fault_is))]
-fn fault_of(survey: &Survey<'_>, items: &[AsmItem]) -> Option<(u32, u64)>
+fn fault_of(survey: &Survey<'_>, items: &[AsmItem]) -> Option<AsmFault>
     requires labels { survey.now.labels ≡ collected 0x20000000 [] items.now }
     requires twice { survey.now.twice ≡ twice_from 1 [] items.now }
     ensures { result ≡ fault_of items.now }
@@ -57,11 +63,11 @@ pub fn assemble(alloc: Global, items: &[AsmItem]) -> Result<Placement, AsmErr>
     ensures placed { IfOk result (λ p. Placed items.now p.words p.labels) }
     ensures faultless { OnOk result (fault_of items.now ≡ None) }
     ensures few { IfOk result (λ p. length p.words ≤ 33554432) }
-    ensures refused { IfErr result (IsRefusal items.now) }
+    ensures refused { IfErr result (IfCause (IsRefusal items.now)) }
 {
     let survey = surveyed(alloc, items)?;
-    if let Some((code, at)) = fault_of(&survey, items) {
-        return Err(AsmErr::At { code, at });
+    if let Some(fault) = fault_of(&survey, items) {
+        return Err(AsmErr::Cause(fault));
     }
     let words = words_of_items(alloc, &survey.labels, items)?;
     let labels = labels_of(alloc, items)?;

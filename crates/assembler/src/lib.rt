@@ -15,7 +15,7 @@ mod sizes;
 mod survey;
 mod texts;
 
-pub use asm_reader::{AsmErr, read_asm};
+pub use asm_reader::{AsmErr, AsmFault, read_asm};
 pub use assembling::assemble;
 pub use labels::Labels;
 pub use laws::{

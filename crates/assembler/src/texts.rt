@@ -4,6 +4,7 @@ ghost use Rattle.std.specs.List.{take_while};
 ghost use Rattle.std.specs.Option.{option_map_or};
 ghost use Rattle.asm_reader.specs.Parted.{parted};
 ghost use Rattle.asm_reader.specs.Reading.{is_newline};
+ghost use Rattle.assembler.specs.Faults.{IfCause};
 ghost use Rattle.assembler.specs.Labels.{address_of, are_words};
 ghost use Rattle.assembler.specs.Texts.{AreWordsOf, IsTextRefusal};
 ghost use Rattle.assembler.specs.inner.Parts.{AreMore, AreOf, ReadsMore, filled, part_word, words_on};
@@ -54,7 +55,7 @@ fn take_piece(alloc: Global, parts: &mut Parts, piece: &[u8]) -> Result<bool, Me
 {
     match read_asm(alloc, piece) {
         Ok(items) => take(parts, &items),
-        Err(AsmErr::At { .. }) => Ok(false),
+        Err(AsmErr::Cause(_)) => Ok(false),
         Err(AsmErr::Memory) => Err(Memory),
     }
 }
@@ -190,7 +191,7 @@ fn words_of_text(alloc: Global, text: &[u8]) -> Result<Option<Vec<u32>>, Memory>
 pub fn assemble_text(alloc: Global, text: &[u8]) -> Result<Seq<u32>, AsmErr>
     ensures words { IfOk result (λ w. AreWordsOf text.now w) }
     ensures few { IfOk result (λ w. length w ≤ 33554432) }
-    ensures refused { IfErr result (IsTextRefusal text.now) }
+    ensures refused { IfErr result (IfCause (IsTextRefusal text.now)) }
 {
     if let Some(words) = words_of_text(alloc, text)? {
         return Ok(Seq::from_vec(words));

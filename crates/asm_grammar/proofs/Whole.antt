@@ -3,11 +3,12 @@ use Rattle.std.proofs.Common.{◌≡◌, ℕ, ◌+◌, List, [], ◌∷◌, ◌+
 use Rattle.std.specs.Prelude.{◌↔◌, Result, Ok, Err}
 use Rattle.std.specs.List.{AllZip, flat_map}
 use Rattle.asm_items.specs.declared.item.AsmItem.{AsmItem}
+use Rattle.asm_reader.specs.declared.error.AsmFault.{AsmFault}
 use Rattle.asm_reader.specs.declared.fault.LineFault.{LineFault}
 use Rattle.asm_reader.specs.Faults.{code_of}
 use Rattle.asm_reader.specs.Lines.{line_items}
 use Rattle.asm_reader.specs.Parted.{parted}
-use Rattle.asm_reader.specs.Reading.{is_newline, Text, at_line, read_from, read}
+use Rattle.asm_reader.specs.Reading.{is_newline, Text, at_line, fault_at, read_from, read}
 use Rattle.asm_reader.specs.Tokens.{tokens_of}
 use Rattle.asm_reader.proofs.PartLaws.{lines_both_ways}
 use Rattle.asm_grammar.specs.Refused.{HasFault, IsRefused}
@@ -79,24 +80,24 @@ pub faults_both : (line : List ℕ) (fault : LineFault) → (line_items (tokens_
 faults_both line fault = (to_fault line fault, of_fault line fault)
 
 -- the first of these lines has that number
-record Faulty (number : ℕ) (lines : List (List ℕ)) (code at : ℕ) : Type 0 where
+record Faulty (number : ℕ) (lines : List (List ℕ)) (refusal : AsmFault) : Type 0 where
   before : List (List ℕ)
   line : List ℕ
   after : List (List ℕ)
   whole : lines ≡ before ++ line ∷ after
   parts : List (List AsmItem)
   right : AllZip SpellsItems before parts
-  counted : at ≡ length before + number
+  counted : refusal.at ≡ length before + number
   fault : LineFault
   faulty : HasFault line fault
-  class : code ≡ code_of fault
+  class : refusal.code ≡ code_of fault
 
-error_is : {x y : ℕ × ℕ} → (let r : Text = Err x in r ≡ Err y) → x ≡ y
+error_is : {x y : AsmFault} → (let r : Text = Err x in r ≡ Err y) → x ≡ y
 error_is e = cc
 
-refused_step : (number : ℕ) (line : List ℕ) (lines : List (List ℕ)) (code at : ℕ) (r : Result (List AsmItem) LineFault) (rest : Text) → line_items (tokens_of line) ≡ r
-    → (rest ≡ Err (code, at) → Faulty (number + 1) lines code at) → at_line number r rest ≡ Err (code, at) → Faulty number (line ∷ lines) code at
-refused_step number line lines code at (Err f) rest e others h =
+refused_step : (number : ℕ) (line : List ℕ) (lines : List (List ℕ)) (refusal : AsmFault) (r : Result (List AsmItem) LineFault) (rest : Text) → line_items (tokens_of line) ≡ r
+    → (rest ≡ Err refusal → Faulty (number + 1) lines refusal) → at_line number r rest ≡ Err refusal → Faulty number (line ∷ lines) refusal
+refused_step number line lines refusal (Err f) rest e others h =
     let same = error_is h in
     record {
       before = [];
@@ -105,13 +106,13 @@ refused_step number line lines code at (Err f) rest e others h =
       whole = refl;
       parts = [];
       right = tt;
-      counted = let s : number ≡ at = ap (λ (p : ℕ × ℕ). p.1) same in omega (arith, s);
+      counted = let s : number ≡ refusal.at = ap (λ (p : AsmFault). p.at) same in omega (arith, s);
       fault = f;
       faulty = to_fault line f e;
-      class = sym (ap (λ (p : ℕ × ℕ). p.0) same);
+      class = sym (ap (λ (p : AsmFault). p.code) same);
     }
-refused_step number line lines code at (Ok xs) (Ok more) e others h = absurd cc
-refused_step number line lines code at (Ok xs) (Err f) e others h =
+refused_step number line lines refusal (Ok xs) (Ok more) e others h = absurd cc
+refused_step number line lines refusal (Ok xs) (Err f) e others h =
     let o = others h in
     record {
       before = line ∷ o.before;
@@ -126,30 +127,30 @@ refused_step number line lines code at (Ok xs) (Err f) e others h =
       class = o.class;
     }
 
-to_faulty : (number : ℕ) (lines : List (List ℕ)) (code at : ℕ) → read_from number lines ≡ Err (code, at) → Faulty number lines code at
+to_faulty : (number : ℕ) (lines : List (List ℕ)) (refusal : AsmFault) → read_from number lines ≡ Err refusal → Faulty number lines refusal
 unfolding read_from
-to_faulty number [] code at e = absurd cc
-to_faulty number (line ∷ lines) code at e =
-    refused_step number line lines code at (line_items (tokens_of line)) (read_from (number + 1) lines) refl (λ h. to_faulty (number + 1) lines code at h) e
+to_faulty number [] refusal e = absurd cc
+to_faulty number (line ∷ lines) refusal e =
+    refused_step number line lines refusal (line_items (tokens_of line)) (read_from (number + 1) lines) refl (λ h. to_faulty (number + 1) lines refusal h) e
 
 of_faulty : (number : ℕ) (before : List (List ℕ)) (line : List ℕ) (after : List (List ℕ)) (parts : List (List AsmItem)) (fault : LineFault) → AllZip SpellsItems before parts → HasFault line fault
-    → read_from number (before ++ line ∷ after) ≡ Err (code_of fault, length before + number)
+    → read_from number (before ++ line ∷ after) ≡ Err (fault_at fault (length before + number))
 unfolding read_from
 of_faulty number [] line after parts fault right h =
-    let one : read_from number (line ∷ after) ≡ Err (code_of fault, number) = rw (of_fault line fault h) refl in
+    let one : read_from number (line ∷ after) ≡ Err (fault_at fault number) = rw (of_fault line fault h) refl in
     let n : number ≡ 0 + number = omega arith in
-    one ∙ ap (λ (k : ℕ). let whole : Text = Err (code_of fault, k) in whole) n
+    one ∙ ap (λ (k : ℕ). let whole : Text = Err (fault_at fault k) in whole) n
 of_faulty number (b ∷ bs) line after [] fault right h = absurd right
 of_faulty number (b ∷ bs) line after (p ∷ ps) fault right h =
     let r = of_faulty (number + 1) bs line after ps fault right.1 h in
     let n : length bs + (number + 1) ≡ length (b ∷ bs) + number = omega arith in
-    let one : read_from number (b ∷ (bs ++ line ∷ after)) ≡ Err (code_of fault, length bs + (number + 1)) = rw (of_items b p right.0, r) refl in
-    one ∙ ap (λ (k : ℕ). let whole : Text = Err (code_of fault, k) in whole) n
+    let one : read_from number (b ∷ (bs ++ line ∷ after)) ≡ Err (fault_at fault (length bs + (number + 1))) = rw (of_items b p right.0, r) refl in
+    one ∙ ap (λ (k : ℕ). let whole : Text = Err (fault_at fault k) in whole) n
 
-to_refused : (bytes : List ℕ) (code at : ℕ) → read bytes ≡ Err (code, at) → IsRefused bytes code at
+to_refused : (bytes : List ℕ) (refusal : AsmFault) → read bytes ≡ Err refusal → IsRefused bytes refusal
 unfolding read
-to_refused bytes code at e =
-    let f = to_faulty 1 (parted is_newline bytes) code at e in
+to_refused bytes refusal e =
+    let f = to_faulty 1 (parted is_newline bytes) refusal e in
     record {
       before = f.before;
       line = f.line;
@@ -163,11 +164,11 @@ to_refused bytes code at e =
       class = f.class;
     }
 
-of_refused : (bytes : List ℕ) (code at : ℕ) → IsRefused bytes code at → read bytes ≡ Err (code, at)
+of_refused : (bytes : List ℕ) (refusal : AsmFault) → IsRefused bytes refusal → read bytes ≡ Err refusal
 unfolding read
-of_refused bytes code at x =
+of_refused bytes refusal x =
     ap (read_from 1) ((lines_both_ways bytes (x.before ++ x.line ∷ x.after)).1 x.parted)
-    ∙ of_faulty 1 x.before x.line x.after x.parts x.fault x.right x.faulty ∙ λ i. Err (sym x.class i, sym x.number i)
+    ∙ of_faulty 1 x.before x.line x.after x.parts x.fault x.right x.faulty ∙ λ i. Err (record { code = sym x.class i; at = sym x.number i })
 
-pub refusals_both : (bytes : List ℕ) (code at : ℕ) → (read bytes ≡ Err (code, at)) ↔ IsRefused bytes code at
-refusals_both bytes code at = (to_refused bytes code at, of_refused bytes code at)
+pub refusals_both : (bytes : List ℕ) (refusal : AsmFault) → (read bytes ≡ Err refusal) ↔ IsRefused bytes refusal
+refusals_both bytes refusal = (to_refused bytes refusal, of_refused bytes refusal)

@@ -4,6 +4,7 @@ use Rattle.std.specs.List.{AllZip}
 use Rattle.asm_items.specs.declared.item.AsmItem.{AsmItem}
 use Rattle.asm_items.specs.declared.vocabulary.Operation.{Operation}
 use Rattle.asm_items.specs.declared.vocabulary.DataWord.TheVariants as d
+use Rattle.asm_reader.specs.declared.error.AsmFault.{AsmFault}
 use Rattle.asm_reader.specs.declared.fault.LineFault.{LineFault}
 use Rattle.asm_reader.specs.declared.fault.LineFault.TheVariants.{BadLine, NoSuchForm, FloatInstruction, NumberTooLarge}
 use Rattle.asm_reader.specs.declared.token.Token.{Token}
@@ -68,14 +69,14 @@ pub record HasFault (line : List ℕ) (fault : LineFault) : Type 0 where
   pub are : IsOfClass fault tokens
 
 -- The text is refused with a code at a line, counted from 1: those before it have items, and it is of the class of that code.
-pub record IsRefused (bytes : List ℕ) (code at : ℕ) : Type 0 where
+pub record IsRefused (bytes : List ℕ) (refusal : AsmFault) : Type 0 where
   pub before : List (List ℕ)
   pub line : List ℕ
   pub after : List (List ℕ)
   pub parted : IsParted is_newline 10 bytes (before ++ line ∷ after)
   pub parts : List (List AsmItem)
   pub right : AllZip SpellsItems before parts
-  pub number : at ≡ length before + 1
+  pub number : refusal.at ≡ length before + 1
   pub fault : LineFault
   pub faulty : HasFault line fault
-  pub class : code ≡ code_of fault
+  pub class : refusal.code ≡ code_of fault

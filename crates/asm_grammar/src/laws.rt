@@ -2,6 +2,7 @@
 ghost use Rattle.std.specs.Prelude.{◌≡◌, ◌↔◌, ℕ, List, Some, Ok, Err};
 ghost use Rattle.asm_items.specs.declared.item.AsmItem.{AsmItem};
 ghost use Rattle.asm_items.specs.declared.vocabulary.Operation.{Operation};
+ghost use Rattle.asm_reader.specs.declared.error.AsmFault.{AsmFault};
 ghost use Rattle.asm_reader.specs.declared.fault.LineFault.{LineFault};
 ghost use Rattle.asm_reader.specs.declared.fault.LineFault.TheVariants.{NoSuchForm, NumberTooLarge};
 ghost use Rattle.asm_reader.specs.declared.token.Token.{Token};
@@ -51,5 +52,5 @@ pub fn lines_are_refused_by_class()
 
 /// A text is refused with a code at a line exactly where that is its first line without items, and of the class of the code.
 pub fn texts_are_refused_at_their_first_faulty_line()
-    ensures both_ways { (bytes : List ℕ) (code at : ℕ) → (read bytes ≡ Err (code, at)) ↔ IsRefused bytes code at }
+    ensures both_ways { (bytes : List ℕ) (refusal : AsmFault) → (read bytes ≡ Err refusal) ↔ IsRefused bytes refusal }
 {}

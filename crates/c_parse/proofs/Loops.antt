@@ -1,10 +1,10 @@
 -- Loops that read what repeats.
 use Rattle.std.proofs.Common.{◌≡◌, ℕ, zero, suc, ◌<◌, List, length, Some, None, Result, Ok, Err, refl, sym, ◌∙◌, arith}
+use Rattle.kit_base.specs.declared.failure.Failure.{Failure}
+use Rattle.kit_base.specs.declared.failure.Failure.TheVariants as errors
+use Rattle.kit_base.specs.Gives.{Fails}
 use Rattle.c_parse.specs.declared.fault.Fault.{Fault}
-use Rattle.c_parse.specs.declared.fault.ReadErr.{ReadErr}
-use Rattle.c_parse.specs.declared.fault.ReadErr.TheVariants as errors
 use Rattle.c_parse.specs.Tok.{Tok}
-use Rattle.c_parse.specs.inner.View.{Fails}
 use Rattle.c_parse.specs.inner.Reader.{◌>>=◌, Got, Turn, goes_on, repeat, loop}
 
 -- what is still to be read gives the total, and the count of turns is enough
@@ -40,9 +40,9 @@ module _ {A : Type 0} (turn : Turn A) (a : A) (ts : List Tok) (total : Result (G
       let one : (turn a ts >>= goes_on (repeat turn t.0) a ts) ≡ Err d = rw e refl in
       sym (same_turn t.0 t.1) ∙ one
 
-  pub goes_fail : (e : ReadErr) → Fails e (turn a ts) → Fails e total
+  pub goes_fail : (e : Failure Fault) → Fails e (turn a ts) → Fails e total
   goes_fail errors.Memory bad = tt
-  goes_fail (errors.Fault d) bad = goes_err d bad
+  goes_fail (errors.Cause d) bad = goes_err d bad
 
   pub goes_turn : (b : A) (us : List Tok) → turn a ts ≡ Ok (Some (b, us)) → length us < length ts → Goes turn b us total
   goes_turn b us e less =
@@ -51,6 +51,6 @@ module _ {A : Type 0} (turn : Turn A) (a : A) (ts : List Tok) (total : Result (G
       record { turns = t.0; enough = omega (arith, h.enough, t.1, less); same = sym one ∙ same_turn t.0 t.1 }
 
 -- a step that fails makes what goes on with it fail
-pub fails_on : {A B : Type 0} (e : ReadErr) (r : Result A Fault) (f : A → Result B Fault) → Fails e r → Fails e (r >>= f)
+pub fails_on : {A B : Type 0} (e : Failure Fault) (r : Result A Fault) (f : A → Result B Fault) → Fails e r → Fails e (r >>= f)
 fails_on errors.Memory r f h = tt
-fails_on (errors.Fault d) r f h = rw h refl
+fails_on (errors.Cause d) r f h = rw h refl

@@ -3,6 +3,9 @@ use Rattle.std.proofs.Common.{◌≡◌, ℕ, suc, ◌+◌, ◌-◌, ◌<◌, Li
 use Rattle.std.specs.Prelude.{IfOk}
 use Rattle.std.proofs.Math.Seq.{drop-append_seam}
 use Rattle.std.proofs.lemmas.List.{length-append}
+use Rattle.kit_base.specs.declared.failure.Failure.{Failure}
+use Rattle.kit_base.specs.declared.failure.Failure.TheVariants as read
+use Rattle.kit_base.specs.Gives.{Gives}
 use Rattle.c_tree.specs.declared.item.Unit.{Unit as File}
 use Rattle.c_tree.specs.Tree.{ItemT}
 use Rattle.c_tree.specs.View.{unit}
@@ -11,11 +14,8 @@ use Rattle.c_parse.specs.declared.error.ParseErr.{ParseErr}
 use Rattle.c_parse.specs.declared.error.ParseErr.TheVariants as errors
 use Rattle.c_parse.specs.declared.fault.Fault.{Fault}
 use Rattle.c_parse.specs.declared.fault.Fault.TheVariants.{Syntax, TooDeep}
-use Rattle.c_parse.specs.declared.fault.ReadErr.{ReadErr}
-use Rattle.c_parse.specs.declared.fault.ReadErr.TheVariants as read
 use Rattle.c_parse.specs.Tok.{Tok}
 use Rattle.c_parse.specs.Units.{Unit_, Derives}
-use Rattle.c_parse.specs.inner.View.{Gives}
 use Rattle.c_parse.specs.Places.{refused_at, FirstBad, FirstDeep, Answers, AnswersTooDeep}
 use Rattle.c_parse.specs.inner.Answer.{bad_at, answered}
 use Rattle.c_parse.specs.inner.ReadingUnits.{unit_at}
@@ -105,27 +105,27 @@ word_in d (Err (errors.Unsupported t what)) = what
 word_in d _ = d
 
 module _ (ts : List Tok) where
-  pub is_parsed : (r : Result File ReadErr) → Gives unit r (unit_at 199 ts) → IfOk (answered ts r) (λ u. Derives ts (unit u))
+  pub is_parsed : (r : Result File (Failure Fault)) → Gives unit r (unit_at 199 ts) → IfOk (answered ts r) (λ u. Derives ts (unit u))
   is_parsed (Ok u) e = unit_derived 199 ts (unit u) (omega arith) e
   is_parsed (Err f) e = tt
 
   answers_bad : (t : ℕ) (o : Option ℕ) (ds : List ItemT) → ⊥ → Answers ds (refusal (bad_at t o))
   answers_bad t o ds h = absurd h
 
-  pub is_answered : (r : Result File ReadErr) → Gives unit r (unit_at 199 ts) → (ds : List ItemT) → Derives ts ds → Answers ds (answered ts r)
+  pub is_answered : (r : Result File (Failure Fault)) → Gives unit r (unit_at 199 ts) → (ds : List ItemT) → Derives ts ds → Answers ds (answered ts r)
   is_answered (Ok u) e ds d = same_items (unit u) ds (sym e ∙ unit_read ts ds d)
   is_answered (Err read.Memory) e ds d = tt
-  is_answered (Err (read.Fault (Syntax n))) e ds d = answers_bad _ _ ds (not_both (Syntax n) ds (sym e ∙ unit_read ts ds d))
-  is_answered (Err (read.Fault (TooDeep n))) e ds d = absurd (not_both (TooDeep n) ds (sym e ∙ unit_read ts ds d))
+  is_answered (Err (read.Cause (Syntax n))) e ds d = answers_bad _ _ ds (not_both (Syntax n) ds (sym e ∙ unit_read ts ds d))
+  is_answered (Err (read.Cause (TooDeep n))) e ds d = absurd (not_both (TooDeep n) ds (sym e ∙ unit_read ts ds d))
 
   too_deep_bad : (t : ℕ) (o : Option ℕ) → ⊥ → AnswersTooDeep (refusal (bad_at t o))
   too_deep_bad t o h = absurd h
 
-  pub is_too_deep : (r : Result File ReadErr) → Gives unit r (unit_at 199 ts) → (ds : List ItemT) → Unit_ ts ds → 200 < unit_depth ds → AnswersTooDeep (answered ts r)
+  pub is_too_deep : (r : Result File (Failure Fault)) → Gives unit r (unit_at 199 ts) → (ds : List ItemT) → Unit_ ts ds → 200 < unit_depth ds → AnswersTooDeep (answered ts r)
   is_too_deep (Ok u) e ds d lt = let k = unit_deep ts ds d lt in absurd (not_deep (unit u) k.0 (sym e ∙ k.1))
   is_too_deep (Err read.Memory) e ds d lt = tt
-  is_too_deep (Err (read.Fault (Syntax n))) e ds d lt = too_deep_bad _ _ (never_faulty ts ds n d e)
-  is_too_deep (Err (read.Fault (TooDeep n))) e ds d lt = tt
+  is_too_deep (Err (read.Cause (Syntax n))) e ds d lt = too_deep_bad _ _ (never_faulty ts ds n d e)
+  is_too_deep (Err (read.Cause (TooDeep n))) e ds d lt = tt
 
   bad_none : (b : ℕ) (o : Option ℕ) (t : ℕ) → refusal (bad_at b o) ≡ refusal (errors.Syntax t) → FirstBad ts b o → FirstBad ts t None
   bad_none b None t e h = subst (λ (k : ℕ). FirstBad ts k None) (ap (λ (r : Result File ParseErr). token_in b r) e) h
@@ -140,24 +140,24 @@ module _ (ts : List Tok) where
   bad_not_deep b (Some w) t e = cc
 
   module _ (begun : SyntaxBegun) where
-    pub is_syntax : (r : Result File ReadErr) → Gives unit r (unit_at 199 ts) → (t : ℕ) → answered ts r ≡ Err (errors.Syntax t) → FirstBad ts t None
+    pub is_syntax : (r : Result File (Failure Fault)) → Gives unit r (unit_at 199 ts) → (t : ℕ) → answered ts r ≡ Err (errors.Syntax t) → FirstBad ts t None
     is_syntax (Ok u) e t is = absurd cc
     is_syntax (Err read.Memory) e t is = absurd cc
-    is_syntax (Err (read.Fault (Syntax n))) e t is = bad_none _ _ t is (first_bad begun ts n e)
-    is_syntax (Err (read.Fault (TooDeep n))) e t is = absurd cc
+    is_syntax (Err (read.Cause (Syntax n))) e t is = bad_none _ _ t is (first_bad begun ts n e)
+    is_syntax (Err (read.Cause (TooDeep n))) e t is = absurd cc
 
-    pub is_refused : (r : Result File ReadErr) → Gives unit r (unit_at 199 ts) → (t what : ℕ) → answered ts r ≡ Err (errors.Unsupported t what) → FirstBad ts t (Some what)
+    pub is_refused : (r : Result File (Failure Fault)) → Gives unit r (unit_at 199 ts) → (t what : ℕ) → answered ts r ≡ Err (errors.Unsupported t what) → FirstBad ts t (Some what)
     is_refused (Ok u) e t what is = absurd cc
     is_refused (Err read.Memory) e t what is = absurd cc
-    is_refused (Err (read.Fault (Syntax n))) e t what is = bad_some _ _ t what is (first_bad begun ts n e)
-    is_refused (Err (read.Fault (TooDeep n))) e t what is = absurd cc
+    is_refused (Err (read.Cause (Syntax n))) e t what is = bad_some _ _ t what is (first_bad begun ts n e)
+    is_refused (Err (read.Cause (TooDeep n))) e t what is = absurd cc
 
   module _ (begun : DeepBegun) where
-    pub is_deep : (r : Result File ReadErr) → Gives unit r (unit_at 199 ts) → (t : ℕ) → answered ts r ≡ Err (errors.TooDeep t) → FirstDeep ts t
+    pub is_deep : (r : Result File (Failure Fault)) → Gives unit r (unit_at 199 ts) → (t : ℕ) → answered ts r ≡ Err (errors.TooDeep t) → FirstDeep ts t
     is_deep (Ok u) e t is = absurd cc
     is_deep (Err read.Memory) e t is = absurd cc
-    is_deep (Err (read.Fault (Syntax n))) e t is = absurd (bad_not_deep _ _ t is)
-    is_deep (Err (read.Fault (TooDeep n))) e t is = subst (λ (k : ℕ). FirstDeep ts k) (ap (λ (r : Result File ParseErr). token_in (length ts - n) r) is) (first_deep begun ts n e)
+    is_deep (Err (read.Cause (Syntax n))) e t is = absurd (bad_not_deep _ _ t is)
+    is_deep (Err (read.Cause (TooDeep n))) e t is = subst (λ (k : ℕ). FirstDeep ts k) (ap (λ (r : Result File ParseErr). token_in (length ts - n) r) is) (first_deep begun ts n e)
 
 pub fault_begun : SyntaxBegun
 fault_begun ts n e = syntax_begun 199 ts n e

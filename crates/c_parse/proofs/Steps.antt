@@ -1,6 +1,9 @@
 -- The readers' equations, with the room and the level as the code has them.
 use Rattle.std.proofs.Common.{◌≡◌, ℕ, zero, suc, ◌+◌, ◌-◌, ◌<◌, ◌≤◌, List, Ok, Err, refl, subst, ◌∙◌, arith, rules}
 use Rattle.std.proofs.lemmas.Bool.{le-ltb}
+use Rattle.kit_base.specs.declared.failure.Failure.{Failure}
+use Rattle.kit_base.specs.declared.failure.Failure.TheVariants as errors
+use Rattle.kit_base.specs.Gives.{Fails}
 use Rattle.c_tree.specs.declared.expression.Expr.{SizeOf}
 use Rattle.c_tree.specs.declared.expression.TypeTree.{TypeTree}
 use Rattle.c_tree.specs.declared.expression.Expr.{the_lemmas}
@@ -8,9 +11,6 @@ use Rattle.c_tree.specs.declared.span.Span.{Span}
 use Rattle.c_tree.specs.Tree.{TypeT, ExprT, SizeOfE}
 use Rattle.c_tree.specs.View.{expr, type}
 use Rattle.c_parse.specs.declared.fault.Fault.{Fault}
-use Rattle.c_parse.specs.declared.fault.ReadErr.{ReadErr}
-use Rattle.c_parse.specs.declared.fault.ReadErr.TheVariants as errors
-use Rattle.c_parse.specs.inner.View.{Fails}
 use Rattle.c_tree.specs.Depth.{type_depth}
 use Rattle.c_parse.specs.Tok.{Tok}
 use Rattle.c_parse.specs.Scope.{Context}
@@ -80,12 +80,12 @@ level_fails c r k ts d h (suc more) e =
     let below = level_fails c r k ts d h more e in
     rw f (level_step c r (suc (k + more)) ts h (omega arith) ∙ rw (g, below) refl)
 
-pub levels_fail : (c : Context) (r k j : ℕ) (ts rest : List Tok) (a : ExprT) (e : ReadErr) → 0 < r → k < j → level_at c r k ts ≡ Ok (a, rest) → Fails e (loop (operator_turn c (readers c (r - 1)) r k ts) a rest) → Fails e (level_at c r j ts)
+pub levels_fail : (c : Context) (r k j : ℕ) (ts rest : List Tok) (a : ExprT) (e : Failure Fault) → 0 < r → k < j → level_at c r k ts ≡ Ok (a, rest) → Fails e (loop (operator_turn c (readers c (r - 1)) r k ts) a rest) → Fails e (level_at c r j ts)
 levels_fail c r k j ts rest a errors.Memory h le is bad = tt
-levels_fail c r k j ts rest a (errors.Fault d) h le is bad =
+levels_fail c r k j ts rest a (errors.Cause d) h le is bad =
     let f : suc k + (j - suc k) ≡ j = omega arith in
     subst (λ (i : ℕ). level_at c r i ts ≡ Err d) f (level_fails c r (suc k) ts d h (j - suc k) (level_next c r k ts rest a h is ∙ bad))
 
-pub first_fails : (c : Context) (r k : ℕ) (ts : List Tok) (e : ReadErr) → 0 < r → Fails e (level_at c r 0 ts) → Fails e (level_at c r k ts)
+pub first_fails : (c : Context) (r k : ℕ) (ts : List Tok) (e : Failure Fault) → 0 < r → Fails e (level_at c r 0 ts) → Fails e (level_at c r k ts)
 first_fails c r k ts errors.Memory h bad = tt
-first_fails c r k ts (errors.Fault d) h bad = let f : 0 + k ≡ k = omega arith in subst (λ (i : ℕ). level_at c r i ts ≡ Err d) f (level_fails c r 0 ts d h k bad)
+first_fails c r k ts (errors.Cause d) h bad = let f : 0 + k ≡ k = omega arith in subst (λ (i : ℕ). level_at c r i ts ≡ Err d) f (level_fails c r 0 ts d h k bad)

@@ -1,10 +1,11 @@
 -- What one turn of the loop over items gives.
 use Rattle.std.proofs.Common.{◌≡◌, ℕ, zero, suc, ◌<◌, Bool, true, false, eqb, List, [], ◌∷◌, ◌++◌, length, Some, None, Ok, refl, ap, arith}
+use Rattle.kit_base.specs.declared.failure.Failure.{Failure}
+use Rattle.kit_base.specs.Gives.{Fails}
 use Rattle.c_tree.specs.Tree.{ItemT}
-use Rattle.c_parse.specs.declared.fault.ReadErr.{ReadErr}
 use Rattle.c_lex.specs.declared.token.Token.{Token}
+use Rattle.c_parse.specs.declared.fault.Fault.{Fault}
 use Rattle.c_parse.specs.Tok.{Tok, toks}
-use Rattle.c_parse.specs.inner.View.{Fails}
 use Rattle.c_parse.specs.inner.Reader.{loop}
 use Rattle.c_parse.specs.Units.{behind_item}
 use Rattle.c_parse.specs.inner.ReadingUnits.{Unit_so_far, item_read, item_turn, unit_at}
@@ -22,7 +23,7 @@ pub items_end : (n : ℕ) (a : Unit_so_far) (ts : List Tok) → length ts ≡ 0 
 items_end n a [] h = refl
 items_end n a (o ∷ ts) h = absurd (omega (arith, h))
 
-pub items_fail : (n : ℕ) (a : Unit_so_far) (ts : List Tok) (e : ReadErr) → 0 < length ts → Fails e (item_read a.0 n ts) → Fails e (item_turn n a ts)
+pub items_fail : (n : ℕ) (a : Unit_so_far) (ts : List Tok) (e : Failure Fault) → 0 < length ts → Fails e (item_read a.0 n ts) → Fails e (item_turn n a ts)
 items_fail n a [] e h bad = absurd (omega arith)
 items_fail n a (o ∷ ts) e h bad = fails_on e (item_read a.0 n (o ∷ ts)) _ bad
 
@@ -30,7 +31,7 @@ pub items_go : (n : ℕ) (a : Unit_so_far) (ts : List Tok) (d : ItemT) (rest : L
 items_go n a [] d rest h good = absurd (omega arith)
 items_go n a (o ∷ ts) d rest h good = rw good refl
 
-pub unit_fails : (n : ℕ) (ts : List Tok) (e : ReadErr) → Fails e (loop (item_turn n) (record { total = length ts; types = [] }, []) ts) → Fails e (unit_at n ts)
+pub unit_fails : (n : ℕ) (ts : List Tok) (e : Failure Fault) → Fails e (loop (item_turn n) (record { total = length ts; types = [] }, []) ts) → Fails e (unit_at n ts)
 unfolding unit_at
 unit_fails n ts e bad = fails_on e (loop (item_turn n) (record { total = length ts; types = [] }, []) ts) _ bad
 

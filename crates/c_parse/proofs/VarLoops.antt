@@ -1,12 +1,12 @@
 -- Loops over names that share a type, which is read again for each of them.
 use Rattle.std.proofs.Common.{◌≡◌, ℕ, suc, ◌<◌, true, false, List, [], ◌∷◌, ◌++◌, Result, Ok, Err, refl, sym, ap, subst, ◌∙◌, append_assoc, arith}
+use Rattle.kit_base.specs.declared.failure.Failure.{Failure}
+use Rattle.kit_base.specs.declared.failure.Failure.TheVariants as errors
+use Rattle.kit_base.specs.Gives.{Fails}
 use Rattle.c_tree.specs.Tree.{TypeT, VarT}
 use Rattle.c_parse.specs.declared.fault.Fault.{Fault}
-use Rattle.c_parse.specs.declared.fault.ReadErr.{ReadErr}
-use Rattle.c_parse.specs.declared.fault.ReadErr.TheVariants as errors
 use Rattle.c_parse.specs.Tok.{Tok}
 use Rattle.c_parse.specs.Scope.{Context}
-use Rattle.c_parse.specs.inner.View.{Fails}
 use Rattle.c_parse.specs.inner.Reader.{◌>>=◌, Got, behind, at_comma, semicolon}
 use Rattle.c_parse.specs.inner.Reading.{type_read}
 use Rattle.c_parse.specs.inner.ReadingLists.{comma_turn, separated}
@@ -27,9 +27,9 @@ done x = Ok x
 never_read : {A : Type 0} (d : Fault) (x : A) → failed d ≡ done x → ⊥
 never_read d x e = cc
 
-pub read_again : {A B : Type 0} (r : Result A Fault) (x : A) (e : ReadErr) (total : Result B Fault) → r ≡ Ok x → Fails e r → Fails e total
+pub read_again : {A B : Type 0} (r : Result A Fault) (x : A) (e : Failure Fault) (total : Result B Fault) → r ≡ Ok x → Fails e r → Fails e total
 read_again r x errors.Memory total is bad = tt
-read_again r x (errors.Fault d) total is bad = absurd (never_read d x (sym bad ∙ is))
+read_again r x (errors.Cause d) total is bad = absurd (never_read d x (sym bad ∙ is))
 
 pub record VarsGo (c : Context) (n : ℕ) (from : List Tok) (found : List VarT) (ts : List Tok) (total : Result (Got (List VarT)) Fault) : Type 0 where
   pub y : TypeT
@@ -66,10 +66,10 @@ module _ (c : Context) (n : ℕ) (from : List Tok) (found : List VarT) (ts : Lis
   pub vars_end : at_comma ts ≡ false → total ≡ Ok (found, ts)
   vars_end e = goes_end _ _ _ _ h.goes (comma_end (var c n h.y) found ts e)
 
-  pub vars_type_fail : (e : ReadErr) → Fails e (type_read c n from) → Fails e total
+  pub vars_type_fail : (e : Failure Fault) → Fails e (type_read c n from) → Fails e total
   vars_type_fail e bad = read_again (type_read c n from) (h.y, h.behind_type) e total h.read bad
 
-  pub vars_fail : (e : ReadErr) (z : TypeT) (us : List Tok) → at_comma ts ≡ true → type_read c n from ≡ Ok (z, us) → Fails e (var c n z (behind ts)) → Fails e total
+  pub vars_fail : (e : Failure Fault) (z : TypeT) (us : List Tok) → at_comma ts ≡ true → type_read c n from ≡ Ok (z, us) → Fails e (var c n z (behind ts)) → Fails e total
   vars_fail e z us some is bad = goes_fail _ _ _ _ h.goes e (comma_fail (var c n h.y) found ts e some (subst (λ (y : TypeT). Fails e (var c n y (behind ts))) (same_type c n from z h.y us h.behind_type is h.read) bad))
 
   pub vars_turn : (z : TypeT) (us : List Tok) (v : VarT) (rest : List Tok) → at_comma ts ≡ true → type_read c n from ≡ Ok (z, us) → var c n z (behind ts) ≡ Ok (v, rest) → VarsGo c n from (found ++ v ∷ []) rest total
@@ -100,20 +100,20 @@ module _ (c : Context) (n : ℕ) (from : List Tok) (before found : List VarT) (t
   abbrev Total : Result (Got (List VarT)) Fault
   Total = member_at c (suc n) from >>= λ us. Ok (before ++ us.0, us.1)
 
-  pub fields_type_fail : (e : ReadErr) → Fails e (type_read c n from) → Fails e Total
+  pub fields_type_fail : (e : Failure Fault) → Fails e (type_read c n from) → Fails e Total
   fields_type_fail e bad = read_again (type_read c n from) (h.y, h.behind_type) e Total h.read bad
 
-  line_fails : (e : ReadErr) → Fails e (separated (field c h.y) h.behind_type) → Fails e Total
+  line_fails : (e : Failure Fault) → Fails e (separated (field c h.y) h.behind_type) → Fails e Total
   unfolding member_at
   line_fails e bad = rw h.read (fails_on e (separated (field c h.y) h.behind_type >>= _) _ (fails_on e (separated (field c h.y) h.behind_type) _ bad))
 
-  pub fields_fail : (e : ReadErr) (z : TypeT) (us : List Tok) → at_comma ts ≡ true → type_read c n from ≡ Ok (z, us) → Fails e (field c z (behind ts)) → Fails e Total
+  pub fields_fail : (e : Failure Fault) (z : TypeT) (us : List Tok) → at_comma ts ≡ true → type_read c n from ≡ Ok (z, us) → Fails e (field c z (behind ts)) → Fails e Total
   fields_fail e z us some is bad = line_fails e (goes_fail _ _ _ _ h.goes e (comma_fail (field c h.y) h.here ts e some (subst (λ (y : TypeT). Fails e (field c y (behind ts))) (same_type c n from z h.y us h.behind_type is h.read) bad)))
 
   line_is : at_comma ts ≡ false → separated (field c h.y) h.behind_type ≡ Ok (h.here, ts)
   line_is e = goes_end _ _ _ _ h.goes (comma_end (field c h.y) h.here ts e)
 
-  pub fields_unended : (e : ReadErr) → at_comma ts ≡ false → Fails e (semicolon ts) → Fails e Total
+  pub fields_unended : (e : Failure Fault) → at_comma ts ≡ false → Fails e (semicolon ts) → Fails e Total
   unfolding member_at
   fields_unended e none bad = rw (h.read, line_is none) (fails_on e (semicolon ts >>= _) _ (fails_on e (semicolon ts) _ bad))
 

@@ -1,9 +1,10 @@
 // From tokens to variables, members, parameters and the values of an enumeration.
 ghost use Rattle.std.specs.Prelude.{◌≡◌, map, option_map};
+ghost use Rattle.kit_base.specs.Gives.{Gives};
 ghost use Rattle.c_parse.specs.inner.ReadingDeclarations as reading;
 ghost use Rattle.c_parse.specs.inner.ReadingLists as lists;
 ghost use Rattle.c_parse.specs.Tok.{toks};
-ghost use Rattle.c_parse.specs.inner.View.{Gives, context};
+ghost use Rattle.c_parse.specs.inner.View.{context};
 ghost use Rattle.c_tree.specs.View.{expr, init, type, var};
 
 use crate::expression::{expression, level, type_tree};

@@ -1,11 +1,12 @@
 // From tokens to expressions and types.
 ghost use Rattle.std.specs.Prelude.{◌≡◌, ◌≤◌, ◌<◌, ◌-◌, ◌+◌, ◌^◌, IfOk, Ok, Some, map};
+ghost use Rattle.kit_base.specs.Gives.{Gives};
 ghost use Rattle.c_parse.specs.declared.lead.Lead.TheVariants as main_leads;
 ghost use Rattle.c_parse.specs.declared.lead.Start.TheVariants as starts;
 ghost use Rattle.c_parse.specs.declared.lead.Suffix.TheVariants as suffixes;
 ghost use Rattle.c_parse.specs.inner.Reader.{at_open_paren, behind, loop};
 ghost use Rattle.c_parse.specs.Tok.{toks};
-ghost use Rattle.c_parse.specs.inner.View.{Gives, context};
+ghost use Rattle.c_parse.specs.inner.View.{context};
 ghost use Rattle.c_parse.specs.inner.Reading.{assign_by, named_by, primary_by, selected, selection, suffix_by, unary_by, arguments_with, base};
 ghost use Rattle.c_parse.specs.inner.Reading.{expr_at, level_at, operator_turn, postfix_with, primary_with, readers, run_at, type_read};
 ghost use Rattle.c_parse.specs.inner.Leads as leads;

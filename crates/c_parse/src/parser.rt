@@ -61,11 +61,11 @@ fn answer(tokens: &[Token], e: ReadErr) -> ParseErr
 {
     match e {
         ReadErr::Memory => ParseErr::Memory,
-        ReadErr::Fault(Fault::Syntax(left)) => {
+        ReadErr::Cause(Fault::Syntax(left)) => {
             let token = place(tokens, left);
             bad_at(token, refused_at(skip(tokens, token)))
         }
-        ReadErr::Fault(Fault::TooDeep(left)) => ParseErr::TooDeep {
+        ReadErr::Cause(Fault::TooDeep(left)) => ParseErr::TooDeep {
             token: place(tokens, left),
         },
     }

@@ -1,5 +1,6 @@
 // From tokens to statements.
 ghost use Rattle.std.specs.Prelude.{◌≡◌, ◌<◌, ◌-◌, ◌*◌, Ok, map, option_map, true};
+ghost use Rattle.kit_base.specs.Gives.{Gives};
 ghost use Rattle.c_parse.specs.declared.lead.ArmLead.TheVariants as arm_leads;
 ghost use Rattle.c_parse.specs.declared.lead.StmtLead.TheVariants as leads;
 ghost use Rattle.c_parse.specs.inner.Reader as reader;
@@ -7,7 +8,7 @@ ghost use Rattle.c_parse.specs.inner.ReadingLists.{braced};
 ghost use Rattle.c_parse.specs.inner.ReadingParts as parts;
 ghost use Rattle.c_parse.specs.inner.ReadingStatements as reading;
 ghost use Rattle.c_parse.specs.Tok.{toks};
-ghost use Rattle.c_parse.specs.inner.View.{Gives, boxed_stmt, context};
+ghost use Rattle.c_parse.specs.inner.View.{boxed_stmt, context};
 ghost use Rattle.c_tree.specs.Tree.{ForS, IfS};
 ghost use Rattle.c_parse.specs.inner.ReadingStatements.{maybe};
 ghost use Rattle.c_tree.specs.View.{arm, expr, stmt};

@@ -1,11 +1,12 @@
 // Single tokens at the front.
 ghost use Rattle.std.specs.Prelude.{◌≡◌, ◌≤◌, ◌<◌, IfOk, IfErr, Ok, length};
+ghost use Rattle.kit_base.specs.declared.failure.Failure.TheVariants as errors;
+ghost use Rattle.kit_base.specs.Gives.{Gives};
 ghost use Rattle.c_parse.specs.Tok.{bytes_of, toks};
 ghost use Rattle.c_parse.specs.declared.fault.Fault.TheVariants.{Syntax, TooDeep};
-ghost use Rattle.c_parse.specs.declared.fault.ReadErr.TheVariants as errors;
 ghost use Rattle.c_parse.specs.inner.Reader as reader;
 ghost use Rattle.c_parse.specs.inner.Reader.{behind, bytes_at, must};
-ghost use Rattle.c_parse.specs.inner.View.{Gives, context};
+ghost use Rattle.c_parse.specs.inner.View.{context};
 
 use crate::class::{Class, Key, next};
 use crate::fault::{Fault, ReadErr};
@@ -16,20 +17,20 @@ use std::alloc::Global;
 
 /// No unit goes on with the first of these tokens.
 pub(crate) fn bad(tokens: &[Token]) -> ReadErr
-    ensures { result ≡ errors.Fault (Syntax (length (toks tokens.now))) }
+    ensures { result ≡ errors.Cause (Syntax (length (toks tokens.now))) }
 {
-    ReadErr::Fault(Fault::Syntax(tokens.len()))
+    ReadErr::Cause(Fault::Syntax(tokens.len()))
 }
 
 /// No unit that is shallow enough goes on with the first of these tokens.
 pub(crate) fn deep(tokens: &[Token]) -> ReadErr
-    ensures { result ≡ errors.Fault (TooDeep (length (toks tokens.now))) }
+    ensures { result ≡ errors.Cause (TooDeep (length (toks tokens.now))) }
 {
-    ReadErr::Fault(Fault::TooDeep(tokens.len()))
+    ReadErr::Cause(Fault::TooDeep(tokens.len()))
 }
 
 pub(crate) fn no_room(begins: bool, tokens: &[Token]) -> ReadErr
-    ensures { result ≡ errors.Fault (reader.room_fault begins (toks tokens.now)) }
+    ensures { result ≡ errors.Cause (reader.room_fault begins (toks tokens.now)) }
 {
     if begins { deep(tokens) } else { bad(tokens) }
 }
@@ -37,7 +38,7 @@ pub(crate) fn no_room(begins: bool, tokens: &[Token]) -> ReadErr
 /// A tree has room above a part of that depth, or no unit that is shallow enough goes on with the first of these tokens.
 pub(crate) fn raised(room: u32, depth: u32, tokens: &[Token]) -> Result<(), ReadErr>
     ensures fits { IfOk result (λ _. depth < room) }
-    ensures deep { IfErr result (λ e. (room ≤ depth) × (e ≡ errors.Fault (TooDeep (length (toks tokens.now))))) }
+    ensures deep { IfErr result (λ e. (room ≤ depth) × (e ≡ errors.Cause (TooDeep (length (toks tokens.now))))) }
 {
     if room <= depth {
         return Err(deep(tokens));

@@ -1,12 +1,13 @@
 // From tokens to the items of a unit.
 ghost use Rattle.std.specs.Prelude.{◌≡◌, ◌≤◌, ◌<◌, IfErr, IfOk, Ok, length, map};
+ghost use Rattle.kit_base.specs.declared.failure.Failure.TheVariants as errors;
+ghost use Rattle.kit_base.specs.Gives.{Gives};
 ghost use Rattle.c_parse.specs.inner.Reader.{at_semicolon};
 ghost use Rattle.c_parse.specs.inner.ReadingUnits as reading;
 ghost use Rattle.c_parse.specs.Scope.{declare};
 ghost use Rattle.c_parse.specs.Tok.{toks};
 ghost use Rattle.c_parse.specs.Units.{behind_item};
-ghost use Rattle.c_parse.specs.declared.fault.ReadErr.TheVariants as errors;
-ghost use Rattle.c_parse.specs.inner.View.{Gives, context};
+ghost use Rattle.c_parse.specs.inner.View.{context};
 ghost use Rattle.c_tree.specs.View.{item, type, unit, var};
 ghost use Rattle.c_tree.specs.Depth.{type_depth};
 ghost use Rattle.c_tree.specs.Tree.{VoidY};

@@ -1,10 +1,11 @@
 use Rattle.std.proofs.Common.{◌≡◌, map, ℕ, suc, ◌-◌, true, false, [], ◌∷◌, ◌++◌, Ok, arith, subst}
 use Rattle.std.proofs.lemmas.Result.{err_from_is_err_and}
 use Rattle.std.proofs.lemmas.List.{map_push}
+use Rattle.kit_base.specs.Gives.{Fails}
 use Rattle.c_parse.specs.inner.Reader.{at_comma, behind}
 use Rattle.c_parse.specs.inner.ReadingDeclarations.{member_at, behind_others}
 use Rattle.c_parse.specs.Tok.{toks}
-use Rattle.c_parse.specs.inner.View.{Fails, context}
+use Rattle.c_parse.specs.inner.View.{context}
 use Rattle.c_tree.specs.View.{type, var}
 use Rattle.c_parse.proofs.Less.{field_less}
 use Rattle.c_parse.proofs.Turns.{behind_up}

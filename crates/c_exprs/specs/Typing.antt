@@ -10,12 +10,13 @@ use Rattle.c_types.specs.Typed.{TExprT, Typed, NumberK, NullK, LiteralK, UnaryK,
 use Rattle.c_rules.specs.declared.code.Code.TheVariants.{NotConstant}
 use Rattle.c_rules.specs.Nodes.{needs_place, unary_rule, binary_rule, assign_rule, compound_rule, step_rule, index_rule, cast_rule, size_rule, array_rule}
 use Rattle.c_exprs.specs.Env.{Text, Ctx}
-use Rattle.c_exprs.specs.Faults.{FaultT, ◌>>=◌, placed, at_node, known, with_text}
+use Rattle.c_exprs.specs.declared.error.Fault.{Fault}
+use Rattle.c_exprs.specs.Faults.{◌>>=◌, placed, at_node, known, with_text}
 use Rattle.c_exprs.specs.Nodes.{type_of_typed, span_of, is_place, value_rule, name_tree, named_type, member_tree, arrow_tree, constant}
 use Rattle.c_exprs.specs.Calls.{names_port, call_node}
 
 abbrev pub Typer : Type 0 → Type 0
-Typer A = Result (A × List Text) FaultT
+Typer A = Result (A × List Text) Fault
 
 -- an expression whose value is asked for
 unfoldable pub as_value : Ctx → Span → Typer TExprT → Typer TExprT

@@ -11,7 +11,7 @@ ghost use Rattle.c_exprs.specs.Nodes.{type_of_typed};
 ghost use Rattle.c_exprs.specs.Calls.{IntrinsicC, ensured, takes_port, names_port, all_convert, with_body, function_call, first_port, read_port};
 ghost use Rattle.c_exprs.specs.Calls.{written_port, port_in_call, port_out_call, plain_call, intrinsic_call, call_node};
 ghost use Rattle.c_exprs.specs.View.{called, ctx, tkind};
-ghost use Rattle.c_exprs.specs.Gives.{Gives};
+ghost use Rattle.kit_base.specs.Gives.{Gives};
 
 use crate::error::{CheckErr, keeping};
 use crate::intrinsics::{Intrinsic, intrinsic_of};

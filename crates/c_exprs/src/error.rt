@@ -1,47 +1,24 @@
 // Why a unit has no typed program.
 ghost use Rattle.std.specs.Prelude.{◌≡◌, Ok, Err, IfOk, IfErr};
-ghost use Rattle.c_exprs.specs.declared.error.CheckErr.TheVariants as errors;
 ghost use Rattle.c_exprs.specs.Faults.{known, demanded, placed};
-ghost use Rattle.c_exprs.specs.Gives.{Gives, taken};
+ghost use Rattle.kit_base.specs.Gives.{Gives};
+ghost use Rattle.c_exprs.specs.Gives.{taken};
 
 use c_rules::{Code, RuleErr};
 use c_tree::Span;
-use kit_base::Memory;
-use std::alloc::{AllocError, AllocFailed};
+use kit_base::Failure;
 use thiserror::Error;
 
-/// The rule that a unit breaks first, with the tokens of the node that breaks it; or want of memory.
+/// The code of a broken rule, and the tokens of the node that breaks it.
 #[derive(Clone, Copy, Debug, PartialEq, Eq, Error)]
-pub enum CheckErr {
-    #[error("{code}")]
-    At { code: Code, span: Span },
-    #[error("out of memory")]
-    Memory,
+#[error("{code}")]
+pub struct Fault {
+    pub code: Code,
+    pub span: Span,
 }
 
-impl From<Memory> for CheckErr {
-    ghost from_gives = { λ _ e. e ≡ errors.Memory };
-
-    fn from(_: Memory) -> CheckErr {
-        CheckErr::Memory
-    }
-}
-
-impl From<AllocError> for CheckErr {
-    ghost from_gives = { λ _ e. e ≡ errors.Memory };
-
-    fn from(_: AllocError) -> CheckErr {
-        CheckErr::Memory
-    }
-}
-
-impl<T: Drop> From<AllocFailed<T>> for CheckErr {
-    ghost from_gives = { λ _ e. e ≡ errors.Memory };
-
-    fn from(_: AllocFailed<T>) -> CheckErr {
-        CheckErr::Memory
-    }
-}
+/// Why a unit has no typed program: the rule that it breaks first, or want of memory.
+pub type CheckErr = Failure<Fault>;
 
 /// What a rule answers, with its code at a node of this span.
 pub fn at_node<T: Drop>(span: Span, answer: Result<T, RuleErr>) -> Result<T, CheckErr>
@@ -49,7 +26,7 @@ pub fn at_node<T: Drop>(span: Span, answer: Result<T, RuleErr>) -> Result<T, Che
 {
     match answer {
         Ok(found) => Ok(found),
-        Err(RuleErr::Broken(code)) => Err(CheckErr::At { code, span }),
+        Err(RuleErr::Cause(code)) => Err(CheckErr::Cause(Fault { code, span })),
         Err(RuleErr::Memory) => Err(CheckErr::Memory),
     }
 }
@@ -60,7 +37,7 @@ pub fn placed<T: Drop>(span: Span, answer: Result<T, Code>) -> Result<T, CheckEr
 {
     match answer {
         Ok(found) => Ok(found),
-        Err(code) => Err(CheckErr::At { code, span }),
+        Err(code) => Err(CheckErr::Cause(Fault { code, span })),
     }
 }
 
@@ -71,7 +48,7 @@ pub fn known<T: Drop>(span: Span, code: Code, found: Option<T>) -> Result<T, Che
 {
     match found {
         Some(found) => Ok(found),
-        None => Err(CheckErr::At { code, span }),
+        None => Err(CheckErr::Cause(Fault { code, span })),
     }
 }
 
@@ -83,7 +60,7 @@ pub fn demanded(span: Span, code: Code, holds: bool) -> Result<(), CheckErr>
     if holds {
         Ok(())
     } else {
-        Err(CheckErr::At { code, span })
+        Err(CheckErr::Cause(Fault { code, span }))
     }
 }
 

@@ -17,7 +17,7 @@ mod texts;
 mod trees;
 mod typing;
 
-pub use error::{CheckErr, at_node, demanded, keeping, known, placed};
+pub use error::{CheckErr, Fault, at_node, demanded, keeping, known, placed};
 pub use intrinsics::{Intrinsic, is_intrinsic};
 pub use names::{Decl, Globals, Local, Scope, find_local};
 pub use nodes::{constant, is_place, span_of};

@@ -5,7 +5,7 @@ ghost use Rattle.c_types.specs.View.{ctype, layout, texpr};
 ghost use Rattle.c_rules.specs.Nodes.{unary_rule, binary_rule, assign_rule, compound_rule, step_rule, index_rule, cast_rule};
 ghost use Rattle.c_exprs.specs.Faults.{at_node};
 ghost use Rattle.c_exprs.specs.Nodes.{type_of_typed, is_place};
-ghost use Rattle.c_exprs.specs.Gives.{Gives};
+ghost use Rattle.kit_base.specs.Gives.{Gives};
 
 use crate::error::{CheckErr, keeping};
 use crate::names::Globals;

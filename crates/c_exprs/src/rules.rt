@@ -5,7 +5,7 @@ ghost use Rattle.c_rules.specs.Rules.{judged};
 ghost use Rattle.c_rules.specs.Nodes.{unary_rule, binary_rule, assign_rule, compound_rule, step_rule, index_rule, cast_rule, size_rule, array_rule};
 ghost use Rattle.c_exprs.specs.Faults.{at_node};
 ghost use Rattle.c_exprs.specs.Nodes.{value_rule};
-ghost use Rattle.c_exprs.specs.Gives.{Gives};
+ghost use Rattle.kit_base.specs.Gives.{Gives};
 
 use crate::error::{CheckErr, at_node, placed};
 use crate::names::Globals;

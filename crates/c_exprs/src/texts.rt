@@ -1,9 +1,9 @@
 // The texts of a unit, which are the literals of its program.
 ghost use Rattle.std.specs.Prelude.{◌≡◌, ◌≤◌, ◌<◌, [], length, OnOk, OnErr};
 ghost use Rattle.c_exprs.specs.Faults.{text_words, with_text};
-ghost use Rattle.c_exprs.specs.Gives.{Gives};
+ghost use Rattle.kit_base.specs.Gives.{Gives};
 
-use crate::error::CheckErr;
+use crate::error::{CheckErr, Fault};
 use c_rules::Code;
 use c_tree::Span;
 use kit_base::Name;
@@ -47,10 +47,10 @@ impl Texts {
     {
         let long = text.bytes().len();
         if long >= 4_000_000 || self.words + (long as u32 + 1) > 4_000_000 {
-            return Err(CheckErr::At {
+            return Err(CheckErr::Cause(Fault {
                 code: Code::TooLarge,
                 span,
-            });
+            }));
         }
         let number = self.items.len() as u32;
         self.items.push(text.copy()?)?;

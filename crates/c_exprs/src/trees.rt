@@ -4,13 +4,13 @@ ghost use Rattle.c_types.specs.Types.{ArrayY, IntY};
 ghost use Rattle.c_types.specs.Typed.{Typed, MemberK, ArrowK};
 ghost use Rattle.c_types.specs.View.{ctype, layout, named, texpr};
 ghost use Rattle.c_types.specs.Kinds.{decayed, pointed};
-ghost use Rattle.c_exprs.specs.declared.error.CheckErr.TheVariants as errors;
-ghost use Rattle.c_exprs.specs.Faults.{placed};
+ghost use Rattle.kit_base.specs.declared.failure.Failure.TheVariants.{Cause};
+ghost use Rattle.c_exprs.specs.Faults.{at, placed};
 ghost use Rattle.c_exprs.specs.Nodes.{name_tree, named_type, layout_of, layout_behind, member_in, member_at, arrow_at, type_of_typed};
 ghost use Rattle.c_exprs.specs.View.{ctx};
-ghost use Rattle.c_exprs.specs.Gives.{Gives};
+ghost use Rattle.kit_base.specs.Gives.{Gives};
 
-use crate::error::{CheckErr, keeping};
+use crate::error::{CheckErr, Fault, keeping};
 use crate::intrinsics::is_intrinsic;
 use crate::names::{Decl, Globals, Scope, find_local};
 use crate::nodes::is_place;
@@ -22,9 +22,9 @@ use std::alloc::Global;
 
 /// The code at a node of this span.
 pub(crate) fn refused(span: Span, code: Code) -> CheckErr
-    ensures { result ≡ errors.At code span }
+    ensures { result ≡ Cause (at span code) }
 {
-    CheckErr::At { code, span }
+    CheckErr::Cause(Fault { code, span })
 }
 
 pub(crate) fn node(kind: TKind, ty: CType, span: Span) -> TExpr

@@ -1,23 +1,23 @@
 // The typing of expressions.
 ghost use Rattle.std.specs.Prelude.{◌≡◌, [], List, IfOk, OnErr, Err, map};
-ghost use Rattle.c_tree.specs.declared.span.Span.{Span};
 ghost use Rattle.c_tree.specs.Tree.{ArrowE, CallE, MemberE, SizeOfE, StepE, UnaryE};
 ghost use Rattle.c_tree.specs.View.{expr, exprs, type};
 ghost use Rattle.c_types.specs.Types.{PointerY, VoidY, Ty};
 ghost use Rattle.c_types.specs.Typed.{NullK, TExprT, Typed};
 ghost use Rattle.c_types.specs.View.{ctype, texpr, texprs};
 ghost use Rattle.c_rules.specs.Nodes.{needs_place};
-ghost use Rattle.c_rules.specs.declared.code.Code.{Code};
 ghost use Rattle.c_rules.specs.declared.code.Code.TheVariants.{NotConstant};
-ghost use Rattle.c_exprs.specs.declared.error.CheckErr.TheVariants.{At};
+ghost use Rattle.kit_base.specs.declared.failure.Failure.TheVariants.{Cause};
 ghost use Rattle.c_exprs.specs.Env.{Text};
-ghost use Rattle.c_exprs.specs.Faults.{at, known};
+ghost use Rattle.c_exprs.specs.declared.error.Fault.{Fault};
+ghost use Rattle.c_exprs.specs.Faults.{known};
 ghost use Rattle.c_exprs.specs.Nodes.{span_of, constant};
 ghost use Rattle.c_exprs.specs.Typing.{as_value, text_tree, typed, all_valued, type_of};
 ghost use Rattle.c_exprs.specs.Types.{Types, Values, Names};
 ghost use Rattle.c_exprs.specs.Breaks.{Breaks, NoValue, NoName};
 ghost use Rattle.c_exprs.specs.View.{ctx};
-ghost use Rattle.c_exprs.specs.Gives.{Gives, read};
+ghost use Rattle.kit_base.specs.Gives.{Gives};
+ghost use Rattle.c_exprs.specs.Gives.{read};
 
 use crate::calls::{call_node, names_port};
 use crate::error::{CheckErr, keeping, known};
@@ -334,7 +334,7 @@ pub fn type_expr(
     ensures only { (x : TExprT) (us : List Text) → Types (ctx globals.now scopes.now) texts.old (expr e.now) x us
         → Gives (λ r. (texpr r, texts.new)) result (read x us) }
     // A refusal names the first broken rule.
-    ensures first { (k : Code) (s : Span) → result ≡ Err (At k s) → Breaks (ctx globals.now scopes.now) texts.old (expr e.now) (at s k) }
+    ensures first { (f : Fault) → result ≡ Err (Cause f) → Breaks (ctx globals.now scopes.now) texts.old (expr e.now) f }
     // After a refusal there are no texts: the unit is read no further.
     ensures refused { OnErr result (texts.new ≡ []) }
 {
@@ -355,7 +355,7 @@ pub fn type_value(
     ensures types { IfOk result (λ r. Values (ctx globals.now scopes.now) texts.old (expr e.now) (texpr r) texts.new) }
     ensures only { (x : TExprT) (us : List Text) → Values (ctx globals.now scopes.now) texts.old (expr e.now) x us
         → Gives (λ r. (texpr r, texts.new)) result (read x us) }
-    ensures first { (k : Code) (s : Span) → result ≡ Err (At k s) → NoValue (ctx globals.now scopes.now) texts.old (expr e.now) (at s k) }
+    ensures first { (f : Fault) → result ≡ Err (Cause f) → NoValue (ctx globals.now scopes.now) texts.old (expr e.now) f }
     // After a refusal there are no texts: the unit is read no further.
     ensures refused { OnErr result (texts.new ≡ []) }
 {
@@ -377,7 +377,7 @@ pub fn type_of_tree(
     ensures types { IfOk result (λ r. Names (ctx globals.now scopes.now) texts.old span (type ty.now) (ctype r.ty) texts.new) }
     ensures only { (t : Ty) (us : List Text) → Names (ctx globals.now scopes.now) texts.old span (type ty.now) t us
         → Gives (λ r. (ctype r.ty, texts.new)) result (read t us) }
-    ensures first { (k : Code) (s : Span) → result ≡ Err (At k s) → NoName (ctx globals.now scopes.now) texts.old span (type ty.now) (at s k) }
+    ensures first { (f : Fault) → result ≡ Err (Cause f) → NoName (ctx globals.now scopes.now) texts.old span (type ty.now) f }
     // After a refusal there are no texts: the unit is read no further.
     ensures refused { OnErr result (texts.new ≡ []) }
 {

@@ -24,7 +24,7 @@ pub returns-clause-first : goal.returns-clause-first
 returns-clause-first c =
     let seen : Counted → Ty × List Text = λ r. (ctype r.ty, c.kept_texts.new.texts) in
     let context = ctx c.args.globals.now c.args.scopes.now in
-    λ k s is. bad seen _ (λ f. NoName context c.args.texts.now c.args.span (type c.args.ty.now) f) (λ f. no_name_so context c.args.texts.now c.args.span (type c.args.ty.now) f) c.kept_texts.result k s (kept (λ r. ctype r.ty) _ c.counted_type-answer.result c.kept_texts.result c.counted_type-answer.new.texts c.kept_texts.new.texts c.counted_type-answer.ensures c.kept_texts.ensures.same c.kept_texts.ensures.kept) is
+    λ fault is. bad seen _ (λ f. NoName context c.args.texts.now c.args.span (type c.args.ty.now) f) (λ f. no_name_so context c.args.texts.now c.args.span (type c.args.ty.now) f) c.kept_texts.result fault (kept (λ r. ctype r.ty) _ c.counted_type-answer.result c.kept_texts.result c.counted_type-answer.new.texts c.kept_texts.new.texts c.counted_type-answer.ensures c.kept_texts.ensures.same c.kept_texts.ensures.kept) is
 
 pub returns-clause-gives : goal.returns-clause-gives
 returns-clause-gives c = kept (λ r. ctype r.ty) _ c.counted_type-answer.result c.kept_texts.result c.counted_type-answer.new.texts c.kept_texts.new.texts c.counted_type-answer.ensures c.kept_texts.ensures.same c.kept_texts.ensures.kept

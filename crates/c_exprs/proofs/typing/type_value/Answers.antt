@@ -24,7 +24,7 @@ pub returns-clause-first : goal.returns-clause-first
 returns-clause-first c =
     let seen : TExpr → TExprT × List Text = λ r. (texpr r, c.kept_texts.new.texts) in
     let context = ctx c.args.globals.now c.args.scopes.now in
-    λ k s is. bad seen _ (λ f. NoValue context c.args.texts.now (expr c.args.e.now) f) (λ f. no_value_so context c.args.texts.now (expr c.args.e.now) f) c.kept_texts.result k s (kept texpr _ c.valued-answer.result c.kept_texts.result c.valued-answer.new.texts c.kept_texts.new.texts c.valued-answer.ensures c.kept_texts.ensures.same c.kept_texts.ensures.kept) is
+    λ fault is. bad seen _ (λ f. NoValue context c.args.texts.now (expr c.args.e.now) f) (λ f. no_value_so context c.args.texts.now (expr c.args.e.now) f) c.kept_texts.result fault (kept texpr _ c.valued-answer.result c.kept_texts.result c.valued-answer.new.texts c.kept_texts.new.texts c.valued-answer.ensures c.kept_texts.ensures.same c.kept_texts.ensures.kept) is
 
 pub returns-clause-gives : goal.returns-clause-gives
 returns-clause-gives c = kept texpr _ c.valued-answer.result c.kept_texts.result c.valued-answer.new.texts c.kept_texts.new.texts c.valued-answer.ensures c.kept_texts.ensures.same c.kept_texts.ensures.kept

@@ -7,7 +7,8 @@ use Rattle.c_types.specs.Types.{Ty}
 use Rattle.c_types.specs.Typed.{TExprT, TInitT, ListI, TInitTs, MoreI}
 use Rattle.c_rules.specs.declared.code.Code.TheVariants.{WrongType}
 use Rattle.c_exprs.specs.Env.{Text, Ctx}
-use Rattle.c_exprs.specs.Faults.{FaultT, ◌>>=◌, placed, demanded}
+use Rattle.c_exprs.specs.declared.error.Fault.{Fault}
+use Rattle.c_exprs.specs.Faults.{◌>>=◌, placed, demanded}
 use Rattle.c_exprs.specs.Nodes.{span_of}
 use Rattle.c_exprs.specs.Typing.{Typer, as_value, typed}
 use Rattle.c_exprs.specs.Types.{Values}
@@ -28,27 +29,27 @@ abbrev pub AllFillOut : Ctx → List Text → Bool → Slots → InitTs → Type
 AllFillOut c ts global slots is (Ok x) = AllFill c ts global slots is x.0 x.1
 AllFillOut c ts global slots is (Err f) = NotAllFill c ts global slots is f
 
-one_2 : (c : Ctx) (ts : List Text) (global : Bool) (target : Option Ty) (e : ExprT) (x : TExprT × List Text) → Values c ts e x.0 x.1 → (r : Result TInitT FaultT) → placed (span_of e) (filled global target x.0) ≡ r → FillOut c ts global target (tree.OneI e) (r >>= λ i. Ok (i, x.1))
+one_2 : (c : Ctx) (ts : List Text) (global : Bool) (target : Option Ty) (e : ExprT) (x : TExprT × List Text) → Values c ts e x.0 x.1 → (r : Result TInitT Fault) → placed (span_of e) (filled global target x.0) ≡ r → FillOut c ts global target (tree.OneI e) (r >>= λ i. Ok (i, x.1))
 one_2 c ts global target e x g0 (Ok i) g1 = good.one g0 g1
 one_2 c ts global target e x g0 (Err f) g1 = bad.one g0 g1
 
-one_1 : (c : Ctx) (ts : List Text) (global : Bool) (target : Option Ty) (e : ExprT) → (r : Result (TExprT × List Text) FaultT) → ValueOut c ts e r → FillOut c ts global target (tree.OneI e) (r >>= λ x. placed (span_of e) (filled global target x.0) >>= λ i. Ok (i, x.1))
+one_1 : (c : Ctx) (ts : List Text) (global : Bool) (target : Option Ty) (e : ExprT) → (r : Result (TExprT × List Text) Fault) → ValueOut c ts e r → FillOut c ts global target (tree.OneI e) (r >>= λ x. placed (span_of e) (filled global target x.0) >>= λ i. Ok (i, x.1))
 one_1 c ts global target e (Ok x) g0 = one_2 c ts global target e x g0 (placed (span_of e) (filled global target x.0)) refl
 one_1 c ts global target e (Err f) g0 = bad.one_part g0
 
-list_2 : (c : Ctx) (ts : List Text) (global : Bool) (target : Option Ty) (items : InitTs) (s : Span) (xs : TInitTs × List Text) → AllFill c ts global (slots_for c.layouts target) items xs.0 xs.1 → (r : Result (Unit {0}) FaultT) → demanded s WrongType (has_room (item_count items) (slots_for c.layouts target)) ≡ r → FillOut c ts global target (tree.ListI items s) (r >>= λ _. Ok (ListI xs.0, xs.1))
+list_2 : (c : Ctx) (ts : List Text) (global : Bool) (target : Option Ty) (items : InitTs) (s : Span) (xs : TInitTs × List Text) → AllFill c ts global (slots_for c.layouts target) items xs.0 xs.1 → (r : Result (Unit {0}) Fault) → demanded s WrongType (has_room (item_count items) (slots_for c.layouts target)) ≡ r → FillOut c ts global target (tree.ListI items s) (r >>= λ _. Ok (ListI xs.0, xs.1))
 list_2 c ts global target items s xs g0 (Ok tt) g1 = good.list g0 g1
 list_2 c ts global target items s xs g0 (Err f) g1 = bad.list g0 g1
 
-list_1 : (c : Ctx) (ts : List Text) (global : Bool) (target : Option Ty) (items : InitTs) (s : Span) → (r : Result (TInitTs × List Text) FaultT) → AllFillOut c ts global (slots_for c.layouts target) items r → FillOut c ts global target (tree.ListI items s) (r >>= λ xs. demanded s WrongType (has_room (item_count items) (slots_for c.layouts target)) >>= λ _. Ok (ListI xs.0, xs.1))
+list_1 : (c : Ctx) (ts : List Text) (global : Bool) (target : Option Ty) (items : InitTs) (s : Span) → (r : Result (TInitTs × List Text) Fault) → AllFillOut c ts global (slots_for c.layouts target) items r → FillOut c ts global target (tree.ListI items s) (r >>= λ xs. demanded s WrongType (has_room (item_count items) (slots_for c.layouts target)) >>= λ _. Ok (ListI xs.0, xs.1))
 list_1 c ts global target items s (Ok xs) g0 = list_2 c ts global target items s xs g0 (demanded s WrongType (has_room (item_count items) (slots_for c.layouts target))) refl
 list_1 c ts global target items s (Err f) g0 = bad.list_part g0
 
-more_items_2 : (c : Ctx) (ts : List Text) (global : Bool) (slots : Slots) (i : InitT) (rest : InitTs) (x : TInitT × List Text) → Fills c ts global (next_slot slots) i x.0 x.1 → (r : Result (TInitTs × List Text) FaultT) → AllFillOut c x.1 global (later_slots slots) rest r → AllFillOut c ts global slots (tree.MoreI i rest) (r >>= λ xs. Ok (MoreI x.0 xs.0, xs.1))
+more_items_2 : (c : Ctx) (ts : List Text) (global : Bool) (slots : Slots) (i : InitT) (rest : InitTs) (x : TInitT × List Text) → Fills c ts global (next_slot slots) i x.0 x.1 → (r : Result (TInitTs × List Text) Fault) → AllFillOut c x.1 global (later_slots slots) rest r → AllFillOut c ts global slots (tree.MoreI i rest) (r >>= λ xs. Ok (MoreI x.0 xs.0, xs.1))
 more_items_2 c ts global slots i rest x g0 (Ok xs) g1 = good.more_items g0 g1
 more_items_2 c ts global slots i rest x g0 (Err f) g1 = bad.item_later g0 g1
 
-more_items_1 : (c : Ctx) (ts : List Text) (global : Bool) (slots : Slots) (i : InitT) (rest : InitTs) → (r : Result (TInitT × List Text) FaultT) → FillOut c ts global (next_slot slots) i r → ((us : List Text) → AllFillOut c us global (later_slots slots) rest (all_filled_by c us global (later_slots slots) rest)) → AllFillOut c ts global slots (tree.MoreI i rest) (r >>= λ x. all_filled_by c x.1 global (later_slots slots) rest >>= λ xs. Ok (MoreI x.0 xs.0, xs.1))
+more_items_1 : (c : Ctx) (ts : List Text) (global : Bool) (slots : Slots) (i : InitT) (rest : InitTs) → (r : Result (TInitT × List Text) Fault) → FillOut c ts global (next_slot slots) i r → ((us : List Text) → AllFillOut c us global (later_slots slots) rest (all_filled_by c us global (later_slots slots) rest)) → AllFillOut c ts global slots (tree.MoreI i rest) (r >>= λ x. all_filled_by c x.1 global (later_slots slots) rest >>= λ xs. Ok (MoreI x.0 xs.0, xs.1))
 more_items_1 c ts global slots i rest (Ok x) g0 h1 = more_items_2 c ts global slots i rest x g0 (all_filled_by c x.1 global (later_slots slots) rest) (h1 x.1)
 more_items_1 c ts global slots i rest (Err f) g0 h1 = bad.item_here g0
 
@@ -71,12 +72,12 @@ mutual
   all_fill_good (good.more_items g0 g1) = rw (fill_good g0, all_fill_good g1) refl
 
 mutual
-  pub fill_bad : {c : Ctx} {ts : List Text} {global : Bool} {target : Option Ty} {i : InitT} {f : FaultT} → NoFill c ts global target i f → filled_by c ts global target i ≡ Err f
+  pub fill_bad : {c : Ctx} {ts : List Text} {global : Bool} {target : Option Ty} {i : InitT} {f : Fault} → NoFill c ts global target i f → filled_by c ts global target i ≡ Err f
   fill_bad (bad.one_part g0) = rw (value_bad g0) refl
   fill_bad (bad.one g0 g1) = rw (value_good g0, g1) refl
   fill_bad (bad.list_part g0) = rw (all_fill_bad g0) refl
   fill_bad (bad.list g0 g1) = rw (all_fill_good g0, g1) refl
 
-  pub all_fill_bad : {c : Ctx} {ts : List Text} {global : Bool} {slots : Slots} {is : InitTs} {f : FaultT} → NotAllFill c ts global slots is f → all_filled_by c ts global slots is ≡ Err f
+  pub all_fill_bad : {c : Ctx} {ts : List Text} {global : Bool} {slots : Slots} {is : InitTs} {f : Fault} → NotAllFill c ts global slots is f → all_filled_by c ts global slots is ≡ Err f
   all_fill_bad (bad.item_here g0) = rw (fill_bad g0) refl
   all_fill_bad (bad.item_later g0 g1) = rw (fill_good g0, all_fill_bad g1) refl

@@ -9,7 +9,8 @@ use Rattle.c_types.specs.View.{tinits}
 use Rattle.c_types.specs.Lists.{tinits_then}
 use Rattle.c_types.proofs.Lists.{tinits_end, tinits_push}
 use Rattle.c_exprs.specs.Env.{Text, Ctx}
-use Rattle.c_exprs.specs.Faults.{FaultT, ◌>>=◌}
+use Rattle.c_exprs.specs.declared.error.Fault.{Fault}
+use Rattle.c_exprs.specs.Faults.{◌>>=◌}
 use Rattle.c_exprs.specs.Typing.{Typer}
 use Rattle.c_stmts.specs.Slots.{Slots, next_slot, item_count}
 use Rattle.c_stmts.specs.inner.Places.{slots_behind}
@@ -37,7 +38,7 @@ pub before-push : (c : Ctx) (xs : List TInitT) (ts us : List Text) (global : Boo
 before-push c xs ts us global slots n i rest x good = rw (good, behind-more n slots) (push xs x (all_filled_by c us global (slots_behind (n + 1) slots) rest))
 
 -- one is at fault
-pub before-err : (c : Ctx) (xs : List TInitT) (ts : List Text) (global : Bool) (slots : Slots) (i : InitT) (rest : InitTs) (f : FaultT) → filled_by c ts global (next_slot slots) i ≡ Err f → before xs (all_filled_by c ts global slots (MoreI i rest)) ≡ Err f
+pub before-err : (c : Ctx) (xs : List TInitT) (ts : List Text) (global : Bool) (slots : Slots) (i : InitT) (rest : InitTs) (f : Fault) → filled_by c ts global (next_slot slots) i ≡ Err f → before xs (all_filled_by c ts global slots (MoreI i rest)) ≡ Err f
 before-err c xs ts global slots i rest f bad = rw bad refl
 
 -- before the first

@@ -6,7 +6,8 @@ use Rattle.c_types.specs.Types.{Ty}
 use Rattle.c_types.specs.Typed.{TExprT, TInitT, TVarT, TStmtT, BlockZ, VarsZ, DoZ, IfZ, WhileZ, DoWhileZ, ForZ, SwitchZ, ReturnZ, BreakZ, ContinueZ, MaybeZ, SomeZ, TStmtTs, MoreZ, TArmT, CaseB, DefaultB, StmtB, TArmTs, MoreB}
 use Rattle.c_rules.specs.declared.code.Code.TheVariants.{Twice, WrongType, NotConstant, BreakOutside}
 use Rattle.c_rules.specs.Kinds.{is_number, converts}
-use Rattle.c_exprs.specs.Faults.{FaultT, ◌>>=◌, placed, known, demanded}
+use Rattle.c_exprs.specs.declared.error.Fault.{Fault}
+use Rattle.c_exprs.specs.Faults.{◌>>=◌, placed, known, demanded}
 use Rattle.c_exprs.specs.Nodes.{type_of_typed, span_of, constant}
 use Rattle.c_stmts.specs.State.{Fn, St, under, with_texts, opened, left, made, is_new, entered, locals_limit, object_size, sized, filled_var, is_condition_of, is_test, Labels, no_labels, is_case, with_label}
 use Rattle.c_exprs.specs.Typing.{Typer, as_value, typed, type_of}
@@ -92,7 +93,7 @@ pub fill_in_outcome : (f : Fn) (sp : St) (target : Ty) (i : InitT) → FillInOut
 unfolding fill_in
 fill_in_outcome f sp target i = fill_in_rest f sp target i (filled_by (under f sp.scopes) sp.texts false (Some target) i) (fill_outcome (under f sp.scopes) sp.texts false (Some target) i)
 
-init_1 : (f : Fn) (sp : St) (target : Ty) (i : InitT) → (r : Result (TInitT × St) FaultT) → FillInOut f sp target i r → MaybeFillsOut f sp target (Some i) (r >>= λ x. Ok (Some x.0, x.1))
+init_1 : (f : Fn) (sp : St) (target : Ty) (i : InitT) → (r : Result (TInitT × St) Fault) → FillInOut f sp target i r → MaybeFillsOut f sp target (Some i) (r >>= λ x. Ok (Some x.0, x.1))
 init_1 f sp target i (Ok x) g0 = good.init g0
 init_1 f sp target i (Err fault) g0 = bad.init g0
 
@@ -101,15 +102,15 @@ unfolding maybe_filled
 maybe_fill_outcome f sp target None = good.no_init
 maybe_fill_outcome f sp target (Some i) = init_1 f sp target i (fill_in f sp target i) (fill_in_outcome f sp target i)
 
-variable_3 : (f : Fn) (sp : St) (v : VarT) (t : Ty × St) → TypeIn f sp v.span v.ty t.0 t.1 → (i : Option TInitT × St) → MaybeFills f (entered v.name t.0 t.1) t.0 v.init i.0 i.1 → (r : Result ℕ FaultT) → placed v.span (object_size f.layouts f.whole locals_limit sp.used (is_new v.name sp) t.0) ≡ r → DeclaresOut f sp v (r >>= λ n. Ok (filled_var false (length sp.sizes) t.0 i.0, sized n i.1))
+variable_3 : (f : Fn) (sp : St) (v : VarT) (t : Ty × St) → TypeIn f sp v.span v.ty t.0 t.1 → (i : Option TInitT × St) → MaybeFills f (entered v.name t.0 t.1) t.0 v.init i.0 i.1 → (r : Result ℕ Fault) → placed v.span (object_size f.layouts f.whole locals_limit sp.used (is_new v.name sp) t.0) ≡ r → DeclaresOut f sp v (r >>= λ n. Ok (filled_var false (length sp.sizes) t.0 i.0, sized n i.1))
 variable_3 f sp v t g0 i g1 (Ok n) g2 = good.variable g0 g1 g2
 variable_3 f sp v t g0 i g1 (Err fault) g2 = bad.variable g0 g1 g2
 
-variable_2 : (f : Fn) (sp : St) (v : VarT) (t : Ty × St) → TypeIn f sp v.span v.ty t.0 t.1 → (r : Result (Option TInitT × St) FaultT) → MaybeFillsOut f (entered v.name t.0 t.1) t.0 v.init r → DeclaresOut f sp v (r >>= λ i. placed v.span (object_size f.layouts f.whole locals_limit sp.used (is_new v.name sp) t.0) >>= λ n. Ok (filled_var false (length sp.sizes) t.0 i.0, sized n i.1))
+variable_2 : (f : Fn) (sp : St) (v : VarT) (t : Ty × St) → TypeIn f sp v.span v.ty t.0 t.1 → (r : Result (Option TInitT × St) Fault) → MaybeFillsOut f (entered v.name t.0 t.1) t.0 v.init r → DeclaresOut f sp v (r >>= λ i. placed v.span (object_size f.layouts f.whole locals_limit sp.used (is_new v.name sp) t.0) >>= λ n. Ok (filled_var false (length sp.sizes) t.0 i.0, sized n i.1))
 variable_2 f sp v t g0 (Ok i) g1 = variable_3 f sp v t g0 i g1 (placed v.span (object_size f.layouts f.whole locals_limit sp.used (is_new v.name sp) t.0)) refl
 variable_2 f sp v t g0 (Err fault) g1 = bad.variable_init g0 g1
 
-variable_1 : (f : Fn) (sp : St) (v : VarT) → (r : Result (Ty × St) FaultT) → TypeInOut f sp v.span v.ty r → ((us : St) (t : Ty × St) → MaybeFillsOut f (entered v.name t.0 us) t.0 v.init (maybe_filled f (entered v.name t.0 us) t.0 v.init)) → DeclaresOut f sp v (r >>= λ t. maybe_filled f (entered v.name t.0 t.1) t.0 v.init >>= λ i. placed v.span (object_size f.layouts f.whole locals_limit sp.used (is_new v.name sp) t.0) >>= λ n. Ok (filled_var false (length sp.sizes) t.0 i.0, sized n i.1))
+variable_1 : (f : Fn) (sp : St) (v : VarT) → (r : Result (Ty × St) Fault) → TypeInOut f sp v.span v.ty r → ((us : St) (t : Ty × St) → MaybeFillsOut f (entered v.name t.0 us) t.0 v.init (maybe_filled f (entered v.name t.0 us) t.0 v.init)) → DeclaresOut f sp v (r >>= λ t. maybe_filled f (entered v.name t.0 t.1) t.0 v.init >>= λ i. placed v.span (object_size f.layouts f.whole locals_limit sp.used (is_new v.name sp) t.0) >>= λ n. Ok (filled_var false (length sp.sizes) t.0 i.0, sized n i.1))
 variable_1 f sp v (Ok t) g0 h1 = variable_2 f sp v t g0 (maybe_filled f (entered v.name t.0 t.1) t.0 v.init) (h1 t.1 t)
 variable_1 f sp v (Err fault) g0 h1 = bad.variable_type g0
 
@@ -117,11 +118,11 @@ pub declared_outcome : (f : Fn) (sp : St) (v : VarT) → DeclaresOut f sp v (dec
 unfolding declared
 declared_outcome f sp v = variable_1 f sp v (type_in f sp v.span v.ty) (type_in_outcome f sp v.span v.ty) (λ us t. maybe_fill_outcome f (entered v.name t.0 us) t.0 v.init)
 
-more_variables_2 : (f : Fn) (sp : St) (v : VarT) (vs : List VarT) (x : List TVarT × St) → Declares f sp v x.0 x.1 → (r : Result (List TVarT × St) FaultT) → AllDeclareOut f x.1 vs r → AllDeclareOut f sp (v ∷ vs) (r >>= λ xs. Ok (x.0 ++ xs.0, xs.1))
+more_variables_2 : (f : Fn) (sp : St) (v : VarT) (vs : List VarT) (x : List TVarT × St) → Declares f sp v x.0 x.1 → (r : Result (List TVarT × St) Fault) → AllDeclareOut f x.1 vs r → AllDeclareOut f sp (v ∷ vs) (r >>= λ xs. Ok (x.0 ++ xs.0, xs.1))
 more_variables_2 f sp v vs x g0 (Ok xs) g1 = good.more_variables g0 g1
 more_variables_2 f sp v vs x g0 (Err fault) g1 = bad.variable_later g0 g1
 
-more_variables_1 : (f : Fn) (sp : St) (v : VarT) (vs : List VarT) → (r : Result (List TVarT × St) FaultT) → DeclaresOut f sp v r → ((us : St) → AllDeclareOut f us vs (all_declared f us vs)) → AllDeclareOut f sp (v ∷ vs) (r >>= λ x. all_declared f x.1 vs >>= λ xs. Ok (x.0 ++ xs.0, xs.1))
+more_variables_1 : (f : Fn) (sp : St) (v : VarT) (vs : List VarT) → (r : Result (List TVarT × St) Fault) → DeclaresOut f sp v r → ((us : St) → AllDeclareOut f us vs (all_declared f us vs)) → AllDeclareOut f sp (v ∷ vs) (r >>= λ x. all_declared f x.1 vs >>= λ xs. Ok (x.0 ++ xs.0, xs.1))
 more_variables_1 f sp v vs (Ok x) g0 h1 = more_variables_2 f sp v vs x g0 (all_declared f x.1 vs) (h1 x.1)
 more_variables_1 f sp v vs (Err fault) g0 h1 = bad.variable_here g0
 
@@ -129,7 +130,7 @@ pub all_declared_outcome : (f : Fn) (sp : St) (vs : List VarT) → AllDeclareOut
 all_declared_outcome f sp [] = good.no_variables
 all_declared_outcome f sp (v ∷ vs) = more_variables_1 f sp v vs (declared f sp v) (declared_outcome f sp v) (λ us. all_declared_outcome f us vs)
 
-some_value_1 : (f : Fn) (sp : St) (e : ExprT) → (r : Result (TExprT × St) FaultT) → ValueInOut f sp e r → MaybeValueOut f sp (Some e) (r >>= λ x. Ok (Some x.0, x.1))
+some_value_1 : (f : Fn) (sp : St) (e : ExprT) → (r : Result (TExprT × St) Fault) → ValueInOut f sp e r → MaybeValueOut f sp (Some e) (r >>= λ x. Ok (Some x.0, x.1))
 some_value_1 f sp e (Ok x) g0 = good.some_value g0
 some_value_1 f sp e (Err fault) g0 = bad.some_value g0
 
@@ -138,143 +139,143 @@ unfolding maybe_value
 maybe_value_outcome f sp None = good.no_value
 maybe_value_outcome f sp (Some e) = some_value_1 f sp e (value_in f sp e) (value_in_outcome f sp e)
 
-block_1 : (f : Fn) (sp : St) (breaks : Bool) (continues : Bool) (body : StmtTs) (s : Span) → (r : Result (TStmtTs × St) FaultT) → StatementsOut f (opened sp) breaks continues body r → StatementOut f sp breaks continues (BlockS body s) (r >>= λ xs. Ok (BlockZ (made xs.1) xs.0, left xs.1))
+block_1 : (f : Fn) (sp : St) (breaks : Bool) (continues : Bool) (body : StmtTs) (s : Span) → (r : Result (TStmtTs × St) Fault) → StatementsOut f (opened sp) breaks continues body r → StatementOut f sp breaks continues (BlockS body s) (r >>= λ xs. Ok (BlockZ (made xs.1) xs.0, left xs.1))
 block_1 f sp breaks continues body s (Ok xs) g0 = good.block g0
 block_1 f sp breaks continues body s (Err fault) g0 = bad.block g0
 
-variables_1 : (f : Fn) (sp : St) (breaks : Bool) (continues : Bool) (vs : List VarT) (s : Span) → (r : Result (List TVarT × St) FaultT) → AllDeclareOut f sp vs r → StatementOut f sp breaks continues (VarsS vs s) (r >>= λ xs. Ok (VarsZ xs.0, xs.1))
+variables_1 : (f : Fn) (sp : St) (breaks : Bool) (continues : Bool) (vs : List VarT) (s : Span) → (r : Result (List TVarT × St) Fault) → AllDeclareOut f sp vs r → StatementOut f sp breaks continues (VarsS vs s) (r >>= λ xs. Ok (VarsZ xs.0, xs.1))
 variables_1 f sp breaks continues vs s (Ok xs) g0 = good.variables g0
 variables_1 f sp breaks continues vs s (Err fault) g0 = bad.variables g0
 
-expression_1 : (f : Fn) (sp : St) (breaks : Bool) (continues : Bool) (e : ExprT) → (r : Result (TExprT × St) FaultT) → ValueInOut f sp e r → StatementOut f sp breaks continues (DoS e) (r >>= λ x. Ok (DoZ x.0, x.1))
+expression_1 : (f : Fn) (sp : St) (breaks : Bool) (continues : Bool) (e : ExprT) → (r : Result (TExprT × St) Fault) → ValueInOut f sp e r → StatementOut f sp breaks continues (DoS e) (r >>= λ x. Ok (DoZ x.0, x.1))
 expression_1 f sp breaks continues e (Ok x) g0 = good.expression g0
 expression_1 f sp breaks continues e (Err fault) g0 = bad.expression g0
 
-if_else_4 : (f : Fn) (sp : St) (breaks : Bool) (continues : Bool) (e : ExprT) (a : StmtT) (b : MaybeS) (s : Span) (x : TExprT × St) → ValueIn f sp e x.0 x.1 → (y : TStmtT × St) → Statement f x.1 breaks continues a y.0 y.1 → (z : MaybeZ × St) → MaybeStatement f y.1 breaks continues b z.0 z.1 → (r : Result (Unit {0}) FaultT) → demanded s WrongType (is_condition_of x.0) ≡ r → StatementOut f sp breaks continues (IfS e a b s) (r >>= λ _. Ok (IfZ x.0 y.0 z.0, z.1))
+if_else_4 : (f : Fn) (sp : St) (breaks : Bool) (continues : Bool) (e : ExprT) (a : StmtT) (b : MaybeS) (s : Span) (x : TExprT × St) → ValueIn f sp e x.0 x.1 → (y : TStmtT × St) → Statement f x.1 breaks continues a y.0 y.1 → (z : MaybeZ × St) → MaybeStatement f y.1 breaks continues b z.0 z.1 → (r : Result (Unit {0}) Fault) → demanded s WrongType (is_condition_of x.0) ≡ r → StatementOut f sp breaks continues (IfS e a b s) (r >>= λ _. Ok (IfZ x.0 y.0 z.0, z.1))
 if_else_4 f sp breaks continues e a b s x g0 y g1 z g2 (Ok tt) g3 = good.if_else g0 g1 g2 g3
 if_else_4 f sp breaks continues e a b s x g0 y g1 z g2 (Err fault) g3 = bad.if_else g0 g1 g2 g3
 
-if_else_3 : (f : Fn) (sp : St) (breaks : Bool) (continues : Bool) (e : ExprT) (a : StmtT) (b : MaybeS) (s : Span) (x : TExprT × St) → ValueIn f sp e x.0 x.1 → (y : TStmtT × St) → Statement f x.1 breaks continues a y.0 y.1 → (r : Result (MaybeZ × St) FaultT) → MaybeStatementOut f y.1 breaks continues b r → StatementOut f sp breaks continues (IfS e a b s) (r >>= λ z. demanded s WrongType (is_condition_of x.0) >>= λ _. Ok (IfZ x.0 y.0 z.0, z.1))
+if_else_3 : (f : Fn) (sp : St) (breaks : Bool) (continues : Bool) (e : ExprT) (a : StmtT) (b : MaybeS) (s : Span) (x : TExprT × St) → ValueIn f sp e x.0 x.1 → (y : TStmtT × St) → Statement f x.1 breaks continues a y.0 y.1 → (r : Result (MaybeZ × St) Fault) → MaybeStatementOut f y.1 breaks continues b r → StatementOut f sp breaks continues (IfS e a b s) (r >>= λ z. demanded s WrongType (is_condition_of x.0) >>= λ _. Ok (IfZ x.0 y.0 z.0, z.1))
 if_else_3 f sp breaks continues e a b s x g0 y g1 (Ok z) g2 = if_else_4 f sp breaks continues e a b s x g0 y g1 z g2 (demanded s WrongType (is_condition_of x.0)) refl
 if_else_3 f sp breaks continues e a b s x g0 y g1 (Err fault) g2 = bad.if_other g0 g1 g2
 
-if_else_2 : (f : Fn) (sp : St) (breaks : Bool) (continues : Bool) (e : ExprT) (a : StmtT) (b : MaybeS) (s : Span) (x : TExprT × St) → ValueIn f sp e x.0 x.1 → (r : Result (TStmtT × St) FaultT) → StatementOut f x.1 breaks continues a r → ((us : St) → MaybeStatementOut f us breaks continues b (maybe_statement f us breaks continues b)) → StatementOut f sp breaks continues (IfS e a b s) (r >>= λ y. maybe_statement f y.1 breaks continues b >>= λ z. demanded s WrongType (is_condition_of x.0) >>= λ _. Ok (IfZ x.0 y.0 z.0, z.1))
+if_else_2 : (f : Fn) (sp : St) (breaks : Bool) (continues : Bool) (e : ExprT) (a : StmtT) (b : MaybeS) (s : Span) (x : TExprT × St) → ValueIn f sp e x.0 x.1 → (r : Result (TStmtT × St) Fault) → StatementOut f x.1 breaks continues a r → ((us : St) → MaybeStatementOut f us breaks continues b (maybe_statement f us breaks continues b)) → StatementOut f sp breaks continues (IfS e a b s) (r >>= λ y. maybe_statement f y.1 breaks continues b >>= λ z. demanded s WrongType (is_condition_of x.0) >>= λ _. Ok (IfZ x.0 y.0 z.0, z.1))
 if_else_2 f sp breaks continues e a b s x g0 (Ok y) g1 h2 = if_else_3 f sp breaks continues e a b s x g0 y g1 (maybe_statement f y.1 breaks continues b) (h2 y.1)
 if_else_2 f sp breaks continues e a b s x g0 (Err fault) g1 h2 = bad.if_then g0 g1
 
-if_else_1 : (f : Fn) (sp : St) (breaks : Bool) (continues : Bool) (e : ExprT) (a : StmtT) (b : MaybeS) (s : Span) → (r : Result (TExprT × St) FaultT) → ValueInOut f sp e r → ((us : St) → StatementOut f us breaks continues a (statement f us breaks continues a)) → ((us : St) → MaybeStatementOut f us breaks continues b (maybe_statement f us breaks continues b)) → StatementOut f sp breaks continues (IfS e a b s) (r >>= λ x. statement f x.1 breaks continues a >>= λ y. maybe_statement f y.1 breaks continues b >>= λ z. demanded s WrongType (is_condition_of x.0) >>= λ _. Ok (IfZ x.0 y.0 z.0, z.1))
+if_else_1 : (f : Fn) (sp : St) (breaks : Bool) (continues : Bool) (e : ExprT) (a : StmtT) (b : MaybeS) (s : Span) → (r : Result (TExprT × St) Fault) → ValueInOut f sp e r → ((us : St) → StatementOut f us breaks continues a (statement f us breaks continues a)) → ((us : St) → MaybeStatementOut f us breaks continues b (maybe_statement f us breaks continues b)) → StatementOut f sp breaks continues (IfS e a b s) (r >>= λ x. statement f x.1 breaks continues a >>= λ y. maybe_statement f y.1 breaks continues b >>= λ z. demanded s WrongType (is_condition_of x.0) >>= λ _. Ok (IfZ x.0 y.0 z.0, z.1))
 if_else_1 f sp breaks continues e a b s (Ok x) g0 h1 h2 = if_else_2 f sp breaks continues e a b s x g0 (statement f x.1 breaks continues a) (h1 x.1) h2
 if_else_1 f sp breaks continues e a b s (Err fault) g0 h1 h2 = bad.if_test g0
 
-while_3 : (f : Fn) (sp : St) (breaks : Bool) (continues : Bool) (e : ExprT) (a : StmtT) (s : Span) (x : TExprT × St) → ValueIn f sp e x.0 x.1 → (y : TStmtT × St) → Statement f x.1 true true a y.0 y.1 → (r : Result (Unit {0}) FaultT) → demanded s WrongType (is_condition_of x.0) ≡ r → StatementOut f sp breaks continues (WhileS e a s) (r >>= λ _. Ok (WhileZ x.0 y.0, y.1))
+while_3 : (f : Fn) (sp : St) (breaks : Bool) (continues : Bool) (e : ExprT) (a : StmtT) (s : Span) (x : TExprT × St) → ValueIn f sp e x.0 x.1 → (y : TStmtT × St) → Statement f x.1 true true a y.0 y.1 → (r : Result (Unit {0}) Fault) → demanded s WrongType (is_condition_of x.0) ≡ r → StatementOut f sp breaks continues (WhileS e a s) (r >>= λ _. Ok (WhileZ x.0 y.0, y.1))
 while_3 f sp breaks continues e a s x g0 y g1 (Ok tt) g2 = good.while g0 g1 g2
 while_3 f sp breaks continues e a s x g0 y g1 (Err fault) g2 = bad.while g0 g1 g2
 
-while_2 : (f : Fn) (sp : St) (breaks : Bool) (continues : Bool) (e : ExprT) (a : StmtT) (s : Span) (x : TExprT × St) → ValueIn f sp e x.0 x.1 → (r : Result (TStmtT × St) FaultT) → StatementOut f x.1 true true a r → StatementOut f sp breaks continues (WhileS e a s) (r >>= λ y. demanded s WrongType (is_condition_of x.0) >>= λ _. Ok (WhileZ x.0 y.0, y.1))
+while_2 : (f : Fn) (sp : St) (breaks : Bool) (continues : Bool) (e : ExprT) (a : StmtT) (s : Span) (x : TExprT × St) → ValueIn f sp e x.0 x.1 → (r : Result (TStmtT × St) Fault) → StatementOut f x.1 true true a r → StatementOut f sp breaks continues (WhileS e a s) (r >>= λ y. demanded s WrongType (is_condition_of x.0) >>= λ _. Ok (WhileZ x.0 y.0, y.1))
 while_2 f sp breaks continues e a s x g0 (Ok y) g1 = while_3 f sp breaks continues e a s x g0 y g1 (demanded s WrongType (is_condition_of x.0)) refl
 while_2 f sp breaks continues e a s x g0 (Err fault) g1 = bad.while_body g0 g1
 
-while_1 : (f : Fn) (sp : St) (breaks : Bool) (continues : Bool) (e : ExprT) (a : StmtT) (s : Span) → (r : Result (TExprT × St) FaultT) → ValueInOut f sp e r → ((us : St) → StatementOut f us true true a (statement f us true true a)) → StatementOut f sp breaks continues (WhileS e a s) (r >>= λ x. statement f x.1 true true a >>= λ y. demanded s WrongType (is_condition_of x.0) >>= λ _. Ok (WhileZ x.0 y.0, y.1))
+while_1 : (f : Fn) (sp : St) (breaks : Bool) (continues : Bool) (e : ExprT) (a : StmtT) (s : Span) → (r : Result (TExprT × St) Fault) → ValueInOut f sp e r → ((us : St) → StatementOut f us true true a (statement f us true true a)) → StatementOut f sp breaks continues (WhileS e a s) (r >>= λ x. statement f x.1 true true a >>= λ y. demanded s WrongType (is_condition_of x.0) >>= λ _. Ok (WhileZ x.0 y.0, y.1))
 while_1 f sp breaks continues e a s (Ok x) g0 h1 = while_2 f sp breaks continues e a s x g0 (statement f x.1 true true a) (h1 x.1)
 while_1 f sp breaks continues e a s (Err fault) g0 h1 = bad.while_test g0
 
-do_while_3 : (f : Fn) (sp : St) (breaks : Bool) (continues : Bool) (a : StmtT) (e : ExprT) (s : Span) (y : TStmtT × St) → Statement f sp true true a y.0 y.1 → (x : TExprT × St) → ValueIn f y.1 e x.0 x.1 → (r : Result (Unit {0}) FaultT) → demanded s WrongType (is_condition_of x.0) ≡ r → StatementOut f sp breaks continues (DoWhileS a e s) (r >>= λ _. Ok (DoWhileZ y.0 x.0, x.1))
+do_while_3 : (f : Fn) (sp : St) (breaks : Bool) (continues : Bool) (a : StmtT) (e : ExprT) (s : Span) (y : TStmtT × St) → Statement f sp true true a y.0 y.1 → (x : TExprT × St) → ValueIn f y.1 e x.0 x.1 → (r : Result (Unit {0}) Fault) → demanded s WrongType (is_condition_of x.0) ≡ r → StatementOut f sp breaks continues (DoWhileS a e s) (r >>= λ _. Ok (DoWhileZ y.0 x.0, x.1))
 do_while_3 f sp breaks continues a e s y g0 x g1 (Ok tt) g2 = good.do_while g0 g1 g2
 do_while_3 f sp breaks continues a e s y g0 x g1 (Err fault) g2 = bad.do_while g0 g1 g2
 
-do_while_2 : (f : Fn) (sp : St) (breaks : Bool) (continues : Bool) (a : StmtT) (e : ExprT) (s : Span) (y : TStmtT × St) → Statement f sp true true a y.0 y.1 → (r : Result (TExprT × St) FaultT) → ValueInOut f y.1 e r → StatementOut f sp breaks continues (DoWhileS a e s) (r >>= λ x. demanded s WrongType (is_condition_of x.0) >>= λ _. Ok (DoWhileZ y.0 x.0, x.1))
+do_while_2 : (f : Fn) (sp : St) (breaks : Bool) (continues : Bool) (a : StmtT) (e : ExprT) (s : Span) (y : TStmtT × St) → Statement f sp true true a y.0 y.1 → (r : Result (TExprT × St) Fault) → ValueInOut f y.1 e r → StatementOut f sp breaks continues (DoWhileS a e s) (r >>= λ x. demanded s WrongType (is_condition_of x.0) >>= λ _. Ok (DoWhileZ y.0 x.0, x.1))
 do_while_2 f sp breaks continues a e s y g0 (Ok x) g1 = do_while_3 f sp breaks continues a e s y g0 x g1 (demanded s WrongType (is_condition_of x.0)) refl
 do_while_2 f sp breaks continues a e s y g0 (Err fault) g1 = bad.do_test g0 g1
 
-do_while_1 : (f : Fn) (sp : St) (breaks : Bool) (continues : Bool) (a : StmtT) (e : ExprT) (s : Span) → (r : Result (TStmtT × St) FaultT) → StatementOut f sp true true a r → ((us : St) → ValueInOut f us e (value_in f us e)) → StatementOut f sp breaks continues (DoWhileS a e s) (r >>= λ y. value_in f y.1 e >>= λ x. demanded s WrongType (is_condition_of x.0) >>= λ _. Ok (DoWhileZ y.0 x.0, x.1))
+do_while_1 : (f : Fn) (sp : St) (breaks : Bool) (continues : Bool) (a : StmtT) (e : ExprT) (s : Span) → (r : Result (TStmtT × St) Fault) → StatementOut f sp true true a r → ((us : St) → ValueInOut f us e (value_in f us e)) → StatementOut f sp breaks continues (DoWhileS a e s) (r >>= λ y. value_in f y.1 e >>= λ x. demanded s WrongType (is_condition_of x.0) >>= λ _. Ok (DoWhileZ y.0 x.0, x.1))
 do_while_1 f sp breaks continues a e s (Ok y) g0 h1 = do_while_2 f sp breaks continues a e s y g0 (value_in f y.1 e) (h1 y.1)
 do_while_1 f sp breaks continues a e s (Err fault) g0 h1 = bad.do_body g0
 
-for_5 : (f : Fn) (sp : St) (breaks : Bool) (continues : Bool) (first : MaybeS) (test step : Option ExprT) (a : StmtT) (s : Span) (x : MaybeZ × St) → MaybeStatement f (opened sp) breaks continues first x.0 x.1 → (y : Option TExprT × St) → MaybeValue f x.1 test y.0 y.1 → (z : Option TExprT × St) → MaybeValue f y.1 step z.0 z.1 → (w : TStmtT × St) → Statement f z.1 true true a w.0 w.1 → (r : Result (Unit {0}) FaultT) → demanded s WrongType (is_test y.0) ≡ r → StatementOut f sp breaks continues (ForS first test step a s) (r >>= λ _. Ok (ForZ (made w.1) x.0 y.0 z.0 w.0, left w.1))
+for_5 : (f : Fn) (sp : St) (breaks : Bool) (continues : Bool) (first : MaybeS) (test step : Option ExprT) (a : StmtT) (s : Span) (x : MaybeZ × St) → MaybeStatement f (opened sp) breaks continues first x.0 x.1 → (y : Option TExprT × St) → MaybeValue f x.1 test y.0 y.1 → (z : Option TExprT × St) → MaybeValue f y.1 step z.0 z.1 → (w : TStmtT × St) → Statement f z.1 true true a w.0 w.1 → (r : Result (Unit {0}) Fault) → demanded s WrongType (is_test y.0) ≡ r → StatementOut f sp breaks continues (ForS first test step a s) (r >>= λ _. Ok (ForZ (made w.1) x.0 y.0 z.0 w.0, left w.1))
 for_5 f sp breaks continues first test step a s x g0 y g1 z g2 w g3 (Ok tt) g4 = good.for g0 g1 g2 g3 g4
 for_5 f sp breaks continues first test step a s x g0 y g1 z g2 w g3 (Err fault) g4 = bad.for g0 g1 g2 g3 g4
 
-for_4 : (f : Fn) (sp : St) (breaks : Bool) (continues : Bool) (first : MaybeS) (test step : Option ExprT) (a : StmtT) (s : Span) (x : MaybeZ × St) → MaybeStatement f (opened sp) breaks continues first x.0 x.1 → (y : Option TExprT × St) → MaybeValue f x.1 test y.0 y.1 → (z : Option TExprT × St) → MaybeValue f y.1 step z.0 z.1 → (r : Result (TStmtT × St) FaultT) → StatementOut f z.1 true true a r → StatementOut f sp breaks continues (ForS first test step a s) (r >>= λ w. demanded s WrongType (is_test y.0) >>= λ _. Ok (ForZ (made w.1) x.0 y.0 z.0 w.0, left w.1))
+for_4 : (f : Fn) (sp : St) (breaks : Bool) (continues : Bool) (first : MaybeS) (test step : Option ExprT) (a : StmtT) (s : Span) (x : MaybeZ × St) → MaybeStatement f (opened sp) breaks continues first x.0 x.1 → (y : Option TExprT × St) → MaybeValue f x.1 test y.0 y.1 → (z : Option TExprT × St) → MaybeValue f y.1 step z.0 z.1 → (r : Result (TStmtT × St) Fault) → StatementOut f z.1 true true a r → StatementOut f sp breaks continues (ForS first test step a s) (r >>= λ w. demanded s WrongType (is_test y.0) >>= λ _. Ok (ForZ (made w.1) x.0 y.0 z.0 w.0, left w.1))
 for_4 f sp breaks continues first test step a s x g0 y g1 z g2 (Ok w) g3 = for_5 f sp breaks continues first test step a s x g0 y g1 z g2 w g3 (demanded s WrongType (is_test y.0)) refl
 for_4 f sp breaks continues first test step a s x g0 y g1 z g2 (Err fault) g3 = bad.for_body g0 g1 g2 g3
 
-for_3 : (f : Fn) (sp : St) (breaks : Bool) (continues : Bool) (first : MaybeS) (test step : Option ExprT) (a : StmtT) (s : Span) (x : MaybeZ × St) → MaybeStatement f (opened sp) breaks continues first x.0 x.1 → (y : Option TExprT × St) → MaybeValue f x.1 test y.0 y.1 → (r : Result (Option TExprT × St) FaultT) → MaybeValueOut f y.1 step r → ((us : St) → StatementOut f us true true a (statement f us true true a)) → StatementOut f sp breaks continues (ForS first test step a s) (r >>= λ z. statement f z.1 true true a >>= λ w. demanded s WrongType (is_test y.0) >>= λ _. Ok (ForZ (made w.1) x.0 y.0 z.0 w.0, left w.1))
+for_3 : (f : Fn) (sp : St) (breaks : Bool) (continues : Bool) (first : MaybeS) (test step : Option ExprT) (a : StmtT) (s : Span) (x : MaybeZ × St) → MaybeStatement f (opened sp) breaks continues first x.0 x.1 → (y : Option TExprT × St) → MaybeValue f x.1 test y.0 y.1 → (r : Result (Option TExprT × St) Fault) → MaybeValueOut f y.1 step r → ((us : St) → StatementOut f us true true a (statement f us true true a)) → StatementOut f sp breaks continues (ForS first test step a s) (r >>= λ z. statement f z.1 true true a >>= λ w. demanded s WrongType (is_test y.0) >>= λ _. Ok (ForZ (made w.1) x.0 y.0 z.0 w.0, left w.1))
 for_3 f sp breaks continues first test step a s x g0 y g1 (Ok z) g2 h3 = for_4 f sp breaks continues first test step a s x g0 y g1 z g2 (statement f z.1 true true a) (h3 z.1)
 for_3 f sp breaks continues first test step a s x g0 y g1 (Err fault) g2 h3 = bad.for_step g0 g1 g2
 
-for_2 : (f : Fn) (sp : St) (breaks : Bool) (continues : Bool) (first : MaybeS) (test step : Option ExprT) (a : StmtT) (s : Span) (x : MaybeZ × St) → MaybeStatement f (opened sp) breaks continues first x.0 x.1 → (r : Result (Option TExprT × St) FaultT) → MaybeValueOut f x.1 test r → ((us : St) → MaybeValueOut f us step (maybe_value f us step)) → ((us : St) → StatementOut f us true true a (statement f us true true a)) → StatementOut f sp breaks continues (ForS first test step a s) (r >>= λ y. maybe_value f y.1 step >>= λ z. statement f z.1 true true a >>= λ w. demanded s WrongType (is_test y.0) >>= λ _. Ok (ForZ (made w.1) x.0 y.0 z.0 w.0, left w.1))
+for_2 : (f : Fn) (sp : St) (breaks : Bool) (continues : Bool) (first : MaybeS) (test step : Option ExprT) (a : StmtT) (s : Span) (x : MaybeZ × St) → MaybeStatement f (opened sp) breaks continues first x.0 x.1 → (r : Result (Option TExprT × St) Fault) → MaybeValueOut f x.1 test r → ((us : St) → MaybeValueOut f us step (maybe_value f us step)) → ((us : St) → StatementOut f us true true a (statement f us true true a)) → StatementOut f sp breaks continues (ForS first test step a s) (r >>= λ y. maybe_value f y.1 step >>= λ z. statement f z.1 true true a >>= λ w. demanded s WrongType (is_test y.0) >>= λ _. Ok (ForZ (made w.1) x.0 y.0 z.0 w.0, left w.1))
 for_2 f sp breaks continues first test step a s x g0 (Ok y) g1 h2 h3 = for_3 f sp breaks continues first test step a s x g0 y g1 (maybe_value f y.1 step) (h2 y.1) h3
 for_2 f sp breaks continues first test step a s x g0 (Err fault) g1 h2 h3 = bad.for_test g0 g1
 
-for_1 : (f : Fn) (sp : St) (breaks : Bool) (continues : Bool) (first : MaybeS) (test step : Option ExprT) (a : StmtT) (s : Span) → (r : Result (MaybeZ × St) FaultT) → MaybeStatementOut f (opened sp) breaks continues first r → ((us : St) → MaybeValueOut f us test (maybe_value f us test)) → ((us : St) → MaybeValueOut f us step (maybe_value f us step)) → ((us : St) → StatementOut f us true true a (statement f us true true a)) → StatementOut f sp breaks continues (ForS first test step a s) (r >>= λ x. maybe_value f x.1 test >>= λ y. maybe_value f y.1 step >>= λ z. statement f z.1 true true a >>= λ w. demanded s WrongType (is_test y.0) >>= λ _. Ok (ForZ (made w.1) x.0 y.0 z.0 w.0, left w.1))
+for_1 : (f : Fn) (sp : St) (breaks : Bool) (continues : Bool) (first : MaybeS) (test step : Option ExprT) (a : StmtT) (s : Span) → (r : Result (MaybeZ × St) Fault) → MaybeStatementOut f (opened sp) breaks continues first r → ((us : St) → MaybeValueOut f us test (maybe_value f us test)) → ((us : St) → MaybeValueOut f us step (maybe_value f us step)) → ((us : St) → StatementOut f us true true a (statement f us true true a)) → StatementOut f sp breaks continues (ForS first test step a s) (r >>= λ x. maybe_value f x.1 test >>= λ y. maybe_value f y.1 step >>= λ z. statement f z.1 true true a >>= λ w. demanded s WrongType (is_test y.0) >>= λ _. Ok (ForZ (made w.1) x.0 y.0 z.0 w.0, left w.1))
 for_1 f sp breaks continues first test step a s (Ok x) g0 h1 h2 h3 = for_2 f sp breaks continues first test step a s x g0 (maybe_value f x.1 test) (h1 x.1) h2 h3
 for_1 f sp breaks continues first test step a s (Err fault) g0 h1 h2 h3 = bad.for_first g0
 
-switch_3 : (f : Fn) (sp : St) (breaks : Bool) (continues : Bool) (e : ExprT) (all : ArmTs) (s : Span) (x : TExprT × St) → ValueIn f sp e x.0 x.1 → (xs : TArmTs × St) → ArmsOf f (opened x.1) true continues no_labels all xs.0 xs.1 → (r : Result (Unit {0}) FaultT) → demanded s WrongType (is_number (type_of_typed x.0)) ≡ r → StatementOut f sp breaks continues (SwitchS e all s) (r >>= λ _. Ok (SwitchZ x.0 (made xs.1) xs.0, left xs.1))
+switch_3 : (f : Fn) (sp : St) (breaks : Bool) (continues : Bool) (e : ExprT) (all : ArmTs) (s : Span) (x : TExprT × St) → ValueIn f sp e x.0 x.1 → (xs : TArmTs × St) → ArmsOf f (opened x.1) true continues no_labels all xs.0 xs.1 → (r : Result (Unit {0}) Fault) → demanded s WrongType (is_number (type_of_typed x.0)) ≡ r → StatementOut f sp breaks continues (SwitchS e all s) (r >>= λ _. Ok (SwitchZ x.0 (made xs.1) xs.0, left xs.1))
 switch_3 f sp breaks continues e all s x g0 xs g1 (Ok tt) g2 = good.switch g0 g1 g2
 switch_3 f sp breaks continues e all s x g0 xs g1 (Err fault) g2 = bad.switch g0 g1 g2
 
-switch_2 : (f : Fn) (sp : St) (breaks : Bool) (continues : Bool) (e : ExprT) (all : ArmTs) (s : Span) (x : TExprT × St) → ValueIn f sp e x.0 x.1 → (r : Result (TArmTs × St) FaultT) → ArmsOfOut f (opened x.1) true continues no_labels all r → StatementOut f sp breaks continues (SwitchS e all s) (r >>= λ xs. demanded s WrongType (is_number (type_of_typed x.0)) >>= λ _. Ok (SwitchZ x.0 (made xs.1) xs.0, left xs.1))
+switch_2 : (f : Fn) (sp : St) (breaks : Bool) (continues : Bool) (e : ExprT) (all : ArmTs) (s : Span) (x : TExprT × St) → ValueIn f sp e x.0 x.1 → (r : Result (TArmTs × St) Fault) → ArmsOfOut f (opened x.1) true continues no_labels all r → StatementOut f sp breaks continues (SwitchS e all s) (r >>= λ xs. demanded s WrongType (is_number (type_of_typed x.0)) >>= λ _. Ok (SwitchZ x.0 (made xs.1) xs.0, left xs.1))
 switch_2 f sp breaks continues e all s x g0 (Ok xs) g1 = switch_3 f sp breaks continues e all s x g0 xs g1 (demanded s WrongType (is_number (type_of_typed x.0))) refl
 switch_2 f sp breaks continues e all s x g0 (Err fault) g1 = bad.switch_arms g0 g1
 
-switch_1 : (f : Fn) (sp : St) (breaks : Bool) (continues : Bool) (e : ExprT) (all : ArmTs) (s : Span) → (r : Result (TExprT × St) FaultT) → ValueInOut f sp e r → ((us : St) → ArmsOfOut f (opened us) true continues no_labels all (arms f (opened us) true continues no_labels all)) → StatementOut f sp breaks continues (SwitchS e all s) (r >>= λ x. arms f (opened x.1) true continues no_labels all >>= λ xs. demanded s WrongType (is_number (type_of_typed x.0)) >>= λ _. Ok (SwitchZ x.0 (made xs.1) xs.0, left xs.1))
+switch_1 : (f : Fn) (sp : St) (breaks : Bool) (continues : Bool) (e : ExprT) (all : ArmTs) (s : Span) → (r : Result (TExprT × St) Fault) → ValueInOut f sp e r → ((us : St) → ArmsOfOut f (opened us) true continues no_labels all (arms f (opened us) true continues no_labels all)) → StatementOut f sp breaks continues (SwitchS e all s) (r >>= λ x. arms f (opened x.1) true continues no_labels all >>= λ xs. demanded s WrongType (is_number (type_of_typed x.0)) >>= λ _. Ok (SwitchZ x.0 (made xs.1) xs.0, left xs.1))
 switch_1 f sp breaks continues e all s (Ok x) g0 h1 = switch_2 f sp breaks continues e all s x g0 (arms f (opened x.1) true continues no_labels all) (h1 x.1)
 switch_1 f sp breaks continues e all s (Err fault) g0 h1 = bad.switch_value g0
 
-return_value_2 : (f : Fn) (sp : St) (breaks : Bool) (continues : Bool) (e : ExprT) (s : Span) (x : TExprT × St) → ValueIn f sp e x.0 x.1 → (r : Result (Unit {0}) FaultT) → demanded s WrongType (converts (type_of_typed x.0) f.gives) ≡ r → StatementOut f sp breaks continues (ReturnS (Some e) s) (r >>= λ _. Ok (ReturnZ (Some x.0), x.1))
+return_value_2 : (f : Fn) (sp : St) (breaks : Bool) (continues : Bool) (e : ExprT) (s : Span) (x : TExprT × St) → ValueIn f sp e x.0 x.1 → (r : Result (Unit {0}) Fault) → demanded s WrongType (converts (type_of_typed x.0) f.gives) ≡ r → StatementOut f sp breaks continues (ReturnS (Some e) s) (r >>= λ _. Ok (ReturnZ (Some x.0), x.1))
 return_value_2 f sp breaks continues e s x g0 (Ok tt) g1 = good.return_value g0 g1
 return_value_2 f sp breaks continues e s x g0 (Err fault) g1 = bad.return_value g0 g1
 
-return_value_1 : (f : Fn) (sp : St) (breaks : Bool) (continues : Bool) (e : ExprT) (s : Span) → (r : Result (TExprT × St) FaultT) → ValueInOut f sp e r → StatementOut f sp breaks continues (ReturnS (Some e) s) (r >>= λ x. demanded s WrongType (converts (type_of_typed x.0) f.gives) >>= λ _. Ok (ReturnZ (Some x.0), x.1))
+return_value_1 : (f : Fn) (sp : St) (breaks : Bool) (continues : Bool) (e : ExprT) (s : Span) → (r : Result (TExprT × St) Fault) → ValueInOut f sp e r → StatementOut f sp breaks continues (ReturnS (Some e) s) (r >>= λ x. demanded s WrongType (converts (type_of_typed x.0) f.gives) >>= λ _. Ok (ReturnZ (Some x.0), x.1))
 return_value_1 f sp breaks continues e s (Ok x) g0 = return_value_2 f sp breaks continues e s x g0 (demanded s WrongType (converts (type_of_typed x.0) f.gives)) refl
 return_value_1 f sp breaks continues e s (Err fault) g0 = bad.return_part g0
 
-break_1 : (f : Fn) (sp : St) (breaks : Bool) (continues : Bool) (s : Span) → (r : Result (Unit {0}) FaultT) → demanded s BreakOutside breaks ≡ r → StatementOut f sp breaks continues (BreakS s) (r >>= λ _. Ok (BreakZ, sp))
+break_1 : (f : Fn) (sp : St) (breaks : Bool) (continues : Bool) (s : Span) → (r : Result (Unit {0}) Fault) → demanded s BreakOutside breaks ≡ r → StatementOut f sp breaks continues (BreakS s) (r >>= λ _. Ok (BreakZ, sp))
 break_1 f sp breaks continues s (Ok tt) g0 = good.break g0
 break_1 f sp breaks continues s (Err fault) g0 = bad.break g0
 
-continue_1 : (f : Fn) (sp : St) (breaks : Bool) (continues : Bool) (s : Span) → (r : Result (Unit {0}) FaultT) → demanded s BreakOutside continues ≡ r → StatementOut f sp breaks continues (ContinueS s) (r >>= λ _. Ok (ContinueZ, sp))
+continue_1 : (f : Fn) (sp : St) (breaks : Bool) (continues : Bool) (s : Span) → (r : Result (Unit {0}) Fault) → demanded s BreakOutside continues ≡ r → StatementOut f sp breaks continues (ContinueS s) (r >>= λ _. Ok (ContinueZ, sp))
 continue_1 f sp breaks continues s (Ok tt) g0 = good.continue g0
 continue_1 f sp breaks continues s (Err fault) g0 = bad.continue g0
 
-something_1 : (f : Fn) (sp : St) (breaks : Bool) (continues : Bool) (a : StmtT) → (r : Result (TStmtT × St) FaultT) → StatementOut f sp breaks continues a r → MaybeStatementOut f sp breaks continues (SomeS a) (r >>= λ x. Ok (SomeZ x.0, x.1))
+something_1 : (f : Fn) (sp : St) (breaks : Bool) (continues : Bool) (a : StmtT) → (r : Result (TStmtT × St) Fault) → StatementOut f sp breaks continues a r → MaybeStatementOut f sp breaks continues (SomeS a) (r >>= λ x. Ok (SomeZ x.0, x.1))
 something_1 f sp breaks continues a (Ok x) g0 = good.something g0
 something_1 f sp breaks continues a (Err fault) g0 = bad.something g0
 
-more_statements_2 : (f : Fn) (sp : St) (breaks : Bool) (continues : Bool) (a : StmtT) (rest : StmtTs) (x : TStmtT × St) → Statement f sp breaks continues a x.0 x.1 → (r : Result (TStmtTs × St) FaultT) → StatementsOut f x.1 breaks continues rest r → StatementsOut f sp breaks continues (MoreS a rest) (r >>= λ xs. Ok (MoreZ x.0 xs.0, xs.1))
+more_statements_2 : (f : Fn) (sp : St) (breaks : Bool) (continues : Bool) (a : StmtT) (rest : StmtTs) (x : TStmtT × St) → Statement f sp breaks continues a x.0 x.1 → (r : Result (TStmtTs × St) Fault) → StatementsOut f x.1 breaks continues rest r → StatementsOut f sp breaks continues (MoreS a rest) (r >>= λ xs. Ok (MoreZ x.0 xs.0, xs.1))
 more_statements_2 f sp breaks continues a rest x g0 (Ok xs) g1 = good.more_statements g0 g1
 more_statements_2 f sp breaks continues a rest x g0 (Err fault) g1 = bad.statement_later g0 g1
 
-more_statements_1 : (f : Fn) (sp : St) (breaks : Bool) (continues : Bool) (a : StmtT) (rest : StmtTs) → (r : Result (TStmtT × St) FaultT) → StatementOut f sp breaks continues a r → ((us : St) → StatementsOut f us breaks continues rest (statements f us breaks continues rest)) → StatementsOut f sp breaks continues (MoreS a rest) (r >>= λ x. statements f x.1 breaks continues rest >>= λ xs. Ok (MoreZ x.0 xs.0, xs.1))
+more_statements_1 : (f : Fn) (sp : St) (breaks : Bool) (continues : Bool) (a : StmtT) (rest : StmtTs) → (r : Result (TStmtT × St) Fault) → StatementOut f sp breaks continues a r → ((us : St) → StatementsOut f us breaks continues rest (statements f us breaks continues rest)) → StatementsOut f sp breaks continues (MoreS a rest) (r >>= λ x. statements f x.1 breaks continues rest >>= λ xs. Ok (MoreZ x.0 xs.0, xs.1))
 more_statements_1 f sp breaks continues a rest (Ok x) g0 h1 = more_statements_2 f sp breaks continues a rest x g0 (statements f x.1 breaks continues rest) (h1 x.1)
 more_statements_1 f sp breaks continues a rest (Err fault) g0 h1 = bad.statement_here g0
 
-case_3 : (f : Fn) (sp : St) (breaks : Bool) (continues : Bool) (seen : Labels) (e : ExprT) (s : Span) (x : TExprT × St) → ValueIn f sp e x.0 x.1 → (k : ℕ) → known (span_of e) NotConstant (constant x.0) ≡ Ok k → (r : Result (Unit {0}) FaultT) → demanded s Twice (not (is_case k seen)) ≡ r → ArmOfOut f sp breaks continues seen (CaseA e s) (r >>= λ _. Ok (CaseB k, x.1))
+case_3 : (f : Fn) (sp : St) (breaks : Bool) (continues : Bool) (seen : Labels) (e : ExprT) (s : Span) (x : TExprT × St) → ValueIn f sp e x.0 x.1 → (k : ℕ) → known (span_of e) NotConstant (constant x.0) ≡ Ok k → (r : Result (Unit {0}) Fault) → demanded s Twice (not (is_case k seen)) ≡ r → ArmOfOut f sp breaks continues seen (CaseA e s) (r >>= λ _. Ok (CaseB k, x.1))
 case_3 f sp breaks continues seen e s x g0 k g1 (Ok tt) g2 = good.case g0 g1 g2
 case_3 f sp breaks continues seen e s x g0 k g1 (Err fault) g2 = bad.case g0 g1 g2
 
-case_2 : (f : Fn) (sp : St) (breaks : Bool) (continues : Bool) (seen : Labels) (e : ExprT) (s : Span) (x : TExprT × St) → ValueIn f sp e x.0 x.1 → (r : Result ℕ FaultT) → known (span_of e) NotConstant (constant x.0) ≡ r → ArmOfOut f sp breaks continues seen (CaseA e s) (r >>= λ k. demanded s Twice (not (is_case k seen)) >>= λ _. Ok (CaseB k, x.1))
+case_2 : (f : Fn) (sp : St) (breaks : Bool) (continues : Bool) (seen : Labels) (e : ExprT) (s : Span) (x : TExprT × St) → ValueIn f sp e x.0 x.1 → (r : Result ℕ Fault) → known (span_of e) NotConstant (constant x.0) ≡ r → ArmOfOut f sp breaks continues seen (CaseA e s) (r >>= λ k. demanded s Twice (not (is_case k seen)) >>= λ _. Ok (CaseB k, x.1))
 case_2 f sp breaks continues seen e s x g0 (Ok k) g1 = case_3 f sp breaks continues seen e s x g0 k g1 (demanded s Twice (not (is_case k seen))) refl
 case_2 f sp breaks continues seen e s x g0 (Err fault) g1 = bad.case_constant g0 g1
 
-case_1 : (f : Fn) (sp : St) (breaks : Bool) (continues : Bool) (seen : Labels) (e : ExprT) (s : Span) → (r : Result (TExprT × St) FaultT) → ValueInOut f sp e r → ArmOfOut f sp breaks continues seen (CaseA e s) (r >>= λ x. known (span_of e) NotConstant (constant x.0) >>= λ k. demanded s Twice (not (is_case k seen)) >>= λ _. Ok (CaseB k, x.1))
+case_1 : (f : Fn) (sp : St) (breaks : Bool) (continues : Bool) (seen : Labels) (e : ExprT) (s : Span) → (r : Result (TExprT × St) Fault) → ValueInOut f sp e r → ArmOfOut f sp breaks continues seen (CaseA e s) (r >>= λ x. known (span_of e) NotConstant (constant x.0) >>= λ k. demanded s Twice (not (is_case k seen)) >>= λ _. Ok (CaseB k, x.1))
 case_1 f sp breaks continues seen e s (Ok x) g0 = case_2 f sp breaks continues seen e s x g0 (known (span_of e) NotConstant (constant x.0)) refl
 case_1 f sp breaks continues seen e s (Err fault) g0 = bad.case_part g0
 
-default_1 : (f : Fn) (sp : St) (breaks : Bool) (continues : Bool) (seen : Labels) (s : Span) → (r : Result (Unit {0}) FaultT) → demanded s Twice (not seen.has_default) ≡ r → ArmOfOut f sp breaks continues seen (DefaultA s) (r >>= λ _. Ok (DefaultB, sp))
+default_1 : (f : Fn) (sp : St) (breaks : Bool) (continues : Bool) (seen : Labels) (s : Span) → (r : Result (Unit {0}) Fault) → demanded s Twice (not seen.has_default) ≡ r → ArmOfOut f sp breaks continues seen (DefaultA s) (r >>= λ _. Ok (DefaultB, sp))
 default_1 f sp breaks continues seen s (Ok tt) g0 = good.default g0
 default_1 f sp breaks continues seen s (Err fault) g0 = bad.default g0
 
-arm_statement_1 : (f : Fn) (sp : St) (breaks : Bool) (continues : Bool) (seen : Labels) (a : StmtT) → (r : Result (TStmtT × St) FaultT) → StatementOut f sp breaks continues a r → ArmOfOut f sp breaks continues seen (StmtA a) (r >>= λ x. Ok (StmtB x.0, x.1))
+arm_statement_1 : (f : Fn) (sp : St) (breaks : Bool) (continues : Bool) (seen : Labels) (a : StmtT) → (r : Result (TStmtT × St) Fault) → StatementOut f sp breaks continues a r → ArmOfOut f sp breaks continues seen (StmtA a) (r >>= λ x. Ok (StmtB x.0, x.1))
 arm_statement_1 f sp breaks continues seen a (Ok x) g0 = good.arm_statement g0
 arm_statement_1 f sp breaks continues seen a (Err fault) g0 = bad.arm_statement g0
 
-more_arms_2 : (f : Fn) (sp : St) (breaks : Bool) (continues : Bool) (seen : Labels) (a : ArmT) (rest : ArmTs) (x : TArmT × St) → ArmOf f sp breaks continues seen a x.0 x.1 → (r : Result (TArmTs × St) FaultT) → ArmsOfOut f x.1 breaks continues (with_label seen x.0) rest r → ArmsOfOut f sp breaks continues seen (MoreA a rest) (r >>= λ xs. Ok (MoreB x.0 xs.0, xs.1))
+more_arms_2 : (f : Fn) (sp : St) (breaks : Bool) (continues : Bool) (seen : Labels) (a : ArmT) (rest : ArmTs) (x : TArmT × St) → ArmOf f sp breaks continues seen a x.0 x.1 → (r : Result (TArmTs × St) Fault) → ArmsOfOut f x.1 breaks continues (with_label seen x.0) rest r → ArmsOfOut f sp breaks continues seen (MoreA a rest) (r >>= λ xs. Ok (MoreB x.0 xs.0, xs.1))
 more_arms_2 f sp breaks continues seen a rest x g0 (Ok xs) g1 = good.more_arms g0 g1
 more_arms_2 f sp breaks continues seen a rest x g0 (Err fault) g1 = bad.arm_later g0 g1
 
-more_arms_1 : (f : Fn) (sp : St) (breaks : Bool) (continues : Bool) (seen : Labels) (a : ArmT) (rest : ArmTs) → (r : Result (TArmT × St) FaultT) → ArmOfOut f sp breaks continues seen a r → ((us : St) (x : TArmT × St) → ArmsOfOut f us breaks continues (with_label seen x.0) rest (arms f us breaks continues (with_label seen x.0) rest)) → ArmsOfOut f sp breaks continues seen (MoreA a rest) (r >>= λ x. arms f x.1 breaks continues (with_label seen x.0) rest >>= λ xs. Ok (MoreB x.0 xs.0, xs.1))
+more_arms_1 : (f : Fn) (sp : St) (breaks : Bool) (continues : Bool) (seen : Labels) (a : ArmT) (rest : ArmTs) → (r : Result (TArmT × St) Fault) → ArmOfOut f sp breaks continues seen a r → ((us : St) (x : TArmT × St) → ArmsOfOut f us breaks continues (with_label seen x.0) rest (arms f us breaks continues (with_label seen x.0) rest)) → ArmsOfOut f sp breaks continues seen (MoreA a rest) (r >>= λ x. arms f x.1 breaks continues (with_label seen x.0) rest >>= λ xs. Ok (MoreB x.0 xs.0, xs.1))
 more_arms_1 f sp breaks continues seen a rest (Ok x) g0 h1 = more_arms_2 f sp breaks continues seen a rest x g0 (arms f x.1 breaks continues (with_label seen x.0) rest) (h1 x.1 x)
 more_arms_1 f sp breaks continues seen a rest (Err fault) g0 h1 = bad.arm_here g0
 
@@ -374,38 +375,38 @@ mutual
   arms_good good.no_arms = refl
   arms_good (good.more_arms g0 g1) = rw (arm_good g0, arms_good g1) refl
 
-pub value_in_bad : {f : Fn} {sp : St} {e : ExprT} {fault : FaultT} → NoValueIn f sp e fault → value_in f sp e ≡ Err fault
+pub value_in_bad : {f : Fn} {sp : St} {e : ExprT} {fault : Fault} → NoValueIn f sp e fault → value_in f sp e ≡ Err fault
 unfolding value_in
 value_in_bad (bad.value_in g0) = rw (value_bad g0) refl
 
-pub type_in_bad : {f : Fn} {sp : St} {s : Span} {of : TypeT} {fault : FaultT} → NoTypeIn f sp s of fault → type_in f sp s of ≡ Err fault
+pub type_in_bad : {f : Fn} {sp : St} {s : Span} {of : TypeT} {fault : Fault} → NoTypeIn f sp s of fault → type_in f sp s of ≡ Err fault
 unfolding type_in
 type_in_bad (bad.type_in g0) = rw (type_bad g0) refl
 
-pub fill_in_bad : {f : Fn} {sp : St} {target : Ty} {i : InitT} {fault : FaultT} → NoFillIn f sp target i fault → fill_in f sp target i ≡ Err fault
+pub fill_in_bad : {f : Fn} {sp : St} {target : Ty} {i : InitT} {fault : Fault} → NoFillIn f sp target i fault → fill_in f sp target i ≡ Err fault
 unfolding fill_in
 fill_in_bad (bad.fill_in g0) = rw (fill_bad g0) refl
 
-pub maybe_fill_bad : {f : Fn} {sp : St} {target : Ty} {o : Option InitT} {fault : FaultT} → NotFilled f sp target o fault → maybe_filled f sp target o ≡ Err fault
+pub maybe_fill_bad : {f : Fn} {sp : St} {target : Ty} {o : Option InitT} {fault : Fault} → NotFilled f sp target o fault → maybe_filled f sp target o ≡ Err fault
 unfolding maybe_filled
 maybe_fill_bad (bad.init g0) = rw (fill_in_bad g0) refl
 
-pub declared_bad : {f : Fn} {sp : St} {v : VarT} {fault : FaultT} → Undeclared f sp v fault → declared f sp v ≡ Err fault
+pub declared_bad : {f : Fn} {sp : St} {v : VarT} {fault : Fault} → Undeclared f sp v fault → declared f sp v ≡ Err fault
 unfolding declared
 declared_bad (bad.variable_type g0) = rw (type_in_bad g0) refl
 declared_bad (bad.variable_init g0 g1) = rw (type_in_good g0, maybe_fill_bad g1) refl
 declared_bad (bad.variable g0 g1 g2) = rw (type_in_good g0, maybe_fill_good g1, g2) refl
 
-pub all_declared_bad : {f : Fn} {sp : St} {vs : List VarT} {fault : FaultT} → NotAllDeclare f sp vs fault → all_declared f sp vs ≡ Err fault
+pub all_declared_bad : {f : Fn} {sp : St} {vs : List VarT} {fault : Fault} → NotAllDeclare f sp vs fault → all_declared f sp vs ≡ Err fault
 all_declared_bad (bad.variable_here g0) = rw (declared_bad g0) refl
 all_declared_bad (bad.variable_later g0 g1) = rw (declared_good g0, all_declared_bad g1) refl
 
-pub maybe_value_bad : {f : Fn} {sp : St} {o : Option ExprT} {fault : FaultT} → NoMaybeValue f sp o fault → maybe_value f sp o ≡ Err fault
+pub maybe_value_bad : {f : Fn} {sp : St} {o : Option ExprT} {fault : Fault} → NoMaybeValue f sp o fault → maybe_value f sp o ≡ Err fault
 unfolding maybe_value
 maybe_value_bad (bad.some_value g0) = rw (value_in_bad g0) refl
 
 mutual
-  pub statement_bad : {f : Fn} {sp : St} {breaks : Bool} {continues : Bool} {a : StmtT} {fault : FaultT} → NoStatement f sp breaks continues a fault → statement f sp breaks continues a ≡ Err fault
+  pub statement_bad : {f : Fn} {sp : St} {breaks : Bool} {continues : Bool} {a : StmtT} {fault : Fault} → NoStatement f sp breaks continues a fault → statement f sp breaks continues a ≡ Err fault
   statement_bad (bad.block g0) = rw (statements_bad g0) refl
   statement_bad (bad.variables g0) = rw (all_declared_bad g0) refl
   statement_bad (bad.expression g0) = rw (value_in_bad g0) refl
@@ -432,20 +433,20 @@ mutual
   statement_bad (bad.break g0) = rw (g0) refl
   statement_bad (bad.continue g0) = rw (g0) refl
 
-  pub maybe_statement_bad : {f : Fn} {sp : St} {breaks : Bool} {continues : Bool} {m : MaybeS} {fault : FaultT} → NoMaybeStatement f sp breaks continues m fault → maybe_statement f sp breaks continues m ≡ Err fault
+  pub maybe_statement_bad : {f : Fn} {sp : St} {breaks : Bool} {continues : Bool} {m : MaybeS} {fault : Fault} → NoMaybeStatement f sp breaks continues m fault → maybe_statement f sp breaks continues m ≡ Err fault
   maybe_statement_bad (bad.something g0) = rw (statement_bad g0) refl
 
-  pub statements_bad : {f : Fn} {sp : St} {breaks : Bool} {continues : Bool} {all : StmtTs} {fault : FaultT} → NotStatements f sp breaks continues all fault → statements f sp breaks continues all ≡ Err fault
+  pub statements_bad : {f : Fn} {sp : St} {breaks : Bool} {continues : Bool} {all : StmtTs} {fault : Fault} → NotStatements f sp breaks continues all fault → statements f sp breaks continues all ≡ Err fault
   statements_bad (bad.statement_here g0) = rw (statement_bad g0) refl
   statements_bad (bad.statement_later g0 g1) = rw (statement_good g0, statements_bad g1) refl
 
-  pub arm_bad : {f : Fn} {sp : St} {breaks : Bool} {continues : Bool} {seen : Labels} {a : ArmT} {fault : FaultT} → NoArm f sp breaks continues seen a fault → arm f sp breaks continues seen a ≡ Err fault
+  pub arm_bad : {f : Fn} {sp : St} {breaks : Bool} {continues : Bool} {seen : Labels} {a : ArmT} {fault : Fault} → NoArm f sp breaks continues seen a fault → arm f sp breaks continues seen a ≡ Err fault
   arm_bad (bad.case_part g0) = rw (value_in_bad g0) refl
   arm_bad (bad.case_constant g0 g1) = rw (value_in_good g0, g1) refl
   arm_bad (bad.case g0 g1 g2) = rw (value_in_good g0, g1, g2) refl
   arm_bad (bad.default g0) = rw (g0) refl
   arm_bad (bad.arm_statement g0) = rw (statement_bad g0) refl
 
-  pub arms_bad : {f : Fn} {sp : St} {breaks : Bool} {continues : Bool} {seen : Labels} {all : ArmTs} {fault : FaultT} → NoArms f sp breaks continues seen all fault → arms f sp breaks continues seen all ≡ Err fault
+  pub arms_bad : {f : Fn} {sp : St} {breaks : Bool} {continues : Bool} {seen : Labels} {all : ArmTs} {fault : Fault} → NoArms f sp breaks continues seen all fault → arms f sp breaks continues seen all ≡ Err fault
   arms_bad (bad.arm_here g0) = rw (arm_bad g0) refl
   arms_bad (bad.arm_later g0 g1) = rw (arm_good g0, arms_bad g1) refl

@@ -8,7 +8,8 @@ use Rattle.c_types.specs.Typed.{TExprT, TInitT, TVarT, TStmtT, BlockZ, EmptyZ, V
 use Rattle.c_types.specs.Typed.{ContinueZ, MaybeZ, NoneZ, SomeZ, TStmtTs, NoZ, MoreZ, TArmT, CaseB, DefaultB, StmtB, TArmTs, NoB, MoreB}
 use Rattle.c_rules.specs.declared.code.Code.TheVariants.{Twice, WrongType, NotConstant, BreakOutside}
 use Rattle.c_rules.specs.Kinds.{is_number, converts}
-use Rattle.c_exprs.specs.Faults.{FaultT, ◌>>=◌, placed, known, demanded}
+use Rattle.c_exprs.specs.declared.error.Fault.{Fault}
+use Rattle.c_exprs.specs.Faults.{◌>>=◌, placed, known, demanded}
 use Rattle.c_exprs.specs.Nodes.{type_of_typed, span_of, constant}
 use Rattle.c_stmts.specs.State.{Fn, St, under, with_texts, opened, left, made, is_new, entered, locals_limit, object_size, sized, filled_var}
 use Rattle.c_stmts.specs.State.{is_condition_of, is_test, Labels, no_labels, is_case, with_label}
@@ -16,7 +17,7 @@ use Rattle.c_exprs.specs.Typing.{as_value, typed, type_of}
 use Rattle.c_stmts.specs.InitTyping.{filled_by}
 
 abbrev pub Does : Type 0 → Type 0
-Does A = Result (A × St) FaultT
+Does A = Result (A × St) Fault
 
 -- the value of an expression in a statement
 unfoldable pub value_in : Fn → St → ExprT → Does TExprT

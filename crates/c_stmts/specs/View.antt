@@ -8,7 +8,7 @@ use Rattle.c_types.specs.Typed.{MaybeZ, NoneZ, SomeZ}
 use Rattle.c_types.specs.declared.ctype.CType.{CType}
 use Rattle.c_types.specs.declared.typed.TStmt.{TStmt}
 use Rattle.c_types.specs.View.{ctype, layout, tstmt}
-use Rattle.c_exprs.specs.Faults.{FaultT}
+use Rattle.c_exprs.specs.declared.error.Fault.{Fault}
 use Rattle.c_exprs.specs.View.{scope, names, bodies}
 use Rattle.c_exprs.specs.declared.names.Globals.{Globals}
 use Rattle.c_stmts.specs.State.{Fn, St, Labels}
@@ -22,7 +22,7 @@ abbrev pub fn_of : Globals → CType → Fn
 fn_of g t = record { layouts = map layout g.layouts.items; whole = g.whole.items; names = names g; bodies = bodies g; gives = ctype t }
 
 -- a tree, and the state after it
-abbrev pub reached : {Y : Type 0} → Y → St → Result (Y × St) FaultT
+abbrev pub reached : {Y : Type 0} → Y → St → Result (Y × St) Fault
 reached y sq = Ok (y, sq)
 
 -- what may be missing, as a list

@@ -5,7 +5,7 @@ ghost use Rattle.c_types.specs.View.{texpr, tarm, tarms, tstmt, tstmts};
 ghost use Rattle.c_rules.specs.Kinds.{is_number};
 ghost use Rattle.c_rules.specs.declared.code.Code.TheVariants.{BreakOutside, NotConstant, WrongType};
 ghost use Rattle.c_exprs.specs.Faults.{demanded, known};
-ghost use Rattle.c_exprs.specs.Gives.{Gives};
+ghost use Rattle.kit_base.specs.Gives.{Gives};
 ghost use Rattle.c_exprs.specs.Nodes.{constant, type_of_typed};
 ghost use Rattle.c_stmts.specs.State.{left, made, is_condition_of, is_test};
 ghost use Rattle.c_stmts.specs.View.{st, maybe_box, maybe_z};

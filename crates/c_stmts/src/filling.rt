@@ -1,18 +1,18 @@
 // The typing of initialisers.
 ghost use Rattle.std.specs.Prelude.{◌≡◌, ℕ, [], List, map, option_map, length, IfOk, OnErr, Err};
 ghost use Rattle.std.specs.Option.{option_map_or};
-ghost use Rattle.c_tree.specs.declared.span.Span.{Span};
 ghost use Rattle.c_tree.specs.View.{init, inits};
 ghost use Rattle.c_types.specs.Typed.{TInitT};
 ghost use Rattle.c_types.specs.View.{ctype, layout, texpr, tinit, tinits};
-ghost use Rattle.c_rules.specs.declared.code.Code.{Code};
 ghost use Rattle.c_rules.specs.Kinds.{is_int, element_count};
-ghost use Rattle.c_exprs.specs.declared.error.CheckErr.TheVariants as errors;
+ghost use Rattle.kit_base.specs.declared.failure.Failure.TheVariants.{Cause};
 ghost use Rattle.c_exprs.specs.Env.{Text};
+ghost use Rattle.c_exprs.specs.declared.error.Fault.{Fault};
 ghost use Rattle.c_exprs.specs.Faults.{at, placed};
 ghost use Rattle.c_exprs.specs.Nodes.{type_of_typed, kind_of_typed};
 ghost use Rattle.c_exprs.specs.View.{ctx};
-ghost use Rattle.c_exprs.specs.Gives.{Gives, read};
+ghost use Rattle.kit_base.specs.Gives.{Gives};
+ghost use Rattle.c_exprs.specs.Gives.{read};
 ghost use Rattle.c_stmts.specs.Slots.{slots_for, item_count, has_room, literal_of, is_null_or_text, is_fixed, text_fills, local_fills, global_fills};
 ghost use Rattle.c_stmts.specs.Slots.{value_fills, fills, filled};
 ghost use Rattle.c_stmts.specs.InitTyping.{filled_by, all_filled_by};
@@ -21,7 +21,7 @@ ghost use Rattle.c_stmts.specs.InitBreaks.{NoFill};
 
 use crate::slots::{has_room, slot_at};
 use c_exprs::{
-    CheckErr, Globals, Scope, Texts, constant, demanded, kept_texts, span_of, type_value,
+    CheckErr, Fault, Globals, Scope, Texts, constant, demanded, kept_texts, span_of, type_value,
 };
 use c_rules::{Code, converts};
 use c_tree::{Init, Span};
@@ -31,9 +31,9 @@ use std::alloc::Global;
 
 /// The code at a node of this span.
 fn refused(span: Span, code: Code) -> CheckErr
-    ensures { result ≡ errors.At code span }
+    ensures { result ≡ Cause (at span code) }
 {
-    CheckErr::At { code, span }
+    CheckErr::Cause(Fault { code, span })
 }
 
 fn is_int(ty: &CType) -> bool
@@ -241,8 +241,8 @@ pub fn fill(
         → Fills (ctx globals.now scopes.now) texts.old global (option_map (λ t. ctype t.now) target.entry) (init initialiser.now) x us
         → Gives (λ r. (tinit r, texts.new)) result (read x us) }
     // A refusal names the first broken rule.
-    ensures first { (k : Code) (s : Span) → result ≡ Err (errors.At k s)
-        → NoFill (ctx globals.now scopes.now) texts.old global (option_map (λ t. ctype t.now) target.entry) (init initialiser.now) (at s k) }
+    ensures first { (f : Fault) → result ≡ Err (Cause f)
+        → NoFill (ctx globals.now scopes.now) texts.old global (option_map (λ t. ctype t.now) target.entry) (init initialiser.now) f }
     // After a refusal there are no texts: the unit is read no further.
     ensures refused { OnErr result (texts.new ≡ []) }
 {

@@ -2,11 +2,11 @@
 ghost use Rattle.std.specs.Prelude.{◌≡◌, ◌++◌, ◌∷◌, [], true, not, OnOk};
 ghost use Rattle.c_rules.specs.declared.code.Code.TheVariants as codes;
 ghost use Rattle.c_exprs.specs.Faults.{demanded};
-ghost use Rattle.c_exprs.specs.Gives.{Gives};
+ghost use Rattle.kit_base.specs.Gives.{Gives};
 ghost use Rattle.c_stmts.specs.State.{no_labels, is_case};
 ghost use Rattle.c_stmts.specs.View.{labels};
 
-use c_exprs::CheckErr;
+use c_exprs::{CheckErr, Fault};
 use c_rules::Code;
 use c_tree::Span;
 use indexmap::IndexSet;
@@ -37,10 +37,10 @@ pub(crate) fn add_case(seen: &mut Labels, span: Span, label: u32) -> Result<(), 
 {
     let (_, new) = seen.cases.insert_full(label)?;
     if !new {
-        return Err(CheckErr::At {
+        return Err(CheckErr::Cause(Fault {
             code: Code::Twice,
             span,
-        });
+        }));
     }
     Ok(())
 }
@@ -52,10 +52,10 @@ pub(crate) fn add_default(seen: &mut Labels, span: Span) -> Result<(), CheckErr>
     ensures added { OnOk result (labels seen.new ≡ record { cases = (labels seen.old).cases; has_default = true }) }
 {
     if seen.has_default {
-        return Err(CheckErr::At {
+        return Err(CheckErr::Cause(Fault {
             code: Code::Twice,
             span,
-        });
+        }));
     }
     seen.has_default = true;
     Ok(())

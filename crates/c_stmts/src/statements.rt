@@ -1,15 +1,13 @@
 // The typing of statements.
 ghost use Rattle.std.specs.Prelude.{◌≡◌, ◌+◌, ◌≤◌, ◌^◌, ℕ, length, [], List, Some, false, map, IfOk, OnErr, Err};
-ghost use Rattle.c_tree.specs.declared.span.Span.{Span};
 ghost use Rattle.c_tree.specs.Count.{vars_nodes, stmt_nodes, maybe_nodes, stmts_nodes, arm_nodes, arms_nodes};
 ghost use Rattle.c_tree.specs.View.{expr, var, stmt, stmts, arm, arms};
 ghost use Rattle.c_tree.specs.Tree.{DoS, DoWhileS, ReturnS, VarsS, WhileS};
 ghost use Rattle.c_types.specs.Typed.{TStmtTs};
 ghost use Rattle.c_types.specs.View.{tarm, tarms, tstmt, tstmts};
-ghost use Rattle.c_rules.specs.declared.code.Code.{Code};
-ghost use Rattle.c_exprs.specs.declared.error.CheckErr.TheVariants.{At};
-ghost use Rattle.c_exprs.specs.Faults.{at};
-ghost use Rattle.c_exprs.specs.Gives.{Gives};
+ghost use Rattle.kit_base.specs.declared.failure.Failure.TheVariants.{Cause};
+ghost use Rattle.c_exprs.specs.declared.error.Fault.{Fault};
+ghost use Rattle.kit_base.specs.Gives.{Gives};
 ghost use Rattle.c_stmts.specs.State.{St, no_labels, with_label};
 ghost use Rattle.c_stmts.specs.View.{st, fn_of, reached, labels, maybe_s, maybe_z};
 ghost use Rattle.c_stmts.specs.StatementTyping as typing;
@@ -319,8 +317,8 @@ pub fn type_statements(
     ensures only { (x : TStmtTs) (sq : St) → Statements (fn_of globals.now gives.now) (st state.old) false false (stmts (map stmt body.now)) x sq
         → Gives (λ r. (tstmts (map tstmt r.items), st state.new)) result (reached x sq) }
     // A refusal names the first broken rule.
-    ensures first { (k : Code) (s : Span) → result ≡ Err (At k s)
-        → NotStatements (fn_of globals.now gives.now) (st state.old) false false (stmts (map stmt body.now)) (at s k) }
+    ensures first { (f : Fault) → result ≡ Err (Cause f)
+        → NotStatements (fn_of globals.now gives.now) (st state.old) false false (stmts (map stmt body.now)) f }
     // After a refusal nothing is left of the state: the unit is read no further.
     ensures refused { OnErr result (st state.new ≡ record { scopes = []; sizes = []; used = 0; texts = [] }) }
 {

@@ -3,7 +3,7 @@ ghost use Rattle.std.specs.Prelude.{◌≡◌, ◌+◌, ◌≤◌, ◌<◌, ◌^
 ghost use Rattle.c_tree.specs.Count.{vars_nodes};
 ghost use Rattle.c_tree.specs.View.{expr, init, type, var};
 ghost use Rattle.c_types.specs.View.{ctype, texpr, tinit, tvar};
-ghost use Rattle.c_exprs.specs.Gives.{Gives};
+ghost use Rattle.kit_base.specs.Gives.{Gives};
 ghost use Rattle.c_stmts.specs.State.{entered, filled_var};
 ghost use Rattle.c_stmts.specs.StatementTyping.{value_in, type_in, fill_in, maybe_filled, declared, all_declared, maybe_value};
 ghost use Rattle.c_stmts.specs.View.{st, fn_of, lone};

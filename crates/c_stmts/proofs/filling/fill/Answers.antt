@@ -21,7 +21,7 @@ returns-clause-only c = λ x us g. rw (fill_good g) at (kept tinit _ c.filled_by
 pub returns-clause-first : goal.returns-clause-first
 returns-clause-first c =
     let seen : TInit → TInitT × List Text = λ r. (tinit r, c.kept_texts.new.texts) in
-    λ k s is. fill_breaks seen (ctx c.args.globals.now c.args.scopes.now) c.args.texts.now c.args.global (option_map (λ t. ctype t.now) c.args.target) (init c.args.initialiser.now) c.kept_texts.result k s (kept tinit _ c.filled_by-answer.result c.kept_texts.result c.filled_by-answer.new.texts c.kept_texts.new.texts c.filled_by-answer.ensures c.kept_texts.ensures.same c.kept_texts.ensures.kept) is
+    λ fault is. fill_breaks seen (ctx c.args.globals.now c.args.scopes.now) c.args.texts.now c.args.global (option_map (λ t. ctype t.now) c.args.target) (init c.args.initialiser.now) c.kept_texts.result fault (kept tinit _ c.filled_by-answer.result c.kept_texts.result c.filled_by-answer.new.texts c.kept_texts.new.texts c.filled_by-answer.ensures c.kept_texts.ensures.same c.kept_texts.ensures.kept) is
 
 pub returns-clause-gives : goal.returns-clause-gives
 returns-clause-gives c = kept tinit _ c.filled_by-answer.result c.kept_texts.result c.filled_by-answer.new.texts c.kept_texts.new.texts c.filled_by-answer.ensures c.kept_texts.ensures.same c.kept_texts.ensures.kept

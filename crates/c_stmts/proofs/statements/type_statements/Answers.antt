@@ -24,4 +24,4 @@ returns-clause-only c =
 pub returns-clause-first : goal.returns-clause-first
 returns-clause-first c =
     let given = kept (λ r. tstmts (map tstmt r.items)) _ c.stmts_of-answer.result c.kept_state.result (st c.stmts_of-answer.new.state) (st c.kept_state.new.state) c.stmts_of-answer.ensures c.kept_state.ensures.same c.kept_state.ensures.kept in
-    λ k s is. statements_break (λ r. (tstmts (map tstmt r.items), st c.kept_state.new.state)) (fn_of c.args.globals.now c.args.gives.now) (st c.args.state.now) false false (stmts (map stmt c.args.body.now)) c.kept_state.result k s given is
+    λ fault is. statements_break (λ r. (tstmts (map tstmt r.items), st c.kept_state.new.state)) (fn_of c.args.globals.now c.args.gives.now) (st c.args.state.now) false false (stmts (map stmt c.args.body.now)) c.kept_state.result fault given is

@@ -5,7 +5,7 @@ use Rattle.std.specs.List.{AllByRecursion}
 use Rattle.std.proofs.lemmas.List.Elements.{All-nil, All-cons}
 use Rattle.kit_base.specs.Held.{Held}
 use Rattle.asset_pack.specs.declared.kind.Kind.TheVariants as kinds
-use Rattle.asset_pack.specs.declared.error.AssetErr.{AssetErr}
+use Rattle.asset_pack.specs.declared.error.AssetFault.{AssetFault}
 use Rattle.asset_pack.specs.Reading.{words_in}
 use Rattle.asset_pack.specs.Texts.{words_file_text}
 use Rattle.asset_pack.specs.Words.{IsBytes, AreWords}
@@ -28,7 +28,7 @@ each_word [] h = All-nil (λ w. w < 2 ^ 32)
 each_word (w ∷ ws) h = All-cons (λ w. w < 2 ^ 32) w ws h.0 (each_word ws h.1)
 
 -- the words of a file whose text is due
-listed : (words : List ℕ) (r : Result (List ℕ) AssetErr) (listing : List ℕ) → (or_refused (no_words words) r >>= λ ws. Ok (written (disassembled ws))) ≡ Ok listing
+listed : (words : List ℕ) (r : Result (List ℕ) AssetFault) (listing : List ℕ) → (or_refused (no_words words) r >>= λ ws. Ok (written (disassembled ws))) ≡ Ok listing
     → (ws : List ℕ) × (r ≡ Ok ws) × (listing ≡ written (disassembled ws))
 listed words (Ok ws) listing h = (ws, refl, cc)
 listed words (Err e) listing h = absurd cc

@@ -2,8 +2,7 @@
 use Rattle.std.specs.Prelude.{ℕ, List, Option, Some, None, Result, Ok, Err, ◌≡◌, []}
 use Rattle.kit_base.specs.Held.{Held}
 use Rattle.asset_pack.specs.declared.kind.Kind.TheVariants as kinds
-use Rattle.asset_pack.specs.declared.error.AssetErr.{AssetErr}
-use Rattle.asset_pack.specs.declared.error.AssetErr.TheVariants as asset_errors
+use Rattle.asset_pack.specs.declared.error.AssetFault.{AssetFault}
 use Rattle.asset_pack.specs.Reading.{words_in}
 use Rattle.asset_pack.specs.Texts.{words_file_text}
 use Rattle.asm_items.specs.declared.item.AsmItem.{AsmItem}
@@ -55,9 +54,8 @@ assembled_due text held = do
   Ok (words_file_text words)
 
 -- the refusal of a file that is no words file
-abbrev pub no_words : List ℕ → AssetErr → Refusal
-no_words name (asset_errors.At code) = refusals.Due (dues.Bad code name None)
-no_words name asset_errors.Memory = refusals.Memory
+abbrev pub no_words : List ℕ → AssetFault → Refusal
+no_words name fault = refusals.Due (dues.Bad fault.code name None)
 
 -- the text of the items that the words are taken apart into
 abbrev pub disassembled_due : List ℕ → Held → Result (List ℕ) Refusal

@@ -4,8 +4,8 @@ use Rattle.kit_base.specs.Held.{Held}
 use Rattle.kit_base.specs.Outside.{due}
 use Rattle.kit_base.specs.declared.outside.FileErr.{FileErr}
 use Rattle.kit_base.specs.declared.outside.FileErr.TheVariants as file_errors
-use Rattle.cart_format.specs.declared.error.CartErr.{CartErr}
-use Rattle.cart_format.specs.declared.error.CartErr.TheVariants as cart_errors
+use Rattle.cart_format.specs.declared.error.CartFault.{CartFault}
+use Rattle.cart_format.specs.declared.error.CartFault.TheVariants as cart_faults
 use Rattle.asset_pack.specs.Words.{words_of}
 use Rattle.cart_format.specs.Cartridge.{Cartridge}
 use Rattle.cart_format.specs.Reading.{cart_of}
@@ -33,10 +33,9 @@ unread name file_errors.TooLong = refusals.Due (dues.Limit name)
 unread name file_errors.Memory = refusals.Memory
 
 -- the refusal of a file that is no cartridge
-abbrev pub no_cart : List ℕ → CartErr → Refusal
-no_cart name (cart_errors.At code) = refusals.Due (dues.Bad code name None)
-no_cart name (cart_errors.BadSection index) = refusals.Due (dues.Bad 83 name None)
-no_cart name cart_errors.Memory = refusals.Memory
+abbrev pub no_cart : List ℕ → CartFault → Refusal
+no_cart name (cart_faults.At code) = refusals.Due (dues.Bad code name None)
+no_cart name (cart_faults.BadSection index) = refusals.Due (dues.Bad 83 name None)
 
 -- the bytes of the file
 abbrev pub bytes_due : List ℕ → Held → Result (List ℕ) Refusal

@@ -17,7 +17,7 @@ use crate::writing::write_output;
 use asm_items::{disassemble, write_asm};
 use asm_reader::AsmErr;
 use assembler::assemble_text;
-use asset_pack::{AssetErr, read_words, write_words};
+use asset_pack::{AssetErr, AssetFault, read_words, write_words};
 use cart_format::{Cart, CartParts, write_cart};
 use kit_base::{Files, Name, Seq};
 use kit_words::Conversion;
@@ -102,7 +102,7 @@ fn words_of_file(alloc: Global, name: &str, bytes: &[u8]) -> Result<Vec<u32>, Re
 {
     match read_words(alloc, bytes) {
         Ok(words) => Ok(words),
-        Err(AssetErr::At { code }) => {
+        Err(AssetErr::Cause(AssetFault { code })) => {
             let name = Name::new(alloc, name)?;
             Err(Refusal::Due(DueRefusal::Bad {
                 code,

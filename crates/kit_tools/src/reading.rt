@@ -14,7 +14,7 @@ ghost use Rattle.kit_tools.specs.Causes.{HasCauses, IsOwn, counts};
 ghost use Rattle.kit_tools.specs.Inputs.{answers_due, card_due, card_in, cart_due, no_answers, no_cart, or_refused, unread};
 
 use crate::refusal::{DueRefusal, Refusal, no_cart, unread};
-use cart_format::{Cart, read_cart};
+use cart_format::{Cart, CartErr, read_cart};
 use kit_base::{FileErr, Files, Name};
 use run_files::{AnswerErr, CardErr, read_answers, read_card};
 use std::alloc::Global;
@@ -45,9 +45,10 @@ fn cart_of_text(alloc: Global, name: &str, text: &[u8]) -> Result<Cart, Refusal>
 {
     match read_cart(alloc, text) {
         Ok(cart) => Ok(cart),
-        Err(error) => {
+        Err(CartErr::Memory) => Err(Refusal::Memory),
+        Err(CartErr::Cause(fault)) => {
             let own = Name::new(alloc, name)?;
-            Err(no_cart(own, error))
+            Err(no_cart(own, fault))
         }
     }
 }

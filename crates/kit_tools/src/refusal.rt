@@ -5,7 +5,7 @@ ghost use Rattle.kit_tools.specs.Inputs.{no_cart, unread};
 ghost use Rattle.kit_tools.specs.declared.refusal.DueRefusal.TheVariants.{Source, Bad};
 ghost use Rattle.kit_tools.specs.declared.refusal.Refusal.TheVariants.{Memory};
 
-use cart_format::CartErr;
+use cart_format::CartFault;
 use kit_base::{FileErr, Name, join_pieces};
 use std::alloc::{AllocError, Global};
 
@@ -60,15 +60,18 @@ pub fn unread(name: Name, error: FileErr) -> Refusal
 }
 
 /// The refusal of a file that is no cartridge.
-pub fn no_cart(name: Name, error: CartErr) -> Refusal
-    ensures { result ≡ no_cart name error }
+pub fn no_cart(name: Name, fault: CartFault) -> Refusal
+    ensures { result ≡ no_cart name fault }
 {
-    let (code, line) = match error {
-        CartErr::At { code } => (code, None),
-        CartErr::BadSection(_) => (83, None),
-        CartErr::Memory => return Refusal::Memory,
+    let code = match fault {
+        CartFault::At { code } => code,
+        CartFault::BadSection(_) => 83,
     };
-    Refusal::Due(DueRefusal::Bad { code, name, line })
+    Refusal::Due(DueRefusal::Bad {
+        code,
+        name,
+        line: None,
+    })
 }
 
 /// The exit status of a refusal that is due.

@@ -7,8 +7,7 @@ use Rattle.kit_base.specs.Outside.{due}
 use Rattle.kit_base.specs.declared.outside.FileErr.{FileErr}
 use Rattle.kit_base.specs.declared.outside.FileErr.TheVariants as file_errors
 use Rattle.asset_pack.specs.declared.kind.Kind.TheVariants as kinds
-use Rattle.asset_pack.specs.declared.error.AssetErr.{AssetErr}
-use Rattle.asset_pack.specs.declared.error.AssetErr.TheVariants as asset_errors
+use Rattle.asset_pack.specs.declared.error.AssetFault.{AssetFault}
 use Rattle.asset_pack.specs.Texts.{Image}
 use Rattle.asset_pack.specs.Reading.{texture_in, words_in}
 use Rattle.asset_pack.proofs.Found.{texture_found, sound_found}
@@ -29,12 +28,11 @@ read_gave name bytes (Err file_errors.Failed) e = absurd cc
 read_gave name bytes (Err file_errors.TooLong) e = absurd cc
 read_gave name bytes (Err file_errors.Memory) e = absurd cc
 
-asset_gave : {X : Type 0} (name : List ℕ) (r : Result X AssetErr) (x : X) → asset_due name r ≡ Ok x → r ≡ Ok x
+asset_gave : {X : Type 0} (name : List ℕ) (r : Result X AssetFault) (x : X) → asset_due name r ≡ Ok x → r ≡ Ok x
 asset_gave name (Ok y) x e = let same : y ≡ x = cc in ap Ok same
-asset_gave name (Err (asset_errors.At c)) x e = absurd cc
-asset_gave name (Err asset_errors.Memory) x e = absurd cc
+asset_gave name (Err fault) x e = absurd cc
 
-value_gave : {X : Type 0} (value : List ℕ → Result X AssetErr) (m : Held) (name : List ℕ) (x : X) → asset_of value m name ≡ Ok x → (bytes : List ℕ) × (due m name ≡ Ok bytes) × (value bytes ≡ Ok x)
+value_gave : {X : Type 0} (value : List ℕ → Result X AssetFault) (m : Held) (name : List ℕ) (x : X) → asset_of value m name ≡ Ok x → (bytes : List ℕ) × (due m name ≡ Ok bytes) × (value bytes ≡ Ok x)
 unfolding asset_of
 value_gave value m name x e =
     let r = bind_ok (read_of m name) _ x e in

@@ -3,7 +3,7 @@ use Rattle.std.proofs.Common.{ℕ, zero, suc, inl, inr, ◌≡◌, ◌+◌, ◌<
 use Rattle.std.specs.Prelude.{Option, Some, None, Result, Ok, Err, IfSome, Contains, Vec}
 use Rattle.std.specs.declared.alloc.Global.{Global}
 use Rattle.kit_base.specs.Held.{Held}
-use Rattle.asset_pack.specs.declared.error.AssetErr.{AssetErr}
+use Rattle.asset_pack.specs.declared.error.AssetFault.{AssetFault}
 use Rattle.build_core.specs.declared.error.BuildErr.{BuildErr}
 use Rattle.build_core.specs.declared.error.BuildErr.TheVariants as errors
 use Rattle.build_core.specs.Due.{◌>>=◌, all_of, asset_of}
@@ -109,7 +109,7 @@ pub of_assets : (names : List (List ℕ)) (i : ℕ) (file : List ℕ) (e : Build
 of_assets names i file e lt is h = of_them names file (subst (Contains names) (sym is) (contains_at names i file lt)) e h
 
 -- the same of what is held, where that is told
-module _ {X : Type 0} (value : List ℕ → Result X AssetErr) (names : List (List ℕ)) (i : ℕ) (file : List ℕ) (xs : List X) (lt : i < length names) (is : file ≡ get_or names i file) where
+module _ {X : Type 0} (value : List ℕ → Result X AssetFault) (names : List (List ℕ)) (i : ℕ) (file : List ℕ) (xs : List X) (lt : i < length names) (is : file ≡ get_or names i file) where
   abbrev pub WereRead : Option Held → Type 0
   WereRead held = IfSome held (λ m. all_of (asset_of value m) (take i names) ≡ Ok xs)
 
@@ -145,7 +145,7 @@ module _ {X : Type 0} (value : List ℕ → Result X AssetErr) (names : List (Li
       fails_there (Vec X Global) (IsOneRead (asset_of value m) names) e (subst (IsOneRead (asset_of value m) names) (sym is) (read_next (asset_of value m) names i file xs lt read)) h
 
 -- before the first
-pub told_none : {X : Type 0} (value : List ℕ → Result X AssetErr) (held : Option Held) (xs : List X) → xs ≡ [] → IfSome held (λ m. all_of (asset_of value m) [] ≡ Ok xs)
+pub told_none : {X : Type 0} (value : List ℕ → Result X AssetFault) (held : Option Held) (xs : List X) → xs ≡ [] → IfSome held (λ m. all_of (asset_of value m) [] ≡ Ok xs)
 told_none value None xs e = tt
 told_none value (Some m) xs e = rw e (all_of-nil (asset_of value m))
 

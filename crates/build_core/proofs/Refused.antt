@@ -5,7 +5,7 @@ use Rattle.std.specs.List.{AllZip}
 use Rattle.kit_base.specs.Held.{Held}
 use Rattle.kit_base.specs.Outside.{due}
 use Rattle.asset_pack.specs.declared.kind.Kind.TheVariants as kinds
-use Rattle.asset_pack.specs.declared.error.AssetErr.{AssetErr}
+use Rattle.asset_pack.specs.declared.error.AssetFault.{AssetFault}
 use Rattle.asset_pack.specs.Texts.{Image}
 use Rattle.asset_pack.specs.Reading.{texture_in, words_in}
 use Rattle.cart_format.specs.Cartridge.{Cartridge, is_cart, is_tail, is_title, total}
@@ -21,7 +21,7 @@ use Rattle.build_core.proofs.Either.{one_project, accepted_or_rejected}
 use Rattle.build_core.proofs.Limits.{le_so}
 
 -- a file of that value is read as it
-value_of : {X : Type 0} (value : List ℕ → Result X AssetErr) (m : Held) (name bytes : List ℕ) (x : X) → due m name ≡ Ok bytes → value bytes ≡ Ok x → asset_of value m name ≡ Ok x
+value_of : {X : Type 0} (value : List ℕ → Result X AssetFault) (m : Held) (name bytes : List ℕ) (x : X) → due m name ≡ Ok bytes → value bytes ≡ Ok x → asset_of value m name ≡ Ok x
 unfolding asset_of
 value_of value m name bytes x h k = rw (h, k) refl
 

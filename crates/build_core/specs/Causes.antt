@@ -2,8 +2,9 @@
 use Rattle.std.specs.Prelude.{ℕ, ◌≡◌, ◌≤◌, ◌<◌, ◌⊎◌, true, List, [], ◌∷◌, ◌++◌, length, Some, None, Result, Ok, Err, Contains, codes}
 use Rattle.std.specs.List.{AllByRecursion}
 use Rattle.kit_base.specs.Counts.{Rose}
-use Rattle.asset_pack.specs.declared.error.AssetErr.{AssetErr}
-use Rattle.asset_pack.specs.declared.error.AssetErr.TheVariants as asset_errors
+use Rattle.kit_base.specs.declared.failure.Failure.{Failure}
+use Rattle.kit_base.specs.declared.failure.Failure.TheVariants as failures
+use Rattle.asset_pack.specs.declared.error.AssetFault.{AssetFault}
 use Rattle.asset_pack.specs.Texts.{Image, HasSides, HasSamples}
 use Rattle.cart_format.specs.Cartridge.{Cartridge, total}
 use Rattle.project_text.specs.declared.error.ProjectErr.{ProjectErr}
@@ -116,9 +117,13 @@ IsOfContent (errors.Failed name) = ⊥
 IsOfContent (errors.Limit name) = ⊥
 IsOfContent e = Unit {0}
 
-abbrev pub IsOfTesting : AssetErr → Type 0
-IsOfTesting asset_errors.Memory = Unit {0}
-IsOfTesting (asset_errors.At code) = (70 ≤ code) × (code ≤ 73)
+-- the codes of the tests of a texture or a sound
+abbrev pub IsTested : AssetFault → Type 0
+IsTested fault = (70 ≤ fault.code) × (fault.code ≤ 73)
+
+abbrev pub IsOfTesting : Failure AssetFault → Type 0
+IsOfTesting failures.Memory = Unit {0}
+IsOfTesting (failures.Cause fault) = IsTested fault
 
 abbrev pub IsOfAsset : List ℕ → BuildErr → Type 0
 IsOfAsset file (errors.Bad code name None) = (70 ≤ code) × (code ≤ 73) × (name ≡ file)

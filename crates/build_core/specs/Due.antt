@@ -5,8 +5,7 @@ use Rattle.kit_base.specs.Outside.{due}
 use Rattle.kit_base.specs.declared.outside.FileErr.{FileErr}
 use Rattle.kit_base.specs.declared.outside.FileErr.TheVariants as file_errors
 use Rattle.asset_pack.specs.declared.kind.Kind.TheVariants as kinds
-use Rattle.asset_pack.specs.declared.error.AssetErr.{AssetErr}
-use Rattle.asset_pack.specs.declared.error.AssetErr.TheVariants as asset_errors
+use Rattle.asset_pack.specs.declared.error.AssetFault.{AssetFault}
 use Rattle.asset_pack.specs.Texts.{Image}
 use Rattle.asset_pack.specs.Reading.{texture_in, words_in}
 use Rattle.project_text.specs.declared.error.ProjectErr.{ProjectErr}
@@ -39,12 +38,11 @@ abbrev pub read_of : Held → List ℕ → Result (List ℕ) BuildErr
 read_of m name = read_as name (due m name)
 
 -- the value of a file, or 70 to 73 with the file's name
-abbrev pub asset_due : {X : Type 0} → List ℕ → Result X AssetErr → Result X BuildErr
+abbrev pub asset_due : {X : Type 0} → List ℕ → Result X AssetFault → Result X BuildErr
 asset_due name (Ok x) = Ok x
-asset_due name (Err (asset_errors.At code)) = Err (errors.Bad code name None)
-asset_due name (Err asset_errors.Memory) = Err errors.Memory
+asset_due name (Err fault) = Err (errors.Bad fault.code name None)
 
-unfoldable pub asset_of : {X : Type 0} → (List ℕ → Result X AssetErr) → Held → List ℕ → Result X BuildErr
+unfoldable pub asset_of : {X : Type 0} → (List ℕ → Result X AssetFault) → Held → List ℕ → Result X BuildErr
 asset_of value m name = do
   bytes ← read_of m name
   asset_due name (value bytes)

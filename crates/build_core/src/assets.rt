@@ -1,8 +1,8 @@
 // The textures and sounds of a project, read.
 ghost use Rattle.std.specs.Prelude.{◌≡◌, IfOk, IfErr, IfSome, IsUtf8, length, List, ℕ, Result};
 ghost use Rattle.std.specs.List.{AllByRecursion};
-ghost use Rattle.asset_pack.specs.declared.error.AssetErr.{AssetErr};
-ghost use Rattle.asset_pack.specs.Reading.{Gives as GivesAsset};
+ghost use Rattle.kit_base.specs.Gives.{Gives as GivesAsset};
+ghost use Rattle.asset_pack.specs.declared.error.AssetFault.{AssetFault};
 ghost use Rattle.build_core.specs.Due.{all_of, asset_due, asset_of};
 ghost use Rattle.build_core.specs.Causes.{HasReadCauses, IsOfAssets, IsOfTesting, IsOfAsset, IsOfContent};
 ghost use Rattle.build_core.specs.Gathered.{Gives, GivesBy};
@@ -10,14 +10,14 @@ ghost use Rattle.build_core.specs.Reached.{FailsAt, IsOneRead};
 
 use crate::error::BuildErr;
 use crate::reading::read_file;
-use asset_pack::{AssetErr, Sound, Texture, read_sound, read_texture};
+use asset_pack::{AssetErr, AssetFault, Sound, Texture, read_sound, read_texture};
 use kit_base::{Files, Name};
 use std::alloc::Global;
 
 /// What a file of a project holds.
 pub trait Asset: Drop {
     /// The value of a file's bytes, or the first test that fails.
-    ghost value: { List ℕ → Result Self AssetErr };
+    ghost value: { List ℕ → Result Self AssetFault };
 
     fn parse(alloc: Global, bytes: &[u8]) -> Result<Self, AssetErr>
         ensures exact { GivesAsset (λ x. x) result (value bytes.now) }
@@ -55,7 +55,7 @@ fn asset_in<A: Asset>(alloc: Global, name: &Name, bytes: &[u8]) -> Result<A, Bui
 {
     match A::parse(alloc, bytes) {
         Ok(asset) => Ok(asset),
-        Err(AssetErr::At { code }) => match name.copy() {
+        Err(AssetErr::Cause(AssetFault { code })) => match name.copy() {
             Ok(name) => Err(BuildErr::Bad {
                 code,
                 name,

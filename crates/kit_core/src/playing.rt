@@ -32,8 +32,7 @@ pub fn built_cart(alloc: Global, built: &Built) -> Result<Cart, OutOfMemory>
     match read_cart(alloc, built.cart.as_slice()) {
         Ok(cart) => Ok(cart),
         Err(CartErr::Memory) => Err(OutOfMemory),
-        Err(CartErr::At { .. }) => unreachable!(),
-        Err(CartErr::BadSection(_)) => unreachable!(),
+        Err(CartErr::Cause(_)) => unreachable!(),
     }
 }
 

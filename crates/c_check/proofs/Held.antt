@@ -14,7 +14,8 @@ use Rattle.c_rules.specs.Rules.{judged}
 use Rattle.c_rules.specs.Nodes.{size_rule}
 use Rattle.c_exprs.specs.Calls.{ensured}
 use Rattle.c_exprs.specs.Env.{Text}
-use Rattle.c_exprs.specs.Faults.{FaultT, ◌>>=◌, placed}
+use Rattle.c_exprs.specs.declared.error.Fault.{Fault}
+use Rattle.c_exprs.specs.Faults.{◌>>=◌, placed}
 use Rattle.c_check.specs.Reading.{Un, member_size, has_members, whole_record, members_declared, record_entered, record_number, with_layout}
 use Rattle.c_check.specs.inner.ItemTyping.{Reads, type_at, member, members, item}
 use Rattle.c_check.specs.inner.Steps.{counted, counted_members, counted_record, held_member, held}
@@ -46,7 +47,7 @@ held_step un l v = by (type_at un v.span v.ty)
     by (Err e) = refl
     by (Ok t) = rw (held_names v.name l.members) (sized (placed v.span (ensured Twice (not (is_some (member_named v.name l.members))) (judged (size_rule t.1.layouts t.1.whole t.0)))))
       where
-        sized : (q : Result ℕ FaultT) → counted (q >>= λ n. Ok (with_member (held l) v.name t.0 n, t.1)) ≡ held_so (q >>= λ n. Ok (with_member l v.name t.0 n, t.1))
+        sized : (q : Result ℕ Fault) → counted (q >>= λ n. Ok (with_member (held l) v.name t.0 n, t.1)) ≡ held_so (q >>= λ n. Ok (with_member l v.name t.0 n, t.1))
         sized (Err e) = refl
         sized (Ok n) = ap (λ (x : LayoutT). Ok (x, t.1)) (held_with l v.name t.0 n)
 
@@ -90,7 +91,7 @@ member_in : (un : Un) (l : LayoutT) (v : VarT) → InSize l → ReadIn (member u
 unfolding member
 member_in un l v h = by (type_at un v.span v.ty)
   where
-    sized : (t : Ty × Un) (r : Result ℕ FaultT) → ReadIn (r >>= λ n. Ok (with_member l v.name t.0 n, t.1))
+    sized : (t : Ty × Un) (r : Result ℕ Fault) → ReadIn (r >>= λ n. Ok (with_member l v.name t.0 n, t.1))
     sized t (Err e) = tt
     sized t (Ok n) = in_with l v.name t.0 n h
 

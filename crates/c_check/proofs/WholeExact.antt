@@ -5,14 +5,15 @@ use Rattle.c_tree.specs.Tree.{ItemT}
 use Rattle.c_tree.specs.declared.span.Span.{Span}
 use Rattle.c_rules.specs.declared.code.Code.{Code}
 use Rattle.c_rules.specs.declared.code.Code.TheVariants.{NoMain}
-use Rattle.c_exprs.specs.Faults.{FaultT, ◌>>=◌, known}
+use Rattle.c_exprs.specs.declared.error.Fault.{Fault}
+use Rattle.c_exprs.specs.Faults.{◌>>=◌, known}
 use Rattle.c_check.specs.Reading.{Un, opening, bodies_of}
 use Rattle.c_check.specs.inner.ItemTyping.{Reads, items}
 use Rattle.c_check.specs.Whole.{main_of, program_of, last_token, WellTyped, IsProgram, FirstBroken, unit, items_break, no_main, checked}
 use Rattle.c_types.specs.Programs.{ProgramT}
 use Rattle.c_check.proofs.ItemExact.{ItemsOut, items_outcome, items_good, items_bad}
 
-abbrev pub CheckedOut : List ItemT → Result ProgramT FaultT → Type 0
+abbrev pub CheckedOut : List ItemT → Result ProgramT Fault → Type 0
 CheckedOut all (Ok p) = WellTyped all p
 CheckedOut all (Err fault) = FirstBroken all fault
 
@@ -35,16 +36,16 @@ pub checked_good : {all : List ItemT} {p : ProgramT} → WellTyped all p → che
 unfolding checked known
 checked_good (unit g h) = rw (items_good g, h) refl
 
-pub checked_bad : {all : List ItemT} {fault : FaultT} → FirstBroken all fault → checked all ≡ Err fault
+pub checked_bad : {all : List ItemT} {fault : Fault} → FirstBroken all fault → checked all ≡ Err fault
 unfolding checked known
 checked_bad (items_break g) = rw (items_bad g) refl
 checked_bad (no_main g h) = rw (items_good g, h) refl
 
 pub checked_typed : (all : List ItemT) (p : ProgramT) → checked all ≡ Ok p → WellTyped all p
-checked_typed all p e = let P : Result ProgramT FaultT → Type 0 = λ r. CheckedOut all r in subst P e (checked_outcome all)
+checked_typed all p e = let P : Result ProgramT Fault → Type 0 = λ r. CheckedOut all r in subst P e (checked_outcome all)
 
-pub checked_broken : (all : List ItemT) (fault : FaultT) → checked all ≡ Err fault → FirstBroken all fault
-checked_broken all fault e = let P : Result ProgramT FaultT → Type 0 = λ r. CheckedOut all r in subst P e (checked_outcome all)
+pub checked_broken : (all : List ItemT) (fault : Fault) → checked all ≡ Err fault → FirstBroken all fault
+checked_broken all fault e = let P : Result ProgramT Fault → Type 0 = λ r. CheckedOut all r in subst P e (checked_outcome all)
 
 there : (s : Span) (k : Code) (o : Option ℕ) (n : ℕ) → known s k o ≡ Ok n → o ≡ Some n
 unfolding known
@@ -60,31 +61,31 @@ is_program all tt un s k e h few =
 -- one program at most
 pub one_program : {all : List ItemT} {p q : ProgramT} → WellTyped all p → WellTyped all q → p ≡ q
 one_program {p = p} {q = q} g h =
-    let one : Result ProgramT FaultT = Ok p in
-    let two : Result ProgramT FaultT = Ok q in
+    let one : Result ProgramT Fault = Ok p in
+    let two : Result ProgramT Fault = Ok q in
     let same : one ≡ two = sym (checked_good g) ∙ checked_good h in
     cc
 
 -- one rule that is broken first
-pub one_fault : {all : List ItemT} {f g : FaultT} → FirstBroken all f → FirstBroken all g → f ≡ g
+pub one_fault : {all : List ItemT} {f g : Fault} → FirstBroken all f → FirstBroken all g → f ≡ g
 one_fault {f = f} {g = g} h k =
-    let one : Result ProgramT FaultT = Err f in
-    let two : Result ProgramT FaultT = Err g in
+    let one : Result ProgramT Fault = Err f in
+    let two : Result ProgramT Fault = Err g in
     let same : one ≡ two = sym (checked_bad h) ∙ checked_bad k in
     cc
 
 -- a unit that has a program breaks no rule
-pub not_both : {all : List ItemT} {p : ProgramT} {f : FaultT} → WellTyped all p → FirstBroken all f → ⊥
+pub not_both : {all : List ItemT} {p : ProgramT} {f : Fault} → WellTyped all p → FirstBroken all f → ⊥
 not_both {p = p} {f = f} h k =
-    let one : Result ProgramT FaultT = Ok p in
-    let two : Result ProgramT FaultT = Err f in
+    let one : Result ProgramT Fault = Ok p in
+    let two : Result ProgramT Fault = Err f in
     let same : one ≡ two = sym (checked_good h) ∙ checked_bad k in
     cc
 
 -- a unit has a program, or breaks a rule
-pub either : (all : List ItemT) → ((p : ProgramT) × WellTyped all p) ⊎ ((f : FaultT) × FirstBroken all f)
+pub either : (all : List ItemT) → ((p : ProgramT) × WellTyped all p) ⊎ ((f : Fault) × FirstBroken all f)
 either all = of (checked all) (checked_outcome all)
   where
-    of : (r : Result ProgramT FaultT) → CheckedOut all r → ((p : ProgramT) × WellTyped all p) ⊎ ((f : FaultT) × FirstBroken all f)
+    of : (r : Result ProgramT Fault) → CheckedOut all r → ((p : ProgramT) × WellTyped all p) ⊎ ((f : Fault) × FirstBroken all f)
     of (Ok p) h = inl (p, h)
     of (Err f) h = inr (f, h)

@@ -8,7 +8,8 @@ use Rattle.c_rules.specs.declared.code.Code.TheVariants.{NoMain}
 use Rattle.c_types.specs.Kinds.{is_void}
 use Rattle.c_rules.specs.Kinds.{holds}
 use Rattle.c_exprs.specs.Env.{Text, find}
-use Rattle.c_exprs.specs.Faults.{FaultT, at, ◌>>=◌, known}
+use Rattle.c_exprs.specs.declared.error.Fault.{Fault}
+use Rattle.c_exprs.specs.Faults.{at, ◌>>=◌, known}
 use Rattle.c_check.specs.Reading.{Un, opening, bodies_of, same_types}
 use Rattle.c_check.specs.inner.ItemTyping.{items}
 use Rattle.c_check.specs.ItemTypes.{Items}
@@ -54,12 +55,12 @@ abbrev pub IsProgram : ProgramT → Type 0
 IsProgram p = (all : List ItemT) × WellTyped all p × (unit_nodes all ≤ 200000)
 
 -- The rule that a unit breaks first; that there is no `main` is told at its last token.
-pub data FirstBroken (all : List ItemT) : FaultT → Type 0 where
-  items_break : {fault : FaultT} → NoItems (opening (bodies_of all)) all fault → FirstBroken all fault
+pub data FirstBroken (all : List ItemT) : Fault → Type 0 where
+  items_break : {fault : Fault} → NoItems (opening (bodies_of all)) all fault → FirstBroken all fault
   no_main : {un : Un} → Items (opening (bodies_of all)) all tt un → main_of un ≡ None → FirstBroken all (at (last_token all) NoMain)
 
 -- the same as a function
-unfoldable pub checked : List ItemT → Result ProgramT FaultT
+unfoldable pub checked : List ItemT → Result ProgramT Fault
 checked all = do
   x ← items (opening (bodies_of all)) all
   k ← known (last_token all) NoMain (main_of x.1)

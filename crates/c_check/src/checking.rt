@@ -1,14 +1,12 @@
 // The checker.
 ghost use Rattle.std.specs.Prelude.{◌≡◌, ◌<◌, ◌≤◌, ◌^◌, [], ℕ, List, length, map, option_map, Ok, Err, IfOk, OnOk};
-ghost use Rattle.c_tree.specs.declared.span.Span.{Span};
 ghost use Rattle.c_tree.specs.Count.{unit_nodes};
 ghost use Rattle.c_tree.specs.Tree.{ItemT};
 ghost use Rattle.c_tree.specs.View.{item, unit};
-ghost use Rattle.c_rules.specs.declared.code.Code.{Code};
-ghost use Rattle.c_exprs.specs.declared.error.CheckErr.TheVariants.{At};
-ghost use Rattle.c_exprs.specs.Faults.{at};
+ghost use Rattle.kit_base.specs.declared.failure.Failure.TheVariants.{Cause};
+ghost use Rattle.c_exprs.specs.declared.error.Fault.{Fault};
 ghost use Rattle.c_exprs.specs.Env.{find};
-ghost use Rattle.c_exprs.specs.Gives.{Gives};
+ghost use Rattle.kit_base.specs.Gives.{Gives};
 ghost use Rattle.c_exprs.specs.View.{bodies, names};
 ghost use Rattle.c_types.specs.View.{ctype, function};
 ghost use Rattle.c_rules.specs.Kinds.{holds};
@@ -152,7 +150,7 @@ pub fn check(alloc: Global, parsed: &Unit) -> Result<Program, CheckErr>
     // A well typed unit's program is answered, unless memory runs out.
     ensures only { (p : ProgramT) → WellTyped (unit parsed.now) p → Gives program result (Ok p) }
     // A refusal names the rule that is broken first.
-    ensures first { (k : Code) (s : Span) → result ≡ Err (At k s) → FirstBroken (unit parsed.now) (at s k) }
+    ensures first { (f : Fault) → result ≡ Err (Cause f) → FirstBroken (unit parsed.now) f }
 {
     checked(alloc, parsed.items.as_slice())
 }

@@ -1,7 +1,7 @@
 // Enumerators.
 ghost use Rattle.std.specs.Prelude.{◌≡◌, map, option_map};
 ghost use Rattle.c_tree.specs.View.{expr};
-ghost use Rattle.c_exprs.specs.Gives.{Gives};
+ghost use Rattle.kit_base.specs.Gives.{Gives};
 ghost use Rattle.c_check.specs.inner.ItemTyping.{enumerator, named_enumerator, enumerators};
 ghost use Rattle.c_check.specs.View.{un};
 

@@ -4,7 +4,7 @@ ghost use Rattle.c_tree.specs.Count.{vars_nodes, maybe_stmts_nodes};
 ghost use Rattle.c_tree.specs.View.{stmt, stmts, type, var};
 ghost use Rattle.c_types.specs.View.{ctype, layout, tstmt, tstmts};
 ghost use Rattle.c_rules.specs.Rules.{judged};
-ghost use Rattle.c_exprs.specs.Gives.{Gives};
+ghost use Rattle.kit_base.specs.Gives.{Gives};
 ghost use Rattle.c_exprs.specs.View.{decl};
 ghost use Rattle.c_check.specs.Reading.{begun, parameter_rule, parameter_size, with_parameter, same_types, is_function, agrees, is_own_body, named};
 ghost use Rattle.c_check.specs.Reading.{result_rule, function_rules, with_function};
@@ -18,7 +18,7 @@ use crate::declaring::declare;
 use crate::parts::{maybe_body, type_at};
 use crate::reading::{Reading, begin, end};
 use crate::words::is_word;
-use c_exprs::{CheckErr, Decl, placed};
+use c_exprs::{CheckErr, Decl, Fault, placed};
 use c_rules::{Code, fits, is_array, is_whole, same_type, type_size};
 use c_tree::{Span, Stmt, TypeTree, Var};
 use c_types::{CType, Layout, TFunction, TStmt, copy_type, is_void};
@@ -47,10 +47,10 @@ fn read_parameter(alloc: Global, reading: &mut Reading, v: &Var) -> Result<CType
 {
     let ty = type_at(alloc, reading, v.span, &v.ty)?;
     if !reading.state.is_new(&v.name) {
-        return Err(CheckErr::At {
+        return Err(CheckErr::Cause(Fault {
             code: Code::Twice,
             span: v.span,
-        });
+        }));
     }
     let size = parameter_words(&reading.globals.layouts, &reading.globals.whole, &ty);
     let words = placed(v.span, size)?;

@@ -4,7 +4,7 @@ ghost use Rattle.c_tree.specs.Tree.{VarsD};
 ghost use Rattle.c_tree.specs.Count.{vars_nodes};
 ghost use Rattle.c_tree.specs.View.{var};
 ghost use Rattle.c_types.specs.View.{ctype, tinit, tvar};
-ghost use Rattle.c_exprs.specs.Gives.{Gives};
+ghost use Rattle.kit_base.specs.Gives.{Gives};
 ghost use Rattle.c_stmts.specs.State.{filled_var};
 ghost use Rattle.c_check.specs.Reading.{global_size, with_init};
 ghost use Rattle.c_check.specs.inner.ItemTyping.{global, globals, item};

@@ -3,7 +3,7 @@ ghost use Rattle.std.specs.Prelude.{◌≡◌, ℕ, ◌+◌, ◌≤◌, map, opt
 ghost use Rattle.c_tree.specs.Count.{item_nodes, unit_nodes};
 ghost use Rattle.c_tree.specs.Tree.{RecordD, EnumD, TypedefD, VarsD};
 ghost use Rattle.c_tree.specs.View.{expr, item, type, var};
-ghost use Rattle.c_exprs.specs.Gives.{Gives};
+ghost use Rattle.kit_base.specs.Gives.{Gives};
 ghost use Rattle.c_check.specs.inner.ItemTyping.{item as read_by, items as all_read_by};
 ghost use Rattle.c_check.specs.inner.Steps.{counted_record, spent};
 ghost use Rattle.c_check.specs.View.{un};

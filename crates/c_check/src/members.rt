@@ -4,7 +4,7 @@ ghost use Rattle.c_tree.specs.View.{var};
 ghost use Rattle.c_types.specs.View.{ctype, layout};
 ghost use Rattle.c_types.specs.Sizes.{member_named, no_layout, with_member, capped};
 ghost use Rattle.c_rules.specs.Kinds.{holds};
-ghost use Rattle.c_exprs.specs.Gives.{Gives};
+ghost use Rattle.kit_base.specs.Gives.{Gives};
 ghost use Rattle.c_check.specs.Reading.{members_declared, with_layout};
 ghost use Rattle.c_check.specs.inner.ItemTyping.{member as the_member};
 ghost use Rattle.c_check.specs.inner.Steps.{counted, counted_members};
@@ -13,7 +13,7 @@ ghost use Rattle.c_check.specs.View.{un};
 use crate::declaring::record_number;
 use crate::parts::type_at;
 use crate::reading::Reading;
-use c_exprs::{CheckErr, placed};
+use c_exprs::{CheckErr, Fault, placed};
 use c_rules::{Code, is_whole, type_size};
 use c_tree::Var;
 use c_types::{CType, Layout};
@@ -48,10 +48,10 @@ fn read_member(
 {
     let ty = type_at(alloc, reading, v.span, &v.ty)?;
     if has_member(seen, &v.name) {
-        return Err(CheckErr::At {
+        return Err(CheckErr::Cause(Fault {
             code: Code::Twice,
             span: v.span,
-        });
+        }));
     }
     let size = type_size(&reading.globals.layouts, &reading.globals.whole, &ty);
     let words = placed(v.span, size)?;

@@ -3,7 +3,7 @@ ghost use Rattle.std.specs.Prelude.{◌≡◌, ◌+◌, ◌≤◌, ◌^◌, leng
 ghost use Rattle.c_tree.specs.Count.{stmts_nodes, maybe_stmts_nodes};
 ghost use Rattle.c_tree.specs.View.{expr, init, stmt, stmts, type};
 ghost use Rattle.c_types.specs.View.{ctype, texpr, tinit, tstmt, tstmts};
-ghost use Rattle.c_exprs.specs.Gives.{Gives};
+ghost use Rattle.kit_base.specs.Gives.{Gives};
 ghost use Rattle.c_check.specs.inner.ItemTyping.{value_at, type_at, fill_at, body_at, maybe_fill_at, maybe_body};
 ghost use Rattle.c_check.specs.View.{un};
 

@@ -9,7 +9,8 @@ use Rattle.c_types.specs.Sizes.{no_layout, with_member}
 use Rattle.c_rules.specs.declared.code.Code.TheVariants.{Twice, NotConstant}
 use Rattle.c_exprs.specs.Env.{Text, TypeD, ConstantD, GlobalD}
 use Rattle.c_exprs.specs.Env as env
-use Rattle.c_exprs.specs.Faults.{FaultT, ◌>>=◌, placed, known, demanded}
+use Rattle.c_exprs.specs.declared.error.Fault.{Fault}
+use Rattle.c_exprs.specs.Faults.{◌>>=◌, placed, known, demanded}
 use Rattle.c_exprs.specs.Nodes.{span_of, constant}
 use Rattle.c_stmts.specs.State.{filled_var}
 use Rattle.c_check.specs.Reading.{Un, under, function_under, state_in, with_state, with_texts, is_free, named, record_entered, record_number}
@@ -20,7 +21,7 @@ use Rattle.c_stmts.specs.InitTyping.{filled_by}
 use Rattle.c_stmts.specs.StatementTyping.{statements}
 
 abbrev pub Reads : Type 0 → Type 0
-Reads A = Result (A × Un) FaultT
+Reads A = Result (A × Un) Fault
 
 -- the value of an expression outside functions
 unfoldable pub value_at : Un → ExprT → Reads TExprT

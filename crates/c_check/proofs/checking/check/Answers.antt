@@ -11,4 +11,4 @@ pub returns-clause-only : goal.returns-clause-only
 returns-clause-only c = λ p g. let due = rw c.as_slice.ensures at c.checked.ensures in rw (checked_good g) at due
 
 pub returns-clause-first : goal.returns-clause-first
-returns-clause-first c = λ k s is. broken program (unit c.args.parsed.now) c.checked.result k s (rw c.as_slice.ensures at c.checked.ensures) is
+returns-clause-first c = λ fault is. broken program (unit c.args.parsed.now) c.checked.result fault (rw c.as_slice.ensures at c.checked.ensures) is

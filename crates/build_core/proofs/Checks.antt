@@ -17,10 +17,10 @@ use Rattle.c_front.specs.Causes.{MissesOnly as FrontMisses}
 use Rattle.c_front.specs.Codes.{HasFrontCode}
 use Rattle.c_front.specs.Due.{Answers, IsUnit}
 use Rattle.c_front.specs.Over.{over}
-use Rattle.c_exprs.specs.Faults.{FaultT}
-use Rattle.c_exprs.specs.Gives.{Gives}
-use Rattle.c_exprs.specs.declared.error.CheckErr.{CheckErr}
-use Rattle.c_exprs.specs.declared.error.CheckErr.TheVariants as check_errors
+use Rattle.c_exprs.specs.declared.error.Fault.{Fault}
+use Rattle.kit_base.specs.Gives.{Gives}
+use Rattle.kit_base.specs.declared.failure.Failure.{Failure}
+use Rattle.kit_base.specs.declared.failure.Failure.TheVariants as failures
 use Rattle.c_check.specs.declared.program.Program.{Program}
 use Rattle.c_check.specs.View.{program}
 use Rattle.c_check.specs.Whole.{WellTyped, FirstBroken}
@@ -41,7 +41,7 @@ use Rattle.build_core.proofs.Listing.{front_cause, rule_cause}
 
 -- ---- a unit
 
-pub breaks_so : (parsed : Parsed) (fault : FaultT) (e : BuildErr) → FirstBroken (unit parsed.unit) fault → Tells e (broken parsed.places fault) → Breaks parsed e
+pub breaks_so : (parsed : Parsed) (fault : Fault) (e : BuildErr) → FirstBroken (unit parsed.unit) fault → Tells e (broken parsed.places fault) → Breaks parsed e
 breaks_so parsed fault (errors.Source c f l) h t = (fault, h, t)
 breaks_so parsed fault (errors.Missing n) h t = (fault, h, t)
 breaks_so parsed fault (errors.Failed n) h t = (fault, h, t)
@@ -51,15 +51,15 @@ breaks_so parsed fault errors.Memory h t = tt
 
 pub gave_program : (p : ProgramT) (q : Program) → Gives program (Ok q) (Ok p) → IsProgramOf p (Ok q)
 gave_program p q h =
-    let one : Result ProgramT FaultT = Ok p in
-    let two : Result ProgramT FaultT = Ok (program q) in
+    let one : Result ProgramT Fault = Ok p in
+    let two : Result ProgramT Fault = Ok (program q) in
     let same : one ≡ two = h in
     cc
 
 -- what is not refused
-pub not_broken : (p : ProgramT) (k : CheckErr) (e : BuildErr) → (k ≡ check_errors.Memory → e ≡ errors.Memory) → Gives {X = Program} program (Err k) (Ok p) → IsProgramOf p (Err e)
-not_broken p check_errors.Memory e mem h = subst (λ x. IsProgramOf p (Err x)) (sym (mem refl)) tt
-not_broken p (check_errors.At c s) e mem h = absurd cc
+pub not_broken : (p : ProgramT) (k : Failure Fault) (e : BuildErr) → (k ≡ failures.Memory → e ≡ errors.Memory) → Gives {X = Program} program (Err k) (Ok p) → IsProgramOf p (Err e)
+not_broken p failures.Memory e mem h = subst (λ x. IsProgramOf p (Err x)) (sym (mem refl)) tt
+not_broken p (failures.Cause fault) e mem h = absurd cc
 
 -- ---- a source
 

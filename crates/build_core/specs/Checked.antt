@@ -15,7 +15,7 @@ use Rattle.c_front.specs.Due as front_due
 use Rattle.c_front.specs.Over.{over}
 use Rattle.c_front.specs.Places.{place_at}
 use Rattle.c_rules.specs.Rules.{number_of}
-use Rattle.c_exprs.specs.Faults.{FaultT}
+use Rattle.c_exprs.specs.declared.error.Fault.{Fault}
 use Rattle.c_check.specs.declared.program.Program.{Program}
 use Rattle.c_check.specs.View.{program}
 use Rattle.c_check.specs.Whole.{WellTyped, FirstBroken}
@@ -38,7 +38,7 @@ unread (front.Limit name) = errors.Limit name
 unread front.Memory = errors.Memory
 
 -- the rule that is broken, at the first token of the node that breaks it
-abbrev pub broken : Places → FaultT → BuildErr
+abbrev pub broken : Places → Fault → BuildErr
 broken places fault = errors.Source (number_of fault.code) (place_at places fault.span.first).0 (place_at places fault.span.first).1
 
 -- The source stands, with the headers laid over the files, for tokens that are a well typed unit, and this is its program.
@@ -50,7 +50,7 @@ pub record HasProgram (m : Held) (source : List ℕ) (p : ProgramT) : Type 0 whe
 -- The source stands for no unit, or for a unit that breaks a rule, the first of which is told.
 pub data HasNoProgram (m : Held) (source : List ℕ) (e : BuildErr) : Type 0 where
   no_unit : (why : FrontErr) → front_due.IsRefused (over m) source why → e ≡ unread why → HasNoProgram m source e
-  breaks : (parsed : Parsed) (fault : FaultT) → IsUnit (over m) source parsed → FirstBroken (unit parsed.unit) fault → e ≡ broken parsed.places fault
+  breaks : (parsed : Parsed) (fault : Fault) → IsUnit (over m) source parsed → FirstBroken (unit parsed.unit) fault → e ≡ broken parsed.places fault
       → HasNoProgram m source e
 
 -- The project's text is of its grammar, and its source has this program.
@@ -108,7 +108,7 @@ Tells f e = f ≡ e
 -- a unit breaks a rule, unless memory ran out
 abbrev pub Breaks : Parsed → BuildErr → Type 0
 Breaks parsed errors.Memory = Unit {0}
-Breaks parsed e = (fault : FaultT) × FirstBroken (unit parsed.unit) fault × (e ≡ broken parsed.places fault)
+Breaks parsed e = (fault : Fault) × FirstBroken (unit parsed.unit) fault × (e ≡ broken parsed.places fault)
 
 -- the program of a unit, or the rule that it breaks first, unless memory ran out
 abbrev pub Types : Parsed → Result Program BuildErr → Type 0

@@ -2,7 +2,6 @@
 ghost use Rattle.std.specs.Prelude.{◌≡◌, ◌≤◌, IfErr, IfSome, length};
 ghost use Rattle.c_tree.specs.View.{unit};
 ghost use Rattle.c_front.specs.Causes.{IsWithin};
-ghost use Rattle.c_exprs.specs.Faults.{at};
 ghost use Rattle.c_check.specs.Whole.{WellTyped};
 ghost use Rattle.c_types.specs.Programs.{ProgramT};
 ghost use Rattle.build_core.specs.Causes.{HasReadCauses};
@@ -13,10 +12,9 @@ use crate::checked::Checked;
 use crate::error::BuildErr;
 use crate::fronts::front;
 use c_check::{Program, check};
-use c_exprs::CheckErr;
+use c_exprs::{CheckErr, Fault};
 use c_front::{FrontErr, Parsed, Places};
-use c_rules::{Code, code_number};
-use c_tree::Span;
+use c_rules::code_number;
 use kit_base::{Name, Reads};
 use std::alloc::Global;
 
@@ -33,15 +31,15 @@ pub fn unread(error: FrontErr) -> BuildErr
     }
 }
 
-/// A broken rule, at the file and line of the first token of that span.
-fn broken(places: &Places, code: Code, span: Span) -> BuildErr
-    ensures told { Tells result (broken places.now (at span code)) }
+/// A broken rule, at the file and line of the first token of the node that breaks it.
+fn broken(places: &Places, fault: Fault) -> BuildErr
+    ensures told { Tells result (broken places.now fault) }
     ensures content { IsOfRules result }
 {
-    let (name, line) = places.place_of(span);
+    let (name, line) = places.place_of(fault.span);
     match name.copy() {
         Ok(file) => BuildErr::Source {
-            code: code_number(code),
+            code: code_number(fault.code),
             file,
             line,
         },
@@ -58,7 +56,7 @@ pub fn typed(alloc: Global, parsed: &Parsed) -> Result<Program, BuildErr>
 {
     match check(alloc, &parsed.unit) {
         Ok(program) => Ok(program),
-        Err(CheckErr::At { code, span }) => Err(broken(&parsed.places, code, span)),
+        Err(CheckErr::Cause(fault)) => Err(broken(&parsed.places, fault)),
         Err(CheckErr::Memory) => Err(BuildErr::Memory),
     }
 }

@@ -8,20 +8,21 @@ use Rattle.c_types.specs.Types.{Ty}
 use Rattle.c_types.specs.Typed.{TExprT, TExprTs}
 use Rattle.c_rules.specs.declared.code.Code.TheVariants.{TooLarge}
 use Rattle.c_exprs.specs.Env.{Text, Ctx}
-use Rattle.c_exprs.specs.Faults.{FaultT, at, text_words, text_limit, with_text}
+use Rattle.c_exprs.specs.declared.error.Fault.{Fault}
+use Rattle.c_exprs.specs.Faults.{at, text_words, text_limit, with_text}
 use Rattle.c_exprs.specs.Types as good
 use Rattle.c_exprs.specs.Types.{Types, Values, Used, AllValues, Names}
 use Rattle.c_facts.proofs.Within.{Begins}
 use Rattle.c_facts.proofs.Fronts.{begins_itself, begins_through}
 
 -- the answer to a text, by the test of the limit
-abbrev numbered_text : ℕ → List Text → Result (ℕ × List Text) FaultT
+abbrev numbered_text : ℕ → List Text → Result (ℕ × List Text) Fault
 numbered_text k us = Ok (k, us)
 
-abbrev text_if : Bool → ℕ → List Text → FaultT → Result (ℕ × List Text) FaultT
+abbrev text_if : Bool → ℕ → List Text → Fault → Result (ℕ × List Text) Fault
 text_if test k us f = if test then numbered_text k us else Err f
 
-text_is : (test : Bool) (f : FaultT) (j k : ℕ) (us vs : List Text) → text_if test j us f ≡ numbered_text k vs → (j ≡ k) × (vs ≡ us)
+text_is : (test : Bool) (f : Fault) (j k : ℕ) (us vs : List Text) → text_if test j us f ≡ numbered_text k vs → (j ≡ k) × (vs ≡ us)
 text_is true f j k us vs h =
     let p : ℕ × List Text = (j, us) in
     let q : ℕ × List Text = (k, vs) in
@@ -35,7 +36,7 @@ unfolding with_text
 text_behind s ts us t k h = text_is (nat_le (text_words ts + (length t + 1)) text_limit) (at s TooLarge) (length ts) k (ts ++ t ∷ []) us h
 
 -- and all of them are within the limit
-text_within : (test : Bool) (f : FaultT) (k : ℕ) (us : List Text) (r : ℕ × List Text) → text_if test k us f ≡ Ok r → test ≡ true
+text_within : (test : Bool) (f : Fault) (k : ℕ) (us : List Text) (r : ℕ × List Text) → text_if test k us f ≡ Ok r → test ≡ true
 text_within true f k us r h = refl
 text_within false f k us r h = cc
 

@@ -9,7 +9,8 @@ use Rattle.c_types.specs.Types.{Ty}
 use Rattle.c_types.specs.Typed.{TExprT, TExprTs, TInitT, TInitTs, TVarT, TStmtT, MaybeZ, TStmtTs, TArmT, TArmTs}
 use Rattle.c_rules.specs.declared.code.Code.TheVariants.{TooLarge}
 use Rattle.c_exprs.specs.Env.{Text, Ctx}
-use Rattle.c_exprs.specs.Faults.{FaultT, at, text_words, text_limit, with_text}
+use Rattle.c_exprs.specs.declared.error.Fault.{Fault}
+use Rattle.c_exprs.specs.Faults.{at, text_words, text_limit, with_text}
 use Rattle.c_exprs.specs.Types as expression
 use Rattle.c_exprs.specs.Types.{Types, Values, Used, AllValues, Names}
 use Rattle.c_stmts.specs.Slots.{Slots}
@@ -25,13 +26,13 @@ pub record AreShort (ts : List Text) : Type 0 where
 pub none_short : AreShort []
 none_short = record { words = omega arith }
 
-abbrev numbered_text : ℕ → List Text → Result (ℕ × List Text) FaultT
+abbrev numbered_text : ℕ → List Text → Result (ℕ × List Text) Fault
 numbered_text k us = Ok (k, us)
 
-abbrev text_if : Bool → ℕ → List Text → FaultT → Result (ℕ × List Text) FaultT
+abbrev text_if : Bool → ℕ → List Text → Fault → Result (ℕ × List Text) Fault
 text_if test k us f = if test then numbered_text k us else Err f
 
-text_fits : (test : Bool) (f : FaultT) (j k : ℕ) (us vs : List Text) → text_if test j us f ≡ numbered_text k vs → (test ≡ true) × (us ≡ vs)
+text_fits : (test : Bool) (f : Fault) (j k : ℕ) (us vs : List Text) → text_if test j us f ≡ numbered_text k vs → (test ≡ true) × (us ≡ vs)
 text_fits true f j k us vs h =
     let p : ℕ × List Text = (j, us) in
     let q : ℕ × List Text = (k, vs) in

@@ -20,7 +20,7 @@ fn placed(alloc: Global, items: &[AsmItem]) -> Result<Placement, Memory>
 {
     match assemble(alloc, items) {
         Ok(placement) => Ok(placement),
-        Err(AsmErr::At { .. }) => unreachable!(),
+        Err(AsmErr::Cause(_)) => unreachable!(),
         Err(AsmErr::Memory) => Err(Memory),
     }
 }

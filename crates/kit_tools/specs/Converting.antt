@@ -9,8 +9,9 @@ use Rattle.asm_items.specs.declared.item.AsmItem.{AsmItem}
 use Rattle.asm_items.specs.Disassembled.{disassembled}
 use Rattle.asm_items.specs.Words.{words_of_items}
 use Rattle.asm_items.specs.Written.{written}
+use Rattle.asm_reader.specs.declared.error.AsmFault.{AsmFault}
 use Rattle.asm_reader.specs.Reading.{read}
-use Rattle.assembler.specs.Faults.{Fault, fault_of}
+use Rattle.assembler.specs.Faults.{fault_of}
 use Rattle.assembler.specs.Labels.{address_in}
 use Rattle.assembler.specs.Placed.{labels_of}
 use Rattle.cart_format.specs.Cartridge.{cart_text}
@@ -31,19 +32,19 @@ migrated_due cart held = do
   second ← second_due read
   Ok (cart_text second)
 
--- the refusal of a text that is no assembly, by its code and its first faulty line
-abbrev pub no_items : List ℕ → ℕ × ℕ → Refusal
-no_items text (code, line) = refusals.Due (dues.Bad code text (Some line))
+-- the refusal of a text that is no assembly, by its code and its first faulty line or item
+abbrev pub no_assembly : List ℕ → AsmFault → Refusal
+no_assembly text fault = refusals.Due (dues.Bad fault.code text (Some fault.at))
 
 -- the words of the items, or the first faulty item
-abbrev pub placed_unless : List ℕ → List AsmItem → Option Fault → Result (List ℕ) Refusal
+abbrev pub placed_unless : List ℕ → List AsmItem → Option AsmFault → Result (List ℕ) Refusal
 placed_unless text items None = Ok (words_of_items (address_in (labels_of items)) items)
-placed_unless text items (Some (code, item)) = Err (refusals.Due (dues.Bad code text (Some item)))
+placed_unless text items (Some fault) = Err (no_assembly text fault)
 
 -- the words of an assembly text of that name
 abbrev pub text_words_due : List ℕ → (bytes : List ℕ) → Result (List ℕ) Refusal
 text_words_due text bytes = do
-  items ← or_refused (no_items text) (read bytes)
+  items ← or_refused (no_assembly text) (read bytes)
   placed_unless text items (fault_of items)
 
 -- the words file of what the text's items are placed as

@@ -15,7 +15,7 @@ use crate::refusal::{DueRefusal, Refusal};
 use crate::shown::Shown;
 use crate::writing::write_output;
 use asm_items::{disassemble, write_asm};
-use asm_reader::AsmErr;
+use asm_reader::{AsmErr, AsmFault};
 use assembler::assemble_text;
 use asset_pack::{AssetErr, AssetFault, read_words, write_words};
 use cart_format::{Cart, CartParts, write_cart};
@@ -69,7 +69,7 @@ fn words_of_text(alloc: Global, name: &str, text: &[u8]) -> Result<Seq<u32>, Ref
 {
     match assemble_text(alloc, text) {
         Ok(words) => Ok(words),
-        Err(AsmErr::At { code, at }) => {
+        Err(AsmErr::Cause(AsmFault { code, at })) => {
             let name = Name::new(alloc, name)?;
             Err(Refusal::Due(DueRefusal::Bad {
                 code,

@@ -95,7 +95,8 @@ fn reaches(at: &[Where], o: &Op<u32>, x: u32, q: u32) -> bool {
     }
 }
 
-/// Counts the address that is made at i of a word that was put right before and stands inside what comes next.
+/// Counts the address that is made at i of a word that was put right before, in the same temporary or in one that is always such a word, and stands inside what
+/// comes next.
 fn count_address(known: Known, ns: &[Node<u32>], i: usize, found: &mut [u32]) {
     let Some(o) = op_at(ns, i) else { return };
     let Some(t) = word_put(o) else { return };
@@ -108,7 +109,7 @@ fn count_address(known: Known, ns: &[Node<u32>], i: usize, found: &mut [u32]) {
     let Some(next) = op_at(ns, i.saturating_add(2)) else {
         return;
     };
-    if is_marked(known.words, t) && *x != q && reaches(known.at, next, *x, q) {
+    if (is_marked(known.words, t) || *x == t) && *x != q && reaches(known.at, next, *x, q) {
         count(found, *x);
     }
 }
@@ -147,20 +148,29 @@ fn count_nodes(known: Known, addresses: bool, ns: &[Node<u32>], found: &mut [u32
     }
 }
 
-/// Those that were found as often as they are made, and as often as they are used.
-fn always(alloc: Global, counts: &[Count], found: &[u32]) -> Result<Vec<bool>, Memory> {
+fn often(found: &[u32], i: usize) -> u32 {
+    if i < found.len() { found[i] } else { 0 }
+}
+
+/// Those that were found, as words or as addresses, as often as they are made, and as often as they are used.
+fn always(
+    alloc: Global,
+    counts: &[Count],
+    words: &[u32],
+    addresses: &[u32],
+) -> Result<Vec<bool>, Memory> {
     let mut flags = Vec::new(alloc);
     let mut i: usize = 0;
     for count in counts {
-        let often = if i < found.len() { found[i] } else { 0 };
-        flags.push(often > 0 && count.made == often && count.used == often)?;
+        let found = often(words, i).saturating_add(often(addresses, i));
+        flags.push(found > 0 && count.made == found && count.used == found)?;
         i = i.saturating_add(1);
     }
     Ok(flags)
 }
 
 /// The temporaries of nodes that are put, each time, right before the one operation that uses them and can stand inside it: known words, and addresses of
-/// loads and stores that are the sum of such a word and of another one.
+/// loads and stores that are the sum of such a word and of another one. One temporary may be both, where the sum goes where the word was.
 pub(crate) fn immediates(
     alloc: Global,
     counts: &[Count],
@@ -170,31 +180,12 @@ pub(crate) fn immediates(
     let mut found = Vec::from_elem(alloc, 0, counts.len())?;
     let none = Known { at, words: &[] };
     count_nodes(none, false, ns, found.as_mut_slice());
-    let words = always(alloc, counts, found.as_slice())?;
+    let words = always(alloc, counts, found.as_slice(), &[])?;
     let known = Known {
         at,
         words: words.as_slice(),
     };
     let mut sums = Vec::from_elem(alloc, 0, counts.len())?;
     count_nodes(known, true, ns, sums.as_mut_slice());
-    let mut all = always(alloc, counts, sums.as_slice())?;
-    add(all.as_mut_slice(), words.as_slice());
-    Ok(all)
-}
-
-fn mark(flags: &mut [bool], i: usize) {
-    if i < flags.len() {
-        flags[i] = true;
-    }
-}
-
-/// Marks what is marked in the other list.
-fn add(flags: &mut [bool], others: &[bool]) {
-    let mut i: usize = 0;
-    for other in others {
-        if *other {
-            mark(flags, i);
-        }
-        i = i.saturating_add(1);
-    }
+    always(alloc, counts, found.as_slice(), sums.as_slice())
 }

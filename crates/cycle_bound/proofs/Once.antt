@@ -5,7 +5,7 @@ use Rattle.std.specs.List.{list_any}
 use Rattle.std.proofs.lemmas.Slice.Eq.{bytes_eq-Decides}
 use Rattle.asm_items.specs.declared.item.AsmItem.{AsmItem}
 use Rattle.asm_items.specs.declared.item.AsmItem.TheVariants.{Label, Op, Integer, Pointer}
-use Rattle.assembler.specs.Faults.{twice_from, naming_fault, or_past, fault_of}
+use Rattle.assembler.specs.Faults.{fault_at, twice_from, naming_fault, or_past, fault_of}
 use Rattle.asm_laws.specs.Labelled.{HasLabel}
 use Rattle.asm_laws.specs.Numbers.{behind}
 
@@ -66,7 +66,7 @@ module _ (l : List ℕ) (after : List AsmItem) where
   behind_is (Integer w ∷ before) free = behind_is before free
   behind_is (Pointer m ∷ before) free = behind_is before free
 
-either_some : (t u : ℕ) (past : Option ℕ) (b : Bool) → or_past (cond b (Some (64, t)) (Some (65, u))) past ≡ None → ⊥
+either_some : (t u : ℕ) (past : Option ℕ) (b : Bool) → or_past (cond b (Some (fault_at 64 t)) (Some (fault_at 65 u))) past ≡ None → ⊥
 either_some t u past true e = absurd cc
 either_some t u past false e = absurd cc
 

@@ -13,6 +13,7 @@ mod places;
 mod registers;
 mod share;
 mod singles;
+mod slots;
 mod spare;
 mod upwards;
 

@@ -9,15 +9,19 @@ ghost use Rattle.reg_choose.specs.Each.{EachSpares, AllSpare, places_in, IsNamed
 
 use crate::sharing::arguments::Callees;
 use crate::sharing::entry::merge_params;
-use crate::sharing::merge::merge_nodes;
+use crate::sharing::merge::{merge_nodes, put};
 use crate::sharing::registers::adds_no_slot;
 use crate::sharing::singles::{counts, singles};
+use crate::sharing::slots::{has_slot, have_call, most_named};
 use crate::sharing::spare::leave_register;
 use kit_base::{Memory, Seq};
 use mid_code::laws::mid_code_is_sound;
 use mid_code::{Choice, Function, Mid, Where};
 use reg_choose::is_safe;
 use std::alloc::Global;
+
+/// Functions of more temporaries are left as they are: each try is a walk over the body.
+const MOST_LIFTED: u32 = 1024;
 
 fn copy(alloc: Global, at: &[Where]) -> Result<Choice, Memory>
     ensures { IfOk result (λ c. c.at ≡ at.now) }
@@ -105,7 +109,51 @@ fn share_entry(alloc: Global, f: &Function<u32>, given: Choice) -> Result<Choice
     }
 }
 
-/// The choice for one function: the one in which operands share places where it serves, else the given one; then the same of parameters.
+/// The choice in which a temporary stands in a register, where one of the first eight serves, else the one given.
+fn in_register(alloc: Global, f: &Function<u32>, given: Choice, t: u32) -> Result<Choice, Memory>
+    requires named { IsNamed (function f.now) }
+    requires safe { IsSafe (function f.now) given.at }
+    requires spares { SparesSlots (function f.now) given.at }
+    ensures safe { IfOk result (λ c. IsSafe (function f.now) c.at) }
+    ensures spares { IfOk result (λ c. SparesSlots (function f.now) c.at) }
+{
+    for r in 0..8 {
+        let mut at = given.at.as_slice().to_vec(alloc)?;
+        put(at.as_mut_slice(), t, Where::Reg(r));
+        let other = Choice {
+            at: Seq::from_vec(at),
+        };
+        if serves(alloc, f, given.at.as_slice(), &other)? {
+            return Ok(other);
+        }
+    }
+    Ok(given)
+}
+
+/// The choice in which the two temporaries in slots of which most is named stand in registers, where some serve. In a function without calls a temporary is in a
+/// slot where more than nine spans meet, though it may be live at few places of its span; over a call no register keeps its word.
+fn lifted(alloc: Global, f: &Function<u32>, given: Choice) -> Result<Choice, Memory>
+    requires named { IsNamed (function f.now) }
+    requires safe { IsSafe (function f.now) given.at }
+    requires spares { SparesSlots (function f.now) given.at }
+    ensures safe { IfOk result (λ c. IsSafe (function f.now) c.at) }
+    ensures spares { IfOk result (λ c. SparesSlots (function f.now) c.at) }
+{
+    if f.temps > MOST_LIFTED || !has_slot(given.at.as_slice()) || have_call(f.body.as_slice()) {
+        return Ok(given);
+    }
+    let counts = counts(alloc, f)?;
+    let Some(t) = most_named(given.at.as_slice(), counts.as_slice(), None) else {
+        return Ok(given);
+    };
+    let first = in_register(alloc, f, given, t)?;
+    let Some(u) = most_named(first.at.as_slice(), counts.as_slice(), Some(t)) else {
+        return Ok(first);
+    };
+    in_register(alloc, f, first, u)
+}
+
+/// The choice for one function: temporaries leave slots where that serves; then the one in which operands share places where it serves; then the same of parameters.
 fn share(
     alloc: Global,
     f: &Function<u32>,
@@ -119,11 +167,12 @@ fn share(
     ensures safe { IfOk result (λ c. IsSafe (function f.now) c.at) }
     ensures spares { IfOk result (λ c. SparesSlots (function f.now) c.at) }
 {
-    let other = merged(alloc, f, given, functions, choices)?;
-    if serves(alloc, f, given, &other)? {
+    let start = lifted(alloc, f, copy(alloc, given)?)?;
+    let other = merged(alloc, f, start.at.as_slice(), functions, choices)?;
+    if serves(alloc, f, start.at.as_slice(), &other)? {
         share_entry(alloc, f, other)
     } else {
-        share_entry(alloc, f, copy(alloc, given)?)
+        share_entry(alloc, f, start)
     }
 }
 

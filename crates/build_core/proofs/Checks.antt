@@ -49,7 +49,7 @@ breaks_so parsed fault (errors.Bad c n l) h t = (fault, h, t)
 breaks_so parsed fault (errors.Limit n) h t = (fault, h, t)
 breaks_so parsed fault errors.Memory h t = tt
 
-pub gave_program : (p : ProgramT) (q : Program) → Gives program (Ok q) (Ok p) → IsProgramOf p (Ok q)
+pub gave_program : (p : ProgramT) (q : Program) → Gives {E = Fault} program (Ok q) (Ok p) → IsProgramOf p (Ok q)
 gave_program p q h =
     let one : Result ProgramT Fault = Ok p in
     let two : Result ProgramT Fault = Ok (program q) in

@@ -84,7 +84,7 @@ unfoldable pub lines_at : Including → List (List Token) → Progress → List 
 lines_at include [] p cs = Ok (p, cs)
 lines_at include (line ∷ lines) p cs = line_by (include_in line cs) include line p cs >>= λ q. lines_at include lines q.0 q.1
 
--- The bytes of the file that has this number. What is due of a name is never a failure or want of memory, so the last case is there for any answer to have one.
+-- The bytes of the file that has this number. What is due of a name is never a failure or want of memory: the last case is there for the sake of all answers.
 abbrev pub bytes_of : PrepFault → ℕ → Result (List ℕ) FileErr → Result (List ℕ) PrepFault
 bytes_of missing file (Ok bytes) = Ok bytes
 bytes_of missing file (Err f.Missing) = Err missing

@@ -7,7 +7,8 @@ use std::alloc::{AllocError, AllocFailed};
 use std::fmt::Display;
 use thiserror::Error;
 
-/// Why a call gives nothing: memory ran out, or the cause that it tells. The errors of the crates above are made so, and `?` takes want of memory to each of them.
+/// Why a call gives nothing: memory ran out, or the cause that it tells. The errors of the crates above are made so, and `?` takes want of memory to each
+/// of them.
 #[derive(Clone, Copy, Debug, PartialEq, Eq, Drop, Error)]
 #[error_bound(E: Display)]
 pub enum Failure<E> {

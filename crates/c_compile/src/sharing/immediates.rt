@@ -95,8 +95,8 @@ fn reaches(at: &[Where], o: &Op<u32>, x: u32, q: u32) -> bool {
     }
 }
 
-/// Counts the address that is made at i of a word that was put right before, in the same temporary or in one that is always such a word, and stands inside what
-/// comes next.
+/// Counts the address that is made at i of a word that was put right before, in the same temporary or in one that is always such a word, and stands inside
+/// what comes next.
 fn count_address(known: Known, ns: &[Node<u32>], i: usize, found: &mut [u32]) {
     let Some(o) = op_at(ns, i) else { return };
     let Some(t) = word_put(o) else { return };

@@ -130,8 +130,8 @@ fn in_register(alloc: Global, f: &Function<u32>, given: Choice, t: u32) -> Resul
     Ok(given)
 }
 
-/// The choice in which the two temporaries in slots of which most is named stand in registers, where some serve. In a function without calls a temporary is in a
-/// slot where more than nine spans meet, though it may be live at few places of its span; over a call no register keeps its word.
+/// The choice in which the two temporaries in slots of which most is named stand in registers, where some serve. In a function without calls a temporary is
+/// in a slot where more than nine spans meet, though it may be live at few places of its span; over a call no register keeps its word.
 fn lifted(alloc: Global, f: &Function<u32>, given: Choice) -> Result<Choice, Memory>
     requires named { IsNamed (function f.now) }
     requires safe { IsSafe (function f.now) given.at }
@@ -153,7 +153,8 @@ fn lifted(alloc: Global, f: &Function<u32>, given: Choice) -> Result<Choice, Mem
     in_register(alloc, f, first, u)
 }
 
-/// The choice for one function: temporaries leave slots where that serves; then the one in which operands share places where it serves; then the same of parameters.
+/// The choice for one function: temporaries leave slots where that serves; then the one in which operands share places where it serves; then the same of
+/// parameters.
 fn share(
     alloc: Global,
     f: &Function<u32>,

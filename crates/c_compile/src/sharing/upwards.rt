@@ -23,8 +23,8 @@ fn makes(o: &Op<u32>, a: u32) -> bool {
     }
 }
 
-/// Whether the operation can make its target at the place: where it works on its target, its second operand must not stand there, unless it works as well on its
-/// operands the other way round; then the first one must not.
+/// Whether the operation can make its target at the place: where it works on its target, its second operand must not stand there, unless it works as well
+/// on its operands the other way round; then the first one must not.
 fn can_make_at(at: &[Where], o: &Op<u32>, r: Where) -> bool {
     let of = names_of(o);
     !works_in_place(o)

@@ -7,7 +7,7 @@ use Rattle.std.proofs.lemmas.Bool.{and_parts, and_from, le-ltb, lt-ltb}
 use Rattle.std.proofs.lemmas.List.Folds.{list_all-append}
 use Rattle.kit_base.specs.declared.failure.Failure.{Failure}
 use Rattle.kit_base.specs.declared.failure.Failure.TheVariants as failures
-use Rattle.kit_base.specs.Gives.{Fails}
+use Rattle.kit_base.specs.Gives.{Fails, IfCause}
 use Rattle.either.specs.Either.{right}
 use Rattle.either.specs.declared.Either.TheVariants.{Left, Right}
 use Rattle.asm_items.specs.declared.item.AsmItem.{AsmItem}
@@ -16,7 +16,7 @@ use Rattle.asm_items.specs.Items.{Imm}
 use Rattle.asm_reader.specs.Reading.{read}
 use Rattle.asm_reader.specs.declared.error.AsmFault.{AsmFault}
 use Rattle.asm_items.specs.Words.{imm_word, words_of_items}
-use Rattle.assembler.specs.Faults.{IfCause, IsRefusal, fault_of, past_from, twice_from, unknown_from, with_name}
+use Rattle.assembler.specs.Faults.{IsRefusal, fault_of, past_from, twice_from, unknown_from, with_name}
 use Rattle.assembler.specs.Labels.{address_in, address_of, are_words, has_label, with_label}
 use Rattle.assembler.specs.Naming.{immediate, is_known}
 use Rattle.assembler.specs.Placed.{Placed, item_size, label_at, labels_from, labels_of}

@@ -1,8 +1,6 @@
 -- The first fault of a list of items, with the item's number, counted from 1.
 use Rattle.std.specs.Prelude.{ℕ, ◌≡◌, ◌+◌, List, [], ◌∷◌, ◌++◌, Bool, false, Option, Some, None, option_map, if◌then◌else◌, nat_lt, bytes_eq}
 use Rattle.std.specs.List.{list_any}
-use Rattle.kit_base.specs.declared.failure.Failure.{Failure}
-use Rattle.kit_base.specs.declared.failure.Failure.TheVariants as failures
 use Rattle.asm_items.specs.declared.item.AsmItem.{AsmItem}
 use Rattle.asm_items.specs.declared.item.AsmItem.TheVariants.{Label, Op, Integer, Pointer}
 use Rattle.assembler.specs.Naming.{is_known}
@@ -59,11 +57,6 @@ or_past None past = option_map (λ item. fault_at 66 item) past
 
 unfoldable pub fault_of : List AsmItem → Option AsmFault
 fault_of items = or_past (naming_fault (twice_from 1 [] items) (unknown_from 1 (labels_of items) items)) (past_from 1 0 items)
-
--- of the cause, unless memory ran out
-abbrev pub IfCause : {E : Type 0} → (E → Type 0) → Failure E → Type 0
-IfCause Of failures.Memory = Unit {0}
-IfCause Of (failures.Cause cause) = Of cause
 
 -- a refusal is the first fault
 abbrev pub IsRefusal : List AsmItem → AsmFault → Type 0

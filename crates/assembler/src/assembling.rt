@@ -1,7 +1,8 @@
 // Items to words.
 ghost use Rattle.std.specs.Prelude.{◌≡◌, ◌≤◌, IfErr, IfOk, OnOk, None, [], length};
 ghost use Rattle.assembler.specs.Placed.{Placed};
-ghost use Rattle.assembler.specs.Faults.{IfCause, IsRefusal, fault_at, fault_of, naming_fault, or_past, twice_from};
+ghost use Rattle.kit_base.specs.Gives.{IfCause};
+ghost use Rattle.assembler.specs.Faults.{IsRefusal, fault_at, fault_of, naming_fault, or_past, twice_from};
 ghost use Rattle.assembler.specs.inner.Survey.{collected};
 
 use crate::naming::first_unknown;

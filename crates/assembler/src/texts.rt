@@ -2,9 +2,9 @@
 ghost use Rattle.std.specs.Prelude.{◌≡◌, ◌≤◌, ◌<◌, ◌+◌, ◌++◌, [], true, IfErr, IfOk, IfSome, drop, length, not};
 ghost use Rattle.std.specs.List.{take_while};
 ghost use Rattle.std.specs.Option.{option_map_or};
+ghost use Rattle.kit_base.specs.Gives.{IfCause};
 ghost use Rattle.asm_reader.specs.Parted.{parted};
 ghost use Rattle.asm_reader.specs.Reading.{is_newline};
-ghost use Rattle.assembler.specs.Faults.{IfCause};
 ghost use Rattle.assembler.specs.Labels.{address_of, are_words};
 ghost use Rattle.assembler.specs.Texts.{AreWordsOf, IsTextRefusal};
 ghost use Rattle.assembler.specs.inner.Parts.{AreMore, AreOf, ReadsMore, filled, part_word, words_on};

@@ -18,10 +18,10 @@ use Rattle.c_meaning.specs.Expressions.{call, params_of}
 use Rattle.c_meaning.specs.Statements.{left, arms_before, labels, switch_done, does_arms, below}
 use Rattle.c_meaning.specs.Runs.{main_done}
 use Rattle.c_meaning.proofs.Past.{val_past, vals_past, went_past, done_past, final_past, val as val_kind, went as went_kind, done as done_kind, asked_past, then_went_past, then_values_past, then_done_past, with_value_past, tested_past, dropped_past, truth_past, unary_past, second_operated_past, binary_past, second_assigned_past, assign_past, step_past, second_indexed_past, index_past, member_past, arrow_past, call_past, argument_past, output_past, evaluated_past, evaluated_all_past, one_past, filled_past, all_filled_past, variables_past, left_past, body_past, step_done_past, turn_past, switch_past, switched_past, returned_past, does_past, does_maybe_past, does_all_past, does_arms_past, below_past}
-use Rattle.c_evaluate.specs.declared.frame.Came.{Came}
-use Rattle.c_evaluate.specs.declared.frame.Came.TheVariants.{Value, Place, Nothing}
+use Rattle.c_evaluate.specs.declared.frame.Outcome.{Outcome}
+use Rattle.c_evaluate.specs.declared.frame.Outcome.TheVariants.{Value, Place, Nothing}
 use Rattle.c_evaluate.specs.declared.frame.How.TheVariants.{On, Break, Continue, Return}
-use Rattle.c_evaluate.specs.inner.Machine.{FocusT, EvalF, FillF, DoF, CameF, MadeF, LeftF, FullF, CallerT, FrameT, FirstW, SecondW, ArgumentW, BackW, ValueW, StepW, BodyW, BeginW, RestW, ArmsW, EndW, SwitchW, OneW, ItemsW, VarsW, FilledW, MainW, Res, V, D, W, val, done, went, first_came, second_came, behind, types_left, argument_came, call_left, value_came, step_came, body_came, begin_came, inits_came, apply, resume, val_at, result_of}
+use Rattle.c_evaluate.specs.inner.Machine.{FocusT, EvalF, FillF, DoF, OutcomeF, MadeF, ExitF, FullF, CallerT, FrameT, FirstW, SecondW, ArgumentW, BackW, ValueW, StepW, BodyW, BeginW, RestW, ArmsW, EndW, SwitchW, OneW, ItemsW, VarsW, FilledW, MainW, Res, V, D, W, val, done, went, with_first, with_second, behind, types_left, with_argument, call_left, outcome_value, with_step, with_body, with_begin, with_inits, apply, resume, val_at, result_of}
 
 module _ (d : ℕ) (es : List Event) where
   abbrev p : World → World
@@ -86,7 +86,7 @@ module _ (d : ℕ) (es : List Event) where
   module _ (s : Setting) (n : ℕ) where
     -- ---- expressions
 
-    first_past : (kind : TKindT) (ty : Ty) (span : Span) (r' r : Val) → r' ≡ pv r → first_came s n kind ty span r' ≡ pv (first_came s n kind ty span r)
+    first_past : (kind : TKindT) (ty : Ty) (span : Span) (r' r : Val) → r' ≡ pv r → with_first s n kind ty span r' ≡ pv (with_first s n kind ty span r)
     first_past (UnaryK op x) ty span r' r e = unary_past d es s n (below s n) (below_past d es s n) op x span r' r e
     first_past (BinaryK op x y) ty span r' r e = binary_past d es s n (below s n) (below_past d es s n) op x y span _ (evaluated_past d es s n (below s n) (below_past d es s n) y) r' r e
     first_past (AssignK op x y) ty span r' r e = assign_past d es s n (below s n) (below_past d es s n) op x y span _ (evaluated_past d es s n (below s n) (below_past d es s n) y) r' r e
@@ -107,12 +107,12 @@ module _ (d : ℕ) (es : List Event) where
     first_past HaltK ty span r' r e = e
     first_past CardK ty span r' r e = e
 
-    second_operand : (op : BinOp) (x y : TExprT) (ty : Ty) (span : Span) (c : Cell) (r' r : Val) → r' ≡ pv r → second_came s n (BinaryK op x y) ty span c r' ≡ pv (second_came s n (BinaryK op x y) ty span c r)
+    second_operand : (op : BinOp) (x y : TExprT) (ty : Ty) (span : Span) (c : Cell) (r' r : Val) → r' ≡ pv r → with_second s n (BinaryK op x y) ty span c r' ≡ pv (with_second s n (BinaryK op x y) ty span c r)
     second_operand AndAlso x y ty span c r' r e = truth_past d es s n (below s n) (below_past d es s n) y r' r e
     second_operand OrElse x y ty span c r' r e = truth_past d es s n (below s n) (below_past d es s n) y r' r e
     second_operand op x y ty span c r' r e = second_operated_past d es s n (below s n) (below_past d es s n) op x y span c r' r e
 
-    second_past : (kind : TKindT) (ty : Ty) (span : Span) (c : Cell) (r' r : Val) → r' ≡ pv r → second_came s n kind ty span c r' ≡ pv (second_came s n kind ty span c r)
+    second_past : (kind : TKindT) (ty : Ty) (span : Span) (c : Cell) (r' r : Val) → r' ≡ pv r → with_second s n kind ty span c r' ≡ pv (with_second s n kind ty span c r)
     second_past (BinaryK op x y) ty span c r' r e = second_operand op x y ty span c r' r e
     second_past (AssignK op x y) ty span c r' r e = second_assigned_past d es s n (below s n) (below_past d es s n) op x y span c r' r e
     second_past (IndexK x y) ty span c r' r e = second_indexed_past d es s n (below s n) (below_past d es s n) ty y span c r' r e
@@ -137,7 +137,7 @@ module _ (d : ℕ) (es : List Event) where
     behind_past vs r' (Values us w) e = ap (behind vs) e
     behind_past vs r' (Short end w) e = ap (behind vs) e
 
-    argument_is : (f : ℕ) (span : Span) (vs : List Cell) (xs : TExprTs) (r' r : Val) → r' ≡ pv r → argument_came s n f span vs xs r' ≡ pv (argument_came s n f span vs xs r)
+    argument_is : (f : ℕ) (span : Span) (vs : List Cell) (xs : TExprTs) (r' r : Val) → r' ≡ pv r → with_argument s n f span vs xs r' ≡ pv (with_argument s n f span vs xs r)
     argument_is f span vs NoX r' r e = e
     argument_is f span vs (MoreX x xs) r' r e =
         then_values_past d es _ (λ us w. call_past d es s n (below s n) (below_past d es s n) f us span w) _ _
@@ -145,7 +145,7 @@ module _ (d : ℕ) (es : List Event) where
 
     -- ---- statements
 
-    value_is : (r : Cell) (a : TStmtT) (v' v : Val) → v' ≡ pv v → value_came s n r a v' ≡ pd (value_came s n r a v)
+    value_is : (r : Cell) (a : TStmtT) (v' v : Val) → v' ≡ pv v → outcome_value s n r a v' ≡ pd (outcome_value s n r a v)
     value_is r (DoZ x) v' v e = dropped_past d es s n (below s n) (below_past d es s n) (done_kind d es) x _ (λ w. refl) v' v e
     value_is r (IfZ x a b) v' v e = tested_past d es s n (below s n) (below_past d es s n) (done_kind d es) x _ _ (does_past d es s n (below s n) (below_past d es s n) r a) (does_maybe_past d es s n (below s n) (below_past d es s n) r b) v' v e
     value_is r (WhileZ x a) v' v e = tested_past d es s n (below s n) (below_past d es s n) (done_kind d es) x _ _ (λ w. body_past d es s n (below s n) (below_past d es s n) _ (below_past d es s n (Turn r (Some x) None a)) _ _ (does_past d es s n (below s n) (below_past d es s n) r a w)) (λ w. refl) v' v e
@@ -163,7 +163,7 @@ module _ (d : ℕ) (es : List Event) where
     value_is r BreakZ v' v e = lost v' v e
     value_is r ContinueZ v' v e = lost v' v e
 
-    step_is : (r : Cell) (a : TStmtT) (v' v : Val) → v' ≡ pv v → step_came s n r a v' ≡ pd (step_came s n r a v)
+    step_is : (r : Cell) (a : TStmtT) (v' v : Val) → v' ≡ pv v → with_step s n r a v' ≡ pd (with_step s n r a v)
     step_is r (ForZ made first test (Some y) a) v' v e = dropped_past d es s n (below s n) (below_past d es s n) (done_kind d es) y _ (below_past d es s n (Turn r test (Some y) a)) v' v e
     step_is r (ForZ made first test None a) v' v e = lost v' v e
     step_is r (DoZ x) v' v e = lost v' v e
@@ -178,7 +178,7 @@ module _ (d : ℕ) (es : List Event) where
     step_is r BreakZ v' v e = lost v' v e
     step_is r ContinueZ v' v e = lost v' v e
 
-    body_is : (r : Cell) (a : TStmtT) (x' x : Done) → x' ≡ pd x → body_came s n r a x' ≡ pd (body_came s n r a x)
+    body_is : (r : Cell) (a : TStmtT) (x' x : Done) → x' ≡ pd x → with_body s n r a x' ≡ pd (with_body s n r a x)
     body_is r (WhileZ y a) x' x e = body_past d es s n (below s n) (below_past d es s n) _ (below_past d es s n (Turn r (Some y) None a)) x' x e
     body_is r (DoWhileZ a y) x' x e = body_past d es s n (below s n) (below_past d es s n) _ (λ w. tested_past d es s n (below s n) (below_past d es s n) (done_kind d es) y _ _ (below_past d es s n (DoTurn r a y)) (λ u. refl) _ _ (evaluated_past d es s n (below s n) (below_past d es s n) y w)) x' x e
     body_is r (ForZ made first test step a) x' x e = body_past d es s n (below s n) (below_past d es s n) _ (λ u. step_done_past d es s n (below s n) (below_past d es s n) step u _ (below_past d es s n (Turn r test step a))) x' x e
@@ -192,7 +192,7 @@ module _ (d : ℕ) (es : List Event) where
     body_is r BreakZ x' x e = e
     body_is r ContinueZ x' x e = e
 
-    begin_is : (r : Cell) (a : TStmtT) (x' x : Done) → x' ≡ pd x → begin_came s n r a x' ≡ pd (begin_came s n r a x)
+    begin_is : (r : Cell) (a : TStmtT) (x' x : Done) → x' ≡ pd x → with_begin s n r a x' ≡ pd (with_begin s n r a x)
     begin_is r (ForZ made first test step a) x' x e = then_done_past d es _ (turn_past d es s n (below s n) (below_past d es s n) test step _ _ (does_past d es s n (below s n) (below_past d es s n) r a) (below_past d es s n (Turn r test step a))) x' x e
     begin_is r (WhileZ y a) x' x e = e
     begin_is r (DoWhileZ a y) x' x e = e
@@ -216,7 +216,7 @@ module _ (d : ℕ) (es : List Event) where
   left_call tys vs r span c (Returns (Some z) w) = refl
   left_call tys vs r span c (Ended e w) = refl
 
-  inits_each : (go : World → Val) → ((w : World) → go (p w) ≡ pv (go w)) → (x : Done) → inits_came (pd x) go ≡ pv (inits_came x go)
+  inits_each : (go : World → Val) → ((w : World) → go (p w) ≡ pv (go w)) → (x : Done) → with_inits (pd x) go ≡ pv (with_inits x go)
   inits_each go h (Goes w) = h w
   inits_each go h (Breaks w) = refl
   inits_each go h (Continues w) = refl
@@ -243,7 +243,7 @@ module _ (d : ℕ) (es : List Event) where
     apply_past FilledW x = ap D (then_went_past d es (done_kind d es) _ (λ w. refl) _ _ (went_is x))
     apply_past (MainW n main) x =
         let go : World → Val = call s n (below s n) main [] nowhere in
-        ap V (ap (λ r. inits_came r (λ w. go (spend 1 w))) (done_is x) ∙ inits_each (λ w. go (spend 1 w)) (λ w. ap go (spend_past d es 1 w) ∙ call_past d es s n (below s n) (below_past d es s n) main [] nowhere (spend 1 w)) (done x))
+        ap V (ap (λ r. with_inits r (λ w. go (spend 1 w))) (done_is x) ∙ inits_each (λ w. go (spend 1 w)) (λ w. ap go (spend_past d es 1 w) ∙ call_past d es s n (below s n) (below_past d es s n) main [] nowhere (spend 1 w)) (done x))
 
     main_past : (r : Val) → main_done (pv r) ≡ final_past d es (main_done r)
     main_past (out.Value c w) = refl
@@ -255,7 +255,7 @@ module _ (d : ℕ) (es : List Event) where
     resume_past [] x = ap main_done (val_is x) ∙ main_past (val x)
     resume_past (f ∷ k) x = ap (resume s k) (apply_past f x) ∙ resume_past k (apply s f x)
 
-    val_at_past : (v : Came) (w : World) → val_at v (p w) ≡ pv (val_at v w)
+    val_at_past : (v : Outcome) (w : World) → val_at v (p w) ≡ pv (val_at v w)
     val_at_past (Value c) w = refl
     val_at_past (Place c) w = refl
     val_at_past Nothing w = refl
@@ -264,10 +264,10 @@ module _ (d : ℕ) (es : List Event) where
     result_past (EvalF n x) w = ap V (evaluated_past d es s n (below s n) (below_past d es s n) x w)
     result_past (FillF n i ty at) w = ap W (filled_past d es s n (below s n) (below_past d es s n) i ty at w)
     result_past (DoF n r a) w = ap D (does_past d es s n (below s n) (below_past d es s n) r a w)
-    result_past (CameF v) w = ap V (val_at_past v w)
+    result_past (OutcomeF v) w = ap V (val_at_past v w)
     result_past (MadeF e v) w = ap V (ap (val_at v) (happened_past d es e w) ∙ val_at_past v _)
-    result_past (LeftF On) w = refl
-    result_past (LeftF Break) w = refl
-    result_past (LeftF Continue) w = refl
-    result_past (LeftF (Return c)) w = refl
+    result_past (ExitF On) w = refl
+    result_past (ExitF Break) w = refl
+    result_past (ExitF Continue) w = refl
+    result_past (ExitF (Return c)) w = refl
     result_past FullF w = refl

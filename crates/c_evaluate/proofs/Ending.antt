@@ -15,7 +15,7 @@ use Rattle.c_meaning.specs.Setting.{Setting}
 use Rattle.c_meaning.specs.Expressions.{unary, binary, params_of, next_argument, evaluated_all, call}
 use Rattle.c_meaning.specs.Statements.{below}
 use Rattle.c_meaning.specs.Runs.{final, main_done}
-use Rattle.c_evaluate.specs.inner.Machine.{FrameT, FirstW, SecondW, ArgumentW, BackW, ValueW, StepW, BodyW, BeginW, RestW, ArmsW, EndW, SwitchW, OneW, ItemsW, VarsW, FilledW, MainW, Res, V, D, W, val, done, went, first_came, second_came, behind, types_left, argument_came, call_left, value_came, step_came, body_came, begin_came, apply, resume}
+use Rattle.c_evaluate.specs.inner.Machine.{FrameT, FirstW, SecondW, ArgumentW, BackW, ValueW, StepW, BodyW, BeginW, RestW, ArmsW, EndW, SwitchW, OneW, ItemsW, VarsW, FilledW, MainW, Res, V, D, W, val, done, went, with_first, with_second, behind, types_left, with_argument, call_left, outcome_value, with_step, with_body, with_begin, apply, resume}
 
 module _ (s : Setting) (e : End) (w : World) where
   -- an outcome where the run is over
@@ -86,7 +86,7 @@ module _ (s : Setting) (e : End) (w : World) where
     binary_over OrElse x y span go = refl
     binary_over op x y span go = refl
 
-    first_over : (kind : TKindT) (ty : Ty) (span : Span) → first_came s n kind ty span (Stops e w) ≡ Stops e w
+    first_over : (kind : TKindT) (ty : Ty) (span : Span) → with_first s n kind ty span (Stops e w) ≡ Stops e w
     first_over (UnaryK op x) ty span = unary_over op x span
     first_over (BinaryK op x y) ty span = binary_over op x y span _
     first_over (AssignK op x y) ty span = refl
@@ -107,12 +107,12 @@ module _ (s : Setting) (e : End) (w : World) where
     first_over HaltK ty span = refl
     first_over CardK ty span = refl
 
-    operand_over : (op : BinOp) (x y : TExprT) (ty : Ty) (span : Span) (c : Cell) → second_came s n (BinaryK op x y) ty span c (Stops e w) ≡ Stops e w
+    operand_over : (op : BinOp) (x y : TExprT) (ty : Ty) (span : Span) (c : Cell) → with_second s n (BinaryK op x y) ty span c (Stops e w) ≡ Stops e w
     operand_over AndAlso x y ty span c = refl
     operand_over OrElse x y ty span c = refl
     operand_over op x y ty span c = refl
 
-    second_over : (kind : TKindT) (ty : Ty) (span : Span) (c : Cell) → second_came s n kind ty span c (Stops e w) ≡ Stops e w
+    second_over : (kind : TKindT) (ty : Ty) (span : Span) (c : Cell) → with_second s n kind ty span c (Stops e w) ≡ Stops e w
     second_over (BinaryK op x y) ty span c = operand_over op x y ty span c
     second_over (AssignK None x y) ty span c = refl
     second_over (AssignK (Some op) x y) ty span c = refl
@@ -140,15 +140,15 @@ module _ (s : Setting) (e : End) (w : World) where
     abbrev calling : ℕ → Span → List Cell → World → Val
     calling f span us u = call s n (below s n) f us span u
 
-    types_over : (f : ℕ) (span : Span) (vs : List Cell) (x : TExprT) (xs : TExprTs) (tys : List Ty) → types_left s f vs ≡ tys → argument_came s n f span vs (MoreX x xs) (Stops e w) ≡ Stops e w
+    types_over : (f : ℕ) (span : Span) (vs : List Cell) (x : TExprT) (xs : TExprTs) (tys : List Ty) → types_left s f vs ≡ tys → with_argument s n f span vs (MoreX x xs) (Stops e w) ≡ Stops e w
     types_over f span vs x xs [] h = ap (λ l. then_values (behind vs (next_argument s n l x (Stops e w) (more xs))) (calling f span)) h
     types_over f span vs x xs (ty ∷ tys) h = ap (λ l. then_values (behind vs (next_argument s n l x (Stops e w) (more xs))) (calling f span)) h
 
-    argument_over : (f : ℕ) (span : Span) (vs : List Cell) (xs : TExprTs) → argument_came s n f span vs xs (Stops e w) ≡ Stops e w
+    argument_over : (f : ℕ) (span : Span) (vs : List Cell) (xs : TExprTs) → with_argument s n f span vs xs (Stops e w) ≡ Stops e w
     argument_over f span vs NoX = refl
     argument_over f span vs (MoreX x xs) = types_over f span vs x xs (types_left s f vs) refl
 
-    value_over : (r : Cell) (a : TStmtT) → value_came s n r a (Stops e w) ≡ Ended e w
+    value_over : (r : Cell) (a : TStmtT) → outcome_value s n r a (Stops e w) ≡ Ended e w
     value_over r (DoZ x) = refl
     value_over r (IfZ x a b) = refl
     value_over r (WhileZ x a) = refl
@@ -164,7 +164,7 @@ module _ (s : Setting) (e : End) (w : World) where
     value_over r BreakZ = refl
     value_over r ContinueZ = refl
 
-    step_over : (r : Cell) (a : TStmtT) → step_came s n r a (Stops e w) ≡ Ended e w
+    step_over : (r : Cell) (a : TStmtT) → with_step s n r a (Stops e w) ≡ Ended e w
     step_over r (ForZ made first test (Some y) a) = refl
     step_over r (ForZ made first test None a) = refl
     step_over r (DoZ x) = refl
@@ -179,7 +179,7 @@ module _ (s : Setting) (e : End) (w : World) where
     step_over r BreakZ = refl
     step_over r ContinueZ = refl
 
-    body_over : (r : Cell) (a : TStmtT) → body_came s n r a (Ended e w) ≡ Ended e w
+    body_over : (r : Cell) (a : TStmtT) → with_body s n r a (Ended e w) ≡ Ended e w
     body_over r (ForZ made first test step a) = refl
     body_over r (DoZ x) = refl
     body_over r (IfZ x a b) = refl
@@ -193,7 +193,7 @@ module _ (s : Setting) (e : End) (w : World) where
     body_over r BreakZ = refl
     body_over r ContinueZ = refl
 
-    begin_over : (r : Cell) (a : TStmtT) → begin_came s n r a (Ended e w) ≡ Ended e w
+    begin_over : (r : Cell) (a : TStmtT) → with_begin s n r a (Ended e w) ≡ Ended e w
     begin_over r (ForZ made first test step a) = refl
     begin_over r (DoZ x) = refl
     begin_over r (IfZ x a b) = refl
@@ -208,14 +208,14 @@ module _ (s : Setting) (e : End) (w : World) where
     begin_over r ContinueZ = refl
 
   apply_over : (f : FrameT) (x : Res) → IsOver x → apply s f x ≡ given f
-  apply_over (FirstW n (Typed kind ty span)) x o = ap (λ v. V (first_came s n kind ty span v)) o.as_val ∙ ap V (first_over n kind ty span)
-  apply_over (SecondW n (Typed kind ty span) c) x o = ap (λ v. V (second_came s n kind ty span c v)) o.as_val ∙ ap V (second_over n kind ty span c)
-  apply_over (ArgumentW n f span vs xs) x o = ap (λ v. V (argument_came s n f span vs xs v)) o.as_val ∙ ap V (argument_over n f span vs xs)
+  apply_over (FirstW n (Typed kind ty span)) x o = ap (λ v. V (with_first s n kind ty span v)) o.as_val ∙ ap V (first_over n kind ty span)
+  apply_over (SecondW n (Typed kind ty span) c) x o = ap (λ v. V (with_second s n kind ty span c v)) o.as_val ∙ ap V (second_over n kind ty span c)
+  apply_over (ArgumentW n f span vs xs) x o = ap (λ v. V (with_argument s n f span vs xs v)) o.as_val ∙ ap V (argument_over n f span vs xs)
   apply_over (BackW f vs r span c) x o = ap (λ z. V (call_left (params_of (slice_get s.functions f)) vs r span c z)) o.as_done
-  apply_over (ValueW n r a) x o = ap (λ v. D (value_came s n r a v)) o.as_val ∙ ap D (value_over n r a)
-  apply_over (StepW n r a) x o = ap (λ v. D (step_came s n r a v)) o.as_val ∙ ap D (step_over n r a)
-  apply_over (BodyW n r a) x o = ap (λ v. D (body_came s n r a v)) o.as_done ∙ ap D (body_over n r a)
-  apply_over (BeginW n r a) x o = ap (λ v. D (begin_came s n r a v)) o.as_done ∙ ap D (begin_over n r a)
+  apply_over (ValueW n r a) x o = ap (λ v. D (outcome_value s n r a v)) o.as_val ∙ ap D (value_over n r a)
+  apply_over (StepW n r a) x o = ap (λ v. D (with_step s n r a v)) o.as_val ∙ ap D (step_over n r a)
+  apply_over (BodyW n r a) x o = ap (λ v. D (with_body s n r a v)) o.as_done ∙ ap D (body_over n r a)
+  apply_over (BeginW n r a) x o = ap (λ v. D (with_begin s n r a v)) o.as_done ∙ ap D (begin_over n r a)
   apply_over (RestW n r rest) x o = ap (λ z. apply s (RestW n r rest) (D z)) o.as_done
   apply_over (ArmsW n r rest) x o = ap (λ z. apply s (ArmsW n r rest) (D z)) o.as_done
   apply_over (EndW made) x o = ap (λ z. apply s (EndW made) (D z)) o.as_done

@@ -18,11 +18,11 @@ use Rattle.c_meaning.specs.Cells.{fetched, released}
 use Rattle.c_meaning.specs.Expressions.{with_value, tested, dropped_value, dropped}
 use Rattle.c_meaning.specs.Runs.{Final, final}
 use Rattle.c_meaning.proofs.Past.{final_past}
-use Rattle.c_evaluate.specs.declared.frame.Came.{Came}
-use Rattle.c_evaluate.specs.declared.frame.Came.TheVariants.{Value, Place, Nothing}
+use Rattle.c_evaluate.specs.declared.frame.Outcome.{Outcome}
+use Rattle.c_evaluate.specs.declared.frame.Outcome.TheVariants.{Value, Place, Nothing}
 use Rattle.c_evaluate.specs.Evaluation.{left_of}
 use Rattle.c_evaluate.specs.inner.Storing.{Kept, With, at_span, then_ok, fetched_in, taken, tested_in, dropped_in, placed_in}
-use Rattle.c_evaluate.specs.inner.Machine.{FocusT, EvalF, FillF, DoF, CameF, MadeF, LeftF, FullF, FrameT, FirstW, SecondW, ArgumentW, BackW, ValueW, StepW, BodyW, BeginW, RestW, ArmsW, EndW, SwitchW, OneW, ItemsW, VarsW, FilledW, MainW, Config, Going, Over, V, D, W, resume, val_at, result_of, whole, run_left, work_left}
+use Rattle.c_evaluate.specs.inner.Machine.{FocusT, EvalF, FillF, DoF, OutcomeF, MadeF, ExitF, FullF, FrameT, FirstW, SecondW, ArgumentW, BackW, ValueW, StepW, BodyW, BeginW, RestW, ArmsW, EndW, SwitchW, OneW, ItemsW, VarsW, FilledW, MainW, Config, Going, Over, V, D, W, resume, val_at, result_of, whole, run_left, work_left}
 use Rattle.c_evaluate.specs.inner.Steps.{on, either_of}
 use Rattle.c_evaluate.proofs.Before.{resume_past, result_past}
 use Rattle.c_evaluate.proofs.Ending.{val_ends, done_ends, went_ends}
@@ -34,9 +34,9 @@ abbrev pub busy : FocusT → ℕ
 busy (EvalF n x) = 0
 busy (FillF n i ty p) = 0
 busy (DoF n r a) = 0
-busy (CameF v) = 1
+busy (OutcomeF v) = 1
 busy (MadeF e v) = 1
-busy (LeftF h) = 1
+busy (ExitF h) = 1
 busy FullF = 1
 
 -- the weight of a frame: more than the frames that are put in its place
@@ -132,7 +132,7 @@ module _ (s : Setting) {R : Type 0} (way : Way R) (run : Final) (room : ℕ) whe
   held_later low span r (Err end) go next x e h f = over_later x.0 end x.1 (e ∙ ap (λ z. way.rest (then_value way.stop span z go)) x.3) (more_room low x.0 x.2 h)
 
   -- what came, as a value
-  pub taken_later : (n d : ℕ) (x : TExprT) (v : Came) (u : Store) (go : Cell → World → R) (next : (Cell × Store) → Config) → run ≡ way.rest (with_value way.stop s n x (val_at v (spent d u)) go) → 0 < 9 * d + room → ((e : ℕ) (c : Cell) (t : Store) → d ≤ e → run ≡ way.rest (go c (spent e t)) → Later s run room (next (c, t))) → Later s run room (on (taken s n x v u) next)
+  pub taken_later : (n d : ℕ) (x : TExprT) (v : Outcome) (u : Store) (go : Cell → World → R) (next : (Cell × Store) → Config) → run ≡ way.rest (with_value way.stop s n x (val_at v (spent d u)) go) → 0 < 9 * d + room → ((e : ℕ) (c : Cell) (t : Store) → d ≤ e → run ≡ way.rest (go c (spent e t)) → Later s run room (next (c, t))) → Later s run room (on (taken s n x v u) next)
   taken_later n d x (Value c) u go next e h f = f d c u (omega arith) e
   taken_later n d x (Place p) u go next e h f = held_later d (span_of x) (fetched s n (type_of x) (span_of x) p (spent d u)) (fetched_in s n (type_of x) (span_of x) p u) go next (fetched_held s n d (type_of x) (span_of x) p d u (omega arith)) e h f
   taken_later n d x Nothing u go next e h f = over_later d (Stray (span_of x)) u e h
@@ -151,7 +151,7 @@ module _ (s : Setting) {R : Type 0} (way : Way R) (run : Final) (room : ℕ) whe
   told_later false t w go other next e f g = g e
 
   -- what came, as a condition
-  pub tested_later : (n d : ℕ) (x : TExprT) (v : Came) (u : Store) (go other : World → R) (next : (Bool × Store) → Config) → run ≡ way.rest (tested way.stop s n x (val_at v (spent d u)) go other) → 0 < 9 * d + room → ((e : ℕ) (t : Store) → d ≤ e → run ≡ way.rest (go (spent e t)) → Later s run room (next (true, t))) → ((e : ℕ) (t : Store) → d ≤ e → run ≡ way.rest (other (spent e t)) → Later s run room (next (false, t))) → Later s run room (on (tested_in s n x v u) next)
+  pub tested_later : (n d : ℕ) (x : TExprT) (v : Outcome) (u : Store) (go other : World → R) (next : (Bool × Store) → Config) → run ≡ way.rest (tested way.stop s n x (val_at v (spent d u)) go other) → 0 < 9 * d + room → ((e : ℕ) (t : Store) → d ≤ e → run ≡ way.rest (go (spent e t)) → Later s run room (next (true, t))) → ((e : ℕ) (t : Store) → d ≤ e → run ≡ way.rest (other (spent e t)) → Later s run room (next (false, t))) → Later s run room (on (tested_in s n x v u) next)
   tested_later n d x v u go other next e h f g =
       on_then (taken s n x v u) _ next
       (taken_later n d x v u _ _ e h (λ z c t le q.
@@ -165,13 +165,13 @@ module _ (s : Setting) {R : Type 0} (way : Way R) (run : Final) (room : ℕ) whe
   dropped_held low x r (Err end) go next y e h f = over_later y.0 end y.1 (e ∙ ap (λ z. way.rest (dropped_value way.stop x z go)) y.3) (more_room low y.0 y.2 h)
 
   -- what came, dropped
-  pub dropped_later : (n d : ℕ) (x : TExprT) (v : Came) (u : Store) (go : World → R) (next : Store → Config) → run ≡ way.rest (dropped way.stop s n x (val_at v (spent d u)) go) → 0 < 9 * d + room → ((e : ℕ) (t : Store) → d ≤ e → run ≡ way.rest (go (spent e t)) → Later s run room (next t)) → Later s run room (on (dropped_in s n x v u) next)
+  pub dropped_later : (n d : ℕ) (x : TExprT) (v : Outcome) (u : Store) (go : World → R) (next : Store → Config) → run ≡ way.rest (dropped way.stop s n x (val_at v (spent d u)) go) → 0 < 9 * d + room → ((e : ℕ) (t : Store) → d ≤ e → run ≡ way.rest (go (spent e t)) → Later s run room (next t)) → Later s run room (on (dropped_in s n x v u) next)
   dropped_later n d x (Value c) u go next e h f = f d (released (type_of x) c u) (omega arith) e
   dropped_later n d x (Place p) u go next e h f = on_then (fetched_in s n (type_of x) (span_of x) p u) _ next (dropped_held d x (fetched s n (type_of x) (span_of x) p (spent d u)) (fetched_in s n (type_of x) (span_of x) p u) go next (fetched_held s n d (type_of x) (span_of x) p d u (omega arith)) e h f)
   dropped_later n d x Nothing u go next e h f = f d u (omega arith) e
 
 -- what came, as a place
-pub placed_later : (s : Setting) (k : List FrameT) (run : Final) (room d : ℕ) (span : Span) (v : Came) (u : Store) (go : Cell → World → Val) (next : Cell → Config) → run ≡ resume s k (V (then_place span (val_at v (spent d u)) go)) → 0 < 9 * d + room → ((p : Cell) → run ≡ resume s k (V (go p (spent d u))) → Later s run room (next p)) → Later s run room (on (placed_in span v) next)
+pub placed_later : (s : Setting) (k : List FrameT) (run : Final) (room d : ℕ) (span : Span) (v : Outcome) (u : Store) (go : Cell → World → Val) (next : Cell → Config) → run ≡ resume s k (V (then_place span (val_at v (spent d u)) go)) → 0 < 9 * d + room → ((p : Cell) → run ≡ resume s k (V (go p (spent d u))) → Later s run room (next p)) → Later s run room (on (placed_in span v) next)
 placed_later s k run room d span (Value c) u go next e h f = over_later s (val_way s k) run room d (Stray span) u e h
 placed_later s k run room d span (Place p) u go next e h f = f p e
 placed_later s k run room d span Nothing u go next e h f = over_later s (val_way s k) run room d (Stray span) u e h

@@ -18,7 +18,7 @@ use Rattle.c_meaning.specs.Expressions.{call}
 use Rattle.c_meaning.specs.Statements.{does_all, below}
 use Rattle.c_meaning.specs.Runs.{main_done, main_called, inits_done}
 use Rattle.c_evaluate.specs.Evaluation.{left_of, run_of}
-use Rattle.c_evaluate.specs.inner.Machine.{FrameT, MainW, Config, Over, D, inits_came, resume, whole, run_left}
+use Rattle.c_evaluate.specs.inner.Machine.{FrameT, MainW, Config, Over, D, with_inits, resume, whole, run_left}
 use Rattle.c_evaluate.specs.inner.Steps.{rest_of}
 
 -- ---- the words of globals, cut at a limit
@@ -55,7 +55,7 @@ module _ (p : ProgramT) (frames : List ℕ) (n : ℕ) where
   abbrev frame : List FrameT
   frame = MainW n p.main ∷ []
 
-  main_each : (x : Done) → main_done (inits_came x (λ w. call (setting p frames) n (below (setting p frames) n) p.main [] nowhere (spend 1 w))) ≡ inits_done x (main_called p frames n)
+  main_each : (x : Done) → main_done (with_inits x (λ w. call (setting p frames) n (below (setting p frames) n) p.main [] nowhere (spend 1 w))) ≡ inits_done x (main_called p frames n)
   main_each (Goes w) = refl
   main_each (Breaks w) = refl
   main_each (Continues w) = refl

@@ -11,13 +11,13 @@ use Rattle.obj_mem.specs.declared.cell.Cell.{Cell}
 use Rattle.obj_mem.specs.Stores.{Store}
 use Rattle.c_meaning.specs.Kinds.{type_of}
 use Rattle.c_meaning.specs.Setting.{Setting}
-use Rattle.c_evaluate.specs.declared.frame.Came.{Came}
+use Rattle.c_evaluate.specs.declared.frame.Outcome.{Outcome}
 use Rattle.c_evaluate.specs.inner.Swift.{with_some, is_strict, strict_at_once, binary_at_once, index_at_once, comes, when, is_word, binary_worth, worth}
 
 pub type_is : (x : TExpr) → type_of (texpr x) ≡ ctype x.ty
 type_is x = search (rules, the_lemmas)
 
-module _ (s : Setting) (x y : TExprT) (ty : Ty) (span : Span) (u : Store) (v : Came) (o r : Option Came) where
+module _ (s : Setting) (x y : TExprT) (ty : Ty) (span : Span) (u : Store) (v : Outcome) (o r : Option Outcome) where
   index_below : (m : ℕ) → comes s m x u ≡ Some v → o ≡ comes s m y u → r ≡ with_some o (λ w. index_at_once s ty (type_of x) (type_of y) v w u) → r ≡ comes s (suc m) (Typed (IndexK x y) ty span) u
   unfolding comes
   index_below m f g h = h ∙ ap (λ q. with_some q (λ w. index_at_once s ty (type_of x) (type_of y) v w u)) g ∙ sym (ap (λ q. with_some q (λ v. with_some (comes s m y u) (λ w. index_at_once s ty (type_of x) (type_of y) v w u))) f)

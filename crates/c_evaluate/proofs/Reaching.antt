@@ -24,15 +24,15 @@ use Rattle.c_meaning.specs.Outcomes.{nowhere}
 use Rattle.c_meaning.specs.Setting.{Setting, words, words as type_words, result_of}
 use Rattle.c_meaning.specs.Cells.{released}
 use Rattle.c_meaning.specs.Expressions.{params_of, all_released}
-use Rattle.c_evaluate.specs.declared.frame.Came.{Came}
-use Rattle.c_evaluate.specs.declared.frame.Came.TheVariants.{Value, Place, Nothing}
+use Rattle.c_evaluate.specs.declared.frame.Outcome.{Outcome}
+use Rattle.c_evaluate.specs.declared.frame.Outcome.TheVariants.{Value, Place, Nothing}
 use Rattle.c_evaluate.specs.declared.frame.How.{How}
 use Rattle.c_evaluate.specs.declared.frame.How.TheVariants.{On, Break, Continue, Return}
 use Rattle.c_evaluate.specs.inner.Storing.{With, at_span, then_ok, cells_in, params_in, returned_in, taken, tested_in, placed_in, operated_in, stepped_in, second_assigned_in}
-use Rattle.c_evaluate.specs.inner.Machine.{FocusT, EvalF, FillF, DoF, CameF, MadeF, LeftF, FullF, FrameT, FirstW, SecondW, ArgumentW, BackW, ValueW, StepW, BodyW, BeginW, RestW, ArmsW, EndW, SwitchW, OneW, ItemsW, VarsW, FilledW, MainW, Config, Going, caller_of, back_in}
-use Rattle.c_evaluate.specs.inner.Steps.{on, came, value, left, args_of, argument_in, argument_step, value_here, place_here, either_of, eval, first_step, second_step, unary_first, member_first, binary_second, combined, second_of, second_of_node, binary_of, exec, value_step, again, after_body, body_step, give, leave, step, rest_of, in_room, body_of, enter, call_of, call, return_of}
+use Rattle.c_evaluate.specs.inner.Machine.{FocusT, EvalF, FillF, DoF, OutcomeF, MadeF, ExitF, FullF, FrameT, FirstW, SecondW, ArgumentW, BackW, ValueW, StepW, BodyW, BeginW, RestW, ArmsW, EndW, SwitchW, OneW, ItemsW, VarsW, FilledW, MainW, Config, Going, caller_of, back_in}
+use Rattle.c_evaluate.specs.inner.Steps.{on, outcome, value, left, args_of, argument_in, argument_step, value_here, place_here, either_of, eval, first_step, second_step, unary_first, member_first, binary_second, combined, second_of, second_of_node, binary_of, exec, value_step, again, after_body, body_step, take_outcome, take_exit, step, rest_of, in_room, body_of, enter, call_of, call, return_of}
 use Rattle.c_evaluate.specs.inner.Turning.{Works}
-use Rattle.c_evaluate.specs.inner.Swift.{unary_worth, binary_worth, when, is_word, word_held, word_at, worth, are_words, returned_by, quick_of, quick, passed, word_or, call_on, asks_on, assigns_on, steps_on, does_on, exec_on, took, args_on, argument_on, with_some, answered, seen, value_at_once, place_at_once, unary_at_once, is_strict, strict_at_once, binary_at_once, index_at_once, member_at_once, arrow_at_once, cast_at_once, comes, depth_at_once, at_once, local_at_once, handed, second_on, binary_on, first_on, first_of_on, operand_on, eval_on, give_on, again_on, body_on, leave_on, step_on}
+use Rattle.c_evaluate.specs.inner.Swift.{unary_worth, binary_worth, when, is_word, word_held, word_at, worth, are_words, returned_by, quick_of, quick, passed, word_or, call_on, asks_on, assigns_on, steps_on, does_on, exec_on, took, args_on, argument_on, with_some, answered, seen, value_at_once, place_at_once, unary_at_once, is_strict, strict_at_once, binary_at_once, index_at_once, member_at_once, arrow_at_once, cast_at_once, comes, depth_at_once, at_once, local_at_once, handed, second_on, binary_on, first_on, first_of_on, operand_on, eval_on, take_outcome_on, again_on, body_on, take_exit_on, step_on}
 use Rattle.c_evaluate.proofs.Passing.{laid, counted, others, held, no_structure, all_params, all_made, param_held, passed_back, words_released}
 
 -- so many steps lead from one configuration to the other
@@ -42,19 +42,19 @@ pub data Reaches (s : Setting) : Config → Config → Type 0 where
 
 -- ---- what was there
 
-came_in : Option Came → Came
-came_in None = Nothing
-came_in (Some v) = v
+outcome_in : Option Outcome → Outcome
+outcome_in None = Nothing
+outcome_in (Some v) = v
 
-came_same : (w v : Came) → Some w ≡ Some v → w ≡ v
-unfolding came_in
-came_same w v e = ap came_in e
+outcome_same : (w v : Outcome) → Some w ≡ Some v → w ≡ v
+unfolding outcome_in
+outcome_same w v e = ap outcome_in e
 
 some_of : {A B P : Type 0} (o : Option A) (go : A → Option B) (z : B) → with_some o go ≡ Some z → ((x : A) → o ≡ Some x → go x ≡ Some z → P) → P
 some_of None go z e h = absurd cc
 some_of (Some x) go z e h = h x refl e
 
-strict_of : {P : Type 0} (b : Bool) (o : Option Came) (v : Came) → strict_at_once b o ≡ Some v → (b ≡ true → o ≡ Some v → P) → P
+strict_of : {P : Type 0} (b : Bool) (o : Option Outcome) (v : Outcome) → strict_at_once b o ≡ Some v → (b ≡ true → o ≡ Some v → P) → P
 strict_of true o v e h = h refl e
 strict_of false o v e h = absurd cc
 
@@ -67,7 +67,7 @@ scalar_seen span (Ok z) c u e = cc
 scalar_seen span (Err why) c u e = absurd cc
 
 -- what is seen is what is taken, and the store stays
-seen_taken : (s : Setting) (n : ℕ) (x : TExprT) (v : Came) (u : Store) (c : Cell) → seen (type_of x) v u ≡ Some c → taken s n x v u ≡ Ok (c, u)
+seen_taken : (s : Setting) (n : ℕ) (x : TExprT) (v : Outcome) (u : Store) (c : Cell) → seen (type_of x) v u ≡ Some c → taken s n x v u ≡ Ok (c, u)
 unfolding seen
 seen_taken s n (Typed kind ty span) (Value z) u c e = cc
 seen_taken s n (Typed kind VoidY span) (Place p) u c e = absurd cc
@@ -83,38 +83,38 @@ seen_taken s n (Typed kind ty span) Nothing u c e = absurd cc
 module _ (s : Setting) where
   -- ---- what comes at once is reached
 
-  came_handed : (w v : Came) → Some w ≡ Some v → (f : FrameT) (k : List FrameT) (u : Store) (to : Config) → Reaches s (give s f v k u) to → Reaches s (Going (CameF w) (f ∷ k) u) to
+  outcome_handed : (w v : Outcome) → Some w ≡ Some v → (f : FrameT) (k : List FrameT) (u : Store) (to : Config) → Reaches s (take_outcome s f v k u) to → Reaches s (Going (OutcomeF w) (f ∷ k) u) to
   unfolding step
-  came_handed w v e f k u to r = further _ _ _ _ tt (subst (λ x. Reaches s (give s f x k u) to) (sym (came_same w v e)) r)
+  outcome_handed w v e f k u to r = further _ _ _ _ tt (subst (λ x. Reaches s (take_outcome s f x k u) to) (sym (outcome_same w v e)) r)
 
-  value_given : (span : Span) (c : Answer Cell) (v : Came) → value_at_once c ≡ Some v → (f : FrameT) (k : List FrameT) (u : Store) (to : Config) → Reaches s (give s f v k u) to → Reaches s (value_here (at_span span c) (f ∷ k) u) to
-  value_given span (Ok z) v e f k u to r = came_handed (Value z) v e f k u to r
+  value_given : (span : Span) (c : Answer Cell) (v : Outcome) → value_at_once c ≡ Some v → (f : FrameT) (k : List FrameT) (u : Store) (to : Config) → Reaches s (take_outcome s f v k u) to → Reaches s (value_here (at_span span c) (f ∷ k) u) to
+  value_given span (Ok z) v e f k u to r = outcome_handed (Value z) v e f k u to r
   value_given span (Err why) v e f k u to r = absurd cc
 
-  place_given : (span : Span) (c : Answer Cell) (v : Came) → place_at_once c ≡ Some v → (f : FrameT) (k : List FrameT) (u : Store) (to : Config) → Reaches s (give s f v k u) to → Reaches s (place_here (at_span span c) (f ∷ k) u) to
-  place_given span (Ok z) v e f k u to r = came_handed (Place z) v e f k u to r
+  place_given : (span : Span) (c : Answer Cell) (v : Outcome) → place_at_once c ≡ Some v → (f : FrameT) (k : List FrameT) (u : Store) (to : Config) → Reaches s (take_outcome s f v k u) to → Reaches s (place_here (at_span span c) (f ∷ k) u) to
+  place_given span (Ok z) v e f k u to r = outcome_handed (Place z) v e f k u to r
   place_given span (Err why) v e f k u to r = absurd cc
 
   on_seen : (t : With Cell) (c : Cell) (u : Store) → t ≡ Ok (c, u) → (go : Cell × Store → Config) (to : Config) → Reaches s (go (c, u)) to → Reaches s (on t go) to
   on_seen t c u e go to r = subst (λ x. Reaches s (on x go) to) (sym e) r
 
-  not_seen : (n : ℕ) (x : TExprT) (w : Came) (u : Store) (c : Cell) (b : Bool) → taken s n x w u ≡ Ok (c, u) → is_true u.objects (decayed (type_of x)) c ≡ Ok b → (k : List FrameT) (to : Config) → Reaches s (came (Value (truth (not b))) k u) to →
-      Reaches s (on (tested_in s n x w u) (λ t. came (Value (truth (not t.0))) k t.1)) to
-  not_seen n x w u c b e g k to r = subst (λ y. Reaches s (on {A = Bool × Store} (then_ok y (λ t. then_ok (at_span (span_of x) (is_true t.1.objects (decayed (type_of x)) t.0)) (λ b. Ok (b, t.1)))) (λ t. came (Value (truth (not t.0))) k t.1)) to) (sym e)
-      (subst (λ y. Reaches s (on {A = Bool × Store} (then_ok (at_span (span_of x) y) (λ b. Ok (b, u))) (λ t. came (Value (truth (not t.0))) k t.1)) to) (sym g) r)
+  not_seen : (n : ℕ) (x : TExprT) (w : Outcome) (u : Store) (c : Cell) (b : Bool) → taken s n x w u ≡ Ok (c, u) → is_true u.objects (decayed (type_of x)) c ≡ Ok b → (k : List FrameT) (to : Config) → Reaches s (outcome (Value (truth (not b))) k u) to →
+      Reaches s (on (tested_in s n x w u) (λ t. outcome (Value (truth (not t.0))) k t.1)) to
+  not_seen n x w u c b e g k to r = subst (λ y. Reaches s (on {A = Bool × Store} (then_ok y (λ t. then_ok (at_span (span_of x) (is_true t.1.objects (decayed (type_of x)) t.0)) (λ b. Ok (b, t.1)))) (λ t. outcome (Value (truth (not t.0))) k t.1)) to) (sym e)
+      (subst (λ y. Reaches s (on {A = Bool × Store} (then_ok (at_span (span_of x) y) (λ b. Ok (b, u))) (λ t. outcome (Value (truth (not t.0))) k t.1)) to) (sym g) r)
 
-  unary_given : (n : ℕ) (op : UnOp) (x : TExprT) (span : Span) (w v : Came) (u : Store) → unary_at_once op (type_of x) w u ≡ Some v → (f : FrameT) (k : List FrameT) (to : Config) → Reaches s (give s f v k u) to → Reaches s (unary_first s n op x span w (f ∷ k) u) to
+  unary_given : (n : ℕ) (op : UnOp) (x : TExprT) (span : Span) (w v : Outcome) (u : Store) → unary_at_once op (type_of x) w u ≡ Some v → (f : FrameT) (k : List FrameT) (to : Config) → Reaches s (take_outcome s f v k u) to → Reaches s (unary_first s n op x span w (f ∷ k) u) to
   unfolding unary_at_once
-  unary_given n un.Deref x span w v u e f k to r = some_of _ _ v e (λ c g h. on_seen _ c u (seen_taken s n x w u c g) (λ t. came (Place t.0) (f ∷ k) t.1) to (came_handed (Place c) v h f k u to r))
+  unary_given n un.Deref x span w v u e f k to r = some_of _ _ v e (λ c g h. on_seen _ c u (seen_taken s n x w u c g) (λ t. outcome (Place t.0) (f ∷ k) t.1) to (outcome_handed (Place c) v h f k u to r))
   unary_given n un.Address x span (Value c) v u e f k to r = absurd cc
-  unary_given n un.Address x span (Place p) v u e f k to r = came_handed (Value p) v e f k u to r
+  unary_given n un.Address x span (Place p) v u e f k to r = outcome_handed (Value p) v e f k u to r
   unary_given n un.Address x span Nothing v u e f k to r = absurd cc
-  unary_given n un.Not x span w v u e f k to r = some_of _ _ v e (λ c g h. some_of _ _ v h (λ b a z. not_seen n x w u c b (seen_taken s n x w u c g) (answered_ok _ b a) (f ∷ k) to (came_handed (Value (truth (not b))) v z f k u to r)))
+  unary_given n un.Not x span w v u e f k to r = some_of _ _ v e (λ c g h. some_of _ _ v h (λ b a z. not_seen n x w u c b (seen_taken s n x w u c g) (answered_ok _ b a) (f ∷ k) to (outcome_handed (Value (truth (not b))) v z f k u to r)))
   unary_given n un.Minus x span w v u e f k to r = some_of _ _ v e (λ c g h. on_seen _ c u (seen_taken s n x w u c g) (λ t. value_here (at_span span (cell_unary un.Minus t.0)) (f ∷ k) t.1) to (value_given span _ v h f k u to r))
   unary_given n un.Plus x span w v u e f k to r = some_of _ _ v e (λ c g h. on_seen _ c u (seen_taken s n x w u c g) (λ t. value_here (at_span span (cell_unary un.Plus t.0)) (f ∷ k) t.1) to (value_given span _ v h f k u to r))
   unary_given n un.Flip x span w v u e f k to r = some_of _ _ v e (λ c g h. on_seen _ c u (seen_taken s n x w u c g) (λ t. value_here (at_span span (cell_unary un.Flip t.0)) (f ∷ k) t.1) to (value_given span _ v h f k u to r))
 
-  strict_first : (n : ℕ) (op : BinOp) (e x y : TExprT) (v : Came) (k : List FrameT) (u : Store) → is_strict op ≡ true → binary_of s n op e x y v k u ≡ on (taken s n x v u) (λ t. second_of_node n e y t.0 k t.1)
+  strict_first : (n : ℕ) (op : BinOp) (e x y : TExprT) (v : Outcome) (k : List FrameT) (u : Store) → is_strict op ≡ true → binary_of s n op e x y v k u ≡ on (taken s n x v u) (λ t. second_of_node n e y t.0 k t.1)
   strict_first n bin.AndAlso e x y v k u is = absurd cc
   strict_first n bin.OrElse e x y v k u is = absurd cc
   strict_first n bin.Mul e x y v k u is = refl
@@ -134,7 +134,7 @@ module _ (s : Setting) where
   strict_first n bin.BitXor e x y v k u is = refl
   strict_first n bin.BitOr e x y v k u is = refl
 
-  strict_second : (n : ℕ) (op : BinOp) (x y : TExprT) (span : Span) (c : Cell) (v : Came) (k : List FrameT) (u : Store) → is_strict op ≡ true → binary_second s n op x y span c v k u ≡ combined s n op x y span c v k u
+  strict_second : (n : ℕ) (op : BinOp) (x y : TExprT) (span : Span) (c : Cell) (v : Outcome) (k : List FrameT) (u : Store) → is_strict op ≡ true → binary_second s n op x y span c v k u ≡ combined s n op x y span c v k u
   strict_second n bin.AndAlso x y span c v k u is = absurd cc
   strict_second n bin.OrElse x y span c v k u is = absurd cc
   strict_second n bin.Mul x y span c v k u is = refl
@@ -154,25 +154,25 @@ module _ (s : Setting) where
   strict_second n bin.BitXor x y span c v k u is = refl
   strict_second n bin.BitOr x y span c v k u is = refl
 
-  combined_given : (n : ℕ) (op : BinOp) (x y : TExprT) (span : Span) (c d : Cell) (w v : Came) (u : Store) → seen (type_of y) w u ≡ Some d → value_at_once (operated s op (type_of x) (type_of y) u.objects c d) ≡ Some v → (f : FrameT) (k : List FrameT) (to : Config) → Reaches s (give s f v k u) to → Reaches s (combined s n op x y span c w (f ∷ k) u) to
+  combined_given : (n : ℕ) (op : BinOp) (x y : TExprT) (span : Span) (c d : Cell) (w v : Outcome) (u : Store) → seen (type_of y) w u ≡ Some d → value_at_once (operated s op (type_of x) (type_of y) u.objects c d) ≡ Some v → (f : FrameT) (k : List FrameT) (to : Config) → Reaches s (take_outcome s f v k u) to → Reaches s (combined s n op x y span c w (f ∷ k) u) to
   combined_given n op x y span c d w v u g h f k to r = on_seen _ d u (seen_taken s n y w u d g) (λ t. value_here (operated_in s op x y span c t.0 t.1) (f ∷ k) t.1) to (value_given span _ v h f k u to r)
 
-  member_given : (ty : Ty) (x : TExprT) (span : Span) (offset : ℕ) (w v : Came) (u : Store) → member_at_once offset w ≡ Some v → (f : FrameT) (k : List FrameT) (to : Config) → Reaches s (give s f v k u) to → Reaches s (member_first ty x span offset w (f ∷ k) u) to
+  member_given : (ty : Ty) (x : TExprT) (span : Span) (offset : ℕ) (w v : Outcome) (u : Store) → member_at_once offset w ≡ Some v → (f : FrameT) (k : List FrameT) (to : Config) → Reaches s (take_outcome s f v k u) to → Reaches s (member_first ty x span offset w (f ∷ k) u) to
   unfolding member_at_once
   member_given ty x span offset (Value c) v u e f k to r = absurd cc
   member_given ty x span offset (Place p) v u e f k to r = place_given span _ v e f k u to r
   member_given ty x span offset Nothing v u e f k to r = absurd cc
 
-  local_given : (o : Option ℕ) (span : Span) (v : Came) → local_at_once o ≡ Some v → (f : FrameT) (k : List FrameT) (u : Store) (to : Config) → Reaches s (give s f v k u) to → Reaches s (place_here (at_span span (first_cell o)) (f ∷ k) u) to
+  local_given : (o : Option ℕ) (span : Span) (v : Outcome) → local_at_once o ≡ Some v → (f : FrameT) (k : List FrameT) (u : Store) (to : Config) → Reaches s (take_outcome s f v k u) to → Reaches s (place_here (at_span span (first_cell o)) (f ∷ k) u) to
   local_given None span v e f k u to r = absurd cc
-  local_given (Some object) span v e f k u to r = came_handed (Place (Ptr object 0)) v e f k u to r
+  local_given (Some object) span v e f k u to r = outcome_handed (Place (Ptr object 0)) v e f k u to r
 
-  comes_reaches : (d : ℕ) (x : TExprT) (u : Store) (v : Came) → comes s d x u ≡ Some v → (n : ℕ) (f : FrameT) (k : List FrameT) (to : Config) → Reaches s (give s f v k u) to → Reaches s (Going (EvalF n x) (f ∷ k) u) to
-  unfolding step eval comes give first_step second_step binary_at_once index_at_once arrow_at_once cast_at_once
-  comes_reaches d (Typed (NumberK x) ty span) u v e n f k to r = further _ _ _ _ tt (came_handed _ v e f k u to r)
-  comes_reaches d (Typed NullK ty span) u v e n f k to r = further _ _ _ _ tt (came_handed _ v e f k u to r)
-  comes_reaches d (Typed (LiteralK number) ty span) u v e n f k to r = further _ _ _ _ tt (came_handed _ v e f k u to r)
-  comes_reaches d (Typed (GlobalK number) ty span) u v e n f k to r = further _ _ _ _ tt (came_handed _ v e f k u to r)
+  comes_reaches : (d : ℕ) (x : TExprT) (u : Store) (v : Outcome) → comes s d x u ≡ Some v → (n : ℕ) (f : FrameT) (k : List FrameT) (to : Config) → Reaches s (take_outcome s f v k u) to → Reaches s (Going (EvalF n x) (f ∷ k) u) to
+  unfolding step eval comes take_outcome first_step second_step binary_at_once index_at_once arrow_at_once cast_at_once
+  comes_reaches d (Typed (NumberK x) ty span) u v e n f k to r = further _ _ _ _ tt (outcome_handed _ v e f k u to r)
+  comes_reaches d (Typed NullK ty span) u v e n f k to r = further _ _ _ _ tt (outcome_handed _ v e f k u to r)
+  comes_reaches d (Typed (LiteralK number) ty span) u v e n f k to r = further _ _ _ _ tt (outcome_handed _ v e f k u to r)
+  comes_reaches d (Typed (GlobalK number) ty span) u v e n f k to r = further _ _ _ _ tt (outcome_handed _ v e f k u to r)
   comes_reaches d (Typed (LocalK number) ty span) u v e n f k to r = further _ _ _ _ tt (local_given (local_object u.locals number) span v e f k u to r)
   comes_reaches (suc d) (Typed (UnaryK op a) ty span) u v e n f k to r =
       some_of _ _ v e (λ w g h. further _ _ _ _ tt (comes_reaches d a u w g n (FirstW n (Typed (UnaryK op a) ty span)) (f ∷ k) to (unary_given n op a span w v u h f k to r)))
@@ -212,21 +212,21 @@ module _ (s : Setting) where
   comes_reaches d (Typed HaltK ty span) u v e n f k to r = absurd cc
   comes_reaches d (Typed CardK ty span) u v e n f k to r = absurd cc
 
-  at_once_reaches : (x : TExprT) (u : Store) (v : Came) → at_once s x u ≡ Some v → (n : ℕ) (f : FrameT) (k : List FrameT) (to : Config) → Reaches s (give s f v k u) to → Reaches s (Going (EvalF n x) (f ∷ k) u) to
+  at_once_reaches : (x : TExprT) (u : Store) (v : Outcome) → at_once s x u ≡ Some v → (n : ℕ) (f : FrameT) (k : List FrameT) (to : Config) → Reaches s (take_outcome s f v k u) to → Reaches s (Going (EvalF n x) (f ∷ k) u) to
   unfolding at_once
   at_once_reaches x u v e n f k to r = comes_reaches depth_at_once x u v e n f k to r
 
   -- what an operand comes to at once is handed to its frame
-  handed_reaches : (n : ℕ) (x : TExprT) (f : FrameT) (k : List FrameT) (u : Store) (go : Came → Config) → ((v : Came) → Reaches s (give s f v k u) (go v)) →
+  handed_reaches : (n : ℕ) (x : TExprT) (f : FrameT) (k : List FrameT) (u : Store) (go : Outcome → Config) → ((v : Outcome) → Reaches s (take_outcome s f v k u) (go v)) →
       Reaches s (Going (EvalF n x) (f ∷ k) u) (handed (at_once s x u) (Going (EvalF n x) (f ∷ k) u) go)
   handed_reaches n x f k u go h = by (at_once s x u) refl
     where
-      by : (o : Option Came) → at_once s x u ≡ o → Reaches s (Going (EvalF n x) (f ∷ k) u) (handed o (Going (EvalF n x) (f ∷ k) u) go)
+      by : (o : Option Outcome) → at_once s x u ≡ o → Reaches s (Going (EvalF n x) (f ∷ k) u) (handed o (Going (EvalF n x) (f ∷ k) u) go)
       by None e = here _
       by (Some v) e = at_once_reaches x u v e n f k (go v) (h v)
 
   second_reaches : (n : ℕ) (e y : TExprT) (c : Cell) (k : List FrameT) (u : Store) → Reaches s (Going (EvalF n y) (SecondW n e c ∷ k) u) (second_on s n e y c k u)
-  unfolding give
+  unfolding take_outcome
   second_reaches n e y c k u = handed_reaches n y (SecondW n e c) k u (λ v. second_of s n e c v k u) (λ v. here _)
 
   on_reaches : {A : Type 0} (r : Result A End) (go to : A → Config) → ((x : A) → Reaches s (go x) (to x)) → Reaches s (on r go) (on r to)
@@ -237,14 +237,14 @@ module _ (s : Setting) where
   either_reaches true x x' y y' h i = h
   either_reaches false x x' y y' h i = i
 
-  plain_reaches : (n : ℕ) (e x y : TExprT) (v : Came) (k : List FrameT) (u : Store) → Reaches s (on (taken s n x v u) (λ t. second_of_node n e y t.0 k t.1)) (on (taken s n x v u) (λ t. second_on s n e y t.0 k t.1))
+  plain_reaches : (n : ℕ) (e x y : TExprT) (v : Outcome) (k : List FrameT) (u : Store) → Reaches s (on (taken s n x v u) (λ t. second_of_node n e y t.0 k t.1)) (on (taken s n x v u) (λ t. second_on s n e y t.0 k t.1))
   plain_reaches n e x y v k u = on_reaches (taken s n x v u) (λ t. second_of_node n e y t.0 k t.1) (λ t. second_on s n e y t.0 k t.1) (λ t. second_reaches n e y t.0 k t.1)
 
-  binary_reaches : (n : ℕ) (op : BinOp) (e x y : TExprT) (v : Came) (k : List FrameT) (u : Store) → Reaches s (binary_of s n op e x y v k u) (binary_on s n op e x y v k u)
+  binary_reaches : (n : ℕ) (op : BinOp) (e x y : TExprT) (v : Outcome) (k : List FrameT) (u : Store) → Reaches s (binary_of s n op e x y v k u) (binary_on s n op e x y v k u)
   binary_reaches n bin.AndAlso e x y v k u =
-      on_reaches (tested_in s n x v u) (λ t. either_of t.0 (second_of_node n e y Unwritten k t.1) (came (Value (truth false)) k t.1)) (λ t. either_of t.0 (second_on s n e y Unwritten k t.1) (came (Value (truth false)) k t.1)) (λ t. either_reaches t.0 _ _ _ _ (second_reaches n e y Unwritten k t.1) (here _))
+      on_reaches (tested_in s n x v u) (λ t. either_of t.0 (second_of_node n e y Unwritten k t.1) (outcome (Value (truth false)) k t.1)) (λ t. either_of t.0 (second_on s n e y Unwritten k t.1) (outcome (Value (truth false)) k t.1)) (λ t. either_reaches t.0 _ _ _ _ (second_reaches n e y Unwritten k t.1) (here _))
   binary_reaches n bin.OrElse e x y v k u =
-      on_reaches (tested_in s n x v u) (λ t. either_of t.0 (came (Value (truth true)) k t.1) (second_of_node n e y Unwritten k t.1)) (λ t. either_of t.0 (came (Value (truth true)) k t.1) (second_on s n e y Unwritten k t.1)) (λ t. either_reaches t.0 _ _ _ _ (here _) (second_reaches n e y Unwritten k t.1))
+      on_reaches (tested_in s n x v u) (λ t. either_of t.0 (outcome (Value (truth true)) k t.1) (second_of_node n e y Unwritten k t.1)) (λ t. either_of t.0 (outcome (Value (truth true)) k t.1) (second_on s n e y Unwritten k t.1)) (λ t. either_reaches t.0 _ _ _ _ (here _) (second_reaches n e y Unwritten k t.1))
   binary_reaches n bin.Mul e x y v k u = plain_reaches n e x y v k u
   binary_reaches n bin.Div e x y v k u = plain_reaches n e x y v k u
   binary_reaches n bin.Mod e x y v k u = plain_reaches n e x y v k u
@@ -262,8 +262,8 @@ module _ (s : Setting) where
   binary_reaches n bin.BitXor e x y v k u = plain_reaches n e x y v k u
   binary_reaches n bin.BitOr e x y v k u = plain_reaches n e x y v k u
 
-  first_reaches : (n : ℕ) (e : TExprT) (v : Came) (k : List FrameT) (u : Store) → Reaches s (give s (FirstW n e) v k u) (first_of_on s n e v k u)
-  unfolding give first_step first_on
+  first_reaches : (n : ℕ) (e : TExprT) (v : Outcome) (k : List FrameT) (u : Store) → Reaches s (take_outcome s (FirstW n e) v k u) (first_of_on s n e v k u)
+  unfolding take_outcome first_step first_on
   first_reaches n (Typed (BinaryK op x y) ty span) v k u = binary_reaches n op (Typed (BinaryK op x y) ty span) x y v k u
   first_reaches n (Typed (AssignK op x y) ty span) v k u = on_reaches (placed_in span v) (λ p. Going (EvalF n y) (SecondW n (Typed (AssignK op x y) ty span) p ∷ k) u) (λ p. second_on s n (Typed (AssignK op x y) ty span) y p k u) (λ p. second_reaches n (Typed (AssignK op x y) ty span) y p k u)
   first_reaches n (Typed (IndexK x y) ty span) v k u = plain_reaches n (Typed (IndexK x y) ty span) x y v k u
@@ -312,14 +312,14 @@ module _ (s : Setting) where
   word_seen (PointerY to) o a t w e = absurd cc
   word_seen (ArrayY of len) o a t w e = absurd cc
 
-  came_word : (a b : ℕ) → Some a ≡ Some b → a ≡ b
-  came_word a b e = cc
+  outcome_word : (a b : ℕ) → Some a ≡ Some b → a ≡ b
+  outcome_word a b e = cc
 
   word_made : (r : Answer ℕ) (z : ℕ) → answered r ≡ Some z → value_at_once (then_ask r (λ z. Ok (Num z))) ≡ Some (Value (Num z))
   word_made (Ok y) z e = cc
   word_made (Err why) z e = absurd cc
 
-  unary_word : (op : UnOp) (a : ℕ) (x : TExprT) (w : Came) (z : ℕ) (t : Store) → seen (type_of x) w t ≡ Some (Num a) → answered (word_unary op a) ≡ Some z → unary_at_once op (type_of x) w t ≡ Some (Value (Num z))
+  unary_word : (op : UnOp) (a : ℕ) (x : TExprT) (w : Outcome) (z : ℕ) (t : Store) → seen (type_of x) w t ≡ Some (Num a) → answered (word_unary op a) ≡ Some z → unary_at_once op (type_of x) w t ≡ Some (Value (Num z))
   unfolding unary_at_once
   unary_word un.Deref a x w z t g e = absurd cc
   unary_word un.Address a x w z t g e = absurd cc
@@ -351,9 +351,9 @@ module _ (s : Setting) where
   unfoldable Holds : List Cell → Store → Type 0
   Holds vs t = (j a : ℕ) → slice_get vs j ≡ Some (Num a) → (o : ℕ) × ((local_object t.locals j ≡ Some o) × (cell_read t.objects o 0 ≡ Ok (Num a)))
 
-  worth_reaches : (d : ℕ) (vs : List Cell) (x : TExprT) (a : ℕ) (t : Store) → Holds vs t → worth d vs x ≡ Some a → (n : ℕ) (f : FrameT) (k : List FrameT) (to : Config) → ((v : Came) → seen (type_of x) v t ≡ Some (Num a) → Reaches s (give s f v k t) to) → Reaches s (Going (EvalF n x) (f ∷ k) t) to
-  unfolding step eval worth unary_worth binary_worth give first_step second_step seen Holds
-  worth_reaches d vs (Typed (NumberK x) ty span) a t h e n f k to r = further _ _ _ _ tt (further _ _ _ _ tt (r (Value (Num x)) (ap (λ y. Some (Num y)) (came_word x a e))))
+  worth_reaches : (d : ℕ) (vs : List Cell) (x : TExprT) (a : ℕ) (t : Store) → Holds vs t → worth d vs x ≡ Some a → (n : ℕ) (f : FrameT) (k : List FrameT) (to : Config) → ((v : Outcome) → seen (type_of x) v t ≡ Some (Num a) → Reaches s (take_outcome s f v k t) to) → Reaches s (Going (EvalF n x) (f ∷ k) t) to
+  unfolding step eval worth unary_worth binary_worth take_outcome first_step second_step seen Holds
+  worth_reaches d vs (Typed (NumberK x) ty span) a t h e n f k to r = further _ _ _ _ tt (further _ _ _ _ tt (r (Value (Num x)) (ap (λ y. Some (Num y)) (outcome_word x a e))))
   worth_reaches d vs (Typed (LocalK number) ty span) a t h e n f k to r = when_of (is_word ty) _ a e (λ w e1.
       let p = h number a (word_of_held (slice_get vs number) a e1) in
       further _ _ _ _ tt (subst (λ o. Reaches s (place_here (at_span span (first_cell o)) (f ∷ k) t) to) (sym p.1.0) (further _ _ _ _ tt (r (Place (Ptr p.0 0)) (word_seen ty p.0 a t w p.1.1)))))
@@ -370,7 +370,7 @@ module _ (s : Setting) where
   worth_reaches (suc d) vs (Typed (CastK x) ty span) a t h e n f k to r = some_of _ _ a e (λ b g e1.
       further _ _ _ _ tt (worth_reaches d vs x b t h g n (FirstW n (Typed (CastK x) ty span)) (f ∷ k) to (λ w p.
       on_seen _ (Num b) t (seen_taken s n x w t (Num b) p) (λ u. value_here (at_span span (converted ty u.0)) (f ∷ k) u.1) to
-      (value_given span _ (Value (Num a)) (ap value_at_once (word_converted ty b) ∙ ap (λ z. Some (Value (Num z))) (came_word _ a e1)) f k t to (r (Value (Num a)) refl)))))
+      (value_given span _ (Value (Num a)) (ap value_at_once (word_converted ty b) ∙ ap (λ z. Some (Value (Num z))) (outcome_word _ a e1)) f k t to (r (Value (Num a)) refl)))))
   worth_reaches zero vs (Typed (UnaryK op x) ty span) a t h e n f k to r = absurd cc
   worth_reaches zero vs (Typed (BinaryK op x y) ty span) a t h e n f k to r = absurd cc
   worth_reaches zero vs (Typed (CastK x) ty span) a t h e n f k to r = absurd cc
@@ -413,15 +413,15 @@ module _ (s : Setting) where
     unfoldable waits : TStmtTs → List FrameT
     waits rest = RestW m Unwritten rest ∷ (BackW f vs Unwritten span (caller_of u) ∷ k)
 
-    back_behind : (rest : TStmtTs) (a z : ℕ) → Some (word_at g.gives a) ≡ Some z → Reaches s (left (Return (Some (Num (word_at g.gives a)))) (waits rest) inside) (came (Value (Num z)) k (passed vs u))
-    unfolding step leave waits inside
+    back_behind : (rest : TStmtTs) (a z : ℕ) → Some (word_at g.gives a) ≡ Some z → Reaches s (left (Return (Some (Num (word_at g.gives a)))) (waits rest) inside) (outcome (Value (Num z)) k (passed vs u))
+    unfolding step take_exit waits inside
     back_behind rest a z e =
         let st : all_released (params_of (slice_get s.functions f)) vs (back_in (caller_of u) inside) ≡ passed vs u = ap (λ o. all_released (params_of o) vs (back_in (caller_of u) inside)) is ∙ words_released 0 g.params g.made (s.sizes.locals f) vs (back_in (caller_of u) inside) words ∙ passed_back vs u in
-        further _ _ _ _ tt (further _ _ _ _ tt (subst (λ q. Reaches s (came (Value (Num (word_at g.gives a))) k (all_released (params_of (slice_get s.functions f)) vs (back_in (caller_of u) inside))) q) (λ i. came (Value (Num (came_word (word_at g.gives a) z e i))) k (st i)) (here _)))
+        further _ _ _ _ tt (further _ _ _ _ tt (subst (λ q. Reaches s (outcome (Value (Num (word_at g.gives a))) k (all_released (params_of (slice_get s.functions f)) vs (back_in (caller_of u) inside))) q) (λ i. outcome (Value (Num (outcome_word (word_at g.gives a) z e i))) k (st i)) (here _)))
 
-    returned_word : (rest : TStmtTs) (x : TExprT) (a z : ℕ) → Some (word_at g.gives a) ≡ Some z → Reaches s (on (at_span (span_of x) (converted (result_of s (Some f)) (Num a))) (λ c. return_of (returned_in s m (result_of s (Some f)) Unwritten c inside) (waits rest))) (came (Value (Num z)) k (passed vs u))
+    returned_word : (rest : TStmtTs) (x : TExprT) (a z : ℕ) → Some (word_at g.gives a) ≡ Some z → Reaches s (on (at_span (span_of x) (converted (result_of s (Some f)) (Num a))) (λ c. return_of (returned_in s m (result_of s (Some f)) Unwritten c inside) (waits rest))) (outcome (Value (Num z)) k (passed vs u))
     returned_word rest x a z e =
-        let to : Config = came (Value (Num z)) k (passed vs u) in
+        let to : Config = outcome (Value (Num z)) k (passed vs u) in
         let r : result_of s (Some f) ≡ g.gives = ap (λ o. option_map_or (λ g. g.gives) o VoidY) is in
         subst (λ ty. Reaches s (on (at_span (span_of x) (converted ty (Num a))) (λ c. return_of (returned_in s m ty Unwritten c inside) (waits rest))) to) (sym r)
         (subst (λ q. Reaches s (on (at_span (span_of x) q) (λ c. return_of (returned_in s m g.gives Unwritten c inside) (waits rest))) to) (sym (word_converted g.gives a))
@@ -432,14 +432,14 @@ module _ (s : Setting) where
     unfolding Holds inside
     holds j b e = param_held vs j (Num b) u.objects (replicate (length (others vs (s.sizes.locals f))) None) e
 
-    at_result : (x : TExprT) (rest : TStmtTs) (a z : ℕ) → Some (word_at g.gives a) ≡ Some z → Reaches s (on (at_span (span_of x) (converted (result_of s inside.function) (Num a))) (λ c. return_of (returned_in s m (result_of s inside.function) Unwritten c inside) (waits rest))) (came (Value (Num z)) k (passed vs u))
+    at_result : (x : TExprT) (rest : TStmtTs) (a z : ℕ) → Some (word_at g.gives a) ≡ Some z → Reaches s (on (at_span (span_of x) (converted (result_of s inside.function) (Num a))) (λ c. return_of (returned_in s m (result_of s inside.function) Unwritten c inside) (waits rest))) (outcome (Value (Num z)) k (passed vs u))
     unfolding inside
     at_result x rest a z e = returned_word rest x a z e
 
-    body_reaches : (rest : TStmtTs) (x : TExprT) (a z : ℕ) → worth 6 vs x ≡ Some a → Some (word_at g.gives a) ≡ Some z → Reaches s (Going (DoF m Unwritten (ReturnZ (Some x))) (waits rest) inside) (came (Value (Num z)) k (passed vs u))
-    unfolding step exec give value_step
+    body_reaches : (rest : TStmtTs) (x : TExprT) (a z : ℕ) → worth 6 vs x ≡ Some a → Some (word_at g.gives a) ≡ Some z → Reaches s (Going (DoF m Unwritten (ReturnZ (Some x))) (waits rest) inside) (outcome (Value (Num z)) k (passed vs u))
+    unfolding step exec take_outcome value_step
     body_reaches rest x a z w e =
-        let to : Config = came (Value (Num z)) k (passed vs u) in
+        let to : Config = outcome (Value (Num z)) k (passed vs u) in
         further _ _ _ _ tt (worth_reaches 6 vs x a inside holds w m (ValueW m Unwritten (ReturnZ (Some x))) (waits rest) to (λ v p.
         on_seen _ (Num a) inside (seen_taken s m x v inside (Num a) p) (λ t. on (at_span (span_of x) (converted (result_of s t.1.function) t.0)) (λ c. return_of (returned_in s m (result_of s t.1.function) Unwritten c t.1) (waits rest))) to (at_result x rest a z e)))
 
@@ -449,21 +449,21 @@ module _ (s : Setting) where
         ap (params_in s m 0 g.params vs) (all_made u.answers (Some f) (u.used + (s.sizes.frame f + 2)) s.sizes f 0 g.params g.made (s.sizes.locals f) vs [] u.objects [] refl refl refl words refl)
         ∙ all_params u.answers (Some f) (u.used + (s.sizes.frame f + 2)) s m 0 g.params g.made (s.sizes.locals f) vs u.objects [] (replicate (length (others vs (s.sizes.locals f))) None) words refl
 
-    entered_reaches : (x : TExprT) (a z : ℕ) → returned_by g.body ≡ Some x → worth 6 vs x ≡ Some a → Some (word_at g.gives a) ≡ Some z → Reaches s (body_of s m f g vs Unwritten span k u) (came (Value (Num z)) k (passed vs u))
+    entered_reaches : (x : TExprT) (a z : ℕ) → returned_by g.body ≡ Some x → worth 6 vs x ≡ Some a → Some (word_at g.gives a) ≡ Some z → Reaches s (body_of s m f g vs Unwritten span k u) (outcome (Value (Num z)) k (passed vs u))
     unfolding waits
     entered_reaches x a z at w e =
-        let to : Config = came (Value (Num z)) k (passed vs u) in
+        let to : Config = outcome (Value (Num z)) k (passed vs u) in
         returned_is g.body x at (λ rest b.
         subst (λ q. Reaches s (on q (λ t. rest_of m Unwritten g.body (BackW f vs Unwritten span (caller_of u) ∷ k) t)) to) (sym entered_is)
         (subst (λ q. Reaches s (rest_of m Unwritten q (BackW f vs Unwritten span (caller_of u) ∷ k) inside) to) (sym b)
         (body_reaches rest x a z w e)))
 
-  quick_reaches : (n f : ℕ) (vs : List Cell) (span : Span) (k : List FrameT) (u : Store) (z : ℕ) → quick s n f vs u ≡ Some z → Reaches s (call s n f vs span k u) (came (Value (Num z)) k (passed vs u))
+  quick_reaches : (n f : ℕ) (vs : List Cell) (span : Span) (k : List FrameT) (u : Store) (z : ℕ) → quick s n f vs u ≡ Some z → Reaches s (call s n f vs span k u) (outcome (Value (Num z)) k (passed vs u))
   unfolding quick quick_of
   quick_reaches zero f vs span k u z e = absurd cc
   quick_reaches (suc m) f vs span k u z e = when_of (ltb 0 (suc m)) _ z e (λ some e1. when_of (has_room s.sizes f u) _ z e1 (λ room e2. some_of (slice_get s.functions f) _ z e2 (λ g is e3.
       some_of (returned_by g.body) _ z e3 (λ x at e4. when_of (is_word g.gives) _ z e4 (λ gives e5. when_of (are_words 0 g.params g.made (s.sizes.locals f) vs) _ z e5 (λ words e6. some_of (worth 6 vs x) _ z e6 (λ a w e7.
-      let to : Config = came (Value (Num z)) k (passed vs u) in
+      let to : Config = outcome (Value (Num z)) k (passed vs u) in
       subst (λ o. Reaches s (call_of s (suc m) f o vs span k u) to) (sym is)
       (subst (λ b. Reaches s (enter s (suc m) f g vs (if b then next_object u else Unwritten) span k (if b then with_temporary (type_words s g.gives) u else u)) to) (sym (no_structure g.gives gives))
       (subst (λ b. Reaches s (in_room b span (body_of s m f g vs Unwritten span k u)) to) (sym room)
@@ -472,12 +472,12 @@ module _ (s : Setting) where
   call_reaches : (n f : ℕ) (vs : List Cell) (span : Span) (k : List FrameT) (u : Store) → Reaches s (call s n f vs span k u) (call_on s n f vs span k u)
   call_reaches n f vs span k u = by (quick s n f vs u) refl
     where
-      by : (o : Option ℕ) → quick s n f vs u ≡ o → Reaches s (call s n f vs span k u) (word_or o (call s n f vs span k u) (λ z. came (Value (Num z)) k (passed vs u)))
+      by : (o : Option ℕ) → quick s n f vs u ≡ o → Reaches s (call s n f vs span k u) (word_or o (call s n f vs span k u) (λ z. outcome (Value (Num z)) k (passed vs u)))
       by None e = here _
       by (Some z) e = quick_reaches n f vs span k u z e
 
   -- arguments that come at once are taken one after another
-  took_reaches : (n g : ℕ) (span : Span) (x : TExprT) (xs : TExprTs) (v : Came) (vs : List Cell) (k : List FrameT) (u : Store) → ((vs : List Cell) (u : Store) → Reaches s (args_of s n g span vs xs k u) (args_on s n g span vs xs k u)) →
+  took_reaches : (n g : ℕ) (span : Span) (x : TExprT) (xs : TExprTs) (v : Outcome) (vs : List Cell) (k : List FrameT) (u : Store) → ((vs : List Cell) (u : Store) → Reaches s (args_of s n g span vs xs k u) (args_on s n g span vs xs k u)) →
       (t : With Cell) → Reaches s (on t (λ t. on (argument_in (slice_get (params_of (slice_get s.functions g)) (length vs)) x t.0) (λ z. args_of s n g span (vs ++ z ∷ []) xs k t.1)))
       (on {A = List Cell × Store} (then_ok t (λ t. then_ok (argument_in (slice_get (params_of (slice_get s.functions g)) (length vs)) x t.0) (λ z. Ok (vs ++ z ∷ [], t.1)))) (λ t. args_on s n g span t.0 xs k t.1))
   took_reaches n g span x xs v vs k u h (Err end) = here _
@@ -488,12 +488,12 @@ module _ (s : Setting) where
       by (Err end) = here _
 
   args_reaches : (n g : ℕ) (span : Span) (xs : TExprTs) (k : List FrameT) (vs : List Cell) (u : Store) → Reaches s (args_of s n g span vs xs k u) (args_on s n g span vs xs k u)
-  unfolding give
+  unfolding take_outcome
   args_reaches n g span NoX k vs u = call_reaches n g vs span k u
   args_reaches n g span (MoreX x xs) k vs u =
       handed_reaches n x (ArgumentW n g span vs (MoreX x xs)) k u (λ v. on (took s n g x v vs u) (λ t. args_on s n g span t.0 xs k t.1)) (λ v. took_reaches n g span x xs v vs k u (args_reaches n g span xs k) (taken s n x v u))
 
-  argument_reaches : (n g : ℕ) (span : Span) (vs : List Cell) (xs : TExprTs) (v : Came) (k : List FrameT) (u : Store) → Reaches s (argument_step s n g span vs xs v k u) (argument_on s n g span vs xs v k u)
+  argument_reaches : (n g : ℕ) (span : Span) (vs : List Cell) (xs : TExprTs) (v : Outcome) (k : List FrameT) (u : Store) → Reaches s (argument_step s n g span vs xs v k u) (argument_on s n g span vs xs v k u)
   argument_reaches n g span vs NoX v k u = here _
   argument_reaches n g span vs (MoreX x xs) v k u = took_reaches n g span x xs v vs k u (args_reaches n g span xs k) (taken s n x v u)
 
@@ -520,41 +520,41 @@ module _ (s : Setting) where
   eval_reaches n (Typed CardK ty span) k u = here _
 
   asks_reaches : (n : ℕ) (r : Cell) (a : TStmtT) (x : TExprT) (k : List FrameT) (u : Store) → Reaches s (Going (EvalF n x) (ValueW n r a ∷ k) u) (asks_on s n r a x k u)
-  unfolding give
+  unfolding take_outcome
   asks_reaches n r a x k u = handed_reaches n x (ValueW n r a) k u (λ v. value_step s n r a v k u) (λ v. here _)
 
   -- the value is dropped behind the statement
   dropped_reaches : (n : ℕ) (r : Cell) (e : TExprT) (k : List FrameT) (t : With Cell) →
       Reaches s (value t (ValueW n r (DoZ e) ∷ k)) (on t (λ z. left On k (released (type_of e) z.0 z.1)))
-  unfolding step give value_step
+  unfolding step take_outcome value_step
   dropped_reaches n r e k (Ok z) = further _ _ _ _ tt (here _)
   dropped_reaches n r e k (Err end) = here _
 
   assigns_reaches : (n : ℕ) (r : Cell) (op : Option BinOp) (x y : TExprT) (ty : Ty) (span : Span) (k : List FrameT) (u : Store) →
       Reaches s (Going (EvalF n (Typed (AssignK op x y) ty span)) (ValueW n r (DoZ (Typed (AssignK op x y) ty span)) ∷ k) u) (assigns_on s n r (DoZ (Typed (AssignK op x y) ty span)) (Typed (AssignK op x y) ty span) op x y k u)
-  unfolding step eval give first_step second_step
+  unfolding step eval take_outcome first_step second_step
   assigns_reaches n r op x y ty span k u = by (at_once s x u) refl (at_once s y u) refl
     where
       valued : (p : Cell) (t : With Cell) → Reaches s (on t (λ t. value (second_assigned_in s n op x y span p t.0 t.1) (ValueW n r (DoZ (Typed (AssignK op x y) ty span)) ∷ k))) (on t (λ t. on (second_assigned_in s n op x y span p t.0 t.1) (λ z. left On k (released ty z.0 z.1))))
       valued p t = on_reaches t (λ t. value (second_assigned_in s n op x y span p t.0 t.1) (ValueW n r (DoZ (Typed (AssignK op x y) ty span)) ∷ k)) (λ t. on (second_assigned_in s n op x y span p t.0 t.1) (λ z. left On k (released ty z.0 z.1))) (λ t. dropped_reaches n r (Typed (AssignK op x y) ty span) k (second_assigned_in s n op x y span p t.0 t.1))
 
-      placed : (w : Came) → at_once s y u ≡ Some w → (q : Result Cell End) → Reaches s (on q (λ p. Going (EvalF n y) (SecondW n (Typed (AssignK op x y) ty span) p ∷ (ValueW n r (DoZ (Typed (AssignK op x y) ty span)) ∷ k)) u)) (on q (λ p. on (taken s n y w u) (λ t. on (second_assigned_in s n op x y span p t.0 t.1) (λ z. left On k (released ty z.0 z.1)))))
+      placed : (w : Outcome) → at_once s y u ≡ Some w → (q : Result Cell End) → Reaches s (on q (λ p. Going (EvalF n y) (SecondW n (Typed (AssignK op x y) ty span) p ∷ (ValueW n r (DoZ (Typed (AssignK op x y) ty span)) ∷ k)) u)) (on q (λ p. on (taken s n y w u) (λ t. on (second_assigned_in s n op x y span p t.0 t.1) (λ z. left On k (released ty z.0 z.1)))))
       placed w g q = on_reaches q (λ p. Going (EvalF n y) (SecondW n (Typed (AssignK op x y) ty span) p ∷ (ValueW n r (DoZ (Typed (AssignK op x y) ty span)) ∷ k)) u) (λ p. on (taken s n y w u) (λ t. on (second_assigned_in s n op x y span p t.0 t.1) (λ z. left On k (released ty z.0 z.1)))) (λ p. at_once_reaches y u w g n (SecondW n (Typed (AssignK op x y) ty span) p) (ValueW n r (DoZ (Typed (AssignK op x y) ty span)) ∷ k) _ (valued p (taken s n y w u)))
 
-      by : (o : Option Came) → at_once s x u ≡ o → (q : Option Came) → at_once s y u ≡ q → Reaches s (Going (EvalF n (Typed (AssignK op x y) ty span)) (ValueW n r (DoZ (Typed (AssignK op x y) ty span)) ∷ k) u) (handed o (Going (EvalF n (Typed (AssignK op x y) ty span)) (ValueW n r (DoZ (Typed (AssignK op x y) ty span)) ∷ k) u) (λ v. handed q (on (placed_in span v) (λ p. Going (EvalF n y) (SecondW n (Typed (AssignK op x y) ty span) p ∷ (ValueW n r (DoZ (Typed (AssignK op x y) ty span)) ∷ k)) u)) (λ w. on (placed_in span v) (λ p. on (taken s n y w u) (λ t. on (second_assigned_in s n op x y span p t.0 t.1) (λ z. left On k (released ty z.0 z.1)))))))
+      by : (o : Option Outcome) → at_once s x u ≡ o → (q : Option Outcome) → at_once s y u ≡ q → Reaches s (Going (EvalF n (Typed (AssignK op x y) ty span)) (ValueW n r (DoZ (Typed (AssignK op x y) ty span)) ∷ k) u) (handed o (Going (EvalF n (Typed (AssignK op x y) ty span)) (ValueW n r (DoZ (Typed (AssignK op x y) ty span)) ∷ k) u) (λ v. handed q (on (placed_in span v) (λ p. Going (EvalF n y) (SecondW n (Typed (AssignK op x y) ty span) p ∷ (ValueW n r (DoZ (Typed (AssignK op x y) ty span)) ∷ k)) u)) (λ w. on (placed_in span v) (λ p. on (taken s n y w u) (λ t. on (second_assigned_in s n op x y span p t.0 t.1) (λ z. left On k (released ty z.0 z.1)))))))
       by None f q g = here _
       by (Some v) f None g = further _ _ _ _ tt (at_once_reaches x u v f n (FirstW n (Typed (AssignK op x y) ty span)) (ValueW n r (DoZ (Typed (AssignK op x y) ty span)) ∷ k) _ (here _))
       by (Some v) f (Some w) g = further _ _ _ _ tt (at_once_reaches x u v f n (FirstW n (Typed (AssignK op x y) ty span)) (ValueW n r (DoZ (Typed (AssignK op x y) ty span)) ∷ k) _ (placed w g (placed_in span v)))
 
   steps_reaches : (n : ℕ) (r : Cell) (op : StepOp) (x : TExprT) (ty : Ty) (span : Span) (k : List FrameT) (u : Store) →
       Reaches s (Going (EvalF n (Typed (StepK op x) ty span)) (ValueW n r (DoZ (Typed (StepK op x) ty span)) ∷ k) u) (steps_on s n r (DoZ (Typed (StepK op x) ty span)) (Typed (StepK op x) ty span) op x k u)
-  unfolding step eval give first_step
+  unfolding step eval take_outcome first_step
   steps_reaches n r op x ty span k u = by (at_once s x u) refl
     where
       placed : (q : Result Cell End) → Reaches s (on q (λ p. value (stepped_in s n op x span p u) (ValueW n r (DoZ (Typed (StepK op x) ty span)) ∷ k))) (on q (λ p. on (stepped_in s n op x span p u) (λ z. left On k (released ty z.0 z.1))))
       placed q = on_reaches q (λ p. value (stepped_in s n op x span p u) (ValueW n r (DoZ (Typed (StepK op x) ty span)) ∷ k)) (λ p. on (stepped_in s n op x span p u) (λ z. left On k (released ty z.0 z.1))) (λ p. dropped_reaches n r (Typed (StepK op x) ty span) k (stepped_in s n op x span p u))
 
-      by : (o : Option Came) → at_once s x u ≡ o → Reaches s (Going (EvalF n (Typed (StepK op x) ty span)) (ValueW n r (DoZ (Typed (StepK op x) ty span)) ∷ k) u) (handed o (Going (EvalF n (Typed (StepK op x) ty span)) (ValueW n r (DoZ (Typed (StepK op x) ty span)) ∷ k) u) (λ v. on (placed_in span v) (λ p. on (stepped_in s n op x span p u) (λ z. left On k (released ty z.0 z.1)))))
+      by : (o : Option Outcome) → at_once s x u ≡ o → Reaches s (Going (EvalF n (Typed (StepK op x) ty span)) (ValueW n r (DoZ (Typed (StepK op x) ty span)) ∷ k) u) (handed o (Going (EvalF n (Typed (StepK op x) ty span)) (ValueW n r (DoZ (Typed (StepK op x) ty span)) ∷ k) u) (λ v. on (placed_in span v) (λ p. on (stepped_in s n op x span p u) (λ z. left On k (released ty z.0 z.1)))))
       by None f = here _
       by (Some v) f = further _ _ _ _ tt (at_once_reaches x u v f n (FirstW n (Typed (StepK op x) ty span)) (ValueW n r (DoZ (Typed (StepK op x) ty span)) ∷ k) _ (placed (placed_in span v)))
 
@@ -596,25 +596,25 @@ module _ (s : Setting) where
   exec_reaches n r BreakZ k u = here _
   exec_reaches n r ContinueZ k u = here _
 
-  came_reaches : (v : Came) (f : FrameT) (k : List FrameT) (u : Store) → Reaches s (step s (CameF v) (f ∷ k) u) (step_on s (CameF v) (f ∷ k) u)
-  unfolding step step_on give_on give
-  came_reaches v (FirstW n e) k u = first_reaches n e v k u
-  came_reaches v (SecondW n e c) k u = here _
-  came_reaches v (ArgumentW n f span vs xs) k u = argument_reaches n f span vs xs v k u
-  came_reaches v (BackW f vs r span c) k u = here _
-  came_reaches v (ValueW n r a) k u = here _
-  came_reaches v (StepW n r a) k u = here _
-  came_reaches v (BodyW n r a) k u = here _
-  came_reaches v (BeginW n r a) k u = here _
-  came_reaches v (RestW n r rest) k u = here _
-  came_reaches v (ArmsW n r rest) k u = here _
-  came_reaches v (EndW made) k u = here _
-  came_reaches v SwitchW k u = here _
-  came_reaches v (OneW n ty x p) k u = here _
-  came_reaches v (ItemsW n rest ty j p) k u = here _
-  came_reaches v (VarsW n vars) k u = here _
-  came_reaches v FilledW k u = here _
-  came_reaches v (MainW n main) k u = here _
+  outcome_reaches : (v : Outcome) (f : FrameT) (k : List FrameT) (u : Store) → Reaches s (step s (OutcomeF v) (f ∷ k) u) (step_on s (OutcomeF v) (f ∷ k) u)
+  unfolding step step_on take_outcome_on take_outcome
+  outcome_reaches v (FirstW n e) k u = first_reaches n e v k u
+  outcome_reaches v (SecondW n e c) k u = here _
+  outcome_reaches v (ArgumentW n f span vs xs) k u = argument_reaches n f span vs xs v k u
+  outcome_reaches v (BackW f vs r span c) k u = here _
+  outcome_reaches v (ValueW n r a) k u = here _
+  outcome_reaches v (StepW n r a) k u = here _
+  outcome_reaches v (BodyW n r a) k u = here _
+  outcome_reaches v (BeginW n r a) k u = here _
+  outcome_reaches v (RestW n r rest) k u = here _
+  outcome_reaches v (ArmsW n r rest) k u = here _
+  outcome_reaches v (EndW made) k u = here _
+  outcome_reaches v SwitchW k u = here _
+  outcome_reaches v (OneW n ty x p) k u = here _
+  outcome_reaches v (ItemsW n rest ty j p) k u = here _
+  outcome_reaches v (VarsW n vars) k u = here _
+  outcome_reaches v FilledW k u = here _
+  outcome_reaches v (MainW n main) k u = here _
 
   again_reaches : (n : ℕ) (r : Cell) (x : TExprT) (a : TStmtT) (k : List FrameT) (u : Store) → Reaches s (again n r (WhileZ x a) (Some x) a k u) (again_on s n r (WhileZ x a) x k u)
   again_reaches zero r x a k u = here _
@@ -641,25 +641,25 @@ module _ (s : Setting) where
   loop_reaches n r BreakZ h k u = here _
   loop_reaches n r ContinueZ h k u = here _
 
-  left_reaches : (h : How) (f : FrameT) (k : List FrameT) (u : Store) → Reaches s (step s (LeftF h) (f ∷ k) u) (step_on s (LeftF h) (f ∷ k) u)
-  unfolding step step_on leave_on leave
-  left_reaches h (FirstW n e) k u = here _
-  left_reaches h (SecondW n e c) k u = here _
-  left_reaches h (ArgumentW n f span vs xs) k u = here _
-  left_reaches h (BackW f vs r span c) k u = here _
-  left_reaches h (ValueW n r a) k u = here _
-  left_reaches h (StepW n r a) k u = here _
-  left_reaches h (BodyW n r a) k u = loop_reaches n r a h k u
-  left_reaches h (BeginW n r a) k u = here _
-  left_reaches h (RestW n r rest) k u = here _
-  left_reaches h (ArmsW n r rest) k u = here _
-  left_reaches h (EndW made) k u = here _
-  left_reaches h SwitchW k u = here _
-  left_reaches h (OneW n ty x p) k u = here _
-  left_reaches h (ItemsW n rest ty j p) k u = here _
-  left_reaches h (VarsW n vars) k u = here _
-  left_reaches h FilledW k u = here _
-  left_reaches h (MainW n main) k u = here _
+  exit_reaches : (h : How) (f : FrameT) (k : List FrameT) (u : Store) → Reaches s (step s (ExitF h) (f ∷ k) u) (step_on s (ExitF h) (f ∷ k) u)
+  unfolding step step_on take_exit_on take_exit
+  exit_reaches h (FirstW n e) k u = here _
+  exit_reaches h (SecondW n e c) k u = here _
+  exit_reaches h (ArgumentW n f span vs xs) k u = here _
+  exit_reaches h (BackW f vs r span c) k u = here _
+  exit_reaches h (ValueW n r a) k u = here _
+  exit_reaches h (StepW n r a) k u = here _
+  exit_reaches h (BodyW n r a) k u = loop_reaches n r a h k u
+  exit_reaches h (BeginW n r a) k u = here _
+  exit_reaches h (RestW n r rest) k u = here _
+  exit_reaches h (ArmsW n r rest) k u = here _
+  exit_reaches h (EndW made) k u = here _
+  exit_reaches h SwitchW k u = here _
+  exit_reaches h (OneW n ty x p) k u = here _
+  exit_reaches h (ItemsW n rest ty j p) k u = here _
+  exit_reaches h (VarsW n vars) k u = here _
+  exit_reaches h FilledW k u = here _
+  exit_reaches h (MainW n main) k u = here _
 
   -- what follows a step at once is reached from it
   pub step_reaches : (f : FocusT) (k : List FrameT) (u : Store) → Reaches s (step s f k u) (step_on s f k u)
@@ -667,9 +667,9 @@ module _ (s : Setting) where
   step_reaches (EvalF n e) k u = eval_reaches n e k u
   step_reaches (FillF n i ty p) k u = here _
   step_reaches (DoF n r a) k u = exec_reaches n r a k u
-  step_reaches (CameF v) [] u = here _
-  step_reaches (CameF v) (f ∷ k) u = came_reaches v f k u
+  step_reaches (OutcomeF v) [] u = here _
+  step_reaches (OutcomeF v) (f ∷ k) u = outcome_reaches v f k u
   step_reaches (MadeF e v) k u = here _
-  step_reaches (LeftF h) [] u = here _
-  step_reaches (LeftF h) (f ∷ k) u = left_reaches h f k u
+  step_reaches (ExitF h) [] u = here _
+  step_reaches (ExitF h) (f ∷ k) u = exit_reaches h f k u
   step_reaches FullF k u = here _

@@ -6,11 +6,11 @@ use Rattle.obj_mem.specs.Worlds.{bare}
 use Rattle.c_meaning.specs.declared.end.End.{End}
 use Rattle.c_meaning.specs.Setting.{Setting}
 use Rattle.c_meaning.proofs.Past.{final_past}
-use Rattle.c_evaluate.specs.declared.frame.Came.{Came}
+use Rattle.c_evaluate.specs.declared.frame.Outcome.{Outcome}
 use Rattle.c_evaluate.specs.declared.answer.Advanced.TheVariants.{Made, Ended}
-use Rattle.c_evaluate.specs.declared.frame.Came.TheVariants.{Value, Place, Nothing}
+use Rattle.c_evaluate.specs.declared.frame.Outcome.TheVariants.{Value, Place, Nothing}
 use Rattle.c_evaluate.specs.Evaluation.{Gives}
-use Rattle.c_evaluate.specs.inner.Machine.{CameF, MadeF, FrameT, Config, Going, Over, V, val_at, whole, run_left, work_left}
+use Rattle.c_evaluate.specs.inner.Machine.{OutcomeF, MadeF, FrameT, Config, Going, Over, V, val_at, whole, run_left, work_left}
 use Rattle.c_evaluate.specs.inner.Turning.{GoesOn, stepped}
 use Rattle.c_evaluate.specs.inner.Steps.{step}
 use Rattle.c_evaluate.proofs.Before.{resume_past}
@@ -21,13 +21,13 @@ use Rattle.c_evaluate.proofs.Reaching.{Reaches, here, further, step_reaches}
 
 -- a port operation is given
 module _ (s : Setting) (e : Event) (k : List FrameT) (u : Store) where
-  made : (v : Came) → whole s (MadeF e v) k u ≡ final_past 0 (e ∷ []) (whole s (CameF v) k u)
+  made : (v : Outcome) → whole s (MadeF e v) k u ≡ final_past 0 (e ∷ []) (whole s (OutcomeF v) k u)
   unfolding whole
   made (Value c) = resume_past 0 (e ∷ []) s k (V (val_at (Value c) (bare u)))
   made (Place c) = resume_past 0 (e ∷ []) s k (V (val_at (Place c) (bare u)))
   made Nothing = resume_past 0 (e ∷ []) s k (V (val_at Nothing (bare u)))
 
-  pub event_made : (v : Came) → Gives (Made e) (run_left s (Going (MadeF e v) k u)) (run_left s (Going (CameF v) k u))
+  pub event_made : (v : Outcome) → Gives (Made e) (run_left s (Going (MadeF e v) k u)) (run_left s (Going (OutcomeF v) k u))
   event_made v = (ap (λ x. x.world.events) (made v), ap (λ x. x.end) (made v))
 
 -- at the end nothing is left

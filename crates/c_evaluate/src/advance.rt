@@ -10,7 +10,7 @@ ghost use Rattle.c_evaluate.specs.inner.StoreView.{store_of};
 ghost use Rattle.c_evaluate.specs.inner.MachineView.{config_of, setting_of};
 
 use crate::answer::Advanced;
-use crate::dispatch::{fill_up, give, leave};
+use crate::dispatch::{fill_up, take_exit, take_outcome};
 use crate::eval::eval;
 use crate::exec::exec;
 use crate::filling::{fill, nowhere};
@@ -44,13 +44,13 @@ impl<'a> Machine<'a> {
                 spend(&mut self.store, 1);
                 exec(&self.setting, n, r, a, &mut self.stack, &mut self.store)
             }
-            Focus::Came(v) => match pop(&mut self.stack) {
+            Focus::Outcome(v) => match pop(&mut self.stack) {
                 None => Err(Stop::Cause(End::Halted)),
-                Some(f) => give(&self.setting, f, v, &mut self.stack, &mut self.store),
+                Some(f) => take_outcome(&self.setting, f, v, &mut self.stack, &mut self.store),
             },
-            Focus::Left(h) => match pop(&mut self.stack) {
+            Focus::Exit(h) => match pop(&mut self.stack) {
                 None => Err(Stop::Cause(End::Stray(nowhere()))),
-                Some(f) => leave(&self.setting, f, h, &mut self.stack, &mut self.store),
+                Some(f) => take_exit(&self.setting, f, h, &mut self.stack, &mut self.store),
             },
             Focus::Full => match pop(&mut self.stack) {
                 None => Err(Stop::Cause(End::Stray(nowhere()))),
@@ -89,12 +89,12 @@ impl<'a> Machine<'a> {
     {
         match self.focus {
             Focus::Made(event, v) => {
-                self.focus = Focus::Came(v);
+                self.focus = Focus::Outcome(v);
                 Some(Advanced::Made(event))
             }
             Focus::Over(end) => Some(Advanced::Ended(end)),
             Focus::Eval(_, _) | Focus::Fill(_, _, _, _) | Focus::Do(_, _, _) => None,
-            Focus::Came(_) | Focus::Left(_) | Focus::Full => None,
+            Focus::Outcome(_) | Focus::Exit(_) | Focus::Full => None,
         }
     }
 

@@ -16,7 +16,7 @@ ghost use Rattle.c_evaluate.specs.inner.Swift.{args_on, argument_on, call_on, to
 use crate::cells::{Destination, located, stored};
 use crate::exec::rest;
 use crate::filling::nowhere;
-use crate::frame::{Caller, Came, Focus, Frame, How};
+use crate::frame::{Caller, Focus, Frame, How, Outcome};
 use crate::leaf::{at_once, nodes};
 use crate::operators::converted;
 use crate::quick::{quick, quick_work};
@@ -214,7 +214,7 @@ fn called<'a>(
             spend(store, quick_work(s, f));
             passed(s, store, &values)?;
             keep_arguments(store, values);
-            Ok(Focus::Came(Came::Value(Cell::Num(z))))
+            Ok(Focus::Outcome(Outcome::Value(Cell::Num(z))))
         }
     }
 }
@@ -237,7 +237,7 @@ fn took<'a>(
     n: u32,
     f: u32,
     x: &TExpr,
-    v: Came,
+    v: Outcome,
     values: &mut Vec<Cell>,
     store: &mut Store<'a>,
 ) -> Result<(), Stop>
@@ -280,12 +280,12 @@ pub(crate) fn arguments<'a>(
 }
 
 /// An argument came.
-pub(crate) fn argument_came<'a>(
+pub(crate) fn with_argument<'a>(
     s: &Setting<'a>,
     of: &CallSite,
     mut values: Vec<Cell>,
     xs: &'a [TExpr],
-    v: Came,
+    v: Outcome,
     stack: &mut Vec<Frame<'a>>,
     store: &mut Store<'a>,
 ) -> Result<Focus<'a>, Stop>
@@ -294,7 +294,7 @@ pub(crate) fn argument_came<'a>(
         (stack_of stack.old.items) (store_of store.old)) }
 {
     match next(xs) {
-        None => Ok(Focus::Came(v)),
+        None => Ok(Focus::Outcome(v)),
         Some((x, later)) => {
             took(s, of.bound, of.function, x, v, &mut values, store)?;
             arguments(s, of, values, later, stack, store)
@@ -345,12 +345,12 @@ pub(crate) fn back_from<'a>(
             back(store, c);
             end_temporary(store, of.result);
             released_args(s, of.function, of.arguments, store);
-            Ok(Focus::Came(Came::Nothing))
+            Ok(Focus::Outcome(Outcome::Nothing))
         }
         How::Return(Some(z)) => {
             back(store, c);
             released_args(s, of.function, of.arguments, store);
-            Ok(Focus::Came(Came::Value(z)))
+            Ok(Focus::Outcome(Outcome::Value(z)))
         }
         How::Break | How::Continue => Err(Stop::Cause(End::Stray(of.span))),
     }

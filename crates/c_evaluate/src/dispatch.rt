@@ -8,17 +8,17 @@ ghost use Rattle.c_evaluate.specs.inner.FocusView.{at, frame, stack_of, stmt_fra
 ghost use Rattle.c_evaluate.specs.inner.SettingView.{setting_of};
 ghost use Rattle.c_evaluate.specs.inner.StoreView.{store_of};
 ghost use Rattle.c_types.specs.View.{or_void, tstmt};
-ghost use Rattle.c_evaluate.specs.inner.Steps.{full, give, fill_up, switched, main_step};
+ghost use Rattle.c_evaluate.specs.inner.Steps.{full, take_outcome, fill_up, switched, main_step};
 ghost use Rattle.c_evaluate.specs.inner.Storing.{one_in};
-ghost use Rattle.c_evaluate.specs.inner.Swift.{give_on, leave_on};
+ghost use Rattle.c_evaluate.specs.inner.Swift.{take_outcome_on, take_exit_on};
 
-use crate::calls::{Activation, CallSite, argument_came, back_from, call};
+use crate::calls::{Activation, CallSite, back_from, call, with_argument};
 use crate::exec::{arms, rest};
 use crate::filling::{ItemList, items, nowhere, one, vars};
-use crate::frame::{Came, Focus, Frame, How, Stage};
-use crate::operands::{first, second_came};
+use crate::frame::{Focus, Frame, How, Outcome, Stage};
+use crate::operands::{first, with_second};
 use crate::setting::Setting;
-use crate::statements::{Statement, begin_left, body_left, step_came, value_came};
+use crate::statements::{Statement, begin_exit, body_exit, outcome_value, with_step};
 use crate::stop::Stop;
 use crate::store::{Store, end_all, spend};
 use crate::using::taken;
@@ -34,29 +34,29 @@ fn strays<'a>() -> Result<Focus<'a>, Stop>
 
 /// A value of a statement came.
 #[inline(always)]
-#[tactic(auto, unfolding(crate::specs::inner::Steps::give))]
-fn give_statement<'a>(
+#[tactic(auto, unfolding(crate::specs::inner::Steps::take_outcome))]
+fn take_statement_outcome<'a>(
     s: &Setting<'a>,
     stage: Stage,
     of: &Statement<'a>,
-    v: Came,
+    v: Outcome,
     stack: &mut Vec<Frame<'a>>,
     store: &mut Store<'a>,
 ) -> Result<Focus<'a>, Stop>
     ensures { Leads (λ x. at x (stack_of stack.new.items) (store_of store.new)) result
-        (give (setting_of s.now) (stmt_frame stage of.now.bound of.now.result (tstmt of.now.tree.now)) v
+        (take_outcome (setting_of s.now) (stmt_frame stage of.now.bound of.now.result (tstmt of.now.tree.now)) v
         (stack_of stack.old.items) (store_of store.old)) }
 {
     match stage {
-        Stage::Value => value_came(s, of, v, stack, store),
-        Stage::Step => step_came(s, of, v, stack, store),
+        Stage::Value => outcome_value(s, of, v, stack, store),
+        Stage::Step => with_step(s, of, v, stack, store),
         Stage::Body => strays(),
         Stage::Begin => strays(),
     }
 }
 
 /// The value of an initialiser is stored.
-fn give_one<'a>(
+fn take_outcome_one<'a>(
     s: &Setting<'a>,
     n: u32,
     ty: Option<&'a CType>,
@@ -79,27 +79,27 @@ fn give_one<'a>(
 
 /// Something came of an expression.
 #[inline(always)]
-#[tactic(auto, unfolding(crate::specs::inner::Swift::give_on, crate::specs::inner::Steps::give))]
-pub(crate) fn give<'a>(
+#[tactic(auto, unfolding(crate::specs::inner::Swift::take_outcome_on, crate::specs::inner::Steps::take_outcome))]
+pub(crate) fn take_outcome<'a>(
     s: &Setting<'a>,
     f: Frame<'a>,
-    v: Came,
+    v: Outcome,
     stack: &mut Vec<Frame<'a>>,
     store: &mut Store<'a>,
 ) -> Result<Focus<'a>, Stop>
     ensures { Leads (λ x. at x (stack_of stack.new.items) (store_of store.new)) result
-        (give_on (setting_of s.now) (frame f.entry) v (stack_of stack.old.items) (store_of store.old)) }
+        (take_outcome_on (setting_of s.now) (frame f.entry) v (stack_of stack.old.items) (store_of store.old)) }
 {
     match f {
         Frame::First(n, e) => first(s, n, e, v, stack, store),
-        Frame::Second(n, e, c) => second_came(s, n, e, c, v, stack, store),
+        Frame::Second(n, e, c) => with_second(s, n, e, c, v, stack, store),
         Frame::Argument(n, f, span, values, xs) => {
             let of = CallSite {
                 bound: n,
                 function: f,
                 span,
             };
-            argument_came(s, &of, values, xs, v, stack, store)
+            with_argument(s, &of, values, xs, v, stack, store)
         }
         Frame::InStmt(stage, n, r, a) => {
             let of = Statement {
@@ -107,11 +107,11 @@ pub(crate) fn give<'a>(
                 result: r,
                 tree: a,
             };
-            give_statement(s, stage, &of, v, stack, store)
+            take_statement_outcome(s, stage, &of, v, stack, store)
         }
         Frame::One(n, ty, x, p) => {
             let c = taken(s, n, x, v, store)?;
-            give_one(s, n, ty, p, c, stack, store)
+            take_outcome_one(s, n, ty, p, c, stack, store)
         }
         Frame::Back(_, _, _, _, _) | Frame::Rest(_, _, _) | Frame::Arms(_, _, _) | Frame::End(_) =>
             strays(),
@@ -125,8 +125,8 @@ pub(crate) fn give<'a>(
 
 /// A part of a statement was left.
 #[inline(always)]
-#[tactic(auto, unfolding(crate::specs::inner::Swift::leave_on, crate::specs::inner::Steps::leave))]
-fn leave_statement<'a>(
+#[tactic(auto, unfolding(crate::specs::inner::Swift::take_exit_on, crate::specs::inner::Steps::take_exit))]
+fn take_statement_exit<'a>(
     s: &Setting<'a>,
     stage: Stage,
     of: &Statement<'a>,
@@ -135,12 +135,12 @@ fn leave_statement<'a>(
     store: &mut Store<'a>,
 ) -> Result<Focus<'a>, Stop>
     ensures { Leads (λ x. at x (stack_of stack.new.items) (store_of store.new)) result
-        (leave_on (setting_of s.now) (stmt_frame stage of.now.bound of.now.result (tstmt of.now.tree.now)) h
+        (take_exit_on (setting_of s.now) (stmt_frame stage of.now.bound of.now.result (tstmt of.now.tree.now)) h
         (stack_of stack.old.items) (store_of store.old)) }
 {
     match stage {
-        Stage::Body => body_left(s, of, h, stack, store),
-        Stage::Begin => begin_left(of, h, stack, store),
+        Stage::Body => body_exit(s, of, h, stack, store),
+        Stage::Begin => begin_exit(of, h, stack, store),
         Stage::Value => strays(),
         Stage::Step => strays(),
     }
@@ -182,8 +182,8 @@ fn main_called<'a>(
 
 /// A statement was left.
 #[inline(always)]
-#[tactic(auto, unfolding(crate::specs::inner::Swift::leave_on, crate::specs::inner::Steps::leave))]
-pub(crate) fn leave<'a>(
+#[tactic(auto, unfolding(crate::specs::inner::Swift::take_exit_on, crate::specs::inner::Steps::take_exit))]
+pub(crate) fn take_exit<'a>(
     s: &Setting<'a>,
     f: Frame<'a>,
     h: How,
@@ -191,7 +191,7 @@ pub(crate) fn leave<'a>(
     store: &mut Store<'a>,
 ) -> Result<Focus<'a>, Stop>
     ensures { Leads (λ x. at x (stack_of stack.new.items) (store_of store.new)) result
-        (leave_on (setting_of s.now) (frame f.entry) h (stack_of stack.old.items) (store_of store.old)) }
+        (take_exit_on (setting_of s.now) (frame f.entry) h (stack_of stack.old.items) (store_of store.old)) }
 {
     match f {
         Frame::Back(f, values, r, span, c) => {
@@ -209,21 +209,21 @@ pub(crate) fn leave<'a>(
                 result: r,
                 tree: a,
             };
-            leave_statement(s, stage, &of, h, stack, store)
+            take_statement_exit(s, stage, &of, h, stack, store)
         }
         Frame::Rest(n, r, xs) => match h {
             How::On => rest(n, r, xs, stack),
-            How::Break | How::Continue | How::Return(_) => Ok(Focus::Left(h)),
+            How::Break | How::Continue | How::Return(_) => Ok(Focus::Exit(h)),
         },
         Frame::Arms(n, r, xs) => match h {
             How::On => arms(n, r, 0, xs, stack),
-            How::Break | How::Continue | How::Return(_) => Ok(Focus::Left(h)),
+            How::Break | How::Continue | How::Return(_) => Ok(Focus::Exit(h)),
         },
         Frame::End(made) => {
             end_all(store, made);
-            Ok(Focus::Left(h))
+            Ok(Focus::Exit(h))
         }
-        Frame::Switch => Ok(Focus::Left(switched(h))),
+        Frame::Switch => Ok(Focus::Exit(switched(h))),
         Frame::Main(n, main) => main_called(s, n, main, h, stack, store),
         Frame::First(_, _) | Frame::Second(_, _, _) | Frame::Argument(_, _, _, _, _) => strays(),
         Frame::One(_, _, _, _) | Frame::Items(_, _, _, _, _) | Frame::Vars(_, _) | Frame::Filled =>
@@ -271,7 +271,7 @@ pub(crate) fn fill_up<'a>(
             items(s, n, &of, k, p, stack, store)
         }
         Frame::Vars(n, vs) => vars(n, vs, stack, store),
-        Frame::Filled => Ok(Focus::Left(How::On)),
+        Frame::Filled => Ok(Focus::Exit(How::On)),
         Frame::InStmt(stage, n, r, a) => full_statement(s, stage, n, r, a, stack, store),
         Frame::First(_, _)
         | Frame::Second(_, _, _)

@@ -11,7 +11,7 @@ ghost use Rattle.c_evaluate.specs.inner.Swift.{eval_of_on, operand_on};
 
 use crate::calls::{CallSite, arguments};
 use crate::cells::located;
-use crate::frame::{Came, Focus, Frame};
+use crate::frame::{Focus, Frame, Outcome};
 use crate::leaf::{at_once, global_at, nodes};
 use crate::operands::first;
 use crate::setting::Setting;
@@ -56,7 +56,7 @@ fn input<'a>(port: u32, store: &mut Store<'a>) -> Result<Focus<'a>, Stop>
         Some((x, rest)) => {
             let word = *x;
             store.answers = rest;
-            Ok(Focus::Made(Event::In(port, word), Came::Value(Cell::Num(word))))
+            Ok(Focus::Made(Event::In(port, word), Outcome::Value(Cell::Num(word))))
         }
     }
 }
@@ -75,13 +75,13 @@ pub(crate) fn eval<'a>(
         (eval_of_on (setting_of s.now) n (texpr e.now) (stack_of stack.old.items) (store_of store.old)) }
 {
     match &e.kind {
-        TKind::Number(x) => Ok(Focus::Came(Came::Value(Cell::Num(*x)))),
-        TKind::Null => Ok(Focus::Came(Came::Value(Cell::Null))),
-        TKind::Literal(number) => Ok(Focus::Came(Came::Place(s.literal_at(*number)))),
-        TKind::Global(number) => Ok(Focus::Came(Came::Place(global_at(*number)))),
+        TKind::Number(x) => Ok(Focus::Outcome(Outcome::Value(Cell::Num(*x)))),
+        TKind::Null => Ok(Focus::Outcome(Outcome::Value(Cell::Null))),
+        TKind::Literal(number) => Ok(Focus::Outcome(Outcome::Place(s.literal_at(*number)))),
+        TKind::Global(number) => Ok(Focus::Outcome(Outcome::Place(global_at(*number)))),
         TKind::Local(number) => {
             let p = located(e.span, local_cell(&store.locals, *number as usize))?;
-            Ok(Focus::Came(Came::Place(p)))
+            Ok(Focus::Outcome(Outcome::Place(p)))
         }
         TKind::Unary(_, x) => operand(s, n, e, x, stack, store),
         TKind::Binary(_, x, _) => operand(s, n, e, x, stack, store),
@@ -102,8 +102,8 @@ pub(crate) fn eval<'a>(
         }
         TKind::In(port) => input(*port, store),
         TKind::Out(_, x) => operand(s, n, e, x, stack, store),
-        TKind::Wait => Ok(Focus::Made(Event::Wait, Came::Nothing)),
+        TKind::Wait => Ok(Focus::Made(Event::Wait, Outcome::Nothing)),
         TKind::Halt => Err(Stop::Cause(End::Halted)),
-        TKind::Card => Ok(Focus::Came(Came::Value(s.card_at()))),
+        TKind::Card => Ok(Focus::Outcome(Outcome::Value(s.card_at()))),
     }
 }

@@ -14,11 +14,11 @@ ghost use Rattle.c_meaning.specs.Kinds.{span_of};
 
 use crate::assigning::{Lvalue, second_assigned, stepped_place};
 use crate::filling::vars;
-use crate::frame::{Came, Focus, Frame, How, Stage};
+use crate::frame::{Focus, Frame, How, Outcome, Stage};
 use crate::leaf::{at_once, nodes};
 use crate::setting::Setting;
 use crate::stack::{next, push};
-use crate::statements::{Statement, value_came};
+use crate::statements::{Statement, outcome_value};
 use crate::stop::Stop;
 use crate::store::{Store, fresh_all, released, spend};
 use crate::using::{placed, taken};
@@ -38,7 +38,7 @@ pub(crate) fn rest<'a>(
         (rest_of n r (tstmts (map tstmt xs.now)) (stack_of stack.old.items) u) }
 {
     match next(xs) {
-        None => Ok(Focus::Left(How::On)),
+        None => Ok(Focus::Exit(How::On)),
         Some((a, later)) => {
             push(stack, Frame::Rest(n, r, later))?;
             Ok(Focus::Do(n, r, a))
@@ -70,7 +70,7 @@ pub(crate) fn arms<'a>(
         }
         left = later;
     }
-    Ok(Focus::Left(How::On))
+    Ok(Focus::Exit(How::On))
 }
 
 /// Begins a turn of a `while` or a `for`.
@@ -134,7 +134,7 @@ pub(crate) fn asked<'a>(
                 result: r,
                 tree: a,
             };
-            value_came(s, &of, v, stack, store)
+            outcome_value(s, &of, v, stack, store)
         }
         None => ask(n, r, a, x, stack),
     }
@@ -163,7 +163,7 @@ fn assigned_behind<'a>(
     r: Cell,
     a: &'a TStmt,
     of: &Assignment<'a>,
-    v: Came,
+    v: Outcome,
     stack: &mut Vec<Frame<'a>>,
     store: &Store<'a>,
 ) -> Result<Focus<'a>, Stop>
@@ -184,8 +184,8 @@ fn assigned_at_once<'a>(
     s: &Setting<'a>,
     n: u32,
     of: &Assignment<'_>,
-    v: Came,
-    w: Came,
+    v: Outcome,
+    w: Outcome,
     stack: &Vec<Frame<'a>>,
     store: &mut Store<'a>,
 ) -> Result<Focus<'a>, Stop>
@@ -205,7 +205,7 @@ fn assigned_at_once<'a>(
     };
     let z = second_assigned(s, n, of.op, &to, y, d, store)?;
     released(store, &e.ty, z);
-    Ok(Focus::Left(How::On))
+    Ok(Focus::Exit(How::On))
 }
 
 /// An assignment whose place and value may come at once.
@@ -256,7 +256,7 @@ fn steps<'a>(
     let p = placed(e.span, v)?;
     let z = stepped_place(s, n, of.op, of.operand, e.span, p, store)?;
     released(store, &e.ty, z);
-    Ok(Focus::Left(How::On))
+    Ok(Focus::Exit(How::On))
 }
 
 /// An expression whose value is dropped.
@@ -337,7 +337,7 @@ pub(crate) fn exec<'a>(
             push(stack, Frame::End(made.as_slice()))?;
             rest(n, r, body.as_slice(), stack)
         }
-        TStmt::Empty => Ok(Focus::Left(How::On)),
+        TStmt::Empty => Ok(Focus::Exit(How::On)),
         TStmt::Vars(vs) => {
             push(stack, Frame::Filled)?;
             vars(n, vs.as_slice(), stack, store)
@@ -356,9 +356,9 @@ pub(crate) fn exec<'a>(
             }
         }
         TStmt::Switch(x, _, _) => asked(s, n, r, a, x, stack, store),
-        TStmt::Return(None) => Ok(Focus::Left(How::Return(None))),
+        TStmt::Return(None) => Ok(Focus::Exit(How::Return(None))),
         TStmt::Return(Some(x)) => asked(s, n, r, a, x, stack, store),
-        TStmt::Break => Ok(Focus::Left(How::Break)),
-        TStmt::Continue => Ok(Focus::Left(How::Continue)),
+        TStmt::Break => Ok(Focus::Exit(How::Break)),
+        TStmt::Continue => Ok(Focus::Exit(How::Continue)),
     }
 }

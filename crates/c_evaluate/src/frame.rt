@@ -7,7 +7,7 @@ use obj_mem::Cell;
 
 /// What came of an expression: a value, a place, or none.
 #[derive(Clone, Copy)]
-pub(crate) enum Came {
+pub(crate) enum Outcome {
     Value(Cell),
     Place(Cell),
     Nothing,
@@ -29,9 +29,9 @@ pub(crate) enum Focus<'a> {
     Eval(u32, &'a TExpr),
     Fill(u32, &'a TInit, Option<&'a CType>, Cell),
     Do(u32, Cell, &'a TStmt),
-    Came(Came),
-    Made(Event, Came),
-    Left(How),
+    Outcome(Outcome),
+    Made(Event, Outcome),
+    Exit(How),
     Full,
     Over(End),
 }

@@ -7,12 +7,12 @@ ghost use Rattle.c_meaning.specs.Operators.{is_true};
 ghost use Rattle.c_meaning.specs.Setting.{global_at};
 ghost use Rattle.c_evaluate.specs.inner.SettingView.{setting_of};
 ghost use Rattle.c_evaluate.specs.inner.StoreView.{store_of};
-ghost use Rattle.c_evaluate.specs.declared.frame.Came.TheVariants.{Value};
+ghost use Rattle.c_evaluate.specs.declared.frame.Outcome.TheVariants.{Value};
 ghost use Rattle.c_evaluate.specs.inner.Swift.{answered, arrow_at_once, at_once, binary_at_once, cast_at_once, comes, index_at_once};
 ghost use Rattle.c_evaluate.specs.inner.Swift.{is_strict, local_at_once, member_at_once, place_at_once, place_of, seen, seen_at, unary_at_once};
 ghost use Rattle.c_evaluate.specs.inner.Swift.{value_at_once, with_some};
 
-use crate::frame::Came;
+use crate::frame::Outcome;
 use crate::operators::{cell_unary, converted, is_true, operated, read_as, stepped, truth};
 use crate::setting::Setting;
 use crate::store::Store;
@@ -34,12 +34,12 @@ pub(crate) fn global_at(number: u32) -> Cell
 }
 
 #[inline(always)]
-fn local_at_once(at: Option<u64>) -> Option<Came>
+fn local_at_once(at: Option<u64>) -> Option<Outcome>
     ensures { result ≡ local_at_once at }
 {
     match at {
         None => None,
-        Some(object) => Some(Came::Place(Cell::Ptr { object, offset: 0 })),
+        Some(object) => Some(Outcome::Place(Cell::Ptr { object, offset: 0 })),
     }
 }
 
@@ -54,21 +54,21 @@ fn answered(answer: Result<Cell, Refusal>) -> Option<Cell>
 }
 
 #[inline(always)]
-fn value_at_once(answer: Result<Cell, Refusal>) -> Option<Came>
+fn value_at_once(answer: Result<Cell, Refusal>) -> Option<Outcome>
     ensures { result ≡ value_at_once answer }
 {
     match answer {
-        Ok(c) => Some(Came::Value(c)),
+        Ok(c) => Some(Outcome::Value(c)),
         Err(_) => None,
     }
 }
 
 #[inline(always)]
-fn place_at_once(answer: Result<Cell, Refusal>) -> Option<Came>
+fn place_at_once(answer: Result<Cell, Refusal>) -> Option<Outcome>
     ensures { result ≡ place_at_once answer }
 {
     match answer {
-        Ok(p) => Some(Came::Place(p)),
+        Ok(p) => Some(Outcome::Place(p)),
         Err(_) => None,
     }
 }
@@ -92,47 +92,47 @@ fn seen_at<'a>(ty: &CType, p: Cell, store: &Store<'a>) -> Option<Cell>
 /// The value of what came.
 #[inline(always)]
 #[tactic(auto, unfolding(crate::specs::inner::Swift::seen))]
-fn seen<'a>(ty: &CType, v: Came, store: &Store<'a>) -> Option<Cell>
+fn seen<'a>(ty: &CType, v: Outcome, store: &Store<'a>) -> Option<Cell>
     ensures { result ≡ seen (ctype ty.now) v (store_of store.now) }
 {
     match v {
-        Came::Value(c) => Some(c),
-        Came::Place(p) => seen_at(ty, p, store),
-        Came::Nothing => None,
+        Outcome::Value(c) => Some(c),
+        Outcome::Place(p) => seen_at(ty, p, store),
+        Outcome::Nothing => None,
     }
 }
 
 #[inline(always)]
-fn place_of(v: Came) -> Option<Cell>
+fn place_of(v: Outcome) -> Option<Cell>
     ensures { result ≡ place_of v }
 {
     match v {
-        Came::Place(p) => Some(p),
-        Came::Value(_) | Came::Nothing => None,
+        Outcome::Place(p) => Some(p),
+        Outcome::Value(_) | Outcome::Nothing => None,
     }
 }
 
-fn negated<'a>(ty: &CType, c: Cell, store: &Store<'a>) -> Option<Came>
+fn negated<'a>(ty: &CType, c: Cell, store: &Store<'a>) -> Option<Outcome>
     ensures { result ≡ with_some (answered (is_true (store_of store.now).objects (decayed (ctype ty.now)) c)) (λ b. Some (Value (truth (not b)))) }
 {
     match is_true(&store.objects, ty, c) {
-        Ok(b) => Some(Came::Value(truth(!b))),
+        Ok(b) => Some(Outcome::Value(truth(!b))),
         Err(_) => None,
     }
 }
 
 #[tactic(auto, unfolding(crate::specs::inner::Swift::unary_at_once))]
-fn unary_at_once<'a>(op: UnOp, ty: &CType, v: Came, store: &Store<'a>) -> Option<Came>
+fn unary_at_once<'a>(op: UnOp, ty: &CType, v: Outcome, store: &Store<'a>) -> Option<Outcome>
     ensures { result ≡ unary_at_once op (ctype ty.now) v (store_of store.now) }
 {
     match op {
         UnOp::Deref => match seen(ty, v, store) {
             None => None,
-            Some(c) => Some(Came::Place(c)),
+            Some(c) => Some(Outcome::Place(c)),
         },
         UnOp::Address => match place_of(v) {
             None => None,
-            Some(p) => Some(Came::Value(p)),
+            Some(p) => Some(Outcome::Value(p)),
         },
         UnOp::Not => match seen(ty, v, store) {
             None => None,
@@ -178,10 +178,10 @@ fn binary_at_once<'a>(
     op: BinOp,
     ta: &CType,
     tb: &CType,
-    v: Came,
-    w: Came,
+    v: Outcome,
+    w: Outcome,
     store: &Store<'a>,
-) -> Option<Came>
+) -> Option<Outcome>
     ensures { result ≡ binary_at_once (setting_of s.now) op (ctype ta.now) (ctype tb.now) v w (store_of store.now) }
 {
     match seen(ta, v, store) {
@@ -200,10 +200,10 @@ fn index_at_once<'a>(
     ty: &CType,
     ta: &CType,
     tb: &CType,
-    v: Came,
-    w: Came,
+    v: Outcome,
+    w: Outcome,
     store: &Store<'a>,
-) -> Option<Came>
+) -> Option<Outcome>
     ensures { result ≡ index_at_once (setting_of s.now) (ctype ty.now) (ctype ta.now) (ctype tb.now) v w (store_of store.now) }
 {
     match seen(ta, v, store) {
@@ -222,10 +222,10 @@ fn binary_with<'a>(
     op: BinOp,
     ta: &CType,
     tb: &CType,
-    v: Came,
-    w: Option<Came>,
+    v: Outcome,
+    w: Option<Outcome>,
     store: &Store<'a>,
-) -> Option<Came>
+) -> Option<Outcome>
     ensures { result ≡ with_some w (λ z. binary_at_once (setting_of s.now) op (ctype ta.now) (ctype tb.now) v z (store_of store.now)) }
 {
     match w {
@@ -240,10 +240,10 @@ fn index_with<'a>(
     ty: &CType,
     ta: &CType,
     tb: &CType,
-    v: Came,
-    w: Option<Came>,
+    v: Outcome,
+    w: Option<Outcome>,
     store: &Store<'a>,
-) -> Option<Came>
+) -> Option<Outcome>
     ensures { result ≡ with_some w (λ z. index_at_once (setting_of s.now) (ctype ty.now) (ctype ta.now) (ctype tb.now) v z (store_of store.now)) }
 {
     match w {
@@ -253,7 +253,7 @@ fn index_with<'a>(
 }
 
 #[tactic(auto, unfolding(crate::specs::inner::Swift::member_at_once))]
-fn member_at_once(offset: u32, v: Came) -> Option<Came>
+fn member_at_once(offset: u32, v: Outcome) -> Option<Outcome>
     ensures { result ≡ member_at_once offset v }
 {
     match place_of(v) {
@@ -263,7 +263,7 @@ fn member_at_once(offset: u32, v: Came) -> Option<Came>
 }
 
 #[tactic(auto, unfolding(crate::specs::inner::Swift::arrow_at_once))]
-fn arrow_at_once<'a>(ty: &CType, offset: u32, v: Came, store: &Store<'a>) -> Option<Came>
+fn arrow_at_once<'a>(ty: &CType, offset: u32, v: Outcome, store: &Store<'a>) -> Option<Outcome>
     ensures { result ≡ arrow_at_once (ctype ty.now) offset v (store_of store.now) }
 {
     match seen(ty, v, store) {
@@ -273,7 +273,7 @@ fn arrow_at_once<'a>(ty: &CType, offset: u32, v: Came, store: &Store<'a>) -> Opt
 }
 
 #[tactic(auto, unfolding(crate::specs::inner::Swift::cast_at_once))]
-fn cast_at_once<'a>(to: &CType, ty: &CType, v: Came, store: &Store<'a>) -> Option<Came>
+fn cast_at_once<'a>(to: &CType, ty: &CType, v: Outcome, store: &Store<'a>) -> Option<Outcome>
     ensures { result ≡ cast_at_once (ctype to.now) (ctype ty.now) v (store_of store.now) }
 {
     match seen(ty, v, store) {
@@ -284,14 +284,14 @@ fn cast_at_once<'a>(to: &CType, ty: &CType, v: Came, store: &Store<'a>) -> Optio
 
 /// What comes of an expression without operators; none of others.
 #[tactic(auto, unfolding(crate::specs::inner::Swift::comes))]
-fn leaf_at_once<'a>(s: &Setting<'a>, x: &TExpr, store: &Store<'a>) -> Option<Came>
+fn leaf_at_once<'a>(s: &Setting<'a>, x: &TExpr, store: &Store<'a>) -> Option<Outcome>
     ensures { result ≡ comes (setting_of s.now) 0 (texpr x.now) (store_of store.now) }
 {
     match &x.kind {
-        TKind::Number(n) => Some(Came::Value(Cell::Num(*n))),
-        TKind::Null => Some(Came::Value(Cell::Null)),
-        TKind::Literal(number) => Some(Came::Place(s.literal_at(*number))),
-        TKind::Global(number) => Some(Came::Place(global_at(*number))),
+        TKind::Number(n) => Some(Outcome::Value(Cell::Num(*n))),
+        TKind::Null => Some(Outcome::Value(Cell::Null)),
+        TKind::Literal(number) => Some(Outcome::Place(s.literal_at(*number))),
+        TKind::Global(number) => Some(Outcome::Place(global_at(*number))),
         TKind::Local(number) => local_at_once(local_object(&store.locals, *number as usize)),
         TKind::Unary(_, _) | TKind::Binary(_, _, _) | TKind::Index(_, _) => None,
         TKind::Member(_, _) | TKind::Arrow(_, _) | TKind::Cast(_) => None,
@@ -303,7 +303,7 @@ fn leaf_at_once<'a>(s: &Setting<'a>, x: &TExpr, store: &Store<'a>) -> Option<Cam
 
 /// What comes of an expression whose operators nest to a depth at most; none of others, which take steps.
 #[tactic(auto, unfolding(crate::specs::inner::Swift::comes))]
-fn comes<'a>(s: &Setting<'a>, depth: u32, x: &TExpr, store: &Store<'a>) -> Option<Came>
+fn comes<'a>(s: &Setting<'a>, depth: u32, x: &TExpr, store: &Store<'a>) -> Option<Outcome>
     ensures { result ≡ comes (setting_of s.now) depth (texpr x.now) (store_of store.now) }
 {
     if depth == 0 {
@@ -355,7 +355,7 @@ fn comes<'a>(s: &Setting<'a>, depth: u32, x: &TExpr, store: &Store<'a>) -> Optio
 
 /// What comes of an operand without a step; none of others, which take steps.
 #[tactic(auto, unfolding(crate::specs::inner::Swift::at_once))]
-pub(crate) fn at_once<'a>(s: &Setting<'a>, x: &TExpr, store: &Store<'a>) -> Option<Came>
+pub(crate) fn at_once<'a>(s: &Setting<'a>, x: &TExpr, store: &Store<'a>) -> Option<Outcome>
     ensures { result ≡ at_once (setting_of s.now) (texpr x.now) (store_of store.now) }
 {
     comes(s, DEPTH, x, store)

@@ -4,19 +4,19 @@ ghost use Rattle.c_types.specs.View.{ctype, texpr};
 ghost use Rattle.kit_base.specs.declared.event.Event.TheVariants.{Out};
 ghost use Rattle.obj_mem.specs.Queries.{word_of, truth};
 ghost use Rattle.c_meaning.specs.Operators.{converted};
-ghost use Rattle.c_evaluate.specs.declared.frame.Came.TheVariants.{Nothing, Value};
+ghost use Rattle.c_evaluate.specs.declared.frame.Outcome.TheVariants.{Nothing, Value};
 ghost use Rattle.c_evaluate.specs.inner.Machine.{FrameT, Going, MadeF};
 ghost use Rattle.c_evaluate.specs.inner.Storing.{at_span, placed_in, taken, tested_in};
 ghost use Rattle.c_evaluate.specs.inner.Results.{Leads};
 ghost use Rattle.c_evaluate.specs.inner.FocusView.{at, stack_of};
 ghost use Rattle.c_evaluate.specs.inner.SettingView.{setting_of};
 ghost use Rattle.c_evaluate.specs.inner.StoreView.{store_of};
-ghost use Rattle.c_evaluate.specs.inner.Steps.{on, came, value_here, combined, unary_first, member_first, binary_second, second_of};
+ghost use Rattle.c_evaluate.specs.inner.Steps.{on, outcome, value_here, combined, unary_first, member_first, binary_second, second_of};
 ghost use Rattle.c_evaluate.specs.inner.Swift.{binary_on, first_of_on, second_on};
 
 use crate::assigning::{Lvalue, member, second_assigned, second_operated, stepped_place};
 use crate::cells::located;
-use crate::frame::{Came, Focus, Frame};
+use crate::frame::{Focus, Frame, Outcome};
 use crate::leaf::{at_once, nodes};
 use crate::operators::{cell_unary, converted, stepped, truth};
 use crate::setting::Setting;
@@ -53,7 +53,7 @@ fn unary<'a>(
     s: &Setting<'a>,
     n: u32,
     of: &UnaryNode<'_>,
-    v: Came,
+    v: Outcome,
     stack: &Vec<Frame<'a>>,
     store: &mut Store<'a>,
 ) -> Result<Focus<'a>, Stop>
@@ -63,20 +63,20 @@ fn unary<'a>(
     match of.op {
         UnOp::Deref => {
             let p = taken(s, n, of.operand, v, store)?;
-            Ok(Focus::Came(Came::Place(p)))
+            Ok(Focus::Outcome(Outcome::Place(p)))
         }
         UnOp::Address => {
             let p = placed(of.span, v)?;
-            Ok(Focus::Came(Came::Value(p)))
+            Ok(Focus::Outcome(Outcome::Value(p)))
         }
         UnOp::Not => {
             let b = tested(s, n, of.operand, v, store)?;
-            Ok(Focus::Came(Came::Value(truth(!b))))
+            Ok(Focus::Outcome(Outcome::Value(truth(!b))))
         }
         UnOp::Minus | UnOp::Plus | UnOp::Flip => {
             let c = taken(s, n, of.operand, v, store)?;
             let z = located(of.span, cell_unary(of.op, c))?;
-            Ok(Focus::Came(Came::Value(z)))
+            Ok(Focus::Outcome(Outcome::Value(z)))
         }
     }
 }
@@ -97,7 +97,7 @@ fn second<'a>(
     match at_once(s, y, store) {
         Some(v) => {
             spend(store, nodes(y));
-            second_came(s, n, e, c, v, stack, store)
+            with_second(s, n, e, c, v, stack, store)
         }
         None => {
             push(stack, Frame::Second(n, e, c))?;
@@ -113,22 +113,22 @@ fn member_of<'a>(
     x: &TExpr,
     span: Span,
     offset: u32,
-    v: Came,
+    v: Outcome,
     store: &mut Store<'a>,
 ) -> Result<Focus<'a>, Stop>
     ensures { (k : List FrameT) → Leads (λ f. at f k (store_of store.new)) result
         (member_first (ctype ty.now) (texpr x.now) span offset v k (store_of store.old)) }
 {
     match v {
-        Came::Place(p) => {
+        Outcome::Place(p) => {
             let q = located(span, step(p, offset))?;
-            Ok(Focus::Came(Came::Place(q)))
+            Ok(Focus::Outcome(Outcome::Place(q)))
         }
-        Came::Value(p) => {
+        Outcome::Value(p) => {
             let c = member(ty, span, further(p, offset), store)?;
-            Ok(Focus::Came(Came::Value(c)))
+            Ok(Focus::Outcome(Outcome::Value(c)))
         }
-        Came::Nothing => Err(Stop::Cause(End::Stray(x.span))),
+        Outcome::Nothing => Err(Stop::Cause(End::Stray(x.span))),
     }
 }
 
@@ -139,7 +139,7 @@ fn cast<'a>(
     n: u32,
     e: &TExpr,
     x: &TExpr,
-    v: Came,
+    v: Outcome,
     stack: &Vec<Frame<'a>>,
     store: &mut Store<'a>,
 ) -> Result<Focus<'a>, Stop>
@@ -149,7 +149,7 @@ fn cast<'a>(
 {
     let c = taken(s, n, x, v, store)?;
     let z = located(e.span, converted(&e.ty, c))?;
-    Ok(Focus::Came(Came::Value(z)))
+    Ok(Focus::Outcome(Outcome::Value(z)))
 }
 
 /// A word goes out at a port.
@@ -164,7 +164,7 @@ fn output<'a>(
         (on (at_span span (word_of c)) (λ z. Going (MadeF (Out port z) Nothing) (stack_of stack.now.items) (store_of store.now))) }
 {
     let word = located(span, word_of(c))?;
-    Ok(Focus::Made(Event::Out(port, word), Came::Nothing))
+    Ok(Focus::Made(Event::Out(port, word), Outcome::Nothing))
 }
 
 /// The place that is assigned to came.
@@ -174,7 +174,7 @@ fn assignment<'a>(
     n: u32,
     e: &'a TExpr,
     y: &'a TExpr,
-    v: Came,
+    v: Outcome,
     stack: &mut Vec<Frame<'a>>,
     store: &mut Store<'a>,
 ) -> Result<Focus<'a>, Stop>
@@ -192,7 +192,7 @@ fn strict_first<'a>(
     s: &Setting<'a>,
     n: u32,
     of: &BinaryNode<'a>,
-    v: Came,
+    v: Outcome,
     stack: &mut Vec<Frame<'a>>,
     store: &mut Store<'a>,
 ) -> Result<Focus<'a>, Stop>
@@ -210,7 +210,7 @@ fn binary<'a>(
     s: &Setting<'a>,
     n: u32,
     of: &BinaryNode<'a>,
-    v: Came,
+    v: Outcome,
     stack: &mut Vec<Frame<'a>>,
     store: &mut Store<'a>,
 ) -> Result<Focus<'a>, Stop>
@@ -223,12 +223,12 @@ fn binary<'a>(
             if tested(s, n, of.left, v, store)? {
                 second(s, n, of.node, of.right, Cell::Unwritten, stack, store)
             } else {
-                Ok(Focus::Came(Came::Value(truth(false))))
+                Ok(Focus::Outcome(Outcome::Value(truth(false))))
             }
         }
         BinOp::OrElse => {
             if tested(s, n, of.left, v, store)? {
-                Ok(Focus::Came(Came::Value(truth(true))))
+                Ok(Focus::Outcome(Outcome::Value(truth(true))))
             } else {
                 second(s, n, of.node, of.right, Cell::Unwritten, stack, store)
             }
@@ -258,15 +258,15 @@ fn truth_second<'a>(
     s: &Setting<'a>,
     n: u32,
     y: &TExpr,
-    v: Came,
+    v: Outcome,
     stack: &Vec<Frame<'a>>,
     store: &mut Store<'a>,
 ) -> Result<Focus<'a>, Stop>
     ensures { Leads (λ f. at f (stack_of stack.now.items) (store_of store.new)) result
-        (on (tested_in (setting_of s.now) n (texpr y.now) v (store_of store.old)) (λ t. came (Value (truth t.0)) (stack_of stack.now.items) t.1)) }
+        (on (tested_in (setting_of s.now) n (texpr y.now) v (store_of store.old)) (λ t. outcome (Value (truth t.0)) (stack_of stack.now.items) t.1)) }
 {
     let b = tested(s, n, y, v, store)?;
-    Ok(Focus::Came(Came::Value(truth(b))))
+    Ok(Focus::Outcome(Outcome::Value(truth(b))))
 }
 
 /// The value of an operator other than `&&` and `||`, whose second operand came.
@@ -276,7 +276,7 @@ fn combined<'a>(
     n: u32,
     of: &BinaryNode<'_>,
     c: Cell,
-    v: Came,
+    v: Outcome,
     stack: &Vec<Frame<'a>>,
     store: &mut Store<'a>,
 ) -> Result<Focus<'a>, Stop>
@@ -286,7 +286,7 @@ fn combined<'a>(
 {
     let d = taken(s, n, of.right, v, store)?;
     let z = second_operated(s, of, c, d, store)?;
-    Ok(Focus::Came(Came::Value(z)))
+    Ok(Focus::Outcome(Outcome::Value(z)))
 }
 
 /// What came of the second operand of a binary operator.
@@ -296,7 +296,7 @@ fn binary_second<'a>(
     n: u32,
     of: &BinaryNode<'_>,
     c: Cell,
-    v: Came,
+    v: Outcome,
     stack: &Vec<Frame<'a>>,
     store: &mut Store<'a>,
 ) -> Result<Focus<'a>, Stop>
@@ -333,7 +333,7 @@ pub(crate) fn first<'a>(
     s: &Setting<'a>,
     n: u32,
     e: &'a TExpr,
-    v: Came,
+    v: Outcome,
     stack: &mut Vec<Frame<'a>>,
     store: &mut Store<'a>,
 ) -> Result<Focus<'a>, Stop>
@@ -362,7 +362,7 @@ pub(crate) fn first<'a>(
         TKind::Step(op, x) => {
             let p = placed(e.span, v)?;
             let z = stepped_place(s, n, *op, x, e.span, p, store)?;
-            Ok(Focus::Came(Came::Value(z)))
+            Ok(Focus::Outcome(Outcome::Value(z)))
         }
         TKind::Index(x, y) => {
             let c = taken(s, n, x, v, store)?;
@@ -372,7 +372,7 @@ pub(crate) fn first<'a>(
         TKind::Arrow(x, offset) => {
             let p = taken(s, n, x, v, store)?;
             let q = located(e.span, step(p, *offset))?;
-            Ok(Focus::Came(Came::Place(q)))
+            Ok(Focus::Outcome(Outcome::Place(q)))
         }
         TKind::Cast(x) => cast(s, n, e, x, v, stack, store),
         TKind::Out(port, x) => {
@@ -380,9 +380,9 @@ pub(crate) fn first<'a>(
             output(*port, x.span, c, stack, store)
         }
         TKind::Number(_) | TKind::Null | TKind::Literal(_) | TKind::Global(_) | TKind::Local(_) =>
-            Ok(Focus::Came(v)),
+            Ok(Focus::Outcome(v)),
         TKind::Call(_, _) | TKind::In(_) | TKind::Wait | TKind::Halt | TKind::Card => Ok(
-            Focus::Came(v),
+            Focus::Outcome(v),
         ),
     }
 }
@@ -390,12 +390,12 @@ pub(crate) fn first<'a>(
 /// What came of the second operand, where the first came to a cell.
 #[inline(always)]
 #[tactic(auto, unfolding(crate::specs::inner::Steps::second_step))]
-pub(crate) fn second_came<'a>(
+pub(crate) fn with_second<'a>(
     s: &Setting<'a>,
     n: u32,
     e: &'a TExpr,
     c: Cell,
-    v: Came,
+    v: Outcome,
     stack: &Vec<Frame<'a>>,
     store: &mut Store<'a>,
 ) -> Result<Focus<'a>, Stop>
@@ -420,25 +420,25 @@ pub(crate) fn second_came<'a>(
                 place: c,
             };
             let z = second_assigned(s, n, *op, &to, y, d, store)?;
-            Ok(Focus::Came(Came::Value(z)))
+            Ok(Focus::Outcome(Outcome::Value(z)))
         }
         TKind::Index(_, y) => {
             let d = taken(s, n, y, v, store)?;
             let q = located(e.span, stepped(s.words(&e.ty), c, d))?;
-            Ok(Focus::Came(Came::Place(q)))
+            Ok(Focus::Outcome(Outcome::Place(q)))
         }
         TKind::Number(_) | TKind::Null | TKind::Literal(_) | TKind::Global(_) | TKind::Local(_) =>
-            Ok(Focus::Came(v)),
+            Ok(Focus::Outcome(v)),
         TKind::Unary(_, _)
         | TKind::Step(_, _)
         | TKind::Member(_, _)
         | TKind::Arrow(_, _)
-        | TKind::Cast(_) => Ok(Focus::Came(v)),
+        | TKind::Cast(_) => Ok(Focus::Outcome(v)),
         TKind::Call(_, _)
         | TKind::In(_)
         | TKind::Out(_, _)
         | TKind::Wait
         | TKind::Halt
-        | TKind::Card => Ok(Focus::Came(v)),
+        | TKind::Card => Ok(Focus::Outcome(v)),
     }
 }

@@ -16,7 +16,7 @@ ghost use Rattle.c_evaluate.specs.inner.Swift.{again_on, body_on};
 use crate::cells::{cells, located};
 use crate::exec::{arms, ask, asked, part, turn};
 use crate::filling::nowhere;
-use crate::frame::{Came, Focus, Frame, How, Stage};
+use crate::frame::{Focus, Frame, How, Outcome, Stage};
 use crate::operators::converted;
 use crate::setting::Setting;
 use crate::stack::{next, push};
@@ -185,7 +185,7 @@ fn returns<'a>(
     n: u32,
     r: Cell,
     x: &TExpr,
-    v: Came,
+    v: Outcome,
     stack: &Vec<Frame<'a>>,
     store: &mut Store<'a>,
 ) -> Result<Focus<'a>, Stop>
@@ -200,7 +200,7 @@ fn returns<'a>(
     };
     let z = located(x.span, converted(ty, c))?;
     let w = returned(s, n, ty, r, z, store)?;
-    Ok(Focus::Left(How::Return(Some(w))))
+    Ok(Focus::Exit(How::Return(Some(w))))
 }
 
 /// The value of a switch came.
@@ -209,7 +209,7 @@ fn switches<'a>(
     n: u32,
     r: Cell,
     of: &SwitchParts<'a>,
-    v: Came,
+    v: Outcome,
     stack: &mut Vec<Frame<'a>>,
     store: &mut Store<'a>,
 ) -> Result<Focus<'a>, Stop>
@@ -234,7 +234,7 @@ fn loops<'a>(
     of: &Statement<'a>,
     x: &TExpr,
     body: &'a TStmt,
-    v: Came,
+    v: Outcome,
     stack: &mut Vec<Frame<'a>>,
     store: &mut Store<'a>,
 ) -> Result<Focus<'a>, Stop>
@@ -245,17 +245,17 @@ fn loops<'a>(
     if tested(s, of.bound, x, v, store)? {
         part(Stage::Body, of.bound, of.result, of.tree, body, stack)
     } else {
-        Ok(Focus::Left(How::On))
+        Ok(Focus::Exit(How::On))
     }
 }
 
 /// The value that a statement asks for came.
 #[inline(always)]
 #[tactic(auto, unfolding(crate::specs::inner::Steps::value_step))]
-pub(crate) fn value_came<'a>(
+pub(crate) fn outcome_value<'a>(
     s: &Setting<'a>,
     of: &Statement<'a>,
-    v: Came,
+    v: Outcome,
     stack: &mut Vec<Frame<'a>>,
     store: &mut Store<'a>,
 ) -> Result<Focus<'a>, Stop>
@@ -265,13 +265,13 @@ pub(crate) fn value_came<'a>(
     match of.tree {
         TStmt::Do(x) => {
             dropped(s, of.bound, x, v, store)?;
-            Ok(Focus::Left(How::On))
+            Ok(Focus::Exit(How::On))
         }
         TStmt::If(x, b, None) => {
             if tested(s, of.bound, x, v, store)? {
                 Ok(Focus::Do(of.bound, of.result, b))
             } else {
-                Ok(Focus::Left(How::On))
+                Ok(Focus::Exit(How::On))
             }
         }
         TStmt::If(x, b, Some(other)) => {
@@ -286,7 +286,7 @@ pub(crate) fn value_came<'a>(
             if tested(s, of.bound, x, v, store)? {
                 do_again(of.bound, of.result, of.tree, body, stack)
             } else {
-                Ok(Focus::Left(How::On))
+                Ok(Focus::Exit(How::On))
             }
         }
         TStmt::For(_, None, Some(x), _, body) => loops(s, of, x, body, v, stack, store),
@@ -323,7 +323,7 @@ fn stepped<'a>(
     of: &Statement<'a>,
     turn: &Turn<'a>,
     y: &TExpr,
-    v: Came,
+    v: Outcome,
     stack: &mut Vec<Frame<'a>>,
     store: &mut Store<'a>,
 ) -> Result<Focus<'a>, Stop>
@@ -337,10 +337,10 @@ fn stepped<'a>(
 
 /// The step of a `for` came.
 #[tactic(auto, unfolding(crate::specs::inner::Steps::step_step))]
-pub(crate) fn step_came<'a>(
+pub(crate) fn with_step<'a>(
     s: &Setting<'a>,
     of: &Statement<'a>,
-    v: Came,
+    v: Outcome,
     stack: &mut Vec<Frame<'a>>,
     store: &mut Store<'a>,
 ) -> Result<Focus<'a>, Stop>
@@ -378,7 +378,7 @@ pub(crate) fn step_came<'a>(
 }
 
 /// The body of a `for` was left.
-fn for_left<'a>(
+fn for_exit<'a>(
     of: &Statement<'a>,
     test: Option<&'a TExpr>,
     y: Option<&'a TExpr>,
@@ -395,8 +395,8 @@ fn for_left<'a>(
     match h {
         How::On => step(of.bound, of.result, of.tree, test, y, body, stack),
         How::Continue => step(of.bound, of.result, of.tree, test, y, body, stack),
-        How::Break => Ok(Focus::Left(How::On)),
-        How::Return(c) => Ok(Focus::Left(How::Return(c))),
+        How::Break => Ok(Focus::Exit(How::On)),
+        How::Return(c) => Ok(Focus::Exit(How::Return(c))),
     }
 }
 
@@ -416,7 +416,7 @@ fn for_begun<'a>(
 {
     match h {
         How::On => turn(of.bound, of.result, of.tree, test, body, stack),
-        How::Break | How::Continue | How::Return(_) => Ok(Focus::Left(h)),
+        How::Break | How::Continue | How::Return(_) => Ok(Focus::Exit(h)),
     }
 }
 
@@ -443,7 +443,7 @@ fn while_again<'a>(
 /// The body of a loop was left.
 #[inline(always)]
 #[tactic(auto, unfolding(crate::specs::inner::Swift::body_on, crate::specs::inner::Steps::body_step))]
-pub(crate) fn body_left<'a>(
+pub(crate) fn body_exit<'a>(
     s: &Setting<'a>,
     of: &Statement<'a>,
     h: How,
@@ -457,31 +457,31 @@ pub(crate) fn body_left<'a>(
         TStmt::While(x, _) => match h {
             How::On => while_again(s, of.bound, of.result, of.tree, x, stack, store),
             How::Continue => while_again(s, of.bound, of.result, of.tree, x, stack, store),
-            How::Break => Ok(Focus::Left(How::On)),
-            How::Return(c) => Ok(Focus::Left(How::Return(c))),
+            How::Break => Ok(Focus::Exit(How::On)),
+            How::Return(c) => Ok(Focus::Exit(How::Return(c))),
         },
         TStmt::DoWhile(_, x) => match h {
             How::On => ask(of.bound, of.result, of.tree, x, stack),
             How::Continue => ask(of.bound, of.result, of.tree, x, stack),
-            How::Break => Ok(Focus::Left(How::On)),
-            How::Return(c) => Ok(Focus::Left(How::Return(c))),
+            How::Break => Ok(Focus::Exit(How::On)),
+            How::Return(c) => Ok(Focus::Exit(How::Return(c))),
         },
         TStmt::For(_, None, test, y, body) => {
-            for_left(of, test.as_ref(), y.as_ref(), body, h, stack, store)
+            for_exit(of, test.as_ref(), y.as_ref(), body, h, stack, store)
         }
         TStmt::For(_, Some(_), test, y, body) => {
-            for_left(of, test.as_ref(), y.as_ref(), body, h, stack, store)
+            for_exit(of, test.as_ref(), y.as_ref(), body, h, stack, store)
         }
         TStmt::Block(_, _) | TStmt::Empty | TStmt::Vars(_) | TStmt::Do(_) | TStmt::If(_, _, None) =>
-            Ok(Focus::Left(h)),
-        TStmt::If(_, _, Some(_)) | TStmt::Switch(_, _, _) | TStmt::Return(_) => Ok(Focus::Left(h)),
-        TStmt::Break | TStmt::Continue => Ok(Focus::Left(h)),
+            Ok(Focus::Exit(h)),
+        TStmt::If(_, _, Some(_)) | TStmt::Switch(_, _, _) | TStmt::Return(_) => Ok(Focus::Exit(h)),
+        TStmt::Break | TStmt::Continue => Ok(Focus::Exit(h)),
     }
 }
 
 /// The first part of a `for` was left.
 #[tactic(auto, unfolding(crate::specs::inner::Steps::begin_step))]
-pub(crate) fn begin_left<'a>(
+pub(crate) fn begin_exit<'a>(
     of: &Statement<'a>,
     h: How,
     stack: &mut Vec<Frame<'a>>,
@@ -501,11 +501,11 @@ pub(crate) fn begin_left<'a>(
             store,
         ),
         TStmt::Block(_, _) | TStmt::Empty | TStmt::Vars(_) | TStmt::Do(_) | TStmt::If(_, _, None) =>
-            Ok(Focus::Left(h)),
+            Ok(Focus::Exit(h)),
         TStmt::If(_, _, Some(_))
         | TStmt::While(_, _)
         | TStmt::DoWhile(_, _)
-        | TStmt::Switch(_, _, _) => Ok(Focus::Left(h)),
-        TStmt::Return(_) | TStmt::Break | TStmt::Continue => Ok(Focus::Left(h)),
+        | TStmt::Switch(_, _, _) => Ok(Focus::Exit(h)),
+        TStmt::Return(_) | TStmt::Break | TStmt::Continue => Ok(Focus::Exit(h)),
     }
 }

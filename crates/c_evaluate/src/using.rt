@@ -7,7 +7,7 @@ ghost use Rattle.c_evaluate.specs.inner.StoreView.{store_of};
 ghost use Rattle.c_evaluate.specs.inner.Storing.{taken, tested_in, dropped_in, placed_in};
 
 use crate::cells::{fetched, located};
-use crate::frame::Came;
+use crate::frame::Outcome;
 use crate::operators::is_true;
 use crate::setting::Setting;
 use crate::stop::Stop;
@@ -23,15 +23,15 @@ pub(crate) fn taken<'a>(
     s: &Setting<'a>,
     n: u32,
     x: &TExpr,
-    v: Came,
+    v: Outcome,
     store: &mut Store<'a>,
 ) -> Result<Cell, Stop>
     ensures { Gives (λ c. (c, store_of store.new)) result (taken (setting_of s.now) n (texpr x.now) v (store_of store.old)) }
 {
     match v {
-        Came::Value(c) => Ok(c),
-        Came::Place(p) => fetched(s, n, &x.ty, x.span, p, store),
-        Came::Nothing => Err(Stop::Cause(End::Stray(x.span))),
+        Outcome::Value(c) => Ok(c),
+        Outcome::Place(p) => fetched(s, n, &x.ty, x.span, p, store),
+        Outcome::Nothing => Err(Stop::Cause(End::Stray(x.span))),
     }
 }
 
@@ -41,7 +41,7 @@ pub(crate) fn tested<'a>(
     s: &Setting<'a>,
     n: u32,
     x: &TExpr,
-    v: Came,
+    v: Outcome,
     store: &mut Store<'a>,
 ) -> Result<bool, Stop>
     ensures { Gives (λ b. (b, store_of store.new)) result (tested_in (setting_of s.now) n (texpr x.now) v (store_of store.old)) }
@@ -56,32 +56,32 @@ pub(crate) fn dropped<'a>(
     s: &Setting<'a>,
     n: u32,
     x: &TExpr,
-    v: Came,
+    v: Outcome,
     store: &mut Store<'a>,
 ) -> Result<(), Stop>
     ensures { Gives (λ _. store_of store.new) result (dropped_in (setting_of s.now) n (texpr x.now) v (store_of store.old)) }
 {
     match v {
-        Came::Value(c) => {
+        Outcome::Value(c) => {
             released(store, &x.ty, c);
             Ok(())
         }
-        Came::Place(p) => {
+        Outcome::Place(p) => {
             let c = fetched(s, n, &x.ty, x.span, p, store)?;
             released(store, &x.ty, c);
             Ok(())
         }
-        Came::Nothing => Ok(()),
+        Outcome::Nothing => Ok(()),
     }
 }
 
 /// Its place.
 #[inline(always)]
-pub(crate) fn placed(span: Span, v: Came) -> Result<Cell, Stop>
+pub(crate) fn placed(span: Span, v: Outcome) -> Result<Cell, Stop>
     ensures { Gives (λ p. p) result (placed_in span v) }
 {
     match v {
-        Came::Place(p) => Ok(p),
-        Came::Value(_) | Came::Nothing => Err(Stop::Cause(End::Stray(span))),
+        Outcome::Place(p) => Ok(p),
+        Outcome::Value(_) | Outcome::Nothing => Err(Stop::Cause(End::Stray(span))),
     }
 }

@@ -13,16 +13,16 @@ use Rattle.c_evaluate.specs.declared.frame.Frame.{Frame}
 use Rattle.c_evaluate.specs.declared.frame.Frame.TheVariants as f
 use Rattle.c_types.specs.View.{or_void}
 use Rattle.c_evaluate.specs.inner.StoreView.{caller}
-use Rattle.c_evaluate.specs.inner.Machine.{EvalF, FillF, DoF, CameF, MadeF, LeftF, FullF, FrameT, FirstW, SecondW, ArgumentW, BackW, ValueW, StepW}
+use Rattle.c_evaluate.specs.inner.Machine.{EvalF, FillF, DoF, OutcomeF, MadeF, ExitF, FullF, FrameT, FirstW, SecondW, ArgumentW, BackW, ValueW, StepW}
 use Rattle.c_evaluate.specs.inner.Machine.{BodyW, BeginW, RestW, ArmsW, EndW, SwitchW, OneW, ItemsW, VarsW, FilledW, MainW, Config, Going, Over}
 
 abbrev pub at : Focus → List FrameT → Store → Config
 at (o.Eval n x) k u = Going (EvalF n (texpr x.now)) k u
 at (o.Fill n i ty p) k u = Going (FillF n (tinit i.now) (or_void ty) p) k u
 at (o.Do n r a) k u = Going (DoF n r (tstmt a.now)) k u
-at (o.Came v) k u = Going (CameF v) k u
+at (o.Outcome v) k u = Going (OutcomeF v) k u
 at (o.Made e v) k u = Going (MadeF e v) k u
-at (o.Left h) k u = Going (LeftF h) k u
+at (o.Exit h) k u = Going (ExitF h) k u
 at o.Full k u = Going FullF k u
 at (o.Over end) k u = Over end
 

@@ -26,8 +26,8 @@ use Rattle.c_meaning.specs.Statements.{left, body_done, step_done, turn, arms_be
 use Rattle.c_meaning.specs.Statements.{does_all, does_arms, below}
 use Rattle.c_meaning.specs.Runs.{Final, main_done}
 use Rattle.c_evaluate.specs.Evaluation.{Left, left_of}
-use Rattle.c_evaluate.specs.declared.frame.Came.{Came}
-use Rattle.c_evaluate.specs.declared.frame.Came.TheVariants.{Value, Place, Nothing}
+use Rattle.c_evaluate.specs.declared.frame.Outcome.{Outcome}
+use Rattle.c_evaluate.specs.declared.frame.Outcome.TheVariants.{Value, Place, Nothing}
 use Rattle.c_evaluate.specs.declared.frame.How.{How}
 use Rattle.c_evaluate.specs.declared.frame.How.TheVariants.{On, Break, Continue, Return}
 
@@ -35,9 +35,9 @@ pub data FocusT : Type 0 where
   EvalF : (bound : ℕ) → TExprT → FocusT
   FillF : (bound : ℕ) → TInitT → Ty → (place : Cell) → FocusT
   DoF : (bound : ℕ) → (result : Cell) → TStmtT → FocusT
-  CameF : Came → FocusT
-  MadeF : Event → Came → FocusT
-  LeftF : How → FocusT
+  OutcomeF : Outcome → FocusT
+  MadeF : Event → Outcome → FocusT
+  ExitF : How → FocusT
   FullF : FocusT
 
 -- what a call keeps of its caller: how many objects there were, its function, its locals, the frames in use
@@ -110,25 +110,25 @@ went (W r) = r
 
 -- ---- the rest of the meaning of an expression, behind its first operand and behind its second
 
-abbrev pub first_came : Setting → (bound : ℕ) → TKindT → Ty → Span → Val → Val
-first_came s n (UnaryK op x) ty span v = unary s n op x span v
-first_came s n (BinaryK op x y) ty span v = binary s n op x y span v (evaluated s n (below s n) y)
-first_came s n (AssignK op x y) ty span v = assign s n op x y span v (evaluated s n (below s n) y)
-first_came s n (StepK op x) ty span v = step_taken s n op x span v
-first_came s n (IndexK x y) ty span v = index s n ty x y span v (evaluated s n (below s n) y)
-first_came s n (MemberK x offset) ty span v = member_at ty x span offset v
-first_came s n (ArrowK x offset) ty span v = arrow s n x span offset v
-first_came s n (CastK x) ty span v = with_value Stops s n x v (λ c w. asked Stops span w (converted ty c) (λ z. out.Value z w))
-first_came s n (OutK port x) ty span v = output s n port x v
-first_came s n kind ty span v = v
+abbrev pub with_first : Setting → (bound : ℕ) → TKindT → Ty → Span → Val → Val
+with_first s n (UnaryK op x) ty span v = unary s n op x span v
+with_first s n (BinaryK op x y) ty span v = binary s n op x y span v (evaluated s n (below s n) y)
+with_first s n (AssignK op x y) ty span v = assign s n op x y span v (evaluated s n (below s n) y)
+with_first s n (StepK op x) ty span v = step_taken s n op x span v
+with_first s n (IndexK x y) ty span v = index s n ty x y span v (evaluated s n (below s n) y)
+with_first s n (MemberK x offset) ty span v = member_at ty x span offset v
+with_first s n (ArrowK x offset) ty span v = arrow s n x span offset v
+with_first s n (CastK x) ty span v = with_value Stops s n x v (λ c w. asked Stops span w (converted ty c) (λ z. out.Value z w))
+with_first s n (OutK port x) ty span v = output s n port x v
+with_first s n kind ty span v = v
 
-abbrev pub second_came : Setting → (bound : ℕ) → TKindT → Ty → Span → (first : Cell) → Val → Val
-second_came s n (BinaryK AndAlso x y) ty span c v = truth_of s n y v
-second_came s n (BinaryK OrElse x y) ty span c v = truth_of s n y v
-second_came s n (BinaryK op x y) ty span c v = second_operated s n op x y span c v
-second_came s n (AssignK op x y) ty span c v = second_assigned s n op x y span c v
-second_came s n (IndexK x y) ty span c v = second_indexed s n ty y span c v
-second_came s n kind ty span c v = v
+abbrev pub with_second : Setting → (bound : ℕ) → TKindT → Ty → Span → (first : Cell) → Val → Val
+with_second s n (BinaryK AndAlso x y) ty span c v = truth_of s n y v
+with_second s n (BinaryK OrElse x y) ty span c v = truth_of s n y v
+with_second s n (BinaryK op x y) ty span c v = second_operated s n op x y span c v
+with_second s n (AssignK op x y) ty span c v = second_assigned s n op x y span c v
+with_second s n (IndexK x y) ty span c v = second_indexed s n ty y span c v
+with_second s n kind ty span c v = v
 
 -- ---- and of calls
 
@@ -141,9 +141,9 @@ behind vs (Short end w) = Short end w
 abbrev pub types_left : Setting → (function : ℕ) → (args : List Cell) → List Ty
 types_left s f vs = drop (length vs) (params_of (slice_get s.functions f))
 
-abbrev pub argument_came : Setting → (bound function : ℕ) → Span → (args : List Cell) → TExprTs → Val → Val
-argument_came s n f span vs NoX v = v
-argument_came s n f span vs (MoreX x xs) v =
+abbrev pub with_argument : Setting → (bound function : ℕ) → Span → (args : List Cell) → TExprTs → Val → Val
+with_argument s n f span vs NoX v = v
+with_argument s n f span vs (MoreX x xs) v =
     then_values (behind vs (next_argument s n (types_left s f vs) x v (λ tys w. evaluated_all s n (below s n) tys xs w)))
     (λ us w. call s n (below s n) f us span w)
 
@@ -164,56 +164,56 @@ call_left params vs r span c (Ended end w) = Stops end w
 -- ---- the rest of the meaning of a statement
 
 -- behind the value that it asks for
-abbrev pub value_came : Setting → (bound : ℕ) → (result : Cell) → TStmtT → Val → Done
-value_came s n r (DoZ x) v = dropped Ended s n x v (λ w. Goes w)
-value_came s n r (IfZ x a b) v = tested Ended s n x v (does s n (below s n) r a) (does_maybe s n (below s n) r b)
-value_came s n r (WhileZ x a) v = tested Ended s n x v (λ w. body_done (does s n (below s n) r a w) (below s n (Turn r (Some x) None a))) (λ w. Goes w)
-value_came s n r (DoWhileZ a x) v = tested Ended s n x v (below s n (DoTurn r a x)) (λ w. Goes w)
-value_came s n r (ForZ made first (Some x) step a) v =
+abbrev pub outcome_value : Setting → (bound : ℕ) → (result : Cell) → TStmtT → Val → Done
+outcome_value s n r (DoZ x) v = dropped Ended s n x v (λ w. Goes w)
+outcome_value s n r (IfZ x a b) v = tested Ended s n x v (does s n (below s n) r a) (does_maybe s n (below s n) r b)
+outcome_value s n r (WhileZ x a) v = tested Ended s n x v (λ w. body_done (does s n (below s n) r a w) (below s n (Turn r (Some x) None a))) (λ w. Goes w)
+outcome_value s n r (DoWhileZ a x) v = tested Ended s n x v (below s n (DoTurn r a x)) (λ w. Goes w)
+outcome_value s n r (ForZ made first (Some x) step a) v =
     tested Ended s n x v (λ w. body_done (does s n (below s n) r a w) (λ u. step_done s n (below s n) step u (below s n (Turn r (Some x) step a))))
     (λ w. Goes w)
-value_came s n r (SwitchZ x made arms) v =
+outcome_value s n r (SwitchZ x made arms) v =
     switched s n x v (λ z w. left made (switch_done
     (does_arms s n (below s n) r (arms_before z arms) arms (on_store (fresh_all s.sizes made) (spend (labels arms) w)))))
-value_came s n r (ReturnZ (Some x)) v = returned s n r x v
-value_came s n r a v = stopped Ended (V v)
+outcome_value s n r (ReturnZ (Some x)) v = returned s n r x v
+outcome_value s n r a v = stopped Ended (V v)
 
 -- behind the step of a `for`
-abbrev pub step_came : Setting → (bound : ℕ) → (result : Cell) → TStmtT → Val → Done
-step_came s n r (ForZ made first test (Some y) a) v = dropped Ended s n y v (below s n (Turn r test (Some y) a))
-step_came s n r a v = stopped Ended (V v)
+abbrev pub with_step : Setting → (bound : ℕ) → (result : Cell) → TStmtT → Val → Done
+with_step s n r (ForZ made first test (Some y) a) v = dropped Ended s n y v (below s n (Turn r test (Some y) a))
+with_step s n r a v = stopped Ended (V v)
 
 -- behind the body of a loop
-abbrev pub body_came : Setting → (bound : ℕ) → (result : Cell) → TStmtT → Done → Done
-body_came s n r (WhileZ x a) d = body_done d (below s n (Turn r (Some x) None a))
-body_came s n r (DoWhileZ a x) d = body_done d (λ w. tested Ended s n x (evaluated s n (below s n) x w) (below s n (DoTurn r a x)) (λ u. Goes u))
-body_came s n r (ForZ made first test step a) d = body_done d (λ u. step_done s n (below s n) step u (below s n (Turn r test step a)))
-body_came s n r a d = d
+abbrev pub with_body : Setting → (bound : ℕ) → (result : Cell) → TStmtT → Done → Done
+with_body s n r (WhileZ x a) d = body_done d (below s n (Turn r (Some x) None a))
+with_body s n r (DoWhileZ a x) d = body_done d (λ w. tested Ended s n x (evaluated s n (below s n) x w) (below s n (DoTurn r a x)) (λ u. Goes u))
+with_body s n r (ForZ made first test step a) d = body_done d (λ u. step_done s n (below s n) step u (below s n (Turn r test step a)))
+with_body s n r a d = d
 
 -- behind the first part of a `for`
-abbrev pub begin_came : Setting → (bound : ℕ) → (result : Cell) → TStmtT → Done → Done
-begin_came s n r (ForZ made first test step a) d = then_done d (turn s n (below s n) test step (does s n (below s n) r a) (below s n (Turn r test step a)))
-begin_came s n r a d = d
+abbrev pub with_begin : Setting → (bound : ℕ) → (result : Cell) → TStmtT → Done → Done
+with_begin s n r (ForZ made first test step a) d = then_done d (turn s n (below s n) test step (does s n (below s n) r a) (below s n (Turn r test step a)))
+with_begin s n r a d = d
 
 -- behind the initialisers of globals: the call of main
-abbrev pub inits_came : Done → (World → Val) → Val
-inits_came (Goes w) go = go w
-inits_came (Breaks w) go = Stops (Stray nowhere) w
-inits_came (Continues w) go = Stops (Stray nowhere) w
-inits_came (Returns c w) go = Stops (Stray nowhere) w
-inits_came (Ended end w) go = Stops end w
+abbrev pub with_inits : Done → (World → Val) → Val
+with_inits (Goes w) go = go w
+with_inits (Breaks w) go = Stops (Stray nowhere) w
+with_inits (Continues w) go = Stops (Stray nowhere) w
+with_inits (Returns c w) go = Stops (Stray nowhere) w
+with_inits (Ended end w) go = Stops end w
 
 -- ---- a frame, and all of them
 
 abbrev pub apply : Setting → FrameT → Res → Res
-apply s (FirstW n (Typed kind ty span)) x = V (first_came s n kind ty span (val x))
-apply s (SecondW n (Typed kind ty span) c) x = V (second_came s n kind ty span c (val x))
-apply s (ArgumentW n f span vs xs) x = V (argument_came s n f span vs xs (val x))
+apply s (FirstW n (Typed kind ty span)) x = V (with_first s n kind ty span (val x))
+apply s (SecondW n (Typed kind ty span) c) x = V (with_second s n kind ty span c (val x))
+apply s (ArgumentW n f span vs xs) x = V (with_argument s n f span vs xs (val x))
 apply s (BackW f vs r span c) x = V (call_left (params_of (slice_get s.functions f)) vs r span c (done x))
-apply s (ValueW n r a) x = D (value_came s n r a (val x))
-apply s (StepW n r a) x = D (step_came s n r a (val x))
-apply s (BodyW n r a) x = D (body_came s n r a (done x))
-apply s (BeginW n r a) x = D (begin_came s n r a (done x))
+apply s (ValueW n r a) x = D (outcome_value s n r a (val x))
+apply s (StepW n r a) x = D (with_step s n r a (val x))
+apply s (BodyW n r a) x = D (with_body s n r a (done x))
+apply s (BeginW n r a) x = D (with_begin s n r a (done x))
 apply s (RestW n r rest) x = D (then_done (done x) (does_all s n (below s n) r rest))
 apply s (ArmsW n r rest) x = D (then_done (done x) (does_arms s n (below s n) r 0 rest))
 apply s (EndW made) x = D (left made (done x))
@@ -222,13 +222,13 @@ apply s (OneW n ty e p) x = W (one_filled s n ty e p (val x))
 apply s (ItemsW n rest ty k p) x = W (then_went CutOff (went x) (λ w. all_filled s n (below s n) rest ty k p w))
 apply s (VarsW n vars) x = W (then_went CutOff (went x) (variables_filled s n (below s n) vars))
 apply s FilledW x = D (then_went Ended (went x) (λ w. Goes w))
-apply s (MainW n main) x = V (inits_came (done x) (λ w. call s n (below s n) main [] nowhere (spend 1 w)))
+apply s (MainW n main) x = V (with_inits (done x) (λ w. call s n (below s n) main [] nowhere (spend 1 w)))
 
 abbrev pub resume : Setting → List FrameT → Res → Final
 resume s [] x = main_done (val x)
 resume s (f ∷ k) x = resume s k (apply s f x)
 
-abbrev pub val_at : Came → World → Val
+abbrev pub val_at : Outcome → World → Val
 val_at (Value c) w = out.Value c w
 val_at (Place p) w = out.Place p w
 val_at Nothing w = out.NoValue w
@@ -243,9 +243,9 @@ abbrev pub result_of : Setting → FocusT → World → Res
 result_of s (EvalF n x) w = V (evaluated s n (below s n) x w)
 result_of s (FillF n i ty p) w = W (filled s n (below s n) i ty p w)
 result_of s (DoF n r a) w = D (does s n (below s n) r a w)
-result_of s (CameF v) w = V (val_at v w)
+result_of s (OutcomeF v) w = V (val_at v w)
 result_of s (MadeF e v) w = V (val_at v (happened e w))
-result_of s (LeftF h) w = D (done_at h w)
+result_of s (ExitF h) w = D (done_at h w)
 result_of s FullF w = W (Through w)
 
 -- how the run ends, from here on

@@ -27,13 +27,13 @@ use Rattle.c_meaning.specs.Cells.{end_temporary}
 use Rattle.c_meaning.specs.Expressions.{result_place, with_result, params_of, all_released}
 use Rattle.c_meaning.specs.Initialisers.{object_of}
 use Rattle.c_meaning.specs.Statements.{arms_before}
-use Rattle.c_evaluate.specs.declared.frame.Came.{Came}
-use Rattle.c_evaluate.specs.declared.frame.Came.TheVariants.{Value, Place, Nothing}
+use Rattle.c_evaluate.specs.declared.frame.Outcome.{Outcome}
+use Rattle.c_evaluate.specs.declared.frame.Outcome.TheVariants.{Value, Place, Nothing}
 use Rattle.c_evaluate.specs.declared.frame.How.{How}
 use Rattle.c_evaluate.specs.declared.frame.How.TheVariants.{On, Break, Continue, Return}
 use Rattle.c_evaluate.specs.inner.Storing.{Kept, With, at_span, taken, tested_in, dropped_in, placed_in, operated_in, stepped_in, second_assigned_in}
 use Rattle.c_evaluate.specs.inner.Storing.{member_in, one_in, text_in, rest_in, params_in, returned_in}
-use Rattle.c_evaluate.specs.inner.Machine.{FocusT, EvalF, FillF, DoF, CameF, MadeF, LeftF, FullF, CallerT, FrameT, FirstW, SecondW, ArgumentW, BackW}
+use Rattle.c_evaluate.specs.inner.Machine.{FocusT, EvalF, FillF, DoF, OutcomeF, MadeF, ExitF, FullF, CallerT, FrameT, FirstW, SecondW, ArgumentW, BackW}
 use Rattle.c_evaluate.specs.inner.Machine.{ValueW, StepW, BodyW, BeginW, RestW, ArmsW, EndW, SwitchW, OneW, ItemsW, VarsW, FilledW, MainW, Config}
 use Rattle.c_evaluate.specs.inner.Machine.{Going, Over, caller_of, back_in}
 
@@ -44,20 +44,20 @@ on (Ok x) go = go x
 on (Err end) go = Over end
 
 -- a value, or a place, came of an expression
-abbrev pub came : Came → List FrameT → Store → Config
-came v k u = Going (CameF v) k u
+abbrev pub outcome : Outcome → List FrameT → Store → Config
+outcome v k u = Going (OutcomeF v) k u
 
 abbrev pub value : With Cell → List FrameT → Config
-value t k = on t (λ x. came (Value x.0) k x.1)
+value t k = on t (λ x. outcome (Value x.0) k x.1)
 
 abbrev pub value_here : Result Cell End → List FrameT → Store → Config
-value_here c k u = on c (λ z. came (Value z) k u)
+value_here c k u = on c (λ z. outcome (Value z) k u)
 
 abbrev pub place_here : Result Cell End → List FrameT → Store → Config
-place_here p k u = on p (λ z. came (Place z) k u)
+place_here p k u = on p (λ z. outcome (Place z) k u)
 
 abbrev pub left : How → List FrameT → Store → Config
-left h k u = Going (LeftF h) k u
+left h k u = Going (ExitF h) k u
 
 abbrev pub full : Kept → List FrameT → Config
 full t k = on t (λ u. Going FullF k u)
@@ -121,10 +121,10 @@ abbrev pub operand : (bound : ℕ) → TKindT → Ty → Span → TExprT → Lis
 operand n kind ty span x k u = Going (EvalF n x) (FirstW n (Typed kind ty span) ∷ k) u
 
 unfoldable pub eval : Setting → (bound : ℕ) → TKindT → Ty → Span → List FrameT → Store → Config
-eval s n (NumberK x) ty span k u = came (Value (Num x)) k u
-eval s n NullK ty span k u = came (Value Null) k u
-eval s n (LiteralK number) ty span k u = came (Place (literal_at s number)) k u
-eval s n (GlobalK number) ty span k u = came (Place (global_at number)) k u
+eval s n (NumberK x) ty span k u = outcome (Value (Num x)) k u
+eval s n NullK ty span k u = outcome (Value Null) k u
+eval s n (LiteralK number) ty span k u = outcome (Place (literal_at s number)) k u
+eval s n (GlobalK number) ty span k u = outcome (Place (global_at number)) k u
 eval s n (LocalK number) ty span k u = place_here (at_span span (first_cell (local_object u.locals number))) k u
 eval s n (UnaryK op x) ty span k u = operand n (UnaryK op x) ty span x k u
 eval s n (BinaryK op x y) ty span k u = operand n (BinaryK op x y) ty span x k u
@@ -139,17 +139,17 @@ eval s n (InK port) ty span k u = input port u.answers k u
 eval s n (OutK port x) ty span k u = operand n (OutK port x) ty span x k u
 eval s n WaitK ty span k u = Going (MadeF event.Wait Nothing) k u
 eval s n HaltK ty span k u = Over Halted
-eval s n CardK ty span k u = came (Value (card_at s)) k u
+eval s n CardK ty span k u = outcome (Value (card_at s)) k u
 
 abbrev pub eval_of : Setting → (bound : ℕ) → TExprT → List FrameT → Store → Config
 eval_of s n (Typed kind ty span) k u = eval s n kind ty span k u
 
 -- ---- what came of a first operand
 
-abbrev pub unary_first : Setting → (bound : ℕ) → UnOp → TExprT → Span → Came → List FrameT → Store → Config
-unary_first s n un.Deref x span v k u = on (taken s n x v u) (λ t. came (Place t.0) k t.1)
+abbrev pub unary_first : Setting → (bound : ℕ) → UnOp → TExprT → Span → Outcome → List FrameT → Store → Config
+unary_first s n un.Deref x span v k u = on (taken s n x v u) (λ t. outcome (Place t.0) k t.1)
 unary_first s n un.Address x span v k u = value_here (placed_in span v) k u
-unary_first s n un.Not x span v k u = on (tested_in s n x v u) (λ t. came (Value (truth (not t.0))) k t.1)
+unary_first s n un.Not x span v k u = on (tested_in s n x v u) (λ t. outcome (Value (truth (not t.0))) k t.1)
 unary_first s n un.Minus x span v k u = on (taken s n x v u) (λ t. value_here (at_span span (cell_unary un.Minus t.0)) k t.1)
 unary_first s n un.Plus x span v k u = on (taken s n x v u) (λ t. value_here (at_span span (cell_unary un.Plus t.0)) k t.1)
 unary_first s n un.Flip x span v k u = on (taken s n x v u) (λ t. value_here (at_span span (cell_unary un.Flip t.0)) k t.1)
@@ -166,17 +166,17 @@ either_of false x y = y
 abbrev pub second_of_node : (bound : ℕ) → (node y : TExprT) → (first : Cell) → List FrameT → Store → Config
 second_of_node n e y c k u = Going (EvalF n y) (SecondW n e c ∷ k) u
 
-abbrev pub binary_of : Setting → (bound : ℕ) → BinOp → (node x y : TExprT) → Came → List FrameT → Store → Config
-binary_of s n AndAlso e x y v k u = on (tested_in s n x v u) (λ t. either_of t.0 (second_of_node n e y Unwritten k t.1) (came (Value (truth false)) k t.1))
-binary_of s n OrElse e x y v k u = on (tested_in s n x v u) (λ t. either_of t.0 (came (Value (truth true)) k t.1) (second_of_node n e y Unwritten k t.1))
+abbrev pub binary_of : Setting → (bound : ℕ) → BinOp → (node x y : TExprT) → Outcome → List FrameT → Store → Config
+binary_of s n AndAlso e x y v k u = on (tested_in s n x v u) (λ t. either_of t.0 (second_of_node n e y Unwritten k t.1) (outcome (Value (truth false)) k t.1))
+binary_of s n OrElse e x y v k u = on (tested_in s n x v u) (λ t. either_of t.0 (outcome (Value (truth true)) k t.1) (second_of_node n e y Unwritten k t.1))
 binary_of s n op e x y v k u = on (taken s n x v u) (λ t. second_of_node n e y t.0 k t.1)
 
-abbrev pub member_first : Ty → TExprT → Span → (offset : ℕ) → Came → List FrameT → Store → Config
+abbrev pub member_first : Ty → TExprT → Span → (offset : ℕ) → Outcome → List FrameT → Store → Config
 member_first ty x span offset (Place p) k u = place_here (at_span span (pointer_step p offset)) k u
 member_first ty x span offset (Value p) k u = value (member_in ty span (further p offset) u) k
 member_first ty x span offset Nothing k u = Over (Stray (span_of x))
 
-unfoldable pub first_step : Setting → (bound : ℕ) → TKindT → Ty → Span → Came → List FrameT → Store → Config
+unfoldable pub first_step : Setting → (bound : ℕ) → TKindT → Ty → Span → Outcome → List FrameT → Store → Config
 first_step s n (UnaryK op x) ty span v k u = unary_first s n op x span v k u
 first_step s n (BinaryK op x y) ty span v k u = binary_of s n op (Typed (BinaryK op x y) ty span) x y v k u
 first_step s n (AssignK op x y) ty span v k u = on (placed_in span v) (λ p. second n (AssignK op x y) ty span y p k u)
@@ -187,28 +187,28 @@ first_step s n (ArrowK x offset) ty span v k u = on (taken s n x v u) (λ t. pla
 first_step s n (CastK x) ty span v k u = on (taken s n x v u) (λ t. value_here (at_span span (converted ty t.0)) k t.1)
 first_step s n (OutK port x) ty span v k u =
     on (taken s n x v u) (λ t. on (at_span (span_of x) (word_of t.0)) (λ z. Going (MadeF (event.Out port z) Nothing) k t.1))
-first_step s n kind ty span v k u = came v k u
+first_step s n kind ty span v k u = outcome v k u
 
-abbrev pub first_of : Setting → (bound : ℕ) → TExprT → Came → List FrameT → Store → Config
+abbrev pub first_of : Setting → (bound : ℕ) → TExprT → Outcome → List FrameT → Store → Config
 first_of s n (Typed kind ty span) v k u = first_step s n kind ty span v k u
 
 -- ---- what came of a second operand
 
-abbrev pub combined : Setting → (bound : ℕ) → BinOp → (x y : TExprT) → Span → (first : Cell) → Came → List FrameT → Store → Config
+abbrev pub combined : Setting → (bound : ℕ) → BinOp → (x y : TExprT) → Span → (first : Cell) → Outcome → List FrameT → Store → Config
 combined s n op x y span c v k u = on (taken s n y v u) (λ t. value_here (operated_in s op x y span c t.0 t.1) k t.1)
 
-abbrev pub binary_second : Setting → (bound : ℕ) → BinOp → (x y : TExprT) → Span → (first : Cell) → Came → List FrameT → Store → Config
-binary_second s n AndAlso x y span c v k u = on (tested_in s n y v u) (λ t. came (Value (truth t.0)) k t.1)
-binary_second s n OrElse x y span c v k u = on (tested_in s n y v u) (λ t. came (Value (truth t.0)) k t.1)
+abbrev pub binary_second : Setting → (bound : ℕ) → BinOp → (x y : TExprT) → Span → (first : Cell) → Outcome → List FrameT → Store → Config
+binary_second s n AndAlso x y span c v k u = on (tested_in s n y v u) (λ t. outcome (Value (truth t.0)) k t.1)
+binary_second s n OrElse x y span c v k u = on (tested_in s n y v u) (λ t. outcome (Value (truth t.0)) k t.1)
 binary_second s n op x y span c v k u = combined s n op x y span c v k u
 
-unfoldable pub second_step : Setting → (bound : ℕ) → TKindT → Ty → Span → (first : Cell) → Came → List FrameT → Store → Config
+unfoldable pub second_step : Setting → (bound : ℕ) → TKindT → Ty → Span → (first : Cell) → Outcome → List FrameT → Store → Config
 second_step s n (BinaryK op x y) ty span c v k u = binary_second s n op x y span c v k u
 second_step s n (AssignK op x y) ty span c v k u = on (taken s n y v u) (λ t. value (second_assigned_in s n op x y span c t.0 t.1) k)
 second_step s n (IndexK x y) ty span c v k u = on (taken s n y v u) (λ t. place_here (at_span span (stepped (words s ty) c t.0)) k t.1)
-second_step s n kind ty span c v k u = came v k u
+second_step s n kind ty span c v k u = outcome v k u
 
-abbrev pub second_of : Setting → (bound : ℕ) → TExprT → (first : Cell) → Came → List FrameT → Store → Config
+abbrev pub second_of : Setting → (bound : ℕ) → TExprT → (first : Cell) → Outcome → List FrameT → Store → Config
 second_of s n (Typed kind ty span) c v k u = second_step s n kind ty span c v k u
 
 -- ---- what came of an argument
@@ -217,8 +217,8 @@ abbrev pub argument_in : Option Ty → TExprT → Cell → Result Cell End
 argument_in None x c = Err (Stray (span_of x))
 argument_in (Some ty) x c = at_span (span_of x) (converted ty c)
 
-abbrev pub argument_step : Setting → (bound function : ℕ) → Span → (args : List Cell) → TExprTs → Came → List FrameT → Store → Config
-argument_step s n f span vs NoX v k u = came v k u
+abbrev pub argument_step : Setting → (bound function : ℕ) → Span → (args : List Cell) → TExprTs → Outcome → List FrameT → Store → Config
+argument_step s n f span vs NoX v k u = outcome v k u
 argument_step s n f span vs (MoreX x xs) v k u =
     on (taken s n x v u) (λ t.
     on (argument_in (slice_get (params_of (slice_get s.functions f)) (length vs)) x t.0) (λ z.
@@ -280,20 +280,20 @@ abbrev pub return_of : With Cell → List FrameT → Config
 return_of t k = on t (λ x. left (Return (Some x.0)) k x.1)
 
 -- the condition of a loop came
-abbrev pub value_looped : Setting → (bound : ℕ) → (result : Cell) → (loop : TStmtT) → TExprT → (body : TStmtT) → Came → List FrameT → Store → Config
+abbrev pub value_looped : Setting → (bound : ℕ) → (result : Cell) → (loop : TStmtT) → TExprT → (body : TStmtT) → Outcome → List FrameT → Store → Config
 value_looped s n r a x body v k u = on (tested_in s n x v u) (λ t. either_of t.0 (Going (DoF n r body) (BodyW n r a ∷ k) t.1) (left On k t.1))
 
-abbrev pub value_switched : Setting → (bound : ℕ) → (result : Cell) → TExprT → (made : List ℕ) → TArmTs → Came → List FrameT → Store → Config
+abbrev pub value_switched : Setting → (bound : ℕ) → (result : Cell) → TExprT → (made : List ℕ) → TArmTs → Outcome → List FrameT → Store → Config
 value_switched s n r x made arms v k u =
     on (taken s n x v u) (λ t.
     on (at_span (span_of x) (word_of t.0)) (λ z. arms_of n r (arms_before z arms) arms (SwitchW ∷ EndW made ∷ k) (fresh_all s.sizes made t.1)))
 
-abbrev pub value_returned : Setting → (bound : ℕ) → (result : Cell) → TExprT → Came → List FrameT → Store → Config
+abbrev pub value_returned : Setting → (bound : ℕ) → (result : Cell) → TExprT → Outcome → List FrameT → Store → Config
 value_returned s n r x v k u =
     on (taken s n x v u) (λ t.
     on (at_span (span_of x) (converted (result_of s t.1.function) t.0)) (λ z. return_of (returned_in s n (result_of s t.1.function) r z t.1) k))
 
-unfoldable pub value_step : Setting → (bound : ℕ) → (result : Cell) → TStmtT → Came → List FrameT → Store → Config
+unfoldable pub value_step : Setting → (bound : ℕ) → (result : Cell) → TStmtT → Outcome → List FrameT → Store → Config
 value_step s n r (DoZ x) v k u = on (dropped_in s n x v u) (λ t. left On k t)
 value_step s n r (IfZ x a b) v k u = on (tested_in s n x v u) (λ t. either_of t.0 (Going (DoF n r a) k t.1) (other_of n r b k t.1))
 value_step s n r (WhileZ x a) v k u = value_looped s n r (WhileZ x a) x a v k u
@@ -304,10 +304,10 @@ value_step s n r (ReturnZ (Some x)) v k u = value_returned s n r x v k u
 value_step s n r a v k u = Over (Stray nowhere)
 
 abbrev pub step_dropped : Setting → (bound : ℕ) → (result : Cell) → (loop : TStmtT) → (test : Option TExprT) → (step : TExprT) → (body : TStmtT)
-    → Came → List FrameT → Store → Config
+    → Outcome → List FrameT → Store → Config
 step_dropped s n r a test y body v k u = on (dropped_in s n y v u) (λ t. again n r a test body k t)
 
-unfoldable pub step_step : Setting → (bound : ℕ) → (result : Cell) → TStmtT → Came → List FrameT → Store → Config
+unfoldable pub step_step : Setting → (bound : ℕ) → (result : Cell) → TStmtT → Outcome → List FrameT → Store → Config
 step_step s n r (ForZ made first test (Some y) a) v k u = step_dropped s n r (ForZ made first test (Some y) a) test y a v k u
 step_step s n r a v k u = Over (Stray nowhere)
 
@@ -345,11 +345,11 @@ switched Continue = Continue
 switched (Return z) = Return z
 
 abbrev pub back_step : (params : List Ty) → (args : List Cell) → (result : Cell) → Span → CallerT → How → List FrameT → Store → Config
-back_step params vs r span c On k u = came Nothing k (all_released params vs (end_temporary r (back_in c u)))
+back_step params vs r span c On k u = outcome Nothing k (all_released params vs (end_temporary r (back_in c u)))
 back_step params vs r span c Break k u = Over (Stray span)
 back_step params vs r span c Continue k u = Over (Stray span)
-back_step params vs r span c (Return None) k u = came Nothing k (all_released params vs (end_temporary r (back_in c u)))
-back_step params vs r span c (Return (Some z)) k u = came (Value z) k (all_released params vs (back_in c u))
+back_step params vs r span c (Return None) k u = outcome Nothing k (all_released params vs (end_temporary r (back_in c u)))
+back_step params vs r span c (Return (Some z)) k u = outcome (Value z) k (all_released params vs (back_in c u))
 
 -- behind the initialisers main is called
 abbrev pub main_step : Setting → (bound main : ℕ) → How → List FrameT → Store → Config
@@ -367,25 +367,25 @@ fill s n (ListI items) ty p k u = items_of s n items ty 0 p k u
 
 -- ---- what comes is handed to the frame that waits for it; what another one would wait for strays
 
-unfoldable pub give : Setting → FrameT → Came → List FrameT → Store → Config
-give s (FirstW n e) v k u = first_of s n e v k u
-give s (SecondW n e c) v k u = second_of s n e c v k u
-give s (ArgumentW n f span vs xs) v k u = argument_step s n f span vs xs v k u
-give s (ValueW n r a) v k u = value_step s n r a v k u
-give s (StepW n r a) v k u = step_step s n r a v k u
-give s (OneW n ty x p) v k u = on (taken s n x v u) (λ t. full (one_in s n ty p t.0 t.1) k)
-give s f v k u = Over (Stray nowhere)
+unfoldable pub take_outcome : Setting → FrameT → Outcome → List FrameT → Store → Config
+take_outcome s (FirstW n e) v k u = first_of s n e v k u
+take_outcome s (SecondW n e c) v k u = second_of s n e c v k u
+take_outcome s (ArgumentW n f span vs xs) v k u = argument_step s n f span vs xs v k u
+take_outcome s (ValueW n r a) v k u = value_step s n r a v k u
+take_outcome s (StepW n r a) v k u = step_step s n r a v k u
+take_outcome s (OneW n ty x p) v k u = on (taken s n x v u) (λ t. full (one_in s n ty p t.0 t.1) k)
+take_outcome s f v k u = Over (Stray nowhere)
 
-unfoldable pub leave : Setting → FrameT → How → List FrameT → Store → Config
-leave s (BackW f vs r span c) h k u = back_step (params_of (slice_get s.functions f)) vs r span c h k u
-leave s (BodyW n r a) h k u = body_step n r a h k u
-leave s (BeginW n r a) h k u = begin_step n r a h k u
-leave s (RestW n r rest) h k u = after_on h k u (rest_of n r rest k u)
-leave s (ArmsW n r rest) h k u = after_on h k u (arms_of n r 0 rest k u)
-leave s (EndW made) h k u = left h k (end_all made u)
-leave s SwitchW h k u = left (switched h) k u
-leave s (MainW n main) h k u = main_step s n main h k u
-leave s f h k u = Over (Stray nowhere)
+unfoldable pub take_exit : Setting → FrameT → How → List FrameT → Store → Config
+take_exit s (BackW f vs r span c) h k u = back_step (params_of (slice_get s.functions f)) vs r span c h k u
+take_exit s (BodyW n r a) h k u = body_step n r a h k u
+take_exit s (BeginW n r a) h k u = begin_step n r a h k u
+take_exit s (RestW n r rest) h k u = after_on h k u (rest_of n r rest k u)
+take_exit s (ArmsW n r rest) h k u = after_on h k u (arms_of n r 0 rest k u)
+take_exit s (EndW made) h k u = left h k (end_all made u)
+take_exit s SwitchW h k u = left (switched h) k u
+take_exit s (MainW n main) h k u = main_step s n main h k u
+take_exit s f h k u = Over (Stray nowhere)
 
 unfoldable pub fill_up : Setting → FrameT → List FrameT → Store → Config
 fill_up s (ItemsW n rest ty j p) k u = items_of s n rest ty j p k u
@@ -398,10 +398,10 @@ unfoldable pub step : Setting → FocusT → List FrameT → Store → Config
 step s (EvalF n e) k u = eval_of s n e k u
 step s (FillF n i ty p) k u = fill s n i ty p k u
 step s (DoF n r a) k u = exec s n r a k u
-step s (CameF v) [] u = Over Halted
-step s (CameF v) (f ∷ k) u = give s f v k u
+step s (OutcomeF v) [] u = Over Halted
+step s (OutcomeF v) (f ∷ k) u = take_outcome s f v k u
 step s (MadeF e v) k u = Going (MadeF e v) k u
-step s (LeftF h) [] u = Over (Stray nowhere)
-step s (LeftF h) (f ∷ k) u = leave s f h k u
+step s (ExitF h) [] u = Over (Stray nowhere)
+step s (ExitF h) (f ∷ k) u = take_exit s f h k u
 step s FullF [] u = Over (Stray nowhere)
 step s FullF (f ∷ k) u = fill_up s f k u

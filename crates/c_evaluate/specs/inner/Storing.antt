@@ -19,8 +19,8 @@ use Rattle.c_meaning.specs.Setting.{Setting, words, literal_at, literal_words}
 use Rattle.c_meaning.specs.Operators.{read_as, converted, is_true, operated}
 use Rattle.c_meaning.specs.Cells.{cell_set, end_temporary, released}
 use Rattle.c_meaning.specs.Expressions.{step_operator, gives_old}
-use Rattle.c_evaluate.specs.declared.frame.Came.{Came}
-use Rattle.c_evaluate.specs.declared.frame.Came.TheVariants.{Value, Place, Nothing}
+use Rattle.c_evaluate.specs.declared.frame.Outcome.{Outcome}
+use Rattle.c_evaluate.specs.declared.frame.Outcome.TheVariants.{Value, Place, Nothing}
 
 -- A store, or how the run ends there; and a value with it.
 abbrev pub Kept : Type 0
@@ -78,23 +78,23 @@ stored_in s n ty span p c u =
 -- ---- what came of an expression, used
 
 -- its value
-abbrev pub taken : Setting → (bound : ℕ) → TExprT → Came → Store → With Cell
+abbrev pub taken : Setting → (bound : ℕ) → TExprT → Outcome → Store → With Cell
 taken s n x (Value c) u = Ok (c, u)
 taken s n x (Place p) u = fetched_in s n (type_of x) (span_of x) p u
 taken s n x Nothing u = Err (Stray (span_of x))
 
 -- as a condition
-abbrev pub tested_in : Setting → (bound : ℕ) → TExprT → Came → Store → With Bool
+abbrev pub tested_in : Setting → (bound : ℕ) → TExprT → Outcome → Store → With Bool
 tested_in s n x v u = then_ok (taken s n x v u) (λ t. then_ok (at_span (span_of x) (is_true t.1.objects (decayed (type_of x)) t.0)) (λ b. Ok (b, t.1)))
 
 -- not at all
-abbrev pub dropped_in : Setting → (bound : ℕ) → TExprT → Came → Store → Kept
+abbrev pub dropped_in : Setting → (bound : ℕ) → TExprT → Outcome → Store → Kept
 dropped_in s n x (Value c) u = Ok (released (type_of x) c u)
 dropped_in s n x (Place p) u = then_ok (fetched_in s n (type_of x) (span_of x) p u) (λ t. Ok (released (type_of x) t.0 t.1))
 dropped_in s n x Nothing u = Ok u
 
 -- as a place
-abbrev pub placed_in : Span → Came → Result Cell End
+abbrev pub placed_in : Span → Outcome → Result Cell End
 placed_in span (Value c) = Err (Stray span)
 placed_in span (Place p) = Ok p
 placed_in span Nothing = Err (Stray span)

@@ -27,18 +27,18 @@ use Rattle.c_meaning.specs.Operators.{read_as, converted, is_true, word_unary, w
 use Rattle.c_meaning.specs.Setting.{Setting, words, global_at, literal_at}
 use Rattle.c_meaning.specs.Cells.{released}
 use Rattle.c_meaning.specs.Expressions.{params_of}
-use Rattle.c_evaluate.specs.declared.frame.Came.{Came}
-use Rattle.c_evaluate.specs.declared.frame.Came.TheVariants.{Value, Place, Nothing}
+use Rattle.c_evaluate.specs.declared.frame.Outcome.{Outcome}
+use Rattle.c_evaluate.specs.declared.frame.Outcome.TheVariants.{Value, Place, Nothing}
 use Rattle.c_evaluate.specs.declared.frame.How.{How}
 use Rattle.c_evaluate.specs.declared.frame.How.TheVariants.{On}
 use Rattle.c_evaluate.specs.inner.Storing.{then_ok, taken, tested_in, placed_in, stepped_in, second_assigned_in}
-use Rattle.c_evaluate.specs.inner.Machine.{FocusT, EvalF, DoF, CameF, LeftF, FrameT, FirstW, SecondW, ArgumentW, ValueW, BodyW, Config, Going, Over}
-use Rattle.c_evaluate.specs.inner.Steps.{on, came, left, either_of, call, argument_in, eval, first_step, second_of, exec, value_step, after_body}
-use Rattle.c_evaluate.specs.inner.Steps.{body_step, give, leave, step}
+use Rattle.c_evaluate.specs.inner.Machine.{FocusT, EvalF, DoF, OutcomeF, ExitF, FrameT, FirstW, SecondW, ArgumentW, ValueW, BodyW, Config, Going, Over}
+use Rattle.c_evaluate.specs.inner.Steps.{on, outcome, left, either_of, call, argument_in, eval, first_step, second_of, exec, value_step, after_body}
+use Rattle.c_evaluate.specs.inner.Steps.{body_step, take_outcome, take_exit, step}
 
 -- ---- what comes at once
 
-abbrev pub local_at_once : Option ℕ → Option Came
+abbrev pub local_at_once : Option ℕ → Option Outcome
 local_at_once None = None
 local_at_once (Some object) = Some (Place (Ptr object 0))
 
@@ -62,26 +62,26 @@ seen_at (UnionY number) p u = None
 seen_at (PointerY to) p u = answered (read_as (PointerY to) u.objects p)
 seen_at (ArrayY of len) p u = Some p
 
-unfoldable pub seen : Ty → Came → Store → Option Cell
+unfoldable pub seen : Ty → Outcome → Store → Option Cell
 seen ty (Value c) u = Some c
 seen ty (Place p) u = seen_at ty p u
 seen ty Nothing u = None
 
-abbrev pub place_of : Came → Option Cell
+abbrev pub place_of : Outcome → Option Cell
 place_of (Value c) = None
 place_of (Place p) = Some p
 place_of Nothing = None
 
-abbrev pub value_at_once : Answer Cell → Option Came
+abbrev pub value_at_once : Answer Cell → Option Outcome
 value_at_once (Ok z) = Some (Value z)
 value_at_once (Err why) = None
 
-abbrev pub place_at_once : Answer Cell → Option Came
+abbrev pub place_at_once : Answer Cell → Option Outcome
 place_at_once (Ok z) = Some (Place z)
 place_at_once (Err why) = None
 
 -- what comes of an operator, where its operands came
-unfoldable pub unary_at_once : UnOp → Ty → Came → Store → Option Came
+unfoldable pub unary_at_once : UnOp → Ty → Outcome → Store → Option Outcome
 unary_at_once un.Deref ty v u = with_some (seen ty v u) (λ c. Some (Place c))
 unary_at_once un.Address ty v u = with_some (place_of v) (λ p. Some (Value p))
 unary_at_once un.Not ty v u = with_some (seen ty v u) (λ c. with_some (answered (is_true u.objects (decayed ty) c)) (λ b. Some (Value (truth (not b)))))
@@ -95,31 +95,31 @@ is_strict AndAlso = false
 is_strict OrElse = false
 is_strict op = true
 
-abbrev pub strict_at_once : Bool → Option Came → Option Came
+abbrev pub strict_at_once : Bool → Option Outcome → Option Outcome
 strict_at_once true o = o
 strict_at_once false o = None
 
-unfoldable pub binary_at_once : Setting → BinOp → (left right : Ty) → (c d : Came) → Store → Option Came
+unfoldable pub binary_at_once : Setting → BinOp → (left right : Ty) → (c d : Outcome) → Store → Option Outcome
 binary_at_once s op ta tb v w u = with_some (seen ta v u) (λ c. with_some (seen tb w u) (λ d. value_at_once (operated s op ta tb u.objects c d)))
 
-unfoldable pub index_at_once : Setting → Ty → (left right : Ty) → (c d : Came) → Store → Option Came
+unfoldable pub index_at_once : Setting → Ty → (left right : Ty) → (c d : Outcome) → Store → Option Outcome
 index_at_once s ty ta tb v w u = with_some (seen ta v u) (λ c. with_some (seen tb w u) (λ d. place_at_once (stepped (words s ty) c d)))
 
-unfoldable pub member_at_once : (offset : ℕ) → Came → Option Came
+unfoldable pub member_at_once : (offset : ℕ) → Outcome → Option Outcome
 member_at_once offset v = with_some (place_of v) (λ p. place_at_once (pointer_step p offset))
 
-unfoldable pub arrow_at_once : Ty → (offset : ℕ) → Came → Store → Option Came
+unfoldable pub arrow_at_once : Ty → (offset : ℕ) → Outcome → Store → Option Outcome
 arrow_at_once ty offset v u = with_some (seen ty v u) (λ c. place_at_once (pointer_step c offset))
 
-unfoldable pub cast_at_once : Ty → Ty → Came → Store → Option Came
+unfoldable pub cast_at_once : Ty → Ty → Outcome → Store → Option Outcome
 cast_at_once to ty v u = with_some (seen ty v u) (λ c. value_at_once (converted to c))
 
 -- one deeper, where the depth allows it
-abbrev pub deeper : ℕ → (ℕ → Option Came) → Option Came
+abbrev pub deeper : ℕ → (ℕ → Option Outcome) → Option Outcome
 deeper zero go = None
 deeper (suc d) go = go d
 
-unfoldable pub comes : Setting → (depth : ℕ) → TExprT → Store → Option Came
+unfoldable pub comes : Setting → (depth : ℕ) → TExprT → Store → Option Outcome
 comes s n (Typed (NumberK x) ty span) u = Some (Value (Num x))
 comes s n (Typed NullK ty span) u = Some (Value Null)
 comes s n (Typed (LiteralK number) ty span) u = Some (Place (literal_at s number))
@@ -140,10 +140,10 @@ comes s n (Typed kind ty span) u = None
 abbrev pub depth_at_once : ℕ
 depth_at_once = 6
 
-unfoldable pub at_once : Setting → TExprT → Store → Option Came
+unfoldable pub at_once : Setting → TExprT → Store → Option Outcome
 at_once s x u = comes s depth_at_once x u
 
-abbrev pub handed : Option Came → (waits : Config) → (go : Came → Config) → Config
+abbrev pub handed : Option Outcome → (waits : Config) → (go : Outcome → Config) → Config
 handed None waits go = waits
 handed (Some v) waits go = go v
 
@@ -231,12 +231,12 @@ word_or None c go = c
 word_or (Some z) c go = go z
 
 abbrev pub call_on : Setting → (bound function : ℕ) → (args : List Cell) → Span → List FrameT → Store → Config
-call_on s n f vs span k u = word_or (quick s n f vs u) (call s n f vs span k u) (λ z. came (Value (Num z)) k (passed vs u))
+call_on s n f vs span k u = word_or (quick s n f vs u) (call s n f vs span k u) (λ z. outcome (Value (Num z)) k (passed vs u))
 
 -- ---- arguments
 
 -- one more argument is there
-abbrev pub took : Setting → (bound function : ℕ) → TExprT → Came → (args : List Cell) → Store → Result (List Cell × Store) End
+abbrev pub took : Setting → (bound function : ℕ) → TExprT → Outcome → (args : List Cell) → Store → Result (List Cell × Store) End
 took s n f x v vs u = then_ok (taken s n x v u) (λ t. then_ok (argument_in (slice_get (params_of (slice_get s.functions f)) (length vs)) x t.0)
     (λ z. Ok (vs ++ z ∷ [], t.1)))
 
@@ -247,8 +247,8 @@ args_on s n f span vs (MoreX x xs) k u =
     handed (at_once s x u) (Going (EvalF n x) (ArgumentW n f span vs (MoreX x xs) ∷ k) u)
     (λ v. on (took s n f x v vs u) (λ t. args_on s n f span t.0 xs k t.1))
 
-abbrev pub argument_on : Setting → (bound function : ℕ) → Span → (args : List Cell) → TExprTs → Came → List FrameT → Store → Config
-argument_on s n f span vs NoX v k u = came v k u
+abbrev pub argument_on : Setting → (bound function : ℕ) → Span → (args : List Cell) → TExprTs → Outcome → List FrameT → Store → Config
+argument_on s n f span vs NoX v k u = outcome v k u
 argument_on s n f span vs (MoreX x xs) v k u = on (took s n f x v vs u) (λ t. args_on s n f span t.0 xs k t.1)
 
 -- ---- operands
@@ -257,19 +257,19 @@ argument_on s n f span vs (MoreX x xs) v k u = on (took s n f x v vs u) (λ t. a
 abbrev pub second_on : Setting → (bound : ℕ) → (node y : TExprT) → (first : Cell) → List FrameT → Store → Config
 second_on s n e y c k u = handed (at_once s y u) (Going (EvalF n y) (SecondW n e c ∷ k) u) (λ v. second_of s n e c v k u)
 
-abbrev pub binary_on : Setting → (bound : ℕ) → BinOp → (node x y : TExprT) → Came → List FrameT → Store → Config
-binary_on s n AndAlso e x y v k u = on (tested_in s n x v u) (λ t. either_of t.0 (second_on s n e y Unwritten k t.1) (came (Value (truth false)) k t.1))
-binary_on s n OrElse e x y v k u = on (tested_in s n x v u) (λ t. either_of t.0 (came (Value (truth true)) k t.1) (second_on s n e y Unwritten k t.1))
+abbrev pub binary_on : Setting → (bound : ℕ) → BinOp → (node x y : TExprT) → Outcome → List FrameT → Store → Config
+binary_on s n AndAlso e x y v k u = on (tested_in s n x v u) (λ t. either_of t.0 (second_on s n e y Unwritten k t.1) (outcome (Value (truth false)) k t.1))
+binary_on s n OrElse e x y v k u = on (tested_in s n x v u) (λ t. either_of t.0 (outcome (Value (truth true)) k t.1) (second_on s n e y Unwritten k t.1))
 binary_on s n op e x y v k u = on (taken s n x v u) (λ t. second_on s n e y t.0 k t.1)
 
 -- what came of a first operand
-unfoldable pub first_on : Setting → (bound : ℕ) → TKindT → Ty → Span → Came → List FrameT → Store → Config
+unfoldable pub first_on : Setting → (bound : ℕ) → TKindT → Ty → Span → Outcome → List FrameT → Store → Config
 first_on s n (BinaryK op x y) ty span v k u = binary_on s n op (Typed (BinaryK op x y) ty span) x y v k u
 first_on s n (AssignK op x y) ty span v k u = on (placed_in span v) (λ p. second_on s n (Typed (AssignK op x y) ty span) y p k u)
 first_on s n (IndexK x y) ty span v k u = on (taken s n x v u) (λ t. second_on s n (Typed (IndexK x y) ty span) y t.0 k t.1)
 first_on s n kind ty span v k u = first_step s n kind ty span v k u
 
-abbrev pub first_of_on : Setting → (bound : ℕ) → TExprT → Came → List FrameT → Store → Config
+abbrev pub first_of_on : Setting → (bound : ℕ) → TExprT → Outcome → List FrameT → Store → Config
 first_of_on s n (Typed kind ty span) v k u = first_on s n kind ty span v k u
 
 -- the first operand of a node
@@ -300,7 +300,7 @@ abbrev pub asks_on : Setting → (bound : ℕ) → (result : Cell) → TStmtT �
 asks_on s n r a x k u = handed (at_once s x u) (Going (EvalF n x) (ValueW n r a ∷ k) u) (λ v. value_step s n r a v k u)
 
 -- an assignment whose place and value came at once is done, and its value dropped
-abbrev pub assigned_on : Setting → (bound : ℕ) → (node : TExprT) → Option BinOp → (x y : TExprT) → (place value : Came) → List FrameT → Store → Config
+abbrev pub assigned_on : Setting → (bound : ℕ) → (node : TExprT) → Option BinOp → (x y : TExprT) → (place value : Outcome) → List FrameT → Store → Config
 assigned_on s n e op x y v w k u =
     on (placed_in (span_of e) v) (λ p. on (taken s n y w u)
     (λ t. on (second_assigned_in s n op x y (span_of e) p t.0 t.1) (λ z. left On k (released (type_of e) z.0 z.1))))
@@ -332,10 +332,10 @@ exec_on s n r a k u = exec s n r a k u
 
 -- ---- a step, and what comes at once behind it
 
-unfoldable pub give_on : Setting → FrameT → Came → List FrameT → Store → Config
-give_on s (FirstW n e) v k u = first_of_on s n e v k u
-give_on s (ArgumentW n f span vs xs) v k u = argument_on s n f span vs xs v k u
-give_on s f v k u = give s f v k u
+unfoldable pub take_outcome_on : Setting → FrameT → Outcome → List FrameT → Store → Config
+take_outcome_on s (FirstW n e) v k u = first_of_on s n e v k u
+take_outcome_on s (ArgumentW n f span vs xs) v k u = argument_on s n f span vs xs v k u
+take_outcome_on s f v k u = take_outcome s f v k u
 
 -- a further turn of a `while`
 abbrev pub again_on : Setting → (bound : ℕ) → (result : Cell) → (loop : TStmtT) → TExprT → List FrameT → Store → Config
@@ -347,15 +347,15 @@ unfoldable pub body_on : Setting → (bound : ℕ) → (result : Cell) → TStmt
 body_on s n r (WhileZ x a) h k u = after_body h k u (again_on s n r (WhileZ x a) x k u)
 body_on s n r a h k u = body_step n r a h k u
 
-unfoldable pub leave_on : Setting → FrameT → How → List FrameT → Store → Config
-leave_on s (BodyW n r a) h k u = body_on s n r a h k u
-leave_on s f h k u = leave s f h k u
+unfoldable pub take_exit_on : Setting → FrameT → How → List FrameT → Store → Config
+take_exit_on s (BodyW n r a) h k u = body_on s n r a h k u
+take_exit_on s f h k u = take_exit s f h k u
 
 unfoldable pub step_on : Setting → FocusT → List FrameT → Store → Config
 step_on s (EvalF n e) k u = eval_of_on s n e k u
 step_on s (DoF n r a) k u = exec_on s n r a k u
-step_on s (CameF v) (f ∷ k) u = give_on s f v k u
-step_on s (LeftF h) (f ∷ k) u = leave_on s f h k u
+step_on s (OutcomeF v) (f ∷ k) u = take_outcome_on s f v k u
+step_on s (ExitF h) (f ∷ k) u = take_exit_on s f h k u
 step_on s f k u = step s f k u
 
 abbrev pub stepped_on : Setting → Config → Config

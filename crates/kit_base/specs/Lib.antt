@@ -3,6 +3,7 @@ pub mod Word
 pub mod Digits
 pub mod Held
 pub mod Counts
+pub mod SourceCodes
 pub mod Outside
 pub mod Effects
 pub mod Store

@@ -1,7 +1,8 @@
 -- The codes of refusals are listed.
 use Rattle.std.proofs.Common.{ℕ, ◌≡◌, List, Bool, true, ◌||◌, refl, ap, subst, sym}
 use Rattle.kit_base.specs.declared.failure.Failure.TheVariants.{Cause}
-use Rattle.c_prep.specs.Codes.{between, is_reading_code, HasReadingCode}
+use Rattle.kit_base.specs.SourceCodes.{between}
+use Rattle.c_prep.specs.Codes.{is_reading_code, HasReadingCode}
 use Rattle.c_prep.specs.declared.error.PrepFault.{PrepFault}
 use Rattle.c_prep.specs.declared.error.PrepFault.TheVariants as prep
 use Rattle.c_front.specs.Codes.{is_front_code, HasFrontCode}

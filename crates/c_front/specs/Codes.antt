@@ -1,6 +1,7 @@
 -- The codes of refusals. (The kit's page on refusals, the codes of status 2.)
 use Rattle.std.specs.Prelude.{◌≡◌, ℕ, Bool, true, ◌||◌}
-use Rattle.c_prep.specs.Codes.{between, is_reading_code}
+use Rattle.kit_base.specs.SourceCodes.{between}
+use Rattle.c_prep.specs.Codes.{is_reading_code}
 use Rattle.c_front.specs.declared.error.FrontErr.{FrontErr}
 use Rattle.c_front.specs.declared.error.FrontErr.TheVariants as errors
 

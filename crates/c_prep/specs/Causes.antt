@@ -1,6 +1,6 @@
 -- Why a refusal comes that the files give.
 use Rattle.std.specs.Prelude.{◌≡◌, ◌≤◌, ℕ, Result, Err}
-use Rattle.kit_base.specs.Counts.{Rose}
+use Rattle.kit_base.specs.Counts.{Counts, Rose}
 use Rattle.kit_base.specs.declared.failure.Failure.{Failure}
 use Rattle.kit_base.specs.declared.failure.Failure.TheVariants.{Cause}
 use Rattle.c_prep.specs.declared.error.PrepFault.{PrepFault}
@@ -27,7 +27,7 @@ pub record Caused (This : Type 0) (before now : ℕ) : Type 0 where
   pub later : before ≤ now
   pub rose : This → Rose before now
 
-pub record HasCauses {T : Type 0} (r : Result T (Failure PrepFault)) (faults faults' misses misses' overs overs' : ℕ) : Type 0 where
-  pub failed : Caused (HasFailed r) faults faults'
-  pub lacked : Caused (Lacks r) misses misses'
-  pub over : Caused (IsOver r) overs overs'
+pub record HasCauses {T : Type 0} (r : Result T (Failure PrepFault)) (before after : Counts) : Type 0 where
+  pub failed : Caused (HasFailed r) before.faults after.faults
+  pub lacked : Caused (Lacks r) before.misses after.misses
+  pub over : Caused (IsOver r) before.overs after.overs

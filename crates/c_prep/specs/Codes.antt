@@ -1,12 +1,10 @@
 -- The codes of refusals. (The kit's page on refusals, the codes of status 2.)
-use Rattle.std.specs.Prelude.{◌≡◌, ℕ, Bool, true, ◌&&◌, ◌||◌, nat_le}
+use Rattle.std.specs.Prelude.{◌≡◌, ℕ, Bool, true, ◌||◌}
+use Rattle.kit_base.specs.SourceCodes.{between}
 use Rattle.kit_base.specs.declared.failure.Failure.{Failure}
 use Rattle.kit_base.specs.declared.failure.Failure.TheVariants.{Cause}
 use Rattle.c_prep.specs.declared.error.PrepFault.{PrepFault}
 use Rattle.c_prep.specs.declared.error.PrepFault.TheVariants as e
-
-abbrev pub between : (first last code : ℕ) → Bool
-between first last code = nat_le first code && nat_le code last
 
 -- 10 to 14 where a file is no list of tokens, 20 to 26 of directives and macros
 unfoldable pub is_reading_code : ℕ → Bool

@@ -4,6 +4,7 @@ ghost use Rattle.std.specs.Prelude.{IfOk, IfErr, IfSome, OnOk, OnErr};
 ghost use Rattle.std.specs.List.{list_all};
 ghost use Rattle.std.specs.Str.{is_utf8};
 ghost use Rattle.kit_base.specs.Held.{Held};
+ghost use Rattle.kit_base.specs.Counts.{counts};
 ghost use Rattle.kit_base.specs.Outside.{due};
 ghost use Rattle.kit_base.specs.declared.failure.Failure.TheVariants.{Cause};
 ghost use Rattle.c_lex.specs.Found.{reading_of};
@@ -103,8 +104,7 @@ fn read_file<F: Reads>(
     ensures numbers { (n : ℕ) → file < n → IsBelow n (Cause missing) → IfErr result (IsBelow n) }
     ensures failed { IfErr result (IsFailedAt file) }
     ensures codes { IfErr result HasReadingCode }
-    ensures causes { HasCauses result (F.faults files.old) (F.faults files.new) (F.misses files.old) (F.misses files.new)
-        (F.overs files.old) (F.overs files.new) }
+    ensures causes { HasCauses result (counts F.faults F.misses F.overs files.old) (counts F.faults F.misses F.overs files.new) }
 {
     match files.read(alloc, name) {
         Ok(bytes) => Ok(bytes),
@@ -231,8 +231,7 @@ pub fn expand_file<F: Reads>(
     ensures more { OnOk result (length names.old.items ≤ length names.new.items) }
     ensures numbers { PlacedPut (length names.new.items) work.new.out.tokens result }
     ensures codes { IfErr result HasReadingCode }
-    ensures causes { HasCauses result (F.faults files.old) (F.faults files.new) (F.misses files.old) (F.misses files.new)
-        (F.overs files.old) (F.overs files.new) }
+    ensures causes { HasCauses result (counts F.faults F.misses F.overs files.old) (counts F.faults F.misses F.overs files.new) }
 {
     let Ok(file) = name_file(alloc, names, name) else {
         return Err(PrepErr::Memory);

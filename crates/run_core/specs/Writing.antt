@@ -4,7 +4,7 @@ use Rattle.std.specs.Option.{option_map}
 use Rattle.std.specs.FinMap.{contains_key}
 use Rattle.kit_base.specs.Held.{Held}
 use Rattle.kit_base.specs.Effects.{Effect, all_done, CutShort}
-use Rattle.kit_base.specs.Counts.{Rose}
+use Rattle.kit_base.specs.Counts.{Counts, Rose}
 use Rattle.kit_base.specs.declared.outside.FileErr.{FileErr}
 use Rattle.kit_base.specs.declared.outside.FileErr.TheVariants as errors
 use Rattle.run_core.specs.declared.output.Output.{Output}
@@ -47,8 +47,8 @@ IsTold (Ok x) faults faults' = Unit {0}
 IsTold (Err e) faults faults' = HasRisen e.error faults faults'
 
 -- no count falls, and a call failed only where the faults rose
-pub record HasCauses {T : Type 0} (result : Result T Unwritten) (faults faults' misses misses' overs overs' : ℕ) : Type 0 where
-  pub faults_later : faults ≤ faults'
-  pub misses_later : misses ≤ misses'
-  pub overs_later : overs ≤ overs'
-  pub risen : IsTold result faults faults'
+pub record HasCauses {T : Type 0} (result : Result T Unwritten) (before after : Counts) : Type 0 where
+  pub faults_later : before.faults ≤ after.faults
+  pub misses_later : before.misses ≤ after.misses
+  pub overs_later : before.overs ≤ after.overs
+  pub risen : IsTold result before.faults after.faults

@@ -1,6 +1,7 @@
 // The frames of a run, each written at its end.
 ghost use Rattle.std.specs.Prelude.{◌≡◌, ◌≤◌, ◌<◌, ◌+◌, ℕ, List, length, IfOk, IfErr};
 ghost use Rattle.std.specs.List.{flat_map};
+ghost use Rattle.kit_base.specs.Counts.{counts};
 ghost use Rattle.kit_base.specs.Outside.{IsOfWriting};
 ghost use Rattle.v32_console.specs.Setup.{Setup};
 ghost use Rattle.v32_console.specs.Moments.{Moment, Left, goes_on, opening_moment};
@@ -42,8 +43,7 @@ fn write_frame<F: Files>(
     ensures there { (name : List ℕ) → IsThere name (F.held files.old) → IfOk result (λ _. IsThere name (F.held files.new)) }
     ensures frames { frames_in console.new ≡ frames_in console.old + 1 }
     ensures kinds { IfErr result (λ e. IsOfWriting e.error) }
-    ensures causes { HasCauses result (F.faults files.old) (F.faults files.new) (F.misses files.old) (F.misses files.new) (F.overs files.old)
-        (F.overs files.new) }
+    ensures causes { HasCauses result (counts F.faults F.misses F.overs files.old) (counts F.faults F.misses F.overs files.new) }
 {
     let end = console.frame();
     append_words(
@@ -81,8 +81,7 @@ pub fn write_frames<F: Files>(
     ensures stands { (u : Setup) → ConsoleStands u (opening_moment u) console.old → IfOk result (λ _. ConsoleStands u (last_moment u count) console.new) }
     ensures ended { (u : Setup) → ConsoleStands u (opening_moment u) console.old → IfOk result (λ end. end_of (last_moment u count).phase ≡ end) }
     ensures kinds { IfErr result (λ e. IsOfWriting e.error) }
-    ensures causes { HasCauses result (F.faults files.old) (F.faults files.new) (F.misses files.old) (F.misses files.new) (F.overs files.old)
-        (F.overs files.new) }
+    ensures causes { HasCauses result (counts F.faults F.misses F.overs files.old) (counts F.faults F.misses F.overs files.new) }
 {
     let mut end = FrameEnd::Full;
     let mut left = count;

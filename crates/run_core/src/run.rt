@@ -22,6 +22,7 @@ impl Model for Run {
 
 ghost use Rattle.std.specs.Prelude.{◌≡◌, ◌≤◌, ◌+◌, ℕ, length, IfOk, IfErr, OnOk};
 ghost use Rattle.std.specs.Option.{ForSome};
+ghost use Rattle.kit_base.specs.Counts.{counts};
 ghost use Rattle.kit_base.specs.Effects.{all_done};
 ghost use Rattle.kit_base.specs.Outside.{IsOfWriting};
 ghost use Rattle.cpu_core.specs.Space.{words_of};
@@ -55,8 +56,7 @@ fn zeros(alloc: Global, count: usize) -> Result<Vec<u8>, Memory>
 fn write_heads<F: Files>(files: &mut F, names: &RunNames<'_>) -> Result<(), Unwritten>
     ensures written { Writes (names_of names.now) (heads (names_of names.now)) result (F.held files.old) (F.held files.new) }
     ensures kinds { IfErr result (λ e. IsOfWriting e.error) }
-    ensures causes { HasCauses result (F.faults files.old) (F.faults files.new) (F.misses files.old) (F.misses files.new) (F.overs files.old)
-        (F.overs files.new) }
+    ensures causes { HasCauses result (counts F.faults F.misses F.overs files.old) (counts F.faults F.misses F.overs files.new) }
 {
     write_bytes(files, Output::Frames, names.frames, &frames_header())?;
     write_bytes(files, Output::Samples, names.samples, &samples_header())
@@ -73,8 +73,7 @@ fn write_card<F: Files>(
     ensures written { (u : Setup) (m : Moment) → ConsoleStands u m console.now
         → Writes (names_of names.now) (card_outputs (names_of names.now).card m.state) result (F.held files.old) (F.held files.new) }
     ensures kinds { IfErr result (λ e. IsOfWriting e.error) }
-    ensures causes { HasCauses result (F.faults files.old) (F.faults files.new) (F.misses files.old) (F.misses files.new) (F.overs files.old)
-        (F.overs files.new) }
+    ensures causes { HasCauses result (counts F.faults F.misses F.overs files.old) (counts F.faults F.misses F.overs files.new) }
 {
     let Some(name) = names.card else {
         return Ok(());
@@ -99,8 +98,7 @@ fn write_run<F: Files>(
         → Writes (names_of names.now) (run_outputs (names_of names.now) u count) result (F.held files.old) (F.held files.new) }
     ensures ended { (u : Setup) → ConsoleStands u (opening_moment u) console.old → IfOk result (λ end. end ≡ run_end u count) }
     ensures kinds { IfErr result (λ e. IsOfWriting e.error) }
-    ensures causes { HasCauses result (F.faults files.old) (F.faults files.new) (F.misses files.old) (F.misses files.new) (F.overs files.old)
-        (F.overs files.new) }
+    ensures causes { HasCauses result (counts F.faults F.misses F.overs files.old) (counts F.faults F.misses F.overs files.new) }
 {
     write_heads(files, names)?;
     let end = write_frames(console, buffer, count, files, names)?;
@@ -144,8 +142,7 @@ impl Run {
             → IfErr result (λ e. IsCut (names_of names.now) e.output (run_outputs (names_of names.now) u count) (F.held files.old) (F.held files.new)) }
         ensures kinds { IfErr result (λ e. IsOfWriting e.error) }
         // No count falls, and `Failed` comes only where the faults rose.
-        ensures causes { HasCauses result (F.faults files.old) (F.faults files.new) (F.misses files.old) (F.misses files.new) (F.overs files.old)
-            (F.overs files.new) }
+        ensures causes { HasCauses result (counts F.faults F.misses F.overs files.old) (counts F.faults F.misses F.overs files.new) }
     {
         let Run {
             mut console,

@@ -1,5 +1,6 @@
 // Writing the outputs, each by whole calls.
 ghost use Rattle.std.specs.Prelude.{◌≡◌, ◌≤◌, ◌*◌, ℕ, List, [], ◌∷◌, length, IfErr, OnOk};
+ghost use Rattle.kit_base.specs.Counts.{counts};
 ghost use Rattle.kit_base.specs.Effects.{Creates, Appends, written_file};
 ghost use Rattle.kit_base.specs.Outside.{IsOfWriting};
 ghost use Rattle.asset_pack.specs.Words.{words_text};
@@ -15,8 +16,7 @@ fn create_output<F: Files>(files: &mut F, output: Output, name: &str) -> Result<
     ensures written { (names : Names) → IsNamed names output name.now → Writes names (Creates name.now ∷ []) result (F.held files.old) (F.held files.new) }
     ensures made { OnOk result (IsThere name.now (F.held files.new)) }
     ensures kinds { IfErr result (λ e. IsOfWriting e.error) }
-    ensures causes { HasCauses result (F.faults files.old) (F.faults files.new) (F.misses files.old) (F.misses files.new) (F.overs files.old)
-        (F.overs files.new) }
+    ensures causes { HasCauses result (counts F.faults F.misses F.overs files.old) (counts F.faults F.misses F.overs files.new) }
 {
     match files.create(name) {
         Ok(()) => Ok(()),
@@ -35,8 +35,7 @@ fn append_bytes<F: Files>(
     ensures written { (names : Names) → IsNamed names output name.now
         → Writes names (Appends name.now bytes.now ∷ []) result (F.held files.old) (F.held files.new) }
     ensures kinds { IfErr result (λ e. IsOfWriting e.error) }
-    ensures causes { HasCauses result (F.faults files.old) (F.faults files.new) (F.misses files.old) (F.misses files.new) (F.overs files.old)
-        (F.overs files.new) }
+    ensures causes { HasCauses result (counts F.faults F.misses F.overs files.old) (counts F.faults F.misses F.overs files.new) }
 {
     match files.append(name, bytes) {
         Ok(()) => Ok(()),
@@ -57,8 +56,7 @@ pub fn append_words<F: Files>(
     ensures written { (names : Names) → IsNamed names output name.now
         → Writes names (Appends name.now (words_text words.now) ∷ []) result (F.held files.old) (F.held files.new) }
     ensures kinds { IfErr result (λ e. IsOfWriting e.error) }
-    ensures causes { HasCauses result (F.faults files.old) (F.faults files.new) (F.misses files.old) (F.misses files.new) (F.overs files.old)
-        (F.overs files.new) }
+    ensures causes { HasCauses result (counts F.faults F.misses F.overs files.old) (counts F.faults F.misses F.overs files.new) }
 {
     let bytes = &mut buffer[..4 * words.len()];
     put_words(words, bytes);
@@ -75,8 +73,7 @@ pub fn write_bytes<F: Files>(
     ensures written { (names : Names) → IsNamed names output name.now
         → Writes names (written_file name.now bytes.now) result (F.held files.old) (F.held files.new) }
     ensures kinds { IfErr result (λ e. IsOfWriting e.error) }
-    ensures causes { HasCauses result (F.faults files.old) (F.faults files.new) (F.misses files.old) (F.misses files.new) (F.overs files.old)
-        (F.overs files.new) }
+    ensures causes { HasCauses result (counts F.faults F.misses F.overs files.old) (counts F.faults F.misses F.overs files.new) }
 {
     create_output(files, output, name)?;
     append_bytes(files, output, name, bytes)
@@ -94,8 +91,7 @@ pub fn write_words<F: Files>(
     ensures written { (names : Names) → IsNamed names output name.now
         → Writes names (written_file name.now (words_text words.now)) result (F.held files.old) (F.held files.new) }
     ensures kinds { IfErr result (λ e. IsOfWriting e.error) }
-    ensures causes { HasCauses result (F.faults files.old) (F.faults files.new) (F.misses files.old) (F.misses files.new) (F.overs files.old)
-        (F.overs files.new) }
+    ensures causes { HasCauses result (counts F.faults F.misses F.overs files.old) (counts F.faults F.misses F.overs files.new) }
 {
     create_output(files, output, name)?;
     append_words(files, output, name, words, buffer)

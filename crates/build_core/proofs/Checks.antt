@@ -2,6 +2,7 @@
 use Rattle.std.proofs.Common.{ℕ, ◌≡◌, inl, List, refl, sym, subst, ◌∙◌}
 use Rattle.std.specs.Prelude.{Option, Some, None, Result, Ok, Err, IfErr, IfSome}
 use Rattle.kit_base.specs.Held.{Held}
+use Rattle.kit_base.specs.Counts.{Counts}
 use Rattle.c_tree.specs.Tree.{ItemT}
 use Rattle.c_tree.specs.View.{unit}
 use Rattle.c_prep.specs.Causes.{Caused}
@@ -118,14 +119,14 @@ source_not_derived (Some m) source e d = λ x ds p ex de w. no_other ds p e (d x
 -- ---- which refusals come, and why
 
 module _ (T : Type 0) where
-  rules_cause : (r : Result T BuildErr) (f f' m m' o o' : ℕ) → IfErr r IsOfRules → Cause (λ n. ⊥) r f f' m m' o o'
-  rules_cause (Ok x) f f' m m' o o' h = tt
-  rules_cause (Err (errors.Source c n l)) f f' m m' o o' h = rule_cause c m m' h
-  rules_cause (Err (errors.Missing n)) f f' m m' o o' h = absurd h
-  rules_cause (Err (errors.Failed n)) f f' m m' o o' h = absurd h
-  rules_cause (Err (errors.Bad c n l)) f f' m m' o o' h = absurd h
-  rules_cause (Err (errors.Limit n)) f f' m m' o o' h = absurd h
-  rules_cause (Err errors.Memory) f f' m m' o o' h = tt
+  rules_cause : (r : Result T BuildErr) (before after : Counts) → IfErr r IsOfRules → Cause (λ n. ⊥) r before after
+  rules_cause (Ok x) b a h = tt
+  rules_cause (Err (errors.Source c n l)) b a h = rule_cause c b a h
+  rules_cause (Err (errors.Missing n)) b a h = absurd h
+  rules_cause (Err (errors.Failed n)) b a h = absurd h
+  rules_cause (Err (errors.Bad c n l)) b a h = absurd h
+  rules_cause (Err (errors.Limit n)) b a h = absurd h
+  rules_cause (Err errors.Memory) b a h = tt
 
   pub rules_miss : (source : List ℕ) (r : Result T BuildErr) → IfErr r IsOfRules → IfErr r (MissesOnly source)
   rules_miss source (Ok x) h = tt
@@ -143,20 +144,23 @@ module _ (T : Type 0) where
   unread_misses source (front.Limit n) h = tt
   unread_misses source front.Memory h = tt
 
-  unread_cause : (e : FrontErr) (f f' m m' o o' : ℕ) → HasFrontCode e → Caused (HasFailed (Err e)) f f' → Caused (Lacks (Err e)) m m' → Caused (IsOver (Err e)) o o' → Cause {T = T} (λ n. ⊥) (Err (unread e)) f f' m m' o o'
-  unread_cause (front.Source c n l) f f' m m' o o' k cf cm co = front_cause c m m' k cm.rose
-  unread_cause (front.Missing n) f f' m m' o o' k cf cm co = cm.rose tt
-  unread_cause (front.Failed n) f f' m m' o o' k cf cm co = cf.rose tt
-  unread_cause (front.Limit n) f f' m m' o o' k cf cm co = inl (co.rose tt)
-  unread_cause front.Memory f f' m m' o o' k cf cm co = tt
+  unread_cause : (e : FrontErr) (before after : Counts) → HasFrontCode e → Caused (HasFailed (Err e)) before.faults after.faults → Caused (Lacks (Err e)) before.misses after.misses → Caused (IsOver (Err e)) before.overs after.overs
+      → Cause {T = T} (λ n. ⊥) (Err (unread e)) before after
+  unread_cause (front.Source c n l) b a k cf cm co = front_cause c b a k cm.rose
+  unread_cause (front.Missing n) b a k cf cm co = cm.rose tt
+  unread_cause (front.Failed n) b a k cf cm co = cf.rose tt
+  unread_cause (front.Limit n) b a k cf cm co = inl (co.rose tt)
+  unread_cause front.Memory b a k cf cm co = tt
 
-  pub unread_causes : (e : FrontErr) (f f' m m' o o' : ℕ) → HasFrontCode e → Caused (HasFailed (Err e)) f f' → Caused (Lacks (Err e)) m m' → Caused (IsOver (Err e)) o o' → HasReadCauses {T = T} (Err (unread e)) f f' m m' o o'
-  unread_causes e f f' m m' o o' k cf cm co =
-      record { faults_later = cf.later; misses_later = cm.later; overs_later = co.later; cause = unread_cause e f f' m m' o o' k cf cm co }
+  pub unread_causes : (e : FrontErr) (before after : Counts) → HasFrontCode e → Caused (HasFailed (Err e)) before.faults after.faults → Caused (Lacks (Err e)) before.misses after.misses → Caused (IsOver (Err e)) before.overs after.overs
+      → HasReadCauses {T = T} (Err (unread e)) before after
+  unread_causes e b a k cf cm co =
+      record { faults_later = cf.later; misses_later = cm.later; overs_later = co.later; cause = unread_cause e b a k cf cm co }
 
-  pub typed_causes : (parsed : Parsed) (r : Result T BuildErr) (f f' m m' o o' : ℕ) → Caused (HasFailed (Ok parsed)) f f' → Caused (Lacks (Ok parsed)) m m' → Caused (IsOver (Ok parsed)) o o' → IfErr r IsOfRules → HasReadCauses r f f' m m' o o'
-  typed_causes parsed r f f' m m' o o' cf cm co h =
-      record { faults_later = cf.later; misses_later = cm.later; overs_later = co.later; cause = rules_cause r f f' m m' o o' h }
+  pub typed_causes : (parsed : Parsed) (r : Result T BuildErr) (before after : Counts) → Caused (HasFailed (Ok parsed)) before.faults after.faults → Caused (Lacks (Ok parsed)) before.misses after.misses → Caused (IsOver (Ok parsed)) before.overs after.overs
+      → IfErr r IsOfRules → HasReadCauses r before after
+  typed_causes parsed r b a cf cm co h =
+      record { faults_later = cf.later; misses_later = cm.later; overs_later = co.later; cause = rules_cause r b a h }
 
 -- ---- a project
 

@@ -2,6 +2,7 @@
 use Rattle.std.proofs.Common.{ℕ, suc, ◌≡◌, List, sym, subst, arith}
 use Rattle.std.specs.Prelude.{Option, Some, None, Result, Ok, Err, Contains, IfOk, IfErr, IfSome}
 use Rattle.kit_base.specs.Held.{Held}
+use Rattle.kit_base.specs.Counts.{Counts}
 use Rattle.c_check.specs.View.{program}
 use Rattle.project_text.specs.declared.project.Project.{Project}
 use Rattle.project_text.specs.declared.error.ProjectErr.{ProjectErr}
@@ -99,11 +100,10 @@ module _ (text : List ℕ) where
 
   -- ---- and why
 
-  pub built_causes : (c : Checked) (r : Result Built BuildErr) (f0 f f' m0 m m' o0 o o' : ℕ) → HasReadCauses {T = Checked} (Ok c) f0 f m0 m o0 o → HasCauses text r f f' m m' o o' → HasCauses text r f0 f' m0 m' o0 o'
-  built_causes c (Ok b) f0 f f' m0 m m' o0 o o' h k =
+  pub built_causes : (c : Checked) (r : Result Built BuildErr) (x y z : Counts) → HasReadCauses {T = Checked} (Ok c) x y → HasCauses text r y z → HasCauses text r x z
+  built_causes c (Ok b) x y z h k =
       record { faults_later = omega (arith, h.faults_later, k.faults_later); misses_later = omega (arith, h.misses_later, k.misses_later); overs_later = omega (arith, h.overs_later, k.overs_later); cause = tt }
-  built_causes c (Err e) f0 f f' m0 m m' o0 o o' h k =
-      later Built Built (IsCartridgeTooLarge text) (IsCartridgeTooLarge text) e f0 f f' m0 m m' o0 o o' h.faults_later h.misses_later h.overs_later (λ n x. x) k
+  built_causes c (Err e) x y z h k = later Built Built Checked (IsCartridgeTooLarge text) x y z c e h k
 
   -- ---- at which file a read failed
 

@@ -1,7 +1,8 @@
 -- Which refusals of a build come, and why.
-use Rattle.std.proofs.Common.{ℕ, ◌≡◌, ◌≤◌, inl, inr, List, ◌++◌, length, refl, sym, subst}
+use Rattle.std.proofs.Common.{ℕ, ◌≡◌, inl, inr, List, ◌++◌, length, refl, sym, subst, arith}
 use Rattle.std.specs.Prelude.{Some, None, Result, Ok, Err, IfErr, Contains}
 use Rattle.std.proofs.lemmas.List.Elements.{Contains-append_left, Contains-append_right}
+use Rattle.kit_base.specs.Counts.{Counts}
 use Rattle.asset_pack.specs.Texts.{Image}
 use Rattle.cart_format.specs.Cartridge.{Cartridge}
 use Rattle.project_text.specs.declared.project.Project.{Project}
@@ -15,7 +16,7 @@ use Rattle.build_core.specs.declared.error.BuildErr.{BuildErr}
 use Rattle.build_core.specs.declared.error.BuildErr.TheVariants as errors
 use Rattle.build_core.specs.Due.{assets}
 use Rattle.build_core.specs.Build.{cartridge_of}
-use Rattle.build_core.specs.Causes.{Cause, CanBeTooLarge, IsTooLarge, HasCauses, IsCartridgeTooLarge, IsOfAssets, IsOfBuilding, IsOfPacking}
+use Rattle.build_core.specs.Causes.{Cause, CanBeTooLarge, IsTooLarge, HasCauses, HasReadCauses, IsCartridgeTooLarge, IsOfAssets, IsOfBuilding, IsOfPacking}
 use Rattle.build_core.specs.Causes as causes
 use Rattle.build_core.specs.Checkable.{AreOfOneUnit}
 
@@ -78,14 +79,21 @@ module _ (text : List ℕ) (p : Project) (is : IsProject text p) (program : Prog
       large = large;
     }
 
-    packing_cause : (r : Result Built BuildErr) (f f' m m' o o' : ℕ) → IfErr r (IsOfPacking (cartridge_of p.title i (assets ts ss))) → Cause (IsCartridgeTooLarge text) r f f' m m' o o'
-    packing_cause (Ok b) f f' m m' o o' h = tt
-    packing_cause (Err (errors.Source a n l)) f f' m m' o o' h = absurd h
-    packing_cause (Err (errors.Missing n)) f f' m m' o o' h = absurd h
-    packing_cause (Err (errors.Failed n)) f f' m m' o o' h = absurd h
-    packing_cause (Err (errors.Bad a n l)) f f' m m' o o' h = tt
-    packing_cause (Err (errors.Limit n)) f f' m m' o o' h = inr (h.0, can_be h.1)
-    packing_cause (Err errors.Memory) f f' m m' o o' h = tt
+    packing_cause : (r : Result Built BuildErr) (before after : Counts) → IfErr r (IsOfPacking (cartridge_of p.title i (assets ts ss))) → Cause (IsCartridgeTooLarge text) r before after
+    packing_cause (Ok built) b a h = tt
+    packing_cause (Err (errors.Source c n l)) b a h = absurd h
+    packing_cause (Err (errors.Missing n)) b a h = absurd h
+    packing_cause (Err (errors.Failed n)) b a h = absurd h
+    packing_cause (Err (errors.Bad c n l)) b a h = tt
+    packing_cause (Err (errors.Limit n)) b a h = inr (h.0, can_be h.1)
+    packing_cause (Err errors.Memory) b a h = tt
 
-    pub packing_causes : (r : Result Built BuildErr) (f f' m m' o o' : ℕ) → f ≤ f' → m ≤ m' → o ≤ o' → IfErr r (IsOfPacking (cartridge_of p.title i (assets ts ss))) → HasCauses text r f f' m m' o o'
-    packing_causes r f f' m m' o o' lf lm lo h = record { faults_later = lf; misses_later = lm; overs_later = lo; cause = packing_cause r f f' m m' o o' h }
+    -- behind two reads that went well
+    pub packing_causes : (T U : Type 0) (t : T) (u : U) (r : Result Built BuildErr) (x y z : Counts) → HasReadCauses {T = T} (Ok t) x y → HasReadCauses {T = U} (Ok u) y z
+        → IfErr r (IsOfPacking (cartridge_of p.title i (assets ts ss))) → HasCauses text r x z
+    packing_causes T U t u r x y z first second h = record {
+      faults_later = omega (arith, first.faults_later, second.faults_later);
+      misses_later = omega (arith, first.misses_later, second.misses_later);
+      overs_later = omega (arith, first.overs_later, second.overs_later);
+      cause = packing_cause r x z h;
+    }

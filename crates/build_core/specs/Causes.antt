@@ -1,7 +1,8 @@
 -- Which refusals of a build can come, and why.
-use Rattle.std.specs.Prelude.{ℕ, ◌≡◌, ◌≤◌, ◌<◌, ◌⊎◌, true, List, [], ◌∷◌, ◌++◌, length, Some, None, Result, Ok, Err, Contains, codes}
+use Rattle.std.specs.Prelude.{ℕ, ◌≡◌, ◌≤◌, ◌<◌, ◌⊎◌, List, [], ◌∷◌, ◌++◌, length, Some, None, Result, Ok, Err, Contains, codes}
 use Rattle.std.specs.List.{AllByRecursion}
-use Rattle.kit_base.specs.Counts.{Rose}
+use Rattle.kit_base.specs.Counts.{Counts, Rose}
+use Rattle.kit_base.specs.SourceCodes.{HasSourceCause}
 use Rattle.kit_base.specs.declared.failure.Failure.{Failure}
 use Rattle.kit_base.specs.declared.failure.Failure.TheVariants as failures
 use Rattle.asset_pack.specs.declared.error.AssetFault.{AssetFault}
@@ -18,7 +19,6 @@ use Rattle.c_image.specs.Imaging.{ImageT, IsImageOf}
 use Rattle.build_core.specs.declared.error.BuildErr.{BuildErr}
 use Rattle.build_core.specs.declared.error.BuildErr.TheVariants as errors
 use Rattle.build_core.specs.Checkable.{AreOfOneUnit}
-use Rattle.build_core.specs.Codes.{is_source_code}
 use Rattle.build_core.specs.Due.{assets}
 use Rattle.build_core.specs.Build.{cartridge_of}
 
@@ -70,36 +70,31 @@ pub record CanBeTooLarge (project : List ℕ) : Type 0 where
   pub each_sound : length sounds ≡ length parts.sounds
   pub large : IsTooLarge (cartridge_of parts.title image (assets textures sounds))
 
--- The code of a source's refusal is a listed one, and it is 21, that an included file is not there, only where the misses rose.
-pub record HasSourceCause (code misses misses' : ℕ) : Type 0 where
-  pub listed : is_source_code code ≡ true
-  pub lacked : code ≡ 21 → Rose misses misses'
-
 -- a refusal of the files comes only where its count rose, that of a size also where it was too large
-abbrev pub Cause : {T : Type 0} → (List ℕ → Type 0) → Result T BuildErr → (faults faults' misses misses' overs overs' : ℕ) → Type 0
-Cause TooLarge (Err (errors.Source code file line)) f f' m m' o o' = HasSourceCause code m m'
-Cause TooLarge (Err (errors.Missing n)) f f' m m' o o' = Rose m m'
-Cause TooLarge (Err (errors.Failed n)) f f' m m' o o' = Rose f f'
-Cause TooLarge (Err (errors.Limit n)) f f' m m' o o' = Rose o o' ⊎ TooLarge n
-Cause TooLarge r f f' m m' o o' = Unit {0}
+abbrev pub Cause : {T : Type 0} → (List ℕ → Type 0) → Result T BuildErr → (before after : Counts) → Type 0
+Cause TooLarge (Err (errors.Source code file line)) before after = HasSourceCause code before after
+Cause TooLarge (Err (errors.Missing name)) before after = Rose before.misses after.misses
+Cause TooLarge (Err (errors.Failed name)) before after = Rose before.faults after.faults
+Cause TooLarge (Err (errors.Limit name)) before after = Rose before.overs after.overs ⊎ TooLarge name
+Cause TooLarge r before after = Unit {0}
 
 -- no count falls, and each refusal of the files has its cause
-pub record HasCausesOr {T : Type 0} (TooLarge : List ℕ → Type 0) (r : Result T BuildErr) (faults faults' misses misses' overs overs' : ℕ) : Type 0 where
-  pub faults_later : faults ≤ faults'
-  pub misses_later : misses ≤ misses'
-  pub overs_later : overs ≤ overs'
-  pub cause : Cause TooLarge r faults faults' misses misses' overs overs'
+pub record HasCausesOr {T : Type 0} (TooLarge : List ℕ → Type 0) (r : Result T BuildErr) (before after : Counts) : Type 0 where
+  pub faults_later : before.faults ≤ after.faults
+  pub misses_later : before.misses ≤ after.misses
+  pub overs_later : before.overs ≤ after.overs
+  pub cause : Cause TooLarge r before after
 
 -- what is too large is called the cartridge
 abbrev pub IsCartridgeTooLarge : List ℕ → List ℕ → Type 0
 IsCartridgeTooLarge project name = (name ≡ codes "cartridge") × CanBeTooLarge project
 
 -- the causes of a build, and those of its reads
-abbrev pub HasCauses : {T : Type 0} → List ℕ → Result T BuildErr → (faults faults' misses misses' overs overs' : ℕ) → Type 0
-HasCauses project r f f' m m' o o' = HasCausesOr (IsCartridgeTooLarge project) r f f' m m' o o'
+abbrev pub HasCauses : {T : Type 0} → List ℕ → Result T BuildErr → (before after : Counts) → Type 0
+HasCauses project r before after = HasCausesOr (IsCartridgeTooLarge project) r before after
 
-abbrev pub HasReadCauses : {T : Type 0} → Result T BuildErr → (faults faults' misses misses' overs overs' : ℕ) → Type 0
-HasReadCauses r f f' m m' o o' = HasCausesOr (λ name. ⊥) r f f' m m' o o'
+abbrev pub HasReadCauses : {T : Type 0} → Result T BuildErr → (before after : Counts) → Type 0
+HasReadCauses r before after = HasCausesOr (λ name. ⊥) r before after
 
 -- the refusals of reading a file, of a texture or a sound, of several, and of packing
 abbrev pub IsOfReading : List ℕ → BuildErr → Type 0

@@ -1,6 +1,7 @@
 -- What the check of a project's source answers.
 use Rattle.std.specs.Prelude.{ℕ, ◌≡◌, true, List, Some, None, Result, Ok, Err, codes}
 use Rattle.kit_base.specs.Held.{Held}
+use Rattle.kit_base.specs.SourceCodes.{between}
 use Rattle.c_tree.specs.Tree.{ItemT}
 use Rattle.c_tree.specs.View.{unit}
 use Rattle.c_prep.specs.Files.{Expansion, expansion_of}
@@ -26,7 +27,6 @@ use Rattle.project_text.specs.ProjectText.{IsProject}
 use Rattle.project_text.specs.Reading.{project_of}
 use Rattle.build_core.specs.declared.error.BuildErr.{BuildErr}
 use Rattle.build_core.specs.declared.error.BuildErr.TheVariants as errors
-use Rattle.build_core.specs.Codes.{is_rule_code}
 use Rattle.build_core.specs.Due.{project_due}
 
 -- why a source has no syntax tree, as a build tells it
@@ -121,8 +121,8 @@ MissesOnly source (errors.Missing name) = name ≡ source
 MissesOnly source (errors.Bad code name line) = ⊥
 MissesOnly source e = Unit {0}
 
--- a refusal of the rules, or of memory
+-- a refusal of the rules, by their codes, or of memory
 abbrev pub IsOfRules : BuildErr → Type 0
-IsOfRules (errors.Source code file line) = is_rule_code code ≡ true
+IsOfRules (errors.Source code file line) = between 40 50 code ≡ true
 IsOfRules errors.Memory = Unit {0}
 IsOfRules e = ⊥

@@ -1,5 +1,4 @@
 pub mod Due
-pub mod Codes
 pub mod Checked
 pub mod Starts
 pub mod Checkable

@@ -1,6 +1,7 @@
 // The textures and sounds of a project, read.
 ghost use Rattle.std.specs.Prelude.{◌≡◌, IfOk, IfErr, IfSome, IsUtf8, length, List, ℕ, Result};
 ghost use Rattle.std.specs.List.{AllByRecursion};
+ghost use Rattle.kit_base.specs.Counts.{counts};
 ghost use Rattle.kit_base.specs.Gives.{Gives as GivesAsset};
 ghost use Rattle.asset_pack.specs.declared.error.AssetFault.{AssetFault};
 ghost use Rattle.build_core.specs.Due.{all_of, asset_due, asset_of};
@@ -74,8 +75,7 @@ fn read_asset<F: Files, A: Asset>(alloc: Global, files: &mut F, name: &Name) -> 
     ensures held { F.held files.new ≡ F.held files.old }
     ensures told { IfSome (F.held files.old) (λ m. Gives result (asset_of A.value m name.now)) }
     ensures kinds { IfErr result (IsOfAsset name.now) }
-    ensures causes { HasReadCauses result (F.faults files.old) (F.faults files.new)
-        (F.misses files.old) (F.misses files.new) (F.overs files.old) (F.overs files.new) }
+    ensures causes { HasReadCauses result (counts F.faults F.misses F.overs files.old) (counts F.faults F.misses F.overs files.new) }
 {
     let bytes = match read_file(alloc, files, name) {
         Ok(bytes) => bytes,
@@ -97,8 +97,7 @@ pub fn read_assets<F: Files, A: Asset>(
     ensures reached { IfSome (F.held files.old) (λ m. FailsAt (IsOneRead (asset_of A.value m) names.now) result) }
     ensures count { IfOk result (λ v. length v.items ≡ length names.now) }
     ensures kinds { IfErr result (IsOfAssets names.now) }
-    ensures causes { HasReadCauses result (F.faults files.old) (F.faults files.new)
-        (F.misses files.old) (F.misses files.new) (F.overs files.old) (F.overs files.new) }
+    ensures causes { HasReadCauses result (counts F.faults F.misses F.overs files.old) (counts F.faults F.misses F.overs files.new) }
 {
     let mut assets = Vec::new(alloc);
     'each: for name in names {

@@ -1,5 +1,6 @@
 // The build of a project.
 ghost use Rattle.std.specs.Prelude.{◌≡◌, ◌≤◌, IfOk, IfErr, IfSome, length};
+ghost use Rattle.kit_base.specs.Counts.{counts};
 ghost use Rattle.project_text.specs.declared.project.Project.{Project};
 ghost use Rattle.project_text.specs.ProjectText.{IsProject};
 ghost use Rattle.build_core.specs.Build.{Builds, IsAsmText, IsCartText};
@@ -59,8 +60,7 @@ pub fn build_from<F: Files>(
     // The assembly text reads as the items.
     ensures asm { IfOk result IsAsmText }
     ensures kinds { IfErr result (IsOfBuilding project.now) }
-    ensures causes { HasCauses project.now result (F.faults files.old) (F.faults files.new)
-        (F.misses files.old) (F.misses files.new) (F.overs files.old) (F.overs files.new) }
+    ensures causes { HasCauses project.now result (counts F.faults F.misses F.overs files.old) (counts F.faults F.misses F.overs files.new) }
 {
     let parts = match project_in(alloc, project) {
         Ok(parts) => parts,
@@ -101,8 +101,7 @@ pub fn build<F: Files>(alloc: Global, files: &mut F, project: &[u8]) -> Result<B
     // The assembly text reads as the items.
     ensures asm { IfOk result IsAsmText }
     ensures kinds { IfErr result (CanCome project.now) }
-    ensures causes { HasCauses project.now result (F.faults files.old) (F.faults files.new)
-        (F.misses files.old) (F.misses files.new) (F.overs files.old) (F.overs files.new) }
+    ensures causes { HasCauses project.now result (counts F.faults F.misses F.overs files.old) (counts F.faults F.misses F.overs files.new) }
 {
     match front(alloc, files, project) {
         Ok(checked) => build_from(alloc, files, project, &checked),

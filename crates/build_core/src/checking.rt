@@ -1,5 +1,6 @@
 // The check of a project's source.
 ghost use Rattle.std.specs.Prelude.{◌≡◌, ◌≤◌, IfErr, IfSome, length};
+ghost use Rattle.kit_base.specs.Counts.{counts};
 ghost use Rattle.c_tree.specs.View.{unit};
 ghost use Rattle.c_front.specs.Causes.{IsWithin};
 ghost use Rattle.c_check.specs.Whole.{WellTyped};
@@ -81,8 +82,7 @@ pub fn check_sources<F: Reads>(
     // Where a call failed, it was at a file that is read to check the project.
     ensures reached { IfSome (F.held files.old) (λ m. FailsAt (IsReadToCheck m project.now) result) }
     ensures kinds { IfErr result (CanBeRefused project.now) }
-    ensures causes { HasReadCauses result (F.faults files.old) (F.faults files.new)
-        (F.misses files.old) (F.misses files.new) (F.overs files.old) (F.overs files.new) }
+    ensures causes { HasReadCauses result (counts F.faults F.misses F.overs files.old) (counts F.faults F.misses F.overs files.new) }
 {
     match front(alloc, files, project) {
         Ok(checked) => {

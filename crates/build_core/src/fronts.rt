@@ -1,5 +1,6 @@
 // The front of a build.
 ghost use Rattle.std.specs.Prelude.{◌≡◌, ◌≤◌, IfOk, IfErr, IfSome, length};
+ghost use Rattle.kit_base.specs.Counts.{counts};
 ghost use Rattle.project_text.specs.declared.project.Project.{Project};
 ghost use Rattle.project_text.specs.ProjectText.{IsProject};
 ghost use Rattle.build_core.specs.Causes.{HasReadCauses};
@@ -24,8 +25,7 @@ pub fn front<F: Reads>(alloc: Global, files: &mut F, project: &[u8]) -> Result<C
     ensures reached { IfSome (F.held files.old) (λ m. FailsAt (IsReadToCheck m project.now) result) }
     ensures project { IfOk result (λ _. (parts : Project) × IsProject project.now parts) }
     ensures kinds { IfErr result (CanBeRefused project.now) }
-    ensures causes { HasReadCauses result (F.faults files.old) (F.faults files.new)
-        (F.misses files.old) (F.misses files.new) (F.overs files.old) (F.overs files.new) }
+    ensures causes { HasReadCauses result (counts F.faults F.misses F.overs files.old) (counts F.faults F.misses F.overs files.new) }
 {
     match project_in(alloc, project) {
         Ok(parts) => read_source(alloc, files, &parts.source),

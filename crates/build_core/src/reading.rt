@@ -1,5 +1,6 @@
 // The project and the files that it names, read.
 ghost use Rattle.std.specs.Prelude.{◌≡◌, ◌≤◌, IfOk, IfErr, IfSome, IsUtf8, length};
+ghost use Rattle.kit_base.specs.Counts.{counts};
 ghost use Rattle.project_text.specs.ProjectText.{IsProject};
 ghost use Rattle.project_text.specs.Reading.{project_of};
 ghost use Rattle.build_core.specs.Due.{project_due, read_of};
@@ -39,8 +40,7 @@ pub fn read_file<F: Files>(alloc: Global, files: &mut F, name: &Name) -> Result<
     ensures held { F.held files.new ≡ F.held files.old }
     ensures told { IfSome (F.held files.old) (λ m. GivesBy (λ v. v.items) result (read_of m name.now)) }
     ensures kinds { IfErr result (IsOfReading name.now) }
-    ensures causes { HasReadCauses result (F.faults files.old) (F.faults files.new)
-        (F.misses files.old) (F.misses files.new) (F.overs files.old) (F.overs files.new) }
+    ensures causes { HasReadCauses result (counts F.faults F.misses F.overs files.old) (counts F.faults F.misses F.overs files.new) }
 {
     let Ok(named) = name.copy() else {
         return Err(BuildErr::Memory);

@@ -1,5 +1,6 @@
 // A project's source, read and typed.
 ghost use Rattle.std.specs.Prelude.{◌≡◌, ◌≤◌, IfOk, IfErr, IfSome, IsUtf8, length};
+ghost use Rattle.kit_base.specs.Counts.{counts};
 ghost use Rattle.c_tree.specs.View.{unit};
 ghost use Rattle.c_check.specs.Whole.{WellTyped};
 ghost use Rattle.c_types.specs.Programs.{ProgramT};
@@ -85,8 +86,7 @@ pub fn read_source<F: Reads>(alloc: Global, files: &mut F, name: &Name) -> Resul
     ensures reached { IfSome (F.held files.old) (λ m. FailsAt (IsReadFor (over m) name.now) result) }
     ensures accepts { IfSome (F.held files.old) (λ m. AcceptsSource m name.now result) }
     ensures kinds { IfErr result (MissesOnly name.now) }
-    ensures causes { HasReadCauses result (F.faults files.old) (F.faults files.new)
-        (F.misses files.old) (F.misses files.new) (F.overs files.old) (F.overs files.new) }
+    ensures causes { HasReadCauses result (counts F.faults F.misses F.overs files.old) (counts F.faults F.misses F.overs files.new) }
 {
     match read_unit(alloc, files, name.as_str()) {
         Ok(parsed) => source_of(alloc, parsed),

@@ -6,10 +6,8 @@ use Rattle.build_core.specs.declared.building.Built.{Built}
 use Rattle.build_core.specs.declared.checked.Checked.{Checked}
 use Rattle.build_core.specs.declared.error.BuildErr.{BuildErr}
 use Rattle.build_core.specs.BuiltFrom.{BuildsFrom, IsBuiltFrom}
-use Rattle.build_core.specs.Causes.{HasCauses, HasReadCauses, IsCartridgeTooLarge}
 use Rattle.build_core.specs.Fronts.{Fronts, IsFrontOf}
 use Rattle.build_core.specs.Reached.{FailsAt}
-use Rattle.build_core.proofs.Counting.{later}
 use Rattle.build_core.proofs.Failing.{wider}
 use Rattle.kit_core.specs.declared.following.Watchable.{Watchable}
 
@@ -22,7 +20,3 @@ built_from text c b (Some m) h1 front same h = subst (λ x. IfSome x (λ m'. IsF
 pub watched_reached : (P : Held → List ℕ → Type 0) (held : Option Held) (e : BuildErr) → IfSome held (λ m. FailsAt {T = Built} (P m) (Err e)) → IfSome held (λ m. FailsAt {T = Watchable} (P m) (Err e))
 watched_reached P None e h = tt
 watched_reached P (Some m) e h = wider Built Watchable (P m) (P m) (λ name k. k) e h
-
-pub watched_causes : (text : List ℕ) (c : Checked) (e : BuildErr) (f0 f f' m0 m m' o0 o o' : ℕ) → HasReadCauses {T = Checked} (Ok c) f0 f m0 m o0 o → HasCauses {T = Built} text (Err e) f f' m m' o o' → HasCauses {T = Watchable} text (Err e) f0 f' m0 m' o0 o'
-watched_causes text c e f0 f f' m0 m m' o0 o o' h k =
-    later Built Watchable (IsCartridgeTooLarge text) (IsCartridgeTooLarge text) e f0 f f' m0 m m' o0 o o' h.faults_later h.misses_later h.overs_later (λ n x. x) k

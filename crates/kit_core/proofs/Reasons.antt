@@ -1,8 +1,8 @@
 -- Why a command ends with its status, and what is put then.
 use Rattle.std.proofs.Common.{ℕ, ◌≡◌, ◌≤◌, ◌⊎◌, ◌∙◌, refl, sym, arith, List, inl, inr}
 use Rattle.std.specs.Prelude.{Option, None, Ok, Err, Result}
-use Rattle.kit_base.specs.Counts.{Rose}
 use Rattle.kit_base.specs.Held.{Held}
+use Rattle.kit_base.specs.Counts.{Counts, Rose}
 use Rattle.kit_words.specs.Command.{command_of}
 use Rattle.kit_tools.specs.Refusal.{line_of, status_of}
 use Rattle.kit_tools.specs.Carrying.{shown_status, text_of}
@@ -16,7 +16,7 @@ use Rattle.kit_core.specs.inner.Putting.{Shows}
 use Rattle.kit_core.specs.Limits.{IsOver}
 use Rattle.kit_core.specs.inner.Causes.{HasReason, HasReasons, IsUsage}
 use Rattle.kit_core.specs.Lines.{IsPut, Text, Line, Front, PutsSource}
-use Rattle.kit_tools.specs.Causes.{Counts, HasCause, HasDueCause, HasCausesOr}
+use Rattle.kit_tools.specs.Causes.{HasCause, HasDueCause, HasCausesOr}
 
 -- ---- from a command's causes to the reasons of its words
 

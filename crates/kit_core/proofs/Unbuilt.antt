@@ -1,24 +1,17 @@
 -- Why a build or a check is refused, as the command tells it.
-use Rattle.std.proofs.Common.{ℕ, ◌≡◌, List, true, sym, subst, inl, inr}
+use Rattle.std.proofs.Common.{ℕ, ◌≡◌, List, sym, subst, inl, inr}
 use Rattle.std.specs.Prelude.{Some, None, Err}
+use Rattle.kit_base.specs.Counts.{Counts}
 use Rattle.build_core.specs.declared.error.BuildErr.{BuildErr}
 use Rattle.build_core.specs.declared.error.BuildErr.TheVariants as errors
-use Rattle.build_core.specs.Codes.{is_source_code as is_build_code}
 use Rattle.build_core.specs.Causes as builds
-use Rattle.build_core.proofs.Listing.{ranges}
-use Rattle.kit_tools.specs.Codes.{is_source_code}
 use Rattle.kit_tools.specs.declared.refusal.Refusal.{Refusal}
-use Rattle.kit_tools.specs.Causes.{Counts, HasCause, HasCausesOr}
+use Rattle.kit_tools.specs.Causes.{HasCause, HasCausesOr}
 use Rattle.kit_core.specs.Due.{unbuilt}
 
--- the codes of a build are those of the commands
-listed : (code : ℕ) → is_build_code code ≡ true → is_source_code code ≡ true
-unfolding is_source_code
-listed code h = ranges code h
-
 module _ (T U : Type 0) (project : List ℕ) (Large : List ℕ → Type 0) (O : Type 0) (over : (n : List ℕ) → Large n → O) where
-  cause_so : (e : BuildErr) (before after : Counts) → builds.Cause {T = T} Large (Err e) before.faults after.faults before.misses after.misses before.overs after.overs → HasCause O (unbuilt project e) before after
-  cause_so (errors.Source c f l) b a h = record { listed = listed c h.listed; lacked = h.lacked }
+  cause_so : (e : BuildErr) (before after : Counts) → builds.Cause {T = T} Large (Err e) before after → HasCause O (unbuilt project e) before after
+  cause_so (errors.Source c f l) b a h = h
   cause_so (errors.Missing n) b a h = h
   cause_so (errors.Failed n) b a h = h
   cause_so (errors.Bad c n None) b a h = tt
@@ -28,7 +21,7 @@ module _ (T U : Type 0) (project : List ℕ) (Large : List ℕ → Type 0) (O : 
   cause_so errors.Memory b a h = tt
 
   pub text_causes : (e : BuildErr) (r : Refusal) (before after : Counts) → r ≡ unbuilt project e
-      → builds.HasCausesOr {T = T} Large (Err e) before.faults after.faults before.misses after.misses before.overs after.overs → HasCausesOr {T = U} O (Err r) before after
+      → builds.HasCausesOr {T = T} Large (Err e) before after → HasCausesOr {T = U} O (Err r) before after
   text_causes e r before after is h = record {
     faults_later = h.faults_later;
     misses_later = h.misses_later;

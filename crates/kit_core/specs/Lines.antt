@@ -1,11 +1,12 @@
 -- What is put at each status, whatever is told of the files.
 use Rattle.std.specs.Prelude.{ℕ, ◌≡◌, ◌⊎◌, List, ◌++◌, take, Option}
+use Rattle.kit_base.specs.Counts.{Counts}
+use Rattle.kit_base.specs.SourceCodes.{HasSourceCause}
 use Rattle.kit_tools.specs.declared.refusal.DueRefusal.TheVariants as dues
 use Rattle.kit_tools.specs.declared.refusal.Refusal.{Refusal}
 use Rattle.kit_tools.specs.declared.refusal.Refusal.TheVariants as refusals
 use Rattle.kit_tools.specs.declared.shown.Shown.{Shown}
 use Rattle.kit_tools.specs.Carrying.{shown_status, text_of}
-use Rattle.kit_tools.specs.Causes.{Counts, HasSourceCause}
 use Rattle.kit_tools.specs.Refusal.{due_line, line_of, status_of}
 use Rattle.kit_core.specs.Outcome.{putting}
 

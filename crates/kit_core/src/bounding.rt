@@ -1,9 +1,10 @@
 // The command `bounds`.
 ghost use Rattle.std.specs.Prelude.{◌≡◌, IfSome, IfOk, OnOk, IfErr, map};
 ghost use Rattle.kit_base.specs.Effects.{all_done};
+ghost use Rattle.kit_base.specs.Counts.{counts};
 ghost use Rattle.cycle_bound.specs.Lines.{IsTold};
 ghost use Rattle.kit_tools.specs.Carrying.{IsCut, LeavesBy};
-ghost use Rattle.kit_tools.specs.Causes.{HasCauses, HasCausesOr, counts};
+ghost use Rattle.kit_tools.specs.Causes.{HasCauses, HasCausesOr};
 ghost use Rattle.kit_core.specs.Limits.{IsLarge};
 ghost use Rattle.kit_core.specs.Due.{bounds_due, bounds_effects, build_reads, function_names};
 

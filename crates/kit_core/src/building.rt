@@ -1,11 +1,12 @@
 // The command `build`.
 ghost use Rattle.std.specs.Prelude.{◌≡◌, ◌≤◌, IfSome, IfOk, OnOk, IfErr, length};
 ghost use Rattle.kit_base.specs.Effects.{all_done};
+ghost use Rattle.kit_base.specs.Counts.{counts};
 ghost use Rattle.build_core.specs.Build.{IsCartText};
 ghost use Rattle.build_core.specs.Causes.{CanBeTooLarge};
 ghost use Rattle.build_core.specs.Reached.{IsReadToBuild};
 ghost use Rattle.kit_tools.specs.Carrying.{FailsIn, IsCut, LeavesBy};
-ghost use Rattle.kit_tools.specs.Causes.{HasCauses, HasCausesOr, counts};
+ghost use Rattle.kit_tools.specs.Causes.{HasCauses, HasCausesOr};
 ghost use Rattle.kit_core.specs.Limits.{IsLarge};
 ghost use Rattle.kit_core.specs.inner.Checking.{TextBuilt};
 ghost use Rattle.kit_core.specs.Due.{build_due, build_reads, outputs_of};

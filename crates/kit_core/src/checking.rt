@@ -1,8 +1,9 @@
 // The command `check`.
 ghost use Rattle.std.specs.Prelude.{ℕ, List, ◌≡◌, ◌≤◌, IfErr, IfSome, length};
+ghost use Rattle.kit_base.specs.Counts.{counts};
 ghost use Rattle.build_core.specs.Reached.{IsReadToCheck};
 ghost use Rattle.kit_tools.specs.Carrying.{FailsIn, LeavesBy};
-ghost use Rattle.kit_tools.specs.Causes.{HasCauses, counts};
+ghost use Rattle.kit_tools.specs.Causes.{HasCauses};
 ghost use Rattle.kit_core.specs.inner.Checking.{TextChecked};
 ghost use Rattle.kit_core.specs.Due.{check_due, check_reads};
 

@@ -1,10 +1,11 @@
 // A project that can be watched: its checked source, and what is built of it.
 ghost use Rattle.std.specs.Prelude.{◌≡◌, ◌≤◌, IfErr, IfOk, IfSome, length};
+ghost use Rattle.kit_base.specs.Counts.{counts};
 ghost use Rattle.build_core.specs.Build.{IsCartText};
 ghost use Rattle.build_core.specs.Causes.{CanBeTooLarge, HasCauses as HasBuildCauses};
 ghost use Rattle.build_core.specs.Reached.{FailsAt, IsReadToBuild};
 ghost use Rattle.kit_tools.specs.Carrying.{FailsIn};
-ghost use Rattle.kit_tools.specs.Causes.{HasCausesOr, counts};
+ghost use Rattle.kit_tools.specs.Causes.{HasCausesOr};
 ghost use Rattle.kit_core.specs.inner.Following.{BuildsWatchable, TextWatchable};
 
 use crate::build_refusal::unbuilt;
@@ -31,8 +32,7 @@ fn checked_and_built<F: Files>(
     ensures told { IfSome (F.held files.old) (λ m. BuildsWatchable m text.now result) }
     ensures reached { IfSome (F.held files.old) (λ m. FailsAt (IsReadToBuild m text.now) result) }
     ensures cartridge { IfOk result (λ w. IsCartText w.built.cart) }
-    ensures causes { HasBuildCauses text.now result (F.faults files.old) (F.faults files.new)
-        (F.misses files.old) (F.misses files.new) (F.overs files.old) (F.overs files.new) }
+    ensures causes { HasBuildCauses text.now result (counts F.faults F.misses F.overs files.old) (counts F.faults F.misses F.overs files.new) }
 {
     match front(alloc, files, text) {
         Ok(checked) => match build_from(alloc, files, text, &checked) {

@@ -1,6 +1,7 @@
 // The command `gen`.
 ghost use Rattle.std.specs.Prelude.{ℕ, ◌≡◌, ◌≤◌, ◌++◌, false, Some, OnOk, IfErr, IfSome};
 ghost use Rattle.kit_base.specs.Effects.{all_done, written_file};
+ghost use Rattle.kit_base.specs.Counts.{counts};
 ghost use Rattle.build_core.specs.Causes.{CanBeTooLarge};
 ghost use Rattle.build_core.specs.Reached.{IsReadToBuild};
 ghost use Rattle.cart_format.specs.Cartridge.{Cartridge};
@@ -12,7 +13,7 @@ ghost use Rattle.kit_words.specs.Command.{Gen};
 ghost use Rattle.kit_words.specs.Forms.{functions_role, in_range, source_name};
 ghost use Rattle.kit_words.specs.Number.{number_of};
 ghost use Rattle.kit_tools.specs.Carrying.{IsCut, LeavesBy};
-ghost use Rattle.kit_tools.specs.Causes.{HasCauses, HasCausesOr, IsOwn, counts};
+ghost use Rattle.kit_tools.specs.Causes.{HasCauses, HasCausesOr, IsOwn};
 ghost use Rattle.kit_core.specs.Due.{functions_gen_due, gen_work};
 ghost use Rattle.kit_core.specs.inner.Fronts.{Carries, GivesNumber};
 ghost use Rattle.kit_core.specs.Generating.{functions_due, most_frames, sources_of};

@@ -1,10 +1,11 @@
 // The command `play`.
 ghost use Rattle.std.specs.Prelude.{◌≡◌, ◌≤◌, ◌⊎◌, false, Ok, IfOk, IfSome, length};
 ghost use Rattle.std.specs.Option.{ForSome};
+ghost use Rattle.kit_base.specs.Counts.{counts};
 ghost use Rattle.build_core.specs.Build.{IsCartText};
 ghost use Rattle.cart_format.specs.Reading.{cart_of};
 ghost use Rattle.kit_tools.specs.Carrying.{LeavesBy};
-ghost use Rattle.kit_tools.specs.Causes.{HasCauses, HasCausesOr, counts};
+ghost use Rattle.kit_tools.specs.Causes.{HasCauses, HasCausesOr};
 ghost use Rattle.kit_core.specs.Due.{play_due, play_reads, play_work};
 ghost use Rattle.kit_core.specs.inner.Playing.{AreOutputs, IsCarried, IsGameOf};
 ghost use Rattle.kit_tools.specs.Gaming.{IsOpened, game_of};

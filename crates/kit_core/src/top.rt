@@ -1,11 +1,11 @@
 // The top call.
 ghost use Rattle.std.specs.Prelude.{◌≡◌, ◌≢◌, ◌≤◌, ◌⊎◌, ◌++◌, ℕ, List, IfSome, None, Err};
-ghost use Rattle.kit_base.specs.Counts.{Rose};
+ghost use Rattle.kit_base.specs.Counts.{Rose, counts};
 ghost use Rattle.trace_core.specs.Putting.{trace_text};
 ghost use Rattle.run_core.specs.Ending.{end_text};
 ghost use Rattle.kit_tools.specs.Carrying.{shown_status, text_of};
 ghost use Rattle.kit_core.specs.inner.Putting.{Puts, Shows};
-ghost use Rattle.kit_tools.specs.Causes.{HasOnlyRisen, IsUnrisen, counts};
+ghost use Rattle.kit_tools.specs.Causes.{HasOnlyRisen, IsUnrisen};
 ghost use Rattle.kit_words.specs.Command.{command_of, texts};
 ghost use Rattle.gen_source.specs.Summary.{summary_end};
 ghost use Rattle.kit_tools.specs.Work.{accepted};

@@ -1,6 +1,7 @@
 // The command `watch`.
 ghost use Rattle.std.specs.Prelude.{ℕ, List, ◌≡◌, ◌≤◌, ◌+◌, ◌*◌, ◌⊎◌, false, not, map, IfOk, IfSome, length, option_map};
 ghost use Rattle.std.specs.Option.{ForSome};
+ghost use Rattle.kit_base.specs.Counts.{counts};
 ghost use Rattle.cpu_core.specs.Space.{words_of};
 ghost use Rattle.c_check.specs.View.{program};
 ghost use Rattle.c_image.specs.Imaging.{frame_sizes};
@@ -9,7 +10,7 @@ ghost use Rattle.v32_console.specs.Setup.{Setup};
 ghost use Rattle.kit_words.specs.Number.{number_of};
 ghost use Rattle.kit_words.specs.Parsed.{watch_words_from};
 ghost use Rattle.kit_tools.specs.Carrying.{LeavesBy};
-ghost use Rattle.kit_tools.specs.Causes.{HasCauses, HasCausesOr, counts};
+ghost use Rattle.kit_tools.specs.Causes.{HasCauses, HasCausesOr};
 ghost use Rattle.kit_tools.specs.Gaming.{settings_of};
 ghost use Rattle.kit_tools.specs.Watching.{is_watch_count};
 ghost use Rattle.kit_core.specs.Due.{watch_due, watch_reads, watch_work};

@@ -3,6 +3,7 @@ use Rattle.std.proofs.Common.{ℕ, ◌≡◌, List, [], ◌∷◌, refl, ap, sub
 use Rattle.std.specs.Prelude.{Option, Some, None, Result, Ok, IfSome, Contains}
 use Rattle.kit_base.specs.Held.{Held}
 use Rattle.kit_base.specs.Effects.{all_done, written_file}
+use Rattle.kit_base.specs.Counts.{Counts}
 use Rattle.kit_tools.specs.declared.refusal.Refusal.{Refusal}
 use Rattle.kit_tools.specs.Inputs.{◌>>=◌}
 use Rattle.kit_tools.specs.Tracing.{IsReadToTrace, traced_due, trace_due}
@@ -13,7 +14,7 @@ use Rattle.kit_tools.specs.declared.shown.Shown.TheVariants as shown
 use Rattle.trace_core.specs.declared.run.Trace.{Trace}
 use Rattle.trace_core.specs.Putting.{trace_text}
 use Rattle.kit_words.specs.declared.conversion.Conversion.TheVariants.{Migrate}
-use Rattle.kit_tools.specs.Causes.{Counts, HasCausesOr}
+use Rattle.kit_tools.specs.Causes.{HasCausesOr}
 use Rattle.kit_tools.specs.Migration.{IsLong}
 use Rattle.kit_tools.proofs.Own.{wider_causes}
 use Rattle.kit_tools.specs.Carrying.{IsCut, Leaves, shown_status, text_of}

@@ -1,13 +1,13 @@
 -- Refusals that no call of the files gave, and limits that a command itself finds passed.
 use Rattle.std.proofs.Common.{ℕ, ◌≤◌, arith, List, inl, inr}
 use Rattle.std.specs.Prelude.{Result, Ok, Err}
-use Rattle.kit_base.specs.Counts.{Rose}
+use Rattle.kit_base.specs.Counts.{Counts, Rose}
 use Rattle.kit_tools.specs.declared.refusal.DueRefusal.{DueRefusal}
 use Rattle.kit_tools.specs.declared.refusal.DueRefusal.TheVariants as dues
 use Rattle.kit_tools.specs.declared.refusal.Refusal.{Refusal}
 use Rattle.kit_tools.specs.declared.refusal.Refusal.TheVariants as refusals
 use Rattle.kit_tools.specs.Carrying.{FailsAt}
-use Rattle.kit_tools.specs.Causes.{Counts, HasCause, HasDueCause, HasRisen, HasCausesOr, IsOwn, IsOwnDue}
+use Rattle.kit_tools.specs.Causes.{HasCause, HasDueCause, HasRisen, HasCausesOr, IsOwn, IsOwnDue}
 
 pub own_fails : (O : Type 0) (names : List (List ℕ)) (e : Refusal) → IsOwn O e → FailsAt names e
 own_fails O names (refusals.Due r) own = tt

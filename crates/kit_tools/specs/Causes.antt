@@ -1,26 +1,11 @@
 -- Why a command is refused: the counts of the files, and what the command itself finds over a limit.
-use Rattle.std.specs.Prelude.{ℕ, ◌≡◌, ◌⊎◌, ◌≤◌, true, Result, Err}
-use Rattle.kit_base.specs.Counts.{Rose}
-use Rattle.kit_tools.specs.Codes.{is_source_code}
+use Rattle.std.specs.Prelude.{ℕ, ◌⊎◌, ◌≤◌, Result, Err}
+use Rattle.kit_base.specs.Counts.{Counts, Rose}
+use Rattle.kit_base.specs.SourceCodes.{HasSourceCause}
 use Rattle.kit_tools.specs.declared.refusal.DueRefusal.{DueRefusal}
 use Rattle.kit_tools.specs.declared.refusal.DueRefusal.TheVariants as dues
 use Rattle.kit_tools.specs.declared.refusal.Refusal.{Refusal}
 use Rattle.kit_tools.specs.declared.refusal.Refusal.TheVariants as refusals
-
--- how often a call of the files failed, a name was missing, a file was too long
-pub record Counts : Type 0 where
-  pub faults : ℕ
-  pub misses : ℕ
-  pub overs : ℕ
-
--- those of some files, by what counts each
-abbrev pub counts : {S : Type 0} → (faults misses overs : S → ℕ) → S → Counts
-counts faults misses overs files = record { faults = faults files; misses = misses files; overs = overs files }
-
--- The code of a source's refusal is a listed one, and it is 21, that an included file is not there, only where the misses rose.
-pub record HasSourceCause (code : ℕ) (before after : Counts) : Type 0 where
-  pub listed : is_source_code code ≡ true
-  pub lacked : code ≡ 21 → Rose before.misses after.misses
 
 -- A refusal by the files comes only where its count rose, one of a number word or of a cartridge's
 -- size only where it is over its limit. A build's refusal of a limit is of either kind. The words of a

@@ -1,5 +1,4 @@
 pub mod Refusal
-pub mod Codes
 pub mod Causes
 pub mod Inputs
 pub mod Work

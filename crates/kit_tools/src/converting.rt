@@ -1,10 +1,11 @@
 // The commands that make one file of another: `migrate`, `asm` and `dis`.
 ghost use Rattle.std.specs.Prelude.{◌≡◌, ◌<◌, ◌≤◌, true, IfSome, IfErr, IfOk, [], ◌∷◌, length, Contains};
+ghost use Rattle.kit_base.specs.Counts.{counts};
 ghost use Rattle.asset_pack.specs.declared.kind.Kind.TheVariants as kinds;
 ghost use Rattle.asset_pack.specs.Reading.{words_in};
 ghost use Rattle.cart_format.specs.Cartridge.{is_cart, total};
 ghost use Rattle.kit_tools.specs.Carrying.{FailsAt, GivesBy, Leaves};
-ghost use Rattle.kit_tools.specs.Causes.{HasCauses, HasCausesOr, IsOwn, counts};
+ghost use Rattle.kit_tools.specs.Causes.{HasCauses, HasCausesOr, IsOwn};
 ghost use Rattle.kit_tools.specs.Converting.{assembled_due, disassembled_due, made_due, migrated_due, no_words, text_words_due, convert_due};
 ghost use Rattle.kit_tools.specs.Converting.{ConvertsLong};
 ghost use Rattle.kit_tools.specs.Inputs.{or_refused};

@@ -9,8 +9,9 @@ ghost use Rattle.kit_tools.specs.Tracing.{card_names};
 ghost use Rattle.cart_format.specs.Cartridge.{is_cart};
 ghost use Rattle.cart_format.specs.Reading.{cart_of};
 ghost use Rattle.kit_base.specs.Outside.{due};
+ghost use Rattle.kit_base.specs.Counts.{counts};
 ghost use Rattle.kit_tools.specs.Carrying.{GivesBy, FailsAt};
-ghost use Rattle.kit_tools.specs.Causes.{HasCauses, IsOwn, counts};
+ghost use Rattle.kit_tools.specs.Causes.{HasCauses, IsOwn};
 ghost use Rattle.kit_tools.specs.Inputs.{answers_due, card_due, card_in, cart_due, no_answers, no_cart, or_refused, unread};
 
 use crate::refusal::{DueRefusal, Refusal, no_cart, unread};

@@ -1,9 +1,10 @@
 // The command `trace`.
 ghost use Rattle.std.specs.Prelude.{◌≡◌, ◌≤◌, ◌<◌, ◌+◌, ◌*◌, ◌-◌, min, IfSome, IfErr};
 ghost use Rattle.std.specs.Option.{option_map};
+ghost use Rattle.kit_base.specs.Counts.{counts};
 ghost use Rattle.trace_core.specs.Putting.{trace_text};
 ghost use Rattle.kit_tools.specs.Carrying.{FailsIn, GivesBy, Leaves};
-ghost use Rattle.kit_tools.specs.Causes.{HasCausesOr, IsOwn, counts};
+ghost use Rattle.kit_tools.specs.Causes.{HasCausesOr, IsOwn};
 ghost use Rattle.kit_tools.specs.Tracing.{trace_due, steps_due, traced_due, IsReadToTrace};
 ghost use Rattle.kit_words.specs.Number.{number_of};
 

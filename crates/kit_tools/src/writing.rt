@@ -2,8 +2,9 @@
 ghost use Rattle.std.specs.Prelude.{◌≡◌, ◌≤◌, OnOk, OnErr, IfErr};
 ghost use Rattle.kit_base.specs.Effects.{all_done, written_file, CutShort};
 ghost use Rattle.kit_base.specs.Outside.{HasCause, IsOfWriting};
+ghost use Rattle.kit_base.specs.Counts.{counts};
 ghost use Rattle.kit_tools.specs.Carrying.{IsCut};
-ghost use Rattle.kit_tools.specs.Causes.{HasCauses, counts};
+ghost use Rattle.kit_tools.specs.Causes.{HasCauses};
 
 use crate::refusal::{Refusal, unread};
 use kit_base::{FileErr, Files, Name};

@@ -1,11 +1,12 @@
 -- Why the command of some words is refused, whatever is told of the files.
 use Rattle.std.specs.Prelude.{ℕ, ◌≡◌, ◌≤◌, List, Option, None, Result, Ok, Err}
 use Rattle.kit_base.specs.Held.{Held}
+use Rattle.kit_base.specs.Counts.{Counts}
 use Rattle.kit_tools.specs.declared.refusal.DueRefusal.TheVariants as dues
 use Rattle.kit_tools.specs.declared.refusal.Refusal.{Refusal}
 use Rattle.kit_tools.specs.declared.refusal.Refusal.TheVariants as refusals
 use Rattle.kit_tools.specs.declared.shown.Shown.{Shown}
-use Rattle.kit_tools.specs.Causes.{Counts, HasCause}
+use Rattle.kit_tools.specs.Causes.{HasCause}
 use Rattle.kit_words.specs.Command.{command_of}
 use Rattle.kit_core.specs.Limits.{IsOver}
 

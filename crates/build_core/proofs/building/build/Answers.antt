@@ -17,7 +17,7 @@ pub returns-in-Ok-clause-kinds : goal.returns-in-Ok-clause-kinds
 returns-in-Ok-clause-kinds g c = built_kinds c.args.project.now c.build_from.result c.build_from.ensures.kinds
 
 pub returns-in-Ok-clause-causes : goal.returns-in-Ok-clause-causes
-returns-in-Ok-clause-causes g c = built_causes c.args.project.now c.in-Ok.checked c.build_from.result _ _ _ _ _ _ _ _ _ c.in-Ok.ensures.causes c.build_from.ensures.causes
+returns-in-Ok-clause-causes g c = built_causes c.args.project.now c.in-Ok.checked c.build_from.result _ _ _ c.in-Ok.ensures.causes c.build_from.ensures.causes
 
 pub returns-in-Err-clause-told : goal.returns-in-Err-clause-told
 returns-in-Err-clause-told g c = unchecked_told c.args.project.now c.in-Err.refusal (g.F.Reads.held c.args.files.now) c.in-Err.ensures.told

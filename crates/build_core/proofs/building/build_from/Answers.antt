@@ -1,4 +1,4 @@
-use Rattle.std.proofs.Common.{◌∙◌, ℕ, List, ap, length, subst, arith}
+use Rattle.std.proofs.Common.{◌∙◌, ℕ, List, ap, length, subst}
 use Rattle.std.specs.Prelude.{IfOk, Vec}
 use Rattle.std.proofs.lemmas.Result.{IfOk-weaker}
 use Rattle.std.specs.declared.alloc.Global.{Global}
@@ -108,10 +108,7 @@ returns-clause-causes g c =
     let source = c.args.checked.now in
     let made : IsImageOf (program source.program) source.places source.starts.items (image c.in-Ok-image_of.made) =
     subst (λ starts. IsImageOf (program source.program) source.places starts (image c.in-Ok-image_of.made)) c.deref.ensures.value c.in-Ok-image_of.ensures.image in
-    let first = c.in-Ok-read_assets.ensures.causes in
-    let second = c.in-Ok-read_assets-2.ensures.causes in
     packing_causes c.args.project.now c.in-Ok.parts c.in-Ok.ensures.found (program source.program) source.places source.starts.items source.of_unit (image c.in-Ok-image_of.made) made
     c.in-Ok-read_assets.textures.items c.in-Ok-read_assets-2.sounds.items
-    (c.in-Ok-read_assets.ensures.count ∙ ap length c.as_slice.ensures) (c.in-Ok-read_assets-2.ensures.count ∙ ap length c.as_slice-2.ensures) c.packed.result _ _ _ _ _ _
-    (omega (arith, first.faults_later, second.faults_later)) (omega (arith, first.misses_later, second.misses_later)) (omega (arith, first.overs_later, second.overs_later))
-    c.packed.ensures.kinds
+    (c.in-Ok-read_assets.ensures.count ∙ ap length c.as_slice.ensures) (c.in-Ok-read_assets-2.ensures.count ∙ ap length c.as_slice-2.ensures) _ _ c.in-Ok-read_assets.textures c.in-Ok-read_assets-2.sounds c.packed.result _ _ _
+    c.in-Ok-read_assets.ensures.causes c.in-Ok-read_assets-2.ensures.causes c.packed.ensures.kinds

@@ -1,5 +1,6 @@
 use Rattle.std.proofs.Common.{sym, subst}
 use Rattle.std.specs.Prelude.{Err}
+use Rattle.kit_base.specs.Counts.{counts}
 use Rattle.build_core.specs.declared.error.BuildErr.{BuildErr}
 use Rattle.build_core.specs.Causes.{HasReadCauses}
 use Rattle.build_core.proofs.Checks.{source_unread, typed_causes, unread_causes}
@@ -22,12 +23,14 @@ pub returns-in-Err-clause-reached : goal.returns-in-Err-clause-reached
 returns-in-Err-clause-reached g c = reading_fails Checked (g.F.Reads.held c.args.files.now) c.as_str.result.now c.args.name.now c.as_str.ensures c.in-Err.error c.unread.result c.unread.ensures c.in-Err.ensures.reached
 
 pub returns-in-Ok-clause-causes : goal.returns-in-Ok-clause-causes
-returns-in-Ok-clause-causes g c = typed_causes Checked c.in-Ok.parsed c.source_of.result _ _ _ _ _ _ c.in-Ok.ensures.faults c.in-Ok.ensures.misses c.in-Ok.ensures.overs c.source_of.ensures.content
+returns-in-Ok-clause-causes g c = typed_causes Checked c.in-Ok.parsed c.source_of.result _ _ c.in-Ok.ensures.faults c.in-Ok.ensures.misses c.in-Ok.ensures.overs c.source_of.ensures.content
 
 pub returns-in-Err-clause-causes : goal.returns-in-Err-clause-causes
 returns-in-Err-clause-causes g c =
-    subst (λ (e : BuildErr). HasReadCauses {T = Checked} (Err e) (g.F.Reads.faults c.args.files.now) (g.F.Reads.faults c.read_unit.new.files) (g.F.Reads.misses c.args.files.now) (g.F.Reads.misses c.read_unit.new.files) (g.F.Reads.overs c.args.files.now) (g.F.Reads.overs c.read_unit.new.files)) (sym c.unread.ensures)
-    (unread_causes Checked c.in-Err.error _ _ _ _ _ _ c.in-Err.ensures.codes c.in-Err.ensures.faults c.in-Err.ensures.misses c.in-Err.ensures.overs)
+    let before = counts g.F.Reads.faults g.F.Reads.misses g.F.Reads.overs c.args.files.now in
+    let after = counts g.F.Reads.faults g.F.Reads.misses g.F.Reads.overs c.read_unit.new.files in
+    subst (λ (e : BuildErr). HasReadCauses {T = Checked} (Err e) before after) (sym c.unread.ensures)
+    (unread_causes Checked c.in-Err.error before after c.in-Err.ensures.codes c.in-Err.ensures.faults c.in-Err.ensures.misses c.in-Err.ensures.overs)
 
 pub returns-in-Ok-clause-accepts : goal.returns-in-Ok-clause-accepts
 returns-in-Ok-clause-accepts g c = source_accepted (g.F.Reads.held c.args.files.now) c.as_str.result.now c.args.name.now c.as_str.ensures c.in-Ok.parsed c.source_of.result c.in-Ok.ensures.derived c.source_of.ensures.only

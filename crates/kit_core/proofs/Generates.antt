@@ -25,7 +25,7 @@ use Rattle.kit_tools.specs.declared.refusal.Refusal.{Refusal}
 use Rattle.kit_tools.specs.declared.refusal.Refusal.TheVariants as refusals
 use Rattle.kit_tools.specs.declared.shown.Shown.{Shown}
 use Rattle.kit_tools.specs.Work.{Work}
-use Rattle.kit_tools.specs.Carrying.{FailsIn, IsCut, LeavesBy}
+use Rattle.kit_tools.specs.Carrying.{FailsIn, IsCarried, IsCut, LeavesBy}
 use Rattle.kit_tools.proofs.Cutting.{in_first, not_begun}
 use Rattle.kit_tools.proofs.Stages.{cut}
 use Rattle.kit_words.specs.Command.{Gen}
@@ -37,7 +37,6 @@ use Rattle.kit_core.specs.inner.Fronts.{Carries, GivesNumber}
 use Rattle.kit_core.specs.Generating.{front_of, functions_due, most_frames, sources_due, sources_of}
 use Rattle.kit_core.specs.Headline.{GenStands, IsGeneratedInto}
 use Rattle.kit_core.specs.Outcome.{putting, ComesInFront, IsOutcome, FrontCutOff, FrontFault}
-use Rattle.kit_core.specs.inner.Playing.{IsCarried}
 use Rattle.kit_core.proofs.Behind.{some_made}
 use Rattle.kit_core.proofs.Headlines.{done_at_zero}
 use Rattle.kit_core.proofs.Meanings.{run_meant}

@@ -20,10 +20,10 @@ use Rattle.kit_words.specs.Command.{RunWords, Play, command_of}
 use Rattle.kit_words.proofs.Created.{created_differ}
 use Rattle.kit_core.specs.Due.{form_due, outputs_of, play_due, play_effects, play_work, read_play_due, IsReadToPlay}
 use Rattle.kit_tools.specs.Work.{Work}
-use Rattle.kit_tools.specs.Running.{Game, game_with, names_in, settings_due}
-use Rattle.kit_core.specs.inner.Playing.{IsCarried, IsGameOf}
-use Rattle.kit_tools.specs.Gaming.{IsWritten, game_of, settings_of}
-use Rattle.kit_tools.specs.Carrying.{IsCut}
+use Rattle.kit_tools.specs.Running.{Game, game_with, names_in, run_work, settings_due}
+use Rattle.kit_core.specs.inner.Playing.{IsGameOf}
+use Rattle.kit_tools.specs.Gaming.{game_of, settings_of}
+use Rattle.kit_tools.specs.Carrying.{IsCarried, IsCut}
 use Rattle.kit_core.specs.Headline.{IsPlayedInto, PlayStands}
 use Rattle.kit_core.specs.Outcome.{putting, IsOutcome}
 use Rattle.kit_tools.proofs.Cutting.{in_first, in_second, not_begun}
@@ -78,7 +78,7 @@ module _ (map_name : List ℕ) (words : RunWords) (b : Built) (game : Game) wher
   play_built_cut e before after h = in_first e (outputs_of words.cart map_name b) (run_outputs (names_in words) game.setup game.count) before after h
 
   -- and then the run writes
-  pub play_written : (r : Result Shown Refusal) (before middle after : Option Held) → middle ≡ all_done (outputs_of words.cart map_name b) before → IsWritten (names_in words) game r middle after → IsCarried whole r before after
+  pub play_written : (r : Result Shown Refusal) (before middle after : Option Held) → middle ≡ all_done (outputs_of words.cart map_name b) before → IsCarried (run_work (names_in words) game) r middle after → IsCarried whole r before after
   play_written (Ok v) before middle after is h = record {
     outputs = h.outputs ∙ ap (all_done (run_outputs (names_in words) game.setup game.count)) is
         ∙ sym (all_done-append (outputs_of words.cart map_name b) (run_outputs (names_in words) game.setup game.count) before);

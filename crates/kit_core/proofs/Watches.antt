@@ -22,7 +22,7 @@ use Rattle.kit_tools.specs.declared.refusal.Refusal.TheVariants as refusals
 use Rattle.kit_tools.specs.declared.running.LoadedSettings.{LoadedSettings}
 use Rattle.kit_tools.specs.declared.shown.Shown.{Shown}
 use Rattle.kit_tools.specs.declared.verdict.Verdict.{Verdict}
-use Rattle.kit_tools.specs.Carrying.{IsCut}
+use Rattle.kit_tools.specs.Carrying.{IsCarried, IsCut}
 use Rattle.kit_tools.specs.Gaming.{settings_of}
 use Rattle.kit_tools.specs.Watching.{watch_line, watch_settings_due}
 use Rattle.kit_tools.specs.Work.{Work}
@@ -32,7 +32,6 @@ use Rattle.kit_core.specs.declared.following.Watchable.{Watchable}
 use Rattle.kit_core.specs.Due.{outputs_of, read_watch_due, watch_work, IsReadToWatch}
 use Rattle.kit_core.specs.inner.Following.{shown_by}
 use Rattle.kit_core.specs.Meaning.{console_of}
-use Rattle.kit_core.specs.inner.Playing.{IsCarried}
 use Rattle.kit_core.specs.Watching.{done_in, ends_in, verdict_at, watched_in}
 use Rattle.kit_core.proofs.Projects.{Left, WasRead, left_cut, left_done}
 

@@ -1,5 +1,5 @@
 -- What a status 0 says of a build and of `gen`, and a status 0 or 3 of a play.
-use Rattle.std.specs.Prelude.{ℕ, ◌≡◌, List, ◌++◌, Option, Some, option_map, Ok, IsSomeAnd}
+use Rattle.std.specs.Prelude.{ℕ, ◌≡◌, List, ◌++◌, Option, Some, Ok, IsSomeAnd}
 use Rattle.std.specs.FinMap.{get}
 use Rattle.kit_base.specs.Held.{Held}
 use Rattle.kit_base.specs.Effects.{all_done}
@@ -19,6 +19,7 @@ use Rattle.kit_core.specs.Due.{outputs_of, play_effects}
 use Rattle.kit_core.specs.Generating.{functions_due, most_frames, sources_of}
 use Rattle.kit_core.specs.Holding.{PlayFilesStand}
 use Rattle.kit_core.specs.Meaning.{RunIsMeant, console_of}
+use Rattle.kit_core.specs.Outcome.{putting}
 use Rattle.kit_tools.specs.Running.{Settings, end_status, game_end, game_with, settings_due}
 use Rattle.run_core.specs.Ending.{end_text}
 use Rattle.cart_format.specs.Cartridge.{Cartridge}
@@ -62,7 +63,7 @@ pub record IsPlayedInto (project map_name : List ℕ) (words : RunWords) (held :
   pub files : IsSomeAnd after (λ files. PlayFilesStand map_name words built (game_with cart settings) held files)
   pub run : RunIsMeant held text built is_built (console_of cart settings) settings.count
   pub status_is : status ≡ end_status (game_end (game_with cart settings))
-  pub told : put ≡ option_map (λ bytes. bytes ++ end_text (game_with cart settings).lines (game_end (game_with cart settings))) before
+  pub told : put ≡ putting (end_text (game_with cart settings).lines (game_end (game_with cart settings))) before
 
 -- where the words are a play, it was carried out
 abbrev pub PlayStands : List (List ℕ) → Held → ℕ → Option Held → (before put : Option (List ℕ)) → Type 0
@@ -88,7 +89,7 @@ pub record IsGeneratedInto (number project cart map_name : List ℕ) (held : Hel
   pub cart_stands : IsSomeAnd after (λ files. get files cart ≡ Some built.cart)
   pub map_stands : IsSomeAnd after (λ files. get files map_name ≡ Some (map_text built.map))
   pub run : RunIsMeant made project_text built is_built (plain_setup cartridge) most_frames
-  pub told : put ≡ option_map (λ bytes. bytes ++ summary_text functions built.tokens (color_after (plain_setup cartridge) most_frames)) before
+  pub told : put ≡ putting (summary_text functions built.tokens (color_after (plain_setup cartridge) most_frames)) before
 
 -- where the words are a `gen`, it was carried out
 abbrev pub GenStands : List (List ℕ) → Held → Option Held → (before put : Option (List ℕ)) → Type 0

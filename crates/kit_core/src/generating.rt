@@ -12,13 +12,13 @@ ghost use Rattle.gen_source.specs.Summary.{summary_front};
 ghost use Rattle.kit_words.specs.Command.{Gen};
 ghost use Rattle.kit_words.specs.Forms.{functions_role, in_range, source_name};
 ghost use Rattle.kit_words.specs.Number.{number_of};
-ghost use Rattle.kit_tools.specs.Carrying.{IsCut, LeavesBy};
+ghost use Rattle.kit_tools.specs.Carrying.{IsCarried, IsCut, LeavesBy};
 ghost use Rattle.kit_tools.specs.Causes.{HasCauses, HasCausesOr, IsOwn};
 ghost use Rattle.kit_core.specs.Due.{functions_gen_due, gen_work};
 ghost use Rattle.kit_core.specs.inner.Fronts.{Carries, GivesNumber};
 ghost use Rattle.kit_core.specs.Generating.{functions_due, most_frames, sources_of};
 ghost use Rattle.kit_core.specs.Limits.{IsGenOver};
-ghost use Rattle.kit_core.specs.inner.Playing.{AreOutputs, IsCarried};
+ghost use Rattle.kit_core.specs.inner.Playing.{AreOutputs};
 
 use crate::building::{Outputs, build_text, made_outputs, write_made};
 use crate::plain::PlainRun;

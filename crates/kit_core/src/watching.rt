@@ -9,7 +9,7 @@ ghost use Rattle.v32_console.specs.Moments.{goes_on};
 ghost use Rattle.v32_console.specs.Setup.{Setup};
 ghost use Rattle.kit_words.specs.Number.{number_of};
 ghost use Rattle.kit_words.specs.Parsed.{watch_words_from};
-ghost use Rattle.kit_tools.specs.Carrying.{LeavesBy};
+ghost use Rattle.kit_tools.specs.Carrying.{IsCarried, LeavesBy};
 ghost use Rattle.kit_tools.specs.Causes.{HasCauses, HasCausesOr};
 ghost use Rattle.kit_tools.specs.Gaming.{settings_of};
 ghost use Rattle.kit_tools.specs.Watching.{is_watch_count};
@@ -17,7 +17,7 @@ ghost use Rattle.kit_core.specs.Due.{watch_due, watch_reads, watch_work};
 ghost use Rattle.kit_core.specs.inner.Following.{IsOpened, shown_by};
 ghost use Rattle.kit_core.specs.Limits.{IsLarge};
 ghost use Rattle.kit_core.specs.Meaning.{console_of};
-ghost use Rattle.kit_core.specs.inner.Playing.{AreOutputs, IsCarried};
+ghost use Rattle.kit_core.specs.inner.Playing.{AreOutputs};
 ghost use Rattle.kit_core.specs.Watching.{verdict_at, watched_in};
 
 use crate::building::{Outputs, made_outputs, write_made};

@@ -56,6 +56,16 @@ shown_status (shown.Watched verdict) = 0
 shown_status (shown.Lines lines) = 0
 shown_status (shown.Word front word) = 0
 
+-- a work that is due is done, and its text and status are handed on; or it was cut short
+pub record IsCarriedOut (work : Work) (shown : Shown) (before after : Option Held) : Type 0 where
+  pub outputs : after ≡ all_done work.effects before
+  pub text : text_of shown ≡ work.text
+  pub status : shown_status shown ≡ work.status
+
+abbrev pub IsCarried : Work → Result Shown Refusal → Option Held → Option Held → Type 0
+IsCarried work (Ok shown) before after = IsCarriedOut work shown before after
+IsCarried work (Err e) before after = IsCut e work.effects before after
+
 -- a whole command: its work was done but for its text, which is handed on, or its refusal came
 abbrev pub LeavesBy : Result Shown Refusal → (Result Work DueRefusal → Type 0) → (List ℕ → Type 0) → Held → Option Held → Type 0
 LeavesBy (Ok shown) Due Reads held after =

@@ -104,14 +104,17 @@ pub data IsReadToRun (words : RunWords) (held : Held) (name : List ℕ) : Type 0
   reads_beside : (value : Cartridge) → cart_due words.cart held ≡ Ok value → IsReadToSet words held name → IsReadToRun words held name
 
 -- the console's run, written frame by frame; the text is the line of a fault
+abbrev pub run_work : Names → Game → Work
+run_work names game = record {
+  effects = run_outputs names game.setup game.count;
+  text = end_text game.lines (game_end game);
+  status = end_status (game_end game);
+}
+
 abbrev pub run_due : RunWords → Held → Result Work Refusal
 run_due words held = do
   game ← game_due words held
-  Ok (record {
-    effects = run_outputs (names_in words) game.setup game.count;
-    text = end_text game.lines (game_end game);
-    status = end_status (game_end game);
-  })
+  Ok (run_work (names_in words) game)
 
 -- All files were as they should. The frames, samples and card's files have the drawing, the sound and the card of the console's
 -- run on that cartridge, script and card, every other file is as before, and the line of a fault was put.

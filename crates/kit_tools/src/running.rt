@@ -9,14 +9,14 @@ ghost use Rattle.run_files.specs.PadsReading.{pads_of};
 ghost use Rattle.run_core.specs.Outputs.{Names};
 ghost use Rattle.run_core.specs.Stands.{RunStands};
 ghost use Rattle.run_core.specs.Writing.{HasRisen, IsCut as IsCutAt, IsNamed};
-ghost use Rattle.kit_tools.specs.Carrying.{FailsAt, FailsIn, GivesBy, IsCut, Leaves};
+ghost use Rattle.kit_tools.specs.Carrying.{FailsAt, FailsIn, GivesBy, IsCarried, IsCut, Leaves};
 ghost use Rattle.kit_tools.specs.Causes.{HasCause, HasCauses, HasCausesOr, IsOwn};
-ghost use Rattle.kit_tools.specs.Running.{run_due, Game, count_up_to, game_due, is_count, is_up_to, names_in, no_pads, pads_due, settings_due};
+ghost use Rattle.kit_tools.specs.Running.{run_due, run_work, Game, count_up_to, game_due, is_count, is_up_to, names_in, no_pads, pads_due, settings_due};
 ghost use Rattle.kit_tools.specs.Running.{settings_up_to, IsReadToSetBy, IsReadToSet, IsReadToRun};
 ghost use Rattle.kit_tools.specs.Watching.{is_watch_count, watch_settings_due, IsReadToSetWatch};
 ghost use Rattle.kit_tools.specs.Inputs.{or_refused};
 ghost use Rattle.kit_words.specs.Parsed.{run_words_from, watch_words_from};
-ghost use Rattle.kit_tools.specs.Gaming.{AreNames, IsOpened, IsWritten, game_of, settings_of};
+ghost use Rattle.kit_tools.specs.Gaming.{AreNames, IsOpened, game_of, settings_of};
 ghost use Rattle.kit_words.specs.Number.{number_of};
 
 use crate::reading::{read_card_file, read_cart_file, read_file};
@@ -260,7 +260,7 @@ pub fn write_outputs<F: Files>(
     words: &RunWords<'_>,
 ) -> Result<Shown, Refusal>
     ensures written { (game : Game) → AreNames own (names_in (run_words_from words.now)) → RunStands game.setup game.count run → ending ≡ game.lines
-        → IsWritten (names_in (run_words_from words.now)) game result (F.held files.old) (F.held files.new) }
+        → IsCarried (run_work (names_in (run_words_from words.now)) game) result (F.held files.old) (F.held files.new) }
     ensures causes { HasCauses result (counts F.faults F.misses F.overs files.old) (counts F.faults F.misses F.overs files.new) }
 {
     let names = RunNames {
@@ -309,7 +309,7 @@ fn write_game<F: Files>(
 ) -> Result<Shown, Refusal>
     requires room { ForSome game.card (λ v. length v.items ≡ 0x40000) }
     requires few { game.count ≤ 3600 }
-    ensures written { IsWritten (names_in (run_words_from words.now)) (game_of game) result (F.held files.old) (F.held files.new) }
+    ensures written { IsCarried (run_work (names_in (run_words_from words.now)) (game_of game)) result (F.held files.old) (F.held files.new) }
     ensures causes { HasCauses result (counts F.faults F.misses F.overs files.old) (counts F.faults F.misses F.overs files.new) }
 {
     let opened = open_game(alloc, game, words)?;

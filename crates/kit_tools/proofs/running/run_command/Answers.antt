@@ -1,10 +1,8 @@
 use Rattle.std.proofs.Common.{rules, ◌≡◌}
 use Rattle.std.specs.Prelude.{Ok, Err}
-use Rattle.run_core.specs.Ending.{end_text}
-use Rattle.run_core.specs.Outputs.{run_outputs}
 use Rattle.kit_words.specs.Parsed.{run_words_from}
 use Rattle.kit_tools.specs.Gaming.{game_of}
-use Rattle.kit_tools.specs.Running.{Game, end_status, game_due, game_end, names_in, IsReadToRun}
+use Rattle.kit_tools.specs.Running.{Game, game_due, names_in, run_work, IsReadToRun}
 use Rattle.kit_tools.proofs.Games.{run_left}
 use Rattle.kit_tools.proofs.Stages.{stopped_if}
 use Rattle.kit_tools.proofs.running.run_command.Goals as goal
@@ -14,7 +12,7 @@ returns-in_err-game-clause-told g c =
     let words = run_words_from c.args.words.now in
     let is : c.from_residual.result ≡ Err c.in_err-game.field-0.0 = search rules in
     stopped_if game_of (λ m. game_due words m)
-    (λ (game : Game). Ok (record { effects = run_outputs (names_in words) game.setup game.count; text = end_text game.lines (game_end game); status = end_status (game_end game) }))
+    (λ (game : Game). Ok (run_work (names_in words) game))
     (λ m. IsReadToRun words m) c.from_residual.result c.in_err-game.field-0.0 (g.F.Reads.held c.args.files.now) (g.F.Reads.held c.read_game.new.files)
     is c.in_err-game.ensures.told c.in_err-game.ensures.fails c.in_err-game.ensures.held
 

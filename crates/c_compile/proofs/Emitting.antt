@@ -19,7 +19,7 @@ use Rattle.mid_lower.specs.LoweredFrom.{EachLowered, IsLoweredFrom}
 use Rattle.mid_improve.specs.MadeFrom.{EachMade, IsSettledFrom}
 use Rattle.reg_frames.specs.PlacedFrom.{IsPlacedFrom}
 use Rattle.asm_emit.specs.EmittedFrom.{CanBeEmitted, IsEmitted, literal_words}
-use Rattle.pass_laws.specs.Meeting.{PassesMeet, DoesAsMeant}
+use Rattle.pass_laws.specs.Meeting.{PassesMeet}
 use Rattle.c_compile.specs.Compiling.{names_of, IsCompiled}
 use Rattle.reg_choose.specs.Each.{AllSpare}
 use Rattle.c_compile.proofs.Straight.{each_straight, none_add}
@@ -95,5 +95,5 @@ module _ (p : ProgramT) (m settled : CodeT ℕ) (cs : List (List Where)) (x : Pl
     emitted = emitted;
     straight = each_straight (setting p []) p.functions m.functions x.code.functions l.functions
         (none_add m.functions settled.functions x.code.functions (made_adds_none m.functions settled.functions o.made.functions) c.adds_none);
-    does = meet p m settled cs x (names_of p) items l o safe c emitted;
+    meaning = meet p m settled cs x (names_of p) items l o safe c emitted;
   }

@@ -14,7 +14,7 @@ use Rattle.reg_choose.specs.Each.{AllSpare}
 use Rattle.reg_frames.specs.Placeable.{places_of}
 use Rattle.reg_frames.specs.PlacedFrom.{IsPlacedFrom}
 use Rattle.asm_emit.specs.EmittedFrom.{IsEmitted}
-use Rattle.pass_laws.specs.Meeting.{DoesAsMeant}
+use Rattle.pass_laws.specs.Meeting.{KeepsMeaning}
 use Rattle.c_compile.specs.Straight.{EachStraight}
 use Rattle.c_compile.specs.declared.compiling.Compiled.{Compiled}
 
@@ -43,4 +43,4 @@ pub record IsCompiled (p : ProgramT) (c : CompiledT) : Type 0 where
   -- functions without loops stay so
   pub straight : EachStraight (setting p []) p.functions c.placed.code.functions
   -- the words that the items are placed as do what the program means
-  pub does : DoesAsMeant p c.mid c.placed c.items
+  pub meaning : KeepsMeaning p c.mid c.placed c.items

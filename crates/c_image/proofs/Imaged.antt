@@ -18,7 +18,6 @@ use Rattle.c_front.specs.declared.places.Places.{Places}
 use Rattle.c_types.specs.Programs.{TFunctionT, ProgramT}
 use Rattle.c_meaning.specs.Setting.{setting}
 use Rattle.c_meaning.specs.Runs.{c_runs}
-use Rattle.c_meaning.specs.Frames.{EachFits}
 use Rattle.cart_format.specs.declared.row.LineTable.{LineTable}
 use Rattle.cart_format.specs.Table.{is_table, are_rows}
 use Rattle.mid_code.specs.declared.placed.Where.{Where}
@@ -30,6 +29,7 @@ use Rattle.project_text.specs.declared.map.Map.{Map}
 use Rattle.reg_frames.specs.PlacedFrom.{FramesFit}
 use Rattle.asm_laws.specs.Tables.{addresses}
 use Rattle.asm_emit.specs.EmittedFrom.{AreFunctions}
+use Rattle.pass_laws.specs.Meeting.{DoesAsMeant}
 use Rattle.c_compile.specs.Compiling.{CompiledT, IsCompiled, names_of}
 use Rattle.c_image.specs.Mapping.{map_of}
 use Rattle.c_image.specs.Ordered.{LabelsInOrder}
@@ -41,7 +41,7 @@ use Rattle.c_image.proofs.Files.{few_files, all_texts, texts_at, lines_at, told_
 use Rattle.c_image.proofs.Mapped.{sizes_are, addresses_are}
 use Rattle.c_image.proofs.Named.{names_are}
 use Rattle.c_image.proofs.Ordered.{in_order}
-use Rattle.c_image.proofs.Rising.{count, rise, some_words}
+use Rattle.c_image.proofs.Rising.{rise, some_words}
 
 few_rows : (address : List ℕ → ℕ) (files : List (List ℕ)) (fs : List TFunctionT) (os : List Place) → length (rows_of address files fs os) ≤ length os
 few_rows address files [] os = omega arith
@@ -86,7 +86,7 @@ module _ (p : ProgramT) (places : Places) (starts : List ℕ) (c : CompiledT) (w
 
   module _ (m : Map) (map_is : m ≡ map_of p c.placed.frames (length words) (address_in labels)) where
     frames_are : frame_sizes m ≡ c.placed.frames
-    frames_are = ap frame_sizes map_is ∙ sizes_are (address_in labels) (setting p []) p.functions c.placed.frames compiled.does.frames
+    frames_are = ap frame_sizes map_is ∙ sizes_are (address_in labels) (setting p []) p.functions c.placed.frames (compiled.meaning.does words labels placed).fits
 
     globals_are : global_addresses m ≡ addresses 0 (map (λ g. g.1) p.globals)
     globals_are = ap global_addresses map_is ∙ addresses_are p.globals 0 (let total = sound.globals in omega (arith, total))
@@ -104,11 +104,7 @@ module _ (p : ProgramT) (places : Places) (starts : List ℕ) (c : CompiledT) (w
       numbered = let f = compiled.emitted.functions in numbered p c.items compiled.emitted.faultless (names_of p) f.0 f.1 c.placed.code.functions f.2 refl f.3 compiled.straight;
       map_is = map_is ∙ ap (λ sizes. map_of p sizes (length words) (address_in labels)) (sym frames_are);
       table_is = table_is;
-      does = record {
-        agrees = subst₂ (λ at sizes. AgreesWithin 64 at (c_runs p sizes) words) (sym globals_are) (sym frames_are) (compiled.does.agrees words labels placed);
-        frames = subst (λ sizes. EachFits (setting p []) p.functions sizes) (sym frames_are) compiled.does.frames;
-        small = let n = count c.items words labels compiled.emitted.faultless placed in let small = compiled.does.small in omega (arith, n, small);
-      };
+      does = subst₂ (λ at sizes. DoesAsMeant p sizes at words) (sym globals_are) (sym frames_are) (compiled.meaning.does words labels placed);
       some = some;
       few = short;
       is_table = subst (λ t. is_table (length words) t ≡ true) (sym table_is) table_holds;
@@ -116,10 +112,10 @@ module _ (p : ProgramT) (places : Places) (starts : List ℕ) (c : CompiledT) (w
 
     pub is_mid : (text : List ℕ) (table : LineTable) → IsMidOf p (record { words = words; map = m; text = text; items = c.items; table = table }) c.mid c.choices
     is_mid text table = record {
-      keeps = subst (λ sizes. KeepsRuns (c_runs p sizes) (mid_runs c.mid sizes)) (sym frames_are) compiled.does.keeps;
+      keeps = subst (λ sizes. KeepsRuns (c_runs p sizes) (mid_runs c.mid sizes)) (sym frames_are) compiled.meaning.keeps;
       promoted = compiled.promoted;
       settled = compiled.settled;
-      follows = subst₂ (λ at sizes. AgreesWithin 1 at (mid_runs c.mid sizes) words) (sym globals_are) (sym frames_are) (compiled.does.follows words labels placed);
+      follows = subst₂ (λ at sizes. AgreesWithin 1 at (mid_runs c.mid sizes) words) (sym globals_are) (sym frames_are) (compiled.meaning.follows words labels placed);
       safe = compiled.safe;
       spares = compiled.spares;
       frames = subst (λ sizes. FramesFit c.mid c.choices sizes) (sym frames_are) compiled.placed.frames;

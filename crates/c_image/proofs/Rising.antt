@@ -59,7 +59,7 @@ pub record IsTold (files : List (List ℕ)) (o : Place) : Type 0 where
   pub line : 1 ≤ o.1
 
 module _ (items : List AsmItem) (words : List ℕ) (labels : List (List ℕ × ℕ)) (faultless : fault_of items ≡ None) (placed : Placed items words labels) where
-  pub count : length words ≡ total_size items
+  count : length words ≡ total_size items
   count = ap length placed.words_are ∙ words_length (address_in labels) items
 
   pub stands_at : (before after : List AsmItem) (name : List ℕ) → items ≡ before ++ Label name ∷ after → address_in labels name ≡ 0x20000000 + total_size before

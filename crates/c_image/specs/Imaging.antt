@@ -1,5 +1,5 @@
 -- What the image of a program is.
-use Rattle.std.specs.Prelude.{ℕ, ◌≡◌, ◌≤◌, ◌+◌, ◌*◌, true, List, [], map, length, slice_get, sum_by, Some, None, Ok}
+use Rattle.std.specs.Prelude.{ℕ, ◌≡◌, ◌≤◌, true, List, map, length, slice_get, Some, None, Ok}
 use Rattle.std.specs.List.{AllByRecursion, list_all}
 use Rattle.std.specs.Str.{is_utf8}
 use Rattle.asm_items.specs.declared.item.AsmItem.{AsmItem}
@@ -11,18 +11,14 @@ use Rattle.assembler.specs.Placed.{Placed}
 use Rattle.assembler.specs.Labels.{address_in}
 use Rattle.c_front.specs.Places.{place_at}
 use Rattle.c_front.specs.declared.places.Places.{Places}
-use Rattle.c_types.specs.Nodes.{program_nodes}
 use Rattle.c_types.specs.Programs.{TFunctionT, ProgramT}
-use Rattle.c_meaning.specs.Setting.{setting}
-use Rattle.c_meaning.specs.Runs.{c_runs}
-use Rattle.c_meaning.specs.Frames.{EachFits}
 use Rattle.cart_format.specs.Table.{is_table}
 use Rattle.cart_format.specs.declared.row.LineTable.{LineTable}
-use Rattle.mid_code.specs.Agrees.{AgreesWithin}
 use Rattle.project_text.specs.declared.map.Map.{Map}
 use Rattle.asm_laws.specs.Labelled.{label_of_function}
 use Rattle.asm_laws.specs.Numbers.{behind}
 use Rattle.cycle_bound.specs.Forward.{HasNumber}
+use Rattle.pass_laws.specs.Meeting.{DoesAsMeant}
 use Rattle.c_image.specs.LoopFree.{IsLoopFree}
 use Rattle.c_image.specs.Ordered.{LabelsInOrder}
 use Rattle.c_image.specs.Mapping.{map_of}
@@ -61,16 +57,6 @@ pub record AreStarts (p : ProgramT) (places : Places) (starts : List ℕ) : Type
   pub texts : list_all is_utf8 places.names ≡ true
   pub lines : AllByRecursion (λ t. 1 ≤ t.line) places.tokens
 
--- What the words of an image do, by the frames and globals of its map.
-pub record DoesAsMeant (p : ProgramT) (i : ImageT) : Type 0 where
-  -- for every bound, answers of ports and memory card they do what the program means, in at most 64 times its work and 64 instructions where it does
-  -- not stray
-  pub agrees : AgreesWithin 64 (global_addresses i.map) (c_runs p (frame_sizes i.map)) i.words
-  -- frames are large enough, and not larger than they may be
-  pub frames : EachFits (setting p []) p.functions (frame_sizes i.map)
-  -- the words are few
-  pub small : length i.words ≤ 128 * program_nodes p + sum_by (λ text. length text + 1) p.literals + 64
-
 -- The image of a program whose functions begin at these tokens.
 pub record IsImageOf (p : ProgramT) (places : Places) (starts : List ℕ) (i : ImageT) : Type 0 where
   -- the text is the written form of the items and reads as them, and the words are those that these are placed as
@@ -89,7 +75,8 @@ pub record IsImageOf (p : ProgramT) (places : Places) (starts : List ℕ) (i : I
   -- the map and the line table tell of them
   pub map_is : i.map ≡ map_of p (frame_sizes i.map) (length i.words) (address_in labels)
   pub table_is : i.table ≡ table_of (address_in labels) p.functions (map (place_at places) starts)
-  pub does : DoesAsMeant p i
+  -- with the frames and globals of the map, the words do what the program means
+  pub does : DoesAsMeant p (frame_sizes i.map) (global_addresses i.map) i.words
   -- a cartridge may have these words and this table
   pub some : 1 ≤ length i.words
   pub few : length i.words ≤ 33554432

@@ -1,5 +1,5 @@
 -- The run of a cartridge that was built is what its source means: from the law of played runs.
-use Rattle.std.proofs.Common.{ℕ, ◌≡◌, ◌∙◌, inl, inr, Bool, true, false, cond, List, [], ◌∷◌, eqb, refl, sym, ap, subst, true≢false}
+use Rattle.std.proofs.Common.{ℕ, ◌≡◌, ◌∙◌, inl, inr, Bool, true, false, cond, List, eqb, refl, sym, ap, subst, true≢false}
 use Rattle.std.specs.Prelude.{Option, Some, None, Result, Ok, Err, length}
 use Rattle.std.proofs.lemmas.Bool.{eqb-true}
 use Rattle.kit_base.specs.Held.{Held}
@@ -12,16 +12,15 @@ use Rattle.cart_format.specs.Reading.{cart_of}
 use Rattle.run_files.specs.Script.{Script}
 use Rattle.v32_console.specs.declared.frame_end.FrameEnd.TheVariants as ends
 use Rattle.v32_console.specs.Setup.{Setup, setup_of}
-use Rattle.v32_console.specs.Moments.{Moment, Phase, Opened, Running, Left, console_at, goes_on, opening_moment}
+use Rattle.v32_console.specs.Moments.{Moment, Phase, Opened, Running, Left, console_at, goes_on}
 use Rattle.v32_console.specs.Machine.{end_of as machine_end}
-use Rattle.v32_console.specs.Frames.{frames_of}
-use Rattle.v32_console.specs.Runs.{last_after}
 use Rattle.v32_console.proofs.Frames.{runs_are_of_instructions}
-use Rattle.run_core.specs.Outputs.{end_after, end_of, last_moment}
+use Rattle.run_core.specs.Outputs.{end_of, last_moment}
+use Rattle.run_core.proofs.Going.{last_is}
 use Rattle.c_image.specs.Imaging.{frame_sizes}
 use Rattle.build_core.specs.declared.building.Built.{Built}
 use Rattle.build_core.specs.Build.{IsBuilt}
-use Rattle.play_laws.specs.Played.{DoesBy, PlayedRunsAreTheSources, PlayedRunsComeToAll, meant_at, played}
+use Rattle.play_laws.specs.Played.{RefinesBy, PlayedRunsAreTheSources, PlayedRunsComeToAll, meant_at, played}
 use Rattle.kit_words.specs.Command.{RunWords}
 use Rattle.kit_tools.specs.declared.refusal.DueRefusal.TheVariants as dues
 use Rattle.kit_tools.specs.declared.refusal.Refusal.{Refusal}
@@ -66,14 +65,6 @@ settings_card greatest pads name word held settings e =
 
 -- ---- where a run ends
 
-same_last : (m : Moment) (later : List Moment) → last_after m later ≡ end_after m later
-same_last m [] = refl
-same_last m (n ∷ later) = same_last n later
-
-last_is : (u : Setup) (count : ℕ) → end_after (opening_moment u) (frames_of count u (opening_moment u)) ≡ last_moment u count
-unfolding last_moment
-last_is u count = refl
-
 -- a run that has ended is not going
 not_going : (phase : Phase) → goes_on (end_of phase) ≡ false → machine_end phase ≡ machine.Going → ⊥
 not_going Opened over going = true≢false over
@@ -85,7 +76,7 @@ not_going (Left (ends.Fault number address)) over going = cc
 not_going (Left (ends.Undecodable address)) over going = cc
 
 -- and so has made all that is meant
-made_all : (end : Ending) (meant : Run) (so_far : machine.Run) → (so_far.end ≡ machine.Going → ⊥) → DoesBy end meant so_far → HasMadeAllBy end meant so_far
+made_all : (end : Ending) (meant : Run) (so_far : machine.Run) → (so_far.end ≡ machine.Going → ⊥) → RefinesBy end meant so_far → HasMadeAllBy end meant so_far
 made_all Halted meant so_far over (inl h) = absurd (over h.going)
 made_all Halted meant so_far over (inr h) = h
 made_all (Fault number) meant so_far over (inl h) = absurd (over h.going)
@@ -108,7 +99,7 @@ module _ (does : PlayedRunsAreTheSources) (comes : PlayedRunsComeToAll) where
   run_meant held text b built cart is pads card whole_card count =
       let u : Setup = setup_of cart pads card in
       let run = runs_are_of_instructions u count in
-      let there : console_at u run.k ≡ last_moment u count = run.there ∙ same_last (opening_moment u) (frames_of count u (opening_moment u)) ∙ last_is u count in
+      let there : console_at u run.k ≡ last_moment u count = run.there ∙ last_is u count in
       record {
         does = λ k bound le. does held text b built cart is pads card whole_card k bound le;
         comes = λ k bound. comes held text b built cart is pads card whole_card k bound;

@@ -1,5 +1,5 @@
 -- What a watch judges, and what its status 0 says.
-use Rattle.std.proofs.Common.{ℕ, ◌≡◌, ◌≤◌, ◌+◌, Bool, true, false, not, List, [], ◌∷◌, length, refl, sym, ap, subst, ◌∙◌}
+use Rattle.std.proofs.Common.{ℕ, ◌≡◌, ◌≤◌, ◌+◌, Bool, true, false, not, List, length, refl, sym, ap, subst, ◌∙◌}
 use Rattle.std.specs.Prelude.{◌↔◌, ◌||◌, nat_lt, Option, Some, None, Result, Ok, Err, IfSome, if◌then◌else◌}
 use Rattle.std.specs.Str.{bytes_eq}
 use Rattle.kit_base.specs.Held.{Held}
@@ -18,12 +18,12 @@ use Rattle.c_watch.specs.declared.verdict.Watched.TheVariants.{Met}
 use Rattle.c_watch.specs.Watching.{verdict_of, watched_by}
 use Rattle.v32_console.specs.declared.frame_end.FrameEnd.{FrameEnd}
 use Rattle.v32_console.specs.Setup.{Setup}
-use Rattle.v32_console.specs.Moments.{Moment, Phase, Opened, Running, Left, goes_on, console_at, opening_moment}
-use Rattle.v32_console.specs.Frames.{frames_of}
+use Rattle.v32_console.specs.Moments.{Moment, Phase, Opened, Running, Left, goes_on, console_at}
 use Rattle.v32_console.specs.History.{operations_at}
 use Rattle.v32_console.specs.Machine.{Operations}
-use Rattle.v32_console.specs.Runs.{RunsAreOfInstructions, last_after}
-use Rattle.run_core.specs.Outputs.{end_after, end_of, last_moment}
+use Rattle.v32_console.specs.Runs.{RunsAreOfInstructions}
+use Rattle.run_core.specs.Outputs.{end_of, last_moment}
+use Rattle.run_core.proofs.Going.{last_is}
 use Rattle.build_core.specs.declared.building.Built.{Built}
 use Rattle.build_core.specs.Build.{IsBuilt}
 use Rattle.play_laws.specs.Played.{meant_at, played}
@@ -45,14 +45,6 @@ use Rattle.kit_core.proofs.Meanings.{settings_card}
 
 -- ---- where the run is
 
-same_last : (m : Moment) (later : List Moment) → last_after m later ≡ end_after m later
-same_last m [] = refl
-same_last m (n ∷ later) = same_last n later
-
-last_is : (u : Setup) (count : ℕ) → end_after (opening_moment u) (frames_of count u (opening_moment u)) ≡ last_moment u count
-unfolding last_moment
-last_is u count = refl
-
 ended_by : (phase : Phase) → not (goes_on (end_of phase)) ≡ has_ended phase
 ended_by Opened = refl
 ended_by (Running done) = refl
@@ -67,7 +59,7 @@ record IsAt (u : Setup) (count : ℕ) : Type 0 where
 is_at : RunsAreOfInstructions → (u : Setup) (count : ℕ) → IsAt u count
 is_at runs u count =
     let run = runs u count in
-    record { k = run.k; k_is = run.there ∙ same_last (opening_moment u) (frames_of count u (opening_moment u)) ∙ last_is u count; operations_are = run.operations_are }
+    record { k = run.k; k_is = run.there ∙ last_is u count; operations_are = run.operations_are }
 
 module _ (p : ProgramT) (frames : List ℕ) (u : Setup) (count : ℕ) (at : IsAt u count) where
   ends_so : ends_in u count ≡ has_ended (console_at u at.k).phase

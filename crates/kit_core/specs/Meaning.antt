@@ -12,7 +12,7 @@ use Rattle.run_laws.specs.Steps.{Begins, HasMade}
 use Rattle.c_image.specs.Imaging.{frame_sizes}
 use Rattle.build_core.specs.declared.building.Built.{Built}
 use Rattle.build_core.specs.Build.{IsBuilt}
-use Rattle.play_laws.specs.Played.{ComesToAll, DoesAsMeant, meant_at, played}
+use Rattle.play_laws.specs.Played.{ComesToAll, Refines, meant_at, played}
 use Rattle.kit_tools.specs.Running.{Settings, game_with}
 
 -- the console that is run: the cartridge, with the script of the gamepads and the card
@@ -37,7 +37,7 @@ HasMadeAll meant so_far = HasMadeAllBy meant.end meant so_far
 -- undecodable word it has made all that is meant.
 pub record RunIsMeant (held : Held) (text : List ℕ) (built : Built) (is_built : IsBuilt held text built) (u : Setup) (count : ℕ) : Type 0 where
   pub does : (k bound : ℕ) → (operations_at u k).instructions ≤ bound
-      → DoesAsMeant (meant_at is_built.of.program (frame_sizes is_built.of.image.map) bound u k) (played u k)
+      → Refines (meant_at is_built.of.program (frame_sizes is_built.of.image.map) bound u k) (played u k)
   pub comes : (k bound : ℕ) → ComesToAll (meant_at is_built.of.program (frame_sizes is_built.of.image.map) bound u k) (played u)
   pub k : ℕ
   pub k_is : console_at u k ≡ last_moment u count

@@ -8,11 +8,11 @@ use Rattle.v32_console.specs.Setup.{Setup}
 use Rattle.v32_console.specs.Machine.{Operations, none, joined}
 use Rattle.v32_console.specs.Moments.{Moment, Phase, Left, goes_on, opening_moment}
 use Rattle.v32_console.specs.Frames.{frame_of, frames_of, frames_from}
-use Rattle.v32_console.specs.Runs.{frame_operations, run_operations, where_on}
+use Rattle.v32_console.specs.Runs.{frame_operations, run_operations, where_on, last_after}
 use Rattle.v32_console.specs.Stands.{Parts, ConsoleStands, IsAtRest}
 use Rattle.v32_console.specs.Taking.{Noted, with_operations}
 use Rattle.v32_console.proofs.Taken.{joined_none, joined_end, joined_assoc}
-use Rattle.run_core.specs.Outputs.{end_after, end_of, last_moment, run_end}
+use Rattle.run_core.specs.Outputs.{end_of, last_moment, run_end}
 use Rattle.run_core.proofs.Going.{last_is}
 use Rattle.noted_run.specs.Notes.{AreNotes}
 
@@ -38,7 +38,7 @@ pub record Follows (u : Setup) (count left : ℕ) (end : FrameEnd) (c : Parts) (
   pub end_is : end_of here.phase ≡ end
   pub whole : run_operations count u (opening_moment u) ≡ joined before (run_operations left u here)
   pub notes_are : AreNotes before n
-  pub last : last_moment u count ≡ end_after here (frames_of left u here)
+  pub last : last_moment u count ≡ last_after here (frames_of left u here)
 
 -- the run is done
 pub record IsDone (u : Setup) (count : ℕ) (end : FrameEnd) (n : Noted) : Type 0 where
@@ -104,11 +104,11 @@ module _ (u : Setup) (count left : ℕ) (end : FrameEnd) (c : Parts) (n : Noted)
 
   -- these follow
   module _ (goes : Bool) (is : goes_on end' ≡ goes) where
-    last_now : last_moment u count ≡ end_after (frame_of u f.here) (if goes then later_frames else [])
+    last_now : last_moment u count ≡ last_after (frame_of u f.here) (if goes then later_frames else [])
     last_now =
-        f.last ∙ ap (end_after f.here) (frames_some left u f.here some)
-        ∙ ap (λ p. end_after (frame_of u f.here) (frames_from p later_frames)) left_is
-        ∙ ap (end_after (frame_of u f.here)) (by_end (goes_on end') goes later_frames is)
+        f.last ∙ ap (last_after f.here) (frames_some left u f.here some)
+        ∙ ap (λ p. last_after (frame_of u f.here) (frames_from p later_frames)) left_is
+        ∙ ap (last_after (frame_of u f.here)) (by_end (goes_on end') goes later_frames is)
 
     whole_now : run_operations count u (opening_moment u) ≡ joined before_now (if goes then later_operations else none)
     whole_now =
@@ -138,7 +138,7 @@ module _ (u : Setup) (count left : ℕ) (end : FrameEnd) (c : Parts) (n : Noted)
 -- none is left
 pub follows_done : (u : Setup) (count left : ℕ) (end : FrameEnd) (c : Parts) (n : Noted) → left ≡ 0 → Follows u count left end c n → IsDone u count end n
 follows_done u count left end c n none_left f =
-    let last : last_moment u count ≡ f.here = f.last ∙ ap (λ k. end_after f.here (frames_of k u f.here)) none_left ∙ ap (end_after f.here) (frames_none u f.here) in
+    let last : last_moment u count ≡ f.here = f.last ∙ ap (λ k. last_after f.here (frames_of k u f.here)) none_left ∙ ap (last_after f.here) (frames_none u f.here) in
     let whole : run_operations count u (opening_moment u) ≡ f.before =
     f.whole ∙ ap (λ k. joined f.before (run_operations k u f.here)) none_left ∙ ap (joined f.before) (operations_none u f.here) ∙ joined_end f.before in
     record {

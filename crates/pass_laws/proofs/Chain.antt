@@ -1,5 +1,5 @@
 -- The promises of the passes meet: words that are made of a program by all of them do what it means.
-use Rattle.std.proofs.Common.{◌≡◌, ℕ, ◌≤◌, ◌+◌, ◌*◌, List, length, map, sum_by, subst, ◌∙◌, arith}
+use Rattle.std.proofs.Common.{◌≡◌, ℕ, ◌≤◌, ◌+◌, ◌*◌, List, length, map, sum_by, sym, ap, subst, ◌∙◌, arith}
 use Rattle.c_types.specs.Programs.{ProgramT}
 use Rattle.c_types.specs.Programs.{TFunctionT}
 use Rattle.c_types.specs.Nodes.{program_nodes}
@@ -7,7 +7,9 @@ use Rattle.c_meaning.specs.Setting.{Setting}
 use Rattle.c_meaning.specs.Runs.{c_runs}
 use Rattle.obj_mem.specs.Runs.{Meaning}
 use Rattle.assembler.specs.Placed as asm
+use Rattle.assembler.specs.Labels.{address_in}
 use Rattle.assembler.specs.Sizes.{total_size}
+use Rattle.assembler.proofs.Standing.{words_length}
 use Rattle.asm_items.specs.declared.item.AsmItem.{AsmItem}
 use Rattle.mid_code.specs.declared.placed.Where.{Where}
 use Rattle.mid_code.specs.Code.{FunctionT, CodeT}
@@ -62,8 +64,13 @@ module _ (p : ProgramT) (m settled : CodeT ℕ) (cs : List (List Where)) (x : Pl
   placed_small : total_size items ≤ 128 * program_nodes p + literal_words x + 64
   placed_small = omega (arith, e.small, c.weighs, o.made.weighs, l.weighs)
 
-  pub small : total_size items ≤ 128 * program_nodes p + sum_by (λ text. length text + 1) p.literals + 64
-  small = subst (λ (texts : List (List ℕ)). total_size items ≤ 128 * program_nodes p + sum_by (λ text. length text + 1) texts + 64) same_literals placed_small
+  items_small : total_size items ≤ 128 * program_nodes p + sum_by (λ text. length text + 1) p.literals + 64
+  items_small = subst (λ (texts : List (List ℕ)). total_size items ≤ 128 * program_nodes p + sum_by (λ text. length text + 1) texts + 64) same_literals placed_small
+
+  pub small : (words : List ℕ) (labels : List (List ℕ × ℕ)) → asm.Placed items words labels → length words ≤ 128 * program_nodes p + sum_by (λ text. length text + 1) p.literals + 64
+  small words labels stands =
+      let count : length words ≡ total_size items = ap length stands.words_are ∙ words_length (address_in labels) items in
+      subst (λ (n : ℕ). n ≤ 128 * program_nodes p + sum_by (λ text. length text + 1) p.literals + 64) (sym count) items_small
 
 -- A function without loops has none in placed code, and calls there only what its tree calls.
 pub straight : {P Q : Type 0} (s : Setting) (f : TFunctionT) (g : FunctionT ℕ) (h : FunctionT P) (k : FunctionT Q)

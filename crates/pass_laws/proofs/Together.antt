@@ -7,9 +7,11 @@ pub meet : PassesMeet
 meet p m settled cs x names items l o a c e = record {
   keeps = chain.settled_keeps p m settled cs x names items l o c e;
   follows = chain.follows p m settled cs x names items l o c e;
-  agrees = chain.agrees p m settled cs x names items l o c e;
-  small = chain.small p m settled cs x names items l o c e;
-  frames = frames_fit p m settled cs x l o a c;
+  does = λ words labels stands. record {
+    agrees = chain.agrees p m settled cs x names items l o c e words labels stands;
+    fits = frames_fit p m settled cs x l o a c;
+    small = chain.small p m settled cs x names items l o c e words labels stands;
+  };
 }
 
 pub stays : StraightStays

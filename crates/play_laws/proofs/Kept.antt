@@ -15,7 +15,7 @@ use Rattle.c_watch.specs.declared.verdict.Watched.TheVariants.{Met}
 use Rattle.c_watch.specs.Watching.{Fails, FailsBefore, Kept, watched_by}
 use Rattle.c_watch.proofs.Telling.{verdicts_tell}
 use Rattle.run_laws.specs.Steps.{Begins, HasBegun, HasMade}
-use Rattle.play_laws.specs.Played.{DoesBy, DoesAsMeant}
+use Rattle.play_laws.specs.Played.{RefinesBy, Refines}
 use Rattle.play_laws.specs.Keeping.{FollowsBy, IsWholeBy}
 use Rattle.play_laws.proofs.Extending.{IsOver, over_or_out, stays, makes_more}
 
@@ -38,7 +38,7 @@ counted front whole rest e = ap length e ∙ length-append front rest
 -- A run of words so far, whether it has ended, and that it does as is meant with every bound from the number of its instructions on.
 module _ (p : ProgramT) (frames answers : List ℕ) (card : Option (List ℕ)) (instructions : ℕ) (so_far : machine.Run) (ended : Bool)
     (goes : so_far.end ≡ machine.Going → ended ≡ false) (going : ended ≡ false → so_far.end ≡ machine.Going)
-    (plays : (bound : ℕ) → instructions ≤ bound → DoesAsMeant (run_of p (final_of p frames bound answers card)) so_far) where
+    (plays : (bound : ℕ) → instructions ≤ bound → Refines (run_of p (final_of p frames bound answers card)) so_far) where
   abbrev final : ℕ → Final
   final n = final_of p frames n answers card
 
@@ -54,8 +54,8 @@ module _ (p : ProgramT) (frames answers : List ℕ) (card : Option (List ℕ)) (
   -- ---- one bound decides
 
   -- where the bound is used up, the words are going
-  begun_by : (e : End) → e ≡ OutOfBound → (bound : ℕ) → DoesBy (ending e) (meant bound) so_far → HasBegun (meant bound) so_far
-  begun_by e out bound h = subst (λ (x : End). DoesBy (ending x) (meant bound) so_far) out h
+  begun_by : (e : End) → e ≡ OutOfBound → (bound : ℕ) → RefinesBy (ending e) (meant bound) so_far → HasBegun (meant bound) so_far
+  begun_by e out bound h = subst (λ (x : End). RefinesBy (ending x) (meant bound) so_far) out h
 
   not_over : (n : ℕ) → instructions + 1 ≤ n → (final (instructions + 1)).end ≡ OutOfBound → FailsBefore made ended (final n) → ⊥
   not_over n le out f =
@@ -107,7 +107,7 @@ module _ (p : ProgramT) (frames answers : List ℕ) (card : Option (List ℕ)) (
     or_begun : (e : End) → (final bound).end ≡ e → Fails e → HasBegun (meant bound) so_far ⊎ Begins (meant bound).events so_far.events → HasBegun (meant bound) so_far
     or_begun e is f h = elim h [ inl begun ↦ begun | inr behind ↦ not_behind e is f behind ]
 
-    follows_by : (e : End) → (final bound).end ≡ e → DoesBy (ending e) (meant bound) so_far → FollowsBy (ending e) (meant bound) so_far
+    follows_by : (e : End) → (final bound).end ≡ e → RefinesBy (ending e) (meant bound) so_far → FollowsBy (ending e) (meant bound) so_far
     follows_by Halted is h = h
     follows_by (Fault number) is h = h
     follows_by Starved is h = h

@@ -12,7 +12,7 @@ use Rattle.v32_console.specs.History.{operations_at}
 use Rattle.v32_console.proofs.Operations.{machine_same}
 use Rattle.run_laws.specs.Steps.{Begins, HasBegun, HasMade, HasDone}
 use Rattle.run_laws.proofs.Backward.{meant}
-use Rattle.play_laws.specs.Played.{DoesBy, DoesAsMeant, played}
+use Rattle.play_laws.specs.Played.{RefinesBy, Refines, played}
 
 -- no instruction of a console is without an answer
 pub never_starved : (phase : Phase) → end_of phase ≡ machine.Starved → ⊥
@@ -38,7 +38,7 @@ module _ (run : Run) (bound steps : ℕ) (runs : ℕ → machine.Run) (so_far : 
   not_starved : HasBegun run (runs steps) ⊎ HasMade machine.Starved run (runs steps) → HasBegun run so_far
   not_starved h = elim (or_made machine.Starved h) [ inl way ↦ way | inr here ↦ absurd (answered here.ended) ]
 
-  by_end : (end : Ending) → HasDone end bound run runs steps → DoesBy end run so_far
+  by_end : (end : Ending) → HasDone end bound run runs steps → RefinesBy end run so_far
   by_end Halted h = or_made machine.Halted h.so_far
   by_end (Fault number) h = or_made (machine.Fault number) h.so_far
   by_end Starved h = not_starved h.so_far
@@ -47,7 +47,7 @@ module _ (run : Run) (bound steps : ℕ) (runs : ℕ → machine.Run) (so_far : 
   by_end Deep h = or_behind h.so_far
 
 pub plays : (times : ℕ) (addresses : List ℕ) (meaning : Meaning) (u : Setup) → AgreesWithin times addresses meaning u.program → IsCard u.card
-    → (k bound : ℕ) → (operations_at u k).instructions ≤ bound → DoesAsMeant (meaning bound (operations_at u k).answers u.card) (played u k)
+    → (k bound : ℕ) → (operations_at u k).instructions ≤ bound → Refines (meaning bound (operations_at u k).answers u.card) (played u k)
 plays times addresses meaning u agrees is k bound le =
     let run : Run = meaning bound (operations_at u k).answers u.card in
     by_end run bound (operations_at u k).instructions (machine_runs u.program (operations_at u k).answers u.card) (played u k) (machine_same u k)

@@ -14,7 +14,7 @@ use Rattle.build_core.specs.declared.building.Built.{Built}
 use Rattle.build_core.specs.Due.{assets}
 use Rattle.build_core.specs.Build.{IsBuilt, cartridge_of}
 use Rattle.build_core.proofs.ReadBack.{read_back}
-use Rattle.play_laws.specs.Played.{ComesToAll, DoesAsMeant, PlayedRunsAreTheSources, PlayedRunsComeToAll, meant_at, played}
+use Rattle.play_laws.specs.Played.{ComesToAll, Refines, PlayedRunsAreTheSources, PlayedRunsComeToAll, meant_at, played}
 use Rattle.play_laws.proofs.Arriving.{comes_to_all}
 use Rattle.play_laws.proofs.Playing.{plays}
 
@@ -27,7 +27,7 @@ module _ (m : Held) (project : List ℕ) (b : Built) (built : IsBuilt m project 
 
   abbrev Plays : Cartridge → Script → Option (List ℕ) → (k bound : ℕ) → Type 0
   Plays cart pads card k bound = (operations_at (setup_of cart pads card) k).instructions ≤ bound
-      → DoesAsMeant (meant_at built.of.program (frame_sizes built.of.image.map) bound (setup_of cart pads card) k) (played (setup_of cart pads card) k)
+      → Refines (meant_at built.of.program (frame_sizes built.of.image.map) bound (setup_of cart pads card) k) (played (setup_of cart pads card) k)
 
   whole_plays : (pads : Script) (card : Option (List ℕ)) → IsCard card → (k bound : ℕ) → Plays whole pads card k bound
   whole_plays pads card is k bound =

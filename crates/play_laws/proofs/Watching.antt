@@ -10,7 +10,7 @@ use Rattle.v32_console.specs.Moments.{Phase, Opened, Running, Left, console_at}
 use Rattle.v32_console.specs.Machine.{end_of}
 use Rattle.v32_console.specs.History.{operations_at}
 use Rattle.c_image.specs.Imaging.{frame_sizes}
-use Rattle.play_laws.specs.Played.{DoesAsMeant, meant_at, played}
+use Rattle.play_laws.specs.Played.{Refines, meant_at, played}
 use Rattle.play_laws.specs.Keeping.{has_ended, KeepsAt, watched_at, Follows, IsWhole, WatchDecides, KeptRunsAreTheSources, EndedRunsAreWhole}
 use Rattle.play_laws.proofs.Kept.{decides, follows, whole}
 use Rattle.play_laws.proofs.Sources.{plays_so}
@@ -35,7 +35,7 @@ going (Left (frame.Undecodable address)) e = absurd cc
 
 -- for what does as is meant with every bound from the number of its instructions on
 module _ (p : ProgramT) (frames : List ℕ) (u : Setup) (k : ℕ)
-    (plays : (bound : ℕ) → (operations_at u k).instructions ≤ bound → DoesAsMeant (meant_at p frames bound u k) (played u k)) where
+    (plays : (bound : ℕ) → (operations_at u k).instructions ≤ bound → Refines (meant_at p frames bound u k) (played u k)) where
   abbrev phase : Phase
   phase = (console_at u k).phase
 

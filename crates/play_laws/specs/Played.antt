@@ -24,16 +24,16 @@ played u k = record { events = (operations_at u k).events; end = end_of (console
 -- How far what was done has come in the run that is meant, by how that one ends. It has begun it, or made the whole of it with its end. Where the
 -- run that is meant asks a port that the devices have not answered yet, or has used up its bound, it has begun it. Where that run strays, or has
 -- no room for a frame, it has begun it or goes on behind it.
-abbrev pub DoesBy : Ending → (meant : Run) → (so_far : machine.Run) → Type 0
-DoesBy Halted meant so_far = HasBegun meant so_far ⊎ HasMade machine.Halted meant so_far
-DoesBy (Fault number) meant so_far = HasBegun meant so_far ⊎ HasMade (machine.Fault number) meant so_far
-DoesBy Starved meant so_far = HasBegun meant so_far
-DoesBy OutOfBound meant so_far = HasBegun meant so_far
-DoesBy Stray meant so_far = HasBegun meant so_far ⊎ Begins meant.events so_far.events
-DoesBy Deep meant so_far = HasBegun meant so_far ⊎ Begins meant.events so_far.events
+abbrev pub RefinesBy : Ending → (meant : Run) → (so_far : machine.Run) → Type 0
+RefinesBy Halted meant so_far = HasBegun meant so_far ⊎ HasMade machine.Halted meant so_far
+RefinesBy (Fault number) meant so_far = HasBegun meant so_far ⊎ HasMade (machine.Fault number) meant so_far
+RefinesBy Starved meant so_far = HasBegun meant so_far
+RefinesBy OutOfBound meant so_far = HasBegun meant so_far
+RefinesBy Stray meant so_far = HasBegun meant so_far ⊎ Begins meant.events so_far.events
+RefinesBy Deep meant so_far = HasBegun meant so_far ⊎ Begins meant.events so_far.events
 
-abbrev pub DoesAsMeant : (meant : Run) → (so_far : machine.Run) → Type 0
-DoesAsMeant meant so_far = DoesBy meant.end meant so_far
+abbrev pub Refines : (meant : Run) → (so_far : machine.Run) → Type 0
+Refines meant so_far = RefinesBy meant.end meant so_far
 
 -- How far the console comes in that run: at some number of instructions and frame edges it has made the whole of it, with its end, or while it goes
 -- on where that run has used up its bound, strays or has no room for a frame; and where that run asks a port that was not answered yet, it has
@@ -58,7 +58,7 @@ abbrev pub PlayedRunsAreTheSources : Type 0
 PlayedRunsAreTheSources =
     (m : Held) (project : List ℕ) (b : Built) (built : IsBuilt m project b) (cart : Cartridge) → cart_of b.cart ≡ Ok cart
     → (pads : Script) (card : Option (List ℕ)) → IsCard card → (k bound : ℕ) → (operations_at (setup_of cart pads card) k).instructions ≤ bound
-    → DoesAsMeant (meant_at built.of.program (frame_sizes built.of.image.map) bound (setup_of cart pads card) k) (played (setup_of cart pads card) k)
+    → Refines (meant_at built.of.program (frame_sizes built.of.image.map) bound (setup_of cart pads card) k) (played (setup_of cart pads card) k)
 
 -- Likewise, and for every bound.
 abbrev pub PlayedRunsComeToAll : Type 0

@@ -9,9 +9,10 @@ use Rattle.v32_console.specs.declared.frame_end.FrameEnd.TheVariants.{Full}
 use Rattle.v32_console.specs.Setup.{Setup}
 use Rattle.v32_console.specs.Moments.{Moment, Phase, Left, goes_on, opening_moment}
 use Rattle.v32_console.specs.Frames.{frame_of, frames_of, frames_from}
+use Rattle.v32_console.specs.Runs.{last_after}
 use Rattle.v32_console.specs.Stands.{Parts, ConsoleStands, IsAtRest}
 use Rattle.run_core.specs.declared.output.Output.{Output}
-use Rattle.run_core.specs.Outputs.{Names, frame_outputs, end_after, end_of, last_moment}
+use Rattle.run_core.specs.Outputs.{Names, frame_outputs, end_of, last_moment}
 use Rattle.run_core.specs.Writing.{IsCut}
 use Rattle.run_core.proofs.Parts.{cut_in_first, cut_in_second, all_done_both}
 
@@ -29,12 +30,12 @@ pub record Going (names : Names) (u : Setup) (first : Moment) (count left : ℕ)
   pub end_is : end_of here.phase ≡ end
   pub whole : outputs names u (frames_of count u first) ≡ effects ++ outputs names u (frames_of left u here)
   pub held : now ≡ all_done effects before
-  pub last : end_after first (frames_of count u first) ≡ end_after here (frames_of left u here)
+  pub last : last_after first (frames_of count u first) ≡ last_after here (frames_of left u here)
 
 -- a run of so many frames is done
 pub record Finished (names : Names) (u : Setup) (first : Moment) (count : ℕ) (end : FrameEnd) (c : Parts) (before now : Option Held) : Type 0 where
-  pub stands : ConsoleStands u (end_after first (frames_of count u first)) c
-  pub end_is : end_of (end_after first (frames_of count u first)).phase ≡ end
+  pub stands : ConsoleStands u (last_after first (frames_of count u first)) c
+  pub end_is : end_of (last_after first (frames_of count u first)).phase ≡ end
   pub held : now ≡ all_done (outputs names u (frames_of count u first)) before
 
 pub going_first : (names : Names) (u : Setup) (count : ℕ) (c : Parts) (held : Option Held) → ConsoleStands u (opening_moment u) c
@@ -91,8 +92,8 @@ module _ (names : Names) (u : Setup) (first : Moment) (count left : ℕ) (end : 
     pub held_now : after ≡ all_done (g.effects ++ frame_outputs names u (frame_of u g.here)) before
     held_now = all_done_both g.effects (frame_outputs names u (frame_of u g.here)) before now after g.held done
 
-    pub last_now : end_after first (frames_of count u first) ≡ end_after (frame_of u g.here) later
-    last_now = g.last ∙ ap (end_after g.here) (frames_some left u g.here some) ∙ ap (end_after (frame_of u g.here)) followed
+    pub last_now : last_after first (frames_of count u first) ≡ last_after (frame_of u g.here) later
+    last_now = g.last ∙ ap (last_after g.here) (frames_some left u g.here some) ∙ ap (last_after (frame_of u g.here)) followed
 
   pub going_on : (end' : FrameEnd) (c' : Parts) (after : Option Held) → (frame_of u g.here).phase ≡ Left end' → ConsoleStands u (frame_of u g.here) c'
       → after ≡ all_done (frame_outputs names u (frame_of u g.here)) now → goes_on end' ≡ true → Going names u first count (left - 1) end' c' before after
@@ -124,13 +125,13 @@ pub going_done : (names : Names) (u : Setup) (first : Moment) (count left : ℕ)
     → left ≡ 0 → Going names u first count left end c before now → Finished names u first count end c before now
 going_done names u first count left end c before now none g =
     let nothing : frames_of left u g.here ≡ [] = ap (λ n. frames_of n u g.here) none ∙ frames_none u g.here in
-    let last : end_after first (frames_of count u first) ≡ g.here = g.last ∙ ap (end_after g.here) nothing in
+    let last : last_after first (frames_of count u first) ≡ g.here = g.last ∙ ap (last_after g.here) nothing in
     let whole : outputs names u (frames_of count u first) ≡ g.effects = g.whole ∙ ap (λ l. g.effects ++ outputs names u l) nothing ∙ append-nil g.effects in record {
       stands = subst (λ (m : Moment). ConsoleStands u m c) (sym last) g.stands;
       end_is = ap (λ (m : Moment). end_of m.phase) last ∙ g.end_is;
       held = g.held ∙ ap (λ es. all_done es before) (sym whole);
     }
 
-pub last_is : (u : Setup) (count : ℕ) → end_after (opening_moment u) (frames_of count u (opening_moment u)) ≡ last_moment u count
+pub last_is : (u : Setup) (count : ℕ) → last_after (opening_moment u) (frames_of count u (opening_moment u)) ≡ last_moment u count
 unfolding last_moment
 last_is u count = refl

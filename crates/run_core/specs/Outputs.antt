@@ -11,6 +11,7 @@ use Rattle.v32_console.specs.declared.frame_end.FrameEnd.TheVariants.{Full}
 use Rattle.v32_console.specs.Setup.{Setup}
 use Rattle.v32_console.specs.Moments.{Moment, Phase, Opened, Running, Left, opening_moment}
 use Rattle.v32_console.specs.Frames.{frames_of, samples_of, screen_of}
+use Rattle.v32_console.specs.Runs.{last_after}
 
 -- the names of the files; a card's file where one is named
 pub record Names : Type 0 where
@@ -36,14 +37,9 @@ abbrev pub card_outputs : Option (List ℕ) → State → List Effect
 card_outputs None s = []
 card_outputs (Some name) s = if s.has_card then written_file name (words_text (card_words s)) else []
 
--- the last of these moments, or else the first
-abbrev pub end_after : Moment → List Moment → Moment
-end_after m [] = m
-end_after m (n ∷ later) = end_after n later
-
 -- the moment at which a run of at most so many frames ends
 unfoldable pub last_moment : Setup → ℕ → Moment
-last_moment u count = end_after (opening_moment u) (frames_of count u (opening_moment u))
+last_moment u count = last_after (opening_moment u) (frames_of count u (opening_moment u))
 
 -- a run of at most so many frames, which a halt, a fault or an undecodable word ends before
 unfoldable pub run_outputs : Names → Setup → ℕ → List Effect

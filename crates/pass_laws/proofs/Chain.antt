@@ -64,7 +64,7 @@ module _ (p : ProgramT) (m settled : CodeT ℕ) (cs : List (List Where)) (x : Pl
   placed_small : total_size items ≤ 128 * program_nodes p + literal_words x + 64
   placed_small = omega (arith, e.small, c.weighs, o.made.weighs, l.weighs)
 
-  items_small : total_size items ≤ 128 * program_nodes p + sum_by (λ text. length text + 1) p.literals + 64
+  pub items_small : total_size items ≤ 128 * program_nodes p + sum_by (λ text. length text + 1) p.literals + 64
   items_small = subst (λ (texts : List (List ℕ)). total_size items ≤ 128 * program_nodes p + sum_by (λ text. length text + 1) texts + 64) same_literals placed_small
 
   pub small : (words : List ℕ) (labels : List (List ℕ × ℕ)) → asm.Placed items words labels → length words ≤ 128 * program_nodes p + sum_by (λ text. length text + 1) p.literals + 64

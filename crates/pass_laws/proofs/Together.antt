@@ -12,6 +12,8 @@ meet p m settled cs x names items l o a c e = record {
     fits = frames_fit p m settled cs x l o a c;
     small = chain.small p m settled cs x names items l o c e words labels stands;
   };
+  fits = frames_fit p m settled cs x l o a c;
+  small = chain.items_small p m settled cs x names items l o c e;
 }
 
 pub stays : StraightStays

@@ -6,6 +6,7 @@ use Rattle.c_meaning.specs.Setting.{Setting, setting}
 use Rattle.c_meaning.specs.Runs.{c_runs}
 use Rattle.c_meaning.specs.Frames.{EachFits}
 use Rattle.assembler.specs.Placed as asm
+use Rattle.assembler.specs.Sizes.{total_size}
 use Rattle.asm_items.specs.declared.item.AsmItem.{AsmItem}
 use Rattle.mid_code.specs.declared.placed.Where.{Where}
 use Rattle.mid_code.specs.Code.{FunctionT, CodeT}
@@ -41,6 +42,9 @@ pub record KeepsMeaning (p : ProgramT) (settled : CodeT ℕ) (x : PlacedT) (item
       → AgreesWithin 1 (addresses 0 (map (λ g. g.1) p.globals)) (mid_runs settled x.frames) words
   pub does : (words : List ℕ) (labels : List (List ℕ × ℕ)) → asm.Placed items words labels
       → DoesAsMeant p x.frames (addresses 0 (map (λ g. g.1) p.globals)) words
+  -- frames fit and words are few also before the items are placed
+  pub fits : EachFits (setting p []) p.functions x.frames
+  pub small : total_size items ≤ 128 * program_nodes p + sum_by (λ text. length text + 1) p.literals + 64
 
 abbrev pub PassesMeet : Type 0
 PassesMeet =

@@ -2,8 +2,8 @@
 ghost use Rattle.std.specs.Prelude.{◌≡◌, ◌<◌, ◌++◌, OnOk, IfOk, Some, map, drop};
 ghost use Rattle.mid_code.specs.Code.{Stop};
 ghost use Rattle.mid_code.specs.Functions.{op_before, node, before, nodes, listed};
-ghost use Rattle.asm_laws.specs.Operations.{other_word, first_word, sum_of, loads_there, first_place, in_slot, unturned, copied, copied_address};
-ghost use Rattle.asm_laws.specs.Pieces.{turned};
+ghost use Rattle.asm_laws.specs.Operations.{first_word, sum_of, first_place, in_slot, unturned, copied, copied_address};
+ghost use Rattle.asm_laws.specs.Pieces.{turned, other_word, loads_there};
 ghost use Rattle.asm_laws.specs.Operations.{with_sum};
 ghost use Rattle.asm_laws.specs.Operations.{taken, brought, either, added, known, using_it, with_known, before_it};
 ghost use Rattle.asm_emit.specs.inner.Listed.{front_put, front_word, front_summed, ahead_items, ahead_more, is_call};
@@ -38,7 +38,7 @@ pub(crate) fn behind(xs: &[Node<Where>]) -> &[Node<Where>]
 }
 
 /// The register of the other word, where a target and just one of two words stand in register r.
-fn other_word(r: Reg, t: Where, a: Where, b: Where) -> Option<Reg>
+pub(crate) fn other_word(r: Reg, t: Where, a: Where, b: Where) -> Option<Reg>
     ensures { result ≡ other_word r t a b }
 {
     let Where::Reg(_) = t else { return None };
@@ -87,7 +87,7 @@ fn sum_of(o: Two, r: Reg, word: u32, t: Where, a: Where, b: Where) -> Option<(Re
 }
 
 /// Whether a load comes first that takes its address from register r and puts the word there.
-fn loads_there(r: Reg, rest: &[Node<Where>]) -> bool
+pub(crate) fn loads_there(r: Reg, rest: &[Node<Where>]) -> bool
     ensures { result ≡ loads_there r (nodes rest.now) }
 {
     let Some((x, _)) = rest.split_first() else {
@@ -295,6 +295,10 @@ fn using_it(s: &Scope<'_>, word: u32, u: &Used) -> (Option<Instr<Imm>>, Instr<Im
         Used::Loaded(t, Some(p)) => (
             brought(s, *p, 9),
             Instr::Mov(Mov::RegAtOff(*t, hand(*p, 9), w)),
+        ),
+        Used::Indexed(t, q) => (
+            Some(Instr::Two(Two::IADD, *t, Src::Reg(*q))),
+            Instr::Mov(Mov::RegAtOff(*t, *t, w)),
         ),
         Used::Stored(None, a) => (brought(s, *a, 10), Instr::Mov(Mov::AtReg(w, hand(*a, 10)))),
         Used::Stored(Some(p), a) => (

@@ -5,10 +5,11 @@ ghost use Rattle.mid_code.specs.Functions.{op_before, node, before, nodes, funct
 ghost use Rattle.mid_code.specs.Operands.{listed_uses};
 ghost use Rattle.asm_laws.specs.Pieces.{is_in};
 ghost use Rattle.asm_laws.specs.Spare.{beside, operand, computed, loaded, in_slots, stored, at_address, at_sum, used_by};
+ghost use Rattle.asm_laws.specs.Spare.{index, index_behind, indexed, or_else};
 ghost use Rattle.asm_laws.specs.Spare.{count, are_others, spares, held_registers};
 ghost use Rattle.asm_emit.specs.inner.Spared.{first_puts, group_behind, spares_from, held_all};
 
-use crate::ahead::{behind, is_call};
+use crate::ahead::{behind, is_call, loads_there, other_word};
 use crate::hands::{is_in, register};
 use crate::pieces::turned;
 use asm_laws::Used;
@@ -129,6 +130,61 @@ fn at_sum(p: Option<Where>, rest: &[Node<Where>]) -> Option<(u32, Used)>
     }
 }
 
+/// A sum with the word of a register other than 8, in register t, and a load from there into it.
+fn index(t: Reg, q: Option<Reg>) -> Option<(u32, Used)>
+    ensures { result ≡ index t q }
+{
+    let q = q?;
+    if q.number() == 8 {
+        None
+    } else {
+        Some((3, Used::Indexed(t, q)))
+    }
+}
+
+fn index_behind(t: Reg, rest: &[Node<Where>]) -> Option<(u32, Used)>
+    ensures { result ≡ index_behind t (nodes rest.now) }
+{
+    let (x, after) = rest.split_first()?;
+    match x {
+        Node::Do(Op::Step(u, p, q)) => {
+            if loads_there(t, after) {
+                index(t, other_word(t, *u, *p, *q))
+            } else {
+                None
+            }
+        }
+        _ => None,
+    }
+}
+
+/// The same behind a sum of a register's own word and the known one, which stands there too.
+fn indexed(t: Where, other: Option<Where>, rest: &[Node<Where>]) -> Option<(u32, Used)>
+    ensures { result ≡ indexed t other (nodes rest.now) }
+{
+    let Where::Reg(t) = t else { return None };
+    match other {
+        Some(Where::Reg(q)) => {
+            if is_in(Where::Reg(q), register(t)) {
+                index_behind(register(t), rest)
+            } else {
+                None
+            }
+        }
+        Some(Where::Slot(_)) => None,
+        None => None,
+    }
+}
+
+fn or_else(first: Option<(u32, Used)>, other: Option<(u32, Used)>) -> Option<(u32, Used)>
+    ensures { result ≡ or_else first other }
+{
+    match first {
+        None => other,
+        Some(x) => Some(x),
+    }
+}
+
 /// What an operation does with a known word in register 8, and some of those behind it; how many they are.
 pub(crate) fn used_by_op(o: &Op<Where>, rest: &[Node<Where>]) -> Option<(u32, Used)>
     ensures { result ≡ used_by (op_before o.now (nodes rest.now)) }
@@ -139,7 +195,10 @@ pub(crate) fn used_by_op(o: &Op<Where>, rest: &[Node<Where>]) -> Option<(u32, Us
             if is_spare(*t) {
                 at_sum(beside(*p, *q), rest)
             } else {
-                computed(*t, operand(Two::IADD, *p, *q))
+                or_else(
+                    indexed(*t, beside(*p, *q), rest),
+                    computed(*t, operand(Two::IADD, *p, *q)),
+                )
             }
         }
         Op::Out(port, p) => {

@@ -16,11 +16,11 @@ use Rattle.mid_code.specs.declared.placed.Where.{Where}
 use Rattle.mid_code.specs.declared.placed.Where.TheVariants.{Reg, Slot}
 use Rattle.mid_code.specs.Code.{OpT, ConstO, TwoO, GlobalO, StepO, LoadO, StoreO, OutO, NodesT, Do}
 use Rattle.asm_laws.specs.declared.used.Used.{Used}
-use Rattle.asm_laws.specs.declared.used.Used.TheVariants.{Computed, Loaded, Stored, Sent}
-use Rattle.asm_laws.specs.Pieces.{register, is_in, turned}
-use Rattle.asm_laws.specs.Spare.{beside, operand, in_slots, at_address, at_sum, used_by}
+use Rattle.asm_laws.specs.declared.used.Used.TheVariants.{Computed, Loaded, Indexed, Stored, Sent}
+use Rattle.asm_laws.specs.Pieces.{register, is_in, turned, other_word, loads_there}
+use Rattle.asm_laws.specs.Spare.{beside, operand, in_slots, at_address, at_sum, index, index_behind, indexed, or_else, used_by}
 use Rattle.asm_laws.specs.Spare as spare
-use Rattle.asm_laws.specs.Operations.{Frame, Whole, fetch, fetches, hand, op_items, word_put, other_word, first_word, summed, loads_there, first_place, unturned, copied, copied_address, with_copy, with_sum, with_word, taken, brought, either, added, known, using_it, is_spared, with_known, with_more, in_one, before_it, one_or_more, puts_items, led_items, group_items}
+use Rattle.asm_laws.specs.Operations.{Frame, Whole, fetch, fetches, hand, op_items, word_put, first_word, summed, first_place, unturned, copied, copied_address, with_copy, with_sum, with_word, taken, brought, either, added, known, using_it, is_spared, with_known, with_more, in_one, before_it, one_or_more, puts_items, led_items, group_items}
 use Rattle.asm_laws.specs.Operations as emitted
 use Rattle.asm_laws.specs.Copies.{lead}
 
@@ -82,20 +82,27 @@ module _ (W : Whole) (F : Frame) (P : List AsmItem → Type 0) (V : ℕ → Type
   abbrev One : Type 0
   One = (i : Instr Imm) → TakesWord V i → P (item.Op i ∷ [])
 
+  -- behind an instruction by which a register takes the word of a place, and behind one that adds another register's word to it
   abbrev Fetched : Type 0
   Fetched = (p : Where) (r : ℕ) (i : Instr Imm) → r < 16 → TakesWord V i → P (fetches F p r ∷ item.Op i ∷ [])
 
-  copy_is : (o : OpT Where) (r w : ℕ) (p : OpT Where) (c : NodesT Where) → r < 16 → V w → P (op_items W F o) → One → Fetched → P (one_or_more W F o (with_copy F r w p c))
+  abbrev Added : Type 0
+  Added = (r q : ℕ) (i : Instr Imm) → r < 16 → q < 16 → TakesWord V i → P (item.Op (instr.Two IADD r (src.Reg q)) ∷ item.Op i ∷ [])
+
+  abbrev Behind : Type 0
+  Behind = Fetched × Added
+
+  copy_is : (o : OpT Where) (r w : ℕ) (p : OpT Where) (c : NodesT Where) → r < 16 → V w → P (op_items W F o) → One → Behind → P (one_or_more W F o (with_copy F r w p c))
   copy_is o r w (TwoO u t a b) c lt fit h one two = go (unturned (turned u) (first_place r t a b))
     where
       go : (x : Option Where) → P (one_or_more W F o (copied F r w u x))
       go None = h
-      go (Some p) = two p r (instr.Two u r (src.Imm (Left w))) lt (lt, fit)
+      go (Some p) = two.0 p r (instr.Two u r (src.Imm (Left w))) lt (lt, fit)
   copy_is o r w (StepO t p n) c lt fit h one two = go (unturned (Some IADD) (first_place r t p n))
     where
       loads : (p : Where) (b : Bool) → P (one_or_more W F o (Some (cond b (2, Some (fetch F p r), instr.Mov (RegAtOff r r (Left w))) (1, Some (fetch F p r), instr.Two IADD r (src.Imm (Left w))))))
-      loads p true = two p r (instr.Mov (RegAtOff r r (Left w))) lt (lt, lt, fit)
-      loads p false = two p r (instr.Two IADD r (src.Imm (Left w))) lt (lt, fit)
+      loads p true = two.0 p r (instr.Mov (RegAtOff r r (Left w))) lt (lt, lt, fit)
+      loads p false = two.0 p r (instr.Two IADD r (src.Imm (Left w))) lt (lt, fit)
 
       go : (x : Option Where) → P (one_or_more W F o (copied_address F r w x c))
       go None = h
@@ -110,27 +117,27 @@ module _ (W : Whole) (F : Frame) (P : List AsmItem → Type 0) (V : ℕ → Type
       go true = one (instr.Mov (RegAtOff r q (Left v))) (lt, fit.0, fit.1)
       go false = one (instr.Lea r q (Some (Left v))) (lt, fit.0, fit.1)
 
-  word_is : (o : OpT Where) (s : Option (ℕ × ℕ)) (p : OpT Where) (c : NodesT Where) → Puts V s → P (op_items W F o) → One → Fetched → P (one_or_more W F o (with_word F s p c))
+  word_is : (o : OpT Where) (s : Option (ℕ × ℕ)) (p : OpT Where) (c : NodesT Where) → Puts V s → P (op_items W F o) → One → Behind → P (one_or_more W F o (with_word F s p c))
   word_is o None p c fit h one two = h
   word_is o (Some (r, w)) p c fit h one two = sum_is o r (summed r w p) (with_copy F r w p c) c fit.0 (summed_fits V r w p fit.1 fit.2) (copy_is o r w p c fit.0 fit.1 h one two) one
 
   -- ---- a known word in a register that is spare
 
   -- behind what comes first, where there is something
-  brought_is : (p : Where) (r : ℕ) (i : Instr Imm) → r < 16 → TakesWord V i → One → Fetched → P (before_it (brought F p r) ++ item.Op i ∷ [])
+  brought_is : (p : Where) (r : ℕ) (i : Instr Imm) → r < 16 → TakesWord V i → One → Behind → P (before_it (brought F p r) ++ item.Op i ∷ [])
   brought_is (Reg q) r i lt t one two = one i t
-  brought_is (Slot k) r i lt t one two = two (Slot k) r i lt t
+  brought_is (Slot k) r i lt t one two = two.0 (Slot k) r i lt t
 
-  either_is : (p a : Where) (i : Instr Imm) → TakesWord V i → One → Fetched → P (before_it (either (brought F p 9) (brought F a 10)) ++ item.Op i ∷ [])
+  either_is : (p a : Where) (i : Instr Imm) → TakesWord V i → One → Behind → P (before_it (either (brought F p 9) (brought F a 10)) ++ item.Op i ∷ [])
   either_is (Reg q) a i t one two = brought_is a 10 i (omega arith) t one two
-  either_is (Slot k) a i t one two = two (Slot k) 9 i (omega arith) t
+  either_is (Slot k) a i t one two = two.0 (Slot k) 9 i (omega arith) t
 
-  taken_is : (p : Where) (r : ℕ) (i : Instr Imm) → r < 16 → TakesWord V i → One → Fetched → P (before_it (taken F p r) ++ item.Op i ∷ [])
+  taken_is : (p : Where) (r : ℕ) (i : Instr Imm) → r < 16 → TakesWord V i → One → Behind → P (before_it (taken F p r) ++ item.Op i ∷ [])
   taken_is p r i lt t one two = go (is_in p r)
     where
       go : (b : Bool) → P (before_it (cond b None (Some (fetch F p r))) ++ item.Op i ∷ [])
       go true = one i t
-      go false = two p r i lt t
+      go false = two.0 p r i lt t
 
   hand_low : (p : Where) (r : ℕ) → r < 16 → hand p r < 16
   hand_low (Reg q) r lt = omega arith
@@ -141,7 +148,7 @@ module _ (W : Whole) (F : Frame) (P : List AsmItem → Type 0) (V : ℕ → Type
   added_is ISUB w h g v e = let n : sub 0 w ≡ v = cc in subst V n g
   added_is _ w h g v e = absurd cc
 
-  known_is : (o : TwoOf) (t : ℕ) (p : Where) (w : ℕ) (z : Option ℕ) → t < 16 → V w → ((v : ℕ) → z ≡ Some v → V v) → One → Fetched → P (before_it (known F o t p w z).0 ++ item.Op (known F o t p w z).1 ∷ [])
+  known_is : (o : TwoOf) (t : ℕ) (p : Where) (w : ℕ) (z : Option ℕ) → t < 16 → V w → ((v : ℕ) → z ≡ Some v → V v) → One → Behind → P (before_it (known F o t p w z).0 ++ item.Op (known F o t p w z).1 ∷ [])
   known_is o t (Reg q) w (Some v) lt h g one two = one (instr.Lea t (register q) (Some (Left v))) (lt, omega arith, g v refl)
   known_is o t (Reg q) w None lt h g one two = taken_is (Reg q) t (instr.Two o t (src.Imm (Left w))) lt (lt, h) one two
   known_is o t (Slot k) w (Some v) lt h g one two = taken_is (Slot k) t (instr.Two o t (src.Imm (Left w))) lt (lt, h) one two
@@ -151,13 +158,15 @@ module _ (W : Whole) (F : Frame) (P : List AsmItem → Type 0) (V : ℕ → Type
   abbrev Low : Used → Type 0
   Low (Computed o t p) = t < 16
   Low (Loaded t p) = t < 16
+  Low (Indexed t q) = (t < 16) × (q < 16)
   Low (Stored p a) = Unit {0}
   Low (Sent port) = Unit {0}
 
-  used_is : (w : ℕ) (u : Used) → Low u → V w → V (sub 0 w) → One → Fetched → P (before_it (using_it F w u).0 ++ item.Op (using_it F w u).1 ∷ [])
+  used_is : (w : ℕ) (u : Used) → Low u → V w → V (sub 0 w) → One → Behind → P (before_it (using_it F w u).0 ++ item.Op (using_it F w u).1 ∷ [])
   used_is w (Computed o t p) lt h g one two = known_is o t p w (added o w) lt h (added_is o w h g) one two
   used_is w (Loaded t None) lt h g one two = one (instr.Mov (RegAt t (Left w))) (lt, h)
   used_is w (Loaded t (Some p)) lt h g one two = brought_is p 9 (instr.Mov (RegAtOff t (hand p 9) (Left w))) (omega arith) (lt, hand_low p 9 (omega arith), h) one two
+  used_is w (Indexed t q) lt h g one two = two.1 t q (instr.Mov (RegAtOff t t (Left w))) lt.0 lt.1 (lt.0, lt.0, h)
   used_is w (Stored None a) lt h g one two = brought_is a 10 (instr.Mov (AtReg (Left w) (hand a 10))) (omega arith) (hand_low a 10 (omega arith), h) one two
   used_is w (Stored (Some p) a) lt h g one two = either_is p a (instr.Mov (AtOffReg (hand p 9) (Left w) (hand a 10))) (hand_low p 9 (omega arith), hand_low a 10 (omega arith), h) one two
   used_is w (Sent port) lt h g one two = one (instr.Out (emitted.port port) (src.Imm (Left w))) (omega arith, h)
@@ -189,30 +198,61 @@ module _ (W : Whole) (F : Frame) (P : List AsmItem → Type 0) (V : ℕ → Type
   sum_low None c = tt
   sum_low (Some p) c = address_low 2 (Some p) c
 
+  index_low : (t : ℕ) (x : Option ℕ) → t < 16 → ((q : ℕ) → x ≡ Some q → q < 16) → AllLow (index t x)
+  index_low t None lt h = tt
+  index_low t (Some q) lt h = if_low (q == 8) (Some (3, Indexed t q)) (lt, h q refl)
+
+  other_low : (r q : ℕ) (t a b : Where) → other_word r t a b ≡ Some q → q < 16
+  other_low r q (Reg t) (Reg a) (Reg b) = go (register t == r) (register a == r) (register b == r)
+    where
+      go : (x y z : Bool) → cond x (cond y (cond z None (Some (register b))) (cond z (Some (register a)) None)) None ≡ Some q → q < 16
+      go false y z e = absurd cc
+      go true true true e = absurd cc
+      go true true false e = let n : register b ≡ q = cc in omega (arith, n)
+      go true false true e = let n : register a ≡ q = cc in omega (arith, n)
+      go true false false e = absurd cc
+  other_low r q (Slot k) a b = λ e. absurd cc
+  other_low r q (Reg t) (Slot k) b = λ e. absurd cc
+  other_low r q (Reg t) (Reg a) (Slot k) = λ e. absurd cc
+
+  behind_low : (t : ℕ) (c : NodesT Where) → t < 16 → AllLow (index_behind t c)
+  behind_low t (Do (StepO u p q) c) lt = when_low (loads_there t c) (index t (other_word t u p q)) (index_low t (other_word t u p q) lt (λ k e. other_low t k u p q e))
+  behind_low t _ lt = tt
+
+  indexed_low : (t : Where) (z : Option Where) (c : NodesT Where) → AllLow (indexed t z c)
+  indexed_low (Reg t) (Some (Reg q)) c = when_low (register q == register t) (index_behind (register t) c) (behind_low (register t) c (omega arith))
+  indexed_low (Reg t) (Some (Slot k)) c = tt
+  indexed_low (Reg t) None c = tt
+  indexed_low (Slot k) z c = tt
+
+  else_low : (x y : Option (ℕ × Used)) → AllLow x → AllLow y → AllLow (or_else x y)
+  else_low None y h g = g
+  else_low (Some x) y h g = h
+
   pub used_low : (c : NodesT Where) → AllLow (used_by c)
   used_low (Do (TwoO o t p q) c) = computed_low t (operand o p q)
   used_low (Do (StepO t p q) c) = go (is_in t 8)
     where
-      go : (b : Bool) → AllLow (cond b (at_sum (beside p q) c) (spare.computed t (operand IADD p q)))
+      go : (b : Bool) → AllLow (cond b (at_sum (beside p q) c) (or_else (indexed t (beside p q) c) (spare.computed t (operand IADD p q))))
       go true = sum_low (beside p q) c
-      go false = computed_low t (operand IADD p q)
+      go false = else_low (indexed t (beside p q) c) (spare.computed t (operand IADD p q)) (indexed_low t (beside p q) c) (computed_low t (operand IADD p q))
   used_low (Do (OutO port p) c) = when_low (is_in p 8) (Some (1, Sent port)) tt
   used_low c = address_low 1 None c
 
-  with_known_is : (o : OpT Where) (s : Option (ℕ × ℕ)) (x : Option (ℕ × Used)) → AllLow x → Puts V s → P (op_items W F o) → One → Fetched → P (one_or_more W F o (with_known F s x))
+  with_known_is : (o : OpT Where) (s : Option (ℕ × ℕ)) (x : Option (ℕ × Used)) → AllLow x → Puts V s → P (op_items W F o) → One → Behind → P (one_or_more W F o (with_known F s x))
   with_known_is o None x low fit h one two = h
   with_known_is o (Some (r, w)) None low fit h one two = h
   with_known_is o (Some (r, w)) (Some (k, u)) low fit h one two = used_is w u low fit.1 fit.2 one two
 
-  more_is : (o : OpT Where) (s : Option (ℕ × ℕ)) (p : OpT Where) (c : NodesT Where) → Puts V s → P (op_items W F o) → One → Fetched → P (one_or_more W F o (with_more F s p c))
+  more_is : (o : OpT Where) (s : Option (ℕ × ℕ)) (p : OpT Where) (c : NodesT Where) → Puts V s → P (op_items W F o) → One → Behind → P (one_or_more W F o (with_more F s p c))
   more_is o s p c fit h one two = go (is_spared F s)
     where
       go : (b : Bool) → P (one_or_more W F o (cond b (with_known F s (used_by (Do p c))) (with_word F s p c)))
       go true = with_known_is o s (used_by (Do p c)) (used_low (Do p c)) fit h one two
       go false = word_is o s p c fit h one two
 
-  -- what holds of the items of an operation, and of each such instruction, alone and behind one that fetches a word, holds of what is done
-  pub one_or_more_is : (o : OpT Where) (c : NodesT Where) → ((t : Where) (n : ℕ) → o ≡ ConstO t n → V n × V (sub 0 n)) → ((t : Where) (k : ℕ) → o ≡ GlobalO t k → V (get_or W.globals k 0) × V (sub 0 (get_or W.globals k 0))) → P (op_items W F o) → One → Fetched → P (one_or_more W F o (in_one W F o c))
+  -- what holds of the items of an operation, and of each such instruction, alone and behind one that fetches or adds a word, holds of what is done
+  pub one_or_more_is : (o : OpT Where) (c : NodesT Where) → ((t : Where) (n : ℕ) → o ≡ ConstO t n → V n × V (sub 0 n)) → ((t : Where) (k : ℕ) → o ≡ GlobalO t k → V (get_or W.globals k 0) × V (sub 0 (get_or W.globals k 0))) → P (op_items W F o) → One → Behind → P (one_or_more W F o (in_one W F o c))
   unfolding in_one
   one_or_more_is o (Do p c) f g h one two = more_is o (word_put W o) p c (put_is V W o f g) h one two
   one_or_more_is o _ f g h one two = h

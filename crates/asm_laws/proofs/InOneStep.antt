@@ -25,8 +25,8 @@ use Rattle.mid_code.specs.declared.placed.Where.{Where}
 use Rattle.mid_code.specs.declared.placed.Where.TheVariants.{Reg, Slot}
 use Rattle.mid_code.specs.Code.{OpT, TwoO, StepO, LoadO}
 use Rattle.mid_code.specs.States.{op_weight}
-use Rattle.asm_laws.specs.Operations.{Frame, Whole, fetch, fetches, other_word, first_word, summed, first_place, unturned}
-use Rattle.asm_laws.specs.Pieces.{register, is_in}
+use Rattle.asm_laws.specs.Operations.{Frame, Whole, fetch, fetches, first_word, summed, first_place, unturned}
+use Rattle.asm_laws.specs.Pieces.{register, is_in, other_word}
 use Rattle.asm_laws.specs.Placing.{Line}
 use Rattle.asm_laws.specs.Standing.{Stand}
 use Rattle.asm_laws.specs.Addresses.{Addr, Console, readable, word_of, put, Room, Good, GoodOp, Goes, computed, loaded, does, Held, Follows}
@@ -34,7 +34,7 @@ use Rattle.asm_laws.proofs.Stepping.{same_or_not, written_same, written_other, r
 use Rattle.asm_laws.proofs.Hands.{with_reg, held_alike}
 use Rattle.asm_laws.proofs.OperationsStep.{later, faults_like, sum_turned}
 
-both : (x y : Bool) → x && y ≡ true → (x ≡ true) × (y ≡ true)
+pub both : (x y : Bool) → x && y ≡ true → (x ≡ true) × (y ≡ true)
 both true true e = (refl, refl)
 both true false e = absurd cc
 both false y e = absurd cc

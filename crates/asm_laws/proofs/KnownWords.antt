@@ -13,12 +13,13 @@ use Rattle.mid_code.specs.Code.{NodesT, Stop, Do, Call, Choose, Block, Loop, Lea
 use Rattle.mid_code.specs.Meaning.{Did, On, Ends}
 use Rattle.mid_code.specs.States.{State}
 use Rattle.asm_laws.specs.declared.used.Used.{Used}
+use Rattle.asm_laws.specs.declared.used.Used.TheVariants.{Indexed}
 use Rattle.asm_laws.specs.declared.copying.Copying.{Copying}
-use Rattle.asm_laws.specs.Pieces.{register, is_in, turned}
-use Rattle.asm_laws.specs.Spare.{beside, operand, in_slots, at_address, at_sum, used_by}
+use Rattle.asm_laws.specs.Pieces.{register, is_in, turned, other_word, loads_there}
+use Rattle.asm_laws.specs.Spare.{beside, operand, in_slots, at_address, at_sum, index, index_behind, indexed, or_else, used_by}
 use Rattle.asm_laws.specs.Spare as groups
 use Rattle.asm_laws.specs.Copies.{copy_of, last_put, is_count, is_one, lead}
-use Rattle.asm_laws.specs.Operations.{Frame, Whole, word_put, summed, loads_there, first_place, unturned, copied, copied_address, with_copy, with_sum, with_word, is_spared, with_known, in_one, more_of, led_more}
+use Rattle.asm_laws.specs.Operations.{Frame, Whole, word_put, summed, first_place, unturned, copied, copied_address, with_copy, with_sum, with_word, is_spared, with_known, in_one, more_of, led_more}
 use Rattle.asm_laws.specs.inner.Following.{knows}
 use Rattle.asm_laws.specs.Holds.{Setting}
 use Rattle.asm_laws.specs.Calling.{lang, holder, shapes}
@@ -61,13 +62,40 @@ sum_ops : (x : Option Where) (p : OpT Where) (c : NodesT Where) → AllOps (at_s
 sum_ops None p c = tt
 sum_ops (Some x) p c = two_ops (Some x) p c
 
+loads_ops : (r : ℕ) (c : NodesT Where) → loads_there r c ≡ true → AreOps 1 c
+loads_ops r (Do (LoadO (Reg t) (Reg p)) c) e = tt
+loads_ops r _ e = absurd cc
+
+index_ops : (t : ℕ) (p : OpT Where) (c : NodesT Where) → AllOps (index_behind t c) (Do p c)
+index_ops t p (Do (StepO u a b) c) = go (loads_there t c) refl (other_word t u a b)
+  where
+    other : (q : ℕ) (f : Bool) → AreOps 1 c → AllOps (cond f None (Some (3, Indexed t q))) (Do p (Do (StepO u a b) c))
+    other q true h = tt
+    other q false h = h
+
+    go : (f : Bool) → loads_there t c ≡ f → (x : Option ℕ) → AllOps (cond f (index t x) None) (Do p (Do (StepO u a b) c))
+    go false e x = tt
+    go true e None = tt
+    go true e (Some q) = other q (q == 8) (loads_ops t c e)
+index_ops t p _ = tt
+
+indexed_ops : (t : Where) (z : Option Where) (p : OpT Where) (c : NodesT Where) → AllOps (indexed t z c) (Do p c)
+indexed_ops (Reg t) (Some (Reg q)) p c = when_ops (register q == register t) (index_behind (register t) c) (Do p c) (index_ops (register t) p c)
+indexed_ops (Reg t) (Some (Slot k)) p c = tt
+indexed_ops (Reg t) None p c = tt
+indexed_ops (Slot k) z p c = tt
+
+else_ops : (x y : Option (ℕ × Used)) (c : NodesT Where) → AllOps x c → AllOps y c → AllOps (or_else x y) c
+else_ops None y c h g = g
+else_ops (Some x) y c h g = h
+
 used_ops : (c : NodesT Where) → AllOps (used_by c) c
 used_ops (Do (TwoO o t p q) c) = computed_ops t (operand o p q) (TwoO o t p q) c
 used_ops (Do (StepO t p q) c) = go (is_in t 8)
   where
-    go : (b : Bool) → AllOps (cond b (at_sum (beside p q) c) (groups.computed t (operand IADD p q))) (Do (StepO t p q) c)
+    go : (b : Bool) → AllOps (cond b (at_sum (beside p q) c) (or_else (indexed t (beside p q) c) (groups.computed t (operand IADD p q)))) (Do (StepO t p q) c)
     go true = sum_ops (beside p q) (StepO t p q) c
-    go false = computed_ops t (operand IADD p q) (StepO t p q) c
+    go false = else_ops (indexed t (beside p q) c) _ (Do (StepO t p q) c) (indexed_ops t (beside p q) (StepO t p q) c) (computed_ops t (operand IADD p q) (StepO t p q) c)
 used_ops (Do (OutO port p) c) = when_ops (is_in p 8) _ (Do (OutO port p) c) tt
 used_ops c = one_ops None c
 
@@ -75,10 +103,6 @@ known_ops : (F : Frame) (put : Option (ℕ × ℕ)) (x : Option (ℕ × Used)) (
 known_ops F None x c h = tt
 known_ops F (Some (r, w)) None c h = tt
 known_ops F (Some (r, w)) (Some (k, u)) c h = h
-
-loads_ops : (r : ℕ) (c : NodesT Where) → loads_there r c ≡ true → AreOps 1 c
-loads_ops r (Do (LoadO (Reg t) (Reg p)) c) e = tt
-loads_ops r _ e = absurd cc
 
 copy_ops : (F : Frame) (r w : ℕ) (p : OpT Where) (c : NodesT Where) → AreOps (more_of (with_copy F r w p c)) (Do p c)
 copy_ops F r w (TwoO u t a b) c = go (unturned (turned u) (first_place r t a b))

@@ -15,7 +15,7 @@ use Rattle.v32_isa.specs.State.{register_of, going_to, written}
 use Rattle.v32_isa.specs.Arithmetic.{two_of}
 use Rattle.v32_isa.specs.declared.instruction.Two.{Two as TwoOf}
 use Rattle.kit_base.specs.declared.event.Event.TheVariants as event
-use Rattle.std.proofs.lemmas.Bool.{eqb-true}
+use Rattle.std.proofs.lemmas.Bool.{eqb-true, eqb-false}
 use Rattle.asm_items.specs.declared.item.AsmItem.TheVariants as item
 use Rattle.mid_code.specs.Code.{uses, maybe}
 use Rattle.mid_code.specs.Invariants.{AllOf}
@@ -36,12 +36,12 @@ use Rattle.mid_code.specs.declared.placed.Where.TheVariants.{Reg, Slot}
 use Rattle.mid_code.specs.Code.{NodesT, Stop, Do, Call, Choose, Block, Loop, Leave, Again, Return, OpT, ConstO, NullO, MoveO, OneO, TwoO, GlobalO, LocalO, LiteralO, CardO, StepO, ApartO, PtrTestO, LoadO, StoreO, FreshO, EndO, InO, OutO, WaitO, HaltO}
 use Rattle.mid_code.specs.Meaning.{Did, On, Ends, node_weight}
 use Rattle.mid_code.specs.States.{State, spent, op_weight, word_tested, registers_and_slots, acted}
-use Rattle.asm_laws.specs.Operations.{Frame, fetch, hand, word_put, summed, loads_there, first_place, unturned, copied, copied_address, with_copy, with_sum, with_word, using_it, is_spared, with_known, with_more, in_one, before_it, one_or_more, more_of, op_items, puts_items, led_items, led_more}
+use Rattle.asm_laws.specs.Operations.{Frame, fetch, hand, word_put, summed, first_place, unturned, copied, copied_address, with_copy, with_sum, with_word, using_it, is_spared, with_known, with_more, in_one, before_it, one_or_more, more_of, op_items, puts_items, led_items, led_more}
 use Rattle.asm_laws.specs.declared.used.Used.{Used}
-use Rattle.asm_laws.specs.declared.used.Used.TheVariants.{Computed, Loaded, Stored, Sent}
-use Rattle.asm_laws.specs.Spare.{beside, operand, in_slots, at_address, at_sum, used_by, puts, Stays, Sparing}
+use Rattle.asm_laws.specs.declared.used.Used.TheVariants.{Computed, Loaded, Indexed, Stored, Sent}
+use Rattle.asm_laws.specs.Spare.{beside, operand, in_slots, at_address, at_sum, index, index_behind, indexed, or_else, used_by, puts, Stays, Sparing}
 use Rattle.asm_laws.specs.Spare as groups
-use Rattle.asm_laws.specs.Pieces.{register, is_in, turned}
+use Rattle.asm_laws.specs.Pieces.{register, is_in, turned, other_word, loads_there}
 use Rattle.asm_laws.specs.Placing.{Line, Jumps, Passes}
 use Rattle.asm_laws.specs.inner.Following.{Begin, begin, spare, Came, Stopped, DidSim, TestSim, did_then, front_acts}
 use Rattle.asm_laws.specs.Standing.{Stand}
@@ -55,10 +55,11 @@ use Rattle.asm_laws.proofs.Leads.{puts_before, puts_elim, lead_is}
 use Rattle.asm_laws.proofs.Control.{earlier_did, here, did_on}
 use Rattle.asm_laws.proofs.Hands.{with_reg, hand_fits, brings_at}
 use Rattle.asm_laws.proofs.OperationsStep.{op_follows, sum_turned, TurnsTo, turns}
+use Rattle.asm_laws.proofs.Lists.{below_or_not}
 use Rattle.asm_laws.proofs.Alongside.{Alongside, word_alike, written_alike, computed_alike, loaded_alike, saved_alike, does_alongside}
 use Rattle.asm_laws.proofs.Spared.{FrontStays, other_stays, uses_stay, old_stays, spared_is}
-use Rattle.asm_laws.proofs.UsedStep.{address_with, computed_follows, loaded_follows, stored_follows, sent_follows}
-use Rattle.asm_laws.proofs.InOneStep.{Sums, sums, lea_follows, load_follows, Copies, copies, Stepped, step_is, two_copied, step_copied, load_copied}
+use Rattle.asm_laws.proofs.UsedStep.{address_with, computed_follows, loaded_follows, indexed_follows, stored_follows, sent_follows}
+use Rattle.asm_laws.proofs.InOneStep.{both, twice, Sums, sums, lea_follows, load_follows, Copies, copies, Stepped, step_is, two_copied, step_copied, load_copied}
 use Rattle.asm_laws.specs.Holds.{Setting, sizes, Named, Fits, Ctx, Stands}
 use Rattle.asm_laws.specs.Acting.{Holds, DoesAs, Fitting, FrontFits}
 use Rattle.asm_laws.specs.Calling.{Mach, Given, lang, holder, GivingAt, shapes}
@@ -488,14 +489,99 @@ module _ (S : Setting) (fits : Fits S) where
           passes κ s1 m (with_reg 8 w a) (with_reg 8 v (with_reg 8 w a)) (op_weight u) p (acted registers_and_slots (sizes S) u s2) (front_acts (lang S) c 1) (subst (λ d. DoesAs S κ s2 (with_reg 8 w a) (acted registers_and_slots (sizes S) u s2) d) so (acts S fits κ s2 h1.place (with_reg 8 w a) h1.at u ff.0))
           (λ s3 h3. ends s3 h3 (good S fits κ z f.0, tt) ff.1 st)))
 
-      sum_behind : (t x y : Where) (c : NodesT Where) → is_in t 8 ≡ true → Done o (Do (StepO t x y) c) (with_known (Of κ) (Some (8, w)) (at_sum (beside x y) c))
-      sum_behind t x y c is = go (is_in x 8) refl (is_in y 8) refl
+      -- a sum with the known word is that of the other place's word and it
+      abbrev SumIs : (t x y : Where) → Option Where → Type 0
+      SumIs t x y None = Unit {0}
+      SumIs t x y (Some z) = Fitting S κ.fn (StepO t x y) → Named S κ.fn z × (add (word_of (Of κ) x (with_reg 8 w a)) (word_of (Of κ) y (with_reg 8 w a)) ≡ add (word_of (Of κ) z b) w)
+
+      sum_is : (t x y : Where) → SumIs t x y (beside x y)
+      sum_is t x y = go (is_in x 8) refl (is_in y 8) refl
         where
-          go : (f : Bool) → is_in x 8 ≡ f → (g : Bool) → is_in y 8 ≡ g → Done o (Do (StepO t x y) c) (with_known (Of κ) (Some (8, w)) (at_sum (cond f (cond g None (Some y)) (cond g (Some x) None)) c))
-          go true ex true ey = one_done o (Do (StepO t x y) c) fit stays
-          go false ex false ey = one_done o (Do (StepO t x y) c) fit stays
-          go true ex false ey = summed_done t x y y c is (λ n. (n.2, (λ i. add (there x w a n.1 ex i) (elsewhere y n.2 ey i)) ∙ sum_turned (word_of (Of κ) y b) w))
-          go false ex true ey = summed_done t x y x c is (λ n. (n.1, λ i. add (elsewhere x n.1 ex i) (there y w a n.2 ey i)))
+          go : (f : Bool) → is_in x 8 ≡ f → (g : Bool) → is_in y 8 ≡ g → SumIs t x y (cond f (cond g None (Some y)) (cond g (Some x) None))
+          go true ex true ey = tt
+          go false ex false ey = tt
+          go true ex false ey = λ n. (n.2, (λ i. add (there x w a n.1 ex i) (elsewhere y n.2 ey i)) ∙ sum_turned (word_of (Of κ) y b) w)
+          go false ex true ey = λ n. (n.1, λ i. add (elsewhere x n.1 ex i) (there y w a n.2 ey i))
+
+      sum_behind : (t x y : Where) (c : NodesT Where) → is_in t 8 ≡ true → Done o (Do (StepO t x y) c) (with_known (Of κ) (Some (8, w)) (at_sum (beside x y) c))
+      sum_behind t x y c is = go (beside x y) (sum_is t x y)
+        where
+          go : (z : Option Where) → SumIs t x y z → Done o (Do (StepO t x y) c) (with_known (Of κ) (Some (8, w)) (at_sum z c))
+          go None f = one_done o (Do (StepO t x y) c) fit stays
+          go (Some z) f = summed_done t x y z c is f
+
+      -- behind a sum of a register's own word and the known one, which stands there too: a sum with another register's, and a load from there into it
+      index_case : (t : ℕ) (Q : NodesT Where → Option (ℕ × Used) → Type 0) → ((c : NodesT Where) → Q c None) →
+          ((u i j : Where) (d g q : ℕ) (c : NodesT Where) → other_word t u i j ≡ Some q → (q == 8) ≡ false → (register d == t) && (register g == t) ≡ true → Q (Do (StepO u i j) (Do (LoadO (Reg d) (Reg g)) c)) (Some (3, Indexed t q))) →
+          (c : NodesT Where) → Q c (index_behind t c)
+      index_case t Q none some (Do (StepO u i j) (Do (LoadO (Reg d) (Reg g)) c)) = go ((register d == t) && (register g == t)) refl (other_word t u i j) refl
+        where
+          apart : (q : ℕ) (f : Bool) → (q == 8) ≡ f → other_word t u i j ≡ Some q → (register d == t) && (register g == t) ≡ true → Q (Do (StepO u i j) (Do (LoadO (Reg d) (Reg g)) c)) (cond f None (Some (3, Indexed t q)))
+          apart q true is other there = none _
+          apart q false is other there = some u i j d g q c other is there
+
+          go : (f : Bool) → (register d == t) && (register g == t) ≡ f → (x : Option ℕ) → other_word t u i j ≡ x → Q (Do (StepO u i j) (Do (LoadO (Reg d) (Reg g)) c)) (cond f (index t x) None)
+          go false there x other = none _
+          go true there None other = none _
+          go true there (Some q) other = apart q (q == 8) refl other there
+      index_case t Q none some c = none c
+
+      three_summed : (x y z : ℕ) → add (add x y) z ≡ add y (add x z)
+      three_summed x y z = omega arith
+
+      index_done : (t z q d g : ℕ) (x y u i j : Where) (c : NodesT Where) → (register t == 8) ≡ false → (register z == register t) ≡ true → SumIs (Reg t) x y (Some (Reg z)) → other_word (register t) u i j ≡ Some q → (q == 8) ≡ false → (register d == register t) && (register g == register t) ≡ true →
+          Done o (Do (StepO (Reg t) x y) (Do (StepO u i j) (Do (LoadO (Reg d) (Reg g)) c))) (with_known (Of κ) (Some (8, w)) (Some (3, Indexed (register t) q)))
+      unfolding does
+      index_done t z q d g x y u i j c apart same is other elsewhere_q there ff st =
+          let one = StepO (Reg t) x y in
+          let two = StepO u i j in
+          let load = LoadO (Reg d) (Reg g) in
+          let lt : t < 9 = ff.0.0 in
+          let f = is ff.0 in
+          let lz : z < 9 = f.0 in
+          let equal : register z ≡ register t = eqb-true (register z) (register t) same in
+          let z_is : z ≡ t = omega (arith, lz, lt, equal) in
+          let v = add (h.registers z) w in
+          let a1 = with_reg 8 w a in
+          let a2 = with_reg t v a1 in
+          let made = sums C S.address S.whole (Of κ) a1 t v two q v lt (good_op κ two ff.1.0) (ap (λ r. option_map (λ k. (k, v)) r) other) in
+          let low = made.low in
+          let stays_q : q < Number κ = below_eight q low elsewhere_q in
+          let n = add (a1.regs q) v in
+          let a3 = with_reg t n a2 in
+          let m1 = add (add (h.registers t) (h.registers q)) w in
+          let n_is : m1 ≡ n = three_summed (h.registers t) (h.registers q) w ∙ (λ k. add (spared_like w q stays_q k) (add (h.registers (sym z_is k)) w)) in
+          put_done o 8 w (front_acts (lang S) (Do one (Do two (Do load c))) 3) fit puts (λ s1 h1.
+          let s2 = spent (op_weight one) s1 in
+          passes κ s1 m a1 a2 (op_weight one) p (acted registers_and_slots (sizes S) one s2) (front_acts (lang S) (Do two (Do load c)) 2)
+          (subst (λ e. DoesAs S κ s2 a1 (acted registers_and_slots (sizes S) one s2) e) (ap (λ r. words.Goes [] s1.world.store.answers (with_reg t r a1)) f.1) (acts S fits κ s2 h1.place a1 h1.at one ff.0))
+          (λ s3 h3.
+          let s4 = spent (op_weight two) s3 in
+          passes κ s3 m a2 a3 (op_weight two) p (acted registers_and_slots (sizes S) two s4) (front_acts (lang S) (Do load c) 1)
+          (subst (λ e. DoesAs S κ s4 a2 (acted registers_and_slots (sizes S) two s4) e) (made.so s3.world.store.answers) (acts S fits κ s4 h3.place a2 h3.at two ff.1.0))
+          (λ s5 h5. alone κ m (begin (holder S) s5) p c ((lang S).act load s5)
+          (last_sim κ p load s5 m a3 (written h.registers t m1)
+          (λ r lr. written_alike C S.address S.whole (Of κ) (Number κ) a1 h.registers (spared_like w) t m1 r lr ∙ ap (λ k. written a1.regs t k r) n_is ∙ twice a1.regs t n v r)
+          h5 ff.1.1.0 (other_stays S κ.fn (Number κ) (Reg g) eight ff.1.1.0.1 (ap (λ r. r == 8) (eqb-true (register g) (register t) (both (register d == register t) (register g == register t) there).1) ∙ apart), tt)
+          (indexed_follows C S.address (Of κ) b roomy S.whole t q w d g m s5.world.store.answers pc p lt low ff.1.1.0.0 ff.1.1.0.1 there h.held e st)))))
+        where
+          below_eight : (q : ℕ) → q < 9 → (q == 8) ≡ false → q < Number κ
+          below_eight q lt ne = elim (below_or_not q 8) [
+            | inl le ↦ omega (arith, le, eight)
+            | inr ge ↦ let same : q ≡ 8 = omega (arith, ge, lt) in absurd (eqb-false q 8 ne same)
+          ]
+
+      indexed_done : (t x y : Where) (z : Option Where) (rest : Option (ℕ × Used)) (c : NodesT Where) → is_in t 8 ≡ false → SumIs t x y z → Done o (Do (StepO t x y) c) (with_known (Of κ) (Some (8, w)) rest) → Done o (Do (StepO t x y) c) (with_known (Of κ) (Some (8, w)) (or_else (indexed t z c) rest))
+      indexed_done (Reg t) x y (Some (Reg z)) rest c apart is done = go (register z == register t) refl
+        where
+          go : (f : Bool) → (register z == register t) ≡ f → Done o (Do (StepO (Reg t) x y) c) (with_known (Of κ) (Some (8, w)) (or_else (cond f (index_behind (register t) c) None) rest))
+          go false same = done
+          go true same =
+              index_case (register t) (λ c k. Done o (Do (StepO (Reg t) x y) c) (with_known (Of κ) (Some (8, w)) rest) → Done o (Do (StepO (Reg t) x y) c) (with_known (Of κ) (Some (8, w)) (or_else k rest)))
+              (λ c d. d) (λ u i j d g q c other elsewhere_q there rest_done. index_done t z q d g x y u i j c apart same is other elsewhere_q there) c done
+      indexed_done (Reg t) x y (Some (Slot k)) rest c apart is done = done
+      indexed_done (Reg t) x y None rest c apart is done = done
+      indexed_done (Slot k) x y z rest c apart is done = done
 
       sent_done : (port : ℕ) (q : Where) (c : NodesT Where) → Done o (Do (OutO port q) c) (with_known (Of κ) (Some (8, w)) (cond (is_in q 8) (Some (1, Sent port)) None))
       unfolding does
@@ -519,9 +605,9 @@ module _ (S : Setting) (fits : Fits S) where
       used_done (TwoO i t x y) c = operand_done (TwoO i t x y) c i x y refl t (λ n. n) (λ ys d. refl)
       used_done (StepO t x y) c = go (is_in t 8) refl
         where
-          go : (f : Bool) → is_in t 8 ≡ f → Done o (Do (StepO t x y) c) (with_known (Of κ) (Some (8, w)) (cond f (at_sum (beside x y) c) (groups.computed t (operand IADD x y))))
+          go : (f : Bool) → is_in t 8 ≡ f → Done o (Do (StepO t x y) c) (with_known (Of κ) (Some (8, w)) (cond f (at_sum (beside x y) c) (or_else (indexed t (beside x y) c) (groups.computed t (operand IADD x y)))))
           go true is = sum_behind t x y c is
-          go false is = operand_done (StepO t x y) c IADD x y refl t (λ n. n) (λ ys d. refl)
+          go false is = indexed_done t x y (beside x y) (groups.computed t (operand IADD x y)) c is (sum_is t x y) (operand_done (StepO t x y) c IADD x y refl t (λ n. n) (λ ys d. refl))
       used_done (OutO port q) c = sent_done port q c
       used_done (LoadO t q) c = address_done (LoadO t q) c
       used_done (StoreO q y) c = address_done (StoreO q y) c

@@ -10,9 +10,9 @@ use Rattle.mid_code.specs.declared.placed.Where.TheVariants.{Reg, Slot}
 use Rattle.mid_code.specs.Code.{OpT, ConstO, NullO, MoveO, OneO, TwoO, GlobalO, LocalO, LiteralO, CardO, StepO, ApartO, PtrTestO, LoadO, StoreO, FreshO, EndO, InO, OutO, WaitO, HaltO, NodesT, Stop, Do, Call, Choose, Block, Loop, Leave, Again, Return, uses}
 use Rattle.mid_code.specs.Invariants.{AllOf}
 use Rattle.asm_laws.specs.declared.used.Used.{Used}
-use Rattle.asm_laws.specs.Pieces.{register, is_in, turned}
+use Rattle.asm_laws.specs.Pieces.{register, is_in, turned, loads_there}
 use Rattle.asm_laws.specs.Spare.{used_by, puts, count, group, are_others, spares, held_registers, Stays, Sparing}
-use Rattle.asm_laws.specs.Operations.{Frame, Whole, word_put, summed, loads_there, first_place, unturned, copied, copied_address, with_copy, with_sum, with_word, is_spared, with_known, in_one, more_of}
+use Rattle.asm_laws.specs.Operations.{Frame, Whole, word_put, summed, first_place, unturned, copied, copied_address, with_copy, with_sum, with_word, is_spared, with_known, in_one, more_of}
 use Rattle.asm_laws.specs.Holds.{Setting, Named}
 use Rattle.asm_laws.specs.Acting.{Fitting, FrontFits}
 use Rattle.asm_laws.proofs.Lists.{below_or_not}

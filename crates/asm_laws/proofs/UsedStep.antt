@@ -1,5 +1,6 @@
 -- Instructions that use a known word are followed by the machine.
-use Rattle.std.proofs.Common.{◌≡◌, ℕ, ◌<◌, ◌≤◌, Bool, true, false, cond, List, [], ◌∷◌, ◌++◌, Option, Some, None, refl, sym, ap, ◌∙◌, subst, arith}
+use Rattle.std.proofs.Common.{◌≡◌, ℕ, ◌<◌, ◌≤◌, ◌==◌, Bool, true, false, cond, List, [], ◌∷◌, ◌++◌, Option, Some, None, refl, sym, ap, ◌∙◌, subst, arith}
+use Rattle.std.specs.Prelude.{◌&&◌}
 use Rattle.either.specs.declared.Either.TheVariants.{Left}
 use Rattle.kit_base.specs.Word.{add, sub}
 use Rattle.kit_base.specs.declared.event.Event.TheVariants as event
@@ -22,20 +23,20 @@ use Rattle.asm_items.specs.declared.item.AsmItem.{AsmItem}
 use Rattle.asm_items.specs.declared.item.AsmItem.TheVariants as item
 use Rattle.mid_code.specs.declared.placed.Where.{Where}
 use Rattle.mid_code.specs.declared.placed.Where.TheVariants.{Reg, Slot}
-use Rattle.mid_code.specs.Code.{maybe}
+use Rattle.mid_code.specs.Code.{LoadO, maybe}
 use Rattle.mid_code.specs.Invariants.{AllOf}
 use Rattle.asm_laws.specs.Pieces.{register, is_in}
 use Rattle.asm_laws.specs.Spare.{in_slots}
-use Rattle.asm_laws.specs.declared.used.Used.TheVariants.{Computed, Loaded, Stored}
-use Rattle.asm_laws.specs.Operations.{Frame, fetch, fetches, hand, brings, takes, before_it, taken, brought, either, added, known, using_it}
+use Rattle.asm_laws.specs.declared.used.Used.TheVariants.{Computed, Loaded, Indexed, Stored}
+use Rattle.asm_laws.specs.Operations.{Frame, Whole, fetch, fetches, hand, brings, takes, before_it, taken, brought, either, added, known, using_it}
 use Rattle.asm_laws.specs.Operations as emitted
 use Rattle.asm_laws.specs.Placing.{Line}
 use Rattle.asm_laws.specs.Standing.{Stand}
-use Rattle.asm_laws.specs.Addresses.{Addr, Console, readable, writable, word_of, Room, Good, Goes, computed, loaded, saved, Held, Follows}
-use Rattle.asm_laws.proofs.Stepping.{readable_word, unreadable_word, writes_at, line_effect, line_turn, took, kept, moved, stores, reg_number}
+use Rattle.asm_laws.specs.Addresses.{Addr, Console, readable, writable, word_of, Room, Good, Goes, computed, loaded, saved, does, Held, Follows}
+use Rattle.asm_laws.proofs.Stepping.{written_same, readable_word, unreadable_word, writes_at, line_effect, line_turn, took, kept, moved, stores, reg_number}
 use Rattle.asm_laws.proofs.Hands.{with_reg, hand_fits, hand_other, held_alike, brings_at, takes_at}
 use Rattle.asm_laws.proofs.OperationsStep.{later, faults_like}
-use Rattle.asm_laws.proofs.InOneStep.{twice, less_is}
+use Rattle.asm_laws.proofs.InOneStep.{twice, less_is, load_follows}
 
 -- the address that a known word makes with that of a place, where there is one
 abbrev pub address_with : Frame → Option Where → ℕ → Addr → ℕ
@@ -180,6 +181,34 @@ module _ (C : Console) (address : List ℕ → ℕ) (F : Frame) (a : Addr) (room
       later C f.steps 7 8 s u xs p a (loaded (readable C (add v w)) F (Reg t) (a.memory (add v w)) xs a) f.by (let n = f.few in omega (arith, n))
       (read_last t (add v w) 7 i u xs l.0 p lt f.held (line_effect C a u d.0 i l.0 f.held f.at l.1 (omega arith, hand_fits x 9 (omega arith), omega arith)) (line_turn C a u d.0 i l.0 f.held f.at l.1 (omega arith, hand_fits x 9 (omega arith), omega arith)) l.2
       (λ y z. off_goes (register t) (hand x 9) w v y l.0 u f.is z) (λ z. off_fails (register t) (hand x 9) w v l.0 u f.is z) (omega arith))
+
+  -- ---- a load where a register's own word, another register's and the known one are added
+
+  added_act : (s : State) (t q next : ℕ) → t < 9 → q < 9 → Held C a s → act (instr.Two IADD (register t) (src.Reg q)) next s ≡ EndsIn stepped.Went (took C next t (add (a.regs t) (a.regs q)) s)
+  unfolding act
+  added_act s t q next lt lq h = ap (λ z. EndsIn stepped.Went (took C next z (add (register_of s z) (register_of s q)) s)) (reg_number C F address t lt) ∙ ap (λ z. EndsIn stepped.Went (took C next t (add z (register_of s q)) s)) (h.regs t lt) ∙ ap (λ z. EndsIn stepped.Went (took C next t (add (a.regs t) z) s)) (h.regs q lq)
+
+  written_again : (t x y z : ℕ) → with_reg t x (with_reg t y (with_reg t z a)) ≡ with_reg t x a
+  written_again t x y z = λ i. record a { regs = λ r. is i r }
+    where
+      is : written (written (written a.regs t z) t y) t x ≡ written a.regs t x
+      is = λ i r. (sym (twice (written a.regs t z) t x y r) ∙ sym (twice a.regs t x z r)) i
+
+  pub indexed_follows : (W : Whole) (t q w d x : ℕ) (s : State) (xs : List ℕ) (pc p : ℕ) → t < 9 → q < 9 → d < 9 → x < 9 → (register d == register t) && (register x == register t) ≡ true → Held C a s → s.counter ≡ pc →
+      Here pc (before_it (using_it F w (Indexed (register t) q)).0 ++ item.Op (using_it F w (Indexed (register t) q)).1 ∷ []) p →
+      Follows C 8 s xs p (with_reg t (add (add (a.regs t) (a.regs q)) w) a) (does C address W F (LoadO (Reg d) (Reg x)) xs (with_reg t (add (add (a.regs t) (a.regs q)) w) a))
+  indexed_follows W t q w d x s xs pc p lt lq ld lx there h e l =
+      let v = add (a.regs t) (a.regs q) in
+      let b = with_reg t v a in
+      let i = instr.Two IADD (register t) (src.Reg q) in
+      let u = took C l.0 t v s in
+      let eff = line_effect C a s pc i l.0 h e l.1 (omega arith, omega (arith, lq), omega arith) ∙ added_act s t q l.0 lt lq h in
+      let one = reaches_went s u xs eff (line_turn C a s pc i l.0 h e l.1 (omega arith, omega (arith, lq), omega arith)) in
+      let here = subst (λ z. Here l.0 (item.Op (instr.Mov (RegAtOff (register t) z (Left w))) ∷ []) p) (reg_number C F address t lt) l.2 in
+      let two = load_follows C address W F b 7 t w d x t w u xs l.0 p (omega arith) lt lt ld lx there (kept C a s l.0 t v (omega (arith, lt)) h) refl here in
+      let same : with_reg t (add (written a.regs t v t) w) (with_reg t w b) ≡ with_reg t (add v w) a = (λ i. with_reg t (add (written_same a.regs t v t refl i) w) (with_reg t w b)) ∙ written_again t (add v w) w v in
+      later C 1 7 8 s u xs p (with_reg t (add v w) a) (does C address W F (LoadO (Reg d) (Reg x)) xs (with_reg t (add v w) a)) one (omega arith)
+      (subst (λ z. Follows C 7 u xs p z (does C address W F (LoadO (Reg d) (Reg x)) xs z)) same two)
 
   -- ---- a store
 

@@ -21,8 +21,8 @@ use Rattle.mid_code.specs.Code.{StoreO, FreshO, EndO, InO, OutO, WaitO, HaltO}
 use Rattle.asm_laws.specs.Names.{literal_label, function_label}
 use Rattle.asm_laws.specs.Moves.{Move, in_order}
 use Rattle.asm_laws.specs.declared.used.Used.{Used}
-use Rattle.asm_laws.specs.declared.used.Used.TheVariants.{Computed, Loaded, Stored, Sent}
-use Rattle.asm_laws.specs.Pieces.{register, is_in, turned}
+use Rattle.asm_laws.specs.declared.used.Used.TheVariants.{Computed, Loaded, Indexed, Stored, Sent}
+use Rattle.asm_laws.specs.Pieces.{register, is_in, turned, other_word, loads_there}
 use Rattle.asm_laws.specs.Spare.{used_by}
 use Rattle.asm_laws.specs.Copies.{lead}
 
@@ -200,12 +200,6 @@ word_put W (ConstO (Reg r) n) = Some (register r, n)
 word_put W (GlobalO (Reg r) k) = Some (register r, get_or W.globals k 0)
 word_put W _ = None
 
--- the register of the other word, where a target and just one of two words stand in register r
-abbrev pub other_word : ℕ → (target first second : Where) → Option ℕ
-other_word r (Reg t) (Reg a) (Reg b) = cond (register t == r)
-    (cond (register a == r) (cond (register b == r) None (Some (register b))) (cond (register b == r) (Some (register a)) None)) None
-other_word r _ _ _ = None
-
 -- the register of the first word, where a target and the second word stand in register r, and the first one does not
 abbrev pub first_word : ℕ → (target first second : Where) → Option ℕ
 first_word r (Reg t) (Reg a) (Reg b) = cond (register t == r) (cond (register b == r) (cond (register a == r) None (Some (register a))) None) None
@@ -221,11 +215,6 @@ abbrev pub summed : ℕ → ℕ → OpT Where → Option (ℕ × ℕ)
 summed r w (TwoO o t a b) = sum_of o r w t a b
 summed r w (StepO t p n) = sum_of IADD r w t p n
 summed r w _ = None
-
--- whether a load comes first that takes its address from register r and puts the word there
-abbrev pub loads_there : ℕ → NodesT Where → Bool
-loads_there r (Do (LoadO (Reg t) (Reg p)) c) = (register t == r) && (register p == r)
-loads_there r _ = false
 
 -- the place of the first word, where a target and the second word stand in register r, and the first one does not
 abbrev pub first_place : ℕ → (target first second : Where) → Option Where
@@ -297,6 +286,7 @@ abbrev pub using_it : Frame → ℕ → Used → Option (Instr Imm) × Instr Imm
 using_it F w (Computed o t p) = known F o t p w (added o w)
 using_it F w (Loaded t None) = (None, instr.Mov (RegAt t (Left w)))
 using_it F w (Loaded t (Some p)) = (brought F p 9, instr.Mov (RegAtOff t (hand p 9) (Left w)))
+using_it F w (Indexed t q) = (Some (instr.Two IADD t (src.Reg q)), instr.Mov (RegAtOff t t (Left w)))
 using_it F w (Stored None a) = (brought F a 10, instr.Mov (AtReg (Left w) (hand a 10)))
 using_it F w (Stored (Some p) a) = (either (brought F p 9) (brought F a 10), instr.Mov (AtOffReg (hand p 9) (Left w) (hand a 10)))
 using_it F w (Sent p) = (None, instr.Out (port p) (src.Imm (Left w)))

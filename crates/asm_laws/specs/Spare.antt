@@ -6,11 +6,11 @@ use Rattle.mid_code.specs.declared.placed.Where.{Where}
 use Rattle.mid_code.specs.declared.placed.Where.TheVariants.{Reg, Slot}
 use Rattle.mid_code.specs.Code.{NodesT, Stop, Do, Call, Choose, Block, Loop, Leave, Again, Return}
 use Rattle.mid_code.specs.Code.{OpT, ConstO, TwoO, GlobalO, StepO, LoadO, StoreO, OutO, uses, maybe}
-use Rattle.asm_laws.specs.Pieces.{register, is_in, turned}
+use Rattle.asm_laws.specs.Pieces.{register, is_in, turned, other_word, loads_there}
 use Rattle.asm_laws.specs.declared.used.Used.{Used}
-use Rattle.asm_laws.specs.declared.used.Used.TheVariants.{Computed, Loaded, Stored, Sent}
+use Rattle.asm_laws.specs.declared.used.Used.TheVariants.{Computed, Loaded, Indexed, Stored, Sent}
 
--- ---- one operation, or two, behind one that puts a known word into register 8
+-- ---- one operation, or two or three, behind one that puts a known word into register 8
 
 -- of two places just one of which is register 8, the other
 abbrev pub beside : Where → Where → Option Where
@@ -45,10 +45,28 @@ abbrev pub at_sum : Option Where → NodesT Where → Option (ℕ × Used)
 at_sum None c = None
 at_sum (Some p) c = at_address 2 (Some p) c
 
+-- A sum with the word of a register other than 8, in register t, and a load from there into it.
+abbrev pub index : ℕ → Option ℕ → Option (ℕ × Used)
+index t None = None
+index t (Some q) = cond (q == 8) None (Some (3, Indexed t q))
+
+abbrev pub index_behind : ℕ → NodesT Where → Option (ℕ × Used)
+index_behind t (Do (StepO u p q) c) = cond (loads_there t c) (index t (other_word t u p q)) None
+index_behind t _ = None
+
+-- the same behind a sum of a register's own word and the known one, which stands there too
+abbrev pub indexed : Where → Option Where → NodesT Where → Option (ℕ × Used)
+indexed (Reg t) (Some (Reg q)) c = cond (register q == register t) (index_behind (register t) c) None
+indexed _ _ c = None
+
+abbrev pub or_else : Option (ℕ × Used) → Option (ℕ × Used) → Option (ℕ × Used)
+or_else None y = y
+or_else (Some x) y = Some x
+
 -- what is done with the known word, and by how many operations
 abbrev pub used_by : NodesT Where → Option (ℕ × Used)
 used_by (Do (TwoO o t p q) c) = computed t (operand o p q)
-used_by (Do (StepO t p q) c) = cond (is_in t 8) (at_sum (beside p q) c) (computed t (operand IADD p q))
+used_by (Do (StepO t p q) c) = cond (is_in t 8) (at_sum (beside p q) c) (or_else (indexed t (beside p q) c) (computed t (operand IADD p q)))
 used_by (Do (OutO port p) c) = cond (is_in p 8) (Some (1, Sent port)) None
 used_by c = at_address 1 None c
 

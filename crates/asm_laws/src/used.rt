@@ -9,6 +9,8 @@ pub enum Used {
     Computed(Two, Reg, Where),
     /// A register takes the word at an address: the known word, added to that of a place where there is one.
     Loaded(Reg, Option<Where>),
+    /// A register takes the word at the sum of its own word, that of another register and the known one.
+    Indexed(Reg, Reg),
     /// The word of a place is stored at such an address.
     Stored(Option<Where>, Where),
     /// The known word goes to a port.

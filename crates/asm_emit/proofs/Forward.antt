@@ -163,7 +163,7 @@ module _ (names : List (List ℕ)) (body : NodesT Where) where
 
     one_or_more_ahead : (o : OpT Where) (c : NodesT Where) (later : List AsmItem) → IsOp x m o → Ahead (one_or_more W F o (in_one W F o c)) later
     one_or_more_ahead o c later ok =
-        one_or_more_is W F (λ xs. Ahead xs later) (λ v. Unit {0}) o c (λ t n e. (tt, tt)) (λ t k e. (tt, tt)) (op_ahead o later ok) (taking_ahead later) (λ p r i lt h. (fetch_ahead F p r _, taking_ahead later i h), λ r q i lr lq h. (tt, taking_ahead later i h))
+        one_or_more_is W F (λ xs. Ahead xs later) (λ v. Unit {0}) o c (λ t n e. (tt, tt, λ m. tt)) (λ t k e. (tt, tt, λ m. tt)) (op_ahead o later ok) (taking_ahead later) (λ p r i lt h. (fetch_ahead F p r _, taking_ahead later i h), λ r q i lr lq h. (tt, taking_ahead later i h))
 
     puts_go : (c : NodesT Where) (k : ℕ) (later : List AsmItem) → Ahead (puts_items W c k) later
     puts_go (Do o c) (suc k) later = ahead_append (put_item (word_put W o)) (puts_items W c k) later (put (word_put W o) _) (puts_go c k later)

@@ -84,6 +84,9 @@ in_ports p = omega arith
 in_words : (a b : ℕ) → sub a b < 2 ^ 32
 in_words a b = omega arith
 
+sum_in_words : (a b : ℕ) → add a b < 2 ^ 32
+sum_in_words a b = omega arith
+
 hand_fine : (p : Where) (r : ℕ) → r < 16 → hand p r < 16
 hand_fine (Reg q) r lt = in_registers q
 hand_fine (Slot k) r lt = lt
@@ -211,7 +214,7 @@ module _ (x : CodeT Where) (W : Whole) (words : list_all is_word W.names ≡ tru
 
     one_or_more_fine : (o : OpT Where) (c : NodesT Where) → IsOp x m o → AllFine (one_or_more W F o (in_one W F o c))
     one_or_more_fine o c ok =
-        one_or_more_is W F AllFine (λ v. v < 2 ^ 32) o c (λ t n e. (subst (IsOp x m) e ok, in_words 0 n)) (λ t k e. (addresses k, in_words 0 (get_or W.globals k 0))) (op_fine o ok) taking_fine
+        one_or_more_is W F AllFine (λ v. v < 2 ^ 32) o c (λ t n e. (subst (IsOp x m) e ok, in_words 0 n, λ m. sum_in_words n m)) (λ t k e. (addresses k, in_words 0 (get_or W.globals k 0), λ m. sum_in_words (get_or W.globals k 0) m)) (op_fine o ok) taking_fine
         (λ p r i lt h. (fetch_fine F p r lt, taking_fine i h), λ r q i lr lq h. ((lr, (lq, tt)), taking_fine i h))
 
     put_fine : (o : OpT Where) → IsOp x m o → AllFine (put_item (word_put W o))

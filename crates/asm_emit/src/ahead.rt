@@ -300,6 +300,10 @@ fn using_it(s: &Scope<'_>, word: u32, u: &Used) -> (Option<Instr<Imm>>, Instr<Im
             Some(Instr::Two(Two::IADD, *t, Src::Reg(*q))),
             Instr::Mov(Mov::RegAtOff(*t, *t, w)),
         ),
+        Used::Offset(t, p, n) => (
+            brought(s, *p, 9),
+            Instr::Mov(Mov::RegAtOff(*t, hand(*p, 9), Either::Left(word.wrapping_add(*n)))),
+        ),
         Used::Stored(None, a) => (brought(s, *a, 10), Instr::Mov(Mov::AtReg(w, hand(*a, 10)))),
         Used::Stored(Some(p), a) => (
             either(brought(s, *p, 9), brought(s, *a, 10)),

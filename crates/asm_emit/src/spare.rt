@@ -5,7 +5,7 @@ ghost use Rattle.mid_code.specs.Functions.{op_before, node, before, nodes, funct
 ghost use Rattle.mid_code.specs.Operands.{listed_uses};
 ghost use Rattle.asm_laws.specs.Pieces.{is_in};
 ghost use Rattle.asm_laws.specs.Spare.{beside, operand, computed, loaded, in_slots, stored, at_address, at_sum, used_by};
-ghost use Rattle.asm_laws.specs.Spare.{index, index_behind, indexed, or_else};
+ghost use Rattle.asm_laws.specs.Spare.{index, index_behind, indexed, offset_load, offset_sum, offset_step, offset_behind, offset, or_else};
 ghost use Rattle.asm_laws.specs.Spare.{count, are_others, spares, held_registers};
 ghost use Rattle.asm_emit.specs.inner.Spared.{first_puts, group_behind, spares_from, held_all};
 
@@ -176,6 +176,83 @@ fn indexed(t: Where, other: Option<Where>, rest: &[Node<Where>]) -> Option<(u32,
     }
 }
 
+/// A load into register t, at the sum of the word that stands there and a number that is put into register 8 right before.
+fn offset_load(t: Reg, p: Where, n: u32, rest: &[Node<Where>]) -> Option<(u32, Used)>
+    ensures { result ≡ offset_load t p n (nodes rest.now) }
+{
+    let (x, _) = rest.split_first()?;
+    match x {
+        Node::Do(Op::Load(d, q)) => {
+            if is_in(*d, t) && is_spare(*q) {
+                Some((4, Used::Offset(t, p, n)))
+            } else {
+                None
+            }
+        }
+        _ => None,
+    }
+}
+
+fn offset_sum(
+    t: Reg,
+    p: Where,
+    n: u32,
+    s: Where,
+    other: Option<Where>,
+    rest: &[Node<Where>],
+) -> Option<(u32, Used)>
+    ensures { result ≡ offset_sum t p n s other (nodes rest.now) }
+{
+    match other {
+        Some(Where::Reg(q)) => {
+            if is_in(Where::Reg(q), t) && is_spare(s) {
+                offset_load(t, p, n, rest)
+            } else {
+                None
+            }
+        }
+        Some(Where::Slot(_)) => None,
+        None => None,
+    }
+}
+
+fn offset_step(t: Reg, p: Where, n: u32, rest: &[Node<Where>]) -> Option<(u32, Used)>
+    ensures { result ≡ offset_step t p n (nodes rest.now) }
+{
+    let (x, after) = rest.split_first()?;
+    match x {
+        Node::Do(Op::Step(s, a, b)) => offset_sum(t, p, n, *s, beside(*a, *b), after),
+        _ => None,
+    }
+}
+
+fn offset_behind(t: Reg, p: Where, rest: &[Node<Where>]) -> Option<(u32, Used)>
+    ensures { result ≡ offset_behind t p (nodes rest.now) }
+{
+    let (x, after) = rest.split_first()?;
+    match x {
+        Node::Do(Op::Const(s, n)) => {
+            if is_spare(*s) {
+                offset_step(t, p, *n, after)
+            } else {
+                None
+            }
+        }
+        _ => None,
+    }
+}
+
+/// The same behind a sum of the word of a place and the known one, in that register.
+fn offset(t: Where, other: Option<Where>, rest: &[Node<Where>]) -> Option<(u32, Used)>
+    ensures { result ≡ offset t other (nodes rest.now) }
+{
+    let Where::Reg(t) = t else { return None };
+    match other {
+        Some(p) => offset_behind(register(t), p, rest),
+        None => None,
+    }
+}
+
 fn or_else(first: Option<(u32, Used)>, other: Option<(u32, Used)>) -> Option<(u32, Used)>
     ensures { result ≡ or_else first other }
 {
@@ -197,7 +274,10 @@ pub(crate) fn used_by_op(o: &Op<Where>, rest: &[Node<Where>]) -> Option<(u32, Us
             } else {
                 or_else(
                     indexed(*t, beside(*p, *q), rest),
-                    computed(*t, operand(Two::IADD, *p, *q)),
+                    or_else(
+                        offset(*t, beside(*p, *q), rest),
+                        computed(*t, operand(Two::IADD, *p, *q)),
+                    ),
                 )
             }
         }

@@ -16,7 +16,7 @@ use Rattle.asm_laws.specs.declared.used.Used.{Used}
 use Rattle.asm_laws.specs.declared.used.Used.TheVariants.{Indexed}
 use Rattle.asm_laws.specs.declared.copying.Copying.{Copying}
 use Rattle.asm_laws.specs.Pieces.{register, is_in, turned, other_word, loads_there}
-use Rattle.asm_laws.specs.Spare.{beside, operand, in_slots, at_address, at_sum, index, index_behind, indexed, or_else, used_by}
+use Rattle.asm_laws.specs.Spare.{beside, operand, in_slots, at_address, at_sum, index, index_behind, indexed, offset_load, offset_sum, offset_step, offset_behind, offset, or_else, used_by}
 use Rattle.asm_laws.specs.Spare as groups
 use Rattle.asm_laws.specs.Copies.{copy_of, last_put, is_count, is_one, lead}
 use Rattle.asm_laws.specs.Operations.{Frame, Whole, word_put, summed, first_place, unturned, copied, copied_address, with_copy, with_sum, with_word, is_spared, with_known, in_one, more_of, led_more}
@@ -85,6 +85,28 @@ indexed_ops (Reg t) (Some (Slot k)) p c = tt
 indexed_ops (Reg t) None p c = tt
 indexed_ops (Slot k) z p c = tt
 
+load_ops : (t : ℕ) (z : Where) (n : ℕ) (p q r : OpT Where) (c : NodesT Where) → AllOps (offset_load t z n c) (Do p (Do q (Do r c)))
+load_ops t z n p q r (Do (LoadO (Reg d) y) c) = when_ops ((register d == t) && is_in y 8) _ (Do p (Do q (Do r (Do (LoadO (Reg d) y) c)))) tt
+load_ops t z n p q r _ = tt
+
+step_ops : (t : ℕ) (z : Where) (n : ℕ) (p q : OpT Where) (c : NodesT Where) → AllOps (offset_step t z n c) (Do p (Do q c))
+step_ops t z n p q (Do (StepO s a b) c) = go (beside a b)
+  where
+    go : (x : Option Where) → AllOps (offset_sum t z n s x c) (Do p (Do q (Do (StepO s a b) c)))
+    go (Some (Reg y)) = when_ops ((register y == t) && is_in s 8) _ (Do p (Do q (Do (StepO s a b) c))) (load_ops t z n p q (StepO s a b) c)
+    go (Some (Slot k)) = tt
+    go None = tt
+step_ops t z n p q _ = tt
+
+behind_ops : (t : ℕ) (z : Where) (p : OpT Where) (c : NodesT Where) → AllOps (offset_behind t z c) (Do p c)
+behind_ops t z p (Do (ConstO s n) c) = when_ops (is_in s 8) _ (Do p (Do (ConstO s n) c)) (step_ops t z n p (ConstO s n) c)
+behind_ops t z p _ = tt
+
+offset_ops : (t : Where) (z : Option Where) (p : OpT Where) (c : NodesT Where) → AllOps (offset t z c) (Do p c)
+offset_ops (Reg t) (Some z) p c = behind_ops (register t) z p c
+offset_ops (Reg t) None p c = tt
+offset_ops (Slot k) z p c = tt
+
 else_ops : (x y : Option (ℕ × Used)) (c : NodesT Where) → AllOps x c → AllOps y c → AllOps (or_else x y) c
 else_ops None y c h g = g
 else_ops (Some x) y c h g = h
@@ -93,9 +115,10 @@ used_ops : (c : NodesT Where) → AllOps (used_by c) c
 used_ops (Do (TwoO o t p q) c) = computed_ops t (operand o p q) (TwoO o t p q) c
 used_ops (Do (StepO t p q) c) = go (is_in t 8)
   where
-    go : (b : Bool) → AllOps (cond b (at_sum (beside p q) c) (or_else (indexed t (beside p q) c) (groups.computed t (operand IADD p q)))) (Do (StepO t p q) c)
+    go : (b : Bool) → AllOps (cond b (at_sum (beside p q) c) (or_else (indexed t (beside p q) c) (or_else (offset t (beside p q) c) (groups.computed t (operand IADD p q))))) (Do (StepO t p q) c)
     go true = sum_ops (beside p q) (StepO t p q) c
-    go false = else_ops (indexed t (beside p q) c) _ (Do (StepO t p q) c) (indexed_ops t (beside p q) (StepO t p q) c) (computed_ops t (operand IADD p q) (StepO t p q) c)
+    go false = else_ops (indexed t (beside p q) c) _ (Do (StepO t p q) c) (indexed_ops t (beside p q) (StepO t p q) c)
+        (else_ops (offset t (beside p q) c) _ (Do (StepO t p q) c) (offset_ops t (beside p q) (StepO t p q) c) (computed_ops t (operand IADD p q) (StepO t p q) c))
 used_ops (Do (OutO port p) c) = when_ops (is_in p 8) _ (Do (OutO port p) c) tt
 used_ops c = one_ops None c
 

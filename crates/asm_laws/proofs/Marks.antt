@@ -196,7 +196,7 @@ module _ (W : Whole) (differ : Differ W.names) where
   op_bare F HaltO = tt
 
   one_bare : (F : Frame) (o : OpT Where) (c : NodesT Where) → Bare (one_or_more W F o (in_one W F o c))
-  one_bare F o c = one_or_more_is W F (λ xs. Bare xs) (λ v. Unit {0}) o c (λ t n e. (tt, tt)) (λ t k e. (tt, tt)) (op_bare F o) (λ i h. tt) (λ p r i lt h. tt, λ r q i lr lq h. tt)
+  one_bare F o c = one_or_more_is W F (λ xs. Bare xs) (λ v. Unit {0}) o c (λ t n e. (tt, tt, λ m. tt)) (λ t k e. (tt, tt, λ m. tt)) (op_bare F o) (λ i h. tt) (λ p r i lt h. tt, λ r q i lr lq h. tt)
 
   puts_bare : (c : NodesT Where) (k : ℕ) → Bare (puts_items W c k)
   puts_bare (Do o c) (suc k) = names_append (λ m. ⊥) (put_item (word_put W o)) (puts_items W c k) (put (word_put W o)) (puts_bare c k)

@@ -38,8 +38,8 @@ use Rattle.mid_code.specs.Meaning.{Did, On, Ends, node_weight}
 use Rattle.mid_code.specs.States.{State, spent, op_weight, word_tested, registers_and_slots, acted}
 use Rattle.asm_laws.specs.Operations.{Frame, fetch, hand, word_put, summed, first_place, unturned, copied, copied_address, with_copy, with_sum, with_word, using_it, is_spared, with_known, with_more, in_one, before_it, one_or_more, more_of, op_items, puts_items, led_items, led_more}
 use Rattle.asm_laws.specs.declared.used.Used.{Used}
-use Rattle.asm_laws.specs.declared.used.Used.TheVariants.{Computed, Loaded, Indexed, Stored, Sent}
-use Rattle.asm_laws.specs.Spare.{beside, operand, in_slots, at_address, at_sum, index, index_behind, indexed, or_else, used_by, puts, Stays, Sparing}
+use Rattle.asm_laws.specs.declared.used.Used.TheVariants.{Computed, Loaded, Indexed, Offset, Stored, Sent}
+use Rattle.asm_laws.specs.Spare.{beside, operand, in_slots, at_address, at_sum, index, index_behind, indexed, offset_load, offset_sum, offset_step, offset_behind, offset, or_else, used_by, puts, Stays, Sparing}
 use Rattle.asm_laws.specs.Spare as groups
 use Rattle.asm_laws.specs.Pieces.{register, is_in, turned, other_word, loads_there}
 use Rattle.asm_laws.specs.Placing.{Line, Jumps, Passes}
@@ -58,7 +58,7 @@ use Rattle.asm_laws.proofs.OperationsStep.{op_follows, sum_turned, TurnsTo, turn
 use Rattle.asm_laws.proofs.Lists.{below_or_not}
 use Rattle.asm_laws.proofs.Alongside.{Alongside, word_alike, written_alike, computed_alike, loaded_alike, saved_alike, does_alongside}
 use Rattle.asm_laws.proofs.Spared.{FrontStays, other_stays, uses_stay, old_stays, spared_is}
-use Rattle.asm_laws.proofs.UsedStep.{address_with, computed_follows, loaded_follows, indexed_follows, stored_follows, sent_follows}
+use Rattle.asm_laws.proofs.UsedStep.{address_with, computed_follows, loaded_follows, before_load, indexed_follows, stored_follows, sent_follows}
 use Rattle.asm_laws.proofs.InOneStep.{both, twice, Sums, sums, lea_follows, load_follows, Copies, copies, Stepped, step_is, two_copied, step_copied, load_copied}
 use Rattle.asm_laws.specs.Holds.{Setting, sizes, Named, Fits, Ctx, Stands}
 use Rattle.asm_laws.specs.Acting.{Holds, DoesAs, Fitting, FrontFits}
@@ -469,9 +469,9 @@ module _ (S : Setting) (fits : Fits S) where
         address_case k _ Q none some = none
 
       -- behind a sum in register 8
-      sum_at : (t : Where) (v : ℕ) → Named S κ.fn t → is_in t 8 ≡ true → put (Of κ) t v (with_reg 8 w a) ≡ with_reg 8 v (with_reg 8 w a)
-      sum_at (Reg r) v named is = let n = eqb-true (register r) 8 is in let same : r ≡ 8 = omega (arith, named, n) in ap (λ k. with_reg k v (with_reg 8 w a)) same
-      sum_at (Slot k) v named is = absurd cc
+      sum_at : (t : Where) (v : ℕ) (c : Addr) → Named S κ.fn t → is_in t 8 ≡ true → put (Of κ) t v c ≡ with_reg 8 v c
+      sum_at (Reg r) v c named is = let n = eqb-true (register r) 8 is in let same : r ≡ 8 = omega (arith, named, n) in ap (λ k. with_reg k v c) same
+      sum_at (Slot k) v c named is = absurd cc
 
       summed_done : (t x y z : Where) (c : NodesT Where) → is_in t 8 ≡ true → (Fitting S κ.fn (StepO t x y) → Named S κ.fn z × (add (word_of (Of κ) x (with_reg 8 w a)) (word_of (Of κ) y (with_reg 8 w a)) ≡ add (word_of (Of κ) z b) w)) →
           Done o (Do (StepO t x y) c) (with_known (Of κ) (Some (8, w)) (at_address 2 (Some z) c))
@@ -485,7 +485,7 @@ module _ (S : Setting) (fits : Fits S) where
           put_done o 8 w (front_acts (lang S) (Do u c) 2) fit puts (λ s1 h1.
           let ys = s1.world.store.answers in
           let s2 = spent (op_weight u) s1 in
-          let so : does C S.address S.whole (Of κ) u ys (with_reg 8 w a) ≡ words.Goes [] ys (with_reg 8 v (with_reg 8 w a)) = ap (λ q. words.Goes [] ys (put (Of κ) t q (with_reg 8 w a))) f.1 ∙ ap (λ q. words.Goes [] ys q) (sum_at t v ff.0.0 is) in
+          let so : does C S.address S.whole (Of κ) u ys (with_reg 8 w a) ≡ words.Goes [] ys (with_reg 8 v (with_reg 8 w a)) = ap (λ q. words.Goes [] ys (put (Of κ) t q (with_reg 8 w a))) f.1 ∙ ap (λ q. words.Goes [] ys q) (sum_at t v (with_reg 8 w a) ff.0.0 is) in
           passes κ s1 m (with_reg 8 w a) (with_reg 8 v (with_reg 8 w a)) (op_weight u) p (acted registers_and_slots (sizes S) u s2) (front_acts (lang S) c 1) (subst (λ d. DoesAs S κ s2 (with_reg 8 w a) (acted registers_and_slots (sizes S) u s2) d) so (acts S fits κ s2 h1.place (with_reg 8 w a) h1.at u ff.0))
           (λ s3 h3. ends s3 h3 (good S fits κ z f.0, tt) ff.1 st)))
 
@@ -583,6 +583,113 @@ module _ (S : Setting) (fits : Fits S) where
       indexed_done (Reg t) x y None rest c apart is done = done
       indexed_done (Slot k) x y z rest c apart is done = done
 
+      -- behind a sum in another register: a number is put into register 8 and added to it there, and the other register is loaded from there
+      offset_case : (t : ℕ) (z : Where) (Q : NodesT Where → Option (ℕ × Used) → Type 0) → ((c : NodesT Where) → Q c None) →
+          ((r s i j g : Where) (d q n : ℕ) (c : NodesT Where) → is_in r 8 ≡ true → beside i j ≡ Some (Reg q) → (register q == t) && is_in s 8 ≡ true → (register d == t) && is_in g 8 ≡ true →
+          Q (Do (ConstO r n) (Do (StepO s i j) (Do (LoadO (Reg d) g) c))) (Some (4, Offset t z n))) → (c : NodesT Where) → Q c (offset_behind t z c)
+      offset_case t z Q none some (Do (ConstO r n) (Do (StepO s i j) (Do (LoadO (Reg d) g) c))) = go (is_in r 8) refl (beside i j) refl
+        where
+          last : (q : ℕ) → is_in r 8 ≡ true → beside i j ≡ Some (Reg q) → (register q == t) && is_in s 8 ≡ true → (f : Bool) → (register d == t) && is_in g 8 ≡ f → Q (Do (ConstO r n) (Do (StepO s i j) (Do (LoadO (Reg d) g) c))) (cond f (Some (4, Offset t z n)) None)
+          last q eight_r by sum false there = none _
+          last q eight_r by sum true there = some r s i j g d q n c eight_r by sum there
+
+          made : (q : ℕ) → is_in r 8 ≡ true → beside i j ≡ Some (Reg q) → (f : Bool) → (register q == t) && is_in s 8 ≡ f → Q (Do (ConstO r n) (Do (StepO s i j) (Do (LoadO (Reg d) g) c))) (cond f (offset_load t z n (Do (LoadO (Reg d) g) c)) None)
+          made q eight_r by false sum = none _
+          made q eight_r by true sum = last q eight_r by sum ((register d == t) && is_in g 8) refl
+
+          go : (f : Bool) → is_in r 8 ≡ f → (x : Option Where) → beside i j ≡ x → Q (Do (ConstO r n) (Do (StepO s i j) (Do (LoadO (Reg d) g) c))) (cond f (offset_sum t z n s x (Do (LoadO (Reg d) g) c)) None)
+          go false eight_r x by = none _
+          go true eight_r None by = none _
+          go true eight_r (Some (Slot k)) by = none _
+          go true eight_r (Some (Reg q)) by = made q eight_r by ((register q == t) && is_in s 8) refl
+      offset_case t z Q none some (Do (ConstO r n) (Do (StepO s i j) c)) = go (is_in r 8) (beside i j)
+        where
+          made : (f : Bool) → Q (Do (ConstO r n) (Do (StepO s i j) c)) (cond f (offset_load t z n c) None)
+          made false = none _
+          made true = none _
+
+          go : (f : Bool) (x : Option Where) → Q (Do (ConstO r n) (Do (StepO s i j) c)) (cond f (offset_sum t z n s x c) None)
+          go false x = none _
+          go true None = none _
+          go true (Some (Slot k)) = none _
+          go true (Some (Reg q)) = made ((register q == t) && is_in s 8)
+      offset_case t z Q none some (Do (ConstO r n) c) = go (is_in r 8)
+        where
+          go : (f : Bool) → Q (Do (ConstO r n) c) (cond f (offset_step t z n c) None)
+          go false = none _
+          go true = none _
+      offset_case t z Q none some c = none c
+
+      -- a sum of the word of a place and one that stands in register 8
+      sum_with : (v : ℕ) (c : Addr) (x y z : Where) → Named S κ.fn x → Named S κ.fn y → beside x y ≡ Some z → Named S κ.fn z × (is_in z 8 ≡ false) × (add (word_of (Of κ) x (with_reg 8 v c)) (word_of (Of κ) y (with_reg 8 v c)) ≡ add (word_of (Of κ) z (with_reg 8 v c)) v)
+      sum_with v c x y z nx ny by = go (is_in x 8) refl (is_in y 8) refl by
+        where
+          go : (f : Bool) → is_in x 8 ≡ f → (g : Bool) → is_in y 8 ≡ g → cond f (cond g None (Some y)) (cond g (Some x) None) ≡ Some z → Named S κ.fn z × (is_in z 8 ≡ false) × (add (word_of (Of κ) x (with_reg 8 v c)) (word_of (Of κ) y (with_reg 8 v c)) ≡ add (word_of (Of κ) z (with_reg 8 v c)) v)
+          go true ex true ey e = absurd cc
+          go false ex false ey e = absurd cc
+          go true ex false ey e = let same : y ≡ z = cc in subst (λ k. Named S κ.fn k × (is_in k 8 ≡ false) × (add (word_of (Of κ) x (with_reg 8 v c)) (word_of (Of κ) y (with_reg 8 v c)) ≡ add (word_of (Of κ) k (with_reg 8 v c)) v)) same (ny, ey, ap (λ k. add k (word_of (Of κ) y (with_reg 8 v c))) (there x v c nx ex) ∙ sum_turned (word_of (Of κ) y (with_reg 8 v c)) v)
+          go false ex true ey e = let same : x ≡ z = cc in subst (λ k. Named S κ.fn k × (is_in k 8 ≡ false) × (add (word_of (Of κ) x (with_reg 8 v c)) (word_of (Of κ) y (with_reg 8 v c)) ≡ add (word_of (Of κ) k (with_reg 8 v c)) v)) same (nx, ex, ap (λ k. add (word_of (Of κ) x (with_reg 8 v c)) k) (there y v c ny ey))
+
+      sums_turned : (x y z : ℕ) → add (add x y) z ≡ add x (add y z)
+      sums_turned x y z = omega arith
+
+      offset_done : (t d q n : ℕ) (x y z r s i j g : Where) (c : NodesT Where) → (register t == 8) ≡ false → SumIs (Reg t) x y (Some z) → is_in r 8 ≡ true → beside i j ≡ Some (Reg q) → (register q == register t) && is_in s 8 ≡ true → (register d == register t) && is_in g 8 ≡ true →
+          Done o (Do (StepO (Reg t) x y) (Do (ConstO r n) (Do (StepO s i j) (Do (LoadO (Reg d) g) c)))) (with_known (Of κ) (Some (8, w)) (Some (4, Offset (register t) z n)))
+      unfolding does
+      offset_done t d q n x y z r s i j g c apart is eight_r by sum into ff st =
+          let one = StepO (Reg t) x y in
+          let two = ConstO r n in
+          let three = StepO s i j in
+          let load = LoadO (Reg d) g in
+          let lt : t < 9 = ff.0.0 in
+          let f = is ff.0 in
+          let v = add (word_of (Of κ) z b) w in
+          let a1 = with_reg 8 w a in
+          let a2 = with_reg t v a1 in
+          let a3 = with_reg 8 n a2 in
+          let added = sum_with n a2 i j (Reg q) ff.1.1.0.1 ff.1.1.0.2 by in
+          let lq : q < 9 = added.0 in
+          let q_register : register q ≡ register t = eqb-true (register q) (register t) (both (register q == register t) (is_in s 8) sum).0 in
+          let q_is : q ≡ t = omega (arith, lq, lt, q_register) in
+          let held : written a2.regs 8 n q ≡ v = written_other a2.regs 8 n q (λ k. eqb-false (register q) 8 added.1 (ap register k)) ∙ written_same a1.regs t v q q_is in
+          let m1 = add v n in
+          let a4 = with_reg 8 m1 a3 in
+          let m2 = add (word_of (Of κ) z b) (add w n) in
+          let sum_at_8 : add (word_of (Of κ) i a3) (word_of (Of κ) j a3) ≡ m1 = added.2 ∙ ap (λ k. add k n) held in
+          let ld : d < 9 = ff.1.1.1.0.0 in
+          let d_register : register d ≡ register t = eqb-true (register d) (register t) (both (register d == register t) (is_in g 8) into).0 in
+          let d_is : d ≡ t = omega (arith, ld, lt, d_register) in
+          let like : AreLike κ (written h.registers t v) a4 = (λ k lk. written_alike C S.address S.whole (Of κ) (Number κ) a1 h.registers (spared_like w) t v k lk ∙ sym (written_other a2.regs 8 n k (λ z. omega (arith, lk, eight, z))) ∙ sym (written_other a3.regs 8 m1 k (λ z. omega (arith, lk, eight, z)))) in
+          put_done o 8 w (front_acts (lang S) (Do one (Do two (Do three (Do load c)))) 4) fit puts (λ s1 h1.
+          let s2 = spent (op_weight one) s1 in
+          passes κ s1 m a1 a2 (op_weight one) p (acted registers_and_slots (sizes S) one s2) (front_acts (lang S) (Do two (Do three (Do load c))) 3)
+          (subst (λ e. DoesAs S κ s2 a1 (acted registers_and_slots (sizes S) one s2) e) (ap (λ k. words.Goes [] s1.world.store.answers (with_reg t k a1)) f.1) (acts S fits κ s2 h1.place a1 h1.at one ff.0))
+          (λ s3 h3.
+          let s4 = spent (op_weight two) s3 in
+          passes κ s3 m a2 a3 (op_weight two) p (acted registers_and_slots (sizes S) two s4) (front_acts (lang S) (Do three (Do load c)) 2)
+          (subst (λ e. DoesAs S κ s4 a2 (acted registers_and_slots (sizes S) two s4) e) (ap (λ k. words.Goes [] s3.world.store.answers k) (sum_at r n a2 ff.1.0 eight_r)) (acts S fits κ s4 h3.place a2 h3.at two ff.1.0))
+          (λ s5 h5.
+          let s6 = spent (op_weight three) s5 in
+          passes κ s5 m a3 a4 (op_weight three) p (acted registers_and_slots (sizes S) three s6) (front_acts (lang S) (Do load c) 1)
+          (subst (λ e. DoesAs S κ s6 a3 (acted registers_and_slots (sizes S) three s6) e)
+          (ap (λ k. words.Goes [] s5.world.store.answers (put (Of κ) s k a3)) sum_at_8 ∙ ap (λ k. words.Goes [] s5.world.store.answers k) (sum_at s m1 a3 ff.1.1.0.0 (both (register q == register t) (is_in s 8) sum).1)) (acts S fits κ s6 h5.place a3 h5.at three ff.1.1.0))
+          (λ s7 h7.
+          let ys = s7.world.store.answers in
+          alone κ m (begin (holder S) s7) p c ((lang S).act load s7)
+          (last_by κ p load s7 m a4 (written h.registers t v) (loaded (readable C m2) (Of κ) (Reg t) (h.words.memory m2) ys (with_reg t v b)) like h7 ff.1.1.1.0
+          (subst (λ k. Alongside (Number κ) (loaded (readable C (word_of (Of κ) g a4)) (Of κ) (Reg d) (h.words.memory (word_of (Of κ) g a4)) ys a4) (loaded (readable C m2) (Of κ) (Reg k) (h.words.memory m2) ys (with_reg t v b))) d_is
+          (loaded_alike C S.address S.whole (Of κ) (Number κ) a4 (written h.registers t v) like (Reg d) (word_of (Of κ) g a4) m2 ys
+          (sym (sums_turned (word_of (Of κ) z b) w n) ∙ sym (there g m1 a3 ff.1.1.1.0.1 (both (register d == register t) (is_in g 8) into).1))))
+          (before_load C S.address (Of κ) b roomy t v (h.words.memory m2) 8 (readable C m2) m ys p lt
+          (loaded_follows C S.address (Of κ) b roomy t (Some z) (add w n) m ys pc p lt (good S fits κ z f.0, tt) h.held e st)))))))
+
+      at_offset_done : (t x y : Where) (z : Option Where) (rest : Option (ℕ × Used)) (c : NodesT Where) → is_in t 8 ≡ false → SumIs t x y z → Done o (Do (StepO t x y) c) (with_known (Of κ) (Some (8, w)) rest) → Done o (Do (StepO t x y) c) (with_known (Of κ) (Some (8, w)) (or_else (offset t z c) rest))
+      at_offset_done (Reg t) x y (Some z) rest c apart is done =
+          offset_case (register t) z (λ c k. Done o (Do (StepO (Reg t) x y) c) (with_known (Of κ) (Some (8, w)) rest) → Done o (Do (StepO (Reg t) x y) c) (with_known (Of κ) (Some (8, w)) (or_else k rest)))
+          (λ c d. d) (λ r s i j g d q n c eight_r by sum into rest_done. offset_done t d q n x y z r s i j g c apart is eight_r by sum into) c done
+      at_offset_done (Reg t) x y None rest c apart is done = done
+      at_offset_done (Slot k) x y z rest c apart is done = done
+
       sent_done : (port : ℕ) (q : Where) (c : NodesT Where) → Done o (Do (OutO port q) c) (with_known (Of κ) (Some (8, w)) (cond (is_in q 8) (Some (1, Sent port)) None))
       unfolding does
       sent_done port q c = go (is_in q 8) refl
@@ -605,9 +712,11 @@ module _ (S : Setting) (fits : Fits S) where
       used_done (TwoO i t x y) c = operand_done (TwoO i t x y) c i x y refl t (λ n. n) (λ ys d. refl)
       used_done (StepO t x y) c = go (is_in t 8) refl
         where
-          go : (f : Bool) → is_in t 8 ≡ f → Done o (Do (StepO t x y) c) (with_known (Of κ) (Some (8, w)) (cond f (at_sum (beside x y) c) (or_else (indexed t (beside x y) c) (groups.computed t (operand IADD x y)))))
+          go : (f : Bool) → is_in t 8 ≡ f → Done o (Do (StepO t x y) c) (with_known (Of κ) (Some (8, w)) (cond f (at_sum (beside x y) c) (or_else (indexed t (beside x y) c) (or_else (offset t (beside x y) c) (groups.computed t (operand IADD x y))))))
           go true is = sum_behind t x y c is
-          go false is = indexed_done t x y (beside x y) (groups.computed t (operand IADD x y)) c is (sum_is t x y) (operand_done (StepO t x y) c IADD x y refl t (λ n. n) (λ ys d. refl))
+          go false is =
+              indexed_done t x y (beside x y) (or_else (offset t (beside x y) c) (groups.computed t (operand IADD x y))) c is (sum_is t x y)
+              (at_offset_done t x y (beside x y) (groups.computed t (operand IADD x y)) c is (sum_is t x y) (operand_done (StepO t x y) c IADD x y refl t (λ n. n) (λ ys d. refl)))
       used_done (OutO port q) c = sent_done port q c
       used_done (LoadO t q) c = address_done (LoadO t q) c
       used_done (StoreO q y) c = address_done (StoreO q y) c

@@ -33,7 +33,7 @@ use Rattle.asm_laws.specs.Operations as emitted
 use Rattle.asm_laws.specs.Placing.{Line}
 use Rattle.asm_laws.specs.Standing.{Stand}
 use Rattle.asm_laws.specs.Addresses.{Addr, Console, readable, writable, word_of, Room, Good, Goes, computed, loaded, saved, does, Held, Follows}
-use Rattle.asm_laws.proofs.Stepping.{written_same, readable_word, unreadable_word, writes_at, line_effect, line_turn, took, kept, moved, stores, reg_number}
+use Rattle.asm_laws.proofs.Stepping.{written_same, same_word, readable_word, unreadable_word, writes_at, line_effect, line_turn, took, kept, moved, stores, reg_number}
 use Rattle.asm_laws.proofs.Hands.{with_reg, hand_fits, hand_other, held_alike, brings_at, takes_at}
 use Rattle.asm_laws.proofs.OperationsStep.{later, faults_like}
 use Rattle.asm_laws.proofs.InOneStep.{twice, less_is, load_follows}
@@ -181,6 +181,21 @@ module _ (C : Console) (address : List ℕ → ℕ) (F : Frame) (a : Addr) (room
       later C f.steps 7 8 s u xs p a (loaded (readable C (add v w)) F (Reg t) (a.memory (add v w)) xs a) f.by (let n = f.few in omega (arith, n))
       (read_last t (add v w) 7 i u xs l.0 p lt f.held (line_effect C a u d.0 i l.0 f.held f.at l.1 (omega arith, hand_fits x 9 (omega arith), omega arith)) (line_turn C a u d.0 i l.0 f.held f.at l.1 (omega arith, hand_fits x 9 (omega arith), omega arith)) l.2
       (λ y z. off_goes (register t) (hand x 9) w v y l.0 u f.is z) (λ z. off_fails (register t) (hand x 9) w v l.0 u f.is z) (omega arith))
+
+  -- the word that a register holds before does not matter where a load goes into it
+  pub before_load : (t v y n : ℕ) (ok : Bool) (s : State) (xs : List ℕ) (p : ℕ) → t < 9 → Follows C n s xs p a (loaded ok F (Reg t) y xs a) → Follows C n s xs p (with_reg t v a) (loaded ok F (Reg t) y xs (with_reg t v a))
+  before_load t v y n true s xs p lt f = record {
+    steps = f.steps;
+    to = f.to;
+    by = f.by;
+    at = f.at;
+    held = held_alike C (with_reg t y a) (with_reg t y (with_reg t v a)) f.to (λ r b. twice a.regs t y v r) (λ r. refl) refl refl f.held;
+    few = f.few;
+  }
+  before_load t v y n false s xs p lt f =
+      let u = took C 0 t v f.shown in
+      let h = kept C a f.shown 0 t v (omega (arith, lt)) f.held in
+      record { steps = f.steps; to = f.to; by = f.by; nested = f.nested; shown = u; held = h; memory = λ q. f.memory q ∙ same_word C a (with_reg t v a) f.shown u f.held h (λ r. refl) q; few = f.few }
 
   -- ---- a load where a register's own word, another register's and the known one are added
 

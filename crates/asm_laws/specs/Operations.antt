@@ -21,7 +21,7 @@ use Rattle.mid_code.specs.Code.{StoreO, FreshO, EndO, InO, OutO, WaitO, HaltO}
 use Rattle.asm_laws.specs.Names.{literal_label, function_label}
 use Rattle.asm_laws.specs.Moves.{Move, in_order}
 use Rattle.asm_laws.specs.declared.used.Used.{Used}
-use Rattle.asm_laws.specs.declared.used.Used.TheVariants.{Computed, Loaded, Indexed, Stored, Sent}
+use Rattle.asm_laws.specs.declared.used.Used.TheVariants.{Computed, Loaded, Indexed, Offset, Stored, Sent}
 use Rattle.asm_laws.specs.Pieces.{register, is_in, turned, other_word, loads_there}
 use Rattle.asm_laws.specs.Spare.{used_by}
 use Rattle.asm_laws.specs.Copies.{lead}
@@ -287,6 +287,7 @@ using_it F w (Computed o t p) = known F o t p w (added o w)
 using_it F w (Loaded t None) = (None, instr.Mov (RegAt t (Left w)))
 using_it F w (Loaded t (Some p)) = (brought F p 9, instr.Mov (RegAtOff t (hand p 9) (Left w)))
 using_it F w (Indexed t q) = (Some (instr.Two IADD t (src.Reg q)), instr.Mov (RegAtOff t t (Left w)))
+using_it F w (Offset t p n) = (brought F p 9, instr.Mov (RegAtOff t (hand p 9) (Left (add w n))))
 using_it F w (Stored None a) = (brought F a 10, instr.Mov (AtReg (Left w) (hand a 10)))
 using_it F w (Stored (Some p) a) = (either (brought F p 9) (brought F a 10), instr.Mov (AtOffReg (hand p 9) (Left w) (hand a 10)))
 using_it F w (Sent p) = (None, instr.Out (port p) (src.Imm (Left w)))

@@ -8,9 +8,9 @@ use Rattle.mid_code.specs.Code.{NodesT, Stop, Do, Call, Choose, Block, Loop, Lea
 use Rattle.mid_code.specs.Code.{OpT, ConstO, TwoO, GlobalO, StepO, LoadO, StoreO, OutO, uses, maybe}
 use Rattle.asm_laws.specs.Pieces.{register, is_in, turned, other_word, loads_there}
 use Rattle.asm_laws.specs.declared.used.Used.{Used}
-use Rattle.asm_laws.specs.declared.used.Used.TheVariants.{Computed, Loaded, Indexed, Stored, Sent}
+use Rattle.asm_laws.specs.declared.used.Used.TheVariants.{Computed, Loaded, Indexed, Offset, Stored, Sent}
 
--- ---- one operation, or two or three, behind one that puts a known word into register 8
+-- ---- up to four operations behind one that puts a known word into register 8
 
 -- of two places just one of which is register 8, the other
 abbrev pub beside : Where → Where → Option Where
@@ -59,6 +59,28 @@ abbrev pub indexed : Where → Option Where → NodesT Where → Option (ℕ × 
 indexed (Reg t) (Some (Reg q)) c = cond (register q == register t) (index_behind (register t) c) None
 indexed _ _ c = None
 
+-- A load into register t, at the sum of the word that stands there and a number that is put into register 8 right before.
+abbrev pub offset_load : ℕ → Where → ℕ → NodesT Where → Option (ℕ × Used)
+offset_load t z n (Do (LoadO (Reg d) q) c) = cond ((register d == t) && is_in q 8) (Some (4, Offset t z n)) None
+offset_load t z n _ = None
+
+abbrev pub offset_sum : ℕ → Where → ℕ → Where → Option Where → NodesT Where → Option (ℕ × Used)
+offset_sum t z n s (Some (Reg q)) c = cond ((register q == t) && is_in s 8) (offset_load t z n c) None
+offset_sum t z n s _ c = None
+
+abbrev pub offset_step : ℕ → Where → ℕ → NodesT Where → Option (ℕ × Used)
+offset_step t z n (Do (StepO s p q) c) = offset_sum t z n s (beside p q) c
+offset_step t z n _ = None
+
+abbrev pub offset_behind : ℕ → Where → NodesT Where → Option (ℕ × Used)
+offset_behind t z (Do (ConstO s n) c) = cond (is_in s 8) (offset_step t z n c) None
+offset_behind t z _ = None
+
+-- the same behind a sum of the word of a place and the known one, in that register
+abbrev pub offset : Where → Option Where → NodesT Where → Option (ℕ × Used)
+offset (Reg t) (Some z) c = offset_behind (register t) z c
+offset _ _ c = None
+
 abbrev pub or_else : Option (ℕ × Used) → Option (ℕ × Used) → Option (ℕ × Used)
 or_else None y = y
 or_else (Some x) y = Some x
@@ -66,7 +88,7 @@ or_else (Some x) y = Some x
 -- what is done with the known word, and by how many operations
 abbrev pub used_by : NodesT Where → Option (ℕ × Used)
 used_by (Do (TwoO o t p q) c) = computed t (operand o p q)
-used_by (Do (StepO t p q) c) = cond (is_in t 8) (at_sum (beside p q) c) (or_else (indexed t (beside p q) c) (computed t (operand IADD p q)))
+used_by (Do (StepO t p q) c) = cond (is_in t 8) (at_sum (beside p q) c) (or_else (indexed t (beside p q) c) (or_else (offset t (beside p q) c) (computed t (operand IADD p q))))
 used_by (Do (OutO port p) c) = cond (is_in p 8) (Some (1, Sent port)) None
 used_by c = at_address 1 None c
 

@@ -11,6 +11,8 @@ pub enum Used {
     Loaded(Reg, Option<Where>),
     /// A register takes the word at the sum of its own word, that of another register and the known one.
     Indexed(Reg, Reg),
+    /// A register takes the word at the sum of the known word, that of a place and a number.
+    Offset(Reg, Where, u32),
     /// The word of a place is stored at such an address.
     Stored(Option<Where>, Where),
     /// The known word goes to a port.

@@ -91,19 +91,64 @@ fn takes_number(at: &[Where], ns: &[Node<u32>], i: usize, o: &Op<u32>) -> bool {
     }
 }
 
+fn is_in_spare(at: &[Where], t: u32) -> bool {
+    match place(at, t) {
+        Some(Where::Reg(r)) => r == 8,
+        Some(Where::Slot(_)) => false,
+        None => false,
+    }
+}
+
+fn makes_spare(at: &[Where], t: Option<u32>) -> bool {
+    match t {
+        Some(t) => is_in_spare(at, t),
+        None => false,
+    }
+}
+
+/// Where the address of a load, in register 8, is the sum right before of a pointer and a word there: the pointer, and the place of the load's target, which
+/// it takes.
+fn pointer_to_move(
+    single: &[bool],
+    at: &[Where],
+    ns: &[Node<u32>],
+    i: usize,
+    y: u32,
+    p: u32,
+) -> Option<(u32, Where)> {
+    if i == 0 {
+        return None;
+    }
+    let Some(Op::Step(t, a, b)) = op_at(ns, i - 1) else {
+        return None;
+    };
+    if *t != p {
+        return None;
+    }
+    let x = if is_in_spare(at, *b) { *a } else { *b };
+    operand_to_move(single, at, ns, i - 1, Some(y), Some(x), None)
+}
+
 /// The operand of an operation that takes the target's place: the first one, also of a load, or the second one where the operation works as well on
 /// its operands the
-/// other way round, or with that one as a number.
+/// other way round, or with that one as a number. None takes register 8 where that is spare, and the pointer inside a load's address takes the place of
+/// the load's target.
 fn move_of(
     single: &[bool],
     at: &[Where],
     ns: &[Node<u32>],
     i: usize,
     o: &Op<u32>,
+    spares: bool,
 ) -> Option<(u32, Where)> {
     let of = names_of(o);
-    if !takes_place(o) {
+    if !takes_place(o) || (spares && makes_spare(at, of.target)) {
         return None;
+    }
+    if let Op::Load(y, p) = o {
+        if spares && is_in_spare(at, *p) {
+            return pointer_to_move(single, at, ns, i, *y, *p);
+        }
     }
     match operand_to_move(single, at, ns, i, of.target, of.first, of.second) {
         Some(found) => Some(found),
@@ -119,7 +164,7 @@ fn move_of(
 
 fn merge_at(single: &[bool], at: &mut [Where], ns: &[Node<u32>], i: usize, callees: Callees) {
     if let Some(o) = op_at(ns, i) {
-        if let Some((a, to)) = move_of(single, at, ns, i, o) {
+        if let Some((a, to)) = move_of(single, at, ns, i, o, callees.spares) {
             put(at, a, to);
         }
         merge_arguments(single, at, ns, i, o, callees);

@@ -1,6 +1,5 @@
 // Register 8 left to immediate operands.
 use crate::sharing::immediates::immediates;
-use crate::sharing::operands::names_of;
 use crate::sharing::singles::Count;
 use kit_base::Memory;
 use mid_code::{Node, Where};
@@ -165,51 +164,13 @@ fn spread(at: &mut [Where], immediate: &[bool], other: u32) {
     }
 }
 
-fn strike(single: &mut [bool], t: Option<u32>) {
-    if let Some(t) = t {
-        strike_at(single, t as usize);
-    }
-}
-
-/// What an immediate operand is made of goes to no other place.
-#[cycle(striking)]
-fn strike_node(single: &mut [bool], immediate: &[bool], n: &Node<u32>) {
-    match n {
-        Node::Do(o) => {
-            let of = names_of(o);
-            if let Some(t) = of.target {
-                if flag(immediate, t as usize) {
-                    strike(single, of.first);
-                    strike(single, of.second);
-                }
-            }
-        }
-        Node::Choose(_, a, b) => {
-            strike_nodes(single, immediate, a.as_slice());
-            strike_nodes(single, immediate, b.as_slice());
-        }
-        Node::Block(b) => strike_nodes(single, immediate, b.as_slice()),
-        Node::Loop(b) => strike_nodes(single, immediate, b.as_slice()),
-        Node::Leave(_) => {}
-        Node::Again(_) => {}
-        Node::Return(_) => {}
-    }
-}
-
-#[cycle(striking)]
-fn strike_nodes(single: &mut [bool], immediate: &[bool], ns: &[Node<u32>]) {
-    for n in ns {
-        strike_node(single, immediate, n);
-    }
-}
-
 fn strike_at(single: &mut [bool], i: usize) {
     if i < single.len() {
         single[i] = false;
     }
 }
 
-/// Nor does an immediate operand.
+/// An immediate operand goes to no other place.
 fn strike_all(single: &mut [bool], immediate: &[bool]) {
     let mut i: usize = 0;
     for is in immediate {
@@ -221,24 +182,17 @@ fn strike_all(single: &mut [bool], immediate: &[bool]) {
 }
 
 /// The same where a register is unused; whether register 8 is left to some.
-fn place_all(
-    ns: &[Node<u32>],
-    counts: &[Count],
-    single: &mut [bool],
-    at: &mut [Where],
-    immediate: &[bool],
-) -> bool {
+fn place_all(counts: &[Count], single: &mut [bool], at: &mut [Where], immediate: &[bool]) -> bool {
     let Some(other) = unused(at, counts, immediate) else {
         return false;
     };
     spread(at, immediate, other);
     strike_all(single, immediate);
-    strike_nodes(single, immediate, ns);
     is_any(immediate)
 }
 
 /// Puts immediate operands into register 8, where another one is unused for what stood there; the emitter has them inside instructions then, and none puts
-/// them anywhere. They, and what they are made of, are single no more. Whether register 8 is left to them.
+/// them anywhere. They are single no more. Whether register 8 is left to them.
 pub(crate) fn leave_register(
     alloc: Global,
     ns: &[Node<u32>],
@@ -248,7 +202,7 @@ pub(crate) fn leave_register(
 ) -> Result<bool, Memory> {
     let found = immediates(alloc, counts, at, ns)?;
     if unused(at, counts, found.as_slice()).is_some() {
-        return Ok(place_all(ns, counts, single, at, found.as_slice()));
+        return Ok(place_all(counts, single, at, found.as_slice()));
     }
     let Some(other) = made_room(alloc, ns, counts, at, found.as_slice())? else {
         return Ok(false);
@@ -256,7 +210,7 @@ pub(crate) fn leave_register(
     let left = immediates(alloc, counts, other.as_slice(), ns)?;
     if unused(other.as_slice(), counts, left.as_slice()).is_some() && other.len() == at.len() {
         at.copy_from_slice(other.as_slice());
-        return Ok(place_all(ns, counts, single, at, left.as_slice()));
+        return Ok(place_all(counts, single, at, left.as_slice()));
     }
     Ok(false)
 }
